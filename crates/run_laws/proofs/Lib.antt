@@ -1,0 +1,4 @@
+pub mod Weights
+pub mod Walks
+pub mod BoundedRuns
+pub mod Agreement
