@@ -2,3 +2,5 @@ pub mod Weights
 pub mod Walks
 pub mod BoundedRuns
 pub mod Agreement
+pub mod Lowering
+pub mod Layers
