@@ -4,3 +4,5 @@ pub mod BoundedRuns
 pub mod Agreement
 pub mod Lowering
 pub mod Layers
+pub mod Reached
+pub mod Comes
