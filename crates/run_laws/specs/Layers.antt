@@ -1,0 +1,35 @@
+-- Layers: one system carried out by another, invariants that steps keep, and points of two kinds.
+use Rattle.std.specs.Prelude.{◌≡◌, ℕ, ◌≤◌, List, [], ◌∷◌, ◌++◌, map}
+use Rattle.run_laws.specs.Runs.{Step, Moves, Ends, Traps, weigh, Within, System, Walk}
+
+-- as `Carries`, where the lower points are weighed too: a layer with a layer below it, whose own points may have no step
+pub record CarriesBy {S T P A B Q : Type 0} (x : System S T P) (y : System A B Q) (least : P → ℕ) (fewest : Q → ℕ) (words : P → List Q) (similar : S → A → Type 0) (same : T → B → Type 0) : Type 0 where
+  pub moves : (s t : S) (w : List ℕ) (a : A) → similar s a → x.step s ≡ Moves w t → (b : A) × (qs : List Q) × Walk y a qs w b × similar t b × Within (words (x.at s)) qs × (least (x.at s) ≤ weigh fewest qs)
+  pub ends : (s : S) (a : A) → similar s a → x.step s ≡ Ends → (b : A) × (qs : List Q) × Walk y a qs [] b × (y.step b ≡ Ends) × Within (words (x.at s)) (qs ++ y.at b ∷ [])
+  pub traps : (s : S) (a : A) (trap : T) → similar s a → x.step s ≡ Traps trap → (b : A) × (qs : List Q) × (mine : B) × same trap mine × Walk y a qs [] b × (y.step b ≡ Traps mine) × Within (words (x.at s)) (qs ++ y.at b ∷ [])
+
+-- each step keeps the invariant
+pub record Stays {S T P : Type 0} (y : System S T P) (invariant : S → Type 0) : Type 0 where
+  pub step : (s t : S) (w : List ℕ) → invariant s → y.step s ≡ Moves w t → invariant t
+
+-- two relations, one behind the other
+abbrev pub Through : {X Y Z : Type 0} → (X → Y → Type 0) → (Y → Z → Type 0) → X → Z → Type 0
+Through {X} {Y} {Z} one two x z = (y : Y) × one x y × two y z
+
+-- a relation between states that each have an invariant
+abbrev pub Where : {S A : Type 0} → (S → Type 0) → (A → Type 0) → (S → A → Type 0) → S → A → Type 0
+Where above below similar s a = above s × below a × similar s a
+
+-- a point of one of two kinds: an operation, say, or a part of a routine that many operations share
+pub data Either (P Q : Type 0) : Type 0 where
+  Left : P → Either P Q
+  Right : Q → Either P Q
+
+-- the points of both kinds in one list
+abbrev pub of_both : {P Q : Type 0} → List P → List Q → List (Either P Q)
+of_both ps qs = map Left ps ++ map Right qs
+
+-- what is said of each kind, said of both
+abbrev pub by_kind : {P Q X : Type 0} → (P → X) → (Q → X) → Either P Q → X
+by_kind f g (Left p) = f p
+by_kind f g (Right q) = g q
