@@ -3,7 +3,7 @@ pub fn encode(i: u32) -> u32 {
     i
 }
 
-#[tactic(auto, using(crate::proofs::Rows::reads))]
+#[tactic(auto, using(crate::proofs::Laws::again))]
 pub fn decode(i: u32) -> u32 {
     i
 }
