@@ -1,0 +1,60 @@
+//! Loads and stores by address.
+
+ghost use Rattle.std.specs.Prelude.{◌≡◌, ℕ, ◌+◌, ◌-◌, ◌<◌, ◌≤◌, ◌^◌, ◌%◌, length, Some, None, IsSome, true, false, [], ◌∷◌, slice_index_or, slice_get};
+ghost use Rattle.std.specs.Int.{from_le_bytes, to_le_bytes, w64};
+ghost use Rattle.a64_memory.specs.Bytes.{slab, splice};
+ghost use Rattle.a64_memory.specs.Memory.{Area, area, areas, lies, covers, load8, load1, stored8, stored1};
+
+use crate::region::Region;
+
+/// Whether the `count` bytes at the address lie in the region.
+fn has(region: &Region, address: u64, count: u64) -> bool
+    ensures { result ≡ lies (area region.now) address count }
+{
+    if address < region.base {
+        return false;
+    }
+    let at = address - region.base;
+    let len = region.bytes.len() as u64;
+    at <= len && count <= len - at
+}
+
+/// The eight bytes at the address as a number, lowest first, where they all lie in one region.
+pub fn load8(regions: &[Region], address: u64) -> Option<u64>
+    ensures { result ≡ load8 (areas regions.now) address }
+{
+    for region in regions {
+        if has(region, address, 8) {
+            return Some(load8_in(region, address));
+        }
+    }
+    None
+}
+
+/// The byte at the address, where it lies in a region.
+pub fn load1(regions: &[Region], address: u64) -> Option<u8>
+    ensures { result ≡ load1 (areas regions.now) address }
+{
+    for region in regions {
+        if has(region, address, 1) {
+            return Some(load1_in(region, address));
+        }
+    }
+    None
+}
+
+fn load8_in(region: &Region, address: u64) -> u64
+    requires { lies (area region.now) address 8 ≡ true }
+    ensures { result ≡ from_le_bytes w64 (slab (area region.now).bytes (address - region.now.base) 8) }
+{
+    let at = (address - region.base) as usize;
+    let b = &region.bytes[at..at + 8];
+    u64::from_le_bytes([b[0], b[1], b[2], b[3], b[4], b[5], b[6], b[7]])
+}
+
+fn load1_in(region: &Region, address: u64) -> u8
+    requires { lies (area region.now) address 1 ≡ true }
+    ensures { slab (area region.now).bytes (address - region.now.base) 1 ≡ result ∷ [] }
+{
+    region.bytes[(address - region.base) as usize]
+}
