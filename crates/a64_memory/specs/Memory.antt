@@ -1,5 +1,6 @@
 -- Memory: areas of bytes at addresses. A load or store is of the first area in which all its bytes lie.
 use Rattle.std.specs.Prelude.{◌≡◌, ℕ, ◌+◌, ◌-◌, ◌%◌, ◌^◌, ◌<◌, ◌≤◌, List, [], ◌∷◌, length, map, get_or, Bool, true, false, ◌&&◌, ◌||◌, cond, nat_le, Option, Some, None}
+use Rattle.std.specs.Option.{option_map}
 use Rattle.std.specs.Int.{from_le_bytes, to_le_bytes, w64}
 use Rattle.a64_memory.specs.Bytes.{splice, slab}
 use Rattle.a64_memory.specs.declared.region.Region.{Region}
@@ -23,6 +24,11 @@ lies a address n = nat_le a.base address && nat_le (address + n) (a.base + lengt
 abbrev pub covers : List Area → ℕ → ℕ → Bool
 covers [] address n = false
 covers (a ∷ m) address n = lies a address n || covers m address n
+
+-- which area is the first in which they lie, from 0
+abbrev pub place : List Area → ℕ → ℕ → Option ℕ
+place [] address n = None
+place (a ∷ m) address n = cond (lies a address n) (Some 0) (option_map (λ i. i + 1) (place m address n))
 
 -- the n bytes at an address, in the first area in which they lie; nothing where there is none
 abbrev pub bytes_at : List Area → ℕ → ℕ → List ℕ

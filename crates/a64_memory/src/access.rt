@@ -3,7 +3,7 @@
 ghost use Rattle.std.specs.Prelude.{◌≡◌, ℕ, ◌+◌, ◌-◌, ◌<◌, ◌≤◌, ◌^◌, ◌%◌, length, Some, None, IsSome, true, false, [], ◌∷◌, slice_index_or, slice_get};
 ghost use Rattle.std.specs.Int.{from_le_bytes, to_le_bytes, w64};
 ghost use Rattle.a64_memory.specs.Bytes.{slab, splice};
-ghost use Rattle.a64_memory.specs.Memory.{Area, area, areas, lies, covers, load8, load1, stored8, stored1};
+ghost use Rattle.a64_memory.specs.Memory.{Area, area, areas, lies, covers, place, load8, load1, stored8, stored1};
 
 use crate::region::Region;
 
@@ -57,4 +57,60 @@ fn load1_in(region: &Region, address: u64) -> u8
     ensures { slab (area region.now).bytes (address - region.now.base) 1 ≡ result ∷ [] }
 {
     region.bytes[(address - region.base) as usize]
+}
+
+/// Stores a value's eight bytes at the address, lowest first, where they all lie in one region, and says whether they do.
+pub fn store8(regions: &mut [Region], address: u64, value: u64) -> bool
+    ensures done { result ≡ covers (areas regions.old) address 8 }
+    ensures memory { areas regions.new ≡ stored8 (areas regions.old) address value }
+{
+    match find(regions, address, 8) {
+        Some(i) => {
+            store8_in(&mut regions[i], address, value);
+            true
+        }
+        None => false,
+    }
+}
+
+/// Stores a byte at the address, where it lies in a region, and says whether it does.
+pub fn store1(regions: &mut [Region], address: u64, value: u8) -> bool
+    ensures done { result ≡ covers (areas regions.old) address 1 }
+    ensures memory { areas regions.new ≡ stored1 (areas regions.old) address value }
+{
+    match find(regions, address, 1) {
+        Some(i) => {
+            store1_in(&mut regions[i], address, value);
+            true
+        }
+        None => false,
+    }
+}
+
+/// The first region in which the `count` bytes at the address all lie.
+fn find(regions: &[Region], address: u64, count: u64) -> Option<usize>
+    ensures { result ≡ place (areas regions.now) address count }
+{
+    for i in 0..regions.len() {
+        if has(&regions[i], address, count) {
+            return Some(i);
+        }
+    }
+    None
+}
+
+fn store8_in(region: &mut Region, address: u64, value: u64)
+    requires { lies (area region.old) address 8 ≡ true }
+    ensures { area region.new ≡ record { base = region.old.base; bytes = splice (area region.old).bytes (address - region.old.base) (to_le_bytes w64 value) } }
+{
+    let at = (address - region.base) as usize;
+    region.bytes[at..at + 8].copy_from_slice(&value.to_le_bytes());
+}
+
+fn store1_in(region: &mut Region, address: u64, value: u8)
+    requires { lies (area region.old) address 1 ≡ true }
+    ensures { area region.new ≡ record { base = region.old.base; bytes = splice (area region.old).bytes (address - region.old.base) (value ∷ []) } }
+{
+    let at = (address - region.base) as usize;
+    region.bytes[at] = value;
 }

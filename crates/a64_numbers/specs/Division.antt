@@ -1,5 +1,5 @@
 -- DIV and MOD, as Oberon-07 has them (report, "Arithmetic operators"), and as words compute them.
-use Rattle.std.specs.Prelude.{ℕ, ℤ, bit_and}
+use Rattle.std.specs.Prelude.{ℕ, bit_and}
 use Rattle.std.specs.Int.{int_div_euclid, int_rem_euclid}
 use Rattle.a64_numbers.specs.Numbers.{signed, unsigned, add64, sdiv64, msub64}
 use Rattle.a64_numbers.specs.Shifts.{asr64}

@@ -1,5 +1,5 @@
 -- Moves of sixteen bits into a register, and the moves that make a constant.
-use Rattle.std.specs.Prelude.{ℕ, zero, suc, ◌+◌, ◌-◌, ◌*◌, ◌/◌, ◌%◌, ◌^◌, Bool, true, false, cond, ◌==◌, nat_lt, List, [], ◌∷◌, ◌++◌, Option, Some, None}
+use Rattle.std.specs.Prelude.{ℕ, ◌+◌, ◌-◌, ◌*◌, ◌/◌, ◌%◌, ◌^◌, Bool, true, false, cond, ◌==◌, nat_lt, List, [], ◌∷◌, Option, Some, None}
 use Rattle.a64_numbers.specs.declared.moves.Move.{Move}
 use Rattle.a64_numbers.specs.declared.moves.Move.TheVariants.{Movz, Movn, Movk}
 

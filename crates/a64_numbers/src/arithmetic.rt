@@ -40,7 +40,9 @@ pub fn sdiv(a: u64, b: u64) -> u64
     if b == 0 {
         0
     } else {
-        a.cast_signed().wrapping_div(b.cast_signed()).cast_unsigned()
+        a.cast_signed()
+            .wrapping_div(b.cast_signed())
+            .cast_unsigned()
     }
 }
 

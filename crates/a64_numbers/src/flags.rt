@@ -97,12 +97,20 @@ pub fn csel(cond: Cond, flags: Flags, n: u64, m: u64) -> u64
 pub fn csinc(cond: Cond, flags: Flags, n: u64, m: u64) -> u64
     ensures { result ≡ csinc cond flags n m }
 {
-    if holds(cond, flags) { n } else { m.wrapping_add(1) }
+    if holds(cond, flags) {
+        n
+    } else {
+        m.wrapping_add(1)
+    }
 }
 
 /// CSNEG: `n` where the condition holds, else `-m`, modulo 2^64.
 pub fn csneg(cond: Cond, flags: Flags, n: u64, m: u64) -> u64
     ensures { result ≡ csneg cond flags n m }
 {
-    if holds(cond, flags) { n } else { m.wrapping_neg() }
+    if holds(cond, flags) {
+        n
+    } else {
+        m.wrapping_neg()
+    }
 }

@@ -1,7 +1,7 @@
 //! Moves of sixteen bits into a register, and the moves that make a constant.
 
-ghost use Rattle.std.specs.Prelude.{◌≡◌, ◌<◌};
-ghost use Rattle.a64_numbers.specs.Moves.{half, movz, movn, movk, more_ones, filling, lowest, beginning, constant_move, half_moves};
+ghost use Rattle.std.specs.Prelude.{◌≡◌, ◌<◌, ◌^◌, ◌==◌, cond};
+ghost use Rattle.a64_numbers.specs.Moves.{half, movz, movn, movk, halves, more_ones, filling, lowest, beginning, constant_move, half_moves};
 
 use a64_instr::Bits;
 
@@ -40,8 +40,15 @@ pub fn movn(imm: Bits<16>, half: Bits<2>) -> u64
 pub fn movk(value: u64, imm: Bits<16>, half: Bits<2>) -> u64
     ensures { result ≡ movk value imm half }
 {
-    let imm = imm.get() as u64;
-    match half.get() {
+    with_half(value, imm.get() as u64, half.get())
+}
+
+fn with_half(value: u64, imm: u64, i: u32) -> u64
+    requires imm { imm < 2 ^ 16 }
+    requires half { i < 4 }
+    ensures { result ≡ movk value imm i }
+{
+    match i {
         0 => value - (value & 0xffff) + imm,
         1 => value - ((value >> 16 & 0xffff) << 16) + (imm << 16),
         2 => value - ((value >> 32 & 0xffff) << 32) + (imm << 32),
@@ -57,21 +64,25 @@ fn half_of(n: u64, i: u32) -> u64
     n >> (16 * i) & 0xffff
 }
 
+/// How many of the four halves are `imm`.
+fn count_of(n: u64, imm: u64) -> u8
+    ensures { result ≡ halves n imm }
+{
+    is_half(n, 0, imm) + is_half(n, 1, imm) + is_half(n, 2, imm) + is_half(n, 3, imm)
+}
+
+/// 1 where half `i` of `n` is `imm`, else 0.
+fn is_half(n: u64, i: u32, imm: u64) -> u8
+    requires { i < 4 }
+    ensures { result ≡ cond (half n i == imm) 1 0 }
+{
+    if half_of(n, i) == imm { 1 } else { 0 }
+}
+
 fn more_halves_are_ones(n: u64) -> bool
     ensures { result ≡ more_ones n }
 {
-    let mut zeros = 0u8;
-    let mut ones = 0u8;
-    for i in 0..4u32 {
-        let half = half_of(n, i);
-        if half == 0 {
-            zeros += 1;
-        }
-        if half == 0xffff {
-            ones += 1;
-        }
-    }
-    zeros < ones
+    count_of(n, 0) < count_of(n, 0xffff)
 }
 
 fn filling_of(n: u64) -> u64
@@ -129,5 +140,10 @@ fn move_of_half(n: u64, i: u32) -> Option<Move>
 pub fn constant_moves(n: u64) -> [Option<Move>; 4]
     ensures { result ≡ half_moves n }
 {
-    [move_of_half(n, 0), move_of_half(n, 1), move_of_half(n, 2), move_of_half(n, 3)]
+    [
+        move_of_half(n, 0),
+        move_of_half(n, 1),
+        move_of_half(n, 2),
+        move_of_half(n, 3),
+    ]
 }
