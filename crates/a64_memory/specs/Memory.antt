@@ -1,6 +1,5 @@
 -- Memory: areas of bytes at addresses. A load or store is of the first area in which all its bytes lie.
-use Rattle.std.specs.Prelude.{◌≡◌, ℕ, ◌+◌, ◌-◌, ◌%◌, ◌^◌, ◌<◌, ◌≤◌, List, [], ◌∷◌, length, map, get_or, Bool, true, false, ◌&&◌, ◌||◌, cond, nat_le, Option, Some, None}
-use Rattle.std.specs.Option.{option_map}
+use Rattle.std.specs.Prelude.{ℕ, ◌+◌, ◌-◌, ◌%◌, ◌^◌, ◌<◌, ◌≤◌, List, [], ◌∷◌, length, map, get_or, Bool, false, ◌&&◌, ◌||◌, cond, nat_le, Option, Some, None}
 use Rattle.std.specs.Int.{from_le_bytes, to_le_bytes, w64}
 use Rattle.a64_memory.specs.Bytes.{splice, slab}
 use Rattle.a64_memory.specs.declared.region.Region.{Region}
@@ -25,21 +24,25 @@ abbrev pub covers : List Area → ℕ → ℕ → Bool
 covers [] address n = false
 covers (a ∷ m) address n = lies a address n || covers m address n
 
--- which area is the first in which they lie, from 0
-abbrev pub place : List Area → ℕ → ℕ → Option ℕ
-place [] address n = None
-place (a ∷ m) address n = cond (lies a address n) (Some 0) (option_map (λ i. i + 1) (place m address n))
+-- which area is the first in which they lie, where the first of the list is number i
+abbrev pub place : List Area → ℕ → ℕ → ℕ → Option ℕ
+place [] i address n = None
+place (a ∷ m) i address n = cond (lies a address n) (Some i) (place m (i + 1) address n)
 
 -- the n bytes at an address, in the first area in which they lie; nothing where there is none
 abbrev pub bytes_at : List Area → ℕ → ℕ → List ℕ
 bytes_at [] address n = []
 bytes_at (a ∷ m) address n = cond (lies a address n) (slab a.bytes (address - a.base) n) (bytes_at m address n)
 
+-- the area with these bytes at an address
+abbrev pub written : Area → ℕ → List ℕ → Area
+written a address bs = record a { bytes = splice a.bytes (address - a.base) bs }
+
 -- the memory with these bytes at an address, in the first area in which they lie; the same where there is none
 abbrev pub with_bytes : List Area → ℕ → List ℕ → List Area
 with_bytes [] address bs = []
 with_bytes (a ∷ m) address bs =
-    cond (lies a address (length bs)) (record a { bytes = splice a.bytes (address - a.base) bs } ∷ m) (a ∷ with_bytes m address bs)
+    cond (lies a address (length bs)) (written a address bs ∷ m) (a ∷ with_bytes m address bs)
 
 -- the number of eight bytes, lowest first
 abbrev pub loaded8 : List Area → ℕ → ℕ

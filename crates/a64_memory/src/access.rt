@@ -1,9 +1,10 @@
 //! Loads and stores by address.
 
-ghost use Rattle.std.specs.Prelude.{◌≡◌, ℕ, ◌+◌, ◌-◌, ◌<◌, ◌≤◌, ◌^◌, ◌%◌, length, Some, None, IsSome, true, false, [], ◌∷◌, slice_index_or, slice_get};
+ghost use Rattle.std.specs.Prelude.{◌≡◌, ℕ, ◌+◌, ◌-◌, ◌<◌, ◌≤◌, ◌^◌, ◌%◌, length, Some, None, IfSome, true, [], ◌∷◌, slice_index_or};
 ghost use Rattle.std.specs.Int.{from_le_bytes, to_le_bytes, w64};
-ghost use Rattle.a64_memory.specs.Bytes.{slab, splice};
-ghost use Rattle.a64_memory.specs.Memory.{Area, area, areas, lies, covers, place, load8, load1, stored8, stored1};
+ghost use Rattle.a64_memory.specs.Bytes.{slab};
+ghost use Rattle.a64_memory.specs.Memory.{Area, area, areas, lies, covers, place, written, load8, load1, stored8, stored1};
+ghost use Rattle.a64_memory.specs.declared.region.Region.{Region};
 
 use crate::region::Region;
 
@@ -32,7 +33,7 @@ pub fn load8(regions: &[Region], address: u64) -> Option<u64>
 }
 
 /// The byte at the address, where it lies in a region.
-pub fn load1(regions: &[Region], address: u64) -> Option<u8>
+pub fn load1(regions: &[Region], address: u64) -> Option<u64>
     ensures { result ≡ load1 (areas regions.now) address }
 {
     for region in regions {
@@ -52,11 +53,11 @@ fn load8_in(region: &Region, address: u64) -> u64
     u64::from_le_bytes([b[0], b[1], b[2], b[3], b[4], b[5], b[6], b[7]])
 }
 
-fn load1_in(region: &Region, address: u64) -> u8
+fn load1_in(region: &Region, address: u64) -> u64
     requires { lies (area region.now) address 1 ≡ true }
     ensures { slab (area region.now).bytes (address - region.now.base) 1 ≡ result ∷ [] }
 {
-    region.bytes[(address - region.base) as usize]
+    region.bytes[(address - region.base) as usize] as u64
 }
 
 /// Stores a value's eight bytes at the address, lowest first, where they all lie in one region, and says whether they do.
@@ -73,8 +74,8 @@ pub fn store8(regions: &mut [Region], address: u64, value: u64) -> bool
     }
 }
 
-/// Stores a byte at the address, where it lies in a region, and says whether it does.
-pub fn store1(regions: &mut [Region], address: u64, value: u8) -> bool
+/// Stores a value's low byte at the address, where it lies in a region, and says whether it does.
+pub fn store1(regions: &mut [Region], address: u64, value: u64) -> bool
     ensures done { result ≡ covers (areas regions.old) address 1 }
     ensures memory { areas regions.new ≡ stored1 (areas regions.old) address value }
 {
@@ -89,7 +90,9 @@ pub fn store1(regions: &mut [Region], address: u64, value: u8) -> bool
 
 /// The first region in which the `count` bytes at the address all lie.
 fn find(regions: &[Region], address: u64, count: u64) -> Option<usize>
-    ensures { result ≡ place (areas regions.now) address count }
+    ensures first { result ≡ place (areas regions.now) 0 address count }
+    ensures inside { IfSome result (λ i. i < length regions.now) }
+    ensures there { IfSome result (λ i. (d : Region) → lies (area (slice_index_or regions.now i d)) address count ≡ true) }
 {
     for i in 0..regions.len() {
         if has(&regions[i], address, count) {
@@ -101,16 +104,16 @@ fn find(regions: &[Region], address: u64, count: u64) -> Option<usize>
 
 fn store8_in(region: &mut Region, address: u64, value: u64)
     requires { lies (area region.old) address 8 ≡ true }
-    ensures { area region.new ≡ record { base = region.old.base; bytes = splice (area region.old).bytes (address - region.old.base) (to_le_bytes w64 value) } }
+    ensures { area region.new ≡ written (area region.old) address (to_le_bytes w64 value) }
 {
     let at = (address - region.base) as usize;
     region.bytes[at..at + 8].copy_from_slice(&value.to_le_bytes());
 }
 
-fn store1_in(region: &mut Region, address: u64, value: u8)
+fn store1_in(region: &mut Region, address: u64, value: u64)
     requires { lies (area region.old) address 1 ≡ true }
-    ensures { area region.new ≡ record { base = region.old.base; bytes = splice (area region.old).bytes (address - region.old.base) (value ∷ []) } }
+    ensures { area region.new ≡ written (area region.old) address (value % 2 ^ 8 ∷ []) }
 {
     let at = (address - region.base) as usize;
-    region.bytes[at] = value;
+    region.bytes[at..at + 1].copy_from_slice(&[(value & 0xff) as u8]);
 }
