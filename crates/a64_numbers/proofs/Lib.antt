@@ -1,0 +1,7 @@
+pub mod Comparisons
+pub mod Wrapping
+pub mod Branches
+pub mod Amounts
+pub mod Division
+pub mod Elements
+pub mod Constants
