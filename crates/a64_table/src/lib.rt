@@ -2,10 +2,13 @@
 //!
 //! `encode` gives the word of an instruction, and `decode` the instruction of a word. The table itself is
 //! `specs/Table.antt`: a row for each instruction, with its base and its fields at their places. The layers
-//! above cite `word_of`, `InRange` and `decode_of`, and their laws (`laws`, and `proofs/Laws.antt` in proofs).
+//! above cite `word_of`, `InRange` and `decode_of`, whose laws `laws` and `proofs/Laws.antt` have.
 #![tactic(auto)]
 
+mod decoder;
 mod encoder;
+mod fields;
 
 pub use a64_instr::{Bits, Cond, Instr, Reg, Shift};
+pub use decoder::decode;
 pub use encoder::encode;
