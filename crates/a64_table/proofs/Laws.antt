@@ -6,7 +6,7 @@ use Rattle.std.specs.Prelude.{IfSome}
 use Rattle.a64_table.specs.Table.{word_of, InRange}
 use Rattle.a64_table.specs.Decode.{row_at, exactly, decode_of}
 use Rattle.a64_table.proofs.Rows.{reads}
-use Rattle.a64_table.proofs.Fields.{Fits, row_fits}
+use Rattle.a64_table.proofs.Ranges.{Fits, row_fits}
 use Rattle.a64_instr.specs.declared.instr.Instr.{Instr}
 
 -- each instruction with fields in range is what its word stands for

@@ -1,7 +1,14 @@
-//! The A64 table.
+//! The A64 table: which words are instructions, and which instruction each of them is.
+//!
+//! `encode` gives the word of an instruction, and `decode` the instruction of a word. The table itself is
+//! `specs/Table.antt`: a row for each instruction, with its base and its fields at their places. The layers
+//! above cite `word_of`, `InRange` and `decode_of`, whose laws `laws` and `proofs/Laws.antt` have.
 #![tactic(auto)]
 
-mod table;
+mod decoder;
+mod encoder;
+mod fields;
 
-pub use table::{decode, encode};
 pub use a64_instr::{Bits, Cond, Instr, Reg, Shift};
+pub use decoder::decode;
+pub use encoder::encode;

@@ -1,0 +1,174 @@
+//! The instruction of a word.
+
+ghost use Rattle.std.specs.Prelude.{◌≡◌, IfSome};
+ghost use Rattle.a64_table.specs.Table.{word_of, InRange};
+ghost use Rattle.a64_table.specs.Decode.{decode_of, row_at, immediate_row, branch_row, memory_row, source_row, register_row};
+ghost use Rattle.a64_instr.specs.declared.instr.Instr.{Instr};
+
+use a64_instr::Instr;
+
+use crate::encoder::encode;
+use crate::fields;
+
+/// The instruction that the word stands for, where it is in the table.
+///
+/// The word's opcode bits leave one row at most. Whether all the bits that this row fixes are right is asked
+/// of the row's own word, so that they are written once, in `encode`.
+pub fn decode(word: u32) -> Option<Instr>
+    ensures same { result ≡ decode_of word }
+    ensures found { IfSome result (λ i. InRange i × (word_of i ≡ word)) }
+    ensures only { (i : Instr) → InRange i → word_of i ≡ word → result ≡ Some i }
+{
+    let instr = row(word)?;
+    if encode(&instr) == word { Some(instr) } else { None }
+}
+
+/// The only row that can have the word, with the word's fields; by bits 28:25.
+#[tactic(auto, unfolding(crate::specs::Decode::row_at))]
+fn row(word: u32) -> Option<Instr>
+    ensures { result ≡ row_at word }
+{
+    match (word >> 25) & 0xF {
+        0x4 | 0xC => memory(word),
+        0x5 | 0xD => register(word),
+        0x8 | 0x9 => immediate(word),
+        0xA | 0xB => branch(word),
+        _ => None,
+    }
+}
+
+/// Immediate operands.
+#[tactic(auto, unfolding(crate::specs::Decode::immediate_row))]
+fn immediate(word: u32) -> Option<Instr>
+    ensures { result ≡ immediate_row word }
+{
+    let rd = fields::rd(word);
+    let rn = fields::rn(word);
+    let imm = fields::imm12(word);
+    let high = fields::sh(word);
+    match word >> 23 {
+        0x122 => Some(Instr::AddImm { rd, rn, imm, high }),
+        0x1A2 => Some(Instr::SubImm { rd, rn, imm, high }),
+        0x1E2 => Some(Instr::SubsImm { rd, rn, imm, high }),
+        0x125 => Some(Instr::Movn { rd, imm: fields::imm16(word), half: fields::hw(word) }),
+        0x1A5 => Some(Instr::Movz { rd, imm: fields::imm16(word), half: fields::hw(word) }),
+        0x1E5 => Some(Instr::Movk { rd, imm: fields::imm16(word), half: fields::hw(word) }),
+        _ => None,
+    }
+}
+
+/// Branches, services and traps.
+#[tactic(auto, unfolding(crate::specs::Decode::branch_row))]
+fn branch(word: u32) -> Option<Instr>
+    ensures { result ≡ branch_row word }
+{
+    let rt = fields::rd(word);
+    let rn = fields::rn(word);
+    let to = fields::imm19(word);
+    let imm = fields::imm16(word);
+    match word >> 26 {
+        0x05 => Some(Instr::B { to: fields::imm26(word) }),
+        0x25 => Some(Instr::Bl { to: fields::imm26(word) }),
+        0x15 => Some(Instr::BCond { to, cond: fields::branch_cond(word) }),
+        0x2D => match word >> 24 {
+            0xB4 => Some(Instr::Cbz { rt, to }),
+            0xB5 => Some(Instr::Cbnz { rt, to }),
+            _ => None,
+        },
+        0x35 => match word >> 21 {
+            0x6B0 => Some(Instr::Br { rn }),
+            0x6B1 => Some(Instr::Blr { rn }),
+            0x6B2 => Some(Instr::Ret { rn }),
+            0x6A0 => Some(Instr::Svc { imm }),
+            0x6A1 => Some(Instr::Brk { imm }),
+            _ => None,
+        },
+        _ => None,
+    }
+}
+
+/// Loads and stores. In the rows with a register as offset bit 12 says whether it counts 8s.
+#[tactic(auto, unfolding(crate::specs::Decode::memory_row))]
+fn memory(word: u32) -> Option<Instr>
+    ensures { result ≡ memory_row word }
+{
+    let rt = fields::rd(word);
+    let rn = fields::rn(word);
+    let rm = fields::rm(word);
+    let imm = fields::imm12(word);
+    let scaled = (word >> 12) & 1;
+    match word >> 22 {
+        0x3E5 => Some(Instr::Ldr { rt, rn, imm }),
+        0x3E4 => Some(Instr::Str { rt, rn, imm }),
+        0x0E5 => Some(Instr::Ldrb { rt, rn, imm }),
+        0x0E4 => Some(Instr::Strb { rt, rn, imm }),
+        0x3E1 if scaled == 0 => Some(Instr::LdrReg { rt, rn, rm }),
+        0x3E1 => Some(Instr::LdrRegScaled { rt, rn, rm }),
+        0x3E0 if scaled == 0 => Some(Instr::StrReg { rt, rn, rm }),
+        0x3E0 => Some(Instr::StrRegScaled { rt, rn, rm }),
+        0x0E1 => Some(Instr::LdrbReg { rt, rn, rm }),
+        0x0E0 => Some(Instr::StrbReg { rt, rn, rm }),
+        _ => None,
+    }
+}
+
+/// Register operands. In the bitwise rows bit 21 says whether the second operand is complemented, and in the
+/// products bit 15 says whether the product is taken away.
+#[tactic(auto, unfolding(crate::specs::Decode::register_row))]
+fn register(word: u32) -> Option<Instr>
+    ensures { result ≡ register_row word }
+{
+    let rd = fields::rd(word);
+    let rn = fields::rn(word);
+    let rm = fields::rm(word);
+    let shift = fields::shift(word);
+    let by = fields::imm6(word);
+    let complemented = (word >> 21) & 1;
+    let ra = fields::ra(word);
+    let taken_away = (word >> 15) & 1;
+    match word >> 24 {
+        0x8B => Some(Instr::AddReg { rd, rn, rm, shift, by }),
+        0xCB => Some(Instr::SubReg { rd, rn, rm, shift, by }),
+        0xEB => Some(Instr::SubsReg { rd, rn, rm, shift, by }),
+        0x8A if complemented == 0 => Some(Instr::AndReg { rd, rn, rm, shift, by }),
+        0x8A => Some(Instr::BicReg { rd, rn, rm, shift, by }),
+        0xAA if complemented == 0 => Some(Instr::OrrReg { rd, rn, rm, shift, by }),
+        0xAA => Some(Instr::OrnReg { rd, rn, rm, shift, by }),
+        0xCA => Some(Instr::EorReg { rd, rn, rm, shift, by }),
+        0xEA => Some(Instr::AndsReg { rd, rn, rm, shift, by }),
+        0x9B if taken_away == 0 => Some(Instr::Madd { rd, rn, rm, ra }),
+        0x9B => Some(Instr::Msub { rd, rn, rm, ra }),
+        0x9A => source(word),
+        0xDA => Some(Instr::Csneg { rd, rn, rm, cond: fields::select_cond(word) }),
+        _ => None,
+    }
+}
+
+/// Divisions, shifts by a register, and selects.
+#[tactic(auto, unfolding(crate::specs::Decode::source_row))]
+fn source(word: u32) -> Option<Instr>
+    ensures { result ≡ source_row word }
+{
+    let rd = fields::rd(word);
+    let rn = fields::rn(word);
+    let rm = fields::rm(word);
+    match word >> 21 {
+        0x4D6 => match (word >> 10) & 0x3F {
+            0x03 => Some(Instr::Sdiv { rd, rn, rm }),
+            0x08 => Some(Instr::Lslv { rd, rn, rm }),
+            0x09 => Some(Instr::Lsrv { rd, rn, rm }),
+            0x0A => Some(Instr::Asrv { rd, rn, rm }),
+            0x0B => Some(Instr::Rorv { rd, rn, rm }),
+            _ => None,
+        },
+        0x4D4 => {
+            let cond = fields::select_cond(word);
+            match (word >> 10) & 3 {
+                0 => Some(Instr::Csel { rd, rn, rm, cond }),
+                1 => Some(Instr::Csinc { rd, rn, rm, cond }),
+                _ => None,
+            }
+        }
+        _ => None,
+    }
+}
