@@ -1,5 +1,5 @@
 -- Shifts by the amount modulo 64.
-use Rattle.std.proofs.Common.{◌≡◌, ℕ, ◌+◌, ◌-◌, ◌*◌, ◌/◌, ◌%◌, ◌^◌, ◌<◌, ◌≤◌, ℤ, pos, negsuc, SFits, w64, to_z-of_z, refl, arith, sym, ap, ◌∙◌, lt_of_le_of_lt, mod-lt, mod-eq_of_lt, div-le_self}
+use Rattle.std.proofs.Common.{◌≡◌, ℕ, ◌-◌, ◌*◌, ◌/◌, ◌%◌, ◌^◌, ◌<◌, ◌≤◌, ℤ, pos, negsuc, SFits, w64, to_z-of_z, arith, ap, lt_of_le_of_lt, mod-eq_of_lt, div-le_self}
 use Rattle.std.proofs.lemmas.Bool.Decides.{nat_tests}
 use Rattle.std.specs.Int.{int_shr, rotate_right}
 use Rattle.a64_numbers.specs.Numbers.{signed, unsigned}

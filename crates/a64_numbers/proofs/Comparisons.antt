@@ -1,8 +1,8 @@
 -- What conditions say after SUBS, and what words with a condition compute.
-use Rattle.std.proofs.Common.{◌≡◌, ◌≢◌, ℕ, ◌+◌, ◌-◌, ◌%◌, ◌^◌, ◌<◌, ◌≤◌, Bool, true, false, not, cond, ◌&&◌, nat_lt, nat_le, ◌==◌, int_lt, int_le, ◌-ℤ◌, pos, SFits, w64, bit_and, refl, arith, ap, ◌∙◌}
+use Rattle.std.proofs.Common.{◌≡◌, ◌≢◌, ℕ, ◌-◌, ◌%◌, ◌^◌, ◌<◌, Bool, true, false, not, cond, ◌&&◌, int_lt, int_le, ◌-ℤ◌, pos, SFits, w64, bit_and, refl, arith}
 use Rattle.std.proofs.lemmas.Bool.Decides.{nat_tests}
 use Rattle.std.proofs.lemmas.Nat.{and_mask}
-use Rattle.a64_numbers.specs.Numbers.{signed, sign, sub64, neg64}
+use Rattle.a64_numbers.specs.Numbers.{signed, neg64}
 use Rattle.a64_numbers.specs.Conditions.{subs_flags, holds, opposite, compares, csel, csinc, csneg}
 use Rattle.a64_numbers.specs.declared.flags.Flags.{Flags}
 use Rattle.a64_instr.specs.declared.instr.Cond.{Cond}

@@ -1,11 +1,11 @@
 -- The words of DIV and MOD by a positive divisor: the quotient rounded down, and its remainder.
-use Rattle.std.proofs.Common.{◌≡◌, ℕ, zero, suc, ◌+◌, ◌-◌, ◌*◌, ◌/◌, ◌%◌, ◌^◌, ◌<◌, ◌≤◌, ℤ, pos, negsuc, ◌+ℤ◌, ◌*ℤ◌, SFits, w64, to_z-of_z, le_of_eq, lt_of_le_of_lt, div-add-mod', refl, arith, sym, ap, ap₂, ◌∙◌, ⊎_elim, bit_and, eq-zero-or-pos, mod-eq_of_lt, mul-le-mul_right}
+use Rattle.std.proofs.Common.{◌≡◌, ℕ, zero, suc, ◌+◌, ◌-◌, ◌*◌, ◌/◌, ◌%◌, ◌^◌, ◌<◌, ◌≤◌, ℤ, pos, negsuc, ◌+ℤ◌, ◌*ℤ◌, SFits, w64, to_z-of_z, le_of_eq, lt_of_le_of_lt, div-add-mod', arith, sym, ap, ap₂, ◌∙◌, ⊎_elim, bit_and, eq-zero-or-pos, mod-eq_of_lt, mul-le-mul_right}
 use Rattle.std.proofs.lemmas.Bool.{cases_lt}
 use Rattle.std.proofs.lemmas.Bool.Decides.{nat_tests}
 use Rattle.std.proofs.lemmas.Int.{ints}
 use Rattle.std.proofs.lemmas.Nat.{and_mask, and_comm, mod_low, div-mul-add, mod-mul-add}
 use Rattle.std.specs.Int.{int_div_euclid, int_rem_euclid}
-use Rattle.a64_numbers.specs.Numbers.{signed, unsigned, add64, sub64, mul64, sdiv64, msub64}
+use Rattle.a64_numbers.specs.Numbers.{signed, add64, sub64, mul64, sdiv64, msub64}
 use Rattle.a64_numbers.specs.Shifts.{asr64}
 use Rattle.a64_numbers.specs.Division.{div_of, mod_of, div_words, mod_words}
 use Rattle.a64_numbers.proofs.Wrapping.{signed_low}
@@ -33,6 +33,7 @@ msub_of x y (suc k) s p q r e l d =
   where
     mul-le' : (k : ℕ) → suc k ≤ y * suc k
     mul-le' k = omega (arith, mul-le-mul_right (suc k) q)
+
     prod : suc k ≤ 2 ^ 63 → (2 ^ 64 - suc k) % 2 ^ 64 * y ≡ (y - 1) * 2 ^ 64 + (2 ^ 64 - y * suc k)
     prod h =
         let d : (2 ^ 64 - suc k) % 2 ^ 64 ≡ 2 ^ 64 - suc k = omega arith in
@@ -83,6 +84,7 @@ module _ (x y : ℕ) (p : x < 2 ^ 64) (q : 0 < y) (r : y < 2 ^ 63) where
   -- the quotient and remainder of the magnitude
   k : ℕ
   k = (2 ^ 64 - x) / y
+
   s : ℕ
   s = (2 ^ 64 - x) % y
 
@@ -113,9 +115,9 @@ module _ (x y : ℕ) (p : x < 2 ^ 64) (q : 0 < y) (r : y < 2 ^ 63) where
   high_mod : 2 ^ 63 ≤ x → mod_words x y ≡ mod_of x y
   high_mod l = let g = parts in ⊎_elim
       (λ z. let w = below_whole (2 ^ 64 - suc x) y k (omega arith) q in
-          ap₂ add64 (rest l) (ap (bit_and y) (at_whole l z) ∙ and_comm y 0) ∙ omega arith ∙ sym (mod_high x y l p q r))
+      ap₂ add64 (rest l) (ap (bit_and y) (at_whole l z) ∙ and_comm y 0) ∙ omega arith ∙ sym (mod_high x y l p q r))
       (λ h. let w = below_more' (2 ^ 64 - suc x) y k s (omega arith) h (omega arith) in
-          ap₂ add64 (rest l) (ap (bit_and y) (at l h) ∙ and_mask y 64 ∙ mod-eq_of_lt (the (omega arith))) ∙ omega arith ∙ sym (mod_high x y l p q r))
+      ap₂ add64 (rest l) (ap (bit_and y) (at l h) ∙ and_mask y 64 ∙ mod-eq_of_lt (the (omega arith))) ∙ omega arith ∙ sym (mod_high x y l p q r))
       (eq-zero-or-pos s)
     where
       the : y < 2 ^ 64 → y < 2 ^ 64

@@ -1,5 +1,5 @@
 -- Sets as registers: what the words do to their elements.
-use Rattle.std.proofs.Common.{◌≡◌, ℕ, ◌+◌, ◌-◌, ◌*◌, ◌/◌, ◌%◌, ◌^◌, ◌<◌, ◌≤◌, Bool, true, false, not, ◌&&◌, ◌||◌, nat_lt, nat_le, ◌==◌, bit_and, bit_or, bit_xor, ◌⊎◌, mod-eq_of_lt, refl, arith, suc, sym, ap, ap₂, ◌∙◌, ⊎_elim, w64, Decides, eqb-true, eq-eqb, pow_mono}
+use Rattle.std.proofs.Common.{◌≡◌, ℕ, ◌-◌, ◌*◌, ◌/◌, ◌%◌, ◌^◌, ◌<◌, ◌≤◌, not, ◌&&◌, ◌||◌, nat_le, ◌==◌, bit_and, bit_or, bit_xor, mod-eq_of_lt, arith, suc, ap, ap₂, ◌∙◌, ⊎_elim, w64, Decides, eqb-true, eq-eqb, pow_mono}
 use Rattle.std.proofs.lemmas.Bool.{cases_lt}
 use Rattle.std.proofs.lemmas.Bool.Decides.{nat_tests}
 use Rattle.std.proofs.lemmas.Nat.{and_le_l, one_shl, pow_pos}
@@ -80,13 +80,18 @@ span_closed a b p q l = span_is a b p q ∙ same_from_bits_below 64 (bit_and (2 
       where
         the : suc b ≤ 64 → suc b ≤ 64
         the h = h
+
     low : bit_and (2 ^ suc b - 1) (2 ^ 64 - 2 ^ a) < 2 ^ 64
     low = let m = and_le_l (2 ^ suc b - 1) (2 ^ 64 - 2 ^ a) in let k = pow_pos (suc b) in omega (arith, big)
+
     high : 2 ^ suc b - 2 ^ a < 2 ^ 64
     high = let k = pow_pos a in omega (arith, big, pow_pos (suc b))
+
     below : (x : ℕ) → x < 64 → x < a → bit_at (bit_and (2 ^ suc b - 1) (2 ^ 64 - 2 ^ a)) x ≡ bit_at (2 ^ suc b - 2 ^ a) x
     below x r g = grind (arith, bit_at_and, bit_at-lt, bit_at_mask_below a 64 x, bit_at_mask_below a (suc b) x)
+
     inside : (x : ℕ) → x < 64 → a ≤ x → x < suc b → bit_at (bit_and (2 ^ suc b - 1) (2 ^ 64 - 2 ^ a)) x ≡ bit_at (2 ^ suc b - 2 ^ a) x
     inside x r g h = grind (arith, bit_at_and, bit_at-lt, bit_at_ones (suc b) x, bit_at_mask_inside a 64 x, bit_at_mask_inside a (suc b) x)
+
     above : (x : ℕ) → x < 64 → suc b ≤ x → bit_at (bit_and (2 ^ suc b - 1) (2 ^ 64 - 2 ^ a)) x ≡ bit_at (2 ^ suc b - 2 ^ a) x
     above x r h = grind (arith, bit_at_and, bit_at-lt, bit_at_ones_above (suc b) x, bit_at_mask_above a (suc b) x)

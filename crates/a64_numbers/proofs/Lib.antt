@@ -5,3 +5,4 @@ pub mod Amounts
 pub mod Division
 pub mod Elements
 pub mod Constants
+pub mod Bounds

@@ -1,9 +1,9 @@
 -- Sums, differences and products of 64 bits against the integers.
-use Rattle.std.proofs.Common.{◌≡◌, ℕ, ◌+◌, ◌-◌, ◌*◌, ◌/◌, ◌%◌, ◌^◌, ◌<◌, ◌≤◌, ℤ, ◌-ℤ◌, ◌+ℤ◌, ◌*ℤ◌, neg_ℤ, pos, SFits, w64, to_z-of_z, refl, arith, ap, sym, ◌∙◌}
+use Rattle.std.proofs.Common.{◌≡◌, ℕ, ◌+◌, ◌-◌, ◌*◌, ◌/◌, ◌%◌, ◌^◌, ◌<◌, ◌≤◌, ℤ, ◌-ℤ◌, ◌+ℤ◌, ◌*ℤ◌, pos, SFits, w64, to_z-of_z, arith, ap, sym, ◌∙◌}
 use Rattle.std.proofs.lemmas.Bool.Decides.{nat_tests}
-use Rattle.std.proofs.lemmas.Int.{ints, wrapping_add-bits, wrapping_sub-bits, wrapping_mul-bits, int_wrap_fits}
+use Rattle.std.proofs.lemmas.Int.{wrapping_add-bits, wrapping_sub-bits, wrapping_mul-bits}
 use Rattle.std.specs.Int.{int_wrap}
-use Rattle.a64_numbers.specs.Numbers.{signed, unsigned, add64, sub64, mul64, neg64, not64, madd64, msub64}
+use Rattle.a64_numbers.specs.Numbers.{signed, unsigned, add64, sub64, mul64, neg64, not64, madd64}
 
 -- the signed reading wraps
 pub signed-add : (a b : ℕ) → a < 2 ^ 64 → b < 2 ^ 64 → signed (add64 a b) ≡ int_wrap w64 (signed a +ℤ signed b)

@@ -142,5 +142,10 @@ pub fn constant_moves(n: u64) -> [Option<Move>; 4]
     ensures { result ≡ half_moves (more_ones n) n }
 {
     let ones = more_halves_are_ones(n);
-    [move_of_half(ones, n, 0), move_of_half(ones, n, 1), move_of_half(ones, n, 2), move_of_half(ones, n, 3)]
+    [
+        move_of_half(ones, n, 0),
+        move_of_half(ones, n, 1),
+        move_of_half(ones, n, 2),
+        move_of_half(ones, n, 3),
+    ]
 }
