@@ -1,0 +1,2 @@
+-- What holds of the frame.
+use Rattle.std.proofs.Common.{◌≡◌, ℕ}
