@@ -6,3 +6,4 @@ pub mod Lowering
 pub mod Layers
 pub mod Reached
 pub mod Comes
+pub mod SpotsKeepUp
