@@ -7,3 +7,4 @@ pub mod Layers
 pub mod Reached
 pub mod Comes
 pub mod SpotsKeepUp
+pub mod WordsInStep

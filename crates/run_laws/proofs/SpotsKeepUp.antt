@@ -11,7 +11,7 @@ use Rattle.run_laws.proofs.Reached.{Reached, starts, pass, pass_quiet, moment, l
 use Rattle.run_laws.proofs.Comes.{Comes, comes_bind, comes_map, comes_trap, comes_repeat, keeps_comes, Stopped}
 
 module _ (p : Countdown) (n0 : ℕ) where
-  abbrev start : Node
+  abbrev pub start : Node
   start = record { spot = Begin; counter = 0 }
 
   -- the system stands at this spot, with the meaning's counter
