@@ -8,3 +8,4 @@ pub mod Reached
 pub mod Comes
 pub mod SpotsKeepUp
 pub mod WordsInStep
+pub mod WordsMade
