@@ -2,10 +2,18 @@
 use Rattle.std.proofs.Common.{◌≡◌, ℕ, zero, suc, ◌+◌, ◌≤◌, List, [], ◌∷◌, ◌++◌, length, map, refl, sym, ap, ◌∙◌, subst, arith, append_assoc}
 use Rattle.std.specs.Prelude.{flat_map}
 use Rattle.run_laws.specs.Runs.{Step, Moves, Ends, Traps, weigh, Within, System, Walk, Passes}
-use Rattle.run_laws.specs.Layers.{CarriesBy, Stays, Through, Where, Either, Left, Right, of_both, by_kind}
+use Rattle.run_laws.specs.Layers.{CarriesBy, Does, Stays, Through, Where, Either, Left, Right, of_both, by_kind}
 use Rattle.run_laws.proofs.Weights.{append-nil, weigh-append, weigh-map, weigh-flat_map}
 use Rattle.run_laws.proofs.Walks.{Walk-append}
 use Rattle.run_laws.proofs.Lowering.{Walk-down}
+
+-- a layer by what the upper system's step computes to
+pub carries_each : {S T P A B Q : Type 0} (x : System S T P) (y : System A B Q) (least : P → ℕ) (fewest : Q → ℕ) (words : P → List Q) (similar : S → A → Type 0) (same : T → B → Type 0) → ((s : S) (a : A) → similar s a → Does y least fewest words similar same (x.at s) a (x.step s)) → CarriesBy x y least fewest words similar same
+carries_each x y least fewest words similar same each = record {
+  moves = λ s t w a sim e. subst (Does y least fewest words similar same (x.at s) a) e (each s a sim);
+  ends = λ s a sim e. subst (Does y least fewest words similar same (x.at s) a) e (each s a sim);
+  traps = λ s a trap sim e. subst (Does y least fewest words similar same (x.at s) a) e (each s a sim);
+}
 
 -- a system whose points may have no step, carried out by itself
 pub carries_self : {S T P : Type 0} (y : System S T P) (least : P → ℕ) → CarriesBy y y least least (λ p. p ∷ []) (λ s t. s ≡ t) (λ u v. u ≡ v)

@@ -6,3 +6,6 @@ pub mod Lowering
 pub mod Layers
 pub mod Reached
 pub mod Comes
+pub mod SpotsKeepUp
+pub mod WordsInStep
+pub mod WordsMade

@@ -8,6 +8,12 @@ pub record CarriesBy {S T P A B Q : Type 0} (x : System S T P) (y : System A B Q
   pub ends : (s : S) (a : A) → similar s a → x.step s ≡ Ends → (b : A) × (qs : List Q) × Walk y a qs [] b × (y.step b ≡ Ends) × Within (words (x.at s)) (qs ++ y.at b ∷ [])
   pub traps : (s : S) (a : A) (trap : T) → similar s a → x.step s ≡ Traps trap → (b : A) × (qs : List Q) × (mine : B) × same trap mine × Walk y a qs [] b × (y.step b ≡ Traps mine) × Within (words (x.at s)) (qs ++ y.at b ∷ [])
 
+-- what a lower system does, from a state, for a step of an upper one at a point
+abbrev pub Does : {S T P A B Q : Type 0} → System A B Q → (P → ℕ) → (Q → ℕ) → (P → List Q) → (S → A → Type 0) → (T → B → Type 0) → P → A → Step S T → Type 0
+Does {S} {T} {P} {A} {B} {Q} y least fewest words similar same p a (Moves w t) = (b : A) × (qs : List Q) × Walk y a qs w b × similar t b × Within (words p) qs × (least p ≤ weigh fewest qs)
+Does {S} {T} {P} {A} {B} {Q} y least fewest words similar same p a Ends = (b : A) × (qs : List Q) × Walk y a qs [] b × (y.step b ≡ Ends) × Within (words p) (qs ++ y.at b ∷ [])
+Does {S} {T} {P} {A} {B} {Q} y least fewest words similar same p a (Traps trap) = (b : A) × (qs : List Q) × (mine : B) × same trap mine × Walk y a qs [] b × (y.step b ≡ Traps mine) × Within (words p) (qs ++ y.at b ∷ [])
+
 -- each step keeps the invariant
 pub record Stays {S T P : Type 0} (y : System S T P) (invariant : S → Type 0) : Type 0 where
   pub step : (s t : S) (w : List ℕ) → invariant s → y.step s ≡ Moves w t → invariant t
