@@ -1,6 +1,6 @@
 -- The laws of the table: a word stands for an instruction exactly where it is that instruction's word.
-use Rattle.std.proofs.Common.{◌≡◌, ◌↔◌, ℕ, ◌==◌, Bool, true, false, Option, Some, None, if◌then◌else◌, refl, sym, ap, ◌∙◌, subst, ⊎_elim}
-use Rattle.std.proofs.lemmas.Bool.{eq-eqb}
+use Rattle.std.proofs.Common.{◌≡◌, ◌↔◌, ℕ, Option, Some, None, if◌then◌else◌, refl, sym, ap, ◌∙◌, subst, ⊎_elim}
+use Rattle.std.proofs.lemmas.Bool.{eq-eqb, ne_eqb}
 use Rattle.std.proofs.lemmas.Bool.Decides.{eqb_tells}
 use Rattle.std.specs.Prelude.{IfSome}
 use Rattle.a64_table.specs.Table.{word_of, InRange}
@@ -50,3 +50,18 @@ again w = at_value (decode_of w) refl
     at_value : (d : Option Instr) → decode_of w ≡ d → IfSome d (λ i. InRange i × (word_of i ≡ w))
     at_value None e = tt
     at_value (Some i) e = found w i e
+
+-- a word stands for nothing where no row can have it
+pub no_row : (w : ℕ) → row_at w ≡ None → decode_of w ≡ None
+unfolding decode_of
+no_row w e = ap (exactly w) e
+
+-- a word stands for the instruction of the row that can have it, where that instruction's word is the word
+pub that_row : (w : ℕ) (i : Instr) → row_at w ≡ Some i → word_of i ≡ w → decode_of w ≡ Some i
+unfolding decode_of
+that_row w i e is = ap (exactly w) e ∙ ap (λ b. if b then Some i else None) (eq-eqb (word_of i) w is)
+
+-- and for nothing where it isn't
+pub another_row : (w : ℕ) (i : Instr) → row_at w ≡ Some i → (word_of i ≡ w → ⊥) → decode_of w ≡ None
+unfolding decode_of
+another_row w i e other = ap (exactly w) e ∙ ap (λ b. if b then Some i else None) (ne_eqb (word_of i) w other)

@@ -1,8 +1,8 @@
 -- Each instruction is what its word is read as.
-use Rattle.std.proofs.Common.{◌≡◌, ℕ, ◌+◌, ◌*◌, ◌/◌, ◌%◌, ◌^◌, ◌<◌, ◌==◌, Bool, true, false, Option, Some, None, cond, refl, sym, ap, ◌∙◌, subst, arith}
+use Rattle.std.proofs.Common.{◌≡◌, ℕ, ◌<◌, ◌==◌, Bool, true, false, Some, refl, ap, ◌∙◌, arith}
 use Rattle.std.proofs.lemmas.Bool.Decides.{nat_tests}
 use Rattle.a64_table.specs.Table.{SelectCond, word_of, InRange, shift_number, cond_number, bit_number}
-use Rattle.a64_table.specs.Decode.{bits, beside, shift_of, cond_of, row_at, immediate_row, memory_row, branch_row, register_row, source_row, decode_of}
+use Rattle.a64_table.specs.Decode.{bits, shift_of, cond_of, row_at, immediate_row, memory_row, branch_row, register_row, source_row}
 use Rattle.a64_instr.specs.declared.instr.Shift.{Shift}
 use Rattle.a64_instr.specs.declared.instr.Shift.TheVariants.{Lsl, Lsr, Asr}
 use Rattle.a64_instr.specs.declared.instr.Cond.{Cond}

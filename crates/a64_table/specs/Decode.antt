@@ -43,18 +43,22 @@ unfoldable pub branch_row : ℕ → Option Instr
 branch_row w = beside (w / 2 ^ 26) (
     (0x05, Some (B (bits w Imm26))) ∷
     (0x25, Some (Bl (bits w Imm26))) ∷
-    (0x15, Some (BCond (bits w Imm19) (cond_of (bits w BranchCond)))) ∷
-    (0x2D, beside (w / 2 ^ 24) (
-        (0xB4, Some (Cbz (bits w Rd) (bits w Imm19))) ∷
-        (0xB5, Some (Cbnz (bits w Rd) (bits w Imm19))) ∷
-        [])) ∷
-    (0x35, beside (w / 2 ^ 21) (
-        (0x6B0, Some (Br (bits w Rn))) ∷
-        (0x6B1, Some (Blr (bits w Rn))) ∷
-        (0x6B2, Some (Ret (bits w Rn))) ∷
-        (0x6A0, Some (Svc (bits w Imm16))) ∷
-        (0x6A1, Some (Brk (bits w Imm16))) ∷
-        [])) ∷
+    (0x15, Some (BCond (bits w Imm19) (cond_of (bits w BranchCond)))) ∷ (
+      0x2D,
+      beside (w / 2 ^ 24) (
+          (0xB4, Some (Cbz (bits w Rd) (bits w Imm19))) ∷
+          (0xB5, Some (Cbnz (bits w Rd) (bits w Imm19))) ∷
+          []),
+    ) ∷ (
+      0x35,
+      beside (w / 2 ^ 21) (
+          (0x6B0, Some (Br (bits w Rn))) ∷
+          (0x6B1, Some (Blr (bits w Rn))) ∷
+          (0x6B2, Some (Ret (bits w Rn))) ∷
+          (0x6A0, Some (Svc (bits w Imm16))) ∷
+          (0x6A1, Some (Brk (bits w Imm16))) ∷
+          []),
+    ) ∷
     [])
 
 -- bits 28:25 are x1x0: loads and stores
@@ -63,33 +67,41 @@ memory_row w = beside (w / 2 ^ 22) (
     (0x3E5, Some (Ldr (bits w Rd) (bits w Rn) (bits w Imm12))) ∷
     (0x3E4, Some (Str (bits w Rd) (bits w Rn) (bits w Imm12))) ∷
     (0x0E5, Some (Ldrb (bits w Rd) (bits w Rn) (bits w Imm12))) ∷
-    (0x0E4, Some (Strb (bits w Rd) (bits w Rn) (bits w Imm12))) ∷
-    (0x3E1, beside (w / 2 ^ 12 % 2) (
-        (0, Some (LdrReg (bits w Rd) (bits w Rn) (bits w Rm))) ∷
-        (1, Some (LdrRegScaled (bits w Rd) (bits w Rn) (bits w Rm))) ∷
-        [])) ∷
-    (0x3E0, beside (w / 2 ^ 12 % 2) (
-        (0, Some (StrReg (bits w Rd) (bits w Rn) (bits w Rm))) ∷
-        (1, Some (StrRegScaled (bits w Rd) (bits w Rn) (bits w Rm))) ∷
-        [])) ∷
+    (0x0E4, Some (Strb (bits w Rd) (bits w Rn) (bits w Imm12))) ∷ (
+      0x3E1,
+      beside (w / 2 ^ 12 % 2) (
+          (0, Some (LdrReg (bits w Rd) (bits w Rn) (bits w Rm))) ∷
+          (1, Some (LdrRegScaled (bits w Rd) (bits w Rn) (bits w Rm))) ∷
+          []),
+    ) ∷ (
+      0x3E0,
+      beside (w / 2 ^ 12 % 2) (
+          (0, Some (StrReg (bits w Rd) (bits w Rn) (bits w Rm))) ∷
+          (1, Some (StrRegScaled (bits w Rd) (bits w Rn) (bits w Rm))) ∷
+          []),
+    ) ∷
     (0x0E1, Some (LdrbReg (bits w Rd) (bits w Rn) (bits w Rm))) ∷
     (0x0E0, Some (StrbReg (bits w Rd) (bits w Rn) (bits w Rm))) ∷
     [])
 
 -- bits 31:24 are 9A: divisions and shifts (bits 23:21 are 110) and selects (100)
 unfoldable pub source_row : ℕ → Option Instr
-source_row w = beside (w / 2 ^ 21) (
-    (0x4D6, beside (w / 2 ^ 10 % 2 ^ 6) (
-        (0x03, Some (Sdiv (bits w Rd) (bits w Rn) (bits w Rm))) ∷
-        (0x08, Some (Lslv (bits w Rd) (bits w Rn) (bits w Rm))) ∷
-        (0x09, Some (Lsrv (bits w Rd) (bits w Rn) (bits w Rm))) ∷
-        (0x0A, Some (Asrv (bits w Rd) (bits w Rn) (bits w Rm))) ∷
-        (0x0B, Some (Rorv (bits w Rd) (bits w Rn) (bits w Rm))) ∷
-        [])) ∷
-    (0x4D4, beside (w / 2 ^ 10 % 4) (
-        (0, Some (Csel (bits w Rd) (bits w Rn) (bits w Rm) (cond_of (bits w SelectCond)))) ∷
-        (1, Some (Csinc (bits w Rd) (bits w Rn) (bits w Rm) (cond_of (bits w SelectCond)))) ∷
-        [])) ∷
+source_row w = beside (w / 2 ^ 21) ((
+  0x4D6,
+  beside (w / 2 ^ 10 % 2 ^ 6) (
+      (0x03, Some (Sdiv (bits w Rd) (bits w Rn) (bits w Rm))) ∷
+      (0x08, Some (Lslv (bits w Rd) (bits w Rn) (bits w Rm))) ∷
+      (0x09, Some (Lsrv (bits w Rd) (bits w Rn) (bits w Rm))) ∷
+      (0x0A, Some (Asrv (bits w Rd) (bits w Rn) (bits w Rm))) ∷
+      (0x0B, Some (Rorv (bits w Rd) (bits w Rn) (bits w Rm))) ∷
+      []),
+) ∷ (
+  0x4D4,
+  beside (w / 2 ^ 10 % 4) (
+      (0, Some (Csel (bits w Rd) (bits w Rn) (bits w Rm) (cond_of (bits w SelectCond)))) ∷
+      (1, Some (Csinc (bits w Rd) (bits w Rn) (bits w Rm) (cond_of (bits w SelectCond)))) ∷
+      []),
+) ∷
     [])
 
 -- bits 28:25 are x101: register operands
@@ -97,21 +109,27 @@ unfoldable pub register_row : ℕ → Option Instr
 register_row w = beside (w / 2 ^ 24) (
     (0x8B, Some (AddReg (bits w Rd) (bits w Rn) (bits w Rm) (shift_of (bits w ShiftType)) (bits w Imm6))) ∷
     (0xCB, Some (SubReg (bits w Rd) (bits w Rn) (bits w Rm) (shift_of (bits w ShiftType)) (bits w Imm6))) ∷
-    (0xEB, Some (SubsReg (bits w Rd) (bits w Rn) (bits w Rm) (shift_of (bits w ShiftType)) (bits w Imm6))) ∷
-    (0x8A, beside (w / 2 ^ 21 % 2) (
-        (0, Some (AndReg (bits w Rd) (bits w Rn) (bits w Rm) (shift_of (bits w ShiftType)) (bits w Imm6))) ∷
-        (1, Some (BicReg (bits w Rd) (bits w Rn) (bits w Rm) (shift_of (bits w ShiftType)) (bits w Imm6))) ∷
-        [])) ∷
-    (0xAA, beside (w / 2 ^ 21 % 2) (
-        (0, Some (OrrReg (bits w Rd) (bits w Rn) (bits w Rm) (shift_of (bits w ShiftType)) (bits w Imm6))) ∷
-        (1, Some (OrnReg (bits w Rd) (bits w Rn) (bits w Rm) (shift_of (bits w ShiftType)) (bits w Imm6))) ∷
-        [])) ∷
+    (0xEB, Some (SubsReg (bits w Rd) (bits w Rn) (bits w Rm) (shift_of (bits w ShiftType)) (bits w Imm6))) ∷ (
+      0x8A,
+      beside (w / 2 ^ 21 % 2) (
+          (0, Some (AndReg (bits w Rd) (bits w Rn) (bits w Rm) (shift_of (bits w ShiftType)) (bits w Imm6))) ∷
+          (1, Some (BicReg (bits w Rd) (bits w Rn) (bits w Rm) (shift_of (bits w ShiftType)) (bits w Imm6))) ∷
+          []),
+    ) ∷ (
+      0xAA,
+      beside (w / 2 ^ 21 % 2) (
+          (0, Some (OrrReg (bits w Rd) (bits w Rn) (bits w Rm) (shift_of (bits w ShiftType)) (bits w Imm6))) ∷
+          (1, Some (OrnReg (bits w Rd) (bits w Rn) (bits w Rm) (shift_of (bits w ShiftType)) (bits w Imm6))) ∷
+          []),
+    ) ∷
     (0xCA, Some (EorReg (bits w Rd) (bits w Rn) (bits w Rm) (shift_of (bits w ShiftType)) (bits w Imm6))) ∷
-    (0xEA, Some (AndsReg (bits w Rd) (bits w Rn) (bits w Rm) (shift_of (bits w ShiftType)) (bits w Imm6))) ∷
-    (0x9B, beside (w / 2 ^ 15 % 2) (
-        (0, Some (Madd (bits w Rd) (bits w Rn) (bits w Rm) (bits w Ra))) ∷
-        (1, Some (Msub (bits w Rd) (bits w Rn) (bits w Rm) (bits w Ra))) ∷
-        [])) ∷
+    (0xEA, Some (AndsReg (bits w Rd) (bits w Rn) (bits w Rm) (shift_of (bits w ShiftType)) (bits w Imm6))) ∷ (
+      0x9B,
+      beside (w / 2 ^ 15 % 2) (
+          (0, Some (Madd (bits w Rd) (bits w Rn) (bits w Rm) (bits w Ra))) ∷
+          (1, Some (Msub (bits w Rd) (bits w Rn) (bits w Rm) (bits w Ra))) ∷
+          []),
+    ) ∷
     (0x9A, source_row w) ∷
     (0xDA, Some (Csneg (bits w Rd) (bits w Rn) (bits w Rm) (cond_of (bits w SelectCond)))) ∷
     [])

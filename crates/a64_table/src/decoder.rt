@@ -5,10 +5,9 @@ ghost use Rattle.a64_table.specs.Table.{word_of, InRange};
 ghost use Rattle.a64_table.specs.Decode.{decode_of, row_at, immediate_row, branch_row, memory_row, source_row, register_row};
 ghost use Rattle.a64_instr.specs.declared.instr.Instr.{Instr};
 
-use a64_instr::Instr;
-
 use crate::encoder::encode;
 use crate::fields;
+use a64_instr::Instr;
 
 /// The instruction that the word stands for, where it is in the table.
 ///
@@ -20,7 +19,11 @@ pub fn decode(word: u32) -> Option<Instr>
     ensures only { (i : Instr) → InRange i → word_of i ≡ word → result ≡ Some i }
 {
     let instr = row(word)?;
-    if encode(&instr) == word { Some(instr) } else { None }
+    if encode(&instr) == word {
+        Some(instr)
+    } else {
+        None
+    }
 }
 
 /// The only row that can have the word, with the word's fields; by bits 28:25.
@@ -50,9 +53,21 @@ fn immediate(word: u32) -> Option<Instr>
         0x122 => Some(Instr::AddImm { rd, rn, imm, high }),
         0x1A2 => Some(Instr::SubImm { rd, rn, imm, high }),
         0x1E2 => Some(Instr::SubsImm { rd, rn, imm, high }),
-        0x125 => Some(Instr::Movn { rd, imm: fields::imm16(word), half: fields::hw(word) }),
-        0x1A5 => Some(Instr::Movz { rd, imm: fields::imm16(word), half: fields::hw(word) }),
-        0x1E5 => Some(Instr::Movk { rd, imm: fields::imm16(word), half: fields::hw(word) }),
+        0x125 => Some(Instr::Movn {
+            rd,
+            imm: fields::imm16(word),
+            half: fields::hw(word),
+        }),
+        0x1A5 => Some(Instr::Movz {
+            rd,
+            imm: fields::imm16(word),
+            half: fields::hw(word),
+        }),
+        0x1E5 => Some(Instr::Movk {
+            rd,
+            imm: fields::imm16(word),
+            half: fields::hw(word),
+        }),
         _ => None,
     }
 }
@@ -67,9 +82,16 @@ fn branch(word: u32) -> Option<Instr>
     let to = fields::imm19(word);
     let imm = fields::imm16(word);
     match word >> 26 {
-        0x05 => Some(Instr::B { to: fields::imm26(word) }),
-        0x25 => Some(Instr::Bl { to: fields::imm26(word) }),
-        0x15 => Some(Instr::BCond { to, cond: fields::branch_cond(word) }),
+        0x05 => Some(Instr::B {
+            to: fields::imm26(word),
+        }),
+        0x25 => Some(Instr::Bl {
+            to: fields::imm26(word),
+        }),
+        0x15 => Some(Instr::BCond {
+            to,
+            cond: fields::branch_cond(word),
+        }),
         0x2D => match word >> 24 {
             0xB4 => Some(Instr::Cbz { rt, to }),
             0xB5 => Some(Instr::Cbnz { rt, to }),
@@ -127,19 +149,78 @@ fn register(word: u32) -> Option<Instr>
     let ra = fields::ra(word);
     let taken_away = (word >> 15) & 1;
     match word >> 24 {
-        0x8B => Some(Instr::AddReg { rd, rn, rm, shift, by }),
-        0xCB => Some(Instr::SubReg { rd, rn, rm, shift, by }),
-        0xEB => Some(Instr::SubsReg { rd, rn, rm, shift, by }),
-        0x8A if complemented == 0 => Some(Instr::AndReg { rd, rn, rm, shift, by }),
-        0x8A => Some(Instr::BicReg { rd, rn, rm, shift, by }),
-        0xAA if complemented == 0 => Some(Instr::OrrReg { rd, rn, rm, shift, by }),
-        0xAA => Some(Instr::OrnReg { rd, rn, rm, shift, by }),
-        0xCA => Some(Instr::EorReg { rd, rn, rm, shift, by }),
-        0xEA => Some(Instr::AndsReg { rd, rn, rm, shift, by }),
+        0x8B => Some(Instr::AddReg {
+            rd,
+            rn,
+            rm,
+            shift,
+            by,
+        }),
+        0xCB => Some(Instr::SubReg {
+            rd,
+            rn,
+            rm,
+            shift,
+            by,
+        }),
+        0xEB => Some(Instr::SubsReg {
+            rd,
+            rn,
+            rm,
+            shift,
+            by,
+        }),
+        0x8A if complemented == 0 => Some(Instr::AndReg {
+            rd,
+            rn,
+            rm,
+            shift,
+            by,
+        }),
+        0x8A => Some(Instr::BicReg {
+            rd,
+            rn,
+            rm,
+            shift,
+            by,
+        }),
+        0xAA if complemented == 0 => Some(Instr::OrrReg {
+            rd,
+            rn,
+            rm,
+            shift,
+            by,
+        }),
+        0xAA => Some(Instr::OrnReg {
+            rd,
+            rn,
+            rm,
+            shift,
+            by,
+        }),
+        0xCA => Some(Instr::EorReg {
+            rd,
+            rn,
+            rm,
+            shift,
+            by,
+        }),
+        0xEA => Some(Instr::AndsReg {
+            rd,
+            rn,
+            rm,
+            shift,
+            by,
+        }),
         0x9B if taken_away == 0 => Some(Instr::Madd { rd, rn, rm, ra }),
         0x9B => Some(Instr::Msub { rd, rn, rm, ra }),
         0x9A => source(word),
-        0xDA => Some(Instr::Csneg { rd, rn, rm, cond: fields::select_cond(word) }),
+        0xDA => Some(Instr::Csneg {
+            rd,
+            rn,
+            rm,
+            cond: fields::select_cond(word),
+        }),
         _ => None,
     }
 }

@@ -55,15 +55,11 @@ pub fn imm6(word: u32) -> Bits<6>
     Bits::new((word >> 10) & 0x3F)
 }
 
-/// Bits 23:22, how the second operand is shifted. The number 3, which is no shift's, reads as ASR.
+/// Bits 23:22, how the second operand is shifted.
 pub fn shift(word: u32) -> Shift
     ensures { result ≡ shift_of (bits word ShiftType) }
 {
-    match (word >> 22) & 3 {
-        0 => Shift::Lsl,
-        1 => Shift::Lsr,
-        _ => Shift::Asr,
-    }
+    shift_type((word >> 22) & 3)
 }
 
 /// Bits 20:5, a number of 16 bits.
@@ -106,6 +102,17 @@ pub fn branch_cond(word: u32) -> Cond
     ensures { result ≡ cond_of (bits word BranchCond) }
 {
     cond(word & 0xF)
+}
+
+/// The shift type with this number. The number 3, which is no shift's, reads as ASR.
+fn shift_type(number: u32) -> Shift
+    ensures { result ≡ shift_of number }
+{
+    match number {
+        0 => Shift::Lsl,
+        1 => Shift::Lsr,
+        _ => Shift::Asr,
+    }
 }
 
 /// The condition with this number. The number 15, which is no condition's, reads as AL.
