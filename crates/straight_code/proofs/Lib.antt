@@ -1,2 +1,6 @@
 pub mod Sequences
-mod Frames
+pub mod Frames
+pub mod Carried
+pub mod Ranges
+pub mod Whole
+mod Pushed

@@ -1,5 +1,5 @@
 -- Instructions one after the other, and the words of them that a machine passes.
-use Rattle.std.proofs.Common.{◌≡◌, ℕ, ◌+◌, ◌-◌, ◌*◌, ◌/◌, ◌%◌, ◌<◌, ◌≤◌, ◌^◌, ◌==◌, ◌&&◌, Bool, true, false, if◌then◌else◌, List, [], ◌∷◌, ◌++◌, map, length, Option, Some, None, refl, sym, ap, ap₂, ◌∙◌, subst, arith, append_assoc, add-one}
+use Rattle.std.proofs.Common.{◌≡◌, ℕ, zero, suc, ◌+◌, ◌-◌, ◌*◌, ◌/◌, ◌%◌, ◌<◌, ◌≤◌, ◌^◌, ◌==◌, ◌&&◌, Bool, true, false, if◌then◌else◌, List, [], ◌∷◌, ◌++◌, map, length, Option, Some, None, refl, sym, ap, ap₂, ◌∙◌, subst, arith, append_assoc, add-one}
 use Rattle.std.specs.Prelude.{nat_le, slice_get}
 use Rattle.std.proofs.lemmas.Bool.Decides.{nat_tests}
 use Rattle.run_laws.specs.Runs.{Step, Moves, System, Walk}
@@ -42,10 +42,11 @@ module _ (code : List ℕ) where
   fetch_at : (k : ℕ) → fetch code (address_of k) ≡ slice_get code k
   fetch_at k = ap₂ (λ (b : Bool) (j : ℕ). if b then slice_get code j else None) test place
     where
-    test : (nat_le code_base (address_of k) && address_of k % 4 == 0) ≡ true
-    test = grind (arith, nat_tests)
-    place : place_at (address_of k) ≡ k
-    place = omega arith
+      test : (nat_le code_base (address_of k) && address_of k % 4 == 0) ≡ true
+      test = grind (arith, nat_tests)
+
+      place : place_at (address_of k) ≡ k
+      place = omega arith
 
   -- a machine that stands at an instruction's word makes its step
   pub step_at : (k : ℕ) (i : Instr) (s : State) → slice_get code k ≡ Some (word_of i) → InRange i → s.pc ≡ address_of k → step_of code s ≡ effect i s
@@ -56,8 +57,8 @@ module _ (code : List ℕ) where
   pub place_is : (k : ℕ) (s : State) → s.pc ≡ address_of k → place_at s.pc ≡ k
   place_is k s at = ap place_at at ∙ place
     where
-    place : place_at (address_of k) ≡ k
-    place = omega arith
+      place : place_at (address_of k) ≡ k
+      place = omega arith
 
   -- the address behind a word's
   pub next_address : (k : ℕ) → k < 2 ^ 32 → add64 (address_of k) 4 ≡ address_of (suc k)

@@ -1,5 +1,6 @@
 -- The image of operations: the start, the routines, and the procedure.
-use Rattle.std.specs.Prelude.{ℕ, List, [], ◌∷◌, ◌++◌, map}
+use Rattle.std.specs.Prelude.{◌≡◌, ℕ, List, [], ◌∷◌, ◌++◌, map}
+use Rattle.a64_machine.specs.State.{Trap, Broke, Undefined, BadAddress, BadCall}
 use Rattle.a64_instr.specs.declared.instr.Instr.TheVariants.{Bl, Svc}
 use Rattle.a64_table.specs.Table.{word_of}
 use Rattle.image_form.specs.declared.image.Image.{Image}
@@ -34,3 +35,10 @@ code_of os = front_words ++ map word_of (procedure os)
 -- the image: one global cell, In.Done, no constants, and the procedure's frame
 abbrev pub image : List Operation → Image
 image os = record { version = 1; flags = 0; code = code_of os; globals = 8; constants = []; frame = frame_bytes (values_of os) }
+
+-- a trap of these operations' meaning, of which there is none, and a machine's: BRK with that kind
+abbrev pub same_trap : ℕ → Trap → Type 0
+same_trap kind (Broke kind' place) = kind ≡ kind'
+same_trap kind (Undefined word) = ⊥
+same_trap kind (BadAddress address) = ⊥
+same_trap kind (BadCall number) = ⊥

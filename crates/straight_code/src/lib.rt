@@ -10,5 +10,5 @@ mod code;
 mod image;
 mod operation;
 
-
+pub use image::{carries_out, image_of};
 pub use operation::Operation;
