@@ -1,7 +1,7 @@
 -- A system that keeps up with a meaning is in step with it.
-use Rattle.std.proofs.Common.{◌≡◌, ℕ, zero, suc, ◌+◌, ◌-◌, ◌*◌, ◌<◌, ◌≤◌, List, [], ◌∷◌, ◌++◌, length, refl, sym, ap, ◌∙◌, subst, arith, append_assoc, length-append}
+use Rattle.std.proofs.Common.{◌≡◌, ℕ, zero, suc, ◌+◌, ◌-◌, ◌*◌, ◌≤◌, List, [], ◌∷◌, ◌++◌, length, sym, ap, ◌∙◌, subst, arith, append_assoc, length-append}
 use Rattle.std.proofs.Math.Nat.{mul-le-mul_right}
-use Rattle.run_laws.specs.Runs.{Outcome, Ended, Trapped, Going, Step, Ends, Traps, act, run, output, IsOver, weigh, Within, System, Walk, Passes, Halts, Keeps, StartsWith, Counterpart, InStep, turns_a_step}
+use Rattle.run_laws.specs.Runs.{Outcome, Ended, Trapped, Going, Step, Ends, Traps, act, run, output, IsOver, System, Passes, Halts, Keeps, StartsWith, Counterpart, InStep, turns_a_step}
 use Rattle.run_laws.proofs.Weights.{append-nil, weigh-length, Within-length}
 use Rattle.run_laws.proofs.Walks.{run-Walk}
 use Rattle.run_laws.proofs.BoundedRuns.{run-longer_to, run-one_end, run-extends, run-grows, run-prefix, halted, act-halted}
@@ -19,13 +19,15 @@ module _ {S T P U : Type 0} (y : System S T P) (all : List P) (same : U → T �
       let bound = r.0 in
       let size = h.8 in
       let n = weigh-length ps in
-      let e : suc k * length all ≡ length all + k * length all = omega arith in
-      (omega (arith, l, bound, e, size, n), λ i out.
-          let a : j + i ≡ length ps + (h.4 + i) = omega (arith, size, n) in
-          ap (λ x. run y.step x s out) a
-          ∙ run-Walk y ps s h.2 h.1 h.6 (h.4 + i) out
-          ∙ r.1 i (out ++ h.2)
-          ∙ ap (run y.step i t) (append_assoc out h.2 h.3 ∙ ap (λ x. out ++ x) (sym h.7)))
+      let e : suc k * length all ≡ length all + k * length all = omega arith in (
+        omega (arith, l, bound, e, size, n),
+        λ i out.
+            let a : j + i ≡ length ps + (h.4 + i) = omega (arith, size, n) in
+            ap (λ x. run y.step x s out) a
+            ∙ run-Walk y ps s h.2 h.1 h.6 (h.4 + i) out
+            ∙ r.1 i (out ++ h.2)
+            ∙ ap (run y.step i t) (append_assoc out h.2 h.3 ∙ ap (λ x. out ++ x) (sym h.7)),
+      )
 
   -- a halt after k stretches comes within (k + 1) times all points
   pub run-Halts : (k : ℕ) (s : S) (w : List ℕ) (halt : Step S T) → IsOver (halted halt w) → Halts y (λ _. 1) all k s w halt → (j : ℕ) × (j ≤ (k + 1) * length all) × (run y.step j s [] ≡ halted halt w)
@@ -35,13 +37,15 @@ module _ {S T P U : Type 0} (y : System S T P) (all : List P) (same : U → T �
       let bound = r.0 in
       let l = Within-length all (ps ++ y.at h.1 ∷ []) h.7 in
       let n : length (ps ++ y.at h.1 ∷ []) ≡ length ps + 1 = omega (arith, length-append ps (y.at h.1 ∷ [])) in
-      let size : (k + 1) * length all ≡ k * length all + length all = omega arith in
-      (h.5 + (length ps + 1), omega (arith, bound, l, n, size),
+      let size : (k + 1) * length all ≡ k * length all + length all = omega arith in (
+        h.5 + (length ps + 1),
+        omega (arith, bound, l, n, size),
         r.1 (length ps + 1) []
-        ∙ run-Walk y ps h.0 h.4 h.1 h.8 1 h.3
-        ∙ ap (run y.step 1 h.1) (sym h.10)
-        ∙ ap (λ x. act x (run y.step zero) w) h.9
-        ∙ act-halted halt (run y.step zero) w over)
+            ∙ run-Walk y ps h.0 h.4 h.1 h.8 1 h.3
+            ∙ ap (run y.step 1 h.1) (sym h.10)
+            ∙ ap (λ x. act x (run y.step zero) w) h.9
+            ∙ act-halted halt (run y.step zero) w over,
+      )
 
   halts_in : (n k : ℕ) → k ≤ n → (s : S) (w : List ℕ) (halt : Step S T) → IsOver (halted halt w) → Halts y (λ _. 1) all k s w halt → run y.step ((n + 1) * length all) s [] ≡ halted halt w
   halts_in n k le s w halt over h =

@@ -1,7 +1,7 @@
 -- What comes after a part of a meaning: the system stands where the part's value says, or has halted, or its turns are used up.
-use Rattle.std.proofs.Common.{◌≡◌, ℕ, zero, suc, ◌+◌, ◌*◌, ◌<◌, ◌≤◌, List, [], ◌∷◌, ◌++◌, Bool, true, false, refl, arith}
+use Rattle.std.proofs.Common.{◌≡◌, ℕ, zero, suc, ◌*◌, ◌<◌, ◌≤◌, List, Bool, true, false, refl, arith}
 use Rattle.std.specs.Prelude.{if◌then◌else◌, MatchBool}
-use Rattle.run_laws.specs.Runs.{Outcome, Step, Traps, weigh, System, Passes, Halts, Keeps, turns_a_step}
+use Rattle.run_laws.specs.Runs.{Traps, weigh, System, Passes, Halts, Keeps, turns_a_step}
 use Rattle.run_laws.specs.Runs.{Ends as Stops}
 use Rattle.run_laws.specs.Turns.{State, Ending, Gives, Fails, Spent, after, ◌>>=◌, give, spend, spend_of, repeat, outcome}
 use Rattle.run_laws.proofs.Reached.{Reached, moment, spent, halts}
@@ -55,8 +55,8 @@ module _ {S T P C U : Type 0} (y : System S T P) (least : P → ℕ) (all : List
 
   -- rounds, a turn each: Head holds before each round's moment, and Done behind the last round
   module _ (round : State C → Ending C U Bool) (most : ℕ) (Head : ℕ → State C → Type 0) (Done : Unit {0} → State C → Type 0)
-    (opens : (m : ℕ) (st : State C) → Head m st → Open m st)
-    (turn : (m n : ℕ) (st : State C) → m ≤ most → n < m → Head m st → st.turns ≡ suc n → Comes (round (record st { turns = n })) (λ goes_on t. MatchBool goes_on (Head n t) (Done tt t))) where
+      (opens : (m : ℕ) (st : State C) → Head m st → Open m st)
+      (turn : (m n : ℕ) (st : State C) → m ≤ most → n < m → Head m st → st.turns ≡ suc n → Comes (round (record st { turns = n })) (λ goes_on t. MatchBool goes_on (Head n t) (Done tt t))) where
     after_round : (fuel n : ℕ) → ((t : State C) → Head n t → Comes (repeat fuel round t) Done) → (goes_on : Bool) (t : State C) → MatchBool goes_on (Head n t) (Done tt t) → Comes ((if goes_on then repeat fuel round else give tt) t) Done
     after_round fuel n again true t h = again t h
     after_round fuel n again false t h = record { by = h }
@@ -66,8 +66,8 @@ module _ {S T P C U : Type 0} (y : System S T P) (least : P → ℕ) (all : List
     by_turns fuel m (suc n) st le less again h is =
         let bound = (opens m st h).reached.bound in
         comes_bind (round (record st { turns = n })) (λ goes_on. if goes_on then repeat fuel round else give tt)
-          (turn m n st less (omega (arith, bound, is)) h is)
-          (λ goes_on t good. after_round fuel n (λ u head. again n u (omega (arith, bound, is, le)) (omega (arith, bound, is, less)) head) goes_on t good)
+        (turn m n st less (omega (arith, bound, is)) h is)
+        (λ goes_on t good. after_round fuel n (λ u head. again n u (omega (arith, bound, is, le)) (omega (arith, bound, is, less)) head) goes_on t good)
 
     pub comes_repeat : (fuel m : ℕ) (st : State C) → m ≤ fuel → m ≤ most → Head m st → Comes (repeat fuel round st) Done
     comes_repeat zero m st le less h =

@@ -1,9 +1,9 @@
 -- Layers put together: three systems, systems with invariants, and points of two kinds.
-use Rattle.std.proofs.Common.{◌≡◌, ℕ, zero, suc, ◌+◌, ◌≤◌, List, [], ◌∷◌, ◌++◌, length, map, refl, sym, ap, ◌∙◌, subst, arith, append_assoc}
+use Rattle.std.proofs.Common.{◌≡◌, ℕ, zero, suc, ◌+◌, List, [], ◌∷◌, ◌++◌, length, map, refl, sym, ap, ◌∙◌, subst, arith, append_assoc}
 use Rattle.std.specs.Prelude.{flat_map}
 use Rattle.run_laws.specs.Runs.{Step, Moves, Ends, Traps, weigh, Within, System, Walk, Passes}
 use Rattle.run_laws.specs.Layers.{CarriesStep, CarriesBy, Stays, Through, Where, Either, Left, Right, of_both, by_kind, places_from, InRow}
-use Rattle.run_laws.proofs.Weights.{append-nil, weigh-append, weigh-map, weigh-flat_map}
+use Rattle.run_laws.proofs.Weights.{weigh-append, weigh-map, weigh-flat_map}
 use Rattle.run_laws.proofs.Walks.{Walk-one, Walk-append}
 use Rattle.run_laws.proofs.Lowering.{Walk-down}
 
@@ -13,6 +13,7 @@ carries_self {S} {T} {P} y least = record { each = λ s a sim. subst (λ t. Carr
   where
     Carried : S → S → Step S T → Type 0
     Carried s a step = CarriesStep y least least (λ p. p ∷ []) (λ (s t : S). s ≡ t) (λ (u v : T). u ≡ v) (y.at s) a step
+
     by_step : (s : S) (step : Step S T) → y.step s ≡ step → Carried s s step
     by_step s (Moves w t) e = (t, y.at s ∷ [], Walk-one y s t w e, refl, (λ h. omega arith), omega arith)
     by_step s Ends e = (s, [], (refl, refl), e, (λ h. omega arith))

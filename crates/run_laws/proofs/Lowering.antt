@@ -1,5 +1,5 @@
 -- What an upper system keeps, a lower one that carries it out keeps too.
-use Rattle.std.proofs.Common.{◌≡◌, ℕ, zero, suc, ◌+◌, ◌*◌, ◌≤◌, List, [], ◌∷◌, ◌++◌, length, refl, sym, ap, ◌∙◌, subst, arith}
+use Rattle.std.proofs.Common.{◌≡◌, ℕ, zero, suc, ◌+◌, ◌*◌, ◌≤◌, List, [], ◌∷◌, ◌++◌, length, refl, sym, ap, subst, arith}
 use Rattle.std.specs.Prelude.{flat_map}
 use Rattle.run_laws.specs.Runs.{Outcome, Ended, Trapped, Going, Step, Moves, Ends, Traps, weigh, Within, System, Walk, Passes, Halts, Keeps, Carries, Counterpart, InStep, run, turns_a_step}
 use Rattle.run_laws.specs.Layers.{CarriesStep, CarriesBy, Through}
@@ -39,10 +39,14 @@ module _ {S T P A B Q : Type 0} (x : System S T P) (y : System A B Q) (least : P
       let more = Walk-down ps h.0 t h.2 one.0 one.3 h.6 in
       let few = one.5 in let few' = more.5 in
       let e = ap least h.3 in
-      let n = weigh-append fewest one.1 more.1 in
-      (more.0, one.1 ++ more.1, subst (λ z. Walk y a (one.1 ++ more.1) z more.0) (sym h.5) (Walk-append y one.1 more.1 a one.0 more.0 h.1 h.2 one.2 more.2), more.3,
+      let n = weigh-append fewest one.1 more.1 in (
+        more.0,
+        one.1 ++ more.1,
+        subst (λ z. Walk y a (one.1 ++ more.1) z more.0) (sym h.5) (Walk-append y one.1 more.1 a one.0 more.0 h.1 h.2 one.2 more.2),
+        more.3,
         (λ k. let p1 = one.4 k in let p2 = more.4 k in let q = ap (λ z. weigh k (words z)) h.3 in omega (arith, p1, p2, q, weigh-append k one.1 more.1, weigh-append k (words p) (flat_map words ps))),
-        omega (arith, few, few', e, n))
+        omega (arith, few, few', e, n),
+      )
 
   module _ (all : List P) (places : List Q) (fits : Within places (flat_map words all)) where
     within_down : (ps : List P) (qs : List Q) → Within all ps → Within (flat_map words ps) qs → Within places qs
@@ -56,23 +60,39 @@ module _ {S T P A B Q : Type 0} (x : System S T P) (y : System A B Q) (least : P
     Passes-down (suc k) j s t w a sim h =
         let one = Walk-down h.0 s h.1 h.2 a sim h.6 in
         let more = Passes-down k h.4 h.1 t h.3 one.0 one.3 h.9 in
-        let few = one.5 in let few' = more.2 in let e = h.8 in
-        (more.0, weigh fewest one.1 + more.1, omega (arith, few, few', e), more.3,
-          (one.1, one.0, h.2, h.3, more.1, within_down h.0 one.1 h.5 one.4, one.2, h.7, refl, more.4))
+        let few = one.5 in let few' = more.2 in let e = h.8 in (
+          more.0,
+          weigh fewest one.1 + more.1,
+          omega (arith, few, few', e),
+          more.3,
+          (one.1, one.0, h.2, h.3, more.1, within_down h.0 one.1 h.5 one.4, one.2, h.7, refl, more.4),
+        )
 
     -- the end of a walk, and what halts there
     halts_down : (k : ℕ) (s : S) (w : List ℕ) (a : A) (up : Step S T) (Good : Step A B → Type 0) → similar s a
-      → ((u : S) (d : A) → similar u d → x.step u ≡ up → (down : Step A B) × Good down × (b : A) × (qs : List Q) × Walk y d qs [] b × (y.step b ≡ down) × Within (words (x.at u)) (qs ++ y.at b ∷ []))
-      → Halts x least all k s w up → (down : Step A B) × Good down × Halts y fewest places k a w down
+        → ((u : S) (d : A) → similar u d → x.step u ≡ up → (down : Step A B) × Good down × (b : A) × (qs : List Q) × Walk y d qs [] b × (y.step b ≡ down) × Within (words (x.at u)) (qs ++ y.at b ∷ []))
+        → Halts x least all k s w up → (down : Step A B) × Good down × Halts y fewest places k a w down
     halts_down k s w a up Good sim close h =
         let r = Passes-down k h.5 s h.0 h.3 a sim h.6 in
         let v = Walk-down h.2 h.0 h.1 h.4 r.0 r.3 h.8 in
-        let z = close h.1 v.0 v.3 h.9 in
-        (z.0, z.1, (r.0, z.2, v.1 ++ z.3, h.3, h.4, r.1, r.4,
-          (λ g. let p1 = v.4 g in let p2 = z.6 g in let p3 = h.7 (λ p. weigh g (words p)) in let p4 = fits g in
-              omega (arith, p1, p2, p3, p4, weigh-append g v.1 z.3, weigh-append g (v.1 ++ z.3) (y.at z.2 ∷ []), weigh-append g z.3 (y.at z.2 ∷ []), weigh-append (λ p. weigh g (words p)) h.2 (x.at h.1 ∷ []), weigh-flat_map g words h.2, weigh-flat_map g words all)),
-          subst (λ q. Walk y r.0 (v.1 ++ z.3) q z.2) (append-nil h.4) (Walk-append y v.1 z.3 r.0 v.0 z.2 h.4 [] v.2 z.4),
-          z.5, h.10))
+        let z = close h.1 v.0 v.3 h.9 in (
+          z.0,
+          z.1,
+          (
+            r.0,
+            z.2,
+            v.1 ++ z.3,
+            h.3,
+            h.4,
+            r.1,
+            r.4,
+            (λ g. let p1 = v.4 g in let p2 = z.6 g in let p3 = h.7 (λ p. weigh g (words p)) in let p4 = fits g in
+                omega (arith, p1, p2, p3, p4, weigh-append g v.1 z.3, weigh-append g (v.1 ++ z.3) (y.at z.2 ∷ []), weigh-append g z.3 (y.at z.2 ∷ []), weigh-append (λ p. weigh g (words p)) h.2 (x.at h.1 ∷ []), weigh-flat_map g words h.2, weigh-flat_map g words all)),
+            subst (λ q. Walk y r.0 (v.1 ++ z.3) q z.2) (append-nil h.4) (Walk-append y v.1 z.3 r.0 v.0 z.2 h.4 [] v.2 z.4),
+            z.5,
+            h.10,
+          ),
+        )
 
     -- what an upper system keeps, whatever it takes for the same trap, the lower one keeps
     pub Keeps-down : {U : Type 0} (before : U → T → Type 0) (n : ℕ) (o : Outcome U) (s : S) (a : A) → similar s a → Keeps x least all before s n o → Keeps y fewest places (Through before same) a n o
@@ -119,7 +139,7 @@ Keeps-least y least more le all same s n (Going out) h =
 pub keeps_down : {S T P A B Q : Type 0} (x : System S T P) (y : System A B Q) (least : P → ℕ) (words : P → List Q) (all : List P) (places : List Q) (similar : S → A → Type 0) (same : T → B → Type 0) → Carries x y least words similar same → Within places (flat_map words all) → (n : ℕ) (o : Outcome T) (s : S) (a : A) → similar s a → Keeps x least all (λ u v. u ≡ v) s n o → Keeps y (λ q. 1) places same a n o
 keeps_down {S} {T} {P} {A} {B} {Q} x y least words all places similar same c fits n o s a sim keeps =
     Keeps-same y (λ q. 1) places (Through (λ (u v : T). u ≡ v) same) same (λ u b r. subst (λ t. same t b) (sym r.1) r.2) a n o
-      (Keeps-down x y least (λ q. 1) words similar same (carries_steps x y least words similar same c) all places fits (λ (u v : T). u ≡ v) n o s a sim keeps)
+    (Keeps-down x y least (λ q. 1) words similar same (carries_steps x y least words similar same c) all places fits (λ (u v : T). u ≡ v) n o s a sim keeps)
 
 -- from a layer to the theorem: what an upper system keeps for every number of turns, a lower one whose points are its steps is in step with
 pub in_step_down : {S T P A B Q U : Type 0} (x : System S T P) (y : System A B Q) (least : P → ℕ) (words : P → List Q) (all : List P) (places : List Q) (similar : S → A → Type 0) (before : U → T → Type 0) (same : T → B → Type 0) → CarriesBy x y least (λ _. 1) words similar same → Within places (flat_map words all) → (s : S) (a : A) → similar s a → (meaning : ℕ → Outcome U) → ((n : ℕ) → Keeps x least all before s n (meaning n)) → InStep y (length places) (Through before same) a meaning

@@ -1,9 +1,9 @@
 -- The worked instance, second layer: the machine's words carry out the spots, and so are in step with the meaning.
-use Rattle.std.proofs.Common.{◌≡◌, ℕ, zero, suc, ◌+◌, ◌-◌, ◌*◌, ◌≤◌, List, [], ◌∷◌, ◌++◌, length, drop, Option, Some, None, slice_get, refl, sym, ap, ◌∙◌, subst, arith, length-append}
+use Rattle.std.proofs.Common.{◌≡◌, ℕ, zero, suc, ◌+◌, ◌-◌, ◌≤◌, List, [], ◌∷◌, ◌++◌, length, drop, Some, slice_get, refl, sym, ap, ◌∙◌, subst, arith, length-append}
 use Rattle.std.specs.Prelude.{flat_map}
-use Rattle.run_laws.specs.Runs.{Outcome, Step, Moves, Ends, Traps, weigh, Within, System, Walk, InStep, run, Trapped}
+use Rattle.run_laws.specs.Runs.{Step, Moves, Ends, Traps, weigh, Within, InStep}
 use Rattle.run_laws.specs.Layers.{CarriesStep, CarriesBy, Through, places_from, InRow}
-use Rattle.run_laws.specs.Countdown.{Trap, BelowZero, meaning, Spot, Begin, Test, Leave, Left, Node, go, spots, each_left, all_spots, least, code_of, words_of, Stop, TrapAt, Undefined, Machine, next, jump_of, trap_of, exec, machine, at_start, SameTrap}
+use Rattle.run_laws.specs.Countdown.{Trap, meaning, Spot, Begin, Test, Leave, Left, Node, go, spots, each_left, all_spots, least, code_of, words_of, Stop, TrapAt, Machine, next, jump_of, trap_of, exec, machine, at_start, SameTrap}
 use Rattle.run_laws.specs.declared.countdown.Act.{Act}
 use Rattle.run_laws.specs.declared.countdown.Act.TheVariants.{Print, Down}
 use Rattle.run_laws.specs.declared.countdown.Countdown.{Countdown}
@@ -79,23 +79,27 @@ module _ (p : Countdown) where
 
   -- a spot of one word
   one_word : (spot : Spot) (m t : Machine) (w : Word) (rest : List Word) (out : List ℕ) (after : Node) → m.place ≡ place spot → width spot ≡ 1 → drop m.place words ≡ w ∷ rest → exec (Some w) m ≡ Moves out t → Similar after t → Done spot m (Moves out after)
-  one_word spot m t w rest out after here narrow stands e sim =
-      (t, m.place ∷ [], Walk-one (machine words) m t out (does m w rest (Moves out t) stands e), sim,
-        (λ h. let a = ap h here in let b = ap (λ n. weigh h (places_from (place spot) n)) narrow in omega (arith, a, b)),
-        least_one spot)
+  one_word spot m t w rest out after here narrow stands e sim = (
+    t,
+    m.place ∷ [],
+    Walk-one (machine words) m t out (does m w rest (Moves out t) stands e),
+    sim,
+    (λ h. let a = ap h here in let b = ap (λ n. weigh h (places_from (place spot) n)) narrow in omega (arith, a, b)),
+    least_one spot,
+  )
 
   carried : (spot : Spot) (n : ℕ) (m : Machine) → Similar (record { spot = spot; counter = n }) m → Done spot m (go p spot n)
   carried Begin n m sim =
       let here = sim.here in
       one_word Begin m (next m p.start) (Load p.start) (drop 1 words) [] (record { spot = Test; counter = p.start }) here refl sim.stands refl
-        (record { here = omega (arith, here); counter = refl; stands = (word_at words m.place (Load p.start) (drop 1 words) sim.stands).1; short = tt })
+      (record { here = omega (arith, here); counter = refl; stands = (word_at words m.place (Load p.start) (drop 1 words) sim.stands).1; short = tt })
   carried Test zero m sim =
       let here = sim.here in
       one_word Test m (next m m.counter) (JumpIfPositive 3) (drop 2 words) [] (record { spot = Leave; counter = 0 }) here refl sim.stands (ap (λ c. Moves [] (jump_of c 3 m)) sim.counter)
-        (record { here = omega (arith, here); counter = sim.counter; stands = (word_at words m.place (JumpIfPositive 3) (drop 2 words) sim.stands).1; short = tt })
+      (record { here = omega (arith, here); counter = sim.counter; stands = (word_at words m.place (JumpIfPositive 3) (drop 2 words) sim.stands).1; short = tt })
   carried Test (suc n) m sim =
       one_word Test m (record m { place = 3 }) (JumpIfPositive 3) (drop 2 words) [] (record { spot = Left p.body.items; counter = suc n }) sim.here refl sim.stands (ap (λ c. Moves [] (jump_of c 3 m)) sim.counter)
-        (record { here = omega arith; counter = sim.counter; stands = refl; short = omega arith })
+      (record { here = omega arith; counter = sim.counter; stands = refl; short = omega arith })
   carried Leave n m sim =
       (m, [], (refl, refl), does m Halt (drop 3 words) Ends sim.stands refl, (λ h. let a = ap h sim.here in omega (arith, a)))
   carried (Left []) n m sim =
@@ -104,10 +108,16 @@ module _ (p : Countdown) where
   carried (Left (Print ∷ rest)) n m sim =
       let here = sim.here in let short = sim.short in
       one_word (Left (Print ∷ rest)) m (next m m.counter) Write (code_of rest ++ Jump 1 ∷ []) (n ∷ []) (record { spot = Left rest; counter = n }) here refl sim.stands (ap (λ c. Moves (c ∷ []) (next m m.counter)) sim.counter)
-        (record { here = omega (arith, here, short); counter = sim.counter; stands = (word_at words m.place Write (code_of rest ++ Jump 1 ∷ []) sim.stands).1; short = omega (arith, short) })
-  carried (Left (Down ∷ rest)) zero m sim =
-      (m, [], TrapAt m.place, tt, (refl, refl), does m TrapIfZero (Less ∷ (code_of rest ++ Jump 1 ∷ [])) (Traps (TrapAt m.place)) sim.stands (ap (λ c. trap_of c m) sim.counter),
-        (λ h. let a = ap h sim.here in omega (arith, a)))
+      (record { here = omega (arith, here, short); counter = sim.counter; stands = (word_at words m.place Write (code_of rest ++ Jump 1 ∷ []) sim.stands).1; short = omega (arith, short) })
+  carried (Left (Down ∷ rest)) zero m sim = (
+    m,
+    [],
+    TrapAt m.place,
+    tt,
+    (refl, refl),
+    does m TrapIfZero (Less ∷ (code_of rest ++ Jump 1 ∷ [])) (Traps (TrapAt m.place)) sim.stands (ap (λ c. trap_of c m) sim.counter),
+    (λ h. let a = ap h sim.here in omega (arith, a)),
+  )
   carried (Left (Down ∷ rest)) (suc n) m sim =
       let here = sim.here in let short = sim.short in let counter = sim.counter in
       let tail = code_of rest ++ Jump 1 ∷ [] in
@@ -115,14 +125,16 @@ module _ (p : Countdown) where
       let two = next one (m.counter - 1) in
       let first = word_at words m.place TrapIfZero (Less ∷ tail) sim.stands in
       let second = word_at words one.place Less tail first.1 in
-      let up : one.place ≡ suc (place (Left (Down ∷ rest))) = omega (arith, here) in
-      (two, m.place ∷ one.place ∷ [],
+      let up : one.place ≡ suc (place (Left (Down ∷ rest))) = omega (arith, here) in (
+        two,
+        m.place ∷ one.place ∷ [],
         Walk-append (machine words) (m.place ∷ []) (one.place ∷ []) m one two [] []
-          (Walk-one (machine words) m one [] (does m TrapIfZero (Less ∷ tail) (Moves [] one) sim.stands (ap (λ c. trap_of c m) sim.counter)))
-          (Walk-one (machine words) one two [] (does one Less tail (Moves [] two) first.1 refl)),
+            (Walk-one (machine words) m one [] (does m TrapIfZero (Less ∷ tail) (Moves [] one) sim.stands (ap (λ c. trap_of c m) sim.counter)))
+            (Walk-one (machine words) one two [] (does one Less tail (Moves [] two) first.1 refl)),
         record { here = omega (arith, here, short); counter = omega (arith, counter); stands = second.1; short = omega (arith, short) },
         (λ h. let a = ap h here in let b = ap h up in omega (arith, a, b)),
-        omega arith)
+        omega arith,
+      )
 
   carries : CarriesBy (spots p) (machine words) least (λ _. 1) places Similar SameTrap
   carries = record { each = λ s m sim. carried s.spot s.counter m sim }
@@ -147,6 +159,6 @@ module _ (p : Countdown) where
   pub words_in_step : InStep (machine words) (length words) SameTrap at_start (meaning p)
   words_in_step =
       subst (λ n. InStep (machine words) n SameTrap at_start (meaning p)) (length-places_from 0 (length words))
-        (in_step_same (machine words) (length (places_from 0 (length words))) (Through (λ (u t : Trap). u ≡ t) SameTrap) SameTrap (λ u b r. subst (λ t. SameTrap t b) (sym r.1) r.2) at_start (meaning p)
-          (in_step_down (spots p) (machine words) least places (all_spots p) (places_from 0 (length words)) Similar (λ (u t : Trap). u ≡ t) SameTrap carries fits (record { spot = Begin; counter = 0 }) at_start
-            (record { here = refl; counter = refl; stands = refl; short = tt }) (meaning p) (λ n. keeps_up p n)))
+      (in_step_same (machine words) (length (places_from 0 (length words))) (Through (λ (u t : Trap). u ≡ t) SameTrap) SameTrap (λ u b r. subst (λ t. SameTrap t b) (sym r.1) r.2) at_start (meaning p)
+      (in_step_down (spots p) (machine words) least places (all_spots p) (places_from 0 (length words)) Similar (λ (u t : Trap). u ≡ t) SameTrap carries fits (record { spot = Begin; counter = 0 }) at_start
+      (record { here = refl; counter = refl; stands = refl; short = tt }) (meaning p) (λ n. keeps_up p n)))

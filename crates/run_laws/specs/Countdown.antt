@@ -1,7 +1,7 @@
 -- A loop that counts down: its meaning, its spots, and the words of a small machine.
-use Rattle.std.specs.Prelude.{◌≡◌, ℕ, zero, suc, ◌+◌, ◌-◌, List, [], ◌∷◌, ◌++◌, length, Bool, true, false, Option, Some, None, slice_get}
+use Rattle.std.specs.Prelude.{ℕ, zero, suc, ◌+◌, ◌-◌, List, [], ◌∷◌, ◌++◌, Bool, true, false, Option, Some, None, slice_get}
 use Rattle.run_laws.specs.Runs.{Outcome, Step, Moves, Ends, Traps, System}
-use Rattle.run_laws.specs.Turns.{State, Ending, Gives, Fails, ◌>>=◌, give, print, look, while_so, outcome}
+use Rattle.run_laws.specs.Turns.{State, Ending, Gives, Fails, ◌>>=◌, look, while_so, outcome}
 use Rattle.run_laws.specs.declared.countdown.Act.{Act}
 use Rattle.run_laws.specs.declared.countdown.Act.TheVariants.{Print, Down}
 use Rattle.run_laws.specs.declared.countdown.Countdown.{Countdown}

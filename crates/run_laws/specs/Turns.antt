@@ -1,5 +1,5 @@
 -- Meanings that are counted in turns: recursions that thread a store, what was written, and the turns that are left.
-use Rattle.std.specs.Prelude.{◌≡◌, ℕ, zero, suc, List, [], ◌∷◌, ◌++◌, Bool, true, false, if◌then◌else◌}
+use Rattle.std.specs.Prelude.{ℕ, zero, suc, List, [], ◌∷◌, ◌++◌, Bool, true, false, if◌then◌else◌}
 use Rattle.run_laws.specs.Runs.{Outcome, Ended, Trapped, Going}
 
 -- what a meaning has at a moment
