@@ -1,7 +1,7 @@
 -- A system that keeps up with a meaning is in step with it.
 use Rattle.std.proofs.Common.{◌≡◌, ℕ, zero, suc, ◌+◌, ◌-◌, ◌*◌, ◌≤◌, List, [], ◌∷◌, ◌++◌, length, sym, ap, ◌∙◌, subst, arith, append_assoc, length-append}
 use Rattle.std.proofs.Math.Nat.{mul-le-mul_right}
-use Rattle.run_laws.specs.Runs.{Outcome, Ended, Trapped, Going, Step, Ends, Traps, act, run, output, IsOver, System, Passes, Halts, Keeps, StartsWith, Counterpart, InStep, turns_a_step}
+use Rattle.run_laws.specs.Runs.{Outcome, Ended, Trapped, Going, Step, Ends, Traps, act, run, output, IsOver, System, Passes, Halts, Keeps, StartsWith, Counterpart, InStep, Agrees, turns_a_step}
 use Rattle.run_laws.proofs.Weights.{append-nil, weigh-length, Within-length}
 use Rattle.run_laws.proofs.Walks.{run-Walk}
 use Rattle.run_laws.proofs.BoundedRuns.{run-longer_to, run-one_end, run-extends, run-grows, run-prefix, halted, act-halted}
@@ -117,3 +117,23 @@ trap_has_source y points same s meaning step m trap out is =
 pub trap_never : {S T P U : Type 0} (y : System S T P) (points : ℕ) (same : U → T → Type 0) (s : S) (meaning : ℕ → Outcome U) → InStep y points same s meaning → (trap : T) → ((mine : U) → same mine trap → ⊥) → (m : ℕ) (out : List ℕ) → run y.step m s [] ≡ Trapped trap out → ⊥
 trap_never y points same s meaning step trap none m out is =
     let r = trap_has_source y points same s meaning step m trap out is in none r.0 r.1
+
+-- turned round: what is over on the right is what the left says
+turned : {T U : Type 0} (same : U → T → Type 0) (o : Outcome U) (r : Outcome T) → (IsOver r → IsOver o × Counterpart same o r) → StartsWith (output o) (output r) → Counterpart (λ (t : T) (u : U). same u t) r o
+turned same (Ended out) (Ended out') over starts = let e : Ended out' ≡ Ended out = (over tt).1 in cc
+turned same (Trapped trap out) (Ended out') over starts = absurd (let e = (over tt).1.2 in cc)
+turned same (Going out) (Ended out') over starts = absurd (over tt).0
+turned same (Ended out) (Trapped trap out') over starts = absurd (let e : Trapped trap out' ≡ Ended out = (over tt).1 in cc)
+turned same (Trapped mine out) (Trapped trap out') over starts =
+    let r = (over tt).1 in
+    let e : r.0 ≡ trap = cc in
+    (mine, subst (same mine) e r.1, cc)
+turned same (Going out) (Trapped trap out') over starts = absurd (over tt).0
+turned same o (Going out') over starts = starts
+
+-- what is in step agrees both ways
+pub agrees : {S T P U : Type 0} (y : System S T P) (points : ℕ) (same : U → T → Type 0) (s : S) (meaning : ℕ → Outcome U) → InStep y points same s meaning → Agrees y same s meaning
+agrees y points same s meaning step = record {
+  forth = λ n. ((n + 1) * points, step.steps n);
+  back = λ m. (turns_a_step * m + turns_a_step, turned same (meaning (turns_a_step * m + turns_a_step)) (run y.step m s []) (step.turns m) (step.prefix m));
+}

@@ -12,14 +12,17 @@ use Rattle.run_laws.specs.declared.countdown.Word.TheVariants.{Load, JumpIfPosit
 pub data Trap : Type 0 where
   BelowZero : Trap
 
+-- the loop's test
 abbrev pub is_positive : ℕ → Bool
 is_positive zero = false
 is_positive (suc n) = true
 
+-- one less than n, or the trap
 abbrev pub less_of : ℕ → State ℕ → Ending ℕ Trap (Unit {0})
 less_of zero s = Fails BelowZero s.out
 less_of (suc n) s = Gives tt (record s { store = n })
 
+-- acts, one after the other
 abbrev pub acts : List Act → State ℕ → Ending ℕ Trap (Unit {0})
 acts [] s = Gives tt s
 acts (Print ∷ rest) s = acts rest (record s { out = s.out ++ s.store ∷ [] })
@@ -36,6 +39,7 @@ pub data Spot : Type 0 where
   Leave : Spot
   Left : List Act → Spot
 
+-- a spot, and the counter there
 pub record Node : Type 0 where
   pub spot : Spot
   pub counter : ℕ
@@ -84,17 +88,21 @@ pub data Stop : Type 0 where
   TrapAt : (place : ℕ) → Stop
   Undefined : Stop
 
+-- the machine's state
 pub record Machine : Type 0 where
   pub place : ℕ
   pub counter : ℕ
 
+-- on to the next word
 abbrev pub next : Machine → ℕ → Machine
 next m n = record { place = m.place + 1; counter = n }
 
+-- to the place where the counter isn't 0, else on
 abbrev pub jump_of : ℕ → ℕ → Machine → Machine
 jump_of zero to m = next m m.counter
 jump_of (suc n) to m = record m { place = to }
 
+-- the trap where the counter is 0, else on
 abbrev pub trap_of : ℕ → Machine → Step Machine Stop
 trap_of zero m = Traps (TrapAt m.place)
 trap_of (suc n) m = Moves [] (next m m.counter)
@@ -114,6 +122,7 @@ exec (Some (Jump to)) m = Moves [] (record m { place = to })
 abbrev pub machine : List Word → System Machine Stop ℕ
 machine words = record { step = λ m. exec (slice_get words m.place) m; at = λ m. m.place }
 
+-- where the machine begins
 abbrev pub at_start : Machine
 at_start = record { place = 0; counter = 0 }
 

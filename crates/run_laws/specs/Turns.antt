@@ -45,6 +45,7 @@ look f s = Gives (f s.store) s
 abbrev pub change : {C U : Type 0} → (C → C) → State C → Ending C U (Unit {0})
 change f s = Gives tt (record s { store = f s.store })
 
+-- one of so many turns
 abbrev pub spend_of : {C U : Type 0} → ℕ → State C → Ending C U (Unit {0})
 spend_of zero s = Spent s.out
 spend_of (suc n) s = Gives tt (record s { turns = n })

@@ -1,7 +1,7 @@
 //! The laws that can be said without ranging over relations, proved for whoever calls them: relations are tests.
 
 ghost use Rattle.std.specs.Prelude.{◌≡◌, ℕ, ◌+◌, ◌≤◌, List, [], ◌∷◌, ◌++◌, length, map, flat_map, Bool, IsTrue};
-ghost use Rattle.run_laws.specs.Runs.{Outcome, Trapped, Step, System, run, output, weigh, Within, IsOver, StartsWith, Walk, Keeps, Lowers, InStep};
+ghost use Rattle.run_laws.specs.Runs.{Outcome, Trapped, Step, System, run, output, weigh, Within, IsOver, StartsWith, Walk, Keeps, Lowers, InStep, Agrees};
 ghost use Rattle.run_laws.specs.Layers.{CarriesBy, Through};
 
 /// A run that is over stays as it is, two runs that are over are one, and what is written stays written.
@@ -25,9 +25,11 @@ pub fn weights_add()
     ensures bounds { (all ps : List ℕ) → Within all ps → length ps ≤ length all }
 {}
 
-/// What keeps up with a meaning for every number of turns is in step with it, and each of its traps has its source there.
+/// What keeps up with a meaning for every number of turns is in step with it, and so agrees with it both ways; each
+/// of its traps has its source in the meaning.
 pub fn keeping_up_is_in_step()
     ensures agrees { (y : System ℕ ℕ ℕ) (all : List ℕ) (same : ℕ → ℕ → Bool) (s : ℕ) (meaning : ℕ → Outcome ℕ) → ((n : ℕ) → Keeps y (λ _. 1) all (λ a b. IsTrue (same a b)) s n (meaning n)) → InStep y (length all) (λ a b. IsTrue (same a b)) s meaning }
+    ensures both_ways { (y : System ℕ ℕ ℕ) (points : ℕ) (same : ℕ → ℕ → Bool) (s : ℕ) (meaning : ℕ → Outcome ℕ) → InStep y points (λ a b. IsTrue (same a b)) s meaning → Agrees y (λ a b. IsTrue (same a b)) s meaning }
     ensures source { (y : System ℕ ℕ ℕ) (points : ℕ) (same : ℕ → ℕ → Bool) (s : ℕ) (meaning : ℕ → Outcome ℕ) → InStep y points (λ a b. IsTrue (same a b)) s meaning → (m trap : ℕ) (out : List ℕ) → run y.step m s [] ≡ Trapped trap out → (mine : ℕ) × IsTrue (same mine trap) }
 {}
 
