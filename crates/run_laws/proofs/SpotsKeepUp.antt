@@ -3,7 +3,7 @@ use Rattle.std.proofs.Common.{◌≡◌, ℕ, zero, suc, ◌≤◌, List, [], �
 use Rattle.std.specs.Prelude.{if◌then◌else◌, MatchBool}
 use Rattle.run_laws.specs.Runs.{weigh, Keeps}
 use Rattle.run_laws.specs.Turns.{State, Ending, ◌>>=◌, give, look, while_so}
-use Rattle.run_laws.specs.Countdown.{Trap, BelowZero, is_positive, less_of, acts, meaning, Spot, Begin, Test, Leave, Left, Node, spots, each_left, all_spots, least}
+use Rattle.run_laws.specs.Countdown.{Trap, BelowZero, is_positive, less_of, acts, meaning, Spot, Begin, Test, Leave, Body, Node, spots, body_spots, all_spots, least}
 use Rattle.run_laws.specs.declared.countdown.Act.{Act}
 use Rattle.run_laws.specs.declared.countdown.Act.TheVariants.{Print, Down}
 use Rattle.run_laws.specs.declared.countdown.Countdown.{Countdown}
@@ -23,21 +23,21 @@ module _ (p : Countdown) (n0 : ℕ) where
 
   -- behind a round's acts
   abbrev Ran : ℕ → Unit {0} → State ℕ → Type 0
-  Ran m _ t = At m 1 (Left []) (λ h. h (Left [])) t
+  Ran m _ t = At m 1 (Body []) (λ h. h (Body [])) t
 
   -- one taken from the counter n, and then the rest of the round
-  lessened : (rest : List Act) (m : ℕ) → ((t : State ℕ) → At m 1 (Left rest) (λ h. weigh h (each_left rest)) t → CameTo (acts rest t) (Ran m)) → (n : ℕ) (st : State ℕ) → Reached (spots p) least (all_spots p) start n0 m 1 st.turns st.out (record { spot = Left (Down ∷ rest); counter = n }) (λ h. weigh h (each_left (Down ∷ rest))) → CameTo ((less_of n >>= λ _. acts rest) st) (Ran m)
+  lessened : (rest : List Act) (m : ℕ) → ((t : State ℕ) → At m 1 (Body rest) (λ h. weigh h (body_spots rest)) t → CameTo (acts rest t) (Ran m)) → (n : ℕ) (st : State ℕ) → Reached (spots p) least (all_spots p) start n0 m 1 st.turns st.out (record { spot = Body (Down ∷ rest); counter = n }) (λ h. weigh h (body_spots (Down ∷ rest))) → CameTo ((less_of n >>= λ _. acts rest) st) (Ran m)
   lessened rest m again zero st r = comes_trap (spots p) least (all_spots p) start n0 (λ (u t : Trap). u ≡ t) BelowZero BelowZero r refl refl (λ h. omega arith)
   lessened rest m again (suc n) st r =
       again (record st { store = n })
-      (pass_quiet (spots p) least (all_spots p) start n0 1 (λ h. weigh h (each_left rest)) (Left (Down ∷ rest)) (record { spot = Left rest; counter = n }) r refl refl (λ h. omega arith) (omega arith))
+      (pass_quiet (spots p) least (all_spots p) start n0 1 (λ h. weigh h (body_spots rest)) (Body (Down ∷ rest)) (record { spot = Body rest; counter = n }) r refl refl (λ h. omega arith) (omega arith))
 
   -- a round's acts lead to the jump back
-  ran : (todo : List Act) (m : ℕ) (st : State ℕ) → At m 1 (Left todo) (λ h. weigh h (each_left todo)) st → CameTo (acts todo st) (Ran m)
-  ran [] m st r = record { by = loosen (spots p) least (all_spots p) start n0 m 1 (λ h. h (Left [])) r (omega arith) (omega arith) (λ h. omega arith) }
+  ran : (todo : List Act) (m : ℕ) (st : State ℕ) → At m 1 (Body todo) (λ h. weigh h (body_spots todo)) st → CameTo (acts todo st) (Ran m)
+  ran [] m st r = record { by = loosen (spots p) least (all_spots p) start n0 m 1 (λ h. h (Body [])) r (omega arith) (omega arith) (λ h. omega arith) }
   ran (Print ∷ rest) m st r =
       ran rest m (record st { out = st.out ++ st.store ∷ [] })
-      (pass (spots p) least (all_spots p) start n0 1 (λ h. weigh h (each_left rest)) (Left (Print ∷ rest)) (st.store ∷ []) (record { spot = Left rest; counter = st.store }) r refl refl (λ h. omega arith) (omega arith))
+      (pass (spots p) least (all_spots p) start n0 1 (λ h. weigh h (body_spots rest)) (Body (Print ∷ rest)) (st.store ∷ []) (record { spot = Body rest; counter = st.store }) r refl refl (λ h. omega arith) (omega arith))
   ran (Down ∷ rest) m st r = lessened rest m (λ t at. ran rest m t at) st.store st r
 
   -- before each moment the system stands at the test
@@ -63,8 +63,8 @@ module _ (p : Countdown) (n0 : ℕ) where
   round n (suc c) out le r =
       comes_bind (spots p) least (all_spots p) start n0 (λ (u t : Trap). u ≡ t) (acts p.body.items (record { store = suc c; out = out; turns = n })) (λ _. give true)
       (ran p.body.items n (record { store = suc c; out = out; turns = n })
-      (pass_quiet (spots p) least (all_spots p) start n0 1 (λ h. weigh h (each_left p.body.items)) Test (record { spot = Left p.body.items; counter = suc c }) r refl refl (λ h. omega arith) (omega arith)))
-      (λ _ t at. record { by = pass_quiet (spots p) least (all_spots p) start n0 1 (λ h. 0) (Left []) (record { spot = Test; counter = t.store }) at refl refl (λ h. omega arith) (omega arith) })
+      (pass_quiet (spots p) least (all_spots p) start n0 1 (λ h. weigh h (body_spots p.body.items)) Test (record { spot = Body p.body.items; counter = suc c }) r refl refl (λ h. omega arith) (omega arith)))
+      (λ _ t at. record { by = pass_quiet (spots p) least (all_spots p) start n0 1 (λ h. 0) (Body []) (record { spot = Test; counter = t.store }) at refl refl (λ h. omega arith) (omega arith) })
 
   -- the spots keep up with the meaning
   pub keeps_up : Keeps (spots p) least (all_spots p) (λ (u t : Trap). u ≡ t) start n0 (meaning p n0)

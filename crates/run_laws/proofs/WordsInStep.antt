@@ -3,7 +3,7 @@ use Rattle.std.proofs.Common.{◌≡◌, ℕ, zero, suc, ◌+◌, ◌-◌, ◌�
 use Rattle.std.specs.Prelude.{flat_map}
 use Rattle.run_laws.specs.Runs.{Step, Moves, Ends, Traps, weigh, Within, InStep}
 use Rattle.run_laws.specs.Layers.{CarriesStep, CarriesBy, Through, places_from, InRow}
-use Rattle.run_laws.specs.Countdown.{Trap, meaning, Spot, Begin, Test, Leave, Left, Node, go, spots, each_left, all_spots, least, code_of, words_of, Stop, TrapAt, Machine, next, jump_of, trap_of, exec, machine, at_start, SameTrap}
+use Rattle.run_laws.specs.Countdown.{Trap, meaning, Spot, Begin, Test, Leave, Body, Node, go, spots, body_spots, all_spots, least, code_of, words_of, Stop, TrapAt, Machine, next, jump_of, trap_of, exec, machine, at_start, SameTrap}
 use Rattle.run_laws.specs.declared.countdown.Act.{Act}
 use Rattle.run_laws.specs.declared.countdown.Act.TheVariants.{Print, Down}
 use Rattle.run_laws.specs.declared.countdown.Countdown.{Countdown}
@@ -36,10 +36,10 @@ module _ (p : Countdown) where
   place Begin = 0
   place Test = 1
   place Leave = 2
-  place (Left rest) = 3 + size - length (code_of rest)
+  place (Body rest) = 3 + size - length (code_of rest)
 
   abbrev width : Spot → ℕ
-  width (Left (Down ∷ rest)) = 2
+  width (Body (Down ∷ rest)) = 2
   width _ = 1
 
   abbrev places : Spot → List ℕ
@@ -50,10 +50,10 @@ module _ (p : Countdown) where
   code_from Begin = words
   code_from Test = drop 1 words
   code_from Leave = drop 2 words
-  code_from (Left rest) = code_of rest ++ Jump 1 ∷ []
+  code_from (Body rest) = code_of rest ++ Jump 1 ∷ []
 
   abbrev Short : Spot → Type 0
-  Short (Left rest) = length (code_of rest) ≤ size
+  Short (Body rest) = length (code_of rest) ≤ size
   Short _ = Unit {0}
 
   -- the machine stands at the spot's first word, with its counter
@@ -70,8 +70,8 @@ module _ (p : Countdown) where
   least_one Begin = omega arith
   least_one Test = omega arith
   least_one Leave = omega arith
-  least_one (Left []) = omega arith
-  least_one (Left (a ∷ rest)) = omega arith
+  least_one (Body []) = omega arith
+  least_one (Body (a ∷ rest)) = omega arith
 
   -- the machine does what stands at its place
   does : (m : Machine) (w : Word) (rest : List Word) (step : Step Machine Stop) → drop m.place words ≡ w ∷ rest → exec (Some w) m ≡ step → (machine words).step m ≡ step
@@ -98,18 +98,18 @@ module _ (p : Countdown) where
       one_word Test m (next m m.counter) (JumpIfPositive 3) (drop 2 words) [] (record { spot = Leave; counter = 0 }) here refl sim.stands (ap (λ c. Moves [] (jump_of c 3 m)) sim.counter)
       (record { here = omega (arith, here); counter = sim.counter; stands = (word_at words m.place (JumpIfPositive 3) (drop 2 words) sim.stands).1; short = tt })
   carried Test (suc n) m sim =
-      one_word Test m (record m { place = 3 }) (JumpIfPositive 3) (drop 2 words) [] (record { spot = Left p.body.items; counter = suc n }) sim.here refl sim.stands (ap (λ c. Moves [] (jump_of c 3 m)) sim.counter)
+      one_word Test m (record m { place = 3 }) (JumpIfPositive 3) (drop 2 words) [] (record { spot = Body p.body.items; counter = suc n }) sim.here refl sim.stands (ap (λ c. Moves [] (jump_of c 3 m)) sim.counter)
       (record { here = omega arith; counter = sim.counter; stands = refl; short = omega arith })
   carried Leave n m sim =
       (m, [], (refl, refl), does m Halt (drop 3 words) Ends sim.stands refl, (λ h. let a = ap h sim.here in omega (arith, a)))
-  carried (Left []) n m sim =
-      let r = one_word (Left []) m (record m { place = 1 }) (Jump 1) [] [] (record { spot = Test; counter = n }) sim.here refl sim.stands refl (record { here = refl; counter = sim.counter; stands = refl; short = tt }) in
+  carried (Body []) n m sim =
+      let r = one_word (Body []) m (record m { place = 1 }) (Jump 1) [] [] (record { spot = Test; counter = n }) sim.here refl sim.stands refl (record { here = refl; counter = sim.counter; stands = refl; short = tt }) in
       r
-  carried (Left (Print ∷ rest)) n m sim =
+  carried (Body (Print ∷ rest)) n m sim =
       let here = sim.here in let short = sim.short in
-      one_word (Left (Print ∷ rest)) m (next m m.counter) Write (code_of rest ++ Jump 1 ∷ []) (n ∷ []) (record { spot = Left rest; counter = n }) here refl sim.stands (ap (λ c. Moves (c ∷ []) (next m m.counter)) sim.counter)
+      one_word (Body (Print ∷ rest)) m (next m m.counter) Write (code_of rest ++ Jump 1 ∷ []) (n ∷ []) (record { spot = Body rest; counter = n }) here refl sim.stands (ap (λ c. Moves (c ∷ []) (next m m.counter)) sim.counter)
       (record { here = omega (arith, here, short); counter = sim.counter; stands = (word_at words m.place Write (code_of rest ++ Jump 1 ∷ []) sim.stands).1; short = omega (arith, short) })
-  carried (Left (Down ∷ rest)) zero m sim = (
+  carried (Body (Down ∷ rest)) zero m sim = (
     m,
     [],
     TrapAt m.place,
@@ -118,14 +118,14 @@ module _ (p : Countdown) where
     does m TrapIfZero (Less ∷ (code_of rest ++ Jump 1 ∷ [])) (Traps (TrapAt m.place)) sim.stands (ap (λ c. trap_of c m) sim.counter),
     (λ h. let a = ap h sim.here in omega (arith, a)),
   )
-  carried (Left (Down ∷ rest)) (suc n) m sim =
+  carried (Body (Down ∷ rest)) (suc n) m sim =
       let here = sim.here in let short = sim.short in let counter = sim.counter in
       let tail = code_of rest ++ Jump 1 ∷ [] in
       let one = next m m.counter in
       let two = next one (m.counter - 1) in
       let first = word_at words m.place TrapIfZero (Less ∷ tail) sim.stands in
       let second = word_at words one.place Less tail first.1 in
-      let up : one.place ≡ suc (place (Left (Down ∷ rest))) = omega (arith, here) in (
+      let up : one.place ≡ suc (place (Body (Down ∷ rest))) = omega (arith, here) in (
         two,
         m.place ∷ one.place ∷ [],
         Walk-append (machine words) (m.place ∷ []) (one.place ∷ []) m one two [] []
@@ -140,20 +140,20 @@ module _ (p : Countdown) where
   carries = record { each = λ s m sim. carried s.spot s.counter m sim }
 
   -- what is left of a round stands in a row, behind the test and the end
-  left_in_row : (rest : List Act) (a : ℕ) → length (code_of rest) ≤ size → place (Left rest) ≡ a → InRow place width a (each_left rest)
-  left_in_row [] a le is = (is, tt)
-  left_in_row (Print ∷ rest) a le is = (is, left_in_row rest (a + 1) (omega (arith, le)) (omega (arith, le, is)))
-  left_in_row (Down ∷ rest) a le is = (is, left_in_row rest (a + 2) (omega (arith, le)) (omega (arith, le, is)))
+  body_in_row : (rest : List Act) (a : ℕ) → length (code_of rest) ≤ size → place (Body rest) ≡ a → InRow place width a (body_spots rest)
+  body_in_row [] a le is = (is, tt)
+  body_in_row (Print ∷ rest) a le is = (is, body_in_row rest (a + 1) (omega (arith, le)) (omega (arith, le, is)))
+  body_in_row (Down ∷ rest) a le is = (is, body_in_row rest (a + 2) (omega (arith, le)) (omega (arith, le, is)))
 
-  weigh-left : (rest : List Act) → weigh width (each_left rest) ≡ suc (length (code_of rest))
-  weigh-left [] = refl
-  weigh-left (Print ∷ rest) = let e = weigh-left rest in omega (arith, e)
-  weigh-left (Down ∷ rest) = let e = weigh-left rest in omega (arith, e)
+  weigh-body_spots : (rest : List Act) → weigh width (body_spots rest) ≡ suc (length (code_of rest))
+  weigh-body_spots [] = refl
+  weigh-body_spots (Print ∷ rest) = let e = weigh-body_spots rest in omega (arith, e)
+  weigh-body_spots (Down ∷ rest) = let e = weigh-body_spots rest in omega (arith, e)
 
   fits : Within (places_from 0 (length words)) (flat_map places (all_spots p))
   fits =
-      let e = weigh-left p.body.items in let f = length-append (code_of p.body.items) (Jump 1 ∷ []) in
-      fits_in_row place width (length words) (all_spots p) (refl, (refl, (refl, left_in_row p.body.items 3 (omega arith) (omega arith)))) (omega (arith, e, f))
+      let e = weigh-body_spots p.body.items in let f = length-append (code_of p.body.items) (Jump 1 ∷ []) in
+      fits_in_row place width (length words) (all_spots p) (refl, (refl, (refl, body_in_row p.body.items 3 (omega arith) (omega arith)))) (omega (arith, e, f))
 
   -- the words are in step with the meaning
   pub words_in_step : InStep (machine words) (length words) SameTrap at_start (meaning p)

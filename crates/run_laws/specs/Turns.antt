@@ -76,6 +76,14 @@ until_so fuel body test = do
     holds ← test
     if holds then give false else (body >>= λ _. give true))
 
+-- at most n parts, numbered from i on, a turn behind each, as long as they say so: cells that are copied, say
+abbrev pub each_so : {C U : Type 0} → ℕ → ℕ → (ℕ → State C → Ending C U Bool) → State C → Ending C U (Unit {0})
+each_so zero i part = give tt
+each_so (suc n) i part = do
+  goes_on ← part i
+  _ ← spend
+  if goes_on then each_so n (suc i) part else give tt
+
 -- the outcome of a whole meaning
 abbrev pub outcome : {C U A : Type 0} → Ending C U A → Outcome U
 outcome (Gives a s) = Ended s.out
