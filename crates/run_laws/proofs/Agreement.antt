@@ -1,7 +1,7 @@
 -- A system that keeps up with a meaning is in step with it.
-use Rattle.std.proofs.Common.{◌≡◌, ℕ, zero, suc, ◌+◌, ◌-◌, ◌*◌, ◌<◌, ◌≤◌, List, [], ◌∷◌, ◌++◌, length, refl, sym, ap, ◌∙◌, subst, arith, append_assoc, length-append}
+use Rattle.std.proofs.Common.{◌≡◌, ℕ, zero, suc, ◌+◌, ◌-◌, ◌*◌, ◌≤◌, List, [], ◌∷◌, ◌++◌, length, sym, ap, ◌∙◌, subst, arith, append_assoc, length-append}
 use Rattle.std.proofs.Math.Nat.{mul-le-mul_right}
-use Rattle.run_laws.specs.Runs.{Outcome, Ended, Trapped, Going, Step, Ends, Traps, act, run, output, IsOver, weigh, Within, System, Walk, Passes, Halts, Keeps, StartsWith, Counterpart, InStep, turns_a_step}
+use Rattle.run_laws.specs.Runs.{Outcome, Ended, Trapped, Going, Step, Ends, Traps, act, run, output, IsOver, System, Passes, Halts, Keeps, StartsWith, Counterpart, InStep, Agrees, turns_a_step}
 use Rattle.run_laws.proofs.Weights.{append-nil, weigh-length, Within-length}
 use Rattle.run_laws.proofs.Walks.{run-Walk}
 use Rattle.run_laws.proofs.BoundedRuns.{run-longer_to, run-one_end, run-extends, run-grows, run-prefix, halted, act-halted}
@@ -19,13 +19,15 @@ module _ {S T P U : Type 0} (y : System S T P) (all : List P) (same : U → T �
       let bound = r.0 in
       let size = h.8 in
       let n = weigh-length ps in
-      let e : suc k * length all ≡ length all + k * length all = omega arith in
-      (omega (arith, l, bound, e, size, n), λ i out.
-          let a : j + i ≡ length ps + (h.4 + i) = omega (arith, size, n) in
-          ap (λ x. run y.step x s out) a
-          ∙ run-Walk y ps s h.2 h.1 h.6 (h.4 + i) out
-          ∙ r.1 i (out ++ h.2)
-          ∙ ap (run y.step i t) (append_assoc out h.2 h.3 ∙ ap (λ x. out ++ x) (sym h.7)))
+      let e : suc k * length all ≡ length all + k * length all = omega arith in (
+        omega (arith, l, bound, e, size, n),
+        λ i out.
+            let a : j + i ≡ length ps + (h.4 + i) = omega (arith, size, n) in
+            ap (λ x. run y.step x s out) a
+            ∙ run-Walk y ps s h.2 h.1 h.6 (h.4 + i) out
+            ∙ r.1 i (out ++ h.2)
+            ∙ ap (run y.step i t) (append_assoc out h.2 h.3 ∙ ap (λ x. out ++ x) (sym h.7)),
+      )
 
   -- a halt after k stretches comes within (k + 1) times all points
   pub run-Halts : (k : ℕ) (s : S) (w : List ℕ) (halt : Step S T) → IsOver (halted halt w) → Halts y (λ _. 1) all k s w halt → (j : ℕ) × (j ≤ (k + 1) * length all) × (run y.step j s [] ≡ halted halt w)
@@ -35,13 +37,15 @@ module _ {S T P U : Type 0} (y : System S T P) (all : List P) (same : U → T �
       let bound = r.0 in
       let l = Within-length all (ps ++ y.at h.1 ∷ []) h.7 in
       let n : length (ps ++ y.at h.1 ∷ []) ≡ length ps + 1 = omega (arith, length-append ps (y.at h.1 ∷ [])) in
-      let size : (k + 1) * length all ≡ k * length all + length all = omega arith in
-      (h.5 + (length ps + 1), omega (arith, bound, l, n, size),
+      let size : (k + 1) * length all ≡ k * length all + length all = omega arith in (
+        h.5 + (length ps + 1),
+        omega (arith, bound, l, n, size),
         r.1 (length ps + 1) []
-        ∙ run-Walk y ps h.0 h.4 h.1 h.8 1 h.3
-        ∙ ap (run y.step 1 h.1) (sym h.10)
-        ∙ ap (λ x. act x (run y.step zero) w) h.9
-        ∙ act-halted halt (run y.step zero) w over)
+            ∙ run-Walk y ps h.0 h.4 h.1 h.8 1 h.3
+            ∙ ap (run y.step 1 h.1) (sym h.10)
+            ∙ ap (λ x. act x (run y.step zero) w) h.9
+            ∙ act-halted halt (run y.step zero) w over,
+      )
 
   halts_in : (n k : ℕ) → k ≤ n → (s : S) (w : List ℕ) (halt : Step S T) → IsOver (halted halt w) → Halts y (λ _. 1) all k s w halt → run y.step ((n + 1) * length all) s [] ≡ halted halt w
   halts_in n k le s w halt over h =
@@ -113,3 +117,23 @@ trap_has_source y points same s meaning step m trap out is =
 pub trap_never : {S T P U : Type 0} (y : System S T P) (points : ℕ) (same : U → T → Type 0) (s : S) (meaning : ℕ → Outcome U) → InStep y points same s meaning → (trap : T) → ((mine : U) → same mine trap → ⊥) → (m : ℕ) (out : List ℕ) → run y.step m s [] ≡ Trapped trap out → ⊥
 trap_never y points same s meaning step trap none m out is =
     let r = trap_has_source y points same s meaning step m trap out is in none r.0 r.1
+
+-- turned round: what is over on the right is what the left says
+turned : {T U : Type 0} (same : U → T → Type 0) (o : Outcome U) (r : Outcome T) → (IsOver r → IsOver o × Counterpart same o r) → StartsWith (output o) (output r) → Counterpart (λ (t : T) (u : U). same u t) r o
+turned same (Ended out) (Ended out') over starts = let e : Ended out' ≡ Ended out = (over tt).1 in cc
+turned same (Trapped trap out) (Ended out') over starts = absurd (let e = (over tt).1.2 in cc)
+turned same (Going out) (Ended out') over starts = absurd (over tt).0
+turned same (Ended out) (Trapped trap out') over starts = absurd (let e : Trapped trap out' ≡ Ended out = (over tt).1 in cc)
+turned same (Trapped mine out) (Trapped trap out') over starts =
+    let r = (over tt).1 in
+    let e : r.0 ≡ trap = cc in
+    (mine, subst (same mine) e r.1, cc)
+turned same (Going out) (Trapped trap out') over starts = absurd (over tt).0
+turned same o (Going out') over starts = starts
+
+-- what is in step agrees both ways
+pub agrees : {S T P U : Type 0} (y : System S T P) (points : ℕ) (same : U → T → Type 0) (s : S) (meaning : ℕ → Outcome U) → InStep y points same s meaning → Agrees y same s meaning
+agrees y points same s meaning step = record {
+  forth = λ n. ((n + 1) * points, step.steps n);
+  back = λ m. (turns_a_step * m + turns_a_step, turned same (meaning (turns_a_step * m + turns_a_step)) (run y.step m s []) (step.turns m) (step.prefix m));
+}

@@ -1,5 +1,5 @@
 -- Runs of bounded length: a run that is over stays as it is, and what is written stays written.
-use Rattle.std.proofs.Common.{◌≡◌, ℕ, zero, suc, ◌+◌, ◌-◌, ◌<◌, ◌≤◌, List, [], ◌∷◌, ◌++◌, refl, sym, ap, ◌∙◌, subst, ⊎_elim, arith, append_assoc}
+use Rattle.std.proofs.Common.{◌≡◌, ℕ, zero, suc, ◌+◌, ◌-◌, ◌≤◌, List, [], ◌++◌, refl, sym, ap, ◌∙◌, subst, ⊎_elim, arith, append_assoc}
 use Rattle.std.proofs.lemmas.Bool.{cases_lt}
 use Rattle.run_laws.specs.Runs.{Outcome, Ended, Trapped, Going, Step, Moves, Ends, Traps, act, run, output, IsOver, StartsWith}
 use Rattle.run_laws.proofs.Weights.{append-nil}

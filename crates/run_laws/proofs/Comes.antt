@@ -1,9 +1,9 @@
 -- What comes after a part of a meaning: the system stands where the part's value says, or has halted, or its turns are used up.
-use Rattle.std.proofs.Common.{◌≡◌, ℕ, zero, suc, ◌+◌, ◌*◌, ◌<◌, ◌≤◌, List, [], ◌∷◌, ◌++◌, Bool, true, false, refl, arith}
+use Rattle.std.proofs.Common.{◌≡◌, ℕ, zero, suc, ◌*◌, ◌<◌, ◌≤◌, List, Bool, true, false, refl, subst, ◌+◌, arith}
 use Rattle.std.specs.Prelude.{if◌then◌else◌, MatchBool}
-use Rattle.run_laws.specs.Runs.{Outcome, Step, Traps, weigh, System, Passes, Halts, Keeps, turns_a_step}
+use Rattle.run_laws.specs.Runs.{Traps, weigh, System, Passes, Halts, Keeps, turns_a_step}
 use Rattle.run_laws.specs.Runs.{Ends as Stops}
-use Rattle.run_laws.specs.Turns.{State, Ending, Gives, Fails, Spent, after, ◌>>=◌, give, spend, spend_of, repeat, outcome}
+use Rattle.run_laws.specs.Turns.{State, Ending, Gives, Fails, Spent, after, ◌>>=◌, give, spend, spend_of, repeat, each_so, outcome}
 use Rattle.run_laws.proofs.Reached.{Reached, moment, spent, halts}
 
 module _ {S T P C U : Type 0} (y : System S T P) (least : P → ℕ) (all : List P) (s0 : S) (n0 : ℕ) (same : U → T → Type 0) where
@@ -55,8 +55,8 @@ module _ {S T P C U : Type 0} (y : System S T P) (least : P → ℕ) (all : List
 
   -- rounds, a turn each: Head holds before each round's moment, and Done behind the last round
   module _ (round : State C → Ending C U Bool) (most : ℕ) (Head : ℕ → State C → Type 0) (Done : Unit {0} → State C → Type 0)
-    (opens : (m : ℕ) (st : State C) → Head m st → Open m st)
-    (turn : (m n : ℕ) (st : State C) → m ≤ most → n < m → Head m st → st.turns ≡ suc n → Comes (round (record st { turns = n })) (λ goes_on t. MatchBool goes_on (Head n t) (Done tt t))) where
+      (opens : (m : ℕ) (st : State C) → Head m st → Open m st)
+      (turn : (m n : ℕ) (st : State C) → m ≤ most → n < m → Head m st → st.turns ≡ suc n → Comes (round (record st { turns = n })) (λ goes_on t. MatchBool goes_on (Head n t) (Done tt t))) where
     after_round : (fuel n : ℕ) → ((t : State C) → Head n t → Comes (repeat fuel round t) Done) → (goes_on : Bool) (t : State C) → MatchBool goes_on (Head n t) (Done tt t) → Comes ((if goes_on then repeat fuel round else give tt) t) Done
     after_round fuel n again true t h = again t h
     after_round fuel n again false t h = record { by = h }
@@ -66,8 +66,8 @@ module _ {S T P C U : Type 0} (y : System S T P) (least : P → ℕ) (all : List
     by_turns fuel m (suc n) st le less again h is =
         let bound = (opens m st h).reached.bound in
         comes_bind (round (record st { turns = n })) (λ goes_on. if goes_on then repeat fuel round else give tt)
-          (turn m n st less (omega (arith, bound, is)) h is)
-          (λ goes_on t good. after_round fuel n (λ u head. again n u (omega (arith, bound, is, le)) (omega (arith, bound, is, less)) head) goes_on t good)
+        (turn m n st less (omega (arith, bound, is)) h is)
+        (λ goes_on t good. after_round fuel n (λ u head. again n u (omega (arith, bound, is, le)) (omega (arith, bound, is, less)) head) goes_on t good)
 
     pub comes_repeat : (fuel m : ℕ) (st : State C) → m ≤ fuel → m ≤ most → Head m st → Comes (repeat fuel round st) Done
     comes_repeat zero m st le less h =
@@ -75,6 +75,30 @@ module _ {S T P C U : Type 0} (y : System S T P) (least : P → ℕ) (all : List
         let bound = o.reached.bound in
         comes_spent o.reached (omega (arith, bound, le))
     comes_repeat (suc fuel) m st le less h = by_turns fuel m st.turns st le less (λ n t a b head. comes_repeat fuel n t a b head) h refl
+
+  -- parts with a turn behind each: Head holds before each part, Behind between it and its moment, and Done after the last
+  module _ (part : ℕ → State C → Ending C U Bool) (most total : ℕ) (Head : (m i : ℕ) → State C → Type 0) (Behind : (m i : ℕ) → Bool → State C → Type 0) (Done : Unit {0} → State C → Type 0)
+      (does : (m i : ℕ) (st : State C) → m ≤ most → i < total → Head m i st → Comes (part i st) (Behind m i))
+      (opens : (m i : ℕ) (goes_on : Bool) (t : State C) → Behind m i goes_on t → Open m t)
+      (turn : (m n i : ℕ) (goes_on : Bool) (t : State C) → m ≤ most → n < m → Behind m i goes_on t → t.turns ≡ suc n → MatchBool goes_on (Head n (suc i) (record t { turns = n })) (Done tt (record t { turns = n })))
+      (over : (m : ℕ) (st : State C) → m ≤ most → Head m total st → Done tt st) where
+    part_done : (k i : ℕ) → ((m : ℕ) (st : State C) → m ≤ most → Head m (suc i) st → Comes (each_so k (suc i) part st) Done) → (m : ℕ) → m ≤ most → (goes_on : Bool) (t : State C) → Behind m i goes_on t → (l : ℕ) → t.turns ≡ l → Comes (after (spend_of l t) (λ _. if goes_on then each_so k (suc i) part else give tt)) Done
+    part_done k i again m less goes_on t h zero is = comes_spent (opens m i goes_on t h).reached is
+    part_done k i again m less true t h (suc n) is =
+        let bound = (opens m i true t h).reached.bound in
+        again n (record t { turns = n }) (omega (arith, bound, is, less)) (turn m n i true t less (omega (arith, bound, is)) h is)
+    part_done k i again m less false t h (suc n) is =
+        let bound = (opens m i false t h).reached.bound in
+        record { by = turn m n i false t less (omega (arith, bound, is)) h is }
+
+    pub comes_each : (k i m : ℕ) (st : State C) → k + i ≡ total → m ≤ most → Head m i st → Comes (each_so k i part st) Done
+    comes_each zero i m st all less h =
+        let e : i ≡ total = omega (arith, all) in
+        record { by = over m st less (subst (λ j. Head m j st) e h) }
+    comes_each (suc k) i m st all less h =
+        comes_bind (part i st) (λ goes_on. spend >>= λ _. if goes_on then each_so k (suc i) part else give tt)
+        (does m i st less (omega (arith, all)) h)
+        (λ goes_on t b. part_done k i (λ n u a head. comes_each k (suc i) n u (omega (arith, all)) a head) m less goes_on t b t.turns refl)
 
   -- the whole: where the meaning gives a value the system's next step ends
   pub record Stopped (A : Type 0) (a : A) (st : State C) : Type 0 where

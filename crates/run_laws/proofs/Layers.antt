@@ -1,29 +1,23 @@
 -- Layers put together: three systems, systems with invariants, and points of two kinds.
-use Rattle.std.proofs.Common.{◌≡◌, ℕ, zero, suc, ◌+◌, ◌≤◌, List, [], ◌∷◌, ◌++◌, length, map, refl, sym, ap, ◌∙◌, subst, arith, append_assoc}
+use Rattle.std.proofs.Common.{◌≡◌, ℕ, zero, suc, ◌+◌, List, [], ◌∷◌, ◌++◌, length, map, refl, sym, ap, ◌∙◌, subst, arith, append_assoc}
 use Rattle.std.specs.Prelude.{flat_map}
 use Rattle.run_laws.specs.Runs.{Step, Moves, Ends, Traps, weigh, Within, System, Walk, Passes}
-use Rattle.run_laws.specs.Layers.{CarriesBy, Does, Stays, Through, Where, Either, Left, Right, of_both, by_kind}
-use Rattle.run_laws.proofs.Weights.{append-nil, weigh-append, weigh-map, weigh-flat_map}
-use Rattle.run_laws.proofs.Walks.{Walk-append}
+use Rattle.run_laws.specs.Layers.{CarriesStep, CarriesBy, Stays, Through, Where, Either, Left, Right, of_both, by_kind, places_from, InRow}
+use Rattle.run_laws.proofs.Weights.{weigh-append, weigh-map, weigh-flat_map}
+use Rattle.run_laws.proofs.Walks.{Walk-one, Walk-append}
 use Rattle.run_laws.proofs.Lowering.{Walk-down}
-
--- a layer by what the upper system's step computes to
-pub carries_each : {S T P A B Q : Type 0} (x : System S T P) (y : System A B Q) (least : P → ℕ) (fewest : Q → ℕ) (words : P → List Q) (similar : S → A → Type 0) (same : T → B → Type 0) → ((s : S) (a : A) → similar s a → Does y least fewest words similar same (x.at s) a (x.step s)) → CarriesBy x y least fewest words similar same
-carries_each x y least fewest words similar same each = record {
-  moves = λ s t w a sim e. subst (Does y least fewest words similar same (x.at s) a) e (each s a sim);
-  ends = λ s a sim e. subst (Does y least fewest words similar same (x.at s) a) e (each s a sim);
-  traps = λ s a trap sim e. subst (Does y least fewest words similar same (x.at s) a) e (each s a sim);
-}
 
 -- a system whose points may have no step, carried out by itself
 pub carries_self : {S T P : Type 0} (y : System S T P) (least : P → ℕ) → CarriesBy y y least least (λ p. p ∷ []) (λ s t. s ≡ t) (λ u v. u ≡ v)
-carries_self {S} {T} {P} y least = record {
-  moves = λ s t w a sim e.
-    let here : y.at a ≡ y.at s = ap y.at (sym sim) in
-    (t, y.at s ∷ [], (t, w, [], here, ap y.step (sym sim) ∙ e, sym (append-nil w), (refl, refl)), refl, (λ h. omega arith), omega arith);
-  ends = λ s a sim e. (a, [], (refl, refl), ap y.step (sym sim) ∙ e, (λ h. let q = ap (λ z. h (y.at z)) sim in omega (arith, q)));
-  traps = λ s a trap sim e. (a, [], trap, refl, (refl, refl), ap y.step (sym sim) ∙ e, (λ h. let q = ap (λ z. h (y.at z)) sim in omega (arith, q)));
-}
+carries_self {S} {T} {P} y least = record { each = λ s a sim. subst (λ t. Carried s t (y.step s)) sim (by_step s (y.step s) refl) }
+  where
+    Carried : S → S → Step S T → Type 0
+    Carried s a step = CarriesStep y least least (λ p. p ∷ []) (λ (s t : S). s ≡ t) (λ (u v : T). u ≡ v) (y.at s) a step
+
+    by_step : (s : S) (step : Step S T) → y.step s ≡ step → Carried s s step
+    by_step s (Moves w t) e = (t, y.at s ∷ [], Walk-one y s t w e, refl, (λ h. omega arith), omega arith)
+    by_step s Ends e = (s, [], (refl, refl), e, (λ h. omega arith))
+    by_step s (Traps trap) e = (s, [], trap, refl, (refl, refl), e, (λ h. omega arith))
 
 -- three layers: a system carried out by one that a third carries out
 module _ {S T P A B Q C D R : Type 0} (x : System S T P) (y : System A B Q) (z : System C D R) (least : P → ℕ) (fewest : Q → ℕ) (lowest : R → ℕ) (words : P → List Q) (bits : Q → List R) (similar : S → A → Type 0) (alike : A → C → Type 0) (same : T → B → Type 0) (equal : B → D → Type 0) (one : CarriesBy x y least fewest words similar same) (two : CarriesBy y z fewest lowest bits alike equal) where
@@ -37,26 +31,25 @@ module _ {S T P A B Q C D R : Type 0} (x : System S T P) (y : System A B Q) (z :
       let e = a (λ q. weigh h (bits q)) in let f = b h in let g = c h in
       omega (arith, e, f, g, weigh-append h rs ss, weigh-append (λ q. weigh h (bits q)) qs (q ∷ []), weigh-flat_map h bits qs, weigh-flat_map h bits (words p))
 
-  pub carries_through : CarriesBy x z least lowest (λ p. flat_map bits (words p)) (Through similar alike) (Through same equal)
-  carries_through = record {
-    moves = λ s t w c sim e.
-      let r = one.moves s t w sim.0 sim.1 e in
-      let v = Walk-down y z fewest lowest bits alike equal two r.1 sim.0 r.0 w c sim.2 r.2 in
+  halted : (p : P) (b : A) (qs : List Q) (rs ss : List R) (e : C) → Within (words p) (qs ++ y.at b ∷ []) → Within (flat_map bits qs) rs → Within (bits (y.at b)) (ss ++ z.at e ∷ []) → Within (flat_map bits (words p)) ((rs ++ ss) ++ z.at e ∷ [])
+  halted p b qs rs ss e f g h = subst (Within (flat_map bits (words p))) (sym (append_assoc rs ss (z.at e ∷ []))) (halt_down p (y.at b) qs rs (ss ++ z.at e ∷ []) f g h)
+
+  by_step : (p : P) (a : A) (c : C) → alike a c → (step : Step S T) → CarriesStep y least fewest words similar same p a step → CarriesStep z least lowest (λ p. flat_map bits (words p)) (Through similar alike) (Through same equal) p c step
+  by_step p a c sim (Moves w t) r =
+      let v = Walk-down y z fewest lowest bits alike equal two r.1 a r.0 w c sim r.2 in
       let few = r.5 in let few' = v.5 in
-      (v.0, v.1, v.2, (r.0, r.3, v.3), down (x.at s) r.1 v.1 r.4 v.4, omega (arith, few, few'));
-    ends = λ s c sim e.
-      let r = one.ends s sim.0 sim.1 e in
-      let v = Walk-down y z fewest lowest bits alike equal two r.1 sim.0 r.0 [] c sim.2 r.2 in
-      let u = two.ends r.0 v.0 v.3 r.3 in
-      (u.0, v.1 ++ u.1, Walk-append z v.1 u.1 c v.0 u.0 [] [] v.2 u.2, u.3,
-        subst (Within (flat_map bits (words (x.at s)))) (sym (append_assoc v.1 u.1 (z.at u.0 ∷ []))) (halt_down (x.at s) (y.at r.0) r.1 v.1 (u.1 ++ z.at u.0 ∷ []) r.4 v.4 u.4));
-    traps = λ s c trap sim e.
-      let r = one.traps s sim.0 trap sim.1 e in
-      let v = Walk-down y z fewest lowest bits alike equal two r.1 sim.0 r.0 [] c sim.2 r.4 in
-      let u = two.traps r.0 v.0 r.2 v.3 r.5 in
-      (u.0, v.1 ++ u.1, u.2, (r.2, r.3, u.3), Walk-append z v.1 u.1 c v.0 u.0 [] [] v.2 u.4, u.5,
-        subst (Within (flat_map bits (words (x.at s)))) (sym (append_assoc v.1 u.1 (z.at u.0 ∷ []))) (halt_down (x.at s) (y.at r.0) r.1 v.1 (u.1 ++ z.at u.0 ∷ []) r.6 v.4 u.6));
-  }
+      (v.0, v.1, v.2, (r.0, r.3, v.3), down p r.1 v.1 r.4 v.4, omega (arith, few, few'))
+  by_step p a c sim Ends r =
+      let v = Walk-down y z fewest lowest bits alike equal two r.1 a r.0 [] c sim r.2 in
+      let u = subst (CarriesStep z fewest lowest bits alike equal (y.at r.0) v.0) r.3 (two.each r.0 v.0 v.3) in
+      (u.0, v.1 ++ u.1, Walk-append z v.1 u.1 c v.0 u.0 [] [] v.2 u.2, u.3, halted p r.0 r.1 v.1 u.1 u.0 r.4 v.4 u.4)
+  by_step p a c sim (Traps trap) r =
+      let v = Walk-down y z fewest lowest bits alike equal two r.1 a r.0 [] c sim r.4 in
+      let u = subst (CarriesStep z fewest lowest bits alike equal (y.at r.0) v.0) r.5 (two.each r.0 v.0 v.3) in
+      (u.0, v.1 ++ u.1, u.2, (r.2, r.3, u.3), Walk-append z v.1 u.1 c v.0 u.0 [] [] v.2 u.4, u.5, halted p r.0 r.1 v.1 u.1 u.0 r.6 v.4 u.6)
+
+  pub carries_through : CarriesBy x z least lowest (λ p. flat_map bits (words p)) (Through similar alike) (Through same equal)
+  carries_through = record { each = λ s c sim. by_step (x.at s) sim.0 c sim.2 (x.step s) (one.each s sim.0 sim.1) }
 
 flat_map-flat_map : {P Q R : Type 0} (words : P → List Q) (bits : Q → List R) (h : R → ℕ) (ps : List P) → weigh h (flat_map (λ p. flat_map bits (words p)) ps) ≡ weigh (λ q. weigh h (bits q)) (flat_map words ps)
 flat_map-flat_map words bits h [] = refl
@@ -82,20 +75,17 @@ Stays-Passes y invariant stays least all (suc k) j s t w i h = Stays-Passes y in
 
 -- a layer may assume of both systems' states what their steps keep
 module _ {S T P A B Q : Type 0} (x : System S T P) (y : System A B Q) (least : P → ℕ) (fewest : Q → ℕ) (words : P → List Q) (above : S → Type 0) (below : A → Type 0) (similar : S → A → Type 0) (same : T → B → Type 0) where
-  -- one step of the upper system from states that have the invariants; the invariants behind it need no proof
-  pub record CarriesWhere : Type 0 where
-    pub moves : (s t : S) (w : List ℕ) (a : A) → Where above below similar s a → x.step s ≡ Moves w t → (b : A) × (qs : List Q) × Walk y a qs w b × similar t b × Within (words (x.at s)) qs × (least (x.at s) ≤ weigh fewest qs)
-    pub ends : (s : S) (a : A) → Where above below similar s a → x.step s ≡ Ends → (b : A) × (qs : List Q) × Walk y a qs [] b × (y.step b ≡ Ends) × Within (words (x.at s)) (qs ++ y.at b ∷ [])
-    pub traps : (s : S) (a : A) (trap : T) → Where above below similar s a → x.step s ≡ Traps trap → (b : A) × (qs : List Q) × (mine : B) × same trap mine × Walk y a qs [] b × (y.step b ≡ Traps mine) × Within (words (x.at s)) (qs ++ y.at b ∷ [])
+  abbrev Carried : (S → A → Type 0) → P → A → Step S T → Type 0
+  Carried related p a step = CarriesStep y least fewest words related same p a step
 
-  pub carries_where : Stays x above → Stays y below → CarriesWhere → CarriesBy x y least fewest words (Where above below similar) same
-  carries_where up low c = record {
-    moves = λ s t w a sim e.
-      let r = c.moves s t w a sim e in
-      (r.0, r.1, r.2, (up.step s t w sim.0 e, Stays-Walk y below low r.1 a r.0 w sim.1 r.2, r.3), r.4, r.5);
-    ends = c.ends;
-    traps = c.traps;
-  }
+  kept : Stays x above → Stays y below → (s : S) (a : A) → above s → below a → (step : Step S T) → x.step s ≡ step → Carried similar (x.at s) a step → Carried (Where above below similar) (x.at s) a step
+  kept up low s a i j (Moves w t) e r = (r.0, r.1, r.2, (up.step s t w i e, Stays-Walk y below low r.1 a r.0 w j r.2, r.3), r.4, r.5)
+  kept up low s a i j Ends e r = r
+  kept up low s a i j (Traps trap) e r = r
+
+  -- each step may assume both invariants, and need not show them behind it
+  pub carries_where : Stays x above → Stays y below → ((s : S) (a : A) → Where above below similar s a → Carried similar (x.at s) a (x.step s)) → CarriesBy x y least fewest words (Where above below similar) same
+  carries_where up low each = record { each = λ s a sim. kept up low s a sim.0 sim.1 (x.step s) refl (each s a sim) }
 
 -- points of two kinds
 pub weigh-of_both : {P Q : Type 0} (h : Either P Q → ℕ) (ps : List P) (qs : List Q) → weigh h (of_both ps qs) ≡ weigh (λ p. h (Left p)) ps + weigh (λ q. h (Right q)) qs
@@ -118,3 +108,28 @@ pub fits_both : {P Q R : Type 0} (f : P → List R) (g : Q → List R) (ps : Lis
 fits_both f g ps qs one two a b = λ h.
     let x = a h in let y = b h in
     omega (arith, x, y, weigh-append h one two, weigh-flat_map h f ps, weigh-flat_map h g qs, weigh-flat_map h (by_kind f g) (of_both ps qs), weigh-of_both (λ p. weigh h (by_kind f g p)) ps qs)
+
+-- places in a row
+pub length-places_from : (a n : ℕ) → length (places_from a n) ≡ n
+length-places_from a zero = refl
+length-places_from a (suc n) = let e = length-places_from (suc a) n in omega (arith, e)
+
+pub places_from-append : (a m n : ℕ) → places_from a m ++ places_from (a + m) n ≡ places_from a (m + n)
+places_from-append a zero n =
+    let e : a + 0 ≡ a = omega arith in let f : n ≡ 0 + n = omega arith in
+    ap (λ b. places_from b n) e ∙ ap (places_from a) f
+places_from-append a (suc m) n =
+    let e : a + suc m ≡ suc a + m = omega arith in let f : suc (m + n) ≡ suc m + n = omega arith in
+    ap (λ ps. a ∷ ps) (ap (λ b. places_from (suc a) m ++ places_from b n) e ∙ places_from-append (suc a) m n) ∙ ap (places_from a) f
+
+-- the places of points that stand in a row are in a row, and so none belongs to two of them
+pub flat_map-InRow : {P : Type 0} (place width : P → ℕ) (a : ℕ) (ps : List P) → InRow place width a ps → flat_map (λ p. places_from (place p) (width p)) ps ≡ places_from a (weigh width ps)
+flat_map-InRow place width a [] row = refl
+flat_map-InRow place width a (p ∷ ps) row =
+    ap (λ b. places_from b (width p) ++ flat_map (λ q. places_from (place q) (width q)) ps) row.0
+    ∙ ap (λ qs. places_from a (width p) ++ qs) (flat_map-InRow place width (a + width p) ps row.1)
+    ∙ places_from-append a (width p) (weigh width ps)
+
+pub fits_in_row : {P : Type 0} (place width : P → ℕ) (n : ℕ) (ps : List P) → InRow place width 0 ps → weigh width ps ≡ n → Within (places_from 0 n) (flat_map (λ p. places_from (place p) (width p)) ps)
+fits_in_row place width n ps row size = λ h.
+    let e = ap (weigh h) (flat_map-InRow place width 0 ps row ∙ ap (places_from 0) size) in omega (arith, e)

@@ -1,8 +1,8 @@
 -- What a system has done since its start, and what it may still pass before its next moment.
-use Rattle.std.proofs.Common.{◌≡◌, ℕ, zero, suc, ◌+◌, ◌*◌, ◌≤◌, List, [], ◌∷◌, ◌++◌, refl, sym, ap, ◌∙◌, subst, arith, append_assoc}
-use Rattle.run_laws.specs.Runs.{Step, Moves, Ends, Traps, weigh, Within, System, Walk, Passes, Halts, turns_a_step}
+use Rattle.std.proofs.Common.{◌≡◌, ℕ, suc, ◌+◌, ◌*◌, ◌≤◌, List, [], ◌∷◌, ◌++◌, refl, sym, ap, ◌∙◌, subst, arith, append_assoc}
+use Rattle.run_laws.specs.Runs.{Step, Moves, weigh, System, Walk, Passes, Halts, turns_a_step}
 use Rattle.run_laws.proofs.Weights.{append-nil, weigh-append}
-use Rattle.run_laws.proofs.Walks.{Walk-append, Walk-snoc, Passes-snoc}
+use Rattle.run_laws.proofs.Walks.{Walk-append, Passes-snoc}
 
 module _ {S T P : Type 0} (y : System S T P) (least : P → ℕ) (all : List P) (s0 : S) (n0 : ℕ) where
   -- with n0 turns at first the system has left turns left, at most m, wrote out and stands at s; since its last moment it
@@ -34,19 +34,26 @@ module _ {S T P : Type 0} (y : System S T P) (least : P → ℕ) (all : List P) 
       let turns = r.turns in let bound = r.bound in let pace = r.pace in
       let grown = weigh-append least r.ps qs in
       record {
-        k = r.k; j = r.j; mid = r.mid; ps = r.ps ++ qs; before = r.before; last = r.last ++ w;
-        turns = turns; bound = bound; passes = r.passes;
+        k = r.k;
+        j = r.j;
+        mid = r.mid;
+        ps = r.ps ++ qs;
+        before = r.before;
+        last = r.last ++ w;
+        turns = turns;
+        bound = bound;
+        passes = r.passes;
         walk = Walk-append y r.ps qs r.mid s t r.last w r.walk walk;
         wrote = ap (λ x. x ++ w) r.wrote ∙ append_assoc r.before r.last w;
         room = λ h. let a = r.room h in let b = fits h in omega (arith, a, b, weigh-append h r.ps qs);
-        pace = omega (arith, pace, pays, grown)
+        pace = omega (arith, pace, pays, grown);
       }
 
   -- one step
   pub pass : {m g left : ℕ} {out : List ℕ} {s : S} {free : (P → ℕ) → ℕ} (more : ℕ) (rest : (P → ℕ) → ℕ) (p : P) (w : List ℕ) (t : S) → Reached m g left out s free → y.at s ≡ p → y.step s ≡ Moves w t → ((h : P → ℕ) → h p + rest h ≤ free h) → more ≤ g + turns_a_step * least p → Reached m more left (out ++ w) t rest
   pass {m} {g} {left} {out} {s} {free} more rest p w t r here step fits pays =
       pass_walk more rest (p ∷ []) w t r (t, w, [], here, step, sym (append-nil w), (refl, refl))
-        (λ h. let a = fits h in omega (arith, a)) (omega (arith, pays))
+      (λ h. let a = fits h in omega (arith, a)) (omega (arith, pays))
 
   -- one step that writes nothing
   pub pass_quiet : {m g left : ℕ} {out : List ℕ} {s : S} {free : (P → ℕ) → ℕ} (more : ℕ) (rest : (P → ℕ) → ℕ) (p : P) (t : S) → Reached m g left out s free → y.at s ≡ p → y.step s ≡ Moves [] t → ((h : P → ℕ) → h p + rest h ≤ free h) → more ≤ g + turns_a_step * least p → Reached m more left out t rest
@@ -58,10 +65,19 @@ module _ {S T P : Type 0} (y : System S T P) (least : P → ℕ) (all : List P) 
   loosen {m} {g} {left} {out} {s} {free} most more rest r le less fits =
       let turns = r.turns in let bound = r.bound in let pace = r.pace in
       record {
-        k = r.k; j = r.j; mid = r.mid; ps = r.ps; before = r.before; last = r.last;
-        turns = turns; bound = omega (arith, bound, le); passes = r.passes; walk = r.walk; wrote = r.wrote;
+        k = r.k;
+        j = r.j;
+        mid = r.mid;
+        ps = r.ps;
+        before = r.before;
+        last = r.last;
+        turns = turns;
+        bound = omega (arith, bound, le);
+        passes = r.passes;
+        walk = r.walk;
+        wrote = r.wrote;
         room = λ h. let a = r.room h in let b = fits h in omega (arith, a, b);
-        pace = omega (arith, pace, less)
+        pace = omega (arith, pace, less);
       }
 
   -- the open stretch closed
@@ -75,10 +91,19 @@ module _ {S T P : Type 0} (y : System S T P) (least : P → ℕ) (all : List P) 
   moment {m} {left} {out} {s} {free} n rest r is fits =
       let turns = r.turns in let bound = r.bound in let pace = r.pace in
       record {
-        k = suc r.k; j = r.j + weigh least r.ps; mid = s; ps = []; before = out; last = [];
-        turns = omega (arith, turns, is); bound = omega arith; passes = closed r; walk = (refl, refl); wrote = sym (append-nil out);
+        k = suc r.k;
+        j = r.j + weigh least r.ps;
+        mid = s;
+        ps = [];
+        before = out;
+        last = [];
+        turns = omega (arith, turns, is);
+        bound = omega arith;
+        passes = closed r;
+        walk = (refl, refl);
+        wrote = sym (append-nil out);
         room = λ h. let f = fits h in omega (arith, f);
-        pace = omega (arith, pace)
+        pace = omega (arith, pace);
       }
 
   -- a moment with no turn left: all n0 are used up
@@ -91,8 +116,20 @@ module _ {S T P : Type 0} (y : System S T P) (least : P → ℕ) (all : List P) 
   -- a halt
   pub halts : {m g left : ℕ} {out : List ℕ} {s : S} {free : (P → ℕ) → ℕ} (halt : Step S T) → Reached m g left out s free → y.step s ≡ halt → ((h : P → ℕ) → h (y.at s) ≤ free h) → (k : ℕ) × (k ≤ n0) × Halts y least all k s0 out halt
   halts {m} {g} {left} {out} {s} {free} halt r step fits =
-      let turns = r.turns in
-      (r.k, omega (arith, turns),
-        (r.mid, s, r.ps, r.before, r.last, r.j, r.passes,
+      let turns = r.turns in (
+        r.k,
+        omega (arith, turns),
+        (
+          r.mid,
+          s,
+          r.ps,
+          r.before,
+          r.last,
+          r.j,
+          r.passes,
           (λ h. let a = r.room h in let b = fits h in omega (arith, a, b, weigh-append h r.ps (y.at s ∷ []))),
-          r.walk, step, r.wrote))
+          r.walk,
+          step,
+          r.wrote,
+        ),
+      )

@@ -1,6 +1,6 @@
 -- Walks and stretches, put together.
-use Rattle.std.proofs.Common.{◌≡◌, ℕ, zero, suc, ◌+◌, ◌≤◌, List, [], ◌∷◌, ◌++◌, length, refl, sym, ap, ◌∙◌, subst, arith, append_assoc}
-use Rattle.run_laws.specs.Runs.{Outcome, Step, Moves, act, run, weigh, Within, System, Walk, Passes, Halts}
+use Rattle.std.proofs.Common.{◌≡◌, ℕ, zero, suc, ◌+◌, List, [], ◌∷◌, ◌++◌, length, refl, sym, ap, ◌∙◌, subst, arith, append_assoc}
+use Rattle.run_laws.specs.Runs.{Moves, act, run, weigh, Within, System, Walk, Passes}
 use Rattle.run_laws.proofs.Weights.{append-nil}
 
 -- one step is a walk

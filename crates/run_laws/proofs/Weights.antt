@@ -1,5 +1,5 @@
 -- Weights of lists of points, and lists within others.
-use Rattle.std.proofs.Common.{◌≡◌, ℕ, zero, suc, ◌+◌, ◌≤◌, Bool, true, false, cond, List, [], ◌∷◌, ◌++◌, length, map, take, drop, refl, sym, ap, ◌∙◌, arith}
+use Rattle.std.proofs.Common.{◌≡◌, ℕ, zero, suc, ◌+◌, ◌≤◌, Bool, true, false, cond, List, [], ◌∷◌, ◌++◌, length, map, take, drop, refl, ap, ◌∙◌, arith}
 use Rattle.std.specs.Prelude.{flat_map, filter}
 use Rattle.run_laws.specs.Runs.{weigh, Within}
 
@@ -32,6 +32,11 @@ pub weigh-nothing : {P : Type 0} (ps : List P) → weigh (λ _. 0) ps ≡ 0
 weigh-nothing [] = refl
 weigh-nothing (p ∷ ps) = let e = weigh-nothing ps in omega (arith, e)
 
+-- weights that are the same at each point
+pub weigh-same : {P : Type 0} (g h : P → ℕ) → ((p : P) → g p ≡ h p) → (ps : List P) → weigh g ps ≡ weigh h ps
+weigh-same g h is [] = refl
+weigh-same g h is (p ∷ ps) = let a = is p in let e = weigh-same g h is ps in omega (arith, a, e)
+
 -- a weight that is less at each point
 pub weigh-below : {P : Type 0} (g h : P → ℕ) → ((p : P) → g p ≤ h p) → (ps : List P) → weigh g ps ≤ weigh h ps
 weigh-below g h le [] = omega arith
@@ -61,6 +66,23 @@ Within-nothing all = λ h. omega arith
 
 pub Within-append : {P : Type 0} (all more ps qs : List P) → Within all ps → Within more qs → Within (all ++ more) (ps ++ qs)
 Within-append all more ps qs a b = λ h. let x = a h in let y = b h in omega (arith, x, y, weigh-append h all more, weigh-append h ps qs)
+
+-- one more point in both, or only in the longer
+pub Within-cons : {P : Type 0} (p : P) (all ps : List P) → Within all ps → Within (p ∷ all) (p ∷ ps)
+Within-cons p all ps a = λ h. let x = a h in omega (arith, x)
+
+pub Within-skip : {P : Type 0} (p : P) (all ps : List P) → Within all ps → Within (p ∷ all) ps
+Within-skip p all ps a = λ h. let x = a h in omega (arith, x)
+
+-- a point of a list
+pub Within-one : {P : Type 0} (before : List P) (p : P) (behind : List P) → Within (before ++ p ∷ behind) (p ∷ [])
+Within-one before p behind = λ h. omega (arith, weigh-append h before (p ∷ behind))
+
+pub Within-take : {P : Type 0} (k : ℕ) (ps : List P) → Within ps (take k ps)
+Within-take k ps = λ h. omega (arith, weigh-take_drop h k ps)
+
+pub Within-drop : {P : Type 0} (k : ℕ) (ps : List P) → Within ps (drop k ps)
+Within-drop k ps = λ h. omega (arith, weigh-take_drop h k ps)
 
 -- the parts of a list
 pub Within-first : {P : Type 0} (ps qs : List P) → Within (ps ++ qs) ps

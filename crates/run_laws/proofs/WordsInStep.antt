@@ -1,28 +1,18 @@
 -- The worked instance, second layer: the machine's words carry out the spots, and so are in step with the meaning.
-use Rattle.std.proofs.Common.{◌≡◌, ℕ, zero, suc, ◌+◌, ◌-◌, ◌*◌, ◌≤◌, List, [], ◌∷◌, ◌++◌, length, drop, Option, Some, None, slice_get, refl, sym, ap, ◌∙◌, subst, arith, length-append}
+use Rattle.std.proofs.Common.{◌≡◌, ℕ, zero, suc, ◌+◌, ◌-◌, ◌≤◌, List, [], ◌∷◌, ◌++◌, length, drop, Some, slice_get, refl, sym, ap, ◌∙◌, subst, arith, length-append}
 use Rattle.std.specs.Prelude.{flat_map}
-use Rattle.run_laws.specs.Runs.{Outcome, Step, Moves, Ends, Traps, weigh, Within, System, Walk, InStep, run, Trapped}
-use Rattle.run_laws.specs.Layers.{CarriesBy, Does, Through}
-use Rattle.run_laws.specs.Countdown.{Trap, BelowZero, meaning, Spot, Begin, Test, Leave, Left, Node, go, spots, each_left, all_spots, least, code_of, words_of, Stop, TrapAt, Undefined, Machine, next, jump_of, trap_of, exec, machine, at_start, SameTrap}
+use Rattle.run_laws.specs.Runs.{Step, Moves, Ends, Traps, weigh, Within, InStep}
+use Rattle.run_laws.specs.Layers.{CarriesStep, CarriesBy, Through, places_from, InRow}
+use Rattle.run_laws.specs.Countdown.{Trap, meaning, Spot, Begin, Test, Leave, Body, Node, go, spots, body_spots, all_spots, least, code_of, words_of, Stop, TrapAt, Machine, next, jump_of, trap_of, exec, machine, at_start, SameTrap}
 use Rattle.run_laws.specs.declared.countdown.Act.{Act}
 use Rattle.run_laws.specs.declared.countdown.Act.TheVariants.{Print, Down}
 use Rattle.run_laws.specs.declared.countdown.Countdown.{Countdown}
 use Rattle.run_laws.specs.declared.countdown.Word.{Word}
 use Rattle.run_laws.specs.declared.countdown.Word.TheVariants.{Load, JumpIfPositive, Halt, Write, TrapIfZero, Less, Jump}
 use Rattle.run_laws.proofs.Walks.{Walk-one, Walk-append}
-use Rattle.run_laws.proofs.Lowering.{Keeps-down, Keeps-same}
-use Rattle.run_laws.proofs.Layers.{carries_each}
-use Rattle.run_laws.proofs.Agreement.{in_step, trap_never}
-use Rattle.run_laws.proofs.SpotsKeepUp.{start, keeps_up}
-
--- n places, from one on
-abbrev from : ℕ → ℕ → List ℕ
-from a zero = []
-from a (suc n) = a ∷ from (suc a) n
-
-length-from : (a n : ℕ) → length (from a n) ≡ n
-length-from a zero = refl
-length-from a (suc n) = let e = length-from (suc a) n in omega (arith, e)
+use Rattle.run_laws.proofs.Lowering.{in_step_down, in_step_same}
+use Rattle.run_laws.proofs.Layers.{length-places_from, fits_in_row}
+use Rattle.run_laws.proofs.SpotsKeepUp.{keeps_up}
 
 -- a word at a place, and what stands behind it
 word_at : (words : List Word) (i : ℕ) (w : Word) (rest : List Word) → drop i words ≡ w ∷ rest → (slice_get words i ≡ Some w) × (drop (i + 1) words ≡ rest)
@@ -46,24 +36,24 @@ module _ (p : Countdown) where
   place Begin = 0
   place Test = 1
   place Leave = 2
-  place (Left rest) = 3 + size - length (code_of rest)
+  place (Body rest) = 3 + size - length (code_of rest)
 
   abbrev width : Spot → ℕ
-  width (Left (Down ∷ rest)) = 2
+  width (Body (Down ∷ rest)) = 2
   width _ = 1
 
   abbrev places : Spot → List ℕ
-  places spot = from (place spot) (width spot)
+  places spot = places_from (place spot) (width spot)
 
   -- the words from a spot on
   abbrev code_from : Spot → List Word
   code_from Begin = words
   code_from Test = drop 1 words
   code_from Leave = drop 2 words
-  code_from (Left rest) = code_of rest ++ Jump 1 ∷ []
+  code_from (Body rest) = code_of rest ++ Jump 1 ∷ []
 
   abbrev Short : Spot → Type 0
-  Short (Left rest) = length (code_of rest) ≤ size
+  Short (Body rest) = length (code_of rest) ≤ size
   Short _ = Unit {0}
 
   -- the machine stands at the spot's first word, with its counter
@@ -74,14 +64,14 @@ module _ (p : Countdown) where
     pub short : Short s.spot
 
   abbrev Done : Spot → Machine → Step Node Trap → Type 0
-  Done spot m step = Does (machine words) least (λ _. 1) places Similar SameTrap spot m step
+  Done spot m step = CarriesStep (machine words) least (λ _. 1) places Similar SameTrap spot m step
 
   least_one : (spot : Spot) → least spot ≤ 1
   least_one Begin = omega arith
   least_one Test = omega arith
   least_one Leave = omega arith
-  least_one (Left []) = omega arith
-  least_one (Left (a ∷ rest)) = omega arith
+  least_one (Body []) = omega arith
+  least_one (Body (a ∷ rest)) = omega arith
 
   -- the machine does what stands at its place
   does : (m : Machine) (w : Word) (rest : List Word) (step : Step Machine Stop) → drop m.place words ≡ w ∷ rest → exec (Some w) m ≡ step → (machine words).step m ≡ step
@@ -89,79 +79,86 @@ module _ (p : Countdown) where
 
   -- a spot of one word
   one_word : (spot : Spot) (m t : Machine) (w : Word) (rest : List Word) (out : List ℕ) (after : Node) → m.place ≡ place spot → width spot ≡ 1 → drop m.place words ≡ w ∷ rest → exec (Some w) m ≡ Moves out t → Similar after t → Done spot m (Moves out after)
-  one_word spot m t w rest out after here narrow stands e sim =
-      (t, m.place ∷ [], Walk-one (machine words) m t out (does m w rest (Moves out t) stands e), sim,
-        (λ h. let a = ap h here in let b = ap (λ n. weigh h (from (place spot) n)) narrow in omega (arith, a, b)),
-        least_one spot)
+  one_word spot m t w rest out after here narrow stands e sim = (
+    t,
+    m.place ∷ [],
+    Walk-one (machine words) m t out (does m w rest (Moves out t) stands e),
+    sim,
+    (λ h. let a = ap h here in let b = ap (λ n. weigh h (places_from (place spot) n)) narrow in omega (arith, a, b)),
+    least_one spot,
+  )
 
   carried : (spot : Spot) (n : ℕ) (m : Machine) → Similar (record { spot = spot; counter = n }) m → Done spot m (go p spot n)
   carried Begin n m sim =
       let here = sim.here in
       one_word Begin m (next m p.start) (Load p.start) (drop 1 words) [] (record { spot = Test; counter = p.start }) here refl sim.stands refl
-        (record { here = omega (arith, here); counter = refl; stands = (word_at words m.place (Load p.start) (drop 1 words) sim.stands).1; short = tt })
+      (record { here = omega (arith, here); counter = refl; stands = (word_at words m.place (Load p.start) (drop 1 words) sim.stands).1; short = tt })
   carried Test zero m sim =
       let here = sim.here in
       one_word Test m (next m m.counter) (JumpIfPositive 3) (drop 2 words) [] (record { spot = Leave; counter = 0 }) here refl sim.stands (ap (λ c. Moves [] (jump_of c 3 m)) sim.counter)
-        (record { here = omega (arith, here); counter = sim.counter; stands = (word_at words m.place (JumpIfPositive 3) (drop 2 words) sim.stands).1; short = tt })
+      (record { here = omega (arith, here); counter = sim.counter; stands = (word_at words m.place (JumpIfPositive 3) (drop 2 words) sim.stands).1; short = tt })
   carried Test (suc n) m sim =
-      one_word Test m (record m { place = 3 }) (JumpIfPositive 3) (drop 2 words) [] (record { spot = Left p.body.items; counter = suc n }) sim.here refl sim.stands (ap (λ c. Moves [] (jump_of c 3 m)) sim.counter)
-        (record { here = omega arith; counter = sim.counter; stands = refl; short = omega arith })
+      one_word Test m (record m { place = 3 }) (JumpIfPositive 3) (drop 2 words) [] (record { spot = Body p.body.items; counter = suc n }) sim.here refl sim.stands (ap (λ c. Moves [] (jump_of c 3 m)) sim.counter)
+      (record { here = omega arith; counter = sim.counter; stands = refl; short = omega arith })
   carried Leave n m sim =
       (m, [], (refl, refl), does m Halt (drop 3 words) Ends sim.stands refl, (λ h. let a = ap h sim.here in omega (arith, a)))
-  carried (Left []) n m sim =
-      let r = one_word (Left []) m (record m { place = 1 }) (Jump 1) [] [] (record { spot = Test; counter = n }) sim.here refl sim.stands refl (record { here = refl; counter = sim.counter; stands = refl; short = tt }) in
+  carried (Body []) n m sim =
+      let r = one_word (Body []) m (record m { place = 1 }) (Jump 1) [] [] (record { spot = Test; counter = n }) sim.here refl sim.stands refl (record { here = refl; counter = sim.counter; stands = refl; short = tt }) in
       r
-  carried (Left (Print ∷ rest)) n m sim =
+  carried (Body (Print ∷ rest)) n m sim =
       let here = sim.here in let short = sim.short in
-      one_word (Left (Print ∷ rest)) m (next m m.counter) Write (code_of rest ++ Jump 1 ∷ []) (n ∷ []) (record { spot = Left rest; counter = n }) here refl sim.stands (ap (λ c. Moves (c ∷ []) (next m m.counter)) sim.counter)
-        (record { here = omega (arith, here, short); counter = sim.counter; stands = (word_at words m.place Write (code_of rest ++ Jump 1 ∷ []) sim.stands).1; short = omega (arith, short) })
-  carried (Left (Down ∷ rest)) zero m sim =
-      (m, [], TrapAt m.place, tt, (refl, refl), does m TrapIfZero (Less ∷ (code_of rest ++ Jump 1 ∷ [])) (Traps (TrapAt m.place)) sim.stands (ap (λ c. trap_of c m) sim.counter),
-        (λ h. let a = ap h sim.here in omega (arith, a)))
-  carried (Left (Down ∷ rest)) (suc n) m sim =
+      one_word (Body (Print ∷ rest)) m (next m m.counter) Write (code_of rest ++ Jump 1 ∷ []) (n ∷ []) (record { spot = Body rest; counter = n }) here refl sim.stands (ap (λ c. Moves (c ∷ []) (next m m.counter)) sim.counter)
+      (record { here = omega (arith, here, short); counter = sim.counter; stands = (word_at words m.place Write (code_of rest ++ Jump 1 ∷ []) sim.stands).1; short = omega (arith, short) })
+  carried (Body (Down ∷ rest)) zero m sim = (
+    m,
+    [],
+    TrapAt m.place,
+    tt,
+    (refl, refl),
+    does m TrapIfZero (Less ∷ (code_of rest ++ Jump 1 ∷ [])) (Traps (TrapAt m.place)) sim.stands (ap (λ c. trap_of c m) sim.counter),
+    (λ h. let a = ap h sim.here in omega (arith, a)),
+  )
+  carried (Body (Down ∷ rest)) (suc n) m sim =
       let here = sim.here in let short = sim.short in let counter = sim.counter in
       let tail = code_of rest ++ Jump 1 ∷ [] in
       let one = next m m.counter in
       let two = next one (m.counter - 1) in
       let first = word_at words m.place TrapIfZero (Less ∷ tail) sim.stands in
       let second = word_at words one.place Less tail first.1 in
-      let up : one.place ≡ suc (place (Left (Down ∷ rest))) = omega (arith, here) in
-      (two, m.place ∷ one.place ∷ [],
+      let up : one.place ≡ suc (place (Body (Down ∷ rest))) = omega (arith, here) in (
+        two,
+        m.place ∷ one.place ∷ [],
         Walk-append (machine words) (m.place ∷ []) (one.place ∷ []) m one two [] []
-          (Walk-one (machine words) m one [] (does m TrapIfZero (Less ∷ tail) (Moves [] one) sim.stands (ap (λ c. trap_of c m) sim.counter)))
-          (Walk-one (machine words) one two [] (does one Less tail (Moves [] two) first.1 refl)),
+            (Walk-one (machine words) m one [] (does m TrapIfZero (Less ∷ tail) (Moves [] one) sim.stands (ap (λ c. trap_of c m) sim.counter)))
+            (Walk-one (machine words) one two [] (does one Less tail (Moves [] two) first.1 refl)),
         record { here = omega (arith, here, short); counter = omega (arith, counter); stands = second.1; short = omega (arith, short) },
         (λ h. let a = ap h here in let b = ap h up in omega (arith, a, b)),
-        omega arith)
+        omega arith,
+      )
 
   carries : CarriesBy (spots p) (machine words) least (λ _. 1) places Similar SameTrap
-  carries = carries_each (spots p) (machine words) least (λ _. 1) places Similar SameTrap (λ s m sim. carried s.spot s.counter m sim)
+  carries = record { each = λ s m sim. carried s.spot s.counter m sim }
 
-  -- the words of what is left of a round stand one behind the other
-  filled : (rest : List Act) → length (code_of rest) ≤ size → flat_map places (each_left rest) ≡ from (place (Left rest)) (suc (length (code_of rest)))
-  filled [] le = refl
-  filled (Print ∷ rest) le =
-      let e : place (Left rest) ≡ suc (place (Left (Print ∷ rest))) = omega (arith, le) in
-      ap (λ ps. place (Left (Print ∷ rest)) ∷ ps) (filled rest (omega (arith, le)) ∙ ap (λ a. from a (suc (length (code_of rest)))) e)
-  filled (Down ∷ rest) le =
-      let a = place (Left (Down ∷ rest)) in
-      let e : place (Left rest) ≡ suc (suc a) = omega (arith, le) in
-      ap (λ ps. a ∷ suc a ∷ ps) (filled rest (omega (arith, le)) ∙ ap (λ a. from a (suc (length (code_of rest)))) e)
+  -- what is left of a round stands in a row, behind the test and the end
+  body_in_row : (rest : List Act) (a : ℕ) → length (code_of rest) ≤ size → place (Body rest) ≡ a → InRow place width a (body_spots rest)
+  body_in_row [] a le is = (is, tt)
+  body_in_row (Print ∷ rest) a le is = (is, body_in_row rest (a + 1) (omega (arith, le)) (omega (arith, le, is)))
+  body_in_row (Down ∷ rest) a le is = (is, body_in_row rest (a + 2) (omega (arith, le)) (omega (arith, le, is)))
 
-  fits : Within (from 0 (length words)) (flat_map places (all_spots p))
-  fits = λ h.
-      let long : length (code_of p.body.items ++ Jump 1 ∷ []) ≡ suc size = length-append (code_of p.body.items) (Jump 1 ∷ []) ∙ omega arith in
-      let first : place (Left p.body.items) ≡ 3 = omega arith in
-      let a = ap (λ n. weigh h (from 3 n)) long in
-      let b = ap (weigh h) (filled p.body.items (omega arith) ∙ ap (λ a. from a (suc size)) first) in
-      omega (arith, a, b)
+  weigh-body_spots : (rest : List Act) → weigh width (body_spots rest) ≡ suc (length (code_of rest))
+  weigh-body_spots [] = refl
+  weigh-body_spots (Print ∷ rest) = let e = weigh-body_spots rest in omega (arith, e)
+  weigh-body_spots (Down ∷ rest) = let e = weigh-body_spots rest in omega (arith, e)
+
+  fits : Within (places_from 0 (length words)) (flat_map places (all_spots p))
+  fits =
+      let e = weigh-body_spots p.body.items in let f = length-append (code_of p.body.items) (Jump 1 ∷ []) in
+      fits_in_row place width (length words) (all_spots p) (refl, (refl, (refl, body_in_row p.body.items 3 (omega arith) (omega arith)))) (omega (arith, e, f))
 
   -- the words are in step with the meaning
   pub words_in_step : InStep (machine words) (length words) SameTrap at_start (meaning p)
   words_in_step =
-      subst (λ n. InStep (machine words) n SameTrap at_start (meaning p)) (length-from 0 (length words))
-        (in_step (machine words) (from 0 (length words)) SameTrap at_start (meaning p)
-          (λ n. Keeps-same (machine words) (λ _. 1) (from 0 (length words)) (Through (λ (u t : Trap). u ≡ t) SameTrap) SameTrap (λ u b r. subst (λ t. SameTrap t b) (sym r.1) r.2) at_start n (meaning p n)
-            (Keeps-down (spots p) (machine words) least (λ _. 1) places Similar SameTrap carries (all_spots p) (from 0 (length words)) fits (λ (u t : Trap). u ≡ t) n (meaning p n) (start p n) at_start
-              (record { here = refl; counter = refl; stands = refl; short = tt })
-              (keeps_up p n))))
+      subst (λ n. InStep (machine words) n SameTrap at_start (meaning p)) (length-places_from 0 (length words))
+      (in_step_same (machine words) (length (places_from 0 (length words))) (Through (λ (u t : Trap). u ≡ t) SameTrap) SameTrap (λ u b r. subst (λ t. SameTrap t b) (sym r.1) r.2) at_start (meaning p)
+      (in_step_down (spots p) (machine words) least places (all_spots p) (places_from 0 (length words)) Similar (λ (u t : Trap). u ≡ t) SameTrap carries fits (record { spot = Begin; counter = 0 }) at_start
+      (record { here = refl; counter = refl; stands = refl; short = tt }) (meaning p) (λ n. keeps_up p n)))

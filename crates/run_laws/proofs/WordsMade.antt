@@ -1,5 +1,5 @@
 -- The worked instance: what the code has made of the words, from the first to the jump back.
-use Rattle.std.proofs.Common.{◌≡◌, ℕ, suc, ◌+◌, ◌<◌, ◌≤◌, zero, arith, List, [], ◌∷◌, ◌++◌, length, drop, get_or, refl, sym, ap, ◌∙◌, subst, append_assoc, add-one, drop-cons}
+use Rattle.std.proofs.Common.{◌≡◌, ℕ, suc, ◌+◌, ◌<◌, ◌≤◌, List, [], ◌∷◌, ◌++◌, length, drop, get_or, refl, sym, ap, ◌∙◌, subst, append_assoc, add-one, drop-cons}
 use Rattle.std.proofs.lemmas.List.{drop_all}
 use Rattle.run_laws.specs.Runs.{InStep, run, Trapped}
 use Rattle.run_laws.specs.Countdown.{Trap, BelowZero, code_of, words_of, meaning, SameTrap, Undefined, machine, at_start}

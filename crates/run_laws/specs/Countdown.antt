@@ -1,7 +1,7 @@
 -- A loop that counts down: its meaning, its spots, and the words of a small machine.
-use Rattle.std.specs.Prelude.{◌≡◌, ℕ, zero, suc, ◌+◌, ◌-◌, List, [], ◌∷◌, ◌++◌, length, Bool, true, false, Option, Some, None, slice_get}
+use Rattle.std.specs.Prelude.{ℕ, zero, suc, ◌+◌, ◌-◌, List, [], ◌∷◌, ◌++◌, Bool, true, false, Option, Some, None, slice_get}
 use Rattle.run_laws.specs.Runs.{Outcome, Step, Moves, Ends, Traps, System}
-use Rattle.run_laws.specs.Turns.{State, Ending, Gives, Fails, ◌>>=◌, give, print, look, while_so, outcome}
+use Rattle.run_laws.specs.Turns.{State, Ending, ◌>>=◌, give, fail, print, look, change, while_so, outcome}
 use Rattle.run_laws.specs.declared.countdown.Act.{Act}
 use Rattle.run_laws.specs.declared.countdown.Act.TheVariants.{Print, Down}
 use Rattle.run_laws.specs.declared.countdown.Countdown.{Countdown}
@@ -12,18 +12,27 @@ use Rattle.run_laws.specs.declared.countdown.Word.TheVariants.{Load, JumpIfPosit
 pub data Trap : Type 0 where
   BelowZero : Trap
 
+-- the loop's test
 abbrev pub is_positive : ℕ → Bool
 is_positive zero = false
 is_positive (suc n) = true
 
+-- one less than n, or the trap
 abbrev pub less_of : ℕ → State ℕ → Ending ℕ Trap (Unit {0})
-less_of zero s = Fails BelowZero s.out
-less_of (suc n) s = Gives tt (record s { store = n })
+less_of zero = fail BelowZero
+less_of (suc n) = change (λ _. n)
 
+-- acts, one after the other
 abbrev pub acts : List Act → State ℕ → Ending ℕ Trap (Unit {0})
-acts [] s = Gives tt s
-acts (Print ∷ rest) s = acts rest (record s { out = s.out ++ s.store ∷ [] })
-acts (Down ∷ rest) s = ((λ t. less_of t.store t) >>= λ _. acts rest) s
+acts [] = give tt
+acts (Print ∷ rest) = do
+  n ← look (λ c. c)
+  _ ← print n
+  acts rest
+acts (Down ∷ rest) = do
+  n ← look (λ c. c)
+  _ ← less_of n
+  acts rest
 
 -- the loop with n turns: a turn for each test
 abbrev pub meaning : Countdown → ℕ → Outcome Trap
@@ -34,8 +43,9 @@ pub data Spot : Type 0 where
   Begin : Spot
   Test : Spot
   Leave : Spot
-  Left : List Act → Spot
+  Body : List Act → Spot
 
+-- a spot, and the counter there
 pub record Node : Type 0 where
   pub spot : Spot
   pub counter : ℕ
@@ -44,29 +54,29 @@ pub record Node : Type 0 where
 abbrev pub go : Countdown → Spot → ℕ → Step Node Trap
 go p Begin n = Moves [] (record { spot = Test; counter = p.start })
 go p Test zero = Moves [] (record { spot = Leave; counter = 0 })
-go p Test (suc n) = Moves [] (record { spot = Left p.body.items; counter = suc n })
+go p Test (suc n) = Moves [] (record { spot = Body p.body.items; counter = suc n })
 go p Leave n = Ends
-go p (Left []) n = Moves [] (record { spot = Test; counter = n })
-go p (Left (Print ∷ rest)) n = Moves (n ∷ []) (record { spot = Left rest; counter = n })
-go p (Left (Down ∷ rest)) zero = Traps BelowZero
-go p (Left (Down ∷ rest)) (suc n) = Moves [] (record { spot = Left rest; counter = n })
+go p (Body []) n = Moves [] (record { spot = Test; counter = n })
+go p (Body (Print ∷ rest)) n = Moves (n ∷ []) (record { spot = Body rest; counter = n })
+go p (Body (Down ∷ rest)) zero = Traps BelowZero
+go p (Body (Down ∷ rest)) (suc n) = Moves [] (record { spot = Body rest; counter = n })
 
 -- the loop as a system, whose points are its spots
 abbrev pub spots : Countdown → System Node Trap Spot
 spots p = record { step = λ s. go p s.spot s.counter; at = λ s. s.spot }
 
 -- what is left of a round, at each of its spots
-abbrev pub each_left : List Act → List Spot
-each_left [] = Left [] ∷ []
-each_left (a ∷ rest) = Left (a ∷ rest) ∷ each_left rest
+abbrev pub body_spots : List Act → List Spot
+body_spots [] = Body [] ∷ []
+body_spots (a ∷ rest) = Body (a ∷ rest) ∷ body_spots rest
 
 -- each spot once
 abbrev pub all_spots : Countdown → List Spot
-all_spots p = Begin ∷ Test ∷ Leave ∷ each_left p.body.items
+all_spots p = Begin ∷ Test ∷ Leave ∷ body_spots p.body.items
 
 -- the jump back might have no word; each other spot has one or more
 abbrev pub least : Spot → ℕ
-least (Left []) = 0
+least (Body []) = 0
 least _ = 1
 
 -- the words of acts
@@ -84,17 +94,21 @@ pub data Stop : Type 0 where
   TrapAt : (place : ℕ) → Stop
   Undefined : Stop
 
+-- the machine's state
 pub record Machine : Type 0 where
   pub place : ℕ
   pub counter : ℕ
 
+-- on to the next word
 abbrev pub next : Machine → ℕ → Machine
 next m n = record { place = m.place + 1; counter = n }
 
+-- to the place where the counter isn't 0, else on
 abbrev pub jump_of : ℕ → ℕ → Machine → Machine
 jump_of zero to m = next m m.counter
 jump_of (suc n) to m = record m { place = to }
 
+-- the trap where the counter is 0, else on
 abbrev pub trap_of : ℕ → Machine → Step Machine Stop
 trap_of zero m = Traps (TrapAt m.place)
 trap_of (suc n) m = Moves [] (next m m.counter)
@@ -114,6 +128,7 @@ exec (Some (Jump to)) m = Moves [] (record m { place = to })
 abbrev pub machine : List Word → System Machine Stop ℕ
 machine words = record { step = λ m. exec (slice_get words m.place) m; at = λ m. m.place }
 
+-- where the machine begins
 abbrev pub at_start : Machine
 at_start = record { place = 0; counter = 0 }
 

@@ -1,5 +1,5 @@
 -- Meanings that are counted in turns: recursions that thread a store, what was written, and the turns that are left.
-use Rattle.std.specs.Prelude.{◌≡◌, ℕ, zero, suc, List, [], ◌∷◌, ◌++◌, Bool, true, false, if◌then◌else◌}
+use Rattle.std.specs.Prelude.{ℕ, zero, suc, List, [], ◌∷◌, ◌++◌, Bool, true, false, if◌then◌else◌}
 use Rattle.run_laws.specs.Runs.{Outcome, Ended, Trapped, Going}
 
 -- what a meaning has at a moment
@@ -45,6 +45,7 @@ look f s = Gives (f s.store) s
 abbrev pub change : {C U : Type 0} → (C → C) → State C → Ending C U (Unit {0})
 change f s = Gives tt (record s { store = f s.store })
 
+-- one of so many turns
 abbrev pub spend_of : {C U : Type 0} → ℕ → State C → Ending C U (Unit {0})
 spend_of zero s = Spent s.out
 spend_of (suc n) s = Gives tt (record s { turns = n })
@@ -74,6 +75,14 @@ until_so fuel body test = do
   repeat fuel (do
     holds ← test
     if holds then give false else (body >>= λ _. give true))
+
+-- at most n parts, numbered from i on, a turn behind each, as long as they say so: cells that are copied, say
+abbrev pub each_so : {C U : Type 0} → ℕ → ℕ → (ℕ → State C → Ending C U Bool) → State C → Ending C U (Unit {0})
+each_so zero i part = give tt
+each_so (suc n) i part = do
+  goes_on ← part i
+  _ ← spend
+  if goes_on then each_so n (suc i) part else give tt
 
 -- the outcome of a whole meaning
 abbrev pub outcome : {C U A : Type 0} → Ending C U A → Outcome U
