@@ -1,6 +1,6 @@
 //! The instruction of a word.
 
-ghost use Rattle.std.specs.Prelude.{◌≡◌, IfSome};
+ghost use Rattle.std.specs.Prelude.{◌≡◌, ◌↔◌, IsTrue, IfSome};
 ghost use Rattle.a64_table.specs.Table.{word_of, InRange};
 ghost use Rattle.a64_table.specs.Decode.{decode_of, row_at, immediate_row, branch_row, memory_row, bitwise_row, sum_row, source_row, product_row, register_row};
 ghost use Rattle.a64_instr.specs.declared.instr.Instr.{Instr};
@@ -20,11 +20,18 @@ pub fn decode(word: u32) -> Option<Instr>
     ensures only { (i : Instr) → InRange i → word_of i ≡ word → result ≡ Some i }
 {
     let instr = row(word)?;
-    if encode(&instr) == word {
+    if is_word_of(word, &instr) {
         Some(instr)
     } else {
         None
     }
+}
+
+/// Whether the word is the instruction's.
+fn is_word_of(word: u32, instr: &Instr) -> bool
+    ensures { IsTrue result ↔ (word_of instr.now ≡ word) }
+{
+    encode(instr) == word
 }
 
 /// The only row that can have the word, with the word's fields; by bits 28:25.
