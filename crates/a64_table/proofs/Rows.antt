@@ -1,4 +1,4 @@
--- Each instruction is what its word is read as.
+-- Each instruction with fields in range is what is read from its word, row by row.
 use Rattle.std.proofs.Common.{◌≡◌, ℕ, ◌<◌, ◌==◌, Bool, true, false, Some, refl, ap, ◌∙◌, arith}
 use Rattle.std.proofs.lemmas.Bool.Decides.{nat_tests}
 use Rattle.a64_table.specs.Table.{SelectCond, word_of, InRange, shift_number, cond_number, bit_number}
@@ -14,11 +14,6 @@ shift_again : (s : Shift) → shift_of (shift_number s) ≡ s
 shift_again Lsl = refl
 shift_again Lsr = refl
 shift_again Asr = refl
-
-shift_small : (s : Shift) → shift_number s < 3
-shift_small Lsl = omega arith
-shift_small Lsr = omega arith
-shift_small Asr = omega arith
 
 cond_again : (c : Cond) → cond_of (cond_number c) ≡ c
 cond_again Eq = refl
