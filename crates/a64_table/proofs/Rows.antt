@@ -1,5 +1,5 @@
 -- Each instruction with fields in range is what is read from its word, row by row.
-use Rattle.std.proofs.Common.{◌≡◌, ℕ, ◌<◌, ◌==◌, Bool, true, false, Some, refl, ap, ◌∙◌, arith}
+use Rattle.std.proofs.Common.{◌≡◌, ℕ, ◌==◌, Bool, true, false, Some, refl, ap, ◌∙◌, arith}
 use Rattle.std.proofs.lemmas.Bool.Decides.{nat_tests}
 use Rattle.a64_table.specs.Table.{SelectCond, word_of, InRange, shift_number, cond_number, bit_number}
 use Rattle.a64_table.specs.Decode.{bits, shift_of, cond_of, row_at, immediate_row, memory_row, branch_row, register_row, bitwise_row, sum_row, source_row, product_row}
