@@ -1,7 +1,7 @@
 -- What is read from a word has its fields in range.
 use Rattle.std.proofs.Common.{◌≡◌, ℕ, ◌%◌, ◌^◌, ◌<◌, Bool, true, false, Option, Some, None, if◌then◌else◌, subst, arith}
 use Rattle.a64_table.specs.Table.{InRange, shift_number, cond_number, bit_number}
-use Rattle.a64_table.specs.Decode.{row_at, immediate_row, branch_row, memory_row, source_row, register_row}
+use Rattle.a64_table.specs.Decode.{row_at, immediate_row, branch_row, memory_row, bitwise_row, sum_row, source_row, product_row, register_row}
 use Rattle.a64_instr.specs.declared.instr.Shift.{Shift}
 use Rattle.a64_instr.specs.declared.instr.Shift.TheVariants.{Lsl, Lsr, Asr}
 use Rattle.a64_instr.specs.declared.instr.Cond.{Cond}
@@ -83,13 +83,25 @@ memory : (w : ℕ) → Fits (memory_row w)
 unfolding memory_row
 memory w = search fields depth 60
 
+bitwise : (w : ℕ) → Fits (bitwise_row w)
+unfolding bitwise_row
+bitwise w = search fields depth 60
+
+sum : (w : ℕ) → Fits (sum_row w)
+unfolding sum_row
+sum w = search fields depth 60
+
 source : (w : ℕ) → Fits (source_row w)
 unfolding source_row
 source w = search fields depth 60
 
+product : (w : ℕ) → Fits (product_row w)
+unfolding product_row
+product w = search fields depth 60
+
 register : (w : ℕ) → Fits (register_row w)
 unfolding register_row
-register w = search (fields, source) depth 60
+register w = search (fields, bitwise, sum, source, product) depth 60
 
 pub row_fits : (w : ℕ) → Fits (row_at w)
 unfolding row_at

@@ -1,8 +1,8 @@
--- Each instruction is what its word is read as.
-use Rattle.std.proofs.Common.{◌≡◌, ℕ, ◌<◌, ◌==◌, Bool, true, false, Some, refl, ap, ◌∙◌, arith}
+-- Each instruction with fields in range is what is read from its word, row by row.
+use Rattle.std.proofs.Common.{◌≡◌, ℕ, ◌==◌, Bool, true, false, Some, refl, ap, ◌∙◌, arith}
 use Rattle.std.proofs.lemmas.Bool.Decides.{nat_tests}
 use Rattle.a64_table.specs.Table.{SelectCond, word_of, InRange, shift_number, cond_number, bit_number}
-use Rattle.a64_table.specs.Decode.{bits, shift_of, cond_of, row_at, immediate_row, memory_row, branch_row, register_row, source_row}
+use Rattle.a64_table.specs.Decode.{bits, shift_of, cond_of, row_at, immediate_row, memory_row, branch_row, register_row, bitwise_row, sum_row, source_row, product_row}
 use Rattle.a64_instr.specs.declared.instr.Shift.{Shift}
 use Rattle.a64_instr.specs.declared.instr.Shift.TheVariants.{Lsl, Lsr, Asr}
 use Rattle.a64_instr.specs.declared.instr.Cond.{Cond}
@@ -14,11 +14,6 @@ shift_again : (s : Shift) → shift_of (shift_number s) ≡ s
 shift_again Lsl = refl
 shift_again Lsr = refl
 shift_again Asr = refl
-
-shift_small : (s : Shift) → shift_number s < 3
-shift_small Lsl = omega arith
-shift_small Lsr = omega arith
-shift_small Asr = omega arith
 
 cond_again : (c : Cond) → cond_of (cond_number c) ≡ c
 cond_again Eq = refl
@@ -58,39 +53,39 @@ unfolding row_at immediate_row
 subs_imm rd rn imm high h = grind (arith, nat_tests, bit_again high)
 
 add_reg : (rd rn rm by : ℕ) (shift : Shift) → Reads (AddReg rd rn rm shift by)
-unfolding row_at register_row
+unfolding row_at register_row sum_row
 add_reg rd rn rm by shift h = grind (arith, nat_tests, shift_again shift)
 
 sub_reg : (rd rn rm by : ℕ) (shift : Shift) → Reads (SubReg rd rn rm shift by)
-unfolding row_at register_row
+unfolding row_at register_row sum_row
 sub_reg rd rn rm by shift h = grind (arith, nat_tests, shift_again shift)
 
 subs_reg : (rd rn rm by : ℕ) (shift : Shift) → Reads (SubsReg rd rn rm shift by)
-unfolding row_at register_row
+unfolding row_at register_row sum_row
 subs_reg rd rn rm by shift h = grind (arith, nat_tests, shift_again shift)
 
 and_reg : (rd rn rm by : ℕ) (shift : Shift) → Reads (AndReg rd rn rm shift by)
-unfolding row_at register_row
+unfolding row_at register_row bitwise_row
 and_reg rd rn rm by shift h = grind (arith, nat_tests, shift_again shift)
 
 bic_reg : (rd rn rm by : ℕ) (shift : Shift) → Reads (BicReg rd rn rm shift by)
-unfolding row_at register_row
+unfolding row_at register_row bitwise_row
 bic_reg rd rn rm by shift h = grind (arith, nat_tests, shift_again shift)
 
 orr_reg : (rd rn rm by : ℕ) (shift : Shift) → Reads (OrrReg rd rn rm shift by)
-unfolding row_at register_row
+unfolding row_at register_row bitwise_row
 orr_reg rd rn rm by shift h = grind (arith, nat_tests, shift_again shift)
 
 orn_reg : (rd rn rm by : ℕ) (shift : Shift) → Reads (OrnReg rd rn rm shift by)
-unfolding row_at register_row
+unfolding row_at register_row bitwise_row
 orn_reg rd rn rm by shift h = grind (arith, nat_tests, shift_again shift)
 
 eor_reg : (rd rn rm by : ℕ) (shift : Shift) → Reads (EorReg rd rn rm shift by)
-unfolding row_at register_row
+unfolding row_at register_row bitwise_row
 eor_reg rd rn rm by shift h = grind (arith, nat_tests, shift_again shift)
 
 ands_reg : (rd rn rm by : ℕ) (shift : Shift) → Reads (AndsReg rd rn rm shift by)
-unfolding row_at register_row
+unfolding row_at register_row bitwise_row
 ands_reg rd rn rm by shift h = grind (arith, nat_tests, shift_again shift)
 
 movn : (rd imm half : ℕ) → Reads (Movn rd imm half)
@@ -106,11 +101,11 @@ unfolding row_at immediate_row
 movk rd imm half h = grind (arith, nat_tests)
 
 madd : (rd rn rm ra : ℕ) → Reads (Madd rd rn rm ra)
-unfolding row_at register_row
+unfolding row_at register_row product_row
 madd rd rn rm ra h = grind (arith, nat_tests)
 
 msub : (rd rn rm ra : ℕ) → Reads (Msub rd rn rm ra)
-unfolding row_at register_row
+unfolding row_at register_row product_row
 msub rd rn rm ra h = grind (arith, nat_tests)
 
 sdiv : (rd rn rm : ℕ) → Reads (Sdiv rd rn rm)
@@ -146,7 +141,7 @@ csinc rd rn rm c h =
     grind (arith, nat_tests, ap cond_of number ∙ cond_again c)
 
 csneg : (rd rn rm : ℕ) (c : Cond) → Reads (Csneg rd rn rm c)
-unfolding row_at register_row
+unfolding row_at register_row source_row
 csneg rd rn rm c h =
     let number : bits (word_of (Csneg rd rn rm c)) SelectCond ≡ cond_number c = omega arith in
     grind (arith, nat_tests, ap cond_of number ∙ cond_again c)

@@ -84,7 +84,34 @@ memory_row w = beside (w / 2 ^ 22) (
     (0x0E0, Some (StrbReg (bits w Rd) (bits w Rn) (bits w Rm))) ∷
     [])
 
--- bits 31:24 are 9A: divisions and shifts (bits 23:21 are 110) and selects (100)
+-- bits 28:24 are 01010: bitwise, with a shifted register, complemented where bit 21 is 1
+unfoldable pub bitwise_row : ℕ → Option Instr
+bitwise_row w = beside (w / 2 ^ 24) ((
+  0x8A,
+  beside (w / 2 ^ 21 % 2) (
+      (0, Some (AndReg (bits w Rd) (bits w Rn) (bits w Rm) (shift_of (bits w ShiftType)) (bits w Imm6))) ∷
+      (1, Some (BicReg (bits w Rd) (bits w Rn) (bits w Rm) (shift_of (bits w ShiftType)) (bits w Imm6))) ∷
+      []),
+) ∷ (
+  0xAA,
+  beside (w / 2 ^ 21 % 2) (
+      (0, Some (OrrReg (bits w Rd) (bits w Rn) (bits w Rm) (shift_of (bits w ShiftType)) (bits w Imm6))) ∷
+      (1, Some (OrnReg (bits w Rd) (bits w Rn) (bits w Rm) (shift_of (bits w ShiftType)) (bits w Imm6))) ∷
+      []),
+) ∷
+    (0xCA, Some (EorReg (bits w Rd) (bits w Rn) (bits w Rm) (shift_of (bits w ShiftType)) (bits w Imm6))) ∷
+    (0xEA, Some (AndsReg (bits w Rd) (bits w Rn) (bits w Rm) (shift_of (bits w ShiftType)) (bits w Imm6))) ∷
+    [])
+
+-- bits 28:24 are 01011: sums and differences, with a shifted register
+unfoldable pub sum_row : ℕ → Option Instr
+sum_row w = beside (w / 2 ^ 24) (
+    (0x8B, Some (AddReg (bits w Rd) (bits w Rn) (bits w Rm) (shift_of (bits w ShiftType)) (bits w Imm6))) ∷
+    (0xCB, Some (SubReg (bits w Rd) (bits w Rn) (bits w Rm) (shift_of (bits w ShiftType)) (bits w Imm6))) ∷
+    (0xEB, Some (SubsReg (bits w Rd) (bits w Rn) (bits w Rm) (shift_of (bits w ShiftType)) (bits w Imm6))) ∷
+    [])
+
+-- bits 28:24 are 11010: divisions and shifts (bits 23:21 are 110) and selects (bits 23:21 are 100)
 unfoldable pub source_row : ℕ → Option Instr
 source_row w = beside (w / 2 ^ 21) ((
   0x4D6,
@@ -97,41 +124,28 @@ source_row w = beside (w / 2 ^ 21) ((
       []),
 ) ∷ (
   0x4D4,
-  beside (w / 2 ^ 10 % 4) (
+  beside (w / 2 ^ 10 % 2) (
       (0, Some (Csel (bits w Rd) (bits w Rn) (bits w Rm) (cond_of (bits w SelectCond)))) ∷
       (1, Some (Csinc (bits w Rd) (bits w Rn) (bits w Rm) (cond_of (bits w SelectCond)))) ∷
       []),
 ) ∷
+    (0x6D4, Some (Csneg (bits w Rd) (bits w Rn) (bits w Rm) (cond_of (bits w SelectCond)))) ∷
+    [])
+
+-- bits 28:24 are 11011: products, added, or taken away where bit 15 is 1
+unfoldable pub product_row : ℕ → Option Instr
+product_row w = beside (w / 2 ^ 15 % 2) (
+    (0, Some (Madd (bits w Rd) (bits w Rn) (bits w Rm) (bits w Ra))) ∷
+    (1, Some (Msub (bits w Rd) (bits w Rn) (bits w Rm) (bits w Ra))) ∷
     [])
 
 -- bits 28:25 are x101: register operands
 unfoldable pub register_row : ℕ → Option Instr
-register_row w = beside (w / 2 ^ 24) (
-    (0x8B, Some (AddReg (bits w Rd) (bits w Rn) (bits w Rm) (shift_of (bits w ShiftType)) (bits w Imm6))) ∷
-    (0xCB, Some (SubReg (bits w Rd) (bits w Rn) (bits w Rm) (shift_of (bits w ShiftType)) (bits w Imm6))) ∷
-    (0xEB, Some (SubsReg (bits w Rd) (bits w Rn) (bits w Rm) (shift_of (bits w ShiftType)) (bits w Imm6))) ∷ (
-      0x8A,
-      beside (w / 2 ^ 21 % 2) (
-          (0, Some (AndReg (bits w Rd) (bits w Rn) (bits w Rm) (shift_of (bits w ShiftType)) (bits w Imm6))) ∷
-          (1, Some (BicReg (bits w Rd) (bits w Rn) (bits w Rm) (shift_of (bits w ShiftType)) (bits w Imm6))) ∷
-          []),
-    ) ∷ (
-      0xAA,
-      beside (w / 2 ^ 21 % 2) (
-          (0, Some (OrrReg (bits w Rd) (bits w Rn) (bits w Rm) (shift_of (bits w ShiftType)) (bits w Imm6))) ∷
-          (1, Some (OrnReg (bits w Rd) (bits w Rn) (bits w Rm) (shift_of (bits w ShiftType)) (bits w Imm6))) ∷
-          []),
-    ) ∷
-    (0xCA, Some (EorReg (bits w Rd) (bits w Rn) (bits w Rm) (shift_of (bits w ShiftType)) (bits w Imm6))) ∷
-    (0xEA, Some (AndsReg (bits w Rd) (bits w Rn) (bits w Rm) (shift_of (bits w ShiftType)) (bits w Imm6))) ∷ (
-      0x9B,
-      beside (w / 2 ^ 15 % 2) (
-          (0, Some (Madd (bits w Rd) (bits w Rn) (bits w Rm) (bits w Ra))) ∷
-          (1, Some (Msub (bits w Rd) (bits w Rn) (bits w Rm) (bits w Ra))) ∷
-          []),
-    ) ∷
-    (0x9A, source_row w) ∷
-    (0xDA, Some (Csneg (bits w Rd) (bits w Rn) (bits w Rm) (cond_of (bits w SelectCond)))) ∷
+register_row w = beside (w / 2 ^ 24 % 2 ^ 5) (
+    (0x0A, bitwise_row w) ∷
+    (0x0B, sum_row w) ∷
+    (0x1A, source_row w) ∷
+    (0x1B, product_row w) ∷
     [])
 
 -- the only row that can have the word, with the word's fields

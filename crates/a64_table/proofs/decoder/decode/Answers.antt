@@ -1,4 +1,4 @@
-use Rattle.std.proofs.Common.{◌≡◌, ℕ, Option, ◌∙◌, sym, subst}
+use Rattle.std.proofs.Common.{◌≡◌, ℕ, Option, refl, ◌∙◌, sym, subst}
 use Rattle.std.specs.Prelude.{IfSome}
 use Rattle.a64_table.specs.Table.{word_of, InRange}
 use Rattle.a64_table.specs.Decode.{decode_of}
@@ -14,12 +14,12 @@ returns-in_err-instr c =
     let same = c.from_residual.ensures ∙ sym (no_row c.args.word (sym c.row.ensures ∙ c.in_err-instr.was)) in
     record { same = same; found = found_so c.args.word _ same; only = λ i h is. same ∙ only c.args.word i h is }
 
-pub returns-then-encode-word : goal.returns-then-encode-word
-returns-then-encode-word c =
-    let same = sym (that_row c.args.word c.in_ok-instr.instr (sym c.row.ensures ∙ c.in_ok-instr.was) (sym c.encode.ensures.word ∙ c.if-encode-word.true)) in
+pub returns-then-is_word_of : goal.returns-then-is_word_of
+returns-then-is_word_of c =
+    let same = sym (that_row c.args.word c.in_ok-instr.instr (sym c.row.ensures ∙ c.in_ok-instr.was) (c.if-is_word_of.ensures.0 refl)) in
     record { same = same; found = found_so c.args.word _ same; only = λ i h is. same ∙ only c.args.word i h is }
 
-pub returns-else-encode-word : goal.returns-else-encode-word
-returns-else-encode-word c =
-    let same = sym (another_row c.args.word c.in_ok-instr.instr (sym c.row.ensures ∙ c.in_ok-instr.was) (λ e. c.if-encode-word.false (c.encode.ensures.word ∙ e))) in
+pub returns-else-is_word_of : goal.returns-else-is_word_of
+returns-else-is_word_of c =
+    let same = sym (another_row c.args.word c.in_ok-instr.instr (sym c.row.ensures ∙ c.in_ok-instr.was) (λ is. let false_is_true = c.if-is_word_of.ensures.1 is in cc)) in
     record { same = same; found = found_so c.args.word _ same; only = λ i h is. same ∙ only c.args.word i h is }
