@@ -1,3 +1,5 @@
 pub mod Places
 pub mod Slabs
 pub mod Stores
+pub mod Cells
+pub mod Blocks
