@@ -2,7 +2,7 @@
 use Rattle.std.proofs.Common.{◌≡◌, ℕ, zero, suc, ◌+◌, ◌-◌, ◌%◌, ◌^◌, ◌<◌, ◌≤◌, ◌⊎◌, ⊎_elim, inl, inr, List, [], ◌∷◌, ◌++◌, take, length, get_or, replicate, Bool, true, false, ◌||◌, cond, refl, arith, sym, ap, ap₂, ◌∙◌, mod-eq_of_lt, length-append, w64}
 use Rattle.std.proofs.lemmas.Bool.{cond-true, cond-false}
 use Rattle.std.proofs.lemmas.Bool.Decides.{nat_tests}
-use Rattle.std.proofs.lemmas.List.{append-nil, length-replicate, replicate-append-replicate}
+use Rattle.std.proofs.lemmas.List.{append-nil, length-replicate, replicate-append-replicate, drop-replicate, take-replicate}
 use Rattle.std.proofs.lemmas.Nat.{le_bytes_8}
 use Rattle.std.proofs.Math.Seq.{take-length}
 use Rattle.std.specs.Int.{from_le_bytes}
@@ -213,3 +213,8 @@ zero_more m low p i w r c =
     ap (λ k. with_bytes (with_bytes m p (replicate i 0)) (p + k) (replicate w 0)) (sym (length-replicate {A = ℕ} i 0))
     ∙ with_bytes-with_bytes_next m low p (replicate i 0) (replicate w 0) r (ap₂ (λ a b. covers m p (a + b)) (length-replicate {A = ℕ} i 0) (length-replicate {A = ℕ} w 0) ∙ c)
     ∙ ap (with_bytes m p) (replicate-append-replicate i w 0)
+
+-- each cell in a block of zeros is the number 0
+pub loaded8_in_zeros : (m : List Area) (low p n q : ℕ) → IsRising low m → covers m p n ≡ true → bytes_at m p n ≡ replicate n 0 → p ≤ q → q + 8 ≤ p + n → loaded8 m q ≡ 0
+loaded8_in_zeros m low p n q r c e l g =
+    loaded8_zero m q (bytes_at-part m low p n q 8 r c l g ∙ ap (λ bs. slab bs (q - p) 8) e ∙ ap (take 8) (drop-replicate (q - p) n 0) ∙ take-replicate 8 (n - (q - p)) 0 (omega arith))

@@ -3,3 +3,4 @@ pub mod Slabs
 pub mod Stores
 pub mod Cells
 pub mod Blocks
+pub mod Shapes
