@@ -4,3 +4,4 @@ pub mod Stores
 pub mod Cells
 pub mod Blocks
 pub mod Shapes
+pub mod Copies
