@@ -6,18 +6,19 @@ use Rattle.a64_memory.specs.Bytes.{slab}
 use Rattle.a64_memory.specs.Memory.{Area, lies, covers, bytes_at, written, with_bytes, IsRising, AreBytes, IsOfBytes, shapes}
 use Rattle.a64_memory.proofs.Slabs.{length-splice, slab-splice_same, slab-splice_apart, length-slab, small_splice}
 
-lies-base : (a : Area) (p n : ℕ) → lies a p n ≡ true → a.base ≤ p
+-- what it means that bytes lie in an area
+pub lies-base : (a : Area) (p n : ℕ) → lies a p n ≡ true → a.base ≤ p
 lies-base a p n h = grind (arith, nat_tests)
 
-lies-end : (a : Area) (p n : ℕ) → lies a p n ≡ true → p - a.base + n ≤ length a.bytes
+pub lies-end : (a : Area) (p n : ℕ) → lies a p n ≡ true → p - a.base + n ≤ length a.bytes
 lies-end a p n h = grind (arith, nat_tests)
 
 -- a store in an area leaves its base and its length
-length-written : (a : Area) (p : ℕ) (bs : List ℕ) → lies a p (length bs) ≡ true → length (written a p bs).bytes ≡ length a.bytes
+pub length-written : (a : Area) (p : ℕ) (bs : List ℕ) → lies a p (length bs) ≡ true → length (written a p bs).bytes ≡ length a.bytes
 length-written a p bs h = length-splice a.bytes (p - a.base) bs (lies-end a p (length bs) h)
 
 -- what lies in an area still lies there after a store
-lies-written : (a : Area) (p : ℕ) (bs : List ℕ) (q k : ℕ) → lies a p (length bs) ≡ true → lies (written a p bs) q k ≡ lies a q k
+pub lies-written : (a : Area) (p : ℕ) (bs : List ℕ) (q k : ℕ) → lies a p (length bs) ≡ true → lies (written a p bs) q k ≡ lies a q k
 lies-written a p bs q k h = ap (λ l. nat_le a.base q && nat_le (q + k) (a.base + l)) (length-written a p bs h)
 
 -- the bases and lengths of the areas stay
