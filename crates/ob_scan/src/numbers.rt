@@ -5,7 +5,7 @@ use crate::fault::NoSymbol;
 use ob_symbol::Kind;
 
 ghost use Rattle.std.specs.Prelude.{◌≡◌, ℕ, ◌+◌, ◌^◌, ◌<◌, ◌≤◌, length, drop, true, get_or, slice_index, MatchOption, IfOk, IfErr, IsTrue};
-ghost use Rattle.ob_scan.specs.Words.{is_digit, is_hexadecimal, is_all, digit, value_from};
+ghost use Rattle.ob_scan.specs.Words.{is_digit, is_hexadecimal, is_all, digit, value_from, signed};
 ghost use Rattle.ob_scan.specs.Steps.{Found, Refused};
 
 /// The value of a digit or of a letter A to F.
@@ -28,7 +28,7 @@ fn decimal_value(digits: &[u8]) -> Option<u64>
 {
     let mut value: u64 = 0;
     for b in digits {
-        let digit = u64::from(b.saturating_sub(b'0'));
+        let digit = u64::from(digit_of(*b));
         if value > (9223372036854775807 - digit) / 10 {
             return None;
         }
@@ -54,6 +54,13 @@ fn hexadecimal_value(digits: &[u8], most: u64) -> Option<u64>
     Some(value)
 }
 
+/// A number modulo 2^64 as a signed number.
+fn signed_of(n: u64) -> i64
+    ensures { result ≡ signed n }
+{
+    n.cast_signed()
+}
+
 /// The number or character that begins with the digit here, and the place after it.
 pub fn number(bytes: &[u8], at: usize) -> Result<(Kind, usize), NoSymbol>
     requires inside { at < length bytes.now }
@@ -65,7 +72,7 @@ pub fn number(bytes: &[u8], at: usize) -> Result<(Kind, usize), NoSymbol>
     let suffix = hexadecimal_end(bytes, at + 1);
     if has_byte(bytes, suffix, b'H') {
         match hexadecimal_value(&bytes[at..suffix], u64::MAX) {
-            Some(n) => Ok((Kind::Int(n.cast_signed()), suffix + 1)),
+            Some(n) => Ok((Kind::Int(signed_of(n)), suffix + 1)),
             None => Err(NoSymbol::NumberTooLarge),
         }
     } else if has_byte(bytes, suffix, b'X') {
@@ -76,7 +83,7 @@ pub fn number(bytes: &[u8], at: usize) -> Result<(Kind, usize), NoSymbol>
     } else {
         let to = digits_end(bytes, at + 1);
         match decimal_value(&bytes[at..to]) {
-            Some(n) => Ok((Kind::Int(n.cast_signed()), to)),
+            Some(n) => Ok((Kind::Int(signed_of(n)), to)),
             None => Err(NoSymbol::NumberTooLarge),
         }
     }

@@ -1,6 +1,6 @@
 //! Strings between quotes.
 
-use crate::classes::quotable_end;
+use crate::classes::{has_byte, quotable_end};
 use crate::fault::NoSymbol;
 use ob_symbol::Kind;
 
@@ -16,7 +16,7 @@ pub fn quoted(bytes: &[u8], at: usize) -> Result<(Kind, usize), NoSymbol>
     ensures refused { IfErr result (λ e. Refused (drop at bytes.now) e) }
 {
     let end = quotable_end(bytes, at + 1);
-    if end < bytes.len() && bytes[end] == b'"' {
+    if has_byte(bytes, end, b'"') {
         Ok((Kind::Text, end + 1))
     } else {
         Err(NoSymbol::OpenString)

@@ -1,0 +1,5 @@
+mod Gaps
+mod Longest
+mod Places
+mod Turns
+mod Once
