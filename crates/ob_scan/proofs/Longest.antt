@@ -43,7 +43,7 @@ then_one : (p : ℕ → Bool) (last y : ℕ) (w : List ℕ) → p y ≡ true →
 then_one p last y [] h n = elim (nat_eq y last) as (λ b. (b ≡ true → y ≡ last) → b ≡ false) [ true ↦ λ f. (let same = f refl in let q = ap p same in cc) | false ↦ λ f. refl ] (λ e. grind arith)
 then_one p last y (c ∷ w) h n = cond_true (p y) _ _ h
 
-then_all : (p : ℕ → Bool) (last : ℕ) (s : List ℕ) → p last ≡ false → is_all p s ≡ true → is_all_then p last (s ++ (last ∷ [])) ≡ true
+pub then_all : (p : ℕ → Bool) (last : ℕ) (s : List ℕ) → p last ≡ false → is_all p s ≡ true → is_all_then p last (s ++ (last ∷ [])) ≡ true
 then_all p last [] n h = grind arith
 then_all p last (y ∷ s) n h = then_one p last y (s ++ (last ∷ [])) (all_first p y s h) n ∙ then_all p last s n (all_rest p y s h)
 
@@ -54,7 +54,7 @@ then_longer p last (a ∷ []) x y u n h = cond_true (p a) _ _ (all_first p a [] 
 then_longer p last (a ∷ b ∷ s) x y u n h = cond_true (p a) _ _ (all_first p a (b ∷ s) h) ∙ then_longer p last (b ∷ s) x y u n (all_rest p a (b ∷ s) h)
 
 -- no beginning of a text is such a word, where the bytes that pass are followed by another byte or by none
-then_never : (p : ℕ → Bool) (last : ℕ) (s r u v : List ℕ) → p last ≡ false → is_all p s ≡ true → ((x : ℕ) (y : List ℕ) → r ≡ x ∷ y → p x ≡ false) → begins_with last r ≡ false → s ++ r ≡ u ++ v → is_all_then p last u ≡ false
+pub then_never : (p : ℕ → Bool) (last : ℕ) (s r u v : List ℕ) → p last ≡ false → is_all p s ≡ true → ((x : ℕ) (y : List ℕ) → r ≡ x ∷ y → p x ≡ false) → begins_with last r ≡ false → s ++ r ≡ u ++ v → is_all_then p last u ≡ false
 then_never p last s r [] v n h stop begins e = refl
 then_never p last [] r (x ∷ []) v n h stop begins e = sym (ap (begins_with last) e) ∙ begins
 then_never p last [] r (x ∷ y ∷ u) v n h stop begins e = cond_false (p x) _ _ (stop x (y ∷ u ++ v) e)

@@ -236,3 +236,54 @@ two_found w i d lt l g q h =
 
 pub none_found : (w : List ℕ) (i : ℕ) → i < length w → is_letter (get_or w i 0) ≡ false → is_digit (get_or w i 0) ≡ false → nat_eq (get_or w i 0) 34 ≡ false → None ≡ one_mark (get_or w i 0) → NoBeginning (drop i w)
 none_found w i lt l g q h = record { byte = get_or w i 0; rest = drop (suc i) w; split = here w i lt; is = λ u. no_beginning (get_or w i 0) u l g q (sym h) }
+
+-- the turns of a scan
+
+pub reads_at : (w : List ℕ) (i from to : ℕ) (kind : Kind) → i ≤ length w → from ≤ length w → to ≤ length w → Past (drop i w) (drop from w) → begins_comment (drop from w) ≡ false → Found (drop from w) (drop to w) kind →
+    (more : List Symbol) (e : End) → Scans to (drop to w) more e → Scans i (drop i w) (symbol kind from to ∷ more) e
+reads_at w i from to kind h g t p nc s more e x =
+    let a = place_of w i from p.gap h g p.split in
+    let b = place_of w from to s.word g t s.split in
+    let ab : i + length p.gap + length s.word ≡ to = ap (λ n. n + length s.word) a ∙ b in
+    let y = reads {i = i} {form = s.form} {more = more} {e = e} (subst (Gap p.gap) s.split p.is) (ap begins_comment (sym s.split) ∙ nc) s.is s.within (subst (λ n. Scans n (drop to w) more e) (sym ab) x) in
+    let z = subst (λ n. Scans i (p.gap ++ (s.word ++ drop to w)) (symbol (kind_of s.form) (i + length p.gap) n ∷ more) e) ab y in
+    let z' = subst (λ n. Scans i (p.gap ++ (s.word ++ drop to w)) (symbol (kind_of s.form) n to ∷ more) e) a z in
+    let z'' = subst (λ (k : Kind). Scans i (p.gap ++ (s.word ++ drop to w)) (symbol k from to ∷ more) e) (sym s.kind_is) z' in
+    subst (λ u. Scans i u (symbol kind from to ∷ more) e) (sym (p.split ∙ ap (λ u. p.gap ++ u) s.split)) z''
+
+pub ends_at : (w : List ℕ) (i from : ℕ) → Past (drop i w) (drop from w) → drop from w ≡ [] → Scans i (drop i w) [] Done
+ends_at w i from p e =
+    let same : drop i w ≡ p.gap = p.split ∙ (ap (λ u. p.gap ++ u) e ∙ append-nil p.gap) in
+    subst (λ u. Scans i u [] Done) (sym same) (ends (subst (Gap p.gap) e p.is))
+
+pub open_at : (w : List ℕ) (i from : ℕ) → i ≤ length w → from ≤ length w → Past (drop i w) (drop from w) → begins_comment (drop from w) ≡ true → Scans i (drop i w) [] (Broken 11 from)
+open_at w i from h g p c =
+    let a = place_of w i from p.gap h g p.split in
+    subst (λ u. Scans i u [] (Broken 11 from)) (sym p.split) (subst (λ n. Scans i (p.gap ++ drop from w) [] (Broken 11 n)) a (open_comment p.is c))
+
+-- the rule that is broken where no symbol stands
+pub refused_at : (w : List ℕ) (i from : ℕ) (none : NoSymbol) → i ≤ length w → from < length w → Past (drop i w) (drop from w) → begins_comment (drop from w) ≡ false → Refused (drop from w) none → Scans i (drop i w) [] (Broken (rule none) from)
+refused_at w i from BadByte h g p c r =
+    let a = place_of w i from p.gap h (omega arith) p.split in
+    let y = bad_byte {i = i} (subst (Gap p.gap) r.split p.is) (ap begins_comment (sym r.split) ∙ c) r.is in
+    subst (λ u. Scans i u [] (Broken 10 from)) (sym (p.split ∙ ap (λ u. p.gap ++ u) r.split)) (subst (λ n. Scans i (p.gap ++ (r.byte ∷ r.rest)) [] (Broken 10 n)) a y)
+refused_at w i from OpenString h g p c r =
+    let a = place_of w i from p.gap h (omega arith) p.split in
+    subst (λ u. Scans i u [] (Broken 12 from)) (sym p.split) (subst (λ n. Scans i (p.gap ++ drop from w) [] (Broken 12 n)) a (open_string p.is r))
+refused_at w i from NumberTooLarge h g p c r =
+    let a = place_of w i from p.gap h (omega arith) p.split in
+    let y = too_large {i = i} (subst (Gap p.gap) r.split p.is) (ap begins_comment (sym r.split) ∙ c) r.is r.past in
+    subst (λ u. Scans i u [] (Broken 13 from)) (sym (p.split ∙ ap (λ u. p.gap ++ u) r.split)) (subst (λ n. Scans i (p.gap ++ (r.word ++ r.rest)) [] (Broken 13 n)) a y)
+refused_at w i from NameTooLong h g p c r =
+    let a = place_of w i from p.gap h (omega arith) p.split in
+    let y = too_long {i = i} (subst (Gap p.gap) r.split p.is) (ap begins_comment (sym r.split) ∙ c) r.is r.past in
+    subst (λ u. Scans i u [] (Broken 14 from)) (sym (p.split ∙ ap (λ u. p.gap ++ u) r.split)) (subst (λ n. Scans i (p.gap ++ (r.word ++ r.rest)) [] (Broken 14 n)) a y)
+
+pub add_symbol : (w : List ℕ) (out : List Symbol) (s : Symbol) (more : List Symbol) (e : End) → Scans zero w (out ++ (s ∷ more)) e → Scans zero w ((out ++ (s ∷ [])) ++ more) e
+add_symbol w out s more e h = subst (λ z. Scans zero w z e) (sym (append_assoc out (s ∷ []) more)) h
+
+pub finished : (w : List ℕ) (out : List Symbol) → Scans zero w (out ++ []) Done → Scans zero w out Done
+finished w out h = subst (λ z. Scans zero w z Done) (append-nil out) h
+
+pub stopped : (w : List ℕ) (out : List Symbol) (number rule at : ℕ) → number ≡ rule → Scans zero w (out ++ []) (Broken rule at) → (before : List Symbol) × Scans zero w before (Broken number at)
+stopped w out number rule at e h = (out ++ [], subst (λ n. Scans zero w (out ++ []) (Broken n at)) (sym e) h)
