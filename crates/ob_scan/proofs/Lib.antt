@@ -2,4 +2,6 @@ mod Gaps
 mod Longest
 mod Places
 mod Turns
-mod Once
+pub mod Once
+pub mod Order
+pub mod Every

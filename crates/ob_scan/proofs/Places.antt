@@ -35,7 +35,7 @@ eq_of x a c h = elim (nat_eq x a) as (λ b. (b ≡ true → x ≡ a) → true �
 pub eq_at : (x a : ℕ) → true ≡ nat_eq x a → x ≡ a
 eq_at x a h = grind arith
 
-two_there : (a b : ℕ) (w : List ℕ) → true ≡ is_two a b w → (v : List ℕ) × (w ≡ a ∷ b ∷ v)
+pub two_there : (a b : ℕ) (w : List ℕ) → true ≡ is_two a b w → (v : List ℕ) × (w ≡ a ∷ b ∷ v)
 two_there a b [] h = cc
 two_there a b (x ∷ []) h = cc
 two_there a b (x ∷ y ∷ w) h =
@@ -51,7 +51,7 @@ short a b (x ∷ []) zero h l = refl
 short a b (x ∷ y ∷ w) zero h l = absurd (omega arith)
 short a b (x ∷ w) (suc i) h l = short a b w i (omega arith) (omega arith)
 
-one_there : (a : ℕ) (v : List ℕ) → true ≡ begins_with a v → (u : List ℕ) × (v ≡ a ∷ u)
+pub one_there : (a : ℕ) (v : List ℕ) → true ≡ begins_with a v → (u : List ℕ) × (v ≡ a ∷ u)
 one_there a [] h = cc
 one_there a (x ∷ v) h = let q = eq_at x a h in (v, ap (λ z. z ∷ v) q)
 

@@ -74,6 +74,11 @@ pub record Spells (w : List ℕ) (s : Symbol) : Type 0 where
   pub kind : s.kind ≡ kind_of form
   pub within : IsWithin form (slice_range w s.from s.to)
 
+-- each of the symbols spells its kind
+pub data AllSpell (w : List ℕ) : List Symbol → Type 0 where
+  none_spelled : AllSpell w []
+  spelled : {s : Symbol} {more : List Symbol} → Spells w s → AllSpell w more → AllSpell w (s ∷ more)
+
 -- symbols that lie one after another in the bytes from low up to high, none of them empty
 pub data InOrder : ℕ → List Symbol → ℕ → Type 0 where
   none : {low high : ℕ} → low ≤ high → InOrder low [] high

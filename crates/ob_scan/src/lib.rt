@@ -17,6 +17,6 @@ mod reserved;
 mod scanner;
 
 pub use fault::ScanFault;
-pub use laws::scans_once;
+pub use laws::{each_text_is_scanned, scans_once, symbols_lie_in_order, symbols_spell_their_kinds};
 pub use ob_symbol::{Delimiter, Kind, Reserved, Symbol};
 pub use scanner::scan;
