@@ -168,8 +168,8 @@ decimal_longest b v s r h q d p hex no_h no_x = record {
         let all = all_more is_hexadecimal b h (digit_is_hexadecimal b d) hex.all in
         let same : b ∷ (h ++ q) ≡ b ∷ ((s ++ (x ∷ u)) ++ w) = ap (λ z. b ∷ z) (sym hex.split ∙ (p.split ∙ (ap (λ z. s ++ z) e ∙ sym (append_assoc s (x ∷ u) w)))) in
         let n = number_form_none (b ∷ (s ++ (x ∷ u))) (not_all is_digit (b ∷ s) x u (p.stop x (u ++ w) e))
-            (then_never is_hexadecimal 72 (b ∷ h) q (b ∷ (s ++ (x ∷ u))) w refl all hex.stop no_h same)
-            (then_never is_hexadecimal 88 (b ∷ h) q (b ∷ (s ++ (x ∷ u))) w refl all hex.stop no_x same) in
+        (then_never is_hexadecimal 72 (b ∷ h) q (b ∷ (s ++ (x ∷ u))) w refl all hex.stop no_h same)
+        (then_never is_hexadecimal 88 (b ∷ h) q (b ∷ (s ++ (x ∷ u))) w refl all hex.stop no_x same) in
         let m = form_of_digit b (s ++ (x ∷ u)) (digit_no_letter b d) d in
         cc
 

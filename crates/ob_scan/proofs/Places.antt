@@ -163,4 +163,3 @@ no_two [] (suc i) h l = refl
 no_two (x ∷ []) zero h l = refl
 no_two (x ∷ y ∷ w) zero h l = absurd (omega arith)
 no_two (x ∷ w) (suc i) h l = no_two w i (omega arith) (omega arith)
-

@@ -1,9 +1,9 @@
 //! Reserved words: one table, which the definition `reserved_of` has too.
 
-use ob_symbol::Reserved;
-
 ghost use Rattle.std.specs.Prelude.{◌≡◌};
 ghost use Rattle.ob_scan.specs.Tables.{is_same, reserved_of};
+
+use ob_symbol::Reserved;
 
 /// Whether two words are the same.
 fn is_word(word: &[u8], other: &[u8]) -> bool

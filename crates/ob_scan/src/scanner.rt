@@ -1,5 +1,10 @@
 //! One symbol, and all symbols of a text.
 
+ghost use Rattle.std.specs.Prelude.{◌≡◌, ℕ, zero, ◌<◌, ◌≤◌, length, drop, slice_index, false, IfOk, IfErr, nat_eq};
+ghost use Rattle.ob_scan.specs.Words.{is_letter, is_digit};
+ghost use Rattle.ob_scan.specs.Steps.{Found, Refused, rule};
+ghost use Rattle.ob_scan.specs.Scans.{Scans, Done, IsFirst, InOrder, Spells};
+
 use crate::blanks::skip;
 use crate::classes::{is_digit_byte, is_letter_byte};
 use crate::fault::{NoSymbol, ScanFault};
@@ -9,11 +14,6 @@ use crate::numbers::number;
 use crate::quoted::quoted;
 use ob_symbol::{Kind, Symbol};
 use std::alloc::Global;
-
-ghost use Rattle.std.specs.Prelude.{◌≡◌, ℕ, zero, ◌<◌, ◌≤◌, length, drop, slice_index, false, IfOk, IfErr, nat_eq};
-ghost use Rattle.ob_scan.specs.Words.{is_letter, is_digit};
-ghost use Rattle.ob_scan.specs.Steps.{Found, Refused, rule};
-ghost use Rattle.ob_scan.specs.Scans.{Scans, Done, IsFirst, InOrder, Spells};
 
 /// The operator or delimiter here, and the place after it.
 fn mark(bytes: &[u8], at: usize) -> Result<(Kind, usize), NoSymbol>
