@@ -1,4 +1,4 @@
-use Rattle.std.proofs.Common.{◌≡◌, ◌∙◌, sym, ap, arith, drop}
+use Rattle.std.proofs.Common.{arith}
 use Rattle.ob_scan.proofs.Places.{skips_blank, skips_comment, past_open, past_byte}
 use Rattle.ob_scan.proofs.blanks.skip.Goals as goal
 

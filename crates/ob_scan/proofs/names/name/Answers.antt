@@ -1,4 +1,4 @@
-use Rattle.std.proofs.Common.{◌≡◌, arith, sym}
+use Rattle.std.proofs.Common.{arith}
 use Rattle.ob_scan.specs.Words.{is_letter_or_digit}
 use Rattle.ob_scan.proofs.Turns.{run_at, keyword_found, name_found, name_broke}
 use Rattle.ob_scan.proofs.names.name.Goals as goal
