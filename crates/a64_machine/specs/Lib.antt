@@ -1,0 +1,5 @@
+pub mod State
+pub mod Services
+pub mod Effects
+pub mod Machine
+pub mod View

@@ -1,0 +1,88 @@
+-- The machine: its state at the start, and its steps.
+use Rattle.std.specs.Prelude.{ℕ, ◌+◌, ◌-◌, ◌*◌, ◌%◌, List, [], ◌∷◌, ◌++◌, replicate, ◌==◌, ◌&&◌, nat_le, Option, Some, None, slice_get, if◌then◌else◌}
+use Rattle.run_laws.specs.Runs.{Step, Moves, Ends, Traps, System}
+use Rattle.a64_numbers.specs.Conditions.{clear_flags}
+use Rattle.a64_memory.specs.Memory.{Area}
+use Rattle.a64_instr.specs.declared.instr.Instr.{Instr}
+use Rattle.a64_table.specs.Decode.{decode_of}
+use Rattle.image_form.specs.declared.image.Image.{Image}
+use Rattle.a64_machine.specs.State.{State, Trap, Undefined, BadAddress, code_base, place_at}
+use Rattle.a64_machine.specs.Effects.{effect}
+
+-- where the areas lie
+abbrev pub data_base : ℕ
+data_base = 0x10000000
+
+abbrev pub local_base : ℕ
+local_base = 0x20000000
+
+abbrev pub frames_base : ℕ
+frames_base = 0x40000000
+
+abbrev pub heap_base : ℕ
+heap_base = 0x80000000
+
+-- how many bytes they have
+unfoldable pub local_bytes : ℕ
+local_bytes = 8388608
+
+abbrev pub frames_bytes : ℕ → ℕ
+frames_bytes frame = 8193 * frame
+
+unfoldable pub heap_bytes : ℕ
+heap_bytes = 67108864
+
+-- so many bytes at an address, all of them 0
+abbrev pub zeroed : ℕ → ℕ → Area
+zeroed base bytes = record { base = base; bytes = replicate bytes 0 }
+
+-- globals with the constants behind them, local data, frames and heap
+abbrev pub first_memory : Image → List Area
+first_memory image =
+    record { base = data_base; bytes = replicate image.globals 0 ++ image.constants }
+    ∷ zeroed local_base local_bytes ∷ zeroed frames_base (frames_bytes image.frame) ∷ zeroed heap_base heap_bytes ∷ []
+
+-- local data, the calls that may still be open, the heap, its bytes and the cells of local data that are left, the globals
+abbrev pub first_registers : ℕ → ℕ
+first_registers n =
+    if n == 19 then local_base
+    else (if n == 20 then 8192
+    else (if n == 21 then heap_base
+    else (if n == 22 then 8388608
+    else (if n == 23 then 1048576
+    else (if n == 24 then data_base
+    else 0)))))
+
+-- the state in which an image is loaded
+abbrev pub start : Image → List ℕ → State
+start image input = record {
+  pc = code_base;
+  registers = first_registers;
+  sp = frames_base + frames_bytes image.frame;
+  flags = clear_flags;
+  memory = first_memory image;
+  input = input;
+}
+
+-- the code word at an address, where it is a multiple of 4 in the code
+abbrev pub fetch : List ℕ → ℕ → Option ℕ
+fetch code pc = if nat_le code_base pc && pc % 4 == 0 then slice_get code (place_at pc) else None
+
+abbrev pub decoded : ℕ → Option Instr → State → Step State Trap
+decoded word None s = Traps (Undefined word)
+decoded word (Some i) s = effect i s
+
+abbrev pub fetched : Option ℕ → State → Step State Trap
+fetched None s = Traps (BadAddress s.pc)
+fetched (Some word) s = decoded word (decode_of word) s
+
+-- a machine's step: the effect of the instruction that the fetched word stands for
+abbrev pub step_of : List ℕ → State → Step State Trap
+step_of code s = fetched (fetch code s.pc) s
+
+-- the machine that runs some code, and the machine that runs an image; its points are the numbers of code words
+abbrev pub system_of : List ℕ → System State Trap ℕ
+system_of code = record { step = step_of code; at = λ s. place_at s.pc }
+
+abbrev pub system : Image → System State Trap ℕ
+system image = system_of image.code
