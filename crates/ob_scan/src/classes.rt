@@ -1,0 +1,140 @@
+//! Classes of bytes, and how far a text stays in one.
+
+ghost use Rattle.std.specs.Prelude.{◌≡◌, ℕ, ◌≤◌, List, ◌∷◌, length, drop, true, false};
+ghost use Rattle.ob_scan.specs.Words.{is_letter, is_letter_or_digit, is_digit, is_hexadecimal, is_quotable, is_two, begins_with};
+ghost use Rattle.ob_scan.specs.Steps.{Passing};
+
+/// Whether these two bytes stand here.
+pub fn has_two(bytes: &[u8], at: usize, first: u8, second: u8) -> bool
+    requires { at ≤ length bytes.now }
+    ensures { result ≡ is_two first second (drop at bytes.now) }
+{
+    if bytes.len() - at >= 2 {
+        bytes[at] == first && bytes[at + 1] == second
+    } else {
+        false
+    }
+}
+
+/// Whether this byte stands here.
+pub fn has_byte(bytes: &[u8], at: usize, byte: u8) -> bool
+    requires { at ≤ length bytes.now }
+    ensures { result ≡ begins_with byte (drop at bytes.now) }
+{
+    at < bytes.len() && bytes[at] == byte
+}
+
+/// Whether a byte is a letter of ASCII.
+pub fn is_letter_byte(b: u8) -> bool
+    ensures { result ≡ is_letter b }
+{
+    (b >= b'A' && b < b'Z' + 1) || (b >= b'a' && b < b'z' + 1)
+}
+
+/// Whether a byte is a decimal digit.
+pub fn is_digit_byte(b: u8) -> bool
+    ensures { result ≡ is_digit b }
+{
+    b >= b'0' && b < b'9' + 1
+}
+
+/// Whether a byte is a letter or a digit.
+pub fn is_name_byte(b: u8) -> bool
+    ensures { result ≡ is_letter_or_digit b }
+{
+    if is_letter_byte(b) {
+        true
+    } else {
+        is_digit_byte(b)
+    }
+}
+
+/// Whether a byte is a digit or a letter A to F.
+pub fn is_hexadecimal_byte(b: u8) -> bool
+    ensures { result ≡ is_hexadecimal b }
+{
+    if is_digit_byte(b) {
+        true
+    } else {
+        b >= b'A' && b < b'F' + 1
+    }
+}
+
+/// Whether a byte may stand between quotes.
+pub fn is_quotable_byte(b: u8) -> bool
+    ensures { result ≡ is_quotable b }
+{
+    b != b'"' && b != b'\n' && b != b'\r'
+}
+
+/// The place after letters and digits.
+pub fn name_end(bytes: &[u8], from: usize) -> usize
+    requires { from ≤ length bytes.now }
+    ensures passing { Passing is_letter_or_digit (drop from bytes.now) (drop result bytes.now) }
+    ensures range { (from ≤ result) × (result ≤ length bytes.now) }
+    ensures stop { (x : ℕ) (y : List ℕ) → drop result bytes.now ≡ x ∷ y → is_letter_or_digit x ≡ false }
+{
+    let mut i = from;
+    'bytes: while i < bytes.len() {
+        if is_name_byte(bytes[i]) {
+            i += 1;
+        } else {
+            return i;
+        }
+    }
+    i
+}
+
+/// The place after decimal digits.
+pub fn digits_end(bytes: &[u8], from: usize) -> usize
+    requires { from ≤ length bytes.now }
+    ensures passing { Passing is_digit (drop from bytes.now) (drop result bytes.now) }
+    ensures range { (from ≤ result) × (result ≤ length bytes.now) }
+    ensures stop { (x : ℕ) (y : List ℕ) → drop result bytes.now ≡ x ∷ y → is_digit x ≡ false }
+{
+    let mut i = from;
+    'bytes: while i < bytes.len() {
+        if is_digit_byte(bytes[i]) {
+            i += 1;
+        } else {
+            return i;
+        }
+    }
+    i
+}
+
+/// The place after digits and letters A to F.
+pub fn hexadecimal_end(bytes: &[u8], from: usize) -> usize
+    requires { from ≤ length bytes.now }
+    ensures passing { Passing is_hexadecimal (drop from bytes.now) (drop result bytes.now) }
+    ensures range { (from ≤ result) × (result ≤ length bytes.now) }
+    ensures stop { (x : ℕ) (y : List ℕ) → drop result bytes.now ≡ x ∷ y → is_hexadecimal x ≡ false }
+{
+    let mut i = from;
+    'bytes: while i < bytes.len() {
+        if is_hexadecimal_byte(bytes[i]) {
+            i += 1;
+        } else {
+            return i;
+        }
+    }
+    i
+}
+
+/// The place after what may stand between quotes.
+pub fn quotable_end(bytes: &[u8], from: usize) -> usize
+    requires { from ≤ length bytes.now }
+    ensures passing { Passing is_quotable (drop from bytes.now) (drop result bytes.now) }
+    ensures range { (from ≤ result) × (result ≤ length bytes.now) }
+    ensures stop { (x : ℕ) (y : List ℕ) → drop result bytes.now ≡ x ∷ y → is_quotable x ≡ false }
+{
+    let mut i = from;
+    'bytes: while i < bytes.len() {
+        if is_quotable_byte(bytes[i]) {
+            i += 1;
+        } else {
+            return i;
+        }
+    }
+    i
+}
