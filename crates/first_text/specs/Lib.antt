@@ -1,0 +1,5 @@
+pub mod Syntax
+pub mod Trees
+pub mod Meaning
+pub mod Terminals
+pub mod Texts
