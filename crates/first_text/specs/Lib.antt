@@ -3,3 +3,4 @@ pub mod Trees
 pub mod Meaning
 pub mod Terminals
 pub mod Texts
+pub mod Reading

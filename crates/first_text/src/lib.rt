@@ -5,7 +5,9 @@
 //! a tree writes stand here; `read_text` finds the tree. The layer above cites `IsText` and `output_of`.
 #![tactic(auto)]
 
+mod fault;
 mod terminal;
 mod tree;
 
+pub use fault::TextFault;
 pub use tree::{Added, Factor, Sign, Simple, Statement, Term, Text};
