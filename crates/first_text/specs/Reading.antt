@@ -1,5 +1,6 @@
 -- How a reader goes through the terminals of a text, one by one; the proof of `read_text` alone speaks of it.
-use Rattle.std.specs.Prelude.{◌≡◌, ℕ, ◌+◌, ◌-◌, ◌≤◌, max, List, [], ◌∷◌, ◌++◌, Bool, true, false, nat_eq, nat_lt, nat_le, if◌then◌else◌, Option, None, Some, Result, Ok, Err, codes, ◌⊎◌}
+use Rattle.std.specs.Prelude.{◌≡◌, ℕ, ◌+◌, ◌-◌, ◌≤◌, max, List, [], ◌∷◌, ◌++◌, Bool, true, false, nat_eq, nat_lt, nat_le, if◌then◌else◌, Option, None, Some, Result, Ok, Err, codes, ◌⊎◌, ◌≢◌, ◌<◌, length, Vec}
+use Rattle.std.specs.Global.{Global}
 use Rattle.ob_scan.specs.Tables.{is_same}
 use Rattle.first_text.specs.declared.fault.TextFault.{TextFault}
 use Rattle.first_text.specs.declared.fault.TextFault.TheVariants.{NotText, Memory}
@@ -9,12 +10,13 @@ use Rattle.first_text.specs.declared.tree.Term.{Term}
 use Rattle.first_text.specs.declared.tree.Added.{Added}
 use Rattle.first_text.specs.declared.tree.Simple.{Simple}
 use Rattle.first_text.specs.declared.tree.Statement.{Statement}
+use Rattle.first_text.specs.declared.tree.Text.{Text}
 use Rattle.first_text.specs.declared.terminal.Fixed.{Fixed}
 use Rattle.first_text.specs.declared.terminal.Fixed.TheVariants.{Module, Import, Begin, End, Plus, Minus, Times, LeftParen, RightParen, Comma, Semicolon, Period}
 use Rattle.first_text.specs.Terminals.{Terminal, Name, Number, Exactly, Other}
 use Rattle.first_text.specs.Syntax.{Single, Leading}
 use Rattle.first_text.specs.Trees.{operand, product, sum, call}
-use Rattle.first_text.specs.Texts.{sign_terminal, sign_spelled, sign_values, operand_spelled, operand_depth, operand_values, product_spelled, product_depth, product_values, sum_spelled, sum_depth, sum_values, call_spelled, call_depth, call_values, statements_spelled, statements_depth, statements_values, rest_spelled}
+use Rattle.first_text.specs.Texts.{sign_terminal, sign_spelled, sign_values, operand_spelled, operand_depth, operand_values, product_spelled, product_depth, product_values, sum_spelled, sum_depth, sum_values, call_spelled, call_depth, call_values, statements_spelled, statements_depth, statements_values, rest_spelled, text_spelled}
 
 -- tests of a terminal
 
@@ -178,7 +180,7 @@ f ⧺ g = part (f.spelled ++ g.spelled) (max f.deep g.deep) (f.made + g.made)
 pub record Went (from to : Mode) (f : Part) (a b : Here) : Type 0 where
   pub text : a.ahead ≡ f.spelled ++ b.ahead
   pub depth : b.depth ≡ a.depth
-  pub room : f.deep + a.depth ≤ 100
+  pub room : f.deep ≤ 100 - a.depth
   pub values : b.values ≡ a.values + f.made
   pub by : (n : List ℕ) → here from n a ≡ here to n b
 
@@ -236,10 +238,17 @@ pub record Took (t : Terminal) (made : ℕ) (a b : Here) : Type 0 where
   pub depth : b.depth ≡ a.depth
   pub values : b.values ≡ a.values + made
 
+-- why it wasn't read: the first terminal ahead doesn't pass, or memory ran out
+abbrev pub MissedBy : (Terminal → Bool) → Here → TextFault → Type 0
+MissedBy p a NotText = is_next p a.ahead ≡ false
+MissedBy p a Memory = Unit {0}
+
+pub record Missed (p : Terminal → Bool) (a : Here) (e : TextFault) : Type 0 where
+  pub why : MissedBy p a e
+
 abbrev pub Takes : {X : Type 0} → (X → Terminal) → (Terminal → Bool) → ℕ → Here → Here → Result X TextFault → Type 0
 Takes t p made a b (Ok x) = Took (t x) made a b
-Takes t p made a b (Err NotText) = is_next p a.ahead ≡ false
-Takes t p made a b (Err Memory) = Unit {0}
+Takes t p made a b (Err e) = Missed p a e
 
 -- an integer
 abbrev pub is_number : Terminal → Bool
@@ -255,7 +264,89 @@ pub record Entered (a b : Here) : Type 0 where
   pub room : a.depth + 1 ≤ 100
   pub values : b.values ≡ a.values
 
+-- why none was opened: none is ahead, or 100 are open, or memory ran out
+abbrev pub ShutBy : Here → TextFault → Type 0
+ShutBy a NotText = (is_next (is_exactly LeftParen) a.ahead ≡ false) ⊎ (nat_lt a.depth 100 ≡ false)
+ShutBy a Memory = Unit {0}
+
+pub record Shut (a : Here) (e : TextFault) : Type 0 where
+  pub why : ShutBy a e
+
 abbrev pub Enters : Here → Here → Result (Unit {0}) TextFault → Type 0
 Enters a b (Ok x) = Entered a b
-Enters a b (Err NotText) = (is_next (is_exactly LeftParen) a.ahead ≡ false) ⊎ (nat_lt a.depth 100 ≡ false)
-Enters a b (Err Memory) = Unit {0}
+Enters a b (Err e) = Shut a e
+
+-- a parenthesis was closed from a to b
+pub record Left (a b : Here) : Type 0 where
+  pub text : a.ahead ≡ Exactly RightParen ∷ b.ahead
+  pub depth : b.depth + 1 ≡ a.depth
+  pub values : b.values ≡ a.values
+
+abbrev pub Leaves : Here → Here → Result (Unit {0}) TextFault → Type 0
+Leaves a b (Ok x) = Left a b
+Leaves a b (Err e) = Missed (is_exactly RightParen) a e
+
+-- no terminal is left
+abbrev pub is_end : List Terminal → Bool
+is_end [] = true
+is_end (t ∷ w) = false
+
+-- the arguments of a number's call: `(value, width)`
+abbrev pub arguments_part : Simple × ℕ → Part
+arguments_part x = part (Exactly LeftParen ∷ (sum_spelled (sum x.0) ++ (Exactly Comma ∷ Number x.1 ∷ Exactly RightParen ∷ []))) (1 + sum_depth (sum x.0)) (sum_values (sum x.0) + 1)
+
+-- statements, each before a semicolon
+abbrev pub before_spelled : List Statement → List Terminal
+before_spelled [] = []
+before_spelled (s ∷ rest) = call_spelled (call s) ++ (Exactly Semicolon ∷ before_spelled rest)
+
+abbrev pub before_part : List Statement → Part
+before_part ss = part (before_spelled ss) (statements_depth ss) (statements_values ss)
+
+-- from a module's name up to its statements
+abbrev pub import_part : Part
+import_part = part (Exactly Semicolon ∷ Exactly Import ∷ Name (codes "Out") ∷ Exactly Semicolon ∷ Exactly Begin ∷ []) 0 0
+
+-- the head of a module of this name was read from a to b
+pub record Named (name : List ℕ) (a b : Here) : Type 0 where
+  pub text : a.ahead ≡ Exactly Module ∷ Name name ∷ b.ahead
+  pub not_out : name ≢ codes "Out"
+  pub not_in : name ≢ codes "In"
+  pub depth : b.depth ≡ a.depth
+  pub values : b.values ≡ a.values
+  pub by : (n : List ℕ) → here AtModule n a ≡ here AtNameEnd name b
+
+abbrev pub Names : Here → Here → Result (Vec ℕ Global) TextFault → Type 0
+Names a b (Ok name) = Named name.items a b
+Names a b (Err e) = Fails AtModule a e
+
+-- a module of this name ends here, and made few enough values
+pub record Ended (name : List ℕ) (a : Here) : Type 0 where
+  pub text : a.ahead ≡ Exactly End ∷ Name name ∷ Exactly Period ∷ []
+  pub values : a.values ≤ 4000
+
+-- why it doesn't
+abbrev pub UnendedBy : List ℕ → Here → TextFault → Type 0
+UnendedBy name a NotText = here AtNext name a ≡ false
+UnendedBy name a Memory = Unit {0}
+
+pub record Unended (name : List ℕ) (a : Here) (e : TextFault) : Type 0 where
+  pub why : UnendedBy name a e
+
+abbrev pub EndsModule : List ℕ → Here → Result (Unit {0}) TextFault → Type 0
+EndsModule name a (Ok x) = Ended name a
+EndsModule name a (Err e) = Unended name a e
+
+-- the terminals ahead are a tree's
+pub record Read (t : Text) (w : List Terminal) : Type 0 where
+  pub spelled : w ≡ text_spelled t
+  pub some : 0 < length t.statements.items
+  pub not_out : t.name.items ≢ codes "Out"
+  pub not_in : t.name.items ≢ codes "In"
+  pub depth : statements_depth t.statements.items ≤ 100
+  pub values : statements_values t.statements.items ≤ 4000
+
+abbrev pub Reads : List Terminal → Result Text TextFault → Type 0
+Reads w (Ok t) = Read t w
+Reads w (Err NotText) = run (Some (point AtModule [] 0 0)) w ≡ false
+Reads w (Err Memory) = Unit {0}

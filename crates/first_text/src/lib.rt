@@ -6,8 +6,10 @@
 #![tactic(auto)]
 
 mod fault;
+mod parser;
 mod terminal;
 mod tree;
+mod words;
 
 pub use fault::TextFault;
 pub use tree::{Added, Factor, Sign, Simple, Statement, Term, Text};
