@@ -196,6 +196,18 @@ abbrev pub Gives : {X : Type 0} → Mode → Mode → (X → Part) → Here → 
 Gives from to f a b (Ok x) = Went from to (f x) a b
 Gives from to f a b (Err e) = Fails from a e
 
+-- one more part of a repetition, or its end
+abbrev pub GivesMore : {X : Type 0} → Mode → Mode → (X → Part) → Here → Here → Result (Option X) TextFault → Type 0
+GivesMore from to f a b (Ok (Some x)) = Went from from (f x) a b
+GivesMore from to f a b (Ok None) = Went from to (part [] 0 0) a b
+GivesMore from to f a b (Err e) = Fails from a e
+
+-- one more part takes a terminal at least
+abbrev pub Shortens : {X : Type 0} → Here → Here → Result (Option X) TextFault → Type 0
+Shortens a b (Ok (Some x)) = length b.ahead < length a.ahead
+Shortens a b (Ok None) = Unit {0}
+Shortens a b (Err e) = Unit {0}
+
 -- the parts that trees are
 
 abbrev pub sign_part : Option Sign → Part
@@ -210,10 +222,14 @@ term_part t = part (product_spelled (product t)) (product_depth (product t)) (pr
 abbrev pub simple_part : Simple → Part
 simple_part s = part (sum_spelled (sum s)) (sum_depth (sum s)) (sum_values (sum s))
 
+-- a factor behind its operator
+abbrev pub multiplied_part : Factor → Part
+multiplied_part f = part (Exactly Times ∷ []) 0 1 ⧺ factor_part f
+
 -- factors, each behind its operator
 abbrev pub factors_part : List Factor → Part
 factors_part [] = part [] 0 0
-factors_part (f ∷ rest) = (part (Exactly Times ∷ []) 0 1 ⧺ factor_part f) ⧺ factors_part rest
+factors_part (f ∷ rest) = multiplied_part f ⧺ factors_part rest
 
 abbrev pub added_part : Added → Part
 added_part x = part (sign_terminal x.sign ∷ []) 0 1 ⧺ term_part x.term

@@ -5,6 +5,7 @@
 //! a tree writes stand here; `read_text` finds the tree. The layer above cites `IsText` and `output_of`.
 #![tactic(auto)]
 
+mod expressions;
 mod fault;
 mod parser;
 mod terminal;

@@ -10,4 +10,4 @@ returns-in-Some-number_of c =
 
 pub returns-in-None-number_of : goal.returns-in-None-number_of
 returns-in-None-number_of c =
-    sym (looks_at is_number (terminal_of c.self.inside.bytes.now) c.self.inside.symbols.now c.self.inside.next c.in-Some.symbol.now c.args.self.now (omega (arith, c.in-Some.ensures.lookup.3.0)) c.in-Some.ensures.lookup.1 (ap (λ (z : Here). z.ahead) c.self.view_is)) ∙ c.in-None-number_of.ensures
+    record { why = sym (looks_at is_number (terminal_of c.self.inside.bytes.now) c.self.inside.symbols.now c.self.inside.next c.in-Some.symbol.now c.args.self.now (omega (arith, c.in-Some.ensures.lookup.3.0)) c.in-Some.ensures.lookup.1 (ap (λ (z : Here). z.ahead) c.self.view_is)) ∙ c.in-None-number_of.ensures }
