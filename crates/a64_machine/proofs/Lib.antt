@@ -1,2 +1,4 @@
 pub mod Storing
 pub mod Texts
+pub mod Making
+pub mod Running
