@@ -8,7 +8,11 @@
 
 mod answers;
 mod execute;
+mod layout;
 mod machine;
 mod processor;
 mod service;
 mod text;
+
+pub use answers::{Halt, Step};
+pub use machine::Machine;

@@ -1,9 +1,11 @@
 //! The machine whole: its code, and everything else.
 
-ghost use Rattle.std.specs.Prelude.{◌≡◌, ◌≤◌, []};
+ghost use Rattle.std.specs.Prelude.{◌≡◌, ◌≤◌, [], IfOk};
 ghost use Rattle.trc_base.specs.Devices.{Rose, TookFront};
 ghost use Rattle.run_laws.specs.Runs.{run};
-ghost use Rattle.a64_machine.specs.Machine.{step_of, fetch};
+ghost use Rattle.image_form.specs.Form.{IsInForm};
+ghost use Rattle.a64_numbers.specs.Conditions.{clear_flags};
+ghost use Rattle.a64_machine.specs.Machine.{step_of, fetch, start};
 ghost use Rattle.a64_machine.specs.Effects.{effect};
 ghost use Rattle.a64_machine.specs.View.{core_state, code_of, state_of};
 ghost use Rattle.a64_machine.specs.Answers.{Made, Ran, TookAll};
@@ -12,8 +14,12 @@ use crate::answers::{Halt, Step};
 use crate::execute::service_number;
 use crate::processor::Core;
 use a64_instr::Instr;
+use crate::layout::{FRAMES, FRAMES_BASE, first_memory, first_registers};
+use a64_numbers::Flags;
 use a64_table::decode;
-use trc_base::Sink;
+use image_form::Image;
+use std::alloc::Global;
+use trc_base::{Memory, Sink};
 
 /// The A64 machine with an image loaded.
 #[derive(Drop)]
@@ -41,6 +47,13 @@ impl Core {
     }
 }
 
+/// No flag is set.
+fn clear_flags() -> Flags
+    ensures { result ≡ clear_flags }
+{
+    Flags { negative: false, zero: false, carry: false, overflow: false }
+}
+
 /// The code word at an address, where it is a multiple of 4 in the code.
 fn fetch(code: &[u32], pc: u64) -> Option<u32>
     ensures { result ≡ fetch code.now pc }
@@ -52,6 +65,26 @@ fn fetch(code: &[u32], pc: u64) -> Option<u32>
 }
 
 impl Machine {
+    /// The machine with an image laid out and its input not yet read. It takes all the memory that it will need.
+    pub fn load(alloc: Global, image: Image, input: Vec<u8>) -> Result<Machine, Memory>
+        requires { IsInForm image }
+        ensures code { IfOk result (λ m. code_of m ≡ image.code) }
+        ensures state { IfOk result (λ m. state_of m ≡ start image input.items) }
+    {
+        let memory = first_memory(alloc, &image)?;
+        let core = Core {
+            registers: first_registers(),
+            sp: FRAMES_BASE + FRAMES * image.frame as u64,
+            pc: CODE_BASE,
+            flags: clear_flags(),
+            memory,
+            input,
+            taken: 0,
+        };
+        let Image { version: _version, flags: _flags, code, globals: _globals, constants: _constants, frame: _frame } = image;
+        Ok(Machine { code: code.into_vec(), core })
+    }
+
     /// Makes one step: fetches a word, decodes it and carries it out. After `WriteFault` the machine is as
     /// before, and may make the step again; after every other answer but `Going` each further step answers
     /// the same. It takes no memory.
