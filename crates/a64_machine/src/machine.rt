@@ -12,9 +12,9 @@ ghost use Rattle.a64_machine.specs.Answers.{Made, Ran, TookAll};
 
 use crate::answers::{Halt, Step};
 use crate::execute::service_number;
+use crate::layout::{FRAMES, FRAMES_BASE, first_memory, first_registers};
 use crate::processor::Core;
 use a64_instr::Instr;
-use crate::layout::{FRAMES, FRAMES_BASE, first_memory, first_registers};
 use a64_numbers::Flags;
 use a64_table::decode;
 use image_form::Image;
@@ -51,7 +51,12 @@ impl Core {
 fn clear_flags() -> Flags
     ensures { result ≡ clear_flags }
 {
-    Flags { negative: false, zero: false, carry: false, overflow: false }
+    Flags {
+        negative: false,
+        zero: false,
+        carry: false,
+        overflow: false,
+    }
 }
 
 /// The code word at an address, where it is a multiple of 4 in the code.
@@ -81,8 +86,18 @@ impl Machine {
             input,
             taken: 0,
         };
-        let Image { version: _version, flags: _flags, code, globals: _globals, constants: _constants, frame: _frame } = image;
-        Ok(Machine { code: code.into_vec(), core })
+        let Image {
+            version: _version,
+            flags: _flags,
+            code,
+            globals: _globals,
+            constants: _constants,
+            frame: _frame,
+        } = image;
+        Ok(Machine {
+            code: code.into_vec(),
+            core,
+        })
     }
 
     /// Makes one step: fetches a word, decodes it and carries it out. After `WriteFault` the machine is as

@@ -73,9 +73,10 @@ loop-n-preserved g c =
     let s = state_of c.loop-n.machine in
     let k = c.loop-n.invariant in
     let here = ap (λ code. step_of code s) (sym k.1) in
-    let made = c.in-Going.ensures.made in
-    (k.0 ++ made.0,
-    c.in-Going.ensures.code ∙ k.1,
-    runs_more f whole c.args.steps c.loop-n._n s k.0 k.2 made.0 (state_of c.step.new.self) c.loop-n-test.true (here ∙ made.1),
-    took_all _ _ _ _ _ _ k.0 k.3 made.0 made.2,
-    omega (arith, c.in-Going.ensures.rises, k.4))
+    let made = c.in-Going.ensures.made in (
+      k.0 ++ made.0,
+      c.in-Going.ensures.code ∙ k.1,
+      runs_more f whole c.args.steps c.loop-n._n s k.0 k.2 made.0 (state_of c.step.new.self) c.loop-n-test.true (here ∙ made.1),
+      took_all _ _ _ _ _ _ k.0 k.3 made.0 made.2,
+      omega (arith, c.in-Going.ensures.rises, k.4),
+    )
