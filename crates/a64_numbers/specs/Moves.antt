@@ -38,15 +38,15 @@ halves n v = cond (half n 0 == v) 1 0 + cond (half n 1 == v) 1 0 + cond (half n 
 abbrev pub more_ones : ℕ → Bool
 more_ones n = nat_lt (halves n 0) (halves n 0xffff)
 
--- the half that needs no move of its own
-abbrev pub filling : ℕ → ℕ
-filling n = cond (more_ones n) 0xffff 0
+-- the half that needs no move of its own: FFFF after MOVN, 0 after MOVZ
+abbrev pub filling : Bool → ℕ
+filling ones = cond ones 0xffff 0
 
--- the lowest half that isn't filled; 0 where each is
-abbrev pub lowest : ℕ → ℕ
-lowest n =
-    cond (half n 0 == filling n)
-    (cond (half n 1 == filling n) (cond (half n 2 == filling n) (cond (half n 3 == filling n) 0 3) 2) 1)
+-- the lowest half that isn't so; 0 where each is
+abbrev pub lowest : Bool → ℕ → ℕ
+lowest ones n =
+    cond (half n 0 == filling ones)
+    (cond (half n 1 == filling ones) (cond (half n 2 == filling ones) (cond (half n 3 == filling ones) 0 3) 2) 1)
     0
 
 -- the move that begins
@@ -55,14 +55,14 @@ beginning true imm i = Movn (0xffff - imm) i
 beginning false imm i = Movz imm i
 
 -- the move for half i: MOVN or MOVZ of the lowest, MOVK of each other one that isn't filled
-abbrev pub constant_move : ℕ → ℕ → Option Move
-constant_move n i =
-    cond (i == lowest n) (Some (beginning (more_ones n) (half n i) i))
-    (cond (half n i == filling n) None (Some (Movk (half n i) i)))
+abbrev pub move_of_half : Bool → ℕ → ℕ → Option Move
+move_of_half ones n i =
+    cond (i == lowest ones n) (Some (beginning ones (half n i) i))
+    (cond (half n i == filling ones) None (Some (Movk (half n i) i)))
 
--- the moves for each half, lowest first
-abbrev pub half_moves : ℕ → List (Option Move)
-half_moves n = constant_move n 0 ∷ constant_move n 1 ∷ constant_move n 2 ∷ constant_move n 3 ∷ []
+-- the moves for the four halves, lowest first
+abbrev pub half_moves : Bool → ℕ → List (Option Move)
+half_moves ones n = move_of_half ones n 0 ∷ move_of_half ones n 1 ∷ move_of_half ones n 2 ∷ move_of_half ones n 3 ∷ []
 
 -- those that are there
 abbrev pub given : List (Option Move) → List Move
@@ -72,4 +72,4 @@ given (Some m ∷ ms) = m ∷ given ms
 
 -- the moves that make the constant n
 abbrev pub constant_moves : ℕ → List Move
-constant_moves n = given (half_moves n)
+constant_moves n = given (half_moves (more_ones n) n)

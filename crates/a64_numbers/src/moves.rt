@@ -1,7 +1,7 @@
 //! Moves of sixteen bits into a register, and the moves that make a constant.
 
 ghost use Rattle.std.specs.Prelude.{◌≡◌, ◌<◌, ◌^◌, ◌==◌, cond};
-ghost use Rattle.a64_numbers.specs.Moves.{half, movz, movn, movk, halves, more_ones, filling, lowest, beginning, constant_move, half_moves};
+ghost use Rattle.a64_numbers.specs.Moves.{half, movz, movn, movk, halves, more_ones, filling, lowest, beginning, move_of_half, half_moves};
 
 use a64_instr::Bits;
 
@@ -85,16 +85,17 @@ fn more_halves_are_ones(n: u64) -> bool
     count_of(n, 0) < count_of(n, 0xffff)
 }
 
-fn filling_of(n: u64) -> u64
-    ensures { result ≡ filling n }
+fn filling(ones: bool) -> u64
+    ensures { result ≡ filling ones }
 {
-    if more_halves_are_ones(n) { 0xffff } else { 0 }
+    if ones { 0xffff } else { 0 }
 }
 
-fn lowest_unfilled(n: u64) -> u32
-    ensures { result ≡ lowest n }
+/// The lowest half of `n` that isn't filled, 0 where each is.
+fn lowest(ones: bool, n: u64) -> u32
+    ensures { result ≡ lowest ones n }
 {
-    let filling = filling_of(n);
+    let filling = filling(ones);
     if half_of(n, 0) != filling {
         0
     } else if half_of(n, 1) != filling {
@@ -108,42 +109,43 @@ fn lowest_unfilled(n: u64) -> u32
     }
 }
 
-fn beginning_move(n: u64, i: u32) -> Move
-    requires { i < 4 }
-    ensures { result ≡ beginning (more_ones n) (half n i) i }
+fn beginning(ones: bool, imm: u32, i: u32) -> Move
+    requires imm { imm < 2 ^ 16 }
+    requires half { i < 4 }
+    ensures { result ≡ beginning ones imm i }
 {
-    let imm = half_of(n, i) as u32;
-    if more_halves_are_ones(n) {
+    if ones {
         Move::Movn(Bits::new(0xffff - imm), Bits::new(i))
     } else {
         Move::Movz(Bits::new(imm), Bits::new(i))
     }
 }
 
-fn move_of_half(n: u64, i: u32) -> Option<Move>
+fn move_of_half(ones: bool, n: u64, i: u32) -> Option<Move>
     requires { i < 4 }
-    ensures { result ≡ constant_move n i }
+    ensures { result ≡ move_of_half ones n i }
 {
-    if i == lowest_unfilled(n) {
-        return Some(beginning_move(n, i));
-    }
     let imm = half_of(n, i);
-    if imm == filling_of(n) {
+    if i == lowest(ones, n) {
+        return Some(beginning(ones, imm as u32, i));
+    }
+    if imm == filling(ones) {
         return None;
     }
     Some(Move::Movk(Bits::new(imm as u32), Bits::new(i)))
 }
 
-/// The moves that make the constant `n`, lowest half first; one move at least, and no allocation. Where more halves
+/// The moves that make the constant `n`, a place for each half, lowest first; one at least is there. Where more halves
 /// are FFFF than 0, MOVN of the lowest that isn't FFFF and MOVK of each other one that isn't; else MOVZ and MOVK
-/// of those that aren't 0.
+/// of those that aren't 0. The lowest is half 0 where all four are filled.
 pub fn constant_moves(n: u64) -> [Option<Move>; 4]
-    ensures { result ≡ half_moves n }
+    ensures { result ≡ half_moves (more_ones n) n }
 {
+    let ones = more_halves_are_ones(n);
     [
-        move_of_half(n, 0),
-        move_of_half(n, 1),
-        move_of_half(n, 2),
-        move_of_half(n, 3),
+        move_of_half(ones, n, 0),
+        move_of_half(ones, n, 1),
+        move_of_half(ones, n, 2),
+        move_of_half(ones, n, 3),
     ]
 }
