@@ -15,4 +15,6 @@ mod service;
 mod text;
 
 pub use answers::{Halt, Step};
+pub use execute::service_number;
 pub use machine::Machine;
+pub use processor::Core;
