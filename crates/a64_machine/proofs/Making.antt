@@ -1,7 +1,6 @@
 -- What a machine's step is, from its parts.
-use Rattle.std.proofs.Common.{◌≡◌, ℕ, List, [], Option, Some, None, refl, sym, ap, ◌∙◌, subst}
+use Rattle.std.proofs.Common.{◌≡◌, ℕ, List, [], Option, Some, None, ap, ◌∙◌, subst}
 use Rattle.run_laws.specs.Runs as runs
-use Rattle.trc_base.specs.Devices.{Took, Grew}
 use Rattle.trc_base.proofs.Taking.{took_none, grew_none}
 use Rattle.a64_table.specs.Decode.{decode_of}
 use Rattle.a64_instr.specs.declared.instr.Instr.{Instr}

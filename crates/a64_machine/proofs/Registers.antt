@@ -1,10 +1,10 @@
 -- What registers read as, after a write and at the start.
-use Rattle.std.proofs.Common.{◌≡◌, ◌≢◌, ℕ, ◌<◌, ◌≤◌, ◌==◌, ◌&&◌, not, Bool, true, false, cond, List, get_or, length, refl, sym, ap, ◌∙◌, arith, ⊎_elim}
+use Rattle.std.proofs.Common.{◌≡◌, ◌≢◌, ℕ, ◌<◌, ◌≤◌, get_or, length, refl, arith, ⊎_elim}
 use Rattle.std.specs.Prelude.{replicate}
 use Rattle.std.proofs.lemmas.Bool.{cases_lt}
 use Rattle.std.proofs.lemmas.Bool.Decides.{nat_tests}
 use Rattle.std.proofs.lemmas.List.{get_or-replicate, get_or_past, length-replicate}
-use Rattle.a64_machine.specs.State.{State, read, put}
+use Rattle.a64_machine.specs.State.{read, put}
 
 -- zeros read as zero
 pub zeros_read : (n : ℕ) → ◌≡◌ {A = ℕ → ℕ} (λ i. get_or (replicate n 0) i 0) (λ i. 0)

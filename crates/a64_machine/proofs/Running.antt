@@ -1,9 +1,9 @@
 -- A run, step by step from its front.
-use Rattle.std.proofs.Common.{◌≡◌, ℕ, zero, suc, ◌+◌, ◌-◌, ◌<◌, ◌≤◌, List, [], ◌++◌, length, Option, Some, None, refl, sym, ap, ◌∙◌, subst, arith, append_assoc, length-append}
+use Rattle.std.proofs.Common.{◌≡◌, ℕ, zero, suc, ◌+◌, ◌-◌, ◌<◌, ◌≤◌, List, [], ◌++◌, length, Option, refl, sym, ap, ◌∙◌, subst, arith, append_assoc, length-append}
 use Rattle.std.proofs.lemmas.List.{append-nil}
 use Rattle.run_laws.specs.Runs.{Outcome, Ended, Trapped, Going, Moves, Ends, Traps, act, run, output, StartsWith}
 use Rattle.run_laws.specs.Runs as runs
-use Rattle.trc_base.specs.Devices.{Took, Grew, TookFront}
+use Rattle.trc_base.specs.Devices.{TookFront}
 use Rattle.trc_base.proofs.Taking.{took_on, grew_on}
 use Rattle.a64_machine.specs.State.{State, Trap}
 use Rattle.a64_machine.specs.Answers.{TookAll}

@@ -1,15 +1,15 @@
 -- Steps one after the other: what a sequence of code words does.
-use Rattle.std.proofs.Common.{◌≡◌, ℕ, ◌+◌, ◌-◌, ◌*◌, ◌/◌, ◌%◌, ◌^◌, ◌<◌, ◌≤◌, ◌==◌, ◌&&◌, Bool, true, false, cond, nat_le, List, [], ◌∷◌, ◌++◌, length, Option, Some, None, refl, sym, ap, ◌∙◌, subst, arith, append_assoc}
+use Rattle.std.proofs.Common.{◌≡◌, ℕ, ◌+◌, ◌%◌, ◌^◌, ◌<◌, ◌==◌, ◌&&◌, true, nat_le, List, [], ◌∷◌, ◌++◌, Some, None, refl, sym, ap, ◌∙◌, subst, arith, append_assoc}
 use Rattle.std.specs.Prelude.{slice_get}
 use Rattle.std.proofs.lemmas.Bool.Decides.{nat_tests}
 use Rattle.std.proofs.lemmas.Bool.{cond-true}
 use Rattle.std.proofs.lemmas.List.{append-nil}
-use Rattle.run_laws.specs.Runs.{Step, Moves, Ends, Traps, System, Walk}
+use Rattle.run_laws.specs.Runs.{Moves, Walk}
 use Rattle.a64_table.specs.Decode.{decode_of}
 use Rattle.a64_instr.specs.declared.instr.Instr.{Instr}
-use Rattle.a64_machine.specs.State.{State, Trap, code_base, address_of, place_at}
+use Rattle.a64_machine.specs.State.{State, code_base, address_of, place_at}
 use Rattle.a64_machine.specs.Effects.{effect}
-use Rattle.a64_machine.specs.Machine.{fetch, fetched, decoded, step_of, system_of}
+use Rattle.a64_machine.specs.Machine.{fetch, step_of, system_of}
 use Rattle.a64_machine.proofs.Making.{step-effect}
 
 -- the word at an address of the code is that word of the code

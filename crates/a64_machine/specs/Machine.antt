@@ -1,6 +1,6 @@
 -- The machine: its state at the start, and its steps.
-use Rattle.std.specs.Prelude.{ℕ, ◌+◌, ◌-◌, ◌*◌, ◌%◌, List, [], ◌∷◌, ◌++◌, replicate, ◌==◌, ◌&&◌, nat_le, Option, Some, None, slice_get, if◌then◌else◌}
-use Rattle.run_laws.specs.Runs.{Step, Moves, Ends, Traps, System}
+use Rattle.std.specs.Prelude.{ℕ, ◌+◌, ◌*◌, ◌%◌, List, [], ◌∷◌, ◌++◌, replicate, ◌==◌, ◌&&◌, nat_le, Option, Some, None, slice_get, if◌then◌else◌}
+use Rattle.run_laws.specs.Runs.{Step, Traps, System}
 use Rattle.a64_numbers.specs.Conditions.{clear_flags}
 use Rattle.a64_memory.specs.Memory.{Area}
 use Rattle.a64_instr.specs.declared.instr.Instr.{Instr}

@@ -1,4 +1,4 @@
-use Rattle.std.proofs.Common.{◌≡◌, List, ℕ, [], ◌++◌, ◌∙◌, sym, ap, arith}
+use Rattle.std.proofs.Common.{[], ◌++◌, ◌∙◌, sym, ap, arith}
 use Rattle.run_laws.specs.Runs.{run, output}
 use Rattle.a64_machine.specs.State.{place_at}
 use Rattle.a64_machine.specs.Machine.{step_of}

@@ -1,4 +1,4 @@
-use Rattle.std.proofs.Common.{◌≡◌, List, ℕ, refl, sym, ap, ◌∙◌}
+use Rattle.std.proofs.Common.{refl, sym, ap, ◌∙◌}
 use Rattle.a64_numbers.specs.Numbers.{add64}
 use Rattle.a64_memory.specs.Memory.{areas}
 use Rattle.a64_machine.specs.Services.{text_at, writes_text}
