@@ -1,5 +1,5 @@
 -- A store whose bytes don't all lie in one area changes nothing.
-use Rattle.std.proofs.Common.{◌≡◌, ℕ, ◌%◌, ◌^◌, [], ◌∷◌, List, Bool, true, false, cond, Option, Some, None, refl, sym, ap, ◌∙◌}
+use Rattle.std.proofs.Common.{◌≡◌, ℕ, ◌%◌, ◌^◌, [], ◌∷◌, List, false, cond, Some, None, sym, ap, ◌∙◌}
 use Rattle.std.specs.Int.{to_le_bytes, w64}
 use Rattle.run_laws.specs.Runs.{Traps}
 use Rattle.a64_memory.specs.Memory.{Area, covers, stored8, stored1, store8, store1}

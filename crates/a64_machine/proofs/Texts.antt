@@ -1,12 +1,12 @@
 -- A text in memory, read byte by byte from its front.
-use Rattle.std.proofs.Common.{◌≡◌, ◌≢◌, ℕ, zero, suc, ◌+◌, ◌-◌, ◌*◌, ◌<◌, ◌≤◌, ◌^◌, ◌%◌, List, [], ◌∷◌, ◌++◌, length, drop, Option, Some, None, refl, sym, ap, ◌∙◌, subst, arith, append_assoc, length-append, Result, Ok, Err, OnErr}
+use Rattle.std.proofs.Common.{◌≡◌, ◌≢◌, ℕ, zero, suc, ◌+◌, ◌-◌, ◌<◌, ◌≤◌, List, [], ◌∷◌, ◌++◌, length, Option, Some, None, refl, sym, ap, ◌∙◌, arith, append_assoc, length-append, Result, Ok, Err, OnErr}
 use Rattle.trc_base.specs.Devices.{Took, Grew, TookFront}
-use Rattle.trc_base.proofs.Taking.{took_none, took_on, grew_none, grew_on}
+use Rattle.trc_base.proofs.Taking.{took_on, grew_on}
 use Rattle.std.proofs.lemmas.List.{append-nil}
 use Rattle.a64_numbers.specs.Numbers.{add64}
 use Rattle.a64_memory.specs.Memory.{Area, load1}
 use Rattle.a64_machine.specs.Services.{Text, Bytes, Outside, before, text_with, text_at}
-use Rattle.a64_machine.specs.Answers.{TookAll, OfBytes, Lacks}
+use Rattle.a64_machine.specs.Answers.{TookAll}
 
 -- bytes before a text
 abbrev pub joined : List ℕ → Text → Text

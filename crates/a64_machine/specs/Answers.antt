@@ -7,6 +7,8 @@ use Rattle.a64_machine.specs.State as why
 use Rattle.a64_machine.specs.Services.{Text, Bytes, Outside}
 use Rattle.a64_machine.specs.declared.answers.Step.{Step}
 use Rattle.a64_machine.specs.declared.answers.Step.TheVariants.{Going, Ended, Trapped, Undefined, BadAddress, BadCall, WriteFault}
+use Rattle.a64_machine.specs.declared.answers.Halt.{Halt}
+use Rattle.a64_machine.specs.declared.answers.Halt.TheVariants as halt
 
 -- a sink took all these bytes: where it tells them, they joined what it took, and where it tells their number, it rose by theirs
 pub record TookAll (old : Option (List ℕ)) (amount : Option ℕ) (bytes : List ℕ) (new : Option (List ℕ)) (amount' : Option ℕ) : Type 0 where
@@ -32,3 +34,13 @@ OfBytes text P = (bytes : List ℕ) × (text ≡ Bytes bytes) × P bytes
 abbrev pub Lacks : Option ℕ → Text → Type 0
 Lacks (Some address) text = text ≡ Outside address
 Lacks None text = (bytes : List ℕ) × (text ≡ Bytes bytes)
+
+-- a run answers so: the outcome and, where it isn't a write fault, all of its output was taken, else a front of it
+abbrev pub Ran : Halt → runs.Outcome why.Trap → (List ℕ → Type 0) → (List ℕ → Type 0) → Type 0
+Ran halt.Spent outcome all front = (out : List ℕ) × (outcome ≡ runs.Going out) × all out
+Ran halt.Ended outcome all front = (out : List ℕ) × (outcome ≡ runs.Ended out) × all out
+Ran (halt.Trapped kind) outcome all front = (place : ℕ) × (out : List ℕ) × (outcome ≡ runs.Trapped (why.Broke kind place) out) × all out
+Ran (halt.Undefined word) outcome all front = (out : List ℕ) × (outcome ≡ runs.Trapped (why.Undefined word) out) × all out
+Ran (halt.BadAddress address) outcome all front = (out : List ℕ) × (outcome ≡ runs.Trapped (why.BadAddress address) out) × all out
+Ran (halt.BadCall number) outcome all front = (out : List ℕ) × (outcome ≡ runs.Trapped (why.BadCall number) out) × all out
+Ran halt.WriteFault outcome all front = front (runs.output outcome)

@@ -1,5 +1,5 @@
 -- What a machine holds between two steps.
-use Rattle.std.specs.Prelude.{ℕ, ◌-◌, ◌*◌, ◌+◌, ◌/◌, List, Bool, not, ◌&&◌, ◌==◌, if◌then◌else◌}
+use Rattle.std.specs.Prelude.{ℕ, ◌-◌, ◌*◌, ◌+◌, ◌/◌, List, not, ◌&&◌, ◌==◌, if◌then◌else◌}
 use Rattle.a64_memory.specs.Memory.{Area}
 use Rattle.a64_numbers.specs.declared.flags.Flags.{Flags}
 

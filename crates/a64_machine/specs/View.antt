@@ -7,6 +7,7 @@ use Rattle.a64_instr.specs.declared.instr.Instr.TheVariants.{Svc}
 use Rattle.a64_machine.specs.State.{State, place_at}
 use Rattle.a64_machine.specs.State as why
 use Rattle.a64_machine.specs.declared.processor.Core.{Core}
+use Rattle.a64_machine.specs.declared.machine.Machine.{Machine}
 use Rattle.a64_machine.specs.declared.answers.Step.{Step}
 use Rattle.a64_machine.specs.declared.answers.Step.TheVariants.{Going, Ended, Trapped, Undefined, BadAddress, BadCall, WriteFault}
 
@@ -20,6 +21,13 @@ core_state c = record {
   memory = areas c.memory.items;
   input = drop c.taken c.input.items;
 }
+
+-- the code that a machine runs, and the state that it is in
+abbrev pub code_of : Machine → List ℕ
+code_of m = m.code.items
+
+abbrev pub state_of : Machine → State
+state_of m = core_state m.core
 
 -- a machine at s answers a step that writes nothing so, and is at t afterwards: where it goes on, at the step's
 -- next state, and where it halts, at s as before

@@ -16,11 +16,11 @@ use a64_numbers::{
 };
 
 /// The number of an SVC.
-pub fn service_number(i: Instr) -> Option<Bits<16>>
-    ensures { result ≡ service_number i }
+pub fn service_number(i: &Instr) -> Option<Bits<16>>
+    ensures { result ≡ service_number i.now }
 {
     match i {
-        Instr::Svc { imm } => Some(imm),
+        Instr::Svc { imm } => Some(*imm),
         _ => None,
     }
 }

@@ -8,7 +8,13 @@
 
 mod answers;
 mod execute;
+mod layout;
 mod machine;
 mod processor;
 mod service;
 mod text;
+
+pub use answers::{Halt, Step};
+pub use execute::service_number;
+pub use machine::Machine;
+pub use processor::Core;

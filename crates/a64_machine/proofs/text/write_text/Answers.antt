@@ -1,4 +1,4 @@
-use Rattle.std.proofs.Common.{◌≡◌, ◌+◌, ◌-◌, ◌++◌, ◌∷◌, [], List, ℕ, Some, sym, ap, ◌∙◌, arith}
+use Rattle.std.proofs.Common.{◌≡◌, ◌++◌, ◌∷◌, [], Some, sym, ap, ◌∙◌, arith}
 use Rattle.a64_memory.specs.Memory.{areas, load1}
 use Rattle.trc_base.specs.Devices.{TookFront}
 use Rattle.a64_machine.specs.Services.{text_at}
