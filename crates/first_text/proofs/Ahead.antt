@@ -83,10 +83,10 @@ takes_name n a b made h e =
     subst (λ t. Took t made a b) (name_is n x.0 x.1) x.2
 
 -- what the symbol there is was read
-pub takes_shown : {A : Type 0} (f : A → Terminal) (xs : List A) (i : ℕ) (d : A) (t : Terminal) (a b : Here) →
+pub took_shown : {A : Type 0} (f : A → Terminal) (xs : List A) (i : ℕ) (d : A) (t : Terminal) (made : ℕ) (a b : Here) →
     i < length xs → d ≡ get_or xs i d → drop i (map f xs) ≡ a.ahead → f d ≡ t →
-    b ≡ record { ahead = drop 1 a.ahead; depth = a.depth; values = a.values + 1 } → Took t 1 a b
-takes_shown f xs i d t a b h e v is m =
+    b ≡ record { ahead = drop 1 a.ahead; depth = a.depth; values = a.values + made } → Took t made a b
+took_shown f xs i d t made a b h e v is m =
     let all = shows f xs i d h in
     let one : f (get_or xs i d) ≡ t = ap f (sym e) ∙ is in
     let rest : drop (suc i) (map f xs) ≡ drop 1 a.ahead = sym (ap (drop 1) all) ∙ ap (drop 1) v in

@@ -8,6 +8,7 @@
 mod expressions;
 mod fault;
 mod parser;
+mod statements;
 mod terminal;
 mod tree;
 mod words;
