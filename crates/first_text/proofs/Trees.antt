@@ -16,7 +16,7 @@ use Rattle.first_text.specs.Texts.{product_spelled, product_depth, product_value
 use Rattle.first_text.specs.Reading.{Mode, Here, Part, part, ◌⧺◌, Went, GivesMore, Shortens, sign_part, factor_part, multiplied_part, factors_part, term_part, added_part, all_added_part, simple_part, statement_part, statements_part, before_spelled, before_part}
 use Rattle.first_text.proofs.Rows.{sum_is}
 
-part_same : (u v : List Terminal) (a b x y : ℕ) → u ≡ v → a ≡ b → x ≡ y → part u a x ≡ part v b y
+pub part_same : (u v : List Terminal) (a b x y : ℕ) → u ≡ v → a ≡ b → x ≡ y → part u a x ≡ part v b y
 part_same u v a b x y e h k = ap (λ z. part z a x) e ∙ ap (λ z. part v z x) h ∙ ap (λ z. part v b z) k
 
 pub part_none_right : (f : Part) → f ⧺ part [] 0 0 ≡ f

@@ -8,10 +8,12 @@
 mod expressions;
 mod fault;
 mod parser;
+mod reading;
 mod statements;
 mod terminal;
 mod tree;
 mod words;
 
 pub use fault::TextFault;
+pub use reading::read_text;
 pub use tree::{Added, Factor, Sign, Simple, Statement, Term, Text};

@@ -1,7 +1,8 @@
 //! Statements, and a module around them.
 
-ghost use Rattle.std.specs.Prelude.{◌≡◌, ◌<◌, ◌≤◌, length, OnOk, IfOk};
-ghost use Rattle.first_text.specs.Reading.{Gives, Names, EndsModule, Reads, AtStatement, AtOpen, AtNext, AtNameEnd, statement_part, arguments_part, statements_part, import_part};
+ghost use Rattle.std.specs.Prelude.{◌≡◌, ◌<◌, ◌≤◌, false, length, OnOk, IfOk};
+ghost use Rattle.first_text.specs.Reading.{Gives, Names, EndsModule, Reads, is_next, is_exactly, AtStatement, AtOpen, AtNext, AtNameEnd, statement_part, arguments_part, statements_part, import_part};
+ghost use Rattle.first_text.specs.declared.terminal.Fixed.TheVariants.{Semicolon};
 
 use crate::fault::TextFault;
 use crate::parser::Parser;
@@ -49,6 +50,7 @@ impl<'a> Parser<'a> {
         requires { self.old.depth ≡ 0 }
         ensures gives { Gives AtStatement AtNext (λ v. statements_part v.items) self.old self.new result }
         ensures some { IfOk result (λ v. 0 < length v.items) }
+        ensures last { OnOk result (is_next (is_exactly Semicolon) self.new.ahead ≡ false) }
     {
         let mut statements = Vec::new(alloc);
         'statements: loop {
@@ -84,6 +86,7 @@ impl<'a> Parser<'a> {
 
     /// `END ident "."`, the module's name, where no more values were made than a text may make.
     fn ending(&mut self, name: &[u8]) -> Result<(), TextFault>
+        requires { is_next (is_exactly Semicolon) self.old.ahead ≡ false }
         ensures { EndsModule name.now self.old result }
     {
         self.take(Fixed::End, 0)?;
