@@ -17,3 +17,6 @@ mod words;
 pub use fault::TextFault;
 pub use reading::read_text;
 pub use tree::{Added, Factor, Sign, Simple, Statement, Term, Text};
+
+#[cfg(test)]
+mod tests;
