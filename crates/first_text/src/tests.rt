@@ -6,6 +6,7 @@ use std::process::Abort;
 use std::test::Fail;
 
 /// The number that a factor is.
+#[cycle(values)]
 fn factor_value(factor: &Factor) -> u64 {
     match factor {
         Factor::Integer(value) => *value,
@@ -14,6 +15,7 @@ fn factor_value(factor: &Factor) -> u64 {
 }
 
 /// The number that a term is.
+#[cycle(values)]
 fn term_value(term: &Term) -> u64 {
     let mut value = factor_value(&term.first);
     for factor in &term.rest {
@@ -23,6 +25,7 @@ fn term_value(term: &Term) -> u64 {
 }
 
 /// The number that a simple expression is.
+#[cycle(values)]
 fn simple_value(simple: &Simple) -> u64 {
     let first = term_value(&simple.first);
     let mut value = match simple.sign {
