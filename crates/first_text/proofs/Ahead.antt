@@ -1,5 +1,5 @@
 -- The terminals ahead, as the index of the next symbol gives them.
-use Rattle.std.proofs.Common.{◌≡◌, ℕ, zero, suc, ◌+◌, ◌<◌, ◌≤◌, List, [], ◌∷◌, Bool, true, false, nat_eq, length, drop, map, get_or, refl, sym, ap, ◌∙◌, subst, arith}
+use Rattle.std.proofs.Common.{◌≡◌, ℕ, zero, suc, ◌+◌, ◌<◌, ◌≤◌, List, [], ◌∷◌, Bool, true, nat_eq, length, drop, map, get_or, refl, sym, ap, ◌∙◌, subst, arith}
 use lib.Pointwise.{bytes_decides}
 use Rattle.ob_scan.specs.Tables.{is_same}
 use Rattle.first_text.specs.Terminals.{Terminal, Name, Number, Exactly, Other}
@@ -53,12 +53,15 @@ gone_past w i d v made a b h e =
 pub takes_first : (p : Terminal → Bool) (a b : Here) (made : ℕ) → true ≡ is_next p a.ahead →
     b ≡ record { ahead = drop 1 a.ahead; depth = a.depth; values = a.values + made } → (t : Terminal) × (p t ≡ true) × Took t made a b
 takes_first p a b made h e =
-    let x = first_is p a.ahead (sym h) in
-    (x.0, x.2, record {
-      text = x.1 ∙ ap (λ w. x.0 ∷ w) (sym (ap (λ (z : Here). z.ahead) e));
-      depth = ap (λ (z : Here). z.depth) e;
-      values = ap (λ (z : Here). z.values) e;
-    })
+    let x = first_is p a.ahead (sym h) in (
+      x.0,
+      x.2,
+      record {
+        text = x.1 ∙ ap (λ w. x.0 ∷ w) (sym (ap (λ (z : Here). z.ahead) e));
+        depth = ap (λ (z : Here). z.depth) e;
+        values = ap (λ (z : Here). z.values) e;
+      },
+    )
 
 -- names are the same exactly where the test says so
 pub same_is : (x y : List ℕ) → is_same x y ≡ true → x ≡ y

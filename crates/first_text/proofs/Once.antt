@@ -1,7 +1,6 @@
 -- What the terminals of a tree write, without the tree: so a text has one meaning.
-use Rattle.std.proofs.Common.{◌≡◌, ℕ, ◌+◌, List, [], ◌∷◌, ◌++◌, Bool, true, false, if◌then◌else◌, refl, sym, ap, ◌∙◌, append_assoc, codes, drop, zero, Option, None, Some}
+use Rattle.std.proofs.Common.{◌≡◌, ℕ, List, [], ◌∷◌, ◌++◌, Bool, true, false, if◌then◌else◌, refl, sym, ap, ◌∙◌, append_assoc, codes, drop, None, Some}
 use Rattle.std.proofs.lemmas.List.{append-nil}
-use Rattle.ob_scan.specs.Scans.{Scans, Done}
 use Rattle.ob_scan.proofs.Once.{one_scan}
 use Rattle.ob_scan.specs.Tables.{is_same}
 use Rattle.a64_numbers.specs.Numbers.{add64, sub64, mul64, neg64}
@@ -9,9 +8,8 @@ use Rattle.out_text.specs.Text.{int_text}
 use Rattle.first_text.specs.declared.tree.Sign.TheVariants as S
 use Rattle.first_text.specs.declared.tree.Statement.{Statement}
 use Rattle.first_text.specs.declared.tree.Text.{Text}
-use Rattle.first_text.specs.declared.terminal.Fixed.{Fixed}
-use Rattle.first_text.specs.declared.terminal.Fixed.TheVariants.{Module, Import, Begin, End, Plus, Minus, Times, LeftParen, RightParen, Comma, Semicolon, Period}
-use Rattle.first_text.specs.Terminals.{Terminal, Name, Number, Exactly, Other, terminals_of}
+use Rattle.first_text.specs.declared.terminal.Fixed.TheVariants.{End, Plus, Minus, Times, LeftParen, RightParen, Comma, Period}
+use Rattle.first_text.specs.Terminals.{Terminal, Name, Number, Exactly, terminals_of}
 use Rattle.first_text.specs.Syntax.{Operand, Literal, Inner, Product, Single, Multiplied, Sum, Leading, Joined, Call, Writes, Ends}
 use Rattle.first_text.specs.Trees.{call}
 use Rattle.first_text.specs.Meaning.{operand_value, product_value, sum_value, call_output, output, output_of}

@@ -1,15 +1,11 @@
 -- How the parts of a text are put together as a reader goes on.
-use Rattle.std.proofs.Common.{◌≡◌, ℕ, ◌+◌, ◌-◌, ◌<◌, ◌≤◌, max, List, [], ◌∷◌, ◌++◌, Bool, true, false, nat_eq, nat_lt, length, refl, sym, ap, ◌∙◌, subst, arith, append_assoc, add-zero, length-append, ◌⊎◌, inl, inr, Result, Ok, Err, Option, None, Some}
-use Rattle.std.proofs.lemmas.List.{append-nil}
+use Rattle.std.proofs.Common.{◌≡◌, ℕ, ◌+◌, List, [], ◌∷◌, ◌++◌, Bool, true, false, refl, sym, ap, ◌∙◌, subst, arith, append_assoc, add-zero, Result, None, Some}
 use Rattle.std.proofs.lemmas.Result.{err_from_is_err_and}
 use Rattle.std.specs.Result.{IsErrAnd}
 use Rattle.first_text.specs.declared.fault.TextFault.{TextFault}
 use Rattle.first_text.specs.declared.fault.TextFault.TheVariants.{NotText, Memory}
-use Rattle.first_text.specs.declared.terminal.Fixed.{Fixed}
-use Rattle.first_text.specs.declared.terminal.Fixed.TheVariants.{Module, Import, Begin, End, Plus, Minus, Times, LeftParen, RightParen, Comma, Semicolon, Period}
-use Rattle.first_text.specs.Terminals.{Terminal, Name, Number, Exactly, Other}
-use Rattle.first_text.specs.Reading.{Mode, AtModule, AtName, AtNameEnd, AtImport, AtOut, AtOutEnd, AtBegin, AtStatement, AtPeriod, AtCall, AtOpen, AtSign, AtOperand, AfterOperand, AfterProduct, AfterSum, AtWidth, AtClose, AtNext, AtLastName, AtLastPeriod, AtEnd, Point, point, on, step_of, may_end, run, Here, here, Part, part, ◌⧺◌, Went, FailsBy, Fails, Gives, GivesMore, Took, MissedBy, Missed, Entered, Shut, ShutBy, Left, is_next, is_exactly, is_name, is_number}
-use Rattle.first_text.proofs.Ahead.{first_is}
+use Rattle.first_text.specs.Terminals.{Terminal}
+use Rattle.first_text.specs.Reading.{Mode, Point, point, on, step_of, may_end, run, Here, here, Part, part, ◌⧺◌, Went, FailsBy, Fails, Gives, Took}
 
 -- one part, and then another
 

@@ -1,16 +1,14 @@
 -- The terminals of a tree, read from the first to the last.
-use Rattle.std.proofs.Common.{◌≡◌, ◌≢◌, ℕ, ◌+◌, ◌-◌, ◌<◌, ◌≤◌, max, List, [], ◌∷◌, ◌++◌, Bool, true, false, nat_lt, nat_le, length, refl, sym, ap, ◌∙◌, subst, arith, append_assoc, add-zero, Option, None, Some, codes}
-use Rattle.std.proofs.lemmas.List.{append-nil}
+use Rattle.std.proofs.Common.{◌≡◌, ◌≢◌, ℕ, ◌+◌, ◌-◌, ◌<◌, ◌≤◌, List, [], ◌∷◌, ◌++◌, true, false, nat_lt, nat_le, length, refl, sym, ap, ◌∙◌, arith, append_assoc, None, Some, codes}
 use Rattle.ob_scan.specs.Tables.{is_same}
-use Rattle.first_text.specs.declared.tree.Sign.{Sign}
 use Rattle.first_text.specs.declared.tree.Sign.TheVariants as S
 use Rattle.first_text.specs.declared.tree.Statement.{Statement}
-use Rattle.first_text.specs.declared.terminal.Fixed.TheVariants.{Module, Import, Begin, End, Plus, Minus, Times, LeftParen, RightParen, Comma, Semicolon, Period}
-use Rattle.first_text.specs.Terminals.{Terminal, Name, Number, Exactly, Other}
+use Rattle.first_text.specs.declared.terminal.Fixed.TheVariants.{Import, Begin, End, Plus, Minus, Times, LeftParen, RightParen, Comma, Semicolon, Period}
+use Rattle.first_text.specs.Terminals.{Terminal, Name, Number, Exactly}
 use Rattle.first_text.specs.Syntax.{Operand, Literal, Inner, Product, Single, Multiplied, Sum, Leading, Joined, Call, Writes, Ends}
 use Rattle.first_text.specs.Trees.{call}
-use Rattle.first_text.specs.Texts.{sign_terminal, sign_spelled, sign_values, operand_spelled, operand_depth, operand_values, product_spelled, product_depth, product_values, sum_spelled, sum_depth, sum_values, call_spelled, call_depth, call_values, statements_spelled, statements_depth, statements_values, rest_spelled, module_spelled}
-use Rattle.first_text.specs.Reading.{Mode, AtModule, AtName, AtNameEnd, AtOutEnd, AtStatement, AtPeriod, AtCall, AtOpen, AtSign, AtOperand, AfterOperand, AtWidth, AtClose, AtNext, AtLastName, AtLastPeriod, AtEnd, Point, point, on, step_of, run, is_own_name}
+use Rattle.first_text.specs.Texts.{operand_spelled, operand_depth, operand_values, product_spelled, product_depth, product_values, sum_spelled, sum_depth, sum_values, call_spelled, call_depth, call_values, statements_spelled, statements_depth, statements_values, rest_spelled, module_spelled}
+use Rattle.first_text.specs.Reading.{Mode, AtModule, AtNameEnd, AtOutEnd, AtStatement, AtPeriod, AtCall, AtSign, AtOperand, AfterOperand, AtNext, AtLastPeriod, point, run, is_own_name}
 use Rattle.first_text.proofs.Ahead.{is_same_self}
 use Rattle.first_text.proofs.Steps.{ln_step, int_step, not_same}
 use Rattle.first_text.proofs.Parts.{on_true}

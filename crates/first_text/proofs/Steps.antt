@@ -1,20 +1,14 @@
 -- Steps of the grammar that names decide.
-use Rattle.std.proofs.Common.{◌≡◌, ◌≢◌, ℕ, ◌+◌, ◌-◌, ◌<◌, ◌≤◌, max, List, [], ◌∷◌, ◌++◌, Bool, true, false, nat_eq, nat_lt, length, refl, sym, ap, ◌∙◌, subst, arith, append_assoc, add-zero, codes, Some, None}
+use Rattle.std.proofs.Common.{◌≡◌, ◌≢◌, ℕ, ◌+◌, List, [], ◌∷◌, true, false, refl, sym, ap, ◌∙◌, subst, arith, add-zero, codes, Some}
 use Rattle.ob_scan.specs.Tables.{is_same}
-use Rattle.first_text.specs.declared.fault.TextFault.{TextFault}
-use Rattle.first_text.specs.declared.fault.TextFault.TheVariants.{NotText, Memory}
-use Rattle.first_text.specs.declared.tree.Statement.{Statement}
 use Rattle.first_text.specs.declared.tree.Statement.TheVariants.{WriteInt, WriteLn}
 use Rattle.first_text.specs.declared.tree.Simple.{Simple}
-use Rattle.first_text.specs.declared.terminal.Fixed.TheVariants.{Module, Import, Begin, End, LeftParen, RightParen, Comma, Semicolon, Period}
-use Rattle.first_text.specs.Terminals.{Terminal, Name, Number, Exactly, Other}
-use Rattle.first_text.specs.Syntax.{Writes}
-use Rattle.first_text.specs.Trees.{sum}
-use Rattle.first_text.specs.Texts.{call_spelled, call_depth, call_values, sum_depth}
-use Rattle.first_text.specs.Reading.{AtModule, AtName, AtNameEnd, AtImport, AtOut, AtOutEnd, AtBegin, AtStatement, AtPeriod, AtCall, AtOpen, AtNext, point, on, step_of, run, Here, here, Part, part, ◌⧺◌, Went, FailsBy, Fails, Took, MissedBy, Missed, Unended, UnendedBy, Named, is_next, is_exactly, is_name, is_own_name, import_part, statement_part, arguments_part}
+use Rattle.first_text.specs.declared.terminal.Fixed.TheVariants.{Module, Import, Begin, Semicolon, Period}
+use Rattle.first_text.specs.Terminals.{Name, Exactly}
+use Rattle.first_text.specs.Reading.{AtModule, AtName, AtNameEnd, AtImport, AtOut, AtOutEnd, AtBegin, AtStatement, AtPeriod, AtCall, AtOpen, AtNext, point, step_of, run, Here, here, part, ◌⧺◌, Went, Took, Named, is_own_name, import_part, statement_part, arguments_part}
 use Rattle.first_text.proofs.Ahead.{is_same_self, same_is}
 use Rattle.first_text.proofs.Trees.{part_same}
-use Rattle.first_text.proofs.Parts.{then, took, took_none, on_true, run_stops, by_part}
+use Rattle.first_text.proofs.Parts.{then, took, took_none, on_true}
 
 -- `Out` before a call
 pub out_went : (a b : Here) → Took (Name (codes "Out")) 0 a b → Went AtStatement AtPeriod (part (Name (codes "Out") ∷ []) 0 0) a b

@@ -12,7 +12,7 @@ use Rattle.first_text.specs.declared.fault.TextFault.{TextFault}
 use Rattle.first_text.specs.declared.fault.TextFault.TheVariants.{NotText, Memory}
 use Rattle.first_text.specs.declared.tree.Text.{Text}
 use Rattle.first_text.specs.Terminals.{Terminal, terminals_of, is_spaced}
-use Rattle.first_text.specs.Texts.{IsText, HasNone, text_spelled}
+use Rattle.first_text.specs.Texts.{IsText, HasNone}
 use Rattle.first_text.specs.Reading.{AtModule, point, run, Reads}
 use Rattle.first_text.proofs.Runs.{module_runs}
 

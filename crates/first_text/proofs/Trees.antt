@@ -1,17 +1,16 @@
 -- The parts that trees are, as the reader makes them.
-use Rattle.std.proofs.Common.{◌≡◌, ℕ, ◌+◌, ◌<◌, ◌≤◌, max, List, [], ◌∷◌, ◌++◌, length, refl, sym, ap, ◌∙◌, subst, arith, append_assoc, Vec, Global, Option, None, Some, Result, Ok, Err}
+use Rattle.std.proofs.Common.{◌≡◌, ℕ, ◌+◌, ◌<◌, ◌≤◌, max, List, [], ◌∷◌, ◌++◌, length, refl, sym, ap, ◌∙◌, subst, arith, append_assoc, Vec, Global, Option, Some, Ok}
 use Rattle.std.proofs.lemmas.List.{append-nil}
-use Rattle.first_text.specs.declared.fault.TextFault.{TextFault}
 use Rattle.first_text.specs.declared.tree.Sign.{Sign}
-use Rattle.first_text.specs.declared.tree.Simple.{Simple, roll-Simple}
+use Rattle.first_text.specs.declared.tree.Simple.{roll-Simple}
 use Rattle.first_text.specs.declared.tree.Added.{Added}
 use Rattle.first_text.specs.declared.tree.Term.{Term, roll-Term, rolls-Term'}
 use Rattle.first_text.specs.declared.tree.Factor.{Factor}
 use Rattle.first_text.specs.declared.tree.Statement.{Statement}
 use Rattle.first_text.specs.Terminals.{Terminal, Exactly}
 use Rattle.first_text.specs.declared.terminal.Fixed.TheVariants.{Semicolon}
-use Rattle.first_text.specs.Syntax.{Operand, Product, Single, Multiplied, Sum, Leading, Joined}
-use Rattle.first_text.specs.Trees.{operand, product, sum, multiplied, joined, call}
+use Rattle.first_text.specs.Syntax.{Product, Single, Multiplied, Sum, Leading, Joined}
+use Rattle.first_text.specs.Trees.{operand, product, multiplied, joined, call}
 use Rattle.first_text.specs.Texts.{product_spelled, product_depth, product_values, sum_spelled, sum_depth, sum_values, rest_spelled, statements_spelled, statements_depth, statements_values, call_spelled, call_depth, call_values}
 use Rattle.first_text.specs.Reading.{Mode, Here, Part, part, ◌⧺◌, Went, GivesMore, Shortens, sign_part, factor_part, multiplied_part, factors_part, term_part, added_part, all_added_part, simple_part, statement_part, statements_part, before_spelled, before_part}
 use Rattle.first_text.proofs.Rows.{sum_is}

@@ -14,7 +14,6 @@ use Rattle.first_text.specs.declared.tree.Text.{Text}
 use Rattle.first_text.specs.declared.terminal.Fixed.{Fixed}
 use Rattle.first_text.specs.declared.terminal.Fixed.TheVariants.{Module, Import, Begin, End, Plus, Minus, Times, LeftParen, RightParen, Comma, Semicolon, Period}
 use Rattle.first_text.specs.Terminals.{Terminal, Name, Number, Exactly, Other}
-use Rattle.first_text.specs.Syntax.{Single, Leading}
 use Rattle.first_text.specs.Trees.{operand, product, sum, call}
 use Rattle.first_text.specs.Texts.{sign_terminal, sign_spelled, sign_values, operand_spelled, operand_depth, operand_values, product_spelled, product_depth, product_values, sum_spelled, sum_depth, sum_values, call_spelled, call_depth, call_values, statements_spelled, statements_depth, statements_values, rest_spelled, text_spelled}
 

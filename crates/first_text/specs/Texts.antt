@@ -8,7 +8,6 @@ use Rattle.first_text.specs.declared.tree.Statement.{Statement}
 use Rattle.first_text.specs.declared.tree.Text.{Text}
 use Rattle.first_text.specs.declared.fault.TextFault.{TextFault}
 use Rattle.first_text.specs.declared.fault.TextFault.TheVariants.{NotText, Memory}
-use Rattle.first_text.specs.declared.terminal.Fixed.{Fixed}
 use Rattle.first_text.specs.declared.terminal.Fixed.TheVariants.{Module, Import, Begin, End, Plus, Minus, Times, LeftParen, RightParen, Comma, Semicolon, Period}
 use Rattle.first_text.specs.Terminals.{Terminal, Name, Number, Exactly, terminals_of, is_spaced}
 use Rattle.first_text.specs.Syntax.{Operand, Literal, Inner, Product, Single, Multiplied, Sum, Leading, Joined, Call, Writes, Ends}

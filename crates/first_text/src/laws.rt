@@ -9,5 +9,4 @@ ghost use Rattle.first_text.specs.Meaning.{output_of};
 pub fn texts_mean_one_thing()
     ensures name { (bytes : List ℕ) (a b : Text) → IsText bytes a → IsText bytes b → a.name.items ≡ b.name.items }
     ensures output { (bytes : List ℕ) (a b : Text) → IsText bytes a → IsText bytes b → output_of a ≡ output_of b }
-{
-}
+{}

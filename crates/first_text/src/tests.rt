@@ -91,7 +91,8 @@ fn reads_a_text(rt: HostRuntime) -> Result<(), Fail> {
 #[test]
 fn reads_expressions(rt: HostRuntime) -> Result<(), Fail> {
     let alloc = rt.alloc();
-    let body = b"Out.Int(1-2-3, 0); Out.Int(-(2+3)*4, 0); Out.Int(+5*2*(3-1), 7); Out.Int(9223372036854775807, 0)";
+    let body =
+        b"Out.Int(1-2-3, 0); Out.Int(-(2+3)*4, 0); Out.Int(+5*2*(3-1), 7); Out.Int(9223372036854775807, 0)";
     let text = read_text(alloc, &module(alloc, body)?)?;
     let wanted = [
         (u64::MAX - 3, 0),

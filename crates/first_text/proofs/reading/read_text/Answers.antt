@@ -1,4 +1,4 @@
-use Rattle.std.proofs.Common.{◌≡◌, ◌∙◌, sym, ap}
+use Rattle.std.proofs.Common.{◌∙◌, ap}
 use Rattle.first_text.specs.Terminals.{terminals_of, is_spaced}
 use Rattle.first_text.specs.Reading.{Here}
 use Rattle.first_text.proofs.Texts.{not_spaced, not_first, none_read}

@@ -1,5 +1,5 @@
 -- What the functions of a production give, put together.
-use Rattle.std.proofs.Common.{◌≡◌, ◌≤◌, length, ap, ◌∙◌, arith}
+use Rattle.std.proofs.Common.{ap, ◌∙◌}
 use Rattle.first_text.specs.Reading.{AfterOperand, AfterProduct, AfterSum, all_added_part, factors_part, added_part, multiplied_part}
 use Rattle.first_text.proofs.Parts.{by_part, then}
 use Rattle.first_text.proofs.Trees.{term_is, simple_is, factors_more, added_more, one_more, shorter}

@@ -1,4 +1,4 @@
-use Rattle.std.proofs.Common.{◌∙◌, ap, arith}
+use Rattle.std.proofs.Common.{◌∙◌, ap}
 use Rattle.first_text.specs.Reading.{statements_part, before_part}
 use Rattle.first_text.proofs.Parts.{then, by_part}
 use Rattle.first_text.proofs.Trees.{statements_more, before_more}

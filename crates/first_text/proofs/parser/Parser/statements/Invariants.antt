@@ -1,5 +1,5 @@
-use Rattle.std.proofs.Common.{◌≡◌, ℕ, ◌≤◌, length}
-use Rattle.first_text.specs.Reading.{Here, Went, AtStatement, before_part}
+use Rattle.std.proofs.Common.{◌≡◌, length}
+use Rattle.first_text.specs.Reading.{Went, AtStatement, before_part}
 use Rattle.first_text.proofs.parser.Parser.statements.Given as goal
 
 abbrev pub invariant-statements : goal.invariant-statements
