@@ -1,13 +1,13 @@
 -- Each text has a scan.
-use Rattle.std.proofs.Common.{◌≡◌, ℕ, zero, suc, ◌+◌, ◌-◌, ◌<◌, ◌≤◌, ◌^◌, List, [], ◌∷◌, ◌++◌, Bool, true, false, nat_eq, nat_lt, cond, Option, Some, None, ◌⊎◌, inl, inr, length, refl, sym, ap, ◌∙◌, subst, arith, length-append}
+use Rattle.std.proofs.Common.{◌≡◌, ℕ, zero, suc, ◌+◌, ◌<◌, ◌≤◌, ◌^◌, List, [], ◌∷◌, ◌++◌, Bool, true, false, nat_eq, nat_lt, Option, Some, None, ◌⊎◌, inl, inr, length, refl, sym, ap, ◌∙◌, subst, arith, length-append}
 use Rattle.std.proofs.lemmas.List.{append-nil}
 use Rattle.ob_symbol.specs.declared.symbol.Delimiter.{Delimiter}
 use Rattle.ob_symbol.specs.declared.symbol.Symbol.{Symbol}
-use Rattle.ob_scan.specs.Tables.{reserved_of, one_mark, two_mark}
-use Rattle.ob_scan.specs.Words.{Form, Name, Keyword, Decimal, Hexadecimal, Character, Quoted, Operator, form_of, kind_of, is_letter, is_letter_or_digit, is_digit, is_hexadecimal, is_quotable, is_all, is_blank, is_gap, is_two, begins_with, begins_comment, IsTooLarge, IsTooLong, IsWithin}
-use Rattle.ob_scan.specs.Scans.{Gap, Longest, Unclosed, symbol, Scans, End, Done, Broken, ends, reads, bad_byte, open_comment, open_string, too_large, too_long}
+use Rattle.ob_scan.specs.Tables.{one_mark, two_mark}
+use Rattle.ob_scan.specs.Words.{Form, Name, Keyword, Decimal, Hexadecimal, Character, Quoted, Operator, is_letter, is_letter_or_digit, is_digit, is_hexadecimal, is_quotable, is_blank, begins_with, begins_comment, IsTooLarge, IsTooLong, IsWithin}
+use Rattle.ob_scan.specs.Scans.{Gap, Longest, Unclosed, Scans, End, Done, ends, reads, bad_byte, open_comment, open_string, too_large, too_long}
 use Rattle.ob_scan.specs.Steps.{Spanned, Skipped, Past, NoBeginning, two_at, close}
-use Rattle.ob_scan.proofs.Gaps.{Closed, closed, skip_none, skip_blank, skip_comment, gap_at, gap_before}
+use Rattle.ob_scan.proofs.Gaps.{closed, skip_none, skip_blank, skip_comment, gap_at, gap_before}
 use Rattle.ob_scan.proofs.Longest.{all_more, name_longest, hexadecimal_longest, character_longest, decimal_longest, text_longest, line_over, one_longest, two_longest, no_beginning}
 use Rattle.ob_scan.proofs.Places.{one_there, two_there, past_end}
 

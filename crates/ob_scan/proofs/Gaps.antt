@@ -1,7 +1,7 @@
 -- Blanks and comments: what a reading byte by byte skips is the longest gap.
-use Rattle.std.proofs.Common.{◌≡◌, ℕ, zero, suc, ◌+◌, ◌-◌, ◌*◌, ◌<◌, ◌≤◌, List, [], ◌∷◌, ◌++◌, Bool, true, false, cond, nat_eq, nat_lt, if◌then◌else◌, ◌&&◌, Option, Some, None, length, take, drop, refl, sym, ap, ◌∙◌, subst, arith, append_assoc}
+use Rattle.std.proofs.Common.{◌≡◌, ℕ, zero, suc, List, [], ◌∷◌, ◌++◌, Bool, true, false, cond, Option, Some, None, refl, sym, ap, ◌∙◌, subst, arith, append_assoc}
 use Rattle.std.proofs.lemmas.List.{append-nil}
-use Rattle.ob_scan.specs.Words.{is_blank, opens, closes, is_gap, is_two, begins_comment}
+use Rattle.ob_scan.specs.Words.{is_blank, opens, closes, is_gap, begins_comment}
 use Rattle.ob_scan.specs.Scans.{Gap}
 use Rattle.ob_scan.specs.Steps.{Skipped, close}
 

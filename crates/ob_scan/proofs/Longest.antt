@@ -1,10 +1,9 @@
 -- What a reading byte by byte finds is the longest symbol.
-use Rattle.std.proofs.Common.{◌≡◌, ℕ, zero, suc, ◌+◌, ◌-◌, ◌*◌, ◌<◌, ◌≤◌, List, [], ◌∷◌, ◌++◌, Bool, true, false, cond, nat_eq, nat_lt, if◌then◌else◌, ◌&&◌, Option, Some, None, length, refl, sym, ap, ◌∙◌, subst, arith, append_assoc}
-use Rattle.ob_symbol.specs.declared.symbol.Reserved.{Reserved}
+use Rattle.std.proofs.Common.{◌≡◌, ℕ, List, [], ◌∷◌, ◌++◌, Bool, true, false, cond, nat_eq, Some, None, refl, sym, ap, ◌∙◌, subst, arith, append_assoc}
 use Rattle.ob_symbol.specs.declared.symbol.Delimiter.{Delimiter}
 use Rattle.ob_scan.specs.Tables.{reserved_of, one_mark, two_mark, mark_of}
-use Rattle.ob_scan.specs.Words.{is_letter, is_letter_or_digit, is_digit, is_hexadecimal, is_line_end, is_quotable, is_all, is_all_then, begins_with, value_from, Form, Name, Keyword, Decimal, Hexadecimal, Character, Quoted, Operator, name_or_keyword, name_form, number_form, text_form, operator, form_of}
-use Rattle.ob_scan.specs.Scans.{Longest, Unclosed, is_line_over}
+use Rattle.ob_scan.specs.Words.{is_letter, is_letter_or_digit, is_digit, is_hexadecimal, is_line_end, is_quotable, is_all, is_all_then, begins_with, value_from, Form, Decimal, Hexadecimal, Character, Quoted, Operator, name_or_keyword, name_form, number_form, text_form, operator, form_of}
+use Rattle.ob_scan.specs.Scans.{Longest, is_line_over}
 use Rattle.ob_scan.specs.Steps.{Spanned}
 use Rattle.ob_scan.proofs.Gaps.{cond_true, cond_false}
 
@@ -168,8 +167,8 @@ decimal_longest b v s r h q d p hex no_h no_x = record {
         let all = all_more is_hexadecimal b h (digit_is_hexadecimal b d) hex.all in
         let same : b ∷ (h ++ q) ≡ b ∷ ((s ++ (x ∷ u)) ++ w) = ap (λ z. b ∷ z) (sym hex.split ∙ (p.split ∙ (ap (λ z. s ++ z) e ∙ sym (append_assoc s (x ∷ u) w)))) in
         let n = number_form_none (b ∷ (s ++ (x ∷ u))) (not_all is_digit (b ∷ s) x u (p.stop x (u ++ w) e))
-            (then_never is_hexadecimal 72 (b ∷ h) q (b ∷ (s ++ (x ∷ u))) w refl all hex.stop no_h same)
-            (then_never is_hexadecimal 88 (b ∷ h) q (b ∷ (s ++ (x ∷ u))) w refl all hex.stop no_x same) in
+        (then_never is_hexadecimal 72 (b ∷ h) q (b ∷ (s ++ (x ∷ u))) w refl all hex.stop no_h same)
+        (then_never is_hexadecimal 88 (b ∷ h) q (b ∷ (s ++ (x ∷ u))) w refl all hex.stop no_x same) in
         let m = form_of_digit b (s ++ (x ∷ u)) (digit_no_letter b d) d in
         cc
 

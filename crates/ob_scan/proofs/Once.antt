@@ -1,10 +1,9 @@
 -- A text has one scan.
-use Rattle.std.proofs.Common.{◌≡◌, ℕ, zero, ◌+◌, ◌<◌, ◌≤◌, ◌^◌, List, [], ◌∷◌, ◌++◌, Bool, true, false, nat_eq, cond, Option, Some, None, ◌⊎◌, inl, inr, length, refl, sym, ap, ap₂, ◌∙◌, subst, arith}
+use Rattle.std.proofs.Common.{◌≡◌, ℕ, zero, ◌+◌, List, [], ◌∷◌, ◌++◌, true, false, nat_eq, None, ◌⊎◌, inl, inr, length, refl, sym, ap, ap₂, ◌∙◌, subst, arith}
 use Rattle.std.proofs.lemmas.List.{append-nil}
-use Rattle.ob_symbol.specs.declared.symbol.Kind.{Kind}
 use Rattle.ob_symbol.specs.declared.symbol.Symbol.{Symbol}
-use Rattle.ob_scan.specs.Words.{Form, Name, Keyword, Decimal, Hexadecimal, Character, Quoted, Operator, form_of, kind_of, is_line_end, is_quotable, is_all, is_all_then, begins_with, is_gap, begins_comment, IsTooLarge, IsTooLong, IsWithin}
-use Rattle.ob_scan.specs.Scans.{Gap, Longest, Unclosed, is_line_over, symbol, Scans, End, Done, Broken, ends, reads, bad_byte, open_comment, open_string, too_large, too_long}
+use Rattle.ob_scan.specs.Words.{Form, Name, Keyword, Decimal, Hexadecimal, Character, Quoted, Operator, form_of, kind_of, is_line_end, is_quotable, is_all_then, begins_with, is_gap, begins_comment, IsTooLarge, IsTooLong, IsWithin}
+use Rattle.ob_scan.specs.Scans.{Gap, Longest, Unclosed, is_line_over, Scans, End, Broken, ends, reads, bad_byte, open_comment, open_string, too_large, too_long}
 use Rattle.ob_scan.proofs.Gaps.{cond_false}
 use Rattle.ob_scan.proofs.Longest.{then_never}
 

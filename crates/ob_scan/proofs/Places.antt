@@ -1,7 +1,6 @@
 -- The places of the bytes: what stands there, and what is skipped from one place to another.
-use Rattle.std.proofs.Common.{◌≡◌, ℕ, zero, suc, ◌+◌, ◌-◌, ◌*◌, ◌/◌, ◌<◌, ◌≤◌, List, [], ◌∷◌, ◌++◌, Bool, true, false, cond, nat_eq, nat_lt, ◌&&◌, Option, Some, None, length, take, drop, get_or, refl, sym, ap, ◌∙◌, subst, arith, append_assoc, length-append, length-drop}
-use Rattle.std.proofs.lemmas.List.{append-nil}
-use Rattle.ob_scan.specs.Words.{is_all, is_blank, opens, closes, is_two, begins_with, begins_comment}
+use Rattle.std.proofs.Common.{◌≡◌, ℕ, zero, suc, ◌+◌, ◌-◌, ◌<◌, ◌≤◌, List, [], ◌∷◌, ◌++◌, Bool, true, false, cond, nat_eq, ◌&&◌, Some, None, length, drop, get_or, refl, sym, ap, ◌∙◌, subst, arith, append_assoc}
+use Rattle.ob_scan.specs.Words.{is_all, is_blank, closes, is_two, begins_with}
 use Rattle.ob_scan.specs.Steps.{Skipped, Past, Passing, two_at, close}
 use Rattle.ob_scan.proofs.Gaps.{skip_blank, skip_comment, gap_at, gap_before}
 
@@ -163,4 +162,3 @@ no_two [] (suc i) h l = refl
 no_two (x ∷ []) zero h l = refl
 no_two (x ∷ y ∷ w) zero h l = absurd (omega arith)
 no_two (x ∷ w) (suc i) h l = no_two w i (omega arith) (omega arith)
-

@@ -1,5 +1,5 @@
 -- The steps of a scan at the places of the bytes.
-use Rattle.std.proofs.Common.{◌≡◌, ℕ, zero, suc, ◌+◌, ◌-◌, ◌*◌, ◌/◌, ◌<◌, ◌≤◌, ◌^◌, List, [], ◌∷◌, ◌++◌, Bool, true, false, cond, nat_eq, Option, Some, None, ℤ, pos, negsuc, length, take, drop, get_or, slice_index, refl, sym, ap, ◌∙◌, subst, arith, append_assoc, length-append, length-drop, lit<}
+use Rattle.std.proofs.Common.{◌≡◌, ℕ, zero, suc, ◌+◌, ◌-◌, ◌*◌, ◌<◌, ◌≤◌, ◌^◌, List, [], ◌∷◌, ◌++◌, Bool, true, false, cond, nat_eq, Some, None, ℤ, pos, length, take, drop, get_or, refl, sym, ap, ◌∙◌, subst, arith, append_assoc, length-append, length-drop, lit<}
 use Rattle.std.proofs.lemmas.List.{append-nil}
 use Rattle.std.proofs.Math.Nat.{mul-le-mul_left}
 use Rattle.ob_symbol.specs.declared.symbol.Kind.{Kind}
@@ -10,12 +10,12 @@ use Rattle.ob_symbol.specs.declared.symbol.Symbol.{Symbol}
 use Rattle.ob_scan.specs.declared.fault.NoSymbol.{NoSymbol}
 use Rattle.ob_scan.specs.declared.fault.NoSymbol.TheVariants.{BadByte, OpenString, NumberTooLarge, NameTooLong}
 use Rattle.ob_scan.specs.Tables.{reserved_of, one_mark, two_mark}
-use Rattle.ob_scan.specs.Words.{is_letter, is_letter_or_digit, is_digit, is_hexadecimal, is_quotable, is_all, begins_with, begins_comment, digit, value_from, signed, Form, Name, Keyword, Decimal, Hexadecimal, Character, Quoted, Operator, name_or_keyword, form_of, kind_of, IsTooLarge, IsTooLong, IsWithin}
+use Rattle.ob_scan.specs.Words.{is_letter, is_letter_or_digit, is_digit, is_hexadecimal, is_quotable, is_all, begins_with, begins_comment, digit, value_from, signed, Form, Name, Keyword, Decimal, Hexadecimal, Character, Quoted, Operator, name_or_keyword, kind_of, IsTooLarge, IsTooLong}
 use Rattle.ob_scan.specs.Scans.{Gap, Longest, Unclosed, symbol, Scans, End, Done, Broken, ends, reads, bad_byte, open_comment, open_string, too_large, too_long}
-use Rattle.ob_scan.specs.Steps.{Spanned, Passing, Past, Found, Broke, NoBeginning, Refused, rule, two_at}
+use Rattle.ob_scan.specs.Steps.{Spanned, Passing, Past, Found, Broke, NoBeginning, Refused, IsNext, rule, two_at}
 use Rattle.ob_scan.proofs.Places.{here, after_one, after_two, byte_there}
 use Rattle.ob_scan.proofs.Gaps.{cond_true}
-use Rattle.ob_scan.proofs.Longest.{all_more, all_first, all_rest, digit_is_hexadecimal, all_hexadecimal, name_longest, hexadecimal_longest, character_longest, decimal_longest, text_longest, line_over, one_longest, two_longest, no_beginning}
+use Rattle.ob_scan.proofs.Longest.{all_more, all_first, all_rest, digit_is_hexadecimal, name_longest, hexadecimal_longest, character_longest, decimal_longest, text_longest, line_over, one_longest, two_longest, no_beginning}
 
 take_front : (x y : List ℕ) → take (length x) (x ++ y) ≡ x
 take_front [] y = refl
@@ -279,11 +279,8 @@ refused_at w i from NameTooLong h g p c r =
     let y = too_long {i = i} (subst (Gap p.gap) r.split p.is) (ap begins_comment (sym r.split) ∙ c) r.is r.past in
     subst (λ u. Scans i u [] (Broken 14 from)) (sym (p.split ∙ ap (λ u. p.gap ++ u) r.split)) (subst (λ n. Scans i (p.gap ++ (r.word ++ r.rest)) [] (Broken 14 n)) a y)
 
-pub add_symbol : (w : List ℕ) (out : List Symbol) (s : Symbol) (more : List Symbol) (e : End) → Scans zero w (out ++ (s ∷ more)) e → Scans zero w ((out ++ (s ∷ [])) ++ more) e
-add_symbol w out s more e h = subst (λ z. Scans zero w z e) (sym (append_assoc out (s ∷ []) more)) h
+pub next_at : (w : List ℕ) (i from to : ℕ) (kind : Kind) → i ≤ length w → i ≤ from → from < to → to ≤ length w → Past (drop i w) (drop from w) → begins_comment (drop from w) ≡ false → Found (drop from w) (drop to w) kind → IsNext w i (symbol kind from to)
+next_at w i from to kind h g l t p nc s = record { by = λ more e x. reads_at w i from to kind h (omega arith) t p nc s more e x; low = omega arith; high = t }
 
-pub finished : (w : List ℕ) (out : List Symbol) → Scans zero w (out ++ []) Done → Scans zero w out Done
-finished w out h = subst (λ z. Scans zero w z Done) (append-nil out) h
-
-pub stopped : (w : List ℕ) (out : List Symbol) (number rule at : ℕ) → number ≡ rule → Scans zero w (out ++ []) (Broken rule at) → (before : List Symbol) × Scans zero w before (Broken number at)
-stopped w out number rule at e h = (out ++ [], subst (λ n. Scans zero w (out ++ []) (Broken n at)) (sym e) h)
+pub refused_by : (w : List ℕ) (i from number : ℕ) (none : NoSymbol) → number ≡ rule none → i ≤ length w → from < length w → Past (drop i w) (drop from w) → begins_comment (drop from w) ≡ false → Refused (drop from w) none → Scans i (drop i w) [] (Broken number from)
+refused_by w i from number none e h g p c r = subst (λ n. Scans i (drop i w) [] (Broken n from)) (sym e) (refused_at w i from none h g p c r)

@@ -1,5 +1,5 @@
 -- The symbols of a text, or the first rule that it breaks. (Oberon-07 report, section 3: Vocabulary.)
-use Rattle.std.specs.Prelude.{◌≡◌, ℕ, zero, suc, ◌+◌, ◌-◌, ◌<◌, ◌≤◌, List, [], ◌∷◌, ◌++◌, Bool, true, false, nat_eq, if◌then◌else◌, Option, Some, None, length, slice_range}
+use Rattle.std.specs.Prelude.{◌≡◌, ℕ, zero, ◌+◌, ◌<◌, ◌≤◌, List, [], ◌∷◌, ◌++◌, Bool, true, false, Some, None, length, slice_range}
 use Rattle.ob_symbol.specs.declared.symbol.Kind.{Kind}
 use Rattle.ob_symbol.specs.declared.symbol.Symbol.{Symbol}
 use Rattle.ob_scan.specs.declared.fault.ScanFault.{ScanFault}

@@ -1,12 +1,15 @@
 -- What the steps of a scan find, byte by byte; the proof of `scan` alone speaks of it.
-use Rattle.std.specs.Prelude.{◌≡◌, ℕ, zero, suc, ◌+◌, ◌≤◌, ◌<◌, List, [], ◌∷◌, ◌++◌, Bool, true, false, if◌then◌else◌, Option, Some, None, length}
+use Rattle.std.specs.Prelude.{◌≡◌, ℕ, zero, suc, ◌≤◌, ◌<◌, List, [], ◌∷◌, ◌++◌, Bool, true, false, if◌then◌else◌, Option, Some, None, length, drop}
 use Rattle.ob_symbol.specs.declared.symbol.Kind.{Kind}
 use Rattle.ob_symbol.specs.declared.symbol.Delimiter.{Delimiter}
+use Rattle.ob_symbol.specs.declared.symbol.Symbol.{Symbol}
+use Rattle.ob_scan.specs.declared.fault.ScanFault.{ScanFault}
+use Rattle.ob_scan.specs.declared.fault.ScanFault.TheVariants.{Fault, Memory}
 use Rattle.ob_scan.specs.declared.fault.NoSymbol.{NoSymbol}
 use Rattle.ob_scan.specs.declared.fault.NoSymbol.TheVariants.{BadByte, OpenString, NumberTooLarge, NameTooLong}
 use Rattle.ob_scan.specs.Tables.{two_mark}
 use Rattle.ob_scan.specs.Words.{Form, form_of, kind_of, IsTooLarge, IsTooLong, IsWithin, is_gap, is_all, opens, closes}
-use Rattle.ob_scan.specs.Scans.{Gap, Longest, Unclosed}
+use Rattle.ob_scan.specs.Scans.{Gap, Longest, Unclosed, Scans, End, Done, Broken}
 
 -- s is the front of v that passes, r the rest
 pub record Spanned (p : ℕ → Bool) (v s r : List ℕ) : Type 0 where
@@ -63,6 +66,22 @@ Refused w BadByte = NoBeginning w
 Refused w OpenString = Unclosed w
 Refused w NumberTooLarge = Broke (λ form word. IsTooLarge form) w
 Refused w NameTooLong = Broke IsTooLong w
+
+-- s is the next symbol from place i on
+pub record IsNext (w : List ℕ) (i : ℕ) (s : Symbol) : Type 0 where
+  pub by : (more : List Symbol) (e : End) → Scans s.to (drop s.to w) more e → Scans i (drop i w) (s ∷ more) e
+  pub low : i < s.to
+  pub high : s.to ≤ length w
+
+-- what is next from place i on: a symbol, or the end
+abbrev pub Follows : List ℕ → ℕ → Option Symbol → Type 0
+Follows w i None = Scans i (drop i w) [] Done
+Follows w i (Some s) = IsNext w i s
+
+-- the next that stands from place i on is a fault
+abbrev pub BreaksAt : List ℕ → ℕ → ScanFault → Type 0
+BreaksAt w i (Fault number at) = Scans i (drop i w) [] (Broken number at)
+BreaksAt w i Memory = ⊥
 
 -- the operator of two bytes that a text begins with
 abbrev pub two_at : List ℕ → Option Delimiter

@@ -1,5 +1,5 @@
 -- The two tables: reserved words, and operators and delimiters. (Oberon-07 report, section 3.)
-use Rattle.std.specs.Prelude.{◌≡◌, ℕ, List, [], ◌∷◌, Bool, true, false, nat_eq, if◌then◌else◌, ◌&&◌, Option, Some, None, codes}
+use Rattle.std.specs.Prelude.{ℕ, List, [], ◌∷◌, Bool, nat_eq, if◌then◌else◌, ◌&&◌, Option, Some, None, codes}
 use lib.Pointwise.{pointwise}
 use Rattle.ob_symbol.specs.declared.symbol.Reserved.{Reserved}
 use Rattle.ob_symbol.specs.declared.symbol.Reserved.TheVariants.{ArrayWord, BeginWord, ByWord, CaseWord, ConstWord, DivWord, DoWord, ElseWord, ElsifWord, EndWord, FalseWord, ForWord, IfWord, ImportWord, InWord, IsWord, ModWord, ModuleWord, NilWord, OfWord, OrWord, PointerWord, ProcedureWord, RecordWord, RepeatWord, ReturnWord, ThenWord, ToWord, TrueWord, TypeWord, UntilWord, VarWord, WhileWord}

@@ -1,5 +1,5 @@
 -- Which words are symbols, each taken whole, and which words are blanks and comments.
-use Rattle.std.specs.Prelude.{◌≡◌, ℕ, zero, suc, ◌+◌, ◌-◌, ◌*◌, ◌^◌, ◌<◌, ◌≤◌, List, [], ◌∷◌, Bool, true, false, nat_eq, nat_lt, if◌then◌else◌, ◌&&◌, ◌||◌, Option, Some, None, ℤ, pos, negsuc, length}
+use Rattle.std.specs.Prelude.{ℕ, zero, suc, ◌+◌, ◌-◌, ◌*◌, ◌^◌, ◌<◌, ◌≤◌, List, [], ◌∷◌, Bool, true, false, nat_eq, nat_lt, if◌then◌else◌, ◌&&◌, Option, Some, None, ℤ, pos, negsuc, length}
 use Rattle.ob_symbol.specs.declared.symbol.Kind.{Kind}
 use Rattle.ob_symbol.specs.declared.symbol.Kind.TheVariants.{Ident, Int, Char, Text, Word, Mark}
 use Rattle.ob_symbol.specs.declared.symbol.Reserved.{Reserved}

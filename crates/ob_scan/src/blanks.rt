@@ -1,10 +1,13 @@
 //! Blanks and comments, which are before symbols and between them.
 
-use crate::classes::has_two;
-
 ghost use Rattle.std.specs.Prelude.{◌≡◌, ℕ, zero, ◌<◌, ◌≤◌, length, drop, MatchOption, MatchResult, true, false};
 ghost use Rattle.ob_scan.specs.Words.{begins_comment};
 ghost use Rattle.ob_scan.specs.Steps.{Past, close};
+
+use crate::classes::has_two;
+
+/// Bytes from 0 to this one are blanks.
+const LAST_BLANK: u8 = 32;
 
 /// The place after a comment, from a place in it; `None` where it isn't closed.
 fn comment_end(bytes: &[u8], from: usize) -> Option<usize>
@@ -39,7 +42,7 @@ pub fn skip(bytes: &[u8], at: usize) -> Result<usize, usize>
 {
     let mut i = at;
     'bytes: while i < bytes.len() {
-        if bytes[i] <= 32 {
+        if bytes[i] <= LAST_BLANK {
             i += 1;
         } else if has_two(bytes, i, b'(', b'*') {
             match comment_end(bytes, i + 2) {

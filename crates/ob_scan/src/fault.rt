@@ -1,10 +1,10 @@
 //! Why a text has no symbols.
 
-use std::alloc::AllocFailed;
-use thiserror::Error;
-
 ghost use Rattle.std.specs.Prelude.{◌≡◌};
 ghost use Rattle.ob_scan.specs.declared.fault.ScanFault.TheVariants.{Memory};
+
+use std::alloc::AllocFailed;
+use thiserror::Error;
 
 /// Why no symbol stands at a place.
 #[derive(Clone, Copy, PartialEq, Eq, Debug)]

@@ -1,10 +1,10 @@
 //! Operators and delimiters: one table, which the definitions `one_mark` and `two_mark` have too.
 
-use ob_symbol::Delimiter;
-
 ghost use Rattle.std.specs.Prelude.{◌≡◌, ◌<◌, length, drop};
 ghost use Rattle.ob_scan.specs.Tables.{one_mark, two_mark};
 ghost use Rattle.ob_scan.specs.Steps.{two_at};
+
+use ob_symbol::Delimiter;
 
 /// The operator or delimiter of one byte.
 pub fn one_byte(a: u8) -> Option<Delimiter>

@@ -1,13 +1,16 @@
 //! Identifiers and reserved words.
 
+ghost use Rattle.std.specs.Prelude.{◌≡◌, ◌<◌, ◌≤◌, length, drop, true, slice_index, IfOk, IfErr};
+ghost use Rattle.ob_scan.specs.Words.{is_letter};
+ghost use Rattle.ob_scan.specs.Steps.{Found, Refused};
+
 use crate::classes::name_end;
 use crate::fault::NoSymbol;
 use crate::reserved::find_reserved;
 use ob_symbol::Kind;
 
-ghost use Rattle.std.specs.Prelude.{◌≡◌, ◌<◌, ◌≤◌, length, drop, true, slice_index, IfOk, IfErr};
-ghost use Rattle.ob_scan.specs.Words.{is_letter};
-ghost use Rattle.ob_scan.specs.Steps.{Found, Refused};
+/// The most bytes that an identifier has.
+const LONGEST_NAME: usize = 255;
 
 /// The identifier or reserved word that begins with the letter here, and the place after it.
 pub fn name(bytes: &[u8], at: usize) -> Result<(Kind, usize), NoSymbol>
@@ -21,7 +24,7 @@ pub fn name(bytes: &[u8], at: usize) -> Result<(Kind, usize), NoSymbol>
     match find_reserved(&bytes[at..to]) {
         Some(word) => Ok((Kind::Word(word), to)),
         None => {
-            if to - at <= 255 {
+            if to - at <= LONGEST_NAME {
                 Ok((Kind::Ident, to))
             } else {
                 Err(NoSymbol::NameTooLong)

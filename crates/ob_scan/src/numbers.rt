@@ -1,12 +1,12 @@
 //! Literals of numbers and characters.
 
-use crate::classes::{digits_end, has_byte, hexadecimal_end, is_digit_byte};
-use crate::fault::NoSymbol;
-use ob_symbol::Kind;
-
 ghost use Rattle.std.specs.Prelude.{◌≡◌, ℕ, ◌+◌, ◌^◌, ◌<◌, ◌≤◌, length, drop, true, get_or, slice_index, MatchOption, IfOk, IfErr, IsTrue};
 ghost use Rattle.ob_scan.specs.Words.{is_digit, is_hexadecimal, is_all, digit, value_from, signed};
 ghost use Rattle.ob_scan.specs.Steps.{Found, Refused};
+
+use crate::classes::{digits_end, has_byte, hexadecimal_end, is_digit_byte};
+use crate::fault::NoSymbol;
+use ob_symbol::Kind;
 
 /// The value of a digit or of a letter A to F.
 fn digit_of(b: u8) -> u8

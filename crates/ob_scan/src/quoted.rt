@@ -1,11 +1,11 @@
 //! Strings between quotes.
 
+ghost use Rattle.std.specs.Prelude.{◌≡◌, ◌<◌, ◌≤◌, length, drop, slice_index, IfOk, IfErr};
+ghost use Rattle.ob_scan.specs.Steps.{Found, Refused};
+
 use crate::classes::{has_byte, quotable_end};
 use crate::fault::NoSymbol;
 use ob_symbol::Kind;
-
-ghost use Rattle.std.specs.Prelude.{◌≡◌, ◌<◌, ◌≤◌, length, drop, slice_index, IfOk, IfErr};
-ghost use Rattle.ob_scan.specs.Steps.{Found, Refused};
 
 /// The string that begins with the quote here, and the place after it.
 pub fn quoted(bytes: &[u8], at: usize) -> Result<(Kind, usize), NoSymbol>

@@ -1,9 +1,21 @@
 //! Reserved words: one table, which the definition `reserved_of` has too.
 
-use ob_symbol::Reserved;
-
 ghost use Rattle.std.specs.Prelude.{◌≡◌};
 ghost use Rattle.ob_scan.specs.Tables.{is_same, reserved_of};
+
+use ob_symbol::Reserved;
+
+/// The variant beside the word's spelling in a table, if the word stands there.
+macro_rules! in_table {
+    ($word:expr, $($spelling:literal => $reserved:ident),+ $(,)?) => {{
+        $(
+            if is_word($word, $spelling) {
+                return Some(Reserved::$reserved);
+            }
+        )+
+        None
+    }};
+}
 
 /// Whether two words are the same.
 fn is_word(word: &[u8], other: &[u8]) -> bool
@@ -16,104 +28,40 @@ fn is_word(word: &[u8], other: &[u8]) -> bool
 pub fn find_reserved(word: &[u8]) -> Option<Reserved>
     ensures { result ≡ reserved_of word.now }
 {
-    if is_word(word, b"ARRAY") {
-        return Some(Reserved::ArrayWord);
-    }
-    if is_word(word, b"BEGIN") {
-        return Some(Reserved::BeginWord);
-    }
-    if is_word(word, b"BY") {
-        return Some(Reserved::ByWord);
-    }
-    if is_word(word, b"CASE") {
-        return Some(Reserved::CaseWord);
-    }
-    if is_word(word, b"CONST") {
-        return Some(Reserved::ConstWord);
-    }
-    if is_word(word, b"DIV") {
-        return Some(Reserved::DivWord);
-    }
-    if is_word(word, b"DO") {
-        return Some(Reserved::DoWord);
-    }
-    if is_word(word, b"ELSE") {
-        return Some(Reserved::ElseWord);
-    }
-    if is_word(word, b"ELSIF") {
-        return Some(Reserved::ElsifWord);
-    }
-    if is_word(word, b"END") {
-        return Some(Reserved::EndWord);
-    }
-    if is_word(word, b"FALSE") {
-        return Some(Reserved::FalseWord);
-    }
-    if is_word(word, b"FOR") {
-        return Some(Reserved::ForWord);
-    }
-    if is_word(word, b"IF") {
-        return Some(Reserved::IfWord);
-    }
-    if is_word(word, b"IMPORT") {
-        return Some(Reserved::ImportWord);
-    }
-    if is_word(word, b"IN") {
-        return Some(Reserved::InWord);
-    }
-    if is_word(word, b"IS") {
-        return Some(Reserved::IsWord);
-    }
-    if is_word(word, b"MOD") {
-        return Some(Reserved::ModWord);
-    }
-    if is_word(word, b"MODULE") {
-        return Some(Reserved::ModuleWord);
-    }
-    if is_word(word, b"NIL") {
-        return Some(Reserved::NilWord);
-    }
-    if is_word(word, b"OF") {
-        return Some(Reserved::OfWord);
-    }
-    if is_word(word, b"OR") {
-        return Some(Reserved::OrWord);
-    }
-    if is_word(word, b"POINTER") {
-        return Some(Reserved::PointerWord);
-    }
-    if is_word(word, b"PROCEDURE") {
-        return Some(Reserved::ProcedureWord);
-    }
-    if is_word(word, b"RECORD") {
-        return Some(Reserved::RecordWord);
-    }
-    if is_word(word, b"REPEAT") {
-        return Some(Reserved::RepeatWord);
-    }
-    if is_word(word, b"RETURN") {
-        return Some(Reserved::ReturnWord);
-    }
-    if is_word(word, b"THEN") {
-        return Some(Reserved::ThenWord);
-    }
-    if is_word(word, b"TO") {
-        return Some(Reserved::ToWord);
-    }
-    if is_word(word, b"TRUE") {
-        return Some(Reserved::TrueWord);
-    }
-    if is_word(word, b"TYPE") {
-        return Some(Reserved::TypeWord);
-    }
-    if is_word(word, b"UNTIL") {
-        return Some(Reserved::UntilWord);
-    }
-    if is_word(word, b"VAR") {
-        return Some(Reserved::VarWord);
-    }
-    if is_word(word, b"WHILE") {
-        return Some(Reserved::WhileWord);
-    }
-    None
+    in_table!(
+        word,
+        b"ARRAY" => ArrayWord,
+        b"BEGIN" => BeginWord,
+        b"BY" => ByWord,
+        b"CASE" => CaseWord,
+        b"CONST" => ConstWord,
+        b"DIV" => DivWord,
+        b"DO" => DoWord,
+        b"ELSE" => ElseWord,
+        b"ELSIF" => ElsifWord,
+        b"END" => EndWord,
+        b"FALSE" => FalseWord,
+        b"FOR" => ForWord,
+        b"IF" => IfWord,
+        b"IMPORT" => ImportWord,
+        b"IN" => InWord,
+        b"IS" => IsWord,
+        b"MOD" => ModWord,
+        b"MODULE" => ModuleWord,
+        b"NIL" => NilWord,
+        b"OF" => OfWord,
+        b"OR" => OrWord,
+        b"POINTER" => PointerWord,
+        b"PROCEDURE" => ProcedureWord,
+        b"RECORD" => RecordWord,
+        b"REPEAT" => RepeatWord,
+        b"RETURN" => ReturnWord,
+        b"THEN" => ThenWord,
+        b"TO" => ToWord,
+        b"TRUE" => TrueWord,
+        b"TYPE" => TypeWord,
+        b"UNTIL" => UntilWord,
+        b"VAR" => VarWord,
+        b"WHILE" => WhileWord,
+    )
 }

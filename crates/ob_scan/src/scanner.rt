@@ -1,5 +1,10 @@
 //! One symbol, and all symbols of a text.
 
+ghost use Rattle.std.specs.Prelude.{◌≡◌, ℕ, zero, ◌<◌, ◌≤◌, length, drop, slice_index, false, IfOk, IfErr, nat_eq};
+ghost use Rattle.ob_scan.specs.Words.{is_letter, is_digit};
+ghost use Rattle.ob_scan.specs.Steps.{Found, Refused, Follows, BreaksAt, rule};
+ghost use Rattle.ob_scan.specs.Scans.{Scans, Done, IsFirst};
+
 use crate::blanks::skip;
 use crate::classes::{is_digit_byte, is_letter_byte};
 use crate::fault::{NoSymbol, ScanFault};
@@ -9,11 +14,6 @@ use crate::numbers::number;
 use crate::quoted::quoted;
 use ob_symbol::{Kind, Symbol};
 use std::alloc::Global;
-
-ghost use Rattle.std.specs.Prelude.{◌≡◌, ℕ, zero, ◌<◌, ◌≤◌, length, drop, slice_index, false, IfOk, IfErr, nat_eq};
-ghost use Rattle.ob_scan.specs.Words.{is_letter, is_digit};
-ghost use Rattle.ob_scan.specs.Steps.{Found, Refused, rule};
-ghost use Rattle.ob_scan.specs.Scans.{Scans, Done, IsFirst, InOrder, Spells};
 
 /// The operator or delimiter here, and the place after it.
 fn mark(bytes: &[u8], at: usize) -> Result<(Kind, usize), NoSymbol>
@@ -64,6 +64,37 @@ fn rule_of(none: NoSymbol) -> u8
     }
 }
 
+/// The next symbol from a place on, or `None` where only blanks and comments are left.
+fn symbol_after(bytes: &[u8], at: usize) -> Result<Option<Symbol>, ScanFault>
+    requires size { length bytes.now ≤ 1048576 }
+    requires inside { at ≤ length bytes.now }
+    ensures next { IfOk result (λ next. Follows bytes.now at next) }
+    ensures first { IfErr result (λ e. BreaksAt bytes.now at e) }
+{
+    match skip(bytes, at) {
+        Err(opening) => Err(ScanFault::Fault {
+            number: 11,
+            at: opening as u32,
+        }),
+        Ok(from) => {
+            if from == bytes.len() {
+                return Ok(None);
+            }
+            match symbol(bytes, from) {
+                Ok((kind, to)) => Ok(Some(Symbol {
+                    kind,
+                    from: from as u32,
+                    to: to as u32,
+                })),
+                Err(none) => Err(ScanFault::Fault {
+                    number: rule_of(none),
+                    at: from as u32,
+                }),
+            }
+        }
+    }
+}
+
 /// The symbols of a text of at most 1 MiB, with their places, or the first rule that it breaks.
 ///
 /// The time is proportional to the number of bytes. `scans_once` says that a text has one scan, so that each
@@ -73,37 +104,11 @@ pub fn scan(alloc: Global, bytes: &[u8]) -> Result<Vec<Symbol>, ScanFault>
     ensures symbols { IfOk result (λ v. Scans zero bytes.now v.items Done) }
     ensures first { IfErr result (λ e. IsFirst bytes.now e) }
 {
-    let mut out = Vec::new(alloc);
+    let mut symbols = Vec::new(alloc);
     let mut at = 0;
-    'symbols: loop {
-        match skip(bytes, at) {
-            Err(place) => {
-                return Err(ScanFault::Fault {
-                    number: 11,
-                    at: place as u32,
-                });
-            }
-            Ok(from) => {
-                if from == bytes.len() {
-                    return Ok(out);
-                }
-                match symbol(bytes, from) {
-                    Err(none) => {
-                        return Err(ScanFault::Fault {
-                            number: rule_of(none),
-                            at: from as u32,
-                        });
-                    }
-                    Ok((kind, to)) => {
-                        out.push(Symbol {
-                            kind,
-                            from: from as u32,
-                            to: to as u32,
-                        })?;
-                        at = to;
-                    }
-                }
-            }
-        }
+    'symbols: while let Some(symbol) = symbol_after(bytes, at)? {
+        symbols.push(symbol)?;
+        at = symbol.to as usize;
     }
+    Ok(symbols)
 }

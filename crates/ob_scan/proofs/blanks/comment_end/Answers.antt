@@ -1,4 +1,4 @@
-use Rattle.std.proofs.Common.{◌≡◌, ◌∙◌, sym, ap, arith, drop, zero, subst, ℕ}
+use Rattle.std.proofs.Common.{◌∙◌, sym, ap, arith, drop, ℕ}
 use Rattle.ob_scan.specs.Steps.{close}
 use Rattle.ob_scan.proofs.Places.{comment_opens, comment_closes, comment_ends, comment_goes_on}
 use Rattle.ob_scan.proofs.blanks.comment_end.Goals as goal

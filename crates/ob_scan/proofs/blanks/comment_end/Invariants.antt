@@ -1,4 +1,4 @@
-use Rattle.std.proofs.Common.{◌≡◌, ℕ, zero, ◌≤◌, ◌-◌, length, drop}
+use Rattle.std.proofs.Common.{◌≡◌, zero, ◌≤◌, ◌-◌, length, drop}
 use Rattle.ob_scan.specs.Steps.{close}
 use Rattle.ob_scan.proofs.blanks.comment_end.Given as goal
 

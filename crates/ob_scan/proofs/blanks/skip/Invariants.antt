@@ -1,4 +1,4 @@
-use Rattle.std.proofs.Common.{◌≡◌, ℕ, zero, ◌≤◌, ◌-◌, length, drop}
+use Rattle.std.proofs.Common.{◌≤◌, ◌-◌, length, drop}
 use Rattle.ob_scan.specs.Steps.{Skipped}
 use Rattle.ob_scan.proofs.blanks.skip.Given as goal
 

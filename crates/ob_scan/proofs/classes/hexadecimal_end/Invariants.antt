@@ -1,4 +1,4 @@
-use Rattle.std.proofs.Common.{◌≡◌, ℕ, zero, ◌≤◌, ◌-◌, length, drop}
+use Rattle.std.proofs.Common.{◌≤◌, ◌-◌, length, drop}
 use Rattle.ob_scan.specs.Words.{is_hexadecimal}
 use Rattle.ob_scan.specs.Steps.{Passing}
 use Rattle.ob_scan.proofs.classes.hexadecimal_end.Given as goal

@@ -1,4 +1,4 @@
-use Rattle.std.proofs.Common.{◌≡◌, ◌∙◌, sym, ap, arith, drop}
+use Rattle.std.proofs.Common.{sym, arith}
 use Rattle.ob_scan.specs.Words.{is_letter_or_digit}
 use Rattle.ob_scan.proofs.Places.{passes}
 use Rattle.ob_scan.proofs.classes.name_end.Goals as goal

@@ -1,4 +1,4 @@
-use Rattle.std.proofs.Common.{◌≡◌, ℕ, zero, ◌≤◌, ◌-◌, length, drop}
+use Rattle.std.proofs.Common.{◌≤◌, ◌-◌, length, drop}
 use Rattle.ob_scan.specs.Words.{is_quotable}
 use Rattle.ob_scan.specs.Steps.{Passing}
 use Rattle.ob_scan.proofs.classes.quotable_end.Given as goal

@@ -1,4 +1,4 @@
-use Rattle.std.proofs.Common.{◌≡◌, ℕ, ◌+◌, ◌≤◌, length, arith}
+use Rattle.std.proofs.Common.{arith}
 use Rattle.ob_scan.proofs.Order.{in_order, few}
 use Rattle.ob_scan.proofs.laws.symbols_lie_in_order.Goals as goal
 

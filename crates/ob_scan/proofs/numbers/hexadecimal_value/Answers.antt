@@ -1,6 +1,5 @@
-use Rattle.std.proofs.Common.{◌≡◌, ℕ, ◌+◌, ◌*◌, ◌≤◌, arith, ◌∙◌, lit≤, get_or}
-use Rattle.ob_scan.specs.Words.{is_digit, is_hexadecimal, is_all, digit, value_from}
-use Rattle.ob_scan.proofs.Longest.{all_hexadecimal}
+use Rattle.std.proofs.Common.{◌≡◌, arith, ◌∙◌, lit≤, get_or}
+use Rattle.ob_scan.specs.Words.{is_hexadecimal, digit}
 use Rattle.ob_scan.proofs.Turns.{all_at, value_step, value_grows}
 use Rattle.ob_scan.proofs.numbers.hexadecimal_value.Goals as goal
 

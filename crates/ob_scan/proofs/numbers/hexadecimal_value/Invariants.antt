@@ -1,4 +1,4 @@
-use Rattle.std.proofs.Common.{◌≡◌, ℕ, ◌<◌, ◌≤◌, ◌^◌, drop}
+use Rattle.std.proofs.Common.{◌≡◌, ◌≤◌, drop}
 use Rattle.ob_scan.specs.Words.{value_from}
 use Rattle.ob_scan.proofs.numbers.hexadecimal_value.Given as goal
 

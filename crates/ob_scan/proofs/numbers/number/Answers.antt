@@ -1,8 +1,8 @@
-use Rattle.std.proofs.Common.{◌≡◌, ℕ, ◌<◌, ◌^◌, arith, ◌∙◌, sym, to_z, of_z, pos, rules}
+use Rattle.std.proofs.Common.{arith, ◌∙◌, rules}
 use Rattle.std.proofs.lemmas.Int.{to_z-of_z}
 use mir.Syntax.{w64}
 use mir.Val.{SFits}
-use Rattle.ob_scan.specs.Words.{is_digit, is_hexadecimal, signed}
+use Rattle.ob_scan.specs.Words.{is_digit, is_hexadecimal}
 use Rattle.ob_scan.proofs.Turns.{run_at, run_hexadecimal, run_digits, signed_small, hexadecimal_found, hexadecimal_broke, character_found, character_broke, decimal_found, decimal_broke}
 use Rattle.ob_scan.proofs.numbers.number.Goals as goal
 

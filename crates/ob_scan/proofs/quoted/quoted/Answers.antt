@@ -1,6 +1,5 @@
-use Rattle.std.proofs.Common.{◌≡◌, arith}
+use Rattle.std.proofs.Common.{arith}
 use Rattle.ob_scan.specs.Words.{is_quotable}
-use Rattle.ob_scan.proofs.Places.{byte_there}
 use Rattle.ob_scan.proofs.Turns.{run_at, text_found, text_open}
 use Rattle.ob_scan.proofs.quoted.quoted.Goals as goal
 

@@ -1,5 +1,4 @@
-use Rattle.std.proofs.Common.{◌≡◌, arith}
-use Rattle.ob_scan.proofs.Turns.{one_found, two_found, none_found}
+use Rattle.ob_scan.proofs.Turns.{one_found, two_found}
 use Rattle.ob_scan.proofs.scanner.mark.Goals as goal
 
 pub returns-in-Some-clause-found : goal.returns-in-Some-clause-found
