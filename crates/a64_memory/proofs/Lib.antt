@@ -1,1 +1,7 @@
 pub mod Places
+pub mod Slabs
+pub mod Stores
+pub mod Cells
+pub mod Blocks
+pub mod Shapes
+pub mod Copies

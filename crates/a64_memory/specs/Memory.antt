@@ -93,3 +93,8 @@ pub record Shape : Type 0 where
 abbrev pub shapes : List Area → List Shape
 shapes [] = []
 shapes (a ∷ m) = record { base = a.base; bytes = length a.bytes } ∷ shapes m
+
+-- the same of the shapes alone
+abbrev pub covered : List Shape → ℕ → ℕ → Bool
+covered [] address n = false
+covered (s ∷ ss) address n = nat_le s.base address && nat_le (address + n) (s.base + s.bytes) || covered ss address n

@@ -7,6 +7,8 @@
 
 mod access;
 mod region;
+#[cfg(test)]
+mod tests;
 
 pub use access::{load1, load8, store1, store8};
 pub use region::Region;

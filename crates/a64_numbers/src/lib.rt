@@ -10,6 +10,8 @@ mod arithmetic;
 mod flags;
 mod moves;
 mod shifts;
+#[cfg(test)]
+mod tests;
 
 pub use arithmetic::{bic, branch_19, branch_26, immediate, madd, msub, orn, sdiv};
 pub use flags::{Flags, ands_flags, csel, csinc, csneg, holds, opposite, subs_flags};

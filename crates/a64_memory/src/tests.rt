@@ -1,0 +1,27 @@
+//! Loads and stores over two regions, at their ends and across them.
+
+use crate::{Region, load1, load8, store1, store8};
+use std::test::Fail;
+
+#[test]
+fn loads_after_stores(rt: HostRuntime) -> Result<(), Fail> {
+    let low = Region {
+        base: 0x1000_0000,
+        bytes: vec![in rt.alloc(); 0u8; 16]?,
+    };
+    let high = Region {
+        base: 0x1000_0010,
+        bytes: vec![in rt.alloc(); 0u8; 9]?,
+    };
+    let mut regions = vec![in rt.alloc(); low, high]?;
+    assert!(rt; store8(&mut regions, 0x1000_0008, 0x0102_0304_0506_0708));
+    assert!(rt; store1(&mut regions, 0x1000_0018, 0xabcd));
+    assert_eq!(rt; load8(&regions, 0x1000_0008), Some(0x0102_0304_0506_0708));
+    assert_eq!(rt; load1(&regions, 0x1000_0008), Some(8));
+    assert_eq!(rt; load8(&regions, 0x1000_0011), Some(0xcd00_0000_0000_0000));
+    assert!(rt; !store8(&mut regions, 0x1000_0009, 1));
+    assert!(rt; !store1(&mut regions, 0x1000_0019, 1));
+    assert_eq!(rt; load8(&regions, 0x1000_0012), None);
+    assert_eq!(rt; load1(&regions, 0x0fff_ffff), None);
+    Ok(())
+}
