@@ -3,3 +3,4 @@ pub mod Services
 pub mod Effects
 pub mod Machine
 pub mod View
+pub mod Answers

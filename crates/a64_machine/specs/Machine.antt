@@ -6,7 +6,7 @@ use Rattle.a64_memory.specs.Memory.{Area}
 use Rattle.a64_instr.specs.declared.instr.Instr.{Instr}
 use Rattle.a64_table.specs.Decode.{decode_of}
 use Rattle.image_form.specs.declared.image.Image.{Image}
-use Rattle.a64_machine.specs.State.{State, Trap, Undefined, BadAddress, code_base, place_at}
+use Rattle.a64_machine.specs.State.{State, Trap, Undefined, BadAddress, code_base, place_at, put}
 use Rattle.a64_machine.specs.Effects.{effect}
 
 -- where the areas lie
@@ -42,16 +42,10 @@ first_memory image =
     record { base = data_base; bytes = replicate image.globals 0 ++ image.constants }
     ∷ zeroed local_base local_bytes ∷ zeroed frames_base (frames_bytes image.frame) ∷ zeroed heap_base heap_bytes ∷ []
 
--- local data, the calls that may still be open, the heap, its bytes and the cells of local data that are left, the globals
+-- X19 is at the local data, X20 has the calls that may still be open, X21 is at the heap, X22 and X23 have the heap's bytes
+-- and the cells of local data that are left, X24 is at the globals; the others are 0
 abbrev pub first_registers : ℕ → ℕ
-first_registers n =
-    if n == 19 then local_base
-    else (if n == 20 then 8192
-    else (if n == 21 then heap_base
-    else (if n == 22 then 8388608
-    else (if n == 23 then 1048576
-    else (if n == 24 then data_base
-    else 0)))))
+first_registers = put (put (put (put (put (put (λ n. 0) 19 local_base) 20 8192) 21 heap_base) 22 8388608) 23 1048576) 24 data_base
 
 -- the state in which an image is loaded
 abbrev pub start : Image → List ℕ → State

@@ -1,12 +1,13 @@
 -- How the code's values are seen: a core as a state, and an answer as what a step comes to.
-use Rattle.std.specs.Prelude.{ℕ, List, [], drop, slice_index, Option, Some, None}
+use Rattle.std.specs.Prelude.{◌≡◌, ℕ, List, [], drop, slice_index, Option, Some, None}
 use Rattle.run_laws.specs.Runs as runs
 use Rattle.a64_memory.specs.Memory.{areas}
 use Rattle.a64_instr.specs.declared.instr.Instr.{Instr}
 use Rattle.a64_instr.specs.declared.instr.Instr.TheVariants.{Svc}
 use Rattle.a64_machine.specs.State.{State, place_at}
 use Rattle.a64_machine.specs.State as why
-use Rattle.a64_machine.specs.declared.core.Core.{Core}
+use Rattle.a64_machine.specs.declared.processor.Core.{Core}
+use Rattle.a64_machine.specs.declared.machine.Machine.{Machine}
 use Rattle.a64_machine.specs.declared.answers.Step.{Step}
 use Rattle.a64_machine.specs.declared.answers.Step.TheVariants.{Going, Ended, Trapped, Undefined, BadAddress, BadCall, WriteFault}
 
@@ -21,15 +22,23 @@ core_state c = record {
   input = drop c.taken c.input.items;
 }
 
--- what a step came to that wrote nothing, answered so, and left the machine in this state
-abbrev pub told : Step → State → runs.Step State why.Trap
-told Going s = runs.Moves [] s
-told Ended s = runs.Ends
-told (Trapped kind) s = runs.Traps (why.Broke kind (place_at s.pc))
-told (Undefined word) s = runs.Traps (why.Undefined word)
-told (BadAddress address) s = runs.Traps (why.BadAddress address)
-told (BadCall number) s = runs.Traps (why.BadCall number)
-told WriteFault s = runs.Moves [] s
+-- the code that a machine runs, and the state that it is in
+abbrev pub code_of : Machine → List ℕ
+code_of m = m.code.items
+
+abbrev pub state_of : Machine → State
+state_of m = core_state m.core
+
+-- a machine at s answers a step that writes nothing so, and is at t afterwards: where it goes on, at the step's
+-- next state, and where it halts, at s as before
+abbrev pub Told : Step → State → State → runs.Step State why.Trap → Type 0
+Told Going s t step = step ≡ runs.Moves [] t
+Told Ended s t step = (step ≡ runs.Ends) × (t ≡ s)
+Told (Trapped kind) s t step = (step ≡ runs.Traps (why.Broke kind (place_at s.pc))) × (t ≡ s)
+Told (Undefined word) s t step = (step ≡ runs.Traps (why.Undefined word)) × (t ≡ s)
+Told (BadAddress address) s t step = (step ≡ runs.Traps (why.BadAddress address)) × (t ≡ s)
+Told (BadCall number) s t step = (step ≡ runs.Traps (why.BadCall number)) × (t ≡ s)
+Told WriteFault s t step = ⊥
 
 -- the number of an SVC
 abbrev pub service_number : Instr → Option ℕ

@@ -1,0 +1,80 @@
+-- Steps one after the other: what a sequence of code words does.
+use Rattle.std.proofs.Common.{◌≡◌, ℕ, ◌+◌, ◌-◌, ◌*◌, ◌/◌, ◌%◌, ◌^◌, ◌<◌, ◌≤◌, ◌==◌, ◌&&◌, Bool, true, false, cond, nat_le, List, [], ◌∷◌, ◌++◌, length, Option, Some, None, refl, sym, ap, ◌∙◌, subst, arith, append_assoc}
+use Rattle.std.specs.Prelude.{slice_get}
+use Rattle.std.proofs.lemmas.Bool.Decides.{nat_tests}
+use Rattle.std.proofs.lemmas.Bool.{cond-true}
+use Rattle.std.proofs.lemmas.List.{append-nil}
+use Rattle.run_laws.specs.Runs.{Step, Moves, Ends, Traps, System, Walk}
+use Rattle.a64_table.specs.Decode.{decode_of}
+use Rattle.a64_instr.specs.declared.instr.Instr.{Instr}
+use Rattle.a64_machine.specs.State.{State, Trap, code_base, address_of, place_at}
+use Rattle.a64_machine.specs.Effects.{effect}
+use Rattle.a64_machine.specs.Machine.{fetch, fetched, decoded, step_of, system_of}
+use Rattle.a64_machine.proofs.Making.{step-effect}
+
+-- the word at an address of the code is that word of the code
+pub place-address : (place : ℕ) → place_at (address_of place) ≡ place
+place-address place = omega arith
+
+-- a code word is fetched at its address
+pub fetch-address : (code : List ℕ) (place : ℕ) → fetch code (address_of place) ≡ slice_get code place
+fetch-address code place =
+    let low : nat_le code_base (address_of place) ≡ true = grind (arith, nat_tests) in
+    let whole : (address_of place % 4 == 0) ≡ true = grind (arith, nat_tests) in
+    let both : (nat_le code_base (address_of place) && address_of place % 4 == 0) ≡ true = grind (arith, nat_tests) in
+    cond-true (nat_le code_base (address_of place) && address_of place % 4 == 0) (slice_get code (place_at (address_of place))) None both ∙ ap (slice_get code) (place-address place)
+
+-- at a code word stands this instruction
+pub record Stands (code : List ℕ) (place : ℕ) (i : Instr) : Type 0 where
+  pub word : ℕ
+  pub is_word : slice_get code place ≡ Some word
+  pub is_instr : decode_of word ≡ Some i
+
+-- from s the machine passes these words, writes these bytes, and stands at t
+pub record Walks (code : List ℕ) (s : State) (places bytes : List ℕ) (t : State) : Type 0 where
+  pub walk : Walk (system_of code) s places bytes t
+
+module _ {code : List ℕ} (place : ℕ) {i : Instr} (stands : Stands code place i) (s : State) (here : s.pc ≡ address_of place) where
+  -- the step there is the instruction's effect
+  pub step-at : step_of code s ≡ effect i s
+  step-at = step-effect code s stands.word i (ap (fetch code) here ∙ fetch-address code place ∙ stands.is_word) stands.is_instr
+
+  -- the state stands at that word
+  pub point-at : (system_of code).at s ≡ place
+  point-at = ap place_at here ∙ place-address place
+
+  -- one step on
+  pub walks-one : {bytes : List ℕ} {t : State} → effect i s ≡ Moves bytes t → Walks code s (place ∷ []) bytes t
+  walks-one {bytes} {t} e = record { walk = (t, bytes, [], point-at, step-at ∙ e, sym (append-nil bytes), (refl, refl)) }
+
+  -- one step that writes nothing, before a walk
+  pub walks-on : {places bytes : List ℕ} {t u : State} → effect i s ≡ Moves [] t → Walks code t places bytes u → Walks code s (place ∷ places) bytes u
+  walks-on {places} {bytes} {t} {u} e more = record { walk = (t, [], bytes, point-at, step-at ∙ e, refl, more.walk) }
+
+  -- one step that writes, before a walk
+  pub walks-writing : {places now bytes : List ℕ} {t u : State} → effect i s ≡ Moves now t → Walks code t places bytes u → Walks code s (place ∷ places) (now ++ bytes) u
+  walks-writing {places} {now} {bytes} {t} {u} e more = record { walk = (t, now, bytes, point-at, step-at ∙ e, refl, more.walk) }
+
+-- a walk that ends at a state that is the wanted one
+pub walks-is : {code places bytes : List ℕ} {s t u : State} → t ≡ u → Walks code s places bytes t → Walks code s places bytes u
+walks-is {code} {places} {bytes} {s} {t} {u} e w = subst (λ x. Walks code s places bytes x) e w
+
+-- no step
+pub walks-none : (code : List ℕ) (s : State) → Walks code s [] [] s
+walks-none code s = record { walk = (refl, refl) }
+
+-- two walks, one after the other
+pub walks-append : {code ps qs v w : List ℕ} {s t u : State} → Walks code s ps v t → Walks code t qs w u → Walks code s (ps ++ qs) (v ++ w) u
+walks-append {code} {ps} {qs} {v} {w} {s} {t} {u} a b = record { walk = joined ps s v a.walk }
+  where
+    joined : (ps : List ℕ) (s : State) (v : List ℕ) → Walk (system_of code) s ps v t → Walk (system_of code) s (ps ++ qs) (v ++ w) u
+    joined [] s v a = subst (λ x. Walk (system_of code) s qs x u) (ap (λ x. x ++ w) (sym a.1)) (subst (λ x. Walk (system_of code) x qs w u) a.0 b.walk)
+    joined (p ∷ ps) s v a = (a.0, a.1, a.2 ++ w, a.3, a.4, ap (λ x. x ++ w) a.5 ∙ append_assoc a.1 a.2 w, joined ps a.0 a.2 a.6)
+
+-- instructions stand one after the other in the code from a place on
+pub record StandsAll (code : List ℕ) (place : ℕ) (instrs : List Instr) : Type 0 where
+  pub at : (k : ℕ) (i : Instr) → slice_get instrs k ≡ Some i → Stands code (place + k) i
+
+-- the address behind a code word is the next one's
+pub next_pc : (place : ℕ) → place < 2 ^ 32 → (address_of place + 4) % 2 ^ 64 ≡ address_of (place + 1)
+next_pc place small = omega arith

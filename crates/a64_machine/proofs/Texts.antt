@@ -1,0 +1,93 @@
+-- A text in memory, read byte by byte from its front.
+use Rattle.std.proofs.Common.{◌≡◌, ◌≢◌, ℕ, zero, suc, ◌+◌, ◌-◌, ◌*◌, ◌<◌, ◌≤◌, ◌^◌, ◌%◌, List, [], ◌∷◌, ◌++◌, length, drop, Option, Some, None, refl, sym, ap, ◌∙◌, subst, arith, append_assoc, length-append, Result, Ok, Err, OnErr}
+use Rattle.trc_base.specs.Devices.{Took, Grew, TookFront}
+use Rattle.trc_base.proofs.Taking.{took_none, took_on, grew_none, grew_on}
+use Rattle.std.proofs.lemmas.List.{append-nil}
+use Rattle.a64_numbers.specs.Numbers.{add64}
+use Rattle.a64_memory.specs.Memory.{Area, load1}
+use Rattle.a64_machine.specs.Services.{Text, Bytes, Outside, before, text_with, text_at}
+use Rattle.a64_machine.specs.Answers.{TookAll, OfBytes, Lacks}
+
+-- bytes before a text
+abbrev pub joined : List ℕ → Text → Text
+joined front (Bytes bytes) = Bytes (front ++ bytes)
+joined front (Outside address) = Outside address
+
+joined_none : (text : Text) → text ≡ joined [] text
+joined_none (Bytes bytes) = refl
+joined_none (Outside address) = refl
+
+joined_one : (front : List ℕ) (byte : ℕ) (text : Text) → joined front (before byte text) ≡ joined (front ++ byte ∷ []) text
+joined_one front byte (Bytes bytes) = ap Bytes (sym (append_assoc front (byte ∷ []) bytes))
+joined_one front byte (Outside address) = refl
+
+-- a text of which the bytes in front were seen, and what is left of it is at an address
+pub record Seen (whole : Text) (memory : List Area) (by at left : ℕ) (front : List ℕ) : Type 0 where
+  pub is : whole ≡ joined front (text_at memory by at left)
+
+pub seen_none : (memory : List Area) (by at most : ℕ) → Seen (text_at memory by at most) memory by at most []
+seen_none memory by at most = record { is = joined_none (text_at memory by at most) }
+
+at_left : (memory : List Area) (by at left more : ℕ) → left ≡ suc more → text_at memory by at left ≡ text_with (load1 memory at) at (text_at memory by (add64 at by) more)
+at_left memory by at left more e = ap (text_at memory by at) e
+
+not_zero : (o : Option ℕ) (byte at : ℕ) (rest : Text) → o ≡ Some byte → byte ≢ 0 → text_with o at rest ≡ before byte rest
+not_zero None byte at rest e h = cc
+not_zero (Some zero) byte at rest e h = absurd (h (let z : byte ≡ 0 = cc in z))
+not_zero (Some (suc n)) byte at rest e h = let z : suc n ≡ byte = cc in ap (λ b. before b rest) z
+
+module _ (whole : Text) (memory : List Area) (by at most n : ℕ) (front : List ℕ) (seen : Seen whole memory by at (most - n) front) where
+  left : n < most → text_at memory by at (most - n) ≡ text_with (load1 memory at) at (text_at memory by (add64 at by) (most - (n + 1)))
+  left lt = at_left memory by at (most - n) (most - (n + 1)) (omega arith)
+
+  -- one more byte is seen
+  pub seen_more : (byte : ℕ) → n < most → load1 memory at ≡ Some byte → byte ≢ 0 → Seen whole memory by (add64 at by) (most - (n + 1)) (front ++ byte ∷ [])
+  seen_more byte lt is h = record {
+    is = seen.is ∙ ap (joined front) (left lt ∙ not_zero (load1 memory at) byte at (text_at memory by (add64 at by) (most - (n + 1))) is h) ∙ joined_one front byte (text_at memory by (add64 at by) (most - (n + 1)));
+  }
+
+  -- at a 0 the text is what was seen
+  pub seen_all : n < most → load1 memory at ≡ Some 0 → whole ≡ Bytes front
+  seen_all lt is =
+      seen.is ∙ ap (joined front) (left lt ∙ ap (λ o. text_with o at (text_at memory by (add64 at by) (most - (n + 1)))) is) ∙ ap Bytes (append-nil front)
+
+  -- so it is where no byte is left
+  pub seen_most : most ≤ n → whole ≡ Bytes front
+  seen_most le =
+      let none : most - n ≡ 0 = omega arith in
+      seen.is ∙ ap (λ k. joined front (text_at memory by at k)) none ∙ ap Bytes (append-nil front)
+
+  -- where no area has the byte, the text isn't in the memory
+  pub seen_outside : n < most → load1 memory at ≡ None → whole ≡ Outside at
+  seen_outside lt is =
+      seen.is ∙ ap (joined front) (left lt ∙ ap (λ o. text_with o at (text_at memory by (add64 at by) (most - (n + 1)))) is)
+
+-- what was seen stands in front
+rest_of : (whole : Text) (bytes front : List ℕ) (text : Text) → whole ≡ Bytes bytes → whole ≡ joined front text → (rest : List ℕ) × (bytes ≡ front ++ rest)
+rest_of whole bytes front (Bytes rest) e h = let same : bytes ≡ front ++ rest = cc in (rest, same)
+rest_of whole bytes front (Outside address) e h = cc
+
+module _ (old now after : Option (List ℕ)) (amount amount' amount'' : Option ℕ) (front : List ℕ) (byte : ℕ) (taken : TookAll old amount front now amount') where
+  -- one more byte is taken
+  pub took_more : Took now (byte ∷ []) after → Grew amount' 1 amount'' → TookAll old amount (front ++ byte ∷ []) after amount''
+  took_more took grew = record {
+    took = took_on old now after front (byte ∷ []) (front ++ byte ∷ []) taken.took took refl;
+    grew = grew_on amount amount' amount'' (length front) 1 (length (front ++ byte ∷ [])) taken.grew grew (length-append front (byte ∷ []));
+  }
+
+  -- a front of the text is taken where a front of its next byte is
+  pub took_front : (whole : Text) (bytes : List ℕ) (memory : List Area) (by at left : ℕ) → whole ≡ Bytes bytes → Seen whole memory by at left (front ++ byte ∷ []) → TookFront now amount' (byte ∷ []) after amount'' → TookFront old amount bytes after amount''
+  took_front whole bytes memory by at left e seen last =
+      let rest = rest_of whole bytes (front ++ byte ∷ []) (text_at memory by at left) e seen.is in
+      record {
+        front = front ++ last.front;
+        rest = last.rest ++ rest.0;
+        parts = rest.1 ∙ ap (λ l. (front ++ l) ++ rest.0) last.parts ∙ simp append_assoc;
+        took = took_on old now after front last.front (front ++ last.front) taken.took last.took refl;
+        grew = grew_on amount amount' amount'' (length front) (length last.front) (length (front ++ last.front)) taken.grew last.grew (length-append front last.front);
+      }
+
+-- what holds of the text holds where the answer is a fault
+pub on_fault : {T E : Type 0} (answer : Result T E) (P : Type 0) → P → OnErr answer P
+on_fault (Ok x) P p = tt
+on_fault (Err e) P p = p

@@ -1,0 +1,46 @@
+-- What the machine's answers say of its steps and of the sink.
+use Rattle.std.specs.Prelude.{◌≡◌, ℕ, List, [], length, Option, Some, None}
+use Rattle.run_laws.specs.Runs as runs
+use Rattle.trc_base.specs.Devices.{Took, Grew}
+use Rattle.a64_machine.specs.State.{State, place_at}
+use Rattle.a64_machine.specs.State as why
+use Rattle.a64_machine.specs.Services.{Text, Bytes, Outside}
+use Rattle.a64_machine.specs.declared.answers.Step.{Step}
+use Rattle.a64_machine.specs.declared.answers.Step.TheVariants.{Going, Ended, Trapped, Undefined, BadAddress, BadCall, WriteFault}
+use Rattle.a64_machine.specs.declared.answers.Halt.{Halt}
+use Rattle.a64_machine.specs.declared.answers.Halt.TheVariants as halt
+
+-- a sink took all these bytes: where it tells them, they joined what it took, and where it tells their number, it rose by theirs
+pub record TookAll (old : Option (List ℕ)) (amount : Option ℕ) (bytes : List ℕ) (new : Option (List ℕ)) (amount' : Option ℕ) : Type 0 where
+  pub took : Took old bytes new
+  pub grew : Grew amount (length bytes) amount'
+
+-- a machine at s answers a step so, and is at t afterwards: where it goes on, at the step's next state, and the sink took all
+-- that the step writes; where it halts, at s as before, and nothing was taken; at a write fault too, with a front taken
+abbrev pub Made : Step → State → State → runs.Step State why.Trap → (List ℕ → Type 0) → (List ℕ → Type 0) → Type 0
+Made Going s t step all front = (bytes : List ℕ) × (step ≡ runs.Moves bytes t) × all bytes
+Made Ended s t step all front = (step ≡ runs.Ends) × (t ≡ s) × all []
+Made (Trapped kind) s t step all front = (step ≡ runs.Traps (why.Broke kind (place_at s.pc))) × (t ≡ s) × all []
+Made (Undefined word) s t step all front = (step ≡ runs.Traps (why.Undefined word)) × (t ≡ s) × all []
+Made (BadAddress address) s t step all front = (step ≡ runs.Traps (why.BadAddress address)) × (t ≡ s) × all []
+Made (BadCall number) s t step all front = (step ≡ runs.Traps (why.BadCall number)) × (t ≡ s) × all []
+Made WriteFault s t step all front = (bytes : List ℕ) × (next : State) × (step ≡ runs.Moves bytes next) × (t ≡ s) × front bytes
+
+-- the text lies in the memory and its bytes are such
+abbrev pub OfBytes : Text → (List ℕ → Type 0) → Type 0
+OfBytes text P = (bytes : List ℕ) × (text ≡ Bytes bytes) × P bytes
+
+-- the first address of the text that lies in no area; nothing where it all lies in the memory
+abbrev pub Lacks : Option ℕ → Text → Type 0
+Lacks (Some address) text = text ≡ Outside address
+Lacks None text = (bytes : List ℕ) × (text ≡ Bytes bytes)
+
+-- a run answers so: the outcome and, where it isn't a write fault, all of its output was taken, else a front of it
+abbrev pub Ran : Halt → runs.Outcome why.Trap → (List ℕ → Type 0) → (List ℕ → Type 0) → Type 0
+Ran halt.Spent outcome all front = (out : List ℕ) × (outcome ≡ runs.Going out) × all out
+Ran halt.Ended outcome all front = (out : List ℕ) × (outcome ≡ runs.Ended out) × all out
+Ran (halt.Trapped kind) outcome all front = (place : ℕ) × (out : List ℕ) × (outcome ≡ runs.Trapped (why.Broke kind place) out) × all out
+Ran (halt.Undefined word) outcome all front = (out : List ℕ) × (outcome ≡ runs.Trapped (why.Undefined word) out) × all out
+Ran (halt.BadAddress address) outcome all front = (out : List ℕ) × (outcome ≡ runs.Trapped (why.BadAddress address) out) × all out
+Ran (halt.BadCall number) outcome all front = (out : List ℕ) × (outcome ≡ runs.Trapped (why.BadCall number) out) × all out
+Ran halt.WriteFault outcome all front = front (runs.output outcome)

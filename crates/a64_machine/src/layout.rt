@@ -1,0 +1,94 @@
+//! How an image is laid out: its regions, and the registers at the start.
+
+ghost use Rattle.std.specs.Prelude.{◌≡◌, ◌<◌, IfOk, slice_index};
+ghost use Rattle.image_form.specs.Form.{IsInForm};
+ghost use Rattle.a64_memory.specs.Memory.{area, areas};
+ghost use Rattle.a64_machine.specs.State.{put};
+ghost use Rattle.a64_machine.specs.Machine.{zeroed, first_memory, first_registers, local_bytes, heap_bytes};
+
+use a64_memory::Region;
+use image_form::Image;
+use std::alloc::Global;
+use trc_base::Memory;
+
+/// Where the globals lie, with the constants behind them.
+pub const DATA_BASE: u64 = 0x1000_0000;
+
+/// Where local data lies.
+pub const LOCAL_BASE: u64 = 0x2000_0000;
+
+/// Where the frames lie.
+pub const FRAMES_BASE: u64 = 0x4000_0000;
+
+/// Where the heap lies.
+pub const HEAP_BASE: u64 = 0x8000_0000;
+
+/// How many frames there are.
+pub const FRAMES: u64 = 8193;
+
+/// The bytes of local data.
+#[tactic(auto, unfolding(crate::specs::Machine::local_bytes))]
+fn local_size() -> usize
+    ensures { result ≡ local_bytes }
+{
+    8_388_608
+}
+
+/// The bytes of the heap.
+#[tactic(auto, unfolding(crate::specs::Machine::heap_bytes))]
+fn heap_size() -> usize
+    ensures { result ≡ heap_bytes }
+{
+    67_108_864
+}
+
+/// A region of zeros.
+fn zeroed(alloc: Global, base: u64, size: usize) -> Result<Region, Memory>
+    ensures { IfOk result (λ r. area r ≡ zeroed base size) }
+{
+    let bytes = vec![in alloc; 0; size]?;
+    Ok(Region { base, bytes })
+}
+
+/// The regions of an image: data, local data, frames and heap.
+pub fn first_memory(alloc: Global, image: &Image) -> Result<Vec<Region>, Memory>
+    requires { IsInForm image.now }
+    ensures { IfOk result (λ v. areas v.items ≡ first_memory image.now) }
+{
+    let mut bytes = vec![in alloc; 0; image.globals as usize]?;
+    bytes.extend_from_slice(image.constants.as_slice())?;
+    let local = zeroed(alloc, LOCAL_BASE, local_size())?;
+    let frames = zeroed(alloc, FRAMES_BASE, 8193 * image.frame as usize)?;
+    let heap = zeroed(alloc, HEAP_BASE, heap_size())?;
+    let mut regions = Vec::with_capacity(alloc, 4)?;
+    regions.push(Region {
+        base: DATA_BASE,
+        bytes,
+    })?;
+    regions.push(local)?;
+    regions.push(frames)?;
+    regions.push(heap)?;
+    Ok(regions)
+}
+
+/// Writes a register.
+fn set(registers: &mut [u64; 31], n: usize, value: u64)
+    requires { n < 31 }
+    ensures { (λ i. slice_index registers.new i) ≡ put (λ i. slice_index registers.old i) n value }
+{
+    registers[n] = value;
+}
+
+/// The registers at the start.
+pub fn first_registers() -> [u64; 31]
+    ensures { (λ i. slice_index result i) ≡ first_registers }
+{
+    let mut registers = [0; 31];
+    set(&mut registers, 19, LOCAL_BASE);
+    set(&mut registers, 20, FRAMES - 1);
+    set(&mut registers, 21, HEAP_BASE);
+    set(&mut registers, 22, 8_388_608);
+    set(&mut registers, 23, 1_048_576);
+    set(&mut registers, 24, DATA_BASE);
+    registers
+}

@@ -1,0 +1,147 @@
+//! The machine whole: its code, and everything else.
+
+ghost use Rattle.std.specs.Prelude.{◌≡◌, ◌≤◌, [], IfOk};
+ghost use Rattle.trc_base.specs.Devices.{Rose, TookFront};
+ghost use Rattle.run_laws.specs.Runs.{run};
+ghost use Rattle.image_form.specs.Form.{IsInForm};
+ghost use Rattle.a64_numbers.specs.Conditions.{clear_flags};
+ghost use Rattle.a64_machine.specs.Machine.{step_of, fetch, start};
+ghost use Rattle.a64_machine.specs.Effects.{effect};
+ghost use Rattle.a64_machine.specs.View.{core_state, code_of, state_of};
+ghost use Rattle.a64_machine.specs.Answers.{Made, Ran, TookAll};
+
+use crate::answers::{Halt, Step};
+use crate::execute::service_number;
+use crate::layout::{FRAMES, FRAMES_BASE, first_memory, first_registers};
+use crate::processor::Core;
+use a64_instr::Instr;
+use a64_numbers::Flags;
+use a64_table::decode;
+use image_form::Image;
+use std::alloc::Global;
+use trc_base::{Memory, Sink};
+
+/// The A64 machine with an image loaded.
+#[derive(Drop)]
+pub struct Machine {
+    code: Vec<u32>,
+    core: Core,
+}
+
+/// Where the code lies.
+const CODE_BASE: u64 = 0x1_0000;
+
+impl Core {
+    /// Carries out any instruction.
+    fn carries_out<O: Sink>(&mut self, i: Instr, out: &mut O) -> Step
+        ensures made { Made result (core_state self.old) (core_state self.new) (effect i (core_state self.old))
+            (λ bytes. TookAll (O.taken out.old) (O.amount out.old) bytes (O.taken out.new) (O.amount out.new))
+            (λ bytes. TookFront (O.taken out.old) (O.amount out.old) bytes (O.taken out.new) (O.amount out.new)) }
+        ensures rises { O.faults out.old ≤ O.faults out.new }
+        ensures failed { result ≡ Step.WriteFault → Rose (O.faults out.old) (O.faults out.new) }
+    {
+        match service_number(&i) {
+            Some(number) => self.service(number, out),
+            None => self.execute(i),
+        }
+    }
+}
+
+/// No flag is set.
+fn clear_flags() -> Flags
+    ensures { result ≡ clear_flags }
+{
+    Flags {
+        negative: false,
+        zero: false,
+        carry: false,
+        overflow: false,
+    }
+}
+
+/// The code word at an address, where it is a multiple of 4 in the code.
+fn fetch(code: &[u32], pc: u64) -> Option<u32>
+    ensures { result ≡ fetch code.now pc }
+{
+    if pc < CODE_BASE || pc % 4 != 0 {
+        return None;
+    }
+    code.get(((pc - CODE_BASE) / 4) as usize).copied()
+}
+
+impl Machine {
+    /// The machine with an image laid out and its input not yet read. It takes all the memory that it will need.
+    pub fn load(alloc: Global, image: Image, input: Vec<u8>) -> Result<Machine, Memory>
+        requires { IsInForm image }
+        ensures code { IfOk result (λ m. code_of m ≡ image.code) }
+        ensures state { IfOk result (λ m. state_of m ≡ start image input.items) }
+    {
+        let memory = first_memory(alloc, &image)?;
+        let core = Core {
+            registers: first_registers(),
+            sp: FRAMES_BASE + FRAMES * image.frame as u64,
+            pc: CODE_BASE,
+            flags: clear_flags(),
+            memory,
+            input,
+            taken: 0,
+        };
+        let Image {
+            version: _version,
+            flags: _flags,
+            code,
+            globals: _globals,
+            constants: _constants,
+            frame: _frame,
+        } = image;
+        Ok(Machine {
+            code: code.into_vec(),
+            core,
+        })
+    }
+
+    /// Makes one step: fetches a word, decodes it and carries it out. After `WriteFault` the machine is as
+    /// before, and may make the step again; after every other answer but `Going` each further step answers
+    /// the same. It takes no memory.
+    pub fn step<O: Sink>(&mut self, out: &mut O) -> Step
+        ensures code { code_of self.new ≡ code_of self.old }
+        ensures made { Made result (state_of self.old) (state_of self.new) (step_of (code_of self.old) (state_of self.old))
+            (λ bytes. TookAll (O.taken out.old) (O.amount out.old) bytes (O.taken out.new) (O.amount out.new))
+            (λ bytes. TookFront (O.taken out.old) (O.amount out.old) bytes (O.taken out.new) (O.amount out.new)) }
+        ensures rises { O.faults out.old ≤ O.faults out.new }
+        ensures failed { result ≡ Step.WriteFault → Rose (O.faults out.old) (O.faults out.new) }
+    {
+        let pc = self.core.pc;
+        match fetch(&self.code, pc) {
+            None => Step::BadAddress(pc),
+            Some(word) => match decode(word) {
+                None => Step::Undefined(word),
+                Some(i) => self.core.carries_out(i, out),
+            },
+        }
+    }
+
+    /// Makes at most `steps` steps. `Spent` comes exactly where they were all made and the machine would go on,
+    /// so also for no steps. It takes no memory.
+    pub fn run<O: Sink>(self, steps: u64, out: &mut O) -> Halt
+        ensures ran { Ran result (run (step_of (code_of self)) steps (state_of self) [])
+            (λ bytes. TookAll (O.taken out.old) (O.amount out.old) bytes (O.taken out.new) (O.amount out.new))
+            (λ bytes. TookFront (O.taken out.old) (O.amount out.old) bytes (O.taken out.new) (O.amount out.new)) }
+        ensures rises { O.faults out.old ≤ O.faults out.new }
+        ensures failed { result ≡ Halt.WriteFault → Rose (O.faults out.old) (O.faults out.new) }
+    {
+        let mut machine = self;
+        for _n in 0..steps {
+            match machine.step(out) {
+                Step::Going => {}
+                Step::Ended => return Halt::Ended,
+                Step::Trapped(kind) => return Halt::Trapped(kind),
+                Step::Undefined(word) => return Halt::Undefined(word),
+                Step::BadAddress(address) => return Halt::BadAddress(address),
+                Step::BadCall(number) => return Halt::BadCall(number),
+                Step::WriteFault => return Halt::WriteFault,
+            }
+        }
+        Halt::Spent
+    }
+}

@@ -1,0 +1,76 @@
+//! The text that a service writes: bytes in memory, some bytes apart, up to a 0.
+
+ghost use Rattle.std.specs.Prelude.{◌≡◌, ◌≤◌, [], ◌∷◌, List, ℕ, None, OnOk, OnErr};
+ghost use Rattle.trc_base.specs.Devices.{Rose, TookFront};
+ghost use Rattle.a64_memory.specs.Memory.{area, areas, load1};
+ghost use Rattle.a64_machine.specs.Services.{text_at};
+ghost use Rattle.a64_machine.specs.Answers.{TookAll, OfBytes, Lacks};
+
+use a64_memory::Region;
+use trc_base::{Sink, WriteFault, write_all};
+
+/// The first address of the text that lies in no region. No byte after the first 0 is looked at.
+pub fn outside(regions: &[Region], from: u64, by: u64, most: u64) -> Option<u64>
+    ensures { Lacks result (text_at (areas regions.now) by from most) }
+{
+    let mut at = from;
+    for _n in 0..most {
+        match byte_at(regions, at) {
+            None => return Some(at),
+            Some(0) => return None,
+            Some(_) => at = at.wrapping_add(by),
+        }
+    }
+    None
+}
+
+/// Writes a text that lies in the regions.
+pub fn write_text<O: Sink>(
+    regions: &[Region],
+    from: u64,
+    by: u64,
+    most: u64,
+    out: &mut O,
+) -> Result<(), WriteFault>
+    requires { Lacks None (text_at (areas regions.now) by from most) }
+    ensures all { OnOk result (OfBytes (text_at (areas regions.now) by from most) (λ bytes. TookAll (O.taken out.old) (O.amount out.old) bytes (O.taken out.new) (O.amount out.new))) }
+    ensures front { OnErr result (OfBytes (text_at (areas regions.now) by from most) (λ bytes. TookFront (O.taken out.old) (O.amount out.old) bytes (O.taken out.new) (O.amount out.new))) }
+    ensures rises { O.faults out.old ≤ O.faults out.new }
+    ensures failed { OnErr result (Rose (O.faults out.old) (O.faults out.new)) }
+{
+    let mut at = from;
+    for _n in 0..most {
+        match byte_at(regions, at) {
+            None => return Ok(()),
+            Some(0) => return Ok(()),
+            Some(byte) => write_all(out, &[byte])?,
+        }
+        at = at.wrapping_add(by);
+    }
+    Ok(())
+}
+
+/// The byte at an address, where it lies in a region.
+fn byte_at(regions: &[Region], address: u64) -> Option<u8>
+    ensures { result ≡ load1 (areas regions.now) address }
+{
+    for region in regions {
+        if let Some(byte) = byte_in(region, address) {
+            return Some(byte);
+        }
+    }
+    None
+}
+
+fn byte_in(region: &Region, address: u64) -> Option<u8>
+    ensures { result ≡ load1 (area region.now ∷ []) address }
+{
+    if address < region.base {
+        return None;
+    }
+    let at = (address - region.base) as usize;
+    if at >= region.bytes.len() {
+        return None;
+    }
+    Some(region.bytes[at])
+}

@@ -1,0 +1,11 @@
+pub mod Weights
+pub mod Walks
+pub mod BoundedRuns
+pub mod Agreement
+pub mod Lowering
+pub mod Layers
+pub mod Reached
+pub mod Comes
+pub mod SpotsKeepUp
+pub mod WordsInStep
+pub mod WordsMade
