@@ -1,5 +1,5 @@
 -- The terminals ahead, as the index of the next symbol gives them.
-use Rattle.std.proofs.Common.{◌≡◌, ℕ, zero, suc, ◌+◌, ◌<◌, ◌≤◌, List, [], ◌∷◌, Bool, true, false, nat_eq, length, drop, map, get_or, refl, sym, ap, ◌∙◌, subst, arith}
+use Rattle.std.proofs.Common.{◌≡◌, ℕ, zero, suc, ◌+◌, ◌<◌, ◌≤◌, List, [], ◌∷◌, Bool, true, nat_eq, length, drop, map, get_or, refl, sym, ap, ◌∙◌, subst, arith}
 use lib.Pointwise.{bytes_decides}
 use Rattle.ob_scan.specs.Tables.{is_same}
 use Rattle.first_text.specs.Terminals.{Terminal, Name, Number, Exactly, Other}
@@ -53,12 +53,15 @@ gone_past w i d v made a b h e =
 pub takes_first : (p : Terminal → Bool) (a b : Here) (made : ℕ) → true ≡ is_next p a.ahead →
     b ≡ record { ahead = drop 1 a.ahead; depth = a.depth; values = a.values + made } → (t : Terminal) × (p t ≡ true) × Took t made a b
 takes_first p a b made h e =
-    let x = first_is p a.ahead (sym h) in
-    (x.0, x.2, record {
-      text = x.1 ∙ ap (λ w. x.0 ∷ w) (sym (ap (λ (z : Here). z.ahead) e));
-      depth = ap (λ (z : Here). z.depth) e;
-      values = ap (λ (z : Here). z.values) e;
-    })
+    let x = first_is p a.ahead (sym h) in (
+      x.0,
+      x.2,
+      record {
+        text = x.1 ∙ ap (λ w. x.0 ∷ w) (sym (ap (λ (z : Here). z.ahead) e));
+        depth = ap (λ (z : Here). z.depth) e;
+        values = ap (λ (z : Here). z.values) e;
+      },
+    )
 
 -- names are the same exactly where the test says so
 pub same_is : (x y : List ℕ) → is_same x y ≡ true → x ≡ y
@@ -83,10 +86,10 @@ takes_name n a b made h e =
     subst (λ t. Took t made a b) (name_is n x.0 x.1) x.2
 
 -- what the symbol there is was read
-pub takes_shown : {A : Type 0} (f : A → Terminal) (xs : List A) (i : ℕ) (d : A) (t : Terminal) (a b : Here) →
+pub took_shown : {A : Type 0} (f : A → Terminal) (xs : List A) (i : ℕ) (d : A) (t : Terminal) (made : ℕ) (a b : Here) →
     i < length xs → d ≡ get_or xs i d → drop i (map f xs) ≡ a.ahead → f d ≡ t →
-    b ≡ record { ahead = drop 1 a.ahead; depth = a.depth; values = a.values + 1 } → Took t 1 a b
-takes_shown f xs i d t a b h e v is m =
+    b ≡ record { ahead = drop 1 a.ahead; depth = a.depth; values = a.values + made } → Took t made a b
+took_shown f xs i d t made a b h e v is m =
     let all = shows f xs i d h in
     let one : f (get_or xs i d) ≡ t = ap f (sym e) ∙ is in
     let rest : drop (suc i) (map f xs) ≡ drop 1 a.ahead = sym (ap (drop 1) all) ∙ ap (drop 1) v in

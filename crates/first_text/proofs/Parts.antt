@@ -1,29 +1,11 @@
 -- How the parts of a text are put together as a reader goes on.
-use Rattle.std.proofs.Common.{◌≡◌, ℕ, ◌+◌, ◌-◌, ◌<◌, ◌≤◌, max, List, [], ◌∷◌, ◌++◌, Bool, true, false, nat_eq, nat_lt, length, refl, sym, ap, ◌∙◌, subst, arith, append_assoc, add-zero, length-append, ◌⊎◌, inl, inr, Result, Ok, Err, Option, None, Some}
-use Rattle.std.proofs.lemmas.List.{append-nil}
+use Rattle.std.proofs.Common.{◌≡◌, ℕ, ◌+◌, List, [], ◌∷◌, ◌++◌, Bool, true, false, refl, sym, ap, ◌∙◌, subst, arith, append_assoc, add-zero, Result, None, Some}
 use Rattle.std.proofs.lemmas.Result.{err_from_is_err_and}
 use Rattle.std.specs.Result.{IsErrAnd}
 use Rattle.first_text.specs.declared.fault.TextFault.{TextFault}
 use Rattle.first_text.specs.declared.fault.TextFault.TheVariants.{NotText, Memory}
-use Rattle.first_text.specs.declared.terminal.Fixed.{Fixed}
-use Rattle.first_text.specs.declared.terminal.Fixed.TheVariants.{Module, Import, Begin, End, Plus, Minus, Times, LeftParen, RightParen, Comma, Semicolon, Period}
-use Rattle.first_text.specs.Terminals.{Terminal, Name, Number, Exactly, Other}
-use Rattle.first_text.specs.Reading.{Mode, AtModule, AtName, AtNameEnd, AtImport, AtOut, AtOutEnd, AtBegin, AtStatement, AtPeriod, AtCall, AtOpen, AtSign, AtOperand, AfterOperand, AfterProduct, AfterSum, AtWidth, AtClose, AtNext, AtLastName, AtLastPeriod, AtEnd, Point, point, on, step_of, may_end, run, Here, here, Part, part, ◌⧺◌, Went, FailsBy, Fails, Gives, GivesMore, Took, MissedBy, Missed, Entered, Shut, ShutBy, Left, is_next, is_exactly, is_name, is_number}
-use Rattle.first_text.proofs.Ahead.{first_is}
-
--- what the exit of a `?` answers
-pub gives_err : {X : Type 0} {from to : Mode} (f : X → Part) {a b : Here} {e : TextFault} → (r : Result X TextFault) → IsErrAnd r (λ x. x ≡ e) → Fails from a e → Gives from to f a b r
-gives_err {X} {from} {to} f {a} {b} {e} r h k =
-    let x = err_from_is_err_and r h in
-    subst (Gives from to f a b) (sym x.1) (subst (λ (z : TextFault). Fails from a z) (sym x.2) k)
-
-pub gives_more_err : {X : Type 0} {from to : Mode} (f : X → Part) {a b : Here} {e : TextFault} → (r : Result (Option X) TextFault) → IsErrAnd r (λ x. x ≡ e) → Fails from a e → GivesMore from to f a b r
-gives_more_err {X} {from} {to} f {a} {b} {e} r h k =
-    let x = err_from_is_err_and r h in
-    subst (GivesMore from to f a b) (sym x.1) (subst (λ (z : TextFault). Fails from a z) (sym x.2) k)
-
-pub no_memory : {from : Mode} {a : Here} {e : TextFault} → e ≡ Memory → Fails from a e
-no_memory {from} {a} {e} h = subst (λ (z : TextFault). Fails from a z) (sym h) (record { why = tt })
+use Rattle.first_text.specs.Terminals.{Terminal}
+use Rattle.first_text.specs.Reading.{Mode, Point, point, on, step_of, may_end, run, Here, here, Part, part, ◌⧺◌, Went, FailsBy, Fails, Gives, Took}
 
 -- one part, and then another
 
@@ -78,24 +60,14 @@ pub run_stops : (m : Mode) (name : List ℕ) (d v : ℕ) (w : List Terminal) →
 run_stops m name d v [] e s = e
 run_stops m name d v (t ∷ u) e s = ap (λ p. run p u) (s t u refl)
 
-missed_by : {p : Terminal → Bool} {m : Mode} {a : Here} (e : TextFault) → ((v : ℕ) → may_end m v ≡ false) → ((name : List ℕ) (d v : ℕ) (t : Terminal) → p t ≡ false → step_of m name d v t ≡ None) → MissedBy p a e → FailsBy m a e
-missed_by {p} {m} {a} NotText o s h = λ name. run_stops m name a.depth a.values a.ahead (o a.values) (λ t u i. s name a.depth a.values t (ap (is_next p) (sym i) ∙ h))
-missed_by Memory o s h = tt
-
--- the terminal that has to come doesn't
-pub missed : {p : Terminal → Bool} {m : Mode} {a : Here} {e : TextFault} → ((v : ℕ) → may_end m v ≡ false) → ((name : List ℕ) (d v : ℕ) (t : Terminal) → p t ≡ false → step_of m name d v t ≡ None) → Missed p a e → Fails m a e
-missed {p} {m} {a} {e} o s h = record { why = missed_by e o s h.why }
-
--- it was tested before
-missed_not : {p : Terminal → Bool} {m : Mode} {a : Here} (e : TextFault) → true ≡ is_next p a.ahead → MissedBy p a e → FailsBy m a e
-missed_not NotText t h = absurd (let x = t ∙ h in cc)
-missed_not Memory t h = tt
-
-pub not_missed : {p : Terminal → Bool} {m : Mode} {a : Here} {e : TextFault} → true ≡ is_next p a.ahead → Missed p a e → Fails m a e
-not_missed {p} {m} {a} {e} t h = record { why = missed_not e t h.why }
-
 pub on_false : (b : Bool) (p : Point) → b ≡ false → on b p ≡ None
 on_false b p h = ap (λ x. on x p) h
 
 pub on_true : (b : Bool) (p : Point) → b ≡ true → on b p ≡ Some p
 on_true b p h = ap (λ x. on x p) h
+
+-- what the exit of a `?` answers
+pub gives_err : {X : Type 0} (from to : Mode) (f : X → Part) (a b : Here) (e : TextFault) → (r : Result X TextFault) → IsErrAnd r (λ x. x ≡ e) → Fails from a e → Gives from to f a b r
+gives_err {X} from to f a b e r h k =
+    let x = err_from_is_err_and r h in
+    subst (Gives from to f a b) (sym x.1) (subst (λ (z : TextFault). Fails from a z) (sym x.2) k)

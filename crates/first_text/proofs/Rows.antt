@@ -1,12 +1,12 @@
 -- What the trees that code makes and takes apart stand for.
-use Rattle.std.proofs.Common.{◌≡◌, ℕ, List, [], ◌∷◌, ◌++◌, Vec, Global, Box, Option, refl, sym, ap, ◌∙◌}
+use Rattle.std.proofs.Common.{◌≡◌, Vec, Global, Box, Option, refl, sym, ap, ◌∙◌}
 use Rattle.first_text.specs.declared.tree.Sign.{Sign}
-use Rattle.first_text.specs.declared.tree.Simple.{Simple, Simple', roll-Simple, rolls-Simple', Row_of-Added, end_of-Added, more_of-Added, items-the_row-Added, items_hidden-the_row-Added-1}
+use Rattle.first_text.specs.declared.tree.Simple.{Simple, roll-Simple, rolls-Simple', Row_of-Added, end_of-Added, more_of-Added, items-the_row-Added, items_hidden-the_row-Added-1}
 use Rattle.first_text.specs.declared.tree.Added.{Added}
 use Rattle.first_text.specs.declared.tree.Term.{Term, Row_of-Factor, end_of-Factor, more_of-Factor, items-the_row-Factor, items_shown-the_row-Factor-0, items_hidden-the_row-Factor-0}
-use Rattle.first_text.specs.declared.tree.Factor.{Factor, Integer, Parenthesis}
+use Rattle.first_text.specs.declared.tree.Factor.{Parenthesis}
 use Rattle.first_text.specs.declared.tree.Factor.TheBlock.{hidden-the_row-Factor-0, shown-the_row-Factor-0, hidden-the_row-Added-1}
-use Rattle.first_text.specs.Syntax.{Operand, Inner, Product, Single, Multiplied, Sum, Leading, Joined}
+use Rattle.first_text.specs.Syntax.{Inner, Product, Single, Multiplied, Sum, Leading, Joined}
 use Rattle.first_text.specs.Trees.{operand, sum, multiplied_row, joined_row, multiplied, product, joined}
 
 multiplied_are : (p : Product) (m : _) (row : Row_of-Factor m) → multiplied_row p row ≡ multiplied p (items-the_row-Factor m row)

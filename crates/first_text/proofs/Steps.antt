@@ -1,73 +1,92 @@
--- Each step of the grammar, as the reader goes it.
-use Rattle.std.proofs.Common.{◌≡◌, ℕ, ◌+◌, ◌-◌, ◌<◌, ◌≤◌, max, List, [], ◌∷◌, ◌++◌, Bool, true, false, nat_eq, nat_lt, if◌then◌else◌, length, refl, sym, ap, ◌∙◌, subst, arith, append_assoc, add-zero, ◌⊎◌, inl, inr, Option, None, Some, codes}
-use Rattle.first_text.specs.declared.fault.TextFault.{TextFault}
-use Rattle.first_text.specs.declared.fault.TextFault.TheVariants.{NotText, Memory}
-use Rattle.first_text.specs.declared.tree.Sign.{Sign}
-use Rattle.first_text.specs.declared.tree.Sign.TheVariants as S
-use Rattle.first_text.specs.declared.terminal.Fixed.{Fixed}
-use Rattle.first_text.specs.declared.terminal.Fixed.TheVariants.{Module, Import, Begin, End, Plus, Minus, Times, LeftParen, RightParen, Comma, Semicolon, Period}
-use Rattle.first_text.specs.Terminals.{Terminal, Name, Number, Exactly, Other}
-use Rattle.first_text.specs.Reading.{Mode, AtModule, AtName, AtNameEnd, AtImport, AtOut, AtOutEnd, AtBegin, AtStatement, AtPeriod, AtCall, AtOpen, AtSign, AtOperand, AfterOperand, AfterProduct, AfterSum, AtWidth, AtClose, AtNext, AtLastName, AtLastPeriod, AtEnd, Point, point, on, step_of, at_operand, at_sign, after_sum, after_product, after_operand, may_end, run, Here, here, Part, part, ◌⧺◌, Went, FailsBy, Fails, Took, MissedBy, Missed, Entered, Shut, ShutBy, Left, code, is_next, is_exactly, is_name, is_number, sign_part}
-use Rattle.first_text.proofs.Ahead.{first_is}
-use Rattle.first_text.proofs.Parts.{then, nothing, took, took_none, missed, run_stops, on_false, on_true}
+-- Steps of the grammar that names decide.
+use Rattle.std.proofs.Common.{◌≡◌, ◌≢◌, ℕ, ◌+◌, List, [], ◌∷◌, true, false, refl, sym, ap, ◌∙◌, subst, arith, add-zero, codes, Some}
+use Rattle.ob_scan.specs.Tables.{is_same}
+use Rattle.first_text.specs.declared.tree.Statement.TheVariants.{WriteInt, WriteLn}
+use Rattle.first_text.specs.declared.tree.Simple.{Simple}
+use Rattle.first_text.specs.declared.terminal.Fixed.TheVariants.{Module, Import, Begin, Semicolon, Period}
+use Rattle.first_text.specs.Terminals.{Name, Exactly}
+use Rattle.first_text.specs.Reading.{AtModule, AtName, AtNameEnd, AtImport, AtOut, AtOutEnd, AtBegin, AtStatement, AtPeriod, AtCall, AtOpen, AtNext, point, step_of, run, Here, here, part, ◌⧺◌, Went, Took, Named, is_own_name, import_part, statement_part, arguments_part}
+use Rattle.first_text.proofs.Ahead.{is_same_self, same_is}
+use Rattle.first_text.proofs.Trees.{part_same}
+use Rattle.first_text.proofs.Parts.{then, took, took_none, on_true}
 
--- two modes that go on alike
-goes_alike : (m n : Mode) (name : List ℕ) (d v : ℕ) (w : List Terminal) → may_end m v ≡ may_end n v → ((t : Terminal) (u : List Terminal) → w ≡ t ∷ u → step_of m name d v t ≡ step_of n name d v t) → run (Some (point m name d v)) w ≡ run (Some (point n name d v)) w
-goes_alike m n name d v [] e s = e
-goes_alike m n name d v (t ∷ u) e s = ap (λ p. run p u) (s t u refl)
+-- `Out` before a call
+pub out_went : (a b : Here) → Took (Name (codes "Out")) 0 a b → Went AtStatement AtPeriod (part (Name (codes "Out") ∷ []) 0 0) a b
+out_went a b h = took_none (λ name d v. on_true _ _ (is_same_self (codes "Out"))) h
 
-not_next : (p : Terminal → Bool) (w : List Terminal) (t : Terminal) (u : List Terminal) → false ≡ is_next p w → w ≡ t ∷ u → p t ≡ false
-not_next p w t u h e = sym (h ∙ ap (is_next p) e)
+pub period_went : (a b : Here) → Took (Exactly Period) 0 a b → Went AtPeriod AtCall (part (Exactly Period ∷ []) 0 0) a b
+period_went a b h = took_none (λ name d v. refl) h
 
--- signs
+pub ln_step : (name : List ℕ) (d v : ℕ) → step_of AtCall name d v (Name (codes "Ln")) ≡ Some (point AtNext name d (v + 1))
+ln_step name d v = simp (is_same_self (codes "Ln"))
 
-pub plus_went : {a b : Here} → Took (Exactly Plus) 0 a b → Went AtSign AtOperand (sign_part (Some S.Plus)) a b
-plus_went h = took_none (λ name d v. refl) h
+pub ln_went : (a b : Here) → Took (Name (codes "Ln")) 1 a b → Went AtCall AtNext (part (Name (codes "Ln") ∷ []) 0 1) a b
+ln_went a b h = took ln_step h
 
-pub minus_went : {a b : Here} → Took (Exactly Minus) 1 a b → Went AtSign AtOperand (sign_part (Some S.Minus)) a b
-minus_went h = took (λ name d v. refl) h
+pub not_same : (x y : List ℕ) → x ≢ y → is_same x y ≡ false
+not_same x y h = elim (is_same x y) as (λ b. is_same x y ≡ b → b ≡ false) [ true ↦ λ e. absurd (h (same_is x y e)) | false ↦ λ e. refl ] refl
 
-sign_skips : (name : List ℕ) (d v : ℕ) (t : Terminal) → is_exactly Plus t ≡ false → is_exactly Minus t ≡ false → at_sign name d v t ≡ at_operand name d v t
-sign_skips name d v t p m = simp (p, m)
+pub int_step : (name : List ℕ) (d v : ℕ) → step_of AtCall name d v (Name (codes "Int")) ≡ Some (point AtOpen name d v)
+int_step name d v =
+    let other = not_same (codes "Int") (codes "Ln") (λ e. cc) in
+    let self = is_same_self (codes "Int") in
+    simp (other, self)
 
-pub no_sign : {a : Here} → false ≡ is_next (is_exactly Plus) a.ahead → false ≡ is_next (is_exactly Minus) a.ahead → Went AtSign AtOperand (sign_part None) a a
-no_sign {a} p m = nothing a (λ name. goes_alike AtSign AtOperand name a.depth a.values a.ahead refl (λ t u e. sign_skips name a.depth a.values t (not_next _ _ t u p e) (not_next _ _ t u m e)))
+pub int_went : (a b : Here) → Took (Name (codes "Int")) 0 a b → Went AtCall AtOpen (part (Name (codes "Int") ∷ []) 0 0) a b
+int_went a b h = took_none int_step h
 
--- the end of a sum and of a product
+-- a call that ends a line
+pub ln_is : part (Name (codes "Out") ∷ []) 0 0 ⧺ (part (Exactly Period ∷ []) 0 0 ⧺ part (Name (codes "Ln") ∷ []) 0 1) ≡ statement_part WriteLn
+ln_is = refl
 
-product_skips : (name : List ℕ) (d v : ℕ) (t : Terminal) → is_exactly Plus t ≡ false → is_exactly Minus t ≡ false → after_product name d v t ≡ after_sum name d v t
-product_skips name d v t p m = simp (p, m)
+-- a call that writes a number
+pub int_is : (value : Simple) (width : ℕ) → statement_part (WriteInt value width) ≡ part (Name (codes "Out") ∷ []) 0 0 ⧺ (part (Exactly Period ∷ []) 0 0 ⧺ (part (Name (codes "Int") ∷ []) 0 0 ⧺ arguments_part (value, width)))
+int_is value width = part_same _ _ _ _ _ _ refl (omega arith) (omega arith)
 
-pub sum_ends : {a : Here} → false ≡ is_next (is_exactly Plus) a.ahead → false ≡ is_next (is_exactly Minus) a.ahead → Went AfterProduct AfterSum (part [] 0 0) a a
-sum_ends {a} p m = nothing a (λ name. goes_alike AfterProduct AfterSum name a.depth a.values a.ahead refl (λ t u e. product_skips name a.depth a.values t (not_next _ _ t u p e) (not_next _ _ t u m e)))
+-- from a module's name up to its statements
+pub import_went : (a b c d e f : Here) → Took (Exactly Semicolon) 0 a b → Took (Exactly Import) 0 b c → Took (Name (codes "Out")) 0 c d → Took (Exactly Semicolon) 0 d e → Took (Exactly Begin) 0 e f → Went AtNameEnd AtStatement import_part a f
+import_went a b c d e f h i j k l =
+    let m : Went AtNameEnd AtImport (part (Exactly Semicolon ∷ []) 0 0) a b = took_none (λ name d v. refl) h in
+    let n : Went AtImport AtOut (part (Exactly Import ∷ []) 0 0) b c = took_none (λ name d v. refl) i in
+    let o : Went AtOut AtOutEnd (part (Name (codes "Out") ∷ []) 0 0) c d = took_none (λ name d v. on_true _ _ (is_same_self (codes "Out"))) j in
+    let p : Went AtOutEnd AtBegin (part (Exactly Semicolon ∷ []) 0 0) d e = took_none (λ name d v. refl) k in
+    let q : Went AtBegin AtStatement (part (Exactly Begin ∷ []) 0 0) e f = took_none (λ name d v. refl) l in
+    then m (then n (then o (then p q)))
 
-operand_skips : (name : List ℕ) (d v : ℕ) (t : Terminal) → is_exactly Times t ≡ false → after_operand name d v t ≡ after_product name d v t
-operand_skips name d v t p = simp p
+-- a semicolon between statements
+pub semicolon_went : (a b : Here) → Took (Exactly Semicolon) 0 a b → Went AtNext AtStatement (part (Exactly Semicolon ∷ []) 0 0) a b
+semicolon_went a b h = took_none (λ name d v. refl) h
 
-pub product_ends : {a : Here} → false ≡ is_next (is_exactly Times) a.ahead → Went AfterOperand AfterProduct (part [] 0 0) a a
-product_ends {a} p = nothing a (λ name. goes_alike AfterOperand AfterProduct name a.depth a.values a.ahead refl (λ t u e. operand_skips name a.depth a.values t (not_next _ _ t u p e)))
+-- the head of a module
 
--- operands
+own_not_out : (n : List ℕ) → is_own_name (Name n) ≡ true → n ≢ codes "Out"
+own_not_out n h e =
+    let s : is_same n (codes "Out") ≡ true = subst (λ m. is_same m (codes "Out") ≡ true) (sym e) (is_same_self (codes "Out")) in
+    let k : false ≡ true = sym (simp s) ∙ h in
+    cc
 
-operand_none : (name : List ℕ) (d v : ℕ) (t : Terminal) → is_exactly LeftParen t ≡ false → is_number t ≡ false → at_operand name d v t ≡ None
-operand_none name d v (Name m) p h = refl
-operand_none name d v (Number k) p h = cc
-operand_none name d v (Exactly g) p h = simp p
-operand_none name d v Other p h = refl
+own_not_in : (n : List ℕ) → is_own_name (Name n) ≡ true → n ≢ codes "In"
+own_not_in n h e =
+    let s : is_same n (codes "In") ≡ true = subst (λ m. is_same m (codes "In") ≡ true) (sym e) (is_same_self (codes "In")) in
+    let o : is_same n (codes "Out") ≡ false = not_same n (codes "Out") (own_not_out n h) in
+    let k : false ≡ true = sym (simp (o, s)) ∙ h in
+    cc
 
-operand_missed_by : {a : Here} (e : TextFault) → false ≡ is_next (is_exactly LeftParen) a.ahead → MissedBy is_number a e → FailsBy AtOperand a e
-operand_missed_by {a} NotText p h = λ name. run_stops AtOperand name a.depth a.values a.ahead refl (λ t u i. operand_none name a.depth a.values t (not_next _ _ t u p i) (not_next _ _ t u (sym h) i))
-operand_missed_by Memory p h = tt
+name_goes : (name n : List ℕ) (b c : Here) → Took (Name name) 0 b c → is_own_name (Name name) ≡ true → here AtName n b ≡ here AtNameEnd name c
+name_goes name n b c k own =
+    ap (run (Some (point AtName n b.depth b.values))) k.text
+    ∙ ap (λ p. run p c.ahead) (on_true _ (point AtNameEnd name b.depth b.values) own)
+    ∙ ap (λ d. run (Some (point AtNameEnd name d b.values)) c.ahead) (sym k.depth)
+    ∙ ap (λ v. run (Some (point AtNameEnd name c.depth v)) c.ahead) (sym (k.values ∙ add-zero b.values))
 
-pub operand_missed : {a : Here} {e : TextFault} → false ≡ is_next (is_exactly LeftParen) a.ahead → Missed is_number a e → Fails AtOperand a e
-operand_missed {a} {e} p h = record { why = operand_missed_by e p h.why }
-
-pub number_went : {n : ℕ} {a b : Here} → Took (Number n) 1 a b → Went AtOperand AfterOperand (part (Number n ∷ []) 0 1) a b
-number_went h = took (λ name d v. refl) h
-
--- a parenthesis that has no room
-shut_step : (name : List ℕ) (d v : ℕ) (t : Terminal) → is_exactly LeftParen t ≡ true → nat_lt d 100 ≡ false → at_operand name d v t ≡ None
-shut_step name d v (Name m) p h = cc
-shut_step name d v (Number k) p h = cc
-shut_step name d v (Exactly g) p h = simp (p, h)
-shut_step name d v Other p h = cc
+pub module_went : (name : List ℕ) (a b c : Here) → Took (Exactly Module) 0 a b → Took (Name name) 0 b c × (is_own_name (Name name) ≡ true) → Named name a c
+module_went name a b c h k =
+    let m : Went AtModule AtName (part (Exactly Module ∷ []) 0 0) a b = took_none (λ n d v. refl) h in
+    record {
+      text = h.text ∙ ap (λ w. Exactly Module ∷ w) k.0.text;
+      not_out = own_not_out name k.1;
+      not_in = own_not_in name k.1;
+      depth = k.0.depth ∙ h.depth;
+      values = (k.0.values ∙ add-zero b.values) ∙ (h.values ∙ add-zero a.values);
+      by = λ n. m.by n ∙ name_goes name n b c k.0 k.1;
+    }

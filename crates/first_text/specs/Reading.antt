@@ -14,7 +14,6 @@ use Rattle.first_text.specs.declared.tree.Text.{Text}
 use Rattle.first_text.specs.declared.terminal.Fixed.{Fixed}
 use Rattle.first_text.specs.declared.terminal.Fixed.TheVariants.{Module, Import, Begin, End, Plus, Minus, Times, LeftParen, RightParen, Comma, Semicolon, Period}
 use Rattle.first_text.specs.Terminals.{Terminal, Name, Number, Exactly, Other}
-use Rattle.first_text.specs.Syntax.{Single, Leading}
 use Rattle.first_text.specs.Trees.{operand, product, sum, call}
 use Rattle.first_text.specs.Texts.{sign_terminal, sign_spelled, sign_values, operand_spelled, operand_depth, operand_values, product_spelled, product_depth, product_values, sum_spelled, sum_depth, sum_values, call_spelled, call_depth, call_values, statements_spelled, statements_depth, statements_values, rest_spelled, text_spelled}
 
@@ -110,7 +109,7 @@ at_width n d v (Exactly g) = None
 at_width n d v Other = None
 
 abbrev pub at_name : ℕ → ℕ → Terminal → Option Point
-at_name d v (Name m) = if is_same m (codes "Out") then None else if is_same m (codes "In") then None else Some (point AtNameEnd m d v)
+at_name d v (Name m) = on (if is_same m (codes "Out") then false else if is_same m (codes "In") then false else true) (point AtNameEnd m d v)
 at_name d v (Number k) = None
 at_name d v (Exactly g) = None
 at_name d v Other = None
@@ -322,6 +321,17 @@ before_part ss = part (before_spelled ss) (statements_depth ss) (statements_valu
 -- from a module's name up to its statements
 abbrev pub import_part : Part
 import_part = part (Exactly Semicolon ∷ Exactly Import ∷ Name (codes "Out") ∷ Exactly Semicolon ∷ Exactly Begin ∷ []) 0 0
+
+-- a name that a module may have
+abbrev pub is_own_name : Terminal → Bool
+is_own_name (Name n) = if is_same n (codes "Out") then false else if is_same n (codes "In") then false else true
+is_own_name (Number n) = false
+is_own_name (Exactly g) = false
+is_own_name Other = false
+
+abbrev pub TakesName : Here → Here → Result (Vec ℕ Global) TextFault → Type 0
+TakesName a b (Ok name) = Took (Name name.items) 0 a b × (is_own_name (Name name.items) ≡ true)
+TakesName a b (Err e) = Missed is_own_name a e
 
 -- the head of a module of this name was read from a to b
 pub record Named (name : List ℕ) (a b : Here) : Type 0 where

@@ -1,5 +1,5 @@
 -- The terminals of a text: its symbols, as the grammar sees them.
-use Rattle.std.specs.Prelude.{ℕ, zero, ◌-◌, List, [], ◌∷◌, Bool, true, false, nat_lt, ◌&&◌, if◌then◌else◌, ℤ, pos, negsuc, length, map, slice_index, slice_range}
+use Rattle.std.specs.Prelude.{ℕ, ◌-◌, List, [], ◌∷◌, Bool, false, nat_lt, ◌&&◌, if◌then◌else◌, ℤ, pos, negsuc, length, map, slice_index, slice_range}
 use Rattle.std.specs.List.{list_all}
 use Rattle.ob_symbol.specs.declared.symbol.Kind.{Kind}
 use Rattle.ob_symbol.specs.declared.symbol.Kind.TheVariants.{Ident, Int, Char, Text, Word, Mark}

@@ -6,7 +6,8 @@ use Rattle.first_text.specs.declared.tree.Sign.{Sign}
 use Rattle.first_text.specs.declared.tree.Sign.TheVariants as S
 use Rattle.first_text.specs.declared.tree.Statement.{Statement}
 use Rattle.first_text.specs.declared.tree.Text.{Text}
-use Rattle.first_text.specs.declared.terminal.Fixed.{Fixed}
+use Rattle.first_text.specs.declared.fault.TextFault.{TextFault}
+use Rattle.first_text.specs.declared.fault.TextFault.TheVariants.{NotText, Memory}
 use Rattle.first_text.specs.declared.terminal.Fixed.TheVariants.{Module, Import, Begin, End, Plus, Minus, Times, LeftParen, RightParen, Comma, Semicolon, Period}
 use Rattle.first_text.specs.Terminals.{Terminal, Name, Number, Exactly, terminals_of, is_spaced}
 use Rattle.first_text.specs.Syntax.{Operand, Literal, Inner, Product, Single, Multiplied, Sum, Leading, Joined, Call, Writes, Ends}
@@ -121,3 +122,8 @@ pub record IsText (bytes : List ℕ) (t : Text) : Type 0 where
   pub not_in : t.name.items ≢ codes "In"
   pub depth : statements_depth t.statements.items ≤ 100
   pub values : statements_values t.statements.items ≤ 4000
+
+-- why bytes have no tree: they are the text of none, or memory ran out
+abbrev pub HasNone : List ℕ → TextFault → Type 0
+HasNone bytes NotText = (t : Text) → IsText bytes t → ⊥
+HasNone bytes Memory = Unit {0}

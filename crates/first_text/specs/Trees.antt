@@ -1,5 +1,5 @@
 -- Which sums and statements the trees stand for. A row is how a tree holds a list of its own kind.
-use Rattle.std.specs.Prelude.{ℕ, List, [], ◌∷◌}
+use Rattle.std.specs.Prelude.{List, [], ◌∷◌}
 use Rattle.first_text.specs.declared.tree.Simple.{Simple, Simple', Row_of-Added, end_of-Added, more_of-Added}
 use Rattle.first_text.specs.declared.tree.Added.{Added}
 use Rattle.first_text.specs.declared.tree.Term.{Term, Row_of-Factor, end_of-Factor, more_of-Factor}

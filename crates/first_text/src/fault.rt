@@ -1,10 +1,10 @@
 //! Why bytes have no tree.
 
-use std::alloc::{AllocError, AllocFailed};
-use thiserror::Error;
-
 ghost use Rattle.std.specs.Prelude.{◌≡◌};
 ghost use Rattle.first_text.specs.declared.fault.TextFault.TheVariants.{Memory};
+
+use std::alloc::{AllocError, AllocFailed};
+use thiserror::Error;
 
 /// Why bytes have no tree.
 #[derive(Clone, Copy, PartialEq, Eq, Debug, Error)]

@@ -7,10 +7,18 @@
 
 mod expressions;
 mod fault;
+mod laws;
 mod parser;
+mod reading;
+mod statements;
 mod terminal;
 mod tree;
 mod words;
 
 pub use fault::TextFault;
+pub use laws::texts_mean_one_thing;
+pub use reading::read_text;
 pub use tree::{Added, Factor, Sign, Simple, Statement, Term, Text};
+
+#[cfg(test)]
+mod tests;

@@ -2,12 +2,13 @@
 
 ghost use Rattle.std.specs.Prelude.{◌≡◌, ◌+◌, ◌<◌, ◌≤◌, length, drop, OnOk};
 ghost use Rattle.first_text.specs.Terminals.{Exactly, Name, Number, terminals_of};
-ghost use Rattle.first_text.specs.Reading.{Takes, Enters, Leaves, is_end, is_next, is_exactly, is_name, is_number};
+ghost use Rattle.first_text.specs.Reading.{Takes, TakesName, Enters, Leaves, is_end, is_next, is_exactly, is_name, is_number};
 
 use crate::fault::TextFault;
 use crate::terminal::Fixed;
-use crate::words::{is_fixed, is_named, number_of};
+use crate::words::{is_fixed, is_named, number_of, own_name};
 use ob_symbol::Symbol;
+use std::alloc::Global;
 use std::marker::Model;
 
 /// A parser: the text and its symbols, the index of the next one, how many parentheses are open, and how
@@ -115,6 +116,23 @@ impl<'a> Parser<'a> {
             Ok(())
         } else {
             Err(TextFault::NotText)
+        }
+    }
+
+    /// Reads a module's name, which is neither `Out` nor `In`.
+    pub fn name(&mut self, alloc: Global) -> Result<Vec<u8>, TextFault>
+        ensures { TakesName self.old self.new result }
+    {
+        match self.symbols.get(self.next) {
+            Some(symbol) => match own_name(self.bytes, symbol) {
+                Some(name) => {
+                    let name = name.to_vec(alloc)?;
+                    self.advance(0);
+                    Ok(name)
+                }
+                None => Err(TextFault::NotText),
+            },
+            None => Err(TextFault::NotText),
         }
     }
 

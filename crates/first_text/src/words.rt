@@ -1,9 +1,9 @@
 //! Words of a text, and the terminals that its symbols are.
 
-ghost use Rattle.std.specs.Prelude.{◌≡◌, ℕ, List, ◌-◌, false, MatchOption, slice_range, slice_index};
+ghost use Rattle.std.specs.Prelude.{◌≡◌, ℕ, List, ◌-◌, true, false, MatchOption, slice_range, slice_index};
 ghost use Rattle.ob_scan.specs.Tables.{is_same};
-ghost use Rattle.first_text.specs.Terminals.{Number, is_digit, number_terminal, terminal_of, word_terminal, mark_terminal};
-ghost use Rattle.first_text.specs.Reading.{is_exactly, is_name, is_number};
+ghost use Rattle.first_text.specs.Terminals.{Name, Number, is_digit, number_terminal, terminal_of, word_terminal, mark_terminal};
+ghost use Rattle.first_text.specs.Reading.{is_exactly, is_name, is_own_name, is_number};
 
 use crate::terminal::Fixed;
 use ob_symbol::{Delimiter, Kind, Reserved, Symbol};
@@ -115,4 +115,31 @@ pub fn number_of(bytes: &[u8], symbol: &Symbol) -> Option<u64>
         Kind::Word(_) => None,
         Kind::Mark(_) => None,
     }
+}
+
+/// The bytes of a symbol that is a name which a module may have: neither `Out` nor `In`.
+pub fn own_name<'a>(bytes: &'a [u8], symbol: &Symbol) -> Option<&'a [u8]>
+    ensures { MatchOption result (is_own_name (terminal_of bytes.now symbol.now) ≡ false) (λ n. (terminal_of bytes.now symbol.now ≡ Name n.now) × (is_own_name (Name n.now) ≡ true)) }
+{
+    match symbol.kind {
+        Kind::Ident => other_name(word(bytes, symbol)),
+        Kind::Int(_) => None,
+        Kind::Char(_) => None,
+        Kind::Text => None,
+        Kind::Word(_) => None,
+        Kind::Mark(_) => None,
+    }
+}
+
+/// A name that is neither `Out` nor `In`.
+fn other_name(name: &[u8]) -> Option<&[u8]>
+    ensures { MatchOption result (is_own_name (Name name.now) ≡ false) (λ n. (n.now ≡ name.now) × (is_own_name (Name n.now) ≡ true)) }
+{
+    if is_word(name, b"Out") {
+        return None;
+    }
+    if is_word(name, b"In") {
+        return None;
+    }
+    Some(name)
 }

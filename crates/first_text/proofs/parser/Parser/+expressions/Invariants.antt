@@ -1,5 +1,5 @@
 -- Each call is of a part that stands lower in the grammar, or has fewer terminals ahead.
-use Rattle.std.proofs.Common.{◌≡◌, ℕ, ◌+◌, ◌*◌, ◌≤◌, length}
+use Rattle.std.proofs.Common.{ℕ, ◌+◌, ◌*◌, ◌≤◌, length}
 use Rattle.first_text.specs.Reading.{Here, Went, AfterProduct, AfterOperand, all_added_part, factors_part}
 use Rattle.first_text.proofs.parser.Parser.+expressions.Given as goal
 

@@ -1,4 +1,4 @@
-use Rattle.std.proofs.Common.{◌≡◌, ◌∙◌, ap}
+use Rattle.std.proofs.Common.{◌∙◌, ap}
 use Rattle.first_text.specs.Terminals.{terminal_of}
 use Rattle.first_text.specs.Reading.{Here, is_end}
 use Rattle.first_text.proofs.Ahead.{at_end}

@@ -1,4 +1,4 @@
-use Rattle.std.proofs.Common.{◌≡◌, ◌∙◌, ap, arith}
+use Rattle.std.proofs.Common.{◌∙◌, ap, arith}
 use Rattle.first_text.specs.Terminals.{terminal_of}
 use Rattle.first_text.specs.Reading.{Here, is_name}
 use Rattle.first_text.proofs.Ahead.{looks_at}
