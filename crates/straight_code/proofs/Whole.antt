@@ -15,6 +15,7 @@ use Rattle.a64_table.specs.Table.{word_of, InRange}
 use Rattle.a64_machine.specs.State.{State, Trap, read, put, code_base, address_of, place_at}
 use Rattle.a64_machine.specs.Effects.{effect, gives}
 use Rattle.a64_machine.specs.Machine.{data_base, local_base, frames_base, heap_base, local_bytes, heap_bytes, frames_bytes, zeroed, first_memory, first_registers, start, step_of, system_of, system}
+use Rattle.image_form.specs.Form.{IsInForm}
 use Rattle.straight_code.specs.declared.operation.Operation.{Operation}
 use Rattle.straight_code.specs.Operations.{output_of, values_of, AreLegal}
 use Rattle.straight_code.specs.Code.{body, prologue, epilogue, frame_bytes, procedure}
@@ -238,3 +239,15 @@ module _ (os : List Operation) (legal : AreLegal 0 os) (few : values_of os ≤ 4
     where
       long : length all_places ≡ length code
       long = length-upto (40 + length (procedure os)) 0 ∙ sym (length-append front_words (map word_of (procedure os)) ∙ ap (λ n. 40 + n) (length-map_words (procedure os)))
+
+  -- the image's lengths are within what a machine loads
+  pub in_form : IsInForm (image os)
+  in_form =
+      let l = size in
+      let n = length-append front_words (map word_of (procedure os)) in
+      let m = length-map_words (procedure os) in
+      record {
+        version = refl; flags = lit< tt;
+        some_code = omega (arith, n, m); code = omega (arith, n, m, l);
+        globals = omega arith; constants = omega arith; frame = omega (arith, few);
+        whole_globals = refl; whole_constants = refl; whole_frame = omega arith }

@@ -3,6 +3,7 @@
 ghost use Rattle.std.specs.Prelude.{◌≡◌, ℕ, ◌≤◌, ◌+◌, List, [], ◌++◌, map, length, IfOk, OnOk};
 ghost use Rattle.run_laws.specs.Runs.{Ended, InStep};
 ghost use Rattle.a64_table.specs.Table.{word_of};
+ghost use Rattle.image_form.specs.Form.{IsInForm};
 ghost use Rattle.a64_machine.specs.Machine.{start, system};
 ghost use Rattle.straight_code.specs.declared.operation.Operation.{Operation};
 ghost use Rattle.straight_code.specs.Operations.{count, values_of, output_of, AreLegal};
@@ -76,6 +77,17 @@ pub fn image_of(alloc: Global, operations: &[Operation]) -> Result<Image, Memory
     requires few { values_of operations.now ≤ 4000 }
     requires short { length operations.now ≤ 8000 }
     ensures image { IfOk result (λ made. made ≡ image operations.now) }
+    ensures in_form { IfOk result IsInForm }
+{
+    let image = build(alloc, operations)?;
+    Ok(image)
+}
+
+/// The parts of the image, put together.
+fn build(alloc: Global, operations: &[Operation]) -> Result<Image, Memory>
+    requires legal { AreLegal 0 operations.now }
+    requires few { values_of operations.now ≤ 4000 }
+    ensures { IfOk result (λ made. made ≡ image operations.now) }
 {
     let frame = 8 * (count_values(operations) + 1);
     let mut words = front(alloc)?;

@@ -1,1 +1,4 @@
 pub mod Meant
+mod Taken
+mod SoFar
+mod Compiled

@@ -14,5 +14,5 @@ image_of text = image (operations_of text)
 
 -- whatever the input, a machine that runs the image is in step with the text's meaning, which has no turns: it ends
 -- within as many steps as there are code words, with exactly what the text writes, and doesn't trap
-abbrev pub RunsAsMeant : Text → Type 0
-RunsAsMeant text = (input : List ℕ) → InStep (system (image_of text)) (length (image_of text).code) same_trap (start (image_of text) input) (λ n. Ended (output_of text))
+pub record RunsAsMeant (text : Text) : Type 0 where
+  pub in_step : (input : List ℕ) → InStep (system (image_of text)) (length (image_of text).code) same_trap (start (image_of text) input) (λ n. Ended (output_of text))

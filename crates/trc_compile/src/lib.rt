@@ -5,7 +5,7 @@
 //! operation over numbered values, operands first and from left to right. The layer above uses `compile`.
 #![tactic(auto)]
 
-mod compile;
-mod lower;
+mod compiler;
+mod lowering;
 
-pub use compile::{Refusal, compile};
+pub use compiler::{Refusal, compile};
