@@ -1,0 +1,83 @@
+//! A file is read, compiled, and its image run.
+
+ghost use Rattle.std.specs.Prelude.{◌≡◌, ◌≤◌, ℕ, List};
+ghost use Rattle.image_form.specs.Form.{IsInForm};
+ghost use Rattle.trc_base.specs.Devices.{Rose};
+ghost use Rattle.trc_cli.specs.Runs.{most_steps, Ends};
+ghost use Rattle.trc_cli.specs.Verdict.{Change, Says, SaysOfImage, SaysOfSource};
+
+use crate::causes::{Cause, Device};
+use a64_machine::{Halt, Machine};
+use image_form::Image;
+use std::alloc::Global;
+use trc_base::{Files, GetFault, Sink};
+use trc_compile::{Refusal, compile};
+
+/// The most bytes that a source may have.
+const MOST_BYTES: usize = 1_048_576;
+
+/// How many steps a run makes at most.
+fn steps() -> u64
+    ensures { result ≡ most_steps }
+{
+    1_000_000_000
+}
+
+/// Runs an image whose run ends, on an empty input.
+fn run_image<O: Sink>(alloc: Global, image: Image, out: &mut O) -> Cause
+    requires form { IsInForm image }
+    requires ends { Ends image }
+    ensures says { SaysOfImage image (record { taken = O.taken out.old; amount = O.amount out.old; faults = O.faults out.old; taken' = O.taken out.new; amount' = O.amount out.new; faults' = O.faults out.new }) result }
+    ensures rises { O.faults out.old ≤ O.faults out.new }
+{
+    let machine = match Machine::load(alloc, image, Vec::new(alloc)) {
+        Ok(machine) => machine,
+        Err(_) => return Cause::Memory,
+    };
+    match machine.run(steps(), out) {
+        Halt::Ended => Cause::Done,
+        Halt::WriteFault => Cause::WriteFault {
+            device: Device::Output,
+        },
+        Halt::Spent => unreachable!(),
+        Halt::Trapped(_) => unreachable!(),
+        Halt::Undefined(_) => unreachable!(),
+        Halt::BadAddress(_) => unreachable!(),
+        Halt::BadCall(_) => unreachable!(),
+    }
+}
+
+/// Compiles a source and runs its image.
+fn run_source<O: Sink>(alloc: Global, source: &[u8], out: &mut O) -> Cause
+    ensures says { SaysOfSource source.now (record { taken = O.taken out.old; amount = O.amount out.old; faults = O.faults out.old; taken' = O.taken out.new; amount' = O.amount out.new; faults' = O.faults out.new }) result }
+    ensures rises { O.faults out.old ≤ O.faults out.new }
+{
+    match compile(alloc, source) {
+        Ok(image) => run_image(alloc, image, out),
+        Err(Refusal::Unbuilt) => Cause::Unbuilt,
+        Err(Refusal::Memory) => Cause::Memory,
+    }
+}
+
+/// Reads a file, compiles it and runs its image.
+pub(crate) fn run_file<F: Files, O: Sink>(
+    alloc: Global,
+    name: &str,
+    files: &mut F,
+    out: &mut O,
+) -> Cause
+    ensures says { Says (F.held files.old) name.now (Rose (F.faults files.old) (F.faults files.new)) (record { taken = O.taken out.old; amount = O.amount out.old; faults = O.faults out.old; taken' = O.taken out.new; amount' = O.amount out.new; faults' = O.faults out.new }) result }
+    ensures files { F.held files.new ≡ F.held files.old }
+    ensures files_rise { F.faults files.old ≤ F.faults files.new }
+    ensures out_rises { O.faults out.old ≤ O.faults out.new }
+{
+    match files.read(alloc, name, MOST_BYTES) {
+        Ok(source) => run_source(alloc, source.as_slice(), out),
+        Err(GetFault::NoSuchFile) => Cause::NoSuchFile { word: 0 },
+        Err(GetFault::TooLong) => Cause::Unbuilt,
+        Err(GetFault::Failed) => Cause::ReadFault {
+            device: Device::Files,
+        },
+        Err(GetFault::Memory) => Cause::Memory,
+    }
+}
