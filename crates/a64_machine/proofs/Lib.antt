@@ -5,3 +5,4 @@ pub mod Running
 pub mod Registers
 mod Starting
 pub mod Steps
+pub mod Regions
