@@ -60,9 +60,6 @@ pub run_stops : (m : Mode) (name : List ℕ) (d v : ℕ) (w : List Terminal) →
 run_stops m name d v [] e s = e
 run_stops m name d v (t ∷ u) e s = ap (λ p. run p u) (s t u refl)
 
-pub on_false : (b : Bool) (p : Point) → b ≡ false → on b p ≡ None
-on_false b p h = ap (λ x. on x p) h
-
 pub on_true : (b : Bool) (p : Point) → b ≡ true → on b p ≡ Some p
 on_true b p h = ap (λ x. on x p) h
 

@@ -1,7 +1,7 @@
 -- Steps of the grammar that names decide.
 use Rattle.std.proofs.Common.{◌≡◌, ◌≢◌, ℕ, ◌+◌, List, [], ◌∷◌, true, false, refl, sym, ap, ◌∙◌, subst, arith, add-zero, codes, Some}
 use Rattle.ob_scan.specs.Tables.{is_same}
-use Rattle.first_text.specs.declared.tree.Statement.TheVariants.{WriteInt, WriteLn}
+use Rattle.first_text.specs.declared.tree.Statement.TheVariants.{WriteInt}
 use Rattle.first_text.specs.declared.tree.Simple.{Simple}
 use Rattle.first_text.specs.declared.terminal.Fixed.TheVariants.{Module, Import, Begin, Semicolon, Period}
 use Rattle.first_text.specs.Terminals.{Name, Exactly}
@@ -34,10 +34,6 @@ int_step name d v =
 
 pub int_went : (a b : Here) → Took (Name (codes "Int")) 0 a b → Went AtCall AtOpen (part (Name (codes "Int") ∷ []) 0 0) a b
 int_went a b h = took_none int_step h
-
--- a call that ends a line
-pub ln_is : part (Name (codes "Out") ∷ []) 0 0 ⧺ (part (Exactly Period ∷ []) 0 0 ⧺ part (Name (codes "Ln") ∷ []) 0 1) ≡ statement_part WriteLn
-ln_is = refl
 
 -- a call that writes a number
 pub int_is : (value : Simple) (width : ℕ) → statement_part (WriteInt value width) ≡ part (Name (codes "Out") ∷ []) 0 0 ⧺ (part (Exactly Period ∷ []) 0 0 ⧺ (part (Name (codes "Int") ∷ []) 0 0 ⧺ arguments_part (value, width)))
