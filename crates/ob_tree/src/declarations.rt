@@ -1,7 +1,8 @@
 //! Declarations. A `u32` is the index of a symbol.
 
 use crate::expressions::Expression;
-use crate::modules::Body;
+use crate::names::{Identdef, Idents};
+use crate::statements::Body;
 use crate::types::{Formals, TypeTree};
 
 /// `[CONST ..] [TYPE ..] [VAR ..] {procedure ";"}`
@@ -90,25 +91,4 @@ pub struct Procedure {
 pub struct Returned {
     pub return_word: u32,
     pub value: Expression,
-}
-
-/// `ident ["*"]`
-#[derive(Debug, Drop)]
-pub struct Identdef {
-    pub name: u32,
-    pub star: Option<u32>,
-}
-
-/// `identdef {"," identdef}`
-#[derive(Debug, Drop)]
-pub struct Idents {
-    pub first: Identdef,
-    pub more: Vec<NextIdentdef>,
-}
-
-/// `"," identdef`
-#[derive(Debug, Drop)]
-pub struct NextIdentdef {
-    pub comma: u32,
-    pub name: Identdef,
 }

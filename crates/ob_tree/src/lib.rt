@@ -8,5 +8,6 @@
 pub mod declarations;
 pub mod expressions;
 pub mod modules;
+pub mod names;
 pub mod statements;
 pub mod types;

@@ -1,7 +1,7 @@
 //! A module and its imports. A `u32` is the index of a symbol.
 
 use crate::declarations::Decls;
-use crate::statements::Stats;
+use crate::statements::Body;
 
 /// `MODULE ident ";" [IMPORT import {"," import} ";"] decls [BEGIN stats] END ident "."`
 #[derive(Debug, Drop)]
@@ -46,11 +46,4 @@ pub struct Import {
 pub struct ImportedName {
     pub becomes: u32,
     pub name: u32,
-}
-
-/// `BEGIN stats`
-#[derive(Debug, Drop)]
-pub struct Body {
-    pub begin_word: u32,
-    pub stats: Stats,
 }

@@ -1,7 +1,14 @@
 //! Statements. A `u32` is the index of a symbol.
 
 use crate::expressions::{Designator, Expression};
-use crate::types::Qualident;
+use crate::names::Qualident;
+
+/// `BEGIN stats`
+#[derive(Debug, Drop)]
+pub struct Body {
+    pub begin_word: u32,
+    pub stats: Stats,
+}
 
 /// `stat {";" stat}`
 #[derive(Debug, Drop)]

@@ -1,21 +1,7 @@
 //! Types and formal parameters. A `u32` is the index of a symbol.
 
-use crate::declarations::Idents;
 use crate::expressions::{Expression, NextExpression};
-
-/// `ident ["." ident]`
-#[derive(Debug, Drop)]
-pub struct Qualident {
-    pub name: u32,
-    pub member: Option<Member>,
-}
-
-/// `"." ident`
-#[derive(Debug, Drop)]
-pub struct Member {
-    pub period: u32,
-    pub name: u32,
-}
+use crate::names::{Idents, NextIdent, Qualident};
 
 /// `qualident | ARRAY .. | RECORD .. | POINTER .. | PROCEDURE ..`
 #[derive(Debug, Drop)]
@@ -130,13 +116,6 @@ pub struct Section {
     pub colon: u32,
     pub open_array: Option<OpenArray>,
     pub of: Qualident,
-}
-
-/// `"," ident`
-#[derive(Debug, Drop)]
-pub struct NextIdent {
-    pub comma: u32,
-    pub name: u32,
 }
 
 /// `ARRAY OF`
