@@ -1,0 +1,5 @@
+pub mod Lists
+pub mod ExpressionTexts
+pub mod TypeTexts
+pub mod StatementTexts
+pub mod DeclarationTexts
