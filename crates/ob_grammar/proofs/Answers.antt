@@ -35,12 +35,12 @@ place_is : (w r : List ℕ) (k at : ℕ) → r ≡ drop k w → k ≤ length w �
 place_is w r k at e h p = let x = ap length e ∙ length-drop k w in omega arith
 
 begins_as : (w : List ℕ) (k : ℕ) (v : List Token) → k ≤ length w → Spells start v → take k (terminals v) ≡ take k w → BeginsModule (take k w)
-begins_as w k v h x e = record { marks = v; tree = to_module v x; begins = ap (λ j. take j (terminals v)) (length_take k w h) ∙ e }
+begins_as w k v h x e = record { tokens = v; tree = to_module v x; begins = ap (λ j. take j (terminals v)) (length_take k w h) ∙ e }
 
-shorter : (w : List ℕ) (k j : ℕ) (b : BeginsModule (take j w)) → k ≤ j → j ≤ length w → take k (terminals b.marks) ≡ take k w
+shorter : (w : List ℕ) (k j : ℕ) (b : BeginsModule (take j w)) → k ≤ j → j ≤ length w → take k (terminals b.tokens) ≡ take k w
 shorter w k j b h g =
-    let e : take j (terminals b.marks) ≡ take j w = ap (λ i. take i (terminals b.marks)) (sym (length_take j w g)) ∙ b.begins in
-    sym (take_take k j (terminals b.marks) h) ∙ (ap (take k) e ∙ take_take k j w h)
+    let e : take j (terminals b.tokens) ≡ take j w = ap (λ i. take i (terminals b.tokens)) (sym (length_take j w g)) ∙ b.begins in
+    sym (take_take k j (terminals b.tokens) h) ∙ (ap (take k) e ∙ take_take k j w h)
 
 pub is_wrong : (w r : List ℕ) (at : ℕ) → Stops start w r Wrong → at + length r ≡ length w → IsWrong w at
 is_wrong w r at h p =
@@ -49,7 +49,7 @@ is_wrong w r at h p =
       viable = record {
         within = f.within;
         begins = begins_as w f.k f.alive.0 f.within f.alive.1 f.alive.2;
-        longest = λ j lt le b. f.claim b.marks (from_module b.marks b.tree) (shorter w (suc f.k) j b (omega arith) le);
+        longest = λ j lt le b. f.claim b.tokens (from_module b.tokens b.tree) (shorter w (suc f.k) j b (omega arith) le);
       };
       none = λ v x e. f.claim v (from_module v x) (ap (take (suc f.k)) e);
       shallow = λ v x e. f.shallow v (from_module v x) e;

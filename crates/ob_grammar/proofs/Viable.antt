@@ -3,7 +3,7 @@ use Rattle.std.proofs.Common.{◌≡◌, ℕ, zero, suc, ◌<◌, ◌≤◌, Lis
 use Rattle.ob_grammar.specs.Grammar.{Production, module_, import, decls, identdef, idents, qualident, type, fields, formals, section, procedure, stats, stat, case, range, label, designator, list, expression, simple, term, factor, set, element}
 use Rattle.ob_grammar.specs.Grammar.{BEGIN, BY, DIV, DO, ELSE, ELSIF, END, IN, IS, MOD, OF, OR, RETURN, THEN, TO, UNTIL, plus, minus, times, slash, ampersand, comma, semicolon, bar, left_paren, becomes, equal, not_equal, less, greater, less_equal, greater_equal, dots, colon, right_paren, right_bracket, right_brace}
 use Rattle.ob_grammar.specs.Grammar.{Form, one, part, ◌·◌, ◌∣◌, opt, many, nest, rule}
-use Rattle.ob_grammar.specs.Trees.{Token, token, terminals, level_at, Is, a_terminal, a_part, both, the_left, the_right, with, without, once_more, no_more, inside}
+use Rattle.ob_grammar.specs.Trees.{Token, token, terminals, level_at, depth_limit, Is, a_terminal, a_part, both, the_left, the_right, with, without, once_more, no_more, inside}
 use Rattle.ob_grammar.specs.Reading.{any_of, is_in, is_next, firsts, may_be_empty, is_empty, first, Item, item, Outcome, Wrong, Deep, Whole, all_read, Stops, eats, misses, calls, splits, goes_left, goes_right, takes, skips, repeats, ends, opens, is_deep, is_not_open, too_much}
 
 -- sets of terminals
@@ -345,7 +345,7 @@ firsts_of (i ∷ s) = first_then i.form (firsts_of s)
 
 abbrev pub Fits : List Item → Type 0
 Fits [] = Unit {0}
-Fits (i ∷ s) = (i.level ≤ 100) × Good i.form (firsts_of s) × Fits s
+Fits (i ∷ s) = (i.level ≤ depth_limit) × Good i.form (firsts_of s) × Fits s
 
 head_in : (f : Form) (F : List ℕ) (m : Token) (v a b : List Token) → Begins f a → ((n : Token) (c : List Token) → b ≡ n ∷ c → is_in F n.terminal ≡ true) → m ∷ v ≡ a ++ b → is_in (first_then f F) m.terminal ≡ true
 head_in f F m v [] b x h e = first_second (is_empty f) (first f) F m.terminal x (h m v (sym e))
@@ -485,7 +485,7 @@ upto Whole k = k
 
 abbrev pub Claim : Outcome → ℕ → List Token → Type 0
 Claim Wrong k v = ⊥
-Claim Deep k v = level_at v k ≡ 101
+Claim Deep k v = level_at v k ≡ suc depth_limit
 Claim Whole k v = Unit {0}
 
 pub record Found (s : List Item) (w r : List ℕ) (o : Outcome) : Type 0 where
@@ -494,7 +494,7 @@ pub record Found (s : List Item) (w r : List ℕ) (o : Outcome) : Type 0 where
   pub within : k ≤ length w
   pub alive : (v : List Token) × Spells s v × (take (upto o k) (terminals v) ≡ take (upto o k) w)
   pub claim : (v : List Token) → Spells s v → take (suc k) (terminals v) ≡ take (suc k) w → Claim o k v
-  pub shallow : (v : List Token) → Spells s v → take k (terminals v) ≡ take k w → (j : ℕ) → j < k → level_at v j ≤ 100
+  pub shallow : (v : List Token) → Spells s v → take k (terminals v) ≡ take k w → (j : ℕ) → j < k → level_at v j ≤ depth_limit
 
 abbrev Next : List Token → List ℕ → Type 0
 Next v w = (xs : List ℕ) → is_next xs (terminals v) ≡ is_next xs w
@@ -508,8 +508,8 @@ next_of k (x ∷ u) (y ∷ w) e xs = let same : x ≡ y = cc in ap (is_in xs) sa
 -- a step that reads nothing
 shallow_as : (s s' : List Item) (w : List ℕ) (k : ℕ) →
     ((v : List Token) → Next v w → Spells s v → Spells s' v) →
-    ((v : List Token) → Spells s' v → take k (terminals v) ≡ take k w → (j : ℕ) → j < k → level_at v j ≤ 100) →
-    (v : List Token) → Spells s v → take k (terminals v) ≡ take k w → (j : ℕ) → j < k → level_at v j ≤ 100
+    ((v : List Token) → Spells s' v → take k (terminals v) ≡ take k w → (j : ℕ) → j < k → level_at v j ≤ depth_limit) →
+    (v : List Token) → Spells s v → take k (terminals v) ≡ take k w → (j : ℕ) → j < k → level_at v j ≤ depth_limit
 shallow_as s s' w zero f h v x e j lt = absurd (omega arith)
 shallow_as s s' w (suc k) f h v x e j lt = h v (f v (next_of k (terminals v) w e) x) e j lt
 
@@ -540,12 +540,12 @@ claim_on Whole k m v u e h = tt
 tail_of : (k x : ℕ) (v u : List Token) (m : Token) (w : List ℕ) → v ≡ m ∷ u → take (suc k) (terminals v) ≡ take (suc k) (x ∷ w) → take k (terminals u) ≡ take k w
 tail_of k x v u m w e h = let h' = subst (λ z. take (suc k) (terminals z) ≡ take (suc k) (x ∷ w)) e h in cc
 
-shallow_on : (k x : ℕ) (v u : List Token) (m : Token) (w : List ℕ) → m.level ≤ 100 → v ≡ m ∷ u → take (suc k) (terminals v) ≡ take (suc k) (x ∷ w) →
-    (take k (terminals u) ≡ take k w → (j : ℕ) → j < k → level_at u j ≤ 100) → (j : ℕ) → j < suc k → level_at v j ≤ 100
-shallow_on k x v u m w l e h f zero lt = subst (λ z. level_at z 0 ≤ 100) (sym e) l
-shallow_on k x v u m w l e h f (suc j) lt = subst (λ z. level_at z (suc j) ≤ 100) (sym e) (f (tail_of k x v u m w e h) j (omega arith))
+shallow_on : (k x : ℕ) (v u : List Token) (m : Token) (w : List ℕ) → m.level ≤ depth_limit → v ≡ m ∷ u → take (suc k) (terminals v) ≡ take (suc k) (x ∷ w) →
+    (take k (terminals u) ≡ take k w → (j : ℕ) → j < k → level_at u j ≤ depth_limit) → (j : ℕ) → j < suc k → level_at v j ≤ depth_limit
+shallow_on k x v u m w l e h f zero lt = subst (λ z. level_at z 0 ≤ depth_limit) (sym e) l
+shallow_on k x v u m w l e h f (suc j) lt = subst (λ z. level_at z (suc j) ≤ depth_limit) (sym e) (f (tail_of k x v u m w e h) j (omega arith))
 
-read_on : {s s' : List Item} {w r : List ℕ} {o : Outcome} → (m : Token) → m.level ≤ 100 →
+read_on : {s s' : List Item} {w r : List ℕ} {o : Outcome} → (m : Token) → m.level ≤ depth_limit →
     ((v : List Token) → Spells s v → (u : List Token) × Spells s' u × (v ≡ m ∷ u)) →
     ((u : List Token) → Spells s' u → Spells s (m ∷ u)) →
     Found s' w r o → Found s (m.terminal ∷ w) r o
@@ -649,7 +649,7 @@ not_more f l b v a w ne y e n h = not_here f l y.0 (y.1 ++ b) v w ne y.2 ((e ∙
 ended : (f : Form) (l : ℕ) (s : List Item) (w : List ℕ) → is_empty f ≡ false → is_next (first f) w ≡ false → (v : List Token) → Next v w → Spells (item l (many f) ∷ s) v → Spells s v
 ended f l s w ne h v n x = elim (made x.2) [ inl y ↦ absurd (not_more f l x.1 v x.0 w ne y x.4 n h) | inr e ↦ same_rest x.0 x.1 v s x.4 e x.3 ]
 
-deep_here : (l k : ℕ) (f : Form) (s : List Item) (w : List ℕ) → l ≤ 100 → 100 ≤ l → Found (item l (nest k f) ∷ s) (k ∷ w) (k ∷ w) Deep
+deep_here : (l k : ℕ) (f : Form) (s : List Item) (w : List ℕ) → l ≤ depth_limit → depth_limit ≤ l → Found (item l (nest k f) ∷ s) (k ∷ w) (k ∷ w) Deep
 deep_here l k f s w a b =
     let x = some f (suc l) in
     let y = some_rest s in
