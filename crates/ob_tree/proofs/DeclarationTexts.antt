@@ -1,5 +1,5 @@
 -- What declarations that code makes spell: from the parts that they are made of.
-use Rattle.std.proofs.Common.{◌≡◌, ℕ, Vec, Global, Box, Option, Some, None, refl, ap, ◌∙◌}
+use Rattle.std.proofs.Common.{◌≡◌, ℕ, Vec, Global, Option, refl, ap, ◌∙◌}
 use Rattle.ob_grammar.specs.Grammar as G
 use Rattle.ob_tree.specs.Leaves.{leaf, optional, each, ◌⧺◌}
 use Rattle.ob_tree.specs.NameText.{identdef_text}
@@ -32,7 +32,7 @@ pub decls_is : (consts : Option Consts) (types : Option Types) (vars : Option Va
 decls_is consts types vars procedures =
     ap decls_text (rolls-Decls' (record { consts = consts; types = types; vars = vars; procedures = procedures }))
     ∙ ap (λ t. optional consts_text consts ⧺ optional types_text types ⧺ optional vars_text vars
-        ⧺ t) (procedure_decl_row_is procedures)
+    ⧺ t) (procedure_decl_row_is procedures)
 
 pub procedure_decl_is : (procedure : Procedure) (semicolon : ℕ) →
     procedure_decl_text (roll-ProcedureDecl (record { procedure = procedure; semicolon = semicolon }))

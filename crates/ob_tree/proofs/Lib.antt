@@ -3,3 +3,10 @@ pub mod ExpressionTexts
 pub mod TypeTexts
 pub mod StatementTexts
 pub mod DeclarationTexts
+mod Spelled
+mod NamesSpelled
+mod ExpressionsSpelled
+mod TypesSpelled
+mod StatementsSpelled
+mod DeclarationsSpelled
+pub mod ModulesSpelled

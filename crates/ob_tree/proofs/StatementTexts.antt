@@ -90,9 +90,9 @@ pub if_stat_is : (if_word : ℕ) (guard : Expression) (then_word : ℕ) (body : 
 if_stat_is if_word guard then_word body elsifs otherwise end_word =
     ap if_stat_text (rolls-IfStat' (record { if_word = if_word; guard = guard; then_word = then_word; body = body; elsifs = elsifs; otherwise = otherwise; end_word = end_word }))
     ∙ ap (λ t. leaf G.IF if_word ⧺ expression_text guard ⧺ leaf G.THEN then_word ⧺ stats_text body ⧺ t
-        ⧺ held_else_text (back-IfStat-otherwise otherwise) ⧺ leaf G.END end_word) (elsif_row_is elsifs)
+    ⧺ held_else_text (back-IfStat-otherwise otherwise) ⧺ leaf G.END end_word) (elsif_row_is elsifs)
     ∙ ap (λ t. leaf G.IF if_word ⧺ expression_text guard ⧺ leaf G.THEN then_word ⧺ stats_text body
-        ⧺ each elsif_text elsifs.items ⧺ t ⧺ leaf G.END end_word) (held_else_is otherwise)
+    ⧺ each elsif_text elsifs.items ⧺ t ⧺ leaf G.END end_word) (held_else_is otherwise)
 
 pub elsif_is : (elsif_word : ℕ) (guard : Expression) (then_word : ℕ) (body : Stats) →
     elsif_text (roll-Elsif (record { elsif_word = elsif_word; guard = guard; then_word = then_word; body = body }))
@@ -113,7 +113,7 @@ pub case_stat_is : (case_word : ℕ) (selector : Expression) (of_word : ℕ) (fi
 case_stat_is case_word selector of_word first more end_word =
     ap case_stat_text (rolls-CaseStat' (record { case_word = case_word; selector = selector; of_word = of_word; first = first; more = more; end_word = end_word }))
     ∙ ap (λ t. leaf G.CASE case_word ⧺ expression_text selector ⧺ leaf G.OF of_word ⧺ case_text first ⧺ t
-        ⧺ leaf G.END end_word) (next_case_row_is more)
+    ⧺ leaf G.END end_word) (next_case_row_is more)
 
 pub next_case_is : (bar : ℕ) (case : Case) →
     next_case_text (roll-NextCase (record { bar = bar; case = case }))
@@ -141,7 +141,7 @@ pub while_stat_is : (while_word : ℕ) (guard : Expression) (do_word : ℕ) (bod
 while_stat_is while_word guard do_word body elsifs end_word =
     ap while_stat_text (rolls-WhileStat' (record { while_word = while_word; guard = guard; do_word = do_word; body = body; elsifs = elsifs; end_word = end_word }))
     ∙ ap (λ t. leaf G.WHILE while_word ⧺ expression_text guard ⧺ leaf G.DO do_word ⧺ stats_text body ⧺ t
-        ⧺ leaf G.END end_word) (elsif_do_row_is elsifs)
+    ⧺ leaf G.END end_word) (elsif_do_row_is elsifs)
 
 pub elsif_do_is : (elsif_word : ℕ) (guard : Expression) (do_word : ℕ) (body : Stats) →
     elsif_do_text (roll-ElsifDo (record { elsif_word = elsif_word; guard = guard; do_word = do_word; body = body }))

@@ -1,5 +1,5 @@
 -- What a type that code makes spells: from the parts that it is made of.
-use Rattle.std.proofs.Common.{◌≡◌, ℕ, Vec, Global, Box, Option, Some, None, refl, ap, ◌∙◌}
+use Rattle.std.proofs.Common.{◌≡◌, ℕ, Vec, Global, Option, Some, None, refl, ap, ◌∙◌}
 use Rattle.ob_grammar.specs.Grammar as G
 use Rattle.ob_tree.specs.Leaves.{leaf, optional, each, ◌⧺◌}
 use Rattle.ob_tree.specs.TypeText.{type_tree_text, array_type_text, record_type_text, base_text, fields_text, next_fields_text, pointer_type_text, next_fields_row, held_fields_text}
@@ -36,9 +36,9 @@ pub record_type_is : (record_word : ℕ) (base : Option Base) (first : Option Fi
 record_type_is record_word base first more end_word =
     ap record_type_text (rolls-RecordType' (record { record_word = record_word; base = base; first = first; more = more; end_word = end_word }))
     ∙ ap (λ t. leaf G.RECORD record_word ⧺ optional base_text base ⧺ t
-        ⧺ next_fields_row (hidden-the_row-NextFields-0 more) ⧺ leaf G.END end_word) (held_fields_is first)
+    ⧺ next_fields_row (hidden-the_row-NextFields-0 more) ⧺ leaf G.END end_word) (held_fields_is first)
     ∙ ap (λ t. leaf G.RECORD record_word ⧺ optional base_text base ⧺ optional fields_text first ⧺ t
-        ⧺ leaf G.END end_word) (next_fields_row_is more)
+    ⧺ leaf G.END end_word) (next_fields_row_is more)
 
 pub next_fields_is : (semicolon : ℕ) (fields : Option Fields) →
     next_fields_text (roll-NextFields (record { semicolon = semicolon; fields = fields }))

@@ -7,6 +7,7 @@
 
 pub mod declarations;
 pub mod expressions;
+pub mod laws;
 pub mod modules;
 pub mod names;
 pub mod statements;
