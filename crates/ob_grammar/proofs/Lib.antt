@@ -1,0 +1,7 @@
+mod Sets
+mod LookAhead
+mod Shapes
+mod Pending
+mod Witnesses
+pub mod Viable
+pub mod Answers

@@ -1,0 +1,5 @@
+pub mod Terminals
+pub mod Grammar
+pub mod Trees
+pub mod Modules
+pub mod Reading
