@@ -1,5 +1,5 @@
 -- The form of an image.
-use Rattle.std.specs.Prelude.{◌≡◌, ℕ, ◌≤◌, ◌<◌, ◌%◌, ◌^◌, length}
+use Rattle.std.specs.Prelude.{◌≡◌, ◌≤◌, ◌<◌, ◌%◌, length}
 use Rattle.image_form.specs.declared.image.Image.{Image}
 
 -- the version is 1, one flag alone may be set, there is some code, each part is within its greatest size, and all but the
