@@ -33,7 +33,8 @@ ends_as_meant text form meant =
     let now = (meant.in_step []).steps 0 in
     record {
       ended = run-longer_to (step_of code) ((0 + 1) * length code) most_steps (start (image_of text) []) [] (steps_are_enough (length code) form.code) (subst IsOver (sym now) tt) ∙ now;
-      meant = meant }
+      meant = meant;
+    }
 
 pub image_ends : (image : Image) (text : Text) → image ≡ image_of text → IsInForm image → RunsAsMeant text → Ends image
 image_ends image text same form meant =

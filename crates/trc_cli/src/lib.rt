@@ -9,6 +9,8 @@ mod causes;
 mod command;
 mod report;
 mod running;
+#[cfg(test)]
+mod tests;
 mod top;
 
 pub use causes::{Cause, Device, Outcome};
