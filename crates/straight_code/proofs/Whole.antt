@@ -247,7 +247,14 @@ module _ (os : List Operation) (legal : AreLegal 0 os) (few : values_of os ≤ 4
       let n = length-append front_words (map word_of (procedure os)) in
       let m = length-map_words (procedure os) in
       record {
-        version = refl; flags = lit< tt;
-        some_code = omega (arith, n, m); code = omega (arith, n, m, l);
-        globals = omega arith; constants = omega arith; frame = omega (arith, few);
-        whole_globals = refl; whole_constants = refl; whole_frame = omega arith }
+        version = refl;
+        flags = lit< tt;
+        some_code = omega (arith, n, m);
+        code = omega (arith, n, m, l);
+        globals = omega arith;
+        constants = omega arith;
+        frame = omega (arith, few);
+        whole_globals = refl;
+        whole_constants = refl;
+        whole_frame = omega arith;
+      }

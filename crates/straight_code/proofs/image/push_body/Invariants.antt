@@ -8,5 +8,5 @@ abbrev pub invariant-loop-operation : goal.invariant-loop-operation
 invariant-loop-operation l = record {
   legal : AreLegal l.made (drop l.operation-index l.operations);
   few : l.made + values_of (drop l.operation-index l.operations) ≤ 4000;
-  pushed : l.words.items ++ map word_of (body l.made (drop l.operation-index l.operations)) ≡ l.initial.words.items ++ map word_of (body 0 l.operations)
+  pushed : l.words.items ++ map word_of (body l.made (drop l.operation-index l.operations)) ≡ l.initial.words.items ++ map word_of (body 0 l.operations);
 }
