@@ -1,11 +1,10 @@
 -- The instructions of an operation compute and write what the operation does, and keep the frame.
-use Rattle.std.proofs.Common.{◌≡◌, ℕ, zero, suc, ◌+◌, ◌-◌, ◌*◌, ◌/◌, ◌%◌, ◌<◌, ◌≤◌, ◌^◌, ◌==◌, ◌&&◌, Bool, true, false, cond, not, if◌then◌else◌, List, [], ◌∷◌, ◌++◌, map, length, refl, sym, ap, ap₂, ◌∙◌, subst, arith, append_assoc, length-append, get_or, add-one, ◌⊎◌, ⊎_elim}
+use Rattle.std.proofs.Common.{◌≡◌, ℕ, suc, ◌+◌, ◌-◌, ◌*◌, ◌%◌, ◌<◌, ◌≤◌, ◌^◌, ◌==◌, Bool, true, false, if◌then◌else◌, List, [], ◌∷◌, ◌++◌, map, length, refl, sym, ap, ap₂, ◌∙◌, subst, arith, append_assoc, length-append, get_or, add-one, ⊎_elim}
 use Rattle.std.proofs.lemmas.List.{append-nil}
 use Rattle.std.proofs.lemmas.Bool.Decides.{eqb_tells}
-use Rattle.run_laws.specs.Runs.{Step, Moves}
 use Rattle.out_text.specs.Text.{int_text}
 use Rattle.a64_numbers.specs.Numbers.{add64, sub64, mul64, neg64, madd64}
-use Rattle.a64_numbers.specs.Shifts.{lsl64, shifted}
+use Rattle.a64_numbers.specs.Shifts.{lsl64}
 use Rattle.a64_numbers.specs.Moves.{moved, moved_by, constant_moves}
 use Rattle.a64_numbers.specs.declared.moves.Move.{Move}
 use Rattle.a64_numbers.specs.declared.moves.Move.TheVariants as move
@@ -13,15 +12,15 @@ use Rattle.a64_numbers.proofs.Constants.{constant_moves_make}
 use Rattle.a64_memory.specs.Memory.{Area}
 use Rattle.a64_instr.specs.declared.instr.Shift.TheVariants.{Lsl}
 use Rattle.a64_instr.specs.declared.instr.Instr.{Instr}
-use Rattle.a64_instr.specs.declared.instr.Instr.TheVariants.{AddReg, SubReg, Madd, Ldr, Str, Svc}
-use Rattle.a64_machine.specs.State.{State, Trap, read, put}
+use Rattle.a64_instr.specs.declared.instr.Instr.TheVariants.{AddReg, SubReg, Madd}
+use Rattle.a64_machine.specs.State.{State, read, put}
 use Rattle.a64_machine.specs.Effects.{effect, gives}
 use Rattle.straight_code.specs.declared.operation.Operation.{Operation}
 use Rattle.straight_code.specs.declared.operation.Operation.TheVariants.{Const, Add, Sub, Mul, Neg, WriteByte, WriteInt}
 use Rattle.straight_code.specs.Operations.{defined, written, output_of, count, values_of, Reads, AreLegal}
 use Rattle.straight_code.specs.Code.{home, load, store, second, load_both, move_instr, constant, instructions, body}
 use Rattle.straight_code.proofs.Sequences.{Effects, effects_append}
-use Rattle.straight_code.proofs.Frames.{Frame, slot, frame_stays, frame_grows, load_does, store_does, with_slot}
+use Rattle.straight_code.proofs.Frames.{Frame, frame_stays, frame_grows, load_does, store_does, with_slot}
 
 -- where a list of instructions leads: to a state with the same SP and memory, and these registers
 pub record Computes (is : List Instr) (s : State) (x : ℕ) : Type 0 where

@@ -1,19 +1,15 @@
 -- The frame of a procedure: a row of slots, the link's and then one for each value, and what operations do to it.
-use Rattle.std.proofs.Common.{◌≡◌, ℕ, zero, suc, ◌+◌, ◌-◌, ◌*◌, ◌/◌, ◌%◌, ◌<◌, ◌≤◌, ◌^◌, ◌==◌, ◌&&◌, Bool, true, false, cond, not, if◌then◌else◌, List, [], ◌∷◌, ◌++◌, map, length, Option, Some, None, refl, sym, ap, ap₂, ◌∙◌, subst, arith, append_assoc, length-append, get_or, lit<, ◌⊎◌, ⊎_elim, inl, inr}
-use Rattle.std.specs.Prelude.{slice_index}
+use Rattle.std.proofs.Common.{◌≡◌, ℕ, zero, suc, ◌+◌, ◌*◌, ◌<◌, ◌≤◌, ◌^◌, Bool, true, cond, List, [], ◌∷◌, ◌++◌, length, Some, None, refl, sym, ap, ◌∙◌, arith, length-append, get_or, lit<, ◌⊎◌, ⊎_elim, inl}
 use Rattle.std.specs.Int.{w64, to_le_bytes, from_le_bytes}
 use Rattle.std.proofs.lemmas.Nat.{from_le_bytes-to_le_bytes_8}
 use Rattle.std.proofs.lemmas.Bool.{cases_lt}
-use Rattle.std.proofs.lemmas.Bool.Decides.{eqb_tells}
-use Rattle.run_laws.specs.Runs.{Step, Moves}
-use Rattle.a64_numbers.specs.Numbers.{add64, sub64, mul64, neg64, madd64}
-use Rattle.a64_memory.specs.Memory.{Area, IsRising, covers, bytes_at, with_bytes, loaded8, stored8, load8, store8}
+use Rattle.run_laws.specs.Runs.{Moves}
+use Rattle.a64_numbers.specs.Numbers.{add64}
+use Rattle.a64_memory.specs.Memory.{Area, covers, loaded8, stored8, load8, store8}
 use Rattle.a64_memory.proofs.Stores.{covers-with_bytes, bytes_at-with_bytes_same, bytes_at-with_bytes_apart}
-use Rattle.a64_instr.specs.declared.instr.Instr.{Instr}
 use Rattle.a64_instr.specs.declared.instr.Instr.TheVariants.{Ldr, Str}
-use Rattle.a64_machine.specs.State.{State, Trap, read, put}
+use Rattle.a64_machine.specs.State.{State, read}
 use Rattle.a64_machine.specs.Effects.{effect, loads, stores, gives}
-use Rattle.straight_code.specs.Code.{home, load, store}
 
 eight : (v : ℕ) → length (to_le_bytes w64 v) ≡ 8
 eight v = refl

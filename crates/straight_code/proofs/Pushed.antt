@@ -1,9 +1,7 @@
 -- What was appended, piece by piece.
-use Rattle.std.proofs.Common.{◌≡◌, ℕ, zero, suc, ◌+◌, ◌<◌, ◌≤◌, List, [], ◌∷◌, ◌++◌, map, length, drop, Option, Some, None, refl, sym, ap, ◌∙◌, subst, arith, append_assoc, drop-cons, get_or, add-one}
-use Rattle.std.proofs.lemmas.List.{append-nil}
+use Rattle.std.proofs.Common.{◌≡◌, ℕ, List, [], ◌∷◌, ◌++◌, map, Option, Some, None, refl, ap, ◌∙◌, append_assoc, get_or}
 use Rattle.a64_numbers.specs.Moves.{given, half_moves, more_ones, constant_moves}
 use Rattle.a64_numbers.specs.declared.moves.Move.{Move}
-use Rattle.a64_instr.specs.declared.instr.Instr.{Instr}
 use Rattle.a64_table.specs.Table.{word_of}
 use Rattle.straight_code.specs.Code.{move_instr, constant}
 

@@ -1,18 +1,18 @@
 -- The fields of the instructions fit their places, and there are not too many of them.
-use Rattle.std.proofs.Common.{◌≡◌, ℕ, zero, suc, ◌+◌, ◌-◌, ◌*◌, ◌/◌, ◌%◌, ◌<◌, ◌≤◌, ◌^◌, ◌==◌, Bool, true, false, cond, if◌then◌else◌, List, [], ◌∷◌, ◌++◌, map, length, Option, Some, None, refl, sym, ap, ◌∙◌, subst, arith, lit<, length-append}
+use Rattle.std.proofs.Common.{◌≡◌, ℕ, suc, ◌+◌, ◌*◌, ◌/◌, ◌%◌, ◌<◌, ◌≤◌, ◌^◌, ◌==◌, Bool, true, false, cond, if◌then◌else◌, List, [], ◌∷◌, ◌++◌, map, length, Option, Some, None, refl, sym, ap, ◌∙◌, subst, arith, lit<, length-append}
 use Rattle.std.specs.Prelude.{slice_get}
-use Rattle.a64_numbers.specs.Moves.{half, lowest, more_ones, filling, beginning, move_of_half, half_moves, given, constant_moves}
+use Rattle.a64_numbers.specs.Moves.{half, lowest, more_ones, filling, beginning, half_moves, given, constant_moves}
 use Rattle.a64_numbers.specs.declared.moves.Move.{Move}
 use Rattle.a64_numbers.specs.declared.moves.Move.TheVariants as move
 use Rattle.a64_numbers.proofs.Constants.{four_moves, half_lt}
 use Rattle.a64_instr.specs.declared.instr.Shift.TheVariants.{Lsl}
 use Rattle.a64_instr.specs.declared.instr.Instr.{Instr}
-use Rattle.a64_instr.specs.declared.instr.Instr.TheVariants.{AddImm, SubImm, AddReg, SubReg, Movn, Movz, Movk, Madd, Ret, Ldr, Str, Svc}
+use Rattle.a64_instr.specs.declared.instr.Instr.TheVariants.{AddReg, SubReg, Madd}
 use Rattle.a64_table.specs.Table.{word_of, InRange}
 use Rattle.straight_code.specs.declared.operation.Operation.{Operation}
 use Rattle.straight_code.specs.declared.operation.Operation.TheVariants.{Const, Add, Sub, Mul, Neg, WriteByte, WriteInt}
 use Rattle.straight_code.specs.Operations.{count, values_of, Reads, AreLegal}
-use Rattle.straight_code.specs.Code.{home, load, store, second, load_both, move_instr, constant, instructions, body, prologue, epilogue, frame_bytes, procedure}
+use Rattle.straight_code.specs.Code.{load, store, second, load_both, move_instr, constant, instructions, body, prologue, epilogue, frame_bytes, procedure}
 use Rattle.straight_code.proofs.Sequences.{Stands}
 
 -- each instruction's fields fit

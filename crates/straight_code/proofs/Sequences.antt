@@ -1,14 +1,13 @@
 -- Instructions one after the other, and the words of them that a machine passes.
-use Rattle.std.proofs.Common.{◌≡◌, ℕ, zero, suc, ◌+◌, ◌-◌, ◌*◌, ◌/◌, ◌%◌, ◌<◌, ◌≤◌, ◌^◌, ◌==◌, ◌&&◌, Bool, true, false, if◌then◌else◌, List, [], ◌∷◌, ◌++◌, map, length, Option, Some, None, refl, sym, ap, ap₂, ◌∙◌, subst, arith, append_assoc, add-one}
+use Rattle.std.proofs.Common.{◌≡◌, ℕ, suc, ◌+◌, ◌%◌, ◌<◌, ◌≤◌, ◌^◌, ◌==◌, ◌&&◌, Bool, true, if◌then◌else◌, List, [], ◌∷◌, ◌++◌, length, Option, Some, None, sym, ap, ap₂, ◌∙◌, subst, arith, append_assoc}
 use Rattle.std.specs.Prelude.{nat_le, slice_get}
 use Rattle.std.proofs.lemmas.Bool.Decides.{nat_tests}
-use Rattle.run_laws.specs.Runs.{Step, Moves, System, Walk}
+use Rattle.run_laws.specs.Runs.{Moves, Walk}
 use Rattle.a64_numbers.specs.Numbers.{add64}
 use Rattle.a64_instr.specs.declared.instr.Instr.{Instr}
 use Rattle.a64_table.specs.Table.{word_of, InRange}
-use Rattle.a64_table.specs.Decode.{decode_of}
 use Rattle.a64_table.proofs.Laws.{decodes}
-use Rattle.a64_machine.specs.State.{State, Trap, code_base, address_of, place_at}
+use Rattle.a64_machine.specs.State.{State, code_base, address_of, place_at}
 use Rattle.a64_machine.specs.Effects.{effect}
 use Rattle.a64_machine.specs.Machine.{fetch, fetched, decoded, step_of, system_of}
 

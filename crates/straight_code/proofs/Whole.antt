@@ -1,29 +1,28 @@
 -- The machine that runs the image of operations writes what they write, and ends.
-use Rattle.std.proofs.Common.{◌≡◌, ℕ, zero, suc, ◌+◌, ◌-◌, ◌*◌, ◌/◌, ◌%◌, ◌<◌, ◌≤◌, ◌^◌, ◌&&◌, ◌||◌, Bool, true, false, List, [], ◌∷◌, ◌++◌, map, length, Option, Some, None, refl, sym, ap, ap₂, ◌∙◌, subst, arith, lit<, append_assoc, length-append, get_or}
-use Rattle.std.specs.Prelude.{nat_le, replicate, slice_get}
+use Rattle.std.proofs.Common.{◌≡◌, ℕ, zero, suc, ◌+◌, ◌*◌, ◌/◌, ◌%◌, ◌≤◌, ◌^◌, ◌&&◌, ◌||◌, Bool, true, false, List, [], ◌∷◌, ◌++◌, map, length, refl, sym, ap, ap₂, ◌∙◌, subst, arith, lit<, append_assoc, length-append}
+use Rattle.std.specs.Prelude.{replicate}
 use Rattle.std.proofs.lemmas.Bool.{le-leb}
 use Rattle.std.proofs.lemmas.List.{append-nil, length-replicate}
-use Rattle.run_laws.specs.Runs.{Outcome, Ended, Step, Moves, Ends, System, Walk, Passes, Halts, Keeps, InStep, weigh, Within}
+use Rattle.run_laws.specs.Runs.{Ended, Moves, Ends, System, Walk, Keeps, InStep, weigh, Within}
 use Rattle.run_laws.proofs.Weights.{weigh-append}
-use Rattle.run_laws.proofs.Walks.{Walk-append, Walk-cons, Walk-snoc}
+use Rattle.run_laws.proofs.Walks.{Walk-cons, Walk-snoc}
 use Rattle.run_laws.proofs.Agreement.{in_step}
 use Rattle.a64_numbers.specs.Numbers.{add64, sub64, immediate}
-use Rattle.a64_memory.specs.Memory.{Area, covers, lies}
+use Rattle.a64_memory.specs.Memory.{covers, lies}
 use Rattle.a64_instr.specs.declared.instr.Instr.{Instr}
-use Rattle.a64_instr.specs.declared.instr.Instr.TheVariants.{AddImm, SubImm, Bl, Ret, Ldr, Str, Svc}
-use Rattle.a64_table.specs.Table.{word_of, InRange}
-use Rattle.a64_machine.specs.State.{State, Trap, read, put, code_base, address_of, place_at}
-use Rattle.a64_machine.specs.Effects.{effect, gives}
-use Rattle.a64_machine.specs.Machine.{data_base, local_base, frames_base, heap_base, local_bytes, heap_bytes, frames_bytes, zeroed, first_memory, first_registers, start, step_of, system_of, system}
+use Rattle.a64_instr.specs.declared.instr.Instr.TheVariants.{AddImm, Bl, Ret, Ldr, Svc}
+use Rattle.a64_table.specs.Table.{word_of}
+use Rattle.a64_machine.specs.State.{State, Trap, read, put, address_of, place_at}
+use Rattle.a64_machine.specs.Machine.{frames_base, frames_bytes, zeroed, first_memory, start, step_of, system}
 use Rattle.image_form.specs.Form.{IsInForm}
 use Rattle.straight_code.specs.declared.operation.Operation.{Operation}
 use Rattle.straight_code.specs.Operations.{output_of, values_of, AreLegal}
 use Rattle.straight_code.specs.Code.{body, prologue, epilogue, frame_bytes, procedure}
-use Rattle.straight_code.specs.Images.{start_words, front_words, code_of, image, same_trap}
+use Rattle.straight_code.specs.Images.{front_words, code_of, image, same_trap}
 use Rattle.straight_code.proofs.Sequences.{Effects, effects_append, Stands, stands_append, places, step_at, place_is, walks}
-use Rattle.straight_code.proofs.Frames.{Frame, slot, frame_stays, frame_grows, load_does, store_does, with_slot}
+use Rattle.straight_code.proofs.Frames.{Frame, frame_grows, load_does, store_does, with_slot}
 use Rattle.straight_code.proofs.Carried.{body_does}
-use Rattle.straight_code.proofs.Ranges.{AllInRange, procedure_in_range, length-body, stands_behind}
+use Rattle.straight_code.proofs.Ranges.{procedure_in_range, length-body, stands_behind}
 
 -- the places of a list of instructions are those of n words
 abbrev upto : ℕ → ℕ → List ℕ

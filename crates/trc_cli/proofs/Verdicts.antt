@@ -1,23 +1,20 @@
 -- What the causes of a part say of the whole.
-use Rattle.std.proofs.Common.{◌≡◌, ℕ, ◌+◌, ◌*◌, ◌<◌, ◌≤◌, ◌==◌, ◌&&◌, Bool, true, false, List, [], ◌∷◌, Option, Some, None, Result, Ok, Err, Vec, Global, String, string_bytes, map, get_or, length, refl, sym, ap, ap₂, ◌∙◌, subst, ⊎_elim, arith}
+use Rattle.std.proofs.Common.{◌≡◌, ℕ, ◌+◌, ◌*◌, ◌<◌, ◌≤◌, ◌==◌, ◌&&◌, Bool, true, false, List, [], ◌∷◌, Option, Some, None, Ok, Err, Vec, Global, String, string_bytes, map, get_or, length, refl, sym, ap, ap₂, ◌∙◌, subst, ⊎_elim, arith}
 use Rattle.std.specs.Str.{bytes_eq}
 use Rattle.std.proofs.lemmas.Bool.Decides.{eqb_tells}
-use Rattle.run_laws.specs.Runs.{Outcome, Ended, Step, run, output, IsOver}
+use Rattle.run_laws.specs.Runs.{Ended, run, output, IsOver}
 use Rattle.run_laws.proofs.BoundedRuns.{run-longer_to}
 use Rattle.image_form.specs.declared.image.Image.{Image}
 use Rattle.image_form.specs.Form.{IsInForm}
 use Rattle.trc_base.specs.Devices.{Held, Reads}
-use Rattle.trc_base.specs.declared.devices.GetFault.{GetFault}
 use Rattle.trc_base.specs.declared.devices.GetFault.TheVariants as get
-use Rattle.a64_machine.specs.State.{State, Trap}
 use Rattle.a64_machine.specs.Machine.{start, step_of}
 use Rattle.first_text.specs.declared.tree.Text.{Text}
 use Rattle.first_text.specs.Texts.{IsText}
 use Rattle.first_text.specs.Meaning.{output_of}
 use Rattle.trc_compile.specs.Images.{image_of, RunsAsMeant}
 use Rattle.trc_cli.specs.Runs.{most_steps, run_of, Ends, EndsAsMeant}
-use Rattle.trc_cli.specs.Verdict.{Change, IsUntouched, Holds, IsNoText, IsBuilt, IsMeant, IsUnbuilt, Says, SaysOfImage, SaysOfSource, TakesAll, TakesFront}
-use Rattle.trc_cli.specs.declared.causes.Device.{Device}
+use Rattle.trc_cli.specs.Verdict.{Change, Holds, IsMeant, IsUnbuilt, Says, SaysOfImage, SaysOfSource, TakesAll, TakesFront}
 use Rattle.trc_cli.specs.declared.causes.Device.TheVariants.{Files, Input, Output}
 use Rattle.trc_cli.specs.declared.causes.Cause.{Cause}
 use Rattle.trc_cli.specs.declared.causes.Cause.TheVariants.{Usage, NoSuchFile, ReadFault, Unbuilt, WriteFault, Memory, Done}

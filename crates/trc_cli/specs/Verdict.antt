@@ -1,5 +1,5 @@
 -- What each cause of a run says: of the file, where the files tell their content, and of what the output took.
-use Rattle.std.specs.Prelude.{◌≡◌, ℕ, List, [], Option, Some, None}
+use Rattle.std.specs.Prelude.{◌≡◌, ℕ, List, Option, Some, None}
 use Rattle.run_laws.specs.Runs.{Ended, output}
 use Rattle.image_form.specs.declared.image.Image.{Image}
 use Rattle.trc_base.specs.Devices.{Held, Rose, TookFront}
@@ -8,7 +8,6 @@ use Rattle.first_text.specs.declared.tree.Text.{Text}
 use Rattle.first_text.specs.Texts.{IsText}
 use Rattle.first_text.specs.Meaning.{output_of}
 use Rattle.trc_cli.specs.Runs.{run_of, EndsAsMeant}
-use Rattle.trc_cli.specs.declared.causes.Device.{Device}
 use Rattle.trc_cli.specs.declared.causes.Device.TheVariants.{Files, Input, Output}
 use Rattle.trc_cli.specs.declared.causes.Cause.{Cause}
 use Rattle.trc_cli.specs.declared.causes.Cause.TheVariants.{Usage, NoSuchFile, ReadFault, Unbuilt, WriteFault, Memory, Done}

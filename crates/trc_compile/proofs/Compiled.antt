@@ -1,11 +1,11 @@
 -- The image of a text runs as the text means.
-use Rattle.std.proofs.Common.{◌≡◌, ℕ, ◌≤◌, List, [], length, subst, ap, ◌∙◌, sym}
+use Rattle.std.proofs.Common.{◌≡◌, ◌≤◌, List, length, subst}
 use Rattle.run_laws.specs.Runs.{Ended, InStep}
 use Rattle.a64_machine.specs.Machine.{start, system}
 use Rattle.first_text.specs.declared.tree.Text.{Text}
 use Rattle.straight_code.specs.declared.operation.Operation.{Operation}
 use Rattle.straight_code.specs.Operations.{AreLegal, values_of}
-use Rattle.straight_code.specs.Images.{image, same_trap}
+use Rattle.straight_code.specs.Images.{same_trap}
 use Rattle.straight_code.proofs.Whole.{in_step_with}
 use Rattle.trc_compile.specs.Lowering.{operations_of}
 use Rattle.trc_compile.specs.Images.{image_of, RunsAsMeant}

@@ -1,5 +1,5 @@
 -- The operations of a text write what the text means.
-use Rattle.std.proofs.Common.{◌≡◌, ℕ, zero, suc, ◌+◌, ◌-◌, ◌*◌, ◌%◌, ◌^◌, ◌<◌, ◌≤◌, List, [], ◌∷◌, ◌++◌, length, get_or, Option, Some, None, refl, sym, ap, ap₂, ◌∙◌, subst, arith, append_assoc, length-append}
+use Rattle.std.proofs.Common.{◌≡◌, ℕ, zero, suc, ◌+◌, ◌*◌, ◌%◌, ◌^◌, ◌<◌, ◌≤◌, List, [], ◌∷◌, ◌++◌, length, get_or, Option, Some, None, refl, sym, ap, ap₂, ◌∙◌, subst, arith, append_assoc, length-append}
 use Rattle.std.proofs.lemmas.List.{append-nil}
 use Rattle.a64_numbers.specs.Numbers.{add64, sub64, mul64, neg64}
 use Rattle.out_text.specs.Text.{int_text}
@@ -13,7 +13,7 @@ use Rattle.first_text.specs.Texts.{sign_values, operand_values, product_values, 
 use Rattle.first_text.specs.Meaning.{signed, added, operand_value, product_value, sum_value, call_output, output}
 use Rattle.first_text.specs.Meaning as meaning
 use Rattle.straight_code.specs.declared.operation.Operation.{Operation}
-use Rattle.straight_code.specs.declared.operation.Operation.TheVariants.{Const, Add, Sub, Mul, Neg, WriteByte, WriteInt}
+use Rattle.straight_code.specs.declared.operation.Operation.TheVariants.{Const, Mul, Neg, WriteInt}
 use Rattle.straight_code.specs.Operations.{defined, written, output_of, values_of}
 use Rattle.trc_compile.specs.Lowering as lower
 use Rattle.trc_compile.specs.Lowering.{last, operand_operations, product_operations, sum_operations, sign_operations, call_operations, statements_operations, operations_of}

@@ -1,18 +1,17 @@
 -- How far a loop of the lowering has come, and one more turn of it.
-use Rattle.std.proofs.Common.{◌≡◌, ℕ, zero, suc, ◌+◌, ◌-◌, ◌*◌, ◌%◌, ◌^◌, ◌<◌, ◌≤◌, List, [], ◌∷◌, ◌++◌, length, drop, get_or, Option, Some, None, Ok, refl, sym, ap, ◌∙◌, subst, arith, append_assoc, drop-cons, add-one}
+use Rattle.std.proofs.Common.{◌≡◌, ℕ, suc, ◌+◌, ◌-◌, ◌%◌, ◌^◌, ◌<◌, ◌≤◌, List, [], ◌∷◌, ◌++◌, length, drop, get_or, Ok, refl, sym, ap, ◌∙◌, subst, arith, append_assoc, drop-cons, add-one}
 use Rattle.std.proofs.lemmas.List.{append-nil}
 use Rattle.first_text.specs.declared.tree.Sign.{Sign}
 use Rattle.first_text.specs.declared.tree.Sign.TheVariants.{Plus, Minus}
 use Rattle.first_text.specs.declared.tree.Simple.{Simple, out-Simple}
 use Rattle.first_text.specs.declared.tree.Added.{Added}
-use Rattle.first_text.specs.declared.tree.Term.{Term}
 use Rattle.first_text.specs.declared.tree.Factor.{Factor}
 use Rattle.first_text.specs.declared.tree.Statement.{Statement}
-use Rattle.first_text.specs.Syntax.{Operand, Product, Single, Multiplied, Sum, Leading, Joined, Call, Writes}
+use Rattle.first_text.specs.Syntax.{Product, Single, Multiplied, Sum, Leading, Joined, Writes}
 use Rattle.first_text.specs.Trees.{operand, product, sum, multiplied, joined, call}
 use Rattle.first_text.specs.Texts.{sign_values, operand_values, product_values, sum_values, call_values, statements_values}
 use Rattle.straight_code.specs.declared.operation.Operation.{Operation}
-use Rattle.straight_code.specs.declared.operation.Operation.TheVariants.{Const, Add, Sub, Mul, Neg, WriteByte, WriteInt}
+use Rattle.straight_code.specs.declared.operation.Operation.TheVariants.{Const, Mul, WriteInt}
 use Rattle.straight_code.specs.Operations.{values_of, count, Reads, AreLegal}
 use Rattle.trc_compile.specs.Lowering.{last, operand_operations, product_operations, sum_operations, sign_operations, added, call_operations, statements_operations}
 use Rattle.trc_compile.specs.Lowered.{Lowered, Lowers}

@@ -1,5 +1,5 @@
 -- What the trees that code takes apart stand for.
-use Rattle.std.proofs.Common.{◌≡◌, ℕ, List, sym, refl, ap, ◌∙◌}
+use Rattle.std.proofs.Common.{◌≡◌, sym, refl, ap, ◌∙◌}
 use Rattle.first_text.specs.declared.tree.Simple.{Simple, Simple', out-Simple, Row_of-Added, end_of-Added, more_of-Added, items-the_row-Added, items_shown-the_row-Added-1}
 use Rattle.first_text.specs.declared.tree.Term.{Row_of-Factor, end_of-Factor, more_of-Factor, items-the_row-Factor, items_shown-the_row-Factor-0}
 use Rattle.first_text.specs.declared.tree.Factor.TheBlock.{shown-the_row-Factor-0}

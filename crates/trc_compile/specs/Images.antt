@@ -1,5 +1,5 @@
 -- The image of a text, and that a machine that runs it does what the text means.
-use Rattle.std.specs.Prelude.{◌≡◌, ℕ, List, [], length}
+use Rattle.std.specs.Prelude.{ℕ, List, length}
 use Rattle.run_laws.specs.Runs.{Ended, InStep}
 use Rattle.image_form.specs.declared.image.Image.{Image}
 use Rattle.a64_machine.specs.Machine.{start, system}

@@ -1,5 +1,4 @@
-use Rattle.std.proofs.Common.{refl}
-use Rattle.trc_cli.proofs.Verdicts.{file_says, too_long_says}
+use Rattle.trc_cli.proofs.Verdicts.{file_says}
 use Rattle.trc_cli.proofs.running.run_file.Goals as goal
 
 pub returns-in-Ok-clause-says : goal.returns-in-Ok-clause-says

@@ -1,4 +1,4 @@
-use Rattle.std.proofs.Common.{◌<◌, ◌≤◌, length, arith}
+use Rattle.std.proofs.Common.{arith}
 use Rattle.std.proofs.lemmas.List.{drop_all}
 use Rattle.trc_compile.proofs.SoFar.{term_starts, term_goes_on, term_ends, simple_starts, simple_goes_on, simple_ends}
 use Rattle.trc_compile.proofs.lowering.+lowering.Goals as goal

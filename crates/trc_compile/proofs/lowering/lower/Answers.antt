@@ -1,4 +1,3 @@
-use Rattle.std.proofs.Common.{refl}
 use Rattle.std.proofs.lemmas.List.{drop_all}
 use Rattle.trc_compile.proofs.SoFar.{statements_start, statements_go_on, statements_end}
 use Rattle.trc_compile.proofs.lowering.lower.Goals as goal
