@@ -42,7 +42,7 @@ first_memory image =
     record { base = data_base; bytes = replicate image.globals 0 ++ image.constants }
     ∷ zeroed local_base local_bytes ∷ zeroed frames_base (frames_bytes image.frame) ∷ zeroed heap_base heap_bytes ∷ []
 
--- X19 is at the local data, X20 has the calls that may still be open, X21 is at the heap, X22 and X23 have the heap's bytes
+-- X19 is at the local data, X20 has the calls that may still be open, X21 is at the heap, X22 and X23 have the heap's cells
 -- and the cells of local data that are left, X24 is at the globals; the others are 0
 abbrev pub first_registers : ℕ → ℕ
 first_registers = put (put (put (put (put (put (λ n. 0) 19 local_base) 20 8192) 21 heap_base) 22 8388608) 23 1048576) 24 data_base
