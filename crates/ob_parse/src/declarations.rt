@@ -2,8 +2,8 @@
 
 ghost use Rattle.std.specs.Prelude.{◌≡◌, ℕ, ◌<◌, OnOk};
 ghost use Rattle.ob_grammar.specs.Grammar.{part, opt, many, ◌·◌, CONST, RETURN, TYPE, VAR, colon, decls, equal, expression, identdef, idents, procedure, semicolon, type};
-ghost use Rattle.ob_tree.specs.Leaves.{optional};
-ghost use Rattle.ob_tree.specs.DeclarationText.{consts_text, decls_text, procedure_text, returned_text, types_text, vars_text};
+ghost use Rattle.ob_tree.specs.Leaves.{each, optional};
+ghost use Rattle.ob_tree.specs.DeclarationText.{consts_text, decls_text, procedure_decl_text, procedure_text, returned_text, types_text, vars_text};
 ghost use Rattle.ob_parse.specs.Parsing.{Gives};
 
 use crate::fault::ParseFault;
@@ -25,6 +25,20 @@ impl<'a> Parser<'a> {
         let consts = self.consts(alloc)?;
         let types = self.types(alloc)?;
         let vars = self.vars(alloc)?;
+        let procedures = self.procedures(alloc)?;
+        Ok(Decls {
+            consts,
+            types,
+            vars,
+            procedures,
+        })
+    }
+
+    /// `{procedure ";"}`
+    #[cycle(declarations)]
+    fn procedures(&mut self, alloc: Global) -> Result<Vec<ProcedureDecl>, ParseFault>
+        ensures { Gives (many (part procedure · semicolon)) (λ v. each procedure_decl_text v.items) self.old self.new result }
+    {
         let mut procedures = Vec::new(alloc);
         'rounds: while self.is_at(Word(Reserved::ProcedureWord)) {
             let procedure = self.procedure(alloc)?;
@@ -34,12 +48,7 @@ impl<'a> Parser<'a> {
                 semicolon,
             })?;
         }
-        Ok(Decls {
-            consts,
-            types,
-            vars,
-            procedures,
-        })
+        Ok(procedures)
     }
 
     /// `PROCEDURE identdef [formals] ";" decls [BEGIN stats] [RETURN expression] END ident`

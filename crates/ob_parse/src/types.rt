@@ -2,8 +2,8 @@
 
 ghost use Rattle.std.specs.Prelude.{◌≡◌, ℕ};
 ghost use Rattle.ob_grammar.specs.Grammar.{opening, part, opt, many, ◌·◌, ARRAY, END, OF, POINTER, PROCEDURE, RECORD, TO, comma, expression, fields, formals, left_paren, qualident, right_paren, semicolon, type};
-ghost use Rattle.ob_tree.specs.Leaves.{optional};
-ghost use Rattle.ob_tree.specs.TypeText.{array_type_text, base_text, fields_text, pointer_type_text, procedure_type_text, record_type_text, type_tree_text};
+ghost use Rattle.ob_tree.specs.Leaves.{each, optional};
+ghost use Rattle.ob_tree.specs.TypeText.{array_type_text, base_text, fields_text, next_fields_text, pointer_type_text, procedure_type_text, record_type_text, type_tree_text};
 ghost use Rattle.ob_parse.specs.Parsing.{Gives};
 
 use crate::fault::ParseFault;
@@ -75,12 +75,7 @@ impl<'a> Parser<'a> {
         let record_word = self.enter(Word(Reserved::RecordWord))?;
         let base = self.base()?;
         let first = self.optional_fields(alloc)?;
-        let mut more = Vec::new(alloc);
-        'rounds: while self.is_at(Mark(Delimiter::Semicolon)) {
-            let semicolon = self.expect(Mark(Delimiter::Semicolon))?;
-            let fields = self.optional_fields(alloc)?;
-            more.push(NextFields { semicolon, fields })?;
-        }
+        let more = self.more_fields(alloc)?;
         let end_word = self.expect(Word(Reserved::EndWord))?;
         self.leave();
         Ok(RecordType {
@@ -90,6 +85,20 @@ impl<'a> Parser<'a> {
             more,
             end_word,
         })
+    }
+
+    /// `{";" [fields]}`
+    #[cycle(types)]
+    fn more_fields(&mut self, alloc: Global) -> Result<Vec<NextFields>, ParseFault>
+        ensures { Gives (many (semicolon · opt (part fields))) (λ v. each next_fields_text v.items) self.old self.new result }
+    {
+        let mut more = Vec::new(alloc);
+        'rounds: while self.is_at(Mark(Delimiter::Semicolon)) {
+            let semicolon = self.expect(Mark(Delimiter::Semicolon))?;
+            let fields = self.optional_fields(alloc)?;
+            more.push(NextFields { semicolon, fields })?;
+        }
+        Ok(more)
     }
 
     #[cycle(types)]

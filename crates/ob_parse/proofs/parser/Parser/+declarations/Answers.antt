@@ -13,17 +13,23 @@ decls-returns-in_err-types t c = gives_err _ c.from_residual-in_err-types.result
 pub decls-returns-in_err-vars : goal.decls-returns-in_err-vars
 decls-returns-in_err-vars t c = gives_err _ c.from_residual-in_err-vars.result c.from_residual-in_err-vars.ensures.1 (fails_part (fails_then c.in_ok-consts.ensures (fails_then c.in_ok-types.ensures (fails_first c.in_err-vars.ensures))))
 
-pub decls-returns-in_err-procedure : goal.decls-returns-in_err-procedure
-decls-returns-in_err-procedure t c = gives_err _ c.from_residual-in_err-procedure.result c.from_residual-in_err-procedure.ensures.1 (fails_part (fails_then c.in_ok-consts.ensures (fails_then c.in_ok-types.ensures (fails_then c.in_ok-vars.ensures (fails_round c.rounds.invariant c.rounds-test.ensures (fails_first c.in_err-procedure.ensures.gives))))))
-
-pub decls-returns-in_err-semicolon : goal.decls-returns-in_err-semicolon
-decls-returns-in_err-semicolon t c = gives_err _ c.from_residual-in_err-semicolon.result c.from_residual-in_err-semicolon.ensures.1 (fails_part (fails_then c.in_ok-consts.ensures (fails_then c.in_ok-types.ensures (fails_then c.in_ok-vars.ensures (fails_round c.rounds.invariant c.rounds-test.ensures (fails_then c.in_ok-procedure.ensures.gives c.in_err-semicolon.ensures.gives))))))
-
-pub decls-rounds-preserved : goal.decls-rounds-preserved
-decls-rounds-preserved t c = one_more procedure_decl_text _ _ _ c.in_ok-push.ensures.items c.rounds.invariant c.rounds-test.ensures (as_text (procedure_decl_is _ _) (reads_then c.in_ok-procedure.ensures.gives c.in_ok-semicolon.ensures.gives))
+pub decls-returns-in_err-procedures : goal.decls-returns-in_err-procedures
+decls-returns-in_err-procedures t c = gives_err _ c.from_residual-in_err-procedures.result c.from_residual-in_err-procedures.ensures.1 (fails_part (fails_then c.in_ok-consts.ensures (fails_then c.in_ok-types.ensures (fails_then c.in_ok-vars.ensures c.in_err-procedures.ensures))))
 
 pub decls-returns : goal.decls-returns
-decls-returns t c = as_text (decls_is _ _ _ _) (reads_part (reads_then c.in_ok-consts.ensures (reads_then c.in_ok-types.ensures (reads_then c.in_ok-vars.ensures (end_rounds c.rounds.invariant c.rounds-test.ensures)))))
+decls-returns t c = as_text (decls_is _ _ _ _) (reads_part (reads_then c.in_ok-consts.ensures (reads_then c.in_ok-types.ensures (reads_then c.in_ok-vars.ensures c.in_ok-procedures.ensures))))
+
+pub procedures-returns-in_err-procedure : goal.procedures-returns-in_err-procedure
+procedures-returns-in_err-procedure t c = gives_err _ c.from_residual.result c.from_residual.ensures.1 (fails_round c.rounds.invariant c.rounds-test.ensures (fails_first c.in_err-procedure.ensures.gives))
+
+pub procedures-returns-in_err-semicolon : goal.procedures-returns-in_err-semicolon
+procedures-returns-in_err-semicolon t c = gives_err _ c.from_residual-in_err-semicolon.result c.from_residual-in_err-semicolon.ensures.1 (fails_round c.rounds.invariant c.rounds-test.ensures (fails_then c.in_ok-procedure.ensures.gives c.in_err-semicolon.ensures.gives))
+
+pub procedures-rounds-preserved : goal.procedures-rounds-preserved
+procedures-rounds-preserved t c = one_more procedure_decl_text _ _ _ c.in_ok-push.ensures.items c.rounds.invariant c.rounds-test.ensures (as_text (procedure_decl_is _ _) (reads_then c.in_ok-procedure.ensures.gives c.in_ok-semicolon.ensures.gives))
+
+pub procedures-returns : goal.procedures-returns
+procedures-returns t c = (end_rounds c.rounds.invariant c.rounds-test.ensures)
 
 pub procedure-returns-in_err-procedure_word-clause-gives : goal.procedure-returns-in_err-procedure_word-clause-gives
 procedure-returns-in_err-procedure_word-clause-gives t c = gives_err _ c.from_residual.result c.from_residual.ensures.1 (fails_part (c.in_err-procedure_word.ensures _))

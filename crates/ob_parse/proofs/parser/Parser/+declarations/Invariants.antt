@@ -7,16 +7,19 @@ use Rattle.ob_parse.specs.Parsing.{State, Repeated}
 use Rattle.ob_parse.proofs.parser.Parser.+declarations.Given as goal
 
 abbrev rank : State → ℕ → ℕ
-rank a n = 3 * length a.rest + n
+rank a n = 4 * length a.rest + n
 
 abbrev pub decreases-decls : goal.decreases-decls
-decreases-decls l = rank l.self.now 2
+decreases-decls l = rank l.self.now 3
+
+abbrev pub decreases-procedures : goal.decreases-procedures
+decreases-procedures l = rank l.self.now 2
 
 abbrev pub decreases-procedure : goal.decreases-procedure
 decreases-procedure l = rank l.self.now 1
 
-abbrev pub invariant-decls-rounds : goal.invariant-decls-rounds
-invariant-decls-rounds l = Repeated (part procedure · semicolon) l.initial.self l.self (each procedure_decl_text l.procedures.items)
+abbrev pub invariant-procedures-rounds : goal.invariant-procedures-rounds
+invariant-procedures-rounds l = Repeated (part procedure · semicolon) l.initial.self l.self (each procedure_decl_text l.procedures.items)
 
-abbrev pub decreases-decls-rounds : goal.decreases-decls-rounds
-decreases-decls-rounds l = length l.self.rest
+abbrev pub decreases-procedures-rounds : goal.decreases-procedures-rounds
+decreases-procedures-rounds l = length l.self.rest
