@@ -10,3 +10,8 @@ mod TypesSpelled
 mod StatementsSpelled
 mod DeclarationsSpelled
 pub mod ModulesSpelled
+mod Added
+mod ExpressionParts
+mod TypeParts
+mod StatementParts
+mod DeclarationParts

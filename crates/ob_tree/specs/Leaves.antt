@@ -1,5 +1,5 @@
 -- Leaves: the terminals of a tree.
-use Rattle.std.specs.Prelude.{ℕ, suc, Option, None, Some, List, [], ◌∷◌, ◌++◌}
+use Rattle.std.specs.Prelude.{◌≡◌, ℕ, suc, Option, None, Some, List, [], ◌∷◌, ◌++◌}
 use Rattle.ob_grammar.specs.Grammar.{Form, one}
 
 -- a terminal of a tree: the number of the terminal that it is to be, and the index of its symbol
@@ -46,3 +46,7 @@ optional text (Some x) = text x
 abbrev pub each : {A : Type 0} → (A → List Leaf) → List A → List Leaf
 each text [] = []
 each text (x ∷ xs) = text x ++ each text xs
+
+-- the indices of these leaves were added, in order
+pub record Adds (old new : List ℕ) (leaves : List Leaf) : Type 0 where
+  pub all : new ≡ old ++ indices leaves

@@ -11,4 +11,7 @@ pub mod laws;
 pub mod modules;
 pub mod names;
 pub mod statements;
+mod text;
 pub mod types;
+
+pub use text::text_symbols;

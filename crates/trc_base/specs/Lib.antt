@@ -1,0 +1,5 @@
+pub mod Devices
+pub mod Store
+pub mod MemFiles
+pub mod MemSink
+pub mod Clean
