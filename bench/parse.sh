@@ -4,8 +4,8 @@
 #     bench/parse.sh [PROGRAM]
 #
 # PROGRAM is the built program of crates/parse_vectors (`rt run` leaves it in that crate's out/). It reads a module's
-# symbols as words, so each figure holds the reading of words too; `words` is that part alone: the same number of
-# words that are one symbol too early wrong, which the parser leaves at once.
+# symbols as words, so each figure holds the reading of words too; `words` is that part alone: words that the parser
+# leaves at once, since the first is wrong already.
 set -eu
 top=$(cd "$(dirname "$0")/.." && pwd)
 program=${1:-$top/crates/parse_vectors/out/parse_vectors}

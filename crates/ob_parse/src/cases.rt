@@ -1,6 +1,5 @@
 //! Case statements and their labels.
 
-ghost use Rattle.std.specs.Prelude.{◌≡◌, ℕ};
 ghost use Rattle.ob_grammar.specs.Grammar.{opening, part, opt, many, ◌·◌, CASE, END, OF, bar, case, colon, comma, dots, expression, label, range, stats};
 ghost use Rattle.ob_tree.specs.Leaves.{optional};
 ghost use Rattle.ob_tree.specs.StatementText.{case_part_text, case_stat_text, case_text, high_text, label_text, range_text};

@@ -1,6 +1,6 @@
 //! Declarations.
 
-ghost use Rattle.std.specs.Prelude.{◌≡◌, ℕ, ◌<◌, OnOk};
+ghost use Rattle.std.specs.Prelude.{◌<◌, OnOk};
 ghost use Rattle.ob_grammar.specs.Grammar.{part, opt, many, ◌·◌, CONST, RETURN, TYPE, VAR, colon, decls, equal, expression, identdef, idents, procedure, semicolon, type};
 ghost use Rattle.ob_tree.specs.Leaves.{each, optional};
 ghost use Rattle.ob_tree.specs.DeclarationText.{consts_text, decls_text, procedure_decl_text, procedure_text, returned_text, types_text, vars_text};
@@ -32,64 +32,6 @@ impl<'a> Parser<'a> {
             vars,
             procedures,
         })
-    }
-
-    /// `{procedure ";"}`
-    #[cycle(declarations)]
-    fn procedures(&mut self, alloc: Global) -> Result<Vec<ProcedureDecl>, ParseFault>
-        ensures { Gives (many (part procedure · semicolon)) (λ v. each procedure_decl_text v.items) self.old self.new result }
-    {
-        let mut procedures = Vec::new(alloc);
-        'rounds: while self.is_at(Word(Reserved::ProcedureWord)) {
-            let procedure = self.procedure(alloc)?;
-            let semicolon = self.expect(Mark(Delimiter::Semicolon))?;
-            procedures.push(ProcedureDecl {
-                procedure,
-                semicolon,
-            })?;
-        }
-        Ok(procedures)
-    }
-
-    /// `PROCEDURE identdef [formals] ";" decls [BEGIN stats] [RETURN expression] END ident`
-    #[cycle(declarations)]
-    fn procedure(&mut self, alloc: Global) -> Result<Procedure, ParseFault>
-        ensures gives { Gives (part procedure) procedure_text self.old self.new result }
-        ensures next { OnOk result (self.old.at < self.new.at) }
-    {
-        let procedure_word = self.enter(Word(Reserved::ProcedureWord))?;
-        let name = self.identdef()?;
-        let formals = self.optional_formals(alloc)?;
-        let semicolon = self.expect(Mark(Delimiter::Semicolon))?;
-        let decls = self.decls(alloc)?;
-        let body = self.body(alloc)?;
-        let returned = self.returned(alloc)?;
-        let end_word = self.expect(Word(Reserved::EndWord))?;
-        let end_name = self.expect(Terminal::Ident)?;
-        self.leave();
-        Ok(Procedure {
-            procedure_word,
-            name,
-            formals,
-            semicolon,
-            decls,
-            body,
-            returned,
-            end_word,
-            end_name,
-        })
-    }
-
-    fn returned(&mut self, alloc: Global) -> Result<Option<Returned>, ParseFault>
-        ensures { Gives (opt (RETURN · part expression)) (optional returned_text) self.old self.new result }
-    {
-        if self.is_at(Word(Reserved::ReturnWord)) {
-            let return_word = self.expect(Word(Reserved::ReturnWord))?;
-            let value = self.expression(alloc)?;
-            Ok(Some(Returned { return_word, value }))
-        } else {
-            Ok(None)
-        }
     }
 
     /// `[CONST {identdef "=" expression ";"}]`
@@ -162,6 +104,64 @@ impl<'a> Parser<'a> {
                 })?;
             }
             Ok(Some(Vars { var_word, each }))
+        } else {
+            Ok(None)
+        }
+    }
+
+    /// `{procedure ";"}`
+    #[cycle(declarations)]
+    fn procedures(&mut self, alloc: Global) -> Result<Vec<ProcedureDecl>, ParseFault>
+        ensures { Gives (many (part procedure · semicolon)) (λ v. each procedure_decl_text v.items) self.old self.new result }
+    {
+        let mut procedures = Vec::new(alloc);
+        'rounds: while self.is_at(Word(Reserved::ProcedureWord)) {
+            let procedure = self.procedure(alloc)?;
+            let semicolon = self.expect(Mark(Delimiter::Semicolon))?;
+            procedures.push(ProcedureDecl {
+                procedure,
+                semicolon,
+            })?;
+        }
+        Ok(procedures)
+    }
+
+    /// `PROCEDURE identdef [formals] ";" decls [BEGIN stats] [RETURN expression] END ident`
+    #[cycle(declarations)]
+    fn procedure(&mut self, alloc: Global) -> Result<Procedure, ParseFault>
+        ensures gives { Gives (part procedure) procedure_text self.old self.new result }
+        ensures next { OnOk result (self.old.at < self.new.at) }
+    {
+        let procedure_word = self.enter(Word(Reserved::ProcedureWord))?;
+        let name = self.identdef()?;
+        let formals = self.optional_formals(alloc)?;
+        let semicolon = self.expect(Mark(Delimiter::Semicolon))?;
+        let decls = self.decls(alloc)?;
+        let body = self.body(alloc)?;
+        let returned = self.returned(alloc)?;
+        let end_word = self.expect(Word(Reserved::EndWord))?;
+        let end_name = self.expect(Terminal::Ident)?;
+        self.leave();
+        Ok(Procedure {
+            procedure_word,
+            name,
+            formals,
+            semicolon,
+            decls,
+            body,
+            returned,
+            end_word,
+            end_name,
+        })
+    }
+
+    fn returned(&mut self, alloc: Global) -> Result<Option<Returned>, ParseFault>
+        ensures { Gives (opt (RETURN · part expression)) (optional returned_text) self.old self.new result }
+    {
+        if self.is_at(Word(Reserved::ReturnWord)) {
+            let return_word = self.expect(Word(Reserved::ReturnWord))?;
+            let value = self.expression(alloc)?;
+            Ok(Some(Returned { return_word, value }))
         } else {
             Ok(None)
         }

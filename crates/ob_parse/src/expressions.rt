@@ -1,6 +1,5 @@
 //! Expressions.
 
-ghost use Rattle.std.specs.Prelude.{◌≡◌, ℕ};
 ghost use Rattle.ob_grammar.specs.Grammar.{opening, part, opt, many, ◌·◌, ◌∣◌, DIV, IN, IS, MOD, ampersand, equal, expression, factor, greater, greater_equal, left_paren, less, less_equal, list, not_equal, right_paren, simple, slash, term, tilde, times};
 ghost use Rattle.ob_tree.specs.Leaves.{each, optional};
 ghost use Rattle.ob_tree.specs.ExpressionText.{compared_text, expression_text, factor_text, list_text, multiplied_text, simple_text, term_text};
@@ -17,21 +16,6 @@ use ob_tree::expressions::{
 use std::alloc::Global;
 
 impl<'a> Parser<'a> {
-    /// `expression {"," expression}`
-    #[cycle(expressions)]
-    pub fn list(&mut self, alloc: Global) -> Result<List, ParseFault>
-        ensures { Gives (part list) list_text self.old self.new result }
-    {
-        let first = self.expression(alloc)?;
-        let mut more = Vec::new(alloc);
-        'rounds: while self.is_at(Mark(Delimiter::Comma)) {
-            let comma = self.expect(Mark(Delimiter::Comma))?;
-            let expression = self.expression(alloc)?;
-            more.push(NextExpression { comma, expression })?;
-        }
-        Ok(List { first, more })
-    }
-
     /// `simple [("=" | "#" | "<" | "<=" | ">" | ">=" | IN | IS) simple]`
     #[cycle(expressions)]
     pub fn expression(&mut self, alloc: Global) -> Result<Expression, ParseFault>
@@ -161,5 +145,20 @@ impl<'a> Parser<'a> {
         self.leave();
         let factor = Box::new(alloc, inner)?;
         Ok(Factor::Not { tilde, factor })
+    }
+
+    /// `expression {"," expression}`
+    #[cycle(expressions)]
+    pub fn list(&mut self, alloc: Global) -> Result<List, ParseFault>
+        ensures { Gives (part list) list_text self.old self.new result }
+    {
+        let first = self.expression(alloc)?;
+        let mut more = Vec::new(alloc);
+        'rounds: while self.is_at(Mark(Delimiter::Comma)) {
+            let comma = self.expect(Mark(Delimiter::Comma))?;
+            let expression = self.expression(alloc)?;
+            more.push(NextExpression { comma, expression })?;
+        }
+        Ok(List { first, more })
     }
 }

@@ -1,6 +1,5 @@
 //! Formal parameters.
 
-ghost use Rattle.std.specs.Prelude.{◌≡◌, ℕ};
 ghost use Rattle.ob_grammar.specs.Grammar.{part, opt, many, ◌·◌, ARRAY, OF, VAR, colon, formals, qualident, section, semicolon};
 ghost use Rattle.ob_tree.specs.Leaves.{maybe, optional};
 ghost use Rattle.ob_tree.specs.TypeText.{formals_text, open_array_text, result_type_text, section_text, sections_text};

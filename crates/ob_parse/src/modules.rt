@@ -1,6 +1,5 @@
 //! Modules.
 
-ghost use Rattle.std.specs.Prelude.{◌≡◌, ℕ};
 ghost use Rattle.ob_grammar.specs.Grammar.{part, opt, many, ◌·◌, IMPORT, becomes, comma, ident, import, module_, semicolon};
 ghost use Rattle.ob_tree.specs.Leaves.{optional};
 ghost use Rattle.ob_tree.specs.ModuleText.{import_text, imported_name_text, imports_text, module_text};

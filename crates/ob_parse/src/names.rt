@@ -1,6 +1,6 @@
 //! Names: where they are declared, and where they are used.
 
-ghost use Rattle.std.specs.Prelude.{◌≡◌, ℕ, ◌<◌, OnOk};
+ghost use Rattle.std.specs.Prelude.{◌<◌, OnOk};
 ghost use Rattle.ob_grammar.specs.Grammar.{part, opt, ◌·◌, ident, identdef, idents, period, qualident, times};
 ghost use Rattle.ob_tree.specs.Leaves.{maybe, optional};
 ghost use Rattle.ob_tree.specs.NameText.{identdef_text, idents_text, member_text, qualident_text};
@@ -15,6 +15,16 @@ use ob_tree::names::{Identdef, Idents, Member, NextIdentdef, Qualident};
 use std::alloc::Global;
 
 impl<'a> Parser<'a> {
+    /// `ident ["*"]`
+    pub fn identdef(&mut self) -> Result<Identdef, ParseFault>
+        ensures gives { Gives (part identdef) identdef_text self.old self.new result }
+        ensures next { OnOk result (self.old.at < self.new.at) }
+    {
+        let name = self.expect(Terminal::Ident)?;
+        let star = self.star()?;
+        Ok(Identdef { name, star })
+    }
+
     fn star(&mut self) -> Result<Option<u32>, ParseFault>
         ensures { Gives (opt times) (maybe times) self.old self.new result }
     {
@@ -24,16 +34,6 @@ impl<'a> Parser<'a> {
         } else {
             Ok(None)
         }
-    }
-
-    /// `ident ["*"]`
-    pub fn identdef(&mut self) -> Result<Identdef, ParseFault>
-        ensures gives { Gives (part identdef) identdef_text self.old self.new result }
-        ensures next { OnOk result (self.old.at < self.new.at) }
-    {
-        let name = self.expect(Terminal::Ident)?;
-        let star = self.star()?;
-        Ok(Identdef { name, star })
     }
 
     /// `identdef {"," identdef}`

@@ -1,6 +1,6 @@
 //! Operators: which one stands next.
 
-ghost use Rattle.std.specs.Prelude.{◌≡◌, ℕ, ◌<◌, OnOk};
+ghost use Rattle.std.specs.Prelude.{◌<◌, OnOk};
 ghost use Rattle.ob_grammar.specs.Grammar.{opt, ◌∣◌, DIV, IN, IS, MOD, OR, ampersand, equal, greater, greater_equal, less, less_equal, minus, not_equal, plus, slash, times};
 ghost use Rattle.ob_tree.specs.Leaves.{optional};
 ghost use Rattle.ob_tree.specs.ExpressionText.{add_operator_text, mul_operator_text, relation_text, sign_text};

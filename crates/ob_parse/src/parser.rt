@@ -1,6 +1,6 @@
 //! Where a parser is, and its steps at one symbol.
 
-ghost use Rattle.std.specs.Prelude.{◌≡◌, ℕ, ◌+◌, ◌-◌, ◌<◌, ◌≤◌, suc, List, [], ◌∷◌, length, drop, map, OnOk};
+ghost use Rattle.std.specs.Prelude.{◌≡◌, ◌+◌, ◌-◌, ◌<◌, ◌≤◌, suc, [], ◌∷◌, length, drop, map, OnOk};
 ghost use Rattle.ob_grammar.specs.Terminals.{number_of};
 ghost use Rattle.ob_grammar.specs.Grammar.{t};
 ghost use Rattle.ob_grammar.specs.Reading.{is_next};

@@ -1,7 +1,7 @@
 //! What a part may begin with, where more than one terminal can stand first.
 
 ghost use Rattle.std.specs.Prelude.{◌≡◌};
-ghost use Rattle.ob_grammar.specs.Grammar.{Form, part, ◌∣◌, expression, label, section, equal, not_equal, less, less_equal, greater, greater_equal, IN, IS, plus, minus, OR, times, slash, DIV, MOD, ampersand, period, left_bracket, arrow, left_paren};
+ghost use Rattle.ob_grammar.specs.Grammar.{part, ◌∣◌, expression, label, section, equal, not_equal, less, less_equal, greater, greater_equal, IN, IS, plus, minus, OR, times, slash, DIV, MOD, ampersand, period, left_bracket, arrow, left_paren};
 ghost use Rattle.ob_grammar.specs.Reading.{is_next, first};
 
 use crate::parser::Parser;

@@ -1,6 +1,5 @@
 //! Statements.
 
-ghost use Rattle.std.specs.Prelude.{◌≡◌, ℕ};
 ghost use Rattle.ob_grammar.specs.Grammar.{opening, part, opt, many, ◌·◌, BEGIN, BY, DO, ELSE, ELSIF, END, FOR, IF, REPEAT, THEN, TO, UNTIL, WHILE, becomes, designator, expression, ident, semicolon, stat, stats};
 ghost use Rattle.ob_tree.specs.Leaves.{each, optional};
 ghost use Rattle.ob_tree.specs.StatementText.{assign_or_call_text, assigned_text, body_text, by_text, else_text, elsif_do_text, elsif_text, for_stat_text, if_stat_text, next_stat_text, repeat_stat_text, stat_text, stats_text, while_stat_text};
@@ -72,6 +71,30 @@ impl<'a> Parser<'a> {
             Ok(Stat::For(held))
         } else {
             Ok(Stat::Empty)
+        }
+    }
+
+    /// `designator [":=" expression]`
+    fn assign_or_call(&mut self, alloc: Global) -> Result<AssignOrCall, ParseFault>
+        ensures { Gives (part designator · opt (becomes · part expression)) assign_or_call_text self.old self.new result }
+    {
+        let designator = self.designator(alloc)?;
+        let assigned = self.assigned(alloc)?;
+        Ok(AssignOrCall {
+            designator,
+            assigned,
+        })
+    }
+
+    fn assigned(&mut self, alloc: Global) -> Result<Option<Assigned>, ParseFault>
+        ensures { Gives (opt (becomes · part expression)) (optional assigned_text) self.old self.new result }
+    {
+        if self.is_at(Mark(Delimiter::Becomes)) {
+            let becomes = self.expect(Mark(Delimiter::Becomes))?;
+            let value = self.expression(alloc)?;
+            Ok(Some(Assigned { becomes, value }))
+        } else {
+            Ok(None)
         }
     }
 
@@ -223,30 +246,6 @@ impl<'a> Parser<'a> {
             body,
             end_word,
         })
-    }
-
-    /// `designator [":=" expression]`
-    fn assign_or_call(&mut self, alloc: Global) -> Result<AssignOrCall, ParseFault>
-        ensures { Gives (part designator · opt (becomes · part expression)) assign_or_call_text self.old self.new result }
-    {
-        let designator = self.designator(alloc)?;
-        let assigned = self.assigned(alloc)?;
-        Ok(AssignOrCall {
-            designator,
-            assigned,
-        })
-    }
-
-    fn assigned(&mut self, alloc: Global) -> Result<Option<Assigned>, ParseFault>
-        ensures { Gives (opt (becomes · part expression)) (optional assigned_text) self.old self.new result }
-    {
-        if self.is_at(Mark(Delimiter::Becomes)) {
-            let becomes = self.expect(Mark(Delimiter::Becomes))?;
-            let value = self.expression(alloc)?;
-            Ok(Some(Assigned { becomes, value }))
-        } else {
-            Ok(None)
-        }
     }
 
     fn by(&mut self, alloc: Global) -> Result<Option<By>, ParseFault>

@@ -1,6 +1,5 @@
 //! Types.
 
-ghost use Rattle.std.specs.Prelude.{◌≡◌, ℕ};
 ghost use Rattle.ob_grammar.specs.Grammar.{opening, part, opt, many, ◌·◌, ARRAY, END, OF, POINTER, PROCEDURE, RECORD, TO, comma, expression, fields, formals, left_paren, qualident, right_paren, semicolon, type};
 ghost use Rattle.ob_tree.specs.Leaves.{each, optional};
 ghost use Rattle.ob_tree.specs.TypeText.{array_type_text, base_text, fields_text, next_fields_text, pointer_type_text, procedure_type_text, record_type_text, type_tree_text};
@@ -87,18 +86,21 @@ impl<'a> Parser<'a> {
         })
     }
 
-    /// `{";" [fields]}`
-    #[cycle(types)]
-    fn more_fields(&mut self, alloc: Global) -> Result<Vec<NextFields>, ParseFault>
-        ensures { Gives (many (semicolon · opt (part fields))) (λ v. each next_fields_text v.items) self.old self.new result }
+    fn base(&mut self) -> Result<Option<Base>, ParseFault>
+        ensures { Gives (opt (left_paren · part qualident · right_paren)) (optional base_text) self.old self.new result }
     {
-        let mut more = Vec::new(alloc);
-        'rounds: while self.is_at(Mark(Delimiter::Semicolon)) {
-            let semicolon = self.expect(Mark(Delimiter::Semicolon))?;
-            let fields = self.optional_fields(alloc)?;
-            more.push(NextFields { semicolon, fields })?;
+        if self.is_at(Mark(Delimiter::LeftParen)) {
+            let left_paren = self.expect(Mark(Delimiter::LeftParen))?;
+            let name = self.qualident()?;
+            let right_paren = self.expect(Mark(Delimiter::RightParen))?;
+            Ok(Some(Base {
+                left_paren,
+                name,
+                right_paren,
+            }))
+        } else {
+            Ok(None)
         }
-        Ok(more)
     }
 
     #[cycle(types)]
@@ -111,6 +113,20 @@ impl<'a> Parser<'a> {
         } else {
             Ok(None)
         }
+    }
+
+    /// `{";" [fields]}`
+    #[cycle(types)]
+    fn more_fields(&mut self, alloc: Global) -> Result<Vec<NextFields>, ParseFault>
+        ensures { Gives (many (semicolon · opt (part fields))) (λ v. each next_fields_text v.items) self.old self.new result }
+    {
+        let mut more = Vec::new(alloc);
+        'rounds: while self.is_at(Mark(Delimiter::Semicolon)) {
+            let semicolon = self.expect(Mark(Delimiter::Semicolon))?;
+            let fields = self.optional_fields(alloc)?;
+            more.push(NextFields { semicolon, fields })?;
+        }
+        Ok(more)
     }
 
     /// `idents ":" type`
@@ -153,22 +169,5 @@ impl<'a> Parser<'a> {
             procedure_word,
             formals,
         })
-    }
-
-    fn base(&mut self) -> Result<Option<Base>, ParseFault>
-        ensures { Gives (opt (left_paren · part qualident · right_paren)) (optional base_text) self.old self.new result }
-    {
-        if self.is_at(Mark(Delimiter::LeftParen)) {
-            let left_paren = self.expect(Mark(Delimiter::LeftParen))?;
-            let name = self.qualident()?;
-            let right_paren = self.expect(Mark(Delimiter::RightParen))?;
-            Ok(Some(Base {
-                left_paren,
-                name,
-                right_paren,
-            }))
-        } else {
-            Ok(None)
-        }
     }
 }

@@ -1,4 +1,4 @@
-use Rattle.std.proofs.Common.{Err, length, subst, sym, ℕ}
+use Rattle.std.proofs.Common.{subst, sym}
 use Rattle.std.proofs.lemmas.List.{length-map}
 use Rattle.ob_grammar.specs.Modules.{Shallow}
 use Rattle.ob_parse.specs.declared.fault.ParseFault.TheVariants.{Syntax}

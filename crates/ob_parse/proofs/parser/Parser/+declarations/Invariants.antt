@@ -1,5 +1,5 @@
 -- Each call is of a part that stands lower in the grammar, or has fewer symbols ahead.
-use Rattle.std.proofs.Common.{◌≡◌, ℕ, ◌+◌, ◌*◌, length}
+use Rattle.std.proofs.Common.{ℕ, ◌+◌, ◌*◌, length}
 use Rattle.ob_grammar.specs.Grammar.{part, ◌·◌, procedure, semicolon}
 use Rattle.ob_tree.specs.Leaves.{each}
 use Rattle.ob_tree.specs.DeclarationText.{procedure_decl_text}

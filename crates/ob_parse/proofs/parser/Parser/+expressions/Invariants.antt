@@ -1,5 +1,5 @@
 -- Each call is of a part that stands lower in the grammar, or has fewer symbols ahead.
-use Rattle.std.proofs.Common.{◌≡◌, ℕ, ◌+◌, ◌*◌, length}
+use Rattle.std.proofs.Common.{ℕ, ◌+◌, ◌*◌, length}
 use Rattle.ob_grammar.specs.Grammar.{opening, part, opt, ◌·◌, ◌∣◌, DIV, MOD, OR, ampersand, arrow, comma, element, expression, factor, ident, left_bracket, left_paren, list, minus, period, plus, right_bracket, right_paren, slash, term, times}
 use Rattle.ob_tree.specs.Leaves.{each}
 use Rattle.ob_tree.specs.ExpressionText.{added_text, multiplied_text, next_element_text, next_expression_text, selector_text}

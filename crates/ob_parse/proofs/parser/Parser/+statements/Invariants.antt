@@ -1,5 +1,5 @@
 -- Each call is of a part that stands lower in the grammar, or has fewer symbols ahead.
-use Rattle.std.proofs.Common.{◌≡◌, ℕ, ◌+◌, ◌*◌, length}
+use Rattle.std.proofs.Common.{ℕ, ◌+◌, ◌*◌, length}
 use Rattle.ob_grammar.specs.Grammar.{part, ◌·◌, DO, ELSIF, THEN, bar, case, comma, expression, range, semicolon, stat, stats}
 use Rattle.ob_tree.specs.Leaves.{each}
 use Rattle.ob_tree.specs.StatementText.{elsif_do_text, elsif_text, next_case_text, next_range_text, next_stat_text}

@@ -1,5 +1,5 @@
 -- Each call is of a part that stands lower in the grammar, or has fewer symbols ahead.
-use Rattle.std.proofs.Common.{◌≡◌, ℕ, ◌+◌, ◌*◌, length}
+use Rattle.std.proofs.Common.{ℕ, ◌+◌, ◌*◌, length}
 use Rattle.ob_grammar.specs.Grammar.{part, opt, ◌·◌, comma, expression, fields, semicolon}
 use Rattle.ob_tree.specs.Leaves.{each}
 use Rattle.ob_tree.specs.ExpressionText.{next_expression_text}

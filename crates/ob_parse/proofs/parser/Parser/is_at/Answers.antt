@@ -1,4 +1,4 @@
-use Rattle.std.proofs.Common.{◌≡◌, ◌∙◌, ap, arith, nat_eq}
+use Rattle.std.proofs.Common.{◌∙◌, ap, arith, nat_eq}
 use Rattle.ob_grammar.specs.declared.terminal.Terminal.{Terminal}
 use Rattle.ob_grammar.specs.Terminals.{number_of}
 use Rattle.ob_parse.specs.Parsing.{State}

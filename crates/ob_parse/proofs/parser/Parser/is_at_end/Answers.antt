@@ -1,4 +1,4 @@
-use Rattle.std.proofs.Common.{◌≡◌, ◌∙◌, ap}
+use Rattle.std.proofs.Common.{◌∙◌, ap}
 use Rattle.ob_parse.specs.Parsing.{State, is_none, number_at}
 use Rattle.ob_parse.proofs.Steps.{at_end}
 use Rattle.ob_parse.proofs.parser.Parser.is_at_end.Goals as goal

@@ -1,4 +1,4 @@
-use Rattle.std.proofs.Common.{◌≡◌, ℕ, length}
+use Rattle.std.proofs.Common.{length}
 use Rattle.ob_grammar.specs.Grammar.{◌·◌, comma, ident}
 use Rattle.ob_tree.specs.Leaves.{each}
 use Rattle.ob_tree.specs.NameText.{next_ident_text}

@@ -1,4 +1,4 @@
-use Rattle.std.proofs.Common.{◌≡◌, ℕ, length}
+use Rattle.std.proofs.Common.{length}
 use Rattle.ob_grammar.specs.Grammar.{part, ◌·◌, section, semicolon}
 use Rattle.ob_tree.specs.Leaves.{each}
 use Rattle.ob_tree.specs.TypeText.{next_section_text}

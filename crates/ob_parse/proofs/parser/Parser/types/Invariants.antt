@@ -1,4 +1,4 @@
-use Rattle.std.proofs.Common.{◌≡◌, ℕ, length}
+use Rattle.std.proofs.Common.{length}
 use Rattle.ob_grammar.specs.Grammar.{part, ◌·◌, equal, identdef, semicolon, type}
 use Rattle.ob_tree.specs.Leaves.{each}
 use Rattle.ob_tree.specs.DeclarationText.{type_decl_text}
