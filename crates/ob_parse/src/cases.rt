@@ -1,8 +1,8 @@
 //! Case statements and their labels.
 
-ghost use Rattle.ob_grammar.specs.Grammar.{opening, part, opt, many, ◌·◌, CASE, END, OF, bar, case, colon, comma, dots, expression, label, range, stats};
+ghost use Rattle.ob_grammar.specs.Grammar.{opening, part, opt, many, ◌·◌, CASE, END, OF, bar, case, dots, expression, label, range};
 ghost use Rattle.ob_tree.specs.Leaves.{optional};
-ghost use Rattle.ob_tree.specs.StatementText.{case_part_text, case_stat_text, case_text, high_text, label_text, range_text};
+ghost use Rattle.ob_tree.specs.StatementText.{case_text, high_text, label_text, range_text, stat_text};
 ghost use Rattle.ob_parse.specs.Parsing.{Gives};
 
 use crate::fault::ParseFault;
@@ -10,14 +10,16 @@ use crate::parser::Parser;
 use ob_grammar::Terminal;
 use ob_grammar::Terminal::{Mark, Word};
 use ob_symbol::{Delimiter, Reserved};
-use ob_tree::statements::{Case, CasePart, CaseStat, High, Label, NextCase, NextRange, Range};
+use ob_tree::statements::{
+    Case, CasePart, CaseStat, High, Label, NextCase, NextRange, Range, Stat,
+};
 use std::alloc::Global;
 
 impl<'a> Parser<'a> {
     /// `CASE expression OF case {"|" case} END`
     #[cycle(statements)]
-    pub fn case_stat(&mut self, alloc: Global) -> Result<CaseStat, ParseFault>
-        ensures { Gives (opening CASE (part expression · OF · part case · many (bar · part case) · END)) case_stat_text self.old self.new result }
+    pub fn case_stat(&mut self, alloc: Global) -> Result<Stat, ParseFault>
+        ensures { Gives (opening CASE (part expression · OF · part case · many (bar · part case) · END)) stat_text self.old self.new result }
     {
         let case_word = self.enter(Word(Reserved::CaseWord))?;
         let selector = self.expression(alloc)?;
@@ -31,29 +33,24 @@ impl<'a> Parser<'a> {
         }
         let end_word = self.expect(Word(Reserved::EndWord))?;
         self.leave();
-        Ok(CaseStat {
-            case_word,
-            selector,
-            of_word,
-            first,
-            more,
-            end_word,
-        })
+        let held = Box::new(
+            alloc,
+            CaseStat {
+                case_word,
+                selector,
+                of_word,
+                first,
+                more,
+                end_word,
+            },
+        )?;
+        Ok(Stat::Case(held))
     }
 
     /// `[range {"," range} ":" stats]`
     #[cycle(statements)]
     fn case(&mut self, alloc: Global) -> Result<Case, ParseFault>
         ensures { Gives (part case) case_text self.old self.new result }
-    {
-        let part = self.case_part(alloc)?;
-        Ok(Case { part })
-    }
-
-    /// `range {"," range} ":" stats`
-    #[cycle(statements)]
-    fn case_part(&mut self, alloc: Global) -> Result<Option<CasePart>, ParseFault>
-        ensures { Gives (opt (part range · many (comma · part range) · colon · part stats)) (optional case_part_text) self.old self.new result }
     {
         if self.begins_label() {
             let first = self.range()?;
@@ -65,14 +62,16 @@ impl<'a> Parser<'a> {
             }
             let colon = self.expect(Mark(Delimiter::Colon))?;
             let body = self.stats(alloc)?;
-            Ok(Some(CasePart {
-                first,
-                more,
-                colon,
-                body,
-            }))
+            Ok(Case {
+                part: Some(CasePart {
+                    first,
+                    more,
+                    colon,
+                    body,
+                }),
+            })
         } else {
-            Ok(None)
+            Ok(Case { part: None })
         }
     }
 

@@ -2,7 +2,7 @@
 
 ghost use Rattle.ob_grammar.specs.Grammar.{opening, part, opt, many, ◌·◌, BEGIN, BY, DO, ELSE, ELSIF, END, FOR, IF, REPEAT, THEN, TO, UNTIL, WHILE, becomes, designator, expression, ident, semicolon, stat, stats};
 ghost use Rattle.ob_tree.specs.Leaves.{each, optional};
-ghost use Rattle.ob_tree.specs.StatementText.{assign_or_call_text, assigned_text, body_text, by_text, else_text, elsif_do_text, elsif_text, for_stat_text, if_stat_text, next_stat_text, repeat_stat_text, stat_text, stats_text, while_stat_text};
+ghost use Rattle.ob_tree.specs.StatementText.{assign_or_call_text, assigned_text, body_text, by_text, else_text, elsif_do_text, elsif_text, next_stat_text, stat_text, stats_text};
 ghost use Rattle.ob_parse.specs.Parsing.{Gives};
 
 use crate::fault::ParseFault;
@@ -51,24 +51,19 @@ impl<'a> Parser<'a> {
             Ok(Stat::AssignOrCall(made))
         } else if self.is_at(Word(Reserved::IfWord)) {
             let made = self.if_stat(alloc)?;
-            let held = Box::new(alloc, made)?;
-            Ok(Stat::If(held))
+            Ok(made)
         } else if self.is_at(Word(Reserved::CaseWord)) {
             let made = self.case_stat(alloc)?;
-            let held = Box::new(alloc, made)?;
-            Ok(Stat::Case(held))
+            Ok(made)
         } else if self.is_at(Word(Reserved::WhileWord)) {
             let made = self.while_stat(alloc)?;
-            let held = Box::new(alloc, made)?;
-            Ok(Stat::While(held))
+            Ok(made)
         } else if self.is_at(Word(Reserved::RepeatWord)) {
             let made = self.repeat_stat(alloc)?;
-            let held = Box::new(alloc, made)?;
-            Ok(Stat::Repeat(held))
+            Ok(made)
         } else if self.is_at(Word(Reserved::ForWord)) {
             let made = self.for_stat(alloc)?;
-            let held = Box::new(alloc, made)?;
-            Ok(Stat::For(held))
+            Ok(made)
         } else {
             Ok(Stat::Empty)
         }
@@ -100,8 +95,8 @@ impl<'a> Parser<'a> {
 
     /// `IF expression THEN stats {ELSIF expression THEN stats} [ELSE stats] END`
     #[cycle(statements)]
-    fn if_stat(&mut self, alloc: Global) -> Result<IfStat, ParseFault>
-        ensures { Gives (opening IF (part expression · THEN · part stats · many (ELSIF · part expression · THEN · part stats) · opt (ELSE · part stats) · END)) if_stat_text self.old self.new result }
+    fn if_stat(&mut self, alloc: Global) -> Result<Stat, ParseFault>
+        ensures { Gives (opening IF (part expression · THEN · part stats · many (ELSIF · part expression · THEN · part stats) · opt (ELSE · part stats) · END)) stat_text self.old self.new result }
     {
         let if_word = self.enter(Word(Reserved::IfWord))?;
         let guard = self.expression(alloc)?;
@@ -111,15 +106,19 @@ impl<'a> Parser<'a> {
         let otherwise = self.otherwise(alloc)?;
         let end_word = self.expect(Word(Reserved::EndWord))?;
         self.leave();
-        Ok(IfStat {
-            if_word,
-            guard,
-            then_word,
-            body,
-            elsifs,
-            otherwise,
-            end_word,
-        })
+        let held = Box::new(
+            alloc,
+            IfStat {
+                if_word,
+                guard,
+                then_word,
+                body,
+                elsifs,
+                otherwise,
+                end_word,
+            },
+        )?;
+        Ok(Stat::If(held))
     }
 
     /// `{ELSIF expression THEN stats}`
@@ -159,8 +158,8 @@ impl<'a> Parser<'a> {
 
     /// `WHILE expression DO stats {ELSIF expression DO stats} END`
     #[cycle(statements)]
-    fn while_stat(&mut self, alloc: Global) -> Result<WhileStat, ParseFault>
-        ensures { Gives (opening WHILE (part expression · DO · part stats · many (ELSIF · part expression · DO · part stats) · END)) while_stat_text self.old self.new result }
+    fn while_stat(&mut self, alloc: Global) -> Result<Stat, ParseFault>
+        ensures { Gives (opening WHILE (part expression · DO · part stats · many (ELSIF · part expression · DO · part stats) · END)) stat_text self.old self.new result }
     {
         let while_word = self.enter(Word(Reserved::WhileWord))?;
         let guard = self.expression(alloc)?;
@@ -169,14 +168,18 @@ impl<'a> Parser<'a> {
         let elsifs = self.elsif_dos(alloc)?;
         let end_word = self.expect(Word(Reserved::EndWord))?;
         self.leave();
-        Ok(WhileStat {
-            while_word,
-            guard,
-            do_word,
-            body,
-            elsifs,
-            end_word,
-        })
+        let held = Box::new(
+            alloc,
+            WhileStat {
+                while_word,
+                guard,
+                do_word,
+                body,
+                elsifs,
+                end_word,
+            },
+        )?;
+        Ok(Stat::While(held))
     }
 
     /// `{ELSIF expression DO stats}`
@@ -202,26 +205,30 @@ impl<'a> Parser<'a> {
 
     /// `REPEAT stats UNTIL expression`
     #[cycle(statements)]
-    fn repeat_stat(&mut self, alloc: Global) -> Result<RepeatStat, ParseFault>
-        ensures { Gives (opening REPEAT (part stats · UNTIL · part expression)) repeat_stat_text self.old self.new result }
+    fn repeat_stat(&mut self, alloc: Global) -> Result<Stat, ParseFault>
+        ensures { Gives (opening REPEAT (part stats · UNTIL · part expression)) stat_text self.old self.new result }
     {
         let repeat_word = self.enter(Word(Reserved::RepeatWord))?;
         let body = self.stats(alloc)?;
         let until_word = self.expect(Word(Reserved::UntilWord))?;
         let guard = self.expression(alloc)?;
         self.leave();
-        Ok(RepeatStat {
-            repeat_word,
-            body,
-            until_word,
-            guard,
-        })
+        let held = Box::new(
+            alloc,
+            RepeatStat {
+                repeat_word,
+                body,
+                until_word,
+                guard,
+            },
+        )?;
+        Ok(Stat::Repeat(held))
     }
 
     /// `FOR ident ":=" expression TO expression [BY expression] DO stats END`
     #[cycle(statements)]
-    fn for_stat(&mut self, alloc: Global) -> Result<ForStat, ParseFault>
-        ensures { Gives (opening FOR (ident · becomes · part expression · TO · part expression · opt (BY · part expression) · DO · part stats · END)) for_stat_text self.old self.new result }
+    fn for_stat(&mut self, alloc: Global) -> Result<Stat, ParseFault>
+        ensures { Gives (opening FOR (ident · becomes · part expression · TO · part expression · opt (BY · part expression) · DO · part stats · END)) stat_text self.old self.new result }
     {
         let for_word = self.enter(Word(Reserved::ForWord))?;
         let variable = self.expect(Terminal::Ident)?;
@@ -234,18 +241,22 @@ impl<'a> Parser<'a> {
         let body = self.stats(alloc)?;
         let end_word = self.expect(Word(Reserved::EndWord))?;
         self.leave();
-        Ok(ForStat {
-            for_word,
-            variable,
-            becomes,
-            from,
-            to_word,
-            to,
-            by,
-            do_word,
-            body,
-            end_word,
-        })
+        let held = Box::new(
+            alloc,
+            ForStat {
+                for_word,
+                variable,
+                becomes,
+                from,
+                to_word,
+                to,
+                by,
+                do_word,
+                body,
+                end_word,
+            },
+        )?;
+        Ok(Stat::For(held))
     }
 
     fn by(&mut self, alloc: Global) -> Result<Option<By>, ParseFault>

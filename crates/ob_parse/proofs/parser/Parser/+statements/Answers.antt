@@ -12,7 +12,7 @@ pub stats-returns-in_err-more : goal.stats-returns-in_err-more
 stats-returns-in_err-more t c = gives_err _ c.from_residual-in_err-more.result c.from_residual-in_err-more.ensures.1 (fails_part (fails_then c.in_ok-first.ensures c.in_err-more.ensures))
 
 pub stats-returns : goal.stats-returns
-stats-returns t c = as_text (stats_is _ _) (reads_part (reads_then c.in_ok-first.ensures c.in_ok-more.ensures))
+stats-returns t c = (as_text (stats_is _ _) (reads_part (reads_then c.in_ok-first.ensures c.in_ok-more.ensures)))
 
 pub more_stats-returns-in_err-semicolon : goal.more_stats-returns-in_err-semicolon
 more_stats-returns-in_err-semicolon t c = gives_err _ c.from_residual.result c.from_residual.ensures.1 (fails_round c.rounds.invariant c.rounds-test.ensures (fails_first c.in_err-semicolon.ensures.gives))
@@ -35,32 +35,32 @@ stat-returns-in_ok-made t c = (reads_part (reads_some (next_here 0 (16 ∷ 7 ∷
 pub stat-returns-in_err-made-2 : goal.stat-returns-in_err-made-2
 stat-returns-in_err-made-2 t c = gives_err _ c.from_residual-in_err-made-2.result c.from_residual-in_err-made-2.ensures.1 (fails_part (fails_some (next_there 0 (16 ∷ 7 ∷ 36 ∷ 28 ∷ 15 ∷ []) c.args.self.now.rest (next_here 16 (7 ∷ 36 ∷ 28 ∷ 15 ∷ []) c.args.self.now.rest c.if-is_at-2.ensures)) (fails_right c.if-is_at.ensures (fails_left c.if-is_at-2.ensures c.in_err-made-2.ensures))))
 
-pub stat-returns-in_ok-held : goal.stat-returns-in_ok-held
-stat-returns-in_ok-held t c = as_text (ap if_stat_text c.in_ok-held.ensures.ok) (reads_part (reads_some (next_there 0 (16 ∷ 7 ∷ 36 ∷ 28 ∷ 15 ∷ []) c.args.self.now.rest (next_here 16 (7 ∷ 36 ∷ 28 ∷ 15 ∷ []) c.args.self.now.rest c.if-is_at-2.ensures)) (reads_right c.if-is_at.ensures (reads_left c.if-is_at-2.ensures c.in_ok-made-2.ensures))))
+pub stat-returns-in_ok-made-2 : goal.stat-returns-in_ok-made-2
+stat-returns-in_ok-made-2 t c = (reads_part (reads_some (next_there 0 (16 ∷ 7 ∷ 36 ∷ 28 ∷ 15 ∷ []) c.args.self.now.rest (next_here 16 (7 ∷ 36 ∷ 28 ∷ 15 ∷ []) c.args.self.now.rest c.if-is_at-2.ensures)) (reads_right c.if-is_at.ensures (reads_left c.if-is_at-2.ensures c.in_ok-made-2.ensures))))
 
 pub stat-returns-in_err-made-3 : goal.stat-returns-in_err-made-3
 stat-returns-in_err-made-3 t c = gives_err _ c.from_residual-in_err-made-3.result c.from_residual-in_err-made-3.ensures.1 (fails_part (fails_some (next_there 0 (16 ∷ 7 ∷ 36 ∷ 28 ∷ 15 ∷ []) c.args.self.now.rest (next_there 16 (7 ∷ 36 ∷ 28 ∷ 15 ∷ []) c.args.self.now.rest (next_here 7 (36 ∷ 28 ∷ 15 ∷ []) c.args.self.now.rest c.if-is_at-3.ensures))) (fails_right c.if-is_at.ensures (fails_right c.if-is_at-2.ensures (fails_left c.if-is_at-3.ensures c.in_err-made-3.ensures)))))
 
-pub stat-returns-in_ok-held-2 : goal.stat-returns-in_ok-held-2
-stat-returns-in_ok-held-2 t c = as_text (ap case_stat_text c.in_ok-held-2.ensures.ok) (reads_part (reads_some (next_there 0 (16 ∷ 7 ∷ 36 ∷ 28 ∷ 15 ∷ []) c.args.self.now.rest (next_there 16 (7 ∷ 36 ∷ 28 ∷ 15 ∷ []) c.args.self.now.rest (next_here 7 (36 ∷ 28 ∷ 15 ∷ []) c.args.self.now.rest c.if-is_at-3.ensures))) (reads_right c.if-is_at.ensures (reads_right c.if-is_at-2.ensures (reads_left c.if-is_at-3.ensures c.in_ok-made-3.ensures)))))
+pub stat-returns-in_ok-made-3 : goal.stat-returns-in_ok-made-3
+stat-returns-in_ok-made-3 t c = (reads_part (reads_some (next_there 0 (16 ∷ 7 ∷ 36 ∷ 28 ∷ 15 ∷ []) c.args.self.now.rest (next_there 16 (7 ∷ 36 ∷ 28 ∷ 15 ∷ []) c.args.self.now.rest (next_here 7 (36 ∷ 28 ∷ 15 ∷ []) c.args.self.now.rest c.if-is_at-3.ensures))) (reads_right c.if-is_at.ensures (reads_right c.if-is_at-2.ensures (reads_left c.if-is_at-3.ensures c.in_ok-made-3.ensures)))))
 
 pub stat-returns-in_err-made-4 : goal.stat-returns-in_err-made-4
 stat-returns-in_err-made-4 t c = gives_err _ c.from_residual-in_err-made-4.result c.from_residual-in_err-made-4.ensures.1 (fails_part (fails_some (next_there 0 (16 ∷ 7 ∷ 36 ∷ 28 ∷ 15 ∷ []) c.args.self.now.rest (next_there 16 (7 ∷ 36 ∷ 28 ∷ 15 ∷ []) c.args.self.now.rest (next_there 7 (36 ∷ 28 ∷ 15 ∷ []) c.args.self.now.rest (next_here 36 (28 ∷ 15 ∷ []) c.args.self.now.rest c.if-is_at-4.ensures)))) (fails_right c.if-is_at.ensures (fails_right c.if-is_at-2.ensures (fails_right c.if-is_at-3.ensures (fails_left c.if-is_at-4.ensures c.in_err-made-4.ensures))))))
 
-pub stat-returns-in_ok-held-3 : goal.stat-returns-in_ok-held-3
-stat-returns-in_ok-held-3 t c = as_text (ap while_stat_text c.in_ok-held-3.ensures.ok) (reads_part (reads_some (next_there 0 (16 ∷ 7 ∷ 36 ∷ 28 ∷ 15 ∷ []) c.args.self.now.rest (next_there 16 (7 ∷ 36 ∷ 28 ∷ 15 ∷ []) c.args.self.now.rest (next_there 7 (36 ∷ 28 ∷ 15 ∷ []) c.args.self.now.rest (next_here 36 (28 ∷ 15 ∷ []) c.args.self.now.rest c.if-is_at-4.ensures)))) (reads_right c.if-is_at.ensures (reads_right c.if-is_at-2.ensures (reads_right c.if-is_at-3.ensures (reads_left c.if-is_at-4.ensures c.in_ok-made-4.ensures))))))
+pub stat-returns-in_ok-made-4 : goal.stat-returns-in_ok-made-4
+stat-returns-in_ok-made-4 t c = (reads_part (reads_some (next_there 0 (16 ∷ 7 ∷ 36 ∷ 28 ∷ 15 ∷ []) c.args.self.now.rest (next_there 16 (7 ∷ 36 ∷ 28 ∷ 15 ∷ []) c.args.self.now.rest (next_there 7 (36 ∷ 28 ∷ 15 ∷ []) c.args.self.now.rest (next_here 36 (28 ∷ 15 ∷ []) c.args.self.now.rest c.if-is_at-4.ensures)))) (reads_right c.if-is_at.ensures (reads_right c.if-is_at-2.ensures (reads_right c.if-is_at-3.ensures (reads_left c.if-is_at-4.ensures c.in_ok-made-4.ensures))))))
 
 pub stat-returns-in_err-made-5 : goal.stat-returns-in_err-made-5
 stat-returns-in_err-made-5 t c = gives_err _ c.from_residual-in_err-made-5.result c.from_residual-in_err-made-5.ensures.1 (fails_part (fails_some (next_there 0 (16 ∷ 7 ∷ 36 ∷ 28 ∷ 15 ∷ []) c.args.self.now.rest (next_there 16 (7 ∷ 36 ∷ 28 ∷ 15 ∷ []) c.args.self.now.rest (next_there 7 (36 ∷ 28 ∷ 15 ∷ []) c.args.self.now.rest (next_there 36 (28 ∷ 15 ∷ []) c.args.self.now.rest (next_here 28 (15 ∷ []) c.args.self.now.rest c.if-is_at-5.ensures))))) (fails_right c.if-is_at.ensures (fails_right c.if-is_at-2.ensures (fails_right c.if-is_at-3.ensures (fails_right c.if-is_at-4.ensures (fails_left c.if-is_at-5.ensures c.in_err-made-5.ensures)))))))
 
-pub stat-returns-in_ok-held-4 : goal.stat-returns-in_ok-held-4
-stat-returns-in_ok-held-4 t c = as_text (ap repeat_stat_text c.in_ok-held-4.ensures.ok) (reads_part (reads_some (next_there 0 (16 ∷ 7 ∷ 36 ∷ 28 ∷ 15 ∷ []) c.args.self.now.rest (next_there 16 (7 ∷ 36 ∷ 28 ∷ 15 ∷ []) c.args.self.now.rest (next_there 7 (36 ∷ 28 ∷ 15 ∷ []) c.args.self.now.rest (next_there 36 (28 ∷ 15 ∷ []) c.args.self.now.rest (next_here 28 (15 ∷ []) c.args.self.now.rest c.if-is_at-5.ensures))))) (reads_right c.if-is_at.ensures (reads_right c.if-is_at-2.ensures (reads_right c.if-is_at-3.ensures (reads_right c.if-is_at-4.ensures (reads_left c.if-is_at-5.ensures c.in_ok-made-5.ensures)))))))
+pub stat-returns-in_ok-made-5 : goal.stat-returns-in_ok-made-5
+stat-returns-in_ok-made-5 t c = (reads_part (reads_some (next_there 0 (16 ∷ 7 ∷ 36 ∷ 28 ∷ 15 ∷ []) c.args.self.now.rest (next_there 16 (7 ∷ 36 ∷ 28 ∷ 15 ∷ []) c.args.self.now.rest (next_there 7 (36 ∷ 28 ∷ 15 ∷ []) c.args.self.now.rest (next_there 36 (28 ∷ 15 ∷ []) c.args.self.now.rest (next_here 28 (15 ∷ []) c.args.self.now.rest c.if-is_at-5.ensures))))) (reads_right c.if-is_at.ensures (reads_right c.if-is_at-2.ensures (reads_right c.if-is_at-3.ensures (reads_right c.if-is_at-4.ensures (reads_left c.if-is_at-5.ensures c.in_ok-made-5.ensures)))))))
 
 pub stat-returns-in_err-made-6 : goal.stat-returns-in_err-made-6
 stat-returns-in_err-made-6 t c = gives_err _ c.from_residual-in_err-made-6.result c.from_residual-in_err-made-6.ensures.1 (fails_part (fails_some (next_there 0 (16 ∷ 7 ∷ 36 ∷ 28 ∷ 15 ∷ []) c.args.self.now.rest (next_there 16 (7 ∷ 36 ∷ 28 ∷ 15 ∷ []) c.args.self.now.rest (next_there 7 (36 ∷ 28 ∷ 15 ∷ []) c.args.self.now.rest (next_there 36 (28 ∷ 15 ∷ []) c.args.self.now.rest (next_there 28 (15 ∷ []) c.args.self.now.rest c.if-is_at-6.ensures))))) (fails_right c.if-is_at.ensures (fails_right c.if-is_at-2.ensures (fails_right c.if-is_at-3.ensures (fails_right c.if-is_at-4.ensures (fails_right c.if-is_at-5.ensures c.in_err-made-6.ensures)))))))
 
-pub stat-returns-in_ok-held-5 : goal.stat-returns-in_ok-held-5
-stat-returns-in_ok-held-5 t c = as_text (ap for_stat_text c.in_ok-held-5.ensures.ok) (reads_part (reads_some (next_there 0 (16 ∷ 7 ∷ 36 ∷ 28 ∷ 15 ∷ []) c.args.self.now.rest (next_there 16 (7 ∷ 36 ∷ 28 ∷ 15 ∷ []) c.args.self.now.rest (next_there 7 (36 ∷ 28 ∷ 15 ∷ []) c.args.self.now.rest (next_there 36 (28 ∷ 15 ∷ []) c.args.self.now.rest (next_there 28 (15 ∷ []) c.args.self.now.rest c.if-is_at-6.ensures))))) (reads_right c.if-is_at.ensures (reads_right c.if-is_at-2.ensures (reads_right c.if-is_at-3.ensures (reads_right c.if-is_at-4.ensures (reads_right c.if-is_at-5.ensures c.in_ok-made-6.ensures)))))))
+pub stat-returns-in_ok-made-6 : goal.stat-returns-in_ok-made-6
+stat-returns-in_ok-made-6 t c = (reads_part (reads_some (next_there 0 (16 ∷ 7 ∷ 36 ∷ 28 ∷ 15 ∷ []) c.args.self.now.rest (next_there 16 (7 ∷ 36 ∷ 28 ∷ 15 ∷ []) c.args.self.now.rest (next_there 7 (36 ∷ 28 ∷ 15 ∷ []) c.args.self.now.rest (next_there 36 (28 ∷ 15 ∷ []) c.args.self.now.rest (next_there 28 (15 ∷ []) c.args.self.now.rest c.if-is_at-6.ensures))))) (reads_right c.if-is_at.ensures (reads_right c.if-is_at-2.ensures (reads_right c.if-is_at-3.ensures (reads_right c.if-is_at-4.ensures (reads_right c.if-is_at-5.ensures c.in_ok-made-6.ensures)))))))
 
 pub stat-returns-else-is_at-6 : goal.stat-returns-else-is_at-6
 stat-returns-else-is_at-6 t c = (reads_part (reads_none (next_none 0 (16 ∷ 7 ∷ 36 ∷ 28 ∷ 15 ∷ []) c.args.self.now.rest c.if-is_at.ensures (next_none 16 (7 ∷ 36 ∷ 28 ∷ 15 ∷ []) c.args.self.now.rest c.if-is_at-2.ensures (next_none 7 (36 ∷ 28 ∷ 15 ∷ []) c.args.self.now.rest c.if-is_at-3.ensures (next_none 36 (28 ∷ 15 ∷ []) c.args.self.now.rest c.if-is_at-4.ensures (next_none 28 (15 ∷ []) c.args.self.now.rest c.if-is_at-5.ensures c.if-is_at-6.ensures)))))))
@@ -87,7 +87,7 @@ pub if_stat-returns-in_err-end_word : goal.if_stat-returns-in_err-end_word
 if_stat-returns-in_err-end_word t c = gives_err _ c.from_residual-in_err-end_word.result c.from_residual-in_err-end_word.ensures.1 (fails_inside c.in_ok-if_word.ensures (fails_then c.in_ok-guard.ensures (fails_then c.in_ok-then_word.ensures.gives (fails_then c.in_ok-body.ensures (fails_then c.in_ok-elsifs.ensures (fails_then c.in_ok-otherwise.ensures c.in_err-end_word.ensures.gives))))))
 
 pub if_stat-returns : goal.if_stat-returns
-if_stat-returns t c = as_text (if_stat_is _ _ _ _ _ _ _) (reads_inside _ c.in_ok-if_word.ensures (reads_then c.in_ok-guard.ensures (reads_then c.in_ok-then_word.ensures.gives (reads_then c.in_ok-body.ensures (reads_then c.in_ok-elsifs.ensures (reads_then c.in_ok-otherwise.ensures c.in_ok-end_word.ensures.gives))))) c.leave.ensures)
+if_stat-returns t c = (as_text (ap if_stat_text c.in_ok-held.ensures.ok) (as_text (if_stat_is _ _ _ _ _ _ _) (reads_inside _ c.in_ok-if_word.ensures (reads_then c.in_ok-guard.ensures (reads_then c.in_ok-then_word.ensures.gives (reads_then c.in_ok-body.ensures (reads_then c.in_ok-elsifs.ensures (reads_then c.in_ok-otherwise.ensures c.in_ok-end_word.ensures.gives))))) c.leave.ensures)))
 
 pub elsifs-returns-in_err-elsif_word : goal.elsifs-returns-in_err-elsif_word
 elsifs-returns-in_err-elsif_word t c = gives_err _ c.from_residual.result c.from_residual.ensures.1 (fails_round c.rounds.invariant c.rounds-test.ensures (fails_first c.in_err-elsif_word.ensures.gives))
@@ -114,7 +114,7 @@ pub otherwise-returns-in_err-body : goal.otherwise-returns-in_err-body
 otherwise-returns-in_err-body t c = gives_err _ c.from_residual-in_err-body.result c.from_residual-in_err-body.ensures.1 (fails_some c.if-is_at.ensures (fails_then c.in_ok-else_word.ensures.gives c.in_err-body.ensures))
 
 pub otherwise-returns-in_ok-body : goal.otherwise-returns-in_ok-body
-otherwise-returns-in_ok-body t c = as_text (else_is _ _) (reads_some c.if-is_at.ensures (reads_then c.in_ok-else_word.ensures.gives c.in_ok-body.ensures))
+otherwise-returns-in_ok-body t c = (as_text (else_is _ _) (reads_some c.if-is_at.ensures (reads_then c.in_ok-else_word.ensures.gives c.in_ok-body.ensures)))
 
 pub otherwise-returns-else-is_at : goal.otherwise-returns-else-is_at
 otherwise-returns-else-is_at t c = (reads_none c.if-is_at.ensures)
@@ -144,37 +144,31 @@ pub case_stat-returns-in_err-end_word : goal.case_stat-returns-in_err-end_word
 case_stat-returns-in_err-end_word t c = gives_err _ c.from_residual-in_err-end_word.result c.from_residual-in_err-end_word.ensures.1 (fails_inside c.in_ok-case_word.ensures (fails_then c.in_ok-selector.ensures (fails_then c.in_ok-of_word.ensures.gives (fails_then c.in_ok-first.ensures (fails_then (end_rounds c.rounds.invariant c.rounds-test.ensures) c.in_err-end_word.ensures.gives)))))
 
 pub case_stat-returns : goal.case_stat-returns
-case_stat-returns t c = as_text (case_stat_is _ _ _ _ _ _) (reads_inside _ c.in_ok-case_word.ensures (reads_then c.in_ok-selector.ensures (reads_then c.in_ok-of_word.ensures.gives (reads_then c.in_ok-first.ensures (reads_then (end_rounds c.rounds.invariant c.rounds-test.ensures) c.in_ok-end_word.ensures.gives)))) c.leave.ensures)
+case_stat-returns t c = (as_text (ap case_stat_text c.in_ok-held.ensures.ok) (as_text (case_stat_is _ _ _ _ _ _) (reads_inside _ c.in_ok-case_word.ensures (reads_then c.in_ok-selector.ensures (reads_then c.in_ok-of_word.ensures.gives (reads_then c.in_ok-first.ensures (reads_then (end_rounds c.rounds.invariant c.rounds-test.ensures) c.in_ok-end_word.ensures.gives)))) c.leave.ensures)))
 
-pub case-returns-in_err-part : goal.case-returns-in_err-part
-case-returns-in_err-part t c = gives_err _ c.from_residual.result c.from_residual.ensures.1 (fails_part c.in_err-part.ensures)
+pub case-returns-in_err-first : goal.case-returns-in_err-first
+case-returns-in_err-first t c = gives_err _ c.from_residual.result c.from_residual.ensures.1 (fails_part (fails_some c.if-begins_label.ensures (fails_first c.in_err-first.ensures)))
 
-pub case-returns : goal.case-returns
-case-returns t c = as_text (case_is _) (reads_part c.in_ok-part.ensures)
+pub case-returns-in_err-comma : goal.case-returns-in_err-comma
+case-returns-in_err-comma t c = gives_err _ c.from_residual-in_err-comma.result c.from_residual-in_err-comma.ensures.1 (fails_part (fails_some c.if-begins_label.ensures (fails_then c.in_ok-first.ensures (fails_first (fails_round c.rounds.invariant c.rounds-test.ensures (fails_first c.in_err-comma.ensures.gives))))))
 
-pub case_part-returns-in_err-first : goal.case_part-returns-in_err-first
-case_part-returns-in_err-first t c = gives_err _ c.from_residual.result c.from_residual.ensures.1 (fails_some c.if-begins_label.ensures (fails_first c.in_err-first.ensures))
+pub case-returns-in_err-range : goal.case-returns-in_err-range
+case-returns-in_err-range t c = gives_err _ c.from_residual-in_err-range.result c.from_residual-in_err-range.ensures.1 (fails_part (fails_some c.if-begins_label.ensures (fails_then c.in_ok-first.ensures (fails_first (fails_round c.rounds.invariant c.rounds-test.ensures (fails_then c.in_ok-comma.ensures.gives c.in_err-range.ensures))))))
 
-pub case_part-returns-in_err-comma : goal.case_part-returns-in_err-comma
-case_part-returns-in_err-comma t c = gives_err _ c.from_residual-in_err-comma.result c.from_residual-in_err-comma.ensures.1 (fails_some c.if-begins_label.ensures (fails_then c.in_ok-first.ensures (fails_first (fails_round c.rounds.invariant c.rounds-test.ensures (fails_first c.in_err-comma.ensures.gives)))))
+pub case-rounds-preserved : goal.case-rounds-preserved
+case-rounds-preserved t c = one_more next_range_text _ _ _ c.in_ok-push.ensures.items c.rounds.invariant c.rounds-test.ensures (reads_then c.in_ok-comma.ensures.gives c.in_ok-range.ensures)
 
-pub case_part-returns-in_err-range : goal.case_part-returns-in_err-range
-case_part-returns-in_err-range t c = gives_err _ c.from_residual-in_err-range.result c.from_residual-in_err-range.ensures.1 (fails_some c.if-begins_label.ensures (fails_then c.in_ok-first.ensures (fails_first (fails_round c.rounds.invariant c.rounds-test.ensures (fails_then c.in_ok-comma.ensures.gives c.in_err-range.ensures)))))
+pub case-returns-in_err-colon : goal.case-returns-in_err-colon
+case-returns-in_err-colon t c = gives_err _ c.from_residual-in_err-colon.result c.from_residual-in_err-colon.ensures.1 (fails_part (fails_some c.if-begins_label.ensures (fails_then c.in_ok-first.ensures (fails_then (end_rounds c.rounds.invariant c.rounds-test.ensures) (fails_first c.in_err-colon.ensures.gives)))))
 
-pub case_part-rounds-preserved : goal.case_part-rounds-preserved
-case_part-rounds-preserved t c = one_more next_range_text _ _ _ c.in_ok-push.ensures.items c.rounds.invariant c.rounds-test.ensures (reads_then c.in_ok-comma.ensures.gives c.in_ok-range.ensures)
+pub case-returns-in_err-body : goal.case-returns-in_err-body
+case-returns-in_err-body t c = gives_err _ c.from_residual-in_err-body.result c.from_residual-in_err-body.ensures.1 (fails_part (fails_some c.if-begins_label.ensures (fails_then c.in_ok-first.ensures (fails_then (end_rounds c.rounds.invariant c.rounds-test.ensures) (fails_then c.in_ok-colon.ensures.gives c.in_err-body.ensures)))))
 
-pub case_part-returns-in_err-colon : goal.case_part-returns-in_err-colon
-case_part-returns-in_err-colon t c = gives_err _ c.from_residual-in_err-colon.result c.from_residual-in_err-colon.ensures.1 (fails_some c.if-begins_label.ensures (fails_then c.in_ok-first.ensures (fails_then (end_rounds c.rounds.invariant c.rounds-test.ensures) (fails_first c.in_err-colon.ensures.gives))))
+pub case-returns-in_ok-body : goal.case-returns-in_ok-body
+case-returns-in_ok-body t c = (as_text (case_is _) (as_text (case_part_is _ _ _ _) (reads_part (reads_some c.if-begins_label.ensures (reads_then c.in_ok-first.ensures (reads_then (end_rounds c.rounds.invariant c.rounds-test.ensures) (reads_then c.in_ok-colon.ensures.gives c.in_ok-body.ensures)))))))
 
-pub case_part-returns-in_err-body : goal.case_part-returns-in_err-body
-case_part-returns-in_err-body t c = gives_err _ c.from_residual-in_err-body.result c.from_residual-in_err-body.ensures.1 (fails_some c.if-begins_label.ensures (fails_then c.in_ok-first.ensures (fails_then (end_rounds c.rounds.invariant c.rounds-test.ensures) (fails_then c.in_ok-colon.ensures.gives c.in_err-body.ensures))))
-
-pub case_part-returns-in_ok-body : goal.case_part-returns-in_ok-body
-case_part-returns-in_ok-body t c = as_text (case_part_is _ _ _ _) (reads_some c.if-begins_label.ensures (reads_then c.in_ok-first.ensures (reads_then (end_rounds c.rounds.invariant c.rounds-test.ensures) (reads_then c.in_ok-colon.ensures.gives c.in_ok-body.ensures))))
-
-pub case_part-returns-else-begins_label : goal.case_part-returns-else-begins_label
-case_part-returns-else-begins_label t c = (reads_none c.if-begins_label.ensures)
+pub case-returns-else-begins_label : goal.case-returns-else-begins_label
+case-returns-else-begins_label t c = as_text (case_is _) (reads_part (reads_none c.if-begins_label.ensures))
 
 pub while_stat-returns-in_err-while_word : goal.while_stat-returns-in_err-while_word
 while_stat-returns-in_err-while_word t c = gives_err _ c.from_residual.result c.from_residual.ensures.1 (c.in_err-while_word.ensures _)
@@ -195,7 +189,7 @@ pub while_stat-returns-in_err-end_word : goal.while_stat-returns-in_err-end_word
 while_stat-returns-in_err-end_word t c = gives_err _ c.from_residual-in_err-end_word.result c.from_residual-in_err-end_word.ensures.1 (fails_inside c.in_ok-while_word.ensures (fails_then c.in_ok-guard.ensures (fails_then c.in_ok-do_word.ensures.gives (fails_then c.in_ok-body.ensures (fails_then c.in_ok-elsifs.ensures c.in_err-end_word.ensures.gives)))))
 
 pub while_stat-returns : goal.while_stat-returns
-while_stat-returns t c = as_text (while_stat_is _ _ _ _ _ _) (reads_inside _ c.in_ok-while_word.ensures (reads_then c.in_ok-guard.ensures (reads_then c.in_ok-do_word.ensures.gives (reads_then c.in_ok-body.ensures (reads_then c.in_ok-elsifs.ensures c.in_ok-end_word.ensures.gives)))) c.leave.ensures)
+while_stat-returns t c = (as_text (ap while_stat_text c.in_ok-held.ensures.ok) (as_text (while_stat_is _ _ _ _ _ _) (reads_inside _ c.in_ok-while_word.ensures (reads_then c.in_ok-guard.ensures (reads_then c.in_ok-do_word.ensures.gives (reads_then c.in_ok-body.ensures (reads_then c.in_ok-elsifs.ensures c.in_ok-end_word.ensures.gives)))) c.leave.ensures)))
 
 pub elsif_dos-returns-in_err-elsif_word : goal.elsif_dos-returns-in_err-elsif_word
 elsif_dos-returns-in_err-elsif_word t c = gives_err _ c.from_residual.result c.from_residual.ensures.1 (fails_round c.rounds.invariant c.rounds-test.ensures (fails_first c.in_err-elsif_word.ensures.gives))
@@ -228,7 +222,7 @@ pub repeat_stat-returns-in_err-guard : goal.repeat_stat-returns-in_err-guard
 repeat_stat-returns-in_err-guard t c = gives_err _ c.from_residual-in_err-guard.result c.from_residual-in_err-guard.ensures.1 (fails_inside c.in_ok-repeat_word.ensures (fails_then c.in_ok-body.ensures (fails_then c.in_ok-until_word.ensures.gives c.in_err-guard.ensures)))
 
 pub repeat_stat-returns : goal.repeat_stat-returns
-repeat_stat-returns t c = as_text (repeat_stat_is _ _ _ _) (reads_inside _ c.in_ok-repeat_word.ensures (reads_then c.in_ok-body.ensures (reads_then c.in_ok-until_word.ensures.gives c.in_ok-guard.ensures)) c.leave.ensures)
+repeat_stat-returns t c = (as_text (ap repeat_stat_text c.in_ok-held.ensures.ok) (as_text (repeat_stat_is _ _ _ _) (reads_inside _ c.in_ok-repeat_word.ensures (reads_then c.in_ok-body.ensures (reads_then c.in_ok-until_word.ensures.gives c.in_ok-guard.ensures)) c.leave.ensures)))
 
 pub for_stat-returns-in_err-for_word : goal.for_stat-returns-in_err-for_word
 for_stat-returns-in_err-for_word t c = gives_err _ c.from_residual.result c.from_residual.ensures.1 (c.in_err-for_word.ensures _)
@@ -261,4 +255,4 @@ pub for_stat-returns-in_err-end_word : goal.for_stat-returns-in_err-end_word
 for_stat-returns-in_err-end_word t c = gives_err _ c.from_residual-in_err-end_word.result c.from_residual-in_err-end_word.ensures.1 (fails_inside c.in_ok-for_word.ensures (fails_then c.in_ok-variable.ensures.gives (fails_then c.in_ok-becomes.ensures.gives (fails_then c.in_ok-from.ensures (fails_then c.in_ok-to_word.ensures.gives (fails_then c.in_ok-to.ensures (fails_then c.in_ok-by.ensures (fails_then c.in_ok-do_word.ensures.gives (fails_then c.in_ok-body.ensures c.in_err-end_word.ensures.gives)))))))))
 
 pub for_stat-returns : goal.for_stat-returns
-for_stat-returns t c = as_text (for_stat_is _ _ _ _ _ _ _ _ _ _) (reads_inside _ c.in_ok-for_word.ensures (reads_then c.in_ok-variable.ensures.gives (reads_then c.in_ok-becomes.ensures.gives (reads_then c.in_ok-from.ensures (reads_then c.in_ok-to_word.ensures.gives (reads_then c.in_ok-to.ensures (reads_then c.in_ok-by.ensures (reads_then c.in_ok-do_word.ensures.gives (reads_then c.in_ok-body.ensures c.in_ok-end_word.ensures.gives)))))))) c.leave.ensures)
+for_stat-returns t c = (as_text (ap for_stat_text c.in_ok-held.ensures.ok) (as_text (for_stat_is _ _ _ _ _ _ _ _ _ _) (reads_inside _ c.in_ok-for_word.ensures (reads_then c.in_ok-variable.ensures.gives (reads_then c.in_ok-becomes.ensures.gives (reads_then c.in_ok-from.ensures (reads_then c.in_ok-to_word.ensures.gives (reads_then c.in_ok-to.ensures (reads_then c.in_ok-by.ensures (reads_then c.in_ok-do_word.ensures.gives (reads_then c.in_ok-body.ensures c.in_ok-end_word.ensures.gives)))))))) c.leave.ensures)))

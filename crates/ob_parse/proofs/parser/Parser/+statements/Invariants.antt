@@ -7,34 +7,31 @@ use Rattle.ob_parse.specs.Parsing.{State, Repeated}
 use Rattle.ob_parse.proofs.parser.Parser.+statements.Given as goal
 
 abbrev rank : State → ℕ → ℕ
-rank a n = 14 * length a.rest + n
+rank a n = 13 * length a.rest + n
 
 abbrev pub decreases-stats : goal.decreases-stats
-decreases-stats l = rank l.self.now 13
+decreases-stats l = rank l.self.now 12
 
 abbrev pub decreases-more_stats : goal.decreases-more_stats
-decreases-more_stats l = rank l.self.now 12
+decreases-more_stats l = rank l.self.now 11
 
 abbrev pub decreases-stat : goal.decreases-stat
-decreases-stat l = rank l.self.now 11
+decreases-stat l = rank l.self.now 10
 
 abbrev pub decreases-if_stat : goal.decreases-if_stat
-decreases-if_stat l = rank l.self.now 10
+decreases-if_stat l = rank l.self.now 9
 
 abbrev pub decreases-elsifs : goal.decreases-elsifs
-decreases-elsifs l = rank l.self.now 9
+decreases-elsifs l = rank l.self.now 8
 
 abbrev pub decreases-otherwise : goal.decreases-otherwise
-decreases-otherwise l = rank l.self.now 8
+decreases-otherwise l = rank l.self.now 7
 
 abbrev pub decreases-case_stat : goal.decreases-case_stat
-decreases-case_stat l = rank l.self.now 7
+decreases-case_stat l = rank l.self.now 6
 
 abbrev pub decreases-case : goal.decreases-case
-decreases-case l = rank l.self.now 6
-
-abbrev pub decreases-case_part : goal.decreases-case_part
-decreases-case_part l = rank l.self.now 5
+decreases-case l = rank l.self.now 5
 
 abbrev pub decreases-while_stat : goal.decreases-while_stat
 decreases-while_stat l = rank l.self.now 4
@@ -66,11 +63,11 @@ invariant-case_stat-rounds l = Repeated (bar · part case) l.initial.self l.self
 abbrev pub decreases-case_stat-rounds : goal.decreases-case_stat-rounds
 decreases-case_stat-rounds l = length l.self.rest
 
-abbrev pub invariant-case_part-rounds : goal.invariant-case_part-rounds
-invariant-case_part-rounds l = Repeated (comma · part range) l.initial.self l.self (each next_range_text l.more.items)
+abbrev pub invariant-case-rounds : goal.invariant-case-rounds
+invariant-case-rounds l = Repeated (comma · part range) l.initial.self l.self (each next_range_text l.more.items)
 
-abbrev pub decreases-case_part-rounds : goal.decreases-case_part-rounds
-decreases-case_part-rounds l = length l.self.rest
+abbrev pub decreases-case-rounds : goal.decreases-case-rounds
+decreases-case-rounds l = length l.self.rest
 
 abbrev pub invariant-elsif_dos-rounds : goal.invariant-elsif_dos-rounds
 invariant-elsif_dos-rounds l = Repeated (ELSIF · part expression · DO · part stats) l.initial.self l.self (each elsif_do_text l.elsifs.items)
