@@ -1,0 +1,12 @@
+use Rattle.std.proofs.Common.{length}
+use Rattle.ob_grammar.specs.Grammar.{part, ◌·◌, comma, identdef}
+use Rattle.ob_tree.specs.Leaves.{each}
+use Rattle.ob_tree.specs.NameText.{next_identdef_text}
+use Rattle.ob_parse.specs.Parsing.{Repeated}
+use Rattle.ob_parse.proofs.parser.Parser.idents.Given as goal
+
+abbrev pub invariant-rounds : goal.invariant-rounds
+invariant-rounds l = Repeated (comma · part identdef) l.initial.self l.self (each next_identdef_text l.more.items)
+
+abbrev pub decreases-rounds : goal.decreases-rounds
+decreases-rounds l = length l.self.rest

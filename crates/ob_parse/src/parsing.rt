@@ -1,0 +1,33 @@
+//! The parser's call.
+
+ghost use Rattle.std.specs.Prelude.{◌≡◌, ◌≤◌, List, length, IfOk, IfErr};
+ghost use Rattle.ob_grammar.specs.Trees.{Token, terminals};
+ghost use Rattle.ob_grammar.specs.Modules.{IsModule, Shallow};
+ghost use Rattle.ob_parse.specs.Judged.{numbers, IsTree, IsFault, IsTaken};
+
+use crate::fault::ParseFault;
+use crate::parser::Parser;
+use ob_symbol::Symbol;
+use ob_tree::modules::Module;
+use std::alloc::Global;
+
+/// The tree of a module's symbols, or the first fault. (Oberon-07 report, appendix: The Syntax of Oberon.)
+///
+/// The tree's terminals are all symbols in order, each by its index and of the kind that the grammar asks there.
+/// `Syntax` is at the length of the longest beginning that some module has too: at the first symbol that no module
+/// has there, or at the end. `TooDeep` is at the symbol that opens the 101st construct. The earlier of the two
+/// comes. The time is linear in the number of symbols, and the stack is bounded by the nesting.
+pub fn parse(alloc: Global, symbols: &[Symbol]) -> Result<Module, ParseFault>
+    requires { length symbols.now ≤ 1048576 }
+    ensures tree { IfOk result (λ m. IsTree (numbers symbols.now) m) }
+    ensures fault { IfErr result (λ e. IsFault (numbers symbols.now) e) }
+    ensures only { (v : List Token) → IsModule v → terminals v ≡ numbers symbols.now → Shallow v (length symbols.now) → IsTaken result }
+{
+    let mut parser = Parser::new(symbols);
+    let module = parser.module(alloc)?;
+    if parser.is_at_end() {
+        Ok(module)
+    } else {
+        Err(ParseFault::Syntax { at: parser.place() })
+    }
+}
