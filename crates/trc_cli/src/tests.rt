@@ -110,6 +110,20 @@ fn texts_write_what_they_mean(rt: HostRuntime) -> Result<(), Fail> {
 }
 
 #[test]
+fn a_text_makes_so_many_values(rt: HostRuntime) -> Result<(), Fail> {
+    let ones = "1+".repeat(rt.alloc(), 1999)?;
+    prints(&rt, &format!(in rt.alloc(); "Out.Int({ones}1, 0)")?, "2000")?;
+    is_unbuilt(&rt, &format!(in rt.alloc(); "Out.Int(-{ones}1, 0)")?)
+}
+
+#[test]
+fn so_many_parentheses_are_open(rt: HostRuntime) -> Result<(), Fail> {
+    let (open, close) = ("(".repeat(rt.alloc(), 99)?, ")".repeat(rt.alloc(), 99)?);
+    prints(&rt, &format!(in rt.alloc(); "Out.Int({open}7{close}, 0)")?, "7")?;
+    is_unbuilt(&rt, &format!(in rt.alloc(); "Out.Int(({open}7{close}), 0)")?)
+}
+
+#[test]
 fn causes_come_where_they_should(rt: HostRuntime) -> Result<(), Fail> {
     let source = b"MODULE M; IMPORT Out; BEGIN Out.Int(42, 300); Out.Ln END M.";
     let mut files = MemFiles::new(rt.alloc(), vec![in rt.alloc(); 3u64]?);
@@ -224,12 +238,24 @@ fn causes_come_where_they_should(rt: HostRuntime) -> Result<(), Fail> {
     Ok(())
 }
 
+/// The code words of `MODULE M; IMPORT Out; BEGIN Out.Int(6*7, 0); Out.Ln END M.` by the other compiler.
+const WORDS: [u32; 64] = [
+    0x94000028, 0xD4000001, 0xD2800003, 0x91002064, 0xEB02009F, 0x540000A8, 0xF8636825, 0xF8236805,
+    0xAA0403E3, 0x17FFFFFA, 0xEB02007F, 0x540000A2, 0x38636825, 0x38236805, 0x91000463, 0x17FFFFFB,
+    0xD65F03C0, 0xD2800003, 0xEB01007F, 0x54000082, 0xF823681F, 0x91002063, 0x17FFFFFC, 0xD65F03C0,
+    0xD2800004, 0xD2800005, 0xD2800006, 0xEB01009F, 0x54000042, 0x38646805, 0xEB03009F, 0x54000042,
+    0x38646846, 0xEB0600BF, 0x54000081, 0xB4000065, 0x91002084, 0x17FFFFF4, 0xCB0600A0, 0xD65F03C0,
+    0xD14003FF, 0xD100C3FF, 0xF90003FE, 0xD28000C0, 0xF90007E0, 0xD28000E0, 0xF9000BE0, 0xF94007E0,
+    0xF9400BE1, 0x9B017C00, 0xF9000FE0, 0xD2800000, 0xF90013E0, 0xF9400FE0, 0xF94013E1, 0xD4000041,
+    0xD2800140, 0xF90017E0, 0xF94017E0, 0xD4000021, 0xF94003FE, 0x914003FF, 0x9100C3FF, 0xD65F03C0,
+];
+
 #[test]
 fn an_image_has_so_many_words_and_steps(rt: HostRuntime) -> Result<(), Fail> {
     let source = b"MODULE M; IMPORT Out; BEGIN Out.Int(6*7, 0); Out.Ln END M.";
     for (steps, halt) in [(26, Halt::Ended), (25, Halt::Spent)] {
         let image = compile(rt.alloc(), source)?;
-        assert_eq!(rt; image.code.as_slice().len(), 64);
+        assert_eq!(rt; image.code.as_slice(), WORDS.as_slice());
         assert_eq!(rt; image.globals, 8);
         assert_eq!(rt; image.constants.as_slice().len(), 0);
         assert_eq!(rt; image.frame, 48);
