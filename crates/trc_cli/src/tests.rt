@@ -119,8 +119,15 @@ fn a_text_makes_so_many_values(rt: HostRuntime) -> Result<(), Fail> {
 #[test]
 fn so_many_parentheses_are_open(rt: HostRuntime) -> Result<(), Fail> {
     let (open, close) = ("(".repeat(rt.alloc(), 99)?, ")".repeat(rt.alloc(), 99)?);
-    prints(&rt, &format!(in rt.alloc(); "Out.Int({open}7{close}, 0)")?, "7")?;
-    is_unbuilt(&rt, &format!(in rt.alloc(); "Out.Int(({open}7{close}), 0)")?)
+    prints(
+        &rt,
+        &format!(in rt.alloc(); "Out.Int({open}7{close}, 0)")?,
+        "7",
+    )?;
+    is_unbuilt(
+        &rt,
+        &format!(in rt.alloc(); "Out.Int(({open}7{close}), 0)")?,
+    )
 }
 
 #[test]
