@@ -7,6 +7,7 @@
 
 mod causes;
 mod command;
+mod laws;
 mod report;
 mod running;
 #[cfg(test)]
@@ -14,4 +15,5 @@ mod tests;
 mod top;
 
 pub use causes::{Cause, Device, Outcome};
+pub use laws::runs_answer;
 pub use top::trc;
