@@ -4,14 +4,15 @@
     bench/parse_vectors.py [FOLDER]
 
 Writes `stdin` and `stdout` into FOLDER (that crate's, if none is given). The other parser is the Python one in
-../shared/oracle, seen from the top of the repository; where that isn't there, nothing is done.
+../shared/oracle, seen from the top of the repository, or in the folder that ORACLE names; where that isn't there,
+nothing is done.
 """
 import os
 import random
 import sys
 
 TOP = os.path.dirname(os.path.dirname(os.path.abspath(__file__)))
-ORACLE = os.path.join(TOP, '..', 'shared', 'oracle')
+ORACLE = os.environ.get('ORACLE') or os.path.join(TOP, '..', 'shared', 'oracle')
 if not os.path.isdir(ORACLE):
     sys.exit('no other parser here; nothing done')
 sys.path.insert(0, ORACLE)
