@@ -19,15 +19,15 @@ make() {
             for (i = 0; i < n; i++) printf "ident "
         } else if (kind == "declarations") {
             printf "MODULE ident ; VAR "
-            for (i = 0; i + 10 < n; i += 8) printf "ident , ident * : ident ; "
+            for (i = 0; i + 16 < n; i += 7) printf "ident , ident * : ident ; "
             printf "END ident .\n"; exit
         } else if (kind == "statements") {
             printf "MODULE ident ; BEGIN ident "
-            for (i = 0; i + 12 < n; i += 8) printf "; ident := ident [ integer ] "
+            for (i = 0; i + 16 < n; i += 7) printf "; ident := ident [ integer ] "
             printf "END ident .\n"; exit
         } else if (kind == "expression") {
             printf "MODULE ident ; BEGIN ident := ident "
-            for (i = 0; i + 10 < n; i += 4) printf "+ ident * integer "
+            for (i = 0; i + 16 < n; i += 4) printf "+ ident * integer "
             printf "END ident .\n"; exit
         } else {
             printf "MODULE ident ; BEGIN ident "
