@@ -1,9 +1,10 @@
 #!/bin/sh
 # Time of compiling and running a text against the number of its values: sums of ones that make 10, 100, 1,000 and
-# 4,000 values (the most that a text may make). Each is run so many times; `start` is the program's own start, with
-# words that it refuses at once, which every figure holds too. Usage: bench/first_path.sh [TIMES]
+# 4,000 values (the most that a text may make). The two texts with more are read whole and refused, so they show what
+# reading takes. Each is run so many times; `start` is the program's own start, with words that it refuses at once,
+# which every figure holds too. Usage: bench/first_path.sh [TIMES]
 set -eu
-times=${1:-200}
+times=${1:-50}
 top=$(cd "$(dirname "$0")/.." && pwd)
 work=$(mktemp -d)
 trap 'rm -rf "$work"' EXIT
@@ -22,7 +23,7 @@ microseconds() {
     from=$(date +%s%N)
     i=0
     while [ "$i" -lt "$times" ]; do
-        "$top/crates/trc/out/trc" "$@" >"$work/out" 2>/dev/null || true
+        "$top/crates/trc/out/trc" "$@" >"$work/out" 2>&1 || true
         i=$((i + 1))
     done
     to=$(date +%s%N)
@@ -33,7 +34,7 @@ text 10 >"$work/M.Mod"
 "$top/trc" run "$work/M.Mod" >/dev/null
 printf '%8s %14s  %s\n' values microseconds output
 printf '%8s %14s\n' start "$(microseconds)"
-for values in 10 100 1000 4000; do
+for values in 10 100 1000 4000 4002 40002; do
     text "$values" >"$work/M.Mod"
     printf '%8s %14s  %s\n' "$values" "$(microseconds run "$work/M.Mod")" "$(cat "$work/out")"
 done
