@@ -5,7 +5,7 @@ ghost use Rattle.std.specs.Prelude.{◌≡◌, ℕ, ◌<◌, ◌^◌};
 use std::marker::Model;
 
 /// A number below 2 to the power of `N`: an instruction's field of `N` bits. Contracts see the number.
-#[derive(Clone, Copy, PartialEq, Eq, Debug)]
+#[derive(Clone, Copy)]
 pub struct Bits<const N: u32> {
     value: u32,
 }

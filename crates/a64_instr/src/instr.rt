@@ -6,7 +6,7 @@ use crate::bits::Bits;
 pub type Reg = Bits<5>;
 
 /// How the second operand is shifted: logically left, logically right, arithmetically right.
-#[derive(Clone, Copy, PartialEq, Eq, Debug)]
+#[derive(Clone, Copy)]
 pub enum Shift {
     Lsl,
     Lsr,
@@ -14,7 +14,7 @@ pub enum Shift {
 }
 
 /// A condition on the flags, in the order of its number from 0 (EQ) to 14 (AL).
-#[derive(Clone, Copy, PartialEq, Eq, Debug)]
+#[derive(Clone, Copy)]
 pub enum Cond {
     Eq,
     Ne,
@@ -34,7 +34,7 @@ pub enum Cond {
 }
 
 /// An instruction of the A64 table (64-bit forms; Arm Architecture Reference Manual, A64 base instructions).
-#[derive(Clone, Copy, PartialEq, Eq, Debug)]
+#[derive(Clone, Copy)]
 pub enum Instr {
     /// ADD (immediate): `rd := rn + imm * 2^(12 high)`; 31 is SP in both.
     AddImm {

@@ -3,7 +3,7 @@ use Rattle.std.proofs.Common.{◌≡◌, ◌≢◌, ℕ, zero, suc, ◌+◌, ◌
 use Rattle.trc_base.specs.Devices.{Took, Grew, TookFront}
 use Rattle.trc_base.proofs.Taking.{took_on, grew_on}
 use Rattle.std.proofs.lemmas.List.{append-nil}
-use Rattle.a64_numbers.specs.Numbers.{add64}
+use Rattle.wrapping_numbers.specs.Numbers.{add64}
 use Rattle.a64_memory.specs.Memory.{Area, load1}
 use Rattle.a64_machine.specs.Services.{Text, Bytes, Outside, before, text_with, text_at}
 use Rattle.a64_machine.specs.Answers.{TookAll}

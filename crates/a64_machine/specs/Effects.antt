@@ -1,8 +1,10 @@
 -- What each instruction does (Arm Architecture Reference Manual, A64 base instructions).
 use Rattle.std.specs.Prelude.{ℕ, ◌*◌, Bool, not, ◌==◌, List, [], Option, Some, None, bit_and, bit_or, bit_xor, if◌then◌else◌}
 use Rattle.run_laws.specs.Runs.{Step, Moves, Traps}
-use Rattle.a64_numbers.specs.Numbers.{add64, sub64, mul64, bic64, orn64, madd64, msub64, sdiv64, immediate, branch_to}
-use Rattle.a64_numbers.specs.Shifts.{lsl64, lsr64, asr64, ror64, shifted}
+use Rattle.wrapping_numbers.specs.Numbers.{add64, sub64, mul64, bic64, orn64, madd64, msub64, sdiv64}
+use Rattle.wrapping_numbers.specs.Shifts.{lsl64, lsr64, asr64, ror64}
+use Rattle.a64_numbers.specs.Operands.{immediate, shifted}
+use Rattle.a64_numbers.specs.Branches.{branch_to}
 use Rattle.a64_numbers.specs.Moves.{movz, movn, movk}
 use Rattle.a64_numbers.specs.Conditions.{subs_flags, ands_flags, holds, csel, csinc, csneg}
 use Rattle.a64_numbers.specs.declared.flags.Flags.{Flags}

@@ -1,7 +1,7 @@
 -- What an SVC does, by its number.
 use Rattle.std.specs.Prelude.{ℕ, zero, suc, ◌-◌, ◌%◌, ◌^◌, List, [], ◌∷◌, drop, ◌==◌, ◌||◌, Option, Some, None, slice_index_or, if◌then◌else◌}
 use Rattle.out_text.specs.Text.{int_text}
-use Rattle.a64_numbers.specs.Numbers.{add64}
+use Rattle.wrapping_numbers.specs.Numbers.{add64}
 use Rattle.a64_memory.specs.Memory.{Area, load1}
 use Rattle.run_laws.specs.Runs.{Step, Moves, Ends, Traps}
 use Rattle.a64_machine.specs.State.{State, Trap, BadAddress, BadCall, put}

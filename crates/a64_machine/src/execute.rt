@@ -1,8 +1,8 @@
 //! One arm for each row of the table.
 
 ghost use Rattle.std.specs.Prelude.{◌≡◌, None};
-ghost use Rattle.a64_numbers.specs.Numbers.{add64};
-ghost use Rattle.a64_numbers.specs.Shifts.{shifted};
+ghost use Rattle.wrapping_numbers.specs.Numbers.{add64};
+ghost use Rattle.a64_numbers.specs.Operands.{shifted};
 ghost use Rattle.a64_machine.specs.State.{read, read_or_sp};
 ghost use Rattle.a64_machine.specs.Effects.{effect};
 ghost use Rattle.a64_machine.specs.View.{core_state, Told, service_number};
@@ -11,9 +11,10 @@ use crate::answers::Step;
 use crate::processor::Core;
 use a64_instr::{Bits, Instr, Reg, Shift};
 use a64_numbers::{
-    ands_flags, asr, bic, branch_19, branch_26, csel, csinc, csneg, holds, immediate, lsl, lsr,
-    madd, movk, movn, movz, msub, orn, ror, sdiv, shifted, subs_flags,
+    ands_flags, bic, branch_19, branch_26, csel, csinc, csneg, holds, immediate, madd, movk, movn,
+    movz, msub, orn, sdiv, shifted, subs_flags,
 };
+use wrapping_numbers::{asr, lsl, lsr, ror};
 
 /// The number of an SVC.
 pub fn service_number(i: &Instr) -> Option<Bits<16>>

@@ -2,7 +2,8 @@
 use Rattle.std.proofs.Common.{◌≡◌, ℕ, ◌+◌, ◌-◌, ◌*◌, ◌/◌, ◌%◌, ◌^◌, ◌<◌, ◌≤◌, mod-lt, arith}
 use Rattle.std.proofs.lemmas.Bool.Decides.{nat_tests}
 use Rattle.std.proofs.lemmas.Nat.{pow_pos}
-use Rattle.a64_numbers.specs.Numbers.{sub64, branch_to, branch_field}
+use Rattle.wrapping_numbers.specs.Numbers.{sub64}
+use Rattle.a64_numbers.specs.Branches.{branch_to, branch_field}
 
 -- within 128 MiB
 pub branch_26_reaches : (pc target : ℕ) → pc < 2 ^ 32 → target < 2 ^ 32 → pc % 4 ≡ 0 → target % 4 ≡ 0 → target < pc + 2 ^ 27 → pc ≤ target + 2 ^ 27 → branch_to 26 pc (branch_field 26 pc target) ≡ target

@@ -1,8 +1,7 @@
 -- What conditions say after SUBS, and what words with a condition compute.
-use Rattle.std.proofs.Common.{◌≡◌, ◌≢◌, ℕ, ◌-◌, ◌%◌, ◌^◌, ◌<◌, Bool, true, false, not, cond, ◌&&◌, int_lt, int_le, ◌-ℤ◌, pos, SFits, w64, bit_and, refl, arith}
+use Rattle.std.proofs.Common.{◌≡◌, ◌≢◌, ℕ, ◌-◌, ◌^◌, ◌<◌, Bool, true, false, not, cond, ◌&&◌, int_lt, int_le, ◌-ℤ◌, pos, SFits, w64, refl, arith}
 use Rattle.std.proofs.lemmas.Bool.Decides.{nat_tests}
-use Rattle.std.proofs.lemmas.Nat.{and_mask}
-use Rattle.a64_numbers.specs.Numbers.{signed, neg64}
+use Rattle.wrapping_numbers.specs.Numbers.{signed, neg64}
 use Rattle.a64_numbers.specs.Conditions.{subs_flags, holds, opposite, compares, csel, csinc, csneg}
 use Rattle.a64_numbers.specs.declared.flags.Flags.{Flags}
 use Rattle.a64_instr.specs.declared.instr.Cond.{Cond}
@@ -68,10 +67,6 @@ max0_is a p = grind (arith, nat_tests)
 
 pub flip_is : (a : ℕ) → a < 2 → csinc Ne (subs_flags a 0) 0 0 ≡ 1 - a
 flip_is a p = grind (arith, nat_tests)
-
--- AND with 1: whether the number is odd
-pub odd_is : (a : ℕ) → bit_and a 1 ≡ a % 2
-odd_is a = and_mask a 1
 
 -- one unsigned comparison tests an index against a length, and a number against a greatest one
 pub below_is : (i n : ℕ) → i < 2 ^ 64 → n < 2 ^ 63 → holds Lo (subs_flags i n) ≡ (int_le (pos 0) (signed i) && int_lt (signed i) (pos n))

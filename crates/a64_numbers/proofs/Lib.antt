@@ -1,8 +1,5 @@
+pub mod Operands
 pub mod Comparisons
-pub mod Wrapping
 pub mod Branches
-pub mod Amounts
-pub mod Division
-pub mod Elements
 pub mod Constants
 pub mod Bounds

@@ -1,7 +1,7 @@
 -- The flags, the fifteen conditions, and selects (Arm Architecture Reference Manual, "Condition code suffixes").
 use Rattle.std.specs.Prelude.{ℕ, Bool, true, false, not, cond, ◌&&◌, nat_lt, nat_le, ◌==◌, int_lt, int_le}
 use mathlib.Core.Bool.{beq}
-use Rattle.a64_numbers.specs.Numbers.{signed, sign, add64, sub64, neg64}
+use Rattle.wrapping_numbers.specs.Numbers.{signed, sign, add64, sub64, neg64}
 use Rattle.a64_numbers.specs.declared.flags.Flags.{Flags}
 use Rattle.a64_instr.specs.declared.instr.Cond.{Cond}
 use Rattle.a64_instr.specs.declared.instr.Cond.TheVariants.{Eq, Ne, Hs, Lo, Mi, Pl, Vs, Vc, Hi, Ls, Ge, Lt, Gt, Le, Al}

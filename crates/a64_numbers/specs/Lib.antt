@@ -1,6 +1,4 @@
-pub mod Numbers
-pub mod Shifts
+pub mod Operands
+pub mod Branches
 pub mod Conditions
 pub mod Moves
-pub mod Division
-pub mod Sets

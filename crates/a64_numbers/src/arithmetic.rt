@@ -1,9 +1,12 @@
-//! Sums, products, quotients, immediates and branch targets.
+//! Complements, products, quotients, second operands and branch targets.
 
 ghost use Rattle.std.specs.Prelude.{◌≡◌};
-ghost use Rattle.a64_numbers.specs.Numbers.{bic64, orn64, madd64, msub64, sdiv64, immediate, branch_to};
+ghost use Rattle.wrapping_numbers.specs.Numbers.{bic64, orn64, madd64, msub64, sdiv64};
+ghost use Rattle.a64_numbers.specs.Operands.{immediate, shifted};
+ghost use Rattle.a64_numbers.specs.Branches.{branch_to};
 
-use a64_instr::Bits;
+use a64_instr::{Bits, Shift};
+use wrapping_numbers::{asr, lsl, lsr};
 
 /// BIC: the bits of `a` that `b` hasn't.
 pub fn bic(a: u64, b: u64) -> u64
@@ -52,6 +55,18 @@ pub fn immediate(imm: Bits<12>, high: bool) -> u64
 {
     let imm = imm.get() as u64;
     if high { imm << 12 } else { imm }
+}
+
+/// The second operand of the shifted-register rows.
+pub fn shifted(shift: Shift, value: u64, by: Bits<6>) -> u64
+    ensures { result ≡ shifted shift value by }
+{
+    let by = by.get() as u64;
+    match shift {
+        Shift::Lsl => lsl(value, by),
+        Shift::Lsr => lsr(value, by),
+        Shift::Asr => asr(value, by),
+    }
 }
 
 /// Where B and BL go from `pc`, in bytes.

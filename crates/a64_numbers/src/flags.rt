@@ -6,7 +6,7 @@ ghost use Rattle.a64_numbers.specs.Conditions.{subs_flags, ands_flags, holds, op
 use a64_instr::Cond;
 
 /// The flags N, Z, C and V.
-#[derive(Clone, Copy, PartialEq, Eq, Debug)]
+#[derive(Clone, Copy, PartialEq, Eq)]
 pub struct Flags {
     pub negative: bool,
     pub zero: bool,

@@ -6,7 +6,7 @@ ghost use Rattle.a64_numbers.specs.Moves.{half, movz, movn, movk, halves, more_o
 use a64_instr::Bits;
 
 /// A move of sixteen bits into one half of a register; the lowest half is 0.
-#[derive(Clone, Copy, PartialEq, Eq, Debug)]
+#[derive(Clone, Copy)]
 pub enum Move {
     /// MOVZ: that half, and the others 0.
     Movz(Bits<16>, Bits<2>),

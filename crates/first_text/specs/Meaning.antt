@@ -1,6 +1,6 @@
 -- What a text writes. Numbers are those of 64 bits, and sums, differences and products wrap.
 use Rattle.std.specs.Prelude.{ℕ, Option, None, Some, List, [], ◌∷◌, ◌++◌}
-use Rattle.a64_numbers.specs.Numbers.{add64, sub64, mul64, neg64}
+use Rattle.wrapping_numbers.specs.Numbers.{add64, sub64, mul64, neg64}
 use Rattle.out_text.specs.Text.{int_text}
 use Rattle.first_text.specs.declared.tree.Sign.{Sign}
 use Rattle.first_text.specs.declared.tree.Sign.TheVariants.{Plus, Minus}

@@ -3,8 +3,8 @@ use Rattle.std.proofs.Common.{◌≡◌, ℕ, suc, ◌+◌, ◌-◌, ◌*◌, �
 use Rattle.std.proofs.lemmas.List.{append-nil}
 use Rattle.std.proofs.lemmas.Bool.Decides.{eqb_tells}
 use Rattle.out_text.specs.Text.{int_text}
-use Rattle.a64_numbers.specs.Numbers.{add64, sub64, mul64, neg64, madd64}
-use Rattle.a64_numbers.specs.Shifts.{lsl64}
+use Rattle.wrapping_numbers.specs.Numbers.{add64, sub64, mul64, neg64, madd64}
+use Rattle.wrapping_numbers.specs.Shifts.{lsl64}
 use Rattle.a64_numbers.specs.Moves.{moved, moved_by, constant_moves}
 use Rattle.a64_numbers.specs.declared.moves.Move.{Move}
 use Rattle.a64_numbers.specs.declared.moves.Move.TheVariants as move

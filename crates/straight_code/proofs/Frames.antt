@@ -4,7 +4,7 @@ use Rattle.std.specs.Int.{w64, to_le_bytes, from_le_bytes}
 use Rattle.std.proofs.lemmas.Nat.{from_le_bytes-to_le_bytes_8}
 use Rattle.std.proofs.lemmas.Bool.{cases_lt}
 use Rattle.run_laws.specs.Runs.{Moves}
-use Rattle.a64_numbers.specs.Numbers.{add64}
+use Rattle.wrapping_numbers.specs.Numbers.{add64}
 use Rattle.a64_memory.specs.Memory.{Area, covers, loaded8, stored8, load8, store8}
 use Rattle.a64_memory.proofs.Stores.{covers-with_bytes, bytes_at-with_bytes_same, bytes_at-with_bytes_apart}
 use Rattle.a64_instr.specs.declared.instr.Instr.TheVariants.{Ldr, Str}

@@ -3,7 +3,7 @@ use Rattle.std.proofs.Common.{◌≡◌, ℕ, suc, ◌+◌, ◌%◌, ◌<◌, �
 use Rattle.std.specs.Prelude.{nat_le, slice_get}
 use Rattle.std.proofs.lemmas.Bool.Decides.{nat_tests}
 use Rattle.run_laws.specs.Runs.{Moves, Walk}
-use Rattle.a64_numbers.specs.Numbers.{add64}
+use Rattle.wrapping_numbers.specs.Numbers.{add64}
 use Rattle.a64_instr.specs.declared.instr.Instr.{Instr}
 use Rattle.a64_table.specs.Table.{word_of, InRange}
 use Rattle.a64_table.proofs.Laws.{decodes}

@@ -7,7 +7,8 @@ use Rattle.run_laws.specs.Runs.{Ended, Moves, Ends, System, Walk, Keeps, InStep,
 use Rattle.run_laws.proofs.Weights.{weigh-append}
 use Rattle.run_laws.proofs.Walks.{Walk-cons, Walk-snoc}
 use Rattle.run_laws.proofs.Agreement.{in_step}
-use Rattle.a64_numbers.specs.Numbers.{add64, sub64, immediate}
+use Rattle.wrapping_numbers.specs.Numbers.{add64, sub64}
+use Rattle.a64_numbers.specs.Operands.{immediate}
 use Rattle.a64_memory.specs.Memory.{covers, lies}
 use Rattle.a64_instr.specs.declared.instr.Instr.{Instr}
 use Rattle.a64_instr.specs.declared.instr.Instr.TheVariants.{AddImm, Bl, Ret, Ldr, Svc}

@@ -1,6 +1,6 @@
 -- What operations in a straight line compute and write.
 use Rattle.std.specs.Prelude.{ℕ, ◌+◌, ◌%◌, ◌^◌, ◌<◌, List, [], ◌∷◌, ◌++◌, slice_index}
-use Rattle.a64_numbers.specs.Numbers.{add64, sub64, mul64, neg64}
+use Rattle.wrapping_numbers.specs.Numbers.{add64, sub64, mul64, neg64}
 use Rattle.out_text.specs.Text.{int_text}
 use Rattle.straight_code.specs.declared.operation.Operation.{Operation}
 use Rattle.straight_code.specs.declared.operation.Operation.TheVariants.{Const, Add, Sub, Mul, Neg, WriteByte, WriteInt}

@@ -1,7 +1,7 @@
 -- The operations of a text write what the text means.
 use Rattle.std.proofs.Common.{◌≡◌, ℕ, zero, suc, ◌+◌, ◌*◌, ◌%◌, ◌^◌, ◌<◌, ◌≤◌, List, [], ◌∷◌, ◌++◌, length, get_or, Option, Some, None, refl, sym, ap, ap₂, ◌∙◌, subst, arith, append_assoc, length-append}
 use Rattle.std.proofs.lemmas.List.{append-nil}
-use Rattle.a64_numbers.specs.Numbers.{add64, sub64, mul64, neg64}
+use Rattle.wrapping_numbers.specs.Numbers.{add64, sub64, mul64, neg64}
 use Rattle.out_text.specs.Text.{int_text}
 use Rattle.first_text.specs.declared.tree.Sign.{Sign}
 use Rattle.first_text.specs.declared.tree.Sign.TheVariants.{Plus, Minus}

@@ -1,5 +1,5 @@
 use Rattle.std.proofs.Common.{refl, sym, ap, ◌∙◌}
-use Rattle.a64_numbers.specs.Numbers.{add64}
+use Rattle.wrapping_numbers.specs.Numbers.{add64}
 use Rattle.a64_memory.specs.Memory.{areas}
 use Rattle.a64_machine.specs.Services.{text_at, writes_text}
 use Rattle.a64_machine.specs.View.{core_state}

@@ -1,9 +1,7 @@
 -- Shifts and turns, by an amount modulo 64.
 use Rattle.std.specs.Prelude.{ℕ, ◌*◌, ◌/◌, ◌%◌, ◌^◌}
 use Rattle.std.specs.Int.{int_shr, rotate_right, w64}
-use Rattle.a64_numbers.specs.Numbers.{signed, unsigned}
-use Rattle.a64_instr.specs.declared.instr.Shift.{Shift}
-use Rattle.a64_instr.specs.declared.instr.Shift.TheVariants.{Lsl, Lsr, Asr}
+use Rattle.wrapping_numbers.specs.Numbers.{signed, unsigned}
 
 -- to the left
 abbrev pub lsl64 : ℕ → ℕ → ℕ
@@ -20,9 +18,3 @@ asr64 a n = unsigned (int_shr (signed a) (n % 64))
 -- turned to the right
 abbrev pub ror64 : ℕ → ℕ → ℕ
 ror64 a n = rotate_right w64 a (n % 64)
-
--- the second operand of the shifted-register rows
-abbrev pub shifted : Shift → ℕ → ℕ → ℕ
-shifted Lsl a n = lsl64 a n
-shifted Lsr a n = lsr64 a n
-shifted Asr a n = asr64 a n

@@ -1,21 +1,21 @@
--- The words of DIV and MOD by a positive divisor: the quotient rounded down, and its remainder.
+-- DIV and MOD by a positive divisor in steps of 64-bit arithmetic: the quotient rounded down, and its remainder.
 use Rattle.std.proofs.Common.{◌≡◌, ℕ, zero, suc, ◌+◌, ◌-◌, ◌*◌, ◌/◌, ◌%◌, ◌^◌, ◌<◌, ◌≤◌, ℤ, pos, negsuc, ◌+ℤ◌, ◌*ℤ◌, SFits, w64, to_z-of_z, le_of_eq, lt_of_le_of_lt, div-add-mod', arith, sym, ap, ap₂, ◌∙◌, ⊎_elim, bit_and, eq-zero-or-pos, mod-eq_of_lt, mul-le-mul_right}
 use Rattle.std.proofs.lemmas.Bool.{cases_lt}
 use Rattle.std.proofs.lemmas.Bool.Decides.{nat_tests}
 use Rattle.std.proofs.lemmas.Int.{ints}
 use Rattle.std.proofs.lemmas.Nat.{and_mask, and_comm, mod_low, div-mul-add, mod-mul-add}
 use Rattle.std.specs.Int.{int_div_euclid, int_rem_euclid}
-use Rattle.a64_numbers.specs.Numbers.{signed, add64, sub64, mul64, sdiv64, msub64}
-use Rattle.a64_numbers.specs.Shifts.{asr64}
-use Rattle.a64_numbers.specs.Division.{div_of, mod_of, div_words, mod_words}
-use Rattle.a64_numbers.proofs.Wrapping.{signed_low}
-use Rattle.a64_numbers.proofs.Amounts.{asr_low, asr_high}
+use Rattle.wrapping_numbers.specs.Numbers.{signed, add64, sub64, mul64, sdiv64, msub64}
+use Rattle.wrapping_numbers.specs.Shifts.{asr64}
+use Rattle.wrapping_numbers.specs.Division.{div_of, mod_of, div_words, mod_words}
+use Rattle.wrapping_numbers.proofs.Wrapping.{signed_low}
+use Rattle.wrapping_numbers.proofs.Amounts.{asr_low, asr_high}
 
--- SDIV of x that is not negative
+-- the quotient toward 0 of x that is not negative
 sdiv_low : (x y : ℕ) → x < 2 ^ 63 → 0 < y → y < 2 ^ 63 → sdiv64 x y ≡ x / y
 sdiv_low x y p q r = grind (arith, nat_tests)
 
--- SDIV of x that is negative
+-- the quotient toward 0 of x that is negative
 sdiv_high : (x y : ℕ) → 2 ^ 63 ≤ x → x < 2 ^ 64 → 0 < y → y < 2 ^ 63 → sdiv64 x y ≡ (2 ^ 64 - (2 ^ 64 - x) / y) % 2 ^ 64
 sdiv_high x y p q r s = grind (arith, nat_tests)
 

@@ -2,19 +2,19 @@
 use Rattle.std.proofs.Common.{◌≡◌, ℕ, ◌-◌, ◌*◌, ◌/◌, ◌%◌, ◌^◌, ◌<◌, ◌≤◌, ℤ, pos, negsuc, SFits, w64, to_z-of_z, arith, ap, lt_of_le_of_lt, mod-eq_of_lt, div-le_self}
 use Rattle.std.proofs.lemmas.Bool.Decides.{nat_tests}
 use Rattle.std.specs.Int.{int_shr, rotate_right}
-use Rattle.a64_numbers.specs.Numbers.{signed, unsigned}
-use Rattle.a64_numbers.specs.Shifts.{lsl64, lsr64, asr64, ror64}
-use Rattle.a64_numbers.proofs.Wrapping.{signed_fits}
+use Rattle.wrapping_numbers.specs.Numbers.{signed, unsigned}
+use Rattle.wrapping_numbers.specs.Shifts.{lsl64, lsr64, asr64, ror64}
+use Rattle.wrapping_numbers.proofs.Wrapping.{signed_fits}
 
 shr_fits : (z : ℤ) (k : ℕ) → SFits w64 z → SFits w64 (int_shr z k)
 shr_fits (pos a) k h = record { sfits = lt_of_le_of_lt (div-le_self a (2 ^ k)) h.sfits }
 shr_fits (negsuc a) k h = record { sfits = lt_of_le_of_lt (div-le_self a (2 ^ k)) h.sfits }
 
--- ASRV reads as the integer divided by a power of two, rounded down
+-- a shift with signs in reads as the integer divided by a power of two, rounded down
 pub signed-asr : (a n : ℕ) → a < 2 ^ 64 → signed (asr64 a n) ≡ int_shr (signed a) (n % 64)
 signed-asr a n p = to_z-of_z (shr_fits (signed a) (n % 64) (signed_fits a p))
 
--- each result is a register
+-- each result is below 2 ^ 64
 pub lsl64_lt : (a n : ℕ) → lsl64 a n < 2 ^ 64
 lsl64_lt a n = omega arith
 
@@ -54,7 +54,7 @@ asr64_is a n p = ap (λ k. unsigned (int_shr (signed a) k)) (mod-eq_of_lt p)
 pub lsl64_zero : (a : ℕ) → a < 2 ^ 64 → lsl64 a 0 ≡ a
 lsl64_zero a p = omega arith
 
--- ASR by 63 gives all ones for a negative number, else 0
+-- by 63, signs in: all ones for a negative number, else 0
 pub asr_low : (a : ℕ) → a < 2 ^ 63 → asr64 a 63 ≡ 0
 asr_low a p = grind (arith, nat_tests)
 

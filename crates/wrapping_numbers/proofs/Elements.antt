@@ -1,12 +1,12 @@
--- Sets as registers: what the words do to their elements.
+-- Sets: what the operations on their numbers do to their elements.
 use Rattle.std.proofs.Common.{◌≡◌, ℕ, ◌-◌, ◌*◌, ◌/◌, ◌%◌, ◌^◌, ◌<◌, ◌≤◌, not, ◌&&◌, ◌||◌, nat_le, ◌==◌, bit_and, bit_or, bit_xor, mod-eq_of_lt, arith, suc, ap, ap₂, ◌∙◌, ⊎_elim, w64, Decides, eqb-true, eq-eqb, pow_mono}
 use Rattle.std.proofs.lemmas.Bool.{cases_lt}
 use Rattle.std.proofs.lemmas.Bool.Decides.{nat_tests}
 use Rattle.std.proofs.lemmas.Nat.{and_le_l, one_shl, pow_pos}
 use Rattle.std.proofs.lemmas.Nat.Bits.{bit_at_and, bit_at_or, bit_at_xor, bit_at-lt, bit_at_not, bit_at-pow_same, bit_at-pow_other, shr_and_one, ones_shl, ones_shr, bit_at_mask_inside, bit_at_mask_below, bit_at_mask_above, bit_at_ones, bit_at_ones_above, same_from_bits_below, bit_at-zero}
 use Rattle.std.specs.Int.{bit_at}
-use Rattle.a64_numbers.specs.Numbers.{not64, sub64, bic64}
-use Rattle.a64_numbers.specs.Sets.{has, bit_words, span_words, has_words, subset, IsSubset}
+use Rattle.wrapping_numbers.specs.Numbers.{not64, sub64, bic64}
+use Rattle.wrapping_numbers.specs.Sets.{has, bit_words, span_words, has_words, subset, IsSubset}
 
 -- union, intersection, complement, difference and symmetric difference, element by element
 pub has-union : (s t x : ℕ) → has (bit_or s t) x ≡ (has s x || has t x)

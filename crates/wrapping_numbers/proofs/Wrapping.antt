@@ -1,9 +1,10 @@
 -- Sums, differences and products of 64 bits against the integers.
-use Rattle.std.proofs.Common.{◌≡◌, ℕ, ◌+◌, ◌-◌, ◌*◌, ◌/◌, ◌%◌, ◌^◌, ◌<◌, ◌≤◌, ℤ, ◌-ℤ◌, ◌+ℤ◌, ◌*ℤ◌, pos, SFits, w64, to_z-of_z, arith, ap, sym, ◌∙◌}
+use Rattle.std.proofs.Common.{◌≡◌, ℕ, ◌+◌, ◌-◌, ◌%◌, ◌^◌, ◌<◌, ◌≤◌, ℤ, ◌-ℤ◌, ◌+ℤ◌, ◌*ℤ◌, pos, SFits, w64, bit_and, to_z-of_z, arith, ap, sym, ◌∙◌}
 use Rattle.std.proofs.lemmas.Bool.Decides.{nat_tests}
+use Rattle.std.proofs.lemmas.Nat.{and_mask}
 use Rattle.std.proofs.lemmas.Int.{wrapping_add-bits, wrapping_sub-bits, wrapping_mul-bits}
 use Rattle.std.specs.Int.{int_wrap}
-use Rattle.a64_numbers.specs.Numbers.{signed, unsigned, add64, sub64, mul64, neg64, not64, madd64}
+use Rattle.wrapping_numbers.specs.Numbers.{signed, unsigned, add64, sub64, mul64, neg64, not64, madd64}
 
 -- the signed reading wraps
 pub signed-add : (a b : ℕ) → a < 2 ^ 64 → b < 2 ^ 64 → signed (add64 a b) ≡ int_wrap w64 (signed a +ℤ signed b)
@@ -15,7 +16,7 @@ signed-sub a b p q = wrapping_sub-bits w64 a b p q
 pub signed-mul : (a b : ℕ) → a < 2 ^ 64 → b < 2 ^ 64 → signed (mul64 a b) ≡ int_wrap w64 (signed a *ℤ signed b)
 signed-mul a b p q = wrapping_mul-bits w64 a b p q
 
--- the reading fits 64 bits, and the register is that of its reading
+-- the reading fits 64 bits, and the number is that of its reading
 pub signed_fits : (a : ℕ) → a < 2 ^ 64 → SFits w64 (signed a)
 signed_fits a p = grind (arith, nat_tests)
 
@@ -31,7 +32,7 @@ same_reading a b p q e = sym (unsigned-signed a p) ∙ ap unsigned e ∙ unsigne
 pub signed_low : (a : ℕ) → a < 2 ^ 63 → signed a ≡ pos a
 signed_low a p = grind (arith, nat_tests)
 
--- each result is a register
+-- each result is below 2 ^ 64
 pub add64_lt : (a b : ℕ) → add64 a b < 2 ^ 64
 add64_lt a b = omega arith
 
@@ -47,7 +48,7 @@ neg64_lt a = omega arith
 pub not64_lt : (a : ℕ) → not64 a < 2 ^ 64
 not64_lt a = omega arith
 
--- MADD and MSUB with XZR, and the negation
+-- nothing added, and the negation
 pub madd_zero : (a b : ℕ) → madd64 a b 0 ≡ mul64 a b
 madd_zero a b = omega arith
 
@@ -79,9 +80,6 @@ add64_plain a b p = omega arith
 pub sub64_plain : (a b : ℕ) → a < 2 ^ 64 → b ≤ a → sub64 a b ≡ a - b
 sub64_plain a b p q = omega arith
 
--- two words add or subtract 24 bits, the upper twelve and the lower twelve
-pub plus_is : (a n : ℕ) → a < 2 ^ 64 → n < 2 ^ 24 → add64 (add64 a (n / 4096 * 2 ^ 12)) (n % 4096) ≡ add64 a n
-plus_is a n p q = omega arith
-
-pub minus_is : (a n : ℕ) → a < 2 ^ 64 → n < 2 ^ 24 → sub64 (sub64 a (n / 4096 * 2 ^ 12)) (n % 4096) ≡ sub64 a n
-minus_is a n p q = omega arith
+-- the lowest bit: whether the number is odd
+pub odd_is : (a : ℕ) → bit_and a 1 ≡ a % 2
+odd_is a = and_mask a 1

@@ -1,0 +1,5 @@
+pub mod Wrapping
+pub mod Amounts
+pub mod Bounds
+pub mod Division
+pub mod Elements
