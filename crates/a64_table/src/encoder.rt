@@ -1,8 +1,8 @@
 //! The word of an instruction.
 
 ghost use Rattle.std.specs.Prelude.{◌≡◌, ℕ, ◌+◌, ◌*◌, ◌<◌, ◌^◌, [], ◌∷◌};
-ghost use Rattle.a64_table.specs.Shifted.{shift_part};
-ghost use Rattle.a64_table.specs.Table.{word_of, filled, ◌is◌, Rd, Rn, Rm, Ra, Imm12, Sh, Imm16, Hw, SelectCond, bit_number, cond_number};
+ghost use Rattle.a64_table.specs.Shifted.{shift_fields};
+ghost use Rattle.a64_table.specs.Table.{word_of, InRange, filled, AllFit, ◌is◌, Rd, Rn, Rm, Ra, Imm12, Sh, Imm16, Hw, SelectCond, bit_number, cond_number};
 
 use a64_instr::Instr::*;
 use a64_instr::{Bits, Cond, Instr, Reg};
@@ -11,6 +11,7 @@ use a64_instr::{Bits, Cond, Instr, Reg};
 pub fn encode(instr: &Instr) -> u32
     ensures word { result ≡ word_of instr.now }
     ensures below { word_of instr.now < 2 ^ 32 }
+    ensures in_range { InRange instr.now }
 {
     match *instr {
         AddImm { rd, rn, imm, high } => 0x9100_0000 + immediate(rd, rn, imm, high),
@@ -64,6 +65,7 @@ pub fn encode(instr: &Instr) -> u32
 /// Two registers, 12 bits, and whether they count 4096s.
 fn immediate(rd: Reg, rn: Reg, imm: Bits<12>, high: bool) -> u32
     ensures fields { result ≡ filled ((Rd is rd) ∷ (Rn is rn) ∷ (Imm12 is imm) ∷ (Sh is bit_number high) ∷ []) }
+    ensures fit { AllFit ((Rd is rd) ∷ (Rn is rn) ∷ (Imm12 is imm) ∷ (Sh is bit_number high) ∷ []) }
     ensures below { result < 2 ^ 23 }
 {
     rd.get() + (rn.get() << 5) + (imm.get() << 10) + ((high as u32) << 22)
@@ -72,6 +74,7 @@ fn immediate(rd: Reg, rn: Reg, imm: Bits<12>, high: bool) -> u32
 /// A register, 16 bits, and which half word they are.
 fn wide(rd: Reg, imm: Bits<16>, half: Bits<2>) -> u32
     ensures fields { result ≡ filled ((Rd is rd) ∷ (Imm16 is imm) ∷ (Hw is half) ∷ []) }
+    ensures fit { AllFit ((Rd is rd) ∷ (Imm16 is imm) ∷ (Hw is half) ∷ []) }
     ensures below { result < 2 ^ 23 }
 {
     rd.get() + (imm.get() << 5) + (half.get() << 21)
@@ -80,6 +83,7 @@ fn wide(rd: Reg, imm: Bits<16>, half: Bits<2>) -> u32
 /// Three registers.
 fn registers(rd: Reg, rn: Reg, rm: Reg) -> u32
     ensures fields { result ≡ filled ((Rd is rd) ∷ (Rn is rn) ∷ (Rm is rm) ∷ []) }
+    ensures fit { AllFit ((Rd is rd) ∷ (Rn is rn) ∷ (Rm is rm) ∷ []) }
     ensures below { result < 2 ^ 21 }
 {
     rd.get() + (rn.get() << 5) + (rm.get() << 16)
@@ -87,7 +91,8 @@ fn registers(rd: Reg, rn: Reg, rm: Reg) -> u32
 
 /// How and by how much the row's second operand is shifted; 0 where the row doesn't say.
 fn shift_fields(instr: &Instr) -> u32
-    ensures fields { result ≡ shift_part instr.now }
+    ensures fields { result ≡ filled (shift_fields instr.now) }
+    ensures fit { AllFit (shift_fields instr.now) }
     ensures below { result < 2 ^ 24 }
 {
     match *instr {
@@ -107,6 +112,7 @@ fn shift_fields(instr: &Instr) -> u32
 /// Three registers, and the condition that chooses.
 fn select(rd: Reg, rn: Reg, rm: Reg, cond: Cond) -> u32
     ensures fields { result ≡ filled ((Rd is rd) ∷ (Rn is rn) ∷ (SelectCond is cond_number cond) ∷ (Rm is rm) ∷ []) }
+    ensures fit { AllFit ((Rd is rd) ∷ (Rn is rn) ∷ (SelectCond is cond_number cond) ∷ (Rm is rm) ∷ []) }
     ensures below { result < 2 ^ 21 }
 {
     registers(rd, rn, rm) + ((cond as u32) << 12)

@@ -1,9 +1,13 @@
 //! The laws of the table, as clauses of functions that do nothing.
 
-ghost use Rattle.std.specs.Prelude.{◌≡◌, ℕ, ◌<◌, ◌^◌, ◌↔◌, IfSome};
+ghost use Rattle.std.specs.Prelude.{◌≡◌, ℕ, ◌<◌, ◌^◌, ◌↔◌, Some, IfSome};
 ghost use Rattle.a64_table.specs.Table.{word_of, InRange};
 ghost use Rattle.a64_table.specs.Decode.{decode_of};
 ghost use Rattle.a64_instr.specs.declared.instr.Instr.{Instr};
+
+use crate::decoder::decode;
+use crate::encoder::encode;
+use a64_instr::Instr;
 
 /// What a word stands for has fields in range, and its word is that word.
 #[tactic(auto, using(crate::proofs::Laws::again))]
@@ -22,3 +26,10 @@ pub fn word_stands_for_its_instruction()
 pub fn other_words_stand_for_nothing()
     ensures { (w : ℕ) → (decode_of w ≡ None) ↔ ((i : Instr) → InRange i → word_of i ≡ w → ⊥) }
 {}
+
+/// The word of an instruction stands for that instruction, whichever it is: each value has its fields in range.
+pub fn encoded_instruction_is_decoded(instr: &Instr) -> Option<Instr>
+    ensures { result ≡ Some instr.now }
+{
+    decode(encode(instr))
+}
