@@ -27,8 +27,11 @@ pub record Procedure : Type 0 where
 abbrev pub no_block : CodeBlock
 no_block = record { params = []; ops = []; end = Return None }
 
+abbrev pub block_at : List CodeBlock → ℕ → CodeBlock
+block_at bls b = slice_index_or bls b no_block
+
 abbrev pub block_of : Procedure → ℕ → CodeBlock
-block_of p b = slice_index_or p.blocks b no_block
+block_of p b = block_at p.blocks b
 
 abbrev pub no_procedure : Procedure
 no_procedure = record { blocks = []; counted = false; cells = 0; bytes = 0 }

@@ -1,16 +1,14 @@
 -- What each operation does with the numbers that it reads.
-use Rattle.std.specs.Prelude.{ℕ, zero, suc, ◌+◌, ◌-◌, ◌*◌, ◌%◌, ◌^◌, ◌==◌, nat_lt, List, [], ◌∷◌, drop, slice_index, slice_get, slice_index_or, Bool, cond, not, Option, Some, None, if◌then◌else◌, bit_and, bit_or, bit_xor, int_lt, pos}
+use Rattle.std.specs.Prelude.{ℕ, zero, suc, ◌+◌, ◌-◌, ◌*◌, ◌%◌, ◌^◌, ◌==◌, nat_lt, nat_le, List, [], ◌∷◌, drop, slice_index, slice_get, slice_index_or, Bool, cond, not, Option, Some, None, if◌then◌else◌, bit_and, bit_or, bit_xor, int_lt, pos}
 use Rattle.out_text.specs.Text.{int_text}
-use Rattle.a64_numbers.specs.Numbers.{signed, add64, sub64, neg64, not64, bic64, mul64, madd64}
-use Rattle.a64_numbers.specs.Shifts.{lsl64, asr64, ror64}
-use Rattle.a64_numbers.specs.Sets.{bit_words, span_words, has_words}
-use Rattle.a64_numbers.specs.Division.{div_words, mod_words}
-use Rattle.a64_numbers.specs.Conditions.{compares}
-use Rattle.a64_table.specs.Decode.{cond_of}
-use Rattle.a64_instr.specs.declared.instr.Cond.TheVariants.{Lo, Ls, Gt}
+use Rattle.wrapping_numbers.specs.Numbers.{signed, add64, sub64, neg64, not64, bic64, mul64, madd64}
+use Rattle.wrapping_numbers.specs.Shifts.{lsl64, asr64, ror64}
+use Rattle.wrapping_numbers.specs.Sets.{bit_words, span_words, has_words}
+use Rattle.wrapping_numbers.specs.Division.{div_words, mod_words}
+use Rattle.block_runs.specs.Compares.{compares}
 use Rattle.a64_memory.specs.Memory.{Area, load1, load8, store1, store8}
-use Rattle.a64_machine.specs.Machine.{data_base}
-use Rattle.a64_machine.specs.Services.{Text, Bytes, Outside, text_at}
+use Rattle.block_runs.specs.First.{data_base}
+use Rattle.block_runs.specs.Texts.{Text, Bytes, Outside, text_at}
 use Rattle.block_runs.specs.declared.code.Code.{Code}
 use Rattle.block_runs.specs.declared.code.Code.TheVariants.{Const, Global, Local, Plus, Arg, Load, Store, LoadByte, StoreByte, Add, Sub, And, Or, Eor, Bic, Lsl, Asr, Ror, Mul, MulAdd, Neg, Not, Abs, Max0, Odd, Set, Flip, Bit, Span, Has, Div, Mod, Below, Fits, Byte, Elem, NotNil, True, IsPtr, IsTag, GuardPtr, GuardTag, New, Call, CallAt, Copy, Zero, Compare, Svc}
 use Rattle.block_runs.specs.declared.code.Code.TheVariants.{Code as CodeOf}
@@ -109,17 +107,17 @@ effect code n args w Not a b c d xs = Gives (not64 a)
 effect code n args w Abs a b c d xs = Gives (cond (int_lt (signed a) (pos 0)) (neg64 a) a)
 effect code n args w Max0 a b c d xs = Gives (cond (int_lt (signed a) (pos 0)) 0 a)
 effect code n args w Odd a b c d xs = Gives (a % 2)
-effect code n args w (Set k) a b c d xs = Gives (truth (compares (cond_of k) a b))
+effect code n args w (Set k) a b c d xs = Gives (truth (compares k a b))
 effect code n args w Flip a b c d xs = Gives (truth (a == 0))
 effect code n args w Bit a b c d xs = Gives (bit_words a)
 effect code n args w Span a b c d xs = Gives (span_words a b)
 effect code n args w Has a b c d xs = Gives (has_words a b)
-effect code n args w Div a b c d xs = if compares Gt b 0 then Gives (div_words a b) else Fails 4
-effect code n args w Mod a b c d xs = if compares Gt b 0 then Gives (mod_words a b) else Fails 4
-effect code n args w Below a b c d xs = unless (compares Lo a b) 1
-effect code n args w Fits a b c d xs = unless (compares Ls a b) 12
-effect code n args w Byte a b c d xs = unless (compares Ls a 255) 11
-effect code n args w Elem a b c d xs = unless (compares Ls a 63) 7
+effect code n args w Div a b c d xs = if int_lt (pos 0) (signed b) then Gives (div_words a b) else Fails 4
+effect code n args w Mod a b c d xs = if int_lt (pos 0) (signed b) then Gives (mod_words a b) else Fails 4
+effect code n args w Below a b c d xs = unless (nat_lt a b) 1
+effect code n args w Fits a b c d xs = unless (nat_le a b) 12
+effect code n args w Byte a b c d xs = unless (nat_le a 255) 11
+effect code n args w Elem a b c d xs = unless (nat_le a 63) 7
 effect code n args w NotNil a b c d xs = unless (not (a == 0)) 2
 effect code n args w True a b c d xs = unless (not (a == 0)) 5
 effect code n args w (IsPtr j) a b c d xs = if a == 0 then Gives (truth (0 == b)) else given_at a (load8 w.memory a) (λ tag. level w.memory j tag (λ t. Gives (truth (t == b))))

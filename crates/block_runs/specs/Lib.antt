@@ -1,6 +1,10 @@
 pub mod Blocks
 pub mod States
+pub mod First
+pub mod Compares
+pub mod Texts
 pub mod Effects
 pub mod Steps
 pub mod Points
-pub mod First
+pub mod Live
+pub mod Valid

@@ -1,9 +1,8 @@
 -- The steps of code in blocks.
 use Rattle.std.specs.Prelude.{ℕ, suc, ◌+◌, ◌-◌, ◌==◌, ◌&&◌, nat_lt, nat_le, List, [], ◌∷◌, map, drop, length, slice_get, Bool, Option, Some, None, option_map, if◌then◌else◌}
 use Rattle.run_laws.specs.Runs.{Step, Moves, Ends, Traps, System}
-use Rattle.a64_numbers.specs.Numbers.{add64, sub64}
-use Rattle.a64_numbers.specs.Conditions.{compares}
-use Rattle.a64_table.specs.Decode.{cond_of}
+use Rattle.wrapping_numbers.specs.Numbers.{add64, sub64}
+use Rattle.block_runs.specs.Compares.{compares}
 use Rattle.a64_memory.specs.Memory.{Area, load1, load8, store1, store8}
 use Rattle.block_runs.specs.declared.end.End.{End}
 use Rattle.block_runs.specs.declared.end.End.TheVariants.{Jump, Branch, Nonzero, Return, Trap}
@@ -106,7 +105,7 @@ operate ps op f fs w (Faults at) = Traps (Fault at)
 
 abbrev pub leave : List Procedure → End → Frame → List Frame → World → Step State Stop
 leave ps (Jump to args) f fs w = Moves [] (Runs (at_block f to (set_all (block_of (procedure_of ps f.proc) to).params (map f.values args) f.values)) fs w)
-leave ps (Branch cond a b one other) f fs w = Moves [] (Runs (at_block f (if compares (cond_of cond) (f.values a) (f.values b) then one else other) f.values) fs w)
+leave ps (Branch cond a b one other) f fs w = Moves [] (Runs (at_block f (if compares cond (f.values a) (f.values b) then one else other) f.values) fs w)
 leave ps (Nonzero a one other) f fs w = Moves [] (Runs (at_block f (if f.values a == 0 then other else one) f.values) fs w)
 leave ps (Return a) f fs w = goes_back ps fs (freed (procedure_of ps f.proc) w) (option_map f.values a)
 leave ps (Trap kind) f fs w = Traps (Kind kind f.proc)
