@@ -45,15 +45,15 @@ module _ {code : List ℕ} (place : ℕ) {i : Instr} (stands : Stands code place
 
   -- one step on
   pub walks-one : {bytes : List ℕ} {t : State} → effect i s ≡ Moves bytes t → Walks code s (place ∷ []) bytes t
-  walks-one {bytes} {t} e = record { walk = (t, bytes, [], point-at, step-at ∙ e, sym (append-nil bytes), (refl, refl)) }
+  walks-one {bytes} {t} e = record { walk = record { after = t; now = bytes; later = []; here = point-at; moves = step-at ∙ e; wrote = sym (append-nil bytes); more = (refl, refl) } }
 
   -- one step that writes nothing, before a walk
   pub walks-on : {places bytes : List ℕ} {t u : State} → effect i s ≡ Moves [] t → Walks code t places bytes u → Walks code s (place ∷ places) bytes u
-  walks-on {places} {bytes} {t} {u} e more = record { walk = (t, [], bytes, point-at, step-at ∙ e, refl, more.walk) }
+  walks-on {places} {bytes} {t} {u} e more = record { walk = record { after = t; now = []; later = bytes; here = point-at; moves = step-at ∙ e; wrote = refl; more = more.walk } }
 
   -- one step that writes, before a walk
   pub walks-writing : {places now bytes : List ℕ} {t u : State} → effect i s ≡ Moves now t → Walks code t places bytes u → Walks code s (place ∷ places) (now ++ bytes) u
-  walks-writing {places} {now} {bytes} {t} {u} e more = record { walk = (t, now, bytes, point-at, step-at ∙ e, refl, more.walk) }
+  walks-writing {places} {now} {bytes} {t} {u} e more = record { walk = record { after = t; now = now; later = bytes; here = point-at; moves = step-at ∙ e; wrote = refl; more = more.walk } }
 
 -- a walk that ends at a state that is the wanted one
 pub walks-is : {code places bytes : List ℕ} {s t u : State} → t ≡ u → Walks code s places bytes t → Walks code s places bytes u
@@ -69,7 +69,7 @@ walks-append {code} {ps} {qs} {v} {w} {s} {t} {u} a b = record { walk = joined p
   where
     joined : (ps : List ℕ) (s : State) (v : List ℕ) → Walk (system_of code) s ps v t → Walk (system_of code) s (ps ++ qs) (v ++ w) u
     joined [] s v a = subst (λ x. Walk (system_of code) s qs x u) (ap (λ x. x ++ w) (sym a.1)) (subst (λ x. Walk (system_of code) x qs w u) a.0 b.walk)
-    joined (p ∷ ps) s v a = (a.0, a.1, a.2 ++ w, a.3, a.4, ap (λ x. x ++ w) a.5 ∙ append_assoc a.1 a.2 w, joined ps a.0 a.2 a.6)
+    joined (p ∷ ps) s v a = record { after = a.after; now = a.now; later = a.later ++ w; here = a.here; moves = a.moves; wrote = ap (λ x. x ++ w) a.wrote ∙ append_assoc a.now a.later w; more = joined ps a.after a.later a.more }
 
 -- instructions stand one after the other in the code from a place on
 pub record StandsAll (code : List ℕ) (place : ℕ) (instrs : List Instr) : Type 0 where

@@ -13,82 +13,81 @@ module _ {S T P U : Type 0} (y : System S T P) (all : List P) (same : U → T �
       let z = h.2 in
       (omega (arith, z), λ i out. let e : j + i ≡ i = omega (arith, z) in ap (λ n. run y.step n s out) e ∙ ap (λ x. run y.step i x out) (sym h.0) ∙ ap (run y.step i t) (sym (append-nil out) ∙ ap (λ x. out ++ x) (sym h.1)))
   run-Passes (suc k) j s w t h =
-      let ps = h.0 in
-      let r = run-Passes k h.4 h.1 h.3 t h.9 in
-      let l = Within-length all ps h.5 in
+      let ps = h.points in
+      let r = run-Passes k h.rest h.after h.later t h.more in
+      let l = Within-length all ps h.within in
       let bound = r.0 in
-      let size = h.8 in
+      let size = h.weight in
       let n = weigh-length ps in
       let e : suc k * length all ≡ length all + k * length all = omega arith in (
         omega (arith, l, bound, e, size, n),
         λ i out.
-            let a : j + i ≡ length ps + (h.4 + i) = omega (arith, size, n) in
+            let a : j + i ≡ length ps + (h.rest + i) = omega (arith, size, n) in
             ap (λ x. run y.step x s out) a
-            ∙ run-Walk y ps s h.2 h.1 h.6 (h.4 + i) out
-            ∙ r.1 i (out ++ h.2)
-            ∙ ap (run y.step i t) (append_assoc out h.2 h.3 ∙ ap (λ x. out ++ x) (sym h.7)),
+            ∙ run-Walk y ps s h.now h.after h.walk (h.rest + i) out
+            ∙ r.1 i (out ++ h.now)
+            ∙ ap (run y.step i t) (append_assoc out h.now h.later ∙ ap (λ x. out ++ x) (sym h.wrote)),
       )
 
-  -- a halt after k stretches comes within (k + 1) times all points
-  pub run-Halts : (k : ℕ) (s : S) (w : List ℕ) (halt : Step S T) → IsOver (halted halt w) → Halts y (λ _. 1) all k s w halt → (j : ℕ) × (j ≤ (k + 1) * length all) × (run y.step j s [] ≡ halted halt w)
-  run-Halts k s w halt over h =
-      let ps = h.2 in
-      let r = run-Passes k h.5 s h.3 h.0 h.6 in
+  -- a halt after at most n stretches comes within (n + 1) times all points
+  pub run-Halts : (n : ℕ) (s : S) (w : List ℕ) (halt : Step S T) → IsOver (halted halt w) → Halts y (λ _. 1) all n s w halt → (j : ℕ) × (j ≤ (n + 1) * length all) × (run y.step j s [] ≡ halted halt w)
+  run-Halts n s w halt over h =
+      let ps = h.points in
+      let most = h.most in
+      let r = run-Passes h.moments h.weight s h.before h.mid h.passes in
       let bound = r.0 in
-      let l = Within-length all (ps ++ y.at h.1 ∷ []) h.7 in
-      let n : length (ps ++ y.at h.1 ∷ []) ≡ length ps + 1 = omega (arith, length-append ps (y.at h.1 ∷ [])) in
-      let size : (k + 1) * length all ≡ k * length all + length all = omega arith in (
-        h.5 + (length ps + 1),
-        omega (arith, bound, l, n, size),
+      let l = Within-length all (ps ++ y.at h.stop ∷ []) h.within in
+      let more : length (ps ++ y.at h.stop ∷ []) ≡ length ps + 1 = omega (arith, length-append ps (y.at h.stop ∷ [])) in
+      let size : (h.moments + 1) * length all ≡ h.moments * length all + length all = omega arith in
+      let grow : (h.moments + 1) * length all ≤ (n + 1) * length all = mul-le-mul_right (length all) (omega (arith, most)) in (
+        h.weight + (length ps + 1),
+        omega (arith, bound, l, more, size, grow),
         r.1 (length ps + 1) []
-            ∙ run-Walk y ps h.0 h.4 h.1 h.8 1 h.3
-            ∙ ap (run y.step 1 h.1) (sym h.10)
-            ∙ ap (λ x. act x (run y.step zero) w) h.9
+            ∙ run-Walk y ps h.mid h.last h.stop h.walk 1 h.before
+            ∙ ap (run y.step 1 h.stop) (sym h.wrote)
+            ∙ ap (λ x. act x (run y.step zero) w) h.halts
             ∙ act-halted halt (run y.step zero) w over,
       )
 
-  halts_in : (n k : ℕ) → k ≤ n → (s : S) (w : List ℕ) (halt : Step S T) → IsOver (halted halt w) → Halts y (λ _. 1) all k s w halt → run y.step ((n + 1) * length all) s [] ≡ halted halt w
-  halts_in n k le s w halt over h =
-      let r = run-Halts k s w halt over h in
-      let bound = r.1 in
-      let more : k + 1 ≤ n + 1 = omega (arith, le) in
-      let grow : (k + 1) * length all ≤ (n + 1) * length all = mul-le-mul_right (length all) more in
-      run-longer_to y.step r.0 ((n + 1) * length all) s [] (omega (arith, bound, grow)) (subst IsOver (sym r.2) over) ∙ r.2
+  halts_in : (n : ℕ) (s : S) (w : List ℕ) (halt : Step S T) → IsOver (halted halt w) → Halts y (λ _. 1) all n s w halt → run y.step ((n + 1) * length all) s [] ≡ halted halt w
+  halts_in n s w halt over h =
+      let r = run-Halts n s w halt over h in
+      run-longer_to y.step r.0 ((n + 1) * length all) s [] r.1 (subst IsOver (sym r.2) over) ∙ r.2
 
   steps_enough : (n : ℕ) (s : S) (o : Outcome U) → Keeps y (λ _. 1) all same s n o → Counterpart same o (run y.step ((n + 1) * length all) s [])
-  steps_enough n s (Ended out) h = halts_in n h.0 h.1 s out Ends tt h.2
-  steps_enough n s (Trapped trap out) h = (h.2, h.3, halts_in n h.0 h.1 s out (Traps h.2) tt h.4)
+  steps_enough n s (Ended out) h = halts_in n s out Ends tt h
+  steps_enough n s (Trapped trap out) h = (h.0, h.1, halts_in n s out (Traps h.0) tt h.2)
   steps_enough n s (Going out) h =
-      let r = run-Passes (suc n) h.1 s out h.0 h.3 in
+      let r = run-Passes (suc n) h.weight s out h.after h.passes in
       let bound = r.0 in
       let size : (n + 1) * length all ≡ suc n * length all = omega arith in
-      let i = (n + 1) * length all - h.1 in
-      let e : (n + 1) * length all ≡ h.1 + i = omega (arith, bound, size) in
-      let x = run-extends y.step i h.0 out in
+      let i = (n + 1) * length all - h.weight in
+      let e : (n + 1) * length all ≡ h.weight + i = omega (arith, bound, size) in
+      let x = run-extends y.step i h.after out in
       (x.0, ap (λ k. output (run y.step k s [])) e ∙ ap output (r.1 i []) ∙ x.1)
 
   turns_enough : (m : ℕ) (s : S) (o : Outcome U) → Keeps y (λ _. 1) all same s (turns_a_step * m + turns_a_step) o → IsOver (run y.step m s []) → IsOver o × Counterpart same o (run y.step m s [])
   turns_enough m s (Ended out) h over =
-      let r = run-Halts h.0 s out Ends tt h.2 in
+      let r = run-Halts (turns_a_step * m + turns_a_step) s out Ends tt h in
       (tt, run-one_end y.step m r.0 s [] over (subst IsOver (sym r.2) tt) ∙ r.2)
   turns_enough m s (Trapped trap out) h over =
-      let r = run-Halts h.0 s out (Traps h.2) tt h.4 in
-      (tt, (h.2, h.3, run-one_end y.step m r.0 s [] over (subst IsOver (sym r.2) tt) ∙ r.2))
+      let r = run-Halts (turns_a_step * m + turns_a_step) s out (Traps h.0) tt h.2 in
+      (tt, (h.0, h.1, run-one_end y.step m r.0 s [] over (subst IsOver (sym r.2) tt) ∙ r.2))
   turns_enough m s (Going out) h over =
-      let r = run-Passes (suc (turns_a_step * m + turns_a_step)) h.1 s out h.0 h.3 in
-      let pace = h.2 in
-      let same_end = run-longer_to y.step m h.1 s [] (omega (arith, pace)) over in
-      let e : h.1 ≡ h.1 + 0 = omega arith in
+      let r = run-Passes (suc (turns_a_step * m + turns_a_step)) h.weight s out h.after h.passes in
+      let pace = h.pace in
+      let same_end = run-longer_to y.step m h.weight s [] (omega (arith, pace)) over in
+      let e : h.weight ≡ h.weight + 0 = omega arith in
       absurd (subst IsOver (sym same_end ∙ ap (λ k. run y.step k s []) e ∙ r.1 0 []) over)
 
   turns_prefix : (m : ℕ) (s : S) (o : Outcome U) → Keeps y (λ _. 1) all same s (turns_a_step * m + turns_a_step) o → StartsWith (output o) (output (run y.step m s []))
-  turns_prefix m s (Ended out) h = let r = run-Halts h.0 s out Ends tt h.2 in run-prefix y.step m r.0 s (Ended out) tt r.2
-  turns_prefix m s (Trapped trap out) h = let r = run-Halts h.0 s out (Traps h.2) tt h.4 in run-prefix y.step m r.0 s (Trapped h.2 out) tt r.2
+  turns_prefix m s (Ended out) h = let r = run-Halts (turns_a_step * m + turns_a_step) s out Ends tt h in run-prefix y.step m r.0 s (Ended out) tt r.2
+  turns_prefix m s (Trapped trap out) h = let r = run-Halts (turns_a_step * m + turns_a_step) s out (Traps h.0) tt h.2 in run-prefix y.step m r.0 s (Trapped h.0 out) tt r.2
   turns_prefix m s (Going out) h =
-      let r = run-Passes (suc (turns_a_step * m + turns_a_step)) h.1 s out h.0 h.3 in
-      let pace = h.2 in
-      let x = run-grows y.step m h.1 s [] (omega (arith, pace)) in
-      let z : h.1 ≡ h.1 + 0 = omega arith in
+      let r = run-Passes (suc (turns_a_step * m + turns_a_step)) h.weight s out h.after h.passes in
+      let pace = h.pace in
+      let x = run-grows y.step m h.weight s [] (omega (arith, pace)) in
+      let z : h.weight ≡ h.weight + 0 = omega arith in
       (x.0, sym (ap (λ k. output (run y.step k s [])) z ∙ ap output (r.1 0 [])) ∙ x.1)
 
   -- what keeps up with a meaning for every number of turns is in step with it

@@ -1,17 +1,17 @@
 -- What comes after a part of a meaning: the system stands where the part's value says, or has halted, or its turns are used up.
-use Rattle.std.proofs.Common.{◌≡◌, ℕ, zero, suc, ◌*◌, ◌<◌, ◌≤◌, List, Bool, true, false, refl, subst, ◌+◌, arith}
+use Rattle.std.proofs.Common.{◌≡◌, ℕ, zero, suc, ◌<◌, ◌≤◌, List, Bool, true, false, refl, subst, ◌+◌, arith}
 use Rattle.std.specs.Prelude.{if◌then◌else◌, MatchBool}
-use Rattle.run_laws.specs.Runs.{Traps, weigh, System, Passes, Halts, Keeps, turns_a_step}
+use Rattle.run_laws.specs.Runs.{Trapped, Going, Traps, weigh, System, Keeps}
 use Rattle.run_laws.specs.Runs.{Ends as Stops}
 use Rattle.run_laws.specs.Turns.{State, Ending, Gives, Fails, Spent, after, ◌>>=◌, give, spend, spend_of, repeat, each_so, outcome}
 use Rattle.run_laws.proofs.Reached.{Reached, moment, spent, halts}
 
-module _ {S T P C U : Type 0} (y : System S T P) (least : P → ℕ) (all : List P) (s0 : S) (n0 : ℕ) (same : U → T → Type 0) where
-  -- what Good says where there is a value; else what the system did from its start to its end
+module _ {S T P C U : Type 0} (sense : U → Type 0) (y : System S T P) (least : P → ℕ) (all : List P) (s0 : S) (n0 : ℕ) (same : U → T → Type 0) where
+  -- what Good says where there is a value; else what the system did from its start to its end, of a trap only where it makes sense
   abbrev pub Came : {A : Type 0} → Ending C U A → (A → State C → Type 0) → Type 0
   Came (Gives a s) Good = Good a s
-  Came (Fails trap out) Good = (k : ℕ) × (k ≤ n0) × (mine : T) × same trap mine × Halts y least all k s0 out (Traps mine)
-  Came (Spent out) Good = (t : S) × (j : ℕ) × (suc n0 ≤ turns_a_step * j) × Passes y least all (suc n0) j s0 out t
+  Came (Fails trap out) Good = sense trap → Keeps y least all same s0 n0 (Trapped trap out)
+  Came (Spent out) Good = Keeps y least all same s0 n0 (Going out)
 
   -- the same as a record, so that the ending and Good are found from it
   pub record Comes {A : Type 0} (e : Ending C U A) (Good : A → State C → Type 0) : Type 0 where
@@ -32,16 +32,15 @@ module _ {S T P C U : Type 0} (y : System S T P) (least : P → ℕ) (all : List
   -- a trap of the meaning, where the system's next step is the same trap
   pub comes_trap : {A : Type 0} {Good : A → State C → Type 0} {m g left : ℕ} {out : List ℕ} {s : S} {free : (P → ℕ) → ℕ} (trap : U) (mine : T) → Reached y least all s0 n0 m g left out s free → y.step s ≡ Traps mine → same trap mine → ((h : P → ℕ) → h (y.at s) ≤ free h) → Comes {A = A} (Fails trap out) Good
   comes_trap trap mine r step is fits =
-      let h = halts y least all s0 n0 (Traps mine) r step fits in
-      record { by = (h.0, h.1, mine, is, h.2) }
+      record { by = λ _. (mine, is, halts y least all s0 n0 (Traps mine) r step fits) }
 
   -- a moment with no turn left
-  pub comes_spent : {A : Type 0} {Good : A → State C → Type 0} {m left : ℕ} {out : List ℕ} {s : S} {free : (P → ℕ) → ℕ} → Reached y least all s0 n0 m 1 left out s free → left ≡ 0 → Comes {A = A} (Spent out) Good
+  pub comes_spent : {A : Type 0} {Good : A → State C → Type 0} {m g left : ℕ} {out : List ℕ} {s : S} {free : (P → ℕ) → ℕ} → Reached y least all s0 n0 m (suc g) left out s free → left ≡ 0 → Comes {A = A} (Spent out) Good
   comes_spent r none = record { by = spent y least all s0 n0 r none }
 
-  -- a moment: with a turn left, one less and all points free again
-  pub comes_spend : {B : Type 0} {Next : B → State C → Type 0} {m : ℕ} {s : S} {free : (P → ℕ) → ℕ} (st : State C) (f : Unit {0} → State C → Ending C U B) (rest : (P → ℕ) → ℕ) → Reached y least all s0 n0 m 1 st.turns st.out s free → ((h : P → ℕ) → rest h ≤ weigh h all) → ((n : ℕ) → st.turns ≡ suc n → Reached y least all s0 n0 n 0 n st.out s rest → Comes (f tt (record st { turns = n })) Next) → Comes (after (spend st) f) Next
-  comes_spend {B} {Next} {m} {s} {free} st f rest r fits go = by_turns st.turns refl
+  -- a moment: with a turn left, one less and all points free again; what was paid beyond it stays paid
+  pub comes_spend : {B : Type 0} {Next : B → State C → Type 0} {m g : ℕ} {s : S} {free : (P → ℕ) → ℕ} (st : State C) (f : Unit {0} → State C → Ending C U B) (rest : (P → ℕ) → ℕ) → Reached y least all s0 n0 m (suc g) st.turns st.out s free → ((h : P → ℕ) → rest h ≤ weigh h all) → ((n : ℕ) → st.turns ≡ suc n → Reached y least all s0 n0 n g n st.out s rest → Comes (f tt (record st { turns = n })) Next) → Comes (after (spend st) f) Next
+  comes_spend {B} {Next} {m} {g} {s} {free} st f rest r fits go = by_turns st.turns refl
     where
       by_turns : (k : ℕ) → st.turns ≡ k → Comes (after (spend_of k st) f) Next
       by_turns zero is = comes_spent r is
@@ -49,9 +48,10 @@ module _ {S T P C U : Type 0} (y : System S T P) (least : P → ℕ) (all : List
 
   -- the system stands before a moment
   pub record Open (m : ℕ) (st : State C) : Type 0 where
+    pub gain : ℕ
     pub place : S
     pub free : (P → ℕ) → ℕ
-    pub reached : Reached y least all s0 n0 m 1 st.turns st.out place free
+    pub reached : Reached y least all s0 n0 m (suc gain) st.turns st.out place free
 
   -- rounds, a turn each: Head holds before each round's moment, and Done behind the last round
   module _ (round : State C → Ending C U Bool) (most : ℕ) (Head : ℕ → State C → Type 0) (Done : Unit {0} → State C → Type 0)
@@ -110,7 +110,17 @@ module _ {S T P C U : Type 0} (y : System S T P) (least : P → ℕ) (all : List
     pub stops : y.step place ≡ Stops
     pub fits : (h : P → ℕ) → h (y.at place) ≤ free h
 
-  pub keeps_comes : {A : Type 0} (e : Ending C U A) → Comes e (Stopped A) → Keeps y least all same s0 n0 (outcome e)
-  keeps_comes (Gives a st) c = halts y least all s0 n0 Stops c.by.reached c.by.stops c.by.fits
-  keeps_comes (Fails trap out) c = c.by
-  keeps_comes (Spent out) c = c.by
+  -- of a trap without sense nothing is said
+  pub comes_senseless : {A : Type 0} {Good : A → State C → Type 0} (trap : U) (out : List ℕ) → (sense trap → ⊥) → Comes {A = A} (Fails trap out) Good
+  comes_senseless trap out none = record { by = λ s. absurd (none s) }
+
+  -- the ending is no trap without sense
+  abbrev pub MakesSense : {A : Type 0} → Ending C U A → Type 0
+  MakesSense (Fails trap out) = sense trap
+  MakesSense _ = Unit {0}
+
+  -- the whole meaning
+  pub keeps_comes : {A : Type 0} (e : Ending C U A) → MakesSense e → Comes e (Stopped A) → Keeps y least all same s0 n0 (outcome e)
+  keeps_comes (Gives a st) m c = halts y least all s0 n0 Stops c.by.reached c.by.stops c.by.fits
+  keeps_comes (Fails trap out) m c = c.by m
+  keeps_comes (Spent out) m c = c.by

@@ -2,7 +2,7 @@
 use Rattle.std.proofs.Common.{◌≡◌, ℕ, zero, suc, ◌+◌, List, [], ◌∷◌, ◌++◌, length, map, refl, sym, ap, ◌∙◌, subst, arith, append_assoc}
 use Rattle.std.specs.Prelude.{flat_map}
 use Rattle.run_laws.specs.Runs.{Step, Moves, Ends, Traps, weigh, Within, System, Walk, Passes}
-use Rattle.run_laws.specs.Layers.{CarriesStep, CarriesBy, Stays, Through, Where, Either, Left, Right, of_both, by_kind, places_from, InRow}
+use Rattle.run_laws.specs.Layers.{CarriesMove, CarriesHalt, CarriesStep, CarriesBy, Stays, Through, Where, Either, Left, Right, of_both, by_kind, places_from, InRow}
 use Rattle.run_laws.proofs.Weights.{weigh-append, weigh-map, weigh-flat_map}
 use Rattle.run_laws.proofs.Walks.{Walk-one, Walk-append}
 use Rattle.run_laws.proofs.Lowering.{Walk-down}
@@ -15,9 +15,9 @@ carries_self {S} {T} {P} y least = record { each = λ s a sim. subst (λ t. Carr
     Carried s a step = CarriesStep y least least (λ p. p ∷ []) (λ (s t : S). s ≡ t) (λ (u v : T). u ≡ v) (y.at s) a step
 
     by_step : (s : S) (step : Step S T) → y.step s ≡ step → Carried s s step
-    by_step s (Moves w t) e = (t, y.at s ∷ [], Walk-one y s t w e, refl, (λ h. omega arith), omega arith)
-    by_step s Ends e = (s, [], (refl, refl), e, (λ h. omega arith))
-    by_step s (Traps trap) e = (s, [], trap, refl, (refl, refl), e, (λ h. omega arith))
+    by_step s (Moves w t) e = record { after = t; passed = y.at s ∷ []; walk = Walk-one y s t w e; similar = refl; within = λ h. omega arith; enough = omega arith }
+    by_step s Ends e = record { stop = s; passed = []; walk = (refl, refl); halts = e; within = λ h. omega arith }
+    by_step s (Traps trap) e = (trap, refl, record { stop = s; passed = []; walk = (refl, refl); halts = e; within = λ h. omega arith })
 
 -- three layers: a system carried out by one that a third carries out
 module _ {S T P A B Q C D R : Type 0} (x : System S T P) (y : System A B Q) (z : System C D R) (least : P → ℕ) (fewest : Q → ℕ) (lowest : R → ℕ) (words : P → List Q) (bits : Q → List R) (similar : S → A → Type 0) (alike : A → C → Type 0) (same : T → B → Type 0) (equal : B → D → Type 0) (one : CarriesBy x y least fewest words similar same) (two : CarriesBy y z fewest lowest bits alike equal) where
@@ -31,22 +31,32 @@ module _ {S T P A B Q C D R : Type 0} (x : System S T P) (y : System A B Q) (z :
       let e = a (λ q. weigh h (bits q)) in let f = b h in let g = c h in
       omega (arith, e, f, g, weigh-append h rs ss, weigh-append (λ q. weigh h (bits q)) qs (q ∷ []), weigh-flat_map h bits qs, weigh-flat_map h bits (words p))
 
-  halted : (p : P) (b : A) (qs : List Q) (rs ss : List R) (e : C) → Within (words p) (qs ++ y.at b ∷ []) → Within (flat_map bits qs) rs → Within (bits (y.at b)) (ss ++ z.at e ∷ []) → Within (flat_map bits (words p)) ((rs ++ ss) ++ z.at e ∷ [])
-  halted p b qs rs ss e f g h = subst (Within (flat_map bits (words p))) (sym (append_assoc rs ss (z.at e ∷ []))) (halt_down p (y.at b) qs rs (ss ++ z.at e ∷ []) f g h)
+  stepped : (b : A) (d : C) (up : Step A B) → alike b d → y.step b ≡ up → CarriesStep z fewest lowest bits alike equal (y.at b) d up
+  stepped b d up sim e = subst (CarriesStep z fewest lowest bits alike equal (y.at b) d) e (two.each b d sim)
+
+  -- the lowest system's way to where the middle one halts, and its own halt there
+  halt_behind : (p : P) (a : A) (c : C) (up : Step A B) (below : Step C D) (halt : CarriesHalt y (words p) a up) (way : CarriesMove z lowest (flat_map bits halt.passed) (weigh fewest halt.passed) c [] (alike halt.stop)) → CarriesHalt z (bits (y.at halt.stop)) way.after below → CarriesHalt z (flat_map bits (words p)) c below
+  halt_behind p a c up below halt way last = record {
+    stop = last.stop;
+    passed = way.passed ++ last.passed;
+    walk = Walk-append z way.passed last.passed c way.after last.stop [] [] way.walk last.walk;
+    halts = last.halts;
+    within = subst (Within (flat_map bits (words p))) (sym (append_assoc way.passed last.passed (z.at last.stop ∷ []))) (halt_down p (y.at halt.stop) halt.passed way.passed (last.passed ++ z.at last.stop ∷ []) halt.within way.within last.within);
+  }
 
   by_step : (p : P) (a : A) (c : C) → alike a c → (step : Step S T) → CarriesStep y least fewest words similar same p a step → CarriesStep z least lowest (λ p. flat_map bits (words p)) (Through similar alike) (Through same equal) p c step
   by_step p a c sim (Moves w t) r =
-      let v = Walk-down y z fewest lowest bits alike equal two r.1 a r.0 w c sim r.2 in
-      let few = r.5 in let few' = v.5 in
-      (v.0, v.1, v.2, (r.0, r.3, v.3), down p r.1 v.1 r.4 v.4, omega (arith, few, few'))
+      let v = Walk-down y z fewest lowest bits alike equal two r.passed a r.after w c sim r.walk in
+      let few = r.enough in let few' = v.enough in
+      record { after = v.after; passed = v.passed; walk = v.walk; similar = (r.after, r.similar, v.similar); within = down p r.passed v.passed r.within v.within; enough = omega (arith, few, few') }
   by_step p a c sim Ends r =
-      let v = Walk-down y z fewest lowest bits alike equal two r.1 a r.0 [] c sim r.2 in
-      let u = subst (CarriesStep z fewest lowest bits alike equal (y.at r.0) v.0) r.3 (two.each r.0 v.0 v.3) in
-      (u.0, v.1 ++ u.1, Walk-append z v.1 u.1 c v.0 u.0 [] [] v.2 u.2, u.3, halted p r.0 r.1 v.1 u.1 u.0 r.4 v.4 u.4)
+      let v = Walk-down y z fewest lowest bits alike equal two r.passed a r.stop [] c sim r.walk in
+      halt_behind p a c Ends Ends r v (stepped r.stop v.after Ends v.similar r.halts)
   by_step p a c sim (Traps trap) r =
-      let v = Walk-down y z fewest lowest bits alike equal two r.1 a r.0 [] c sim r.4 in
-      let u = subst (CarriesStep z fewest lowest bits alike equal (y.at r.0) v.0) r.5 (two.each r.0 v.0 v.3) in
-      (u.0, v.1 ++ u.1, u.2, (r.2, r.3, u.3), Walk-append z v.1 u.1 c v.0 u.0 [] [] v.2 u.4, u.5, halted p r.0 r.1 v.1 u.1 u.0 r.6 v.4 u.6)
+      let halt = r.2 in
+      let v = Walk-down y z fewest lowest bits alike equal two halt.passed a halt.stop [] c sim halt.walk in
+      let u = stepped halt.stop v.after (Traps r.0) v.similar halt.halts in
+      (u.0, (r.0, r.1, u.1), halt_behind p a c (Traps r.0) (Traps u.0) halt v u.2)
 
   pub carries_through : CarriesBy x z least lowest (λ p. flat_map bits (words p)) (Through similar alike) (Through same equal)
   carries_through = record { each = λ s c sim. by_step (x.at s) sim.0 c sim.2 (x.step s) (one.each s sim.0 sim.1) }
@@ -66,12 +76,12 @@ fits_through words bits all places slots one two = λ h.
 -- an invariant that each step keeps holds at the end of each walk
 pub Stays-Walk : {S T P : Type 0} (y : System S T P) (invariant : S → Type 0) → Stays y invariant → (ps : List P) (s t : S) (w : List ℕ) → invariant s → Walk y s ps w t → invariant t
 Stays-Walk y invariant stays [] s t w i h = subst invariant (sym h.0) i
-Stays-Walk y invariant stays (p ∷ ps) s t w i h = Stays-Walk y invariant stays ps h.0 t h.2 (stays.step s h.0 h.1 i h.4) h.6
+Stays-Walk y invariant stays (p ∷ ps) s t w i h = Stays-Walk y invariant stays ps h.after t h.later (stays.step s h.after h.now i h.moves) h.more
 
 -- and at the end of each stretch
 pub Stays-Passes : {S T P : Type 0} (y : System S T P) (invariant : S → Type 0) → Stays y invariant → (least : P → ℕ) (all : List P) (k j : ℕ) (s t : S) (w : List ℕ) → invariant s → Passes y least all k j s w t → invariant t
 Stays-Passes y invariant stays least all zero j s t w i h = subst invariant (sym h.0) i
-Stays-Passes y invariant stays least all (suc k) j s t w i h = Stays-Passes y invariant stays least all k h.4 h.1 t h.3 (Stays-Walk y invariant stays h.0 s h.1 h.2 i h.6) h.9
+Stays-Passes y invariant stays least all (suc k) j s t w i h = Stays-Passes y invariant stays least all k h.rest h.after t h.later (Stays-Walk y invariant stays h.points s h.after h.now i h.walk) h.more
 
 -- a layer may assume of both systems' states what their steps keep
 module _ {S T P A B Q : Type 0} (x : System S T P) (y : System A B Q) (least : P → ℕ) (fewest : Q → ℕ) (words : P → List Q) (above : S → Type 0) (below : A → Type 0) (similar : S → A → Type 0) (same : T → B → Type 0) where
@@ -79,7 +89,7 @@ module _ {S T P A B Q : Type 0} (x : System S T P) (y : System A B Q) (least : P
   Carried related p a step = CarriesStep y least fewest words related same p a step
 
   kept : Stays x above → Stays y below → (s : S) (a : A) → above s → below a → (step : Step S T) → x.step s ≡ step → Carried similar (x.at s) a step → Carried (Where above below similar) (x.at s) a step
-  kept up low s a i j (Moves w t) e r = (r.0, r.1, r.2, (up.step s t w i e, Stays-Walk y below low r.1 a r.0 w j r.2, r.3), r.4, r.5)
+  kept up low s a i j (Moves w t) e r = record { after = r.after; passed = r.passed; walk = r.walk; similar = (up.step s t w i e, Stays-Walk y below low r.passed a r.after w j r.walk, r.similar); within = r.within; enough = r.enough }
   kept up low s a i j Ends e r = r
   kept up low s a i j (Traps trap) e r = r
 

@@ -4,8 +4,6 @@ pub mod BoundedRuns
 pub mod Agreement
 pub mod Lowering
 pub mod Layers
+pub mod Rows
 pub mod Reached
 pub mod Comes
-pub mod SpotsKeepUp
-pub mod WordsInStep
-pub mod WordsMade

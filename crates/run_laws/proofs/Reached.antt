@@ -1,6 +1,6 @@
 -- What a system has done since its start, and what it may still pass before its next moment.
 use Rattle.std.proofs.Common.{◌≡◌, ℕ, suc, ◌+◌, ◌*◌, ◌≤◌, List, [], ◌∷◌, ◌++◌, refl, sym, ap, ◌∙◌, subst, arith, append_assoc}
-use Rattle.run_laws.specs.Runs.{Step, Moves, weigh, System, Walk, Passes, Halts, turns_a_step}
+use Rattle.run_laws.specs.Runs.{Step, Moves, weigh, System, Walk, Passes, Halts, GoesOn, turns_a_step}
 use Rattle.run_laws.proofs.Weights.{append-nil, weigh-append}
 use Rattle.run_laws.proofs.Walks.{Walk-append, Passes-snoc}
 
@@ -52,7 +52,7 @@ module _ {S T P : Type 0} (y : System S T P) (least : P → ℕ) (all : List P) 
   -- one step
   pub pass : {m g left : ℕ} {out : List ℕ} {s : S} {free : (P → ℕ) → ℕ} (more : ℕ) (rest : (P → ℕ) → ℕ) (p : P) (w : List ℕ) (t : S) → Reached m g left out s free → y.at s ≡ p → y.step s ≡ Moves w t → ((h : P → ℕ) → h p + rest h ≤ free h) → more ≤ g + turns_a_step * least p → Reached m more left (out ++ w) t rest
   pass {m} {g} {left} {out} {s} {free} more rest p w t r here step fits pays =
-      pass_walk more rest (p ∷ []) w t r (t, w, [], here, step, sym (append-nil w), (refl, refl))
+      pass_walk more rest (p ∷ []) w t r (record { after = t; now = w; later = []; here = here; moves = step; wrote = sym (append-nil w); more = (refl, refl) })
       (λ h. let a = fits h in omega (arith, a)) (omega (arith, pays))
 
   -- one step that writes nothing
@@ -86,9 +86,9 @@ module _ {S T P : Type 0} (y : System S T P) (least : P → ℕ) (all : List P) 
       subst (λ o. Passes y least all (suc r.k) (r.j + weigh least r.ps) s0 o s) (sym r.wrote)
       (Passes-snoc y least all r.k r.j s0 r.mid s r.before r.last r.ps r.passes (λ h. let a = r.room h in omega (arith, a)) r.walk)
 
-  -- a moment: a turn is spent, and all points are free again
-  pub moment : {m left : ℕ} {out : List ℕ} {s : S} {free : (P → ℕ) → ℕ} (n : ℕ) (rest : (P → ℕ) → ℕ) → Reached m 1 left out s free → left ≡ suc n → ((h : P → ℕ) → rest h ≤ weigh h all) → Reached n 0 n out s rest
-  moment {m} {left} {out} {s} {free} n rest r is fits =
+  -- a moment: a turn is spent, and all points are free again; what was paid beyond it stays paid
+  pub moment : {m g left : ℕ} {out : List ℕ} {s : S} {free : (P → ℕ) → ℕ} (n : ℕ) (rest : (P → ℕ) → ℕ) → Reached m (suc g) left out s free → left ≡ suc n → ((h : P → ℕ) → rest h ≤ weigh h all) → Reached n g n out s rest
+  moment {m} {g} {left} {out} {s} {free} n rest r is fits =
       let turns = r.turns in let bound = r.bound in let pace = r.pace in
       record {
         k = suc r.k;
@@ -107,29 +107,28 @@ module _ {S T P : Type 0} (y : System S T P) (least : P → ℕ) (all : List P) 
       }
 
   -- a moment with no turn left: all n0 are used up
-  pub spent : {m left : ℕ} {out : List ℕ} {s : S} {free : (P → ℕ) → ℕ} → Reached m 1 left out s free → left ≡ 0 → (t : S) × (j : ℕ) × (suc n0 ≤ turns_a_step * j) × Passes y least all (suc n0) j s0 out t
-  spent {m} {left} {out} {s} {free} r is =
+  pub spent : {m g left : ℕ} {out : List ℕ} {s : S} {free : (P → ℕ) → ℕ} → Reached m (suc g) left out s free → left ≡ 0 → GoesOn y least all n0 s0 out
+  spent {m} {g} {left} {out} {s} {free} r is =
       let turns = r.turns in let pace = r.pace in
       let all_spent : r.k ≡ n0 = omega (arith, turns, is) in
-      (s, r.j + weigh least r.ps, omega (arith, pace, all_spent), subst (λ k. Passes y least all (suc k) (r.j + weigh least r.ps) s0 out s) all_spent (closed r))
+      record { after = s; weight = r.j + weigh least r.ps; pace = omega (arith, pace, all_spent); passes = subst (λ k. Passes y least all (suc k) (r.j + weigh least r.ps) s0 out s) all_spent (closed r) }
 
   -- a halt
-  pub halts : {m g left : ℕ} {out : List ℕ} {s : S} {free : (P → ℕ) → ℕ} (halt : Step S T) → Reached m g left out s free → y.step s ≡ halt → ((h : P → ℕ) → h (y.at s) ≤ free h) → (k : ℕ) × (k ≤ n0) × Halts y least all k s0 out halt
+  pub halts : {m g left : ℕ} {out : List ℕ} {s : S} {free : (P → ℕ) → ℕ} (halt : Step S T) → Reached m g left out s free → y.step s ≡ halt → ((h : P → ℕ) → h (y.at s) ≤ free h) → Halts y least all n0 s0 out halt
   halts {m} {g} {left} {out} {s} {free} halt r step fits =
-      let turns = r.turns in (
-        r.k,
-        omega (arith, turns),
-        (
-          r.mid,
-          s,
-          r.ps,
-          r.before,
-          r.last,
-          r.j,
-          r.passes,
-          (λ h. let a = r.room h in let b = fits h in omega (arith, a, b, weigh-append h r.ps (y.at s ∷ []))),
-          r.walk,
-          step,
-          r.wrote,
-        ),
-      )
+      let turns = r.turns in
+      record {
+        moments = r.k;
+        weight = r.j;
+        mid = r.mid;
+        points = r.ps;
+        stop = s;
+        before = r.before;
+        last = r.last;
+        most = omega (arith, turns);
+        passes = r.passes;
+        within = λ h. let a = r.room h in let b = fits h in omega (arith, a, b, weigh-append h r.ps (y.at s ∷ []));
+        walk = r.walk;
+        halts = step;
+        wrote = r.wrote;
+      }

@@ -1,8 +1,8 @@
 //! The laws that can be said without ranging over relations, proved for whoever calls them: relations are tests.
 
 ghost use Rattle.std.specs.Prelude.{◌≡◌, ℕ, ◌+◌, ◌≤◌, List, [], ◌∷◌, ◌++◌, length, map, flat_map, Bool, IsTrue};
-ghost use Rattle.run_laws.specs.Runs.{Outcome, Trapped, Step, System, run, output, weigh, Within, IsOver, StartsWith, Walk, Keeps, Lowers, InStep, Agrees};
-ghost use Rattle.run_laws.specs.Layers.{CarriesBy, Through};
+ghost use Rattle.run_laws.specs.Runs.{Outcome, Trapped, Step, System, run, output, weigh, Within, IsOver, StartsWith, Walk, Keeps, InStep, Agrees};
+ghost use Rattle.run_laws.specs.Layers.{CarriesBy, Lowers, Through};
 
 /// A run that is over stays as it is, two runs that are over are one, and what is written stays written.
 pub fn runs_stay()

@@ -71,4 +71,4 @@ module _ (code : List ℕ) where
       let next : e.0.pc ≡ address_of (suc k) = e.4 ∙ ap (λ n. add64 n 4) at ∙ next_address k lower in
       let rest = walks is (suc k) e.0 e.2 t stands.2 (omega (arith, small)) next e.6 in
       let z : suc k + length is ≡ k + suc (length is) = omega arith in
-      ((e.0, e.1, e.2, place_is k s at, step_at k i s stands.0 stands.1 at ∙ e.3, e.5, rest.0), rest.1 ∙ ap address_of z)
+      (record { after = e.0; now = e.1; later = e.2; here = place_is k s at; moves = step_at k i s stands.0 stands.1 at ∙ e.3; wrote = e.5; more = rest.0 }, rest.1 ∙ ap address_of z)

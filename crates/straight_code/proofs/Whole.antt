@@ -231,7 +231,21 @@ module _ (os : List Operation) (legal : AreLegal 0 os) (few : values_of os ≤ 4
 
   keeps : (n : ℕ) → Keeps machine (λ _. 1) all_places same_trap first n (Ended (output_of os []))
   unfolding all_places passed last
-  keeps n = (0, omega arith, (first, last, passed, [], output_of os [], 0, (refl, refl, refl), within, walk, ends, refl))
+  keeps n = record {
+    moments = 0;
+    weight = 0;
+    mid = first;
+    points = passed;
+    stop = last;
+    before = [];
+    last = output_of os [];
+    most = omega arith;
+    passes = (refl, refl, refl);
+    within = within;
+    walk = walk;
+    halts = ends;
+    wrote = refl;
+  }
 
   pub in_step_with : InStep machine (length code) same_trap first (λ n. Ended (output_of os []))
   unfolding all_places

@@ -2,11 +2,11 @@
 use Rattle.std.specs.Prelude.{ℕ, zero, suc, ◌+◌, ◌-◌, List, [], ◌∷◌, ◌++◌, Bool, true, false, Option, Some, None, slice_get}
 use Rattle.run_laws.specs.Runs.{Outcome, Step, Moves, Ends, Traps, System}
 use Rattle.run_laws.specs.Turns.{State, Ending, ◌>>=◌, give, fail, print, look, change, while_so, outcome}
-use Rattle.run_laws.specs.declared.countdown.Act.{Act}
-use Rattle.run_laws.specs.declared.countdown.Act.TheVariants.{Print, Down}
-use Rattle.run_laws.specs.declared.countdown.Countdown.{Countdown}
-use Rattle.run_laws.specs.declared.countdown.Word.{Word}
-use Rattle.run_laws.specs.declared.countdown.Word.TheVariants.{Load, JumpIfPositive, Halt, Write, TrapIfZero, Less, Jump}
+use Rattle.countdown.specs.declared.Act.{Act}
+use Rattle.countdown.specs.declared.Act.TheVariants.{Print, Down}
+use Rattle.countdown.specs.declared.Countdown.{Countdown}
+use Rattle.countdown.specs.declared.Word.{Word}
+use Rattle.countdown.specs.declared.Word.TheVariants.{Load, JumpIfPositive, Halt, Write, TrapIfZero, Less, Jump}
 
 -- the meaning's one trap
 pub data Trap : Type 0 where

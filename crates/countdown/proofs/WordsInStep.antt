@@ -3,16 +3,16 @@ use Rattle.std.proofs.Common.{◌≡◌, ℕ, zero, suc, ◌+◌, ◌-◌, ◌�
 use Rattle.std.specs.Prelude.{flat_map}
 use Rattle.run_laws.specs.Runs.{Step, Moves, Ends, Traps, weigh, Within, InStep}
 use Rattle.run_laws.specs.Layers.{CarriesStep, CarriesBy, Through, places_from, InRow}
-use Rattle.run_laws.specs.Countdown.{Trap, meaning, Spot, Begin, Test, Leave, Body, Node, go, spots, body_spots, all_spots, least, code_of, words_of, Stop, TrapAt, Machine, next, jump_of, trap_of, exec, machine, at_start, SameTrap}
-use Rattle.run_laws.specs.declared.countdown.Act.{Act}
-use Rattle.run_laws.specs.declared.countdown.Act.TheVariants.{Print, Down}
-use Rattle.run_laws.specs.declared.countdown.Countdown.{Countdown}
-use Rattle.run_laws.specs.declared.countdown.Word.{Word}
-use Rattle.run_laws.specs.declared.countdown.Word.TheVariants.{Load, JumpIfPositive, Halt, Write, TrapIfZero, Less, Jump}
+use Rattle.countdown.specs.Countdown.{Trap, meaning, Spot, Begin, Test, Leave, Body, Node, go, spots, body_spots, all_spots, least, code_of, words_of, Stop, TrapAt, Machine, next, jump_of, trap_of, exec, machine, at_start, SameTrap}
+use Rattle.countdown.specs.declared.Act.{Act}
+use Rattle.countdown.specs.declared.Act.TheVariants.{Print, Down}
+use Rattle.countdown.specs.declared.Countdown.{Countdown}
+use Rattle.countdown.specs.declared.Word.{Word}
+use Rattle.countdown.specs.declared.Word.TheVariants.{Load, JumpIfPositive, Halt, Write, TrapIfZero, Less, Jump}
 use Rattle.run_laws.proofs.Walks.{Walk-one, Walk-append}
 use Rattle.run_laws.proofs.Lowering.{in_step_down, in_step_same}
 use Rattle.run_laws.proofs.Layers.{length-places_from, fits_in_row}
-use Rattle.run_laws.proofs.SpotsKeepUp.{keeps_up}
+use Rattle.countdown.proofs.SpotsKeepUp.{keeps_up}
 
 -- a word at a place, and what stands behind it
 word_at : (words : List Word) (i : ℕ) (w : Word) (rest : List Word) → drop i words ≡ w ∷ rest → (slice_get words i ≡ Some w) × (drop (i + 1) words ≡ rest)
@@ -79,14 +79,14 @@ module _ (p : Countdown) where
 
   -- a spot of one word
   one_word : (spot : Spot) (m t : Machine) (w : Word) (rest : List Word) (out : List ℕ) (after : Node) → m.place ≡ place spot → width spot ≡ 1 → drop m.place words ≡ w ∷ rest → exec (Some w) m ≡ Moves out t → Similar after t → Done spot m (Moves out after)
-  one_word spot m t w rest out after here narrow stands e sim = (
-    t,
-    m.place ∷ [],
-    Walk-one (machine words) m t out (does m w rest (Moves out t) stands e),
-    sim,
-    (λ h. let a = ap h here in let b = ap (λ n. weigh h (places_from (place spot) n)) narrow in omega (arith, a, b)),
-    least_one spot,
-  )
+  one_word spot m t w rest out after here narrow stands e sim = record {
+    after = t;
+    passed = m.place ∷ [];
+    walk = Walk-one (machine words) m t out (does m w rest (Moves out t) stands e);
+    similar = sim;
+    within = λ h. let a = ap h here in let b = ap (λ n. weigh h (places_from (place spot) n)) narrow in omega (arith, a, b);
+    enough = least_one spot;
+  }
 
   carried : (spot : Spot) (n : ℕ) (m : Machine) → Similar (record { spot = spot; counter = n }) m → Done spot m (go p spot n)
   carried Begin n m sim =
@@ -101,7 +101,7 @@ module _ (p : Countdown) where
       one_word Test m (record m { place = 3 }) (JumpIfPositive 3) (drop 2 words) [] (record { spot = Body p.body.items; counter = suc n }) sim.here refl sim.stands (ap (λ c. Moves [] (jump_of c 3 m)) sim.counter)
       (record { here = omega arith; counter = sim.counter; stands = refl; short = omega arith })
   carried Leave n m sim =
-      (m, [], (refl, refl), does m Halt (drop 3 words) Ends sim.stands refl, (λ h. let a = ap h sim.here in omega (arith, a)))
+      record { stop = m; passed = []; walk = (refl, refl); halts = does m Halt (drop 3 words) Ends sim.stands refl; within = λ h. let a = ap h sim.here in omega (arith, a) }
   carried (Body []) n m sim =
       let r = one_word (Body []) m (record m { place = 1 }) (Jump 1) [] [] (record { spot = Test; counter = n }) sim.here refl sim.stands refl (record { here = refl; counter = sim.counter; stands = refl; short = tt }) in
       r
@@ -110,13 +110,15 @@ module _ (p : Countdown) where
       one_word (Body (Print ∷ rest)) m (next m m.counter) Write (code_of rest ++ Jump 1 ∷ []) (n ∷ []) (record { spot = Body rest; counter = n }) here refl sim.stands (ap (λ c. Moves (c ∷ []) (next m m.counter)) sim.counter)
       (record { here = omega (arith, here, short); counter = sim.counter; stands = (word_at words m.place Write (code_of rest ++ Jump 1 ∷ []) sim.stands).1; short = omega (arith, short) })
   carried (Body (Down ∷ rest)) zero m sim = (
-    m,
-    [],
     TrapAt m.place,
     tt,
-    (refl, refl),
-    does m TrapIfZero (Less ∷ (code_of rest ++ Jump 1 ∷ [])) (Traps (TrapAt m.place)) sim.stands (ap (λ c. trap_of c m) sim.counter),
-    (λ h. let a = ap h sim.here in omega (arith, a)),
+    record {
+      stop = m;
+      passed = [];
+      walk = (refl, refl);
+      halts = does m TrapIfZero (Less ∷ (code_of rest ++ Jump 1 ∷ [])) (Traps (TrapAt m.place)) sim.stands (ap (λ c. trap_of c m) sim.counter);
+      within = λ h. let a = ap h sim.here in omega (arith, a);
+    },
   )
   carried (Body (Down ∷ rest)) (suc n) m sim =
       let here = sim.here in let short = sim.short in let counter = sim.counter in
@@ -125,16 +127,17 @@ module _ (p : Countdown) where
       let two = next one (m.counter - 1) in
       let first = word_at words m.place TrapIfZero (Less ∷ tail) sim.stands in
       let second = word_at words one.place Less tail first.1 in
-      let up : one.place ≡ suc (place (Body (Down ∷ rest))) = omega (arith, here) in (
-        two,
-        m.place ∷ one.place ∷ [],
-        Walk-append (machine words) (m.place ∷ []) (one.place ∷ []) m one two [] []
+      let up : one.place ≡ suc (place (Body (Down ∷ rest))) = omega (arith, here) in
+      record {
+        after = two;
+        passed = m.place ∷ one.place ∷ [];
+        walk = Walk-append (machine words) (m.place ∷ []) (one.place ∷ []) m one two [] []
             (Walk-one (machine words) m one [] (does m TrapIfZero (Less ∷ tail) (Moves [] one) sim.stands (ap (λ c. trap_of c m) sim.counter)))
-            (Walk-one (machine words) one two [] (does one Less tail (Moves [] two) first.1 refl)),
-        record { here = omega (arith, here, short); counter = omega (arith, counter); stands = second.1; short = omega (arith, short) },
-        (λ h. let a = ap h here in let b = ap h up in omega (arith, a, b)),
-        omega arith,
-      )
+            (Walk-one (machine words) one two [] (does one Less tail (Moves [] two) first.1 refl));
+        similar = record { here = omega (arith, here, short); counter = omega (arith, counter); stands = second.1; short = omega (arith, short) };
+        within = λ h. let a = ap h here in let b = ap h up in omega (arith, a, b);
+        enough = omega arith;
+      }
 
   carries : CarriesBy (spots p) (machine words) least (λ _. 1) places Similar SameTrap
   carries = record { each = λ s m sim. carried s.spot s.counter m sim }

@@ -2,15 +2,16 @@
 //!
 //! Its meaning is counted in turns; between it and the machine stands a system of spots in the loop, so that the
 //! words are in step with the meaning through two layers, as the compiler's are through its own.
+#![tactic(auto)]
 
 ghost use Rattle.std.specs.Prelude.{◌≡◌, ℕ, List, [], ◌∷◌, ◌++◌, length, IfOk, OnOk};
 ghost use Rattle.run_laws.specs.Runs.{InStep, run, Trapped};
-ghost use Rattle.run_laws.specs.Countdown.{meaning, code_of, words_of, SameTrap, Undefined, machine, at_start};
+ghost use Rattle.countdown.specs.Countdown.{meaning, code_of, words_of, SameTrap, Undefined, machine, at_start};
 
 use std::alloc::{AllocError, Global};
 
 /// What a round of the loop does, one act after the other.
-#[derive(Clone, Copy, PartialEq, Eq, Debug)]
+#[derive(Clone, Copy)]
 pub enum Act {
     /// Writes the counter.
     Print,

@@ -2,14 +2,14 @@
 use Rattle.std.proofs.Common.{◌≡◌, ℕ, suc, ◌+◌, ◌<◌, ◌≤◌, List, [], ◌∷◌, ◌++◌, length, drop, get_or, refl, sym, ap, ◌∙◌, subst, append_assoc, add-one, drop-cons}
 use Rattle.std.proofs.lemmas.List.{drop_all}
 use Rattle.run_laws.specs.Runs.{InStep, run, Trapped}
-use Rattle.run_laws.specs.Countdown.{Trap, BelowZero, code_of, words_of, meaning, SameTrap, Undefined, machine, at_start}
+use Rattle.countdown.specs.Countdown.{Trap, BelowZero, code_of, words_of, meaning, SameTrap, Undefined, machine, at_start}
 use Rattle.run_laws.proofs.Agreement.{trap_never}
-use Rattle.run_laws.proofs.WordsInStep.{words_in_step}
-use Rattle.run_laws.specs.declared.countdown.Act.{Act}
-use Rattle.run_laws.specs.declared.countdown.Act.TheVariants.{Print, Down}
-use Rattle.run_laws.specs.declared.countdown.Countdown.{Countdown}
-use Rattle.run_laws.specs.declared.countdown.Word.{Word}
-use Rattle.run_laws.specs.declared.countdown.Word.TheVariants.{Load, JumpIfPositive, Halt, Jump}
+use Rattle.countdown.proofs.WordsInStep.{words_in_step}
+use Rattle.countdown.specs.declared.Act.{Act}
+use Rattle.countdown.specs.declared.Act.TheVariants.{Print, Down}
+use Rattle.countdown.specs.declared.Countdown.{Countdown}
+use Rattle.countdown.specs.declared.Word.{Word}
+use Rattle.countdown.specs.declared.Word.TheVariants.{Load, JumpIfPositive, Halt, Jump}
 use Rattle.run_laws.proofs.Weights.{append-nil}
 
 -- the words of an act, and of the rest

@@ -1,7 +1,7 @@
 use Rattle.std.proofs.Common.{◌≡◌, rules}
-use Rattle.run_laws.specs.Countdown.{words_of}
-use Rattle.run_laws.proofs.WordsMade.{act_added, words_begun, words_done, made_in_step, made_defined}
-use Rattle.run_laws.proofs.countdown.lower.Goals as goal
+use Rattle.countdown.specs.Countdown.{words_of}
+use Rattle.countdown.proofs.WordsMade.{act_added, words_begun, words_done, made_in_step, made_defined}
+use Rattle.countdown.proofs.lower.Goals as goal
 
 made : (c : goal.In_ok-push-4) → c.push-4.new.self.items ≡ words_of c.args.program.now
 made c =

@@ -2,13 +2,13 @@
 use Rattle.std.proofs.Common.{◌≡◌, ℕ, zero, suc, ◌≤◌, List, [], ◌∷◌, ◌++◌, Bool, true, false, refl, arith}
 use Rattle.std.specs.Prelude.{if◌then◌else◌, MatchBool}
 use Rattle.run_laws.specs.Runs.{weigh, Keeps}
-use Rattle.run_laws.specs.Turns.{State, Ending, ◌>>=◌, give, look, while_so}
-use Rattle.run_laws.specs.Countdown.{Trap, BelowZero, is_positive, less_of, acts, meaning, Spot, Begin, Test, Leave, Body, Node, spots, body_spots, all_spots, least}
-use Rattle.run_laws.specs.declared.countdown.Act.{Act}
-use Rattle.run_laws.specs.declared.countdown.Act.TheVariants.{Print, Down}
-use Rattle.run_laws.specs.declared.countdown.Countdown.{Countdown}
+use Rattle.run_laws.specs.Turns.{State, Ending, Gives, Fails, Spent, ◌>>=◌, give, look, while_so}
+use Rattle.countdown.specs.Countdown.{Trap, BelowZero, is_positive, less_of, acts, meaning, Spot, Begin, Test, Leave, Body, Node, spots, body_spots, all_spots, least}
+use Rattle.countdown.specs.declared.Act.{Act}
+use Rattle.countdown.specs.declared.Act.TheVariants.{Print, Down}
+use Rattle.countdown.specs.declared.Countdown.{Countdown}
 use Rattle.run_laws.proofs.Reached.{Reached, starts, pass, pass_quiet, moment, loosen}
-use Rattle.run_laws.proofs.Comes.{Comes, comes_bind, comes_map, comes_trap, comes_repeat, keeps_comes}
+use Rattle.run_laws.proofs.Comes.{Comes, comes_bind, comes_map, comes_trap, comes_repeat, MakesSense, keeps_comes}
 
 module _ (p : Countdown) (n0 : ℕ) where
   abbrev pub start : Node
@@ -18,8 +18,12 @@ module _ (p : Countdown) (n0 : ℕ) where
   abbrev At : (m g : ℕ) → Spot → ((Spot → ℕ) → ℕ) → State ℕ → Type 0
   At m g spot free st = Reached (spots p) least (all_spots p) start n0 m g st.turns st.out (record { spot = spot; counter = st.store }) free
 
+  -- the one trap makes sense
+  abbrev Always : Trap → Type 0
+  Always trap = Unit {0}
+
   abbrev CameTo : {A : Type 0} → Ending ℕ Trap A → (A → State ℕ → Type 0) → Type 0
-  CameTo e Good = Comes (spots p) least (all_spots p) start n0 (λ (u t : Trap). u ≡ t) e Good
+  CameTo e Good = Comes Always (spots p) least (all_spots p) start n0 (λ (u t : Trap). u ≡ t) e Good
 
   -- behind a round's acts
   abbrev Ran : ℕ → Unit {0} → State ℕ → Type 0
@@ -27,7 +31,7 @@ module _ (p : Countdown) (n0 : ℕ) where
 
   -- one taken from the counter n, and then the rest of the round
   lessened : (rest : List Act) (m : ℕ) → ((t : State ℕ) → At m 1 (Body rest) (λ h. weigh h (body_spots rest)) t → CameTo (acts rest t) (Ran m)) → (n : ℕ) (st : State ℕ) → Reached (spots p) least (all_spots p) start n0 m 1 st.turns st.out (record { spot = Body (Down ∷ rest); counter = n }) (λ h. weigh h (body_spots (Down ∷ rest))) → CameTo ((less_of n >>= λ _. acts rest) st) (Ran m)
-  lessened rest m again zero st r = comes_trap (spots p) least (all_spots p) start n0 (λ (u t : Trap). u ≡ t) BelowZero BelowZero r refl refl (λ h. omega arith)
+  lessened rest m again zero st r = comes_trap Always (spots p) least (all_spots p) start n0 (λ (u t : Trap). u ≡ t) BelowZero BelowZero r refl refl (λ h. omega arith)
   lessened rest m again (suc n) st r =
       again (record st { store = n })
       (pass_quiet (spots p) least (all_spots p) start n0 1 (λ h. weigh h (body_spots rest)) (Body (Down ∷ rest)) (record { spot = Body rest; counter = n }) r refl refl (λ h. omega arith) (omega arith))
@@ -61,10 +65,15 @@ module _ (p : Countdown) (n0 : ℕ) where
         le (omega arith) (λ h. omega arith);
   }
   round n (suc c) out le r =
-      comes_bind (spots p) least (all_spots p) start n0 (λ (u t : Trap). u ≡ t) (acts p.body.items (record { store = suc c; out = out; turns = n })) (λ _. give true)
+      comes_bind Always (spots p) least (all_spots p) start n0 (λ (u t : Trap). u ≡ t) (acts p.body.items (record { store = suc c; out = out; turns = n })) (λ _. give true)
       (ran p.body.items n (record { store = suc c; out = out; turns = n })
       (pass_quiet (spots p) least (all_spots p) start n0 1 (λ h. weigh h (body_spots p.body.items)) Test (record { spot = Body p.body.items; counter = suc c }) r refl refl (λ h. omega arith) (omega arith)))
       (λ _ t at. record { by = pass_quiet (spots p) least (all_spots p) start n0 1 (λ h. 0) (Body []) (record { spot = Test; counter = t.store }) at refl refl (λ h. omega arith) (omega arith) })
+
+  sensible : (e : Ending ℕ Trap (Unit {0})) → MakesSense Always (spots p) least (all_spots p) start n0 (λ (u t : Trap). u ≡ t) e
+  sensible (Gives a st) = tt
+  sensible (Fails trap out) = tt
+  sensible (Spent out) = tt
 
   -- the spots keep up with the meaning
   pub keeps_up : Keeps (spots p) least (all_spots p) (λ (u t : Trap). u ≡ t) start n0 (meaning p n0)
@@ -72,10 +81,10 @@ module _ (p : Countdown) (n0 : ℕ) where
       let first : State ℕ = record { store = p.start; out = []; turns = n0 } in
       let begun = starts (spots p) least (all_spots p) start n0 (λ h. h Begin) (λ h. omega arith) in
       let entered : At n0 1 Test (λ h. 0) first = pass_quiet (spots p) least (all_spots p) start n0 1 (λ h. 0) Begin (record { spot = Test; counter = p.start }) begun refl refl (λ h. omega arith) (omega arith) in
-      keeps_comes (spots p) least (all_spots p) start n0 (λ (u t : Trap). u ≡ t) (while_so n0 (look is_positive) (acts p.body.items) first)
-      (comes_map (spots p) least (all_spots p) start n0 (λ (u t : Trap). u ≡ t) (while_so n0 (look is_positive) (acts p.body.items) first)
-      (comes_repeat (spots p) least (all_spots p) start n0 (λ (u t : Trap). u ≡ t) (look is_positive >>= λ holds. if holds then (acts p.body.items >>= λ _. give true) else give false) n0 Head Done
-      (λ m st at. record { place = record { spot = Test; counter = st.store }; free = λ h. 0; reached = at })
+      keeps_comes Always (spots p) least (all_spots p) start n0 (λ (u t : Trap). u ≡ t) (while_so n0 (look is_positive) (acts p.body.items) first) (sensible (while_so n0 (look is_positive) (acts p.body.items) first))
+      (comes_map Always (spots p) least (all_spots p) start n0 (λ (u t : Trap). u ≡ t) (while_so n0 (look is_positive) (acts p.body.items) first)
+      (comes_repeat Always (spots p) least (all_spots p) start n0 (λ (u t : Trap). u ≡ t) (look is_positive >>= λ holds. if holds then (acts p.body.items >>= λ _. give true) else give false) n0 Head Done
+      (λ m st at. record { gain = 0; place = record { spot = Test; counter = st.store }; free = λ h. 0; reached = at })
       (λ m n st le lt at is. round n st.store st.out (omega (arith, le, lt)) (moment (spots p) least (all_spots p) start n0 n (λ h. weigh h (all_spots p)) at is (λ h. omega arith)))
       n0 n0 first (omega arith) (omega arith) entered)
       (λ _ t at. record { most = n0; gain = 1; place = record { spot = Leave; counter = t.store }; free = λ h. h Leave; reached = at; stops = refl; fits = λ h. omega arith }))

@@ -1,0 +1,3 @@
+pub mod SpotsKeepUp
+pub mod WordsInStep
+pub mod WordsMade
