@@ -1,7 +1,6 @@
 -- What a machine's step is, from its parts.
-use Rattle.std.proofs.Common.{◌≡◌, ℕ, List, [], Option, Some, None, ap, ◌∙◌, subst}
+use Rattle.std.proofs.Common.{◌≡◌, ℕ, List, [], Some, None, ap, ◌∙◌, subst}
 use Rattle.run_laws.specs.Runs as runs
-use Rattle.trc_base.proofs.Taking.{took_none, grew_none}
 use Rattle.a64_table.specs.Decode.{decode_of}
 use Rattle.a64_instr.specs.declared.instr.Instr.{Instr}
 use Rattle.a64_instr.specs.declared.instr.Instr.TheVariants.{Svc}
@@ -10,13 +9,9 @@ use Rattle.a64_machine.specs.Services.{service}
 use Rattle.a64_machine.specs.Effects.{effect}
 use Rattle.a64_machine.specs.Machine.{fetch, fetched, decoded, step_of}
 use Rattle.a64_machine.specs.View.{service_number, Told}
-use Rattle.a64_machine.specs.Answers.{Made, TookAll}
+use Rattle.a64_machine.specs.Answers.{Made}
 use Rattle.a64_machine.specs.declared.answers.Step.{Step}
 use Rattle.a64_machine.specs.declared.answers.Step.TheVariants as answer
-
--- nothing is taken where nothing changes
-pub took_nothing : (taken : Option (List ℕ)) (amount : Option ℕ) → TookAll taken amount [] taken amount
-took_nothing taken amount = record { took = took_none taken; grew = grew_none amount }
 
 -- an equal step is answered alike
 pub made_by : (r : Step) (s t : State) (x y : runs.Step State Trap) (all front : List ℕ → Type 0) → x ≡ y → Made r s t x all front → Made r s t y all front

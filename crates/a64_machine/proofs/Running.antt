@@ -1,12 +1,11 @@
 -- A run, step by step from its front.
-use Rattle.std.proofs.Common.{◌≡◌, ℕ, zero, suc, ◌+◌, ◌-◌, ◌<◌, ◌≤◌, List, [], ◌++◌, length, Option, refl, sym, ap, ◌∙◌, subst, arith, append_assoc, length-append}
+use Rattle.std.proofs.Common.{◌≡◌, ℕ, zero, suc, ◌+◌, ◌-◌, ◌<◌, ◌≤◌, List, [], ◌++◌, refl, sym, ap, ◌∙◌, subst, arith, append_assoc}
 use Rattle.std.proofs.lemmas.List.{append-nil}
 use Rattle.run_laws.specs.Runs.{Outcome, Ended, Trapped, Going, Moves, Ends, Traps, act, run, output, StartsWith}
 use Rattle.run_laws.specs.Runs as runs
-use Rattle.trc_base.specs.Devices.{TookFront}
-use Rattle.trc_base.proofs.Taking.{took_on, grew_on}
+use Rattle.outside.specs.Sink.{Account, TookAll, TookFront}
+use Rattle.outside.proofs.Taking.{all_on, front_on, front_longer}
 use Rattle.a64_machine.specs.State.{State, Trap}
-use Rattle.a64_machine.specs.Answers.{TookAll}
 
 -- a run of which so much was written, and what is left of it is to be made from a state
 pub record Runs (f : State → runs.Step State Trap) (whole : Outcome Trap) (left : ℕ) (s : State) (done : List ℕ) : Type 0 where
@@ -51,24 +50,11 @@ module _ (f : State → runs.Step State Trap) (whole : Outcome Trap) (most n : �
       let more = run_extends f (most - (n + 1)) t (done ++ bytes) in
       (more.0, ap output (runs_more bytes t lt e).is ∙ more.1)
 
-module _ (old now after : Option (List ℕ)) (amount amount' amount'' : Option ℕ) (done : List ℕ) (taken : TookAll old amount done now amount') where
-  -- the bytes of one more step were taken
-  pub took_all : (bytes : List ℕ) → TookAll now amount' bytes after amount'' → TookAll old amount (done ++ bytes) after amount''
-  took_all bytes last = record {
-    took = took_on old now after done bytes (done ++ bytes) taken.took last.took refl;
-    grew = grew_on amount amount' amount'' (length done) (length bytes) (length (done ++ bytes)) taken.grew last.grew (length-append done bytes);
-  }
+-- a front of what the next step writes is a front of the whole
+pub took_part : (old now after : Account) (done bytes whole : List ℕ) → TookAll old now done → StartsWith whole (done ++ bytes) → TookFront now after bytes → TookFront old after whole
+took_part old now after done bytes whole taken starts last =
+    front_longer old after (done ++ bytes) starts.0 whole (front_on old now after done bytes (done ++ bytes) taken last refl) starts.1
 
-  -- a step that writes nothing
-  pub took_none_more : TookAll now amount' [] after amount'' → TookAll old amount done after amount''
-  took_none_more last = subst (λ l. TookAll old amount l after amount'') (append-nil done) (took_all [] last)
-
-  -- a front of what the next step writes
-  pub took_part : (bytes whole : List ℕ) → StartsWith whole (done ++ bytes) → TookFront now amount' bytes after amount'' → TookFront old amount whole after amount''
-  took_part bytes whole starts last = record {
-    front = done ++ last.front;
-    rest = last.rest ++ starts.0;
-    parts = starts.1 ∙ ap (λ l. (done ++ l) ++ starts.0) last.parts ∙ simp append_assoc;
-    took = took_on old now after done last.front (done ++ last.front) taken.took last.took refl;
-    grew = grew_on amount amount' amount'' (length done) (length last.front) (length (done ++ last.front)) taken.grew last.grew (length-append done last.front);
-  }
+-- a step that writes nothing
+pub took_none_more : (old now after : Account) (done : List ℕ) → TookAll old now done → TookAll now after [] → TookAll old after done
+took_none_more old now after done taken last = subst (TookAll old after) (append-nil done) (all_on old now after done [] taken last)

@@ -1,12 +1,11 @@
 -- A text in memory, read byte by byte from its front.
-use Rattle.std.proofs.Common.{◌≡◌, ◌≢◌, ℕ, zero, suc, ◌+◌, ◌-◌, ◌<◌, ◌≤◌, List, [], ◌∷◌, ◌++◌, length, Option, Some, None, refl, sym, ap, ◌∙◌, arith, append_assoc, length-append, Result, Ok, Err, OnErr}
-use Rattle.trc_base.specs.Devices.{Took, Grew, TookFront}
-use Rattle.trc_base.proofs.Taking.{took_on, grew_on}
+use Rattle.std.proofs.Common.{◌≡◌, ◌≢◌, ℕ, zero, suc, ◌+◌, ◌-◌, ◌<◌, ◌≤◌, List, [], ◌∷◌, ◌++◌, Option, Some, None, refl, sym, ap, ◌∙◌, arith, append_assoc, Result, Ok, Err, OnErr}
+use Rattle.outside.specs.Sink.{Account, TookAll, TookFront}
+use Rattle.outside.proofs.Taking.{front_on, front_longer}
 use Rattle.std.proofs.lemmas.List.{append-nil}
 use Rattle.wrapping_numbers.specs.Numbers.{add64}
 use Rattle.a64_memory.specs.Memory.{Area, load1}
 use Rattle.a64_machine.specs.Services.{Text, Bytes, Outside, before, text_with, text_at}
-use Rattle.a64_machine.specs.Answers.{TookAll}
 
 -- bytes before a text
 abbrev pub joined : List ℕ → Text → Text
@@ -67,25 +66,11 @@ rest_of : (whole : Text) (bytes front : List ℕ) (text : Text) → whole ≡ By
 rest_of whole bytes front (Bytes rest) e h = let same : bytes ≡ front ++ rest = cc in (rest, same)
 rest_of whole bytes front (Outside address) e h = cc
 
-module _ (old now after : Option (List ℕ)) (amount amount' amount'' : Option ℕ) (front : List ℕ) (byte : ℕ) (taken : TookAll old amount front now amount') where
-  -- one more byte is taken
-  pub took_more : Took now (byte ∷ []) after → Grew amount' 1 amount'' → TookAll old amount (front ++ byte ∷ []) after amount''
-  took_more took grew = record {
-    took = took_on old now after front (byte ∷ []) (front ++ byte ∷ []) taken.took took refl;
-    grew = grew_on amount amount' amount'' (length front) 1 (length (front ++ byte ∷ [])) taken.grew grew (length-append front (byte ∷ []));
-  }
-
-  -- a front of the text is taken where a front of its next byte is
-  pub took_front : (whole : Text) (bytes : List ℕ) (memory : List Area) (by at left : ℕ) → whole ≡ Bytes bytes → Seen whole memory by at left (front ++ byte ∷ []) → TookFront now amount' (byte ∷ []) after amount'' → TookFront old amount bytes after amount''
-  took_front whole bytes memory by at left e seen last =
-      let rest = rest_of whole bytes (front ++ byte ∷ []) (text_at memory by at left) e seen.is in
-      record {
-        front = front ++ last.front;
-        rest = last.rest ++ rest.0;
-        parts = rest.1 ∙ ap (λ l. (front ++ l) ++ rest.0) last.parts ∙ simp append_assoc;
-        took = took_on old now after front last.front (front ++ last.front) taken.took last.took refl;
-        grew = grew_on amount amount' amount'' (length front) (length last.front) (length (front ++ last.front)) taken.grew last.grew (length-append front last.front);
-      }
+-- a front of the text is taken where a front of its next byte is
+pub took_front : (old now after : Account) (front : List ℕ) (byte : ℕ) (whole : Text) (bytes : List ℕ) (memory : List Area) (by at left : ℕ) → TookAll old now front → whole ≡ Bytes bytes → Seen whole memory by at left (front ++ byte ∷ []) → TookFront now after (byte ∷ []) → TookFront old after bytes
+took_front old now after front byte whole bytes memory by at left taken e seen last =
+    let rest = rest_of whole bytes (front ++ byte ∷ []) (text_at memory by at left) e seen.is in
+    front_longer old after (front ++ byte ∷ []) rest.0 bytes (front_on old now after front (byte ∷ []) (front ++ byte ∷ []) taken last refl) rest.1
 
 -- what holds of the text holds where the answer is a fault
 pub on_fault : {T E : Type 0} (answer : Result T E) (P : Type 0) → P → OnErr answer P

@@ -1,7 +1,6 @@
 -- What the machine's answers say of its steps and of the sink.
-use Rattle.std.specs.Prelude.{◌≡◌, ℕ, List, [], length, Option, Some, None}
+use Rattle.std.specs.Prelude.{◌≡◌, ℕ, List, [], Option, Some, None}
 use Rattle.run_laws.specs.Runs as runs
-use Rattle.trc_base.specs.Devices.{Took, Grew}
 use Rattle.a64_machine.specs.State.{State, place_at}
 use Rattle.a64_machine.specs.State as why
 use Rattle.a64_machine.specs.Services.{Text, Bytes, Outside}
@@ -9,11 +8,6 @@ use Rattle.a64_machine.specs.declared.answers.Step.{Step}
 use Rattle.a64_machine.specs.declared.answers.Step.TheVariants.{Going, Ended, Trapped, Undefined, BadAddress, BadCall, WriteFault}
 use Rattle.a64_machine.specs.declared.answers.Halt.{Halt}
 use Rattle.a64_machine.specs.declared.answers.Halt.TheVariants as halt
-
--- a sink took all these bytes: where it tells them, they joined what it took, and where it tells their number, it rose by theirs
-pub record TookAll (old : Option (List ℕ)) (amount : Option ℕ) (bytes : List ℕ) (new : Option (List ℕ)) (amount' : Option ℕ) : Type 0 where
-  pub took : Took old bytes new
-  pub grew : Grew amount (length bytes) amount'
 
 -- a machine at s answers a step so, and is at t afterwards: where it goes on, at the step's next state, and the sink took all
 -- that the step writes; where it halts, at s as before, and nothing was taken; at a write fault too, with a front taken

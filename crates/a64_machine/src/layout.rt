@@ -9,7 +9,7 @@ ghost use Rattle.a64_machine.specs.Machine.{zeroed, first_memory, first_register
 use a64_memory::Region;
 use image_form::Image;
 use std::alloc::Global;
-use trc_base::Memory;
+use outside::Memory;
 
 /// Where the globals lie, with the constants behind them.
 pub const DATA_BASE: u64 = 0x1000_0000;

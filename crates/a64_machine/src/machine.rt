@@ -1,14 +1,14 @@
 //! The machine whole: its code, and everything else.
 
 ghost use Rattle.std.specs.Prelude.{◌≡◌, ◌≤◌, [], IfOk};
-ghost use Rattle.trc_base.specs.Devices.{Rose, TookFront};
+ghost use Rattle.outside.specs.Sink.{TookAll, TookFront, Faulted};
 ghost use Rattle.run_laws.specs.Runs.{run};
 ghost use Rattle.image_form.specs.Form.{IsInForm};
 ghost use Rattle.a64_numbers.specs.Conditions.{clear_flags};
 ghost use Rattle.a64_machine.specs.Machine.{step_of, fetch, start};
 ghost use Rattle.a64_machine.specs.Effects.{effect};
 ghost use Rattle.a64_machine.specs.View.{core_state, code_of, state_of};
-ghost use Rattle.a64_machine.specs.Answers.{Made, Ran, TookAll};
+ghost use Rattle.a64_machine.specs.Answers.{Made, Ran};
 
 use crate::answers::{Halt, Step};
 use crate::execute::service_number;
@@ -19,7 +19,7 @@ use a64_numbers::Flags;
 use a64_table::decode;
 use image_form::Image;
 use std::alloc::Global;
-use trc_base::{Memory, Sink};
+use outside::{Memory, Sink};
 
 /// The A64 machine with an image loaded.
 #[derive(Drop)]
@@ -35,10 +35,9 @@ impl Core {
     /// Carries out any instruction.
     fn carries_out<O: Sink>(&mut self, i: Instr, out: &mut O) -> Step
         ensures made { Made result (core_state self.old) (core_state self.new) (effect i (core_state self.old))
-            (λ bytes. TookAll (O.taken out.old) (O.amount out.old) bytes (O.taken out.new) (O.amount out.new))
-            (λ bytes. TookFront (O.taken out.old) (O.amount out.old) bytes (O.taken out.new) (O.amount out.new)) }
-        ensures rises { O.faults out.old ≤ O.faults out.new }
-        ensures failed { result ≡ Step.WriteFault → Rose (O.faults out.old) (O.faults out.new) }
+            (TookAll (O.account out.old) (O.account out.new)) (TookFront (O.account out.old) (O.account out.new)) }
+        ensures rises { (O.account out.old).faults ≤ (O.account out.new).faults }
+        ensures failed { result ≡ Step.WriteFault → Faulted (O.account out.old) (O.account out.new) }
     {
         match service_number(&i) {
             Some(number) => self.service(number, out),
@@ -106,10 +105,9 @@ impl Machine {
     pub fn step<O: Sink>(&mut self, out: &mut O) -> Step
         ensures code { code_of self.new ≡ code_of self.old }
         ensures made { Made result (state_of self.old) (state_of self.new) (step_of (code_of self.old) (state_of self.old))
-            (λ bytes. TookAll (O.taken out.old) (O.amount out.old) bytes (O.taken out.new) (O.amount out.new))
-            (λ bytes. TookFront (O.taken out.old) (O.amount out.old) bytes (O.taken out.new) (O.amount out.new)) }
-        ensures rises { O.faults out.old ≤ O.faults out.new }
-        ensures failed { result ≡ Step.WriteFault → Rose (O.faults out.old) (O.faults out.new) }
+            (TookAll (O.account out.old) (O.account out.new)) (TookFront (O.account out.old) (O.account out.new)) }
+        ensures rises { (O.account out.old).faults ≤ (O.account out.new).faults }
+        ensures failed { result ≡ Step.WriteFault → Faulted (O.account out.old) (O.account out.new) }
     {
         let pc = self.core.pc;
         match fetch(&self.code, pc) {
@@ -125,10 +123,9 @@ impl Machine {
     /// so also for no steps. It takes no memory.
     pub fn run<O: Sink>(self, steps: u64, out: &mut O) -> Halt
         ensures ran { Ran result (run (step_of (code_of self)) steps (state_of self) [])
-            (λ bytes. TookAll (O.taken out.old) (O.amount out.old) bytes (O.taken out.new) (O.amount out.new))
-            (λ bytes. TookFront (O.taken out.old) (O.amount out.old) bytes (O.taken out.new) (O.amount out.new)) }
-        ensures rises { O.faults out.old ≤ O.faults out.new }
-        ensures failed { result ≡ Halt.WriteFault → Rose (O.faults out.old) (O.faults out.new) }
+            (TookAll (O.account out.old) (O.account out.new)) (TookFront (O.account out.old) (O.account out.new)) }
+        ensures rises { (O.account out.old).faults ≤ (O.account out.new).faults }
+        ensures failed { result ≡ Halt.WriteFault → Faulted (O.account out.old) (O.account out.new) }
     {
         let mut machine = self;
         for _n in 0..steps {

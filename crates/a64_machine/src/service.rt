@@ -1,17 +1,17 @@
 //! What an SVC does, by its number.
 
 ghost use Rattle.std.specs.Prelude.{◌≡◌, ◌≤◌, ◌-◌, ◌^◌, drop, slice_index_or};
-ghost use Rattle.trc_base.specs.Devices.{Rose, TookFront};
+ghost use Rattle.outside.specs.Sink.{TookAll, TookFront, Faulted};
 ghost use Rattle.a64_machine.specs.Services.{service, writes, writes_text, text_at, takes_input};
 ghost use Rattle.a64_machine.specs.View.{core_state, Told};
-ghost use Rattle.a64_machine.specs.Answers.{Made, TookAll};
+ghost use Rattle.a64_machine.specs.Answers.{Made};
 
 use crate::answers::Step;
 use crate::processor::Core;
 use crate::text::{outside, write_text};
 use a64_instr::Bits;
 use out_text::IntText;
-use trc_base::{Sink, WriteFault, write_all};
+use outside::{Sink, WriteFault, write_all};
 
 impl Core {
     /// Takes the next byte of the input, or gives 2^64 - 1 at its end.
@@ -38,10 +38,9 @@ impl Core {
     /// Writes and goes on.
     fn writes<O: Sink>(&mut self, bytes: &[u8], out: &mut O) -> Step
         ensures made { Made result (core_state self.old) (core_state self.new) (writes (core_state self.old) bytes.now)
-            (λ bytes. TookAll (O.taken out.old) (O.amount out.old) bytes (O.taken out.new) (O.amount out.new))
-            (λ bytes. TookFront (O.taken out.old) (O.amount out.old) bytes (O.taken out.new) (O.amount out.new)) }
-        ensures rises { O.faults out.old ≤ O.faults out.new }
-        ensures failed { result ≡ Step.WriteFault → Rose (O.faults out.old) (O.faults out.new) }
+            (TookAll (O.account out.old) (O.account out.new)) (TookFront (O.account out.old) (O.account out.new)) }
+        ensures rises { (O.account out.old).faults ≤ (O.account out.new).faults }
+        ensures failed { result ≡ Step.WriteFault → Faulted (O.account out.old) (O.account out.new) }
     {
         match write_all(out, bytes) {
             Ok(()) => {
@@ -55,10 +54,9 @@ impl Core {
     /// Writes the text at X0, of at most X1 bytes that lie X2 apart, and goes on.
     fn writes_text<O: Sink>(&mut self, out: &mut O) -> Step
         ensures made { let s = core_state self.old in Made result s (core_state self.new) (writes_text s (text_at s.memory (s.registers 2) (s.registers 0) (s.registers 1)))
-            (λ bytes. TookAll (O.taken out.old) (O.amount out.old) bytes (O.taken out.new) (O.amount out.new))
-            (λ bytes. TookFront (O.taken out.old) (O.amount out.old) bytes (O.taken out.new) (O.amount out.new)) }
-        ensures rises { O.faults out.old ≤ O.faults out.new }
-        ensures failed { result ≡ Step.WriteFault → Rose (O.faults out.old) (O.faults out.new) }
+            (TookAll (O.account out.old) (O.account out.new)) (TookFront (O.account out.old) (O.account out.new)) }
+        ensures rises { (O.account out.old).faults ≤ (O.account out.new).faults }
+        ensures failed { result ≡ Step.WriteFault → Faulted (O.account out.old) (O.account out.new) }
     {
         let (from, most, by) = (self.registers[0], self.registers[1], self.registers[2]);
         if let Some(address) = outside(&self.memory, from, by, most) {
@@ -76,10 +74,9 @@ impl Core {
     /// Carries out an SVC.
     pub fn service<O: Sink>(&mut self, number: Bits<16>, out: &mut O) -> Step
         ensures made { Made result (core_state self.old) (core_state self.new) (service number (core_state self.old))
-            (λ bytes. TookAll (O.taken out.old) (O.amount out.old) bytes (O.taken out.new) (O.amount out.new))
-            (λ bytes. TookFront (O.taken out.old) (O.amount out.old) bytes (O.taken out.new) (O.amount out.new)) }
-        ensures rises { O.faults out.old ≤ O.faults out.new }
-        ensures failed { result ≡ Step.WriteFault → Rose (O.faults out.old) (O.faults out.new) }
+            (TookAll (O.account out.old) (O.account out.new)) (TookFront (O.account out.old) (O.account out.new)) }
+        ensures rises { (O.account out.old).faults ≤ (O.account out.new).faults }
+        ensures failed { result ≡ Step.WriteFault → Faulted (O.account out.old) (O.account out.new) }
     {
         let (first, second, third) = (self.registers[0], self.registers[1], self.registers[2]);
         match number.get() {

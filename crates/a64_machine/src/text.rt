@@ -1,13 +1,13 @@
 //! The text that a service writes: bytes in memory, some bytes apart, up to a 0.
 
 ghost use Rattle.std.specs.Prelude.{◌≡◌, ◌≤◌, [], ◌∷◌, List, ℕ, None, OnOk, OnErr};
-ghost use Rattle.trc_base.specs.Devices.{Rose, TookFront};
+ghost use Rattle.outside.specs.Sink.{TookAll, TookFront, Faulted};
 ghost use Rattle.a64_memory.specs.Memory.{area, areas, load1};
 ghost use Rattle.a64_machine.specs.Services.{text_at};
-ghost use Rattle.a64_machine.specs.Answers.{TookAll, OfBytes, Lacks};
+ghost use Rattle.a64_machine.specs.Answers.{OfBytes, Lacks};
 
 use a64_memory::Region;
-use trc_base::{Sink, WriteFault, write_all};
+use outside::{Sink, WriteFault, write_all};
 
 /// The first address of the text that lies in no region. No byte after the first 0 is looked at.
 pub fn outside(regions: &[Region], from: u64, by: u64, most: u64) -> Option<u64>
@@ -33,10 +33,10 @@ pub fn write_text<O: Sink>(
     out: &mut O,
 ) -> Result<(), WriteFault>
     requires { Lacks None (text_at (areas regions.now) by from most) }
-    ensures all { OnOk result (OfBytes (text_at (areas regions.now) by from most) (λ bytes. TookAll (O.taken out.old) (O.amount out.old) bytes (O.taken out.new) (O.amount out.new))) }
-    ensures front { OnErr result (OfBytes (text_at (areas regions.now) by from most) (λ bytes. TookFront (O.taken out.old) (O.amount out.old) bytes (O.taken out.new) (O.amount out.new))) }
-    ensures rises { O.faults out.old ≤ O.faults out.new }
-    ensures failed { OnErr result (Rose (O.faults out.old) (O.faults out.new)) }
+    ensures all { OnOk result (OfBytes (text_at (areas regions.now) by from most) (TookAll (O.account out.old) (O.account out.new))) }
+    ensures front { OnErr result (OfBytes (text_at (areas regions.now) by from most) (TookFront (O.account out.old) (O.account out.new))) }
+    ensures rises { (O.account out.old).faults ≤ (O.account out.new).faults }
+    ensures failed { OnErr result (Faulted (O.account out.old) (O.account out.new)) }
 {
     let mut at = from;
     for _n in 0..most {

@@ -10,7 +10,7 @@ use crate::operation::Operation;
 use a64_instr::{Bits, Instr, Shift};
 use a64_numbers::{Move, constant_moves};
 use a64_table::encode;
-use trc_base::Memory;
+use outside::Memory;
 
 /// Appends an instruction's word.
 fn push(words: &mut Vec<u32>, instr: Instr) -> Result<(), Memory>

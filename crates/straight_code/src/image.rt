@@ -14,7 +14,7 @@ use crate::code::{push_epilogue, push_operation, push_prologue};
 use crate::operation::Operation;
 use image_form::{Bytes, Image, Words};
 use std::alloc::Global;
-use trc_base::Memory;
+use outside::Memory;
 
 /// The words before the procedure: the start, and the routines that copy, zero and compare.
 const FRONT: [u32; 40] = [

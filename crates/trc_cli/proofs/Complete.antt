@@ -1,6 +1,6 @@
 -- The cause of a run, by what the file holds.
 use Rattle.std.proofs.Common.{◌≡◌, ℕ, List, Option, Some, None, ◌⊎◌, inl, inr, refl, subst}
-use Rattle.trc_base.specs.Devices.{Held}
+use Rattle.outside.specs.Files.{Held}
 use Rattle.first_text.specs.declared.tree.Text.{Text}
 use Rattle.first_text.specs.Texts.{IsText}
 use Rattle.trc_cli.specs.Verdict.{Change, Failed, IsBuilt, IsNoText, Says}

@@ -6,8 +6,8 @@ use Rattle.run_laws.specs.Runs.{Ended, run, output, IsOver}
 use Rattle.run_laws.proofs.BoundedRuns.{run-longer_to}
 use Rattle.image_form.specs.declared.image.Image.{Image}
 use Rattle.image_form.specs.Form.{IsInForm}
-use Rattle.trc_base.specs.Devices.{Held, Reads}
-use Rattle.trc_base.specs.declared.devices.GetFault.TheVariants as get
+use Rattle.outside.specs.Files.{Held, ToldOfRead}
+use Rattle.outside.specs.declared.files.GetFault.TheVariants as get
 use Rattle.a64_machine.specs.Machine.{start, step_of}
 use Rattle.first_text.specs.declared.tree.Text.{Text}
 use Rattle.first_text.specs.Texts.{IsText}
@@ -57,12 +57,12 @@ source_says bytes image text out Done is same form meant says =
     let out_is : says.0 ≡ output_of text = cc in
     (text, record { is = is; runs = e }, subst (TakesAll out) out_is says.2)
 
-holds_read : (held : Option Held) (name : List ℕ) (most : ℕ) (source : Vec ℕ Global) → Reads held name most (Ok source) → Holds held name (λ content. content ≡ Some source.items)
+holds_read : (held : Option Held) (name : List ℕ) (most : ℕ) (source : Vec ℕ Global) → ToldOfRead held name most (Ok source) → Holds held name (λ content. content ≡ Some source.items)
 holds_read None name most source r = tt
 holds_read (Some h) name most source r = r
 
 -- from the source that was read to the file
-pub file_says : (held : Option Held) (name : List ℕ) (rose : Type 0) (most : ℕ) (source : Vec ℕ Global) (bytes : List ℕ) (out : Change) (cause : Cause) → Reads held name most (Ok source) → bytes ≡ source.items → SaysOfSource bytes out cause → Says held name rose out cause
+pub file_says : (held : Option Held) (name : List ℕ) (rose : Type 0) (most : ℕ) (source : Vec ℕ Global) (bytes : List ℕ) (out : Change) (cause : Cause) → ToldOfRead held name most (Ok source) → bytes ≡ source.items → SaysOfSource bytes out cause → Says held name rose out cause
 file_says held name rose most source bytes out Usage r e says = says
 file_says held name rose most source bytes out (NoSuchFile word) r e says = absurd says
 file_says held name rose most source bytes out (ReadFault Files) r e says = absurd says
@@ -79,7 +79,7 @@ file_says held name rose most source bytes out Done r e says =
     (says.0, record { bytes = source.items; file = holds_read held name most source r; meant = subst (λ b. IsMeant b says.0) e says.1 }, says.2)
 
 -- a file that is longer than a text may be is no text
-pub too_long_says : (held : Option Held) (name : List ℕ) → Reads held name 1048576 (Err get.TooLong) → Holds held name IsUnbuilt
+pub too_long_says : (held : Option Held) (name : List ℕ) → ToldOfRead held name 1048576 (Err get.TooLong) → Holds held name IsUnbuilt
 too_long_says None name r = tt
 too_long_says (Some h) name r = (r.0, r.1, record { none = λ text is. let size = is.size in let long = r.2 in absurd (omega (arith, size, long)) })
 

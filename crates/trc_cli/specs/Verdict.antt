@@ -2,8 +2,8 @@
 use Rattle.std.specs.Prelude.{◌≡◌, ℕ, List, Option, Some, None}
 use Rattle.run_laws.specs.Runs.{Ended, output}
 use Rattle.image_form.specs.declared.image.Image.{Image}
-use Rattle.trc_base.specs.Devices.{Held, Rose, TookFront}
-use Rattle.a64_machine.specs.Answers.{TookAll}
+use Rattle.outside.specs.Files.{Held}
+use Rattle.outside.specs.Sink.{Account, TookAll, TookFront, TookNothing, Faulted}
 use Rattle.first_text.specs.declared.tree.Text.{Text}
 use Rattle.first_text.specs.Texts.{IsText}
 use Rattle.first_text.specs.Meaning.{output_of}
@@ -12,31 +12,26 @@ use Rattle.trc_cli.specs.declared.causes.Device.TheVariants.{Files, Input, Outpu
 use Rattle.trc_cli.specs.declared.causes.Cause.{Cause}
 use Rattle.trc_cli.specs.declared.causes.Cause.TheVariants.{Usage, NoSuchFile, ReadFault, Unbuilt, WriteFault, Memory, Done}
 
--- a sink before and after a call: what it took and how much, where it tells, and its faults
+-- a sink before and after a call
 pub record Change : Type 0 where
-  pub taken : Option (List ℕ)
-  pub amount : Option ℕ
-  pub faults : ℕ
-  pub taken' : Option (List ℕ)
-  pub amount' : Option ℕ
-  pub faults' : ℕ
+  pub before : Account
+  pub after : Account
 
 -- it took nothing
-pub record IsUntouched (c : Change) : Type 0 where
-  pub taken : c.taken' ≡ c.taken
-  pub amount : c.amount' ≡ c.amount
+abbrev pub IsUntouched : Change → Type 0
+IsUntouched c = TookNothing c.before c.after
 
 -- it took all these bytes, and no others
 abbrev pub TakesAll : Change → List ℕ → Type 0
-TakesAll c bytes = TookAll c.taken c.amount bytes c.taken' c.amount'
+TakesAll c bytes = TookAll c.before c.after bytes
 
 -- it took a front of these bytes
 abbrev pub TakesFront : Change → List ℕ → Type 0
-TakesFront c bytes = TookFront c.taken c.amount bytes c.taken' c.amount'
+TakesFront c bytes = TookFront c.before c.after bytes
 
 -- its count of faults rose
 abbrev pub Failed : Change → Type 0
-Failed c = Rose c.faults c.faults'
+Failed c = Faulted c.before c.after
 
 -- where the files tell their content, this holds of what is held under the name
 abbrev pub Holds : Option Held → List ℕ → (Option (List ℕ) → Type 0) → Type 0

@@ -1,7 +1,8 @@
 //! What the clauses of the top call come to.
 
 ghost use Rattle.std.specs.Prelude.{◌≡◌, ◌⊎◌, ℕ, List, Option, Some, None};
-ghost use Rattle.trc_base.specs.Devices.{Held, Rose};
+ghost use Rattle.outside.specs.Counts.{Rose};
+ghost use Rattle.outside.specs.Files.{Held};
 ghost use Rattle.first_text.specs.declared.tree.Text.{Text};
 ghost use Rattle.first_text.specs.Texts.{IsText};
 ghost use Rattle.trc_cli.specs.declared.causes.Cause.{Cause};

@@ -1,8 +1,7 @@
 //! The line that tells a cause.
 
 ghost use Rattle.std.specs.Prelude.{◌≡◌, ◌≤◌, [], ◌++◌, OnOk, OnErr};
-ghost use Rattle.trc_base.specs.Devices.{Rose};
-ghost use Rattle.a64_machine.specs.Answers.{TookAll};
+ghost use Rattle.outside.specs.Sink.{TookAll, Faulted};
 ghost use Rattle.trc_cli.specs.Causes.{device_name, line, line_of};
 
 use crate::causes::{Cause, Device};
@@ -21,9 +20,9 @@ fn name_of(device: Device) -> &'static [u8]
 
 /// Writes a message, a name and the line's end.
 fn say<E: Sink>(err: &mut E, message: &[u8], name: &[u8]) -> Result<(), WriteFault>
-    ensures all { OnOk result (TookAll (E.taken err.old) (E.amount err.old) (line message.now name.now) (E.taken err.new) (E.amount err.new)) }
-    ensures rises { E.faults err.old ≤ E.faults err.new }
-    ensures failed { OnErr result (Rose (E.faults err.old) (E.faults err.new)) }
+    ensures all { OnOk result (TookAll (E.account err.old) (E.account err.new) (line message.now name.now)) }
+    ensures rises { (E.account err.old).faults ≤ (E.account err.new).faults }
+    ensures failed { OnErr result (Faulted (E.account err.old) (E.account err.new)) }
 {
     write_all(err, message)?;
     write_all(err, name)?;
@@ -33,9 +32,9 @@ fn say<E: Sink>(err: &mut E, message: &[u8], name: &[u8]) -> Result<(), WriteFau
 
 /// Writes the line of a cause, for the file of this name.
 pub(crate) fn report<E: Sink>(err: &mut E, cause: Cause, name: &[u8]) -> Result<(), WriteFault>
-    ensures all { OnOk result (TookAll (E.taken err.old) (E.amount err.old) (line_of cause name.now) (E.taken err.new) (E.amount err.new)) }
-    ensures rises { E.faults err.old ≤ E.faults err.new }
-    ensures failed { OnErr result (Rose (E.faults err.old) (E.faults err.new)) }
+    ensures all { OnOk result (TookAll (E.account err.old) (E.account err.new) (line_of cause name.now)) }
+    ensures rises { (E.account err.old).faults ≤ (E.account err.new).faults }
+    ensures failed { OnErr result (Faulted (E.account err.old) (E.account err.new)) }
 {
     match cause {
         Cause::Usage => say(err, b"trc: usage", b""),

@@ -2,7 +2,7 @@
 
 ghost use Rattle.std.specs.Prelude.{◌≡◌, ◌≤◌, ℕ, List};
 ghost use Rattle.image_form.specs.Form.{IsInForm};
-ghost use Rattle.trc_base.specs.Devices.{Rose};
+ghost use Rattle.outside.specs.Counts.{Rose};
 ghost use Rattle.trc_cli.specs.Runs.{most_steps, Ends};
 ghost use Rattle.trc_cli.specs.Verdict.{Change, Says, SaysOfImage, SaysOfSource};
 
@@ -27,8 +27,8 @@ fn steps() -> u64
 fn run_image<O: Sink>(alloc: Global, image: Image, out: &mut O) -> Cause
     requires form { IsInForm image }
     requires ends { Ends image }
-    ensures says { SaysOfImage image (record { taken = O.taken out.old; amount = O.amount out.old; faults = O.faults out.old; taken' = O.taken out.new; amount' = O.amount out.new; faults' = O.faults out.new }) result }
-    ensures rises { O.faults out.old ≤ O.faults out.new }
+    ensures says { SaysOfImage image (record { before = O.account out.old; after = O.account out.new }) result }
+    ensures rises { (O.account out.old).faults ≤ (O.account out.new).faults }
 {
     let machine = match Machine::load(alloc, image, Vec::new(alloc)) {
         Ok(machine) => machine,
@@ -49,8 +49,8 @@ fn run_image<O: Sink>(alloc: Global, image: Image, out: &mut O) -> Cause
 
 /// Compiles a source and runs its image.
 fn run_source<O: Sink>(alloc: Global, source: &[u8], out: &mut O) -> Cause
-    ensures says { SaysOfSource source.now (record { taken = O.taken out.old; amount = O.amount out.old; faults = O.faults out.old; taken' = O.taken out.new; amount' = O.amount out.new; faults' = O.faults out.new }) result }
-    ensures rises { O.faults out.old ≤ O.faults out.new }
+    ensures says { SaysOfSource source.now (record { before = O.account out.old; after = O.account out.new }) result }
+    ensures rises { (O.account out.old).faults ≤ (O.account out.new).faults }
 {
     match compile(alloc, source) {
         Ok(image) => run_image(alloc, image, out),
@@ -66,10 +66,10 @@ pub(crate) fn run_file<F: Files, O: Sink>(
     files: &mut F,
     out: &mut O,
 ) -> Cause
-    ensures says { Says (F.held files.old) name.now (Rose (F.faults files.old) (F.faults files.new)) (record { taken = O.taken out.old; amount = O.amount out.old; faults = O.faults out.old; taken' = O.taken out.new; amount' = O.amount out.new; faults' = O.faults out.new }) result }
+    ensures says { Says (F.held files.old) name.now (Rose (F.faults files.old) (F.faults files.new)) (record { before = O.account out.old; after = O.account out.new }) result }
     ensures files { F.held files.new ≡ F.held files.old }
     ensures files_rise { F.faults files.old ≤ F.faults files.new }
-    ensures out_rises { O.faults out.old ≤ O.faults out.new }
+    ensures out_rises { (O.account out.old).faults ≤ (O.account out.new).faults }
 {
     match files.read(alloc, name, MOST_BYTES) {
         Ok(source) => run_source(alloc, source.as_slice(), out),

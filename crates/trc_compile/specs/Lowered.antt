@@ -1,6 +1,6 @@
 -- What a part of the lowering has done.
 use Rattle.std.specs.Prelude.{◌≡◌, ℕ, ◌+◌, ◌≤◌, List, ◌++◌, Result, IfOk}
-use Rattle.trc_base.specs.declared.memory.Memory.{Memory}
+use Rattle.outside.specs.declared.memory.Memory.{Memory}
 use Rattle.straight_code.specs.declared.operation.Operation.{Operation}
 use Rattle.straight_code.specs.Operations.{AreLegal}
 

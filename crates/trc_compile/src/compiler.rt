@@ -11,7 +11,7 @@ use first_text::{Text, TextFault, read_text};
 use image_form::Image;
 use std::alloc::Global;
 use thiserror::Error;
-use trc_base::Memory;
+use outside::Memory;
 
 /// Why no image was made.
 #[derive(Clone, Copy, PartialEq, Eq, Debug, Error)]

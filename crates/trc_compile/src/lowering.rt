@@ -13,7 +13,7 @@ ghost use Rattle.trc_compile.specs.Lowered.{Lowers};
 use first_text::{Added, Factor, Sign, Simple, Statement, Term, Text};
 use std::alloc::Global;
 use straight_code::Operation;
-use trc_base::Memory;
+use outside::Memory;
 
 /// Appends a factor's operations, where so many values were made before, and answers how many are made then.
 #[cycle(lowering)]

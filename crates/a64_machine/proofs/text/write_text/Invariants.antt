@@ -1,7 +1,7 @@
 use Rattle.std.proofs.Common.{List, ℕ, ◌-◌, ◌≤◌}
 use Rattle.a64_memory.specs.Memory.{areas}
 use Rattle.a64_machine.specs.Services.{text_at}
-use Rattle.a64_machine.specs.Answers.{TookAll}
+use Rattle.outside.specs.Sink.{TookAll}
 use Rattle.a64_machine.proofs.Texts.{Seen}
 use Rattle.a64_machine.proofs.text.write_text.Given as goal
 
@@ -11,5 +11,5 @@ invariant-loop-n g l =
     let old = l.initial.out in
     (front : List ℕ)
     × Seen (text_at memory l.by l.from l.most) memory l.by l.at (l.most - l._n) front
-    × TookAll (g.O.Sink.taken old) (g.O.Sink.amount old) front (g.O.Sink.taken l.out) (g.O.Sink.amount l.out)
-    × (g.O.Sink.faults old ≤ g.O.Sink.faults l.out)
+    × TookAll (g.O.Sink.account old) (g.O.Sink.account l.out) front
+    × ((g.O.Sink.account old).faults ≤ (g.O.Sink.account l.out).faults)

@@ -1,4 +1,4 @@
-use Rattle.trc_base.specs.Devices.{Rose}
+use Rattle.outside.specs.Counts.{Rose}
 use Rattle.trc_cli.proofs.Complete.{texts, others, missing}
 use Rattle.trc_cli.proofs.laws.runs_answer.Goals as goal
 

@@ -2,7 +2,7 @@ use Rattle.std.proofs.Common.{◌≡◌, List, ℕ, [], ◌-◌, ◌≤◌}
 use Rattle.run_laws.specs.Runs.{run}
 use Rattle.a64_machine.specs.Machine.{step_of}
 use Rattle.a64_machine.specs.View.{code_of, state_of}
-use Rattle.a64_machine.specs.Answers.{TookAll}
+use Rattle.outside.specs.Sink.{TookAll}
 use Rattle.a64_machine.proofs.Running.{Runs}
 use Rattle.a64_machine.proofs.machine.Machine.run.Given as goal
 
@@ -13,5 +13,5 @@ invariant-loop-n g l =
     (done : List ℕ)
     × (code_of l.machine ≡ code_of l.fn.self)
     × Runs f (run f l.steps (state_of l.fn.self) []) (l.steps - l._n) (state_of l.machine) done
-    × TookAll (g.O.Sink.taken old) (g.O.Sink.amount old) done (g.O.Sink.taken l.out) (g.O.Sink.amount l.out)
-    × (g.O.Sink.faults old ≤ g.O.Sink.faults l.out)
+    × TookAll (g.O.Sink.account old) (g.O.Sink.account l.out) done
+    × ((g.O.Sink.account old).faults ≤ (g.O.Sink.account l.out).faults)

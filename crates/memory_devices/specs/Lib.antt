@@ -1,0 +1,4 @@
+pub mod Store
+pub mod MemFiles
+pub mod MemSink
+pub mod Clean

@@ -1,0 +1,15 @@
+//! Devices in memory: files, sources and sinks for tests and for commands that need no outside.
+//!
+//! Of `MemFiles`, `MemSource` and `MemSink` the calls whose numbers are listed fail, and no others; a source and a
+//! sink move so many bytes at a time. `CleanFiles`, `CleanSource` and `CleanSink` never fail. Each is proved
+//! against its trait of `outside`, and tells what it holds, what is left of it, or what it took.
+#![tactic(auto)]
+
+mod clean;
+mod mem_files;
+mod mem_sink;
+mod store;
+
+pub use clean::{CleanFiles, CleanSink, CleanSource};
+pub use mem_files::MemFiles;
+pub use mem_sink::MemSink;

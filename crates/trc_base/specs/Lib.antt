@@ -1,5 +1,0 @@
-pub mod Devices
-pub mod Store
-pub mod MemFiles
-pub mod MemSink
-pub mod Clean
