@@ -1,5 +1,5 @@
 -- When code in blocks is valid.
-use Rattle.std.specs.Prelude.{◌≡◌, ℕ, zero, suc, ◌+◌, ◌<◌, ◌≤◌, length, min, List, [], ◌∷◌, ◌++◌, Bool, true, false, not, ◌&&◌, ◌==◌, nat_lt, nat_le, cond, is_some, slice_get, Some}
+use Rattle.std.specs.Prelude.{◌≡◌, ℕ, zero, suc, ◌+◌, ◌<◌, ◌≤◌, length, min, List, [], ◌∷◌, ◌++◌, Bool, true, false, not, ◌&&◌, ◌==◌, nat_lt, nat_le, cond, is_some, slice_get, Option, Some, None}
 use Rattle.std.specs.List.{list_all}
 use Rattle.block_runs.specs.declared.code.Code.{Code}
 use Rattle.block_runs.specs.declared.code.Code.TheVariants.{Const, Global, Local, Plus, Arg, Load, Store, LoadByte, StoreByte, Add, Sub, And, Or, Eor, Bic, Lsl, Asr, Ror, Mul, MulAdd, Neg, Not, Abs, Max0, Odd, Set, Flip, Bit, Span, Has, Div, Mod, Below, Fits, Byte, Elem, NotNil, True, IsPtr, IsTag, GuardPtr, GuardTag, New, Call, CallAt, Copy, Zero, Compare, Svc}
@@ -145,6 +145,11 @@ times (x ∷ xs) v = cond (x == v) (suc (times xs v)) (times xs v)
 abbrev pub size_of : List CodeBlock → ℕ
 size_of [] = 0
 size_of (bl ∷ bls) = suc (length bl.ops) + size_of bls
+
+-- the number of a block that enters a loop is one of n blocks
+abbrev pub enter_below : ℕ → Option ℕ → Bool
+enter_below n None = true
+enter_below n (Some b) = nat_lt b n
 
 ---- Valid code
 

@@ -1,6 +1,6 @@
 //! A vector that contracts see as the list of its items.
 
-ghost use Rattle.std.specs.Prelude.{◌≡◌, List, [], ◌∷◌, ◌++◌, length, OnOk, OnErr, slice_get, Some};
+ghost use Rattle.std.specs.Prelude.{◌≡◌, List, [], ◌∷◌, ◌++◌, length, IfOk, OnOk, OnErr};
 
 use std::alloc::{AllocError, AllocFailed, Global};
 use std::marker::Model;
@@ -22,7 +22,9 @@ impl<T> Items<T> {
     pub fn new(alloc: Global) -> Items<T>
         ensures { result ≡ [] }
     {
-        Items { items: Vec::new(alloc) }
+        Items {
+            items: Vec::new(alloc),
+        }
     }
 
     /// The items of a vector.
@@ -60,5 +62,16 @@ impl<T> Items<T> {
         ensures err { OnErr result (self.new ≡ self.old) }
     {
         self.items.push(item)
+    }
+
+    /// A copy of some items.
+    pub fn from_slice(alloc: Global, items: &[T]) -> Result<Items<T>, AllocError>
+    where
+        T: Copy,
+        ensures { IfOk result (λ list. list ≡ items.now) }
+    {
+        Ok(Items {
+            items: Vec::from_slice(alloc, items)?,
+        })
     }
 }
