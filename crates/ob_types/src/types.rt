@@ -1,0 +1,108 @@
+//! Types: a table in which each type has a number (Oberon-07 report, section 6).
+
+ghost use Rattle.ob_types.specs.Table.{Table};
+
+use items::Items;
+use std::marker::Model;
+
+/// What a type is.
+#[derive(Clone, Copy)]
+pub enum TypeKind {
+    /// INTEGER, 64 bits.
+    Int,
+    /// BOOLEAN.
+    Bool,
+    /// CHAR, 0 to 255.
+    Char,
+    /// BYTE, 0 to 255.
+    Byte,
+    /// SET of 0 to 63.
+    Set,
+    /// The type of NIL.
+    Nil,
+    /// A string of so many characters.
+    Text(u32),
+    /// So many elements of a type; the length of an open array isn't known here.
+    Array { length: Option<u32>, element: u32 },
+    /// A record type, by its number among these.
+    Record(u32),
+    /// A pointer to records of that record type.
+    Pointer(u32),
+    /// A procedure type, by the number of its signature.
+    Procedure(u32),
+    /// What a procedure without a result gives.
+    Nothing,
+}
+
+/// A field that a record type adds.
+#[derive(Drop)]
+pub struct Field {
+    /// Its name's bytes.
+    pub name: Items<u8>,
+    /// Whether other modules see it.
+    pub exported: bool,
+    /// Its type.
+    pub type_number: u32,
+}
+
+/// A record type. These are numbered over all modules by the place of the word RECORD.
+#[derive(Drop)]
+pub struct RecordType {
+    /// The module that declares it.
+    pub module: u32,
+    /// The record type that it extends.
+    pub base: Option<u32>,
+    /// How many record types it extends, one through the other.
+    pub level: u32,
+    /// The fields that it adds to those of its base, in order.
+    pub fields: Items<Field>,
+}
+
+/// How a parameter is handed over.
+#[derive(Clone, Copy)]
+pub enum Mode {
+    /// A scalar value parameter: a local variable that starts as the argument. One word, the value.
+    Value,
+    /// VAR of a scalar or of an array of known length, or a value parameter that is an array of known length or a
+    /// record. One word, the address.
+    Place,
+    /// VAR of a record. Two words, the address and the dynamic type.
+    Record,
+    /// An open array. Two words, the address and the length.
+    Open,
+}
+
+/// A parameter of a procedure.
+#[derive(Drop)]
+pub struct Formal {
+    /// How it is handed over.
+    pub mode: Mode,
+    /// Whether it is a VAR parameter.
+    pub variable: bool,
+    /// Its type.
+    pub type_number: u32,
+}
+
+/// A procedure type.
+#[derive(Drop)]
+pub struct Signature {
+    /// The parameters, in order.
+    pub formals: Items<Formal>,
+    /// The type of the result, of kind `Nothing` where there is none.
+    pub result: u32,
+}
+
+/// All types of a program. A type's number is its place in this table; record types and signatures have numbers of
+/// their own.
+#[derive(Drop)]
+pub struct Types {
+    kinds: Items<TypeKind>,
+    records: Items<RecordType>,
+    signatures: Items<Signature>,
+}
+
+impl Model for Types {
+    ghost Value = { Table };
+
+    ghost view = { λ t. record { kinds = t.kinds; records = t.records; signatures = t.signatures } };
+}
