@@ -412,7 +412,7 @@ def spoiled(rows, spoils):
 def main():
     what, *files, out = sys.argv[1:]
     body = '\n'.join({'means': means, 'formed': formed, 'spoiled': spoiled}[what](*files))
-    head = HEAD % ('' if what == 'means' else 'use Rattle.ob_sound.specs.Typing.{well_formed}\n')
+    head = HEAD % ('' if what == 'means' else 'use Rattle.ob_types.specs.WellFormed.{well_formed}\n')
     open(out, 'w').write(head + vectors(body) + body)
 
 

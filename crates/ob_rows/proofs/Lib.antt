@@ -1,2 +1,3 @@
 mod Samples
 mod More
+mod Formed

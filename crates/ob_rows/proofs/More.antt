@@ -347,3 +347,11 @@ copyself_6 b v = refl
 pub copyself_7 : (b : Box (Unit {0}) Heap) (v : Vec (Unit {0}) Heap) → meaning (copyself b v) [] 7 ≡ Going []
 unfolding digits
 copyself_7 b v = refl
+
+-- MODULE V; TYPE F = PROCEDURE (s: ARRAY OF CHAR); VAR f: F; PROCEDURE P(s: ARRAY OF CHAR); VAR i: INTEGER; BEGIN i := LEN(s) END P; BEGIN f := P; f(''abc'') END V.
+abbrev stringcall : Outside Program
+stringcall b v = record { types = record { kinds = (Char ∷ (Array None 0) ∷ Nothing ∷ (ProcedureKind 0) ∷ Int ∷ []); records = []; signatures = (record { formals = (record { mode = OfOpen; variable = false; type_number = 1 } ∷ []); result = 2 } ∷ []) }; modules = (record { name = []; objects = []; variables = (3 ∷ []); body = 1 } ∷ []); procedures = (record { «module» = 0; line = 1; is_body = false; formals = (record { mode = OfOpen; variable = false; type_number = 1 } ∷ []); result = 2; locals = (4 ∷ []); texts = []; body = ((Assign (Whole (Local 0) Int) (record { form = (Length (Whole (Parameter 0) (Array None 0))); kind = Int })) ∷ []); answer = None } ∷ record { «module» = 0; line = 1; is_body = true; formals = []; result = 2; locals = []; texts = ((97 ∷ 98 ∷ 99 ∷ []) ∷ []); body = ((Assign (Whole (Global 0 0) (ProcedureKind 0)) (record { form = (Routine 0); kind = (ProcedureKind 0) })) ∷ (Invoke (Indirect' (Whole (Global 0 0) (ProcedureKind 0)) (vec1 v) (more_of-Argument (ByOpen (Whole (Text 0) (TextKind 3))) end_of-Argument))) ∷ []); answer = None } ∷ []); imports_in = false }
+
+pub stringcall_20 : (b : Box (Unit {0}) Heap) (v : Vec (Unit {0}) Heap) → meaning (stringcall b v) [] 20 ≡ Ended []
+unfolding digits
+stringcall_20 b v = refl

@@ -31,9 +31,12 @@ both_or_neither false b = not b
 
 module _ (same : ℕ → ℕ → Bool) where
   -- parameters of the same kinds and types
+  abbrev pub same_formal : Formal → Formal → Bool
+  same_formal x y = same_mode x.mode y.mode && (both_or_neither x.variable y.variable && same x.type_number y.type_number)
+
   abbrev pub same_formals : List Formal → List Formal → Bool
   same_formals [] [] = true
-  same_formals (x ∷ xs) (y ∷ ys) = same_mode x.mode y.mode && both_or_neither x.variable y.variable && same x.type_number y.type_number && same_formals xs ys
+  same_formals (x ∷ xs) (y ∷ ys) = same_formal x y && same_formals xs ys
   same_formals _ _ = false
 
   -- and the same result type

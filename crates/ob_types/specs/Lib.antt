@@ -6,3 +6,7 @@ pub mod Operators
 pub mod Expressions
 pub mod Statements
 pub mod Meaning
+pub mod Sense
+pub mod Forms
+pub mod WellFormed
+pub mod Ranks

@@ -19,7 +19,6 @@ use Rattle.ob_types.specs.declared.types.Mode.{Mode}
 use Rattle.ob_types.specs.declared.types.Mode.TheVariants.{Place}
 use Rattle.ob_types.specs.declared.types.Mode.TheVariants.{Value as OfValue, Record as OfRecord, Open as OfOpen}
 use Rattle.ob_types.specs.declared.types.Formal.{Formal}
-use Rattle.ob_types.specs.Table.{Table}
 use Rattle.ob_types.specs.declared.tree.Binary.TheVariants.{Add, Subtract, Union, Difference}
 use Rattle.ob_types.specs.declared.tree.Expr.{Expr, Literal, Routine, Load, Guard, Unary', Chain', Compare', CompareTexts', In', IsPointer', IsParameter, Byte', Length, Call', Row_of-Link, end_of-Link, more_of-Link}
 use Rattle.ob_types.specs.declared.tree.Link.{Link, Operate, And, Or, Element, Elements}
@@ -73,21 +72,21 @@ kind_in (Whole b k) = k
 kind_in (Part' b k _ row) = k
 
 -- the length of an array or a string, where the type has one: a string has a 0X behind its characters
-abbrev pub length_in : TypeKind → Option ℕ
-length_in (Array n element) = n
-length_in (TextKind n) = Some (suc n)
-length_in _ = None
+abbrev pub length_of_kind : TypeKind → Option ℕ
+length_of_kind (Array n element) = n
+length_of_kind (TextKind n) = Some (suc n)
+length_of_kind _ = None
 
--- the cells of an array's element
-abbrev pub element_cells : Table → TypeKind → ℕ
-element_cells t (Array n element) = cells t element
-element_cells t _ = 1
+-- the type of an array's elements
+abbrev pub element_kind : TypeKind → ℕ
+element_kind (Array n element) = element
+element_kind _ = 0
 
 -- the record type of a record, or of a pointer's objects
-abbrev pub record_in : TypeKind → ℕ
-record_in (Record r) = r
-record_in (Pointer r) = r
-record_in _ = 0
+abbrev pub record_of_kind : TypeKind → ℕ
+record_of_kind (Record r) = r
+record_of_kind (Pointer r) = r
+record_of_kind _ = 0
 
 abbrev pub is_byte : TypeKind → Bool
 is_byte ByteKind = true
@@ -111,12 +110,12 @@ module _ (p : Program) (calls : Calls) (here : Here) where
     value (Unary' op _ x) = one_operand op (value x)
     value (Chain' _ x _ links) = linked links (value x)
     value (Compare' r _ x _ y) = compared r (value x) (value y)
-    value (CompareTexts' r _ d _ e) = texts_compared r (designated d) (length_in (kind_in d)) (designated e) (length_in (kind_in e))
+    value (CompareTexts' r _ d _ e) = texts_compared r (designated d) (length_of_kind (kind_in d)) (designated e) (length_of_kind (kind_in e))
     value (In' _ x _ s) = contained here.procedure (value x) (value s)
     value (IsPointer' _ x r) = type_test (extends p.types) (pointer_type (value x)) r
     value (IsParameter d r) = type_test (extends p.types) (parameter_type (designated d)) r
     value (Byte' _ x) = as_byte here.procedure (value x)
-    value (Length d) = length_of (designated d) (length_in (kind_in d))
+    value (Length d) = length_of (designated d) (length_of_kind (kind_in d))
     value (Call' _ c) = result_of (called c)
 
     -- what the links make of a value, one after the other
@@ -154,8 +153,8 @@ module _ (p : Program) (calls : Calls) (here : Here) where
     pub argument : Argument → Act Handed
     argument (ByValue x) = by_value (value x)
     argument (ByPlace d) = by_place (designated d)
-    argument (ByRecord d) = by_record (designated d) (record_in (kind_in d))
-    argument (ByOpen d) = by_open (designated d) (length_in (kind_in d))
+    argument (ByRecord d) = by_record (designated d) (record_of_kind (kind_in d))
+    argument (ByOpen d) = by_open (designated d) (length_of_kind (kind_in d))
 
     pub arguments : {m : _} → Row_of-Argument m → Act (List Handed)
     arguments end_of-Argument = give []
@@ -165,17 +164,17 @@ module _ (p : Program) (calls : Calls) (here : Here) where
     abbrev mutual
       pub effect : Stmt → Deed
       effect (Assign d x) = assign (designated d) (value x.form)
-      effect (CopyArray d e) = copy_array here.procedure (designated d) (length_in (kind_in d)) (designated e) (length_in (kind_in e)) (element_cells p.types (kind_in d))
-      effect (CopyRecord d e) = copy_record (designated d) (designated e) (record_cells p.types (record_in (kind_in d)))
+      effect (CopyArray d e) = copy_array here.procedure (designated d) (length_of_kind (kind_in d)) (designated e) (length_of_kind (kind_in e)) (cells p.types (element_kind (kind_in d)))
+      effect (CopyRecord d e) = copy_record (designated d) (designated e) (record_cells p.types (record_of_kind (kind_in d)))
       effect (Increase d x) = change_number here.procedure Add (designated d) (value x.form) (is_byte (kind_in d))
       effect (Decrease d x) = change_number here.procedure Subtract (designated d) (value x.form) (is_byte (kind_in d))
       effect (Include d x) = change_set here.procedure Union (designated d) (value x.form)
       effect (Exclude d x) = change_set here.procedure Difference (designated d) (value x.form)
-      effect (New d) = new here.procedure (designated d) (record_in (kind_in d)) (record_cells p.types (record_in (kind_in d)))
+      effect (New d) = new here.procedure (designated d) (record_of_kind (kind_in d)) (record_cells p.types (record_of_kind (kind_in d)))
       effect (Assert x) = assert here.procedure (value x.form)
       effect (OutChar x) = out_char (value x.form)
       effect (OutInt x n) = out_int (value x.form) (value n.form)
-      effect (OutString d) = out_string (designated d) (length_in (kind_in d))
+      effect (OutString d) = out_string (designated d) (length_of_kind (kind_in d))
       effect OutLn = out_char (give (Bits 10))
       effect (InChar d) = in_char (designated d)
       effect (Invoke c) = called c >>= λ _. skip
