@@ -1,0 +1,13 @@
+pub mod Sums
+pub mod Trees
+pub mod Once
+pub mod Keeps
+pub mod Law
+pub mod Seats
+pub mod Opens
+pub mod Roots
+pub mod Chains
+pub mod Hands
+pub mod Moves
+pub mod Opened
+pub mod Changes
