@@ -25,5 +25,5 @@ pub use laws::{
 };
 pub use machine::Core;
 pub use model::{Event, Seen, Stage, State, Worker};
-pub use trc_base::Memory;
+pub use outside::Memory;
 pub use work::Work;

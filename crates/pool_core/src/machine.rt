@@ -15,7 +15,7 @@ use crate::model::{Event, Seen, Stage};
 use crate::workers::{Entry, Hand};
 use std::alloc::Global;
 use std::marker::Model;
-use trc_base::Memory;
+use outside::Memory;
 
 const SHARE: u64 = 4_294_967_296;
 

@@ -6,7 +6,7 @@ ghost use lib.ListN.{get_elem?};
 ghost use Rattle.pool_core.specs.Fits.{FitsRun};
 
 use std::alloc::Global;
-use trc_base::Memory;
+use outside::Memory;
 
 /// A tree of traces, numbered from 0, each of which has a final result. `run` finds it: of a trace without a parent
 /// from the trace alone, and of each other with the hint that the final result of its parent gives.
