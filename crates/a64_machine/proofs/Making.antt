@@ -1,14 +1,15 @@
 -- What a machine's step is, from its parts.
-use Rattle.std.proofs.Common.{◌≡◌, ℕ, List, [], Some, None, ap, ◌∙◌, subst}
+use Rattle.std.proofs.Common.{◌≡◌, ℕ, List, [], Option, Some, None, refl, sym, ap, subst}
+use Rattle.std.specs.Prelude.{option_and_then}
 use Rattle.run_laws.specs.Runs as runs
 use Rattle.a64_table.specs.Decode.{decode_of}
 use Rattle.a64_instr.specs.declared.instr.Instr.{Instr}
 use Rattle.a64_instr.specs.declared.instr.Instr.TheVariants.{Svc}
-use Rattle.a64_machine.specs.State.{State, Trap, Undefined, BadAddress}
+use Rattle.a64_machine.specs.State.{State, Trap}
 use Rattle.a64_machine.specs.Services.{service}
 use Rattle.a64_machine.specs.Effects.{effect}
 use Rattle.a64_machine.specs.Machine.{fetch, fetched, decoded, step_of}
-use Rattle.a64_machine.specs.View.{service_number, Told}
+use Rattle.a64_machine.specs.View.{service_number, stop_of, Told}
 use Rattle.a64_machine.specs.Answers.{Made}
 use Rattle.a64_machine.specs.declared.answers.Step.{Step}
 use Rattle.a64_machine.specs.declared.answers.Step.TheVariants as answer
@@ -33,14 +34,18 @@ effect-service (Svc number') number s e = let same : number ≡ number' = cc in 
 effect-service _ number s e = cc
 
 module _ (code : List ℕ) (s : State) where
-  -- nothing can be fetched
-  pub step-unfetched : fetch code s.pc ≡ None → step_of code s ≡ runs.Traps (BadAddress s.pc)
-  step-unfetched e = ap (λ o. fetched o s) e
+  by_word : (o : Option ℕ) (i : Instr) → option_and_then decode_of o ≡ Some i → fetched o s ≡ effect i s
+  by_word None i e = cc
+  by_word (Some word) i e = ap (λ d. decoded word d s) e
 
-  -- the fetched word isn't in the table
-  pub step-undefined : (word : ℕ) → fetch code s.pc ≡ Some word → decode_of word ≡ None → step_of code s ≡ runs.Traps (Undefined word)
-  step-undefined word e d = ap (λ o. fetched o s) e ∙ ap (λ o. decoded word o s) d
+  -- the word at PC stands for an instruction
+  pub step-effect : (i : Instr) → option_and_then decode_of (fetch code s.pc) ≡ Some i → step_of code s ≡ effect i s
+  step-effect i e = by_word (fetch code s.pc) i e
 
-  -- the fetched word is an instruction's
-  pub step-effect : (word : ℕ) (i : Instr) → fetch code s.pc ≡ Some word → decode_of word ≡ Some i → step_of code s ≡ effect i s
-  step-effect word i e d = ap (λ o. fetched o s) e ∙ ap (λ o. decoded word o s) d
+  stopped : (o : Option ℕ) (r : Step) (all front : List ℕ → Type 0) → all [] → option_and_then decode_of o ≡ None → r ≡ stop_of s.pc o → Made r s s (fetched o s) all front
+  stopped None r all front none e is = subst (λ r. Made r s s (fetched None s) all front) (sym is) (refl, refl, none)
+  stopped (Some word) r all front none e is = subst (λ r. Made r s s (fetched (Some word) s) all front) (sym is) (ap (λ d. decoded word d s) e, refl, none)
+
+  -- there is none, or it stands for none
+  pub made_stop : (r : Step) (all front : List ℕ → Type 0) → all [] → option_and_then decode_of (fetch code s.pc) ≡ None → r ≡ stop_of s.pc (fetch code s.pc) → Made r s s (step_of code s) all front
+  made_stop r all front none e is = stopped (fetch code s.pc) r all front none e is

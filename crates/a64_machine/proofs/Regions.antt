@@ -1,8 +1,9 @@
 -- The regions at the start lie one above the other, and are of bytes.
-use Rattle.std.proofs.Common.{◌≡◌, ℕ, ◌^◌, List, ◌++◌, ◌<◌, zero, suc, [], ◌∷◌, get_or, length, refl, ap, arith, length-append}
+use Rattle.std.proofs.Common.{◌≡◌, ℕ, ◌+◌, ◌-◌, ◌^◌, List, ◌++◌, ◌<◌, zero, suc, [], ◌∷◌, get_or, length, refl, ap, ap₂, ◌∙◌, arith, length-append}
 use Rattle.std.specs.Prelude.{replicate}
-use Rattle.std.proofs.lemmas.List.{length-replicate}
-use Rattle.a64_memory.specs.Memory.{IsRising, AreBytes, IsOfBytes}
+use Rattle.std.proofs.lemmas.List.{append-nil, length-replicate, take-replicate, drop-replicate}
+use Rattle.a64_memory.specs.Bytes.{splice}
+use Rattle.a64_memory.specs.Memory.{written, IsRising, AreBytes, IsOfBytes}
 use Rattle.image_form.specs.declared.image.Image.{Image}
 use Rattle.image_form.specs.Form.{IsInForm}
 use Rattle.a64_machine.proofs.Registers.{zeros_read}
@@ -38,3 +39,15 @@ append_are (x ∷ xs) ys h k (suc i) = append_are xs ys (λ j. h (suc j)) k i
 pub first_memory-bytes : (image : Image) → AreBytes image.constants → IsOfBytes (first_memory image)
 first_memory-bytes image constants =
     (append_are (replicate image.globals 0) image.constants (zeros_are image.globals) constants, (zeros_are local_bytes, (zeros_are (frames_bytes image.frame), (zeros_are heap_bytes, tt))))
+
+-- bytes stored into zeros, up to their end
+zeros_before : (n : ℕ) (bytes : List ℕ) → splice (replicate (n + length bytes) 0) n bytes ≡ replicate n 0 ++ bytes
+zeros_before n bytes =
+    let none : n + length bytes - (n + length bytes) ≡ 0 = omega arith in
+    ap₂ (λ u v. u ++ (bytes ++ v)) (take-replicate n (n + length bytes) 0 (omega arith)) (drop-replicate (n + length bytes) (n + length bytes) 0 ∙ ap (λ k. replicate k 0) none)
+    ∙ ap (λ l. replicate n 0 ++ l) (append-nil bytes)
+
+pub constants_stored : (base n : ℕ) (bytes : List ℕ) → written (record { base = base; bytes = replicate (n + length bytes) 0 }) (base + n) bytes ≡ record { base = base; bytes = replicate n 0 ++ bytes }
+constants_stored base n bytes =
+    let there : base + n - base ≡ n = omega arith in
+    ap (λ l. record { base = base; bytes = l }) (ap (λ i. splice (replicate (n + length bytes) 0) i bytes) there ∙ zeros_before n bytes)

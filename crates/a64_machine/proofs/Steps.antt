@@ -1,6 +1,6 @@
 -- Steps one after the other: what a sequence of code words does.
 use Rattle.std.proofs.Common.{◌≡◌, ℕ, ◌+◌, ◌%◌, ◌^◌, ◌<◌, ◌==◌, ◌&&◌, true, nat_le, List, [], ◌∷◌, ◌++◌, Some, None, refl, sym, ap, ◌∙◌, subst, arith, append_assoc}
-use Rattle.std.specs.Prelude.{slice_get}
+use Rattle.std.specs.Prelude.{slice_get, option_and_then}
 use Rattle.std.proofs.lemmas.Bool.Decides.{nat_tests}
 use Rattle.std.proofs.lemmas.Bool.{cond-true}
 use Rattle.std.proofs.lemmas.List.{append-nil}
@@ -37,7 +37,7 @@ pub record Walks (code : List ℕ) (s : State) (places bytes : List ℕ) (t : St
 module _ {code : List ℕ} (place : ℕ) {i : Instr} (stands : Stands code place i) (s : State) (here : s.pc ≡ address_of place) where
   -- the step there is the instruction's effect
   pub step-at : step_of code s ≡ effect i s
-  step-at = step-effect code s stands.word i (ap (fetch code) here ∙ fetch-address code place ∙ stands.is_word) stands.is_instr
+  step-at = step-effect code s i (ap (option_and_then decode_of) (ap (fetch code) here ∙ fetch-address code place ∙ stands.is_word) ∙ stands.is_instr)
 
   -- the state stands at that word
   pub point-at : (system_of code).at s ≡ place

@@ -5,27 +5,23 @@ use Rattle.outside.proofs.Taking.{front_on, front_longer}
 use Rattle.std.proofs.lemmas.List.{append-nil}
 use Rattle.wrapping_numbers.specs.Numbers.{add64}
 use Rattle.a64_memory.specs.Memory.{Area, load1}
-use Rattle.a64_machine.specs.Services.{Text, Bytes, Outside, before, text_with, text_at}
+use Rattle.a64_machine.specs.Services.{Text, Bytes, Outside, before, after_bytes, text_with, text_at}
 
--- bytes before a text
-abbrev pub joined : List ℕ → Text → Text
-joined front (Bytes bytes) = Bytes (front ++ bytes)
-joined front (Outside address) = Outside address
+-- nothing in front, and one byte more
+after_none : (text : Text) → text ≡ after_bytes [] text
+after_none (Bytes bytes) = refl
+after_none (Outside address) = refl
 
-joined_none : (text : Text) → text ≡ joined [] text
-joined_none (Bytes bytes) = refl
-joined_none (Outside address) = refl
-
-joined_one : (front : List ℕ) (byte : ℕ) (text : Text) → joined front (before byte text) ≡ joined (front ++ byte ∷ []) text
-joined_one front byte (Bytes bytes) = ap Bytes (sym (append_assoc front (byte ∷ []) bytes))
-joined_one front byte (Outside address) = refl
+after_one : (front : List ℕ) (byte : ℕ) (text : Text) → after_bytes front (before byte text) ≡ after_bytes (front ++ byte ∷ []) text
+after_one front byte (Bytes bytes) = ap Bytes (sym (append_assoc front (byte ∷ []) bytes))
+after_one front byte (Outside address) = refl
 
 -- a text of which the bytes in front were seen, and what is left of it is at an address
 pub record Seen (whole : Text) (memory : List Area) (by at left : ℕ) (front : List ℕ) : Type 0 where
-  pub is : whole ≡ joined front (text_at memory by at left)
+  pub is : whole ≡ after_bytes front (text_at memory by at left)
 
 pub seen_none : (memory : List Area) (by at most : ℕ) → Seen (text_at memory by at most) memory by at most []
-seen_none memory by at most = record { is = joined_none (text_at memory by at most) }
+seen_none memory by at most = record { is = after_none (text_at memory by at most) }
 
 at_left : (memory : List Area) (by at left more : ℕ) → left ≡ suc more → text_at memory by at left ≡ text_with (load1 memory at) at (text_at memory by (add64 at by) more)
 at_left memory by at left more e = ap (text_at memory by at) e
@@ -42,35 +38,43 @@ module _ (whole : Text) (memory : List Area) (by at most n : ℕ) (front : List 
   -- one more byte is seen
   pub seen_more : (byte : ℕ) → n < most → load1 memory at ≡ Some byte → byte ≢ 0 → Seen whole memory by (add64 at by) (most - (n + 1)) (front ++ byte ∷ [])
   seen_more byte lt is h = record {
-    is = seen.is ∙ ap (joined front) (left lt ∙ not_zero (load1 memory at) byte at (text_at memory by (add64 at by) (most - (n + 1))) is h) ∙ joined_one front byte (text_at memory by (add64 at by) (most - (n + 1)));
+    is = seen.is ∙ ap (after_bytes front) (left lt ∙ not_zero (load1 memory at) byte at (text_at memory by (add64 at by) (most - (n + 1))) is h) ∙ after_one front byte (text_at memory by (add64 at by) (most - (n + 1)));
   }
 
   -- at a 0 the text is what was seen
   pub seen_all : n < most → load1 memory at ≡ Some 0 → whole ≡ Bytes front
   seen_all lt is =
-      seen.is ∙ ap (joined front) (left lt ∙ ap (λ o. text_with o at (text_at memory by (add64 at by) (most - (n + 1)))) is) ∙ ap Bytes (append-nil front)
+      seen.is ∙ ap (after_bytes front) (left lt ∙ ap (λ o. text_with o at (text_at memory by (add64 at by) (most - (n + 1)))) is) ∙ ap Bytes (append-nil front)
 
   -- so it is where no byte is left
   pub seen_most : most ≤ n → whole ≡ Bytes front
   seen_most le =
       let none : most - n ≡ 0 = omega arith in
-      seen.is ∙ ap (λ k. joined front (text_at memory by at k)) none ∙ ap Bytes (append-nil front)
+      seen.is ∙ ap (λ k. after_bytes front (text_at memory by at k)) none ∙ ap Bytes (append-nil front)
 
   -- where no area has the byte, the text isn't in the memory
   pub seen_outside : n < most → load1 memory at ≡ None → whole ≡ Outside at
   seen_outside lt is =
-      seen.is ∙ ap (joined front) (left lt ∙ ap (λ o. text_with o at (text_at memory by (add64 at by) (most - (n + 1)))) is)
+      seen.is ∙ ap (after_bytes front) (left lt ∙ ap (λ o. text_with o at (text_at memory by (add64 at by) (most - (n + 1)))) is)
+
+-- more bytes are seen
+after_after : (front part : List ℕ) (text : Text) → after_bytes front (after_bytes part text) ≡ after_bytes (front ++ part) text
+after_after front part (Bytes bytes) = ap Bytes (sym (append_assoc front part bytes))
+after_after front part (Outside address) = refl
+
+pub seen_on : (whole : Text) (memory : List Area) (by at left next fewer : ℕ) (front part : List ℕ) → Seen whole memory by at left front → text_at memory by at left ≡ after_bytes part (text_at memory by next fewer) → Seen whole memory by next fewer (front ++ part)
+seen_on whole memory by at left next fewer front part seen e = record { is = seen.is ∙ ap (after_bytes front) e ∙ after_after front part (text_at memory by next fewer) }
 
 -- what was seen stands in front
-rest_of : (whole : Text) (bytes front : List ℕ) (text : Text) → whole ≡ Bytes bytes → whole ≡ joined front text → (rest : List ℕ) × (bytes ≡ front ++ rest)
+rest_of : (whole : Text) (bytes front : List ℕ) (text : Text) → whole ≡ Bytes bytes → whole ≡ after_bytes front text → (rest : List ℕ) × (bytes ≡ front ++ rest)
 rest_of whole bytes front (Bytes rest) e h = let same : bytes ≡ front ++ rest = cc in (rest, same)
 rest_of whole bytes front (Outside address) e h = cc
 
--- a front of the text is taken where a front of its next byte is
-pub took_front : (old now after : Account) (front : List ℕ) (byte : ℕ) (whole : Text) (bytes : List ℕ) (memory : List Area) (by at left : ℕ) → TookAll old now front → whole ≡ Bytes bytes → Seen whole memory by at left (front ++ byte ∷ []) → TookFront now after (byte ∷ []) → TookFront old after bytes
-took_front old now after front byte whole bytes memory by at left taken e seen last =
-    let rest = rest_of whole bytes (front ++ byte ∷ []) (text_at memory by at left) e seen.is in
-    front_longer old after (front ++ byte ∷ []) rest.0 bytes (front_on old now after front (byte ∷ []) (front ++ byte ∷ []) taken last refl) rest.1
+-- a front of the text is taken where a front of its next bytes is
+pub took_front : (old now after : Account) (front part : List ℕ) (whole : Text) (bytes : List ℕ) (memory : List Area) (by at left : ℕ) → TookAll old now front → whole ≡ Bytes bytes → Seen whole memory by at left (front ++ part) → TookFront now after part → TookFront old after bytes
+took_front old now after front part whole bytes memory by at left taken e seen last =
+    let rest = rest_of whole bytes (front ++ part) (text_at memory by at left) e seen.is in
+    front_longer old after (front ++ part) rest.0 bytes (front_on old now after front part (front ++ part) taken last refl) rest.1
 
 -- what holds of the text holds where the answer is a fault
 pub on_fault : {T E : Type 0} (answer : Result T E) (P : Type 0) → P → OnErr answer P

@@ -1,7 +1,6 @@
 -- How the code's values are seen: a core as a state, and an answer as what a step comes to.
 use Rattle.std.specs.Prelude.{◌≡◌, ℕ, List, [], drop, slice_index, Option, Some, None}
 use Rattle.run_laws.specs.Runs as runs
-use Rattle.a64_memory.specs.Memory.{areas}
 use Rattle.a64_instr.specs.declared.instr.Instr.{Instr}
 use Rattle.a64_instr.specs.declared.instr.Instr.TheVariants.{Svc}
 use Rattle.a64_machine.specs.State.{State, place_at}
@@ -18,13 +17,13 @@ core_state c = record {
   registers = λ n. slice_index c.registers n;
   sp = c.sp;
   flags = c.flags;
-  memory = areas c.memory.items;
+  memory = c.memory.items;
   input = drop c.taken c.input.items;
 }
 
 -- the code that a machine runs, and the state that it is in
 abbrev pub code_of : Machine → List ℕ
-code_of m = m.code.items
+code_of m = m.code
 
 abbrev pub state_of : Machine → State
 state_of m = core_state m.core
@@ -39,6 +38,11 @@ Told (Undefined word) s t step = (step ≡ runs.Traps (why.Undefined word)) × (
 Told (BadAddress address) s t step = (step ≡ runs.Traps (why.BadAddress address)) × (t ≡ s)
 Told (BadCall number) s t step = (step ≡ runs.Traps (why.BadCall number)) × (t ≡ s)
 Told WriteFault s t step = ⊥
+
+-- the answer where no instruction is at an address: there is no word, or it isn't in the table
+abbrev pub stop_of : ℕ → Option ℕ → Step
+stop_of pc None = BadAddress pc
+stop_of pc (Some word) = Undefined word
 
 -- the number of an SVC
 abbrev pub service_number : Instr → Option ℕ

@@ -1,15 +1,14 @@
 //! How an image is laid out: its regions, and the registers at the start.
 
-ghost use Rattle.std.specs.Prelude.{◌≡◌, ◌<◌, IfOk, slice_index};
+ghost use Rattle.std.specs.Prelude.{◌≡◌, ◌+◌, ◌^◌, ◌<◌, ◌++◌, length, replicate, IfOk, slice_index};
 ghost use Rattle.image_form.specs.Form.{IsInForm};
-ghost use Rattle.a64_memory.specs.Memory.{area, areas};
 ghost use Rattle.a64_machine.specs.State.{put};
-ghost use Rattle.a64_machine.specs.Machine.{zeroed, first_memory, first_registers, local_bytes, heap_bytes};
+ghost use Rattle.a64_machine.specs.Machine.{first_memory, data_base, first_registers, local_bytes, heap_bytes};
 
 use a64_memory::Region;
 use image_form::Image;
-use std::alloc::Global;
 use outside::Memory;
+use std::alloc::Global;
 
 /// Where the globals lie, with the constants behind them.
 pub const DATA_BASE: u64 = 0x1000_0000;
@@ -42,29 +41,30 @@ fn heap_size() -> usize
     67_108_864
 }
 
-/// A region of zeros.
-fn zeroed(alloc: Global, base: u64, size: usize) -> Result<Region, Memory>
-    ensures { IfOk result (λ r. area r ≡ zeroed base size) }
+/// The globals, which are zeros, with the constants behind them.
+fn data_region(alloc: Global, globals: usize, constants: &[u8]) -> Result<Region, Memory>
+    requires { globals + length constants.now < 2 ^ 32 }
+    ensures { IfOk result (λ r. r ≡ record { base = data_base; bytes = replicate globals 0 ++ constants.now }) }
 {
-    let bytes = vec![in alloc; 0; size]?;
-    Ok(Region { base, bytes })
+    if constants.is_empty() {
+        return Ok(Region::zeros(alloc, DATA_BASE, globals)?);
+    }
+    let mut region = Region::zeros(alloc, DATA_BASE, globals + constants.len())?;
+    region.store(DATA_BASE + globals as u64, constants);
+    Ok(region)
 }
 
 /// The regions of an image: data, local data, frames and heap.
 pub fn first_memory(alloc: Global, image: &Image) -> Result<Vec<Region>, Memory>
     requires { IsInForm image.now }
-    ensures { IfOk result (λ v. areas v.items ≡ first_memory image.now) }
+    ensures { IfOk result (λ v. v.items ≡ first_memory image.now) }
 {
-    let mut bytes = vec![in alloc; 0; image.globals as usize]?;
-    bytes.extend_from_slice(image.constants.as_slice())?;
-    let local = zeroed(alloc, LOCAL_BASE, local_size())?;
-    let frames = zeroed(alloc, FRAMES_BASE, 8193 * image.frame as usize)?;
-    let heap = zeroed(alloc, HEAP_BASE, heap_size())?;
+    let data = data_region(alloc, image.globals as usize, image.constants.as_slice())?;
+    let local = Region::zeros(alloc, LOCAL_BASE, local_size())?;
+    let frames = Region::zeros(alloc, FRAMES_BASE, 8193 * image.frame as usize)?;
+    let heap = Region::zeros(alloc, HEAP_BASE, heap_size())?;
     let mut regions = Vec::with_capacity(alloc, 4)?;
-    regions.push(Region {
-        base: DATA_BASE,
-        bytes,
-    })?;
+    regions.push(data)?;
     regions.push(local)?;
     regions.push(frames)?;
     regions.push(heap)?;

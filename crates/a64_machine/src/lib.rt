@@ -7,6 +7,7 @@
 #![tactic(auto)]
 
 mod answers;
+mod code;
 mod execute;
 mod layout;
 mod machine;

@@ -5,31 +5,28 @@ ghost use Rattle.outside.specs.Sink.{TookAll, TookFront, Faulted};
 ghost use Rattle.run_laws.specs.Runs.{run};
 ghost use Rattle.image_form.specs.Form.{IsInForm};
 ghost use Rattle.a64_numbers.specs.Conditions.{clear_flags};
-ghost use Rattle.a64_machine.specs.Machine.{step_of, fetch, start};
+ghost use Rattle.a64_machine.specs.Machine.{step_of, start};
 ghost use Rattle.a64_machine.specs.Effects.{effect};
 ghost use Rattle.a64_machine.specs.View.{core_state, code_of, state_of};
 ghost use Rattle.a64_machine.specs.Answers.{Made, Ran};
 
 use crate::answers::{Halt, Step};
+use crate::code::{CODE_BASE, Code};
 use crate::execute::service_number;
 use crate::layout::{FRAMES, FRAMES_BASE, first_memory, first_registers};
 use crate::processor::Core;
 use a64_instr::Instr;
 use a64_numbers::Flags;
-use a64_table::decode;
 use image_form::Image;
-use std::alloc::Global;
 use outside::{Memory, Sink};
+use std::alloc::Global;
 
 /// The A64 machine with an image loaded.
 #[derive(Drop)]
 pub struct Machine {
-    code: Vec<u32>,
+    code: Code,
     core: Core,
 }
-
-/// Where the code lies.
-const CODE_BASE: u64 = 0x1_0000;
 
 impl Core {
     /// Carries out any instruction.
@@ -58,16 +55,6 @@ fn clear_flags() -> Flags
     }
 }
 
-/// The code word at an address, where it is a multiple of 4 in the code.
-fn fetch(code: &[u32], pc: u64) -> Option<u32>
-    ensures { result ≡ fetch code.now pc }
-{
-    if pc < CODE_BASE || pc % 4 != 0 {
-        return None;
-    }
-    code.get(((pc - CODE_BASE) / 4) as usize).copied()
-}
-
 impl Machine {
     /// The machine with an image laid out and its input not yet read. It takes all the memory that it will need.
     pub fn load(alloc: Global, image: Image, input: Vec<u8>) -> Result<Machine, Memory>
@@ -93,13 +80,11 @@ impl Machine {
             constants: _constants,
             frame: _frame,
         } = image;
-        Ok(Machine {
-            code: code.into_vec(),
-            core,
-        })
+        let code = Code::of_words(alloc, code.into_vec())?;
+        Ok(Machine { code, core })
     }
 
-    /// Makes one step: fetches a word, decodes it and carries it out. After `WriteFault` the machine is as
+    /// Makes one step: fetches a word and carries out its instruction. After `WriteFault` the machine is as
     /// before, and may make the step again; after every other answer but `Going` each further step answers
     /// the same. It takes no memory.
     pub fn step<O: Sink>(&mut self, out: &mut O) -> Step
@@ -110,12 +95,9 @@ impl Machine {
         ensures failed { result ≡ Step.WriteFault → Faulted (O.account out.old) (O.account out.new) }
     {
         let pc = self.core.pc;
-        match fetch(&self.code, pc) {
-            None => Step::BadAddress(pc),
-            Some(word) => match decode(word) {
-                None => Step::Undefined(word),
-                Some(i) => self.core.carries_out(i, out),
-            },
+        match self.code.instruction(pc) {
+            Some(i) => self.core.carries_out(i, out),
+            None => self.code.stops(pc),
         }
     }
 

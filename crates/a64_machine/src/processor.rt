@@ -121,7 +121,7 @@ impl Core {
         ensures { Told result (core_state self.old) (core_state self.new) (loads (core_state self.old) t address (load1 (core_state self.old).memory address)) }
     {
         match load1(&self.memory, address) {
-            Some(value) => self.gives(t, value),
+            Some(byte) => self.gives(t, byte as u64),
             None => Step::BadAddress(address),
         }
     }

@@ -1,7 +1,10 @@
+pub mod Stores
 pub mod Places
 pub mod Slabs
-pub mod Stores
 pub mod Cells
 pub mod Blocks
 pub mod Shapes
 pub mod Copies
+pub mod Padding
+pub mod Joining
+pub mod Fronts

@@ -1,7 +1,6 @@
 -- The area at a place is the one that a store changes.
 use Rattle.std.proofs.Common.{◌≡◌, ℕ, zero, suc, ◌+◌, ◌≤◌, List, [], ◌∷◌, length, Bool, true, false, ◌||◌, cond, Some, None, slice_index_or, slice_set, refl, arith, ap, ◌∙◌}
-use Rattle.a64_memory.specs.Memory.{Area, area, areas, lies, covers, place, written, with_bytes}
-use Rattle.a64_memory.specs.declared.region.Region.{Region}
+use Rattle.a64_memory.specs.Memory.{Area, lies, covers, place, written, with_bytes}
 
 place_above : (m : List Area) (k p n i : ℕ) → place m k p n ≡ Some i → k ≤ i
 place_above [] k p n i e = cc
@@ -38,18 +37,16 @@ with_bytes-none (a ∷ m) p bs e = at (lies a p (length bs)) (with_bytes-none m 
     at false f h = ap (λ l. a ∷ l) (f h)
 
 -- the area at the place found is written, and the others stay
-pub with_bytes-some : (rs : List Region) (k j p : ℕ) (bs : List ℕ) (x r : Region) → place (areas rs) k p (length bs) ≡ Some (k + j) → area x ≡ written (area (slice_index_or rs j r)) p bs
-    → areas (slice_set rs j x) ≡ with_bytes (areas rs) p bs
-with_bytes-some [] k j p bs x r e w = cc
-with_bytes-some (y ∷ rs) k zero p bs x r e w = at (lies (area y) p (length bs)) (place_above (areas rs) (k + 1) p (length bs) (k + 0)) e
+pub with_bytes-some : (m : List Area) (k j p : ℕ) (bs : List ℕ) (x d : Area) → place m k p (length bs) ≡ Some (k + j) → x ≡ written (slice_index_or m j d) p bs → slice_set m j x ≡ with_bytes m p bs
+with_bytes-some [] k j p bs x d e w = cc
+with_bytes-some (a ∷ m) k zero p bs x d e w = at (lies a p (length bs)) (place_above m (k + 1) p (length bs) (k + 0)) e
   where
-    at : (b : Bool) → (place (areas rs) (k + 1) p (length bs) ≡ Some (k + 0) → k + 1 ≤ k + 0) → cond b (Some k) (place (areas rs) (k + 1) p (length bs)) ≡ Some (k + 0)
-        → area x ∷ areas rs ≡ cond b (written (area y) p bs ∷ areas rs) (area y ∷ with_bytes (areas rs) p bs)
-    at true f h = ap (λ a. a ∷ areas rs) w
+    at : (b : Bool) → (place m (k + 1) p (length bs) ≡ Some (k + 0) → k + 1 ≤ k + 0) → cond b (Some k) (place m (k + 1) p (length bs)) ≡ Some (k + 0) → x ∷ m ≡ cond b (written a p bs ∷ m) (a ∷ with_bytes m p bs)
+    at true f h = ap (λ y. y ∷ m) w
     at false f h = let g = f h in absurd (omega arith)
-with_bytes-some (y ∷ rs) k (suc j) p bs x r e w = at (lies (area y) p (length bs)) (λ h. with_bytes-some rs (k + 1) j p bs x r h w) e
+with_bytes-some (a ∷ m) k (suc j) p bs x d e w = at (lies a p (length bs)) (λ h. with_bytes-some m (k + 1) j p bs x d h w) e
   where
-    at : (b : Bool) → (place (areas rs) (k + 1) p (length bs) ≡ Some (k + 1 + j) → areas (slice_set rs j x) ≡ with_bytes (areas rs) p bs) → cond b (Some k) (place (areas rs) (k + 1) p (length bs)) ≡ Some (k + suc j)
-        → area y ∷ areas (slice_set rs j x) ≡ cond b (written (area y) p bs ∷ areas rs) (area y ∷ with_bytes (areas rs) p bs)
+    at : (b : Bool) → (place m (k + 1) p (length bs) ≡ Some (k + 1 + j) → slice_set m j x ≡ with_bytes m p bs) → cond b (Some k) (place m (k + 1) p (length bs)) ≡ Some (k + suc j)
+        → a ∷ slice_set m j x ≡ cond b (written a p bs ∷ m) (a ∷ with_bytes m p bs)
     at true f h = let g : k ≡ k + suc j = cc in absurd (omega arith)
-    at false f h = let same : k + suc j ≡ k + 1 + j = omega arith in ap (λ l. area y ∷ l) (f (h ∙ ap Some same))
+    at false f h = let same : k + suc j ≡ k + 1 + j = omega arith in ap (λ l. a ∷ l) (f (h ∙ ap Some same))

@@ -1,7 +1,7 @@
 -- Laws of lists of bytes that are read and written in parts.
 use Rattle.std.proofs.Common.{◌≡◌, ℕ, ◌+◌, ◌-◌, ◌<◌, ◌≤◌, ◌⊎◌, List, [], ◌++◌, take, drop, length, get_or, refl, arith, rules, sym, ap, ap₂, ◌∙◌, lt_of_le_of_lt, le_of_eq, ⊎_elim, inl, inr, length-append, length-take, length-drop, append_assoc, take-append-drop}
-use Rattle.std.proofs.lemmas.List.{places, same_lists, get_or-take, get_or-drop, get_or_past, take_at, drop_at, drop-drop, drop-take, take-take, length-take-le}
-use Rattle.std.proofs.Math.Seq.{take-add}
+use Rattle.std.proofs.lemmas.List.{places, same_lists, get_or-take, get_or-drop, get_or_past, take_at, drop_at, drop-drop, drop-take, take-take, length-take-le, take-append-le, drop-append-le}
+use Rattle.std.proofs.Math.Seq.{take-add, take-append-add, drop-append-add}
 use Rattle.std.proofs.lemmas.Bool.{cases_lt}
 use Rattle.a64_memory.specs.Bytes.{splice, slab}
 use Rattle.a64_memory.specs.Memory.{AreBytes}
@@ -115,3 +115,35 @@ small_splice m a bs p hm hb i = ⊎_elim
     (λ (g : a + length bs ≤ i). lt_of_le_of_lt (le_of_eq (get_or-splice_out m a bs i 0 p (inr g))) (hm i))
     (cases_lt i (a + length bs)))
     (cases_lt i a)
+
+-- parts of two lists one after the other, and stores into them
+pub slab-append_left : (xs ys : List ℕ) (a n : ℕ) → a + n ≤ length xs → slab (xs ++ ys) a n ≡ slab xs a n
+slab-append_left xs ys a n l = ap (take n) (drop-append-le a xs ys (omega arith)) ∙ take-append-le n (drop a xs) ys (omega (arith, length-drop a xs))
+
+pub slab-append_right : (xs ys : List ℕ) (a n : ℕ) → slab (xs ++ ys) (length xs + a) n ≡ slab ys a n
+slab-append_right xs ys a n = ap (take n) (drop-append-add xs ys a)
+
+pub splice-append_left : (xs ys : List ℕ) (a : ℕ) (bs : List ℕ) → a + length bs ≤ length xs → splice (xs ++ ys) a bs ≡ splice xs a bs ++ ys
+splice-append_left xs ys a bs l =
+    ap₂ (λ u v. u ++ (bs ++ v)) (take-append-le a xs ys (omega arith)) (drop-append-le (a + length bs) xs ys l)
+    ∙ ap (λ v. take a xs ++ v) (sym (append_assoc bs (drop (a + length bs) xs) ys))
+    ∙ sym (append_assoc (take a xs) (bs ++ drop (a + length bs) xs) ys)
+
+pub splice-append_right : (xs ys : List ℕ) (a : ℕ) (bs : List ℕ) → splice (xs ++ ys) (length xs + a) bs ≡ xs ++ splice ys a bs
+splice-append_right xs ys a bs =
+    let sum : length xs + a + length bs ≡ length xs + (a + length bs) = omega arith in
+    ap₂ (λ u v. u ++ (bs ++ v)) (take-append-add xs ys a) (ap (λ n. drop n (xs ++ ys)) sum ∙ drop-append-add xs ys (a + length bs))
+    ∙ append_assoc xs (take a ys) (bs ++ drop (a + length bs) ys)
+
+-- the front of a list, read and stored into
+pub slab-take : (m : List ℕ) (k a n : ℕ) → a + n ≤ k → slab (take k m) a n ≡ slab m a n
+slab-take m k a n l = slab-slab m 0 k a n l ∙ ap (λ i. slab m i n) (the (omega arith))
+  where
+    the : 0 + a ≡ a → 0 + a ≡ a
+    the e = e
+
+pub splice-take : (m : List ℕ) (k a : ℕ) (bs : List ℕ) → a + length bs ≤ k → k ≤ length m → splice (take k m) a bs ≡ take k (splice m a bs)
+splice-take m k a bs l g = sym (slab-splice_inside m 0 k a bs l (omega arith)) ∙ ap (λ i. take k (splice m i bs)) (the (omega arith))
+  where
+    the : 0 + a ≡ a → 0 + a ≡ a
+    the e = e

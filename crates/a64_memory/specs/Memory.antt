@@ -1,19 +1,12 @@
 -- Memory: areas of bytes at addresses. A load or store is of the first area in which all its bytes lie.
-use Rattle.std.specs.Prelude.{ℕ, ◌+◌, ◌-◌, ◌%◌, ◌^◌, ◌<◌, ◌≤◌, List, [], ◌∷◌, length, map, get_or, Bool, false, ◌&&◌, ◌||◌, cond, nat_le, Option, Some, None}
+use Rattle.std.specs.Prelude.{ℕ, ◌+◌, ◌-◌, ◌%◌, ◌^◌, ◌<◌, ◌≤◌, List, [], ◌∷◌, length, get_or, Bool, false, ◌&&◌, ◌||◌, cond, nat_le, Option, Some, None}
 use Rattle.std.specs.Int.{from_le_bytes, to_le_bytes, w64}
 use Rattle.a64_memory.specs.Bytes.{splice, slab}
-use Rattle.a64_memory.specs.declared.region.Region.{Region}
 
 -- bytes at the addresses from base on
 pub record Area : Type 0 where
   pub base : ℕ
   pub bytes : List ℕ
-
-abbrev pub area : Region → Area
-area r = record { base = r.base; bytes = r.bytes.items }
-
-abbrev pub areas : List Region → List Area
-areas rs = map area rs
 
 -- the n bytes at an address lie in the area
 abbrev pub lies : Area → ℕ → ℕ → Bool

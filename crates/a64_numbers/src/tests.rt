@@ -42,19 +42,20 @@ fn flags_and_conditions(rt: HostRuntime) {
     assert_eq!(rt; csneg(Cond::Ge, flags, 7, 1), u64::MAX);
 }
 
-/// What the moves of `n` leave in a register that holds `old`, and how many moves there are.
-fn made(n: u64, old: u64) -> (u64, usize) {
-    let moves = constant_moves(n);
-    let mut value = old;
-    for place in moves {
-        value = match place {
-            None => value,
-            Some(Move::Movz(imm, half)) => movz(imm, half),
-            Some(Move::Movn(imm, half)) => movn(imm, half),
-            Some(Move::Movk(imm, half)) => movk(value, imm, half),
-        };
+/// What a move leaves in a register that holds `old`.
+fn moved(place: &Option<Move>, old: u64) -> u64 {
+    match place {
+        None => old,
+        Some(Move::Movz(imm, half)) => movz(*imm, *half),
+        Some(Move::Movn(imm, half)) => movn(*imm, *half),
+        Some(Move::Movk(imm, half)) => movk(old, *imm, *half),
     }
-    (value, moves.iter().filter(|place| place.is_some()).count())
+}
+
+/// What the moves of `n` leave in a register that holds `old`.
+fn made(n: u64, old: u64) -> u64 {
+    let [a, b, c, d] = constant_moves(n);
+    moved(&d, moved(&c, moved(&b, moved(&a, old))))
 }
 
 #[test]
@@ -66,8 +67,8 @@ fn moves(rt: HostRuntime) {
         movk(0x0463_a351_4912_6039, Bits::new(0), Bits::new(1)),
         0x0463_a351_0000_6039
     );
-    assert_eq!(rt; made(0, 9), (0, 1));
-    assert_eq!(rt; made(u64::MAX, 9), (u64::MAX, 1));
-    assert_eq!(rt; made(0x7_0000_0005, 9), (0x7_0000_0005, 2));
-    assert_eq!(rt; made(0xffff_1234_ffff_ffff, 9), (0xffff_1234_ffff_ffff, 1));
+    assert_eq!(rt; made(0, 9), 0);
+    assert_eq!(rt; made(u64::MAX, 9), u64::MAX);
+    assert_eq!(rt; made(0x7_0000_0005, 9), 0x7_0000_0005);
+    assert_eq!(rt; made(0xffff_1234_ffff_ffff, 9), 0xffff_1234_ffff_ffff);
 }

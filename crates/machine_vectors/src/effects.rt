@@ -1,7 +1,7 @@
 //! Lines that say what stands in registers and memory before a word is carried out, and after.
 
 use a64_machine::{Core, Step, service_number};
-use a64_memory::{Region, store1};
+use a64_memory::{Region, load8, store1};
 use a64_numbers::Flags;
 use a64_table::decode;
 use std::alloc::{AllocError, Global};
@@ -53,14 +53,13 @@ fn agrees(alloc: Global, line: &str, base: u64) -> Result<bool, AllocError> {
         return Ok(false);
     }
     wanted.pc = wanted.pc.wrapping_add(4);
-    Ok(goes_on(&mut core, word) && is_same(&core, &wanted))
+    Ok(goes_on(&mut core, word) && is_same(&core, &wanted, base))
 }
 
 /// A machine's registers and memory of which no line has spoken.
 fn blank(alloc: Global, base: u64) -> Result<Core, AllocError> {
-    let bytes = vec![in alloc; 0; BYTES]?;
     let mut memory = Vec::with_capacity(alloc, 1)?;
-    memory.push(Region { base, bytes })?;
+    memory.push(Region::zeros(alloc, base, BYTES)?)?;
     Ok(Core {
         registers: [OTHER; 31],
         sp: OTHER,
@@ -83,12 +82,23 @@ fn goes_on(core: &mut Core, word: u32) -> bool {
     }
 }
 
-fn is_same(core: &Core, wanted: &Core) -> bool {
+fn is_same(core: &Core, wanted: &Core, base: u64) -> bool {
     core.registers == wanted.registers
         && core.sp == wanted.sp
         && core.pc == wanted.pc
         && core.flags == wanted.flags
-        && core.memory.as_slice() == wanted.memory.as_slice()
+        && holds_same(&core.memory, &wanted.memory, base)
+}
+
+/// Whether two memories have the same bytes.
+fn holds_same(memory: &[Region], wanted: &[Region], base: u64) -> bool {
+    for at in 0..BYTES / 8 {
+        let address = base.wrapping_add(8 * at as u64);
+        if load8(memory, address) != load8(wanted, address) {
+            return false;
+        }
+    }
+    true
 }
 
 /// Makes what each part of the text says true. False where one isn't understood.
