@@ -1,6 +1,6 @@
 -- What is held and what is left, after a call.
-use Rattle.std.proofs.Common.{◌≡◌, ℕ, ◌+◌, ◌-◌, ◌<◌, ◌≤◌, min, List, [], ◌++◌, length, take, drop, length-drop, length-take-le, Some, Result, refl, sym, ap, ◌∙◌, subst, arith}
-use Rattle.std.proofs.lemmas.List.{take-append-drop, take_at, drop-drop, drop_all}
+use Rattle.std.proofs.Common.{◌≡◌, ℕ, ◌+◌, ◌-◌, ◌≤◌, List, ◌++◌, length, take, drop, length-drop, length-take-le, Some, Result, refl, sym, ap, ◌∙◌, subst, arith}
+use Rattle.std.proofs.lemmas.List.{take-append-drop, take_at, drop-drop}
 use Rattle.std.specs.Prelude.{Vec}
 use Rattle.std.specs.Global.{Global}
 use Rattle.outside.specs.declared.files.GetFault.{GetFault}
@@ -19,30 +19,15 @@ pub answers_via : (old mid : Held) (name : List ℕ) (most : ℕ) (answer : Resu
 answers_via old mid name most answer same told = subst (λ (h : Held). ReadOf (h name) most answer) same told
 
 -- a copy of the next bytes is what a source gives
-module _ (bytes piece slice : List ℕ) (from count : ℕ) (fits : from ≤ length bytes) (most : count ≡ min (length piece) (length bytes - from)) (copied : slice ≡ take count (drop from bytes)) where
-  size : length slice ≡ count
-  size = ap length copied ∙ length-take-le count (drop from bytes) (omega (arith, length-drop from bytes, most))
+module _ (bytes lent slice tail : List ℕ) (from count : ℕ) (same : lent ≡ bytes) (fits : from + count ≤ length bytes) (copied : slice ≡ take (from + count - from) (drop from lent)) where
+  is_next : slice ≡ take count (drop from bytes)
+  is_next = copied ∙ ap (λ l. take (from + count - from) (drop from l)) same ∙ ap (λ n. take n (drop from bytes)) less
+    where
+      less : from + count - from ≡ count
+      less = omega arith
 
-  pub given_front : take count (slice ++ drop count piece) ≡ slice
-  given_front = take_at slice (drop count piece) count size
+  pub given_front : take count (slice ++ tail) ≡ take count (drop from bytes)
+  given_front = take_at slice tail count (ap length is_next ∙ length-take-le count (drop from bytes) (omega (arith, length-drop from bytes, fits))) ∙ is_next
 
-  pub given_parts : drop from bytes ≡ take count (slice ++ drop count piece) ++ drop (from + count) bytes
-  given_parts = sym (take-append-drop count (drop from bytes)) ∙ ap (λ l. l ++ drop count (drop from bytes)) (sym (given_front ∙ copied)) ∙ ap (λ l. take count (slice ++ drop count piece) ++ l) (drop-drop count from bytes)
-
--- the same, as the code reads it
-pub gives_next : (bytes lent piece slice : List ℕ) (from count size : ℕ) → lent ≡ bytes → from ≤ size → size ≡ length bytes → count ≡ min (length piece) (size - from) → slice ≡ take (from + count - from) (drop from lent)
-    → (rest : List ℕ) × (Some (drop (from + count) bytes) ≡ Some rest) × (drop from bytes ≡ take count (slice ++ drop count piece) ++ rest)
-gives_next bytes lent piece slice from count size same fits whole most copied =
-    (drop (from + count) bytes, refl, given_parts bytes piece slice from count fits' most' copied')
-  where
-    fits' : from ≤ length bytes
-    fits' = omega (arith, fits, whole)
-
-    most' : count ≡ min (length piece) (length bytes - from)
-    most' = most ∙ ap (λ n. min (length piece) (n - from)) whole
-
-    copied' : slice ≡ take count (drop from bytes)
-    copied' = copied ∙ ap (λ l. take (from + count - from) (drop from l)) same ∙ ap (λ n. take n (drop from bytes)) less
-      where
-        less : from + count - from ≡ count
-        less = omega arith
+  pub given_rest : drop from bytes ≡ take count (slice ++ tail) ++ drop (from + count) bytes
+  given_rest = sym (take-append-drop count (drop from bytes)) ∙ ap (λ l. l ++ drop count (drop from bytes)) (sym given_front) ∙ ap (λ l. take count (slice ++ tail) ++ l) (drop-drop count from bytes)

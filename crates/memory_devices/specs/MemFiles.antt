@@ -1,6 +1,7 @@
 -- What files in memory hold, and which calls of them fail.
-use Rattle.std.specs.Prelude.{ℕ}
 use Rattle.outside.specs.Files.{Held}
+use Rattle.memory_devices.specs.Calls.{Calls}
+use Rattle.memory_devices.specs.Schedule as schedule
 use Rattle.memory_devices.specs.Store.{held_of}
 use Rattle.memory_devices.specs.declared.mem_files.MemFiles.{MemFiles}
 
@@ -8,6 +9,6 @@ use Rattle.memory_devices.specs.declared.mem_files.MemFiles.{MemFiles}
 abbrev pub contents_of : MemFiles → Held
 contents_of f = held_of f.store
 
--- how many faults there were
-abbrev pub faults_of : MemFiles → ℕ
-faults_of f = f.faults
+-- their calls
+abbrev pub calls_of : MemFiles → Calls
+calls_of f = schedule.calls_of f.schedule

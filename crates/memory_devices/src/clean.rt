@@ -1,11 +1,14 @@
 //! Devices that never fail: their count of faults is 0 always.
 
-ghost use Rattle.std.specs.Prelude.{◌≡◌, ◌≤◌, ℕ, List, length, vec_len, Some, None, OnOk, OnErr};
+ghost use Rattle.std.specs.Prelude.{◌≡◌, ◌<◌, ◌≤◌, ℕ, List, length, take, drop, vec_len, Some, None, Ok, IfOk, OnOk, OnErr};
 ghost use Rattle.outside.specs.Files.{OthersStay};
+ghost use Rattle.outside.specs.Sink.{TookAll, TookNothing, Faulted};
+ghost use Rattle.memory_devices.specs.Silent.{silent};
 
 use crate::store::Store;
 use outside::{Failed, Files, GetFault, Memory, PutFault, Sink, Source};
 use std::alloc::Global;
+use std::marker::Model;
 
 /// Files in memory without faults.
 #[derive(Drop)]
@@ -14,7 +17,7 @@ pub struct CleanFiles {
 }
 
 impl CleanFiles {
-    ghost use Rattle.memory_devices.specs.Clean.{contents_of};
+    ghost use Rattle.memory_devices.specs.CleanFiles.{contents_of};
 
     /// No files.
     pub fn new(alloc: Global) -> Self
@@ -36,7 +39,7 @@ impl CleanFiles {
 }
 
 impl Files for CleanFiles {
-    ghost use Rattle.memory_devices.specs.Clean.{contents_of};
+    ghost use Rattle.memory_devices.specs.CleanFiles.{contents_of};
 
     ghost held = { λ f. Some (contents_of f) };
 
@@ -59,24 +62,27 @@ impl Files for CleanFiles {
 pub struct CleanSource {
     bytes: Vec<u8>,
     given: usize,
-    ghost within: { given ≤ vec_len bytes },
+}
+
+impl Model for CleanSource {
+    ghost Value = { List ℕ };
+
+    ghost view = { λ s. drop s.given s.bytes.items };
+
+    ghost invariant = { λ s. s.given ≤ vec_len s.bytes };
 }
 
 impl CleanSource {
-    ghost use Rattle.memory_devices.specs.Clean.{left_of};
-
     /// All these bytes are left.
     pub fn new(bytes: Vec<u8>) -> Self
-        ensures { left_of result ≡ bytes.items }
+        ensures { result ≡ bytes.items }
     {
         CleanSource { bytes, given: 0 }
     }
 }
 
 impl Source for CleanSource {
-    ghost use Rattle.memory_devices.specs.Clean.{left_of};
-
-    ghost left = { λ s. Some (left_of s) };
+    ghost left = { λ s. Some s };
 
     ghost faults = { λ _. 0 };
 
@@ -101,9 +107,17 @@ impl CleanSink {
 }
 
 impl Sink for CleanSink {
-    ghost account = { λ _. record { taken = None; amount = None; faults = 0 } };
+    ghost account = { λ _. silent };
 
-    fn write(&mut self, piece: &[u8]) -> Result<usize, Failed> {
+    fn write(&mut self, piece: &[u8]) -> Result<usize, Failed>
+        ensures within { IfOk result (λ n. n ≤ length piece.now) }
+        ensures takes { IfOk result (λ n. TookAll silent silent (take n piece.now)) }
+        ensures stays { OnErr result (TookNothing silent silent) }
+        ensures rises { silent.faults ≤ silent.faults }
+        ensures failed { OnErr result (Faulted silent silent) }
+        ensures full { IfOk result (λ n. n ≡ 0 → 0 < length piece.now → Faulted silent silent) }
+        ensures whole { result ≡ Ok (length piece.now) }
+    {
         Ok(piece.len())
     }
 }

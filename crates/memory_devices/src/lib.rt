@@ -8,8 +8,13 @@
 mod clean;
 mod mem_files;
 mod mem_sink;
+mod mem_source;
+mod schedule;
 mod store;
+#[cfg(test)]
+mod tests;
 
 pub use clean::{CleanFiles, CleanSink, CleanSource};
 pub use mem_files::MemFiles;
 pub use mem_sink::MemSink;
+pub use mem_source::MemSource;

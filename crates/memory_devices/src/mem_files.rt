@@ -1,36 +1,34 @@
 //! Files in memory, of which chosen calls fail.
 
-ghost use Rattle.std.specs.Prelude.{◌≡◌, ◌≤◌, ◌+◌, ℕ, List, length, Some, None, true, OnOk, OnErr};
+ghost use Rattle.std.specs.Prelude.{◌≡◌, ◌≤◌, ◌↔◌, ℕ, List, length, Some, None, Err, IsTrue, IfOk, IfErr, OnOk, OnErr};
 ghost use Rattle.outside.specs.Counts.{Rose};
-ghost use Rattle.outside.specs.Files.{OthersStay};
+ghost use Rattle.outside.specs.Files.{OthersStay, ToldOfRead, ToldOfWrite};
+ghost use Rattle.memory_devices.specs.Calls.{no_calls, fails_next, called};
 
+use crate::schedule::Schedule;
 use crate::store::Store;
 use outside::{Files, GetFault, Memory, PutFault};
 use std::alloc::Global;
 
-/// Files in memory. Reads and writes are numbered together from 0; a call whose number is in the list of
-/// failing calls fails and raises the count of faults.
+/// Files in memory. Their reads and writes are numbered together from 0; those whose numbers are listed fail and
+/// raise the count of faults, and no others fail.
 #[derive(Drop)]
 pub struct MemFiles {
     store: Store,
-    failing: Vec<u64>,
-    calls: u64,
-    faults: u64,
+    schedule: Schedule,
 }
 
 impl MemFiles {
-    ghost use Rattle.memory_devices.specs.MemFiles.{contents_of, faults_of};
+    ghost use Rattle.memory_devices.specs.MemFiles.{contents_of, calls_of};
 
     /// No files; these calls fail.
     pub fn new(alloc: Global, failing: Vec<u64>) -> Self
         ensures empty { (name : List ℕ) → contents_of result name ≡ None }
-        ensures no_faults { faults_of result ≡ 0 }
+        ensures calls { calls_of result ≡ no_calls failing.items }
     {
         MemFiles {
             store: Store::new(alloc),
-            failing,
-            calls: 0,
-            faults: 0,
+            schedule: Schedule::new(failing),
         }
     }
 
@@ -40,49 +38,51 @@ impl MemFiles {
         ensures stored { OnOk result (contents_of self.new name.now ≡ Some bytes.now) }
         ensures others { OnOk result (OthersStay (contents_of self.old) name.now (contents_of self.new)) }
         ensures err { OnErr result (contents_of self.new ≡ contents_of self.old) }
-        ensures faults { faults_of self.new ≡ faults_of self.old }
+        ensures uncounted { calls_of self.new ≡ calls_of self.old }
     {
         self.store.put(name, bytes)
     }
 
     /// How many faults there were; it stands still at the greatest 64-bit number.
     pub fn count(&self) -> u64
-        ensures { result ≡ faults_of self.now }
+        ensures { result ≡ (calls_of self.now).faults }
     {
-        self.faults
-    }
-
-    /// Whether the next call fails; it has a number then.
-    fn next_fails(&mut self) -> bool
-        ensures contents { contents_of self.new ≡ contents_of self.old }
-        ensures rises { faults_of self.old ≤ faults_of self.new }
-        ensures failed { result ≡ true → Rose (faults_of self.old) (faults_of self.new) }
-    {
-        let fails = self.failing.contains(&self.calls);
-        self.calls = self.calls.saturating_add(1);
-        if fails {
-            self.faults = self.faults.saturating_add(1);
-        }
-        fails
+        self.schedule.count()
     }
 }
 
 impl Files for MemFiles {
-    ghost use Rattle.memory_devices.specs.MemFiles.{contents_of, faults_of};
+    ghost use Rattle.memory_devices.specs.MemFiles.{contents_of, calls_of};
 
     ghost held = { λ f. Some (contents_of f) };
 
-    ghost faults = { λ f. faults_of f };
+    ghost faults = { λ f. (calls_of f).faults };
 
-    fn read(&mut self, alloc: Global, name: &str, most: usize) -> Result<Vec<u8>, GetFault> {
-        if self.next_fails() {
+    fn read(&mut self, alloc: Global, name: &str, most: usize) -> Result<Vec<u8>, GetFault>
+        ensures within { IfOk result (λ v. length v.items ≤ most) }
+        ensures stays { Some (contents_of self.new) ≡ Some (contents_of self.old) }
+        ensures tells { ToldOfRead (Some (contents_of self.old)) name.now most result }
+        ensures rises { (calls_of self.old).faults ≤ (calls_of self.new).faults }
+        ensures failed { IfErr result (λ e. e ≡ GetFault.Failed → Rose (calls_of self.old).faults (calls_of self.new).faults) }
+        ensures fails { (result ≡ Err GetFault.Failed) ↔ IsTrue (fails_next (calls_of self.old)) }
+        ensures after { calls_of self.new ≡ called (calls_of self.old) (fails_next (calls_of self.old)) }
+    {
+        if self.schedule.call() {
             return Err(GetFault::Failed);
         }
         self.store.read(alloc, name, most)
     }
 
-    fn write(&mut self, _alloc: Global, name: &str, bytes: &[u8]) -> Result<(), PutFault> {
-        if self.next_fails() {
+    fn write(&mut self, _alloc: Global, name: &str, bytes: &[u8]) -> Result<(), PutFault>
+        ensures tells { ToldOfWrite (Some (contents_of self.old)) name.now bytes.now (Some (contents_of self.new)) result }
+        ensures unchanged { IfErr result (λ e. e ≡ PutFault.Memory → Some (contents_of self.new) ≡ Some (contents_of self.old)) }
+        ensures rises { (calls_of self.old).faults ≤ (calls_of self.new).faults }
+        ensures failed { IfErr result (λ e. e ≡ PutFault.Failed → Rose (calls_of self.old).faults (calls_of self.new).faults) }
+        ensures err { OnErr result (contents_of self.new ≡ contents_of self.old) }
+        ensures fails { (result ≡ Err PutFault.Failed) ↔ IsTrue (fails_next (calls_of self.old)) }
+        ensures after { calls_of self.new ≡ called (calls_of self.old) (fails_next (calls_of self.old)) }
+    {
+        if self.schedule.call() {
             return Err(PutFault::Failed);
         }
         match self.store.put(name, bytes) {

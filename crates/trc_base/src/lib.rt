@@ -5,6 +5,6 @@
 #![tactic(auto)]
 
 pub use host_devices::{HostFiles, HostSink, HostSource};
-pub use memory_devices::{CleanFiles, CleanSink, CleanSource, MemFiles, MemSink};
+pub use memory_devices::{CleanFiles, CleanSink, CleanSource, MemFiles, MemSink, MemSource};
 pub use outside::{Failed, Files, Gate, GetFault, InFault, Memory, OpenGate, PutFault, Sink, Source};
 pub use outside::{WriteFault, read_all, write_all};

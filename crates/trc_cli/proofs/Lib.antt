@@ -1,2 +1,2 @@
-mod Complete
 mod Verdicts
+mod Once

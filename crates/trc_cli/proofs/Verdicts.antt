@@ -1,5 +1,5 @@
--- What the causes of a part say of the whole.
-use Rattle.std.proofs.Common.{◌≡◌, ℕ, ◌+◌, ◌*◌, ◌<◌, ◌≤◌, ◌==◌, ◌&&◌, Bool, true, false, List, [], ◌∷◌, Option, Some, None, Ok, Err, Vec, Global, String, string_bytes, map, get_or, length, refl, sym, ap, ap₂, ◌∙◌, subst, ⊎_elim, arith}
+-- What the answers of a part are for the whole.
+use Rattle.std.proofs.Common.{◌≡◌, ℕ, suc, zero, ◌+◌, ◌*◌, ◌<◌, ◌≤◌, ◌==◌, ◌&&◌, Bool, true, false, List, [], ◌∷◌, Option, Some, None, Ok, Err, Vec, Global, String, string_bytes, map, get_or, length, refl, sym, ap, ap₂, ◌∙◌, subst, ⊎_elim, arith}
 use Rattle.std.specs.Str.{bytes_eq}
 use Rattle.std.proofs.lemmas.Bool.Decides.{eqb_tells}
 use Rattle.run_laws.specs.Runs.{Ended, run, output, IsOver}
@@ -7,6 +7,8 @@ use Rattle.run_laws.proofs.BoundedRuns.{run-longer_to}
 use Rattle.image_form.specs.declared.image.Image.{Image}
 use Rattle.image_form.specs.Form.{IsInForm}
 use Rattle.outside.specs.Files.{Held, ToldOfRead}
+use Rattle.outside.specs.Sink.{Account, TookAll, TookFront}
+use Rattle.outside.proofs.Taking.{all_none}
 use Rattle.outside.specs.declared.files.GetFault.TheVariants as get
 use Rattle.a64_machine.specs.Machine.{start, step_of}
 use Rattle.first_text.specs.declared.tree.Text.{Text}
@@ -14,7 +16,10 @@ use Rattle.first_text.specs.Texts.{IsText}
 use Rattle.first_text.specs.Meaning.{output_of}
 use Rattle.trc_compile.specs.Images.{image_of, RunsAsMeant}
 use Rattle.trc_cli.specs.Runs.{most_steps, run_of, Ends, EndsAsMeant}
-use Rattle.trc_cli.specs.Verdict.{Change, Holds, IsMeant, IsUnbuilt, Says, SaysOfImage, SaysOfSource, TakesAll, TakesFront}
+use Rattle.trc_cli.specs.Verdict.{Verdict, Refuses, Runs, IsNoText, SourceComesTo, IsHeld, FileComesTo, ComesTo, NoCommand, RunFile}
+use Rattle.trc_cli.specs.Words.{IsRun, IsNoCommand}
+use Rattle.trc_cli.specs.Answers.{Change, NoneFailed, FilesFailed, Answers, AsItComes, FailsReading, FailsWriting, LacksMemory, RunAnswers}
+use Rattle.trc_cli.specs.declared.causes.Device.{Device}
 use Rattle.trc_cli.specs.declared.causes.Device.TheVariants.{Files, Input, Output}
 use Rattle.trc_cli.specs.declared.causes.Cause.{Cause}
 use Rattle.trc_cli.specs.declared.causes.Cause.TheVariants.{Usage, NoSuchFile, ReadFault, Unbuilt, WriteFault, Memory, Done}
@@ -39,49 +44,63 @@ image_ends image text same form meant =
     record { out = output_of text; ended = ap run_of same ∙ e.ended }
 
 -- from the run of an image to the source that it was made of
-pub source_says : (bytes : List ℕ) (image : Image) (text : Text) (out : Change) (cause : Cause) → IsText bytes text → image ≡ image_of text → IsInForm image → RunsAsMeant text → SaysOfImage image out cause → SaysOfSource bytes out cause
-source_says bytes image text out Usage is same form meant says = says
-source_says bytes image text out (NoSuchFile word) is same form meant says = says
-source_says bytes image text out (ReadFault device) is same form meant says = says
-source_says bytes image text out Unbuilt is same form meant says = absurd says
-source_says bytes image text out (WriteFault Files) is same form meant says = says
-source_says bytes image text out (WriteFault Input) is same form meant says = says
-source_says bytes image text out (WriteFault Output) is same form meant says =
+pub source_answers : (bytes : List ℕ) (image : Image) (text : Text) (out : Change) (cause : Cause) → IsText bytes text → image ≡ image_of text → IsInForm image → RunsAsMeant text → RunAnswers image out cause → Answers (SourceComesTo bytes) NoneFailed out cause
+source_answers bytes image text out Usage is same form meant answers = absurd answers
+source_answers bytes image text out (NoSuchFile word) is same form meant answers = absurd answers
+source_answers bytes image text out (ReadFault device) is same form meant answers = absurd answers
+source_answers bytes image text out Unbuilt is same form meant answers = absurd answers
+source_answers bytes image text out (WriteFault Files) is same form meant answers = absurd answers
+source_answers bytes image text out (WriteFault Input) is same form meant answers = absurd answers
+source_answers bytes image text out (WriteFault Output) is same form meant answers =
     let e = ends_as_meant text (subst IsInForm same form) meant in
-    (text, record { is = is; runs = e }, subst (TakesFront out) (ap output (ap run_of same ∙ e.ended)) says.0, says.1)
-source_says bytes image text out Memory is same form meant says = says
-source_says bytes image text out Done is same form meant says =
+    FailsWriting (Runs text) is e refl (subst (TookFront out.before out.after) (ap output (ap run_of same ∙ e.ended)) answers.0) answers.1
+source_answers bytes image text out Memory is same form meant answers = LacksMemory refl answers
+source_answers bytes image text out Done is same form meant answers =
     let e = ends_as_meant text (subst IsInForm same form) meant in
-    let known = says.1 in
-    let both : Ended says.0 ≡ Ended (output_of text) = sym known ∙ ap run_of same ∙ e.ended in
-    let out_is : says.0 ≡ output_of text = cc in
-    (text, record { is = is; runs = e }, subst (TakesAll out) out_is says.2)
+    AsItComes (Runs text) is e refl (subst (TookAll out.before out.after) (ap output (ap run_of same ∙ e.ended)) answers)
 
-holds_read : (held : Option Held) (name : List ℕ) (most : ℕ) (source : Vec ℕ Global) → ToldOfRead held name most (Ok source) → Holds held name (λ content. content ≡ Some source.items)
-holds_read None name most source r = tt
-holds_read (Some h) name most source r = r
+-- what a part comes to, the whole does
+pub answers_map : (comes comes' : Verdict → Type 0) (failed failed' : Device → Type 0) (out : Change) (cause : Cause) → ((v : Verdict) → comes v → comes' v) → ((d : Device) → failed d → failed' d) → Answers comes failed out cause → Answers comes' failed' out cause
+answers_map comes comes' failed failed' out cause f g (AsItComes verdict it step is took) = AsItComes verdict (f verdict it) step is took
+answers_map comes comes' failed failed' out cause f g (FailsReading device it is took) = FailsReading device (g device it) is took
+answers_map comes comes' failed failed' out cause f g (FailsWriting verdict it step is took rose) = FailsWriting verdict (f verdict it) step is took rose
+answers_map comes comes' failed failed' out cause f g (LacksMemory is took) = LacksMemory is took
+
+held_source : (held : Option Held) (name : List ℕ) (most : ℕ) (source : Vec ℕ Global) → ToldOfRead held name most (Ok source) → IsHeld held name (Some source.items)
+held_source None name most source r = tt
+held_source (Some h) name most source r = r
 
 -- from the source that was read to the file
-pub file_says : (held : Option Held) (name : List ℕ) (rose : Type 0) (most : ℕ) (source : Vec ℕ Global) (bytes : List ℕ) (out : Change) (cause : Cause) → ToldOfRead held name most (Ok source) → bytes ≡ source.items → SaysOfSource bytes out cause → Says held name rose out cause
-file_says held name rose most source bytes out Usage r e says = says
-file_says held name rose most source bytes out (NoSuchFile word) r e says = absurd says
-file_says held name rose most source bytes out (ReadFault Files) r e says = absurd says
-file_says held name rose most source bytes out (ReadFault Input) r e says = says
-file_says held name rose most source bytes out (ReadFault Output) r e says = says
-file_says None name rose most source bytes out Unbuilt r e says = (tt, says.1)
-file_says (Some h) name rose most source bytes out Unbuilt r e says = ((bytes, r ∙ ap Some (sym e), says.0), says.1)
-file_says held name rose most source bytes out (WriteFault Output) r e says =
-    (says.0, record { bytes = source.items; file = holds_read held name most source r; meant = subst (λ b. IsMeant b says.0) e says.1 }, says.2, says.3)
-file_says held name rose most source bytes out (WriteFault Files) r e says = says
-file_says held name rose most source bytes out (WriteFault Input) r e says = says
-file_says held name rose most source bytes out Memory r e says = says
-file_says held name rose most source bytes out Done r e says =
-    (says.0, record { bytes = source.items; file = holds_read held name most source r; meant = subst (λ b. IsMeant b says.0) e says.1 }, says.2)
+pub file_answers : (held : Option Held) (name : List ℕ) (old new most : ℕ) (source : Vec ℕ Global) (bytes : List ℕ) (out : Change) (cause : Cause) → ToldOfRead held name most (Ok source) → bytes ≡ source.items → Answers (SourceComesTo bytes) NoneFailed out cause → Answers (FileComesTo held name) (FilesFailed old new) out cause
+file_answers held name old new most source bytes out cause r e answers =
+    answers_map (SourceComesTo bytes) (FileComesTo held name) NoneFailed (FilesFailed old new) out cause
+    (λ v it. record { content = Some source.items; file = held_source held name most source r; comes = subst (λ b. SourceComesTo b v) e it })
+    (λ d no. absurd no) answers
+
+-- where nothing is held under the name
+pub missing_comes : (held : Option Held) (name : List ℕ) (most : ℕ) → ToldOfRead held name most (Err get.NoSuchFile) → FileComesTo held name (Refuses (NoSuchFile 0))
+missing_comes None name most r = record { content = None; file = tt; comes = refl }
+missing_comes (Some h) name most r = record { content = None; file = r; comes = refl }
+
+list_of : (n : ℕ) → (bytes : List ℕ) × (length bytes ≡ n)
+list_of zero = ([], refl)
+list_of (suc n) = let r = list_of n in (0 ∷ r.0, ap suc r.1)
+
+long_is_no_text : (bytes : List ℕ) → 1048576 < length bytes → IsNoText bytes
+long_is_no_text bytes long = record { none = λ text is. let size = is.size in absurd (omega (arith, long, size)) }
 
 -- a file that is longer than a text may be is no text
-pub too_long_says : (held : Option Held) (name : List ℕ) → ToldOfRead held name 1048576 (Err get.TooLong) → Holds held name IsUnbuilt
-too_long_says None name r = tt
-too_long_says (Some h) name r = (r.0, r.1, record { none = λ text is. let size = is.size in let long = r.2 in absurd (omega (arith, size, long)) })
+pub too_long_comes : (held : Option Held) (name : List ℕ) → ToldOfRead held name 1048576 (Err get.TooLong) → FileComesTo held name (Refuses Unbuilt)
+too_long_comes None name r = let some = list_of 1048577 in record { content = Some some.0; file = tt; comes = (refl, long_is_no_text some.0 (omega (arith, some.1))) }
+too_long_comes (Some h) name r = record { content = Some r.0; file = r.1; comes = (refl, long_is_no_text r.0 r.2) }
+
+-- from the file to the command that runs it
+pub run_answers : (words : List (String Global)) (held : Option Held) (name : List ℕ) (old new : ℕ) (out : Change) (cause : Cause) → IsRun words name → Answers (FileComesTo held name) (FilesFailed old new) out cause → Answers (ComesTo words held) (FilesFailed old new) out cause
+run_answers words held name old new out cause is answers = answers_map (FileComesTo held name) (ComesTo words held) (FilesFailed old new) (FilesFailed old new) out cause (λ v it. RunFile name is it) (λ d it. it) answers
+
+-- words that are no command
+pub usage_answers : (words : List (String Global)) (held : Option Held) (old new : ℕ) (out : Account) → IsNoCommand words → Answers (ComesTo words held) (FilesFailed old new) (record { before = out; after = out }) Usage
+usage_answers words held old new out none = AsItComes (Refuses Usage) (NoCommand none refl) tt refl (all_none out)
 
 -- the words name one file
 pub one_name : (words : List (List ℕ)) (run name other : List ℕ) → words ≡ run ∷ name ∷ [] → words ≡ run ∷ other ∷ [] → name ≡ other

@@ -2,3 +2,4 @@ pub mod Words
 pub mod Causes
 pub mod Runs
 pub mod Verdict
+pub mod Answers

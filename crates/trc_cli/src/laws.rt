@@ -1,21 +1,21 @@
-//! What the clauses of the top call come to.
+//! What the answers of the top call come to.
 
-ghost use Rattle.std.specs.Prelude.{◌≡◌, ◌⊎◌, ℕ, List, Option, Some, None};
+ghost use Rattle.std.specs.Prelude.{◌≡◌, ◌⊎◌, ℕ, List, Some, String};
+ghost use Rattle.std.specs.Global.{Global};
 ghost use Rattle.outside.specs.Counts.{Rose};
 ghost use Rattle.outside.specs.Files.{Held};
-ghost use Rattle.first_text.specs.declared.tree.Text.{Text};
-ghost use Rattle.first_text.specs.Texts.{IsText};
+ghost use Rattle.outside.specs.Sink.{TookAll, Faulted};
 ghost use Rattle.trc_cli.specs.declared.causes.Cause.{Cause};
-ghost use Rattle.trc_cli.specs.Verdict.{Change, Failed, IsNoText, Says};
+ghost use Rattle.trc_cli.specs.Verdict.{Verdict, cause_of, written_by, ComesTo};
+ghost use Rattle.trc_cli.specs.Answers.{Change, Answers, FilesFailed};
 
-/// A run of a file, where no count of the files' faults rises. Where the file holds a text and the output's count
-/// doesn't rise either, the run is done; where it holds other bytes, it is `Unbuilt`; where nothing is held under
-/// the name, it is `NoSuchFile`; and each of them unless memory ran out.
-pub fn runs_answer()
-    ensures texts { (held : Held) (name bytes : List ℕ) (text : Text) (old new : ℕ) (out : Change) (cause : Cause) → held name ≡ Some bytes → IsText bytes text → (Rose old new → ⊥) → (Failed out → ⊥)
-        → Says (Some held) name (Rose old new) out cause → (cause ≡ Cause.Done) ⊎ (cause ≡ Cause.Memory) }
-    ensures others { (held : Held) (name bytes : List ℕ) (old new : ℕ) (out : Change) (cause : Cause) → held name ≡ Some bytes → IsNoText bytes → (Rose old new → ⊥)
-        → Says (Some held) name (Rose old new) out cause → (cause ≡ Cause.Unbuilt) ⊎ (cause ≡ Cause.Memory) }
-    ensures missing { (held : Held) (name : List ℕ) (old new : ℕ) (out : Change) (cause : Cause) → held name ≡ None → (Rose old new → ⊥)
-        → Says (Some held) name (Rose old new) out cause → (cause ≡ Cause.NoSuchFile 0) ⊎ (cause ≡ Cause.Memory) }
+/// Words come to one thing at most, where the files tell what they hold: to one cause, and one output. So where no
+/// count of faults rises, the answer is that cause and the output took exactly that, unless memory ran out.
+pub fn answers_are_verdicts()
+    ensures once { (words : List (String Global)) (held : Held) (a b : Verdict) → ComesTo words (Some held) a → ComesTo words (Some held) b
+        → (cause_of a ≡ cause_of b) × (written_by a ≡ written_by b) }
+    ensures quiet { (words : List (String Global)) (held : Held) (verdict : Verdict) (old new : ℕ) (out : Change) (cause : Cause)
+        → ComesTo words (Some held) verdict → (Rose old new → ⊥) → (Faulted out.before out.after → ⊥)
+        → Answers (ComesTo words (Some held)) (FilesFailed old new) out cause
+        → ((cause ≡ cause_of verdict) × TookAll out.before out.after (written_by verdict)) ⊎ (cause ≡ Cause.Memory) }
 {}

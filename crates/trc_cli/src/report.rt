@@ -3,9 +3,10 @@
 ghost use Rattle.std.specs.Prelude.{◌≡◌, ◌≤◌, [], ◌++◌, OnOk, OnErr};
 ghost use Rattle.outside.specs.Sink.{TookAll, Faulted};
 ghost use Rattle.trc_cli.specs.Causes.{device_name, line, line_of};
+ghost use Rattle.trc_cli.specs.Words.{file_named};
 
 use crate::causes::{Cause, Device};
-use trc_base::{Sink, WriteFault, write_all};
+use outside::{Sink, WriteFault, write_all};
 
 /// A device's name in a line.
 fn name_of(device: Device) -> &'static [u8]
@@ -30,15 +31,27 @@ fn say<E: Sink>(err: &mut E, message: &[u8], name: &[u8]) -> Result<(), WriteFau
     Ok(())
 }
 
-/// Writes the line of a cause, for the file of this name.
-pub(crate) fn report<E: Sink>(err: &mut E, cause: Cause, name: &[u8]) -> Result<(), WriteFault>
-    ensures all { OnOk result (TookAll (E.account err.old) (E.account err.new) (line_of cause name.now)) }
+/// The name of a file that the command reads, by its number among them; no bytes where there is no such word.
+fn file_named(words: &[String], word: u32) -> &[u8]
+    ensures { result.now ≡ file_named words.now word }
+{
+    let at = 1 + word as usize;
+    if at < words.len() {
+        words[at].as_bytes()
+    } else {
+        b""
+    }
+}
+
+/// Writes the line of a cause of the command with these words.
+pub(crate) fn report<E: Sink>(err: &mut E, cause: Cause, words: &[String]) -> Result<(), WriteFault>
+    ensures all { OnOk result (TookAll (E.account err.old) (E.account err.new) (line_of words.now cause)) }
     ensures rises { (E.account err.old).faults ≤ (E.account err.new).faults }
     ensures failed { OnErr result (Faulted (E.account err.old) (E.account err.new)) }
 {
     match cause {
         Cause::Usage => say(err, b"trc: usage", b""),
-        Cause::NoSuchFile { .. } => say(err, b"trc: no file ", name),
+        Cause::NoSuchFile { word } => say(err, b"trc: no file ", file_named(words, word)),
         Cause::ReadFault { device } => say(err, b"trc: read fault on ", name_of(device)),
         Cause::Unbuilt => say(err, b"trc: unbuilt", b""),
         Cause::WriteFault { device } => say(err, b"trc: write fault on ", name_of(device)),

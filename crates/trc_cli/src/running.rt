@@ -1,16 +1,16 @@
 //! A file is read, compiled, and its image run.
 
-ghost use Rattle.std.specs.Prelude.{◌≡◌, ◌≤◌, ℕ, List};
+ghost use Rattle.std.specs.Prelude.{◌≡◌, ◌≤◌};
 ghost use Rattle.image_form.specs.Form.{IsInForm};
-ghost use Rattle.outside.specs.Counts.{Rose};
 ghost use Rattle.trc_cli.specs.Runs.{most_steps, Ends};
-ghost use Rattle.trc_cli.specs.Verdict.{Change, Says, SaysOfImage, SaysOfSource};
+ghost use Rattle.trc_cli.specs.Verdict.{SourceComesTo, FileComesTo};
+ghost use Rattle.trc_cli.specs.Answers.{Answers, NoneFailed, FilesFailed, RunAnswers};
 
 use crate::causes::{Cause, Device};
 use a64_machine::{Halt, Machine};
 use image_form::Image;
+use outside::{Files, GetFault, Sink};
 use std::alloc::Global;
-use trc_base::{Files, GetFault, Sink};
 use trc_compile::{Refusal, compile};
 
 /// The most bytes that a source may have.
@@ -27,7 +27,7 @@ fn steps() -> u64
 fn run_image<O: Sink>(alloc: Global, image: Image, out: &mut O) -> Cause
     requires form { IsInForm image }
     requires ends { Ends image }
-    ensures says { SaysOfImage image (record { before = O.account out.old; after = O.account out.new }) result }
+    ensures answers { RunAnswers image (record { before = O.account out.old; after = O.account out.new }) result }
     ensures rises { (O.account out.old).faults ≤ (O.account out.new).faults }
 {
     let machine = match Machine::load(alloc, image, Vec::new(alloc)) {
@@ -49,7 +49,7 @@ fn run_image<O: Sink>(alloc: Global, image: Image, out: &mut O) -> Cause
 
 /// Compiles a source and runs its image.
 fn run_source<O: Sink>(alloc: Global, source: &[u8], out: &mut O) -> Cause
-    ensures says { SaysOfSource source.now (record { before = O.account out.old; after = O.account out.new }) result }
+    ensures answers { Answers (SourceComesTo source.now) NoneFailed (record { before = O.account out.old; after = O.account out.new }) result }
     ensures rises { (O.account out.old).faults ≤ (O.account out.new).faults }
 {
     match compile(alloc, source) {
@@ -66,7 +66,8 @@ pub(crate) fn run_file<F: Files, O: Sink>(
     files: &mut F,
     out: &mut O,
 ) -> Cause
-    ensures says { Says (F.held files.old) name.now (Rose (F.faults files.old) (F.faults files.new)) (record { before = O.account out.old; after = O.account out.new }) result }
+    ensures answers { Answers (FileComesTo (F.held files.old) name.now) (FilesFailed (F.faults files.old) (F.faults files.new))
+        (record { before = O.account out.old; after = O.account out.new }) result }
     ensures files { F.held files.new ≡ F.held files.old }
     ensures files_rise { F.faults files.old ≤ F.faults files.new }
     ensures out_rises { (O.account out.old).faults ≤ (O.account out.new).faults }

@@ -1,5 +1,8 @@
 use Rattle.trc_cli.proofs.report.report.Goals as goal
 
+pub returns-in-NoSuchFile-clause-all : goal.returns-in-NoSuchFile-clause-all
+returns-in-NoSuchFile-clause-all g c = rw (c.in-NoSuchFile.is, ← c.file_named.ensures) c.say-in-NoSuchFile.ensures.all
+
 pub returns-in-ReadFault-clause-all : goal.returns-in-ReadFault-clause-all
 returns-in-ReadFault-clause-all g c = rw (c.in-ReadFault.is, ← c.name_of.ensures) c.say-in-ReadFault.ensures.all
 

@@ -1,0 +1,1 @@
+MODULE M; IMPORT Out; BEGIN Out.Int(42, 0); Out.Ln END M.
