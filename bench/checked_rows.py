@@ -292,7 +292,7 @@ class Writer:
 
     def record(self, r):
         fields = listed('record { name = []; exported = %s; type_number = %d }' % (truth(f.exported), self.number(f.type)) for f in r.own)
-        return 'record { «module» = %d; base = %s; level = %d; fields = %s }' % (r.module, some(None if r.base is None else r.base.number), r.level, fields)
+        return 'record { «module» = %d; base = %s; level = %d; fields = %s; cells = %d }' % (r.module, some(None if r.base is None else r.base.number), r.level, fields, r.ncells)
 
     def program(self):
         modules = listed('record { name = []; objects = []; variables = %s; body = %d }' % (listed(str(self.number(v.type)) for v in m.vars), m.body) for m in self.p.modules)

@@ -7,7 +7,7 @@ use Rattle.ob_types.specs.declared.types.TypeKind.TheVariants.{Array}
 use Rattle.ob_types.specs.declared.types.TypeKind.TheVariants.{Record as RecordOf}
 use Rattle.ob_types.specs.Table.{Table}
 use Rattle.ob_types.specs.Forms.{all, nests_by, if_base, nests, record_nests, rooted}
-use Rattle.ob_types.specs.WellFormed.{all_below, types_fine}
+use Rattle.ob_types.specs.Forms.{all_below, types_fine}
 use Rattle.ob_types.specs.Ranks.{Ranks}
 use Rattle.ob_sound.proofs.Tables.{and_from}
 

@@ -9,7 +9,7 @@ use Rattle.ob_types.specs.declared.types.TypeKind.TheVariants.{Int, Char, Byte, 
 use Rattle.ob_types.specs.declared.types.TypeKind.TheVariants.{Bool as Boolean, Set as SetOf, Record as RecordOf, Pointer as PointerTo, Procedure as ProcedureOf}
 use Rattle.ob_types.specs.Table.{Table}
 use Rattle.ob_types.specs.Forms.{Form, Truth, Small, Number, ToRecord, Routines, Exactly, scalar_form, repeated, joined, base_forms, form_or_zero, forms_by, all, nests_by, if_base, forms_within, record_forms_within, nests, record_nests, rooted, forms, record_forms}
-use Rattle.ob_types.specs.WellFormed.{all_below, types_fine}
+use Rattle.ob_types.specs.Forms.{all_below, types_fine}
 
 -- options and booleans
 
@@ -215,8 +215,8 @@ module _ (t : Table) where
   past_kinds : (k : ℕ) → length t.kinds ≤ k → kind_of t k ≡ Nothing
   past_kinds k l = get_or_past t.kinds k Nothing l
 
-  past_records : (r : ℕ) → length t.records ≤ r → record_of t r ≡ record { «module» = 0; base = None; level = 0; fields = [] }
-  past_records r l = get_or_past t.records r (record { «module» = 0; base = None; level = 0; fields = [] }) l
+  past_records : (r : ℕ) → length t.records ≤ r → record_of t r ≡ record { «module» = 0; base = None; level = 0; fields = []; cells = 0 }
+  past_records r l = get_or_past t.records r (record { «module» = 0; base = None; level = 0; fields = []; cells = 0 }) l
 
   module _ (ok : types_fine t ≡ true) where
     fine_parts : (all_below (length t.kinds) (nests t (suc (length t.kinds + length t.records))) ≡ true) × (all_below (length t.records) (record_nests t (suc (length t.kinds + length t.records))) ≡ true) × (all_below (length t.records) (rooted t (suc (length t.records))) ≡ true)

@@ -3,8 +3,8 @@
 ghost use Rattle.std.specs.Prelude.{◌≡◌, ℕ, List, true, nat_lt};
 ghost use Rattle.ob_types.specs.Table.{Table};
 ghost use Rattle.ob_types.specs.Meaning.{meaning};
-ghost use Rattle.ob_types.specs.Forms.{all};
-ghost use Rattle.ob_types.specs.WellFormed.{types_fine, well_formed};
+ghost use Rattle.ob_types.specs.Forms.{all, types_fine};
+ghost use Rattle.ob_types.specs.WellFormed.{well_formed};
 ghost use Rattle.ob_types.specs.Ranks.{Ranks};
 ghost use Rattle.ob_types.specs.Sense.{MakesSense};
 ghost use Rattle.ob_types.specs.declared.program.Program.{Program};

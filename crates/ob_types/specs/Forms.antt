@@ -55,6 +55,11 @@ abbrev pub all : {A : Type 0} → (A → Bool) → List A → Bool
 all test [] = true
 all test (x ∷ xs) = test x && all test xs
 
+-- a test of each number below this
+abbrev pub all_below : ℕ → (ℕ → Bool) → Bool
+all_below zero test = true
+all_below (suc n) test = test n && all_below n test
+
 abbrev pub nests_by : (ℕ → Bool) → (ℕ → Bool) → TypeKind → Bool
 nests_by nests whole (Array (Some n) element) = nests element
 nests_by nests whole (RecordOf r) = whole r
@@ -96,3 +101,9 @@ module _ (t : Table) where
 
   unfoldable pub record_forms : ℕ → List Form
   record_forms r = record_forms_within (suc (length t.kinds + length t.records)) r
+
+-- no type is nested in itself, and no record is its own base
+abbrev pub types_fine : Table → Bool
+types_fine t = all_below (length t.kinds) (nests t (suc (length t.kinds + length t.records)))
+    && (all_below (length t.records) (record_nests t (suc (length t.kinds + length t.records)))
+    && all_below (length t.records) (rooted t (suc (length t.records))))

@@ -32,7 +32,7 @@ module _ (t : Table) where
   kind_of k = slice_index_or t.kinds k Nothing
 
   abbrev pub record_of : ℕ → RecordType
-  record_of r = slice_index_or t.records r (record { «module» = 0; base = None; level = 0; fields = [] })
+  record_of r = slice_index_or t.records r (record { «module» = 0; base = None; level = 0; fields = []; cells = 0 })
 
   abbrev pub signature_of : ℕ → Signature
   signature_of g = slice_index_or t.signatures g (record { formals = []; result = 0 })

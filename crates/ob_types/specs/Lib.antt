@@ -10,3 +10,4 @@ pub mod Sense
 pub mod Forms
 pub mod WellFormed
 pub mod Ranks
+pub mod Counted

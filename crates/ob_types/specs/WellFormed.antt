@@ -2,9 +2,8 @@
 --
 -- It asks no more than the meaning needs to make sense and than the lowering builds on: that the language forbids to compare a number with a
 -- set, say, isn't said here.
-use Rattle.std.specs.Prelude.{ℕ, zero, suc, ◌+◌, ◌^◌, List, [], ◌∷◌, length, sum_by, Bool, true, false, not, ◌&&◌, ◌||◌, ◌==◌, nat_lt, nat_le, Option, Some, None, is_some, slice_get}
-use Rattle.ob_types.specs.Table.{Table}
-use Rattle.ob_types.specs.Layout.{kind_of, record_of, signature_of, types_of, extends}
+use Rattle.std.specs.Prelude.{ℕ, zero, suc, ◌^◌, List, [], ◌∷◌, length, sum_by, Bool, true, false, not, ◌&&◌, ◌||◌, ◌==◌, nat_lt, nat_le, Option, Some, None, is_some, slice_get}
+use Rattle.ob_types.specs.Layout.{kind_of, record_of, signature_of, types_of, record_cells, extends}
 use Rattle.ob_types.specs.Assignable.{same_formals, same_length}
 use Rattle.ob_types.specs.Meaning.{procedure_of, globals_of, locals_of, is_value, texts_of, text_number, kind_in, length_of_kind, element_kind, record_of_kind, is_byte}
 use Rattle.ob_types.specs.declared.types.TypeKind.{TypeKind}
@@ -33,7 +32,7 @@ use Rattle.ob_types.specs.declared.statements.Stmt.{Stmt, Assign, CopyArray, Cop
 use Rattle.ob_types.specs.declared.statements.Stmt.{Call as Invoke}
 use Rattle.ob_types.specs.declared.program.Module.{Module}
 use Rattle.ob_types.specs.declared.program.Program.{Program}
-use Rattle.ob_types.specs.Forms.{Form, Zero, Truth, Small, Number, ToRecord, Routines, Exactly, scalar_form, all, nests, record_nests, rooted}
+use Rattle.ob_types.specs.Forms.{Form, Zero, Truth, Small, Number, ToRecord, Routines, Exactly, scalar_form, all, all_below, types_fine}
 
 -- what a designator names: a variable of a type, whether it may be written; an open array of elements of a type; a record by its dynamic type, which is this record or an extension; so many characters of a string
 pub data Named : Type 0 where
@@ -171,10 +170,6 @@ changes is_byte _ = false
 abbrev pub is_full : Form → Bool
 is_full Number = true
 is_full _ = false
-
-abbrev pub all_below : ℕ → (ℕ → Bool) → Bool
-all_below zero test = true
-all_below (suc n) test = test n && all_below n test
 
 -- a string of so many characters and the 0X behind them
 abbrev pub is_string : ℕ → TypeKind → Bool
@@ -511,7 +506,8 @@ module _ (p : Program) where
   abbrev pub module_fine : Module → Bool
   module_fine m = (nat_lt m.body (length p.procedures) && (procedure_of p m.body).is_body) && (is_empty (procedure_of p m.body).formals && is_empty (procedure_of p m.body).locals)
 
-  -- what is counted: a record type's level is one more than its base's, at most 15, and no parameters take over 24 argument words
+  -- what is counted: a record type's level is one more than its base's, at most 15; it has the cells that it says; no parameters take over 24
+  -- argument words
   abbrev pub level_by : Option ℕ → ℕ
   level_by None = 0
   level_by (Some b) = suc (record_of p.types b).level
@@ -519,14 +515,11 @@ module _ (p : Program) where
   abbrev pub level_fine : ℕ → Bool
   level_fine r = (record_of p.types r).level == level_by (record_of p.types r).base && nat_le (record_of p.types r).level 15
 
-  abbrev pub counts_fine : Bool
-  counts_fine = all_below (length p.types.records) level_fine && (all (λ g. nat_le (argument_words g.formals) 24) p.types.signatures && all (λ q. nat_le (argument_words q.formals) 24) p.procedures)
+  abbrev pub cells_fine : ℕ → Bool
+  cells_fine r = (record_of p.types r).cells == record_cells p.types r
 
--- no type is nested in itself, and no record is its own base
-abbrev pub types_fine : Table → Bool
-types_fine t = all_below (length t.kinds) (nests t (suc (length t.kinds + length t.records)))
-    && (all_below (length t.records) (record_nests t (suc (length t.kinds + length t.records)))
-    && all_below (length t.records) (rooted t (suc (length t.records))))
+  abbrev pub counts_fine : Bool
+  counts_fine = (all_below (length p.types.records) level_fine && all_below (length p.types.records) cells_fine) && (all (λ g. nat_le (argument_words g.formals) 24) p.types.signatures && all (λ q. nat_le (argument_words q.formals) 24) p.procedures)
 
 -- the whole
 abbrev pub well_formed : Program → Bool

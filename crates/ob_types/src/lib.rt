@@ -7,10 +7,12 @@
 
 mod program;
 mod statements;
+mod table;
 mod tree;
 mod types;
 
 pub use program::{Constant, Entity, Module, Object, Procedure, Program};
 pub use statements::{Branch, CasePart, Checked, Label, Stmt, TypePart};
+pub use table::Types;
 pub use tree::{Argument, Base, Binary, Call, Designator, Expr, Link, Relation, Selector, Unary};
-pub use types::{Field, Formal, Mode, RecordType, Signature, TypeKind, Types};
+pub use types::{Field, Formal, Mode, RecordType, Signature, TypeKind};

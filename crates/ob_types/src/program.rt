@@ -1,7 +1,8 @@
 //! A checked program: modules and procedures.
 
 use crate::statements::{Checked, Stmt};
-use crate::types::{Formal, Types};
+use crate::table::Types;
+use crate::types::Formal;
 use items::Items;
 
 /// The value of a constant.

@@ -1,9 +1,6 @@
-//! Types: a table in which each type has a number (Oberon-07 report, section 6).
-
-ghost use Rattle.ob_types.specs.Table.{Table};
+//! What types are (Oberon-07 report, section 6).
 
 use items::Items;
-use std::marker::Model;
 
 /// What a type is.
 #[derive(Clone, Copy)]
@@ -56,6 +53,8 @@ pub struct RecordType {
     pub level: u32,
     /// The fields that it adds to those of its base, in order.
     pub fields: Items<Field>,
+    /// How many cells a variable of it has.
+    pub cells: u32,
 }
 
 /// How a parameter is handed over.
@@ -90,19 +89,4 @@ pub struct Signature {
     pub formals: Items<Formal>,
     /// The type of the result, of kind `Nothing` where there is none.
     pub result: u32,
-}
-
-/// All types of a program. A type's number is its place in this table; record types and signatures have numbers of
-/// their own.
-#[derive(Drop)]
-pub struct Types {
-    kinds: Items<TypeKind>,
-    records: Items<RecordType>,
-    signatures: Items<Signature>,
-}
-
-impl Model for Types {
-    ghost Value = { Table };
-
-    ghost view = { λ t. record { kinds = t.kinds; records = t.records; signatures = t.signatures } };
 }

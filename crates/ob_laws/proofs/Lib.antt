@@ -1,0 +1,4 @@
+pub mod Related
+pub mod Adds
+pub mod Fuel
+pub mod Longer
