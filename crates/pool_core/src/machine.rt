@@ -13,9 +13,9 @@ use crate::cells::first_cells;
 use crate::children::ChildIndex;
 use crate::model::{Event, Seen, Stage};
 use crate::workers::{Entry, Hand};
+use outside::Memory;
 use std::alloc::Global;
 use std::marker::Model;
-use outside::Memory;
 
 const SHARE: u64 = 4_294_967_296;
 

@@ -5,8 +5,8 @@ ghost use mathlib.Core.Option.{some};
 ghost use lib.ListN.{get_elem?};
 ghost use Rattle.pool_core.specs.Fits.{FitsRun};
 
-use std::alloc::Global;
 use outside::Memory;
+use std::alloc::Global;
 
 /// A tree of traces, numbered from 0, each of which has a final result. `run` finds it: of a trace without a parent
 /// from the trace alone, and of each other with the hint that the final result of its parent gives.
