@@ -6,3 +6,8 @@ pub mod Registers
 mod Starting
 pub mod Steps
 pub mod Regions
+pub mod Numbers
+pub mod Ways
+pub mod Quiet
+pub mod Sequences
+mod Example

@@ -7,7 +7,8 @@ use Rattle.a64_memory.specs.Memory.{written, IsRising, AreBytes, IsOfBytes}
 use Rattle.image_form.specs.declared.image.Image.{Image}
 use Rattle.image_form.specs.Form.{IsInForm}
 use Rattle.a64_machine.proofs.Registers.{zeros_read}
-use Rattle.a64_machine.specs.Machine.{first_memory, local_bytes, heap_bytes, frames_bytes}
+use Rattle.a64_memory.proofs.Parts.{HasArea}
+use Rattle.a64_machine.specs.Machine.{first_memory, zeroed, data_base, local_base, local_bytes, frames_base, frames_bytes, heap_base, heap_bytes}
 
 pub local_bytes-is : local_bytes ≡ 8388608
 unfolding local_bytes
@@ -51,3 +52,15 @@ pub constants_stored : (base n : ℕ) (bytes : List ℕ) → written (record { b
 constants_stored base n bytes =
     let there : base + n - base ≡ n = omega arith in
     ap (λ l. record { base = base; bytes = l }) (ap (λ i. splice (replicate (n + length bytes) 0) i bytes) there ∙ zeros_before n bytes)
+
+-- the frames' area apart from the rest
+pub frames_apart : (image : Image) → IsInForm image
+    → HasArea (record { base = data_base; bytes = replicate image.globals 0 ++ image.constants } ∷ zeroed local_base local_bytes ∷ zeroed heap_base heap_bytes ∷ [])
+    (zeroed frames_base (frames_bytes image.frame)) (first_memory image)
+frames_apart image form = record {
+  below = record { base = data_base; bytes = replicate image.globals 0 ++ image.constants } ∷ zeroed local_base local_bytes ∷ [];
+  above = zeroed heap_base heap_bytes ∷ [];
+  without = refl;
+  among = refl;
+  rises = first_memory-rises image form;
+}

@@ -1,11 +1,13 @@
 -- Steps one after the other: what a sequence of code words does.
-use Rattle.std.proofs.Common.{◌≡◌, ℕ, ◌+◌, ◌%◌, ◌^◌, ◌<◌, ◌==◌, ◌&&◌, true, nat_le, List, [], ◌∷◌, ◌++◌, Some, None, refl, sym, ap, ◌∙◌, subst, arith, append_assoc}
+use Rattle.std.proofs.Common.{◌≡◌, ℕ, ◌+◌, ◌%◌, ◌^◌, ◌<◌, ◌==◌, ◌&&◌, true, nat_le, ◌≤◌, suc, List, [], ◌∷◌, ◌++◌, map, length, Some, None, refl, sym, ap, ◌∙◌, subst, arith, append_assoc, length-append}
 use Rattle.std.specs.Prelude.{slice_get, option_and_then}
 use Rattle.std.proofs.lemmas.Bool.Decides.{nat_tests}
 use Rattle.std.proofs.lemmas.Bool.{cond-true}
 use Rattle.std.proofs.lemmas.List.{append-nil}
 use Rattle.run_laws.specs.Runs.{Moves, Walk}
+use Rattle.a64_table.specs.Table.{word_of, InRange}
 use Rattle.a64_table.specs.Decode.{decode_of}
+use Rattle.a64_table.proofs.Laws.{decodes}
 use Rattle.a64_instr.specs.declared.instr.Instr.{Instr}
 use Rattle.a64_machine.specs.State.{State, code_base, address_of, place_at}
 use Rattle.a64_machine.specs.Effects.{effect}
@@ -71,9 +73,47 @@ walks-append {code} {ps} {qs} {v} {w} {s} {t} {u} a b = record { walk = joined p
     joined [] s v a = subst (λ x. Walk (system_of code) s qs x u) (ap (λ x. x ++ w) (sym a.1)) (subst (λ x. Walk (system_of code) x qs w u) a.0 b.walk)
     joined (p ∷ ps) s v a = record { after = a.after; now = a.now; later = a.later ++ w; here = a.here; moves = a.moves; wrote = ap (λ x. x ++ w) a.wrote ∙ append_assoc a.now a.later w; more = joined ps a.after a.later a.more }
 
--- instructions stand one after the other in the code from a place on
-pub record StandsAll (code : List ℕ) (place : ℕ) (instrs : List Instr) : Type 0 where
-  pub at : (k : ℕ) (i : Instr) → slice_get instrs k ≡ Some i → Stands code (place + k) i
+-- the word of an instruction in range stands for it
+pub stands_word : (code : List ℕ) (place : ℕ) (i : Instr) → slice_get code place ≡ Some (word_of i) → InRange i → Stands code place i
+stands_word code place i e fits = record { word = word_of i; is_word = e; is_instr = decodes i fits }
+
+-- instructions stand one after the other in the code from word k on, which is no further than code may reach
+abbrev pub StandAll : List ℕ → ℕ → List Instr → Type 0
+StandAll code k [] = Unit {0}
+StandAll code k (i ∷ is) = (k < 2 ^ 18) × Stands code k i × StandAll code (suc k) is
+
+pub stand_append : (code : List ℕ) (is js : List Instr) (k : ℕ) → StandAll code k (is ++ js) → StandAll code k is × StandAll code (k + length is) js
+stand_append code [] js k h = let e : k ≡ k + 0 = omega arith in (tt, subst (λ n. StandAll code n js) e h)
+stand_append code (i ∷ is) js k h =
+    let rest = stand_append code is js (suc k) h.2 in
+    let e : suc k + length is ≡ k + suc (length is) = omega arith in
+    ((h.0, h.1, rest.0), subst (λ n. StandAll code n js) e rest.1)
+
+-- each instruction's fields fit
+abbrev pub AllInRange : List Instr → Type 0
+AllInRange [] = Unit {0}
+AllInRange (i ∷ is) = InRange i × AllInRange is
+
+pub in_range_append : (is js : List Instr) → AllInRange is → AllInRange js → AllInRange (is ++ js)
+in_range_append [] js a b = b
+in_range_append (i ∷ is) js a b = (a.0, in_range_append is js a.1 b)
+
+-- so their words stand behind other words
+pub stand_behind : (front : List ℕ) (is : List Instr) (k : ℕ) → length front ≡ k → k + length is ≤ 2 ^ 18 → AllInRange is → StandAll (front ++ map word_of is) k is
+stand_behind front [] k e few fits = tt
+stand_behind front (i ∷ is) k e few fits =
+    let more = length-append front (word_of i ∷ []) in (
+      omega (arith, few),
+      stands_word (front ++ map word_of (i ∷ is)) k i (ap (slice_get (front ++ map word_of (i ∷ is))) (sym e) ∙ at_front front (word_of i) (map word_of is)) fits.0,
+      subst (λ code. StandAll code (suc k) is) (append_assoc front (word_of i ∷ []) (map word_of is)) (stand_behind (front ++ word_of i ∷ []) is (suc k) (omega (arith, e, more)) (omega (arith, few)) fits.1),
+    )
+  where
+    at_front : (front : List ℕ) (w : ℕ) (rest : List ℕ) → slice_get (front ++ w ∷ rest) (length front) ≡ Some w
+    at_front [] w rest = refl
+    at_front (x ∷ front) w rest = at_front front w rest
+
+pub stands_all : (is : List Instr) → length is ≤ 2 ^ 18 → AllInRange is → StandAll (map word_of is) 0 is
+stands_all is few fits = stand_behind [] is 0 refl (omega (arith, few)) fits
 
 -- the address behind a code word is the next one's
 pub next_pc : (place : ℕ) → place < 2 ^ 32 → (address_of place + 4) % 2 ^ 64 ≡ address_of (place + 1)

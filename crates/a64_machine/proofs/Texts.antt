@@ -5,6 +5,7 @@ use Rattle.outside.proofs.Taking.{front_on, front_longer}
 use Rattle.std.proofs.lemmas.List.{append-nil}
 use Rattle.wrapping_numbers.specs.Numbers.{add64}
 use Rattle.a64_memory.specs.Memory.{Area, load1}
+use Rattle.a64_memory.proofs.Parts.{HasArea, load_rest_byte}
 use Rattle.a64_machine.specs.Services.{Text, Bytes, Outside, before, after_bytes, text_with, text_at}
 
 -- nothing in front, and one byte more
@@ -80,3 +81,21 @@ took_front old now after front part whole bytes memory by at left taken e seen l
 pub on_fault : {T E : Type 0} (answer : Result T E) (P : Type 0) → P → OnErr answer P
 on_fault (Ok x) P p = tt
 on_fault (Err e) P p = p
+
+module _ (m : List Area) (s : Area) (a : List Area) (has : HasArea m s a) where
+  -- a text that lies in the rest of a memory is the same in the whole
+  pub text_rest : (by most p : ℕ) (bytes : List ℕ) → text_at m by p most ≡ Bytes bytes → text_at a by p most ≡ Bytes bytes
+  text_rest by zero p bytes e = e
+  text_rest by (suc most) p bytes e = at (λ xs e. text_rest by most (add64 p by) xs e) (load1 m p) refl e
+    where
+      after : (t : Text) (n : ℕ) (bs : List ℕ) → before n t ≡ Bytes bs → (xs : List ℕ) × (t ≡ Bytes xs)
+      after (Bytes xs) n bs e = (xs, refl)
+      after (Outside z) n bs e = cc
+
+      at : ((xs : List ℕ) → text_at m by (add64 p by) most ≡ Bytes xs → text_at a by (add64 p by) most ≡ Bytes xs) → (o : Option ℕ) → load1 m p ≡ o → text_with o p (text_at m by (add64 p by) most) ≡ Bytes bytes → text_at a by p (suc most) ≡ Bytes bytes
+      at rest None i e = cc
+      at rest (Some zero) i e = ap (λ (o : Option ℕ). text_with o p (text_at a by (add64 p by) most)) (load_rest_byte m s a has p zero i) ∙ e
+      at rest (Some (suc n)) i e =
+          let r = after (text_at m by (add64 p by) most) (suc n) bytes e in
+          let same = rest r.0 r.1 in
+          ap (λ (o : Option ℕ). text_with o p (text_at a by (add64 p by) most)) (load_rest_byte m s a has p (suc n) i) ∙ ap (before (suc n)) same ∙ sym (ap (before (suc n)) r.1) ∙ e

@@ -1,7 +1,7 @@
 //! What steps and runs answer.
 
 /// What one step came to.
-#[derive(Clone, Copy, PartialEq, Eq, Debug)]
+#[derive(Clone, Copy, Debug)]
 pub enum Step {
     /// It was made, and the machine goes on.
     Going,

@@ -1,6 +1,6 @@
 //! The code that a machine runs: its words, and the instructions that they stand for.
 
-ghost use Rattle.std.specs.Prelude.{◌≡◌, map, option_and_then, IfOk};
+ghost use Rattle.std.specs.Prelude.{◌≡◌, map, option_and_then, option_copied, IfOk};
 ghost use Rattle.a64_table.specs.Decode.{decode_of};
 ghost use Rattle.a64_machine.specs.Machine.{fetch};
 ghost use Rattle.a64_machine.specs.View.{stop_of};
@@ -58,14 +58,14 @@ impl Code {
 
     /// The instruction of the word at an address, where there is a word and it stands for one.
     #[inline]
-    pub fn instruction(&self, pc: u64) -> Option<Instr>
-        ensures { result ≡ option_and_then decode_of (fetch self.now pc) }
+    pub fn instruction(&self, pc: u64) -> Option<&Instr>
+        ensures { option_copied result ≡ option_and_then decode_of (fetch self.now pc) }
     {
         if pc < CODE_BASE || pc % 4 != 0 {
             return None;
         }
         match self.instructions.get(((pc - CODE_BASE) / 4) as usize) {
-            Some(instruction) => *instruction,
+            Some(instruction) => instruction.as_ref(),
             None => None,
         }
     }

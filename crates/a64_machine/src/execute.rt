@@ -17,6 +17,7 @@ use a64_numbers::{
 use wrapping_numbers::{asr, lsl, lsr, ror};
 
 /// The number of an SVC.
+#[inline]
 pub fn service_number(i: &Instr) -> Option<Bits<16>>
     ensures { result ≡ service_number i.now }
 {
@@ -42,11 +43,12 @@ impl Core {
     }
 
     /// Carries out an instruction that isn't an SVC.
-    pub fn execute(&mut self, i: Instr) -> Step
-        requires { service_number i ≡ None }
-        ensures { Told result (core_state self.old) (core_state self.new) (effect i (core_state self.old)) }
+    #[inline(always)]
+    pub fn execute(&mut self, i: &Instr) -> Step
+        requires { service_number i.now ≡ None }
+        ensures { Told result (core_state self.old) (core_state self.new) (effect i.now (core_state self.old)) }
     {
-        match i {
+        match *i {
             Instr::AddImm { rd, rn, imm, high } => {
                 let sum = self.read_or_sp(rn).wrapping_add(immediate(imm, high));
                 self.gives_or_sp(rd, sum)

@@ -30,13 +30,14 @@ pub struct Machine {
 
 impl Core {
     /// Carries out any instruction.
-    fn carries_out<O: Sink>(&mut self, i: Instr, out: &mut O) -> Step
-        ensures made { Made result (core_state self.old) (core_state self.new) (effect i (core_state self.old))
+    #[inline(always)]
+    fn carries_out<O: Sink>(&mut self, i: &Instr, out: &mut O) -> Step
+        ensures made { Made result (core_state self.old) (core_state self.new) (effect i.now (core_state self.old))
             (TookAll (O.account out.old) (O.account out.new)) (TookFront (O.account out.old) (O.account out.new)) }
         ensures rises { (O.account out.old).faults ≤ (O.account out.new).faults }
         ensures failed { result ≡ Step.WriteFault → Faulted (O.account out.old) (O.account out.new) }
     {
-        match service_number(&i) {
+        match service_number(i) {
             Some(number) => self.service(number, out),
             None => self.execute(i),
         }
@@ -87,6 +88,7 @@ impl Machine {
     /// Makes one step: fetches a word and carries out its instruction. After `WriteFault` the machine is as
     /// before, and may make the step again; after every other answer but `Going` each further step answers
     /// the same. It takes no memory.
+    #[inline]
     pub fn step<O: Sink>(&mut self, out: &mut O) -> Step
         ensures code { code_of self.new ≡ code_of self.old }
         ensures made { Made result (state_of self.old) (state_of self.new) (step_of (code_of self.old) (state_of self.old))

@@ -201,6 +201,12 @@ stored1-loaded1 m t p q s c = ap (with_bytes t p) (one_byte (bytes_at m q 1) (le
 pub loaded1_lt : (m : List Area) (p : ℕ) → IsOfBytes m → loaded1 m p < 2 ^ 8
 loaded1_lt m p s = of_bytes-bytes_at m p 1 s 0
 
+pub loaded8_lt : (m : List Area) (p : ℕ) → IsOfBytes m → loaded8 m p < 2 ^ 64
+loaded8_lt m p s =
+    let b = of_bytes-bytes_at m p 8 s in
+    let b0 = b 0 in let b1 = b 1 in let b2 = b 2 in let b3 = b 3 in let b4 = b 4 in let b5 = b 5 in let b6 = b 6 in let b7 = b 7 in
+    omega (arith, b0, b1, b2, b3, b4, b5, b6, b7)
+
 -- zeros: eight of them are the number 0, and zeros side by side are one block of them
 pub stored8_zero : (m : List Area) (p : ℕ) → stored8 m p 0 ≡ with_bytes m p (replicate 8 0)
 stored8_zero m p = refl

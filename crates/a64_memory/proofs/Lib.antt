@@ -8,3 +8,5 @@ pub mod Copies
 pub mod Padding
 pub mod Joining
 pub mod Fronts
+pub mod Beside
+pub mod Parts

@@ -3,7 +3,7 @@
 use crate::lists::{Bytes, Words};
 
 /// A program for the A64 machine.
-#[derive(Debug, Drop)]
+#[derive(Drop)]
 pub struct Image {
     /// The version of the image's form, 1.
     pub version: u32,

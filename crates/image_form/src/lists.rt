@@ -5,7 +5,7 @@ ghost use Rattle.std.specs.Prelude.{◌≡◌, List, ℕ};
 use std::marker::Model;
 
 /// Code words.
-#[derive(Debug, Drop)]
+#[derive(Drop)]
 pub struct Words {
     items: Vec<u32>,
 }
@@ -41,7 +41,7 @@ impl Words {
 }
 
 /// Bytes.
-#[derive(Debug, Drop)]
+#[derive(Drop)]
 pub struct Bytes {
     items: Vec<u8>,
 }

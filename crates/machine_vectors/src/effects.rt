@@ -78,7 +78,7 @@ fn goes_on(core: &mut Core, word: u32) -> bool {
     };
     match service_number(&i) {
         Some(_) => false,
-        None => core.execute(i) == Step::Going,
+        None => matches!(core.execute(&i), Step::Going),
     }
 }
 
@@ -218,7 +218,8 @@ fn write(core: &mut Core, address: u64, bytes: &[u8]) -> bool {
     true
 }
 
-fn byte_of(pair: &[u8]) -> Option<u8> {
+/// The byte of two hexadecimal digits.
+pub fn byte_of(pair: &[u8]) -> Option<u8> {
     match pair {
         [high, low] => Some(digit_of(*high)? << 4 | digit_of(*low)?),
         _ => None,

@@ -1,9 +1,10 @@
-//! Holds the machine against effects of real A64 processors, and runs a few programs.
+//! Holds the machine against effects of real A64 processors and against another machine, and runs a few programs.
 //!
 //! Each line of `a64-effects.txt` is made true of a machine's registers and memory, at two bases of the memory;
 //! the word is carried out by the code that a step runs, and all that the line names must be as it says, and all
-//! else as it was. Each line that disagrees is printed. With a loop's name and a number of steps as arguments it
-//! runs that loop instead, for `bench/machine.sh`.
+//! else as it was. Those lines are of data instructions. Each line of `a64-programs.txt` is a program, with branches,
+//! services and traps too, and how another machine halts on it and what it writes. Each line that disagrees is
+//! printed. With a loop's name and a number of steps as arguments it runs that loop instead, for `bench/machine.sh`.
 #![tactic(auto)]
 
 mod effects;
@@ -23,8 +24,9 @@ fn main(rt: HostRuntime) -> anyhow::Result<ExitCode> {
     let high = effects::compare(&rt, text.as_str(), 0x8000_0000)?;
     programs::run_words(&rt)?;
     programs::run_services(&rt)?;
-    programs::run_random(&rt)?;
-    if low && high {
+    let text = fs::read_to_string(&rt, "a64-programs.txt")?;
+    let programs = programs::compare(&rt, text.as_str())?;
+    if low && high && programs {
         Ok(ExitCode::SUCCESS)
     } else {
         Ok(ExitCode::FAILURE)

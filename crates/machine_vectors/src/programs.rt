@@ -1,5 +1,6 @@
 //! Programs of a few words, and what they come to.
 
+use crate::effects::byte_of;
 use a64_machine::Machine;
 use image_form::{Bytes, Image, Words};
 use std::alloc::Global;
@@ -36,6 +37,15 @@ const CALLS: [u32; 7] = [
     0xd65f_03c0,
 ];
 
+/// A loop of stores at both ends of the frames.
+const FRAMES: [u32; 5] = [
+    0xd100_23ff,
+    0xd2a8_0002,
+    0xf900_03e1,
+    0xf900_0041,
+    0x17ff_fffe,
+];
+
 /// A program that uses each service.
 const SERVICES: [u32; 18] = [
     0xd280_0820,
@@ -61,15 +71,25 @@ const SERVICES: [u32; 18] = [
 /// Its constants: a text of bytes, and one of cells.
 const TEXTS: &[u8; 32] = b"hi\0\0\0\0\0\0o\0\0\0\0\0\0\0k\0\0\0\0\0\0\0\0\0\0\0\0\0\0\0";
 
-/// The machine with these words, constants and input, without globals and with a frame of eight bytes; none where
-/// there are too many.
+/// The constants of the random programs.
+const PROGRAM_TEXT: &[u8; 16] = b"text\0\0\0\0\0\0\0\0\0\0\0\0";
+
+/// The machine with these words, constants and input, and so many bytes of globals and of a frame; none where there
+/// are too many.
 fn machine(
     alloc: Global,
     words: &[u32],
     constants: &[u8],
     input: &[u8],
+    globals: u32,
+    frame: u32,
 ) -> anyhow::Result<Option<Machine>> {
     if words.is_empty()
+        || globals > 4096
+        || globals % 8 != 0
+        || frame == 0
+        || frame > 32_768
+        || frame % 8 != 0
         || words.len() > 262_144
         || constants.len() > 2_097_152
         || constants.len() % 8 != 0
@@ -80,9 +100,9 @@ fn machine(
         version: 1,
         flags: 0,
         code: Words::new(Vec::from_slice(alloc, words)?),
-        globals: 0,
+        globals,
         constants: Bytes::new(Vec::from_slice(alloc, constants)?),
-        frame: 8,
+        frame,
     };
     let input = Vec::from_slice(alloc, input)?;
     Ok(Some(Machine::load(alloc, image, input)?))
@@ -90,13 +110,14 @@ fn machine(
 
 /// Runs one loop for so many steps.
 pub fn run_loop(rt: &(impl Print + AllocGlobal), name: &str, steps: &str) -> anyhow::Result<()> {
-    let words: &[u32] = match name {
-        "count" => &COUNT,
-        "memory" => &MEMORY,
-        _ => &CALLS,
+    let (words, frame): (&[u32], u32) = match name {
+        "count" => (&COUNT, 8),
+        "memory" => (&MEMORY, 8),
+        "frames" => (&FRAMES, 32_768),
+        _ => (&CALLS, 8),
     };
     let steps = steps.parse::<u64>().unwrap_or(0);
-    if let Some(machine) = machine(rt.alloc(), words, &[], &[])? {
+    if let Some(machine) = machine(rt.alloc(), words, &[], &[], 0, frame)? {
         let halt = machine.run(steps, &mut CleanSink::new());
         println!(rt; "{halt:?}")?;
     }
@@ -106,7 +127,7 @@ pub fn run_loop(rt: &(impl Print + AllocGlobal), name: &str, steps: &str) -> any
 /// Words that stop the machine, each alone in an image.
 pub fn run_words(rt: &(impl Print + AllocGlobal)) -> anyhow::Result<()> {
     for word in [0x0000_0000, 0xd400_0121, 0xf940_0020, 0xd400_0001] {
-        if let Some(mut machine) = machine(rt.alloc(), &[word], &[], &[])? {
+        if let Some(mut machine) = machine(rt.alloc(), &[word], &[], &[], 0, 8)? {
             let mut out = CleanSink::new();
             let step = machine.step(&mut out);
             let again = machine.step(&mut out);
@@ -121,7 +142,7 @@ pub fn run_words(rt: &(impl Print + AllocGlobal)) -> anyhow::Result<()> {
 pub fn run_services(rt: &(impl Print + AllocGlobal)) -> anyhow::Result<()> {
     for (steps, room) in [(18, 64), (17, 64), (18, 9)] {
         let mut out = MemSink::new(rt.alloc(), room, 4, Vec::new(rt.alloc()))?;
-        if let Some(machine) = machine(rt.alloc(), &SERVICES, TEXTS, b"Z")? {
+        if let Some(machine) = machine(rt.alloc(), &SERVICES, TEXTS, b"Z", 0, 8)? {
             let halt = machine.run(steps, &mut out);
             let text = String::from_utf8_lossy(rt.alloc(), out.bytes())?;
             println!(rt; "{halt:?} {text}")?;
@@ -130,19 +151,67 @@ pub fn run_services(rt: &(impl Print + AllocGlobal)) -> anyhow::Result<()> {
     Ok(())
 }
 
-/// A thousand words at random, run for at most ten thousand steps.
-pub fn run_random(rt: &(impl Print + AllocGlobal)) -> anyhow::Result<()> {
-    let mut words = Vec::new(rt.alloc());
-    let mut word: u32 = 0x2545_f491;
-    for _ in 0..1000 {
-        word ^= word.wrapping_shl(13);
-        word ^= word >> 17;
-        word ^= word.wrapping_shl(5);
+/// Compares each program of the text with the machine, prints those that disagree, and answers whether none does.
+pub fn compare(rt: &(impl Print + AllocGlobal), text: &str) -> anyhow::Result<bool> {
+    let mut agree: u64 = 0;
+    let mut all = true;
+    for line in text.lines() {
+        if line.starts_with('#') {
+            continue;
+        }
+        if agrees(rt.alloc(), line)? {
+            agree = agree.saturating_add(1);
+        } else {
+            all = false;
+            println!(rt; "{line}")?;
+        }
+    }
+    println!(rt; "programs {agree}")?;
+    Ok(all)
+}
+
+/// Whether the program of the line halts as the line says, having written what it says.
+fn agrees(alloc: Global, line: &str) -> anyhow::Result<bool> {
+    let Some((words, answer)) = line.split_once(" -> ") else {
+        return Ok(false);
+    };
+    let Some((wanted, output)) = answer.split_once(' ') else {
+        return Ok(false);
+    };
+    let Some(words) = words_of(alloc, words)? else {
+        return Ok(false);
+    };
+    let Some(machine) = machine(alloc, words.as_slice(), PROGRAM_TEXT, b"Z!", 8, 16)? else {
+        return Ok(false);
+    };
+    let mut out = MemSink::new(alloc, 4096, 4096, Vec::new(alloc))?;
+    let halt = machine.run(2000, &mut out);
+    let halt = format!(in alloc; "{halt:?}")?;
+    Ok(halt.as_str() == wanted && is_written(out.bytes(), output))
+}
+
+/// The words that stand in the text, one blank apart; none where it isn't such a text.
+fn words_of(alloc: Global, text: &str) -> anyhow::Result<Option<Vec<u32>>> {
+    let mut words = Vec::new(alloc);
+    for digits in text.split(' ') {
+        let Ok(word) = u32::from_str_radix(digits, 16) else {
+            return Ok(None);
+        };
         words.push(word)?;
     }
-    if let Some(machine) = machine(rt.alloc(), words.as_slice(), &[], &[])? {
-        let halt = machine.run(10_000, &mut CleanSink::new());
-        println!(rt; "{halt:?}")?;
+    Ok(Some(words))
+}
+
+/// Whether the text has these bytes, each as two hexadecimal digits.
+fn is_written(bytes: &[u8], text: &str) -> bool {
+    let digits = text.as_bytes();
+    if bytes.len() > 4096 || digits.len() != 2 * bytes.len() {
+        return false;
     }
-    Ok(())
+    for (byte, pair) in bytes.iter().zip(digits.chunks(2)) {
+        if byte_of(pair) != Some(*byte) {
+            return false;
+        }
+    }
+    true
 }

@@ -19,7 +19,7 @@ use Rattle.straight_code.specs.declared.operation.Operation.{Operation}
 use Rattle.straight_code.specs.declared.operation.Operation.TheVariants.{Const, Add, Sub, Mul, Neg, WriteByte, WriteInt}
 use Rattle.straight_code.specs.Operations.{defined, written, output_of, count, values_of, Reads, AreLegal}
 use Rattle.straight_code.specs.Code.{home, load, store, second, load_both, move_instr, constant, instructions, body}
-use Rattle.straight_code.proofs.Sequences.{Effects, effects_append}
+use Rattle.a64_machine.proofs.Sequences.{Effects, effects_append}
 use Rattle.straight_code.proofs.Frames.{Frame, frame_stays, frame_grows, load_does, store_does, with_slot}
 
 -- where a list of instructions leads: to a state with the same SP and memory, and these registers

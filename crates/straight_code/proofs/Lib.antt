@@ -1,4 +1,3 @@
-pub mod Sequences
 pub mod Frames
 pub mod Carried
 pub mod Ranges

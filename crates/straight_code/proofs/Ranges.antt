@@ -1,29 +1,19 @@
 -- The fields of the instructions fit their places, and there are not too many of them.
-use Rattle.std.proofs.Common.{◌≡◌, ℕ, suc, ◌+◌, ◌*◌, ◌/◌, ◌%◌, ◌<◌, ◌≤◌, ◌^◌, ◌==◌, Bool, true, false, cond, if◌then◌else◌, List, [], ◌∷◌, ◌++◌, map, length, Option, Some, None, refl, sym, ap, ◌∙◌, subst, arith, lit<, length-append}
-use Rattle.std.specs.Prelude.{slice_get}
+use Rattle.std.proofs.Common.{◌≡◌, ℕ, suc, ◌+◌, ◌*◌, ◌/◌, ◌%◌, ◌<◌, ◌≤◌, ◌^◌, ◌==◌, Bool, true, false, cond, if◌then◌else◌, List, [], ◌∷◌, ◌++◌, map, length, Option, Some, None, refl, ap, arith, lit<, length-append}
 use Rattle.a64_numbers.specs.Moves.{half, lowest, more_ones, filling, beginning, half_moves, given, constant_moves}
 use Rattle.a64_numbers.specs.declared.moves.Move.{Move}
 use Rattle.a64_numbers.specs.declared.moves.Move.TheVariants as move
 use Rattle.a64_numbers.proofs.Constants.{four_moves, half_lt}
 use Rattle.a64_instr.specs.declared.instr.Shift.TheVariants.{Lsl}
-use Rattle.a64_instr.specs.declared.instr.Instr.{Instr}
 use Rattle.a64_instr.specs.declared.instr.Instr.TheVariants.{AddReg, SubReg, Madd}
-use Rattle.a64_table.specs.Table.{word_of, InRange}
+use Rattle.a64_table.specs.Table.{InRange}
+use Rattle.a64_machine.proofs.Steps.{AllInRange, in_range_append}
 use Rattle.straight_code.specs.declared.operation.Operation.{Operation}
 use Rattle.straight_code.specs.declared.operation.Operation.TheVariants.{Const, Add, Sub, Mul, Neg, WriteByte, WriteInt}
 use Rattle.straight_code.specs.Operations.{count, values_of, Reads, AreLegal}
 use Rattle.straight_code.specs.Code.{load, store, second, load_both, move_instr, constant, instructions, body, prologue, epilogue, frame_bytes, procedure}
-use Rattle.straight_code.proofs.Sequences.{Stands}
 
--- each instruction's fields fit
-abbrev pub AllInRange : List Instr → Type 0
-AllInRange [] = Unit {0}
-AllInRange (i ∷ is) = InRange i × AllInRange is
-
-pub in_range_append : (is js : List Instr) → AllInRange is → AllInRange js → AllInRange (is ++ js)
-in_range_append [] js a b = b
-in_range_append (i ∷ is) js a b = (a.0, in_range_append is js a.1 b)
-
+-- loads and stores of homes
 loads_in_range : (register v : ℕ) → register < 2 ^ 5 → v < 4000 → InRange (load register v)
 loads_in_range register v r l = (r, (lit< tt, (omega (arith, l), tt)))
 
@@ -135,20 +125,3 @@ length-instructions (WriteInt a width) made = omega arith
 pub length-body : (os : List Operation) (made : ℕ) → length (body made os) ≤ 5 * length os
 length-body [] made = omega arith
 length-body (o ∷ os) made = let one = length-instructions o made in let rest = length-body os (made + count o) in let sum = length-append (instructions made o) (body (made + count o) os) in omega (arith, one, rest, sum)
-
--- words of instructions behind others stand in the code
-pub stands_behind : (front : List ℕ) (is : List Instr) (k : ℕ) → length front ≡ k → AllInRange is → Stands (front ++ map word_of is) k is
-stands_behind front [] k e h = tt
-stands_behind front (i ∷ is) k e h = (
-  ap (slice_get (front ++ map word_of (i ∷ is))) (sym e) ∙ at_front front (word_of i) (map word_of is),
-  h.0,
-  subst (λ code. Stands code (suc k) is) (again front (word_of i) (map word_of is)) (stands_behind (front ++ word_of i ∷ []) is (suc k) (let n = length-append front (word_of i ∷ []) in omega (arith, e, n)) h.1),
-)
-  where
-    at_front : (front : List ℕ) (w : ℕ) (rest : List ℕ) → slice_get (front ++ w ∷ rest) (length front) ≡ Some w
-    at_front [] w rest = refl
-    at_front (x ∷ front) w rest = at_front front w rest
-
-    again : (front : List ℕ) (w : ℕ) (rest : List ℕ) → (front ++ w ∷ []) ++ rest ≡ front ++ w ∷ rest
-    again [] w rest = refl
-    again (x ∷ front) w rest = ap (λ (l : List ℕ). x ∷ l) (again front w rest)

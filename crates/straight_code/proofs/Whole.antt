@@ -1,9 +1,11 @@
 -- The machine that runs the image of operations writes what they write, and ends.
-use Rattle.std.proofs.Common.{◌≡◌, ℕ, zero, suc, ◌+◌, ◌*◌, ◌/◌, ◌%◌, ◌≤◌, ◌^◌, ◌&&◌, ◌||◌, Bool, true, false, List, [], ◌∷◌, ◌++◌, map, length, refl, sym, ap, ap₂, ◌∙◌, subst, arith, lit<, append_assoc, length-append}
+use Rattle.std.proofs.Common.{◌≡◌, ℕ, suc, ◌+◌, ◌*◌, ◌/◌, ◌%◌, ◌≤◌, ◌^◌, ◌&&◌, ◌||◌, Bool, true, false, List, [], ◌∷◌, ◌++◌, map, length, refl, sym, ap, ap₂, ◌∙◌, subst, arith, lit<, append_assoc, length-append}
 use Rattle.std.specs.Prelude.{replicate}
 use Rattle.std.proofs.lemmas.Bool.{le-leb}
 use Rattle.std.proofs.lemmas.List.{append-nil, length-replicate}
 use Rattle.run_laws.specs.Runs.{Ended, Moves, Ends, System, Walk, Keeps, InStep, weigh, Within}
+use Rattle.run_laws.specs.Layers.{places_from}
+use Rattle.run_laws.proofs.Layers.{places_from-append, length-places_from}
 use Rattle.run_laws.proofs.Weights.{weigh-append}
 use Rattle.run_laws.proofs.Walks.{Walk-cons, Walk-snoc}
 use Rattle.run_laws.proofs.Agreement.{in_step}
@@ -15,45 +17,18 @@ use Rattle.a64_instr.specs.declared.instr.Instr.TheVariants.{AddImm, Bl, Ret, Ld
 use Rattle.a64_table.specs.Table.{word_of}
 use Rattle.a64_machine.specs.State.{State, Trap, read, put, address_of, place_at}
 use Rattle.a64_machine.specs.Machine.{frames_base, frames_bytes, zeroed, first_memory, start, step_of, system}
+use Rattle.a64_machine.proofs.Steps.{StandAll, stand_append, stand_behind, stands_word, step-at, place-address}
+use Rattle.a64_machine.proofs.Sequences.{Effects, effects_append, passes_all}
 use Rattle.image_form.specs.Form.{IsInForm}
 use Rattle.straight_code.specs.declared.operation.Operation.{Operation}
 use Rattle.straight_code.specs.Operations.{output_of, values_of, AreLegal}
 use Rattle.straight_code.specs.Code.{body, prologue, epilogue, frame_bytes, procedure}
 use Rattle.straight_code.specs.Images.{front_words, code_of, image, same_trap}
-use Rattle.straight_code.proofs.Sequences.{Effects, effects_append, Stands, stands_append, places, step_at, place_is, walks}
 use Rattle.straight_code.proofs.Frames.{Frame, frame_grows, load_does, store_does, with_slot}
 use Rattle.straight_code.proofs.Carried.{body_does}
-use Rattle.straight_code.proofs.Ranges.{procedure_in_range, length-body, stands_behind}
+use Rattle.straight_code.proofs.Ranges.{procedure_in_range, length-body}
 
--- the places of a list of instructions are those of n words
-abbrev upto : ℕ → ℕ → List ℕ
-upto k zero = []
-upto k (suc n) = k ∷ upto (suc k) n
-
-places_upto : (is : List Instr) (k : ℕ) → places k is ≡ upto k (length is)
-places_upto [] k = refl
-places_upto (i ∷ is) k = ap (λ (l : List ℕ). k ∷ l) (places_upto is (suc k))
-
-places_append : (is js : List Instr) (k : ℕ) → places k (is ++ js) ≡ places k is ++ places (k + length is) js
-places_append [] js k = let e : k ≡ k + 0 = omega arith in ap (λ n. places n js) e
-places_append (i ∷ is) js k =
-    let e : suc k + length is ≡ k + suc (length is) = omega arith in
-    ap (λ (l : List ℕ). k ∷ l) (places_append is js (suc k) ∙ ap (λ n. places (suc k) is ++ places n js) e)
-
-length-upto : (n k : ℕ) → length (upto k n) ≡ n
-length-upto zero k = refl
-length-upto (suc n) k = ap suc (length-upto n (suc k))
-
-weigh-upto : (h : ℕ → ℕ) (m n k : ℕ) → weigh h (upto k (m + n)) ≡ weigh h (upto k m) + weigh h (upto (k + m) n)
-weigh-upto h zero n k = let e : 0 + n ≡ n = omega arith in let z : k + 0 ≡ k = omega arith in let w = ap (λ j. weigh h (upto k j)) e in let v = ap (λ j. weigh h (upto j n)) z in omega (arith, w, v)
-weigh-upto h (suc m) n k =
-    let e : suc m + n ≡ suc (m + n) = omega arith in
-    let z : k + suc m ≡ suc k + m = omega arith in
-    let w = ap (λ j. weigh h (upto k j)) e in
-    let v = ap (λ j. weigh h (upto j n)) z in
-    let rest = weigh-upto h m n (suc k) in
-    omega (arith, w, v, rest)
-
+-- as many words as instructions
 length-map_words : (is : List Instr) → length (map word_of is) ≡ length is
 length-map_words [] = refl
 length-map_words (i ∷ is) = ap suc (length-map_words is)
@@ -87,8 +62,8 @@ module _ (os : List Operation) (legal : AreLegal 0 os) (few : values_of os ≤ 4
       let b = length-append (body 0 os) (epilogue frame) in
       omega (arith, some, a, b, short)
 
-  stands : Stands code 40 (procedure os)
-  stands = stands_behind front_words (procedure os) 40 refl (procedure_in_range os legal few)
+  stands : StandAll code 40 (procedure os)
+  stands = stand_behind front_words (procedure os) 40 refl (omega (arith, size)) (procedure_in_range os legal few)
 
   -- the call of the procedure
   called : State
@@ -96,7 +71,7 @@ module _ (os : List Operation) (legal : AreLegal 0 os) (few : values_of os ≤ 4
 
   calls : step_of code first ≡ Moves [] called
   unfolding called
-  calls = step_at code 0 (Bl 40) first refl (lit< tt, tt) refl
+  calls = step-at 0 (stands_word code 0 (Bl 40) refl (lit< tt, tt)) first refl
 
   -- the frame is made
   slots_covered : (j : ℕ) → j ≤ homes → covers (first_memory (image os)) (low + 8 * j) 8 ≡ true
@@ -162,8 +137,8 @@ module _ (os : List Operation) (legal : AreLegal 0 os) (few : values_of os ≤ 4
   length-procedure : length (procedure os) ≡ length whole + 1
   length-procedure = ap length procedure_is ∙ length-append whole (Ret 30 ∷ [])
 
-  stand : Stands code 40 whole × Stands code (40 + length whole) (Ret 30 ∷ [])
-  stand = stands_append code whole (Ret 30 ∷ []) 40 (subst (Stands code 40) procedure_is stands)
+  stand : StandAll code 40 whole × StandAll code (40 + length whole) (Ret 30 ∷ [])
+  stand = stand_append code whole (Ret 30 ∷ []) 40 (subst (StandAll code 40) procedure_is stands)
 
   record Ran : Type 0 where
     after : State
@@ -192,7 +167,7 @@ module _ (os : List Operation) (legal : AreLegal 0 os) (few : values_of os ≤ 4
 
   -- the words that are passed on the way to the end, and the state there
   passed : List ℕ
-  passed = 0 ∷ (places 40 whole ++ return_place ∷ [])
+  passed = 0 ∷ (places_from 40 (length whole) ++ return_place ∷ [])
 
   last : State
   last = record ran.after { pc = link }
@@ -201,33 +176,32 @@ module _ (os : List Operation) (legal : AreLegal 0 os) (few : values_of os ≤ 4
   unfolding called passed last
   walk =
       let r = ran in
-      let l = length-procedure in
-      let w = walks code whole 40 called (output_of os []) r.after stand.0 (omega (arith, size, l)) refl r.effects in
-      let returns : step_of code r.after ≡ Moves [] last = step_at code return_place (Ret 30) r.after stand.1.0 stand.1.1 w.1 ∙ ap (λ (n : ℕ). Moves [] (record r.after { pc = n })) r.back in
-      let here : place_at r.after.pc ≡ return_place = place_is code return_place r.after w.1 in
-      let there = Walk-snoc machine (places 40 whole) called r.after last (output_of os []) [] w.0 returns in
-      let there' : Walk machine called (places 40 whole ++ return_place ∷ []) (output_of os []) last =
-      subst (λ p. Walk machine called (places 40 whole ++ p ∷ []) (output_of os []) last) here
-      (subst (λ o. Walk machine called (places 40 whole ++ place_at r.after.pc ∷ []) o last) (append-nil (output_of os [])) there) in
-      Walk-cons machine (places 40 whole ++ return_place ∷ []) first called last [] (output_of os []) calls there'
+      let w = passes_all code whole 40 called (output_of os []) r.after stand.0 refl r.effects in
+      let returns : step_of code r.after ≡ Moves [] last = step-at return_place stand.1.1 r.after w.1 ∙ ap (λ (n : ℕ). Moves [] (record r.after { pc = n })) r.back in
+      let here : place_at r.after.pc ≡ return_place = ap place_at w.1 ∙ place-address return_place in
+      let there = Walk-snoc machine (places_from 40 (length whole)) called r.after last (output_of os []) [] w.0.walk returns in
+      let there' : Walk machine called (places_from 40 (length whole) ++ return_place ∷ []) (output_of os []) last =
+      subst (λ p. Walk machine called (places_from 40 (length whole) ++ p ∷ []) (output_of os []) last) here
+      (subst (λ o. Walk machine called (places_from 40 (length whole) ++ place_at r.after.pc ∷ []) o last) (append-nil (output_of os [])) there) in
+      Walk-cons machine (places_from 40 (length whole) ++ return_place ∷ []) first called last [] (output_of os []) calls there'
 
   ends : step_of code last ≡ Ends
   unfolding last
-  ends = step_at code 1 (Svc 0) last refl (lit< tt, tt) refl
+  ends = step-at 1 (stands_word code 1 (Svc 0) refl (lit< tt, tt)) last refl
 
   all_places : List ℕ
-  all_places = upto 0 (40 + length (procedure os))
+  all_places = places_from 0 (40 + length (procedure os))
 
   within : Within all_places (passed ++ 1 ∷ [])
   unfolding passed all_places
   within h =
-      let l = length-procedure in
-      let sum = weigh-upto h 40 (length (procedure os)) 0 in
-      let a = weigh-append h (0 ∷ (places 40 whole ++ return_place ∷ [])) (1 ∷ []) in
-      let b = ap (weigh h) (places_append whole (Ret 30 ∷ []) 40) in
-      let c = ap (weigh h) (places_upto (whole ++ Ret 30 ∷ []) 40) in
-      let d = ap (λ is. weigh h (upto 40 (length is))) procedure_is in
-      omega (arith, sum, a, b, c, d)
+      let n = length (procedure os) in
+      let front = ap (weigh h) (places_from-append 0 40 n) in
+      let both = weigh-append h (places_from 0 40) (places_from 40 n) in
+      let back = ap (λ m. weigh h (places_from 40 m)) length-procedure in
+      let last' = ap (weigh h) (places_from-append 40 (length whole) 1) in
+      let all = weigh-append h (0 ∷ (places_from 40 (length whole) ++ return_place ∷ [])) (1 ∷ []) in
+      omega (arith, front, both, back, last', all)
 
   keeps : (n : ℕ) → Keeps machine (λ _. 1) all_places same_trap first n (Ended (output_of os []))
   unfolding all_places passed last
@@ -252,7 +226,7 @@ module _ (os : List Operation) (legal : AreLegal 0 os) (few : values_of os ≤ 4
   in_step_with = subst (λ n. InStep machine n same_trap first (λ k. Ended (output_of os []))) long (in_step machine all_places same_trap first (λ k. Ended (output_of os [])) keeps)
     where
       long : length all_places ≡ length code
-      long = length-upto (40 + length (procedure os)) 0 ∙ sym (length-append front_words (map word_of (procedure os)) ∙ ap (λ n. 40 + n) (length-map_words (procedure os)))
+      long = length-places_from 0 (40 + length (procedure os)) ∙ sym (length-append front_words (map word_of (procedure os)) ∙ ap (λ n. 40 + n) (length-map_words (procedure os)))
 
   -- the image's lengths are within what a machine loads
   pub in_form : IsInForm (image os)

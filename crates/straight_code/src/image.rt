@@ -13,8 +13,8 @@ ghost use Rattle.straight_code.specs.Images.{front_words, code_of, image, same_t
 use crate::code::{push_epilogue, push_operation, push_prologue};
 use crate::operation::Operation;
 use image_form::{Bytes, Image, Words};
-use std::alloc::Global;
 use outside::Memory;
+use std::alloc::Global;
 
 /// The words before the procedure: the start, and the routines that copy, zero and compare.
 const FRONT: [u32; 40] = [

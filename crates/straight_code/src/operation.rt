@@ -2,7 +2,7 @@
 
 /// An operation. Values are numbered from 0 in the order in which operations define them; the numbers in an
 /// operation are those of values that were defined before it.
-#[derive(Clone, Copy, PartialEq, Eq, Debug)]
+#[derive(Clone, Copy)]
 pub enum Operation {
     /// Defines a value: this number.
     Const(u64),
