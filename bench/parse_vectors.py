@@ -140,6 +140,31 @@ def changed(words):
     return words
 
 
+# Modules of 1,048,576 symbols, the most that the parser takes: `repeat N .. again` stands for N times the words in it.
+LARGEST = [
+    'MODULE ident ; BEGIN ident := integer repeat 524283 + integer again END ident .',
+    'MODULE ident ; BEGIN repeat 1048569 ; again END ident .',
+    'MODULE ident ; BEGIN ident repeat 262141 ; ident := ident again ; ; ; ; END ident .',
+    'MODULE ident ; BEGIN CASE ident OF repeat 1048565 | again END END ident .',
+    'MODULE ident ; BEGIN ident := { integer repeat 524282 , integer again } END ident .',
+    'MODULE ident ; repeat 174761 PROCEDURE ident ; END ident ; again BEGIN ; ; ; END ident .',
+]
+
+
+def spread(line):
+    """The words that a line stands for."""
+    words, start, times = [], 0, 1
+    line = iter(line.split())
+    for w in line:
+        if w == 'repeat':
+            times, start = int(next(line)), len(words)
+        elif w == 'again':
+            words += words[start:] * (times - 1)
+        else:
+            words.append(w)
+    return words
+
+
 def main():
     folder = sys.argv[1] if len(sys.argv) > 1 else os.path.join(TOP, 'crates', 'parse_vectors')
     random.seed(20)
@@ -150,8 +175,13 @@ def main():
     cases += [changed(list(random.choice(small))) for _ in range(1000)]
     with open(os.path.join(folder, 'stdin'), 'w') as out:
         out.writelines(' '.join(words) + '\n' for words in cases)
+        out.writelines(line + '\n' for line in LARGEST)
     with open(os.path.join(folder, 'stdout'), 'w') as out:
         out.writelines(answer(words) + '\n' for words in cases)
+        for line in LARGEST:
+            words = spread(line)
+            assert len(words) == 1048576, (line, len(words))
+            out.write(answer(words) + '\n')
 
 
 main()

@@ -8,12 +8,12 @@ use Rattle.ob_grammar.specs.Trees.{Token, terminals}
 use Rattle.ob_grammar.specs.Reading.{Wrong, Whole, Stops, all_read, too_much}
 use Rattle.ob_grammar.specs.Modules.{IsModule, Shallow, IsWrong}
 use Rattle.ob_grammar.proofs.Answers.{is_wrong, is_deep, is_shallow}
-use Rattle.ob_tree.specs.declared.modules.Module.{Module}
-use Rattle.ob_tree.specs.Leaves.{Leaf, numbered}
-use Rattle.ob_tree.specs.ModuleText.{module_text}
-use Rattle.ob_parse.specs.declared.fault.ParseFault.{ParseFault}
-use Rattle.ob_parse.specs.declared.fault.ParseFault.TheVariants.{Syntax, TooDeep, Memory}
-use Rattle.ob_parse.specs.Parsing.{State, Parsed, Fails, is_none}
+use Rattle.ob_syntax.specs.declared.modules.Module.{Module}
+use Rattle.ob_syntax.specs.Leaves.{Leaf, numbered}
+use Rattle.ob_syntax.specs.ModuleText.{module_text}
+use Rattle.parse_steps.specs.declared.fault.ParseFault.{ParseFault}
+use Rattle.parse_steps.specs.declared.fault.ParseFault.TheVariants.{Syntax, TooDeep, Memory}
+use Rattle.parse_steps.specs.Parsing.{State, Parsed, Fails, is_none}
 use Rattle.ob_parse.specs.Judged.{IsTree, IsFault, IsTaken}
 
 -- a parser at its beginning

@@ -1,18 +1,12 @@
 -- What parse answers, in words of modules.
-use Rattle.std.specs.Prelude.{◌≡◌, ℕ, List, length, map, Result, Ok, Err}
-use Rattle.ob_symbol.specs.declared.symbol.Symbol.{Symbol}
+use Rattle.std.specs.Prelude.{◌≡◌, ℕ, List, length, Result, Ok, Err}
 use Rattle.ob_grammar.specs.Trees.{Token, terminals}
 use Rattle.ob_grammar.specs.Modules.{IsModule, Shallow, IsWrong, OpensTooMany}
-use Rattle.ob_tree.specs.declared.modules.Module.{Module}
-use Rattle.ob_tree.specs.Leaves.{numbered}
-use Rattle.ob_tree.specs.ModuleText.{module_text}
-use Rattle.ob_parse.specs.declared.fault.ParseFault.{ParseFault}
-use Rattle.ob_parse.specs.declared.fault.ParseFault.TheVariants.{Syntax, TooDeep, Memory}
-use Rattle.ob_parse.specs.Parsing.{number_at}
-
--- the terminals that the symbols are, by their numbers
-abbrev pub numbers : List Symbol → List ℕ
-numbers symbols = map number_at symbols
+use Rattle.ob_syntax.specs.declared.modules.Module.{Module}
+use Rattle.ob_syntax.specs.Leaves.{numbered}
+use Rattle.ob_syntax.specs.ModuleText.{module_text}
+use Rattle.parse_steps.specs.declared.fault.ParseFault.{ParseFault}
+use Rattle.parse_steps.specs.declared.fault.ParseFault.TheVariants.{Syntax, TooDeep, Memory}
 
 -- The tree's terminals are all symbols in order, of the kinds that the grammar asks, and no 101st construct is open in it.
 pub record IsTree (w : List ℕ) (m : Module) : Type 0 where

@@ -2,7 +2,8 @@
 use Rattle.std.proofs.Common.{◌≡◌, ℕ, ◌+◌, ◌<◌, ◌≤◌, List, [], ◌∷◌, ◌++◌, length, drop, get_or, refl, sym, ap, ◌∙◌, subst, append_assoc}
 use Rattle.std.proofs.lemmas.List.{append-nil, drop_more}
 use Rattle.std.proofs.Math.ListN.{drop_of_length-le}
-use Rattle.ob_tree.specs.Leaves.{Leaf, indices, each, Adds}
+use Rattle.ob_syntax.specs.Leaves.{Leaf, indices, each}
+use Rattle.ob_tree.specs.Adds.{Adds}
 
 indices_append : (x y : List Leaf) → indices (x ++ y) ≡ indices x ++ indices y
 indices_append [] y = refl

@@ -1,15 +1,15 @@
 -- What declarations spell, by their fields.
 use Rattle.std.proofs.Common.{◌≡◌, sym, ap, ◌∙◌}
 use Rattle.ob_grammar.specs.Grammar as G
-use Rattle.ob_tree.specs.Leaves.{leaf, optional, each, ◌⧺◌}
-use Rattle.ob_tree.specs.NameText.{identdef_text}
-use Rattle.ob_tree.specs.TypeText.{formals_text}
-use Rattle.ob_tree.specs.StatementText.{body_text}
-use Rattle.ob_tree.specs.DeclarationText.{decls_text, consts_text, types_text, vars_text, procedure_decl_text, procedure_text, returned_text}
-use Rattle.ob_tree.specs.declared.declarations.Decls.{Decls, out-Decls, roll-out-Decls}
-use Rattle.ob_tree.specs.declared.declarations.ProcedureDecl.{ProcedureDecl, out-ProcedureDecl, roll-out-ProcedureDecl}
-use Rattle.ob_tree.specs.declared.declarations.Procedure.{Procedure, out-Procedure, roll-out-Procedure}
-use Rattle.ob_tree.proofs.DeclarationTexts.{decls_is, procedure_decl_is, procedure_is}
+use Rattle.ob_syntax.specs.Leaves.{leaf, optional, each, ◌⧺◌}
+use Rattle.ob_syntax.specs.NameText.{identdef_text}
+use Rattle.ob_syntax.specs.TypeText.{formals_text}
+use Rattle.ob_syntax.specs.StatementText.{body_text}
+use Rattle.ob_syntax.specs.DeclarationText.{decls_text, consts_text, types_text, vars_text, procedure_decl_text, procedure_text, returned_text}
+use Rattle.ob_syntax.specs.declared.declarations.Decls.{Decls, out-Decls, roll-out-Decls}
+use Rattle.ob_syntax.specs.declared.declarations.ProcedureDecl.{ProcedureDecl, out-ProcedureDecl, roll-out-ProcedureDecl}
+use Rattle.ob_syntax.specs.declared.declarations.Procedure.{Procedure, out-Procedure, roll-out-Procedure}
+use Rattle.ob_syntax.proofs.DeclarationTexts.{decls_is, procedure_decl_is, procedure_is}
 
 pub decls_parts : (x : Decls) →
     decls_text x

@@ -1,21 +1,21 @@
 -- What expressions and designators spell, by their fields.
 use Rattle.std.proofs.Common.{◌≡◌, sym, ap, ◌∙◌}
 use Rattle.ob_grammar.specs.Grammar as G
-use Rattle.ob_tree.specs.Leaves.{leaf, optional, each, ◌⧺◌}
-use Rattle.ob_tree.specs.ExpressionText.{list_text, next_expression_text, expression_text, compared_text, relation_text, simple_text, sign_text, added_text, add_operator_text, term_text, multiplied_text, factor_text, set_text, elements_text, next_element_text, element_text, element_high_text}
-use Rattle.ob_tree.specs.declared.expressions.List.{List as ExpressionList, out-List, roll-out-List}
-use Rattle.ob_tree.specs.declared.expressions.NextExpression.{NextExpression, out-NextExpression, roll-out-NextExpression}
-use Rattle.ob_tree.specs.declared.expressions.Expression.{Expression, out-Expression, roll-out-Expression}
-use Rattle.ob_tree.specs.declared.expressions.Compared.{Compared, out-Compared, roll-out-Compared}
-use Rattle.ob_tree.specs.declared.expressions.Simple.{Simple, out-Simple, roll-out-Simple}
-use Rattle.ob_tree.specs.declared.expressions.Added.{Added, out-Added, roll-out-Added}
-use Rattle.ob_tree.specs.declared.expressions.Term.{Term, out-Term, roll-out-Term}
-use Rattle.ob_tree.specs.declared.expressions.Set.{Set, out-Set, roll-out-Set}
-use Rattle.ob_tree.specs.declared.expressions.Elements.{Elements, out-Elements, roll-out-Elements}
-use Rattle.ob_tree.specs.declared.expressions.NextElement.{NextElement, out-NextElement, roll-out-NextElement}
-use Rattle.ob_tree.specs.declared.expressions.Element.{Element, out-Element, roll-out-Element}
-use Rattle.ob_tree.specs.declared.expressions.ElementHigh.{ElementHigh, out-ElementHigh, roll-out-ElementHigh}
-use Rattle.ob_tree.proofs.ExpressionTexts.{list_is, next_expression_is, expression_is, compared_is, simple_is, added_is, term_is, set_is, elements_is, next_element_is, element_is, element_high_is}
+use Rattle.ob_syntax.specs.Leaves.{leaf, boxed, optional, each, ◌⧺◌}
+use Rattle.ob_syntax.specs.ExpressionText.{list_text, next_expression_text, expression_text, compared_text, relation_text, simple_text, sign_text, added_text, add_operator_text, term_text, multiplied_text, factor_text, set_text, elements_text, next_element_text, element_text, element_high_text}
+use Rattle.ob_syntax.specs.declared.expressions.List.{List as ExpressionList, out-List, roll-out-List}
+use Rattle.ob_syntax.specs.declared.expressions.NextExpression.{NextExpression, out-NextExpression, roll-out-NextExpression}
+use Rattle.ob_syntax.specs.declared.expressions.Expression.{Expression, out-Expression, roll-out-Expression}
+use Rattle.ob_syntax.specs.declared.expressions.Compared.{Compared, out-Compared, roll-out-Compared}
+use Rattle.ob_syntax.specs.declared.expressions.Simple.{Simple, out-Simple, roll-out-Simple}
+use Rattle.ob_syntax.specs.declared.expressions.Added.{Added, out-Added, roll-out-Added}
+use Rattle.ob_syntax.specs.declared.expressions.Term.{Term, out-Term, roll-out-Term}
+use Rattle.ob_syntax.specs.declared.expressions.Set.{Set, out-Set, roll-out-Set}
+use Rattle.ob_syntax.specs.declared.expressions.Elements.{Elements, out-Elements, roll-out-Elements}
+use Rattle.ob_syntax.specs.declared.expressions.NextElement.{NextElement, out-NextElement, roll-out-NextElement}
+use Rattle.ob_syntax.specs.declared.expressions.Element.{Element, out-Element, roll-out-Element}
+use Rattle.ob_syntax.specs.declared.expressions.ElementHigh.{ElementHigh, out-ElementHigh, roll-out-ElementHigh}
+use Rattle.ob_syntax.proofs.ExpressionTexts.{list_is, next_expression_is, expression_is, compared_is, simple_is, added_is, term_is, set_is, elements_is, next_element_is, element_is, element_high_is}
 
 pub list_parts : (x : ExpressionList) →
     list_text x
@@ -33,7 +33,7 @@ next_expression_parts x =
 
 pub expression_parts : (x : Expression) →
     expression_text x
-    ≡ simple_text (out-Expression x).left ⧺ optional compared_text (out-Expression x).compared
+    ≡ simple_text (out-Expression x).left ⧺ optional (boxed compared_text) (out-Expression x).compared
 expression_parts x =
     ap expression_text (sym (roll-out-Expression x))
     ∙ expression_is (out-Expression x).left (out-Expression x).compared

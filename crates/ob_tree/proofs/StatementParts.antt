@@ -1,22 +1,22 @@
 -- What statements spell, by their fields.
 use Rattle.std.proofs.Common.{◌≡◌, sym, ap, ◌∙◌}
 use Rattle.ob_grammar.specs.Grammar as G
-use Rattle.ob_tree.specs.Leaves.{leaf, optional, each, ◌⧺◌}
-use Rattle.ob_tree.specs.ExpressionText.{expression_text}
-use Rattle.ob_tree.specs.StatementText.{stats_text, next_stat_text, stat_text, if_stat_text, elsif_text, else_text, case_stat_text, next_case_text, case_text, case_part_text, next_range_text, range_text, while_stat_text, elsif_do_text, repeat_stat_text, for_stat_text, by_text}
-use Rattle.ob_tree.specs.declared.statements.Stats.{Stats, out-Stats, roll-out-Stats}
-use Rattle.ob_tree.specs.declared.statements.IfStat.{IfStat, out-IfStat, roll-out-IfStat}
-use Rattle.ob_tree.specs.declared.statements.Elsif.{Elsif, out-Elsif, roll-out-Elsif}
-use Rattle.ob_tree.specs.declared.statements.Else.{Else, out-Else, roll-out-Else}
-use Rattle.ob_tree.specs.declared.statements.CaseStat.{CaseStat, out-CaseStat, roll-out-CaseStat}
-use Rattle.ob_tree.specs.declared.statements.NextCase.{NextCase, out-NextCase, roll-out-NextCase}
-use Rattle.ob_tree.specs.declared.statements.Case.{Case, out-Case, roll-out-Case}
-use Rattle.ob_tree.specs.declared.statements.CasePart.{CasePart, out-CasePart, roll-out-CasePart}
-use Rattle.ob_tree.specs.declared.statements.WhileStat.{WhileStat, out-WhileStat, roll-out-WhileStat}
-use Rattle.ob_tree.specs.declared.statements.ElsifDo.{ElsifDo, out-ElsifDo, roll-out-ElsifDo}
-use Rattle.ob_tree.specs.declared.statements.RepeatStat.{RepeatStat, out-RepeatStat, roll-out-RepeatStat}
-use Rattle.ob_tree.specs.declared.statements.ForStat.{ForStat, out-ForStat, roll-out-ForStat}
-use Rattle.ob_tree.proofs.StatementTexts.{stats_is, if_stat_is, elsif_is, else_is, case_stat_is, next_case_is, case_is, case_part_is, while_stat_is, elsif_do_is, repeat_stat_is, for_stat_is}
+use Rattle.ob_syntax.specs.Leaves.{leaf, boxed, optional, each, ◌⧺◌}
+use Rattle.ob_syntax.specs.ExpressionText.{expression_text}
+use Rattle.ob_syntax.specs.StatementText.{stats_text, next_stat_text, stat_text, if_stat_text, elsif_text, else_text, case_stat_text, next_case_text, case_text, case_part_text, next_range_text, range_text, while_stat_text, elsif_do_text, repeat_stat_text, for_stat_text, by_text}
+use Rattle.ob_syntax.specs.declared.statements.Stats.{Stats, out-Stats, roll-out-Stats}
+use Rattle.ob_syntax.specs.declared.statements.IfStat.{IfStat, out-IfStat, roll-out-IfStat}
+use Rattle.ob_syntax.specs.declared.statements.Elsif.{Elsif, out-Elsif, roll-out-Elsif}
+use Rattle.ob_syntax.specs.declared.statements.Else.{Else, out-Else, roll-out-Else}
+use Rattle.ob_syntax.specs.declared.statements.CaseStat.{CaseStat, out-CaseStat, roll-out-CaseStat}
+use Rattle.ob_syntax.specs.declared.statements.NextCase.{NextCase, out-NextCase, roll-out-NextCase}
+use Rattle.ob_syntax.specs.declared.statements.Case.{Case, out-Case, roll-out-Case}
+use Rattle.ob_syntax.specs.declared.statements.CasePart.{CasePart, out-CasePart, roll-out-CasePart}
+use Rattle.ob_syntax.specs.declared.statements.WhileStat.{WhileStat, out-WhileStat, roll-out-WhileStat}
+use Rattle.ob_syntax.specs.declared.statements.ElsifDo.{ElsifDo, out-ElsifDo, roll-out-ElsifDo}
+use Rattle.ob_syntax.specs.declared.statements.RepeatStat.{RepeatStat, out-RepeatStat, roll-out-RepeatStat}
+use Rattle.ob_syntax.specs.declared.statements.ForStat.{ForStat, out-ForStat, roll-out-ForStat}
+use Rattle.ob_syntax.proofs.StatementTexts.{stats_is, if_stat_is, elsif_is, else_is, case_stat_is, next_case_is, case_is, case_part_is, while_stat_is, elsif_do_is, repeat_stat_is, for_stat_is}
 
 pub stats_parts : (x : Stats) →
     stats_text x
@@ -63,7 +63,7 @@ next_case_parts x =
     ap next_case_text (sym (roll-out-NextCase x))
     ∙ next_case_is (out-NextCase x).bar (out-NextCase x).case
 
-pub case_parts : (x : Case) → case_text x ≡ optional case_part_text (out-Case x).part
+pub case_parts : (x : Case) → case_text x ≡ optional (boxed case_part_text) (out-Case x).part
 case_parts x =
     ap case_text (sym (roll-out-Case x))
     ∙ case_is (out-Case x).part

@@ -1,11 +1,11 @@
 -- What types and formal parameters spell, by their fields.
 use Rattle.std.proofs.Common.{◌≡◌, sym, ap, ◌∙◌}
 use Rattle.ob_grammar.specs.Grammar as G
-use Rattle.ob_tree.specs.Leaves.{leaf, optional, each, ◌⧺◌}
-use Rattle.ob_tree.specs.TypeText.{record_type_text, base_text, fields_text, next_fields_text}
-use Rattle.ob_tree.specs.declared.types.RecordType.{RecordType, out-RecordType, roll-out-RecordType}
-use Rattle.ob_tree.specs.declared.types.NextFields.{NextFields, out-NextFields, roll-out-NextFields}
-use Rattle.ob_tree.proofs.TypeTexts.{record_type_is, next_fields_is}
+use Rattle.ob_syntax.specs.Leaves.{leaf, optional, each, ◌⧺◌}
+use Rattle.ob_syntax.specs.TypeText.{record_type_text, base_text, fields_text, next_fields_text}
+use Rattle.ob_syntax.specs.declared.types.RecordType.{RecordType, out-RecordType, roll-out-RecordType}
+use Rattle.ob_syntax.specs.declared.types.NextFields.{NextFields, out-NextFields, roll-out-NextFields}
+use Rattle.ob_syntax.proofs.TypeTexts.{record_type_is, next_fields_is}
 
 pub record_type_parts : (x : RecordType) →
     record_type_text x

@@ -1,19 +1,10 @@
-//! The tree of a module: a type for each production of the grammar, and what a tree spells.
+//! The symbols of a tree: `text_symbols` lists the indices of a module's terminals, in order.
 //!
-//! A terminal is the index of its symbol, an alternative a variant, an option an `Option`, a repetition a `Vec`;
-//! the parts stand in the order in which they are read. `specs/ModuleText.antt` and the files that it cites say
-//! what a tree spells: for each of its terminals what it is to be, and its index. `text_symbols` lists the indices.
+//! It takes a tree of `ob_syntax`, whose types this crate hands on, and gives what `specs/ModuleText.antt` there says
+//! that the tree spells. One function for each type walks a value of it.
 #![tactic(auto)]
 
-pub mod declarations;
-pub mod expressions;
-pub mod laws;
-pub mod modules;
-pub mod names;
-pub mod statements;
-#[cfg(test)]
-mod tests;
-mod text;
-pub mod types;
+mod symbols;
 
-pub use text::text_symbols;
+pub use ob_syntax::{declarations, expressions, modules, names, statements, types};
+pub use symbols::text_symbols;

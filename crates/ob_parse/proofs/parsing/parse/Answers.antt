@@ -1,10 +1,9 @@
 use Rattle.std.proofs.Common.{subst, sym}
 use Rattle.std.proofs.lemmas.List.{length-map}
 use Rattle.ob_grammar.specs.Modules.{Shallow}
-use Rattle.ob_parse.specs.declared.fault.ParseFault.TheVariants.{Syntax}
-use Rattle.ob_tree.specs.ModuleText.{module_text}
-use Rattle.ob_parse.specs.Parsing.{number_at}
-use Rattle.ob_parse.specs.Judged.{numbers}
+use Rattle.parse_steps.specs.declared.fault.ParseFault.TheVariants.{Syntax}
+use Rattle.ob_syntax.specs.ModuleText.{module_text}
+use Rattle.ob_grammar.specs.Terminals.{number_at, numbers}
 use Rattle.ob_parse.proofs.Top.{fault_of, err_fault, err_only, not_taken, tree_of, wrong_of}
 use Rattle.ob_parse.proofs.parsing.parse.Goals as goal
 

@@ -1,0 +1,6 @@
+use Rattle.ob_syntax.specs.DeclarationText.{var_decl_text}
+use Rattle.ob_tree.proofs.Added.{Adding}
+use Rattle.ob_tree.proofs.symbols.declarations.add_each_var_decl.Given as goal
+
+abbrev pub invariant-loop-tree : goal.invariant-loop-tree
+invariant-loop-tree l = Adding var_decl_text l.trees l.tree-index l.initial.out.items l.out.items

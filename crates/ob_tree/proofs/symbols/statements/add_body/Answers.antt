@@ -1,0 +1,8 @@
+use Rattle.std.proofs.Common.{ap}
+use Rattle.ob_syntax.specs.Leaves.{optional}
+use Rattle.ob_syntax.specs.StatementText.{body_text}
+use Rattle.ob_tree.proofs.Added.{adds_then, adds_as}
+use Rattle.ob_tree.proofs.symbols.statements.add_body.Goals as goal
+
+pub returns-in_ok-add_stats-in-Some : goal.returns-in_ok-add_stats-in-Some
+returns-in_ok-add_stats-in-Some c = adds_as (ap (optional body_text) c.in-Some.is) (adds_then (c.in_ok-put-in-Some.ensures _) c.in_ok-add_stats-in-Some.ensures)

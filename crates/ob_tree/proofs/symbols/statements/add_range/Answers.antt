@@ -1,0 +1,5 @@
+use Rattle.ob_tree.proofs.Added.{adds_then}
+use Rattle.ob_tree.proofs.symbols.statements.add_range.Goals as goal
+
+pub returns : goal.returns
+returns c = adds_then c.in_ok-add_label.ensures c.in_ok-add_high.ensures

@@ -1,8 +1,0 @@
-use Rattle.std.proofs.Common.{ap, sym}
-use Rattle.ob_tree.specs.Leaves.{optional, each}
-use Rattle.ob_tree.specs.DeclarationText.{vars_text, var_decl_text}
-use Rattle.ob_tree.proofs.Added.{adds_then, adds_as}
-use Rattle.ob_tree.proofs.text.declarations.add_vars.Goals as goal
-
-pub returns-in_ok-add_each_var_decl-in-Some : goal.returns-in_ok-add_each_var_decl-in-Some
-returns-in_ok-add_each_var_decl-in-Some c = adds_as (ap (optional vars_text) c.in-Some.is) (adds_then (c.in_ok-put-in-Some.ensures _) (adds_as (ap (each var_decl_text) (sym c.deref.ensures.value)) c.in_ok-add_each_var_decl-in-Some.ensures))

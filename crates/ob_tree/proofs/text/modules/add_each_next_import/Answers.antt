@@ -1,9 +1,0 @@
-use Rattle.ob_tree.specs.ModuleText.{next_import_text}
-use Rattle.ob_tree.proofs.Added.{adding_more, adding_end}
-use Rattle.ob_tree.proofs.text.modules.add_each_next_import.Goals as goal
-
-pub loop-tree-preserved : goal.loop-tree-preserved
-loop-tree-preserved c = adding_more next_import_text c.args.trees.now c.loop-tree.tree-index _ c.args.out.now.items c.loop-tree.out.items c.add_next_import.new.out.items c.loop-tree-test.true c.loop-tree.invariant c.in_ok-add_next_import.ensures
-
-pub returns : goal.returns
-returns c = adding_end next_import_text c.args.trees.now c.loop-tree.tree-index c.args.out.now.items c.loop-tree.out.items c.loop-tree-test.false c.loop-tree.invariant

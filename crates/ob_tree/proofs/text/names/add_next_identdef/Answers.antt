@@ -1,5 +1,0 @@
-use Rattle.ob_tree.proofs.Added.{adds_then}
-use Rattle.ob_tree.proofs.text.names.add_next_identdef.Goals as goal
-
-pub returns : goal.returns
-returns c = adds_then (c.in_ok-put.ensures _) c.in_ok-add_identdef.ensures

@@ -1,8 +1,0 @@
-use Rattle.std.proofs.Common.{ap}
-use Rattle.ob_tree.specs.Leaves.{optional}
-use Rattle.ob_tree.specs.StatementText.{by_text}
-use Rattle.ob_tree.proofs.Added.{adds_then, adds_as}
-use Rattle.ob_tree.proofs.text.statements.add_by.Goals as goal
-
-pub returns-in_ok-add_expression-in-Some : goal.returns-in_ok-add_expression-in-Some
-returns-in_ok-add_expression-in-Some c = adds_as (ap (optional by_text) c.in-Some.is) (adds_then (c.in_ok-put-in-Some.ensures _) c.in_ok-add_expression-in-Some.ensures)

@@ -1,8 +1,0 @@
-use Rattle.std.proofs.Common.{ap}
-use Rattle.ob_tree.specs.Leaves.{optional}
-use Rattle.ob_tree.specs.TypeText.{formals_text}
-use Rattle.ob_tree.proofs.Added.{adds_then, adds_as}
-use Rattle.ob_tree.proofs.text.types.add_formals.Goals as goal
-
-pub returns-in_ok-add_result_type-in-Some : goal.returns-in_ok-add_result_type-in-Some
-returns-in_ok-add_result_type-in-Some c = adds_as (ap (optional formals_text) c.in-Some.is) (adds_then (c.in_ok-put-in-Some.ensures _) (adds_then c.in_ok-add_sections-in-Some.ensures (adds_then (c.in_ok-put-in-Some-2.ensures _) c.in_ok-add_result_type-in-Some.ensures)))
