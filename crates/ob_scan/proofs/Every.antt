@@ -4,7 +4,7 @@ use Rattle.std.proofs.lemmas.List.{append-nil}
 use Rattle.ob_symbol.specs.declared.symbol.Delimiter.{Delimiter}
 use Rattle.ob_symbol.specs.declared.symbol.Symbol.{Symbol}
 use Rattle.ob_scan.specs.Tables.{one_mark, two_mark}
-use Rattle.ob_scan.specs.Words.{Form, Name, Keyword, Decimal, Hexadecimal, Character, Quoted, Operator, is_letter, is_letter_or_digit, is_digit, is_hexadecimal, is_quotable, is_blank, begins_with, begins_comment, IsTooLarge, IsTooLong, IsWithin}
+use Rattle.ob_scan.specs.Words.{WordForm, Name, Keyword, Decimal, Hexadecimal, Character, Quoted, Operator, is_letter, is_letter_or_digit, is_digit, is_hexadecimal, is_quotable, is_blank, begins_with, begins_comment, IsTooLarge, IsTooLong, IsWithin}
 use Rattle.ob_scan.specs.Scans.{Gap, Longest, Unclosed, Scans, End, Done, ends, reads, bad_byte, open_comment, open_string, too_large, too_long}
 use Rattle.ob_scan.specs.Steps.{Spanned, Skipped, Past, NoBeginning, two_at, close}
 use Rattle.ob_scan.proofs.Gaps.{closed, skip_none, skip_blank, skip_comment, gap_at, gap_before}
@@ -27,7 +27,7 @@ cut p (b ∷ v) = cut_on p b v (p b) refl (cut p v)
 
 -- what a text begins with
 data Begins (w : List ℕ) : Type 0 where
-  a_symbol : (word rest : List ℕ) (form : Form) → w ≡ word ++ rest → Longest word rest form → Begins w
+  a_symbol : (word rest : List ℕ) (form : WordForm) → w ≡ word ++ rest → Longest word rest form → Begins w
   nothing : NoBeginning w → Begins w
   a_quote : Unclosed w → Begins w
 
@@ -76,12 +76,12 @@ below_or_not : (a b : ℕ) (c : Bool) → nat_lt a b ≡ c → (a < b) ⊎ (b �
 below_or_not a b true h = inl (grind arith)
 below_or_not a b false h = inr (grind arith)
 
-data Judged (form : Form) (w : List ℕ) : Type 0 where
+data Judged (form : WordForm) (w : List ℕ) : Type 0 where
   within : IsWithin form w → Judged form w
   large : IsTooLarge form → Judged form w
   long : IsTooLong form w → Judged form w
 
-judged : (form : Form) (w : List ℕ) → Judged form w
+judged : (form : WordForm) (w : List ℕ) → Judged form w
 judged Name w = elim (below_or_not (length w) 256 (nat_lt (length w) 256) refl) [ inl h ↦ within (omega arith) | inr h ↦ long (omega arith) ]
 judged (Keyword r) w = within (omega arith)
 judged (Decimal n) w = elim (below_or_not n (2 ^ 63) (nat_lt n (2 ^ 63)) refl) [ inl h ↦ within h | inr h ↦ large h ]
@@ -126,14 +126,14 @@ record Scan (i : ℕ) (w : List ℕ) : Type 0 where
 scan_of : (i : ℕ) (w v : List ℕ) (a : List Symbol) (e : End) → w ≡ v → Scans i v a e → Scan i w
 scan_of i w v a e h s = record { symbols = a; end = e; is = subst (λ z. Scans i z a e) (sym h) s }
 
-symbol_turn : (i : ℕ) (w gap r word rest : List ℕ) (form : Form) → w ≡ gap ++ r → Gap gap r → begins_comment r ≡ false → r ≡ word ++ rest → Longest word rest form → Judged form word → ((j : ℕ) → Scan j rest) → Scan i w
+symbol_turn : (i : ℕ) (w gap r word rest : List ℕ) (form : WordForm) → w ≡ gap ++ r → Gap gap r → begins_comment r ≡ false → r ≡ word ++ rest → Longest word rest form → Judged form word → ((j : ℕ) → Scan j rest) → Scan i w
 symbol_turn i w gap r word rest form e g c f k (within h) more =
     let s = more (i + length gap + length word) in
     scan_of i w (gap ++ (word ++ rest)) _ _ (e ∙ ap (λ z. gap ++ z) f) (reads {i = i} (subst (Gap gap) f g) (ap begins_comment (sym f) ∙ c) k h s.is)
 symbol_turn i w gap r word rest form e g c f k (large h) more = scan_of i w (gap ++ (word ++ rest)) _ _ (e ∙ ap (λ z. gap ++ z) f) (too_large {i = i} (subst (Gap gap) f g) (ap begins_comment (sym f) ∙ c) k h)
 symbol_turn i w gap r word rest form e g c f k (long h) more = scan_of i w (gap ++ (word ++ rest)) _ _ (e ∙ ap (λ z. gap ++ z) f) (too_long {i = i} (subst (Gap gap) f g) (ap begins_comment (sym f) ∙ c) k h)
 
-not_empty : (u r : List ℕ) (k : Form) → Longest u r k → 0 < length u
+not_empty : (u r : List ℕ) (k : WordForm) → Longest u r k → 0 < length u
 not_empty [] r k w = absurd (let p = w.is in cc)
 not_empty (c ∷ u) r k w = omega arith
 

@@ -2,7 +2,7 @@
 use Rattle.std.proofs.Common.{◌≡◌, ℕ, List, [], ◌∷◌, ◌++◌, Bool, true, false, cond, nat_eq, Some, None, refl, sym, ap, ◌∙◌, subst, arith, append_assoc}
 use Rattle.ob_symbol.specs.declared.symbol.Delimiter.{Delimiter}
 use Rattle.ob_scan.specs.Tables.{reserved_of, one_mark, two_mark, mark_of}
-use Rattle.ob_scan.specs.Words.{is_letter, is_letter_or_digit, is_digit, is_hexadecimal, is_line_end, is_quotable, is_all, is_all_then, begins_with, value_from, Form, Decimal, Hexadecimal, Character, Quoted, Operator, name_or_keyword, name_form, number_form, text_form, operator, form_of}
+use Rattle.ob_scan.specs.Words.{is_letter, is_letter_or_digit, is_digit, is_hexadecimal, is_line_end, is_quotable, is_all, is_all_then, begins_with, value_from, WordForm, Decimal, Hexadecimal, Character, Quoted, Operator, name_or_keyword, name_form, number_form, text_form, operator, form_of}
 use Rattle.ob_scan.specs.Scans.{Longest, is_line_over}
 use Rattle.ob_scan.specs.Steps.{Spanned}
 use Rattle.ob_scan.proofs.Gaps.{cond_true, cond_false}
@@ -76,7 +76,7 @@ name_longest b v s r h p = record {
   longest = no_longer b v s r h p;
 }
   where
-    no_longer : (b : ℕ) (v s r : List ℕ) → is_letter b ≡ true → Spanned is_letter_or_digit v s r → (u w : List ℕ) (other : Form) → r ≡ u ++ w → form_of (b ∷ (s ++ u)) ≡ Some other → u ≡ []
+    no_longer : (b : ℕ) (v s r : List ℕ) → is_letter b ≡ true → Spanned is_letter_or_digit v s r → (u w : List ℕ) (other : WordForm) → r ≡ u ++ w → form_of (b ∷ (s ++ u)) ≡ Some other → u ≡ []
     no_longer b v s r h p [] w other e k = refl
     no_longer b v s r h p (x ∷ u) w other e k =
         let n = cond_false (is_all is_letter_or_digit (b ∷ (s ++ (x ∷ u)))) (Some (name_or_keyword (reserved_of (b ∷ (s ++ (x ∷ u)))))) None (not_all is_letter_or_digit (b ∷ s) x u (p.stop x (u ++ w) e)) in
@@ -123,10 +123,10 @@ suffix_longer b s x y u d h n =
     (then_longer is_hexadecimal 72 (b ∷ s) x y u n (all_more is_hexadecimal b s (digit_is_hexadecimal b d) h))
     (then_longer is_hexadecimal 88 (b ∷ s) x y u n (all_more is_hexadecimal b s (digit_is_hexadecimal b d) h))
 
-suffix_longest : (b : ℕ) (s : List ℕ) (x : ℕ) (r : List ℕ) (form : Form) → is_digit b ≡ true → is_all is_hexadecimal s ≡ true → is_hexadecimal x ≡ false → form_of (b ∷ (s ++ (x ∷ []))) ≡ Some form → Longest (b ∷ (s ++ (x ∷ []))) r form
+suffix_longest : (b : ℕ) (s : List ℕ) (x : ℕ) (r : List ℕ) (form : WordForm) → is_digit b ≡ true → is_all is_hexadecimal s ≡ true → is_hexadecimal x ≡ false → form_of (b ∷ (s ++ (x ∷ []))) ≡ Some form → Longest (b ∷ (s ++ (x ∷ []))) r form
 suffix_longest b s x r form d h n is = record { is = is; longest = no_longer b s x r d h n }
   where
-    no_longer : (b : ℕ) (s : List ℕ) (x : ℕ) (r : List ℕ) → is_digit b ≡ true → is_all is_hexadecimal s ≡ true → is_hexadecimal x ≡ false → (u w : List ℕ) (other : Form) → r ≡ u ++ w → form_of ((b ∷ (s ++ (x ∷ []))) ++ u) ≡ Some other → u ≡ []
+    no_longer : (b : ℕ) (s : List ℕ) (x : ℕ) (r : List ℕ) → is_digit b ≡ true → is_all is_hexadecimal s ≡ true → is_hexadecimal x ≡ false → (u w : List ℕ) (other : WordForm) → r ≡ u ++ w → form_of ((b ∷ (s ++ (x ∷ []))) ++ u) ≡ Some other → u ≡ []
     no_longer b s x r d h n [] w other e k = refl
     no_longer b s x r d h n (y ∷ u) w other e k =
         let m = suffix_longer b s x y u d h n in
@@ -161,7 +161,7 @@ decimal_longest b v s r h q d p hex no_h no_x = record {
   longest = no_longer b v s r h q d p hex no_h no_x;
 }
   where
-    no_longer : (b : ℕ) (v s r h q : List ℕ) → is_digit b ≡ true → Spanned is_digit v s r → Spanned is_hexadecimal v h q → begins_with 72 q ≡ false → begins_with 88 q ≡ false → (u w : List ℕ) (other : Form) → r ≡ u ++ w → form_of (b ∷ (s ++ u)) ≡ Some other → u ≡ []
+    no_longer : (b : ℕ) (v s r h q : List ℕ) → is_digit b ≡ true → Spanned is_digit v s r → Spanned is_hexadecimal v h q → begins_with 72 q ≡ false → begins_with 88 q ≡ false → (u w : List ℕ) (other : WordForm) → r ≡ u ++ w → form_of (b ∷ (s ++ u)) ≡ Some other → u ≡ []
     no_longer b v s r h q d p hex no_h no_x [] w other e k = refl
     no_longer b v s r h q d p hex no_h no_x (x ∷ u) w other e k =
         let all = all_more is_hexadecimal b h (digit_is_hexadecimal b d) hex.all in
@@ -180,7 +180,7 @@ text_longest s r h = record {
   longest = no_longer s r h;
 }
   where
-    no_longer : (s r : List ℕ) → is_all is_quotable s ≡ true → (u w : List ℕ) (other : Form) → r ≡ u ++ w → form_of ((34 ∷ (s ++ (34 ∷ []))) ++ u) ≡ Some other → u ≡ []
+    no_longer : (s r : List ℕ) → is_all is_quotable s ≡ true → (u w : List ℕ) (other : WordForm) → r ≡ u ++ w → form_of ((34 ∷ (s ++ (34 ∷ []))) ++ u) ≡ Some other → u ≡ []
     no_longer s r h [] w other e k = refl
     no_longer s r h (y ∷ u) w other e k =
         let n = cond_false (is_all_then is_quotable 34 (s ++ (34 ∷ y ∷ u))) (Some Quoted) None (then_longer is_quotable 34 s 34 y u refl h) in
@@ -200,7 +200,7 @@ line_over (x ∷ r) stop n = line_ends x (stop x r refl) n
 pub one_longest : (b : ℕ) (r : List ℕ) (d : Delimiter) → is_letter b ≡ false → is_digit b ≡ false → nat_eq b 34 ≡ false → one_mark b ≡ Some d → ((x : ℕ) (y : List ℕ) → r ≡ x ∷ y → two_mark b x ≡ None) → Longest (b ∷ []) r (Operator d)
 one_longest b r d l g q h p = record { is = form_of_mark b [] l g q ∙ ap operator h; longest = no_longer b r d l g q p }
   where
-    no_longer : (b : ℕ) (r : List ℕ) (d : Delimiter) → is_letter b ≡ false → is_digit b ≡ false → nat_eq b 34 ≡ false → ((x : ℕ) (y : List ℕ) → r ≡ x ∷ y → two_mark b x ≡ None) → (u w : List ℕ) (other : Form) → r ≡ u ++ w → form_of (b ∷ u) ≡ Some other → u ≡ []
+    no_longer : (b : ℕ) (r : List ℕ) (d : Delimiter) → is_letter b ≡ false → is_digit b ≡ false → nat_eq b 34 ≡ false → ((x : ℕ) (y : List ℕ) → r ≡ x ∷ y → two_mark b x ≡ None) → (u w : List ℕ) (other : WordForm) → r ≡ u ++ w → form_of (b ∷ u) ≡ Some other → u ≡ []
     no_longer b r d l g q p [] w other e k = refl
     no_longer b r d l g q p (x ∷ []) w other e k =
         let n = form_of_mark b (x ∷ []) l g q ∙ ap operator (p x w e) in
@@ -212,7 +212,7 @@ one_longest b r d l g q h p = record { is = form_of_mark b [] l g q ∙ ap opera
 pub two_longest : (a b : ℕ) (r : List ℕ) (d : Delimiter) → is_letter a ≡ false → is_digit a ≡ false → nat_eq a 34 ≡ false → two_mark a b ≡ Some d → Longest (a ∷ b ∷ []) r (Operator d)
 two_longest a b r d l g q h = record { is = form_of_mark a (b ∷ []) l g q ∙ ap operator h; longest = no_longer a b r l g q }
   where
-    no_longer : (a b : ℕ) (r : List ℕ) → is_letter a ≡ false → is_digit a ≡ false → nat_eq a 34 ≡ false → (u w : List ℕ) (other : Form) → r ≡ u ++ w → form_of (a ∷ b ∷ u) ≡ Some other → u ≡ []
+    no_longer : (a b : ℕ) (r : List ℕ) → is_letter a ≡ false → is_digit a ≡ false → nat_eq a 34 ≡ false → (u w : List ℕ) (other : WordForm) → r ≡ u ++ w → form_of (a ∷ b ∷ u) ≡ Some other → u ≡ []
     no_longer a b r l g q [] w other e k = refl
     no_longer a b r l g q (x ∷ u) w other e k =
         let n = form_of_mark a (b ∷ x ∷ u) l g q in

@@ -2,7 +2,7 @@
 use Rattle.std.proofs.Common.{◌≡◌, ℕ, zero, ◌+◌, List, [], ◌∷◌, ◌++◌, true, false, nat_eq, None, ◌⊎◌, inl, inr, length, refl, sym, ap, ap₂, ◌∙◌, subst, arith}
 use Rattle.std.proofs.lemmas.List.{append-nil}
 use Rattle.ob_symbol.specs.declared.symbol.Symbol.{Symbol}
-use Rattle.ob_scan.specs.Words.{Form, Name, Keyword, Decimal, Hexadecimal, Character, Quoted, Operator, form_of, kind_of, is_line_end, is_quotable, is_all_then, begins_with, is_gap, begins_comment, IsTooLarge, IsTooLong, IsWithin}
+use Rattle.ob_scan.specs.Words.{WordForm, Name, Keyword, Decimal, Hexadecimal, Character, Quoted, Operator, form_of, kind_of, is_line_end, is_quotable, is_all_then, begins_with, is_gap, begins_comment, IsTooLarge, IsTooLong, IsWithin}
 use Rattle.ob_scan.specs.Scans.{Gap, Longest, Unclosed, is_line_over, Scans, End, Broken, ends, reads, bad_byte, open_comment, open_string, too_large, too_long}
 use Rattle.ob_scan.proofs.Gaps.{cond_false}
 use Rattle.ob_scan.proofs.Longest.{then_never}
@@ -35,18 +35,18 @@ one_gap a x b y g h e = elim (one_way a x b y e) [
   | inr k ↦ swap a x b y (same_parts b y a x k.0 k.1 k.2 (h.longest k.0 x k.2 (ap (is_gap zero) (sym k.1) ∙ g.is)))
 ]
 
-one_word : (a x b y : List ℕ) (k l : Form) → Longest a x k → Longest b y l → a ++ x ≡ b ++ y → (a ≡ b) × (x ≡ y)
+one_word : (a x b y : List ℕ) (k l : WordForm) → Longest a x k → Longest b y l → a ++ x ≡ b ++ y → (a ≡ b) × (x ≡ y)
 one_word a x b y k l g h e = elim (one_way a x b y e) [
   | inl m ↦ same_parts a x b y m.0 m.1 m.2 (g.longest m.0 y l m.2 (ap form_of (sym m.1) ∙ h.is))
   | inr m ↦ swap a x b y (same_parts b y a x m.0 m.1 m.2 (h.longest m.0 x k m.2 (ap form_of (sym m.1) ∙ g.is)))
 ]
 
-one_form : (a b x y : List ℕ) (k l : Form) → Longest a x k → Longest b y l → a ≡ b → k ≡ l
+one_form : (a b x y : List ℕ) (k l : WordForm) → Longest a x k → Longest b y l → a ≡ b → k ≡ l
 one_form a b x y k l g h e = let p = g.is in let q = h.is in let r = ap form_of e in cc
 
 -- what two scans can't both find where the gap ends
 
-end_no_word : (u r : List ℕ) (k : Form) → Longest u r k → [] ≡ u ++ r → ⊥
+end_no_word : (u r : List ℕ) (k : WordForm) → Longest u r k → [] ≡ u ++ r → ⊥
 end_no_word [] r k w e = let p = w.is in cc
 end_no_word (c ∷ u) r k w e = cc
 
@@ -59,7 +59,7 @@ no_comment b c e h k = let q = ap begins_comment e in cc
 end_no_string : (r : List ℕ) → Unclosed r → [] ≡ r → ⊥
 end_no_string r s e = let q = e ∙ s.split in cc
 
-word_begins : (u r t : List ℕ) (d : ℕ) (k : Form) → Longest u r k → ((w : List ℕ) → form_of (d ∷ w) ≡ None) → u ++ r ≡ d ∷ t → ⊥
+word_begins : (u r t : List ℕ) (d : ℕ) (k : WordForm) → Longest u r k → ((w : List ℕ) → form_of (d ∷ w) ≡ None) → u ++ r ≡ d ∷ t → ⊥
 word_begins [] r t d k w n e = let p = w.is in cc
 word_begins (c ∷ u) r t d k w n e =
     let same : d ≡ c = cc in
@@ -91,7 +91,7 @@ over_no_quote (b ∷ r) h = line_end_no_quote b h
 quoted_none : (u : List ℕ) → is_all_then is_quotable 34 u ≡ false → form_of (34 ∷ u) ≡ None
 quoted_none u h = cond_false (is_all_then is_quotable 34 u) _ _ h
 
-word_no_string : (u r s : List ℕ) (k : Form) → Longest u r k → Unclosed s → u ++ r ≡ s → ⊥
+word_no_string : (u r s : List ℕ) (k : WordForm) → Longest u r k → Unclosed s → u ++ r ≡ s → ⊥
 word_no_string [] r s k w o e = let p = w.is in cc
 word_no_string (c ∷ u) r s k w o e =
     let q = e ∙ o.split in
@@ -109,10 +109,10 @@ byte_no_string d t s n o e =
     let m : form_of (34 ∷ 34 ∷ []) ≡ None = subst (λ z. form_of (z ∷ 34 ∷ []) ≡ None) same (n (34 ∷ [])) in
     cc
 
-within_not_large : (k l : Form) (u : List ℕ) → k ≡ l → IsWithin k u → IsTooLarge l → ⊥
+within_not_large : (k l : WordForm) (u : List ℕ) → k ≡ l → IsWithin k u → IsTooLarge l → ⊥
 within_not_large k l u e h g = not k u h (subst IsTooLarge (sym e) g)
   where
-    not : (k : Form) (u : List ℕ) → IsWithin k u → IsTooLarge k → ⊥
+    not : (k : WordForm) (u : List ℕ) → IsWithin k u → IsTooLarge k → ⊥
     not Name u h g = omega arith
     not (Keyword r) u h g = omega arith
     not (Decimal n) u h g = omega arith
@@ -121,10 +121,10 @@ within_not_large k l u e h g = not k u h (subst IsTooLarge (sym e) g)
     not Quoted u h g = omega arith
     not (Operator d) u h g = omega arith
 
-within_not_long : (k l : Form) (u v : List ℕ) → k ≡ l → u ≡ v → IsWithin k u → IsTooLong l v → ⊥
+within_not_long : (k l : WordForm) (u v : List ℕ) → k ≡ l → u ≡ v → IsWithin k u → IsTooLong l v → ⊥
 within_not_long k l u v e f h g = not k u h (subst (λ z. IsTooLong z u) (sym e) (subst (IsTooLong l) (sym f) g))
   where
-    not : (k : Form) (u : List ℕ) → IsWithin k u → IsTooLong k u → ⊥
+    not : (k : WordForm) (u : List ℕ) → IsWithin k u → IsTooLong k u → ⊥
     not Name u h g = omega arith
     not (Keyword r) u h g = g
     not (Decimal n) u h g = g
@@ -133,10 +133,10 @@ within_not_long k l u v e f h g = not k u h (subst (λ z. IsTooLong z u) (sym e)
     not Quoted u h g = g
     not (Operator d) u h g = g
 
-large_not_long : (k l : Form) (v : List ℕ) → k ≡ l → IsTooLarge k → IsTooLong l v → ⊥
+large_not_long : (k l : WordForm) (v : List ℕ) → k ≡ l → IsTooLarge k → IsTooLong l v → ⊥
 large_not_long k l v e h g = not k v h (subst (λ z. IsTooLong z v) (sym e) g)
   where
-    not : (k : Form) (u : List ℕ) → IsTooLarge k → IsTooLong k u → ⊥
+    not : (k : WordForm) (u : List ℕ) → IsTooLarge k → IsTooLong k u → ⊥
     not Name u h g = omega arith
     not (Keyword r) u h g = g
     not (Decimal n) u h g = g

@@ -1,10 +1,10 @@
 -- The symbols of a text lie in order, and each spells its kind.
 use Rattle.std.proofs.Common.{◌≡◌, ℕ, ◌+◌, ◌-◌, ◌<◌, ◌≤◌, List, [], ◌∷◌, ◌++◌, length, take, drop, slice_range, refl, sym, ap, ◌∙◌, subst, arith, append_assoc, length-append}
 use Rattle.ob_symbol.specs.declared.symbol.Symbol.{Symbol}
-use Rattle.ob_scan.specs.Words.{Form, form_of, IsWithin}
+use Rattle.ob_scan.specs.Words.{WordForm, form_of, IsWithin}
 use Rattle.ob_scan.specs.Scans.{Longest, Scans, End, ends, reads, bad_byte, open_comment, open_string, too_large, too_long, InOrder, none, next, AllSpell, none_spelled, spelled}
 
-not_empty : (u r : List ℕ) (k : Form) → Longest u r k → 0 < length u
+not_empty : (u r : List ℕ) (k : WordForm) → Longest u r k → 0 < length u
 not_empty [] r k w = absurd (let p = w.is in cc)
 not_empty (c ∷ u) r k w = omega arith
 

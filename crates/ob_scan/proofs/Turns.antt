@@ -8,9 +8,9 @@ use Rattle.ob_symbol.specs.declared.symbol.Reserved.{Reserved}
 use Rattle.ob_symbol.specs.declared.symbol.Delimiter.{Delimiter}
 use Rattle.ob_symbol.specs.declared.symbol.Symbol.{Symbol}
 use Rattle.ob_scan.specs.declared.fault.NoSymbol.{NoSymbol}
-use Rattle.ob_scan.specs.declared.fault.NoSymbol.TheVariants.{BadByte, OpenString, NumberTooLarge, NameTooLong}
+use Rattle.ob_scan.specs.declared.fault.NoSymbol.TheVariants.{BadByte, OpenComment, OpenString, NumberTooLarge, NameTooLong}
 use Rattle.ob_scan.specs.Tables.{reserved_of, one_mark, two_mark}
-use Rattle.ob_scan.specs.Words.{is_letter, is_letter_or_digit, is_digit, is_hexadecimal, is_quotable, is_all, begins_with, begins_comment, digit, value_from, signed, Form, Name, Keyword, Decimal, Hexadecimal, Character, Quoted, Operator, name_or_keyword, kind_of, IsTooLarge, IsTooLong}
+use Rattle.ob_scan.specs.Words.{is_letter, is_letter_or_digit, is_digit, is_hexadecimal, is_quotable, is_all, begins_with, begins_comment, digit, value_from, signed, WordForm, Name, Keyword, Decimal, Hexadecimal, Character, Quoted, Operator, name_or_keyword, kind_of, IsTooLarge, IsTooLong}
 use Rattle.ob_scan.specs.Scans.{Gap, Longest, Unclosed, symbol, Scans, End, Done, Broken, ends, reads, bad_byte, open_comment, open_string, too_large, too_long}
 use Rattle.ob_scan.specs.Steps.{Spanned, Passing, Past, Found, Broke, NoBeginning, Refused, IsNext, rule, two_at}
 use Rattle.ob_scan.proofs.Places.{here, after_one, after_two, byte_there}
@@ -52,7 +52,7 @@ run_at p w i to lt le s stop =
 
 -- names and reserved words
 
-name_at : (w : List ℕ) (i to : ℕ) (k : Run is_letter_or_digit w i to) → is_letter (get_or w i 0) ≡ true → (form : Form) → name_or_keyword (reserved_of (take (to - i) (drop i w))) ≡ form → Longest (get_or w i 0 ∷ k.front) (drop to w) form
+name_at : (w : List ℕ) (i to : ℕ) (k : Run is_letter_or_digit w i to) → is_letter (get_or w i 0) ≡ true → (form : WordForm) → name_or_keyword (reserved_of (take (to - i) (drop i w))) ≡ form → Longest (get_or w i 0 ∷ k.front) (drop to w) form
 name_at w i to k h form e = subst (Longest (get_or w i 0 ∷ k.front) (drop to w)) (ap (λ z. name_or_keyword (reserved_of z)) (sym k.taken) ∙ e) (name_longest (get_or w i 0) (drop (i + 1) w) k.front (drop to w) h k.is)
 
 pub keyword_found : (w : List ℕ) (i to : ℕ) (r : Reserved) → Run is_letter_or_digit w i to → is_letter (get_or w i 0) ≡ true → Some r ≡ reserved_of (take (to - i) (drop i w)) → Found (drop i w) (drop to w) (Word r)
@@ -261,8 +261,13 @@ open_at w i from h g p c =
     let a = place_of w i from p.gap h g p.split in
     subst (λ u. Scans i u [] (Broken 11 from)) (sym p.split) (subst (λ n. Scans i (p.gap ++ drop from w) [] (Broken 11 n)) a (open_comment p.is c))
 
+-- the same, by the rule's number
+pub open_by : (w : List ℕ) (i from number : ℕ) → number ≡ rule OpenComment → i ≤ length w → from ≤ length w → Past (drop i w) (drop from w) → begins_comment (drop from w) ≡ true → Scans i (drop i w) [] (Broken number from)
+open_by w i from number e h g p c = subst (λ n. Scans i (drop i w) [] (Broken n from)) (sym e) (open_at w i from h g p c)
+
 -- the rule that is broken where no symbol stands
 pub refused_at : (w : List ℕ) (i from : ℕ) (none : NoSymbol) → i ≤ length w → from < length w → Past (drop i w) (drop from w) → begins_comment (drop from w) ≡ false → Refused (drop from w) none → Scans i (drop i w) [] (Broken (rule none) from)
+refused_at w i from OpenComment h g p c r = elim r [ ]
 refused_at w i from BadByte h g p c r =
     let a = place_of w i from p.gap h (omega arith) p.split in
     let y = bad_byte {i = i} (subst (Gap p.gap) r.split p.is) (ap begins_comment (sym r.split) ∙ c) r.is in

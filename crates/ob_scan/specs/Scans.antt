@@ -4,7 +4,7 @@ use Rattle.ob_symbol.specs.declared.symbol.Kind.{Kind}
 use Rattle.ob_symbol.specs.declared.symbol.Symbol.{Symbol}
 use Rattle.ob_scan.specs.declared.fault.ScanFault.{ScanFault}
 use Rattle.ob_scan.specs.declared.fault.ScanFault.TheVariants.{Fault, Memory}
-use Rattle.ob_scan.specs.Words.{Form, form_of, kind_of, IsTooLarge, IsTooLong, IsWithin, is_gap, is_all, is_quotable, is_line_end, begins_comment}
+use Rattle.ob_scan.specs.Words.{WordForm, form_of, kind_of, IsTooLarge, IsTooLong, IsWithin, is_gap, is_all, is_quotable, is_line_end, begins_comment}
 
 -- the longest beginning of a text that is blanks and comments; rest is what follows
 pub record Gap (gap rest : List ℕ) : Type 0 where
@@ -12,9 +12,9 @@ pub record Gap (gap rest : List ℕ) : Type 0 where
   pub longest : (u v : List ℕ) → rest ≡ u ++ v → is_gap zero (gap ++ u) ≡ true → u ≡ []
 
 -- the longest beginning of a text that is a symbol; rest is what follows
-pub record Longest (word rest : List ℕ) (form : Form) : Type 0 where
+pub record Longest (word rest : List ℕ) (form : WordForm) : Type 0 where
   pub is : form_of word ≡ Some form
-  pub longest : (u v : List ℕ) (other : Form) → rest ≡ u ++ v → form_of (word ++ u) ≡ Some other → u ≡ []
+  pub longest : (u v : List ℕ) (other : WordForm) → rest ≡ u ++ v → form_of (word ++ u) ≡ Some other → u ≡ []
 
 -- a text ends or begins with the end of a line
 abbrev pub is_line_over : List ℕ → Bool
@@ -41,7 +41,7 @@ pub data End : Type 0 where
 -- the text that begins at place i has these symbols, and then its end or its first fault
 pub data Scans : ℕ → List ℕ → List Symbol → End → Type 0 where
   ends : {i : ℕ} {gap : List ℕ} → Gap gap [] → Scans i gap [] Done
-  reads : {i : ℕ} {gap word rest : List ℕ} {form : Form} {more : List Symbol} {e : End} →
+  reads : {i : ℕ} {gap word rest : List ℕ} {form : WordForm} {more : List Symbol} {e : End} →
       Gap gap (word ++ rest) → begins_comment (word ++ rest) ≡ false → Longest word rest form → IsWithin form word →
       Scans (i + length gap + length word) rest more e →
       Scans i (gap ++ (word ++ rest)) (symbol (kind_of form) (i + length gap) (i + length gap + length word) ∷ more) e
@@ -54,11 +54,11 @@ pub data Scans : ℕ → List ℕ → List Symbol → End → Type 0 where
   -- 12: the line or the text ends before the closing quote
   open_string : {i : ℕ} {gap rest : List ℕ} → Gap gap rest → Unclosed rest → Scans i (gap ++ rest) [] (Broken 12 (i + length gap))
   -- 13: a literal is past its range
-  too_large : {i : ℕ} {gap word rest : List ℕ} {form : Form} →
+  too_large : {i : ℕ} {gap word rest : List ℕ} {form : WordForm} →
       Gap gap (word ++ rest) → begins_comment (word ++ rest) ≡ false → Longest word rest form → IsTooLarge form →
       Scans i (gap ++ (word ++ rest)) [] (Broken 13 (i + length gap))
   -- 14: an identifier is too long
-  too_long : {i : ℕ} {gap word rest : List ℕ} {form : Form} →
+  too_long : {i : ℕ} {gap word rest : List ℕ} {form : WordForm} →
       Gap gap (word ++ rest) → begins_comment (word ++ rest) ≡ false → Longest word rest form → IsTooLong form word →
       Scans i (gap ++ (word ++ rest)) [] (Broken 14 (i + length gap))
 
@@ -69,7 +69,7 @@ IsFirst w Memory = Unit {0}
 
 -- what stands in the text at a symbol: a word of a form that has the symbol's kind
 pub record Spells (w : List ℕ) (s : Symbol) : Type 0 where
-  pub form : Form
+  pub form : WordForm
   pub is : form_of (slice_range w s.from s.to) ≡ Some form
   pub kind : s.kind ≡ kind_of form
   pub within : IsWithin form (slice_range w s.from s.to)

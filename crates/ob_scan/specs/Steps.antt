@@ -3,13 +3,22 @@ use Rattle.std.specs.Prelude.{◌≡◌, ℕ, zero, suc, ◌≤◌, ◌<◌, Lis
 use Rattle.ob_symbol.specs.declared.symbol.Kind.{Kind}
 use Rattle.ob_symbol.specs.declared.symbol.Delimiter.{Delimiter}
 use Rattle.ob_symbol.specs.declared.symbol.Symbol.{Symbol}
+use Rattle.ob_scan.specs.declared.classes.Class.{Class}
+use Rattle.ob_scan.specs.declared.classes.Class.TheVariants as TheClass
 use Rattle.ob_scan.specs.declared.fault.ScanFault.{ScanFault}
 use Rattle.ob_scan.specs.declared.fault.ScanFault.TheVariants.{Fault, Memory}
 use Rattle.ob_scan.specs.declared.fault.NoSymbol.{NoSymbol}
-use Rattle.ob_scan.specs.declared.fault.NoSymbol.TheVariants.{BadByte, OpenString, NumberTooLarge, NameTooLong}
+use Rattle.ob_scan.specs.declared.fault.NoSymbol.TheVariants.{BadByte, OpenComment, OpenString, NumberTooLarge, NameTooLong}
 use Rattle.ob_scan.specs.Tables.{two_mark}
-use Rattle.ob_scan.specs.Words.{Form, form_of, kind_of, IsTooLarge, IsTooLong, IsWithin, is_gap, is_all, opens, closes}
+use Rattle.ob_scan.specs.Words.{WordForm, form_of, kind_of, IsTooLarge, IsTooLong, IsWithin, is_gap, is_all, is_letter_or_digit, is_digit, is_hexadecimal, is_quotable, opens, closes}
 use Rattle.ob_scan.specs.Scans.{Gap, Longest, Unclosed, Scans, End, Done, Broken}
+
+-- the bytes of a class
+abbrev pub in_class : Class → ℕ → Bool
+in_class TheClass.Name = is_letter_or_digit
+in_class TheClass.Decimal = is_digit
+in_class TheClass.Hexadecimal = is_hexadecimal
+in_class TheClass.Quotable = is_quotable
 
 -- s is the front of v that passes, r the rest
 pub record Spanned (p : ℕ → Bool) (v s r : List ℕ) : Type 0 where
@@ -38,17 +47,17 @@ pub record Past (w r : List ℕ) : Type 0 where
 -- the front of w up to r is the longest symbol, within its limits
 pub record Found (w r : List ℕ) (kind : Kind) : Type 0 where
   pub word : List ℕ
-  pub form : Form
+  pub form : WordForm
   pub split : w ≡ word ++ r
   pub is : Longest word r form
   pub kind_is : kind ≡ kind_of form
   pub within : IsWithin form word
 
 -- the longest symbol at the front of w, which breaks a limit
-pub record Broke (breaks : Form → List ℕ → Type 0) (w : List ℕ) : Type 0 where
+pub record Broke (breaks : WordForm → List ℕ → Type 0) (w : List ℕ) : Type 0 where
   pub word : List ℕ
   pub rest : List ℕ
-  pub form : Form
+  pub form : WordForm
   pub split : w ≡ word ++ rest
   pub is : Longest word rest form
   pub past : breaks form word
@@ -63,6 +72,7 @@ pub record NoBeginning (w : List ℕ) : Type 0 where
 -- why no symbol stands at the front of w
 abbrev pub Refused : List ℕ → NoSymbol → Type 0
 Refused w BadByte = NoBeginning w
+Refused w OpenComment = ⊥
 Refused w OpenString = Unclosed w
 Refused w NumberTooLarge = Broke (λ form word. IsTooLarge form) w
 Refused w NameTooLong = Broke IsTooLong w
@@ -96,9 +106,10 @@ close n (a ∷ []) = None
 close zero (a ∷ b ∷ w) = if opens a b then close (suc zero) w else if closes a b then Some w else close zero (b ∷ w)
 close (suc n) (a ∷ b ∷ w) = if opens a b then close (suc (suc n)) w else if closes a b then close n w else close (suc n) (b ∷ w)
 
--- the number of the rule that is broken where no symbol stands
+-- the numbers of the rules that a text may break
 abbrev pub rule : NoSymbol → ℕ
 rule BadByte = 10
+rule OpenComment = 11
 rule OpenString = 12
 rule NumberTooLarge = 13
 rule NameTooLong = 14

@@ -62,25 +62,25 @@ abbrev pub signed : ℕ → ℤ
 signed n = if nat_lt n (2 ^ 63) then pos n else negsuc (2 ^ 64 - suc n)
 
 -- what a word is, whatever its length and its number; a number is as written
-pub data Form : Type 0 where
-  Name : Form
-  Keyword : Reserved → Form
-  Decimal : ℕ → Form
-  Hexadecimal : ℕ → Form
-  Character : ℕ → Form
-  Quoted : Form
-  Operator : Delimiter → Form
+pub data WordForm : Type 0 where
+  Name : WordForm
+  Keyword : Reserved → WordForm
+  Decimal : ℕ → WordForm
+  Hexadecimal : ℕ → WordForm
+  Character : ℕ → WordForm
+  Quoted : WordForm
+  Operator : Delimiter → WordForm
 
 -- a word of letters and digits is a reserved word or a name
-abbrev pub name_or_keyword : Option Reserved → Form
+abbrev pub name_or_keyword : Option Reserved → WordForm
 name_or_keyword (Some r) = Keyword r
 name_or_keyword None = Name
 
-abbrev pub name_form : List ℕ → Option Form
+abbrev pub name_form : List ℕ → Option WordForm
 name_form w = if is_all is_letter_or_digit w then Some (name_or_keyword (reserved_of w)) else None
 
 -- decimal digits; digits and an H (72); digits and an X (88)
-abbrev pub number_form : List ℕ → Option Form
+abbrev pub number_form : List ℕ → Option WordForm
 number_form w =
     if is_all is_digit w then Some (Decimal (value_from 10 0 w)) else
     if is_all_then is_hexadecimal 72 w then Some (Hexadecimal (value_from 16 0 w)) else
@@ -88,15 +88,15 @@ number_form w =
     None
 
 -- what follows the opening quote
-abbrev pub text_form : List ℕ → Option Form
+abbrev pub text_form : List ℕ → Option WordForm
 text_form w = if is_all_then is_quotable 34 w then Some Quoted else None
 
-abbrev pub operator : Option Delimiter → Option Form
+abbrev pub operator : Option Delimiter → Option WordForm
 operator (Some d) = Some (Operator d)
 operator None = None
 
 -- the form that a word has, whole, if it is a symbol; its first byte says which forms it can have
-abbrev pub form_of : List ℕ → Option Form
+abbrev pub form_of : List ℕ → Option WordForm
 form_of [] = None
 form_of (b ∷ w) =
     if is_letter b then name_form (b ∷ w) else
@@ -105,7 +105,7 @@ form_of (b ∷ w) =
     operator (mark_of (b ∷ w))
 
 -- the kind of a symbol of this form
-abbrev pub kind_of : Form → Kind
+abbrev pub kind_of : WordForm → Kind
 kind_of Name = Ident
 kind_of (Keyword r) = Word r
 kind_of (Decimal n) = Int (pos n)
@@ -115,30 +115,30 @@ kind_of Quoted = Text
 kind_of (Operator d) = Mark d
 
 -- the first number that a form can't have
-abbrev pub limit : Form → ℕ
+abbrev pub limit : WordForm → ℕ
 limit (Decimal n) = 2 ^ 63
 limit (Hexadecimal n) = 2 ^ 64
 limit (Character n) = 2 ^ 8
 limit _ = 1
 
 -- the number of a literal, 0 where there is none
-abbrev pub number : Form → ℕ
+abbrev pub number : WordForm → ℕ
 number (Decimal n) = n
 number (Hexadecimal n) = n
 number (Character n) = n
 number _ = 0
 
 -- a literal's number is past its range
-abbrev pub IsTooLarge : Form → Type 0
+abbrev pub IsTooLarge : WordForm → Type 0
 IsTooLarge form = limit form ≤ number form
 
 -- an identifier has over 255 bytes
-abbrev pub IsTooLong : Form → List ℕ → Type 0
+abbrev pub IsTooLong : WordForm → List ℕ → Type 0
 IsTooLong Name w = 255 < length w
 IsTooLong _ w = ⊥
 
 -- a symbol of this form is within its limit
-abbrev pub IsWithin : Form → List ℕ → Type 0
+abbrev pub IsWithin : WordForm → List ℕ → Type 0
 IsWithin Name w = length w ≤ 255
 IsWithin form w = number form < limit form
 

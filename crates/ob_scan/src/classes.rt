@@ -2,7 +2,7 @@
 
 ghost use Rattle.std.specs.Prelude.{◌≡◌, ℕ, ◌≤◌, List, ◌∷◌, length, drop, true, false};
 ghost use Rattle.ob_scan.specs.Words.{is_letter, is_letter_or_digit, is_digit, is_hexadecimal, is_quotable, is_two, begins_with};
-ghost use Rattle.ob_scan.specs.Steps.{Passing};
+ghost use Rattle.ob_scan.specs.Steps.{Passing, in_class};
 
 /// Whether these two bytes stand here.
 pub fn has_two(bytes: &[u8], at: usize, first: u8, second: u8) -> bool
@@ -39,7 +39,7 @@ pub fn is_digit_byte(b: u8) -> bool
 }
 
 /// Whether a byte is a letter or a digit.
-pub fn is_name_byte(b: u8) -> bool
+fn is_name_byte(b: u8) -> bool
     ensures { result ≡ is_letter_or_digit b }
 {
     if is_letter_byte(b) {
@@ -50,7 +50,7 @@ pub fn is_name_byte(b: u8) -> bool
 }
 
 /// Whether a byte is a digit or a letter A to F.
-pub fn is_hexadecimal_byte(b: u8) -> bool
+fn is_hexadecimal_byte(b: u8) -> bool
     ensures { result ≡ is_hexadecimal b }
 {
     if is_digit_byte(b) {
@@ -61,76 +61,49 @@ pub fn is_hexadecimal_byte(b: u8) -> bool
 }
 
 /// Whether a byte may stand between quotes.
-pub fn is_quotable_byte(b: u8) -> bool
+fn is_quotable_byte(b: u8) -> bool
     ensures { result ≡ is_quotable b }
 {
     b != b'"' && b != b'\n' && b != b'\r'
 }
 
-/// The place after letters and digits.
-pub fn name_end(bytes: &[u8], from: usize) -> usize
-    requires { from ≤ length bytes.now }
-    ensures passing { Passing is_letter_or_digit (drop from bytes.now) (drop result bytes.now) }
-    ensures range { (from ≤ result) × (result ≤ length bytes.now) }
-    ensures stop { (x : ℕ) (y : List ℕ) → drop result bytes.now ≡ x ∷ y → is_letter_or_digit x ≡ false }
-{
-    let mut i = from;
-    'bytes: while i < bytes.len() {
-        if is_name_byte(bytes[i]) {
-            i += 1;
-        } else {
-            return i;
-        }
-    }
-    i
+/// A class of bytes of which words are made.
+#[derive(Clone, Copy)]
+pub enum Class {
+    /// Letters and digits.
+    Name,
+    /// Decimal digits.
+    Decimal,
+    /// Digits and the letters A to F.
+    Hexadecimal,
+    /// What may stand between quotes.
+    Quotable,
 }
 
-/// The place after decimal digits.
-pub fn digits_end(bytes: &[u8], from: usize) -> usize
-    requires { from ≤ length bytes.now }
-    ensures passing { Passing is_digit (drop from bytes.now) (drop result bytes.now) }
-    ensures range { (from ≤ result) × (result ≤ length bytes.now) }
-    ensures stop { (x : ℕ) (y : List ℕ) → drop result bytes.now ≡ x ∷ y → is_digit x ≡ false }
-{
-    let mut i = from;
-    'bytes: while i < bytes.len() {
-        if is_digit_byte(bytes[i]) {
-            i += 1;
-        } else {
-            return i;
+impl Class {
+    /// Whether a byte is in this class.
+    fn has(self, b: u8) -> bool
+        ensures { result ≡ in_class self b }
+    {
+        match self {
+            Class::Name => is_name_byte(b),
+            Class::Decimal => is_digit_byte(b),
+            Class::Hexadecimal => is_hexadecimal_byte(b),
+            Class::Quotable => is_quotable_byte(b),
         }
     }
-    i
 }
 
-/// The place after digits and letters A to F.
-pub fn hexadecimal_end(bytes: &[u8], from: usize) -> usize
+/// The place after the bytes of a class.
+pub fn class_end(bytes: &[u8], from: usize, class: Class) -> usize
     requires { from ≤ length bytes.now }
-    ensures passing { Passing is_hexadecimal (drop from bytes.now) (drop result bytes.now) }
+    ensures passing { Passing (in_class class) (drop from bytes.now) (drop result bytes.now) }
     ensures range { (from ≤ result) × (result ≤ length bytes.now) }
-    ensures stop { (x : ℕ) (y : List ℕ) → drop result bytes.now ≡ x ∷ y → is_hexadecimal x ≡ false }
+    ensures stop { (x : ℕ) (y : List ℕ) → drop result bytes.now ≡ x ∷ y → in_class class x ≡ false }
 {
     let mut i = from;
     'bytes: while i < bytes.len() {
-        if is_hexadecimal_byte(bytes[i]) {
-            i += 1;
-        } else {
-            return i;
-        }
-    }
-    i
-}
-
-/// The place after what may stand between quotes.
-pub fn quotable_end(bytes: &[u8], from: usize) -> usize
-    requires { from ≤ length bytes.now }
-    ensures passing { Passing is_quotable (drop from bytes.now) (drop result bytes.now) }
-    ensures range { (from ≤ result) × (result ≤ length bytes.now) }
-    ensures stop { (x : ℕ) (y : List ℕ) → drop result bytes.now ≡ x ∷ y → is_quotable x ≡ false }
-{
-    let mut i = from;
-    'bytes: while i < bytes.len() {
-        if is_quotable_byte(bytes[i]) {
+        if class.has(bytes[i]) {
             i += 1;
         } else {
             return i;

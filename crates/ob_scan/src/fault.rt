@@ -7,10 +7,12 @@ use std::alloc::AllocFailed;
 use thiserror::Error;
 
 /// Why no symbol stands at a place.
-#[derive(Clone, Copy, PartialEq, Eq, Debug)]
+#[derive(Clone, Copy)]
 pub enum NoSymbol {
     /// No symbol begins with this byte.
     BadByte,
+    /// A comment isn't closed.
+    OpenComment,
     /// The line or the text ends before the closing quote.
     OpenString,
     /// A literal is past its range.
@@ -20,7 +22,7 @@ pub enum NoSymbol {
 }
 
 /// Why there are no symbols: a rule that is broken at a place, or want of memory.
-#[derive(Clone, Copy, PartialEq, Eq, Debug, Error)]
+#[derive(Clone, Copy, Debug, Error)]
 pub enum ScanFault {
     /// The first rule that is broken, and the byte's index at which it is:
     /// 10 a byte that begins no symbol (that byte), 11 a comment that isn't closed (its outermost opening),

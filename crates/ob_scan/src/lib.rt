@@ -15,8 +15,6 @@ mod numbers;
 mod quoted;
 mod reserved;
 mod scanner;
-#[cfg(test)]
-mod tests;
 
 pub use fault::ScanFault;
 pub use laws::{each_text_is_scanned, scans_once, symbols_lie_in_order, symbols_spell_their_kinds};

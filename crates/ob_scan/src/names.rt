@@ -4,7 +4,7 @@ ghost use Rattle.std.specs.Prelude.{◌≡◌, ◌<◌, ◌≤◌, length, drop,
 ghost use Rattle.ob_scan.specs.Words.{is_letter};
 ghost use Rattle.ob_scan.specs.Steps.{Found, Refused};
 
-use crate::classes::name_end;
+use crate::classes::{Class, class_end};
 use crate::fault::NoSymbol;
 use crate::reserved::find_reserved;
 use ob_symbol::Kind;
@@ -20,7 +20,7 @@ pub fn name(bytes: &[u8], at: usize) -> Result<(Kind, usize), NoSymbol>
     ensures range { IfOk result (λ x. (at < x.1) × (x.1 ≤ length bytes.now)) }
     ensures refused { IfErr result (λ e. Refused (drop at bytes.now) e) }
 {
-    let to = name_end(bytes, at + 1);
+    let to = class_end(bytes, at + 1, Class::Name);
     match find_reserved(&bytes[at..to]) {
         Some(word) => Ok((Kind::Word(word), to)),
         None => {

@@ -1,12 +1,18 @@
 //! Literals of numbers and characters.
 
-ghost use Rattle.std.specs.Prelude.{◌≡◌, ℕ, ◌+◌, ◌^◌, ◌<◌, ◌≤◌, length, drop, true, get_or, slice_index, MatchOption, IfOk, IfErr, IsTrue};
+ghost use Rattle.std.specs.Prelude.{◌≡◌, ◌+◌, ◌*◌, ◌<◌, ◌≤◌, length, drop, true, slice_index, MatchOption, IfOk, IfErr};
 ghost use Rattle.ob_scan.specs.Words.{is_digit, is_hexadecimal, is_all, digit, value_from, signed};
 ghost use Rattle.ob_scan.specs.Steps.{Found, Refused};
 
-use crate::classes::{digits_end, has_byte, hexadecimal_end, is_digit_byte};
+use crate::classes::{Class, class_end, has_byte, is_digit_byte};
 use crate::fault::NoSymbol;
 use ob_symbol::Kind;
+
+/// The largest decimal integer.
+const LARGEST_INTEGER: u64 = 9223372036854775807;
+
+/// The largest code of a character.
+const LARGEST_CHARACTER: u64 = 255;
 
 /// The value of a digit or of a letter A to F.
 fn digit_of(b: u8) -> u8
@@ -21,35 +27,30 @@ fn digit_of(b: u8) -> u8
     }
 }
 
-/// The value of decimal digits, if it is below 2 ^ 63.
-fn decimal_value(digits: &[u8]) -> Option<u64>
-    requires { is_all is_digit digits.now ≡ true }
-    ensures { MatchOption result (2 ^ 63 ≤ value_from 10 0 digits.now) (λ n. (n ≡ value_from 10 0 digits.now) × (n < 2 ^ 63)) }
+/// A value with one more digit behind it, if it is at most `most`.
+fn value_with(value: u64, base: u64, digit: u64, most: u64) -> Option<u64>
+    ensures { MatchOption result (most < value * base + digit) (λ n. (n ≡ value * base + digit) × (n ≤ most)) }
 {
-    let mut value: u64 = 0;
-    for b in digits {
-        let digit = u64::from(digit_of(*b));
-        if value > (9223372036854775807 - digit) / 10 {
-            return None;
-        }
-        value = value * 10 + digit;
-    }
-    Some(value)
+    let scaled = value.checked_mul(base)?;
+    let sum = scaled.checked_add(digit)?;
+    if sum <= most { Some(sum) } else { None }
 }
 
-/// The value of hexadecimal digits, if it is at most `most`.
-fn hexadecimal_value(digits: &[u8], most: u64) -> Option<u64>
+/// The value of digits to a base, if it is at most `most`.
+fn value_of(digits: &[u8], base: u64, most: u64) -> Option<u64>
     requires digits { is_all is_hexadecimal digits.now ≡ true }
-    requires most { 16 ≤ most }
-    ensures { MatchOption result (most + 1 ≤ value_from 16 0 digits.now) (λ n. (n ≡ value_from 16 0 digits.now) × (n ≤ most)) }
+    requires base { 1 ≤ base }
+    ensures { MatchOption result (most < value_from base 0 digits.now) (λ n. (n ≡ value_from base 0 digits.now) × (n ≤ most)) }
 {
     let mut value: u64 = 0;
     for b in digits {
         let digit = u64::from(digit_of(*b));
-        if value > (most - digit) / 16 {
-            return None;
+        match value_with(value, base, digit, most) {
+            Some(more) => {
+                value = more;
+            }
+            None => return None,
         }
-        value = value * 16 + digit;
     }
     Some(value)
 }
@@ -69,20 +70,20 @@ pub fn number(bytes: &[u8], at: usize) -> Result<(Kind, usize), NoSymbol>
     ensures range { IfOk result (λ x. (at < x.1) × (x.1 ≤ length bytes.now)) }
     ensures refused { IfErr result (λ e. Refused (drop at bytes.now) e) }
 {
-    let suffix = hexadecimal_end(bytes, at + 1);
+    let suffix = class_end(bytes, at + 1, Class::Hexadecimal);
     if has_byte(bytes, suffix, b'H') {
-        match hexadecimal_value(&bytes[at..suffix], u64::MAX) {
+        match value_of(&bytes[at..suffix], 16, u64::MAX) {
             Some(n) => Ok((Kind::Int(signed_of(n)), suffix + 1)),
             None => Err(NoSymbol::NumberTooLarge),
         }
     } else if has_byte(bytes, suffix, b'X') {
-        match hexadecimal_value(&bytes[at..suffix], 255) {
+        match value_of(&bytes[at..suffix], 16, LARGEST_CHARACTER) {
             Some(code) => Ok((Kind::Char(code as u8), suffix + 1)),
             None => Err(NoSymbol::NumberTooLarge),
         }
     } else {
-        let to = digits_end(bytes, at + 1);
-        match decimal_value(&bytes[at..to]) {
+        let to = class_end(bytes, at + 1, Class::Decimal);
+        match value_of(&bytes[at..to], 10, LARGEST_INTEGER) {
             Some(n) => Ok((Kind::Int(signed_of(n)), to)),
             None => Err(NoSymbol::NumberTooLarge),
         }

@@ -3,7 +3,7 @@
 ghost use Rattle.std.specs.Prelude.{◌≡◌, ◌<◌, ◌≤◌, length, drop, slice_index, IfOk, IfErr};
 ghost use Rattle.ob_scan.specs.Steps.{Found, Refused};
 
-use crate::classes::{has_byte, quotable_end};
+use crate::classes::{Class, class_end, has_byte};
 use crate::fault::NoSymbol;
 use ob_symbol::Kind;
 
@@ -15,7 +15,7 @@ pub fn quoted(bytes: &[u8], at: usize) -> Result<(Kind, usize), NoSymbol>
     ensures range { IfOk result (λ x. (at < x.1) × (x.1 ≤ length bytes.now)) }
     ensures refused { IfErr result (λ e. Refused (drop at bytes.now) e) }
 {
-    let end = quotable_end(bytes, at + 1);
+    let end = class_end(bytes, at + 1, Class::Quotable);
     if has_byte(bytes, end, b'"') {
         Ok((Kind::Text, end + 1))
     } else {

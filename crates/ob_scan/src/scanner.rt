@@ -58,6 +58,7 @@ fn rule_of(none: NoSymbol) -> u8
 {
     match none {
         NoSymbol::BadByte => 10,
+        NoSymbol::OpenComment => 11,
         NoSymbol::OpenString => 12,
         NoSymbol::NumberTooLarge => 13,
         NoSymbol::NameTooLong => 14,
@@ -73,7 +74,7 @@ fn symbol_after(bytes: &[u8], at: usize) -> Result<Option<Symbol>, ScanFault>
 {
     match skip(bytes, at) {
         Err(opening) => Err(ScanFault::Fault {
-            number: 11,
+            number: rule_of(NoSymbol::OpenComment),
             at: opening as u32,
         }),
         Ok(from) => {
@@ -97,8 +98,8 @@ fn symbol_after(bytes: &[u8], at: usize) -> Result<Option<Symbol>, ScanFault>
 
 /// The symbols of a text of at most 1 MiB, with their places, or the first rule that it breaks.
 ///
-/// The time is proportional to the number of bytes. `scans_once` says that a text has one scan, so that each
-/// answer but want of memory comes exactly where the text has it.
+/// `scans_once` says that a text has one scan, so that each answer but want of memory comes exactly where the text has
+/// it. Measured, and not proved: the time is proportional to the number of bytes.
 pub fn scan(alloc: Global, bytes: &[u8]) -> Result<Vec<Symbol>, ScanFault>
     requires { length bytes.now ≤ 1048576 }
     ensures symbols { IfOk result (λ v. Scans zero bytes.now v.items Done) }

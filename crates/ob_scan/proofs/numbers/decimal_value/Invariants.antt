@@ -1,9 +1,0 @@
-use Rattle.std.proofs.Common.{◌≡◌, ◌<◌, ◌^◌, drop}
-use Rattle.ob_scan.specs.Words.{value_from}
-use Rattle.ob_scan.proofs.numbers.decimal_value.Given as goal
-
-abbrev pub invariant-loop-b : goal.invariant-loop-b
-invariant-loop-b l = record {
-  same : value_from 10 l.value (drop l.b-index l.digits) ≡ value_from 10 0 l.digits;
-  small : l.value < 2 ^ 63;
-}
