@@ -1,6 +1,6 @@
 -- All points of a program, and how many steps of the layer below each takes at least.
 use Rattle.std.specs.Prelude.{◌≡◌, ◌≢◌, ℕ, suc, ◌<◌, ◌^◌, List, [], ◌∷◌, ◌++◌, drop, length, map}
-use Rattle.run_laws.specs.Layers.{places_from}
+use Rattle.run_laws.specs.Layers.{places_from, points_of_all}
 use Rattle.block_runs.specs.declared.end.End.{End}
 use Rattle.block_runs.specs.declared.end.End.TheVariants.{Jump, Branch, Nonzero, Return, Trap}
 use Rattle.block_runs.specs.Blocks.{Operation, CodeBlock, Procedure, block_of, procedure_of, bodies}
@@ -10,23 +10,15 @@ use Rattle.block_runs.specs.States.{CopyAtHead, CopyAtCell, CopyAtTail, ZeroAtHe
 abbrev pub block_points : ℕ → ℕ → CodeBlock → List Point
 block_points p b bl = map (In p b) (places_from 0 (suc (length bl.ops)))
 
-abbrev pub points_from : ℕ → ℕ → List CodeBlock → List Point
-points_from p b [] = []
-points_from p b (bl ∷ bls) = block_points p b bl ++ points_from p (suc b) bls
-
 abbrev pub procedure_points : ℕ → Procedure → List Point
-procedure_points p pr = Entry p ∷ points_from p 0 pr.blocks
-
-abbrev pub procedures_points : ℕ → List Procedure → List Point
-procedures_points p [] = []
-procedures_points p (pr ∷ ps) = procedure_points p pr ++ procedures_points (suc p) ps
+procedure_points p pr = Entry p ∷ points_of_all (block_points p) 0 pr.blocks
 
 abbrev pub routine_points : List Point
 routine_points = At CopyAtHead ∷ At CopyAtCell ∷ At CopyAtTail ∷ At ZeroAtHead ∷ At ZeroAtCell ∷ At CompareAtHead ∷ At CompareAtCell ∷ []
 
 -- each point of a program, once: the beginnings of the bodies and the end, the routines' parts, and the procedures' points
 abbrev pub all_points : List Procedure → List Point
-all_points ps = map Begin (places_from 0 (suc (length (bodies ps)))) ++ (routine_points ++ procedures_points 0 ps)
+all_points ps = map Begin (places_from 0 (suc (length (bodies ps)))) ++ (routine_points ++ points_of_all procedure_points 0 ps)
 
 -- a jump may have no word; every other end, and each operation, has one
 abbrev pub end_least : End → ℕ

@@ -131,29 +131,29 @@ abbrev pub char_at : List Area → ℕ → ℕ → ℕ → Option ℕ
 char_at m x bytes done = if nat_le bytes done then Some 0 else load1 m (add64 x done)
 
 -- two characters at one position: where they are the same and not 0, the next position; else their difference is the answer
-abbrev pub compared : List Procedure → (x m y n done : ℕ) → Frame → List Frame → World → Option ℕ → Option ℕ → Step State Stop
-compared ps x m y n done f fs w None b = Traps (Fault x)
-compared ps x m y n done f fs w (Some a) None = Traps (Fault y)
-compared ps x m y n done f fs w (Some a) (Some b) =
+abbrev pub compared : List Operation → (x m y n done : ℕ) → Frame → List Frame → World → Option ℕ → Option ℕ → Step State Stop
+compared rest x m y n done f fs w None b = Traps (Fault x)
+compared rest x m y n done f fs w (Some a) None = Traps (Fault y)
+compared rest x m y n done f fs w (Some a) (Some b) =
     if a == b && nat_lt 0 a then Moves [] (Works (CompareCell x m y n (add64 done char_bytes)) f fs w)
-    else resumed (rest_of ps f) f fs w (Some (sub64 a b))
+    else resumed rest f fs w (Some (sub64 a b))
 
--- Copy moves eight bytes at a time as long as so many are left, and then one at a time; Zero makes eight zero at a time;
+-- what is left of the block behind the routine's operation is where it goes back. Copy moves eight bytes at a time as long as so many are left, and then one at a time; Zero makes eight zero at a time;
 -- Compare looks at one character of each text at a time
-abbrev pub work_on : List Procedure → Work → Frame → List Frame → World → Step State Stop
-work_on ps (CopyHead to from bytes) f fs w = Moves [] (Works (CopyCell to from bytes 0) f fs w)
-work_on ps (CopyCell to from bytes done) f fs w =
+abbrev pub work_on : List Operation → Work → Frame → List Frame → World → Step State Stop
+work_on rest (CopyHead to from bytes) f fs w = Moves [] (Works (CopyCell to from bytes 0) f fs w)
+work_on rest (CopyCell to from bytes done) f fs w =
     if nat_lt bytes (add64 done 8) then Moves [] (Works (CopyTail to from bytes done) f fs w)
     else moved (store8 w.memory) (add64 from done) (load8 w.memory (add64 from done)) (add64 to done) (CopyCell to from bytes (add64 done 8)) f fs w
-work_on ps (CopyTail to from bytes done) f fs w =
-    if nat_le bytes done then resumed (rest_of ps f) f fs w None
+work_on rest (CopyTail to from bytes done) f fs w =
+    if nat_le bytes done then resumed rest f fs w None
     else moved (store1 w.memory) (add64 from done) (load1 w.memory (add64 from done)) (add64 to done) (CopyTail to from bytes (add64 done 1)) f fs w
-work_on ps (ZeroHead to bytes) f fs w = Moves [] (Works (ZeroCell to bytes 0) f fs w)
-work_on ps (ZeroCell to bytes done) f fs w =
-    if nat_le bytes done then resumed (rest_of ps f) f fs w None
+work_on rest (ZeroHead to bytes) f fs w = Moves [] (Works (ZeroCell to bytes 0) f fs w)
+work_on rest (ZeroCell to bytes done) f fs w =
+    if nat_le bytes done then resumed rest f fs w None
     else moved_to (store8 w.memory (add64 to done) 0) (add64 to done) (ZeroCell to bytes (add64 done 8)) f fs w
-work_on ps (CompareHead x m y n) f fs w = Moves [] (Works (CompareCell x m y n 0) f fs w)
-work_on ps (CompareCell x m y n done) f fs w = compared ps x m y n done f fs w (char_at w.memory x m done) (char_at w.memory y n done)
+work_on rest (CompareHead x m y n) f fs w = Moves [] (Works (CompareCell x m y n 0) f fs w)
+work_on rest (CompareCell x m y n done) f fs w = compared rest x m y n done f fs w (char_at w.memory x m done) (char_at w.memory y n done)
 
 ---- The system
 
@@ -166,7 +166,7 @@ abbrev pub step : List Procedure → (ℕ → ℕ) → State → Step State Stop
 step ps code (Starts w) = begin (slice_get (bodies ps) w.body) w
 step ps code (Enters p args fs w) = enter ps p args fs w
 step ps code (Runs f fs w) = perform ps code (rest_of ps f) f fs w
-step ps code (Works work f fs w) = work_on ps work f fs w
+step ps code (Works work f fs w) = work_on (rest_of ps f) work f fs w
 
 -- the system of some procedures, where code p is the address of procedure p's code
 abbrev pub block_system : List Procedure → (ℕ → ℕ) → System State Stop Point
