@@ -1,6 +1,6 @@
 //! Blanks and comments, which are before symbols and between them.
 
-ghost use Rattle.std.specs.Prelude.{◌≡◌, ℕ, zero, ◌<◌, ◌≤◌, length, drop, MatchOption, MatchResult, true, false};
+ghost use Rattle.std.specs.Prelude.{◌≡◌, zero, ◌<◌, ◌≤◌, length, drop, MatchOption, MatchResult, true, false};
 ghost use Rattle.ob_scan.specs.Words.{begins_comment};
 ghost use Rattle.ob_scan.specs.Steps.{Past, close};
 

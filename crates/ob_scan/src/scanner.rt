@@ -1,6 +1,6 @@
 //! One symbol, and all symbols of a text.
 
-ghost use Rattle.std.specs.Prelude.{◌≡◌, ℕ, zero, ◌<◌, ◌≤◌, length, drop, slice_index, false, IfOk, IfErr, nat_eq};
+ghost use Rattle.std.specs.Prelude.{◌≡◌, zero, ◌<◌, ◌≤◌, length, drop, slice_index, false, IfOk, IfErr, nat_eq};
 ghost use Rattle.ob_scan.specs.Words.{is_letter, is_digit};
 ghost use Rattle.ob_scan.specs.Steps.{Found, Refused, Follows, BreaksAt, rule};
 ghost use Rattle.ob_scan.specs.Scans.{Scans, Done, IsFirst};

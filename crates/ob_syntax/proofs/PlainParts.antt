@@ -1,9 +1,9 @@
 -- The syntax of a tree from the parts that code takes out of it.
-use Rattle.std.proofs.Common.{◌≡◌, ℕ, List, [], ◌∷◌, Vec, Global, Box, Option, Some, None, refl, sym, ap, ap₂, ◌∙◌}
+use Rattle.std.proofs.Common.{◌≡◌, List, ◌∷◌, Vec, Global, Box, Option, Some, None, refl, sym, ap, ◌∙◌}
 use Rattle.ob_syntax.specs.Syntax as S
 use Rattle.ob_syntax.specs.Plain.{plain_expression, plain_maybe_compared, plain_simple, plain_added, plain_each_added, plain_term, plain_multiplied, plain_each_multiplied, plain_factor}
-use Rattle.ob_syntax.specs.declared.expressions.Expression.{Expression, out-Expression, roll-out-Expression, roll-Expression, rolls-Expression', back-Expression-compared}
-use Rattle.ob_syntax.specs.declared.expressions.Compared.{Compared, Compared'}
+use Rattle.ob_syntax.specs.declared.expressions.Expression.{Expression, out-Expression, roll-out-Expression, roll-Expression, rolls-Expression'}
+use Rattle.ob_syntax.specs.declared.expressions.Compared.{Compared}
 use Rattle.ob_syntax.specs.declared.expressions.Simple.{Simple, out-Simple, roll-out-Simple, roll-Simple, rolls-Simple', Row_of-Added, end_of-Added, more_of-Added, items-the_row-Added, items_hidden-the_row-Added-3}
 use Rattle.ob_syntax.specs.declared.expressions.Sign.{Sign}
 use Rattle.ob_syntax.specs.declared.expressions.AddOperator.{AddOperator}

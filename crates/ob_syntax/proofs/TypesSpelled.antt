@@ -1,6 +1,6 @@
 -- Types are spelled by trees of the grammar.
 use Rattle.ob_grammar.specs.Grammar as G
-use Rattle.ob_grammar.specs.Grammar.{Phrase, part, ◌·◌, opt, many}
+use Rattle.ob_grammar.specs.Grammar.{part, ◌·◌, opt, many}
 use Rattle.ob_syntax.specs.NameText.{next_ident_text}
 use Rattle.ob_syntax.specs.ExpressionText.{next_expression_text}
 use Rattle.ob_syntax.specs.TypeText.{type_tree_text, record_type_text, base_text, next_fields_text, formals_text, sections_text, next_section_text, result_type_text, section_text, open_array_text, next_fields_row, held_fields_text}

@@ -1,5 +1,5 @@
 -- How the parts of a right side are put together.
-use Rattle.std.proofs.Common.{◌≡◌, ℕ, zero, suc, ◌+◌, ◌-◌, ◌<◌, ◌≤◌, List, [], ◌∷◌, ◌++◌, Bool, true, false, Option, None, Some, cond, nat_eq, length, drop, map, get_or, refl, sym, ap, ap₂, ◌∙◌, subst, arith, append_assoc, Result}
+use Rattle.std.proofs.Common.{◌≡◌, ℕ, zero, suc, ◌+◌, ◌-◌, ◌<◌, ◌≤◌, List, [], ◌∷◌, ◌++◌, true, false, Option, None, Some, cond, nat_eq, length, drop, map, get_or, refl, sym, ap, ap₂, ◌∙◌, subst, arith, append_assoc, Result}
 use Rattle.std.proofs.lemmas.Result.{err_from_is_err_and}
 use Rattle.std.specs.Result.{IsErrAnd}
 use Rattle.ob_symbol.specs.declared.symbol.Symbol.{Symbol}
@@ -181,36 +181,9 @@ look f [] i d h = absurd (omega arith)
 look f (x ∷ xs) zero d h = refl
 look f (x ∷ xs) (suc i) d h = look f xs i d (omega arith)
 
--- nothing is ahead at the end
-pub none_left : {A : Type 0} (f : A → ℕ) (xs : List A) (i : ℕ) → length xs ≤ i → drop i (map f xs) ≡ []
-none_left f [] zero h = refl
-none_left f [] (suc i) h = refl
-none_left f (x ∷ xs) zero h = absurd (omega arith)
-none_left f (x ∷ xs) (suc i) h = none_left f xs i (omega arith)
-
-test_is : (b : Bool) → cond b true false ≡ b
-test_is true = refl
-test_is false = refl
-
 -- the number of the first of what is ahead
 pub looks_at : (xs : List Symbol) (i n : ℕ) (d : Symbol) → i < length xs → d ≡ get_or xs i d → n ≡ number_at d → Some n ≡ first_of (drop i (numbers xs))
 looks_at xs i n d h e v = sym (ap first_of (look number_at xs i d h) ∙ (ap (λ (z : Symbol). Some (number_at z)) (sym e) ∙ ap (λ (m : ℕ). Some m) (sym v)))
-
--- nothing is first at the end
-pub looks_past : (xs : List Symbol) (i : ℕ) → length xs ≤ i → None ≡ first_of (drop i (numbers xs))
-looks_past xs i h = sym (ap first_of (none_left number_at xs i h))
-
--- the test of the next symbol, by its number
-pub first_is : (k n : ℕ) (w : List ℕ) → Some n ≡ first_of w → nat_eq k n ≡ is_next (k ∷ []) w
-first_is k n [] e = cc
-first_is k n (x ∷ w) e =
-    let same : n ≡ x = cc in
-    ap (nat_eq k) same ∙ sym (test_is (nat_eq k x))
-
--- no symbol is next
-pub first_none : (k : ℕ) (w : List ℕ) → None ≡ first_of w → false ≡ is_next (k ∷ []) w
-first_none k [] e = refl
-first_none k (x ∷ w) e = cc
 
 -- drop 1 of what is ahead
 go_past : (w : List ℕ) (i : ℕ) → drop (suc i) w ≡ drop 1 (drop i w)
@@ -258,11 +231,6 @@ maybe_terminal (Some i) h = reads_some h.here h.read
 pub rounds_over : {f g : Phrase} {a b c : State} {t : List Leaf} → Repeated f a b t → false ≡ is_next (first f) b.rest → Left g b c → Parsed (many f) a c t
 rounds_over {f} {g} {a} {b} {c} {t} h n k = subst (λ (z : State). Parsed (many f) a z t) (sym k.same) (end_rounds h n)
 
--- where a terminal is next, something is
-pub some_next : (F w : List ℕ) → true ≡ is_next F w → 0 < length w
-some_next F [] h = cc
-some_next F (x ∷ w) h = omega arith
-
 -- what the exit of a `?` answers
 pub gives_err : {X : Type 0} {f : Phrase} (text : X → List Leaf) {a b : State} {e : ParseFault} → (r : Result X ParseFault) → IsErrAnd r (λ x. x ≡ e) → Fails f a b e → Gives f text a b r
 gives_err {X} {f} text {a} {b} {e} r h k =
@@ -280,11 +248,6 @@ next_here k F (x ∷ w) h = elim (nat_eq k x) as (λ b. true ≡ cond b true fal
 pub next_there : (k : ℕ) (F w : List ℕ) → true ≡ is_next F w → true ≡ is_next (k ∷ F) w
 next_there k F [] h = h
 next_there k F (x ∷ w) h = elim (nat_eq k x) as (λ b. true ≡ cond b true (is_in F x)) [ true ↦ refl | false ↦ h ]
-
--- none of them is next
-pub next_none : (k : ℕ) (F w : List ℕ) → false ≡ is_next (k ∷ []) w → false ≡ is_next F w → false ≡ is_next (k ∷ F) w
-next_none k F [] g h = h
-next_none k F (x ∷ w) g h = elim (nat_eq k x) as (λ b. false ≡ cond b true false → false ≡ cond b true (is_in F x)) [ true ↦ λ e. e | false ↦ λ _. h ] g
 
 -- whether the end is reached
 

@@ -1,6 +1,6 @@
 -- What a part of the parser does to the symbols that are ahead. The contracts of the parser's own functions cite it.
 use Rattle.std.specs.Prelude.{◌≡◌, ℕ, suc, ◌+◌, ◌<◌, ◌≤◌, List, [], ◌∷◌, ◌++◌, length, Result, Ok, Err, Option, None, Some, Bool, true, false}
-use Rattle.ob_grammar.specs.Grammar.{Phrase, one, many, nest}
+use Rattle.ob_grammar.specs.Grammar.{Phrase, many, nest}
 use Rattle.ob_grammar.specs.Trees.{depth_limit}
 use Rattle.ob_grammar.specs.Reading.{is_next, first, Item, item, Outcome, Wrong, Deep, Stops}
 use Rattle.ob_syntax.specs.Leaves.{Leaf, numbered}

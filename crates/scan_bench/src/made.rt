@@ -29,7 +29,7 @@ fn fill(text: &mut Vec<u8>, piece: &[u8], size: usize) -> Result<(), AllocError>
     Ok(())
 }
 
-/// A text of this shape of at most so many bytes.
+/// A text of this shape and size, with blanks at its end where its pieces leave room.
 pub fn text(alloc: Global, shape: Shape, size: usize) -> Result<Vec<u8>, AllocError>
     requires { size ≤ 1048576 }
     ensures { IfOk result (λ v. length v.items ≤ size) }
@@ -47,5 +47,6 @@ pub fn text(alloc: Global, shape: Shape, size: usize) -> Result<Vec<u8>, AllocEr
             fill(&mut text, b"*)", size / 4 * 4)?;
         }
     }
+    fill(&mut text, b" ", size)?;
     Ok(text)
 }

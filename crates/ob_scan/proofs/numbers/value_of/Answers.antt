@@ -1,4 +1,4 @@
-use Rattle.std.proofs.Common.{◌≡◌, ◌*◌, ◌+◌, arith, ◌∙◌, ap, drop, get_or}
+use Rattle.std.proofs.Common.{◌≡◌, ◌+◌, arith, ◌∙◌, ap, drop, get_or}
 use Rattle.ob_scan.specs.Words.{is_hexadecimal, digit, value_from}
 use Rattle.ob_scan.proofs.Turns.{all_at, value_step, value_grows}
 use Rattle.ob_scan.proofs.numbers.value_of.Goals as goal
