@@ -13,7 +13,7 @@ use Rattle.first_text.specs.declared.fault.TextFault.TheVariants.{NotText, Memor
 use Rattle.first_text.specs.declared.tree.Text.{Text}
 use Rattle.first_text.specs.Terminals.{Terminal, terminals_of, is_spaced}
 use Rattle.first_text.specs.Texts.{IsText, HasNone}
-use Rattle.first_text.specs.Reading.{AtModule, point, run, Reads}
+use Rattle.first_text.specs.Reading.{AtModule, point, run, ReadsText}
 use Rattle.first_text.proofs.Runs.{module_runs}
 
 -- a text has the symbols that a scan finds
@@ -39,13 +39,13 @@ not_first w e rule at i h =
 runs : (w : List ℕ) (t : Text) → (x : IsText w t) → run (Some (point AtModule [] 0 0)) (terminals_of w x.symbols) ≡ true
 runs w t x = ap (run (Some (point AtModule [] 0 0))) x.spelled ∙ module_runs t.name.items t.statements.items x.some x.not_out x.not_in x.depth x.values
 
-not_read : (w : List ℕ) (a : List Symbol) (v : List Terminal) (e : TextFault) → Scans zero w a Done → v ≡ terminals_of w a → Reads v (Err e) → HasNone w e
+not_read : (w : List ℕ) (a : List Symbol) (v : List Terminal) (e : TextFault) → Scans zero w a Done → v ≡ terminals_of w a → ReadsText v (Err e) → HasNone w e
 not_read w a v NotText s i h = λ t x.
     let k : false ≡ true = sym h ∙ ap (run (Some (point AtModule [] 0 0))) (i ∙ ap (terminals_of w) (same_symbols w a t s x)) ∙ runs w t x in
     cc
 not_read w a v Memory s i h = tt
 
-pub none_read : (w : List ℕ) (a : List Symbol) (v : List Terminal) (e : TextFault) (r : Result Text TextFault) → Scans zero w a Done → v ≡ terminals_of w a → Reads v (Err e) → IsErrAnd r (λ x. x ≡ e) → IfErr r (λ z. HasNone w z)
+pub none_read : (w : List ℕ) (a : List Symbol) (v : List Terminal) (e : TextFault) (r : Result Text TextFault) → Scans zero w a Done → v ≡ terminals_of w a → ReadsText v (Err e) → IsErrAnd r (λ x. x ≡ e) → IfErr r (λ z. HasNone w z)
 none_read w a v e r s i h k =
     let x = err_from_is_err_and r k in
     subst (λ (q : Result Text TextFault). IfErr q (λ z. HasNone w z)) (sym x.1) (subst (HasNone w) (sym x.2) (not_read w a v e s i h))

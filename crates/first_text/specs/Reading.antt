@@ -372,7 +372,7 @@ pub record Read (t : Text) (w : List Terminal) : Type 0 where
   pub depth : statements_depth t.statements.items ≤ 100
   pub values : statements_values t.statements.items ≤ 4000
 
-abbrev pub Reads : List Terminal → Result Text TextFault → Type 0
-Reads w (Ok t) = Read t w
-Reads w (Err NotText) = run (Some (point AtModule [] 0 0)) w ≡ false
-Reads w (Err Memory) = Unit {0}
+abbrev pub ReadsText : List Terminal → Result Text TextFault → Type 0
+ReadsText w (Ok t) = Read t w
+ReadsText w (Err NotText) = run (Some (point AtModule [] 0 0)) w ≡ false
+ReadsText w (Err Memory) = Unit {0}

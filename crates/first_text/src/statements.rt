@@ -1,7 +1,7 @@
 //! Statements, and a module around them.
 
 ghost use Rattle.std.specs.Prelude.{◌≡◌, ◌<◌, ◌≤◌, false, length, OnOk, IfOk};
-ghost use Rattle.first_text.specs.Reading.{Gives, Names, EndsModule, Reads, is_next, is_exactly, AtStatement, AtOpen, AtNext, AtNameEnd, statement_part, arguments_part, statements_part, import_part};
+ghost use Rattle.first_text.specs.Reading.{Gives, Names, EndsModule, ReadsText, is_next, is_exactly, AtStatement, AtOpen, AtNext, AtNameEnd, statement_part, arguments_part, statements_part, import_part};
 ghost use Rattle.first_text.specs.declared.terminal.Fixed.TheVariants.{Semicolon};
 
 use crate::fault::TextFault;
@@ -103,7 +103,7 @@ impl<'a> Parser<'a> {
     pub fn text(&mut self, alloc: Global) -> Result<Text, TextFault>
         requires depth { self.old.depth ≡ 0 }
         requires values { self.old.values ≡ 0 }
-        ensures { Reads self.old.ahead result }
+        ensures { ReadsText self.old.ahead result }
     {
         let name = self.module_name(alloc)?;
         self.import()?;

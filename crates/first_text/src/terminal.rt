@@ -1,7 +1,7 @@
 //! The terminals of the grammar that have one spelling.
 
 /// A reserved word, an operator or a delimiter of the grammar.
-#[derive(Clone, Copy, PartialEq, Eq, Debug)]
+#[derive(Clone, Copy, PartialEq)]
 pub enum Fixed {
     Module,
     Import,

@@ -19,7 +19,7 @@ pub enum Statement {
 }
 
 /// `+` or `-`.
-#[derive(Clone, Copy, PartialEq, Eq, Debug)]
+#[derive(Clone, Copy)]
 pub enum Sign {
     Plus,
     Minus,

@@ -4,7 +4,7 @@ ghost use Rattle.std.specs.Prelude.{◌≡◌};
 ghost use Rattle.trc_cli.specs.Causes.{status_of};
 
 /// A device of the outside.
-#[derive(Clone, Copy, PartialEq, Eq, Debug)]
+#[derive(Clone, Copy, PartialEq, Debug)]
 pub enum Device {
     Files,
     Input,
@@ -12,7 +12,7 @@ pub enum Device {
 }
 
 /// Why a call ended, in the order in which the causes are tried; want of memory can come at any time.
-#[derive(Clone, Copy, PartialEq, Eq, Debug)]
+#[derive(Clone, Copy, PartialEq, Debug)]
 pub enum Cause {
     /// The words are no command.
     Usage,
@@ -31,7 +31,7 @@ pub enum Cause {
 }
 
 /// A cause, and the status with which the program ends.
-#[derive(Clone, Copy, PartialEq, Eq, Debug)]
+#[derive(Clone, Copy, PartialEq, Debug)]
 pub struct Outcome {
     pub status: u8,
     pub cause: Cause,

@@ -31,13 +31,7 @@ pub fn run_program<
     I: Source,
     O: Sink,
     E: Sink,
->(
-    rt: &R,
-    files: &mut F,
-    input: &mut I,
-    out: &mut O,
-    err: &mut E,
-) -> u8
+>(rt: &R, files: &mut F, input: &mut I, out: &mut O, err: &mut E) -> u8
     ensures finishes { Finishes result (E.account err.old) (E.account err.new) }
     ensures err_rises { (E.account err.old).faults ≤ (E.account err.new).faults }
 {

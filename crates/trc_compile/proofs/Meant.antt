@@ -86,7 +86,7 @@ means_both os ps vs m n x y o z one two does =
 multiplied : (a b x y : ℕ) (u : List ℕ) → get_or u a 0 ≡ x → get_or u b 0 ≡ y → (defined (Mul a b) u ≡ mul64 x y ∷ []) × (written (Mul a b) u ≡ [])
 multiplied a b x y u e f = (ap₂ (λ m n. mul64 m n ∷ []) e f, refl)
 
-sums : (sign : Sign) (a b x y : ℕ) (u : List ℕ) → get_or u a 0 ≡ x → get_or u b 0 ≡ y → (defined (lower.added sign a b) u ≡ added x sign y ∷ []) × (written (lower.added sign a b) u ≡ [])
+sums : (sign : Sign) (a b x y : ℕ) (u : List ℕ) → get_or u a 0 ≡ x → get_or u b 0 ≡ y → (defined (lower.sum_operation sign a b) u ≡ added x sign y ∷ []) × (written (lower.sum_operation sign a b) u ≡ [])
 sums Plus a b x y u e f = (ap₂ (λ m n. add64 m n ∷ []) e f, refl)
 sums Minus a b x y u e f = (ap₂ (λ m n. sub64 m n ∷ []) e f, refl)
 
@@ -123,7 +123,7 @@ mutual
       let sum = length-append vs one.made in
       let at : length (vs ++ one.made) ≡ length vs + sum_values s = omega (arith, sum, size) in
       let two = means_product p (vs ++ one.made) in
-      means_both (sum_operations (length vs) s) (product_operations (length vs + sum_values s) p) vs (sum_values s) (product_values p) (sum_value s) (product_value p) (lower.added sign (last (length vs) (sum_values s)) (last (length vs + sum_values s) (product_values p))) (added (sum_value s) sign (product_value p)) one
+      means_both (sum_operations (length vs) s) (product_operations (length vs + sum_values s) p) vs (sum_values s) (product_values p) (sum_value s) (product_value p) (lower.sum_operation sign (last (length vs) (sum_values s)) (last (length vs + sum_values s) (product_values p))) (added (sum_value s) sign (product_value p)) one
       (subst (λ k. Means (product_operations k p) (vs ++ one.made) (product_values p) (product_value p)) at two)
       (sums sign _ _ _ _)
 
@@ -193,7 +193,7 @@ counts_both os ps m n i j a b =
 counts_as : (os : List Operation) (m n i j : ℕ) → m ≡ n → i ≡ j → Counts os m i → Counts os n j
 counts_as os m n i j e f c = record { values = c.values ∙ e; operations = c.operations ∙ f }
 
-counts_added : (sign : Sign) (a b : ℕ) → Counts (lower.added sign a b ∷ []) 1 1
+counts_added : (sign : Sign) (a b : ℕ) → Counts (lower.sum_operation sign a b ∷ []) 1 1
 counts_added Plus a b = record { values = refl; operations = refl }
 counts_added Minus a b = record { values = refl; operations = refl }
 

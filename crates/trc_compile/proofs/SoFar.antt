@@ -13,8 +13,8 @@ use Rattle.first_text.specs.Texts.{sign_values, operand_values, product_values, 
 use Rattle.straight_code.specs.declared.operation.Operation.{Operation}
 use Rattle.straight_code.specs.declared.operation.Operation.TheVariants.{Const, Mul, WriteInt}
 use Rattle.straight_code.specs.Operations.{values_of, count, Reads, AreLegal}
-use Rattle.trc_compile.specs.Lowering.{last, operand_operations, product_operations, sum_operations, sign_operations, added, call_operations, statements_operations}
-use Rattle.trc_compile.specs.Lowered.{Lowered, Lowers}
+use Rattle.trc_compile.specs.Lowering.{last, operand_operations, product_operations, sum_operations, sign_operations, sum_operation, call_operations, statements_operations}
+use Rattle.trc_compile.specs.Lowered.{Lowered, AppendsCode}
 use Rattle.trc_compile.proofs.Meant.{values-append, counts_operand, counts_product, counts_sum, counts_call, statements_count, operand_some, product_some, sum_some}
 use Rattle.trc_compile.proofs.Taken.{sum_out}
 
@@ -57,14 +57,14 @@ pub record ProductParts (made : ℕ) (old new : List Operation) (whole : Product
 pub record TermSoFar (made : ℕ) (old new : List Operation) (whole : Product) (left : List Factor) (mid : ℕ) : Type 0 where
   pub by : made + product_values whole ≤ 4000 → ProductParts made old new whole left mid
 
-pub term_starts : (made : ℕ) (old new : List Operation) (first : Factor) (items items' : List Factor) (mid : ℕ) → items ≡ items' → Lowers made old new (operand_operations made (operand first)) (operand_values (operand first)) (Ok mid) → TermSoFar made old new (multiplied (Single (operand first)) items') items mid
+pub term_starts : (made : ℕ) (old new : List Operation) (first : Factor) (items items' : List Factor) (mid : ℕ) → items ≡ items' → AppendsCode made old new (operand_operations made (operand first)) (operand_values (operand first)) (Ok mid) → TermSoFar made old new (multiplied (Single (operand first)) items') items mid
 term_starts made old new first items items' mid e l = record {
   by = λ few. let grows = product_grows items' (Single (operand first)) in
       record { part = Single (operand first); lowered = l.by (omega (arith, few, grows)); rest = ap (multiplied (Single (operand first))) e };
 }
 
 pub term_goes_on : (made : ℕ) (old new new' new'' : List Operation) (whole : Product) (items : List Factor) (i : ℕ) (f : Factor) (mid after a b : ℕ) → TermSoFar made old new whole (drop i items) mid → i < length items → f ≡ get_or items i f
-    → Lowers mid new new' (operand_operations mid (operand f)) (operand_values (operand f)) (Ok after) → new'' ≡ new' ++ Mul a b ∷ [] → (0 < mid → a ≡ mid - 1) → (0 < after → b ≡ after - 1) → after < 2 ^ 32
+    → AppendsCode mid new new' (operand_operations mid (operand f)) (operand_values (operand f)) (Ok after) → new'' ≡ new' ++ Mul a b ∷ [] → (0 < mid → a ≡ mid - 1) → (0 < after → b ≡ after - 1) → after < 2 ^ 32
     → TermSoFar made old new'' whole (drop (i + 1) items) ((after + 1) % 2 ^ 32)
 term_goes_on made old new new' new'' whole items i f mid after a b so inside here l pushed ea eb small = record { by = goes }
   where
@@ -97,7 +97,7 @@ term_goes_on made old new new' new'' whole items i f mid after a b so inside her
           rest = split;
         }
 
-pub term_ends : (made : ℕ) (old new : List Operation) (whole : Product) (items : List Factor) (i mid : ℕ) → TermSoFar made old new whole (drop i items) mid → drop i items ≡ [] → Lowers made old new (product_operations made whole) (product_values whole) (Ok mid)
+pub term_ends : (made : ℕ) (old new : List Operation) (whole : Product) (items : List Factor) (i mid : ℕ) → TermSoFar made old new whole (drop i items) mid → drop i items ≡ [] → AppendsCode made old new (product_operations made whole) (product_values whole) (Ok mid)
 term_ends made old new whole items i mid so none = record {
   by = λ few. let parts = so.by few in
       let e : parts.part ≡ whole = ap (multiplied parts.part) (sym none) ∙ parts.rest in
@@ -120,8 +120,8 @@ pub record SimpleSoFar (made : ℕ) (old new : List Operation) (whole : Sum) (le
   pub by : made + sum_values whole ≤ 4000 → SumParts made old new whole left mid
 
 pub simple_starts : (made : ℕ) (old new new' : List Operation) (simple : Simple) (items : List Added) (first mid : ℕ) → items ≡ (out-Simple simple).rest.items
-    → Lowers made old new (product_operations made (product (out-Simple simple).first)) (product_values (product (out-Simple simple).first)) (Ok first)
-    → (0 < first → Lowers first new new' (sign_operations (out-Simple simple).sign (first - 1)) (sign_values (out-Simple simple).sign) (Ok mid))
+    → AppendsCode made old new (product_operations made (product (out-Simple simple).first)) (product_values (product (out-Simple simple).first)) (Ok first)
+    → (0 < first → AppendsCode first new new' (sign_operations (out-Simple simple).sign (first - 1)) (sign_values (out-Simple simple).sign) (Ok mid))
     → SimpleSoFar made old new' (sum simple) items mid
 simple_starts made old new new' simple items first mid e l m = record { by = goes }
   where
@@ -148,16 +148,16 @@ simple_starts made old new new' simple items first mid e l m = record { by = goe
           rest = ap (joined (Leading sign p)) e ∙ sym is;
         }
 
-sum_reads : (sign : Sign) (a b made : ℕ) → a < made → b < made → Reads made (added sign a b)
+sum_reads : (sign : Sign) (a b made : ℕ) → a < made → b < made → Reads made (sum_operation sign a b)
 sum_reads Plus a b made l l' = (l, l')
 sum_reads Minus a b made l l' = (l, l')
 
-sum_count : (sign : Sign) (a b : ℕ) → count (added sign a b) ≡ 1
+sum_count : (sign : Sign) (a b : ℕ) → count (sum_operation sign a b) ≡ 1
 sum_count Plus a b = refl
 sum_count Minus a b = refl
 
 pub simple_goes_on : (made : ℕ) (old new new' new'' : List Operation) (whole : Sum) (items : List Added) (i : ℕ) (x : Added) (mid after a b : ℕ) (next_one : Operation) → SimpleSoFar made old new whole (drop i items) mid → i < length items → x ≡ get_or items i x
-    → Lowers mid new new' (product_operations mid (product x.term)) (product_values (product x.term)) (Ok after) → new'' ≡ new' ++ next_one ∷ [] → next_one ≡ added x.sign a b → (0 < mid → a ≡ mid - 1) → (0 < after → b ≡ after - 1) → after < 2 ^ 32
+    → AppendsCode mid new new' (product_operations mid (product x.term)) (product_values (product x.term)) (Ok after) → new'' ≡ new' ++ next_one ∷ [] → next_one ≡ sum_operation x.sign a b → (0 < mid → a ≡ mid - 1) → (0 < after → b ≡ after - 1) → after < 2 ^ 32
     → SimpleSoFar made old new'' whole (drop (i + 1) items) ((after + 1) % 2 ^ 32)
 simple_goes_on made old new new' new'' whole items i x mid after a b next_one so inside here l pushed is ea eb small = record { by = goes }
   where
@@ -177,22 +177,22 @@ simple_goes_on made old new new' new'' whole items i x mid after a b next_one so
         let ma : a ≡ last made (sum_values s) = ea (omega (arith, counted, some)) ∙ omega (arith, counted) in
         let mb : b ≡ last (made + sum_values s) (product_values p) = eb (omega (arith, counted', some')) ∙ omega (arith, counted, counted') in
         let code = product_operations mid p in
-        let o = added x.sign a b in
+        let o = sum_operation x.sign a b in
         let one = sum_count x.sign a b in
         let three = lowered_both mid new new' new'' code (o ∷ []) (product_values p) (count o) after ((after + 1) % 2 ^ 32) (counts_product p mid).values next
         (lowered_one after new' new'' o ((after + 1) % 2 ^ 32) (pushed ∙ ap (λ q. new' ++ q ∷ []) is) (sum_reads x.sign a b after (omega (arith, ma, counted, counted', some, some')) (omega (arith, mb, counted, counted', some'))) (omega (arith, counted, counted', few, grows, size, one))) in
         let all = lowered_both made old new new'' (sum_operations made s) (code ++ o ∷ []) (sum_values s) (product_values p + count o) mid ((after + 1) % 2 ^ 32) (counts_sum s made).values parts.lowered three in
         let same : sum_operations made s ++ (code ++ o ∷ []) ≡ sum_operations made (Joined s x.sign p) =
         ap (λ k. sum_operations made s ++ (product_operations k p ++ o ∷ [])) counted
-        ∙ ap (λ k. sum_operations made s ++ (product_operations (made + sum_values s) p ++ added x.sign k b ∷ [])) ma
-        ∙ ap (λ k. sum_operations made s ++ (product_operations (made + sum_values s) p ++ added x.sign (last made (sum_values s)) k ∷ [])) mb in
+        ∙ ap (λ k. sum_operations made s ++ (product_operations (made + sum_values s) p ++ sum_operation x.sign k b ∷ [])) ma
+        ∙ ap (λ k. sum_operations made s ++ (product_operations (made + sum_values s) p ++ sum_operation x.sign (last made (sum_values s)) k ∷ [])) mb in
         record {
           part = Joined s x.sign p;
           lowered = record { pushed = all.pushed ∙ ap (λ c. old ++ c) same; legal = subst (AreLegal made) same all.legal; counted = (let c = all.counted in omega (arith, c, one)) };
           rest = split;
         }
 
-pub simple_ends : (made : ℕ) (old new : List Operation) (whole : Sum) (items : List Added) (i mid : ℕ) → SimpleSoFar made old new whole (drop i items) mid → drop i items ≡ [] → Lowers made old new (sum_operations made whole) (sum_values whole) (Ok mid)
+pub simple_ends : (made : ℕ) (old new : List Operation) (whole : Sum) (items : List Added) (i mid : ℕ) → SimpleSoFar made old new whole (drop i items) mid → drop i items ≡ [] → AppendsCode made old new (sum_operations made whole) (sum_values whole) (Ok mid)
 simple_ends made old new whole items i mid so none = record {
   by = λ few. let parts = so.by few in
       let e : parts.part ≡ whole = ap (joined parts.part) (sym none) ∙ parts.rest in
@@ -201,8 +201,8 @@ simple_ends made old new whole items i mid so none = record {
 
 -- statements
 
-pub writes : (made : ℕ) (old new new' new'' : List Operation) (s : Sum) (width mid a : ℕ) → Lowers made old new (sum_operations made s) (sum_values s) (Ok mid) → width < 2 ^ 64 → new' ≡ new ++ Const width ∷ [] → new'' ≡ new' ++ WriteInt a mid ∷ [] → (0 < mid → a ≡ mid - 1)
-    → Lowers made old new'' (call_operations made (Writes s width)) (call_values (Writes s width)) (Ok ((mid + 1) % 2 ^ 32))
+pub writes : (made : ℕ) (old new new' new'' : List Operation) (s : Sum) (width mid a : ℕ) → AppendsCode made old new (sum_operations made s) (sum_values s) (Ok mid) → width < 2 ^ 64 → new' ≡ new ++ Const width ∷ [] → new'' ≡ new' ++ WriteInt a mid ∷ [] → (0 < mid → a ≡ mid - 1)
+    → AppendsCode made old new'' (call_operations made (Writes s width)) (call_values (Writes s width)) (Ok ((mid + 1) % 2 ^ 32))
 writes made old new new' new'' s width mid a l small pushed pushed' ea = record { by = goes }
   where
     goes : made + (sum_values s + 1) ≤ 4000 → Lowered made old new'' (call_operations made (Writes s width)) (sum_values s + 1) ((mid + 1) % 2 ^ 32)
@@ -237,7 +237,7 @@ statements_start operations statements items e f = record {
 }
 
 pub statements_go_on : (operations new : List Operation) (statements items : List Statement) (i made after : ℕ) (s : Statement) → StatementsSoFar operations statements (drop i items) made → i < length items → s ≡ get_or items i s → statements_values statements ≤ 4000
-    → Lowers made operations new (call_operations made (call s)) (call_values (call s)) (Ok after) → StatementsSoFar new statements (drop (i + 1) items) after
+    → AppendsCode made operations new (call_operations made (call s)) (call_values (call s)) (Ok after) → StatementsSoFar new statements (drop (i + 1) items) after
 statements_go_on operations new statements items i made after s so inside here few l =
     let split = drop_here items i s inside here in
     let size = ap statements_values split in

@@ -12,5 +12,5 @@ pub record Lowered (made : ℕ) (old new code : List Operation) (values after : 
   pub counted : after ≡ made + values
 
 -- where the values stay within 4,000, the answer is how many are made then, and this code was lowered
-pub record Lowers (made : ℕ) (old new code : List Operation) (values : ℕ) (answer : Result ℕ Memory) : Type 0 where
+pub record AppendsCode (made : ℕ) (old new code : List Operation) (values : ℕ) (answer : Result ℕ Memory) : Type 0 where
   pub by : made + values ≤ 4000 → IfOk answer (λ after. Lowered made old new code values after)

@@ -22,9 +22,9 @@ sign_operations (Some Plus) value = []
 sign_operations (Some Minus) value = Neg value ∷ []
 
 -- a sign between two values
-abbrev pub added : Sign → ℕ → ℕ → Operation
-added Plus left right = Add left right
-added Minus left right = Sub left right
+abbrev pub sum_operation : Sign → ℕ → ℕ → Operation
+sum_operation Plus left right = Add left right
+sum_operation Minus left right = Sub left right
 
 abbrev mutual
   pub operand_operations : ℕ → Operand → List Operation
@@ -43,7 +43,7 @@ abbrev mutual
   sum_operations made (Joined s sign p) =
       sum_operations made s
       ++ (product_operations (made + sum_values s) p
-      ++ added sign (last made (sum_values s)) (last (made + sum_values s) (product_values p)) ∷ [])
+      ++ sum_operation sign (last made (sum_values s)) (last (made + sum_values s) (product_values p)) ∷ [])
 
 -- a number is written with a width; a line's end is byte 10
 abbrev pub call_operations : ℕ → Call → List Operation

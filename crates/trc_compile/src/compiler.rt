@@ -9,12 +9,12 @@ ghost use Rattle.trc_compile.specs.Images.{image_of, RunsAsMeant};
 use crate::lowering::lower;
 use first_text::{Text, TextFault, read_text};
 use image_form::Image;
+use outside::Memory;
 use std::alloc::Global;
 use thiserror::Error;
-use outside::Memory;
 
 /// Why no image was made.
-#[derive(Clone, Copy, PartialEq, Eq, Debug, Error)]
+#[derive(Clone, Copy, Debug, Error)]
 pub enum Refusal {
     /// The bytes are no text of the form that is compiled so far.
     #[error("unbuilt")]

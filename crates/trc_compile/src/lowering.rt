@@ -7,18 +7,18 @@ ghost use Rattle.std.specs.Prelude.{◌≡◌, ℕ, ◌+◌, ◌-◌, ◌≤◌,
 ghost use Rattle.first_text.specs.Trees.{operand, product, sum, call};
 ghost use Rattle.first_text.specs.Texts.{operand_values, product_values, sum_values, call_values, sign_values, statements_values};
 ghost use Rattle.straight_code.specs.Operations.{AreLegal, values_of};
-ghost use Rattle.trc_compile.specs.Lowering.{operand_operations, product_operations, sum_operations, sign_operations, call_operations, statements_operations, operations_of, added};
-ghost use Rattle.trc_compile.specs.Lowered.{Lowers};
+ghost use Rattle.trc_compile.specs.Lowering.{operand_operations, product_operations, sum_operations, sign_operations, call_operations, statements_operations, operations_of, sum_operation};
+ghost use Rattle.trc_compile.specs.Lowered.{AppendsCode};
 
 use first_text::{Added, Factor, Sign, Simple, Statement, Term, Text};
+use outside::Memory;
 use std::alloc::Global;
 use straight_code::Operation;
-use outside::Memory;
 
 /// Appends a factor's operations, where so many values were made before, and answers how many are made then.
 #[cycle(lowering)]
 fn lower_factor(operations: &mut Vec<Operation>, made: u32, factor: &Factor) -> Result<u32, Memory>
-    ensures { Lowers made operations.old.items operations.new.items (operand_operations made (operand factor.now)) (operand_values (operand factor.now)) result }
+    ensures { AppendsCode made operations.old.items operations.new.items (operand_operations made (operand factor.now)) (operand_values (operand factor.now)) result }
 {
     match factor {
         Factor::Integer(number) => {
@@ -32,7 +32,7 @@ fn lower_factor(operations: &mut Vec<Operation>, made: u32, factor: &Factor) -> 
 /// Appends a term's operations.
 #[cycle(lowering)]
 fn lower_term(operations: &mut Vec<Operation>, made: u32, term: &Term) -> Result<u32, Memory>
-    ensures { Lowers made operations.old.items operations.new.items (product_operations made (product term.now)) (product_values (product term.now)) result }
+    ensures { AppendsCode made operations.old.items operations.new.items (product_operations made (product term.now)) (product_values (product term.now)) result }
 {
     let mut last = lower_factor(operations, made, &term.first)?;
     'factors: for factor in &term.rest {
@@ -45,7 +45,7 @@ fn lower_term(operations: &mut Vec<Operation>, made: u32, term: &Term) -> Result
 
 /// Appends the operation that a sign before a value is, where it is one.
 fn lower_sign(operations: &mut Vec<Operation>, made: u32, sign: Option<Sign>) -> Result<u32, Memory>
-    ensures { 0 < made → Lowers made operations.old.items operations.new.items (sign_operations sign (made - 1)) (sign_values sign) result }
+    ensures { 0 < made → AppendsCode made operations.old.items operations.new.items (sign_operations sign (made - 1)) (sign_values sign) result }
 {
     match sign {
         None => Ok(made),
@@ -59,7 +59,7 @@ fn lower_sign(operations: &mut Vec<Operation>, made: u32, sign: Option<Sign>) ->
 
 /// The sum or the difference of two values.
 fn sum_of(sign: Sign, left: u32, right: u32) -> Operation
-    ensures { result ≡ added sign left right }
+    ensures { result ≡ sum_operation sign left right }
 {
     match sign {
         Sign::Plus => Operation::Add(left, right),
@@ -70,7 +70,7 @@ fn sum_of(sign: Sign, left: u32, right: u32) -> Operation
 /// Appends a simple expression's operations.
 #[cycle(lowering)]
 fn lower_simple(operations: &mut Vec<Operation>, made: u32, simple: &Simple) -> Result<u32, Memory>
-    ensures { Lowers made operations.old.items operations.new.items (sum_operations made (sum simple.now)) (sum_values (sum simple.now)) result }
+    ensures { AppendsCode made operations.old.items operations.new.items (sum_operations made (sum simple.now)) (sum_values (sum simple.now)) result }
 {
     let first = lower_term(operations, made, &simple.first)?;
     let mut last = lower_sign(operations, first, simple.sign)?;
@@ -88,7 +88,7 @@ fn lower_statement(
     made: u32,
     statement: &Statement,
 ) -> Result<u32, Memory>
-    ensures { Lowers made operations.old.items operations.new.items (call_operations made (call statement.now)) (call_values (call statement.now)) result }
+    ensures { AppendsCode made operations.old.items operations.new.items (call_operations made (call statement.now)) (call_values (call statement.now)) result }
 {
     match statement {
         Statement::WriteInt { value, width } => {
