@@ -1,3 +1,5 @@
 mod Samples
 mod More
 mod Formed
+mod Spoiled
+mod Types

@@ -1,4 +1,9 @@
 pub mod Tables
 pub mod Numbers
 pub mod Ranked
-pub mod Sound
+pub mod Typed
+pub mod Constructs
+pub mod Deeds
+pub mod Handing
+pub mod Tree
+pub mod Programs

@@ -14,7 +14,7 @@ use Rattle.ob_types.specs.declared.tree.Unary.{Unary}
 use Rattle.ob_types.specs.declared.tree.Unary.TheVariants.{Negate, Complement, Not, Abs, Odd}
 use Rattle.ob_types.specs.declared.tree.Binary.{Binary}
 use Rattle.ob_types.specs.declared.tree.Binary.TheVariants.{Add, Subtract, Multiply, Div, Mod, Union, Difference, Intersection, SymmetricDifference, Subset, Superset, Lsl, Asr, Ror}
-use Rattle.ob_sound.proofs.Tables.{none_some, some_same}
+use Rattle.ob_types.proofs.Tests.{none_some, some_same}
 
 pub truth_lt : (b : Bool) → truth b < 2 ^ 64
 truth_lt true = omega arith

@@ -9,7 +9,7 @@ use Rattle.ob_types.specs.Table.{Table}
 use Rattle.ob_types.specs.Forms.{all, nests_by, if_base, nests, record_nests, rooted}
 use Rattle.ob_types.specs.Forms.{all_below, types_fine}
 use Rattle.ob_types.specs.Ranks.{Ranks}
-use Rattle.ob_sound.proofs.Tables.{and_from}
+use Rattle.ob_types.proofs.Tests.{and_from, below_from}
 
 kind_nests : (nest whole : ℕ → Bool) (kind : TypeKind) → ((n e : ℕ) → kind ≡ Array (Some n) e → nest e ≡ true) → ((r : ℕ) → kind ≡ RecordOf r → whole r ≡ true) → nests_by nest whole kind ≡ true
 kind_nests nest whole (Array (Some n) e) f g = f n e refl
@@ -23,10 +23,6 @@ base_from test (Some b) f = f b refl
 all_from : (test : ℕ → Bool) (xs : List ℕ) → ((i x : ℕ) → slice_get xs i ≡ Some x → test x ≡ true) → all test xs ≡ true
 all_from test [] f = refl
 all_from test (x ∷ xs) f = and_from (test x) (all test xs) (f 0 x refl) (all_from test xs (λ i y at. f (suc i) y at))
-
-below_from : (n : ℕ) (test : ℕ → Bool) → ((i : ℕ) → i < n → test i ≡ true) → all_below n test ≡ true
-below_from zero test f = refl
-below_from (suc n) test f = and_from (test n) (all_below n test) (f n (omega arith)) (below_from n test (λ i l. f i (omega (arith, l))))
 
 module _ (t : Table) (ranks : Ranks t) where
   mutual

@@ -10,30 +10,9 @@ use Rattle.ob_types.specs.declared.types.TypeKind.TheVariants.{Bool as Boolean, 
 use Rattle.ob_types.specs.Table.{Table}
 use Rattle.ob_types.specs.Forms.{Form, Truth, Small, Number, ToRecord, Routines, Exactly, scalar_form, repeated, joined, base_forms, form_or_zero, forms_by, all, nests_by, if_base, forms_within, record_forms_within, nests, record_nests, rooted, forms, record_forms}
 use Rattle.ob_types.specs.Forms.{all_below, types_fine}
+use Rattle.ob_types.proofs.Tests.{none_some, some_same, and_of, no, below, less_or_past, and_from}
 
--- options and booleans
-
-pub none_some : {A X : Type 0} (x : A) → None ≡ Some x → X
-none_some {A = A} x e = absurd (bad e)
-  where
-    bad : None ≡ Some x → ⊥
-    bad e = cc
-
-pub some_same : {A : Type 0} (a b : A) → Some a ≡ Some b → a ≡ b
-some_same a b e = cc
-
-pub and_of : (a b : Bool) → (a && b) ≡ true → (a ≡ true) × (b ≡ true)
-and_of true b h = (refl, h)
-and_of false b h = absurd (false_true h)
-  where
-    false_true : false ≡ true → ⊥
-    false_true e = cc
-
-pub no : {A : Type 0} → false ≡ true → A
-no e = absurd (bad e)
-  where
-    bad : false ≡ true → ⊥
-    bad e = cc
+-- booleans
 
 or_right : (a b : Bool) → b ≡ true → (a || b) ≡ true
 or_right true b h = refl
@@ -57,29 +36,6 @@ or_cases : (e : Bool) (o : Option ℕ) (f : ℕ → Bool) → (e || or_base o f)
 or_cases true o f h = inl refl
 or_cases false None f h = no h
 or_cases false (Some a) f h = inr (a, refl, h)
-
-pub below : (n : ℕ) (test : ℕ → Bool) → all_below n test ≡ true → (i : ℕ) → i < n → test i ≡ true
-below zero test h i l = absurd (omega (arith, l))
-below (suc n) test h i l = by_eq (eq_or_less i n l) (λ less. below n test (and_of (test n) (all_below n test) h).1 i less)
-  where
-    eq_or_less : (i n : ℕ) → i < suc n → (i ≡ n) ⊎ (i < n)
-    eq_or_less i n l = grind arith
-
-    by_eq : (i ≡ n) ⊎ (i < n) → (i < n → test i ≡ true) → test i ≡ true
-    by_eq (inl e) go = subst (λ k. test k ≡ true) (sym e) (and_of (test n) (all_below n test) h).0
-    by_eq (inr less) go = go less
-
-pub and_from : (a b : Bool) → a ≡ true → b ≡ true → (a && b) ≡ true
-and_from true b h g = g
-and_from false b h g = no h
-
-pub less_or_past : (i n : ℕ) → (i < n) ⊎ (n ≤ i)
-less_or_past i n = grind arith
-
-pub all_at : {A : Type 0} (test : A → Bool) (xs : List A) → all test xs ≡ true → (i : ℕ) (x : A) → slice_get xs i ≡ Some x → test x ≡ true
-all_at test [] h i x at = none_some x at
-all_at test (y ∷ ys) h zero x at = subst (λ z. test z ≡ true) (some_same y x at) (and_of (test y) (all test ys) h).0
-all_at test (y ∷ ys) h (suc i) x at = all_at test ys (and_of (test y) (all test ys) h).1 i x at
 
 -- lists
 

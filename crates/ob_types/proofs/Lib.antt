@@ -1,2 +1,4 @@
 pub mod Tests
 pub mod Counting
+mod Told
+mod Depth

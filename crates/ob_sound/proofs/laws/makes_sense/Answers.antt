@@ -1,4 +1,4 @@
-use Rattle.ob_sound.proofs.Sound.{makes_sense}
+use Rattle.ob_sound.proofs.Programs.{makes_sense}
 use Rattle.ob_sound.proofs.laws.makes_sense.Goals as goal
 
 pub returns : goal.returns
