@@ -24,6 +24,7 @@ fn main(rt: HostRuntime) -> anyhow::Result<ExitCode> {
     let high = effects::compare(&rt, text.as_str(), 0x8000_0000)?;
     programs::run_words(&rt)?;
     programs::run_services(&rt)?;
+    programs::run_largest(&rt)?;
     let text = fs::read_to_string(&rt, "a64-programs.txt")?;
     let programs = programs::compare(&rt, text.as_str())?;
     if low && high && programs {

@@ -3,7 +3,7 @@
 use crate::effects::byte_of;
 use a64_machine::Machine;
 use image_form::{Bytes, Image, Words};
-use std::alloc::Global;
+use std::alloc::{AllocError, Global};
 use trc_base::{CleanSink, MemSink};
 
 /// A loop that counts to a hundred over and over.
@@ -85,7 +85,7 @@ fn machine(
     frame: u32,
 ) -> anyhow::Result<Option<Machine>> {
     if words.is_empty()
-        || globals > 4096
+        || globals > 8_388_608
         || globals % 8 != 0
         || frame == 0
         || frame > 32_768
@@ -122,6 +122,29 @@ pub fn run_loop(rt: &(impl Print + AllocGlobal), name: &str, steps: &str) -> any
         println!(rt; "{halt:?}")?;
     }
     Ok(())
+}
+
+/// The greatest image that a machine loads, whose words add 1 to X0, run for a few steps.
+pub fn run_largest(rt: &(impl Print + AllocGlobal)) -> anyhow::Result<()> {
+    let words = filled(rt.alloc(), 0x9100_0400, 262_144)?;
+    let constants = filled(rt.alloc(), 1, 2_097_152)?;
+    if let Some(machine) = machine(
+        rt.alloc(),
+        words.as_slice(),
+        constants.as_slice(),
+        &[],
+        8_388_608,
+        32_768,
+    )? {
+        let halt = machine.run(100, &mut CleanSink::new());
+        println!(rt; "largest {halt:?}")?;
+    }
+    Ok(())
+}
+
+/// So many of one item.
+fn filled<T: Copy>(alloc: Global, item: T, count: usize) -> Result<Vec<T>, AllocError> {
+    vec![in alloc; item; count]
 }
 
 /// Words that stop the machine, each alone in an image.
