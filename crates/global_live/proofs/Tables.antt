@@ -116,7 +116,7 @@ leads_there bls to n h = by (cases_lt n (length bls))
     by (inl lt) = lt
     by (inr le) = let a : leads bls to n ≡ false = ap (λ bl. has (successors bl.end) to) (get_or_past bls n no_block le) in cc
 
-has-preds_of : (bls : List CodeBlock) (to n : ℕ) → has (preds_of bls to) n ≡ leads bls to n
+pub has-preds_of : (bls : List CodeBlock) (to n : ℕ) → has (preds_of bls to) n ≡ leads bls to n
 has-preds_of bls to n = has-filter (leads bls to) (places_from 0 (length bls)) n ∙ at_test (leads bls to n) refl
   where
     and_false : (a : Bool) → (a && false) ≡ false
@@ -130,7 +130,7 @@ has-preds_of bls to n = has-filter (leads bls to) (places_from 0 (length bls)) n
 ---- A valid flow
 
 -- what holds of each block of a list holds of the block of any number, if it holds of one that isn't there
-at_block : (p : CodeBlock → Bool) (bls : List CodeBlock) (n : ℕ) → list_all p bls ≡ true → p no_block ≡ true → p (block_at bls n) ≡ true
+pub at_block : (p : CodeBlock → Bool) (bls : List CodeBlock) (n : ℕ) → list_all p bls ≡ true → p no_block ≡ true → p (block_at bls n) ≡ true
 at_block p bls n h none = by (cases_lt n (length bls)) (p (block_at bls n)) refl
   where
     by : ◌⊎◌ (n < length bls) (length bls ≤ n) → (b : Bool) → p (block_at bls n) ≡ b → p (block_at bls n) ≡ true

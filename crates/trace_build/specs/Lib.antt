@@ -1,0 +1,4 @@
+pub mod Traces
+pub mod Ranks
+pub mod Cuts
+pub mod Parents
