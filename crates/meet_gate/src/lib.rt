@@ -22,6 +22,7 @@ enum Meeting {
 }
 
 /// A gate that holds one worker until another is inside, for at most so many turns.
+#[derive(Drop)]
 pub struct MeetGate {
     meeting: Meeting,
     turns: u64,

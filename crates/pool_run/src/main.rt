@@ -7,6 +7,8 @@
 
 mod made;
 mod running;
+#[cfg(test)]
+mod tests;
 
 use made::{Shape, made_tree};
 use running::total_with;

@@ -67,6 +67,7 @@ pub enum Draw {
 }
 
 /// What a look found.
+#[derive(Drop)]
 pub enum Look<W: Work> {
     /// The cell shows this trace, which the seat then has. A trace with a parent has a hint.
     Task { trace: u32, hint: Option<W::Hint> },
