@@ -4,6 +4,7 @@ use crate::statements::{Checked, Stmt};
 use crate::table::Types;
 use crate::types::Formal;
 use items::Items;
+use std::alloc::Global;
 
 /// The value of a constant.
 #[derive(Clone, Copy)]
@@ -95,4 +96,20 @@ pub struct Program {
     pub procedures: Items<Procedure>,
     /// Whether some module imports In.
     pub imports_in: bool,
+}
+
+impl Program {
+    ghost use Rattle.std.specs.Prelude.{◌≡◌, [], false};
+
+    /// A program without modules; takes no memory.
+    pub fn new(alloc: Global) -> Program
+        ensures { result ≡ record { types = record { kinds = []; records = []; signatures = [] }; modules = []; procedures = []; imports_in = false } }
+    {
+        Program {
+            types: Types::new(alloc),
+            modules: Items::new(alloc),
+            procedures: Items::new(alloc),
+            imports_in: false,
+        }
+    }
 }
