@@ -42,7 +42,7 @@ split_at bls b l =
     let o : b < length (old_blocks (joins_of bls) (length bls) bls) = (let s = length-old_blocks (joins_of bls) (length bls) bls in omega (arith, s, l)) in
     get_or_append_left (old_blocks (joins_of bls) (length bls) bls) (map edge_block (new_targets (joins_of bls) bls)) no_block b o ∙ old_at (joins_of bls) (length bls) bls b l
 
-new_at : (joins : List Bool) (bls : List CodeBlock) (b i : ℕ) → i < length (split_targets joins (block_at bls b).end) → get_or (new_targets joins bls) (length (new_targets joins (take b bls)) + i) 0 ≡ get_or (split_targets joins (block_at bls b).end) i 0
+pub new_at : (joins : List Bool) (bls : List CodeBlock) (b i : ℕ) → i < length (split_targets joins (block_at bls b).end) → get_or (new_targets joins bls) (length (new_targets joins (take b bls)) + i) 0 ≡ get_or (split_targets joins (block_at bls b).end) i 0
 new_at joins [] b i l = absurd (omega (arith, l))
 new_at joins (bl ∷ bls) zero i l = let z : 0 + i ≡ i = omega arith in ap (λ k. get_or (split_targets joins bl.end ++ new_targets joins bls) k 0) z ∙ get_or_append_left (split_targets joins bl.end) (new_targets joins bls) 0 i l
 new_at joins (bl ∷ bls) (suc b) i l =
@@ -75,10 +75,10 @@ new_node bls b i l =
 ---- Edges of a test
 
 -- an edge of a test leads where it led, or to a new node on it
-abbrev IsEdge : List ℕ → ℕ → ℕ → ℕ → Type 0
+abbrev pub IsEdge : List ℕ → ℕ → ℕ → ℕ → Type 0
 IsEdge split next to to' = (to' ≡ to) ⊎ ((i : ℕ) × (i < length split) × (to' ≡ next + i) × (get_or split i 0 ≡ to))
 
-two_edges : (joins : List Bool) (next one other : ℕ) → let split = filter (is_join joins) (one ∷ other ∷ []) in IsEdge split next one (redirected joins next one) × IsEdge split next other (redirected joins (behind joins next one) other)
+pub two_edges : (joins : List Bool) (next one other : ℕ) → let split = filter (is_join joins) (one ∷ other ∷ []) in IsEdge split next one (redirected joins next one) × IsEdge split next other (redirected joins (behind joins next one) other)
 two_edges joins next one other = at_test (is_join joins one) (is_join joins other)
   where
     at_test : (t u : Bool) → IsEdge (cond t (one ∷ cond u (other ∷ []) []) (cond u (other ∷ []) [])) next one (cond t next one) × IsEdge (cond t (one ∷ cond u (other ∷ []) []) (cond u (other ∷ []) [])) next other (cond u (cond t (suc next) next) other)

@@ -5,3 +5,7 @@ pub mod Targets
 pub mod Carried
 pub mod Points
 pub mod Selection
+pub mod Validity
+pub mod Split
+pub mod FlowValid
+pub mod Rows

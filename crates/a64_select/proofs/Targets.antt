@@ -67,11 +67,11 @@ split_end_below n m next joins (Trap kind) l h k = tt
 abbrev pub leads_below : ℕ → List CodeBlock → Bool
 leads_below n bls = list_all (λ bl. all_below n (successors bl.end)) bls
 
-first_of_all : (x : Bool) (y : Bool) → (x && y) ≡ true → (x ≡ true) × (y ≡ true)
+pub first_of_all : (x : Bool) (y : Bool) → (x && y) ≡ true → (x ≡ true) × (y ≡ true)
 first_of_all true y e = (refl, e)
 first_of_all false y e = cc
 
-both : (x y : Bool) → x ≡ true → y ≡ true → (x && y) ≡ true
+pub both : (x y : Bool) → x ≡ true → y ≡ true → (x && y) ≡ true
 both x y e f = cc
 
 pub old_below : (n m next : ℕ) (joins : List Bool) (bls : List CodeBlock) → n ≤ m → leads_below n bls ≡ true → next + length (new_targets joins bls) ≤ m → leads_below m (old_blocks joins next bls) ≡ true

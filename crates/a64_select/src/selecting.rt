@@ -7,7 +7,7 @@ ghost use Rattle.block_runs.specs.Valid.{is_call, all_below};
 ghost use Rattle.ssa_core.specs.Validity.{IsValid};
 ghost use Rattle.ssa_core.specs.Procedures.{code_blocks};
 ghost use Rattle.a64_select.specs.Selected.{lir_of, joins_of, is_join, split_end, split_targets, redirected, behind, edge_node, freq_at, node_of, old_nodes, new_nodes, split_nodes, with_preds, selected};
-ghost use Rattle.lir_core.specs.Flows.{code_nodes, preds_of};
+ghost use Rattle.lir_core.specs.Flows.{code_nodes, preds_of, IsValidFlow};
 
 use crate::edges::{joins, set_preds};
 use block_runs::{Code, End, Uses};
@@ -227,7 +227,8 @@ fn nodes_of(alloc: Global, blocks: &[Block]) -> Result<Vec<Node>, AllocError>
 /// The flow of a procedure. Linear in its size.
 pub fn select(alloc: Global, proc: &Proc) -> Result<Flow, Memory>
     requires { IsValid proc.now }
-    ensures { IfOk result (λ flow. flow ≡ selected proc.now) }
+    ensures selected { IfOk result (λ flow. flow ≡ selected proc.now) }
+    ensures valid { IfOk result IsValidFlow }
 {
     Ok(Flow {
         nodes: Items::from_vec(nodes_of(alloc, proc.blocks.as_slice())?),

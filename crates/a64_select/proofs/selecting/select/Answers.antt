@@ -1,10 +1,16 @@
-use Rattle.std.proofs.Common.{◌∙◌, ap, arith, length}
+use Rattle.std.proofs.Common.{◌≡◌, ℕ, ◌<◌, ◌≤◌, ◌∙◌, sym, ap, subst, arith, length, List}
+use Rattle.std.specs.Prelude.{true}
 use Rattle.std.specs.List.{list_all}
 use Rattle.std.proofs.lemmas.List.{length-map}
 use Rattle.block_runs.specs.Blocks.{successors}
 use Rattle.block_runs.specs.Valid.{all_below}
 use Rattle.ssa_core.specs.Procedures.{code_block, code_blocks}
+use Rattle.lir_core.specs.declared.flow.Node.{Node}
+use Rattle.lir_core.specs.declared.flow.Flow.{Flow}
+use Rattle.lir_core.specs.Flows.{code_nodes, preds_of, IsValidFlow}
+use Rattle.a64_select.specs.Selected.{split_nodes, with_preds, selected}
 use Rattle.a64_select.proofs.Targets.{code_leads, few_blocks}
+use Rattle.a64_select.proofs.FlowValid.{selected_valid}
 use Rattle.a64_select.proofs.selecting.select.Goals as goal
 
 pub nodes_of-requires-clause-targets : goal.nodes_of-requires-clause-targets
@@ -19,3 +25,10 @@ nodes_of-requires-clause-few c =
     let f = few_blocks (code_blocks c.args.proc.now.blocks) in
     let g = c.requires.code.few in
     omega (arith, e, m, f, g)
+
+pub returns-clause-valid : goal.returns-clause-valid
+returns-clause-valid c =
+    let p = c.args.proc.now in
+    let e : c.from_vec.result ≡ (selected p).nodes =
+          c.from_vec.ensures ∙ (c.in_ok-nodes_of.ensures ∙ ap (λ bs. with_preds (preds_of (code_nodes (split_nodes bs))) 0 (split_nodes bs)) c.as_slice.ensures) in
+    subst (λ (ns : List Node). let f : Flow = record { nodes = ns; values = p.values; args = p.args; counted = p.counted; local_cells = p.local_cells; local_bytes = p.local_bytes } in IsValidFlow f) (sym e) (selected_valid p c.requires)
