@@ -1,12 +1,12 @@
 -- The flow of a valid procedure is valid.
-use Rattle.std.proofs.Common.{◌≡◌, ℕ, zero, suc, ◌+◌, ◌*◌, ◌<◌, ◌≤◌, Bool, true, false, cond, List, [], ◌∷◌, ◌++◌, map, length, get_or, Option, Some, None, refl, sym, ap, subst, ◌∙◌, arith}
-use Rattle.std.specs.Prelude.{◌&&◌, nat_lt, slice_get}
+use Rattle.std.proofs.Common.{◌≡◌, ℕ, zero, suc, ◌+◌, ◌<◌, ◌≤◌, Bool, true, false, List, [], ◌∷◌, map, length, Option, Some, None, refl, sym, ap, subst, ◌∙◌, arith}
+use Rattle.std.specs.Prelude.{◌&&◌, slice_get}
 use mathlib.Core.Bool.{beq}
 use Rattle.std.specs.List.{list_all}
 use Rattle.std.proofs.lemmas.List.{length-append, length-map}
 use Rattle.std.proofs.lemmas.List.Folds.{list_all-append}
 use Rattle.std.proofs.lemmas.Bool.Decides.{nat_tests}
-use Rattle.block_runs.specs.Blocks.{CodeBlock, no_block, block_at}
+use Rattle.block_runs.specs.Blocks.{block_at}
 use Rattle.block_runs.specs.Valid.{is_call, enter_below, IsValidCode}
 use Rattle.ssa_core.specs.declared.procedure.Op.{Op}
 use Rattle.ssa_core.specs.declared.procedure.Block.{Block}
@@ -15,11 +15,10 @@ use Rattle.ssa_core.specs.Procedures.{code_blocks}
 use Rattle.ssa_core.specs.Validity.{IsValid}
 use Rattle.lir_core.specs.declared.flow.Node.{Node}
 use Rattle.lir_core.specs.Flows.{code_node, code_nodes, preds_of, IsSplit, calls_marked, IsValidFlow}
-use Rattle.a64_select.specs.Selected.{joins_of, split_targets, lir_of, node_of, old_nodes, edge_node, new_nodes, split_nodes, with_preds, selected}
-use Rattle.a64_select.specs.Making.{no_node}
+use Rattle.a64_select.specs.Selected.{joins_of, split_targets, lir_of, old_nodes, edge_node, new_nodes, split_nodes, with_preds, selected}
 use Rattle.a64_select.proofs.Splitting.{split_code, with_preds_code, split_blocks}
-use Rattle.a64_select.proofs.Targets.{both, first_of_all, length-joins_of}
-use Rattle.a64_select.proofs.Validity.{slice_there, slice_below, split_valid}
+use Rattle.a64_select.proofs.Targets.{both, first_of_all}
+use Rattle.a64_select.proofs.Validity.{slice_below, split_valid}
 use Rattle.a64_select.proofs.Split.{is_split}
 
 -- a test of nodes that doesn't see predecessors
@@ -121,10 +120,10 @@ module _ (p : Proc) (valid : IsValid p) where
       let h = is_split (code_blocks p.blocks) valid.code.targets n l' in
       subst (IsSplit (code_nodes nodes)) at (subst (λ bls. IsSplit bls (block_at bls n)) (sym code_is) h)
     where
-    code_there : (ns : List Node) (i : ℕ) (x : Node) → slice_get ns i ≡ Some x → block_at (code_nodes ns) i ≡ code_node x
-    code_there [] i x e = cc
-    code_there (y ∷ ns) zero x e = let s : y ≡ x = cc in ap code_node s
-    code_there (y ∷ ns) (suc i) x e = code_there ns i x e
+      code_there : (ns : List Node) (i : ℕ) (x : Node) → slice_get ns i ≡ Some x → block_at (code_nodes ns) i ≡ code_node x
+      code_there [] i x e = cc
+      code_there (y ∷ ns) zero x e = let s : y ≡ x = cc in ap code_node s
+      code_there (y ∷ ns) (suc i) x e = code_there ns i x e
 
   pub selected_valid : IsValidFlow (selected p)
   selected_valid = record {

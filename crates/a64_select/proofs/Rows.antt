@@ -3,7 +3,7 @@ use Rattle.std.proofs.Common.{◌≡◌, ℕ, Bool, true, false, List, [], ◌�
 use Rattle.block_runs.specs.declared.code.Code.{Code}
 use Rattle.block_runs.specs.declared.code.Code.TheVariants.{Const, Global, Load, Store, Add, Svc}
 use Rattle.block_runs.specs.declared.end.End.{End}
-use Rattle.block_runs.specs.declared.end.End.TheVariants.{Jump, Branch, Nonzero, Return, Trap}
+use Rattle.block_runs.specs.declared.end.End.TheVariants.{Jump, Branch, Nonzero, Return}
 use Rattle.ssa_core.specs.declared.procedure.Op.{Op}
 use Rattle.ssa_core.specs.declared.procedure.Block.{Block}
 use Rattle.ssa_core.specs.declared.procedure.Proc.{Proc}
@@ -103,4 +103,3 @@ pub two_back_edges : selected two_back_edges_proc ≡ flow 1 (
     node ([]) ([]) (Jump 1 ([])) 4 (2 ∷ []) None ∷
     [])
 two_back_edges = refl
-

@@ -1,23 +1,23 @@
 -- The flow of a valid procedure is valid: its code.
-use Rattle.std.proofs.Common.{◌≡◌, ◌≢◌, ℕ, zero, suc, ◌+◌, ◌-◌, ◌*◌, ◌<◌, ◌≤◌, Bool, true, false, cond, List, [], ◌∷◌, ◌++◌, map, length, take, drop, get_or, Option, Some, None, inl, inr, refl, sym, ap, subst, ◌∙◌, arith}
-use Rattle.std.specs.Prelude.{◌⊎◌, ◌&&◌, ◌==◌, nat_lt, nat_le, filter, min, slice_get, option_to_list}
+use Rattle.std.proofs.Common.{◌≡◌, ℕ, zero, suc, ◌+◌, ◌-◌, ◌*◌, ◌<◌, ◌≤◌, Bool, true, false, cond, List, [], ◌∷◌, ◌++◌, map, length, take, get_or, Some, inl, inr, refl, sym, ap, subst, ◌∙◌, arith}
+use Rattle.std.specs.Prelude.{◌⊎◌, ◌&&◌, ◌==◌, nat_lt, filter, slice_get, option_to_list}
 use Rattle.std.specs.List.{list_all}
-use Rattle.std.proofs.lemmas.List.{length-append, length-map, append_assoc, get_or-map, get_or_append_left, get_or-append_right, get_or-append-add, get_or_default, get_or_past}
+use Rattle.std.proofs.lemmas.List.{length-append, append_assoc, get_or-map, get_or-append_right, get_or_default}
 use Rattle.std.proofs.lemmas.List.Folds.{list_all-append}
 use Rattle.std.proofs.lemmas.Bool.{cases_lt}
 use Rattle.std.proofs.lemmas.Bool.Decides.{nat_tests}
 use Rattle.block_runs.specs.declared.end.End.{End}
 use Rattle.block_runs.specs.declared.end.End.TheVariants.{Jump, Branch, Nonzero, Return, Trap}
 use Rattle.block_runs.specs.Blocks.{Operation, CodeBlock, no_block, block_at, end_uses, successors}
-use Rattle.block_runs.specs.Live.{has, defs_of, block_makes, reads, Live}
+use Rattle.block_runs.specs.Live.{has, block_makes, reads, Live}
 use Rattle.block_runs.specs.Live.Live.{Here, Later}
 use Rattle.block_runs.specs.Valid.{operation_fits, condition_fits, params_of, arguments_fit, all_below, uses_of, block_reads, made, times, size_of, IsPlaced, IsValidCode}
 use Rattle.lir_core.specs.Lines.{AllBelow}
 use Rattle.a64_select.specs.Selected.{joins_of, is_join, split_targets, redirected, behind, split_end}
 use Rattle.a64_select.specs.Carrying.{new_targets, first_new}
 use Rattle.a64_select.proofs.Preds.{all_below_each, all_at}
-use Rattle.a64_select.proofs.Splitting.{edge_block, old_blocks, split_by, split_blocks, split_targets_few}
-use Rattle.a64_select.proofs.Targets.{leads_below, both, first_of_all, split_targets_below, new_targets_below, length-old_blocks, length-split_by, split_below, few_blocks}
+use Rattle.a64_select.proofs.Splitting.{edge_block, old_blocks, split_blocks, split_targets_few}
+use Rattle.a64_select.proofs.Targets.{leads_below, both, first_of_all, new_targets_below, length-old_blocks, length-split_by, split_below, few_blocks}
 use Rattle.a64_select.proofs.Carried.{split_at, new_at, IsEdge, two_edges}
 
 ---- Sizes
@@ -133,16 +133,16 @@ params_new bls m l =
 redirect_params : (bls : List CodeBlock) (next to : ℕ) → to < length bls → length bls ≤ next → (params_of bls to == 0) ≡ true → (params_of (split_blocks bls) (redirected (joins_of bls) next to) == 0) ≡ true
 redirect_params bls next to l n h = at_test (is_join (joins_of bls) to)
   where
-  at_test : (t : Bool) → (params_of (split_blocks bls) (cond t next to) == 0) ≡ true
-  at_test true = ap (λ k. k == 0) (params_new bls next n)
-  at_test false = ap (λ k. k == 0) (params_old bls to l) ∙ h
+    at_test : (t : Bool) → (params_of (split_blocks bls) (cond t next to) == 0) ≡ true
+    at_test true = ap (λ k. k == 0) (params_new bls next n)
+    at_test false = ap (λ k. k == 0) (params_old bls to l) ∙ h
 
 behind_new : (joins : List Bool) (n next to : ℕ) → n ≤ next → n ≤ behind joins next to
 behind_new joins n next to h = at_test (is_join joins to)
   where
-  at_test : (t : Bool) → n ≤ cond t (suc next) next
-  at_test true = omega (arith, h)
-  at_test false = h
+    at_test : (t : Bool) → n ≤ cond t (suc next) next
+    at_test true = omega (arith, h)
+    at_test false = h
 
 two_arguments : (bls : List CodeBlock) (next one other : ℕ) → AllBelow (length bls) (one ∷ other ∷ []) → length bls ≤ next → (params_of bls one == 0 && params_of bls other == 0) ≡ true
     → (params_of (split_blocks bls) (redirected (joins_of bls) next one) == 0 && params_of (split_blocks bls) (redirected (joins_of bls) (behind (joins_of bls) next one) other) == 0) ≡ true
@@ -178,9 +178,9 @@ bare_filter : (bls : List CodeBlock) (test : ℕ → Bool) (xs : List ℕ) → A
 bare_filter bls test [] h = tt
 bare_filter bls test (x ∷ xs) h = at_test (test x) (bare_filter bls test xs h.1)
   where
-  at_test : (b : Bool) → AreBare bls (filter test xs) → AreBare bls (cond b (x ∷ filter test xs) (filter test xs))
-  at_test true r = (h.0, r)
-  at_test false r = r
+    at_test : (b : Bool) → AreBare bls (filter test xs) → AreBare bls (cond b (x ∷ filter test xs) (filter test xs))
+    at_test true r = (h.0, r)
+    at_test false r = r
 
 two_bare : (bls : List CodeBlock) (one other : ℕ) → (params_of bls one == 0 && params_of bls other == 0) ≡ true → AreBare bls (filter (is_join (joins_of bls)) (one ∷ other ∷ []))
 two_bare bls one other h = let p = first_of_all (params_of bls one == 0) (params_of bls other == 0) h in bare_filter bls (is_join (joins_of bls)) (one ∷ other ∷ []) (p.0, (p.1, tt))
@@ -243,42 +243,44 @@ has_one a xs = ap (λ t. cond t true (has xs a)) (same_self a)
 has_other : (a b : ℕ) → has (a ∷ b ∷ []) b ≡ true
 has_other a b = at_test (a == b)
   where
-  at_test : (t : Bool) → cond t true (has (b ∷ []) b) ≡ true
-  at_test true = refl
-  at_test false = has_one b []
+    at_test : (t : Bool) → cond t true (has (b ∷ []) b) ≡ true
+    at_test true = refl
+    at_test false = has_one b []
 
 pub has_two : (a b v : ℕ) → has (a ∷ b ∷ []) v ≡ true → (v ≡ a) ⊎ (v ≡ b)
 has_two a b v h = at_test (a == v) (b == v) refl refl h
   where
-  at_test : (t u : Bool) → (a == v) ≡ t → (b == v) ≡ u → cond t true (cond u true false) ≡ true → (v ≡ a) ⊎ (v ≡ b)
-  at_test true u e f h = inl (grind (arith, nat_tests, e))
-  at_test false true e f h = inr (grind (arith, nat_tests, f))
-  at_test false false e f h = cc
+    at_test : (t u : Bool) → (a == v) ≡ t → (b == v) ≡ u → cond t true (cond u true false) ≡ true → (v ≡ a) ⊎ (v ≡ b)
+    at_test true u e f h = inl (grind (arith, nat_tests, e))
+    at_test false true e f h = inr (grind (arith, nat_tests, f))
+    at_test false false e f h = cc
 
 two_origin : (bls : List CodeBlock) (b one other to : ℕ) → AllBelow (length bls) (one ∷ other ∷ []) → split_targets (joins_of bls) (block_at bls b).end ≡ filter (is_join (joins_of bls)) (one ∷ other ∷ [])
     → has (redirected (joins_of bls) (first_new bls b) one ∷ redirected (joins_of bls) (behind (joins_of bls) (first_new bls b) one) other ∷ []) to ≡ true → has (one ∷ other ∷ []) (origin bls to) ≡ true
 two_origin bls b one other to l s h = at (has_two (redirected j next one) (redirected j (behind j next one) other) to h)
   where
-  j : List Bool
-  j = joins_of bls
-  next : ℕ
-  next = first_new bls b
-  at : (to ≡ redirected (joins_of bls) (first_new bls b) one) ⊎ (to ≡ redirected (joins_of bls) (behind (joins_of bls) (first_new bls b) one) other) → has (one ∷ other ∷ []) (origin bls to) ≡ true
-  at (inl e) =
-      let two = two_edges (joins_of bls) (first_new bls b) one other in
-      let o = edge_origin bls b one (redirected (joins_of bls) (first_new bls b) one) l.0 (subst (λ xs. IsEdge xs (first_new bls b) one (redirected (joins_of bls) (first_new bls b) one)) (sym s) two.0) in
-      ap (has (one ∷ other ∷ [])) (ap (origin bls) e ∙ o) ∙ has_one one (other ∷ [])
-  at (inr e) =
-      let two = two_edges (joins_of bls) (first_new bls b) one other in
-      let o = edge_origin bls b other (redirected (joins_of bls) (behind (joins_of bls) (first_new bls b) one) other) l.1.0 (subst (λ xs. IsEdge xs (first_new bls b) other (redirected (joins_of bls) (behind (joins_of bls) (first_new bls b) one) other)) (sym s) two.1) in
-      ap (has (one ∷ other ∷ [])) (ap (origin bls) e ∙ o) ∙ has_other one other
+    j : List Bool
+    j = joins_of bls
+
+    next : ℕ
+    next = first_new bls b
+
+    at : (to ≡ redirected (joins_of bls) (first_new bls b) one) ⊎ (to ≡ redirected (joins_of bls) (behind (joins_of bls) (first_new bls b) one) other) → has (one ∷ other ∷ []) (origin bls to) ≡ true
+    at (inl e) =
+        let two = two_edges (joins_of bls) (first_new bls b) one other in
+        let o = edge_origin bls b one (redirected (joins_of bls) (first_new bls b) one) l.0 (subst (λ xs. IsEdge xs (first_new bls b) one (redirected (joins_of bls) (first_new bls b) one)) (sym s) two.0) in
+        ap (has (one ∷ other ∷ [])) (ap (origin bls) e ∙ o) ∙ has_one one (other ∷ [])
+    at (inr e) =
+        let two = two_edges (joins_of bls) (first_new bls b) one other in
+        let o = edge_origin bls b other (redirected (joins_of bls) (behind (joins_of bls) (first_new bls b) one) other) l.1.0 (subst (λ xs. IsEdge xs (first_new bls b) other (redirected (joins_of bls) (behind (joins_of bls) (first_new bls b) one) other)) (sym s) two.1) in
+        ap (has (one ∷ other ∷ [])) (ap (origin bls) e ∙ o) ∙ has_other one other
 
 pub end_origin : (bls : List CodeBlock) (b to : ℕ) (e : End) → (block_at bls b).end ≡ e → AllBelow (length bls) (successors e) → has (successors (split_end (joins_of bls) (first_new bls b) e)) to ≡ true → has (successors e) (origin bls to) ≡ true
 end_origin bls b to (Jump t args) is l h = at_test (t == to) refl h
   where
-  at_test : (c : Bool) → (t == to) ≡ c → cond c true false ≡ true → has (t ∷ []) (origin bls to) ≡ true
-  at_test true e h = let s : to ≡ t = grind (arith, nat_tests, e) in ap (has (t ∷ [])) (ap (origin bls) s ∙ origin_old bls t l.0) ∙ has_one t []
-  at_test false e h = cc
+    at_test : (c : Bool) → (t == to) ≡ c → cond c true false ≡ true → has (t ∷ []) (origin bls to) ≡ true
+    at_test true e h = let s : to ≡ t = grind (arith, nat_tests, e) in ap (has (t ∷ [])) (ap (origin bls) s ∙ origin_old bls t l.0) ∙ has_one t []
+    at_test false e h = cc
 end_origin bls b to (Branch k a c one other) is l h = two_origin bls b one other to l (ap (split_targets (joins_of bls)) is) h
 end_origin bls b to (Nonzero a one other) is l h = two_origin bls b one other to l (ap (split_targets (joins_of bls)) is) h
 end_origin bls b to (Return a) is l h = cc
@@ -325,47 +327,49 @@ module _ (bls : List CodeBlock) (v : ℕ) (lead : leads_below (length bls) bls �
   here_down : (b : ℕ) (bl : CodeBlock) → slice_get sb b ≡ Some bl → has bl.params v ≡ false → reads bl.ops bl.end v ≡ true → Live bls v (origin bls b)
   here_down b bl g p r = at (cases_lt b (length bls))
     where
-    is : block_at (split_blocks bls) b ≡ bl
-    is = slice_there (split_blocks bls) b bl no_block g
-    at : (b < length bls) ⊎ (length bls ≤ b) → Live bls v (origin bls b)
-    at (inl l) =
-        let s : bl ≡ redirect (joins_of bls) (first_new bls b) (block_at bls b) = sym is ∙ split_at bls b l in
-        subst (Live bls v) (sym (origin_old bls b l))
+      is : block_at (split_blocks bls) b ≡ bl
+      is = slice_there (split_blocks bls) b bl no_block g
+
+      at : (b < length bls) ⊎ (length bls ≤ b) → Live bls v (origin bls b)
+      at (inl l) =
+          let s : bl ≡ redirect (joins_of bls) (first_new bls b) (block_at bls b) = sym is ∙ split_at bls b l in
+          subst (Live bls v) (sym (origin_old bls b l))
           (Here b (block_at bls b) (slice_at bls b no_block l) (ap (λ x. has x.params v) (sym s) ∙ p)
-            (sym (reads_same (block_at bls b).ops (joins_of bls) (first_new bls b) (block_at bls b).end v) ∙ (ap (λ x. reads x.ops x.end v) (sym s) ∙ r)))
-    at (inr l) =
-        let s : bl ≡ edge_block (get_or (new_targets (joins_of bls) bls) (b - length bls) 0) = sym is ∙ new_block bls b l (slice_below (split_blocks bls) b bl g) in
-        let f : reads bl.ops bl.end v ≡ false = ap (λ x. reads x.ops x.end v) s in
-        cc
+          (sym (reads_same (block_at bls b).ops (joins_of bls) (first_new bls b) (block_at bls b).end v) ∙ (ap (λ x. reads x.ops x.end v) (sym s) ∙ r)))
+      at (inr l) =
+          let s : bl ≡ edge_block (get_or (new_targets (joins_of bls) bls) (b - length bls) 0) = sym is ∙ new_block bls b l (slice_below (split_blocks bls) b bl g) in
+          let f : reads bl.ops bl.end v ≡ false = ap (λ x. reads x.ops x.end v) s in
+          cc
 
   later_down : (b to : ℕ) (bl : CodeBlock) → slice_get sb b ≡ Some bl → has (block_makes bl) v ≡ false → has (successors bl.end) to ≡ true → Live bls v (origin bls to) → Live bls v (origin bls b)
   later_down b to bl g m t on = at (cases_lt b (length bls))
     where
-    is : block_at (split_blocks bls) b ≡ bl
-    is = slice_there (split_blocks bls) b bl no_block g
-    at : (b < length bls) ⊎ (length bls ≤ b) → Live bls v (origin bls b)
-    at (inl l) =
-        let s : bl ≡ redirect (joins_of bls) (first_new bls b) (block_at bls b) = sym is ∙ split_at bls b l in
-        let h = end_origin bls b to (block_at bls b).end refl (targets_at bls b lead l) (ap (λ x. has (successors x.end) to) (sym s) ∙ t) in
-        subst (Live bls v) (sym (origin_old bls b l))
+      is : block_at (split_blocks bls) b ≡ bl
+      is = slice_there (split_blocks bls) b bl no_block g
+
+      at : (b < length bls) ⊎ (length bls ≤ b) → Live bls v (origin bls b)
+      at (inl l) =
+          let s : bl ≡ redirect (joins_of bls) (first_new bls b) (block_at bls b) = sym is ∙ split_at bls b l in
+          let h = end_origin bls b to (block_at bls b).end refl (targets_at bls b lead l) (ap (λ x. has (successors x.end) to) (sym s) ∙ t) in
+          subst (Live bls v) (sym (origin_old bls b l))
           (Later b (origin bls to) (block_at bls b) (slice_at bls b no_block l) (ap (λ x. has (block_makes x) v) (sym s) ∙ m) h on)
-    at (inr l) =
-        let k = slice_below (split_blocks bls) b bl g in
-        let x = get_or (new_targets (joins_of bls) bls) (b - length bls) 0 in
-        let s : bl ≡ edge_block x = sym is ∙ new_block bls b l k in
-        let z = length-split_by (joins_of bls) bls in
-        let i : b - length bls < length (new_targets (joins_of bls) bls) = omega (arith, z, l, k) in
-        let n = below_at (length bls) (new_targets (joins_of bls) bls) (b - length bls) (new_targets_below (length bls) (joins_of bls) bls lead) i in
-        let o : has (x ∷ []) to ≡ true = ap (λ y. has (successors y.end) to) (sym s) ∙ t in
-        let e : to ≡ x = single x to o in
-        subst (Live bls v) ((ap (origin bls) e ∙ origin_old bls x n) ∙ sym (origin_from bls b l)) on
-      where
-      single : (a c : ℕ) → has (a ∷ []) c ≡ true → c ≡ a
-      single a c h = at_test (a == c) refl h
+      at (inr l) =
+          let k = slice_below (split_blocks bls) b bl g in
+          let x = get_or (new_targets (joins_of bls) bls) (b - length bls) 0 in
+          let s : bl ≡ edge_block x = sym is ∙ new_block bls b l k in
+          let z = length-split_by (joins_of bls) bls in
+          let i : b - length bls < length (new_targets (joins_of bls) bls) = omega (arith, z, l, k) in
+          let n = below_at (length bls) (new_targets (joins_of bls) bls) (b - length bls) (new_targets_below (length bls) (joins_of bls) bls lead) i in
+          let o : has (x ∷ []) to ≡ true = ap (λ y. has (successors y.end) to) (sym s) ∙ t in
+          let e : to ≡ x = single x to o in
+          subst (Live bls v) ((ap (origin bls) e ∙ origin_old bls x n) ∙ sym (origin_from bls b l)) on
         where
-        at_test : (q : Bool) → (a == c) ≡ q → cond q true false ≡ true → c ≡ a
-        at_test true e h = grind (arith, nat_tests, e)
-        at_test false e h = cc
+          single : (a c : ℕ) → has (a ∷ []) c ≡ true → c ≡ a
+          single a c h = at_test (a == c) refl h
+            where
+              at_test : (q : Bool) → (a == c) ≡ q → cond q true false ≡ true → c ≡ a
+              at_test true e h = grind (arith, nat_tests, e)
+              at_test false e h = cc
 
   pub live_down : (b : ℕ) → Live sb v b → Live bls v (origin bls b)
   live_down _ (Here b bl g p r) = here_down b bl g p r
@@ -377,15 +381,15 @@ split_placed bls some lead h = record {
   own = λ v b bl g m l. at v b bl g m l (cases_lt b (length bls));
 }
   where
-  at : (v b : ℕ) (bl : CodeBlock) → slice_get (split_blocks bls) b ≡ Some bl → has (block_makes bl) v ≡ true → Live (split_blocks bls) v b → (b < length bls) ⊎ (length bls ≤ b) → ⊥
-  at v b bl g m l (inl n) =
-      let s : block_at bls b ≡ block_at bls b = refl in
-      let e : redirect (joins_of bls) (first_new bls b) (block_at bls b) ≡ bl = sym (split_at bls b n) ∙ slice_there (split_blocks bls) b bl no_block g in
-      h.own v b (block_at bls b) (slice_at bls b no_block n) (ap (λ x. has (block_makes x) v) e ∙ m) (subst (Live bls v) (origin_old bls b n) (live_down bls v lead b l))
-  at v b bl g m l (inr n) =
-      let e : edge_block (get_or (new_targets (joins_of bls) bls) (b - length bls) 0) ≡ bl = sym (new_block bls b n (slice_below (split_blocks bls) b bl g)) ∙ slice_there (split_blocks bls) b bl no_block g in
-      let f : has (block_makes bl) v ≡ false = ap (λ x. has (block_makes x) v) (sym e) in
-      cc
+    at : (v b : ℕ) (bl : CodeBlock) → slice_get (split_blocks bls) b ≡ Some bl → has (block_makes bl) v ≡ true → Live (split_blocks bls) v b → (b < length bls) ⊎ (length bls ≤ b) → ⊥
+    at v b bl g m l (inl n) =
+        let s : block_at bls b ≡ block_at bls b = refl in
+        let e : redirect (joins_of bls) (first_new bls b) (block_at bls b) ≡ bl = sym (split_at bls b n) ∙ slice_there (split_blocks bls) b bl no_block g in
+        h.own v b (block_at bls b) (slice_at bls b no_block n) (ap (λ x. has (block_makes x) v) e ∙ m) (subst (Live bls v) (origin_old bls b n) (live_down bls v lead b l))
+    at v b bl g m l (inr n) =
+        let e : edge_block (get_or (new_targets (joins_of bls) bls) (b - length bls) 0) ≡ bl = sym (new_block bls b n (slice_below (split_blocks bls) b bl g)) ∙ slice_there (split_blocks bls) b bl no_block g in
+        let f : has (block_makes bl) v ≡ false = ap (λ x. has (block_makes x) v) (sym e) in
+        cc
 
 ---- The code of a flow
 

@@ -1,7 +1,7 @@
 //! Procedures in blocks, in static single assignment form (Brandis and Mössenböck 1994): what lowering makes and selection takes.
 //!
 //! A procedure has numbered blocks with parameters in place of phi functions. `specs/Procedures.antt` gives it the view over
-//! which `block_runs` says what code means; `specs/Validity.antt` says when it is valid, and `is_valid` finds out.
+//! which `block_runs` says what code means, and `specs/Validity.antt` says when it is valid, which selection asks for.
 #![tactic(auto)]
 
 mod procedure;

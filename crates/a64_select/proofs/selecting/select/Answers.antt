@@ -1,5 +1,4 @@
-use Rattle.std.proofs.Common.{◌≡◌, ℕ, ◌<◌, ◌≤◌, ◌∙◌, sym, ap, subst, arith, length, List}
-use Rattle.std.specs.Prelude.{true}
+use Rattle.std.proofs.Common.{◌≡◌, ◌∙◌, sym, ap, subst, arith, length, List}
 use Rattle.std.specs.List.{list_all}
 use Rattle.std.proofs.lemmas.List.{length-map}
 use Rattle.block_runs.specs.Blocks.{successors}
@@ -30,5 +29,5 @@ pub returns-clause-valid : goal.returns-clause-valid
 returns-clause-valid c =
     let p = c.args.proc.now in
     let e : c.from_vec.result ≡ (selected p).nodes =
-          c.from_vec.ensures ∙ (c.in_ok-nodes_of.ensures ∙ ap (λ bs. with_preds (preds_of (code_nodes (split_nodes bs))) 0 (split_nodes bs)) c.as_slice.ensures) in
+    c.from_vec.ensures ∙ (c.in_ok-nodes_of.ensures ∙ ap (λ bs. with_preds (preds_of (code_nodes (split_nodes bs))) 0 (split_nodes bs)) c.as_slice.ensures) in
     subst (λ (ns : List Node). let f : Flow = record { nodes = ns; values = p.values; args = p.args; counted = p.counted; local_cells = p.local_cells; local_bytes = p.local_bytes } in IsValidFlow f) (sym e) (selected_valid p c.requires)
