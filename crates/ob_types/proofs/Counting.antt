@@ -30,11 +30,11 @@ kind_same f g w v nest whole e d _ h = refl
 module _ (t : Table) where
   -- a type that is nested at most so deep has the cells that it has deeper down
   mutual
-    stays : (d k : ℕ) → nests t d k ≡ true → cells_within t d k ≡ cells_within t (suc d) k
+    pub stays : (d k : ℕ) → nests t d k ≡ true → cells_within t d k ≡ cells_within t (suc d) k
     stays zero k h = no h
     stays (suc d) k h = kind_same (cells_within t d) (cells_within t (suc d)) (record_within t d) (record_within t (suc d)) (nests t d) (record_nests t d) (stays d) (record_stays d) (kind_of t k) h
 
-    record_stays : (d r : ℕ) → record_nests t d r ≡ true → record_within t d r ≡ record_within t (suc d) r
+    pub record_stays : (d r : ℕ) → record_nests t d r ≡ true → record_within t d r ≡ record_within t (suc d) r
     record_stays zero r h = no h
     record_stays (suc d) r h =
         let parts = and_of (if_base (record_of t r).base (record_nests t d)) (all (nests t d) (types_of (record_of t r).fields)) h in

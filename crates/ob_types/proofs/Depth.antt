@@ -1,5 +1,5 @@
 -- Of the two traps of a call the depth's comes first, however many cells there are.
-use Rattle.std.proofs.Common.{◌≡◌, ℕ, List, [], false, length, refl}
+use Rattle.std.proofs.Common.{◌≡◌, ℕ, [], false, length, refl}
 use Rattle.std.specs.Prelude.{nat_lt}
 use Rattle.run_laws.specs.Turns.{State, Fails}
 use Rattle.ob_types.specs.Store.{Store, Kind}

@@ -1,4 +1,5 @@
 pub mod Tests
 pub mod Counting
+pub mod Growing
 mod Told
 mod Depth

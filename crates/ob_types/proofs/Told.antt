@@ -1,29 +1,21 @@
 -- Worked programs: their checked trees, and what holds of them. Written by bench/checked_rows.py from their texts.
-use Rattle.std.specs.Prelude.{◌≡◌, ℕ, zero, suc, List, [], ◌∷◌, Bool, true, false, Option, Some, None, pos, negsuc, Vec, Box}
+use Rattle.std.specs.Prelude.{◌≡◌, [], ◌∷◌, true, false, Some, None, pos, Vec, Box}
 use Rattle.std.proofs.Common.{refl, arith}
 use Rattle.std.specs.Fmt.{digits}
 use Rattle.std.specs.declared.alloc.Global.{Global as Heap}
-use Rattle.run_laws.specs.Runs.{Outcome, Ended, Trapped, Going}
-use Rattle.ob_types.specs.Store.{Kind, Senseless}
+use Rattle.run_laws.specs.Runs.{Ended, Going}
 use Rattle.ob_types.specs.Meaning.{meaning}
-use Rattle.ob_types.specs.Table.{Table}
-use Rattle.ob_types.specs.declared.types.TypeKind.TheVariants.{Int, Char, Nil, Array, Nothing}
-use Rattle.ob_types.specs.declared.types.TypeKind.TheVariants.{Bool as BoolKind, Byte as ByteKind, Set as SetKind, Text as TextKind, Record as RecordKind, Pointer as PointerKind, Procedure as ProcedureKind}
-use Rattle.ob_types.specs.declared.types.Mode.TheVariants.{Place}
-use Rattle.ob_types.specs.declared.types.Mode.TheVariants.{Value as OfValue, Record as OfRecord, Open as OfOpen}
-use Rattle.ob_types.specs.declared.tree.Unary.TheVariants.{Negate, Complement, Not, Abs, Odd}
-use Rattle.ob_types.specs.declared.tree.Binary.TheVariants.{Add, Subtract, Multiply, Div, Mod, Union, Difference, Intersection, SymmetricDifference, Subset, Superset, Lsl, Asr, Ror}
-use Rattle.ob_types.specs.declared.tree.Relation.TheVariants.{Equal, Unequal, Less, LessEqual, Greater, GreaterEqual}
-use Rattle.ob_types.specs.declared.tree.Base.TheVariants.{Done, Global, Local, Parameter, Text}
-use Rattle.ob_types.specs.declared.tree.Expr.{Expr, Literal, Routine, Load, Guard, Unary', Chain', Compare', CompareTexts', In', IsPointer', IsParameter, Byte', Length, Call', Row_of-Link, end_of-Link, more_of-Link}
-use Rattle.ob_types.specs.declared.tree.Link.{Operate, And, Or, Element, Elements}
+use Rattle.ob_types.specs.declared.types.TypeKind.TheVariants.{Int, Char, Nothing}
+use Rattle.ob_types.specs.declared.types.TypeKind.TheVariants.{Bool as BoolKind, Record as RecordKind}
+use Rattle.ob_types.specs.declared.tree.Unary.TheVariants.{Negate}
+use Rattle.ob_types.specs.declared.tree.Binary.TheVariants.{Div, Mod}
+use Rattle.ob_types.specs.declared.tree.Relation.TheVariants.{Equal, Unequal, Greater}
+use Rattle.ob_types.specs.declared.tree.Base.TheVariants.{Global}
+use Rattle.ob_types.specs.declared.tree.Expr.{Literal, Load, Unary', Chain', Compare', end_of-Link, more_of-Link}
+use Rattle.ob_types.specs.declared.tree.Link.{Operate, And, Or}
 use Rattle.ob_types.specs.declared.tree.Designator.{Whole, Part', end_of-Selector, more_of-Selector}
-use Rattle.ob_types.specs.declared.tree.Selector.{Index, Field, Dereference, Narrow}
-use Rattle.ob_types.specs.declared.tree.Call.{Direct', Indirect', end_of-Argument, more_of-Argument}
-use Rattle.ob_types.specs.declared.tree.Argument.{ByValue, ByPlace, ByRecord, ByOpen}
-use Rattle.ob_types.specs.declared.statements.Label.TheVariants.{One, Range}
-use Rattle.ob_types.specs.declared.statements.Stmt.{Stmt, Assign, CopyArray, CopyRecord, Increase, Decrease, Include, Exclude, New, Assert, OutChar, OutInt, OutString, OutLn, InChar, If', While', Repeat', For', Case', CasePointer', CaseParameter', end_of-Stmt, more_of-Stmt, end_of-Branch, more_of-Branch, end_of-CasePart, more_of-CasePart, end_of-TypePart, more_of-TypePart}
-use Rattle.ob_types.specs.declared.statements.Stmt.{Call as Invoke}
+use Rattle.ob_types.specs.declared.tree.Selector.{Field}
+use Rattle.ob_types.specs.declared.statements.Stmt.{Assign, CopyRecord, OutChar, OutInt, If', For', end_of-Stmt, more_of-Stmt, end_of-Branch, more_of-Branch}
 use Rattle.ob_types.specs.declared.program.Program.{Program}
 
 -- the outside of a box and of a vector

@@ -1,7 +1,7 @@
 -- What the calls on a table of types ask of it: its counts are right, and each type has one number.
-use Rattle.std.specs.Prelude.{◌≡◌, ◌<◌, ◌^◌, ℕ, length, true, Option}
+use Rattle.std.specs.Prelude.{◌≡◌, ◌<◌, ◌^◌, ℕ, length, true, Option, Some, slice_get}
 use Rattle.ob_types.specs.Table.{Table}
-use Rattle.ob_types.specs.Layout.{kind_of, record_of, cells, record_cells}
+use Rattle.ob_types.specs.Layout.{kind_of, record_of, types_of, cells, record_cells}
 use Rattle.ob_types.specs.Assignable.{same}
 use Rattle.ob_types.specs.Forms.{types_fine}
 use Rattle.ob_types.specs.declared.types.TypeKind.TheVariants.{Array}
@@ -19,3 +19,10 @@ pub record IsCounted (t : Table) : Type 0 where
 -- types that are the same have one number
 pub record HasOneNumberEach (t : Table) : Type 0 where
   pub one : (a b : ℕ) → same t a b ≡ true → a ≡ b
+
+-- what types and record types are made of is in the table
+pub record IsClosed (t : Table) : Type 0 where
+  pub element : (k : ℕ) (n : Option ℕ) (e : ℕ) → kind_of t k ≡ Array n e → e < length t.kinds
+  pub whole : (k r : ℕ) → kind_of t k ≡ RecordOf r → r < length t.records
+  pub base : (r b : ℕ) → (record_of t r).base ≡ Some b → b < length t.records
+  pub field : (r i k : ℕ) → slice_get (types_of (record_of t r).fields) i ≡ Some k → k < length t.kinds
