@@ -1,0 +1,7 @@
+mod Constants
+mod Legal
+mod Names
+mod Order
+mod Table
+mod Types
+mod Uses
