@@ -3,7 +3,7 @@ use Rattle.std.specs.Prelude.{◌≡◌, ℕ, suc, ◌<◌, ◌/◌, ◌==◌, B
 use Rattle.block_runs.specs.declared.end.End.TheVariants.{Return}
 use Rattle.block_runs.specs.Blocks.{Operation, CodeBlock, block_at}
 use Rattle.block_runs.specs.Live.{has, block_makes, Live}
-use Rattle.block_runs.specs.Valid.{block_reads}
+use Rattle.block_runs.specs.Valid.{uses_of, block_reads}
 use Rattle.lir_core.specs.declared.flow.Lir.{Lir}
 use Rattle.lir_core.specs.declared.flow.Node.{Node}
 use Rattle.lir_core.specs.declared.flow.Flow.{Flow}
@@ -116,3 +116,11 @@ Fills f makers n old new = IsKnown f makers → IsFull f old → IsFilled f n ne
 -- from the pending nodes on
 abbrev pub Explores : Flow → List ℕ → ℕ → Marks → Marks → Type 0
 Explores f makers v old new = IsKnown f makers → v < f.values → IsRight f v old.rows old.pending → (IsFull f new) × Grows old.rows new.rows
+
+---- What parts of the search promise
+
+abbrev pub operation_reads : List Lir → List ℕ
+operation_reads xs = uses_of (operations_of xs)
+
+abbrev pub Follows : Flow → List ℕ → ℕ → List ℕ → Search → Search → Type 0
+Follows f makers n vs old new = Reaches f makers n vs (marks_of old) (marks_of new)

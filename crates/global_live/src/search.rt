@@ -2,8 +2,6 @@
 
 ghost use Rattle.std.specs.Prelude.{◌≡◌, OnOk, option_to_list};
 ghost use Rattle.block_runs.specs.Blocks.{end_uses};
-ghost use Rattle.block_runs.specs.Valid.{uses_of};
-ghost use Rattle.global_live.specs.Search.{operations_of};
 
 use crate::rows::Rows;
 use lir_core::{Flow, Leave, Lir};
@@ -19,7 +17,7 @@ pub(crate) struct Search {
 }
 
 impl Search {
-    ghost use Rattle.global_live.specs.Search.{marks_of, marked, all_marked, preds_at, Reaches, Explores};
+    ghost use Rattle.global_live.specs.Search.{marks_of, marked, all_marked, operation_reads, preds_at, Explores, Follows};
 
     /// Follows all that a node's operations read.
     pub(crate) fn follow_operations(
@@ -29,7 +27,7 @@ impl Search {
         number: u32,
         lirs: &[Lir],
     ) -> Result<(), Memory>
-        ensures { OnOk result (Reaches flow.now makers.now number (uses_of (operations_of lirs.now)) (marks_of self.old) (marks_of self.new)) }
+        ensures { OnOk result (Follows flow.now makers.now number (operation_reads lirs.now) self.old self.new) }
     {
         for lir in lirs {
             self.follow(flow, makers, number, lir.uses.as_slice())?;
@@ -45,7 +43,7 @@ impl Search {
         number: u32,
         end: &Leave,
     ) -> Result<(), Memory>
-        ensures { OnOk result (Reaches flow.now makers.now number (end_uses end.now) (marks_of self.old) (marks_of self.new)) }
+        ensures { OnOk result (Follows flow.now makers.now number (end_uses end.now) self.old self.new) }
     {
         match end {
             Leave::Jump { args, .. } => self.follow(flow, makers, number, args.as_slice()),
@@ -63,7 +61,7 @@ impl Search {
         number: u32,
         value: Option<u32>,
     ) -> Result<(), Memory>
-        ensures { OnOk result (Reaches flow.now makers.now number (option_to_list value) (marks_of self.old) (marks_of self.new)) }
+        ensures { OnOk result (Follows flow.now makers.now number (option_to_list value) self.old self.new) }
     {
         match value {
             Some(value) => self.follow(flow, makers, number, &[value]),
@@ -79,7 +77,7 @@ impl Search {
         number: u32,
         values: &[u32],
     ) -> Result<(), Memory>
-        ensures { OnOk result (Reaches flow.now makers.now number values.now (marks_of self.old) (marks_of self.new)) }
+        ensures { OnOk result (Follows flow.now makers.now number values.now self.old self.new) }
     {
         for value in values {
             self.mark(makers, number, *value)?;

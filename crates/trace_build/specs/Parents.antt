@@ -4,7 +4,8 @@ use Rattle.std.specs.List.{list_any}
 use Rattle.block_runs.specs.Blocks.{CodeBlock}
 use Rattle.lir_core.specs.declared.flow.Node.{Node}
 use Rattle.lir_core.specs.declared.flow.Trace.{Trace}
-use Rattle.lir_core.specs.Flows.{leads}
+use Rattle.lir_core.specs.declared.flow.Flow.{Flow}
+use Rattle.lir_core.specs.Flows.{code_nodes, leads}
 
 abbrev pub no_trace : Trace
 no_trace = record { nodes = [] }
@@ -27,9 +28,9 @@ IsParent bls traces t None = (s : ℕ) → s < t → is_above bls traces s t ≡
 IsParent bls traces t (Some p) = (p < t) × (is_above bls traces p t ≡ true) × ((s : ℕ) → s < p → is_above bls traces s t ≡ false)
 
 -- a parent, or none, for each trace
-pub record AreParents (bls : List CodeBlock) (traces : List Trace) (parents : List (Option ℕ)) : Type 0 where
+pub record AreParents (f : Flow) (traces : List Trace) (parents : List (Option ℕ)) : Type 0 where
   pub each : length parents ≡ length traces
-  pub parent : (t : ℕ) → t < length traces → IsParent bls traces t (slice_index_or parents t None)
+  pub parent : (t : ℕ) → t < length traces → IsParent (code_nodes f.nodes) traces t (slice_index_or parents t None)
 
 ---- The table by which parents are found
 

@@ -1,7 +1,7 @@
 //! The trace above each trace.
 
 ghost use Rattle.std.specs.Prelude.{◌≡◌, ◌<◌, ◌^◌, length, replicate, slice_set, IfOk};
-ghost use Rattle.lir_core.specs.Flows.{code_nodes, IsValidFlow};
+ghost use Rattle.lir_core.specs.Flows.{IsValidFlow};
 ghost use Rattle.trace_build.specs.Parents.{AreParents, holders_from, held, lowest_of, parent_by};
 
 use lir_core::{Flow, Trace};
@@ -11,7 +11,7 @@ use std::alloc::{AllocError, Global};
 /// For each trace the lowest-numbered one below it from which an edge leads into its head, if there is one. Takes time in
 /// proportion to the nodes of the traces and the edges into their heads.
 pub fn parents(alloc: Global, flow: &Flow, traces: &[Trace]) -> Result<Vec<Option<u32>>, Memory>
-    ensures { IsValidFlow flow.now → IfOk result (λ parents. AreParents (code_nodes flow.now.nodes) traces.now parents.items) }
+    ensures { IsValidFlow flow.now → IfOk result (λ parents. AreParents flow.now traces.now parents.items) }
 {
     if u32::try_from(traces.len()).is_err() {
         return Err(Memory);
