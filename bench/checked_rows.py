@@ -7,6 +7,14 @@
 
 ROWS: pieces between lines ---, each a line `name turns,turns,.. input`, then modules between lines ===.
 SPOILS: pieces between lines ---: `name row [turns [output,..]]`, then pairs of lines OLD, NEW; with turns, the run makes no sense.
+What stands in the repository is made so, from its top (then `rt tidy` in the crate):
+
+    checked_rows.py means bench/rows/programs.txt crates/ob_rows/proofs/Samples.antt
+    checked_rows.py means bench/rows/more_programs.txt crates/ob_rows/proofs/More.antt
+    checked_rows.py formed BOTH crates/ob_rows/proofs/Formed.antt       BOTH: the two with a line --- between them
+    checked_rows.py spoiled BOTH bench/rows/spoils.txt crates/ob_rows/proofs/Spoiled.antt
+    checked_rows.py means bench/rows/telling.txt crates/ob_types/proofs/Told.antt
+
 The oracle is a plain program outside of this repository (../shared/oracle from the top); without it nothing is written."""
 import os
 import re
