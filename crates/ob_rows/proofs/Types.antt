@@ -1,6 +1,9 @@
 -- A table of types, and what the definitions of cells, same, extends and assignable say of it.
-use Rattle.std.specs.Prelude.{◌≡◌, ℕ, List, [], ◌∷◌, map, Bool, true, false, Some, None}
-use Rattle.std.proofs.Common.{refl}
+use Rattle.std.specs.Prelude.{◌≡◌, ℕ, List, [], ◌∷◌, map, Bool, true, false, Option, Some, None}
+use Rattle.std.proofs.Common.{refl, arith, lit<, eqb-true, zero, suc, ◌<◌, ◌^◌, ◌||◌}
+use Rattle.std.specs.Prelude.{◌==◌}
+use Rattle.ob_types.specs.Layout.{kind_of, record_of, record_cells}
+use Rattle.ob_types.specs.Counted.{IsCounted, HasOneNumberEach}
 use Rattle.ob_types.specs.Table.{Table}
 use Rattle.ob_types.specs.Layout.{cells}
 use Rattle.ob_types.specs.Assignable.{same, extends, assignable}
@@ -58,3 +61,68 @@ assignable_are = refl
 pub not_assignable_are : of_pairs (assignable table) ((0, 5) ∷ (10, 21) ∷ (2, 20) ∷ (13, 12) ∷ (15, 14) ∷ (7, 22) ∷ (16, 18) ∷ (1, 0) ∷ (2, 3) ∷ (9, 11) ∷ (9, 20) ∷ [])
     ≡ false ∷ false ∷ false ∷ false ∷ false ∷ false ∷ false ∷ false ∷ false ∷ false ∷ false ∷ []
 not_assignable_are = refl
+
+-- what the calls ask of a table can be met: INTEGER, ARRAY 3 OF INTEGER, and a record of it
+
+abbrev counted : Table
+counted = record { kinds = Int ∷ Array (Some 3) 0 ∷ RecordKind 0 ∷ []; records = record { «module» = 0; base = None; level = 0; fields = field 1 ∷ []; cells = 3 } ∷ []; signatures = [] }
+
+pub is_counted : IsCounted counted
+is_counted = record {
+  fine = refl;
+  element = element;
+  record_there = there;
+  records = records;
+  few = few;
+}
+  where
+    element : (k : ℕ) (n : Option ℕ) (e : ℕ) → kind_of counted k ≡ Array n e → e < k
+    element zero n e is = absurd (let z : Int ≡ Array n e = is in cc)
+    element (suc zero) n e is = let z : Array (Some 3) 0 ≡ Array n e = is in let y : 0 ≡ e = cc in omega (arith, y)
+    element (suc (suc zero)) n e is = absurd (let z : RecordKind 0 ≡ Array n e = is in cc)
+    element (suc (suc (suc k))) n e is = absurd (let z : Nothing ≡ Array n e = is in cc)
+
+    there : (k r : ℕ) → kind_of counted k ≡ RecordKind r → r < 1
+    there zero r is = absurd (let z : Int ≡ RecordKind r = is in cc)
+    there (suc zero) r is = absurd (let z : Array (Some 3) 0 ≡ RecordKind r = is in cc)
+    there (suc (suc zero)) r is = let z : RecordKind 0 ≡ RecordKind r = is in let y : 0 ≡ r = cc in omega (arith, y)
+    there (suc (suc (suc k))) r is = absurd (let z : Nothing ≡ RecordKind r = is in cc)
+
+    records : (r : ℕ) → r < 1 → (record_of counted r).cells ≡ record_cells counted r
+    records zero l = refl
+    records (suc r) l = absurd (omega (arith, l))
+
+    few : (k : ℕ) → k < 3 → cells counted k < 2 ^ 64
+    few zero l = lit< tt
+    few (suc zero) l = lit< tt
+    few (suc (suc zero)) l = lit< tt
+    few (suc (suc (suc k))) l = absurd (omega (arith, l))
+
+-- numbers are equal where all else says that types differ
+by_number : (a b : ℕ) → (a == b || false) ≡ true → a ≡ b
+by_number a b h = eqb-true a b (left (a == b) h)
+  where
+    left : (x : Bool) → (x || false) ≡ true → x ≡ true
+    left true h = refl
+    left false h = h
+
+pub has_one_number_each : HasOneNumberEach counted
+has_one_number_each = record { one = one }
+  where
+    one : (a b : ℕ) → same counted a b ≡ true → a ≡ b
+    one zero zero h = refl
+    one zero (suc zero) h = by_number 0 1 h
+    one zero (suc (suc zero)) h = by_number 0 2 h
+    one zero (suc (suc (suc b))) h = by_number 0 (suc (suc (suc b))) h
+    one (suc zero) zero h = by_number 1 0 h
+    one (suc zero) (suc zero) h = refl
+    one (suc zero) (suc (suc zero)) h = by_number 1 2 h
+    one (suc zero) (suc (suc (suc b))) h = by_number 1 (suc (suc (suc b))) h
+    one (suc (suc zero)) zero h = by_number 2 0 h
+    one (suc (suc zero)) (suc zero) h = by_number 2 1 h
+    one (suc (suc zero)) (suc (suc zero)) h = refl
+    one (suc (suc zero)) (suc (suc (suc b))) h = by_number 2 (suc (suc (suc b))) h
+    one (suc (suc (suc a))) zero h = by_number (suc (suc (suc a))) 0 h
+    one (suc (suc (suc a))) (suc zero) h = by_number (suc (suc (suc a))) 1 h
+    one (suc (suc (suc a))) (suc (suc zero)) h = by_number (suc (suc (suc a))) 2 h
+    one (suc (suc (suc a))) (suc (suc (suc b))) h = by_number (suc (suc (suc a))) (suc (suc (suc b))) h

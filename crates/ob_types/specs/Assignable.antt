@@ -52,7 +52,6 @@ module _ (t : Table) where
   same_kind same Byte Byte = true
   same_kind same SetOf SetOf = true
   same_kind same Nil Nil = true
-  same_kind same Nothing Nothing = true
   same_kind same (TextOf n) (TextOf m) = n == m
   same_kind same (Array n a) (Array m b) = same_length n m && same a b
   same_kind same (ProcedureOf f) (ProcedureOf g) = same_signature same (signature_of t f) (signature_of t g)
