@@ -519,6 +519,25 @@ symbol kind from to = record { kind = kind; from = from; to = to }
 '''
 
 
+def used(line, text):
+    """A line of imports without those that the text doesn't use."""
+    alias = re.match(r'use .* as (\w+)$', line)
+    if alias:
+        return line if re.search(r'\b%s\.' % alias.group(1), text) else None
+    names = re.match(r'(use .*\.\{)(.*)\}$', line)
+    if not names:
+        return line
+    kept = [n for n in names.group(2).split(', ') if re.search(r'(?<![\w.])%s(?!\w)' % re.escape(n), text) or n.strip('◌') in text and '◌' in n]
+    return names.group(1) + ', '.join(kept) + '}' if kept else None
+
+
+def head(text):
+    """The file's head, with the imports that are used."""
+    rest = HEAD[HEAD.index('\nabbrev'):] + text
+    lines = [used(line, rest) if line.startswith('use ') else line for line in HEAD.split('\n')]
+    return '\n'.join(line for line in lines if line is not None)
+
+
 def judged(sources):
     """The modules that are looked at, and the verdict; none where a fault isn't one of the judgement."""
     CountedPointer.count, CountedPointer.all = 0, []
@@ -546,7 +565,8 @@ def main():
             said = ' '.join(s.decode('latin1').split()).replace('"', "''")
             out.append('-- %s\nabbrev %s : Parsed\n%s = %s\n' % (said, values[-1], values[-1], Parsed(s).value()))
         out.append('pub %s : checked %s ≡ %s\n%s = refl\n' % (name, listed(values), verdict, name))
-    open(sys.argv[2], 'w').write(HEAD + '\n'.join(out))
+    text = '\n'.join(out)
+    open(sys.argv[2], 'w').write(head(text) + text)
     print('refused', counts['Fault'], 'legal', counts['Legal'])
 
 

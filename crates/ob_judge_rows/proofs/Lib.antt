@@ -1,3 +1,4 @@
+mod Choices
 mod Constants
 mod Legal
 mod Names

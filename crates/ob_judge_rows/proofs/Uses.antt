@@ -1,24 +1,18 @@
 -- Small modules, and what the judgement says of them. Written by bench/judged_rows.py from their texts.
-use Rattle.std.specs.Prelude.{◌≡◌, ℕ, List, [], ◌∷◌, Bool, true, false, Option, Some, None, pos, negsuc}
+use Rattle.std.specs.Prelude.{◌≡◌, ℕ, [], ◌∷◌, true, false, Some, None, pos, negsuc}
 use Rattle.std.proofs.Common.{refl}
 use Rattle.ob_symbol.specs.declared.symbol.Symbol.{Symbol}
 use Rattle.ob_symbol.specs.declared.symbol.Kind.{Kind}
 use Rattle.ob_symbol.specs.declared.symbol.Kind.TheVariants.{Int, Ident}
 use Rattle.ob_symbol.specs.declared.symbol.Kind.TheVariants as TheKind
 use Rattle.ob_syntax.specs.Syntax as S
-use Rattle.ob_syntax.specs.declared.expressions.Relation.TheVariants as TheRelation
-use Rattle.ob_syntax.specs.declared.expressions.Sign.TheVariants as TheSign
 use Rattle.ob_syntax.specs.declared.expressions.AddOperator.TheVariants as TheAddOperator
 use Rattle.ob_syntax.specs.declared.expressions.MulOperator.TheVariants as TheMulOperator
 use Rattle.ob_syntax.specs.declared.statements.Label.TheVariants as TheLabel
 use Rattle.ob_types.specs.declared.types.Mode.TheVariants as TheMode
-use Rattle.ob_types.specs.declared.tree.Unary.TheVariants as TheUnary
-use Rattle.ob_types.specs.declared.tree.Binary.TheVariants as TheBinary
-use Rattle.ob_types.specs.declared.tree.Relation.TheVariants as TheComparison
-use Rattle.ob_types.specs.declared.statements.Label.TheVariants as TheLabelOf
 use Rattle.ob_judge.specs.Shapes as H
 use Rattle.ob_judge.specs.Image as I
-use Rattle.ob_judge.specs.Modules.{Parsed, Verdict, Legal, Fault, checked}
+use Rattle.ob_judge.specs.Modules.{Parsed, Legal, Fault, checked}
 
 abbrev symbol : Kind → ℕ → ℕ → Symbol
 symbol kind from to = record { kind = kind; from = from; to = to }
