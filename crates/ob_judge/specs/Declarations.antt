@@ -35,7 +35,8 @@ module _ (p : Source) where
   each f (x ∷ xs) = f x >>> λ _. each f xs
 
   abbrev pub const_part : S.ConstDecl → Part (Unit {0})
-  const_part d = stand p (d.name.name ∷ []) >>> λ _. here (λ w. constant p w d.value) >>> λ c. declared p d.name (AConstant c)
+  const_part d = stand p (d.name.name ∷ []) >>> λ _. here (λ w. constant p w d.value) >>> λ c.
+      declared p d.name (AConstant c)
 
   abbrev pub type_decl_part : S.TypeDecl → Part (Unit {0})
   type_decl_part d = stand p (d.name.name ∷ []) >>> λ _. type_part p d.is >>> λ s. declared p d.name (AType s)
@@ -59,7 +60,8 @@ module _ (p : Source) where
 
   -- all the names stand before the type, and are known after it
   abbrev pub var_part : S.VarDecl → Part (Unit {0})
-  var_part d = stand p (symbols_of (idents_list d.names)) >>> λ _. type_part p d.of >>> λ s. each (variable_part s) (idents_list d.names)
+  var_part d = stand p (symbols_of (idents_list d.names)) >>> λ _. type_part p d.of >>> λ s.
+      each (variable_part s) (idents_list d.names)
 
   abbrev pub consts_in : Option S.Consts → List S.ConstDecl
   consts_in None = []
@@ -97,7 +99,8 @@ module _ (p : Source) where
   abbrev mutual
     pub decls_part : S.Decls → Part (Unit {0})
     decls_part (S.decls consts types vars procedures) =
-        each const_part (consts_in consts) >>> λ _. types_part (types_in types) >>> λ _. each var_part (vars_in vars) >>> λ _. procedures_part procedures
+        each const_part (consts_in consts) >>> λ _. types_part (types_in types) >>> λ _.
+        each var_part (vars_in vars) >>> λ _. procedures_part procedures
 
     pub procedures_part : S.Procedures → Part (Unit {0})
     procedures_part S.no_procedure = give tt

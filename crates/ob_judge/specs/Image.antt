@@ -1,5 +1,6 @@
--- The checked tree without the memory that holds it: as ob_types has it, but with a type in the place of its number, with a string's
--- characters in the place of its use's number, and with a link, a guard or a selector round what it is added to.
+-- The checked tree without the memory that holds it: as ob_types has it, but with a type in the place of its number,
+-- with a string's characters in the place of its use's number, and with a link, a guard or a selector round what it
+-- is added to.
 use Rattle.std.specs.Prelude.{ℕ, ℤ, List, Bool, Option}
 use Rattle.ob_types.specs.declared.tree.Unary.{Unary}
 use Rattle.ob_types.specs.declared.tree.Binary.{Binary}

@@ -7,8 +7,8 @@ use Rattle.ob_judge.specs.Image.{Place, Global, no_statement, Declared, Entity, 
 use Rattle.ob_judge.specs.Scopes.{Object, AConstant, AType, AVariable, AProcedure, Entry, World, no_names, declare}
 
 -- what is judged in; whether this is a TYPE part, and its pointer types whose base isn't declared yet; the names that
--- stand in the open scope; how many scalar value parameters it has, and its variables; the names that the module declares;
--- all procedures so far; whether In was imported
+-- stand in the open scope; how many scalar value parameters it has, and its variables; the names that the module
+-- declares; all procedures so far; whether In was imported
 pub record Making : Type 0 where
   pub imports_in : Bool
   pub world : World
@@ -110,10 +110,12 @@ no_layout = record { module_number = 0; line = []; added = []; fields = no_field
 
 -- a record or pointer type takes the next number where its word stands
 abbrev pub new_record : Part ℕ
-new_record = ask (λ s. length s.world.known.records) >>> λ n. become (with_known (λ k. record k { records = k.records ++ no_layout ∷ [] })) >>> λ _. give n
+new_record = ask (λ s. length s.world.known.records) >>> λ n.
+    become (with_known (λ k. record k { records = k.records ++ no_layout ∷ [] })) >>> λ _. give n
 
 abbrev pub new_pointer : Part ℕ
-new_pointer = ask (λ s. length s.world.known.bases) >>> λ n. become (with_known (λ k. record k { bases = k.bases ++ None ∷ [] })) >>> λ _. give n
+new_pointer = ask (λ s. length s.world.known.bases) >>> λ n.
+    become (with_known (λ k. record k { bases = k.bases ++ None ∷ [] })) >>> λ _. give n
 
 abbrev pub set_record : ℕ → Layout → Part (Unit {0})
 set_record n l = become (with_known (λ k. record k { records = slice_set k.records n l }))
@@ -125,11 +127,14 @@ abbrev pub later : ℕ → ℕ → Part (Unit {0})
 later pointer name = become (λ s. record s { forward = s.forward ++ (pointer, name) ∷ [] })
 
 abbrev pub no_procedure : Procedure
-no_procedure = record { module_number = 0; line = 0; is_body = false; formals = []; result = Nothing; locals = []; texts = []; body = no_statement; answer = None }
+no_procedure = record {
+  module_number = 0; line = 0; is_body = false; formals = []; result = Nothing; locals = []; texts = [];
+  body = no_statement; answer = None }
 
 -- a procedure takes the next number where its heading stands
 abbrev pub new_procedure : Part ℕ
-new_procedure = ask (λ s. length s.procedures) >>> λ f. become (λ s. record s { procedures = s.procedures ++ no_procedure ∷ [] }) >>> λ _. give f
+new_procedure = ask (λ s. length s.procedures) >>> λ f.
+    become (λ s. record s { procedures = s.procedures ++ no_procedure ∷ [] }) >>> λ _. give f
 
 abbrev pub set_procedure : ℕ → Procedure → Part (Unit {0})
 set_procedure f q = become (λ s. record s { procedures = slice_set s.procedures f q })

@@ -23,7 +23,8 @@ pub record SoFar : Type 0 where
   pub procedures : List Procedure
 
 abbrev pub no_modules : SoFar
-no_modules = record { imports_in = false; modules = []; known = record { records = []; bases = [] }; program_modules = []; procedures = [] }
+no_modules = record {
+  imports_in = false; modules = []; known = record { records = []; bases = [] }; program_modules = []; procedures = [] }
 
 -- the number of the module of this name, from n on
 abbrev pub module_from : ℕ → List KnownModule → List ℕ → Option Imported
@@ -116,10 +117,12 @@ base_in (r ∷ []) = None
 base_in (r ∷ b ∷ line) = Some b
 
 abbrev pub record_form : Layout → RecordType
-record_form l = record { module_number = l.module_number; base = base_in l.line; level = length l.line - 1; fields = l.added; cells = l.cells }
+record_form l = record {
+  module_number = l.module_number; base = base_in l.line; level = length l.line - 1; fields = l.added; cells = l.cells }
 
 abbrev pub program_of : SoFar → Program
-program_of c = record { records = map record_form c.known.records; pointers = c.known.bases; modules = c.program_modules; procedures = c.procedures; imports_in = c.imports_in }
+program_of c = record {
+  records = map record_form c.known.records; pointers = c.known.bases; modules = c.program_modules; procedures = c.procedures; imports_in = c.imports_in }
 
 abbrev pub judged_after : Judged SoFar → ℕ → (SoFar → Verdict) → Verdict
 judged_after (Keeps d) n rest = rest d

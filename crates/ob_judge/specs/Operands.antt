@@ -17,8 +17,8 @@ pub data What : Type 0 where
   Code : (procedure : ℕ) → (is_local : Bool) → What
   Proper : Statement → What
 
--- how it may be used: as a variable, that may be read-only, a VAR record parameter, or narrowed in a CASE on types; as a
--- factor of a constant expression; as a value alone
+-- how it may be used: as a variable, that may be read-only, a VAR record parameter, or narrowed in a CASE on types;
+-- as a factor of a constant expression; as a value alone
 pub data Use : Type 0 where
   AsVariable : (read_only tagged narrowed : Bool) → Use
   AsConstant AsValue : Use

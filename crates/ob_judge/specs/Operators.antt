@@ -1,4 +1,5 @@
--- Which operands operators take, the types of their results, and what they are in the checked tree (Oberon-07 report, section 8.2).
+-- Which operands operators take, the types of their results, and what they are in the checked tree (Oberon-07 report,
+-- section 8.2).
 use Rattle.std.specs.Prelude.{Bool, true, false, ◌&&◌, ◌||◌, not, nat_eq, Option, Some, None}
 use Rattle.ob_types.specs.declared.tree.Unary.TheVariants as TheUnary
 use Rattle.ob_types.specs.declared.tree.Binary.{Binary}

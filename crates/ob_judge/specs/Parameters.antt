@@ -69,7 +69,9 @@ parameter_home true s = Free
 parameter_home false s = if is_scalar s then Free else ReadOnly
 
 abbrev pub listed : Bool → Shape → Listed → Listed
-listed v s l = record { formals = append l.formals v s; parameters = l.parameters ++ record { mode = mode_of v s; variable = v; shape = s } ∷ []; words = l.words + words_of v s }
+listed v s l = record {
+  formals = append l.formals v s;
+  parameters = l.parameters ++ record { mode = mode_of v s; variable = v; shape = s } ∷ []; words = l.words + words_of v s }
 
 module _ (p : Source) where
   -- 36: a name stands twice in the open scope
@@ -141,4 +143,5 @@ module _ (p : Source) where
   -- what a procedure takes and gives; its parameters' names are known in its scope, those of a procedure type aren't
   abbrev pub formal_part : Bool → Option S.Formals → Part (Listed × Shape)
   formal_part known_here None = give (no_parameters, Nothing)
-  formal_part known_here (Some f) = sections known_here f.sections >>> λ l. here (result_shape f.result) >>> λ r. give (l, r)
+  formal_part known_here (Some f) = sections known_here f.sections >>> λ l. here (result_shape f.result) >>> λ r.
+      give (l, r)

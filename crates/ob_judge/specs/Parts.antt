@@ -64,7 +64,8 @@ module _ (p : Source) (w : World) where
 
   -- ---- guards and type tests
 
-  -- the record type that a guard or a test asks for: 31 unless the type extends that of a pointer or VAR record parameter
+  -- the record type that a guard or a test asks for: 31 unless the type extends that of a pointer or VAR record
+  -- parameter
   abbrev pub tested_tag : Operand → Shape → Option ℕ
   tested_tag x (Pointer n) = if is_pointer x.shape && extends w.known (Pointer n) x.shape then target_of w.known (Pointer n) else None
   tested_tag x (Record n) = if is_tagged x && extends w.known (Record n) x.shape then Some n else None

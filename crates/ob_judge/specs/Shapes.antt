@@ -1,5 +1,5 @@
--- What types are (Oberon-07 report, sections 6 and 9.1). Array and procedure types are the same where they are built the same;
--- record and pointer types are numbered over all modules by the place of their word.
+-- What types are (Oberon-07 report, sections 6 and 9.1). Array and procedure types are the same where they are built
+-- the same; record and pointer types are numbered over all modules by the place of their word.
 use Rattle.std.specs.Prelude.{ℕ, ◌*◌, List, [], ◌∷◌, Bool, true, false, ◌&&◌, ◌||◌, nat_eq, nat_lt, Option, Some, None, slice_get}
 
 mutual
@@ -59,8 +59,8 @@ pub record Added : Type 0 where
   pub exported : Bool
   pub shape : Shape
 
--- a record type: the module that declares it, itself and its bases by their numbers, the fields that it adds, what a name
--- stands for among its fields and those of its bases, and the cells of all
+-- a record type: the module that declares it, itself and its bases by their numbers, the fields that it adds, what a
+-- name stands for among its fields and those of its bases, and the cells of all
 pub record Layout : Type 0 where
   pub module_number : ℕ
   pub line : List ℕ

@@ -81,7 +81,8 @@ module _ (p : Source) where
   -- 36: a field stands twice, or in a base too
   abbrev pub stand_fields : List Identdef → Layout → Part (Unit {0})
   stand_fields [] g = give tt
-  stand_fields (x ∷ xs) g = here (λ w. rule 36 (place p x.name) (is_none (g.fields (spelled p x.name)))) >>> λ _. stand p (x.name ∷ []) >>> λ _. stand_fields xs g
+  stand_fields (x ∷ xs) g = here (λ w. rule 36 (place p x.name) (is_none (g.fields (spelled p x.name)))) >>> λ _.
+      stand p (x.name ∷ []) >>> λ _. stand_fields xs g
 
   abbrev pub add_field : List ℕ → Field → (List ℕ → Option Field) → List ℕ → Option Field
   add_field name f fields q = if bytes_eq name q then Some f else fields q
@@ -114,7 +115,8 @@ module _ (p : Source) where
     pub type_part : S.TypeTree → Part Shape
     type_part (S.Named q) = here (type_at p 31 q)
     type_part (S.Array i first more j element) =
-        here (array_length first) >>> λ n. here (array_lengths more) >>> λ ns. type_part element >>> λ s. here (arrays (place p i) (n ∷ ns) s)
+        here (array_length first) >>> λ n. here (array_lengths more) >>> λ ns. type_part element >>> λ s.
+        here (arrays (place p i) (n ∷ ns) s)
     type_part (S.Record i base first more j) =
         new_record >>> λ n. here (base_layout base) >>> λ b.
         among_fields (fields_part n first (record b { added = [] }) >>> λ g. more_part n more g) >>> λ h.
@@ -127,7 +129,8 @@ module _ (p : Source) where
     pub fields_part : ℕ → S.MaybeFields → Layout → Part Layout
     fields_part n S.no_fields g = give g
     fields_part n (S.fields names colon of) g =
-        stand_fields (idents_list names) g >>> λ _. type_part of >>> λ s. here (λ w. Keeps (add_fields n w s (idents_list names) g))
+        stand_fields (idents_list names) g >>> λ _. type_part of >>> λ s.
+        here (λ w. Keeps (add_fields n w s (idents_list names) g))
 
     pub more_part : ℕ → S.NextFields → Layout → Part Layout
     more_part n S.no_more_fields g = give g
