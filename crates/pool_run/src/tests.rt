@@ -1,5 +1,7 @@
 //! The pool with real threads: what each final result is, and that two workers are inside at once.
 
+mod calls;
+
 use crate::made::{Shape, made_tree};
 use meet_gate::MeetGate;
 use outside::{Gate, Memory, OpenGate};
