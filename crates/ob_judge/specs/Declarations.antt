@@ -107,11 +107,19 @@ module _ (p : Source) where
     procedures_part (S.procedure procedure_word name formals semicolon inner body returned end_word end_name last rest) =
         stand p (name.name ∷ []) >>> λ _. ask (λ s. is_some s.world.procedure) >>> λ is_local. new_procedure >>> λ f.
         within_procedure f (
-          heading f name formals is_local >>> λ h. decls_part inner >>> λ _.
-          here (λ w. body_of p w body) >>> λ b. here (answer h.1 end_word returned) >>> λ a.
-          here (λ w. rule 37 (place p end_name) (bytes_eq (spelled p end_name) (spelled p name.name))) >>> λ _.
-          ask (λ s. s.variables) >>> λ locals. ask (λ s. s.world.module_number) >>> λ m.
-          set_procedure f (record {
-            module_number = m; line = line p name.name; is_body = false; formals = h.0.parameters; result = h.1; locals = locals;
-            texts = texts_of b a; body = b; answer = a })) >>> λ _.
+        heading f name formals is_local >>> λ h. decls_part inner >>> λ _.
+        here (λ w. body_of p w body) >>> λ b. here (answer h.1 end_word returned) >>> λ a.
+        here (λ w. rule 37 (place p end_name) (bytes_eq (spelled p end_name) (spelled p name.name))) >>> λ _.
+        ask (λ s. s.variables) >>> λ locals. ask (λ s. s.world.module_number) >>> λ m.
+        set_procedure f (record {
+          module_number = m;
+          line = line p name.name;
+          is_body = false;
+          formals = h.0.parameters;
+          result = h.1;
+          locals = locals;
+          texts = texts_of b a;
+          body = b;
+          answer = a;
+        })) >>> λ _.
         procedures_part rest

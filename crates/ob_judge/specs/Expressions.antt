@@ -20,8 +20,9 @@ module _ (p : Source) (w : World) where
     expression (S.compared left (TheRelation.Is i) right) = do
       x ← simple left
       elim (bare_simple right) as (λ _. Judged Operand) [
-          None ↦ simple right >>= λ y. Breaks 31 (place p i)
-        | Some q ↦ is_test p w (Some q) (place p i) x ]
+        | None ↦ simple right >>= λ y. Breaks 31 (place p i)
+        | Some q ↦ is_test p w (Some q) (place p i) x
+      ]
     expression (S.compared left relation right) = do
       x ← simple left
       y ← simple right
@@ -130,8 +131,9 @@ module _ (p : Source) (w : World) where
     select at stage (S.Parens left_paren list right_paren) = do
       x ← begun p w at stage
       elim (guard_name p w x (bare_list list)) as (λ _. Judged Stage) [
-          Some q ↦ type_named p w 31 q.0 q.1 >>= λ t. guarded p w at x t >>= λ y. Keeps (Partly y)
-        | None ↦ arguments list >>= λ xs. applied p w at x x.shape xs >>= λ y. Keeps (Ended y) ]
+        | Some q ↦ type_named p w 31 q.0 q.1 >>= λ t. guarded p w at x t >>= λ y. Keeps (Partly y)
+        | None ↦ arguments list >>= λ xs. applied p w at x x.shape xs >>= λ y. Keeps (Ended y)
+      ]
 
     pub indexed : (at : ℕ) → Operand → S.Expressions → Judged Operand
     indexed at x (S.expressions first more) = do

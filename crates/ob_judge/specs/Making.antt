@@ -128,8 +128,16 @@ later pointer name = become (λ s. record s { forward = s.forward ++ (pointer, n
 
 abbrev pub no_procedure : Procedure
 no_procedure = record {
-  module_number = 0; line = 0; is_body = false; formals = []; result = Nothing; locals = []; texts = [];
-  body = no_statement; answer = None }
+  module_number = 0;
+  line = 0;
+  is_body = false;
+  formals = [];
+  result = Nothing;
+  locals = [];
+  texts = [];
+  body = no_statement;
+  answer = None;
+}
 
 -- a procedure takes the next number where its heading stands
 abbrev pub new_procedure : Part ℕ

@@ -24,7 +24,12 @@ pub record SoFar : Type 0 where
 
 abbrev pub no_modules : SoFar
 no_modules = record {
-  imports_in = false; modules = []; known = record { records = []; bases = [] }; program_modules = []; procedures = [] }
+  imports_in = false;
+  modules = [];
+  known = record { records = []; bases = [] };
+  program_modules = [];
+  procedures = [];
+}
 
 -- the number of the module of this name, from n on
 abbrev pub module_from : ℕ → List KnownModule → List ℕ → Option Imported
@@ -65,7 +70,14 @@ abbrev pub first_making : SoFar → Making
 first_making c = record {
   imports_in = c.imports_in;
   world = record { modules = c.modules; known = c.known; levels = predeclared ∷ no_names ∷ []; module_number = length c.modules; procedure = None; constant = false; narrowed = [] };
-  is_type_part = false; forward = []; standing = []; values = 0; variables = []; objects = []; procedures = c.procedures }
+  is_type_part = false;
+  forward = [];
+  standing = [];
+  values = 0;
+  variables = [];
+  objects = [];
+  procedures = c.procedures;
+}
 
 module _ (p : Source) where
   -- 36 at the name under which it is known here; 38 at the name of no earlier module
@@ -86,8 +98,16 @@ module _ (p : Source) where
       here (λ w. rule 37 (place p m.end_name) (bytes_eq (spelled p m.end_name) (spelled p m.name))) >>> λ _.
       new_procedure >>> λ f. ask (λ s. s.world.module_number) >>> λ number.
       set_procedure f (record {
-        module_number = number; line = line p m.name; is_body = true; formals = []; result = Nothing; locals = [];
-        texts = texts_of b None; body = b; answer = None }) >>> λ _.
+        module_number = number;
+        line = line p m.name;
+        is_body = true;
+        formals = [];
+        result = Nothing;
+        locals = [];
+        texts = texts_of b None;
+        body = b;
+        answer = None;
+      }) >>> λ _.
       ask (λ s. s.variables) >>> λ variables. ask (λ s. s.objects) >>> λ objects.
       give (record { name = spelled p m.name; objects = objects; variables = variables; body = f })
 
@@ -99,7 +119,8 @@ module _ (p : Source) where
       modules = c.modules ++ record { name = spelled p m.name; names = offered_by r.1.world.levels } ∷ [];
       known = r.1.world.known;
       program_modules = c.program_modules ++ r.0 ∷ [];
-      procedures = r.1.procedures })
+      procedures = r.1.procedures;
+    })
 
 -- a module's text, symbols and tree
 pub record Parsed : Type 0 where
@@ -118,11 +139,21 @@ base_in (r ∷ b ∷ line) = Some b
 
 abbrev pub record_form : Layout → RecordType
 record_form l = record {
-  module_number = l.module_number; base = base_in l.line; level = length l.line - 1; fields = l.added; cells = l.cells }
+  module_number = l.module_number;
+  base = base_in l.line;
+  level = length l.line - 1;
+  fields = l.added;
+  cells = l.cells;
+}
 
 abbrev pub program_of : SoFar → Program
 program_of c = record {
-  records = map record_form c.known.records; pointers = c.known.bases; modules = c.program_modules; procedures = c.procedures; imports_in = c.imports_in }
+  records = map record_form c.known.records;
+  pointers = c.known.bases;
+  modules = c.program_modules;
+  procedures = c.procedures;
+  imports_in = c.imports_in;
+}
 
 abbrev pub judged_after : Judged SoFar → ℕ → (SoFar → Verdict) → Verdict
 judged_after (Keeps d) n rest = rest d

@@ -100,4 +100,3 @@ module _ (p : Source) (w : World) where
   finished at (Whole o) = object_operand at o
   finished at (Partly x) = Keeps x
   finished at (Ended x) = Keeps x
-

@@ -71,7 +71,9 @@ parameter_home false s = if is_scalar s then Free else ReadOnly
 abbrev pub listed : Bool → Shape → Listed → Listed
 listed v s l = record {
   formals = append l.formals v s;
-  parameters = l.parameters ++ record { mode = mode_of v s; variable = v; shape = s } ∷ []; words = l.words + words_of v s }
+  parameters = l.parameters ++ record { mode = mode_of v s; variable = v; shape = s } ∷ [];
+  words = l.words + words_of v s;
+}
 
 module _ (p : Source) where
   -- 36: a name stands twice in the open scope
@@ -99,7 +101,10 @@ module _ (p : Source) where
   parameter_variable v s values number w = AVariable (record {
     shape = s;
     place = if is_value (mode_of v s) then Local values else Parameter number;
-    home = parameter_home v s; owner = w.module_number; procedure = w.procedure })
+    home = parameter_home v s;
+    owner = w.module_number;
+    procedure = w.procedure;
+  })
 
   abbrev pub declare_parameter : (known_here : Bool) → ℕ → Bool → Shape → ℕ → Part (Unit {0})
   declare_parameter false i v s number = give tt

@@ -34,9 +34,10 @@ module _ (p : Source) (w : World) where
   -- the record that a record or a pointer to one has fields of, with the pointer followed
   abbrev pub record_of : Operand → Option (ℕ × Operand)
   record_of x = elim (x.shape) as (λ _. Option (ℕ × Operand)) [
-      Record n ↦ Some (n, x)
+    | Record n ↦ Some (n, x)
     | Pointer n ↦ elim (target_of w.known (Pointer n)) as (λ _. Option (ℕ × Operand)) [ Some r ↦ Some (r, followed x r) | None ↦ None ]
-    | other ↦ None ]
+    | other ↦ None
+  ]
 
   abbrev pub fields_of : Option Layout → List ℕ → Option FieldOf
   fields_of None name = None

@@ -94,7 +94,8 @@ module _ (p : Source) where
     line = g.line;
     added = g.added ++ record { name = spelled p x.name; exported = is_some x.star; shape = s } ∷ [];
     fields = add_field (spelled p x.name) (record { adder = r; number = length g.added; shape = s; exported = is_some x.star; owner = w.module_number }) g.fields;
-    cells = g.cells + cells w.known s })
+    cells = g.cells + cells w.known s;
+  })
 
   -- a part among the names of a record's own fields
   abbrev pub among_fields : {A : Type 0} → Part A → Part A
@@ -108,8 +109,9 @@ module _ (p : Source) where
   -- what pointer type n points to: 31 at a base that is no record type
   abbrev pub pointed : ℕ → S.TypeTree → Part Shape → Part (Unit {0})
   pointed n base judged s = elim (forward_name s base) as (λ _. Judged (Unit {0} × Making)) [
-      Some name ↦ later n name s
-    | None ↦ (judged >>> λ t. here (λ w. some 31 (place_of_type base) (record_only t)) >>> λ r. set_base n r) s ]
+    | Some name ↦ later n name s
+    | None ↦ (judged >>> λ t. here (λ w. some 31 (place_of_type base) (record_only t)) >>> λ r. set_base n r) s
+  ]
 
   abbrev mutual
     pub type_part : S.TypeTree → Part Shape
