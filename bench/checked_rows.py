@@ -16,16 +16,10 @@ What stands in the repository is made so, from its top (then `rt tidy` in the cr
     checked_rows.py means bench/rows/telling.txt crates/ob_types/proofs/Told.antt
 
 The oracle is a plain program outside of this repository (../shared/oracle from the top); without it nothing is written."""
-import os
 import re
 import sys
 
-HERE = os.path.dirname(os.path.abspath(__file__))
-ORACLE = os.environ.get('ORACLE', os.path.join(HERE, '..', '..', 'shared', 'oracle'))
-if not os.path.isdir(ORACLE):
-    print('no oracle here: nothing is written')
-    sys.exit(0)
-sys.path.insert(0, ORACLE)
+from row_texts import integer, letters, listed, some, truth
 from tree import *
 from check import check_sources
 from meaning import meaning, Ended, Trapped, deep
@@ -35,27 +29,6 @@ BINARY = {'+': 'Add', '-': 'Subtract', '*': 'Multiply', 'DIV': 'Div', 'MOD': 'Mo
           'set*': 'Intersection', 'set/': 'SymmetricDifference', 'LSL': 'Lsl', 'ASR': 'Asr', 'ROR': 'Ror'}
 UNARY = {'neg': 'Negate', 'compl': 'Complement', 'not': 'Not', 'ABS': 'Abs', 'ODD': 'Odd'}
 BASIC = {INT: 'Int', BOOL: 'BoolKind', CHAR: 'Char', BYTE: 'ByteKind', SET: 'SetKind', NIL: 'Nil', NOTHING: 'Nothing'}
-
-
-def some(n):
-    return 'None' if n is None else '(Some %d)' % n
-
-
-def listed(xs):
-    xs = list(xs)
-    return '[]' if not xs else '(' + ' ∷ '.join(xs) + ' ∷ [])'
-
-
-def letters(name):
-    return listed(str(c) for c in name.encode())
-
-
-def truth(b):
-    return 'true' if b else 'false'
-
-
-def integer(n):
-    return '(pos %d)' % n if n >= 0 else '(negsuc %d)' % (-n - 1)
 
 
 class Writer:

@@ -6,16 +6,10 @@
 ROWS: pieces between lines ---, each a line `name`, then modules between lines ===.
 The oracle is a plain program outside of this repository (../shared/oracle from the top); without it nothing is written.
 Symbols that the judgement never reads are numbered 0 in the trees."""
-import os
 import re
 import sys
 
-HERE = os.path.dirname(os.path.abspath(__file__))
-ORACLE = os.environ.get('ORACLE', os.path.join(HERE, '..', '..', 'shared', 'oracle'))
-if not os.path.isdir(ORACLE):
-    print('no oracle here: nothing is written')
-    sys.exit(0)
-sys.path.insert(0, ORACLE)
+from row_texts import integer, letters, listed, some, truth
 import check as C
 import parse as P
 import tree as T
@@ -36,27 +30,6 @@ class CountedPointer(T.Pointer):
 
 CountedPointer.all = []
 C.Pointer = CountedPointer
-
-
-def listed(xs):
-    xs = list(xs)
-    return '[]' if not xs else '(' + ' ∷ '.join(xs) + ' ∷ [])'
-
-
-def letters(text):
-    return listed(str(c) for c in (text if isinstance(text, bytes) else text.encode()))
-
-
-def some(x):
-    return 'None' if x is None else '(Some %s)' % x
-
-
-def truth(b):
-    return 'true' if b else 'false'
-
-
-def integer(n):
-    return '(pos %d)' % n if n >= 0 else '(negsuc %d)' % (-n - 1)
 
 
 ADD = {'+': 'Plus', '-': 'Minus', 'OR': 'Or'}

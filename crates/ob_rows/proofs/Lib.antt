@@ -3,3 +3,5 @@ mod More
 mod Formed
 mod Spoiled
 mod Types
+mod Sizes
+mod Queens

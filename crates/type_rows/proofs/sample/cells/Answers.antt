@@ -1,0 +1,7 @@
+use Rattle.std.proofs.Common.{sym, subst}
+use Rattle.ob_types.specs.Counted.{IsCounted}
+use Rattle.type_rows.proofs.Sampled.{is_counted}
+use Rattle.type_rows.proofs.sample.cells.Goals as goal
+
+pub cells-requires-clause-counted : goal.cells-requires-clause-counted
+cells-requires-clause-counted c = subst IsCounted (sym c.requires.table) is_counted
