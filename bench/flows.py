@@ -1,7 +1,7 @@
 #!/usr/bin/env python3
-"""Prints a flow of a shape and of about so many nodes, as crates/flow_vectors reads it.
+"""Prints a flow or a procedure of a shape and of about so many nodes, as crates/flow_vectors reads it.
 
-    bench/flows.py chain|ladder|nest NODES
+    bench/flows.py chain|ladder|nest NODES [flow|proc]
 
 chain: each node jumps to the next. ladder: diamonds, one behind the other. nest: loops, each in the one before. Value 0
 is made in the first node and read in the last, so it is live everywhere else; each node makes a value, and most read that
@@ -44,10 +44,13 @@ def main():
     for i, (to, _, _, _) in enumerate(nodes):
         for t in to:
             preds[t].append(i)
-    out = ['flow', len(nodes), 0]
+    proc = sys.argv[3:] == ['proc']
+    out = ['proc' if proc else 'flow', len(nodes), 0]
     for i, (to, enter, freq, read) in enumerate(nodes):
-        out += ['node', freq, '-' if enter is None else enter, 'params', 'preds'] + preds[i]
-        out += ['op', i] + ([read] if read >= 0 else [])
+        out += ['block' if proc else 'node', freq, '-' if enter is None else enter, 'params']
+        if not proc:
+            out += ['preds'] + preds[i]
+        out += ['op'] + ([['Const', 0], ['Plus', 1]][read >= 0] if proc else []) + [i] + ([read] if read >= 0 else [])
         out += ['jump', to[0]] if len(to) == 1 else ['nonzero', i] + list(to) if to else ['return', 0]
     print(*out)
 

@@ -1,27 +1,33 @@
-//! Reads flows, a line each, and prints their traces with the parents of these, for both builders, and what is live into
-//! each node.
+//! Reads flows and procedures, a line each. Of a flow it prints its traces with the parents of these, for both builders, and
+//! what is live into each node; of a procedure whether it is valid and, if so, the flow that is selected.
 //!
-//! The stored input are flows that another compiler, written in Python from the rules alone, selects for a few modules;
-//! what it cuts and finds live is the stored output (`bench/flow_vectors.py` makes both where it is, and says how a flow
-//! is written).
+//! The stored input are what another compiler, written in Python from the rules alone, lowers and selects for a few
+//! modules, and procedures that break one rule each; what it cuts, finds live, refuses and selects is the stored output
+//! (`bench/flow_vectors.py` makes both where it is, and says how flows and procedures are written).
 //!
-//! With the words `traces TIMES` or `live TIMES`, for `bench/flows.sh`, it does that alone, so often for each line, and
-//! prints a count.
+//! With the words `traces TIMES`, `live TIMES`, `valid TIMES` or `select TIMES`, for `bench/flows.sh`, it does that alone, so
+//! often for each line, and prints a count.
 #![tactic(auto)]
 
-mod reader;
+mod ends;
+mod flows;
+mod procs;
+mod selections;
+mod words;
 
+use flows::flow_of;
 use global_live::{LiveSets, live};
 use lir_core::Flow;
 use outside::Memory;
-use reader::flow_of;
+use procs::proc_of;
+use selections::{nodes_selected, selection, times_valid};
 use std::alloc::{AllocError, Global};
 use std::io::{BufRead, BufReader};
 use std::{env, io};
 use trace_build::{Builder, Trace, build, parents};
 
 /// Adds numbers between commas, or `-` where there are none.
-fn push_numbers(text: &mut String, numbers: &[u32]) -> Result<(), AllocError> {
+pub(crate) fn push_numbers(text: &mut String, numbers: &[u32]) -> Result<(), AllocError> {
     if numbers.is_empty() {
         return text.push_str("-");
     }
@@ -93,6 +99,9 @@ fn live_into(
 
 /// The answer to a line.
 fn answer(alloc: Global, line: &str) -> Result<String, Memory> {
+    if line.starts_with("proc") {
+        return selection(alloc, &proc_of(alloc, line)?);
+    }
     let flow = flow_of(alloc, line)?;
     let uni = cut(alloc, "uni", Builder::Uni, &flow)?;
     let bi = cut(alloc, "bi", Builder::Bi, &flow)?;
@@ -127,10 +136,11 @@ fn reply(alloc: Global, bench: &Option<String>, times: u32, line: &str) -> Resul
     let Some(bench) = bench else {
         return answer(alloc, line);
     };
-    let flow = flow_of(alloc, line)?;
     let count = match bench.as_str() {
-        "traces" => traces_of(alloc, &flow, times)?,
-        _ => live_nodes(alloc, &flow, times)?,
+        "traces" => traces_of(alloc, &flow_of(alloc, line)?, times)?,
+        "live" => live_nodes(alloc, &flow_of(alloc, line)?, times)?,
+        "valid" => times_valid(alloc, &proc_of(alloc, line)?, times)?,
+        _ => nodes_selected(alloc, &proc_of(alloc, line)?, times)?,
     };
     Ok(format!(in alloc; "{count}")?)
 }

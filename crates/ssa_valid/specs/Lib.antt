@@ -1,0 +1,4 @@
+pub mod Form
+pub mod Tables
+pub mod Order
+pub mod Search
