@@ -1,0 +1,4 @@
+pub mod TypeShapes
+pub mod Plain
+pub mod Outline
+pub mod Tables
