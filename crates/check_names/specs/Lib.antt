@@ -1,0 +1,3 @@
+pub mod Basics
+pub mod Meaning
+pub mod Worlds

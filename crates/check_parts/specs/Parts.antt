@@ -1,0 +1,53 @@
+-- Which operand of the judgement a variable or a part of one is.
+use Rattle.std.specs.Prelude.{◌≡◌, ℕ, List, Option}
+use Rattle.ob_types.specs.Table.{Table}
+use Rattle.ob_judge.specs.Image as I
+use Rattle.ob_judge.specs.Operands as J
+use Rattle.judged_tree.specs.TypeShapes.{shape_of_kind}
+use Rattle.judged_tree.specs.Plain.{guarded, pointer_at}
+use Rattle.judged_tree.specs.Outline.{outlined_expr, outlined_place, outlined_pointer}
+use Rattle.tree_parts.specs.declared.places.Place.{Place}
+use Rattle.tree_parts.specs.Lists.{place_image}
+use Rattle.check_types.specs.declared.types.TypeRef.{TypeRef}
+use Rattle.check_types.specs.TypeMeaning.{type_shape, kind_of_type}
+use Rattle.check_names.specs.declared.scope.Scope.{Scope}
+use Rattle.check_names.specs.Worlds.{table_of}
+use Rattle.check_operands.specs.Operands.{texts_of, bases_of, use_of, outlined_what}
+use Rattle.check_parts.specs.declared.part.Part.{Part}
+use Rattle.check_parts.specs.declared.part.Reach.{Reach}
+use Rattle.check_parts.specs.declared.part.Reach.TheVariants as TheReach
+
+-- a place as a whole
+abbrev pub image_in : Scope → Place → I.Place
+image_in s place = place_image (table_of s) (texts_of s) place
+
+-- its value, as a pointer of this type
+abbrev pub load_of : Scope → Place → TypeRef → I.Expr
+load_of s place own = I.Load (I.of_type (image_in s place) (shape_of_kind (table_of s) (kind_of_type (bases_of s) own)))
+
+-- this is the value of the pointer there, guarded; also where it is followed, which has no type in a tree
+pub record IsGuarded (s : Scope) (place : Place) (own : TypeRef) (tags : List ℕ) (w : J.What) : Type 0 where
+  pub value : I.Expr
+  pub is : w ≡ J.Valued value
+  pub form : guarded tags (load_of s place own) ≡ outlined_expr (bases_of s) value
+  pub pointer : guarded tags (pointer_at (image_in s place)) ≡ outlined_pointer (bases_of s) value
+
+-- a place that is named
+pub record IsNamedAt (s : Scope) (place : Place) (w : J.What) : Type 0 where
+  pub at : I.Place
+  pub is : w ≡ J.Named at
+  pub placed : image_in s place ≡ outlined_place (bases_of s) at
+
+abbrev pub Reaches : Scope → Reach → J.What → Type 0
+Reaches s (TheReach.Named place) w = IsNamedAt s place w
+Reaches s (TheReach.Guarded place own tags) w = IsGuarded s place own tags w
+
+pub record IsPart (s : Scope) (x : Part) (a : J.Operand) : Type 0 where
+  pub shape : type_shape (table_of s) x.of ≡ a.shape
+  pub reach : Reaches s x.reach a.what
+  pub usage : use_of x.usage ≡ a.use_
+
+-- this is the operand's value, guarded by these, also where it is followed
+pub record IsGuardedForm (s : Scope) (place : Place) (own : TypeRef) (tags : List ℕ) (a : J.Operand) : Type 0 where
+  pub form : guarded tags (load_of s place own) ≡ outlined_expr (bases_of s) (J.form a)
+  pub pointer : guarded tags (pointer_at (image_in s place)) ≡ outlined_pointer (bases_of s) (J.form a)

@@ -1,0 +1,119 @@
+//! Elements, fields, and what pointers point to.
+
+ghost use Rattle.std.specs.Prelude.{◌≡◌, ℕ, List, Option, option_map, slice_get};
+ghost use Rattle.ob_judge.specs.Judged.{Keeps};
+ghost use Rattle.ob_judge.specs.Shapes.{Record};
+ghost use Rattle.ob_judge.specs.Image.{Index, Field, Dereference};
+ghost use Rattle.ob_judge.specs.Scopes.{place};
+ghost use Rattle.ob_judge.specs.Operands.{Operand as Judgement, place_of as place_from, form as form_of};
+ghost use Rattle.ob_judge.specs.Parts.{part_of as part_from, followed as followed_from, element as judged_element, target as judged_target};
+ghost use Rattle.judged_tree.specs.TypeShapes.{shape_of};
+ghost use Rattle.check_steps.specs.Answers.{Answers};
+ghost use Rattle.check_names.specs.Worlds.{table_of, world_of};
+ghost use Rattle.check_operands.specs.Operands.{Stands};
+ghost use Rattle.check_parts.specs.Parts.{IsPart};
+
+use crate::part::{Part, Reach, place_of};
+use check_names::Scope;
+use check_operands::{Operand, Use, form};
+use check_steps::CheckFault;
+use check_types::TypeRef;
+use items::Items;
+use std::alloc::Global;
+
+// An element, by the array's length where its type has one.
+fn indexed<'a>(
+    scope: &Scope<'a>,
+    alloc: Global,
+    length: Option<u32>,
+    element: u32,
+    x: Part,
+    i: Operand,
+) -> Result<Part, CheckFault>
+    ensures { (a b : Judgement) → IsPart scope.now x a → Stands scope.now i b → Answers (IsPart scope.now) (Keeps (part_from scope.now.source.now (world_of scope.now) a (shape_of (table_of scope.now) element) (Index (place_from a) length (shape_of (table_of scope.now) element) (form_of b)))) result }
+{
+    let read_only = x.usage.is_read_only();
+    let Part { reach, .. } = x;
+    let array = place_of(scope, alloc, reach);
+    let index = form(scope, i);
+    let at = array.index(length, element, index)?;
+    Ok(Part {
+        of: scope.types.entry(element),
+        reach: Reach::Named(at),
+        usage: Use::Variable {
+            read_only,
+            tagged: false,
+            narrowed: false,
+        },
+    })
+}
+
+/// An element, after the index was walked: 31 at the designator, or at an index that is no number.
+pub fn element<'a>(
+    scope: &Scope<'a>,
+    alloc: Global,
+    symbol: u32,
+    index_symbol: u32,
+    x: Part,
+    i: Operand,
+) -> Result<Part, CheckFault>
+    ensures { (a b : Judgement) → IsPart scope.now x a → Stands scope.now i b → Answers (IsPart scope.now) (judged_element scope.now.source.now (world_of scope.now) (place scope.now.source.now symbol) (place scope.now.source.now index_symbol) a b) result }
+{
+    match x.of {
+        TypeRef::Array { length, element } => {
+            if i.of.is_number() {
+                indexed(scope, alloc, Some(length), element, x, i)
+            } else {
+                Err(scope.source.fault(31, index_symbol))
+            }
+        }
+        TypeRef::Open(element) => {
+            if i.of.is_number() {
+                indexed(scope, alloc, None, element, x, i)
+            } else {
+                Err(scope.source.fault(31, index_symbol))
+            }
+        }
+        _ => Err(scope.source.fault(31, symbol)),
+    }
+}
+
+/// What a pointer points to.
+pub fn followed<'a>(
+    alloc: Global,
+    scope: &Scope<'a>,
+    record_type: u32,
+    x: Part,
+) -> Result<Part, CheckFault>
+    ensures { (a : Judgement) → IsPart scope.now x a → Answers (IsPart scope.now) (Keeps (followed_from scope.now.source.now (world_of scope.now) a record_type)) result }
+{
+    let Part { reach, .. } = x;
+    let at = match reach {
+        Reach::Named(place) => place.dereference(Items::new(alloc))?,
+        Reach::Guarded { place, tags, .. } => place.dereference(tags)?,
+    };
+    Ok(Part {
+        of: TypeRef::Record(record_type),
+        reach: Reach::Named(at),
+        usage: Use::Variable {
+            read_only: false,
+            tagged: false,
+            narrowed: false,
+        },
+    })
+}
+
+/// `^`: 31 unless a pointer stands before it.
+pub fn target<'a>(
+    scope: &Scope<'a>,
+    alloc: Global,
+    symbol: u32,
+    x: Part,
+) -> Result<Part, CheckFault>
+    ensures { (a : Judgement) → IsPart scope.now x a → Answers (IsPart scope.now) (judged_target scope.now.source.now (world_of scope.now) (place scope.now.source.now symbol) a) result }
+{
+    match scope.types.target_of(x.of) {
+        None => Err(scope.source.fault(31, symbol)),
+        Some(record_type) => followed(alloc, scope, record_type, x),
+    }
+}

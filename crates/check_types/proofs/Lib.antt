@@ -1,0 +1,2 @@
+pub mod SameShapes
+pub mod Rounds

@@ -1,0 +1,3 @@
+pub mod TypeMeaning
+pub mod TableFacts
+pub mod Known

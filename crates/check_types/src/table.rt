@@ -1,0 +1,86 @@
+//! What is known of types.
+
+ghost use Rattle.std.specs.Prelude.{◌≡◌, []};
+ghost use Rattle.check_types.specs.TableFacts.{IsMeant, IsApart};
+
+use crate::types::TypeRef;
+use items::Items;
+use ob_types::Types;
+use std::alloc::Global;
+use std::collections::BTreeMap;
+
+/// A field by its name: the record type that adds it and its place among those that this one adds, its type, and
+/// whether it is exported, and by which module.
+#[derive(Clone, Copy)]
+pub struct FieldEntry {
+    pub adder: u32,
+    pub number: u32,
+    pub of: TypeRef,
+    pub exported: bool,
+    pub owner: u32,
+}
+
+/// A field that a record type adds.
+#[derive(Drop)]
+pub struct Added {
+    pub name: Items<u8>,
+    pub exported: bool,
+    pub of: TypeRef,
+}
+
+/// A record type: the module that declares it, itself and its bases by their numbers, the fields that it adds, and all
+/// its fields by their names.
+#[derive(Drop)]
+pub struct Layout {
+    pub module_number: u32,
+    pub line: Vec<u32>,
+    pub added: Vec<Added>,
+    pub fields: BTreeMap<Vec<u8>, FieldEntry>,
+    pub cells: u64,
+}
+
+/// The types by number, as the program has them and as the checker works with them; the record types by number, and of
+/// each pointer type the record type that it points to, once this is known.
+#[derive(Drop)]
+pub struct TypeTable {
+    pub types: Types,
+    pub entries: Vec<TypeRef>,
+    pub layouts: Vec<Layout>,
+    pub bases: Vec<Option<u32>>,
+    pub ghost meant: { IsMeant types entries.items },
+    pub ghost apart: { IsApart types },
+}
+
+impl TypeTable {
+    /// No types; takes no memory.
+    pub fn new(alloc: Global) -> TypeTable
+        ensures { result.entries.items ≡ [] }
+    {
+        TypeTable {
+            types: Types::new(alloc),
+            entries: Vec::new(alloc),
+            layouts: Vec::new(alloc),
+            bases: Vec::new(alloc),
+        }
+    }
+}
+
+#[cfg(test)]
+mod tests {
+    use super::*;
+    use ob_types::Relation;
+    use std::test::Fail;
+
+    #[test]
+    fn knows_basic_types(rt: HostRuntime) -> Result<(), Fail> {
+        let types = TypeTable::new(rt.alloc());
+        assert!(rt; types.assignable(TypeRef::Int, TypeRef::Byte));
+        assert!(rt; !types.assignable(TypeRef::Bool, TypeRef::Int));
+        assert!(rt; types.assignable(TypeRef::Char, TypeRef::Text(1)));
+        assert!(rt; !types.assignable(TypeRef::Char, TypeRef::Text(2)));
+        assert!(rt; types.may_compare(Relation::Less, TypeRef::Char, TypeRef::Text(1)));
+        assert!(rt; !types.may_compare(Relation::Less, TypeRef::Bool, TypeRef::Bool));
+        assert!(rt; !types.same(TypeRef::Pointer(0), TypeRef::Pointer(1)));
+        Ok(())
+    }
+}
