@@ -1,0 +1,5 @@
+use Rattle.ssa_exprs.proofs.Parts.{last, gives_is_pointer}
+use Rattle.ssa_exprs.proofs.named.is_pointer.Goals as goal
+
+pub returns : goal.returns
+returns c = last _ (λ r. gives_is_pointer c.in_ok-d.ensures) c.emit-2.ensures

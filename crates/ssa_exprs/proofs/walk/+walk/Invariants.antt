@@ -1,0 +1,48 @@
+use Rattle.std.proofs.Common.{drop, List, ℕ, ◌+◌, ◌*◌}
+use Rattle.ob_types.specs.declared.program.Program.{Program}
+use Rattle.ssa_lowered.specs.Lowered.{Here}
+use Rattle.ssa_lowered.specs.Values.{Named}
+use Rattle.ssa_exprs.specs.Making.{View}
+use Rattle.ssa_exprs.specs.Named.{named_of}
+use Rattle.ssa_exprs.specs.Tables.{Serves}
+use Rattle.ssa_exprs.proofs.Guards.{Selecting, Passing}
+use Rattle.ssa_exprs.proofs.walk.+walk.Given as goal
+
+abbrev pub invariant-selected-loop-s : goal.invariant-selected-loop-s
+invariant-selected-loop-s l = (program : Program) (here : Here) → Serves l.fn.t program here → (new : View) (k : Named) → Selecting program here (drop l.s-index l.selectors) l.b new (named_of l.h) k → Selecting program here l.selectors l.initial.b new (named_of l.initial.h) k
+
+abbrev pub invariant-arguments-loop-a : goal.invariant-arguments-loop-a
+invariant-arguments-loop-a l = (program : Program) (here : Here) → Serves l.t program here → (new : View) (words : List ℕ) → Passing program here (drop l.a-index l.args) l.b new l.words.items words → Passing program here l.args l.initial.b new l.initial.words.items words
+
+abbrev pub decreases-load : goal.decreases-load
+decreases-load l = goal.size-load l * 147573952589676412928 + 2
+
+abbrev pub decreases-named : goal.decreases-named
+decreases-named l = goal.size-named l * 147573952589676412928 + 1
+
+abbrev pub decreases-selected : goal.decreases-selected
+decreases-selected l = goal.size-selected l * 147573952589676412928 + 1
+
+abbrev pub decreases-select : goal.decreases-select
+decreases-select l = goal.size-select l * 147573952589676412928 + 0
+
+abbrev pub decreases-value : goal.decreases-value
+decreases-value l = goal.size-value l * 147573952589676412928 + 36893488147419103232
+
+abbrev pub decreases-cond : goal.decreases-cond
+decreases-cond l = goal.size-cond l * 147573952589676412928 + 36893488147419103233
+
+abbrev pub decreases-prepared : goal.decreases-prepared
+decreases-prepared l = goal.size-prepared l * 147573952589676412928 + 0
+
+abbrev pub decreases-arguments : goal.decreases-arguments
+decreases-arguments l = goal.size-arguments l * 147573952589676412928 + 1
+
+abbrev pub decreases-argument : goal.decreases-argument
+decreases-argument l = goal.size-argument l * 147573952589676412928 + 0
+
+abbrev pub decreases-chain : goal.decreases-chain
+decreases-chain l = goal.size-chain l * 147573952589676412928 + 2 * l.n
+
+abbrev pub decreases-chain_test : goal.decreases-chain_test
+decreases-chain_test l = goal.size-chain_test l * 147573952589676412928 + (1 + 2 * l.n)

@@ -1,0 +1,4 @@
+pub mod Making
+pub mod Named
+pub mod Tables
+pub mod Walk

@@ -1,0 +1,85 @@
+-- Tables of a program and a procedure, and that they are right.
+use Rattle.std.specs.Prelude.{◌≡◌, ℕ, ◌+◌, ◌-◌, ◌*◌, ◌<◌, min, List, [], length, Option, Some, None, slice_get, slice_index, slice_index_or, if◌then◌else◌, nat_lt}
+use Rattle.ob_types.specs.Meaning.{text_number}
+use Rattle.ob_types.specs.declared.tree.Expr.{Expr}
+use Rattle.ob_types.specs.declared.tree.Designator.{Designator}
+use Rattle.ob_types.specs.declared.tree.Base.{Base}
+use Rattle.ob_types.specs.declared.program.Program.{Program}
+use Rattle.ssa_lowered.specs.Data.{in_cells, global_at, text_at, within}
+use Rattle.ssa_lowered.specs.Pieces.{Low, give, ◌>>=◌}
+use Rattle.ssa_lowered.specs.Control.{Lowers}
+use Rattle.ssa_lowered.specs.Values.{Named, At, const}
+use Rattle.ssa_lowered.specs.Variables.{Site, Register, Memory}
+use Rattle.ssa_exprs.specs.Named.{named_of}
+use Rattle.ssa_exprs.specs.declared.named.Named.{Named as NamedValue}
+use Rattle.ssa_exprs.specs.declared.tables.Tables.{Tables}
+use Rattle.ssa_lowered.specs.Lowered.{Here, expr, named, descriptor, level, variable_of, parameter, based, local_by}
+
+-- the item of a number, or the last one
+abbrev pub clamped : List ℕ → ℕ → ℕ
+clamped xs i = if nat_lt i (length xs) then slice_index xs i else slice_index xs (length xs - 1)
+
+abbrev pub of_row : List (List ℕ) → ℕ → ℕ → ℕ → ℕ
+of_row xss i j other = if nat_lt i (length xss) then clamped (slice_index_or xss i []) j else other
+
+abbrev pub global_in : Tables → ℕ → ℕ → ℕ
+global_in t m v = of_row t.globals m v t.descriptors
+
+abbrev pub descriptor_in : Tables → ℕ → ℕ
+descriptor_in t r = min (t.descriptors + 128 * r) 16777215
+
+abbrev pub level_in : Tables → ℕ → ℕ
+level_in t r = slice_index_or t.levels r 0
+
+abbrev pub size_in : Tables → ℕ → ℕ
+size_in t k = slice_index_or t.sizes k 8
+
+abbrev pub offset_in : Tables → ℕ → ℕ → ℕ
+offset_in t r field = of_row t.offsets r field 0
+
+abbrev pub text_in : Tables → ℕ → ℕ
+text_in t k = clamped t.texts (t.first_text + k)
+
+-- the expression and the designator of a procedure, where each cell takes eight bytes
+abbrev pub expr_in : Program → Here → Expr → Lowers
+expr_in p here e = expr p (in_cells p.types) here e
+
+abbrev pub named_in : Program → Here → Designator → Low Named
+named_in p here d = named p (in_cells p.types) here d
+
+-- where a designator begins, and where a parameter and a variable are
+abbrev pub based_in : Program → Here → Base → Low Named
+based_in p here at = based p (in_cells p.types) here at
+
+abbrev pub passed_in : Program → Here → ℕ → Low Named
+passed_in p here k = parameter p (in_cells p.types) here k
+
+abbrev pub own_in : Program → Here → ℕ → Low Named
+own_in p here x = local_by p (in_cells p.types) here (variable_of p (in_cells p.types) here x).site x
+
+-- where a variable is, by its distance from the end of the local data
+abbrev pub site_by : ℕ → Site → Option ℕ
+site_by bytes Register = None
+site_by bytes (Memory n) = Some (bytes - n)
+
+-- what a parameter names; where there is none, a value is made
+abbrev pub parameter_in : Option NamedValue → Low Named
+parameter_in (Some h) = give (named_of h)
+parameter_in None = do
+  a ← const 0
+  give (At a)
+
+abbrev pub local_in : Tables → ℕ → Option ℕ
+local_in t x = slice_index_or t.locals x None
+
+-- the tables are right for a procedure of a program
+pub record Serves (t : Tables) (p : Program) (here : Here) : Type 0 where
+  pub global : (m v : ℕ) → global_in t m v ≡ global_at p (in_cells p.types) m v
+  pub descriptor : (r : ℕ) → descriptor_in t r ≡ descriptor p (in_cells p.types) here r
+  pub level : (r : ℕ) → level_in t r ≡ level p (in_cells p.types) here r
+  pub size : (k : ℕ) → size_in t k ≡ (in_cells p.types).bytes k
+  pub offset : (r field : ℕ) → offset_in t r field ≡ (in_cells p.types).offset r field
+  pub short : (r field : ℕ) → 8 + offset_in t r field < 4294967296
+  pub text : (k : ℕ) → text_in t k ≡ within (text_at p (in_cells p.types) (text_number p here.number k))
+  pub parameter : (k : ℕ) → (parameter p (in_cells p.types) here k ≡ parameter_in (slice_get t.parameters k))
+  pub local : (x : ℕ) → local_in t x ≡ site_by here.bytes (variable_of p (in_cells p.types) here x).site

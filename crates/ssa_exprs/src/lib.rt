@@ -1,0 +1,19 @@
+//! Lowering of expressions and designators: their code, appended to a procedure in the making.
+//!
+//! `Making` keeps the code that is made so far as pieces, with labels for blocks that aren't begun yet; `Tables` keep where
+//! data stands. `lower_value` and `lower_cond` append exactly the code that `ssa_lowered` defines of an expression, number by
+//! number: their clauses say so by `Gives` and `Tests` (`specs/Making.antt`), which layers above put together for statements.
+#![tactic(auto)]
+
+mod fault;
+mod lowering;
+mod making;
+mod named;
+mod tables;
+mod walk;
+
+pub use fault::LowerFault;
+pub use lowering::{Lowering, lower_cond, lower_value};
+pub use making::{Bound, Making, Piece};
+pub use named::Named;
+pub use tables::Tables;

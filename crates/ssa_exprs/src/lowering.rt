@@ -1,0 +1,91 @@
+//! Lowering an expression, as a value and as a condition.
+
+ghost use Rattle.std.specs.Prelude.{◌≡◌, IfOk, OnOk};
+ghost use Rattle.ob_types.specs.declared.program.Program.{Program};
+ghost use Rattle.ssa_lowered.specs.Lowered.{Here};
+ghost use Rattle.ssa_exprs.specs.Making.{Gives, Tests};
+ghost use Rattle.ssa_exprs.specs.Tables.{Serves, expr_in};
+
+use crate::fault::LowerFault;
+use crate::making::Making;
+use crate::tables::Tables;
+use crate::walk::{cond, value};
+use ob_types::Checked;
+
+/// A procedure that is lowered: where data stands, and its code so far.
+#[derive(Drop)]
+pub struct Lowering {
+    pub tables: Tables,
+    pub making: Making,
+}
+
+/// Appends the code of an expression's value, whose number is the result. Limits are told when the procedure is complete.
+pub fn lower_value(b: &mut Lowering, e: &Checked) -> Result<u32, LowerFault>
+    ensures value { IfOk result (λ v. (p : Program) (here : Here) → Serves b.old.tables p here → Gives b.old.making b.new.making (expr_in p here e.now.form).value v) }
+    ensures tables { b.new.tables ≡ b.old.tables }
+{
+    value(&b.tables, &mut b.making, &e.form)
+}
+
+/// Appends the code of a condition, which leads to one label where it holds and to another where it doesn't. The block behind
+/// it is begun, and runs as often as the one that was open.
+pub fn lower_cond(b: &mut Lowering, e: &Checked, yes: u32, no: u32) -> Result<(), LowerFault>
+    ensures test { OnOk result ((p : Program) (here : Here) → Serves b.old.tables p here → Tests b.old.making b.new.making (expr_in p here e.now.form).test yes no b.old.making.freq) }
+    ensures tables { b.new.tables ≡ b.old.tables }
+{
+    let freq = b.making.freq();
+    cond(&b.tables, &mut b.making, &e.form, yes, no, freq)
+}
+
+#[cfg(test)]
+mod tests {
+    use super::*;
+    use crate::making::Piece;
+    use items::Items;
+    use ob_types::{Expr, Relation, TypeKind};
+    use std::alloc::Global;
+    use std::test::Fail;
+
+    fn nothing(alloc: Global) -> Tables {
+        Tables {
+            globals: Items::new(alloc),
+            descriptors: 8,
+            levels: Items::new(alloc),
+            offsets: Items::new(alloc),
+            sizes: Items::new(alloc),
+            texts: Items::new(alloc),
+            first_text: 0,
+            parameters: Items::new(alloc),
+            locals: Items::new(alloc),
+        }
+    }
+
+    #[test]
+    fn compares_two_numbers(rt: HostRuntime) -> Result<(), Fail> {
+        let one = Box::new(rt.alloc(), Expr::Literal(1))?;
+        let two = Box::new(rt.alloc(), Expr::Literal(2))?;
+        let e = Checked {
+            form: Expr::Compare(Relation::Less, one, two),
+            kind: TypeKind::Bool,
+        };
+        let mut b = Lowering {
+            tables: nothing(rt.alloc()),
+            making: Making::new(rt.alloc(), 0),
+        };
+        let v = match lower_value(&mut b, &e) {
+            Ok(v) => v,
+            Err(_) => 99,
+        };
+        assert!(rt; v == 2);
+        assert!(rt; b.making.pieces().len() == 3);
+        let yes = match b.making.label() {
+            Ok(label) => label,
+            Err(_) => 99,
+        };
+        assert!(rt; yes == 0);
+        assert!(rt; lower_cond(&mut b, &e, yes, yes).is_ok());
+        assert!(rt; b.making.pieces().len() == 6);
+        assert!(rt; matches!(b.making.pieces()[5], Piece::Ends { .. }));
+        Ok(())
+    }
+}

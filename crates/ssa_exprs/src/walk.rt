@@ -1,0 +1,642 @@
+//! The walk over expressions and designators.
+
+ghost use Rattle.std.specs.Prelude.{◌≡◌, ◌≤◌, ℕ, None, suc, length, IfSome, List, [], ◌∷◌, IfOk, OnOk};
+ghost use Rattle.ob_types.specs.declared.program.Program.{Program};
+ghost use Rattle.ob_types.specs.Meaning.{kind_in, length_of_kind, record_of_kind};
+ghost use Rattle.ssa_lowered.specs.Lowered.{Here, based, select, argument};
+ghost use Rattle.ssa_exprs.specs.Making.{View, Gives, Passed, Tests, asked, closed};
+ghost use Rattle.block_runs.specs.declared.end.End.TheVariants.{Nonzero, Branch};
+ghost use Rattle.ssa_lowered.specs.Control.{Test, half, flag};
+ghost use Rattle.ssa_exprs.specs.Named.{named_of};
+ghost use Rattle.ssa_exprs.specs.Walk.{load_in, select_in, selected_in, linked_in, argument_in, arguments_in, called_in, guarded_in, links_of, prefix_in, is_plain};
+ghost use Rattle.ssa_lowered.specs.Pieces.{Low};
+ghost use Rattle.ssa_lowered.specs.Values.{Named as NamedThing};
+ghost use Rattle.ssa_exprs.specs.Tables.{Serves, expr_in, named_in, based_in, passed_in, own_in};
+ghost use Rattle.ssa_lowered.specs.Values.{data_at, local_at};
+
+use crate::fault::LowerFault;
+use crate::making::Making;
+use crate::named::{
+    Named, address_in, bytes_in, condition, guard, is_pointer, is_tag, length_in, one_operand,
+    read, second, tag_in, two_operands,
+};
+use crate::tables::Tables;
+use block_runs::{Code, End};
+use ob_types::{Argument, Base, Call, Designator, Expr, Link, Selector, TypeKind, Unary};
+
+/// The type that a designator has.
+fn kind_in(d: &Designator) -> TypeKind
+    ensures { result ≡ kind_in d.now }
+{
+    match d {
+        Designator::Whole(_, kind) => *kind,
+        Designator::Part(_, kind, _) => *kind,
+    }
+}
+
+/// The length of an array or a string, where the type has one.
+fn length_of_kind(kind: TypeKind) -> Option<u64>
+    ensures is { result ≡ length_of_kind kind }
+    ensures few { IfSome result (λ n. n ≤ 4294967296) }
+{
+    match kind {
+        TypeKind::Array {
+            length: Some(n),
+            ..
+        } => Some(u64::from(n)),
+        TypeKind::Text(n) => Some(u64::from(n) + 1),
+        _ => None,
+    }
+}
+
+/// An address behind the start of the globals.
+fn data_at(b: &mut Making, n: u32) -> Result<Named, LowerFault>
+    ensures { IfOk result (λ h. Gives b.old b.new (data_at n) (named_of h)) }
+{
+    let a = b.emit(Code::Global(n), &[])?;
+    Ok(Named::At(a))
+}
+
+/// An address before the end of the local data.
+fn local_at(b: &mut Making, n: u32) -> Result<Named, LowerFault>
+    ensures { IfOk result (λ h. Gives b.old b.new (local_at n) (named_of h)) }
+{
+    let a = b.emit(Code::Local(n), &[])?;
+    Ok(Named::At(a))
+}
+
+/// What a parameter names.
+fn parameter(t: &Tables, b: &mut Making, k: u32) -> Result<Named, LowerFault>
+    ensures { IfOk result (λ h. (p : Program) (here : Here) → Serves t.now p here → Gives b.old b.new (passed_in p here k) (named_of h)) }
+{
+    let parameters = t.parameters.as_slice();
+    if (k as usize) < parameters.len() {
+        Ok(parameters[k as usize])
+    } else {
+        let a = b.emit(Code::Const(0), &[])?;
+        Ok(Named::At(a))
+    }
+}
+
+/// A local variable.
+fn local(t: &Tables, b: &mut Making, x: u32) -> Result<Named, LowerFault>
+    ensures { IfOk result (λ h. (p : Program) (here : Here) → Serves t.now p here → Gives b.old b.new (own_in p here x) (named_of h)) }
+{
+    let locals = t.locals.as_slice();
+    let site = if (x as usize) < locals.len() {
+        locals[x as usize]
+    } else {
+        None
+    };
+    match site {
+        None => Ok(Named::Held(x)),
+        Some(n) => local_at(b, n),
+    }
+}
+
+/// Where a designator begins.
+fn base(t: &Tables, b: &mut Making, at: Base) -> Result<Named, LowerFault>
+    ensures { IfOk result (λ h. (p : Program) (here : Here) → Serves t.now p here → Gives b.old b.new (based_in p here at) (named_of h)) }
+{
+    match at {
+        Base::Done => data_at(b, 0),
+        Base::Global { module, variable } => data_at(b, t.global(module, variable)),
+        Base::Local(x) => local(t, b, x),
+        Base::Parameter(k) => parameter(t, b, k),
+        Base::Text(k) => data_at(b, t.text(k)),
+    }
+}
+
+/// The value of a scalar variable that a designator names.
+#[cycle(walk)]
+fn load(t: &Tables, b: &mut Making, d: &Designator) -> Result<u32, LowerFault>
+    ensures { IfOk result (λ v. (p : Program) (here : Here) → Serves t.now p here → Gives b.old b.new (load_in p here d.now) v) }
+{
+    let h = named(t, b, d)?;
+    let v = read(b, h)?;
+    Ok(v)
+}
+
+/// What a designator names.
+#[cycle(walk)]
+fn named(t: &Tables, b: &mut Making, d: &Designator) -> Result<Named, LowerFault>
+    ensures { IfOk result (λ h. (p : Program) (here : Here) → Serves t.now p here → Gives b.old b.new (named_in p here d.now) (named_of h)) }
+{
+    match d {
+        Designator::Whole(at, _) => {
+            let h = base(t, b, *at)?;
+            Ok(h)
+        }
+        Designator::Part(at, _, selectors) => {
+            let first = base(t, b, *at)?;
+            let h = selected(t, b, selectors, first)?;
+            Ok(h)
+        }
+    }
+}
+
+/// What selectors lead to, one after the other.
+#[cycle(walk)]
+fn selected(
+    t: &Tables,
+    b: &mut Making,
+    selectors: &[Selector],
+    first: Named,
+) -> Result<Named, LowerFault>
+    ensures { IfOk result (λ h. (p : Program) (here : Here) → Serves t.now p here → (v : View) (d : Low NamedThing) → Gives v b.old d (named_of first) → Gives v b.new (selected_in p here selectors.now d) (named_of h)) }
+{
+    let mut h = first;
+    for s in selectors {
+        h = select(t, b, s, h)?;
+    }
+    Ok(h)
+}
+
+/// What a selector leads to.
+#[cycle(walk)]
+fn select(t: &Tables, b: &mut Making, s: &Selector, h: Named) -> Result<Named, LowerFault>
+    ensures { IfOk result (λ r. (p : Program) (here : Here) → Serves t.now p here → (v : View) (d : Low NamedThing) → Gives v b.old d (named_of h) → Gives v b.new (select_in p here s.now d) (named_of r)) }
+{
+    match s {
+        Selector::Index {
+            length,
+            element,
+            index,
+        } => {
+            let a = address_in(b, h, 0)?;
+            let i = value(t, b, index)?;
+            let n = length_in(b, known(*length), h)?;
+            b.act(Code::Below, &[i, n])?;
+            let size = b.emit(Code::Const(u64::from(t.size(*element))), &[])?;
+            let e = b.emit(Code::MulAdd, &[i, size, a])?;
+            Ok(Named::At(e))
+        }
+        Selector::Field { record, field } => {
+            let a = address_in(b, h, t.offset(*record, *field))?;
+            Ok(Named::At(a))
+        }
+        Selector::Dereference(types) => {
+            let p = read(b, h)?;
+            guard_all(t, b, types.as_slice(), p)?;
+            b.act(Code::NotNil, &[p])?;
+            Ok(Named::Object(p))
+        }
+        Selector::Narrow(r) => {
+            let x = second(b, h)?;
+            let g = b.emit(Code::Global(t.descriptor(*r)), &[])?;
+            b.act(Code::GuardTag(t.level(*r)), &[x, g])?;
+            Ok(h)
+        }
+    }
+}
+
+/// The value of an expression.
+#[cycle(walk)]
+pub fn value(t: &Tables, b: &mut Making, e: &Expr) -> Result<u32, LowerFault>
+    ensures { IfOk result (λ v. (p : Program) (here : Here) → Serves t.now p here → Gives b.old b.new (expr_in p here e.now).value v) }
+{
+    match e {
+        Expr::Literal(n) => {
+            let v = b.emit(Code::Const(*n), &[])?;
+            Ok(v)
+        }
+        Expr::Routine(g) => {
+            let v = b.emit(Code::Code(*g), &[])?;
+            Ok(v)
+        }
+        Expr::Load(d) => {
+            let v = load(t, b, d)?;
+            Ok(v)
+        }
+        Expr::Guard(d, types) => {
+            let v = load(t, b, d)?;
+            guard_all(t, b, types.as_slice(), v)?;
+            Ok(v)
+        }
+        Expr::Unary(op, x) => {
+            let a = value(t, b, x)?;
+            let v = one_operand(b, *op, a)?;
+            Ok(v)
+        }
+        Expr::Chain(_, links) => {
+            let v = chain(t, b, e, links.len())?;
+            Ok(v)
+        }
+        Expr::Compare(r, x, y) => {
+            let a = value(t, b, x)?;
+            let c = value(t, b, y)?;
+            let v = b.emit(Code::Set(condition(*r)), &[a, c])?;
+            Ok(v)
+        }
+        Expr::CompareTexts(r, d, e) => {
+            let x = named(t, b, d)?;
+            let a = address_in(b, x, 0)?;
+            let i = bytes_in(b, 8, length_of_kind(kind_in(d)), x)?;
+            let y = named(t, b, e)?;
+            let c = address_in(b, y, 0)?;
+            let j = bytes_in(b, 8, length_of_kind(kind_in(e)), y)?;
+            let k = b.emit(Code::Compare, &[a, i, c, j])?;
+            let z = b.emit(Code::Const(0), &[])?;
+            let v = b.emit(Code::Set(condition(*r)), &[k, z])?;
+            Ok(v)
+        }
+        Expr::In(x, s) => {
+            let a = value(t, b, x)?;
+            b.act(Code::Elem, &[a])?;
+            let c = value(t, b, s)?;
+            let v = b.emit(Code::Has, &[a, c])?;
+            Ok(v)
+        }
+        Expr::IsPointer(x, r) => {
+            let a = value(t, b, x)?;
+            let v = is_pointer(b, t.descriptor(*r), t.level(*r), a)?;
+            Ok(v)
+        }
+        Expr::IsParameter(d, r) => {
+            let h = named(t, b, d)?;
+            let tag = second(b, h)?;
+            let v = is_tag(b, t.descriptor(*r), t.level(*r), tag)?;
+            Ok(v)
+        }
+        Expr::Byte(x) => {
+            let v = value(t, b, x)?;
+            b.act(Code::Byte, &[v])?;
+            Ok(v)
+        }
+        Expr::Length(d) => {
+            let h = named(t, b, d)?;
+            address_in(b, h, 0)?;
+            let v = length_in(b, length_of_kind(kind_in(d)), h)?;
+            Ok(v)
+        }
+        Expr::Call(c) => {
+            let r = prepared(t, b, c)?;
+            let v = b.emit(r.code, r.words.as_slice())?;
+            Ok(v)
+        }
+    }
+}
+
+/// The pointer is tested to be of these record types, one after the other.
+fn guard_all(t: &Tables, b: &mut Making, types: &[u32], p: u32) -> Result<(), LowerFault>
+    ensures { OnOk result ((program : Program) (here : Here) → Serves t.now program here → (v : View) (m : Low ℕ) → Gives v b.old m p → Gives v b.new (guarded_in program here types.now m) p) }
+{
+    for r in types {
+        guard(b, t.descriptor(*r), t.level(*r), p)?;
+    }
+    Ok(())
+}
+
+/// A length of 32 bits.
+fn known(length: Option<u32>) -> Option<u64>
+    ensures { result ≡ length }
+{
+    match length {
+        Some(n) => Some(u64::from(n)),
+        None => None,
+    }
+}
+
+/// A call that is ready to be made: its operation, and the values that it reads.
+#[derive(Drop)]
+struct Request {
+    code: Code,
+    words: Vec<u32>,
+}
+
+/// A call, its arguments evaluated.
+#[cycle(walk)]
+fn prepared(t: &Tables, b: &mut Making, c: &Call) -> Result<Request, LowerFault>
+    ensures { IfOk result (λ r. (p : Program) (here : Here) → Serves t.now p here → Gives b.old b.new (called_in p here c.now) (record { code = r.code; words = r.words.items })) }
+{
+    match c {
+        Call::Direct(g, args) => {
+            let mut words = Vec::new(b.allocator());
+            arguments(t, b, args, &mut words)?;
+            Ok(Request {
+                code: Code::Call(*g),
+                words,
+            })
+        }
+        Call::Indirect(d, args) => {
+            let x = load(t, b, d)?;
+            let mut words = Vec::new(b.allocator());
+            words.push(x)?;
+            arguments(t, b, args, &mut words)?;
+            b.act(Code::NotNil, &[x])?;
+            Ok(Request {
+                code: Code::CallAt,
+                words,
+            })
+        }
+    }
+}
+
+/// The words of arguments, one after the other.
+#[cycle(walk)]
+fn arguments(
+    t: &Tables,
+    b: &mut Making,
+    args: &[Argument],
+    words: &mut Vec<u32>,
+) -> Result<(), LowerFault>
+    ensures { OnOk result ((p : Program) (here : Here) → Serves t.now p here → Passed b.old b.new (arguments_in p here args.now) words.old.items words.new.items) }
+{
+    for a in args {
+        argument(t, b, a, words)?;
+    }
+    Ok(())
+}
+
+/// The words of an argument: one or two.
+#[cycle(walk)]
+fn argument(
+    t: &Tables,
+    b: &mut Making,
+    a: &Argument,
+    words: &mut Vec<u32>,
+) -> Result<(), LowerFault>
+    ensures { OnOk result ((p : Program) (here : Here) → Serves t.now p here → Passed b.old b.new (argument_in p here a.now) words.old.items words.new.items) }
+{
+    match a {
+        Argument::ByValue(x) => {
+            let v = value(t, b, x)?;
+            words.push(v)?;
+        }
+        Argument::ByPlace(d) => {
+            let h = named(t, b, d)?;
+            let v = address_in(b, h, 0)?;
+            words.push(v)?;
+        }
+        Argument::ByRecord(d) => {
+            let h = named(t, b, d)?;
+            let v = address_in(b, h, 0)?;
+            let tag = tag_in(b, t.descriptor(record_of_kind(kind_in(d))), h)?;
+            words.push(v)?;
+            words.push(tag)?;
+        }
+        Argument::ByOpen(d) => {
+            let h = named(t, b, d)?;
+            let v = address_in(b, h, 0)?;
+            let n = length_in(b, length_of_kind(kind_in(d)), h)?;
+            words.push(v)?;
+            words.push(n)?;
+        }
+    }
+    Ok(())
+}
+
+/// The record type of a record, or of a pointer's objects.
+fn record_of_kind(kind: TypeKind) -> u32
+    ensures { result ≡ record_of_kind kind }
+{
+    match kind {
+        TypeKind::Record(r) => r,
+        TypeKind::Pointer(r) => r,
+        _ => 0,
+    }
+}
+
+/// The value of a chain with its first so many links.
+#[cycle(walk)]
+fn chain(t: &Tables, b: &mut Making, e: &Expr, n: usize) -> Result<u32, LowerFault>
+    ensures { IfOk result (λ v. (p : Program) (here : Here) → Serves t.now p here → n ≤ length (links_of e.now) → Gives b.old b.new (prefix_in p here n e.now).value v) }
+{
+    match e {
+        Expr::Chain(x, links) => {
+            if n == 0 || n > links.len() {
+                let v = value(t, b, x)?;
+                return Ok(v);
+            }
+            match &links[n - 1] {
+                Link::Operate(op, y) => {
+                    let a = chain(t, b, e, n - 1)?;
+                    let c = value(t, b, y)?;
+                    let v = two_operands(b, *op, a, c)?;
+                    Ok(v)
+                }
+                Link::And(y) => {
+                    let freq = b.freq();
+                    let yes = b.label()?;
+                    let no = b.label()?;
+                    let middle = b.label()?;
+                    chain_test(t, b, e, n - 1, middle, no, freq)?;
+                    b.bind(middle)?;
+                    cond(t, b, y, yes, no, half(freq))?;
+                    let v = flagged(b, yes, no, freq)?;
+                    Ok(v)
+                }
+                Link::Or(y) => {
+                    let freq = b.freq();
+                    let yes = b.label()?;
+                    let no = b.label()?;
+                    let middle = b.label()?;
+                    chain_test(t, b, e, n - 1, yes, middle, freq)?;
+                    b.bind(middle)?;
+                    cond(t, b, y, yes, no, half(freq))?;
+                    let v = flagged(b, yes, no, freq)?;
+                    Ok(v)
+                }
+                Link::Element(y) => {
+                    let s = chain(t, b, e, n - 1)?;
+                    let a = value(t, b, y)?;
+                    b.act(Code::Elem, &[a])?;
+                    let bit = b.emit(Code::Bit, &[a])?;
+                    let v = b.emit(Code::Or, &[s, bit])?;
+                    Ok(v)
+                }
+                Link::Elements(y, z) => {
+                    let s = chain(t, b, e, n - 1)?;
+                    let a = value(t, b, y)?;
+                    b.act(Code::Elem, &[a])?;
+                    let c = value(t, b, z)?;
+                    b.act(Code::Elem, &[c])?;
+                    let bits = b.emit(Code::Span, &[a, c])?;
+                    let v = b.emit(Code::Or, &[s, bits])?;
+                    Ok(v)
+                }
+            }
+        }
+        _ => Err(LowerFault::Memory),
+    }
+}
+
+/// A chain with its first so many links, as a condition.
+#[cycle(walk)]
+fn chain_test(
+    t: &Tables,
+    b: &mut Making,
+    e: &Expr,
+    n: usize,
+    yes: u32,
+    no: u32,
+    next: u64,
+) -> Result<(), LowerFault>
+    ensures { OnOk result ((p : Program) (here : Here) → Serves t.now p here → n ≤ length (links_of e.now) → Tests b.old b.new (prefix_in p here n e.now).test yes no next) }
+{
+    match e {
+        Expr::Chain(x, links) => {
+            if n == 0 || n > links.len() {
+                cond(t, b, x, yes, no, next)?;
+                return Ok(());
+            }
+            let freq = b.freq();
+            match &links[n - 1] {
+                Link::And(y) => {
+                    let middle = b.label()?;
+                    chain_test(t, b, e, n - 1, middle, no, freq)?;
+                    b.bind(middle)?;
+                    cond(t, b, y, yes, no, next)?;
+                }
+                Link::Or(y) => {
+                    let middle = b.label()?;
+                    chain_test(t, b, e, n - 1, yes, middle, freq)?;
+                    b.bind(middle)?;
+                    cond(t, b, y, yes, no, next)?;
+                }
+                Link::Operate(_, _) => {
+                    let a = chain(t, b, e, n)?;
+                    fork(b, a, yes, no, next)?;
+                }
+                Link::Element(_) => {
+                    let a = chain(t, b, e, n)?;
+                    fork(b, a, yes, no, next)?;
+                }
+                Link::Elements(_, _) => {
+                    let a = chain(t, b, e, n)?;
+                    fork(b, a, yes, no, next)?;
+                }
+            }
+            Ok(())
+        }
+        _ => Err(LowerFault::Memory),
+    }
+}
+
+/// An expression as a condition: to one label where it holds, to another where it doesn't.
+#[cycle(walk)]
+pub fn cond(
+    t: &Tables,
+    b: &mut Making,
+    e: &Expr,
+    yes: u32,
+    no: u32,
+    next: u64,
+) -> Result<(), LowerFault>
+    ensures { OnOk result ((p : Program) (here : Here) → Serves t.now p here → Tests b.old b.new (expr_in p here e.now).test yes no next) }
+{
+    if is_plain(e) {
+        let a = value(t, b, e)?;
+        fork(b, a, yes, no, next)?;
+        return Ok(());
+    }
+    match e {
+        Expr::Unary(_, x) => {
+            cond(t, b, x, no, yes, next)?;
+            Ok(())
+        }
+        Expr::Chain(_, links) => {
+            chain_test(t, b, e, links.len(), yes, no, next)?;
+            Ok(())
+        }
+        Expr::Compare(r, x, y) => {
+            let a = value(t, b, x)?;
+            let c = value(t, b, y)?;
+            branch(b, condition(*r), a, c, yes, no, next)?;
+            Ok(())
+        }
+        _ => Err(LowerFault::Memory),
+    }
+}
+
+/// Whether an expression is a condition by its value alone.
+fn is_plain(e: &Expr) -> bool
+    ensures { result ≡ is_plain e.now }
+{
+    match e {
+        Expr::Unary(op, _) => !matches!(op, Unary::Not),
+        Expr::Chain(_, _) => false,
+        Expr::Compare(_, _, _) => false,
+        _ => true,
+    }
+}
+
+/// The open block ends with a test of a value.
+fn fork(b: &mut Making, a: u32, yes: u32, no: u32, next: u64) -> Result<(), LowerFault>
+    ensures { OnOk result (b.new ≡ closed b.old (Nonzero a yes no) [] next None) }
+{
+    let none = b.none();
+    b.close(End::Nonzero { a, yes, no }, none, next, None)?;
+    Ok(())
+}
+
+/// The open block ends with a relation of two values.
+fn branch(
+    b: &mut Making,
+    cond: u8,
+    x: u32,
+    y: u32,
+    yes: u32,
+    no: u32,
+    next: u64,
+) -> Result<(), LowerFault>
+    ensures { OnOk result (b.new ≡ closed b.old (Branch cond x y yes no) [] next None) }
+{
+    let none = b.none();
+    b.close(
+        End::Branch {
+            cond,
+            a: x,
+            b: y,
+            yes,
+            no,
+        },
+        none,
+        next,
+        None,
+    )?;
+    Ok(())
+}
+
+/// Half of a frequency, and at least 1.
+fn half(freq: u64) -> u64
+    ensures { result ≡ half freq }
+{
+    if freq < 2 { 1 } else { freq / 2 }
+}
+
+/// A condition's two ways become 1 and 0: behind the labels and the test.
+fn flagged(b: &mut Making, yes: u32, no: u32, freq: u64) -> Result<u32, LowerFault>
+    ensures { IfOk result (λ r. (v : View) (t : Test) → yes ≡ v.labels → no ≡ suc v.labels → freq ≡ v.freq → Tests (asked (asked v)) b.old t yes no (half v.freq) → Gives v b.new (flag t) r) }
+{
+    b.bind(yes)?;
+    let one = b.emit(Code::Const(1), &[])?;
+    let out = b.label()?;
+    let given = b.one(one)?;
+    let none = b.none();
+    b.close(
+        End::Jump {
+            to: out,
+            args: given,
+        },
+        none,
+        half(freq),
+        None,
+    )?;
+    b.bind(no)?;
+    let zero = b.emit(Code::Const(0), &[])?;
+    let v = b.value()?;
+    let given = b.one(zero)?;
+    let params = b.one(v)?;
+    b.close(
+        End::Jump {
+            to: out,
+            args: given,
+        },
+        params,
+        freq,
+        None,
+    )?;
+    b.bind(out)?;
+    Ok(v)
+}

@@ -1,0 +1,10 @@
+pub mod Data
+pub mod Pieces
+pub mod Values
+pub mod Control
+pub mod Statements
+pub mod Variables
+pub mod Lowered
+pub mod Constants
+pub mod Limits
+pub mod Places
