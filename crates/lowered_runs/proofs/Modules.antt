@@ -1,0 +1,125 @@
+-- What holds while a module's body runs: where the variables are, and what its code is.
+use Rattle.std.proofs.Common.{◌≡◌, ℕ, zero, suc, ◌+◌, ◌*◌, ◌%◌, ◌^◌, ◌≤◌, List, [], ◌∷◌, length, take, slice_get, refl, sym, ap, ◌∙◌, arith, Some, None}
+use Rattle.std.specs.Prelude.{sum, sum_by}
+use Rattle.std.proofs.lemmas.List.Sums.{sum_by-cons}
+use Rattle.block_runs.specs.Points.{AreCodePlaces}
+use Rattle.ob_types.specs.Layout.{cells_of_all}
+use Rattle.ob_types.specs.Store.{Globals, Frames, Heap, Strings, Store}
+use Rattle.ob_types.specs.Meaning.{procedure_of, globals_of, locals_of}
+use Rattle.ob_types.specs.declared.program.Procedure.{Procedure as Declared}
+use Rattle.ob_types.specs.declared.program.Program.{Program}
+use Rattle.ob_types.proofs.Tests.{and_of}
+use Rattle.ob_sound.proofs.Typed.{lt_of}
+use Rattle.ssa_core.specs.Procedures.{procedures}
+use Rattle.ssa_lowered.specs.Data.{Layout, in_cells, globals_room, room_of_all}
+use Rattle.ssa_lowered.specs.Lowered.{lowered, procs_from}
+use Rattle.lowered_runs.specs.Words.{Whole, Level, Right, Sizes, sizes_of, Thing, InCell, TagOf, Constant, word_of, There, Room, Held, Apart, data_word}
+use Rattle.lowered_runs.proofs.Starting.{start_of, whole_of, body_level, global_sizes}
+use Rattle.lowered_runs.proofs.Bodies.{module_sizes, modules_are, starts_are, rooms_are, variable_below}
+use Rattle.lowered_runs.proofs.Tree.{Variables}
+
+nothing_some : {A : Type 0} {x : A} → None ≡ Some x → ⊥
+nothing_some e = cc
+
+take_all : {A : Type 0} (xs : List A) → take (length xs) xs ≡ xs
+take_all [] = refl
+take_all (x ∷ xs) = ap (λ ys. x ∷ ys) (take_all xs)
+
+-- as many procedures run as are declared
+pub many : (p : Program) (l : Layout) (f : ℕ) (qs : List Declared) → length (procedures (procs_from p l f qs)) ≡ length qs
+many p l f [] = refl
+many p l f (q ∷ qs) = ap suc (many p l (suc f) qs)
+
+module _ (p : Program) (input : List ℕ) where
+  abbrev lay : Layout
+  lay = in_cells p.types
+
+  pub room_sizes : globals_room p lay ≡ 8 * sum (global_sizes p input)
+  room_sizes =
+      let e = sum_by-cons (λ x. x) 1 (module_sizes p p.modules) in
+      let f = modules_are p p.modules in
+      let g = ap (λ ms. sum_by (λ x. room_of_all lay x.variables) ms) (take_all p.modules) in
+      omega (arith, e, f, g)
+
+  module _ (code : ℕ → ℕ) (constants : List ℕ) (n : ℕ) (q j : ℕ) (s : Store) where
+    abbrev w : Whole
+    w = whole_of p input code constants n
+
+    abbrev l : Level
+    l = body_level p input q j s
+
+    pub right_of_code : AreCodePlaces (length (procedures (lowered p))) code → Right w
+    right_of_code are = record { codes = are; callable = λ g h. let e = many p lay 0 p.procedures in let lt = lt_of p g (length p.procedures) (and_of _ _ h).0 in omega (arith, e, lt) }
+
+    pub apart_in_body : Apart l
+    apart_in_body = record { registers = λ x lt. absurd (omega (arith, lt)); cells = λ x y other lt. absurd (omega (arith, lt)) }
+
+    none_taken : (x : ℕ) → 0 ≡ cells_of_all p.types (take x [])
+    none_taken zero = refl
+    none_taken (suc x) = refl
+
+    pub variables_in_body : locals_of (procedure_of p q) ≡ [] → globals_room p lay ≤ 0x800000 → Variables w l
+    variables_in_body none small = record {
+      cell = λ x. none_taken x ∙ ap (λ ls. cells_of_all p.types (take x ls)) (sym none);
+      count = ap (λ ls. length ls) (sym none);
+      local = λ x k at. absurd (nothing_some (ap (λ ls. slice_get ls x) (sym none) ∙ at));
+      global = λ m v k at t.
+          let below = variable_below p p.modules (record { name = []; objects = []; variables = []; body = 0 }) m v k refl at in
+          let a = starts_are p p.modules m in
+          let b = rooms_are p (take v (globals_of p m)) in
+          let c = room_sizes in
+          let d = sum_by-cons (λ x. x) 1 (module_sizes p p.modules) in
+          record {
+            few = omega (arith, below, a, b, c, d, small);
+            row = λ i lt. (
+              data_word + start_of (global_sizes p input) (suc m) + (cells_of_all p.types (take v (globals_of p m)) + i),
+              refl,
+              ap (λ x. x % 2 ^ 64) (omega (arith, a, b)),
+            );
+          };
+      done = λ t. record { few = omega arith; row = λ i lt. (data_word + 0 + (0 + i), refl, ap (λ x. x % 2 ^ 64) (omega arith)) };
+    }
+
+  ---- Memory holds the store for each body alike
+
+  module _ (w : Whole) (q r j k : ℕ) (s t : Store) (z : Sizes) where
+    word_same : (x : Thing) → word_of w (body_level p input r k t) z x ≡ word_of w (body_level p input q j s) z x
+    word_same (InCell Globals o c) = refl
+    word_same (InCell Frames o c) = refl
+    word_same (InCell Heap o c) = refl
+    word_same (InCell Strings o c) = refl
+    word_same (TagOf o) = refl
+    word_same (Constant i) = refl
+
+    there_same : (x : Thing) → There w (body_level p input r k t) z x → There w (body_level p input q j s) z x
+    there_same (InCell a o c) h = h
+    there_same (TagOf o) h = h
+    there_same (Constant i) h = h
+
+    room_same : Room w (body_level p input q j s) z → Room w (body_level p input r k t) z
+    room_same h = record {
+      apart = λ x y i a b c d. h.apart x y i (there_same x a) (there_same y b) (sym (word_same x) ∙ c) (sym (word_same y) ∙ d);
+      lies = λ x i a c. h.lies x i (there_same x a) (sym (word_same x) ∙ c);
+      below = λ x i a c. h.below x i (there_same x a) (sym (word_same x) ∙ c);
+      heap_ends = h.heap_ends;
+      heap_covered = h.heap_covered;
+      local_begins = h.local_begins;
+      local_ends = h.local_ends;
+      few = h.few;
+      local_covered = h.local_covered;
+    }
+
+  pub held_same : (w : Whole) (q r j k : ℕ) (s t : Store) (u : Store) (m : _) → Held w (body_level p input q j s) u m → Held w (body_level p input r k t) u m
+  held_same w q r j k s t u m h = record {
+    room = room_same w q r j k s t (sizes_of u) h.room;
+    frames = h.frames;
+    areas = h.areas;
+    rises = h.rises;
+    bytes = h.bytes;
+    holds = λ a o c i v is at. h.holds a o c i v is (sym (word_same w q r j k s t (sizes_of u) (InCell a o c)) ∙ at);
+    tags = h.tags;
+    constants = h.constants;
+    tagged = h.tagged;
+    zeros = h.zeros;
+    input = h.input;
+  }

@@ -1,0 +1,293 @@
+-- How a program begins: memory holds the first store.
+use Rattle.std.proofs.Common.{◌≡◌, ℕ, zero, suc, ◌+◌, ◌*◌, ◌<◌, ◌≤◌, inl, List, [], ◌∷◌, ◌++◌, map, length, take, replicate, Bool, true, false, cond, ◌&&◌, ◌||◌, nat_le, slice_get, slice_index, refl, sym, ap, ap₂, ◌∙◌, subst, arith, Some, None}
+use Rattle.std.specs.Prelude.{◌-◌, sum}
+use Rattle.std.proofs.lemmas.Bool.Decides.{nat_tests}
+use Rattle.std.proofs.lemmas.List.{length-replicate, length-append, take-append-le}
+use Rattle.std.proofs.lemmas.List.Sums.{sum_by-cons}
+use Rattle.a64_memory.specs.Bytes.{slab}
+use Rattle.a64_memory.specs.Memory.{Area, Shape, lies, covers, covered, shapes, bytes_at, IsRising, IsOfBytes, AreBytes}
+use Rattle.a64_memory.proofs.Blocks.{loaded8_in_zeros}
+use Rattle.a64_memory.proofs.Shapes.{covers-shapes, zero_bytes, append_bytes}
+use Rattle.block_runs.specs.First.{data_base, local_base, heap_base, local_bytes, heap_bytes, first_world, zeroed}
+use Rattle.block_runs.specs.First.{first_state}
+use Rattle.block_runs.specs.Points.{all_points}
+use Rattle.ob_types.specs.Layout.{cells_of_all}
+use Rattle.ob_types.specs.Store.{Cell, Bits, Globals, Frames, Heap, Strings, Store, objects, cell_of}
+use Rattle.ob_types.specs.Store.{Area as Kind}
+use Rattle.ob_types.specs.Meaning.{start, zeros}
+use Rattle.ob_types.specs.declared.program.Module.{Module}
+use Rattle.ob_types.specs.declared.program.Program.{Program}
+use Rattle.ssa_core.specs.Procedures.{procedures}
+use Rattle.ssa_lowered.specs.Data.{in_cells, globals_room}
+use Rattle.ssa_lowered.specs.Lowered.{lowered}
+use Rattle.lowered_runs.specs.Words.{Whole, Level, Sizes, sizes_of, sizes_in, data_word, local_word, heap_word, local_words, heap_words, Thing, InCell, TagOf, Constant, word_at, word_of, There, ValueIs, word, Held, AreInput}
+use Rattle.lowered_runs.proofs.Stores.{there_cell}
+
+-- where the parts of a row begin
+abbrev pub start_of : List ℕ → ℕ → ℕ
+start_of ns zero = 0
+start_of [] (suc o) = 0
+start_of (n ∷ ns) (suc o) = n + start_of ns o
+
+sum_of : (n : ℕ) (ns : List ℕ) → sum (n ∷ ns) ≡ n + sum ns
+sum_of n ns = sum_by-cons (λ x. x) n ns
+
+pub start_below : (ns : List ℕ) (o c : ℕ) → c < slice_index ns o → start_of ns o + c < sum ns
+start_below [] o c lt = absurd (omega (arith, lt))
+start_below (n ∷ ns) zero c lt = let e = sum_of n ns in omega (arith, lt, e)
+start_below (n ∷ ns) (suc o) c lt = let h = start_below ns o c lt in let e = sum_of n ns in omega (arith, h, e)
+
+pub start_apart : (ns : List ℕ) (o c q d : ℕ) → c < slice_index ns o → d < slice_index ns q → start_of ns o + c ≡ start_of ns q + d → (o ≡ q) × (c ≡ d)
+start_apart [] o c q d lt less e = absurd (omega (arith, lt))
+start_apart (n ∷ ns) zero c zero d lt less e = (refl, omega (arith, e))
+start_apart (n ∷ ns) zero c (suc q) d lt less e = absurd (omega (arith, lt, e))
+start_apart (n ∷ ns) (suc o) c zero d lt less e = absurd (omega (arith, less, e))
+start_apart (n ∷ ns) (suc o) c (suc q) d lt less e = let h = start_apart ns o c q d lt less (omega (arith, e)) in (ap suc h.0, h.1)
+
+-- the first memory
+module _ (globals : ℕ) (constants : List ℕ) (input : List ℕ) (small : globals + length constants ≤ 0x10000000) (are : AreBytes constants) where
+  abbrev pub first : List Area
+  first = (first_world globals constants input).memory
+
+  size : length {A = ℕ} (replicate globals 0 ++ constants) ≡ globals + length constants
+  size = length-append (replicate globals 0) constants ∙ ap (λ n. n + length constants) (length-replicate {A = ℕ} globals 0)
+
+  long_local : length {A = ℕ} (replicate local_bytes 0) ≡ 8388608
+  unfolding local_bytes
+  long_local = length-replicate {A = ℕ} local_bytes 0
+
+  long_heap : length {A = ℕ} (replicate heap_bytes 0) ≡ 67108864
+  unfolding heap_bytes
+  long_heap = length-replicate {A = ℕ} heap_bytes 0
+
+  pub first_rises : IsRising 0 first
+  first_rises = (omega arith, (omega (arith, size, small), (omega (arith, long_local), omega (arith, long_heap))))
+
+  pub first_bytes : IsOfBytes first
+  first_bytes = (append_bytes (replicate globals 0) constants (zero_bytes globals) are, (zero_bytes local_bytes, (zero_bytes heap_bytes, tt)))
+
+  in_first : (i n base long : ℕ) (ss : List Shape) → base ≤ 8 * i → 8 * i + 8 * n ≤ base + long → covered (record { base = base; bytes = long } ∷ ss) (8 * i) (8 * n) ≡ true
+  in_first i n base long ss low high = both_true (covered ss (8 * i) (8 * n)) (at_most base (8 * i) low) (at_most (8 * i + 8 * n) (base + long) high)
+    where
+      at_most : (a b : ℕ) → a ≤ b → nat_le a b ≡ true
+      at_most a b le = grind (arith, nat_tests)
+
+      both_true : {a b : Bool} (c : Bool) → a ≡ true → b ≡ true → (a && b || c) ≡ true
+      both_true {a} {b} c e f = ap₂ (λ x y. x && y || c) e f
+
+  in_later : (i n base long : ℕ) (ss : List Shape) → covered ss (8 * i) (8 * n) ≡ true → covered (record { base = base; bytes = long } ∷ ss) (8 * i) (8 * n) ≡ true
+  in_later i n base long ss h = ap (λ c. nat_le base (8 * i) && nat_le (8 * i + 8 * n) (base + long) || c) h ∙ or_true (nat_le base (8 * i) && nat_le (8 * i + 8 * n) (base + long))
+    where
+      or_true : (b : Bool) → (b || true) ≡ true
+      or_true true = refl
+      or_true false = refl
+
+  abbrev heap_shapes : List Shape
+  heap_shapes = record { base = heap_base; bytes = length {A = ℕ} (replicate heap_bytes 0) } ∷ []
+
+  abbrev local_shapes : List Shape
+  local_shapes = record { base = local_base; bytes = length {A = ℕ} (replicate local_bytes 0) } ∷ heap_shapes
+
+  pub data_covered : (i n : ℕ) → data_word ≤ i → 8 * i + 8 * n ≤ data_base + globals → covered (shapes first) (8 * i) (8 * n) ≡ true
+  data_covered i n low high = in_first i n data_base (length (replicate globals 0 ++ constants)) local_shapes (omega (arith, low)) (let e = size in omega (arith, high, e))
+
+  pub local_covered : (i n : ℕ) → local_word ≤ i → i + n ≤ local_word + local_words → covered (shapes first) (8 * i) (8 * n) ≡ true
+  local_covered i n low high = in_later i n data_base (length (replicate globals 0 ++ constants)) local_shapes (in_first i n local_base (length {A = ℕ} (replicate local_bytes 0)) heap_shapes (omega (arith, low)) (let e = long_local in omega (arith, high, e)))
+
+  pub heap_covered : (i : ℕ) → heap_word ≤ i → i < heap_word + heap_words → covered (shapes first) (8 * i) 8 ≡ true
+  heap_covered i low high = in_later i 1 data_base (length (replicate globals 0 ++ constants)) local_shapes (in_later i 1 local_base (length {A = ℕ} (replicate local_bytes 0)) heap_shapes (in_first i 1 heap_base (length {A = ℕ} (replicate heap_bytes 0)) [] (omega (arith, low)) (let e = long_heap in omega (arith, high, e))))
+
+  -- the globals and the heap are zeros
+  lies_here : (a : Area) (p n : ℕ) → a.base ≤ p → p + n ≤ a.base + length a.bytes → lies a p n ≡ true
+  lies_here a p n low high = grind (arith, nat_tests)
+
+  lies_not : (a : Area) (p n : ℕ) → a.base + length a.bytes < p + n → lies a p n ≡ false
+  lies_not a p n high = grind (arith, nat_tests)
+
+  globals_zero : bytes_at first data_base globals ≡ replicate globals 0
+  globals_zero =
+      ap (λ t. cond t (slab (replicate globals 0 ++ constants) (data_base - data_base) globals) (bytes_at (zeroed local_base local_bytes ∷ zeroed heap_base heap_bytes ∷ []) data_base globals)) (lies_here (record { base = data_base; bytes = replicate globals 0 ++ constants }) data_base globals (omega arith) (let e = size in omega (arith, e)))
+      ∙ take-append-le globals (replicate globals 0) constants (let e = length-replicate {A = ℕ} globals 0 in omega (arith, e)) ∙ whole globals
+    where
+      whole : (n : ℕ) → take {A = ℕ} n (replicate n 0) ≡ replicate n 0
+      whole zero = refl
+      whole (suc n) = ap (λ xs. 0 ∷ xs) (whole n)
+
+  pub global_word_zero : (k : ℕ) → 8 * k + 8 ≤ globals → word first (data_word + k) ≡ 0
+  global_word_zero k fits =
+      let room : covers first data_base globals ≡ true = covers-shapes first data_base globals ∙ ap (λ t. t || (lies (zeroed local_base local_bytes) data_base globals || (lies (zeroed heap_base heap_bytes) data_base globals || false))) (lies_here (record { base = data_base; bytes = replicate globals 0 ++ constants }) data_base globals (omega arith) (let e = size in omega (arith, e))) in
+      loaded8_in_zeros first 0 data_base globals (8 * (data_word + k)) first_rises room globals_zero (omega arith) (omega (arith, fits))
+
+  data_area : Area
+  data_area = record { base = data_base; bytes = replicate globals 0 ++ constants }
+
+  local_area : Area
+  local_area = record { base = local_base; bytes = replicate local_bytes 0 }
+
+  heap_area : Area
+  heap_area = record { base = heap_base; bytes = replicate heap_bytes 0 }
+
+  not_data : lies data_area heap_base heap_bytes ≡ false
+  unfolding heap_bytes data_area
+  not_data = lies_not data_area heap_base heap_bytes (let e = size in omega (arith, e, small))
+
+  not_local : lies local_area heap_base heap_bytes ≡ false
+  unfolding heap_bytes local_area
+  not_local = lies_not local_area heap_base heap_bytes (let e = long_local in omega (arith, e))
+
+  is_heap : lies heap_area heap_base heap_bytes ≡ true
+  unfolding heap_area
+  is_heap = lies_here heap_area heap_base heap_bytes (omega arith) (let e = length-replicate {A = ℕ} heap_bytes 0 in omega (arith, e))
+
+  all_zero : (n : ℕ) → slab (replicate n 0) 0 n ≡ replicate n 0
+  all_zero zero = refl
+  all_zero (suc n) = ap (λ xs. 0 ∷ xs) (all_zero n)
+
+  heap_zero : bytes_at first heap_base heap_bytes ≡ replicate heap_bytes 0
+  unfolding data_area local_area heap_area
+  heap_zero =
+      ap (λ t. cond t (slab data_area.bytes (heap_base - data_base) heap_bytes) (bytes_at (local_area ∷ heap_area ∷ []) heap_base heap_bytes)) not_data
+      ∙ ap (λ t. cond t (slab local_area.bytes (heap_base - local_base) heap_bytes) (bytes_at (heap_area ∷ []) heap_base heap_bytes)) not_local
+      ∙ ap (λ t. cond t (slab heap_area.bytes (heap_base - heap_base) heap_bytes) []) is_heap
+      ∙ all_zero heap_bytes
+
+  pub heap_word_zero : (i : ℕ) → heap_word ≤ i → i < heap_word + heap_words → word first i ≡ 0
+  unfolding data_area local_area heap_area
+  heap_word_zero i low high =
+      let room : covers first heap_base heap_bytes ≡ true =
+      covers-shapes first heap_base heap_bytes
+      ∙ ap (λ t. t || (lies local_area heap_base heap_bytes || (lies heap_area heap_base heap_bytes || false))) not_data
+      ∙ ap (λ t. t || (lies heap_area heap_base heap_bytes || false)) not_local
+      ∙ ap (λ t. t || false) is_heap in
+      let many : heap_bytes ≡ 67108864 = sym (length-replicate {A = ℕ} heap_bytes 0) ∙ long_heap in
+      loaded8_in_zeros first 0 heap_base heap_bytes (8 * i) first_rises room heap_zero (omega (arith, low)) (omega (arith, high, many))
+
+---- The store
+
+-- each global cell is 0 at first
+module _ (p : Program) (input : List ℕ) where
+  zero_in : (n c : ℕ) (v : Cell) → slice_get (replicate n (Bits 0)) c ≡ Some v → v ≡ Bits 0
+  zero_in zero c v e = absurd (cc)
+  zero_in (suc n) zero v e = same e
+    where
+      same : Some (Bits 0) ≡ Some v → v ≡ Bits 0
+      same e = cc
+  zero_in (suc n) (suc c) v e = zero_in n c v e
+
+  global_zero : (o c : ℕ) (v : Cell) → cell_of (start p input).globals o c ≡ Some v → v ≡ Bits 0
+  global_zero zero zero v e = same e
+    where
+      same : Some (Bits 0) ≡ Some v → v ≡ Bits 0
+      same e = cc
+  global_zero zero (suc c) v e = absurd (cc)
+  global_zero (suc o) c v e = in_modules p.modules o e
+    where
+      in_modules : (ms : List Module) (o : ℕ) → cell_of (map (λ m. zeros p m.variables) ms) o c ≡ Some v → v ≡ Bits 0
+      in_modules [] o e = absurd (cc)
+      in_modules (m ∷ ms) zero e = zero_in (cells_of_all p.types m.variables) c v e
+      in_modules (m ∷ ms) (suc o) e = in_modules ms o e
+
+  abbrev pub global_sizes : List ℕ
+  global_sizes = (sizes_of (start p input)).globals
+
+  -- what the whole program is, with no procedure's object yet
+  abbrev pub whole_of : (code : ℕ → ℕ) (constants : List ℕ) → ℕ → Whole
+  whole_of code constants n = record {
+    program = p;
+    procedures = procedures (lowered p);
+    code = code;
+    global = λ o. data_word + start_of global_sizes o;
+    string = λ o. None;
+    descriptor = λ r. 0;
+    entry = λ i. None;
+    records = 0;
+    areas = shapes (first_world (globals_room p (in_cells p.types)) constants input).memory;
+    points = all_points (procedures (lowered p));
+    first = first_state (globals_room p (in_cells p.types)) constants input;
+    turns = n;
+  }
+
+  -- a module's body, the j-th
+  abbrev pub body_level : ℕ → ℕ → Store → Level
+  body_level q j s = record { proc = q; args = []; arguments = []; callers = []; body = j; local = local_word; sizes = []; frame = 0; slots = λ o c. None; forms = []; count = 0; in_register = λ x. false; cell = λ x. 0; store = s }
+
+  module _ (code : ℕ → ℕ) (constants : List ℕ) (n : ℕ) (small : globals_room p (in_cells p.types) + length constants ≤ 0x10000000) (are : AreBytes constants) (room : 8 * sum global_sizes ≡ globals_room p (in_cells p.types)) (few : sum global_sizes ≤ 1048576) (bytes : AreInput input) (q j : ℕ) where
+    abbrev w : Whole
+    w = whole_of code constants n
+
+    abbrev l : Level
+    l = body_level q j (start p input)
+
+    abbrev m : List Area
+    m = (first_world (globals_room p (in_cells p.types)) constants input).memory
+
+    abbrev z : Sizes
+    z = sizes_of (start p input)
+
+    none_frame : (o c : ℕ) → c < slice_index (sizes_in Frames z) o → ⊥
+    none_frame o c lt = absurd (omega (arith, lt))
+
+    global_word : (o c i : ℕ) → word_at w l z Globals o c ≡ Some i → i ≡ data_word + start_of global_sizes o + c
+    global_word o c i e = same e
+      where
+        same : Some (data_word + start_of global_sizes o + c) ≡ Some i → i ≡ data_word + start_of global_sizes o + c
+        same e = cc
+
+    none_some : {A : Type 0} {x : A} → None ≡ Some x → ⊥
+    none_some e = cc
+
+    -- of all things only globals are in memory
+    only : (t : Thing) (i : ℕ) → There w l z t → word_of w l z t ≡ Some i → (o : ℕ) × (c : ℕ) × (t ≡ InCell Globals o c) × (c < slice_index global_sizes o) × (i ≡ data_word + start_of global_sizes o + c)
+    only (InCell Globals o c) i there at = (o, c, refl, there, global_word o c i at)
+    only (InCell Frames o c) i there at = absurd (none_some at)
+    only (InCell Heap o c) i there at = absurd (none_some at)
+    only (InCell Strings o c) i there at = absurd (none_some at)
+    only (TagOf o) i there at = absurd (none_some at)
+    only (Constant k) i there at = absurd (none_some there.1)
+
+    pub first_held : Held w l (start p input) m
+    first_held = record {
+      room = record {
+        apart = λ t u i one two at by.
+            let a = only t i one at in let b = only u i two by in
+            let e = a.4 in let f = b.4 in
+            let g = start_apart global_sizes a.0 a.1 b.0 b.1 a.3 b.3 (omega (arith, e, f)) in
+            a.2 ∙ ap₂ (λ o c. InCell Globals o c) g.0 g.1 ∙ sym b.2;
+        lies = λ t i there at.
+            let a = only t i there at in let e = a.4 in let lt = start_below global_sizes a.0 a.1 a.3 in
+            data_covered (globals_room p (in_cells p.types)) constants input small are i 1 (omega (arith, e)) (omega (arith, e, lt, room));
+        below = λ t i there at. let a = only t i there at in let e = a.4 in let lt = start_below global_sizes a.0 a.1 a.3 in inl (omega (arith, e, lt, few));
+        heap_ends = omega arith;
+        heap_covered = λ i low high. heap_covered (globals_room p (in_cells p.types)) constants input small are i low high;
+        local_begins = omega arith;
+        local_ends = omega arith;
+        few = omega arith;
+        local_covered = λ i k low high. local_covered (globals_room p (in_cells p.types)) constants input small are i k low high;
+      };
+      frames = refl;
+      areas = refl;
+      rises = first_rises (globals_room p (in_cells p.types)) constants input small are;
+      bytes = first_bytes (globals_room p (in_cells p.types)) constants input small are;
+      holds = λ a o c i v is at.
+          let b = only (InCell a o c) i (there_cell (start p input) a o c v is) at in
+          let e = b.4 in let lt = start_below global_sizes b.0 b.1 b.3 in
+          let zero = first_value a o c i v is at in
+          subst (λ v. ValueIs w z v (word m i)) (sym zero)
+          (subst (λ i. ValueIs w z (Bits 0) (word m i)) (sym e ∙ refl)
+          (let k = global_word_zero (globals_room p (in_cells p.types)) constants input small are (start_of global_sizes b.0 + b.1) (omega (arith, lt, room)) in
+          (ap (word m) (assoc data_word (start_of global_sizes b.0) b.1) ∙ k, omega arith)));
+      tags = λ o t i is at. absurd (none_some is);
+      constants = λ i x e. absurd (none_some e);
+      tagged = refl;
+      zeros = λ i low high. heap_word_zero (globals_room p (in_cells p.types)) constants input small are i (omega (arith, low)) high;
+      input = bytes;
+    }
+      where
+        assoc : (a b c : ℕ) → a + b + c ≡ a + (b + c)
+        assoc a b c = omega arith
+
+        first_value : (a : Kind) (o c i : ℕ) (v : Cell) → cell_of (objects a (start p input)) o c ≡ Some v → word_at w l z a o c ≡ Some i → v ≡ Bits 0
+        first_value Globals o c i v is at = global_zero o c v is
+        first_value Frames o c i v is at = absurd (none_some at)
+        first_value Heap o c i v is at = absurd (none_some at)
+        first_value Strings o c i v is at = absurd (none_some at)

@@ -1,0 +1,751 @@
+-- The recursion on the checked tree.
+use Rattle.std.proofs.Common.{◌≡◌, ℕ, zero, suc, ◌+◌, ◌*◌, ◌<◌, ◌≤◌, ◌^◌, ◌⊎◌, inl, inr, List, [], ◌∷◌, length, take, Bool, true, false, not, cond, ◌&&◌, slice_get, refl, sym, ap, ◌∙◌, subst, arith, Option, Some, None, eqb-true, eq-eqb}
+use Rattle.std.specs.Prelude.{◌-◌, ◌||◌, ◌==◌, nat_lt, slice_index_or, if◌then◌else◌}
+use Rattle.run_laws.specs.Turns.{Ending, Gives, Fails, Spent, after, ◌>>=◌, give}
+use Rattle.run_laws.specs.Turns.{State as Moment}
+use Rattle.wrapping_numbers.specs.Numbers.{sub64}
+use Rattle.block_runs.specs.First.{data_base}
+use Rattle.ob_types.specs.Forms.{Form, Truth, Small, Number, forms, joined, all, types_fine}
+use Rattle.ob_types.specs.Layout.{kind_of, cells, cells_of_all}
+use Rattle.ob_types.specs.Store.{Cell, Bits, Globals, Frames, Handed, At as Addressed, Senseless, Act, given, place, bits, bits_in, Trap}
+use Rattle.ob_types.specs.Store.{Store as Objects, Here as Running}
+use Rattle.ob_types.specs.Operators.{holds, truth, unary_of}
+use Rattle.ob_types.specs.Expressions.{Calls, one_operand, both}
+use Rattle.ob_types.specs.Expressions.{either as or_else}
+use Rattle.ob_types.specs.Statements.{Deed, test, try, otherwise}
+use Rattle.ob_types.specs.Meaning.{procedure_of, locals_of, globals_of, value, linked, link, designated, base_of, effect, effects, effects_of, branches, kind_in, is_byte}
+use Rattle.ob_types.specs.WellFormed
+use Rattle.ob_types.specs.WellFormed.{Named as Thing, Cells, Of, OpenOf, Dynamic, Characters, provided, with_some, holds_of, gives_number, is_number}
+use Rattle.ob_types.specs.declared.tree.Unary.{Unary}
+use Rattle.ob_types.specs.declared.tree.Unary.TheVariants.{Negate, Complement, Not, Abs, Odd}
+use Rattle.ob_types.specs.declared.tree.Binary.TheVariants.{Add, Subtract, Union, Difference}
+use Rattle.ob_types.specs.declared.tree.Expr.{Expr, Literal, Routine, Load, Guard, Unary', Chain', Compare', CompareTexts', In', IsPointer', IsParameter, Byte', Length, Call', Row_of-Link, end_of-Link, more_of-Link}
+use Rattle.ob_types.specs.declared.tree.Link.{Link, Operate, And, Or, Element, Elements}
+use Rattle.ob_types.specs.declared.tree.Base.{Base}
+use Rattle.ob_types.specs.declared.tree.Base.TheVariants.{Done, Global, Local, Parameter, Text}
+use Rattle.ob_types.specs.declared.tree.Designator.{Designator, Whole as Variable, Part'}
+use Rattle.ob_types.specs.declared.statements.Checked.{Checked}
+use Rattle.ob_types.specs.declared.statements.Stmt.{Stmt, Assign, CopyArray, CopyRecord, Increase, Decrease, Include, Exclude, New, Assert, OutChar, OutInt, OutString, OutLn, InChar, If', While', Repeat', For', Case', CasePointer', CaseParameter', Row_of-Stmt, end_of-Stmt, more_of-Stmt, Row_of-Branch, end_of-Branch, more_of-Branch}
+use Rattle.ob_types.specs.declared.statements.Stmt.{Call as Invoke}
+use Rattle.ob_types.specs.declared.program.Program.{Program}
+use Rattle.ob_types.proofs.Tests.{none_some, some_same, no, and_of}
+use Rattle.ob_sound.proofs.Typed.{Sound, Any, HasForm, Older}
+use Rattle.ob_sound.proofs.Constructs.{Means, with_is, holds_is}
+use Rattle.ob_sound.proofs.Typed.{provided_is, lt_of}
+use Rattle.ob_sound.proofs.Tables.{cells_length, scalar_forms}
+use Rattle.ob_sound.proofs.Handing.{CallsSound, AllTaken, all_taken_older}
+use Rattle.ob_sound.proofs.Deeds.{takes_is, given_is}
+use Rattle.ob_sound.proofs.Tree.{t_value, t_link, t_effect}
+use Rattle.ssa_lowered.specs.Data.{Layout, in_cells, global_at}
+use Rattle.ssa_lowered.specs.Pieces.{Low, Mask}
+use Rattle.ssa_lowered.specs.Control.{Lowers, Round, fork_and, fork_or, fork_value}
+use Rattle.ssa_lowered.specs.Variables.{Register, Memory, is_structured, either, none, origin, itself as whole_of, assigned, assigned_all, assigned_branches, words_of}
+use Rattle.ssa_lowered.specs.Lowered.{Here, here_of, in_register, variable_of, local_by, parameter_by, by_mode, based, named, expr, link as lower_link, linked as lower_linked, home, registers, deed, deeds, deeds_of, one_of, alternatives, guarded_rounds}
+use Rattle.lowered_runs.specs.Words.{Whole, Level, Right, local, Apart}
+use Rattle.lowered_runs.specs.Covered.{has_length, is_shared, part_covered, base_is_fixed, selectors_covered, selector_covered, is_fixed, base_covered, designator_covered, has_branch, expr_covered, links_covered, link_covered, checked_covered, covered, row_covered, branches_covered}
+use Rattle.lowered_runs.proofs.Follows.{Fact, Steady, Follows, FollowsTo, follows_bind, follows_seen, follows_give, follows_sound, follows_known, follows_less, follows_mask}
+use Rattle.lowered_runs.proofs.Exprs.{CellIs, follows_literal, follows_routine, follows_unary, follows_binary}
+use Rattle.lowered_runs.proofs.Sets.{follows_same, follows_contained, follows_element, follows_range, follows_byte, follows_compared}
+use Rattle.lowered_runs.proofs.Forks.{nothing, No_more, after_after, Forks, forks_value, forks_branch, forks_not, forks_and, forks_or, forks_as}
+use Rattle.lowered_runs.proofs.Structures.{Always, forks_test, follows_choose, Rounded, rounds_none, rounds_less, rounds_more, follows_loop, follows_until}
+use Rattle.lowered_runs.proofs.Homes.{AddressIs, HomeIs, follows_load, follows_assign}
+use Rattle.lowered_runs.proofs.Designators.{is_single, row_of, NamedIs, steady_named, follows_home, follows_data, follows_register, follows_local}
+use Rattle.lowered_runs.proofs.Elements.{follows_element_place, follows_field_place, follows_length}
+use Rattle.ob_types.specs.Meaning.{length_of_kind}
+use Rattle.ob_types.specs.Expressions.{length_of}
+use Rattle.ssa_lowered.specs.Values.{length_of as lower_length}
+use Rattle.ob_types.specs.Meaning.{selected, select}
+use Rattle.ob_types.specs.declared.types.TypeKind.TheVariants.{Array}
+use Rattle.ob_types.specs.declared.types.TypeKind.TheVariants.{Record as RecordOf}
+use Rattle.ob_types.specs.Layout.{record_of, types_of, field_place, extends}
+use Rattle.ob_types.specs.Forms.{record_forms}
+use Rattle.ob_sound.proofs.Typed.{in_length}
+use Rattle.ob_sound.proofs.Constructs.{record_is}
+use Rattle.ob_types.specs.declared.tree.Designator.{Row_of-Selector, end_of-Selector, more_of-Selector}
+use Rattle.ob_types.specs.declared.tree.Selector.{Selector, Index, Field, Dereference, Narrow}
+use Rattle.ob_sound.proofs.Typed.{element_is}
+use Rattle.ob_sound.proofs.Tables.{array_forms, length_repeated, whole_forms, field_at, prefix}
+use Rattle.ssa_lowered.specs.Lowered.{selected as lower_selected, select as lower_select}
+use Rattle.ssa_lowered.specs.Values.{Named}
+use Rattle.lowered_runs.proofs.Input.{follows_in_char}
+use Rattle.ob_types.specs.Statements.{done}
+use Rattle.ob_sound.proofs.Deeds.{done_formed}
+use Rattle.lowered_runs.proofs.Bounds.{load_is, assign_is, step_is, follows_for}
+use Rattle.wrapping_numbers.proofs.Wrapping.{add64_lt}
+use Rattle.wrapping_numbers.specs.Numbers.{add64, signed, unsigned}
+use Rattle.block_runs.specs.Compares.{compares}
+use Rattle.std.specs.Prelude.{int_lt, int_le, pos}
+use Rattle.ob_types.specs.Store.{Address, fetch, put, can_write}
+use Rattle.ob_types.specs.Expressions.{load, two_operands}
+use Rattle.ob_types.specs.Statements.{assign}
+use Rattle.ob_sound.proofs.Typed.{Good, Formed, s_bind, s_older, s_put, form_older}
+use Rattle.ob_sound.proofs.Constructs.{as_number}
+use Rattle.ob_sound.proofs.Deeds.{s_full, s_number_at}
+use Rattle.ob_sound.proofs.Tree.{t_named, t_checked}
+use Rattle.ssa_lowered.specs.Lowered.{bound}
+use Rattle.lowered_runs.proofs.Deeds.{follows_number_change, follows_set_change, follows_assert, follows_out_char, follows_out_int}
+use Rattle.lowered_runs.proofs.Flags.{follows_flag}
+
+-- tests put together in other ways
+left_of : (r a b : Bool) → (r && a) ≡ true → (r && (a || b)) ≡ true
+left_of true true b h = refl
+left_of true false b h = no h
+left_of false a b h = no h
+
+right_of : (r a b : Bool) → (r && b) ≡ true → (r && (a || b)) ≡ true
+right_of true true b h = refl
+right_of true false b h = h
+right_of false a b h = no h
+
+regroup_mask : (r a b c : Bool) → (r && (a || (b || c))) ≡ true → (r && ((a || b) || c)) ≡ true
+regroup_mask true true b c h = refl
+regroup_mask true false b c h = h
+regroup_mask false a b c h = no h
+
+module _ (w : Whole) (l : Level) where
+  abbrev program : Program
+  program = w.program
+
+  abbrev layout : Layout
+  layout = in_cells program.types
+
+  abbrev here : Here
+  here = here_of program layout l.proc (procedure_of program l.proc)
+
+  abbrev running : Running
+  running = record { procedure = l.proc; frame = l.frame; arguments = l.arguments }
+
+  abbrev locals : List ℕ
+  locals = locals_of (procedure_of program l.proc)
+
+  -- where a local variable is
+  abbrev pub LocalIs : ℕ → ℕ → Type 0
+  LocalIs x k = (((variable_of program layout here x).site ≡ Register) × (l.in_register x ≡ true) × (is_structured (kind_of program.types k) ≡ false))
+      ⊎ ((n : ℕ) × ((variable_of program layout here x).site ≡ Memory n) × (l.in_register x ≡ false) × ((s : Objects) → AddressIs w l (local l x) (cells program.types k) (sub64 (8 * l.local) (here.bytes - n)) s))
+
+  -- where variables are
+  pub record Variables : Type 0 where
+    pub cell : (x : ℕ) → l.cell x ≡ cells_of_all program.types (take x locals)
+    pub count : l.count ≡ length locals
+    pub local : (x k : ℕ) → slice_get locals x ≡ Some k → LocalIs x k
+    pub global : (m v k : ℕ) → slice_get (globals_of program m) v ≡ Some k → (s : Objects) → AddressIs w l (record { area = Globals; object = suc m; cell = cells_of_all program.types (take v (globals_of program m)) }) (cells program.types k) (data_base + global_at program layout m v) s
+    pub done : (s : Objects) → AddressIs w l (record { area = Globals; object = 0; cell = 0 }) 1 (data_base + 0) s
+
+  -- parameters that are addresses have their words
+  abbrev pub Given : Fact
+  Given n f s = (k : ℕ) (x : _) (h : Handed) (d : Thing) → slice_get (procedure_of program l.proc).formals k ≡ Some x → slice_get l.arguments k ≡ Some h → WellFormed.parameter_by program x.mode x.type_number x.variable ≡ Some d
+      → NamedIs w l none d h (by_mode x.mode (words_of (take k (procedure_of program l.proc).formals))) n f s
+
+  pub steady_given : Steady w l Given
+  steady_given = record { by = λ n m f g s t le same later given k x h d at is by. (steady_named w l none d h (by_mode x.mode (words_of (take k (procedure_of program l.proc).formals)))).by n m f g s t le same later (given k x h d at is by) }
+
+module _ (w : Whole) (l : Level) (right : Right w) (apart : Apart l) (vars : Variables w l) (good : types_fine w.program.types ≡ true) (calls : Calls) (sound : CallsSound w.program good calls)
+    (frame : slice_index_or l.forms l.frame [] ≡ joined (forms w.program.types) (locals w l)) (taken : AllTaken w.program good l.forms l.store.tags (procedure_of w.program l.proc).formals l.arguments) (fuel : ℕ) where
+  abbrev p : Program
+  p = w.program
+
+  abbrev lay : Layout
+  lay = layout w l
+
+  abbrev mine : Here
+  mine = here w l
+
+  abbrev runs : Running
+  runs = running w l
+
+  steady : Steady w l (Given w l)
+  steady = steady_given w l
+
+  taken_at : (tags : List ℕ) → Older l.store.tags tags → AllTaken p good l.forms tags (procedure_of p l.proc).formals l.arguments
+  taken_at tags older = all_taken_older p good l.forms l.store.tags tags older (procedure_of p l.proc).formals l.arguments taken
+
+  pub sound_value : (e : Expr) (k : Form) → WellFormed.form p l.proc e ≡ Some k → (tags : List ℕ) → Older l.store.tags tags → Sound p l.forms tags (HasForm p k) (value p calls runs e)
+  sound_value e k is tags older = (t_value p good calls sound runs l.forms tags frame (taken_at tags older) e).sound k is
+
+  ---- Designators
+
+  pub base_is : {mask : Mask} (b : Base) (n : Thing) → WellFormed.base_named p l.proc b ≡ Some n → base_covered b ≡ true → Follows w l 0 fuel mask (Given w l) (NamedIs w l (origin b) n) (base_of p calls runs b) (based p lay mine b)
+  base_is {mask} Done n is ok = subst (λ n. Follows w l 0 fuel mask (Given w l) (NamedIs w l none n) (base_of p calls runs Done) (based p lay mine Done)) (some_same (Cells Truth false) n is)
+      (follows_data w l none (Cells Truth false) (record { area = Globals; object = 0; cell = 0 }) 0 steady vars.done)
+  base_is {mask} (Global m v) n is ok =
+      let z = with_is p good (slice_get (globals_of p m) v) (λ k. Some (Of k true)) n is in
+      subst (λ n. Follows w l 0 fuel mask (Given w l) (NamedIs w l none n) (base_of p calls runs (Global m v)) (based p lay mine (Global m v))) (some_same (Of z.0 true) n z.2)
+      (follows_data w l none (Of z.0 true) (record { area = Globals; object = suc m; cell = cells_of_all p.types (take v (globals_of p m)) }) (global_at p lay m v) steady (vars.global m v z.0 z.1))
+  base_is {mask} (Local x) n is ok =
+      let z = with_is p good (slice_get (locals w l) x) (λ k. Some (Of k true)) n is in
+      subst (λ n. Follows w l 0 fuel mask (Given w l) (NamedIs w l (origin (Local x)) n) (base_of p calls runs (Local x)) (based p lay mine (Local x))) (some_same (Of z.0 true) n z.2)
+      (subst (λ c. Follows w l 0 fuel mask (Given w l) (NamedIs w l (origin (Local x)) (Of z.0 true)) (give (Addressed (record { area = Frames; object = l.frame; cell = c }))) (based p lay mine (Local x))) (vars.cell x) (by z.0 (vars.local x z.0 z.1) (below (locals w l) x z.0 z.1)))
+    where
+      below : (xs : List ℕ) (x k : ℕ) → slice_get xs x ≡ Some k → x < length xs
+      below [] x k e = none_some k e
+      below (y ∷ xs) zero k e = omega arith
+      below (y ∷ xs) (suc x) k e = let h = below xs x k e in omega (arith, h)
+
+      by : (k : ℕ) → LocalIs w l x k → x < length (locals w l) → Follows w l 0 fuel mask (Given w l) (NamedIs w l (origin (Local x)) (Of k true)) (give (Addressed (local l x))) (based p lay mine (Local x))
+      by k (inl h) lt = let e = vars.count in
+          subst (λ site. Follows w l 0 fuel mask (Given w l) (NamedIs w l (origin (Local x)) (Of k true)) (give (Addressed (local l x))) (local_by p lay mine site x)) (sym h.0)
+          (follows_register w l (origin (Local x)) (Of k true) x (omega (arith, lt, e)) h.1 (eq-eqb x x refl) (ap not h.2))
+      by k (inr h) lt =
+          subst (λ site. Follows w l 0 fuel mask (Given w l) (NamedIs w l (origin (Local x)) (Of k true)) (give (Addressed (local l x))) (local_by p lay mine site x)) (sym h.1)
+          (follows_local w l (origin (Local x)) (Of k true) (local l x) (mine.bytes - h.0) steady h.3)
+  base_is {mask} (Parameter k) n is ok =
+      let z = with_is p good (slice_get (procedure_of p l.proc).formals k) (λ x. WellFormed.parameter_by p x.mode x.type_number x.variable) n is in
+      subst (λ o. Follows w l 0 fuel mask (Given w l) (NamedIs w l none n) (given (slice_get l.arguments k)) (parameter_by o (words_of (take k (procedure_of p l.proc).formals)))) (sym z.1)
+      (follows_seen w l (by_mode z.0.mode (words_of (take k (procedure_of p l.proc).formals))) (λ v f s m held typed known. by z.0 n z.1 z.2 v f s known (slice_get l.arguments k) refl))
+    where
+      by : (x : _) (n : Thing) → slice_get (procedure_of p l.proc).formals k ≡ Some x → WellFormed.parameter_by p x.mode x.type_number x.variable ≡ Some n → (v : ℕ) (f : ℕ → ℕ) (s : Moment Objects) → Given w l v f s.store → (o : Option Handed) → slice_get l.arguments k ≡ o
+          → ((h : Handed) × (given (slice_get l.arguments k) s ≡ Gives h s) × NamedIs w l none n h (by_mode x.mode (words_of (take k (procedure_of p l.proc).formals))) v f s.store) ⊎ (given (slice_get l.arguments k) s ≡ Fails Senseless s.out)
+      by x n at is v f s known None e = inr (ap (λ o. given o s) e)
+      by x n at is v f s known (Some h) e = inl (h, ap (λ o. given o s) e, known k x h n at e is)
+  base_is (Text k) n is ok = no ok
+
+  -- a scalar has a cell
+  scalar_row : (n : Thing) (f : Form) → WellFormed.scalar_in p n ≡ Some f → (h : Handed) → 1 ≤ row_of w l n h
+  scalar_row (Cells g may) f is h = omega arith
+  scalar_row (Of k may) f is h = let e = cells_length p.types k in let g = ap length_of (scalar_forms p.types good k f is) in omega (arith, e, g)
+    where
+      length_of : List Form → ℕ
+      length_of xs = length xs
+  scalar_row (OpenOf e may) f is h = none_some f is
+  scalar_row (Dynamic r) f is h = none_some f is
+  scalar_row (Characters m) f is h = none_some f is
+
+  ---- Parts
+
+  -- behind selectors that are covered there is nothing where there was nothing
+  selected_none : {m : _} (row : Row_of-Selector m) (n : Thing) → selectors_covered p row ≡ true → WellFormed.selected_named p l.proc row None ≡ Some n → ⊥
+  selected_none end_of-Selector n ok is = none_some n is
+  selected_none (more_of-Selector (Index (Some i) k x) rest) n ok is = selected_none rest n (and_of (expr_covered p x) (selectors_covered p rest) ok).1 is
+  selected_none (more_of-Selector (Index None k x) rest) n ok is = no ok
+  selected_none (more_of-Selector (Field r f) rest) n ok is = selected_none rest n ok is
+  selected_none (more_of-Selector (Dereference rs) rest) n ok is = no ok
+  selected_none (more_of-Selector (Narrow r) rest) n ok is = no ok
+
+  selected_some : {m : _} (row : Row_of-Selector m) (o : Option Thing) (n : Thing) → selectors_covered p row ≡ true → WellFormed.selected_named p l.proc row o ≡ Some n → (t : Thing) × (o ≡ Some t)
+  selected_some row None n ok is = absurd (selected_none row n ok is)
+  selected_some row (Some t) n ok is = (t, refl)
+
+  -- an array's cells
+  array_cells : (k n e : ℕ) → kind_of p.types k ≡ Array (Some n) e → cells p.types k ≡ n * cells p.types e
+  array_cells k n e is =
+      cells_length p.types k ∙ ap (λ (xs : List Form). length xs) (array_forms p.types good k n e is) ∙ length_repeated n (forms p.types e) ∙ ap (λ m. n * m) (sym (cells_length p.types e))
+
+  -- what a part is
+  abbrev PartIs : Mask → Bool → Thing → Act Handed → Low Named → Type 0
+  PartIs mask may t d low = (k : ℕ) × (t ≡ Of k may) × Follows w l 0 fuel mask (Given w l) (NamedIs w l none (Of k may)) d low
+
+  fixed_base : (b : Base) (n : Thing) → base_is_fixed b ≡ true → WellFormed.base_named p l.proc b ≡ Some n → (k : ℕ) × (n ≡ Of k true) × (base_covered b ≡ true)
+  fixed_base (Global m v) n ok is = let z = with_is p good (slice_get (globals_of p m) v) (λ k. Some (Of k true)) n is in (z.0, sym (some_same (Of z.0 true) n z.2), refl)
+  fixed_base (Local x) n ok is = let z = with_is p good (slice_get (locals w l) x) (λ k. Some (Of k true)) n is in (z.0, sym (some_same (Of z.0 true) n z.2), refl)
+  fixed_base Done n ok is = no ok
+  fixed_base (Parameter k) n ok is = no ok
+  fixed_base (Text k) n ok is = no ok
+
+  part_some : {m : _} (row : Row_of-Selector m) (o : Option Thing) (n : Thing) → part_covered p row ≡ true → WellFormed.selected_named p l.proc row o ≡ Some n → (t : Thing) × (o ≡ Some t)
+  part_some row (Some t) n ok is = (t, refl)
+  part_some end_of-Selector None n ok is = no ok
+  part_some (more_of-Selector s rest) None n ok is = absurd (selected_none (more_of-Selector s rest) n ok is)
+
+  -- an array of known length
+  array_is : (t : Thing) (n : ℕ) (e : _) → WellFormed.elements_in p t (Some n) ≡ Some e → (is_single w l t ≡ false) × (n < 2 ^ 64)
+  array_is (Of k may) n e is = let a = element_is p (kind_of p.types k) n e is in let lt = a.3 in (ap (λ z. not (is_structured z)) a.1, omega (arith, lt))
+  array_is (Characters m) n e is =
+      let a = provided_is p (m == n && nat_lt n (2 ^ 32)) (Some WellFormed.Letter) e is in
+      let lt = lt_of p n (2 ^ 32) (and_of (m == n) (nat_lt n (2 ^ 32)) a.0).1 in (refl, omega (arith, lt))
+  array_is (Cells f may) n e is = none_some e is
+  array_is (OpenOf k may) n e is = none_some e is
+  array_is (Dynamic r) n e is = none_some e is
+
+  -- a field's cells are among those of its record
+  field_cells : (k s r f kind j : ℕ) → kind_of p.types k ≡ RecordOf s → extends p.types s r ≡ true → slice_get (types_of (record_of p.types r).fields) f ≡ Some kind → j < cells p.types kind → field_place p.types r f + j < cells p.types k
+  field_cells k s r f kind j is ext at lt =
+      let x = slice_found (forms p.types kind) j (let e = cells_length p.types kind in omega (arith, lt, e)) in
+      let there = in_length p (record_forms p.types s) (field_place p.types r f + j) x.0 (prefix p.types good s r (field_place p.types r f + j) x.0 ext (field_at p.types good r f kind j x.0 at x.1)) in
+      let e = cells_length p.types k ∙ ap (λ (xs : List Form). length xs) (whole_forms p.types good k s is) in
+      omega (arith, there, e)
+    where
+      slice_found : (xs : List Form) (j : ℕ) → j < length xs → (x : Form) × (slice_get xs j ≡ Some x)
+      slice_found [] j lt = absurd (omega (arith, lt))
+      slice_found (x ∷ xs) zero lt = (x, refl)
+      slice_found (x ∷ xs) (suc j) lt = slice_found xs j (omega (arith, lt))
+
+  ---- Expressions
+
+  -- an expression as a value and as a condition
+  pub record Shows (x : Act Cell) (low : Lowers) : Type 0 where
+    pub value : Follows w l 0 fuel nothing (Given w l) (CellIs w l) x low.value
+    pub test : Forks w l holds fuel (Given w l) No_more (bits x) low.test
+
+  shown : {x : Act Cell} {q : Low ℕ} → Follows w l 0 fuel nothing (Given w l) (CellIs w l) x q → Shows x (record { value = q; test = fork_value q })
+  shown one = record { value = one; test = forks_value w l steady one }
+
+  literal_few : (n : ℕ) (k : Form) → WellFormed.literal n ≡ Some k → n < 2 ^ 64
+  literal_few zero k is = omega arith
+  literal_few (suc zero) k is = omega arith
+  literal_few (suc (suc n)) k is = by (nat_lt (suc (suc n)) 256) (nat_lt (suc (suc n)) (2 ^ 64)) refl refl is
+    where
+      less : (a b : ℕ) → nat_lt a b ≡ true → a < b
+      less a b e = lt_of p a b e
+
+      by : (a b : Bool) → nat_lt (suc (suc n)) 256 ≡ a → nat_lt (suc (suc n)) (2 ^ 64) ≡ b → WellFormed.literal_by a b ≡ Some k → suc (suc n) < 2 ^ 64
+      by true b e g h = let lt = less (suc (suc n)) 256 e in omega (arith, lt)
+      by false true e g h = less (suc (suc n)) (2 ^ 64) g
+      by false false e g h = none_some k h
+
+  one_shows : (op : Unary) (x : Act Cell) (low : Lowers) → Shows x low → Shows (one_operand op x) (one_of op low)
+  one_shows Negate x low q = shown (follows_unary w l Negate steady q.value)
+  one_shows Complement x low q = shown (follows_unary w l Complement steady q.value)
+  one_shows Abs x low q = shown (follows_unary w l Abs steady q.value)
+  one_shows Odd x low q = shown (follows_unary w l Odd steady q.value)
+  one_shows Not x low q = record {
+    value = follows_unary w l Not steady q.value;
+    test = forks_as w l (bits (one_operand Not x)) (λ k. give (truth (k == 0))) (λ s. after_after (bits x s) (λ a. give (Bits (unary_of Not a))) bits_in) (λ k v f s h. (truth (k == 0), refl, turned (k == 0), tt)) (forks_not w l q.test);
+  }
+    where
+      turned : (b : Bool) → holds (truth b) ≡ not (not b)
+      turned true = refl
+      turned false = refl
+
+  linked_none : {m : _} (row : Row_of-Link m) (k : Form) → WellFormed.linked_form p l.proc row None ≡ Some k → ⊥
+  linked_none end_of-Link k is = none_some k is
+  linked_none (more_of-Link (Operate op y) rest) k is = linked_none rest k is
+  linked_none (more_of-Link (And y) rest) k is = linked_none rest k is
+  linked_none (more_of-Link (Or y) rest) k is = linked_none rest k is
+  linked_none (more_of-Link (Element y) rest) k is = linked_none rest k is
+  linked_none (more_of-Link (Elements y z) rest) k is = linked_none rest k is
+
+  linked_some : {m : _} (row : Row_of-Link m) (o : Option Form) (k : Form) → WellFormed.linked_form p l.proc row o ≡ Some k → (j : Form) × (o ≡ Some j)
+  linked_some row None k is = absurd (linked_none row k is)
+  linked_some row (Some j) k is = (j, refl)
+
+  -- a form that is given
+  number_form : (o : Option Form) → gives_number o ≡ true → (k : Form) × (o ≡ Some k)
+  number_form o h = let z = holds_is p good is_number o h in (z.0, z.1)
+
+  truth_form : (o : Option Form) → WellFormed.gives_truth o ≡ true → (k : Form) × (o ≡ Some k)
+  truth_form o h = let z = holds_is p good WellFormed.is_truth o h in (z.0, z.1)
+
+  abbrev Meant : Option Form → Act Cell → Type 0
+  Meant o x = (tags : List ℕ) → Older l.store.tags tags → Means p good l.forms tags o x
+
+  means_link : (k : Link) (o : Option Form) (x : Act Cell) → Meant o x → Meant (WellFormed.link_form p l.proc k o) (link p calls runs k x)
+  means_link k o x q tags older = t_link p good calls sound runs l.forms tags frame (taken_at tags older) k o x (q tags older)
+
+  length_shows : (o : Option ℕ) (d : Designator) (k : Form) → has_length o ≡ true → provided (holds_of (WellFormed.any_array p o) (WellFormed.named p l.proc d)) (Some Number) ≡ Some k
+      → ((t : Thing) → WellFormed.named p l.proc d ≡ Some t → Follows w l 0 fuel nothing (Given w l) (NamedIs w l (whole_of d) t) (designated p calls runs d) (named p lay mine d))
+      → Shows (length_of (designated p calls runs d) o) (record { value = lower_length (named p lay mine d) o; test = fork_value (lower_length (named p lay mine d) o) })
+  length_shows None d k has is one = no has
+  length_shows (Some n) d k has is one =
+      let a = provided_is p (holds_of (WellFormed.any_array p (Some n)) (WellFormed.named p l.proc d)) (Some Number) k is in
+      let t = holds_is p good (WellFormed.any_array p (Some n)) (WellFormed.named p l.proc d) a.0 in
+      let e = holds_is p good (λ x. true) (WellFormed.elements_in p t.0 (Some n)) t.2 in
+      let array = array_is t.0 n e.0 e.1 in
+      shown (follows_length w l (whole_of d) t.0 (designated p calls runs d) n steady array.0 array.1 (one t.0 t.1))
+
+  mutual
+    pub named_is : (d : Designator) (n : Thing) → WellFormed.named p l.proc d ≡ Some n → designator_covered p d ≡ true → Follows w l 0 fuel nothing (Given w l) (NamedIs w l (whole_of d) n) (designated p calls runs d) (named p lay mine d)
+    named_is (Variable b kind) n is ok =
+        let z = with_is p good (WellFormed.base_named p l.proc b) (WellFormed.of_kind p kind) n is in
+        let y = provided_is p (WellFormed.has_kind p kind z.0) (Some z.0) n z.2 in
+        subst (λ n. Follows w l 0 fuel nothing (Given w l) (NamedIs w l (origin b) n) (base_of p calls runs b) (based p lay mine b)) (some_same z.0 n y.1) (base_is b z.0 z.1 ok)
+    named_is (Part' b kind _ row) n is ok =
+        let cover = and_of (base_is_fixed b) (part_covered p row) ok in
+        let z = with_is p good (WellFormed.selected_named p l.proc row (WellFormed.base_named p l.proc b)) (WellFormed.of_kind p kind) n is in
+        let y = provided_is p (WellFormed.has_kind p kind z.0) (Some z.0) n z.2 in
+        let base = part_some row (WellFormed.base_named p l.proc b) z.0 cover.1 z.1 in
+        let k = fixed_base b base.0 cover.0 base.1 in
+        let e = base.1 ∙ ap (λ n. Some n) k.1 in
+        let one = part_of row (origin b) k.0 true z.0 (base_of p calls runs b) (based p lay mine b) (ap (WellFormed.selected_named p l.proc row) (sym e) ∙ z.1) cover.1
+        (subst (λ n. Follows w l 0 fuel nothing (Given w l) (NamedIs w l (origin b) n) (base_of p calls runs b) (based p lay mine b)) k.1 (base_is b base.0 base.1 k.2)) in
+        subst (λ n. Follows w l 0 fuel nothing (Given w l) (NamedIs w l none n) (selected p calls runs row (base_of p calls runs b)) (lower_selected p lay mine row (based p lay mine b))) (sym one.1 ∙ some_same z.0 n y.1) one.2
+
+    part_of : {m : _} (row : Row_of-Selector m) (own : Mask) (k : ℕ) (may : Bool) (n : Thing) (d : Act Handed) (low : Low Named) → WellFormed.selected_named p l.proc row (Some (Of k may)) ≡ Some n → part_covered p row ≡ true → Follows w l 0 fuel nothing (Given w l) (NamedIs w l own (Of k may)) d low
+        → PartIs nothing may n (selected p calls runs row d) (lower_selected p lay mine row low)
+    part_of end_of-Selector own k may n d low is ok one = no ok
+    part_of (more_of-Selector s rest) own k may n d low is ok one =
+        let covers = and_of (selector_covered p s) (selectors_covered p rest) ok in
+        let t = selected_some rest (WellFormed.select_named p l.proc s (Some (Of k may))) n covers.1 is in
+        let two = select_is s own k may t.0 d low t.1 covers.0 one in
+        selected_is rest two.0 may n (select p calls runs s d) (lower_select p lay mine s low) (ap (WellFormed.selected_named p l.proc rest) (sym (t.1 ∙ ap (λ n. Some n) two.1)) ∙ is) covers.1 two.2
+
+    selected_is : {m : _} (row : Row_of-Selector m) (k : ℕ) (may : Bool) (n : Thing) (d : Act Handed) (low : Low Named) → WellFormed.selected_named p l.proc row (Some (Of k may)) ≡ Some n → selectors_covered p row ≡ true → Follows w l 0 fuel nothing (Given w l) (NamedIs w l none (Of k may)) d low
+        → PartIs nothing may n (selected p calls runs row d) (lower_selected p lay mine row low)
+    selected_is end_of-Selector k may n d low is ok one = (k, sym (some_same (Of k may) n is), one)
+    selected_is (more_of-Selector s rest) k may n d low is ok one =
+        let covers = and_of (selector_covered p s) (selectors_covered p rest) ok in
+        let t = selected_some rest (WellFormed.select_named p l.proc s (Some (Of k may))) n covers.1 is in
+        let two = select_is s none k may t.0 d low t.1 covers.0 one in
+        selected_is rest two.0 may n (select p calls runs s d) (lower_select p lay mine s low) (ap (WellFormed.selected_named p l.proc rest) (sym (t.1 ∙ ap (λ n. Some n) two.1)) ∙ is) covers.1 two.2
+
+    select_is : (s : Selector) (own : Mask) (k : ℕ) (may : Bool) (t : Thing) (d : Act Handed) (low : Low Named) → WellFormed.select_named p l.proc s (Some (Of k may)) ≡ Some t → selector_covered p s ≡ true → Follows w l 0 fuel nothing (Given w l) (NamedIs w l own (Of k may)) d low
+        → PartIs nothing may t (select p calls runs s d) (lower_select p lay mine s low)
+    select_is (Index (Some n) e x) own k may t d low is ok one =
+        let a = provided_is p (WellFormed.array_of p e (Some n) (Of k may)) (provided (gives_number (WellFormed.form p l.proc x)) (Some (Of e may))) t is in
+        let b = provided_is p (gives_number (WellFormed.form p l.proc x)) (Some (Of e may)) t a.1 in
+        let el = holds_is p good (λ x. WellFormed.is_element p x e) (WellFormed.elements_in p (Of k may) (Some n)) a.0 in
+        let of = element_is p (kind_of p.types k) n el.0 el.1 in
+        let same = eqb-true of.0 e (ap (λ x. WellFormed.is_element p x e) of.2 ∙ el.2) in
+        let kind = of.1 ∙ ap (λ e. Array (Some n) e) same in
+        let g = number_form (WellFormed.form p l.proc x) b.0 in
+        let few = of.3 in
+        (e, sym (some_same (Of e may) t b.1), follows_element_place w l own none (Of k may) (Of e may) d n (cells p.types e) (value p calls runs x) steady (λ h. array_cells k n e kind) (ap (λ z. not (is_structured z)) kind) (λ a. refl) (omega (arith, few)) one (shows_of x g.0 g.1 ok).value)
+    select_is (Index None e x) own k may t d low is ok one = no ok
+    select_is (Field r f) own k may t d low is ok one =
+        let a = provided_is p (WellFormed.has_record p r (Of k may)) (with_some (slice_get (types_of (record_of p.types r).fields) f) (λ k. Some (Of k may))) t is in
+        let c = with_is p good (slice_get (types_of (record_of p.types r).fields) f) (λ k. Some (Of k may)) t a.1 in
+        let s = holds_is p good (λ s. extends p.types s r) (WellFormed.record_by (kind_of p.types k)) a.0 in
+        let kind = record_is p good (kind_of p.types k) s.0 s.1 in
+        (c.0, sym (some_same (Of c.0 may) t c.2), follows_field_place w l own none (Of k may) (Of c.0 may) d (field_place p.types r f) (cells p.types c.0) steady (λ h j lt. field_cells k s.0 r f c.0 j kind s.2 c.1 lt) (ap (λ z. not (is_structured z)) kind) (λ a. refl) one)
+    select_is (Dereference rs) own k may t d low is ok one = no ok
+    select_is (Narrow r) own k may t d low is ok one = no ok
+
+    pub shows_of : (e : Expr) (k : Form) → WellFormed.form p l.proc e ≡ Some k → expr_covered p e ≡ true → Shows (value p calls runs e) (expr p lay mine e)
+    shows_of (Literal n) k is ok = shown (follows_literal w l n (literal_few n k is))
+    shows_of (Routine g) k is ok = shown (follows_routine w l g (right.callable g ok))
+    shows_of (Load d) k is ok =
+        let z = with_is p good (WellFormed.named p l.proc d) (WellFormed.scalar_in p) k is in
+        shown (follows_load w l (whole_of d) (designated p calls runs d) steady (follows_home w l (whole_of d) z.0 (designated p calls runs d) steady (λ h v m g s known. scalar_row z.0 k z.2 h) (named_is d z.0 z.1 ok)))
+    shows_of (Guard d rs) k is ok = no ok
+    shows_of (Unary' op _ x) k is ok =
+        let z = provided_is p (gives_number (WellFormed.form p l.proc x)) (Some (WellFormed.unary_form op)) k is in
+        let y = number_form (WellFormed.form p l.proc x) z.0 in
+        one_shows op (value p calls runs x) (expr p lay mine x) (shows_of x y.0 y.1 ok)
+    shows_of (Chain' _ x _ links) k is ok =
+        let parts = and_of (expr_covered p x) (links_covered p links) ok in
+        let z = linked_some links (WellFormed.form p l.proc x) k is in
+        linked_shows links (WellFormed.form p l.proc x) (value p calls runs x) (expr p lay mine x) k is parts.1 (shows_of x z.0 z.1 parts.0) (λ tags older. t_value p good calls sound runs l.forms tags frame (taken_at tags older) x)
+    shows_of (Compare' r _ x _ y) k is ok =
+        let parts = and_of (expr_covered p x) (expr_covered p y) ok in
+        let a = with_is p good (WellFormed.form p l.proc x) (λ a. with_some (WellFormed.form p l.proc y) (λ b. provided (WellFormed.comparable r a b) (Some Truth))) k is in
+        let b = with_is p good (WellFormed.form p l.proc y) (λ b. provided (WellFormed.comparable r a.0 b) (Some Truth)) k a.2 in
+        let one = shows_of x a.0 a.1 parts.0 in
+        let two = shows_of y b.0 b.1 parts.1 in
+        record { value = follows_compared w l right r steady one.value two.value; test = forks_branch w l right r steady one.value two.value }
+    shows_of (CompareTexts' r _ d _ e) k is ok = no ok
+    shows_of (In' _ x _ s) k is ok =
+        let parts = and_of (expr_covered p x) (expr_covered p s) ok in
+        let a = provided_is p (gives_number (WellFormed.form p l.proc x)) (provided (gives_number (WellFormed.form p l.proc s)) (Some Truth)) k is in
+        let b = provided_is p (gives_number (WellFormed.form p l.proc s)) (Some Truth) k a.1 in
+        let y = number_form (WellFormed.form p l.proc x) a.0 in
+        let z = number_form (WellFormed.form p l.proc s) b.0 in
+        shown (follows_contained w l steady (shows_of x y.0 y.1 parts.0).value (shows_of s z.0 z.1 parts.1).value)
+    shows_of (IsPointer' _ x r) k is ok = no ok
+    shows_of (IsParameter d r) k is ok = no ok
+    shows_of (Byte' _ x) k is ok =
+        let a = provided_is p (gives_number (WellFormed.form p l.proc x)) (Some Small) k is in
+        let y = number_form (WellFormed.form p l.proc x) a.0 in
+        shown (follows_byte w l steady (shows_of x y.0 y.1 ok).value)
+    shows_of (Length d) k is ok =
+        let cover = and_of (designator_covered p d) (has_length (length_of_kind (kind_in d))) ok in
+        length_shows (length_of_kind (kind_in d)) d k cover.1 is (λ t e. named_is d t e cover.0)
+    shows_of (Call' _ c) k is ok = no ok
+
+    linked_shows : {m : _} (row : Row_of-Link m) (o : Option Form) (x : Act Cell) (low : Lowers) (k : Form) → WellFormed.linked_form p l.proc row o ≡ Some k → links_covered p row ≡ true → Shows x low → Meant o x → Shows (linked p calls runs row x) (lower_linked p lay mine row low)
+    linked_shows end_of-Link o x low k is ok q means = q
+    linked_shows (more_of-Link a rest) o x low k is ok q means =
+        let parts = and_of (link_covered p a) (links_covered p rest) ok in
+        let z = linked_some rest (WellFormed.link_form p l.proc a o) k is in
+        linked_shows rest (WellFormed.link_form p l.proc a o) (link p calls runs a x) (lower_link p lay mine a low) k is parts.1 (link_shows a o x low z.0 z.1 parts.0 q means) (means_link a o x means)
+
+    link_shows : (a : Link) (o : Option Form) (x : Act Cell) (low : Lowers) (k : Form) → WellFormed.link_form p l.proc a o ≡ Some k → link_covered p a ≡ true → Shows x low → Meant o x → Shows (link p calls runs a x) (lower_link p lay mine a low)
+    link_shows (Operate op y) o x low k is ok q means =
+        let a = provided_is p (gives_number o) (provided (gives_number (WellFormed.form p l.proc y)) (Some (WellFormed.binary_form op))) k is in
+        let b = provided_is p (gives_number (WellFormed.form p l.proc y)) (Some (WellFormed.binary_form op)) k a.1 in
+        let z = number_form (WellFormed.form p l.proc y) b.0 in
+        shown (follows_binary w l op steady q.value (shows_of y z.0 z.1 ok).value)
+    link_shows (And y) o x low k is ok q means =
+        let a = provided_is p (WellFormed.gives_truth o) (provided (WellFormed.gives_truth (WellFormed.form p l.proc y)) (Some Truth)) k is in
+        let b = provided_is p (WellFormed.gives_truth (WellFormed.form p l.proc y)) (Some Truth) k a.1 in
+        let z = truth_form (WellFormed.form p l.proc y) b.0 in
+        let two = shows_of y z.0 z.1 ok in
+        let forks = forks_and w l x (value p calls runs y) low.test (expr p lay mine y).test steady q.test two.test in
+        record { value = follows_flag w l (both x (value p calls runs y)) (fork_and low.test (expr p lay mine y).test) forks (λ tags older. (means_link (And y) o x means tags older).sound Truth (is ∙ ap (λ f. Some f) (sym (some_same Truth k b.1)))); test = forks }
+    link_shows (Or y) o x low k is ok q means =
+        let a = provided_is p (WellFormed.gives_truth o) (provided (WellFormed.gives_truth (WellFormed.form p l.proc y)) (Some Truth)) k is in
+        let b = provided_is p (WellFormed.gives_truth (WellFormed.form p l.proc y)) (Some Truth) k a.1 in
+        let z = truth_form (WellFormed.form p l.proc y) b.0 in
+        let two = shows_of y z.0 z.1 ok in
+        let forks = forks_or w l x (value p calls runs y) low.test (expr p lay mine y).test steady q.test two.test in
+        record { value = follows_flag w l (or_else x (value p calls runs y)) (fork_or low.test (expr p lay mine y).test) forks (λ tags older. (means_link (Or y) o x means tags older).sound Truth (is ∙ ap (λ f. Some f) (sym (some_same Truth k b.1)))); test = forks }
+    link_shows (Element y) o x low k is ok q means =
+        let a = provided_is p (gives_number o) (provided (gives_number (WellFormed.form p l.proc y)) (Some Number)) k is in
+        let b = provided_is p (gives_number (WellFormed.form p l.proc y)) (Some Number) k a.1 in
+        let z = number_form (WellFormed.form p l.proc y) b.0 in
+        shown (follows_element w l steady q.value (shows_of y z.0 z.1 ok).value)
+    link_shows (Elements y z) o x low k is ok q means =
+        let parts = and_of (expr_covered p y) (expr_covered p z) ok in
+        let a = provided_is p (gives_number o) (provided (gives_number (WellFormed.form p l.proc y)) (provided (gives_number (WellFormed.form p l.proc z)) (Some Number))) k is in
+        let b = provided_is p (gives_number (WellFormed.form p l.proc y)) (provided (gives_number (WellFormed.form p l.proc z)) (Some Number)) k a.1 in
+        let c = provided_is p (gives_number (WellFormed.form p l.proc z)) (Some Number) k b.1 in
+        let u = number_form (WellFormed.form p l.proc y) b.0 in
+        let v = number_form (WellFormed.form p l.proc z) c.0 in
+        shown (follows_range w l steady q.value (shows_of y u.0 u.1 parts.0).value (shows_of z v.0 v.1 parts.1).value)
+
+  pub home_is : (d : Designator) (n : Thing) (f : Form) → WellFormed.named p l.proc d ≡ Some n → WellFormed.scalar_in p n ≡ Some f → designator_covered p d ≡ true → Follows w l 0 fuel nothing (Given w l) (HomeIs w l (whole_of d)) (place (designated p calls runs d)) (home p lay mine d)
+  home_is d n f is scalar ok = follows_home w l (whole_of d) n (designated p calls runs d) steady (λ h v m g s k. scalar_row n f scalar h) (named_is d n is ok)
+
+  ---- Statements
+
+  -- the form of a whole expression
+  checked_is : (x : Checked) (k : Form) → WellFormed.checked_form p l.proc x ≡ Some k → WellFormed.form p l.proc x.form ≡ Some k
+  checked_is x k is = (provided_is p (WellFormed.kind_suits p x.kind (WellFormed.form p l.proc x.form)) (WellFormed.form p l.proc x.form) k is).1
+
+  checked_shows : (x : Checked) (k : Form) → WellFormed.checked_form p l.proc x ≡ Some k → checked_covered p x ≡ true → Shows (value p calls runs x.form) (expr p lay mine x.form)
+  checked_shows x k is ok = shows_of x.form k (checked_is x k is) ok
+
+  -- values and homes where turns are paid for and variables may change
+  value_at : {mask : Mask} (x : Checked) (k : Form) → WellFormed.checked_form p l.proc x ≡ Some k → checked_covered p x ≡ true → Follows w l 1 fuel mask (Given w l) (CellIs w l) (value p calls runs x.form) (expr p lay mine x.form).value
+  value_at x k is ok = follows_mask w l {less = nothing} (omega arith) (λ y e. refl) (checked_shows x k is ok).value
+
+  home_at : {mask : Mask} (d : Designator) (n : Thing) (f : Form) → WellFormed.named p l.proc d ≡ Some n → WellFormed.scalar_in p n ≡ Some f → designator_covered p d ≡ true → Follows w l 1 fuel mask (Given w l) (HomeIs w l (whole_of d)) (place (designated p calls runs d)) (home p lay mine d)
+  home_at d n f is scalar ok = follows_mask w l {less = nothing} (omega arith) (λ y e. refl) (home_is d n f is scalar ok)
+
+  -- the variables that may change
+  abbrev Covers : Mask → Mask → Type 0
+  Covers mask some = (x : ℕ) → registers p lay mine some x ≡ true → mask x ≡ true
+
+  not_covered : (mask some : Mask) → Covers mask some → (x : ℕ) → mask x ≡ false → registers p lay mine some x ≡ false
+  not_covered mask some c x out = by (registers p lay mine some x) refl
+    where
+      differ : {b : Bool} → b ≡ true → b ≡ false → ⊥
+      differ e f = cc
+
+      by : (b : Bool) → registers p lay mine some x ≡ b → registers p lay mine some x ≡ false
+      by false e = e
+      by true e = absurd (differ (c x e) out)
+
+  -- a variable in a register that is assigned is in the mask
+  own_register : (d : Designator) (n : Thing) → WellFormed.named p l.proc d ≡ Some n → (x : ℕ) → whole_of d x ≡ true → l.in_register x ≡ true → registers p lay mine (whole_of d) x ≡ true
+  own_register (Variable (Local y) kind) n is x e reg =
+      let z = with_is p good (WellFormed.base_named p l.proc (Local y)) (WellFormed.of_kind p kind) n is in
+      let u = with_is p good (slice_get (locals w l) y) (λ k. Some (Of k true)) z.0 z.1 in
+      by u.0 (subst (λ y. LocalIs w l y u.0) (eqb-true y x e) (vars.local y u.0 u.1))
+    where
+      differ : {b : Bool} → b ≡ true → b ≡ false → ⊥
+      differ e f = cc
+
+      by : (k : ℕ) → LocalIs w l x k → registers p lay mine (whole_of (Variable (Local y) kind)) x ≡ true
+      by k (inl h) = ap (λ s. in_register p lay mine s && (y == x)) h.0 ∙ e
+      by k (inr h) = absurd (differ reg h.2)
+  own_register (Variable Done kind) n is x e reg = no e
+  own_register (Variable (Global m v) kind) n is x e reg = no e
+  own_register (Variable (Parameter k) kind) n is x e reg = no e
+  own_register (Variable (Text k) kind) n is x e reg = no e
+  own_register (Part' b kind _ selectors) n is x e reg = no e
+
+  masked_by : (mask : Mask) (d : Designator) (n : Thing) → WellFormed.named p l.proc d ≡ Some n → Covers mask (whole_of d) → (x : ℕ) → whole_of d x ≡ true → l.in_register x ≡ true → mask x ≡ true
+  masked_by mask d n is c x e reg = c x (own_register d n is x e reg)
+
+  -- a statement that makes sense leaves a typed store
+  typed_by : {mask : Mask} (s : Stmt) {low : Low (Unit {0})} → WellFormed.fine p l.proc s ≡ true → FollowsTo w l false 1 fuel mask (Given w l) Always (effect p calls runs fuel s) low → Follows w l 1 fuel mask (Given w l) Always (effect p calls runs fuel s) low
+  typed_by s fine one = follows_less w l (λ a b n f t h. tt) (follows_sound w l {P = Any p} (λ tags older. (t_effect p good calls sound runs l.forms tags frame (taken_at tags older) fuel s).sound fine) one)
+
+  -- alternatives one behind the other
+  unit_after : (e : Ending Objects Trap (Unit {0})) (other : Deed) → after (after e (λ u t. Gives true t)) (λ done. if done then give tt else other) ≡ e
+  unit_after (Gives tt t) other = refl
+  unit_after (Fails trap out) other = refl
+  unit_after (Spent out) other = refl
+
+  otherwise_is : (c : Act Bool) (body other : Deed) (rest : Act Bool) (s : Moment Objects) → (c >>= λ ok. if ok then body else otherwise rest other) s ≡ otherwise (try c body rest) other s
+  otherwise_is c body other rest s = by (c s)
+    where
+      by : (e : Ending Objects Trap Bool) → after e (λ ok. if ok then body else otherwise rest other) ≡ after (after e (λ ok. if ok then (body >>= λ _. give true) else rest)) (λ done. if done then give tt else other)
+      by (Gives true t) = sym (unit_after (body t) other)
+      by (Gives false t) = refl
+      by (Fails trap out) = refl
+      by (Spent out) = refl
+
+  rounds_any : {mask : Mask} {m : Act Bool} {rs : List Round} (b : Bool) → Rounded w l (cond b 0 1) fuel mask (Given w l) m rs → Rounded w l 1 fuel mask (Given w l) m rs
+  rounds_any true one = rounds_less w l one
+  rounds_any false one = one
+
+  shared_is : (d : Designator) → is_shared d ≡ true → (x : ℕ) → whole_of d x ≡ false
+  shared_is (Variable (Global m v) kind) h x = refl
+  shared_is (Part' b kind _ selectors) h x = refl
+  shared_is (Variable Done kind) h x = no h
+  shared_is (Variable (Local y) kind) h x = no h
+  shared_is (Variable (Parameter k) kind) h x = no h
+  shared_is (Variable (Text k) kind) h x = no h
+
+  ---- FOR
+
+  fixed_at : (d : Designator) → is_fixed d ≡ true → (a : Address) × ((s : Moment Objects) → place (designated p calls runs d) s ≡ Gives a s)
+  fixed_at (Variable (Global m v) kind) h = (_, λ s. refl)
+  fixed_at (Variable (Local x) kind) h = (_, λ s. refl)
+  fixed_at (Variable Done kind) h = no h
+  fixed_at (Variable (Parameter k) kind) h = no h
+  fixed_at (Variable (Text k) kind) h = no h
+  fixed_at (Part' b kind _ selectors) h = no h
+
+  fixed_covered : (d : Designator) → is_fixed d ≡ true → designator_covered p d ≡ true
+  fixed_covered (Variable (Global m v) kind) h = refl
+  fixed_covered (Variable (Local x) kind) h = refl
+  fixed_covered (Variable Done kind) h = refl
+  fixed_covered (Variable (Parameter k) kind) h = refl
+  fixed_covered (Variable (Text k) kind) h = no h
+  fixed_covered (Part' b kind _ selectors) h = no h
+
+  limit_test : (b : Bool) (x y : ℕ) → compares (if b then 13 else 10) x y ≡ (if b then int_le (signed x) (signed y) else int_le (signed y) (signed x))
+  limit_test true x y = refl
+  limit_test false x y = refl
+
+  sound_same : {A : Type 0} {tags : List ℕ} {P : List ℕ → A → Type 0} (m n : Act A) → ((s : Moment Objects) → m s ≡ n s) → Sound p l.forms tags P m → Sound p l.forms tags P n
+  sound_same {tags = tags} {P = P} m n same h = record { by = λ s older typed. subst (λ e. Good p l.forms P s.store.tags e) (same s) (h.by s older typed) }
+
+  sound_place : (d : Designator) → holds_of (WellFormed.takes p WellFormed.is_full) (WellFormed.named p l.proc d) ≡ true → (tags : List ℕ) → Older l.store.tags tags → Sound p l.forms tags (λ t a. Formed p l.forms t a Number × (can_write a.area ≡ true)) (place (designated p calls runs d))
+  sound_place d h tags older = s_full p good (WellFormed.named p l.proc d) h (t_named p good calls sound runs l.forms tags frame (taken_at tags older) d)
+
+  sound_first : (d : Designator) (x : Checked) → holds_of (WellFormed.takes p WellFormed.is_full) (WellFormed.named p l.proc d) ≡ true → gives_number (WellFormed.checked_form p l.proc x) ≡ true → (tags : List ℕ) → Older l.store.tags tags → Sound p l.forms tags (Any p) (assign (designated p calls runs d) (value p calls runs x.form))
+  sound_first d x h g tags older =
+      s_bind p (sound_place d h tags older) (λ t1 a e1 at. s_bind p (s_older p e1 (as_number p good (WellFormed.checked_form p l.proc x) g (t_checked p good calls sound runs l.forms tags frame (taken_at tags older) x)))
+      (λ t2 c e2 f. s_put p a Number c (form_older p l.forms t1 t2 e2 a.area a.object a.cell Number at.0) at.1 f))
+
+  sound_step : (d : Designator) (n : ℕ) (a : Address) → ((s : Moment Objects) → place (designated p calls runs d) s ≡ Gives a s) → holds_of (WellFormed.takes p WellFormed.is_full) (WellFormed.named p l.proc d) ≡ true → (tags : List ℕ) → Older l.store.tags tags
+      → Sound p l.forms tags (Any p) (assign (designated p calls runs d) (two_operands l.proc Add (load (designated p calls runs d)) (give (Bits n))))
+  sound_step d n a is h tags older = sound_same (place (designated p calls runs d) >>= λ a. bits (fetch a) >>= λ v. put a (Bits (add64 v n))) (assign (designated p calls runs d) (two_operands l.proc Add (load (designated p calls runs d)) (give (Bits n))))
+      (λ s. ap (λ e. after e (λ a. bits (fetch a) >>= λ v. put a (Bits (add64 v n)))) (is s) ∙ sym (step_is w l a (designated p calls runs d) is n s))
+      (s_bind p (sound_place d h tags older) (λ t1 a e1 at. s_bind p (s_number_at p good a Number refl at.0) (λ t2 v e2 j. s_put p a Number (Bits (add64 v n)) (form_older p l.forms t1 t2 e2 a.area a.object a.cell Number at.0) at.1 (add64_lt v n))))
+
+  mutual
+    pub stmt_is : (mask : Mask) (s : Stmt) → WellFormed.fine p l.proc s ≡ true → covered p s ≡ true → Covers mask (assigned s) → Follows w l 1 fuel mask (Given w l) Always (effect p calls runs fuel s) (deed p lay mine s)
+    stmt_is mask (Assign d x) fine ok c =
+        let parts = and_of (designator_covered p d) (checked_covered p x) ok in
+        let z = holds_is p good (λ t. WellFormed.is_writable t && WellFormed.given_for p (WellFormed.checked_form p l.proc x) (WellFormed.scalar_in p t)) (WellFormed.named p l.proc d) fine in
+        let y = and_of (WellFormed.is_writable z.0) (WellFormed.given_for p (WellFormed.checked_form p l.proc x) (WellFormed.scalar_in p z.0)) z.2 in
+        let g = given_is p good (WellFormed.checked_form p l.proc x) (WellFormed.scalar_in p z.0) y.1 in
+        typed_by (Assign d x) fine (follows_assign w l right apart (whole_of d) (designated p calls runs d) steady (masked_by mask d z.0 z.1 c) (home_at d z.0 g.1 z.1 g.3 parts.0) (value_at x g.0 g.2 parts.1))
+    stmt_is mask (Increase d x) fine ok c =
+        let parts = and_of (designator_covered p d) (checked_covered p x) ok in
+        let y = and_of (gives_number (WellFormed.checked_form p l.proc x)) (holds_of (WellFormed.takes p (WellFormed.changes (is_byte (kind_in d)))) (WellFormed.named p l.proc d)) fine in
+        let z = takes_is p good (WellFormed.changes (is_byte (kind_in d))) (WellFormed.named p l.proc d) y.1 in
+        let g = number_form (WellFormed.checked_form p l.proc x) y.0 in
+        typed_by (Increase d x) fine (follows_number_change w l right apart (whole_of d) Add (designated p calls runs d) (is_byte (kind_in d)) tt steady (masked_by mask d z.0 z.2 c) (home_at d z.0 z.1 z.2 z.3 parts.0) (value_at x g.0 g.1 parts.1))
+    stmt_is mask (Decrease d x) fine ok c =
+        let parts = and_of (designator_covered p d) (checked_covered p x) ok in
+        let y = and_of (gives_number (WellFormed.checked_form p l.proc x)) (holds_of (WellFormed.takes p (WellFormed.changes (is_byte (kind_in d)))) (WellFormed.named p l.proc d)) fine in
+        let z = takes_is p good (WellFormed.changes (is_byte (kind_in d))) (WellFormed.named p l.proc d) y.1 in
+        let g = number_form (WellFormed.checked_form p l.proc x) y.0 in
+        typed_by (Decrease d x) fine (follows_number_change w l right apart (whole_of d) Subtract (designated p calls runs d) (is_byte (kind_in d)) tt steady (masked_by mask d z.0 z.2 c) (home_at d z.0 z.1 z.2 z.3 parts.0) (value_at x g.0 g.1 parts.1))
+    stmt_is mask (Include d x) fine ok c =
+        let parts = and_of (designator_covered p d) (checked_covered p x) ok in
+        let y = and_of (gives_number (WellFormed.checked_form p l.proc x)) (holds_of (WellFormed.takes p WellFormed.is_full) (WellFormed.named p l.proc d)) fine in
+        let z = takes_is p good WellFormed.is_full (WellFormed.named p l.proc d) y.1 in
+        let g = number_form (WellFormed.checked_form p l.proc x) y.0 in
+        typed_by (Include d x) fine (follows_set_change w l right apart (whole_of d) Union (designated p calls runs d) tt steady (masked_by mask d z.0 z.2 c) (home_at d z.0 z.1 z.2 z.3 parts.0) (value_at x g.0 g.1 parts.1))
+    stmt_is mask (Exclude d x) fine ok c =
+        let parts = and_of (designator_covered p d) (checked_covered p x) ok in
+        let y = and_of (gives_number (WellFormed.checked_form p l.proc x)) (holds_of (WellFormed.takes p WellFormed.is_full) (WellFormed.named p l.proc d)) fine in
+        let z = takes_is p good WellFormed.is_full (WellFormed.named p l.proc d) y.1 in
+        let g = number_form (WellFormed.checked_form p l.proc x) y.0 in
+        typed_by (Exclude d x) fine (follows_set_change w l right apart (whole_of d) Difference (designated p calls runs d) tt steady (masked_by mask d z.0 z.2 c) (home_at d z.0 z.1 z.2 z.3 parts.0) (value_at x g.0 g.1 parts.1))
+    stmt_is mask (Assert x) fine ok c = let g = number_form (WellFormed.checked_form p l.proc x) fine in follows_assert w l steady (value_at x g.0 g.1 ok)
+    stmt_is mask (OutChar x) fine ok c = let g = holds_is p good WellFormed.is_small (WellFormed.checked_form p l.proc x) fine in follows_out_char w l steady (value_at x g.0 g.1 ok)
+    stmt_is mask (OutInt x n) fine ok c =
+        let parts = and_of (checked_covered p x) (checked_covered p n) ok in
+        let y = and_of (gives_number (WellFormed.checked_form p l.proc x)) (gives_number (WellFormed.checked_form p l.proc n)) fine in
+        let g = number_form (WellFormed.checked_form p l.proc x) y.0 in
+        let h = number_form (WellFormed.checked_form p l.proc n) y.1 in
+        follows_out_int w l steady (value_at x g.0 g.1 parts.0) (value_at n h.0 h.1 parts.1)
+    stmt_is mask OutLn fine ok c = follows_out_char w l steady (follows_literal w l 10 (omega arith))
+    stmt_is mask (If' _ parts _ other) fine ok c =
+        let y = and_of (WellFormed.fine_branches p l.proc parts) (WellFormed.fine_row p l.proc other) fine in
+        let z = and_of (branches_covered p parts) (row_covered p other) ok in
+        alternatives_are mask parts (assigned_all other) (effects p calls runs fuel other) (deeds p lay mine other) y.0 z.0 c
+        (λ inner d. row_is inner other y.1 z.1 d)
+    stmt_is mask (While' _ parts) fine ok c =
+        let z = and_of (has_branch parts) (branches_covered p parts) ok in
+        follows_mask w l {low_need = 1} {less = registers p lay mine (assigned_branches parts)} (omega arith) (not_covered mask (assigned_branches parts) c)
+        (follows_loop w l (registers p lay mine (assigned_branches parts)) (branches p calls runs fuel parts) (guarded_rounds p lay mine parts) steady (subst (λ b. Rounded w l (cond b 0 1) fuel (registers p lay mine (assigned_branches parts)) (Given w l) (branches p calls runs fuel parts) (guarded_rounds p lay mine parts)) z.0 (rounds_are (registers p lay mine (assigned_branches parts)) parts fine z.1 (λ x e. e))))
+    stmt_is mask (Repeat' _ body x) fine ok c =
+        let y = and_of (WellFormed.fine_row p l.proc body) (gives_number (WellFormed.checked_form p l.proc x)) fine in
+        let z = and_of (row_covered p body) (checked_covered p x) ok in
+        let g = number_form (WellFormed.checked_form p l.proc x) y.1 in
+        follows_mask w l {low_need = 1} {less = registers p lay mine (assigned_all body)} (omega arith) (not_covered mask (assigned_all body) c)
+        (follows_until w l (registers p lay mine (assigned_all body)) (test (value p calls runs x.form)) (effects p calls runs fuel body) (expr p lay mine x.form).test (deeds p lay mine body) steady (forks_test w l (value p calls runs x.form) (checked_shows x g.0 g.1 z.1).test) (row_is (registers p lay mine (assigned_all body)) body y.0 z.0 (λ v e. e)))
+    stmt_is mask (CopyArray d e) fine ok c = no ok
+    stmt_is mask (CopyRecord d e) fine ok c = no ok
+    stmt_is mask (New d) fine ok c = no ok
+    stmt_is mask (OutString d) fine ok c = no ok
+    stmt_is mask (InChar d) fine ok c =
+        let z = and_of (designator_covered p d) (is_shared d) ok in
+        let t = takes_is p good (WellFormed.changes true) (WellFormed.named p l.proc d) fine in
+        typed_by (InChar d) fine (follows_in_char w l right apart (whole_of d) t.0 (designated p calls runs d) steady (shared_is d z.1) (λ h. scalar_row t.0 t.1 t.3 h) vars.done
+        (λ n le tags older. s_put p done Truth (Bits n) (done_formed p good l.forms tags) refl (omega (arith, le)))
+        (follows_mask w l {less = nothing} (omega arith) (λ y e. refl) (named_is d t.0 t.2 z.0)))
+    stmt_is mask (Invoke k) fine ok c = no ok
+    stmt_is mask (For' d x y step _ body) fine ok c =
+        let z = and_of (is_fixed d && nat_lt (unsigned step) (2 ^ 64)) (checked_covered p x && (checked_covered p y && row_covered p body)) ok in
+        let fits = and_of (is_fixed d) (nat_lt (unsigned step) (2 ^ 64)) z.0 in
+        let z2 = and_of (checked_covered p x) (checked_covered p y && row_covered p body) z.1 in
+        let z3 = and_of (checked_covered p y) (row_covered p body) z2.1 in
+        let y1 = and_of (holds_of (WellFormed.takes p WellFormed.is_full) (WellFormed.named p l.proc d)) (gives_number (WellFormed.checked_form p l.proc x) && (gives_number (WellFormed.checked_form p l.proc y) && WellFormed.fine_row p l.proc body)) fine in
+        let y2 = and_of (gives_number (WellFormed.checked_form p l.proc x)) (gives_number (WellFormed.checked_form p l.proc y) && WellFormed.fine_row p l.proc body) y1.1 in
+        let y3 = and_of (gives_number (WellFormed.checked_form p l.proc y)) (WellFormed.fine_row p l.proc body) y2.1 in
+        let t = takes_is p good WellFormed.is_full (WellFormed.named p l.proc d) y1.0 in
+        let g = number_form (WellFormed.checked_form p l.proc x) y2.0 in
+        let h = number_form (WellFormed.checked_form p l.proc y) y3.0 in
+        let fixed = fixed_at d fits.0 in
+        let whole = fixed_covered d fits.0 in
+        let inner = registers p lay mine (either (whole_of d) (assigned_all body)) in
+        let n = unsigned step in
+        let stepped = follows_same w l (assign (designated p calls runs d) (two_operands l.proc Add (load (designated p calls runs d)) (give (Bits n)))) (bits (fetch fixed.0) >>= λ v. put fixed.0 (Bits (add64 v n))) (step_is w l fixed.0 (designated p calls runs d) fixed.1 n)
+        (follows_less w l {Q = Always} (λ a b n f t h. tt) (follows_sound w l {P = Any p} (λ tags older. sound_step d n fixed.0 fixed.1 y1.0 tags older)
+        (follows_assign w l right apart (whole_of d) (designated p calls runs d) steady (masked_by inner d t.0 t.2 (λ v e. left_of (in_register p lay mine (variable_of p lay mine v).site) (whole_of d v) (assigned_all body v) e)) (home_at d t.0 t.1 t.2 t.3 whole)
+        (follows_binary w l Add steady (follows_load w l (whole_of d) (designated p calls runs d) steady (home_at d t.0 t.1 t.2 t.3 whole)) (follows_literal w l n (lt_of p (unsigned step) (2 ^ 64) fits.1)))))) in
+        follows_for w l mask inner (bound p lay mine step) step (value p calls runs x.form) (effects p calls runs fuel body) fixed.0 (designated p calls runs d) fixed.1 (limit_test (int_lt (pos 0) step)) (not_covered mask (either (whole_of d) (assigned_all body)) c) steady
+        (follows_same w l (assign (designated p calls runs d) (value p calls runs x.form)) (value p calls runs x.form >>= λ c. put fixed.0 c) (assign_is w l fixed.0 (designated p calls runs d) fixed.1 (value p calls runs x.form))
+        (follows_less w l {Q = Always} (λ a b n f t h. tt) (follows_sound w l {P = Any p} (λ tags older. sound_first d x y1.0 y2.0 tags older)
+        (follows_assign w l right apart (whole_of d) (designated p calls runs d) steady (masked_by mask d t.0 t.2 (λ v e. c v (left_of (in_register p lay mine (variable_of p lay mine v).site) (whole_of d v) (assigned_all body v) e))) (home_at d t.0 t.1 t.2 t.3 whole) (value_at x g.0 g.1 z2.0)))))
+        (value_at y h.0 h.1 z3.0)
+        (follows_same w l (load (designated p calls runs d)) (fetch fixed.0) (load_is w l fixed.0 (designated p calls runs d) fixed.1) (follows_load w l (whole_of d) (designated p calls runs d) steady (home_is d t.0 t.1 t.2 t.3 whole)))
+        (follows_bind w l steady (row_is inner body y3.1 z3.1 (λ v e. right_of (in_register p lay mine (variable_of p lay mine v).site) (whole_of d v) (assigned_all body v) e)) (λ u. stepped.grows) (λ u v. follows_known w l (λ n f s k. k.0) stepped))
+    stmt_is mask (Case' x _ parts) fine ok c = no ok
+    stmt_is mask (CasePointer' x _ parts) fine ok c = no ok
+    stmt_is mask (CaseParameter' d _ parts) fine ok c = no ok
+
+    pub row_is : (mask : Mask) {m : _} (r : Row_of-Stmt m) → WellFormed.fine_row p l.proc r ≡ true → row_covered p r ≡ true → Covers mask (assigned_all r) → Follows w l 1 fuel mask (Given w l) Always (effects p calls runs fuel r) (deeds p lay mine r)
+    row_is mask end_of-Stmt fine ok c = follows_give w l tt tt (λ n f s k. tt)
+    row_is mask (more_of-Stmt s rest) fine ok c =
+        let y = and_of (WellFormed.fine p l.proc s) (WellFormed.fine_row p l.proc rest) fine in
+        let z = and_of (covered p s) (row_covered p rest) ok in
+        let more = row_is mask rest y.1 z.1 (λ x e. c x (right_of (in_register p lay mine (variable_of p lay mine x).site) (assigned s x) (assigned_all rest x) e)) in
+        follows_bind w l steady (stmt_is mask s y.0 z.0 (λ x e. c x (left_of (in_register p lay mine (variable_of p lay mine x).site) (assigned s x) (assigned_all rest x) e))) (λ u. more.grows) (λ a b. follows_known w l (λ n f s k. k.0) more)
+
+    alternatives_are : (mask : Mask) {m : _} (parts : Row_of-Branch m) (last : Mask) (other : Deed) (low : Low (Unit {0})) → WellFormed.fine_branches p l.proc parts ≡ true → branches_covered p parts ≡ true → Covers mask (either (assigned_branches parts) last)
+        → ((inner : Mask) → Covers inner last → Follows w l 1 fuel inner (Given w l) Always other low) → Follows w l 1 fuel mask (Given w l) Always (otherwise (branches p calls runs fuel parts) other) (alternatives p lay mine parts last low)
+    alternatives_are mask end_of-Branch last other low fine ok c go = go mask c
+    alternatives_are mask (more_of-Branch x _ body rest) last other low fine ok c go =
+        let y = and_of (gives_number (WellFormed.checked_form p l.proc x)) (WellFormed.fine_row p l.proc body && WellFormed.fine_branches p l.proc rest) fine in
+        let y2 = and_of (WellFormed.fine_row p l.proc body) (WellFormed.fine_branches p l.proc rest) y.1 in
+        let z = and_of (checked_covered p x) (row_covered p body && branches_covered p rest) ok in
+        let z2 = and_of (row_covered p body) (branches_covered p rest) z.1 in
+        let g = number_form (WellFormed.checked_form p l.proc x) y.0 in
+        let few = registers p lay mine (either (assigned_all body) (either (assigned_branches rest) last)) in
+        follows_same w l (test (value p calls runs x.form) >>= λ ok. if ok then effects p calls runs fuel body else otherwise (branches p calls runs fuel rest) other) (otherwise (try (test (value p calls runs x.form)) (effects p calls runs fuel body) (branches p calls runs fuel rest)) other)
+        (otherwise_is (test (value p calls runs x.form)) (effects p calls runs fuel body) other (branches p calls runs fuel rest))
+        (follows_mask w l {low_need = 1} {less = few} (omega arith) (not_covered mask (either (assigned_all body) (either (assigned_branches rest) last)) (λ v e. c v (regroup_mask (in_register p lay mine (variable_of p lay mine v).site) (assigned_all body v) (assigned_branches rest v) (last v) e)))
+        (follows_choose w l few (test (value p calls runs x.form)) (expr p lay mine x.form).test (effects p calls runs fuel body) (otherwise (branches p calls runs fuel rest) other) (deeds p lay mine body) (alternatives p lay mine rest last low) steady
+        (forks_test w l (value p calls runs x.form) (checked_shows x g.0 g.1 z.0).test)
+        (row_is few body y2.0 z2.0 (λ v e. left_of (in_register p lay mine (variable_of p lay mine v).site) (assigned_all body v) (assigned_branches rest v || last v) e))
+        (alternatives_are few rest last other low y2.1 z2.1 (λ v e. right_of (in_register p lay mine (variable_of p lay mine v).site) (assigned_all body v) (assigned_branches rest v || last v) e) go)))
+
+    rounds_are : (mask : Mask) {m : _} (parts : Row_of-Branch m) → WellFormed.fine_branches p l.proc parts ≡ true → branches_covered p parts ≡ true → Covers mask (assigned_branches parts) → Rounded w l (cond (has_branch parts) 0 1) fuel mask (Given w l) (branches p calls runs fuel parts) (guarded_rounds p lay mine parts)
+    rounds_are mask end_of-Branch fine ok c = rounds_none w l
+    rounds_are mask (more_of-Branch x _ body rest) fine ok c =
+        let y = and_of (gives_number (WellFormed.checked_form p l.proc x)) (WellFormed.fine_row p l.proc body && WellFormed.fine_branches p l.proc rest) fine in
+        let y2 = and_of (WellFormed.fine_row p l.proc body) (WellFormed.fine_branches p l.proc rest) y.1 in
+        let z = and_of (checked_covered p x) (row_covered p body && branches_covered p rest) ok in
+        let z2 = and_of (row_covered p body) (branches_covered p rest) z.1 in
+        let g = number_form (WellFormed.checked_form p l.proc x) y.0 in
+        rounds_more w l mask (test (value p calls runs x.form)) (branches p calls runs fuel rest) (effects p calls runs fuel body) (record { test = (expr p lay mine x.form).test; body = deeds p lay mine body }) (guarded_rounds p lay mine rest) steady
+        (forks_test w l (value p calls runs x.form) (checked_shows x g.0 g.1 z.0).test)
+        (row_is mask body y2.0 z2.0 (λ v e. c v (left_of (in_register p lay mine (variable_of p lay mine v).site) (assigned_all body v) (assigned_branches rest v) e)))
+        (rounds_any (has_branch rest) (rounds_are mask rest y2.1 z2.1 (λ v e. c v (right_of (in_register p lay mine (variable_of p lay mine v).site) (assigned_all body v) (assigned_branches rest v) e))))
+
+  pub list_is : (mask : Mask) (ss : List Stmt) → all (WellFormed.fine p l.proc) ss ≡ true → all (covered p) ss ≡ true → ((x : ℕ) → mask x ≡ true) → Follows w l 1 fuel mask (Given w l) Always (effects_of p calls runs fuel ss) (deeds_of p lay mine ss)
+  list_is mask [] fine ok every = follows_give w l tt tt (λ n f s k. tt)
+  list_is mask (s ∷ ss) fine ok every =
+      let y = and_of (WellFormed.fine p l.proc s) (all (WellFormed.fine p l.proc) ss) fine in
+      let z = and_of (covered p s) (all (covered p) ss) ok in
+      let more = list_is mask ss y.1 z.1 every in
+      follows_bind w l steady (stmt_is mask s y.0 z.0 (λ x e. every x)) (λ u. more.grows) (λ a b. follows_known w l (λ n f s k. k.0) more)

@@ -1,0 +1,39 @@
+-- What is claimed of a program's run: its lowered procedures keep up with its meaning.
+use Rattle.std.specs.Prelude.{◌≡◌, ℕ, ◌+◌, ◌≤◌, List, length, true}
+use Rattle.run_laws.specs.Runs.{Keeps}
+use Rattle.a64_memory.specs.Memory.{AreBytes}
+use Rattle.block_runs.specs.Blocks.{Procedure}
+use Rattle.block_runs.specs.First.{first_state}
+use Rattle.block_runs.specs.Points.{least, all_points, AreCodePlaces}
+use Rattle.block_runs.specs.Steps.{block_system}
+use Rattle.ob_types.specs.Meaning.{meaning}
+use Rattle.ob_types.specs.WellFormed.{well_formed}
+use Rattle.ob_types.specs.declared.program.Program.{Program}
+use Rattle.ssa_core.specs.Procedures.{procedures}
+use Rattle.ssa_lowered.specs.Data.{in_cells, globals_room}
+use Rattle.ssa_lowered.specs.Lowered.{lowered}
+use Rattle.lowered_runs.specs.Covered.{program_covered, BodiesInOrder}
+use Rattle.lowered_runs.specs.Words.{same_trap, AreInput}
+
+-- what runs
+abbrev pub code_of : Program → List Procedure
+code_of p = procedures (lowered p)
+
+abbrev pub data_bytes : Program → ℕ
+data_bytes p = globals_room p (in_cells p.types)
+
+-- a well-formed program that has only what is covered and whose bodies are in order; its input; the bytes behind the globals; the addresses of
+-- its code; there are at most 8 MiB of globals, and the bytes behind them leave room for what comes then
+pub record CanRun (p : Program) (input constants : List ℕ) (code : ℕ → ℕ) : Type 0 where
+  pub fine : well_formed p ≡ true
+  pub covers : program_covered p ≡ true
+  pub order : BodiesInOrder p
+  pub numbers : AreInput input
+  pub bytes : AreBytes constants
+  pub places : AreCodePlaces (length (code_of p)) code
+  pub globals : data_bytes p ≤ 0x800000
+  pub room : data_bytes p + length constants ≤ 0x10000000
+
+-- with n turns the system of its procedures, from its first state, does what the program means
+abbrev pub KeepsUp : Program → (input constants : List ℕ) → (code : ℕ → ℕ) → ℕ → Type 0
+KeepsUp p input constants code n = Keeps (block_system (code_of p) code) (least (code_of p)) (all_points (code_of p)) same_trap (first_state (data_bytes p) constants input) n (meaning p input n)

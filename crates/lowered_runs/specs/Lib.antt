@@ -1,0 +1,4 @@
+pub mod Words
+pub mod Covered
+pub mod Claims
+pub mod Sample

@@ -1,0 +1,13 @@
+//! Objects in memory: where the scalars of a type stand in its bytes, and what it means that bytes hold a store of objects.
+//!
+//! Layouts come in two widths, by one parameter: eight bytes for every scalar, or one for the small ones. A store is
+//! functions of numbers of objects and cells (specs/Objects.antt); `Kept` says that a memory has each cell's number where
+//! its object is placed. The laws say what stores, new objects, returns, zeros and copies make of that.
+#![tactic(auto)]
+
+mod laws;
+
+pub use laws::{
+    copies_keep, layouts_fit, new_objects_keep, parts_are_one_or_apart, pointers_are_objects,
+    returns_keep, stores_keep, texts_are_read,
+};
