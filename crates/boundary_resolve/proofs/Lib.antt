@@ -1,0 +1,4 @@
+pub mod Crossing
+pub mod Between
+pub mod Sought
+pub mod Laid

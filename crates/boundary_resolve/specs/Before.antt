@@ -1,0 +1,35 @@
+-- Where values are before an edge, as the tables that find it.
+use Rattle.std.specs.Prelude.{◌≡◌, ℕ, ◌≤◌, ◌==◌, ◌&&◌, Bool, List, length, unwrap_or}
+use Rattle.std.specs.Ordering.{nat_cmp}
+use Rattle.std.specs.BTreeMap.{BTreeMap, get}
+use Rattle.std.specs.BTreeSet.{BTreeSet, contains}
+use Rattle.block_runs.specs.Live.{has}
+use Rattle.lir_core.specs.declared.places.Place.{Place}
+use Rattle.lir_core.specs.declared.places.Places.{Places}
+use Rattle.lir_core.specs.Spots.{argument_of}
+use Rattle.boundary_resolve.specs.declared.moves.Before.{Before}
+use Rattle.boundary_resolve.specs.Moves.{register_of, register_or_home}
+
+abbrev pub argument_before : Before → ℕ → ℕ
+argument_before b v = unwrap_or (get nat_cmp b.arguments v) v
+
+abbrev pub place_before : Before → ℕ → Place
+place_before b v = register_or_home (register_of b.regs.now 0 (argument_before b v)) (argument_before b v)
+
+abbrev pub stays_before : Before → ℕ → Bool
+stays_before b v = contains nat_cmp b.homed v && argument_before b v == v
+
+abbrev pub HasFew : Before → Type 0
+HasFew b = length b.regs.now ≤ 16
+
+abbrev pub HasHomes : List ℕ → BTreeSet ℕ → Type 0
+HasHomes values homed = (v : ℕ) → contains nat_cmp homed v ≡ has values v
+
+abbrev pub HasArguments : List ℕ → List ℕ → BTreeMap ℕ ℕ → Type 0
+HasArguments params args arguments = (v : ℕ) → unwrap_or (get nat_cmp arguments v) v ≡ argument_of params args v
+
+-- the tables of some places, parameters and arguments
+pub record IsBefore (q : Places) (params args : List ℕ) (b : Before) : Type 0 where
+  pub regs : b.regs.now ≡ q.regs
+  pub homed : HasHomes q.homed b.homed
+  pub arguments : HasArguments params args b.arguments

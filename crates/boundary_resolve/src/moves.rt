@@ -1,0 +1,157 @@
+//! The moves of an edge.
+
+ghost use Rattle.std.specs.Prelude.{◌≡◌, ◌≤◌, ◌++◌, length, IfOk, OnOk};
+ghost use Rattle.lir_core.specs.Spots.{argument_of, TakesOver};
+ghost use Rattle.parallel_move.specs.Steps.{steps_source};
+ghost use Rattle.parallel_move.specs.Order.{order_of};
+ghost use Rattle.boundary_resolve.specs.Moves.{register_of, reg_moves, home_moves, edge_moves, FewRegs, Covers};
+ghost use Rattle.boundary_resolve.specs.Before.{IsBefore, HasHomes, HasArguments, HasFew, argument_before, place_before, stays_before};
+
+use lir_core::{Move, Place, Places};
+use outside::Memory;
+use std::alloc::{AllocError, Global};
+use std::collections::{BTreeMap, BTreeSet};
+
+/// The moves of an edge from a node's end places to a node's start places, where the edge gives arguments to parameters.
+/// Takes n log n for n places, parameters and arguments.
+pub fn edge_moves(
+    alloc: Global,
+    from: &Places,
+    to: &Places,
+    params: &[u32],
+    args: &[u32],
+) -> Result<Vec<Move>, Memory>
+    ensures moves { FewRegs from.now → FewRegs to.now → IfOk result (λ moves. moves.items ≡ edge_moves from.now to.now (argument_of params.now args.now)) }
+    ensures over { FewRegs from.now → FewRegs to.now → Covers from.now to.now (argument_of params.now args.now)
+        → IfOk result (λ moves. TakesOver from.now to.now (argument_of params.now args.now) (steps_source (order_of moves.items))) }
+{
+    let before = Before::new(alloc, from, params, args)?;
+    let mut moves = Vec::new(alloc);
+    push_registers(&mut moves, &before, to.regs.as_slice())?;
+    push_homes(&mut moves, &before, to.homed.as_slice())?;
+    Ok(moves)
+}
+
+/// Where values are before an edge.
+#[derive(Drop)]
+struct Before<'a> {
+    regs: &'a [Option<u32>],
+    homed: BTreeSet<u32>,
+    arguments: BTreeMap<u32, u32>,
+}
+
+impl<'a> Before<'a> {
+    fn new(
+        alloc: Global,
+        places: &'a Places,
+        params: &[u32],
+        args: &[u32],
+    ) -> Result<Before<'a>, AllocError>
+        ensures { IfOk result (λ before. IsBefore places.now params.now args.now before) }
+    {
+        Ok(Before {
+            regs: places.regs.as_slice(),
+            homed: homed(alloc, places.homed.as_slice())?,
+            arguments: arguments(alloc, params, args)?,
+        })
+    }
+
+    // What a value behind the edge was before it.
+    fn argument(&self, value: u32) -> u32
+        ensures { result ≡ argument_before self.now value }
+    {
+        match self.arguments.get(&value) {
+            Some(argument) => *argument,
+            None => value,
+        }
+    }
+
+    // Where a value behind the edge is before it.
+    fn place(&self, value: u32) -> Place
+        ensures { HasFew self.now → result ≡ place_before self.now value }
+    {
+        let value = self.argument(value);
+        match register_of(self.regs, value) {
+            Some(register) => Place::Reg(register),
+            None => Place::Home(value),
+        }
+    }
+
+    // A value stays in its home.
+    fn stays(&self, value: u32) -> bool
+        ensures { result ≡ stays_before self.now value }
+    {
+        self.homed.contains(&value) && self.argument(value) == value
+    }
+}
+
+// The lowest register that has a value.
+fn register_of(regs: &[Option<u32>], value: u32) -> Option<u8>
+    ensures { length regs.now ≤ 16 → result ≡ register_of regs.now 0 value }
+{
+    for (register, held) in regs.iter().enumerate() {
+        if let Some(found) = held
+            && *found == value
+        {
+            return u8::try_from(register).ok();
+        }
+    }
+    None
+}
+
+fn homed(alloc: Global, values: &[u32]) -> Result<BTreeSet<u32>, AllocError>
+    ensures { IfOk result (λ homed. HasHomes values.now homed) }
+{
+    let mut homed = BTreeSet::new(alloc);
+    for value in values {
+        homed.insert(*value)?;
+    }
+    Ok(homed)
+}
+
+// The arguments by their parameters; the first of two for one parameter.
+fn arguments(alloc: Global, params: &[u32], args: &[u32]) -> Result<BTreeMap<u32, u32>, AllocError>
+    ensures { IfOk result (λ arguments. HasArguments params.now args.now arguments) }
+{
+    let mut arguments = BTreeMap::new(alloc);
+    let mut i = params.len().min(args.len());
+    while i > 0 {
+        i -= 1;
+        arguments.insert(params[i], args[i])?;
+    }
+    Ok(arguments)
+}
+
+fn push_registers(
+    moves: &mut Vec<Move>,
+    before: &Before,
+    regs: &[Option<u32>],
+) -> Result<(), AllocError>
+    ensures { HasFew before.now → length regs.now ≤ 16 → OnOk result (moves.new.items ≡ moves.old.items ++ reg_moves (place_before before.now) 0 regs.now) }
+{
+    for (register, held) in regs.iter().enumerate() {
+        if let Some(value) = held
+            && let Ok(register) = u8::try_from(register)
+        {
+            moves.push(Move {
+                to: Place::Reg(register),
+                from: before.place(*value),
+            })?;
+        }
+    }
+    Ok(())
+}
+
+fn push_homes(moves: &mut Vec<Move>, before: &Before, homed: &[u32]) -> Result<(), AllocError>
+    ensures { HasFew before.now → OnOk result (moves.new.items ≡ moves.old.items ++ home_moves (stays_before before.now) (place_before before.now) homed.now) }
+{
+    for value in homed {
+        if !before.stays(*value) {
+            moves.push(Move {
+                to: Place::Home(*value),
+                from: before.place(*value),
+            })?;
+        }
+    }
+    Ok(())
+}

@@ -1,0 +1,6 @@
+pub mod Sequence
+pub mod Listed
+pub mod Table
+pub mod Saving
+pub mod Along
+pub mod Linking

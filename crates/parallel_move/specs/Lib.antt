@@ -1,0 +1,4 @@
+pub mod Steps
+pub mod Order
+pub mod Entries
+pub mod Writers

@@ -1,0 +1,4 @@
+pub mod Marking
+pub mod Walked
+pub mod Fitting
+pub mod Sounds

@@ -1,0 +1,3 @@
+pub mod Plain
+pub mod Marks
+pub mod Parts
