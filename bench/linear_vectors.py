@@ -1,0 +1,97 @@
+#!/usr/bin/env python3
+"""Makes the input of crates/linear_vectors and the answers that are wanted, by another compiler.
+
+    bench/linear_vectors.py [FOLDER]
+
+Writes `stdin` and `stdout` into FOLDER (that crate's, if none is given). The other compiler is the Python one in
+../shared/oracle, seen from the top of the repository, or in the folder that ORACLE names; where that isn't there,
+nothing is done. A line of the input is a number of registers and a flow as in bench/flow_vectors.py, but that a call
+begins with `call` in place of `op`, or with `aim` where its first use is the address that is called. The answer has four
+lines for each node of each trace: its start places (what each register has, then the homed values), its lines, the
+registers named, and its end places.
+"""
+import os
+import sys
+
+TOP = os.path.dirname(os.path.dirname(os.path.abspath(__file__)))
+ORACLE = os.environ.get('ORACLE') or os.path.join(TOP, '..', 'shared', 'oracle')
+if not os.path.isdir(ORACLE):
+    sys.exit('no other compiler here; nothing done')
+sys.path.insert(0, ORACLE)
+sys.setrecursionlimit(100000)
+import backend  # noqa: E402
+import ssa  # noqa: E402
+import trc  # noqa: E402
+
+NEST = '''MODULE N; IMPORT Out; PROCEDURE P(n: INTEGER): INTEGER; VAR i, j, k, s: INTEGER; BEGIN s := 0; i := 0;
+WHILE i < n DO j := 0; WHILE j < i DO k := j; REPEAT s := s + k; k := k + 1 UNTIL k > i; j := j + 1 END;
+FOR k := 0 TO 3 DO IF k = i THEN s := s - 1 ELSIF k > i THEN s := s + 2 ELSE s := s * 2 END END; i := i + 1 END
+RETURN s END P; BEGIN Out.Int(P(5), 0) END N.'''
+MANY = '''MODULE A; IMPORT Out; TYPE F = PROCEDURE (a, b, c, d, e, g: INTEGER): INTEGER; VAR h: F;
+PROCEDURE S(a, b, c, d, e, g: INTEGER): INTEGER; BEGIN RETURN a + b * (c + d * (e + g * (a - b))) END S;
+PROCEDURE T(x, y: INTEGER; f: F): INTEGER; VAR i, r, u: INTEGER; BEGIN r := 0; u := y;
+FOR i := 0 TO x DO r := r + f(i, r, x, y, u, i * r) * u; IF r > 100 THEN u := S(r, i, u, y, x, 7) - u END END
+RETURN r + u END T; BEGIN h := S; Out.Int(T(3, 4, h), 0); Out.Ln END A.'''
+
+
+def line_of(flow):
+    """A flow in words."""
+    out = ['flow', flow.values, flow.args]
+    for b in flow.blocks:
+        out += ['node', b.freq, '-' if b.enter is None else b.enter]
+        out += ['params'] + b.params + ['preds'] + b.preds
+        for o in b.ops:
+            out += [('aim' if o.code == 'CallAt' else 'call') if o.call else 'op', '-' if o.d is None else o.d] + o.uses
+        e = b.end
+        out += {'Jump': ['jump', e.to] + e.args, 'Branch': ['branch', e.a, e.b, e.yes, e.no],
+                'Nonzero': ['nonzero', e.a, e.yes, e.no], 'Return': ['return'] + ([] if e.a is None else [e.a]),
+                'Trap': ['trap']}[e.kind]
+    return ' '.join(map(str, out))
+
+
+def place(p):
+    return {'Reg': 'x', 'Home': 'h', 'Out': 'o'}[p[0]] + str(p[1])
+
+
+def places(q):
+    return ['-' if v is None else v for v in q.regs] + ['home'] + sorted(q.homed)
+
+
+def words_of(line):
+    """A line's words."""
+    if line[0] == 'Lir':
+        return ['do', line[1]]
+    if line[0] in ('Store', 'Load'):
+        return [line[0].lower(), 'x%d' % line[1], line[2]]
+    if line[0] == 'Target':
+        return ['aim', place(line[1])]
+    return ['moves'] + [place(p) for move in line[1] for p in move]
+
+
+def answer_of(flow, regs):
+    """The lines that are wanted of a flow."""
+    lines = []
+    for out in backend.final_results('linear', flow, ssa.live(flow), backend.build('bi', flow), regs):
+        for start, code, named, end in zip(out.starts, out.lines, out.regs, out.ends):
+            rows = (['start'] + places(start), ['lines'] + [w for line in code for w in words_of(line)],
+                    ['regs'] + named, ['end'] + places(end))
+            lines += [' '.join(map(str, row)) for row in rows]
+    return lines
+
+
+def main():
+    folder = sys.argv[1] if len(sys.argv) > 1 else os.path.join(TOP, 'crates', 'linear_vectors')
+    texts = [NEST.encode(), MANY.encode(), trc.bulk_text(7, 6)]
+    lines, answers = [], []
+    for text in texts:
+        for flow in trc.make_plan(['M'], [text], 'bi', 12).flows:
+            for regs in (4, 5, 16):
+                lines.append('%d %s' % (regs, line_of(flow)))
+                answers += answer_of(flow, regs)
+    for name, rows in (('stdin', lines), ('stdout', answers)):
+        with open(os.path.join(folder, name), 'w') as file:
+            file.write('\n'.join(rows) + '\n')
+    print(len(lines), 'cases')
+
+
+main()

@@ -1,0 +1,13 @@
+pub mod Living
+pub mod Candidates
+pub mod Safe
+pub mod Bringing
+pub mod Dropping
+pub mod Needs
+pub mod Lengths
+pub mod Operating
+pub mod Wanted
+pub mod Fitting
+pub mod Begins
+pub mod Nodes
+pub mod Traces

@@ -1,0 +1,12 @@
+use Rattle.std.proofs.Common.{◌≡◌, length, drop}
+use Rattle.live_interval.specs.Asked.{need_told}
+use Rattle.linear_scan.specs.Policy.{from}
+use Rattle.linear_scan.specs.Starts.{with_params}
+use Rattle.linear_scan.specs.Made.{made}
+use Rattle.linear_scan.proofs.starting.Start.add_all.Given as goal
+
+abbrev pub invariant-loop-i : goal.invariant-loop-i
+invariant-loop-i l = record {
+  row : length l.self.regs ≡ length l.initial.self.regs;
+  step : with_params (from (need_told l.positions) l.at) l.hint l.arguments l.i (drop l.i l.params) (made l.self) ≡ with_params (from (need_told l.positions) l.at) l.hint l.arguments 0 l.params (made l.initial.self);
+}

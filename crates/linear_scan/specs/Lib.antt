@@ -1,0 +1,5 @@
+pub mod Policy
+pub mod Starts
+pub mod Linear
+pub mod Inputs
+pub mod Made

@@ -1,0 +1,3 @@
+pub mod Joining
+pub mod Search
+pub mod Whole

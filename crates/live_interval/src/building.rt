@@ -1,0 +1,74 @@
+//! The call that makes the tables.
+
+ghost use Rattle.std.specs.Prelude.{◌≡◌, ℕ, ◌+◌, slice_get, IfOk, OnOk};
+ghost use Rattle.lir_core.specs.Flows.{IsValidFlow};
+ghost use Rattle.live_interval.specs.Needs.{in_node, positions_of, next_need, last_mention};
+ghost use Rattle.live_interval.specs.Asked.{need_told, mention_told};
+ghost use Rattle.live_interval.specs.Tables.{passed_all};
+
+use crate::asking::{Positions, number_at};
+use crate::rows::Rows;
+use crate::tables::Tables;
+use lir_core::{Flow, LiveSets, Trace};
+use outside::Memory;
+use std::alloc::Global;
+
+/// The positions of a trace of a flow: what they answer is what a search finds, where `live` has the values that are live
+/// into each node. Takes time in proportion to the trace, to the flow's values, and to these again at each edge out of the
+/// trace.
+pub fn positions(
+    alloc: Global,
+    flow: &Flow,
+    trace: &Trace,
+    live: &LiveSets,
+) -> Result<Positions, Memory>
+    ensures next_need { IsValidFlow flow.now → IfOk result (λ ps. (v at : ℕ) → need_told ps v at ≡ next_need (positions_of flow.now live.now trace.now.nodes) v at) }
+    ensures last_mention { IsValidFlow flow.now → IfOk result (λ ps. (v before : ℕ) → mention_told ps v before ≡ last_mention (positions_of flow.now live.now trace.now.nodes) v before) }
+{
+    let mut tables = Tables {
+        at: 0,
+        needs: Rows::new(alloc, flow.values as usize)?,
+        mentions: Rows::new(alloc, flow.values as usize)?,
+    };
+    pass_nodes(&mut tables, flow, live, trace.nodes.as_slice())?;
+    let Tables {
+        at: _,
+        needs,
+        mentions,
+    } = tables;
+    Ok(Positions { needs, mentions })
+}
+
+// Passes the nodes of a trace.
+fn pass_nodes(
+    tables: &mut Tables,
+    flow: &Flow,
+    live: &LiveSets,
+    nodes: &[u32],
+) -> Result<(), Memory>
+    ensures { OnOk result (tables.new ≡ passed_all (positions_of flow.now live.now nodes.now) tables.old) }
+{
+    for i in 0..nodes.len() {
+        pass_node(tables, flow, live, nodes[i], number_at(nodes, i + 1))?;
+    }
+    Ok(())
+}
+
+// Passes a node, behind which the trace goes on with the next.
+fn pass_node(
+    tables: &mut Tables,
+    flow: &Flow,
+    live: &LiveSets,
+    number: u32,
+    next: Option<u32>,
+) -> Result<(), Memory>
+    ensures { OnOk result (tables.new ≡ passed_all (in_node flow.now.values live.now next (slice_get flow.now.nodes number)) tables.old) }
+{
+    let Some(node) = flow.nodes.as_slice().get(number as usize) else {
+        return Ok(());
+    };
+    tables.start(node)?;
+    tables.operations(node.lirs.as_slice())?;
+    tables.end(live, flow.values, next, node)?;
+    Ok(())
+}

@@ -1,0 +1,5 @@
+pub mod Registers
+pub mod Homed
+pub mod Lines
+pub mod Steps
+pub mod Walked
