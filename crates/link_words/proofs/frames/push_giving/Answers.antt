@@ -1,0 +1,7 @@
+use Rattle.placed_code.specs.Words.{count_words}
+use Rattle.link_words.specs.Frames.{given_back}
+use Rattle.link_words.proofs.Pushed.{then}
+use Rattle.link_words.proofs.frames.push_giving.Goals as goal
+
+pub returns : goal.returns
+returns c = then (count_words c.args.cells) given_back _ _ _ c.in_ok-push_count.ensures c.in_ok-push_given.ensures
