@@ -43,12 +43,14 @@ pub fn constants_stand()
 
 /// Each statement sequence that it accepts is well-formed.
 pub fn statements_are_fine()
-    ensures { (e : Setting) → IsOrder e → (p : Source) → IsRead p → (w : World) → Right e p w → (x : Stats) → Gives (λ (xs : Statements). fine_all e (outline e) xs ≡ true) (statements p w x) }
+    ensures { (e : Setting) → IsOrder e → (p : Source) → IsRead p → (w : World) → Right e p w → (x : Stats)
+        → Gives (λ (xs : Statements). fine_all e (outline e) xs ≡ true) (statements p w x) }
 {}
 
 /// The strings in it that are used as arrays are bytes.
 pub fn strings_are_bytes()
-    ensures { (e : Setting) → IsOrder e → (p : Source) → IsRead p → (w : World) → Right e p w → (x : Stats) → Gives (λ (xs : Statements). all (all (λ c. nat_lt c 256)) (in_statements xs) ≡ true) (statements p w x) }
+    ensures { (e : Setting) → IsOrder e → (p : Source) → IsRead p → (w : World) → Right e p w → (x : Stats)
+        → Gives (λ (xs : Statements). all (all (λ c. nat_lt c 256)) (in_statements xs) ≡ true) (statements p w x) }
 {}
 
 /// And so are those in the expression behind RETURN.

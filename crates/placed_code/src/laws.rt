@@ -7,5 +7,7 @@ ghost use Rattle.placed_code.specs.Results.{Allocated, IsSequence, AreSound, IsI
 
 /// The machine that runs the image of sound results is in step with each meaning that their flows keep up with.
 pub fn images_agree()
-    ensures agrees { (k frame : ℕ) (steps : List Move → List Copy) (rs : List Allocated) (flags globals : ℕ) (constants input : List ℕ) → k ≤ 16 → IsSequence steps → AreSound k frame steps rs → IsImageOf steps rs flags globals constants frame → ((i : ℕ) → get_or input i 0 < 2 ^ 64) → Agrees steps rs flags globals constants frame input }
+    ensures agrees { (k frame : ℕ) (steps : List Move → List Copy) (rs : List Allocated) (flags globals : ℕ) (constants input : List ℕ)
+        → k ≤ 16 → IsSequence steps → AreSound k frame steps rs → IsImageOf steps rs flags globals constants frame
+        → ((i : ℕ) → get_or input i 0 < 2 ^ 64) → Agrees steps rs flags globals constants frame input }
 {}
