@@ -11,5 +11,6 @@ ghost use Rattle.linear_scan.specs.Inputs.{IsFit, hint_at};
 /// The end places of each node of a sound result are a fit hint for every trace into whose head an edge leads from the
 /// node.
 pub fn ends_are_fit()
-    ensures { (k : ℕ) (f : Flow) (t : Trace) (out : TraceOut) → IsSound k f t out → (i head : ℕ) → i < length t.nodes → leads (code_nodes f.nodes) head (get_or t.nodes i 0) ≡ true → IsFit k (code_nodes f.nodes) head (hint_at t out i) }
+    ensures { (k : ℕ) (f : Flow) (t : Trace) (out : TraceOut) → IsSound k f t out → (i head : ℕ) → i < length t.nodes
+        → leads (code_nodes f.nodes) head (get_or t.nodes i 0) ≡ true → IsFit k (code_nodes f.nodes) head (hint_at t out i) }
 {}
