@@ -1,0 +1,25 @@
+-- Widths in lists, and what they are of placed procedures.
+use Rattle.std.specs.Prelude.{◌≡◌, ℕ, suc, ◌+◌, ◌<◌, ◌==◌, List, [], ◌∷◌, length, if◌then◌else◌}
+use Rattle.placed_code.specs.Placed.{Placed}
+use Rattle.placed_code.specs.Words.{turned}
+use Rattle.placed_code.specs.Layout.{jump_width, proc_width, body_count, entry}
+use Rattle.link_words.specs.Fields.{entry_in}
+
+-- of a branch by a test: one word where it is turned, and else a jump's behind it
+abbrev pub test_width : ℕ → ℕ → ℕ → ℕ
+test_width n one other = if turned n one other then 1 else (1 + jump_width (other == n))
+
+-- of each item, by its number
+abbrev pub widths_of : {A : Type 0} → (ℕ → A → ℕ) → ℕ → List A → List ℕ
+widths_of width j [] = []
+widths_of width j (x ∷ xs) = width j x ∷ widths_of width (suc j) xs
+
+-- so many of the procedures are bodies, and they have these widths
+pub record AreWidths (ps : List Placed) (bodies : ℕ) (widths : List ℕ) : Type 0 where
+  pub bodies_are : body_count ps ≡ bodies
+  pub widths_are : widths ≡ widths_of proc_width 0 ps
+
+-- the first words of procedures, by number
+pub record AreEntries (ps : List Placed) (entries : List ℕ) : Type 0 where
+  pub each : length entries ≡ length ps
+  pub places : (p : ℕ) → p < length ps → entry_in entries p ≡ entry ps p
