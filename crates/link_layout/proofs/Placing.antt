@@ -1,10 +1,10 @@
 -- Starts from lists of widths are the places that layout defines.
-use Rattle.std.proofs.Common.{◌≡◌, ℕ, zero, suc, ◌+◌, ◌<◌, ◌≤◌, ◌^◌, List, [], ◌∷◌, length, get_or, drop, Ok, Err, refl, arith, sym, ap, ◌∙◌, subst}
-use Rattle.std.specs.Prelude.{Result, IfOk, IfErr, IsErr}
+use Rattle.std.proofs.Common.{◌≡◌, ℕ, zero, suc, ◌+◌, ◌<◌, ◌≤◌, ◌^◌, List, [], ◌∷◌, length, get_or, drop, Ok, Err, refl, arith, sym, ap, ◌∙◌}
+use Rattle.std.specs.Prelude.{Result, IfOk, IfErr, IsErr, IsErrAnd}
 use Rattle.std.proofs.lemmas.List.{drop_more}
 use Rattle.run_laws.specs.Layers.{width_before, whole_width}
 use Rattle.placed_code.specs.Placed.{Placed}
-use Rattle.placed_code.specs.Layout.{proc_width, body_count, procedures_at, entry, all_words}
+use Rattle.placed_code.specs.Layout.{proc_width, body_count, procedures_at, all_words}
 use Rattle.placed_code.proofs.Linking.{all_size}
 use Rattle.link_words.specs.Fields.{entry_in}
 use Rattle.link_layout.specs.Starts.{starts_from, end_from}
@@ -70,3 +70,7 @@ err_so Q (Err e) is f = f e
 -- the start and the routines are in the image
 pub too_many : (ps : List Placed) (bodies : ℕ) (widths : List ℕ) → AreWidths ps bodies widths → bodies + 39 ≤ length (all_words ps)
 too_many ps bodies widths is = let s = all_size ps in let b = is.bodies_are in omega (arith, s, b)
+
+pub errs_with : {A E : Type 0} (P Q : E → Type 0) (r : Result A E) → IsErrAnd r P → ((e : E) → P e → Q e) → IfErr r Q
+errs_with P Q (Ok x) is f = tt
+errs_with P Q (Err e) is f = f e is

@@ -1,5 +1,5 @@
 -- Spots and copies as placed code has them, and what room they take.
-use Rattle.std.specs.Prelude.{◌≡◌, ℕ, suc, ◌+◌, nat_lt, List, [], ◌∷◌, ◌++◌, Bool, length, is_some, if◌then◌else◌}
+use Rattle.std.specs.Prelude.{◌≡◌, ℕ, ◌+◌, nat_lt, List, [], ◌∷◌, ◌++◌, Bool, is_some, if◌then◌else◌}
 use Rattle.lir_core.specs.Spots.{reg, home, out, target, saved}
 use Rattle.lir_core.specs.Spots as lir
 use Rattle.placed_code.specs.Placed.{Cell, Block, Placed}

@@ -1,8 +1,8 @@
 -- Widths in lists, and what they are of placed procedures.
 use Rattle.std.specs.Prelude.{◌≡◌, ℕ, suc, ◌+◌, ◌<◌, ◌==◌, List, [], ◌∷◌, length, if◌then◌else◌}
-use Rattle.placed_code.specs.Placed.{Placed}
+use Rattle.placed_code.specs.Placed.{Placed, proc_of}
 use Rattle.placed_code.specs.Words.{turned}
-use Rattle.placed_code.specs.Layout.{jump_width, proc_width, body_count, entry}
+use Rattle.placed_code.specs.Layout.{jump_width, proc_width, body_count, entry, block_width, front_width, placings, position, block_place}
 use Rattle.link_words.specs.Fields.{entry_in}
 
 -- of a branch by a test: one word where it is turned, and else a jump's behind it
@@ -23,3 +23,19 @@ pub record AreWidths (ps : List Placed) (bodies : ℕ) (widths : List ℕ) : Typ
 pub record AreEntries (ps : List Placed) (entries : List ℕ) : Type 0 where
   pub each : length entries ≡ length ps
   pub places : (p : ℕ) → p < length ps → entry_in entries p ≡ entry ps p
+
+-- in this order stand so many blocks, with these widths
+pub record AreBlocks (pr : Placed) (order widths : List ℕ) (count : ℕ) : Type 0 where
+  pub order_is : pr.order ≡ order
+  pub widths_are : widths ≡ widths_of (block_width pr) 0 (placings pr)
+  pub count_is : count ≡ length pr.blocks
+
+-- the first words of those of a procedure's blocks that stand in its order, by number
+pub record ArePlaces (ps : List Placed) (p : ℕ) (places : List ℕ) : Type 0 where
+  pub each : length places ≡ length (proc_of ps p).blocks
+  pub begins : (b : ℕ) → b < length (proc_of ps p).blocks → position (proc_of ps p).order b < length (proc_of ps p).order → entry_in places b ≡ block_place ps p b
+
+-- so many words stand before a procedure's blocks, and these are the blocks' widths in their order
+pub record IsWide (pr : Placed) (front : ℕ) (widths : List ℕ) : Type 0 where
+  pub front_is : front ≡ front_width pr
+  pub blocks_are : widths ≡ widths_of (block_width pr) 0 (placings pr)

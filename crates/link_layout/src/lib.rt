@@ -4,14 +4,18 @@
 //! routines, and the procedures with lower numbers. An image has at most 262,144 words.
 #![tactic(auto)]
 
+mod blocks;
 mod copies;
 mod fault;
 mod frames;
 mod homes;
 mod laws;
 mod starting;
+#[cfg(test)]
+mod tests;
 mod widths;
 
+pub use blocks::{block_places, procedure_width};
 pub use copies::{Copy, Spot, copies_width};
 pub use fault::LayoutFault;
 pub use frames::{end_width, epilogue_width, prologue_width};

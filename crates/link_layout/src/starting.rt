@@ -28,7 +28,7 @@ pub fn entries(alloc: Global, bodies: u32, widths: &[u32]) -> Result<Vec<u32>, L
 }
 
 /// Where parts of given widths begin, one behind the other.
-fn starts(alloc: Global, first: u32, widths: &[u32]) -> Result<Vec<u32>, LayoutFault>
+pub(crate) fn starts(alloc: Global, first: u32, widths: &[u32]) -> Result<Vec<u32>, LayoutFault>
     requires { first ≤ 2 ^ 18 }
     ensures starts { IfOk result (λ starts. starts.items ≡ starts_from first widths.now) }
     ensures fits { IfOk result (λ starts. end_from first widths.now ≤ 2 ^ 18) }

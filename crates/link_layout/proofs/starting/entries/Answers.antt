@@ -1,4 +1,4 @@
-use Rattle.std.proofs.Common.{◌≡◌, ◌+◌, ap, subst, arith, ℕ, ◌<◌, ◌≤◌, ◌^◌}
+use Rattle.std.proofs.Common.{arith}
 use Rattle.link_layout.proofs.Placing.{entries_are, end_is, too_many, ok_more, err_more, err_so}
 use Rattle.link_layout.proofs.starting.entries.Goals as goal
 
