@@ -46,16 +46,17 @@ length_followed : (none : ℕ) (order : List ℕ) → length (followed none orde
 length_followed none [] = refl
 length_followed none (c ∷ cs) = ap suc (length_followed none cs)
 
-pub starts_many : (pr : Placed) (order widths starts : List ℕ) (first count : ℕ) → starts ≡ starts_from first widths → AreBlocks pr order widths count → length starts ≡ length order
-starts_many pr order widths starts first count e is =
+pub starts_many : (ps : List Placed) (p : ℕ) (order widths starts : List ℕ) (first count : ℕ) → starts ≡ starts_from first widths → AreBlocks ps p first order widths count → length starts ≡ length order
+starts_many ps p order widths starts first count e is =
+    let pr = proc_of ps p in
     ap length (e ∙ ap (λ (ws : List ℕ). starts_from first ws) is.widths_are) ∙ starts_length (block_width pr) first 0 (placings pr) ∙ length_followed (length pr.blocks) pr.order ∙ ap length is.order_is
 
 pub places_are : (ps : List Placed) (p : ℕ) (order widths starts places : List ℕ) (first count : ℕ) → starts ≡ starts_from first widths → (length starts ≡ length order → IsByNumber order starts count places)
-    → AreBlocks (proc_of ps p) order widths count → first ≡ entry ps p + front_width (proc_of ps p) → ArePlaces ps p places
-places_are ps p order widths starts places first count e found is at =
+    → AreBlocks ps p first order widths count → ArePlaces ps p places
+places_are ps p order widths starts places first count e found is =
     let pr = proc_of ps p in
-    let n = found (starts_many pr order widths starts first count e is) in
-    let begun : starts ≡ starts_from (entry ps p + front_width pr) (widths_of (block_width pr) 0 (placings pr)) = e ∙ ap₂ (λ m (ws : List ℕ). starts_from m ws) at is.widths_are in
+    let n = found (starts_many ps p order widths starts first count e is) in
+    let begun : starts ≡ starts_from (entry ps p + front_width pr) (widths_of (block_width pr) 0 (placings pr)) = e ∙ ap₂ (λ m (ws : List ℕ). starts_from m ws) is.begins is.widths_are in
     record {
       each = n.size ∙ is.count_is;
       begins = λ b l w.
@@ -66,12 +67,16 @@ places_are ps p order widths starts places first count e found is at =
           ∙ starts_at (block_width pr) (entry ps p + front_width pr) 0 (placings pr) (position pr.order b) (omega (arith, w, long));
     }
 
-pub proc_end : (ps : List Placed) (p : ℕ) (order widths : List ℕ) (first count : ℕ) → AreBlocks (proc_of ps p) order widths count → first ≡ entry ps p + front_width (proc_of ps p) → end_from first widths ≡ entry ps p + proc_width p (proc_of ps p)
-proc_end ps p order widths first count is at =
+pub proc_end : (ps : List Placed) (p : ℕ) (order widths : List ℕ) (first count : ℕ) → AreBlocks ps p first order widths count → end_from first widths ≡ entry ps p + proc_width p (proc_of ps p)
+proc_end ps p order widths first count is =
     let pr = proc_of ps p in
     let e = ends_at (block_width pr) (entry ps p + front_width pr) 0 (placings pr) in
-    let same : end_from first widths ≡ end_from (entry ps p + front_width pr) (widths_of (block_width pr) 0 (placings pr)) = ap₂ (λ m (ws : List ℕ). end_from m ws) at is.widths_are in
+    let same : end_from first widths ≡ end_from (entry ps p + front_width pr) (widths_of (block_width pr) 0 (placings pr)) = ap₂ (λ m (ws : List ℕ). end_from m ws) is.begins is.widths_are in
     omega (arith, e, same)
 
 pub wide_is : (pr : Placed) (p front : ℕ) (widths : List ℕ) → IsWide pr front widths → end_from front widths ≡ proc_width p pr
 wide_is pr p front widths is = ap₂ (λ m (ws : List ℕ). end_from m ws) is.front_is is.blocks_are ∙ ends_at (block_width pr) (front_width pr) 0 (placings pr)
+
+-- a beginning that is checked is the same
+pub checked : (ps : List Placed) (p : ℕ) (order widths : List ℕ) (first count next : ℕ) → next ≡ first + 0 → AreBlocks ps p first order widths count → AreBlocks ps p next order widths count
+checked ps p order widths first count next e is = let z : next ≡ first = omega (arith, e) in record { begins = z ∙ is.begins; order_is = is.order_is; widths_are = is.widths_are; count_is = is.count_is }

@@ -24,11 +24,12 @@ pub record AreEntries (ps : List Placed) (entries : List ℕ) : Type 0 where
   pub each : length entries ≡ length ps
   pub places : (p : ℕ) → p < length ps → entry_in entries p ≡ entry ps p
 
--- in this order stand so many blocks, with these widths
-pub record AreBlocks (pr : Placed) (order widths : List ℕ) (count : ℕ) : Type 0 where
-  pub order_is : pr.order ≡ order
-  pub widths_are : widths ≡ widths_of (block_width pr) 0 (placings pr)
-  pub count_is : count ≡ length pr.blocks
+-- so many blocks of a procedure stand in this order, with these widths, and behind what stands before them
+pub record AreBlocks (ps : List Placed) (p first : ℕ) (order widths : List ℕ) (count : ℕ) : Type 0 where
+  pub begins : first ≡ entry ps p + front_width (proc_of ps p)
+  pub order_is : (proc_of ps p).order ≡ order
+  pub widths_are : widths ≡ widths_of (block_width (proc_of ps p)) 0 (placings (proc_of ps p))
+  pub count_is : count ≡ length (proc_of ps p).blocks
 
 -- the first words of those of a procedure's blocks that stand in its order, by number
 pub record ArePlaces (ps : List Placed) (p : ℕ) (places : List ℕ) : Type 0 where

@@ -2,7 +2,7 @@
 
 ghost use Rattle.std.specs.Prelude.{◌≡◌, ℕ, ◌+◌, ◌<◌, ◌≤◌, ◌^◌, List, false, ◌==◌, length, IfOk, IfErr};
 ghost use Rattle.placed_code.specs.Placed.{Placed, proc_of};
-ghost use Rattle.placed_code.specs.Layout.{entry, front_width, proc_width};
+ghost use Rattle.placed_code.specs.Layout.{entry, proc_width};
 ghost use Rattle.link_words.specs.Fields.{entry_in};
 ghost use Rattle.link_layout.specs.Widths.{AreBlocks, ArePlaces, IsWide};
 ghost use Rattle.link_layout.specs.Starts.{IsByNumber, end_from};
@@ -21,9 +21,9 @@ pub fn block_places(
     widths: &[u32],
     count: u32,
 ) -> Result<Vec<u32>, LayoutFault>
-    ensures places { IfOk result (λ places. (ps : List Placed) (p : ℕ) → AreBlocks (proc_of ps p) order.now widths.now count → first ≡ entry ps p + front_width (proc_of ps p) → ArePlaces ps p places.items) }
-    ensures fits { IfOk result (λ places. (ps : List Placed) (p : ℕ) → AreBlocks (proc_of ps p) order.now widths.now count → first ≡ entry ps p + front_width (proc_of ps p) → entry ps p + proc_width p (proc_of ps p) ≤ 2 ^ 18) }
-    ensures limit { IfErr result (λ fault. fault ≡ Limit → (ps : List Placed) (p : ℕ) → AreBlocks (proc_of ps p) order.now widths.now count → first ≡ entry ps p + front_width (proc_of ps p) → 2 ^ 18 < entry ps p + proc_width p (proc_of ps p)) }
+    ensures places { IfOk result (λ places. (ps : List Placed) (p : ℕ) → AreBlocks ps p first order.now widths.now count → ArePlaces ps p places.items) }
+    ensures fits { IfOk result (λ places. (ps : List Placed) (p : ℕ) → AreBlocks ps p first order.now widths.now count → entry ps p + proc_width p (proc_of ps p) ≤ 2 ^ 18) }
+    ensures limit { IfErr result (λ fault. fault ≡ Limit → (ps : List Placed) (p : ℕ) → AreBlocks ps p first order.now widths.now count → 2 ^ 18 < entry ps p + proc_width p (proc_of ps p)) }
 {
     let first = behind(first, 0)?;
     let starts = starts(alloc, first, widths)?;
