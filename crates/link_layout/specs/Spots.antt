@@ -1,0 +1,66 @@
+-- Spots and copies as placed code has them, and what room they take.
+use Rattle.std.specs.Prelude.{◌≡◌, ℕ, ◌+◌, nat_lt, List, [], ◌∷◌, ◌++◌, Bool, is_some, if◌then◌else◌}
+use Rattle.lir_core.specs.Spots.{reg, home, out, target, saved}
+use Rattle.lir_core.specs.Spots as lir
+use Rattle.placed_code.specs.Placed.{Cell, Block, Placed}
+use Rattle.placed_code.specs.Placed as place
+use Rattle.placed_code.specs.Results.{rank_in}
+use Rattle.link_layout.specs.declared.copies.Spot.{Spot}
+use Rattle.link_layout.specs.declared.copies.Spot.TheVariants.{Reg, Home, Out, Target, Saved}
+use Rattle.link_layout.specs.declared.copies.Copy.{Copy}
+use Rattle.link_layout.specs.declared.copies.Room.{Room}
+use Rattle.link_layout.specs.declared.copies.Room.TheVariants.{Register, Slot, Nowhere}
+
+abbrev pub spot_of : Spot → lir.Spot
+spot_of (Reg r) = reg r
+spot_of (Home v) = home v
+spot_of (Out s) = out s
+spot_of Target = target
+spot_of Saved = saved
+
+abbrev pub copy_of : Copy → place.Copy
+copy_of m = record { to = spot_of m.to; from = spot_of m.from }
+
+-- the frame of a placed procedure has these homes, and so many slots for arguments
+pub record IsFrameOf (homes : List ℕ) (outs : ℕ) (pr : Placed) : Type 0 where
+  pub outs_are : pr.outs ≡ outs
+  pub rank_is : pr.rank ≡ rank_in homes
+
+---- All copies of a procedure, in the order of its blocks
+
+abbrev pub cell_copies : List Cell → List place.Copy
+cell_copies [] = []
+cell_copies (cell ∷ cells) = cell.copies ++ cell_copies cells
+
+abbrev pub block_copies : List Block → List place.Copy
+block_copies [] = []
+block_copies (bl ∷ bls) = cell_copies bl.body ++ (bl.copies ++ block_copies bls)
+
+abbrev pub all_copies : List place.Copy → List Block → List place.Copy
+all_copies first blocks = first ++ block_copies blocks
+
+---- The room of a spot
+
+abbrev pub slot_if : Bool → Room
+slot_if b = if b then Slot else Nowhere
+
+abbrev pub room_of : List ℕ → ℕ → lir.Spot → Room
+room_of homes outs (reg r) = if nat_lt r 16 then Register else Nowhere
+room_of homes outs (home v) = slot_if (is_some (rank_in homes v))
+room_of homes outs (out s) = slot_if (nat_lt s outs)
+room_of homes outs target = Register
+room_of homes outs saved = Register
+
+-- a word for each copy between two of them, but two between slots
+abbrev pub width_between : Room → Room → ℕ
+width_between Nowhere _ = 0
+width_between Register Nowhere = 0
+width_between Register Register = 1
+width_between Register Slot = 1
+width_between Slot Nowhere = 0
+width_between Slot Register = 1
+width_between Slot Slot = 2
+
+abbrev pub widths_of_copies : List ℕ → ℕ → List place.Copy → ℕ
+widths_of_copies homes outs [] = 0
+widths_of_copies homes outs (m ∷ ms) = width_between (room_of homes outs m.to) (room_of homes outs m.from) + widths_of_copies homes outs ms

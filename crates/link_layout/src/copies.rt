@@ -1,0 +1,89 @@
+//! Copies between the spots of a frame, and how many words they have.
+
+ghost use Rattle.std.specs.Prelude.{◌≡◌, ℕ, ◌<◌, ◌≤◌, ◌+◌, ◌^◌, List, map, length, IfOk, IfErr};
+ghost use Rattle.placed_code.specs.Placed.{Placed};
+ghost use Rattle.placed_code.specs.Words.{copies_words};
+ghost use Rattle.link_layout.specs.Spots.{spot_of, copy_of, IsFrameOf, room_of, widths_of_copies, width_between};
+ghost use Rattle.link_layout.specs.declared.fault.LayoutFault.TheVariants.{Limit, Memory};
+
+use crate::fault::LayoutFault;
+use crate::homes::Ranks;
+use crate::starting::behind;
+
+/// Where a copy takes a number or puts it: a register, the home that the value of that number has, a slot for an argument of a
+/// call, X25, or X16.
+#[derive(Clone, Copy)]
+pub enum Spot {
+    Reg(u8),
+    Home(u32),
+    Out(u32),
+    Target,
+    Saved,
+}
+
+/// The number in a spot goes to another.
+#[derive(Clone, Copy)]
+pub struct Copy {
+    pub to: Spot,
+    pub from: Spot,
+}
+
+/// Whether a spot is a register, a slot, or neither.
+#[derive(Clone, Copy)]
+pub(crate) enum Room {
+    Register,
+    Slot,
+    Nowhere,
+}
+
+/// How many words copies have, in a frame with these homes and so many slots for arguments.
+pub fn copies_width(homes: &Ranks, outs: u32, copies: &[Copy]) -> Result<u32, LayoutFault>
+    ensures width { IfOk result (λ width. (pr : Placed) → IsFrameOf homes.now outs pr → width ≡ length (copies_words pr (map copy_of copies.now))) }
+    ensures fits { IfOk result (λ width. width ≤ 2 ^ 18) }
+    ensures limit { IfErr result (λ fault. (pr : Placed) → IsFrameOf homes.now outs pr → 2 ^ 18 < length (copies_words pr (map copy_of copies.now))) }
+{
+    width_of_copies(homes, outs, copies)
+}
+
+fn width_of_copies(homes: &Ranks, outs: u32, copies: &[Copy]) -> Result<u32, LayoutFault>
+    ensures width { IfOk result (λ width. width ≡ widths_of_copies homes.now outs (map copy_of copies.now)) }
+    ensures fits { IfOk result (λ width. width ≤ 2 ^ 18) }
+    ensures limit { IfErr result (λ fault. 2 ^ 18 < widths_of_copies homes.now outs (map copy_of copies.now)) }
+{
+    let mut width = 0;
+    for copy in copies {
+        let more = between(
+            room_for(homes, outs, copy.to),
+            room_for(homes, outs, copy.from),
+        );
+        width = behind(width, more)?;
+    }
+    Ok(width)
+}
+
+fn between(to: Room, from: Room) -> u32
+    ensures width { result ≡ width_between to from }
+    ensures most { result ≤ 2 }
+{
+    match (to, from) {
+        (Room::Nowhere, _) => 0,
+        (_, Room::Nowhere) => 0,
+        (Room::Slot, Room::Slot) => 2,
+        _ => 1,
+    }
+}
+
+fn room_for(homes: &Ranks, outs: u32, spot: Spot) -> Room
+    ensures { result ≡ room_of homes.now outs (spot_of spot) }
+{
+    match spot {
+        Spot::Reg(number) if number < 16 => Room::Register,
+        Spot::Reg(_) => Room::Nowhere,
+        Spot::Home(value) if homes.rank(value).is_some() => Room::Slot,
+        Spot::Home(_) => Room::Nowhere,
+        Spot::Out(slot) if slot < outs => Room::Slot,
+        Spot::Out(_) => Room::Nowhere,
+        Spot::Target => Room::Register,
+        Spot::Saved => Room::Register,
+    }
+}
