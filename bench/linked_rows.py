@@ -4,16 +4,10 @@
     linked_rows.py bench/rows/linked.txt crates/linked_flows/proofs/Expected.antt
 
 Rows: pieces between lines ---, each a line `name policy registers`, then modules between lines ===.
-The oracle is a plain program outside of this repository (../shared/oracle from the top); without it nothing is written."""
-import os
+`row_texts` says where the oracle is; without it nothing is written."""
 import sys
 
-HERE = os.path.dirname(os.path.abspath(__file__))
-ORACLE = os.environ.get('ORACLE', os.path.join(HERE, '..', '..', 'shared', 'oracle'))
-if not os.path.isdir(ORACLE):
-    print('no oracle here: nothing is written')
-    sys.exit(0)
-sys.path.insert(0, ORACLE)
+from row_texts import listed, some, truth
 import backend
 import check
 
@@ -23,21 +17,8 @@ def chain(xs):
     return ' ∷ '.join(xs + ['[]'])
 
 
-def listed(xs):
-    xs = list(xs)
-    return '(%s)' % chain(xs) if xs else '[]'
-
-
 def numbers(xs):
     return listed(str(x) for x in xs)
-
-
-def some(x):
-    return 'None' if x is None else '(Some %d)' % x
-
-
-def truth(b):
-    return 'true' if b else 'false'
 
 
 def place(p):
