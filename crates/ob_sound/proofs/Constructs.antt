@@ -21,6 +21,7 @@ use Rattle.ob_types.specs.declared.tree.Relation.{Relation}
 use Rattle.ob_types.specs.declared.tree.Relation.TheVariants.{Equal, Unequal}
 use Rattle.ob_types.specs.declared.program.Program.{Program}
 use Rattle.ob_types.specs.Forms.{Form, Zero, Truth, Small, Number, ToRecord, Routines, Exactly, scalar_form, repeated, types_fine, forms, record_forms}
+use Rattle.ob_types.specs.LegalTypes.{is_record_type}
 use Rattle.ob_types.specs.WellFormed
 use Rattle.ob_types.specs.WellFormed.{Named, Cells, Of, OpenOf, Dynamic, Characters, Elementary, Letter, provided, is_number, is_small, is_truth, unary_form, binary_form, is_pointer, is_code, holds_of, with_some, gives_number, gives_pointer, is_equality, comparable, literal_by, literal, is_writable, element_by, open_element, record_by, is_char, is_empty, matched, pointed, changes, is_full, well_formed}
 use Rattle.ob_types.proofs.Tests.{none_some, some_same, no, and_of}
@@ -146,6 +147,9 @@ module _ (p : Program) where
 
     pub does_if : {A : Type 0} {fs : List (List Form)} {tags : List ℕ} {m : Act A} (b : Bool) → (b ≡ true → Sound p fs tags (Any p) m) → Does fs tags b m
     does_if b h = record { sound = h }
+
+    pub does_also : {A : Type 0} {fs : List (List Form)} {tags : List ℕ} {m : Act A} {b : Bool} (a : Bool) → Does fs tags b m → Does fs tags (a && b) m
+    does_also {b = b} a q = record { sound = λ h. q.sound (and_of a b h).1 }
 
     pub number_fits : (tags : List ℕ) (k : Form) (c : Cell) → is_number k ≡ true → Fits p tags k c → Fits p tags Number c
     number_fits tags Zero (Bits n) h f = omega (arith, f)
@@ -485,7 +489,8 @@ module _ (p : Program) where
 
     pub m_guards : {fs : List (List Form)} {tags : List ℕ} (f : ℕ) (rs : List ℕ) (o : Option Form) (x : Act Cell) → Means fs tags o x → Means fs tags (WellFormed.guarded_form p rs o) (all_guarded f (extends p.types) x rs)
     m_guards f [] o x q = q
-    m_guards f (r ∷ rs) o x q = m_guards f rs (provided (gives_pointer o) (Some (ToRecord r))) (guarded f (extends p.types) x r) (m_guard f r o q)
+    m_guards f (r ∷ rs) o x q = m_guards f rs (provided (is_record_type p.types r) (provided (gives_pointer o) (Some (ToRecord r)))) (guarded f (extends p.types) x r)
+        (m_provided (is_record_type p.types r) (provided (gives_pointer o) (Some (ToRecord r))) (λ h. m_guard f r o q))
 
     -- designators
 
@@ -540,5 +545,6 @@ module _ (p : Program) where
     s_narrowed f r s (Sized a m) n = absurd n
     s_narrowed f r s (Value c) n = absurd n
 
-    pub p_narrowed : {fs : List (List Form)} {tags : List ℕ} {d : Act Handed} (f r : ℕ) (o : Option Named) → Points fs tags o d → Points fs tags (provided (holds_of (WellFormed.is_dynamic p) o) (Some (Dynamic r))) (narrowed f (extends p.types) d r)
-    p_narrowed f r o q = p_provided (holds_of (WellFormed.is_dynamic p) o) (Some (Dynamic r)) (λ h. let n = as_dynamic o h q in p_of (Dynamic r) (s_bind p n.1 (λ more x e names. s_narrowed f r n.0 x names)))
+    pub p_narrowed : {fs : List (List Form)} {tags : List ℕ} {d : Act Handed} (f r : ℕ) (o : Option Named) → Points fs tags o d → Points fs tags (provided (is_record_type p.types r) (provided (holds_of (WellFormed.is_dynamic p) o) (Some (Dynamic r)))) (narrowed f (extends p.types) d r)
+    p_narrowed f r o q = p_provided (is_record_type p.types r) (provided (holds_of (WellFormed.is_dynamic p) o) (Some (Dynamic r))) (λ g. p_provided (holds_of (WellFormed.is_dynamic p) o) (Some (Dynamic r)) (λ h.
+        let n = as_dynamic o h q in p_of (Dynamic r) (s_bind p n.1 (λ more x e names. s_narrowed f r n.0 x names))))

@@ -12,6 +12,7 @@ use Rattle.ob_types.specs.Meaning.{is_byte}
 use Rattle.ob_types.specs.declared.tree.Binary.{Binary}
 use Rattle.ob_types.specs.declared.program.Program.{Program}
 use Rattle.ob_types.specs.Forms.{Form, Zero, Truth, Small, Number, ToRecord, Routines, Exactly, repeated, types_fine, forms, record_forms}
+use Rattle.ob_types.specs.LegalTypes.{is_record_type}
 use Rattle.ob_types.specs.WellFormed
 use Rattle.ob_types.specs.WellFormed.{Named, Cells, Of, OpenOf, Dynamic, Characters, Elementary, Letter, provided, is_number, is_small, is_truth, unary_form, binary_form, is_pointer, is_code, holds_of, with_some, gives_number, gives_pointer, is_equality, comparable, literal_by, literal, is_writable, element_by, open_element, record_by, is_char, is_empty, matched, pointed, changes, is_full, well_formed}
 use Rattle.ob_types.proofs.Tests.{none_some, no, and_of, less_or_past}
@@ -215,7 +216,7 @@ module _ (p : Program) where
         s_put p a Number (Bits w) (form_older p fs t1 t5 (older_trans t1 t2 t5 e2 (older_trans t2 t3 t5 e3 (older_trans t3 t4 t5 e4 e5))) a.area a.object a.cell Number at.0) at.1 lw))))))
 
     pub points_is : (r : ℕ) (k : Form) → WellFormed.points_to p r k ≡ true → (b : ℕ) × (k ≡ ToRecord b) × (extends p.types r b ≡ true)
-    points_is r (ToRecord b) h = (b, refl, h)
+    points_is r (ToRecord b) h = (b, refl, (and_of (is_record_type p.types r) (extends p.types r b) h).1)
     points_is r Number h = no h
     points_is r Small h = no h
     points_is r Zero h = no h

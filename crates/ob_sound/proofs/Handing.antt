@@ -6,13 +6,15 @@ use Rattle.ob_types.specs.Store.{Cell, Bits, Pointer, Code, Area, Globals, Frame
 use Rattle.ob_types.specs.Expressions.{by_value, by_place, with_tag, by_record, by_open, Calls, called_by_number, called_by_value, result_of}
 use Rattle.ob_types.specs.Assignable.{both_or_neither, same_mode, same_formal, same_formals}
 use Rattle.ob_types.specs.Meaning.{procedure_of, globals_of, is_value, texts_of, receives, received}
+use Rattle.ob_types.specs.declared.types.TypeKind.{TypeKind}
 use Rattle.ob_types.specs.declared.types.Mode.{Mode}
 use Rattle.ob_types.specs.declared.types.Mode.TheVariants.{Place}
 use Rattle.ob_types.specs.declared.types.Mode.TheVariants.{Value as OfValue, Record as OfRecord, Open as OfOpen}
 use Rattle.ob_types.specs.declared.types.Formal.{Formal}
 use Rattle.ob_types.specs.declared.program.Module.{Module}
 use Rattle.ob_types.specs.declared.program.Program.{Program}
-use Rattle.ob_types.specs.Forms.{Form, Zero, Truth, Small, Number, ToRecord, Routines, Exactly, repeated, joined, all, types_fine, forms, record_forms}
+use Rattle.ob_types.specs.Forms.{scalar_form, Form, Zero, Truth, Small, Number, ToRecord, Routines, Exactly, repeated, joined, all, types_fine, forms, record_forms}
+use Rattle.ob_types.specs.LegalTypes.{mode_fits, formal_legal}
 use Rattle.ob_types.specs.WellFormed
 use Rattle.ob_types.specs.WellFormed.{Named, Cells, Of, OpenOf, Dynamic, Characters, Elementary, Letter, provided, is_number, is_small, is_truth, unary_form, binary_form, is_pointer, is_code, holds_of, with_some, gives_number, gives_pointer, is_equality, comparable, literal_by, literal, is_writable, element_by, open_element, record_by, is_char, is_empty, matched, pointed, changes, is_full, well_formed}
 use Rattle.ob_types.proofs.Tests.{none_some, some_same, no, and_of}
@@ -216,12 +218,20 @@ module _ (p : Program) where
     receive_one fs tags OfOpen x (Sized a n) rest cs t fine_one f = (cs, refl, f)
     receive_one fs tags _ x _ rest cs t fine_one f = absurd t
 
-    pub receive_all : (fs : List (List Form)) (tags : List ℕ) (xs : List Formal) (hs : List Handed) → AllTaken fs tags xs hs → all (WellFormed.formal_fine p) xs ≡ true → (cs : List Cell) × (received xs hs ≡ Some cs) × FitAll tags (joined (forms p.types) (map (λ x. x.type_number) (filter (λ x. is_value x.mode) xs))) cs
+    -- a scalar value parameter has one cell
+    has_cell : (m : Mode) (v : Bool) (kind : TypeKind) → mode_fits m v kind ≡ true → (not (is_value m) || is_some (scalar_form kind)) ≡ true
+    has_cell OfValue false kind h = h
+    has_cell OfValue true kind h = no h
+    has_cell Place v kind h = refl
+    has_cell OfRecord v kind h = refl
+    has_cell OfOpen v kind h = refl
+
+    pub receive_all : (fs : List (List Form)) (tags : List ℕ) (xs : List Formal) (hs : List Handed) → AllTaken fs tags xs hs → all (formal_legal p.types) xs ≡ true → (cs : List Cell) × (received xs hs ≡ Some cs) × FitAll tags (joined (forms p.types) (map (λ x. x.type_number) (filter (λ x. is_value x.mode) xs))) cs
     receive_all fs tags [] [] t h = ([], refl, tt)
     receive_all fs tags (x ∷ xs) (h ∷ hs) t ok =
-        let parts = and_of (WellFormed.formal_fine p x) (all (WellFormed.formal_fine p) xs) ok in
+        let parts = and_of (formal_legal p.types x) (all (formal_legal p.types) xs) ok in
         let rest = receive_all fs tags xs hs t.1 parts.1 in
-        let one = receive_one fs tags x.mode x h (filter (λ x. is_value x.mode) xs) rest.0 t.0 parts.0 rest.2 in
+        let one = receive_one fs tags x.mode x h (filter (λ x. is_value x.mode) xs) rest.0 t.0 (has_cell x.mode x.variable (kind_of p.types x.type_number) parts.0) rest.2 in
         (one.0, ap (λ o. receives x.mode h o) rest.1 ∙ one.1, one.2)
     receive_all fs tags [] (h ∷ hs) t ok = absurd t
     receive_all fs tags (x ∷ xs) [] t ok = absurd t

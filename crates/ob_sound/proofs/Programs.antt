@@ -2,7 +2,7 @@
 use Rattle.std.proofs.Common.{◌≡◌, ℕ, zero, suc, ◌+◌, ◌<◌, List, [], ◌∷◌, ◌++◌, map, length, true, ◌&&◌, Some, refl, sym, ap₂, subst, arith, filter}
 use Rattle.std.specs.Prelude.{slice_get, slice_index_or, replicate, nat_lt, nat_le}
 use Rattle.run_laws.specs.Turns.{Ending, Gives, Fails, Spent, ◌>>=◌, give, look, spend, outcome}
-use Rattle.ob_types.specs.Layout.{cells_of_all}
+use Rattle.ob_types.specs.Layout.{kind_of, cells_of_all}
 use Rattle.ob_types.specs.Store.{Cell, Bits, Area, Globals, Frames, Heap, Strings, Store, Trap, objects, cell_of, trap}
 use Rattle.ob_types.specs.Expressions.{Calls}
 use Rattle.ob_types.specs.Meaning.{procedure_of, locals_of, is_value, texts_of, effects_of, answer, received, zeroed, cells_in, invoked, at_most, bodies, zeros, start, meaning}
@@ -10,6 +10,7 @@ use Rattle.ob_types.specs.declared.program.Module.{Module}
 use Rattle.ob_types.specs.declared.program.Program.{Program}
 use Rattle.ob_types.specs.Forms.{Form, Truth, Small, repeated, joined, all, all_below, types_fine, forms}
 use Rattle.ob_types.specs.Sense.{MakesSense}
+use Rattle.ob_types.specs.LegalTypes.{is_no_kind, formal_legal}
 use Rattle.ob_types.specs.WellFormed
 use Rattle.ob_types.specs.WellFormed.{Named, Cells, Of, OpenOf, Dynamic, Characters, Elementary, Letter, provided, is_number, is_small, is_truth, unary_form, binary_form, is_pointer, is_code, holds_of, with_some, gives_number, gives_pointer, is_equality, comparable, literal_by, literal, is_writable, element_by, open_element, record_by, is_char, is_empty, matched, pointed, changes, is_full, well_formed}
 use Rattle.ob_types.proofs.Tests.{none_some, some_same, no, and_of, below}
@@ -34,7 +35,7 @@ module _ (p : Program) where
       pub s_invoked : (calls : Calls) (fuel : ℕ) → CallsSound p fine calls → CallsSound p fine (invoked p calls fuel)
       s_invoked calls fuel sound_calls fs tags g hs l taken =
           let q = procedure_of p g in
-          let ok = and_of (all (WellFormed.formal_fine p) q.formals) (all (WellFormed.fine p g) q.body && WellFormed.answer_fine p g (WellFormed.form_of p q.result) q.answer) (bodies_fine g l) in
+          let ok = and_of (all (formal_legal p.types) q.formals) (all (WellFormed.fine p g) q.body && WellFormed.answer_fine p g (WellFormed.form_of p q.result) q.answer) (bodies_fine g l) in
           let rest = and_of (all (WellFormed.fine p g) q.body) (WellFormed.answer_fine p g (WellFormed.form_of p q.result) q.answer) ok.1 in
           let r = receive_all p fine fs tags q.formals hs taken ok.0 in
           let own = joined (forms p.types) (locals_of q) in
@@ -61,11 +62,13 @@ module _ (p : Program) where
       s_bodies fuel tags [] h = s_give p tt (λ _ _. tt)
       s_bodies fuel tags (m ∷ ms) h =
           let y = and_of (WellFormed.module_fine p m) (all (WellFormed.module_fine p) ms) h in
-          let u = and_of (nat_lt m.body (length p.procedures) && (procedure_of p m.body).is_body) (is_empty (procedure_of p m.body).formals && is_empty (procedure_of p m.body).locals) y.0 in
+          let alone = is_empty (procedure_of p m.body).formals && is_empty (procedure_of p m.body).locals in
+          let silent = is_no_kind (kind_of p.types (procedure_of p m.body).result) && WellFormed.no_answer (procedure_of p m.body).answer in
+          let u = and_of (nat_lt m.body (length p.procedures) && (procedure_of p m.body).is_body) (alone && silent) y.0 in
           let w = and_of (nat_lt m.body (length p.procedures)) (procedure_of p m.body).is_body u.0 in
-          let v = and_of (is_empty (procedure_of p m.body).formals) (is_empty (procedure_of p m.body).locals) u.1 in
+          let v = and_of (is_empty (procedure_of p m.body).formals) (is_empty (procedure_of p m.body).locals) (and_of alone silent u.1).0 in
           let none = empty_is (procedure_of p m.body).formals v.0 in
-          let ok = and_of (all (WellFormed.formal_fine p) (procedure_of p m.body).formals) (all (WellFormed.fine p m.body) (procedure_of p m.body).body && WellFormed.answer_fine p m.body (WellFormed.form_of p (procedure_of p m.body).result) (procedure_of p m.body).answer) (bodies_fine m.body (lt_of p m.body (length p.procedures) w.0)) in
+          let ok = and_of (all (formal_legal p.types) (procedure_of p m.body).formals) (all (WellFormed.fine p m.body) (procedure_of p m.body).body && WellFormed.answer_fine p m.body (WellFormed.form_of p (procedure_of p m.body).result) (procedure_of p m.body).answer) (bodies_fine m.body (lt_of p m.body (length p.procedures) w.0)) in
           let body = and_of (all (WellFormed.fine p m.body) (procedure_of p m.body).body) (WellFormed.answer_fine p m.body (WellFormed.form_of p (procedure_of p m.body).result) (procedure_of p m.body).answer) ok.1 in
           s_bind p (t_effects_of p fine (at_most p fuel) (s_at_most fuel) (record { procedure = m.body; frame = 0; arguments = [] }) [] tags
           (sym (ap₂ (λ a b. joined (forms p.types) (map (λ x. x.type_number) (filter (λ x. is_value x.mode) a) ++ b)) none (empty_is (procedure_of p m.body).locals v.1)))
@@ -111,8 +114,8 @@ module _ (p : Program) where
 pub makes_sense : (p : Program) (input : List ℕ) (n : ℕ) → well_formed p ≡ true → all (λ x. nat_lt x 256) input ≡ true → MakesSense (meaning p input n)
 makes_sense p input n h bytes =
     let rest = all (WellFormed.module_fine p) p.modules && all_below (length p.procedures) (WellFormed.procedure_fine p) in
-    let a = and_of (types_fine p.types && WellFormed.counts_fine p) (all (all (λ c. nat_lt c 256)) (texts_of p.procedures) && rest) h in
-    let table = and_of (types_fine p.types) (WellFormed.counts_fine p) a.0 in
+    let a = and_of (types_fine p.types && WellFormed.declarations_fine p) (all (all (λ c. nat_lt c 256)) (texts_of p.procedures) && rest) h in
+    let table = and_of (types_fine p.types) (WellFormed.declarations_fine p) a.0 in
     let b = and_of (all (all (λ c. nat_lt c 256)) (texts_of p.procedures)) rest a.1 in
     let c = and_of (all (WellFormed.module_fine p) p.modules) (all_below (length p.procedures) (WellFormed.procedure_fine p)) b.1 in
     let bodies_fine = below (length p.procedures) (WellFormed.procedure_fine p) c.1 in

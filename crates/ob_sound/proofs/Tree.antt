@@ -5,7 +5,7 @@ use Rattle.run_laws.specs.Turns.{State, Gives, give}
 use Rattle.ob_types.specs.Layout.{signature_of, extends}
 use Rattle.ob_types.specs.Store.{Cell, Bits, Code, Globals, Frames, Strings, Store, Act, Handed, At, Here}
 use Rattle.ob_types.specs.Operators.{labels_have}
-use Rattle.ob_types.specs.Expressions.{load, is_of, Calls, called_by_value}
+use Rattle.ob_types.specs.Expressions.{type_test, load, is_of, Calls, called_by_value}
 use Rattle.ob_types.specs.Statements.{done}
 use Rattle.ob_types.specs.Meaning.{procedure_of, globals_of, locals_of, texts_of, text_number, kind_in, length_of_kind, element_kind, record_of_kind, is_byte, variable_of, base_of, value, linked, link, designated, selected, select, called, argument, arguments, effect, effects, branches, case_parts, type_parts, effects_of, answer}
 use Rattle.ob_types.specs.declared.types.TypeKind.{TypeKind}
@@ -24,11 +24,12 @@ use Rattle.ob_types.specs.declared.statements.Stmt.{Stmt, Assign, CopyArray, Cop
 use Rattle.ob_types.specs.declared.statements.Stmt.{Call as Invoke}
 use Rattle.ob_types.specs.declared.program.Program.{Program}
 use Rattle.ob_types.specs.Forms.{Form, Zero, Truth, Small, Number, Exactly, repeated, joined, all, types_fine, forms}
+use Rattle.ob_types.specs.LegalTypes.{is_record_type}
 use Rattle.ob_types.specs.WellFormed
-use Rattle.ob_types.specs.WellFormed.{Named, Cells, Of, OpenOf, Dynamic, Characters, Elementary, Letter, provided, is_number, is_small, is_truth, unary_form, binary_form, is_pointer, is_code, holds_of, with_some, gives_number, gives_pointer, is_equality, comparable, literal_by, literal, is_writable, element_by, open_element, record_by, is_char, is_empty, matched, pointed, changes, is_full, well_formed}
+use Rattle.ob_types.specs.WellFormed.{has_branch, is_step, label_fine, Named, Cells, Of, OpenOf, Dynamic, Characters, Elementary, Letter, provided, is_number, is_small, is_truth, unary_form, binary_form, is_pointer, is_code, holds_of, with_some, gives_number, gives_pointer, is_equality, comparable, literal_by, literal, is_writable, element_by, open_element, record_by, is_char, is_empty, matched, pointed, changes, is_full, well_formed}
 use Rattle.ob_types.proofs.Tests.{none_some, some_same, no, and_of}
 use Rattle.ob_sound.proofs.Typed.{Any, Fits, Good, HasForm, Older, Sound, Stands, Typed, fits_older, global_forms, lt_of, names_older, older_trans, s_bind, s_give, s_given, s_older, s_repeat, string_forms}
-use Rattle.ob_sound.proofs.Constructs.{Does, Means, Points, holds_is, m_both, m_byte, m_compared, m_either, m_guards, m_in, m_length, m_load, m_of, m_provided, m_texts, m_two, m_unary, m_with, m_with_range, p_field, p_index, p_narrowed, p_object, p_of, p_provided, p_some, s_parameter_type, s_pointer_type, s_type_test}
+use Rattle.ob_sound.proofs.Constructs.{does_also, Does, Means, Points, holds_is, m_both, m_byte, m_compared, m_either, m_guards, m_in, m_length, m_load, m_of, m_provided, m_texts, m_two, m_unary, m_with, m_with_range, p_field, p_index, p_narrowed, p_object, p_of, p_provided, p_some, s_parameter_type, s_pointer_type, s_type_test}
 use Rattle.ob_sound.proofs.Deeds.{d_assert, d_assign, d_case, d_change, d_change_set, d_copy_array, d_copy_record, d_for, d_in_char, d_new, d_out_char, d_out_int, d_out_string, d_until, given_is, s_otherwise, s_out_char, s_test, s_try, s_type_case, suits_fits}
 use Rattle.ob_sound.proofs.Handing.{CallsSound, AllTaken, Answers, Taken, TakenBy, all_taken_older, globals_are, m_result, parameter_names, s_called, s_called_value, strings_are, t_by_open, t_by_place, t_by_record, t_by_value, taken_at, taken_older, through_is, variable_at}
 
@@ -71,10 +72,14 @@ module _ (p : Program) where
         pub p_kind : {d : Act Handed} (kind : TypeKind) (o : Option Named) → Points p fine fs tags o d → Points p fine fs tags (with_some o (WellFormed.of_kind p kind)) d
         p_kind kind o q = p_some p fine o (WellFormed.of_kind p kind) (λ n is. p_provided p fine (WellFormed.has_kind p kind n) (Some n) (λ _. p_of p fine n (q.sound n is)))
 
+        -- a type test, where the record type is there
+        t_of_type : {x : Act (Option ℕ)} (r : ℕ) (ok : Bool) → (ok ≡ true → Sound p fs tags (Any p) x) → Means p fine fs tags (provided (is_record_type p.types r) (provided ok (Some Truth))) (type_test (extends p.types) x r)
+        t_of_type r ok sound = m_provided p fine (is_record_type p.types r) (provided ok (Some Truth)) (λ there. m_provided p fine ok (Some Truth) (λ h. m_of p fine Truth (s_type_test p fine (extends p.types) r (sound h))))
+
         mutual
           pub t_value : (e : Expr) → Means p fine fs tags (WellFormed.form p here.procedure e) (value p calls here e)
           t_value (Literal n) = t_literal n
-          t_value (Routine g) = m_of p fine (Exactly g) (s_give p (Code g) (λ _ _. refl))
+          t_value (Routine g) = m_provided p fine (WellFormed.callable p g) (Some (Exactly g)) (λ h. m_of p fine (Exactly g) (s_give p (Code g) (λ _ _. refl)))
           t_value (Load d) = m_load p fine (WellFormed.named p here.procedure d) (t_named d)
           t_value (Guard d rs) = m_guards p fine here.procedure rs (with_some (WellFormed.named p here.procedure d) (WellFormed.scalar_in p)) (load (designated p calls here d)) (m_load p fine (WellFormed.named p here.procedure d) (t_named d))
           t_value (Unary' op _ x) = m_unary p fine op (WellFormed.form p here.procedure x) (t_value x)
@@ -82,8 +87,8 @@ module _ (p : Program) where
           t_value (Compare' r _ x _ y) = m_compared p fine r (WellFormed.form p here.procedure x) (WellFormed.form p here.procedure y) (t_value x) (t_value y)
           t_value (CompareTexts' r _ d _ e) = m_texts p fine r (length_of_kind (kind_in d)) (length_of_kind (kind_in e)) (WellFormed.named p here.procedure d) (WellFormed.named p here.procedure e) (t_named d) (t_named e)
           t_value (In' _ x _ s) = m_in p fine here.procedure (WellFormed.form p here.procedure x) (WellFormed.form p here.procedure s) (t_value x) (t_value s)
-          t_value (IsPointer' _ x r) = m_provided p fine (gives_pointer (WellFormed.form p here.procedure x)) (Some Truth) (λ h. m_of p fine Truth (s_type_test p fine (extends p.types) r (s_pointer_type p fine (WellFormed.form p here.procedure x) h (t_value x))))
-          t_value (IsParameter d r) = m_provided p fine (holds_of (WellFormed.is_dynamic p) (WellFormed.named p here.procedure d)) (Some Truth) (λ h. m_of p fine Truth (s_type_test p fine (extends p.types) r (s_parameter_type p fine (WellFormed.named p here.procedure d) h (t_named d))))
+          t_value (IsPointer' _ x r) = t_of_type r (gives_pointer (WellFormed.form p here.procedure x)) (λ h. s_pointer_type p fine (WellFormed.form p here.procedure x) h (t_value x))
+          t_value (IsParameter d r) = t_of_type r (holds_of (WellFormed.is_dynamic p) (WellFormed.named p here.procedure d)) (λ h. s_parameter_type p fine (WellFormed.named p here.procedure d) h (t_named d))
           t_value (Byte' _ x) = m_byte p fine here.procedure (WellFormed.form p here.procedure x) (t_value x)
           t_value (Length d) = m_length p fine (length_of_kind (kind_in d)) (WellFormed.named p here.procedure d) (t_named d)
           t_value (Call' _ c) = m_provided p fine (WellFormed.call_suits p here.procedure c) (WellFormed.call_form p here.procedure c) (λ h. m_result p fine (WellFormed.call_form p here.procedure c) (t_call c h))
@@ -171,9 +176,9 @@ module _ (p : Program) where
             t_effect (InChar d) = d_in_char p fine (name_of d) (t_named d)
             t_effect (Invoke c) = record { sound = λ h. s_bind p (t_call c h) (λ more r e u. s_give p tt (λ _ _. tt)) }
             t_effect (If' _ parts _ other) = record { sound = λ h. let y = and_of (WellFormed.fine_branches p here.procedure parts) (WellFormed.fine_row p here.procedure other) h in s_otherwise p fine ((t_branches _ parts).sound y.0) ((t_effects _ other).sound y.1) }
-            t_effect (While' _ parts) = record { sound = λ h. s_repeat p fuel (branches p calls here fuel parts) ((t_branches _ parts).sound h) }
+            t_effect (While' _ parts) = record { sound = λ h. let y = and_of (has_branch parts) (WellFormed.fine_branches p here.procedure parts) h in s_repeat p fuel (branches p calls here fuel parts) ((t_branches _ parts).sound y.1) }
             t_effect (Repeat' _ body x) = d_until p fine fuel (WellFormed.fine_row p here.procedure body) (form_in x) (t_effects _ body) (t_checked x)
-            t_effect (For' d x y step _ body) = d_for p fine fuel step (name_of d) (form_in x) (form_in y) (WellFormed.fine_row p here.procedure body) (t_named d) (t_checked x) (t_checked y) (t_effects _ body)
+            t_effect (For' d x y step _ body) = does_also p fine (is_step step) (d_for p fine fuel step (name_of d) (form_in x) (form_in y) (WellFormed.fine_row p here.procedure body) (t_named d) (t_checked x) (t_checked y) (t_effects _ body))
             t_effect (Case' x _ parts) = d_case p fine here.procedure (form_in x) (WellFormed.fine_case_parts p here.procedure parts) (t_checked x) (λ v. t_case_parts v _ parts)
             t_effect (CasePointer' x _ parts) = record { sound = λ h. let y = and_of (gives_pointer (form_in x)) (WellFormed.fine_type_parts p here.procedure parts) h in s_type_case p fine (s_pointer_type p fine (form_in x) y.0 (t_checked x)) (λ t. (t_type_parts t _ parts).sound y.1) }
             t_effect (CaseParameter' d _ parts) = record { sound = λ h. let y = and_of (holds_of (WellFormed.is_dynamic p) (name_of d)) (WellFormed.fine_type_parts p here.procedure parts) h in s_type_case p fine (s_parameter_type p fine (name_of d) y.0 (t_named d)) (λ t. (t_type_parts t _ parts).sound y.1) }
@@ -195,7 +200,8 @@ module _ (p : Program) where
             t_case_parts v m end_of-CasePart = record { sound = λ h. s_give p false (λ _ _. tt) }
             t_case_parts v m (more_of-CasePart labels _ body rest) = record {
               sound = λ h.
-                  let z = and_of (WellFormed.fine_row p here.procedure body) (WellFormed.fine_case_parts p here.procedure rest) h in
+                  let y = and_of (all label_fine labels) (WellFormed.fine_row p here.procedure body && WellFormed.fine_case_parts p here.procedure rest) h in
+                  let z = and_of (WellFormed.fine_row p here.procedure body) (WellFormed.fine_case_parts p here.procedure rest) y.1 in
                   s_try p fine (s_give p (labels_have v labels) (λ _ _. tt)) ((t_effects _ body).sound z.0) ((t_case_parts v _ rest).sound z.1);
             }
 
@@ -203,7 +209,8 @@ module _ (p : Program) where
             t_type_parts t m end_of-TypePart = record { sound = λ h. s_give p false (λ _ _. tt) }
             t_type_parts t m (more_of-TypePart r _ body rest) = record {
               sound = λ h.
-                  let z = and_of (WellFormed.fine_row p here.procedure body) (WellFormed.fine_type_parts p here.procedure rest) h in
+                  let y = and_of (is_record_type p.types r) (WellFormed.fine_row p here.procedure body && WellFormed.fine_type_parts p here.procedure rest) h in
+                  let z = and_of (WellFormed.fine_row p here.procedure body) (WellFormed.fine_type_parts p here.procedure rest) y.1 in
                   s_try p fine (s_give p (is_of (extends p.types) t r) (λ _ _. tt)) ((t_effects _ body).sound z.0) ((t_type_parts t _ rest).sound z.1);
             }
 

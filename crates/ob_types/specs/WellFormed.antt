@@ -1,11 +1,13 @@
 -- When a checked program is well-formed: a judgement on its tree, by recursion. What an expression gives is a form, what a designator names a thing.
 --
--- It asks no more than the meaning needs to make sense and than the lowering builds on: that the language forbids to compare a number with a
--- set, say, isn't said here.
-use Rattle.std.specs.Prelude.{ℕ, zero, suc, ◌^◌, List, [], ◌∷◌, length, sum_by, Bool, true, false, not, ◌&&◌, ◌||◌, ◌==◌, nat_lt, nat_le, Option, Some, None, is_some, slice_get}
+-- It asks what the meaning needs to make sense and what the layers below build on, and all of it holds of what the language allows: that the
+-- language forbids to compare a number with a set, say, isn't said here.
+use Rattle.std.specs.Prelude.{ℕ, zero, suc, ◌^◌, List, [], ◌∷◌, map, length, sum_by, Bool, true, false, not, ◌&&◌, ◌||◌, ◌==◌, nat_lt, nat_le, if◌then◌else◌, Option, Some, None, slice_get, ℤ, pos, int_lt, int_le}
+use Rattle.std.specs.Ordering.{int_eq}
+use Rattle.wrapping_numbers.specs.Numbers.{signed}
 use Rattle.ob_types.specs.Layout.{kind_of, record_of, signature_of, types_of, record_cells, extends}
 use Rattle.ob_types.specs.Assignable.{same_formals, same_length}
-use Rattle.ob_types.specs.Meaning.{procedure_of, globals_of, locals_of, is_value, texts_of, text_number, kind_in, length_of_kind, element_kind, record_of_kind, is_byte}
+use Rattle.ob_types.specs.Meaning.{procedure_of, globals_of, locals_of, texts_of, text_number, kind_in, length_of_kind, element_kind, record_of_kind, is_byte}
 use Rattle.ob_types.specs.declared.types.TypeKind.{TypeKind}
 use Rattle.ob_types.specs.declared.types.TypeKind.TheVariants.{Int, Char, Byte, Nil, Array, Nothing}
 use Rattle.ob_types.specs.declared.types.TypeKind.TheVariants.{Bool as Boolean, Set as SetOf, Text as TextOf, Record as RecordOf, Pointer as PointerTo, Procedure as ProcedureOf}
@@ -28,10 +30,14 @@ use Rattle.ob_types.specs.declared.tree.Selector.{Selector, Index, Field, Derefe
 use Rattle.ob_types.specs.declared.tree.Call.{Call, Direct', Indirect', Row_of-Argument, end_of-Argument, more_of-Argument}
 use Rattle.ob_types.specs.declared.tree.Argument.{Argument, ByValue, ByPlace, ByRecord, ByOpen}
 use Rattle.ob_types.specs.declared.statements.Checked.{Checked}
+use Rattle.ob_types.specs.declared.statements.Label.{Label}
+use Rattle.ob_types.specs.declared.statements.Label.TheVariants.{One, Range}
 use Rattle.ob_types.specs.declared.statements.Stmt.{Stmt, Assign, CopyArray, CopyRecord, Increase, Decrease, Include, Exclude, New, Assert, OutChar, OutInt, OutString, OutLn, InChar, If', While', Repeat', For', Case', CasePointer', CaseParameter', Row_of-Stmt, end_of-Stmt, more_of-Stmt, Row_of-Branch, end_of-Branch, more_of-Branch, Row_of-CasePart, end_of-CasePart, more_of-CasePart, Row_of-TypePart, end_of-TypePart, more_of-TypePart}
 use Rattle.ob_types.specs.declared.statements.Stmt.{Call as Invoke}
 use Rattle.ob_types.specs.declared.program.Module.{Module}
+use Rattle.ob_types.specs.declared.program.Procedure.{Procedure}
 use Rattle.ob_types.specs.declared.program.Program.{Program}
+use Rattle.ob_types.specs.LegalTypes.{is_no_kind, is_record_type, is_variable_type, is_result_type, formal_legal, types_legal}
 use Rattle.ob_types.specs.Forms.{Form, Zero, Truth, Small, Number, ToRecord, Routines, Exactly, scalar_form, all, all_below, types_fine}
 
 -- what a designator names: a variable of a type, whether it may be written; an open array of elements of a type; a record by its dynamic type, which is this record or an extension; so many characters of a string
@@ -196,6 +202,39 @@ abbrev pub is_zero : Form → Bool
 is_zero Zero = true
 is_zero _ = false
 
+-- a WHILE has some condition
+abbrev pub has_branch : {m : _} → Row_of-Branch m → Bool
+has_branch end_of-Branch = false
+has_branch (more_of-Branch x _ body rest) = true
+
+-- a number that an INTEGER may have
+abbrev pub is_integer : ℤ → Bool
+is_integer z = int_le (signed (2 ^ 63)) z && int_lt z (pos (2 ^ 63))
+
+-- the step of FOR
+abbrev pub is_step : ℤ → Bool
+is_step z = is_integer z && not (int_eq z (pos 0))
+
+-- a label of CASE: no range runs downward
+abbrev pub label_fine : Label → Bool
+label_fine (One a) = is_integer a
+label_fine (Range a b) = is_integer a && (is_integer b && int_le a b)
+
+abbrev pub no_answer : Option Checked → Bool
+no_answer None = true
+no_answer (Some x) = false
+
+-- the numbers of the modules' bodies among these procedures, the first of which has this number
+abbrev pub bodies_among : ℕ → List Procedure → List ℕ
+bodies_among f [] = []
+bodies_among f (q ∷ qs) = if q.is_body then (f ∷ bodies_among (suc f) qs) else bodies_among (suc f) qs
+
+-- the same numbers in the same order
+abbrev pub are_equal : List ℕ → List ℕ → Bool
+are_equal [] [] = true
+are_equal (n ∷ ns) (m ∷ ms) = n == m && are_equal ns ms
+are_equal _ _ = false
+
 -- the argument words of a parameter, and of all
 abbrev pub words_of : Mode → ℕ
 words_of OfRecord = 2
@@ -358,13 +397,13 @@ module _ (p : Program) where
 
   -- NEW's record is what the pointer wants
   abbrev pub points_to : ℕ → Form → Bool
-  points_to r (ToRecord b) = extends p.types r b
+  points_to r (ToRecord b) = is_record_type p.types r && extends p.types r b
   points_to r _ = false
 
   -- a pointer's form, guarded by these
   abbrev pub guarded_form : List ℕ → Option Form → Option Form
   guarded_form [] o = o
-  guarded_form (r ∷ rs) o = guarded_form rs (provided (gives_pointer o) (Some (ToRecord r)))
+  guarded_form (r ∷ rs) o = guarded_form rs (provided (is_record_type p.types r) (provided (gives_pointer o) (Some (ToRecord r))))
 
   module _ (here : ℕ) where
     -- where a designator begins
@@ -379,7 +418,7 @@ module _ (p : Program) where
       -- the form of an expression's value, where it has one
       pub form : Expr → Option Form
       form (Literal n) = literal n
-      form (Routine g) = Some (Exactly g)
+      form (Routine g) = provided (callable g) (Some (Exactly g))
       form (Load d) = with_some (named d) scalar_in
       form (Guard d rs) = guarded_form rs (with_some (named d) scalar_in)
       form (Unary' op _ x) = provided (gives_number (form x)) (Some (unary_form op))
@@ -387,8 +426,8 @@ module _ (p : Program) where
       form (Compare' r _ x _ y) = with_some (form x) (λ a. with_some (form y) (λ b. provided (comparable r a b) (Some Truth)))
       form (CompareTexts' r _ d _ e) = provided (holds_of (is_text (length_of_kind (kind_in d))) (named d)) (provided (holds_of (is_text (length_of_kind (kind_in e))) (named e)) (Some Truth))
       form (In' _ x _ s) = provided (gives_number (form x)) (provided (gives_number (form s)) (Some Truth))
-      form (IsPointer' _ x r) = provided (gives_pointer (form x)) (Some Truth)
-      form (IsParameter d r) = provided (holds_of is_dynamic (named d)) (Some Truth)
+      form (IsPointer' _ x r) = provided (is_record_type p.types r) (provided (gives_pointer (form x)) (Some Truth))
+      form (IsParameter d r) = provided (is_record_type p.types r) (provided (holds_of is_dynamic (named d)) (Some Truth))
       form (Byte' _ x) = provided (gives_number (form x)) (Some Small)
       form (Length d) = provided (holds_of (any_array (length_of_kind (kind_in d))) (named d)) (Some Number)
       form (Call' _ c) = provided (call_suits c) (call_form c)
@@ -419,7 +458,7 @@ module _ (p : Program) where
       select_named (Index n element x) o = with_some o (λ t. provided (array_of element n t) (provided (gives_number (form x)) (Some (Of element (is_writable t)))))
       select_named (Field r field) o = with_some o (λ t. provided (has_record r t) (with_some (slice_get (types_of (record_of p.types r).fields) field) (λ k. Some (Of k (is_writable t)))))
       select_named (Dereference rs) o = with_some (guarded_form rs (with_some o scalar_in)) pointed
-      select_named (Narrow r) o = provided (holds_of is_dynamic o) (Some (Dynamic r))
+      select_named (Narrow r) o = provided (is_record_type p.types r) (provided (holds_of is_dynamic o) (Some (Dynamic r)))
 
       -- a call may be made, and what form its result has
       pub call_suits : Call → Bool
@@ -465,9 +504,9 @@ module _ (p : Program) where
       fine (InChar d) = holds_of (takes (changes true)) (named d)
       fine (Invoke c) = call_suits c
       fine (If' _ parts _ other) = fine_branches parts && fine_row other
-      fine (While' _ parts) = fine_branches parts
+      fine (While' _ parts) = has_branch parts && fine_branches parts
       fine (Repeat' _ body x) = fine_row body && gives_number (checked_form x)
-      fine (For' d x y step _ body) = holds_of (takes is_full) (named d) && (gives_number (checked_form x) && (gives_number (checked_form y) && fine_row body))
+      fine (For' d x y step _ body) = is_step step && (holds_of (takes is_full) (named d) && (gives_number (checked_form x) && (gives_number (checked_form y) && fine_row body)))
       fine (Case' x _ parts) = gives_number (checked_form x) && fine_case_parts parts
       fine (CasePointer' x _ parts) = gives_pointer (checked_form x) && fine_type_parts parts
       fine (CaseParameter' d _ parts) = holds_of is_dynamic (named d) && fine_type_parts parts
@@ -482,11 +521,11 @@ module _ (p : Program) where
 
       pub fine_case_parts : {m : _} → Row_of-CasePart m → Bool
       fine_case_parts end_of-CasePart = true
-      fine_case_parts (more_of-CasePart labels _ body rest) = fine_row body && fine_case_parts rest
+      fine_case_parts (more_of-CasePart labels _ body rest) = all label_fine labels && (fine_row body && fine_case_parts rest)
 
       pub fine_type_parts : {m : _} → Row_of-TypePart m → Bool
       fine_type_parts end_of-TypePart = true
-      fine_type_parts (more_of-TypePart r _ body rest) = fine_row body && fine_type_parts rest
+      fine_type_parts (more_of-TypePart r _ body rest) = is_record_type p.types r && (fine_row body && fine_type_parts rest)
 
     -- the expression behind RETURN, where the result has a form
     abbrev pub answer_fine : Option Form → Option Checked → Bool
@@ -494,17 +533,21 @@ module _ (p : Program) where
     answer_fine (Some f) (Some x) = given_for (checked_form x) (Some f)
     answer_fine _ _ = false
 
-  -- a scalar value parameter has one cell
-  abbrev pub formal_fine : Formal → Bool
-  formal_fine x = not (is_value x.mode) || is_some (form_of x.type_number)
-
   -- a procedure by its number
   abbrev pub procedure_fine : ℕ → Bool
-  procedure_fine f = all formal_fine (procedure_of p f).formals && (all (fine f) (procedure_of p f).body && answer_fine f (form_of (procedure_of p f).result) (procedure_of p f).answer)
+  procedure_fine f = all (formal_legal p.types) (procedure_of p f).formals && (all (fine f) (procedure_of p f).body && answer_fine f (form_of (procedure_of p f).result) (procedure_of p f).answer)
 
-  -- a module's body is marked as one, and has no parameters and no variables
+  -- a module's body is marked as one, and has no parameters, no variables and no result
   abbrev pub module_fine : Module → Bool
-  module_fine m = (nat_lt m.body (length p.procedures) && (procedure_of p m.body).is_body) && (is_empty (procedure_of p m.body).formals && is_empty (procedure_of p m.body).locals)
+  module_fine m = (nat_lt m.body (length p.procedures) && (procedure_of p m.body).is_body) && ((is_empty (procedure_of p m.body).formals && is_empty (procedure_of p m.body).locals) && (is_no_kind (kind_of p.types (procedure_of p m.body).result) && no_answer (procedure_of p m.body).answer))
+
+  -- the modules' bodies stand among the procedures in the order of the modules, and no other procedure is marked as one
+  abbrev pub bodies_in_order : Bool
+  bodies_in_order = are_equal (bodies_among 0 p.procedures) (map (λ m. m.body) p.modules)
+
+  -- variables are of types that variables may have, and results of those that results may have
+  abbrev pub variables_fine : Bool
+  variables_fine = all (λ m. all (is_variable_type p.types) m.variables) p.modules && all (λ q. all (is_variable_type p.types) q.locals && is_result_type p.types q.result) p.procedures
 
   -- what is counted: a record type's level is one more than its base's, at most 15; it has the cells that it says; no parameters take over 24
   -- argument words
@@ -521,6 +564,10 @@ module _ (p : Program) where
   abbrev pub counts_fine : Bool
   counts_fine = (all_below (length p.types.records) level_fine && all_below (length p.types.records) cells_fine) && (all (λ g. nat_le (argument_words g.formals) 24) p.types.signatures && all (λ q. nat_le (argument_words q.formals) 24) p.procedures)
 
+  -- all that isn't a procedure or a module's body
+  abbrev pub declarations_fine : Bool
+  declarations_fine = (types_legal p.types && counts_fine) && (variables_fine && bodies_in_order)
+
 -- the whole
 abbrev pub well_formed : Program → Bool
-well_formed p = (types_fine p.types && counts_fine p) && (all (all (λ c. nat_lt c 256)) (texts_of p.procedures) && (all (module_fine p) p.modules && all_below (length p.procedures) (procedure_fine p)))
+well_formed p = (types_fine p.types && declarations_fine p) && (all (all (λ c. nat_lt c 256)) (texts_of p.procedures) && (all (module_fine p) p.modules && all_below (length p.procedures) (procedure_fine p)))
