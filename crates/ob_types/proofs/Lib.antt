@@ -3,3 +3,4 @@ pub mod Counting
 pub mod Growing
 mod Told
 mod Depth
+pub mod WellFormedParts

@@ -1,12 +1,12 @@
 -- What a table of types is in a legal program (Oberon-07 report, section 6): what its entries say is in it, arrays and records are of the sizes
 -- that are allowed, and parameters are handed over as their types are.
-use Rattle.std.specs.Prelude.{ℕ, List, length, Bool, true, false, ◌&&◌, ◌||◌, nat_lt, nat_le, Option, Some, None, is_some}
+use Rattle.std.specs.Prelude.{ℕ, length, Bool, true, false, ◌&&◌, ◌||◌, nat_lt, nat_le, Option, Some, None, is_some}
 use Rattle.ob_types.specs.Table.{Table}
 use Rattle.ob_types.specs.Layout.{kind_of, record_of, types_of, cells}
 use Rattle.ob_types.specs.Forms.{scalar_form, all, all_below, if_base}
 use Rattle.ob_types.specs.declared.types.TypeKind.{TypeKind}
-use Rattle.ob_types.specs.declared.types.TypeKind.TheVariants.{Int, Char, Byte, Array, Nothing}
-use Rattle.ob_types.specs.declared.types.TypeKind.TheVariants.{Bool as Boolean, Set as SetOf, Record as RecordOf, Pointer as PointerTo, Procedure as ProcedureOf}
+use Rattle.ob_types.specs.declared.types.TypeKind.TheVariants.{Array, Nothing}
+use Rattle.ob_types.specs.declared.types.TypeKind.TheVariants.{Record as RecordOf, Pointer as PointerTo, Procedure as ProcedureOf}
 use Rattle.ob_types.specs.declared.types.Mode.{Mode}
 use Rattle.ob_types.specs.declared.types.Mode.TheVariants.{Value, Place, Record, Open}
 use Rattle.ob_types.specs.declared.types.Formal.{Formal}
