@@ -16,12 +16,13 @@ use Rattle.ob_judge.specs.Image as I
 use Rattle.judged_tree.specs.TypeShapes.{shape_of_kind}
 use Rattle.judged_tree.specs.Plain.{plain_designator, plain_checked, plain_statement, plain_statements, plain_branches, plain_case_parts, plain_type_parts, plain_body}
 use Rattle.judged_well.specs.Forms.{Form, Named, gives_number, gives_pointer, is_number, is_small, is_pointer, is_full, is_writable, is_dynamic, changes}
-use Rattle.judged_well.specs.Typing.{designated, checked_form, given_for, scalar_in, takes, points_to, has_record, array_of, may_copy, is_text, length_in, record_written, shape_in, element_in, fine, fine_all, fine_branches, fine_parts}
+use Rattle.judged_well.specs.Typing.{designated, checked_form, given_for, scalar_in, takes, points_to, has_record, array_of, may_copy, is_text, length_in, record_written, shape_in, element_in, fine, fine_all, fine_branches, fine_parts, has_branch}
 use Rattle.judged_well.specs.Typing.{is_byte as is_byte_shape}
 use Rattle.judged_well.specs.OfProgram.{IsFaithful, IsInside}
 use Rattle.judged_well.proofs.Forming.{below_holds, and_both, zero_form, small_form, number_form, record_form, number_is, small_is, pointer_is, set, Relates, given_is}
 use Rattle.judged_well.proofs.Designating.{IsNamed, writable_is, dynamic_is, scalar_named, text_is, has_record_is, byte_is, written_array_is}
 use Rattle.judged_well.proofs.Images.{s_designator, s_checked, s_call, written_length, written_record}
+use Rattle.ob_types.specs.LegalTypes.{is_record_type}
 
 module _ (p : Program) (ok : IsFaithful p.types) (inside : IsInside p) (at : ℕ) where
   abbrev texts : List (List ℕ)
@@ -160,15 +161,19 @@ module _ (p : Program) (ok : IsFaithful p.types) (inside : IsInside p) (at : ℕ
     s_statement (InChar d) h = names d (W.takes p (W.changes true)) (takes (set p ok inside at) (changes true)) (taken (W.changes true) (changes true) (changes_is true)) h
     s_statement (Invoke c) h = s_call p ok inside at c h
     s_statement (If' v branches u other) h = and_both (W.fine_branches p at branches) (fine_branches (set p ok inside at) as_written (plain_branches p.types texts branches)) (W.fine_row p at other) (fine_all (set p ok inside at) as_written (plain_statements p.types texts other)) (s_branches branches) (s_row other) h
-    s_statement (While' v branches) h = s_branches branches h
+    s_statement (While' v branches) h = and_both (W.has_branch branches) (has_branch (plain_branches p.types texts branches)) (W.fine_branches p at branches) (fine_branches (set p ok inside at) as_written (plain_branches p.types texts branches)) (s_has branches) (s_branches branches) h
     s_statement (Repeat' v body x) h = and_both (W.fine_row p at body) (fine_all (set p ok inside at) as_written (plain_statements p.types texts body)) (W.gives_number (W.checked_form p at x)) (gives_number (x_image x)) (s_row body) (numbers x) h
-    s_statement (For' d x y step v body) h = and_both (holds_of (W.takes p W.is_full) (W.named p at d)) (holds_of (takes (set p ok inside at) is_full) (d_image d)) (W.gives_number (W.checked_form p at x) && (W.gives_number (W.checked_form p at y) && W.fine_row p at body)) (gives_number (x_image x) && (gives_number (x_image y) && fine_all (set p ok inside at) as_written (plain_statements p.types texts body)))
+    s_statement (For' d x y step v body) h = and_both (W.is_step step) (W.is_step step) (holds_of (W.takes p W.is_full) (W.named p at d) && (W.gives_number (W.checked_form p at x) && (W.gives_number (W.checked_form p at y) && W.fine_row p at body))) (holds_of (takes (set p ok inside at) is_full) (d_image d) && (gives_number (x_image x) && (gives_number (x_image y) && fine_all (set p ok inside at) as_written (plain_statements p.types texts body)))) (λ i. i) (and_both (holds_of (W.takes p W.is_full) (W.named p at d)) (holds_of (takes (set p ok inside at) is_full) (d_image d)) (W.gives_number (W.checked_form p at x) && (W.gives_number (W.checked_form p at y) && W.fine_row p at body)) (gives_number (x_image x) && (gives_number (x_image y) && fine_all (set p ok inside at) as_written (plain_statements p.types texts body)))
         (names d (W.takes p W.is_full) (takes (set p ok inside at) is_full) (taken W.is_full is_full full_is))
         (and_both (W.gives_number (W.checked_form p at x)) (gives_number (x_image x)) (W.gives_number (W.checked_form p at y) && W.fine_row p at body) (gives_number (x_image y) && fine_all (set p ok inside at) as_written (plain_statements p.types texts body)) (numbers x)
-        (and_both (W.gives_number (W.checked_form p at y)) (gives_number (x_image y)) (W.fine_row p at body) (fine_all (set p ok inside at) as_written (plain_statements p.types texts body)) (numbers y) (s_row body))) h
+        (and_both (W.gives_number (W.checked_form p at y)) (gives_number (x_image y)) (W.fine_row p at body) (fine_all (set p ok inside at) as_written (plain_statements p.types texts body)) (numbers y) (s_row body)))) h
     s_statement (Case' x v parts) h = and_both (W.gives_number (W.checked_form p at x)) (gives_number (x_image x)) (W.fine_case_parts p at parts) (fine_parts (set p ok inside at) as_written (plain_case_parts p.types texts parts)) (numbers x) (s_case_parts parts) h
     s_statement (CasePointer' x v parts) h = and_both (W.gives_pointer (W.checked_form p at x)) (gives_pointer (x_image x)) (W.fine_type_parts p at parts) (fine_parts (set p ok inside at) as_written (plain_type_parts p.types texts parts)) (gives x W.is_pointer is_pointer (pointer_is p.types)) (s_type_parts parts) h
     s_statement (CaseParameter' d v parts) h = and_both (holds_of (W.is_dynamic p) (W.named p at d)) (holds_of is_dynamic (d_image d)) (W.fine_type_parts p at parts) (fine_parts (set p ok inside at) as_written (plain_type_parts p.types texts parts)) (names d (W.is_dynamic p) is_dynamic (dynamic_is p ok inside at)) (s_type_parts parts) h
+
+    s_has : {m : _} → (row : Row_of-Branch m) → has_branch (plain_branches p.types texts row) ≡ true → W.has_branch row ≡ true
+    s_has end_of-Branch h = h
+    s_has (more_of-Branch x v body rest) h = refl
 
     s_row : {m : _} → (row : Row_of-Stmt m) → fine_all (set p ok inside at) as_written (plain_statements p.types texts row) ≡ true → W.fine_row p at row ≡ true
     s_row end_of-Stmt h = refl
@@ -181,11 +186,11 @@ module _ (p : Program) (ok : IsFaithful p.types) (inside : IsInside p) (at : ℕ
 
     s_case_parts : {m : _} → (row : Row_of-CasePart m) → fine_parts (set p ok inside at) as_written (plain_case_parts p.types texts row) ≡ true → W.fine_case_parts p at row ≡ true
     s_case_parts end_of-CasePart h = refl
-    s_case_parts (more_of-CasePart labels v body rest) h = and_both (W.fine_row p at body) (fine_all (set p ok inside at) as_written (plain_statements p.types texts body)) (W.fine_case_parts p at rest) (fine_parts (set p ok inside at) as_written (plain_case_parts p.types texts rest)) (s_row body) (s_case_parts rest) h
+    s_case_parts (more_of-CasePart labels v body rest) h = and_both (all W.label_fine labels) (all W.label_fine labels) (W.fine_row p at body && W.fine_case_parts p at rest) (fine_all (set p ok inside at) as_written (plain_statements p.types texts body) && fine_parts (set p ok inside at) as_written (plain_case_parts p.types texts rest)) (λ i. i) (and_both (W.fine_row p at body) (fine_all (set p ok inside at) as_written (plain_statements p.types texts body)) (W.fine_case_parts p at rest) (fine_parts (set p ok inside at) as_written (plain_case_parts p.types texts rest)) (s_row body) (s_case_parts rest)) h
 
     s_type_parts : {m : _} → (row : Row_of-TypePart m) → fine_parts (set p ok inside at) as_written (plain_type_parts p.types texts row) ≡ true → W.fine_type_parts p at row ≡ true
     s_type_parts end_of-TypePart h = refl
-    s_type_parts (more_of-TypePart r v body rest) h = and_both (W.fine_row p at body) (fine_all (set p ok inside at) as_written (plain_statements p.types texts body)) (W.fine_type_parts p at rest) (fine_parts (set p ok inside at) as_written (plain_type_parts p.types texts rest)) (s_row body) (s_type_parts rest) h
+    s_type_parts (more_of-TypePart r v body rest) h = and_both (is_record_type p.types r) (is_record_type p.types r) (W.fine_row p at body && W.fine_type_parts p at rest) (fine_all (set p ok inside at) as_written (plain_statements p.types texts body) && fine_parts (set p ok inside at) as_written (plain_type_parts p.types texts rest)) (λ i. i) (and_both (W.fine_row p at body) (fine_all (set p ok inside at) as_written (plain_statements p.types texts body)) (W.fine_type_parts p at rest) (fine_parts (set p ok inside at) as_written (plain_type_parts p.types texts rest)) (s_row body) (s_type_parts rest)) h
 
   pub s_body : (body : List Stmt) → fine_all (set p ok inside at) as_written (plain_body p.types texts body) ≡ true → all (W.fine p at) body ≡ true
   s_body [] h = refl

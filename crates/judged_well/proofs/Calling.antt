@@ -423,7 +423,7 @@ module _ (e : Setting) (order : IsOrder e) where
     pointer_takes k r s n (as_whole (Pointer m) w i) is t h =
         let same : m ≡ k = (let z = is in cc) in
         and_from w (holds_of (points_to e (or_zero (e.target m))) (option_map (λ x. ToRecord x) (e.target m))) h
-        (subst (λ o. holds_of (points_to e (or_zero o)) (option_map (λ x. ToRecord x) o) ≡ true) (sym (ap (λ x. e.target x) same ∙ t)) (order.self r))
+        (subst (λ o. holds_of (points_to e (or_zero o)) (option_map (λ x. ToRecord x) o) ≡ true) (sym (ap (λ x. e.target x) same ∙ t)) (and_from (e.is_record r) (e.extends r r) (order.there k r t) (order.self r)))
     pointer_takes k r s n as_done is t h = absurd (let z = is in cc)
     pointer_takes k r s n (as_open a w) is t h = absurd (let z = is in cc)
     pointer_takes k r s n (as_record m) is t h = absurd (let z = is in cc)

@@ -89,6 +89,7 @@ module _ (e : Setting) (p : Source) where
     names = λ q x is seen. own q x is;
     members = members;
     extends = λ a b h. no h;
+    there = λ a b h. no h;
     targets = λ n r h. none_some r h;
     fields = λ r q f h. none_some f h;
     narrowed = λ d n h. none_some n h;

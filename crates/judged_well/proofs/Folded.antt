@@ -216,7 +216,7 @@ module _ (e : Setting) where
     folded (Compare r x y) = compared_folds (comparable r) (λ a b. relation_of r (Bits a) (Bits b)) (formed x) (formed y) (fold x) (fold y)
     folded (In x y) = on_two Truth (λ a b. element_only a (λ z. Some (truth (has b z)))) (λ a b k l. element_folds Truth a (λ z. Some (truth (has b z))) k (λ s. truth_near (has b a))) (formed x) (formed y) (fold x) (fold y) (folded x) (folded y)
     folded (AsByte x) = byte_folds (formed x) (fold x) (folded x)
-    folded (Routine f) = tt
+    folded (Routine f) = nothing (formed (Routine f))
     folded (Load d) = nothing (formed (Load d))
     folded (Guard x r) = nothing (formed (Guard x r))
     folded (CompareTexts r d f) = nothing (formed (CompareTexts r d f))

@@ -1,6 +1,6 @@
 -- A checked tree is well-formed where its image is: by recursion on the tree.
 use Rattle.std.proofs.Common.{◌≡◌, ℕ, zero, suc, ◌+◌, ◌<◌, List, [], ◌∷◌, ◌++◌, length, take, Bool, true, false, ◌&&◌, ◌||◌, ◌==◌, Option, Some, None, refl, sym, ap, ◌∙◌, subst, arith}
-use Rattle.std.specs.Prelude.{if◌then◌else◌, slice_get, slice_index_or, option_map}
+use Rattle.std.specs.Prelude.{if◌then◌else◌, slice_get, slice_index_or, option_map, is_some}
 use Rattle.std.proofs.lemmas.List.{length-append}
 use Rattle.ob_types.specs.declared.types.Mode.{Mode}
 use Rattle.ob_types.specs.declared.types.Mode.TheVariants as TheMode
@@ -31,12 +31,13 @@ use Rattle.ob_judge.specs.Parameters.{mode_of}
 use Rattle.ob_judge.specs.Image as I
 use Rattle.judged_tree.specs.TypeShapes.{formals_shape, shapes_of, shape_of, shape_of_kind}
 use Rattle.judged_tree.specs.Plain.{guarded, pointer_at, text_place, plain_base, plain_expr, plain_links, plain_link, plain_designator, plain_selectors, plain_selector, plain_call, plain_arguments, plain_argument, plain_checked}
-use Rattle.judged_well.specs.Forms.{Form, Truth, Small, Number, ToRecord, Named, Of, OpenOf, Dynamic, Characters, gives_number, gives_truth, gives_pointer, is_number, is_truth, is_pointer, comparable, unary_form, binary_form, is_writable, is_dynamic, pointed}
+use Rattle.judged_well.specs.Forms.{Form, Truth, Small, Number, ToRecord, Named, Of, OpenOf, Dynamic, Characters, gives_number, gives_truth, gives_pointer, is_number, is_truth, is_pointer, comparable, unary_form, binary_form, is_writable, is_dynamic, pointed, Exactly}
 use Rattle.judged_well.specs.Typing.{are_bytes, form, designated, named, pointer, call_suits, call_form, all_suit, argument_suits, checked_form, scalar, scalar_in, of_shape, array_of, has_record, parameter_by, parameter_named, is_text, any_array, length_in, record_written, record_by, open_element, place_suits, record_suits, open_suits, is_shape, value_suits, place_argument, record_argument, open_argument, suits_through, result_through, shape_suits}
 use Rattle.judged_well.specs.OfProgram.{AreFormals, IsFaithful, IsInside}
 use Rattle.judged_well.proofs.Entries.{numbers_there, there_of}
 use Rattle.judged_well.proofs.Forming.{Below, below_provided, below_with, below_holds, and_both, truth_form, small_form, number_form, record_form, routines_form, exactly_form, number_is, truth_is, pointer_is, comparable_is, literal_is, signature_is, set, Relates, given_is, scalar_is, kind_suits_is}
 use Rattle.judged_well.proofs.Designating.{IsNamed, named_done, named_of, named_open, named_dynamic, named_characters, writable_is, dynamic_is, scalar_named, record_of_shape, open_of_shape, array_is, array_some, text_is, any_is, has_record_is, length_is, record_is, of_kind_is}
+use Rattle.ob_types.specs.LegalTypes.{is_record_type}
 
 -- a procedure's k-th use of a string among those of all
 text_at : (qs : List Procedure) (f k : ℕ) (cs : List ℕ) → slice_get (slice_index_or qs f no_procedure).texts k ≡ Some cs → slice_get (texts_of qs) (length (texts_of (take f qs)) + k) ≡ Some cs
@@ -111,7 +112,11 @@ module _ (p : Program) (ok : IsFaithful p.types) (inside : IsInside p) (at : ℕ
       subst (λ m. Below Names (W.parameter_by p m x.type_number x.variable) (parameter_by (mode_of x.variable (shape x.type_number)) (shape x.type_number) x.variable)) (sym h.1) (parameter_mode (mode_of x.variable (shape x.type_number)) x.type_number x.variable h.0)
 
   text_is_there : (k : ℕ) (o : Option (List ℕ)) → slice_get texts k ≡ o → Below Names (with_some (slice_get (texts_of p.procedures) (text_number p at k)) (λ xs. Some (W.Characters (suc (length xs))))) (place (text_place o))
-  text_is_there k None i = tt
+  text_is_there k None i = nothing_below (is_record_type p.types 0)
+    where
+      nothing_below : (b : Bool) → Below Names (with_some (slice_get (texts_of p.procedures) (text_number p at k)) (λ xs. Some (W.Characters (suc (length xs))))) (provided b None)
+      nothing_below true = tt
+      nothing_below false = tt
   text_is_there k (Some cs) i = subst (λ o. Below Names (with_some o (λ xs. Some (W.Characters (suc (length xs))))) (provided (are_bytes cs) (Some (Characters (suc (length cs)))))) (sym (text_at p.procedures at k cs i)) (by (are_bytes cs))
     where
       by : (b : Bool) → Below Names (Some (W.Characters (suc (length cs)))) (provided b (Some (Characters (suc (length cs)))))
@@ -125,15 +130,19 @@ module _ (p : Program) (ok : IsFaithful p.types) (inside : IsInside p) (at : ℕ
   s_base (TheBase.Parameter k) = parameter_is k (slice_get (procedure_of p at).formals k) refl
   s_base (TheBase.Text k) = text_is_there k (slice_get texts k) refl
 
+  -- a record type that is there
+  s_there : {A B : Type 0} (R : A → B → Type 0) (r : ℕ) (o : Option A) (q : Option B) → Below R o q → Below R (provided (is_record_type p.types r) o) (provided (is_record_type p.types r) q)
+  s_there R r o q h = below_provided R (is_record_type p.types r) (is_record_type p.types r) o q (λ i. i) (λ i. h)
+
   -- ---- guards
 
   s_guarded : (tags : List ℕ) (o : Option F.Form) (x : I.Expr) → Below IsOf o (formed x) → Below IsOf (W.guarded_form p tags o) (formed (guarded tags x))
   s_guarded [] o x h = h
-  s_guarded (r ∷ rs) o x h = s_guarded rs (provided (W.gives_pointer o) (Some (F.ToRecord r))) (I.Guard x r) (below_provided IsOf (W.gives_pointer o) (gives_pointer (formed x)) (Some (F.ToRecord r)) (Some (ToRecord r)) (below_holds IsOf o (formed x) W.is_pointer is_pointer h (pointer_is p.types)) (λ i. record_form r))
+  s_guarded (r ∷ rs) o x h = s_guarded rs (provided (is_record_type p.types r) (provided (W.gives_pointer o) (Some (F.ToRecord r)))) (I.Guard x r) (s_there IsOf r (provided (W.gives_pointer o) (Some (F.ToRecord r))) (provided (gives_pointer (formed x)) (Some (ToRecord r))) (below_provided IsOf (W.gives_pointer o) (gives_pointer (formed x)) (Some (F.ToRecord r)) (Some (ToRecord r)) (below_holds IsOf o (formed x) W.is_pointer is_pointer h (pointer_is p.types)) (λ i. record_form r)))
 
   s_followed : (tags : List ℕ) (o : Option F.Form) (x : I.Expr) → Below IsOf o (pointer (set p ok inside at) as_written x) → Below IsOf (W.guarded_form p tags o) (pointer (set p ok inside at) as_written (guarded tags x))
   s_followed [] o x h = h
-  s_followed (r ∷ rs) o x h = s_followed rs (provided (W.gives_pointer o) (Some (F.ToRecord r))) (I.Guard x r) (below_provided IsOf (W.gives_pointer o) (gives_pointer (pointer (set p ok inside at) as_written x)) (Some (F.ToRecord r)) (Some (ToRecord r)) (below_holds IsOf o (pointer (set p ok inside at) as_written x) W.is_pointer is_pointer h (pointer_is p.types)) (λ i. record_form r))
+  s_followed (r ∷ rs) o x h = s_followed rs (provided (is_record_type p.types r) (provided (W.gives_pointer o) (Some (F.ToRecord r)))) (I.Guard x r) (s_there IsOf r (provided (W.gives_pointer o) (Some (F.ToRecord r))) (provided (gives_pointer (pointer (set p ok inside at) as_written x)) (Some (ToRecord r))) (below_provided IsOf (W.gives_pointer o) (gives_pointer (pointer (set p ok inside at) as_written x)) (Some (F.ToRecord r)) (Some (ToRecord r)) (below_holds IsOf o (pointer (set p ok inside at) as_written x) W.is_pointer is_pointer h (pointer_is p.types)) (λ i. record_form r)))
 
   s_pointed : (f : F.Form) (g : Form) → IsOf f g → Below Names (W.pointed f) (pointed g)
   s_pointed f g (record_form r) = named_dynamic r
@@ -207,8 +216,8 @@ module _ (p : Program) (ok : IsFaithful p.types) (inside : IsInside p) (at : ℕ
   s_dereference tags o q h = below_with IsOf Names (W.guarded_form p tags (with_some o (W.scalar_in p))) (pointer (set p ok inside at) as_written (guarded tags (pointer_at q))) W.pointed pointed
       (s_followed tags (with_some o (W.scalar_in p)) (pointer_at q) (below_with Names IsOf o (place q) (W.scalar_in p) (scalar_in (set p ok inside at)) h (scalar_named p ok inside at))) s_pointed
 
-  s_narrow : (r : ℕ) (o : Option W.Named) (q : I.Place) → Below Names o (place q) → Below Names (provided (holds_of (W.is_dynamic p) o) (Some (W.Dynamic r))) (place (I.Narrow q r))
-  s_narrow r o q h = below_provided Names (holds_of (W.is_dynamic p) o) (holds_of is_dynamic (place q)) (Some (W.Dynamic r)) (Some (Dynamic r)) (below_holds Names o (place q) (W.is_dynamic p) is_dynamic h (dynamic_is p ok inside at)) (λ i. named_dynamic r)
+  s_narrow : (r : ℕ) (o : Option W.Named) (q : I.Place) → Below Names o (place q) → Below Names (provided (is_record_type p.types r) (provided (holds_of (W.is_dynamic p) o) (Some (W.Dynamic r)))) (place (I.Narrow q r))
+  s_narrow r o q h = s_there Names r (provided (holds_of (W.is_dynamic p) o) (Some (W.Dynamic r))) (provided (holds_of is_dynamic (place q)) (Some (Dynamic r))) (below_provided Names (holds_of (W.is_dynamic p) o) (holds_of is_dynamic (place q)) (Some (W.Dynamic r)) (Some (Dynamic r)) (below_holds Names o (place q) (W.is_dynamic p) is_dynamic h (dynamic_is p ok inside at)) (λ i. named_dynamic r))
 
   -- ---- arguments, once they are known
 
@@ -311,12 +320,16 @@ module _ (p : Program) (ok : IsFaithful p.types) (inside : IsInside p) (at : ℕ
   result_of f g truth_form = tt
   result_of f g _ = tt
 
+  heading_callable : (b : Bool) (h : Formals × Shape) → is_some (if b then Some h else None) ≡ true → b ≡ true
+  heading_callable true h i = refl
+  heading_callable false h i = i
+
   -- ---- the tree
 
   mutual
     pub s_expr : (x : Expr) → Below IsOf (W.form p at x) (formed (plain_expr p.types texts x))
     s_expr (Literal n) = literal_is p.types n
-    s_expr (Routine f) = exactly_form f
+    s_expr (Routine f) = s_one (callable p f) (is_some ((set p ok inside at).heading f)) (F.Exactly f) (Exactly f) (heading_callable (callable p f) (formals_shape (shapes_of p.types) (procedure_of p f).formals, shape (procedure_of p f).result)) (exactly_form f)
     s_expr (Load d) = below_with Names IsOf (W.named p at d) (designated (set p ok inside at) as_written (plain_designator p.types texts d)) (W.scalar_in p) (scalar_in (set p ok inside at)) (s_designator d) (scalar_named p ok inside at)
     s_expr (Guard d tags) = s_guarded tags (with_some (W.named p at d) (W.scalar_in p)) (I.Load (plain_designator p.types texts d))
         (below_with Names IsOf (W.named p at d) (designated (set p ok inside at) as_written (plain_designator p.types texts d)) (W.scalar_in p) (scalar_in (set p ok inside at)) (s_designator d) (scalar_named p ok inside at))
@@ -328,9 +341,9 @@ module _ (p : Program) (ok : IsFaithful p.types) (inside : IsInside p) (at : ℕ
     s_expr (CompareTexts' r v d u f) = s_two (holds_of (W.is_text p (length_of_kind (kind_in d))) (W.named p at d)) (holds_of (is_text (length_in (set p ok inside at) as_written (plain_designator p.types texts d))) (designated (set p ok inside at) as_written (plain_designator p.types texts d)))
         (holds_of (W.is_text p (length_of_kind (kind_in f))) (W.named p at f)) (holds_of (is_text (length_in (set p ok inside at) as_written (plain_designator p.types texts f))) (designated (set p ok inside at) as_written (plain_designator p.types texts f))) F.Truth Truth (s_text d (s_designator d)) (s_text f (s_designator f)) truth_form
     s_expr (In' v x u y) = s_two (W.gives_number (W.form p at x)) (gives_number (formed (plain_expr p.types texts x))) (W.gives_number (W.form p at y)) (gives_number (formed (plain_expr p.types texts y))) F.Truth Truth (s_number (W.form p at x) (formed (plain_expr p.types texts x)) (s_expr x)) (s_number (W.form p at y) (formed (plain_expr p.types texts y)) (s_expr y)) truth_form
-    s_expr (IsPointer' v x r) = s_one (W.gives_pointer (W.form p at x)) (gives_pointer (formed (plain_expr p.types texts x))) F.Truth Truth (s_pointer (W.form p at x) (formed (plain_expr p.types texts x)) (s_expr x)) truth_form
-    s_expr (IsParameter d r) = s_one (holds_of (W.is_dynamic p) (W.named p at d)) (holds_of is_dynamic (designated (set p ok inside at) as_written (plain_designator p.types texts d))) F.Truth Truth
-        (below_holds Names (W.named p at d) (designated (set p ok inside at) as_written (plain_designator p.types texts d)) (W.is_dynamic p) is_dynamic (s_designator d) (dynamic_is p ok inside at)) truth_form
+    s_expr (IsPointer' v x r) = s_there IsOf r (provided (W.gives_pointer (W.form p at x)) (Some F.Truth)) (provided (gives_pointer (formed (plain_expr p.types texts x))) (Some Truth)) (s_one (W.gives_pointer (W.form p at x)) (gives_pointer (formed (plain_expr p.types texts x))) F.Truth Truth (s_pointer (W.form p at x) (formed (plain_expr p.types texts x)) (s_expr x)) truth_form)
+    s_expr (IsParameter d r) = s_there IsOf r (provided (holds_of (W.is_dynamic p) (W.named p at d)) (Some F.Truth)) (provided (holds_of is_dynamic (designated (set p ok inside at) as_written (plain_designator p.types texts d))) (Some Truth)) (s_one (holds_of (W.is_dynamic p) (W.named p at d)) (holds_of is_dynamic (designated (set p ok inside at) as_written (plain_designator p.types texts d))) F.Truth Truth
+        (below_holds Names (W.named p at d) (designated (set p ok inside at) as_written (plain_designator p.types texts d)) (W.is_dynamic p) is_dynamic (s_designator d) (dynamic_is p ok inside at)) truth_form)
     s_expr (Byte' v x) = s_one (W.gives_number (W.form p at x)) (gives_number (formed (plain_expr p.types texts x))) F.Small Small (s_number (W.form p at x) (formed (plain_expr p.types texts x)) (s_expr x)) small_form
     s_expr (Length d) = s_one (holds_of (W.any_array p (length_of_kind (kind_in d))) (W.named p at d)) (holds_of (any_array (length_in (set p ok inside at) as_written (plain_designator p.types texts d))) (designated (set p ok inside at) as_written (plain_designator p.types texts d))) F.Number Number
         (below_holds Names (W.named p at d) (designated (set p ok inside at) as_written (plain_designator p.types texts d)) (W.any_array p (length_of_kind (kind_in d))) (any_array (length_in (set p ok inside at) as_written (plain_designator p.types texts d))) (s_designator d)

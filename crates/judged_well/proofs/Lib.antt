@@ -10,6 +10,7 @@ mod Reading
 mod Tree
 mod Worlds
 mod Selectors
+mod Labels
 mod Deeds
 mod Statements
 mod Entries

@@ -1,5 +1,5 @@
 -- Names: what they stand for, and as operands.
-use Rattle.std.proofs.Common.{◌≡◌, ℕ, zero, suc, ◌^◌, Bool, true, false, not, ◌||◌, Option, Some, None, refl, sym, ap, ◌∙◌, subst}
+use Rattle.std.proofs.Common.{◌≡◌, ℕ, zero, suc, ◌^◌, Bool, true, false, not, ◌||◌, Option, Some, None, refl, sym, ap, ◌∙◌, subst, ap₂}
 use Rattle.std.specs.Prelude.{nat_lt, is_some, option_map}
 use Rattle.ob_types.specs.WellFormed.{provided, holds_of}
 use Rattle.ob_types.proofs.Tests.{no, none_some, some_same, and_of}
@@ -72,8 +72,8 @@ module _ (e : Setting) (order : IsOrder e) (p : Source) (w : World) (right : Rig
       → IsBegun e (narrowed_to p w x (is_pointer s) (Some (record { variable = d; shape = u; tag = tag })))
   narrowed_begun x b m s u tag d i at (as_whole (Pointer k) c h) (to_pointer n j v t) =
       t_guard e order p w right x b (ap is_pointer i) j tag t (AsVariable false false true) refl (guard_value e order p w right x b.stands (ap is_pointer i) j tag t, refl)
-  narrowed_begun x b m s u tag d i at (as_record r) (to_record k) =
-      place_begun e order p w right (Record tag) (Narrow (place_of x) tag) false true true (Dynamic tag) (ap (λ o. provided (holds_of is_dynamic o) (Some (Dynamic tag))) at) (as_record tag) refl (λ z. refl) (λ z. refl)
+  narrowed_begun x b m s u tag d i at (as_record r) (to_record k there) =
+      place_begun e order p w right (Record tag) (Narrow (place_of x) tag) false true true (Dynamic tag) (ap₂ (λ c o. provided c (provided (holds_of is_dynamic o) (Some (Dynamic tag)))) there at) (as_record tag) refl (λ z. refl) (λ z. refl)
   narrowed_begun x b m s u tag d i at as_done k = elim k [ ]
   narrowed_begun x b m s u tag d i at (as_whole _ w h) k = elim k [ ]
   narrowed_begun x b m s u tag d i at (as_open a w) k = elim k [ ]

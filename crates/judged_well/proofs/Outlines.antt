@@ -1,14 +1,14 @@
 -- An image is well-formed where its outline is.
 use Rattle.std.proofs.Common.{◌≡◌, ℕ, List, Bool, true, ◌&&◌, Option, Some, None, refl, ap, ap₂, ◌∙◌}
 use Rattle.std.specs.Prelude.{slice_get, option_map}
-use Rattle.ob_types.specs.WellFormed.{provided, holds_of, with_some}
+use Rattle.ob_types.specs.WellFormed.{provided, holds_of, with_some, is_step}
 use Rattle.ob_judge.specs.Shapes.{Shape, Pointer, Integer, Formals, none, one, base_of}
 use Rattle.ob_judge.specs.Image.{Expr, Literal, Routine, Load, Guard, Apply, Linked, Compare, CompareTexts, In, IsPointer, IsParameter, AsByte, Length, Result, Link, Operate, And, Or, Element, Elements, Designator, of_type, Place, Done, Global, Local, Parameter, Text, Index, Field, Dereference, Narrow, Call, Direct, Indirect, Arguments, no_argument, next_argument, Argument, ByValue, ByPlace, ByRecord, ByOpen, Checked}
 use Rattle.ob_judge.specs.Image.{Statement, Assign, CopyArray, CopyRecord, Increase, Decrease, Include, Exclude, New, Assert, OutChar, OutInt, OutString, InChar, OutLn, Invoke, If, While, Repeat, For, Case, CasePointer, CaseParameter, Statements, no_statement, next_statement, Branches, no_branch, next_branch, Parts, no_part, next_part}
 use Rattle.judged_tree.specs.Outline.{record_or_zero, outlined_shape, outlined_expr, outlined_link, outlined_designator, outlined_place, outlined_pointer, untyped, outlined_call, outlined_arguments, outlined_argument, outlined_checked, outlined_statement, outlined_statements, outlined_branches, outlined_parts}
 use Rattle.judged_well.specs.Forms.{Form, Zero, Routines, Truth, Small, Number, ToRecord, Of, Dynamic, gives_number, gives_truth, gives_pointer, comparable, unary_form, binary_form, is_writable, is_dynamic, is_small, is_full, changes, pointed}
 use Rattle.judged_well.specs.Setting.{Setting}
-use Rattle.judged_well.specs.Typing.{or_zero, outline, form, link_form, designated, named, pointer, length_in, record_written, shape_in, call_suits, call_form, all_suit, argument_suits, checked_form, scalar, scalar_in, of_shape, array_of, has_record, is_text, any_array, value_suits, place_argument, record_argument, open_argument, record_by, open_element, suits_through, result_through, shape_suits, length_of_shape, record_in, element_in, is_byte, may_copy, takes, points_to, given_for, fine, fine_all, fine_branches, fine_parts}
+use Rattle.judged_well.specs.Typing.{or_zero, outline, form, link_form, designated, named, pointer, length_in, record_written, shape_in, call_suits, call_form, all_suit, argument_suits, checked_form, scalar, scalar_in, of_shape, array_of, has_record, is_text, any_array, value_suits, place_argument, record_argument, open_argument, record_by, open_element, suits_through, result_through, shape_suits, length_of_shape, record_in, element_in, is_byte, may_copy, takes, points_to, given_for, fine, fine_all, fine_branches, fine_parts, has_branch, when_fine}
 use Rattle.judged_well.specs.Typing.{untyped as untyped_form}
 use Rattle.ob_judge.specs.Parameters.{mode_of}
 
@@ -44,14 +44,14 @@ module _ (e : Setting) (bases : List (Option ℕ)) (targets : (n : ℕ) → e.ta
     o_expr (Literal n) = refl
     o_expr (Routine f) = refl
     o_expr (Load d) = ap (λ o. with_some o (scalar_in e)) (o_designator d)
-    o_expr (Guard x r) = ap (λ o. provided (gives_pointer o) (Some (ToRecord r))) (o_expr x)
+    o_expr (Guard x r) = ap (λ o. provided (e.is_record r) (provided (gives_pointer o) (Some (ToRecord r)))) (o_expr x)
     o_expr (Apply op x) = ap (λ o. provided (gives_number o) (Some (unary_form op))) (o_expr x)
     o_expr (Linked x l) = o_link l (form e (outline e) x) (form e as_written (outlined_expr bases x)) (o_expr x)
     o_expr (Compare r x y) = ap₂ (λ o q. with_some o (λ a. with_some q (λ b. provided (comparable r a b) (Some Truth)))) (o_expr x) (o_expr y)
     o_expr (CompareTexts r d f) = ap₂ (λ a b. provided a (provided b (Some Truth))) (ap₂ (λ n o. holds_of (is_text n) o) (o_length d) (o_designator d)) (ap₂ (λ n o. holds_of (is_text n) o) (o_length f) (o_designator f))
     o_expr (In x y) = ap₂ (λ o q. provided (gives_number o) (provided (gives_number q) (Some Truth))) (o_expr x) (o_expr y)
-    o_expr (IsPointer x r) = ap (λ o. provided (gives_pointer o) (Some Truth)) (o_expr x)
-    o_expr (IsParameter d r) = ap (λ o. provided (holds_of is_dynamic o) (Some Truth)) (o_designator d)
+    o_expr (IsPointer x r) = ap (λ o. provided (e.is_record r) (provided (gives_pointer o) (Some Truth))) (o_expr x)
+    o_expr (IsParameter d r) = ap (λ o. provided (e.is_record r) (provided (holds_of is_dynamic o) (Some Truth))) (o_designator d)
     o_expr (AsByte x) = ap (λ o. provided (gives_number o) (Some Small)) (o_expr x)
     o_expr (Length d) = ap (λ b. provided b (Some Number)) (ap₂ (λ n o. holds_of (any_array n) o) (o_length d) (o_designator d))
     o_expr (Result c) = ap₂ (λ b o. provided b o) (o_call c) (o_result c)
@@ -81,11 +81,11 @@ module _ (e : Setting) (bases : List (Option ℕ)) (targets : (n : ℕ) → e.ta
     o_place (Index array n element x) = ap₂ (λ o c. with_some o (λ t. provided (array_of element n t) (provided (gives_number c) (Some (Of element (is_writable t)))))) (o_place array) (o_expr x)
     o_place (Field whole r number) = ap (λ o. with_some o (λ t. provided (has_record e r t) (option_map (λ s. Of s (is_writable t)) (e.field r number)))) (o_place whole)
     o_place (Dereference x) = ap (λ o. with_some o pointed) (o_pointer x)
-    o_place (Narrow place r) = ap (λ o. provided (holds_of is_dynamic o) (Some (Dynamic r))) (o_place place)
+    o_place (Narrow place r) = ap (λ o. provided (e.is_record r) (provided (holds_of is_dynamic o) (Some (Dynamic r)))) (o_place place)
 
     o_pointer : (x : Expr) → pointer e (outline e) x ≡ pointer e as_written (outlined_pointer bases x)
     o_pointer (Load d) = o_untyped d
-    o_pointer (Guard x r) = ap (λ o. provided (gives_pointer o) (Some (ToRecord r))) (o_pointer x)
+    o_pointer (Guard x r) = ap (λ o. provided (e.is_record r) (provided (gives_pointer o) (Some (ToRecord r)))) (o_pointer x)
     o_pointer (Literal n) = refl
     o_pointer _ = refl
 
@@ -145,12 +145,16 @@ module _ (e : Setting) (bases : List (Option ℕ)) (targets : (n : ℕ) → e.ta
     o_statement (InChar d) = ap (λ o. holds_of (takes e (changes true)) o) (o_designator d)
     o_statement (Invoke c) = o_call c
     o_statement (If branches other) = ap₂ (λ a b. a && b) (o_branches branches) (o_statements other)
-    o_statement (While branches) = o_branches branches
+    o_statement (While branches) = ap₂ (λ a b. a && b) (o_has branches) (o_branches branches)
     o_statement (Repeat body x) = ap₂ (λ a b. a && gives_number b) (o_statements body) (o_checked x)
-    o_statement (For d x y step body) = ap₂ (λ a b. holds_of (takes e is_full) a && b) (o_designator d) (ap₂ (λ a b. gives_number a && b) (o_checked x) (ap₂ (λ a b. gives_number a && b) (o_checked y) (o_statements body)))
+    o_statement (For d x y step body) = ap (λ c. is_step step && c) (ap₂ (λ a b. holds_of (takes e is_full) a && b) (o_designator d) (ap₂ (λ a b. gives_number a && b) (o_checked x) (ap₂ (λ a b. gives_number a && b) (o_checked y) (o_statements body))))
     o_statement (Case x parts) = ap₂ (λ a b. gives_number a && b) (o_checked x) (o_parts parts)
     o_statement (CasePointer x parts) = ap₂ (λ a b. gives_pointer a && b) (o_checked x) (o_parts parts)
     o_statement (CaseParameter d parts) = ap₂ (λ a b. holds_of is_dynamic a && b) (o_designator d) (o_parts parts)
+
+    o_has : (bs : Branches) → has_branch bs ≡ has_branch (outlined_branches bases bs)
+    o_has no_branch = refl
+    o_has (next_branch x body rest) = refl
 
     pub o_statements : (xs : Statements) → fine_all e (outline e) xs ≡ fine_all e as_written (outlined_statements bases xs)
     o_statements no_statement = refl
@@ -162,4 +166,4 @@ module _ (e : Setting) (bases : List (Option ℕ)) (targets : (n : ℕ) → e.ta
 
     o_parts : (ps : Parts) → fine_parts e (outline e) ps ≡ fine_parts e as_written (outlined_parts bases ps)
     o_parts no_part = refl
-    o_parts (next_part when body rest) = ap₂ (λ a b. a && b) (o_statements body) (o_parts rest)
+    o_parts (next_part when body rest) = ap (λ c. when_fine e when && c) (ap₂ (λ a b. a && b) (o_statements body) (o_parts rest))

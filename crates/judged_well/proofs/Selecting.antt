@@ -173,14 +173,17 @@ module _ (e : Setting) (order : IsOrder e) (p : Source) (w : World) (right : Rig
   pub t_guard : (x : Operand) → IsBegun e x → is_pointer x.shape ≡ true → (n r : ℕ) → e.target n ≡ Some r → (u : Use) → IsUsed e (Pointer n) u (Valued (Guard (form_of x) r)) → (k : StandsAs e (Pointer n) u (Valued (Guard (form_of x) r))) → IsBegun e (operand (Pointer n) (Valued (Guard (form_of x) r)) u)
   t_guard x b i n r t u used k = record {
     stands = record { does = k; good = ap (λ o. is_some o) t };
-    follows = subst (λ o. FollowsTo e o (pointer e (outline e) (Guard (form_of x) r))) (sym t) (subst (λ c. FollowsTo e (Some r) (provided c (Some (ToRecord r)))) (sym (pointer_followed x b i)) refl);
+    follows = subst (λ o. FollowsTo e o (pointer e (outline e) (Guard (form_of x) r))) (sym t)
+        (subst (λ c. FollowsTo e (Some r) (provided c (provided (gives_pointer (pointer e (outline e) (form_of x))) (Some (ToRecord r))))) (sym (order.there n r t))
+        (subst (λ c. FollowsTo e (Some r) (provided c (Some (ToRecord r)))) (sym (pointer_followed x b i)) refl));
     used = used;
   }
 
   pub guard_value : (x : Operand) → Stands e x → is_pointer x.shape ≡ true → (n r : ℕ) → e.target n ≡ Some r → near_for e (form e (outline e) (Guard (form_of x) r)) (value_form e (Pointer n)) ≡ true
   guard_value x h i n r t =
-      subst (λ c. near_for e (provided c (Some (ToRecord r))) (value_form e (Pointer n)) ≡ true) (sym (pointer_value x h i))
-      (subst (λ o. near_for e (Some (ToRecord r)) (option_map (λ k. ToRecord k) o) ≡ true) (sym t) (order.self r))
+      subst (λ c. near_for e (provided c (provided (gives_pointer (form e (outline e) (form_of x))) (Some (ToRecord r)))) (value_form e (Pointer n)) ≡ true) (sym (order.there n r t))
+      (subst (λ c. near_for e (provided c (Some (ToRecord r))) (value_form e (Pointer n)) ≡ true) (sym (pointer_value x h i))
+      (subst (λ o. near_for e (Some (ToRecord r)) (option_map (λ k. ToRecord k) o) ≡ true) (sym t) (order.self r)))
 
   -- a VAR record parameter, or a guard of one
   abbrev IsTagged : Operand → Type 0
@@ -198,10 +201,14 @@ module _ (e : Setting) (order : IsOrder e) (p : Source) (w : World) (right : Rig
   record_only n (Record r) h = refl
   record_only n _ h = no h
 
+  record_there : (n : ℕ) (s : Shape) → extends w.known (Record n) s ≡ true → e.is_record n ≡ true
+  record_there n (Record r) h = right.there n r h
+  record_there n _ h = no h
+
   -- what a guard or a type test asks for
   abbrev IsAsked : Operand → Shape → ℕ → Type 0
   IsAsked x (Pointer n) r = (is_pointer x.shape ≡ true) × (e.target n ≡ Some r)
-  IsAsked x (Record n) r = IsTagged x × (n ≡ r)
+  IsAsked x (Record n) r = IsTagged x × (n ≡ r) × (e.is_record r ≡ true)
   IsAsked x t r = ⊥
 
   t_asked : (x : Operand) → Stands e x → (t : Shape) (r : ℕ) → tested_tag p w x t ≡ Some r → IsAsked x t r
@@ -212,25 +219,25 @@ module _ (e : Setting) (order : IsOrder e) (p : Source) (w : World) (right : Rig
       by false i k = none_some r k
   t_asked x h (Record n) r is = by (is_tagged x && extends w.known (Record n) x.shape) refl is
     where
-      by : (c : Bool) → (is_tagged x && extends w.known (Record n) x.shape) ≡ c → (if c then Some n else None) ≡ Some r → IsTagged x × (n ≡ r)
-      by true i k = let g = and_of (is_tagged x) (extends w.known (Record n) x.shape) i in (t_tagged x h g.0 (record_only n x.shape g.1), some_same n r k)
+      by : (c : Bool) → (is_tagged x && extends w.known (Record n) x.shape) ≡ c → (if c then Some n else None) ≡ Some r → IsTagged x × (n ≡ r) × (e.is_record r ≡ true)
+      by true i k = let g = and_of (is_tagged x) (extends w.known (Record n) x.shape) i in (t_tagged x h g.0 (record_only n x.shape g.1), some_same n r k, subst (λ j. e.is_record j ≡ true) (some_same n r k) (record_there n x.shape g.1))
       by false i k = none_some r k
   t_asked x h _ r is = none_some r is
 
-  narrow_named : (x : Operand) → IsTagged x → (r : ℕ) → named e (outline e) (Narrow (place_of x) r) ≡ Some (Dynamic r)
-  narrow_named x h r = ap (λ o. provided (holds_of is_dynamic o) (Some (Dynamic r))) h.1 ∙ ap (λ c. provided c (Some (Dynamic r))) h.3
+  narrow_named : (x : Operand) → IsTagged x → (r : ℕ) → e.is_record r ≡ true → named e (outline e) (Narrow (place_of x) r) ≡ Some (Dynamic r)
+  narrow_named x h r there = ap (λ c. provided c (provided (holds_of is_dynamic (named e (outline e) (place_of x))) (Some (Dynamic r)))) there ∙ ap (λ o. provided (holds_of is_dynamic o) (Some (Dynamic r))) h.1 ∙ ap (λ c. provided c (Some (Dynamic r))) h.3
 
   t_guard_of : (x : Operand) → IsBegun e x → (t : Shape) (r : ℕ) → IsAsked x t r → IsBegun e (guard_of p w x t r)
   t_guard_of x b (Pointer n) r h = t_guard x b h.0 n r h.1 AsValue refl (guard_value x b.stands h.0 n r h.1, tt)
-  t_guard_of x b (Record n) r h = place_begun (Record n) (Narrow (place_of x) r) false true false (Dynamic r) (narrow_named x h.0 r) (subst (λ k. Fits (Dynamic r) (Record k)) (sym h.1) (as_record r)) refl (λ z. refl) (λ z. refl)
+  t_guard_of x b (Record n) r h = place_begun (Record n) (Narrow (place_of x) r) false true false (Dynamic r) (narrow_named x h.0 r h.2) (subst (λ k. Fits (Dynamic r) (Record k)) (sym h.1) (as_record r)) refl (λ z. refl) (λ z. refl)
   t_guard_of x b _ r h = absurd h
 
   pub t_guarded : (at : ℕ) (x : Operand) (t : Shape) → IsBegun e x → Gives (IsBegun e) (guarded p w at x t)
   t_guarded at x t b = by_some 31 at (tested_tag p w x t) (λ r is. keeps (IsBegun e) (guard_of p w x t r) (t_guard_of x b t r (t_asked x b.stands t r is)))
 
   t_test_of : (x : Operand) → Stands e x → (t : Shape) (r : ℕ) → IsAsked x t r → form e (outline e) (test_of p w x t r) ≡ Some Truth
-  t_test_of x b (Pointer n) r h = ap (λ c. provided c (Some Truth)) (pointer_value x b h.0)
-  t_test_of x b (Record n) r h = ap (λ o. provided (holds_of is_dynamic o) (Some Truth)) (h.0).2 ∙ ap (λ c. provided c (Some Truth)) (h.0).3
+  t_test_of x b (Pointer n) r h = ap₂ (λ c d. provided c (provided d (Some Truth))) (order.there n r h.1) (pointer_value x b h.0)
+  t_test_of x b (Record n) r h = ap₂ (λ c o. provided c (provided (holds_of is_dynamic o) (Some Truth))) h.2 (h.0).2 ∙ ap (λ c. provided c (Some Truth)) (h.0).3
   t_test_of x b _ r h = absurd h
 
   pub t_tested : (at : ℕ) (x : Operand) (t : Shape) → Stands e x → Gives (Stands e) (tested p w at x t)

@@ -105,7 +105,7 @@ module _ (e : Setting) (order : IsOrder e) (p : Source) (w : World) (right : Rig
   pointer_there tag k c u (to_pointer m j x t) = (j, refl)
 
   record_there : (tag r : ℕ) (u : Shape) → NarrowsTo e tag (Dynamic r) u → (j : ℕ) × (u ≡ Record j)
-  record_there tag r u (to_record k) = (tag, refl)
+  record_there tag r u (to_record k h) = (tag, refl)
 
   kind_of_read : (x : Operand) (m : Named) (s : Shape) → x.shape ≡ s → (is_pointer s ≡ false → (is_dynamic m ≡ true) × (is_tagged x ≡ true)) → Fits m s → (o : Option Narrowing) → ((n : Narrowing) → o ≡ Some n → NarrowsTo e n.tag m n.shape)
       → Kind m (narrowed_to p w x (is_pointer s) o)
@@ -197,7 +197,7 @@ module _ (e : Setting) (order : IsOrder e) (p : Source) (w : World) (right : Rig
       by : (o : Option ℕ) → base_of (slice_get w.known.bases m) ≡ o → based_on w.known o (target_of w.known (Pointer j)) ≡ true → NarrowsTo e (elim o as (λ _. ℕ) [ Some r ↦ r | None ↦ 0 ]) (Of (Pointer k) c) (Pointer m)
       by (Some r) i h = to_pointer k m c (right.targets m r i)
       by None i h = no h
-  t_narrows x n s (Record m) (of_record r j d a b) h = to_record r
+  t_narrows x n s (Record m) (of_record r j d a b) h = to_record r (right.there m j h)
   t_narrows x n s (Pointer m) (of_record r j d a b) h = no h
   t_narrows x n s (Record m) (of_pointer k j c) h = no h
   t_narrows x n s Integer (of_pointer k j c) h = no h

@@ -2,7 +2,7 @@
 use Rattle.std.proofs.Common.{◌≡◌, ℕ, List, ◌++◌, Bool, true, false, ◌&&◌, Option, Some, None, refl}
 use Rattle.std.specs.Prelude.{nat_lt, is_some}
 use Rattle.ob_types.specs.Forms.{all}
-use Rattle.ob_types.specs.WellFormed.{provided, holds_of, with_some}
+use Rattle.ob_types.specs.WellFormed.{provided, holds_of, with_some, is_step}
 use Rattle.ob_types.proofs.Tests.{no, and_of, and_from}
 use Rattle.ob_sound.proofs.Tables.{all_append}
 use Rattle.ob_judge.specs.Shapes.{Shape, Nothing, Formals, none, one}
@@ -15,7 +15,7 @@ use Rattle.ob_judge.specs.Texts.{in_expr, in_link, in_designator, in_place, in_c
 use Rattle.judged_well.specs.Forms.{Form, Zero, Routines, Named, is_number, is_truth, is_pointer, gives_number, gives_truth, gives_pointer}
 use Rattle.judged_well.specs.Setting.{Setting}
 use Rattle.judged_well.specs.Answers.{answer_suits}
-use Rattle.judged_well.specs.Typing.{are_bytes, form, link_form, designated, named, pointer, untyped, call_suits, call_form, suits_through, all_suit, argument_suits, value_suits, place_argument, record_argument, open_argument, given_for, scalar, scalar_in, of_shape, record_by, open_element, record_written, length_in, checked_form, fine, fine_all, fine_branches, fine_parts, outline}
+use Rattle.judged_well.specs.Typing.{are_bytes, form, link_form, designated, named, pointer, untyped, call_suits, call_form, suits_through, all_suit, argument_suits, value_suits, place_argument, record_argument, open_argument, given_for, scalar, scalar_in, of_shape, record_by, open_element, record_written, length_in, checked_form, fine, fine_all, fine_branches, fine_parts, outline, has_branch, when_fine}
 
 is_there : {A : Type 0} (test : A → Bool) (o : Option A) → holds_of test o ≡ true → is_some o ≡ true
 is_there test None h = no h
@@ -89,7 +89,7 @@ module _ (e : Setting) (written : Shape → Shape) where
     b_expr (Literal n) h = refl
     b_expr (Routine f) h = refl
     b_expr (Load d) h = b_designator d (of_with (designated e written d) (scalar_in e) h)
-    b_expr (Guard x r) h = b_expr x (is_there is_pointer (formed x) (of_provided (gives_pointer (formed x)) _ h).0)
+    b_expr (Guard x r) h = b_expr x (is_there is_pointer (formed x) (of_provided (gives_pointer (formed x)) _ (of_provided (e.is_record r) _ h).1).0)
     b_expr (Apply op x) h = b_expr x (numbered x (of_provided (gives_number (formed x)) _ h).0)
     b_expr (Linked x l) h = let k = b_link l (formed x) h in both (in_expr x) (in_link l) (b_expr x k.0) k.1
     b_expr (Compare r x y) h = let k = of_both (formed x) (formed y) _ h in both (in_expr x) (in_expr y) (b_expr x k.0) (b_expr y k.1)
@@ -101,8 +101,8 @@ module _ (e : Setting) (written : Shape → Shape) where
         let k = of_provided (gives_number (formed x)) _ h in
         let l = of_provided (gives_number (formed y)) _ k.1 in
         both (in_expr x) (in_expr y) (b_expr x (numbered x k.0)) (b_expr y (numbered y l.0))
-    b_expr (IsPointer x r) h = b_expr x (is_there is_pointer (formed x) (of_provided (gives_pointer (formed x)) _ h).0)
-    b_expr (IsParameter d r) h = b_designator d (is_there _ (designated e written d) (of_provided (holds_of _ (designated e written d)) _ h).0)
+    b_expr (IsPointer x r) h = b_expr x (is_there is_pointer (formed x) (of_provided (gives_pointer (formed x)) _ (of_provided (e.is_record r) _ h).1).0)
+    b_expr (IsParameter d r) h = b_designator d (is_there _ (designated e written d) (of_provided (holds_of _ (designated e written d)) _ (of_provided (e.is_record r) _ h).1).0)
     b_expr (AsByte x) h = b_expr x (numbered x (of_provided (gives_number (formed x)) _ h).0)
     b_expr (Length d) h = b_designator d (is_there _ (designated e written d) (of_provided (holds_of _ (designated e written d)) _ h).0)
     b_expr (Result c) h = b_call c (of_provided (call_suits e written c) (call_form e written c) h).0
@@ -130,11 +130,11 @@ module _ (e : Setting) (written : Shape → Shape) where
     b_place (Index array n element x) h = let k = b_index (named e written array) _ (gives_number (formed x)) _ h in both (in_place array) (in_expr x) (b_place array k.0) (b_expr x (numbered x k.1))
     b_place (Field whole r number) h = b_place whole (of_with (named e written whole) _ h)
     b_place (Dereference x) h = b_pointer x (of_with (pointer e written x) _ h)
-    b_place (Narrow place r) h = b_place place (is_there _ (named e written place) (of_provided (holds_of _ (named e written place)) _ h).0)
+    b_place (Narrow place r) h = b_place place (is_there _ (named e written place) (of_provided (holds_of _ (named e written place)) _ (of_provided (e.is_record r) _ h).1).0)
 
     b_pointer : (x : Expr) → is_some (pointer e written x) ≡ true → Bytes (in_expr x)
     b_pointer (Load d) h = b_untyped d h
-    b_pointer (Guard x r) h = b_pointer x (is_there is_pointer (pointer e written x) (of_provided (gives_pointer (pointer e written x)) _ h).0)
+    b_pointer (Guard x r) h = b_pointer x (is_there is_pointer (pointer e written x) (of_provided (gives_pointer (pointer e written x)) _ (of_provided (e.is_record r) _ h).1).0)
     b_pointer (Literal n) h = no h
     b_pointer _ h = no h
 
@@ -195,10 +195,10 @@ module _ (e : Setting) (written : Shape → Shape) where
     b_statement (InChar d) h = designated_bytes d _ h
     b_statement (Invoke c) h = b_call c h
     b_statement (If branches other) h = let k = and_of (fine_branches e written branches) (fine_all e written other) h in both (in_branches branches) (in_statements other) (b_branches branches k.0) (b_statements other k.1)
-    b_statement (While branches) h = b_branches branches h
+    b_statement (While branches) h = b_branches branches (and_of (has_branch branches) (fine_branches e written branches) h).1
     b_statement (Repeat body x) h = let k = and_of (fine_all e written body) (gives_number (checked_form e written x)) h in both (in_statements body) (in_expr x.form) (b_statements body k.0) (number_bytes x k.1)
     b_statement (For d x y step body) h =
-        let k = and_of (holds_of _ (designated e written d)) (gives_number (checked_form e written x) && (gives_number (checked_form e written y) && fine_all e written body)) h in
+        let k = and_of (holds_of _ (designated e written d)) (gives_number (checked_form e written x) && (gives_number (checked_form e written y) && fine_all e written body)) (and_of (is_step step) _ h).1 in
         let l = and_of (gives_number (checked_form e written x)) (gives_number (checked_form e written y) && fine_all e written body) k.1 in
         let m = and_of (gives_number (checked_form e written y)) (fine_all e written body) l.1 in
         both (in_designator d ++ in_expr x.form ++ in_expr y.form) (in_statements body)
@@ -220,7 +220,7 @@ module _ (e : Setting) (written : Shape → Shape) where
 
     b_parts : (ps : Parts) → fine_parts e written ps ≡ true → Bytes (in_parts ps)
     b_parts no_part h = refl
-    b_parts (next_part when body rest) h = let k = and_of (fine_all e written body) (fine_parts e written rest) h in both (in_statements body) (in_parts rest) (b_statements body k.0) (b_parts rest k.1)
+    b_parts (next_part when body rest) h = let k = and_of (fine_all e written body) (fine_parts e written rest) (and_of (when_fine e when) (fine_all e written body && fine_parts e written rest) h).1 in both (in_statements body) (in_parts rest) (b_statements body k.0) (b_parts rest k.1)
 
 -- and those of the expression behind RETURN
 pub answer_bytes : (e : Setting) (result : Shape) (o : Option Checked) → answer_suits e result o ≡ true → Bytes (in_answer o)

@@ -1,7 +1,7 @@
 -- Statements: by recursion on their syntax, each construct from its parts.
-use Rattle.std.proofs.Common.{◌≡◌, List, [], true, false, ◌&&◌, Option, Some, None, refl, ap, ◌∙◌}
+use Rattle.std.proofs.Common.{◌≡◌, List, [], true, false, ◌&&◌, Option, Some, None, refl, ap, ◌∙◌, ℕ}
 use Rattle.std.specs.Prelude.{ℤ}
-use Rattle.ob_types.specs.WellFormed.{holds_of}
+use Rattle.ob_types.specs.WellFormed.{holds_of, is_step}
 use Rattle.ob_types.proofs.Tests.{and_from}
 use Rattle.ob_syntax.specs.Syntax as S
 use Rattle.ob_syntax.specs.declared.statements.NextRange.{NextRange}
@@ -9,19 +9,19 @@ use Rattle.ob_syntax.specs.declared.statements.Range.{Range}
 use Rattle.ob_judge.specs.Judged.{Keeps}
 use Rattle.ob_judge.specs.Shapes.{Shape, is_number}
 use Rattle.ob_judge.specs.Operators.{is_char}
-use Rattle.ob_judge.specs.Image.{Checked, Designator, Labels, Extends, Statement, If, While, Repeat, For, Statements, no_statement, next_statement, Branches, no_branch, next_branch, Parts, no_part, next_part}
+use Rattle.ob_judge.specs.Image.{Checked, Designator, Labels, Extends, Statement, If, While, Repeat, For, Statements, no_statement, next_statement, Branches, no_branch, next_branch, Parts, no_part, next_part, When}
 use Rattle.ob_judge.specs.Scopes.{World, Source, place}
 use Rattle.ob_judge.specs.Operands.{Operand, checked, designator_of}
 use Rattle.ob_judge.specs.Symbols.{expression_first, bare}
-use Rattle.ob_judge.specs.Assignments.{integer_variable, step_of}
-use Rattle.ob_judge.specs.Cases.{SelectorOf, OnInteger, OnChar, OnType, case_variable, named_alone, selector_of, as_list, ranges, tag_of, narrow, when_of, case_of}
+use Rattle.ob_judge.specs.Assignments.{integer_variable}
+use Rattle.ob_judge.specs.Cases.{SelectorOf, OnInteger, OnChar, OnType, case_variable, named_alone, selector_of, as_list, tag_of, narrow, when_of, case_of}
 use Rattle.ob_judge.specs.Statements.{statements, statement, next_statements, branches, else_part, case_part, next_cases, body_of}
 use Rattle.judged_well.specs.Gives.{Gives}
 use Rattle.judged_well.specs.Forms.{Named, is_dynamic, is_full, gives_number, gives_pointer}
 use Rattle.judged_well.specs.Setting.{Setting, IsOrder}
-use Rattle.judged_well.specs.Typing.{outline, designated, takes, checked_form, fine, fine_all, fine_branches, fine_parts}
-use Rattle.judged_well.specs.Standing.{IsRead, Stands, Right}
-use Rattle.judged_well.proofs.Judging.{keeps, and_then, by_rule, by_some, anything, gives_both}
+use Rattle.judged_well.specs.Typing.{outline, designated, takes, checked_form, fine, fine_all, fine_branches, fine_parts, when_fine}
+use Rattle.judged_well.specs.Standing.{IsRead, Stands, Right, NarrowsTo, to_pointer, to_record}
+use Rattle.judged_well.proofs.Judging.{keeps, and_then, by_rule, by_some, gives_both}
 use Rattle.judged_well.proofs.Naming.{t_named}
 use Rattle.judged_well.proofs.Operating.{pointers, char_value}
 use Rattle.judged_well.proofs.Storing.{checked_is}
@@ -30,6 +30,7 @@ use Rattle.judged_well.proofs.Tree.{t_expression}
 use Rattle.judged_well.proofs.Worlds.{right_narrow}
 use Rattle.judged_well.proofs.Selectors.{IsCase, of_pointer, of_record, IsSelector, t_selector, t_type_labels, t_narrows}
 use Rattle.judged_well.proofs.Deeds.{t_assign_or_call, t_condition, number_checked, t_number, t_integer_variable}
+use Rattle.judged_well.proofs.Labels.{t_ranges, t_step}
 
 module _ (e : Setting) (order : IsOrder e) (p : Source) (read : IsRead p) where
   abbrev IsFineAll : Statements → Type 0
@@ -65,20 +66,29 @@ module _ (e : Setting) (order : IsOrder e) (p : Source) (read : IsRead p) where
       by n s (of_record r m q a b) is = and_from (holds_of is_dynamic (designated e (outline e) (designator_of x))) (fine_parts e (outline e) parts) (ap (holds_of is_dynamic) a ∙ b) k
 
   -- the world of a part's body
-  t_when : (w : World) → (right : Right e p w) → (x : Operand) (s : SelectorOf) → IsSelector e order p w right x s → (taken : List (ℤ × ℤ)) (first : Range) (more : List NextRange) → Gives (λ r. Right e p r.1) (when_of p w s taken first more)
-  t_when w right x OnInteger i taken first more = and_then (anything (ranges p w false (as_list first more) taken)) (λ y z. keeps (λ r. Right e p r.1) (Labels y.labels, w, y.taken) right)
-  t_when w right x OnChar i taken first more = and_then (anything (ranges p w true (as_list first more) taken)) (λ y z. keeps (λ r. Right e p r.1) (Labels y.labels, w, y.taken) right)
+  abbrev IsWhen : When × World × List (ℤ × ℤ) → Type 0
+  IsWhen r = (when_fine e r.0 ≡ true) × Right e p r.1
+
+  narrowing_there : (tag : ℕ) (n : Named) (t : Shape) → NarrowsTo e tag n t → e.is_record tag ≡ true
+  narrowing_there tag n t (to_pointer k m c h) = order.there m tag h
+  narrowing_there tag n t (to_record r h) = h
+
+  t_when : (w : World) → (right : Right e p w) → (x : Operand) (s : SelectorOf) → IsSelector e order p w right x s → (taken : List (ℤ × ℤ)) (first : Range) (more : List NextRange) → Gives IsWhen (when_of p w s taken first more)
+  t_when w right x OnInteger i taken first more = and_then (t_ranges e order p read w right false (as_list first more) taken) (λ y h. keeps IsWhen (Labels y.labels, w, y.taken) (h, right))
+  t_when w right x OnChar i taken first more = and_then (t_ranges e order p read w right true (as_list first more) taken) (λ y h. keeps IsWhen (Labels y.labels, w, y.taken) (h, right))
   t_when w right x (OnType d s) i taken first more = and_then (t_type_labels e order p w right s first more) (λ t h.
-      keeps (λ r. Right e p r.1) (Extends (tag_of p w.known t), narrow p w d t, taken)
-      (right_narrow p e w right d t i.names_it i.are (t_narrows e order p w right x i.names_it s t i.case h) i.own))
+      let to = t_narrows e order p w right x i.names_it s t i.case h in
+      keeps IsWhen (Extends (tag_of p w.known t), narrow p w d t, taken)
+      (narrowing_there (tag_of p w.known t) i.names_it t to, right_narrow p e w right d t i.names_it i.are to i.own))
 
   one_branch : (g : Checked) (b : Statements) (more : Branches) → gives_number (checked_form e (outline e) g) ≡ true → IsFineAll b → AreBranches more → AreBranches (next_branch g b more)
   one_branch g b more h k l = and_from (gives_number (checked_form e (outline e) g)) (fine_all e (outline e) b && fine_branches e (outline e) more) h (and_from (fine_all e (outline e) b) (fine_branches e (outline e) more) k l)
 
-  for_fine : (d : Designator) (x y : Checked) (step : ℤ) (b : Statements) → holds_of (takes e is_full) (designated e (outline e) d) ≡ true → gives_number (checked_form e (outline e) x) ≡ true → gives_number (checked_form e (outline e) y) ≡ true → IsFineAll b → fine e (outline e) (For d x y step b) ≡ true
-  for_fine d x y step b h k l m =
-      and_from (holds_of (takes e is_full) (designated e (outline e) d)) (gives_number (checked_form e (outline e) x) && (gives_number (checked_form e (outline e) y) && fine_all e (outline e) b)) h
-      (and_from (gives_number (checked_form e (outline e) x)) (gives_number (checked_form e (outline e) y) && fine_all e (outline e) b) k (and_from (gives_number (checked_form e (outline e) y)) (fine_all e (outline e) b) l m))
+  for_fine : (d : Designator) (x y : Checked) (step : ℤ) (b : Statements) → is_step step ≡ true → holds_of (takes e is_full) (designated e (outline e) d) ≡ true → gives_number (checked_form e (outline e) x) ≡ true → gives_number (checked_form e (outline e) y) ≡ true → IsFineAll b → fine e (outline e) (For d x y step b) ≡ true
+  for_fine d x y step b g h k l m =
+      and_from (is_step step) (holds_of (takes e is_full) (designated e (outline e) d) && (gives_number (checked_form e (outline e) x) && (gives_number (checked_form e (outline e) y) && fine_all e (outline e) b))) g
+      (and_from (holds_of (takes e is_full) (designated e (outline e) d)) (gives_number (checked_form e (outline e) x) && (gives_number (checked_form e (outline e) y) && fine_all e (outline e) b)) h
+      (and_from (gives_number (checked_form e (outline e) x)) (gives_number (checked_form e (outline e) y) && fine_all e (outline e) b) k (and_from (gives_number (checked_form e (outline e) y)) (fine_all e (outline e) b) l m)))
 
   mutual
     pub t_statements : (w : World) → Right e p w → (x : S.Stats) → Gives IsFineAll (statements p w x)
@@ -106,8 +116,8 @@ module _ (e : Setting) (order : IsOrder e) (p : Source) (read : IsRead p) where
         and_then (t_named e order p w right variable) (λ o h. and_then (t_expression e order p read w right from) (λ x k.
         by_some 31 (place p variable) (integer_variable p w o) (λ d is.
         by_rule 31 (place p (expression_first from)) (is_number x.shape) (λ n.
-        and_then (t_number e order p read w right to) (λ y l. and_then (anything (step_of p w by_)) (λ step z. and_then (t_statements w right body) (λ b m.
-        put (For d (checked x) y step b) (for_fine d (checked x) y step b (t_integer_variable e order p read w right o h d is) (number_checked e order p read w right x k n) l m))))))))
+        and_then (t_number e order p read w right to) (λ y l. and_then (t_step e order p read w right by_) (λ step z. and_then (t_statements w right body) (λ b m.
+        put (For d (checked x) y step b) (for_fine d (checked x) y step b z (t_integer_variable e order p read w right o h d is) (number_checked e order p read w right x k n) l m))))))))
 
     t_next_statements : (w : World) → Right e p w → (x : S.NextStats) → Gives IsFineAll (next_statements p w x)
     t_next_statements w right S.no_stat = keeps IsFineAll no_statement refl
@@ -124,8 +134,8 @@ module _ (e : Setting) (order : IsOrder e) (p : Source) (read : IsRead p) where
 
     t_case_part : (w : World) → (right : Right e p w) → (x : Operand) (s : SelectorOf) → IsSelector e order p w right x s → (taken : List (ℤ × ℤ)) → (c : S.MaybeCase) → Gives PutsParts (case_part p w s taken c)
     t_case_part w right x s i taken S.no_case = keeps PutsParts ((λ rest. rest), taken) (λ ps h. h)
-    t_case_part w right x s i taken (S.one_case first more colon body) = and_then (t_when w right x s i taken first more) (λ r inner. and_then (t_statements r.1 inner body) (λ b k.
-        keeps PutsParts (next_part r.0 b, r.2) (λ ps h. and_from (fine_all e (outline e) b) (fine_parts e (outline e) ps) k h)))
+    t_case_part w right x s i taken (S.one_case first more colon body) = and_then (t_when w right x s i taken first more) (λ r inner. and_then (t_statements r.1 inner.1 body) (λ b k.
+        keeps PutsParts (next_part r.0 b, r.2) (λ ps h. and_from (when_fine e r.0) (fine_all e (outline e) b && fine_parts e (outline e) ps) inner.0 (and_from (fine_all e (outline e) b) (fine_parts e (outline e) ps) k h))))
 
     t_next_cases : (w : World) → (right : Right e p w) → (x : Operand) (s : SelectorOf) → IsSelector e order p w right x s → (taken : List (ℤ × ℤ)) → (c : S.NextCases) → Gives AreParts (next_cases p w s taken c)
     t_next_cases w right x s i taken S.no_next_case = keeps AreParts no_part refl

@@ -1,6 +1,6 @@
 -- Forms of values and of places, from what an operand stands for.
 use Rattle.std.proofs.Common.{◌≡◌, ℕ, zero, suc, ◌<◌, ◌^◌, List, [], ◌∷◌, length, Bool, true, false, Option, Some, None, refl, sym, ap, ◌∙◌, subst, arith}
-use Rattle.std.specs.Prelude.{nat_lt, option_map}
+use Rattle.std.specs.Prelude.{nat_lt, option_map, is_some}
 use Rattle.std.proofs.lemmas.Bool.Decides.{nat_tests}
 use Rattle.ob_types.specs.Forms.{all}
 use Rattle.ob_types.specs.WellFormed.{provided, holds_of, with_some}
@@ -153,6 +153,7 @@ module _ (e : Setting) where
     value_as s u (Code f l) h g i =
         let ps = h.0 in
         let r = h.1 in
-        subst (λ k. near e (Exactly f) k ≡ true) (some_same (Routines ps r) g (ap (value_form e) (sym h.2) ∙ i))
-        (subst (λ o. holds_of (is_heading ps r) o ≡ true) (sym h.3) (and_from (same_formals ps ps) (same r r) (formals-self ps) (same-self r)))
+        subst (λ o. near_for e (provided (is_some o) (Some (Exactly f))) (Some g) ≡ true) (sym h.3)
+        (subst (λ k. near e (Exactly f) k ≡ true) (some_same (Routines ps r) g (ap (value_form e) (sym h.2) ∙ i))
+        (subst (λ o. holds_of (is_heading ps r) o ≡ true) (sym h.3) (and_from (same_formals ps ps) (same r r) (formals-self ps) (same-self r))))
     value_as s u (Proper d) h g i = none_some g (ap (value_form e) (sym h.0) ∙ i)

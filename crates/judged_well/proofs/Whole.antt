@@ -1,6 +1,6 @@
 -- What the judgement makes of a body, and the checked program's.
-use Rattle.std.proofs.Common.{◌≡◌, ℕ, List, true, false, not, Option, Some, None, refl, sym, ap, ◌∙◌, subst}
-use Rattle.std.specs.Prelude.{is_some, option_map}
+use Rattle.std.proofs.Common.{◌≡◌, ℕ, List, true, false, not, Option, Some, None, refl, sym, ap, ◌∙◌, subst, zero, suc, ◌<◌, [], ◌∷◌, length, arith}
+use Rattle.std.specs.Prelude.{is_some, option_map, nat_lt, slice_get, slice_index_or}
 use Rattle.ob_types.specs.declared.types.TypeKind.{TypeKind}
 use Rattle.ob_types.specs.declared.types.TypeKind.TheVariants as TheKind
 use Rattle.ob_types.specs.declared.statements.Checked.{Checked}
@@ -15,7 +15,7 @@ use Rattle.ob_types.proofs.Tests.{no, none_some, some_same, and_of}
 use Rattle.ob_sound.proofs.Tables.{extends_self, extends_trans}
 use Rattle.ob_syntax.specs.Syntax as S
 use Rattle.ob_judge.specs.Judged.{Judged, Keeps}
-use Rattle.ob_judge.specs.Shapes.{Shape, Nothing, is_scalar, assignable}
+use Rattle.ob_judge.specs.Shapes.{Shape, Nothing, is_scalar, assignable, base_of}
 use Rattle.ob_judge.specs.Image.{Statements}
 use Rattle.ob_judge.specs.Image.{Checked as CheckedImage}
 use Rattle.ob_judge.specs.Scopes.{World, Source, place}
@@ -50,6 +50,9 @@ use Rattle.ob_judge.specs.Shapes.{Integer}
 use Rattle.judged_well.specs.Standing.{near_for}
 use Rattle.judged_well.specs.Standing.{value_form}
 use Rattle.ob_judge.specs.Operands.{form as form_in_operand}
+use Rattle.std.proofs.lemmas.Bool.Decides.{nat_tests}
+use Rattle.ob_types.specs.LegalTypes.{is_record_type}
+use Rattle.ob_types.specs.Table.{Table}
 
 kept : {A : Type 0} (P : A → Type 0) (m : Judged A) → Gives P m → (a : A) → m ≡ Keeps a → P a
 kept P m g a is = (subst (Gives P) is g).holds
@@ -79,8 +82,28 @@ module _ (e : Setting) (order : IsOrder e) (p : Source) (read : IsRead p) (w : W
 
 -- ---- beside a program
 
-pub order_of : (p : Program) → types_fine p.types ≡ true → (at : ℕ) → IsOrder (setting_of p at)
-order_of p fine at = record { self = extends_self p.types fine; through = extends_trans p.types fine }
+less_test : (n m : ℕ) → n < m → nat_lt n m ≡ true
+less_test n m l = grind (arith, nat_tests)
+
+-- what pointer types point to is there
+targets_there : (t : Table) (ks : List TypeKind) → ((k r : ℕ) → slice_get ks k ≡ Some (TheKind.Pointer r) → r < length t.records) → (n r : ℕ) → base_of (slice_get (pointer_bases ks) n) ≡ Some r → is_record_type t r ≡ true
+targets_there t [] f n r h = none_some r h
+targets_there t (TheKind.Pointer q ∷ ks) f zero r h = less_test r (length t.records) (f zero r (ap (λ x. Some (TheKind.Pointer x)) (some_same q r h)))
+targets_there t (TheKind.Pointer q ∷ ks) f (suc n) r h = targets_there t ks (λ k x at. f (suc k) x at) n r h
+targets_there t (TheKind.Int ∷ ks) f n r h = targets_there t ks (λ k x at. f (suc k) x at) n r h
+targets_there t (_ ∷ ks) f n r h = targets_there t ks (λ k x at. f (suc k) x at) n r h
+
+kind_at : (ks : List TypeKind) (k : ℕ) (kind : TypeKind) → slice_get ks k ≡ Some kind → slice_index_or ks k TheKind.Nothing ≡ kind
+kind_at [] k kind h = none_some kind h
+kind_at (x ∷ ks) zero kind h = some_same x kind h
+kind_at (x ∷ ks) (suc k) kind h = kind_at ks k kind h
+
+pub order_of : (p : Program) → IsFaithful p.types → types_fine p.types ≡ true → (at : ℕ) → IsOrder (setting_of p at)
+order_of p ok fine at = record {
+  self = extends_self p.types fine;
+  through = extends_trans p.types fine;
+  there = targets_there p.types p.types.kinds (λ k r h. ok.target k r (kind_at p.types.kinds k (TheKind.Pointer r) h));
+}
 
 module _ (p : Program) (ok : IsFaithful p.types) (inside : IsInside p) (at : ℕ) where
   abbrev e : Setting
@@ -111,7 +134,7 @@ module _ (p : Program) (ok : IsFaithful p.types) (inside : IsInside p) (at : ℕ
   pub expression_formed : types_fine p.types ≡ true → (s : Source) → IsRead s → (w : World) → Right e s w → (x : S.Expression) (o : Operand) → expression s w x ≡ Keeps o → is_plain o.shape ≡ true
       → (t : Checked) → plain_checked p.types texts t ≡ outlined_checked bases (checked o) → is_some (W.checked_form p at t) ≡ true
   expression_formed fine s read w right x o is plain t at_t =
-      let order = order_of p fine at in
+      let order = order_of p ok fine at in
       let h = kept (Stands e) (expression s w x) (t_expression e order s read w right x) o is in
       there (W.checked_form p at t) (checked_form e (outline e) (checked o)) (checked_below t (checked o) at_t)
       (ap is_some (checked_is e order o h plain) ∙ near_some (form e (outline e) (form_in_operand o)) (value_form e o.shape) (plain_value e order o h plain))
@@ -119,7 +142,7 @@ module _ (p : Program) (ok : IsFaithful p.types) (inside : IsInside p) (at : ℕ
   pub statements_fine : types_fine p.types ≡ true → (s : Source) → IsRead s → (w : World) → Right e s w → (x : S.Stats) (xs : Statements) → statements s w x ≡ Keeps xs
       → (body : List Stmt) → plain_body p.types texts body ≡ outlined_statements bases xs → all (W.fine p at) body ≡ true
   statements_fine fine s read w right x xs is body at_body =
-      body_fine body xs at_body (kept (λ ys. fine_all e (outline e) ys ≡ true) (statements s w x) (t_statements e (order_of p fine at) s read w right x) xs is)
+      body_fine body xs at_body (kept (λ ys. fine_all e (outline e) ys ≡ true) (statements s w x) (t_statements e (order_of p ok fine at) s read w right x) xs is)
 
   -- no form, no value
   no_form : (k : ℕ) → shape_of p.types k ≡ Nothing → W.form_of p k ≡ None
@@ -159,4 +182,4 @@ module _ (p : Program) (ok : IsFaithful p.types) (inside : IsInside p) (at : ℕ
       → (end_word : ℕ) (r : Option S.Returned) (c : Option CheckedImage) → answer s (shape_of p.types k) end_word r w ≡ Keeps c
       → (o : Option Checked) → option_map (plain_checked p.types texts) o ≡ option_map (outlined_checked bases) c → W.answer_fine p at (W.form_of p k) o ≡ true
   answers_fine fine s read w right k result kind end_word r c is o at_o =
-      answer_fine k o c at_o (kept (λ x. answer_suits e (shape_of p.types k) x ≡ true) (answer s (shape_of p.types k) end_word r w) (t_answer e (order_of p fine at) s read w right (shape_of p.types k) result kind end_word r) c is)
+      answer_fine k o c at_o (kept (λ x. answer_suits e (shape_of p.types k) x ≡ true) (answer s (shape_of p.types k) end_word r w) (t_answer e (order_of p ok fine at) s read w right (shape_of p.types k) result kind end_word r) c is)

@@ -59,6 +59,7 @@ module _ (p : Source) where
           names = right.names;
           members = λ m q x is. let h = right.members m q x (names_alike w v refl m q ∙ is) in (h.0, unnarrowed v x.object h.1, h.2);
           extends = right.extends;
+          there = right.there;
           targets = right.targets;
           fields = right.fields;
           narrowed = λ d n is. right.narrowed d n (narrowing_alike w v d w.narrowed ∙ is);
@@ -77,6 +78,7 @@ module _ (p : Source) where
           names = right.names;
           members = λ m q x at. let h = right.members m q x (names_alike w v refl m q ∙ at) in (h.0, unnarrowed x.object h.1 h.2, h.2);
           extends = right.extends;
+          there = right.there;
           targets = right.targets;
           fields = right.fields;
           narrowed = λ c k at. by c k (is_place p v c d) refl at;

@@ -8,6 +8,7 @@ use Rattle.ob_types.specs.declared.program.Program.{Program}
 use Rattle.ob_types.specs.Layout.{kind_of, record_of, types_of}
 use Rattle.ob_types.specs.Layout.{extends as extends_record}
 use Rattle.ob_types.specs.Meaning.{procedure_of, globals_of, locals_of}
+use Rattle.ob_types.specs.LegalTypes.{is_record_type}
 use Rattle.ob_types.specs.WellFormed.{callable}
 use Rattle.ob_types.specs.Table.{Table}
 use Rattle.ob_judge.specs.Shapes.{Nil, Nothing, base_of}
@@ -19,6 +20,7 @@ use Rattle.judged_well.specs.Setting.{Setting}
 abbrev pub setting_of : Program → (here : ℕ) → Setting
 setting_of p here = record {
   extends = extends_record p.types;
+  is_record = is_record_type p.types;
   target = λ n. base_of (slice_get (pointer_bases p.types.kinds) n);
   field = λ r i. option_map (shape_of p.types) (slice_get (types_of (record_of p.types r).fields) i);
   global = λ m v. option_map (shape_of p.types) (slice_get (globals_of p m) v);
@@ -43,6 +45,7 @@ module _ (t : Table) where
     pub front : IsFromTheFront t
     pub shapes : HasOneShapeEach t
     pub element : (k : ℕ) (n : Option ℕ) (e : ℕ) → kind_of t k ≡ TheKind.Array n e → shape_of t e ≡ Nothing → ⊥
+    pub target : (k r : ℕ) → kind_of t k ≡ TheKind.Pointer r → r < length t.records
     pub field : (r i k : ℕ) → slice_get (types_of (record_of t r).fields) i ≡ Some k → k < length t.kinds
     pub formals : (g : ℕ) (x : Signature) → slice_get t.signatures g ≡ Some x → AreFormals x.formals
     pub result : (g : ℕ) (x : Signature) → slice_get t.signatures g ≡ Some x → IsResult x.result

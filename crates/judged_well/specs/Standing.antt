@@ -191,7 +191,7 @@ module _ (e : Setting) where
   -- the variable in a part of a CASE on types
   pub data NarrowsTo (tag : ℕ) : Named → Shape → Type 0 where
     to_pointer : (k m : ℕ) → (w : Bool) → e.target m ≡ Some tag → NarrowsTo tag (Of (Pointer k) w) (Pointer m)
-    to_record : (r : ℕ) → NarrowsTo tag (Dynamic r) (Record tag)
+    to_record : (r : ℕ) → e.is_record tag ≡ true → NarrowsTo tag (Dynamic r) (Record tag)
 
   pub record NarrowStands (d : Place) (n : Narrowing) : Type 0 where
     pub names : Named
@@ -239,6 +239,7 @@ module _ (e : Setting) where
     pub names : (name : List ℕ) (x : Entry) → look_up name w.levels ≡ Some x → is_visible w.procedure x.object ≡ true → ObjectStands x.object × IsOwn w x.object
     pub members : (m : Imported) (name : List ℕ) (x : Entry) → names_of p w m name ≡ Some x → ObjectStands x.object × IsUnnarrowed p w x.object × IsForeign w x.object
     pub extends : (a b : ℕ) → record_extends w.known a b ≡ true → e.extends a b ≡ true
+    pub there : (a b : ℕ) → record_extends w.known a b ≡ true → e.is_record a ≡ true
     pub targets : (n r : ℕ) → base_of (slice_get w.known.bases n) ≡ Some r → e.target n ≡ Some r
     pub fields : (r : ℕ) (name : List ℕ) (f : FieldOf) → fields_in (slice_get w.known.records r) name ≡ Some f → FieldStands r f
     pub narrowed : (d : Place) (n : Narrowing) → narrowing_of p w d w.narrowed ≡ Some n → NarrowStands d n

@@ -1,14 +1,14 @@
 -- When an image is well-formed, as ob_types says it of checked trees (its specs/WellFormed.antt), clause by clause.
-use Rattle.std.specs.Prelude.{ℕ, suc, ◌^◌, length, Bool, true, false, ◌&&◌, ◌||◌, ◌==◌, nat_lt, Option, Some, None, option_map, List}
+use Rattle.std.specs.Prelude.{ℕ, suc, ◌^◌, length, Bool, true, false, ◌&&◌, ◌||◌, ◌==◌, nat_lt, Option, Some, None, option_map, List, is_some}
 use Rattle.ob_types.specs.declared.types.Mode.{Mode}
 use Rattle.ob_types.specs.declared.types.Mode.TheVariants as TheMode
 use Rattle.ob_types.specs.Forms.{all}
-use Rattle.ob_types.specs.WellFormed.{provided, holds_of, with_some}
+use Rattle.ob_types.specs.WellFormed.{provided, holds_of, with_some, is_step, label_fine}
 use Rattle.ob_judge.specs.Shapes.{Shape, Integer, Boolean, Char, Byte, Set, Nil, Nothing, Array, Open, Record, Pointer, Procedure, Formals, none, one, same, same_formals}
 use Rattle.ob_judge.specs.Shapes.{Text as TextShape}
 use Rattle.ob_judge.specs.Parameters.{mode_of}
 use Rattle.ob_judge.specs.Image.{Expr, Literal, Routine, Load, Guard, Apply, Linked, Compare, CompareTexts, In, IsPointer, IsParameter, AsByte, Length, Result, Link, Operate, And, Or, Element, Elements, Designator, of_type, Place, Done, Global, Local, Parameter, Text, Index, Field, Dereference, Narrow, Call, Direct, Indirect, Arguments, no_argument, next_argument, Argument, ByValue, ByPlace, ByRecord, ByOpen, Checked}
-use Rattle.ob_judge.specs.Image.{Statement, Assign, CopyArray, CopyRecord, Increase, Decrease, Include, Exclude, New, Assert, OutChar, OutInt, OutString, InChar, OutLn, Invoke, If, While, Repeat, For, Case, CasePointer, CaseParameter, Statements, no_statement, next_statement, Branches, no_branch, next_branch, Parts, no_part, next_part}
+use Rattle.ob_judge.specs.Image.{Statement, Assign, CopyArray, CopyRecord, Increase, Decrease, Include, Exclude, New, Assert, OutChar, OutInt, OutString, InChar, OutLn, Invoke, If, While, Repeat, For, Case, CasePointer, CaseParameter, Statements, no_statement, next_statement, Branches, no_branch, next_branch, Parts, no_part, next_part, When, Labels, Extends}
 use Rattle.judged_well.specs.Forms.{Form, Zero, Truth, Small, Number, ToRecord, Routines, Exactly, Named, InDone, Of, OpenOf, Dynamic, Characters, Elementary, OfType, Letter, is_small, is_zero, is_full, gives_number, gives_truth, gives_pointer, comparable, literal, unary_form, binary_form, changes, is_writable, is_dynamic, pointed}
 use Rattle.judged_well.specs.Setting.{Setting}
 
@@ -123,7 +123,17 @@ open_suits a false n d = array_of a n d
 abbrev pub is_heading : Formals → Shape → Formals × Shape → Bool
 is_heading ps s h = same_formals h.0 ps && same h.1 s
 
+-- a WHILE has some condition
+abbrev pub has_branch : Branches → Bool
+has_branch no_branch = false
+has_branch (next_branch x body rest) = true
+
 module _ (e : Setting) where
+  -- when a part of a CASE is done
+  abbrev pub when_fine : When → Bool
+  when_fine (Labels labels) = all label_fine labels
+  when_fine (Extends r) = e.is_record r
+
   -- a declared procedure is of a procedure type
   abbrev pub is_of_type : ℕ → Formals → Shape → Bool
   is_of_type f ps s = holds_of (is_heading ps s) (e.heading f)
@@ -240,7 +250,7 @@ module _ (e : Setting) where
 
   -- NEW's record is what the pointer wants
   abbrev pub points_to : ℕ → Form → Bool
-  points_to r (ToRecord b) = e.extends r b
+  points_to r (ToRecord b) = e.is_record r && e.extends r b
   points_to r _ = false
 
   abbrev pub matched : Formals → (Bool → Shape → Bool) → (Formals → Bool) → Bool
@@ -257,16 +267,16 @@ module _ (e : Setting) where
       -- the form of an expression's value, where it has one
       pub form : Expr → Option Form
       form (Literal n) = literal n
-      form (Routine f) = Some (Exactly f)
+      form (Routine f) = provided (is_some (e.heading f)) (Some (Exactly f))
       form (Load d) = with_some (designated d) scalar_in
-      form (Guard x r) = provided (gives_pointer (form x)) (Some (ToRecord r))
+      form (Guard x r) = provided (e.is_record r) (provided (gives_pointer (form x)) (Some (ToRecord r)))
       form (Apply op x) = provided (gives_number (form x)) (Some (unary_form op))
       form (Linked x l) = link_form l (form x)
       form (Compare r x y) = with_some (form x) (λ a. with_some (form y) (λ b. provided (comparable r a b) (Some Truth)))
       form (CompareTexts r d f) = provided (holds_of (is_text (length_in d)) (designated d)) (provided (holds_of (is_text (length_in f)) (designated f)) (Some Truth))
       form (In x s) = provided (gives_number (form x)) (provided (gives_number (form s)) (Some Truth))
-      form (IsPointer x r) = provided (gives_pointer (form x)) (Some Truth)
-      form (IsParameter d r) = provided (holds_of is_dynamic (designated d)) (Some Truth)
+      form (IsPointer x r) = provided (e.is_record r) (provided (gives_pointer (form x)) (Some Truth))
+      form (IsParameter d r) = provided (e.is_record r) (provided (holds_of is_dynamic (designated d)) (Some Truth))
       form (AsByte x) = provided (gives_number (form x)) (Some Small)
       form (Length d) = provided (holds_of (any_array (length_in d)) (designated d)) (Some Number)
       form (Result c) = provided (call_suits c) (call_form c)
@@ -291,12 +301,12 @@ module _ (e : Setting) where
       named (Index array n element x) = with_some (named array) (λ t. provided (array_of element n t) (provided (gives_number (form x)) (Some (Of element (is_writable t)))))
       named (Field whole r number) = with_some (named whole) (λ t. provided (has_record r t) (option_map (λ s. Of s (is_writable t)) (e.field r number)))
       named (Dereference x) = with_some (pointer x) pointed
-      named (Narrow place r) = provided (holds_of is_dynamic (named place)) (Some (Dynamic r))
+      named (Narrow place r) = provided (e.is_record r) (provided (holds_of is_dynamic (named place)) (Some (Dynamic r)))
 
       -- the form of a pointer that is followed: a variable, whatever type is written beside it, or a guard of one
       pub pointer : Expr → Option Form
       pointer (Load d) = untyped d
-      pointer (Guard x r) = provided (gives_pointer (pointer x)) (Some (ToRecord r))
+      pointer (Guard x r) = provided (e.is_record r) (provided (gives_pointer (pointer x)) (Some (ToRecord r)))
       pointer _ = None
 
       pub untyped : Designator → Option Form
@@ -352,9 +362,9 @@ module _ (e : Setting) where
       fine (InChar d) = holds_of (takes (changes true)) (designated d)
       fine (Invoke c) = call_suits c
       fine (If branches other) = fine_branches branches && fine_all other
-      fine (While branches) = fine_branches branches
+      fine (While branches) = has_branch branches && fine_branches branches
       fine (Repeat body x) = fine_all body && gives_number (checked_form x)
-      fine (For d x y step body) = holds_of (takes is_full) (designated d) && (gives_number (checked_form x) && (gives_number (checked_form y) && fine_all body))
+      fine (For d x y step body) = is_step step && (holds_of (takes is_full) (designated d) && (gives_number (checked_form x) && (gives_number (checked_form y) && fine_all body)))
       fine (Case x parts) = gives_number (checked_form x) && fine_parts parts
       fine (CasePointer x parts) = gives_pointer (checked_form x) && fine_parts parts
       fine (CaseParameter d parts) = holds_of is_dynamic (designated d) && fine_parts parts
@@ -369,4 +379,4 @@ module _ (e : Setting) where
 
       pub fine_parts : Parts → Bool
       fine_parts no_part = true
-      fine_parts (next_part when body rest) = fine_all body && fine_parts rest
+      fine_parts (next_part when body rest) = when_fine when && (fine_all body && fine_parts rest)
