@@ -379,3 +379,10 @@ stringcall b v = record { types = record { kinds = (Char ∷ (Array None 0) ∷ 
 
 pub stringcall_formed : (b : Box (Unit {0}) Heap) (v : Vec (Unit {0}) Heap) → well_formed (stringcall b v) ≡ true
 stringcall_formed b v = refl
+
+-- MODULE Z; TYPE R = RECORD END; VAR a: ARRAY 1048576, 1048576 OF R; PROCEDURE P; VAR b: ARRAY 1048576 OF R; BEGIN b[1048575] := a[0][1] END P; BEGIN P END Z.
+abbrev emptiest : Outside Program
+emptiest b v = record { types = record { kinds = ((RecordKind 0) ∷ (Array (Some 1048576) 0) ∷ (Array (Some 1048576) 1) ∷ Nothing ∷ []); records = (record { «module» = 0; base = None; level = 0; fields = []; cells = 0 } ∷ []); signatures = [] }; modules = (record { name = []; objects = []; variables = (2 ∷ []); body = 1 } ∷ []); procedures = (record { «module» = 0; line = 1; is_body = false; formals = []; result = 3; locals = (1 ∷ []); texts = []; body = ((CopyRecord (Part' (Local 0) (RecordKind 0) (vec1 v) (more_of-Selector (Index (Some 1048576) 0 (Literal 1048575)) end_of-Selector)) (Part' (Global 0 0) (RecordKind 0) (vec2 v) (more_of-Selector (Index (Some 1048576) 1 (Literal 0)) (more_of-Selector (Index (Some 1048576) 0 (Literal 1)) end_of-Selector)))) ∷ []); answer = None } ∷ record { «module» = 0; line = 1; is_body = true; formals = []; result = 3; locals = []; texts = []; body = ((Invoke (Direct' 0 (vec0 v) end_of-Argument)) ∷ []); answer = None } ∷ []); imports_in = false }
+
+pub emptiest_formed : (b : Box (Unit {0}) Heap) (v : Vec (Unit {0}) Heap) → well_formed (emptiest b v) ≡ true
+emptiest_formed b v = refl

@@ -1,5 +1,5 @@
 -- Worked programs: their checked trees, and what holds of them. Written by bench/checked_rows.py from their texts.
-use Rattle.std.specs.Prelude.{◌≡◌, [], ◌∷◌, true, false, Some, None, Vec, Box}
+use Rattle.std.specs.Prelude.{◌≡◌, [], ◌∷◌, true, false, Some, None, pos, Vec, Box}
 use Rattle.std.proofs.Common.{refl, arith}
 use Rattle.std.specs.Fmt.{digits}
 use Rattle.std.specs.declared.alloc.Global.{Global as Heap}
@@ -7,20 +7,21 @@ use Rattle.run_laws.specs.Runs.{Trapped}
 use Rattle.ob_types.specs.Store.{Senseless}
 use Rattle.ob_types.specs.Meaning.{meaning}
 use Rattle.ob_types.specs.WellFormed.{well_formed}
-use Rattle.ob_types.specs.declared.types.TypeKind.TheVariants.{Int, Char, Array, Nothing}
+use Rattle.ob_types.specs.declared.types.TypeKind.TheVariants.{Int, Char, Nil, Array, Nothing}
 use Rattle.ob_types.specs.declared.types.TypeKind.TheVariants.{Bool as BoolKind, Byte as ByteKind, Text as TextKind, Record as RecordKind, Pointer as PointerKind, Procedure as ProcedureKind}
-use Rattle.ob_types.specs.declared.types.Mode.TheVariants.{Value as OfValue, Open as OfOpen}
+use Rattle.ob_types.specs.declared.types.Mode.TheVariants.{Value as OfValue, Record as OfRecord, Open as OfOpen}
 use Rattle.ob_types.specs.declared.tree.Unary.TheVariants.{Negate, Not}
 use Rattle.ob_types.specs.declared.tree.Binary.TheVariants.{Add, Subtract, Multiply, Div, Mod}
 use Rattle.ob_types.specs.declared.tree.Relation.TheVariants.{Equal, Unequal, Less, Greater}
 use Rattle.ob_types.specs.declared.tree.Base.TheVariants.{Global, Local, Parameter, Text}
-use Rattle.ob_types.specs.declared.tree.Expr.{Literal, Routine, Load, Guard, Unary', Chain', Compare', CompareTexts', IsPointer', Byte', Call', end_of-Link, more_of-Link}
+use Rattle.ob_types.specs.declared.tree.Expr.{Literal, Routine, Load, Guard, Unary', Chain', Compare', CompareTexts', IsPointer', IsParameter, Byte', Call', end_of-Link, more_of-Link}
 use Rattle.ob_types.specs.declared.tree.Link.{Operate, And}
 use Rattle.ob_types.specs.declared.tree.Designator.{Whole, Part', end_of-Selector, more_of-Selector}
-use Rattle.ob_types.specs.declared.tree.Selector.{Index}
+use Rattle.ob_types.specs.declared.tree.Selector.{Index, Field, Dereference, Narrow}
 use Rattle.ob_types.specs.declared.tree.Call.{Direct', Indirect', end_of-Argument, more_of-Argument}
-use Rattle.ob_types.specs.declared.tree.Argument.{ByValue, ByOpen}
-use Rattle.ob_types.specs.declared.statements.Stmt.{Assign, CopyArray, Increase, New, Assert, OutChar, OutInt, OutString, OutLn, If', end_of-Stmt, more_of-Stmt, end_of-Branch, more_of-Branch}
+use Rattle.ob_types.specs.declared.tree.Argument.{ByValue, ByRecord, ByOpen}
+use Rattle.ob_types.specs.declared.statements.Label.TheVariants.{One, Range}
+use Rattle.ob_types.specs.declared.statements.Stmt.{Assign, CopyArray, Increase, New, Assert, OutChar, OutInt, OutString, OutLn, If', While', For', Case', CasePointer', CaseParameter', end_of-Stmt, more_of-Stmt, end_of-Branch, more_of-Branch, end_of-CasePart, more_of-CasePart, end_of-TypePart, more_of-TypePart}
 use Rattle.ob_types.specs.declared.statements.Stmt.{Call as Invoke}
 use Rattle.ob_types.specs.declared.program.Program.{Program}
 
@@ -33,6 +34,12 @@ vec0 v = record { ptr = v.ptr; len = 0; cap = 0; alloc = v.alloc; items = []; ok
 
 abbrev vec1 : Vec (Unit {0}) Heap → Vec (Unit {0}) Heap
 vec1 v = record { ptr = v.ptr; len = 1; cap = 1; alloc = v.alloc; items = tt ∷ []; ok = (refl, omega arith); small = omega arith }
+
+abbrev vec2 : Vec (Unit {0}) Heap → Vec (Unit {0}) Heap
+vec2 v = record { ptr = v.ptr; len = 2; cap = 2; alloc = v.alloc; items = tt ∷ tt ∷ []; ok = (refl, omega arith); small = omega arith }
+
+abbrev vec3 : Vec (Unit {0}) Heap → Vec (Unit {0}) Heap
+vec3 v = record { ptr = v.ptr; len = 3; cap = 3; alloc = v.alloc; items = tt ∷ tt ∷ tt ∷ []; ok = (refl, omega arith); small = omega arith }
 
 -- MODULE M; IMPORT Out; BEGIN Out.Int(6*7, 0); Out.Ln END M.
 abbrev literal : Outside Program
@@ -248,3 +255,199 @@ unmarked b v = record { types = record { kinds = (Nothing ∷ []); records = [];
 
 pub unmarked_not : (b : Box (Unit {0}) Heap) (v : Vec (Unit {0}) Heap) → well_formed (unmarked b v) ≡ false
 unmarked_not b v = refl
+
+-- MODULE W; BEGIN WHILE TRUE DO END END W.
+abbrev no_condition : Outside Program
+no_condition b v = record { types = record { kinds = (Nothing ∷ []); records = []; signatures = [] }; modules = (record { name = []; objects = []; variables = []; body = 0 } ∷ []); procedures = (record { «module» = 0; line = 1; is_body = true; formals = []; result = 0; locals = []; texts = []; body = ((While' (vec0 v) end_of-Branch) ∷ []); answer = None } ∷ []); imports_in = false }
+
+pub no_condition_not : (b : Box (Unit {0}) Heap) (v : Vec (Unit {0}) Heap) → well_formed (no_condition b v) ≡ false
+no_condition_not b v = refl
+
+-- MODULE A; PROCEDURE Twice*(x: INTEGER): INTEGER; BEGIN RETURN 2*x END Twice; END A. === MODULE B; IMPORT A, Out; BEGIN Out.Int(A.Twice(21), 0); Out.Ln END B.
+abbrev silent : Outside Program
+silent b v = record { types = record { kinds = (Int ∷ Nothing ∷ []); records = []; signatures = [] }; modules = (record { name = []; objects = []; variables = []; body = 1 } ∷ record { name = []; objects = []; variables = []; body = 2 } ∷ []); procedures = (record { «module» = 0; line = 1; is_body = false; formals = (record { mode = OfValue; variable = false; type_number = 0 } ∷ []); result = 0; locals = []; texts = []; body = []; answer = (Some (record { form = (Chain' b (Literal 2) (vec1 v) (more_of-Link (Operate Multiply (Load (Whole (Local 0) Int))) end_of-Link)); kind = Int })) } ∷ record { «module» = 0; line = 1; is_body = true; formals = []; result = 0; locals = []; texts = []; body = []; answer = (Some (record { form = (Literal 2); kind = Int })) } ∷ record { «module» = 1; line = 1; is_body = true; formals = []; result = 1; locals = []; texts = []; body = ((OutInt (record { form = (Call' b (Direct' 0 (vec1 v) (more_of-Argument (ByValue (Literal 21)) end_of-Argument))); kind = Int }) (record { form = (Literal 0); kind = Int })) ∷ OutLn ∷ []); answer = None } ∷ []); imports_in = false }
+
+pub silent_not : (b : Box (Unit {0}) Heap) (v : Vec (Unit {0}) Heap) → well_formed (silent b v) ≡ false
+silent_not b v = refl
+
+-- MODULE M; IMPORT Out; BEGIN Out.Int(6*7, 0); Out.Ln END M.
+abbrev no_value : Outside Program
+no_value b v = record { types = record { kinds = (Nothing ∷ []); records = []; signatures = [] }; modules = (record { name = []; objects = []; variables = []; body = 0 } ∷ []); procedures = (record { «module» = 0; line = 1; is_body = true; formals = []; result = 0; locals = []; texts = []; body = ((Assert (record { form = (Compare' Equal b (Routine 0) b (Routine 0)); kind = BoolKind })) ∷ OutLn ∷ []); answer = None } ∷ []); imports_in = false }
+
+pub no_value_not : (b : Box (Unit {0}) Heap) (v : Vec (Unit {0}) Heap) → well_formed (no_value b v) ≡ false
+no_value_not b v = refl
+
+-- MODULE A; PROCEDURE Twice*(x: INTEGER): INTEGER; BEGIN RETURN 2*x END Twice; END A. === MODULE B; IMPORT A, Out; BEGIN Out.Int(A.Twice(21), 0); Out.Ln END B.
+abbrev swapped : Outside Program
+swapped b v = record { types = record { kinds = (Int ∷ Nothing ∷ []); records = []; signatures = [] }; modules = (record { name = []; objects = []; variables = []; body = 2 } ∷ record { name = []; objects = []; variables = []; body = 1 } ∷ []); procedures = (record { «module» = 0; line = 1; is_body = false; formals = (record { mode = OfValue; variable = false; type_number = 0 } ∷ []); result = 0; locals = []; texts = []; body = []; answer = (Some (record { form = (Chain' b (Literal 2) (vec1 v) (more_of-Link (Operate Multiply (Load (Whole (Local 0) Int))) end_of-Link)); kind = Int })) } ∷ record { «module» = 0; line = 1; is_body = true; formals = []; result = 1; locals = []; texts = []; body = []; answer = None } ∷ record { «module» = 1; line = 1; is_body = true; formals = []; result = 1; locals = []; texts = []; body = ((OutInt (record { form = (Call' b (Direct' 0 (vec1 v) (more_of-Argument (ByValue (Literal 21)) end_of-Argument))); kind = Int }) (record { form = (Literal 0); kind = Int })) ∷ OutLn ∷ []); answer = None } ∷ []); imports_in = false }
+
+pub swapped_not : (b : Box (Unit {0}) Heap) (v : Vec (Unit {0}) Heap) → well_formed (swapped b v) ≡ false
+swapped_not b v = refl
+
+-- MODULE A; PROCEDURE Twice*(x: INTEGER): INTEGER; BEGIN RETURN 2*x END Twice; END A. === MODULE B; IMPORT A, Out; BEGIN Out.Int(A.Twice(21), 0); Out.Ln END B.
+abbrev twice : Outside Program
+twice b v = record { types = record { kinds = (Int ∷ Nothing ∷ []); records = []; signatures = [] }; modules = (record { name = []; objects = []; variables = []; body = 1 } ∷ record { name = []; objects = []; variables = []; body = 1 } ∷ []); procedures = (record { «module» = 0; line = 1; is_body = false; formals = (record { mode = OfValue; variable = false; type_number = 0 } ∷ []); result = 0; locals = []; texts = []; body = []; answer = (Some (record { form = (Chain' b (Literal 2) (vec1 v) (more_of-Link (Operate Multiply (Load (Whole (Local 0) Int))) end_of-Link)); kind = Int })) } ∷ record { «module» = 0; line = 1; is_body = true; formals = []; result = 1; locals = []; texts = []; body = []; answer = None } ∷ record { «module» = 1; line = 1; is_body = true; formals = []; result = 1; locals = []; texts = []; body = ((OutInt (record { form = (Call' b (Direct' 0 (vec1 v) (more_of-Argument (ByValue (Literal 21)) end_of-Argument))); kind = Int }) (record { form = (Literal 0); kind = Int })) ∷ OutLn ∷ []); answer = None } ∷ []); imports_in = false }
+
+pub twice_not : (b : Box (Unit {0}) Heap) (v : Vec (Unit {0}) Heap) → well_formed (twice b v) ≡ false
+twice_not b v = refl
+
+-- MODULE F; IMPORT Out; VAR i: INTEGER; BEGIN FOR i := 6 TO 0 BY -2 DO Out.Int(i, 0) END; Out.Int(i, 0) END F.
+abbrev stands : Outside Program
+stands b v = record { types = record { kinds = (Int ∷ Nothing ∷ []); records = []; signatures = [] }; modules = (record { name = []; objects = []; variables = (0 ∷ []); body = 0 } ∷ []); procedures = (record { «module» = 0; line = 1; is_body = true; formals = []; result = 1; locals = []; texts = []; body = ((For' (Whole (Global 0 0) Int) (record { form = (Literal 6); kind = Int }) (record { form = (Literal 0); kind = Int }) (pos 0) (vec1 v) (more_of-Stmt (OutInt (record { form = (Load (Whole (Global 0 0) Int)); kind = Int }) (record { form = (Literal 0); kind = Int })) end_of-Stmt)) ∷ (OutInt (record { form = (Load (Whole (Global 0 0) Int)); kind = Int }) (record { form = (Literal 0); kind = Int })) ∷ []); answer = None } ∷ []); imports_in = false }
+
+pub stands_not : (b : Box (Unit {0}) Heap) (v : Vec (Unit {0}) Heap) → well_formed (stands b v) ≡ false
+stands_not b v = refl
+
+-- MODULE F; IMPORT Out; VAR i: INTEGER; BEGIN FOR i := 6 TO 0 BY -2 DO Out.Int(i, 0) END; Out.Int(i, 0) END F.
+abbrev leaps : Outside Program
+leaps b v = record { types = record { kinds = (Int ∷ Nothing ∷ []); records = []; signatures = [] }; modules = (record { name = []; objects = []; variables = (0 ∷ []); body = 0 } ∷ []); procedures = (record { «module» = 0; line = 1; is_body = true; formals = []; result = 1; locals = []; texts = []; body = ((For' (Whole (Global 0 0) Int) (record { form = (Literal 6); kind = Int }) (record { form = (Literal 0); kind = Int }) (pos 9223372036854775808) (vec1 v) (more_of-Stmt (OutInt (record { form = (Load (Whole (Global 0 0) Int)); kind = Int }) (record { form = (Literal 0); kind = Int })) end_of-Stmt)) ∷ (OutInt (record { form = (Load (Whole (Global 0 0) Int)); kind = Int }) (record { form = (Literal 0); kind = Int })) ∷ []); answer = None } ∷ []); imports_in = false }
+
+pub leaps_not : (b : Box (Unit {0}) Heap) (v : Vec (Unit {0}) Heap) → well_formed (leaps b v) ≡ false
+leaps_not b v = refl
+
+-- MODULE G; TYPE B = RECORD END; E = RECORD (B) x: INTEGER END; F = RECORD (E) END; PB = POINTER TO B; PE = POINTER TO E; PF = POINTER TO F; VAR p: PB; e: PE; f: PF; BEGIN ASSERT(~(p IS PE)); NEW(e); p := e; e := p(PE); NEW(f); p := f; e := p(PE); ASSERT(p IS PF); NEW(p); e := p(PE) END G.
+abbrev tested_for_none : Outside Program
+tested_for_none b v = record { types = record { kinds = ((RecordKind 0) ∷ (RecordKind 1) ∷ (RecordKind 2) ∷ (PointerKind 0) ∷ (PointerKind 1) ∷ (PointerKind 2) ∷ Nothing ∷ Int ∷ []); records = (record { «module» = 0; base = None; level = 0; fields = []; cells = 0 } ∷ record { «module» = 0; base = (Some 0); level = 1; fields = (record { name = []; exported = false; type_number = 7 } ∷ []); cells = 1 } ∷ record { «module» = 0; base = (Some 1); level = 2; fields = []; cells = 1 } ∷ []); signatures = [] }; modules = (record { name = []; objects = []; variables = (3 ∷ 4 ∷ 5 ∷ []); body = 0 } ∷ []); procedures = (record { «module» = 0; line = 1; is_body = true; formals = []; result = 6; locals = []; texts = []; body = ((Assert (record { form = (Unary' Not b (IsPointer' b (Load (Whole (Global 0 0) (PointerKind 0))) 3)); kind = BoolKind })) ∷ (New (Whole (Global 0 1) (PointerKind 1))) ∷ (Assign (Whole (Global 0 0) (PointerKind 0)) (record { form = (Load (Whole (Global 0 1) (PointerKind 1))); kind = (PointerKind 1) })) ∷ (Assign (Whole (Global 0 1) (PointerKind 1)) (record { form = (Guard (Whole (Global 0 0) (PointerKind 0)) (1 ∷ [])); kind = (PointerKind 1) })) ∷ (New (Whole (Global 0 2) (PointerKind 2))) ∷ (Assign (Whole (Global 0 0) (PointerKind 0)) (record { form = (Load (Whole (Global 0 2) (PointerKind 2))); kind = (PointerKind 2) })) ∷ (Assign (Whole (Global 0 1) (PointerKind 1)) (record { form = (Guard (Whole (Global 0 0) (PointerKind 0)) (1 ∷ [])); kind = (PointerKind 1) })) ∷ (Assert (record { form = (IsPointer' b (Load (Whole (Global 0 0) (PointerKind 0))) 2); kind = BoolKind })) ∷ (New (Whole (Global 0 0) (PointerKind 0))) ∷ (Assign (Whole (Global 0 1) (PointerKind 1)) (record { form = (Guard (Whole (Global 0 0) (PointerKind 0)) (1 ∷ [])); kind = (PointerKind 1) })) ∷ []); answer = None } ∷ []); imports_in = false }
+
+pub tested_for_none_not : (b : Box (Unit {0}) Heap) (v : Vec (Unit {0}) Heap) → well_formed (tested_for_none b v) ≡ false
+tested_for_none_not b v = refl
+
+-- MODULE T; IMPORT Out; TYPE B = RECORD x: INTEGER END; E = RECORD (B) y: INTEGER END; PE = POINTER TO E; VAR b: B; e: E; p: PE; PROCEDURE Kind(VAR r: B); BEGIN CASE r OF E: Out.Char(''E''); r.y := 5; r.x := 6 | B: Out.Char(''B'') END; IF r IS E THEN Out.Int(r(E).y, 0) END END Kind; PROCEDURE Pass(VAR r: B); BEGIN Kind(r) END Pass; BEGIN Kind(b); Kind(e); Pass(e); NEW(p); Pass(p^); Out.Int(p.x, 0); Pass(b) END T.
+abbrev asked_for_none : Outside Program
+asked_for_none b v = record { types = record { kinds = ((RecordKind 0) ∷ (RecordKind 1) ∷ (PointerKind 1) ∷ Nothing ∷ Int ∷ []); records = (record { «module» = 0; base = None; level = 0; fields = (record { name = []; exported = false; type_number = 4 } ∷ []); cells = 1 } ∷ record { «module» = 0; base = (Some 0); level = 1; fields = (record { name = []; exported = false; type_number = 4 } ∷ []); cells = 2 } ∷ []); signatures = [] }; modules = (record { name = []; objects = []; variables = (0 ∷ 1 ∷ 2 ∷ []); body = 2 } ∷ []); procedures = (record { «module» = 0; line = 1; is_body = false; formals = (record { mode = OfRecord; variable = true; type_number = 0 } ∷ []); result = 3; locals = []; texts = []; body = ((CaseParameter' (Whole (Parameter 0) (RecordKind 0)) (vec2 v) (more_of-TypePart 1 (vec3 v) (more_of-Stmt (OutChar (record { form = (Literal 69); kind = Char })) (more_of-Stmt (Assign (Part' (Parameter 0) Int (vec2 v) (more_of-Selector (Narrow 1) (more_of-Selector (Field 1 0) end_of-Selector))) (record { form = (Literal 5); kind = Int })) (more_of-Stmt (Assign (Part' (Parameter 0) Int (vec2 v) (more_of-Selector (Narrow 1) (more_of-Selector (Field 0 0) end_of-Selector))) (record { form = (Literal 6); kind = Int })) end_of-Stmt))) (more_of-TypePart 0 (vec1 v) (more_of-Stmt (OutChar (record { form = (Literal 66); kind = Char })) end_of-Stmt) end_of-TypePart))) ∷ (If' (vec1 v) (more_of-Branch (record { form = (IsParameter (Whole (Parameter 0) (RecordKind 0)) 2); kind = BoolKind }) (vec1 v) (more_of-Stmt (OutInt (record { form = (Load (Part' (Parameter 0) Int (vec2 v) (more_of-Selector (Narrow 1) (more_of-Selector (Field 1 0) end_of-Selector)))); kind = Int }) (record { form = (Literal 0); kind = Int })) end_of-Stmt) end_of-Branch) (vec0 v) end_of-Stmt) ∷ []); answer = None } ∷ record { «module» = 0; line = 1; is_body = false; formals = (record { mode = OfRecord; variable = true; type_number = 0 } ∷ []); result = 3; locals = []; texts = []; body = ((Invoke (Direct' 0 (vec1 v) (more_of-Argument (ByRecord (Whole (Parameter 0) (RecordKind 0))) end_of-Argument))) ∷ []); answer = None } ∷ record { «module» = 0; line = 1; is_body = true; formals = []; result = 3; locals = []; texts = []; body = ((Invoke (Direct' 0 (vec1 v) (more_of-Argument (ByRecord (Whole (Global 0 0) (RecordKind 0))) end_of-Argument))) ∷ (Invoke (Direct' 0 (vec1 v) (more_of-Argument (ByRecord (Whole (Global 0 1) (RecordKind 1))) end_of-Argument))) ∷ (Invoke (Direct' 1 (vec1 v) (more_of-Argument (ByRecord (Whole (Global 0 1) (RecordKind 1))) end_of-Argument))) ∷ (New (Whole (Global 0 2) (PointerKind 1))) ∷ (Invoke (Direct' 1 (vec1 v) (more_of-Argument (ByRecord (Part' (Global 0 2) (RecordKind 1) (vec1 v) (more_of-Selector (Dereference []) end_of-Selector))) end_of-Argument))) ∷ (OutInt (record { form = (Load (Part' (Global 0 2) Int (vec2 v) (more_of-Selector (Dereference []) (more_of-Selector (Field 0 0) end_of-Selector)))); kind = Int }) (record { form = (Literal 0); kind = Int })) ∷ (Invoke (Direct' 1 (vec1 v) (more_of-Argument (ByRecord (Whole (Global 0 0) (RecordKind 0))) end_of-Argument))) ∷ []); answer = None } ∷ []); imports_in = false }
+
+pub asked_for_none_not : (b : Box (Unit {0}) Heap) (v : Vec (Unit {0}) Heap) → well_formed (asked_for_none b v) ≡ false
+asked_for_none_not b v = refl
+
+-- MODULE G; TYPE B = RECORD END; E = RECORD (B) x: INTEGER END; F = RECORD (E) END; PB = POINTER TO B; PE = POINTER TO E; PF = POINTER TO F; VAR p: PB; e: PE; f: PF; BEGIN ASSERT(~(p IS PE)); NEW(e); p := e; e := p(PE); NEW(f); p := f; e := p(PE); ASSERT(p IS PF); NEW(p); e := p(PE) END G.
+abbrev guarded_by_none : Outside Program
+guarded_by_none b v = record { types = record { kinds = ((RecordKind 0) ∷ (RecordKind 1) ∷ (RecordKind 2) ∷ (PointerKind 0) ∷ (PointerKind 1) ∷ (PointerKind 2) ∷ Nothing ∷ Int ∷ []); records = (record { «module» = 0; base = None; level = 0; fields = []; cells = 0 } ∷ record { «module» = 0; base = (Some 0); level = 1; fields = (record { name = []; exported = false; type_number = 7 } ∷ []); cells = 1 } ∷ record { «module» = 0; base = (Some 1); level = 2; fields = []; cells = 1 } ∷ []); signatures = [] }; modules = (record { name = []; objects = []; variables = (3 ∷ 4 ∷ 5 ∷ []); body = 0 } ∷ []); procedures = (record { «module» = 0; line = 1; is_body = true; formals = []; result = 6; locals = []; texts = []; body = ((Assert (record { form = (Unary' Not b (IsPointer' b (Load (Whole (Global 0 0) (PointerKind 0))) 1)); kind = BoolKind })) ∷ (New (Whole (Global 0 1) (PointerKind 1))) ∷ (Assign (Whole (Global 0 0) (PointerKind 0)) (record { form = (Load (Whole (Global 0 1) (PointerKind 1))); kind = (PointerKind 1) })) ∷ (Assign (Whole (Global 0 1) (PointerKind 1)) (record { form = (Guard (Whole (Global 0 0) (PointerKind 0)) (3 ∷ 1 ∷ [])); kind = (PointerKind 1) })) ∷ (New (Whole (Global 0 2) (PointerKind 2))) ∷ (Assign (Whole (Global 0 0) (PointerKind 0)) (record { form = (Load (Whole (Global 0 2) (PointerKind 2))); kind = (PointerKind 2) })) ∷ (Assign (Whole (Global 0 1) (PointerKind 1)) (record { form = (Guard (Whole (Global 0 0) (PointerKind 0)) (1 ∷ [])); kind = (PointerKind 1) })) ∷ (Assert (record { form = (IsPointer' b (Load (Whole (Global 0 0) (PointerKind 0))) 2); kind = BoolKind })) ∷ (New (Whole (Global 0 0) (PointerKind 0))) ∷ (Assign (Whole (Global 0 1) (PointerKind 1)) (record { form = (Guard (Whole (Global 0 0) (PointerKind 0)) (1 ∷ [])); kind = (PointerKind 1) })) ∷ []); answer = None } ∷ []); imports_in = false }
+
+pub guarded_by_none_not : (b : Box (Unit {0}) Heap) (v : Vec (Unit {0}) Heap) → well_formed (guarded_by_none b v) ≡ false
+guarded_by_none_not b v = refl
+
+-- MODULE P; IMPORT Out; TYPE B = POINTER TO RB; RB = RECORD x: INTEGER END; E = POINTER TO RE; RE = RECORD (RB) y: INTEGER; next: B END; VAR p: B; e: E; PROCEDURE Show(q: B); BEGIN CASE q OF E: Out.Char(''E''); q.y := 3; Show(q.next) | B: Out.Char(''B'') END END Show; BEGIN Show(p); NEW(e); e.next := e; NEW(e.next); Show(e); p := e; Out.Int(p(E).y, 0); IF p = e THEN Out.Char(''!'') END; e := NIL; p := e.next END P.
+abbrev followed_by_none : Outside Program
+followed_by_none b v = record { types = record { kinds = ((RecordKind 0) ∷ (RecordKind 1) ∷ (PointerKind 0) ∷ (PointerKind 1) ∷ Nothing ∷ Int ∷ []); records = (record { «module» = 0; base = None; level = 0; fields = (record { name = []; exported = false; type_number = 5 } ∷ []); cells = 1 } ∷ record { «module» = 0; base = (Some 0); level = 1; fields = (record { name = []; exported = false; type_number = 5 } ∷ record { name = []; exported = false; type_number = 2 } ∷ []); cells = 3 } ∷ []); signatures = [] }; modules = (record { name = []; objects = []; variables = (2 ∷ 3 ∷ []); body = 1 } ∷ []); procedures = (record { «module» = 0; line = 1; is_body = false; formals = (record { mode = OfValue; variable = false; type_number = 2 } ∷ []); result = 4; locals = []; texts = []; body = ((CasePointer' (record { form = (Load (Whole (Local 0) (PointerKind 0))); kind = (PointerKind 0) }) (vec2 v) (more_of-TypePart 1 (vec3 v) (more_of-Stmt (OutChar (record { form = (Literal 69); kind = Char })) (more_of-Stmt (Assign (Part' (Local 0) Int (vec2 v) (more_of-Selector (Dereference (2 ∷ 1 ∷ [])) (more_of-Selector (Field 1 0) end_of-Selector))) (record { form = (Literal 3); kind = Int })) (more_of-Stmt (Invoke (Direct' 0 (vec1 v) (more_of-Argument (ByValue (Load (Part' (Local 0) (PointerKind 0) (vec2 v) (more_of-Selector (Dereference (1 ∷ [])) (more_of-Selector (Field 1 1) end_of-Selector))))) end_of-Argument))) end_of-Stmt))) (more_of-TypePart 0 (vec1 v) (more_of-Stmt (OutChar (record { form = (Literal 66); kind = Char })) end_of-Stmt) end_of-TypePart))) ∷ []); answer = None } ∷ record { «module» = 0; line = 1; is_body = true; formals = []; result = 4; locals = []; texts = []; body = ((Invoke (Direct' 0 (vec1 v) (more_of-Argument (ByValue (Load (Whole (Global 0 0) (PointerKind 0)))) end_of-Argument))) ∷ (New (Whole (Global 0 1) (PointerKind 1))) ∷ (Assign (Part' (Global 0 1) (PointerKind 0) (vec2 v) (more_of-Selector (Dereference []) (more_of-Selector (Field 1 1) end_of-Selector))) (record { form = (Load (Whole (Global 0 1) (PointerKind 1))); kind = (PointerKind 1) })) ∷ (New (Part' (Global 0 1) (PointerKind 0) (vec2 v) (more_of-Selector (Dereference []) (more_of-Selector (Field 1 1) end_of-Selector)))) ∷ (Invoke (Direct' 0 (vec1 v) (more_of-Argument (ByValue (Load (Whole (Global 0 1) (PointerKind 1)))) end_of-Argument))) ∷ (Assign (Whole (Global 0 0) (PointerKind 0)) (record { form = (Load (Whole (Global 0 1) (PointerKind 1))); kind = (PointerKind 1) })) ∷ (OutInt (record { form = (Load (Part' (Global 0 0) Int (vec2 v) (more_of-Selector (Dereference (1 ∷ [])) (more_of-Selector (Field 1 0) end_of-Selector)))); kind = Int }) (record { form = (Literal 0); kind = Int })) ∷ (If' (vec1 v) (more_of-Branch (record { form = (Compare' Equal b (Load (Whole (Global 0 0) (PointerKind 0))) b (Load (Whole (Global 0 1) (PointerKind 1)))); kind = BoolKind }) (vec1 v) (more_of-Stmt (OutChar (record { form = (Literal 33); kind = Char })) end_of-Stmt) end_of-Branch) (vec0 v) end_of-Stmt) ∷ (Assign (Whole (Global 0 1) (PointerKind 1)) (record { form = (Literal 0); kind = Nil })) ∷ (Assign (Whole (Global 0 0) (PointerKind 0)) (record { form = (Load (Part' (Global 0 1) (PointerKind 0) (vec2 v) (more_of-Selector (Dereference []) (more_of-Selector (Field 1 1) end_of-Selector)))); kind = (PointerKind 0) })) ∷ []); answer = None } ∷ []); imports_in = false }
+
+pub followed_by_none_not : (b : Box (Unit {0}) Heap) (v : Vec (Unit {0}) Heap) → well_formed (followed_by_none b v) ≡ false
+followed_by_none_not b v = refl
+
+-- MODULE T; TYPE B = RECORD x: INTEGER END; E = RECORD (B) y: INTEGER END; VAR b: B; PROCEDURE Kind(VAR r: B); BEGIN r(E).y := 5 END Kind; BEGIN Kind(b) END T.
+abbrev narrowed_to_none : Outside Program
+narrowed_to_none b v = record { types = record { kinds = ((RecordKind 0) ∷ (RecordKind 1) ∷ Nothing ∷ Int ∷ []); records = (record { «module» = 0; base = None; level = 0; fields = (record { name = []; exported = false; type_number = 3 } ∷ []); cells = 1 } ∷ record { «module» = 0; base = (Some 0); level = 1; fields = (record { name = []; exported = false; type_number = 3 } ∷ []); cells = 2 } ∷ []); signatures = [] }; modules = (record { name = []; objects = []; variables = (0 ∷ []); body = 1 } ∷ []); procedures = (record { «module» = 0; line = 1; is_body = false; formals = (record { mode = OfRecord; variable = true; type_number = 0 } ∷ []); result = 2; locals = []; texts = []; body = ((Assign (Part' (Parameter 0) Int (vec3 v) (more_of-Selector (Narrow 2) (more_of-Selector (Narrow 1) (more_of-Selector (Field 1 0) end_of-Selector)))) (record { form = (Literal 5); kind = Int })) ∷ []); answer = None } ∷ record { «module» = 0; line = 1; is_body = true; formals = []; result = 2; locals = []; texts = []; body = ((Invoke (Direct' 0 (vec1 v) (more_of-Argument (ByRecord (Whole (Global 0 0) (RecordKind 0))) end_of-Argument))) ∷ []); answer = None } ∷ []); imports_in = false }
+
+pub narrowed_to_none_not : (b : Box (Unit {0}) Heap) (v : Vec (Unit {0}) Heap) → well_formed (narrowed_to_none b v) ≡ false
+narrowed_to_none_not b v = refl
+
+-- MODULE P; IMPORT Out; TYPE B = POINTER TO RB; RB = RECORD x: INTEGER END; E = POINTER TO RE; RE = RECORD (RB) y: INTEGER; next: B END; VAR p: B; e: E; PROCEDURE Show(q: B); BEGIN CASE q OF E: Out.Char(''E''); q.y := 3; Show(q.next) | B: Out.Char(''B'') END END Show; BEGIN Show(p); NEW(e); e.next := e; NEW(e.next); Show(e); p := e; Out.Int(p(E).y, 0); IF p = e THEN Out.Char(''!'') END; e := NIL; p := e.next END P.
+abbrev part_for_none : Outside Program
+part_for_none b v = record { types = record { kinds = ((RecordKind 0) ∷ (RecordKind 1) ∷ (PointerKind 0) ∷ (PointerKind 1) ∷ Nothing ∷ Int ∷ []); records = (record { «module» = 0; base = None; level = 0; fields = (record { name = []; exported = false; type_number = 5 } ∷ []); cells = 1 } ∷ record { «module» = 0; base = (Some 0); level = 1; fields = (record { name = []; exported = false; type_number = 5 } ∷ record { name = []; exported = false; type_number = 2 } ∷ []); cells = 3 } ∷ []); signatures = [] }; modules = (record { name = []; objects = []; variables = (2 ∷ 3 ∷ []); body = 1 } ∷ []); procedures = (record { «module» = 0; line = 1; is_body = false; formals = (record { mode = OfValue; variable = false; type_number = 2 } ∷ []); result = 4; locals = []; texts = []; body = ((CasePointer' (record { form = (Load (Whole (Local 0) (PointerKind 0))); kind = (PointerKind 0) }) (vec2 v) (more_of-TypePart 1 (vec3 v) (more_of-Stmt (OutChar (record { form = (Literal 69); kind = Char })) (more_of-Stmt (Assign (Part' (Local 0) Int (vec2 v) (more_of-Selector (Dereference (1 ∷ [])) (more_of-Selector (Field 1 0) end_of-Selector))) (record { form = (Literal 3); kind = Int })) (more_of-Stmt (Invoke (Direct' 0 (vec1 v) (more_of-Argument (ByValue (Load (Part' (Local 0) (PointerKind 0) (vec2 v) (more_of-Selector (Dereference (1 ∷ [])) (more_of-Selector (Field 1 1) end_of-Selector))))) end_of-Argument))) end_of-Stmt))) (more_of-TypePart 2 (vec1 v) (more_of-Stmt (OutChar (record { form = (Literal 66); kind = Char })) end_of-Stmt) end_of-TypePart))) ∷ []); answer = None } ∷ record { «module» = 0; line = 1; is_body = true; formals = []; result = 4; locals = []; texts = []; body = ((Invoke (Direct' 0 (vec1 v) (more_of-Argument (ByValue (Load (Whole (Global 0 0) (PointerKind 0)))) end_of-Argument))) ∷ (New (Whole (Global 0 1) (PointerKind 1))) ∷ (Assign (Part' (Global 0 1) (PointerKind 0) (vec2 v) (more_of-Selector (Dereference []) (more_of-Selector (Field 1 1) end_of-Selector))) (record { form = (Load (Whole (Global 0 1) (PointerKind 1))); kind = (PointerKind 1) })) ∷ (New (Part' (Global 0 1) (PointerKind 0) (vec2 v) (more_of-Selector (Dereference []) (more_of-Selector (Field 1 1) end_of-Selector)))) ∷ (Invoke (Direct' 0 (vec1 v) (more_of-Argument (ByValue (Load (Whole (Global 0 1) (PointerKind 1)))) end_of-Argument))) ∷ (Assign (Whole (Global 0 0) (PointerKind 0)) (record { form = (Load (Whole (Global 0 1) (PointerKind 1))); kind = (PointerKind 1) })) ∷ (OutInt (record { form = (Load (Part' (Global 0 0) Int (vec2 v) (more_of-Selector (Dereference (1 ∷ [])) (more_of-Selector (Field 1 0) end_of-Selector)))); kind = Int }) (record { form = (Literal 0); kind = Int })) ∷ (If' (vec1 v) (more_of-Branch (record { form = (Compare' Equal b (Load (Whole (Global 0 0) (PointerKind 0))) b (Load (Whole (Global 0 1) (PointerKind 1)))); kind = BoolKind }) (vec1 v) (more_of-Stmt (OutChar (record { form = (Literal 33); kind = Char })) end_of-Stmt) end_of-Branch) (vec0 v) end_of-Stmt) ∷ (Assign (Whole (Global 0 1) (PointerKind 1)) (record { form = (Literal 0); kind = Nil })) ∷ (Assign (Whole (Global 0 0) (PointerKind 0)) (record { form = (Load (Part' (Global 0 1) (PointerKind 0) (vec2 v) (more_of-Selector (Dereference []) (more_of-Selector (Field 1 1) end_of-Selector)))); kind = (PointerKind 0) })) ∷ []); answer = None } ∷ []); imports_in = false }
+
+pub part_for_none_not : (b : Box (Unit {0}) Heap) (v : Vec (Unit {0}) Heap) → well_formed (part_for_none b v) ≡ false
+part_for_none_not b v = refl
+
+-- MODULE C; IMPORT Out; VAR c: CHAR; i: INTEGER; BEGIN FOR i := 0 TO 2 DO c := CHR(i * 5 + ORD(''a'')); CASE c OF ''a'': Out.Char(''1'') | ''b''..''f'', ''z'': Out.Char(''2'') | ''k'': Out.Char(''3'') END END; c := CHR(-1 + i * 0) END C.
+abbrev downward : Outside Program
+downward b v = record { types = record { kinds = (Char ∷ Int ∷ Nothing ∷ []); records = []; signatures = [] }; modules = (record { name = []; objects = []; variables = (0 ∷ 1 ∷ []); body = 0 } ∷ []); procedures = (record { «module» = 0; line = 1; is_body = true; formals = []; result = 2; locals = []; texts = []; body = ((For' (Whole (Global 0 1) Int) (record { form = (Literal 0); kind = Int }) (record { form = (Literal 2); kind = Int }) (pos 1) (vec2 v) (more_of-Stmt (Assign (Whole (Global 0 0) Char) (record { form = (Byte' b (Chain' b (Load (Whole (Global 0 1) Int)) (vec2 v) (more_of-Link (Operate Multiply (Literal 5)) (more_of-Link (Operate Add (Literal 97)) end_of-Link)))); kind = Char })) (more_of-Stmt (Case' (record { form = (Load (Whole (Global 0 0) Char)); kind = Char }) (vec3 v) (more_of-CasePart (One (pos 97) ∷ []) (vec1 v) (more_of-Stmt (OutChar (record { form = (Literal 49); kind = Char })) end_of-Stmt) (more_of-CasePart (Range (pos 102) (pos 98) ∷ One (pos 122) ∷ []) (vec1 v) (more_of-Stmt (OutChar (record { form = (Literal 50); kind = Char })) end_of-Stmt) (more_of-CasePart (One (pos 107) ∷ []) (vec1 v) (more_of-Stmt (OutChar (record { form = (Literal 51); kind = Char })) end_of-Stmt) end_of-CasePart)))) end_of-Stmt))) ∷ (Assign (Whole (Global 0 0) Char) (record { form = (Byte' b (Chain' b (Unary' Negate b (Literal 1)) (vec1 v) (more_of-Link (Operate Add (Chain' b (Load (Whole (Global 0 1) Int)) (vec1 v) (more_of-Link (Operate Multiply (Literal 0)) end_of-Link))) end_of-Link))); kind = Char })) ∷ []); answer = None } ∷ []); imports_in = false }
+
+pub downward_not : (b : Box (Unit {0}) Heap) (v : Vec (Unit {0}) Heap) → well_formed (downward b v) ≡ false
+downward_not b v = refl
+
+-- MODULE C; IMPORT Out; VAR c: CHAR; i: INTEGER; BEGIN FOR i := 0 TO 2 DO c := CHR(i * 5 + ORD(''a'')); CASE c OF ''a'': Out.Char(''1'') | ''b''..''f'', ''z'': Out.Char(''2'') | ''k'': Out.Char(''3'') END END; c := CHR(-1 + i * 0) END C.
+abbrev far : Outside Program
+far b v = record { types = record { kinds = (Char ∷ Int ∷ Nothing ∷ []); records = []; signatures = [] }; modules = (record { name = []; objects = []; variables = (0 ∷ 1 ∷ []); body = 0 } ∷ []); procedures = (record { «module» = 0; line = 1; is_body = true; formals = []; result = 2; locals = []; texts = []; body = ((For' (Whole (Global 0 1) Int) (record { form = (Literal 0); kind = Int }) (record { form = (Literal 2); kind = Int }) (pos 1) (vec2 v) (more_of-Stmt (Assign (Whole (Global 0 0) Char) (record { form = (Byte' b (Chain' b (Load (Whole (Global 0 1) Int)) (vec2 v) (more_of-Link (Operate Multiply (Literal 5)) (more_of-Link (Operate Add (Literal 97)) end_of-Link)))); kind = Char })) (more_of-Stmt (Case' (record { form = (Load (Whole (Global 0 0) Char)); kind = Char }) (vec3 v) (more_of-CasePart (One (pos 97) ∷ []) (vec1 v) (more_of-Stmt (OutChar (record { form = (Literal 49); kind = Char })) end_of-Stmt) (more_of-CasePart (Range (pos 98) (pos 102) ∷ One (pos 122) ∷ []) (vec1 v) (more_of-Stmt (OutChar (record { form = (Literal 50); kind = Char })) end_of-Stmt) (more_of-CasePart (One (pos 9223372036854775808) ∷ []) (vec1 v) (more_of-Stmt (OutChar (record { form = (Literal 51); kind = Char })) end_of-Stmt) end_of-CasePart)))) end_of-Stmt))) ∷ (Assign (Whole (Global 0 0) Char) (record { form = (Byte' b (Chain' b (Unary' Negate b (Literal 1)) (vec1 v) (more_of-Link (Operate Add (Chain' b (Load (Whole (Global 0 1) Int)) (vec1 v) (more_of-Link (Operate Multiply (Literal 0)) end_of-Link))) end_of-Link))); kind = Char })) ∷ []); answer = None } ∷ []); imports_in = false }
+
+pub far_not : (b : Box (Unit {0}) Heap) (v : Vec (Unit {0}) Heap) → well_formed (far b v) ≡ false
+far_not b v = refl
+
+-- MODULE M; VAR a: ARRAY 3 OF INTEGER; i: INTEGER; BEGIN i := 2; a[i] := 1; i := 3; a[i] := 1 END M.
+abbrev many_cells : Outside Program
+many_cells b v = record { types = record { kinds = (Int ∷ (Array (Some 3) 0) ∷ Nothing ∷ (Array (Some 1048576) 0) ∷ (Array (Some 2) 3) ∷ []); records = []; signatures = [] }; modules = (record { name = []; objects = []; variables = (1 ∷ 0 ∷ []); body = 0 } ∷ []); procedures = (record { «module» = 0; line = 1; is_body = true; formals = []; result = 2; locals = []; texts = []; body = ((Assign (Whole (Global 0 1) Int) (record { form = (Literal 2); kind = Int })) ∷ (Assign (Part' (Global 0 0) Int (vec1 v) (more_of-Selector (Index (Some 3) 0 (Load (Whole (Global 0 1) Int))) end_of-Selector)) (record { form = (Literal 1); kind = Int })) ∷ (Assign (Whole (Global 0 1) Int) (record { form = (Literal 3); kind = Int })) ∷ (Assign (Part' (Global 0 0) Int (vec1 v) (more_of-Selector (Index (Some 3) 0 (Load (Whole (Global 0 1) Int))) end_of-Selector)) (record { form = (Literal 1); kind = Int })) ∷ []); answer = None } ∷ []); imports_in = false }
+
+pub many_cells_not : (b : Box (Unit {0}) Heap) (v : Vec (Unit {0}) Heap) → well_formed (many_cells b v) ≡ false
+many_cells_not b v = refl
+
+-- MODULE M; VAR a: ARRAY 3 OF INTEGER; i: INTEGER; BEGIN i := 2; a[i] := 1; i := 3; a[i] := 1 END M.
+abbrev empty_array : Outside Program
+empty_array b v = record { types = record { kinds = (Int ∷ (Array (Some 3) 0) ∷ Nothing ∷ (Array (Some 0) 0) ∷ []); records = []; signatures = [] }; modules = (record { name = []; objects = []; variables = (1 ∷ 0 ∷ []); body = 0 } ∷ []); procedures = (record { «module» = 0; line = 1; is_body = true; formals = []; result = 2; locals = []; texts = []; body = ((Assign (Whole (Global 0 1) Int) (record { form = (Literal 2); kind = Int })) ∷ (Assign (Part' (Global 0 0) Int (vec1 v) (more_of-Selector (Index (Some 3) 0 (Load (Whole (Global 0 1) Int))) end_of-Selector)) (record { form = (Literal 1); kind = Int })) ∷ (Assign (Whole (Global 0 1) Int) (record { form = (Literal 3); kind = Int })) ∷ (Assign (Part' (Global 0 0) Int (vec1 v) (more_of-Selector (Index (Some 3) 0 (Load (Whole (Global 0 1) Int))) end_of-Selector)) (record { form = (Literal 1); kind = Int })) ∷ []); answer = None } ∷ []); imports_in = false }
+
+pub empty_array_not : (b : Box (Unit {0}) Heap) (v : Vec (Unit {0}) Heap) → well_formed (empty_array b v) ≡ false
+empty_array_not b v = refl
+
+-- MODULE G; TYPE B = RECORD END; E = RECORD (B) x: INTEGER END; F = RECORD (E) END; PB = POINTER TO B; PE = POINTER TO E; PF = POINTER TO F; VAR p: PB; e: PE; f: PF; BEGIN ASSERT(~(p IS PE)); NEW(e); p := e; e := p(PE); NEW(f); p := f; e := p(PE); ASSERT(p IS PF); NEW(p); e := p(PE) END G.
+abbrev long_array : Outside Program
+long_array b v = record { types = record { kinds = ((RecordKind 0) ∷ (RecordKind 1) ∷ (RecordKind 2) ∷ (PointerKind 0) ∷ (PointerKind 1) ∷ (PointerKind 2) ∷ Nothing ∷ Int ∷ (Array (Some 1048577) 0) ∷ []); records = (record { «module» = 0; base = None; level = 0; fields = []; cells = 0 } ∷ record { «module» = 0; base = (Some 0); level = 1; fields = (record { name = []; exported = false; type_number = 7 } ∷ []); cells = 1 } ∷ record { «module» = 0; base = (Some 1); level = 2; fields = []; cells = 1 } ∷ []); signatures = [] }; modules = (record { name = []; objects = []; variables = (3 ∷ 4 ∷ 5 ∷ []); body = 0 } ∷ []); procedures = (record { «module» = 0; line = 1; is_body = true; formals = []; result = 6; locals = []; texts = []; body = ((Assert (record { form = (Unary' Not b (IsPointer' b (Load (Whole (Global 0 0) (PointerKind 0))) 1)); kind = BoolKind })) ∷ (New (Whole (Global 0 1) (PointerKind 1))) ∷ (Assign (Whole (Global 0 0) (PointerKind 0)) (record { form = (Load (Whole (Global 0 1) (PointerKind 1))); kind = (PointerKind 1) })) ∷ (Assign (Whole (Global 0 1) (PointerKind 1)) (record { form = (Guard (Whole (Global 0 0) (PointerKind 0)) (1 ∷ [])); kind = (PointerKind 1) })) ∷ (New (Whole (Global 0 2) (PointerKind 2))) ∷ (Assign (Whole (Global 0 0) (PointerKind 0)) (record { form = (Load (Whole (Global 0 2) (PointerKind 2))); kind = (PointerKind 2) })) ∷ (Assign (Whole (Global 0 1) (PointerKind 1)) (record { form = (Guard (Whole (Global 0 0) (PointerKind 0)) (1 ∷ [])); kind = (PointerKind 1) })) ∷ (Assert (record { form = (IsPointer' b (Load (Whole (Global 0 0) (PointerKind 0))) 2); kind = BoolKind })) ∷ (New (Whole (Global 0 0) (PointerKind 0))) ∷ (Assign (Whole (Global 0 1) (PointerKind 1)) (record { form = (Guard (Whole (Global 0 0) (PointerKind 0)) (1 ∷ [])); kind = (PointerKind 1) })) ∷ []); answer = None } ∷ []); imports_in = false }
+
+pub long_array_not : (b : Box (Unit {0}) Heap) (v : Vec (Unit {0}) Heap) → well_formed (long_array b v) ≡ false
+long_array_not b v = refl
+
+-- MODULE G; TYPE B = RECORD END; E = RECORD (B) x: INTEGER END; F = RECORD (E) END; PB = POINTER TO B; PE = POINTER TO E; PF = POINTER TO F; VAR p: PB; e: PE; f: PF; BEGIN ASSERT(~(p IS PE)); NEW(e); p := e; e := p(PE); NEW(f); p := f; e := p(PE); ASSERT(p IS PF); NEW(p); e := p(PE) END G.
+abbrev many_fields : Outside Program
+many_fields b v = record { types = record { kinds = ((RecordKind 0) ∷ (RecordKind 1) ∷ (RecordKind 2) ∷ (PointerKind 0) ∷ (PointerKind 1) ∷ (PointerKind 2) ∷ Nothing ∷ Int ∷ (Array (Some 1048576) 7) ∷ []); records = (record { «module» = 0; base = None; level = 0; fields = []; cells = 0 } ∷ record { «module» = 0; base = (Some 0); level = 1; fields = (record { name = []; exported = false; type_number = 7 } ∷ record { name = []; exported = false; type_number = 8 } ∷ []); cells = 1048577 } ∷ record { «module» = 0; base = (Some 1); level = 2; fields = []; cells = 1048577 } ∷ []); signatures = [] }; modules = (record { name = []; objects = []; variables = (3 ∷ 4 ∷ 5 ∷ []); body = 0 } ∷ []); procedures = (record { «module» = 0; line = 1; is_body = true; formals = []; result = 6; locals = []; texts = []; body = ((Assert (record { form = (Unary' Not b (IsPointer' b (Load (Whole (Global 0 0) (PointerKind 0))) 1)); kind = BoolKind })) ∷ (New (Whole (Global 0 1) (PointerKind 1))) ∷ (Assign (Whole (Global 0 0) (PointerKind 0)) (record { form = (Load (Whole (Global 0 1) (PointerKind 1))); kind = (PointerKind 1) })) ∷ (Assign (Whole (Global 0 1) (PointerKind 1)) (record { form = (Guard (Whole (Global 0 0) (PointerKind 0)) (1 ∷ [])); kind = (PointerKind 1) })) ∷ (New (Whole (Global 0 2) (PointerKind 2))) ∷ (Assign (Whole (Global 0 0) (PointerKind 0)) (record { form = (Load (Whole (Global 0 2) (PointerKind 2))); kind = (PointerKind 2) })) ∷ (Assign (Whole (Global 0 1) (PointerKind 1)) (record { form = (Guard (Whole (Global 0 0) (PointerKind 0)) (1 ∷ [])); kind = (PointerKind 1) })) ∷ (Assert (record { form = (IsPointer' b (Load (Whole (Global 0 0) (PointerKind 0))) 2); kind = BoolKind })) ∷ (New (Whole (Global 0 0) (PointerKind 0))) ∷ (Assign (Whole (Global 0 1) (PointerKind 1)) (record { form = (Guard (Whole (Global 0 0) (PointerKind 0)) (1 ∷ [])); kind = (PointerKind 1) })) ∷ []); answer = None } ∷ []); imports_in = false }
+
+pub many_fields_not : (b : Box (Unit {0}) Heap) (v : Vec (Unit {0}) Heap) → well_formed (many_fields b v) ≡ false
+many_fields_not b v = refl
+
+-- MODULE G; TYPE B = RECORD END; E = RECORD (B) x: INTEGER END; F = RECORD (E) END; PB = POINTER TO B; PE = POINTER TO E; PF = POINTER TO F; VAR p: PB; e: PE; f: PF; BEGIN ASSERT(~(p IS PE)); NEW(e); p := e; e := p(PE); NEW(f); p := f; e := p(PE); ASSERT(p IS PF); NEW(p); e := p(PE) END G.
+abbrev points_to_none : Outside Program
+points_to_none b v = record { types = record { kinds = ((RecordKind 0) ∷ (RecordKind 1) ∷ (RecordKind 2) ∷ (PointerKind 0) ∷ (PointerKind 1) ∷ (PointerKind 2) ∷ Nothing ∷ Int ∷ (PointerKind 3) ∷ []); records = (record { «module» = 0; base = None; level = 0; fields = []; cells = 0 } ∷ record { «module» = 0; base = (Some 0); level = 1; fields = (record { name = []; exported = false; type_number = 7 } ∷ []); cells = 1 } ∷ record { «module» = 0; base = (Some 1); level = 2; fields = []; cells = 1 } ∷ []); signatures = [] }; modules = (record { name = []; objects = []; variables = (3 ∷ 4 ∷ 5 ∷ []); body = 0 } ∷ []); procedures = (record { «module» = 0; line = 1; is_body = true; formals = []; result = 6; locals = []; texts = []; body = ((Assert (record { form = (Unary' Not b (IsPointer' b (Load (Whole (Global 0 0) (PointerKind 0))) 1)); kind = BoolKind })) ∷ (New (Whole (Global 0 1) (PointerKind 1))) ∷ (Assign (Whole (Global 0 0) (PointerKind 0)) (record { form = (Load (Whole (Global 0 1) (PointerKind 1))); kind = (PointerKind 1) })) ∷ (Assign (Whole (Global 0 1) (PointerKind 1)) (record { form = (Guard (Whole (Global 0 0) (PointerKind 0)) (1 ∷ [])); kind = (PointerKind 1) })) ∷ (New (Whole (Global 0 2) (PointerKind 2))) ∷ (Assign (Whole (Global 0 0) (PointerKind 0)) (record { form = (Load (Whole (Global 0 2) (PointerKind 2))); kind = (PointerKind 2) })) ∷ (Assign (Whole (Global 0 1) (PointerKind 1)) (record { form = (Guard (Whole (Global 0 0) (PointerKind 0)) (1 ∷ [])); kind = (PointerKind 1) })) ∷ (Assert (record { form = (IsPointer' b (Load (Whole (Global 0 0) (PointerKind 0))) 2); kind = BoolKind })) ∷ (New (Whole (Global 0 0) (PointerKind 0))) ∷ (Assign (Whole (Global 0 1) (PointerKind 1)) (record { form = (Guard (Whole (Global 0 0) (PointerKind 0)) (1 ∷ [])); kind = (PointerKind 1) })) ∷ []); answer = None } ∷ []); imports_in = false }
+
+pub points_to_none_not : (b : Box (Unit {0}) Heap) (v : Vec (Unit {0}) Heap) → well_formed (points_to_none b v) ≡ false
+points_to_none_not b v = refl
+
+-- MODULE G; TYPE B = RECORD END; E = RECORD (B) x: INTEGER END; F = RECORD (E) END; PB = POINTER TO B; PE = POINTER TO E; PF = POINTER TO F; VAR p: PB; e: PE; f: PF; BEGIN ASSERT(~(p IS PE)); NEW(e); p := e; e := p(PE); NEW(f); p := f; e := p(PE); ASSERT(p IS PF); NEW(p); e := p(PE) END G.
+abbrev no_signature : Outside Program
+no_signature b v = record { types = record { kinds = ((RecordKind 0) ∷ (RecordKind 1) ∷ (RecordKind 2) ∷ (PointerKind 0) ∷ (PointerKind 1) ∷ (PointerKind 2) ∷ Nothing ∷ Int ∷ (ProcedureKind 0) ∷ []); records = (record { «module» = 0; base = None; level = 0; fields = []; cells = 0 } ∷ record { «module» = 0; base = (Some 0); level = 1; fields = (record { name = []; exported = false; type_number = 7 } ∷ []); cells = 1 } ∷ record { «module» = 0; base = (Some 1); level = 2; fields = []; cells = 1 } ∷ []); signatures = [] }; modules = (record { name = []; objects = []; variables = (3 ∷ 4 ∷ 5 ∷ []); body = 0 } ∷ []); procedures = (record { «module» = 0; line = 1; is_body = true; formals = []; result = 6; locals = []; texts = []; body = ((Assert (record { form = (Unary' Not b (IsPointer' b (Load (Whole (Global 0 0) (PointerKind 0))) 1)); kind = BoolKind })) ∷ (New (Whole (Global 0 1) (PointerKind 1))) ∷ (Assign (Whole (Global 0 0) (PointerKind 0)) (record { form = (Load (Whole (Global 0 1) (PointerKind 1))); kind = (PointerKind 1) })) ∷ (Assign (Whole (Global 0 1) (PointerKind 1)) (record { form = (Guard (Whole (Global 0 0) (PointerKind 0)) (1 ∷ [])); kind = (PointerKind 1) })) ∷ (New (Whole (Global 0 2) (PointerKind 2))) ∷ (Assign (Whole (Global 0 0) (PointerKind 0)) (record { form = (Load (Whole (Global 0 2) (PointerKind 2))); kind = (PointerKind 2) })) ∷ (Assign (Whole (Global 0 1) (PointerKind 1)) (record { form = (Guard (Whole (Global 0 0) (PointerKind 0)) (1 ∷ [])); kind = (PointerKind 1) })) ∷ (Assert (record { form = (IsPointer' b (Load (Whole (Global 0 0) (PointerKind 0))) 2); kind = BoolKind })) ∷ (New (Whole (Global 0 0) (PointerKind 0))) ∷ (Assign (Whole (Global 0 1) (PointerKind 1)) (record { form = (Guard (Whole (Global 0 0) (PointerKind 0)) (1 ∷ [])); kind = (PointerKind 1) })) ∷ []); answer = None } ∷ []); imports_in = false }
+
+pub no_signature_not : (b : Box (Unit {0}) Heap) (v : Vec (Unit {0}) Heap) → well_formed (no_signature b v) ≡ false
+no_signature_not b v = refl
+
+-- MODULE M; VAR a: ARRAY 3 OF INTEGER; i: INTEGER; BEGIN i := 2; a[i] := 1; i := 3; a[i] := 1 END M.
+abbrev elements_of_none : Outside Program
+elements_of_none b v = record { types = record { kinds = (Int ∷ (Array (Some 3) 0) ∷ Nothing ∷ (Array None 9) ∷ []); records = []; signatures = [] }; modules = (record { name = []; objects = []; variables = (1 ∷ 0 ∷ []); body = 0 } ∷ []); procedures = (record { «module» = 0; line = 1; is_body = true; formals = []; result = 2; locals = []; texts = []; body = ((Assign (Whole (Global 0 1) Int) (record { form = (Literal 2); kind = Int })) ∷ (Assign (Part' (Global 0 0) Int (vec1 v) (more_of-Selector (Index (Some 3) 0 (Load (Whole (Global 0 1) Int))) end_of-Selector)) (record { form = (Literal 1); kind = Int })) ∷ (Assign (Whole (Global 0 1) Int) (record { form = (Literal 3); kind = Int })) ∷ (Assign (Part' (Global 0 0) Int (vec1 v) (more_of-Selector (Index (Some 3) 0 (Load (Whole (Global 0 1) Int))) end_of-Selector)) (record { form = (Literal 1); kind = Int })) ∷ []); answer = None } ∷ []); imports_in = false }
+
+pub elements_of_none_not : (b : Box (Unit {0}) Heap) (v : Vec (Unit {0}) Heap) → well_formed (elements_of_none b v) ≡ false
+elements_of_none_not b v = refl
+
+-- MODULE G; TYPE B = RECORD END; E = RECORD (B) x: INTEGER END; F = RECORD (E) END; PB = POINTER TO B; PE = POINTER TO E; PF = POINTER TO F; VAR p: PB; e: PE; f: PF; BEGIN ASSERT(~(p IS PE)); NEW(e); p := e; e := p(PE); NEW(f); p := f; e := p(PE); ASSERT(p IS PF); NEW(p); e := p(PE) END G.
+abbrev extends_none : Outside Program
+extends_none b v = record { types = record { kinds = ((RecordKind 0) ∷ (RecordKind 1) ∷ (RecordKind 2) ∷ (PointerKind 0) ∷ (PointerKind 1) ∷ (PointerKind 2) ∷ Nothing ∷ Int ∷ []); records = (record { «module» = 0; base = (Some 3); level = 1; fields = []; cells = 0 } ∷ record { «module» = 0; base = (Some 0); level = 2; fields = (record { name = []; exported = false; type_number = 7 } ∷ []); cells = 1 } ∷ record { «module» = 0; base = (Some 1); level = 3; fields = []; cells = 1 } ∷ []); signatures = [] }; modules = (record { name = []; objects = []; variables = (3 ∷ 4 ∷ 5 ∷ []); body = 0 } ∷ []); procedures = (record { «module» = 0; line = 1; is_body = true; formals = []; result = 6; locals = []; texts = []; body = ((Assert (record { form = (Unary' Not b (IsPointer' b (Load (Whole (Global 0 0) (PointerKind 0))) 1)); kind = BoolKind })) ∷ (New (Whole (Global 0 1) (PointerKind 1))) ∷ (Assign (Whole (Global 0 0) (PointerKind 0)) (record { form = (Load (Whole (Global 0 1) (PointerKind 1))); kind = (PointerKind 1) })) ∷ (Assign (Whole (Global 0 1) (PointerKind 1)) (record { form = (Guard (Whole (Global 0 0) (PointerKind 0)) (1 ∷ [])); kind = (PointerKind 1) })) ∷ (New (Whole (Global 0 2) (PointerKind 2))) ∷ (Assign (Whole (Global 0 0) (PointerKind 0)) (record { form = (Load (Whole (Global 0 2) (PointerKind 2))); kind = (PointerKind 2) })) ∷ (Assign (Whole (Global 0 1) (PointerKind 1)) (record { form = (Guard (Whole (Global 0 0) (PointerKind 0)) (1 ∷ [])); kind = (PointerKind 1) })) ∷ (Assert (record { form = (IsPointer' b (Load (Whole (Global 0 0) (PointerKind 0))) 2); kind = BoolKind })) ∷ (New (Whole (Global 0 0) (PointerKind 0))) ∷ (Assign (Whole (Global 0 1) (PointerKind 1)) (record { form = (Guard (Whole (Global 0 0) (PointerKind 0)) (1 ∷ [])); kind = (PointerKind 1) })) ∷ []); answer = None } ∷ []); imports_in = false }
+
+pub extends_none_not : (b : Box (Unit {0}) Heap) (v : Vec (Unit {0}) Heap) → well_formed (extends_none b v) ≡ false
+extends_none_not b v = refl
+
+-- MODULE G; TYPE B = RECORD END; E = RECORD (B) x: INTEGER END; F = RECORD (E) END; PB = POINTER TO B; PE = POINTER TO E; PF = POINTER TO F; VAR p: PB; e: PE; f: PF; BEGIN ASSERT(~(p IS PE)); NEW(e); p := e; e := p(PE); NEW(f); p := f; e := p(PE); ASSERT(p IS PF); NEW(p); e := p(PE) END G.
+abbrev typeless : Outside Program
+typeless b v = record { types = record { kinds = ((RecordKind 0) ∷ (RecordKind 1) ∷ (RecordKind 2) ∷ (PointerKind 0) ∷ (PointerKind 1) ∷ (PointerKind 2) ∷ Nothing ∷ Int ∷ []); records = (record { «module» = 0; base = None; level = 0; fields = []; cells = 0 } ∷ record { «module» = 0; base = (Some 0); level = 1; fields = (record { name = []; exported = false; type_number = 7 } ∷ []); cells = 1 } ∷ record { «module» = 0; base = (Some 1); level = 2; fields = []; cells = 1 } ∷ []); signatures = [] }; modules = (record { name = []; objects = []; variables = (3 ∷ 4 ∷ 5 ∷ 6 ∷ []); body = 0 } ∷ []); procedures = (record { «module» = 0; line = 1; is_body = true; formals = []; result = 6; locals = []; texts = []; body = ((Assert (record { form = (Unary' Not b (IsPointer' b (Load (Whole (Global 0 0) (PointerKind 0))) 1)); kind = BoolKind })) ∷ (New (Whole (Global 0 1) (PointerKind 1))) ∷ (Assign (Whole (Global 0 0) (PointerKind 0)) (record { form = (Load (Whole (Global 0 1) (PointerKind 1))); kind = (PointerKind 1) })) ∷ (Assign (Whole (Global 0 1) (PointerKind 1)) (record { form = (Guard (Whole (Global 0 0) (PointerKind 0)) (1 ∷ [])); kind = (PointerKind 1) })) ∷ (New (Whole (Global 0 2) (PointerKind 2))) ∷ (Assign (Whole (Global 0 0) (PointerKind 0)) (record { form = (Load (Whole (Global 0 2) (PointerKind 2))); kind = (PointerKind 2) })) ∷ (Assign (Whole (Global 0 1) (PointerKind 1)) (record { form = (Guard (Whole (Global 0 0) (PointerKind 0)) (1 ∷ [])); kind = (PointerKind 1) })) ∷ (Assert (record { form = (IsPointer' b (Load (Whole (Global 0 0) (PointerKind 0))) 2); kind = BoolKind })) ∷ (New (Whole (Global 0 0) (PointerKind 0))) ∷ (Assign (Whole (Global 0 1) (PointerKind 1)) (record { form = (Guard (Whole (Global 0 0) (PointerKind 0)) (1 ∷ [])); kind = (PointerKind 1) })) ∷ []); answer = None } ∷ []); imports_in = false }
+
+pub typeless_not : (b : Box (Unit {0}) Heap) (v : Vec (Unit {0}) Heap) → well_formed (typeless b v) ≡ false
+typeless_not b v = refl
+
+-- MODULE D; IMPORT Out; PROCEDURE D(n: INTEGER); BEGIN IF n > 1 THEN D(n - 1) END END D; BEGIN Out.Char(''a''); D(20); Out.Char(''b'') END D.
+abbrev typeless_here : Outside Program
+typeless_here b v = record { types = record { kinds = (Int ∷ Nothing ∷ []); records = []; signatures = [] }; modules = (record { name = []; objects = []; variables = []; body = 1 } ∷ []); procedures = (record { «module» = 0; line = 1; is_body = false; formals = (record { mode = OfValue; variable = false; type_number = 0 } ∷ []); result = 1; locals = (1 ∷ []); texts = []; body = ((If' (vec1 v) (more_of-Branch (record { form = (Compare' Greater b (Load (Whole (Local 0) Int)) b (Literal 1)); kind = BoolKind }) (vec1 v) (more_of-Stmt (Invoke (Direct' 0 (vec1 v) (more_of-Argument (ByValue (Chain' b (Load (Whole (Local 0) Int)) (vec1 v) (more_of-Link (Operate Subtract (Literal 1)) end_of-Link))) end_of-Argument))) end_of-Stmt) end_of-Branch) (vec0 v) end_of-Stmt) ∷ []); answer = None } ∷ record { «module» = 0; line = 1; is_body = true; formals = []; result = 1; locals = []; texts = []; body = ((OutChar (record { form = (Literal 97); kind = Char })) ∷ (Invoke (Direct' 0 (vec1 v) (more_of-Argument (ByValue (Literal 20)) end_of-Argument))) ∷ (OutChar (record { form = (Literal 98); kind = Char })) ∷ []); answer = None } ∷ []); imports_in = false }
+
+pub typeless_here_not : (b : Box (Unit {0}) Heap) (v : Vec (Unit {0}) Heap) → well_formed (typeless_here b v) ≡ false
+typeless_here_not b v = refl
+
+-- MODULE G; TYPE B = RECORD END; E = RECORD (B) x: INTEGER END; F = RECORD (E) END; PB = POINTER TO B; PE = POINTER TO E; PF = POINTER TO F; VAR p: PB; e: PE; f: PF; BEGIN ASSERT(~(p IS PE)); NEW(e); p := e; e := p(PE); NEW(f); p := f; e := p(PE); ASSERT(p IS PF); NEW(p); e := p(PE) END G.
+abbrev typeless_field : Outside Program
+typeless_field b v = record { types = record { kinds = ((RecordKind 0) ∷ (RecordKind 1) ∷ (RecordKind 2) ∷ (PointerKind 0) ∷ (PointerKind 1) ∷ (PointerKind 2) ∷ Nothing ∷ Int ∷ []); records = (record { «module» = 0; base = None; level = 0; fields = []; cells = 0 } ∷ record { «module» = 0; base = (Some 0); level = 1; fields = (record { name = []; exported = false; type_number = 6 } ∷ []); cells = 1 } ∷ record { «module» = 0; base = (Some 1); level = 2; fields = []; cells = 1 } ∷ []); signatures = [] }; modules = (record { name = []; objects = []; variables = (3 ∷ 4 ∷ 5 ∷ []); body = 0 } ∷ []); procedures = (record { «module» = 0; line = 1; is_body = true; formals = []; result = 6; locals = []; texts = []; body = ((Assert (record { form = (Unary' Not b (IsPointer' b (Load (Whole (Global 0 0) (PointerKind 0))) 1)); kind = BoolKind })) ∷ (New (Whole (Global 0 1) (PointerKind 1))) ∷ (Assign (Whole (Global 0 0) (PointerKind 0)) (record { form = (Load (Whole (Global 0 1) (PointerKind 1))); kind = (PointerKind 1) })) ∷ (Assign (Whole (Global 0 1) (PointerKind 1)) (record { form = (Guard (Whole (Global 0 0) (PointerKind 0)) (1 ∷ [])); kind = (PointerKind 1) })) ∷ (New (Whole (Global 0 2) (PointerKind 2))) ∷ (Assign (Whole (Global 0 0) (PointerKind 0)) (record { form = (Load (Whole (Global 0 2) (PointerKind 2))); kind = (PointerKind 2) })) ∷ (Assign (Whole (Global 0 1) (PointerKind 1)) (record { form = (Guard (Whole (Global 0 0) (PointerKind 0)) (1 ∷ [])); kind = (PointerKind 1) })) ∷ (Assert (record { form = (IsPointer' b (Load (Whole (Global 0 0) (PointerKind 0))) 2); kind = BoolKind })) ∷ (New (Whole (Global 0 0) (PointerKind 0))) ∷ (Assign (Whole (Global 0 1) (PointerKind 1)) (record { form = (Guard (Whole (Global 0 0) (PointerKind 0)) (1 ∷ [])); kind = (PointerKind 1) })) ∷ []); answer = None } ∷ []); imports_in = false }
+
+pub typeless_field_not : (b : Box (Unit {0}) Heap) (v : Vec (Unit {0}) Heap) → well_formed (typeless_field b v) ≡ false
+typeless_field_not b v = refl
+
+-- MODULE T; TYPE B = RECORD x: INTEGER END; E = RECORD (B) y: INTEGER END; VAR b: B; PROCEDURE Kind(VAR r: B); BEGIN r(E).y := 5 END Kind; BEGIN Kind(b) END T.
+abbrev whole_result : Outside Program
+whole_result b v = record { types = record { kinds = ((RecordKind 0) ∷ (RecordKind 1) ∷ Nothing ∷ Int ∷ []); records = (record { «module» = 0; base = None; level = 0; fields = (record { name = []; exported = false; type_number = 3 } ∷ []); cells = 1 } ∷ record { «module» = 0; base = (Some 0); level = 1; fields = (record { name = []; exported = false; type_number = 3 } ∷ []); cells = 2 } ∷ []); signatures = [] }; modules = (record { name = []; objects = []; variables = (0 ∷ []); body = 1 } ∷ []); procedures = (record { «module» = 0; line = 1; is_body = false; formals = (record { mode = OfRecord; variable = true; type_number = 0 } ∷ []); result = 0; locals = []; texts = []; body = ((Assign (Part' (Parameter 0) Int (vec2 v) (more_of-Selector (Narrow 1) (more_of-Selector (Field 1 0) end_of-Selector))) (record { form = (Literal 5); kind = Int })) ∷ []); answer = None } ∷ record { «module» = 0; line = 1; is_body = true; formals = []; result = 2; locals = []; texts = []; body = ((Invoke (Direct' 0 (vec1 v) (more_of-Argument (ByRecord (Whole (Global 0 0) (RecordKind 0))) end_of-Argument))) ∷ []); answer = None } ∷ []); imports_in = false }
+
+pub whole_result_not : (b : Box (Unit {0}) Heap) (v : Vec (Unit {0}) Heap) → well_formed (whole_result b v) ≡ false
+whole_result_not b v = refl
+
+-- MODULE D; IMPORT Out; PROCEDURE D(n: INTEGER); BEGIN IF n > 1 THEN D(n - 1) END END D; BEGIN Out.Char(''a''); D(20); Out.Char(''b'') END D.
+abbrev by_address : Outside Program
+by_address b v = record { types = record { kinds = (Int ∷ Nothing ∷ []); records = []; signatures = [] }; modules = (record { name = []; objects = []; variables = []; body = 1 } ∷ []); procedures = (record { «module» = 0; line = 1; is_body = false; formals = (record { mode = OfValue; variable = true; type_number = 0 } ∷ []); result = 1; locals = []; texts = []; body = ((If' (vec1 v) (more_of-Branch (record { form = (Compare' Greater b (Load (Whole (Local 0) Int)) b (Literal 1)); kind = BoolKind }) (vec1 v) (more_of-Stmt (Invoke (Direct' 0 (vec1 v) (more_of-Argument (ByValue (Chain' b (Load (Whole (Local 0) Int)) (vec1 v) (more_of-Link (Operate Subtract (Literal 1)) end_of-Link))) end_of-Argument))) end_of-Stmt) end_of-Branch) (vec0 v) end_of-Stmt) ∷ []); answer = None } ∷ record { «module» = 0; line = 1; is_body = true; formals = []; result = 1; locals = []; texts = []; body = ((OutChar (record { form = (Literal 97); kind = Char })) ∷ (Invoke (Direct' 0 (vec1 v) (more_of-Argument (ByValue (Literal 20)) end_of-Argument))) ∷ (OutChar (record { form = (Literal 98); kind = Char })) ∷ []); answer = None } ∷ []); imports_in = false }
+
+pub by_address_not : (b : Box (Unit {0}) Heap) (v : Vec (Unit {0}) Heap) → well_formed (by_address b v) ≡ false
+by_address_not b v = refl
