@@ -1,2 +1,3 @@
+pub mod Lowest
 pub mod Views
 pub mod Walking

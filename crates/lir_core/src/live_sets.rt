@@ -1,7 +1,7 @@
 //! Which values are live into each node, as rows of bits.
 
-ghost use Rattle.std.specs.Prelude.{◌≡◌, map};
-ghost use Rattle.lir_core.specs.Rows.{has_bit, is_in};
+ghost use Rattle.std.specs.Prelude.{◌≡◌, ◌*◌, map};
+ghost use Rattle.lir_core.specs.Rows.{has_bit, is_in, IsNext};
 
 use std::marker::Model;
 
@@ -36,6 +36,17 @@ impl LiveSets {
             None => false,
         }
     }
+
+    /// The lowest value from `from` on that is live into a node; none where there is no such node or value. Takes no
+    /// memory, and time in proportion to the words that are passed: to go through a row takes its words and its values.
+    pub fn next_live(&self, node: u32, from: u32) -> Option<u32>
+        ensures { IsNext (has_bit self.now node) from result }
+    {
+        match self.rows.get(node as usize) {
+            Some(row) => next_bit(row.as_slice(), from),
+            None => None,
+        }
+    }
 }
 
 // A value's bit of a row.
@@ -46,4 +57,31 @@ fn bit(row: &[u64], value: u32) -> bool
         Some(word) => *word >> (value % 64) & 1 == 1,
         None => false,
     }
+}
+
+// The lowest value of a row from `from` on: the word of `from` from that bit on, and then the words behind.
+fn next_bit(row: &[u64], from: u32) -> Option<u32>
+    ensures { IsNext (is_in row.now) from result }
+{
+    let word = from as usize / 64;
+    if word >= row.len() {
+        return None;
+    }
+    let rest = row[word] >> (from % 64);
+    if rest != 0 {
+        return Some(from + rest.trailing_zeros());
+    }
+    first_bit(row, word + 1)
+}
+
+// The lowest value of a row from a word on; a value's number is below 2^32.
+fn first_bit(row: &[u64], word: usize) -> Option<u32>
+    ensures { IsNext (is_in row.now) (word * 64) result }
+{
+    for at in word..row.len().min(1 << 26) {
+        if row[at] != 0 {
+            return Some(at as u32 * 64 + row[at].trailing_zeros());
+        }
+    }
+    None
 }
