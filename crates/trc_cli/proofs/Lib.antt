@@ -1,2 +1,3 @@
-mod Verdicts
+mod Answering
 mod Once
+mod Meant

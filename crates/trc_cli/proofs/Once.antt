@@ -1,53 +1,128 @@
 -- Words come to one thing.
-use Rattle.std.proofs.Common.{◌≡◌, ℕ, List, Option, Some, None, String, Global, ◌⊎◌, inl, inr, refl, sym, ap, ◌∙◌, subst}
-use Rattle.outside.specs.Counts.{Rose}
+use Rattle.std.proofs.Common.{◌≡◌, ℕ, ◌+◌, ◌<◌, ◌≤◌, List, [], ◌∷◌, ◌++◌, map, length, Bool, true, Option, Some, None, ◌⊎◌, inl, inr, refl, sym, ap, ap₂, ◌∙◌, subst, arith}
 use Rattle.outside.specs.Files.{Held}
-use Rattle.outside.specs.Sink.{TookAll, Faulted}
-use Rattle.first_text.proofs.Once.{one_output}
-use Rattle.trc_cli.specs.Verdict.{Verdict, Refuses, Runs, cause_of, written_by, SourceComesTo, ContentComesTo, FileComesTo, ComesTo, NoCommand, RunFile}
-use Rattle.trc_cli.specs.Answers.{Change, FilesFailed, Answers, AsItComes, FailsReading, FailsWriting, LacksMemory}
-use Rattle.trc_cli.specs.declared.causes.Device.TheVariants.{Files, Input, Output}
+use Rattle.run_laws.specs.Runs.{Outcome}
+use Rattle.image_form.specs.declared.image.Image.{Image}
+use Rattle.image_form.specs.Form.{IsInForm}
+use Rattle.image_file.specs.Rules.{Broken, first_fault}
+use Rattle.image_file.specs.Spelling.{image_bytes, AreWords}
+use Rattle.image_file.proofs.Whole.{images_are_same, image_has_no_fault}
+use Rattle.a64_machine.specs.State.{Trap}
+use Rattle.first_text.specs.declared.tree.Statement.{Statement}
+use Rattle.first_text.specs.declared.tree.Text.{Text}
+use Rattle.first_text.specs.Syntax.{Call}
+use Rattle.first_text.specs.Trees.{call}
+use Rattle.first_text.specs.Texts.{IsText, call_values}
+use Rattle.first_text.proofs.Once.{one_body}
+use Rattle.straight_code.specs.declared.operation.Operation.{Operation}
+use Rattle.straight_code.specs.Images.{image}
+use Rattle.trc_compile.specs.Images.{image_of}
+use Rattle.trc_compile.specs.Lowering.{call_operations, statements_operations, operations_of}
+use Rattle.trc_words.specs.Asked.{Asked, Run, Build, Exec, Help}
 use Rattle.trc_cli.specs.declared.causes.Cause.{Cause}
-use Rattle.trc_cli.specs.declared.causes.Cause.TheVariants.{Memory}
-use Rattle.trc_cli.proofs.Verdicts.{one_name}
+use Rattle.trc_cli.specs.declared.causes.Cause.TheVariants.{Memory, NotImage}
+use Rattle.trc_cli.specs.declared.causes.Device.TheVariants.{Files, Input, Output}
+use Rattle.trc_cli.specs.Runs.{run_of}
+use Rattle.trc_cli.specs.Verdict.{Verdict, Refuses, Runs, Writes, Prints, cause_of, FileComesTo, IsMissing, HasBytes, IsHeld, SourceComesTo, IsUnbuilt, IsCompiled, ImageComesTo, RunsAlone, RunsOnInput, HasTooMuch, BytesComeTo, AreTooMany, AreNoImage, AreAnImage, ComesTo, world, Written}
+use Rattle.trc_cli.specs.Answers.{Told, told, Answers, AsItComes, FailsReading, FailsPrinting, FailsWriting, LacksMemory, AllDone}
+use Rattle.trc_cli.specs.Laws.{Alike, SameFile, NoneFailed, TellsAll}
 
--- they answer one cause and write the same
-pub record Alike (a b : Verdict) : Type 0 where
-  pub cause : cause_of a ≡ cause_of b
-  pub written : written_by a ≡ written_by b
+same_file : (v : Verdict) → SameFile v v
+same_file (Refuses cause) = tt
+same_file (Runs reads outcome) = tt
+same_file (Writes name bytes) = (refl, refl)
+same_file (Prints lines) = tt
 
-equal_alike : (a b : Verdict) → a ≡ b → Alike a b
-equal_alike a b e = record { cause = ap cause_of e; written = ap written_by e }
+alike : (v : Verdict) → Alike v v
+alike v = record { cause = refl; written = refl; file = same_file v }
 
-source_once : (bytes : List ℕ) (a b : Verdict) → SourceComesTo bytes a → SourceComesTo bytes b → Alike a b
-source_once bytes (Refuses c) (Refuses d) h k = record { cause = h.0 ∙ sym k.0; written = refl }
-source_once bytes (Refuses c) (Runs t) h k = absurd (h.1.none t k)
-source_once bytes (Runs t) (Refuses d) h k = absurd (k.1.none t h)
-source_once bytes (Runs t) (Runs u) h k = record { cause = refl; written = one_output bytes t u h k }
+-- two that are one verdict
+both : (a b v : Verdict) → a ≡ v → b ≡ v → Alike a b
+both a b v e f = subst (λ x. Alike a x) (sym f) (subst (λ x. Alike x v) (sym e) (alike v))
 
-content_once : (content : Option (List ℕ)) (a b : Verdict) → ContentComesTo content a → ContentComesTo content b → Alike a b
-content_once None a b h k = equal_alike a b (h ∙ sym k)
-content_once (Some bytes) a b h k = source_once bytes a b h k
+-- each is the same as the other
+two : (a b v w : Verdict) → v ≡ w → a ≡ v → b ≡ w → Alike a b
+two a b v w same e f = both a b v e (f ∙ sym same)
 
-file_once : (held : Held) (name : List ℕ) (a b : Verdict) → FileComesTo (Some held) name a → FileComesTo (Some held) name b → Alike a b
-file_once held name a b h k = content_once h.content a b h.comes (subst (λ c. ContentComesTo c b) (sym k.file ∙ h.file) k.comes)
+-- the operations of calls
+abbrev calls_operations : ℕ → List Call → List Operation
+calls_operations made [] = []
+calls_operations made (c ∷ cs) = call_operations made c ++ calls_operations (made + call_values c) cs
 
-pub once : (words : List (String Global)) (held : Held) (a b : Verdict) → ComesTo words (Some held) a → ComesTo words (Some held) b → Alike a b
-once words held a b (NoCommand none e) (NoCommand none' f) = equal_alike a b (e ∙ sym f)
-once words held a b (NoCommand none e) (RunFile name is f) = absurd (none.run name is)
-once words held a b (RunFile name is e) (NoCommand none f) = absurd (none.run name is)
-once words held a b (RunFile name is e) (RunFile other is' f) = file_once held name a b e (subst (λ n. FileComesTo (Some held) n b) (one_name _ _ other name is' is) f)
+operations_are : (made : ℕ) (statements : List Statement) → calls_operations made (map call statements) ≡ statements_operations made statements
+operations_are made [] = refl
+operations_are made (s ∷ rest) = ap (λ operations. call_operations made (call s) ++ operations) (operations_are (made + call_values (call s)) rest)
 
-no_file_failed : (old new : ℕ) (Any : Type 0) (device : _) → (Rose old new → ⊥) → FilesFailed old new device → Any
-no_file_failed old new Any Files quiet failed = absurd (quiet failed)
-no_file_failed old new Any Input quiet failed = absurd failed
-no_file_failed old new Any Output quiet failed = absurd failed
+-- a text has one image
+one_image : (bytes : List ℕ) (a b : Text) → IsText bytes a → IsText bytes b → image_of a ≡ image_of b
+one_image bytes a b x y = ap image (sym (operations_are 0 a.statements.items) ∙ ap (calls_operations 0) (one_body bytes a b x y) ∙ operations_are 0 b.statements.items)
 
-pub quiet_answers : (words : List (String Global)) (held : Held) (verdict : Verdict) (old new : ℕ) (out : Change) (cause : Cause) → ComesTo words (Some held) verdict → (Rose old new → ⊥) → (Faulted out.before out.after → ⊥) → Answers (ComesTo words (Some held)) (FilesFailed old new) out cause
-    → ((cause ≡ cause_of verdict) × TookAll out.before out.after (written_by verdict)) ⊎ (cause ≡ Memory)
-quiet_answers words held verdict old new out cause comes quiet still (AsItComes other it step is took) =
-    let alike = once words held other verdict it comes in
-    inl (is ∙ alike.cause, subst (TookAll out.before out.after) alike.written took)
-quiet_answers words held verdict old new out cause comes quiet still (FailsReading device failed is took) = no_file_failed old new _ device quiet failed
-quiet_answers words held verdict old new out cause comes quiet still (FailsWriting other it step is took rose) = absurd (still rose)
-quiet_answers words held verdict old new out cause comes quiet still (LacksMemory is took) = inr is
+image_once : (left : List ℕ) (steps : ℕ) (image : Image) (a b : Verdict) → ImageComesTo (Some left) steps image a → ImageComesTo (Some left) steps image b → Alike a b
+image_once left steps image a b (RunsAlone f e) (RunsAlone f' e') = both a b _ e e'
+image_once left steps image a b (RunsAlone f e) (RunsOnInput input f' is few e') = absurd (omega (arith, f, f'))
+image_once left steps image a b (RunsAlone f e) (HasTooMuch input f' is many e') = absurd (omega (arith, f, f'))
+image_once left steps image a b (RunsOnInput input f is few e) (RunsAlone f' e') = absurd (omega (arith, f, f'))
+image_once left steps image a b (RunsOnInput input f is few e) (RunsOnInput other f' is' few' e') = two a b _ _ (ap (λ i. Runs true (run_of image i steps)) (sym is ∙ is')) e e'
+image_once left steps image a b (RunsOnInput input f is few e) (HasTooMuch other f' is' many e') = let same = ap length (sym is ∙ is') in absurd (omega (arith, few, many, same))
+image_once left steps image a b (HasTooMuch input f is many e) (RunsAlone f' e') = absurd (omega (arith, f, f'))
+image_once left steps image a b (HasTooMuch input f is many e) (RunsOnInput other f' is' few e') = let same = ap length (sym is ∙ is') in absurd (omega (arith, few, many, same))
+image_once left steps image a b (HasTooMuch input f is many e) (HasTooMuch other f' is' many' e') = both a b _ e e'
+
+same_broken : (b c : Broken) → Some b ≡ Some c → b ≡ c
+same_broken b c e = cc
+
+no_broken : (b : Broken) → Some b ≡ None → ⊥
+no_broken b e = cc
+
+bytes_once : (left : List ℕ) (steps : ℕ) (bytes : List ℕ) (a b : Verdict) → BytesComeTo (Some left) steps bytes a → BytesComeTo (Some left) steps bytes b → Alike a b
+bytes_once left steps bytes a b (AreTooMany l e) (AreTooMany m f) = both a b _ e f
+bytes_once left steps bytes a b (AreTooMany l e) (AreNoImage c m is f) = absurd (omega (arith, l, m))
+bytes_once left steps bytes a b (AreTooMany l e) (AreAnImage i m form words is f) = absurd (omega (arith, l, m))
+bytes_once left steps bytes a b (AreNoImage c l is e) (AreTooMany m f) = absurd (omega (arith, l, m))
+bytes_once left steps bytes a b (AreNoImage c l is e) (AreNoImage d m is' f) = two a b _ _ (ap (λ x. Refuses (NotImage x.number x.at)) (same_broken c d (sym is ∙ is'))) e f
+bytes_once left steps bytes a b (AreNoImage c l is e) (AreAnImage i m form words is' f) = absurd (no_broken c (sym is ∙ image_has_no_fault bytes i form is'))
+bytes_once left steps bytes a b (AreAnImage i l form words is e) (AreTooMany m f) = absurd (omega (arith, l, m))
+bytes_once left steps bytes a b (AreAnImage i l form words is e) (AreNoImage c m is' f) = absurd (no_broken c (sym is' ∙ image_has_no_fault bytes i form is))
+bytes_once left steps bytes a b (AreAnImage i l form words is e) (AreAnImage j m form' words' is' f) =
+    image_once left steps i a b e (subst (λ x. ImageComesTo (Some left) steps x b) (images_are_same j i form' form words' words (sym is' ∙ is)) f)
+
+source_once : (next : Image → Verdict → Type 0) (bytes : List ℕ) (a b : Verdict) → ((i : Image) → next i a → next i b → Alike a b) → SourceComesTo next bytes a → SourceComesTo next bytes b → Alike a b
+source_once next bytes a b one (IsUnbuilt none e) (IsUnbuilt none' f) = both a b _ e f
+source_once next bytes a b one (IsUnbuilt none e) (IsCompiled text is meant f) = absurd (none.none text is)
+source_once next bytes a b one (IsCompiled text is meant e) (IsUnbuilt none f) = absurd (none.none text is)
+source_once next bytes a b one (IsCompiled text is meant e) (IsCompiled other is' meant' f) = one (image_of text) e (subst (λ i. next i b) (one_image bytes other text is' is) f)
+
+some_held : (xs ys : List ℕ) (o : Option (List ℕ)) → o ≡ Some xs → o ≡ Some ys → ys ≡ xs
+some_held xs ys o e f = cc
+
+not_held : (xs : List ℕ) (o : Option (List ℕ)) → o ≡ None → o ≡ Some xs → ⊥
+not_held xs o e f = cc
+
+file_once : (held : Held) (name : List ℕ) (next : List ℕ → Verdict → Type 0) (a b : Verdict) → ((bytes : List ℕ) → next bytes a → next bytes b → Alike a b)
+    → FileComesTo (Some held) name next a → FileComesTo (Some held) name next b → Alike a b
+file_once held name next a b one (IsMissing none e) (IsMissing none' f) = both a b _ e f
+file_once held name next a b one (IsMissing none e) (HasBytes bytes is f) = absurd (not_held bytes _ none is)
+file_once held name next a b one (HasBytes bytes is e) (IsMissing none f) = absurd (not_held bytes _ none is)
+file_once held name next a b one (HasBytes bytes is e) (HasBytes other is' f) = one bytes e (subst (λ x. next x b) (some_held bytes other _ is is') f)
+
+pub once : (held : Held) (left : List ℕ) (asked : Option Asked) (a b : Verdict) → ComesTo (world (Some held) (Some left)) asked a → ComesTo (world (Some held) (Some left)) asked b → Alike a b
+once held left None a b h k = both a b _ h k
+once held left (Some (Run file steps)) a b h k = file_once held file _ a b (λ bytes. source_once _ bytes a b (λ i. image_once left steps i a b)) h k
+once held left (Some (Build out file)) a b h k = file_once held file _ a b (λ bytes. source_once (Written out) bytes a b (λ i e f. both a b _ e f)) h k
+once held left (Some (Exec image steps)) a b h k = file_once held image _ a b (λ bytes. bytes_once left steps bytes a b) h k
+once held left (Some Help) a b h k = both a b _ h k
+
+told_once : (old : Told) (asked : Option Asked) (a b : Verdict) → TellsAll old → ComesTo (world old.held old.left) asked a → ComesTo (world old.held old.left) asked b → Alike a b
+told_once old asked a b tells h k =
+    once tells.files tells.input asked a b
+    (subst (λ l. ComesTo (world (Some tells.files) l) asked a) tells.left (subst (λ f. ComesTo (world f old.left) asked a) tells.held h))
+    (subst (λ l. ComesTo (world (Some tells.files) l) asked b) tells.left (subst (λ f. ComesTo (world f old.left) asked b) tells.held k))
+
+pub quiet : (asked : Option Asked) (old new : Told) (verdict : Verdict) (cause : Cause) → TellsAll old → NoneFailed old new → ComesTo (world old.held old.left) asked verdict
+    → Answers (ComesTo (world old.held old.left) asked) old new cause
+    → (cause ≡ Memory) ⊎ ((other : Verdict) × Alike verdict other × (cause ≡ cause_of other) × AllDone old other new)
+quiet asked old new verdict cause tells none comes (AsItComes other it is done) = inr (other, told_once old asked verdict other tells comes it, is, done)
+quiet asked old new verdict cause tells none comes (FailsReading device is rose nothing) = absurd (none.none device rose)
+quiet asked old new verdict cause tells none comes (FailsPrinting other it is cut) = absurd (none.none Output cut.failed)
+quiet asked old new verdict cause tells none comes (FailsWriting name bytes it is rose took file still) = absurd (none.none Files rose)
+quiet asked old new verdict cause tells none comes (LacksMemory is nothing) = inl is

@@ -1,5 +1,5 @@
-pub mod Words
 pub mod Causes
 pub mod Runs
 pub mod Verdict
 pub mod Answers
+pub mod Laws

@@ -1,28 +1,26 @@
--- The run of a text's image.
-use Rattle.std.specs.Prelude.{◌≡◌, ℕ, List, []}
-use Rattle.run_laws.specs.Runs.{Outcome, Ended, run}
+-- The run of an image, and what it comes to.
+use Rattle.std.specs.Prelude.{ℕ, List, []}
+use Rattle.run_laws.specs.Runs.{Outcome, Ended, Trapped, Going, run}
 use Rattle.image_form.specs.declared.image.Image.{Image}
-use Rattle.a64_machine.specs.State.{Trap}
+use Rattle.a64_machine.specs.State.{Trap, Broke, Undefined, BadAddress, BadCall}
 use Rattle.a64_machine.specs.Machine.{start, step_of}
-use Rattle.first_text.specs.declared.tree.Text.{Text}
-use Rattle.first_text.specs.Meaning.{output_of}
-use Rattle.trc_compile.specs.Images.{image_of, RunsAsMeant}
+use Rattle.a64_machine.specs.declared.answers.Step.TheVariants as step
+use Rattle.trc_cli.specs.declared.causes.Cause.{Cause}
+use Rattle.trc_cli.specs.declared.causes.Cause.TheVariants as cause
 
--- how many steps a run makes at most
-unfoldable pub most_steps : ℕ
-most_steps = 1000000000
+-- the run of an image on an input, for so many steps
+abbrev pub run_of : Image → List ℕ → ℕ → Outcome Trap
+run_of image input steps = run (step_of image.code) steps (start image input) []
 
--- the run of an image on an empty input
-abbrev pub run_of : Image → Outcome Trap
-run_of image = run (step_of image.code) most_steps (start image []) []
+-- the cause of what stops a machine
+abbrev pub cause_of_trap : Trap → Cause
+cause_of_trap (Broke kind place) = cause.Trapped kind
+cause_of_trap (Undefined word) = cause.MachineFault (step.Undefined word)
+cause_of_trap (BadAddress address) = cause.MachineFault (step.BadAddress address)
+cause_of_trap (BadCall number) = cause.MachineFault (step.BadCall number)
 
--- the run of an image ends
-pub record Ends (image : Image) : Type 0 where
-  pub out : List ℕ
-  pub ended : run_of image ≡ Ended out
-
--- the run of a text's image ends with exactly what the text writes, and for every number of turns and steps the
--- machine is in step with the text's meaning
-pub record EndsAsMeant (text : Text) : Type 0 where
-  pub ended : run_of (image_of text) ≡ Ended (output_of text)
-  pub meant : RunsAsMeant text
+-- the cause of how a run ends, or is cut off
+abbrev pub cause_of_run : Outcome Trap → Cause
+cause_of_run (Ended out) = cause.Done
+cause_of_run (Trapped trap out) = cause_of_trap trap
+cause_of_run (Going out) = cause.Spent

@@ -1,61 +1,121 @@
 -- What a command comes to when nothing fails.
-use Rattle.std.specs.Prelude.{◌≡◌, ℕ, List, [], Option, Some, None, String}
-use Rattle.std.specs.Global.{Global}
+use Rattle.std.specs.Prelude.{◌≡◌, ◌≤◌, ◌<◌, ℕ, List, [], ◌∷◌, ◌++◌, length, Bool, true, false, Option, Some, None, codes}
 use Rattle.outside.specs.Files.{Held}
+use Rattle.run_laws.specs.Runs.{Outcome, output}
+use Rattle.image_form.specs.declared.image.Image.{Image}
+use Rattle.image_form.specs.Form.{IsInForm}
+use Rattle.image_file.specs.Rules.{Broken, first_fault}
+use Rattle.image_file.specs.Spelling.{image_bytes, AreWords}
+use Rattle.a64_machine.specs.State.{Trap}
 use Rattle.first_text.specs.declared.tree.Text.{Text}
 use Rattle.first_text.specs.Texts.{IsText}
-use Rattle.first_text.specs.Meaning.{output_of}
-use Rattle.trc_cli.specs.Words.{IsRun, IsNoCommand}
-use Rattle.trc_cli.specs.Runs.{EndsAsMeant}
+use Rattle.trc_compile.specs.Images.{image_of, RunsAsMeant}
+use Rattle.trc_words.specs.Asked.{Asked, Run, Build, Exec, Help}
+use Rattle.trc_cli.specs.Runs.{run_of, cause_of_run}
 use Rattle.trc_cli.specs.declared.causes.Cause.{Cause}
-use Rattle.trc_cli.specs.declared.causes.Cause.TheVariants.{Usage, NoSuchFile, Unbuilt, Done}
+use Rattle.trc_cli.specs.declared.causes.Cause.TheVariants.{Usage, NoSuchFile, Unbuilt, NotImage, InputTooLong, Done}
 
--- a command is refused for a cause, or runs a text
+-- a command is refused for a cause, runs an image, writes a file, or prints lines
 pub data Verdict : Type 0 where
   Refuses : Cause → Verdict
-  Runs : Text → Verdict
+  Runs : (reads_input : Bool) → Outcome Trap → Verdict
+  Writes : (name bytes : List ℕ) → Verdict
+  Prints : List ℕ → Verdict
 
 -- the cause that it answers
 abbrev pub cause_of : Verdict → Cause
 cause_of (Refuses cause) = cause
-cause_of (Runs text) = Done
+cause_of (Runs reads outcome) = cause_of_run outcome
+cause_of (Writes name bytes) = Done
+cause_of (Prints lines) = Done
 
 -- what it writes on the output
 abbrev pub written_by : Verdict → List ℕ
 written_by (Refuses cause) = []
-written_by (Runs text) = output_of text
+written_by (Runs reads outcome) = output outcome
+written_by (Writes name bytes) = []
+written_by (Prints lines) = lines
 
--- the bytes are the text of no tree
-pub record IsNoText (bytes : List ℕ) : Type 0 where
-  pub none : (text : Text) → IsText bytes text → ⊥
+-- whether it reads the input
+abbrev pub reads_input : Verdict → Bool
+reads_input (Refuses InputTooLong) = true
+reads_input (Runs reads outcome) = reads
+reads_input _ = false
 
--- what a source comes to: a text is run, and other bytes are refused
-abbrev pub SourceComesTo : List ℕ → Verdict → Type 0
-SourceComesTo bytes (Refuses cause) = (cause ≡ Unbuilt) × IsNoText bytes
-SourceComesTo bytes (Runs text) = IsText bytes text
+-- what the devices tell before a command: what files hold, and what is left of the input, each where it is told
+pub record World : Type 0 where
+  pub held : Option Held
+  pub left : Option (List ℕ)
 
--- what a file comes to that holds this
-abbrev pub ContentComesTo : Option (List ℕ) → Verdict → Type 0
-ContentComesTo None verdict = verdict ≡ Refuses (NoSuchFile 0)
-ContentComesTo (Some bytes) verdict = SourceComesTo bytes verdict
+abbrev pub world : Option Held → Option (List ℕ) → World
+world held left = record { held = held; left = left }
 
 -- where the files tell what they hold, this is held under the name
 abbrev pub IsHeld : Option Held → List ℕ → Option (List ℕ) → Type 0
 IsHeld None name content = Unit {0}
 IsHeld (Some held) name content = held name ≡ content
 
--- what the file with this name comes to
-pub record FileComesTo (held : Option Held) (name : List ℕ) (verdict : Verdict) : Type 0 where
-  pub content : Option (List ℕ)
-  pub file : IsHeld held name content
-  pub comes : ContentComesTo content verdict
+-- where it is told what is left of the input, this is
+abbrev pub IsLeft : Option (List ℕ) → List ℕ → Type 0
+IsLeft None input = Unit {0}
+IsLeft (Some left) input = left ≡ input
 
--- what words come to, a line for each command
-pub data ComesTo (words : List (String Global)) (held : Option Held) (verdict : Verdict) : Type 0 where
-  NoCommand : IsNoCommand words → verdict ≡ Refuses Usage → ComesTo words held verdict
-  RunFile : (name : List ℕ) → IsRun words name → FileComesTo held name verdict → ComesTo words held verdict
+-- a file isn't there, or its bytes come to something
+pub data FileComesTo (held : Option Held) (name : List ℕ) (next : List ℕ → Verdict → Type 0) (verdict : Verdict) : Type 0 where
+  IsMissing : IsHeld held name None → verdict ≡ Refuses (NoSuchFile 0) → FileComesTo held name next verdict
+  HasBytes : (bytes : List ℕ) → IsHeld held name (Some bytes) → next bytes verdict → FileComesTo held name next verdict
 
--- the promise about the image that is run
-abbrev pub IsInStep : Verdict → Type 0
-IsInStep (Refuses cause) = Unit {0}
-IsInStep (Runs text) = EndsAsMeant text
+-- the bytes are the text of no tree
+pub record IsNoText (bytes : List ℕ) : Type 0 where
+  pub none : (text : Text) → IsText bytes text → ⊥
+
+-- a source is no text that is compiled so far, or its text's image comes to something; a machine that runs this image is in
+-- step with what the text means
+pub data SourceComesTo (next : Image → Verdict → Type 0) (bytes : List ℕ) (verdict : Verdict) : Type 0 where
+  IsUnbuilt : IsNoText bytes → verdict ≡ Refuses Unbuilt → SourceComesTo next bytes verdict
+  IsCompiled : (text : Text) → IsText bytes text → RunsAsMeant text → next (image_of text) verdict → SourceComesTo next bytes verdict
+
+-- an image is run, on the input where its flag says that it reads it
+pub data ImageComesTo (left : Option (List ℕ)) (steps : ℕ) (image : Image) (verdict : Verdict) : Type 0 where
+  RunsAlone : image.flags ≡ 0 → verdict ≡ Runs false (run_of image [] steps) → ImageComesTo left steps image verdict
+  RunsOnInput : (input : List ℕ) → image.flags ≡ 1 → IsLeft left input → length input ≤ 1048576
+      → verdict ≡ Runs true (run_of image input steps) → ImageComesTo left steps image verdict
+  HasTooMuch : (input : List ℕ) → image.flags ≡ 1 → IsLeft left input → 1048576 < length input
+      → verdict ≡ Refuses InputTooLong → ImageComesTo left steps image verdict
+
+-- bytes are too many for an image, break a rule of images, or are an image, which is run
+pub data BytesComeTo (left : Option (List ℕ)) (steps : ℕ) (bytes : List ℕ) (verdict : Verdict) : Type 0 where
+  AreTooMany : 16777216 < length bytes → verdict ≡ Refuses (NotImage 65 16777216) → BytesComeTo left steps bytes verdict
+  AreNoImage : (broken : Broken) → length bytes ≤ 16777216 → first_fault bytes ≡ Some broken
+      → verdict ≡ Refuses (NotImage broken.number broken.at) → BytesComeTo left steps bytes verdict
+  AreAnImage : (image : Image) → length bytes ≤ 16777216 → IsInForm image → AreWords image.code → bytes ≡ image_bytes image
+      → ImageComesTo left steps image verdict
+      → BytesComeTo left steps bytes verdict
+
+-- an image is written to the file of this name
+abbrev pub Written : List ℕ → Image → Verdict → Type 0
+Written name image verdict = verdict ≡ Writes name (image_bytes image)
+
+-- the lines of help
+abbrev pub help_lines : List ℕ
+help_lines = codes "trc run|build|exec|help" ++ (10 ∷ (codes "--steps" ++ 10 ∷ []))
+
+-- what each command comes to
+abbrev pub RequestComesTo : World → Asked → Verdict → Type 0
+RequestComesTo world (Run file steps) = FileComesTo world.held file (SourceComesTo (ImageComesTo world.left steps))
+RequestComesTo world (Build out file) = FileComesTo world.held file (SourceComesTo (Written out))
+RequestComesTo world (Exec image steps) = FileComesTo world.held image (BytesComeTo world.left steps)
+RequestComesTo world Help = λ verdict. verdict ≡ Prints help_lines
+
+-- what words come to that ask for this, or for nothing
+abbrev pub ComesTo : World → Option Asked → Verdict → Type 0
+ComesTo world None verdict = verdict ≡ Refuses Usage
+ComesTo world (Some request) verdict = RequestComesTo world request verdict
+
+-- the names of the files that a command reads, in the order of reading
+abbrev pub names_read : Option Asked → List (List ℕ)
+names_read None = []
+names_read (Some (Run file steps)) = file ∷ []
+names_read (Some (Build out file)) = file ∷ []
+names_read (Some (Exec image steps)) = image ∷ []
+names_read (Some Help) = []

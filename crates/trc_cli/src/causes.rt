@@ -3,8 +3,10 @@
 ghost use Rattle.std.specs.Prelude.{◌≡◌};
 ghost use Rattle.trc_cli.specs.Causes.{status_of};
 
+use a64_machine::Step;
+
 /// A device of the outside.
-#[derive(Clone, Copy, PartialEq, Debug)]
+#[derive(Clone, Copy, Debug)]
 pub enum Device {
     Files,
     Input,
@@ -12,7 +14,7 @@ pub enum Device {
 }
 
 /// Why a call ended, in the order in which the causes are tried; want of memory can come at any time.
-#[derive(Clone, Copy, PartialEq, Debug)]
+#[derive(Clone, Copy, Debug)]
 pub enum Cause {
     /// The words are no command.
     Usage,
@@ -22,6 +24,16 @@ pub enum Cause {
     ReadFault { device: Device },
     /// The file is no text that is compiled so far.
     Unbuilt,
+    /// The file is no image: the number of the first rule that it breaks, 60 to 65, and the place of the byte.
+    NotImage { number: u8, at: u32 },
+    /// The input has more than 1,048,576 bytes.
+    InputTooLong,
+    /// The program stopped at a trap of this kind.
+    Trapped { kind: u16 },
+    /// The machine came to what it can't do: an undefined word, a bad address or a bad call.
+    MachineFault { fault: Step },
+    /// All steps were made, and the program would go on.
+    Spent,
     /// The device failed while it was written.
     WriteFault { device: Device },
     /// There was no memory.
@@ -31,7 +43,7 @@ pub enum Cause {
 }
 
 /// A cause, and the status with which the program ends.
-#[derive(Clone, Copy, PartialEq, Debug)]
+#[derive(Clone, Copy, Debug)]
 pub struct Outcome {
     pub status: u8,
     pub cause: Cause,
@@ -46,6 +58,11 @@ pub(crate) fn status(cause: Cause) -> u8
         Cause::NoSuchFile { .. } => 4,
         Cause::ReadFault { .. } => 4,
         Cause::Unbuilt => 20,
+        Cause::NotImage { .. } => 8,
+        Cause::InputTooLong => 3,
+        Cause::Trapped { .. } => 6,
+        Cause::MachineFault { .. } => 9,
+        Cause::Spent => 7,
         Cause::WriteFault { .. } => 4,
         Cause::Memory => 5,
         Cause::Done => 0,

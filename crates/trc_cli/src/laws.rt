@@ -1,21 +1,35 @@
 //! What the answers of the top call come to.
 
-ghost use Rattle.std.specs.Prelude.{◌≡◌, ◌⊎◌, ℕ, List, Some, String};
-ghost use Rattle.std.specs.Global.{Global};
-ghost use Rattle.outside.specs.Counts.{Rose};
+ghost use Rattle.std.specs.Prelude.{◌≡◌, ◌≤◌, ◌⊎◌, ℕ, List, Option, Some};
 ghost use Rattle.outside.specs.Files.{Held};
-ghost use Rattle.outside.specs.Sink.{TookAll, Faulted};
+ghost use Rattle.run_laws.specs.Runs.{Ended};
+ghost use Rattle.image_form.specs.Form.{IsInForm};
+ghost use Rattle.first_text.specs.declared.tree.Text.{Text};
+ghost use Rattle.first_text.specs.Meaning.{output_of};
+ghost use Rattle.trc_compile.specs.Images.{image_of, RunsAsMeant};
+ghost use Rattle.trc_words.specs.Asked.{Asked};
+ghost use Rattle.trc_cli.specs.Runs.{run_of};
 ghost use Rattle.trc_cli.specs.declared.causes.Cause.{Cause};
-ghost use Rattle.trc_cli.specs.Verdict.{Verdict, cause_of, written_by, ComesTo};
-ghost use Rattle.trc_cli.specs.Answers.{Change, Answers, FilesFailed};
+ghost use Rattle.trc_cli.specs.Verdict.{Verdict, ComesTo, cause_of, world};
+ghost use Rattle.trc_cli.specs.Answers.{AllDone, Answers, Told};
+ghost use Rattle.trc_cli.specs.Laws.{Alike, EndsOrGoesOn, NoneFailed, TellsAll};
 
-/// Words come to one thing at most, where the files tell what they hold: to one cause, and one output. So where no
-/// count of faults rises, the answer is that cause and the output took exactly that, unless memory ran out.
+/// Where files and input tell what they hold, words come to one thing at most: to one cause, one output and one file
+/// that is written. So where no count of faults rises, the answer is that cause and all of it is done, unless memory ran
+/// out.
 pub fn answers_are_verdicts()
-    ensures once { (words : List (String Global)) (held : Held) (a b : Verdict) → ComesTo words (Some held) a → ComesTo words (Some held) b
-        → (cause_of a ≡ cause_of b) × (written_by a ≡ written_by b) }
-    ensures quiet { (words : List (String Global)) (held : Held) (verdict : Verdict) (old new : ℕ) (out : Change) (cause : Cause)
-        → ComesTo words (Some held) verdict → (Rose old new → ⊥) → (Faulted out.before out.after → ⊥)
-        → Answers (ComesTo words (Some held)) (FilesFailed old new) out cause
-        → ((cause ≡ cause_of verdict) × TookAll out.before out.after (written_by verdict)) ⊎ (cause ≡ Cause.Memory) }
+    ensures once { (held : Held) (left : List ℕ) (asked : Option Asked) (a b : Verdict)
+        → ComesTo (world (Some held) (Some left)) asked a → ComesTo (world (Some held) (Some left)) asked b → Alike a b }
+    ensures quiet { (asked : Option Asked) (old new : Told) (verdict : Verdict) (cause : Cause)
+        → TellsAll old → NoneFailed old new → ComesTo (world old.held old.left) asked verdict
+        → Answers (ComesTo (world old.held old.left) asked) old new cause
+        → ((cause ≡ Cause.Memory) ⊎ ((other : Verdict) × Alike verdict other × (cause ≡ cause_of other) × AllDone old other new)) }
+{}
+
+/// The run of a compiled text never traps and comes to nothing that the machine can't do: for every number of steps it has
+/// ended with exactly what the text writes, or goes on with a beginning of that; with 262,144 steps or more it has ended.
+pub fn compiled_texts_run_as_meant()
+    ensures meant { (text : Text) (input : List ℕ) (steps : ℕ) → RunsAsMeant text → EndsOrGoesOn (output_of text) (run_of (image_of text) input steps) }
+    ensures enough { (text : Text) (input : List ℕ) (steps : ℕ) → IsInForm (image_of text) → RunsAsMeant text → 262144 ≤ steps
+        → run_of (image_of text) input steps ≡ Ended (output_of text) }
 {}

@@ -37,9 +37,6 @@ pub fn run_program<
 {
     match words_of(rt) {
         Ok(words) => trc(rt, words.as_slice(), files, input, out, err, &OpenGate).status,
-        Err(Memory) => {
-            let none = Vec::new(rt.alloc());
-            finish(err, Cause::Memory, none.as_slice()).status
-        }
+        Err(Memory) => finish(err, Cause::Memory, &[]).status,
     }
 }

@@ -1,11 +1,13 @@
 //! The line that tells a cause.
 
-ghost use Rattle.std.specs.Prelude.{◌≡◌, ◌≤◌, [], ◌++◌, OnOk, OnErr};
+ghost use Rattle.std.specs.Prelude.{◌≡◌, ◌<◌, ◌≤◌, ◌+◌, ◌++◌, map, OnOk, OnErr};
 ghost use Rattle.outside.specs.Sink.{TookAll, Faulted};
-ghost use Rattle.trc_cli.specs.Causes.{device_name, line, line_of};
-ghost use Rattle.trc_cli.specs.Words.{file_named};
+ghost use Rattle.out_text.specs.Text.{shortest_text};
+ghost use Rattle.trc_cli.specs.Causes.{device_name, fault_line, hex, hex_digit, line, line_of, name_at};
 
 use crate::causes::{Cause, Device};
+use a64_machine::Step;
+use out_text::IntText;
 use outside::{Sink, WriteFault, write_all};
 
 /// A device's name in a line.
@@ -19,41 +21,105 @@ fn name_of(device: Device) -> &'static [u8]
     }
 }
 
-/// Writes a message, a name and the line's end.
-fn say<E: Sink>(err: &mut E, message: &[u8], name: &[u8]) -> Result<(), WriteFault>
-    ensures all { OnOk result (TookAll (E.account err.old) (E.account err.new) (line message.now name.now)) }
+/// Writes a message, what stands behind it, and the line's end.
+fn say<E: Sink>(err: &mut E, message: &[u8], rest: &[u8]) -> Result<(), WriteFault>
+    ensures all { OnOk result (TookAll (E.account err.old) (E.account err.new) (line message.now rest.now)) }
     ensures rises { (E.account err.old).faults ≤ (E.account err.new).faults }
     ensures failed { OnErr result (Faulted (E.account err.old) (E.account err.new)) }
 {
     write_all(err, message)?;
-    write_all(err, name)?;
+    write_all(err, rest)?;
     write_all(err, b"\n")?;
     Ok(())
 }
 
-/// The name of a file that the command reads, by its number among them; no bytes where there is no such word.
-fn file_named(words: &[String], word: u32) -> &[u8]
-    ensures { result.now ≡ file_named words.now word }
+/// The text of a number in decimal.
+fn decimal(number: u32) -> IntText
+    ensures { result ≡ shortest_text number }
 {
-    let at = 1 + word as usize;
-    if at < words.len() {
-        words[at].as_bytes()
+    IntText::new(u64::from(number), 0)
+}
+
+/// Writes the line of bytes that are no image.
+fn say_no_image<E: Sink>(err: &mut E, number: u8, at: u32) -> Result<(), WriteFault>
+    ensures all { OnOk result (TookAll (E.account err.old) (E.account err.new) (line_of [] (Cause.NotImage number at))) }
+    ensures rises { (E.account err.old).faults ≤ (E.account err.new).faults }
+    ensures failed { OnErr result (Faulted (E.account err.old) (E.account err.new)) }
+{
+    write_all(err, b"trc: not an image: ")?;
+    write_all(err, decimal(u32::from(number)).as_slice())?;
+    say(err, b" at ", decimal(at).as_slice())
+}
+
+/// A hexadecimal digit, in lower case.
+fn hex_digit(number: u8) -> u8
+    requires { number < 16 }
+    ensures { result ≡ hex_digit number }
+{
+    if number < 10 {
+        b'0' + number
     } else {
-        b""
+        b'a' - 10 + number
     }
 }
 
-/// Writes the line of a cause of the command with these words.
-pub(crate) fn report<E: Sink>(err: &mut E, cause: Cause, words: &[String]) -> Result<(), WriteFault>
-    ensures all { OnOk result (TookAll (E.account err.old) (E.account err.new) (line_of words.now cause)) }
+/// The 16 hexadecimal digits of a number.
+fn hex(number: u64) -> [u8; 16]
+    ensures { result ≡ hex 16 number }
+{
+    let mut digits = [b'0'; 16];
+    let mut left = number;
+    for at in (0..16).rev() {
+        digits[at] = hex_digit((left % 16) as u8);
+        left /= 16;
+    }
+    digits
+}
+
+/// Writes the line of what the machine can't do.
+fn say_fault<E: Sink>(err: &mut E, fault: Step) -> Result<(), WriteFault>
+    ensures all { OnOk result (TookAll (E.account err.old) (E.account err.new) (fault_line fault)) }
+    ensures rises { (E.account err.old).faults ≤ (E.account err.new).faults }
+    ensures failed { OnErr result (Faulted (E.account err.old) (E.account err.new)) }
+{
+    match fault {
+        Step::Undefined(word) => say(err, b"trc: undefined word ", &hex(u64::from(word))[8..]),
+        Step::BadAddress(address) => say(err, b"trc: bad address ", &hex(address)),
+        Step::BadCall(number) => say(
+            err,
+            b"trc: bad call ",
+            decimal(u32::from(number)).as_slice(),
+        ),
+        Step::Going | Step::Ended | Step::Trapped(_) | Step::WriteFault => write_all(err, b""),
+    }
+}
+
+/// A name by its number, or no bytes where there is none.
+fn name_at<'a>(names: &[&'a str], number: u32) -> &'a [u8]
+    ensures { result.now ≡ name_at (map (λ name. name.now) names.now) number }
+{
+    match names.get(number as usize) {
+        Some(name) => name.as_bytes(),
+        None => b"",
+    }
+}
+
+/// Writes the line of a cause of a command that reads the files of these names.
+pub(crate) fn report<E: Sink>(err: &mut E, cause: Cause, names: &[&str]) -> Result<(), WriteFault>
+    ensures all { OnOk result (TookAll (E.account err.old) (E.account err.new) (line_of (map (λ name. name.now) names.now) cause)) }
     ensures rises { (E.account err.old).faults ≤ (E.account err.new).faults }
     ensures failed { OnErr result (Faulted (E.account err.old) (E.account err.new)) }
 {
     match cause {
         Cause::Usage => say(err, b"trc: usage", b""),
-        Cause::NoSuchFile { word } => say(err, b"trc: no file ", file_named(words, word)),
+        Cause::NoSuchFile { word } => say(err, b"trc: no file ", name_at(names, word)),
         Cause::ReadFault { device } => say(err, b"trc: read fault on ", name_of(device)),
         Cause::Unbuilt => say(err, b"trc: unbuilt", b""),
+        Cause::NotImage { number, at } => say_no_image(err, number, at),
+        Cause::InputTooLong => say(err, b"trc: input too long", b""),
+        Cause::Trapped { kind } => say(err, b"trc: trap ", decimal(u32::from(kind)).as_slice()),
+        Cause::MachineFault { fault } => say_fault(err, fault),
+        Cause::Spent => say(err, b"trc: steps spent", b""),
         Cause::WriteFault { device } => say(err, b"trc: write fault on ", name_of(device)),
         Cause::Memory => say(err, b"trc: out of memory", b""),
         Cause::Done => write_all(err, b""),

@@ -1,81 +1,182 @@
-//! A file is read, compiled, and its image run.
+//! An image is run, and what is read before it.
 
-ghost use Rattle.std.specs.Prelude.{◌≡◌, ◌≤◌};
+ghost use Rattle.std.specs.Prelude.{◌≡◌, ◌≤◌, ℕ, Option, length};
+ghost use Rattle.outside.specs.Files.{Held};
 ghost use Rattle.image_form.specs.Form.{IsInForm};
-ghost use Rattle.trc_cli.specs.Runs.{most_steps, Ends};
-ghost use Rattle.trc_cli.specs.Verdict.{SourceComesTo, FileComesTo};
-ghost use Rattle.trc_cli.specs.Answers.{Answers, NoneFailed, FilesFailed, RunAnswers};
+ghost use Rattle.trc_cli.specs.Runs.{run_of};
+ghost use Rattle.trc_cli.specs.Verdict.{BytesComeTo, FileComesTo, ImageComesTo, SourceComesTo};
+ghost use Rattle.trc_cli.specs.Answers.{Answers, RunAnswers, told};
 
 use crate::causes::{Cause, Device};
-use a64_machine::{Halt, Machine};
+use a64_machine::{Halt, Machine, Step};
+use image_file::{ImageFault, read_image};
 use image_form::Image;
-use outside::{Files, GetFault, Sink};
+use outside::{Files, GetFault, InFault, Sink, Source, read_all};
 use std::alloc::Global;
 use trc_compile::{Refusal, compile};
 
 /// The most bytes that a source may have.
-const MOST_BYTES: usize = 1_048_576;
+pub(crate) const MOST_SOURCE: usize = 1_048_576;
 
-/// How many steps a run makes at most.
-fn steps() -> u64
-    ensures { result ≡ most_steps }
-{
-    1_000_000_000
-}
+/// The most bytes that a file of an image is read with.
+const MOST_IMAGE: u32 = 16_777_216;
 
-/// Runs an image whose run ends, on an empty input.
-fn run_image<O: Sink>(alloc: Global, image: Image, out: &mut O) -> Cause
-    requires form { IsInForm image }
-    requires ends { Ends image }
-    ensures answers { RunAnswers image (record { before = O.account out.old; after = O.account out.new }) result }
+/// The most bytes that the input may have.
+const MOST_INPUT: usize = 1_048_576;
+
+/// Runs an image on an input, for at most so many steps.
+fn run_on<O: Sink>(alloc: Global, image: Image, input: Vec<u8>, steps: u64, out: &mut O) -> Cause
+    requires { IsInForm image }
+    ensures answers { RunAnswers (run_of image input.items steps) (O.account out.old) (O.account out.new) result }
     ensures rises { (O.account out.old).faults ≤ (O.account out.new).faults }
 {
-    let machine = match Machine::load(alloc, image, Vec::new(alloc)) {
+    let machine = match Machine::load(alloc, image, input) {
         Ok(machine) => machine,
         Err(_) => return Cause::Memory,
     };
-    match machine.run(steps(), out) {
+    match machine.run(steps, out) {
         Halt::Ended => Cause::Done,
+        Halt::Spent => Cause::Spent,
+        Halt::Trapped(kind) => Cause::Trapped { kind },
+        Halt::Undefined(word) => Cause::MachineFault {
+            fault: Step::Undefined(word),
+        },
+        Halt::BadAddress(address) => Cause::MachineFault {
+            fault: Step::BadAddress(address),
+        },
+        Halt::BadCall(number) => Cause::MachineFault {
+            fault: Step::BadCall(number),
+        },
         Halt::WriteFault => Cause::WriteFault {
             device: Device::Output,
         },
-        Halt::Spent => unreachable!(),
-        Halt::Trapped(_) => unreachable!(),
-        Halt::Undefined(_) => unreachable!(),
-        Halt::BadAddress(_) => unreachable!(),
-        Halt::BadCall(_) => unreachable!(),
+    }
+}
+
+/// Runs an image, on the input where the image reads it.
+fn run_image<I: Source, O: Sink>(
+    alloc: Global,
+    image: Image,
+    steps: u64,
+    input: &mut I,
+    out: &mut O,
+) -> Cause
+    requires { IsInForm image }
+    ensures answers { (held : Option Held) (faults : ℕ)
+        → Answers (ImageComesTo (I.left input.old) steps image)
+        (told held faults (I.left input.old) (I.faults input.old) (O.account out.old))
+        (told held faults (I.left input.new) (I.faults input.new) (O.account out.new)) result }
+    ensures input_rises { I.faults input.old ≤ I.faults input.new }
+    ensures out_rises { (O.account out.old).faults ≤ (O.account out.new).faults }
+{
+    if image.flags == 0 {
+        return run_on(alloc, image, Vec::new(alloc), steps, out);
+    }
+    match read_all(alloc, input, MOST_INPUT) {
+        Ok(bytes) => run_on(alloc, image, bytes, steps, out),
+        Err(InFault::TooLong) => Cause::InputTooLong,
+        Err(InFault::ReadFault) => Cause::ReadFault {
+            device: Device::Input,
+        },
+        Err(InFault::Memory) => Cause::Memory,
+    }
+}
+
+/// Runs the image that these bytes are.
+fn run_bytes<I: Source, O: Sink>(
+    alloc: Global,
+    bytes: &[u8],
+    steps: u64,
+    input: &mut I,
+    out: &mut O,
+) -> Cause
+    requires { length bytes.now ≤ 16777216 }
+    ensures answers { (held : Option Held) (faults : ℕ)
+        → Answers (BytesComeTo (I.left input.old) steps bytes.now)
+        (told held faults (I.left input.old) (I.faults input.old) (O.account out.old))
+        (told held faults (I.left input.new) (I.faults input.new) (O.account out.new)) result }
+    ensures input_rises { I.faults input.old ≤ I.faults input.new }
+    ensures out_rises { (O.account out.old).faults ≤ (O.account out.new).faults }
+{
+    match read_image(alloc, bytes) {
+        Ok(image) => run_image(alloc, image, steps, input, out),
+        Err(ImageFault::Fault { number, at }) => Cause::NotImage { number, at },
+        Err(ImageFault::Memory) => Cause::Memory,
     }
 }
 
 /// Compiles a source and runs its image.
-fn run_source<O: Sink>(alloc: Global, source: &[u8], out: &mut O) -> Cause
-    ensures answers { Answers (SourceComesTo source.now) NoneFailed (record { before = O.account out.old; after = O.account out.new }) result }
-    ensures rises { (O.account out.old).faults ≤ (O.account out.new).faults }
+fn run_source<I: Source, O: Sink>(
+    alloc: Global,
+    source: &[u8],
+    steps: u64,
+    input: &mut I,
+    out: &mut O,
+) -> Cause
+    ensures answers { (held : Option Held) (faults : ℕ)
+        → Answers (SourceComesTo (ImageComesTo (I.left input.old) steps) source.now)
+        (told held faults (I.left input.old) (I.faults input.old) (O.account out.old))
+        (told held faults (I.left input.new) (I.faults input.new) (O.account out.new)) result }
+    ensures input_rises { I.faults input.old ≤ I.faults input.new }
+    ensures out_rises { (O.account out.old).faults ≤ (O.account out.new).faults }
 {
     match compile(alloc, source) {
-        Ok(image) => run_image(alloc, image, out),
+        Ok(image) => run_image(alloc, image, steps, input, out),
         Err(Refusal::Unbuilt) => Cause::Unbuilt,
         Err(Refusal::Memory) => Cause::Memory,
     }
 }
 
-/// Reads a file, compiles it and runs its image.
-pub(crate) fn run_file<F: Files, O: Sink>(
+/// Compiles the file of this name and runs its image.
+pub(crate) fn run<F: Files, I: Source, O: Sink>(
     alloc: Global,
-    name: &str,
+    file: &str,
+    steps: u64,
     files: &mut F,
+    input: &mut I,
     out: &mut O,
 ) -> Cause
-    ensures answers { Answers (FileComesTo (F.held files.old) name.now) (FilesFailed (F.faults files.old) (F.faults files.new))
-        (record { before = O.account out.old; after = O.account out.new }) result }
-    ensures files { F.held files.new ≡ F.held files.old }
+    ensures answers { Answers (FileComesTo (F.held files.old) file.now (SourceComesTo (ImageComesTo (I.left input.old) steps)))
+        (told (F.held files.old) (F.faults files.old) (I.left input.old) (I.faults input.old) (O.account out.old))
+        (told (F.held files.new) (F.faults files.new) (I.left input.new) (I.faults input.new) (O.account out.new)) result }
     ensures files_rise { F.faults files.old ≤ F.faults files.new }
+    ensures input_rises { I.faults input.old ≤ I.faults input.new }
     ensures out_rises { (O.account out.old).faults ≤ (O.account out.new).faults }
 {
-    match files.read(alloc, name, MOST_BYTES) {
-        Ok(source) => run_source(alloc, source.as_slice(), out),
+    match files.read(alloc, file, MOST_SOURCE) {
+        Ok(source) => run_source(alloc, source.as_slice(), steps, input, out),
         Err(GetFault::NoSuchFile) => Cause::NoSuchFile { word: 0 },
         Err(GetFault::TooLong) => Cause::Unbuilt,
+        Err(GetFault::Failed) => Cause::ReadFault {
+            device: Device::Files,
+        },
+        Err(GetFault::Memory) => Cause::Memory,
+    }
+}
+
+/// Runs the image that the file of this name holds.
+pub(crate) fn exec<F: Files, I: Source, O: Sink>(
+    alloc: Global,
+    image: &str,
+    steps: u64,
+    files: &mut F,
+    input: &mut I,
+    out: &mut O,
+) -> Cause
+    ensures answers { Answers (FileComesTo (F.held files.old) image.now (BytesComeTo (I.left input.old) steps))
+        (told (F.held files.old) (F.faults files.old) (I.left input.old) (I.faults input.old) (O.account out.old))
+        (told (F.held files.new) (F.faults files.new) (I.left input.new) (I.faults input.new) (O.account out.new)) result }
+    ensures files_rise { F.faults files.old ≤ F.faults files.new }
+    ensures input_rises { I.faults input.old ≤ I.faults input.new }
+    ensures out_rises { (O.account out.old).faults ≤ (O.account out.new).faults }
+{
+    match files.read(alloc, image, MOST_IMAGE as usize) {
+        Ok(bytes) => run_bytes(alloc, bytes.as_slice(), steps, input, out),
+        Err(GetFault::NoSuchFile) => Cause::NoSuchFile { word: 0 },
+        Err(GetFault::TooLong) => Cause::NotImage {
+            number: 65,
+            at: MOST_IMAGE,
+        },
         Err(GetFault::Failed) => Cause::ReadFault {
             device: Device::Files,
         },

@@ -1,14 +1,16 @@
 //! The top call over devices in memory, in rows. Expected values come from the language's rules and an
 //! independent compiler.
 
-use crate::{Cause, Device, Outcome, trc};
+use crate::{Outcome, trc};
 use a64_machine::{Halt, Machine};
+use image_file::write_image;
+use image_form::{Bytes, Image, Words};
 use std::alloc::AllocGlobal;
 use std::process::Abort;
 use std::sync::Wait;
 use std::test::Fail;
 use std::thread::Threads;
-use trc_base::{CleanSource, MemFiles, MemSink, OpenGate};
+use trc_base::{MemFiles, MemSink, MemSource, OpenGate};
 use trc_compile::compile;
 
 /// How a call ended, and what the output and the error sink took.
@@ -19,12 +21,13 @@ struct Seen {
     err: Vec<u8>,
 }
 
-/// Calls `trc` with these words over these files, with room for so many bytes on the output, of which these
-/// writes fail.
+/// Calls `trc` with these words over these files and input, with room for so many bytes on the output, of which
+/// these writes fail.
 fn call<R: Threads + Wait + AllocGlobal + Sync>(
     rt: &R,
     texts: &[&str],
     files: &mut MemFiles,
+    input: &mut MemSource,
     room: usize,
     failing: Vec<u64>,
 ) -> Result<Seen, Fail> {
@@ -32,14 +35,13 @@ fn call<R: Threads + Wait + AllocGlobal + Sync>(
     for text in texts {
         words.push(String::from_str(rt.alloc(), text)?)?;
     }
-    let mut input = CleanSource::new(Vec::new(rt.alloc()));
     let mut out = MemSink::new(rt.alloc(), room, 7, failing)?;
     let mut err = MemSink::new(rt.alloc(), 200, 3, Vec::new(rt.alloc()))?;
     let outcome = trc(
         rt,
         words.as_slice(),
         files,
-        &mut input,
+        input,
         &mut out,
         &mut err,
         &OpenGate,
@@ -49,30 +51,41 @@ fn call<R: Threads + Wait + AllocGlobal + Sync>(
     Ok(Seen { outcome, out, err })
 }
 
+/// What a call comes to: its status, its output, and the line that is told.
+#[derive(Clone, Copy)]
+struct Wanted<'a> {
+    status: u8,
+    out: &'a str,
+    err: &'a str,
+}
+
+/// Compares a call over these files, without faults and with ample room, with what it comes to.
+fn wants<R: Threads + Wait + AllocGlobal + Sync + Abort>(
+    rt: &R,
+    texts: &[&str],
+    files: &mut MemFiles,
+    input: &[u8],
+    wanted: Wanted<'_>,
+) -> Result<(), Fail> {
+    let bytes = Vec::from_slice(rt.alloc(), input)?;
+    let mut source = MemSource::new(bytes, 5, Vec::new(rt.alloc()));
+    let seen = call(rt, texts, files, &mut source, 1000, Vec::new(rt.alloc()))?;
+    assert_eq!(rt; seen.outcome.status, wanted.status);
+    assert_eq!(rt; seen.out.as_slice(), wanted.out.as_bytes());
+    assert_eq!(rt; seen.err.as_slice(), wanted.err.as_bytes());
+    Ok(())
+}
+
 /// Runs a module with this body, and looks at how the call ended and what it wrote.
 fn check<R: Threads + Wait + AllocGlobal + Sync + Abort>(
     rt: &R,
     body: &str,
-    cause: Cause,
-    status: u8,
-    out: &str,
-    err: &str,
+    wanted: Wanted<'_>,
 ) -> Result<(), Fail> {
     let text = format!(in rt.alloc(); "MODULE M; IMPORT Out; BEGIN {body} END M.")?;
     let mut files = MemFiles::new(rt.alloc(), Vec::new(rt.alloc()));
     files.put("M.Mod", text.as_bytes())?;
-    let seen = call(
-        rt,
-        &["run", "M.Mod"],
-        &mut files,
-        1000,
-        Vec::new(rt.alloc()),
-    )?;
-    assert_eq!(rt; seen.outcome.cause, cause, "{body}");
-    assert_eq!(rt; seen.outcome.status, status, "{body}");
-    assert_eq!(rt; seen.out.as_slice(), out.as_bytes(), "{body}");
-    assert_eq!(rt; seen.err.as_slice(), err.as_bytes(), "{body}");
-    Ok(())
+    wants(rt, &["run", "M.Mod"], &mut files, b"", wanted)
 }
 
 /// Runs a module that writes this.
@@ -81,7 +94,15 @@ fn prints<R: Threads + Wait + AllocGlobal + Sync + Abort>(
     body: &str,
     out: &str,
 ) -> Result<(), Fail> {
-    check(rt, body, Cause::Done, 0, out, "")
+    check(
+        rt,
+        body,
+        Wanted {
+            status: 0,
+            out,
+            err: "",
+        },
+    )
 }
 
 /// Runs a module that isn't compiled yet.
@@ -89,7 +110,15 @@ fn is_unbuilt<R: Threads + Wait + AllocGlobal + Sync + Abort>(
     rt: &R,
     body: &str,
 ) -> Result<(), Fail> {
-    check(rt, body, Cause::Unbuilt, 20, "", "trc: unbuilt\n")
+    check(
+        rt,
+        body,
+        Wanted {
+            status: 20,
+            out: "",
+            err: "trc: unbuilt\n",
+        },
+    )
 }
 
 #[test]
@@ -130,118 +159,257 @@ fn so_many_parentheses_are_open(rt: HostRuntime) -> Result<(), Fail> {
     )
 }
 
+/// What a call is refused with, which writes nothing on the output.
+fn refused<'a>(status: u8, err: &'a str) -> Wanted<'a> {
+    Wanted {
+        status,
+        out: "",
+        err,
+    }
+}
+
+/// The module that prints 42, and files that hold it, of which these calls fail.
+fn answer<R: AllocGlobal>(rt: &R, failing: Vec<u64>) -> Result<MemFiles, Fail> {
+    let mut files = MemFiles::new(rt.alloc(), failing);
+    files.put(
+        "M.Mod",
+        b"MODULE M; IMPORT Out; BEGIN Out.Int(6*7, 0); Out.Ln END M.",
+    )?;
+    Ok(files)
+}
+
 #[test]
-fn causes_come_where_they_should(rt: HostRuntime) -> Result<(), Fail> {
-    let source = b"MODULE M; IMPORT Out; BEGIN Out.Int(42, 300); Out.Ln END M.";
-    let mut files = MemFiles::new(rt.alloc(), vec![in rt.alloc(); 3u64]?);
-    files.put("M.Mod", source)?;
-    let wide = call(
+fn words_and_files_are_refused(rt: HostRuntime) -> Result<(), Fail> {
+    let mut files = answer(&rt, Vec::new(rt.alloc()))?;
+    let usage = refused(1, "trc: usage\n");
+    wants(&rt, &["walk", "M.Mod"], &mut files, b"", usage)?;
+    wants(&rt, &[], &mut files, b"", usage)?;
+    wants(&rt, &["run", "M.Mod", "M.Mod"], &mut files, b"", usage)?;
+    wants(
+        &rt,
+        &["run", "M.Mod", "--steps", "x"],
+        &mut files,
+        b"",
+        usage,
+    )?;
+    let missing = refused(4, "trc: no file Missing.Mod\n");
+    wants(
+        &rt,
+        &["run", "--steps", "1", "Missing.Mod"],
+        &mut files,
+        b"",
+        missing,
+    )?;
+    wants(
+        &rt,
+        &["build", "M.Mod", "Missing.Mod"],
+        &mut files,
+        b"",
+        missing,
+    )?;
+    wants(&rt, &["exec", "Missing.Mod"], &mut files, b"", missing)?;
+    let help = Wanted {
+        status: 0,
+        out: "trc run|build|exec|help\n--steps\n",
+        err: "",
+    };
+    wants(&rt, &["help"], &mut files, b"", help)
+}
+
+#[test]
+fn steps_are_spent(rt: HostRuntime) -> Result<(), Fail> {
+    let mut files = answer(&rt, Vec::new(rt.alloc()))?;
+    let done = Wanted {
+        status: 0,
+        out: "42\n",
+        err: "",
+    };
+    wants(
+        &rt,
+        &["run", "M.Mod", "--steps", "26"],
+        &mut files,
+        b"",
+        done,
+    )?;
+    let spent = Wanted {
+        status: 7,
+        out: "42\n",
+        err: "trc: steps spent\n",
+    };
+    wants(
+        &rt,
+        &["run", "M.Mod", "--steps", "25"],
+        &mut files,
+        b"",
+        spent,
+    )?;
+    wants(
+        &rt,
+        &["run", "M.Mod", "--steps", "0"],
+        &mut files,
+        b"",
+        refused(7, "trc: steps spent\n"),
+    )
+}
+
+#[test]
+fn what_is_built_is_executed(rt: HostRuntime) -> Result<(), Fail> {
+    let mut files = answer(&rt, Vec::new(rt.alloc()))?;
+    wants(
+        &rt,
+        &["build", "M.img", "M.Mod"],
+        &mut files,
+        b"",
+        refused(0, ""),
+    )?;
+    let done = Wanted {
+        status: 0,
+        out: "42\n",
+        err: "",
+    };
+    wants(&rt, &["exec", "M.img"], &mut files, b"", done)?;
+    wants(&rt, &["run", "M.Mod"], &mut files, b"", done)?;
+    wants(
+        &rt,
+        &["exec", "M.Mod"],
+        &mut files,
+        b"",
+        refused(8, "trc: not an image: 61 at 0\n"),
+    )
+}
+
+#[test]
+fn devices_fail(rt: HostRuntime) -> Result<(), Fail> {
+    let mut files = answer(&rt, vec![in rt.alloc(); 1u64, 3]?)?;
+    let mut input = MemSource::new(Vec::new(rt.alloc()), 1, Vec::new(rt.alloc()));
+    let short = call(
         &rt,
         &["run", "M.Mod"],
         &mut files,
-        1000,
+        &mut input,
+        1,
         Vec::new(rt.alloc()),
     )?;
-    assert_eq!(rt; wide.outcome.cause, Cause::Done);
-    assert_eq!(rt; wide.out.len(), 256);
-
-    let missing = call(
-        &rt,
-        &["run", "Missing.Mod"],
-        &mut files,
-        1000,
-        Vec::new(rt.alloc()),
-    )?;
-    assert_eq!(rt;
-        missing.outcome,
-        Outcome {
-            status: 4,
-            cause: Cause::NoSuchFile { word: 0 }
-        }
-    );
-    assert_eq!(rt;
-        missing.err.as_slice(),
-        b"trc: no file Missing.Mod\n".as_slice()
-    );
-
-    let short = call(&rt, &["run", "M.Mod"], &mut files, 1, Vec::new(rt.alloc()))?;
-    assert_eq!(rt;
-        short.outcome,
-        Outcome {
-            status: 4,
-            cause: Cause::WriteFault {
-                device: Device::Output
-            }
-        }
-    );
-    assert_eq!(rt; short.out.as_slice(), b" ".as_slice());
+    assert_eq!(rt; short.outcome.status, 4);
+    assert_eq!(rt; short.out.as_slice(), b"4".as_slice());
     assert_eq!(rt;
         short.err.as_slice(),
         b"trc: write fault on output\n".as_slice()
     );
 
-    let failed = call(
+    wants(
         &rt,
         &["run", "M.Mod"],
         &mut files,
-        1000,
-        Vec::new(rt.alloc()),
+        b"",
+        refused(4, "trc: read fault on files\n"),
     )?;
-    assert_eq!(rt;
-        failed.outcome,
-        Outcome {
-            status: 4,
-            cause: Cause::ReadFault {
-                device: Device::Files
-            }
-        }
-    );
-    assert_eq!(rt;
-        failed.err.as_slice(),
-        b"trc: read fault on files\n".as_slice()
-    );
-    assert_eq!(rt; files.count(), 1);
+    wants(
+        &rt,
+        &["build", "M.img", "M.Mod"],
+        &mut files,
+        b"",
+        refused(4, "trc: write fault on files\n"),
+    )?;
+    assert_eq!(rt; files.count(), 2);
 
     let first = call(
         &rt,
-        &["run", "M.Mod"],
+        &["help"],
         &mut files,
+        &mut input,
         1000,
         vec![in rt.alloc(); 0u64]?,
     )?;
-    assert_eq!(rt;
-        first.outcome.cause,
-        Cause::WriteFault {
-            device: Device::Output
-        }
-    );
+    assert_eq!(rt; first.outcome.status, 4);
     assert_eq!(rt; first.out.len(), 0);
+    Ok(())
+}
 
-    let usage = call(
+/// Files with an image of these code words; it reads the input where the flag says so.
+fn with_words<R: AllocGlobal>(rt: &R, flags: u32, words: &[u32]) -> Result<MemFiles, Fail> {
+    let image = Image {
+        version: 1,
+        flags,
+        code: Words::new(Vec::from_slice(rt.alloc(), words)?),
+        globals: 0,
+        constants: Bytes::new(Vec::new(rt.alloc())),
+        frame: 0,
+    };
+    let bytes = write_image(rt.alloc(), &image)?;
+    let mut files = MemFiles::new(rt.alloc(), Vec::new(rt.alloc()));
+    files.put("A", bytes.as_slice())?;
+    Ok(files)
+}
+
+/// Executes an image of one code word, which is refused so.
+fn stops<R: Threads + Wait + AllocGlobal + Sync + Abort>(
+    rt: &R,
+    word: u32,
+    status: u8,
+    err: &str,
+) -> Result<(), Fail> {
+    let mut files = with_words(rt, 0, &[word])?;
+    wants(rt, &["exec", "A"], &mut files, b"", refused(status, err))
+}
+
+#[test]
+fn images_stop_where_they_must(rt: HostRuntime) -> Result<(), Fail> {
+    stops(&rt, 0x00000000, 9, "trc: undefined word 00000000\n")?;
+    stops(&rt, 0xD4000121, 9, "trc: bad call 9\n")?;
+    stops(&rt, 0xF9400020, 9, "trc: bad address 0000000000000000\n")?;
+    stops(&rt, 0xD4200160, 6, "trc: trap 11\n")?;
+    stops(&rt, 0xD4000001, 0, "")
+}
+
+#[test]
+fn the_input_is_read_where_the_flag_says_so(rt: HostRuntime) -> Result<(), Fail> {
+    // The next byte of the input goes to X0 and out, and the machine ends.
+    let words = [0xD4000081, 0xD4000021, 0xD4000001];
+    let mut files = with_words(&rt, 1, &words)?;
+    let echo = Wanted {
+        status: 0,
+        out: "a",
+        err: "",
+    };
+    wants(&rt, &["exec", "A"], &mut files, b"ab", echo)?;
+    let bytes = vec![in rt.alloc(); b'a'; 1_048_577]?;
+    let mut input = MemSource::new(bytes, 100_000, Vec::new(rt.alloc()));
+    let long = call(
         &rt,
-        &["walk", "M.Mod"],
+        &["exec", "A"],
         &mut files,
-        1000,
+        &mut input,
+        10,
         Vec::new(rt.alloc()),
     )?;
+    assert_eq!(rt; long.outcome.status, 3);
+    assert_eq!(rt; long.err.as_slice(), b"trc: input too long\n".as_slice());
+    let bytes = vec![in rt.alloc(); b'a'; 1_048_576]?;
+    let mut input = MemSource::new(bytes, 100_000, Vec::new(rt.alloc()));
+    let whole = call(
+        &rt,
+        &["exec", "A"],
+        &mut files,
+        &mut input,
+        10,
+        Vec::new(rt.alloc()),
+    )?;
+    assert_eq!(rt; whole.outcome.status, 0);
+    let mut input = MemSource::new(Vec::new(rt.alloc()), 1, vec![in rt.alloc(); 0u64]?);
+    let failed = call(
+        &rt,
+        &["exec", "A"],
+        &mut files,
+        &mut input,
+        10,
+        Vec::new(rt.alloc()),
+    )?;
+    assert_eq!(rt; failed.outcome.status, 4);
     assert_eq!(rt;
-        usage.outcome,
-        Outcome {
-            status: 1,
-            cause: Cause::Usage
-        }
+        failed.err.as_slice(),
+        b"trc: read fault on input\n".as_slice()
     );
-    assert_eq!(rt; usage.err.as_slice(), b"trc: usage\n".as_slice());
-    let none = call(&rt, &[], &mut files, 1000, Vec::new(rt.alloc()))?;
-    assert_eq!(rt; none.outcome.cause, Cause::Usage);
-    let more = call(
-        &rt,
-        &["run", "M.Mod", "M.Mod"],
-        &mut files,
-        1000,
-        Vec::new(rt.alloc()),
-    )?;
-    assert_eq!(rt; more.outcome.cause, Cause::Usage);
     Ok(())
 }
 

@@ -1,0 +1,3 @@
+mod Simple
+mod Taking
+mod Matching

@@ -1,0 +1,5 @@
+pub mod Commands
+pub mod Numbers
+pub mod Asked
+pub mod Taking
+pub mod Requests

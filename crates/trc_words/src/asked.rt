@@ -1,0 +1,63 @@
+//! What words ask for, and why they are refused.
+
+ghost use Rattle.std.specs.Prelude.{◌≡◌, ℕ, List, map, string_bytes};
+ghost use Rattle.clap.specs.Kinds.{HasKind, Kinds};
+ghost use Rattle.trc_words.specs.Asked.{Asked};
+ghost use Rattle.trc_words.specs.Taking.{FollowsFrom};
+ghost use Rattle.trc_words.specs.declared.asked.WordsFault.TheVariants.{Memory};
+
+use clap::Error;
+use clap::error::ErrorKind;
+use std::alloc::{AllocError, AllocFailed};
+use thiserror::Error as ErrorOf;
+
+/// What a command is asked for. Files go by their names; a run makes at most `steps` steps, which is at most
+/// 1,000,000,000,000,000.
+#[derive(Clone, Copy, Debug)]
+pub enum Request<'a> {
+    /// Compile a file and run its image.
+    Run { file: &'a str, steps: u64 },
+    /// Compile a file, and write its image to the file `out`.
+    Build { out: &'a str, file: &'a str },
+    /// Run the image that a file holds.
+    Exec { image: &'a str, steps: u64 },
+    /// Tell the commands and their options.
+    Help,
+}
+
+/// Why words aren't read.
+#[derive(Clone, Copy, Debug, ErrorOf)]
+pub enum WordsFault {
+    /// They are no command, a command refuses them, or a value isn't in its table.
+    #[error("usage")]
+    Usage,
+    /// Memory ran out.
+    #[error("out of memory")]
+    Memory,
+}
+
+impl From<AllocError> for WordsFault {
+    ghost from_gives = { λ _ e. e ≡ Memory };
+
+    fn from(_error: AllocError) -> Self {
+        WordsFault::Memory
+    }
+}
+
+impl<T: Drop> From<AllocFailed<T>> for WordsFault {
+    ghost from_gives = { λ _ e. e ≡ Memory };
+
+    fn from(_error: AllocFailed<T>) -> Self {
+        WordsFault::Memory
+    }
+}
+
+/// Why words aren't read of which `clap` says this.
+pub(crate) fn fault(error: &Error) -> WordsFault
+    ensures { FollowsFrom error.now result }
+{
+    match error.kind() {
+        ErrorKind::OutOfMemory => WordsFault::Memory,
+        _ => WordsFault::Usage,
+    }
+}

@@ -1,0 +1,16 @@
+//! The words of the program: what each command asks for, or that they are refused.
+//!
+//! The first word is the command, byte for byte. The words behind it are read by a `clap` command of that name, so the
+//! written meaning of this command decides which words are refused; a value that isn't in its table is refused here.
+//! `specs/Asked.antt` says what words ask for (`asked`), and `specs/Commands.antt` has each command.
+#![tactic(auto)]
+
+mod asked;
+mod commands;
+mod numbers;
+mod reading;
+#[cfg(test)]
+mod tests;
+
+pub use asked::{Request, WordsFault};
+pub use reading::read_words;
