@@ -7,6 +7,14 @@ use Rattle.outside.specs.Source.{Gave, GaveSome, IsAtEnd}
 use Rattle.outside.specs.Sink.{Account, TookAll, TookFront, TookNothing, Faulted}
 use Rattle.outside.proofs.Taking.{all_none}
 use Rattle.outside.specs.declared.files.GetFault.TheVariants as get
+use Rattle.outside.specs.declared.files.PutFault.{PutFault}
+use Rattle.outside.specs.declared.files.PutFault.TheVariants as put
+use Rattle.image_file.specs.Rules.{first_fault}
+use Rattle.image_file.specs.Rules.{Refuses as BreaksRule}
+use Rattle.image_file.specs.Spelling.{image_bytes}
+use Rattle.image_file.specs.declared.fault.ImageFault.{ImageFault}
+use Rattle.image_file.specs.declared.fault.ImageFault.TheVariants.{Fault}
+use Rattle.image_file.specs.declared.fault.ImageFault.TheVariants as image_fault
 use Rattle.run_laws.specs.Runs.{Outcome, output}
 use Rattle.image_form.specs.declared.image.Image.{Image}
 use Rattle.image_form.specs.Form.{IsInForm}
@@ -14,13 +22,13 @@ use Rattle.a64_machine.specs.State.{Trap}
 use Rattle.first_text.specs.declared.tree.Text.{Text}
 use Rattle.first_text.specs.Texts.{IsText}
 use Rattle.trc_compile.specs.Images.{image_of, RunsAsMeant}
-use Rattle.trc_cli.specs.Runs.{run_of, cause_of_run}
-use Rattle.trc_cli.specs.Verdict.{Verdict, Refuses, Runs, Writes, Prints, FileComesTo, IsMissing, HasBytes, IsHeld, IsLeft, IsNoText, SourceComesTo, IsUnbuilt, IsCompiled, ImageComesTo, RunsAlone, RunsOnInput, HasTooMuch, BytesComeTo, AreTooMany, reads_input}
+use Rattle.trc_cli.specs.Runs.{run_of, cause_of_run, cause_of_fault}
+use Rattle.trc_cli.specs.Verdict.{Verdict, Refuses, Runs, Writes, Prints, FileComesTo, IsMissing, HasBytes, IsHeld, IsLeft, IsNoText, SourceComesTo, IsUnbuilt, IsCompiled, ImageComesTo, RunsAlone, RunsOnInput, HasTooMuch, BytesComeTo, AreTooMany, AreNoImage, AreAnImage, Written, reads_input}
 use Rattle.trc_cli.specs.Answers.{Told, told, Answers, AsItComes, FailsReading, FailsPrinting, FailsWriting, LacksMemory, AllDone, CutOff, NothingWritten, InputStays, Failed, FilesHold, RunAnswers, Ran, RanIntoFault, HadNoRoom, PrintAnswers, Printed, PrintedAFront}
 use Rattle.trc_cli.specs.declared.causes.Device.{Device}
 use Rattle.trc_cli.specs.declared.causes.Device.TheVariants.{Files, Input, Output}
 use Rattle.trc_cli.specs.declared.causes.Cause.{Cause}
-use Rattle.trc_cli.specs.declared.causes.Cause.TheVariants.{NoSuchFile, ReadFault, Unbuilt, NotImage, InputTooLong, Memory}
+use Rattle.trc_cli.specs.declared.causes.Cause.TheVariants.{NoSuchFile, ReadFault, Unbuilt, NotImage, InputTooLong, WriteFault, Memory, Done}
 
 pub nothing : (out : Account) → TookNothing out out
 nothing out = record { taken = refl; amount = refl }
@@ -28,20 +36,15 @@ nothing out = record { taken = refl; amount = refl }
 pub stays : (t : Told) → InputStays t t
 stays t = record { left = refl; faults = refl }
 
--- a command is refused, and nothing changed but what reading costs
-pub refuses : (comes : Verdict → Type 0) (held : Option Held) (m n : ℕ) (left : Option (List ℕ)) (k : ℕ) (out : Account) (cause : Cause)
-    → comes (Refuses cause) → Answers comes (told held m left k out) (told held n left k out) cause
-refuses comes held m n left k out cause it = AsItComes (Refuses cause) it refl (record { written = all_none out; files = refl; input = λ e. record { left = refl; faults = refl } })
-
--- memory ran out before anything was written
-pub lacks_memory : (comes : Verdict → Type 0) (held : Option Held) (m n : ℕ) (left left' : Option (List ℕ)) (k k' : ℕ) (out : Account)
-    → Answers comes (told held m left k out) (told held n left' k' out) Memory
-lacks_memory comes held m n left left' k k' out = LacksMemory refl (record { output = nothing out; files = refl })
+-- a command is refused, and nothing changed but the files' count of faults
+pub refuses : (comes : Verdict → Type 0) (held mid : Option Held) (m n : ℕ) (left : Option (List ℕ)) (k : ℕ) (out : Account) (cause : Cause)
+    → mid ≡ held → comes (Refuses cause) → Answers comes (told held m left k out) (told mid n left k out) cause
+refuses comes held mid m n left k out cause same it = AsItComes (Refuses cause) it refl (record { written = all_none out; files = same; input = λ e. record { left = refl; faults = refl } })
 
 -- the files failed while they were read
-pub files_failed : (comes : Verdict → Type 0) (held : Option Held) (m n : ℕ) (left : Option (List ℕ)) (k : ℕ) (out : Account)
-    → Rose m n → Answers comes (told held m left k out) (told held n left k out) (ReadFault Files)
-files_failed comes held m n left k out rose = FailsReading Files refl rose (record { output = nothing out; files = refl })
+pub files_failed : (comes : Verdict → Type 0) (held mid : Option Held) (m n : ℕ) (left : Option (List ℕ)) (k : ℕ) (out : Account)
+    → mid ≡ held → Rose m n → Answers comes (told held m left k out) (told mid n left k out) (ReadFault Files)
+files_failed comes held mid m n left k out same rose = FailsReading Files refl rose (record { output = nothing out; files = same })
 
 -- the input failed while it was read
 pub input_failed : (comes : Verdict → Type 0) (held : Option Held) (m : ℕ) (left left' : Option (List ℕ)) (k k' : ℕ) (out : Account)
@@ -110,13 +113,14 @@ missing None name most next r = IsMissing tt refl
 missing (Some h) name most next r = IsMissing r refl
 
 -- a file that was read, and what its bytes come to
-pub reads_file : (held : Option Held) (name : List ℕ) (most m n : ℕ) (left : Option (List ℕ)) (k : ℕ) (out : Account) (new : Told) (cause : Cause) (bytes : Vec ℕ Global) (text : List ℕ) (next : List ℕ → Verdict → Type 0)
-    → ToldOfRead held name most (Ok bytes) → text ≡ bytes.items → m ≤ n → Answers (next text) (told held n left k out) new cause
+pub reads_file : (held mid : Option Held) (name : List ℕ) (most m n : ℕ) (left : Option (List ℕ)) (k : ℕ) (out : Account) (new : Told) (cause : Cause) (bytes : Vec ℕ Global) (text : List ℕ) (next : List ℕ → Verdict → Type 0)
+    → mid ≡ held → ToldOfRead held name most (Ok bytes) → text ≡ bytes.items → m ≤ n → Answers (next text) (told mid n left k out) new cause
     → Answers (FileComesTo held name next) (told held m left k out) new cause
-reads_file held name most m n left k out new cause bytes text next r e l answers =
+reads_file held mid name most m n left k out new cause bytes text next same r e l answers =
     later _ held m n left k out new cause l
     (mapped (next text) (FileComesTo held name next) (told held n left k out) new cause
-    (λ v it. HasBytes bytes.items (held_bytes held name most bytes r) (subst (λ b. next b v) e it)) answers)
+    (λ v it. HasBytes bytes.items (held_bytes held name most bytes r) (subst (λ b. next b v) e it))
+    (subst (λ h. Answers (next text) (told h n left k out) new cause) same answers))
 
 list_of : (n : ℕ) → (bytes : List ℕ) × (length bytes ≡ n)
 list_of zero = ([], refl)
@@ -166,3 +170,61 @@ long_input (Some old) new most gave = (old, refl, longer old gave.bytes gave.gav
 -- flags are 0 or 1
 pub other_flag : (flags : ℕ) → flags < 2 → (flags ≡ 0 → ⊥) → flags ≡ 1
 other_flag flags l h = omega (arith, l, h)
+
+-- an image that doesn't read the input was run
+pub runs_alone : (left : Option (List ℕ)) (steps : ℕ) (image : Image) (items : List ℕ) (k : ℕ) (a b : Account) (cause : Cause)
+    → image.flags ≡ 0 → items ≡ [] → RunAnswers (run_of image items steps) a b cause
+    → (held : Option Held) (faults : ℕ) → Answers (ImageComesTo left steps image) (told held faults left k a) (told held faults left k b) cause
+runs_alone left steps image items k a b cause flag none ran held faults =
+    runs (ImageComesTo left steps image) false (run_of image [] steps) held faults left left k k a b cause (RunsAlone flag refl) (λ e. record { left = refl; faults = refl })
+    (subst (λ i. RunAnswers (run_of image i steps) a b cause) none ran)
+
+-- an image was run on the whole input
+pub runs_on_input : (left left' : Option (List ℕ)) (steps : ℕ) (image : Image) (items : List ℕ) (k k' : ℕ) (a b : Account) (cause : Cause)
+    → image.flags < 2 → (image.flags ≡ 0 → ⊥) → Gave left items left' → IsAtEnd left' → length items ≤ 1048576 → RunAnswers (run_of image items steps) a b cause
+    → (held : Option Held) (faults : ℕ) → Answers (ImageComesTo left steps image) (told held faults left k a) (told held faults left' k' b) cause
+runs_on_input left left' steps image items k k' a b cause few flag gave end size ran held faults =
+    runs (ImageComesTo left steps image) true (run_of image items steps) held faults left left' k k' a b cause
+    (RunsOnInput items (other_flag image.flags few flag) (whole_input left left' items gave end) size refl) (λ e. absurd (true_false e)) ran
+  where
+    true_false : true ≡ false → ⊥
+    true_false e = cc
+
+-- the input was too long for an image
+pub has_too_much : (left left' : Option (List ℕ)) (steps : ℕ) (image : Image) (k k' : ℕ) (out : Account)
+    → image.flags < 2 → (image.flags ≡ 0 → ⊥) → GaveSome left left' (λ n. n ≡ 1048576 + 1)
+    → (held : Option Held) (faults : ℕ) → Answers (ImageComesTo left steps image) (told held faults left k out) (told held faults left' k' out) InputTooLong
+has_too_much left left' steps image k k' out few flag gave held faults =
+    let long = long_input left left' 1048576 gave in
+    AsItComes (Refuses InputTooLong) (HasTooMuch long.0 (other_flag image.flags few flag) long.1 long.2 refl) refl
+    (record { written = all_none out; files = refl; input = λ e. absurd (true_false e) })
+  where
+    true_false : true ≡ false → ⊥
+    true_false e = cc
+
+-- bytes that are no image, or for which there is no memory
+pub no_image : (left : Option (List ℕ)) (steps : ℕ) (bytes : List ℕ) (e : ImageFault) (cause : Cause) (k : ℕ) (out : Account)
+    → cause ≡ cause_of_fault e → BreaksRule e (first_fault bytes) → length bytes ≤ 16777216
+    → (held : Option Held) (faults : ℕ) → Answers (BytesComeTo left steps bytes) (told held faults left k out) (told held faults left k out) cause
+no_image left steps bytes (Fault number at) cause k out is fault size held faults =
+    subst (Answers (BytesComeTo left steps bytes) (told held faults left k out) (told held faults left k out)) (sym is)
+    (refuses (BytesComeTo left steps bytes) held held faults faults left k out (NotImage number at) refl
+    (AreNoImage (record { number = number; at = at }) size fault refl))
+no_image left steps bytes image_fault.Memory cause k out is fault size held faults =
+    LacksMemory is (record { output = nothing out; files = refl })
+
+-- an image was written
+pub writes : (held held' : Option Held) (m n : ℕ) (name bytes : List ℕ) (image : Image)
+    → ToldOfWrite held name bytes held' (Ok tt) → bytes ≡ image_bytes image
+    → (left : Option (List ℕ)) (k : ℕ) (out : Account) → Answers (Written name image) (told held m left k out) (told held' n left k out) Done
+writes held held' m n name bytes image tells same left k out =
+    AsItComes (Writes name (image_bytes image)) refl refl
+    (record { written = all_none out; files = subst (λ b. ToldOfWrite held name b held' (Ok tt)) same tells; input = λ e. record { left = refl; faults = refl } })
+
+-- the files failed while an image was written
+pub write_failed : (held held' : Option Held) (m n : ℕ) (name bytes : List ℕ) (image : Image) (e : PutFault)
+    → e ≡ put.Failed → ToldOfWrite held name bytes held' (Err e) → bytes ≡ image_bytes image → Rose m n
+    → (left : Option (List ℕ)) (k : ℕ) (out : Account) → Answers (Written name image) (told held m left k out) (told held' n left k out) (WriteFault Files)
+write_failed held held' m n name bytes image e is tells same rose left k out =
+    FailsWriting name (image_bytes image) refl refl rose (nothing out)
+    (subst (λ b. ToldOfWrite held name b held' (Err put.Failed)) same (subst (λ x. ToldOfWrite held name bytes held' (Err x)) is tells)) (record { left = refl; faults = refl })

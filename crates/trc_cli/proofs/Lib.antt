@@ -1,3 +1,5 @@
 mod Answering
 mod Once
 mod Meant
+mod Hex
+mod Lines

@@ -11,11 +11,12 @@ use Rattle.trc_compile.specs.Images.{image_of, RunsAsMeant}
 use Rattle.trc_cli.specs.Runs.{run_of}
 use Rattle.trc_cli.specs.Laws.{EndsOrGoesOn}
 
-same_end : (o out : List ℕ) → Ended {T = Trap} o ≡ Ended out → o ≡ out
-same_end o out e = cc
+abbrev end_of : Outcome Trap → List ℕ
+end_of (Ended out) = out
+end_of _ = []
 
 by_outcome : (out : List ℕ) (outcome : Outcome Trap) → (IsOver outcome → outcome ≡ Ended out) → StartsWith out (output outcome) → EndsOrGoesOn out outcome
-by_outcome out (Ended o) over front = same_end o out (over tt)
+by_outcome out (Ended o) over front = ap end_of (over tt)
 by_outcome out (Going o) over front = front
 by_outcome out (Trapped trap o) over front = let e = over tt in cc
 

@@ -1,5 +1,5 @@
 -- The status of each cause, and the line that tells it.
-use Rattle.std.specs.Prelude.{ℕ, zero, suc, ◌+◌, ◌/◌, ◌%◌, List, [], ◌∷◌, ◌++◌, ◌⊎◌, ◌≡◌, codes, nat_lt, if◌then◌else◌}
+use Rattle.std.specs.Prelude.{ℕ, zero, suc, ◌+◌, ◌/◌, ◌%◌, List, [], ◌∷◌, ◌++◌, ◌⊎◌, ◌≡◌, codes, nat_lt, slice_index_or, if◌then◌else◌}
 use Rattle.out_text.specs.Text.{shortest_text}
 use Rattle.outside.specs.Sink.{Account, TookAll, Faulted}
 use Rattle.a64_machine.specs.declared.answers.Step.{Step}
@@ -34,7 +34,7 @@ abbrev pub hex_digit : ℕ → ℕ
 hex_digit n = if nat_lt n 10 then 48 + n else 87 + n
 
 -- so many hexadecimal digits of a number
-abbrev pub hex : ℕ → ℕ → List ℕ
+unfoldable pub hex : ℕ → ℕ → List ℕ
 hex zero n = []
 hex (suc digits) n = hex digits (n / 16) ++ hex_digit (n % 16) ∷ []
 
@@ -51,9 +51,7 @@ fault_line _ = []
 
 -- a name by its number, or no bytes where there is none
 abbrev pub name_at : List (List ℕ) → ℕ → List ℕ
-name_at [] n = []
-name_at (name ∷ names) zero = name
-name_at (name ∷ names) (suc n) = name_at names n
+name_at names number = slice_index_or names number []
 
 -- the line of a cause, where the command reads the files of these names; none where all was done
 abbrev pub line_of : List (List ℕ) → Cause → List ℕ

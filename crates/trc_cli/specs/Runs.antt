@@ -1,10 +1,12 @@
--- The run of an image, and what it comes to.
+-- The run of an image, what it comes to, and what bytes come to that are none.
 use Rattle.std.specs.Prelude.{ℕ, List, []}
 use Rattle.run_laws.specs.Runs.{Outcome, Ended, Trapped, Going, run}
 use Rattle.image_form.specs.declared.image.Image.{Image}
 use Rattle.a64_machine.specs.State.{Trap, Broke, Undefined, BadAddress, BadCall}
 use Rattle.a64_machine.specs.Machine.{start, step_of}
 use Rattle.a64_machine.specs.declared.answers.Step.TheVariants as step
+use Rattle.image_file.specs.declared.fault.ImageFault.{ImageFault}
+use Rattle.image_file.specs.declared.fault.ImageFault.TheVariants.{Fault, Memory}
 use Rattle.trc_cli.specs.declared.causes.Cause.{Cause}
 use Rattle.trc_cli.specs.declared.causes.Cause.TheVariants as cause
 
@@ -24,3 +26,8 @@ abbrev pub cause_of_run : Outcome Trap → Cause
 cause_of_run (Ended out) = cause.Done
 cause_of_run (Trapped trap out) = cause_of_trap trap
 cause_of_run (Going out) = cause.Spent
+
+-- the cause of bytes that are no image
+abbrev pub cause_of_fault : ImageFault → Cause
+cause_of_fault (Fault number at) = cause.NotImage number at
+cause_of_fault Memory = cause.Memory

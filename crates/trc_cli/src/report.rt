@@ -1,6 +1,6 @@
 //! The line that tells a cause.
 
-ghost use Rattle.std.specs.Prelude.{◌≡◌, ◌<◌, ◌≤◌, ◌+◌, ◌++◌, map, OnOk, OnErr};
+ghost use Rattle.std.specs.Prelude.{◌≡◌, ◌<◌, ◌≤◌, ◌++◌, [], length, map, OnOk, OnErr};
 ghost use Rattle.outside.specs.Sink.{TookAll, Faulted};
 ghost use Rattle.out_text.specs.Text.{shortest_text};
 ghost use Rattle.trc_cli.specs.Causes.{device_name, fault_line, hex, hex_digit, line, line_of, name_at};
@@ -47,8 +47,9 @@ fn say_no_image<E: Sink>(err: &mut E, number: u8, at: u32) -> Result<(), WriteFa
     ensures failed { OnErr result (Faulted (E.account err.old) (E.account err.new)) }
 {
     write_all(err, b"trc: not an image: ")?;
-    write_all(err, decimal(u32::from(number)).as_slice())?;
-    say(err, b" at ", decimal(at).as_slice())
+    write_all(err, decimal(number as u32).as_slice())?;
+    say(err, b" at ", decimal(at).as_slice())?;
+    Ok(())
 }
 
 /// A hexadecimal digit, in lower case.
@@ -63,17 +64,39 @@ fn hex_digit(number: u8) -> u8
     }
 }
 
-/// The 16 hexadecimal digits of a number.
-fn hex(number: u64) -> [u8; 16]
-    ensures { result ≡ hex 16 number }
+/// Fills the digits with those of a number, in hexadecimal.
+fn put_hex(digits: &mut [u8], number: u64)
+    ensures { digits.new ≡ hex (length digits.old) number }
 {
-    let mut digits = [b'0'; 16];
     let mut left = number;
-    for at in (0..16).rev() {
+    let mut at = digits.len();
+    while at > 0 {
+        at -= 1;
         digits[at] = hex_digit((left % 16) as u8);
         left /= 16;
     }
-    digits
+}
+
+/// Writes the line of a word that isn't in the table.
+fn say_undefined<E: Sink>(err: &mut E, word: u32) -> Result<(), WriteFault>
+    ensures all { OnOk result (TookAll (E.account err.old) (E.account err.new) (fault_line (Step.Undefined word))) }
+    ensures rises { (E.account err.old).faults ≤ (E.account err.new).faults }
+    ensures failed { OnErr result (Faulted (E.account err.old) (E.account err.new)) }
+{
+    let mut digits = [b'0'; 8];
+    put_hex(&mut digits, word as u64);
+    say(err, b"trc: undefined word ", &digits)
+}
+
+/// Writes the line of an address that can't be used.
+fn say_bad_address<E: Sink>(err: &mut E, address: u64) -> Result<(), WriteFault>
+    ensures all { OnOk result (TookAll (E.account err.old) (E.account err.new) (fault_line (Step.BadAddress address))) }
+    ensures rises { (E.account err.old).faults ≤ (E.account err.new).faults }
+    ensures failed { OnErr result (Faulted (E.account err.old) (E.account err.new)) }
+{
+    let mut digits = [b'0'; 16];
+    put_hex(&mut digits, address);
+    say(err, b"trc: bad address ", &digits)
 }
 
 /// Writes the line of what the machine can't do.
@@ -83,8 +106,8 @@ fn say_fault<E: Sink>(err: &mut E, fault: Step) -> Result<(), WriteFault>
     ensures failed { OnErr result (Faulted (E.account err.old) (E.account err.new)) }
 {
     match fault {
-        Step::Undefined(word) => say(err, b"trc: undefined word ", &hex(u64::from(word))[8..]),
-        Step::BadAddress(address) => say(err, b"trc: bad address ", &hex(address)),
+        Step::Undefined(word) => say_undefined(err, word),
+        Step::BadAddress(address) => say_bad_address(err, address),
         Step::BadCall(number) => say(
             err,
             b"trc: bad call ",
@@ -98,9 +121,11 @@ fn say_fault<E: Sink>(err: &mut E, fault: Step) -> Result<(), WriteFault>
 fn name_at<'a>(names: &[&'a str], number: u32) -> &'a [u8]
     ensures { result.now ≡ name_at (map (λ name. name.now) names.now) number }
 {
-    match names.get(number as usize) {
-        Some(name) => name.as_bytes(),
-        None => b"",
+    let at = number as usize;
+    if at < names.len() {
+        names[at].as_bytes()
+    } else {
+        b""
     }
 }
 

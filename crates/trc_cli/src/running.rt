@@ -3,7 +3,7 @@
 ghost use Rattle.std.specs.Prelude.{◌≡◌, ◌≤◌, ℕ, Option, length};
 ghost use Rattle.outside.specs.Files.{Held};
 ghost use Rattle.image_form.specs.Form.{IsInForm};
-ghost use Rattle.trc_cli.specs.Runs.{run_of};
+ghost use Rattle.trc_cli.specs.Runs.{cause_of_fault, run_of};
 ghost use Rattle.trc_cli.specs.Verdict.{BytesComeTo, FileComesTo, ImageComesTo, SourceComesTo};
 ghost use Rattle.trc_cli.specs.Answers.{Answers, RunAnswers, told};
 
@@ -82,6 +82,16 @@ fn run_image<I: Source, O: Sink>(
     }
 }
 
+/// The cause of bytes that are no image.
+fn no_image(fault: ImageFault) -> Cause
+    ensures { result ≡ cause_of_fault fault }
+{
+    match fault {
+        ImageFault::Fault { number, at } => Cause::NotImage { number, at },
+        ImageFault::Memory => Cause::Memory,
+    }
+}
+
 /// Runs the image that these bytes are.
 fn run_bytes<I: Source, O: Sink>(
     alloc: Global,
@@ -100,8 +110,7 @@ fn run_bytes<I: Source, O: Sink>(
 {
     match read_image(alloc, bytes) {
         Ok(image) => run_image(alloc, image, steps, input, out),
-        Err(ImageFault::Fault { number, at }) => Cause::NotImage { number, at },
-        Err(ImageFault::Memory) => Cause::Memory,
+        Err(fault) => no_image(fault),
     }
 }
 
