@@ -1,6 +1,8 @@
 //! The top call over devices in memory, in rows. Expected values come from the language's rules and an
 //! independent compiler.
 
+ghost use Rattle.std.specs.Prelude.{◌<◌, ◌≤◌, length};
+
 use crate::{Outcome, trc};
 use a64_machine::{Halt, Machine};
 use image_file::write_image;
@@ -327,7 +329,11 @@ fn devices_fail(rt: HostRuntime) -> Result<(), Fail> {
 }
 
 /// Files with an image of these code words; it reads the input where the flag says so.
-fn with_words<R: AllocGlobal>(rt: &R, flags: u32, words: &[u32]) -> Result<MemFiles, Fail> {
+fn with_words<R: AllocGlobal>(rt: &R, flags: u32, words: &[u32]) -> Result<MemFiles, Fail>
+    requires flags { flags < 2 }
+    requires some { 1 ≤ length words.now }
+    requires few { length words.now ≤ 262144 }
+{
     let image = Image {
         version: 1,
         flags,
