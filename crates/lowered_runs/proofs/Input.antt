@@ -134,7 +134,7 @@ module _ (w : Whole) (l : Level) where
             turns = refl;
             out = append_none s.out;
             held = record { room = held.room; frames = held.frames; areas = held.areas; rises = held.rises; bytes = held.bytes; holds = λ a o c i v is at. held.holds a o c i v (ap (λ ys. cell_of ys o c) (sym (stay s xs a)) ∙ is) at; tags = held.tags; constants = held.constants; tagged = held.tagged; zeros = held.zeros; input = parts.1 };
-            later = record { place = λ o i e. e; tag = λ o k e. e; still = λ o c lt none. refl };
+            later = record { globals = refl; strings = refl; next = omega arith; place = λ o i e. e; tag = λ o k e. e; still = λ o c lt none. refl };
             registers = λ y lt r v e. e;
             is = (omega arith, put_here n x f, lt_of w.program x 256 parts.0);
             typed = λ t. record { cells = λ a k at. let r = t.cells a k at in (r.0, ap (λ ys. cell_of ys a.object a.cell) (stay s xs a.area) ∙ r.1, r.2); depth = t.depth; tagged = t.tagged; bytes = parts.1 };

@@ -22,3 +22,6 @@ pub mod Bounds
 pub mod Elements
 pub mod Input
 pub mod Samples
+pub mod Frames
+pub mod Locals
+pub mod Calls

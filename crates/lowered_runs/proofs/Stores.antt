@@ -48,6 +48,12 @@ sizes_put s Frames o i c = ap (λ f. record { globals = map length s.globals; fr
 sizes_put s Heap o i c = ap (λ h. record { globals = map length s.globals; frames = map length s.frames; heap = h; strings = map length s.strings }) (put_sizes s.heap o i c)
 sizes_put s Strings o i c = refl
 
+strings_stay : (s : Store) (a : Area) (all : List (List Cell)) → (with_objects a all s).strings ≡ s.strings
+strings_stay s Globals all = refl
+strings_stay s Frames all = refl
+strings_stay s Heap all = refl
+strings_stay s Strings all = refl
+
 -- a cell that is there
 size_at : (all : List (List Cell)) (o : ℕ) → slice_index (map length all) o ≡ length (slice_index_or all o [])
 size_at [] o = refl
@@ -110,17 +116,26 @@ module _ (w : Whole) (l : Level) where
   covers_thing s m t i h there at = covers-shapes m (8 * i) 8 ∙ ap (λ ss. covered ss (8 * i) 8) h.areas ∙ h.room.lies t i there at
 
   pub later_refl : (s : Store) → Later l s s
-  later_refl s = record { place = λ o i e. e; tag = λ o k e. e; still = λ o c lt none. refl }
+  later_refl s = record { globals = refl; strings = refl; next = omega arith; place = λ o i e. e; tag = λ o k e. e; still = λ o c lt none. refl }
 
   pub later_on : (s t u : Store) → Later l s t → Later l t u → Later l s u
   later_on s t u a b = record {
+    globals = b.globals ∙ a.globals;
+    strings = b.strings ∙ a.strings;
+    next = let x = a.next in let y = b.next in omega (arith, x, y);
     place = λ o i e. b.place o i (a.place o i e);
     tag = λ o k e. b.tag o k (a.tag o k e);
     still = λ o c lt none. b.still o c lt none ∙ a.still o c lt none;
   }
 
+  same_next : (z y : Sizes) → y ≡ z → next z ≤ next y
+  same_next z y e = let f = ap next e in omega (arith, f)
+
   pub later_put : (s : Store) (a : Area) (o i : ℕ) (v : Cell) → (a ≡ Frames → o < l.frame → l.slots o i ≡ None → ⊥) → Later l s (put_in s a o i v)
   later_put s a o i v off = record {
+    globals = ap (λ z. z.globals) (sizes_put s a o i v);
+    strings = strings_stay s a (cell_put (objects a s) o i v);
+    next = same_next (sizes_of s) (sizes_of (put_in s a o i v)) (sizes_put s a o i v);
     place = λ p j e. ap (λ z. place z p) (sizes_put s a o i v) ∙ e;
     tag = λ p k e. ap (λ ts. slice_get ts p) (tags_stay s a (cell_put (objects a s) o i v)) ∙ e;
     still = λ p c lt none. elim (written s a o i v Frames p c) [

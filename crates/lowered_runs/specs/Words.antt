@@ -8,7 +8,10 @@ use Rattle.block_runs.specs.States.{Kind as Stopped}
 use Rattle.block_runs.specs.Points.{AreCodePlaces}
 use Rattle.ob_types.specs.Forms.{Form, all}
 use Rattle.ob_types.specs.declared.program.Program.{Program}
-use Rattle.ob_types.specs.WellFormed.{callable}
+use Rattle.ob_types.specs.WellFormed.{callable as can_call}
+use Rattle.ob_types.specs.Meaning.{procedure_of}
+use Rattle.ssa_lowered.specs.Variables.{words_of}
+use Rattle.block_runs.specs.Steps.{may_call}
 use Rattle.ob_types.specs.Store.{Cell, Bits, Pointer, Code, Area, Globals, Frames, Heap, Strings, Address, Store, Handed, Trap, Kind, objects, cell_of}
 
 -- a trap of the meaning, and the system's
@@ -69,10 +72,11 @@ pub record Level : Type 0 where
   pub cell : ℕ → ℕ
   pub store : Store
 
--- code addresses are told apart, and procedures that may be called are there
+-- code addresses are told apart, procedures that may be called are there, and they may be called with their argument words
 pub record Right (w : Whole) : Type 0 where
   pub codes : AreCodePlaces (length w.procedures) w.code
-  pub callable : (g : ℕ) → callable w.program g ≡ true → g < length w.procedures
+  pub callable : (g : ℕ) → can_call w.program g ≡ true → g < length w.procedures
+  pub may : (g : ℕ) → can_call w.program g ≡ true → (xs : List ℕ) → length xs ≡ words_of (procedure_of w.program g).formals → may_call w.procedures g xs ≡ true
 
 -- the sizes of all objects
 pub record Sizes : Type 0 where
@@ -168,8 +172,12 @@ pub record Held (w : Whole) (l : Level) (s : Store) (m : List Region) : Type 0 w
   pub zeros : (i : ℕ) → next (sizes_of s) ≤ i → i < heap_word + heap_words → word m i ≡ 0
   pub input : AreInput s.input
 
--- from one moment of a call to a later one: pointers stay, and so do the cells of older calls that are in no memory
+-- from one moment of a call to a later one: no object but those of the heap becomes more or larger, pointers stay, and so do the cells of older
+-- calls that are in no memory
 pub record Later (l : Level) (s t : Store) : Type 0 where
+  pub globals : map length t.globals ≡ map length s.globals
+  pub strings : t.strings ≡ s.strings
+  pub next : next (sizes_of s) ≤ next (sizes_of t)
   pub place : (o i : ℕ) → place (sizes_of s) o ≡ Some i → place (sizes_of t) o ≡ Some i
   pub tag : (o k : ℕ) → slice_get s.tags o ≡ Some k → slice_get t.tags o ≡ Some k
   pub still : (o c : ℕ) → o < l.frame → l.slots o c ≡ None → cell_of t.frames o c ≡ cell_of s.frames o c
