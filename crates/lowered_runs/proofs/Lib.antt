@@ -25,3 +25,4 @@ pub mod Samples
 pub mod Frames
 pub mod Locals
 pub mod Calls
+pub mod Openings

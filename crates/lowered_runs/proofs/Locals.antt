@@ -170,6 +170,23 @@ module _ (p : Program) where
       by false true = ap (λ n. record { type_number = x.0; word = x.1; site = Memory (8 * b) } ∷ placed p.types lay (rest lent) (8 * a) n xs) next_b
       by false false = refl
 
+  -- where a variable is, and what comes behind it
+  abbrev pub site_by : Way → (a b : ℕ) → Site
+  site_by Wide a b = Memory (8 * a)
+  site_by Lent a b = Memory (8 * b)
+  site_by Kept a b = Register
+
+  abbrev pub placed_in : Way → Mask → (a b : ℕ) → ℕ × Option ℕ → Pairs → List Variable
+  placed_in W lent a b x xs = record { type_number = x.0; word = x.1; site = site_by W a b } ∷ placed p.types lay (rest lent) (8 * (a + wide_of W (size x.0))) (8 * (lent_of W + b)) xs
+
+  pub placed_all : (lent : Mask) (a b : ℕ) (x : ℕ × Option ℕ) (xs : Pairs) → placed p.types lay lent (8 * a) (8 * b) (x ∷ xs) ≡ placed_in (way (is_wide x.0) (lent 0)) lent a b x xs
+  placed_all lent a b x xs = placed_is lent a b x xs ∙ by (way (is_wide x.0) (lent 0))
+    where
+      by : (W : Way) → placed_by W lent a b x xs ≡ placed_in W lent a b x xs
+      by Wide = ap (λ n. record { type_number = x.0; word = x.1; site = Memory (8 * a) } ∷ placed p.types lay (rest lent) (8 * (a + size x.0)) n xs) (omega arith)
+      by Lent = ap₂ (λ n k. record { type_number = x.0; word = x.1; site = Memory (8 * b) } ∷ placed p.types lay (rest lent) n k xs) (omega arith) (omega arith)
+      by Kept = ap₂ (λ n k. record { type_number = x.0; word = x.1; site = Register } ∷ placed p.types lay (rest lent) n k xs) (omega arith) (omega arith)
+
   module _ (base : ℕ) where
     abbrev pub own_by : Way → (a b c : ℕ) → Bool → Option ℕ → Option ℕ
     own_by W a b c false later = later
