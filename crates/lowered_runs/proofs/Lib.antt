@@ -26,3 +26,4 @@ pub mod Frames
 pub mod Locals
 pub mod Calls
 pub mod Openings
+pub mod Zeroes
