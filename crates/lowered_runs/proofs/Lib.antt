@@ -12,6 +12,7 @@ pub mod Homes
 pub mod Designators
 pub mod Deeds
 pub mod Flags
+pub mod Levels
 pub mod Tree
 pub mod Points
 pub mod Starting
@@ -27,3 +28,4 @@ pub mod Locals
 pub mod Calls
 pub mod Openings
 pub mod Zeroes
+pub mod Activations

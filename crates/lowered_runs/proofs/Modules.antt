@@ -16,7 +16,7 @@ use Rattle.ssa_lowered.specs.Lowered.{lowered, procs_from}
 use Rattle.lowered_runs.specs.Words.{Whole, Level, Right, Sizes, sizes_of, Thing, InCell, TagOf, Constant, word_of, There, Room, Held, Apart, data_word}
 use Rattle.lowered_runs.proofs.Starting.{start_of, whole_of, body_level, global_sizes}
 use Rattle.lowered_runs.proofs.Bodies.{module_sizes, modules_are, starts_are, rooms_are, variable_below}
-use Rattle.lowered_runs.proofs.Tree.{Variables}
+use Rattle.lowered_runs.proofs.Levels.{Variables}
 
 nothing_some : {A : Type 0} {x : A} → None ≡ Some x → ⊥
 nothing_some e = cc

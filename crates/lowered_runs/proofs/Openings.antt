@@ -172,6 +172,11 @@ module _ (w : Whole) (z : Objects) (args : List ℕ) where
   Firsts [] cs = Unit {0}
   Firsts (x ∷ xs) cs = Head x cs × Firsts xs (drop (size w.program x.0) cs)
 
+-- the words with which variables begin are among the arguments
+abbrev pub WordsAmong : List ℕ → Pairs → Type 0
+WordsAmong args [] = Unit {0}
+WordsAmong args (x ∷ xs) = word_among args x.1 × WordsAmong args xs
+
 module _ (w : Whole) (l : Level) (most : ℕ) (s : At Objects) (here : Here) (m0 : List Area) (base words : ℕ) (locals : l.local ≡ base + words) (few : base + words ≤ heap_word)
     (covers_own : (i : ℕ) → base ≤ i → i < base + words → covered (shapes m0) (8 * i) 8 ≡ true) where
   abbrev p : Program
@@ -342,10 +347,6 @@ module _ (w : Whole) (l : Level) (most : ℕ) (s : At Objects) (here : Here) (m0
   some_memory lent [] = false
   some_memory lent (x ∷ xs) = in_memory (way (is_wide p x.0) (lent 0)) || some_memory (rest lent) xs
 
-  abbrev pub WordsAmong : Pairs → Type 0
-  WordsAmong [] = Unit {0}
-  WordsAmong (x ∷ xs) = word_among l.args x.1 × WordsAmong xs
-
   env_more : (lent : Mask) (xs : Pairs) (us : List ℕ) (n v : ℕ) (f g : ℕ → ℕ) → n ≤ v → Same n f g → EnvIs lent xs us n f → EnvIs lent xs us v g
   env_more lent [] [] n v f g le same h = tt
   env_more lent [] (u ∷ us) n v f g le same h = absurd h
@@ -369,7 +370,7 @@ module _ (w : Whole) (l : Level) (most : ℕ) (s : At Objects) (here : Here) (m0
   one_opened K x Lent a b ok steady has one = opens_give w l most s 0 (λ n f m h. let g = one n f m h refl in (h, (omega (arith, g), λ e. no (sym e))))
   one_opened K x Kept a b ok steady has one = opens_less w l most s (λ u n f m h. (h.0, (h.1.0, λ e. h.1.1))) (first_opens x.1 ok steady has)
 
-  pub opened_opens : (lent : Mask) (a b : ℕ) (xs : Pairs) (K : Stage w l most s) → Steadily K → ((n : ℕ) (f : ℕ → ℕ) (m : List Area) → K n f m → Opened n f m) → ((n : ℕ) (f : ℕ → ℕ) (m : List Area) → K n f m → some_memory lent xs ≡ true → 1 ≤ n) → WordsAmong xs
+  pub opened_opens : (lent : Mask) (a b : ℕ) (xs : Pairs) (K : Stage w l most s) → Steadily K → ((n : ℕ) (f : ℕ → ℕ) (m : List Area) → K n f m → Opened n f m) → ((n : ℕ) (f : ℕ → ℕ) (m : List Area) → K n f m → some_memory lent xs ≡ true → 1 ≤ n) → WordsAmong l.args xs
       → Opens w l most s K (λ us n f m. K n f m × EnvIs lent xs us n f) (opened (placed p.types (lay p) lent (8 * a) (8 * b) xs))
   opened_opens lent a b [] K steady has one ok = opens_give w l most s [] (λ n f m h. (h, tt))
   opened_opens lent a b (x ∷ xs) K steady has one ok =

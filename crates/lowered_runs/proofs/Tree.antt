@@ -43,6 +43,7 @@ use Rattle.ssa_lowered.specs.Variables.{Register, Memory, is_structured, either,
 use Rattle.ssa_lowered.specs.Lowered.{Here, here_of, in_register, variable_of, local_by, parameter_by, by_mode, based, named, expr, link as lower_link, linked as lower_linked, home, registers, deed, deeds, deeds_of, one_of, alternatives, guarded_rounds}
 use Rattle.lowered_runs.specs.Words.{Whole, Level, Right, local, Apart}
 use Rattle.lowered_runs.specs.Covered.{has_length, is_shared, part_covered, base_is_fixed, selectors_covered, selector_covered, is_fixed, base_covered, designator_covered, has_branch, expr_covered, links_covered, link_covered, checked_covered, covered, row_covered, branches_covered}
+use Rattle.lowered_runs.proofs.Levels.{layout, here, running, locals, LocalIs, Variables, Given, steady_given}
 use Rattle.lowered_runs.proofs.Follows.{Fact, Steady, Follows, FollowsTo, follows_bind, follows_seen, follows_give, follows_sound, follows_known, follows_less, follows_mask}
 use Rattle.lowered_runs.proofs.Exprs.{CellIs, follows_literal, follows_routine, follows_unary, follows_binary}
 use Rattle.lowered_runs.proofs.Sets.{follows_same, follows_contained, follows_element, follows_range, follows_byte, follows_compared}
@@ -101,43 +102,6 @@ regroup_mask : (r a b c : Bool) → (r && (a || (b || c))) ≡ true → (r && ((
 regroup_mask true true b c h = refl
 regroup_mask true false b c h = h
 regroup_mask false a b c h = no h
-
-module _ (w : Whole) (l : Level) where
-  abbrev program : Program
-  program = w.program
-
-  abbrev layout : Layout
-  layout = in_cells program.types
-
-  abbrev here : Here
-  here = here_of program layout l.proc (procedure_of program l.proc)
-
-  abbrev running : Running
-  running = record { procedure = l.proc; frame = l.frame; arguments = l.arguments }
-
-  abbrev locals : List ℕ
-  locals = locals_of (procedure_of program l.proc)
-
-  -- where a local variable is
-  abbrev pub LocalIs : ℕ → ℕ → Type 0
-  LocalIs x k = (((variable_of program layout here x).site ≡ Register) × (l.in_register x ≡ true) × (is_structured (kind_of program.types k) ≡ false))
-      ⊎ ((n : ℕ) × ((variable_of program layout here x).site ≡ Memory n) × (l.in_register x ≡ false) × ((s : Objects) → AddressIs w l (local l x) (cells program.types k) (sub64 (8 * l.local) (here.bytes - n)) s))
-
-  -- where variables are
-  pub record Variables : Type 0 where
-    pub cell : (x : ℕ) → l.cell x ≡ cells_of_all program.types (take x locals)
-    pub count : l.count ≡ length locals
-    pub local : (x k : ℕ) → slice_get locals x ≡ Some k → LocalIs x k
-    pub global : (m v k : ℕ) → slice_get (globals_of program m) v ≡ Some k → (s : Objects) → AddressIs w l (record { area = Globals; object = suc m; cell = cells_of_all program.types (take v (globals_of program m)) }) (cells program.types k) (data_base + global_at program layout m v) s
-    pub done : (s : Objects) → AddressIs w l (record { area = Globals; object = 0; cell = 0 }) 1 (data_base + 0) s
-
-  -- parameters that are addresses have their words
-  abbrev pub Given : Fact
-  Given n f s = (k : ℕ) (x : _) (h : Handed) (d : Thing) → slice_get (procedure_of program l.proc).formals k ≡ Some x → slice_get l.arguments k ≡ Some h → WellFormed.parameter_by program x.mode x.type_number x.variable ≡ Some d
-      → NamedIs w l none d h (by_mode x.mode (words_of (take k (procedure_of program l.proc).formals))) n f s
-
-  pub steady_given : Steady w l Given
-  steady_given = record { by = λ n m f g s t le same later given k x h d at is by. (steady_named w l none d h (by_mode x.mode (words_of (take k (procedure_of program l.proc).formals)))).by n m f g s t le same later (given k x h d at is by) }
 
 module _ (w : Whole) (l : Level) (right : Right w) (apart : Apart l) (vars : Variables w l) (good : types_fine w.program.types ≡ true) (calls : Calls) (sound : CallsSound w.program good calls)
     (frame : slice_index_or l.forms l.frame [] ≡ joined (forms w.program.types) (locals w l)) (taken : AllTaken w.program good l.forms l.store.tags (procedure_of w.program l.proc).formals l.arguments) (fuel : ℕ) where

@@ -1,0 +1,56 @@
+-- What holds while a call runs: where its variables and parameters are.
+use Rattle.std.proofs.Common.{◌≡◌, ℕ, suc, ◌+◌, ◌*◌, ◌⊎◌, List, length, take, true, false, slice_get, Some}
+use Rattle.std.specs.Prelude.{◌-◌}
+use Rattle.wrapping_numbers.specs.Numbers.{sub64}
+use Rattle.block_runs.specs.First.{data_base}
+use Rattle.ob_types.specs.Layout.{kind_of, cells, cells_of_all}
+use Rattle.ob_types.specs.Meaning.{procedure_of, locals_of, globals_of}
+use Rattle.ob_types.specs.Store.{Globals, Handed}
+use Rattle.ob_types.specs.Store.{Store as Objects, Here as Running}
+use Rattle.ob_types.specs.WellFormed
+use Rattle.ob_types.specs.WellFormed.{Named as Thing}
+use Rattle.ob_types.specs.declared.program.Program.{Program}
+use Rattle.ssa_lowered.specs.Data.{Layout, in_cells, global_at}
+use Rattle.ssa_lowered.specs.Variables.{Register, Memory, is_structured, none, words_of}
+use Rattle.ssa_lowered.specs.Lowered.{Here, here_of, variable_of, by_mode}
+use Rattle.lowered_runs.specs.Words.{Whole, Level, local}
+use Rattle.lowered_runs.proofs.Follows.{Fact, Steady}
+use Rattle.lowered_runs.proofs.Homes.{AddressIs}
+use Rattle.lowered_runs.proofs.Designators.{NamedIs, steady_named}
+
+module _ (w : Whole) (l : Level) where
+  abbrev pub program : Program
+  program = w.program
+
+  abbrev pub layout : Layout
+  layout = in_cells program.types
+
+  abbrev pub here : Here
+  here = here_of program layout l.proc (procedure_of program l.proc)
+
+  abbrev pub running : Running
+  running = record { procedure = l.proc; frame = l.frame; arguments = l.arguments }
+
+  abbrev pub locals : List ℕ
+  locals = locals_of (procedure_of program l.proc)
+
+  -- where a local variable is
+  abbrev pub LocalIs : ℕ → ℕ → Type 0
+  LocalIs x k = (((variable_of program layout here x).site ≡ Register) × (l.in_register x ≡ true) × (is_structured (kind_of program.types k) ≡ false))
+      ⊎ ((n : ℕ) × ((variable_of program layout here x).site ≡ Memory n) × (l.in_register x ≡ false) × ((s : Objects) → AddressIs w l (local l x) (cells program.types k) (sub64 (8 * l.local) (here.bytes - n)) s))
+
+  -- where variables are
+  pub record Variables : Type 0 where
+    pub cell : (x : ℕ) → l.cell x ≡ cells_of_all program.types (take x locals)
+    pub count : l.count ≡ length locals
+    pub local : (x k : ℕ) → slice_get locals x ≡ Some k → LocalIs x k
+    pub global : (m v k : ℕ) → slice_get (globals_of program m) v ≡ Some k → (s : Objects) → AddressIs w l (record { area = Globals; object = suc m; cell = cells_of_all program.types (take v (globals_of program m)) }) (cells program.types k) (data_base + global_at program layout m v) s
+    pub done : (s : Objects) → AddressIs w l (record { area = Globals; object = 0; cell = 0 }) 1 (data_base + 0) s
+
+  -- parameters that are addresses have their words
+  abbrev pub Given : Fact
+  Given n f s = (k : ℕ) (x : _) (h : Handed) (d : Thing) → slice_get (procedure_of program l.proc).formals k ≡ Some x → slice_get l.arguments k ≡ Some h → WellFormed.parameter_by program x.mode x.type_number x.variable ≡ Some d
+      → NamedIs w l none d h (by_mode x.mode (words_of (take k (procedure_of program l.proc).formals))) n f s
+
+  pub steady_given : Steady w l Given
+  steady_given = record { by = λ n m f g s t le same later given k x h d at is by. (steady_named w l none d h (by_mode x.mode (words_of (take k (procedure_of program l.proc).formals)))).by n m f g s t le same later (given k x h d at is by) }
