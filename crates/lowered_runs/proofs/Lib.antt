@@ -29,3 +29,4 @@ pub mod Calls
 pub mod Openings
 pub mod Zeroes
 pub mod Activations
+pub mod Returns

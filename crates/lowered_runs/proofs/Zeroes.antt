@@ -213,12 +213,13 @@ module _ (w : Whole) (l : Level) (m0 : List Area) (base words : ℕ) (locals : l
         })
 
   -- where there are structured variables, or none
-  pub zeroing_goes : (most k : ℕ) (c : Cursor) (f : ℕ → ℕ) (s : At Objects) (all : ℕ) (m : List Area) (room free : (Point → ℕ) → ℕ) (flag : Bool) → k ≤ words → all ≡ 8 * words → (flag ≡ false → k ≡ 0) → ((h : Point → ℕ) → free h + shared h ≤ weigh h w.points)
-      → Standing w.procedures l.proc (zeroing flag all (8 * k) c).pieces → ((h : Point → ℕ) → bulk l.proc (zeroing flag all (8 * k) c).pieces h + (free h + shared h) ≤ room h)
-      → Came_to w most 1 s.turns s.out (runs_at l (position c) f m s.store) room → Beyond base m0 m → Goes w (spend_all k s) (Zeroed most k flag c (zeroing flag all (8 * k) c).after f s free)
-  zeroing_goes most k c f s all m room free true fits_words all_is none within stands fits at beyond =
-      zeroes_go most k fits_words c f s all all_is free (λ h. let z = within h in omega (arith, z)) stands m room (λ h. let z = fits h in omega (arith, z)) at beyond
-  zeroing_goes most k c f s all m room free false fits_words all_is none within stands fits at beyond =
+  pub zeroing_goes : (most k size : ℕ) (c : Cursor) (f : ℕ → ℕ) (s : At Objects) (all : ℕ) (m : List Area) (room free : (Point → ℕ) → ℕ) (flag : Bool) → size ≡ 8 * k → k ≤ words → all ≡ 8 * words → (flag ≡ false → k ≡ 0) → ((h : Point → ℕ) → free h + shared h ≤ weigh h w.points)
+      → Standing w.procedures l.proc (zeroing flag all size c).pieces → ((h : Point → ℕ) → bulk l.proc (zeroing flag all size c).pieces h + (free h + shared h) ≤ room h)
+      → Came_to w most 1 s.turns s.out (runs_at l (position c) f m s.store) room → Beyond base m0 m → Goes w (spend_all k s) (Zeroed most k flag c (zeroing flag all size c).after f s free)
+  zeroing_goes most k size c f s all m room free true size_is fits_words all_is none within stands fits at beyond =
+      subst (λ n. Goes w (spend_all k s) (Zeroed most k true c (zeroing true all n c).after f s free)) (sym size_is)
+      (zeroes_go most k fits_words c f s all all_is free (λ h. let z = within h in omega (arith, z)) (subst (λ n. Standing w.procedures l.proc (zeroing true all n c).pieces) size_is stands) m room (λ h. let z = fits h in omega (arith, z)) at beyond)
+  zeroing_goes most k size c f s all m room free false size_is fits_words all_is none within stands fits at beyond =
       let e = none refl in
       goes_here w l (spend_all k s) tt s (ap (λ n. spend_all n s) e) (record {
         store = refl;
