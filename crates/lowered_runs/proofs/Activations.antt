@@ -141,6 +141,25 @@ module _ (p : Program) where
       both_false true b h = no (sym h)
       both_false false b h = (refl, h)
 
+  -- a structured variable is a local one
+  pub wide_flag : (q : Declared) → all (formal_legal p.types) q.formals ≡ true → wide_some p (pairs_of q) ≡ true → some_structured p.types q.locals ≡ true
+  wide_flag q legal e = in_values 0 q.formals legal e
+    where
+      in_locals : (ks : List ℕ) → wide_some p (map (λ k. (k, None)) ks) ≡ some_structured p.types ks
+      in_locals [] = refl
+      in_locals (k ∷ ks) = ap (λ b. is_structured (kind_of p.types k) || b) (in_locals ks)
+
+      in_values : (v : ℕ) (xs : List Formal) → all (formal_legal p.types) xs ≡ true → wide_some p (value_parameters v xs ++ map (λ k. (k, None)) q.locals) ≡ true → some_structured p.types q.locals ≡ true
+      in_values v [] h e = sym (in_locals q.locals) ∙ e
+      in_values v (x ∷ xs) h e =
+          let y = and_of (formal_legal p.types x) (all (formal_legal p.types) xs) h in
+          by (is_value x.mode) refl (value_scalar x y.0) (λ f. in_values (v + words_by x.mode) xs y.1 f) e
+        where
+          by : (b : Bool) → is_value x.mode ≡ b → (is_value x.mode ≡ true → is_wide p x.type_number ≡ false) → (wide_some p (value_parameters (v + words_by x.mode) xs ++ map (λ k. (k, None)) q.locals) ≡ true → some_structured p.types q.locals ≡ true)
+              → wide_some p (((if b then (x.type_number, Some v) ∷ [] else []) ++ value_parameters (v + words_by x.mode) xs) ++ map (λ k. (k, None)) q.locals) ≡ true → some_structured p.types q.locals ≡ true
+          by true is scalar more e = more (sym (ap (λ t. t || wide_some p (value_parameters (v + words_by x.mode) xs ++ map (λ k. (k, None)) q.locals)) (scalar is)) ∙ e)
+          by false is scalar more e = more e
+
 ---- First values
 
 module _ (w : Whole) (z : Objects) (args : List ℕ) where
@@ -266,7 +285,7 @@ own_cells p q hs cs is legal =
 
 ---- The level of a call
 
-abbrev no_variable : Variable
+abbrev pub no_variable : Variable
 no_variable = record { type_number = 0; word = None; site = Register }
 
 -- where the data of modules are, in whatever level
@@ -342,10 +361,10 @@ module _ (w : Whole) (l : Level) (g : ℕ) (hs : List Handed) (xs : List ℕ) (c
     below_get (k ∷ ks) zero lt = (k, refl)
     below_get (k ∷ ks) (suc x) lt = below_get ks x (omega (arith, lt))
 
-    type_at : (x : ℕ) → x < length (locals_of q) → (k : ℕ) × (slice_get (types_in (pairs_of q)) x ≡ Some k)
+    pub type_at : (x : ℕ) → x < length (locals_of q) → (k : ℕ) × (slice_get (types_in (pairs_of q)) x ≡ Some k)
     type_at x lt = let e = ap length (types_are q) in below_get (types_in (pairs_of q)) x (omega (arith, lt, e))
 
-    cell_is : (x : ℕ) → activation.cell x ≡ first w.program (pairs_of q) x
+    pub cell_is : (x : ℕ) → activation.cell x ≡ first w.program (pairs_of q) x
     cell_is x = ap (λ ks. cells_of_all w.program.types (take x ks)) (sym (types_are q))
 
     abbrev SiteOf : (x k : ℕ) → Site → Type 0

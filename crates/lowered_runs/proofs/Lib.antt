@@ -30,3 +30,4 @@ pub mod Openings
 pub mod Zeroes
 pub mod Activations
 pub mod Returns
+pub mod Callees

@@ -163,6 +163,60 @@ beyond_store at i x m0 m le lt h = record {
     outside j (inl less) e = absurd (omega (arith, less, e, le))
     outside j (inr ge) e = absurd (omega (arith, ge, e, lt))
 
+some_is : {A : Type 0} {x y : A} → Some x ≡ Some y → x ≡ y
+some_is e = cc
+
+none_is : {A : Type 0} {x : A} → None ≡ Some x → ⊥
+none_is e = cc
+
+abbrev pub in_memory : Way → Bool
+in_memory Wide = true
+in_memory Lent = true
+in_memory Kept = false
+
+abbrev pub is_lent : Way → Bool
+is_lent Lent = true
+is_lent _ = false
+
+either_left : (t r : Bool) → t ≡ true → (t || r) ≡ true
+either_left true r e = refl
+either_left false r e = no e
+
+either_right : (t r : Bool) → r ≡ true → (t || r) ≡ true
+either_right true r e = refl
+either_right false r e = e
+
+either_true : (t r : Bool) (n : ℕ) → (t ≡ true → 1 ≤ n) → (r ≡ true → 1 ≤ n) → (t || r) ≡ true → 1 ≤ n
+either_true true r n a b e = a refl
+either_true false r n a b e = b e
+
+module _ (p : Program) where
+  abbrev pub some_lent : Mask → Pairs → Bool
+  some_lent lent [] = false
+  some_lent lent (x ∷ xs) = is_lent (way (is_wide p x.0) (lent 0)) || some_lent (rest lent) xs
+
+  abbrev pub wide_some : Pairs → Bool
+  wide_some [] = false
+  wide_some (x ∷ xs) = is_wide p x.0 || wide_some xs
+
+  abbrev pub some_memory : Mask → Pairs → Bool
+  some_memory lent [] = false
+  some_memory lent (x ∷ xs) = in_memory (way (is_wide p x.0) (lent 0)) || some_memory (rest lent) xs
+
+  -- where a variable is in memory, it is structured or a scalar that is lent
+  pub memory_either : (lent : Mask) (xs : Pairs) → some_memory lent xs ≡ true → (wide_some xs ≡ true) ⊎ (some_lent lent xs ≡ true)
+  memory_either lent [] e = no e
+  memory_either lent (x ∷ xs) e = by (is_wide p x.0) (lent 0) (memory_either (rest lent) xs) e
+    where
+      later : (t : Bool) (r : Bool) → (wide_some xs ≡ true) ⊎ (some_lent (rest lent) xs ≡ true) → ((t || wide_some xs) ≡ true) ⊎ ((r || some_lent (rest lent) xs) ≡ true)
+      later t r (inl h) = inl (either_right t (wide_some xs) h)
+      later t r (inr h) = inr (either_right r (some_lent (rest lent) xs) h)
+
+      by : (t r : Bool) → (some_memory (rest lent) xs ≡ true → (wide_some xs ≡ true) ⊎ (some_lent (rest lent) xs ≡ true)) → (in_memory (way t r) || some_memory (rest lent) xs) ≡ true → ((t || wide_some xs) ≡ true) ⊎ ((is_lent (way t r) || some_lent (rest lent) xs) ≡ true)
+      by true r more e = inl refl
+      by false true more e = inr refl
+      by false false more e = later false false (more e)
+
 -- the cells of a variable, and of all variables, have the numbers with which they begin
 module _ (w : Whole) (z : Objects) (args : List ℕ) where
   abbrev pub Head : ℕ × Option ℕ → List Cell → Type 0
@@ -172,12 +226,58 @@ module _ (w : Whole) (z : Objects) (args : List ℕ) where
   Firsts [] cs = Unit {0}
   Firsts (x ∷ xs) cs = Head x cs × Firsts xs (drop (size w.program x.0) cs)
 
+  ---- Register variables
+
+  abbrev pub EnvIs : Mask → Pairs → List ℕ → ℕ → (ℕ → ℕ) → Type 0
+  EnvIs lent [] [] n f = Unit {0}
+  EnvIs lent (x ∷ xs) (u ∷ us) n f = ((u < n) × (in_memory (way (is_wide w.program x.0) (lent 0)) ≡ false → f u ≡ number_of args x.1)) × EnvIs (rest lent) xs us n f
+  EnvIs lent _ _ n f = ⊥
+
+  env_more : (lent : Mask) (xs : Pairs) (us : List ℕ) (n v : ℕ) (f g : ℕ → ℕ) → n ≤ v → Same n f g → EnvIs lent xs us n f → EnvIs lent xs us v g
+  env_more lent [] [] n v f g le same h = tt
+  env_more lent [] (u ∷ us) n v f g le same h = absurd h
+  env_more lent (x ∷ xs) [] n v f g le same h = absurd h
+  env_more lent (x ∷ xs) (u ∷ us) n v f g le same h = let lt = h.0.0 in ((omega (arith, lt, le), λ e. same u h.0.0 ∙ h.0.1 e), env_more (rest lent) xs us n v f g le same h.1)
+
+  -- register variables have their first values
+  pub registers_first : (here : Here) (lent : Mask) (a b : ℕ) (xs : Pairs) (cs : List Cell) (us : List ℕ) (n : ℕ) (f : ℕ → ℕ) (x k : ℕ) (none : Variable) (v : Cell) → EnvIs lent xs us n f → Firsts xs cs → slice_get (types_in xs) x ≡ Some k
+      → in_register w.program (lay w.program) here (slice_index_or (placed w.program.types (lay w.program) lent (8 * a) (8 * b) xs) x none).site ≡ true → slice_get cs (first w.program xs x) ≡ Some v → ValueIs w (sizes_of z) v (f (slice_index us x))
+  registers_first here lent a b [] cs us n f x k none v env firsts at reg cell = absurd (none_is at)
+  registers_first here lent a b (y ∷ xs) cs [] n f x k none v env firsts at reg cell = absurd env
+  registers_first here lent a b (y ∷ xs) cs (u ∷ us) n f zero k none v env firsts at reg cell =
+      by (is_wide w.program y.0) refl (lent 0) refl (subst (λ vs. in_register w.program (lay w.program) here (slice_index_or vs 0 none).site ≡ true) (placed_all w.program lent a b y xs) reg)
+    where
+      by : (t : Bool) → is_wide w.program y.0 ≡ t → (r : Bool) → lent 0 ≡ r → in_register w.program (lay w.program) here (site_by w.program (way t r) a b) ≡ true → ValueIs w (sizes_of z) v (f u)
+      by true is r is2 reg = no reg
+      by false is true is2 reg = no reg
+      by false is false is2 reg =
+          let one = single w.program y.0 is in
+          subst (λ q. ValueIs w (sizes_of z) v q) (sym (env.0.1 (ap₂ (λ t r. in_memory (way t r)) is is2))) (firsts.0.0 0 v (omega (arith, one)) cell)
+  registers_first here lent a b (y ∷ xs) cs (u ∷ us) n f (suc x) k none v env firsts at reg cell =
+      let W = way (is_wide w.program y.0) (lent 0) in
+      registers_first here (rest lent) (a + wide_of W (size w.program y.0)) (lent_of W + b) xs (drop (size w.program y.0) cs) us n f x k none v env.1 firsts.1 at
+      (subst (λ vs. in_register w.program (lay w.program) here (slice_index_or vs (suc x) none).site ≡ true) (placed_all w.program lent a b y xs) reg)
+      (get_drop (size w.program y.0) cs (first w.program xs x) ∙ ap (slice_get cs) (sym (first_more w.program y xs x)) ∙ cell)
+
+  -- as many as there are variables
+  pub env_size : (lent : Mask) (xs : Pairs) (us : List ℕ) (n : ℕ) (f : ℕ → ℕ) → EnvIs lent xs us n f → length us ≡ length (types_in xs)
+  env_size lent [] [] n f h = refl
+  env_size lent [] (u ∷ us) n f h = absurd h
+  env_size lent (x ∷ xs) [] n f h = absurd h
+  env_size lent (x ∷ xs) (u ∷ us) n f h = ap suc (env_size (rest lent) xs us n f h.1)
+
+  pub env_under : (lent : Mask) (xs : Pairs) (us : List ℕ) (n : ℕ) (f : ℕ → ℕ) → EnvIs lent xs us n f → Under n us
+  env_under lent [] [] n f h = tt
+  env_under lent [] (u ∷ us) n f h = absurd h
+  env_under lent (x ∷ xs) [] n f h = absurd h
+  env_under lent (x ∷ xs) (u ∷ us) n f h = (h.0.0, env_under (rest lent) xs us n f h.1)
+
 -- the words with which variables begin are among the arguments
 abbrev pub WordsAmong : List ℕ → Pairs → Type 0
 WordsAmong args [] = Unit {0}
 WordsAmong args (x ∷ xs) = word_among args x.1 × WordsAmong args xs
 
-module _ (w : Whole) (l : Level) (most : ℕ) (s : At Objects) (here : Here) (m0 : List Area) (base words : ℕ) (locals : l.local ≡ base + words) (few : base + words ≤ heap_word)
+module _ (w : Whole) (l : Level) (most : ℕ) (s : At Objects) (m0 : List Area) (base words : ℕ) (locals : l.local ≡ base + words) (few : base + words ≤ heap_word)
     (covers_own : (i : ℕ) → base ≤ i → i < base + words → covered (shapes m0) (8 * i) 8 ≡ true) where
   abbrev p : Program
   p = w.program
@@ -188,7 +288,7 @@ module _ (w : Whole) (l : Level) (most : ℕ) (s : At Objects) (here : Here) (m0
     pub given : FirstWords w l most s (length l.args) f
     pub beyond : Beyond base m0 m
 
-  opened_more : (n v : ℕ) (f g : ℕ → ℕ) (m : List Area) → n ≤ v → Same n f g → Opened n f m → Opened v g m
+  pub opened_more : (n v : ℕ) (f g : ℕ → ℕ) (m : List Area) → n ≤ v → Same n f g → Opened n f m → Opened v g m
   opened_more n v f g m le same h = let many = h.many in record {
     many = omega (arith, many, le);
     given = λ a lt. same a (omega (arith, many, lt)) ∙ h.given a lt;
@@ -210,38 +310,15 @@ module _ (w : Whole) (l : Level) (most : ℕ) (s : At Objects) (here : Here) (m0
   abbrev pub Puts : Mask → (a b : ℕ) → Pairs → List Cell → List Area → Type 0
   Puts lent a b xs cs m = (c i : ℕ) (v : Cell) → slice_get cs c ≡ Some v → own_at p base lent a b xs c ≡ Some i → ValueIs w (sizes_of s.store) v (word m i)
 
-  abbrev pub in_memory : Way → Bool
-  in_memory Wide = true
-  in_memory Lent = true
-  in_memory Kept = false
-
-  abbrev pub is_lent : Way → Bool
-  is_lent Lent = true
-  is_lent _ = false
-
-  abbrev pub some_lent : Mask → Pairs → Bool
-  some_lent lent [] = false
-  some_lent lent (x ∷ xs) = is_lent (way (is_wide p x.0) (lent 0)) || some_lent (rest lent) xs
-
-  abbrev pub wide_some : Pairs → Bool
-  wide_some [] = false
-  wide_some (x ∷ xs) = is_wide p x.0 || wide_some xs
-
   -- what is kept while words from b on are stored
   abbrev pub Keeps : ℕ → (ℕ → List Area → Type 0) → Type 0
   Keeps b P = (n v : ℕ) (m m2 : List Area) → n ≤ v → ((i : ℕ) → i < base + b → word m2 i ≡ word m i) → P n m → P v m2
 
-  abbrev Before : ℕ → Pairs → (ℕ → List Area → Type 0) → Stage w l most s
+  abbrev pub Before : ℕ → Pairs → (ℕ → List Area → Type 0) → Stage w l most s
   Before a xs P n f m = Opened n f m × (P n m × Zeros a xs m)
 
-  abbrev Behind : Mask → (a b : ℕ) → Pairs → List Cell → (ℕ → List Area → Type 0) → Stage w l most s
-  Behind lent a b xs cs P n f m = Opened n f m × (P n m × (Puts lent a b xs cs m × (some_lent lent xs ≡ true → 1 ≤ n)))
-
-  some_is : {A : Type 0} {x y : A} → Some x ≡ Some y → x ≡ y
-  some_is e = cc
-
-  none_is : {A : Type 0} {x : A} → None ≡ Some x → ⊥
-  none_is e = cc
+  abbrev pub Behind : Mask → (a b : ℕ) → Pairs → List Cell → (ℕ → List Area → Type 0) → Stage w l most s
+  Behind lent a b xs cs P n f m = Opened n f m × (P n m × (Puts lent a b xs cs m × (some_lent p lent xs ≡ true → 1 ≤ n)))
 
   -- the first value of a variable
   first_opens : {K : Stage w l most s} (word_of : Option ℕ) → word_among l.args word_of → ((n v : ℕ) (f g : ℕ → ℕ) (m : List Area) → n ≤ v → Same n f g → K n f m → K v g m) → ((n : ℕ) (f : ℕ → ℕ) (m : List Area) → K n f m → Opened n f m)
@@ -320,10 +397,6 @@ module _ (w : Whole) (l : Level) (most : ℕ) (s : At Objects) (here : Here) (m0
     way_room false true k more lent_more a b le = (omega (arith, le), omega (arith, le))
     way_room false false k more lent_more a b le = (omega (arith, le), omega (arith, le))
 
-    either_true : (t r : Bool) (n : ℕ) → (t ≡ true → 1 ≤ n) → (r ≡ true → 1 ≤ n) → (t || r) ≡ true → 1 ≤ n
-    either_true true r n a b e = a refl
-    either_true false r n a b e = b e
-
     -- all variables, those whose words are from a and b on
     pub stored_opens : (lent : Mask) (a b : ℕ) (xs : Pairs) (cs : List Cell) (P : ℕ → List Area → Type 0) → Keeps b P → Firsts w s.store l.args xs cs → a + wide_in p xs ≤ b → b + lent_in p lent xs ≤ words
         → Opens w l most s (Before a xs P) (λ (u : Unit {0}). Behind lent a b xs cs P) (stored_all p.types (lay p) all (placed p.types (lay p) lent (8 * a) (8 * b) xs))
@@ -333,36 +406,11 @@ module _ (w : Whole) (l : Level) (most : ℕ) (s : At Objects) (here : Here) (m0
         let room = way_room (is_wide p x.0) (lent 0) (size p x.0) (wide_in p xs) 0 a b le in
         subst (λ vs. Opens w l most s (Before a (x ∷ xs) P) (λ (u : Unit {0}). Behind lent a b (x ∷ xs) cs P) (stored_all p.types (lay p) all vs)) (sym (placed_all p lent a b x xs))
         (opens_bind w l most s (head_opens lent a b x xs cs P (is_wide p x.0) refl (lent 0) keeps firsts.0 le (omega (arith, fits)))
-        (λ u. opens_less w l most s (λ u n f m h. (h.0, (h.1.0.0, (puts_more lent a b x xs cs m firsts.0 h.1.0.1.0 h.1.1.0, either_true (is_lent W) (some_lent (rest lent) xs) n h.1.0.1.1 h.1.1.1))))
+        (λ u. opens_less w l most s (λ u n f m h. (h.0, (h.1.0.0, (puts_more lent a b x xs cs m firsts.0 h.1.0.1.0 h.1.1.0, either_true (is_lent W) (some_lent p (rest lent) xs) n h.1.0.1.1 h.1.1.1))))
         (stored_opens (rest lent) (a + wide_of W (size p x.0)) (lent_of W + b) xs (drop (size p x.0) cs) (With x W a b P) (with_keeps x W a b P room.0 keeps) firsts.1 room.1 (omega (arith, fits)))))
 
-  ---- Register variables
-
-  abbrev pub EnvIs : Mask → Pairs → List ℕ → ℕ → (ℕ → ℕ) → Type 0
-  EnvIs lent [] [] n f = Unit {0}
-  EnvIs lent (x ∷ xs) (u ∷ us) n f = ((u < n) × (in_memory (way (is_wide p x.0) (lent 0)) ≡ false → f u ≡ number_of l.args x.1)) × EnvIs (rest lent) xs us n f
-  EnvIs lent _ _ n f = ⊥
-
-  abbrev pub some_memory : Mask → Pairs → Bool
-  some_memory lent [] = false
-  some_memory lent (x ∷ xs) = in_memory (way (is_wide p x.0) (lent 0)) || some_memory (rest lent) xs
-
-  env_more : (lent : Mask) (xs : Pairs) (us : List ℕ) (n v : ℕ) (f g : ℕ → ℕ) → n ≤ v → Same n f g → EnvIs lent xs us n f → EnvIs lent xs us v g
-  env_more lent [] [] n v f g le same h = tt
-  env_more lent [] (u ∷ us) n v f g le same h = absurd h
-  env_more lent (x ∷ xs) [] n v f g le same h = absurd h
-  env_more lent (x ∷ xs) (u ∷ us) n v f g le same h = let lt = h.0.0 in ((omega (arith, lt, le), λ e. same u h.0.0 ∙ h.0.1 e), env_more (rest lent) xs us n v f g le same h.1)
-
-  abbrev Steadily : Stage w l most s → Type 0
+  abbrev pub Steadily : Stage w l most s → Type 0
   Steadily K = (n v : ℕ) (f g : ℕ → ℕ) (m : List Area) → n ≤ v → Same n f g → K n f m → K v g m
-
-  either_left : (t r : Bool) → t ≡ true → (t || r) ≡ true
-  either_left true r e = refl
-  either_left false r e = no e
-
-  either_right : (t r : Bool) → r ≡ true → (t || r) ≡ true
-  either_right true r e = refl
-  either_right false r e = e
 
   one_opened : (K : Stage w l most s) (x : ℕ × Option ℕ) (W : Way) (a b : ℕ) → word_among l.args x.1 → Steadily K → ((n : ℕ) (f : ℕ → ℕ) (m : List Area) → K n f m → Opened n f m) → ((n : ℕ) (f : ℕ → ℕ) (m : List Area) → K n f m → in_memory W ≡ true → 1 ≤ n)
       → Opens w l most s K (λ u n f m. K n f m × ((u < n) × (in_memory W ≡ false → f u ≡ number_of l.args x.1))) (first_of x.1 (site_by p W a b))
@@ -370,60 +418,14 @@ module _ (w : Whole) (l : Level) (most : ℕ) (s : At Objects) (here : Here) (m0
   one_opened K x Lent a b ok steady has one = opens_give w l most s 0 (λ n f m h. let g = one n f m h refl in (h, (omega (arith, g), λ e. no (sym e))))
   one_opened K x Kept a b ok steady has one = opens_less w l most s (λ u n f m h. (h.0, (h.1.0, λ e. h.1.1))) (first_opens x.1 ok steady has)
 
-  pub opened_opens : (lent : Mask) (a b : ℕ) (xs : Pairs) (K : Stage w l most s) → Steadily K → ((n : ℕ) (f : ℕ → ℕ) (m : List Area) → K n f m → Opened n f m) → ((n : ℕ) (f : ℕ → ℕ) (m : List Area) → K n f m → some_memory lent xs ≡ true → 1 ≤ n) → WordsAmong l.args xs
-      → Opens w l most s K (λ us n f m. K n f m × EnvIs lent xs us n f) (opened (placed p.types (lay p) lent (8 * a) (8 * b) xs))
+  pub opened_opens : (lent : Mask) (a b : ℕ) (xs : Pairs) (K : Stage w l most s) → Steadily K → ((n : ℕ) (f : ℕ → ℕ) (m : List Area) → K n f m → Opened n f m) → ((n : ℕ) (f : ℕ → ℕ) (m : List Area) → K n f m → some_memory p lent xs ≡ true → 1 ≤ n) → WordsAmong l.args xs
+      → Opens w l most s K (λ us n f m. K n f m × EnvIs w s.store l.args lent xs us n f) (opened (placed p.types (lay p) lent (8 * a) (8 * b) xs))
   opened_opens lent a b [] K steady has one ok = opens_give w l most s [] (λ n f m h. (h, tt))
   opened_opens lent a b (x ∷ xs) K steady has one ok =
       let W = way (is_wide p x.0) (lent 0) in
-      subst (λ vs. Opens w l most s K (λ us n f m. K n f m × EnvIs lent (x ∷ xs) us n f) (opened vs)) (sym (placed_all p lent a b x xs))
-      (opens_bind w l most s (one_opened K x W a b ok.0 steady has (λ n f m h e. one n f m h (either_left (in_memory W) (some_memory (rest lent) xs) e)))
+      subst (λ vs. Opens w l most s K (λ us n f m. K n f m × EnvIs w s.store l.args lent (x ∷ xs) us n f) (opened vs)) (sym (placed_all p lent a b x xs))
+      (opens_bind w l most s (one_opened K x W a b ok.0 steady has (λ n f m h e. one n f m h (either_left (in_memory W) (some_memory p (rest lent) xs) e)))
       (λ u. opens_bind w l most s (opened_opens (rest lent) (a + wide_of W (size p x.0)) (lent_of W + b) xs (λ n f m. K n f m × ((u < n) × (in_memory W ≡ false → f u ≡ number_of l.args x.1)))
-      (λ n v f g m le same h. let lt = h.1.0 in (steady n v f g m le same h.0, (omega (arith, lt, le), λ e. same u h.1.0 ∙ h.1.1 e))) (λ n f m h. has n f m h.0) (λ n f m h e. one n f m h.0 (either_right (in_memory W) (some_memory (rest lent) xs) e)) ok.1)
+      (λ n v f g m le same h. let lt = h.1.0 in (steady n v f g m le same h.0, (omega (arith, lt, le), λ e. same u h.1.0 ∙ h.1.1 e))) (λ n f m h. has n f m h.0) (λ n f m h e. one n f m h.0 (either_right (in_memory W) (some_memory p (rest lent) xs) e)) ok.1)
       (λ us. opens_give w l most s (u ∷ us) (λ n f m h. (h.0.0, (h.0.1, h.1))))))
 
-  -- register variables have their first values
-  pub registers_first : (lent : Mask) (a b : ℕ) (xs : Pairs) (cs : List Cell) (us : List ℕ) (n : ℕ) (f : ℕ → ℕ) (x k : ℕ) (none : Variable) (v : Cell) → EnvIs lent xs us n f → Firsts w s.store l.args xs cs → slice_get (types_in xs) x ≡ Some k
-      → in_register p (lay p) here (slice_index_or (placed p.types (lay p) lent (8 * a) (8 * b) xs) x none).site ≡ true → slice_get cs (first p xs x) ≡ Some v → ValueIs w (sizes_of s.store) v (f (slice_index us x))
-  registers_first lent a b [] cs us n f x k none v env firsts at reg cell = absurd (none_is at)
-  registers_first lent a b (y ∷ xs) cs [] n f x k none v env firsts at reg cell = absurd env
-  registers_first lent a b (y ∷ xs) cs (u ∷ us) n f zero k none v env firsts at reg cell =
-      by (is_wide p y.0) refl (lent 0) refl (subst (λ vs. in_register p (lay p) here (slice_index_or vs 0 none).site ≡ true) (placed_all p lent a b y xs) reg)
-    where
-      by : (t : Bool) → is_wide p y.0 ≡ t → (r : Bool) → lent 0 ≡ r → in_register p (lay p) here (site_by p (way t r) a b) ≡ true → ValueIs w (sizes_of s.store) v (f u)
-      by true is r is2 reg = no reg
-      by false is true is2 reg = no reg
-      by false is false is2 reg =
-          let one = single p y.0 is in
-          subst (λ q. ValueIs w (sizes_of s.store) v q) (sym (env.0.1 (ap₂ (λ t r. in_memory (way t r)) is is2))) (firsts.0.0 0 v (omega (arith, one)) cell)
-  registers_first lent a b (y ∷ xs) cs (u ∷ us) n f (suc x) k none v env firsts at reg cell =
-      let W = way (is_wide p y.0) (lent 0) in
-      registers_first (rest lent) (a + wide_of W (size p y.0)) (lent_of W + b) xs (drop (size p y.0) cs) us n f x k none v env.1 firsts.1 at
-      (subst (λ vs. in_register p (lay p) here (slice_index_or vs (suc x) none).site ≡ true) (placed_all p lent a b y xs) reg)
-      (get_drop (size p y.0) cs (first p xs x) ∙ ap (slice_get cs) (sym (first_more p y xs x)) ∙ cell)
-
-  -- as many as there are variables
-  pub env_size : (lent : Mask) (xs : Pairs) (us : List ℕ) (n : ℕ) (f : ℕ → ℕ) → EnvIs lent xs us n f → length us ≡ length (types_in xs)
-  env_size lent [] [] n f h = refl
-  env_size lent [] (u ∷ us) n f h = absurd h
-  env_size lent (x ∷ xs) [] n f h = absurd h
-  env_size lent (x ∷ xs) (u ∷ us) n f h = ap suc (env_size (rest lent) xs us n f h.1)
-
-  pub env_under : (lent : Mask) (xs : Pairs) (us : List ℕ) (n : ℕ) (f : ℕ → ℕ) → EnvIs lent xs us n f → Under n us
-  env_under lent [] [] n f h = tt
-  env_under lent [] (u ∷ us) n f h = absurd h
-  env_under lent (x ∷ xs) [] n f h = absurd h
-  env_under lent (x ∷ xs) (u ∷ us) n f h = (h.0.0, env_under (rest lent) xs us n f h.1)
-
-  -- where a variable is in memory, it is structured or a scalar that is lent
-  pub memory_either : (lent : Mask) (xs : Pairs) → some_memory lent xs ≡ true → (wide_some xs ≡ true) ⊎ (some_lent lent xs ≡ true)
-  memory_either lent [] e = no e
-  memory_either lent (x ∷ xs) e = by (is_wide p x.0) (lent 0) (memory_either (rest lent) xs) e
-    where
-      later : (t : Bool) (r : Bool) → (wide_some xs ≡ true) ⊎ (some_lent (rest lent) xs ≡ true) → ((t || wide_some xs) ≡ true) ⊎ ((r || some_lent (rest lent) xs) ≡ true)
-      later t r (inl h) = inl (either_right t (wide_some xs) h)
-      later t r (inr h) = inr (either_right r (some_lent (rest lent) xs) h)
-
-      by : (t r : Bool) → (some_memory (rest lent) xs ≡ true → (wide_some xs ≡ true) ⊎ (some_lent (rest lent) xs ≡ true)) → (in_memory (way t r) || some_memory (rest lent) xs) ≡ true → ((t || wide_some xs) ≡ true) ⊎ ((is_lent (way t r) || some_lent (rest lent) xs) ≡ true)
-      by true r more e = inl refl
-      by false true more e = inr refl
-      by false false more e = later false false (more e)
