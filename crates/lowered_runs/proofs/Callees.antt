@@ -62,11 +62,11 @@ use Rattle.lowered_runs.proofs.Levels.{Given, steady_given, running}
 use Rattle.lowered_runs.proofs.Levels.{here as here_in}
 use Rattle.lowered_runs.proofs.Frames.{Activation, Beyond, above, with_frame, without_frame, own_cell, many_lengths, sum_append, value_frames, held_push}
 use Rattle.lowered_runs.proofs.Locals.{Pairs, types_in, lay, wide_in, lent_in, is_wide, own_at, first}
-use Rattle.lowered_runs.proofs.Calls.{Words, words_length, Stacked, Calling, Back}
+use Rattle.lowered_runs.proofs.Calls.{AnswerIs, Words, words_length, Stacked, Calling, Back}
 use Rattle.lowered_runs.proofs.Openings.{Stage, Opens, Went, opens_give, opens_less, FirstWords, Taken, further_opens, Opened, opened_more, Zeros, Puts, Keeps, some_lent, wide_some, some_memory, EnvIs, Firsts, stored_opens, opened_opens, memory_either, registers_first, env_size, env_under, Before, Behind}
 use Rattle.lowered_runs.proofs.Zeroes.{Zeroed, zeroing_goes}
 use Rattle.lowered_runs.proofs.Activations.{pairs_of, types_are, wide_zeroed, none_zeroed, all_first, among_firsts, own_cells, wide_flag, type_at, cell_is, no_variable, activation, zeroed_is, bytes_are, variables_are, laid, given_above}
-use Rattle.lowered_runs.proofs.Returns.{AnswerIs, IsGiven, returns}
+use Rattle.lowered_runs.proofs.Returns.{IsGiven, returns}
 use Rattle.lowered_runs.proofs.Bodies.{standing_in}
 use Rattle.lowered_runs.proofs.Points.{whole_weight}
 

@@ -143,6 +143,12 @@ module _ (w : Whole) (l : Level) where
       (λ hs vs. follows_give w l (h ∷ hs) (us ++ vs) (λ n f s z. (under_append n us vs z.0.1.0 z.1.0,
       subst (λ ys. OneIs s x.mode x.type_number h ys (λ rest. Words s xs hs rest)) (sym (map_append f us vs)) (one_append s x.mode x.type_number h (map f us) (map f vs) (λ rest. Words s xs hs rest) z.1.1 z.0.1.1)))))
 
+-- what is behind RETURN
+abbrev pub AnswerIs : (w : Whole) (l : Level) → Option Cell → Option ℕ → Fact
+AnswerIs w l None None = λ n f s. Unit {0}
+AnswerIs w l (Some c) (Some i) = CellIs w l c i
+AnswerIs w l _ _ = λ n f s. ⊥
+
 -- what is below a call
 pub record Stacked (l : Level) : Type 0 where
   pub beyond : (o c : ℕ) → length l.sizes ≤ o → l.slots o c ≡ None

@@ -147,13 +147,13 @@ module _ (w : Whole) (l : Level) where
   received_is a None s = refl
   received_is a (Some x) s = refl
 
-  pub follows_in_char : {need fuel : ℕ} {mask : Mask} {K : Fact} {q : Low Named} (right : Right w) (apart : Apart l) (own : Mask) (d : Thing) (place_of : Act Handed) → Steady w l K → ((x : ℕ) → own x ≡ false) → ((h : Handed) → 1 ≤ row_of w l d h) → ((s : Objects) → AddressIs w l done 1 (data_base + 0) s)
+  pub follows_in_char : {need fuel : ℕ} {mask : Mask} {K : Fact} {q : Low Named} (right : Right w) (apart : Apart l) (own : Mask) (d : Thing) (place_of : Act Handed) → Steady w l K → ((x : ℕ) → own x ≡ true → l.in_register x ≡ false) → ((h : Handed) → 1 ≤ row_of w l d h) → ((s : Objects) → AddressIs w l done 1 (data_base + 0) s)
       → ((n : ℕ) → n ≤ 1 → (tags : List ℕ) → Older l.store.tags tags → Sound w.program l.forms tags (Any w.program) (put done (Bits n)))
       → Follows w l need fuel mask K (NamedIs w l own d) place_of q → FollowsTo w l false need fuel mask K (Nothing_more w l) (in_char place_of) (lower_in q false false)
   follows_in_char {need} {fuel} {mask} {K} {q} right apart own d place_of steady never long at sound one =
       follows_same_to w l (place_of >>= λ h. given (address_in h) >>= λ a. next_byte >>= λ x. receive a x) (in_char place_of) (λ s. sym (after_after (place_of s) (λ h. given (address_in h)) (λ a. next_byte >>= λ x. receive a x)))
       (follows_bind w l steady one (λ h. grows_bind w l (grows_address w l h 0) (λ i. grows_read i))
-      (λ h v. follows_bind w l (steady_and w l steady (steady_named w l own d h v)) (follows_address w l own d h v 1 (long h) (inr (λ x e. absurd (differ (sym e ∙ never x))))) (λ i. grows_read i)
+      (λ h v. follows_bind w l (steady_and w l steady (steady_named w l own d h v)) (follows_address w l own d h v 1 (long h) (inr never)) (λ i. grows_read i)
       (λ a i. let known = steady_and w l (steady_and w l steady (steady_named w l own d h v)) (steady_row w l 1 a i) in
       follows_bind w l known follows_read (λ c. grows_flag i c)
       (λ x c. follows_same_to w l (received a x) (receive a x) (received_is a x)
@@ -168,11 +168,11 @@ module _ (w : Whole) (l : Level) where
       (omega arith, subst (λ y. AddressIs w l done 1 y s.store) (sym (put_here n (data_base + 0) f)) (at s.store)))) (λ g. grows_store i c b g)
       (λ u g. let known4 = steady_and w l known3 (steady_row w l 1 done g) in
       follows_bind w l known4
-      (follows_sound w l {P = Any w.program} (λ tags older. sound (flag_of x) (flag_one x) tags older) (follows_known w l (λ n f s k. ((k, (refl, k.1.0, k.1.1)), k.0.1)) (follows_change w l right apart own done (Bits (flag_of x)) (Memory g false) b (λ y e. absurd (differ (sym e ∙ never y)))))) (λ u. grows_last i c)
+      (follows_sound w l {P = Any w.program} (λ tags older. sound (flag_of x) (flag_one x) tags older) (follows_known w l (λ n f s k. ((k, (refl, k.1.0, k.1.1)), k.0.1)) (follows_change w l right apart own done (Bits (flag_of x)) (Memory g false) b (λ y e reg. absurd (differ (sym reg ∙ never y e)))))) (λ u. grows_last i c)
       (λ u u2. follows_bind w l {m = give tt} {h = λ (u : Unit {0}). put a (Bits (byte_of x))} (steady_and w l known4 (steady_always))
       (follows_emits w l {R = λ (u : Unit {0}) y. CellIs w l (Bits (byte_of x)) y} Max0 (c ∷ []) (λ n f m s held k. acts_give w l tt (cond (int_lt (signed (f c)) (pos 0)) 0 (f c)) held refl refl
       (omega arith, (put_here n (cond (int_lt (signed (f c)) (pos 0)) 0 (f c)) f ∙ ap (λ y. cond (int_lt (signed y) (pos 0)) 0 y) k.0.0.0.0.1.1 ∙ byte_is x k.0.0.0.0.1.2, byte_few x k.0.0.0.0.1.2)))) (λ y. grows_does w l Store (i ∷ y ∷ []))
-      (λ u y. follows_known w l (λ n f s k. ((k, (refl, k.0.0.0.0.0.0.1.0, k.0.0.0.0.0.0.1.1)), k.1)) (follows_change w l right apart own a (Bits (byte_of x)) (Memory i false) y (λ y e. absurd (differ (sym e ∙ never y))))))))))))))
+      (λ u y. follows_known w l (λ n f s k. ((k, (refl, k.0.0.0.0.0.0.1.0, k.0.0.0.0.0.0.1.1)), k.1)) (follows_change w l right apart own a (Bits (byte_of x)) (Memory i false) y (λ y e reg. absurd (differ (sym reg ∙ never y e))))))))))))))
     where
       differ : true ≡ false → ⊥
       differ e = cc

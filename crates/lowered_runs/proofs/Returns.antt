@@ -30,14 +30,8 @@ use Rattle.lowered_runs.proofs.Forks.{Ends_at, end_step, end_pays}
 use Rattle.lowered_runs.proofs.Exprs.{CellIs}
 use Rattle.lowered_runs.proofs.Frames.{Activation, above, with_frame, without_frame, value_frames, sum_append, later_pop, still_pop, held_pop}
 use Rattle.lowered_runs.proofs.Locals.{lay}
-use Rattle.lowered_runs.proofs.Calls.{Stacked, ResultIs, Back}
+use Rattle.lowered_runs.proofs.Calls.{Stacked, ResultIs, Back, AnswerIs}
 use Rattle.lowered_runs.proofs.Activations.{activation, bytes_are, laid}
-
--- what is behind RETURN
-abbrev pub AnswerIs : (w : Whole) (l : Level) → Option Cell → Option ℕ → Fact
-AnswerIs w l None None = λ n f s. Unit {0}
-AnswerIs w l (Some c) (Some i) = CellIs w l c i
-AnswerIs w l _ _ = λ n f s. ⊥
 
 -- the number that a call gives, and that one is given where it is wanted
 abbrev pub number_back : Option ℕ → Option ℕ → ℕ

@@ -5,7 +5,7 @@ use Rattle.run_laws.specs.Turns.{Ending, Gives, Fails, Spent, after, ◌>>=◌, 
 use Rattle.run_laws.specs.Turns.{State as Moment}
 use Rattle.wrapping_numbers.specs.Numbers.{sub64}
 use Rattle.block_runs.specs.First.{data_base}
-use Rattle.ob_types.specs.Forms.{Form, Truth, Small, Number, forms, joined, all, types_fine}
+use Rattle.ob_types.specs.Forms.{Form, Truth, Small, Number, Exactly, forms, joined, all, types_fine}
 use Rattle.ob_types.specs.Layout.{kind_of, cells, cells_of_all}
 use Rattle.ob_types.specs.Store.{Cell, Bits, Globals, Frames, Handed, At as Addressed, Senseless, Act, given, place, bits, bits_in, Trap}
 use Rattle.ob_types.specs.Store.{Store as Objects, Here as Running}
@@ -13,7 +13,7 @@ use Rattle.ob_types.specs.Operators.{holds, truth, unary_of}
 use Rattle.ob_types.specs.Expressions.{Calls, one_operand, both}
 use Rattle.ob_types.specs.Expressions.{either as or_else}
 use Rattle.ob_types.specs.Statements.{Deed, test, try, otherwise}
-use Rattle.ob_types.specs.Meaning.{procedure_of, locals_of, globals_of, value, linked, link, designated, base_of, effect, effects, effects_of, branches, kind_in, is_byte}
+use Rattle.ob_types.specs.Meaning.{procedure_of, locals_of, globals_of, value, linked, link, designated, base_of, called, argument, arguments, answer, effect, effects, effects_of, branches, kind_in, is_byte}
 use Rattle.ob_types.specs.WellFormed
 use Rattle.ob_types.specs.WellFormed.{Named as Thing, Cells, Of, OpenOf, Dynamic, Characters, provided, with_some, holds_of, gives_number, is_number}
 use Rattle.ob_types.specs.declared.tree.Unary.{Unary}
@@ -33,16 +33,31 @@ use Rattle.ob_sound.proofs.Typed.{Sound, Any, HasForm, Older}
 use Rattle.ob_sound.proofs.Constructs.{Means, with_is, holds_is}
 use Rattle.ob_sound.proofs.Typed.{provided_is, lt_of}
 use Rattle.ob_sound.proofs.Tables.{cells_length, scalar_forms}
-use Rattle.ob_sound.proofs.Handing.{CallsSound, AllTaken, all_taken_older}
+use Rattle.ob_sound.proofs.Handing.{CallsSound, AllTaken, all_taken_older, Answers}
+use Rattle.ob_types.proofs.WellFormedParts.{step_small}
+use Rattle.ob_sound.proofs.Constructs.{or_split}
+use Rattle.ob_sound.proofs.Tree.{t_call, t_arguments}
+use Rattle.lowered_runs.proofs.Calls.{AnswerIs, Stacked, Calling, OneWord, WordsAre, follows_by_value, follows_by_place, follows_no_words, follows_words, follows_called, follows_called_only, follows_result_of}
+use Rattle.lowered_runs.proofs.Follows.{follows_then, grows_give}
+use Rattle.lowered_runs.proofs.Designators.{grows_address, follows_address}
+use Rattle.ob_types.specs.declared.types.Formal.{Formal}
+use Rattle.ob_types.specs.declared.types.Mode.{Mode}
+use Rattle.ob_types.specs.declared.types.Mode.TheVariants.{Place}
+use Rattle.ob_types.specs.declared.types.Mode.TheVariants.{Value as OfValue, Record as OfRecord, Open as OfOpen}
+use Rattle.ob_types.specs.declared.tree.Call.{Call, Direct', Indirect', Row_of-Argument, end_of-Argument, more_of-Argument}
+use Rattle.ob_types.specs.declared.tree.Argument.{Argument, ByValue, ByPlace, ByRecord, ByOpen}
+use Rattle.ob_types.specs.Expressions.{by_value, by_place, result_of}
+use Rattle.ssa_lowered.specs.Values.{by_word, address, with_result, without_result}
+use Rattle.ob_types.specs.WellFormed.{record_by, has_branch}
 use Rattle.ob_sound.proofs.Deeds.{takes_is, given_is}
 use Rattle.ob_sound.proofs.Tree.{t_value, t_link, t_effect}
 use Rattle.ssa_lowered.specs.Data.{Layout, in_cells, global_at}
 use Rattle.ssa_lowered.specs.Pieces.{Low, Mask}
 use Rattle.ssa_lowered.specs.Control.{Lowers, Round, fork_and, fork_or, fork_value}
-use Rattle.ssa_lowered.specs.Variables.{Register, Memory, is_structured, either, none, origin, itself as whole_of, assigned, assigned_all, assigned_branches, words_of}
-use Rattle.ssa_lowered.specs.Lowered.{Here, here_of, in_register, variable_of, local_by, parameter_by, by_mode, based, named, expr, link as lower_link, linked as lower_linked, home, registers, deed, deeds, deeds_of, one_of, alternatives, guarded_rounds}
+use Rattle.ssa_lowered.specs.Variables.{Register, Memory, is_structured, either, none, origin, itself as whole_of, assigned, assigned_all, assigned_branches, words_of, lent, lent_links, lent_link, lent_at, lent_whole, lent_by_first, lent_selectors, lent_selector, lent_call, lent_as, lent_in, lent_by, lent_by_all, lent_by_branches, lent_by_list, lent_by_answer}
+use Rattle.ssa_lowered.specs.Lowered.{Here, here_of, in_register, variable_of, local_by, parameter_by, by_mode, based, named, expr, link as lower_link, linked as lower_linked, called as lower_called, argument as lower_argument, arguments as lower_arguments, answer as lower_answer, home, registers, deed, deeds, deeds_of, one_of, alternatives, guarded_rounds}
 use Rattle.lowered_runs.specs.Words.{Whole, Level, Right, local, Apart}
-use Rattle.lowered_runs.specs.Covered.{has_length, is_shared, part_covered, base_is_fixed, selectors_covered, selector_covered, is_fixed, base_covered, designator_covered, has_branch, expr_covered, links_covered, link_covered, checked_covered, covered, row_covered, branches_covered}
+use Rattle.lowered_runs.specs.Covered.{is_simple, has_length, part_covered, base_has_parts, selectors_covered, selector_covered, is_fixed, base_covered, designator_covered, expr_covered, links_covered, link_covered, call_covered, argument_covered, arguments_covered, checked_covered, covered, row_covered, branches_covered, answer_covered}
 use Rattle.lowered_runs.proofs.Levels.{layout, here, running, locals, LocalIs, Variables, Given, steady_given}
 use Rattle.lowered_runs.proofs.Follows.{Fact, Steady, Follows, FollowsTo, follows_bind, follows_seen, follows_give, follows_sound, follows_known, follows_less, follows_mask}
 use Rattle.lowered_runs.proofs.Exprs.{CellIs, follows_literal, follows_routine, follows_unary, follows_binary}
@@ -87,6 +102,14 @@ use Rattle.ssa_lowered.specs.Lowered.{bound}
 use Rattle.lowered_runs.proofs.Deeds.{follows_number_change, follows_set_change, follows_assert, follows_out_char, follows_out_int}
 use Rattle.lowered_runs.proofs.Flags.{follows_flag}
 
+either_left : (a b : Bool) → a ≡ true → (a || b) ≡ true
+either_left true b h = refl
+either_left false b h = no h
+
+either_right : (a b : Bool) → b ≡ true → (a || b) ≡ true
+either_right true b h = refl
+either_right false b h = h
+
 -- tests put together in other ways
 left_of : (r a b : Bool) → (r && a) ≡ true → (r && (a || b)) ≡ true
 left_of true true b h = refl
@@ -104,7 +127,7 @@ regroup_mask true false b c h = h
 regroup_mask false a b c h = no h
 
 module _ (w : Whole) (l : Level) (right : Right w) (apart : Apart l) (vars : Variables w l) (good : types_fine w.program.types ≡ true) (calls : Calls) (sound : CallsSound w.program good calls)
-    (frame : slice_index_or l.forms l.frame [] ≡ joined (forms w.program.types) (locals w l)) (taken : AllTaken w.program good l.forms l.store.tags (procedure_of w.program l.proc).formals l.arguments) (fuel : ℕ) where
+    (frame : slice_index_or l.forms l.frame [] ≡ joined (forms w.program.types) (locals w l)) (taken : AllTaken w.program good l.forms l.store.tags (procedure_of w.program l.proc).formals l.arguments) (stacked : Stacked l) (simple : all (λ x. is_simple x.mode) (procedure_of w.program l.proc).formals ≡ true) (fuel : ℕ) (calling : Calling w good fuel calls) where
   abbrev p : Program
   p = w.program
 
@@ -116,6 +139,21 @@ module _ (w : Whole) (l : Level) (right : Right w) (apart : Apart l) (vars : Var
 
   abbrev runs : Running
   runs = running w l
+
+  -- no variable of these is in a register
+  abbrev pub Lends : Mask → Type 0
+  Lends mask = (x : ℕ) → mask x ≡ true → l.in_register x ≡ false
+
+  pub left_lends : (a b : Mask) → Lends (either a b) → Lends a
+  left_lends a b h x e = h x (either_left (a x) (b x) e)
+
+  pub right_lends : (a b : Mask) → Lends (either a b) → Lends b
+  right_lends a b h x e = h x (either_right (a x) (b x) e)
+
+  -- a designator whose address may be made is read in the same way
+  at_of_whole : (d : Designator) → Lends (lent_whole d) → Lends (lent_at d)
+  at_of_whole (Variable b k) h x e = no e
+  at_of_whole (Part' b k _ row) h x e = h x e
 
   steady : Steady w l (Given w l)
   steady = steady_given w l
@@ -177,15 +215,15 @@ module _ (w : Whole) (l : Level) (right : Right w) (apart : Apart l) (vars : Var
   ---- Parts
 
   -- behind selectors that are covered there is nothing where there was nothing
-  selected_none : {m : _} (row : Row_of-Selector m) (n : Thing) → selectors_covered p row ≡ true → WellFormed.selected_named p l.proc row None ≡ Some n → ⊥
+  selected_none : {m : _} (row : Row_of-Selector m) (n : Thing) → selectors_covered row ≡ true → WellFormed.selected_named p l.proc row None ≡ Some n → ⊥
   selected_none end_of-Selector n ok is = none_some n is
-  selected_none (more_of-Selector (Index (Some i) k x) rest) n ok is = selected_none rest n (and_of (expr_covered p x) (selectors_covered p rest) ok).1 is
+  selected_none (more_of-Selector (Index (Some i) k x) rest) n ok is = selected_none rest n (and_of (expr_covered x) (selectors_covered rest) ok).1 is
   selected_none (more_of-Selector (Index None k x) rest) n ok is = no ok
   selected_none (more_of-Selector (Field r f) rest) n ok is = selected_none rest n ok is
   selected_none (more_of-Selector (Dereference rs) rest) n ok is = no ok
   selected_none (more_of-Selector (Narrow r) rest) n ok is = no ok
 
-  selected_some : {m : _} (row : Row_of-Selector m) (o : Option Thing) (n : Thing) → selectors_covered p row ≡ true → WellFormed.selected_named p l.proc row o ≡ Some n → (t : Thing) × (o ≡ Some t)
+  selected_some : {m : _} (row : Row_of-Selector m) (o : Option Thing) (n : Thing) → selectors_covered row ≡ true → WellFormed.selected_named p l.proc row o ≡ Some n → (t : Thing) × (o ≡ Some t)
   selected_some row None n ok is = absurd (selected_none row n ok is)
   selected_some row (Some t) n ok is = (t, refl)
 
@@ -198,17 +236,77 @@ module _ (w : Whole) (l : Level) (right : Right w) (apart : Apart l) (vars : Var
   abbrev PartIs : Mask → Bool → Thing → Act Handed → Low Named → Type 0
   PartIs mask may t d low = (k : ℕ) × (t ≡ Of k may) × Follows w l 0 fuel mask (Given w l) (NamedIs w l none (Of k may)) d low
 
-  fixed_base : (b : Base) (n : Thing) → base_is_fixed b ≡ true → WellFormed.base_named p l.proc b ≡ Some n → (k : ℕ) × (n ≡ Of k true) × (base_covered b ≡ true)
-  fixed_base (Global m v) n ok is = let z = with_is p good (slice_get (globals_of p m) v) (λ k. Some (Of k true)) n is in (z.0, sym (some_same (Of z.0 true) n z.2), refl)
-  fixed_base (Local x) n ok is = let z = with_is p good (slice_get (locals w l) x) (λ k. Some (Of k true)) n is in (z.0, sym (some_same (Of z.0 true) n z.2), refl)
-  fixed_base Done n ok is = no ok
-  fixed_base (Parameter k) n ok is = no ok
-  fixed_base (Text k) n ok is = no ok
-
-  part_some : {m : _} (row : Row_of-Selector m) (o : Option Thing) (n : Thing) → part_covered p row ≡ true → WellFormed.selected_named p l.proc row o ≡ Some n → (t : Thing) × (o ≡ Some t)
+  part_some : {m : _} (row : Row_of-Selector m) (o : Option Thing) (n : Thing) → part_covered row ≡ true → WellFormed.selected_named p l.proc row o ≡ Some n → (t : Thing) × (o ≡ Some t)
   part_some row (Some t) n ok is = (t, refl)
   part_some end_of-Selector None n ok is = no ok
   part_some (more_of-Selector s rest) None n ok is = absurd (selected_none (more_of-Selector s rest) n ok is)
+
+  parts_base : (b : Base) (n : Thing) → base_has_parts b ≡ true → WellFormed.base_named p l.proc b ≡ Some n → (k : ℕ) × (may : Bool) × (n ≡ Of k may) × (base_covered b ≡ true)
+  parts_base (Global m v) n ok is = let z = with_is p good (slice_get (globals_of p m) v) (λ k. Some (Of k true)) n is in (z.0, true, sym (some_same (Of z.0 true) n z.2), refl)
+  parts_base (Local x) n ok is = let z = with_is p good (slice_get (locals w l) x) (λ k. Some (Of k true)) n is in (z.0, true, sym (some_same (Of z.0 true) n z.2), refl)
+  parts_base (Parameter k) n ok is =
+      let z = with_is p good (slice_get (procedure_of p l.proc).formals k) (λ x. WellFormed.parameter_by p x.mode x.type_number x.variable) n is in
+      by z.0.mode z.0.type_number z.0.variable (simple_at (procedure_of p l.proc).formals k z.0 simple z.1) z.2
+    where
+      simple_at : (xs : List Formal) (k : ℕ) (x : Formal) → all (λ x. is_simple x.mode) xs ≡ true → slice_get xs k ≡ Some x → is_simple x.mode ≡ true
+      simple_at [] k x h at = none_some x at
+      simple_at (y ∷ xs) zero x h at = subst (λ (z : Formal). is_simple z.mode ≡ true) (some_same y x at) (and_of (is_simple y.mode) (all (λ x. is_simple x.mode) xs) h).0
+      simple_at (y ∷ xs) (suc k) x h at = simple_at xs k x (and_of (is_simple y.mode) (all (λ x. is_simple x.mode) xs) h).1 at
+
+      by : (m : Mode) (k : ℕ) (v : Bool) → is_simple m ≡ true → WellFormed.parameter_by p m k v ≡ Some n → (k : ℕ) × (may : Bool) × (n ≡ Of k may) × (true ≡ true)
+      by OfValue k v h e = none_some n e
+      by Place k v h e = (k, v, sym (some_same (Of k v) n e), refl)
+      by OfRecord k v h e = no h
+      by OfOpen k v h e = no h
+  parts_base Done n ok is = no ok
+  parts_base (Text k) n ok is = no ok
+
+  -- what is named is of a type, but for In.Done
+  abbrev IsPlain : Thing → Type 0
+  IsPlain (Cells f may) = Unit {0}
+  IsPlain (Of k may) = Unit {0}
+  IsPlain _ = ⊥
+
+  selected_plain : {m : _} (row : Row_of-Selector m) (k : ℕ) (may : Bool) (n : Thing) → WellFormed.selected_named p l.proc row (Some (Of k may)) ≡ Some n → selectors_covered row ≡ true → IsPlain n
+  selected_plain end_of-Selector k may n is ok = subst IsPlain (some_same (Of k may) n is) tt
+  selected_plain (more_of-Selector (Index (Some i) e x) rest) k may n is ok =
+      let covers = and_of (expr_covered x) (selectors_covered rest) ok in
+      let t = selected_some rest (WellFormed.select_named p l.proc (Index (Some i) e x) (Some (Of k may))) n covers.1 is in
+      let a = provided_is p (WellFormed.array_of p e (Some i) (Of k may)) (provided (gives_number (WellFormed.form p l.proc x)) (Some (Of e may))) t.0 t.1 in
+      let b = provided_is p (gives_number (WellFormed.form p l.proc x)) (Some (Of e may)) t.0 a.1 in
+      selected_plain rest e may n (ap (WellFormed.selected_named p l.proc rest) (b.1 ∙ sym t.1) ∙ is) covers.1
+  selected_plain (more_of-Selector (Field r f) rest) k may n is ok =
+      let t = selected_some rest (WellFormed.select_named p l.proc (Field r f) (Some (Of k may))) n ok is in
+      let a = provided_is p (WellFormed.has_record p r (Of k may)) (with_some (slice_get (types_of (record_of p.types r).fields) f) (λ k. Some (Of k may))) t.0 t.1 in
+      let c = with_is p good (slice_get (types_of (record_of p.types r).fields) f) (λ k. Some (Of k may)) t.0 a.1 in
+      selected_plain rest c.0 may n (ap (WellFormed.selected_named p l.proc rest) (c.2 ∙ sym t.1) ∙ is) ok
+  selected_plain (more_of-Selector (Index None e x) rest) k may n is ok = no ok
+  selected_plain (more_of-Selector (Dereference rs) rest) k may n is ok = no ok
+  selected_plain (more_of-Selector (Narrow r) rest) k may n is ok = no ok
+
+  base_plain : (b : Base) (n : Thing) → base_covered b ≡ true → WellFormed.base_named p l.proc b ≡ Some n → IsPlain n
+  base_plain Done n ok is = subst IsPlain (some_same (Cells Truth false) n is) tt
+  base_plain (Global m v) n ok is = let z = parts_base (Global m v) n refl is in subst IsPlain (sym z.2) tt
+  base_plain (Local x) n ok is = let z = parts_base (Local x) n refl is in subst IsPlain (sym z.2) tt
+  base_plain (Parameter k) n ok is = let z = parts_base (Parameter k) n refl is in subst IsPlain (sym z.2) tt
+  base_plain (Text k) n ok is = no ok
+
+  named_plain : (d : Designator) (n : Thing) → WellFormed.named p l.proc d ≡ Some n → designator_covered d ≡ true → IsPlain n
+  named_plain (Variable b kind) n is ok =
+      let z = with_is p good (WellFormed.base_named p l.proc b) (WellFormed.of_kind p kind) n is in
+      let y = provided_is p (WellFormed.has_kind p kind z.0) (Some z.0) n z.2 in
+      subst IsPlain (some_same z.0 n y.1) (base_plain b z.0 ok z.1)
+  named_plain (Part' b kind _ row) n is ok =
+      let cover = and_of (base_has_parts b) (part_covered row) ok in
+      let z = with_is p good (WellFormed.selected_named p l.proc row (WellFormed.base_named p l.proc b)) (WellFormed.of_kind p kind) n is in
+      let y = provided_is p (WellFormed.has_kind p kind z.0) (Some z.0) n z.2 in
+      let base = part_some row (WellFormed.base_named p l.proc b) z.0 cover.1 z.1 in
+      let k = parts_base b base.0 cover.0 base.1 in
+      subst IsPlain (some_same z.0 n y.1) (selected_plain row k.0 k.1 z.0 (ap (WellFormed.selected_named p l.proc row) (sym (base.1 ∙ ap (λ n. Some n) k.2)) ∙ z.1) (covers_all row cover.1))
+    where
+      covers_all : {m : _} (row : Row_of-Selector m) → part_covered row ≡ true → selectors_covered row ≡ true
+      covers_all end_of-Selector h = no h
+      covers_all (more_of-Selector s rest) h = h
 
   -- an array of known length
   array_is : (t : Thing) (n : ℕ) (e : _) → WellFormed.elements_in p t (Some n) ≡ Some e → (is_single w l t ≡ false) × (n < 2 ^ 64)
@@ -232,6 +330,51 @@ module _ (w : Whole) (l : Level) (right : Right w) (apart : Apart l) (vars : Var
       slice_found [] j lt = absurd (omega (arith, lt))
       slice_found (x ∷ xs) zero lt = (x, refl)
       slice_found (x ∷ xs) (suc j) lt = slice_found xs j (omega (arith, lt))
+
+  -- the address of a whole variable is made where it is in memory
+  own_lent : (d : Designator) → Lends (lent_whole d) → (x : ℕ) → whole_of d x ≡ true → l.in_register x ≡ false
+  own_lent (Variable b k) lends x e = lends x e
+  own_lent (Part' b k _ row) lends x e = no e
+
+  -- an extension has its base's cells
+  extended_cells : (s r : ℕ) → extends p.types s r ≡ true → length (record_forms p.types r) ≤ length (record_forms p.types s)
+  extended_cells s r h = by (length (record_forms p.types r)) refl
+    where
+      found : (xs : List Form) (j : ℕ) → j < length xs → (x : Form) × (slice_get xs j ≡ Some x)
+      found [] j lt = absurd (omega (arith, lt))
+      found (x ∷ xs) zero lt = (x, refl)
+      found (x ∷ xs) (suc j) lt = found xs j (omega (arith, lt))
+
+      by : (n : ℕ) → length (record_forms p.types r) ≡ n → length (record_forms p.types r) ≤ length (record_forms p.types s)
+      by zero e = omega (arith, e)
+      by (suc n) e =
+          let x = found (record_forms p.types r) n (omega (arith, e)) in
+          let there = in_length p (record_forms p.types s) n x.0 (prefix p.types good s r n x.0 h x.1) in omega (arith, e, there)
+
+  record_row : (k l s r : ℕ) → record_by (kind_of p.types k) ≡ Some r → record_by (kind_of p.types l) ≡ Some s → extends p.types s r ≡ true → cells p.types k ≤ cells p.types l
+  record_row k l s r is on h =
+      let a = cells_length p.types k ∙ ap (λ (xs : List Form). length xs) (whole_forms p.types good k r (record_is p good (kind_of p.types k) r is)) in
+      let b = cells_length p.types l ∙ ap (λ (xs : List Form). length xs) (whole_forms p.types good l s (record_is p good (kind_of p.types l) s on)) in
+      let e = extended_cells s r h in omega (arith, a, b, e)
+
+  -- what may be handed over has the cells of its parameter
+  place_row : (k : ℕ) (v : Bool) (n : Thing) (h : Handed) → IsPlain n → WellFormed.place_suits p k v n ≡ true → cells p.types k ≤ row_of w l n h
+  place_row k true (Of j may) h plain suits = let e = eqb-true j k (and_of (j == k) may suits).0 in let f = ap (cells p.types) e in omega (arith, f)
+  place_row k false (Of j may) h plain suits = elim (or_split p good (j == k) (holds_of (λ r. WellFormed.has_record p r (Of j may)) (record_by (kind_of p.types k))) suits) [
+    | inl e ↦ (let f = ap (cells p.types) (eqb-true j k e) in omega (arith, f))
+    | inr e ↦ (let r = holds_is p good (λ r. WellFormed.has_record p r (Of j may)) (record_by (kind_of p.types k)) e in
+        let s = holds_is p good (λ s. extends p.types s r.0) (record_by (kind_of p.types j)) r.2 in
+        record_row k j s.0 r.0 r.1 s.1 s.2)
+  ]
+  place_row k true (Cells f may) h plain suits = no suits
+  place_row k false (Cells f may) h plain suits = absurd (no_record (record_by (kind_of p.types k)) suits)
+    where
+      no_record : (o : Option ℕ) → (false || holds_of (λ r. false) o) ≡ true → ⊥
+      no_record None e = no e
+      no_record (Some r) e = no e
+  place_row k v (OpenOf e may) h plain suits = absurd plain
+  place_row k v (Dynamic r) h plain suits = absurd plain
+  place_row k v (Characters m) h plain suits = absurd plain
 
   ---- Expressions
 
@@ -306,44 +449,70 @@ module _ (w : Whole) (l : Level) (right : Right w) (apart : Apart l) (vars : Var
       let array = array_is t.0 n e.0 e.1 in
       shown (follows_length w l (whole_of d) t.0 (designated p calls runs d) n steady array.0 array.1 (one t.0 t.1))
 
+  ---- Arguments
+
+  -- they are as they are taken
+  all_given : {m : _} (g : ℕ) (row : Row_of-Argument m) → WellFormed.all_suit p l.proc row (procedure_of p g).formals ≡ true → Follows w l 0 fuel nothing (Given w l) (WordsAre w l (procedure_of p g).formals) (arguments p calls runs row) (lower_arguments p lay mine row)
+      → Follows w l 0 fuel nothing (Given w l) (λ hs us n f s. WordsAre w l (procedure_of p g).formals hs us n f s × AllTaken p good l.forms s.tags (procedure_of p g).formals hs) (arguments p calls runs row) (lower_arguments p lay mine row)
+  all_given g row suits one = follows_sound w l {P = λ tags hs. AllTaken p good l.forms tags (procedure_of p g).formals hs} (λ tags older. t_arguments p good calls sound runs l.forms tags frame (taken_at tags older) _ row (procedure_of p g).formals suits) one
+
+  value_word : (m : Mode) (k : ℕ) (e : Expr) → WellFormed.value_suits p m (WellFormed.form p l.proc e) (WellFormed.form_of p k) ≡ true → ((f : Form) → WellFormed.form p l.proc e ≡ Some f → Follows w l 0 fuel nothing (Given w l) (CellIs w l) (value p calls runs e) (expr p lay mine e).value)
+      → Follows w l 0 fuel nothing (Given w l) (OneWord w l m k) (by_value (value p calls runs e)) (by_word (expr p lay mine e).value)
+  value_word OfValue k e suits one = let g = given_is p good (WellFormed.form p l.proc e) (WellFormed.form_of p k) suits in follows_by_value w l k steady (one g.0 g.2)
+  value_word Place k e suits one = no suits
+  value_word OfRecord k e suits one = no suits
+  value_word OfOpen k e suits one = no suits
+
+  place_word : (m : Mode) (k : ℕ) (v : Bool) (d : Designator) → WellFormed.place_argument p m k v (WellFormed.named p l.proc d) ≡ true → designator_covered d ≡ true → Lends (lent_whole d) → ((n : Thing) → WellFormed.named p l.proc d ≡ Some n → Follows w l 0 fuel nothing (Given w l) (NamedIs w l (whole_of d) n) (designated p calls runs d) (named p lay mine d))
+      → Follows w l 0 fuel nothing (Given w l) (OneWord w l m k) (by_place (designated p calls runs d)) (by_word (address (named p lay mine d)))
+  place_word Place k v d suits ok lends one =
+      let n = holds_is p good (WellFormed.place_suits p k v) (WellFormed.named p l.proc d) suits in
+      follows_by_place w l k steady (follows_bind w l steady (one n.0 n.1) (λ h. grows_address w l h 0)
+      (λ h a. follows_address w l (whole_of d) n.0 h a (cells p.types k) (place_row k v n.0 h (named_plain d n.0 n.1 ok) n.2) (inr (own_lent d lends))))
+  place_word OfValue k v d suits ok lends one = no suits
+  place_word OfRecord k v d suits ok lends one = no suits
+  place_word OfOpen k v d suits ok lends one = no suits
+
   mutual
-    pub named_is : (d : Designator) (n : Thing) → WellFormed.named p l.proc d ≡ Some n → designator_covered p d ≡ true → Follows w l 0 fuel nothing (Given w l) (NamedIs w l (whole_of d) n) (designated p calls runs d) (named p lay mine d)
-    named_is (Variable b kind) n is ok =
+    pub named_is : (d : Designator) (n : Thing) → WellFormed.named p l.proc d ≡ Some n → designator_covered d ≡ true → Lends (lent_at d) → Follows w l 0 fuel nothing (Given w l) (NamedIs w l (whole_of d) n) (designated p calls runs d) (named p lay mine d)
+    named_is (Variable b kind) n is ok lends =
         let z = with_is p good (WellFormed.base_named p l.proc b) (WellFormed.of_kind p kind) n is in
         let y = provided_is p (WellFormed.has_kind p kind z.0) (Some z.0) n z.2 in
         subst (λ n. Follows w l 0 fuel nothing (Given w l) (NamedIs w l (origin b) n) (base_of p calls runs b) (based p lay mine b)) (some_same z.0 n y.1) (base_is b z.0 z.1 ok)
-    named_is (Part' b kind _ row) n is ok =
-        let cover = and_of (base_is_fixed b) (part_covered p row) ok in
+    named_is (Part' b kind _ row) n is ok lends =
+        let cover = and_of (base_has_parts b) (part_covered row) ok in
         let z = with_is p good (WellFormed.selected_named p l.proc row (WellFormed.base_named p l.proc b)) (WellFormed.of_kind p kind) n is in
         let y = provided_is p (WellFormed.has_kind p kind z.0) (Some z.0) n z.2 in
         let base = part_some row (WellFormed.base_named p l.proc b) z.0 cover.1 z.1 in
-        let k = fixed_base b base.0 cover.0 base.1 in
-        let e = base.1 ∙ ap (λ n. Some n) k.1 in
-        let one = part_of row (origin b) k.0 true z.0 (base_of p calls runs b) (based p lay mine b) (ap (WellFormed.selected_named p l.proc row) (sym e) ∙ z.1) cover.1
-        (subst (λ n. Follows w l 0 fuel nothing (Given w l) (NamedIs w l (origin b) n) (base_of p calls runs b) (based p lay mine b)) k.1 (base_is b base.0 base.1 k.2)) in
+        let k = parts_base b base.0 cover.0 base.1 in
+        let e = base.1 ∙ ap (λ n. Some n) k.2 in
+        let one = part_of row (origin b) k.0 k.1 z.0 (base_of p calls runs b) (based p lay mine b) (ap (WellFormed.selected_named p l.proc row) (sym e) ∙ z.1) cover.1 lends
+        (subst (λ n. Follows w l 0 fuel nothing (Given w l) (NamedIs w l (origin b) n) (base_of p calls runs b) (based p lay mine b)) k.2 (base_is b base.0 base.1 k.3)) in
         subst (λ n. Follows w l 0 fuel nothing (Given w l) (NamedIs w l none n) (selected p calls runs row (base_of p calls runs b)) (lower_selected p lay mine row (based p lay mine b))) (sym one.1 ∙ some_same z.0 n y.1) one.2
 
-    part_of : {m : _} (row : Row_of-Selector m) (own : Mask) (k : ℕ) (may : Bool) (n : Thing) (d : Act Handed) (low : Low Named) → WellFormed.selected_named p l.proc row (Some (Of k may)) ≡ Some n → part_covered p row ≡ true → Follows w l 0 fuel nothing (Given w l) (NamedIs w l own (Of k may)) d low
+    part_of : {m : _} (row : Row_of-Selector m) (own : Mask) (k : ℕ) (may : Bool) (n : Thing) (d : Act Handed) (low : Low Named) → WellFormed.selected_named p l.proc row (Some (Of k may)) ≡ Some n → part_covered row ≡ true → Lends (lent_selectors own row) → Follows w l 0 fuel nothing (Given w l) (NamedIs w l own (Of k may)) d low
         → PartIs nothing may n (selected p calls runs row d) (lower_selected p lay mine row low)
-    part_of end_of-Selector own k may n d low is ok one = no ok
-    part_of (more_of-Selector s rest) own k may n d low is ok one =
-        let covers = and_of (selector_covered p s) (selectors_covered p rest) ok in
+    part_of end_of-Selector own k may n d low is ok lends one = no ok
+    part_of (more_of-Selector s rest) own k may n d low is ok lends one =
+        let behind = right_lends (lent_by_first own s) (either (lent_selector s) (lent_selectors none rest)) lends in
+        let covers = and_of (selector_covered s) (selectors_covered rest) ok in
         let t = selected_some rest (WellFormed.select_named p l.proc s (Some (Of k may))) n covers.1 is in
-        let two = select_is s own k may t.0 d low t.1 covers.0 one in
-        selected_is rest two.0 may n (select p calls runs s d) (lower_select p lay mine s low) (ap (WellFormed.selected_named p l.proc rest) (sym (t.1 ∙ ap (λ n. Some n) two.1)) ∙ is) covers.1 two.2
+        let two = select_is s own k may t.0 d low t.1 covers.0 (left_lends (lent_selector s) (lent_selectors none rest) behind) one in
+        selected_is rest two.0 may n (select p calls runs s d) (lower_select p lay mine s low) (ap (WellFormed.selected_named p l.proc rest) (sym (t.1 ∙ ap (λ n. Some n) two.1)) ∙ is) covers.1 (right_lends (lent_selector s) (lent_selectors none rest) behind) two.2
 
-    selected_is : {m : _} (row : Row_of-Selector m) (k : ℕ) (may : Bool) (n : Thing) (d : Act Handed) (low : Low Named) → WellFormed.selected_named p l.proc row (Some (Of k may)) ≡ Some n → selectors_covered p row ≡ true → Follows w l 0 fuel nothing (Given w l) (NamedIs w l none (Of k may)) d low
+    selected_is : {m : _} (row : Row_of-Selector m) (k : ℕ) (may : Bool) (n : Thing) (d : Act Handed) (low : Low Named) → WellFormed.selected_named p l.proc row (Some (Of k may)) ≡ Some n → selectors_covered row ≡ true → Lends (lent_selectors none row) → Follows w l 0 fuel nothing (Given w l) (NamedIs w l none (Of k may)) d low
         → PartIs nothing may n (selected p calls runs row d) (lower_selected p lay mine row low)
-    selected_is end_of-Selector k may n d low is ok one = (k, sym (some_same (Of k may) n is), one)
-    selected_is (more_of-Selector s rest) k may n d low is ok one =
-        let covers = and_of (selector_covered p s) (selectors_covered p rest) ok in
+    selected_is end_of-Selector k may n d low is ok lends one = (k, sym (some_same (Of k may) n is), one)
+    selected_is (more_of-Selector s rest) k may n d low is ok lends one =
+        let behind = right_lends (lent_by_first none s) (either (lent_selector s) (lent_selectors none rest)) lends in
+        let covers = and_of (selector_covered s) (selectors_covered rest) ok in
         let t = selected_some rest (WellFormed.select_named p l.proc s (Some (Of k may))) n covers.1 is in
-        let two = select_is s none k may t.0 d low t.1 covers.0 one in
-        selected_is rest two.0 may n (select p calls runs s d) (lower_select p lay mine s low) (ap (WellFormed.selected_named p l.proc rest) (sym (t.1 ∙ ap (λ n. Some n) two.1)) ∙ is) covers.1 two.2
+        let two = select_is s none k may t.0 d low t.1 covers.0 (left_lends (lent_selector s) (lent_selectors none rest) behind) one in
+        selected_is rest two.0 may n (select p calls runs s d) (lower_select p lay mine s low) (ap (WellFormed.selected_named p l.proc rest) (sym (t.1 ∙ ap (λ n. Some n) two.1)) ∙ is) covers.1 (right_lends (lent_selector s) (lent_selectors none rest) behind) two.2
 
-    select_is : (s : Selector) (own : Mask) (k : ℕ) (may : Bool) (t : Thing) (d : Act Handed) (low : Low Named) → WellFormed.select_named p l.proc s (Some (Of k may)) ≡ Some t → selector_covered p s ≡ true → Follows w l 0 fuel nothing (Given w l) (NamedIs w l own (Of k may)) d low
+    select_is : (s : Selector) (own : Mask) (k : ℕ) (may : Bool) (t : Thing) (d : Act Handed) (low : Low Named) → WellFormed.select_named p l.proc s (Some (Of k may)) ≡ Some t → selector_covered s ≡ true → Lends (lent_selector s) → Follows w l 0 fuel nothing (Given w l) (NamedIs w l own (Of k may)) d low
         → PartIs nothing may t (select p calls runs s d) (lower_select p lay mine s low)
-    select_is (Index (Some n) e x) own k may t d low is ok one =
+    select_is (Index (Some n) e x) own k may t d low is ok lends one =
         let a = provided_is p (WellFormed.array_of p e (Some n) (Of k may)) (provided (gives_number (WellFormed.form p l.proc x)) (Some (Of e may))) t is in
         let b = provided_is p (gives_number (WellFormed.form p l.proc x)) (Some (Of e may)) t a.1 in
         let el = holds_is p good (λ x. WellFormed.is_element p x e) (WellFormed.elements_in p (Of k may) (Some n)) a.0 in
@@ -352,101 +521,126 @@ module _ (w : Whole) (l : Level) (right : Right w) (apart : Apart l) (vars : Var
         let kind = of.1 ∙ ap (λ e. Array (Some n) e) same in
         let g = number_form (WellFormed.form p l.proc x) b.0 in
         let few = of.3 in
-        (e, sym (some_same (Of e may) t b.1), follows_element_place w l own none (Of k may) (Of e may) d n (cells p.types e) (value p calls runs x) steady (λ h. array_cells k n e kind) (ap (λ z. not (is_structured z)) kind) (λ a. refl) (omega (arith, few)) one (shows_of x g.0 g.1 ok).value)
-    select_is (Index None e x) own k may t d low is ok one = no ok
-    select_is (Field r f) own k may t d low is ok one =
+        (e, sym (some_same (Of e may) t b.1), follows_element_place w l own none (Of k may) (Of e may) d n (cells p.types e) (value p calls runs x) steady (λ h. array_cells k n e kind) (ap (λ z. not (is_structured z)) kind) (λ a. refl) (omega (arith, few)) one (shows_of x g.0 g.1 ok lends).value)
+    select_is (Index None e x) own k may t d low is ok lends one = no ok
+    select_is (Field r f) own k may t d low is ok lends one =
         let a = provided_is p (WellFormed.has_record p r (Of k may)) (with_some (slice_get (types_of (record_of p.types r).fields) f) (λ k. Some (Of k may))) t is in
         let c = with_is p good (slice_get (types_of (record_of p.types r).fields) f) (λ k. Some (Of k may)) t a.1 in
         let s = holds_is p good (λ s. extends p.types s r) (WellFormed.record_by (kind_of p.types k)) a.0 in
         let kind = record_is p good (kind_of p.types k) s.0 s.1 in
         (c.0, sym (some_same (Of c.0 may) t c.2), follows_field_place w l own none (Of k may) (Of c.0 may) d (field_place p.types r f) (cells p.types c.0) steady (λ h j lt. field_cells k s.0 r f c.0 j kind s.2 c.1 lt) (ap (λ z. not (is_structured z)) kind) (λ a. refl) one)
-    select_is (Dereference rs) own k may t d low is ok one = no ok
-    select_is (Narrow r) own k may t d low is ok one = no ok
+    select_is (Dereference rs) own k may t d low is ok lends one = no ok
+    select_is (Narrow r) own k may t d low is ok lends one = no ok
 
-    pub shows_of : (e : Expr) (k : Form) → WellFormed.form p l.proc e ≡ Some k → expr_covered p e ≡ true → Shows (value p calls runs e) (expr p lay mine e)
-    shows_of (Literal n) k is ok = shown (follows_literal w l n (literal_few n k is))
-    shows_of (Routine g) k is ok = shown (follows_routine w l g (right.callable g ok))
-    shows_of (Load d) k is ok =
+    pub shows_of : (e : Expr) (k : Form) → WellFormed.form p l.proc e ≡ Some k → expr_covered e ≡ true → Lends (lent e) → Shows (value p calls runs e) (expr p lay mine e)
+    shows_of (Literal n) k is ok lends = shown (follows_literal w l n (literal_few n k is))
+    shows_of (Routine g) k is ok lends = shown (follows_routine w l g (right.callable g (provided_is p (WellFormed.callable p g) (Some (Exactly g)) k is).0))
+    shows_of (Load d) k is ok lends =
         let z = with_is p good (WellFormed.named p l.proc d) (WellFormed.scalar_in p) k is in
-        shown (follows_load w l (whole_of d) (designated p calls runs d) steady (follows_home w l (whole_of d) z.0 (designated p calls runs d) steady (λ h v m g s known. scalar_row z.0 k z.2 h) (named_is d z.0 z.1 ok)))
-    shows_of (Guard d rs) k is ok = no ok
-    shows_of (Unary' op _ x) k is ok =
+        shown (follows_load w l (whole_of d) (designated p calls runs d) steady (follows_home w l (whole_of d) z.0 (designated p calls runs d) steady (λ h v m g s known. scalar_row z.0 k z.2 h) (named_is d z.0 z.1 ok lends)))
+    shows_of (Guard d rs) k is ok lends = no ok
+    shows_of (Unary' op _ x) k is ok lends =
         let z = provided_is p (gives_number (WellFormed.form p l.proc x)) (Some (WellFormed.unary_form op)) k is in
         let y = number_form (WellFormed.form p l.proc x) z.0 in
-        one_shows op (value p calls runs x) (expr p lay mine x) (shows_of x y.0 y.1 ok)
-    shows_of (Chain' _ x _ links) k is ok =
-        let parts = and_of (expr_covered p x) (links_covered p links) ok in
+        one_shows op (value p calls runs x) (expr p lay mine x) (shows_of x y.0 y.1 ok lends)
+    shows_of (Chain' _ x _ links) k is ok lends =
+        let parts = and_of (expr_covered x) (links_covered links) ok in
         let z = linked_some links (WellFormed.form p l.proc x) k is in
-        linked_shows links (WellFormed.form p l.proc x) (value p calls runs x) (expr p lay mine x) k is parts.1 (shows_of x z.0 z.1 parts.0) (λ tags older. t_value p good calls sound runs l.forms tags frame (taken_at tags older) x)
-    shows_of (Compare' r _ x _ y) k is ok =
-        let parts = and_of (expr_covered p x) (expr_covered p y) ok in
+        linked_shows links (WellFormed.form p l.proc x) (value p calls runs x) (expr p lay mine x) k is parts.1 (right_lends (lent x) (lent_links links) lends) (shows_of x z.0 z.1 parts.0 (left_lends (lent x) (lent_links links) lends)) (λ tags older. t_value p good calls sound runs l.forms tags frame (taken_at tags older) x)
+    shows_of (Compare' r _ x _ y) k is ok lends =
+        let parts = and_of (expr_covered x) (expr_covered y) ok in
         let a = with_is p good (WellFormed.form p l.proc x) (λ a. with_some (WellFormed.form p l.proc y) (λ b. provided (WellFormed.comparable r a b) (Some Truth))) k is in
         let b = with_is p good (WellFormed.form p l.proc y) (λ b. provided (WellFormed.comparable r a.0 b) (Some Truth)) k a.2 in
-        let one = shows_of x a.0 a.1 parts.0 in
-        let two = shows_of y b.0 b.1 parts.1 in
+        let one = shows_of x a.0 a.1 parts.0 (left_lends (lent x) (lent y) lends) in
+        let two = shows_of y b.0 b.1 parts.1 (right_lends (lent x) (lent y) lends) in
         record { value = follows_compared w l right r steady one.value two.value; test = forks_branch w l right r steady one.value two.value }
-    shows_of (CompareTexts' r _ d _ e) k is ok = no ok
-    shows_of (In' _ x _ s) k is ok =
-        let parts = and_of (expr_covered p x) (expr_covered p s) ok in
+    shows_of (CompareTexts' r _ d _ e) k is ok lends = no ok
+    shows_of (In' _ x _ s) k is ok lends =
+        let parts = and_of (expr_covered x) (expr_covered s) ok in
         let a = provided_is p (gives_number (WellFormed.form p l.proc x)) (provided (gives_number (WellFormed.form p l.proc s)) (Some Truth)) k is in
         let b = provided_is p (gives_number (WellFormed.form p l.proc s)) (Some Truth) k a.1 in
         let y = number_form (WellFormed.form p l.proc x) a.0 in
         let z = number_form (WellFormed.form p l.proc s) b.0 in
-        shown (follows_contained w l steady (shows_of x y.0 y.1 parts.0).value (shows_of s z.0 z.1 parts.1).value)
-    shows_of (IsPointer' _ x r) k is ok = no ok
-    shows_of (IsParameter d r) k is ok = no ok
-    shows_of (Byte' _ x) k is ok =
+        shown (follows_contained w l steady (shows_of x y.0 y.1 parts.0 (left_lends (lent x) (lent s) lends)).value (shows_of s z.0 z.1 parts.1 (right_lends (lent x) (lent s) lends)).value)
+    shows_of (IsPointer' _ x r) k is ok lends = no ok
+    shows_of (IsParameter d r) k is ok lends = no ok
+    shows_of (Byte' _ x) k is ok lends =
         let a = provided_is p (gives_number (WellFormed.form p l.proc x)) (Some Small) k is in
         let y = number_form (WellFormed.form p l.proc x) a.0 in
-        shown (follows_byte w l steady (shows_of x y.0 y.1 ok).value)
-    shows_of (Length d) k is ok =
-        let cover = and_of (designator_covered p d) (has_length (length_of_kind (kind_in d))) ok in
-        length_shows (length_of_kind (kind_in d)) d k cover.1 is (λ t e. named_is d t e cover.0)
-    shows_of (Call' _ c) k is ok = no ok
+        shown (follows_byte w l steady (shows_of x y.0 y.1 ok lends).value)
+    shows_of (Length d) k is ok lends =
+        let cover = and_of (designator_covered d) (has_length (length_of_kind (kind_in d))) ok in
+        length_shows (length_of_kind (kind_in d)) d k cover.1 is (λ t e. named_is d t e cover.0 (at_of_whole d lends))
+    shows_of (Call' _ c) k is ok lends = shown (call_value c k is ok lends)
 
-    linked_shows : {m : _} (row : Row_of-Link m) (o : Option Form) (x : Act Cell) (low : Lowers) (k : Form) → WellFormed.linked_form p l.proc row o ≡ Some k → links_covered p row ≡ true → Shows x low → Meant o x → Shows (linked p calls runs row x) (lower_linked p lay mine row low)
-    linked_shows end_of-Link o x low k is ok q means = q
-    linked_shows (more_of-Link a rest) o x low k is ok q means =
-        let parts = and_of (link_covered p a) (links_covered p rest) ok in
+    linked_shows : {m : _} (row : Row_of-Link m) (o : Option Form) (x : Act Cell) (low : Lowers) (k : Form) → WellFormed.linked_form p l.proc row o ≡ Some k → links_covered row ≡ true → Lends (lent_links row) → Shows x low → Meant o x → Shows (linked p calls runs row x) (lower_linked p lay mine row low)
+    linked_shows end_of-Link o x low k is ok lends q means = q
+    linked_shows (more_of-Link a rest) o x low k is ok lends q means =
+        let parts = and_of (link_covered a) (links_covered rest) ok in
         let z = linked_some rest (WellFormed.link_form p l.proc a o) k is in
-        linked_shows rest (WellFormed.link_form p l.proc a o) (link p calls runs a x) (lower_link p lay mine a low) k is parts.1 (link_shows a o x low z.0 z.1 parts.0 q means) (means_link a o x means)
+        linked_shows rest (WellFormed.link_form p l.proc a o) (link p calls runs a x) (lower_link p lay mine a low) k is parts.1 (right_lends (lent_link a) (lent_links rest) lends) (link_shows a o x low z.0 z.1 parts.0 (left_lends (lent_link a) (lent_links rest) lends) q means) (means_link a o x means)
 
-    link_shows : (a : Link) (o : Option Form) (x : Act Cell) (low : Lowers) (k : Form) → WellFormed.link_form p l.proc a o ≡ Some k → link_covered p a ≡ true → Shows x low → Meant o x → Shows (link p calls runs a x) (lower_link p lay mine a low)
-    link_shows (Operate op y) o x low k is ok q means =
+    link_shows : (a : Link) (o : Option Form) (x : Act Cell) (low : Lowers) (k : Form) → WellFormed.link_form p l.proc a o ≡ Some k → link_covered a ≡ true → Lends (lent_link a) → Shows x low → Meant o x → Shows (link p calls runs a x) (lower_link p lay mine a low)
+    link_shows (Operate op y) o x low k is ok lends q means =
         let a = provided_is p (gives_number o) (provided (gives_number (WellFormed.form p l.proc y)) (Some (WellFormed.binary_form op))) k is in
         let b = provided_is p (gives_number (WellFormed.form p l.proc y)) (Some (WellFormed.binary_form op)) k a.1 in
         let z = number_form (WellFormed.form p l.proc y) b.0 in
-        shown (follows_binary w l op steady q.value (shows_of y z.0 z.1 ok).value)
-    link_shows (And y) o x low k is ok q means =
+        shown (follows_binary w l op steady q.value (shows_of y z.0 z.1 ok lends).value)
+    link_shows (And y) o x low k is ok lends q means =
         let a = provided_is p (WellFormed.gives_truth o) (provided (WellFormed.gives_truth (WellFormed.form p l.proc y)) (Some Truth)) k is in
         let b = provided_is p (WellFormed.gives_truth (WellFormed.form p l.proc y)) (Some Truth) k a.1 in
         let z = truth_form (WellFormed.form p l.proc y) b.0 in
-        let two = shows_of y z.0 z.1 ok in
+        let two = shows_of y z.0 z.1 ok lends in
         let forks = forks_and w l x (value p calls runs y) low.test (expr p lay mine y).test steady q.test two.test in
         record { value = follows_flag w l (both x (value p calls runs y)) (fork_and low.test (expr p lay mine y).test) forks (λ tags older. (means_link (And y) o x means tags older).sound Truth (is ∙ ap (λ f. Some f) (sym (some_same Truth k b.1)))); test = forks }
-    link_shows (Or y) o x low k is ok q means =
+    link_shows (Or y) o x low k is ok lends q means =
         let a = provided_is p (WellFormed.gives_truth o) (provided (WellFormed.gives_truth (WellFormed.form p l.proc y)) (Some Truth)) k is in
         let b = provided_is p (WellFormed.gives_truth (WellFormed.form p l.proc y)) (Some Truth) k a.1 in
         let z = truth_form (WellFormed.form p l.proc y) b.0 in
-        let two = shows_of y z.0 z.1 ok in
+        let two = shows_of y z.0 z.1 ok lends in
         let forks = forks_or w l x (value p calls runs y) low.test (expr p lay mine y).test steady q.test two.test in
         record { value = follows_flag w l (or_else x (value p calls runs y)) (fork_or low.test (expr p lay mine y).test) forks (λ tags older. (means_link (Or y) o x means tags older).sound Truth (is ∙ ap (λ f. Some f) (sym (some_same Truth k b.1)))); test = forks }
-    link_shows (Element y) o x low k is ok q means =
+    link_shows (Element y) o x low k is ok lends q means =
         let a = provided_is p (gives_number o) (provided (gives_number (WellFormed.form p l.proc y)) (Some Number)) k is in
         let b = provided_is p (gives_number (WellFormed.form p l.proc y)) (Some Number) k a.1 in
         let z = number_form (WellFormed.form p l.proc y) b.0 in
-        shown (follows_element w l steady q.value (shows_of y z.0 z.1 ok).value)
-    link_shows (Elements y z) o x low k is ok q means =
-        let parts = and_of (expr_covered p y) (expr_covered p z) ok in
+        shown (follows_element w l steady q.value (shows_of y z.0 z.1 ok lends).value)
+    link_shows (Elements y z) o x low k is ok lends q means =
+        let parts = and_of (expr_covered y) (expr_covered z) ok in
         let a = provided_is p (gives_number o) (provided (gives_number (WellFormed.form p l.proc y)) (provided (gives_number (WellFormed.form p l.proc z)) (Some Number))) k is in
         let b = provided_is p (gives_number (WellFormed.form p l.proc y)) (provided (gives_number (WellFormed.form p l.proc z)) (Some Number)) k a.1 in
         let c = provided_is p (gives_number (WellFormed.form p l.proc z)) (Some Number) k b.1 in
         let u = number_form (WellFormed.form p l.proc y) b.0 in
         let v = number_form (WellFormed.form p l.proc z) c.0 in
-        shown (follows_range w l steady q.value (shows_of y u.0 u.1 parts.0).value (shows_of z v.0 v.1 parts.1).value)
+        shown (follows_range w l steady q.value (shows_of y u.0 u.1 parts.0 (left_lends (lent y) (lent z) lends)).value (shows_of z v.0 v.1 parts.1 (right_lends (lent y) (lent z) lends)).value)
 
-  pub home_is : (d : Designator) (n : Thing) (f : Form) → WellFormed.named p l.proc d ≡ Some n → WellFormed.scalar_in p n ≡ Some f → designator_covered p d ≡ true → Follows w l 0 fuel nothing (Given w l) (HomeIs w l (whole_of d)) (place (designated p calls runs d)) (home p lay mine d)
-  home_is d n f is scalar ok = follows_home w l (whole_of d) n (designated p calls runs d) steady (λ h v m g s k. scalar_row n f scalar h) (named_is d n is ok)
+    -- the value of a call
+    call_value : (c : Call) (k : Form) → provided (WellFormed.call_suits p l.proc c) (WellFormed.call_form p l.proc c) ≡ Some k → call_covered c ≡ true → Lends (lent_call c) → Follows w l 0 fuel nothing (Given w l) (CellIs w l) (result_of (called p calls runs c)) (with_result (lower_called p lay mine c))
+    call_value (Direct' g m args) k is ok lends =
+        let a = provided_is p (WellFormed.call_suits p l.proc (Direct' g m args)) (WellFormed.call_form p l.proc (Direct' g m args)) k is in
+        let y = and_of (WellFormed.callable p g) (WellFormed.all_suit p l.proc args (procedure_of p g).formals) a.0 in
+        follows_result_of w l right apart stacked good calls calling steady
+        (follows_less w l (λ r i n f s h. h.0) (follows_sound w l {P = Answers p good (WellFormed.form_of p (procedure_of p g).result)} (λ tags older. t_call p good calls sound runs l.forms tags frame (taken_at tags older) (Direct' g m args) a.0)
+        (follows_called w l right apart stacked good calls calling g steady y.0 (λ v. (k, a.1)) (all_given g args y.1 (words_are (procedure_of p g).formals args y.1 ok lends)))))
+    call_value (Indirect' d m args) k is ok lends = no ok
+
+    words_are : {m : _} (xs : List Formal) (row : Row_of-Argument m) → WellFormed.all_suit p l.proc row xs ≡ true → arguments_covered row ≡ true → Lends (lent_in row) → Follows w l 0 fuel nothing (Given w l) (WordsAre w l xs) (arguments p calls runs row) (lower_arguments p lay mine row)
+    words_are [] end_of-Argument suits ok lends = follows_no_words w l
+    words_are (x ∷ xs) end_of-Argument suits ok lends = no suits
+    words_are [] (more_of-Argument a rest) suits ok lends = no suits
+    words_are (x ∷ xs) (more_of-Argument a rest) suits ok lends =
+        let y = and_of (WellFormed.argument_suits p l.proc a x) (WellFormed.all_suit p l.proc rest xs) suits in
+        let z = and_of (argument_covered a) (arguments_covered rest) ok in
+        follows_words w l x xs steady (word_is a x y.0 z.0 (left_lends (lent_as a) (lent_in rest) lends)) (words_are xs rest y.1 z.1 (right_lends (lent_as a) (lent_in rest) lends))
+
+    word_is : (a : Argument) (x : Formal) → WellFormed.argument_suits p l.proc a x ≡ true → argument_covered a ≡ true → Lends (lent_as a) → Follows w l 0 fuel nothing (Given w l) (OneWord w l x.mode x.type_number) (argument p calls runs a) (lower_argument p lay mine a)
+    word_is (ByValue e) x suits ok lends = value_word x.mode x.type_number e suits (λ f is. (shows_of e f is ok lends).value)
+    word_is (ByPlace d) x suits ok lends = place_word x.mode x.type_number x.variable d suits ok lends (λ n is. named_is d n is ok (at_of_whole d lends))
+    word_is (ByRecord d) x suits ok lends = no ok
+    word_is (ByOpen d) x suits ok lends = no ok
+
+  pub home_is : (d : Designator) (n : Thing) (f : Form) → WellFormed.named p l.proc d ≡ Some n → WellFormed.scalar_in p n ≡ Some f → designator_covered d ≡ true → Lends (lent_at d) → Follows w l 0 fuel nothing (Given w l) (HomeIs w l (whole_of d)) (place (designated p calls runs d)) (home p lay mine d)
+  home_is d n f is scalar ok lends = follows_home w l (whole_of d) n (designated p calls runs d) steady (λ h v m g s k. scalar_row n f scalar h) (named_is d n is ok lends)
 
   ---- Statements
 
@@ -454,15 +648,15 @@ module _ (w : Whole) (l : Level) (right : Right w) (apart : Apart l) (vars : Var
   checked_is : (x : Checked) (k : Form) → WellFormed.checked_form p l.proc x ≡ Some k → WellFormed.form p l.proc x.form ≡ Some k
   checked_is x k is = (provided_is p (WellFormed.kind_suits p x.kind (WellFormed.form p l.proc x.form)) (WellFormed.form p l.proc x.form) k is).1
 
-  checked_shows : (x : Checked) (k : Form) → WellFormed.checked_form p l.proc x ≡ Some k → checked_covered p x ≡ true → Shows (value p calls runs x.form) (expr p lay mine x.form)
-  checked_shows x k is ok = shows_of x.form k (checked_is x k is) ok
+  checked_shows : (x : Checked) (k : Form) → WellFormed.checked_form p l.proc x ≡ Some k → checked_covered x ≡ true → Lends (lent x.form) → Shows (value p calls runs x.form) (expr p lay mine x.form)
+  checked_shows x k is ok lends = shows_of x.form k (checked_is x k is) ok lends
 
   -- values and homes where turns are paid for and variables may change
-  value_at : {mask : Mask} (x : Checked) (k : Form) → WellFormed.checked_form p l.proc x ≡ Some k → checked_covered p x ≡ true → Follows w l 1 fuel mask (Given w l) (CellIs w l) (value p calls runs x.form) (expr p lay mine x.form).value
-  value_at x k is ok = follows_mask w l {less = nothing} (omega arith) (λ y e. refl) (checked_shows x k is ok).value
+  value_at : {mask : Mask} (x : Checked) (k : Form) → WellFormed.checked_form p l.proc x ≡ Some k → checked_covered x ≡ true → Lends (lent x.form) → Follows w l 1 fuel mask (Given w l) (CellIs w l) (value p calls runs x.form) (expr p lay mine x.form).value
+  value_at x k is ok lends = follows_mask w l {less = nothing} (omega arith) (λ y e. refl) (checked_shows x k is ok lends).value
 
-  home_at : {mask : Mask} (d : Designator) (n : Thing) (f : Form) → WellFormed.named p l.proc d ≡ Some n → WellFormed.scalar_in p n ≡ Some f → designator_covered p d ≡ true → Follows w l 1 fuel mask (Given w l) (HomeIs w l (whole_of d)) (place (designated p calls runs d)) (home p lay mine d)
-  home_at d n f is scalar ok = follows_mask w l {less = nothing} (omega arith) (λ y e. refl) (home_is d n f is scalar ok)
+  home_at : {mask : Mask} (d : Designator) (n : Thing) (f : Form) → WellFormed.named p l.proc d ≡ Some n → WellFormed.scalar_in p n ≡ Some f → designator_covered d ≡ true → Lends (lent_at d) → Follows w l 1 fuel mask (Given w l) (HomeIs w l (whole_of d)) (place (designated p calls runs d)) (home p lay mine d)
+  home_at d n f is scalar ok lends = follows_mask w l {less = nothing} (omega arith) (λ y e. refl) (home_is d n f is scalar ok lends)
 
   -- the variables that may change
   abbrev Covers : Mask → Mask → Type 0
@@ -523,14 +717,6 @@ module _ (w : Whole) (l : Level) (right : Right w) (apart : Apart l) (vars : Var
   rounds_any true one = rounds_less w l one
   rounds_any false one = one
 
-  shared_is : (d : Designator) → is_shared d ≡ true → (x : ℕ) → whole_of d x ≡ false
-  shared_is (Variable (Global m v) kind) h x = refl
-  shared_is (Part' b kind _ selectors) h x = refl
-  shared_is (Variable Done kind) h x = no h
-  shared_is (Variable (Local y) kind) h x = no h
-  shared_is (Variable (Parameter k) kind) h x = no h
-  shared_is (Variable (Text k) kind) h x = no h
-
   ---- FOR
 
   fixed_at : (d : Designator) → is_fixed d ≡ true → (a : Address) × ((s : Moment Objects) → place (designated p calls runs d) s ≡ Gives a s)
@@ -541,7 +727,7 @@ module _ (w : Whole) (l : Level) (right : Right w) (apart : Apart l) (vars : Var
   fixed_at (Variable (Text k) kind) h = no h
   fixed_at (Part' b kind _ selectors) h = no h
 
-  fixed_covered : (d : Designator) → is_fixed d ≡ true → designator_covered p d ≡ true
+  fixed_covered : (d : Designator) → is_fixed d ≡ true → designator_covered d ≡ true
   fixed_covered (Variable (Global m v) kind) h = refl
   fixed_covered (Variable (Local x) kind) h = refl
   fixed_covered (Variable Done kind) h = refl
@@ -570,146 +756,169 @@ module _ (w : Whole) (l : Level) (right : Right w) (apart : Apart l) (vars : Var
       (λ s. ap (λ e. after e (λ a. bits (fetch a) >>= λ v. put a (Bits (add64 v n)))) (is s) ∙ sym (step_is w l a (designated p calls runs d) is n s))
       (s_bind p (sound_place d h tags older) (λ t1 a e1 at. s_bind p (s_number_at p good a Number refl at.0) (λ t2 v e2 j. s_put p a Number (Bits (add64 v n)) (form_older p l.forms t1 t2 e2 a.area a.object a.cell Number at.0) at.1 (add64_lt v n))))
 
+  -- a call of a procedure without a result
+  call_only : (c : Call) → WellFormed.call_suits p l.proc c ≡ true → call_covered c ≡ true → Lends (lent_call c) → Follows w l 0 fuel nothing (Given w l) Always (called p calls runs c >>= λ _. give tt) (without_result (lower_called p lay mine c))
+  call_only (Direct' g m args) suits ok lends =
+      let y = and_of (WellFormed.callable p g) (WellFormed.all_suit p l.proc args (procedure_of p g).formals) suits in
+      follows_then w l {R = λ r (u : Unit {0}) n f s. Unit {0}} steady
+      (follows_less w l (λ r u n f s h. tt) (follows_sound w l {P = Answers p good (WellFormed.form_of p (procedure_of p g).result)} (λ tags older. t_call p good calls sound runs l.forms tags frame (taken_at tags older) (Direct' g m args) suits)
+      (follows_called_only w l right apart stacked good calls calling g steady y.0 (all_given g args y.1 (words_are (procedure_of p g).formals args y.1 ok lends)))))
+      (λ r u n f s known h. inl (tt, refl, tt))
+  call_only (Indirect' d m args) suits ok lends = no ok
+
+  -- what is behind RETURN
+  pub answer_is : (k : Option Form) (e : Option Checked) → WellFormed.answer_fine p l.proc k e ≡ true → answer_covered e ≡ true → Lends (lent_by_answer e) → Follows w l 0 fuel nothing (Given w l) (AnswerIs w l) (answer p calls runs e) (lower_answer p lay mine e)
+  answer_is None None fine ok lends = follows_give w l None None (λ n f s h. tt)
+  answer_is (Some k) (Some x) fine ok lends =
+      let g = given_is p good (WellFormed.checked_form p l.proc x) (Some k) fine in
+      follows_bind w l steady (checked_shows x g.0 g.2 ok lends).value (λ v. grows_give w l (Some v)) (λ c v. follows_give w l (Some c) (Some v) (λ n f s h. h.1))
+  answer_is None (Some x) fine ok lends = no fine
+  answer_is (Some k) None fine ok lends = no fine
+
   mutual
-    pub stmt_is : (mask : Mask) (s : Stmt) → WellFormed.fine p l.proc s ≡ true → covered p s ≡ true → Covers mask (assigned s) → Follows w l 1 fuel mask (Given w l) Always (effect p calls runs fuel s) (deed p lay mine s)
-    stmt_is mask (Assign d x) fine ok c =
-        let parts = and_of (designator_covered p d) (checked_covered p x) ok in
+    pub stmt_is : (mask : Mask) (s : Stmt) → WellFormed.fine p l.proc s ≡ true → covered s ≡ true → Covers mask (assigned s) → Lends (lent_by s) → Follows w l 1 fuel mask (Given w l) Always (effect p calls runs fuel s) (deed p lay mine s)
+    stmt_is mask (Assign d x) fine ok c lends =
+        let parts = and_of (designator_covered d) (checked_covered x) ok in
         let z = holds_is p good (λ t. WellFormed.is_writable t && WellFormed.given_for p (WellFormed.checked_form p l.proc x) (WellFormed.scalar_in p t)) (WellFormed.named p l.proc d) fine in
         let y = and_of (WellFormed.is_writable z.0) (WellFormed.given_for p (WellFormed.checked_form p l.proc x) (WellFormed.scalar_in p z.0)) z.2 in
         let g = given_is p good (WellFormed.checked_form p l.proc x) (WellFormed.scalar_in p z.0) y.1 in
-        typed_by (Assign d x) fine (follows_assign w l right apart (whole_of d) (designated p calls runs d) steady (masked_by mask d z.0 z.1 c) (home_at d z.0 g.1 z.1 g.3 parts.0) (value_at x g.0 g.2 parts.1))
-    stmt_is mask (Increase d x) fine ok c =
-        let parts = and_of (designator_covered p d) (checked_covered p x) ok in
+        typed_by (Assign d x) fine (follows_assign w l right apart (whole_of d) (designated p calls runs d) steady (masked_by mask d z.0 z.1 c) (home_at d z.0 g.1 z.1 g.3 parts.0 (left_lends (lent_at d) (lent x.form) lends)) (value_at x g.0 g.2 parts.1 (right_lends (lent_at d) (lent x.form) lends)))
+    stmt_is mask (Increase d x) fine ok c lends =
+        let parts = and_of (designator_covered d) (checked_covered x) ok in
         let y = and_of (gives_number (WellFormed.checked_form p l.proc x)) (holds_of (WellFormed.takes p (WellFormed.changes (is_byte (kind_in d)))) (WellFormed.named p l.proc d)) fine in
         let z = takes_is p good (WellFormed.changes (is_byte (kind_in d))) (WellFormed.named p l.proc d) y.1 in
         let g = number_form (WellFormed.checked_form p l.proc x) y.0 in
-        typed_by (Increase d x) fine (follows_number_change w l right apart (whole_of d) Add (designated p calls runs d) (is_byte (kind_in d)) tt steady (masked_by mask d z.0 z.2 c) (home_at d z.0 z.1 z.2 z.3 parts.0) (value_at x g.0 g.1 parts.1))
-    stmt_is mask (Decrease d x) fine ok c =
-        let parts = and_of (designator_covered p d) (checked_covered p x) ok in
+        typed_by (Increase d x) fine (follows_number_change w l right apart (whole_of d) Add (designated p calls runs d) (is_byte (kind_in d)) tt steady (masked_by mask d z.0 z.2 c) (home_at d z.0 z.1 z.2 z.3 parts.0 (left_lends (lent_at d) (lent x.form) lends)) (value_at x g.0 g.1 parts.1 (right_lends (lent_at d) (lent x.form) lends)))
+    stmt_is mask (Decrease d x) fine ok c lends =
+        let parts = and_of (designator_covered d) (checked_covered x) ok in
         let y = and_of (gives_number (WellFormed.checked_form p l.proc x)) (holds_of (WellFormed.takes p (WellFormed.changes (is_byte (kind_in d)))) (WellFormed.named p l.proc d)) fine in
         let z = takes_is p good (WellFormed.changes (is_byte (kind_in d))) (WellFormed.named p l.proc d) y.1 in
         let g = number_form (WellFormed.checked_form p l.proc x) y.0 in
-        typed_by (Decrease d x) fine (follows_number_change w l right apart (whole_of d) Subtract (designated p calls runs d) (is_byte (kind_in d)) tt steady (masked_by mask d z.0 z.2 c) (home_at d z.0 z.1 z.2 z.3 parts.0) (value_at x g.0 g.1 parts.1))
-    stmt_is mask (Include d x) fine ok c =
-        let parts = and_of (designator_covered p d) (checked_covered p x) ok in
+        typed_by (Decrease d x) fine (follows_number_change w l right apart (whole_of d) Subtract (designated p calls runs d) (is_byte (kind_in d)) tt steady (masked_by mask d z.0 z.2 c) (home_at d z.0 z.1 z.2 z.3 parts.0 (left_lends (lent_at d) (lent x.form) lends)) (value_at x g.0 g.1 parts.1 (right_lends (lent_at d) (lent x.form) lends)))
+    stmt_is mask (Include d x) fine ok c lends =
+        let parts = and_of (designator_covered d) (checked_covered x) ok in
         let y = and_of (gives_number (WellFormed.checked_form p l.proc x)) (holds_of (WellFormed.takes p WellFormed.is_full) (WellFormed.named p l.proc d)) fine in
         let z = takes_is p good WellFormed.is_full (WellFormed.named p l.proc d) y.1 in
         let g = number_form (WellFormed.checked_form p l.proc x) y.0 in
-        typed_by (Include d x) fine (follows_set_change w l right apart (whole_of d) Union (designated p calls runs d) tt steady (masked_by mask d z.0 z.2 c) (home_at d z.0 z.1 z.2 z.3 parts.0) (value_at x g.0 g.1 parts.1))
-    stmt_is mask (Exclude d x) fine ok c =
-        let parts = and_of (designator_covered p d) (checked_covered p x) ok in
+        typed_by (Include d x) fine (follows_set_change w l right apart (whole_of d) Union (designated p calls runs d) tt steady (masked_by mask d z.0 z.2 c) (home_at d z.0 z.1 z.2 z.3 parts.0 (left_lends (lent_at d) (lent x.form) lends)) (value_at x g.0 g.1 parts.1 (right_lends (lent_at d) (lent x.form) lends)))
+    stmt_is mask (Exclude d x) fine ok c lends =
+        let parts = and_of (designator_covered d) (checked_covered x) ok in
         let y = and_of (gives_number (WellFormed.checked_form p l.proc x)) (holds_of (WellFormed.takes p WellFormed.is_full) (WellFormed.named p l.proc d)) fine in
         let z = takes_is p good WellFormed.is_full (WellFormed.named p l.proc d) y.1 in
         let g = number_form (WellFormed.checked_form p l.proc x) y.0 in
-        typed_by (Exclude d x) fine (follows_set_change w l right apart (whole_of d) Difference (designated p calls runs d) tt steady (masked_by mask d z.0 z.2 c) (home_at d z.0 z.1 z.2 z.3 parts.0) (value_at x g.0 g.1 parts.1))
-    stmt_is mask (Assert x) fine ok c = let g = number_form (WellFormed.checked_form p l.proc x) fine in follows_assert w l steady (value_at x g.0 g.1 ok)
-    stmt_is mask (OutChar x) fine ok c = let g = holds_is p good WellFormed.is_small (WellFormed.checked_form p l.proc x) fine in follows_out_char w l steady (value_at x g.0 g.1 ok)
-    stmt_is mask (OutInt x n) fine ok c =
-        let parts = and_of (checked_covered p x) (checked_covered p n) ok in
+        typed_by (Exclude d x) fine (follows_set_change w l right apart (whole_of d) Difference (designated p calls runs d) tt steady (masked_by mask d z.0 z.2 c) (home_at d z.0 z.1 z.2 z.3 parts.0 (left_lends (lent_at d) (lent x.form) lends)) (value_at x g.0 g.1 parts.1 (right_lends (lent_at d) (lent x.form) lends)))
+    stmt_is mask (Assert x) fine ok c lends = let g = number_form (WellFormed.checked_form p l.proc x) fine in follows_assert w l steady (value_at x g.0 g.1 ok lends)
+    stmt_is mask (OutChar x) fine ok c lends = let g = holds_is p good WellFormed.is_small (WellFormed.checked_form p l.proc x) fine in follows_out_char w l steady (value_at x g.0 g.1 ok lends)
+    stmt_is mask (OutInt x n) fine ok c lends =
+        let parts = and_of (checked_covered x) (checked_covered n) ok in
         let y = and_of (gives_number (WellFormed.checked_form p l.proc x)) (gives_number (WellFormed.checked_form p l.proc n)) fine in
         let g = number_form (WellFormed.checked_form p l.proc x) y.0 in
         let h = number_form (WellFormed.checked_form p l.proc n) y.1 in
-        follows_out_int w l steady (value_at x g.0 g.1 parts.0) (value_at n h.0 h.1 parts.1)
-    stmt_is mask OutLn fine ok c = follows_out_char w l steady (follows_literal w l 10 (omega arith))
-    stmt_is mask (If' _ parts _ other) fine ok c =
+        follows_out_int w l steady (value_at x g.0 g.1 parts.0 (left_lends (lent x.form) (lent n.form) lends)) (value_at n h.0 h.1 parts.1 (right_lends (lent x.form) (lent n.form) lends))
+    stmt_is mask OutLn fine ok c lends = follows_out_char w l steady (follows_literal w l 10 (omega arith))
+    stmt_is mask (If' _ parts _ other) fine ok c lends =
         let y = and_of (WellFormed.fine_branches p l.proc parts) (WellFormed.fine_row p l.proc other) fine in
-        let z = and_of (branches_covered p parts) (row_covered p other) ok in
-        alternatives_are mask parts (assigned_all other) (effects p calls runs fuel other) (deeds p lay mine other) y.0 z.0 c
-        (λ inner d. row_is inner other y.1 z.1 d)
-    stmt_is mask (While' _ parts) fine ok c =
-        let z = and_of (has_branch parts) (branches_covered p parts) ok in
+        let z = and_of (branches_covered parts) (row_covered other) ok in
+        alternatives_are mask parts (assigned_all other) (effects p calls runs fuel other) (deeds p lay mine other) y.0 z.0 c (left_lends (lent_by_branches parts) (lent_by_all other) lends)
+        (λ inner d. row_is inner other y.1 z.1 d (right_lends (lent_by_branches parts) (lent_by_all other) lends))
+    stmt_is mask (While' _ parts) fine ok c lends =
+        let z = and_of (has_branch parts) (WellFormed.fine_branches p l.proc parts) fine in
         follows_mask w l {low_need = 1} {less = registers p lay mine (assigned_branches parts)} (omega arith) (not_covered mask (assigned_branches parts) c)
-        (follows_loop w l (registers p lay mine (assigned_branches parts)) (branches p calls runs fuel parts) (guarded_rounds p lay mine parts) steady (subst (λ b. Rounded w l (cond b 0 1) fuel (registers p lay mine (assigned_branches parts)) (Given w l) (branches p calls runs fuel parts) (guarded_rounds p lay mine parts)) z.0 (rounds_are (registers p lay mine (assigned_branches parts)) parts fine z.1 (λ x e. e))))
-    stmt_is mask (Repeat' _ body x) fine ok c =
+        (follows_loop w l (registers p lay mine (assigned_branches parts)) (branches p calls runs fuel parts) (guarded_rounds p lay mine parts) steady (subst (λ b. Rounded w l (cond b 0 1) fuel (registers p lay mine (assigned_branches parts)) (Given w l) (branches p calls runs fuel parts) (guarded_rounds p lay mine parts)) z.0 (rounds_are (registers p lay mine (assigned_branches parts)) parts z.1 ok (λ x e. e) lends)))
+    stmt_is mask (Repeat' _ body x) fine ok c lends =
         let y = and_of (WellFormed.fine_row p l.proc body) (gives_number (WellFormed.checked_form p l.proc x)) fine in
-        let z = and_of (row_covered p body) (checked_covered p x) ok in
+        let z = and_of (row_covered body) (checked_covered x) ok in
         let g = number_form (WellFormed.checked_form p l.proc x) y.1 in
         follows_mask w l {low_need = 1} {less = registers p lay mine (assigned_all body)} (omega arith) (not_covered mask (assigned_all body) c)
-        (follows_until w l (registers p lay mine (assigned_all body)) (test (value p calls runs x.form)) (effects p calls runs fuel body) (expr p lay mine x.form).test (deeds p lay mine body) steady (forks_test w l (value p calls runs x.form) (checked_shows x g.0 g.1 z.1).test) (row_is (registers p lay mine (assigned_all body)) body y.0 z.0 (λ v e. e)))
-    stmt_is mask (CopyArray d e) fine ok c = no ok
-    stmt_is mask (CopyRecord d e) fine ok c = no ok
-    stmt_is mask (New d) fine ok c = no ok
-    stmt_is mask (OutString d) fine ok c = no ok
-    stmt_is mask (InChar d) fine ok c =
-        let z = and_of (designator_covered p d) (is_shared d) ok in
+        (follows_until w l (registers p lay mine (assigned_all body)) (test (value p calls runs x.form)) (effects p calls runs fuel body) (expr p lay mine x.form).test (deeds p lay mine body) steady (forks_test w l (value p calls runs x.form) (checked_shows x g.0 g.1 z.1 (right_lends (lent_by_all body) (lent x.form) lends)).test) (row_is (registers p lay mine (assigned_all body)) body y.0 z.0 (λ v e. e) (left_lends (lent_by_all body) (lent x.form) lends)))
+    stmt_is mask (CopyArray d e) fine ok c lends = no ok
+    stmt_is mask (CopyRecord d e) fine ok c lends = no ok
+    stmt_is mask (New d) fine ok c lends = no ok
+    stmt_is mask (OutString d) fine ok c lends = no ok
+    stmt_is mask (InChar d) fine ok c lends =
         let t = takes_is p good (WellFormed.changes true) (WellFormed.named p l.proc d) fine in
-        typed_by (InChar d) fine (follows_in_char w l right apart (whole_of d) t.0 (designated p calls runs d) steady (shared_is d z.1) (λ h. scalar_row t.0 t.1 t.3 h) vars.done
+        typed_by (InChar d) fine (follows_in_char w l right apart (whole_of d) t.0 (designated p calls runs d) steady (own_lent d lends) (λ h. scalar_row t.0 t.1 t.3 h) vars.done
         (λ n le tags older. s_put p done Truth (Bits n) (done_formed p good l.forms tags) refl (omega (arith, le)))
-        (follows_mask w l {less = nothing} (omega arith) (λ y e. refl) (named_is d t.0 t.2 z.0)))
-    stmt_is mask (Invoke k) fine ok c = no ok
-    stmt_is mask (For' d x y step _ body) fine ok c =
-        let z = and_of (is_fixed d && nat_lt (unsigned step) (2 ^ 64)) (checked_covered p x && (checked_covered p y && row_covered p body)) ok in
-        let fits = and_of (is_fixed d) (nat_lt (unsigned step) (2 ^ 64)) z.0 in
-        let z2 = and_of (checked_covered p x) (checked_covered p y && row_covered p body) z.1 in
-        let z3 = and_of (checked_covered p y) (row_covered p body) z2.1 in
-        let y1 = and_of (holds_of (WellFormed.takes p WellFormed.is_full) (WellFormed.named p l.proc d)) (gives_number (WellFormed.checked_form p l.proc x) && (gives_number (WellFormed.checked_form p l.proc y) && WellFormed.fine_row p l.proc body)) fine in
+        (follows_mask w l {less = nothing} (omega arith) (λ y e. refl) (named_is d t.0 t.2 ok (at_of_whole d lends))))
+    stmt_is mask (Invoke k) fine ok c lends = follows_mask w l {less = nothing} (omega arith) (λ y e. refl) (call_only k fine ok lends)
+    stmt_is mask (For' d x y step _ body) fine ok c lends =
+        let z = and_of (is_fixed d) (checked_covered x && (checked_covered y && row_covered body)) ok in
+        let z2 = and_of (checked_covered x) (checked_covered y && row_covered body) z.1 in
+        let z3 = and_of (checked_covered y) (row_covered body) z2.1 in
+        let y0 = and_of (WellFormed.is_step step) (holds_of (WellFormed.takes p WellFormed.is_full) (WellFormed.named p l.proc d) && (gives_number (WellFormed.checked_form p l.proc x) && (gives_number (WellFormed.checked_form p l.proc y) && WellFormed.fine_row p l.proc body))) fine in
+        let y1 = and_of (holds_of (WellFormed.takes p WellFormed.is_full) (WellFormed.named p l.proc d)) (gives_number (WellFormed.checked_form p l.proc x) && (gives_number (WellFormed.checked_form p l.proc y) && WellFormed.fine_row p l.proc body)) y0.1 in
         let y2 = and_of (gives_number (WellFormed.checked_form p l.proc x)) (gives_number (WellFormed.checked_form p l.proc y) && WellFormed.fine_row p l.proc body) y1.1 in
         let y3 = and_of (gives_number (WellFormed.checked_form p l.proc y)) (WellFormed.fine_row p l.proc body) y2.1 in
         let t = takes_is p good WellFormed.is_full (WellFormed.named p l.proc d) y1.0 in
         let g = number_form (WellFormed.checked_form p l.proc x) y2.0 in
         let h = number_form (WellFormed.checked_form p l.proc y) y3.0 in
-        let fixed = fixed_at d fits.0 in
-        let whole = fixed_covered d fits.0 in
+        let fixed = fixed_at d z.0 in
+        let whole = fixed_covered d z.0 in
+        let lends2 = right_lends (lent_at d) (either (lent x.form) (either (lent y.form) (lent_by_all body))) lends in
+        let lends3 = right_lends (lent x.form) (either (lent y.form) (lent_by_all body)) lends2 in
+        let at = left_lends (lent_at d) (either (lent x.form) (either (lent y.form) (lent_by_all body))) lends in
         let inner = registers p lay mine (either (whole_of d) (assigned_all body)) in
         let n = unsigned step in
         let stepped = follows_same w l (assign (designated p calls runs d) (two_operands l.proc Add (load (designated p calls runs d)) (give (Bits n)))) (bits (fetch fixed.0) >>= λ v. put fixed.0 (Bits (add64 v n))) (step_is w l fixed.0 (designated p calls runs d) fixed.1 n)
         (follows_less w l {Q = Always} (λ a b n f t h. tt) (follows_sound w l {P = Any p} (λ tags older. sound_step d n fixed.0 fixed.1 y1.0 tags older)
-        (follows_assign w l right apart (whole_of d) (designated p calls runs d) steady (masked_by inner d t.0 t.2 (λ v e. left_of (in_register p lay mine (variable_of p lay mine v).site) (whole_of d v) (assigned_all body v) e)) (home_at d t.0 t.1 t.2 t.3 whole)
-        (follows_binary w l Add steady (follows_load w l (whole_of d) (designated p calls runs d) steady (home_at d t.0 t.1 t.2 t.3 whole)) (follows_literal w l n (lt_of p (unsigned step) (2 ^ 64) fits.1)))))) in
+        (follows_assign w l right apart (whole_of d) (designated p calls runs d) steady (masked_by inner d t.0 t.2 (λ v e. left_of (in_register p lay mine (variable_of p lay mine v).site) (whole_of d v) (assigned_all body v) e)) (home_at d t.0 t.1 t.2 t.3 whole at)
+        (follows_binary w l Add steady (follows_load w l (whole_of d) (designated p calls runs d) steady (home_at d t.0 t.1 t.2 t.3 whole at)) (follows_literal w l n (step_small step y0.0)))))) in
         follows_for w l mask inner (bound p lay mine step) step (value p calls runs x.form) (effects p calls runs fuel body) fixed.0 (designated p calls runs d) fixed.1 (limit_test (int_lt (pos 0) step)) (not_covered mask (either (whole_of d) (assigned_all body)) c) steady
         (follows_same w l (assign (designated p calls runs d) (value p calls runs x.form)) (value p calls runs x.form >>= λ c. put fixed.0 c) (assign_is w l fixed.0 (designated p calls runs d) fixed.1 (value p calls runs x.form))
         (follows_less w l {Q = Always} (λ a b n f t h. tt) (follows_sound w l {P = Any p} (λ tags older. sound_first d x y1.0 y2.0 tags older)
-        (follows_assign w l right apart (whole_of d) (designated p calls runs d) steady (masked_by mask d t.0 t.2 (λ v e. c v (left_of (in_register p lay mine (variable_of p lay mine v).site) (whole_of d v) (assigned_all body v) e))) (home_at d t.0 t.1 t.2 t.3 whole) (value_at x g.0 g.1 z2.0)))))
-        (value_at y h.0 h.1 z3.0)
-        (follows_same w l (load (designated p calls runs d)) (fetch fixed.0) (load_is w l fixed.0 (designated p calls runs d) fixed.1) (follows_load w l (whole_of d) (designated p calls runs d) steady (home_is d t.0 t.1 t.2 t.3 whole)))
-        (follows_bind w l steady (row_is inner body y3.1 z3.1 (λ v e. right_of (in_register p lay mine (variable_of p lay mine v).site) (whole_of d v) (assigned_all body v) e)) (λ u. stepped.grows) (λ u v. follows_known w l (λ n f s k. k.0) stepped))
-    stmt_is mask (Case' x _ parts) fine ok c = no ok
-    stmt_is mask (CasePointer' x _ parts) fine ok c = no ok
-    stmt_is mask (CaseParameter' d _ parts) fine ok c = no ok
+        (follows_assign w l right apart (whole_of d) (designated p calls runs d) steady (masked_by mask d t.0 t.2 (λ v e. c v (left_of (in_register p lay mine (variable_of p lay mine v).site) (whole_of d v) (assigned_all body v) e))) (home_at d t.0 t.1 t.2 t.3 whole at) (value_at x g.0 g.1 z2.0 (left_lends (lent x.form) (either (lent y.form) (lent_by_all body)) lends2))))))
+        (value_at y h.0 h.1 z3.0 (left_lends (lent y.form) (lent_by_all body) lends3))
+        (follows_same w l (load (designated p calls runs d)) (fetch fixed.0) (load_is w l fixed.0 (designated p calls runs d) fixed.1) (follows_load w l (whole_of d) (designated p calls runs d) steady (home_is d t.0 t.1 t.2 t.3 whole at)))
+        (follows_bind w l steady (row_is inner body y3.1 z3.1 (λ v e. right_of (in_register p lay mine (variable_of p lay mine v).site) (whole_of d v) (assigned_all body v) e) (right_lends (lent y.form) (lent_by_all body) lends3)) (λ u. stepped.grows) (λ u v. follows_known w l (λ n f s k. k.0) stepped))
+    stmt_is mask (Case' x _ parts) fine ok c lends = no ok
+    stmt_is mask (CasePointer' x _ parts) fine ok c lends = no ok
+    stmt_is mask (CaseParameter' d _ parts) fine ok c lends = no ok
 
-    pub row_is : (mask : Mask) {m : _} (r : Row_of-Stmt m) → WellFormed.fine_row p l.proc r ≡ true → row_covered p r ≡ true → Covers mask (assigned_all r) → Follows w l 1 fuel mask (Given w l) Always (effects p calls runs fuel r) (deeds p lay mine r)
-    row_is mask end_of-Stmt fine ok c = follows_give w l tt tt (λ n f s k. tt)
-    row_is mask (more_of-Stmt s rest) fine ok c =
+    pub row_is : (mask : Mask) {m : _} (r : Row_of-Stmt m) → WellFormed.fine_row p l.proc r ≡ true → row_covered r ≡ true → Covers mask (assigned_all r) → Lends (lent_by_all r) → Follows w l 1 fuel mask (Given w l) Always (effects p calls runs fuel r) (deeds p lay mine r)
+    row_is mask end_of-Stmt fine ok c lends = follows_give w l tt tt (λ n f s k. tt)
+    row_is mask (more_of-Stmt s rest) fine ok c lends =
         let y = and_of (WellFormed.fine p l.proc s) (WellFormed.fine_row p l.proc rest) fine in
-        let z = and_of (covered p s) (row_covered p rest) ok in
-        let more = row_is mask rest y.1 z.1 (λ x e. c x (right_of (in_register p lay mine (variable_of p lay mine x).site) (assigned s x) (assigned_all rest x) e)) in
-        follows_bind w l steady (stmt_is mask s y.0 z.0 (λ x e. c x (left_of (in_register p lay mine (variable_of p lay mine x).site) (assigned s x) (assigned_all rest x) e))) (λ u. more.grows) (λ a b. follows_known w l (λ n f s k. k.0) more)
+        let z = and_of (covered s) (row_covered rest) ok in
+        let more = row_is mask rest y.1 z.1 (λ x e. c x (right_of (in_register p lay mine (variable_of p lay mine x).site) (assigned s x) (assigned_all rest x) e)) (right_lends (lent_by s) (lent_by_all rest) lends) in
+        follows_bind w l steady (stmt_is mask s y.0 z.0 (λ x e. c x (left_of (in_register p lay mine (variable_of p lay mine x).site) (assigned s x) (assigned_all rest x) e)) (left_lends (lent_by s) (lent_by_all rest) lends)) (λ u. more.grows) (λ a b. follows_known w l (λ n f s k. k.0) more)
 
-    alternatives_are : (mask : Mask) {m : _} (parts : Row_of-Branch m) (last : Mask) (other : Deed) (low : Low (Unit {0})) → WellFormed.fine_branches p l.proc parts ≡ true → branches_covered p parts ≡ true → Covers mask (either (assigned_branches parts) last)
+    alternatives_are : (mask : Mask) {m : _} (parts : Row_of-Branch m) (last : Mask) (other : Deed) (low : Low (Unit {0})) → WellFormed.fine_branches p l.proc parts ≡ true → branches_covered parts ≡ true → Covers mask (either (assigned_branches parts) last) → Lends (lent_by_branches parts)
         → ((inner : Mask) → Covers inner last → Follows w l 1 fuel inner (Given w l) Always other low) → Follows w l 1 fuel mask (Given w l) Always (otherwise (branches p calls runs fuel parts) other) (alternatives p lay mine parts last low)
-    alternatives_are mask end_of-Branch last other low fine ok c go = go mask c
-    alternatives_are mask (more_of-Branch x _ body rest) last other low fine ok c go =
+    alternatives_are mask end_of-Branch last other low fine ok c lends go = go mask c
+    alternatives_are mask (more_of-Branch x _ body rest) last other low fine ok c lends go =
+        let lends2 = right_lends (lent x.form) (either (lent_by_all body) (lent_by_branches rest)) lends in
         let y = and_of (gives_number (WellFormed.checked_form p l.proc x)) (WellFormed.fine_row p l.proc body && WellFormed.fine_branches p l.proc rest) fine in
         let y2 = and_of (WellFormed.fine_row p l.proc body) (WellFormed.fine_branches p l.proc rest) y.1 in
-        let z = and_of (checked_covered p x) (row_covered p body && branches_covered p rest) ok in
-        let z2 = and_of (row_covered p body) (branches_covered p rest) z.1 in
+        let z = and_of (checked_covered x) (row_covered body && branches_covered rest) ok in
+        let z2 = and_of (row_covered body) (branches_covered rest) z.1 in
         let g = number_form (WellFormed.checked_form p l.proc x) y.0 in
         let few = registers p lay mine (either (assigned_all body) (either (assigned_branches rest) last)) in
         follows_same w l (test (value p calls runs x.form) >>= λ ok. if ok then effects p calls runs fuel body else otherwise (branches p calls runs fuel rest) other) (otherwise (try (test (value p calls runs x.form)) (effects p calls runs fuel body) (branches p calls runs fuel rest)) other)
         (otherwise_is (test (value p calls runs x.form)) (effects p calls runs fuel body) other (branches p calls runs fuel rest))
         (follows_mask w l {low_need = 1} {less = few} (omega arith) (not_covered mask (either (assigned_all body) (either (assigned_branches rest) last)) (λ v e. c v (regroup_mask (in_register p lay mine (variable_of p lay mine v).site) (assigned_all body v) (assigned_branches rest v) (last v) e)))
         (follows_choose w l few (test (value p calls runs x.form)) (expr p lay mine x.form).test (effects p calls runs fuel body) (otherwise (branches p calls runs fuel rest) other) (deeds p lay mine body) (alternatives p lay mine rest last low) steady
-        (forks_test w l (value p calls runs x.form) (checked_shows x g.0 g.1 z.0).test)
-        (row_is few body y2.0 z2.0 (λ v e. left_of (in_register p lay mine (variable_of p lay mine v).site) (assigned_all body v) (assigned_branches rest v || last v) e))
-        (alternatives_are few rest last other low y2.1 z2.1 (λ v e. right_of (in_register p lay mine (variable_of p lay mine v).site) (assigned_all body v) (assigned_branches rest v || last v) e) go)))
+        (forks_test w l (value p calls runs x.form) (checked_shows x g.0 g.1 z.0 (left_lends (lent x.form) (either (lent_by_all body) (lent_by_branches rest)) lends)).test)
+        (row_is few body y2.0 z2.0 (λ v e. left_of (in_register p lay mine (variable_of p lay mine v).site) (assigned_all body v) (assigned_branches rest v || last v) e) (left_lends (lent_by_all body) (lent_by_branches rest) lends2))
+        (alternatives_are few rest last other low y2.1 z2.1 (λ v e. right_of (in_register p lay mine (variable_of p lay mine v).site) (assigned_all body v) (assigned_branches rest v || last v) e) (right_lends (lent_by_all body) (lent_by_branches rest) lends2) go)))
 
-    rounds_are : (mask : Mask) {m : _} (parts : Row_of-Branch m) → WellFormed.fine_branches p l.proc parts ≡ true → branches_covered p parts ≡ true → Covers mask (assigned_branches parts) → Rounded w l (cond (has_branch parts) 0 1) fuel mask (Given w l) (branches p calls runs fuel parts) (guarded_rounds p lay mine parts)
-    rounds_are mask end_of-Branch fine ok c = rounds_none w l
-    rounds_are mask (more_of-Branch x _ body rest) fine ok c =
+    rounds_are : (mask : Mask) {m : _} (parts : Row_of-Branch m) → WellFormed.fine_branches p l.proc parts ≡ true → branches_covered parts ≡ true → Covers mask (assigned_branches parts) → Lends (lent_by_branches parts) → Rounded w l (cond (has_branch parts) 0 1) fuel mask (Given w l) (branches p calls runs fuel parts) (guarded_rounds p lay mine parts)
+    rounds_are mask end_of-Branch fine ok c lends = rounds_none w l
+    rounds_are mask (more_of-Branch x _ body rest) fine ok c lends =
+        let lends2 = right_lends (lent x.form) (either (lent_by_all body) (lent_by_branches rest)) lends in
         let y = and_of (gives_number (WellFormed.checked_form p l.proc x)) (WellFormed.fine_row p l.proc body && WellFormed.fine_branches p l.proc rest) fine in
         let y2 = and_of (WellFormed.fine_row p l.proc body) (WellFormed.fine_branches p l.proc rest) y.1 in
-        let z = and_of (checked_covered p x) (row_covered p body && branches_covered p rest) ok in
-        let z2 = and_of (row_covered p body) (branches_covered p rest) z.1 in
+        let z = and_of (checked_covered x) (row_covered body && branches_covered rest) ok in
+        let z2 = and_of (row_covered body) (branches_covered rest) z.1 in
         let g = number_form (WellFormed.checked_form p l.proc x) y.0 in
         rounds_more w l mask (test (value p calls runs x.form)) (branches p calls runs fuel rest) (effects p calls runs fuel body) (record { test = (expr p lay mine x.form).test; body = deeds p lay mine body }) (guarded_rounds p lay mine rest) steady
-        (forks_test w l (value p calls runs x.form) (checked_shows x g.0 g.1 z.0).test)
-        (row_is mask body y2.0 z2.0 (λ v e. c v (left_of (in_register p lay mine (variable_of p lay mine v).site) (assigned_all body v) (assigned_branches rest v) e)))
-        (rounds_any (has_branch rest) (rounds_are mask rest y2.1 z2.1 (λ v e. c v (right_of (in_register p lay mine (variable_of p lay mine v).site) (assigned_all body v) (assigned_branches rest v) e))))
+        (forks_test w l (value p calls runs x.form) (checked_shows x g.0 g.1 z.0 (left_lends (lent x.form) (either (lent_by_all body) (lent_by_branches rest)) lends)).test)
+        (row_is mask body y2.0 z2.0 (λ v e. c v (left_of (in_register p lay mine (variable_of p lay mine v).site) (assigned_all body v) (assigned_branches rest v) e)) (left_lends (lent_by_all body) (lent_by_branches rest) lends2))
+        (rounds_any (has_branch rest) (rounds_are mask rest y2.1 z2.1 (λ v e. c v (right_of (in_register p lay mine (variable_of p lay mine v).site) (assigned_all body v) (assigned_branches rest v) e)) (right_lends (lent_by_all body) (lent_by_branches rest) lends2)))
 
-  pub list_is : (mask : Mask) (ss : List Stmt) → all (WellFormed.fine p l.proc) ss ≡ true → all (covered p) ss ≡ true → ((x : ℕ) → mask x ≡ true) → Follows w l 1 fuel mask (Given w l) Always (effects_of p calls runs fuel ss) (deeds_of p lay mine ss)
-  list_is mask [] fine ok every = follows_give w l tt tt (λ n f s k. tt)
-  list_is mask (s ∷ ss) fine ok every =
+  pub list_is : (mask : Mask) (ss : List Stmt) → all (WellFormed.fine p l.proc) ss ≡ true → all covered ss ≡ true → ((x : ℕ) → mask x ≡ true) → Lends (lent_by_list ss) → Follows w l 1 fuel mask (Given w l) Always (effects_of p calls runs fuel ss) (deeds_of p lay mine ss)
+  list_is mask [] fine ok every lends = follows_give w l tt tt (λ n f s k. tt)
+  list_is mask (s ∷ ss) fine ok every lends =
       let y = and_of (WellFormed.fine p l.proc s) (all (WellFormed.fine p l.proc) ss) fine in
-      let z = and_of (covered p s) (all (covered p) ss) ok in
-      let more = list_is mask ss y.1 z.1 every in
-      follows_bind w l steady (stmt_is mask s y.0 z.0 (λ x e. every x)) (λ u. more.grows) (λ a b. follows_known w l (λ n f s k. k.0) more)
+      let z = and_of (covered s) (all covered ss) ok in
+      let more = list_is mask ss y.1 z.1 every (right_lends (lent_by s) (lent_by_list ss) lends) in
+      follows_bind w l steady (stmt_is mask s y.0 z.0 (λ x e. every x) (left_lends (lent_by s) (lent_by_list ss) lends)) (λ u. more.grows) (λ a b. follows_known w l (λ n f s k. k.0) more)
