@@ -42,7 +42,9 @@ use Rattle.lowered_runs.proofs.Levels.{Variables, LocalIs, Given}
 use Rattle.lowered_runs.proofs.Calls.{OneIs, Words, Stacked}
 use Rattle.lowered_runs.proofs.Frames.{Activation, Laid, above, with_frame, own_slot, other_slot}
 use Rattle.lowered_runs.proofs.Locals.{Pairs, types_in, lay, size, is_wide, single, wide_of, way, wide_in, lent_in, first, first_grows, wide_bytes, lent_words, words_fit, own_at, own_inside, own_apart, SiteIs, site_is}
-use Rattle.lowered_runs.proofs.Openings.{number_of, word_among, Head, Firsts, WordsAmong, wide_some}
+use Rattle.std.proofs.lemmas.Bool.Decides.{nat_tests}
+use Rattle.std.specs.Prelude.{nat_lt}
+use Rattle.lowered_runs.proofs.Openings.{lent_memory, number_of, word_among, Head, Firsts, WordsAmong, wide_some}
 
 get_drop : (n : ℕ) (cs : List Cell) (d : ℕ) → slice_get (drop n cs) d ≡ slice_get cs (n + d)
 get_drop zero cs d = let e : d ≡ 0 + d = omega arith in ap (slice_get cs) e
@@ -317,7 +319,7 @@ module _ (w : Whole) (l : Level) (g : ℕ) (hs : List Handed) (xs : List ℕ) (c
     own = own_at w.program l.local lent 0 wide (pairs_of q);
     forms = joined (forms w.program.types) (locals_of q);
     count = length (locals_of q);
-    in_register = λ x. in_register w.program (lay w.program) here (variable_of w.program (lay w.program) here x).site;
+    in_register = λ x. nat_lt x (length (locals_of q)) && in_register w.program (lay w.program) here (variable_of w.program (lay w.program) here x).site;
     cell = λ x. cells_of_all w.program.types (take x (locals_of q));
   }
 
@@ -374,11 +376,14 @@ module _ (w : Whole) (l : Level) (g : ℕ) (hs : List Handed) (xs : List ℕ) (c
     site_at : (x k : ℕ) → slice_get (types_in (pairs_of q)) x ≡ Some k → SiteOf x k (variable_of w.program (lay w.program) here x).site
     site_at x k at = subst (λ vs. SiteOf x k (slice_index_or vs x no_variable).site) (sym variables_are) (site_is w.program l.local lent 0 wide (pairs_of q) x k no_variable (omega arith) at)
 
+    in_site : (x : ℕ) → activation.in_register x ≡ true → in_register w.program (lay w.program) here (variable_of w.program (lay w.program) here x).site ≡ true
+    in_site x reg = (and_of (nat_lt x (length (locals_of q))) (in_register w.program (lay w.program) here (variable_of w.program (lay w.program) here x).site) reg).1
+
     pub apart_above : Apart u
     apart_above = record {
       registers = λ x lt reg. let k = type_at x lt in elim (site_at x k.0 k.1) [
         | inl h ↦ own_slot w l activation s (length l.sizes) (activation.cell x) refl ∙ ap activation.own (cell_is x) ∙ h.2
-        | inr h ↦ no (sym (ap (in_register w.program (lay w.program) here) h.1) ∙ reg)
+        | inr h ↦ no (sym (ap (in_register w.program (lay w.program) here) h.1) ∙ in_site x reg)
       ];
       cells = λ x y ne lt less reg reg2 e.
           let k = type_at x lt in let j = type_at y less in
@@ -394,27 +399,53 @@ module _ (w : Whole) (l : Level) (g : ℕ) (hs : List Handed) (xs : List ℕ) (c
             let grows = first_grows w.program (pairs_of q) x y k lt at in
             elim (site_at x k at) [
               | inl h ↦ (let one = single w.program k h.1 in absurd (omega (arith, grows, one, e)))
-              | inr h ↦ no (sym (ap (in_register w.program (lay w.program) here) h.1) ∙ reg)
+              | inr h ↦ no (sym (ap (in_register w.program (lay w.program) here) h.1) ∙ in_site x reg)
             ]
 
     pub variables_above : DataPlaced w → l.local + activation.words ≤ heap_word → Variables w u
     variables_above placed_data few = record {
       cell = λ x. refl;
       count = refl;
-      local = λ x k at. by x k (site_at x k (subst (λ ks. slice_get ks x ≡ Some k) (sym (types_are q)) at));
+      local = λ x k at. by x k (there (locals_of q) x k at) (site_at x k (subst (λ ks. slice_get ks x ≡ Some k) (sym (types_are q)) at));
       global = λ m v k at t. placed_data.global u m v k at t;
       done = λ t. placed_data.done u t;
     }
       where
-        by : (x k : ℕ) → SiteOf x k (variable_of w.program (lay w.program) here x).site → LocalIs w u x k
-        by x k (inl h) = inl (h.0, ap (in_register w.program (lay w.program) here) h.0, h.1)
-        by x k (inr h) = inr (8 * h.0, h.1, ap (in_register w.program (lay w.program) here) h.1, λ t. record {
+        there : (ks : List ℕ) (x k : ℕ) → slice_get ks x ≡ Some k → nat_lt x (length ks) ≡ true
+        there ks x k at = less x (length ks) (below ks x k at)
+          where
+            less : (a b : ℕ) → a < b → nat_lt a b ≡ true
+            less a b h = grind (arith, nat_tests)
+
+            below : (ks : List ℕ) (x k : ℕ) → slice_get ks x ≡ Some k → x < length ks
+            below [] x k e = none_some k e
+            below (y ∷ ks) zero k e = omega arith
+            below (y ∷ ks) (suc x) k e = let h = below ks x k e in omega (arith, h)
+
+        outside : (b : Bool) → (b && false) ≡ false
+        outside true = refl
+        outside false = refl
+
+        by : (x k : ℕ) → nat_lt x (length (locals_of q)) ≡ true → SiteOf x k (variable_of w.program (lay w.program) here x).site → LocalIs w u x k
+        by x k lt (inl h) = inl (h.0, ap₂ (λ a b. a && b) lt (ap (in_register w.program (lay w.program) here) h.0), h.1)
+        by x k lt (inr h) = inr (8 * h.0, h.1, ap (λ s. nat_lt x (length (locals_of q)) && in_register w.program (lay w.program) here s) h.1 ∙ outside (nat_lt x (length (locals_of q))), λ t. record {
           few = omega arith;
           row = λ j lt.
               let bytes = bytes_are in let fit = h.2 in
               let e = cell_is x in
               (l.local + (h.0 + j), own_slot w l activation s (length l.sizes) (activation.cell x + j) refl ∙ ap (λ c. activation.own (c + j)) e ∙ h.3 j lt, omega (arith, bytes, fit, lt, few));
         })
+
+    -- a variable whose address is made is in memory
+    pub lent_above : (x : ℕ) → lent x ≡ true → u.in_register x ≡ false
+    lent_above x e = by (nat_lt x (length (locals_of q))) refl
+      where
+        less : (a b : ℕ) → nat_lt a b ≡ true → a < b
+        less a b h = grind (arith, nat_tests)
+
+        by : (t : Bool) → nat_lt x (length (locals_of q)) ≡ t → (t && in_register w.program (lay w.program) here (variable_of w.program (lay w.program) here x).site) ≡ false
+        by false h = refl
+        by true h = subst (λ vs. in_register w.program (lay w.program) here (slice_index_or vs x no_variable).site ≡ false) (sym variables_are) (lent_memory w.program here lent 0 wide (pairs_of q) x no_variable e (let f = ap length (types_are q) in let lt = less x (length (locals_of q)) h in omega (arith, f, lt)))
 
     -- addresses that were handed over
     address_above : Stacked l → (cs : List Cell) (t : Objects) (a : Address) (n x : ℕ) → AddressIs w l a n x t → AddressIs w u a n x (with_frame cs t)

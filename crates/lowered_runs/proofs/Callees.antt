@@ -30,7 +30,7 @@ use Rattle.ob_types.specs.Store.{Cell, Bits, Trap, Act, Handed, Senseless, given
 use Rattle.ob_types.specs.Store.{Store as Objects, Here as Running, Kind as Trapping}
 use Rattle.ob_types.specs.declared.program.Procedure.{Procedure as Declared}
 use Rattle.ob_types.specs.declared.program.Program.{Program}
-use Rattle.ob_types.proofs.Tests.{no}
+use Rattle.ob_types.proofs.Tests.{no, and_of}
 use Rattle.ob_sound.proofs.Tables.{all_joined, starts, all_cells_length, starts_all}
 use Rattle.ob_sound.proofs.Typed.{AllFit, typed_push}
 use Rattle.ob_sound.proofs.Handing.{AllTaken, FitAll, receive_all, joined_append, fit_append, fit_at, fit_zeros}
@@ -76,7 +76,7 @@ pub record Serves (w : Whole) (u : Level) (fuel : ℕ) (calls : Calls) : Type 0 
   pub result : Follows w u 0 fuel nothing (Given w u) (AnswerIs w u) (answer w.program calls (running w u) (declared_of w.program u.proc).answer) (lower_answer w.program (lay w.program) (here_in w u) (declared_of w.program u.proc).answer)
 
 -- the first block has the first words as its parameters
-first_block : (s : Start) (ops : List Op) (last : End) (ps : List Piece) → (block_at (code_blocks (blocks_of s ops last ps)) 0).params ≡ s.params
+pub first_block : (s : Start) (ops : List Op) (last : End) (ps : List Piece) → (block_at (code_blocks (blocks_of s ops last ps)) 0).params ≡ s.params
 first_block s ops last [] = refl
 first_block s ops last (Appends b i op ∷ ps) = first_block s (ops ++ op ∷ []) last ps
 first_block s ops last (Closes b i end next ∷ ps) = refl
@@ -246,7 +246,7 @@ module _ (w : Whole) (right : Right w) (good : types_fine w.program.types ≡ tr
 
     ---- The body
 
-    module _ (fuel : ℕ) (calls : Calls) (le_fuel : most ≤ fuel) (serves : (s : Objects) (cs : List Cell) (m : List Area) → Entered s m → Serves w (above l k (with_frame cs s)) fuel calls) where
+    module _ (fuel : ℕ) (calls : Calls) (top : ℕ) (le_top : top ≤ most) (le_fuel : top ≤ fuel) (serves : (s : Objects) (cs : List Cell) (m : List Area) → Entered s m → Serves w (above l k (with_frame cs s)) fuel calls) where
       abbrev rest_of_call : List Cell → Act (Option Cell)
       rest_of_call cs = within cs (λ frame. effects_of p calls (record { procedure = g; frame = frame; arguments = hs }) fuel q.body >>= λ _. answer p calls (record { procedure = g; frame = frame; arguments = hs }) q.answer >>= λ r. spend >>= λ _. give r)
 
@@ -254,7 +254,7 @@ module _ (w : Whole) (right : Right w) (good : types_fine w.program.types ≡ tr
       whole_with act t n = after (act t) (λ (r : Option Cell) t2. Gives r (record t2 { store = without_frame n t2.store }))
 
       -- behind the entry's code
-      body_goes : (t : At Objects) (cells cs : List Cell) (m0 : List Area) (bound : ℕ) (values : ℕ → ℕ) (m : List Area) → cs ≡ cells ++ replicate (cells_of_all p.types q.locals) (Bits 0) → received q.formals hs ≡ Some cells → bound ≤ most → Entered t.store m0 → Beyond l.local m0 m → length cs ≡ k.cells → length xs ≤ begins.values
+      body_goes : (t : At Objects) (cells cs : List Cell) (m0 : List Area) (bound : ℕ) (values : ℕ → ℕ) (m : List Area) → cs ≡ cells ++ replicate (cells_of_all p.types q.locals) (Bits 0) → received q.formals hs ≡ Some cells → bound ≤ top → Entered t.store m0 → Beyond l.local m0 m → length cs ≡ k.cells → length xs ≤ begins.values
           → ((a : ℕ) → a < length xs → values a ≡ slice_index xs a) → ((i j : ℕ) (v : Cell) → slice_get cs i ≡ Some v → k.own i ≡ Some j → ValueIs w (sizes_of t.store) v (word m j)) → Firsts w t.store xs (pairs_of q) cs → EnvIs w t.store xs lent (pairs_of q) made_env.result begins.values values
           → Came_to w bound 1 t.turns t.out (runs_at (above l k (with_frame cs t.store)) (position begins) values m t.store) free_env → Goes w (rest_of_call cs t) (Back w l def c f t.store most free)
       body_goes t cells cs m0 bound values m cs_is is le entered beyond long many given_words puts firsts env at =
@@ -282,7 +282,7 @@ module _ (w : Whole) (right : Right w) (good : types_fine w.program.types ≡ tr
           (λ x t2 d. then_goes w u (answer p calls (running w u) q.answer) (λ r. spend >>= λ _. give r) t2
           (serve.result.by bound 1 made_body.after d.values t2 free_body last_point (omega (arith, le, le_fuel)) (omega arith) (omega arith) (stand_rest w.procedures g made_body.pieces made_answer.pieces stand_4) (λ h. omega arith)
           (λ h. let e = room_is h in let z = has_points h in omega (arith, e, z)) ((steady_given w u).by begins.values made_body.after.values values d.values t1.store t2.store (serve.body.grows.by begins) d.same d.later names) d.typed d.ready)
-          (λ r t3 d3. returns w l stacked g hs xs def most c f free op rest stands def_is within_all coded counted few_calls few_cells (let room = words_room in omega (arith, room)) (with_frame cs t.store) t.store cs m0 bound (position made_answer.after) d3.values made_answer.result t3 r refl entered.held le (ends u refl) is_given d3.ready d3.is)))
+          (λ r t3 d3. returns w l stacked g hs xs def most c f free op rest stands def_is within_all coded counted few_calls few_cells (let room = words_room in omega (arith, room)) (with_frame cs t.store) t.store cs m0 bound (position made_answer.after) d3.values made_answer.result t3 r refl entered.held (omega (arith, le, le_top)) (ends u refl) is_given d3.ready d3.is)))
           (λ r t4 b. record { by = b }))
         where
           typed_inside : (s : Objects) (cells cs : List Cell) (m0 : List Area) → cs ≡ cells ++ replicate (cells_of_all p.types q.locals) (Bits 0) → received q.formals hs ≡ Some cells → Entered s m0 → Typing w (above l k (with_frame cs s)) (with_frame cs s)
@@ -300,7 +300,7 @@ module _ (w : Whole) (right : Right w) (good : types_fine w.program.types ≡ tr
           first_value t cs values x v firsts env lt reg cell =
               let z = type_at w l g hs xs (frame_at l c f) t.store x lt in
               registers_first w t.store xs mine lent 0 (wide_in p (pairs_of q)) (pairs_of q) cs made_env.result begins.values values x z.0 no_variable v env firsts z.1
-              (subst (λ vs. in_register p (lay p) mine (slice_index_or vs x no_variable).site ≡ true) (variables_are w l g hs xs (frame_at l c f)) reg) (ap (slice_get cs) (sym (cell_is w l g hs xs (frame_at l c f) t.store x)) ∙ cell)
+              (subst (λ vs. in_register p (lay p) mine (slice_index_or vs x no_variable).site ≡ true) (variables_are w l g hs xs (frame_at l c f)) (and_of (nat_lt x (length (locals_of q))) (in_register p (lay p) mine (slice_index_or mine.variables x no_variable).site) reg).1) (ap (slice_get cs) (sym (cell_is w l g hs xs (frame_at l c f) t.store x)) ∙ cell)
 
       ---- The entry's code
 
@@ -346,7 +346,7 @@ module _ (w : Whole) (right : Right w) (good : types_fine w.program.types ≡ tr
 
       -- the variables' first values
       variables_go : (t : At Objects) (m0 : List Area) (cells : List Cell) (before : Cursor) (given_values : ℕ → ℕ) (s : At Objects) → (entered : Entered t.store m0) → (held0 : Held w l s.store m0) → received q.formals hs ≡ Some cells → length xs ≤ before.values → ((a : ℕ) → a < length xs → given_values a ≡ slice_index xs a)
-          → (bound : ℕ) → bound ≤ most → (values : ℕ → ℕ) (memory : List Area) → Came_to w bound 1 t.turns t.out (runs_at (above l k s.store) (position made_zeros.after) values memory t.store) free_zeros → Beyond l.local m0 memory
+          → (bound : ℕ) → bound ≤ top → (values : ℕ → ℕ) (memory : List Area) → Came_to w bound 1 t.turns t.out (runs_at (above l k s.store) (position made_zeros.after) values memory t.store) free_zeros → Beyond l.local m0 memory
           → ((i : ℕ) → l.local ≤ i → i < l.local + wide_in p (pairs_of q) → word memory i ≡ 0) → Same before.values given_values values → before.values ≤ made_zeros.after.values → (flag ≡ true → 1 ≤ made_zeros.after.values) → Goes w (rest_of_call (cells ++ own_zeros) t) (Back w l def c f t.store most free)
       variables_go t m0 cells before given_values s entered held0 is many given_words bound le values memory at beyond zeros same more made =
           let cs = cells ++ own_zeros in
@@ -371,7 +371,7 @@ module _ (w : Whole) (right : Right w) (good : types_fine w.program.types ≡ tr
           body_goes t cells cs m0 bound y.values y.memory refl is le entered y.is.0.0.beyond (cells_long cells is) y.is.0.0.many y.is.0.0.given (λ i j v at own. y.is.0.1.1.0 i j v at own) firsts y.is.1 y.reached
 
       -- behind the entry
-      opening_goes : (s : At Objects) (m0 : List Area) (cells : List Cell) (bound : ℕ) → bound ≤ most → Entered s.store m0 → received q.formals hs ≡ Some cells → Came_to w bound 1 s.turns s.out (runs_at (above l k s.store) (position (at_entry words)) (first_values pr xs) m0 s.store) free_entry
+      opening_goes : (s : At Objects) (m0 : List Area) (cells : List Cell) (bound : ℕ) → bound ≤ top → Entered s.store m0 → received q.formals hs ≡ Some cells → Came_to w bound 1 s.turns s.out (runs_at (above l k s.store) (position (at_entry words)) (first_values pr xs) m0 s.store) free_entry
           → Goes w ((spend_all (zeroed p q) >>= λ (x : Unit {0}). rest_of_call (cells ++ own_zeros)) s) (Back w l def c f s.store most free)
       opening_goes s m0 cells bound le entered is at =
           let long = words_length w l s.store q.formals hs xs entered.words in
@@ -394,7 +394,7 @@ module _ (w : Whole) (right : Right w) (good : types_fine w.program.types ≡ tr
       behind_tests cells = spend_all (zeroed p q) >>= λ (x : Unit {0}). rest_of_call (cells ++ own_zeros)
 
       -- from the entry
-      tested_goes : (s : At Objects) (m0 : List Area) (cells : List Cell) (bound : ℕ) → bound ≤ most → Entered s.store m0 → received q.formals hs ≡ Some cells → Came_to w bound 0 s.turns s.out (Enters g xs (frame_at l c f ∷ l.callers) (world_of l m0 s.store)) (λ h. h (Entry g) + free_entry h)
+      tested_goes : (s : At Objects) (m0 : List Area) (cells : List Cell) (bound : ℕ) → bound ≤ top → Entered s.store m0 → received q.formals hs ≡ Some cells → Came_to w bound 0 s.turns s.out (Enters g xs (frame_at l c f ∷ l.callers) (world_of l m0 s.store)) (λ h. h (Entry g) + free_entry h)
           → Goes w (behind_tests cells s) (Back w l def c f s.store most free)
       tested_goes s m0 cells bound le entered is at =
           opening_goes s m0 cells bound le entered is
@@ -428,9 +428,9 @@ module _ (w : Whole) (right : Right w) (good : types_fine w.program.types ≡ tr
       and_false true = refl
       and_false false = refl
 
-  module _ (fuel : ℕ) (calls : Calls) (le_fuel : most ≤ fuel) (serves : (s : Objects) (cs : List Cell) (m : List Area) → Entered s m → sum l.sizes + k.cells ≤ local_words → Serves w (above l k (with_frame cs s)) fuel calls) where
-    abbrev full_room : (Point → ℕ) → ℕ
-    full_room h = h (Entry g) + free_entry h
+  module _ (fuel : ℕ) (calls : Calls) (top : ℕ) (le_top : top ≤ most) (le_fuel : top ≤ fuel) (serves : (s : Objects) (cs : List Cell) (m : List Area) → Entered s m → sum l.sizes + k.cells ≤ local_words → Serves w (above l k (with_frame cs s)) fuel calls) where
+    abbrev pub full_room : (Point → ℕ) → ℕ
+    full_room h = whole_weight p (lay p) g q h + shared h
 
     -- what a call does behind its first turn, where its cells are known
     abbrev behind : List Cell → Act (Option Cell)
@@ -445,7 +445,7 @@ module _ (w : Whole) (right : Right w) (good : types_fine w.program.types ≡ tr
     sizes_sum : (all : List (List Cell)) → cells_in all ≡ sum (map length all)
     sizes_sum all = sym (sum-map (λ (cs : List Cell). length cs) all)
 
-    module _ (s : At Objects) (m0 : List Area) (bound : ℕ) (le : bound ≤ most) (entered : Entered s.store m0) (at : Came_to w bound 0 s.turns s.out (Enters g xs (frame_at l c f ∷ l.callers) (world_of l m0 s.store)) full_room) where
+    module _ (s : At Objects) (m0 : List Area) (bound : ℕ) (le : bound ≤ top) (entered : Entered s.store m0) (at : Came_to w bound 0 s.turns s.out (Enters g xs (frame_at l c f ∷ l.callers) (world_of l m0 s.store)) full_room) where
       abbrev Q : Option Cell → At Objects → Type 0
       Q = Back w l def c f s.store most free
 
@@ -464,7 +464,8 @@ module _ (w : Whole) (right : Right w) (good : types_fine w.program.types ≡ tr
           more_than a b h = grind (arith, nat_tests)
       by_cells cells is lt true e =
           let fits : sum l.sizes + k.cells ≤ local_words = let same = many_cells cells is in let ge = at_most (cells_in s.store.frames + (length cells + cells_of_all p.types q.locals)) 1048576 e in omega (arith, same, ge) in
-          tested_goes lt fits entered.held.room.local_ends fuel calls le_fuel (λ s cs m en. serves s cs m en fits) s m0 cells bound le entered is at
+          tested_goes lt fits entered.held.room.local_ends fuel calls top le_top le_fuel (λ s cs m en. serves s cs m en fits) s m0 cells bound le entered is
+          (loosen (system w) (least w.procedures) w.points w.first w.turns bound 0 (λ h. h (Entry g) + free_entry h) at (omega arith) (omega arith) (λ h. let e = room_is h in omega (arith, e)))
         where
           at_most : (a b : ℕ) → nat_le a b ≡ true → a ≤ b
           at_most a b h = grind (arith, nat_tests)

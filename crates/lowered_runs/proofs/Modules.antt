@@ -1,5 +1,5 @@
 -- What holds while a module's body runs: where the variables are, and what its code is.
-use Rattle.std.proofs.Common.{◌≡◌, ℕ, zero, suc, ◌+◌, ◌*◌, ◌%◌, ◌^◌, ◌≤◌, List, [], ◌∷◌, length, take, slice_get, refl, sym, ap, ◌∙◌, arith, Some, None}
+use Rattle.std.proofs.Common.{◌≡◌, ℕ, zero, suc, ◌+◌, ◌*◌, ◌%◌, ◌^◌, ◌≤◌, ◌<◌, true, List, [], ◌∷◌, length, take, slice_get, refl, sym, ap, ◌∙◌, arith, Some, None}
 use Rattle.std.specs.Prelude.{sum, sum_by}
 use Rattle.std.proofs.lemmas.List.Sums.{sum_by-cons}
 use Rattle.block_runs.specs.Points.{AreCodePlaces}
@@ -17,6 +17,20 @@ use Rattle.lowered_runs.specs.Words.{Whole, Level, Right, Sizes, sizes_of, Thing
 use Rattle.lowered_runs.proofs.Starting.{start_of, whole_of, body_level, global_sizes}
 use Rattle.lowered_runs.proofs.Bodies.{module_sizes, modules_are, starts_are, rooms_are, variable_below}
 use Rattle.lowered_runs.proofs.Levels.{Variables}
+use Rattle.lowered_runs.proofs.Calls.{Stacked}
+use Rattle.lowered_runs.proofs.Activations.{DataPlaced}
+use Rattle.lowered_runs.proofs.Callees.{first_block}
+use Rattle.lowered_runs.proofs.Points.{procedure_at}
+use Rattle.std.proofs.Common.{Bool, not, ◌&&◌}
+use Rattle.std.specs.Prelude.{min, nat_lt, nat_le, slice_index_or}
+use Rattle.std.proofs.lemmas.Bool.Decides.{nat_tests}
+use Rattle.block_runs.specs.declared.end.End.TheVariants.{Return}
+use Rattle.block_runs.specs.Blocks.{block_of}
+use Rattle.block_runs.specs.Blocks.{procedure_of as coded}
+use Rattle.ssa_core.specs.Procedures.{procedure}
+use Rattle.ssa_lowered.specs.Pieces.{numbers}
+use Rattle.ssa_lowered.specs.Variables.{words_of}
+use Rattle.ssa_lowered.specs.Lowered.{entry, made_of, proc_of}
 
 nothing_some : {A : Type 0} {x : A} → None ≡ Some x → ⊥
 nothing_some e = cc
@@ -24,6 +38,11 @@ nothing_some e = cc
 take_all : {A : Type 0} (xs : List A) → take (length xs) xs ≡ xs
 take_all [] = refl
 take_all (x ∷ xs) = ap (λ ys. x ∷ ys) (take_all xs)
+
+pub found : (qs : List Declared) (i : ℕ) (none : Declared) → i < length qs → slice_get qs i ≡ Some (slice_index_or qs i none)
+found [] i none lt = absurd (omega (arith, lt))
+found (q ∷ qs) zero none lt = refl
+found (q ∷ qs) (suc i) none lt = found qs i none (omega (arith, lt))
 
 -- as many procedures run as are declared
 pub many : (p : Program) (l : Layout) (f : ℕ) (qs : List Declared) → length (procedures (procs_from p l f qs)) ≡ length qs
@@ -49,7 +68,32 @@ module _ (p : Program) (input : List ℕ) where
     l = body_level p input q j s
 
     pub right_of_code : AreCodePlaces (length (procedures (lowered p))) code → Right w
-    right_of_code are = record { codes = are; callable = λ g h. let e = many p lay 0 p.procedures in let lt = lt_of p g (length p.procedures) (and_of _ _ h).0 in omega (arith, e, lt) }
+    right_of_code are = record {
+      codes = are;
+      callable = λ g h. let e = many p lay 0 p.procedures in let lt = lt_of p g (length p.procedures) (and_of _ _ h).0 in omega (arith, e, lt);
+      may = λ g h xs long.
+          let parts = and_of (nat_lt g (length p.procedures)) (not (procedure_of p g).is_body) h in
+          let lt = lt_of p g (length p.procedures) parts.0 in
+          let e = many p lay 0 p.procedures in
+          let z : 0 + g ≡ g = omega arith in
+          let is = procedure_at p lay 0 p.procedures g (procedure_of p g) (found p.procedures g _ lt) ∙ ap (λ i. procedure (proc_of p lay i (procedure_of p g))) z in
+          let params = ap length (ap (λ x. (block_of x 0).params) is ∙ first_block (entry (words_of (procedure_of p g).formals)) [] (Return (made_of p lay g (procedure_of p g)).result) (made_of p lay g (procedure_of p g)).pieces) ∙ numbers_length 0 (min (words_of (procedure_of p g).formals) 4) in
+          let counted = ap (λ x. x.counted) is ∙ parts.1 in
+          all_hold (is_less g (length (procedures (lowered p))) (omega (arith, e, lt))) counted (is_most (length (block_of (coded (procedures (lowered p)) g) 0).params) (length xs) (omega (arith, params, long)));
+    }
+      where
+        is_less : (a b : ℕ) → a < b → nat_lt a b ≡ true
+        is_less a b h = grind (arith, nat_tests)
+
+        is_most : (a b : ℕ) → a ≤ b → nat_le a b ≡ true
+        is_most a b h = grind (arith, nat_tests)
+
+        all_hold : {a b c : Bool} → a ≡ true → b ≡ true → c ≡ true → (a && (b && c)) ≡ true
+        all_hold e f g = cc
+
+        numbers_length : (i k : ℕ) → length (numbers i k) ≡ k
+        numbers_length i zero = refl
+        numbers_length i (suc k) = ap suc (numbers_length (suc i) k)
 
     pub apart_in_body : Apart l
     apart_in_body = record { registers = λ x lt. absurd (omega (arith, lt)); cells = λ x y other lt. absurd (omega (arith, lt)) }
@@ -58,12 +102,9 @@ module _ (p : Program) (input : List ℕ) where
     none_taken zero = refl
     none_taken (suc x) = refl
 
-    pub variables_in_body : locals_of (procedure_of p q) ≡ [] → globals_room p lay ≤ 0x800000 → Variables w l
-    variables_in_body none small = record {
-      cell = λ x. none_taken x ∙ ap (λ ls. cells_of_all p.types (take x ls)) (sym none);
-      count = ap (λ ls. length ls) (sym none);
-      local = λ x k at. absurd (nothing_some (ap (λ ls. slice_get ls x) (sym none) ∙ at));
-      global = λ m v k at t.
+    pub data_placed : globals_room p lay ≤ 0x800000 → DataPlaced w
+    data_placed small = record {
+      global = λ l m v k at t.
           let below = variable_below p p.modules (record { name = []; objects = []; variables = []; body = 0 }) m v k refl at in
           let a = starts_are p p.modules m in
           let b = rooms_are p (take v (globals_of p m)) in
@@ -77,8 +118,20 @@ module _ (p : Program) (input : List ℕ) where
               ap (λ x. x % 2 ^ 64) (omega (arith, a, b)),
             );
           };
-      done = λ t. record { few = omega arith; row = λ i lt. (data_word + 0 + (0 + i), refl, ap (λ x. x % 2 ^ 64) (omega arith)) };
+      done = λ l t. record { few = omega arith; row = λ i lt. (data_word + 0 + (0 + i), refl, ap (λ x. x % 2 ^ 64) (omega arith)) };
     }
+
+    pub variables_in_body : locals_of (procedure_of p q) ≡ [] → globals_room p lay ≤ 0x800000 → Variables w l
+    variables_in_body none small = record {
+      cell = λ x. none_taken x ∙ ap (λ ls. cells_of_all p.types (take x ls)) (sym none);
+      count = ap (λ ls. length ls) (sym none);
+      local = λ x k at. absurd (nothing_some (ap (λ ls. slice_get ls x) (sym none) ∙ at));
+      global = λ m v k at t. (data_placed small).global l m v k at t;
+      done = λ t. (data_placed small).done l t;
+    }
+
+    pub stacked_body : Stacked l
+    stacked_body = record { beyond = λ o c le. refl; deep = omega arith; own = λ x lt. absurd (omega (arith, lt)); depth = refl }
 
   ---- Memory holds the store for each body alike
 

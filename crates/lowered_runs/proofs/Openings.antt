@@ -217,6 +217,20 @@ module _ (p : Program) where
       by false true more e = inr refl
       by false false more e = later false false (more e)
 
+-- a variable that is lent is in memory
+pub lent_memory : (p : Program) (here : Here) (lent : Mask) (a b : ℕ) (xs : Pairs) (x : ℕ) (none : Variable) → lent x ≡ true → x < length (types_in xs) → in_register p (lay p) here (slice_index_or (placed p.types (lay p) lent (8 * a) (8 * b) xs) x none).site ≡ false
+lent_memory p here lent a b [] x none e lt = absurd (omega (arith, lt))
+lent_memory p here lent a b (y ∷ xs) zero none e lt = subst (λ vs. in_register p (lay p) here (slice_index_or vs 0 none).site ≡ false) (sym (placed_all p lent a b y xs)) (by (is_wide p y.0) (lent 0) e)
+  where
+    by : (t r : Bool) → r ≡ true → in_register p (lay p) here (site_by p (way t r) a b) ≡ false
+    by true r h = refl
+    by false true h = refl
+    by false false h = no h
+lent_memory p here lent a b (y ∷ xs) (suc x) none e lt =
+    let W = way (is_wide p y.0) (lent 0) in
+    subst (λ vs. in_register p (lay p) here (slice_index_or vs (suc x) none).site ≡ false) (sym (placed_all p lent a b y xs))
+    (lent_memory p here (rest lent) (a + wide_of W (size p y.0)) (lent_of W + b) xs x none e (omega (arith, lt)))
+
 -- the cells of a variable, and of all variables, have the numbers with which they begin
 module _ (w : Whole) (z : Objects) (args : List ℕ) where
   abbrev pub Head : ℕ × Option ℕ → List Cell → Type 0
