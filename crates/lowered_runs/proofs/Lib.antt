@@ -31,3 +31,5 @@ pub mod Zeroes
 pub mod Activations
 pub mod Returns
 pub mod Callees
+pub mod Procedures
+pub mod BodiesInOrder

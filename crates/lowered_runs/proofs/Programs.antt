@@ -41,7 +41,13 @@ use Rattle.ssa_lowered.specs.Variables.{structured_room, scalars_lent}
 use Rattle.ssa_lowered.specs.Lowered.{lowered, proc_of, made_of, here_of, deeds_of, at_entry, lent_in_body}
 use Rattle.ssa_lowered.proofs.Stands.{proc_stands}
 use Rattle.lowered_runs.specs.Words.{same_trap, Whole, Level, Held, AreInput}
-use Rattle.lowered_runs.specs.Covered.{body_covered, no_answer, program_covered, BodiesInOrder}
+use Rattle.ob_types.specs.Layout.{kind_of}
+use Rattle.ob_types.specs.LegalTypes.{is_no_kind, formal_legal}
+use Rattle.ob_types.specs.WellFormed.{no_answer}
+use Rattle.ob_types.proofs.WellFormedParts.{parts_of}
+use Rattle.lowered_runs.specs.Covered.{is_simple, covered, answer_covered, procedure_covered, program_covered}
+use Rattle.lowered_runs.proofs.BodiesInOrder.{bodies_in_modules}
+use Rattle.lowered_runs.proofs.Procedures.{each_of, coded_at, calling_all}
 use Rattle.lowered_runs.proofs.Stores.{later_refl}
 use Rattle.lowered_runs.proofs.Standing.{Standing, stand_first, bulk, bulk_append, shared}
 use Rattle.lowered_runs.proofs.Ready.{position, system, world_of, runs_at, Typing, Goes, Came_to, Ready}
@@ -52,7 +58,7 @@ use Rattle.lowered_runs.proofs.Tree.{list_is}
 use Rattle.lowered_runs.proofs.Points.{whole_weight, procedure_at, bodies_weight, bodies_within, declared_at}
 use Rattle.lowered_runs.proofs.Starting.{whole_of, body_level, first_held}
 use Rattle.lowered_runs.proofs.Bodies.{plain_body, standing_in, enters_body, leaves_body}
-use Rattle.lowered_runs.proofs.Modules.{room_sizes, right_of_code, apart_in_body, variables_in_body, held_same}
+use Rattle.lowered_runs.proofs.Modules.{room_sizes, right_of_code, apart_in_body, variables_in_body, stacked_body, held_same}
 
 empty_is : {A : Type 0} (xs : List A) → is_empty xs ≡ true → xs ≡ []
 empty_is [] h = refl
@@ -61,11 +67,6 @@ empty_is (x ∷ xs) h = no h
 none_is : (x : Option Checked) → no_answer x ≡ true → x ≡ None
 none_is None h = refl
 none_is (Some x) h = no h
-
-found : (qs : List Declared) (i : ℕ) (none : Declared) → i < length qs → slice_get qs i ≡ Some (slice_index_or qs i none)
-found [] i none lt = absurd (omega (arith, lt))
-found (q ∷ qs) zero none lt = refl
-found (q ∷ qs) (suc i) none lt = found qs i none (omega (arith, lt))
 
 -- what is behind a place begins there
 at_drop : (j : ℕ) (xs : List ℕ) (y : ℕ) (ys : List ℕ) → drop j xs ≡ y ∷ ys → (slice_get xs j ≡ Some y) × (drop (suc j) xs ≡ ys)
@@ -109,8 +110,9 @@ module _ (p : Program) (input : List ℕ) (code : ℕ → ℕ) (constants : List
     pub held : Held w (level 0 j s.store) s.store memory
     pub typed : Typing w (level 0 j s.store) s.store
 
-  module _ (good : types_fine p.types ≡ true) (all_fine : (f : ℕ) → f < length p.procedures → WellFormed.procedure_fine p f ≡ true) (codes : AreCodePlaces (length ps) code) (small : globals_room p lay ≤ 0x800000) where
-    module _ (j : ℕ) (m : Module) (ms : List Module) (s : Moment Store) (fine : WellFormed.module_fine p m ≡ true) (ok : (body_covered p (procedure_of p m.body) && no_answer (procedure_of p m.body).answer) ≡ true) where
+  module _ (good : types_fine p.types ≡ true) (all_fine : (f : ℕ) → f < length p.procedures → WellFormed.procedure_fine p f ≡ true) (codes : AreCodePlaces (length ps) code) (small : globals_room p lay ≤ 0x800000)
+      (covers : (f : ℕ) → f < length p.procedures → procedure_covered (procedure_of p f) ≡ true) where
+    module _ (j : ℕ) (m : Module) (ms : List Module) (s : Moment Store) (fine : WellFormed.module_fine p m ≡ true) where
       abbrev q : ℕ
       q = m.body
 
@@ -120,26 +122,29 @@ module _ (p : Program) (input : List ℕ) (code : ℕ → ℕ) (constants : List
       abbrev l : Level
       l = level m.body j s.store
 
-      split : ((nat_lt m.body (length p.procedures) && d.is_body) ≡ true) × ((is_empty d.formals && is_empty d.locals) ≡ true)
-      split = and_of (nat_lt m.body (length p.procedures) && d.is_body) (is_empty d.formals && is_empty d.locals) fine
+      split : ((nat_lt m.body (length p.procedures) && d.is_body) ≡ true) × (((is_empty d.formals && is_empty d.locals) && (is_no_kind (kind_of p.types d.result) && no_answer d.answer)) ≡ true)
+      split = and_of (nat_lt m.body (length p.procedures) && d.is_body) ((is_empty d.formals && is_empty d.locals) && (is_no_kind (kind_of p.types d.result) && no_answer d.answer)) fine
+
+      plain : ((is_empty d.formals && is_empty d.locals) ≡ true) × ((is_no_kind (kind_of p.types d.result) && no_answer d.answer) ≡ true)
+      plain = and_of (is_empty d.formals && is_empty d.locals) (is_no_kind (kind_of p.types d.result) && no_answer d.answer) split.1
 
       there : q < length p.procedures
       there = lt_of p q (length p.procedures) (and_of (nat_lt m.body (length p.procedures)) d.is_body split.0).0
 
       no_formals : d.formals ≡ []
-      no_formals = empty_is d.formals (and_of (is_empty d.formals) (is_empty d.locals) split.1).0
+      no_formals = empty_is d.formals (and_of (is_empty d.formals) (is_empty d.locals) plain.0).0
 
       no_locals : d.locals ≡ []
-      no_locals = empty_is d.locals (and_of (is_empty d.formals) (is_empty d.locals) split.1).1
+      no_locals = empty_is d.locals (and_of (is_empty d.formals) (is_empty d.locals) plain.0).1
 
       no_result : d.answer ≡ None
-      no_result = none_is d.answer (and_of (body_covered p d) (no_answer d.answer) ok).1
+      no_result = none_is d.answer (and_of (is_no_kind (kind_of p.types d.result)) (no_answer d.answer) plain.1).1
 
       none : locals_of d ≡ []
       none = ap₂ (λ a b. map (λ x. x.type_number) (filter (λ x. is_value x.mode) a) ++ b) no_formals no_locals
 
       is_at : coded ps q ≡ procedure (proc_of p lay q d)
-      is_at = let z : 0 + q ≡ q = omega arith in procedure_at p lay 0 p.procedures q d (found p.procedures q _ there) ∙ ap (λ i. procedure (proc_of p lay i d)) z
+      is_at = coded_at p input code constants n q there
 
       uncounted : not d.is_body ≡ false
       uncounted = ap not (and_of (nat_lt m.body (length p.procedures)) d.is_body split.0).1
@@ -211,11 +216,12 @@ module _ (p : Program) (input : List ℕ) (code : ℕ → ℕ) (constants : List
       body_runs : slice_get (bodies ps) j ≡ Some q → ((h : Point → ℕ) → left j (m ∷ ms) h + shared h ≤ weigh h w.points) → Between j (m ∷ ms) s
           → Goes w (effects_of p (at_most p n) (record { procedure = q; frame = 0; arguments = [] }) n d.body s) (λ u t. Between (suc j) ms t)
       body_runs is fits b =
-          let parts = and_of (all (WellFormed.formal_fine p) d.formals) (all (WellFormed.fine p q) d.body && WellFormed.answer_fine p q (WellFormed.form_of p d.result) d.answer) (all_fine q there) in
+          let parts = and_of (all (formal_legal p.types) d.formals) (all (WellFormed.fine p q) d.body && WellFormed.answer_fine p q (WellFormed.form_of p d.result) d.answer) (all_fine q there) in
           let body = and_of (all (WellFormed.fine p q) d.body) (WellFormed.answer_fine p q (WellFormed.form_of p d.result) d.answer) parts.1 in
+          let cover = and_of (all (λ x. is_simple x.mode) d.formals) (all covered d.body && answer_covered d.answer) (covers q there) in
           goes_on w l (effects_of p (at_most p n) (record { procedure = q; frame = 0; arguments = [] }) n d.body s)
           ((list_is w l (right_of_code p input code constants n q j s.store codes) (apart_in_body p input code constants n q j s.store) (variables_in_body p input code constants n q j s.store none small) good (at_most p n) (s_at_most p good all_fine n)
-          (sym (ap (λ ls. joined (forms p.types) ls) none)) (subst (λ xs. AllTaken p good [] s.store.tags xs []) (sym no_formals) tt) n (λ x. true) d.body body.0 (and_of (body_covered p d) (no_answer d.answer) ok).0 (λ x. refl)).by
+          (sym (ap (λ ls. joined (forms p.types) ls) none)) (subst (λ xs. AllTaken p good [] s.store.tags xs []) (sym no_formals) tt) (stacked_body p input code constants n q j s.store) cover.0 n (calling_all p input code constants n good all_fine codes small covers n) (λ x. true) d.body body.0 (and_of (all covered d.body) (answer_covered d.answer) cover.1).0 (λ x. refl) (λ x e. refl)).by
           n 1 first (first_values (procedure (proc_of p lay q d)) []) s enough behind (omega arith) (omega arith) (omega arith) stands (λ h. omega arith) (λ h. let e = weight h in let f = fits h in omega (arith, e, f))
           (λ k x h f at. absurd (nothing (ap (λ xs. slice_get xs k) (sym no_formals) ∙ at))) b.typed (ready is b))
           (λ u t z. next_body t z)
@@ -224,9 +230,9 @@ module _ (p : Program) (input : List ℕ) (code : ℕ → ℕ) (constants : List
           nothing e = cc
 
     -- the bodies from the j-th on, and the end
-    bodies_run : (j : ℕ) (ms : List Module) (s : Moment Store) → drop j (bodies ps) ≡ map (λ m. m.body) ms → all (WellFormed.module_fine p) ms ≡ true → all (λ m. body_covered p (procedure_of p m.body) && no_answer (procedure_of p m.body).answer) ms ≡ true
+    bodies_run : (j : ℕ) (ms : List Module) (s : Moment Store) → drop j (bodies ps) ≡ map (λ m. m.body) ms → all (WellFormed.module_fine p) ms ≡ true
         → ((h : Point → ℕ) → left j ms h + shared h ≤ weigh h w.points) → Between j ms s → Goes w (all_bodies p n ms s) (Stopped HasSense (system w) (least w.procedures) w.points w.first w.turns same_trap (Unit {0}))
-    bodies_run j [] s rest fine ok fits b = record {
+    bodies_run j [] s rest fine fits b = record {
       by = record {
         most = n;
         gain = b.gain;
@@ -237,13 +243,12 @@ module _ (p : Program) (input : List ℕ) (code : ℕ → ℕ) (constants : List
         fits = λ h. omega arith;
       };
     }
-    bodies_run j (m ∷ ms) s rest fine ok fits b =
+    bodies_run j (m ∷ ms) s rest fine fits b =
         let x = and_of (WellFormed.module_fine p m) (all (WellFormed.module_fine p) ms) fine in
-        let y = and_of (body_covered p (procedure_of p m.body) && no_answer (procedure_of p m.body).answer) (all (λ m. body_covered p (procedure_of p m.body) && no_answer (procedure_of p m.body).answer) ms) ok in
         let z = at_drop j (bodies ps) m.body (map (λ m. m.body) ms) rest in
         then_goes w (level m.body j s.store) (effects_of p (at_most p n) (record { procedure = m.body; frame = 0; arguments = [] }) n (procedure_of p m.body).body) (λ u. all_bodies p n ms) s
-        (body_runs j m ms s x.0 y.0 z.0 fits b)
-        (λ u t c. bodies_run (suc j) ms t z.1 x.1 y.1 (λ h. let f = fits h in omega (arith, f)) c)
+        (body_runs j m ms s x.0 z.0 fits b)
+        (λ u t c. bodies_run (suc j) ms t z.1 x.1 (λ h. let f = fits h in omega (arith, f)) c)
 
   -- the room for all bodies
   abbrev begins : (Point → ℕ) → ℕ → ℕ → ℕ
@@ -258,7 +263,7 @@ module _ (p : Program) (input : List ℕ) (code : ℕ → ℕ) (constants : List
   left_is h j [] = omega arith
   left_is h j (m ∷ ms) = let e = left_is h (suc j) ms in omega (arith, e)
 
-  enough_room : BodiesInOrder p → (h : Point → ℕ) → left 0 p.modules h + shared h ≤ weigh h w.points
+  enough_room : bodies ps ≡ map (λ m. m.body) p.modules → (h : Point → ℕ) → left 0 p.modules h + shared h ≤ weigh h w.points
   enough_room order h =
       let starts_at = map Begin (places_from 0 (suc (length (bodies ps)))) in
       let a = weigh-append h starts_at (routine_points ++ points_of_all procedure_points 0 ps) in
@@ -275,22 +280,18 @@ module _ (p : Program) (input : List ℕ) (code : ℕ → ℕ) (constants : List
   makes_no_nonsense (Spent out) m = tt
 
   -- the procedures keep up with the meaning
-  pub keeps_up : well_formed p ≡ true → AreInput input → program_covered p ≡ true → BodiesInOrder p → AreCodePlaces (length ps) code → globals_room p lay ≤ 0x800000 → globals_room p lay + length constants ≤ 0x10000000 → AreBytes constants
+  pub keeps_up : well_formed p ≡ true → AreInput input → program_covered p ≡ true → AreCodePlaces (length ps) code → globals_room p lay ≤ 0x800000 → globals_room p lay + length constants ≤ 0x10000000 → AreBytes constants
       → Keeps (block_system ps code) (least ps) (all_points ps) same_trap (first_state (globals_room p lay) constants input) n (meaning p input n)
-  keeps_up h bytes ok order codes small room are =
-      let rest = all (WellFormed.module_fine p) p.modules && all_below (length p.procedures) (WellFormed.procedure_fine p) in
-      let a = and_of (types_fine p.types && WellFormed.counts_fine p) (all (all (λ c. nat_lt c 256)) (texts_of p.procedures) && rest) h in
-      let table = and_of (types_fine p.types) (WellFormed.counts_fine p) a.0 in
-      let b = and_of (all (all (λ c. nat_lt c 256)) (texts_of p.procedures)) rest a.1 in
-      let c = and_of (all (WellFormed.module_fine p) p.modules) (all_below (length p.procedures) (WellFormed.procedure_fine p)) b.1 in
-      let all_fine = below (length p.procedures) (WellFormed.procedure_fine p) c.1 in
+  keeps_up h bytes ok codes small room are =
+      let parts = parts_of p h in
+      let order = bodies_in_modules p h in
       let sizes = room_sizes p input in
       keeps_comes HasSense (system w) (least w.procedures) w.points w.first w.turns same_trap (all_bodies p n p.modules (record { store = start p input; out = []; turns = n }))
       (makes_no_nonsense (all_bodies p n p.modules (record { store = start p input; out = []; turns = n })) (makes_sense p input n h bytes))
-      (bodies_run table.0 all_fine codes small 0 p.modules (record { store = start p input; out = []; turns = n }) order c.0 ok (enough_room order) (record {
+      (bodies_run parts.table parts.procedures codes small (λ f lt. each_of procedure_covered p.procedures f _ ok lt) 0 p.modules (record { store = start p input; out = []; turns = n }) order parts.modules (enough_room order) (record {
         gain = 0;
         memory = (first_world (globals_room p lay) constants input).memory;
         reached = starts (system w) (least w.procedures) w.points w.first w.turns (left 0 p.modules) (λ h. let e = enough_room order h in omega (arith, e));
         held = first_held p input code constants n room are (sym sizes) (omega (arith, sizes, small)) bytes 0 0;
-        typed = start_typed p table.0 all_fine input b.0 bytes;
+        typed = start_typed p parts.table parts.procedures input parts.texts bytes;
       }))

@@ -7,7 +7,6 @@ pub sample_runs : CanRun sample [] [] (λ g. suc g)
 sample_runs = record {
   fine = refl;
   covers = refl;
-  order = refl;
   numbers = refl;
   bytes = λ i. omega arith;
   places = record { few = λ g lt. omega (arith, lt); nowhere = λ g lt e. absurd (omega (arith, e)); apart = λ g h lt less e. omega (arith, e) };

@@ -12,7 +12,7 @@ use Rattle.ob_types.specs.declared.program.Program.{Program}
 use Rattle.ssa_core.specs.Procedures.{procedures}
 use Rattle.ssa_lowered.specs.Data.{in_cells, globals_room}
 use Rattle.ssa_lowered.specs.Lowered.{lowered}
-use Rattle.lowered_runs.specs.Covered.{program_covered, BodiesInOrder}
+use Rattle.lowered_runs.specs.Covered.{program_covered}
 use Rattle.lowered_runs.specs.Words.{same_trap, AreInput}
 
 -- what runs
@@ -22,12 +22,11 @@ code_of p = procedures (lowered p)
 abbrev pub data_bytes : Program → ℕ
 data_bytes p = globals_room p (in_cells p.types)
 
--- a well-formed program that has only what is covered and whose bodies are in order; its input; the bytes behind the globals; the addresses of
--- its code; there are at most 8 MiB of globals, and the bytes behind them leave room for what comes then
+-- a well-formed program that has only what is covered; its input; the bytes behind the globals; the addresses of its code; there are at most
+-- 8 MiB of globals, and the bytes behind them leave room for what comes then
 pub record CanRun (p : Program) (input constants : List ℕ) (code : ℕ → ℕ) : Type 0 where
   pub fine : well_formed p ≡ true
   pub covers : program_covered p ≡ true
-  pub order : BodiesInOrder p
   pub numbers : AreInput input
   pub bytes : AreBytes constants
   pub places : AreCodePlaces (length (code_of p)) code

@@ -4,6 +4,6 @@ use Rattle.lowered_runs.proofs.laws.programs_keep_up.Goals as goal
 
 pub returns : goal.returns
 returns c = record {
-  covered = λ p input constants code n h. keeps_up p input code constants n h.fine h.numbers h.covers h.order h.places h.globals h.room h.bytes;
+  covered = λ p input constants code n h. keeps_up p input code constants n h.fine h.numbers h.covers h.places h.globals h.room h.bytes;
   some = sample_runs;
 }
