@@ -1,15 +1,12 @@
 -- A procedure's call: its variables with their first values, its parameters, and the level that it adds.
-use Rattle.std.proofs.Common.{◌≡◌, ◌≢◌, ℕ, zero, suc, ◌+◌, ◌*◌, ◌%◌, ◌^◌, ◌<◌, ◌≤◌, ◌⊎◌, inl, inr, ⊎_elim, List, [], ◌∷◌, ◌++◌, map, length, take, drop, replicate, filter, Bool, true, false, not, cond, ◌&&◌, slice_get, slice_index, refl, sym, ap, ap₂, ◌∙◌, subst, arith, Option, Some, None, length-append}
-use Rattle.std.specs.Prelude.{◌-◌, ◌||◌, is_some, slice_index_or, sum, sum_by, option_map, if◌then◌else◌}
-use Rattle.std.specs.List.{list_any}
-use Rattle.std.proofs.lemmas.Bool.{cases_lt, cases_eq}
-use Rattle.std.proofs.lemmas.List.{map-append, length-replicate}
+use Rattle.std.proofs.Common.{◌≡◌, ◌≢◌, ℕ, zero, suc, ◌+◌, ◌*◌, ◌^◌, ◌<◌, ◌≤◌, inl, inr, ⊎_elim, List, [], ◌∷◌, ◌++◌, map, length, take, drop, replicate, filter, Bool, true, false, cond, ◌&&◌, slice_get, slice_index, refl, sym, ap, ap₂, ◌∙◌, subst, arith, Option, Some, None, length-append}
+use Rattle.std.specs.Prelude.{◌||◌, is_some, slice_index_or, sum_by, if◌then◌else◌}
+use Rattle.std.proofs.lemmas.Bool.{cases_lt}
+use Rattle.std.proofs.lemmas.List.{map-append}
 use Rattle.std.proofs.lemmas.List.Sums.{sum_by-cons}
-use Rattle.a64_memory.specs.Memory.{Area}
-use Rattle.wrapping_numbers.specs.Numbers.{sub64}
 use Rattle.block_runs.specs.States.{Frame}
-use Rattle.ob_types.specs.Forms.{Form, scalar_form, joined, forms, all, types_fine}
-use Rattle.ob_types.specs.Layout.{kind_of, cells, cells_by, cells_of_all, record_cells}
+use Rattle.ob_types.specs.Forms.{scalar_form, joined, forms, all, types_fine}
+use Rattle.ob_types.specs.Layout.{kind_of, cells, cells_of_all, record_cells}
 use Rattle.ob_types.specs.LegalTypes.{formal_legal, mode_fits}
 use Rattle.ob_types.specs.Meaning.{globals_of, locals_of, is_value, receives, received, zeroed, structured_by}
 use Rattle.ob_types.specs.Meaning.{procedure_of as declared_of}
@@ -22,21 +19,21 @@ use Rattle.ob_types.specs.declared.types.Mode.{Mode}
 use Rattle.ob_types.specs.declared.types.Mode.TheVariants.{Place}
 use Rattle.ob_types.specs.declared.types.Mode.TheVariants.{Value as OfValue, Record as OfRecord, Open as OfOpen}
 use Rattle.ob_types.specs.declared.types.TypeKind.{TypeKind}
-use Rattle.ob_types.specs.declared.types.TypeKind.TheVariants.{Int, Char, Byte, Nil, Array, Nothing}
-use Rattle.ob_types.specs.declared.types.TypeKind.TheVariants.{Bool as Boolean, Set as SetOf, Text as TextOf, Record as RecordOf, Pointer as PointerTo, Procedure as ProcedureOf}
+use Rattle.ob_types.specs.declared.types.TypeKind.TheVariants.{Array}
+use Rattle.ob_types.specs.declared.types.TypeKind.TheVariants.{Record as RecordOf}
 use Rattle.ob_types.specs.declared.program.Procedure.{Procedure as Declared}
 use Rattle.ob_types.specs.declared.program.Program.{Program}
 use Rattle.ob_types.proofs.Tests.{no, none_some, some_same, and_of}
 use Rattle.ob_sound.proofs.Constructs.{with_is}
 use Rattle.ssa_lowered.specs.Pieces.{Mask}
-use Rattle.ssa_lowered.specs.Values.{Named, At, Beside}
+use Rattle.ssa_lowered.specs.Values.{At, Beside}
 use Rattle.block_runs.specs.First.{data_base}
 use Rattle.ssa_lowered.specs.Data.{global_at}
-use Rattle.ssa_lowered.specs.Variables.{Site, Variable, is_structured, some_structured, structured_room, scalars_lent, placed, value_parameters, words_by, words_of, none, Register, Memory}
+use Rattle.ssa_lowered.specs.Variables.{Site, Variable, is_structured, some_structured, structured_room, scalars_lent, placed, value_parameters, words_by, words_of, none, Register}
 use Rattle.ssa_lowered.specs.Lowered.{Here, here_of, lent_in_body, zeroed_bytes, in_register, variable_of, by_mode}
-use Rattle.lowered_runs.specs.Words.{Whole, Level, sizes_of, heap_word, word_at, ValueIs, Apart, local}
+use Rattle.lowered_runs.specs.Words.{Whole, Level, sizes_of, heap_word, word_at, ValueIs, Apart}
 use Rattle.lowered_runs.proofs.Stores.{some_none}
-use Rattle.lowered_runs.proofs.Homes.{AddressIs, get_index}
+use Rattle.lowered_runs.proofs.Homes.{AddressIs}
 use Rattle.lowered_runs.proofs.Designators.{NamedIs, SecondIs}
 use Rattle.lowered_runs.proofs.Levels.{Variables, LocalIs, Given}
 use Rattle.lowered_runs.proofs.Calls.{OneIs, Words, Stacked}
@@ -44,7 +41,7 @@ use Rattle.lowered_runs.proofs.Frames.{Activation, Laid, above, with_frame, own_
 use Rattle.lowered_runs.proofs.Locals.{Pairs, types_in, lay, size, is_wide, single, wide_of, way, wide_in, lent_in, first, first_grows, wide_bytes, lent_words, words_fit, own_at, own_inside, own_apart, SiteIs, site_is}
 use Rattle.std.proofs.lemmas.Bool.Decides.{nat_tests}
 use Rattle.std.specs.Prelude.{nat_lt}
-use Rattle.lowered_runs.proofs.Openings.{lent_memory, number_of, word_among, Head, Firsts, WordsAmong, wide_some}
+use Rattle.lowered_runs.proofs.Openings.{lent_memory, Firsts, WordsAmong, wide_some}
 
 get_drop : (n : ℕ) (cs : List Cell) (d : ℕ) → slice_get (drop n cs) d ≡ slice_get cs (n + d)
 get_drop zero cs d = let e : d ≡ 0 + d = omega arith in ap (slice_get cs) e
@@ -204,8 +201,10 @@ module _ (w : Whole) (z : Objects) (args : List ℕ) where
         let one = single p k (scalar refl) in
         let f = following_one v u us after in
         subst (λ cs. Firsts w z args ((k, Some v) ∷ (xs ++ ys)) (cs ++ ds)) (sym (value_cells c es cs is)) (
-          ((λ d e lt at. subst (λ y. ValueIs w (sizes_of z) y (slice_index args v)) (only d e c (es ++ ds) (omega (arith, lt, one)) at) (subst (λ y. ValueIs w (sizes_of z) c y) (sym f.0) h.0)),
-          ((λ wide. no (sym (scalar refl) ∙ wide)), (few c (slice_index args v) (subst (λ y. ValueIs w (sizes_of z) c y) (sym f.0) h.0), f.1.0))),
+          (
+            (λ d e lt at. subst (λ y. ValueIs w (sizes_of z) y (slice_index args v)) (only d e c (es ++ ds) (omega (arith, lt, one)) at) (subst (λ y. ValueIs w (sizes_of z) c y) (sym f.0) h.0)),
+            ((λ wide. no (sym (scalar refl) ∙ wide)), (few c (slice_index args v) (subst (λ y. ValueIs w (sizes_of z) c y) (sym f.0) h.0), f.1.0)),
+          ),
           subst (λ n. Firsts w z args (xs ++ ys) (drop n (c ∷ (es ++ ds)))) (sym one) (more us es refl h.1 f.1.1),
         )
       where
@@ -428,13 +427,18 @@ module _ (w : Whole) (l : Level) (g : ℕ) (hs : List Handed) (xs : List ℕ) (c
 
         by : (x k : ℕ) → nat_lt x (length (locals_of q)) ≡ true → SiteOf x k (variable_of w.program (lay w.program) here x).site → LocalIs w u x k
         by x k lt (inl h) = inl (h.0, ap₂ (λ a b. a && b) lt (ap (in_register w.program (lay w.program) here) h.0), h.1)
-        by x k lt (inr h) = inr (8 * h.0, h.1, ap (λ s. nat_lt x (length (locals_of q)) && in_register w.program (lay w.program) here s) h.1 ∙ outside (nat_lt x (length (locals_of q))), λ t. record {
-          few = omega arith;
-          row = λ j lt.
-              let bytes = bytes_are in let fit = h.2 in
-              let e = cell_is x in
-              (l.local + (h.0 + j), own_slot w l activation s (length l.sizes) (activation.cell x + j) refl ∙ ap (λ c. activation.own (c + j)) e ∙ h.3 j lt, omega (arith, bytes, fit, lt, few));
-        })
+        by x k lt (inr h) = inr (
+          8 * h.0,
+          h.1,
+          ap (λ s. nat_lt x (length (locals_of q)) && in_register w.program (lay w.program) here s) h.1 ∙ outside (nat_lt x (length (locals_of q))),
+          λ t. record {
+            few = omega arith;
+            row = λ j lt.
+                let bytes = bytes_are in let fit = h.2 in
+                let e = cell_is x in
+                (l.local + (h.0 + j), own_slot w l activation s (length l.sizes) (activation.cell x + j) refl ∙ ap (λ c. activation.own (c + j)) e ∙ h.3 j lt, omega (arith, bytes, fit, lt, few));
+          },
+        )
 
     -- a variable whose address is made is in memory
     pub lent_above : (x : ℕ) → lent x ≡ true → u.in_register x ≡ false
@@ -471,15 +475,33 @@ module _ (w : Whole) (l : Level) (g : ℕ) (hs : List Handed) (xs : List ℕ) (c
       one_given OfRecord k var (Tagged a r) (x ∷ y ∷ us) on v d words is holding =
           let le = holding.1 in let e : v ≡ v + 0 = omega arith in let e2 : suc v ≡ v + 1 = omega arith in
           let z = with_is w.program good (record_by (kind_of w.program.types k)) (λ r. Some (Dynamic r)) d is in
-          subst (λ d. NamedIs w u none d (Tagged a r) (Beside v (suc v)) n f (with_frame cs t)) (some_same (Dynamic z.0) d z.2)
-          (omega (arith, le), (omega (arith, le), (a, refl, subst (λ y. AddressIs w u a (record_cells w.program.types r) y (with_frame cs t)) (sym (ap f e ∙ holding.0 0 (omega arith))) (address_above stacked cs t a (record_cells w.program.types r) x words.0),
-          subst (λ y. SecondIs w u (Tagged a r) y) (sym (ap f e2 ∙ holding.0 1 (omega arith))) words.1.0)))
+          subst (λ d. NamedIs w u none d (Tagged a r) (Beside v (suc v)) n f (with_frame cs t)) (some_same (Dynamic z.0) d z.2) (
+            omega (arith, le),
+            (
+              omega (arith, le),
+              (
+                a,
+                refl,
+                subst (λ y. AddressIs w u a (record_cells w.program.types r) y (with_frame cs t)) (sym (ap f e ∙ holding.0 0 (omega arith))) (address_above stacked cs t a (record_cells w.program.types r) x words.0),
+                subst (λ y. SecondIs w u (Tagged a r) y) (sym (ap f e2 ∙ holding.0 1 (omega arith))) words.1.0,
+              ),
+            ),
+          )
       one_given OfOpen k var (Sized a m) (x ∷ y ∷ us) on v d words is holding =
           let le = holding.1 in let e : v ≡ v + 0 = omega arith in let e2 : suc v ≡ v + 1 = omega arith in
           let z = with_is w.program good (open_element (kind_of w.program.types k)) (λ e. Some (OpenOf e var)) d is in
-          subst (λ d. NamedIs w u none d (Sized a m) (Beside v (suc v)) n f (with_frame cs t)) (some_same (OpenOf z.0 var) d z.2)
-          (omega (arith, le), (omega (arith, le), (a, refl, subst (λ y. AddressIs w u a (m * cells w.program.types z.0) y (with_frame cs t)) (sym (ap f e ∙ holding.0 0 (omega arith))) (address_above stacked cs t a (m * cells w.program.types z.0) x (words.0 z.0 z.1)),
-          ap f e2 ∙ holding.0 1 (omega arith) ∙ words.1.0)))
+          subst (λ d. NamedIs w u none d (Sized a m) (Beside v (suc v)) n f (with_frame cs t)) (some_same (OpenOf z.0 var) d z.2) (
+            omega (arith, le),
+            (
+              omega (arith, le),
+              (
+                a,
+                refl,
+                subst (λ y. AddressIs w u a (m * cells w.program.types z.0) y (with_frame cs t)) (sym (ap f e ∙ holding.0 0 (omega arith))) (address_above stacked cs t a (m * cells w.program.types z.0) x (words.0 z.0 z.1)),
+                ap f e2 ∙ holding.0 1 (omega arith) ∙ words.1.0,
+              ),
+            ),
+          )
       one_given _ k var _ _ on v d words is holding = absurd words
 
       one_on : (v x : ℕ) (us : List ℕ) → Holding v (x ∷ us) → Holding (v + 1) us

@@ -3,11 +3,11 @@ use Rattle.std.proofs.Common.{◌≡◌, ℕ, suc, List, [], ◌∷◌, map, Boo
 use Rattle.ob_types.specs.WellFormed.{well_formed, bodies_among}
 use Rattle.ob_types.specs.declared.program.Procedure.{Procedure}
 use Rattle.ob_types.specs.declared.program.Program.{Program}
-use Rattle.ob_types.proofs.WellFormedParts.{Parts, parts_of}
+use Rattle.ob_types.proofs.WellFormedParts.{parts_of}
 use Rattle.block_runs.specs.Blocks.{bodies, bodies_from}
 use Rattle.ssa_core.specs.Procedures.{procedures}
 use Rattle.ssa_lowered.specs.Data.{Layout, in_cells}
-use Rattle.ssa_lowered.specs.Lowered.{lowered, lowered_by, procs_from}
+use Rattle.ssa_lowered.specs.Lowered.{lowered, procs_from}
 
 either_way : (b : Bool) (f : ℕ) (xs ys : List ℕ) → xs ≡ ys → (if not b then xs else (f ∷ xs)) ≡ (if b then (f ∷ ys) else ys)
 either_way true f xs ys h = ap (λ zs. f ∷ zs) h

@@ -1,45 +1,42 @@
 -- A call from its entry to behind it.
-use Rattle.std.proofs.Common.{◌≡◌, ℕ, zero, suc, ◌+◌, ◌*◌, ◌%◌, ◌^◌, ◌<◌, ◌≤◌, ◌⊎◌, inl, inr, ⊎_elim, List, [], ◌∷◌, ◌++◌, map, length, take, drop, replicate, Bool, true, false, not, cond, ◌&&◌, slice_get, slice_index, refl, sym, ap, ap₂, ◌∙◌, subst, arith, Option, Some, None, length-append, ne_eqb}
-use Rattle.std.specs.Prelude.{◌-◌, ◌==◌, ◌||◌, is_some, min, nat_lt, nat_le, sum, sum_by, if◌then◌else◌}
-use Rattle.std.specs.List.{list_any}
+use Rattle.std.proofs.Common.{◌≡◌, ℕ, zero, suc, ◌+◌, ◌*◌, ◌<◌, ◌≤◌, ⊎_elim, List, [], ◌∷◌, ◌++◌, map, length, drop, replicate, Bool, true, false, not, ◌&&◌, slice_get, slice_index, refl, sym, ap, ◌∙◌, subst, arith, Option, Some, None, length-append, ne_eqb}
+use Rattle.std.specs.Prelude.{◌-◌, ◌==◌, min, nat_lt, nat_le, sum, if◌then◌else◌}
 use Rattle.std.proofs.lemmas.Bool.{cases_lt}
 use Rattle.std.proofs.lemmas.Bool.Decides.{nat_tests}
 use Rattle.std.proofs.lemmas.List.{length-replicate}
 use Rattle.std.proofs.lemmas.List.Sums.{sum-map}
 use Rattle.run_laws.specs.Runs.{Moves, Traps, weigh}
-use Rattle.run_laws.specs.Turns.{Ending, Gives, Fails, after, give, look, spend, ◌>>=◌}
+use Rattle.run_laws.specs.Turns.{Ending, Gives, after, give, look, spend, ◌>>=◌}
 use Rattle.run_laws.specs.Turns.{State as At}
 use Rattle.run_laws.proofs.Reached.{pass_quiet, loosen}
-use Rattle.run_laws.proofs.Comes.{comes_bind, comes_spend, comes_spent, comes_trap}
+use Rattle.run_laws.proofs.Comes.{comes_bind, comes_trap}
 use Rattle.a64_memory.specs.Memory.{Area, shapes, covered}
 use Rattle.wrapping_numbers.specs.Numbers.{add64}
 use Rattle.block_runs.specs.declared.end.End.{End}
 use Rattle.block_runs.specs.declared.end.End.TheVariants.{Return}
 use Rattle.block_runs.specs.Blocks.{Operation, Procedure, block_of, block_at, procedure_of}
 use Rattle.block_runs.specs.States.{World, Runs, Enters, Point, Entry, In, Kind}
-use Rattle.block_runs.specs.Steps.{set_all, first_frame, first_values, taken, one_if, enter}
+use Rattle.block_runs.specs.Steps.{set_all, first_frame, first_values, taken, one_if}
 use Rattle.block_runs.specs.Points.{least}
 use Rattle.ob_types.specs.Forms.{all, types_fine}
-use Rattle.ob_types.specs.Layout.{kind_of, cells_of_all}
+use Rattle.ob_types.specs.Layout.{cells_of_all}
 use Rattle.ob_types.specs.LegalTypes.{formal_legal}
 use Rattle.ob_types.specs.Meaning.{locals_of, received, zeroed, cells_in, within, effects_of, answer, invoked}
 use Rattle.ob_types.specs.Meaning.{procedure_of as declared_of}
 use Rattle.ob_types.specs.Sense.{HasSense}
 use Rattle.ob_types.specs.Expressions.{Calls}
-use Rattle.ob_types.specs.Store.{Cell, Bits, Trap, Act, Handed, Senseless, given, unless, spend_all, cell_of}
-use Rattle.ob_types.specs.Store.{Store as Objects, Here as Running, Kind as Trapping}
+use Rattle.ob_types.specs.Store.{Cell, Bits, Trap, Act, Handed, given, unless, spend_all}
+use Rattle.ob_types.specs.Store.{Store as Objects, Kind as Trapping}
 use Rattle.ob_types.specs.declared.program.Procedure.{Procedure as Declared}
 use Rattle.ob_types.specs.declared.program.Program.{Program}
-use Rattle.ob_types.proofs.Tests.{no, and_of}
+use Rattle.ob_types.proofs.Tests.{and_of}
 use Rattle.ob_sound.proofs.Tables.{all_joined, starts, all_cells_length, starts_all}
 use Rattle.ob_sound.proofs.Typed.{AllFit, typed_push}
 use Rattle.ob_sound.proofs.Handing.{AllTaken, FitAll, receive_all, joined_append, fit_append, fit_at, fit_zeros}
 use Rattle.ssa_core.specs.Procedures.{procedure, code_blocks}
 use Rattle.ssa_core.specs.declared.procedure.Op.{Op}
-use Rattle.ssa_lowered.specs.Data.{in_cells}
-use Rattle.ssa_lowered.specs.Pieces.{Cursor, Piece, Appends, Closes, Start, Made, Low, numbers, blocks_of}
-use Rattle.ssa_lowered.specs.Places.{Leaves, Stand}
-use Rattle.ssa_lowered.specs.Variables.{words_of, some_structured, is_structured, further, zeroing, stored, opened, placed}
+use Rattle.ssa_lowered.specs.Pieces.{Cursor, Piece, Appends, Closes, Start, Made, numbers, blocks_of}
+use Rattle.ssa_lowered.specs.Variables.{words_of, some_structured, further, zeroing, stored, opened}
 use Rattle.ob_types.specs.Forms.{joined, forms}
 use Rattle.std.proofs.Common.{filter}
 use Rattle.std.specs.Prelude.{slice_index_or}
@@ -54,16 +51,16 @@ use Rattle.lowered_runs.proofs.Stores.{later_refl}
 use Rattle.lowered_runs.proofs.Values.{Same, put_here, put_else}
 use Rattle.lowered_runs.proofs.Standing.{Standing, stand_first, stand_rest, bulk, bulk_append, shared}
 use Rattle.lowered_runs.proofs.Ready.{Position, position, system, world_of, frame_at, runs_at, Typing, Goes, Came_to, Ready}
-use Rattle.lowered_runs.proofs.Follows.{Follows, DoneTo, then_goes, goes_on, goes_senseless}
+use Rattle.lowered_runs.proofs.Follows.{Follows, then_goes, goes_senseless}
 use Rattle.lowered_runs.proofs.Forks.{Ends_at, nothing}
 use Rattle.lowered_runs.proofs.Structures.{Always}
 use Rattle.lowered_runs.proofs.Homes.{value_few}
 use Rattle.lowered_runs.proofs.Levels.{Given, steady_given, running}
 use Rattle.lowered_runs.proofs.Levels.{here as here_in}
 use Rattle.lowered_runs.proofs.Frames.{Activation, Beyond, above, with_frame, without_frame, own_cell, many_lengths, sum_append, value_frames, held_push}
-use Rattle.lowered_runs.proofs.Locals.{Pairs, types_in, lay, wide_in, lent_in, is_wide, own_at, first}
-use Rattle.lowered_runs.proofs.Calls.{AnswerIs, Words, words_length, Stacked, Calling, Back}
-use Rattle.lowered_runs.proofs.Openings.{Stage, Opens, Went, opens_give, opens_less, FirstWords, Taken, further_opens, Opened, opened_more, Zeros, Puts, Keeps, some_lent, wide_some, some_memory, EnvIs, Firsts, stored_opens, opened_opens, memory_either, registers_first, env_size, env_under, Before, Behind}
+use Rattle.lowered_runs.proofs.Locals.{lay, wide_in}
+use Rattle.lowered_runs.proofs.Calls.{AnswerIs, Words, words_length, Stacked, Back}
+use Rattle.lowered_runs.proofs.Openings.{Opens, opens_give, Taken, further_opens, opened_more, some_lent, wide_some, EnvIs, Firsts, stored_opens, opened_opens, memory_either, registers_first, env_size, env_under, Before, Behind}
 use Rattle.lowered_runs.proofs.Zeroes.{Zeroed, zeroing_goes}
 use Rattle.lowered_runs.proofs.Activations.{pairs_of, types_are, wide_zeroed, none_zeroed, all_first, among_firsts, own_cells, wide_flag, type_at, cell_is, no_variable, activation, zeroed_is, bytes_are, variables_are, laid, given_above}
 use Rattle.lowered_runs.proofs.Returns.{IsGiven, returns}
@@ -145,9 +142,10 @@ module _ (w : Whole) (right : Right w) (good : types_fine w.program.types ≡ tr
 
   ends : (u : Level) → u.proc ≡ g → Ends_at w u made_answer.after.block made_answer.after.op (Return made_answer.result)
   ends u e =
-      let h = (proc_stands p (lay p) g q).1 in
-      (ap (λ n. drop made_answer.after.op (block_of (procedure_of w.procedures n) made_answer.after.block).ops) e ∙ ap (λ x. drop made_answer.after.op (block_at x.blocks made_answer.after.block).ops) coded ∙ h.0,
-      ap (λ n. (block_of (procedure_of w.procedures n) made_answer.after.block).end) e ∙ ap (λ x. (block_at x.blocks made_answer.after.block).end) coded ∙ h.1)
+      let h = (proc_stands p (lay p) g q).1 in (
+        ap (λ n. drop made_answer.after.op (block_of (procedure_of w.procedures n) made_answer.after.block).ops) e ∙ ap (λ x. drop made_answer.after.op (block_at x.blocks made_answer.after.block).ops) coded ∙ h.0,
+        ap (λ n. (block_of (procedure_of w.procedures n) made_answer.after.block).end) e ∙ ap (λ x. (block_at x.blocks made_answer.after.block).end) coded ∙ h.1,
+      )
 
   -- what the parts take
   abbrev last_point : (Point → ℕ) → ℕ

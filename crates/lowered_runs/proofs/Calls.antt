@@ -1,5 +1,5 @@
 -- Calls: argument words, the call's operation, and what is behind it.
-use Rattle.std.proofs.Common.{◌≡◌, ◌*◌, Bool, ℕ, zero, suc, ◌+◌, ◌<◌, ◌≤◌, ◌⊎◌, inl, inr, ⊎_elim, List, [], ◌∷◌, ◌++◌, map, length, true, false, slice_index, refl, sym, ap, ap₂, ◌∙◌, subst, arith, Option, Some, None}
+use Rattle.std.proofs.Common.{◌≡◌, ◌*◌, Bool, ℕ, ◌+◌, ◌<◌, ◌≤◌, ◌⊎◌, inl, inr, List, [], ◌∷◌, ◌++◌, map, length, true, false, slice_index, refl, sym, ap, ◌∙◌, subst, arith, Option, Some, None}
 use Rattle.std.specs.Prelude.{drop, if◌then◌else◌}
 use Rattle.std.proofs.lemmas.List.Sums.{sum_by-cons}
 use Rattle.run_laws.specs.Runs.{Moves, Traps, weigh}
@@ -11,12 +11,12 @@ use Rattle.block_runs.specs.declared.code.Code.{Code}
 use Rattle.block_runs.specs.declared.code.Code.TheVariants.{Call}
 use Rattle.block_runs.specs.Blocks.{Operation, block_of, procedure_of}
 use Rattle.block_runs.specs.States.{Enters, Runs, Point, In, Fault}
-use Rattle.block_runs.specs.Steps.{set, behind, may_call}
+use Rattle.block_runs.specs.Steps.{set, behind}
 use Rattle.block_runs.specs.Points.{least}
 use Rattle.ob_types.specs.Forms.{Form, types_fine}
 use Rattle.ob_types.specs.Layout.{kind_of, cells, record_cells}
 use Rattle.ob_types.specs.Store.{Cell, Store, Address, Handed, At as Addressed, Sized, Tagged, Value, Act, Senseless, given, cell_of}
-use Rattle.ob_types.specs.Expressions.{Calls, cons, by_value, by_place, called_by_number, result_of}
+use Rattle.ob_types.specs.Expressions.{Calls, cons, by_value, called_by_number, result_of}
 use Rattle.ob_types.specs.Meaning.{procedure_of as declared_of}
 use Rattle.ob_types.specs.WellFormed
 use Rattle.ob_types.specs.WellFormed.{callable, open_element}
@@ -25,16 +25,15 @@ use Rattle.ob_types.specs.declared.types.Mode.{Mode}
 use Rattle.ob_types.specs.declared.types.Mode.TheVariants.{Place}
 use Rattle.ob_types.specs.declared.types.Mode.TheVariants.{Value as OfValue, Record as OfRecord, Open as OfOpen}
 use Rattle.ob_types.specs.declared.program.Program.{Program}
-use Rattle.ob_sound.proofs.Typed.{Older}
 use Rattle.ob_sound.proofs.Handing.{AllTaken, all_taken_older}
 use Rattle.ssa_core.specs.Procedures.{operation_of}
 use Rattle.ssa_core.specs.declared.procedure.Op.{Op}
 use Rattle.ssa_lowered.specs.Pieces.{Cursor, Low, Mask, emits, does}
-use Rattle.ssa_lowered.specs.Pieces.{◌>>=◌ as ◌>>>◌, give as gives}
+use Rattle.ssa_lowered.specs.Pieces.{give as gives}
 use Rattle.ssa_lowered.specs.Values.{Request, by_word, also, call, with_result, without_result}
 use Rattle.ssa_lowered.specs.Variables.{words_of, words_by}
 use Rattle.lowered_runs.specs.Words.{Whole, Level, Right, sizes_of, ValueIs, Held, Later, Apart}
-use Rattle.lowered_runs.proofs.Stores.{later_refl, later_on, value_later}
+use Rattle.lowered_runs.proofs.Stores.{later_on, value_later}
 use Rattle.lowered_runs.proofs.Values.{Under, Same, put_here, put_same, under_more, under_at, map_same, off_refl}
 use Rattle.lowered_runs.proofs.Standing.{Standing, bulk}
 use Rattle.lowered_runs.proofs.Ready.{Position, position, system, world_of, frame_at, runs_at, Typing, Goes, Came_to, Ready, ready_more}
@@ -140,8 +139,10 @@ module _ (w : Whole) (l : Level) where
       → Follows w l 0 fuel mask K (OneWord x.mode x.type_number) a low → Follows w l 0 fuel mask K (WordsAre xs) more rest → Follows w l 0 fuel mask K (WordsAre (x ∷ xs)) (cons a more) (also low rest)
   follows_words x xs steady one two = follows_bind w l steady one (λ us. grows_bind w l two.grows (λ vs. grows_give w l (us ++ vs)))
       (λ h us. follows_bind w l (steady_and w l steady (steady_one_word x.mode x.type_number h us)) (follows_known w l (λ n f s z. z.0) two) (λ vs. grows_give w l (us ++ vs))
-      (λ hs vs. follows_give w l (h ∷ hs) (us ++ vs) (λ n f s z. (under_append n us vs z.0.1.0 z.1.0,
-      subst (λ ys. OneIs s x.mode x.type_number h ys (λ rest. Words s xs hs rest)) (sym (map_append f us vs)) (one_append s x.mode x.type_number h (map f us) (map f vs) (λ rest. Words s xs hs rest) z.1.1 z.0.1.1)))))
+      (λ hs vs. follows_give w l (h ∷ hs) (us ++ vs) (λ n f s z. (
+        under_append n us vs z.0.1.0 z.1.0,
+        subst (λ ys. OneIs s x.mode x.type_number h ys (λ rest. Words s xs hs rest)) (sym (map_append f us vs)) (one_append s x.mode x.type_number h (map f us) (map f vs) (λ rest. Words s xs hs rest) z.1.1 z.0.1.1),
+      ))))
 
 -- what is behind RETURN
 abbrev pub AnswerIs : (w : Whole) (l : Level) → Option Cell → Option ℕ → Fact

@@ -1,15 +1,14 @@
 -- A call's object on top of those that are there, and off again.
-use Rattle.std.proofs.Common.{◌≡◌, ◌≢◌, ℕ, zero, suc, ◌+◌, ◌*◌, ◌<◌, ◌≤◌, ◌⊎◌, inl, inr, ⊎_elim, List, [], ◌∷◌, ◌++◌, map, length, take, Bool, true, false, cond, nat_eq, slice_get, slice_index, refl, sym, ap, ap₂, ◌∙◌, subst, arith, eq-eqb, ne_eqb, Option, Some, None, length-append}
-use Rattle.std.specs.Prelude.{slice_index_or, sum, sum_by, option_map}
-use Rattle.std.proofs.lemmas.Bool.{cases_eq, cases_lt}
+use Rattle.std.proofs.Common.{◌≡◌, ◌≢◌, ℕ, zero, suc, ◌+◌, ◌<◌, ◌≤◌, ◌⊎◌, inl, inr, List, [], ◌∷◌, ◌++◌, map, length, take, Bool, cond, nat_eq, slice_get, slice_index, refl, sym, ap, ap₂, ◌∙◌, subst, arith, eq-eqb, ne_eqb, Option, Some, None}
+use Rattle.std.specs.Prelude.{sum, sum_by, option_map}
 use Rattle.std.proofs.lemmas.List.Sums.{sum_by-cons}
-use Rattle.a64_memory.specs.Memory.{shapes, covered, IsRising, IsOfBytes}
+use Rattle.a64_memory.specs.Memory.{shapes, IsRising, IsOfBytes}
 use Rattle.a64_memory.specs.Memory.{Area as Region}
 use Rattle.block_runs.specs.States.{Frame}
 use Rattle.ob_types.specs.Forms.{Form}
 use Rattle.ob_types.specs.Store.{Cell, Bits, Pointer, Code, Area, Globals, Frames, Heap, Strings, Handed, Store, objects, cell_of}
-use Rattle.lowered_runs.specs.Words.{Whole, Level, Sizes, sizes_of, sizes_in, place, next, heap_word, local_word, local_words, Thing, InCell, TagOf, Constant, word_at, word_of, There, Room, ValueIs, word, Held, Later}
-use Rattle.lowered_runs.proofs.Stores.{some_same, some_none, there_cell, there_tag}
+use Rattle.lowered_runs.specs.Words.{Whole, Level, Sizes, sizes_of, place, next, heap_word, local_word, local_words, Thing, InCell, TagOf, Constant, word_at, word_of, There, Room, ValueIs, word, Held, Later}
+use Rattle.lowered_runs.proofs.Stores.{there_cell, there_tag}
 use Rattle.lowered_runs.proofs.Exprs.{place_above}
 
 -- what a call adds to its caller's level: its procedure, argument words, what was handed over, the frame that waits for it; how many cells and words

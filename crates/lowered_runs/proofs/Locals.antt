@@ -1,21 +1,18 @@
 -- Where a call's variables are: in registers, or in which words.
-use Rattle.std.proofs.Common.{◌≡◌, ◌≢◌, ℕ, zero, suc, ◌+◌, ◌*◌, ◌<◌, ◌≤◌, ◌⊎◌, inl, inr, ⊎_elim, List, [], ◌∷◌, ◌++◌, map, length, take, Bool, true, false, not, cond, ◌&&◌, filter, slice_get, refl, sym, ap, ap₂, ◌∙◌, subst, arith, Option, Some, None}
-use Rattle.std.specs.Prelude.{◌-◌, slice_index_or, sum, nat_lt, if◌then◌else◌}
+use Rattle.std.proofs.Common.{◌≡◌, ℕ, zero, suc, ◌+◌, ◌*◌, ◌<◌, ◌≤◌, ◌⊎◌, inl, inr, ⊎_elim, List, [], ◌∷◌, map, take, Bool, true, false, not, cond, ◌&&◌, slice_get, refl, sym, ap, ap₂, ◌∙◌, subst, arith, Option, Some, None}
+use Rattle.std.specs.Prelude.{◌-◌, slice_index_or, nat_lt, if◌then◌else◌}
 use Rattle.std.proofs.lemmas.Bool.{cases_lt}
 use Rattle.std.proofs.lemmas.Bool.Decides.{nat_tests}
 use Rattle.std.proofs.lemmas.List.Sums.{sum_by-cons}
 use Rattle.ob_types.specs.Layout.{kind_of, cells, cells_by, cells_of_all}
-use Rattle.ob_types.specs.Meaning.{is_value, locals_of}
 use Rattle.ob_types.specs.declared.types.TypeKind.{TypeKind}
 use Rattle.ob_types.specs.declared.types.TypeKind.TheVariants.{Array}
 use Rattle.ob_types.specs.declared.types.TypeKind.TheVariants.{Record as RecordOf}
-use Rattle.ob_types.specs.declared.types.Formal.{Formal}
-use Rattle.ob_types.specs.declared.program.Procedure.{Procedure}
 use Rattle.ob_types.specs.declared.program.Program.{Program}
 use Rattle.ob_types.proofs.Tests.{no}
 use Rattle.ssa_lowered.specs.Data.{Layout, in_cells, room}
 use Rattle.ssa_lowered.specs.Pieces.{Mask, rest}
-use Rattle.ssa_lowered.specs.Variables.{Site, Register, Memory, Variable, is_structured, structured_room, scalars_lent, placed, value_parameters, words_by}
+use Rattle.ssa_lowered.specs.Variables.{Site, Register, Memory, Variable, is_structured, structured_room, scalars_lent, placed}
 
 -- where a variable is: in as many words as it has cells, in one word that scalars in memory have, or in a register
 pub data Way : Type 0 where

@@ -1,11 +1,10 @@
 -- How a procedure begins: its argument words, the first values of its variables, in memory and in registers.
-use Rattle.std.proofs.Common.{◌≡◌, ◌≢◌, ℕ, zero, suc, ◌+◌, ◌*◌, ◌%◌, ◌^◌, ◌<◌, ◌≤◌, ◌⊎◌, inl, inr, ⊎_elim, List, [], ◌∷◌, ◌++◌, map, length, drop, Bool, true, false, cond, slice_get, slice_index, refl, sym, ap, ap₂, ◌∙◌, subst, arith, Option, Some, None}
+use Rattle.std.proofs.Common.{◌≡◌, ℕ, zero, suc, ◌+◌, ◌*◌, ◌^◌, ◌<◌, ◌≤◌, ◌⊎◌, inl, inr, ⊎_elim, List, [], ◌∷◌, length, drop, Bool, true, false, cond, slice_get, slice_index, refl, sym, ap, ap₂, ◌∙◌, subst, arith, Option, Some, None}
 use Rattle.std.proofs.lemmas.Bool.{cases_lt}
 use Rattle.std.specs.Prelude.{◌-◌, ◌||◌, slice_index_or, if◌then◌else◌}
-use Rattle.run_laws.specs.Runs.{Moves}
 use Rattle.run_laws.specs.Turns.{State as At}
 use Rattle.run_laws.proofs.Reached.{pass_quiet, loosen}
-use Rattle.a64_memory.specs.Memory.{Area, shapes, covered, covers, store8, stored8, IsRising, IsOfBytes}
+use Rattle.a64_memory.specs.Memory.{Area, shapes, covered, store8, stored8}
 use Rattle.a64_memory.proofs.Shapes.{covers-shapes}
 use Rattle.a64_memory.proofs.Cells.{rising-stored8, of_bytes-stored8, shapes-stored8}
 use Rattle.wrapping_numbers.specs.Numbers.{sub64}
@@ -19,26 +18,25 @@ use Rattle.block_runs.specs.Effects.{Gives as Yields}
 use Rattle.block_runs.specs.Points.{least}
 use Rattle.ob_types.specs.Store.{Cell}
 use Rattle.ob_types.specs.Store.{Store as Objects}
-use Rattle.ob_types.specs.Layout.{kind_of}
 use Rattle.ob_types.specs.declared.program.Program.{Program}
 use Rattle.ob_types.proofs.Tests.{no}
 use Rattle.ssa_core.specs.Procedures.{operation_of}
 use Rattle.ssa_core.specs.declared.procedure.Op.{Op}
 use Rattle.ssa_lowered.specs.Pieces.{Cursor, Made, Low, Mask, rest, emits, does, skip}
 use Rattle.ssa_lowered.specs.Pieces.{◌>>=◌ as ◌>>>◌, give as gives}
-use Rattle.ssa_lowered.specs.Values.{const, store}
-use Rattle.ssa_lowered.specs.Variables.{Site, Register, Memory, Variable, is_structured, placed, further, first_value, store_first, first_of, opened}
+use Rattle.ssa_lowered.specs.Values.{store}
+use Rattle.ssa_lowered.specs.Variables.{Variable, placed, further, first_value, store_first, first_of, opened}
 use Rattle.ssa_lowered.specs.Variables.{stored as stored_all}
 use Rattle.ssa_lowered.specs.Lowered.{Here, in_register}
 use Rattle.lowered_runs.specs.Words.{Whole, Level, sizes_of, heap_word, ValueIs, word}
 use Rattle.lowered_runs.proofs.Stores.{word_same, word_else}
-use Rattle.lowered_runs.proofs.Values.{Under, Same, put_here, put_else, put_same, same_on}
+use Rattle.lowered_runs.proofs.Values.{Under, Same, put_here, put_else, put_same}
 use Rattle.lowered_runs.proofs.Standing.{Standing, stand_first, stand_rest, bulk, bulk_append}
 use Rattle.lowered_runs.proofs.Ready.{position, system, world_of, frame_at, runs_at, Came_to}
-use Rattle.lowered_runs.proofs.Follows.{effect_at, op_step, op_pays}
+use Rattle.lowered_runs.proofs.Follows.{effect_at, op_step}
 use Rattle.lowered_runs.proofs.Homes.{get_index}
 use Rattle.lowered_runs.proofs.Frames.{Beyond}
-use Rattle.lowered_runs.proofs.Locals.{Way, Wide, Lent, Kept, way, wide_of, lent_of, Pairs, types_in, lay, size, is_wide, single, wide_in, lent_in, first, first_more, site_by, placed_all, own_at, own_by, own_cases, own_inside}
+use Rattle.lowered_runs.proofs.Locals.{Way, Wide, Lent, Kept, way, wide_of, lent_of, Pairs, types_in, lay, size, is_wide, single, wide_in, lent_in, first, first_more, site_by, placed_all, own_at, own_by, own_cases}
 
 get_drop : (n : ℕ) (cs : List Cell) (d : ℕ) → slice_get (drop n cs) d ≡ slice_get cs (n + d)
 get_drop zero cs d = let e : d ≡ 0 + d = omega arith in ap (slice_get cs) e
@@ -349,18 +347,36 @@ module _ (w : Whole) (l : Level) (most : ℕ) (s : At Objects) (m0 : List Area) 
         → Opens w l most s (λ n f m. Opened n f m × (P n m × P2 m)) (λ (u : Unit {0}) n f m. Opened n f m × (P n m × (P2 m × ((word m (base + b) ≡ number_of l.args x.1) × (1 ≤ n))))) (place_first x.1 b)
     lent_opens x b P P2 lt few_number ok keeps keeps2 =
         opens_bind w l most s {R = λ a n f m. (Opened n f m × (P n m × P2 m)) × ((a < n) × (f a ≡ 8 * (base + b)))}
-        (opens_emits w l most s (LocalAt (all - 8 * b)) [] (λ n f m h. (sub64 (8 * l.local) (all - 8 * b), refl, ((opened_more n (suc n) f (set f n (sub64 (8 * l.local) (all - 8 * b))) m (omega arith) (put_same n n (sub64 (8 * l.local) (all - 8 * b)) f (omega arith)) h.0, (keeps n (suc n) m m (omega arith) (λ i less. refl) h.1.0, h.1.1)),
-        (omega arith, put_here n (sub64 (8 * l.local) (all - 8 * b)) f ∙ ap (λ k. sub64 (8 * l.local) (k - 8 * b)) all_is ∙ local_word_at b lt)))))
+        (opens_emits w l most s (LocalAt (all - 8 * b)) [] (λ n f m h. (
+          sub64 (8 * l.local) (all - 8 * b),
+          refl,
+          (
+            (opened_more n (suc n) f (set f n (sub64 (8 * l.local) (all - 8 * b))) m (omega arith) (put_same n n (sub64 (8 * l.local) (all - 8 * b)) f (omega arith)) h.0, (keeps n (suc n) m m (omega arith) (λ i less. refl) h.1.0, h.1.1)),
+            (omega arith, put_here n (sub64 (8 * l.local) (all - 8 * b)) f ∙ ap (λ k. sub64 (8 * l.local) (k - 8 * b)) all_is ∙ local_word_at b lt),
+          ),
+        )))
         (λ a. opens_bind w l most s (first_opens {K = λ n f m. (Opened n f m × (P n m × P2 m)) × ((a < n) × (f a ≡ 8 * (base + b)))} x.1 ok
         (λ n v f g m le same h. let less = h.1.0 in ((opened_more n v f g m le same h.0.0, (keeps n v m m le (λ i less. refl) h.0.1.0, h.0.1.1)), (omega (arith, less, le), same a h.1.0 ∙ h.1.1))) (λ n f m h. h.0.0))
         (λ u. opens_does w l most s Store (a ∷ u ∷ []) (λ n f m h.
         let o = h.0.0.0 in
         let m2 = stored8 m (8 * (base + b)) (number_of l.args x.1) in
-        let above = below_kept m (number_of l.args x.1) in
-        (m2, ap₂ (λ i y. stored (world_of l m s.store) i (store8 m i y)) h.0.1.1 h.1.1 ∙ ap (stored (world_of l m s.store) (8 * (base + b))) (stores (base + b) (number_of l.args x.1) m (omega arith) (omega (arith, lt)) o.beyond),
-        (record { many = o.many; given = o.given; beyond = beyond_store base (base + b) (number_of l.args x.1) m0 m (omega arith) (omega (arith, lt, few)) o.beyond },
-        (keeps n n m m2 (omega arith) above h.0.0.1.0, (keeps2 m m2 above h.0.0.1.1, (word_same m (base + b) (number_of l.args x.1) (covers-shapes m (8 * (base + b)) 8 ∙ ap (λ ss. covered ss (8 * (base + b)) 8) o.beyond.areas ∙ covers_own (base + b) (omega arith) (omega (arith, lt))) few_number,
-        let less = h.1.0 in omega (arith, less)))))))))
+        let above = below_kept m (number_of l.args x.1) in (
+          m2,
+          ap₂ (λ i y. stored (world_of l m s.store) i (store8 m i y)) h.0.1.1 h.1.1 ∙ ap (stored (world_of l m s.store) (8 * (base + b))) (stores (base + b) (number_of l.args x.1) m (omega arith) (omega (arith, lt)) o.beyond),
+          (
+            record { many = o.many; given = o.given; beyond = beyond_store base (base + b) (number_of l.args x.1) m0 m (omega arith) (omega (arith, lt, few)) o.beyond },
+            (
+              keeps n n m m2 (omega arith) above h.0.0.1.0,
+              (
+                keeps2 m m2 above h.0.0.1.1,
+                (
+                  word_same m (base + b) (number_of l.args x.1) (covers-shapes m (8 * (base + b)) 8 ∙ ap (λ ss. covered ss (8 * (base + b)) 8) o.beyond.areas ∙ covers_own (base + b) (omega arith) (omega (arith, lt))) few_number,
+                  let less = h.1.0 in omega (arith, less),
+                ),
+              ),
+            ),
+          ),
+        ))))
       where
         below_kept : (m : List Area) (y : ℕ) (i : ℕ) → i < base + b → word (stored8 m (8 * (base + b)) y) i ≡ word m i
         below_kept m y i less = word_else m (base + b) i y (λ e. absurd (omega (arith, less, e)))
@@ -442,4 +458,3 @@ module _ (w : Whole) (l : Level) (most : ℕ) (s : At Objects) (m0 : List Area) 
       (λ u. opens_bind w l most s (opened_opens (rest lent) (a + wide_of W (size p x.0)) (lent_of W + b) xs (λ n f m. K n f m × ((u < n) × (in_memory W ≡ false → f u ≡ number_of l.args x.1)))
       (λ n v f g m le same h. let lt = h.1.0 in (steady n v f g m le same h.0, (omega (arith, lt, le), λ e. same u h.1.0 ∙ h.1.1 e))) (λ n f m h. has n f m h.0) (λ n f m h e. one n f m h.0 (either_right (in_memory W) (some_memory p (rest lent) xs) e)) ok.1)
       (λ us. opens_give w l most s (u ∷ us) (λ n f m h. (h.0.0, (h.0.1, h.1))))))
-

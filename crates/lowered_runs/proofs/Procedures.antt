@@ -1,16 +1,14 @@
 -- All calls of a program do what they mean, by turns.
-use Rattle.std.proofs.Common.{◌≡◌, ℕ, zero, suc, ◌+◌, ◌<◌, ◌≤◌, List, [], ◌∷◌, ◌++◌, map, length, drop, Bool, true, false, not, ◌&&◌, ◌||◌, slice_get, refl, sym, ap, ◌∙◌, subst, arith, Option, Some, None}
-use Rattle.std.specs.Prelude.{slice_index_or, is_some, nat_lt, sum}
+use Rattle.std.proofs.Common.{◌≡◌, ℕ, zero, suc, ◌+◌, ◌<◌, ◌≤◌, List, [], ◌∷◌, ◌++◌, map, length, Bool, true, false, not, ◌&&◌, ◌||◌, refl, sym, ap, ◌∙◌, subst, arith, Option, Some, None}
+use Rattle.std.specs.Prelude.{slice_index_or, is_some, nat_lt}
 use Rattle.run_laws.specs.Runs.{weigh}
 use Rattle.run_laws.specs.Layers.{places_from, points_of_all}
-use Rattle.run_laws.specs.Turns.{State as Moment}
 use Rattle.run_laws.proofs.Comes.{comes_spend, comes_spent}
 use Rattle.run_laws.proofs.Weights.{weigh-append}
-use Rattle.a64_memory.specs.Memory.{Area}
-use Rattle.block_runs.specs.Blocks.{Operation, Procedure, block_of, bodies}
+use Rattle.block_runs.specs.Blocks.{Procedure, bodies}
 use Rattle.block_runs.specs.Blocks.{procedure_of as coded}
 use Rattle.block_runs.specs.Points.{least, procedure_points, routine_points, AreCodePlaces}
-use Rattle.block_runs.specs.States.{Enters, Point, Begin}
+use Rattle.block_runs.specs.States.{Point, Begin}
 use Rattle.ob_types.specs.Forms.{Form, all, forms, joined, types_fine}
 use Rattle.ob_types.specs.LegalTypes.{formal_legal}
 use Rattle.ob_types.specs.Meaning.{procedure_of, locals_of, invoked, at_most}
@@ -33,16 +31,16 @@ use Rattle.ssa_lowered.specs.Variables.{lent_by_list, lent_by_answer}
 use Rattle.ssa_lowered.specs.Lowered.{Here, here_of, lowered, made_of, proc_of}
 use Rattle.ssa_lowered.specs.Lowered.{answer as lower_answer}
 use Rattle.lowered_runs.specs.Covered.{is_simple, covered, answer_covered, procedure_covered}
-use Rattle.lowered_runs.specs.Words.{same_trap, Whole, Level, Right, local_word, local_words, heap_word}
+use Rattle.lowered_runs.specs.Words.{same_trap, Whole, Level, Right, heap_word}
 use Rattle.lowered_runs.proofs.Standing.{shared}
-use Rattle.lowered_runs.proofs.Ready.{Position, system, world_of, frame_at, Typing, Goes, Came_to}
-use Rattle.lowered_runs.proofs.Points.{whole_weight, one_within, procedure_at, declared_at}
+use Rattle.lowered_runs.proofs.Ready.{Position, system, frame_at}
+use Rattle.lowered_runs.proofs.Points.{whole_weight, one_within, procedure_at}
 use Rattle.lowered_runs.proofs.Starting.{whole_of}
 use Rattle.lowered_runs.proofs.Frames.{Activation, above, with_frame}
-use Rattle.lowered_runs.proofs.Calls.{Words, Stacked, Calling, GivesFor, Back}
+use Rattle.lowered_runs.proofs.Calls.{Stacked, Calling, GivesFor}
 use Rattle.lowered_runs.proofs.Activations.{DataPlaced, activation, laid, stacked_above, apart_above, variables_above, lent_above}
 use Rattle.lowered_runs.proofs.Returns.{IsGiven}
-use Rattle.lowered_runs.proofs.Callees.{Serves, Entered, invoked_goes}
+use Rattle.lowered_runs.proofs.Callees.{Serves, invoked_goes}
 use Rattle.lowered_runs.proofs.Tree.{list_is, answer_is}
 use Rattle.lowered_runs.proofs.Modules.{found, right_of_code, data_placed}
 

@@ -1,6 +1,6 @@
 -- Whole programs: the bodies of the modules, one after the other.
 use Rattle.std.proofs.Common.{◌≡◌, ℕ, zero, suc, ◌+◌, ◌*◌, ◌<◌, ◌≤◌, List, [], ◌∷◌, ◌++◌, map, length, drop, true, false, not, ◌&&◌, slice_get, refl, sym, ap, ap₂, ◌∙◌, subst, arith, Option, Some, None, filter}
-use Rattle.std.specs.Prelude.{slice_index_or, nat_lt}
+use Rattle.std.specs.Prelude.{nat_lt}
 use Rattle.run_laws.specs.Runs.{Keeps, weigh}
 use Rattle.run_laws.specs.Layers.{places_from, points_of_all}
 use Rattle.run_laws.specs.Turns.{Ending, Gives, Fails, Spent, outcome}
@@ -17,9 +17,9 @@ use Rattle.block_runs.specs.First.{first_state, first_world}
 use Rattle.block_runs.specs.Points.{least, all_points, procedure_points, routine_points, AreCodePlaces}
 use Rattle.block_runs.specs.States.{Starts, Enters, Point, Begin, Entry, In}
 use Rattle.block_runs.specs.Steps.{begin, first_values, block_system}
-use Rattle.ob_types.specs.Forms.{all, all_below, forms, joined, types_fine}
+use Rattle.ob_types.specs.Forms.{all, forms, joined, types_fine}
 use Rattle.ob_types.specs.Layout.{cells_of_all}
-use Rattle.ob_types.specs.Meaning.{procedure_of, locals_of, is_value, texts_of, effects_of, at_most, start, meaning}
+use Rattle.ob_types.specs.Meaning.{procedure_of, locals_of, is_value, effects_of, at_most, start, meaning}
 use Rattle.ob_types.specs.Meaning.{bodies as all_bodies}
 use Rattle.ob_types.specs.Sense.{HasSense, MakesSense}
 use Rattle.ob_types.specs.Store.{Store, Trap}
@@ -29,7 +29,7 @@ use Rattle.ob_types.specs.declared.program.Module.{Module}
 use Rattle.ob_types.specs.declared.program.Procedure.{Procedure as Declared}
 use Rattle.ob_types.specs.declared.program.Program.{Program}
 use Rattle.ob_types.specs.declared.statements.Checked.{Checked}
-use Rattle.ob_types.proofs.Tests.{and_of, no, below}
+use Rattle.ob_types.proofs.Tests.{and_of, no}
 use Rattle.ob_sound.proofs.Typed.{lt_of}
 use Rattle.ob_sound.proofs.Handing.{AllTaken}
 use Rattle.ob_sound.proofs.Programs.{s_at_most, start_typed, makes_sense}
@@ -55,7 +55,7 @@ use Rattle.lowered_runs.proofs.Follows.{DoneTo, then_goes, goes_on}
 use Rattle.lowered_runs.proofs.Forks.{Ends_at, end_step}
 use Rattle.lowered_runs.proofs.Structures.{Always}
 use Rattle.lowered_runs.proofs.Tree.{list_is}
-use Rattle.lowered_runs.proofs.Points.{whole_weight, procedure_at, bodies_weight, bodies_within, declared_at}
+use Rattle.lowered_runs.proofs.Points.{whole_weight, bodies_weight, bodies_within, declared_at}
 use Rattle.lowered_runs.proofs.Starting.{whole_of, body_level, first_held}
 use Rattle.lowered_runs.proofs.Bodies.{plain_body, standing_in, enters_body, leaves_body}
 use Rattle.lowered_runs.proofs.Modules.{room_sizes, right_of_code, apart_in_body, variables_in_body, stacked_body, held_same}

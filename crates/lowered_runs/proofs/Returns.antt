@@ -1,8 +1,8 @@
 -- A call's return: its turn, and the caller behind it.
-use Rattle.std.proofs.Common.{◌≡◌, ℕ, suc, ◌+◌, ◌*◌, ◌%◌, ◌^◌, ◌<◌, ◌≤◌, List, [], ◌∷◌, ◌++◌, length, take, drop, Bool, true, false, not, refl, sym, ap, ap₂, ◌∙◌, subst, arith, Option, Some, None, length-append}
-use Rattle.std.specs.Prelude.{◌-◌, is_some, sum, sum_by, option_map}
+use Rattle.std.proofs.Common.{◌≡◌, ℕ, ◌+◌, ◌*◌, ◌^◌, ◌<◌, ◌≤◌, List, [], ◌∷◌, ◌++◌, length, drop, true, false, not, refl, ap, ◌∙◌, subst, arith, Option, Some, None, length-append}
+use Rattle.std.specs.Prelude.{◌-◌, is_some, sum, option_map}
 use Rattle.run_laws.specs.Runs.{Moves, weigh}
-use Rattle.run_laws.specs.Turns.{Gives, after, give, spend, ◌>>=◌}
+use Rattle.run_laws.specs.Turns.{give, spend, ◌>>=◌}
 use Rattle.run_laws.specs.Turns.{State as At}
 use Rattle.run_laws.proofs.Reached.{pass_quiet, loosen}
 use Rattle.run_laws.proofs.Comes.{comes_spend}
@@ -17,17 +17,14 @@ use Rattle.ob_types.specs.Layout.{cells_of_all}
 use Rattle.ob_types.specs.Meaning.{locals_of}
 use Rattle.ob_types.specs.Meaning.{procedure_of as declared_of}
 use Rattle.ob_types.specs.Sense.{HasSense}
-use Rattle.ob_types.specs.Store.{Cell, Handed, cell_of}
+use Rattle.ob_types.specs.Store.{Cell, Handed}
 use Rattle.ob_types.specs.Store.{Store as Objects}
-use Rattle.ob_types.specs.declared.program.Program.{Program}
 use Rattle.ob_types.proofs.Tests.{no}
 use Rattle.ssa_core.specs.Procedures.{procedure}
 use Rattle.ssa_lowered.specs.Lowered.{here_of, proc_of}
-use Rattle.lowered_runs.specs.Words.{same_trap, Whole, Level, sizes_of, local_words, heap_words, ValueIs, Held, Later}
-use Rattle.lowered_runs.proofs.Ready.{Position, system, world_of, frame_at, runs_at, Goes, Came_to, Ready}
-use Rattle.lowered_runs.proofs.Follows.{Fact}
+use Rattle.lowered_runs.specs.Words.{same_trap, Whole, Level, sizes_of, local_words, Held, Later}
+use Rattle.lowered_runs.proofs.Ready.{Position, system, world_of, frame_at, runs_at, Goes, Ready}
 use Rattle.lowered_runs.proofs.Forks.{Ends_at, end_step, end_pays}
-use Rattle.lowered_runs.proofs.Exprs.{CellIs}
 use Rattle.lowered_runs.proofs.Frames.{Activation, above, with_frame, without_frame, value_frames, sum_append, later_pop, still_pop, held_pop}
 use Rattle.lowered_runs.proofs.Locals.{lay}
 use Rattle.lowered_runs.proofs.Calls.{Stacked, ResultIs, Back, AnswerIs}

@@ -1,7 +1,23 @@
--- The sample can run: what is proved speaks of some programs.
-use Rattle.std.proofs.Common.{suc, [], refl, arith}
+-- The samples can run: what is proved speaks of some programs.
+use Rattle.std.proofs.Common.{suc, [], ◌∷◌, true, false, Some, None, refl, arith}
+use Rattle.std.specs.Prelude.{Vec, Box}
+use Rattle.std.specs.Fmt.{digits}
+use Rattle.std.specs.declared.alloc.Global.{Global as Heap}
+use Rattle.ob_types.specs.declared.program.Program.{Program}
+use Rattle.ob_types.specs.declared.statements.Stmt.{Assign, Increase, OutInt, If', end_of-Stmt, more_of-Stmt, end_of-Branch, more_of-Branch}
+use Rattle.ob_types.specs.declared.tree.Argument.{ByValue, ByPlace}
+use Rattle.ob_types.specs.declared.tree.Base.TheVariants.{Global, Local, Parameter}
+use Rattle.ob_types.specs.declared.tree.Binary.TheVariants.{Add, Subtract}
+use Rattle.ob_types.specs.declared.tree.Call.{Direct', end_of-Argument, more_of-Argument}
+use Rattle.ob_types.specs.declared.tree.Designator.{Designator, Whole}
+use Rattle.ob_types.specs.declared.tree.Expr.{Expr, Literal, Load, Chain', Compare', Call', end_of-Link, more_of-Link}
+use Rattle.ob_types.specs.declared.tree.Link.{Operate}
+use Rattle.ob_types.specs.declared.tree.Relation.TheVariants.{Greater}
+use Rattle.ob_types.specs.declared.types.Mode.TheVariants.{Value, Place}
+use Rattle.ob_types.specs.declared.types.TypeKind.TheVariants.{Int, Nothing}
+use Rattle.ob_types.specs.declared.types.TypeKind.TheVariants.{Bool as Boolean}
 use Rattle.lowered_runs.specs.Claims.{CanRun}
-use Rattle.lowered_runs.specs.Sample.{sample}
+use Rattle.lowered_runs.specs.Sample.{sample, CallsItself}
 
 pub sample_runs : CanRun sample [] [] (λ g. suc g)
 sample_runs = record {
@@ -13,3 +29,72 @@ sample_runs = record {
   globals = omega arith;
   room = omega arith;
 }
+
+-- MODULE M; IMPORT Out; VAR v: INTEGER; PROCEDURE Count(n: INTEGER; VAR total: INTEGER): INTEGER; VAR left: INTEGER;
+-- BEGIN IF n > 0 THEN INC(total, Count(n - 1, left)) END RETURN left + n END Count; BEGIN v := 2; INC(v, Count(3, v)); Out.Int(v, 0) END M.
+module _ (b : Box (Unit {0}) Heap) (v : Vec (Unit {0}) Heap) where
+  abbrev vec0 : Vec (Unit {0}) Heap
+  vec0 = record { ptr = v.ptr; len = 0; cap = 0; alloc = v.alloc; items = []; ok = (refl, omega arith); small = omega arith }
+
+  abbrev vec1 : Vec (Unit {0}) Heap
+  vec1 = record { ptr = v.ptr; len = 1; cap = 1; alloc = v.alloc; items = tt ∷ []; ok = (refl, omega arith); small = omega arith }
+
+  abbrev vec2 : Vec (Unit {0}) Heap
+  vec2 = record { ptr = v.ptr; len = 2; cap = 2; alloc = v.alloc; items = tt ∷ tt ∷ []; ok = (refl, omega arith); small = omega arith }
+
+  abbrev count : Expr → Designator → Expr
+  count n total = Call' b (Direct' 0 vec2 (more_of-Argument (ByValue n) (more_of-Argument (ByPlace total) end_of-Argument)))
+
+  abbrev own : Designator
+  own = Whole (Local 0) Int
+
+  abbrev left : Designator
+  left = Whole (Local 1) Int
+
+  abbrev counting : Program
+  counting = record {
+    types = record { kinds = Int ∷ Nothing ∷ Boolean ∷ []; records = []; signatures = [] };
+    modules = record { name = 77 ∷ []; objects = []; variables = 0 ∷ []; body = 1 } ∷ [];
+    procedures = record {
+      «module» = 0;
+      line = 1;
+      is_body = false;
+      formals = record { mode = Value; variable = false; type_number = 0 } ∷ record { mode = Place; variable = true; type_number = 0 } ∷ [];
+      result = 0;
+      locals = 0 ∷ [];
+      texts = [];
+      body = If' vec1 (more_of-Branch (record { form = Compare' Greater b (Load own) b (Literal 0); kind = Boolean }) vec1
+          (more_of-Stmt (Increase (Whole (Parameter 1) Int) (record { form = count (Chain' b (Load own) vec1 (more_of-Link (Operate Subtract (Literal 1)) end_of-Link)) left; kind = Int })) end_of-Stmt) end_of-Branch) vec0 end_of-Stmt ∷ [];
+      answer = Some (record { form = Chain' b (Load left) vec1 (more_of-Link (Operate Add (Load own)) end_of-Link); kind = Int });
+    } ∷ record {
+      «module» = 0;
+      line = 2;
+      is_body = true;
+      formals = [];
+      result = 1;
+      locals = [];
+      texts = [];
+      body = Assign (Whole (Global 0 0) Int) (record { form = Literal 2; kind = Int }) ∷ Increase (Whole (Global 0 0) Int) (record { form = count (Literal 3) (Whole (Global 0 0) Int); kind = Int })
+          ∷ OutInt (record { form = Load (Whole (Global 0 0) Int); kind = Int }) (record { form = Literal 0; kind = Int }) ∷ [];
+      answer = None;
+    } ∷ [];
+    imports_in = false;
+  }
+
+  pub counting_runs : CanRun counting [] [] (λ g. suc g)
+  counting_runs = record {
+    fine = refl;
+    covers = refl;
+    numbers = refl;
+    bytes = λ i. omega arith;
+    places = record { few = λ g lt. omega (arith, lt); nowhere = λ g lt e. absurd (omega (arith, e)); apart = λ g h lt less e. omega (arith, e) };
+    globals = omega arith;
+    room = omega arith;
+  }
+
+  counting_calls : CallsItself counting
+  unfolding digits
+  counting_calls = (refl, refl)
+
+  pub some_calls : (p : Program) × CanRun p [] [] (λ g. suc g) × CallsItself p
+  some_calls = (counting, counting_runs, counting_calls)

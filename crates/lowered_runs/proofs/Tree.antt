@@ -3,8 +3,6 @@ use Rattle.std.proofs.Common.{◌≡◌, ℕ, zero, suc, ◌+◌, ◌*◌, ◌<�
 use Rattle.std.specs.Prelude.{◌-◌, ◌||◌, ◌==◌, nat_lt, slice_index_or, if◌then◌else◌}
 use Rattle.run_laws.specs.Turns.{Ending, Gives, Fails, Spent, after, ◌>>=◌, give}
 use Rattle.run_laws.specs.Turns.{State as Moment}
-use Rattle.wrapping_numbers.specs.Numbers.{sub64}
-use Rattle.block_runs.specs.First.{data_base}
 use Rattle.ob_types.specs.Forms.{Form, Truth, Small, Number, Exactly, forms, joined, all, types_fine}
 use Rattle.ob_types.specs.Layout.{kind_of, cells, cells_of_all}
 use Rattle.ob_types.specs.Store.{Cell, Bits, Globals, Frames, Handed, At as Addressed, Senseless, Act, given, place, bits, bits_in, Trap}
@@ -13,7 +11,7 @@ use Rattle.ob_types.specs.Operators.{holds, truth, unary_of}
 use Rattle.ob_types.specs.Expressions.{Calls, one_operand, both}
 use Rattle.ob_types.specs.Expressions.{either as or_else}
 use Rattle.ob_types.specs.Statements.{Deed, test, try, otherwise}
-use Rattle.ob_types.specs.Meaning.{procedure_of, locals_of, globals_of, value, linked, link, designated, base_of, called, argument, arguments, answer, effect, effects, effects_of, branches, kind_in, is_byte}
+use Rattle.ob_types.specs.Meaning.{procedure_of, globals_of, value, linked, link, designated, base_of, called, argument, arguments, answer, effect, effects, effects_of, branches, kind_in, is_byte}
 use Rattle.ob_types.specs.WellFormed
 use Rattle.ob_types.specs.WellFormed.{Named as Thing, Cells, Of, OpenOf, Dynamic, Characters, provided, with_some, holds_of, gives_number, is_number}
 use Rattle.ob_types.specs.declared.tree.Unary.{Unary}
@@ -51,21 +49,21 @@ use Rattle.ssa_lowered.specs.Values.{by_word, address, with_result, without_resu
 use Rattle.ob_types.specs.WellFormed.{record_by, has_branch}
 use Rattle.ob_sound.proofs.Deeds.{takes_is, given_is}
 use Rattle.ob_sound.proofs.Tree.{t_value, t_link, t_effect}
-use Rattle.ssa_lowered.specs.Data.{Layout, in_cells, global_at}
+use Rattle.ssa_lowered.specs.Data.{Layout, global_at}
 use Rattle.ssa_lowered.specs.Pieces.{Low, Mask}
 use Rattle.ssa_lowered.specs.Control.{Lowers, Round, fork_and, fork_or, fork_value}
-use Rattle.ssa_lowered.specs.Variables.{Register, Memory, is_structured, either, none, origin, itself as whole_of, assigned, assigned_all, assigned_branches, words_of, lent, lent_links, lent_link, lent_at, lent_whole, lent_by_first, lent_selectors, lent_selector, lent_call, lent_as, lent_in, lent_by, lent_by_all, lent_by_branches, lent_by_list, lent_by_answer}
-use Rattle.ssa_lowered.specs.Lowered.{Here, here_of, in_register, variable_of, local_by, parameter_by, by_mode, based, named, expr, link as lower_link, linked as lower_linked, called as lower_called, argument as lower_argument, arguments as lower_arguments, answer as lower_answer, home, registers, deed, deeds, deeds_of, one_of, alternatives, guarded_rounds}
+use Rattle.ssa_lowered.specs.Variables.{is_structured, either, none, origin, itself as whole_of, assigned, assigned_all, assigned_branches, words_of, lent, lent_links, lent_link, lent_at, lent_whole, lent_by_first, lent_selectors, lent_selector, lent_call, lent_as, lent_in, lent_by, lent_by_all, lent_by_branches, lent_by_list, lent_by_answer}
+use Rattle.ssa_lowered.specs.Lowered.{Here, in_register, variable_of, local_by, parameter_by, by_mode, based, named, expr, link as lower_link, linked as lower_linked, called as lower_called, argument as lower_argument, arguments as lower_arguments, answer as lower_answer, home, registers, deed, deeds, deeds_of, one_of, alternatives, guarded_rounds}
 use Rattle.lowered_runs.specs.Words.{Whole, Level, Right, local, Apart}
 use Rattle.lowered_runs.specs.Covered.{is_simple, has_length, part_covered, base_has_parts, selectors_covered, selector_covered, is_fixed, base_covered, designator_covered, expr_covered, links_covered, link_covered, call_covered, argument_covered, arguments_covered, checked_covered, covered, row_covered, branches_covered, answer_covered}
 use Rattle.lowered_runs.proofs.Levels.{layout, here, running, locals, LocalIs, Variables, Given, steady_given}
-use Rattle.lowered_runs.proofs.Follows.{Fact, Steady, Follows, FollowsTo, follows_bind, follows_seen, follows_give, follows_sound, follows_known, follows_less, follows_mask}
+use Rattle.lowered_runs.proofs.Follows.{Steady, Follows, FollowsTo, follows_bind, follows_seen, follows_give, follows_sound, follows_known, follows_less, follows_mask}
 use Rattle.lowered_runs.proofs.Exprs.{CellIs, follows_literal, follows_routine, follows_unary, follows_binary}
 use Rattle.lowered_runs.proofs.Sets.{follows_same, follows_contained, follows_element, follows_range, follows_byte, follows_compared}
 use Rattle.lowered_runs.proofs.Forks.{nothing, No_more, after_after, Forks, forks_value, forks_branch, forks_not, forks_and, forks_or, forks_as}
 use Rattle.lowered_runs.proofs.Structures.{Always, forks_test, follows_choose, Rounded, rounds_none, rounds_less, rounds_more, follows_loop, follows_until}
-use Rattle.lowered_runs.proofs.Homes.{AddressIs, HomeIs, follows_load, follows_assign}
-use Rattle.lowered_runs.proofs.Designators.{is_single, row_of, NamedIs, steady_named, follows_home, follows_data, follows_register, follows_local}
+use Rattle.lowered_runs.proofs.Homes.{HomeIs, follows_load, follows_assign}
+use Rattle.lowered_runs.proofs.Designators.{is_single, row_of, NamedIs, follows_home, follows_data, follows_register, follows_local}
 use Rattle.lowered_runs.proofs.Elements.{follows_element_place, follows_field_place, follows_length}
 use Rattle.ob_types.specs.Meaning.{length_of_kind}
 use Rattle.ob_types.specs.Expressions.{length_of}

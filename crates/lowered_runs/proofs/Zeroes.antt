@@ -1,5 +1,5 @@
 -- A procedure's structured variables are set to zero, a turn for each cell.
-use Rattle.std.proofs.Common.{◌≡◌, ℕ, zero, suc, ◌+◌, ◌*◌, ◌%◌, ◌^◌, ◌<◌, ◌≤◌, ◌⊎◌, inl, inr, ⊎_elim, List, [], ◌∷◌, length, drop, Bool, true, false, cond, nat_le, refl, sym, ap, ap₂, ◌∙◌, subst, arith, Some, None}
+use Rattle.std.proofs.Common.{◌≡◌, ℕ, suc, ◌+◌, ◌*◌, ◌^◌, ◌<◌, ◌≤◌, ⊎_elim, List, [], ◌∷◌, Bool, true, false, cond, nat_le, refl, sym, ap, ap₂, ◌∙◌, subst, arith, Some, None}
 use Rattle.std.specs.Prelude.{MatchBool, if◌then◌else◌}
 use Rattle.std.proofs.lemmas.Bool.{cases_lt}
 use Rattle.std.proofs.lemmas.Bool.Decides.{nat_tests}
@@ -13,26 +13,26 @@ use Rattle.a64_memory.proofs.Shapes.{covers-shapes}
 use Rattle.wrapping_numbers.specs.Numbers.{add64, sub64}
 use Rattle.block_runs.specs.declared.code.Code.TheVariants.{Const, Zero}
 use Rattle.block_runs.specs.declared.code.Code.TheVariants.{Local as LocalAt}
-use Rattle.block_runs.specs.Blocks.{Operation, block_of, procedure_of}
-use Rattle.block_runs.specs.States.{Frame, World, State, Works, Runs, ZeroHead, ZeroCell, Point, In}
+use Rattle.block_runs.specs.Blocks.{Operation}
+use Rattle.block_runs.specs.States.{Frame, State, Works, ZeroHead, ZeroCell, Point, In}
 use Rattle.block_runs.specs.States.{At as In_routine, ZeroAtHead, ZeroAtCell}
-use Rattle.block_runs.specs.Steps.{set, operate, work_on, moved_to, resumed, behind, rest_of}
+use Rattle.block_runs.specs.Steps.{set, moved_to, resumed, rest_of}
 use Rattle.block_runs.specs.Points.{least}
 use Rattle.ob_types.specs.Sense.{HasSense}
-use Rattle.ob_types.specs.Store.{Act, spend_all}
+use Rattle.ob_types.specs.Store.{spend_all}
 use Rattle.ob_types.specs.Store.{Store as Objects}
 use Rattle.ob_types.proofs.Tests.{no}
 use Rattle.ssa_core.specs.Procedures.{operation_of}
 use Rattle.ssa_core.specs.declared.procedure.Op.{Op}
-use Rattle.ssa_lowered.specs.Pieces.{Cursor, emits, does}
+use Rattle.ssa_lowered.specs.Pieces.{Cursor, emits}
 use Rattle.ssa_lowered.specs.Values.{const}
 use Rattle.ssa_lowered.specs.Variables.{zeroing}
 use Rattle.lowered_runs.specs.Words.{same_trap, Whole, Level, heap_word, word}
 use Rattle.lowered_runs.proofs.Stores.{word_same, word_else}
 use Rattle.lowered_runs.proofs.Values.{Same, put_here, put_else, put_same, same_on}
 use Rattle.lowered_runs.proofs.Standing.{Standing, bulk, shared}
-use Rattle.lowered_runs.proofs.Ready.{Position, position, system, world_of, frame_at, runs_at, Goes, Came_to}
-use Rattle.lowered_runs.proofs.Follows.{effect_at, op_step, goes_here}
+use Rattle.lowered_runs.proofs.Ready.{position, system, world_of, frame_at, runs_at, Goes, Came_to}
+use Rattle.lowered_runs.proofs.Follows.{op_step, goes_here}
 use Rattle.lowered_runs.proofs.Frames.{Beyond}
 use Rattle.lowered_runs.proofs.Openings.{beyond_store}
 

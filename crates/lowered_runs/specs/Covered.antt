@@ -10,8 +10,8 @@ use Rattle.ob_types.specs.declared.tree.Base.{Base}
 use Rattle.ob_types.specs.declared.tree.Base.TheVariants.{Global, Local, Parameter, Text}
 use Rattle.ob_types.specs.declared.tree.Designator.{Designator, Whole, Part', Row_of-Selector, end_of-Selector, more_of-Selector}
 use Rattle.ob_types.specs.declared.tree.Selector.{Selector, Index, Field}
-use Rattle.ob_types.specs.declared.tree.Call.{Call, Direct', Indirect', Row_of-Argument, end_of-Argument, more_of-Argument}
-use Rattle.ob_types.specs.declared.tree.Argument.{Argument, ByValue, ByPlace, ByRecord, ByOpen}
+use Rattle.ob_types.specs.declared.tree.Call.{Call, Direct', Row_of-Argument, end_of-Argument, more_of-Argument}
+use Rattle.ob_types.specs.declared.tree.Argument.{Argument, ByValue, ByPlace}
 use Rattle.ob_types.specs.declared.statements.Checked.{Checked}
 use Rattle.ob_types.specs.declared.statements.Stmt.{Stmt, Assign, Increase, Decrease, Include, Exclude, Assert, OutChar, OutInt, OutLn, InChar, If', While', Repeat', For', Row_of-Stmt, end_of-Stmt, more_of-Stmt, Row_of-Branch, end_of-Branch, more_of-Branch}
 use Rattle.ob_types.specs.declared.statements.Stmt.{Call as Invoke}

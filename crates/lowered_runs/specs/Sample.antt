@@ -1,5 +1,7 @@
 -- A program that is covered: a module with a variable, which counts to 3 and is written out.
-use Rattle.std.specs.Prelude.{ℕ, [], ◌∷◌, true, false, None}
+use Rattle.std.specs.Prelude.{◌≡◌, ℕ, [], ◌∷◌, true, false, None}
+use Rattle.run_laws.specs.Runs.{Ended, Going}
+use Rattle.ob_types.specs.Meaning.{meaning}
 use Rattle.ob_types.specs.declared.program.Program.{Program}
 use Rattle.ob_types.specs.declared.statements.Checked.{Checked}
 use Rattle.ob_types.specs.declared.statements.Stmt.{Assign, Increase, OutInt}
@@ -31,3 +33,7 @@ sample = record {
   } ∷ [];
   imports_in = false;
 }
+
+-- a program that takes eight turns, as one whose procedure calls itself three times, and writes an 8
+abbrev pub CallsItself : Program → Type 0
+CallsItself p = (meaning p [] 7 ≡ Going []) × (meaning p [] 8 ≡ Ended (56 ∷ []))
