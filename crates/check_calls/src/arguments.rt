@@ -60,8 +60,8 @@ fn is_local_code<'a>(scope: &Scope<'a>, what: &What) -> bool
     }
 }
 
-// A string.
-fn is_chars<'a>(scope: &Scope<'a>, what: &What) -> bool
+/// A string.
+pub fn is_chars<'a>(scope: &Scope<'a>, what: &What) -> bool
     ensures { (w : JudgedWhat) → what_image (table_of scope.now) (texts_of scope.now) what.now ≡ outlined_what (bases_of scope.now) w → tests_chars w ≡ result }
 {
     match what {

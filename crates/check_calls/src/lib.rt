@@ -5,5 +5,7 @@
 #![tactic(auto)]
 
 mod arguments;
+mod calls;
 
-pub use arguments::{Given, bound, may_assign, stored};
+pub use arguments::{Given, bound, is_chars, may_assign, stored};
+pub use calls::called;
