@@ -1,0 +1,7 @@
+use Rattle.check_steps.proofs.Answering.{goes_on, stop, exit, as_judged}
+use Rattle.ob_judge.specs.Judged.{Keeps}
+use Rattle.check_calls.proofs.Binding.{kept_on}
+use Rattle.check_selectors.proofs.begun.named_operand.Goals as goal
+
+pub returns : goal.returns
+returns c = as_judged (kept_on _) (goes_on _ (λ a. Keeps a) c.in_ok-x.ensures (λ a h. record { by = c.operand_of.ensures a h }))
