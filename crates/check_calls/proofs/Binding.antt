@@ -123,7 +123,7 @@ module _ (s : Scope) (w : World) (v : Bool) (t : Shape) (ps : Formals) where
       let f = first_given s x rest i.waiting i.given in
       let k = settled (J.bound w v t f.first) (h f.first f.given) in
       let as_first : whole ≡ ((J.bound w v t f.first >>= λ a. J.all_bound w ps f.others >>= λ bs. Keeps (I.next_argument a bs)) >>= λ bs. Keeps (listed i.so_far bs)) =
-        i.same ∙ ap (λ xs. J.all_bound w (one v t ps) xs >>= λ bs. Keeps (listed i.so_far bs)) f.is in
+      i.same ∙ ap (λ xs. J.all_bound w (one v t ps) xs >>= λ bs. Keeps (listed i.so_far bs)) f.is in
       record {
         waiting = f.others;
         given = f.rests;
@@ -144,13 +144,13 @@ module _ (s : Scope) (w : World) (v : Bool) (t : Shape) (ps : Formals) where
   -- no argument is left
   pub binding_idle : {made : List Argument} {whole : Judged I.Arguments} → Binding s w (one v t ps) [] made whole → Binding s w ps [] made whole
   binding_idle {made} {whole} i = record {
-      waiting = [];
-      given = tt;
-      so_far = i.so_far;
-      made_so = i.made_so;
-      same = i.same ∙ ap (λ xs. J.all_bound w (one v t ps) xs >>= λ bs. Keeps (listed i.so_far bs)) (none_given s i.waiting i.given)
+    waiting = [];
+    given = tt;
+    so_far = i.so_far;
+    made_so = i.made_so;
+    same = i.same ∙ ap (λ xs. J.all_bound w (one v t ps) xs >>= λ bs. Keeps (listed i.so_far bs)) (none_given s i.waiting i.given)
         ∙ ap (λ m. m >>= λ bs. Keeps (listed i.so_far bs)) (sym (nothing_bound w ps));
-    }
+  }
 
 -- no parameter is left
 pub binding_ends : (s : Scope) (w : World) {rest : List Given} {made : Vec Argument Global} {whole : Judged I.Arguments} → Binding s w none rest made.items whole → Answers (AreArguments s) whole (Ok made)

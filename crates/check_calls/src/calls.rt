@@ -33,12 +33,10 @@ fn all_bound<'a>(
     formals: &[Formal],
     given: Vec<Given>,
 ) -> Result<Vec<Argument>, CheckFault>
-    ensures {
-        (xs : List JudgedGiven) → AreGiven scope.now given.items xs →
+    ensures { (xs : List JudgedGiven) → AreGiven scope.now given.items xs →
         Answers (AreArguments scope.now)
-            (judged_arguments (world_of scope.now) (formals_shape (shapes_of (table_of scope.now)) formals.now) xs)
-            result
-    }
+        (judged_arguments (world_of scope.now) (formals_shape (shapes_of (table_of scope.now)) formals.now) xs)
+        result }
 {
     let mut rest = given.into_iter();
     let mut arguments = Vec::new(alloc);
@@ -54,10 +52,8 @@ fn all_bound<'a>(
 
 // The number of a declared procedure.
 fn code_number<'a>(scope: &Scope<'a>, what: &What) -> Option<u32>
-    ensures {
-        (w : JudgedWhat) → what_image (table_of scope.now) (texts_of scope.now) what.now ≡ outlined_what (bases_of scope.now) w →
-        code_in w ≡ result
-    }
+    ensures { (w : JudgedWhat) → what_image (table_of scope.now) (texts_of scope.now) what.now ≡ outlined_what (bases_of scope.now) w →
+        code_in w ≡ result }
 {
     match what {
         What::Code { number, .. } => Some(*number),
@@ -67,11 +63,9 @@ fn code_number<'a>(scope: &Scope<'a>, what: &What) -> Option<u32>
 
 // A call of a declared procedure, or of a procedure variable.
 fn call_by<'a>(scope: &Scope<'a>, x: Operand, arguments: Vec<Argument>) -> Call
-    ensures {
-        (a : Judgement) (bs : JudgedArguments) → Stands scope.now x a → AreArguments scope.now arguments bs →
+    ensures { (a : Judgement) (bs : JudgedArguments) → Stands scope.now x a → AreArguments scope.now arguments bs →
         plain_call (table_of scope.now) (texts_of scope.now) result
-        ≡ outlined_call (bases_of scope.now) (call_of (world_of scope.now) a a.what bs)
-    }
+        ≡ outlined_call (bases_of scope.now) (call_of (world_of scope.now) a a.what bs) }
 {
     match code_number(scope, &x.what) {
         Some(number) => Call::Direct(number, arguments),
@@ -97,12 +91,10 @@ fn result_of_call<'a>(
     signature: u32,
     arguments: Vec<Argument>,
 ) -> Result<Operand, CheckFault>
-    ensures {
-        (a : Judgement) (bs : JudgedArguments) → Stands scope.now x a → AreArguments scope.now arguments bs →
+    ensures { (a : Judgement) (bs : JudgedArguments) → Stands scope.now x a → AreArguments scope.now arguments bs →
         Answers (Stands scope.now)
-            (Keeps (value_of (result_of (table_of scope.now) signature) (ResultOf (call_of (world_of scope.now) a a.what bs))))
-            result
-    }
+        (Keeps (value_of (result_of (table_of scope.now) signature) (ResultOf (call_of (world_of scope.now) a a.what bs))))
+        result }
 {
     let tree = call(alloc, call_by(scope, x, arguments))?;
     Ok(value(result_type(scope, signature), tree))
@@ -117,13 +109,11 @@ pub fn called<'a>(
     signature: u32,
     given: Vec<Given>,
 ) -> Result<Operand, CheckFault>
-    ensures {
-        (a : Judgement) (xs : List JudgedGiven) → Stands scope.now x a → AreGiven scope.now given.items xs →
+    ensures { (a : Judgement) (xs : List JudgedGiven) → Stands scope.now x a → AreGiven scope.now given.items xs →
         Answers (Stands scope.now)
-            (judged_call (world_of scope.now) (place scope.now.source.now symbol) a
-                (formals_of (table_of scope.now) signature) (result_of (table_of scope.now) signature) xs)
-            result
-    }
+        (judged_call (world_of scope.now) (place scope.now.source.now symbol) a
+        (formals_of (table_of scope.now) signature) (result_of (table_of scope.now) signature) xs)
+        result }
 {
     let formals = scope.types.formals(signature);
     if formals.len() == given.len() {

@@ -30,10 +30,8 @@ pub enum Begun {
 
 // A constant that is no string.
 fn constant_bits<'a>(scope: &Scope<'a>, of: Basic, bits: u64) -> Operand
-    ensures {
-        Stands scope.now result
-            (operand_of_constant (constant_meant (table_of scope.now) (strings_of scope.now) (Constant.Bits of bits)))
-    }
+    ensures { Stands scope.now result
+        (operand_of_constant (constant_meant (table_of scope.now) (strings_of scope.now) (Constant.Bits of bits))) }
 {
     Operand {
         of: of.of(),
@@ -44,11 +42,9 @@ fn constant_bits<'a>(scope: &Scope<'a>, of: Basic, bits: u64) -> Operand
 
 // A string constant, by its number. There is no such type for more characters than can be counted.
 fn constant_chars<'a>(scope: &Scope<'a>, k: u32) -> Result<Operand, CheckFault>
-    ensures {
-        Answers (Stands scope.now)
-            (Keeps (operand_of_constant (constant_meant (table_of scope.now) (strings_of scope.now) (Constant.Chars k))))
-            result
-    }
+    ensures { Answers (Stands scope.now)
+        (Keeps (operand_of_constant (constant_meant (table_of scope.now) (strings_of scope.now) (Constant.Chars k))))
+        result }
 {
     let number = constant_text(scope, k)?;
     let count = text(scope, number).len();
@@ -65,10 +61,8 @@ fn constant_chars<'a>(scope: &Scope<'a>, k: u32) -> Result<Operand, CheckFault>
 
 /// A constant.
 pub fn constant_operand<'a>(scope: &Scope<'a>, c: Constant) -> Result<Operand, CheckFault>
-    ensures {
-        Answers (Stands scope.now)
-            (Keeps (operand_of_constant (constant_meant (table_of scope.now) (strings_of scope.now) c))) result
-    }
+    ensures { Answers (Stands scope.now)
+        (Keeps (operand_of_constant (constant_meant (table_of scope.now) (strings_of scope.now) c))) result }
 {
     match c {
         Constant::Bits(of, bits) => Ok(constant_bits(scope, of, bits)),
@@ -83,12 +77,10 @@ fn object_operand<'a>(
     symbol: u32,
     named: Named,
 ) -> Result<Begun, CheckFault>
-    ensures {
-        Answers (IsBegun scope.now)
-            (judged_object scope.now.source.now (world_of scope.now) (place scope.now.source.now symbol)
-                (object_of (table_of scope.now) (strings_of scope.now) named))
-            result
-    }
+    ensures { Answers (IsBegun scope.now)
+        (judged_object scope.now.source.now (world_of scope.now) (place scope.now.source.now symbol)
+        (object_of (table_of scope.now) (strings_of scope.now) named))
+        result }
 {
     match named {
         Named::Constant(c) => {
@@ -131,11 +123,9 @@ pub fn begin<'a>(
     symbol: u32,
     stage: Stage,
 ) -> Result<Begun, CheckFault>
-    ensures {
-        (a : JudgedStage) → IsStage scope.now stage a →
+    ensures { (a : JudgedStage) → IsStage scope.now stage a →
         Answers (IsBegun scope.now)
-            (judged_beginning scope.now.source.now (world_of scope.now) (place scope.now.source.now symbol) a) result
-    }
+        (judged_beginning scope.now.source.now (world_of scope.now) (place scope.now.source.now symbol) a) result }
 {
     match stage {
         Stage::Whole(named) => object_operand(scope, alloc, symbol, named),
@@ -151,12 +141,10 @@ fn named_operand<'a>(
     symbol: u32,
     named: Named,
 ) -> Result<Operand, CheckFault>
-    ensures {
-        Answers (Stands scope.now)
-            (judged_object scope.now.source.now (world_of scope.now) (place scope.now.source.now symbol)
-                (object_of (table_of scope.now) (strings_of scope.now) named))
-            result
-    }
+    ensures { Answers (Stands scope.now)
+        (judged_object scope.now.source.now (world_of scope.now) (place scope.now.source.now symbol)
+        (object_of (table_of scope.now) (strings_of scope.now) named))
+        result }
 {
     let x = object_operand(scope, alloc, symbol, named)?;
     Ok(operand_of(scope, x))
@@ -169,11 +157,9 @@ pub fn finished<'a>(
     symbol: u32,
     stage: Stage,
 ) -> Result<Operand, CheckFault>
-    ensures {
-        (a : JudgedStage) → IsStage scope.now stage a →
+    ensures { (a : JudgedStage) → IsStage scope.now stage a →
         Answers (Stands scope.now)
-            (judged_end scope.now.source.now (world_of scope.now) (place scope.now.source.now symbol) a) result
-    }
+        (judged_end scope.now.source.now (world_of scope.now) (place scope.now.source.now symbol) a) result }
 {
     match stage {
         Stage::Whole(named) => named_operand(scope, alloc, symbol, named),

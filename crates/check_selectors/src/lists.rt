@@ -37,13 +37,11 @@ pub fn element_of<'a>(
     x: Begun,
     i: Operand,
 ) -> Result<Part, CheckFault>
-    ensures {
-        (a b : Judgement) → IsBegun scope.now x a → Stands scope.now i b →
+    ensures { (a b : Judgement) → IsBegun scope.now x a → Stands scope.now i b →
         Answers (IsPart scope.now)
-            (judged_element scope.now.source.now (world_of scope.now) (place scope.now.source.now symbol)
-                (place scope.now.source.now index_symbol) a b)
-            result
-    }
+        (judged_element scope.now.source.now (world_of scope.now) (place scope.now.source.now symbol)
+        (place scope.now.source.now index_symbol) a b)
+        result }
 {
     match x {
         Begun::Variable(part) => element(scope, alloc, symbol, index_symbol, part, i),
@@ -59,13 +57,11 @@ fn guard_of<'a>(
     x: Begun,
     t: TypeRef,
 ) -> Result<Part, CheckFault>
-    ensures {
-        (a : Judgement) → IsBegun scope.now x a →
+    ensures { (a : Judgement) → IsBegun scope.now x a →
         Answers (IsPart scope.now)
-            (judged_guard scope.now.source.now (world_of scope.now) (place scope.now.source.now symbol) a
-                (type_shape (table_of scope.now) t))
-            result
-    }
+        (judged_guard scope.now.source.now (world_of scope.now) (place scope.now.source.now symbol) a
+        (type_shape (table_of scope.now) t))
+        result }
 {
     match x {
         Begun::Variable(part) => guarded(scope, alloc, symbol, part, t),
@@ -82,11 +78,9 @@ pub fn guarded_by<'a>(
     name: u32,
     member: Option<u32>,
 ) -> Result<Stage, CheckFault>
-    ensures {
-        (a : Judgement) → IsBegun scope.now x a →
+    ensures { (a : Judgement) → IsBegun scope.now x a →
         Answers (IsStage scope.now)
-            (guard_behind scope.now.source.now (world_of scope.now) (place scope.now.source.now symbol) (name, member) a) result
-    }
+        (guard_behind scope.now.source.now (world_of scope.now) (place scope.now.source.now symbol) (name, member) a) result }
 {
     let t = scope.type_named(31, name, member)?;
     let part = guard_of(scope, alloc, symbol, x, t)?;
@@ -95,10 +89,8 @@ pub fn guarded_by<'a>(
 
 /// Whether what stands before a list is a procedure.
 pub fn is_procedure<'a>(scope: &Scope<'a>, x: &Begun) -> bool
-    ensures {
-        (a : Judgement) → IsBegun scope.now x.now a →
-        tests_procedure scope.now.source.now (world_of scope.now) a.shape ≡ result
-    }
+    ensures { (a : Judgement) → IsBegun scope.now x.now a →
+        tests_procedure scope.now.source.now (world_of scope.now) a.shape ≡ result }
 {
     match x {
         Begun::Variable(part) => is_procedure_type(part.of),
@@ -124,11 +116,9 @@ fn applied<'a>(
     x: Operand,
     given: Vec<Given>,
 ) -> Result<Operand, CheckFault>
-    ensures {
-        (a : Judgement) (xs : List JudgedGiven) → Stands scope.now x a → AreGiven scope.now given.items xs →
+    ensures { (a : Judgement) (xs : List JudgedGiven) → Stands scope.now x a → AreGiven scope.now given.items xs →
         Answers (Stands scope.now)
-            (judged_call scope.now.source.now (world_of scope.now) (place scope.now.source.now symbol) a a.shape xs) result
-    }
+        (judged_call scope.now.source.now (world_of scope.now) (place scope.now.source.now symbol) a a.shape xs) result }
 {
     match x.of {
         TypeRef::Procedure(signature) => called(scope, alloc, symbol, x, signature, given),
@@ -144,11 +134,9 @@ pub fn called_last<'a>(
     x: Begun,
     given: Vec<Given>,
 ) -> Result<Stage, CheckFault>
-    ensures {
-        (a : Judgement) (xs : List JudgedGiven) → IsBegun scope.now x a → AreGiven scope.now given.items xs →
+    ensures { (a : Judgement) (xs : List JudgedGiven) → IsBegun scope.now x a → AreGiven scope.now given.items xs →
         Answers (IsStage scope.now)
-            (call_behind scope.now.source.now (world_of scope.now) (place scope.now.source.now symbol) xs a) result
-    }
+        (call_behind scope.now.source.now (world_of scope.now) (place scope.now.source.now symbol) xs a) result }
 {
     let y = applied(scope, alloc, symbol, operand_of(scope, x), given)?;
     Ok(Stage::Ended(y))
@@ -162,12 +150,10 @@ pub fn standard_last<'a>(
     s: Standard,
     given: Vec<Given>,
 ) -> Result<Stage, CheckFault>
-    ensures {
-        (xs : List JudgedGiven) → AreGiven scope.now given.items xs →
+    ensures { (xs : List JudgedGiven) → AreGiven scope.now given.items xs →
         Answers (IsStage scope.now)
-            (standard_behind scope.now.source.now (world_of scope.now) (place scope.now.source.now symbol) (standard_meant s) xs)
-            result
-    }
+        (standard_behind scope.now.source.now (world_of scope.now) (place scope.now.source.now symbol) (standard_meant s) xs)
+        result }
 {
     let x = standard(scope, alloc, symbol, s, given)?;
     Ok(Stage::Ended(x))

@@ -30,11 +30,9 @@ fn field_of<'a>(
     i: u32,
     x: Begun,
 ) -> Result<Part, CheckFault>
-    ensures {
-        (a : Judgement) → IsBegun scope.now x a →
+    ensures { (a : Judgement) → IsBegun scope.now x a →
         Answers (IsPart scope.now)
-            (judged_field scope.now.source.now (world_of scope.now) (place scope.now.source.now symbol) i a) result
-    }
+        (judged_field scope.now.source.now (world_of scope.now) (place scope.now.source.now symbol) i a) result }
 {
     match x {
         Begun::Variable(part) => field(scope, alloc, symbol, i, part),
@@ -49,11 +47,9 @@ fn target_of<'a>(
     symbol: u32,
     x: Begun,
 ) -> Result<Part, CheckFault>
-    ensures {
-        (a : Judgement) → IsBegun scope.now x a →
+    ensures { (a : Judgement) → IsBegun scope.now x a →
         Answers (IsPart scope.now)
-            (judged_target scope.now.source.now (world_of scope.now) (place scope.now.source.now symbol) a) result
-    }
+        (judged_target scope.now.source.now (world_of scope.now) (place scope.now.source.now symbol) a) result }
 {
     match x {
         Begun::Variable(part) => target(scope, alloc, symbol, part),
@@ -69,10 +65,8 @@ fn field_at<'a>(
     i: u32,
     stage: Stage,
 ) -> Result<Stage, CheckFault>
-    ensures {
-        (a : JudgedStage) → IsStage scope.now stage a →
-        Answers (IsStage scope.now) (field_behind scope.now.source.now (world_of scope.now) (place scope.now.source.now symbol) i a) result
-    }
+    ensures { (a : JudgedStage) → IsStage scope.now stage a →
+        Answers (IsStage scope.now) (field_behind scope.now.source.now (world_of scope.now) (place scope.now.source.now symbol) i a) result }
 {
     let x = begin(scope, alloc, symbol, stage)?;
     let part = field_of(scope, alloc, symbol, i, x)?;
@@ -81,9 +75,7 @@ fn field_at<'a>(
 
 // A name of a module.
 fn member_at<'a>(scope: &Scope<'a>, imported: Imported, i: u32) -> Result<Stage, CheckFault>
-    ensures {
-        Answers (IsStage scope.now) (member_behind scope.now.source.now (world_of scope.now) (imported_of imported) i) result
-    }
+    ensures { Answers (IsStage scope.now) (member_behind scope.now.source.now (world_of scope.now) (imported_of imported) i) result }
 {
     let named = scope.member(imported, i)?;
     Ok(Stage::Whole(named))
@@ -97,12 +89,10 @@ pub fn select_field<'a>(
     stage: Stage,
     i: u32,
 ) -> Result<Stage, CheckFault>
-    ensures {
-        (a : JudgedStage) (period : ℕ) → IsStage scope.now stage a →
+    ensures { (a : JudgedStage) (period : ℕ) → IsStage scope.now stage a →
         Answers (IsStage scope.now)
-            (judged_select scope.now.source.now (world_of scope.now) (place scope.now.source.now symbol) a (FieldSyntax period i))
-            result
-    }
+        (judged_select scope.now.source.now (world_of scope.now) (place scope.now.source.now symbol) a (FieldSyntax period i))
+        result }
 {
     match module_of(scope, &stage) {
         Some(imported) => member_at(scope, imported, i),
@@ -117,12 +107,10 @@ pub fn select_arrow<'a>(
     symbol: u32,
     stage: Stage,
 ) -> Result<Stage, CheckFault>
-    ensures {
-        (a : JudgedStage) (arrow : ℕ) → IsStage scope.now stage a →
+    ensures { (a : JudgedStage) (arrow : ℕ) → IsStage scope.now stage a →
         Answers (IsStage scope.now)
-            (judged_select scope.now.source.now (world_of scope.now) (place scope.now.source.now symbol) a (ArrowSyntax arrow))
-            result
-    }
+        (judged_select scope.now.source.now (world_of scope.now) (place scope.now.source.now symbol) a (ArrowSyntax arrow))
+        result }
 {
     let x = begin(scope, alloc, symbol, stage)?;
     let part = target_of(scope, alloc, symbol, x)?;
@@ -136,13 +124,11 @@ pub fn select_empty_parens<'a>(
     symbol: u32,
     stage: Stage,
 ) -> Result<Stage, CheckFault>
-    ensures {
-        (a : JudgedStage) (left_paren right_paren : ℕ) → IsStage scope.now stage a →
+    ensures { (a : JudgedStage) (left_paren right_paren : ℕ) → IsStage scope.now stage a →
         Answers (IsStage scope.now)
-            (judged_select scope.now.source.now (world_of scope.now) (place scope.now.source.now symbol) a
-                (EmptySyntax left_paren right_paren))
-            result
-    }
+        (judged_select scope.now.source.now (world_of scope.now) (place scope.now.source.now symbol) a
+        (EmptySyntax left_paren right_paren))
+        result }
 {
     match standard_of(scope, &stage) {
         Some(s) => standard_last(scope, alloc, symbol, s, Vec::new(alloc)),

@@ -23,12 +23,10 @@ pub fn type_test<'a>(
     name: u32,
     member: Option<u32>,
 ) -> Result<Operand, CheckFault>
-    ensures {
-        (a : Judgement) → Stands scope.now x a →
+    ensures { (a : Judgement) → Stands scope.now x a →
         Answers (Stands scope.now)
-            (judged_test scope.now.source.now (world_of scope.now) (Some (name, member)) (place scope.now.source.now symbol) a)
-            result
-    }
+        (judged_test scope.now.source.now (world_of scope.now) (Some (name, member)) (place scope.now.source.now symbol) a)
+        result }
 {
     let t = scope.type_named(31, name, member)?;
     tested(scope, alloc, symbol, x, t)

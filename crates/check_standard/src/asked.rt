@@ -22,10 +22,8 @@ pub fn assigned_to<'a>(
     to: TypeRef,
     x: Given,
 ) -> Result<Checked, CheckFault>
-    ensures {
-        (a : JudgedGiven) → IsGiven scope.now x a →
-        Answers (IsChecked scope.now) (judged_assigned (world_of scope.now) (type_shape (table_of scope.now) to) a) result
-    }
+    ensures { (a : JudgedGiven) → IsGiven scope.now x a →
+        Answers (IsChecked scope.now) (judged_assigned (world_of scope.now) (type_shape (table_of scope.now) to) a) result }
 {
     let Given { symbol, operand } = x;
     if may_assign(scope, to, &operand) {

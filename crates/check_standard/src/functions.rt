@@ -27,13 +27,14 @@ pub fn abs<'a>(
     symbol: u32,
     x: Given,
 ) -> Result<Operand, CheckFault>
-    ensures {
-        (a : JudgedGiven) → IsGiven scope.now x a →
+    ensures { (a : JudgedGiven) → IsGiven scope.now x a →
         Answers (Stands scope.now)
-            (judged_standard (world_of scope.now) (place scope.now.source.now symbol) TheAbs (a ∷ [])) result
-    }
+        (judged_standard (world_of scope.now) (place scope.now.source.now symbol) TheAbs (a ∷ [])) result }
 {
-    let Given { symbol: at, operand } = x;
+    let Given {
+        symbol: at,
+        operand,
+    } = x;
     if operand.of.is_number() {
         let tree = apply(alloc, Unary::Abs, form(scope, operand))?;
         Ok(function(TypeRef::Int, tree))
@@ -49,13 +50,14 @@ pub fn odd<'a>(
     symbol: u32,
     x: Given,
 ) -> Result<Operand, CheckFault>
-    ensures {
-        (a : JudgedGiven) → IsGiven scope.now x a →
+    ensures { (a : JudgedGiven) → IsGiven scope.now x a →
         Answers (Stands scope.now)
-            (judged_standard (world_of scope.now) (place scope.now.source.now symbol) TheOdd (a ∷ [])) result
-    }
+        (judged_standard (world_of scope.now) (place scope.now.source.now symbol) TheOdd (a ∷ [])) result }
 {
-    let Given { symbol: at, operand } = x;
+    let Given {
+        symbol: at,
+        operand,
+    } = x;
     if operand.of.is_number() {
         let tree = apply(alloc, Unary::Odd, form(scope, operand))?;
         Ok(function(TypeRef::Bool, tree))
@@ -66,13 +68,14 @@ pub fn odd<'a>(
 
 /// LEN.
 pub fn len<'a>(scope: &Scope<'a>, symbol: u32, x: Given) -> Result<Operand, CheckFault>
-    ensures {
-        (a : JudgedGiven) → IsGiven scope.now x a →
+    ensures { (a : JudgedGiven) → IsGiven scope.now x a →
         Answers (Stands scope.now)
-            (judged_standard (world_of scope.now) (place scope.now.source.now symbol) TheLen (a ∷ [])) result
-    }
+        (judged_standard (world_of scope.now) (place scope.now.source.now symbol) TheLen (a ∷ [])) result }
 {
-    let Given { symbol: at, operand } = x;
+    let Given {
+        symbol: at,
+        operand,
+    } = x;
     if operand.usage.is_variable() && scope.types.element(operand.of).is_some() {
         Ok(value(TypeRef::Int, Expr::Length(designator(scope, operand))))
     } else {
@@ -82,13 +85,14 @@ pub fn len<'a>(scope: &Scope<'a>, symbol: u32, x: Given) -> Result<Operand, Chec
 
 /// ORD.
 pub fn ord<'a>(scope: &Scope<'a>, symbol: u32, x: Given) -> Result<Operand, CheckFault>
-    ensures {
-        (a : JudgedGiven) → IsGiven scope.now x a →
+    ensures { (a : JudgedGiven) → IsGiven scope.now x a →
         Answers (Stands scope.now)
-            (judged_standard (world_of scope.now) (place scope.now.source.now symbol) TheOrd (a ∷ [])) result
-    }
+        (judged_standard (world_of scope.now) (place scope.now.source.now symbol) TheOrd (a ∷ [])) result }
 {
-    let Given { symbol: at, operand } = x;
+    let Given {
+        symbol: at,
+        operand,
+    } = x;
     if operand.of.may_order() {
         Ok(function(TypeRef::Int, form(scope, operand)))
     } else {
@@ -103,13 +107,14 @@ pub fn chr<'a>(
     symbol: u32,
     x: Given,
 ) -> Result<Operand, CheckFault>
-    ensures {
-        (a : JudgedGiven) → IsGiven scope.now x a →
+    ensures { (a : JudgedGiven) → IsGiven scope.now x a →
         Answers (Stands scope.now)
-            (judged_standard (world_of scope.now) (place scope.now.source.now symbol) TheChr (a ∷ [])) result
-    }
+        (judged_standard (world_of scope.now) (place scope.now.source.now symbol) TheChr (a ∷ [])) result }
 {
-    let Given { symbol: at, operand } = x;
+    let Given {
+        symbol: at,
+        operand,
+    } = x;
     if operand.of.is_number() {
         let tree = as_byte(alloc, form(scope, operand))?;
         Ok(function(TypeRef::Char, tree))
@@ -126,10 +131,8 @@ pub fn shifted<'a>(
     x: Given,
     n: Given,
 ) -> Result<Operand, CheckFault>
-    ensures {
-        (a b : JudgedGiven) → IsGiven scope.now x a → IsGiven scope.now n b →
-        Answers (Stands scope.now) (judged_shift (world_of scope.now) operator a b) result
-    }
+    ensures { (a b : JudgedGiven) → IsGiven scope.now x a → IsGiven scope.now n b →
+        Answers (Stands scope.now) (judged_shift (world_of scope.now) operator a b) result }
 {
     if !x.operand.of.is_number() {
         Err(scope.source.fault(31, x.symbol))

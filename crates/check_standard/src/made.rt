@@ -21,11 +21,9 @@ use tree_parts::Value;
 
 /// The value of a function that a constant expression may have.
 pub fn function(of: TypeRef, tree: Expr) -> Operand
-    ensures {
-        (s : TheScope) (shape : Shape) (x : Image) → type_shape (table_of s) of ≡ shape →
+    ensures { (s : TheScope) (shape : Shape) (x : Image) → type_shape (table_of s) of ≡ shape →
         plain_expr (table_of s) (texts_of s) tree ≡ outlined_expr (bases_of s) x →
-        Stands s result (operand_of shape (Valued x) AsConstant)
-    }
+        Stands s result (operand_of shape (Valued x) AsConstant) }
 {
     Operand {
         of,
@@ -36,11 +34,9 @@ pub fn function(of: TypeRef, tree: Expr) -> Operand
 
 /// The call of a proper procedure, as this statement.
 pub fn proper(alloc: Global, made: Stmt) -> Result<Operand, AllocError>
-    ensures {
-        IfOk result (λ o. (s : TheScope) (d : StatementImage) →
-            plain_statement (table_of s) (texts_of s) made ≡ outlined_statement (bases_of s) d →
-            Stands s o (operand_of Nothing (Proper d) AsValue))
-    }
+    ensures { IfOk result (λ o. (s : TheScope) (d : StatementImage) →
+        plain_statement (table_of s) (texts_of s) made ≡ outlined_statement (bases_of s) d →
+        Stands s o (operand_of Nothing (Proper d) AsValue)) }
 {
     let held = Box::new(alloc, made)?;
     Ok(Operand {
@@ -66,10 +62,8 @@ pub enum Change {
 impl Change {
     /// The statement.
     pub fn of(self, variable: Designator, by: Checked) -> Stmt
-        ensures {
-            (t : Table) (texts : List (List ℕ)) →
-            plain_statement t texts result ≡ changed_by self (plain_designator t texts variable) (plain_checked t texts by)
-        }
+        ensures { (t : Table) (texts : List (List ℕ)) →
+            plain_statement t texts result ≡ changed_by self (plain_designator t texts variable) (plain_checked t texts by) }
     {
         match self {
             Change::Increase => Stmt::Increase(variable, by),

@@ -29,10 +29,8 @@ pub fn changed_by_one<'a>(
     change: Change,
     v: Given,
 ) -> Result<Operand, CheckFault>
-    ensures {
-        (a : JudgedGiven) → IsGiven scope.now v a →
-        Answers (Stands scope.now) (judged_change (world_of scope.now) (change_of change) a (by_one (world_of scope.now))) result
-    }
+    ensures { (a : JudgedGiven) → IsGiven scope.now v a →
+        Answers (Stands scope.now) (judged_change (world_of scope.now) (change_of change) a (by_one (world_of scope.now))) result }
 {
     written(scope, &v)?;
     if v.operand.of.is_number() {
@@ -55,11 +53,9 @@ pub fn changed_by<'a>(
     v: Given,
     n: Given,
 ) -> Result<Operand, CheckFault>
-    ensures {
-        (a b : JudgedGiven) → IsGiven scope.now v a → IsGiven scope.now n b →
+    ensures { (a b : JudgedGiven) → IsGiven scope.now v a → IsGiven scope.now n b →
         Answers (Stands scope.now)
-            (judged_change (world_of scope.now) (change_of change) a (judged_number (world_of scope.now) b)) result
-    }
+        (judged_change (world_of scope.now) (change_of change) a (judged_number (world_of scope.now) b)) result }
 {
     written(scope, &v)?;
     if !v.operand.of.is_number() {
@@ -82,10 +78,8 @@ pub fn set_changed<'a>(
     v: Given,
     x: Given,
 ) -> Result<Operand, CheckFault>
-    ensures {
-        (a b : JudgedGiven) → IsGiven scope.now v a → IsGiven scope.now x b →
-        Answers (Stands scope.now) (judged_set_change (world_of scope.now) (change_of change) a b) result
-    }
+    ensures { (a b : JudgedGiven) → IsGiven scope.now v a → IsGiven scope.now x b →
+        Answers (Stands scope.now) (judged_set_change (world_of scope.now) (change_of change) a b) result }
 {
     written(scope, &v)?;
     if !v.operand.of.is_set() {
@@ -107,11 +101,9 @@ pub fn new<'a>(
     symbol: u32,
     v: Given,
 ) -> Result<Operand, CheckFault>
-    ensures {
-        (a : JudgedGiven) → IsGiven scope.now v a →
+    ensures { (a : JudgedGiven) → IsGiven scope.now v a →
         Answers (Stands scope.now)
-            (judged_standard (world_of scope.now) (place scope.now.source.now symbol) TheNew (a ∷ [])) result
-    }
+        (judged_standard (world_of scope.now) (place scope.now.source.now symbol) TheNew (a ∷ [])) result }
 {
     written(scope, &v)?;
     match scope.types.target_of(v.operand.of) {
@@ -134,13 +126,14 @@ pub fn assert<'a>(
     symbol: u32,
     x: Given,
 ) -> Result<Operand, CheckFault>
-    ensures {
-        (a : JudgedGiven) → IsGiven scope.now x a →
+    ensures { (a : JudgedGiven) → IsGiven scope.now x a →
         Answers (Stands scope.now)
-            (judged_standard (world_of scope.now) (place scope.now.source.now symbol) TheAssert (a ∷ [])) result
-    }
+        (judged_standard (world_of scope.now) (place scope.now.source.now symbol) TheAssert (a ∷ [])) result }
 {
-    let Given { symbol: at, operand } = x;
+    let Given {
+        symbol: at,
+        operand,
+    } = x;
     if operand.of.is_truth() {
         let made = proper(alloc, Stmt::Assert(checked(scope, operand)))?;
         Ok(made)
@@ -156,11 +149,9 @@ pub fn out_char<'a>(
     symbol: u32,
     x: Given,
 ) -> Result<Operand, CheckFault>
-    ensures {
-        (a : JudgedGiven) → IsGiven scope.now x a →
+    ensures { (a : JudgedGiven) → IsGiven scope.now x a →
         Answers (Stands scope.now)
-            (judged_standard (world_of scope.now) (place scope.now.source.now symbol) TheOutChar (a ∷ [])) result
-    }
+        (judged_standard (world_of scope.now) (place scope.now.source.now symbol) TheOutChar (a ∷ [])) result }
 {
     let value = assigned_to(scope, alloc, TypeRef::Char, x)?;
     let made = proper(alloc, Stmt::OutChar(value))?;
@@ -175,11 +166,9 @@ pub fn out_int<'a>(
     x: Given,
     n: Given,
 ) -> Result<Operand, CheckFault>
-    ensures {
-        (a b : JudgedGiven) → IsGiven scope.now x a → IsGiven scope.now n b →
+    ensures { (a b : JudgedGiven) → IsGiven scope.now x a → IsGiven scope.now n b →
         Answers (Stands scope.now)
-            (judged_standard (world_of scope.now) (place scope.now.source.now symbol) TheOutInt (a ∷ b ∷ [])) result
-    }
+        (judged_standard (world_of scope.now) (place scope.now.source.now symbol) TheOutInt (a ∷ b ∷ [])) result }
 {
     let value = assigned_to(scope, alloc, TypeRef::Int, x)?;
     let width = assigned_to(scope, alloc, TypeRef::Int, n)?;
@@ -189,10 +178,8 @@ pub fn out_int<'a>(
 
 // A string, or a variable that holds characters.
 fn is_string<'a>(scope: &Scope<'a>, x: &Operand) -> bool
-    ensures {
-        (a : Judgement) → Stands scope.now x.now a →
-        (tests_chars a.what || asks_variable a && tests_text a.shape) ≡ result
-    }
+    ensures { (a : Judgement) → Stands scope.now x.now a →
+        (tests_chars a.what || asks_variable a && tests_text a.shape) ≡ result }
 {
     is_chars(scope, &x.what) || (x.usage.is_variable() && scope.types.is_text(x.of))
 }
@@ -204,13 +191,14 @@ pub fn out_string<'a>(
     symbol: u32,
     x: Given,
 ) -> Result<Operand, CheckFault>
-    ensures {
-        (a : JudgedGiven) → IsGiven scope.now x a →
+    ensures { (a : JudgedGiven) → IsGiven scope.now x a →
         Answers (Stands scope.now)
-            (judged_standard (world_of scope.now) (place scope.now.source.now symbol) TheOutString (a ∷ [])) result
-    }
+        (judged_standard (world_of scope.now) (place scope.now.source.now symbol) TheOutString (a ∷ [])) result }
 {
-    let Given { symbol: at, operand } = x;
+    let Given {
+        symbol: at,
+        operand,
+    } = x;
     if is_string(scope, &operand) {
         let made = proper(alloc, Stmt::OutString(designator(scope, operand)))?;
         Ok(made)
@@ -221,10 +209,8 @@ pub fn out_string<'a>(
 
 /// Out.Ln.
 pub fn out_line<'a>(scope: &Scope<'a>, alloc: Global, symbol: u32) -> Result<Operand, CheckFault>
-    ensures {
-        Answers (Stands scope.now)
-            (judged_standard (world_of scope.now) (place scope.now.source.now symbol) TheOutLn []) result
-    }
+    ensures { Answers (Stands scope.now)
+        (judged_standard (world_of scope.now) (place scope.now.source.now symbol) TheOutLn []) result }
 {
     let made = proper(alloc, Stmt::OutLn)?;
     Ok(made)
@@ -237,11 +223,9 @@ pub fn in_char<'a>(
     symbol: u32,
     v: Given,
 ) -> Result<Operand, CheckFault>
-    ensures {
-        (a : JudgedGiven) → IsGiven scope.now v a →
+    ensures { (a : JudgedGiven) → IsGiven scope.now v a →
         Answers (Stands scope.now)
-            (judged_standard (world_of scope.now) (place scope.now.source.now symbol) TheInChar (a ∷ [])) result
-    }
+        (judged_standard (world_of scope.now) (place scope.now.source.now symbol) TheInChar (a ∷ [])) result }
 {
     written(scope, &v)?;
     if v.operand.of.is_char_only() {

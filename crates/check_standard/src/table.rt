@@ -29,10 +29,8 @@ fn of_none<'a>(
     symbol: u32,
     s: Standard,
 ) -> Result<Operand, CheckFault>
-    ensures {
-        Answers (Stands scope.now)
-            (judged_standard (world_of scope.now) (place scope.now.source.now symbol) (standard_of s) []) result
-    }
+    ensures { Answers (Stands scope.now)
+        (judged_standard (world_of scope.now) (place scope.now.source.now symbol) (standard_of s) []) result }
 {
     match s {
         Standard::OutLn => out_line(scope, alloc, symbol),
@@ -48,11 +46,9 @@ fn of_one<'a>(
     s: Standard,
     x: Given,
 ) -> Result<Operand, CheckFault>
-    ensures {
-        (a : JudgedGiven) → IsGiven scope.now x a →
+    ensures { (a : JudgedGiven) → IsGiven scope.now x a →
         Answers (Stands scope.now)
-            (judged_standard (world_of scope.now) (place scope.now.source.now symbol) (standard_of s) (a ∷ [])) result
-    }
+        (judged_standard (world_of scope.now) (place scope.now.source.now symbol) (standard_of s) (a ∷ [])) result }
 {
     match s {
         Standard::Abs => abs(scope, alloc, symbol, x),
@@ -80,11 +76,9 @@ fn of_two<'a>(
     x: Given,
     y: Given,
 ) -> Result<Operand, CheckFault>
-    ensures {
-        (a b : JudgedGiven) → IsGiven scope.now x a → IsGiven scope.now y b →
+    ensures { (a b : JudgedGiven) → IsGiven scope.now x a → IsGiven scope.now y b →
         Answers (Stands scope.now)
-            (judged_standard (world_of scope.now) (place scope.now.source.now symbol) (standard_of s) (a ∷ b ∷ [])) result
-    }
+        (judged_standard (world_of scope.now) (place scope.now.source.now symbol) (standard_of s) (a ∷ b ∷ [])) result }
 {
     match s {
         Standard::Lsl => shifted(scope, alloc, Binary::Lsl, x, y),
@@ -107,11 +101,9 @@ pub fn standard<'a>(
     s: Standard,
     given: Vec<Given>,
 ) -> Result<Operand, CheckFault>
-    ensures {
-        (xs : List JudgedGiven) → AreGiven scope.now given.items xs →
+    ensures { (xs : List JudgedGiven) → AreGiven scope.now given.items xs →
         Answers (Stands scope.now)
-            (judged_standard (world_of scope.now) (place scope.now.source.now symbol) (standard_of s) xs) result
-    }
+        (judged_standard (world_of scope.now) (place scope.now.source.now symbol) (standard_of s) xs) result }
 {
     let mut rest = given.into_iter();
     match rest.next() {

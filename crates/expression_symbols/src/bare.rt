@@ -18,10 +18,8 @@ pub struct BareName {
 
 // A designator.
 fn bare_designator(tree: &Designator) -> Option<BareName>
-    ensures {
-        option_map name_and_member result
-        ≡ bare_in_factor (Designated tree.now.name (plain_each_selector tree.now.selectors.items))
-    }
+    ensures { option_map name_and_member result
+        ≡ bare_in_factor (Designated tree.now.name (plain_each_selector tree.now.selectors.items)) }
 {
     match tree.selectors.as_slice() {
         [] => Some(BareName {
@@ -59,10 +57,8 @@ fn bare_term(tree: &Term) -> Option<BareName>
 
 // A sum without a sign.
 fn unsigned(tree: &Simple) -> Option<BareName>
-    ensures {
-        option_map name_and_member result
-        ≡ bare_in_simple (simple None (plain_term (out-Simple tree.now).first) (plain_each_added (out-Simple tree.now).more.items))
-    }
+    ensures { option_map name_and_member result
+        ≡ bare_in_simple (simple None (plain_term (out-Simple tree.now).first) (plain_each_added (out-Simple tree.now).more.items)) }
 {
     if tree.more.as_slice().is_empty() {
         bare_term(&tree.first)
