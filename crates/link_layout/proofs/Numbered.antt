@@ -1,11 +1,11 @@
 -- Blocks' places by number.
-use Rattle.std.proofs.Common.{◌≡◌, ℕ, suc, ◌+◌, ◌<◌, ◌≤◌, Bool, true, false, List, [], ◌∷◌, length, get_or, drop, refl, arith, sym, ap, ap₂, ◌∙◌, subst}
+use Rattle.std.proofs.Common.{◌≡◌, ℕ, zero, suc, ◌+◌, ◌<◌, ◌≤◌, ◌^◌, Bool, true, false, List, [], ◌∷◌, length, get_or, drop, set, replicate, refl, arith, sym, ap, ap₂, ◌∙◌, subst}
 use Rattle.std.specs.Prelude.{◌==◌, if◌then◌else◌}
 use Rattle.std.proofs.lemmas.Bool.{eqb-true}
 use Rattle.std.proofs.lemmas.List.{drop_more, drop_all}
 use Rattle.placed_code.specs.Placed.{Placed, proc_of}
 use Rattle.placed_code.specs.Layout.{followed, placings, position, block_width, front_width, proc_width, entry}
-use Rattle.link_words.specs.Fields.{entry_in}
+use Rattle.link_words.specs.Fields.{InReach, entry_in}
 use Rattle.link_layout.specs.Starts.{starts_from, end_from, IsByNumber}
 use Rattle.link_layout.specs.Widths.{widths_of, AreBlocks, ArePlaces, IsWide}
 use Rattle.link_layout.proofs.Placing.{starts_length, starts_at, ends_at}
@@ -80,3 +80,17 @@ wide_is pr p front widths is = ap₂ (λ m (ws : List ℕ). end_from m ws) is.fr
 -- a beginning that is checked is the same
 pub checked : (ps : List Placed) (p : ℕ) (order widths : List ℕ) (first count next : ℕ) → next ≡ first + 0 → AreBlocks ps p first order widths count → AreBlocks ps p next order widths count
 checked ps p order widths first count next e is = let z : next ≡ first = omega (arith, e) in record { begins = z ∙ is.begins; order_is = is.order_is; widths_are = is.widths_are; count_is = is.count_is }
+
+---- Reach
+
+pub zeros_reach : (n : ℕ) → InReach (replicate n 0)
+zeros_reach zero p = omega arith
+zeros_reach (suc n) zero = omega arith
+zeros_reach (suc n) (suc p) = zeros_reach n p
+
+pub set_reach : (xs : List ℕ) (i x : ℕ) → x ≤ 2 ^ 18 → InReach xs → InReach (set xs i x)
+set_reach [] i x l r p = r p
+set_reach (y ∷ ys) zero x l r zero = l
+set_reach (y ∷ ys) zero x l r (suc p) = r (suc p)
+set_reach (y ∷ ys) (suc i) x l r zero = r 0
+set_reach (y ∷ ys) (suc i) x l r (suc p) = set_reach ys i x l (λ q. r (suc q)) p

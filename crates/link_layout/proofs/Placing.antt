@@ -6,7 +6,7 @@ use Rattle.run_laws.specs.Layers.{width_before, whole_width}
 use Rattle.placed_code.specs.Placed.{Placed}
 use Rattle.placed_code.specs.Layout.{proc_width, body_count, procedures_at, all_words}
 use Rattle.placed_code.proofs.Linking.{all_size}
-use Rattle.link_words.specs.Fields.{entry_in}
+use Rattle.link_words.specs.Fields.{InReach, entry_in}
 use Rattle.link_layout.specs.Starts.{starts_from, end_from}
 use Rattle.link_layout.specs.Widths.{widths_of, AreWidths, AreEntries}
 
@@ -27,6 +27,12 @@ module _ {A : Type 0} (width : ℕ → A → ℕ) where
 pub end_from-le : (k : ℕ) (ws : List ℕ) → k ≤ end_from k ws
 end_from-le k [] = omega arith
 end_from-le k (w ∷ ws) = let r = end_from-le (k + w) ws in omega (arith, r)
+
+-- no part begins behind the end of all
+pub reach_from : (k : ℕ) (ws : List ℕ) → end_from k ws ≤ 2 ^ 18 → InReach (starts_from k ws)
+reach_from k [] l p = omega arith
+reach_from k (w ∷ ws) l zero = let more = end_from-le (k + w) ws in omega (arith, more, l)
+reach_from k (w ∷ ws) l (suc p) = reach_from (k + w) ws l p
 
 first_is : (ps : List Placed) (bodies first : ℕ) → body_count ps ≡ bodies → first ≡ bodies + 1 + 38 → first ≡ procedures_at ps
 first_is ps bodies first b f = omega (arith, b, f)

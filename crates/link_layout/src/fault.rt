@@ -17,6 +17,14 @@ pub enum LayoutFault {
     Memory,
 }
 
+impl From<outside::Memory> for LayoutFault {
+    ghost from_gives = { λ _ e. e ≡ Memory };
+
+    fn from(_error: outside::Memory) -> Self {
+        LayoutFault::Memory
+    }
+}
+
 impl From<AllocError> for LayoutFault {
     ghost from_gives = { λ _ e. e ≡ Memory };
 

@@ -15,7 +15,7 @@ mod starting;
 mod tests;
 mod widths;
 
-pub use blocks::{block_places, procedure_width};
+pub use blocks::{block_places, end_of, procedure_width};
 pub use copies::{Copy, Spot, copies_width};
 pub use fault::LayoutFault;
 pub use frames::{end_width, epilogue_width, prologue_width};

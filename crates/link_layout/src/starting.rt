@@ -3,6 +3,7 @@
 ghost use Rattle.std.specs.Prelude.{◌≡◌, ◌+◌, ◌<◌, ◌≤◌, ◌^◌, List, length, IfOk, IfErr, OnOk};
 ghost use Rattle.placed_code.specs.Placed.{Placed};
 ghost use Rattle.placed_code.specs.Layout.{all_words};
+ghost use Rattle.link_words.specs.Fields.{InReach};
 ghost use Rattle.link_layout.specs.Starts.{starts_from, end_from};
 ghost use Rattle.link_layout.specs.Widths.{AreWidths, AreEntries};
 ghost use Rattle.link_layout.specs.declared.fault.LayoutFault.TheVariants.{Limit, Memory};
@@ -20,6 +21,7 @@ const ROUTINES: u32 = 38;
 pub fn entries(alloc: Global, bodies: u32, widths: &[u32]) -> Result<Vec<u32>, LayoutFault>
     ensures entries { IfOk result (λ entries. (ps : List Placed) → AreWidths ps bodies widths.now → AreEntries ps entries.items) }
     ensures fits { IfOk result (λ entries. (ps : List Placed) → AreWidths ps bodies widths.now → length (all_words ps) ≤ 2 ^ 18) }
+    ensures reach { IfOk result (λ entries. InReach entries.items) }
     ensures limit { IfErr result (λ fault. fault ≡ Limit → (ps : List Placed) → AreWidths ps bodies widths.now → 2 ^ 18 < length (all_words ps)) }
 {
     let start = behind(bodies, 1)?;
@@ -32,6 +34,7 @@ pub(crate) fn starts(alloc: Global, first: u32, widths: &[u32]) -> Result<Vec<u3
     requires { first ≤ 2 ^ 18 }
     ensures starts { IfOk result (λ starts. starts.items ≡ starts_from first widths.now) }
     ensures fits { IfOk result (λ starts. end_from first widths.now ≤ 2 ^ 18) }
+    ensures reach { IfOk result (λ starts. InReach starts.items) }
     ensures limit { IfErr result (λ fault. fault ≡ Limit → 2 ^ 18 < end_from first widths.now) }
 {
     let mut starts = Vec::new(alloc);

@@ -1,5 +1,5 @@
 -- When the numbers of operations and frames fit the fields of instructions.
-use Rattle.std.specs.Prelude.{ℕ, ◌+◌, ◌-◌, ◌<◌, ◌^◌, List, slice_index_or}
+use Rattle.std.specs.Prelude.{ℕ, ◌+◌, ◌-◌, ◌<◌, ◌≤◌, ◌^◌, List, slice_index_or}
 use Rattle.block_runs.specs.declared.code.Code.{Code}
 use Rattle.block_runs.specs.declared.code.Code.TheVariants.{Global, Local, Plus, Arg, IsPtr, IsTag, GuardPtr, GuardTag}
 
@@ -19,6 +19,6 @@ NumberFits slots _ = Unit {0}
 abbrev pub entry_in : List ℕ → ℕ → ℕ
 entry_in entries p = slice_index_or entries p 0
 
--- code words that branches reach
+-- each is a code word, or the place behind the last one
 abbrev pub InReach : List ℕ → Type 0
-InReach entries = (p : ℕ) → entry_in entries p < 2 ^ 18
+InReach entries = (p : ℕ) → entry_in entries p ≤ 2 ^ 18

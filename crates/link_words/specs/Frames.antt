@@ -1,5 +1,5 @@
 -- The words of entries, ends and copies, from the parts of a frame.
-use Rattle.std.specs.Prelude.{◌≡◌, ℕ, suc, ◌*◌, ◌<◌, ◌^◌, ◌==◌, List, [], ◌∷◌, ◌++◌}
+use Rattle.std.specs.Prelude.{◌≡◌, ℕ, suc, ◌+◌, ◌*◌, ◌<◌, ◌^◌, ◌==◌, Bool, if◌then◌else◌, List, [], ◌∷◌, ◌++◌}
 use Rattle.a64_instr.specs.declared.instr.Shift.TheVariants.{Lsl}
 use Rattle.a64_instr.specs.declared.instr.Cond.TheVariants.{Hs}
 use Rattle.a64_instr.specs.declared.instr.Instr.{Instr}
@@ -11,6 +11,7 @@ use Rattle.block_runs.specs.declared.end.End.TheVariants.{Return, Jump, Branch, 
 use Rattle.placed_code.specs.Placed.{Placed}
 use Rattle.placed_code.specs.Words.{slots_of, prologue, epilogue, last_words, turned, jump_words, branch_words, nonzero_words, result_words, depth_words, undepth_words, frame_words, unframe_words, local_words, unlocal_words}
 use Rattle.placed_code.specs.Words as place
+use Rattle.placed_code.specs.Layout.{jump_width}
 use Rattle.link_words.specs.declared.frames.Frame.{Frame}
 use Rattle.link_words.specs.declared.ends.Where.{Where}
 use Rattle.link_words.specs.declared.ends.Where.TheVariants.{InReg, InSlot}
@@ -51,6 +52,17 @@ last_of n block f k (Jump to args) a b = jump_words (to == n) k (block to)
 last_of n block f k (Branch c x y one other) a b = against a b ∷ branch_words (turned n one other) (other == n) (suc k) (cond_of c) (block one) (block other)
 last_of n block f k (Nonzero x one other) a b = nonzero_words (turned n one other) (other == n) k a (block one) (block other)
 last_of n block f k (Trap kind) a b = Brk kind ∷ []
+
+-- how many words lead to two blocks, and those of an end that branches; 0 for one that doesn't
+abbrev pub width_of_ways : Bool → Bool → ℕ
+width_of_ways turned falls = if turned then 1 else (1 + jump_width falls)
+
+abbrev pub width_of_end : ℕ → End → ℕ
+width_of_end n (Return x) = 0
+width_of_end n (Jump to args) = jump_width (to == n)
+width_of_end n (Branch c x y one other) = 1 + width_of_ways (turned n one other) (other == n)
+width_of_end n (Nonzero x one other) = width_of_ways (turned n one other) (other == n)
+width_of_end n (Trap kind) = 0
 
 -- the frame of a placed procedure
 abbrev pub frame_in : Placed → Frame

@@ -6,8 +6,9 @@ ghost use Rattle.a64_numbers.specs.Branches.{branch_field};
 ghost use Rattle.a64_machine.specs.State.{address_of};
 ghost use Rattle.placed_code.specs.Words.{move, turned, jump_words, branch_words, nonzero_words};
 ghost use Rattle.placed_code.specs.Words as place;
+ghost use Rattle.placed_code.specs.Layout.{jump_width};
 ghost use Rattle.link_words.specs.Fields.{InReach, entry_in};
-ghost use Rattle.link_words.specs.Frames.{FrameFits, WhereFits, last_of, where_of};
+ghost use Rattle.link_words.specs.Frames.{FrameFits, WhereFits, width_of_ways, width_of_end, last_of, where_of};
 
 use crate::frames::{Frame, push_epilogue};
 use crate::operations::{condition, entry_of};
@@ -62,7 +63,7 @@ fn push_out(words: &mut Vec<u32>, to: u32, from: Where) -> Result<(), Memory>
 /// The field of a conditional branch between two words.
 fn near_distance(from: u32, to: u32) -> Bits<19>
     requires from { from < 2 ^ 18 }
-    requires to { to < 2 ^ 18 }
+    requires to { to ≤ 2 ^ 18 }
     ensures { result ≡ branch_field 19 (address_of from) (address_of to) }
 {
     if from <= to {
@@ -74,8 +75,8 @@ fn near_distance(from: u32, to: u32) -> Bits<19>
 
 /// Appends a jump to a word, where that word doesn't fall next.
 fn push_jump(words: &mut Vec<u32>, falls: bool, to: u32) -> Result<(), Memory>
-    requires to { to < 2 ^ 18 }
-    requires near { length words.old.items < 2 ^ 18 }
+    requires to { to ≤ 2 ^ 18 }
+    requires near { length words.old.items + jump_width falls ≤ 2 ^ 18 }
     ensures { OnOk result (words.new.items ≡ words.old.items ++ map word_of (jump_words falls (length words.old.items) to)) }
 {
     if falls {
@@ -101,9 +102,9 @@ struct Ways {
 
 /// Appends a comparison of two registers and a branch by a condition.
 fn push_branch(words: &mut Vec<u32>, compared: Instr, cond: Cond, ways: Ways) -> Result<(), Memory>
-    requires one { ways.one < 2 ^ 18 }
-    requires other { ways.other < 2 ^ 18 }
-    requires near { length words.old.items + 2 < 2 ^ 18 }
+    requires one { ways.one ≤ 2 ^ 18 }
+    requires other { ways.other ≤ 2 ^ 18 }
+    requires near { length words.old.items + 1 + width_of_ways ways.turned ways.falls ≤ 2 ^ 18 }
     ensures { OnOk result (words.new.items ≡ words.old.items ++ map word_of (compared ∷ branch_words ways.turned ways.falls (suc (length words.old.items)) cond ways.one ways.other)) }
 {
     let from = words.len() as u32 + 1;
@@ -131,9 +132,9 @@ fn push_branch(words: &mut Vec<u32>, compared: Instr, cond: Cond, ways: Ways) ->
 
 /// Appends a branch by whether a register is 0.
 fn push_nonzero(words: &mut Vec<u32>, rt: Reg, ways: Ways) -> Result<(), Memory>
-    requires one { ways.one < 2 ^ 18 }
-    requires other { ways.other < 2 ^ 18 }
-    requires near { length words.old.items + 1 < 2 ^ 18 }
+    requires one { ways.one ≤ 2 ^ 18 }
+    requires other { ways.other ≤ 2 ^ 18 }
+    requires near { length words.old.items + width_of_ways ways.turned ways.falls ≤ 2 ^ 18 }
     ensures { OnOk result (words.new.items ≡ words.old.items ++ map word_of (nonzero_words ways.turned ways.falls (length words.old.items) rt ways.one ways.other)) }
 {
     let from = words.len() as u32;
@@ -146,7 +147,8 @@ fn push_nonzero(words: &mut Vec<u32>, rt: Reg, ways: Ways) -> Result<(), Memory>
     push_jump(words, ways.falls, ways.other)
 }
 
-/// Appends the words of an end: where the blocks of its procedure begin is given, and which of them falls next.
+/// Appends the words of an end: where the blocks of its procedure begin is given, and which of them falls next. The words of a
+/// branch must lie within 262,144.
 pub fn push_end(
     words: &mut Vec<u32>,
     frame: Frame,
@@ -158,7 +160,7 @@ pub fn push_end(
 ) -> Result<(), Memory>
     requires frame { FrameFits frame }
     requires blocks { InReach blocks.now }
-    requires near { length words.old.items + 2 < 2 ^ 18 }
+    requires near { length words.old.items + width_of_end next end.now ≤ 2 ^ 18 }
     ensures { OnOk result (words.new.items ≡ words.old.items ++ map word_of (last_of next (entry_in blocks.now) frame (length words.old.items) end.now a b)) }
 {
     match end {

@@ -1,6 +1,6 @@
 //! The words of operations.
 
-ghost use Rattle.std.specs.Prelude.{◌≡◌, ℕ, ◌+◌, ◌<◌, ◌^◌, [], ◌∷◌, ◌++◌, map, length, OnOk};
+ghost use Rattle.std.specs.Prelude.{◌≡◌, ℕ, ◌+◌, ◌<◌, ◌≤◌, ◌^◌, [], ◌∷◌, ◌++◌, map, length, OnOk};
 ghost use Rattle.a64_instr.specs.declared.instr.Cond.TheVariants.{Gt};
 ghost use Rattle.a64_instr.specs.declared.instr.Instr.TheVariants.{Csinc};
 ghost use Rattle.a64_table.specs.Table.{word_of};
@@ -133,7 +133,7 @@ pub(crate) fn condition(number: u8) -> Cond
 
 /// Appends a call of the code at a word.
 fn push_call(words: &mut Vec<u32>, to: u32) -> Result<(), Memory>
-    requires to { to < 2 ^ 18 }
+    requires to { to ≤ 2 ^ 18 }
     requires near { length words.old.items < 2 ^ 18 }
     ensures { OnOk result (words.new.items ≡ words.old.items ++ map word_of (calls_at (length words.old.items) to)) }
 {
@@ -148,7 +148,7 @@ fn push_call(words: &mut Vec<u32>, to: u32) -> Result<(), Memory>
 
 /// Appends what makes the address of a word.
 fn push_address(words: &mut Vec<u32>, rd: Reg, word: u32) -> Result<(), Memory>
-    requires { word < 2 ^ 18 }
+    requires { word ≤ 2 ^ 18 }
     ensures { OnOk result (words.new.items ≡ words.old.items ++ map word_of (op_words (λ p. word) 0 0 0 (o.Code 0) 0 0 0 rd)) }
 {
     let address = 65_536 + 4 * word;

@@ -1,6 +1,6 @@
 //! Instructions in the shapes that code takes: two registers without a shift, numbers, branches over a word.
 
-ghost use Rattle.std.specs.Prelude.{◌≡◌, ℕ, ◌+◌, ◌/◌, ◌%◌, ◌^◌, ◌<◌, true, false};
+ghost use Rattle.std.specs.Prelude.{◌≡◌, ℕ, ◌+◌, ◌/◌, ◌%◌, ◌^◌, ◌<◌, ◌≤◌, true, false};
 ghost use Rattle.a64_numbers.specs.Branches.{branch_field};
 ghost use Rattle.a64_instr.specs.declared.instr.Instr.TheVariants.{AddImm, SubImm, SubsImm, AddReg, SubReg, SubsReg, AndReg, BicReg, OrrReg, OrnReg, EorReg, Lslv, Lsrv, Asrv, Rorv, Madd, Ldr, Str, Ldrb, Strb, Movz, Movn, BCond, Cbnz, Csel, Csinc, Csneg, Brk, Svc};
 ghost use Rattle.a64_instr.specs.declared.instr.Shift.TheVariants.{Lsl};
@@ -206,7 +206,7 @@ pub(crate) fn store(rt: Reg, rn: Reg, cell: u32) -> Instr
 /// The field of a branch between two words.
 pub(crate) fn distance(from: u32, to: u32) -> Bits<26>
     requires from { from < 2 ^ 18 }
-    requires to { to < 2 ^ 18 }
+    requires to { to ≤ 2 ^ 18 }
     ensures { result ≡ branch_field 26 (address_of from) (address_of to) }
 {
     if from <= to {

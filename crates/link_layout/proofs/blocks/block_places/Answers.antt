@@ -1,4 +1,5 @@
-use Rattle.std.proofs.Common.{◌∙◌, sym, arith}
+use Rattle.std.proofs.Common.{◌∙◌, sym, subst, arith}
+use Rattle.link_words.specs.Fields.{InReach}
 use Rattle.link_layout.proofs.Placing.{err_so, errs_with, end_from-le}
 use Rattle.link_layout.proofs.Numbered.{places_are, proc_end, checked}
 use Rattle.link_layout.proofs.blocks.block_places.Goals as goal
@@ -21,7 +22,7 @@ pub returns-clause-places : goal.returns-clause-places
 returns-clause-places c ps p is =
     let a = c.args in
     let begun = c.as_slice.ensures.value ∙ c.in_ok-starts.ensures.starts in
-    places_are ps p a.order.now a.widths.now c.as_slice.result.now c.in_ok-places.places.items c.in_ok-first.first a.count begun c.in_ok-places.ensures
+    places_are ps p a.order.now a.widths.now c.as_slice.result.now c.in_ok-places.places.items c.in_ok-first.first a.count begun c.in_ok-places.ensures.numbers
     (checked ps p _ _ a.first a.count c.in_ok-first.first c.in_ok-first.ensures.sum is)
 
 pub returns-clause-fits : goal.returns-clause-fits
@@ -29,3 +30,6 @@ returns-clause-fits c ps p is =
     let a = c.args in
     let e = proc_end ps p a.order.now a.widths.now c.in_ok-first.first a.count (checked ps p _ _ a.first a.count c.in_ok-first.first c.in_ok-first.ensures.sum is) in
     omega (arith, e, c.in_ok-starts.ensures.fits)
+
+pub returns-clause-reach : goal.returns-clause-reach
+returns-clause-reach c = c.in_ok-places.ensures.reach (subst InReach (sym c.as_slice.ensures.value) c.in_ok-starts.ensures.reach)
