@@ -1,0 +1,4 @@
+pub mod Fits
+pub mod Plans
+pub mod Ahead
+pub mod Laid

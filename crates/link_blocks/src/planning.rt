@@ -1,0 +1,242 @@
+//! The plan of a procedure.
+
+ghost use Rattle.std.specs.Prelude.{◌≡◌, ◌≢◌, ℕ, ◌+◌, ◌<◌, ◌++◌, ◌∷◌, List, length, map, drop, get_or, flat_map, true, OnOk, IfOk, IfErr};
+ghost use Rattle.placed_code.specs.Placed.{no_block};
+ghost use Rattle.std.specs.List.{list_all};
+ghost use Rattle.lir_core.specs.Flows.{code_node};
+ghost use Rattle.trace_build.specs.Traces.{node_at};
+ghost use Rattle.trace_build.specs.Cuts.{lists_of, all_nodes, AllTraces};
+ghost use Rattle.boundary_resolve.specs.Placing.{node_lines};
+ghost use Rattle.boundary_resolve.specs.Edges.{AreSound};
+ghost use Rattle.boundary_resolve.specs.declared.placed.Placed.{Placed as Ahead};
+ghost use Rattle.boundary_resolve.specs.declared.placed.Placed.TheVariants.{Node as Begins};
+ghost use Rattle.placed_code.specs.Results.{placed};
+ghost use Rattle.linked_flows.specs.Allocations.{Cut, steps_of, allocated};
+ghost use Rattle.link_layout.specs.Spots.{copy_of, cell_copies, block_copies, all_copies};
+ghost use Rattle.link_blocks.specs.Fits.{node_fits, numbers_fit};
+ghost use Rattle.link_blocks.specs.Plans.{cell_in, block_in, placed_in, plain};
+ghost use Rattle.link_blocks.specs.Ahead.{block_ahead, behind_block, AreAllDistinct};
+ghost use Rattle.link_blocks.specs.Laid.{IsCutOf, Fits, Lays, AreLaid, AreAhead, HasRead, block_or};
+ghost use Rattle.link_blocks.specs.declared.fault.PlanFault.TheVariants.{Misfit};
+
+use crate::blocks::{block_of, slots_of};
+use crate::fault::PlanFault;
+use crate::fits::{numbers_fit, registers_fit};
+use crate::plans::{Block, Cell, Plan};
+use crate::reading::push_edges;
+use a64_instr::Bits;
+use boundary_resolve::Placed;
+use items::Items;
+use link_layout::{Copy, Ranks};
+use link_words::Frame;
+use lir_core::{Flow, Leave, Node, TraceOut};
+use outside::Memory;
+use std::alloc::{AllocError, Global};
+
+/// The most slots of a frame.
+const MOST_SLOTS: usize = 4_075;
+
+impl Plan {
+    /// The plan of a procedure from its lines in code order, and the results of its traces. `Misfit` comes where a number
+    /// or a register fits no instruction, or a frame has over 4,075 slots.
+    pub fn of(
+        alloc: Global,
+        flow: &Flow,
+        lines: &[Placed],
+        outs: &[TraceOut],
+    ) -> Result<Plan, PlanFault>
+        ensures plan { (k : ℕ) (c : Cut) → IsCutOf k flow.now lines.now outs.now c → IfOk result (λ plan. placed_in plan ≡ plain (placed steps_of (allocated c))) }
+        ensures fits { IfOk result (λ plan. numbers_fit flow.now ≡ true) }
+        ensures misfit { IfErr result (λ fault. fault ≡ Misfit → (k : ℕ) (c : Cut) → IsCutOf k flow.now lines.now outs.now c → Fits c → ⊥) }
+    {
+        let nodes = flow.nodes.as_slice();
+        let slots = slots_of(nodes);
+        if nodes.len() >= 4_294_967_296 || flow.local_bytes >= 16_777_216 || slots >= MOST_SLOTS {
+            return Err(PlanFault::Misfit);
+        }
+        if !numbers_fit(flow) || !registers_fit(outs) {
+            return Err(PlanFault::Misfit);
+        }
+        let mut first = Vec::new(alloc);
+        let at = push_edges(&mut first, lines, 0)?;
+        let laid = laid_out(alloc, nodes, lines, at, outs)?;
+        let blocks = all_blocks(alloc, laid.blocks)?;
+        let copies = all_copies(alloc, first.as_slice(), blocks.as_slice())?;
+        let homes = Ranks::of(alloc, copies.as_slice())?;
+        if homes.count() + slots >= MOST_SLOTS {
+            return Err(PlanFault::Misfit);
+        }
+        let outs = slots as u32;
+        let frame = Frame {
+            counted: flow.counted,
+            slots: outs + 1 + homes.count() as u32,
+            outs,
+            cells: flow.local_cells,
+            bytes: flow.local_bytes as u32,
+        };
+        Ok(Plan {
+            frame,
+            homes,
+            first: Items::from_vec(first),
+            blocks: Items::from_vec(blocks),
+            order: Items::from_vec(laid.order),
+        })
+    }
+}
+
+/// The blocks of nodes by their numbers, as far as they are read, and the numbers in the order of the lines.
+#[derive(Drop)]
+pub(crate) struct Laid {
+    pub(crate) blocks: Vec<Option<Block>>,
+    pub(crate) order: Vec<u32>,
+}
+
+/// The blocks of all nodes from their lines.
+fn laid_out(
+    alloc: Global,
+    nodes: &[Node],
+    lines: &[Placed],
+    from: usize,
+    outs: &[TraceOut],
+) -> Result<Laid, Memory>
+    requires { list_all (λ n. node_fits n) nodes.now ≡ true }
+    ensures each { IfOk result (λ laid. length laid.blocks.items ≡ length nodes.now) }
+    ensures laid { (k : ℕ) (c : Cut) → nodes.now ≡ c.flow.nodes → outs.now ≡ c.outs → AreSound k c.flow c.traces c.outs → AllTraces c.flow (lists_of c.traces) → AreAllDistinct lines.now
+        → drop from lines.now ≡ flat_map (node_lines c.flow c.traces c.outs) (all_nodes (lists_of c.traces)) → IfOk result (λ laid. (laid.order.items ≡ all_nodes (lists_of c.traces)) × AreLaid c laid) }
+{
+    let mut laid = Laid {
+        blocks: none_yet(alloc, nodes.len())?,
+        order: Vec::new(alloc),
+    };
+    let mut at = from;
+    for out in outs {
+        at = lay_all(alloc, &mut laid, nodes, out.regs.as_slice(), lines, at)?;
+    }
+    Ok(laid)
+}
+
+fn none_yet(alloc: Global, count: usize) -> Result<Vec<Option<Block>>, AllocError>
+    ensures { IfOk result (λ blocks. length blocks.items ≡ count) }
+{
+    let mut blocks = Vec::new(alloc);
+    for _number in 0..count {
+        blocks.push(None)?;
+    }
+    Ok(blocks)
+}
+
+/// Reads the lines of nodes, with the registers named for them, from a line on; gives the line behind them.
+fn lay_all(
+    alloc: Global,
+    laid: &mut Laid,
+    nodes: &[Node],
+    rows: &[Items<u8>],
+    lines: &[Placed],
+    from: usize,
+) -> Result<usize, Memory>
+    requires { list_all (λ n. node_fits n) nodes.now ≡ true }
+    ensures each { length laid.new.blocks.items ≡ length laid.old.blocks.items }
+    ensures read { (k : ℕ) (c : Cut) (ns : List ℕ) (tail : List Ahead) → nodes.now ≡ c.flow.nodes → AreSound k c.flow c.traces c.outs → AreAllDistinct lines.now → AreLaid c laid.old → AreAhead c ns rows.now (drop from lines.now) tail
+        → IfOk result (λ at. HasRead c ns laid.old laid.new (drop at lines.now) tail) }
+{
+    let mut at = from;
+    for row in rows {
+        at = lay(alloc, laid, nodes, row.as_slice(), lines, at)?;
+    }
+    Ok(at)
+}
+
+/// Reads the lines of a node, with the registers named for it; gives the line behind them.
+fn lay(
+    alloc: Global,
+    laid: &mut Laid,
+    nodes: &[Node],
+    named: &[u8],
+    lines: &[Placed],
+    at: usize,
+) -> Result<usize, Memory>
+    requires { list_all (λ n. node_fits n) nodes.now ≡ true }
+    ensures each { length laid.new.blocks.items ≡ length laid.old.blocks.items }
+    ensures read { (n : ℕ) (ls : List Ahead) → drop at lines.now ≡ Begins n ∷ ls → n < length nodes.now → AreAllDistinct lines.now
+        → IfOk result (λ behind. (drop behind lines.now ≡ behind_block (code_node (node_at nodes.now n)) ls) × Lays laid.old laid.new n (block_ahead (code_node (node_at nodes.now n)) named.now ls)) }
+{
+    let Some(Placed::Node(number)) = lines.get(at) else {
+        return Ok(at);
+    };
+    let Some(node) = nodes.get(*number as usize) else {
+        return Ok(at);
+    };
+    let (block, behind) = block_of(alloc, node, named, lines, at + 1)?;
+    laid.order.push(*number)?;
+    put(&mut laid.blocks, *number, block);
+    Ok(behind)
+}
+
+/// The block of a number, where there is room for one.
+fn put(blocks: &mut Vec<Option<Block>>, number: u32, block: Block)
+    ensures each { length blocks.new.items ≡ length blocks.old.items }
+    ensures here { number < length blocks.old.items → block_or (get_or blocks.new.items number None) ≡ block_in block }
+    ensures others { (m : ℕ) → m ≢ number → get_or blocks.new.items m None ≡ get_or blocks.old.items m None }
+{
+    let number = number as usize;
+    if number < blocks.len() {
+        blocks[number] = Some(block);
+    }
+}
+
+/// The blocks, empty where there is none.
+fn all_blocks(alloc: Global, blocks: Vec<Option<Block>>) -> Result<Vec<Block>, AllocError>
+    ensures { IfOk result (λ list. map block_in list.items ≡ map block_or blocks.items) }
+{
+    let mut list = Vec::new(alloc);
+    for slot in blocks {
+        match slot {
+            Some(block) => list.push(block)?,
+            None => list.push(empty(alloc))?,
+        }
+    }
+    Ok(list)
+}
+
+fn empty(alloc: Global) -> Block
+    ensures { block_in result ≡ no_block }
+{
+    Block {
+        cells: Items::new(alloc),
+        copies: Items::new(alloc),
+        end: Leave::Return(None),
+        a: Bits::new(0),
+        b: Bits::new(0),
+    }
+}
+
+/// All copies of a procedure, in the order of its blocks.
+fn all_copies(alloc: Global, first: &[Copy], blocks: &[Block]) -> Result<Vec<Copy>, AllocError>
+    ensures { IfOk result (λ copies. map copy_of copies.items ≡ all_copies (map copy_of first.now) (map block_in blocks.now)) }
+{
+    let mut copies = Vec::new(alloc);
+    push_all(&mut copies, first)?;
+    for block in blocks {
+        push_cells(&mut copies, block.cells.as_slice())?;
+        push_all(&mut copies, block.copies.as_slice())?;
+    }
+    Ok(copies)
+}
+
+fn push_cells(copies: &mut Vec<Copy>, cells: &[Cell]) -> Result<(), AllocError>
+    ensures { OnOk result (map copy_of copies.new.items ≡ map copy_of copies.old.items ++ cell_copies (map cell_in cells.now)) }
+{
+    for cell in cells {
+        push_all(copies, cell.copies.as_slice())?;
+    }
+    Ok(())
+}
+
+fn push_all(copies: &mut Vec<Copy>, more: &[Copy]) -> Result<(), AllocError>
+    ensures { OnOk result (map copy_of copies.new.items ≡ map copy_of copies.old.items ++ map copy_of more.now) }
+{
+    for copy in more {
+        copies.push(*copy)?;
+    }
+    Ok(())
+}
