@@ -44,11 +44,11 @@ part_is g a zero b l = absurd (omega (arith, l))
 part_is g a (suc n) zero l = let z : a ≡ a + 0 = omega arith in ap g z
 part_is g a (suc n) (suc b) l = let z : suc a + b ≡ a + suc b = omega arith in part_is g (suc a) n b (omega (arith, l)) ∙ ap g z
 
-abbrev blocks_of : Cut → List Block
+abbrev pub blocks_of : Cut → List Block
 blocks_of c = placed_blocks steps_of 0 (code_nodes c.flow.nodes) (allocated c).parts
 
 module _ (k : ℕ) (c : Cut) (sound : AreSound k c.flow c.traces c.outs) where
-  one_block : (n : ℕ) → n < length c.flow.nodes → get_or (blocks_of c) n no_block ≡ placed_block steps_of (code_node (node_at c.flow.nodes n)) (part_at c n)
+  pub one_block : (n : ℕ) → n < length c.flow.nodes → get_or (blocks_of c) n no_block ≡ placed_block steps_of (code_node (node_at c.flow.nodes n)) (part_at c n)
   one_block n l =
       let m = count k c.flow c.traces c.outs sound in
       let z : 0 + n ≡ n = omega arith in

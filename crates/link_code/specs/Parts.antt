@@ -1,0 +1,56 @@
+-- Words of placed procedures, from where procedures, routines and blocks begin.
+use Rattle.std.specs.Prelude.{◌≡◌, ℕ, ◌+◌, ◌-◌, ◌<◌, min, List, [], ◌∷◌, ◌++◌, length}
+use Rattle.run_laws.specs.Layers.{whole_width, spread}
+use Rattle.a64_instr.specs.declared.instr.Instr.{Instr}
+use Rattle.block_runs.specs.declared.code.Code.{Code}
+use Rattle.block_runs.specs.declared.code.Code.TheVariants.{Call}
+use Rattle.block_runs.specs.declared.code.Code.TheVariants.{Code as CodeOf}
+use Rattle.block_runs.specs.declared.end.End.{End}
+use Rattle.block_runs.specs.declared.end.End.TheVariants.{Jump, Branch, Nonzero, Return, Trap}
+use Rattle.placed_code.specs.Placed.{Cell, Block, Placed, block_of}
+use Rattle.placed_code.specs.Words.{copies_words, slots_of, jump_words, last_words, prologue}
+use Rattle.placed_code.specs.Layout.{cell_width, Placing, placings, block_width, zero_first, front_width, own_words}
+use Rattle.placed_code.specs.Claims.{Ordered}
+use Rattle.link_words.specs.Fields.{entry_in}
+
+-- where a procedure begins: the last of the entries stands behind all procedures, where those begin that aren't there
+abbrev pub entry_at : List ℕ → ℕ → ℕ
+entry_at entries p = entry_in entries (min p (length entries - 1))
+
+-- a procedure's number, or the last number
+abbrev pub clamped : ℕ → Code → Code
+clamped last (Call p) = Call (min p last)
+clamped last (CodeOf p) = CodeOf (min p last)
+clamped last code = code
+
+abbrev pub cell_code : (ℕ → ℕ) → ℕ → Placed → ℕ → ℕ → Cell → List Instr
+cell_code entry start pr j k cell = copies_words pr cell.copies ++ own_words entry start (slots_of pr) (k + length (copies_words pr cell.copies)) cell.op cell.named
+
+abbrev pub end_code : (ℕ → ℕ) → Placed → ℕ → ℕ → Block → List Instr
+end_code block pr n k bl = copies_words pr bl.copies ++ last_words n block pr (k + length (copies_words pr bl.copies)) bl.end bl.a bl.b
+
+abbrev pub parts_code : (ℕ → ℕ) → ℕ → (ℕ → ℕ) → Placed → ℕ → ℕ → Block → List Instr
+parts_code entry start block pr n k bl = spread (cell_code entry start pr) (cell_width pr) 0 k bl.body ++ end_code block pr n (k + whole_width (cell_width pr) 0 bl.body) bl
+
+abbrev pub block_code : (ℕ → ℕ) → ℕ → (ℕ → ℕ) → Placed → ℕ → ℕ → Placing → List Instr
+block_code entry start block pr j k at = parts_code entry start block pr at.next k (block_of pr at.number)
+
+abbrev pub front_code : (ℕ → ℕ) → Placed → ℕ → List Instr
+front_code block pr k = prologue pr ++ (copies_words pr pr.copies ++ jump_words (zero_first pr) (k + (length (prologue pr) + length (copies_words pr pr.copies))) (block 0))
+
+abbrev pub proc_code : (ℕ → ℕ) → ℕ → (ℕ → ℕ) → ℕ → Placed → List Instr
+proc_code entry start block k pr = front_code block pr k ++ spread (block_code entry start block pr) (block_width pr) 0 (k + front_width pr) (placings pr)
+
+-- an end leads to blocks of so many
+abbrev pub LeadsBelow : ℕ → End → Type 0
+LeadsBelow n (Jump to args) = to < n
+LeadsBelow n (Branch c x y one other) = (one < n) × (other < n)
+LeadsBelow n (Nonzero x one other) = (one < n) × (other < n)
+LeadsBelow n (Return x) = Unit {0}
+LeadsBelow n (Trap kind) = Unit {0}
+
+-- a procedure has a block, all its blocks stand in its order once, and ends lead to blocks
+pub record IsWhole (pr : Placed) : Type 0 where
+  pub some : 0 < length pr.blocks
+  pub ordered : Ordered pr
+  pub leads : (b : ℕ) → LeadsBelow (length pr.blocks) (block_of pr b).end
