@@ -43,9 +43,9 @@ def line_of(flow):
         for o in b.ops:
             out += [('aim' if o.code == 'CallAt' else 'call') if o.call else 'op', '-' if o.d is None else o.d] + o.uses
         e = b.end
-        out += {'Jump': ['jump', e.to] + e.args, 'Branch': ['branch', e.a, e.b, e.yes, e.no],
+        out += {'Jump': ['jump', e.to] + e.args, 'Branch': ['branch', e.cond, e.a, e.b, e.yes, e.no],
                 'Nonzero': ['nonzero', e.a, e.yes, e.no], 'Return': ['return'] + ([] if e.a is None else [e.a]),
-                'Trap': ['trap']}[e.kind]
+                'Trap': ['trap', e.k]}[e.kind]
     return ' '.join(map(str, out))
 
 

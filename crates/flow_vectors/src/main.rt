@@ -9,13 +9,10 @@
 //! often for each line, and prints a count.
 #![tactic(auto)]
 
-mod ends;
-mod flows;
 mod procs;
 mod selections;
-mod words;
 
-use flows::flow_of;
+use flow_text::flow_of;
 use global_live::{LiveSets, live};
 use lir_core::Flow;
 use outside::Memory;

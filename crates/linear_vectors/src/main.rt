@@ -8,15 +8,13 @@
 //! With the word `bench`, for `bench/linear.sh`, it prints how many lines there are in all.
 #![tactic(auto)]
 
-mod reader;
-
 ghost use Rattle.std.specs.Prelude.{◌≡◌, ◌≤◌, length, IfSome};
 
+use flow_text::{Words, flow_in};
 use global_live::{LiveSets, live};
 use linear_scan::allocate;
 use lir_core::{Flow, Line, Place, Places, TraceIn, TraceOut};
 use outside::Memory;
-use reader::case_of;
 use std::alloc::{AllocError, Global};
 use std::io::{BufRead, BufReader};
 use std::{env, io};
@@ -181,6 +179,13 @@ fn hint_of(outs: &[TraceOut], trace: usize, place: usize, regs: u8) -> Option<&P
     } else {
         None
     }
+}
+
+/// How many registers a line names first, and its flow.
+fn case_of(alloc: Global, line: &str) -> Result<(u8, Flow), Memory> {
+    let mut words = Words::new(line);
+    let regs = u8::try_from(words.or_zero()).unwrap_or(0);
+    Ok((regs, flow_in(alloc, &mut words)?))
 }
 
 fn answer(alloc: Global, line: &str) -> Result<String, Memory> {

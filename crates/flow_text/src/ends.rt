@@ -1,0 +1,37 @@
+//! Ends as words.
+
+use crate::words::Words;
+use lir_core::{Items, Leave};
+use outside::Memory;
+use std::alloc::Global;
+
+/// The end that comes next.
+pub fn end_of(alloc: Global, words: &mut Words) -> Result<Leave, Memory> {
+    if words.takes("jump") {
+        let to = words.or_zero();
+        let args = Items::from_vec(words.numbers(alloc)?);
+        return Ok(Leave::Jump { to, args });
+    }
+    if words.takes("branch") {
+        return Ok(Leave::Branch {
+            cond: u8::try_from(words.or_zero()).unwrap_or(u8::MAX),
+            a: words.or_zero(),
+            b: words.or_zero(),
+            yes: words.or_zero(),
+            no: words.or_zero(),
+        });
+    }
+    if words.takes("nonzero") {
+        return Ok(Leave::Nonzero {
+            a: words.or_zero(),
+            yes: words.or_zero(),
+            no: words.or_zero(),
+        });
+    }
+    if words.takes("return") {
+        return Ok(Leave::Return(words.small()));
+    }
+    let _ = words.takes("trap");
+    let kind = u16::try_from(words.or_zero()).unwrap_or(u16::MAX);
+    Ok(Leave::Trap(kind))
+}

@@ -1,0 +1,5 @@
+pub mod Plain
+pub mod InTable
+pub mod Low
+pub mod Whole
+pub mod Cuts

@@ -1,0 +1,72 @@
+-- The image of flows in traces with sound results, and what it does.
+use Rattle.std.specs.Prelude.{◌≡◌, ◌∷◌, ℕ, ◌<◌, ◌≤◌, ◌^◌, ◌%◌, max, List, [], map, drop, length, get_or, false, true}
+use Rattle.run_laws.specs.Runs.{Outcome, Keeps, InStep}
+use Rattle.run_laws.specs.Layers.{Through}
+use Rattle.image_form.specs.declared.image.Image.{Image}
+use Rattle.a64_machine.specs.Machine.{start, system}
+use Rattle.block_runs.specs.Blocks.{Operation, block_at}
+use Rattle.block_runs.specs.First.{first_state}
+use Rattle.block_runs.specs.Steps.{block_system}
+use Rattle.block_runs.specs.Points.{least, all_points}
+use Rattle.lir_core.specs.declared.flow.Flow.{Flow}
+use Rattle.lir_core.specs.declared.places.TraceOut.{TraceOut}
+use Rattle.lir_core.specs.Flows.{code_nodes}
+use Rattle.trace_build.specs.Cuts.{lists_of, AllTraces}
+use Rattle.boundary_resolve.specs.declared.placed.Placed.{Placed as Line}
+use Rattle.boundary_resolve.specs.Placing.{placed_of}
+use Rattle.boundary_resolve.specs.Edges.{AreSound}
+use Rattle.placed_code.specs.Placed.{Placed}
+use Rattle.placed_code.specs.Words.{frame_of}
+use Rattle.placed_code.specs.Layout.{entry}
+use Rattle.placed_code.specs.Claims.{IsNumber, same_trap, image_of, code_places, sizes}
+use Rattle.placed_code.specs.Results.{all_placed, procedures_of, Reason, same_reason}
+use Rattle.linked_flows.specs.Allocations.{Cut, steps_of, all_allocated}
+use Rattle.link_blocks.specs.Laid.{Fits}
+
+-- what an image has besides its code is within its form
+pub record DataFits (flags globals : ℕ) (constants : List ℕ) : Type 0 where
+  pub one_flag : flags < 2
+  pub few_globals : globals ≤ 8388608
+  pub few_constants : length constants ≤ 2097152
+  pub whole_globals : globals % 8 ≡ 0
+  pub whole_constants : length constants % 8 ≡ 0
+
+-- sound results over k registers for a flow's paths, which have each node once; numbers that can be made; and a module's body
+-- takes no arguments
+pub record IsAllocated (k : ℕ) (c : Cut) : Type 0 where
+  pub sound : AreSound k c.flow c.traces c.outs
+  pub paths : AllTraces c.flow (lists_of c.traces)
+  pub numbers : (b i : ℕ) (op : Operation) (rest : List Operation) → drop i (block_at (code_nodes c.flow.nodes) b).ops ≡ op ∷ rest → IsNumber op.code
+  pub local_data : (c.flow.local_cells < 2 ^ 64) × (c.flow.local_bytes < 2 ^ 24)
+  pub body : c.flow.counted ≡ false → c.flow.args ≡ 0
+
+-- flows, their lines in code order and their results are those of cuts
+pub record AreCuts (k : ℕ) (flows : List Flow) (parts : List (List Line)) (outs : List (List TraceOut)) (cuts : List Cut) : Type 0 where
+  pub flows_are : flows ≡ map (λ c. c.flow) cuts
+  pub parts_are : parts ≡ map (λ c. placed_of c.flow c.traces c.outs) cuts
+  pub outs_are : outs ≡ map (λ c. c.outs) cuts
+  pub few : k ≤ 16
+  pub each : (q : ℕ) (c : Cut) (rest : List Cut) → drop q cuts ≡ c ∷ rest → IsAllocated k c
+
+-- numbers, registers and frames fit instructions
+abbrev pub AreSmall : List Cut → Type 0
+AreSmall cuts = (q : ℕ) (c : Cut) (rest : List Cut) → drop q cuts ≡ c ∷ rest → Fits c
+
+abbrev pub greatest_frame : List Placed → ℕ
+greatest_frame [] = 0
+greatest_frame (p ∷ ps) = max (frame_of p) (greatest_frame ps)
+
+-- the defined image, with the greatest of the frames
+abbrev pub linked : List Cut → (flags globals : ℕ) → List ℕ → Image
+linked cuts flags globals constants =
+    let ps = all_placed steps_of (all_allocated cuts) in
+    image_of ps flags globals constants (greatest_frame ps)
+
+-- the machine that runs the image is in step with each meaning that the flows, taken with the image's code addresses, keep up with
+abbrev pub Runs : Image → List Cut → ℕ → List ℕ → List ℕ → Type 0
+Runs image cuts globals constants input =
+    let ps = all_placed steps_of (all_allocated cuts) in
+    let fs = procedures_of (all_allocated cuts) in
+    (meaning : ℕ → Outcome Reason)
+    → ((n : ℕ) → Keeps (block_system fs (code_places ps)) (least fs) (all_points fs) same_reason (first_state globals constants input) n (meaning n))
+    → InStep (system image) (length image.code) (Through same_reason (same_trap (entry ps) (sizes ps))) (start image input) meaning

@@ -1,0 +1,141 @@
+//! The image of flows.
+
+ghost use Rattle.std.specs.Prelude.{◌≡◌, ℕ, ◌<◌, ◌≤◌, ◌^◌, ◌%◌, List, length, get_or, map, true, IfOk, IfErr};
+ghost use Rattle.std.specs.List.{list_all};
+ghost use Rattle.a64_memory.specs.Memory.{AreBytes};
+ghost use Rattle.image_form.specs.Form.{IsInForm};
+ghost use Rattle.placed_code.specs.Placed.{proc_of};
+ghost use Rattle.placed_code.specs.Results.{placed, all_placed};
+ghost use Rattle.placed_code.specs.Layout.{all_words, code_of};
+ghost use Rattle.linked_flows.specs.Allocations.{Cut, steps_of, allocated, all_allocated};
+ghost use Rattle.link_blocks.specs.Fits.{numbers_fit};
+ghost use Rattle.link_blocks.specs.Laid.{IsCutOf, Fits};
+ghost use Rattle.link_code.specs.Parts.{IsWhole};
+ghost use Rattle.link_blocks.specs.Plans.{placed_in, plain};
+ghost use Rattle.link_plan.specs.Linked.{DataFits, AreCuts, AreSmall, greatest_frame, Runs, linked};
+ghost use Rattle.link_plan.specs.declared.fault.LinkFault.TheVariants.{Limit, Misfit};
+
+use crate::fault::LinkFault;
+use boundary_resolve::Placed;
+use image_form::{Bytes, Image, Words};
+use link_blocks::{Plan, PlanFault};
+use link_code::code_of;
+use link_layout::LayoutFault;
+use lir_core::{Flow, TraceOut};
+use std::alloc::Global;
+
+/// What an image has besides its code: whether some module reads input (1, else 0), how many bytes the globals have, and the
+/// constants. Globals and constants are of whole cells of eight bytes, at most 8,388,608 and 2,097,152 bytes.
+#[derive(Drop)]
+pub struct Data {
+    pub flags: u32,
+    pub globals: u32,
+    pub constants: Bytes,
+}
+
+/// The image of flows by their numbers, from each one's lines in code order and the results for its traces. A flow whose
+/// calls aren't counted is the body of a module, and the bodies run in the order of their numbers. `Limit` comes exactly
+/// where the code is over 262,144 words, `Misfit` for no sound results of flows whose numbers and frames are small enough.
+/// Takes time in proportion to lines and words, and n log n for n homes.
+pub fn link(
+    alloc: Global,
+    flows: &[Flow],
+    parts: &[Vec<Placed>],
+    outs: &[Vec<TraceOut>],
+    data: Data,
+) -> Result<Image, LinkFault>
+    requires { DataFits data.flags data.globals data.constants }
+    ensures image { (k : ℕ) (cuts : List Cut) → AreCuts k flows.now (map (λ v. v.items) parts.now) (map (λ v. v.items) outs.now) cuts
+        → IfOk result (λ image. image ≡ linked cuts data.flags data.globals data.constants) }
+    ensures form { IfOk result IsInForm }
+    ensures runs { (k : ℕ) (cuts : List Cut) (input : List ℕ) → AreCuts k flows.now (map (λ v. v.items) parts.now) (map (λ v. v.items) outs.now) cuts → AreBytes data.constants
+        → ((i : ℕ) → get_or input i 0 < 2 ^ 64) → IfOk result (λ image. Runs image cuts data.globals data.constants input) }
+    ensures limit { IfErr result (λ fault. fault ≡ Limit → (k : ℕ) (cuts : List Cut) → AreCuts k flows.now (map (λ v. v.items) parts.now) (map (λ v. v.items) outs.now) cuts
+        → 2 ^ 18 < length (all_words (all_placed steps_of (all_allocated cuts)))) }
+    ensures misfit { IfErr result (λ fault. fault ≡ Misfit → (k : ℕ) (cuts : List Cut) → AreCuts k flows.now (map (λ v. v.items) parts.now) (map (λ v. v.items) outs.now) cuts
+        → AreSmall cuts → ⊥) }
+{
+    let plans = all_plans(alloc, flows, parts, outs)?;
+    let frame = greatest_frame(plans.as_slice());
+    let code = words_of(alloc, plans.as_slice())?;
+    Ok(Image {
+        version: 1,
+        flags: data.flags,
+        code: Words::new(code),
+        globals: data.globals,
+        constants: data.constants,
+        frame,
+    })
+}
+
+/// The plans of procedures.
+fn all_plans(
+    alloc: Global,
+    flows: &[Flow],
+    parts: &[Vec<Placed>],
+    outs: &[Vec<TraceOut>],
+) -> Result<Vec<Plan>, LinkFault>
+    ensures plans { (k : ℕ) (cuts : List Cut) → AreCuts k flows.now (map (λ v. v.items) parts.now) (map (λ v. v.items) outs.now) cuts
+        → IfOk result (λ plans. map placed_in plans.items ≡ map plain (all_placed steps_of (all_allocated cuts))) }
+    ensures fits { IfOk result (λ plans. list_all (λ f. numbers_fit f) flows.now ≡ true) }
+    ensures limit { IfErr result (λ fault. fault ≡ Limit → ⊥) }
+    ensures misfit { IfErr result (λ fault. fault ≡ Misfit → (k : ℕ) (cuts : List Cut) → AreCuts k flows.now (map (λ v. v.items) parts.now) (map (λ v. v.items) outs.now) cuts
+        → AreSmall cuts → ⊥) }
+{
+    let mut plans = Vec::new(alloc);
+    for (i, flow) in flows.iter().enumerate() {
+        if i >= parts.len() || i >= outs.len() {
+            return Err(LinkFault::Misfit);
+        }
+        let plan = plan_of(alloc, flow, parts[i].as_slice(), outs[i].as_slice())?;
+        plans.push(plan)?;
+    }
+    Ok(plans)
+}
+
+fn plan_of(
+    alloc: Global,
+    flow: &Flow,
+    lines: &[Placed],
+    outs: &[TraceOut],
+) -> Result<Plan, LinkFault>
+    ensures plan { (k : ℕ) (c : Cut) → IsCutOf k flow.now lines.now outs.now c → IfOk result (λ plan. placed_in plan ≡ plain (placed steps_of (allocated c))) }
+    ensures fits { IfOk result (λ plan. numbers_fit flow.now ≡ true) }
+    ensures limit { IfErr result (λ fault. fault ≡ Limit → ⊥) }
+    ensures misfit { IfErr result (λ fault. fault ≡ Misfit → (k : ℕ) (c : Cut) → IsCutOf k flow.now lines.now outs.now c → Fits c → ⊥) }
+{
+    match Plan::of(alloc, flow, lines, outs) {
+        Ok(plan) => Ok(plan),
+        Err(PlanFault::Misfit) => Err(LinkFault::Misfit),
+        Err(PlanFault::Memory) => Err(LinkFault::Memory),
+    }
+}
+
+/// The bytes of the greatest frame.
+fn greatest_frame(plans: &[Plan]) -> u32
+    ensures greatest { result ≡ greatest_frame (map placed_in plans.now) }
+    ensures most { result ≤ 32600 }
+    ensures whole { result % 8 ≡ 0 }
+{
+    let mut frame = 0;
+    let mut i = plans.len();
+    while i > 0 {
+        i -= 1;
+        frame = (8 * plans[i].frame.slots).max(frame);
+    }
+    frame
+}
+
+/// The code words of plans.
+fn words_of(alloc: Global, plans: &[Plan]) -> Result<Vec<u32>, LinkFault>
+    ensures code { ((p : ℕ) → p < length plans.now → IsWhole (proc_of (map placed_in plans.now) p)) → IfOk result (λ code. code.items ≡ code_of (map placed_in plans.now)) }
+    ensures fits { IfOk result (λ code. (1 ≤ length code.items) × (length code.items ≤ 2 ^ 18)) }
+    ensures limit { IfErr result (λ fault. fault ≡ Limit → 2 ^ 18 < length (all_words (map placed_in plans.now))) }
+    ensures misfit { IfErr result (λ fault. fault ≡ Misfit → ⊥) }
+{
+    match code_of(alloc, plans) {
+        Ok(code) => Ok(code),
+        Err(LayoutFault::Limit) => Err(LinkFault::Limit),
+        Err(LayoutFault::Memory) => Err(LinkFault::Memory),
+    }
+}
