@@ -42,14 +42,14 @@ pub fn link(
     flows: &[Flow],
     parts: &[Vec<Placed>],
     outs: &[Vec<TraceOut>],
-    data: Data,
+    extra: Data,
 ) -> Result<Image, LinkFault>
-    requires { DataFits data.flags data.globals data.constants }
+    requires { DataFits extra.flags extra.globals extra.constants }
     ensures image { (k : ℕ) (cuts : List Cut) → AreCuts k flows.now (map (λ v. v.items) parts.now) (map (λ v. v.items) outs.now) cuts
-        → IfOk result (λ image. image ≡ linked cuts data.flags data.globals data.constants) }
+        → IfOk result (λ image. image ≡ linked cuts extra.flags extra.globals extra.constants) }
     ensures form { IfOk result IsInForm }
-    ensures runs { (k : ℕ) (cuts : List Cut) (input : List ℕ) → AreCuts k flows.now (map (λ v. v.items) parts.now) (map (λ v. v.items) outs.now) cuts → AreBytes data.constants
-        → ((i : ℕ) → get_or input i 0 < 2 ^ 64) → IfOk result (λ image. Runs image cuts data.globals data.constants input) }
+    ensures runs { (k : ℕ) (cuts : List Cut) (input : List ℕ) → AreCuts k flows.now (map (λ v. v.items) parts.now) (map (λ v. v.items) outs.now) cuts → AreBytes extra.constants
+        → ((i : ℕ) → get_or input i 0 < 2 ^ 64) → IfOk result (λ image. Runs image cuts extra.globals extra.constants input) }
     ensures limit { IfErr result (λ fault. fault ≡ Limit → (k : ℕ) (cuts : List Cut) → AreCuts k flows.now (map (λ v. v.items) parts.now) (map (λ v. v.items) outs.now) cuts
         → 2 ^ 18 < length (all_words (all_placed steps_of (all_allocated cuts)))) }
     ensures misfit { IfErr result (λ fault. fault ≡ Misfit → (k : ℕ) (cuts : List Cut) → AreCuts k flows.now (map (λ v. v.items) parts.now) (map (λ v. v.items) outs.now) cuts
@@ -60,10 +60,10 @@ pub fn link(
     let code = words_of(alloc, plans.as_slice())?;
     Ok(Image {
         version: 1,
-        flags: data.flags,
+        flags: extra.flags,
         code: Words::new(code),
-        globals: data.globals,
-        constants: data.constants,
+        globals: extra.globals,
+        constants: extra.constants,
         frame,
     })
 }

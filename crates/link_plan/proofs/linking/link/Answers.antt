@@ -16,7 +16,7 @@ returns-clause-image c k cuts are =
     let plans = c.as_slice-2.result.now in
     let e = ap (λ ps. map placed_in ps) c.as_slice-2.ensures.value ∙ c.in_ok-plans.ensures.plans k cuts are in
     let n = length_map placed_in plans in
-    image_is k _ _ _ cuts are (map placed_in plans) c.in_ok-code.code.items c.new.result c.greatest_frame-frame.result c.args.data.flags c.args.data.globals c.args.data.constants e
+    image_is k _ _ _ cuts are (map placed_in plans) c.in_ok-code.code.items c.new.result c.greatest_frame-frame.result c.args.extra.flags c.args.extra.globals c.args.extra.constants e
     (c.in_ok-code.ensures.code (λ p l. plans_whole k _ _ _ cuts are (map placed_in plans) e p (omega (arith, l, n)))) c.new.ensures
     (c.greatest_frame-frame.ensures.greatest ∙ ap (λ ps. greatest_frame (map placed_in ps)) (c.as_slice.ensures.value ∙ sym c.as_slice-2.ensures.value))
 
@@ -25,7 +25,7 @@ returns-clause-runs c k cuts input are bytes low =
     let plans = c.as_slice-2.result.now in
     let e = ap (λ ps. map placed_in ps) c.as_slice-2.ensures.value ∙ c.in_ok-plans.ensures.plans k cuts are in
     let n = length_map placed_in plans in
-    let d = c.args.data in
+    let d = c.args.extra in
     let frame = c.greatest_frame-frame in
     image_runs k _ _ _ cuts are _ d.flags d.globals d.constants input c.in_ok-plans.ensures.fits
     (image_is k _ _ _ cuts are (map placed_in plans) c.in_ok-code.code.items c.new.result frame.result d.flags d.globals d.constants e

@@ -1,0 +1,109 @@
+#!/usr/bin/env python3
+"""Makes the input of crates/link_vectors and the images that are wanted, by another compiler.
+
+    bench/link_vectors.py [FOLDER]
+    bench/link_vectors.py bench MODULES
+
+Writes `stdin` and `stdout` into FOLDER (that crate's, if none is given): a hundred modules, of bench/rows and made ones,
+each linked without a choice and by linear scan, with 4 and 16 registers. The other compiler is the Python one in
+../shared/oracle, seen from the top of the repository, or in the folder that ORACLE names; where that isn't there,
+nothing is done. `bench` prints one module with so many procedures of a made one, for bench/link.sh. How lines are written
+is said in crates/link_vectors and crates/flow_text.
+"""
+import os
+import sys
+
+TOP = os.path.dirname(os.path.dirname(os.path.abspath(__file__)))
+ORACLE = os.environ.get('ORACLE') or os.path.join(TOP, '..', 'shared', 'oracle')
+if not os.path.isdir(ORACLE):
+    sys.exit('no other compiler here; nothing done')
+sys.path.insert(0, ORACLE)
+sys.setrecursionlimit(100000)
+import backend  # noqa: E402
+import check  # noqa: E402
+import trc  # noqa: E402
+
+ROWS = ['linked.txt', 'lowered.txt', 'lowered_telling.txt', 'telling.txt', 'programs.txt', 'more_programs.txt']
+WHOLE = {'loop', 'types', 'modules', 'telling'}  # printed with all their words
+
+
+def sources():
+    """Names and texts of modules, as far as they are programs."""
+    found = []
+    for name in ROWS:
+        for piece in open(os.path.join(TOP, 'bench', 'rows', name)).read().split('---\n'):
+            first, _, text = piece.strip('\n').partition('\n')
+            if first and text and '[' not in first:
+                found.append((first.split()[0], [m.strip('\n').encode() + b'\n' for m in text.split('===\n')]))
+    return found + [('made%d' % i, [trc.bulk_text(i, 2 + i % 4)]) for i in range(1, 25)]
+
+
+def end_of(e):
+    return {'Jump': ['jump', e.to] + e.args, 'Branch': ['branch', e.cond, e.a, e.b, e.yes, e.no],
+            'Nonzero': ['nonzero', e.a, e.yes, e.no], 'Return': ['return'] + ([] if e.a is None else [e.a]),
+            'Trap': ['trap', e.k]}[e.kind]
+
+
+def line_of(flow):
+    """A flow in words."""
+    out = ['flow', flow.values, flow.args, 'counted' if flow.counted else 'body', flow.local_cells, flow.local_bytes]
+    for b in flow.blocks:
+        out += ['node', b.freq, '-' if b.enter is None else b.enter, 'params'] + b.params + ['preds'] + b.preds
+        for o in b.ops:
+            out += ['do', o.code, 0 if o.n is None else o.n % (1 << 64), '-' if o.d is None else o.d] + o.uses
+        out += end_of(b.end)
+    return ' '.join(map(str, out))
+
+
+def sum_of(image):
+    total = 0xcbf29ce484222325
+    for x in list(image.code) + list(image.constants):
+        total = ((total ^ x) * 0x100000001b3) % (1 << 64)
+    return total
+
+
+def answer_of(image, whole):
+    lines = ['image %d frame %d globals %d constants %d flags %d sum %d' % (
+        len(image.code), image.frame, image.globals, len(image.constants), image.flags, sum_of(image))]
+    return lines + (['words ' + ' '.join(map(str, image.code))] if whole else [])
+
+
+def bench(count):
+    plan = backend.plan(check.check_sources([trc.bulk_text(3, 24)]), 'bi')
+    print('module 0 0')
+    for i in range(count):
+        for flow in plan.flows[:-1]:
+            print(line_of(flow))
+    print(line_of(plan.flows[-1]))
+    print('link linear 16')
+
+
+def main(folder=os.path.join(TOP, 'crates', 'link_vectors')):
+    lines, answers, count = [], [], 0
+    for name, texts in sources():
+        try:
+            plan = backend.plan(check.check_sources(texts), 'bi')
+        except Exception:
+            continue
+        layout, first = plan.lowered.layout, True
+        for policy in ('plain', 'linear'):
+            for regs in (4, 16):
+                image = backend.place(plan, backend.results(plan, policy, regs))
+                if first:
+                    lines.append(' '.join(map(str, ['module', image.flags, image.globals] + list(image.constants))))
+                    lines += [line_of(f) for f in plan.flows]
+                    count += 1
+                whole = name in WHOLE and policy == 'linear' and regs == 4
+                lines.append('link %s %d%s' % (policy, regs, ' words' if whole else ''))
+                answers += answer_of(image, whole)
+                first = False
+    for name, rows in (('stdin', lines), ('stdout', answers)):
+        with open(os.path.join(folder, name), 'w') as file:
+            file.write('\n'.join(rows) + '\n')
+    print(count, 'modules,', len(answers), 'lines')
+
+
+if sys.argv[1:2] == ['bench']:
+    bench(int(sys.argv[2]))
+else:
+    main(*sys.argv[1:])

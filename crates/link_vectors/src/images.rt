@@ -1,0 +1,119 @@
+//! Images, and how they are printed.
+
+use crate::Module;
+use crate::results::results;
+use boundary_resolve::{Placed, resolve};
+use global_live::live;
+use link_plan::{Bytes, Data, Image, LinkFault, link};
+use lir_core::{Flow, TraceOut};
+use outside::Memory;
+use std::alloc::{AllocError, Global};
+use trace_build::{Builder, build};
+
+/// The results of flows, and their lines in code order.
+#[derive(Drop)]
+struct Laid {
+    outs: Vec<Vec<TraceOut>>,
+    parts: Vec<Vec<Placed>>,
+}
+
+fn laid_out(alloc: Global, flows: &[Flow], linear: bool, regs: u8) -> Result<Laid, Memory>
+    requires enough { 4 ≤ regs }
+    requires few { regs ≤ 16 }
+{
+    let mut laid = Laid {
+        outs: Vec::new(alloc),
+        parts: Vec::new(alloc),
+    };
+    for flow in flows {
+        let live = live(alloc, flow)?;
+        let traces = build(alloc, Builder::Bi, flow)?;
+        let outs = results(alloc, flow, &live, traces.as_slice(), linear, regs)?;
+        let part = resolve(alloc, flow, traces.as_slice(), outs.as_slice())?;
+        laid.outs.push(outs)?;
+        laid.parts.push(part)?;
+    }
+    Ok(laid)
+}
+
+/// The image of a module, or why there is none.
+fn linked(alloc: Global, module: &Module, laid: &Laid) -> Result<Result<Image, LinkFault>, Memory> {
+    let constants = Vec::from_slice(alloc, module.constants.as_slice())?;
+    let fits = module.flags < 2 && module.globals <= 8_388_608 && constants.len() <= 2_097_152;
+    let whole = module.globals % 8 == 0 && constants.len() % 8 == 0;
+    if !fits {
+        return Ok(Err(LinkFault::Misfit));
+    }
+    if !whole {
+        return Ok(Err(LinkFault::Misfit));
+    }
+    let data = Data {
+        flags: module.flags,
+        globals: module.globals,
+        constants: Bytes::new(constants),
+    };
+    let flows = module.flows.as_slice();
+    Ok(link(
+        alloc,
+        flows,
+        laid.parts.as_slice(),
+        laid.outs.as_slice(),
+        data,
+    ))
+}
+
+/// A sum of words and bytes in which each counts by its place (FNV-1a, 64 bits).
+fn sum_of(image: &Image) -> u64 {
+    let mut sum: u64 = 0xcbf2_9ce4_8422_2325;
+    for word in image.code.as_slice() {
+        sum = (sum ^ u64::from(*word)).wrapping_mul(0x100_0000_01b3);
+    }
+    for byte in image.constants.as_slice() {
+        sum = (sum ^ u64::from(*byte)).wrapping_mul(0x100_0000_01b3);
+    }
+    sum
+}
+
+fn text_of(alloc: Global, image: &Image, all: bool) -> Result<String, AllocError> {
+    let (words, frame) = (image.code.as_slice().len(), image.frame);
+    let (globals, constants) = (image.globals, image.constants.as_slice().len());
+    let (flags, sum) = (image.flags, sum_of(image));
+    let mut text = String::new(alloc);
+    write!(
+        text,
+        "image {words} frame {frame} globals {globals} constants {constants} flags {flags} sum {sum}\n"
+    )?;
+    if all {
+        text.push_str("words")?;
+        for word in image.code.as_slice() {
+            write!(text, " {word}")?;
+        }
+        text.push_str("\n")?;
+    }
+    Ok(text)
+}
+
+/// What a `link` prints: the module linked so often.
+pub(crate) fn answer(
+    alloc: Global,
+    module: &Module,
+    linear: bool,
+    regs: u8,
+    all: bool,
+    times: u32,
+) -> Result<String, Memory> {
+    let mut text = String::new(alloc);
+    if regs < 4 || regs > 16 {
+        return Ok(text);
+    }
+    let laid = laid_out(alloc, module.flows.as_slice(), linear, regs)?;
+    for _ in 0..times {
+        text = match linked(alloc, module, &laid)? {
+            Ok(image) => text_of(alloc, &image, all)?,
+            Err(LinkFault::Limit) => String::from_str(alloc, "limit\n")?,
+            Err(LinkFault::Misfit) => String::from_str(alloc, "misfit\n")?,
+            Err(LinkFault::Memory) => return Err(Memory),
+        };
+    }
+    Ok(text)
+}
