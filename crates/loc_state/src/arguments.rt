@@ -22,8 +22,8 @@ pub fn has(numbers: &[u32], number: u32) -> bool
     false
 }
 
-// Whether an operation calls the procedure whose address is its first use.
-pub(crate) fn is_aimed(template: Template) -> bool
+/// Whether an operation calls the procedure whose address is its first use.
+pub fn is_aimed(template: Template) -> bool
     ensures { result ≡ is_aimed template }
 {
     match template {
@@ -33,7 +33,7 @@ pub(crate) fn is_aimed(template: Template) -> bool
 }
 
 /// Where a value is taken from.
-pub(crate) fn place_of(regs: &[Option<u32>], value: u32) -> Place
+pub fn place_of(regs: &[Option<u32>], value: u32) -> Place
     requires { length regs.now ≤ 16 }
     ensures { result ≡ place_of regs.now value }
 {
@@ -58,7 +58,7 @@ fn argument_place(index: u32) -> Place
 }
 
 /// The moves of a call's arguments.
-pub(crate) fn argument_moves(
+pub fn argument_moves(
     alloc: Global,
     regs: &[Option<u32>],
     arguments: &[u32],

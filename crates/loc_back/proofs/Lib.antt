@@ -1,0 +1,2 @@
+pub mod MarkedSets
+pub mod Seats

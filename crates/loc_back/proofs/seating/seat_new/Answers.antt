@@ -1,0 +1,9 @@
+use Rattle.std.proofs.Common.{◌≡◌, ◌∙◌, sym, ap, arith, min, length}
+use Rattle.loc_back.proofs.Seats.{length-seated_news, seat_news_over}
+use Rattle.loc_back.proofs.seating.seat_new.Goals as goal
+
+pub returns : goal.returns
+returns c =
+    let over : c.loop-i.i ≡ min (length c.args.values.now) (length c.args.args.now) = omega arith in
+    let step = sym (seat_news_over c.args.values.now c.args.args.now c.loop-i.i c.loop-i.regs over) ∙ c.loop-i.invariant in
+    record { step = step; row = ap length step ∙ length-seated_news c.args.values.now c.args.args.now c.args.regs.now }

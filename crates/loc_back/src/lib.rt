@@ -1,0 +1,16 @@
+//! Where values stand along a trace that is walked from its end, and the lines written so far.
+//!
+//! `Backward` goes from a trace's end to its start: each call is a step with the registers that the caller chose, as the
+//! definition says (`specs/Steps.antt`).
+#![tactic(auto)]
+
+mod backward;
+mod front_items;
+mod marks;
+mod part;
+mod seating;
+
+pub use backward::Backward;
+pub use front_items::FrontItems;
+pub use part::{BackPart, Begun, Loading, Stage};
+pub use seating::{leave_params, seat_new_one};

@@ -1,0 +1,497 @@
+//! The node that is being walked.
+
+ghost use Rattle.std.specs.Prelude.{◌≡◌, ◌≤◌, [], ◌++◌, length, drop, None, Some, IfOk, OnOk};
+ghost use Rattle.lir_core.specs.Flows.{operation_of};
+ghost use Rattle.loc_state.specs.Homed.{all_inserted};
+ghost use Rattle.loc_back.specs.Steps.{storing, loading, opening, names_of, settled_stage, passed, leaving, reloads, reload, result_moved, result_stored};
+
+use crate::front_items::FrontItems;
+use crate::seating::{
+    keep_others, leave_params, put, save, save_all, seat, seat_new, unseat, value_at,
+};
+use lir_core::{Items, Leave, Line, Lir};
+use loc_state::{Homes, Registers, argument_moves, has_register, is_aimed, place_of, register_of};
+use outside::Memory;
+use std::alloc::{AllocError, Global};
+
+/// An operation that is begun: its index in the node, the register of its definition, and the definition where it is to be
+/// stored.
+#[derive(Clone, Copy)]
+pub struct Begun {
+    pub index: u32,
+    pub reg: Option<u8>,
+    pub stored: Option<u32>,
+}
+
+/// A register that is loaded again behind an operation.
+#[derive(Clone, Copy)]
+pub struct Loading {
+    pub reg: u8,
+    pub value: u32,
+}
+
+/// How far the walk has come: no node yet, a node's end, an operation whose uses are being taken, or what is written.
+#[derive(Clone, Copy)]
+pub enum Stage {
+    Behind,
+    End,
+    Operation(Begun),
+    Done,
+}
+
+/// The registers at the node's end, where values stand now, the lines from there on and the registers that are named; and
+/// of what is begun the registers noted and what is loaded again.
+#[derive(Drop)]
+pub struct BackPart {
+    pub end: Registers,
+    pub regs: Registers,
+    pub homed: Homes,
+    pub lines: FrontItems<Line>,
+    pub named: FrontItems<u8>,
+    pub stage: Stage,
+    pub noted: Items<u8>,
+    pub loads: Items<Loading>,
+}
+
+impl BackPart {
+    ghost use Rattle.std.specs.Prelude.{replicate};
+    ghost use Rattle.loc_state.specs.Lines.{place_of, aims, moves};
+    ghost use Rattle.loc_back.specs.declared.part.Stage.TheVariants.{Behind};
+    ghost use Rattle.loc_back.specs.Steps.{end_of, settled, taken, again, evicted, begins, if_homed, seated, unseated, emptied, written, called, defined, entered};
+
+    /// No node yet: so many empty registers, and homed values.
+    pub(crate) fn begin(alloc: Global, homed: &[u32], regs: u8) -> Result<BackPart, AllocError>
+        ensures { IfOk result (λ t. t ≡ record { end = []; regs = replicate regs None; homed = all_inserted homed.now []; lines = []; named = []; stage = Behind; noted = []; loads = [] }) }
+    {
+        let row: Vec<Option<u32>> = vec![in alloc; None; regs as usize]?;
+        Ok(BackPart {
+            end: Registers::from_slice(alloc, &[])?,
+            regs: Registers::from_slice(alloc, row.as_slice())?,
+            homed: Homes::from_slice(alloc, homed)?,
+            lines: FrontItems::new(alloc),
+            named: FrontItems::new(alloc),
+            stage: Stage::Behind,
+            noted: Items::new(alloc),
+            loads: Items::new(alloc),
+        })
+    }
+
+    /// Writes what was begun.
+    pub(crate) fn settle(&mut self, alloc: Global) -> Result<(), AllocError>
+        ensures { OnOk result (self.new ≡ settled self.old) }
+    {
+        self.settle_end(alloc)?;
+        load_again(&mut self.lines, self.loads.as_slice())?;
+        open(&mut self.lines, self.stage)?;
+        name(&mut self.named, self.stage)?;
+        name_all(&mut self.named, self.noted.as_slice())?;
+        self.stage = settled_stage(self.stage);
+        self.noted = Items::new(alloc);
+        self.loads = Items::new(alloc);
+        Ok(())
+    }
+
+    // The registers at an end are as they are now.
+    fn settle_end(&mut self, alloc: Global) -> Result<(), AllocError>
+        ensures { OnOk result (self.new ≡ record self.old { end = end_of self.old.stage self.old.regs self.old.end }) }
+    {
+        match self.stage {
+            Stage::End => {
+                self.end = Registers::from_slice(alloc, self.regs.as_slice())?;
+                Ok(())
+            }
+            Stage::Behind => Ok(()),
+            Stage::Operation(_) => Ok(()),
+            Stage::Done => Ok(()),
+        }
+    }
+
+    pub(crate) fn take(&mut self, value: u32, reg: Option<u8>) -> Result<(), AllocError>
+        requires { length self.old.regs ≤ 16 }
+        ensures step { OnOk result (self.new ≡ taken value reg self.old) }
+        ensures row { OnOk result (length self.new.regs ≡ length self.old.regs) }
+    {
+        match reg {
+            None => {
+                self.noted.push(register_of(self.regs.as_slice(), value))?;
+                Ok(())
+            }
+            Some(reg) => {
+                put(&mut self.regs, reg, Some(value));
+                self.noted.push(reg)?;
+                Ok(())
+            }
+        }
+    }
+
+    pub(crate) fn evict(&mut self, reg: u8) -> Result<(), AllocError>
+        ensures step { OnOk result (self.new ≡ evicted reg self.old) }
+        ensures row { OnOk result (length self.new.regs ≡ length self.old.regs) }
+    {
+        let content = value_at(self.regs.as_slice(), reg);
+        put(&mut self.regs, reg, None);
+        save(&mut self.homed, content)?;
+        self.load_behind(reg, content)
+    }
+
+    // Behind an operation a value that leaves its register is loaded again.
+    fn load_behind(&mut self, reg: u8, content: Option<u32>) -> Result<(), AllocError>
+        ensures { OnOk result (self.new ≡ record self.old { loads = again self.old.stage reg content self.old.loads }) }
+    {
+        match self.stage {
+            Stage::Operation(_) => leave(&mut self.loads, reg, content),
+            Stage::Behind => Ok(()),
+            Stage::End => Ok(()),
+            Stage::Done => Ok(()),
+        }
+    }
+
+    pub(crate) fn define(
+        &mut self,
+        alloc: Global,
+        index: u32,
+        def: Option<u32>,
+        reg: Option<u8>,
+    ) -> Result<(), AllocError>
+        ensures step { OnOk result (self.new ≡ defined index def reg self.old) }
+        ensures row { OnOk result (length self.new.regs ≡ length self.old.regs) }
+    {
+        self.settle(alloc)?;
+        self.begin_operation(alloc, index, def, reg)
+    }
+
+    fn begin_operation(
+        &mut self,
+        alloc: Global,
+        index: u32,
+        def: Option<u32>,
+        reg: Option<u8>,
+    ) -> Result<(), AllocError>
+        ensures { OnOk result (self.new ≡ begins index def reg self.old) }
+    {
+        if let Some(value) = def {
+            if let Some(reg) = reg {
+                return self.begin_definition(alloc, index, value, reg);
+            }
+        }
+        self.stage = Stage::Operation(Begun {
+            index,
+            reg: None,
+            stored: None,
+        });
+        Ok(())
+    }
+
+    fn begin_definition(
+        &mut self,
+        alloc: Global,
+        index: u32,
+        value: u32,
+        reg: u8,
+    ) -> Result<(), AllocError>
+        ensures { OnOk result (self.new ≡ begins index (Some value) (Some reg) self.old) }
+    {
+        let content = keep_others(Some(value), value_at(self.regs.as_slice(), reg));
+        let stored = self.if_homed(value);
+        put(&mut self.regs, reg, None);
+        save(&mut self.homed, content)?;
+        let mut loads = Items::new(alloc);
+        leave(&mut loads, reg, content)?;
+        self.loads = loads;
+        self.stage = Stage::Operation(Begun {
+            index,
+            reg: Some(reg),
+            stored,
+        });
+        Ok(())
+    }
+
+    fn if_homed(&self, value: u32) -> Option<u32>
+        ensures { result ≡ if_homed self.now.homed value }
+    {
+        if self.homed.has(value) {
+            Some(value)
+        } else {
+            None
+        }
+    }
+
+    pub(crate) fn call(
+        &mut self,
+        alloc: Global,
+        index: u32,
+        lir: &Lir,
+        args: &[Option<u8>],
+    ) -> Result<(), Memory>
+        requires { length self.old.regs ≤ 16 }
+        ensures step { OnOk result (self.new ≡ called index (operation_of lir.now) args.now self.old) }
+        ensures row { OnOk result (length self.new.regs ≡ length self.old.regs) }
+    {
+        self.settle(alloc)?;
+        self.empty(lir.def)?;
+        self.read(lir.uses.as_slice(), args)?;
+        self.write_call(alloc, index, lir)
+    }
+
+    // Behind a call its result is taken and the other registers are loaded; all are empty before.
+    fn empty(&mut self, def: Option<u32>) -> Result<(), AllocError>
+        requires { length self.old.regs ≤ 16 }
+        ensures step { OnOk result (self.new ≡ emptied def self.old) }
+        ensures row { OnOk result (length self.new.regs ≡ length self.old.regs) }
+    {
+        reload_all(&mut self.lines, def, self.regs.as_slice())?;
+        move_result(&mut self.lines, def, self.regs.as_slice())?;
+        store_result(&mut self.lines, def, &self.homed)?;
+        save_all(&mut self.homed, def, self.regs.as_slice())?;
+        self.regs.remove_all();
+        Ok(())
+    }
+
+    // The uses of a call go to their registers and homes.
+    fn read(&mut self, uses: &[u32], args: &[Option<u8>]) -> Result<(), AllocError>
+        ensures step { OnOk result (self.new ≡ record self.old { regs = seated uses.now args.now self.old.regs; homed = unseated uses.now args.now self.old.homed }) }
+        ensures row { OnOk result (length self.new.regs ≡ length self.old.regs) }
+    {
+        seat(&mut self.regs, uses, args);
+        unseat(&mut self.homed, uses, args)
+    }
+
+    // The lines of a call: its target, its arguments, itself.
+    fn write_call(&mut self, alloc: Global, index: u32, lir: &Lir) -> Result<(), Memory>
+        requires { length self.old.regs ≤ 16 }
+        ensures { OnOk result (self.new ≡ written index (operation_of lir.now) self.old) }
+    {
+        self.lines.push_front(Line::Lir(index))?;
+        let uses = lir.uses.as_slice();
+        if is_aimed(lir.template) {
+            return self.write_aimed(alloc, uses);
+        }
+        self.write_moves(alloc, uses)
+    }
+
+    // The target, which is the first use, then the arguments.
+    fn write_aimed(&mut self, alloc: Global, uses: &[u32]) -> Result<(), Memory>
+        requires { length self.old.regs ≤ 16 }
+        ensures { OnOk result (self.new ≡ record self.old { lines = (aims (place_of self.old.regs) uses.now ++ moves (place_of self.old.regs) (drop 1 uses.now)) ++ self.old.lines }) }
+    {
+        let Some((target, arguments)) = uses.split_first() else {
+            return Ok(());
+        };
+        self.write_moves(alloc, arguments)?;
+        let target = place_of(self.regs.as_slice(), *target);
+        self.lines.push_front(Line::Target(target))?;
+        Ok(())
+    }
+
+    fn write_moves(&mut self, alloc: Global, arguments: &[u32]) -> Result<(), Memory>
+        requires { length self.old.regs ≤ 16 }
+        ensures { OnOk result (self.new ≡ record self.old { lines = moves (place_of self.old.regs) arguments.now ++ self.old.lines }) }
+    {
+        if !arguments.is_empty() {
+            let moves = argument_moves(alloc, self.regs.as_slice(), arguments)?;
+            self.lines.push_front(Line::Moves(moves))?;
+        }
+        Ok(())
+    }
+
+    /// The end of the node before one with these parameters.
+    pub(crate) fn enter(
+        &mut self,
+        alloc: Global,
+        params: &[u32],
+        end: &Leave,
+        args: &[Option<u8>],
+        homes: &[u32],
+    ) -> Result<(), AllocError>
+        ensures step { OnOk result (self.new ≡ entered params.now end.now args.now homes.now self.old) }
+        ensures row { OnOk result (length self.new.regs ≡ length self.old.regs) }
+    {
+        let mut regs = leave_params(alloc, self.regs.as_slice(), params)?;
+        seat_new(&mut regs, passed(end), args);
+        self.regs = regs;
+        self.insert_all(homes)?;
+        self.stage = Stage::End;
+        Ok(())
+    }
+
+    fn insert_all(&mut self, homes: &[u32]) -> Result<(), AllocError>
+        ensures { OnOk result (self.new ≡ record self.old { homed = all_inserted homes.now self.old.homed }) }
+    {
+        for value in homes {
+            self.homed.insert(*value)?;
+        }
+        Ok(())
+    }
+}
+
+fn settled_stage(stage: Stage) -> Stage
+    ensures { result ≡ settled_stage stage }
+{
+    match stage {
+        Stage::Behind => Stage::Behind,
+        Stage::End | Stage::Operation(_) | Stage::Done => Stage::Done,
+    }
+}
+
+/// What a jump passes on.
+fn passed(end: &Leave) -> &[u32]
+    ensures { result.now ≡ passed end.now }
+{
+    match end {
+        Leave::Jump { args, .. } => args.as_slice(),
+        _ => &[],
+    }
+}
+
+// A register's value, if it has one, is to be loaded again.
+fn leave(loads: &mut Items<Loading>, reg: u8, content: Option<u32>) -> Result<(), AllocError>
+    ensures { OnOk result (loads.new ≡ loads.old ++ leaving reg content) }
+{
+    match content {
+        Some(value) => {
+            loads.push(Loading { reg, value })?;
+            Ok(())
+        }
+        None => Ok(()),
+    }
+}
+
+// Writes loads, in order.
+fn load_again(lines: &mut FrontItems<Line>, loads: &[Loading]) -> Result<(), AllocError>
+    ensures { OnOk result (lines.new ≡ loading loads.now lines.old) }
+{
+    let mut left = loads.len();
+    while left > 0 {
+        left -= 1;
+        let Loading { reg, value } = loads[left];
+        lines.push_front(Line::Load { reg, value })?;
+    }
+    Ok(())
+}
+
+// Writes an operation that is begun and the store of its definition.
+fn open(lines: &mut FrontItems<Line>, stage: Stage) -> Result<(), AllocError>
+    ensures { OnOk result (lines.new ≡ opening stage lines.old) }
+{
+    match stage {
+        Stage::Operation(begun) => {
+            store(lines, begun.reg, begun.stored)?;
+            lines.push_front(Line::Lir(begun.index))?;
+            Ok(())
+        }
+        Stage::Behind => Ok(()),
+        Stage::End => Ok(()),
+        Stage::Done => Ok(()),
+    }
+}
+
+fn store(
+    lines: &mut FrontItems<Line>,
+    reg: Option<u8>,
+    stored: Option<u32>,
+) -> Result<(), AllocError>
+    ensures { OnOk result (lines.new ≡ storing reg stored lines.old) }
+{
+    if let Some(reg) = reg {
+        if let Some(value) = stored {
+            lines.push_front(Line::Store { reg, value })?;
+            return Ok(());
+        }
+    }
+    Ok(())
+}
+
+// Names the register of a definition.
+fn name(named: &mut FrontItems<u8>, stage: Stage) -> Result<(), AllocError>
+    ensures { OnOk result (named.new ≡ names_of stage ++ named.old) }
+{
+    if let Stage::Operation(begun) = stage {
+        if let Some(reg) = begun.reg {
+            named.push_front(reg)?;
+            return Ok(());
+        }
+    }
+    Ok(())
+}
+
+// Names registers that were noted.
+fn name_all(named: &mut FrontItems<u8>, noted: &[u8]) -> Result<(), AllocError>
+    ensures { OnOk result (named.new ≡ noted.now ++ named.old) }
+{
+    let mut left = noted.len();
+    while left > 0 {
+        left -= 1;
+        named.push_front(noted[left])?;
+    }
+    Ok(())
+}
+
+// Loads all registers but a definition's, lowest first.
+fn reload_all(
+    lines: &mut FrontItems<Line>,
+    def: Option<u32>,
+    regs: &[Option<u32>],
+) -> Result<(), AllocError>
+    requires { length regs.now ≤ 16 }
+    ensures { OnOk result (lines.new ≡ reloads def 0 regs.now lines.old) }
+{
+    let mut left = regs.len();
+    while left > 0 {
+        left -= 1;
+        reload(lines, left as u8, keep_others(def, regs[left]))?;
+    }
+    Ok(())
+}
+
+fn reload(lines: &mut FrontItems<Line>, reg: u8, content: Option<u32>) -> Result<(), AllocError>
+    ensures { OnOk result (lines.new ≡ reload reg content lines.old) }
+{
+    match content {
+        Some(value) => {
+            lines.push_front(Line::Load { reg, value })?;
+            Ok(())
+        }
+        None => Ok(()),
+    }
+}
+
+// The result of a call goes from X0 to its register.
+fn move_result(
+    lines: &mut FrontItems<Line>,
+    def: Option<u32>,
+    regs: &[Option<u32>],
+) -> Result<(), AllocError>
+    requires { length regs.now ≤ 16 }
+    ensures { OnOk result (lines.new ≡ result_moved regs.now def lines.old) }
+{
+    let Some(value) = def else {
+        return Ok(());
+    };
+    if has_register(regs, value) {
+        let reg = register_of(regs, value);
+        if reg == 0 {
+            return Ok(());
+        }
+        lines.push_front(Line::Result(reg))?;
+        return Ok(());
+    }
+    Ok(())
+}
+
+// The result of a call is stored from X0 where it is homed.
+fn store_result(
+    lines: &mut FrontItems<Line>,
+    def: Option<u32>,
+    homed: &Homes,
+) -> Result<(), AllocError>
+    ensures { OnOk result (lines.new ≡ result_stored homed.now def lines.old) }
+{
+    let Some(value) = def else {
+        return Ok(());
+    };
+    if homed.has(value) {
+        lines.push_front(Line::Store { reg: 0, value })?;
+        return Ok(());
+    }
+    Ok(())
+}
