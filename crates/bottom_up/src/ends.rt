@@ -24,7 +24,7 @@ pub(crate) struct Following<'a> {
 
 /// The registers that an end's arguments are given, and the values that are homed at it.
 #[derive(Drop)]
-pub(crate) struct Passing {
+pub(crate) struct PassedOn {
     pub(crate) args: Vec<Option<u8>>,
     pub(crate) homes: Vec<u32>,
 }
@@ -36,18 +36,18 @@ pub(crate) fn passing(
     values: u32,
     next: &Following,
     end: &Leave,
-) -> Result<Passing, AllocError>
+) -> Result<PassedOn, AllocError>
     requires { length next.now.regs.now ≤ 16 }
     ensures args { IfOk result (λ p. p.args.items ≡ given_at next.now.node next.now.params.now next.now.regs.now end.now) }
     ensures homes { IfOk result (λ p. p.homes.items ≡ homed_at values live.now next.now.node next.now.params.now next.now.regs.now end.now) }
 {
-    let Passing { args, mut homes } = arguments(alloc, next, end)?;
+    let PassedOn { args, mut homes } = arguments(alloc, next, end)?;
     add_off(&mut homes, live, values, next.node, end)?;
-    Ok(Passing { args, homes })
+    Ok(PassedOn { args, homes })
 }
 
 // What an end passes on by its arguments.
-fn arguments(alloc: Global, next: &Following, end: &Leave) -> Result<Passing, AllocError>
+fn arguments(alloc: Global, next: &Following, end: &Leave) -> Result<PassedOn, AllocError>
     requires { length next.now.regs.now ≤ 16 }
     ensures args { IfOk result (λ p. p.args.items ≡ given_at next.now.node next.now.params.now next.now.regs.now end.now) }
     ensures homes { IfOk result (λ p. p.homes.items ≡ passed_home next.now.node next.now.params.now next.now.regs.now end.now) }
@@ -67,18 +67,18 @@ fn arguments(alloc: Global, next: &Following, end: &Leave) -> Result<Passing, Al
     }
 }
 
-fn nothing(alloc: Global) -> Result<Passing, AllocError>
+fn nothing(alloc: Global) -> Result<PassedOn, AllocError>
     ensures args { IfOk result (λ p. p.args.items ≡ []) }
     ensures homes { IfOk result (λ p. p.homes.items ≡ []) }
 {
-    Ok(Passing {
+    Ok(PassedOn {
         args: Vec::new(alloc),
         homes: Vec::new(alloc),
     })
 }
 
 // All arguments of a jump out of the trace are homed.
-fn elsewhere(alloc: Global, values: &[u32]) -> Result<Passing, AllocError>
+fn elsewhere(alloc: Global, values: &[u32]) -> Result<PassedOn, AllocError>
     ensures args { IfOk result (λ p. p.args.items ≡ map (λ a. None) values.now) }
     ensures homes { IfOk result (λ p. p.homes.items ≡ values.now) }
 {
@@ -86,14 +86,14 @@ fn elsewhere(alloc: Global, values: &[u32]) -> Result<Passing, AllocError>
     for _value in values {
         args.push(None)?;
     }
-    Ok(Passing {
+    Ok(PassedOn {
         args,
         homes: Vec::from_slice(alloc, values)?,
     })
 }
 
 // Each argument of a jump to the trace's next node takes its parameter's register where that is empty, or is homed.
-fn to_next(alloc: Global, next: &Following, values: &[u32]) -> Result<Passing, AllocError>
+fn to_next(alloc: Global, next: &Following, values: &[u32]) -> Result<PassedOn, AllocError>
     requires { length next.now.regs.now ≤ 16 }
     ensures args { IfOk result (λ p. p.args.items ≡ given next.now.regs.now next.now.params.now 0 values.now (map (no_param next.now.params.now) next.now.regs.now)) }
     ensures homes { IfOk result (λ p. p.homes.items ≡ not_given next.now.regs.now next.now.params.now 0 values.now (map (no_param next.now.params.now) next.now.regs.now)) }
@@ -107,7 +107,7 @@ fn to_next(alloc: Global, next: &Following, values: &[u32]) -> Result<Passing, A
         add_without(&mut homes, *value, reg, regs.as_slice())?;
         seat_new_one(&mut regs, *value, reg);
     }
-    Ok(Passing { args, homes })
+    Ok(PassedOn { args, homes })
 }
 
 fn param_at(params: &[u32], index: usize) -> Option<u32>

@@ -1,2 +1,4 @@
 pub mod MarkedSets
 pub mod Seats
+pub mod Leading
+pub mod Turning

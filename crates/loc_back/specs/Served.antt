@@ -9,7 +9,7 @@ use Rattle.lir_core.specs.declared.flow.Flow.{Flow}
 use Rattle.lir_core.specs.declared.places.Places.{Places}
 use Rattle.lir_core.specs.declared.places.Line.{Line}
 use Rattle.lir_core.specs.Flows.{operation_of}
-use Rattle.lir_core.specs.Spots.{Spot, reg, home, out, target, saved, get, IsSingle}
+use Rattle.lir_core.specs.Spots.{Spot, reg, home, out, target, saved, get, in_register, IsSingle}
 use Rattle.lir_core.specs.Lines.{is_aimed, slots_used, end_reads, Room, AllBelow}
 use Rattle.lir_core.specs.Walks.{Walker, Passes, Finishes, Below, Walks, walk}
 use Rattle.loc_state.specs.Walked.{Task, task, Apart}
@@ -216,7 +216,7 @@ pub record Simulates (x : Route) (n : ℕ) (noted : List ℕ) (f : Backward) : T
 -- a value can be taken: it is in a register, or the register that is given is empty
 abbrev pub CanTake : Route → ℕ → Option ℕ → BackPart → Type 0
 CanTake x v None t = get t.regs (register_of v t.regs) ≡ Some v
-CanTake x v (Some r) t = (r < length t.regs) × (get t.regs r ≡ None) × (Rattle.lir_core.specs.Spots.in_register t.regs v ≡ false)
+CanTake x v (Some r) t = (r < length t.regs) × (get t.regs r ≡ None) × (in_register t.regs v ≡ false)
 
 pub record MayTake (x : Route) (v : ℕ) (reg : Option ℕ) (t : BackPart) : Type 0 where
   pub can : CanTake x v reg t
@@ -226,8 +226,8 @@ pub record MayTake (x : Route) (v : ℕ) (reg : Option ℕ) (t : BackPart) : Typ
 
 -- a definition goes to its own register, if it has one
 abbrev pub IsOwn : Option ℕ → Option ℕ → List (Option ℕ) → Type 0
-IsOwn None reg regs = Unit {0}
-IsOwn (Some d) reg regs = (r : ℕ) → get regs r ≡ Some d → reg ≡ Some r
+IsOwn None place regs = Unit {0}
+IsOwn (Some d) place regs = (r : ℕ) → get regs r ≡ Some d → place ≡ Some r
 
 -- an operation that isn't a call can be begun
 pub record CanDefine (x : Route) (op : Operation) (reg : Option ℕ) (t : BackPart) : Type 0 where
