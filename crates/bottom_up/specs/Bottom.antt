@@ -38,23 +38,23 @@ abbrev pub next_params : Case → Option ℕ → List ℕ
 next_params x None = []
 next_params x (Some m) = params_of (slice_get x.flow.nodes m)
 
-module _ (x : Case) (mention : ℕ → ℕ → Option ℕ) where
-  -- the end of a node, from the start of the trace's next node, if there is one
-  abbrev pub to_end : Node → Option ℕ → Backward → Backward
-  to_end node next b = before_node (next_params x next) node.end (given_at next (next_params x next) b.part.regs node.end) (homed_at x.flow.values x.rows next (next_params x next) b.part.regs node.end) b
+-- the end of a node, from the start of the trace's next node, if there is one
+abbrev pub to_end : Case → Node → Option ℕ → Backward → Backward
+to_end x node next b = before_node (next_params x next) node.end (given_at next (next_params x next) b.part.regs node.end) (homed_at x.flow.values x.rows next (next_params x next) b.part.regs node.end) b
 
+module _ (x : Case) (mention : ℕ → ℕ → Option ℕ) where
   -- a node, whose start is position p, from its end to its start; one that isn't there is passed over
   abbrev pub before_it : ℕ → Option Node → Option ℕ → Backward → Backward
   before_it p None next b = b
-  before_it p (Some node) next b = in_part (operate_all mention (p + 1) 0 node.lirs) (in_part (take_all mention (end_position p node) (end_reads node.end) (end_reads node.end)) (to_end node next b))
+  before_it p (Some node) next b = in_part (operate_all mention (p + 1) 0 node.lirs) (in_part (take_all mention (end_position p node) (end_reads node.end) (end_reads node.end)) (to_end x node next b))
 
   -- the nodes of a trace, from the last to the first
   abbrev pub along : ℕ → List ℕ → Backward → Backward
   along p [] b = b
   along p (n ∷ ns) b = before_it p (slice_get x.flow.nodes n) (first_of ns) (along (position_behind p (slice_get x.flow.nodes n)) ns b)
 
-  abbrev pub walked : List ℕ → Backward
-  walked ns = closed x.flow x.rows ns (along 0 ns (started (homed_first x ns) x.regs))
+  abbrev pub walked_back : List ℕ → Backward
+  walked_back ns = closed x.flow x.rows ns (along 0 ns (started (homed_first x ns) x.regs))
 
 -- the positions of nodes' starts
 abbrev pub starts_from : List Node → ℕ → List ℕ → List ℕ
@@ -70,4 +70,4 @@ mention_in x ns v p = last_mention (positions_of x.flow x.rows ns) v p
 
 -- bottom-up allocation of a trace of a number
 abbrev pub bottom_up : Case → ℕ → List ℕ → TraceOut
-bottom_up x number ns = result_of number (walked x (mention_in x ns) ns)
+bottom_up x number ns = result_of number (walked_back x (mention_in x ns) ns)

@@ -1,10 +1,11 @@
 //! The call.
 
-ghost use Rattle.std.specs.Prelude.{◌≡◌, ◌≤◌, length, IfOk, OnOk, None, slice_get};
+ghost use Rattle.std.specs.Prelude.{◌≡◌, ◌≤◌, length, IfOk, OnOk, None, slice_get, get_or};
 ghost use Rattle.lir_core.specs.Lines.{end_reads};
 ghost use Rattle.live_interval.specs.Asked.{mention_told};
 ghost use Rattle.loc_back.specs.Steps.{in_part};
-ghost use Rattle.linear_scan.specs.Linear.{position_behind};
+ghost use Rattle.std.specs.Option.{option_map};
+ghost use Rattle.linear_scan.specs.Linear.{Case, end_position, position_behind};
 ghost use Rattle.linear_scan.specs.Inputs.{case_of, IsInput};
 ghost use Rattle.bottom_up.specs.Policy.{take_all};
 ghost use Rattle.bottom_up.specs.Bottom.{to_end, before_it, along, bottom_up, next_params, starts_from};
@@ -48,7 +49,7 @@ fn starts(alloc: Global, flow: &Flow, nodes: &[u32]) -> Result<Vec<u32>, Memory>
 }
 
 fn position_behind(at: u32, node: Option<&Node>) -> Result<u32, Memory>
-    ensures { IfOk result (λ p. p ≡ position_behind at (Rattle.std.specs.Option.option_map (λ n. n.now) node)) }
+    ensures { IfOk result (λ p. p ≡ position_behind at (option_map (λ n. n.now) node)) }
 {
     let Some(node) = node else {
         return Ok(at);
@@ -57,7 +58,7 @@ fn position_behind(at: u32, node: Option<&Node>) -> Result<u32, Memory>
 }
 
 fn end_position(at: u32, node: &Node) -> Result<u32, Memory>
-    ensures { IfOk result (λ p. p ≡ Rattle.linear_scan.specs.Linear.end_position at node.now) }
+    ensures { IfOk result (λ p. p ≡ end_position at node.now) }
 {
     behind(behind(at, 1)?, node.lirs.len())
 }
@@ -91,7 +92,7 @@ fn along(
 }
 
 fn start_at(starts: &[u32], index: usize) -> u32
-    ensures { result ≡ Rattle.std.specs.Prelude.get_or starts.now index 0 }
+    ensures { result ≡ get_or starts.now index 0 }
 {
     match starts.get(index) {
         Some(start) => *start,
@@ -157,7 +158,7 @@ fn to_end(
 }
 
 fn next_params(flow: &Flow, next: Option<u32>) -> &[u32]
-    ensures { (x : Rattle.linear_scan.specs.Linear.Case) → x.flow ≡ flow.now → result.now ≡ next_params x next }
+    ensures { (x : Case) → x.flow ≡ flow.now → result.now ≡ next_params x next }
 {
     let Some(number) = next else {
         return &[];

@@ -1,6 +1,6 @@
 //! The end of a node.
 
-ghost use Rattle.std.specs.Prelude.{◌≡◌, ◌≤◌, ◌++◌, [], ◌∷◌, length, map, None, IfOk, OnOk, if◌then◌else◌};
+ghost use Rattle.std.specs.Prelude.{◌≡◌, ◌≤◌, ◌++◌, [], ◌∷◌, length, map, None, IfOk, OnOk, if◌then◌else◌, slice_get};
 ghost use Rattle.lir_core.specs.Spots.{get};
 ghost use Rattle.lir_core.specs.Rows.{has_bit};
 ghost use Rattle.block_runs.specs.Blocks.{successors};
@@ -111,7 +111,7 @@ fn to_next(alloc: Global, next: &Following, values: &[u32]) -> Result<PassedOn, 
 }
 
 fn param_at(params: &[u32], index: usize) -> Option<u32>
-    ensures { result ≡ Rattle.std.specs.Prelude.slice_get params.now index }
+    ensures { result ≡ slice_get params.now index }
 {
     let param = params.get(index)?;
     Some(*param)

@@ -58,7 +58,7 @@ fn made_along(alloc: Global, flow: &Flow, nodes: &[u32]) -> Result<Homes, AllocE
 }
 
 fn add_made(made: &mut Homes, node: Option<&Node>) -> Result<(), AllocError>
-    ensures { OnOk result (made.new ≡ all_inserted (made_by (option_map (λ n. n.now) node)) made.old) }
+    ensures { OnOk result (made.new ≡ all_inserted (made_by (option_map (λ n. n.now) node.entry)) made.old) }
 {
     let Some(node) = node else {
         return Ok(());

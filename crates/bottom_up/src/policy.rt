@@ -1,10 +1,12 @@
 //! The policy at an operation.
 
 ghost use Rattle.std.specs.Prelude.{◌≡◌, ◌+◌, ◌≤◌, length, drop, map, None, IfOk, OnOk};
+ghost use Rattle.block_runs.specs.Blocks.{Operation};
 ghost use Rattle.lir_core.specs.Flows.{operation_of};
 ghost use Rattle.live_interval.specs.Asked.{mention_told};
 ghost use Rattle.loc_back.specs.Steps.{in_part};
-ghost use Rattle.bottom_up.specs.Policy.{own_or_lowest, seated_at, with_use, with_arguments, with_first, before_call, register_in, call_one, take_one, take_all, made_in, operate, operate_all};
+ghost use Rattle.lir_core.specs.Spots.{get};
+ghost use Rattle.bottom_up.specs.Policy.{is_empty, own_or_lowest, seated_at, with_use, with_arguments, with_first, before_call, register_in, call_one, take_one, take_all, made_in, operate, operate_all};
 
 use crate::choosing::victim;
 use lir_core::{Lir, Template};
@@ -95,7 +97,7 @@ fn own_or_lowest(index: usize, regs: &[Option<u32>]) -> Option<u8>
 }
 
 fn is_empty(regs: &[Option<u32>], index: usize) -> bool
-    ensures { result ≡ Rattle.bottom_up.specs.Policy.is_empty (Rattle.lir_core.specs.Spots.get regs.now index) }
+    ensures { result ≡ is_empty (get regs.now index) }
 {
     match regs.get(index) {
         Some(content) => content.is_none(),
@@ -147,7 +149,7 @@ fn add_first(regs: &mut Registers, uses: &[u32])
 // The registers before a call.
 fn before_call(regs: &mut Registers, template: Template, uses: &[u32])
     requires few { length regs.old ≤ 16 }
-    ensures step { (lir : Rattle.block_runs.specs.Blocks.Operation) → lir.code ≡ template → lir.uses ≡ uses.now → regs.new ≡ before_call lir regs.old }
+    ensures step { (op : Operation) → op.code ≡ template → op.uses ≡ uses.now → regs.new ≡ before_call op regs.old }
     ensures row { length regs.new ≡ length regs.old }
 {
     if is_aimed(template) {

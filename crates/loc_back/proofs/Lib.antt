@@ -2,3 +2,10 @@ pub mod MarkedSets
 pub mod Seats
 pub mod Leading
 pub mod Turning
+pub mod Standing
+pub mod Opening
+pub mod Ending
+pub mod GivenSeats
+pub mod Calls
+pub mod Places
+pub mod Walks

@@ -1,5 +1,5 @@
 -- That the lines so far simulate the trace's rest.
-use Rattle.std.specs.Prelude.{◌≡◌, ◌≢◌, ◌⊎◌, ℕ, ◌+◌, ◌<◌, ◌==◌, Bool, true, false, cond, List, [], ◌∷◌, ◌++◌, length, map, drop, Option, Some, None, option_to_list, slice_get}
+use Rattle.std.specs.Prelude.{◌≡◌, ◌≢◌, ◌⊎◌, ℕ, ◌+◌, ◌<◌, ◌≤◌, ◌==◌, Bool, true, false, cond, List, [], ◌∷◌, ◌++◌, length, map, drop, Option, Some, None, option_to_list, slice_get}
 use Rattle.block_runs.specs.Blocks.{Operation}
 use Rattle.block_runs.specs.Live.{has}
 use Rattle.block_runs.specs.Valid.{is_call}
@@ -175,7 +175,9 @@ pub record IsBehind (x : Route) (noted : List ℕ) (t : BackPart) : Type 0 where
   pub empty : (r v : ℕ) → get t.regs r ≡ Some v → ⊥
   pub none : noted ≡ []
   pub lines : t.lines ≡ []
-  pub named : t.noted ++ t.named ≡ []
+  pub named : t.named ≡ []
+  pub loads : t.loads ≡ []
+  pub unnoted : t.noted ≡ []
 
 -- the uses of what is begun
 abbrev pub uses_at : Option Operation → List ℕ
@@ -213,16 +215,10 @@ pub record Simulates (x : Route) (n : ℕ) (noted : List ℕ) (f : Backward) : T
 
 ---- Conditions
 
--- a value can be taken: it is in a register, or the register that is given is empty
-abbrev pub CanTake : Route → ℕ → Option ℕ → BackPart → Type 0
-CanTake x v None t = get t.regs (register_of v t.regs) ≡ Some v
-CanTake x v (Some r) t = (r < length t.regs) × (get t.regs r ≡ None) × (in_register t.regs v ≡ false)
-
-pub record MayTake (x : Route) (v : ℕ) (reg : Option ℕ) (t : BackPart) : Type 0 where
-  pub can : CanTake x v reg t
-  pub below : v < x.room.values
-  pub free : MayBeHomed x.made t.homed v
-  pub lives : t.stage ≡ AtEnd → has x.here.after v ≡ true
+-- a value has a register: it is in one, or the one that is given is empty
+abbrev pub CanTake : ℕ → Option ℕ → BackPart → Type 0
+CanTake v None t = get t.regs (register_of v t.regs) ≡ Some v
+CanTake v (Some r) t = (r < length t.regs) × (get t.regs r ≡ None) × (in_register t.regs v ≡ false)
 
 -- a definition goes to its own register, if it has one
 abbrev pub IsOwn : Option ℕ → Option ℕ → List (Option ℕ) → Type 0
@@ -237,3 +233,83 @@ pub record CanDefine (x : Route) (op : Operation) (reg : Option ℕ) (t : BackPa
 
 abbrev pub with_def : Option ℕ → Route → Route
 with_def def x = record x { made = option_to_list def ++ x.made }
+
+-- the registers that a call's uses are given: one for each value, to no two values the same
+pub record AreGiven (k : ℕ) (us : List ℕ) (args : List (Option ℕ)) : Type 0 where
+  pub place : ℕ → Option ℕ
+  pub args_are : args ≡ map place us
+  pub apart : (u w r : ℕ) → place u ≡ Some r → place w ≡ Some r → u ≡ w
+  pub below : (u r : ℕ) → place u ≡ Some r → r < k
+
+-- a call can be made
+pub record CanCall (x : Route) (op : Operation) (args : List (Option ℕ)) (homed : List ℕ) : Type 0 where
+  pub call : is_call op.code ≡ true
+  pub aimed : is_aimed op.code ≡ true → 1 ≤ length op.uses
+  pub enough : 4 ≤ x.room.regs
+  pub slots : slots_used op ≤ x.room.slots
+  pub result : (d : ℕ) → op.def ≡ Some d → d < x.room.values
+  pub given : AreGiven x.room.regs op.uses args
+  pub below : (u : ℕ) → has op.uses u ≡ true → u < x.room.values
+  pub free : (u : ℕ) → has op.uses u ≡ true → MayBeHomed (option_to_list op.def ++ x.made) homed u
+
+-- uses can be taken at an end and within an operation
+abbrev pub IsTaking : Stage → Type 0
+IsTaking AtEnd = Unit {0}
+IsTaking (Within b) = Unit {0}
+IsTaking _ = ⊥
+
+-- a node is entered
+abbrev pub IsEntered : Stage → Type 0
+IsEntered Behind = ⊥
+IsEntered _ = Unit {0}
+
+-- a value can be taken
+pub record MayTake (x : Route) (v : ℕ) (reg : Option ℕ) (t : BackPart) : Type 0 where
+  pub taking : IsTaking t.stage
+  pub can : CanTake v reg t
+  pub below : v < x.room.values
+  pub free : MayBeHomed x.made t.homed v
+  pub lives : t.stage ≡ AtEnd → has x.here.after v ≡ true
+
+-- a register can be emptied: it is one of the row's, and isn't noted
+pub record MayEvict (reg : ℕ) (t : BackPart) : Type 0 where
+  pub taking : IsTaking t.stage
+  pub in_row : reg < length t.regs
+  pub apart : Apart reg t.noted
+
+-- the node before can be entered, a section whose end this is, from the start of one with these parameters
+pub record CanEnter (x : Route) (b : Section) (params : List ℕ) (end : End) (homes : List ℕ) (homed : List ℕ) : Type 0 where
+  pub starts : (v : ℕ) → lives_from x.here 0 v ≡ true → has x.here.before v ≡ true
+  pub goes_on : (v : ℕ) → lives_from x.here 0 v ≡ true → has params v ≡ false → has b.after v ≡ true
+  pub passes : (v : ℕ) → has (passed end) v ≡ true → has b.after v ≡ true
+  pub below : (v : ℕ) → has (passed end) v ≡ true → v < x.room.values
+  pub free : (v : ℕ) → has (passed end) v ≡ true → MayBeHomed (params ++ x.made) homed v
+  pub joins : (v : ℕ) → has homes v ≡ true → MayBeHomed (params ++ x.made) homed v
+
+abbrev pub walked : Stage → Route → List Section
+walked Behind x = x.done
+walked _ x = x.here ∷ x.done
+
+-- from the start of a node with these parameters on to the end of another
+abbrev pub onward : Stage → Section → List ℕ → Route → Route
+onward st b params x = record { room = x.room; done = walked st x; here = b; made = params ++ x.made }
+
+---- A trace
+
+-- a node of a flow as a section, by rows of what is live
+abbrev pub section_of : ℕ → List (List ℕ) → ℕ → Option Node → Section
+section_of values rows n None = record { ops = []; last = []; before = at_start values rows n None; after = at_end values rows None }
+section_of values rows n (Some node) = record { ops = map operation_of node.lirs; last = end_reads node.end; before = at_start values rows n (Some node); after = at_end values rows (Some node) }
+
+abbrev pub sections : Flow → List (List ℕ) → List ℕ → List Section
+sections f rows [] = []
+sections f rows (n ∷ ns) = section_of f.values rows n (slice_get f.nodes n) ∷ sections f rows ns
+
+abbrev pub tasks : List Section → List Task
+tasks [] = []
+tasks (b ∷ bs) = task b.ops b.last ∷ tasks bs
+
+-- all nodes of a trace are walked back to its first node's start
+pub record IsWhole (f : Flow) (rows : List (List ℕ)) (ns : List ℕ) (x : Route) (t : BackPart) : Type 0 where
+  pub nodes : sections f rows ns ≡ walked t.stage x
+  pub starts : (v : ℕ) → lives_from x.here 0 v ≡ true → has x.here.before v ≡ true

@@ -1,0 +1,10 @@
+use Rattle.std.proofs.Common.{◌≡◌, drop, None}
+use Rattle.live_interval.specs.Asked.{mention_told}
+use Rattle.bottom_up.specs.Policy.{before, earliest}
+use Rattle.bottom_up.proofs.choosing.victim.Given as goal
+
+abbrev pub invariant-loop-content : goal.invariant-loop-content
+invariant-loop-content l = record {
+  reg : l.reg ≡ l.content-index;
+  best : earliest l.keep (before (mention_told l.positions) l.at) l.reg (drop l.content-index l.regs) l.best ≡ earliest l.keep (before (mention_told l.positions) l.at) 0 l.regs None;
+}

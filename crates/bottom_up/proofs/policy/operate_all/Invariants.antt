@@ -1,0 +1,15 @@
+use Rattle.std.proofs.Common.{◌≡◌, ◌≤◌, ◌+◌, drop, length}
+use Rattle.live_interval.specs.Asked.{mention_told}
+use Rattle.loc_back.specs.Steps.{in_part}
+use Rattle.bottom_up.specs.Policy.{operate_all}
+use Rattle.bottom_up.proofs.policy.operate_all.Given as goal
+
+abbrev pub invariant-loop-left : goal.invariant-loop-left
+invariant-loop-left l = record {
+  within : l.left ≤ length l.lirs;
+  step : l.b ≡ in_part (operate_all (mention_told l.positions) (l.first + l.left) l.left (drop l.left l.lirs)) l.initial.b;
+  row : length l.b.part.regs ≡ length l.initial.b.part.regs;
+}
+
+abbrev pub decreases-loop-left : goal.decreases-loop-left
+decreases-loop-left l = l.left

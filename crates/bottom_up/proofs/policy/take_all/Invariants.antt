@@ -1,0 +1,11 @@
+use Rattle.std.proofs.Common.{◌≡◌, drop, length}
+use Rattle.live_interval.specs.Asked.{mention_told}
+use Rattle.loc_back.specs.Steps.{in_part}
+use Rattle.bottom_up.specs.Policy.{take_all}
+use Rattle.bottom_up.proofs.policy.take_all.Given as goal
+
+abbrev pub invariant-loop-value : goal.invariant-loop-value
+invariant-loop-value l = record {
+  step : in_part (take_all (mention_told l.positions) l.at l.uses (drop l.value-index l.uses)) l.b ≡ in_part (take_all (mention_told l.positions) l.at l.uses l.uses) l.initial.b;
+  row : length l.b.part.regs ≡ length l.initial.b.part.regs;
+}
