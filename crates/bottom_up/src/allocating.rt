@@ -49,7 +49,7 @@ fn starts(alloc: Global, flow: &Flow, nodes: &[u32]) -> Result<Vec<u32>, Memory>
 }
 
 fn position_behind(at: u32, node: Option<&Node>) -> Result<u32, Memory>
-    ensures { IfOk result (λ p. p ≡ position_behind at (option_map (λ n. n.now) node)) }
+    ensures { IfOk result (λ p. p ≡ position_behind at (option_map (λ n. n.now) node.entry)) }
 {
     let Some(node) = node else {
         return Ok(at);

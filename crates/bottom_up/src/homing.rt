@@ -2,8 +2,8 @@
 
 ghost use Rattle.std.specs.Prelude.{◌≡◌, [], map, IfOk, OnOk, filter, slice_get, option_to_list};
 ghost use Rattle.std.specs.Option.{option_map};
-ghost use Rattle.block_runs.specs.Live.{has, defs_of};
-ghost use Rattle.lir_core.specs.Flows.{operation_of};
+ghost use Rattle.block_runs.specs.Live.{has, defs_of, block_makes};
+ghost use Rattle.lir_core.specs.Flows.{operation_of, code_node};
 ghost use Rattle.loc_state.specs.Homed.{all_inserted};
 ghost use Rattle.linear_scan.specs.Inputs.{case_of};
 ghost use Rattle.bottom_up.specs.Bottom.{made_by, made_along, live_first, homed_first};
@@ -20,7 +20,8 @@ pub(crate) fn homed_first(alloc: Global, t: &TraceIn) -> Result<Vec<u32>, AllocE
     let nodes = t.trace.nodes.as_slice();
     let made = made_along(alloc, t.flow, nodes)?;
     let live = live_first(alloc, t, nodes)?;
-    that_are_made(alloc, live.as_slice(), &made)
+    let kept = that_are_made(alloc, live.as_slice(), &made)?;
+    Ok(kept)
 }
 
 fn live_first(alloc: Global, t: &TraceIn, nodes: &[u32]) -> Result<Vec<u32>, AllocError>
@@ -52,19 +53,26 @@ fn made_along(alloc: Global, flow: &Flow, nodes: &[u32]) -> Result<Homes, AllocE
 {
     let mut made = Homes::new(alloc);
     for number in nodes {
-        add_made(&mut made, node_at(flow, *number))?;
+        add_number(&mut made, flow, *number)?;
     }
     Ok(made)
 }
 
-fn add_made(made: &mut Homes, node: Option<&Node>) -> Result<(), AllocError>
-    ensures { OnOk result (made.new ≡ all_inserted (made_by (option_map (λ n. n.now) node.entry)) made.old) }
+fn add_number(made: &mut Homes, flow: &Flow, number: u32) -> Result<(), AllocError>
+    ensures { OnOk result (made.new ≡ all_inserted (made_by (slice_get flow.now.nodes number)) made.old) }
 {
-    let Some(node) = node else {
-        return Ok(());
-    };
+    match node_at(flow, number) {
+        Some(node) => add_made(made, node),
+        None => Ok(()),
+    }
+}
+
+fn add_made(made: &mut Homes, node: &Node) -> Result<(), AllocError>
+    ensures { OnOk result (made.new ≡ all_inserted (block_makes (code_node node.now)) made.old) }
+{
     add_values(made, node.params.as_slice())?;
-    add_definitions(made, node.lirs.as_slice())
+    add_definitions(made, node.lirs.as_slice())?;
+    Ok(())
 }
 
 fn add_values(made: &mut Homes, values: &[u32]) -> Result<(), AllocError>

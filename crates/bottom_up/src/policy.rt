@@ -207,7 +207,8 @@ fn call_registers(
     let mut row = Registers::from_slice(alloc, regs)?;
     row.remove_all();
     before_call(&mut row, lir.template, lir.uses.as_slice());
-    registers_in(alloc, row.as_slice(), lir.uses.as_slice())
+    let args = registers_in(alloc, row.as_slice(), lir.uses.as_slice())?;
+    Ok(args)
 }
 
 fn call(alloc: Global, b: &mut Backward, index: u32, lir: &Lir) -> Result<(), Memory>

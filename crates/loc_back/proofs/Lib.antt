@@ -9,3 +9,4 @@ pub mod GivenSeats
 pub mod Calls
 pub mod Places
 pub mod Walks
+pub mod Trail

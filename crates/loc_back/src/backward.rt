@@ -1,6 +1,6 @@
 //! The walk from a trace's end to its start.
 
-ghost use Rattle.std.specs.Prelude.{◌≡◌, ◌≤◌, length, IfOk, OnOk};
+ghost use Rattle.std.specs.Prelude.{◌≡◌, ℕ, ◌+◌, ◌≤◌, List, [], ◌∷◌, ◌++◌, length, Some, slice_get, IfOk, OnOk};
 ghost use Rattle.lir_core.specs.Flows.{operation_of};
 
 use crate::front_items::FrontItems;
@@ -23,12 +23,14 @@ pub struct Backward {
 }
 
 impl Backward {
-    ghost use Rattle.std.specs.Prelude.{[], ◌∷◌};
+    ghost use Rattle.loc_state.specs.Walked.{AllWalk};
+    ghost use Rattle.loc_back.specs.Served.{Route, Section, Simulates, due, IsEntered, MayTake, MayEvict, CanDefine, CanCall, CanEnter, with_def, onward, walked, tasks, IsWhole};
     ghost use Rattle.loc_back.specs.Steps.{bare, with_homes, started, in_part, taken, evicted, defined, called, left_node, before_node, closed};
 
     /// Starts behind a trace, with values that are homed, and so many registers.
     pub fn new(alloc: Global, homed: &[u32], regs: u8) -> Result<Backward, Memory>
         ensures step { IfOk result (λ b. b ≡ started homed.now regs) }
+        ensures simulates { IfOk result (λ b. (x : Route) → x.done ≡ [] → x.made ≡ [] → regs ≡ x.room.regs → Simulates x 0 [] b) }
     {
         Ok(Backward {
             starts: FrontItems::new(alloc),
@@ -51,6 +53,8 @@ impl Backward {
     ) -> Result<(), Memory>
         ensures step { OnOk result (self.new ≡ before_node params.now end.now args.now homes.now self.old) }
         ensures row { OnOk result (length self.new.part.regs ≡ length self.old.part.regs) }
+        ensures simulates { OnOk result ((x : Route) (b : Section) → CanEnter x b params.now end.now homes.now self.old.part.homed
+            → Simulates x 0 (due x 0 self.old.part.stage) self.old → Simulates (onward self.old.part.stage b params.now x) (length b.ops) [] self.new) }
     {
         self.leave_node(alloc)?;
         self.part.enter(alloc, params, end, args, homes)?;
@@ -68,6 +72,8 @@ impl Backward {
     ) -> Result<(), Memory>
         ensures step { OnOk result (self.new ≡ in_part (defined index lir.now.def reg) self.old) }
         ensures row { OnOk result (length self.new.part.regs ≡ length self.old.part.regs) }
+        ensures simulates { OnOk result ((x : Route) → slice_get x.here.ops index ≡ Some (operation_of lir.now) → IsEntered self.old.part.stage → CanDefine x (operation_of lir.now) reg self.old.part
+            → Simulates x (index + 1) (due x (index + 1) self.old.part.stage) self.old → Simulates (with_def lir.now.def x) index [] self.new) }
     {
         self.part.define(alloc, index, lir.def, reg)?;
         Ok(())
@@ -79,6 +85,7 @@ impl Backward {
         requires few { length self.old.part.regs ≤ 16 }
         ensures step { OnOk result (self.new ≡ in_part (taken value reg) self.old) }
         ensures row { OnOk result (length self.new.part.regs ≡ length self.old.part.regs) }
+        ensures simulates { OnOk result ((x : Route) (n : ℕ) (noted : List ℕ) → MayTake x value reg self.old.part → Simulates x n noted self.old → Simulates x n (noted ++ value ∷ []) self.new) }
     {
         self.part.take(value, reg)?;
         Ok(())
@@ -88,6 +95,7 @@ impl Backward {
     pub fn evict(&mut self, reg: u8) -> Result<(), Memory>
         ensures step { OnOk result (self.new ≡ in_part (evicted reg) self.old) }
         ensures row { OnOk result (length self.new.part.regs ≡ length self.old.part.regs) }
+        ensures simulates { OnOk result ((x : Route) (n : ℕ) (noted : List ℕ) → MayEvict reg self.old.part → Simulates x n noted self.old → Simulates x n noted self.new) }
     {
         self.part.evict(reg)?;
         Ok(())
@@ -105,13 +113,18 @@ impl Backward {
         requires few { length self.old.part.regs ≤ 16 }
         ensures step { OnOk result (self.new ≡ in_part (called index (operation_of lir.now) args.now) self.old) }
         ensures row { OnOk result (length self.new.part.regs ≡ length self.old.part.regs) }
+        ensures simulates { OnOk result ((x : Route) → slice_get x.here.ops index ≡ Some (operation_of lir.now) → IsEntered self.old.part.stage → CanCall x (operation_of lir.now) args.now self.old.part.homed
+            → Simulates x (index + 1) (due x (index + 1) self.old.part.stage) self.old → Simulates (with_def lir.now.def x) index [] self.new) }
     {
-        self.part.call(alloc, index, lir, args)
+        self.part.call(alloc, index, lir, args)?;
+        Ok(())
     }
 
     /// Ends the walk at the start of the first node, and marks homes at all places.
     pub fn close(&mut self, alloc: Global, t: &TraceIn) -> Result<(), Memory>
         ensures step { OnOk result (self.new ≡ closed t.now.flow.now t.now.live.now t.now.trace.now.nodes self.old) }
+        ensures simulates { OnOk result ((x : Route) → IsWhole t.now.flow.now t.now.live.now t.now.trace.now.nodes x self.old.part → Simulates x 0 (due x 0 self.old.part.stage) self.old
+            → AllWalk x.room (tasks (walked self.old.part.stage x)) self.new.starts self.new.lines self.new.regs self.new.ends) }
     {
         self.leave_node(alloc)?;
         self.mark(alloc, t)?;

@@ -1,0 +1,34 @@
+use Rattle.std.proofs.Common.{◌≡◌, ℕ, List, Option, None, ◌∙◌, ap, ap₂}
+use Rattle.std.proofs.Math.Path.{fun_ext}
+use Rattle.live_interval.specs.Asked.{mention_told}
+use Rattle.loc_back.specs.declared.backward.Backward.{Backward}
+use Rattle.loc_back.specs.Steps.{started, closed}
+use Rattle.linear_scan.specs.Linear.{Case}
+use Rattle.linear_scan.specs.Inputs.{case_of, IsInput}
+use Rattle.bottom_up.specs.Bottom.{homed_first, along, walked_back, result_of, mention_in, bottom_up}
+use Rattle.bottom_up.proofs.allocating.allocate.Goals as goal
+
+module _ (c : goal.After-drop-positions-inside-2) where
+  x : Case
+  x = case_of c.args.t.now
+
+  ns : List ℕ
+  ns = c.args.t.now.trace.now.nodes
+
+  said : ℕ → ℕ → Option ℕ
+  said = mention_told c.in_ok-positions.positions
+
+  made : c.finish.result ≡ result_of c.args.t.now.number (walked_back x said ns)
+  unfolding x ns said
+  made =
+      let start : c.in_ok-b.b ≡ started (homed_first x ns) x.regs = c.in_ok-b.ensures.step ∙ ap (λ hs. started hs x.regs) (c.as_slice.ensures.value ∙ c.in_ok-homed.ensures) in
+      let walk : c.in_ok-b-2.b ≡ along x said 0 ns (started (homed_first x ns) x.regs) = c.in_ok-b-2.ensures ∙ ap₂ (λ ks b. along x said 0 ks b) c.as_slice-2.ensures start in
+      c.finish.ensures ∙ ap (result_of c.args.t.now.number) (c.in_ok-close.ensures.step ∙ ap (closed x.flow x.rows ns) walk)
+
+  same : IsInput x ns None → said ≡ mention_in x ns
+  unfolding x ns said
+  same given = fun_ext (λ v. fun_ext (λ p. c.in_ok-positions.ensures.last_mention given.valid v p))
+
+pub returns : goal.returns
+unfolding x ns said
+returns c = record { bottom_up = λ given. made c ∙ ap (λ m. result_of c.args.t.now.number (walked_back (x c) m (ns c))) (same c given) }
