@@ -61,6 +61,8 @@ def words_of(line):
     """A line's words."""
     if line[0] == 'Lir':
         return ['do', line[1]]
+    if line[0] == 'Result':
+        return ['result', 'x%d' % line[1]]
     if line[0] in ('Store', 'Load'):
         return [line[0].lower(), 'x%d' % line[1], line[2]]
     if line[0] == 'Target':
@@ -68,10 +70,15 @@ def words_of(line):
     return ['moves'] + [place(p) for move in line[1] for p in move]
 
 
-def answer_of(flow, regs):
-    """The lines that are wanted of a flow."""
+def linear_results(flow, regs):
+    """Linear scan of a flow's traces, each by its parent's result."""
+    return backend.final_results('linear', flow, ssa.live(flow), backend.build('bi', flow), regs)
+
+
+def answer_of(outs):
+    """The lines that are wanted of results."""
     lines = []
-    for out in backend.final_results('linear', flow, ssa.live(flow), backend.build('bi', flow), regs):
+    for out in outs:
         for start, code, named, end in zip(out.starts, out.lines, out.regs, out.ends):
             rows = (['start'] + places(start), ['lines'] + [w for line in code for w in words_of(line)],
                     ['regs'] + named, ['end'] + places(end))
@@ -79,19 +86,20 @@ def answer_of(flow, regs):
     return lines
 
 
-def main():
-    folder = sys.argv[1] if len(sys.argv) > 1 else os.path.join(TOP, 'crates', 'linear_vectors')
+def main(crate, sizes, results_of):
+    folder = sys.argv[1] if len(sys.argv) > 1 else os.path.join(TOP, 'crates', crate)
     texts = [NEST.encode(), MANY.encode(), trc.bulk_text(7, 6)]
     lines, answers = [], []
     for text in texts:
         for flow in trc.make_plan(['M'], [text], 'bi', 12).flows:
-            for regs in (4, 5, 16):
+            for regs in sizes:
                 lines.append('%d %s' % (regs, line_of(flow)))
-                answers += answer_of(flow, regs)
+                answers += answer_of(results_of(flow, regs))
     for name, rows in (('stdin', lines), ('stdout', answers)):
         with open(os.path.join(folder, name), 'w') as file:
             file.write('\n'.join(rows) + '\n')
     print(len(lines), 'cases')
 
 
-main()
+if __name__ == '__main__':
+    main('linear_vectors', (4, 5, 16), linear_results)

@@ -2,6 +2,7 @@
 
 ghost use Rattle.std.specs.Prelude.{◌≡◌, ◌≤◌, length, IfOk, OnOk, None, slice_get, get_or};
 ghost use Rattle.lir_core.specs.Lines.{end_reads};
+ghost use Rattle.lir_core.specs.Sound.{IsSound};
 ghost use Rattle.live_interval.specs.Asked.{mention_told};
 ghost use Rattle.loc_back.specs.Steps.{in_part};
 ghost use Rattle.std.specs.Option.{option_map};
@@ -19,13 +20,14 @@ use loc_back::Backward;
 use outside::Memory;
 use std::alloc::Global;
 
-/// Bottom-up allocation of a trace: the defined result, for a valid flow, what is live in it, and a trace. With 16
+/// Bottom-up allocation of a trace: the defined result, which is sound, for a valid flow, what is live in it, and a trace. With 16
 /// registers at most it takes time in proportion to what `positions` takes, to the trace's operations and uses, and to the
 /// values that are live at each node, each times a logarithm.
 pub fn allocate(alloc: Global, t: &TraceIn) -> Result<TraceOut, Memory>
     requires enough { 4 ≤ t.now.regs }
     requires few { t.now.regs ≤ 16 }
     ensures bottom_up { IsInput (case_of t.now) t.now.trace.now.nodes None → IfOk result (λ out. out ≡ bottom_up (case_of t.now) t.now.number t.now.trace.now.nodes) }
+    ensures sound { IsInput (case_of t.now) t.now.trace.now.nodes None → IfOk result (IsSound t.now.regs t.now.flow.now t.now.trace.now) }
 {
     let positions = positions(alloc, t.flow, t.trace, t.live)?;
     let homed = homed_first(alloc, t)?;

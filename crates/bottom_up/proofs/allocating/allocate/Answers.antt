@@ -1,4 +1,4 @@
-use Rattle.std.proofs.Common.{◌≡◌, ℕ, List, Option, None, ◌∙◌, ap, ap₂}
+use Rattle.std.proofs.Common.{◌≡◌, ℕ, List, Option, None, ◌∙◌, ap, ap₂, sym, subst}
 use Rattle.std.proofs.Math.Path.{fun_ext}
 use Rattle.live_interval.specs.Asked.{mention_told}
 use Rattle.loc_back.specs.declared.backward.Backward.{Backward}
@@ -6,9 +6,11 @@ use Rattle.loc_back.specs.Steps.{started, closed}
 use Rattle.linear_scan.specs.Linear.{Case}
 use Rattle.linear_scan.specs.Inputs.{case_of, IsInput}
 use Rattle.bottom_up.specs.Bottom.{homed_first, along, walked_back, result_of, mention_in, bottom_up}
+use Rattle.lir_core.specs.Sound.{IsSound}
+use Rattle.bottom_up.proofs.Traces.{bottom_sound}
 use Rattle.bottom_up.proofs.allocating.allocate.Goals as goal
 
-module _ (c : goal.After-drop-positions-inside-2) where
+module _ (c : goal.After-drop-positions-inside-3) where
   x : Case
   x = case_of c.args.t.now
 
@@ -29,6 +31,10 @@ module _ (c : goal.After-drop-positions-inside-2) where
   unfolding x ns said
   same given = fun_ext (λ v. fun_ext (λ p. c.in_ok-positions.ensures.last_mention given.valid v p))
 
-pub returns : goal.returns
+pub returns-clause-bottom_up : goal.returns-clause-bottom_up
 unfolding x ns said
-returns c = record { bottom_up = λ given. made c ∙ ap (λ m. result_of c.args.t.now.number (walked_back (x c) m (ns c))) (same c given) }
+returns-clause-bottom_up c given = made c ∙ ap (λ m. result_of c.args.t.now.number (walked_back (x c) m (ns c))) (same c given)
+
+pub returns-clause-sound : goal.returns-clause-sound
+unfolding x ns said
+returns-clause-sound c given = subst (IsSound (x c).regs (x c).flow (record { nodes = ns c })) (sym (made c)) (bottom_sound (x c) (said c) (ns c) given c.args.t.now.number)
