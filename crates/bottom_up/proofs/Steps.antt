@@ -1,8 +1,7 @@
 -- A step more of the code's loops.
-use Rattle.std.proofs.Common.{◌≡◌, ℕ, zero, suc, ◌+◌, ◌-◌, ◌<◌, Bool, true, false, cond, List, [], ◌∷◌, ◌++◌, filter, length, drop, get_or, Option, Some, None, refl, sym, ap, ap₂, ◌∙◌, arith, add-one}
+use Rattle.std.proofs.Common.{◌≡◌, ℕ, zero, suc, ◌+◌, ◌-◌, ◌<◌, Bool, true, false, List, [], ◌∷◌, ◌++◌, filter, length, drop, get_or, Option, Some, None, refl, sym, ap, ap₂, ◌∙◌, arith, map, append_assoc}
 use Rattle.std.specs.Prelude.{slice_get}
 use Rattle.std.proofs.Math.Path.{fun_ext}
-use Rattle.run_laws.specs.Layers.{places_from}
 use Rattle.block_runs.specs.Live.{has}
 use Rattle.lir_core.specs.declared.flow.Lir.{Lir}
 use Rattle.lir_core.specs.declared.flow.Node.{Node}
@@ -20,15 +19,14 @@ pub inserted_append : (xs ys homed : List ℕ) → all_inserted (xs ++ ys) homed
 inserted_append [] ys homed = refl
 inserted_append (x ∷ xs) ys homed = inserted_append xs ys (inserted x homed)
 
--- a value more of those below n that pass a test
-pub filter_step : (p : ℕ → Bool) (n v : ℕ) → v < n → filter p (places_from v (n - v)) ≡ cond (p v) (v ∷ []) [] ++ filter p (places_from (v + 1) (n - (v + 1)))
-filter_step p n v lt =
-    let e : n - v ≡ suc (n - (v + 1)) = omega (arith, lt) in
-    ap (λ k. filter p (places_from v k)) e ∙ by (p v) ∙ ap (λ k. cond (p v) (v ∷ []) [] ++ filter p (places_from k (n - (v + 1)))) (sym (add-one v))
+-- an argument more that is given no register
+pub none_step : (values : List ℕ) (i : ℕ) (args : List (Option ℕ)) → i < length values → (args ++ None ∷ []) ++ map (λ a. None) (drop (i + 1) values) ≡ args ++ map (λ a. None) (drop i values)
+none_step values i args lt = append_assoc args (None ∷ []) (map (λ a. None) (drop (i + 1) values)) ∙ ap (λ xs. args ++ xs) (on values i lt)
   where
-    by : (b : Bool) → cond b (v ∷ filter p (places_from (suc v) (n - (v + 1)))) (filter p (places_from (suc v) (n - (v + 1)))) ≡ cond b (v ∷ []) [] ++ filter p (places_from (suc v) (n - (v + 1)))
-    by true = refl
-    by false = refl
+    on : (values : List ℕ) (i : ℕ) → i < length values → None ∷ map (λ a. None) (drop (i + 1) values) ≡ map (λ a. None) (drop i values)
+    on [] i lt = absurd (omega (arith, lt))
+    on (v ∷ values) zero lt = refl
+    on (v ∷ values) (suc i) lt = let z : suc i + 1 ≡ suc (i + 1) = omega arith in ap (λ k. None ∷ map (λ a. None) (drop k (v ∷ values))) z ∙ on values i (omega (arith, lt))
 
 pub made_step : (nodes : List Node) (ns : List ℕ) (i n : ℕ) (homed : List ℕ) → i < length ns → n ≡ get_or ns i 0 → all_inserted (made_along nodes (drop i ns)) homed ≡ all_inserted (made_along nodes (drop (i + 1) ns)) (all_inserted (made_by (slice_get nodes n)) homed)
 made_step nodes [] i n homed lt e = absurd (omega (arith, lt))

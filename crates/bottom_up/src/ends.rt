@@ -1,8 +1,7 @@
 //! The end of a node.
 
-ghost use Rattle.std.specs.Prelude.{◌≡◌, ◌≤◌, ◌++◌, [], ◌∷◌, length, map, None, IfOk, OnOk, if◌then◌else◌, slice_get};
+ghost use Rattle.std.specs.Prelude.{◌≡◌, ◌≤◌, ◌++◌, [], ◌∷◌, length, map, None, IfOk, OnOk, slice_get};
 ghost use Rattle.lir_core.specs.Spots.{get};
-ghost use Rattle.lir_core.specs.Rows.{has_bit};
 ghost use Rattle.block_runs.specs.Blocks.{successors};
 ghost use Rattle.live_interval.specs.Needs.{is_next, live_into, live_off};
 ghost use Rattle.loc_back.specs.Steps.{no_param};
@@ -10,7 +9,7 @@ ghost use Rattle.bottom_up.specs.Policy.{is_empty};
 ghost use Rattle.bottom_up.specs.Ends.{param_register, argument_register, given, without_register, not_given, given_at, passed_home, homed_at};
 
 use lir_core::{Leave, LiveSets};
-use loc_back::{leave_params, seat_new_one};
+use loc_back::{leave_params, live_values, seat_new_one};
 use loc_state::{has_register, register_of};
 use std::alloc::{AllocError, Global};
 
@@ -42,7 +41,7 @@ pub(crate) fn passing(
     ensures homes { IfOk result (λ p. p.homes.items ≡ homed_at values live.now next.now.node next.now.params.now next.now.regs.now end.now) }
 {
     let PassedOn { args, mut homes } = arguments(alloc, next, end)?;
-    add_off(&mut homes, live, values, next.node, end)?;
+    add_off(alloc, &mut homes, live, values, next.node, end)?;
     Ok(PassedOn { args, homes })
 }
 
@@ -164,6 +163,7 @@ fn add_without(
 
 // What is live into nodes to which an end leads out of the trace.
 fn add_off(
+    alloc: Global,
     homes: &mut Vec<u32>,
     live: &LiveSets,
     values: u32,
@@ -173,15 +173,16 @@ fn add_off(
     ensures { OnOk result (homes.new.items ≡ homes.old.items ++ live_off values live.now next (successors end.now)) }
 {
     match end {
-        Leave::Jump { to, .. } => add_unless_next(homes, live, values, next, *to),
-        Leave::Branch { yes, no, .. } => add_both(homes, live, values, next, *yes, *no),
-        Leave::Nonzero { yes, no, .. } => add_both(homes, live, values, next, *yes, *no),
+        Leave::Jump { to, .. } => add_unless_next(alloc, homes, live, values, next, *to),
+        Leave::Branch { yes, no, .. } => add_both(alloc, homes, live, values, next, *yes, *no),
+        Leave::Nonzero { yes, no, .. } => add_both(alloc, homes, live, values, next, *yes, *no),
         Leave::Return(_) => Ok(()),
         Leave::Trap(_) => Ok(()),
     }
 }
 
 fn add_both(
+    alloc: Global,
     homes: &mut Vec<u32>,
     live: &LiveSets,
     values: u32,
@@ -191,11 +192,12 @@ fn add_both(
 ) -> Result<(), AllocError>
     ensures { OnOk result (homes.new.items ≡ homes.old.items ++ live_off values live.now next (yes ∷ no ∷ [])) }
 {
-    add_unless_next(homes, live, values, next, yes)?;
-    add_unless_next(homes, live, values, next, no)
+    add_unless_next(alloc, homes, live, values, next, yes)?;
+    add_unless_next(alloc, homes, live, values, next, no)
 }
 
 fn add_unless_next(
+    alloc: Global,
     homes: &mut Vec<u32>,
     live: &LiveSets,
     values: u32,
@@ -207,7 +209,7 @@ fn add_unless_next(
     if is_next(next, node) {
         return Ok(());
     }
-    add_live(homes, live, values, node)
+    add_live(alloc, homes, live, values, node)
 }
 
 fn is_next(next: Option<u32>, node: u32) -> bool
@@ -221,6 +223,7 @@ fn is_next(next: Option<u32>, node: u32) -> bool
 
 /// Adds what is live into a node.
 pub(crate) fn add_live(
+    alloc: Global,
     homes: &mut Vec<u32>,
     live: &LiveSets,
     values: u32,
@@ -228,22 +231,16 @@ pub(crate) fn add_live(
 ) -> Result<(), AllocError>
     ensures { OnOk result (homes.new.items ≡ homes.old.items ++ live_into values live.now node) }
 {
-    for value in 0..values {
-        add_if_live(homes, live, node, value)?;
-    }
+    let list = live_values(alloc, live, node, values)?;
+    add_all(homes, list.as_slice())?;
     Ok(())
 }
 
-fn add_if_live(
-    homes: &mut Vec<u32>,
-    live: &LiveSets,
-    node: u32,
-    value: u32,
-) -> Result<(), AllocError>
-    ensures { OnOk result (homes.new.items ≡ homes.old.items ++ (if has_bit live.now node value then value ∷ [] else [])) }
+fn add_all(homes: &mut Vec<u32>, values: &[u32]) -> Result<(), AllocError>
+    ensures { OnOk result (homes.new.items ≡ homes.old.items ++ values.now) }
 {
-    if live.has(node, value) {
-        homes.push(value)?;
+    for value in values {
+        homes.push(*value)?;
     }
     Ok(())
 }

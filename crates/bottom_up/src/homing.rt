@@ -29,7 +29,7 @@ fn live_first(alloc: Global, t: &TraceIn, nodes: &[u32]) -> Result<Vec<u32>, All
 {
     let mut live = Vec::new(alloc);
     if let Some(head) = nodes.first() {
-        add_live(&mut live, t.live, t.flow.values, *head)?;
+        add_live(alloc, &mut live, t.live, t.flow.values, *head)?;
         return Ok(live);
     }
     Ok(live)

@@ -1,5 +1,5 @@
 -- Which homes are marked: at a place the values that live there and are homed at the end of the walk.
-use Rattle.std.specs.Prelude.{ℕ, cond, List, [], ◌∷◌, ◌++◌, filter, Option, Some, None, slice_get}
+use Rattle.std.specs.Prelude.{◌≡◌, ℕ, ◌+◌, ◌-◌, ◌<◌, ◌≤◌, cond, List, [], ◌∷◌, ◌++◌, filter, Option, Some, None, slice_get}
 use Rattle.run_laws.specs.Layers.{places_from}
 use Rattle.block_runs.specs.Blocks.{end_uses, successors}
 use Rattle.block_runs.specs.Live.{has}
@@ -12,6 +12,14 @@ use Rattle.loc_state.specs.Homed.{inserted}
 -- of so many values those that are live into a node, by rows of bits
 abbrev pub live_at : ℕ → List (List ℕ) → ℕ → List ℕ
 live_at values rows n = filter (has_bit rows n) (places_from 0 values)
+
+-- those from a number on, and the first of them, if there is one
+abbrev pub live_on : ℕ → List (List ℕ) → ℕ → ℕ → List ℕ
+live_on values rows n from = filter (has_bit rows n) (places_from from (values - from))
+
+abbrev pub IsFirstOn : ℕ → List (List ℕ) → ℕ → ℕ → Option ℕ → Type 0
+IsFirstOn values rows n from None = live_on values rows n from ≡ []
+IsFirstOn values rows n from (Some v) = (v < values) × (from ≤ v) × (live_on values rows n from ≡ v ∷ live_on values rows n (v + 1))
 
 abbrev pub live_at_each : ℕ → List (List ℕ) → List ℕ → List ℕ
 live_at_each values rows [] = []

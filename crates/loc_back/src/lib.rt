@@ -14,5 +14,6 @@ mod seating;
 
 pub use backward::Backward;
 pub use front_items::FrontItems;
+pub use marks::live_values;
 pub use part::{BackPart, Begun, Loading, Stage};
 pub use seating::{leave_params, seat_new_one};

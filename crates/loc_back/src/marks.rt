@@ -1,10 +1,9 @@
 //! Homes that are marked once the walk is over.
 
-ghost use Rattle.std.specs.Prelude.{◌≡◌, [], ◌∷◌, if◌then◌else◌, IfOk, OnOk, slice_get};
+ghost use Rattle.std.specs.Prelude.{◌≡◌, [], ◌∷◌, IfOk, OnOk, slice_get};
 ghost use Rattle.std.specs.Option.{option_map};
 ghost use Rattle.block_runs.specs.Blocks.{end_uses, successors};
-ghost use Rattle.lir_core.specs.Rows.{has_bit};
-ghost use Rattle.loc_back.specs.Marks.{live_at, live_at_each, at_start, at_end, marked_one, marked, starts_marked, ends_marked};
+ghost use Rattle.loc_back.specs.Marks.{IsFirstOn, live_at, live_at_each, at_start, at_end, marked_one, marked, starts_marked, ends_marked};
 
 use crate::front_items::FrontItems;
 use lir_core::{Flow, Leave, LiveSets, Node, Places};
@@ -39,44 +38,39 @@ impl Marking<'_> {
         Ok(())
     }
 
-    fn mark_if_live(&self, marks: &mut Homes, node: u32, value: u32) -> Result<(), AllocError>
-        ensures { OnOk result (marks.new ≡ (if has_bit self.now.live.now node value then marked_one self.now.homed.now value marks.old else marks.old)) }
-    {
-        if self.live.has(node, value) {
-            self.mark(marks, value)
-        } else {
-            Ok(())
-        }
-    }
-
     // What is live into a node.
-    fn mark_live(&self, marks: &mut Homes, node: u32) -> Result<(), AllocError>
+    fn mark_live(&self, alloc: Global, marks: &mut Homes, node: u32) -> Result<(), AllocError>
         ensures { OnOk result (marks.new ≡ marked self.now.homed.now (live_at self.now.flow.now.values self.now.live.now node) marks.old) }
     {
-        for value in 0..self.flow.values {
-            self.mark_if_live(marks, node, value)?;
-        }
+        let values = live_values(alloc, self.live, node, self.flow.values)?;
+        self.mark_all(marks, values.as_slice())?;
         Ok(())
     }
 
     // What is live into a node to which an end leads.
-    fn mark_behind(&self, marks: &mut Homes, end: &Leave) -> Result<(), AllocError>
+    fn mark_behind(&self, alloc: Global, marks: &mut Homes, end: &Leave) -> Result<(), AllocError>
         ensures { OnOk result (marks.new ≡ marked self.now.homed.now (live_at_each self.now.flow.now.values self.now.live.now (successors end.now)) marks.old) }
     {
         match end {
-            Leave::Jump { to, .. } => self.mark_live(marks, *to),
-            Leave::Branch { yes, no, .. } => self.mark_both(marks, *yes, *no),
-            Leave::Nonzero { yes, no, .. } => self.mark_both(marks, *yes, *no),
+            Leave::Jump { to, .. } => self.mark_live(alloc, marks, *to),
+            Leave::Branch { yes, no, .. } => self.mark_both(alloc, marks, *yes, *no),
+            Leave::Nonzero { yes, no, .. } => self.mark_both(alloc, marks, *yes, *no),
             Leave::Return(_) => Ok(()),
             Leave::Trap(_) => Ok(()),
         }
     }
 
-    fn mark_both(&self, marks: &mut Homes, yes: u32, no: u32) -> Result<(), AllocError>
+    fn mark_both(
+        &self,
+        alloc: Global,
+        marks: &mut Homes,
+        yes: u32,
+        no: u32,
+    ) -> Result<(), AllocError>
         ensures { OnOk result (marks.new ≡ marked self.now.homed.now (live_at_each self.now.flow.now.values self.now.live.now (yes ∷ no ∷ [])) marks.old) }
     {
-        self.mark_live(marks, yes)?;
-        self.mark_live(marks, no)?;
+        self.mark_live(alloc, marks, yes)?;
+        self.mark_live(alloc, marks, no)?;
         Ok(())
     }
 
@@ -98,7 +92,7 @@ impl Marking<'_> {
         ensures { IfOk result (λ marks. marks ≡ marked self.now.homed.now (at_start self.now.flow.now.values self.now.live.now number (slice_get self.now.flow.now.nodes number)) []) }
     {
         let mut marks = Homes::new(alloc);
-        self.mark_live(&mut marks, number)?;
+        self.mark_live(alloc, &mut marks, number)?;
         if let Some(node) = node_at(self.flow, number) {
             self.mark_all(&mut marks, node.params.as_slice())?;
             return Ok(marks);
@@ -111,7 +105,7 @@ impl Marking<'_> {
     {
         let mut marks = Homes::new(alloc);
         if let Some(node) = node_at(self.flow, number) {
-            self.mark_behind(&mut marks, &node.end)?;
+            self.mark_behind(alloc, &mut marks, &node.end)?;
             self.mark_used(&mut marks, &node.end)?;
             return Ok(marks);
         }
@@ -156,6 +150,35 @@ impl Marking<'_> {
             made.push_back(with_homes(alloc, q, &marks)?)?;
         }
         Ok(made)
+    }
+}
+
+/// Of so many values those that are live into a node, in order. Takes time in proportion to the words of the node's row and
+/// to those values.
+pub fn live_values(
+    alloc: Global,
+    live: &LiveSets,
+    node: u32,
+    values: u32,
+) -> Result<Vec<u32>, AllocError>
+    ensures { IfOk result (λ list. list.items ≡ live_at values live.now node) }
+{
+    let mut list = Vec::new(alloc);
+    let mut from = 0;
+    while let Some(value) = first_on(live, node, from, values) {
+        list.push(value)?;
+        from = value + 1;
+    }
+    Ok(list)
+}
+
+// The first of so many values from a number on that is live into a node.
+fn first_on(live: &LiveSets, node: u32, from: u32, values: u32) -> Option<u32>
+    ensures { IsFirstOn values live.now node from result }
+{
+    match live.next_live(node, from) {
+        Some(value) if value < values => Some(value),
+        _ => None,
     }
 }
 
