@@ -1,5 +1,5 @@
 -- A step more of the code's loops.
-use Rattle.std.proofs.Common.{◌≡◌, ℕ, zero, suc, ◌+◌, ◌-◌, ◌<◌, Bool, true, false, List, [], ◌∷◌, ◌++◌, filter, length, drop, get_or, Option, Some, None, refl, sym, ap, ap₂, ◌∙◌, arith, map, append_assoc}
+use Rattle.std.proofs.Common.{◌≡◌, ℕ, zero, suc, ◌+◌, ◌<◌, Bool, true, false, cond, List, [], ◌∷◌, ◌++◌, map, filter, length, drop, get_or, Option, Some, None, refl, sym, ap, ap₂, ◌∙◌, arith, append_assoc}
 use Rattle.std.specs.Prelude.{slice_get}
 use Rattle.std.proofs.Math.Path.{fun_ext}
 use Rattle.block_runs.specs.Live.{has}
@@ -19,14 +19,14 @@ pub inserted_append : (xs ys homed : List ℕ) → all_inserted (xs ++ ys) homed
 inserted_append [] ys homed = refl
 inserted_append (x ∷ xs) ys homed = inserted_append xs ys (inserted x homed)
 
+map_drop : (f : ℕ → Option ℕ) (values : List ℕ) (i : ℕ) → i < length values → f (get_or values i 0) ∷ map f (drop (i + 1) values) ≡ map f (drop i values)
+map_drop f [] i lt = absurd (omega (arith, lt))
+map_drop f (v ∷ values) zero lt = refl
+map_drop f (v ∷ values) (suc i) lt = let z : suc i + 1 ≡ suc (i + 1) = omega arith in ap (λ k. f (get_or values i 0) ∷ map f (drop k (v ∷ values))) z ∙ map_drop f values i (omega (arith, lt))
+
 -- an argument more that is given no register
 pub none_step : (values : List ℕ) (i : ℕ) (args : List (Option ℕ)) → i < length values → (args ++ None ∷ []) ++ map (λ a. None) (drop (i + 1) values) ≡ args ++ map (λ a. None) (drop i values)
-none_step values i args lt = append_assoc args (None ∷ []) (map (λ a. None) (drop (i + 1) values)) ∙ ap (λ xs. args ++ xs) (on values i lt)
-  where
-    on : (values : List ℕ) (i : ℕ) → i < length values → None ∷ map (λ a. None) (drop (i + 1) values) ≡ map (λ a. None) (drop i values)
-    on [] i lt = absurd (omega (arith, lt))
-    on (v ∷ values) zero lt = refl
-    on (v ∷ values) (suc i) lt = let z : suc i + 1 ≡ suc (i + 1) = omega arith in ap (λ k. None ∷ map (λ a. None) (drop k (v ∷ values))) z ∙ on values i (omega (arith, lt))
+none_step values i args lt = append_assoc args (None ∷ []) (map (λ a. None) (drop (i + 1) values)) ∙ ap (λ xs. args ++ xs) (map_drop (λ a. None) values i lt)
 
 pub made_step : (nodes : List Node) (ns : List ℕ) (i n : ℕ) (homed : List ℕ) → i < length ns → n ≡ get_or ns i 0 → all_inserted (made_along nodes (drop i ns)) homed ≡ all_inserted (made_along nodes (drop (i + 1) ns)) (all_inserted (made_by (slice_get nodes n)) homed)
 made_step nodes [] i n homed lt e = absurd (omega (arith, lt))

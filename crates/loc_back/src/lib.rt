@@ -11,6 +11,7 @@ mod front_items;
 mod marks;
 mod part;
 mod seating;
+mod writing;
 
 pub use backward::Backward;
 pub use front_items::FrontItems;

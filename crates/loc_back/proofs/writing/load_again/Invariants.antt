@@ -1,6 +1,6 @@
 use Rattle.std.proofs.Common.{◌≡◌, ◌≤◌, drop, length}
 use Rattle.loc_back.specs.Steps.{loading}
-use Rattle.loc_back.proofs.part.load_again.Given as goal
+use Rattle.loc_back.proofs.writing.load_again.Given as goal
 
 abbrev pub invariant-loop-left : goal.invariant-loop-left
 invariant-loop-left l = record {

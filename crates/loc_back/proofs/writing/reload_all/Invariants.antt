@@ -1,6 +1,6 @@
 use Rattle.std.proofs.Common.{◌≡◌, ◌≤◌, drop, length}
 use Rattle.loc_back.specs.Steps.{reloads}
-use Rattle.loc_back.proofs.part.reload_all.Given as goal
+use Rattle.loc_back.proofs.writing.reload_all.Given as goal
 
 abbrev pub invariant-loop-left : goal.invariant-loop-left
 invariant-loop-left l = record {
