@@ -1,5 +1,5 @@
 -- The world in which a program's first declarations are judged.
-use Rattle.std.proofs.Common.{◌≡◌, ℕ, List, [], ◌∷◌, Bool, true, false, Some, None, refl, subst}
+use Rattle.std.proofs.Common.{◌≡◌, ℕ, List, [], ◌∷◌, Bool, true, false, Some, None, refl, ap, subst}
 use Rattle.std.specs.Prelude.{if◌then◌else◌}
 use Rattle.std.specs.Str.{bytes_eq}
 use Rattle.ob_types.proofs.Tests.{no, none_some, some_same}
@@ -8,17 +8,18 @@ use Rattle.ob_judge.specs.Image.{Done}
 use Rattle.ob_judge.specs.Scopes.{Object, AType, AStandard, AVariable, ReadOnly, Entry, Imported, TheOut, TheIn, Earlier, World, Source, Abs, Odd, Len, Lsl, Asr, Ror, Ord, Chr, Inc, Dec, Incl, Excl, New, Assert, OutChar, OutInt, OutString, OutLn, InChar}
 use Rattle.ob_judge.specs.Standards.{names_of, predeclared, names_of_out, names_of_in}
 use Rattle.ob_judge.specs.Names.{names_of as names_of_module}
+use Rattle.ob_judge.specs.Names.{narrowing_of}
 use Rattle.ob_judge.specs.Modules.{no_modules, first_making}
 use Rattle.judged_well.specs.Forms.{InDone}
 use Rattle.judged_well.specs.Setting.{Setting}
 use Rattle.judged_well.specs.Standing.{as_done, VariableStands, ObjectStands, IsOwn, IsForeign, IsUnnarrowed, Right}
 
 -- what holds of all these names' objects
-abbrev AllObjects : (Object → Type 0) → List (List ℕ × Object) → Type 0
+abbrev pub AllObjects : (Object → Type 0) → List (List ℕ × Object) → Type 0
 AllObjects P [] = Unit {0}
 AllObjects P (x ∷ xs) = P x.1 × AllObjects P xs
 
-of_names : (P : Object → Type 0) (xs : List (List ℕ × Object)) → AllObjects P xs → (q : List ℕ) (x : Entry) → names_of xs q ≡ Some x → P x.object
+pub of_names : (P : Object → Type 0) (xs : List (List ℕ × Object)) → AllObjects P xs → (q : List ℕ) (x : Entry) → names_of xs q ≡ Some x → P x.object
 of_names P [] all q x is = none_some x is
 of_names P (y ∷ ys) all q x is = by (of_names P ys all.1 q x) (bytes_eq y.0 q) is
   where
@@ -27,19 +28,19 @@ of_names P (y ∷ ys) all q x is = by (of_names P ys all.1 q x) (bytes_eq y.0 q)
     by rest false is = rest is
 
 module _ (e : Setting) (p : Source) where
-  abbrev first : World
+  abbrev pub first : World
   first = (first_making no_modules).world
 
-  abbrev Owned : Object → Type 0
+  abbrev pub Owned : Object → Type 0
   Owned o = ObjectStands e o × IsOwn e first o
 
-  abbrev Foreign : Object → Type 0
-  Foreign o = ObjectStands e o × IsUnnarrowed e p first o × IsForeign e first o
+  abbrev pub Foreign : World → Object → Type 0
+  Foreign v o = ObjectStands e o × IsUnnarrowed e p v o × IsForeign e v o
 
   done : VariableStands e (record { shape = Boolean; place = Done; home = ReadOnly; owner = 0; procedure = None })
   done = record { names = InDone; are = refl; fits = as_done; claims = tt; integer = λ h. absurd (let z = h in cc); good = refl }
 
-  own : (q : List ℕ) (x : Entry) → predeclared q ≡ Some x → Owned x.object
+  pub own : (q : List ℕ) (x : Entry) → predeclared q ≡ Some x → Owned x.object
   own = of_names Owned (
       (73 ∷ 78 ∷ 84 ∷ 69 ∷ 71 ∷ 69 ∷ 82 ∷ [], AType Integer) ∷
       (66 ∷ 79 ∷ 79 ∷ 76 ∷ 69 ∷ 65 ∷ 78 ∷ [], AType Boolean) ∷
@@ -63,8 +64,9 @@ module _ (e : Setting) (p : Source) where
       [])
       (((refl, refl), tt), (((refl, refl), tt), (((refl, refl), tt), (((refl, refl), tt), (((refl, refl), tt), ((tt, tt), ((tt, tt), ((tt, tt), ((tt, tt), ((tt, tt), ((tt, tt), ((tt, tt), ((tt, tt), ((tt, tt), ((tt, tt), ((tt, tt), ((tt, tt), ((tt, tt), ((tt, tt), tt)))))))))))))))))))
 
-  of_out : (q : List ℕ) (x : Entry) → names_of_out q ≡ Some x → Foreign x.object
-  of_out = of_names Foreign (
+  -- of Out and In, where nothing is narrowed
+  pub of_out : (v : World) (q : List ℕ) (x : Entry) → names_of_out q ≡ Some x → Foreign v x.object
+  of_out v = of_names (Foreign v) (
       (67 ∷ 104 ∷ 97 ∷ 114 ∷ [], AStandard OutChar) ∷
       (73 ∷ 110 ∷ 116 ∷ [], AStandard OutInt) ∷
       (83 ∷ 116 ∷ 114 ∷ 105 ∷ 110 ∷ 103 ∷ [], AStandard OutString) ∷
@@ -72,16 +74,16 @@ module _ (e : Setting) (p : Source) where
       [])
       ((tt, tt, tt), ((tt, tt, tt), ((tt, tt, tt), ((tt, tt, tt), tt))))
 
-  of_in : (q : List ℕ) (x : Entry) → names_of_in q ≡ Some x → Foreign x.object
-  of_in = of_names Foreign (
+  pub of_in : (v : World) → v.narrowed ≡ [] → (q : List ℕ) (x : Entry) → names_of_in q ≡ Some x → Foreign v x.object
+  of_in v none = of_names (Foreign v) (
       (67 ∷ 104 ∷ 97 ∷ 114 ∷ [], AStandard InChar) ∷
       (68 ∷ 111 ∷ 110 ∷ 101 ∷ [], AVariable (record { shape = Boolean; place = Done; home = ReadOnly; owner = 0; procedure = None })) ∷
       [])
-      ((tt, tt, tt), ((done, refl, refl), tt))
+      ((tt, tt, tt), ((done, ap (λ ns. narrowing_of p v Done ns) none, refl), tt))
 
-  members : (m : Imported) (q : List ℕ) (x : Entry) → names_of_module p first m q ≡ Some x → Foreign x.object
-  members TheOut q x is = of_out q x is
-  members TheIn q x is = of_in q x is
+  members : (m : Imported) (q : List ℕ) (x : Entry) → names_of_module p first m q ≡ Some x → Foreign first x.object
+  members TheOut q x is = of_out first q x is
+  members TheIn q x is = of_in first refl q x is
   members (Earlier n) q x is = none_some x is
 
   pub first_right : Right e p first

@@ -1,26 +1,26 @@
-mod Judging
-mod Values
+pub mod Judging
+pub mod Values
 mod Places
 mod Selecting
 mod Operating
 mod Storing
 mod Calling
-mod Naming
-mod Reading
-mod Tree
+pub mod Naming
+pub mod Reading
+pub mod Tree
 mod Worlds
 mod Selectors
 mod Labels
 mod Deeds
-mod Statements
-mod Entries
+pub mod Statements
+pub mod Entries
 mod Forming
 mod Designating
 mod Images
 mod Bodies
 mod Outlines
-mod Whole
-mod FirstWorld
+pub mod Whole
+pub mod FirstWorld
 mod Folded
-mod Constants
-mod Spelled
+pub mod Constants
+pub mod Spelled

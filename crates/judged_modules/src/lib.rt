@@ -1,0 +1,2 @@
+//! What the judgement accepts is well-formed: declarations, procedures and modules.
+#![tactic(auto)]
