@@ -165,7 +165,7 @@ module _ (p : Source) where
 
   -- ---- variables
 
-  one_variable : (s : Making) (x : Shape) → Grows s (record s { variables = s.variables ++ x ∷ [] })
+  pub one_variable : (s : Making) (x : Shape) → Grows s (record s { variables = s.variables ++ x ∷ [] })
   one_variable s x = record {
     records_more = omega arith;
     records = λ r l. refl;

@@ -95,7 +95,7 @@ module _ (w : Final) where
   or_right true b h = refl
   or_right false b h = h
 
-  decided : (r n : ℕ) → (r ≡ n) ⊎ (r ≡ n → ⊥)
+  pub decided : (r n : ℕ) → (r ≡ n) ⊎ (r ≡ n → ⊥)
   decided zero zero = inl refl
   decided zero (suc n) = inr (λ e. absurd (omega (arith, e)))
   decided (suc r) zero = inr (λ e. absurd (omega (arith, e)))

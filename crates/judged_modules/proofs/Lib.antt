@@ -6,3 +6,6 @@ mod Righting
 mod Keeping
 mod Fields
 mod Parameters
+mod TypesStand
+mod DeclarationsStand
+mod ProceduresStand

@@ -219,6 +219,7 @@ module _ (w : Final) where
     pub heads : Heads b s r.1
     pub more : List Formal
     pub prefix : (r.0).parameters ≡ l.parameters ++ more
+    pub values : (b ≡ true → s.values ≡ length (value_shapes l.parameters)) → b ≡ true → (r.1).values ≡ length (value_shapes (r.0).parameters)
     pub sound : Before → IsListed w l → Agrees w r.1 → Sound w s.world → Knows b f l s r.0 → Sound w (r.1).world × IsListed w r.0 × (b ≡ true → (r.1).values ≡ length (value_shapes (r.0).parameters))
 
   pub l_next : {b : Bool} {f : ℕ} {Before : Type 0} {l : Listed} {s : Making} {m : Judged (Listed × Making)} {g : Listed × Making → Judged (Listed × Making)}
@@ -227,6 +228,7 @@ module _ (w : Final) where
     heads = heads_on b s r.1 q.1 h.heads k.heads;
     more = h.more ++ k.more;
     prefix = k.prefix ∙ ap (λ xs. xs ++ k.more) h.prefix ∙ joined l.parameters h.more k.more;
+    values = λ i. k.values (h.values i);
     sound = λ before listed agrees sound knows.
         let back = heads_grows b r.1 q.1 k.heads (λ i. h.heads.variables ∙ (knows i).1) in
         let a = h.sound before listed (agrees_back w r.1 q.1 back agrees) sound (λ i. ((knows i).0, (knows i).1, (knows i).2, parameters_back w f (r.0).parameters k.more (subst (HasParameters w f) k.prefix (knows i).3))) in
@@ -263,15 +265,17 @@ module _ (w : Final) where
         own_place (is_value (mode_of v a)) s.world.module_number s.values (length l.parameters))
 
     pub l_add : (b : Bool) (f : ℕ) {Before : Type 0} (v : Bool) (a : Shape) → (Before → IsParameterType w a) → (is : List ℕ) (l : Listed) (s : Making) → Gives (Lists b f Before l s) (add_parameters p b v a is l s)
-    l_add b f v a kind [] l s = keeps (Lists b f _ l s) (l, s) (record { heads = heads_self b s; more = []; prefix = right_none l.parameters; sound = λ before listed agrees sound knows. (sound, listed, λ i. (knows i).2) })
+    l_add b f v a kind [] l s = keeps (Lists b f _ l s) (l, s) (record { heads = heads_self b s; more = []; prefix = right_none l.parameters; values = λ i. i; sound = λ before listed agrees sound knows. (sound, listed, λ i. (knows i).2) })
     l_add false f v a kind (i ∷ is) l s = and_then (look_as (rule 40 (place p i) (nat_le (l.words + words_of v a) 24)) s) (λ r h. weaken (l_add false f v a kind is (listed v a l) r.1) (λ q k. record {
       heads = subst (λ u. Heads false u q.1) h.0 k.heads;
+      values = λ i j. no j;
       more = new v a ∷ k.more;
       prefix = k.prefix ∙ joined l.parameters (new v a ∷ []) k.more;
       sound = λ before listed agrees sound knows. k.sound before (listed_more v a l (kind before) listed) agrees (subst (λ u. Sound w u.world) (sym h.0) sound) (λ i. no i);
     }))
     l_add true f v a kind (i ∷ is) l s = and_then (look_as (rule 40 (place p i) (nat_le (l.words + words_of v a) 24)) s) (λ r h. weaken (l_add true f v a kind is (listed v a l) (known_from i v a l r.1)) (λ q k. record {
       heads = heads_on true s (known_from i v a l r.1) q.1 (subst (λ u. Heads true u (known_from i v a l r.1)) h.0 (record { records = refl; bases = refl; procedures = refl; variables = refl; procedure = refl; module_number = refl; values = λ j. no (sym j) })) k.heads;
+      values = λ i. k.values (λ j. one_value (is_value (mode_of v a)) a (value_shapes l.parameters) (r.1).values (ap (λ u. u.values) h.0 ∙ i j) ∙ ap length (sym (values_append l.parameters (new v a ∷ []))));
       more = new v a ∷ k.more;
       prefix = k.prefix ∙ joined l.parameters (new v a ∷ []) k.more;
       sound = λ before listed agrees sound knows.
@@ -313,6 +317,7 @@ module _ (w : Final) where
             heads = heads_on b s r.1 q.1 (plain_heads b s r.1 h) (subst (λ u. Heads b u q.1) k.0 j.heads);
             more = j.more;
             prefix = j.prefix;
+            values = λ i. j.values (λ x. ap (λ u. u.values) k.0 ∙ h.values ∙ i x);
             sound = λ before listed agrees sound knows.
                 let empty = λ (i : b ≡ true). ap (λ u. u.variables) k.0 ∙ h.variables ∙ (knows i).1 in
                 let back = subst (Agrees w) k.0 (agrees_back w a.1 q.1 (heads_grows b a.1 q.1 j.heads empty) agrees) in
@@ -322,11 +327,11 @@ module _ (w : Final) where
           })))
 
       pub l_sections : (b : Bool) (f : ℕ) {Before : Type 0} (xs : List S.NextSection) (l : Listed) (s : Making) → Gives (Lists b f Before l s) (next_sections p b xs l s)
-      l_sections b f [] l s = keeps (Lists b f _ l s) (l, s) (record { heads = heads_self b s; more = []; prefix = right_none l.parameters; sound = λ before listed agrees sound knows. (sound, listed, λ i. (knows i).2) })
+      l_sections b f [] l s = keeps (Lists b f _ l s) (l, s) (record { heads = heads_self b s; more = []; prefix = right_none l.parameters; values = λ i. i; sound = λ before listed agrees sound knows. (sound, listed, λ i. (knows i).2) })
       l_sections b f (x ∷ xs) l s = l_next (l_section b f x.section l s) (λ r. l_sections b f xs r.0 r.1)
 
       pub l_all : (b : Bool) (f : ℕ) {Before : Type 0} (x : Option S.Sections) (s : Making) → Gives (Lists b f Before no_parameters s) (sections p b x s)
-      l_all b f None s = keeps (Lists b f _ no_parameters s) (no_parameters, s) (record { heads = heads_self b s; more = []; prefix = refl; sound = λ before listed agrees sound knows. (sound, listed, λ i. (knows i).2) })
+      l_all b f None s = keeps (Lists b f _ no_parameters s) (no_parameters, s) (record { heads = heads_self b s; more = []; prefix = refl; values = λ i. i; sound = λ before listed agrees sound knows. (sound, listed, λ i. (knows i).2) })
       l_all b f (Some x) s = l_next (l_section b f x.first no_parameters s) (λ r. l_sections b f x.more r.0 r.1)
 
       -- ---- results
@@ -347,13 +352,15 @@ module _ (w : Final) where
       -- what formal parts give: what a procedure takes and gives
       pub record Forms (b : Bool) (f : ℕ) (s : Making) (r : (Listed × Shape) × Making) : Type 0 where
         pub heads : Heads b s r.1
+        pub values : (b ≡ true → s.values ≡ 0) → b ≡ true → (r.1).values ≡ length (value_shapes ((r.0).0).parameters)
         pub sound : Agrees w r.1 → Sound w s.world → Knows b f no_parameters s (r.0).0 → Sound w (r.1).world × IsListed w (r.0).0 × IsResultType (r.0).1 × (b ≡ true → (r.1).values ≡ length (value_shapes ((r.0).0).parameters))
 
       pub l_formals : (b : Bool) (f : ℕ) (x : Option S.Formals) (s : Making) → Gives (Forms b f s) (formal_part p b x s)
-      l_formals b f None s = keeps (Forms b f s) ((no_parameters, Nothing), s) (record { heads = heads_self b s; sound = λ agrees sound knows. (sound, no_listed, (refl, refl), λ i. (knows i).2) })
+      l_formals b f None s = keeps (Forms b f s) ((no_parameters, Nothing), s) (record { heads = heads_self b s; values = λ i. i; sound = λ agrees sound knows. (sound, no_listed, (refl, refl), λ i. (knows i).2) })
       l_formals b f (Some x) s = and_then (l_all b f {Before = Unit {0}} x.sections s) (λ r h. and_then (look_as (result_shape p x.result (r.1).world) r.1) (λ a k.
           keeps (Forms b f s) ((r.0, a.0), a.1) (record {
             heads = subst (λ u. Heads b s u) (sym k.0) h.heads;
+            values = λ i x. ap (λ u. u.values) k.0 ∙ h.values i x;
             sound = λ agrees sound knows.
                 let here = subst (Agrees w) k.0 agrees in
                 let g = h.sound tt no_listed here sound knows in

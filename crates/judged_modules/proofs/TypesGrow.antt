@@ -41,6 +41,7 @@ pub record GrowsIn (s t : Making) : Type 0 where
   pub waiting : Each (Waits (length (bases_of s)) t) more
   pub variables_same : t.variables ≡ s.variables
   pub values_same : t.values ≡ s.values
+  pub procedures_same : t.procedures ≡ s.procedures
 
 pub right_none : {A : Type 0} (xs : List A) → xs ≡ xs ++ []
 right_none [] = refl
@@ -51,7 +52,7 @@ joined [] ys zs = refl
 joined (x ∷ xs) ys zs = ap (λ ws. x ∷ ws) (joined xs ys zs)
 
 pub calm : (s t : Making) → records_of t ≡ records_of s → bases_of t ≡ bases_of s → t.procedures ≡ s.procedures → t.variables ≡ s.variables → t.values ≡ s.values → t.world.procedure ≡ s.world.procedure → t.world.module_number ≡ s.world.module_number → t.forward ≡ s.forward → GrowsIn s t
-calm s t a b c d e f g h = record { grown = untouched s t a b c d e f g; more = []; forward = h ∙ right_none s.forward; waiting = tt; variables_same = d; values_same = e }
+calm s t a b c d e f g h = record { grown = untouched s t a b c d e f g; more = []; forward = h ∙ right_none s.forward; waiting = tt; variables_same = d; values_same = e; procedures_same = c }
 
 pub still : (s : Making) → GrowsIn s s
 still s = calm s s refl refl refl refl refl refl refl refl
@@ -66,6 +67,7 @@ follows s t u g h = record {
       (each_map (Waits (length (bases_of t)) u) (Waits (length (bases_of s)) u) h.more (λ k w. (let a = g.grown.bases_more in let b = w.0 in omega (arith, a, b), w.1)) h.waiting);
   variables_same = h.variables_same ∙ g.variables_same;
   values_same = h.values_same ∙ g.values_same;
+  procedures_same = h.procedures_same ∙ g.procedures_same;
 }
 
 -- ---- a part after the other
@@ -113,6 +115,7 @@ one_record s = record {
   waiting = tt;
   variables_same = refl;
   values_same = refl;
+  procedures_same = refl;
 }
 
 pub one_pointer : (s : Making) → GrowsIn s (with_pointer s)
@@ -133,6 +136,7 @@ one_pointer s = record {
   waiting = tt;
   variables_same = refl;
   values_same = refl;
+  procedures_same = refl;
 }
 
 less_apart : (r n : ℕ) → r < n → r ≡ n → ⊥
@@ -159,6 +163,7 @@ record_set s u l g =
       waiting = a.waiting;
       variables_same = a.variables_same;
       values_same = a.values_same;
+      procedures_same = a.procedures_same;
     }
 
 -- and from one pointer type on, whose base comes to be known
@@ -182,6 +187,7 @@ pointer_set s u r g =
       waiting = each_map (Waits (length (bases_of (with_pointer s))) u) (Waits (length (bases_of s)) (with_known (λ k. record k { bases = slice_set k.bases (length (bases_of s)) (Some r) }) u)) g.more (λ k w. later_one k w) g.waiting;
       variables_same = a.variables_same;
       values_same = a.values_same;
+      procedures_same = a.procedures_same;
     }
   where
     past : (k : ℕ) → length (bases_of (with_pointer s)) ≤ k → length (bases_of s) < k
@@ -214,6 +220,7 @@ pointer_waits s name =
       waiting = ((omega arith, get_last (bases_of s) None), tt);
       variables_same = refl;
       values_same = refl;
+      procedures_same = refl;
     }
 
 -- ---- parameters and types

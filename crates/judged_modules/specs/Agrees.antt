@@ -1,5 +1,5 @@
 -- What has been made so far is in the whole program.
-use Rattle.std.specs.Prelude.{◌≡◌, ◌<◌, ℕ, ◌+◌, List, [], ◌∷◌, ◌++◌, length, Bool, true, false, not, nat_eq, if◌then◌else◌, Option, Some, None, is_some, slice_get}
+use Rattle.std.specs.Prelude.{◌≡◌, ◌<◌, ℕ, zero, suc, ◌+◌, List, [], ◌∷◌, ◌++◌, length, Bool, true, false, not, nat_eq, if◌then◌else◌, Option, Some, None, is_some, slice_get}
 use Rattle.ob_judge.specs.Shapes.{Shape, Formals, none, one, Layout, record_extends}
 use Rattle.ob_judge.specs.Image.{Formal, Procedure}
 use Rattle.ob_judge.specs.Parameters.{is_value}
@@ -16,9 +16,14 @@ abbrev pub formals_of : List Formal → Formals
 formals_of [] = none
 formals_of (x ∷ xs) = one x.variable x.shape (formals_of xs)
 
+-- lines are counted from 1
+abbrev pub is_line : ℕ → Bool
+is_line zero = false
+is_line (suc n) = true
+
 -- a procedure that is complete: it has a line
 abbrev pub is_made : Procedure → Bool
-is_made q = not (nat_eq q.line 0)
+is_made q = is_line q.line
 
 -- a procedure, or a module's body, is what the program has by this number
 pub record IsProcedure (w : Final) (f : ℕ) (q : Procedure) : Type 0 where
@@ -28,7 +33,7 @@ pub record IsProcedure (w : Final) (f : ℕ) (q : Procedure) : Type 0 where
 
 -- a variable of the open procedure or module, behind so many scalar value parameters
 abbrev pub IsVariable : Final → (procedure : Option ℕ) → (module_number values v : ℕ) → Shape → Type 0
-IsVariable w None m values v s = w.global m v ≡ Some s
+IsVariable w None m values v s = w.global m (values + v) ≡ Some s
 IsVariable w (Some f) m values v s = w.variable f (values + v) ≡ Some s
 
 abbrev pub records_of : Making → List Layout

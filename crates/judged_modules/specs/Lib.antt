@@ -1,3 +1,4 @@
 pub mod Final
 pub mod Agrees
 pub mod Sound
+pub mod Made
