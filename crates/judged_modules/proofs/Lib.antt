@@ -9,3 +9,5 @@ mod Parameters
 mod TypesStand
 mod DeclarationsStand
 mod ProceduresStand
+mod ModulesStand
+mod Fine

@@ -22,11 +22,11 @@ use Rattle.judged_well.proofs.Judging.{keeps, breaks, weaken, and_then, by_rule}
 use Rattle.judged_well.proofs.Naming.{t_type_named}
 use Rattle.judged_modules.specs.Final.{Final, setting_in}
 use Rattle.judged_modules.specs.Agrees.{Agrees, value_shapes, formals_of, records_of, bases_of}
-use Rattle.judged_modules.specs.Sound.{IsGood, IsKept, Sound}
+use Rattle.judged_modules.specs.Sound.{IsGood, IsKept, Sound, IsHere}
 use Rattle.judged_modules.proofs.Lists.{get_append, get_last, get_within, append_length}
 use Rattle.judged_modules.proofs.Growing.{Grows, untouched}
 use Rattle.judged_modules.proofs.TypesGrow.{Each, each_append, joined, right_none}
-use Rattle.judged_modules.proofs.Righting.{agrees_back, IsHere, here_in, here_between, right_of}
+use Rattle.judged_modules.proofs.Righting.{agrees_back, here_in, here_between, right_of}
 use Rattle.judged_modules.proofs.Keeping.{given, sound_declared}
 
 -- what formal parts leave as it was: all but the scope and the number of value parameters, and these too where names aren't made known
@@ -295,7 +295,7 @@ module _ (w : Final) where
     at_of None = 0
     at_of (Some f) = f
 
-    pub here_at : (o : Option ℕ) → IsHere w o (at_of o)
+    pub here_at : (o : Option ℕ) → IsHere o (at_of o)
     here_at None = here_between w 0
     here_at (Some f) = here_in w f
 

@@ -28,13 +28,13 @@ use Rattle.judged_well.proofs.Statements.{t_body}
 use Rattle.judged_well.proofs.Whole.{t_answer}
 use Rattle.judged_modules.specs.Final.{Final, setting_in}
 use Rattle.judged_modules.specs.Agrees.{Agrees, IsVariable, IsProcedure, is_made, value_shapes, formals_of, records_of, bases_of}
-use Rattle.judged_modules.specs.Sound.{IsKept, AllNames, IsOffered, Sound}
+use Rattle.judged_modules.specs.Sound.{IsKept, AllNames, IsOffered, Sound, IsHere}
 use Rattle.judged_modules.specs.Made.{AreParameters, IsWell, AllMade}
 use Rattle.judged_modules.proofs.Lists.{get_append, get_behind, get_last, get_within, set_other, set_here, set_length, append_length}
 use Rattle.judged_modules.proofs.Growing.{Grows, untouched, self, onward}
 use Rattle.judged_modules.proofs.TypesGrow.{Each, GrowsIn, InTo, i_next, i_look, i_stand, i_type}
 use Rattle.judged_modules.proofs.DeclarationsGrow.{To, Typed, typed_grows, t_typed, i_declared}
-use Rattle.judged_modules.proofs.Righting.{agrees_back, IsHere, here_in, right_of}
+use Rattle.judged_modules.proofs.Righting.{agrees_back, here_in, right_of}
 use Rattle.judged_modules.proofs.Keeping.{Ok, Some_, given, k_stand, offer_world}
 use Rattle.judged_modules.proofs.Fields.{AllFields, decided}
 use Rattle.judged_modules.proofs.Parameters.{Heads, heads_grow, HasParameters, IsListed, IsListedFormal, look_as, Forms, l_formals}
@@ -98,13 +98,13 @@ module _ (w : Final) where
     pub values : (r.1).values ≡ s.values
     pub sound : Agrees w r.1 → Sound w s.world → Sound w (r.1).world × AllMade w (length s.procedures) r.1
 
-  made_next : (n : ℕ) (s t u : Making) → Grows t u → AllMade w n t → AllMade w (length t.procedures) u → AllMade w n u
+  pub made_next : (n : ℕ) (s t u : Making) → Grows t u → AllMade w n t → AllMade w (length t.procedures) u → AllMade w n u
   made_next n s t u g h k = record { each = λ f q from at. elim (less_or_past f (length t.procedures)) as (λ _. IsWell w f q) [ inl less ↦ h.each f q from (sym (g.procedures f less) ∙ at) | inr past ↦ k.each f q past at ] }
 
-  none_made : (s : Making) → AllMade w (length s.procedures) s
+  pub none_made : (s : Making) → AllMade w (length s.procedures) s
   none_made s = record { each = λ f q from at. let l = get_within s.procedures f q at in absurd (omega (arith, from, l)) }
 
-  from_length : (n m : ℕ) (s : Making) → n ≡ m → AllMade w n s → AllMade w m s
+  pub from_length : (n m : ℕ) (s : Making) → n ≡ m → AllMade w n s → AllMade w m s
   from_length n m s e h = subst (λ k. AllMade w k s) e h
 
   module _ (p : Source) where
@@ -238,7 +238,7 @@ module _ (w : Final) where
                 let at_h = agrees_back w h.1 (headed f name is_local h) (headed_grows f name is_local h) (agrees_back w (headed f name is_local h) d.1 done.grown at_d) in
                 let first = forms.sound at_h (enter_sound s f sound) (λ i. (refl, refl, refl, parameters_in f q is)) in
                 let rest = done.sound at_d (headed_sound f name is_local h first.1 (first.2).0 (first.2).1 (is.heading refl) first.0) in
-                let right = right_of w p d.1 at_d rest.0 f (subst (λ o. IsHere w o f) (sym whole.procedure) (here_in w f)) in
+                let right = right_of w p d.1 at_d rest.0 f (subst (λ o. IsHere o f) (sym whole.procedure) (here_in w f)) in
                 let well : IsWell w f q = record {
                   made = refl;
                   body = given b (t_body (setting_in w f) (order f) p read (d.1).world right body) is_b;
@@ -257,10 +257,10 @@ module _ (w : Final) where
 
       -- ---- one after the other
 
-      done_self : (s : Making) → Done s (tt, s)
+      pub done_self : (s : Making) → Done s (tt, s)
       done_self s = record { grown = self s; values = refl; sound = λ agrees sound. (sound, none_made s) }
 
-      done_on : (s : Making) (t u : Unit {0} × Making) → Done s t → Done t.1 u → Done s u
+      pub done_on : (s : Making) (t u : Unit {0} × Making) → Done s t → Done t.1 u → Done s u
       done_on s t u h k = record {
         grown = onward s t.1 u.1 h.grown k.grown;
         values = k.values ∙ h.values;
@@ -270,7 +270,7 @@ module _ (w : Final) where
             (b.0, made_next (length s.procedures) s t.1 u.1 k.grown a.1 b.1);
       }
 
-      quiet_done : (s : Making) (r : Unit {0} × Making) → Ok w (Unit {0}) (Some_ w) s r → Quiet s r → Done s r
+      pub quiet_done : (s : Making) (r : Unit {0} × Making) → Ok w (Unit {0}) (Some_ w) s r → Quiet s r → Done s r
       quiet_done s r h k = record {
         grown = h.grown;
         values = k.values;

@@ -15,7 +15,7 @@ use Rattle.judged_well.specs.Standing.{is_whole, is_foreign, fields_in, ObjectSt
 use Rattle.judged_well.proofs.FirstWorld.{first_right, of_out, of_in}
 use Rattle.judged_modules.specs.Final.{Final, setting_in}
 use Rattle.judged_modules.specs.Agrees.{Agrees, IsVariable, records_of, bases_of}
-use Rattle.judged_modules.specs.Sound.{IsGood, IsInModule, IsEarlier, IsKept, IsOffered, AllNames, FieldKept, Sound}
+use Rattle.judged_modules.specs.Sound.{IsHere, IsGood, IsInModule, IsEarlier, IsKept, IsOffered, AllNames, FieldKept, Sound}
 use Rattle.judged_modules.proofs.Lists.{get_within}
 use Rattle.judged_modules.proofs.Growing.{Grows}
 
@@ -45,10 +45,6 @@ module _ (w : Final) where
   }
 
   -- ---- what is seen here
-
-  -- what is seen in this procedure, or between procedures, is seen in procedure f
-  pub record IsHere (procedure : Option ℕ) (f : ℕ) : Type 0 where
-    pub seen : (o : Object) → is_visible procedure o ≡ true → is_visible (Some f) o ≡ true
 
   pub here_in : (f : ℕ) → IsHere (Some f) f
   here_in f = record { seen = λ o h. h }

@@ -49,3 +49,7 @@ pub record Sound (w : Final) (v : World) : Type 0 where
   pub members : (n : ℕ) (m : KnownModule) → slice_get v.modules n ≡ Some m → (q : List ℕ) (x : Entry) → m.names q ≡ Some x → IsOffered w v.module_number x.object
   pub fields : (r : ℕ) (l : Layout) (q : List ℕ) (f : FieldOf) → slice_get v.known.records r ≡ Some l → l.fields q ≡ Some f → FieldKept w v.known.records l.line f
   pub narrowed : v.narrowed ≡ []
+
+-- what is seen in this procedure, or between procedures, is seen in procedure f
+pub record IsHere (procedure : Option ℕ) (f : ℕ) : Type 0 where
+  pub seen : (o : Object) → is_visible procedure o ≡ true → is_visible (Some f) o ≡ true

@@ -1,2 +1,13 @@
 //! What the judgement accepts is well-formed: declarations, procedures and modules.
+//!
+//! What a part of the judgement makes is compared with the whole program (specs/Agrees.antt): its types, procedures and
+//! variables are in it. What then stands for something well-formed stays so (specs/Sound.antt), and each procedure that
+//! becomes complete is well-formed (specs/Made.antt).
 #![tactic(auto)]
+
+mod laws;
+
+pub use laws::{
+    constants_stay_sound, modules_are_well, procedures_are_well, sound_scopes_are_right,
+    the_first_scope_is_sound, types_stay_sound, variables_stay_sound, well_procedures_are_fine,
+};
