@@ -1,30 +1,23 @@
 -- Declarations, procedures and modules judged only add to what was made, and leave what is there.
-use Rattle.std.proofs.Common.{◌≡◌, ℕ, zero, suc, ◌+◌, ◌<◌, ◌≤◌, List, [], ◌∷◌, ◌++◌, length, Bool, true, false, not, Option, Some, None, refl, ap, sym, ◌∙◌, subst, arith}
-use Rattle.std.specs.Prelude.{slice_get, slice_set, is_some, is_none, nat_le, if◌then◌else◌}
-use Rattle.std.specs.Str.{bytes_eq}
-use Rattle.ob_types.proofs.Tests.{no, none_some, some_same}
+use Rattle.std.proofs.Common.{◌≡◌, ℕ, ◌+◌, ◌<◌, ◌≤◌, List, [], ◌∷◌, ◌++◌, length, Bool, true, false, Some, refl, ap, sym, ◌∙◌, subst, arith}
+use Rattle.std.specs.Prelude.{slice_get, slice_set, is_some, is_none}
 use Rattle.ob_syntax.specs.Syntax as S
 use Rattle.ob_syntax.specs.declared.names.Identdef.{Identdef}
-use Rattle.ob_judge.specs.Judged.{Judged, Keeps, Breaks, ◌>>=◌, ◌>>◌, rule, some}
-use Rattle.ob_judge.specs.Shapes.{Shape, Layout}
-use Rattle.ob_judge.specs.Shapes.{Procedure as ProcedureOf}
-use Rattle.ob_judge.specs.Image.{Procedure}
-use Rattle.ob_judge.specs.Scopes.{Object, AConstant, AType, AVariable, AProcedure, Entry, World, Source, place, spelled, no_names}
+use Rattle.ob_judge.specs.Judged.{Judged, Keeps, Breaks, ◌>>=◌, some}
+use Rattle.ob_judge.specs.Shapes.{Shape}
+use Rattle.ob_judge.specs.Scopes.{Object, AConstant, AType, AVariable, Entry, Source, place, spelled}
 use Rattle.ob_judge.specs.Expressions.{constant}
 use Rattle.ob_judge.specs.Cases.{entry_object}
-use Rattle.ob_judge.specs.Statements.{body_of}
-use Rattle.ob_judge.specs.Texts.{texts_of}
-use Rattle.ob_judge.specs.Scopes.{line}
-use Rattle.ob_judge.specs.Making.{Making, Part, ◌>>>◌, give, here, become, ask, with_levels, with_known, declare_last, declare_outer, last_names, without_last, offer, offer_if, set_base, no_procedure, new_procedure, set_procedure, within_procedure}
-use Rattle.ob_judge.specs.Parameters.{Listed, no_parameters, stand, declared, listed, is_value, mode_of, words_of, parameter_variable, declare_parameter, add_parameters, next_names, opened, section, next_sections, sections, formal_part, result_shape, type_at, idents_list, symbols_of}
-use Rattle.ob_judge.specs.Types.{record_object, type_part}
-use Rattle.ob_judge.specs.Declarations.{home_here, place_here, each, const_part, type_decl_part, forward_base, types_part, variable_part, var_part, consts_in, types_in, vars_in, answer, heading, decls_part, procedures_part}
+use Rattle.ob_judge.specs.Making.{Making, Part, with_levels, with_known, declare_last, last_names, offer_if}
+use Rattle.ob_judge.specs.Parameters.{declared, idents_list, symbols_of}
+use Rattle.ob_judge.specs.Types.{record_object}
+use Rattle.ob_judge.specs.Declarations.{home_here, place_here, each, const_part, type_decl_part, forward_base, types_part, variable_part, var_part}
 use Rattle.judged_well.specs.Gives.{Gives}
-use Rattle.judged_well.proofs.Judging.{keeps, breaks, weaken, and_then, anything}
+use Rattle.judged_well.proofs.Judging.{keeps, breaks, weaken, and_then}
 use Rattle.judged_modules.specs.Agrees.{records_of, bases_of}
-use Rattle.judged_modules.proofs.Lists.{get_append, get_within, set_other, set_length, append_length}
-use Rattle.judged_modules.proofs.Growing.{Grows, untouched, self, onward}
-use Rattle.judged_modules.proofs.TypesGrow.{Each, each_map, GrowsIn, calm, still, follows, InTo, i_next, i_look, i_from, i_stand, i_type}
+use Rattle.judged_modules.proofs.Lists.{get_append, get_within, set_other, set_length}
+use Rattle.judged_modules.proofs.Growing.{Grows, self, onward}
+use Rattle.judged_modules.proofs.TypesGrow.{Each, each_map, GrowsIn, calm, still, follows, InTo, i_next, i_stand, i_type}
 
 abbrev pub To : {A : Type 0} → Making → A × Making → Type 0
 To s r = Grows s r.1

@@ -1,33 +1,30 @@
 -- Constants, types and variables declared stand for something well-formed, and what is in scope stays sound.
-use Rattle.std.proofs.Common.{◌≡◌, ℕ, zero, suc, ◌+◌, ◌<◌, ◌≤◌, List, [], ◌∷◌, ◌++◌, length, Bool, true, false, not, ◌&&◌, ◌||◌, ◌==◌, Option, Some, None, refl, ap, ap₂, sym, ◌∙◌, subst, arith, eqb-true, eq-eqb}
-use Rattle.std.specs.Prelude.{slice_get, slice_set, is_none, is_some, option_map, if◌then◌else◌}
-use Rattle.ob_types.proofs.Tests.{no, none_some, some_same, and_of, and_from}
+use Rattle.std.proofs.Common.{◌≡◌, ℕ, ◌+◌, List, [], ◌∷◌, ◌++◌, length, true, Option, Some, None, refl, ap, sym, ◌∙◌, subst, arith, eqb-true, eq-eqb}
+use Rattle.std.specs.Prelude.{slice_get, option_map}
+use Rattle.ob_types.proofs.Tests.{none_some, some_same}
 use Rattle.ob_syntax.specs.Syntax as S
 use Rattle.ob_syntax.specs.declared.names.Identdef.{Identdef}
-use Rattle.ob_judge.specs.Judged.{Judged, Keeps, Breaks, ◌>>=◌, rule, some}
-use Rattle.ob_judge.specs.Shapes.{Shape, Integer, Nothing, Pointer, Layout, contains, line_of}
+use Rattle.ob_judge.specs.Shapes.{Shape, Integer, Nothing, contains, line_of}
 use Rattle.ob_judge.specs.Shapes.{Text as TextShape}
-use Rattle.ob_judge.specs.Image.{Place, Global, Local, Constant, Bits}
+use Rattle.ob_judge.specs.Image.{Local, Constant, Bits}
 use Rattle.ob_judge.specs.Image.{Chars as TheChars}
-use Rattle.ob_judge.specs.Scopes.{Object, AConstant, AType, AVariable, Variable, Home, Free, OfModule, World, Source, place, spelled, is_visible}
+use Rattle.ob_judge.specs.Scopes.{AConstant, AType, AVariable, Variable, Free, Source}
 use Rattle.ob_judge.specs.Expressions.{constant}
-use Rattle.ob_judge.specs.Making.{Making, Part, with_known}
-use Rattle.ob_judge.specs.Parameters.{stand, declared, idents_list, symbols_of}
-use Rattle.ob_judge.specs.Types.{type_part}
-use Rattle.ob_judge.specs.Declarations.{home_here, place_here, each, const_part, type_decl_part, forward_base, types_part, variable_part, var_part}
+use Rattle.ob_judge.specs.Making.{Making, Part}
+use Rattle.ob_judge.specs.Parameters.{idents_list, symbols_of}
+use Rattle.ob_judge.specs.Declarations.{home_here, place_here, each, const_part, type_decl_part, types_part, variable_part, var_part}
 use Rattle.judged_well.specs.Gives.{Gives}
 use Rattle.judged_well.specs.Forms.{Of}
-use Rattle.judged_well.specs.Setting.{Setting, IsOrder}
-use Rattle.judged_well.specs.Typing.{outline, named}
-use Rattle.judged_well.specs.Standing.{is_whole, is_own, good, as_whole, IsRead, ConstantStands, VariableStands}
-use Rattle.judged_well.proofs.Judging.{keeps, breaks, weaken, and_then, gives_both}
+use Rattle.judged_well.specs.Setting.{IsOrder}
+use Rattle.judged_well.specs.Standing.{good, as_whole, IsRead, ConstantStands, VariableStands}
+use Rattle.judged_well.proofs.Judging.{keeps, weaken, and_then, gives_both}
 use Rattle.judged_well.proofs.Constants.{t_constant}
 use Rattle.judged_modules.specs.Final.{Final, setting_in}
-use Rattle.judged_modules.specs.Agrees.{Agrees, IsVariable, records_of, bases_of}
-use Rattle.judged_modules.specs.Sound.{IsGood, IsInModule, IsKept, Sound}
-use Rattle.judged_modules.proofs.Lists.{get_last, get_within}
-use Rattle.judged_modules.proofs.Growing.{Grows, untouched, self, onward}
-use Rattle.judged_modules.proofs.TypesGrow.{Each, each_map, GrowsIn, InTo}
+use Rattle.judged_modules.specs.Agrees.{Agrees, IsVariable, bases_of}
+use Rattle.judged_modules.specs.Sound.{IsGood, IsKept}
+use Rattle.judged_modules.proofs.Lists.{get_last}
+use Rattle.judged_modules.proofs.Growing.{onward}
+use Rattle.judged_modules.proofs.TypesGrow.{Each, each_map, GrowsIn}
 use Rattle.judged_modules.proofs.DeclarationsGrow.{i_declared, one_variable, SetsBases, typing, typed, set_forwards, i_type_decls, typed_grows}
 use Rattle.judged_modules.proofs.Righting.{agrees_back, right_of}
 use Rattle.judged_modules.proofs.Keeping.{Ok, Some_, k_next, k_look, k_give, k_stand, k_declared}
@@ -95,9 +92,11 @@ module _ (w : Final) where
         → IsKept w m (AVariable (record { shape = a; place = place_here o m (n + k); home = home_here o; owner = m; procedure = o }))
     variable_kept a h None m n k is f seen =
         (record { names = Of a true; are = ap (λ q. option_map (λ s. Of s true) q) is; fits = as_whole a true h.1; claims = refl; integer = λ i. refl; good = h.0 }, eq-eqb m m refl)
-    variable_kept a h (Some g) m n k is f seen =
-        (subst (λ x. VariableStands (setting_in w x) (record { shape = a; place = Local (n + k); home = Free; owner = m; procedure = Some g })) (eqb-true g f seen)
-        (record { names = Of a true; are = ap (λ q. option_map (λ s. Of s true) q) is; fits = as_whole a true h.1; claims = refl; integer = λ i. refl; good = h.0 }), refl)
+    variable_kept a h (Some g) m n k is f seen = (
+      subst (λ x. VariableStands (setting_in w x) (record { shape = a; place = Local (n + k); home = Free; owner = m; procedure = Some g })) (eqb-true g f seen)
+          (record { names = Of a true; are = ap (λ q. option_map (λ s. Of s true) q) is; fits = as_whole a true h.1; claims = refl; integer = λ i. refl; good = h.0 }),
+      refl,
+    )
 
     k_variable : {Before : Type 0} (a : Shape) (x : Identdef) → (Before → IsGood w a) → (s : Making) → Gives (Ok w Before (Some_ w) s) (variable_part p a x s)
     k_variable a x good s = and_then (gives_both
@@ -108,9 +107,9 @@ module _ (w : Final) where
           sound = λ before agrees sound.
               let is = agrees.variable (length (r.1).variables) a (get_last (r.1).variables a) in
               let here = subst (λ k. IsVariable w s.world.procedure s.world.module_number s.values k a) (ap length (h.1).variables_same)
-                  (subst (λ n. IsVariable w s.world.procedure s.world.module_number n (length (r.1).variables) a) (h.1).values_same
-                  (subst (λ m. IsVariable w s.world.procedure m (r.1).values (length (r.1).variables) a) (h.1).grown.module_number
-                  (subst (λ o. IsVariable w o (r.1).world.module_number (r.1).values (length (r.1).variables) a) (h.1).grown.procedure is))) in
+              (subst (λ n. IsVariable w s.world.procedure s.world.module_number n (length (r.1).variables) a) (h.1).values_same
+              (subst (λ m. IsVariable w s.world.procedure m (r.1).values (length (r.1).variables) a) (h.1).grown.module_number
+              (subst (λ o. IsVariable w o (r.1).world.module_number (r.1).values (length (r.1).variables) a) (h.1).grown.procedure is))) in
               let k = (h.0).sound (good before, here) (agrees_back w r.1 _ (one_variable p r.1 a) agrees) sound in
               (record { names = (k.0).names; members = (k.0).members; fields = (k.0).fields; narrowed = (k.0).narrowed }, tt);
         }))

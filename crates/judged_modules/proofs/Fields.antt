@@ -1,17 +1,17 @@
 -- Fields of record types, kept while record types are added, and of one that becomes complete.
-use Rattle.std.proofs.Common.{◌≡◌, ℕ, zero, suc, ◌+◌, ◌<◌, ◌≤◌, List, [], ◌∷◌, ◌++◌, length, Bool, true, false, not, ◌||◌, Option, Some, None, refl, ap, sym, ◌∙◌, subst, arith, eq-eqb, ◌⊎◌, inl, inr}
+use Rattle.std.proofs.Common.{◌≡◌, ℕ, zero, suc, ◌+◌, ◌<◌, ◌≤◌, List, [], ◌∷◌, ◌++◌, length, Bool, true, false, ◌||◌, Some, refl, ap, sym, ◌∙◌, subst, arith, eq-eqb, ◌⊎◌, inl, inr}
 use Rattle.std.specs.Prelude.{slice_get, slice_set, nat_eq, if◌then◌else◌, is_some}
 use Rattle.std.specs.Str.{bytes_eq}
-use Rattle.ob_types.proofs.Tests.{no, none_some, some_same, less_or_past}
+use Rattle.ob_types.proofs.Tests.{none_some, some_same, less_or_past}
 use Rattle.ob_syntax.specs.declared.names.Identdef.{Identdef}
 use Rattle.ob_judge.specs.Shapes.{Shape, Added, Layout, contains, cells}
 use Rattle.ob_judge.specs.Shapes.{Field as FieldOf}
 use Rattle.ob_judge.specs.Scopes.{World, Source, spelled}
 use Rattle.ob_judge.specs.Making.{Making, no_layout}
 use Rattle.ob_judge.specs.Types.{add_field, add_fields}
-use Rattle.judged_modules.specs.Final.{Final, setting_in}
+use Rattle.judged_modules.specs.Final.{Final}
 use Rattle.judged_modules.specs.Agrees.{records_of}
-use Rattle.judged_modules.specs.Sound.{IsGood, FieldKept, Sound}
+use Rattle.judged_modules.specs.Sound.{IsGood, FieldKept}
 use Rattle.judged_modules.proofs.Lists.{get_append, get_last, get_within, set_other, set_here, append_length}
 use Rattle.judged_modules.proofs.Growing.{Grows}
 

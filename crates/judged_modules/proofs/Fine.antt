@@ -1,28 +1,25 @@
 -- A procedure of a checked program is well-formed where its image is.
-use Rattle.std.proofs.Common.{◌≡◌, ℕ, List, [], ◌∷◌, map, Bool, true, false, ◌&&◌, Option, Some, None, refl, ap, sym, ◌∙◌, subst}
-use Rattle.std.specs.Prelude.{option_map}
+use Rattle.std.proofs.Common.{◌≡◌, ℕ, List, [], ◌∷◌, map, Bool, true, false, ◌&&◌, Some, None, refl, ap, sym, ◌∙◌, subst}
 use Rattle.ob_types.specs.declared.types.TypeKind.{TypeKind}
 use Rattle.ob_types.specs.declared.types.TypeKind.TheVariants as TheKind
 use Rattle.ob_types.specs.declared.types.Formal.{Formal as FormalOf}
 use Rattle.ob_types.specs.declared.program.Program.{Program}
-use Rattle.ob_types.specs.declared.program.Procedure.{Procedure as ProcedureOf}
 use Rattle.ob_types.specs.Layout.{kind_of}
 use Rattle.ob_types.specs.Meaning.{procedure_of}
 use Rattle.ob_types.specs.Forms.{all}
 use Rattle.ob_types.specs.LegalTypes.{mode_fits, formal_legal}
 use Rattle.ob_types.specs.WellFormed as W
 use Rattle.ob_types.proofs.Tests.{no, and_from}
-use Rattle.ob_judge.specs.Shapes.{Shape}
-use Rattle.ob_judge.specs.Image.{Formal, Procedure}
+use Rattle.ob_judge.specs.Image.{Procedure}
 use Rattle.ob_judge.specs.Parameters.{mode_of}
-use Rattle.judged_tree.specs.TypeShapes.{shape_of, pointer_bases}
+use Rattle.judged_tree.specs.TypeShapes.{pointer_bases}
 use Rattle.judged_tree.specs.Plain.{plain_formal, plain_procedure}
 use Rattle.judged_tree.specs.Outline.{outlined_procedure}
 use Rattle.judged_well.specs.Standing.{is_formal}
 use Rattle.judged_well.specs.OfProgram.{setting_of, IsFaithful, IsInside}
 use Rattle.judged_well.proofs.Entries.{here, is_here}
 use Rattle.judged_well.proofs.Whole.{body_fine, answer_fine}
-use Rattle.judged_modules.specs.Final.{Final, setting_in, final_of}
+use Rattle.judged_modules.specs.Final.{final_of}
 use Rattle.judged_modules.specs.Made.{IsParameter, AreParameters, IsWell}
 
 module _ (p : Program) (ok : IsFaithful p.types) (inside : IsInside p) where

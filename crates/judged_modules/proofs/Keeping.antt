@@ -1,24 +1,20 @@
 -- Parts of the judgement that keep what is in scope sound.
-use Rattle.std.proofs.Common.{◌≡◌, ℕ, zero, suc, ◌<◌, List, [], ◌∷◌, length, Bool, true, false, not, Option, Some, None, refl, ap, sym, ◌∙◌, subst, arith}
-use Rattle.std.specs.Prelude.{slice_get, is_some, is_none, if◌then◌else◌}
+use Rattle.std.proofs.Common.{◌≡◌, ℕ, List, [], ◌∷◌, Bool, true, false, not, Option, Some, refl, ap, sym, ◌∙◌, subst}
+use Rattle.std.specs.Prelude.{is_some, is_none, if◌then◌else◌}
 use Rattle.std.specs.Str.{bytes_eq}
-use Rattle.ob_types.proofs.Tests.{no, none_some, some_same}
+use Rattle.ob_types.proofs.Tests.{some_same}
 use Rattle.ob_syntax.specs.declared.names.Identdef.{Identdef}
 use Rattle.ob_judge.specs.Judged.{Judged, Keeps, Breaks, ◌>>=◌, rule}
-use Rattle.ob_judge.specs.Shapes.{Layout}
-use Rattle.ob_judge.specs.Shapes.{Field as FieldOf}
-use Rattle.ob_judge.specs.Scopes.{Object, Entry, World, Source, declare, spelled, place}
+use Rattle.ob_judge.specs.Scopes.{Object, Entry, World, Source, spelled, place}
 use Rattle.ob_judge.specs.Making.{Making, is_among, with_levels, declare_last, offer_if}
 use Rattle.ob_judge.specs.Parameters.{stand, declared}
 use Rattle.judged_well.specs.Gives.{Gives}
 use Rattle.judged_well.proofs.Judging.{keeps, breaks, weaken, and_then, gives_both}
-use Rattle.judged_modules.specs.Final.{Final, setting_in}
-use Rattle.judged_modules.specs.Agrees.{Agrees, records_of, bases_of}
-use Rattle.judged_modules.specs.Sound.{IsKept, AllNames, FieldKept, Sound}
-use Rattle.judged_modules.proofs.Lists.{get_within}
+use Rattle.judged_modules.specs.Final.{Final}
+use Rattle.judged_modules.specs.Agrees.{Agrees}
+use Rattle.judged_modules.specs.Sound.{IsKept, AllNames, Sound}
 use Rattle.judged_modules.proofs.Growing.{Grows, untouched, self, onward}
-use Rattle.judged_modules.proofs.TypesGrow.{GrowsIn, InTo, i_stand}
-use Rattle.judged_modules.proofs.DeclarationsGrow.{i_declared, offered_in}
+use Rattle.judged_modules.proofs.DeclarationsGrow.{i_declared}
 use Rattle.judged_modules.proofs.Righting.{agrees_back}
 
 pub given : {A : Type 0} {P : A → Type 0} {m : Judged A} (a : A) → Gives P m → m ≡ Keeps a → P a

@@ -1,40 +1,39 @@
 -- Modules judged are well-formed: their imports, declarations and bodies.
-use Rattle.std.proofs.Common.{◌≡◌, ℕ, zero, suc, ◌+◌, ◌<◌, ◌≤◌, List, [], ◌∷◌, ◌++◌, length, Bool, true, false, not, ◌||◌, Option, Some, None, refl, ap, sym, ◌∙◌, subst, arith, ◌⊎◌, inl, inr}
+use Rattle.std.proofs.Common.{◌≡◌, ℕ, suc, ◌<◌, ◌≤◌, List, [], ◌∷◌, ◌++◌, length, true, false, ◌||◌, None, refl, ap, sym, ◌∙◌, subst, arith, inl, inr}
 use Rattle.std.specs.Prelude.{slice_get, slice_set}
 use Rattle.std.specs.Str.{bytes_eq}
-use Rattle.ob_types.proofs.Tests.{no, none_some, some_same, less_or_past}
+use Rattle.ob_types.proofs.Tests.{none_some, some_same, less_or_past}
 use Rattle.ob_syntax.specs.Syntax as S
 use Rattle.ob_syntax.specs.declared.modules.Import.{Import}
-use Rattle.ob_judge.specs.Judged.{Judged, Keeps, Breaks, ◌>>=◌, rule, some}
+use Rattle.ob_judge.specs.Judged.{rule, some}
 use Rattle.ob_judge.specs.Shapes.{Nothing}
 use Rattle.ob_judge.specs.Image.{Procedure, Statements}
 use Rattle.ob_judge.specs.Image as Tree
-use Rattle.ob_judge.specs.Scopes.{Object, AModule, AType, AStandard, Standard, Entry, Imported, World, Source, place, spelled, line, no_names}
+use Rattle.ob_judge.specs.Scopes.{AModule, AType, Entry, Source, place, spelled, line}
 use Rattle.ob_judge.specs.Shapes.{Integer, Boolean, Char, Byte, Set}
-use Rattle.ob_judge.specs.Standards.{predeclared}
 use Rattle.ob_judge.specs.Texts.{texts_of}
 use Rattle.ob_judge.specs.Statements.{body_of}
 use Rattle.ob_judge.specs.Making.{Making, with_levels, declare_last, no_procedure}
-use Rattle.ob_judge.specs.Declarations.{each, decls_part}
+use Rattle.ob_judge.specs.Declarations.{each}
 use Rattle.ob_judge.specs.Modules.{no_modules, first_making, imported, is_new, import_list, is_in, origin, import_part, module_part}
 use Rattle.judged_well.specs.Gives.{Gives}
-use Rattle.judged_well.specs.Setting.{Setting, IsOrder}
+use Rattle.judged_well.specs.Setting.{IsOrder}
 use Rattle.judged_well.specs.Standing.{IsRead}
 use Rattle.judged_well.proofs.Judging.{keeps, weaken, and_then, gives_both}
 use Rattle.judged_well.proofs.FirstWorld.{of_predeclared}
 use Rattle.judged_well.proofs.Statements.{t_body}
 use Rattle.judged_modules.specs.Final.{Final, setting_in}
-use Rattle.judged_modules.specs.Agrees.{Agrees, records_of, bases_of}
-use Rattle.judged_modules.specs.Sound.{IsKept, IsInModule, AllNames, Sound, IsHere}
+use Rattle.judged_modules.specs.Agrees.{Agrees}
+use Rattle.judged_modules.specs.Sound.{IsKept, Sound, IsHere}
 use Rattle.judged_modules.specs.Made.{IsWell, AllMade}
-use Rattle.judged_modules.proofs.Lists.{get_append, get_last, get_within, set_other, set_here, set_length, append_length}
-use Rattle.judged_modules.proofs.Growing.{Grows, untouched, self, onward}
+use Rattle.judged_modules.proofs.Lists.{get_append, get_within, set_other, set_here, set_length, append_length}
+use Rattle.judged_modules.proofs.Growing.{Grows, untouched, onward}
 use Rattle.judged_modules.proofs.TypesGrow.{i_stand}
 use Rattle.judged_modules.proofs.Righting.{agrees_back, here_between, right_of}
 use Rattle.judged_modules.proofs.Keeping.{given, k_stand, sound_declared}
 use Rattle.judged_modules.proofs.Fields.{decided}
 use Rattle.judged_modules.proofs.Parameters.{look_as}
-use Rattle.judged_modules.proofs.ProceduresStand.{Quiet, Done, done_self, done_on, quiet_done, made_next, none_made, from_length, k_decls}
+use Rattle.judged_modules.proofs.ProceduresStand.{Done, done_self, done_on, from_length, k_decls}
 
 module _ (w : Final) where
   -- the scope in which the first module begins
@@ -43,15 +42,16 @@ module _ (w : Final) where
 
   pub first_sound : Sound w (first_making no_modules).world
   first_sound = record {
-    names = (of_predeclared (IsKept w 0) (kept_type 0 Integer (λ f. (refl, refl))) (kept_type 0 Boolean (λ f. (refl, refl))) (kept_type 0 Char (λ f. (refl, refl))) (kept_type 0 Byte (λ f. (refl, refl))) (kept_type 0 Set (λ f. (refl, refl))) (λ s f seen. (tt, tt)),
-    ((λ q x at. none_some x at), tt));
+    names = (
+      of_predeclared (IsKept w 0) (kept_type 0 Integer (λ f. (refl, refl))) (kept_type 0 Boolean (λ f. (refl, refl))) (kept_type 0 Char (λ f. (refl, refl))) (kept_type 0 Byte (λ f. (refl, refl))) (kept_type 0 Set (λ f. (refl, refl))) (λ s f seen. (tt, tt)),
+      ((λ q x at. none_some x at), tt),
+    );
     members = λ n m at q x is. none_some m at;
     fields = λ r l q f at is. none_some l at;
     narrowed = refl;
   }
 
   module _ (p : Source) (order : (f : ℕ) → IsOrder (setting_in w f)) (read : IsRead p) where
-
     k_import : (x : Import) (s : Making) → Gives (Done w s) (import_part p x s)
     k_import x s = and_then (gives_both (k_stand w p {Before = Unit {0}} (x.name ∷ []) s) (i_stand p (x.name ∷ []) s)) (λ r h.
         and_then (look_as (some 38 (place p (origin x)) (imported (r.1).world.modules (spelled p (origin x)))) r.1) (λ m k.
@@ -98,14 +98,16 @@ module _ (w : Final) where
     }
 
     body_made : (n : ℕ) (d : Making) (q : Procedure) → n ≤ length d.procedures → AllMade w n d → IsWell w (length d.procedures) q → AllMade w n (with_body d q)
-    body_made n d q from made well = record { each = λ g x above at. elim (decided w g (length d.procedures)) as (λ _. IsWell w g x) [
-      | inl e ↦ subst (λ k. IsWell w k x) (sym e) (subst (λ y. IsWell w (length d.procedures) y) (some_same q x (sym (set_here (d.procedures ++ no_procedure ∷ []) (length d.procedures) q (let b = length_more d.procedures no_procedure in omega (arith, b))) ∙ ap (slice_get (slice_set (d.procedures ++ no_procedure ∷ []) (length d.procedures) q)) (sym e) ∙ at)) well)
-      | inr other ↦
-          let there = sym (set_other (d.procedures ++ no_procedure ∷ []) (length d.procedures) g q other) ∙ at in
-          let l = get_within (d.procedures ++ no_procedure ∷ []) g x there in
-          let less = below_last g (length d.procedures) (length (d.procedures ++ no_procedure ∷ [])) l (length_more d.procedures no_procedure) other in
-          made.each g x above (sym (get_append d.procedures (no_procedure ∷ []) g less) ∙ there)
-    ] }
+    body_made n d q from made well = record {
+      each = λ g x above at. elim (decided w g (length d.procedures)) as (λ _. IsWell w g x) [
+        | inl e ↦ subst (λ k. IsWell w k x) (sym e) (subst (λ y. IsWell w (length d.procedures) y) (some_same q x (sym (set_here (d.procedures ++ no_procedure ∷ []) (length d.procedures) q (let b = length_more d.procedures no_procedure in omega (arith, b))) ∙ ap (slice_get (slice_set (d.procedures ++ no_procedure ∷ []) (length d.procedures) q)) (sym e) ∙ at)) well)
+        | inr other ↦
+            let there = sym (set_other (d.procedures ++ no_procedure ∷ []) (length d.procedures) g q other) ∙ at in
+            let l = get_within (d.procedures ++ no_procedure ∷ []) g x there in
+            let less = below_last g (length d.procedures) (length (d.procedures ++ no_procedure ∷ [])) l (length_more d.procedures no_procedure) other in
+            made.each g x above (sym (get_append d.procedures (no_procedure ∷ []) g less) ∙ there)
+      ];
+    }
       where
         below_last : (g f n : ℕ) → g < n → n ≡ suc f → (g ≡ f → ⊥) → g < f
         below_last g f n l e other = elim (less_or_past g f) as (λ _. g < f) [ inl less ↦ less | inr past ↦ absurd (other (omega (arith, l, e, past))) ]

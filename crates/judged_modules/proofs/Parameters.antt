@@ -1,20 +1,19 @@
 -- Parameters judged: of types that parameters may have, and known in their procedure.
-use Rattle.std.proofs.Common.{◌≡◌, ℕ, zero, suc, ◌+◌, ◌<◌, ◌≤◌, List, [], ◌∷◌, ◌++◌, length, Bool, true, false, not, ◌&&◌, ◌||◌, Option, Some, None, refl, ap, ap₂, sym, ◌∙◌, subst, arith, eqb-true}
-use Rattle.std.specs.Prelude.{slice_get, nat_eq, nat_le, if◌then◌else◌, is_some, option_map}
-use Rattle.ob_types.proofs.Tests.{no, none_some, some_same, and_of, and_from}
+use Rattle.std.proofs.Common.{◌≡◌, ℕ, suc, ◌+◌, List, [], ◌∷◌, ◌++◌, length, Bool, true, false, not, ◌&&◌, Option, Some, None, refl, ap, sym, ◌∙◌, subst, arith, eqb-true}
+use Rattle.std.specs.Prelude.{slice_get, nat_le, if◌then◌else◌, is_some, option_map}
+use Rattle.ob_types.proofs.Tests.{no, none_some, and_of, and_from}
 use Rattle.ob_syntax.specs.Syntax as S
-use Rattle.ob_types.specs.declared.types.Mode.TheVariants as TheMode
 use Rattle.ob_syntax.specs.declared.types.ResultType.{ResultType}
 use Rattle.ob_judge.specs.Judged.{Judged, Keeps, Breaks, ◌>>=◌, rule}
 use Rattle.ob_judge.specs.Shapes.{Shape, Integer, Boolean, Char, Byte, Set, Nil, Nothing, Array, Open, Record, Pointer, Procedure, Formals, none, one, is_scalar}
 use Rattle.ob_judge.specs.Shapes.{Text as TextShape}
 use Rattle.ob_judge.specs.Image.{Place, Local, Parameter, Formal}
-use Rattle.ob_judge.specs.Scopes.{Object, AVariable, Variable, Home, Free, ReadOnly, Tagged, Entry, World, Source, place, spelled, is_visible}
+use Rattle.ob_judge.specs.Scopes.{AVariable, Variable, Home, Free, ReadOnly, Source, place, spelled, is_visible}
 use Rattle.ob_judge.specs.Names.{member_symbol, type_named}
 use Rattle.ob_judge.specs.Making.{Making, is_among, with_levels, declare_last}
-use Rattle.ob_judge.specs.Parameters.{Listed, no_parameters, words_of, append, opened, mode_of, is_value, parameter_home, listed, stand, type_at, parameter_variable, declare_parameter, add_parameters, next_names, section, next_sections, sections, result_shape, formal_part}
+use Rattle.ob_judge.specs.Parameters.{Listed, no_parameters, words_of, append, opened, mode_of, is_value, parameter_home, listed, stand, type_at, parameter_variable, add_parameters, next_names, section, next_sections, sections, result_shape, formal_part}
 use Rattle.judged_well.specs.Gives.{Gives}
-use Rattle.judged_well.specs.Forms.{Named, Of, OpenOf, Dynamic}
+use Rattle.judged_well.specs.Forms.{Of, OpenOf, Dynamic}
 use Rattle.judged_well.specs.Setting.{Setting, IsOrder}
 use Rattle.judged_well.specs.Typing.{outline, named, parameter_named}
 use Rattle.judged_well.specs.Standing.{is_whole, is_formal, is_result, good, goods, IsRead, as_whole, as_open, as_record, VariableStands, Right}
@@ -210,7 +209,6 @@ module _ (w : Final) where
   pub no_listed : IsListed w no_parameters
   no_listed = record { goods = refl; same = refl; each = tt }
 
-
   -- what judging some parameters gives, from l on: names are made known in procedure f, or aren't
   abbrev pub Knows : Bool → ℕ → Listed → Making → Listed → Type 0
   Knows b f l s m = b ≡ true → (s.world.procedure ≡ Some f) × (s.variables ≡ []) × (s.values ≡ length (value_shapes l.parameters)) × HasParameters w f m.parameters
@@ -258,11 +256,12 @@ module _ (w : Final) where
     kept : (f : ℕ) (v : Bool) (a : Shape) (l : Listed) (s : Making) → IsParameterType w a → s.world.procedure ≡ Some f → s.values ≡ length (value_shapes l.parameters) → HasParameters w f (l.parameters ++ new v a ∷ [])
         → IsKept w s.world.module_number (parameter_variable p v a s.values (length l.parameters) s.world)
     kept f v a l s kind here values has g seen =
-        let same : f ≡ g = eqb-true f g (subst (λ o. is_visible (Some g) (AVariable (record { shape = a; place = if is_value (mode_of v a) then Local s.values else Parameter (length l.parameters); home = parameter_home v a; owner = s.world.module_number; procedure = o })) ≡ true) here seen) in
-        (subst (λ n. VariableStands (setting_in w n) (record { shape = a; place = if is_value (mode_of v a) then Local s.values else Parameter (length l.parameters); home = parameter_home v a; owner = s.world.module_number; procedure = s.world.procedure })) same
-        (parameter_stands w f v a s.values (length l.parameters) s.world.module_number s.world.procedure kind.0 kind.1 (has.parameter (length l.parameters) (new v a) (get_last l.parameters (new v a)))
-        (λ i. ap (w.variable f) values ∙ has.value (length (value_shapes l.parameters)) a (ap (λ xs. slice_get xs (length (value_shapes l.parameters))) (values_append l.parameters (new v a ∷ [])) ∙ value_last (is_value (mode_of v a)) a (value_shapes l.parameters) i))),
-        own_place (is_value (mode_of v a)) s.world.module_number s.values (length l.parameters))
+        let same : f ≡ g = eqb-true f g (subst (λ o. is_visible (Some g) (AVariable (record { shape = a; place = if is_value (mode_of v a) then Local s.values else Parameter (length l.parameters); home = parameter_home v a; owner = s.world.module_number; procedure = o })) ≡ true) here seen) in (
+          subst (λ n. VariableStands (setting_in w n) (record { shape = a; place = if is_value (mode_of v a) then Local s.values else Parameter (length l.parameters); home = parameter_home v a; owner = s.world.module_number; procedure = s.world.procedure })) same
+              (parameter_stands w f v a s.values (length l.parameters) s.world.module_number s.world.procedure kind.0 kind.1 (has.parameter (length l.parameters) (new v a) (get_last l.parameters (new v a)))
+              (λ i. ap (w.variable f) values ∙ has.value (length (value_shapes l.parameters)) a (ap (λ xs. slice_get xs (length (value_shapes l.parameters))) (values_append l.parameters (new v a ∷ [])) ∙ value_last (is_value (mode_of v a)) a (value_shapes l.parameters) i))),
+          own_place (is_value (mode_of v a)) s.world.module_number s.values (length l.parameters),
+        )
 
     pub l_add : (b : Bool) (f : ℕ) {Before : Type 0} (v : Bool) (a : Shape) → (Before → IsParameterType w a) → (is : List ℕ) (l : Listed) (s : Making) → Gives (Lists b f Before l s) (add_parameters p b v a is l s)
     l_add b f v a kind [] l s = keeps (Lists b f _ l s) (l, s) (record { heads = heads_self b s; more = []; prefix = right_none l.parameters; values = λ i. i; sound = λ before listed agrees sound knows. (sound, listed, λ i. (knows i).2) })

@@ -1,44 +1,40 @@
 -- Procedures judged are well-formed, and what is in scope stays sound.
-use Rattle.std.proofs.Common.{◌≡◌, ℕ, zero, suc, ◌+◌, ◌<◌, ◌≤◌, List, [], ◌∷◌, ◌++◌, length, Bool, true, false, not, ◌&&◌, ◌||◌, Option, Some, None, refl, ap, ap₂, sym, ◌∙◌, subst, arith, ◌⊎◌, inl, inr}
-use Rattle.std.specs.Prelude.{slice_get, slice_set, is_none, is_some, nat_eq, if◌then◌else◌}
+use Rattle.std.proofs.Common.{◌≡◌, ℕ, suc, ◌+◌, ◌<◌, ◌≤◌, List, [], ◌∷◌, ◌++◌, length, Bool, true, false, not, ◌&&◌, Option, Some, refl, ap, sym, ◌∙◌, subst, arith, inl, inr}
+use Rattle.std.specs.Prelude.{slice_get, slice_set, is_some, if◌then◌else◌}
 use Rattle.std.specs.Str.{bytes_eq}
-use Rattle.ob_types.proofs.Tests.{no, none_some, some_same, and_of, and_from, less_or_past}
+use Rattle.ob_types.proofs.Tests.{no, none_some, some_same, and_from, less_or_past}
 use Rattle.ob_syntax.specs.Syntax as S
 use Rattle.ob_syntax.specs.declared.names.Identdef.{Identdef}
-use Rattle.ob_judge.specs.Judged.{Judged, Keeps, Breaks, ◌>>=◌, rule, some}
+use Rattle.ob_judge.specs.Judged.{Judged, Keeps, ◌>>=◌, rule}
 use Rattle.ob_judge.specs.Shapes.{Shape}
 use Rattle.ob_judge.specs.Shapes.{Procedure as ProcedureOf}
 use Rattle.ob_judge.specs.Image.{Formal, Procedure, Statements, Checked}
-use Rattle.ob_judge.specs.Scopes.{Object, AProcedure, Entry, World, Source, place, spelled, line, no_names, declare}
+use Rattle.ob_judge.specs.Scopes.{Object, AProcedure, Entry, Source, place, spelled, line, no_names}
 use Rattle.ob_judge.specs.Texts.{texts_of}
 use Rattle.ob_judge.specs.Expressions.{constant}
 use Rattle.ob_judge.specs.Statements.{body_of}
 use Rattle.ob_judge.specs.Making.{Making, Part, with_levels, declare_outer, without_last, offer_if, no_procedure}
 use Rattle.ob_judge.specs.Scopes.{AConstant, AVariable}
-use Rattle.ob_judge.specs.Parameters.{Listed, no_parameters, stand, declared, idents_list, symbols_of, formal_part}
-use Rattle.ob_judge.specs.Types.{type_part}
-use Rattle.ob_judge.specs.Declarations.{each, home_here, place_here, const_part, types_part, variable_part, var_part, consts_in, types_in, vars_in, answer, heading, decls_part, procedures_part}
+use Rattle.ob_judge.specs.Parameters.{Listed, idents_list, symbols_of}
+use Rattle.ob_judge.specs.Declarations.{each, home_here, place_here, const_part, types_part, variable_part, var_part, consts_in, types_in, vars_in, answer, decls_part, procedures_part}
 use Rattle.judged_well.specs.Gives.{Gives}
-use Rattle.judged_well.specs.Setting.{Setting, IsOrder}
-use Rattle.judged_well.specs.Typing.{outline, fine_all}
+use Rattle.judged_well.specs.Setting.{IsOrder}
 use Rattle.judged_well.specs.Standing.{good, goods, is_result, IsRead}
-use Rattle.judged_well.specs.Answers.{answer_suits}
-use Rattle.judged_well.proofs.Judging.{keeps, breaks, weaken, and_then, gives_both}
+use Rattle.judged_well.proofs.Judging.{keeps, weaken, and_then, gives_both}
 use Rattle.judged_well.proofs.Statements.{t_body}
 use Rattle.judged_well.proofs.Whole.{t_answer}
 use Rattle.judged_modules.specs.Final.{Final, setting_in}
-use Rattle.judged_modules.specs.Agrees.{Agrees, IsVariable, IsProcedure, is_made, value_shapes, formals_of, records_of, bases_of}
-use Rattle.judged_modules.specs.Sound.{IsKept, AllNames, IsOffered, Sound, IsHere}
+use Rattle.judged_modules.specs.Agrees.{Agrees, IsVariable, IsProcedure, is_made, value_shapes, formals_of}
+use Rattle.judged_modules.specs.Sound.{IsKept, AllNames, Sound, IsHere}
 use Rattle.judged_modules.specs.Made.{AreParameters, IsWell, AllMade}
 use Rattle.judged_modules.proofs.Lists.{get_append, get_behind, get_last, get_within, set_other, set_here, set_length, append_length}
 use Rattle.judged_modules.proofs.Growing.{Grows, untouched, self, onward}
-use Rattle.judged_modules.proofs.TypesGrow.{Each, GrowsIn, InTo, i_next, i_look, i_stand, i_type}
-use Rattle.judged_modules.proofs.DeclarationsGrow.{To, Typed, typed_grows, t_typed, i_declared}
+use Rattle.judged_modules.proofs.TypesGrow.{Each, InTo, i_next, i_look, i_stand, i_type}
+use Rattle.judged_modules.proofs.DeclarationsGrow.{t_typed, i_declared}
 use Rattle.judged_modules.proofs.Righting.{agrees_back, here_in, right_of}
 use Rattle.judged_modules.proofs.Keeping.{Ok, Some_, given, k_stand, offer_world}
-use Rattle.judged_modules.proofs.Fields.{AllFields, decided}
-use Rattle.judged_modules.proofs.Parameters.{Heads, heads_grow, HasParameters, IsListed, IsListedFormal, look_as, Forms, l_formals}
-use Rattle.judged_modules.proofs.TypesStand.{sound_moved}
+use Rattle.judged_modules.proofs.Fields.{decided}
+use Rattle.judged_modules.proofs.Parameters.{heads_grow, HasParameters, IsListed, IsListedFormal, look_as, Forms, l_formals}
 use Rattle.judged_modules.proofs.DeclarationsStand.{k_each, k_const, k_types, k_var}
 
 -- what constants, types and variables leave as it was
@@ -245,11 +241,15 @@ module _ (w : Final) where
                   answer = given a (t_answer (setting_in w f) (order f) p read (d.1).world right (h.0).1 (first.2).0 (first.2).1 end_word returned) is_a;
                   formals = are_parameters ((h.0).0).parameters (first.1).each;
                   result = first.2;
-                } in
-                (leave_sound s d.1 whole.module_number sound rest.0 q f, record { each = λ g x from at. elim (decided w g f) as (λ _. IsWell w g x) [
-                  | inl e ↦ subst (λ k. IsWell w k x) (sym e) (subst (λ y. IsWell w f y) (some_same q x (sym (set_here (d.1).procedures f q (get_within (d.1).procedures f no_procedure open_)) ∙ ap (slice_get (slice_set (d.1).procedures f q)) (sym e) ∙ at)) well)
-                  | inr other ↦ (rest.1).each g x (let l = length_more s.procedures no_procedure in let n = ap length (headed_procedures f name is_local h ∙ forms.heads.procedures) in past f g (length (headed f name is_local h).procedures) (n ∙ l) from other) (sym (set_other (d.1).procedures f g q other) ∙ at)
-                ] });
+                } in (
+                  leave_sound s d.1 whole.module_number sound rest.0 q f,
+                  record {
+                    each = λ g x from at. elim (decided w g f) as (λ _. IsWell w g x) [
+                      | inl e ↦ subst (λ k. IsWell w k x) (sym e) (subst (λ y. IsWell w f y) (some_same q x (sym (set_here (d.1).procedures f q (get_within (d.1).procedures f no_procedure open_)) ∙ ap (slice_get (slice_set (d.1).procedures f q)) (sym e) ∙ at)) well)
+                      | inr other ↦ (rest.1).each g x (let l = length_more s.procedures no_procedure in let n = ap length (headed_procedures f name is_local h ∙ forms.heads.procedures) in past f g (length (headed f name is_local h).procedures) (n ∙ l) from other) (sym (set_other (d.1).procedures f g q other) ∙ at)
+                    ];
+                  },
+                );
           }
         where
           past : (f g n : ℕ) → n ≡ suc f → f ≤ g → (g ≡ f → ⊥) → n ≤ g

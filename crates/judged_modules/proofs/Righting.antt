@@ -1,21 +1,17 @@
 -- What is made in agreement with the whole program, and keeps its rules, is a right world.
-use Rattle.std.proofs.Common.{◌≡◌, ℕ, zero, suc, ◌+◌, ◌<◌, ◌≤◌, List, [], ◌∷◌, length, Bool, true, false, not, ◌||◌, ◌==◌, Option, Some, None, refl, ap, sym, ◌∙◌, subst, arith, eqb-true}
-use Rattle.std.specs.Prelude.{slice_get, if◌then◌else◌, nat_eq}
-use Rattle.std.specs.Str.{bytes_eq}
-use Rattle.ob_types.proofs.Tests.{no, none_some, some_same}
+use Rattle.std.proofs.Common.{◌≡◌, ℕ, ◌<◌, List, [], ◌∷◌, length, Bool, true, false, not, ◌==◌, Option, Some, None, refl, ap, sym, ◌∙◌, subst, arith, eqb-true}
+use Rattle.std.specs.Prelude.{slice_get}
+use Rattle.ob_types.proofs.Tests.{no, none_some}
 use Rattle.ob_judge.specs.Shapes.{Shape, Layout, contains, line_of, base_of, record_extends}
 use Rattle.ob_judge.specs.Shapes.{Field as FieldOf}
-use Rattle.ob_judge.specs.Image.{Global, Place, Procedure}
-use Rattle.ob_judge.specs.Scopes.{Object, AConstant, AType, AVariable, AProcedure, AStandard, AModule, Entry, KnownModule, Imported, TheOut, TheIn, Earlier, World, Source, is_visible, is_this, or_of_module, or_else, look_up}
-use Rattle.ob_judge.specs.Standards.{names_of_out, names_of_in}
+use Rattle.ob_judge.specs.Scopes.{Object, AConstant, AVariable, Entry, KnownModule, Imported, TheOut, TheIn, Earlier, World, Source, is_visible, or_of_module, or_else, look_up}
 use Rattle.ob_judge.specs.Making.{Making}
 use Rattle.ob_judge.specs.Names.{names_of, names_in, narrowing_of}
-use Rattle.judged_well.specs.Setting.{Setting}
-use Rattle.judged_well.specs.Standing.{is_whole, is_foreign, fields_in, ObjectStands, IsUnnarrowed, IsForeign, IsOwn, FieldStands, Right}
-use Rattle.judged_well.proofs.FirstWorld.{first_right, of_out, of_in}
+use Rattle.judged_well.specs.Standing.{is_foreign, fields_in, ObjectStands, IsUnnarrowed, IsForeign, IsOwn, FieldStands, Right}
+use Rattle.judged_well.proofs.FirstWorld.{of_out, of_in}
 use Rattle.judged_modules.specs.Final.{Final, setting_in}
 use Rattle.judged_modules.specs.Agrees.{Agrees, IsVariable, records_of, bases_of}
-use Rattle.judged_modules.specs.Sound.{IsHere, IsGood, IsInModule, IsEarlier, IsKept, IsOffered, AllNames, FieldKept, Sound}
+use Rattle.judged_modules.specs.Sound.{IsHere, IsInModule, IsEarlier, IsKept, AllNames, FieldKept, Sound}
 use Rattle.judged_modules.proofs.Lists.{get_within}
 use Rattle.judged_modules.proofs.Growing.{Grows}
 

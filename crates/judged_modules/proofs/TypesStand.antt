@@ -1,35 +1,34 @@
 -- Types judged are types that variables may have, and what is in scope stays sound.
-use Rattle.std.proofs.Common.{◌≡◌, ℕ, zero, suc, ◌+◌, ◌<◌, ◌≤◌, ◌^◌, List, [], ◌∷◌, ◌++◌, length, Bool, true, false, not, ◌&&◌, ◌||◌, Option, Some, None, refl, ap, ap₂, sym, ◌∙◌, subst, arith}
-use Rattle.std.specs.Prelude.{slice_get, slice_set, nat_lt, nat_le, is_none, is_some, ℤ, pos, negsuc}
+use Rattle.std.proofs.Common.{◌≡◌, ℕ, suc, ◌<◌, ◌^◌, List, [], ◌∷◌, ◌++◌, length, true, false, ◌&&◌, Option, Some, None, refl, ap, sym, ◌∙◌, subst, arith}
+use Rattle.std.specs.Prelude.{slice_get, slice_set, nat_lt, nat_le, is_none, ℤ, pos, negsuc}
 use Rattle.std.proofs.lemmas.Bool.Decides.{nat_tests}
 use Rattle.ob_types.proofs.Tests.{no, none_some, some_same, and_of, and_from}
 use Rattle.ob_syntax.specs.Syntax as S
 use Rattle.ob_syntax.specs.declared.names.Identdef.{Identdef}
 use Rattle.ob_syntax.specs.declared.types.Base.{Base}
-use Rattle.ob_judge.specs.Judged.{Judged, Keeps, Breaks, ◌>>=◌, rule, some}
+use Rattle.ob_judge.specs.Judged.{Judged, rule, some}
 use Rattle.ob_judge.specs.Shapes.{Shape, Array, Record, Pointer, Procedure, Layout, contains, line_of, cells}
-use Rattle.ob_judge.specs.Shapes.{Field as FieldOf}
-use Rattle.ob_judge.specs.Scopes.{Object, AType, World, Source, place, spelled}
+use Rattle.ob_judge.specs.Scopes.{World, Source, place, spelled}
 use Rattle.ob_judge.specs.Symbols.{expression_first}
 use Rattle.ob_judge.specs.Names.{member_symbol}
 use Rattle.ob_judge.specs.Expressions.{constant}
 use Rattle.ob_judge.specs.Assignments.{int_only}
-use Rattle.ob_judge.specs.Making.{Making, Part, ◌>>>◌, give, here, with_known, no_layout, set_base, later, aside}
-use Rattle.ob_judge.specs.Parameters.{Listed, type_at, formal_part, idents_list}
-use Rattle.ob_judge.specs.Types.{limit, is_length, size_of, array_length, array_lengths, arrays, base_layout, layout_of, record_only, stand_fields, add_fields, among_fields, forward_name, pointed, type_part, fields_part, more_part, place_of_type}
+use Rattle.ob_judge.specs.Making.{Making, Part, ◌>>>◌, here, with_known, no_layout, set_base, later}
+use Rattle.ob_judge.specs.Parameters.{Listed, type_at, idents_list}
+use Rattle.ob_judge.specs.Types.{limit, is_length, size_of, array_length, array_lengths, arrays, base_layout, layout_of, record_only, stand_fields, add_fields, among_fields, forward_name, type_part, fields_part, more_part, place_of_type}
 use Rattle.judged_well.specs.Gives.{Gives}
-use Rattle.judged_well.specs.Setting.{Setting, IsOrder}
-use Rattle.judged_well.specs.Standing.{is_whole, good, goods, is_result, IsRead}
-use Rattle.judged_well.proofs.Judging.{keeps, breaks, weaken, and_then, by_rule, by_some, anything, gives_both}
+use Rattle.judged_well.specs.Setting.{IsOrder}
+use Rattle.judged_well.specs.Standing.{is_whole, good, goods, is_result}
+use Rattle.judged_well.proofs.Judging.{keeps, and_then, by_rule, by_some, anything, gives_both}
 use Rattle.judged_modules.specs.Final.{Final, setting_in}
 use Rattle.judged_modules.specs.Agrees.{Agrees, records_of, bases_of}
-use Rattle.judged_modules.specs.Sound.{IsGood, IsKept, IsOffered, AllNames, FieldKept, Sound}
-use Rattle.judged_modules.proofs.Lists.{get_append, get_last, get_within, set_other, set_length, append_length}
+use Rattle.judged_modules.specs.Sound.{IsGood, IsKept, IsOffered, AllNames, Sound}
+use Rattle.judged_modules.proofs.Lists.{get_last, set_other, set_length, append_length}
 use Rattle.judged_modules.proofs.Growing.{Grows, untouched, self, onward}
-use Rattle.judged_modules.proofs.TypesGrow.{GrowsIn, InTo, with_record, with_pointer, one_record, one_pointer, record_set, pointer_set, pointer_waits, follows, i_type, i_look}
+use Rattle.judged_modules.proofs.TypesGrow.{GrowsIn, InTo, with_record, with_pointer, one_record, pointer_set, pointer_waits, i_type}
 use Rattle.judged_modules.proofs.Righting.{agrees_back}
 use Rattle.judged_modules.proofs.Keeping.{Ok, Some_, k_next, k_look, k_pass, k_give, k_stand}
-use Rattle.judged_modules.proofs.Fields.{Adding, IsField, inherited, own, AllFields, fields_with_record, fields_set, adding_later, adding_fields}
+use Rattle.judged_modules.proofs.Fields.{Adding, inherited, AllFields, fields_with_record, fields_set, adding_later, adding_fields}
 use Rattle.judged_modules.proofs.Parameters.{look_as, IsListed, good_type, IsResultType, Forms, l_formals}
 
 module _ (w : Final) where
@@ -155,9 +154,10 @@ module _ (w : Final) where
               let less : n < length (bases_of (with_pointer s)) = (let e = more_is (bases_of s) None in omega (arith, e)) in
               let here = agrees_unbased r.1 n r.0 (whole.grown.bases n less ∙ get_last (bases_of s) None) agrees in
               let a = (h.1).sound before (subst (Agrees w) k.0 here) (record { names = sound.names; members = sound.members; fields = sound.fields; narrowed = sound.narrowed }) in
-              let again = subst (λ u. Sound w u.world) (sym k.0) a.0 in
-              (record { names = again.names; members = again.members; fields = again.fields; narrowed = again.narrowed },
-              let e = set_length (bases_of r.1) n (Some r.0) in let m = whole.grown.bases_more in omega (arith, less, e, m));
+              let again = subst (λ u. Sound w u.world) (sym k.0) a.0 in (
+                record { names = again.names; members = again.members; fields = again.fields; narrowed = again.narrowed },
+                let e = set_length (bases_of r.1) n (Some r.0) in let m = whole.grown.bases_more in omega (arith, less, e, m),
+              );
         })))
 
     apart_from : (r n : ℕ) → r < n → r ≡ n → ⊥

@@ -1,5 +1,5 @@
 -- What has been made so far is in the whole program.
-use Rattle.std.specs.Prelude.{◌≡◌, ◌<◌, ℕ, zero, suc, ◌+◌, List, [], ◌∷◌, ◌++◌, length, Bool, true, false, not, nat_eq, if◌then◌else◌, Option, Some, None, is_some, slice_get}
+use Rattle.std.specs.Prelude.{◌≡◌, ◌<◌, ℕ, zero, suc, ◌+◌, List, [], ◌∷◌, ◌++◌, length, Bool, true, false, if◌then◌else◌, Option, Some, None, is_some, slice_get}
 use Rattle.ob_judge.specs.Shapes.{Shape, Formals, none, one, Layout, record_extends}
 use Rattle.ob_judge.specs.Image.{Formal, Procedure}
 use Rattle.ob_judge.specs.Parameters.{is_value}

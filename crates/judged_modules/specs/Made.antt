@@ -1,6 +1,5 @@
 -- Procedures that are complete and well-formed.
-use Rattle.std.specs.Prelude.{◌≡◌, ◌≤◌, ℕ, List, [], ◌∷◌, length, Bool, true, Some, slice_get}
-use Rattle.ob_judge.specs.Shapes.{Shape, Formals}
+use Rattle.std.specs.Prelude.{◌≡◌, ◌≤◌, ℕ, List, [], ◌∷◌, true, Some, slice_get}
 use Rattle.ob_judge.specs.Image.{Formal, Procedure}
 use Rattle.ob_judge.specs.Parameters.{mode_of}
 use Rattle.ob_judge.specs.Making.{Making}

@@ -1,5 +1,5 @@
 -- When all that is in scope between declarations stands for something well-formed in the whole program.
-use Rattle.std.specs.Prelude.{◌≡◌, ◌<◌, ℕ, List, [], ◌∷◌, Bool, true, Option, Some, None, slice_get}
+use Rattle.std.specs.Prelude.{◌≡◌, ◌<◌, ℕ, List, [], ◌∷◌, true, Option, Some, slice_get}
 use Rattle.ob_judge.specs.Shapes.{Shape, Added, Layout, contains}
 use Rattle.ob_judge.specs.Shapes.{Field as FieldOf}
 use Rattle.ob_judge.specs.Image.{Global}
