@@ -10,7 +10,7 @@ ghost use Rattle.linear_scan.specs.Starts.{if_live, hinted, param_reg, start_beh
 
 use crate::policy::is_needed;
 use lir_core::{LiveSets, Places};
-use live_interval::Positions;
+use live_interval::{Positions, next_live};
 use loc_state::{Homes, Registers, has_register, lowest_empty, register_of};
 use outside::Memory;
 use std::alloc::{AllocError, Global};
@@ -189,8 +189,10 @@ fn all_live(alloc: Global, head: &Head, values: u32) -> Result<Homes, AllocError
     ensures { IfOk result (λ homes. homes ≡ all_inserted (live_into values head.now.live.now head.now.node) []) }
 {
     let mut homes = Homes::new(alloc);
-    for value in 0..values {
-        insert_live(&mut homes, head, value)?;
+    let mut from = 0;
+    while let Some(value) = next_live(head.live, head.node, from, values) {
+        homes.insert(value)?;
+        from = value + 1;
     }
     Ok(homes)
 }

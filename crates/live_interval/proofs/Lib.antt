@@ -1,3 +1,4 @@
 pub mod Joining
+pub mod Passing
 pub mod Search
 pub mod Whole

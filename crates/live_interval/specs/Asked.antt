@@ -1,13 +1,18 @@
 -- What positions answer, by rows of numbers that rise.
-use Rattle.std.specs.Prelude.{ℕ, ◌<◌, ◌≤◌, nat_lt, nat_le, cond, List, [], ◌∷◌, length, slice_index, slice_index_or, Option, Some, None}
+use Rattle.std.specs.Prelude.{ℕ, ◌<◌, ◌≤◌, nat_lt, nat_le, cond, List, [], ◌∷◌, length, slice_index, Option, Some, None}
+use Rattle.std.specs.Option.{unwrap_or}
+use Rattle.std.specs.Ordering.{nat_cmp}
+use Rattle.std.specs.Map.{lookup}
+use Rattle.std.specs.BTreeMap.{is_at}
 
-abbrev pub row_at : List (List ℕ) → ℕ → List ℕ
-row_at rows v = slice_index_or rows v []
-
--- for each value the numbers of the positions that need it, and of those that mention it
+-- for each value the numbers of the positions that need it, and of those that mention it, rising
 pub record Numbers : Type 0 where
-  pub needs : List (List ℕ)
-  pub mentions : List (List ℕ)
+  pub needs : List (ℕ × List ℕ)
+  pub mentions : List (ℕ × List ℕ)
+
+-- the row of a value; an empty one where it has none
+abbrev pub row_at : List (ℕ × List ℕ) → ℕ → List ℕ
+row_at rows v = unwrap_or (lookup (is_at (nat_cmp v)) rows) []
 
 -- the first number of a row from a limit on
 abbrev pub first_from : ℕ → List ℕ → Option ℕ
@@ -20,16 +25,16 @@ last_below limit last [] = last
 last_below limit last (x ∷ xs) = last_below limit (cond (nat_lt x limit) (Some x) last) xs
 
 -- the answers
-abbrev pub need_told : Numbers → ℕ → ℕ → Option ℕ
+unfoldable pub need_told : Numbers → ℕ → ℕ → Option ℕ
 need_told n v at = first_from at (row_at n.needs v)
 
-abbrev pub mention_told : Numbers → ℕ → ℕ → Option ℕ
+unfoldable pub mention_told : Numbers → ℕ → ℕ → Option ℕ
 mention_told n v before = last_below before None (row_at n.mentions v)
 
 abbrev pub IsRising : List ℕ → Type 0
 IsRising row = (i j : ℕ) → i ≤ j → j < length row → slice_index row i ≤ slice_index row j
 
-abbrev pub AreRising : List (List ℕ) → Type 0
+abbrev pub AreRising : List (ℕ × List ℕ) → Type 0
 AreRising rows = (v : ℕ) → IsRising (row_at rows v)
 
 -- so many numbers of a row are below a limit, all before the others

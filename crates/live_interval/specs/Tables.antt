@@ -1,16 +1,21 @@
--- For each value the positions that need it, and those that mention it.
-use Rattle.std.specs.Prelude.{ℕ, ◌+◌, Bool, cond, List, [], ◌∷◌, ◌++◌, slice_set}
+-- What is noted position by position, and for each value the positions at which it is noted.
+use Rattle.std.specs.Prelude.{ℕ, ◌+◌, ◌==◌, Bool, cond, List, [], ◌∷◌, ◌++◌, map, Option, Some, None, Vec}
+use Rattle.std.specs.Global.{Global}
+use Rattle.std.specs.Ordering.{nat_cmp}
+use Rattle.std.specs.BTreeMap.{get}
 use Rattle.live_interval.specs.Needs.{Position}
-use Rattle.live_interval.specs.Asked.{row_at}
+use Rattle.live_interval.specs.declared.notes.Note.{Note}
+use Rattle.live_interval.specs.declared.rows.Rows.{Rows}
 use Rattle.live_interval.specs.declared.tables.Tables.{Tables}
 
--- a position joins a value's row, where there is such a row
-abbrev pub noted : ℕ → ℕ → List (List ℕ) → List (List ℕ)
-noted v p rows = slice_set rows v (row_at rows v ++ p ∷ [])
+---- Notes
 
-abbrev pub noted_all : List ℕ → ℕ → List (List ℕ) → List (List ℕ)
-noted_all [] p rows = rows
-noted_all (v ∷ vs) p rows = noted_all vs p (noted v p rows)
+abbrev pub noted : ℕ → ℕ → List Note → List Note
+noted v p notes = notes ++ record { value = v; position = p } ∷ []
+
+abbrev pub noted_all : List ℕ → ℕ → List Note → List Note
+noted_all [] p notes = notes
+noted_all (v ∷ vs) p notes = noted_all vs p (noted v p notes)
 
 abbrev pub one_if : Bool → ℕ → List ℕ
 one_if b v = cond b (v ∷ []) []
@@ -26,3 +31,24 @@ passed_all (p ∷ ps) t = passed_all ps (passed p t)
 -- these values are used at the position that is being passed
 abbrev pub used : List ℕ → Tables → Tables
 used vs t = record { at = t.at; needs = noted_all vs t.at t.needs; mentions = noted_all vs t.at t.mentions }
+
+---- Rows
+
+-- the positions at which a value is noted
+abbrev pub row_in : List Note → ℕ → List ℕ
+row_in [] v = []
+row_in (n ∷ ns) v = cond (n.value == v) (n.position ∷ row_in ns v) (row_in ns v)
+
+abbrev pub one_at : ℕ → ℕ → ℕ → List ℕ
+one_at value position v = cond (value == v) (position ∷ []) []
+
+abbrev pub items_of : Option (Vec ℕ Global) → List ℕ
+items_of None = []
+items_of (Some row) = row.items
+
+abbrev pub row_of : Rows → ℕ → List ℕ
+row_of s v = items_of (get nat_cmp s.rows v)
+
+-- all rows
+abbrev pub rows_of : Rows → List (ℕ × List ℕ)
+rows_of s = map (λ e. (e.0, e.1.items)) s.rows.entries

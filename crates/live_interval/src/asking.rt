@@ -15,17 +15,18 @@ pub struct Positions {
 
 impl Model for Positions {
     ghost use Rattle.live_interval.specs.Asked.{Numbers, AreRising};
+    ghost use Rattle.live_interval.specs.Tables.{rows_of};
 
     ghost Value = { Numbers };
 
-    ghost view = { λ s. record { needs = s.needs; mentions = s.mentions } };
+    ghost view = { λ s. record { needs = rows_of s.needs; mentions = rows_of s.mentions } };
 
-    ghost invariant = { λ s. AreRising s.needs × AreRising s.mentions };
+    ghost invariant = { λ s. AreRising (rows_of s.needs) × AreRising (rows_of s.mentions) };
 }
 
 impl Positions {
-    /// The first position from `at` on that needs the value. Takes no memory, and time in proportion to the logarithm of
-    /// how often the value is needed.
+    /// The first position from `at` on that needs the value. Takes no memory, and time in proportion to a logarithm: of
+    /// how many values the trace needs, and of how often it needs this one.
     pub fn next_need(&self, value: u32, at: u32) -> Option<u32>
         ensures { result ≡ need_told self.now value at }
     {
@@ -34,7 +35,7 @@ impl Positions {
     }
 
     /// The last position before `before` that mentions the value: that uses it or makes it. Takes no memory, and time in
-    /// proportion to the logarithm of how often the value is mentioned.
+    /// proportion to a logarithm: of how many values the trace mentions, and of how often it mentions this one.
     pub fn last_mention(&self, value: u32, before: u32) -> Option<u32>
         ensures { result ≡ mention_told self.now value before }
     {

@@ -7,6 +7,7 @@ ghost use Rattle.live_interval.specs.Asked.{need_told, mention_told};
 ghost use Rattle.live_interval.specs.Tables.{passed_all};
 
 use crate::asking::{Positions, number_at};
+use crate::notes::Notes;
 use crate::rows::Rows;
 use crate::tables::Tables;
 use lir_core::{Flow, LiveSets, Trace};
@@ -14,8 +15,8 @@ use outside::Memory;
 use std::alloc::Global;
 
 /// The positions of a trace of a flow: what they answer is what a search finds, where `live` has the values that are live
-/// into each node. Takes time in proportion to the trace, to the flow's values, and to these again at each edge out of the
-/// trace.
+/// into each node. Takes time in proportion to the trace's operations and uses, and at each edge out of the trace to the words
+/// of a row and the values that are live there, each times a logarithm.
 pub fn positions(
     alloc: Global,
     flow: &Flow,
@@ -27,15 +28,12 @@ pub fn positions(
 {
     let mut tables = Tables {
         at: 0,
-        needs: Rows::new(alloc, flow.values as usize)?,
-        mentions: Rows::new(alloc, flow.values as usize)?,
+        needs: Notes::new(alloc),
+        mentions: Notes::new(alloc),
     };
     pass_nodes(&mut tables, flow, live, trace.nodes.as_slice())?;
-    let Tables {
-        at: _,
-        needs,
-        mentions,
-    } = tables;
+    let needs = Rows::of(alloc, tables.needs.as_slice())?;
+    let mentions = Rows::of(alloc, tables.mentions.as_slice())?;
     Ok(Positions { needs, mentions })
 }
 

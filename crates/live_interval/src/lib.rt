@@ -8,8 +8,11 @@
 
 mod asking;
 mod building;
+mod living;
+mod notes;
 mod rows;
 mod tables;
 
 pub use asking::Positions;
 pub use building::positions;
+pub use living::next_live;

@@ -1,101 +1,51 @@
 //! For each value the positions at which something is said of it.
 
-ghost use Rattle.std.specs.Prelude.{◌≡◌, [], replicate, IfOk, OnOk};
-ghost use Rattle.lir_core.specs.Rows.{has_bit};
-ghost use Rattle.live_interval.specs.Needs.{live_into};
-ghost use Rattle.live_interval.specs.Asked.{row_at};
-ghost use Rattle.live_interval.specs.Tables.{noted, noted_all, one_if};
+ghost use Rattle.std.specs.Prelude.{◌≡◌, ℕ, ◌++◌, IfOk, OnOk};
+ghost use Rattle.live_interval.specs.Tables.{row_in, row_of, one_at};
 
-use lir_core::LiveSets;
+use crate::notes::Note;
 use std::alloc::{AllocError, Global};
-use std::marker::Model;
+use std::collections::BTreeMap;
 
-/// A row of positions for each value.
+/// A row of positions for each value of which something is said.
 #[derive(Drop)]
 pub(crate) struct Rows {
-    rows: Vec<Vec<u32>>,
-}
-
-impl Model for Rows {
-    ghost use Rattle.std.specs.Prelude.{ℕ, List, map};
-
-    ghost Value = { List (List ℕ) };
-
-    ghost view = { λ s. map (λ row. row.items) s.rows.items };
+    rows: BTreeMap<u32, Vec<u32>>,
 }
 
 impl Rows {
-    /// Empty rows for so many values.
-    pub(crate) fn new(alloc: Global, values: usize) -> Result<Rows, AllocError>
-        ensures { IfOk result (λ rows. rows ≡ replicate values []) }
+    /// The rows of notes. Takes time in proportion to them, each times a logarithm of how many values they name.
+    pub(crate) fn of(alloc: Global, notes: &[Note]) -> Result<Rows, AllocError>
+        ensures { IfOk result (λ rows. (v : ℕ) → row_of rows v ≡ row_in notes.now v) }
     {
-        let mut rows = Vec::with_capacity(alloc, values)?;
-        for _ in 0..values {
-            rows.push(Vec::new(alloc))?;
+        let mut rows = Rows {
+            rows: BTreeMap::new(alloc),
+        };
+        for note in notes {
+            rows.add(alloc, note.value, note.position)?;
         }
-        Ok(Rows { rows })
+        Ok(rows)
+    }
+
+    fn add(&mut self, alloc: Global, value: u32, position: u32) -> Result<(), AllocError>
+        ensures { OnOk result ((v : ℕ) → row_of self.new v ≡ row_of self.old v ++ one_at value position v) }
+    {
+        match self.rows.get_mut(&value) {
+            Some(row) => row.push(position)?,
+            None => {
+                self.rows.insert(value, vec![in alloc; position]?)?;
+            }
+        }
+        Ok(())
     }
 
     /// The row of a value; an empty one where there is none.
     pub(crate) fn row(&self, value: u32) -> &[u32]
-        ensures { result.now ≡ row_at self.now value }
+        ensures { result.now ≡ row_of self.now value }
     {
-        match self.rows.get(value as usize) {
+        match self.rows.get(&value) {
             Some(row) => row.as_slice(),
             None => &[],
-        }
-    }
-
-    /// Adds a position to a value's row.
-    pub(crate) fn note(&mut self, value: u32, position: u32) -> Result<(), AllocError>
-        ensures { OnOk result (self.new ≡ noted value position self.old) }
-    {
-        if (value as usize) < self.rows.len() {
-            let row = &mut self.rows[value as usize];
-            row.push(position)?;
-        }
-        Ok(())
-    }
-
-    /// Adds a position to the rows of some values.
-    pub(crate) fn note_all(&mut self, values: &[u32], position: u32) -> Result<(), AllocError>
-        ensures { OnOk result (self.new ≡ noted_all values.now position self.old) }
-    {
-        for value in values {
-            self.note(*value, position)?;
-        }
-        Ok(())
-    }
-
-    /// Adds a position to the rows of what is live into a node.
-    pub(crate) fn note_live(
-        &mut self,
-        live: &LiveSets,
-        node: u32,
-        values: u32,
-        position: u32,
-    ) -> Result<(), AllocError>
-        ensures { OnOk result (self.new ≡ noted_all (live_into values live.now node) position self.old) }
-    {
-        for value in 0..values {
-            self.note_if_live(live, node, value, position)?;
-        }
-        Ok(())
-    }
-
-    fn note_if_live(
-        &mut self,
-        live: &LiveSets,
-        node: u32,
-        value: u32,
-        position: u32,
-    ) -> Result<(), AllocError>
-        ensures { OnOk result (self.new ≡ noted_all (one_if (has_bit live.now node value) value) position self.old) }
-    {
-        if live.has(node, value) {
-            self.note(value, position)
-        } else {
-            Ok(())
         }
     }
 }

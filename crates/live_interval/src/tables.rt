@@ -4,7 +4,7 @@ ghost use Rattle.std.specs.Prelude.{◌≡◌, ◌+◌, [], cond, map, Some, Non
 ghost use Rattle.block_runs.specs.Blocks.{end_uses, successors};
 ghost use Rattle.live_interval.specs.Needs.{live_into, live_off, is_next};
 
-use crate::rows::Rows;
+use crate::notes::Notes;
 use lir_core::{Leave, Lir, LiveSets, Node};
 use outside::Memory;
 
@@ -12,8 +12,8 @@ use outside::Memory;
 #[derive(Drop)]
 pub(crate) struct Tables {
     pub(crate) at: u32,
-    pub(crate) needs: Rows,
-    pub(crate) mentions: Rows,
+    pub(crate) needs: Notes,
+    pub(crate) mentions: Notes,
 }
 
 impl Tables {

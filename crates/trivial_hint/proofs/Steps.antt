@@ -1,6 +1,5 @@
 -- A value more of a list that is filtered.
-use Rattle.std.proofs.Common.{◌≡◌, ℕ, zero, suc, ◌+◌, ◌-◌, ◌<◌, Bool, true, false, cond, List, [], ◌∷◌, ◌++◌, filter, length, drop, get_or, refl, sym, ap, ◌∙◌, arith, add-one, append_assoc}
-use Rattle.run_laws.specs.Layers.{places_from}
+use Rattle.std.proofs.Common.{◌≡◌, ℕ, zero, suc, ◌+◌, ◌<◌, Bool, true, false, cond, List, [], ◌∷◌, ◌++◌, filter, length, drop, get_or, refl, sym, ap, ◌∙◌, arith, append_assoc}
 use Rattle.live_interval.specs.Tables.{one_if}
 
 one_more : (p : ℕ → Bool) (x : ℕ) (xs values : List ℕ) → (values ++ one_if (p x) x) ++ filter p xs ≡ values ++ filter p (x ∷ xs)
@@ -9,11 +8,6 @@ one_more p x xs values = append_assoc values (one_if (p x) x) (filter p xs) ∙ 
     by : (b : Bool) → one_if b x ++ filter p xs ≡ cond b (x ∷ filter p xs) (filter p xs)
     by true = refl
     by false = refl
-
-pub below_step : (p : ℕ → Bool) (n v : ℕ) (values : List ℕ) → v < n → (values ++ one_if (p v) v) ++ filter p (places_from (v + 1) (n - (v + 1))) ≡ values ++ filter p (places_from v (n - v))
-below_step p n v values lt =
-    let e : n - v ≡ suc (n - (v + 1)) = omega (arith, lt) in
-    ap (λ k. (values ++ one_if (p v) v) ++ filter p (places_from k (n - (v + 1)))) (add-one v) ∙ one_more p v (places_from (suc v) (n - (v + 1))) values ∙ ap (λ k. values ++ filter p (places_from v k)) (sym e)
 
 pub list_step : (p : ℕ → Bool) (xs : List ℕ) (i : ℕ) (values : List ℕ) → i < length xs → (values ++ one_if (p (get_or xs i 0)) (get_or xs i 0)) ++ filter p (drop (i + 1) xs) ≡ values ++ filter p (drop i xs)
 list_step p [] i values lt = absurd (omega (arith, lt))

@@ -7,6 +7,7 @@ ghost use Rattle.live_interval.specs.Tables.{one_if};
 ghost use Rattle.linear_scan.specs.Starts.{if_live};
 
 use lir_core::{Items, LiveSets};
+use live_interval::next_live;
 use std::alloc::{AllocError, Global};
 
 fn if_live(live: &LiveSets, node: u32, content: Option<u32>) -> Option<u32>
@@ -60,8 +61,10 @@ pub(crate) fn all_live(
     ensures { IfOk result (λ values. values ≡ live_into count live.now node) }
 {
     let mut values = Items::new(alloc);
-    for value in 0..count {
-        push_live(&mut values, live, node, value)?;
+    let mut from = 0;
+    while let Some(value) = next_live(live, node, from, count) {
+        values.push(value)?;
+        from = value + 1;
     }
     Ok(values)
 }

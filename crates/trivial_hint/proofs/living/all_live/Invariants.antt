@@ -1,7 +1,9 @@
-use Rattle.std.proofs.Common.{◌≡◌, ◌++◌, ◌-◌, filter}
-use Rattle.run_laws.specs.Layers.{places_from}
-use Rattle.lir_core.specs.Rows.{has_bit}
+use Rattle.std.proofs.Common.{◌≡◌, ◌++◌, ◌-◌}
+use Rattle.live_interval.specs.Needs.{live_from}
 use Rattle.trivial_hint.proofs.living.all_live.Given as goal
 
 abbrev pub invariant-loop-value : goal.invariant-loop-value
-invariant-loop-value l = l.values ++ filter (has_bit l.live l.node) (places_from l.value (l.count - l.value)) ≡ filter (has_bit l.live l.node) (places_from 0 l.count)
+invariant-loop-value l = l.values ++ live_from l.count l.live l.node l.from ≡ live_from l.count l.live l.node 0
+
+abbrev pub decreases-loop-value : goal.decreases-loop-value
+decreases-loop-value l = l.count - l.from
