@@ -1,14 +1,13 @@
--- Sets of values as marks.
-use Rattle.std.specs.Prelude.{◌≡◌, ℕ, ◌<◌, ◌||◌, Bool, false, List, length, filter, slice_index_or}
+-- Sets of values as rows of bits that are being filled.
+use Rattle.std.specs.Prelude.{◌≡◌, ℕ, ◌/◌, ◌<◌, ◌||◌, Bool, List, length, filter}
 use Rattle.run_laws.specs.Layers.{places_from}
+use Rattle.lir_core.specs.Rows.{is_in}
 
-abbrev pub is_marked : List Bool → ℕ → Bool
-is_marked marks v = slice_index_or marks v false
-
--- what passes a test is marked besides
-pub record AreMarked (test : ℕ → Bool) (before after : List Bool) : Type 0 where
+-- what passes a test is marked besides, where there is a bit for it
+pub record AreMarked (test : ℕ → Bool) (before after : List ℕ) : Type 0 where
   pub each : length after ≡ length before
-  pub mark : (v : ℕ) → v < length before → is_marked after v ≡ (is_marked before v || test v)
+  pub mark : (v : ℕ) → v / 64 < length before → is_in after v ≡ (is_in before v || test v)
 
-abbrev pub all_marked : List Bool → List ℕ
-all_marked marks = filter (is_marked marks) (places_from 0 (length marks))
+-- of so many values those that are marked
+abbrev pub all_marked : ℕ → List ℕ → List ℕ
+all_marked values marks = filter (is_in marks) (places_from 0 values)

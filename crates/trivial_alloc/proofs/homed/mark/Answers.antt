@@ -1,10 +1,12 @@
-use Rattle.std.proofs.Common.{refl}
-use Rattle.trivial_alloc.proofs.Marking.{mark_more, mark_none}
-use Rattle.trivial_alloc.proofs.homed.mark.Goals.{then-value-marks, else-value-marks}
+use Rattle.std.proofs.Common.{◌≡◌, ◌<◌, ◌/◌, ◌*◌, ◌%◌, ◌^◌, length, get_or, rules, set, ap, arith}
+use Rattle.std.specs.Int.Bits.{bit_or}
+use Rattle.std.proofs.lemmas.Grind.{common_steps}
+use Rattle.trivial_alloc.proofs.Marking.{marks_one}
 use Rattle.trivial_alloc.proofs.homed.mark.Goals as goal
 
-pub loop-value-preserved : goal.loop-value-preserved
-loop-value-preserved c = elim c.if-value-marks.branch [
-  | then-value-marks w ↦ mark_more c.args.values.now c.loop-value.value-index _ c.args.marks.now c.loop-value.marks c.if-value-marks.marks c.loop-value.invariant c.loop-value-test.true refl w.if-value-marks.true w.marks-is
-  | else-value-marks w ↦ mark_none c.args.values.now c.loop-value.value-index _ c.args.marks.now c.loop-value.marks c.if-value-marks.marks c.loop-value.invariant c.loop-value-test.true refl w.if-value-marks.false w.marks-is
-]
+pub returns-then-value-len : goal.returns-then-value-len
+returns-then-value-len c =
+    let row = c.args.marks.now.items in
+    let there : c.args.value / 64 < length row = search rules in
+    let word : c.index_mut.result.now ≡ get_or row (c.args.value / 64) 0 = grind (arith, common_steps) in
+    marks_one row _ c.args.value there (ap (λ n. set row (c.args.value / 64) (bit_or n (1 * 2 ^ (c.args.value % 64) % 2 ^ 64))) word)

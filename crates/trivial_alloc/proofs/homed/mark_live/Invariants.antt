@@ -1,6 +1,10 @@
-use Rattle.lir_core.specs.Rows.{has_bit}
-use Rattle.trivial_alloc.proofs.Marking.{MarkedBelow}
+use Rattle.std.proofs.Common.{◌-◌}
+use Rattle.live_interval.specs.Needs.{live_from}
+use Rattle.trivial_alloc.proofs.Marking.{AreLeft}
 use Rattle.trivial_alloc.proofs.homed.mark_live.Given as goal
 
 abbrev pub invariant-loop-value : goal.invariant-loop-value
-invariant-loop-value l = MarkedBelow l.value (has_bit l.live l.node) l.initial.marks l.marks
+invariant-loop-value l = AreLeft (live_from l.values l.live l.node 0) (live_from l.values l.live l.node l.from) l.initial.marks.items l.marks.items
+
+abbrev pub decreases-loop-value : goal.decreases-loop-value
+decreases-loop-value l = l.values - l.from

@@ -1,17 +1,19 @@
-use Rattle.std.proofs.Common.{ℕ, List, ◌≡◌, ◌∙◌, subst, rules, replicate, false}
+use Rattle.std.proofs.Common.{ℕ, List, ◌≡◌, ◌+◌, ◌/◌, subst, rules, replicate, refl}
 use Rattle.std.specs.Prelude.{IfOk}
 use Rattle.block_runs.specs.Live.{has}
 use Rattle.lir_core.specs.Rows.{has_bit}
+use Rattle.live_interval.specs.Needs.{live_into}
 use Rattle.trivial_alloc.specs.Plain.{in_homes}
 use Rattle.trivial_alloc.specs.Marks.{AreMarked}
-use Rattle.trivial_alloc.proofs.Marking.{picks_both}
+use Rattle.trivial_alloc.proofs.Marking.{picks_both, live_has}
 use Rattle.trivial_alloc.proofs.homed.start.Goals as goal
 
 pub returns : goal.returns
 returns c =
     let t = c.args.t.now in
-    let new : c.in_ok-marks.marks.items ≡ replicate t.flow.now.values false = search rules in
-    let marked = subst (λ (x : List ℕ). AreMarked (has x) c.mark_live.new.marks c.mark.new.marks) c.as_slice.ensures c.mark.ensures in
+    let n = t.flow.now.values in
+    let fresh : c.in_ok-marks.marks.items ≡ replicate (n / 64 + 1) 0 = search rules in
+    let marked = subst (λ (x : List ℕ). AreMarked (has x) c.mark_live.new.marks.items c.mark_all.new.marks.items) c.as_slice.ensures c.mark_all.ensures in
     subst (λ (homed : List ℕ). IfOk c.in_homes.result (λ places. places ≡ in_homes t.regs homed))
-    (picks_both t.flow.now.values (has_bit t.live.now c.args.number) (has c.args.node.now.params) c.as_mut_slice-marks.result.now c.mark_live.new.marks c.mark.new.marks (c.as_mut_slice-marks.ensures.value ∙ new) c.mark_live.ensures marked)
+    (picks_both n (has (live_into n t.live.now c.args.number)) (has c.args.node.now.params) (has_bit t.live.now c.args.number) (has c.args.node.now.params) c.in_ok-marks.marks.items c.mark_live.new.marks.items c.mark_all.new.marks.items fresh c.mark_live.ensures marked (live_has n t.live.now c.args.number) (λ v l. refl))
     c.in_homes.ensures
