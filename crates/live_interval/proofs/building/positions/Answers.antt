@@ -1,4 +1,4 @@
-use Rattle.std.proofs.Common.{◌≡◌, ◌∙◌, ap, sym, subst, None}
+use Rattle.std.proofs.Common.{◌∙◌, ap, sym, subst, None}
 use Rattle.live_interval.specs.Asked.{need_told, mention_told, first_from, last_below, IsRising}
 use Rattle.live_interval.specs.Tables.{row_in, row_of}
 use Rattle.live_interval.proofs.Whole.{begun, needs_rise, mentions_rise, next_right, last_right, row_among}

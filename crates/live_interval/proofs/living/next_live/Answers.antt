@@ -1,5 +1,5 @@
-use Rattle.std.proofs.Common.{◌≡◌, ◌<◌, ◌≤◌, ◌^◌, arith}
-use Rattle.lir_core.specs.Rows.{has_bit, IsLowest}
+use Rattle.std.proofs.Common.{◌<◌, ◌^◌, arith}
+use Rattle.lir_core.specs.Rows.{has_bit}
 use Rattle.live_interval.proofs.Passing.{none_from, one_from, none_below}
 use Rattle.live_interval.proofs.living.next_live.Goals as goal
 
