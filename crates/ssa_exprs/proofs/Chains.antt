@@ -12,7 +12,7 @@ use Rattle.ssa_lowered.specs.Pieces.{Low}
 use Rattle.ssa_lowered.specs.Values.{const}
 use Rattle.ssa_lowered.specs.Control.{Lowers, Test, half, flag, fork_value, fork_not}
 use Rattle.ssa_lowered.specs.Lowered.{Here, linked}
-use Rattle.ssa_exprs.specs.Making.{View, Gives, Tests, asked, bound, closed, counted}
+use Rattle.ssa_exprs.specs.Making.{View, Gives, Tests, asked, bound, closed}
 use Rattle.ssa_exprs.specs.Tables.{expr_in}
 use Rattle.ssa_exprs.specs.Walk.{link_in, linked_in, links_of, first_of, prefix_in, is_plain}
 use Rattle.ssa_exprs.proofs.Flags.{gives_flag}
@@ -66,21 +66,21 @@ pub gives_from : {A : Type 0} {v v1 w : View} {m : Low A} {r : A} → v1 ≡ v �
 gives_from {w = w} {m = m} {r = r} e g = subst (λ z. Gives z w m r) e g
 
 -- a condition's value, from what the code did
-pub flagged_done : {v u u1 u2 u3 u4 u5 u6 u7 u8 u9 : View} {t : Test} (y_to n_to freq out one z r : ℕ) (args1 args2 none params : List ℕ) (h : ℕ)
+pub flagged_done : {v u u1 u2 u3 u4 u5 u6 u8 u9 : View} {t : Test} (y_to n_to freq out one z r : ℕ) (args1 args2 : List ℕ) (h : ℕ)
     → y_to ≡ v.labels → n_to ≡ suc v.labels → freq ≡ v.freq → Tests (asked (asked v)) u t y_to n_to (half v.freq)
-    → u1 ≡ bound u y_to → Gives u1 u2 (const 1) one → u3 ≡ asked u2 → out ≡ u2.labels → args1 ≡ one ∷ [] → none ≡ [] → h ≡ half freq → u4 ≡ closed u3 (Jump out args1) none h None
-    → u5 ≡ bound u4 n_to → Gives u5 u6 (const 0) z → u7 ≡ counted u6 → r ≡ u6.values → args2 ≡ z ∷ [] → params ≡ r ∷ [] → u8 ≡ closed u7 (Jump out args2) params freq None → u9 ≡ bound u8 out
+    → u1 ≡ bound u y_to → Gives u1 u2 (const 1) one → u3 ≡ asked u2 → out ≡ u2.labels → args1 ≡ one ∷ [] → h ≡ half freq → u4 ≡ closed u3 (Jump out args1) 0 h None
+    → u5 ≡ bound u4 n_to → Gives u5 u6 (const 0) z → r ≡ u6.values → args2 ≡ z ∷ [] → u8 ≡ closed u6 (Jump out args2) 1 freq None → u9 ≡ bound u8 out
     → Gives v u9 (flag t) r
-flagged_done {v} {u} {u1} {u2} {u3} {u4} {u5} {u6} {u7} {u8} {u9} {t} y_to n_to freq out one z r args1 args2 none params h ey en ef x e1 g1 e3 eo ea1 en1 eh e4 e5 g2 e7 er ea2 ep e8 e9 =
+flagged_done {v} {u} {u1} {u2} {u3} {u4} {u5} {u6} {u8} {u9} {t} y_to n_to freq out one z r args1 args2 h ey en ef x e1 g1 e3 eo ea1 eh e4 e5 g2 er ea2 e8 e9 =
     let first : Tests (asked (asked v)) u t v.labels (suc v.labels) (half v.freq) = tests_at refl ey en refl x in
     let second : Gives (bound u v.labels) u2 (const 1) one = gives_from (e1 ∙ ap (bound u) ey) g1 in
     let ends1 : Jump out args1 ≡ Jump u2.labels (one ∷ []) = ap₂ (λ a b. Jump a b) eo ea1 in
-    let four : u4 ≡ closed (asked u2) (Jump u2.labels (one ∷ [])) [] (half v.freq) None =
-    e4 ∙ ap (λ s. closed s (Jump out args1) none h None) e3 ∙ ap₂ (λ e k. closed (asked u2) e k h None) ends1 en1 ∙ ap (λ k. closed (asked u2) (Jump u2.labels (one ∷ [])) [] k None) (eh ∙ ap half ef) in
-    let third : Gives (bound (closed (asked u2) (Jump u2.labels (one ∷ [])) [] (half v.freq) None) (suc v.labels)) u6 (const 0) z = gives_from (e5 ∙ ap₂ bound four en) g2 in
+    let four : u4 ≡ closed (asked u2) (Jump u2.labels (one ∷ [])) 0 (half v.freq) None =
+    e4 ∙ ap (λ s. closed s (Jump out args1) 0 h None) e3 ∙ ap₂ (λ e k. closed (asked u2) e 0 k None) ends1 (eh ∙ ap half ef) in
+    let third : Gives (bound (closed (asked u2) (Jump u2.labels (one ∷ [])) 0 (half v.freq) None) (suc v.labels)) u6 (const 0) z = gives_from (e5 ∙ ap₂ bound four en) g2 in
     let ends2 : Jump out args2 ≡ Jump u2.labels (z ∷ []) = ap₂ (λ a b. Jump a b) eo ea2 in
-    let last : u9 ≡ bound (closed (counted u6) (Jump u2.labels (z ∷ [])) (u6.values ∷ []) v.freq None) u2.labels =
-    e9 ∙ ap₂ bound (e8 ∙ ap (λ s. closed s (Jump out args2) params freq None) e7 ∙ ap₂ (λ e k. closed (counted u6) e k freq None) ends2 (ep ∙ ap (λ n. n ∷ []) er) ∙ ap (λ k. closed (counted u6) (Jump u2.labels (z ∷ [])) (u6.values ∷ []) k None) ef) eo in
+    let last : u9 ≡ bound (closed u6 (Jump u2.labels (z ∷ [])) 1 v.freq None) u2.labels =
+    e9 ∙ ap₂ bound (e8 ∙ ap₂ (λ e k. closed u6 e 1 k None) ends2 ef) eo in
     subst (λ n. Gives v u9 (flag t) n) (sym er) (subst (λ w. Gives v w (flag t) u6.values) (sym last) (gives_flag first second third))
 
 module _ (p : Program) (here : Here) where

@@ -1,58 +1,26 @@
 -- A condition as a value.
-use Rattle.std.proofs.Common.{◌≡◌, ℕ, suc, List, [], ◌∷◌, ◌++◌, Option, None, refl, sym, ap, ◌∙◌, arith, append_assoc}
+use Rattle.std.proofs.Common.{◌≡◌, ℕ, suc, ◌+◌, List, [], ◌∷◌, ◌++◌, Option, Some, None, refl, sym, ap, ◌∙◌, arith}
 use Rattle.block_runs.specs.declared.end.End.{End}
 use Rattle.block_runs.specs.declared.end.End.TheVariants.{Jump}
-use Rattle.ssa_lowered.specs.Pieces.{Cursor, Made, close, fresh, plain}
+use Rattle.ssa_lowered.specs.Pieces.{Cursor, Made, close, fresh, plain, numbers}
 use Rattle.ssa_lowered.specs.Pieces.{Piece as Placed}
 use Rattle.ssa_lowered.specs.Values.{const}
+use Rattle.ssa_lowered.specs.Limits.{passed}
 use Rattle.ssa_lowered.specs.Control.{Fork, Test, flag, half, at_freq}
-use Rattle.ssa_exprs.specs.declared.making.Piece.TheVariants.{Ends}
-use Rattle.ssa_exprs.specs.Making.{View, all_bare, resolve_end, resolved, Fits, Makes, cursor_at, Done, Gives, asked, bound, closed, counted, Forked, Tests}
-use Rattle.ssa_exprs.proofs.Giving.{bare_on, append_nil, done_as}
-use Rattle.ssa_exprs.proofs.Forks.{resolved_on, fits_bound, place_bound, times_bound, given_more}
+use Rattle.ssa_exprs.specs.Making.{View, Known, all_bare, resolved, Fits, later, cursor_at, Came, Follows, Once, Gives, asked, bound, begins, closed, as_part, Tests}
+use Rattle.ssa_exprs.proofs.Giving.{later_first, limit_on, passed_on, came_as}
+use Rattle.ssa_exprs.proofs.Forks.{Adding, adding_on, adding_of, adding_closed, closed_before, at_closed, at_plain, fits_bound, place_bound, times_bound, given_more}
 
--- pieces were made, without a word on labels that are given out
-pub record Adding (v w : View) (pieces : (ℕ → ℕ) → List Placed) : Type 0 where
-  pub fits : (place : ℕ → ℕ) → Fits place w.bounds → Fits place v.bounds
-  pub adds : (place : ℕ → ℕ) → Fits place w.bounds → resolved place w.made ≡ resolved place v.made ++ all_bare (pieces place)
-
-pub adding_of : {v w : View} {ps : (ℕ → ℕ) → List Placed} → Makes v w ps → Adding v w ps
-adding_of x = record { fits = x.fits; adds = x.adds }
-
-pub adding_on : {u v w : View} {xs ys : (ℕ → ℕ) → List Placed} → Adding u v xs → Adding v w ys → Adding u w (λ place. xs place ++ ys place)
-adding_on {u} {v} {w} {xs} {ys} x y = record {
-  fits = λ place f. x.fits place (y.fits place f);
-  adds = λ place f.
-      y.adds place f
-      ∙ ap (λ l. l ++ all_bare (ys place)) (x.adds place (y.fits place f))
-      ∙ append_assoc (resolved place u.made) (all_bare (xs place)) (all_bare (ys place))
-      ∙ ap (λ l. resolved place u.made ++ l) (sym (bare_on (xs place) (ys place)));
-}
-
--- a label was given out, or got a block; a value was counted
-pub adding_asked : (v : View) → Adding v (asked v) (λ _. [])
-adding_asked v = record { fits = λ place f. f; adds = λ place f. sym (append_nil (resolved place v.made)) }
-
-pub adding_counted : (v : View) → Adding v (counted v) (λ _. [])
-adding_counted v = record { fits = λ place f. f; adds = λ place f. sym (append_nil (resolved place v.made)) }
-
-pub adding_bound : (v : View) (t : ℕ) → Adding v (bound v t) (λ _. [])
-adding_bound v t = record { fits = λ place f. fits_bound v t place f; adds = λ place f. sym (append_nil (resolved place v.made)) }
-
--- the open block was closed
-pub adding_closed : (v : View) (end : End) (params : List ℕ) (freq : ℕ) (enter : Option ℕ) (c : Cursor) (seen : List ℕ) (placed : (ℕ → ℕ) → End) → ((place : ℕ → ℕ) → resolve_end place end ≡ placed place)
-    → Adding v (closed v end params freq enter) (λ place. close c (placed place) (record { params = params; freq = freq; enter = enter; seen = seen }) ∷ [])
-adding_closed v end params freq enter c seen placed same_end = record {
-  fits = λ place f. f;
-  adds = λ place f. resolved_on place v.made (Ends end params freq enter ∷ []) ∙ ap (λ e. resolved place v.made ++ Ends e params freq enter ∷ []) (same_end place);
-}
+-- one list of pieces and then another one
+pub limit_list : {b c q : Option ℕ} (a : Option ℕ) (xs ys : List Placed) → b ≡ later a (passed xs) → c ≡ later b q → (b ≡ None → passed ys ≡ q) → c ≡ later a (passed (xs ++ ys))
+limit_list a xs ys x y h = limit_on a (passed xs) (passed ys) x y h ∙ ap (λ o. later a o) (sym (passed_on xs ys))
 
 module _ {v u u2 u6 : View} {t : Test} {r1 r2 : ℕ}
     (x : Tests (asked (asked v)) u t v.labels (suc v.labels) (half v.freq))
     (g1 : Gives (bound u v.labels) u2 (const 1) r1)
-    (g2 : Gives (bound (closed (asked u2) (Jump u2.labels (r1 ∷ [])) [] (half v.freq) None) (suc v.labels)) u6 (const 0) r2) where
-  abbrev h : ℕ
-  h = half v.freq
+    (g2 : Gives (bound (closed (asked u2) (Jump u2.labels (r1 ∷ [])) 0 (half v.freq) None) (suc v.labels)) u6 (const 0) r2) where
+  abbrev q : ℕ
+  q = half v.freq
 
   abbrev end1 : End
   end1 = Jump u2.labels (r1 ∷ [])
@@ -61,106 +29,184 @@ module _ {v u u2 u6 : View} {t : Test} {r1 r2 : ℕ}
   end2 = Jump u2.labels (r2 ∷ [])
 
   abbrev u4 : View
-  u4 = closed (asked u2) end1 [] h None
+  u4 = closed (asked u2) end1 0 q None
 
   abbrev u8 : View
-  u8 = closed (counted u6) end2 (u6.values ∷ []) v.freq None
+  u8 = closed u6 end2 1 v.freq None
 
   abbrev w : View
   w = bound u8 u2.labels
+
+  freq2 : u2.freq ≡ q
+  freq2 = g1.freq ∙ x.freq
 
   module _ (op : ℕ) (seen : List ℕ) where
     abbrev k : Fork
     k = t (cursor_at v op seen)
 
+    abbrev s : List ℕ
+    s = k.after.seen
+
     abbrev yes_at : Cursor
-    yes_at = at_freq k.after h
+    yes_at = at_freq k.after q
 
     abbrev one : Made ℕ
     one = const 1 yes_at
 
     abbrev no_at : Cursor
-    no_at = record (fresh one.after) { seen = k.after.seen }
+    no_at = record (fresh one.after) { seen = s }
 
     abbrev zero_made : Made ℕ
     zero_made = const 0 no_at
 
-    fork_is : Forked (asked (asked v)) u k v.labels (suc v.labels) h
-    fork_is = x.by op seen
+    -- what stands behind the blocks' beginnings
+    abbrev part_zero : Cursor → ℕ → List Placed
+    part_zero z ob = (const 0 z).pieces ++ (close (const 0 z).after (Jump ob ((const 0 z).result ∷ [])) (record { params = (const 0 z).after.values ∷ []; freq = v.freq; enter = None; seen = s }) ∷ [])
 
-    yes_is : yes_at ≡ cursor_at (bound u v.labels) k.after.op k.after.seen
-    yes_is = ap (λ (c : Cursor). at_freq c h) fork_is.after ∙ ap (λ n. record (cursor_at u k.after.op k.after.seen) { freq = n }) (sym x.freq)
+    abbrev part_jump : Cursor → ℕ → ℕ → List Placed
+    part_jump o r ob = close o (Jump ob (r ∷ [])) (plain o.freq s) ∷ part_zero (record (fresh o) { seen = s }) ob
 
-    done1 : Done (bound u v.labels) u2 one r1
-    done1 = done_as (ap (const 1) yes_is) (g1.by k.after.op k.after.seen)
+    abbrev part_one : Cursor → ℕ → List Placed
+    part_one y ob = (const 1 y).pieces ++ part_jump (const 1 y).after (const 1 y).result ob
 
-    freq2 : u2.freq ≡ h
-    freq2 = g1.freq ∙ x.freq
+    no_from : u4.over ≡ None → (o : ℕ) (z : List ℕ) → record (fresh (cursor_at u2 o z)) { seen = s } ≡ cursor_at u4 0 s
+    no_from h o z =
+        ap (λ n. record { block = suc u2.block; op = 0; freq = n; values = u2.values; env = u2.known.env; seen = s }) freq2
+        ∙ sym (at_plain (asked u2) end1 q None 0 s h)
 
-    no_is : no_at ≡ cursor_at (bound u4 (suc v.labels)) 0 k.after.seen
-    no_is = ap (λ (c : Cursor). record (fresh c) { seen = k.after.seen }) done1.after ∙ ap (λ n. record (cursor_at (bound u4 (suc v.labels)) 0 k.after.seen) { freq = n }) freq2
+    module _ (place : ℕ → ℕ) (i : Fits place w.bounds) where
+      fits8 : Fits place u6.bounds
+      fits8 = fits_bound u8 u2.labels place i
 
-    done2 : Done (bound u4 (suc v.labels)) u6 zero_made r2
-    done2 = done_as (ap (const 0) no_is) (g2.by 0 k.after.seen)
+      fits5 : Fits place (bound u4 (suc v.labels)).bounds
+      fits5 = g2.follows.fits place fits8
 
-    -- what was made, by the places of three labels, the values and the frequencies that the code has
-    abbrev shape : (n1 n2 n3 a1 f1 a2 p2 : ℕ) → List Placed
-    shape n1 n2 n3 a1 f1 a2 p2 =
-        k.pieces n1 n2 h
-        ++ (one.pieces ++ (close one.after (Jump n3 (a1 ∷ [])) (plain f1 k.after.seen)
-        ∷ (zero_made.pieces ++ (close zero_made.after (Jump n3 (a2 ∷ [])) (record { params = p2 ∷ []; freq = v.freq; enter = None; seen = k.after.seen }) ∷ []))))
+      fits4 : Fits place u2.bounds
+      fits4 = fits_bound u4 (suc v.labels) place fits5
 
-    chain : Adding v w (λ place. shape (place v.labels) (place (suc v.labels)) (place u2.labels) r1 h r2 u6.values)
-    chain =
-        adding_on (adding_asked v) (adding_on (adding_asked (asked v)) (adding_on (adding_of fork_is.makes) (adding_on (adding_bound u v.labels) (adding_on (adding_of done1.makes)
-        (adding_on (adding_asked u2) (adding_on (adding_closed (asked u2) end1 [] h None one.after k.after.seen (λ place. Jump (place u2.labels) (r1 ∷ [])) (λ place. refl))
-        (adding_on (adding_bound u4 (suc v.labels)) (adding_on (adding_of done2.makes)
-        (adding_on (adding_counted u6) (adding_on (adding_closed (counted u6) end2 (u6.values ∷ []) v.freq None zero_made.after k.after.seen (λ place. Jump (place u2.labels) (r2 ∷ [])) (λ place. refl))
-        (adding_bound u8 u2.labels)))))))))))
+      fits1 : Fits place (bound u v.labels).bounds
+      fits1 = g1.follows.fits place fits4
 
-    fits_back : (place : ℕ → ℕ) → Fits place w.bounds → Fits place (bound u4 (suc v.labels)).bounds
-    fits_back place f = done2.makes.fits place (fits_bound u8 u2.labels place f)
+      fits0 : Fits place u.bounds
+      fits0 = fits_bound u v.labels place fits1
 
-    fits_first : (place : ℕ → ℕ) → Fits place w.bounds → Fits place (bound u v.labels).bounds
-    fits_first place f = done1.makes.fits place (fits_bound u4 (suc v.labels) place (fits_back place f))
+      limit_zero : (ob : ℕ) → w.over ≡ later u4.over (passed (part_zero (cursor_at u4 0 s) ob))
+      limit_zero ob =
+          let z = cursor_at u4 0 s in
+          limit_list u4.over (const 0 z).pieces (close (const 0 z).after (Jump ob ((const 0 z).result ∷ [])) (record { params = (const 0 z).after.values ∷ []; freq = v.freq; enter = None; seen = s }) ∷ [])
+          (g2.follows.limit place fits8 0 s) refl (λ h. ap (λ (c : Cursor). begins c.block (c.values ∷ [])) (g2.follows.by h place fits8 0 s).after)
 
-    block_yes : (place : ℕ → ℕ) → Fits place w.bounds → place v.labels ≡ yes_at.block
-    block_yes place f = place_bound u v.labels place (fits_first place f) ∙ sym (ap (λ (c : Cursor). c.block) yes_is)
+      limit_jump : (o : ℕ) (z : List ℕ) (r ob : ℕ) → w.over ≡ later u2.over (passed (part_jump (cursor_at u2 o z) r ob))
+      limit_jump o z r ob =
+          let c = cursor_at u2 o z in
+          limit_list u2.over (close c (Jump ob (r ∷ [])) (plain c.freq s) ∷ []) (part_zero (record (fresh c) { seen = s }) ob) refl (limit_zero ob) (λ h. ap (λ y. passed (part_zero y ob)) (no_from h o z))
 
-    block_no : (place : ℕ → ℕ) → Fits place w.bounds → place (suc v.labels) ≡ no_at.block
-    block_no place f = place_bound u4 (suc v.labels) place (fits_back place f) ∙ sym (ap (λ (c : Cursor). c.block) no_is)
+      limit_one : (o : ℕ) (ob : ℕ) → w.over ≡ later u.over (passed (part_one (cursor_at u o s) ob))
+      limit_one o ob =
+          let c = cursor_at u o s in
+          let m = const 1 c in
+          limit_list u.over m.pieces (part_jump m.after m.result ob) (g1.follows.limit place fits4 o s) (limit_jump m.after.op m.after.seen m.result ob)
+          (λ h. ap (λ y. passed (part_jump y m.result ob)) (g1.follows.by h place fits4 o s).after)
 
-    block_out : (place : ℕ → ℕ) → Fits place w.bounds → place u2.labels ≡ suc zero_made.after.block
-    block_out place f = place_bound u8 u2.labels place f ∙ sym (ap (λ (c : Cursor). suc c.block) done2.after)
+      limit_flag : w.over ≡ later v.over (passed (flag t (cursor_at v op seen)).pieces)
+      limit_flag =
+          limit_list v.over (k.pieces (place v.labels) (place (suc v.labels)) q) (part_one yes_at (suc zero_made.after.block)) (x.follows.limit place fits0 op seen) (limit_one k.after.op (suc zero_made.after.block))
+          (λ h. ap (λ y. passed (part_one y (suc zero_made.after.block))) (x.follows.by h place fits0 op seen).after)
+          ∙ ap (λ o. later v.over o) (passed_on (k.pieces (place v.labels) (place (suc v.labels)) q) (part_one yes_at (suc zero_made.after.block))
+          ∙ ap (λ o. later o (passed (part_one yes_at (suc zero_made.after.block)))) (x.blind.by (cursor_at v op seen) (place v.labels) (place (suc v.labels)) q yes_at.block no_at.block q)
+          ∙ sym (passed_on (k.pieces yes_at.block no_at.block q) (part_one yes_at (suc zero_made.after.block))))
 
-    pub flag_done : Done v w (flag t (cursor_at v op seen)) u6.values
-    flag_done = record {
-      makes = record {
-        fits = λ place f. chain.fits place f;
-        once = λ n.
-            let a = fork_is.makes.once n in
-            let b = done1.makes.once n in
-            let d = done2.makes.once n in
-            let e1 = given_more v.labels n in
-            let e2 = given_more (suc v.labels) n in
-            let e3 = given_more u2.labels n in
-            let t1 = times_bound u v.labels n in
-            let t2 = times_bound u4 (suc v.labels) n in
-            let t3 = times_bound u8 u2.labels n in
-            omega (arith, a, b, d, e1, e2, e3, t1, t2, t3);
-        adds = λ place f.
-            chain.adds place f
-            ∙ ap (λ n. resolved place v.made ++ all_bare (shape n (place (suc v.labels)) (place u2.labels) r1 h r2 u6.values)) (block_yes place f)
-            ∙ ap (λ n. resolved place v.made ++ all_bare (shape yes_at.block n (place u2.labels) r1 h r2 u6.values)) (block_no place f)
-            ∙ ap (λ n. resolved place v.made ++ all_bare (shape yes_at.block no_at.block n r1 h r2 u6.values)) (block_out place f)
-            ∙ ap (λ n. resolved place v.made ++ all_bare (shape yes_at.block no_at.block (suc zero_made.after.block) n h r2 u6.values)) (sym done1.result)
-            ∙ ap (λ n. resolved place v.made ++ all_bare (shape yes_at.block no_at.block (suc zero_made.after.block) one.result n r2 u6.values)) (sym (ap (λ (c : Cursor). c.freq) no_is))
-            ∙ ap (λ n. resolved place v.made ++ all_bare (shape yes_at.block no_at.block (suc zero_made.after.block) one.result no_at.freq n u6.values)) (sym done2.result)
-            ∙ ap (λ n. resolved place v.made ++ all_bare (shape yes_at.block no_at.block (suc zero_made.after.block) one.result no_at.freq zero_made.result n)) (sym (ap (λ (c : Cursor). c.values) done2.after));
-      };
-      after = ap (λ (c : Cursor). record (fresh c) { freq = v.freq; values = suc c.values; seen = c.values ∷ k.after.seen }) done2.after ∙ ap (λ n. record (cursor_at w 0 (n ∷ k.after.seen)) { values = suc u6.values }) (ap (λ (c : Cursor). c.values) (sym done2.after));
-      result = ap (λ (c : Cursor). c.values) done2.after;
-    }
+      module _ (h : w.over ≡ None) where
+        over6 : u6.over ≡ None
+        over6 = closed_before u6 end2 1 v.freq None h
+
+        over4 : u4.over ≡ None
+        over4 = later_first u4.over _ (sym (g2.follows.limit place fits8 0 []) ∙ over6)
+
+        over2 : u2.over ≡ None
+        over2 = closed_before (asked u2) end1 0 q None over4
+
+        over0 : u.over ≡ None
+        over0 = later_first u.over _ (sym (g1.follows.limit place fits4 0 []) ∙ over2)
+
+        test_made : Came (asked (asked v)) u place (as_part t (place v.labels) (place (suc v.labels)) q (cursor_at v op seen)) tt
+        test_made = x.follows.by over0 place fits0 op seen
+
+        one_came : Came (bound u v.labels) u2 place one r1
+        one_came = came_as (ap (const 1) test_made.after) (g1.follows.by over2 place fits4 k.after.op s)
+
+        no_is : no_at ≡ cursor_at u4 0 s
+        no_is = ap (λ (c : Cursor). record (fresh c) { seen = s }) one_came.after ∙ no_from over4 one.after.op one.after.seen
+
+        zero_came : Came (bound u4 (suc v.labels)) u6 place zero_made r2
+        zero_came = came_as (ap (const 0) no_is) (g2.follows.by over6 place fits8 0 s)
+
+        abbrev shape : (yb nb ob a f b d : ℕ) → List Placed
+        shape yb nb ob a f b d =
+            k.pieces yb nb q
+            ++ (one.pieces ++ (close one.after (Jump ob (a ∷ [])) (plain f s)
+            ∷ (zero_made.pieces ++ (close zero_made.after (Jump ob (b ∷ [])) (record { params = d ∷ []; freq = v.freq; enter = None; seen = s })
+            ∷ []))))
+
+        chain : Adding v w place (shape (place v.labels) (place (suc v.labels)) (place u2.labels) r1 q r2 u6.values)
+        chain =
+            let a1 : Adding v u place (k.pieces (place v.labels) (place (suc v.labels)) q) = record { is = test_made.adds } in
+            let a2 : Adding u u2 place one.pieces = record { is = one_came.adds } in
+            let a3 : Adding u2 u4 place (close one.after (Jump (place u2.labels) (r1 ∷ [])) (plain q s) ∷ []) = record { is = (adding_closed (asked u2) end1 0 q None place (Jump (place u2.labels) (r1 ∷ [])) one.after s over4 refl).is } in
+            let a4 : Adding u4 u6 place zero_made.pieces = record { is = zero_came.adds } in
+            let a5 : Adding u6 w place (close zero_made.after (Jump (place u2.labels) (r2 ∷ [])) (record { params = u6.values ∷ []; freq = v.freq; enter = None; seen = s }) ∷ []) =
+                record { is = (adding_closed u6 end2 1 v.freq None place (Jump (place u2.labels) (r2 ∷ [])) zero_made.after s h refl).is } in
+            adding_on a1 (adding_on a2 (adding_on a3 (adding_on a4 a5)))
+
+        block_yes : place v.labels ≡ yes_at.block
+        block_yes = place_bound u v.labels place fits1 ∙ sym (ap (λ (c : Cursor). c.block) test_made.after)
+
+        block_no : place (suc v.labels) ≡ no_at.block
+        block_no = place_bound u4 (suc v.labels) place fits5 ∙ sym (ap (λ (c : Cursor). c.block) no_is)
+
+        block_out : place u2.labels ≡ suc zero_made.after.block
+        block_out = place_bound u8 u2.labels place i ∙ sym (ap (λ (c : Cursor). suc c.block) zero_came.after ∙ sym (ap (λ (c : Cursor). c.block) (at_closed u6 end2 1 v.freq None 0 [] h)))
+
+        came_flag : Came v w place (flag t (cursor_at v op seen)) u6.values
+        came_flag = record {
+          adds =
+              chain.is
+              ∙ ap (λ n. resolved place v.made ++ all_bare (shape n (place (suc v.labels)) (place u2.labels) r1 q r2 u6.values)) block_yes
+              ∙ ap (λ n. resolved place v.made ++ all_bare (shape yes_at.block n (place u2.labels) r1 q r2 u6.values)) block_no
+              ∙ ap (λ n. resolved place v.made ++ all_bare (shape yes_at.block no_at.block n r1 q r2 u6.values)) block_out
+              ∙ ap (λ n. resolved place v.made ++ all_bare (shape yes_at.block no_at.block (suc zero_made.after.block) n q r2 u6.values)) (sym one_came.result)
+              ∙ ap (λ n. resolved place v.made ++ all_bare (shape yes_at.block no_at.block (suc zero_made.after.block) one.result n r2 u6.values)) (sym (ap (λ (c : Cursor). c.freq) one_came.after ∙ freq2))
+              ∙ ap (λ n. resolved place v.made ++ all_bare (shape yes_at.block no_at.block (suc zero_made.after.block) one.result no_at.freq n u6.values)) (sym zero_came.result)
+              ∙ ap (λ n. resolved place v.made ++ all_bare (shape yes_at.block no_at.block (suc zero_made.after.block) one.result no_at.freq zero_made.result n)) (sym (ap (λ (c : Cursor). c.values) zero_came.after));
+          after =
+              let one_more : suc u6.values ≡ u6.values + 1 = omega arith in
+              ap (λ (c : Cursor). record (fresh c) { freq = v.freq; values = suc c.values; seen = c.values ∷ s }) zero_came.after
+              ∙ ap (λ n. record { block = suc u6.block; op = 0; freq = v.freq; values = n; env = u6.known.env; seen = u6.values ∷ s }) one_more
+              ∙ sym (at_closed u6 end2 1 v.freq None 0 (u6.values ∷ s) h)
+              ∙ ap (λ n. cursor_at w 0 (n ∷ s)) (sym (ap (λ (c : Cursor). c.values) zero_came.after));
+          result = ap (λ (c : Cursor). c.values) zero_came.after;
+        }
 
   pub gives_flag : Gives v w (flag t) u6.values
-  gives_flag = record { by = flag_done; freq = refl; env = g2.env ∙ g1.env ∙ x.env }
+  gives_flag = record {
+    follows = record {
+      fits = λ place i. x.follows.fits place (fits0 0 [] place i);
+      limit = λ place i op seen. limit_flag op seen place i;
+      by = λ h place i op seen. came_flag op seen place i h;
+    };
+    once = record {
+      by = λ n.
+          let a = x.once.by n in
+          let b = g1.once.by n in
+          let d = g2.once.by n in
+          let e1 = given_more v.labels n in
+          let e2 = given_more (suc v.labels) n in
+          let e3 = given_more u2.labels n in
+          let t1 = times_bound u v.labels n in
+          let t2 = times_bound u4 (suc v.labels) n in
+          let t3 = times_bound u8 u2.labels n in
+          omega (arith, a, b, d, e1, e2, e3, t1, t2, t3);
+    };
+    freq = refl;
+    known = g2.known ∙ g1.known ∙ x.known;
+  }

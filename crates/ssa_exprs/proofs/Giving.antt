@@ -1,10 +1,12 @@
--- How parts of an expression are put together, as the definitions put them together.
-use Rattle.std.proofs.Common.{◌≡◌, ℕ, Ok, Err, IfOk, Result, List, [], ◌∷◌, ◌++◌, Some, None, refl, sym, ap, ap₂, ◌∙◌, subst, arith, append_assoc, slice_get}
+-- How parts are put together, as the definitions put them together.
+use Rattle.std.proofs.Common.{◌≡◌, ℕ, zero, suc, ◌+◌, ◌<◌, ◌≤◌, nat_le, Ok, Err, IfOk, Result, List, [], ◌∷◌, ◌++◌, Option, Some, None, Bool, true, false, refl, sym, ap, ap₂, ◌∙◌, subst, arith, append_assoc, slice_get, if◌then◌else◌, option_to_list}
 use Rattle.block_runs.specs.declared.code.Code.TheVariants.{Const}
-use Rattle.ssa_lowered.specs.Pieces.{Made, Low, give, ◌>>=◌, emits, fetched, variable}
+use Rattle.ssa_lowered.specs.Pieces.{Made, Low, give, ◌>>=◌, emits, does, fetched, variable, Appends, Closes}
 use Rattle.ssa_lowered.specs.Pieces.{Piece as Placed}
+use Rattle.ssa_lowered.specs.Limits.{passed, too_many}
 use Rattle.ssa_exprs.specs.declared.fault.LowerFault.{LowerFault}
-use Rattle.ssa_exprs.specs.Making.{View, bare, all_bare, resolved, Makes, cursor_at, Done, Gives}
+use Rattle.ssa_exprs.specs.declared.making.Piece.{Piece}
+use Rattle.ssa_exprs.specs.Making.{View, bare, all_bare, resolve, resolved, Fits, later, cursor_at, Came, Follows, Once, Gives}
 
 pub bare_on : (xs ys : List Placed) → all_bare (xs ++ ys) ≡ all_bare xs ++ all_bare ys
 bare_on [] ys = refl
@@ -14,47 +16,114 @@ pub append_nil : {X : Type 0} (xs : List X) → xs ++ [] ≡ xs
 append_nil [] = refl
 append_nil (x ∷ xs) = ap (λ ys. x ∷ ys) (append_nil xs)
 
--- nothing was made
-pub makes_none : (v : View) → Makes v v (λ _. [])
-makes_none v = record { fits = λ place f. f; once = λ t. omega arith; adds = λ place f. sym (append_nil (resolved place v.made)) }
+pub resolved_on : (place : ℕ → ℕ) (xs ys : List Piece) → resolved place (xs ++ ys) ≡ resolved place xs ++ resolved place ys
+resolved_on place [] ys = refl
+resolved_on place (x ∷ xs) ys = ap (λ l. resolve place x ∷ l) (resolved_on place xs ys)
 
--- one thing after the other
-pub makes_on : {u v w : View} {xs ys : (ℕ → ℕ) → List Placed} → Makes u v xs → Makes v w ys → Makes u w (λ place. xs place ++ ys place)
-makes_on {u} {v} {w} {xs} {ys} x y = record {
-  fits = λ place f. x.fits place (y.fits place f);
-  once = λ t. let a = x.once t in let b = y.once t in omega (arith, a, b);
-  adds = λ place f.
-      y.adds place f
-      ∙ ap (λ l. l ++ all_bare (ys place)) (x.adds place (y.fits place f))
-      ∙ append_assoc (resolved place u.made) (all_bare (xs place)) (all_bare (ys place))
-      ∙ ap (λ l. resolved place u.made ++ l) (sym (bare_on (xs place) (ys place)));
-}
+---- Limits
+
+pub later_none : (o : Option ℕ) → later o None ≡ o
+later_none None = refl
+later_none (Some n) = refl
+
+pub later_first : (a b : Option ℕ) → later a b ≡ None → a ≡ None
+later_first None b e = refl
+later_first (Some n) b e = absurd (cc)
+
+later_if : (b : Bool) (n : ℕ) (p q r : Option ℕ) → p ≡ later q r → (if b then Some n else p) ≡ later (if b then Some n else q) r
+later_if true n p q r e = refl
+later_if false n p q r e = e
+
+pub passed_on : (xs ys : List Placed) → passed (xs ++ ys) ≡ later (passed xs) (passed ys)
+passed_on [] ys = refl
+passed_on (Appends b i op ∷ xs) ys = later_if (too_many (option_to_list op.def)) 50 _ _ _ (passed_on xs ys)
+passed_on (Closes b i end s ∷ xs) ys = later_if (nat_le 4000 (suc b)) 51 _ _ _ (later_if (too_many s.params) 50 _ _ _ (passed_on xs ys))
+
+pub limit_on : {b c q : Option ℕ} (a p r : Option ℕ) → b ≡ later a p → c ≡ later b q → (b ≡ None → r ≡ q) → c ≡ later a (later p r)
+limit_on {q = q} (Some n) p r x y h = y ∙ ap (λ o. later o q) x
+limit_on {q = q} None (Some n) r x y h = y ∙ ap (λ o. later o q) x
+limit_on {q = q} None None r x y h = y ∙ ap (λ o. later o q) x ∙ sym (h x)
+
+---- Parts
 
 -- what is made at one cursor is made at an equal one
-pub done_as : {A : Type 0} {v w : View} {m n : Made A} {r : A} → n ≡ m → Done v w m r → Done v w n r
-done_as {v = v} {w = w} {r = r} e d = subst (λ x. Done v w x r) (sym e) d
+pub came_as : {A : Type 0} {v w : View} {place : ℕ → ℕ} {m n : Made A} {r : A} → n ≡ m → Came v w place m r → Came v w place n r
+came_as {v = v} {w = w} {place = place} {r = r} e d = subst (λ x. Came v w place x r) (sym e) d
+
+pub came_on : {A B : Type 0} {u v w : View} {place : ℕ → ℕ} {k : Made A} {l : Made B} {a : A} {b : B} → Came u v place k a → Came v w place l b → Came u w place (record { pieces = k.pieces ++ l.pieces; result = l.result; after = l.after }) b
+came_on {u = u} {place = place} {k = k} {l = l} x y = record {
+  adds =
+      y.adds
+      ∙ ap (λ z. z ++ all_bare l.pieces) x.adds
+      ∙ append_assoc (resolved place u.made) (all_bare k.pieces) (all_bare l.pieces)
+      ∙ ap (λ z. resolved place u.made ++ z) (sym (bare_on k.pieces l.pieces));
+  after = y.after;
+  result = y.result;
+}
+
+-- nothing was made
+pub follows_give : {A : Type 0} (v : View) (a : (ℕ → ℕ) → A) → Follows v v (λ place. give (a place)) a
+follows_give v a = record {
+  fits = λ place f. f;
+  limit = λ place f op seen. sym (later_none v.over);
+  by = λ e place f op seen. record { adds = sym (append_nil (resolved place v.made)); after = refl; result = refl };
+}
+
+-- where a limit is passed, nothing is made any more
+pub follows_over : {A : Type 0} (v : View) (n : ℕ) (m : (ℕ → ℕ) → Low A) (r : (ℕ → ℕ) → A) → v.over ≡ Some n → Follows v v m r
+follows_over v n m r e = record {
+  fits = λ place f. f;
+  limit = λ place f op seen. e ∙ ap (λ o. later o (passed (m place (cursor_at v op seen)).pieces)) (sym e);
+  by = λ h place f op seen. absurd (cc);
+}
+
+pub follows_bind : {A B : Type 0} {u v w : View} {m : (ℕ → ℕ) → Low A} {a : (ℕ → ℕ) → A} {b : (ℕ → ℕ) → B} (f : (ℕ → ℕ) → A → Low B) → Follows u v m a → Follows v w (λ place. f place (a place)) b → Follows u w (λ place. m place >>= f place) b
+follows_bind {A = A} {B = B} {u = u} {v = v} {w = w} {m = m} {a = a} {b = b} f x y =
+    let same : v.over ≡ None → (place : ℕ → ℕ) → Fits place w.bounds → (op : ℕ) (seen : List ℕ) → f place (m place (cursor_at u op seen)).result (m place (cursor_at u op seen)).after ≡ f place (a place) (cursor_at v (m place (cursor_at u op seen)).after.op (m place (cursor_at u op seen)).after.seen) =
+        λ e place h op seen. let one = x.by e place (y.fits place h) op seen in ap₂ (λ r z. f place r z) one.result one.after in
+    record {
+      fits = λ place h. x.fits place (y.fits place h);
+      limit = λ place h op seen.
+          let k = m place (cursor_at u op seen) in
+          limit_on u.over (passed k.pieces) (passed (f place k.result k.after).pieces) (x.limit place (y.fits place h) op seen) (y.limit place h k.after.op k.after.seen) (λ e. ap (λ (z : Made B). passed z.pieces) (same e place h op seen))
+          ∙ ap (λ o. later u.over o) (sym (passed_on k.pieces (f place k.result k.after).pieces));
+      by = λ e place h op seen.
+          let k = m place (cursor_at u op seen) in
+          let before : v.over ≡ None = later_first v.over _ (sym (y.limit place h k.after.op k.after.seen) ∙ e) in
+          came_on (x.by before place (y.fits place h) op seen) (came_as (same before place h op seen) (y.by e place h k.after.op k.after.seen));
+    }
+
+-- by another definition of the same
+pub follows_as : {A : Type 0} {v w : View} {m n : (ℕ → ℕ) → Low A} {r : (ℕ → ℕ) → A} → ((place : ℕ → ℕ) (op : ℕ) (seen : List ℕ) → n place (cursor_at v op seen) ≡ m place (cursor_at v op seen)) → Follows v w m r → Follows v w n r
+follows_as {A = A} {v = v} e x = record {
+  fits = x.fits;
+  limit = λ place f op seen. x.limit place f op seen ∙ ap (λ (k : Made A). later v.over (passed k.pieces)) (sym (e place op seen));
+  by = λ h place f op seen. came_as (e place op seen) (x.by h place f op seen);
+}
+
+pub once_none : (v : View) → Once v v
+once_none v = record { by = λ t. omega arith }
+
+pub once_on : {u v w : View} → Once u v → Once v w → Once u w
+once_on x y = record { by = λ t. let a = x.by t in let b = y.by t in omega (arith, a, b) }
 
 pub gives_give : {A : Type 0} (v : View) (a : A) → Gives v v (give a) a
-gives_give v a = record { by = λ op seen. record { makes = makes_none v; after = refl; result = refl }; freq = refl; env = refl }
+gives_give v a = record { follows = follows_give v (λ _. a); once = once_none v; freq = refl; known = refl }
 
 pub gives_bind : {A B : Type 0} {u v w : View} {m : Low A} {a : A} {b : B} (f : A → Low B) → Gives u v m a → Gives v w (f a) b → Gives u w (m >>= f) b
-gives_bind {u = u} {v = v} {w = w} {m = m} {a = a} {b = b} f x y = record {
-  by = λ op seen.
-      let c = cursor_at u op seen in
-      let one = x.by op seen in
-      let k = m c in
-      let o = k.after.op in
-      let s = k.after.seen in
-      let same : f k.result k.after ≡ f a (cursor_at v o s) = ap₂ (λ r z. f r z) one.result one.after in
-      let two : Done v w (f k.result k.after) b = done_as same (y.by o s) in
-      record { makes = makes_on one.makes two.makes; after = two.after; result = two.result };
+gives_bind f x y = record {
+  follows = follows_bind (λ _. f) x.follows y.follows;
+  once = once_on x.once y.once;
   freq = y.freq ∙ x.freq;
-  env = y.env ∙ x.env;
+  known = y.known ∙ x.known;
 }
 
 -- by another definition of the same
 pub gives_as : {A : Type 0} {v w : View} {m n : Low A} {r : A} → n ≡ m → Gives v w m r → Gives v w n r
 gives_as {v = v} {w = w} {r = r} e g = subst (λ x. Gives v w x r) (sym e) g
+
+pub gives_at : {A : Type 0} {v w : View} {m n : Low A} {r : A} → ((op : ℕ) (seen : List ℕ) → n (cursor_at v op seen) ≡ m (cursor_at v op seen)) → Gives v w m r → Gives v w n r
+gives_at e g = record { follows = follows_as (λ place op seen. e op seen) g.follows; once = g.once; freq = g.freq; known = g.known }
 
 -- where the last part answers for the whole
 pub gives_last : {A B : Type 0} {u v : View} {m : Low A} {a : A} (w : View) (r : Result B LowerFault) (f : A → Low B) → Gives u v m a → IfOk r (λ b. Gives v w (f a) b) → IfOk r (λ b. Gives u w (m >>= f) b)
@@ -66,17 +135,9 @@ gives_last_as v w (Ok b) e g = gives_as e g
 gives_last_as v w (Err x) e g = tt
 
 -- a register variable that is there, and one that isn't
-pub gives_variable : (v : View) (x u : ℕ) → slice_get v.env x ≡ Some u → Gives v v (variable x) u
-gives_variable v x u is = record {
-  by = λ op seen. done_as (ap (λ o. fetched o (cursor_at v op seen)) is) ((gives_give v u).by op seen);
-  freq = refl;
-  env = refl;
-}
+pub gives_variable : (v : View) (x u : ℕ) → slice_get v.known.env x ≡ Some u → Gives v v (variable x) u
+gives_variable v x u is = gives_at (λ op seen. ap (λ o. fetched o (cursor_at v op seen)) is) (gives_give v u)
 
-pub gives_no_variable : (v w : View) (x : ℕ) (r : Result ℕ LowerFault) → slice_get v.env x ≡ None → IfOk r (λ u. Gives v w (emits (Const 0) []) u) → IfOk r (λ u. Gives v w (variable x) u)
-gives_no_variable v w x (Ok u) is g = record {
-  by = λ op seen. done_as (ap (λ o. fetched o (cursor_at v op seen)) is) (g.by op seen);
-  freq = g.freq;
-  env = g.env;
-}
+pub gives_no_variable : (v w : View) (x : ℕ) (r : Result ℕ LowerFault) → slice_get v.known.env x ≡ None → IfOk r (λ u. Gives v w (emits (Const 0) []) u) → IfOk r (λ u. Gives v w (variable x) u)
+gives_no_variable v w x (Ok u) is g = gives_at (λ op seen. ap (λ o. fetched o (cursor_at v op seen)) is) g
 gives_no_variable v w x (Err e) is g = tt

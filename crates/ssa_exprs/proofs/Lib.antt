@@ -1,3 +1,5 @@
+pub mod Changes
+pub mod Numbered
 pub mod Giving
 pub mod Parts
 pub mod Forks

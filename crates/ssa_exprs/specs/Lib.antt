@@ -1,3 +1,4 @@
+pub mod Changes
 pub mod Making
 pub mod Named
 pub mod Tables

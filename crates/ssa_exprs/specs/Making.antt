@@ -1,24 +1,32 @@
 -- What code that is made is, by the definitions of lowering.
-use Rattle.std.specs.Prelude.{◌≡◌, ℕ, zero, suc, ◌+◌, ◌≤◌, List, [], ◌∷◌, ◌++◌, map, Option}
+use Rattle.std.specs.Prelude.{◌≡◌, ℕ, zero, suc, ◌+◌, ◌≤◌, nat_le, List, [], ◌∷◌, ◌++◌, map, Option, Some, None, if◌then◌else◌}
 use Rattle.block_runs.specs.declared.end.End.{End}
 use Rattle.block_runs.specs.declared.end.End.TheVariants.{Jump, Branch, Nonzero, Return, Trap}
-use Rattle.ssa_lowered.specs.Pieces.{Cursor, Made, Low, Appends, Closes}
+use Rattle.ssa_lowered.specs.Pieces.{Cursor, Made, Low, Appends, Closes, numbers}
 use Rattle.ssa_lowered.specs.Pieces.{Piece as Placed}
-use Rattle.ssa_lowered.specs.Control.{Fork, Test}
+use Rattle.ssa_lowered.specs.Control.{Test}
+use Rattle.ssa_lowered.specs.Limits.{passed, too_many}
 use Rattle.ssa_exprs.specs.declared.making.Piece.{Piece}
 use Rattle.ssa_exprs.specs.declared.making.Piece.TheVariants.{Adds, Ends}
 use Rattle.ssa_exprs.specs.declared.making.Bound.{Bound}
+use Rattle.ssa_exprs.specs.declared.making.Undo.{Undo}
 
--- the code made so far; the open block, how often it runs, how many values there are, the value of each variable; how many labels are given out,
--- and the blocks of those that have one
+-- the value of each variable, and what the variables that were assigned had before
+pub record Known : Type 0 where
+  pub env : List ℕ
+  pub log : List Undo
+
+-- the code made so far; the open block, how often it runs, how many values there are, what is known of the variables; how many labels are given
+-- out, and the blocks of those that have one; the limit that is passed: then no more code is made
 pub record View : Type 0 where
   pub made : List Piece
   pub block : ℕ
   pub freq : ℕ
   pub values : ℕ
-  pub env : List ℕ
+  pub known : Known
   pub labels : ℕ
   pub bounds : List Bound
+  pub over : Option ℕ
 
 -- a piece without its place
 abbrev pub bare : Placed → Piece
@@ -65,27 +73,37 @@ abbrev pub times : List Bound → ℕ → ℕ
 times [] t = 0
 times (x ∷ xs) t = same x.label t + times xs t
 
--- from one moment to a later one these pieces were made; a label that gets a block in between was given out in between
-pub record Makes (v w : View) (pieces : (ℕ → ℕ) → List Placed) : Type 0 where
-  pub fits : (place : ℕ → ℕ) → Fits place w.bounds → Fits place v.bounds
-  pub once : (t : ℕ) → times w.bounds t + given v.labels t ≤ times v.bounds t + given w.labels t
-  pub adds : (place : ℕ → ℕ) → Fits place w.bounds → resolved place w.made ≡ resolved place v.made ++ all_bare (pieces place)
+-- the limit that is passed first
+abbrev pub later : Option ℕ → Option ℕ → Option ℕ
+later None b = b
+later (Some a) b = Some a
 
 -- where lowering stands
 abbrev pub cursor_at : View → ℕ → List ℕ → Cursor
-cursor_at v op seen = record { block = v.block; op = op; freq = v.freq; values = v.values; env = v.env; seen = seen }
+cursor_at v op seen = record { block = v.block; op = op; freq = v.freq; values = v.values; env = v.known.env; seen = seen }
 
--- that was done
-pub record Done {A : Type 0} (v w : View) (m : Made A) (r : A) : Type 0 where
-  pub makes : Makes v w (λ _. m.pieces)
-  pub after : m.after ≡ cursor_at w m.after.op m.after.seen
-  pub result : m.result ≡ r
+-- from one moment to a later one, where labels have these blocks, that was made, and gave this result
+pub record Came {A : Type 0} (v w : View) (place : ℕ → ℕ) (k : Made A) (r : A) : Type 0 where
+  pub adds : resolved place w.made ≡ resolved place v.made ++ all_bare k.pieces
+  pub after : k.after ≡ cursor_at w k.after.op k.after.seen
+  pub result : k.result ≡ r
+
+-- a part that depends on the blocks of labels was lowered: no limit is passed and it was made, or the first limit that it passes is known
+pub record Follows {A : Type 0} (v w : View) (m : (ℕ → ℕ) → Low A) (r : (ℕ → ℕ) → A) : Type 0 where
+  pub fits : (place : ℕ → ℕ) → Fits place w.bounds → Fits place v.bounds
+  pub limit : (place : ℕ → ℕ) → Fits place w.bounds → (op : ℕ) (seen : List ℕ) → w.over ≡ later v.over (passed (m place (cursor_at v op seen)).pieces)
+  pub by : w.over ≡ None → (place : ℕ → ℕ) → Fits place w.bounds → (op : ℕ) (seen : List ℕ) → Came v w place (m place (cursor_at v op seen)) (r place)
+
+-- a label that gets a block in between was given out in between
+pub record Once (v w : View) : Type 0 where
+  pub by : (t : ℕ) → times w.bounds t + given v.labels t ≤ times v.bounds t + given w.labels t
 
 -- a part of an expression was lowered, and gave this result
 pub record Gives {A : Type 0} (v w : View) (m : Low A) (r : A) : Type 0 where
-  pub by : (op : ℕ) (seen : List ℕ) → Done v w (m (cursor_at v op seen)) r
+  pub follows : Follows v w (λ _. m) (λ _. r)
+  pub once : Once v w
   pub freq : w.freq ≡ v.freq
-  pub env : w.env ≡ v.env
+  pub known : w.known ≡ v.known
 
 -- a label is given out, and it gets the open block
 abbrev pub asked : View → View
@@ -94,24 +112,46 @@ asked v = record v { labels = suc v.labels }
 abbrev pub bound : View → ℕ → View
 bound v t = record v { bounds = v.bounds ++ record { label = t; block = v.block } ∷ [] }
 
--- the open block ends, and the next begins
-abbrev pub closed : View → End → List ℕ → ℕ → Option ℕ → View
-closed v end params freq enter = record v { made = v.made ++ Ends end params freq enter ∷ []; block = suc v.block; freq = freq }
+-- the limit that is passed where a block ends, and the next one begins with these parameters
+abbrev pub begins : ℕ → List ℕ → Option ℕ
+begins b params = if nat_le 4000 (suc b) then Some 51 else if too_many params then Some 50 else None
 
--- a test was made, which leads to two labels; the block behind it runs so often
-pub record Forked (v w : View) (k : Fork) (yes_to no_to next : ℕ) : Type 0 where
-  pub makes : Makes v w (λ place. k.pieces (place yes_to) (place no_to) next)
-  pub after : k.after ≡ record (cursor_at w k.after.op k.after.seen) { freq = v.freq }
+abbrev pub begun : View → ℕ → Option ℕ
+begun v count = later v.over (begins v.block (numbers v.values count))
 
--- a condition was lowered
+-- one thing where no limit is passed, else another
+abbrev pub within : {A : Type 0} → Option ℕ → A → A → A
+within None a b = a
+within (Some n) a b = b
+
+-- the open block ends, and the next begins, with so many values as parameters
+abbrev pub closed : View → End → ℕ → ℕ → Option ℕ → View
+closed v end count freq enter = record v {
+  made = within (begun v count) (v.made ++ Ends end (numbers v.values count) freq enter ∷ []) v.made;
+  block = within (begun v count) (suc v.block) v.block;
+  freq = freq;
+  values = within (begun v count) (v.values + count) v.values;
+  over = begun v count;
+}
+
+-- the code of a condition, once it has its targets
+abbrev pub as_part : Test → (yes_to no_to freq : ℕ) → Low (Unit {0})
+as_part t yes_to no_to freq c =
+    let k = t c in
+    record { pieces = k.pieces yes_to no_to freq; result = tt; after = record k.after { freq = freq } }
+
+-- which limit the code of a condition passes doesn't depend on where it leads to
+pub record Blind (t : Test) : Type 0 where
+  pub by : (c : Cursor) (a b q d e s : ℕ) → passed ((t c).pieces a b q) ≡ passed ((t c).pieces d e s)
+
+-- a condition was lowered: it leads to two labels, and the block behind it runs so often
 pub record Tests (v w : View) (t : Test) (yes_to no_to next : ℕ) : Type 0 where
-  pub by : (op : ℕ) (seen : List ℕ) → Forked v w (t (cursor_at v op seen)) yes_to no_to next
+  pub follows : Follows v w (λ place. as_part t (place yes_to) (place no_to) next) (λ _. tt)
+  pub once : Once v w
+  pub blind : Blind t
+  pub same : w.over ≡ None → (place : ℕ → ℕ) → Fits place w.bounds → (op : ℕ) (seen : List ℕ) → (t (cursor_at v op seen)).after.freq ≡ v.freq
   pub freq : w.freq ≡ next
-  pub env : w.env ≡ v.env
-
--- a value was counted
-abbrev pub counted : View → View
-counted v = record v { values = suc v.values }
+  pub known : w.known ≡ v.known
 
 -- words were made, and added to those that there were
 abbrev pub Passed : View → View → Low (List ℕ) → List ℕ → List ℕ → Type 0

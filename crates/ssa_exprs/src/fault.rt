@@ -8,7 +8,7 @@ use std::alloc::{AllocError, AllocFailed};
 pub enum LowerFault {
     /// A limit is passed: its number, and the procedure's where it is one of a procedure.
     Limit { number: u8, index: u32 },
-    /// There isn't enough memory, or a procedure has more than 2^32 values, blocks or labels.
+    /// There isn't enough memory, or a procedure has more than 2^32 labels.
     Memory,
 }
 

@@ -14,6 +14,6 @@ mod walk;
 
 pub use fault::LowerFault;
 pub use lowering::{Lowering, lower_cond, lower_value};
-pub use making::{Bound, Making, Piece};
+pub use making::{Bound, Making, Piece, Undo};
 pub use named::Named;
 pub use tables::Tables;

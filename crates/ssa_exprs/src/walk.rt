@@ -563,10 +563,9 @@ fn is_plain(e: &Expr) -> bool
 
 /// The open block ends with a test of a value.
 fn fork(b: &mut Making, a: u32, yes: u32, no: u32, next: u64) -> Result<(), LowerFault>
-    ensures { OnOk result (b.new ≡ closed b.old (Nonzero a yes no) [] next None) }
+    ensures { OnOk result (b.new ≡ closed b.old (Nonzero a yes no) 0 next None) }
 {
-    let none = b.none();
-    b.close(End::Nonzero { a, yes, no }, none, next, None)?;
+    b.close(End::Nonzero { a, yes, no }, 0, next, None)?;
     Ok(())
 }
 
@@ -580,9 +579,8 @@ fn branch(
     no: u32,
     next: u64,
 ) -> Result<(), LowerFault>
-    ensures { OnOk result (b.new ≡ closed b.old (Branch cond x y yes no) [] next None) }
+    ensures { OnOk result (b.new ≡ closed b.old (Branch cond x y yes no) 0 next None) }
 {
-    let none = b.none();
     b.close(
         End::Branch {
             cond,
@@ -591,7 +589,7 @@ fn branch(
             yes,
             no,
         },
-        none,
+        0,
         next,
         None,
     )?;
@@ -613,27 +611,25 @@ fn flagged(b: &mut Making, yes: u32, no: u32, freq: u64) -> Result<u32, LowerFau
     let one = b.emit(Code::Const(1), &[])?;
     let out = b.label()?;
     let given = b.one(one)?;
-    let none = b.none();
     b.close(
         End::Jump {
             to: out,
             args: given,
         },
-        none,
+        0,
         half(freq),
         None,
     )?;
     b.bind(no)?;
     let zero = b.emit(Code::Const(0), &[])?;
-    let v = b.value()?;
+    let v = b.values();
     let given = b.one(zero)?;
-    let params = b.one(v)?;
     b.close(
         End::Jump {
             to: out,
             args: given,
         },
-        params,
+        1,
         freq,
         None,
     )?;

@@ -285,7 +285,7 @@ cond-returns-in_ok-branch-in-Compare t c = λ p here s.
     let x = gives_as (ap (λ e. (expr_in p here e).value) (sym c.deref-in-Compare.ensures)) (c.in_ok-a-in-Compare.ensures p here s) in
     let y = gives_as (ap (λ e. (expr_in p here e).value) (sym c.deref-in-Compare-2.ensures)) (c.in_ok-c-in-Compare.ensures p here s) in
     tests_as (ap (λ e. (expr_in p here e).test) c.in-Compare.is)
-    (tests_to (c.in_ok-branch-in-Compare.ensures ∙ ap (λ k. closed c.value-in-Compare-2.new.b (Branch k c.in_ok-a-in-Compare.a c.in_ok-c-in-Compare.c c.args.yes c.args.no) [] c.args.next None) c.condition.ensures)
+    (tests_to (c.in_ok-branch-in-Compare.ensures ∙ ap (λ k. closed c.value-in-Compare-2.new.b (Branch k c.in_ok-a-in-Compare.a c.in_ok-c-in-Compare.c c.args.yes c.args.no) 0 c.args.next None) c.condition.ensures)
     (tests_branch (condition c.in-Compare.r) c.args.yes c.args.no c.args.next x y))
 
 pub value-returns-in_ok-v-in-Chain : goal.value-returns-in_ok-v-in-Chain
