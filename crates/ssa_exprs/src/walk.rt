@@ -25,7 +25,7 @@ use block_runs::{Code, End};
 use ob_types::{Argument, Base, Call, Designator, Expr, Link, Selector, TypeKind, Unary};
 
 /// The type that a designator has.
-fn kind_in(d: &Designator) -> TypeKind
+pub fn kind_in(d: &Designator) -> TypeKind
     ensures { result ≡ kind_in d.now }
 {
     match d {
@@ -35,7 +35,7 @@ fn kind_in(d: &Designator) -> TypeKind
 }
 
 /// The length of an array or a string, where the type has one.
-fn length_of_kind(kind: TypeKind) -> Option<u64>
+pub fn length_of_kind(kind: TypeKind) -> Option<u64>
     ensures is { result ≡ length_of_kind kind }
     ensures few { IfSome result (λ n. n ≤ 4294967296) }
 {
@@ -109,7 +109,7 @@ fn base(t: &Tables, b: &mut Making, at: Base) -> Result<Named, LowerFault>
 
 /// The value of a scalar variable that a designator names.
 #[cycle(walk)]
-fn load(t: &Tables, b: &mut Making, d: &Designator) -> Result<u32, LowerFault>
+pub fn load(t: &Tables, b: &mut Making, d: &Designator) -> Result<u32, LowerFault>
     ensures { IfOk result (λ v. (p : Program) (here : Here) → Serves t.now p here → Gives b.old b.new (load_in p here d.now) v) }
 {
     let h = named(t, b, d)?;
@@ -119,7 +119,7 @@ fn load(t: &Tables, b: &mut Making, d: &Designator) -> Result<u32, LowerFault>
 
 /// What a designator names.
 #[cycle(walk)]
-fn named(t: &Tables, b: &mut Making, d: &Designator) -> Result<Named, LowerFault>
+pub fn named(t: &Tables, b: &mut Making, d: &Designator) -> Result<Named, LowerFault>
     ensures { IfOk result (λ h. (p : Program) (here : Here) → Serves t.now p here → Gives b.old b.new (named_in p here d.now) (named_of h)) }
 {
     match d {
@@ -288,7 +288,7 @@ fn guard_all(t: &Tables, b: &mut Making, types: &[u32], p: u32) -> Result<(), Lo
 }
 
 /// A length of 32 bits.
-fn known(length: Option<u32>) -> Option<u64>
+pub fn known(length: Option<u32>) -> Option<u64>
     ensures { result ≡ length }
 {
     match length {
@@ -299,14 +299,14 @@ fn known(length: Option<u32>) -> Option<u64>
 
 /// A call that is ready to be made: its operation, and the values that it reads.
 #[derive(Drop)]
-struct Request {
-    code: Code,
-    words: Vec<u32>,
+pub struct Request {
+    pub code: Code,
+    pub words: Vec<u32>,
 }
 
 /// A call, its arguments evaluated.
 #[cycle(walk)]
-fn prepared(t: &Tables, b: &mut Making, c: &Call) -> Result<Request, LowerFault>
+pub fn prepared(t: &Tables, b: &mut Making, c: &Call) -> Result<Request, LowerFault>
     ensures { IfOk result (λ r. (p : Program) (here : Here) → Serves t.now p here → Gives b.old b.new (called_in p here c.now) (record { code = r.code; words = r.words.items })) }
 {
     match c {
@@ -387,7 +387,7 @@ fn argument(
 }
 
 /// The record type of a record, or of a pointer's objects.
-fn record_of_kind(kind: TypeKind) -> u32
+pub fn record_of_kind(kind: TypeKind) -> u32
     ensures { result ≡ record_of_kind kind }
 {
     match kind {
@@ -597,7 +597,7 @@ fn branch(
 }
 
 /// Half of a frequency, and at least 1.
-fn half(freq: u64) -> u64
+pub fn half(freq: u64) -> u64
     ensures { result ≡ half freq }
 {
     if freq < 2 { 1 } else { freq / 2 }
