@@ -34,6 +34,9 @@ level_in t r = slice_index_or t.levels r 0
 abbrev pub size_in : Tables → ℕ → ℕ
 size_in t k = slice_index_or t.sizes k 8
 
+abbrev pub record_in : Tables → ℕ → ℕ
+record_in t r = slice_index_or t.records r 0
+
 abbrev pub offset_in : Tables → ℕ → ℕ → ℕ
 offset_in t r field = of_row t.offsets r field 0
 
@@ -78,6 +81,7 @@ pub record Serves (t : Tables) (p : Program) (here : Here) : Type 0 where
   pub descriptor : (r : ℕ) → descriptor_in t r ≡ descriptor p (in_cells p.types) here r
   pub level : (r : ℕ) → level_in t r ≡ level p (in_cells p.types) here r
   pub size : (k : ℕ) → size_in t k ≡ (in_cells p.types).bytes k
+  pub whole : (r : ℕ) → record_in t r ≡ (in_cells p.types).record_bytes r
   pub offset : (r field : ℕ) → offset_in t r field ≡ (in_cells p.types).offset r field
   pub short : (r field : ℕ) → 8 + offset_in t r field < 4294967296
   pub text : (k : ℕ) → text_in t k ≡ within (text_at p (in_cells p.types) (text_number p here.number k))

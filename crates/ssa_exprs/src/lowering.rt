@@ -53,6 +53,7 @@ mod tests {
             levels: Items::new(alloc),
             offsets: Items::new(alloc),
             sizes: Items::new(alloc),
+            records: Items::new(alloc),
             texts: Items::new(alloc),
             first_text: 0,
             parameters: Items::new(alloc),

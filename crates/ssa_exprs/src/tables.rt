@@ -1,7 +1,7 @@
 //! Where data stands, for the program and the procedure that are lowered.
 
-ghost use Rattle.std.specs.Prelude.{◌≡◌, ℕ, ◌+◌, ◌*◌, ◌<◌, ◌^◌, min, Option, Some, None};
-ghost use Rattle.ssa_exprs.specs.Tables.{clamped, of_row, global_in, descriptor_in, level_in, size_in, offset_in, text_in};
+ghost use Rattle.std.specs.Prelude.{◌≡◌, ℕ, ◌+◌, ◌*◌, ◌<◌, ◌^◌, min, is_none, Option, Some, None};
+ghost use Rattle.ssa_exprs.specs.Tables.{clamped, of_row, global_in, descriptor_in, level_in, size_in, offset_in, text_in, record_in, local_in};
 
 use crate::named::Named;
 use items::Items;
@@ -20,6 +20,8 @@ pub struct Tables {
     pub offsets: Items<Items<u32>>,
     /// The size of each type.
     pub sizes: Items<u32>,
+    /// The size of each record type.
+    pub records: Items<u32>,
     /// The addresses of all strings, and which is the procedure's first.
     pub texts: Items<u32>,
     pub first_text: u32,
@@ -95,6 +97,30 @@ impl Tables {
             sizes[k as usize]
         } else {
             8
+        }
+    }
+
+    /// The size of a record type.
+    pub fn record(&self, r: u32) -> u32
+        ensures { result ≡ record_in self.now r }
+    {
+        let records = self.records.as_slice();
+        if (r as usize) < records.len() {
+            records[r as usize]
+        } else {
+            0
+        }
+    }
+
+    /// Whether a local variable is in a register.
+    pub fn in_register(&self, x: u32) -> bool
+        ensures { result ≡ is_none (local_in self.now x) }
+    {
+        let locals = self.locals.as_slice();
+        if (x as usize) < locals.len() {
+            locals[x as usize].is_none()
+        } else {
+            true
         }
     }
 
