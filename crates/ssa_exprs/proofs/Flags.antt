@@ -155,7 +155,7 @@ module _ {v u u2 u6 : View} {t : Test} {r1 r2 : ℕ}
             let a3 : Adding u2 u4 place (close one.after (Jump (place u2.labels) (r1 ∷ [])) (plain q s) ∷ []) = record { is = (adding_closed (asked u2) end1 0 q None place (Jump (place u2.labels) (r1 ∷ [])) one.after s over4 refl).is } in
             let a4 : Adding u4 u6 place zero_made.pieces = record { is = zero_came.adds } in
             let a5 : Adding u6 w place (close zero_made.after (Jump (place u2.labels) (r2 ∷ [])) (record { params = u6.values ∷ []; freq = v.freq; enter = None; seen = s }) ∷ []) =
-                record { is = (adding_closed u6 end2 1 v.freq None place (Jump (place u2.labels) (r2 ∷ [])) zero_made.after s h refl).is } in
+            record { is = (adding_closed u6 end2 1 v.freq None place (Jump (place u2.labels) (r2 ∷ [])) zero_made.after s h refl).is } in
             adding_on a1 (adding_on a2 (adding_on a3 (adding_on a4 a5)))
 
         block_yes : place v.labels ≡ yes_at.block

@@ -80,7 +80,7 @@ follows_over v n m r e = record {
 pub follows_bind : {A B : Type 0} {u v w : View} {m : (ℕ → ℕ) → Low A} {a : (ℕ → ℕ) → A} {b : (ℕ → ℕ) → B} (f : (ℕ → ℕ) → A → Low B) → Follows u v m a → Follows v w (λ place. f place (a place)) b → Follows u w (λ place. m place >>= f place) b
 follows_bind {A = A} {B = B} {u = u} {v = v} {w = w} {m = m} {a = a} {b = b} f x y =
     let same : v.over ≡ None → (place : ℕ → ℕ) → Fits place w.bounds → (op : ℕ) (seen : List ℕ) → f place (m place (cursor_at u op seen)).result (m place (cursor_at u op seen)).after ≡ f place (a place) (cursor_at v (m place (cursor_at u op seen)).after.op (m place (cursor_at u op seen)).after.seen) =
-        λ e place h op seen. let one = x.by e place (y.fits place h) op seen in ap₂ (λ r z. f place r z) one.result one.after in
+    λ e place h op seen. let one = x.by e place (y.fits place h) op seen in ap₂ (λ r z. f place r z) one.result one.after in
     record {
       fits = λ place h. x.fits place (y.fits place h);
       limit = λ place h op seen.

@@ -17,5 +17,7 @@ pub use lowering::{Lowering, lower_cond, lower_value};
 pub use making::{Bound, Making, Piece, Undo};
 pub use named::{Named, address_in, bytes_in, condition, length_in, second, two_operands};
 pub use tables::Tables;
-pub use walk::{Request, cond, half, kind_in, length_of_kind, load, prepared, record_of_kind, value};
-pub use walk::named as designated;
+pub use walk::{
+    Request, cond, half, kind_in, length_of_kind, load, named as designated, prepared,
+    record_of_kind, value,
+};
