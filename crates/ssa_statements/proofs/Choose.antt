@@ -1,5 +1,5 @@
 -- One of two, by a condition, and a join behind them.
-use Rattle.std.proofs.Common.{◌≡◌, ℕ, suc, ◌+◌, List, [], ◌∷◌, ◌++◌, length, Option, Some, None, refl, sym, ap, ap₂, ◌∙◌, arith}
+use Rattle.std.proofs.Common.{◌≡◌, ℕ, suc, List, [], ◌∷◌, ◌++◌, length, None, refl, sym, ap, ap₂, ◌∙◌, arith}
 use Rattle.block_runs.specs.declared.end.End.{End}
 use Rattle.block_runs.specs.declared.end.End.TheVariants.{Jump}
 use Rattle.ssa_lowered.specs.Pieces.{Cursor, Made, close, fresh, plain, Mask, params, beyond, merged, picked, join, join_start, numbers}
@@ -7,7 +7,7 @@ use Rattle.ssa_lowered.specs.Pieces.{Piece as Placed}
 use Rattle.ssa_lowered.specs.Limits.{passed}
 use Rattle.ssa_lowered.specs.Statements.{Deed}
 use Rattle.ssa_lowered.specs.Control.{Fork, Test, choose, half, at_freq}
-use Rattle.ssa_exprs.specs.Making.{View, Known, all_bare, resolved, Fits, later, cursor_at, Came, Follows, Once, asked, bound, begins, closed, as_part, Tests}
+use Rattle.ssa_exprs.specs.Making.{View, Known, all_bare, resolved, Fits, later, cursor_at, Came, asked, bound, begins, closed, as_part, Tests}
 use Rattle.ssa_exprs.specs.Changes.{rewound, Undoes, chosen, values_of, joined}
 use Rattle.ssa_exprs.proofs.Giving.{later_first, passed_on, came_as}
 use Rattle.ssa_exprs.proofs.Flags.{limit_list}
@@ -16,7 +16,7 @@ use Rattle.ssa_exprs.proofs.Changes.{undoes_on, undoes_same, rewound_is, params_
 use Rattle.ssa_statements.specs.Steps.{Steps}
 use Rattle.ssa_statements.proofs.Joining.{picked_later, at_joined, undoes_joined}
 
-module _ {v u u2 u5 : View} {t : Test} {f g : Deed} (mask : Mask) (args1 args2 : List ℕ) where
+module _ (v u u2 u5 : View) (t : Test) (f g : Deed) (mask : Mask) (args1 args2 : List ℕ) where
   abbrev out_to : ℕ
   out_to = suc (suc v.labels)
 
@@ -191,7 +191,7 @@ module _ {v u u2 u5 : View} {t : Test} {f g : Deed} (mask : Mask) (args1 args2 :
               let b3 : Adding u2 u4 place (close one.after (Jump (place out_to) args1) (plain q s) ∷ []) = record { is = (adding_closed u2 end1 0 q None place (Jump (place out_to) args1) one.after s over4 refl).is } in
               let b4 : Adding u4 u5 place two.pieces = record { is = two_came.adds } in
               let b5 : Adding u5 w place (close two.after (Jump (place out_to) args2) (record { params = numbers u5.values (length xs); freq = v.freq; enter = None; seen = s }) ∷ []) =
-                  record { is = (adding_closed u6 end2 (length xs) v.freq None place (Jump (place out_to) args2) two.after s h refl).is } in
+              record { is = (adding_closed u6 end2 (length xs) v.freq None place (Jump (place out_to) args2) two.after s h refl).is } in
               adding_on b1 (adding_on b2 (adding_on b3 (adding_on b4 b5)))
 
           block_yes : place v.labels ≡ k.after.block

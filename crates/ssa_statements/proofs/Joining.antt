@@ -1,15 +1,15 @@
 -- Where lowering stands behind joins, and steps one after the other.
-use Rattle.std.proofs.Common.{◌≡◌, ℕ, zero, suc, ◌+◌, List, [], ◌∷◌, ◌++◌, cond, length, Option, Some, None, refl, sym, ap, ap₂, ◌∙◌, subst, arith}
+use Rattle.std.proofs.Common.{◌≡◌, ℕ, zero, suc, List, [], ◌∷◌, cond, length, Option, Some, None, refl, sym, ap, ◌∙◌, subst, arith}
 use Rattle.std.specs.Prelude.{slice_set}
 use Rattle.block_runs.specs.declared.end.End.{End}
-use Rattle.ssa_lowered.specs.Pieces.{Cursor, Made, Low, give, ◌>>=◌, Mask, rest, params, merged, beyond, picked, numbers}
+use Rattle.ssa_lowered.specs.Pieces.{Cursor, Low, give, ◌>>=◌, Mask, rest, merged, beyond, picked}
 use Rattle.ssa_lowered.specs.Statements.{Deed}
 use Rattle.ssa_exprs.specs.declared.making.Undo.{Undo}
-use Rattle.ssa_exprs.specs.Making.{View, Known, Follows, Once, Gives, cursor_at, within, closed}
-use Rattle.ssa_exprs.specs.Changes.{undone, rewound, Undoes, numbered_from, chosen, values_of, joined}
+use Rattle.ssa_exprs.specs.Making.{View, Known, Gives, cursor_at, within, closed}
+use Rattle.ssa_exprs.specs.Changes.{undone, Undoes, numbered_from, chosen, values_of, joined}
 use Rattle.ssa_exprs.proofs.Giving.{follows_bind, once_on, gives_give}
 use Rattle.ssa_exprs.proofs.Forks.{at_closed}
-use Rattle.ssa_exprs.proofs.Changes.{undoes_on, undoes_same, undoes_numbered, picked_is, merged_is, params_are, beyond_is}
+use Rattle.ssa_exprs.proofs.Changes.{undoes_on, undoes_same, undoes_numbered, picked_is, merged_is, beyond_is}
 use Rattle.ssa_statements.specs.Steps.{Steps}
 
 ---- How many variables there are
@@ -46,10 +46,10 @@ pub at_joined : (mask : Mask) (u : View) (k : Known) (end : End) (freq : ℕ) (e
 at_joined mask u k end freq enter op seen same h =
     let xs = chosen mask 0 k.env in
     let w = joined u end xs freq enter in
-    ap (λ c. record c { env = w.known.env }) (at_closed u end (length xs) freq enter op seen h)
-    ∙ ap (λ n. record { block = suc u.block; op = op; freq = freq; values = n; env = w.known.env; seen = seen }) (sym (beyond_is mask 0 u.values k.env))
-    ∙ ap (λ e. record { block = suc u.block; op = op; freq = freq; values = beyond mask u.values k.env; env = e; seen = seen })
-        (ap (λ o. (within o (numbered_from u.known xs u.values) u.known).env) h ∙ ap (λ z. (numbered_from z xs u.values).env) same ∙ merged_is mask k u.values)
+    ap (λ (c : Cursor). record c { env = w.known.env }) (at_closed u end (length xs) freq enter op seen h)
+    ∙ ap (λ (n : ℕ). record (cursor_at u op seen) { block = suc u.block; freq = freq; values = n; env = w.known.env }) (sym (beyond_is mask 0 u.values k.env))
+    ∙ ap (λ (e : List ℕ). record (cursor_at u op seen) { block = suc u.block; freq = freq; values = beyond mask u.values k.env; env = e })
+    (ap (λ o. (within o (numbered_from u.known xs u.values) u.known).env) h ∙ ap (λ z. (numbered_from z xs u.values).env) same ∙ merged_is mask k u.values)
 
 by_limit : (o : Option ℕ) (u : View) (xs : List ℕ) → Undoes u.known (within o (numbered_from u.known xs u.values) u.known)
 by_limit None u xs = undoes_numbered u.known xs u.values

@@ -1,9 +1,11 @@
 -- That statements were lowered, by the definitions of lowering.
-use Rattle.std.specs.Prelude.{◌≡◌, ℕ, List, [], ◌∷◌}
+use Rattle.std.specs.Prelude.{ℕ, List, [], ◌∷◌, Option}
+use Rattle.block_runs.specs.declared.code.Code.TheVariants.{Fits}
 use Rattle.ob_types.specs.declared.statements.Stmt.{Stmt}
 use Rattle.ob_types.specs.declared.program.Program.{Program}
 use Rattle.ssa_lowered.specs.Data.{in_cells}
-use Rattle.ssa_lowered.specs.Pieces.{Low, Mask}
+use Rattle.ssa_lowered.specs.Pieces.{◌>>=◌, does, Mask}
+use Rattle.ssa_lowered.specs.Values.{Named, length_in}
 use Rattle.ssa_lowered.specs.Control.{Round, rounds}
 use Rattle.ssa_lowered.specs.Lowered.{Here, deed, deeds_of}
 use Rattle.ssa_lowered.specs.Statements.{Deed}
@@ -28,3 +30,10 @@ deed_in p here s = deed p (in_cells p.types) here s
 
 abbrev pub deeds_in : Program → Here → List Stmt → Deed
 deeds_in p here ss = deeds_of p (in_cells p.types) here ss
+
+-- the lengths of arrays are tested
+abbrev pub tested : Option ℕ → Named → Option ℕ → Named → Deed
+tested n to m from = do
+  a ← length_in n to
+  b ← length_in m from
+  does Fits (b ∷ a ∷ [])
