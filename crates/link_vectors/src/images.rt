@@ -1,5 +1,7 @@
 //! Images, and how they are printed.
 
+ghost use Rattle.std.specs.Prelude.{◌≤◌};
+
 use crate::Module;
 use crate::results::results;
 use boundary_resolve::{Placed, resolve};
