@@ -1,30 +1,28 @@
 -- A call in front of lines that lead to a node's end.
-use Rattle.std.proofs.Common.{◌≡◌, ◌≢◌, ℕ, zero, suc, ◌+◌, ◌-◌, ◌<◌, ◌≤◌, Bool, true, false, cond, List, [], ◌∷◌, ◌++◌, map, length, drop, set, Option, Some, None, refl, sym, ap, ap₂, ◌∙◌, subst, arith, ◌⊎◌, inl, inr, ⊎_elim, length-set, append_assoc}
+use Rattle.std.proofs.Common.{◌≡◌, ◌≢◌, ℕ, zero, suc, ◌+◌, ◌-◌, ◌<◌, ◌≤◌, Bool, true, false, cond, List, [], ◌∷◌, ◌++◌, map, length, drop, Option, Some, None, refl, sym, ap, ap₂, ◌∙◌, subst, arith, ◌⊎◌, inl, inr, ⊎_elim}
 use Rattle.std.specs.Prelude.{◌==◌, slice_get, option_to_list}
 use Rattle.std.proofs.lemmas.List.{length-map}
 use Rattle.block_runs.specs.Blocks.{Operation}
 use Rattle.block_runs.specs.Live.{has}
-use Rattle.block_runs.specs.Valid.{is_call}
 use Rattle.lir_core.specs.declared.places.Place.{Place}
 use Rattle.lir_core.specs.declared.places.Place.TheVariants.{Reg, Home, Out}
 use Rattle.lir_core.specs.declared.places.Places.{Places}
 use Rattle.lir_core.specs.declared.places.Line.{Line}
-use Rattle.lir_core.specs.declared.places.Line.TheVariants.{Store, Load, Moves, Target, Result}
+use Rattle.lir_core.specs.declared.places.Line.TheVariants.{Store, Moves, Target, Result}
 use Rattle.lir_core.specs.declared.places.Line.TheVariants.{Lir as Does}
 use Rattle.lir_core.specs.Spots.{Spot, reg, home, out, target, saved, same, spot, source, get, in_register}
-use Rattle.lir_core.specs.Lines.{is_aimed, arguments, argument_spot, argument_spots, Room, InRange, AllBelow}
+use Rattle.lir_core.specs.Lines.{is_aimed, arguments, argument_spot, argument_spots, Room, InRange}
 use Rattle.lir_core.specs.Walks.{Walker, Taken, Below, after, left, without, defined}
 use Rattle.loc_state.specs.Registers.{register_of}
 use Rattle.loc_state.specs.Lines.{place_of, argument_moves, aims, moves, call_lines}
-use Rattle.loc_state.specs.Steps as steps
 use Rattle.loc_state.proofs.Calling.{distinct_moves, other_source, AllStand, arguments_stand, all_taken, all_stand}
-use Rattle.loc_state.proofs.Keeping.{stays, CanIf, perform_if}
-use Rattle.loc_state.proofs.Numbers.{numbers_same, numbers_apart, test_same, test_apart, or_rest, get_emptied, in_row, in_register_at, register_at}
+use Rattle.loc_state.proofs.Keeping.{stays, perform_if}
+use Rattle.loc_state.proofs.Numbers.{numbers_same, test_same, test_apart, or_rest, get_emptied, in_row, in_register_at, register_at}
 use Rattle.loc_back.specs.declared.part.Loading.{Loading}
 use Rattle.loc_back.specs.declared.part.BackPart.{BackPart}
 use Rattle.loc_back.specs.Steps.{storing, loading, leaving, other, result_stored, result_in, result_moved, reload, reloads, all_saved, seated, unseated, behind_call, emptied, reading, written}
 use Rattle.loc_back.specs.Served.{Section, lives_from, wanted, Leads, Serves, Extends, with_homed, Route, MayBeHomed, IsStanding, Backed, or_first, loaded, AreGiven, CanCall, with_def}
-use Rattle.loc_back.proofs.Leading.{is_or_not, lives_before, used_lives, AreHomed, taken_from, loads_lead, kept_view, kept_reg, kept_homes, store_leads}
+use Rattle.loc_back.proofs.Leading.{is_or_not, lives_before, used_lives, AreHomed, taken_from, loads_lead, kept_reg, kept_homes, store_leads}
 use Rattle.loc_back.proofs.Turning.{front}
 use Rattle.loc_back.proofs.Standing.{extends_less, extends_made, same_mark}
 use Rattle.loc_back.proofs.GivenSeats.{seated_was, seated_there, unseated_grows, unseated_there, unseated_was, all_saved_grows, all_saved_there, all_saved_was, other_is, is_other}

@@ -1,22 +1,18 @@
 -- The end of a node: what each step keeps.
-use Rattle.std.proofs.Common.{◌≡◌, ◌≢◌, ℕ, zero, suc, ◌+◌, ◌<◌, ◌≤◌, Bool, true, false, cond, List, [], ◌∷◌, ◌++◌, map, length, drop, set, Option, Some, None, refl, sym, ap, ap₂, ◌∙◌, subst, arith, ◌⊎◌, inl, inr, ⊎_elim, length-set}
+use Rattle.std.proofs.Common.{◌≡◌, ℕ, ◌<◌, Bool, true, false, cond, List, [], ◌∷◌, ◌++◌, map, length, set, Option, Some, None, refl, sym, ap, ◌∙◌, subst, arith, ⊎_elim}
 use Rattle.std.proofs.lemmas.List.{get_or-set_same, drop_all}
-use Rattle.block_runs.specs.Blocks.{Operation}
 use Rattle.block_runs.specs.Live.{has}
-use Rattle.lir_core.specs.declared.places.Places.{Places}
-use Rattle.lir_core.specs.declared.places.Line.{Line}
 use Rattle.lir_core.specs.Spots.{Spot, reg, home, out, target, saved, get, in_register, view_of}
-use Rattle.lir_core.specs.Lines.{Room, AllBelow}
-use Rattle.lir_core.specs.Walks.{Walker, Below}
+use Rattle.lir_core.specs.Lines.{AllBelow}
+use Rattle.lir_core.specs.Walks.{Below}
 use Rattle.loc_state.specs.Steps as steps
 use Rattle.loc_state.specs.Walked.{Apart}
 use Rattle.loc_state.proofs.Keeping.{is_marked}
 use Rattle.loc_state.proofs.Numbers.{below_push, append_nil, in_row}
-use Rattle.loc_back.specs.declared.part.Loading.{Loading}
-use Rattle.loc_back.specs.declared.part.Stage.TheVariants.{Behind, End as AtEnd, Operation as Within, Done}
+use Rattle.loc_back.specs.declared.part.Stage.TheVariants.{End as AtEnd}
 use Rattle.loc_back.specs.declared.part.BackPart.{BackPart}
 use Rattle.loc_back.specs.Steps.{loading}
-use Rattle.loc_back.specs.Served.{Section, lives, lives_from, wanted, Leads, AreMarked, with_homed, Route, MayBeHomed, Backed, AreNoted, IsEnding}
+use Rattle.loc_back.specs.Served.{Section, lives, lives_from, wanted, Leads, AreMarked, with_homed, Route, MayBeHomed, Backed, IsEnding}
 use Rattle.loc_back.proofs.Turning.{map_below}
 use Rattle.loc_back.proofs.Standing.{was_back, standing_emptied, was_written, standing_filled, not_noted, used_push, used_written}
 use Rattle.loc_back.proofs.Opening.{settled_at}

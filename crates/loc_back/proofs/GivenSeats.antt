@@ -1,5 +1,5 @@
 -- A call's uses in their registers and homes.
-use Rattle.std.proofs.Common.{◌≡◌, ◌≢◌, ℕ, zero, suc, ◌+◌, ◌<◌, ◌≤◌, Bool, true, false, cond, List, [], ◌∷◌, ◌++◌, map, length, set, Option, Some, None, refl, sym, ap, ◌∙◌, subst, arith, ◌⊎◌, inl, inr, ⊎_elim, length-set}
+use Rattle.std.proofs.Common.{◌≡◌, ◌≢◌, ℕ, zero, suc, ◌<◌, ◌≤◌, Bool, true, false, cond, List, [], ◌∷◌, map, length, set, Option, Some, None, refl, sym, ap, ◌∙◌, subst, arith, ◌⊎◌, inl, inr, ⊎_elim, length-set}
 use Rattle.std.specs.Prelude.{◌==◌}
 use Rattle.std.proofs.lemmas.List.{get_or-set_same, get_or_past}
 use Rattle.std.proofs.lemmas.Bool.{cases_lt}
@@ -8,8 +8,7 @@ use Rattle.lir_core.specs.Spots.{get}
 use Rattle.lir_core.specs.Walks.{without}
 use Rattle.loc_state.specs.Homed.{inserted}
 use Rattle.loc_state.specs.Steps.{saved}
-use Rattle.loc_state.proofs.Homing.{has_inserted}
-use Rattle.loc_state.proofs.Numbers.{numbers_same, numbers_apart, test_same, test_apart, or_rest, get_set, in_row}
+use Rattle.loc_state.proofs.Numbers.{numbers_same, numbers_apart, test_same, test_apart, or_rest, in_row}
 use Rattle.loc_back.specs.Steps.{other, all_saved, seated, unseated}
 use Rattle.loc_back.proofs.Standing.{has_saved, saves_it, was_saved, was_written, stays_in}
 

@@ -1,5 +1,5 @@
 -- Lines in front of lines that lead to a node's end.
-use Rattle.std.proofs.Common.{◌≡◌, ◌≢◌, ℕ, zero, suc, ◌+◌, ◌<◌, ◌≤◌, Bool, true, false, cond, List, [], ◌∷◌, ◌++◌, map, length, drop, Option, Some, None, refl, sym, ap, ◌∙◌, subst, arith, ◌⊎◌, inl, inr}
+use Rattle.std.proofs.Common.{◌≡◌, ◌≢◌, ℕ, zero, suc, ◌+◌, ◌<◌, Bool, true, false, cond, List, [], ◌∷◌, drop, Option, Some, None, refl, sym, ap, ◌∙◌, arith, ◌⊎◌, inl, inr}
 use Rattle.std.specs.Prelude.{◌==◌, slice_get, option_to_list}
 use Rattle.block_runs.specs.Blocks.{Operation}
 use Rattle.block_runs.specs.Live.{has}
@@ -7,9 +7,9 @@ use Rattle.lir_core.specs.declared.places.Places.{Places}
 use Rattle.lir_core.specs.declared.places.Line.{Line}
 use Rattle.lir_core.specs.declared.places.Line.TheVariants.{Store, Load}
 use Rattle.lir_core.specs.Spots.{Spot, reg, home, out, target, saved, same, get}
-use Rattle.lir_core.specs.Lines.{Room, AllBelow}
+use Rattle.lir_core.specs.Lines.{Room}
 use Rattle.lir_core.specs.Walks.{Walker, Below, after}
-use Rattle.loc_state.proofs.Numbers.{numbers_same, numbers_apart, test_same, test_apart, or_rest}
+use Rattle.loc_state.proofs.Numbers.{numbers_same, numbers_apart, test_apart, or_rest}
 use Rattle.loc_back.specs.declared.part.Loading.{Loading}
 use Rattle.loc_back.specs.Steps.{storing, loading}
 use Rattle.loc_back.specs.Served.{Section, lives, lives_from, wanted, Leads, Serves, or_first, loaded}

@@ -1,27 +1,26 @@
 -- An operation from its definition to its uses: what each step keeps.
-use Rattle.std.proofs.Common.{◌≡◌, ◌≢◌, ℕ, zero, suc, ◌+◌, ◌<◌, ◌≤◌, Bool, true, false, cond, List, [], ◌∷◌, ◌++◌, map, length, set, Option, Some, None, refl, sym, ap, ap₂, ◌∙◌, subst, arith, ◌⊎◌, inl, inr, ⊎_elim, length-set}
-use Rattle.std.specs.Prelude.{◌==◌, slice_get, option_to_list}
+use Rattle.std.proofs.Common.{◌≡◌, ◌≢◌, ℕ, ◌+◌, ◌<◌, Bool, true, false, cond, List, [], ◌∷◌, ◌++◌, map, length, set, Option, Some, None, refl, sym, ap, ◌∙◌, subst, arith, inl, inr, ⊎_elim}
+use Rattle.std.specs.Prelude.{◌==◌, slice_get}
 use Rattle.std.proofs.lemmas.List.{get_or-set_same}
 use Rattle.block_runs.specs.Blocks.{Operation}
 use Rattle.block_runs.specs.Live.{has}
 use Rattle.lir_core.specs.declared.places.Line.TheVariants.{Lir as Does}
-use Rattle.lir_core.specs.Spots.{get, in_register, IsSingle}
+use Rattle.lir_core.specs.Spots.{get, in_register}
 use Rattle.lir_core.specs.Lines.{Room, AllBelow}
 use Rattle.lir_core.specs.Walks.{without}
-use Rattle.loc_state.specs.Registers.{register_of}
 use Rattle.loc_state.specs.Steps.{saved}
 use Rattle.loc_state.specs.Walked.{Apart}
-use Rattle.loc_state.proofs.Numbers.{numbers_same, numbers_apart, test_same, test_apart, or_rest, get_set, below_push, append_nil, in_row}
+use Rattle.loc_state.proofs.Numbers.{numbers_same, numbers_apart, test_same, test_apart, or_rest, below_push, append_nil, in_row}
 use Rattle.loc_back.specs.declared.part.Begun.{Begun}
 use Rattle.loc_back.specs.declared.part.Loading.{Loading}
 use Rattle.loc_back.specs.declared.part.Stage.{Stage}
-use Rattle.loc_back.specs.declared.part.Stage.TheVariants.{Behind, End as AtEnd, Operation as Within, Done}
+use Rattle.loc_back.specs.declared.part.Stage.TheVariants.{Operation as Within}
 use Rattle.loc_back.specs.declared.part.BackPart.{BackPart}
-use Rattle.loc_back.specs.Steps.{storing, loading, opening, names_of, end_of, settled_stage, settled, taken, leaving, again, evicted, other, if_homed, within, begins}
-use Rattle.loc_back.specs.Served.{Section, lives_from, wanted, Leads, Serving, Extends, Route, MayBeHomed, IsStanding, Backed, AreNoted, IsOpen, Origin, or_first, loaded, ComesFrom, AllLoads, IsMadeIn, stored_of, IsOwn, CanDefine, with_def, IsAt}
-use Rattle.loc_back.proofs.Leading.{is_or_not, lives_before, used_lives}
+use Rattle.loc_back.specs.Steps.{storing, loading, opening, names_of, end_of, settled_stage, leaving, if_homed, within, begins}
+use Rattle.loc_back.specs.Served.{lives_from, Leads, Route, MayBeHomed, Backed, IsOpen, or_first, loaded, ComesFrom, AllLoads, IsMadeIn, stored_of, IsOwn, CanDefine, with_def, IsAt}
+use Rattle.loc_back.proofs.Leading.{lives_before, used_lives}
 use Rattle.loc_back.proofs.Turning.{turned}
-use Rattle.loc_back.proofs.Standing.{has_saved, saves_it, was_saved, saved_other, free_saved, extends_saved, extends_made, same_mark, was_back, stays_in, standing_emptied, was_written, standing_filled, not_noted, apart_has, noted_value, has_push, has_pushed, used_push, used_written}
+use Rattle.loc_back.proofs.Standing.{has_saved, saves_it, saved_other, extends_saved, extends_made, same_mark, was_back, stays_in, standing_emptied, was_written, standing_filled, not_noted, apart_has, noted_value, has_push, has_pushed, used_push, used_written}
 
 -- what is begun at a stage, once it is written
 abbrev pub settled_at : Stage → BackPart → BackPart

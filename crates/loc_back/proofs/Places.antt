@@ -1,6 +1,6 @@
 -- What each step keeps, wherever the walk is.
-use Rattle.std.proofs.Common.{◌≡◌, ◌≢◌, ℕ, zero, suc, ◌+◌, ◌<◌, ◌≤◌, Bool, true, false, cond, List, [], ◌∷◌, ◌++◌, map, length, set, Option, Some, None, refl, sym, ap, ◌∙◌, subst, arith, ◌⊎◌, inl, inr, ⊎_elim}
-use Rattle.std.specs.Prelude.{◌==◌, slice_get, option_to_list}
+use Rattle.std.proofs.Common.{◌≡◌, ℕ, zero, suc, ◌+◌, ◌<◌, ◌≤◌, Bool, true, false, cond, List, [], ◌∷◌, ◌++◌, map, length, set, Option, Some, None, refl, sym, ap, ◌∙◌, subst, arith, ◌⊎◌, inl, inr, ⊎_elim}
+use Rattle.std.specs.Prelude.{◌==◌, slice_get}
 use Rattle.std.proofs.lemmas.Bool.{cases_lt}
 use Rattle.std.proofs.lemmas.List.{length-map}
 use Rattle.block_runs.specs.Blocks.{Operation}
@@ -12,12 +12,12 @@ use Rattle.loc_state.specs.Registers.{register_of}
 use Rattle.loc_state.specs.Steps as steps
 use Rattle.loc_state.specs.Walked.{Apart}
 use Rattle.loc_state.proofs.Homing.{has_all_inserted}
-use Rattle.loc_state.proofs.Numbers.{numbers_same, test_same, or_rest}
+use Rattle.loc_state.proofs.Numbers.{test_same, or_rest}
 use Rattle.loc_back.specs.declared.part.Stage.{Stage}
 use Rattle.loc_back.specs.declared.part.Stage.TheVariants.{Behind, End as AtEnd, Operation as Within, Done}
 use Rattle.loc_back.specs.declared.part.BackPart.{BackPart}
 use Rattle.loc_back.specs.Steps.{loading, taken, again, begins, written, reading, emptied, passed, no_param, seated_new, seated_news, entered}
-use Rattle.loc_back.specs.Served.{Section, Leads, Extends, with_homed, Route, MayBeHomed, IsStanding, Backed, IsEnding, IsOpen, uses_at, due, IsAt, CanTake, IsTaking, IsEntered, CanDefine, CanCall, with_def, onward}
+use Rattle.loc_back.specs.Served.{Section, Leads, with_homed, Route, MayBeHomed, IsStanding, Backed, IsEnding, IsOpen, uses_at, due, IsAt, CanTake, IsTaking, IsEntered, CanDefine, CanCall, with_def, onward}
 use Rattle.loc_back.proofs.Standing.{standing_filled, extends_less, free_saved}
 use Rattle.loc_back.proofs.Opening.{settled_at, opened_backed, begun, noted_open, filled_open, evicted_open}
 use Rattle.loc_back.proofs.Ending.{ending_backed, noted_ending, filled_ending, evicted_ending}

@@ -1,5 +1,5 @@
 -- Registers that are given, one after the other.
-use Rattle.std.proofs.Common.{◌≡◌, ℕ, zero, suc, ◌+◌, ◌<◌, ◌≤◌, List, [], ◌∷◌, length, drop, min, get_or, Option, Some, None, refl, sym, ap, ◌∙◌, arith, set, length-set, Bool, true, false, cond}
+use Rattle.std.proofs.Common.{◌≡◌, ℕ, zero, suc, ◌+◌, ◌<◌, List, [], ◌∷◌, length, drop, min, get_or, Option, Some, None, refl, sym, ap, ◌∙◌, arith, set, length-set, Bool, true, false, cond}
 use Rattle.lir_core.specs.Spots.{in_register}
 use Rattle.loc_back.specs.Steps.{seated, unseated, seated_new, seated_news}
 

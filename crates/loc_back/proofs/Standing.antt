@@ -1,18 +1,14 @@
 -- Rows of registers that stand, registers noted, and values that join the homed ones.
-use Rattle.std.proofs.Common.{◌≡◌, ◌≢◌, ℕ, zero, suc, ◌+◌, ◌<◌, ◌≤◌, Bool, true, false, cond, List, [], ◌∷◌, ◌++◌, map, length, set, Option, Some, None, refl, sym, ap, ap₂, ◌∙◌, subst, arith, ◌⊎◌, inl, inr, ⊎_elim, length-set}
+use Rattle.std.proofs.Common.{◌≡◌, ◌≢◌, ℕ, ◌<◌, Bool, true, false, cond, List, [], ◌∷◌, ◌++◌, map, length, set, Option, Some, None, refl, sym, ap, ap₂, ◌∙◌, subst, ◌⊎◌, inl, inr, ⊎_elim, length-set}
 use Rattle.std.specs.Prelude.{◌==◌}
-use Rattle.std.proofs.lemmas.List.{map-append, get_or-set_same}
+use Rattle.std.proofs.lemmas.List.{map-append}
 use Rattle.block_runs.specs.Live.{has}
 use Rattle.lir_core.specs.Spots.{get, in_register, IsSingle}
-use Rattle.lir_core.specs.Lines.{AllBelow}
-use Rattle.loc_state.specs.Homed.{inserted, all_inserted}
-use Rattle.loc_state.specs.Registers.{register_of}
 use Rattle.loc_state.specs.Steps.{saved}
 use Rattle.loc_state.specs.Walked.{Apart}
-use Rattle.loc_state.proofs.Homing.{has_inserted, has_all_inserted}
-use Rattle.loc_state.proofs.Numbers.{numbers_same, numbers_apart, test_same, test_apart, or_rest, get_set, below_push, map_same, in_row, in_register_at}
-use Rattle.loc_back.specs.declared.part.BackPart.{BackPart}
-use Rattle.loc_back.specs.Served.{Route, MayBeHomed, IsStanding, AreNoted, Extends}
+use Rattle.loc_state.proofs.Homing.{has_inserted}
+use Rattle.loc_state.proofs.Numbers.{numbers_same, numbers_apart, test_same, test_apart, or_rest, get_set, map_same, in_register_at}
+use Rattle.loc_back.specs.Served.{Route, MayBeHomed, IsStanding, Extends}
 
 ---- Homes
 

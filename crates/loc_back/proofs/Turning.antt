@@ -7,17 +7,16 @@ use Rattle.block_runs.specs.Live.{has}
 use Rattle.block_runs.specs.Valid.{is_call}
 use Rattle.lir_core.specs.declared.places.Places.{Places}
 use Rattle.lir_core.specs.declared.places.Line.{Line}
-use Rattle.lir_core.specs.declared.places.Line.TheVariants.{Store, Load}
 use Rattle.lir_core.specs.declared.places.Line.TheVariants.{Lir as Does}
-use Rattle.lir_core.specs.Spots.{Spot, reg, home, out, target, saved, same, get}
+use Rattle.lir_core.specs.Spots.{Spot, reg, home, same, get}
 use Rattle.lir_core.specs.Lines.{one_def, Room, AllBelow}
 use Rattle.lir_core.specs.Walks.{Walker, Can, Passes, Finishes, Below, walk, perform, without}
-use Rattle.loc_state.proofs.Numbers.{numbers_same, numbers_apart, test_same, test_apart, or_rest, map_map, below_push}
+use Rattle.loc_state.proofs.Numbers.{test_same, test_apart, map_map, below_push}
 use Rattle.loc_state.proofs.Keeping.{stays, CanIf, perform_if}
 use Rattle.loc_back.specs.declared.part.Loading.{Loading}
 use Rattle.loc_back.specs.Steps.{storing, loading, if_homed}
 use Rattle.loc_back.specs.Served.{Section, lives_from, wanted, Leads, Serves, loaded, ComesFrom, AllLoads, IsMadeIn, stored_of}
-use Rattle.loc_back.proofs.Leading.{home_wanted, lives_before, AreHomed, taken_from, loads_lead, kept_view, kept_reg, kept_homes, store_leads}
+use Rattle.loc_back.proofs.Leading.{lives_before, AreHomed, taken_from, loads_lead, kept_view, kept_reg, kept_homes, store_leads}
 
 pub map_below : (g h : ℕ → Option ℕ) → ((r u : ℕ) → g r ≡ Some u → h r ≡ Some u) → (rs us : List ℕ) → map g rs ≡ map Some us → map h rs ≡ map Some us
 map_below g h on [] [] e = refl

@@ -1,17 +1,17 @@
 -- What each call keeps of a whole walk, where it is its step.
-use Rattle.std.proofs.Common.{◌≡◌, ◌≢◌, ℕ, zero, suc, ◌+◌, ◌<◌, ◌≤◌, Bool, true, false, cond, List, [], ◌∷◌, ◌++◌, map, length, replicate, set, Option, Some, None, refl, sym, ap, ◌∙◌, subst, arith, ◌⊎◌, inl, inr, ⊎_elim}
-use Rattle.std.specs.Prelude.{◌==◌, slice_get, option_to_list}
+use Rattle.std.proofs.Common.{◌≡◌, ℕ, zero, suc, ◌+◌, Bool, true, false, cond, List, [], ◌∷◌, ◌++◌, map, length, replicate, Option, Some, None, refl, sym, ap, ◌∙◌, subst, ⊎_elim}
+use Rattle.std.specs.Prelude.{slice_get, option_to_list}
 use Rattle.block_runs.specs.Blocks.{Operation}
 use Rattle.block_runs.specs.Live.{has}
 use Rattle.block_runs.specs.declared.end.End.{End}
 use Rattle.lir_core.specs.declared.flow.Flow.{Flow}
 use Rattle.lir_core.specs.declared.places.Places.{Places}
 use Rattle.lir_core.specs.declared.places.Line.{Line}
-use Rattle.lir_core.specs.Spots.{Spot, reg, home, out, target, saved, get, view_of}
+use Rattle.lir_core.specs.Spots.{reg, home, out, target, saved, get, view_of}
 use Rattle.lir_core.specs.Lines.{Room}
 use Rattle.lir_core.specs.Walks.{Walks, Below, begin}
 use Rattle.loc_state.specs.Steps as steps
-use Rattle.loc_state.specs.Walked.{Task, AllWalk}
+use Rattle.loc_state.specs.Walked.{AllWalk}
 use Rattle.loc_state.proofs.Homing.{has_all_inserted}
 use Rattle.loc_back.specs.declared.part.Stage.{Stage}
 use Rattle.loc_back.specs.declared.part.Stage.TheVariants.{Behind, End as AtEnd, Operation as Within, Done}
@@ -19,13 +19,13 @@ use Rattle.loc_back.specs.declared.part.BackPart.{BackPart}
 use Rattle.loc_back.specs.declared.backward.Backward.{Backward}
 use Rattle.loc_back.specs.Marks.{marked, with_marks, starts_marked, ends_marked}
 use Rattle.loc_back.specs.Steps.{settled, taken, evicted, other, begins, called, written, reading, emptied, all_saved, unseated, defined, entered, bare, ended, in_part, left_node, before_node, started, with_homes, closed}
-use Rattle.loc_back.specs.Served.{Section, lives_from, wanted, Extends, AreMarked, with_homed, Route, MayBeHomed, IsStanding, Backed, due, IsBehind, IsAt, IsServed, AllServed, AreServed, Simulates, IsTaking, IsEntered, MayTake, MayEvict, CanDefine, CanCall, with_def, CanEnter, walked, onward, section_of, sections, tasks, IsWhole}
+use Rattle.loc_back.specs.Served.{Section, lives_from, wanted, Extends, AreMarked, with_homed, Route, MayBeHomed, IsStanding, Backed, due, IsAt, IsServed, AllServed, AreServed, Simulates, IsEntered, MayTake, MayEvict, CanDefine, CanCall, with_def, CanEnter, walked, onward, section_of, sections, tasks, IsWhole}
 use Rattle.loc_back.proofs.Leading.{home_wanted}
 use Rattle.loc_back.proofs.MarkedSets.{has_marked}
-use Rattle.loc_back.proofs.Standing.{extends_less, extends_saved, extends_made, was_saved}
+use Rattle.loc_back.proofs.Standing.{extends_less, extends_saved, extends_made}
 use Rattle.loc_back.proofs.Opening.{settled_at}
 use Rattle.loc_back.proofs.GivenSeats.{all_saved_grows, all_saved_was, other_is, unseated_grows, unseated_was}
-use Rattle.loc_back.proofs.Places.{settled_backed, takes_at, evicted_as, evicts_at, defines_at, calls_at, unmade_before, made_more, homes_grow, entered_ending}
+use Rattle.loc_back.proofs.Places.{settled_backed, takes_at, evicts_at, defines_at, calls_at, made_more, homes_grow, entered_ending}
 
 ---- Within a node
 

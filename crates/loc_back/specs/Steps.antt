@@ -1,5 +1,5 @@
 -- The steps of a walk from a trace's end to its start.
-use Rattle.std.specs.Prelude.{slice_set, ℕ, suc, ◌==◌, Bool, true, false, cond, List, [], ◌∷◌, ◌++◌, length, map, replicate, Option, Some, None, option_to_list}
+use Rattle.std.specs.Prelude.{slice_set, ℕ, suc, ◌==◌, cond, List, [], ◌∷◌, ◌++◌, map, replicate, Option, Some, None, option_to_list}
 use Rattle.block_runs.specs.Blocks.{Operation}
 use Rattle.block_runs.specs.Live.{has}
 use Rattle.block_runs.specs.declared.end.End.{End}
@@ -14,8 +14,7 @@ use Rattle.lir_core.specs.Walks.{without}
 use Rattle.loc_state.specs.Registers.{register_of}
 use Rattle.loc_state.specs.Homed.{inserted, all_inserted}
 use Rattle.loc_state.specs.Lines.{place_of, call_lines}
-use Rattle.loc_state.specs.Steps.{saved, with_result}
-use Rattle.loc_back.specs.declared.part.Begun.{Begun}
+use Rattle.loc_state.specs.Steps.{saved}
 use Rattle.loc_back.specs.declared.part.Loading.{Loading}
 use Rattle.loc_back.specs.declared.part.Stage.{Stage}
 use Rattle.loc_back.specs.declared.part.Stage.TheVariants.{Behind, End as AtEnd, Operation as Within, Done}

@@ -30,7 +30,8 @@ impl Backward {
     /// Starts behind a trace, with values that are homed, and so many registers.
     pub fn new(alloc: Global, homed: &[u32], regs: u8) -> Result<Backward, Memory>
         ensures step { IfOk result (λ b. b ≡ started homed.now regs) }
-        ensures simulates { IfOk result (λ b. (x : Route) → x.done ≡ [] → x.made ≡ [] → regs ≡ x.room.regs → Simulates x 0 [] b) }
+        ensures simulates { IfOk result (λ b. (x : Route) → x.done ≡ [] → x.made ≡ [] → regs ≡ x.room.regs
+            → Simulates x 0 [] b) }
     {
         Ok(Backward {
             starts: FrontItems::new(alloc),
@@ -53,8 +54,10 @@ impl Backward {
     ) -> Result<(), Memory>
         ensures step { OnOk result (self.new ≡ before_node params.now end.now args.now homes.now self.old) }
         ensures row { OnOk result (length self.new.part.regs ≡ length self.old.part.regs) }
-        ensures simulates { OnOk result ((x : Route) (b : Section) → CanEnter x b params.now end.now homes.now self.old.part.homed
-            → Simulates x 0 (due x 0 self.old.part.stage) self.old → Simulates (onward self.old.part.stage b params.now x) (length b.ops) [] self.new) }
+        ensures simulates { OnOk result ((x : Route) (b : Section)
+            → CanEnter x b params.now end.now homes.now self.old.part.homed
+            → Simulates x 0 (due x 0 self.old.part.stage) self.old
+            → Simulates (onward self.old.part.stage b params.now x) (length b.ops) [] self.new) }
     {
         self.leave_node(alloc)?;
         self.part.enter(alloc, params, end, args, homes)?;
@@ -72,8 +75,10 @@ impl Backward {
     ) -> Result<(), Memory>
         ensures step { OnOk result (self.new ≡ in_part (defined index lir.now.def reg) self.old) }
         ensures row { OnOk result (length self.new.part.regs ≡ length self.old.part.regs) }
-        ensures simulates { OnOk result ((x : Route) → slice_get x.here.ops index ≡ Some (operation_of lir.now) → IsEntered self.old.part.stage → CanDefine x (operation_of lir.now) reg self.old.part
-            → Simulates x (index + 1) (due x (index + 1) self.old.part.stage) self.old → Simulates (with_def lir.now.def x) index [] self.new) }
+        ensures simulates { OnOk result ((x : Route) → slice_get x.here.ops index ≡ Some (operation_of lir.now)
+            → IsEntered self.old.part.stage → CanDefine x (operation_of lir.now) reg self.old.part
+            → Simulates x (index + 1) (due x (index + 1) self.old.part.stage) self.old
+            → Simulates (with_def lir.now.def x) index [] self.new) }
     {
         self.part.define(alloc, index, lir.def, reg)?;
         Ok(())
@@ -85,7 +90,8 @@ impl Backward {
         requires few { length self.old.part.regs ≤ 16 }
         ensures step { OnOk result (self.new ≡ in_part (taken value reg) self.old) }
         ensures row { OnOk result (length self.new.part.regs ≡ length self.old.part.regs) }
-        ensures simulates { OnOk result ((x : Route) (n : ℕ) (noted : List ℕ) → MayTake x value reg self.old.part → Simulates x n noted self.old → Simulates x n (noted ++ value ∷ []) self.new) }
+        ensures simulates { OnOk result ((x : Route) (n : ℕ) (noted : List ℕ) → MayTake x value reg self.old.part
+            → Simulates x n noted self.old → Simulates x n (noted ++ value ∷ []) self.new) }
     {
         self.part.take(value, reg)?;
         Ok(())
@@ -95,7 +101,8 @@ impl Backward {
     pub fn evict(&mut self, reg: u8) -> Result<(), Memory>
         ensures step { OnOk result (self.new ≡ in_part (evicted reg) self.old) }
         ensures row { OnOk result (length self.new.part.regs ≡ length self.old.part.regs) }
-        ensures simulates { OnOk result ((x : Route) (n : ℕ) (noted : List ℕ) → MayEvict reg self.old.part → Simulates x n noted self.old → Simulates x n noted self.new) }
+        ensures simulates { OnOk result ((x : Route) (n : ℕ) (noted : List ℕ) → MayEvict reg self.old.part
+            → Simulates x n noted self.old → Simulates x n noted self.new) }
     {
         self.part.evict(reg)?;
         Ok(())
@@ -113,8 +120,10 @@ impl Backward {
         requires few { length self.old.part.regs ≤ 16 }
         ensures step { OnOk result (self.new ≡ in_part (called index (operation_of lir.now) args.now) self.old) }
         ensures row { OnOk result (length self.new.part.regs ≡ length self.old.part.regs) }
-        ensures simulates { OnOk result ((x : Route) → slice_get x.here.ops index ≡ Some (operation_of lir.now) → IsEntered self.old.part.stage → CanCall x (operation_of lir.now) args.now self.old.part.homed
-            → Simulates x (index + 1) (due x (index + 1) self.old.part.stage) self.old → Simulates (with_def lir.now.def x) index [] self.new) }
+        ensures simulates { OnOk result ((x : Route) → slice_get x.here.ops index ≡ Some (operation_of lir.now)
+            → IsEntered self.old.part.stage → CanCall x (operation_of lir.now) args.now self.old.part.homed
+            → Simulates x (index + 1) (due x (index + 1) self.old.part.stage) self.old
+            → Simulates (with_def lir.now.def x) index [] self.new) }
     {
         self.part.call(alloc, index, lir, args)?;
         Ok(())
@@ -123,7 +132,8 @@ impl Backward {
     /// Ends the walk at the start of the first node, and marks homes at all places.
     pub fn close(&mut self, alloc: Global, t: &TraceIn) -> Result<(), Memory>
         ensures step { OnOk result (self.new ≡ closed t.now.flow.now t.now.live.now t.now.trace.now.nodes self.old) }
-        ensures simulates { OnOk result ((x : Route) → IsWhole t.now.flow.now t.now.live.now t.now.trace.now.nodes x self.old.part → Simulates x 0 (due x 0 self.old.part.stage) self.old
+        ensures simulates { OnOk result ((x : Route) → IsWhole t.now.flow.now t.now.live.now t.now.trace.now.nodes x self.old.part
+            → Simulates x 0 (due x 0 self.old.part.stage) self.old
             → AllWalk x.room (tasks (walked self.old.part.stage x)) self.new.starts self.new.lines self.new.regs self.new.ends) }
     {
         self.leave_node(alloc)?;
@@ -147,7 +157,13 @@ impl Backward {
     }
 
     fn join(&mut self, alloc: Global) -> Result<(), AllocError>
-        ensures { OnOk result (self.new ≡ record { starts = bare self.old.part.regs ∷ self.old.starts; ends = bare self.old.part.end ∷ self.old.ends; lines = self.old.part.lines ∷ self.old.lines; regs = self.old.part.named ∷ self.old.regs; part = record self.old.part { end = []; lines = []; named = [] } }) }
+        ensures { OnOk result (self.new ≡ record {
+          starts = bare self.old.part.regs ∷ self.old.starts;
+          ends = bare self.old.part.end ∷ self.old.ends;
+          lines = self.old.part.lines ∷ self.old.lines;
+          regs = self.old.part.named ∷ self.old.regs;
+          part = record self.old.part { end = []; lines = []; named = [] };
+        }) }
     {
         let start = Places {
             regs: self.part.regs.list(alloc)?,

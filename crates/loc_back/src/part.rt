@@ -64,7 +64,16 @@ impl BackPart {
 
     /// No node yet: so many empty registers, and homed values.
     pub(crate) fn begin(alloc: Global, homed: &[u32], regs: u8) -> Result<BackPart, AllocError>
-        ensures { IfOk result (λ t. t ≡ record { end = []; regs = replicate regs None; homed = all_inserted homed.now []; lines = []; named = []; stage = Behind; noted = []; loads = [] }) }
+        ensures { IfOk result (λ t. t ≡ record {
+          end = [];
+          regs = replicate regs None;
+          homed = all_inserted homed.now [];
+          lines = [];
+          named = [];
+          stage = Behind;
+          noted = [];
+          loads = [];
+        }) }
     {
         let row: Vec<Option<u32>> = vec![in alloc; None; regs as usize]?;
         Ok(BackPart {

@@ -1,4 +1,4 @@
-use Rattle.std.proofs.Common.{◌≡◌, ◌<◌, ◌≤◌, ◌^◌, arith}
+use Rattle.std.proofs.Common.{◌<◌, ◌^◌, arith}
 use Rattle.lir_core.specs.Rows.{has_bit}
 use Rattle.loc_back.proofs.MarkedSets.{none_from, one_from}
 use Rattle.loc_back.proofs.marks.first_on.Goals as goal
