@@ -1,5 +1,5 @@
 -- The operations of a node, from the last to the first: what is walked, and what has a place.
-use Rattle.std.proofs.Common.{◌≡◌, ◌≢◌, ℕ, zero, suc, ◌+◌, ◌-◌, ◌<◌, ◌≤◌, Bool, true, false, cond, List, [], ◌∷◌, ◌++◌, map, length, drop, set, Option, Some, None, refl, sym, ap, ◌∙◌, subst, arith, ◌⊎◌, inl, inr, ⊎_elim, length-set}
+use Rattle.std.proofs.Common.{◌≡◌, ◌≢◌, ℕ, zero, suc, ◌+◌, ◌<◌, ◌≤◌, Bool, true, false, cond, List, [], ◌∷◌, ◌++◌, map, length, drop, set, Option, Some, None, refl, sym, ap, ◌∙◌, subst, arith, ◌⊎◌, inl, inr, ⊎_elim, length-set}
 use Rattle.std.specs.Prelude.{◌==◌, slice_get, option_to_list}
 use Rattle.std.proofs.lemmas.List.{length-map}
 use Rattle.block_runs.specs.Blocks.{Operation}
@@ -9,26 +9,26 @@ use Rattle.lir_core.specs.declared.flow.Lir.{Lir}
 use Rattle.lir_core.specs.declared.places.Places.{Places}
 use Rattle.lir_core.specs.Flows.{operation_of}
 use Rattle.lir_core.specs.Lines.{is_aimed, arguments, Room}
-use Rattle.lir_core.specs.Spots.{get, in_register, placed, IsSingle}
+use Rattle.lir_core.specs.Spots.{get, in_register, placed}
 use Rattle.loc_state.specs.Registers.{register_of, lowest_empty}
 use Rattle.loc_state.specs.Steps.{saved}
-use Rattle.loc_state.proofs.Numbers.{numbers_same, test_same, test_apart, or_rest, in_row, register_at, in_register_at, either, in_reg, in_home, get_emptied}
+use Rattle.loc_state.proofs.Numbers.{numbers_same, test_same, in_row, register_at, in_register_at, either, in_reg, in_home}
 use Rattle.loc_back.specs.declared.part.Stage.{Stage}
 use Rattle.loc_back.specs.declared.part.Stage.TheVariants.{Behind, End as AtEnd, Operation as Within, Done}
 use Rattle.loc_back.specs.declared.part.BackPart.{BackPart}
 use Rattle.loc_back.specs.declared.backward.Backward.{Backward}
 use Rattle.loc_back.specs.Steps.{settled, taken, evicted, other, begins, defined, all_saved, seated, unseated, called, in_part}
-use Rattle.loc_back.specs.Served.{Section, lives_from, Route, IsStanding, IsAt, IsTaking, IsEntered, IsMadeIn, IsOwn, CanDefine, AreGiven, CanCall, with_def, uses_at, due, Simulates}
+use Rattle.loc_back.specs.Served.{Section, lives_from, Route, IsStanding, IsAt, IsTaking, IsEntered, IsMadeIn, IsOwn, CanDefine, CanCall, uses_at, due, Simulates}
 use Rattle.loc_back.proofs.Opening.{settled_at}
 use Rattle.loc_back.proofs.Leading.{drop_is, lives_at, used_lives, is_or_not}
-use Rattle.loc_back.proofs.Standing.{has_saved, saves_it}
+use Rattle.loc_back.proofs.Standing.{has_saved}
 use Rattle.loc_back.proofs.GivenSeats.{seated_there, unseated_grows, unseated_there, all_saved_grows, all_saved_there, is_other}
 use Rattle.loc_back.proofs.Walks.{defines_to, calls_to}
-use Rattle.linear_scan.proofs.Candidates.{in_register_set, lowest_is, full, Candidate, all_in}
+use Rattle.linear_scan.proofs.Candidates.{in_register_set, lowest_is, full}
 use Rattle.linear_scan.proofs.Operating.{IsFitting, AreFitting}
 use Rattle.bottom_up.specs.Policy.{victim, before, own_or_lowest, seated_at, with_use, with_arguments, with_first, before_call, register_in, call_one, take_at, take_one, take_all, empty_or, made_in, operate, operate_all}
 use Rattle.bottom_up.proofs.Chosen.{victim_is}
-use Rattle.bottom_up.proofs.Covering.{now_at, placed_emptied, Taking, IsUse, take_all_kept}
+use Rattle.bottom_up.proofs.Covering.{now_at, placed_emptied, take_all_kept}
 
 ---- How many registers there are
 

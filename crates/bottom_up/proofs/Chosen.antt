@@ -1,5 +1,5 @@
 -- The register that is given up is one whose value isn't kept, where there is one.
-use Rattle.std.proofs.Common.{◌≡◌, ℕ, zero, suc, ◌+◌, ◌<◌, Bool, true, false, cond, List, [], ◌∷◌, length, Option, Some, None, refl, sym, ap, ◌∙◌, subst, arith}
+use Rattle.std.proofs.Common.{◌≡◌, ℕ, zero, suc, ◌+◌, Bool, true, false, cond, List, [], ◌∷◌, Option, Some, None, refl, sym, ap, ◌∙◌, subst, arith}
 use Rattle.block_runs.specs.Live.{has}
 use Rattle.lir_core.specs.Spots.{get}
 use Rattle.linear_scan.proofs.Candidates.{Candidate}

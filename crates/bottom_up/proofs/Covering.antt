@@ -1,20 +1,19 @@
 -- Uses that are taken: what is walked, and what has a place.
-use Rattle.std.proofs.Common.{◌≡◌, ◌≢◌, ℕ, zero, suc, ◌+◌, ◌<◌, ◌≤◌, Bool, true, false, cond, List, [], ◌∷◌, ◌++◌, map, length, set, Option, Some, None, refl, sym, ap, ◌∙◌, subst, arith, ◌⊎◌, inl, inr, ⊎_elim, length-set, append_assoc}
+use Rattle.std.proofs.Common.{◌≡◌, ℕ, ◌<◌, ◌≤◌, Bool, true, false, cond, List, [], ◌∷◌, ◌++◌, length, set, Option, Some, None, refl, sym, ap, ◌∙◌, subst, arith, ◌⊎◌, inl, inr, ⊎_elim, length-set, append_assoc}
 use Rattle.std.specs.Prelude.{◌==◌}
 use Rattle.std.proofs.lemmas.List.{get_or-set_same}
 use Rattle.block_runs.specs.Live.{has}
 use Rattle.lir_core.specs.declared.places.Places.{Places}
-use Rattle.lir_core.specs.Spots.{get, in_register, placed, IsSingle}
+use Rattle.lir_core.specs.Spots.{get, in_register, placed}
 use Rattle.loc_state.specs.Registers.{register_of, lowest_empty}
 use Rattle.loc_state.specs.Steps.{saved}
-use Rattle.loc_state.specs.Walked.{Apart}
-use Rattle.loc_state.proofs.Numbers.{numbers_same, test_same, test_apart, or_rest, get_set, in_row, register_at, in_register_at, either, in_reg, in_home, append_nil}
+use Rattle.loc_state.proofs.Numbers.{numbers_same, test_same, or_rest, in_row, register_at, in_register_at, either, in_reg, in_home, append_nil}
 use Rattle.loc_back.specs.declared.part.Stage.{Stage}
 use Rattle.loc_back.specs.declared.part.Stage.TheVariants.{Behind, End as AtEnd, Operation as Within, Done}
 use Rattle.loc_back.specs.declared.part.BackPart.{BackPart}
 use Rattle.loc_back.specs.declared.backward.Backward.{Backward}
 use Rattle.loc_back.specs.Steps.{taken, evicted, in_part}
-use Rattle.loc_back.specs.Served.{Route, IsStanding, AreNoted, IsAt, IsTaking, Simulates, MayTake, MayEvict}
+use Rattle.loc_back.specs.Served.{Route, IsStanding, AreNoted, IsAt, IsTaking, Simulates}
 use Rattle.loc_back.proofs.Standing.{has_saved, saves_it}
 use Rattle.loc_back.proofs.Walks.{takes_to, evicts_to}
 use Rattle.linear_scan.proofs.Candidates.{in_register_set, was_back, lowest_is, Candidate, candidate, AllIn, apart_from, all_in_push}

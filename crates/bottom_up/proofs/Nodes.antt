@@ -1,10 +1,10 @@
 -- A node before those that are walked: from their start to its own.
-use Rattle.std.proofs.Common.{◌≡◌, ◌≢◌, ℕ, zero, suc, ◌+◌, ◌<◌, ◌≤◌, Bool, true, false, ◌&&◌, cond, List, [], ◌∷◌, ◌++◌, map, length, drop, set, Option, Some, None, refl, sym, ap, ◌∙◌, subst, arith, ◌⊎◌, inl, inr, ⊎_elim}
+use Rattle.std.proofs.Common.{◌≡◌, ℕ, zero, suc, ◌+◌, ◌<◌, ◌≤◌, Bool, true, false, ◌&&◌, cond, List, [], ◌∷◌, ◌++◌, map, length, drop, set, Option, Some, None, refl, sym, ap, ◌∙◌, subst, arith, ◌⊎◌, inl, inr, ⊎_elim}
 use Rattle.std.specs.Prelude.{◌==◌, slice_get}
 use Rattle.std.specs.List.{list_all}
 use Rattle.std.proofs.lemmas.List.{length-map}
 use Rattle.std.proofs.lemmas.Bool.{cases_lt, and_parts}
-use Rattle.block_runs.specs.Blocks.{Operation, CodeBlock, end_uses, successors}
+use Rattle.block_runs.specs.Blocks.{CodeBlock, end_uses, successors}
 use Rattle.block_runs.specs.declared.end.End.{End}
 use Rattle.block_runs.specs.declared.end.End.TheVariants.{Jump, Branch, Nonzero, Return, Trap}
 use Rattle.block_runs.specs.Live.{has, defs_of, Live, LiveBehind}
@@ -33,12 +33,12 @@ use Rattle.loc_back.proofs.Opening.{settled_at}
 use Rattle.loc_back.proofs.Places.{settled_backed, homes_grow}
 use Rattle.loc_back.proofs.Walks.{enters_to}
 use Rattle.linear_scan.specs.Linear.{Case, params_of, end_position}
-use Rattle.linear_scan.proofs.Candidates.{in_register_set, all_in}
+use Rattle.linear_scan.proofs.Candidates.{in_register_set}
 use Rattle.linear_scan.proofs.Fitting.{are_fitting}
 use Rattle.bottom_up.specs.Policy.{is_empty, take_all, operate_all}
-use Rattle.bottom_up.specs.Ends.{param_register, argument_register, given, if_none, without_register, not_given, given_at, passed_home, homed_at}
-use Rattle.bottom_up.specs.Bottom.{made_by, made_along, next_params, to_end, before_it}
-use Rattle.bottom_up.proofs.Covering.{now_at, placed_filled, Taking, IsUse, take_all_kept}
+use Rattle.bottom_up.specs.Ends.{argument_register, given, if_none, without_register, not_given, given_at, passed_home, homed_at}
+use Rattle.bottom_up.specs.Bottom.{made_by, made_along, next_params, before_it}
+use Rattle.bottom_up.proofs.Covering.{now_at, Taking, take_all_kept}
 use Rattle.bottom_up.proofs.Sections.{sec, after_is, used_after, live_after, live_lives, lives_live, starts, there, live_not_made, read_below, lives_early}
 use Rattle.bottom_up.proofs.Along.{row_in, end_regs, take_all_frame, settled_end, placed_grows, Along, operate_all_kept}
 

@@ -1,22 +1,21 @@
 -- Nodes as sections: what lives along them is what is live, and each value is made in one place.
-use Rattle.std.proofs.Common.{◌≡◌, ◌≢◌, ℕ, zero, suc, ◌+◌, ◌<◌, ◌≤◌, Bool, true, false, ◌||◌, ◌&&◌, cond, List, [], ◌∷◌, ◌++◌, map, length, take, drop, Option, Some, None, refl, sym, ap, ◌∙◌, subst, arith, ◌⊎◌, inl, inr, ⊎_elim}
-use Rattle.std.specs.Prelude.{◌==◌, slice_get, option_to_list, filter}
+use Rattle.std.proofs.Common.{◌≡◌, ◌≢◌, ℕ, zero, suc, ◌+◌, ◌<◌, ◌≤◌, Bool, true, false, cond, List, [], ◌∷◌, ◌++◌, map, take, drop, Option, Some, None, refl, sym, ap, ◌∙◌, arith, ◌⊎◌, inl, inr, ⊎_elim}
+use Rattle.std.specs.Prelude.{◌==◌, slice_get, option_to_list}
 use Rattle.run_laws.specs.Layers.{places_from}
 use Rattle.block_runs.specs.Blocks.{Operation, CodeBlock, block_at, end_uses, successors}
-use Rattle.block_runs.specs.declared.end.End.{End}
-use Rattle.block_runs.specs.Live.{has, defs_of, block_makes, Live, Here, Later, LiveBehind, IsWanted}
+use Rattle.block_runs.specs.Live.{has, defs_of, block_makes, Live, LiveBehind, IsWanted}
 use Rattle.block_runs.specs.Valid.{times, made, block_reads, all_below}
 use Rattle.lir_core.specs.declared.flow.Lir.{Lir}
 use Rattle.lir_core.specs.declared.flow.Node.{Node}
 use Rattle.lir_core.specs.declared.flow.Flow.{Flow}
-use Rattle.lir_core.specs.Flows.{operation_of, code_node, code_nodes, leads, IsValidFlow}
+use Rattle.lir_core.specs.Flows.{operation_of, code_node, code_nodes, IsValidFlow}
 use Rattle.lir_core.specs.Rows.{has_bit}
 use Rattle.global_live.specs.Reading.{HasLive}
-use Rattle.global_live.proofs.Lists.{has-append, has_front, has_back, in_parts, not_in_front, not_in_back, times-append, times_of_in, times_of_out, has-filter, all_below_in}
+use Rattle.global_live.proofs.Lists.{has_front, has_back, in_parts, not_in_front, not_in_back, times-append, times_of_in, times_of_out, has-filter, all_below_in}
 use Rattle.global_live.proofs.Tables.{at_block}
 use Rattle.loc_back.specs.Marks.{live_at, live_at_each}
 use Rattle.loc_back.specs.Served.{Section, lives, lives_from, section_of}
-use Rattle.loc_state.proofs.Numbers.{numbers_same, numbers_apart, test_same, test_apart, or_rest}
+use Rattle.loc_state.proofs.Numbers.{numbers_same, test_same, or_rest}
 use Rattle.linear_scan.proofs.Needs.{alive}
 use Rattle.linear_scan.proofs.Wanted.{last_live, at_node, block_is, live_below, behind_is, is_behind, wanted_alive, live_alive, alive_live, in_live_into}
 use Rattle.linear_scan.proofs.Fitting.{made_below, made_once}

@@ -1,30 +1,26 @@
 -- The whole trace, and its result.
-use Rattle.std.proofs.Common.{◌≡◌, ℕ, zero, suc, ◌+◌, ◌<◌, ◌≤◌, Bool, true, false, ◌||◌, ◌&&◌, cond, List, [], ◌∷◌, ◌++◌, map, length, get_or, Option, Some, None, refl, sym, ap, ap₂, ◌∙◌, subst, arith, ◌⊎◌, inl, inr, ⊎_elim}
-use Rattle.std.specs.Prelude.{slice_get, filter}
-use Rattle.block_runs.specs.Blocks.{Operation, CodeBlock, block_at, end_uses, successors}
-use Rattle.block_runs.specs.Live.{has, block_makes, Live, Later, LiveBehind, IsWanted}
+use Rattle.std.proofs.Common.{◌≡◌, ℕ, ◌≤◌, Bool, true, false, ◌&&◌, cond, List, [], ◌∷◌, Option, Some, None, refl, sym, ap, ap₂, ◌∙◌, subst, ◌⊎◌, inl, inr, ⊎_elim}
+use Rattle.std.specs.Prelude.{slice_get}
+use Rattle.block_runs.specs.Blocks.{CodeBlock, block_at, end_uses, successors}
+use Rattle.block_runs.specs.Live.{has, Live, Later, LiveBehind, IsWanted}
 use Rattle.lir_core.specs.declared.flow.Node.{Node}
-use Rattle.lir_core.specs.declared.flow.Flow.{Flow}
 use Rattle.lir_core.specs.declared.places.Places.{Places}
 use Rattle.lir_core.specs.declared.places.Line.{Line}
-use Rattle.lir_core.specs.declared.places.TraceOut.{TraceOut}
-use Rattle.lir_core.specs.Flows.{operation_of, code_node, code_nodes, leads, IsPath, AreDifferent, IsTrace, IsValidFlow}
-use Rattle.lir_core.specs.Spots.{get, in_register, placed, IsSingle, IsRow}
+use Rattle.lir_core.specs.Flows.{code_node, code_nodes, leads, IsPath, AreDifferent, IsValidFlow}
+use Rattle.lir_core.specs.Spots.{in_register, placed}
 use Rattle.lir_core.specs.Lines.{end_reads, Room}
 use Rattle.lir_core.specs.Walks.{Walks}
-use Rattle.lir_core.specs.Sound.{IsStart, IsEnd, IsSoundNode, IsSound, AreSoundLines, room_of}
+use Rattle.lir_core.specs.Sound.{IsSoundNode, IsSound, AreSoundLines, room_of}
 use Rattle.lir_core.proofs.Walking.{walked}
 use Rattle.global_live.specs.Reading.{HasLive}
 use Rattle.global_live.proofs.Lists.{has_back, has-filter, in_parts}
 use Rattle.live_interval.specs.Needs.{live_into, first_of}
-use Rattle.loc_state.specs.Walked.{Task, AllWalk}
+use Rattle.loc_state.specs.Walked.{AllWalk}
 use Rattle.loc_state.proofs.Homing.{has_all_inserted}
 use Rattle.loc_state.proofs.Numbers.{either, in_reg, in_home}
-use Rattle.loc_back.specs.declared.part.Stage.TheVariants.{Behind}
 use Rattle.loc_back.specs.declared.backward.Backward.{Backward}
 use Rattle.loc_back.specs.Marks.{live_at, at_start, at_end, marked, with_marks, starts_marked, ends_marked}
 use Rattle.loc_back.specs.Steps.{started, left_node, closed}
-use Rattle.loc_back.specs.Served as served
 use Rattle.loc_back.specs.Served.{Section, lives_from, Route, section_of, sections, tasks}
 use Rattle.loc_back.proofs.MarkedSets.{has_marked, marked_rises}
 use Rattle.loc_back.proofs.Walks.{starts_to, closes_to}
@@ -33,7 +29,7 @@ use Rattle.linear_scan.specs.Inputs.{IsInput}
 use Rattle.linear_scan.proofs.Nodes.{AllThere, all_there}
 use Rattle.linear_scan.proofs.Wanted.{at_node}
 use Rattle.linear_scan.proofs.Traces.{AllSound, whole}
-use Rattle.bottom_up.specs.Bottom.{made_by, made_along, live_first, homed_first, before_it, along, walked_back, result_of}
+use Rattle.bottom_up.specs.Bottom.{made_by, made_along, live_first, homed_first, along, walked_back, result_of}
 use Rattle.bottom_up.proofs.Sections.{sec, used_after, live_after, live_lives, wanted_lives, lives_live, starts, there, not_here}
 use Rattle.bottom_up.proofs.Nodes.{IsKept, AllKept, AreBehind, node_more}
 

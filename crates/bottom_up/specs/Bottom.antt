@@ -2,7 +2,6 @@
 use Rattle.std.specs.Prelude.{ℕ, ◌+◌, List, [], ◌∷◌, ◌++◌, filter, Option, Some, None, slice_get}
 use Rattle.block_runs.specs.Live.{has, block_makes}
 use Rattle.lir_core.specs.declared.flow.Node.{Node}
-use Rattle.lir_core.specs.declared.flow.Flow.{Flow}
 use Rattle.lir_core.specs.declared.places.TraceOut.{TraceOut}
 use Rattle.lir_core.specs.Flows.{code_node}
 use Rattle.lir_core.specs.Lines.{end_reads}

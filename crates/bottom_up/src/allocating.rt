@@ -26,8 +26,10 @@ use std::alloc::Global;
 pub fn allocate(alloc: Global, t: &TraceIn) -> Result<TraceOut, Memory>
     requires enough { 4 ≤ t.now.regs }
     requires few { t.now.regs ≤ 16 }
-    ensures bottom_up { IsInput (case_of t.now) t.now.trace.now.nodes None → IfOk result (λ out. out ≡ bottom_up (case_of t.now) t.now.number t.now.trace.now.nodes) }
-    ensures sound { IsInput (case_of t.now) t.now.trace.now.nodes None → IfOk result (IsSound t.now.regs t.now.flow.now t.now.trace.now) }
+    ensures bottom_up { IsInput (case_of t.now) t.now.trace.now.nodes None
+        → IfOk result (λ out. out ≡ bottom_up (case_of t.now) t.now.number t.now.trace.now.nodes) }
+    ensures sound { IsInput (case_of t.now) t.now.trace.now.nodes None
+        → IfOk result (IsSound t.now.regs t.now.flow.now t.now.trace.now) }
 {
     let positions = positions(alloc, t.flow, t.trace, t.live)?;
     let homed = homed_first(alloc, t)?;

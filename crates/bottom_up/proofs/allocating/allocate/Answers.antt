@@ -1,11 +1,10 @@
 use Rattle.std.proofs.Common.{◌≡◌, ℕ, List, Option, None, ◌∙◌, ap, ap₂, sym, subst}
 use Rattle.std.proofs.Math.Path.{fun_ext}
 use Rattle.live_interval.specs.Asked.{mention_told}
-use Rattle.loc_back.specs.declared.backward.Backward.{Backward}
 use Rattle.loc_back.specs.Steps.{started, closed}
 use Rattle.linear_scan.specs.Linear.{Case}
 use Rattle.linear_scan.specs.Inputs.{case_of, IsInput}
-use Rattle.bottom_up.specs.Bottom.{homed_first, along, walked_back, result_of, mention_in, bottom_up}
+use Rattle.bottom_up.specs.Bottom.{homed_first, along, walked_back, result_of, mention_in}
 use Rattle.lir_core.specs.Sound.{IsSound}
 use Rattle.bottom_up.proofs.Traces.{bottom_sound}
 use Rattle.bottom_up.proofs.allocating.allocate.Goals as goal

@@ -1,5 +1,4 @@
-use Rattle.std.proofs.Common.{◌≡◌, ◌∙◌, sym, ap, filter, arith}
-use Rattle.std.proofs.lemmas.Grind.{common_steps}
+use Rattle.std.proofs.Common.{◌≡◌, ◌∙◌, ap, filter}
 use Rattle.block_runs.specs.Live.{has}
 use Rattle.linear_scan.specs.Inputs.{case_of}
 use Rattle.bottom_up.specs.Bottom.{made_along, live_first}

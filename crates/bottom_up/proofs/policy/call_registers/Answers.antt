@@ -1,5 +1,4 @@
-use Rattle.std.proofs.Common.{◌≡◌, ◌∙◌, sym, ap, ap₂, map, refl, None, arith}
-use Rattle.std.proofs.lemmas.Grind.{common_steps}
+use Rattle.std.proofs.Common.{◌≡◌, ◌∙◌, sym, ap, ap₂, map, refl, None}
 use Rattle.lir_core.specs.Flows.{operation_of}
 use Rattle.bottom_up.specs.Policy.{register_in, before_call}
 use Rattle.bottom_up.proofs.policy.call_registers.Goals as goal

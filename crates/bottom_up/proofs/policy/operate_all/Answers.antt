@@ -1,10 +1,10 @@
-use Rattle.std.proofs.Common.{◌≡◌, ◌∙◌, ◌+◌, ◌-◌, ap, drop, arith, Some, sym}
+use Rattle.std.proofs.Common.{◌≡◌, ◌∙◌, ◌+◌, ◌-◌, ap, arith, Some, sym}
 use Rattle.std.specs.Prelude.{slice_get}
 use Rattle.std.proofs.lemmas.Option.{slice_get-get_or}
 use Rattle.live_interval.specs.Asked.{mention_told}
 use Rattle.loc_back.specs.declared.part.BackPart.{BackPart}
 use Rattle.loc_back.specs.declared.backward.Backward.{Backward}
-use Rattle.bottom_up.specs.Policy.{operate, operate_all}
+use Rattle.bottom_up.specs.Policy.{operate}
 use Rattle.bottom_up.proofs.Steps.{operate_step}
 use Rattle.bottom_up.proofs.policy.operate_all.Goals as goal
 
