@@ -1,10 +1,10 @@
 -- Marks.
-use Rattle.std.proofs.Common.{◌≡◌, ◌≢◌, ℕ, zero, suc, ◌+◌, ◌*◌, ◌/◌, ◌%◌, ◌^◌, ◌<◌, ◌≤◌, Bool, true, false, ◌||◌, ◌&&◌, cond, List, [], ◌∷◌, ◌++◌, length, replicate, take, get_or, refl, sym, ap, ap₂, ◌∙◌, arith}
+use Rattle.std.proofs.Common.{◌≡◌, ◌≢◌, ℕ, zero, suc, ◌+◌, ◌/◌, ◌%◌, ◌<◌, ◌≤◌, Bool, true, false, ◌||◌, ◌&&◌, cond, List, [], ◌∷◌, ◌++◌, length, replicate, take, get_or, refl, sym, ap, ap₂, ◌∙◌, arith}
 use Rattle.std.specs.Prelude.{◌==◌, filter}
 use Rattle.std.specs.List.{list_any}
 use Rattle.std.specs.Int.{bit_at}
 use Rattle.std.proofs.lemmas.Bool.{eqb-true, eq-eqb}
-use Rattle.std.proofs.lemmas.List.{length-set, get_or-replicate, length-replicate, take_more}
+use Rattle.std.proofs.lemmas.List.{length-set, length-replicate, take_more}
 use Rattle.std.proofs.lemmas.Nat.Bits.{bit_at-zero}
 use Rattle.run_laws.specs.Layers.{places_from}
 use Rattle.block_runs.specs.Live.{has}
@@ -13,7 +13,7 @@ use Rattle.global_live.specs.Rows.{with_value}
 use Rattle.global_live.proofs.Lists.{has-append, has-filter}
 use Rattle.global_live.proofs.Tables.{has_places}
 use Rattle.global_live.proofs.Bits.{value_in, value_beside}
-use Rattle.live_interval.specs.Needs.{live_into, live_from}
+use Rattle.live_interval.specs.Needs.{live_into}
 use Rattle.trivial_alloc.specs.Plain.{picked}
 use Rattle.trivial_alloc.specs.Marks.{AreMarked, all_marked}
 

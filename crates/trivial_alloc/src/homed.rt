@@ -95,12 +95,7 @@ fn mark(marks: &mut Vec<u64>, value: u32)
 }
 
 // What is marked of so many values, homed, and nothing in registers.
-fn in_homes(
-    alloc: Global,
-    regs: u8,
-    marks: Vec<u64>,
-    values: u32,
-) -> Result<Places, AllocError>
+fn in_homes(alloc: Global, regs: u8, marks: Vec<u64>, values: u32) -> Result<Places, AllocError>
     ensures { IfOk result (λ places. places ≡ in_homes regs (all_marked values marks.items)) }
 {
     let marked = LiveSets::from_rows(vec![in alloc; marks]?);

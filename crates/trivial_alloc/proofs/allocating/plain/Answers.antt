@@ -1,4 +1,4 @@
-use Rattle.std.proofs.Common.{ℕ, List, arith, subst, sym, ap, ◌∙◌, length, get_or, ◌<◌}
+use Rattle.std.proofs.Common.{ℕ, List, arith, subst, sym, ap, length, get_or, ◌<◌}
 use Rattle.lir_core.specs.declared.places.TraceOut.{TraceOut}
 use Rattle.lir_core.specs.Sound.{IsSound}
 use Rattle.trivial_alloc.proofs.Sounds.{sound, in_flow, parts_more, out_is}
