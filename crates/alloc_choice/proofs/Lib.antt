@@ -1,0 +1,4 @@
+pub mod Fits
+pub mod Seated
+pub mod Hinted
+pub mod Ready

@@ -1,0 +1,5 @@
+pub mod Choice
+pub mod Results
+pub mod Places
+pub mod Lent
+pub mod Tasks
