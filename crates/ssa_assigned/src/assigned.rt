@@ -1,0 +1,197 @@
+//! Which variables statements assign.
+
+ghost use Rattle.std.specs.Prelude.{◌≡◌, ◌||◌, ℕ, OnOk};
+ghost use Rattle.ssa_lowered.specs.Variables.{itself, origin, assigned};
+ghost use Rattle.ssa_assigned.specs.Assigned.{has, assigned_list, assigned_parts, assigned_cases, assigned_types};
+
+use ob_types::{Base, Branch, CasePart, Designator, Stmt, TypePart};
+use ssa_exprs::LowerFault;
+
+/// The variable that a designator is as a whole.
+fn note_whole(d: &Designator, found: &mut Vec<u32>) -> Result<(), LowerFault>
+    ensures { OnOk result ((x : ℕ) → has found.new.items x ≡ (has found.old.items x || itself d.now x)) }
+{
+    match d {
+        Designator::Whole(base, _) => note_base(*base, found),
+        Designator::Part(_, _, _) => Ok(()),
+    }
+}
+
+/// A local variable.
+fn note_base(base: Base, found: &mut Vec<u32>) -> Result<(), LowerFault>
+    ensures { OnOk result ((x : ℕ) → has found.new.items x ≡ (has found.old.items x || origin base x)) }
+{
+    match base {
+        Base::Local(x) => {
+            found.push(x)?;
+            Ok(())
+        }
+        Base::Done => Ok(()),
+        Base::Global { .. } => Ok(()),
+        Base::Parameter(_) => Ok(()),
+        Base::Text(_) => Ok(()),
+    }
+}
+
+/// The variables that statements assign.
+#[cycle(noting)]
+pub fn note_all(list: &[Stmt], found: &mut Vec<u32>) -> Result<(), LowerFault>
+    ensures { OnOk result ((x : ℕ) → has found.new.items x ≡ (has found.old.items x || assigned_list list.now x)) }
+{
+    for s in list {
+        note(s, found)?;
+    }
+    Ok(())
+}
+
+/// Those that the parts of IF or WHILE assign.
+#[cycle(noting)]
+pub fn note_parts(parts: &[Branch], found: &mut Vec<u32>) -> Result<(), LowerFault>
+    ensures { OnOk result ((x : ℕ) → has found.new.items x ≡ (has found.old.items x || assigned_parts parts.now x)) }
+{
+    for part in parts {
+        note_all(part.body.as_slice(), found)?;
+    }
+    Ok(())
+}
+
+/// Those that the parts of CASE assign.
+#[cycle(noting)]
+pub fn note_cases(parts: &[CasePart], found: &mut Vec<u32>) -> Result<(), LowerFault>
+    ensures { OnOk result ((x : ℕ) → has found.new.items x ≡ (has found.old.items x || assigned_cases parts.now x)) }
+{
+    for part in parts {
+        note_all(part.body.as_slice(), found)?;
+    }
+    Ok(())
+}
+
+/// Those that the parts of CASE on types assign.
+#[cycle(noting)]
+pub fn note_types(parts: &[TypePart], found: &mut Vec<u32>) -> Result<(), LowerFault>
+    ensures { OnOk result ((x : ℕ) → has found.new.items x ≡ (has found.old.items x || assigned_types parts.now x)) }
+{
+    for part in parts {
+        note_all(part.body.as_slice(), found)?;
+    }
+    Ok(())
+}
+
+/// Those that a statement assigns.
+#[cycle(noting)]
+pub fn note(s: &Stmt, found: &mut Vec<u32>) -> Result<(), LowerFault>
+    ensures { OnOk result ((x : ℕ) → has found.new.items x ≡ (has found.old.items x || assigned s.now x)) }
+{
+    match s {
+        Stmt::Assign(d, _) => {
+            note_whole(d, found)?;
+            Ok(())
+        }
+        Stmt::Increase(d, _) => {
+            note_whole(d, found)?;
+            Ok(())
+        }
+        Stmt::Decrease(d, _) => {
+            note_whole(d, found)?;
+            Ok(())
+        }
+        Stmt::Include(d, _) => {
+            note_whole(d, found)?;
+            Ok(())
+        }
+        Stmt::Exclude(d, _) => {
+            note_whole(d, found)?;
+            Ok(())
+        }
+        Stmt::New(d) => {
+            note_whole(d, found)?;
+            Ok(())
+        }
+        Stmt::If(parts, other) => {
+            note_parts(parts, found)?;
+            note_all(other, found)?;
+            Ok(())
+        }
+        Stmt::While(parts) => {
+            note_parts(parts, found)?;
+            Ok(())
+        }
+        Stmt::Repeat(body, _) => {
+            note_all(body, found)?;
+            Ok(())
+        }
+        Stmt::For { variable, body, .. } => {
+            note_whole(variable, found)?;
+            note_all(body, found)?;
+            Ok(())
+        }
+        Stmt::Case(_, parts) => {
+            note_cases(parts, found)?;
+            Ok(())
+        }
+        Stmt::CasePointer(_, parts) => {
+            note_types(parts, found)?;
+            Ok(())
+        }
+        Stmt::CaseParameter(_, parts) => {
+            note_types(parts, found)?;
+            Ok(())
+        }
+        Stmt::CopyArray(_, _) => Ok(()),
+        Stmt::CopyRecord(_, _) => Ok(()),
+        Stmt::Assert(_) => Ok(()),
+        Stmt::OutChar(_) => Ok(()),
+        Stmt::OutInt(_, _) => Ok(()),
+        Stmt::OutString(_) => Ok(()),
+        Stmt::OutLn => Ok(()),
+        Stmt::InChar(_) => Ok(()),
+        Stmt::Call(_) => Ok(()),
+    }
+}
+
+#[cfg(test)]
+mod tests {
+    use super::*;
+    use ob_types::{Checked, Expr, TypeKind};
+    use std::alloc::Global;
+    use std::test::Fail;
+
+    fn number(n: u64) -> Checked {
+        Checked {
+            form: Expr::Literal(n),
+            kind: TypeKind::Int,
+        }
+    }
+
+    fn assigns(alloc: Global, many: u32) -> Result<Vec<Stmt>, LowerFault> {
+        let mut list = Vec::new(alloc);
+        for x in 0..many {
+            let d = Designator::Whole(Base::Local(x), TypeKind::Int);
+            list.push(Stmt::Assign(d, number(1)))?;
+        }
+        list.push(Stmt::OutLn)?;
+        Ok(list)
+    }
+
+    #[test]
+    fn notes_what_is_assigned_inside(rt: HostRuntime) -> Result<(), Fail> {
+        let mut found = Vec::new(rt.alloc());
+        let body = match assigns(rt.alloc(), 3000) {
+            Ok(list) => list,
+            Err(_) => Vec::new(rt.alloc()),
+        };
+        let mut list = Vec::new(rt.alloc());
+        list.push(Stmt::For {
+            variable: Designator::Whole(Base::Local(7000), TypeKind::Int),
+            first: number(0),
+            limit: number(9),
+            step: 1,
+            body,
+        })?;
+        assert!(rt; note_all(list.as_slice(), &mut found).is_ok());
+        assert!(rt; found.len() == 3001);
+        assert!(rt; found[0] == 7000);
+        assert!(rt; found[3000] == 2999);
+        Ok(())
+    }
+}

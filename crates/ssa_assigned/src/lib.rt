@@ -1,0 +1,10 @@
+//! Which variables statements assign.
+//!
+//! A join's parameters are the register variables that are assigned before it, and jumps to it are made before it is: so
+//! these are found before a statement with blocks is lowered. Each call adds the variables that `ssa_lowered` says its
+//! statements assign as wholes, in the order of the tree.
+#![tactic(auto)]
+
+mod assigned;
+
+pub use assigned::{note, note_all, note_cases, note_parts, note_types};
