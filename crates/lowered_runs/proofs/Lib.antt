@@ -33,3 +33,5 @@ pub mod Returns
 pub mod Callees
 pub mod Procedures
 pub mod BodiesInOrder
+pub mod Cases
+pub mod Labels

@@ -56,6 +56,21 @@ use Rattle.ssa_lowered.specs.Variables.{is_structured, either, none, origin, its
 use Rattle.ssa_lowered.specs.Lowered.{Here, in_register, variable_of, local_by, parameter_by, by_mode, based, named, expr, link as lower_link, linked as lower_linked, called as lower_called, argument as lower_argument, arguments as lower_arguments, answer as lower_answer, home, registers, deed, deeds, deeds_of, one_of, alternatives, guarded_rounds}
 use Rattle.lowered_runs.specs.Words.{Whole, Level, Right, local, Apart}
 use Rattle.lowered_runs.specs.Covered.{is_simple, has_length, part_covered, base_has_parts, selectors_covered, selector_covered, is_fixed, base_covered, designator_covered, expr_covered, links_covered, link_covered, call_covered, argument_covered, arguments_covered, checked_covered, covered, row_covered, branches_covered, answer_covered}
+use Rattle.block_runs.specs.declared.end.End.TheVariants.{Trap as Trap_end}
+use Rattle.ob_types.specs.Operators.{label_has, labels_have}
+use Rattle.ob_types.specs.Statements.{case as case_of_value}
+use Rattle.ob_types.specs.Meaning.{case_parts}
+use Rattle.ob_types.specs.Store.{unless}
+use Rattle.ob_types.specs.WellFormed.{label_fine}
+use Rattle.ob_types.specs.declared.statements.Stmt.{Row_of-CasePart, end_of-CasePart, more_of-CasePart}
+use Rattle.ssa_lowered.specs.Control.{case}
+use Rattle.ssa_lowered.specs.Lowered.{labels_of, label_tests, case_bodies, rungs_from, case_of as lower_case}
+use Rattle.ssa_lowered.specs.Variables.{assigned_case_parts, lent_by_case_parts}
+use Rattle.lowered_runs.specs.Covered.{case_covered}
+use Rattle.lowered_runs.proofs.Exprs.{follows_bits}
+use Rattle.lowered_runs.proofs.Cases.{bodies_known, first_of, parts_of, Matched, Bodies, follows_case}
+use Rattle.lowered_runs.proofs.Labels.{Known, known_steady, labels_any, rungs_same, all_labels_say, trap_otherwise}
+use Rattle.std.proofs.Common.{map, ap₂}
 use Rattle.lowered_runs.proofs.Levels.{layout, here, running, locals, LocalIs, Variables, Given, steady_given}
 use Rattle.lowered_runs.proofs.Follows.{Steady, Follows, FollowsTo, follows_bind, follows_seen, follows_give, follows_sound, follows_known, follows_less, follows_mask}
 use Rattle.lowered_runs.proofs.Exprs.{CellIs, follows_literal, follows_routine, follows_unary, follows_binary}
@@ -773,6 +788,51 @@ module _ (w : Whole) (l : Level) (right : Right w) (apart : Apart l) (vars : Var
   answer_is None (Some x) fine ok lends = no fine
   answer_is (Some k) None fine ok lends = no fine
 
+  ---- CASE
+
+  abbrev deeds_in : {m : _} → Row_of-CasePart m → List Deed
+  deeds_in end_of-CasePart = []
+  deeds_in (more_of-CasePart labels _ body rest) = effects p calls runs fuel body ∷ deeds_in rest
+
+  abbrev answers_of : {m : _} → ℕ → Row_of-CasePart m → List (List Bool)
+  answers_of v parts = map (λ ls. map (label_has v) ls) (labels_of p lay mine parts)
+
+  labels_are : {m : _} (parts : Row_of-CasePart m) → WellFormed.fine_case_parts p l.proc parts ≡ true → all (all label_fine) (labels_of p lay mine parts) ≡ true
+  labels_are end_of-CasePart fine = refl
+  labels_are (more_of-CasePart labels _ body rest) fine =
+      let y = and_of (all label_fine labels) (WellFormed.fine_row p l.proc body && WellFormed.fine_case_parts p l.proc rest) fine in
+      ap₂ (λ a b. a && b) y.0 (labels_are rest (and_of (WellFormed.fine_row p l.proc body) (WellFormed.fine_case_parts p l.proc rest) y.1).1)
+
+  matched : {m : _} (v : ℕ) (parts : Row_of-CasePart m) → Matched (answers_of v parts) (deeds_in parts)
+  matched v end_of-CasePart = tt
+  matched v (more_of-CasePart labels _ body rest) = matched v rest
+
+  cases_same : {m : _} (v : ℕ) (parts : Row_of-CasePart m) (s : Moment Objects) → first_of (parts_of (answers_of v parts) (deeds_in parts)) s ≡ case_parts p calls runs fuel v parts s
+  cases_same v end_of-CasePart s = refl
+  cases_same v (more_of-CasePart labels _ body rest) s =
+      ap (λ b. (if b then (effects p calls runs fuel body >>= λ _. give true) else first_of (parts_of (answers_of v rest) (deeds_in rest))) s) (labels_any v labels) ∙ by (labels_have v labels) (cases_same v rest s)
+    where
+      by : (b : Bool) → first_of (parts_of (answers_of v rest) (deeds_in rest)) s ≡ case_parts p calls runs fuel v rest s
+          → (if b then (effects p calls runs fuel body >>= λ _. give true) else first_of (parts_of (answers_of v rest) (deeds_in rest))) s ≡ (if b then (effects p calls runs fuel body >>= λ _. give true) else case_parts p calls runs fuel v rest) s
+      by true e = refl
+      by false e = e
+
+  case_is : {m : _} (x : Checked) (parts : Row_of-CasePart m) (inner : Mask) → WellFormed.fine_case_parts p l.proc parts ≡ true → Follows w l 1 fuel inner (Given w l) (CellIs w l) (value p calls runs x.form) (expr p lay mine x.form).value
+      → Bodies w l fuel (Given w l) inner steady (deeds_in parts) (case_bodies p lay mine parts)
+      → Follows w l 1 fuel inner (Given w l) Always (case_of_value l.proc (value p calls runs x.form) (λ v. case_parts p calls runs fuel v parts)) (lower_case p lay mine inner (expr p lay mine x.form).value (label_tests p lay mine parts) (case_bodies p lay mine parts) (λ out args. Trap_end 6))
+  case_is x parts inner fine one bodies = follows_bind w l steady (follows_bits w l steady one) (λ i. (parts_follow 0 i).grows) parts_follow
+    where
+      parts_follow : (v i : ℕ) → Follows w l 1 fuel inner (Known w l right fuel (Given w l) steady inner lay mine v i) Always (case_parts p calls runs fuel v parts >>= unless l.proc 6) (case inner (rungs_from p lay mine 0 (label_tests p lay mine parts i)) (case_bodies p lay mine parts) (λ out args. Trap_end 6))
+      parts_follow v i =
+          let K = Known w l right fuel (Given w l) steady inner lay mine v i in
+          let sk = known_steady w l right fuel (Given w l) steady inner lay mine v i in
+          let says = all_labels_say w l right fuel (Given w l) steady inner lay mine v i (labels_of p lay mine parts) (labels_are parts fine) in
+          let each = bodies_known w l fuel inner steady sk (λ n f s h. h.0) (deeds_in parts) (case_bodies p lay mine parts) bodies in
+          follows_same w l (first_of (parts_of (answers_of v parts) (deeds_in parts)) >>= unless l.proc 6) (case_parts p calls runs fuel v parts >>= unless l.proc 6) (λ s. ap (λ e. after e (unless l.proc 6)) (cases_same v parts s))
+          (subst (λ rs. Follows w l 1 fuel inner K Always (first_of (parts_of (answers_of v parts) (deeds_in parts)) >>= unless l.proc 6) (case inner rs (case_bodies p lay mine parts) (λ out args. Trap_end 6))) (sym (rungs_same p lay mine 0 (label_tests p lay mine parts i)))
+          (follows_case w l fuel K inner sk (label_tests p lay mine parts i) (answers_of v parts) says (deeds_in parts) (case_bodies p lay mine parts) each (matched v parts) (λ out args. Trap_end 6) (unless l.proc 6) (λ t. refl)
+          (trap_otherwise w l right fuel (Given w l) steady inner lay mine v i (label_tests p lay mine parts i) (answers_of v parts) says (deeds_in parts) (case_bodies p lay mine parts) each (matched v parts))))
+
   mutual
     pub stmt_is : (mask : Mask) (s : Stmt) → WellFormed.fine p l.proc s ≡ true → covered s ≡ true → Covers mask (assigned s) → Lends (lent_by s) → Follows w l 1 fuel mask (Given w l) Always (effect p calls runs fuel s) (deed p lay mine s)
     stmt_is mask (Assign d x) fine ok c lends =
@@ -868,7 +928,13 @@ module _ (w : Whole) (l : Level) (right : Right w) (apart : Apart l) (vars : Var
         (value_at y h.0 h.1 z3.0 (left_lends (lent y.form) (lent_by_all body) lends3))
         (follows_same w l (load (designated p calls runs d)) (fetch fixed.0) (load_is w l fixed.0 (designated p calls runs d) fixed.1) (follows_load w l (whole_of d) (designated p calls runs d) steady (home_is d t.0 t.1 t.2 t.3 whole at)))
         (follows_bind w l steady (row_is inner body y3.1 z3.1 (λ v e. right_of (in_register p lay mine (variable_of p lay mine v).site) (whole_of d v) (assigned_all body v) e) (right_lends (lent y.form) (lent_by_all body) lends3)) (λ u. stepped.grows) (λ u v. follows_known w l (λ n f s k. k.0) stepped))
-    stmt_is mask (Case' x _ parts) fine ok c lends = no ok
+    stmt_is mask (Case' x _ parts) fine ok c lends =
+        let y = and_of (gives_number (WellFormed.checked_form p l.proc x)) (WellFormed.fine_case_parts p l.proc parts) fine in
+        let z = and_of (checked_covered x) (case_covered parts) ok in
+        let g = number_form (WellFormed.checked_form p l.proc x) y.0 in
+        let inner = registers p lay mine (assigned_case_parts parts) in
+        follows_mask w l {low_need = 1} {less = inner} (omega arith) (not_covered mask (assigned_case_parts parts) c)
+        (case_is x parts inner y.1 (value_at x g.0 g.1 z.0 (left_lends (lent x.form) (lent_by_case_parts parts) lends)) (bodies_are inner parts y.1 z.1 (λ v e. e) (right_lends (lent x.form) (lent_by_case_parts parts) lends)))
     stmt_is mask (CasePointer' x _ parts) fine ok c lends = no ok
     stmt_is mask (CaseParameter' d _ parts) fine ok c lends = no ok
 
@@ -912,6 +978,17 @@ module _ (w : Whole) (l : Level) (right : Right w) (apart : Apart l) (vars : Var
         (forks_test w l (value p calls runs x.form) (checked_shows x g.0 g.1 z.0 (left_lends (lent x.form) (either (lent_by_all body) (lent_by_branches rest)) lends)).test)
         (row_is mask body y2.0 z2.0 (λ v e. c v (left_of (in_register p lay mine (variable_of p lay mine v).site) (assigned_all body v) (assigned_branches rest v) e)) (left_lends (lent_by_all body) (lent_by_branches rest) lends2))
         (rounds_any (has_branch rest) (rounds_are mask rest y2.1 z2.1 (λ v e. c v (right_of (in_register p lay mine (variable_of p lay mine v).site) (assigned_all body v) (assigned_branches rest v) e)) (right_lends (lent_by_all body) (lent_by_branches rest) lends2)))
+
+    bodies_are : (mask : Mask) {m : _} (parts : Row_of-CasePart m) → WellFormed.fine_case_parts p l.proc parts ≡ true → case_covered parts ≡ true → Covers mask (assigned_case_parts parts) → Lends (lent_by_case_parts parts)
+        → Bodies w l fuel (Given w l) mask steady (deeds_in parts) (case_bodies p lay mine parts)
+    bodies_are mask end_of-CasePart fine ok c lends = tt
+    bodies_are mask (more_of-CasePart labels _ body rest) fine ok c lends =
+        let y = and_of (all label_fine labels) (WellFormed.fine_row p l.proc body && WellFormed.fine_case_parts p l.proc rest) fine in
+        let y2 = and_of (WellFormed.fine_row p l.proc body) (WellFormed.fine_case_parts p l.proc rest) y.1 in
+        let z = and_of (row_covered body) (case_covered rest) ok in (
+          row_is mask body y2.0 z.0 (λ v e. c v (left_of (in_register p lay mine (variable_of p lay mine v).site) (assigned_all body v) (assigned_case_parts rest v) e)) (left_lends (lent_by_all body) (lent_by_case_parts rest) lends),
+          bodies_are mask rest y2.1 z.1 (λ v e. c v (right_of (in_register p lay mine (variable_of p lay mine v).site) (assigned_all body v) (assigned_case_parts rest v) e)) (right_lends (lent_by_all body) (lent_by_case_parts rest) lends),
+        )
 
   pub list_is : (mask : Mask) (ss : List Stmt) → all (WellFormed.fine p l.proc) ss ≡ true → all covered ss ≡ true → ((x : ℕ) → mask x ≡ true) → Lends (lent_by_list ss) → Follows w l 1 fuel mask (Given w l) Always (effects_of p calls runs fuel ss) (deeds_of p lay mine ss)
   list_is mask [] fine ok every lends = follows_give w l tt tt (λ n f s k. tt)

@@ -13,7 +13,7 @@ use Rattle.ob_types.specs.declared.tree.Selector.{Selector, Index, Field}
 use Rattle.ob_types.specs.declared.tree.Call.{Call, Direct', Row_of-Argument, end_of-Argument, more_of-Argument}
 use Rattle.ob_types.specs.declared.tree.Argument.{Argument, ByValue, ByPlace}
 use Rattle.ob_types.specs.declared.statements.Checked.{Checked}
-use Rattle.ob_types.specs.declared.statements.Stmt.{Stmt, Assign, Increase, Decrease, Include, Exclude, Assert, OutChar, OutInt, OutLn, InChar, If', While', Repeat', For', Row_of-Stmt, end_of-Stmt, more_of-Stmt, Row_of-Branch, end_of-Branch, more_of-Branch}
+use Rattle.ob_types.specs.declared.statements.Stmt.{Stmt, Assign, Increase, Decrease, Include, Exclude, Assert, OutChar, OutInt, OutLn, InChar, If', While', Repeat', For', Case', Row_of-Stmt, end_of-Stmt, more_of-Stmt, Row_of-Branch, end_of-Branch, more_of-Branch, Row_of-CasePart, end_of-CasePart, more_of-CasePart}
 use Rattle.ob_types.specs.declared.statements.Stmt.{Call as Invoke}
 use Rattle.ob_types.specs.declared.program.Procedure.{Procedure}
 use Rattle.ob_types.specs.declared.program.Program.{Program}
@@ -107,7 +107,7 @@ abbrev mutual
 abbrev pub checked_covered : Checked → Bool
 checked_covered x = expr_covered x.form
 
--- assignments of scalars, output, input, calls and control
+-- assignments of scalars, output, input, calls and control, CASE on values too
 abbrev mutual
   pub covered : Stmt → Bool
   covered (Assign d x) = designator_covered d && checked_covered x
@@ -124,6 +124,7 @@ abbrev mutual
   covered (If' _ parts _ other) = branches_covered parts && row_covered other
   covered (While' _ parts) = branches_covered parts
   covered (Repeat' _ body x) = row_covered body && checked_covered x
+  covered (Case' x _ parts) = checked_covered x && case_covered parts
   covered (For' d x y step _ body) = is_fixed d && (checked_covered x && (checked_covered y && row_covered body))
   covered _ = false
 
@@ -134,6 +135,10 @@ abbrev mutual
   pub branches_covered : {m : _} → Row_of-Branch m → Bool
   branches_covered end_of-Branch = true
   branches_covered (more_of-Branch x _ body rest) = checked_covered x && (row_covered body && branches_covered rest)
+
+  pub case_covered : {m : _} → Row_of-CasePart m → Bool
+  case_covered end_of-CasePart = true
+  case_covered (more_of-CasePart labels _ body rest) = row_covered body && case_covered rest
 
 abbrev pub answer_covered : Option Checked → Bool
 answer_covered None = true
