@@ -1,0 +1,11 @@
+use Rattle.std.proofs.Common.{ℕ, subst}
+use Rattle.ob_judge.specs.Shapes.{Integer}
+use Rattle.ob_judge.specs.Image.{Literal}
+use Rattle.ob_judge.specs.Operands.{value}
+use Rattle.check_operands.specs.Operands.{Stands}
+use Rattle.check_expressions.proofs.steps.int_literal.Goals as goal
+
+pub returns : goal.returns
+returns c =
+    let s = c.args.scope.now in
+    subst (λ (n : ℕ). Stands s c.literal.result (value Integer (Literal n))) c.int_at.ensures (c.literal.ensures s)
