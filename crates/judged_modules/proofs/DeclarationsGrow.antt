@@ -16,6 +16,7 @@ use Rattle.judged_well.specs.Gives.{Gives}
 use Rattle.judged_well.proofs.Judging.{keeps, breaks, weaken, and_then}
 use Rattle.judged_modules.specs.Agrees.{records_of, bases_of}
 use Rattle.judged_modules.proofs.Lists.{get_append, get_within, set_other, set_length}
+use Rattle.judged_modules.proofs.Lines.{AllLines}
 use Rattle.judged_modules.proofs.Growing.{Grows, self, onward}
 use Rattle.judged_modules.proofs.TypesGrow.{Each, each_map, GrowsIn, calm, still, follows, InTo, i_next, i_stand, i_type}
 
@@ -148,6 +149,7 @@ module _ (p : Source) where
         variables = λ v x i. let a = g.variables v x i in (b.values ∙ a.0, ap (λ xs. slice_get xs v) b.variables ∙ a.1);
         procedure = b.procedure ∙ g.procedure;
         module_number = b.module_number ∙ g.module_number;
+        lines = λ k. subst AllLines (sym b.records) (g.lines k);
       }
     where
       later_apart : (n k : ℕ) → n < length (bases_of s) → length (bases_of s) ≤ k → k ≡ n → ⊥
@@ -169,6 +171,7 @@ module _ (p : Source) where
     variables = λ v y h. (refl, get_append s.variables (x ∷ []) v (get_within s.variables v y h) ∙ h);
     procedure = refl;
     module_number = refl;
+    lines = λ h. h;
   }
 
   pub g_variable : (a : Shape) (x : Identdef) (s : Making) → Gives (To s) (variable_part p a x s)

@@ -1,10 +1,11 @@
 -- What a part of the judgement leaves as it was: it only adds record types, pointer types, procedures and variables.
-use Rattle.std.proofs.Common.{◌≡◌, ℕ, ◌<◌, ◌≤◌, length, Bool, true, false, Option, Some, None, refl, ap, ◌∙◌, subst, arith}
+use Rattle.std.proofs.Common.{◌≡◌, ℕ, ◌<◌, ◌≤◌, length, Bool, true, false, Option, Some, None, refl, ap, ◌∙◌, subst, arith, sym}
 use Rattle.std.specs.Prelude.{slice_get}
 use Rattle.ob_judge.specs.Judged.{Judged, Keeps, Breaks, ◌>>=◌, ◌>>◌, rule, some}
 use Rattle.ob_judge.specs.Shapes.{Shape}
 use Rattle.ob_judge.specs.Scopes.{World}
 use Rattle.ob_judge.specs.Making.{Making, Part, ◌>>>◌, give, here, become, ask}
+use Rattle.judged_modules.proofs.Lines.{AllLines}
 use Rattle.judged_modules.specs.Agrees.{records_of, bases_of}
 
 -- ---- what a part that keeps its rules went through
@@ -54,6 +55,7 @@ pub record Grows (s t : Making) : Type 0 where
   pub variables : (v : ℕ) (x : Shape) → slice_get s.variables v ≡ Some x → (t.values ≡ s.values) × (slice_get t.variables v ≡ Some x)
   pub procedure : t.world.procedure ≡ s.world.procedure
   pub module_number : t.world.module_number ≡ s.world.module_number
+  pub lines : AllLines (records_of s) → AllLines (records_of t)
 
 -- where none of it is touched
 pub untouched : (s t : Making) → records_of t ≡ records_of s → bases_of t ≡ bases_of s → t.procedures ≡ s.procedures → t.variables ≡ s.variables → t.values ≡ s.values → t.world.procedure ≡ s.world.procedure → t.world.module_number ≡ s.world.module_number → Grows s t
@@ -67,6 +69,7 @@ untouched s t a b c d e f g = record {
   variables = λ v x h. (e, ap (λ xs. slice_get xs v) d ∙ h);
   procedure = f;
   module_number = g;
+  lines = λ h. subst AllLines (sym a) h;
 }
 
 pub self : (s : Making) → Grows s s
@@ -83,6 +86,7 @@ onward s t u g h = record {
   variables = λ v x k. let a = g.variables v x k in let b = h.variables v x a.1 in (b.0 ∙ a.0, b.1);
   procedure = h.procedure ∙ g.procedure;
   module_number = h.module_number ∙ g.module_number;
+  lines = λ k. h.lines (g.lines k);
 }
 
 pub record Growing {A : Type 0} (m : Part A) : Type 0 where

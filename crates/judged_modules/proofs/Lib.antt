@@ -1,4 +1,5 @@
 mod Lists
+mod Lines
 mod Growing
 mod TypesGrow
 mod DeclarationsGrow
@@ -11,3 +12,4 @@ mod DeclarationsStand
 mod ProceduresStand
 mod ModulesStand
 mod Fine
+mod Agreement

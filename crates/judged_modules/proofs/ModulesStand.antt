@@ -95,6 +95,7 @@ module _ (w : Final) where
       variables = λ v x at. (refl, at);
       procedure = refl;
       module_number = refl;
+      lines = λ h. h;
     }
 
     body_made : (n : ℕ) (d : Making) (q : Procedure) → n ≤ length d.procedures → AllMade w n d → IsWell w (length d.procedures) q → AllMade w n (with_body d q)

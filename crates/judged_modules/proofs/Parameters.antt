@@ -23,6 +23,7 @@ use Rattle.judged_modules.specs.Final.{Final, setting_in}
 use Rattle.judged_modules.specs.Agrees.{Agrees, value_shapes, formals_of, records_of, bases_of}
 use Rattle.judged_modules.specs.Sound.{IsGood, IsKept, Sound, IsHere}
 use Rattle.judged_modules.proofs.Lists.{get_append, get_last, get_within, append_length}
+use Rattle.judged_modules.proofs.Lines.{AllLines}
 use Rattle.judged_modules.proofs.Growing.{Grows, untouched}
 use Rattle.judged_modules.proofs.TypesGrow.{Each, each_append, joined, right_none}
 use Rattle.judged_modules.proofs.Righting.{agrees_back, here_in, here_between, right_of}
@@ -64,6 +65,7 @@ heads_grow b s t h empty = record {
   variables = λ v x at. none_some x (sym (ap (λ xs. slice_get xs v) empty) ∙ at);
   procedure = h.procedure;
   module_number = h.module_number;
+  lines = λ k. subst AllLines (sym h.records) k;
 }
 
 pub heads_grows : (b : Bool) (s t : Making) → Heads b s t → (b ≡ true → s.variables ≡ []) → Grows s t

@@ -159,6 +159,7 @@ module _ (w : Final) where
           variables = λ v x at. (refl, at);
           procedure = refl;
           module_number = refl;
+          lines = g.lines;
         }
 
     -- what agrees at its end agreed before it

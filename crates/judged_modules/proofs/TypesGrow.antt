@@ -1,19 +1,21 @@
 -- Types judged only add record types and pointer types, and leave those that are there.
-use Rattle.std.proofs.Common.{◌≡◌, ℕ, suc, ◌<◌, ◌≤◌, List, [], ◌∷◌, ◌++◌, length, false, not, Option, Some, None, refl, ap, ◌∙◌, arith}
+use Rattle.std.proofs.Common.{◌≡◌, ℕ, suc, ◌<◌, ◌≤◌, List, [], ◌∷◌, ◌++◌, length, false, not, Option, Some, None, refl, ap, ◌∙◌, arith, sym, subst}
 use Rattle.std.specs.Prelude.{slice_get, slice_set, is_none, nat_le}
 use Rattle.ob_syntax.specs.Syntax as S
 use Rattle.ob_syntax.specs.declared.names.Identdef.{Identdef}
 use Rattle.ob_judge.specs.Judged.{Judged, Keeps, Breaks, ◌>>=◌, rule, some}
 use Rattle.ob_judge.specs.Shapes.{Shape, Record, Pointer, Procedure, Layout}
-use Rattle.ob_judge.specs.Scopes.{Source, place, spelled}
+use Rattle.ob_judge.specs.Scopes.{Source, place, spelled, World}
 use Rattle.ob_judge.specs.Making.{Making, Part, is_among, ◌>>>◌, here, with_known, no_layout, set_base, later, aside}
 use Rattle.ob_judge.specs.Parameters.{stand, type_at, formal_part, idents_list}
-use Rattle.ob_judge.specs.Types.{limit, array_length, array_lengths, arrays, base_layout, record_only, stand_fields, add_fields, among_fields, forward_name, type_part, fields_part, more_part, place_of_type}
+use Rattle.ob_judge.specs.Types.{limit, array_length, array_lengths, arrays, base_layout, record_only, stand_fields, add_fields, among_fields, forward_name, type_part, fields_part, more_part, place_of_type, layout_of}
 use Rattle.judged_well.specs.Gives.{Gives}
-use Rattle.judged_well.proofs.Judging.{keeps, breaks, weaken, and_then, anything}
+use Rattle.judged_well.proofs.Judging.{keeps, breaks, weaken, and_then, anything, by_some, by_rule, gives_both}
 use Rattle.judged_modules.specs.Agrees.{records_of, bases_of}
 use Rattle.judged_modules.proofs.Lists.{get_append, get_within, get_last, set_other, set_length, append_length}
+use Rattle.judged_modules.proofs.Lines.{AllLines, IsBaseLine, alone, based, base_line_later, lines_with_record, lines_set}
 use Rattle.judged_modules.proofs.Growing.{Grows, untouched, onward}
+use Rattle.ob_syntax.specs.declared.types.Base.{Base}
 
 -- ---- what holds of each
 
@@ -109,6 +111,7 @@ one_record s = record {
     variables = λ v x h. (refl, h);
     procedure = refl;
     module_number = refl;
+    lines = λ h. lines_with_record (records_of s) h;
   };
   more = [];
   forward = right_none s.forward;
@@ -130,6 +133,7 @@ one_pointer s = record {
     variables = λ v x h. (refl, h);
     procedure = refl;
     module_number = refl;
+    lines = λ h. h;
   };
   more = [];
   forward = right_none s.forward;
@@ -143,9 +147,11 @@ less_apart : (r n : ℕ) → r < n → r ≡ n → ⊥
 less_apart r n l e = absurd (omega (arith, l, e))
 
 -- from one record type on, which becomes complete
-pub record_set : (s u : Making) (l : Layout) → GrowsIn (with_record s) u → GrowsIn s (with_known (λ k. record k { records = slice_set k.records (length (records_of s)) l }) u)
-record_set s u l g =
+pub record_set : (s u : Making) (l : Layout) (line : List ℕ) → l.line ≡ length (records_of s) ∷ line → IsBaseLine (records_of u) line → GrowsIn (with_record s) u → GrowsIn s (with_known (λ k. record k { records = slice_set k.records (length (records_of s)) l }) u)
+record_set s u l line is base g =
     let a = follows s (with_record s) u (one_record s) g in
+    let less : length (records_of s) < length (records_of (with_record s)) = (let e = more_is (records_of s) no_layout in omega (arith, e)) in
+    let empty = g.grown.records (length (records_of s)) less ∙ get_last (records_of s) no_layout in
     record {
       grown = record {
         records_more = let h = set_length (records_of u) (length (records_of s)) l in let b = a.grown.records_more in omega (arith, h, b);
@@ -157,6 +163,7 @@ record_set s u l g =
         variables = a.grown.variables;
         procedure = a.grown.procedure;
         module_number = a.grown.module_number;
+        lines = λ h. lines_set (records_of u) (length (records_of s)) line l empty is (a.grown.lines h) base;
       };
       more = a.more;
       forward = a.forward;
@@ -181,6 +188,7 @@ pointer_set s u r g =
         variables = a.grown.variables;
         procedure = a.grown.procedure;
         module_number = a.grown.module_number;
+        lines = a.grown.lines;
       };
       more = g.more;
       forward = g.forward;
@@ -214,6 +222,7 @@ pointer_waits s name =
         variables = a.variables;
         procedure = a.procedure;
         module_number = a.module_number;
+        lines = a.lines;
       };
       more = (length (bases_of s), name) ∷ [];
       forward = refl;
@@ -253,6 +262,36 @@ module _ (p : Source) where
   i_pointed s base judged None g = and_then g (λ t h. and_then (i_look (some 31 (place_of_type p base) (record_only t.0)) t.1) (λ r k.
       keeps (InTo s) (tt, with_known (λ k. record k { bases = slice_set k.bases (length (bases_of s)) (Some r.0) }) r.1) (pointer_set s r.1 r.0 (follows (with_pointer s) t.1 r.1 h k))))
 
+  -- a layout with this line
+  abbrev Lined : Making → List ℕ → Layout × Making → Type 0
+  Lined s line r = GrowsIn s r.1 × ((r.0).line ≡ line)
+
+  line_same : (n : ℕ) (v : World) (a : Shape) (xs : List Identdef) (g : Layout) → (add_fields p n v a xs g).line ≡ g.line
+  line_same n v a [] g = refl
+  line_same n v a (x ∷ xs) g = line_same n v a xs _
+
+  line_of_base : (records : List Layout) (r : ℕ) (l : Layout) → slice_get records r ≡ Some l → (line : List ℕ) → l.line ≡ line → IsBaseLine records l.line
+  line_of_base records r l at [] e = alone e
+  line_of_base records r l at (x ∷ xs) e = based r l at (λ none. absurd (let z = sym none ∙ e in cc)) refl
+
+  line_of_layout : (records : List Layout) (r : ℕ) (o : Option Layout) → slice_get records r ≡ o → IsBaseLine records (layout_of o).line
+  line_of_layout records r None at = alone refl
+  line_of_layout records r (Some l) at = line_of_base records r l at l.line refl
+
+  base_of_line : (b : Option Base) (v : World) → Gives (λ l. IsBaseLine v.known.records l.line) (base_layout p b v)
+  base_of_line None v = keeps (λ (l : Layout). IsBaseLine v.known.records l.line) no_layout (alone refl)
+  base_of_line (Some b) v = and_then (anything (type_at p 42 b.name v)) (λ a i. by_some 42 (place p (b.name).name) (record_only a) (λ r is.
+      by_rule 42 (place p (b.name).name) (nat_le (length (layout_of (slice_get v.known.records r)).line) 15) (λ ok.
+      keeps (λ (l : Layout). IsBaseLine v.known.records l.line) (layout_of (slice_get v.known.records r)) (line_of_layout v.known.records r (slice_get v.known.records r) refl))))
+
+  base_lined : (b : Option Base) (s : Making) → Gives (λ (r : Layout × Making). IsBaseLine (records_of s) (r.0).line) (base_layout p b s.world >>= λ a. Keeps (a, s))
+  base_lined b s = and_then (base_of_line b s.world) (λ l h. keeps (λ (r : Layout × Making). IsBaseLine (records_of s) (r.0).line) (l, s) h)
+
+  among_lined : (m : Part Layout) (s : Making) (line : List ℕ) → Gives (Lined (record s { standing = [] }) line) (m (record s { standing = [] })) → Gives (Lined s line) (among_fields p m s)
+  among_lined m s line g = and_then g (λ r h. keeps (Lined s line) (r.0, record r.1 { standing = s.standing })
+      (follows s (record s { standing = [] }) (record r.1 { standing = s.standing }) (calm s _ refl refl refl refl refl refl refl refl)
+      (follows (record s { standing = [] }) r.1 (record r.1 { standing = s.standing }) h.0 (calm r.1 _ refl refl refl refl refl refl refl refl)), h.1))
+
   mutual
     pub i_type : (x : S.TypeTree) (s : Making) → Gives (InTo s) (type_part p x s)
     i_type (S.Named q) s = i_look (type_at p 31 q s.world) s
@@ -260,19 +299,22 @@ module _ (p : Source) where
         i_next (i_type element ns.1) (λ a. i_look (arrays p (place p i) (n.0 ∷ ns.0) a.0 a.1.world) a.1)))
     i_type (S.Record i base first more j) s =
         let n = length (records_of s) in
-        and_then (i_look (base_layout p base (with_record s).world) (with_record s)) (λ b h.
-        and_then (i_among (fields_part p n first (record (b.0) { added = [] }) >>> λ g. more_part p n more g) b.1
-        (i_next (i_fields n first (record (b.0) { added = [] }) (record (b.1) { standing = [] })) (λ g. i_more n more g.0 g.1))) (λ g k.
+        and_then (gives_both (i_look (base_layout p base (with_record s).world) (with_record s)) (base_lined base (with_record s))) (λ b h.
+        and_then (among_lined (fields_part p n first (record (b.0) { added = [] }) >>> λ g. more_part p n more g) b.1 (b.0).line
+        (and_then (i_fields n first (record (b.0) { added = [] }) (record (b.1) { standing = [] })) (λ g k. weaken (i_more n more g.0 g.1) (λ q l. (follows (record (b.1) { standing = [] }) g.1 q.1 k.0 l.0, l.1 ∙ k.1))))) (λ g k.
         and_then (i_look (rule 35 (place p i) (nat_le (g.0).cells limit)) g.1) (λ u l.
+        let whole = follows (with_record s) b.1 u.1 h.0 (follows b.1 g.1 u.1 k.0 l) in
         keeps (InTo s) (Record n, with_known (λ k. record k { records = slice_set k.records n (record (g.0) { module_number = u.1.world.module_number; line = n ∷ (g.0).line }) }) u.1)
-        (record_set s u.1 (record (g.0) { module_number = u.1.world.module_number; line = n ∷ (g.0).line }) (follows (with_record s) b.1 u.1 h (follows b.1 g.1 u.1 k l))))))
+        (record_set s u.1 (record (g.0) { module_number = u.1.world.module_number; line = n ∷ (g.0).line }) (g.0).line refl
+        (subst (IsBaseLine (records_of u.1)) (sym k.1) (base_line_later (records_of (with_record s)) (records_of u.1) (b.0).line whole.grown.records h.1)) whole))))
     i_type (S.Pointer i j base) s = and_then (i_pointed s base (type_part p base) (forward_name p (with_pointer s) base) (i_type base (with_pointer s))) (λ r h. keeps (InTo s) (Pointer (length (bases_of s)), r.1) h)
     i_type (S.Procedure i formals) s = i_next (i_aside (formal_part p false formals) s) (λ r. keeps (InTo r.1) (Procedure ((r.0).0).formals (r.0).1, r.1) (still r.1))
 
-    i_fields : (n : ℕ) (x : S.MaybeFields) (g : Layout) (s : Making) → Gives (InTo s) (fields_part p n x g s)
-    i_fields n S.no_fields g s = keeps (InTo s) (g, s) (still s)
-    i_fields n (S.fields names colon of) g s = i_next (i_stand_fields (idents_list names) g s) (λ u. i_next (i_type of u.1) (λ a. keeps (InTo a.1) (add_fields p n a.1.world a.0 (idents_list names) g, a.1) (still a.1)))
+    i_fields : (n : ℕ) (x : S.MaybeFields) (g : Layout) (s : Making) → Gives (Lined s g.line) (fields_part p n x g s)
+    i_fields n S.no_fields g s = keeps (Lined s g.line) (g, s) (still s, refl)
+    i_fields n (S.fields names colon of) g s = and_then (i_stand_fields (idents_list names) g s) (λ u h. and_then (i_type of u.1) (λ a k.
+        keeps (Lined s g.line) (add_fields p n a.1.world a.0 (idents_list names) g, a.1) (follows s u.1 a.1 h k, line_same n a.1.world a.0 (idents_list names) g)))
 
-    i_more : (n : ℕ) (x : S.NextFields) (g : Layout) (s : Making) → Gives (InTo s) (more_part p n x g s)
-    i_more n S.no_more_fields g s = keeps (InTo s) (g, s) (still s)
-    i_more n (S.next_fields semicolon one rest) g s = i_next (i_fields n one g s) (λ h. i_more n rest h.0 h.1)
+    i_more : (n : ℕ) (x : S.NextFields) (g : Layout) (s : Making) → Gives (Lined s g.line) (more_part p n x g s)
+    i_more n S.no_more_fields g s = keeps (Lined s g.line) (g, s) (still s, refl)
+    i_more n (S.next_fields semicolon one rest) g s = and_then (i_fields n one g s) (λ h k. weaken (i_more n rest h.0 h.1) (λ q l. (follows s h.1 q.1 k.0 l.0, l.1 ∙ k.1)))

@@ -19,7 +19,7 @@ use Rattle.ob_judge.specs.Types.{limit, is_length, size_of, array_length, array_
 use Rattle.judged_well.specs.Gives.{Gives}
 use Rattle.judged_well.specs.Setting.{IsOrder}
 use Rattle.judged_well.specs.Standing.{is_whole, good, goods, is_result}
-use Rattle.judged_well.proofs.Judging.{keeps, and_then, by_rule, by_some, anything, gives_both}
+use Rattle.judged_well.proofs.Judging.{keeps, and_then, by_rule, by_some, anything, gives_both, weaken}
 use Rattle.judged_modules.specs.Final.{Final, setting_in}
 use Rattle.judged_modules.specs.Agrees.{Agrees, records_of, bases_of}
 use Rattle.judged_modules.specs.Sound.{IsGood, IsKept, IsOffered, AllNames, Sound}
@@ -160,24 +160,9 @@ module _ (w : Final) where
               );
         })))
 
-    apart_from : (r n : ℕ) → r < n → r ≡ n → ⊥
-    apart_from r n l e = absurd (omega (arith, l, e))
-
-    set_grows : (s u : Making) (l : Layout) → Grows (with_record s) u → Grows s (with_known (λ k. record k { records = slice_set k.records (length (records_of s)) l }) u)
-    set_grows s u l g =
-        let n = length (records_of s) in
-        let a = onward s (with_record s) u (one_record s).grown g in
-        record {
-          records_more = let h = set_length (records_of u) n l in let b = a.records_more in omega (arith, h, b);
-          records = λ r less. set_other (records_of u) n r l (apart_from r n less) ∙ a.records r less;
-          bases_more = a.bases_more;
-          bases = a.bases;
-          procedures_more = a.procedures_more;
-          procedures = a.procedures;
-          variables = a.variables;
-          procedure = a.procedure;
-          module_number = a.module_number;
-        }
+    -- the half of a part's claim that isn't its growth
+    record Stays {A : Type 0} (Before : Type 0) (Q : A → Making → Type 0) (s : Making) (r : A × Making) : Type 0 where
+      sound : Before → Agrees w r.1 → Sound w s.world → Sound w (r.1).world × Q r.0 r.1
 
     -- a record type that becomes complete
     k_complete : {Before : Type 0} (s b g u : Making) (base h l : Layout) → (hb : Grows (with_record s) b) → (hg : Grows b g) → (hu : Grows g u)
@@ -185,14 +170,13 @@ module _ (w : Final) where
         → (Based (length (records_of s)) b base → Agrees w g → Sound w b.world → Sound w g.world × Adding w (length (records_of s)) h g)
         → (Agrees w u → Sound w g.world → Sound w u.world × Unit {0})
         → l.line ≡ length (records_of s) ∷ h.line → l.added ≡ h.added → ((q : List ℕ) → l.fields q ≡ h.fields q)
-        → Ok w Before (λ a t. IsGood w a) s (Record (length (records_of s)), with_known (λ k. record k { records = slice_set k.records (length (records_of s)) l }) u)
+        → Stays Before (λ a t. IsGood w a) s (Record (length (records_of s)), with_known (λ k. record k { records = slice_set k.records (length (records_of s)) l }) u)
     k_complete s b g u base h l hb hg hu sb sg su line added fields =
         let n = length (records_of s) in
         let whole = onward (with_record s) b u hb (onward b g u hg hu) in
         let less : n < length (records_of (with_record s)) = (let e = more_is (records_of s) no_layout in omega (arith, e)) in
         let empty = whole.records n less ∙ get_last (records_of s) no_layout in
         record {
-          grown = set_grows s u l whole;
           sound = λ before agrees sound.
               let au = agrees_unset u n l empty agrees in
               let ag = agrees_back w g u hu au in
@@ -227,12 +211,12 @@ module _ (w : Final) where
       k_type (S.Record i base first more j) s =
           let n = length (records_of s) in
           let s1 = with_record s in
-          and_then (k_look w (Based n s1) (base_layout p base s1.world) s1 (λ before agrees sound. good_base n base s1 sound)) (λ b hb.
+          weaken (gives_both (i_type p (S.Record i base first more j) s) (and_then (k_look w (Based n s1) (base_layout p base s1.world) s1 (λ before agrees sound. good_base n base s1 sound)) (λ b hb.
           and_then (k_among (λ g t. Adding w n g t) (fields_part p n first (record (b.0) { added = [] }) >>> λ g. more_part p n more g) b.1 (λ a t k. k)
           (k_next w (k_fields n first (record (b.0) { added = [] }) (record (b.1) { standing = [] }) (λ before. before)) (λ g. k_more n more g.0 g.1 (λ before. before.1)))) (λ g hg.
           and_then (k_pass w {Before = Unit {0}} (rule 35 (place p i) (nat_le (g.0).cells limit)) g.1) (λ u hu.
           let l : Layout = record (g.0) { module_number = (u.1).world.module_number; line = n ∷ (g.0).line } in
-          keeps (Ok w _ (λ a t. IsGood w a) s) (Record n, with_known (λ k. record k { records = slice_set k.records n l }) u.1) (k_complete s b.1 g.1 u.1 b.0 g.0 l hb.grown hg.grown hu.grown (λ before. hb.sound before) (λ based. hg.sound based) (hu.sound tt) refl refl (λ q. refl)))))
+          keeps (Stays _ (λ a t. IsGood w a) s) (Record n, with_known (λ k. record k { records = slice_set k.records n l }) u.1) (k_complete s b.1 g.1 u.1 b.0 g.0 l hb.grown hg.grown hu.grown (λ before. hb.sound before) (λ based. hg.sound based) (hu.sound tt) refl refl (λ q. refl))))))) (λ r h. record { grown = (h.0).grown; sound = (h.1).sound })
       k_type (S.Pointer i j base) s = and_then (k_pointed s base (type_part p base) (forward_name p (with_pointer s) base) (i_type p base (with_pointer s)) (k_type base (with_pointer s))) (λ r h.
           keeps (Ok w _ (λ a t. IsGood w a) s) (Pointer (length (bases_of s)), r.1) (record {
             grown = h.grown;
