@@ -1,5 +1,5 @@
 -- What the judgement has made at its end agrees with the program as code holds it.
-use Rattle.std.proofs.Common.{◌≡◌, ℕ, zero, suc, ◌+◌, ◌<◌, ◌≤◌, List, [], ◌∷◌, ◌++◌, map, length, Bool, true, false, not, ◌&&◌, ◌||◌, ◌==◌, Option, Some, None, refl, ap, ap₂, sym, ◌∙◌, subst, arith, eqb-true, eq-eqb, filter, cond}
+use Rattle.std.proofs.Common.{◌≡◌, ℕ, zero, suc, ◌<◌, List, [], ◌∷◌, ◌++◌, map, length, Bool, true, false, not, ◌||◌, ◌==◌, Option, Some, None, refl, ap, ap₂, sym, ◌∙◌, subst, arith, eqb-true, eq-eqb, filter, cond}
 use Rattle.std.specs.Prelude.{slice_get, slice_index_or, nat_lt, nat_eq, is_some, option_map, if◌then◌else◌}
 use Rattle.std.proofs.lemmas.Bool.Decides.{nat_tests}
 use Rattle.ob_types.specs.declared.types.TypeKind.{TypeKind}
@@ -17,27 +17,24 @@ use Rattle.ob_types.specs.Layout.{extends as extends_record}
 use Rattle.ob_types.specs.Meaning.{procedure_of, locals_of}
 use Rattle.ob_types.specs.Meaning.{is_value as is_value_mode}
 use Rattle.ob_types.specs.Forms.{types_fine}
-use Rattle.ob_types.specs.LegalTypes.{is_record_type}
-use Rattle.ob_types.specs.WellFormed.{callable}
 use Rattle.ob_types.proofs.Tests.{no, none_some, some_same, and_from}
 use Rattle.ob_sound.proofs.Tables.{extends_self, extends_trans}
-use Rattle.ob_judge.specs.Shapes.{Shape, Formals, one, Added, Layout, contains, line_of, base_of}
-use Rattle.ob_judge.specs.Image.{Formal, Procedure}
+use Rattle.ob_judge.specs.Shapes.{Shape, one, Added, Layout, contains, line_of, base_of}
+use Rattle.ob_judge.specs.Image.{Procedure}
 use Rattle.ob_judge.specs.Parameters.{is_value}
 use Rattle.ob_judge.specs.Making.{Making}
 use Rattle.ob_judge.specs.Modules.{record_form, base_in}
 use Rattle.judged_tree.specs.TypeShapes.{shape_of, shapes_of, formals_shape, pointer_bases}
 use Rattle.judged_tree.specs.Plain.{plain_field, plain_record, plain_formal, plain_procedure}
 use Rattle.judged_tree.specs.Outline.{outlined_procedure}
-use Rattle.judged_well.specs.OfProgram.{setting_of}
-use Rattle.judged_modules.specs.Final.{Final, final_of}
-use Rattle.judged_modules.specs.Agrees.{Agrees, IsProcedure, IsVariable, value_shapes, formals_of, is_made, records_of, bases_of}
+use Rattle.judged_modules.specs.Final.{final_of}
+use Rattle.judged_modules.specs.Agrees.{Agrees, IsProcedure, IsVariable, value_shapes, formals_of, records_of, bases_of}
 use Rattle.judged_modules.proofs.Lists.{get_within}
 use Rattle.judged_modules.proofs.Lines.{AllLines, IsLine, unknown, root, behind}
 
 -- ---- lists that come out the same
 
-map_get : {A B : Type 0} (f : A → B) (xs : List A) (n : ℕ) → slice_get (map f xs) n ≡ option_map f (slice_get xs n)
+pub map_get : {A B : Type 0} (f : A → B) (xs : List A) (n : ℕ) → slice_get (map f xs) n ≡ option_map f (slice_get xs n)
 map_get f [] n = refl
 map_get f (x ∷ xs) zero = refl
 map_get f (x ∷ xs) (suc n) = map_get f xs n
@@ -46,14 +43,14 @@ map_long : {A B : Type 0} (f : A → B) (xs : List A) → length (map f xs) ≡ 
 map_long f [] = refl
 map_long f (x ∷ xs) = ap suc (map_long f xs)
 
-from_map : {A B : Type 0} (f : A → B) (o : Option A) (b : B) → option_map f o ≡ Some b → (a : A) × (o ≡ Some a) × (f a ≡ b)
+pub from_map : {A B : Type 0} (f : A → B) (o : Option A) (b : B) → option_map f o ≡ Some b → (a : A) × (o ≡ Some a) × (f a ≡ b)
 from_map f None b h = none_some b h
 from_map f (Some a) b h = (a, refl, some_same (f a) b h)
 
-two_maps : {A B C : Type 0} (f : A → C) (g : B → C) (xs : List A) (ys : List B) (n : ℕ) (y : B) → map f xs ≡ map g ys → slice_get ys n ≡ Some y → (x : A) × (slice_get xs n ≡ Some x) × (f x ≡ g y)
+pub two_maps : {A B C : Type 0} (f : A → C) (g : B → C) (xs : List A) (ys : List B) (n : ℕ) (y : B) → map f xs ≡ map g ys → slice_get ys n ≡ Some y → (x : A) × (slice_get xs n ≡ Some x) × (f x ≡ g y)
 two_maps f g xs ys n y same at = from_map f (slice_get xs n) (g y) (sym (map_get f xs n) ∙ ap (λ zs. slice_get zs n) same ∙ map_get g ys n ∙ ap (option_map g) at)
 
-index_at : {A : Type 0} (xs : List A) (n : ℕ) (x d : A) → slice_get xs n ≡ Some x → slice_index_or xs n d ≡ x
+pub index_at : {A : Type 0} (xs : List A) (n : ℕ) (x d : A) → slice_get xs n ≡ Some x → slice_index_or xs n d ≡ x
 index_at [] n x d h = none_some x h
 index_at (y ∷ ys) zero x d h = some_same y x h
 index_at (y ∷ ys) (suc n) x d h = index_at ys n x d h

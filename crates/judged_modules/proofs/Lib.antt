@@ -13,3 +13,4 @@ mod ProceduresStand
 mod ModulesStand
 mod Fine
 mod Agreement
+mod OneModule

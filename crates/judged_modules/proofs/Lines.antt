@@ -1,7 +1,7 @@
 -- The lines of record types: each is its record type before the line of its base.
-use Rattle.std.proofs.Common.{◌≡◌, ℕ, zero, suc, ◌+◌, ◌<◌, ◌≤◌, List, [], ◌∷◌, ◌++◌, length, Option, Some, None, refl, ap, sym, ◌∙◌, subst, arith, ◌⊎◌, inl, inr}
+use Rattle.std.proofs.Common.{◌≡◌, ℕ, zero, suc, ◌<◌, ◌≤◌, List, [], ◌∷◌, ◌++◌, length, Some, refl, ap, sym, ◌∙◌, arith, ◌⊎◌, inl, inr}
 use Rattle.std.specs.Prelude.{slice_get, slice_set}
-use Rattle.ob_types.proofs.Tests.{none_some, some_same, less_or_past}
+use Rattle.ob_types.proofs.Tests.{some_same, less_or_past}
 use Rattle.ob_judge.specs.Shapes.{Layout}
 use Rattle.ob_judge.specs.Making.{no_layout}
 use Rattle.judged_modules.proofs.Lists.{get_append, get_last, get_within, set_other, set_here, append_length}

@@ -73,6 +73,8 @@ module _ (w : Final) where
     -- what becomes of a module
     pub record ModuleDone (s : Making) (r : Tree.Module × Making) : Type 0 where
       pub grown : Grows s r.1
+      pub values : (r.1).values ≡ s.values
+      pub variables : (r.0).variables ≡ (r.1).variables
       pub sound : s.world.procedure ≡ None → Agrees w r.1 → Sound w s.world → Sound w (r.1).world × AllMade w (length s.procedures) r.1
 
     length_more : {A : Type 0} (xs : List A) (y : A) → length (xs ++ y ∷ []) ≡ suc (length xs)
@@ -125,6 +127,8 @@ module _ (w : Final) where
         let back : u.1 ≡ d.1 = hu.0 ∙ hb.0 in
         keeps (ModuleDone s) (record { name = spelled p m.name; objects = (u.1).objects; variables = (u.1).variables; body = f }, with_body u.1 q) (record {
           grown = subst (λ x. Grows x (with_body u.1 q)) ha.0 (onward a.1 d.1 (with_body u.1 q) whole.grown (subst (λ x. Grows x (with_body u.1 q)) back (body_grows u.1 q)));
+          values = ap (λ x. x.values) back ∙ whole.values ∙ ap (λ x. x.values) ha.0;
+          variables = refl;
           sound = λ between agrees sound.
               let at_u = agrees_back w u.1 (with_body u.1 q) (body_grows u.1 q) agrees in
               let at_d = subst (Agrees w) back at_u in

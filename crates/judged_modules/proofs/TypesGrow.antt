@@ -13,7 +13,7 @@ use Rattle.judged_well.specs.Gives.{Gives}
 use Rattle.judged_well.proofs.Judging.{keeps, breaks, weaken, and_then, anything, by_some, by_rule, gives_both}
 use Rattle.judged_modules.specs.Agrees.{records_of, bases_of}
 use Rattle.judged_modules.proofs.Lists.{get_append, get_within, get_last, set_other, set_length, append_length}
-use Rattle.judged_modules.proofs.Lines.{AllLines, IsBaseLine, alone, based, base_line_later, lines_with_record, lines_set}
+use Rattle.judged_modules.proofs.Lines.{IsBaseLine, alone, based, base_line_later, lines_with_record, lines_set}
 use Rattle.judged_modules.proofs.Growing.{Grows, untouched, onward}
 use Rattle.ob_syntax.specs.declared.types.Base.{Base}
 
@@ -288,9 +288,11 @@ module _ (p : Source) where
   base_lined b s = and_then (base_of_line b s.world) (λ l h. keeps (λ (r : Layout × Making). IsBaseLine (records_of s) (r.0).line) (l, s) h)
 
   among_lined : (m : Part Layout) (s : Making) (line : List ℕ) → Gives (Lined (record s { standing = [] }) line) (m (record s { standing = [] })) → Gives (Lined s line) (among_fields p m s)
-  among_lined m s line g = and_then g (λ r h. keeps (Lined s line) (r.0, record r.1 { standing = s.standing })
-      (follows s (record s { standing = [] }) (record r.1 { standing = s.standing }) (calm s _ refl refl refl refl refl refl refl refl)
-      (follows (record s { standing = [] }) r.1 (record r.1 { standing = s.standing }) h.0 (calm r.1 _ refl refl refl refl refl refl refl refl)), h.1))
+  among_lined m s line g = and_then g (λ r h. keeps (Lined s line) (r.0, record r.1 { standing = s.standing }) (
+    follows s (record s { standing = [] }) (record r.1 { standing = s.standing }) (calm s _ refl refl refl refl refl refl refl refl)
+        (follows (record s { standing = [] }) r.1 (record r.1 { standing = s.standing }) h.0 (calm r.1 _ refl refl refl refl refl refl refl refl)),
+    h.1,
+  ))
 
   mutual
     pub i_type : (x : S.TypeTree) (s : Making) → Gives (InTo s) (type_part p x s)

@@ -25,7 +25,7 @@ use Rattle.judged_modules.specs.Agrees.{Agrees, records_of, bases_of}
 use Rattle.judged_modules.specs.Sound.{IsGood, IsKept, IsOffered, AllNames, Sound}
 use Rattle.judged_modules.proofs.Lists.{get_last, set_other, set_length, append_length}
 use Rattle.judged_modules.proofs.Growing.{Grows, untouched, self, onward}
-use Rattle.judged_modules.proofs.TypesGrow.{GrowsIn, InTo, with_record, with_pointer, one_record, pointer_set, pointer_waits, i_type}
+use Rattle.judged_modules.proofs.TypesGrow.{GrowsIn, InTo, with_record, with_pointer, pointer_set, pointer_waits, i_type}
 use Rattle.judged_modules.proofs.Righting.{agrees_back}
 use Rattle.judged_modules.proofs.Keeping.{Ok, Some_, k_next, k_look, k_pass, k_give, k_stand}
 use Rattle.judged_modules.proofs.Fields.{Adding, inherited, AllFields, fields_with_record, fields_set, adding_later, adding_fields}

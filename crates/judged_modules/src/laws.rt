@@ -4,7 +4,9 @@
 ghost use Rattle.std.specs.Prelude.{◌≡◌, ℕ, length, true, Option, Some, None};
 ghost use Rattle.ob_syntax.specs.Syntax.{ConstDecl, TypeDecl, VarDecl, Decls};
 ghost use Rattle.ob_syntax.specs.Syntax.{Module as ModuleTree};
-ghost use Rattle.std.specs.Prelude.{List};
+ghost use Rattle.std.specs.Prelude.{List, [], ◌∷◌};
+ghost use Rattle.ob_types.specs.Forms.{all_below, types_fine};
+ghost use Rattle.ob_judge.specs.Image.{Program as ProgramImage};
 ghost use Rattle.ob_types.specs.declared.program.Program.{Program};
 ghost use Rattle.ob_types.specs.Meaning.{procedure_of};
 ghost use Rattle.ob_types.specs.WellFormed.{procedure_fine};
@@ -13,10 +15,10 @@ ghost use Rattle.ob_judge.specs.Image.{Procedure, Module};
 ghost use Rattle.ob_judge.specs.Scopes.{Source};
 ghost use Rattle.ob_judge.specs.Making.{Making};
 ghost use Rattle.ob_judge.specs.Declarations.{const_part, types_part, var_part, decls_part};
-ghost use Rattle.ob_judge.specs.Modules.{no_modules, first_making, module_part};
+ghost use Rattle.ob_judge.specs.Modules.{no_modules, first_making, module_part, Parsed, Legal, checked};
 ghost use Rattle.judged_tree.specs.TypeShapes.{pointer_bases};
-ghost use Rattle.judged_tree.specs.Plain.{plain_procedure};
-ghost use Rattle.judged_tree.specs.Outline.{outlined_procedure};
+ghost use Rattle.judged_tree.specs.Plain.{plain_procedure, plain_program};
+ghost use Rattle.judged_tree.specs.Outline.{outlined_procedure, outlined_program};
 ghost use Rattle.judged_well.specs.Standing.{IsRead, Right};
 ghost use Rattle.judged_well.specs.OfProgram.{IsFaithful, IsInside};
 ghost use Rattle.judged_modules.specs.Final.{Final, setting_in, AreOrders, final_of};
@@ -69,4 +71,12 @@ pub fn modules_are_well()
 pub fn well_procedures_are_fine()
     ensures { (p : Program) → IsFaithful p.types → IsInside p → (f : ℕ) (q : Procedure) → IsWell (final_of p) f q
         → plain_procedure p.types (procedure_of p f) ≡ outlined_procedure (pointer_bases p.types.kinds) q → procedure_fine p f ≡ true }
+{}
+
+/// Each procedure and the body of a checked program of one module are well-formed, where the judgement accepts the module
+/// and the program is what it gives, as code holds it.
+pub fn one_module_has_fine_procedures()
+    ensures { (p : Program) → IsFaithful p.types → IsInside p → types_fine p.types ≡ true → (m : Parsed) → IsRead m.source
+        → (q : ProgramImage) → checked (m ∷ []) ≡ Legal q → (sources : List (List ℕ)) → plain_program sources p ≡ outlined_program q
+        → all_below (length p.procedures) (procedure_fine p) ≡ true }
 {}
