@@ -1,15 +1,15 @@
 -- A condition as a value.
-use Rattle.std.proofs.Common.{◌≡◌, ℕ, suc, ◌+◌, List, [], ◌∷◌, ◌++◌, Option, Some, None, refl, sym, ap, ◌∙◌, arith}
+use Rattle.std.proofs.Common.{◌≡◌, ℕ, suc, ◌+◌, List, [], ◌∷◌, ◌++◌, Option, None, refl, sym, ap, ◌∙◌, arith}
 use Rattle.block_runs.specs.declared.end.End.{End}
 use Rattle.block_runs.specs.declared.end.End.TheVariants.{Jump}
-use Rattle.ssa_lowered.specs.Pieces.{Cursor, Made, close, fresh, plain, numbers}
+use Rattle.ssa_lowered.specs.Pieces.{Cursor, Made, close, fresh, plain}
 use Rattle.ssa_lowered.specs.Pieces.{Piece as Placed}
 use Rattle.ssa_lowered.specs.Values.{const}
 use Rattle.ssa_lowered.specs.Limits.{passed}
 use Rattle.ssa_lowered.specs.Control.{Fork, Test, flag, half, at_freq}
-use Rattle.ssa_exprs.specs.Making.{View, Known, all_bare, resolved, Fits, later, cursor_at, Came, Follows, Once, Gives, asked, bound, begins, closed, as_part, Tests}
+use Rattle.ssa_exprs.specs.Making.{View, all_bare, resolved, Fits, later, cursor_at, Came, Gives, asked, bound, begins, closed, as_part, Tests}
 use Rattle.ssa_exprs.proofs.Giving.{later_first, limit_on, passed_on, came_as}
-use Rattle.ssa_exprs.proofs.Forks.{Adding, adding_on, adding_of, adding_closed, closed_before, at_closed, at_plain, fits_bound, place_bound, times_bound, given_more}
+use Rattle.ssa_exprs.proofs.Forks.{Adding, adding_on, adding_closed, closed_before, at_closed, at_plain, fits_bound, place_bound, times_bound, given_more}
 
 -- one list of pieces and then another one
 pub limit_list : {b c q : Option ℕ} (a : Option ℕ) (xs ys : List Placed) → b ≡ later a (passed xs) → c ≡ later b q → (b ≡ None → passed ys ≡ q) → c ≡ later a (passed (xs ++ ys))

@@ -1,15 +1,14 @@
 -- How conditions are put together.
-use Rattle.std.proofs.Common.{◌≡◌, ℕ, zero, suc, ◌+◌, List, [], ◌∷◌, ◌++◌, Option, Some, None, refl, sym, ap, ap₂, ◌∙◌, subst, arith, append_assoc}
+use Rattle.std.proofs.Common.{◌≡◌, ℕ, zero, suc, ◌+◌, List, [], ◌∷◌, ◌++◌, Option, None, refl, sym, ap, ap₂, ◌∙◌, subst, arith, append_assoc}
 use Rattle.block_runs.specs.declared.end.End.{End}
 use Rattle.block_runs.specs.declared.end.End.TheVariants.{Branch, Nonzero}
-use Rattle.ssa_lowered.specs.Pieces.{Cursor, Made, Low, give, ◌>>=◌, close, fresh, plain, numbers, Closes}
+use Rattle.ssa_lowered.specs.Pieces.{Cursor, Made, Low, give, ◌>>=◌, close, fresh, plain, numbers}
 use Rattle.ssa_lowered.specs.Pieces.{Piece as Placed}
-use Rattle.ssa_lowered.specs.Limits.{passed, too_many}
+use Rattle.ssa_lowered.specs.Limits.{passed}
 use Rattle.ssa_lowered.specs.Control.{Fork, Test, fork, fork_value, fork_branch, fork_not, fork_and, fork_or}
-use Rattle.ssa_exprs.specs.declared.making.Piece.{Piece}
 use Rattle.ssa_exprs.specs.declared.making.Piece.TheVariants.{Ends}
 use Rattle.ssa_exprs.specs.declared.making.Bound.{Bound}
-use Rattle.ssa_exprs.specs.Making.{View, Known, all_bare, resolve, resolve_end, resolved, Fits, times, same, given, later, cursor_at, Came, Follows, Once, Gives, asked, bound, begins, begun, within, closed, as_part, Blind, Tests}
+use Rattle.ssa_exprs.specs.Making.{View, Known, all_bare, resolve_end, resolved, Fits, times, same, given, later, cursor_at, Came, Follows, Once, Gives, asked, bound, begins, within, closed, as_part, Blind, Tests}
 use Rattle.ssa_exprs.proofs.Giving.{append_nil, bare_on, resolved_on, later_none, later_first, limit_on, passed_on, follows_as, came_as, gives_give, gives_bind}
 
 ---- Labels

@@ -1,7 +1,7 @@
 -- How parts are put together, as the definitions put them together.
-use Rattle.std.proofs.Common.{◌≡◌, ℕ, zero, suc, ◌+◌, ◌<◌, ◌≤◌, nat_le, Ok, Err, IfOk, Result, List, [], ◌∷◌, ◌++◌, Option, Some, None, Bool, true, false, refl, sym, ap, ap₂, ◌∙◌, subst, arith, append_assoc, slice_get, if◌then◌else◌, option_to_list}
+use Rattle.std.proofs.Common.{◌≡◌, ℕ, suc, nat_le, Ok, Err, IfOk, Result, List, [], ◌∷◌, ◌++◌, Option, Some, None, Bool, true, false, refl, sym, ap, ap₂, ◌∙◌, subst, arith, append_assoc, slice_get, if◌then◌else◌, option_to_list}
 use Rattle.block_runs.specs.declared.code.Code.TheVariants.{Const}
-use Rattle.ssa_lowered.specs.Pieces.{Made, Low, give, ◌>>=◌, emits, does, fetched, variable, Appends, Closes}
+use Rattle.ssa_lowered.specs.Pieces.{Made, Low, give, ◌>>=◌, emits, fetched, variable, Appends, Closes}
 use Rattle.ssa_lowered.specs.Pieces.{Piece as Placed}
 use Rattle.ssa_lowered.specs.Limits.{passed, too_many}
 use Rattle.ssa_exprs.specs.declared.fault.LowerFault.{LowerFault}

@@ -1,8 +1,9 @@
 //! Lowering of expressions and designators: their code, appended to a procedure in the making.
 //!
-//! `Making` keeps the code that is made so far as pieces, with labels for blocks that aren't begun yet; `Tables` keep where
-//! data stands. `lower_value` and `lower_cond` append exactly the code that `ssa_lowered` defines of an expression, number by
-//! number: their clauses say so by `Gives` and `Tests` (`specs/Making.antt`), which layers above put together for statements.
+//! `Making` keeps the code that is made so far as pieces, with labels for blocks that aren't begun yet; where a limit is
+//! passed it notes which, and makes no more. `Tables` keep where data stands. `lower_value` and `lower_cond` append exactly
+//! the code that `ssa_lowered` defines of an expression, number by number: their clauses say so by `Gives` and `Tests`
+//! (`specs/Making.antt`), which layers above put together for statements.
 #![tactic(auto)]
 
 mod fault;

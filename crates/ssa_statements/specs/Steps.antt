@@ -7,12 +7,12 @@ use Rattle.ssa_lowered.specs.Data.{in_cells}
 use Rattle.ssa_lowered.specs.Pieces.{◌>>=◌, does, Mask}
 use Rattle.ssa_lowered.specs.Values.{Named, length_in}
 use Rattle.ssa_lowered.specs.Control.{Round, rounds}
-use Rattle.ssa_lowered.specs.Lowered.{Here, deed, deeds_of}
+use Rattle.ssa_lowered.specs.Lowered.{Here, deed}
 use Rattle.ssa_lowered.specs.Statements.{Deed}
 use Rattle.ssa_exprs.specs.Changes.{Undoes}
 use Rattle.ssa_exprs.specs.Making.{View, Follows, Once}
 
--- a part of a statement was lowered, and gave this result; what is known of the variables can be taken back
+-- a part of a statement was lowered; what is known of the variables can be taken back
 pub record Steps (v w : View) (m : Deed) : Type 0 where
   pub follows : Follows v w (λ _. m) (λ _. tt)
   pub once : Once v w
@@ -24,12 +24,9 @@ pub record Rounds (v w : View) (mask : Mask) (head outside : ℕ) (rs : List Rou
   pub once : Once v w
   pub undoes : Undoes v.known w.known
 
--- a statement and statements of a procedure, where each cell takes eight bytes
+-- a statement of a procedure, where each cell takes eight bytes
 abbrev pub deed_in : Program → Here → Stmt → Deed
 deed_in p here s = deed p (in_cells p.types) here s
-
-abbrev pub deeds_in : Program → Here → List Stmt → Deed
-deeds_in p here ss = deeds_of p (in_cells p.types) here ss
 
 -- the lengths of arrays are tested
 abbrev pub tested : Option ℕ → Named → Option ℕ → Named → Deed

@@ -1,4 +1,4 @@
-use Rattle.std.proofs.Common.{◌≡◌, ◌<◌, ◌≤◌, sym, ◌∙◌, arith}
+use Rattle.std.proofs.Common.{◌<◌, ◌≤◌, sym, arith}
 use Rattle.ssa_exprs.proofs.Numbered.{room, no_room}
 use Rattle.ssa_exprs.proofs.making.has_room.Goals as goal
 
