@@ -135,7 +135,7 @@ module _ (w : Final) where
               let k = whole.sound at_d (subst (λ x. Sound w x.world) (sym ha.0) sound) in
               let none : (d.1).world.procedure ≡ None = whole.grown.procedure ∙ ap (λ x. x.world.procedure) ha.0 ∙ between in
               let right = right_of w p d.1 at_d k.0 f (subst (λ o. IsHere o f) (sym none) (here_between w f)) in
-              let well : IsWell w f q = record { made = refl; body = given b.0 (t_body (setting_in w f) (order f) p read (d.1).world right m.body) hb.1; answer = refl; formals = tt; result = (refl, refl) } in
+              let well : IsWell w f q = record { made = refl; body = given b.0 (t_body (setting_in w f) (order f) p read (d.1).world right m.body) hb.1; answer = refl; texts = refl; formals = tt; result = (refl, refl) } in
               let sound_u = subst (λ x. Sound w x.world) (sym back) k.0 in
               let made_u = subst (λ x. AllMade w (length (a.1).procedures) x) (sym back) k.1 in
               (sound_u, subst (λ n. AllMade w n (with_body u.1 q)) (ap (λ x. length x.procedures) ha.0) (body_made (length (a.1).procedures) u.1 q (let g = whole.grown.procedures_more in let e = ap (λ x. length x.procedures) back in omega (arith, g, e)) made_u well));

@@ -240,6 +240,7 @@ module _ (w : Final) where
                   made = refl;
                   body = given b (t_body (setting_in w f) (order f) p read (d.1).world right body) is_b;
                   answer = given a (t_answer (setting_in w f) (order f) p read (d.1).world right (h.0).1 (first.2).0 (first.2).1 end_word returned) is_a;
+                  texts = refl;
                   formals = are_parameters ((h.0).0).parameters (first.1).each;
                   result = first.2;
                 } in (

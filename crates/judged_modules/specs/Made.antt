@@ -2,6 +2,7 @@
 use Rattle.std.specs.Prelude.{◌≡◌, ◌≤◌, ℕ, List, [], ◌∷◌, true, Some, slice_get}
 use Rattle.ob_judge.specs.Image.{Formal, Procedure}
 use Rattle.ob_judge.specs.Parameters.{mode_of}
+use Rattle.ob_judge.specs.Texts.{texts_of}
 use Rattle.ob_judge.specs.Making.{Making}
 use Rattle.judged_well.specs.Typing.{outline, fine_all}
 use Rattle.judged_well.specs.Standing.{is_formal, is_result, good}
@@ -21,6 +22,7 @@ pub record IsWell (w : Final) (f : ℕ) (q : Procedure) : Type 0 where
   pub made : is_made q ≡ true
   pub body : fine_all (setting_in w f) (outline (setting_in w f)) q.body ≡ true
   pub answer : answer_suits (setting_in w f) q.result q.answer ≡ true
+  pub texts : q.texts ≡ texts_of q.body q.answer
   pub formals : AreParameters w q.formals
   pub result : (is_result q.result ≡ true) × (good (setting_in w 0) q.result ≡ true)
 

@@ -1,14 +1,14 @@
 //! Declarations, procedures and modules that the judgement accepts are well-formed, where what they make is in the whole
 //! program.
 
-ghost use Rattle.std.specs.Prelude.{◌≡◌, ℕ, length, true, Option, Some, None};
+ghost use Rattle.std.specs.Prelude.{nat_lt, ◌≡◌, ℕ, length, true, Option, Some, None};
 ghost use Rattle.ob_syntax.specs.Syntax.{ConstDecl, TypeDecl, VarDecl, Decls};
 ghost use Rattle.ob_syntax.specs.Syntax.{Module as ModuleTree};
 ghost use Rattle.std.specs.Prelude.{List, [], ◌∷◌};
-ghost use Rattle.ob_types.specs.Forms.{all_below, types_fine};
+ghost use Rattle.ob_types.specs.Forms.{all, all_below, types_fine};
 ghost use Rattle.ob_judge.specs.Image.{Program as ProgramImage};
 ghost use Rattle.ob_types.specs.declared.program.Program.{Program};
-ghost use Rattle.ob_types.specs.Meaning.{procedure_of};
+ghost use Rattle.ob_types.specs.Meaning.{procedure_of, texts_of};
 ghost use Rattle.ob_types.specs.WellFormed.{procedure_fine};
 ghost use Rattle.ob_judge.specs.Judged.{Keeps};
 ghost use Rattle.ob_judge.specs.Image.{Procedure, Module};
@@ -79,4 +79,11 @@ pub fn one_module_has_fine_procedures()
     ensures { (p : Program) → IsFaithful p.types → IsInside p → types_fine p.types ≡ true → (m : Parsed) → IsRead m.source
         → (q : ProgramImage) → checked (m ∷ []) ≡ Legal q → (sources : List (List ℕ)) → plain_program sources p ≡ outlined_program q
         → all_below (length p.procedures) (procedure_fine p) ≡ true }
+{}
+
+/// And the strings that it uses as arrays are bytes.
+pub fn one_module_has_byte_strings()
+    ensures { (p : Program) → IsFaithful p.types → IsInside p → types_fine p.types ≡ true → (m : Parsed) → IsRead m.source
+        → (q : ProgramImage) → checked (m ∷ []) ≡ Legal q → (sources : List (List ℕ)) → plain_program sources p ≡ outlined_program q
+        → all (all (λ c. nat_lt c 256)) (texts_of p.procedures) ≡ true }
 {}

@@ -8,7 +8,7 @@
 mod laws;
 
 pub use laws::{
-    constants_stay_sound, modules_are_well, one_module_has_fine_procedures, procedures_are_well,
-    sound_scopes_are_right, the_first_scope_is_sound, types_stay_sound, variables_stay_sound,
-    well_procedures_are_fine,
+    constants_stay_sound, modules_are_well, one_module_has_byte_strings,
+    one_module_has_fine_procedures, procedures_are_well, sound_scopes_are_right,
+    the_first_scope_is_sound, types_stay_sound, variables_stay_sound, well_procedures_are_fine,
 };
