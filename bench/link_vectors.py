@@ -23,7 +23,7 @@ import backend  # noqa: E402
 import check  # noqa: E402
 import trc  # noqa: E402
 
-ROWS = ['linked.txt', 'lowered.txt', 'lowered_telling.txt', 'telling.txt', 'programs.txt', 'more_programs.txt']
+ROWS = ['linked.txt', 'lowered.txt', 'lowered_telling.txt', 'telling.txt', 'programs.txt', 'more_programs.txt', 'frames.txt']
 WHOLE = {'loop', 'types', 'modules', 'telling'}  # printed with all their words
 
 
