@@ -3,17 +3,11 @@ computes.
 
     python3 bench/block_rows.py > crates/block_runs/proofs/Rows.antt
 
-It takes blocks and outputs from the plain compiler in ../shared/oracle, and skips where that isn't there.
+It takes blocks and outputs from the plain compiler that bench/other_compiler.py finds.
 """
-import os
 import sys
 
-ORACLE = os.path.join(os.path.dirname(os.path.abspath(__file__)), '..', '..', 'shared', 'oracle')
-ORACLE = os.environ.get('ORACLE', ORACLE)
-if not os.path.isdir(ORACLE):
-    sys.exit('block_rows: no other compiler here, nothing made')
-sys.path.insert(0, ORACLE)
-sys.setrecursionlimit(100000)
+import other_compiler  # noqa: F401 (its folder on the path)
 import check, lower, meaning, backend, machine
 from meaning import Ended, Trapped
 

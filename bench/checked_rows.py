@@ -1,5 +1,5 @@
 #!/usr/bin/env python3
-"""Writes worked programs as values that definitions compute, with what the oracle says of them.
+"""Writes worked programs as values that definitions compute, with what another compiler says of them.
 
     checked_rows.py means ROWS OUT.antt     a program's meaning with so many turns
     checked_rows.py formed ROWS OUT.antt    that it is well-formed
@@ -15,7 +15,7 @@ What stands in the repository is made so, from its top (then `rt tidy` in the cr
     checked_rows.py spoiled BOTH bench/rows/spoils.txt crates/ob_rows/proofs/Spoiled.antt
     checked_rows.py means bench/rows/telling.txt crates/ob_types/proofs/Told.antt
 
-The oracle is a plain program outside of this repository (../shared/oracle from the top); without it nothing is written."""
+bench/other_compiler.py says where the other compiler is; without it nothing is written."""
 import re
 import sys
 

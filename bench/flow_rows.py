@@ -2,17 +2,9 @@
 
     python3 bench/flow_rows.py > crates/a64_select/proofs/Rows.antt
 
-It takes them from the plain compiler in ../shared/oracle, and skips where that isn't there.
+It takes them from the plain compiler that bench/other_compiler.py finds.
 """
-import os
-import sys
-
-ORACLE = os.path.join(os.path.dirname(os.path.abspath(__file__)), '..', '..', 'shared', 'oracle')
-ORACLE = os.environ.get('ORACLE', ORACLE)
-if not os.path.isdir(ORACLE):
-    sys.exit('flow_rows: no other compiler here, nothing made')
-sys.path.insert(0, ORACLE)
-sys.setrecursionlimit(100000)
+import other_compiler  # noqa: F401 (its folder on the path)
 import backend
 import check
 import lower

@@ -3,9 +3,8 @@
 
     bench/flow_vectors.py [FOLDER]
 
-Writes `stdin` and `stdout` into FOLDER (that crate's, if none is given). The other compiler is the Python one in
-../shared/oracle, seen from the top of the repository, or in the folder that ORACLE names; where that isn't there,
-nothing is done. A flow is written as a line of words:
+Writes `stdin` and `stdout` into FOLDER (that crate's, if none is given); bench/other_compiler.py says where the other
+compiler is. A flow is written as a line of words:
 
     flow VALUES ARGS {node FREQ ENTER [params {V}] [preds {N}] {op DEF {V}} END}
 
@@ -20,14 +19,8 @@ call, and commas in lists. Procedures that break one rule each are made here, fr
 """
 import copy
 import os
-import sys
 
-TOP = os.path.dirname(os.path.dirname(os.path.abspath(__file__)))
-ORACLE = os.environ.get('ORACLE') or os.path.join(TOP, '..', 'shared', 'oracle')
-if not os.path.isdir(ORACLE):
-    sys.exit('no other compiler here; nothing done')
-sys.path.insert(0, ORACLE)
-sys.setrecursionlimit(100000)
+from other_compiler import end_of, folder_of, line_of
 import backend  # noqa: E402
 import check  # noqa: E402
 import lower  # noqa: E402
@@ -44,24 +37,8 @@ CASE x OF 1: r := 2 | 2, 4 .. 6: WHILE r < 9 DO r := r * 2 ELSIF r < 20 DO r := 
 RETURN r + y END Q; BEGIN b := (Q(1, 2) < 3) & (Q(2, 3) > 1) OR (Q(5, 6) = 7); IF b THEN Out.Int(1, 0) END END C.'''
 
 
-def end_of(e):
-    """The words of an end."""
-    return {'Jump': ['jump', e.to] + e.args, 'Branch': ['branch', e.cond, e.a, e.b, e.yes, e.no],
-            'Nonzero': ['nonzero', e.a, e.yes, e.no], 'Return': ['return'] + ([] if e.a is None else [e.a]),
-            'Trap': ['trap', e.k]}[e.kind]
-
-
-def line_of(flow):
-    """A flow in words."""
-    out = ['flow', flow.values, flow.args]
-    for b in flow.blocks:
-        out += ['node', b.freq, '-' if b.enter is None else b.enter]
-        out += ['params'] + b.params + ['preds'] + b.preds
-        for o in b.ops:
-            out += ['op', '-' if o.d is None else o.d] + o.uses
-        e = b.end
-        out += end_of(e)
-    return ' '.join(map(str, out))
+def operation_of(o):
+    return ['op', '-' if o.d is None else o.d] + o.uses
 
 
 def answer_of(flow):
@@ -216,7 +193,7 @@ def graphs():
 
 
 def main():
-    folder = sys.argv[1] if len(sys.argv) > 1 else os.path.join(TOP, 'crates', 'flow_vectors')
+    folder = folder_of('flow_vectors')
     texts = [LOOP.encode(), NEST.encode(), CASES.encode(), trc.bulk_text(7, 6), trc.bulk_text(11, 6)]
     lines, answers = [], []
     procs = [whole()]
@@ -231,7 +208,7 @@ def main():
     procs += graphs()
     for text in texts:
         for flow in trc.make_plan(['M'], [text], 'bi', 12).flows:
-            lines.append(line_of(flow))
+            lines.append(line_of(['flow', flow.values, flow.args], flow, operation_of))
             answers += answer_of(flow)
         procs += lower.lower(check.check_sources([text]), 12).procs
     for proc in procs:

@@ -7,17 +7,9 @@
 # flows, and says what they are. Each is read once and worked on many times; what reading it takes is subtracted, as the
 # time of the same call that does no work. Times are the processor's.
 set -eu
-top=$(cd "$(dirname "$0")/.." && pwd)
+. "$(dirname "$0")/measure.sh"
 what=${1:?traces, live, valid or select}
-program=${2:-$top/crates/flow_vectors/out/flow_vectors}
-work=$(mktemp -d)
-trap 'rm -rf "$work"' EXIT
-
-# milliseconds TIMES: of the processor, for one call of the program
-milliseconds() {
-    TIMEFORMAT='%U %S'
-    { time "$program" "$what" "$1" <"$work/in" >"$work/out"; } 2>&1 | awk '{ print 1000 * ($1 + $2) }'
-}
+program=${2:-$(built flow_vectors)}
 
 form=flow
 case $what in valid | select) form=proc ;; esac
@@ -27,9 +19,9 @@ for kind in chain ladder nest; do
     for nodes in 1000 2000 4000 8000 16000; do
         "$top/bench/flows.py" "$kind" "$nodes" "$form" >"$work/in"
         times=$((1600000 / nodes))
-        none=$(milliseconds 0)
-        all=$(milliseconds "$times")
-        awk -v k="$kind" -v n="$nodes" -v c="$times" -v t="$all" -v o="$none" -v a="$(cat "$work/out")" \
-            'BEGIN { printf "%-8s %9d %14.3f %12.3f  %s\n", k, n, (t - o) / c, 1000 * (t - o) / c / n, a }'
+        none=$(milliseconds "$program" "$what" 0)
+        all=$(milliseconds "$program" "$what" "$times")
+        awk -v k="$kind" -v n="$nodes" -v m="$(each_call "$none" "$all" "$times")" -v a="$(cat "$work/out")" \
+            'BEGIN { printf "%-8s %9d %14.3f %12.3f  %s\n", k, n, m, 1000 * m / n, a }'
     done
 done

@@ -1,10 +1,10 @@
 #!/usr/bin/env python3
-"""Writes small modules as syntax, with what the oracle says of them: the first fault by module, number and place, or the checked program.
+"""Writes small modules as syntax, with what another compiler says of them: the first fault by module, number and place, or the checked program.
 
     judged_rows.py ROWS OUT.antt
 
 ROWS: pieces between lines ---, each a line `name`, then modules between lines ===.
-The oracle is a plain program outside of this repository (../shared/oracle from the top); without it nothing is written.
+bench/other_compiler.py says where the other compiler is; without it nothing is written.
 Symbols that the judgement never reads are numbered 0 in the trees."""
 import re
 import sys
@@ -233,7 +233,7 @@ class Parsed:
         return 'record { source = record { bytes = %s; symbols = %s }; tree = %s }' % (letters(self.source), symbols, self.module())
 
 
-# what the oracle says
+# what the other compiler says
 
 COMPARISONS = {'=': 'Equal', '#': 'Unequal', '<': 'Less', '<=': 'LessEqual', '>': 'Greater', '>=': 'GreaterEqual'}
 BINARY = {'+': 'Add', '-': 'Subtract', '*': 'Multiply', 'DIV': 'Div', 'MOD': 'Mod', 'set+': 'Union', 'set-': 'Difference',
@@ -411,7 +411,7 @@ class Checked:
 
     # the program
     def texts(self, q):
-        """The uses of strings in the tree, in its order (fields in the order in which the oracle declares them)."""
+        """The uses of strings in the tree, in its order (fields in the order in which the other compiler declares them)."""
         found = []
 
         def walk(x):

@@ -7,24 +7,16 @@
 # makes the flows, where the other compiler is. Each module is read, allocated and resolved once and linked many times; what
 # is done once is subtracted, as the time of the same run that links nothing. Times are the processor's.
 set -eu
-top=$(cd "$(dirname "$0")/.." && pwd)
-program=${1:-$top/crates/link_vectors/out/link_vectors}
-work=$(mktemp -d)
-trap 'rm -rf "$work"' EXIT
-
-# milliseconds TIMES: of the processor, for one call of the program
-milliseconds() {
-    TIMEFORMAT='%U %S'
-    { time "$program" bench "$1" <"$work/in" >"$work/out"; } 2>&1 | awk '{ print 1000 * ($1 + $2) }'
-}
+. "$(dirname "$0")/measure.sh"
+program=${1:-$(built link_vectors)}
 
 printf '%9s %9s %14s %12s\n' copies words 'ms a call' 'us a word'
 for copies in 1 2 4 8 16 32; do
     "$top/bench/link_vectors.py" bench "$copies" >"$work/in"
     times=$((64 / copies + 1))
-    none=$(milliseconds 0)
-    all=$(milliseconds "$times")
+    none=$(milliseconds "$program" bench 0)
+    all=$(milliseconds "$program" bench "$times")
     words=$(awk '$1 == "image" { print $2 }' "$work/out")
-    awk -v c="$copies" -v n="$times" -v t="$all" -v o="$none" -v w="${words:-0}" \
-        'BEGIN { m = (t - o) / n; printf "%9d %9d %14.3f %12.4f\n", c, w, m, w ? 1000 * m / w : 0 }'
+    awk -v c="$copies" -v m="$(each_call "$none" "$all" "$times")" -v w="${words:-0}" \
+        'BEGIN { printf "%9d %9d %14.3f %12.4f\n", c, w, m, w ? 1000 * m / w : 0 }'
 done

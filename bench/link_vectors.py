@@ -5,20 +5,14 @@
     bench/link_vectors.py bench MODULES
 
 Writes `stdin` and `stdout` into FOLDER (that crate's, if none is given): a hundred modules, of bench/rows and made ones,
-each linked without a choice and by linear scan, with 4 and 16 registers. The other compiler is the Python one in
-../shared/oracle, seen from the top of the repository, or in the folder that ORACLE names; where that isn't there,
-nothing is done. `bench` prints one module with so many procedures of a made one, for bench/link.sh. How lines are written
+each linked without a choice and by linear scan, with 4 and 16 registers; bench/other_compiler.py says where the other
+compiler is. `bench` prints one module with so many procedures of a made one, for bench/link.sh. How lines are written
 is said in crates/link_vectors and crates/flow_text.
 """
 import os
 import sys
 
-TOP = os.path.dirname(os.path.dirname(os.path.abspath(__file__)))
-ORACLE = os.environ.get('ORACLE') or os.path.join(TOP, '..', 'shared', 'oracle')
-if not os.path.isdir(ORACLE):
-    sys.exit('no other compiler here; nothing done')
-sys.path.insert(0, ORACLE)
-sys.setrecursionlimit(100000)
+from other_compiler import TOP, folder_of, line_of
 import backend  # noqa: E402
 import check  # noqa: E402
 import trc  # noqa: E402
@@ -38,21 +32,14 @@ def sources():
     return found + [('made%d' % i, [trc.bulk_text(i, 2 + i % 4)]) for i in range(1, 25)]
 
 
-def end_of(e):
-    return {'Jump': ['jump', e.to] + e.args, 'Branch': ['branch', e.cond, e.a, e.b, e.yes, e.no],
-            'Nonzero': ['nonzero', e.a, e.yes, e.no], 'Return': ['return'] + ([] if e.a is None else [e.a]),
-            'Trap': ['trap', e.k]}[e.kind]
+def operation_of(o):
+    return ['do', o.code, 0 if o.n is None else o.n % (1 << 64), '-' if o.d is None else o.d] + o.uses
 
 
-def line_of(flow):
+def flow_of(flow):
     """A flow in words."""
-    out = ['flow', flow.values, flow.args, 'counted' if flow.counted else 'body', flow.local_cells, flow.local_bytes]
-    for b in flow.blocks:
-        out += ['node', b.freq, '-' if b.enter is None else b.enter, 'params'] + b.params + ['preds'] + b.preds
-        for o in b.ops:
-            out += ['do', o.code, 0 if o.n is None else o.n % (1 << 64), '-' if o.d is None else o.d] + o.uses
-        out += end_of(b.end)
-    return ' '.join(map(str, out))
+    kind = 'counted' if flow.counted else 'body'
+    return line_of(['flow', flow.values, flow.args, kind, flow.local_cells, flow.local_bytes], flow, operation_of)
 
 
 def sum_of(image):
@@ -73,12 +60,13 @@ def bench(count):
     print('module 0 0')
     for i in range(count):
         for flow in plan.flows[:-1]:
-            print(line_of(flow))
-    print(line_of(plan.flows[-1]))
+            print(flow_of(flow))
+    print(flow_of(plan.flows[-1]))
     print('link linear 16')
 
 
-def main(folder=os.path.join(TOP, 'crates', 'link_vectors')):
+def main():
+    folder = folder_of('link_vectors')
     lines, answers, count = [], [], 0
     for name, texts in sources():
         try:
@@ -91,7 +79,7 @@ def main(folder=os.path.join(TOP, 'crates', 'link_vectors')):
                 image = backend.place(plan, backend.results(plan, policy, regs))
                 if first:
                     lines.append(' '.join(map(str, ['module', image.flags, image.globals] + list(image.constants))))
-                    lines += [line_of(f) for f in plan.flows]
+                    lines += [flow_of(f) for f in plan.flows]
                     count += 1
                 whole = name in WHOLE and policy == 'linear' and regs == 4
                 lines.append('link %s %d%s' % (policy, regs, ' words' if whole else ''))
@@ -106,4 +94,4 @@ def main(folder=os.path.join(TOP, 'crates', 'link_vectors')):
 if sys.argv[1:2] == ['bench']:
     bench(int(sys.argv[2]))
 else:
-    main(*sys.argv[1:])
+    main()

@@ -1,10 +1,10 @@
 #!/usr/bin/env python3
-"""Writes small programs as flows in traces with results, and the frames and code words that the oracle makes of them.
+"""Writes small programs as flows in traces with results, and the frames and code words that another compiler makes of them.
 
     linked_rows.py bench/rows/linked.txt crates/linked_flows/proofs/Expected.antt
 
 Rows: pieces between lines ---, each a line `name policy registers`, then modules between lines ===.
-`row_texts` says where the oracle is; without it nothing is written."""
+bench/other_compiler.py says where that is; without it nothing is written."""
 import sys
 
 from row_texts import listed, some, truth

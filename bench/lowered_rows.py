@@ -16,7 +16,7 @@ What stands in the repository is made so, from its top (then `rt tidy` in the cr
     lowered_rows.py limits bench/rows/limits.txt crates/ssa_lowered_rows/proofs/Limited.antt
     lowered_rows.py cells bench/rows/lowered_telling.txt crates/ssa_lowered/proofs/Told.antt
 
-The other compiler is a plain program outside of this repository (../shared/oracle from the top); without it nothing is written."""
+bench/other_compiler.py says where the other compiler is; without it nothing is written."""
 import itertools
 import re
 import sys

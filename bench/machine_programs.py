@@ -4,19 +4,14 @@
     bench/machine_programs.py [FILE]
 
 Each program has 32 words of the A64 table, from all its rows, with branches within the program, loads and stores in
-each region, services and traps; a few words are in no row. Each is run for at most 2,000 steps. The other machine is
-the Python one in ../shared/oracle, seen from the top of the repository, or in the folder that ORACLE names; where that
-isn't there, nothing is done.
+each region, services and traps; a few words are in no row. Each is run for at most 2,000 steps. bench/other_compiler.py
+says where the other machine is.
 """
 import os
 import random
 import sys
 
-TOP = os.path.dirname(os.path.dirname(os.path.abspath(__file__)))
-ORACLE = os.environ.get('ORACLE') or os.path.join(TOP, '..', 'shared', 'oracle')
-if not os.path.isdir(ORACLE):
-    sys.exit('no other machine here; nothing done')
-sys.path.insert(0, ORACLE)
+from other_compiler import TOP
 import a64  # noqa: E402
 from image import Image  # noqa: E402
 from machine import Machine  # noqa: E402

@@ -1,4 +1,4 @@
-#!/bin/sh
+#!/bin/bash
 # Time of the parser against the number of symbols, for sizes that double up to the most that it takes.
 #
 #     bench/parse.sh [PROGRAM]
@@ -7,10 +7,8 @@
 # symbols as words, so each figure holds the reading of words too; `words` is that part alone: words that the parser
 # leaves at once, since the first is wrong already.
 set -eu
-top=$(cd "$(dirname "$0")/.." && pwd)
-program=${1:-$top/crates/parse_vectors/out/parse_vectors}
-work=$(mktemp -d)
-trap 'rm -rf "$work"' EXIT
+. "$(dirname "$0")/measure.sh"
+program=${1:-$(built parse_vectors)}
 
 # make KIND COUNT: a module of about COUNT symbols
 make() {

@@ -3,20 +3,13 @@
 
     bench/parse_vectors.py [FOLDER]
 
-Writes `stdin` and `stdout` into FOLDER (that crate's, if none is given). The other parser is the Python one in
-../shared/oracle, seen from the top of the repository, or in the folder that ORACLE names; where that isn't there,
-nothing is done.
+Writes `stdin` and `stdout` into FOLDER (that crate's, if none is given); bench/other_compiler.py says where the other
+parser is.
 """
 import os
 import random
-import sys
 
-TOP = os.path.dirname(os.path.dirname(os.path.abspath(__file__)))
-ORACLE = os.environ.get('ORACLE') or os.path.join(TOP, '..', 'shared', 'oracle')
-if not os.path.isdir(ORACLE):
-    sys.exit('no other parser here; nothing done')
-sys.path.insert(0, ORACLE)
-sys.setrecursionlimit(100000)
+from other_compiler import folder_of
 import parse  # noqa: E402
 from scan import Fault, Symbol, scan  # noqa: E402
 
@@ -166,7 +159,7 @@ def spread(line):
 
 
 def main():
-    folder = sys.argv[1] if len(sys.argv) > 1 else os.path.join(TOP, 'crates', 'parse_vectors')
+    folder = folder_of('parse_vectors')
     random.seed(20)
     small = [[word(s) for s in scan(text.strip().encode())] for text in MODULES]
     for words in small:

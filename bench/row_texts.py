@@ -1,16 +1,5 @@
-"""What the scripts that write rows share: the oracle's place, and values as definitions write them.
-
-The oracle is a plain program outside of this repository (../shared/oracle from the top, or the folder that ORACLE names).
-Importing this adds it to the modules that can be imported; where it isn't there, the script ends and writes nothing."""
-import os
-import sys
-
-HERE = os.path.dirname(os.path.abspath(__file__))
-ORACLE = os.environ.get('ORACLE', os.path.join(HERE, '..', '..', 'shared', 'oracle'))
-if not os.path.isdir(ORACLE):
-    print('no oracle here: nothing is written')
-    sys.exit(0)
-sys.path.insert(0, ORACLE)
+"""What the scripts that write rows share: values as definitions write them, and, by `other_compiler`, what they are held against."""
+import other_compiler  # noqa: F401 (its folder on the path)
 
 
 def some(x):

@@ -3,19 +3,13 @@
 
     bench/scan_vectors.py [FOLDER]
 
-Writes `stdin` and `stdout` into FOLDER (that crate's, if none is given). The other scanner is the Python one in
-../shared/oracle, seen from the top of the repository, or in the folder that ORACLE names; where that isn't there,
-nothing is done.
+Writes `stdin` and `stdout` into FOLDER (that crate's, if none is given); bench/other_compiler.py says where the other
+scanner is.
 """
 import os
 import random
-import sys
 
-TOP = os.path.dirname(os.path.dirname(os.path.abspath(__file__)))
-ORACLE = os.environ.get('ORACLE') or os.path.join(TOP, '..', 'shared', 'oracle')
-if not os.path.isdir(ORACLE):
-    sys.exit('no other scanner here; nothing done')
-sys.path.insert(0, ORACLE)
+from other_compiler import folder_of
 from scan import Fault, RESERVED, scan  # noqa: E402
 
 MARKS = {'+': 'Plus', '-': 'Minus', '*': 'Times', '/': 'Slash', '~': 'Tilde', '&': 'Ampersand', '.': 'Period',
@@ -86,7 +80,7 @@ def wanted(text):
 
 
 def main():
-    folder = sys.argv[1] if len(sys.argv) > 1 else os.path.join(TOP, 'crates', 'scan_vectors')
+    folder = folder_of('scan_vectors')
     dice = random.Random(7)
     texts = TEXTS + [b''.join(dice.choice(PIECES) for _ in range(dice.randint(1, 12))) for _ in range(400)]
     with open(os.path.join(folder, 'stdin'), 'w') as lines:

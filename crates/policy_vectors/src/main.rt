@@ -1,26 +1,21 @@
-//! Reads flows, a line each with a number of registers before it, and prints what bottom-up allocation gives for their
-//! traces.
+//! Reads flows, a line each with a policy and a number of registers before it, and prints the final results of their traces.
 //!
 //! The stored input are flows that another compiler, written in Python from the rules alone, selects for a few modules,
-//! with 4, 5, 8 and 16 registers; what it allocates is the stored output (`bench/bottom_up_vectors.py` makes both where it
-//! is; `bench/linear_vectors.py` says how they are written).
+//! with each policy and with 4, 5, 8 and 16 registers; what it allocates is the stored output (`bench/policy_vectors.py`
+//! makes both where it is, and says how they are written).
 //!
-//! With the word `bench`, for `bench/bottom_up.sh`, it prints how many lines there are in all.
+//! With the word `bench`, for `bench/allocate.sh`, it prints how many lines there are in all.
 #![tactic(auto)]
 
-mod reader;
-
-ghost use Rattle.std.specs.Prelude.{◌≤◌};
-
-use bottom_up::allocate;
-use global_live::{LiveSets, live};
-use lir_core::{Flow, Line, Place, Places, TraceIn, TraceOut};
+use alloc_choice::{Choice, Policy, final_results};
+use flow_text::{Words, flow_in};
+use global_live::live;
+use lir_core::{Line, Place, Places, TraceOut};
 use outside::Memory;
-use reader::case_of;
 use std::alloc::{AllocError, Global};
 use std::io::{BufRead, BufReader};
 use std::{env, io};
-use trace_build::{Builder, Trace, build};
+use trace_build::{Builder, build};
 
 fn push_places(text: &mut String, q: &Places) -> Result<(), AllocError> {
     for content in q.regs.as_slice() {
@@ -91,56 +86,51 @@ fn push_result(text: &mut String, out: &TraceOut) -> Result<(), AllocError> {
     Ok(())
 }
 
-/// The results of a flow's traces.
-fn results(
-    alloc: Global,
-    flow: &Flow,
-    live: &LiveSets,
-    traces: &[Trace],
-    regs: u8,
-) -> Result<Vec<TraceOut>, Memory>
-    requires enough { 4 ≤ regs }
-    requires few { regs ≤ 16 }
-{
-    let mut outs: Vec<TraceOut> = Vec::new(alloc);
-    for (number, trace) in traces.iter().enumerate() {
-        let t = TraceIn {
-            flow,
-            live,
-            trace,
-            number: u32::try_from(number).unwrap_or(0),
-            regs,
-            from: None,
-        };
-        let out = allocate(alloc, &t)?;
-        outs.push(out)?;
+/// A policy by its word.
+fn policy_named(word: &str) -> Option<Policy> {
+    match word {
+        "plain" => Some(Policy::Plain),
+        "linear" => Some(Policy::Linear),
+        "bottom_up" => Some(Policy::BottomUp),
+        "mixed" => Some(Policy::Mixed),
+        _ => None,
     }
-    Ok(outs)
+}
+
+/// The results of the traces of the flow that a line has behind its policy and its number of registers, from 4 to 16;
+/// none where it has no such policy or number.
+fn results(alloc: Global, line: &str) -> Result<Vec<TraceOut>, Memory> {
+    let mut words = Words::new(line);
+    let Some(policy) = policy_named(words.word()) else {
+        return Ok(Vec::new(alloc));
+    };
+    let regs = u8::try_from(words.or_zero()).unwrap_or(0);
+    if regs < 4 || regs > 16 {
+        return Ok(Vec::new(alloc));
+    }
+    let flow = flow_in(alloc, &mut words)?;
+    let live = live(alloc, &flow)?;
+    let traces = build(alloc, Builder::Bi, &flow)?;
+    let choice = Choice {
+        policy,
+        builder: Builder::Bi,
+        regs,
+        jobs: 1,
+    };
+    final_results(alloc, &choice, &flow, &live, traces.as_slice(), 0)
 }
 
 fn answer(alloc: Global, line: &str) -> Result<String, Memory> {
-    let (regs, flow) = case_of(alloc, line)?;
     let mut text = String::new(alloc);
-    if regs < 4 || regs > 16 {
-        return Ok(text);
-    }
-    let live = live(alloc, &flow)?;
-    let traces = build(alloc, Builder::Bi, &flow)?;
-    for out in &results(alloc, &flow, &live, traces.as_slice(), regs)? {
+    for out in &results(alloc, line)? {
         push_result(&mut text, out)?;
     }
     Ok(text)
 }
 
 fn count(alloc: Global, line: &str) -> Result<String, Memory> {
-    let (regs, flow) = case_of(alloc, line)?;
     let mut lines: u64 = 0;
-    if regs < 4 || regs > 16 {
-        return Ok(String::new(alloc));
-    }
-    let live = live(alloc, &flow)?;
-    let traces = build(alloc, Builder::Bi, &flow)?;
-    for out in &results(alloc, &flow, &live, traces.as_slice(), regs)? {
+    for out in &results(alloc, line)? {
         for node in out.lines.as_slice() {
             lines = lines.saturating_add(node.len() as u64);
         }

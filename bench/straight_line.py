@@ -1,7 +1,7 @@
 #!/usr/bin/env python3
-"""Prints a flow of one node with so many operations, as crates/linear_vectors reads it, for 16 registers.
+"""Prints a flow of one node with so many operations, as crates/policy_vectors reads it, for 16 registers.
 
-    bench/linear.py OPERATIONS
+    bench/straight_line.py OPERATIONS
 
 Each operation makes a value and reads those made one and 24 operations before it, so some 24 values are live throughout:
 more than there are registers.

@@ -1,24 +1,17 @@
 #!/usr/bin/env python3
-"""Makes the input of crates/linear_vectors and the answers that are wanted, by another compiler.
+"""Makes the input of crates/policy_vectors and the answers that are wanted, by another compiler.
 
-    bench/linear_vectors.py [FOLDER]
+    bench/policy_vectors.py [FOLDER]
 
-Writes `stdin` and `stdout` into FOLDER (that crate's, if none is given). The other compiler is the Python one in
-../shared/oracle, seen from the top of the repository, or in the folder that ORACLE names; where that isn't there,
-nothing is done. A line of the input is a number of registers and a flow as in bench/flow_vectors.py, but that a call
+Writes `stdin` and `stdout` into FOLDER (that crate's, if none is given); bench/other_compiler.py says where the other
+compiler is. A line of the input is a policy, a number of registers and a flow as in bench/flow_vectors.py, but that a call
 begins with `call` in place of `op`, or with `aim` where its first use is the address that is called. The answer has four
 lines for each node of each trace: its start places (what each register has, then the homed values), its lines, the
 registers named, and its end places.
 """
 import os
-import sys
 
-TOP = os.path.dirname(os.path.dirname(os.path.abspath(__file__)))
-ORACLE = os.environ.get('ORACLE') or os.path.join(TOP, '..', 'shared', 'oracle')
-if not os.path.isdir(ORACLE):
-    sys.exit('no other compiler here; nothing done')
-sys.path.insert(0, ORACLE)
-sys.setrecursionlimit(100000)
+from other_compiler import folder_of, line_of
 import backend  # noqa: E402
 import ssa  # noqa: E402
 import trc  # noqa: E402
@@ -34,19 +27,8 @@ FOR i := 0 TO x DO r := r + f(i, r, x, y, u, i * r) * u; IF r > 100 THEN u := S(
 RETURN r + u END T; BEGIN h := S; Out.Int(T(3, 4, h), 0); Out.Ln END A.'''
 
 
-def line_of(flow):
-    """A flow in words."""
-    out = ['flow', flow.values, flow.args]
-    for b in flow.blocks:
-        out += ['node', b.freq, '-' if b.enter is None else b.enter]
-        out += ['params'] + b.params + ['preds'] + b.preds
-        for o in b.ops:
-            out += [('aim' if o.code == 'CallAt' else 'call') if o.call else 'op', '-' if o.d is None else o.d] + o.uses
-        e = b.end
-        out += {'Jump': ['jump', e.to] + e.args, 'Branch': ['branch', e.cond, e.a, e.b, e.yes, e.no],
-                'Nonzero': ['nonzero', e.a, e.yes, e.no], 'Return': ['return'] + ([] if e.a is None else [e.a]),
-                'Trap': ['trap', e.k]}[e.kind]
-    return ' '.join(map(str, out))
+def operation_of(o):
+    return [('aim' if o.code == 'CallAt' else 'call') if o.call else 'op', '-' if o.d is None else o.d] + o.uses
 
 
 def place(p):
@@ -70,11 +52,6 @@ def words_of(line):
     return ['moves'] + [place(p) for move in line[1] for p in move]
 
 
-def linear_results(flow, regs):
-    """Linear scan of a flow's traces, each by its parent's result."""
-    return backend.final_results('linear', flow, ssa.live(flow), backend.build('bi', flow), regs)
-
-
 def answer_of(outs):
     """The lines that are wanted of results."""
     lines = []
@@ -86,20 +63,21 @@ def answer_of(outs):
     return lines
 
 
-def main(crate, sizes, results_of):
-    folder = sys.argv[1] if len(sys.argv) > 1 else os.path.join(TOP, 'crates', crate)
+def main():
+    folder = folder_of('policy_vectors')
     texts = [NEST.encode(), MANY.encode(), trc.bulk_text(7, 6)]
     lines, answers = [], []
     for text in texts:
         for flow in trc.make_plan(['M'], [text], 'bi', 12).flows:
-            for regs in sizes:
-                lines.append('%d %s' % (regs, line_of(flow)))
-                answers += answer_of(results_of(flow, regs))
+            live, traces = ssa.live(flow), backend.build('bi', flow)
+            for policy in ('plain', 'linear', 'bottom_up', 'mixed'):
+                for regs in (4, 5, 8, 16):
+                    lines.append(line_of([policy, regs, 'flow', flow.values, flow.args], flow, operation_of))
+                    answers += answer_of(backend.final_results(policy, flow, live, traces, regs))
     for name, rows in (('stdin', lines), ('stdout', answers)):
         with open(os.path.join(folder, name), 'w') as file:
             file.write('\n'.join(rows) + '\n')
     print(len(lines), 'cases')
 
 
-if __name__ == '__main__':
-    main('linear_vectors', (4, 5, 16), linear_results)
+main()

@@ -1,0 +1,37 @@
+"""The plain compiler, outside of this repository, that scripts here take expected values from, and flows in its words.
+
+It is in ../shared/oracle, seen from the top of the repository, or in the folder that ORACLE names. Importing this makes its
+modules importable; where it isn't there, the script ends and has written nothing.
+"""
+import os
+import sys
+
+TOP = os.path.dirname(os.path.dirname(os.path.abspath(__file__)))
+ORACLE = os.environ.get('ORACLE') or os.path.join(TOP, '..', 'shared', 'oracle')
+if not os.path.isdir(ORACLE):
+    sys.exit('no other compiler here; nothing is written')
+sys.path.insert(0, ORACLE)
+sys.setrecursionlimit(100000)
+
+
+def folder_of(crate):
+    """The folder that a script writes a crate's stored run into: its argument, or the crate's own."""
+    return sys.argv[1] if len(sys.argv) > 1 else os.path.join(TOP, 'crates', crate)
+
+
+def end_of(e):
+    """The words of an end."""
+    return {'Jump': ['jump', e.to] + e.args, 'Branch': ['branch', e.cond, e.a, e.b, e.yes, e.no],
+            'Nonzero': ['nonzero', e.a, e.yes, e.no], 'Return': ['return'] + ([] if e.a is None else [e.a]),
+            'Trap': ['trap', e.k]}[e.kind]
+
+
+def node_of(b, operation):
+    """The words of a flow's node; those of an operation are given."""
+    head = ['node', b.freq, '-' if b.enter is None else b.enter, 'params'] + b.params + ['preds'] + b.preds
+    return head + [word for o in b.ops for word in operation(o)] + end_of(b.end)
+
+
+def line_of(head, flow, operation):
+    """A flow in words, behind these."""
+    return ' '.join(map(str, head + [word for b in flow.blocks for word in node_of(b, operation)]))
