@@ -1,9 +1,14 @@
 -- What a flow's points are to its procedure's: each point itself, and behind a test the new nodes on its edges.
 use Rattle.std.specs.Prelude.{◌≡◌, ℕ, ◌+◌, ◌<◌, List, [], ◌∷◌, ◌++◌, map, take, drop, length, Bool}
-use Rattle.run_laws.specs.Layers.{places_from}
+use Rattle.run_laws.specs.Layers.{CarriesBy, places_from}
 use Rattle.block_runs.specs.Blocks.{Operation, CodeBlock, Procedure, block_at, procedure_of}
-use Rattle.block_runs.specs.States.{Frame, State, Starts, Enters, Runs, Works, Point, Begin, Entry, In, At}
-use Rattle.a64_select.specs.Selected.{joins_of, split_targets}
+use Rattle.block_runs.specs.States.{Frame, State, Starts, Enters, Runs, Works, Stop, Point, Begin, Entry, In, At}
+use Rattle.block_runs.specs.Steps.{block_system}
+use Rattle.block_runs.specs.Points.{least}
+use Rattle.ssa_core.specs.declared.procedure.Proc.{Proc}
+use Rattle.ssa_core.specs.Procedures.{procedures}
+use Rattle.lir_core.specs.Flows.{procedures as flow_procedures}
+use Rattle.a64_select.specs.Selected.{joins_of, split_targets, selected}
 
 -- the targets of all edges that are split, by source: new node number n + i leads to the i-th, where there are n blocks
 abbrev pub new_targets : List Bool → List CodeBlock → List ℕ
@@ -47,3 +52,10 @@ Inside ps (Works work f fs w) = Stands ps f × AllStand ps fs
 pub record SameState (ps : List Procedure) (s a : State) : Type 0 where
   pub same : s ≡ a
   pub inside : Inside ps s
+
+-- the flows of procedures carry out each of their steps, whatever the addresses of code are
+abbrev pub FlowsCarry : List Proc → (code : ℕ → ℕ) → Type 0
+FlowsCarry ps code =
+    let above = procedures ps in
+    let below = flow_procedures (map selected ps) in
+    CarriesBy (block_system above code) (block_system below code) (least above) (least below) (flow_points above) (SameState above) (λ (u v : Stop). u ≡ v)

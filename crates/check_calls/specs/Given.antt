@@ -2,17 +2,25 @@
 use Rattle.std.specs.Prelude.{◌≡◌, ℕ, List, [], ◌∷◌, Vec, Option, Some, None}
 use Rattle.std.specs.Global.{Global}
 use Rattle.ob_types.specs.declared.tree.Argument.{Argument}
+use Rattle.ob_types.specs.declared.statements.Checked.{Checked}
 use Rattle.ob_judge.specs.Image as I
 use Rattle.ob_judge.specs.Scopes.{place}
-use Rattle.ob_judge.specs.Operands.{What, Code}
+use Rattle.ob_judge.specs.Operands.{What, Code, Operand as Judgement}
 use Rattle.ob_judge.specs.Calls as J
-use Rattle.judged_tree.specs.Plain.{plain_argument}
-use Rattle.judged_tree.specs.Outline.{outlined_argument, outlined_arguments}
+use Rattle.judged_tree.specs.Plain.{plain_argument, plain_checked}
+use Rattle.judged_tree.specs.Outline.{outlined_argument, outlined_arguments, outlined_checked}
 use Rattle.tree_parts.specs.Lists.{each_argument}
+use Rattle.check_types.specs.declared.types.TypeRef.{TypeRef}
+use Rattle.check_types.specs.TypeMeaning.{type_shape}
 use Rattle.check_names.specs.declared.scope.Scope.{Scope}
 use Rattle.check_names.specs.Worlds.{table_of}
+use Rattle.check_operands.specs.declared.operand.Operand.{Operand}
 use Rattle.check_operands.specs.Operands.{texts_of, bases_of, Stands}
 use Rattle.check_calls.specs.declared.arguments.Given.{Given}
+
+-- this is the value as it is stored in a variable of the type
+abbrev pub IsStored : Scope → TypeRef → Operand → Checked → Type 0
+IsStored s to x e = (a : Judgement) → Stands s x a → plain_checked (table_of s) (texts_of s) e ≡ outlined_checked (bases_of s) (J.stored (type_shape (table_of s) to) a)
 
 -- walked
 pub record IsGiven (s : Scope) (x : Given) (a : J.Given) : Type 0 where

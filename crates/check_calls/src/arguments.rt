@@ -1,18 +1,14 @@
 //! Arguments.
 
 ghost use Rattle.std.specs.Prelude.{◌≡◌, IfOk, true, false};
-ghost use Rattle.ob_judge.specs.Judged.{Keeps};
-ghost use Rattle.ob_judge.specs.Scopes.{place};
 ghost use Rattle.ob_judge.specs.Operands.{Operand as Judgement, What as JudgedWhat, is_local_code as local_code};
-ghost use Rattle.ob_judge.specs.Calls.{Given as JudgedGiven, stored as stored_from, may_assign as judged_assign, is_chars as tests_chars, is_open_text as tests_open_text, may_pass as judged_pass, as_reference as reference_from, as_passed as passed_from, bound as judged_bound};
-ghost use Rattle.judged_tree.specs.Plain.{plain_checked, plain_argument};
-ghost use Rattle.judged_tree.specs.Outline.{outlined_checked, outlined_argument};
+ghost use Rattle.ob_judge.specs.Calls.{Given as JudgedGiven, may_assign as judged_assign, is_chars as tests_chars, is_open_text as tests_open_text, may_pass as judged_pass, as_reference as reference_from, as_passed as passed_from, bound as judged_bound};
 ghost use Rattle.check_steps.specs.Answers.{Answers};
 ghost use Rattle.check_types.specs.TypeMeaning.{type_shape};
 ghost use Rattle.check_types.specs.Known.{known_of};
 ghost use Rattle.check_names.specs.Worlds.{table_of, world_of};
 ghost use Rattle.check_operands.specs.Operands.{texts_of, bases_of, what_image, outlined_what, Stands};
-ghost use Rattle.check_calls.specs.Given.{IsGiven, IsArgument};
+ghost use Rattle.check_calls.specs.Given.{IsGiven, IsArgument, IsStored};
 
 use check_names::Scope;
 use check_operands::{Operand, What, checked, designator, form};
@@ -36,7 +32,7 @@ pub fn stored<'a>(
     to: TypeRef,
     x: Operand,
 ) -> Result<Checked, AllocError>
-    ensures { IfOk result (λ e. (a : Judgement) → Stands scope.now x a → plain_checked (table_of scope.now) (texts_of scope.now) e ≡ outlined_checked (bases_of scope.now) (stored_from (type_shape (table_of scope.now) to) a)) }
+    ensures { IfOk result (IsStored scope.now to x) }
 {
     match to {
         TypeRef::Byte => {

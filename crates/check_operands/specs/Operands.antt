@@ -1,13 +1,16 @@
 -- What an operand of the code stands for.
-use Rattle.std.specs.Prelude.{◌≡◌, ℕ, List, [], ◌∷◌, ◌++◌, ◌+◌, ◌-◌, map, Option, slice_index_or}
+use Rattle.std.specs.Prelude.{◌≡◌, ℕ, List, [], ◌∷◌, ◌++◌, ◌+◌, ◌-◌, map, Option, Result, slice_index_or}
 use Rattle.ob_symbol.specs.declared.symbol.Symbol.{Symbol}
 use Rattle.ob_types.specs.Table.{Table}
+use Rattle.ob_judge.specs.Judged.{Judged}
 use Rattle.ob_judge.specs.Scopes.{part}
 use Rattle.ob_judge.specs.Operands as J
 use Rattle.ob_judge.specs.Image as I
 use Rattle.judged_tree.specs.Plain.{plain_expr, plain_statement}
 use Rattle.judged_tree.specs.Outline.{outlined_place, outlined_expr, outlined_statement}
 use Rattle.tree_parts.specs.Lists.{place_image}
+use Rattle.check_steps.specs.declared.fault.CheckFault.{CheckFault}
+use Rattle.check_steps.specs.Answers.{Answers}
 use Rattle.check_types.specs.TypeMeaning.{type_shape}
 use Rattle.check_names.specs.declared.scope.Scope.{Scope}
 use Rattle.check_names.specs.Worlds.{table_of, strings_of}
@@ -56,6 +59,14 @@ pub record Stands (s : Scope) (o : Operand) (x : J.Operand) : Type 0 where
   pub shape : type_shape (table_of s) o.of ≡ x.shape
   pub what : what_image (table_of s) (texts_of s) o.what ≡ outlined_what (bases_of s) x.what
   pub usage : use_of o.usage ≡ x.use_
+
+-- whatever an operand stands for, the answer is what the judgement makes of that
+abbrev pub Judges : Scope → Operand → (J.Operand → Judged J.Operand) → Result Operand CheckFault → Type 0
+Judges s x m r = (a : J.Operand) → Stands s x a → Answers (Stands s) (m a) r
+
+-- the same of two operands
+abbrev pub JudgesBoth : Scope → (x y : Operand) → (J.Operand → J.Operand → Judged J.Operand) → Result Operand CheckFault → Type 0
+JudgesBoth s x y m r = (a b : J.Operand) → Stands s x a → Stands s y b → Answers (Stands s) (m a b) r
 
 -- the first of some characters, or 0
 abbrev pub first_or_none : List ℕ → ℕ

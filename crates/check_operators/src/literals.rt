@@ -7,14 +7,13 @@ ghost use Rattle.ob_judge.specs.Image.{Expr as Image};
 ghost use Rattle.ob_judge.specs.Operands.{value as value_of};
 ghost use Rattle.ob_judge.specs.Parts.{text_literal as judged_text};
 ghost use Rattle.ob_judge.specs.Scopes.{characters};
-ghost use Rattle.judged_tree.specs.Plain.{plain_expr};
-ghost use Rattle.judged_tree.specs.Outline.{outlined_expr};
-ghost use Rattle.check_steps.specs.Answers.{Answers, Gives};
+ghost use Rattle.check_steps.specs.Answers.{Gives};
 ghost use Rattle.check_names.specs.declared.scope.Scope.{Scope as TheScope};
 ghost use Rattle.check_names.specs.Basics.{basic_shape};
 ghost use Rattle.check_names.specs.Worlds.{table_of, world_of};
 ghost use Rattle.check_types.specs.TypeMeaning.{type_shape};
-ghost use Rattle.check_operands.specs.Operands.{texts_of, bases_of, Stands};
+ghost use Rattle.check_operands.specs.Operands.{Stands};
+ghost use Rattle.check_operators.specs.Judged.{IsTree};
 
 use check_names::{Basic, Scope};
 use check_operands::{Operand, Use, What, literal_text};
@@ -24,7 +23,7 @@ use tree_parts::Value;
 
 /// A value of this type, with this tree.
 pub fn value(of: TypeRef, tree: Expr) -> Operand
-    ensures { (s : TheScope) (shape : Shape) (x : Image) → type_shape (table_of s) of ≡ shape → plain_expr (table_of s) (texts_of s) tree ≡ outlined_expr (bases_of s) x → Stands s result (value_of shape x) }
+    ensures { (s : TheScope) (shape : Shape) (x : Image) → type_shape (table_of s) of ≡ shape → IsTree s tree x → Stands s result (value_of shape x) }
 {
     Operand {
         of,

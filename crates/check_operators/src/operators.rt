@@ -1,13 +1,11 @@
 //! Operators judged.
 
-ghost use Rattle.std.specs.Prelude.{◌≡◌, Some};
+ghost use Rattle.std.specs.Prelude.{Some};
 ghost use Rattle.ob_judge.specs.Scopes.{place};
-ghost use Rattle.ob_judge.specs.Operands.{Operand as Judgement, value as value_of, form as form_of};
 ghost use Rattle.ob_judge.specs.Parts.{joined as judged_operator, signed as judged_sign, inverted as judged_not};
-ghost use Rattle.check_steps.specs.Answers.{Answers};
 ghost use Rattle.check_names.specs.Worlds.{table_of, world_of};
-ghost use Rattle.check_operands.specs.Operands.{Stands};
-ghost use Rattle.check_operators.specs.Rows.{operator_of, row_meaning, row_shape};
+ghost use Rattle.check_operands.specs.Operands.{Judges, JudgesBoth};
+ghost use Rattle.check_operators.specs.Rows.{operator_of};
 ghost use Rattle.check_operators.specs.Judged.{rowed as judged_row, applied as judged_unary};
 ghost use Rattle.ob_syntax.specs.declared.expressions.Sign.TheVariants as TheSign;
 ghost use Rattle.check_types.specs.TypeMeaning.{type_shape};
@@ -31,7 +29,7 @@ fn rowed<'a>(
     x: Operand,
     y: Operand,
 ) -> Result<Operand, CheckFault>
-    ensures { (a b : Judgement) → Stands scope.now x a → Stands scope.now y b → Answers (Stands scope.now) (judged_row row a b) result }
+    ensures { JudgesBoth scope.now x y (judged_row row) result }
 {
     let left = form(scope, x);
     let right = form(scope, y);
@@ -48,7 +46,7 @@ pub fn joined<'a>(
     x: Operand,
     y: Operand,
 ) -> Result<Operand, CheckFault>
-    ensures { (a b : Judgement) → Stands scope.now x a → Stands scope.now y b → Answers (Stands scope.now) (judged_operator scope.now.source.now (world_of scope.now) (operator_of operator) (place scope.now.source.now symbol) a b) result }
+    ensures { JudgesBoth scope.now x y (judged_operator scope.now.source.now (world_of scope.now) (operator_of operator) (place scope.now.source.now symbol)) result }
 {
     match row_of(operator, x.of, y.of) {
         None => Err(scope.source.fault(31, symbol)),
@@ -64,7 +62,7 @@ fn applied<'a>(
     operator: Unary,
     x: Operand,
 ) -> Result<Operand, CheckFault>
-    ensures { (a : Judgement) → Stands scope.now x a → Answers (Stands scope.now) (judged_unary (type_shape (table_of scope.now) of) operator a) result }
+    ensures { Judges scope.now x (judged_unary (type_shape (table_of scope.now) of) operator) result }
 {
     let operand = form(scope, x);
     let tree = apply(alloc, operator, operand)?;
@@ -73,7 +71,7 @@ fn applied<'a>(
 
 // A number with a plus sign.
 fn plus<'a>(scope: &Scope<'a>, symbol: u32, x: Operand) -> Result<Operand, CheckFault>
-    ensures { (a : Judgement) → Stands scope.now x a → Answers (Stands scope.now) (judged_sign scope.now.source.now (world_of scope.now) (Some (TheSign.Plus symbol)) a) result }
+    ensures { Judges scope.now x (judged_sign scope.now.source.now (world_of scope.now) (Some (TheSign.Plus symbol))) result }
 {
     if x.of.is_number() {
         Ok(value(TypeRef::Int, form(scope, x)))
@@ -89,7 +87,7 @@ fn minus<'a>(
     symbol: u32,
     x: Operand,
 ) -> Result<Operand, CheckFault>
-    ensures { (a : Judgement) → Stands scope.now x a → Answers (Stands scope.now) (judged_sign scope.now.source.now (world_of scope.now) (Some (TheSign.Minus symbol)) a) result }
+    ensures { Judges scope.now x (judged_sign scope.now.source.now (world_of scope.now) (Some (TheSign.Minus symbol))) result }
 {
     match x.of {
         TypeRef::Set => applied(scope, alloc, TypeRef::Set, Unary::Complement, x),
@@ -106,7 +104,7 @@ pub fn signed<'a>(
     sign: &Option<Sign>,
     x: Operand,
 ) -> Result<Operand, CheckFault>
-    ensures { (a : Judgement) → Stands scope.now x a → Answers (Stands scope.now) (judged_sign scope.now.source.now (world_of scope.now) sign.now a) result }
+    ensures { Judges scope.now x (judged_sign scope.now.source.now (world_of scope.now) sign.now) result }
 {
     match sign {
         None => Ok(x),
@@ -122,7 +120,7 @@ pub fn inverted<'a>(
     symbol: u32,
     x: Operand,
 ) -> Result<Operand, CheckFault>
-    ensures { (a : Judgement) → Stands scope.now x a → Answers (Stands scope.now) (judged_not scope.now.source.now (world_of scope.now) (place scope.now.source.now symbol) a) result }
+    ensures { Judges scope.now x (judged_not scope.now.source.now (world_of scope.now) (place scope.now.source.now symbol)) result }
 {
     if x.of.is_truth() {
         applied(scope, alloc, TypeRef::Bool, Unary::Not, x)

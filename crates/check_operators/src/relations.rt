@@ -4,15 +4,13 @@ ghost use Rattle.std.specs.Prelude.{◌≡◌, ℕ, List};
 ghost use Rattle.ob_judge.specs.Judged.{Keeps};
 ghost use Rattle.ob_judge.specs.Shapes.{Boolean};
 ghost use Rattle.ob_judge.specs.Image.{Compare, CompareTexts, In, Linked};
-ghost use Rattle.ob_judge.specs.Image.{Expr as Image};
 ghost use Rattle.ob_judge.specs.Scopes.{place};
 ghost use Rattle.ob_judge.specs.Operands.{Operand as Judgement, value as value_of, form as form_of, designator_of};
-ghost use Rattle.ob_judge.specs.Parts.{compared as judged_relation, comparison as comparison_of, inclusion as inclusion_of, is_in as judged_in, related as judged_related, set_element as judged_element};
+ghost use Rattle.ob_judge.specs.Parts.{compared as judged_relation, comparison as comparison_of, is_in as judged_in, related as judged_related, set_element as judged_element};
 ghost use Rattle.judged_tree.specs.Plain.{plain_expr, plain_link};
-ghost use Rattle.judged_tree.specs.Outline.{outlined_expr};
 ghost use Rattle.check_steps.specs.Answers.{Answers};
-ghost use Rattle.check_names.specs.Worlds.{table_of, world_of};
-ghost use Rattle.check_operands.specs.Operands.{texts_of, bases_of, Stands};
+ghost use Rattle.check_names.specs.Worlds.{world_of};
+ghost use Rattle.check_operands.specs.Operands.{Stands, JudgesBoth};
 ghost use Rattle.check_operators.specs.Judged.{inclusion_link_of, IsTree};
 ghost use Rattle.ob_types.specs.Table.{Table};
 
@@ -34,7 +32,7 @@ fn of_texts<'a>(
     x: Operand,
     y: Operand,
 ) -> Result<Operand, CheckFault>
-    ensures { (a b : Judgement) → Stands scope.now x a → Stands scope.now y b → Answers (Stands scope.now) (Keeps (value_of Boolean (CompareTexts relation (designator_of a) (designator_of b)))) result }
+    ensures { JudgesBoth scope.now x y (λ a b. Keeps (value_of Boolean (CompareTexts relation (designator_of a) (designator_of b)))) result }
 {
     let left = designator(scope, x);
     let right = designator(scope, y);
@@ -50,7 +48,7 @@ fn of_scalars<'a>(
     x: Operand,
     y: Operand,
 ) -> Result<Operand, CheckFault>
-    ensures { (a b : Judgement) → Stands scope.now x a → Stands scope.now y b → Answers (Stands scope.now) (Keeps (value_of Boolean (Compare relation (form_of a) (form_of b)))) result }
+    ensures { JudgesBoth scope.now x y (λ a b. Keeps (value_of Boolean (Compare relation (form_of a) (form_of b)))) result }
 {
     let left = form(scope, x);
     let right = form(scope, y);
@@ -76,7 +74,7 @@ fn of_sets<'a>(
     x: Operand,
     y: Operand,
 ) -> Result<Operand, CheckFault>
-    ensures { (a b : Judgement) → Stands scope.now x a → Stands scope.now y b → Answers (Stands scope.now) (Keeps (value_of Boolean (Linked (form_of a) (inclusion_link_of relation (form_of b))))) result }
+    ensures { JudgesBoth scope.now x y (λ a b. Keeps (value_of Boolean (Linked (form_of a) (inclusion_link_of relation (form_of b))))) result }
 {
     let left = form(scope, x);
     let right = form(scope, y);
@@ -92,7 +90,7 @@ fn comparison<'a>(
     x: Operand,
     y: Operand,
 ) -> Result<Operand, CheckFault>
-    ensures { (a b : Judgement) → Stands scope.now x a → Stands scope.now y b → Answers (Stands scope.now) (Keeps (value_of Boolean (comparison_of scope.now.source.now (world_of scope.now) relation a b))) result }
+    ensures { JudgesBoth scope.now x y (λ a b. Keeps (value_of Boolean (comparison_of scope.now.source.now (world_of scope.now) relation a b))) result }
 {
     if scope.types.are_texts(x.of, y.of) {
         of_texts(scope, alloc, relation, x, y)
@@ -112,7 +110,7 @@ pub fn compared<'a>(
     x: Operand,
     y: Operand,
 ) -> Result<Operand, CheckFault>
-    ensures { (a b : Judgement) → Stands scope.now x a → Stands scope.now y b → Answers (Stands scope.now) (judged_relation scope.now.source.now (world_of scope.now) relation (place scope.now.source.now symbol) a b) result }
+    ensures { JudgesBoth scope.now x y (judged_relation scope.now.source.now (world_of scope.now) relation (place scope.now.source.now symbol)) result }
 {
     if !scope.types.may_compare(relation, x.of, y.of) {
         Err(scope.source.fault(31, symbol))
@@ -130,7 +128,7 @@ fn membership<'a>(
     x: Operand,
     set: Operand,
 ) -> Result<Operand, CheckFault>
-    ensures { (a b : Judgement) → Stands scope.now x a → Stands scope.now set b → Answers (Stands scope.now) (Keeps (value_of Boolean (In (form_of a) (form_of b)))) result }
+    ensures { JudgesBoth scope.now x set (λ a b. Keeps (value_of Boolean (In (form_of a) (form_of b)))) result }
 {
     let left = form(scope, x);
     let right = form(scope, set);
@@ -146,7 +144,7 @@ pub fn is_in<'a>(
     x: Operand,
     set: Operand,
 ) -> Result<Operand, CheckFault>
-    ensures { (a b : Judgement) → Stands scope.now x a → Stands scope.now set b → Answers (Stands scope.now) (judged_in scope.now.source.now (world_of scope.now) (place scope.now.source.now symbol) a b) result }
+    ensures { JudgesBoth scope.now x set (judged_in scope.now.source.now (world_of scope.now) (place scope.now.source.now symbol)) result }
 {
     if x.of.is_number() && set.of.is_set() {
         membership(scope, alloc, x, set)
@@ -163,7 +161,7 @@ pub fn related<'a>(
     x: Operand,
     y: Operand,
 ) -> Result<Operand, CheckFault>
-    ensures { (a b : Judgement) → Stands scope.now x a → Stands scope.now y b → Answers (Stands scope.now) (judged_related scope.now.source.now (world_of scope.now) relation.now a b) result }
+    ensures { JudgesBoth scope.now x y (judged_related scope.now.source.now (world_of scope.now) relation.now) result }
 {
     match relation {
         Written::Equal(i) => compared(scope, alloc, Relation::Equal, *i, x, y),

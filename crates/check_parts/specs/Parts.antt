@@ -1,18 +1,28 @@
 -- Which operand of the judgement a variable or a part of one is.
-use Rattle.std.specs.Prelude.{◌≡◌, ℕ, List, Option}
+use Rattle.std.specs.Prelude.{◌≡◌, ℕ, List, Bool, Option, Result, Some}
 use Rattle.ob_types.specs.Table.{Table}
+use Rattle.ob_judge.specs.Judged.{Judged, Keeps}
+use Rattle.ob_judge.specs.Shapes.{Shape}
 use Rattle.ob_judge.specs.Image as I
 use Rattle.ob_judge.specs.Operands as J
-use Rattle.judged_tree.specs.TypeShapes.{shape_of_kind}
+use Rattle.ob_judge.specs.Names.{narrowed_to}
+use Rattle.ob_judge.specs.Parts.{part_of, guard_of}
+use Rattle.judged_tree.specs.TypeShapes.{shape_of_kind, shape_of}
 use Rattle.judged_tree.specs.Plain.{guarded, pointer_at}
 use Rattle.judged_tree.specs.Outline.{outlined_expr, outlined_place, outlined_pointer}
 use Rattle.tree_parts.specs.declared.places.Place.{Place}
 use Rattle.tree_parts.specs.Lists.{place_image}
+use Rattle.check_steps.specs.declared.fault.CheckFault.{CheckFault}
+use Rattle.check_steps.specs.Answers.{Answers}
 use Rattle.check_types.specs.declared.types.TypeRef.{TypeRef}
 use Rattle.check_types.specs.TypeMeaning.{type_shape, kind_of_type}
 use Rattle.check_names.specs.declared.scope.Scope.{Scope}
-use Rattle.check_names.specs.Worlds.{table_of}
-use Rattle.check_operands.specs.Operands.{texts_of, bases_of, use_of, outlined_what}
+use Rattle.check_names.specs.declared.scope.Variable.{Variable}
+use Rattle.check_names.specs.declared.scope.Narrowing.{Narrowing}
+use Rattle.check_names.specs.Meaning.{variable_of, narrowing_of}
+use Rattle.check_names.specs.Worlds.{table_of, strings_of, world_of}
+use Rattle.check_operands.specs.declared.operand.Operand.{Operand}
+use Rattle.check_operands.specs.Operands.{texts_of, bases_of, use_of, outlined_what, Stands}
 use Rattle.check_parts.specs.declared.part.Part.{Part}
 use Rattle.check_parts.specs.declared.part.Reach.{Reach}
 use Rattle.check_parts.specs.declared.part.Reach.TheVariants as TheReach
@@ -51,3 +61,25 @@ pub record IsPart (s : Scope) (x : Part) (a : J.Operand) : Type 0 where
 pub record IsGuardedForm (s : Scope) (place : Place) (own : TypeRef) (tags : List ℕ) (a : J.Operand) : Type 0 where
   pub form : guarded tags (load_of s place own) ≡ outlined_expr (bases_of s) (J.form a)
   pub pointer : guarded tags (pointer_at (image_in s place)) ≡ outlined_pointer (bases_of s) (J.form a)
+
+-- whichever part of the judgement this is, the answer is what the judgement makes of that
+abbrev pub JudgesPart : Scope → Part → (J.Operand → Judged J.Operand) → Result Part CheckFault → Type 0
+JudgesPart s x m r = (a : J.Operand) → IsPart s x a → Answers (IsPart s) (m a) r
+
+-- the same of a part and an index
+abbrev pub JudgesElement : Scope → Part → Operand → (J.Operand → J.Operand → Judged J.Operand) → Result Part CheckFault → Type 0
+JudgesElement s x i m r = (a b : J.Operand) → IsPart s x a → Stands s i b → Answers (IsPart s) (m a b) r
+
+-- an element of this type, by the array's length where its type has one
+abbrev pub element_in : Scope → Option ℕ → (element : ℕ) → J.Operand → J.Operand → Judged J.Operand
+element_in s length element a b =
+    let shape = shape_of (table_of s) element in Keeps (part_of s.source.now (world_of s) a shape (I.Index (J.place_of a) length shape (J.form b)))
+
+-- an operand guarded
+abbrev pub guard_in : Scope → Shape → (tag : ℕ) → J.Operand → Judged J.Operand
+guard_in s shape tag a = Keeps (guard_of s.source.now (world_of s) a shape tag)
+
+-- a variable that is narrowed, which is a pointer or a VAR record parameter
+abbrev pub narrowed_in : Scope → Variable → (is_pointer : Bool) → Narrowing → Judged J.Operand
+narrowed_in s v is_pointer n =
+    Keeps (narrowed_to s.source.now (world_of s) (J.whole_variable (world_of s) (variable_of (table_of s) (strings_of s) v)) is_pointer (Some (narrowing_of (table_of s) (strings_of s) n)))

@@ -1,17 +1,12 @@
 //! Elements, fields, and what pointers point to.
 
-ghost use Rattle.std.specs.Prelude.{◌≡◌, ℕ, List, Option, option_map, slice_get};
+ghost use Rattle.std.specs.Prelude.{Option};
 ghost use Rattle.ob_judge.specs.Judged.{Keeps};
 ghost use Rattle.ob_judge.specs.Shapes.{Record};
-ghost use Rattle.ob_judge.specs.Image.{Index, Field, Dereference};
 ghost use Rattle.ob_judge.specs.Scopes.{place};
-ghost use Rattle.ob_judge.specs.Operands.{Operand as Judgement, place_of as place_from, form as form_of};
-ghost use Rattle.ob_judge.specs.Parts.{part_of as part_from, followed as followed_from, element as judged_element, target as judged_target};
-ghost use Rattle.judged_tree.specs.TypeShapes.{shape_of};
-ghost use Rattle.check_steps.specs.Answers.{Answers};
-ghost use Rattle.check_names.specs.Worlds.{table_of, world_of};
-ghost use Rattle.check_operands.specs.Operands.{Stands};
-ghost use Rattle.check_parts.specs.Parts.{IsPart};
+ghost use Rattle.ob_judge.specs.Parts.{followed as followed_from, element as judged_element, target as judged_target};
+ghost use Rattle.check_names.specs.Worlds.{world_of};
+ghost use Rattle.check_parts.specs.Parts.{JudgesPart, JudgesElement, element_in};
 
 use crate::part::{Part, Reach, place_of};
 use check_names::Scope;
@@ -30,7 +25,7 @@ fn indexed<'a>(
     x: Part,
     i: Operand,
 ) -> Result<Part, CheckFault>
-    ensures { (a b : Judgement) → IsPart scope.now x a → Stands scope.now i b → Answers (IsPart scope.now) (Keeps (part_from scope.now.source.now (world_of scope.now) a (shape_of (table_of scope.now) element) (Index (place_from a) length (shape_of (table_of scope.now) element) (form_of b)))) result }
+    ensures { JudgesElement scope.now x i (element_in scope.now length element) result }
 {
     let read_only = x.usage.is_read_only();
     let Part { reach, .. } = x;
@@ -57,7 +52,7 @@ pub fn element<'a>(
     x: Part,
     i: Operand,
 ) -> Result<Part, CheckFault>
-    ensures { (a b : Judgement) → IsPart scope.now x a → Stands scope.now i b → Answers (IsPart scope.now) (judged_element scope.now.source.now (world_of scope.now) (place scope.now.source.now symbol) (place scope.now.source.now index_symbol) a b) result }
+    ensures { JudgesElement scope.now x i (judged_element scope.now.source.now (world_of scope.now) (place scope.now.source.now symbol) (place scope.now.source.now index_symbol)) result }
 {
     match x.of {
         TypeRef::Array { length, element } => {
@@ -85,7 +80,7 @@ pub fn followed<'a>(
     record_type: u32,
     x: Part,
 ) -> Result<Part, CheckFault>
-    ensures { (a : Judgement) → IsPart scope.now x a → Answers (IsPart scope.now) (Keeps (followed_from scope.now.source.now (world_of scope.now) a record_type)) result }
+    ensures { JudgesPart scope.now x (λ a. Keeps (followed_from scope.now.source.now (world_of scope.now) a record_type)) result }
 {
     let Part { reach, .. } = x;
     let at = match reach {
@@ -110,7 +105,7 @@ pub fn target<'a>(
     symbol: u32,
     x: Part,
 ) -> Result<Part, CheckFault>
-    ensures { (a : Judgement) → IsPart scope.now x a → Answers (IsPart scope.now) (judged_target scope.now.source.now (world_of scope.now) (place scope.now.source.now symbol) a) result }
+    ensures { JudgesPart scope.now x (judged_target scope.now.source.now (world_of scope.now) (place scope.now.source.now symbol)) result }
 {
     match scope.types.target_of(x.of) {
         None => Err(scope.source.fault(31, symbol)),

@@ -1,13 +1,11 @@
 //! Fields.
 
-ghost use Rattle.std.specs.Prelude.{◌≡◌, ℕ, List, Option, option_map, slice_get};
+ghost use Rattle.std.specs.Prelude.{◌≡◌, Option, option_map, slice_get};
 ghost use Rattle.ob_judge.specs.Scopes.{place};
-ghost use Rattle.ob_judge.specs.Operands.{Operand as Judgement, place_of as place_from};
 ghost use Rattle.ob_judge.specs.Parts.{field as judged_field, fields_of as fields_from, followed as followed_from};
-ghost use Rattle.check_steps.specs.Answers.{Answers};
 ghost use Rattle.check_types.specs.Known.{known_of, field_of};
 ghost use Rattle.check_names.specs.Worlds.{table_of, world_of};
-ghost use Rattle.check_parts.specs.Parts.{IsPart};
+ghost use Rattle.check_parts.specs.Parts.{JudgesPart};
 ghost use Rattle.check_parts.specs.Judged.{field_in as judged_field_in, field_known as judged_field_known};
 
 use crate::elements::followed;
@@ -35,7 +33,7 @@ fn known<'a>(
     x: Part,
     found: FieldEntry,
 ) -> Result<Part, CheckFault>
-    ensures { (a : Judgement) → IsPart scope.now x a → Answers (IsPart scope.now) (judged_field_known scope.now.source.now (world_of scope.now) a (field_of (table_of scope.now) found)) result }
+    ensures { JudgesPart scope.now x (λ a. judged_field_known scope.now.source.now (world_of scope.now) a (field_of (table_of scope.now) found)) result }
 {
     let read_only = x.usage.is_read_only();
     let Part { reach, .. } = x;
@@ -59,7 +57,7 @@ fn field_in<'a>(
     record_type: u32,
     x: Part,
 ) -> Result<Part, CheckFault>
-    ensures { (a : Judgement) → IsPart scope.now x a → Answers (IsPart scope.now) (judged_field_in scope.now.source.now (world_of scope.now) i record_type a) result }
+    ensures { JudgesPart scope.now x (judged_field_in scope.now.source.now (world_of scope.now) i record_type) result }
 {
     match find(scope, record_type, scope.source.spelled(i)) {
         None => Err(scope.source.fault(30, i)),
@@ -81,7 +79,7 @@ fn field_behind<'a>(
     record_type: u32,
     x: Part,
 ) -> Result<Part, CheckFault>
-    ensures { (a : Judgement) → IsPart scope.now x a → Answers (IsPart scope.now) (judged_field_in scope.now.source.now (world_of scope.now) i record_type (followed_from scope.now.source.now (world_of scope.now) a record_type)) result }
+    ensures { JudgesPart scope.now x (λ a. judged_field_in scope.now.source.now (world_of scope.now) i record_type (followed_from scope.now.source.now (world_of scope.now) a record_type)) result }
 {
     let target = followed(alloc, scope, record_type, x)?;
     field_in(scope, alloc, i, record_type, target)
@@ -95,7 +93,7 @@ pub fn field<'a>(
     i: u32,
     x: Part,
 ) -> Result<Part, CheckFault>
-    ensures { (a : Judgement) → IsPart scope.now x a → Answers (IsPart scope.now) (judged_field scope.now.source.now (world_of scope.now) (place scope.now.source.now symbol) i a) result }
+    ensures { JudgesPart scope.now x (judged_field scope.now.source.now (world_of scope.now) (place scope.now.source.now symbol) i) result }
 {
     match x.of {
         TypeRef::Record(record_type) => field_in(scope, alloc, i, record_type, x),

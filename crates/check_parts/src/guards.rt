@@ -3,15 +3,15 @@
 ghost use Rattle.std.specs.Prelude.{◌≡◌};
 ghost use Rattle.ob_judge.specs.Judged.{Keeps};
 ghost use Rattle.ob_judge.specs.Shapes.{Boolean, Record, Pointer};
-ghost use Rattle.ob_judge.specs.Image.{IsPointer, IsParameter};
+ghost use Rattle.ob_judge.specs.Image.{IsParameter};
 ghost use Rattle.ob_judge.specs.Scopes.{place};
-ghost use Rattle.ob_judge.specs.Operands.{Operand as Judgement, value as value_of, form as form_of, designator_of};
-ghost use Rattle.ob_judge.specs.Parts.{tested_tag as judged_tag, guard_of as judged_guard, guarded as judged_guarded, test_of as judged_test, tested as judged_tested};
+ghost use Rattle.ob_judge.specs.Operands.{Operand as Judgement, value as value_of, designator_of};
+ghost use Rattle.ob_judge.specs.Parts.{tested_tag as judged_tag, guarded as judged_guarded, test_of as judged_test, tested as judged_tested};
 ghost use Rattle.check_steps.specs.Answers.{Answers};
 ghost use Rattle.check_types.specs.TypeMeaning.{type_shape};
 ghost use Rattle.check_names.specs.Worlds.{table_of, world_of};
-ghost use Rattle.check_operands.specs.Operands.{use_of, Stands};
-ghost use Rattle.check_parts.specs.Parts.{IsPart, IsNamedAt, IsGuardedForm};
+ghost use Rattle.check_operands.specs.Operands.{use_of, Stands, Judges};
+ghost use Rattle.check_parts.specs.Parts.{IsPart, IsNamedAt, IsGuardedForm, JudgesPart, guard_in};
 
 use crate::part::{Part, Reach, place_of};
 use check_names::Scope;
@@ -57,7 +57,7 @@ fn first_guard<'a>(
     pointer: u32,
     r: u32,
 ) -> Result<Part, CheckFault>
-    ensures { (a : Judgement) → type_shape (table_of scope.now) own ≡ a.shape → IsNamedAt scope.now place a.what → Answers (IsPart scope.now) (Keeps (judged_guard scope.now.source.now (world_of scope.now) a (Pointer pointer) r)) result }
+    ensures { (a : Judgement) → type_shape (table_of scope.now) own ≡ a.shape → IsNamedAt scope.now place a.what → Answers (IsPart scope.now) (guard_in scope.now (Pointer pointer) r a) result }
 {
     further_guard(scope, place, own, Items::new(alloc), pointer, r)
 }
@@ -71,7 +71,7 @@ fn further_guard<'a>(
     pointer: u32,
     r: u32,
 ) -> Result<Part, CheckFault>
-    ensures { (a : Judgement) → IsGuardedForm scope.now place own tags a → Answers (IsPart scope.now) (Keeps (judged_guard scope.now.source.now (world_of scope.now) a (Pointer pointer) r)) result }
+    ensures { (a : Judgement) → IsGuardedForm scope.now place own tags a → Answers (IsPart scope.now) (guard_in scope.now (Pointer pointer) r a) result }
 {
     tags.push(r)?;
     Ok(Part {
@@ -89,7 +89,7 @@ fn pointer_guard<'a>(
     pointer: u32,
     r: u32,
 ) -> Result<Part, CheckFault>
-    ensures { (a : Judgement) → IsPart scope.now x a → Answers (IsPart scope.now) (Keeps (judged_guard scope.now.source.now (world_of scope.now) a (Pointer pointer) r)) result }
+    ensures { JudgesPart scope.now x (guard_in scope.now (Pointer pointer) r) result }
 {
     let Part { of, reach, .. } = x;
     match reach {
@@ -106,7 +106,7 @@ fn record_guard<'a>(
     t: u32,
     r: u32,
 ) -> Result<Part, CheckFault>
-    ensures { (a : Judgement) → IsPart scope.now x a → Answers (IsPart scope.now) (Keeps (judged_guard scope.now.source.now (world_of scope.now) a (Record t) r)) result }
+    ensures { JudgesPart scope.now x (guard_in scope.now (Record t) r) result }
 {
     let Part { reach, .. } = x;
     let at = place_of(scope, alloc, reach).narrow(r)?;
@@ -129,7 +129,7 @@ pub fn guarded<'a>(
     x: Part,
     t: TypeRef,
 ) -> Result<Part, CheckFault>
-    ensures { (a : Judgement) → IsPart scope.now x a → Answers (IsPart scope.now) (judged_guarded scope.now.source.now (world_of scope.now) (place scope.now.source.now symbol) a (type_shape (table_of scope.now) t)) result }
+    ensures { JudgesPart scope.now x (λ a. judged_guarded scope.now.source.now (world_of scope.now) (place scope.now.source.now symbol) a (type_shape (table_of scope.now) t)) result }
 {
     match tested_tag(scope, x.of, x.usage, t) {
         None => Err(scope.source.fault(31, symbol)),
@@ -149,7 +149,7 @@ fn pointer_test<'a>(
     pointer: u32,
     r: u32,
 ) -> Result<Operand, CheckFault>
-    ensures { (a : Judgement) → Stands scope.now x a → Answers (Stands scope.now) (Keeps (value_of Boolean (judged_test scope.now.source.now (world_of scope.now) a (Pointer pointer) r))) result }
+    ensures { Judges scope.now x (λ a. Keeps (value_of Boolean (judged_test scope.now.source.now (world_of scope.now) a (Pointer pointer) r))) result }
 {
     let tree = is_pointer(alloc, form(scope, x), r)?;
     Ok(value(TypeRef::Bool, tree))
@@ -170,7 +170,7 @@ pub fn tested<'a>(
     x: Operand,
     t: TypeRef,
 ) -> Result<Operand, CheckFault>
-    ensures { (a : Judgement) → Stands scope.now x a → Answers (Stands scope.now) (judged_tested scope.now.source.now (world_of scope.now) (place scope.now.source.now symbol) a (type_shape (table_of scope.now) t)) result }
+    ensures { Judges scope.now x (λ a. judged_tested scope.now.source.now (world_of scope.now) (place scope.now.source.now symbol) a (type_shape (table_of scope.now) t)) result }
 {
     match tested_tag(scope, x.of, x.usage, t) {
         None => Err(scope.source.fault(31, symbol)),

@@ -3,13 +3,13 @@
 ghost use Rattle.std.specs.Prelude.{◌≡◌, ℕ, List, true, false, Some};
 ghost use Rattle.ob_types.specs.Table.{Table};
 ghost use Rattle.ob_judge.specs.Operands.{whole_variable as judged_whole, read_only_by, is_tagged_home as tagged_home};
-ghost use Rattle.ob_judge.specs.Names.{variable_read as judged_read, narrowed_to as judged_narrowed};
+ghost use Rattle.ob_judge.specs.Names.{variable_read as judged_read};
 ghost use Rattle.ob_judge.specs.Judged.{Keeps};
 ghost use Rattle.judged_tree.specs.Plain.{plain_base};
 ghost use Rattle.check_steps.specs.Answers.{Answers};
-ghost use Rattle.check_names.specs.Meaning.{place_of as place_meant, variable_of, home_of, narrowing_of};
+ghost use Rattle.check_names.specs.Meaning.{place_of as place_meant, variable_of, home_of};
 ghost use Rattle.check_names.specs.Worlds.{table_of, strings_of, world_of};
-ghost use Rattle.check_parts.specs.Parts.{IsPart};
+ghost use Rattle.check_parts.specs.Parts.{IsPart, narrowed_in};
 
 use crate::part::{Part, Reach};
 use check_names::{Home, Narrowing, Scope, Variable, VariablePlace};
@@ -75,7 +75,7 @@ fn narrowed_pointer<'a>(
     v: Variable,
     n: Narrowing,
 ) -> Result<Part, CheckFault>
-    ensures { Answers (IsPart scope.now) (Keeps (judged_narrowed scope.now.source.now (world_of scope.now) (judged_whole (world_of scope.now) (variable_of (table_of scope.now) (strings_of scope.now) v)) true (Some (narrowing_of (table_of scope.now) (strings_of scope.now) n)))) result }
+    ensures { Answers (IsPart scope.now) (narrowed_in scope.now v true n) result }
 {
     let mut tags = Items::new(alloc);
     tags.push(n.tag)?;
@@ -101,7 +101,7 @@ fn narrowed_record<'a>(
     v: Variable,
     n: Narrowing,
 ) -> Result<Part, CheckFault>
-    ensures { Answers (IsPart scope.now) (Keeps (judged_narrowed scope.now.source.now (world_of scope.now) (judged_whole (world_of scope.now) (variable_of (table_of scope.now) (strings_of scope.now) v)) false (Some (narrowing_of (table_of scope.now) (strings_of scope.now) n)))) result }
+    ensures { Answers (IsPart scope.now) (narrowed_in scope.now v false n) result }
 {
     let at = Place::whole(alloc, base(v.place)).narrow(n.tag)?;
     Ok(Part {
