@@ -37,7 +37,7 @@ use Rattle.linked_flows.proofs.Edges.{count}
 use Rattle.linked_flows.proofs.Nodes.{sound_node}
 use Rattle.link_blocks.proofs.Made.{blocks_of, one_block}
 use Rattle.link_frames.proofs.Lows.{SpotLow, CopiesLow, MovesLow, low_append, order_low, edge_low}
-use Rattle.link_frames.proofs.Lives.{start_low, argument_low}
+use Rattle.link_frames.proofs.Lives.{start_low, argument_low, and_left, and_right}
 
 ---- Numbers that rise below a number
 
@@ -143,14 +143,6 @@ module _ (n : ℕ) where
 aimed_few : (uses : List ℕ) → length uses ≤ 25 → length (drop 1 uses) - 4 ≤ 20
 aimed_few [] l = omega arith
 aimed_few (x ∷ xs) l = omega (arith, l)
-
-and_left : (a b : Bool) → (a && b) ≡ true → a ≡ true
-and_left true b e = refl
-and_left false b e = cc
-
-and_right : (a b : Bool) → (a && b) ≡ true → b ≡ true
-and_right true b e = e
-and_right false b e = cc
 
 acted : (n u : ℕ) (d : Bool) → n ≤ 24 → acts n u d ≡ true → u ≤ 24
 acted n u d l e = let q = eqb-true u n (and_left (u == n) (not d) e) in omega (arith, q, l)

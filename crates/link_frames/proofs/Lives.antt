@@ -18,11 +18,11 @@ use Rattle.trace_build.specs.Cuts.{lists_of, all_nodes}
 use Rattle.linked_flows.specs.Allocations.{Cut}
 use Rattle.linked_flows.proofs.Nodes.{sound_node, traced}
 
-and_left : (a b : Bool) → (a && b) ≡ true → a ≡ true
+pub and_left : (a b : Bool) → (a && b) ≡ true → a ≡ true
 and_left true b e = refl
 and_left false b e = cc
 
-and_right : (a b : Bool) → (a && b) ≡ true → b ≡ true
+pub and_right : (a b : Bool) → (a && b) ≡ true → b ≡ true
 and_right true b e = e
 and_right false b e = cc
 

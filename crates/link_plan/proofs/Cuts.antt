@@ -17,7 +17,7 @@ use Rattle.link_blocks.specs.Plans.{plain}
 use Rattle.link_blocks.specs.Laid.{IsCutOf}
 use Rattle.link_code.specs.Parts.{IsWhole}
 use Rattle.link_plan.specs.Linked.{IsAllocated, AreCuts, greatest_frame}
-use Rattle.link_plan.proofs.Low.{whole, proc_low}
+use Rattle.link_plan.proofs.Low.{whole, proc_low, and_left, and_right}
 use Rattle.link_plan.proofs.InTable.{AllLow}
 
 -- the cut of a number
@@ -92,14 +92,6 @@ pub cuts_length : (k : ℕ) (flows : List Flow) (parts : List (List Line)) (outs
 cuts_length k flows parts outs cuts are = ap (λ (xs : List Flow). length xs) are.flows_are ∙ map_length (λ (c : Cut). c.flow) cuts
 
 ---- All cuts
-
-and_left : (a b : Bool) → (a && b) ≡ true → a ≡ true
-and_left true b e = refl
-and_left false b e = cc
-
-and_right : (a b : Bool) → (a && b) ≡ true → b ≡ true
-and_right true b e = e
-and_right false b e = cc
 
 le_max : (a b : ℕ) → (a ≤ max a b) × (b ≤ max a b)
 le_max zero b = (omega arith, omega arith)

@@ -37,11 +37,11 @@ use Rattle.link_plan.specs.Linked.{IsAllocated}
 use Rattle.link_plan.proofs.Plain.{nth_plain}
 use Rattle.link_plan.proofs.InTable.{FrameLow, CellLow, CellsLow, BlockLow, ProcLow}
 
-and_left : (a b : Bool) → (a && b) ≡ true → a ≡ true
+pub and_left : (a b : Bool) → (a && b) ≡ true → a ≡ true
 and_left true b e = refl
 and_left false b e = cc
 
-and_right : (a b : Bool) → (a && b) ≡ true → b ≡ true
+pub and_right : (a b : Bool) → (a && b) ≡ true → b ≡ true
 and_right true b e = e
 and_right false b e = cc
 
