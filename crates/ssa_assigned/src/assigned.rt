@@ -17,8 +17,8 @@ fn note_whole(d: &Designator, found: &mut Vec<u32>) -> Result<(), LowerFault>
     }
 }
 
-/// A local variable.
-fn note_base(base: Base, found: &mut Vec<u32>) -> Result<(), LowerFault>
+/// A local variable at which a designator begins.
+pub fn note_base(base: Base, found: &mut Vec<u32>) -> Result<(), LowerFault>
     ensures { OnOk result ((x : ℕ) → has found.new.items x ≡ (has found.old.items x || origin base x)) }
 {
     match base {

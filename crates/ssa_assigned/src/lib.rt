@@ -7,4 +7,4 @@
 
 mod assigned;
 
-pub use assigned::{note, note_all, note_cases, note_parts, note_types};
+pub use assigned::{note, note_all, note_base, note_cases, note_parts, note_types};

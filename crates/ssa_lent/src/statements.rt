@@ -1,0 +1,257 @@
+//! Statements, and whole procedures.
+
+ghost use Rattle.std.specs.Prelude.{◌≡◌, ◌||◌, ℕ, OnOk, IfOk};
+ghost use Rattle.ssa_assigned.specs.Assigned.{has};
+ghost use Rattle.ssa_lowered.specs.Variables.{lent_by, lent_by_answer};
+ghost use Rattle.ssa_lowered.specs.Lowered.{lent_in_body};
+ghost use Rattle.ssa_lent.specs.Lent.{lent_by_statements, lent_by_parts, lent_by_cases, lent_by_types};
+
+use crate::expressions::{lend, lend_call, lend_read, lend_whole};
+use items::Items;
+use ob_types::{Branch, CasePart, Checked, Procedure, Stmt, TypePart};
+use ssa_exprs::LowerFault;
+use std::alloc::Global;
+
+/// By statements.
+#[cycle(statements)]
+pub fn lend_all(list: &[Stmt], found: &mut Vec<u32>) -> Result<(), LowerFault>
+    ensures { OnOk result ((x : ℕ) → has found.new.items x ≡ (has found.old.items x || lent_by_statements list.now x)) }
+{
+    for s in list {
+        lend_statement(s, found)?;
+    }
+    Ok(())
+}
+
+/// By the parts of IF or WHILE.
+#[cycle(statements)]
+fn lend_parts(parts: &[Branch], found: &mut Vec<u32>) -> Result<(), LowerFault>
+    ensures { OnOk result ((x : ℕ) → has found.new.items x ≡ (has found.old.items x || lent_by_parts parts.now x)) }
+{
+    for part in parts {
+        lend(&part.condition.form, found)?;
+        lend_all(part.body.as_slice(), found)?;
+    }
+    Ok(())
+}
+
+/// By the parts of CASE.
+#[cycle(statements)]
+fn lend_cases(parts: &[CasePart], found: &mut Vec<u32>) -> Result<(), LowerFault>
+    ensures { OnOk result ((x : ℕ) → has found.new.items x ≡ (has found.old.items x || lent_by_cases parts.now x)) }
+{
+    for part in parts {
+        lend_all(part.body.as_slice(), found)?;
+    }
+    Ok(())
+}
+
+/// By the parts of CASE on types.
+#[cycle(statements)]
+fn lend_types(parts: &[TypePart], found: &mut Vec<u32>) -> Result<(), LowerFault>
+    ensures { OnOk result ((x : ℕ) → has found.new.items x ≡ (has found.old.items x || lent_by_types parts.now x)) }
+{
+    for part in parts {
+        lend_all(part.body.as_slice(), found)?;
+    }
+    Ok(())
+}
+
+/// By a statement.
+#[cycle(statements)]
+fn lend_statement(s: &Stmt, found: &mut Vec<u32>) -> Result<(), LowerFault>
+    ensures { OnOk result ((x : ℕ) → has found.new.items x ≡ (has found.old.items x || lent_by s.now x)) }
+{
+    match s {
+        Stmt::Assign(d, x) => {
+            lend_read(d, found)?;
+            lend(&x.form, found)?;
+            Ok(())
+        }
+        Stmt::CopyArray(d, e) => {
+            lend_whole(d, found)?;
+            lend_whole(e, found)?;
+            Ok(())
+        }
+        Stmt::CopyRecord(d, e) => {
+            lend_whole(d, found)?;
+            lend_whole(e, found)?;
+            Ok(())
+        }
+        Stmt::Increase(d, x) => {
+            lend_read(d, found)?;
+            lend(&x.form, found)?;
+            Ok(())
+        }
+        Stmt::Decrease(d, x) => {
+            lend_read(d, found)?;
+            lend(&x.form, found)?;
+            Ok(())
+        }
+        Stmt::Include(d, x) => {
+            lend_read(d, found)?;
+            lend(&x.form, found)?;
+            Ok(())
+        }
+        Stmt::Exclude(d, x) => {
+            lend_read(d, found)?;
+            lend(&x.form, found)?;
+            Ok(())
+        }
+        Stmt::New(d) => {
+            lend_read(d, found)?;
+            Ok(())
+        }
+        Stmt::Assert(x) => {
+            lend(&x.form, found)?;
+            Ok(())
+        }
+        Stmt::OutChar(x) => {
+            lend(&x.form, found)?;
+            Ok(())
+        }
+        Stmt::OutInt(x, n) => {
+            lend(&x.form, found)?;
+            lend(&n.form, found)?;
+            Ok(())
+        }
+        Stmt::OutString(d) => {
+            lend_whole(d, found)?;
+            Ok(())
+        }
+        Stmt::OutLn => Ok(()),
+        Stmt::InChar(d) => {
+            lend_whole(d, found)?;
+            Ok(())
+        }
+        Stmt::Call(c) => {
+            lend_call(c, found)?;
+            Ok(())
+        }
+        Stmt::If(parts, other) => {
+            lend_parts(parts, found)?;
+            lend_all(other, found)?;
+            Ok(())
+        }
+        Stmt::While(parts) => {
+            lend_parts(parts, found)?;
+            Ok(())
+        }
+        Stmt::Repeat(body, x) => {
+            lend_all(body, found)?;
+            lend(&x.form, found)?;
+            Ok(())
+        }
+        Stmt::For {
+            variable,
+            first,
+            limit,
+            body,
+            ..
+        } => {
+            lend_read(variable, found)?;
+            lend(&first.form, found)?;
+            lend(&limit.form, found)?;
+            lend_all(body, found)?;
+            Ok(())
+        }
+        Stmt::Case(x, parts) => {
+            lend(&x.form, found)?;
+            lend_cases(parts, found)?;
+            Ok(())
+        }
+        Stmt::CasePointer(x, parts) => {
+            lend(&x.form, found)?;
+            lend_types(parts, found)?;
+            Ok(())
+        }
+        Stmt::CaseParameter(d, parts) => {
+            lend_whole(d, found)?;
+            lend_types(parts, found)?;
+            Ok(())
+        }
+    }
+}
+
+/// By the expression behind RETURN.
+fn lend_answer(answer: &Option<Checked>, found: &mut Vec<u32>) -> Result<(), LowerFault>
+    ensures { OnOk result ((x : ℕ) → has found.new.items x ≡ (has found.old.items x || lent_by_answer answer.now x)) }
+{
+    match answer {
+        None => Ok(()),
+        Some(x) => {
+            lend(&x.form, found)?;
+            Ok(())
+        }
+    }
+}
+
+/// The variables of a procedure whose addresses are made, with repetitions, in the order of the tree.
+pub fn lend_in_body(alloc: Global, procedure: &Procedure) -> Result<Items<u32>, LowerFault>
+    ensures { IfOk result (λ list. (x : ℕ) → has list x ≡ lent_in_body procedure.now x) }
+{
+    let mut found = Vec::new(alloc);
+    lend_all(procedure.body.as_slice(), &mut found)?;
+    lend_answer(&procedure.answer, &mut found)?;
+    Ok(Items::from_vec(found))
+}
+
+#[cfg(test)]
+mod tests {
+    use super::*;
+    use ob_types::{Argument, Base, Call, Designator, Expr, Selector, TypeKind};
+    use std::test::Fail;
+
+    fn local(x: u32) -> Designator {
+        Designator::Whole(Base::Local(x), TypeKind::Int)
+    }
+
+    fn element(alloc: Global, x: u32, i: u32) -> Result<Designator, Fail> {
+        let mut selectors = Vec::new(alloc);
+        selectors.push(Selector::Index {
+            length: Some(3),
+            element: 0,
+            index: Expr::Load(local(i)),
+        })?;
+        Ok(Designator::Part(Base::Local(x), TypeKind::Int, selectors))
+    }
+
+    fn object(alloc: Global, x: u32) -> Result<Designator, Fail> {
+        let mut selectors = Vec::new(alloc);
+        selectors.push(Selector::Dereference(Items::new(alloc)))?;
+        Ok(Designator::Part(Base::Local(x), TypeKind::Record(0), selectors))
+    }
+
+    // In.Char(c); P(v, a[i]); r := p^, where v, c and r are variables 1 to 3, p is 4, a is 5 and i is 6.
+    fn procedure(alloc: Global) -> Result<Procedure, Fail> {
+        let mut arguments = Vec::new(alloc);
+        arguments.push(Argument::ByPlace(local(1)))?;
+        arguments.push(Argument::ByValue(Expr::Load(element(alloc, 5, 6)?)))?;
+        let mut body = Items::new(alloc);
+        body.push(Stmt::InChar(local(2)))?;
+        body.push(Stmt::Call(Call::Direct(0, arguments)))?;
+        body.push(Stmt::CopyRecord(local(3), object(alloc, 4)?))?;
+        Ok(Procedure {
+            module: 0,
+            line: 1,
+            is_body: false,
+            formals: Items::new(alloc),
+            result: 0,
+            locals: Items::new(alloc),
+            texts: Items::new(alloc),
+            body,
+            answer: None,
+        })
+    }
+
+    #[test]
+    fn finds_variables_whose_addresses_are_made(rt: HostRuntime) -> Result<(), Fail> {
+        let procedure = procedure(rt.alloc())?;
+        let found = match lend_in_body(rt.alloc(), &procedure) {
+            Ok(found) => found,
+            Err(_) => return Err(Fail::new("no memory")),
+        };
+        assert!(rt; found.as_slice() == [2, 1, 5, 3].as_slice());
+        Ok(())
+    }
+}
