@@ -4,10 +4,10 @@
     bench/policy_vectors.py [FOLDER]
 
 Writes `stdin` and `stdout` into FOLDER (that crate's, if none is given); bench/other_compiler.py says where the other
-compiler is. A line of the input is a policy, a number of registers and a flow as in bench/flow_vectors.py, but that a call
-begins with `call` in place of `op`, or with `aim` where its first use is the address that is called. The answer has four
-lines for each node of each trace: its start places (what each register has, then the homed values), its lines, the
-registers named, and its end places.
+compiler is. A line of the input is a policy (and `alone` where no trace has a hint), a number of registers and a flow as in
+bench/flow_vectors.py, but that a call begins with `call` in place of `op`, or with `aim` where its first use is the address
+that is called. The answer has four lines for each node of each trace: its start places (what each register has, then the
+homed values), its lines, the registers named, and its end places.
 """
 import os
 
@@ -25,6 +25,8 @@ PROCEDURE S(a, b, c, d, e, g: INTEGER): INTEGER; BEGIN RETURN a + b * (c + d * (
 PROCEDURE T(x, y: INTEGER; f: F): INTEGER; VAR i, r, u: INTEGER; BEGIN r := 0; u := y;
 FOR i := 0 TO x DO r := r + f(i, r, x, y, u, i * r) * u; IF r > 100 THEN u := S(r, i, u, y, x, 7) - u END END
 RETURN r + u END T; BEGIN h := S; Out.Int(T(3, 4, h), 0); Out.Ln END A.'''
+FIVE = '''MODULE F; IMPORT Out; PROCEDURE P(a, b, c, d, e: INTEGER): INTEGER; BEGIN RETURN ((a + b) * (c + d)) * e END P;
+BEGIN Out.Int(P(1, 2, 3, 4, 5), 0) END F.'''
 
 
 def operation_of(o):
@@ -63,17 +65,25 @@ def answer_of(outs):
     return lines
 
 
+def results_alone(policy, flow, live, traces, regs):
+    """The results of a flow's traces without hints."""
+    return [backend.allocate(backend.policy_of(policy, flow, trace), backend.TraceIn(flow, live, trace, regs), None)
+            for trace in traces]
+
+
 def main():
     folder = folder_of('policy_vectors')
-    texts = [NEST.encode(), MANY.encode(), trc.bulk_text(7, 6)]
+    texts = [NEST.encode(), MANY.encode(), FIVE.encode(), trc.bulk_text(7, 6)]
     lines, answers = [], []
     for text in texts:
         for flow in trc.make_plan(['M'], [text], 'bi', 12).flows:
             live, traces = ssa.live(flow), backend.build('bi', flow)
-            for policy in ('plain', 'linear', 'bottom_up', 'mixed'):
-                for regs in (4, 5, 8, 16):
+            for regs in (4, 5, 8, 16):
+                for policy in ('plain', 'linear', 'bottom_up', 'mixed'):
                     lines.append(line_of([policy, regs, 'flow', flow.values, flow.args], flow, operation_of))
                     answers += answer_of(backend.final_results(policy, flow, live, traces, regs))
+                lines.append(line_of(['linear', 'alone', regs, 'flow', flow.values, flow.args], flow, operation_of))
+                answers += answer_of(results_alone('linear', flow, live, traces, regs))
     for name, rows in (('stdin', lines), ('stdout', answers)):
         with open(os.path.join(folder, name), 'w') as file:
             file.write('\n'.join(rows) + '\n')

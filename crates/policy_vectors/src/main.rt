@@ -1,21 +1,23 @@
 //! Reads flows, a line each with a policy and a number of registers before it, and prints the final results of their traces.
 //!
 //! The stored input are flows that another compiler, written in Python from the rules alone, selects for a few modules,
-//! with each policy and with 4, 5, 8 and 16 registers; what it allocates is the stored output (`bench/policy_vectors.py`
-//! makes both where it is, and says how they are written).
+//! with each policy, with 4, 5, 8 and 16 registers, and by linear scan without hints too; what it allocates is the stored
+//! output (`bench/policy_vectors.py` makes both where it is, and says how they are written).
 //!
 //! With the word `bench`, for `bench/allocate.sh`, it prints how many lines there are in all.
 #![tactic(auto)]
 
-use alloc_choice::{Choice, Policy, final_results};
+ghost use Rattle.std.specs.Prelude.{◌≤◌};
+
+use alloc_choice::{Choice, Policy, allocate_trace, final_results};
 use flow_text::{Words, flow_in};
 use global_live::live;
-use lir_core::{Line, Place, Places, TraceOut};
+use lir_core::{Flow, Line, LiveSets, Place, Places, TraceIn, TraceOut};
 use outside::Memory;
 use std::alloc::{AllocError, Global};
 use std::io::{BufRead, BufReader};
 use std::{env, io};
-use trace_build::{Builder, build};
+use trace_build::{Builder, Trace, build};
 
 fn push_places(text: &mut String, q: &Places) -> Result<(), AllocError> {
     for content in q.regs.as_slice() {
@@ -98,12 +100,13 @@ fn policy_named(word: &str) -> Option<Policy> {
 }
 
 /// The results of the traces of the flow that a line has behind its policy and its number of registers, from 4 to 16;
-/// none where it has no such policy or number.
+/// none where it has no such policy or number. With `alone` behind the policy no trace has a hint.
 fn results(alloc: Global, line: &str) -> Result<Vec<TraceOut>, Memory> {
     let mut words = Words::new(line);
     let Some(policy) = policy_named(words.word()) else {
         return Ok(Vec::new(alloc));
     };
+    let alone = words.takes("alone");
     let regs = u8::try_from(words.or_zero()).unwrap_or(0);
     if regs < 4 || regs > 16 {
         return Ok(Vec::new(alloc));
@@ -117,7 +120,37 @@ fn results(alloc: Global, line: &str) -> Result<Vec<TraceOut>, Memory> {
         regs,
         jobs: 1,
     };
-    final_results(alloc, &choice, &flow, &live, traces.as_slice(), 0)
+    if alone {
+        results_alone(alloc, &choice, &flow, &live, traces.as_slice())
+    } else {
+        final_results(alloc, &choice, &flow, &live, traces.as_slice(), 0)
+    }
+}
+
+/// The results of a flow's traces without hints.
+fn results_alone(
+    alloc: Global,
+    choice: &Choice,
+    flow: &Flow,
+    live: &LiveSets,
+    traces: &[Trace],
+) -> Result<Vec<TraceOut>, Memory>
+    requires enough { 4 ≤ choice.now.regs }
+    requires few { choice.now.regs ≤ 16 }
+{
+    let mut outs = Vec::new(alloc);
+    for (number, trace) in traces.iter().enumerate() {
+        let t = TraceIn {
+            flow,
+            live,
+            trace,
+            number: u32::try_from(number).unwrap_or(0),
+            regs: choice.regs,
+            from: None,
+        };
+        outs.push(allocate_trace(alloc, choice, &t, None)?)?;
+    }
+    Ok(outs)
 }
 
 fn answer(alloc: Global, line: &str) -> Result<String, Memory> {
