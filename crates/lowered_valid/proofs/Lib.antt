@@ -1,0 +1,9 @@
+mod Lists
+mod Scoped
+mod Tree
+mod Whole
+mod Numbered
+mod Blocks
+mod Words
+mod Once
+mod Procedures
