@@ -7,3 +7,6 @@ mod Blocks
 mod Words
 mod Once
 mod Procedures
+mod Suits
+mod Fitting
+mod FittingTree
