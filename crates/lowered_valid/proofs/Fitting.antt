@@ -64,7 +64,7 @@ use Rattle.lowered_valid.proofs.Suits.{Is, of_provided, of_with, with_is, of_hol
 ---- Pieces
 
 module _ (args : ℕ) where
-  abbrev AllFit : List Piece → Type 0
+  abbrev pub AllFit : List Piece → Type 0
   AllFit [] = Unit {0}
   AllFit (Appends b i op ∷ ps) = (operation_fits args (operation_of op) ≡ true) × AllFit ps
   AllFit (Closes b i end start ∷ ps) = AllFit ps

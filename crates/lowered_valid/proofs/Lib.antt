@@ -10,3 +10,5 @@ mod Procedures
 mod Suits
 mod Fitting
 mod FittingTree
+mod Bounds
+mod Valid
