@@ -1,9 +1,8 @@
 -- From pieces to blocks: what `Scoped` and `Numbered` say of pieces, said of each block.
-use Rattle.std.proofs.Common.{◌≡◌, ◌⊎◌, ⊎_elim, inl, inr, ℕ, zero, suc, ◌+◌, ◌≤◌, ◌<◌, List, [], ◌∷◌, ◌++◌, map, Bool, true, false, cond, ◌&&◌, Option, Some, None, refl, sym, ap, ◌∙◌, subst, arith, append_assoc, length, length-append, slice_get}
-use Rattle.std.specs.Prelude.{option_to_list, ◌==◌, nat_lt, nat_le}
+use Rattle.std.proofs.Common.{◌≡◌, ◌⊎◌, ⊎_elim, inl, inr, ℕ, zero, suc, ◌+◌, ◌≤◌, ◌<◌, List, [], ◌∷◌, ◌++◌, map, Bool, true, false, cond, Option, Some, None, refl, sym, ap, ◌∙◌, subst, arith, append_assoc, length, length-append, slice_get}
+use Rattle.std.specs.Prelude.{option_to_list, ◌==◌, nat_lt}
 use Rattle.std.specs.List.{list_all}
 use Rattle.std.proofs.lemmas.Bool.{eqb-true, eq-eqb, lt-ltb, and_from}
-use Rattle.std.proofs.lemmas.List.{map-append}
 use Rattle.block_runs.specs.Blocks.{Operation, CodeBlock, end_uses, successors, block_at}
 use Rattle.block_runs.specs.Live.{has, defs_of, block_makes, reads, Live, Here, Later}
 use Rattle.block_runs.specs.Valid.{IsPlaced, params_of, condition_fits, arguments_fit, all_below, uses_of, block_reads, enter_below}
@@ -17,7 +16,7 @@ use Rattle.ssa_lowered.proofs.Linear.{Linear}
 use Rattle.ob_types.proofs.Tests.{no, none_some, some_same, and_of}
 use Rattle.lowered_valid.proofs.Lists.{In, Sub, AllIn}
 use Rattle.lowered_valid.proofs.Scoped.{Opens, Leads, Enters, Starts, Sound}
-use Rattle.lowered_valid.proofs.Numbered.{Counts, after_all, Under, up_under, Numbered, after_more}
+use Rattle.lowered_valid.proofs.Numbered.{Counts, after_all, Under, Numbered, after_more}
 
 ---- Being among numbers, as a test
 

@@ -1,17 +1,15 @@
 -- Numbers of a well-formed program within its limits are small enough for operations: levels, fields, local data, globals, argument words.
-use Rattle.std.proofs.Common.{◌≡◌, ◌⊎◌, ⊎_elim, inl, inr, ℕ, zero, suc, ◌+◌, ◌-◌, ◌*◌, ◌/◌, ◌<◌, ◌≤◌, min, List, [], ◌∷◌, map, take, length, sum, Bool, true, false, not, cond, ◌&&◌, Option, Some, None, refl, sym, ap, ap₂, ◌∙◌, subst, arith}
-use Rattle.std.specs.Prelude.{if◌then◌else◌, nat_lt, nat_le, ◌==◌, slice_index_or, sum_by}
-use Rattle.std.proofs.lemmas.Bool.{leb-true, ltb-false, eqb-true, cases_lt}
+use Rattle.std.proofs.Common.{◌≡◌, ⊎_elim, ℕ, zero, suc, ◌+◌, ◌*◌, ◌<◌, ◌≤◌, List, [], ◌∷◌, map, take, length, Bool, true, false, not, cond, ◌&&◌, None, refl, sym, ap, arith}
+use Rattle.std.specs.Prelude.{if◌then◌else◌, nat_le, ◌==◌, slice_index_or, sum_by}
+use Rattle.std.proofs.lemmas.Bool.{leb-true, eqb-true, cases_lt}
 use Rattle.std.proofs.lemmas.List.{get_or_past}
 use Rattle.std.proofs.lemmas.List.Sums.{sum_by-cons}
-use Rattle.ob_types.specs.Forms.{all, all_below, if_base, nests, record_nests, rooted, types_fine}
+use Rattle.ob_types.specs.Forms.{all, all_below, if_base, nests, record_nests, rooted}
 use Rattle.ob_types.specs.Layout.{kind_of, record_of, signature_of, types_of, base_cells, cells_by, cells_within, record_within, cells, cells_of_all, record_cells, field_place}
 use Rattle.ob_types.specs.LegalTypes.{type_legal, record_legal, signature_legal, is_variable_type, is_record_type, most_cells}
-use Rattle.ob_types.specs.Meaning.{procedure_of, no_procedure, globals_of, locals_of, is_value}
-use Rattle.ob_types.specs.Table.{Table}
+use Rattle.ob_types.specs.Meaning.{procedure_of, no_procedure, locals_of}
 use Rattle.ob_types.specs.WellFormed.{argument_words, level_fine, level_by, cells_fine}
 use Rattle.ob_types.specs.WellFormed
-use Rattle.ob_types.specs.declared.types.Field.{Field}
 use Rattle.ob_types.specs.declared.types.Formal.{Formal}
 use Rattle.ob_types.specs.declared.types.Mode.{Mode}
 use Rattle.ob_types.specs.declared.types.Mode.TheVariants.{Place}
@@ -27,11 +25,11 @@ use Rattle.ob_types.specs.declared.program.Program.{Program}
 use Rattle.ob_types.proofs.Counting.{record_stays}
 use Rattle.ob_types.proofs.Tests.{no, and_of, below}
 use Rattle.ob_types.proofs.WellFormedParts.{Parts}
-use Rattle.ssa_lowered.specs.Data.{Layout, in_cells, room, room_of_all, modules_room, global_at}
+use Rattle.ssa_lowered.specs.Data.{Layout, in_cells, room, room_of_all, global_at}
 use Rattle.ssa_lowered.specs.Limits.{global_cells}
 use Rattle.ssa_lowered.specs.Pieces.{Mask, rest}
 use Rattle.ssa_lowered.specs.Variables.{words_by, words_of, is_structured, structured_room, scalars_lent}
-use Rattle.ssa_lowered.specs.Lowered.{Here, here_of, lent_in_body, level}
+use Rattle.ssa_lowered.specs.Lowered.{here_of, lent_in_body}
 use Rattle.lowered_valid.proofs.FittingTree.{Numbers}
 
 -- a test that all of a list meet, and what stands for the others
@@ -89,9 +87,9 @@ module _ (p : Program) (parts : Parts p) where
   pub level_few : (r : ℕ) → (record_of p.types r).level < 16
   level_few r = ⊎_elim
       (λ (l : r < length p.types.records).
-        let e = below (length p.types.records) (level_fine p) counted.0 r l in
-        let d = leb-true (record_of p.types r).level 15 (and_of ((record_of p.types r).level == level_by p (record_of p.types r).base) (nat_le (record_of p.types r).level 15) e).1 in
-        omega (arith, d))
+      let e = below (length p.types.records) (level_fine p) counted.0 r l in
+      let d = leb-true (record_of p.types r).level 15 (and_of ((record_of p.types r).level == level_by p (record_of p.types r).base) (nat_le (record_of p.types r).level 15) e).1 in
+      omega (arith, d))
       (λ (l : length p.types.records ≤ r). let e = ap (λ (q : RecordType). q.level) (outside r l) in omega (arith, e))
       (cases_lt r (length p.types.records))
 
@@ -128,14 +126,14 @@ module _ (p : Program) (parts : Parts p) where
   field_few : (r k : ℕ) → field_place p.types r k ≤ most_cells
   field_few r k = ⊎_elim
       (λ (l : r < length p.types.records).
-        let e = record_stays p.types depth r (nested r l) in
-        let a = record_small r l in
-        let b = cells_taken (types_of (record_of p.types r).fields) k in
-        omega (arith, e, a, b))
+      let e = record_stays p.types depth r (nested r l) in
+      let a = record_small r l in
+      let b = cells_taken (types_of (record_of p.types r).fields) k in
+      omega (arith, e, a, b))
       (λ (l : length p.types.records ≤ r).
-        let e = ap (λ (q : RecordType). base_cells q.base (record_cells p.types) + cells_of_all p.types (take k (types_of q.fields))) (outside r l) in
-        let b = cells_taken [] k in
-        omega (arith, e, b))
+      let e = ap (λ (q : RecordType). base_cells q.base (record_cells p.types) + cells_of_all p.types (take k (types_of q.fields))) (outside r l) in
+      let b = cells_taken [] k in
+      omega (arith, e, b))
       (cases_lt r (length p.types.records))
 
   ---- Room in the layout of cells
@@ -220,4 +218,5 @@ module _ (p : Program) (parts : Parts p) where
     frame_small = let a = locals_within (lent_in_body q) (locals_of q) in omega (arith, a, locals);
     field_near = λ r k. let a = field_few r k in omega (arith, a);
     procedure_words = procedure_words;
-    signature_words = signature_words }
+    signature_words = signature_words;
+  }

@@ -1,65 +1,30 @@
 -- Each operation of a well-formed program's procedures has the uses and the result, and the number, that it must have.
-use Rattle.std.proofs.Common.{◌≡◌, ℕ, zero, suc, ◌+◌, ◌*◌, ◌-◌, ◌<◌, ◌≤◌, List, [], ◌∷◌, ◌++◌, map, take, length, length-append, Bool, true, false, ◌&&◌, Option, Some, None, refl, sym, ap, ◌∙◌, subst, slice_get, arith, ℤ}
-use Rattle.std.specs.Prelude.{if◌then◌else◌, is_some, nat_lt, nat_le}
-use Rattle.std.proofs.lemmas.Bool.{lt-ltb, le-leb, and_from, eq-eqb}
-use Rattle.std.proofs.lemmas.List.Sums.{sum_by-cons}
-use Rattle.wrapping_numbers.specs.Numbers.{unsigned}
-use Rattle.ob_types.specs.Layout.{kind_of, record_cells}
-use Rattle.ob_types.specs.Meaning.{kind_in, length_of_kind, element_kind, record_of_kind, is_byte}
-use Rattle.ob_types.specs.declared.types.TypeKind.TheVariants.{Char}
-use Rattle.ob_types.specs.declared.types.TypeKind.TheVariants.{Bool as Boolean}
-use Rattle.ob_types.specs.declared.types.Formal.{Formal}
+use Rattle.std.proofs.Common.{◌≡◌, ℕ, zero, suc, ◌+◌, ◌*◌, ◌<◌, ◌≤◌, List, [], ◌∷◌, ◌++◌, length, length-append, Bool, true, false, Option, Some, None, refl, slice_get, arith}
+use Rattle.std.specs.Prelude.{if◌then◌else◌, nat_lt, nat_le}
+use Rattle.std.proofs.lemmas.Bool.{lt-ltb, le-leb, and_from}
+use Rattle.ob_types.specs.Meaning.{is_byte}
 use Rattle.ob_types.specs.declared.tree.Unary.{Unary}
 use Rattle.ob_types.specs.declared.tree.Unary.TheVariants.{Negate, Complement, Not, Abs, Odd}
 use Rattle.ob_types.specs.declared.tree.Binary.{Binary}
 use Rattle.ob_types.specs.declared.tree.Binary.TheVariants.{Add, Subtract, Multiply, Div, Mod, Union, Difference, Intersection, SymmetricDifference, Subset, Superset, Lsl, Asr, Ror}
 use Rattle.ob_types.specs.declared.tree.Relation.{Relation}
 use Rattle.ob_types.specs.declared.tree.Relation.TheVariants.{Equal, Unequal, Less, LessEqual, Greater, GreaterEqual}
-use Rattle.ob_types.specs.declared.tree.Expr.{Expr, Literal, Routine, Load, Guard, Unary', Chain', Compare', CompareTexts', In', IsPointer', IsParameter, Byte', Length, Call', Row_of-Link, end_of-Link, more_of-Link}
-use Rattle.ob_types.specs.declared.tree.Link.{Link, Operate, Element, Elements}
-use Rattle.ob_types.specs.declared.tree.Link.{And as AndLink, Or as OrLink}
-use Rattle.ob_types.specs.declared.tree.Base.{Base}
-use Rattle.ob_types.specs.declared.tree.Base.TheVariants.{Done, Global, Local, Parameter, Text}
-use Rattle.ob_types.specs.declared.tree.Designator.{Designator, Whole, Part', Row_of-Selector, end_of-Selector, more_of-Selector}
-use Rattle.ob_types.specs.declared.tree.Selector.{Selector, Index, Field, Dereference, Narrow}
-use Rattle.ob_types.specs.declared.tree.Call.{Row_of-Argument, end_of-Argument, more_of-Argument, Direct', Indirect'}
-use Rattle.ob_types.specs.declared.tree.Call.{Call as CallForm}
-use Rattle.ob_types.specs.declared.tree.Argument.{Argument, ByValue, ByPlace, ByRecord, ByOpen}
-use Rattle.ob_types.specs.declared.statements.Checked.{Checked}
-use Rattle.ob_types.specs.declared.statements.Label.{Label}
-use Rattle.ob_types.specs.declared.statements.Label.TheVariants.{One, Range}
-use Rattle.ob_types.specs.declared.statements.Stmt.{Stmt, Assign, CopyArray, CopyRecord, Increase, Decrease, Include, Exclude, New, Assert, OutChar, OutInt, OutString, OutLn, InChar, If', While', Repeat', For', Case', CasePointer', CaseParameter', Row_of-Stmt, end_of-Stmt, more_of-Stmt, Row_of-Branch, end_of-Branch, more_of-Branch, Row_of-CasePart, end_of-CasePart, more_of-CasePart, Row_of-TypePart, end_of-TypePart, more_of-TypePart}
-use Rattle.ob_types.specs.declared.statements.Stmt.{Call as Invoke}
-use Rattle.ob_types.specs.declared.program.Program.{Program}
-use Rattle.block_runs.specs.declared.code.Code.TheVariants.{Svc, Max0, Copy, Fits, Set, True, Const, Plus, Call, CallAt, StoreByte, Arg, Zero, Mul, MulAdd, Below, NotNil, GuardPtr, GuardTag, IsPtr, IsTag, Bic, Compare, Elem, Has, Bit, Span, Or, Byte}
+use Rattle.block_runs.specs.declared.code.Code.TheVariants.{Svc, Max0, Copy, Fits, Set, True, Const, Plus, Call, CallAt, StoreByte, Mul, MulAdd, Below, NotNil, GuardPtr, GuardTag, IsPtr, IsTag, Bic, Compare, Elem, Has, Bit, Span, Or, Byte}
 use Rattle.block_runs.specs.declared.code.Code.TheVariants.{Local as LocalOp, Global as GlobalOp, New as NewOp, Store as StoreOp, Load as LoadOp}
-use Rattle.ob_types.specs.Forms.{Form, Routines, all}
-use Rattle.ob_types.specs.Layout.{signature_of}
-use Rattle.ob_types.specs.Meaning.{procedure_of}
-use Rattle.ob_types.specs.WellFormed
-use Rattle.ob_types.specs.WellFormed.{Named as Thing, Of, provided, with_some, holds_of, gives_number, gives_truth, gives_pointer, is_number, is_truth, argument_words}
-use Rattle.ob_types.specs.declared.types.Mode.{Mode}
-use Rattle.ob_types.specs.declared.types.Mode.TheVariants.{Place}
-use Rattle.ob_types.specs.declared.types.Mode.TheVariants.{Value as AsValue, Record as AsRecord, Open as AsOpen}
-use Rattle.ob_types.proofs.Tests.{no, and_of}
 use Rattle.block_runs.specs.Valid.{fits, in_24_bits, operation_fits}
 use Rattle.block_runs.specs.declared.code.Code.{Code}
 use Rattle.block_runs.specs.declared.code.Code.TheVariants.{LoadByte}
-use Rattle.block_runs.specs.declared.code.Code.TheVariants.{Add as AddOp, Sub as SubOp}
 use Rattle.block_runs.specs.declared.end.End.{End}
-use Rattle.block_runs.specs.declared.end.End.TheVariants.{Jump, Branch, Nonzero, Trap}
+use Rattle.block_runs.specs.declared.end.End.TheVariants.{Jump, Branch, Nonzero}
 use Rattle.ssa_core.specs.Procedures.{operation_of}
-use Rattle.ssa_lowered.specs.Data.{Layout, rounded, within, global_at, text_at}
-use Rattle.ssa_lowered.specs.Pieces.{Cursor, Start, Piece, Appends, Closes, Made, Low, skip, give, ◌>>=◌, emits, does, fetched, variable, becomes, close, fresh, plain, Mask, picked, join, join_start}
-use Rattle.ssa_lowered.specs.Control.{half, often, at_freq, Test, fork, fork_value, fork_branch, fork_not, fork_and, fork_or, flag, Lowers, valued, tested, choose, Round, behind, rounds, loop, repeat, for, Rung, ladder, limbs, case}
+use Rattle.ssa_lowered.specs.Pieces.{Cursor, Start, Piece, Appends, Closes, Low, skip, give, ◌>>=◌, emits, does, fetched, variable, becomes, close, fresh, plain, Mask, picked, join, join_start}
+use Rattle.ssa_lowered.specs.Control.{half, often, at_freq, Test, fork_value, fork_branch, fork_not, fork_and, fork_or, flag, Lowers, valued, tested, choose, Round, behind, rounds, loop, repeat, for, Rung, ladder, limbs, case}
 use Rattle.ssa_lowered.specs.Values.{const, condition, Named, At, Beside, Object, Held, past, address_in, second, length_in, bytes_in, address, data_at, local_at, element, field, dereferenced, narrowed, one_operand, two_operands, included, unary, binary, compared, texts_compared, guarded, member, contained, with_element, with_range, is_pointer, is_tag, tag_of, tag_in, as_byte, length_of, by_word, by_record, by_open, also, Request, call, call_at, with_result, without_result, home_in, home_of, load, Home, current, change, store}
 use Rattle.ssa_lowered.specs.Values.{Register as InRegister, Memory as InMemory}
 use Rattle.ssa_lowered.specs.Statements
 use Rattle.ssa_lowered.specs.Statements.{Deed, assign, change_number, change_set, new, copy_array, copy_record, assert, out_char, out_int, out_string, in_char}
-use Rattle.ssa_lowered.specs.Variables.{Site, Register, Memory, Variable, some_structured, further, zeroing, first_value, store_first, stored, first_of, opened, is_structured, either, assigned_all, assigned_branches, words_of}
-use Rattle.ssa_lowered.specs.Lowered.{Here, by_mode, one_of, parameter_by, variable_of, local_by, based, descriptor, level, all_guarded, small, expr, linked, link, named, selected, select, called, argument, arguments, value, test, home, in_register, registers, label_test, type_test, rungs_from, case_of, labels_of, records_of, label_tests, type_tests, bound, deed, deeds, alternatives, guarded_rounds, case_bodies, type_bodies, deeds_of, answer, enters, whole}
-use Rattle.ssa_lowered.proofs.Everywhere.{Each, each_on}
-use Rattle.lowered_valid.proofs.Suits.{Is, of_provided, of_with, with_is, of_holds, holds_is, given_is, guarded_is, linked_is, operand_is, condition_is, element_is, elements_are, selected_is, index_is, checked_is, number_checked}
+use Rattle.ssa_lowered.specs.Lowered.{one_of}
+use Rattle.ssa_lowered.proofs.Everywhere.{Each}
 
 ---- Pieces
 
@@ -150,10 +115,12 @@ module _ (args : ℕ) where
   f_value {x = x} p = record { by = λ c y n q. joined (joined (p.by c).0 none) (closing (x c).after (Nonzero (x c).result y n) (plain q c.seen) none) }
 
   pub f_branch : {x y : Low ℕ} (k : ℕ) → Plainly x → Plainly y → FitTest (fork_branch k x y)
-  f_branch {x = x} {y = y} k p r = record { by = λ c one other q.
-      let a = x c in
-      let b = y a.after in
-      joined (joined (p.by c).0 (joined (r.by a.after).0 none)) (closing b.after (Branch k a.result b.result one other) (plain q c.seen) none) }
+  f_branch {x = x} {y = y} k p r = record {
+    by = λ c one other q.
+        let a = x c in
+        let b = y a.after in
+        joined (joined (p.by c).0 (joined (r.by a.after).0 none)) (closing b.after (Branch k a.result b.result one other) (plain q c.seen) none);
+  }
 
   pub f_not : {t : Test} → FitTest t → FitTest (fork_not t)
   f_not p = record { by = λ c y n q. p.by c n y q }
@@ -165,22 +132,28 @@ module _ (args : ℕ) where
   f_or {t = t} p r = record { by = λ c y n q. joined (p.by c y (t c).after.block c.freq) (r.by (t c).after y n q) }
 
   pub s_flag : {t : Test} → FitTest t → Plainly (flag t)
-  s_flag {t = t} p = record { by = λ c.
-      let x = t c in
-      let one = const 1 (at_freq x.after (half c.freq)) in
-      let no : Cursor = record (fresh one.after) { seen = x.after.seen } in
-      (joined (p.by c x.after.block no.block (half c.freq)) (record { all = (refl, (refl, tt)) }), tt) }
+  s_flag {t = t} p = record {
+    by = λ c.
+        let x = t c in
+        let one = const 1 (at_freq x.after (half c.freq)) in
+        let no : Cursor = record (fresh one.after) { seen = x.after.seen } in
+        (joined (p.by c x.after.block no.block (half c.freq)) (record { all = (refl, (refl, tt)) }), tt);
+  }
 
   pub s_choose : {t : Test} {g k : Deed} (mask : Mask) → FitTest t → Plainly g → Plainly k → Plainly (choose mask t g k)
-  s_choose {t = t} {g = g} {k = k} mask p q r = record { by = λ c.
-      let x = t c in
-      let arm = at_freq x.after (half c.freq) in
-      let one = g arm in
-      let other : Cursor = record (fresh one.after) { freq = half c.freq; env = x.after.env; seen = x.after.seen } in
-      let two = k other in
-      let out = join mask two.after other c.freq in
-      (joined (p.by c x.after.block other.block (half c.freq)) (joined (q.by arm).0 (closing one.after (Jump out.block (picked mask one.after.env)) (plain other.freq other.seen)
-        (joined (r.by other).0 (closing two.after (Jump out.block (picked mask two.after.env)) (join_start mask two.after other c.freq None) none)))), tt) }
+  s_choose {t = t} {g = g} {k = k} mask p q r = record {
+    by = λ c.
+        let x = t c in
+        let arm = at_freq x.after (half c.freq) in
+        let one = g arm in
+        let other : Cursor = record (fresh one.after) { freq = half c.freq; env = x.after.env; seen = x.after.seen } in
+        let two = k other in
+        let out = join mask two.after other c.freq in (
+          joined (p.by c x.after.block other.block (half c.freq)) (joined (q.by arm).0 (closing one.after (Jump out.block (picked mask one.after.env)) (plain other.freq other.seen)
+              (joined (r.by other).0 (closing two.after (Jump out.block (picked mask two.after.env)) (join_start mask two.after other c.freq None) none)))),
+          tt,
+        );
+  }
 
   abbrev pub FitRound : Round → Type 0
   FitRound r = FitTest r.test × Plainly r.body
@@ -195,19 +168,25 @@ module _ (args : ℕ) where
       joined (q.0.0.by c t.after.block next.block c.freq) (joined (q.0.1.by arm).0 (closing one.after (Jump head (picked mask one.after.env)) (plain next.freq next.seen) (s_rounds mask head outside rs q.1 next)))
 
   pub s_loop : (mask : Mask) (rs : List Round) → Each FitRound rs → Plainly (loop mask rs)
-  s_loop mask rs q = record { by = λ c.
-      let head = join mask c c (often c.freq) in
-      (closing c (Jump head.block (picked mask c.env)) (join_start mask c c head.freq (Some c.block)) (s_rounds mask head.block c.freq rs q head), tt) }
+  s_loop mask rs q = record {
+    by = λ c.
+        let head = join mask c c (often c.freq) in
+        (closing c (Jump head.block (picked mask c.env)) (join_start mask c c head.freq (Some c.block)) (s_rounds mask head.block c.freq rs q head), tt);
+  }
 
   pub s_repeat : {g : Deed} {t : Test} (mask : Mask) → Plainly g → FitTest t → Plainly (repeat mask g t)
-  s_repeat {g = g} {t = t} mask q p = record { by = λ c.
-      let head = join mask c c (often c.freq) in
-      let one = g head in
-      let x = t one.after in
-      let back = at_freq x.after head.freq in
-      let exit = at_freq (fresh back) c.freq in
-      (closing c (Jump head.block (picked mask c.env)) (join_start mask c c head.freq (Some c.block))
-        (joined (q.by head).0 (joined (p.by one.after exit.block back.block back.freq) (closing back (Jump head.block (picked mask back.env)) (plain exit.freq exit.seen) none))), tt) }
+  s_repeat {g = g} {t = t} mask q p = record {
+    by = λ c.
+        let head = join mask c c (often c.freq) in
+        let one = g head in
+        let x = t one.after in
+        let back = at_freq x.after head.freq in
+        let exit = at_freq (fresh back) c.freq in (
+          closing c (Jump head.block (picked mask c.env)) (join_start mask c c head.freq (Some c.block))
+              (joined (q.by head).0 (joined (p.by one.after exit.block back.block back.freq) (closing back (Jump head.block (picked mask back.env)) (plain exit.freq exit.seen) none))),
+          tt,
+        );
+  }
 
   abbrev FitRung : Rung → Type 0
   FitRung r = FitTest r.test
@@ -225,11 +204,13 @@ module _ (args : ℕ) where
       closing c (end out) (plain start.freq start.seen) (joined (q.0.by start).0 (s_limbs mask s bodies q.1 one.after (λ to. Jump to (picked mask one.after.env)) out))
 
   pub s_case : (mask : Mask) (rungs : List Rung) (bodies : List Deed) (unmatched : ℕ → List ℕ → End) → Each FitRung rungs → Each (λ (b : Deed). Plainly b) bodies → Plainly (case mask rungs bodies unmatched)
-  s_case mask rungs bodies unmatched p q = record { by = λ c.
-      let t = ladder (half c.freq) rungs c in
-      let end : ℕ → End = λ out. unmatched out (picked mask c.env) in
-      let a = limbs mask c bodies t.after end in
-      (joined (s_ladder (half c.freq) rungs p a.starts c) (s_limbs mask c bodies q t.after end a.after.block), tt) }
+  s_case mask rungs bodies unmatched p q = record {
+    by = λ c.
+        let t = ladder (half c.freq) rungs c in
+        let end : ℕ → End = λ out. unmatched out (picked mask c.env) in
+        let a = limbs mask c bodies t.after end in
+        (joined (s_ladder (half c.freq) rungs p a.starts c) (s_limbs mask c bodies q t.after end a.after.block), tt);
+  }
 
   ---- Values
 
@@ -499,4 +480,3 @@ module _ (args : ℕ) where
 
   pub s_for : {first body : Deed} {limit current : Low ℕ} (mask : Mask) (k : ℕ) → Plainly first → Plainly limit → Plainly current → Plainly body → Plainly (for mask k first limit current body)
   s_for {body = body} {current = current} mask k p q r t = seq p (λ _. seq q (λ l. s_loop mask (record { test = fork_branch k current (give l); body = body } ∷ []) ((f_branch k r (plainly l), t), tt)))
-

@@ -1,7 +1,7 @@
 -- The operations of the tree's constructs fit, where the tree is well-formed.
-use Rattle.std.proofs.Common.{◌≡◌, ℕ, zero, suc, ◌+◌, ◌*◌, ◌-◌, ◌<◌, ◌≤◌, List, [], ◌∷◌, ◌++◌, map, take, length, length-append, Bool, true, false, ◌&&◌, Option, Some, None, refl, sym, ap, ◌∙◌, subst, slice_get, arith, ℤ}
-use Rattle.std.specs.Prelude.{if◌then◌else◌, is_some, nat_lt, nat_le}
-use Rattle.std.proofs.lemmas.Bool.{lt-ltb, le-leb, and_from, eq-eqb}
+use Rattle.std.proofs.Common.{◌≡◌, ℕ, zero, suc, ◌+◌, ◌-◌, ◌<◌, ◌≤◌, List, [], ◌∷◌, map, Bool, true, false, ◌&&◌, Option, Some, None, refl, sym, ap, subst, slice_get, arith}
+use Rattle.std.specs.Prelude.{is_some, nat_lt, nat_le}
+use Rattle.std.proofs.lemmas.Bool.{lt-ltb, le-leb, and_from}
 use Rattle.std.proofs.lemmas.List.Sums.{sum_by-cons}
 use Rattle.wrapping_numbers.specs.Numbers.{unsigned}
 use Rattle.ob_types.specs.Layout.{kind_of, record_cells}
@@ -9,12 +9,7 @@ use Rattle.ob_types.specs.Meaning.{kind_in, length_of_kind, element_kind, record
 use Rattle.ob_types.specs.declared.types.TypeKind.TheVariants.{Char}
 use Rattle.ob_types.specs.declared.types.TypeKind.TheVariants.{Bool as Boolean}
 use Rattle.ob_types.specs.declared.types.Formal.{Formal}
-use Rattle.ob_types.specs.declared.tree.Unary.{Unary}
-use Rattle.ob_types.specs.declared.tree.Unary.TheVariants.{Negate, Complement, Not, Abs, Odd}
-use Rattle.ob_types.specs.declared.tree.Binary.{Binary}
-use Rattle.ob_types.specs.declared.tree.Binary.TheVariants.{Add, Subtract, Multiply, Div, Mod, Union, Difference, Intersection, SymmetricDifference, Subset, Superset, Lsl, Asr, Ror}
-use Rattle.ob_types.specs.declared.tree.Relation.{Relation}
-use Rattle.ob_types.specs.declared.tree.Relation.TheVariants.{Equal, Unequal, Less, LessEqual, Greater, GreaterEqual}
+use Rattle.ob_types.specs.declared.tree.Binary.TheVariants.{Add, Subtract, Union, Difference}
 use Rattle.ob_types.specs.declared.tree.Expr.{Expr, Literal, Routine, Load, Guard, Unary', Chain', Compare', CompareTexts', In', IsPointer', IsParameter, Byte', Length, Call', Row_of-Link, end_of-Link, more_of-Link}
 use Rattle.ob_types.specs.declared.tree.Link.{Link, Operate, Element, Elements}
 use Rattle.ob_types.specs.declared.tree.Link.{And as AndLink, Or as OrLink}
@@ -40,24 +35,21 @@ use Rattle.ob_types.specs.declared.types.Mode.{Mode}
 use Rattle.ob_types.specs.declared.types.Mode.TheVariants.{Place}
 use Rattle.ob_types.specs.declared.types.Mode.TheVariants.{Value as AsValue, Record as AsRecord, Open as AsOpen}
 use Rattle.ob_types.proofs.Tests.{no, and_of}
-use Rattle.block_runs.specs.declared.code.Code.{Code}
 use Rattle.block_runs.specs.declared.end.End.{End}
-use Rattle.ssa_lowered.specs.Data.{Layout, rounded, within, global_at, text_at}
-use Rattle.ssa_lowered.specs.Pieces.{Cursor, Start, Piece, Appends, Closes, Made, Low, skip, give, ◌>>=◌, emits, does, fetched, variable, becomes, close, fresh, plain, Mask, picked, join, join_start}
-use Rattle.ssa_lowered.specs.Control.{half, often, at_freq, Test, fork, fork_value, fork_branch, fork_not, fork_and, fork_or, flag, Lowers, valued, tested, choose, Round, behind, rounds, loop, repeat, for, Rung, ladder, limbs, case}
-use Rattle.ssa_lowered.specs.Values.{const, condition, Named, At, Beside, Object, Held, past, address_in, second, length_in, bytes_in, address, data_at, local_at, element, field, dereferenced, narrowed, one_operand, two_operands, included, unary, binary, compared, texts_compared, guarded, member, contained, with_element, with_range, is_pointer, is_tag, tag_of, tag_in, as_byte, length_of, by_word, by_record, by_open, also, Request, call, call_at, with_result, without_result, home_in, home_of, load, Home, current, change, store}
-use Rattle.ssa_lowered.specs.Values.{Register as InRegister, Memory as InMemory}
-use Rattle.ssa_lowered.specs.Statements
-use Rattle.ssa_lowered.specs.Statements.{Deed, assign, change_number, change_set, new, copy_array, copy_record, assert, out_char, out_int, out_string, in_char}
-use Rattle.ssa_lowered.specs.Variables.{Site, Register, Memory, Variable, some_structured, further, zeroing, first_value, store_first, stored, first_of, opened, is_structured, either, assigned_all, assigned_branches, words_of}
-use Rattle.ssa_lowered.specs.Lowered.{Here, by_mode, one_of, parameter_by, variable_of, local_by, based, descriptor, level, all_guarded, small, expr, linked, link, named, selected, select, called, argument, arguments, value, test, home, in_register, registers, label_test, type_test, rungs_from, case_of, labels_of, records_of, label_tests, type_tests, bound, deed, deeds, alternatives, guarded_rounds, case_bodies, type_bodies, deeds_of, answer, enters, whole}
+use Rattle.ssa_lowered.specs.Data.{Layout, rounded, within, global_at}
+use Rattle.ssa_lowered.specs.Pieces.{Low, Mask}
+use Rattle.ssa_lowered.specs.Control.{Test, Lowers, Rung}
+use Rattle.ssa_lowered.specs.Values.{condition, Named, At, Held, is_pointer, is_tag}
+use Rattle.ssa_lowered.specs.Statements.{Deed}
+use Rattle.ssa_lowered.specs.Variables.{Site, Register, Memory, Variable, some_structured, further, zeroing, first_value, store_first, stored, first_of, opened, is_structured, assigned_all}
+use Rattle.ssa_lowered.specs.Lowered.{Here, by_mode, parameter_by, variable_of, local_by, based, descriptor, level, all_guarded, small, expr, linked, link, named, selected, select, called, argument, arguments, value, test, home, label_test, type_test, rungs_from, case_of, labels_of, records_of, label_tests, type_tests, bound, deed, deeds, alternatives, guarded_rounds, case_bodies, type_bodies, deeds_of, answer, enters, whole}
 use Rattle.ssa_lowered.proofs.Everywhere.{Each, each_on}
 use Rattle.block_runs.specs.declared.code.Code.TheVariants.{Arg}
 use Rattle.block_runs.specs.declared.code.Code.TheVariants.{Zero as ZeroOp}
 use Rattle.block_runs.specs.declared.end.End.TheVariants.{Jump, Trap}
 use Rattle.ob_types.specs.LegalTypes.{is_record_type}
 use Rattle.lowered_valid.proofs.Suits.{Is, of_provided, of_with, with_is, of_holds, holds_is, given_is, guarded_is, linked_is, operand_is, condition_is, element_is, elements_are, selected_is, index_is, checked_is, number_checked}
-use Rattle.lowered_valid.proofs.Fitting.{Fine, Any, Fit, FitTest, Plainly, bind, seq, gives, plainly, emitted, done, s_const, s_variable, s_becomes, s_global, s_local, s_plus, f_value, f_branch, f_not, f_and, f_or, s_flag, s_choose, FitRound, s_rounds, s_loop, s_repeat, s_ladder, s_limbs, s_case, s_past, s_address_in, s_start, s_second, s_length_in, s_bytes_in, s_data_at, s_local_at, s_element, s_field, s_dereferenced, s_narrowed, s_one_operand, s_included, s_two_operands, s_unary, s_binary, s_set, s_compared, s_texts, s_guarded, s_member, s_contained, s_with_element, s_with_range, TypeTest, s_is_pointer, s_is_tag, s_tag_of, s_as_byte, s_length_of, Long, s_by_word, s_address, s_tag_in, s_by_record, s_by_open, s_also, OfRequest, s_call, s_call_at, s_with_result, s_without_result, s_current, s_home_in, s_home_of, s_load, Good, g_valued, g_tested, g_one, s_skip, s_store, s_change, s_assign, s_if, s_change_number, s_change_set, s_new, s_fits_one, s_fits, s_copy_array, s_copy_record, s_assert, s_out_char, s_out_int, s_out_string, s_in_char, s_for}
+use Rattle.lowered_valid.proofs.Fitting.{Fit, FitTest, Plainly, seq, gives, plainly, emitted, done, s_const, s_local, f_value, f_branch, f_and, f_or, s_choose, FitRound, s_loop, s_repeat, s_case, s_data_at, s_local_at, s_element, s_field, s_dereferenced, s_narrowed, s_binary, s_compared, s_texts, s_guarded, s_contained, s_with_element, s_with_range, TypeTest, s_is_pointer, s_is_tag, s_tag_of, s_as_byte, s_length_of, Long, s_by_word, s_address, s_by_record, s_by_open, s_also, OfRequest, s_call, s_call_at, s_with_result, s_without_result, s_home_of, s_load, Good, g_valued, g_tested, g_one, s_skip, s_store, s_assign, s_if, s_change_number, s_change_set, s_new, s_copy_array, s_copy_record, s_assert, s_out_char, s_out_int, s_out_string, s_in_char, s_for}
 
 ---- The tree
 
@@ -83,8 +75,8 @@ module _ (args : ℕ) (p : Program) (l : Layout) (here : Here) (small_enough : N
   abbrev Sensible : Expr → Type 0
   Sensible x = Is (WellFormed.form p f x)
 
-  abbrev Named_well : Designator → Type 0
-  Named_well d = Is (WellFormed.named p f d)
+  abbrev Nameable : Designator → Type 0
+  Nameable d = Is (WellFormed.named p f d)
 
   -- what an argument's mode says of its words and of its part
   value_parts : (m : Mode) (a b : Option Form) → WellFormed.value_suits p m a b ≡ true → (WellFormed.words_of m ≡ 1) × Is a
@@ -191,7 +183,7 @@ module _ (args : ℕ) (p : Program) (l : Layout) (here : Here) (small_enough : N
     g_link (Element y) o h q = g_valued args (s_with_element args q.value (g_expr y (element_is p f y o h)).value)
     g_link (Elements y z) o h q = let r = elements_are p f y z o h in g_valued args (s_with_range args q.value (g_expr y r.0).value (g_expr z r.1).value)
 
-    s_named : (d : Designator) → Named_well d → Plainly args (named p l here d)
+    s_named : (d : Designator) → Nameable d → Plainly args (named p l here d)
     s_named (Whole b k) h = s_based b
     s_named (Part' b k _ row) h = s_selected row (WellFormed.base_named p f b) (with_is (WellFormed.selected_named p f row (WellFormed.base_named p f b)) (WellFormed.of_kind p k) h) (s_based b)
 
@@ -238,16 +230,16 @@ module _ (args : ℕ) (p : Program) (l : Layout) (here : Here) (small_enough : N
         let q = and_of (WellFormed.argument_suits p f a x) (WellFormed.all_suit p f more xs) h in
         s_also args (WellFormed.words_of x.mode) (argument_words xs) (argument_words (x ∷ xs)) (words_more x xs) (s_argument a x q.0) (s_arguments more xs q.1)
 
-  s_home : (d : Designator) → Named_well d → Plainly args (home p l here d)
+  s_home : (d : Designator) → Nameable d → Plainly args (home p l here d)
   s_home d h = s_home_of args (small p l here d) (s_named d h)
 
-  abbrev Sound : Checked → Type 0
-  Sound x = Is (WellFormed.form p f x.form)
+  abbrev Checks : Checked → Type 0
+  Checks x = Is (WellFormed.form p f x.form)
 
-  s_value : (x : Checked) → Sound x → Plainly args (value p l here x)
+  s_value : (x : Checked) → Checks x → Plainly args (value p l here x)
   s_value x h = (g_expr x.form h).value
 
-  f_test : (x : Checked) → Sound x → FitTest args (test p l here x)
+  f_test : (x : Checked) → Checks x → FitTest args (test p l here x)
   f_test x h = (g_expr x.form h).test
 
   ---- Statements
@@ -297,11 +289,11 @@ module _ (args : ℕ) (p : Program) (l : Layout) (here : Here) (small_enough : N
   s_case_of : {x : Low ℕ} (mask : Mask) (tests : ℕ → List (List Test)) (bodies : List Deed) (unmatched : ℕ → List ℕ → End) → Plainly args x → ((v : ℕ) → Tests (tests v)) → Bodies bodies → Plainly args (case_of p l here mask x tests bodies unmatched)
   s_case_of mask tests bodies unmatched q r t = seq args q (λ v. s_case args mask (rungs_from p l here 0 (tests v)) bodies unmatched (each_rungs 0 (tests v) (r v)) t)
 
-  number_of : (x : Checked) → gives_number (WellFormed.checked_form p f x) ≡ true → Sound x
+  number_of : (x : Checked) → gives_number (WellFormed.checked_form p f x) ≡ true → Checks x
   number_of x h = number_checked p f x h
 
   -- INC, DEC, INCL and EXCL
-  stepped : (d : Designator) (x : Checked) (test : Form → Bool) → (gives_number (WellFormed.checked_form p f x) && holds_of (WellFormed.takes p test) (WellFormed.named p f d)) ≡ true → Sound x × Named_well d
+  stepped : (d : Designator) (x : Checked) (test : Form → Bool) → (gives_number (WellFormed.checked_form p f x) && holds_of (WellFormed.takes p test) (WellFormed.named p f d)) ≡ true → Checks x × Nameable d
   stepped d x test h =
       let a = and_of (gives_number (WellFormed.checked_form p f x)) (holds_of (WellFormed.takes p test) (WellFormed.named p f d)) h in
       (number_of x a.0, holds_is (WellFormed.takes p test) (WellFormed.named p f d) a.1)
@@ -317,8 +309,8 @@ module _ (args : ℕ) (p : Program) (l : Layout) (here : Here) (small_enough : N
         let from = holds_of (WellFormed.array_of p (element_kind (kind_in d)) (length_of_kind (kind_in e))) (WellFormed.named p f e) in
         let a = and_of to from h in
         s_copy_array args (length_of_kind (kind_in d)) (length_of_kind (kind_in e)) (l.bytes (element_kind (kind_in d)))
-          (s_named d (holds_is (WellFormed.may_copy p f (element_kind (kind_in d)) (length_of_kind (kind_in d))) (WellFormed.named p f d) a.0))
-          (s_named e (holds_is (WellFormed.array_of p (element_kind (kind_in d)) (length_of_kind (kind_in e))) (WellFormed.named p f e) a.1))
+        (s_named d (holds_is (WellFormed.may_copy p f (element_kind (kind_in d)) (length_of_kind (kind_in d))) (WellFormed.named p f d) a.0))
+        (s_named e (holds_is (WellFormed.array_of p (element_kind (kind_in d)) (length_of_kind (kind_in e))) (WellFormed.named p f e) a.1))
     s_deed (CopyRecord d e) h =
         let writes : Thing → Bool = λ t. WellFormed.is_writable t && WellFormed.has_record p (record_of_kind (kind_in d)) t in
         let a = and_of (holds_of writes (WellFormed.named p f d)) (holds_of (WellFormed.has_record p (record_of_kind (kind_in d))) (WellFormed.named p f e)) h in
@@ -350,7 +342,7 @@ module _ (args : ℕ) (p : Program) (l : Layout) (here : Here) (small_enough : N
         let e = and_of limit (WellFormed.fine_row p f body) c.1 in
         let variable = s_home d (holds_is (WellFormed.takes p WellFormed.is_full) (WellFormed.named p f d) b.0) in
         s_for args _ (bound p l here step) (s_assign args variable (s_value x (number_of x c.0))) (s_value y (number_of y e.0)) (s_load args variable)
-          (seq args (s_deeds body e.1) (λ _. s_assign args variable (s_binary args Add (s_load args variable) (s_const args (unsigned step)))))
+        (seq args (s_deeds body e.1) (λ _. s_assign args variable (s_binary args Add (s_load args variable) (s_const args (unsigned step)))))
     s_deed (Case' x _ parts) h =
         let a = and_of (gives_number (WellFormed.checked_form p f x)) (WellFormed.fine_case_parts p f parts) h in
         s_case_of _ (label_tests p l here parts) (case_bodies p l here parts) (λ out args. Trap 6) (s_value x (number_of x a.0)) (λ v. f_all_labels v (labels_of p l here parts)) (each_case_body parts a.1)
@@ -408,7 +400,7 @@ module _ (args : ℕ) (p : Program) (l : Layout) (here : Here) (small_enough : N
   s_further i zero low high = s_skip args
   s_further i (suc n) low high =
       seq args (emitted args (Arg i) [] (and_from (nat_le 4 i) (nat_lt i args && true) (le-leb 4 i low) (and_from (nat_lt i args) true (lt-ltb i args (omega (arith, high))) refl)))
-        (λ _. s_further (suc i) n (omega (arith, low)) (omega (arith, high)))
+      (λ _. s_further (suc i) n (omega (arith, low)) (omega (arith, high)))
 
   s_zeroing : (b : Bool) (size : ℕ) → Plainly args (zeroing b here.bytes size)
   s_zeroing false size = s_skip args

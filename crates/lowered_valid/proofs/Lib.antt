@@ -11,4 +11,6 @@ mod Suits
 mod Fitting
 mod FittingTree
 mod Bounds
+mod Bodies
 mod Valid
+mod Samples

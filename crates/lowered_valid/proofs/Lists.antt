@@ -1,5 +1,5 @@
 -- Values among others, and how many there are.
-use Rattle.std.proofs.Common.{◌≡◌, ◌⊎◌, ⊎_elim, inl, inr, ℕ, zero, suc, ◌+◌, ◌<◌, ◌≤◌, List, [], ◌∷◌, ◌++◌, Bool, true, false, cond, refl, sym, ap, ◌∙◌, subst, length, slice_set, arith}
+use Rattle.std.proofs.Common.{◌≡◌, ◌⊎◌, inr, ℕ, zero, suc, List, [], ◌∷◌, ◌++◌, Bool, true, false, cond, refl, ap, length, slice_set, arith}
 use Rattle.ssa_lowered.specs.Pieces.{Mask, rest, params, merged, picked}
 
 abbrev pub In : ℕ → List ℕ → Type 0

@@ -1,11 +1,10 @@
 -- What holds of each lowered procedure, whether its program is well-formed or not.
-use Rattle.std.proofs.Common.{◌≡◌, ℕ, zero, suc, ◌+◌, ◌-◌, ◌≤◌, ◌<◌, min, List, [], ◌∷◌, ◌++◌, map, take, length, Bool, true, Option, Some, None, refl, sym, ap, ◌∙◌, subst, arith, slice_get}
+use Rattle.std.proofs.Common.{◌≡◌, ℕ, zero, suc, ◌+◌, ◌≤◌, ◌<◌, min, List, [], ◌∷◌, take, length, true, Option, refl, sym, ap, ◌∙◌, subst, arith}
 use Rattle.std.specs.List.{list_all}
-use Rattle.ob_types.specs.declared.types.Formal.{Formal}
 use Rattle.ob_types.specs.declared.program.Procedure.{Procedure}
 use Rattle.ob_types.specs.declared.program.Program.{Program}
 use Rattle.block_runs.specs.Blocks.{CodeBlock, successors}
-use Rattle.block_runs.specs.Valid.{IsPlaced, made, times, all_below, block_reads, condition_fits, arguments_fit, params_of, enter_below}
+use Rattle.block_runs.specs.Valid.{IsPlaced, made, all_below, block_reads, condition_fits, arguments_fit, params_of, enter_below}
 use Rattle.block_runs.specs.declared.end.End.TheVariants.{Return}
 use Rattle.std.proofs.lemmas.List.{length-map}
 use Rattle.ssa_core.specs.declared.procedure.Block.{Block}
@@ -15,12 +14,12 @@ use Rattle.ssa_lowered.specs.Pieces.{Start, Made, numbers}
 use Rattle.ssa_lowered.specs.Variables.{words_of}
 use Rattle.ssa_lowered.specs.Lowered.{Here, here_of, zeroed_bytes, at_entry, entry, lent_in_body, made_of, proc_of, variable_of, in_register}
 use Rattle.ssa_lowered.proofs.Linear.{Linear, line_whole}
-use Rattle.lowered_valid.proofs.Scoped.{Frame, Starts, Sound}
+use Rattle.lowered_valid.proofs.Scoped.{Certificate, Starts, Sound}
 use Rattle.lowered_valid.proofs.Tree.{OfAnswer}
 use Rattle.lowered_valid.proofs.Whole.{sound_whole}
 use Rattle.lowered_valid.proofs.Words.{words_fit, named_given, all_words, variables_first}
 use Rattle.lowered_valid.proofs.Numbered.{Under, Numbered, counted_whole}
-use Rattle.lowered_valid.proofs.Once.{append_nil, made_in_order, numbers_below, times_once, counts_numbers, after_numbers}
+use Rattle.lowered_valid.proofs.Once.{append_nil, made_in_order, counts_numbers, after_numbers}
 use Rattle.lowered_valid.proofs.Blocks.{Every, CleanBlock, Fresh, Between, between_start, starts_of, nth, starts_from, clean_blocks, fresh_blocks, count_blocks, enters_below, placed, read_below, targets, conditions, arguments, params_there}
 
 under_numbers : (i n m : ℕ) → i + n ≤ m → Under m (numbers i n)
@@ -50,8 +49,8 @@ module _ (p : Program) (l : Layout) (f : ℕ) (q : Procedure) where
   abbrev total : ℕ
   total = suc whole.after.block
 
-  abbrev frame : Frame
-  frame = record { start_at = start_at; total = total; given = numbers 0 words; regs = λ x. in_register p l here (variable_of p l here x).site; size = length here.variables }
+  abbrev certificate : Certificate
+  certificate = record { start_at = start_at; total = total; given = numbers 0 words; regs = λ x. in_register p l here (variable_of p l here x).site; size = length here.variables }
 
   line : Linear 0 0 whole.pieces whole.after.block whole.after.op
   line = (line_whole p l here words (zeroed_bytes p l q) (at_entry words)).by
@@ -60,7 +59,7 @@ module _ (p : Program) (l : Layout) (f : ℕ) (q : Procedure) where
   starts = starts_from start_at (entry words ∷ []) 0 0 whole.after.block whole.after.op whole.pieces line refl (λ k. refl)
 
   sound : Sound start_at total (numbers 0 (min words 4)) whole.pieces whole.after.seen × OfAnswer whole.result whole.after.seen
-  sound = sound_whole frame p l here (λ x. refl) (λ k x e. named_given frame.regs x.mode (words_of (take k q.formals)) words (words_fit q.formals k x e)) refl
+  sound = sound_whole certificate p l here (λ x. refl) (λ k x e. named_given certificate.regs x.mode (words_of (take k q.formals)) words (words_fit q.formals k x e)) refl
       (variables_first p.types l (lent_in_body q) 0 (zeroed_bytes p l q) q.formals q.locals) words (zeroed_bytes p l q) (at_entry words) refl (all_words words) starts
 
   numbered : Numbered (min words 4) whole.pieces whole.after.values

@@ -2,7 +2,7 @@
 -- their parameters: what is kept, and how tests, choices, loops and cases keep it.
 --
 -- The certificate is what each block says of how it begins: the values that are seen there, and its parameters.
-use Rattle.std.proofs.Common.{◌≡◌, ⊎_elim, inl, inr, ℕ, zero, suc, ◌<◌, List, [], ◌∷◌, ◌++◌, Bool, true, false, cond, Option, Some, None, refl, sym, ap, ◌∙◌, subst, slice_get, slice_set, length, arith}
+use Rattle.std.proofs.Common.{◌≡◌, inl, inr, ℕ, zero, suc, ◌<◌, List, [], ◌∷◌, ◌++◌, Bool, true, false, cond, Option, Some, None, refl, sym, ap, ◌∙◌, subst, slice_get, slice_set, length, arith}
 use Rattle.std.specs.Prelude.{option_to_list}
 use Rattle.block_runs.specs.Blocks.{end_uses}
 use Rattle.block_runs.specs.declared.code.Code.{Code}
@@ -127,7 +127,7 @@ merge_env given regs mask v (u ∷ env) w e x s =
 ---- What is kept
 
 -- how blocks begin and how many there are, the values that are given from the start, which variables are in registers, and how many there are
-pub record Frame : Type 0 where
+pub record Certificate : Type 0 where
   pub start_at : ℕ → Start
   pub total : ℕ
   pub given : List ℕ
@@ -140,15 +140,15 @@ OfValue v w = In v w
 abbrev pub OfNone : {A : Type 0} → A → List ℕ → Type 0
 OfNone a w = Unit {0}
 
-module _ (f : Frame) where
+module _ (f : Certificate) where
   abbrev pub Begins : List Piece → Type 0
   Begins ps = Starts f.start_at f.total ps
 
-  abbrev pub Goes_on : List ℕ → List Piece → List ℕ → Type 0
-  Goes_on w ps x = Sound f.start_at f.total w ps x
+  abbrev pub Certified : List ℕ → List Piece → List ℕ → Type 0
+  Certified w ps x = Sound f.start_at f.total w ps x
 
-  abbrev pub Follows : ℕ → ℕ → List ℕ → Type 0
-  Follows to k w = Opens f.start_at f.total to k w
+  abbrev pub Ahead : ℕ → ℕ → List ℕ → Type 0
+  Ahead to k w = Opens f.start_at f.total to k w
 
   abbrev left : (xs ys : List Piece) → Begins (xs ++ ys) → Begins xs
   left xs ys h = starts_left f.start_at f.total xs ys h
@@ -156,15 +156,15 @@ module _ (f : Frame) where
   abbrev right : (xs ys : List Piece) → Begins (xs ++ ys) → Begins ys
   right xs ys h = starts_right f.start_at f.total xs ys h
 
-  abbrev on : (w x y : List ℕ) (xs ys : List Piece) → Goes_on w xs x → Goes_on x ys y → Goes_on w (xs ++ ys) y
+  abbrev on : (w x y : List ℕ) (xs ys : List Piece) → Certified w xs x → Certified x ys y → Certified w (xs ++ ys) y
   on w x y xs ys p q = sound_on f.start_at f.total w x y xs ys p q
 
-  up : {to k : ℕ} {v w : List ℕ} → Sub v w → Follows to k v → Follows to k w
+  up : {to k : ℕ} {v w : List ℕ} → Sub v w → Ahead to k v → Ahead to k w
   up s o = up_opens f.start_at f.total s o
 
   -- the same, where what is seen is written otherwise
-  seen_as : {to k : ℕ} {v w : List ℕ} → v ≡ w → Follows to k v → Follows to k w
-  seen_as {to} {k} e o = subst (λ z. Follows to k z) e o
+  seen_as : {to k : ℕ} {v w : List ℕ} → v ≡ w → Ahead to k v → Ahead to k w
+  seen_as {to} {k} e o = subst (λ z. Ahead to k z) e o
 
   -- what is known of the variables
   pub record Known (env w : List ℕ) : Type 0 where
@@ -175,7 +175,7 @@ module _ (f : Frame) where
   up_known {env} {v} {w} s e = record { values = up_env f.given f.regs env v w s e.values; long = e.long }
 
   pub record Goes {A : Type 0} (P : A → List ℕ → Type 0) (c : Cursor) (m : Made A) : Type 0 where
-    pub sound : Goes_on c.seen m.pieces m.after.seen
+    pub sound : Certified c.seen m.pieces m.after.seen
     pub more : Sub c.seen m.after.seen
     pub env : Known m.after.env m.after.seen
     pub result : P m.result m.after.seen
@@ -186,8 +186,8 @@ module _ (f : Frame) where
 
   -- a test leads on with what was seen before it
   pub record Leading (w : List ℕ) (t : Test) : Type 0 where
-    pub by : (c : Cursor) (y n q : ℕ) → Sub w c.seen → Known c.env c.seen → Begins ((t c).pieces y n q) → Follows y 0 c.seen → Follows n 0 c.seen → Goes_on c.seen ((t c).pieces y n q) (t c).after.seen
-    pub begun : (c : Cursor) (y n q : ℕ) → Begins ((t c).pieces y n q) → Follows (t c).after.block 0 c.seen
+    pub by : (c : Cursor) (y n q : ℕ) → Sub w c.seen → Known c.env c.seen → Begins ((t c).pieces y n q) → Ahead y 0 c.seen → Ahead n 0 c.seen → Certified c.seen ((t c).pieces y n q) (t c).after.seen
+    pub begun : (c : Cursor) (y n q : ℕ) → Begins ((t c).pieces y n q) → Ahead (t c).after.block 0 c.seen
     pub env : (c : Cursor) → (t c).after.env ≡ c.env
     pub seen : (c : Cursor) → (t c).after.seen ≡ c.seen
 
@@ -251,7 +251,7 @@ module _ (f : Frame) where
 
   ---- Tests
 
-  begun_by : (c : Cursor) (end : End) (q : ℕ) (ps : List Piece) (w : List ℕ) → Begins (ps ++ close c end (plain q w) ∷ []) → Follows (suc c.block) 0 w
+  begun_by : (c : Cursor) (end : End) (q : ℕ) (ps : List Piece) (w : List ℕ) → Begins (ps ++ close c end (plain q w) ∷ []) → Ahead (suc c.block) 0 w
   begun_by c end q ps w h =
       let r = right ps (close c end (plain q w) ∷ []) h in
       opens f.start_at f.total (plain q w) r.0 r.1 refl (λ v i. i)
@@ -298,11 +298,11 @@ module _ (f : Frame) where
   known_after : {w : List ℕ} {t : Test} → Leading w t → (c : Cursor) → Known c.env c.seen → Known (t c).after.env (t c).after.seen
   known_after {w} {t} p c e = subst (λ a. Known a (t c).after.seen) (sym (p.env c)) (subst (λ b. Known c.env b) (sym (p.seen c)) e)
 
-  follows_after : {w : List ℕ} {t : Test} {to k : ℕ} → Leading w t → (c : Cursor) → Follows to k c.seen → Follows to k (t c).after.seen
+  follows_after : {w : List ℕ} {t : Test} {to k : ℕ} → Leading w t → (c : Cursor) → Ahead to k c.seen → Ahead to k (t c).after.seen
   follows_after p c o = seen_as (sym (p.seen c)) o
 
   two_tests : {w : List ℕ} {t u : Test} → Leading w t → Leading w u → (c : Cursor) (a b q y n r : ℕ) → Sub w c.seen → Known c.env c.seen → Begins ((t c).pieces a b q ++ (u (t c).after).pieces y n r)
-      → Follows a 0 c.seen → Follows b 0 c.seen → Follows y 0 c.seen → Follows n 0 c.seen → Goes_on c.seen ((t c).pieces a b q ++ (u (t c).after).pieces y n r) (u (t c).after).after.seen
+      → Ahead a 0 c.seen → Ahead b 0 c.seen → Ahead y 0 c.seen → Ahead n 0 c.seen → Certified c.seen ((t c).pieces a b q ++ (u (t c).after).pieces y n r) (u (t c).after).after.seen
   two_tests {w} {t} {u} p g c a b q y n r s e h a_in b_in y_in n_in =
       let d = (t c).after in
       on c.seen d.seen (u d).after.seen ((t c).pieces a b q) ((u d).pieces y n r)
@@ -353,7 +353,7 @@ module _ (f : Frame) where
         let tests = x.pieces yes.block no.block yes.freq in
         let k = right tests (flag_rest c x) h in
         let h_t = left tests (flag_rest c x) h in
-        let out : Follows (suc no.block) 1 x.after.seen = opens f.start_at f.total start k.2.0 k.2.1 refl (λ v i. i) in
+        let out : Ahead (suc no.block) 1 x.after.seen = opens f.start_at f.total start k.2.0 k.2.1 refl (λ v i. i) in
         record {
           sound = on c.seen x.after.seen (v ∷ x.after.seen) tests (flag_rest c x)
               (p.by c yes.block no.block yes.freq s e h_t (p.begun c yes.block no.block yes.freq h_t)
@@ -382,11 +382,11 @@ module _ (f : Frame) where
 
   -- a join follows with the values of as many variables
   joins : (mask : Mask) (c from : Cursor) (q : ℕ) (enter : Option ℕ) (env w : List ℕ) → suc c.block < f.total → f.start_at (suc c.block) ≡ join_start mask c from q enter
-      → length from.env ≡ f.size → length env ≡ f.size → Sub from.seen w → Follows (suc c.block) (length (picked mask env)) w
+      → length from.env ≡ f.size → length env ≡ f.size → Sub from.seen w → Ahead (suc c.block) (length (picked mask env)) w
   joins mask c from q enter env w l e m n s = opens f.start_at f.total (join_start mask c from q enter) l e (params_long mask c.values from.env env (m ∙ sym n)) s
 
   -- a block without parameters follows
-  plains : (c : Cursor) (q : ℕ) (v w : List ℕ) → suc c.block < f.total → f.start_at (suc c.block) ≡ plain q v → Sub v w → Follows (suc c.block) 0 w
+  plains : (c : Cursor) (q : ℕ) (v w : List ℕ) → suc c.block < f.total → f.start_at (suc c.block) ≡ plain q v → Sub v w → Ahead (suc c.block) 0 w
   plains c q v w l e s = opens f.start_at f.total (plain q v) l e refl s
 
   abbrev choose_rest : Mask → Cursor → Fork → Deed → Deed → List Piece
@@ -446,7 +446,7 @@ module _ (f : Frame) where
 
   -- the header, as each guard sees it: it follows with as many values as there are variables in the mask
   abbrev Heads : Mask → ℕ → List ℕ → Type 0
-  Heads mask head w = (env : List ℕ) → length env ≡ f.size → Follows head (length (picked mask env)) w
+  Heads mask head w = (env : List ℕ) → length env ≡ f.size → Ahead head (length (picked mask env)) w
 
   goes_rounds : (w : List ℕ) (mask : Mask) → Masks mask f.regs → (head outside : ℕ) (rs : List Round) → Each (Both w) rs
       → (c : Cursor) → Sub w c.seen → Known c.env c.seen → Heads mask head c.seen → Begins (rounds mask head outside rs c).pieces → Goes OfNone c (rounds mask head outside rs c)
@@ -485,7 +485,7 @@ module _ (f : Frame) where
     by = λ c s e h.
         let head = join mask c c (often c.freq) in
         let ps = params mask c.values c.env in
-        let follows : (env v : List ℕ) → length env ≡ f.size → Sub c.seen v → Follows head.block (length (picked mask env)) v = λ env v n s. joins mask c c head.freq (Some c.block) env v h.0 h.1 e.long n s in
+        let follows : (env v : List ℕ) → length env ≡ f.size → Sub c.seen v → Ahead head.block (length (picked mask env)) v = λ env v n s. joins mask c c head.freq (Some c.block) env v h.0 h.1 e.long n s in
         let a = goes_rounds w mask m head.block c.freq rs q head (λ v i. behind_all ps c.seen v (s v i)) (join_known mask c c (often c.freq) e) (λ env n. follows env head.seen n (behind_all ps c.seen)) h.2 in
         let within = h.0 in
         record {
@@ -510,7 +510,7 @@ module _ (f : Frame) where
         let h_more = right one.pieces (tests ++ last) h.2 in
         let h_t = left tests last h_more in
         let h_last = right tests last h_more in
-        let follows : (env v : List ℕ) → length env ≡ f.size → Sub c.seen v → Follows head.block (length (picked mask env)) v = λ env v n s. joins mask c c head.freq (Some c.block) env v h.0 h.1 e.long n s in
+        let follows : (env v : List ℕ) → length env ≡ f.size → Sub c.seen v → Ahead head.block (length (picked mask env)) v = λ env v n s. joins mask c c head.freq (Some c.block) env v h.0 h.1 e.long n s in
         let a = q.by head (λ v i. behind_all ps c.seen v (s v i)) (join_known mask c c (often c.freq) e) (left one.pieces (tests ++ last) h.2) in
         let e_x = known_after l one.after a.env in
         let within = h.0 in
@@ -543,10 +543,10 @@ module _ (f : Frame) where
   Among w n r = Leading w r.test × (r.part < n)
 
   abbrev Parts : (to : ℕ → ℕ) (n : ℕ) → List ℕ → Type 0
-  Parts to n w = (i : ℕ) → i < n → Follows (to i) 0 w
+  Parts to n w = (i : ℕ) → i < n → Ahead (to i) 0 w
 
   sound_ladder : (w : List ℕ) (n last : ℕ) (rs : List Rung) → Each (Among w n) rs → (to : ℕ → ℕ) (c : Cursor)
-      → Sub w c.seen → Known c.env c.seen → Begins ((ladder last rs c).pieces to) → Parts to n c.seen → Goes_on c.seen ((ladder last rs c).pieces to) (ladder last rs c).after.seen
+      → Sub w c.seen → Known c.env c.seen → Begins ((ladder last rs c).pieces to) → Parts to n c.seen → Certified c.seen ((ladder last rs c).pieces to) (ladder last rs c).after.seen
   sound_ladder w n last [] q to c s e h k = (tt, plains c last c.seen c.seen h.0 h.1 (λ v i. i), tt, refl)
   sound_ladder w n last (r ∷ []) q to c s e h k =
       let d = (r.test c).after in
@@ -571,7 +571,7 @@ module _ (f : Frame) where
 
   sound_limbs : (w : List ℕ) (mask : Mask) → Masks mask f.regs → (s : Cursor) (bodies : List Deed) → Each (λ (b : Deed). Scoped OfNone w b) bodies → (c : Cursor) (end : ℕ → End) (out : ℕ)
       → Sub w s.seen → Known s.env s.seen → Sub s.seen c.seen → Ends end mask out c.seen → Heads mask out s.seen → Begins ((limbs mask s bodies c end).pieces out)
-      → Goes_on c.seen ((limbs mask s bodies c end).pieces out) (limbs mask s bodies c end).after.seen
+      → Certified c.seen ((limbs mask s bodies c end).pieces out) (limbs mask s bodies c end).after.seen
   sound_limbs w mask m s [] q c end out i e k n v h = let r = n (λ env l. up k (v env l)) in (r.0, r.1, tt, refl)
   sound_limbs w mask m s (body ∷ bodies) q c end out i e k n v h =
       let start : Cursor = record (fresh c) { freq = half s.freq; env = s.env; seen = s.seen } in
@@ -605,7 +605,7 @@ module _ (f : Frame) where
       let one = body start in
       limbs_after mask s bodies one.after (λ to. Jump to (picked mask one.after.env)) e
 
-  before_by : (b : ℕ) (starts : ℕ → ℕ) (n : ℕ) (w : List ℕ) → Follows b 0 w → Parts starts n w → Parts (before b starts) (suc n) w
+  before_by : (b : ℕ) (starts : ℕ → ℕ) (n : ℕ) (w : List ℕ) → Ahead b 0 w → Parts starts n w → Parts (before b starts) (suc n) w
   before_by b starts n w p q zero l = p
   before_by b starts n w p q (suc i) l = q i (omega (arith, l))
 
@@ -620,7 +620,7 @@ module _ (f : Frame) where
 
   -- how a CASE without a match goes on: nothing is read but what the jump takes, and it leads to the join alone
   abbrev pub Quiet : (ℕ → List ℕ → End) → Type 0
-  Quiet unmatched = (args w : List ℕ) (out : ℕ) → AllIn args w → Follows out (length args) w → AllIn (end_uses (unmatched out args)) w × Leads f.start_at f.total w (unmatched out args)
+  Quiet unmatched = (args w : List ℕ) (out : ℕ) → AllIn args w → Ahead out (length args) w → AllIn (end_uses (unmatched out args)) w × Leads f.start_at f.total w (unmatched out args)
 
   pub cases : {w : List ℕ} (mask : Mask) → Masks mask f.regs → (rungs : List Rung) (bodies : List Deed) (unmatched : ℕ → List ℕ → End) → Quiet unmatched
       → Each (Among w (length bodies)) rungs → Each (λ (b : Deed). Scoped OfNone w b) bodies → Scoped OfNone w (case mask rungs bodies unmatched)

@@ -1,5 +1,5 @@
 -- What is well-formed has parts that are.
-use Rattle.std.proofs.Common.{◌≡◌, ℕ, List, [], ◌∷◌, Bool, true, false, ◌&&◌, Option, Some, None, refl, ap, ◌∙◌, sym, subst}
+use Rattle.std.proofs.Common.{◌≡◌, ℕ, List, [], ◌∷◌, Bool, true, false, Option, Some, None, refl}
 use Rattle.std.specs.Prelude.{is_some, slice_get}
 use Rattle.ob_types.specs.Forms.{Form, Truth, Number, ToRecord}
 use Rattle.ob_types.specs.LegalTypes.{is_record_type}
@@ -9,11 +9,11 @@ use Rattle.ob_types.specs.Layout.{record_of, types_of}
 use Rattle.ob_types.specs.declared.tree.Binary.{Binary}
 use Rattle.ob_types.specs.declared.program.Program.{Program}
 use Rattle.ob_types.specs.declared.statements.Checked.{Checked}
-use Rattle.ob_types.specs.declared.tree.Expr.{Expr, Literal, Routine, Load, Guard, Unary', Chain', Compare', CompareTexts', In', IsPointer', IsParameter, Byte', Length, Call', Row_of-Link, end_of-Link, more_of-Link}
+use Rattle.ob_types.specs.declared.tree.Expr.{Expr, Row_of-Link, end_of-Link, more_of-Link}
 use Rattle.ob_types.specs.declared.tree.Link.{Link, Operate, And, Or, Element, Elements}
-use Rattle.ob_types.specs.declared.tree.Designator.{Designator, Whole, Part', Row_of-Selector, end_of-Selector, more_of-Selector}
+use Rattle.ob_types.specs.declared.tree.Designator.{Row_of-Selector, end_of-Selector, more_of-Selector}
 use Rattle.ob_types.specs.declared.tree.Selector.{Selector, Index, Field, Dereference, Narrow}
-use Rattle.ob_types.proofs.Tests.{no, and_of}
+use Rattle.ob_types.proofs.Tests.{no}
 
 -- there is one
 abbrev pub Is : {A : Type 0} → Option A → Type 0

@@ -1,8 +1,8 @@
 -- The code of each construct keeps what `Scoped` says, and so does a whole procedure's.
-use Rattle.std.proofs.Common.{◌≡◌, ⊎_elim, inl, inr, ℕ, zero, suc, ◌+◌, ◌*◌, ◌-◌, ◌<◌, List, [], ◌∷◌, ◌++◌, map, take, length, Bool, true, false, Option, Some, None, refl, sym, ap, ◌∙◌, subst, slice_get, arith, ℤ}
-use Rattle.std.specs.Prelude.{if◌then◌else◌, ◌&&◌, option_to_list, slice_index_or, pos, int_lt}
+use Rattle.std.proofs.Common.{◌≡◌, ℕ, zero, suc, ◌+◌, ◌*◌, ◌-◌, ◌<◌, List, [], ◌∷◌, ◌++◌, map, take, length, Bool, true, false, Option, Some, None, refl, sym, ap, ◌∙◌, slice_get, arith, ℤ}
+use Rattle.std.specs.Prelude.{if◌then◌else◌, option_to_list, pos, int_lt}
 use Rattle.wrapping_numbers.specs.Numbers.{unsigned}
-use Rattle.ob_types.specs.Layout.{kind_of, record_cells}
+use Rattle.ob_types.specs.Layout.{record_cells}
 use Rattle.ob_types.specs.Meaning.{kind_in, length_of_kind, element_kind, record_of_kind, is_byte}
 use Rattle.ob_types.specs.declared.types.TypeKind.TheVariants.{Char}
 use Rattle.ob_types.specs.declared.types.TypeKind.TheVariants.{Bool as Boolean}
@@ -29,22 +29,22 @@ use Rattle.ob_types.specs.declared.statements.Label.TheVariants.{One, Range}
 use Rattle.ob_types.specs.declared.statements.Stmt.{Stmt, Assign, CopyArray, CopyRecord, Increase, Decrease, Include, Exclude, New, Assert, OutChar, OutInt, OutString, OutLn, InChar, If', While', Repeat', For', Case', CasePointer', CaseParameter', Row_of-Stmt, end_of-Stmt, more_of-Stmt, Row_of-Branch, end_of-Branch, more_of-Branch, Row_of-CasePart, end_of-CasePart, more_of-CasePart, Row_of-TypePart, end_of-TypePart, more_of-TypePart}
 use Rattle.ob_types.specs.declared.statements.Stmt.{Call as Invoke}
 use Rattle.ob_types.specs.declared.program.Program.{Program}
-use Rattle.block_runs.specs.declared.code.Code.TheVariants.{Svc, Max0, Copy, Fits, Set, True, Const, Plus, Call, CallAt, StoreByte, Arg, Zero, Mul, MulAdd, Below, NotNil, GuardPtr, GuardTag, IsPtr, IsTag, Bic, Compare, Elem, Has, Bit, Span, Or, Byte}
+use Rattle.block_runs.specs.declared.code.Code.TheVariants.{Svc, Max0, Copy, Fits, Set, True, Const, Plus, Call, CallAt, StoreByte, Mul, MulAdd, Below, NotNil, GuardPtr, GuardTag, IsPtr, IsTag, Bic, Compare, Elem, Has, Bit, Span, Or, Byte}
 use Rattle.block_runs.specs.declared.code.Code.TheVariants.{Local as LocalOp, Global as GlobalOp, New as NewOp, Store as StoreOp, Load as LoadOp}
 use Rattle.block_runs.specs.declared.end.End.{End}
 use Rattle.block_runs.specs.declared.end.End.TheVariants.{Jump, Trap}
 use Rattle.ssa_lowered.specs.Data.{Layout, rounded}
-use Rattle.ssa_lowered.specs.Pieces.{Cursor, Low, skip, give, ◌>>=◌, emits, does, Mask, rest, numbers}
+use Rattle.ssa_lowered.specs.Pieces.{Low, skip, give, ◌>>=◌, does, Mask}
 use Rattle.ssa_lowered.specs.Values.{const, condition, Named, At, Beside, Object, Held, past, address_in, second, length_in, bytes_in, address, data_at, local_at, element, field, dereferenced, narrowed, one_operand, two_operands, included, unary, binary, compared, texts_compared, guarded, member, contained, with_element, with_range, is_pointer, is_tag, tag_of, tag_in, as_byte, length_of, by_word, by_record, by_open, also, Request, call, call_at, with_result, without_result, home_in, home_of, load, Home, current, change, store}
 use Rattle.ssa_lowered.specs.Values.{Register as InRegister, Memory as InMemory}
-use Rattle.ssa_lowered.specs.Control.{Test, fork_value, fork_branch, Lowers, valued, tested, Round, for, Rung}
+use Rattle.ssa_lowered.specs.Control.{Test, fork_branch, Lowers, valued, tested, for, Rung}
 use Rattle.ssa_lowered.specs.Statements.{Deed, assign, change_number, change_set, new, fits, copy_array, copy_record, assert, out_char, out_int, out_string, in_char}
-use Rattle.ssa_lowered.specs.Variables.{Site, Register, Memory, Variable, some_structured, further, zeroing, first_value, store_first, stored, first_of, opened, is_structured, either, assigned_all, assigned_branches, words_of}
-use Rattle.ssa_lowered.specs.Lowered.{Here, by_mode, one_of, parameter_by, variable_of, local_by, based, descriptor, level, all_guarded, small, expr, linked, link, named, selected, select, called, argument, arguments, value, test, home, in_register, registers, label_test, type_test, rungs_from, case_of, labels_of, records_of, label_tests, type_tests, bound, deed, deeds, alternatives, guarded_rounds, case_bodies, type_bodies, deeds_of, answer, enters, whole}
+use Rattle.ssa_lowered.specs.Variables.{Site, Register, Memory, either, assigned_all, assigned_branches, words_of}
+use Rattle.ssa_lowered.specs.Lowered.{Here, by_mode, one_of, parameter_by, variable_of, local_by, based, descriptor, level, all_guarded, small, expr, linked, link, named, selected, select, called, argument, arguments, value, test, home, in_register, registers, label_test, type_test, rungs_from, case_of, labels_of, records_of, label_tests, type_tests, bound, deed, deeds, alternatives, guarded_rounds, case_bodies, type_bodies, deeds_of, answer}
 use Rattle.ssa_lowered.proofs.Everywhere.{Each, each_on}
-use Rattle.ob_types.proofs.Tests.{no, and_of}
+use Rattle.ob_types.proofs.Tests.{and_of}
 use Rattle.lowered_valid.proofs.Lists.{In, Sub, AllIn, up_all, all_on}
-use Rattle.lowered_valid.proofs.Scoped.{Frame, OfValue, OfNone, Known, Goes, Scoped, Leading, Begins, Goes_on, Both, Among, Quiet, Env, up_env, Masks, starts_left, starts_right, sound_on, bind, gives, gives_first, lift, emitted, done, variables, becoming, f_value, f_branch, f_not, f_and, f_or, flags, chooses, loops, repeats, cases}
+use Rattle.lowered_valid.proofs.Scoped.{Certificate, OfValue, OfNone, Scoped, Leading, Both, Among, Quiet, Masks, bind, gives, gives_first, lift, emitted, done, variables, becoming, f_value, f_branch, f_not, f_and, f_or, flags, chooses, loops, repeats, cases}
 
 condition_few : (r : Relation) → condition r < 14
 condition_few Equal = omega arith
@@ -91,7 +91,7 @@ up_home regs v w (InMemory a is_small) s i = s a i
 abbrev OfRequest : Request → List ℕ → Type 0
 OfRequest r w = AllIn r.words w
 
-module _ (f : Frame) where
+module _ (f : Certificate) where
   abbrev Value : List ℕ → Low ℕ → Type 0
   Value w m = Scoped f OfValue w m
 

@@ -1,27 +1,26 @@
 -- A whole procedure, from its entry on.
-use Rattle.std.proofs.Common.{◌≡◌, ⊎_elim, inl, inr, ℕ, zero, suc, ◌+◌, ◌-◌, List, [], ◌∷◌, ◌++◌, length, take, map, Bool, true, false, Option, Some, None, refl, sym, ap, ◌∙◌, subst, slice_get, arith}
-use Rattle.std.specs.Prelude.{if◌then◌else◌, slice_index_or}
+use Rattle.std.proofs.Common.{◌≡◌, ⊎_elim, inl, inr, ℕ, zero, suc, ◌-◌, List, [], ◌∷◌, length, take, Bool, true, false, Option, Some, None, refl, sym, ap, ◌∙◌, subst, slice_get}
+use Rattle.std.specs.Prelude.{slice_index_or}
 use Rattle.ob_types.specs.Layout.{kind_of}
 use Rattle.ob_types.specs.declared.types.Formal.{Formal}
 use Rattle.ob_types.specs.declared.program.Program.{Program}
 use Rattle.block_runs.specs.declared.code.Code.TheVariants.{Arg, Zero}
 use Rattle.block_runs.specs.declared.code.Code.TheVariants.{Local as LocalOp}
 use Rattle.ssa_lowered.specs.Data.{Layout}
-use Rattle.ssa_lowered.specs.Pieces.{Cursor, Made, Low, give, ◌>>=◌, emits, does, Mask, rest, numbers}
-use Rattle.ssa_lowered.specs.Values.{const, store}
+use Rattle.ssa_lowered.specs.Pieces.{Cursor, Low, ◌>>=◌, emits, Mask, rest, numbers}
 use Rattle.ssa_lowered.specs.Variables.{Site, Register, Memory, Variable, some_structured, is_structured, further, zeroing, first_value, store_first, stored, first_of, opened, words_of}
 use Rattle.ssa_lowered.specs.Lowered.{Here, by_mode, variable_of, in_register, deeds_of, answer, enters, whole}
 use Rattle.ssa_lowered.proofs.Everywhere.{Each}
 use Rattle.ob_types.proofs.Tests.{no}
-use Rattle.lowered_valid.proofs.Lists.{In, Sub, AllIn}
-use Rattle.lowered_valid.proofs.Scoped.{Frame, OfValue, OfNone, Known, Goes, Scoped, Begins, Goes_on, Env, up_env, up_known, starts_left, starts_right, sound_on, bind, gives, gives_first, lift, emitted, done}
+use Rattle.lowered_valid.proofs.Lists.{In, Sub}
+use Rattle.lowered_valid.proofs.Scoped.{Certificate, OfValue, OfNone, Known, Scoped, Begins, Certified, Env, up_env, starts_left, starts_right, sound_on, bind, gives, gives_first, lift, emitted, done}
 use Rattle.lowered_valid.proofs.Tree.{OfWord, OfAnswer, OfNamed, s_const, s_skip, s_store, s_if, s_rest}
 
 -- as `Scoped`, but for the variables behind it
-pub record Ending {A : Type 0} (f : Frame) (P : A → List ℕ → Type 0) (w : List ℕ) (m : Low A) : Type 0 where
-  pub by : (c : Cursor) → Sub w c.seen → Known f c.env c.seen → Begins f (m c).pieces → Goes_on f c.seen (m c).pieces (m c).after.seen × P (m c).result (m c).after.seen
+pub record Ending {A : Type 0} (f : Certificate) (P : A → List ℕ → Type 0) (w : List ℕ) (m : Low A) : Type 0 where
+  pub by : (c : Cursor) → Sub w c.seen → Known f c.env c.seen → Begins f (m c).pieces → Certified f c.seen (m c).pieces (m c).after.seen × P (m c).result (m c).after.seen
 
-bind_end : {A B : Type 0} {f : Frame} {P : A → List ℕ → Type 0} {Q : B → List ℕ → Type 0} {w : List ℕ} {m : Low A} {k : A → Low B}
+bind_end : {A B : Type 0} {f : Certificate} {P : A → List ℕ → Type 0} {Q : B → List ℕ → Type 0} {w : List ℕ} {m : Low A} {k : A → Low B}
     → Scoped f P w m → ((a : A) (x : List ℕ) → Sub w x → P a x → Ending f Q x (k a)) → Ending f Q w (m >>= k)
 bind_end {A} {B} {f} {P} {Q} {w} {m} {k} p q = record {
   by = λ c s e h.
@@ -33,16 +32,16 @@ bind_end {A} {B} {f} {P} {Q} {w} {m} {k} p q = record {
 }
 
 -- before the variables have values there are none
-abbrev pub before_all : Frame → Frame
+abbrev pub before_all : Certificate → Certificate
 before_all f = record f { size = 0 }
 
 further_env : (i n : ℕ) (c : Cursor) → (further i n c).after.env ≡ c.env
 further_env i zero c = refl
 further_env i (suc n) c = further_env (suc i) n (emits (Arg i) [] c).after
 
-module _ (f : Frame) where
+module _ (f : Certificate) where
   -- the further argument words are seen behind them
-  further_goes : (i n : ℕ) (c : Cursor) → Goes_on f c.seen (further i n c).pieces (further i n c).after.seen × (Sub c.seen (further i n c).after.seen × Sub (numbers c.values n) (further i n c).after.seen)
+  further_goes : (i n : ℕ) (c : Cursor) → Certified f c.seen (further i n c).pieces (further i n c).after.seen × (Sub c.seen (further i n c).after.seen × Sub (numbers c.values n) (further i n c).after.seen)
   further_goes i zero c = (refl, ((λ v j. j), (λ v j. absurd j)))
   further_goes i (suc n) c =
       let d = (emits (Arg i) [] c).after in
@@ -87,7 +86,7 @@ module _ (f : Frame) where
     s_opened (v ∷ vs) r e i = bind f (s_first_of v.word v.site i.0) (λ u w1 s1 iu. bind f (lift f w1 (s_opened vs (rest r) (λ x. e (suc x)) i.1)) (λ more w2 s2 im.
         gives f (u ∷ more) (λ x s. (((λ q. s u (s2 u (iu (e 0 ∙ q)))), up_env f.given (rest r) more w2 x s im.0), ap suc im.1))))
 
-module _ (f : Frame) (p : Program) (l : Layout) (here : Here)
+module _ (f : Certificate) (p : Program) (l : Layout) (here : Here)
     (same : (x : ℕ) → in_register p l here (variable_of p l here x).site ≡ f.regs x)
     (words : (k : ℕ) (x : Formal) → slice_get here.procedure.formals k ≡ Some x → OfNamed f.regs (by_mode x.mode (words_of (take k here.procedure.formals))) f.given)
     (many : length here.variables ≡ f.size)
@@ -115,7 +114,7 @@ module _ (f : Frame) (p : Program) (l : Layout) (here : Here)
 
   -- from a cursor without variables, where the given values are those seen there and the further argument words
   pub sound_whole : (count zeroed : ℕ) (c : Cursor) → c.env ≡ [] → ((w : List ℕ) → Sub c.seen w → Sub (numbers c.values (count - 4)) w → Sub f.given w) → Begins f (whole p l here count zeroed c).pieces
-      → Goes_on f c.seen (whole p l here count zeroed c).pieces (whole p l here count zeroed c).after.seen × OfAnswer (whole p l here count zeroed c).result (whole p l here count zeroed c).after.seen
+      → Certified f c.seen (whole p l here count zeroed c).pieces (whole p l here count zeroed c).after.seen × OfAnswer (whole p l here count zeroed c).result (whole p l here count zeroed c).after.seen
   sound_whole count zeroed c empty g h =
       let a = further 4 (count - 4) c in
       let b = behind_words zeroed a.after in
