@@ -1,0 +1,16 @@
+mod Lists
+mod Scoped
+mod Tree
+mod Whole
+mod Numbered
+mod Blocks
+mod Words
+mod Once
+mod Procedures
+mod Suits
+mod Fitting
+mod FittingTree
+mod Bounds
+mod Bodies
+mod Valid
+mod Samples
