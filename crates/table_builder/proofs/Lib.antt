@@ -1,0 +1,6 @@
+pub mod Lists
+pub mod Shapes
+pub mod Meaning
+pub mod Apart
+pub mod Growth
+pub mod Pushing

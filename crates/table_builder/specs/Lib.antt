@@ -1,0 +1,5 @@
+pub mod Entries
+pub mod Sound
+pub mod Growing
+pub mod Index
+pub mod Built
