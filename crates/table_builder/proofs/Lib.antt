@@ -4,3 +4,5 @@ pub mod Meaning
 pub mod Apart
 pub mod Growth
 pub mod Pushing
+pub mod Indexing
+pub mod Built

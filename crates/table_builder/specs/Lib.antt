@@ -2,4 +2,5 @@ pub mod Entries
 pub mod Sound
 pub mod Growing
 pub mod Index
-pub mod Built
+pub mod Contents
+pub mod Builder
