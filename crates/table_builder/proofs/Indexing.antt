@@ -13,7 +13,7 @@ use Rattle.judged_tree.specs.Tables.{same_parameters, same_signatures}
 use Rattle.check_types.specs.declared.types.TypeRef.{TypeRef}
 use Rattle.check_types.specs.declared.types.TypeRef.TheVariants as TheType
 use Rattle.table_builder.specs.Index.{Notes, array_parts, open_parts, bit, signature_parts, number_in, IsIndex, HasSignature, IndexesSignatures}
-use Rattle.table_builder.proofs.Lists.{get_left, get_last, get_from}
+use Rattle.table_builder.proofs.Lists.{get_left, get_last, get_from, one_more}
 
 -- a type is noted that was not, and nothing else is
 pub record IsNoted (old new : Notes) (of : TypeRef) (n : ℕ) : Type 0 where
@@ -40,17 +40,6 @@ module _ (old new : Notes) (es : List TypeRef) (of : TypeRef) (noted : IsNoted o
           by (inl g) (inl is) = absurd (fresh n (g ∙ ap (λ x. Some x) is))
           by (inl g) (inr is) = is ∙ ok.all e n g
           by (inr g) is = ap (number_in new) (sym g.1) ∙ noted.here ∙ ap (λ m. Some m) (sym g.0)
-
--- one more of a list
-one_more : (xs : List ℕ) (x r : ℕ) → (r ≡ length xs) ⊎ (slice_get (xs ++ x ∷ []) r ≡ slice_get xs r)
-one_more [] x zero = inl refl
-one_more [] x (suc r) = inr refl
-one_more (y ∷ xs) x zero = inr refl
-one_more (y ∷ xs) x (suc r) = further (one_more xs x r)
-  where
-    further : (r ≡ length xs) ⊎ (slice_get (xs ++ x ∷ []) r ≡ slice_get xs r) → (suc r ≡ suc (length xs)) ⊎ (slice_get (xs ++ x ∷ []) r ≡ slice_get xs r)
-    further (inl e) = inl (ap suc e)
-    further (inr e) = inr e
 
 pub record_noted : (s : Notes) (n : ℕ) → IsNoted s (record s { records = s.records ++ n ∷ [] }) (TheType.Record (length s.records)) n
 record_noted s n = record { here = get_last s.records n; others = others }

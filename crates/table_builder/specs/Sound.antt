@@ -23,3 +23,8 @@ pub record IsNext (signatures : List Signature) (entries : List TypeRef) (e : Ty
   pub parts : HasParts signatures (length entries) e
   pub new : (n : ℕ) → slice_get entries n ≡ Some e → ⊥
   pub pointer : (p : ℕ) → e ≡ TheType.Pointer p → p ≡ length (pointers_of entries)
+
+-- a procedure type that isn't there yet
+pub record IsNewSignature (signatures : List Signature) (x : Signature) : Type 0 where
+  pub before : (g : ℕ) (y : Signature) → slice_get signatures g ≡ Some y → same_signatures (Some x) (Some y) ≡ true → ⊥
+  pub behind : (g : ℕ) (y : Signature) → slice_get signatures g ≡ Some y → same_signatures (Some y) (Some x) ≡ true → ⊥
