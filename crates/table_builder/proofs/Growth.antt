@@ -59,6 +59,10 @@ module _ (t u : Table) (es fs : List TypeRef) (bs cs : List (Option ℕ)) (old :
   pub number_means : (k : ℕ) → k < length es → shape_of u k ≡ shape_of t k
   number_means k l = let e = there es k l in stays_to (suc k) k e.0 (omega arith) e.1
 
-  -- and so does a type that has one
+  -- and so do parameters
+  pub formals_mean : (xs : List Formal) → are_before (length es) xs → formals_shape (shapes_of u) xs ≡ formals_shape (shapes_of t) xs
+  formals_mean xs h = formals_stay (length es) (omega arith) (stays_to (length es)) xs h
+
+  -- and a type that has a number
   pub type_means : (k : ℕ) (e : TypeRef) → slice_get es k ≡ Some e → type_shape u e ≡ type_shape t e
   type_means k e h = from_parts k e (let l = slice_get_within es k e h in omega (arith, l)) (λ i f m g. stays_to (suc i) i f (omega arith) g) (old.parts k e h)

@@ -6,3 +6,5 @@ pub mod Growth
 pub mod Pushing
 pub mod Indexing
 pub mod Built
+pub mod Calls
+pub mod Known

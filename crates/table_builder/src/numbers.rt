@@ -1,6 +1,6 @@
 //! Which number a type has.
 
-ghost use Rattle.std.specs.Prelude.{◌≡◌, List, ℕ, [], ◌∷◌, Some, None, OnOk, OnErr, cond};
+ghost use Rattle.std.specs.Prelude.{◌≡◌, List, ℕ, [], ◌∷◌, ◌++◌, Some, None, OnOk, OnErr, cond};
 ghost use Rattle.std.specs.Str.{bytes_eq};
 ghost use Rattle.check_steps.specs.Maps.{at_bytes};
 ghost use Rattle.table_builder.specs.Index.{number_in, array_parts, open_parts};
@@ -100,6 +100,30 @@ impl Numbers {
             TypeRef::Record(r) => at(&self.records, r),
             TypeRef::Pointer(p) => at(&self.pointers, p),
             TypeRef::Procedure(g) => at(&self.procedures, g),
+        }
+    }
+
+    /// Notes the number g of a procedure type by its parts, and the number n of the type.
+    pub fn note_procedure(
+        &mut self,
+        alloc: Global,
+        parts: &[u32],
+        g: u32,
+        n: u32,
+    ) -> Result<(), Memory>
+        ensures procedures { OnOk result (self.new.procedures.items ≡ self.old.procedures.items ++ n ∷ []) }
+        ensures signatures { OnOk result ((q : List ℕ) → at_bytes self.new.signatures q ≡ cond (bytes_eq parts.now q) (Some g) (at_bytes self.old.signatures q)) }
+        ensures others { self.new ≡ record self.old { procedures = self.new.procedures; signatures = self.new.signatures } }
+        ensures same_procedures { OnErr result (self.new.procedures.items ≡ self.old.procedures.items) }
+        ensures same_signatures { OnErr result ((q : List ℕ) → at_bytes self.new.signatures q ≡ at_bytes self.old.signatures q) }
+    {
+        self.procedures.push(n)?;
+        match note(&mut self.signatures, alloc, parts, g) {
+            Ok(()) => Ok(()),
+            Err(memory) => {
+                self.procedures.pop();
+                Err(memory)
+            }
         }
     }
 }
