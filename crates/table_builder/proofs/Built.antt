@@ -69,7 +69,7 @@ module _ (t u : Table) (es : List TypeRef) (means : (e : TypeRef) → IsNumbered
   field_stays None h = refl
   field_stays (Some f) h = ap (λ s. Some (record { adder = f.adder; number = f.number; shape = s; exported = f.exported; owner = f.owner })) (means f.of (h f refl))
 
-  layout_stays : (x : RecordType) (l : Layout) → IsRecordType es x l → IsClosed es l → layout_of u l ≡ layout_of t l
+  pub layout_stays : (x : RecordType) (l : Layout) → IsRecordType es x l → IsClosed es l → layout_of u l ≡ layout_of t l
   layout_stays x l h c =
       ap₂ (λ (as' : List AddedOf) (fs : List ℕ → Option FieldOf). record { module_number = l.module_number; line = l.line.items; added = as'; fields = fs; cells = l.cells })
       (added_stay x.fields l.added.items h.fields)

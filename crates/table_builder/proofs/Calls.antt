@@ -1,5 +1,5 @@
 -- One more record, pointer or procedure type, and what a pointer type points to.
-use Rattle.std.proofs.Common.{◌≡◌, ℕ, zero, suc, ◌+◌, ◌<◌, ◌≤◌, ◌-◌, List, [], ◌∷◌, ◌++◌, length, map, Bool, true, false, ◌&&◌, cond, Option, Some, None, option_map, refl, sym, ap, ap₂, ◌∙◌, subst, arith, eqb-true, ◌⊎◌, inl, inr}
+use Rattle.std.proofs.Common.{◌≡◌, ℕ, zero, suc, ◌+◌, ◌<◌, ◌≤◌, ◌-◌, List, [], ◌∷◌, ◌++◌, length, get_or, map, Bool, true, false, ◌&&◌, cond, Option, Some, None, option_map, refl, sym, ap, ap₂, ◌∙◌, subst, arith, eqb-true, ◌⊎◌, inl, inr}
 use Rattle.std.specs.Prelude.{◌==◌, slice_get, slice_set}
 use mathlib.Core.Path.{fun_ext}
 use Rattle.std.specs.Str.{bytes_eq}
@@ -30,7 +30,7 @@ use Rattle.table_builder.specs.Entries.{IsNumbered, IsElement, is_whole, pointer
 use Rattle.table_builder.specs.Sound.{IsSound, IsNext, IsNewSignature}
 use Rattle.table_builder.specs.Growing.{Grows}
 use Rattle.table_builder.specs.Index.{Notes, signature_parts, number_in, IsIndex, HasSignature, IndexesSignatures, bit}
-use Rattle.table_builder.specs.Contents.{IsField, AreFields, IsRecordType, IsClosed, AreRecordTypes, IsBlank, base_in, Contents, notes_of, IsConsistent}
+use Rattle.table_builder.specs.Contents.{IsField, AreFields, IsRecordType, IsClosed, AreRecordTypes, IsBlank, base_in, AreElements, Contents, notes_of, IsConsistent}
 use Rattle.table_builder.specs.declared.numbers.Numbers.{Numbers}
 use Rattle.table_builder.proofs.Lists.{there, get_left, get_from, get_last}
 use Rattle.table_builder.proofs.Growth.{Extends, formals_mean, number_means}
@@ -356,3 +356,24 @@ procedure_shape t u old new g x at p q before =
 
 pub notes_same : (s r : Numbers) → r ≡ record s { procedures = r.procedures; signatures = r.signatures } → r.procedures.items ≡ s.procedures.items → ((q : List ℕ) → at_bytes r.signatures q ≡ at_bytes s.signatures q) → notes_of r ≡ notes_of s
 notes_same s r p q h = ap notes_of p ∙ ap₂ (λ (ps : List ℕ) (f : List ℕ → Option ℕ). record (notes_of s) { procedures = ps; signatures = f }) q (fun_ext h)
+
+-- ---- as many record types in both
+
+pub as_many : (es : List TypeRef) (xs : List RecordType) (ls : List Layout) → AreRecordTypes es xs ls → length xs ≡ length ls
+as_many es [] [] h = refl
+as_many es (x ∷ xs) (l ∷ ls) h = ap suc (as_many es xs ls h.2)
+as_many es [] (l ∷ ls) h = absurd h
+as_many es (x ∷ xs) [] h = absurd h
+
+-- ---- fields, one after the other
+
+pub fields_push : (es : List TypeRef) (f : Field) (a : Added) → IsField es f a → (xs : List Field) (as' : List Added) → AreFields es xs as' → AreFields es (xs ++ f ∷ []) (as' ++ a ∷ [])
+fields_push es f a h [] [] k = (h, tt)
+fields_push es f a h (x ∷ xs) (c ∷ as') k = (k.0, fields_push es f a h xs as' k.1)
+fields_push es f a h [] (c ∷ as') k = absurd k
+fields_push es f a h (x ∷ xs) [] k = absurd k
+
+pub element_at : (es : List TypeRef) (as' : List Added) (i : ℕ) (d : Added) → i < length as' → AreElements es as' → IsElement es (get_or as' i d).of
+element_at es [] i d l h = absurd (omega (arith, l))
+element_at es (a ∷ as') zero d l h = h.0
+element_at es (a ∷ as') (suc i) d l h = element_at es as' i d (omega (arith, l)) h.1

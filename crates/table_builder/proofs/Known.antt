@@ -16,10 +16,10 @@ use Rattle.check_types.specs.declared.table.TypeTable.{TypeTable}
 use Rattle.check_types.specs.Known.{layout_of, known_of}
 use Rattle.table_builder.specs.Sound.{IsSound}
 use Rattle.table_builder.specs.Growing.{Grows}
-use Rattle.table_builder.specs.Contents.{AreRecordTypes, IsBlank}
+use Rattle.table_builder.specs.Contents.{IsRecordType, IsClosed, AreRecordTypes, IsBlank}
 use Rattle.table_builder.proofs.Growth.{Extends}
 use Rattle.table_builder.proofs.Pushing.{extends_append, extends_self}
-use Rattle.table_builder.proofs.Built.{grown, known_grown}
+use Rattle.table_builder.proofs.Built.{grown, known_grown, layout_stays}
 use Rattle.table_builder.proofs.Calls.{blank_means}
 
 module _ (t u : TypeTable) (old : IsSound t.types t.entries.items t.bases.items) (new : IsSound u.types u.entries.items u.bases.items) where
@@ -59,3 +59,10 @@ module _ (t u : TypeTable) (g : Grows t u) (h : AreRecordTypes t.entries.items t
   map_set f [] n l = refl
   map_set f (k ∷ ls) zero l = refl
   map_set f (k ∷ ls) (suc n) l = ap (λ ks. f k ∷ ks) (map_set f ls n l)
+
+  pub known_layout : (r : ℕ) (x : RecordType) (l : Layout) → IsRecordType t.entries.items x l → IsClosed t.entries.items l → u.layouts.items ≡ slice_set t.layouts.items r l → u.bases.items ≡ t.bases.items
+      → known_of u ≡ record (known_of t) { records = slice_set (known_of t).records r (layout_of t.types l) }
+  known_layout r x l is c p q =
+      ap₂ (λ (ls : List LayoutOf) (bs : List (Option ℕ)). record { records = ls; bases = bs })
+      (ap (map (layout_of u.types)) p ∙ map_set (layout_of u.types) t.layouts.items r l
+      ∙ ap₂ (λ (ls : List LayoutOf) (k : LayoutOf). slice_set ls r k) (known_grown t u g h) (layout_stays t.types u.types t.entries.items g.shape x l is c)) q

@@ -8,3 +8,5 @@ pub mod Indexing
 pub mod Built
 pub mod Calls
 pub mod Known
+pub mod Basics
+pub mod Counts

@@ -4,3 +4,4 @@ pub mod Growing
 pub mod Index
 pub mod Contents
 pub mod Builder
+pub mod Cells

@@ -7,17 +7,19 @@ ghost use Rattle.judged_tree.specs.TypeShapes.{shape_of, shapes_of, formals_shap
 ghost use Rattle.judged_tree.specs.Tables.{are_before, is_before, IsFromTheFront, HasEachOnce};
 ghost use Rattle.check_steps.specs.Maps.{at_bytes};
 ghost use Rattle.check_types.specs.TypeMeaning.{type_shape};
-ghost use Rattle.check_types.specs.Known.{known_of};
+ghost use Rattle.check_types.specs.Known.{known_of, layout_of};
 ghost use Rattle.table_builder.specs.Entries.{IsNumbered, IsElement};
 ghost use Rattle.table_builder.specs.Growing.{Grows};
-ghost use Rattle.table_builder.specs.Index.{IsArray, signature_parts as parts_of};
+ghost use Rattle.table_builder.specs.Index.{IsArray, basic_types, signature_parts as parts_of};
 ghost use Rattle.table_builder.specs.Builder.{IsBuilt};
+ghost use Rattle.table_builder.specs.Contents.{IsReady};
 
 use crate::blanks::{blank_layout, blank_record};
-use crate::entries::{push_entry, push_pointer, push_procedure, push_record, set_target};
+use crate::entries::{push_entry, push_pointer, push_procedure, push_record, set_layout, set_target};
 use crate::numbers::{Numbers, forget, note};
 use crate::parts::signature_parts;
-use check_types::{TypeRef, TypeTable};
+use crate::start::{empty_table, push_basics};
+use check_types::{Layout, TypeRef, TypeTable};
 use items::Items;
 use ob_types::{Formal, Signature};
 use outside::Memory;
@@ -44,6 +46,21 @@ fn next_number<T>(items: &[T]) -> Result<u32, Memory>
 }
 
 impl TableBuilder {
+    /// A table with the basic types alone.
+    pub fn new(alloc: Global) -> Result<TableBuilder, Memory>
+        ensures built { IfOk result (λ b. IsBuilt b) }
+        ensures entries { IfOk result (λ b. b.table.entries.items ≡ basic_types) }
+        ensures known { IfOk result (λ b. known_of b.table ≡ record { records = []; bases = [] }) }
+    {
+        let mut table = empty_table(alloc);
+        push_basics(&mut table)?;
+        Ok(TableBuilder {
+            alloc,
+            table,
+            numbers: Numbers::new(alloc),
+        })
+    }
+
     /// The table as it is.
     pub fn table(&self) -> &TypeTable
         requires { IsBuilt self.now }
@@ -228,5 +245,20 @@ impl TableBuilder {
                 Err(memory)
             }
         }
+    }
+
+    /// What is known of a record type, once its fields are.
+    pub fn set_record(&mut self, r: u32, layout: Layout) -> Result<(), Memory>
+        requires built { IsBuilt self.old }
+        requires ready { IsReady self.old.table.entries.items layout }
+        requires there { r < length self.old.table.layouts.items }
+        ensures built { IsBuilt self.new }
+        ensures grows { Grows self.old.table self.new.table }
+        ensures known { OnOk result (known_of self.new.table ≡ record (known_of self.old.table) { records = slice_set (known_of self.old.table).records r (layout_of self.old.table.types layout) }) }
+        ensures same { OnErr result (known_of self.new.table ≡ known_of self.old.table) }
+    {
+        let declared = self.declared(&layout)?;
+        set_layout(&mut self.table, r, layout, declared);
+        Ok(())
     }
 }

@@ -166,3 +166,18 @@ pub fn set_target(table: &mut TypeTable, n: u32, p: u32, r: u32)
     table.bases[p as usize] = Some(r);
     table.types.set_kind(n as usize, TypeKind::Pointer(r));
 }
+
+/// What is known of a record type, and what the program has.
+pub fn set_layout(table: &mut TypeTable, r: u32, layout: Layout, declared: RecordType)
+    requires sound { IsSound table.old.types table.old.entries.items table.old.bases.items }
+    requires layout { r < length table.old.layouts.items }
+    requires declared { r < length table.old.types.records }
+    ensures types { table.new.types ≡ record table.old.types { records = slice_set table.old.types.records r declared } }
+    ensures layouts { table.new.layouts.items ≡ slice_set table.old.layouts.items r layout }
+    ensures sound { IsSound table.new.types table.new.entries.items table.new.bases.items }
+    ensures entries { table.new.entries ≡ table.old.entries }
+    ensures bases { table.new.bases ≡ table.old.bases }
+{
+    table.layouts[r as usize] = layout;
+    table.types.set_record(r as usize, declared);
+}

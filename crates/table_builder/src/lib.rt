@@ -3,8 +3,12 @@
 
 mod blanks;
 mod builder;
+mod cells;
 mod entries;
 mod numbers;
 mod parts;
+mod records;
+mod start;
 
 pub use builder::TableBuilder;
+pub use cells::{MOST_CELLS, capped};
