@@ -1,0 +1,68 @@
+-- What a builder keeps at its start.
+use Rattle.std.proofs.Common.{◌≡◌, ℕ, zero, suc, List, [], ◌∷◌, length, map, Option, Some, None, refl, sym, ap, ap₂, ◌∙◌, subst}
+use Rattle.std.specs.Prelude.{slice_get}
+use Rattle.ob_types.specs.Table.{Table}
+use Rattle.ob_types.specs.declared.types.TypeKind.{TypeKind}
+use Rattle.ob_types.proofs.Tests.{none_some, some_same}
+use Rattle.check_types.specs.declared.types.TypeRef.{TypeRef}
+use Rattle.check_types.specs.declared.types.TypeRef.TheVariants as TheType
+use Rattle.check_types.specs.declared.table.Layout.{Layout}
+use Rattle.table_builder.specs.Sound.{IsSound}
+use Rattle.table_builder.specs.Index.{Notes, number_in, basic_types, IsIndex, IndexesSignatures}
+use Rattle.table_builder.specs.Contents.{Contents, IsConsistent}
+use Rattle.table_builder.proofs.Built.{same_contents}
+
+abbrev pub no_notes : Notes
+no_notes = record { records = []; pointers = []; procedures = []; arrays = λ q. None; signatures = λ q. None }
+
+basic_at : (e : TypeRef) (n m : ℕ) → slice_get basic_types n ≡ Some e → Some n ≡ Some m → slice_get basic_types m ≡ Some e
+basic_at e n m h is = subst (λ k. slice_get basic_types k ≡ Some e) (some_same n m is) h
+
+basic_index : IsIndex no_notes basic_types
+basic_index = record { says = says; all = all }
+  where
+    says : (e : TypeRef) (n : ℕ) → number_in no_notes e ≡ Some n → slice_get basic_types n ≡ Some e
+    says TheType.Int n h = basic_at TheType.Int 0 n refl h
+    says TheType.Bool n h = basic_at TheType.Bool 1 n refl h
+    says TheType.Char n h = basic_at TheType.Char 2 n refl h
+    says TheType.Byte n h = basic_at TheType.Byte 3 n refl h
+    says TheType.Set n h = basic_at TheType.Set 4 n refl h
+    says TheType.Nothing n h = basic_at TheType.Nothing 5 n refl h
+    says TheType.Nil n h = none_some n h
+    says (TheType.Text m) n h = none_some n h
+    says (TheType.Array m e) n h = none_some n h
+    says (TheType.Open e) n h = none_some n h
+    says (TheType.Record r) n h = none_some n h
+    says (TheType.Pointer p) n h = none_some n h
+    says (TheType.Procedure g) n h = none_some n h
+
+    one : (f e : TypeRef) (n : ℕ) → number_in no_notes f ≡ Some n → Some f ≡ Some e → number_in no_notes e ≡ Some n
+    one f e n is h = ap (number_in no_notes) (sym (some_same f e h)) ∙ is
+
+    all : (e : TypeRef) (n : ℕ) → slice_get basic_types n ≡ Some e → number_in no_notes e ≡ Some n
+    all e zero h = one TheType.Int e 0 refl h
+    all e (suc zero) h = one TheType.Bool e 1 refl h
+    all e (suc (suc zero)) h = one TheType.Char e 2 refl h
+    all e (suc (suc (suc zero))) h = one TheType.Byte e 3 refl h
+    all e (suc (suc (suc (suc zero)))) h = one TheType.Set e 4 refl h
+    all e (suc (suc (suc (suc (suc zero))))) h = one TheType.Nothing e 5 refl h
+    all e (suc (suc (suc (suc (suc (suc n)))))) h = none_some e h
+
+start_built : (ks : List TypeKind) → IsSound (record { kinds = ks; records = []; signatures = [] }) basic_types [] → IsConsistent (record { types = record { kinds = ks; records = []; signatures = [] }; entries = basic_types; bases = []; layouts = []; notes = no_notes })
+start_built ks sound = record {
+  sound = sound;
+  index = basic_index;
+  signatures = record { says = λ parts g h. none_some g h; all = λ g x h. none_some x h };
+  layouts = tt;
+  records = refl;
+  pointers = refl;
+  bases = refl;
+  procedures = refl;
+}
+
+pub basics_built : (t : Table) (es : List TypeRef) (bs : List (Option ℕ)) (ls : List Layout) (s : Notes) → IsSound t es bs → t.records ≡ [] → t.signatures ≡ [] → es ≡ basic_types → bs ≡ [] → ls ≡ [] → s ≡ no_notes
+    → IsConsistent (record { types = t; entries = es; bases = bs; layouts = ls; notes = s })
+basics_built t es bs ls s sound r g q u v w =
+    let is : t ≡ record { kinds = t.kinds; records = []; signatures = [] } = ap₂ (λ xs ys. record { kinds = t.kinds; records = xs; signatures = ys }) r g in
+    same_contents (record { types = record { kinds = t.kinds; records = []; signatures = [] }; entries = basic_types; bases = []; layouts = []; notes = no_notes })
+    (start_built t.kinds (subst (λ z. IsSound z basic_types []) is (subst (λ fs. IsSound t fs []) q (subst (λ cs. IsSound t es cs) u sound)))) t es bs ls s is q u v w

@@ -1,0 +1,12 @@
+pub mod Lists
+pub mod Shapes
+pub mod Meaning
+pub mod Apart
+pub mod Growth
+pub mod Pushing
+pub mod Indexing
+pub mod Built
+pub mod Calls
+pub mod Known
+pub mod Basics
+pub mod Counts

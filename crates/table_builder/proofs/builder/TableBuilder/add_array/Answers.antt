@@ -1,0 +1,61 @@
+use Rattle.std.proofs.Common.{◌≡◌, ◌∙◌, sym, ap, refl, subst, length, Option, Some, None, Bool, true, false, ℕ}
+use Rattle.std.specs.Prelude.{is_some}
+use Rattle.ob_types.proofs.Tests.{no}
+use Rattle.table_builder.specs.Contents.{contents_of, notes_of}
+use Rattle.table_builder.proofs.Lists.{get_last}
+use Rattle.table_builder.proofs.Indexing.{IsWith}
+use Rattle.table_builder.proofs.Built.{array_next, same_contents, same_arrays, array_built, array_restored, table_pushed, known_pushed}
+use Rattle.table_builder.proofs.builder.TableBuilder.add_array.Goals as goal
+
+none_of : (o : Option ℕ) → is_some o ≡ false → o ≡ None
+none_of None h = refl
+none_of (Some n) h = no (sym h)
+
+some_of : (o : Option ℕ) → is_some o ≡ true → (n : ℕ) × (o ≡ Some n)
+some_of None h = no h
+some_of (Some n) h = (n, refl)
+
+pub returns-then-is_some-clause-numbered : goal.returns-then-is_some-clause-numbered
+returns-then-is_some-clause-numbered c =
+    let n = some_of c.find.result (sym c.is_some.ensures ∙ c.if-is_some.true) in
+    (n.0, c.requires.built.index.says c.args.of n.0 (sym c.find.ensures ∙ n.1))
+
+pub returns-in_err-note-clause-built : goal.returns-in_err-note-clause-built
+returns-in_err-note-clause-built c =
+    let b = contents_of c.args.self.now.table c.args.self.now.numbers in
+    same_contents b c.requires.built b.types b.entries b.bases b.layouts _ refl refl refl refl (same_arrays b.notes _ c.in_err-note.ensures.err)
+
+pub returns-in-Ok-clause-built : goal.returns-in-Ok-clause-built
+returns-in-Ok-clause-built c =
+    let b = contents_of c.args.self.now.table c.args.self.now.numbers in
+    let none = sym c.find.ensures ∙ none_of c.find.result (sym c.is_some.ensures ∙ c.if-is_some.false) in
+    let n = c.in_ok-n.ensures ∙ ap (λ es. length es) c.deref.ensures.value in
+    array_built b c.requires.built c.args.of c.args.parts.now c.requires.array none _ c.in_ok-n.n n c.in_ok-note.ensures.ok _ _ _ _
+    c.in-Ok.ensures.types c.in-Ok.ensures.entries (ap (λ bs. bs.items) c.in-Ok.ensures.bases) (ap (λ ls. ls.items) c.in-Ok.ensures.layouts)
+
+pub returns-in-Ok-clause-grows : goal.returns-in-Ok-clause-grows
+returns-in-Ok-clause-grows c =
+    table_pushed c.args.self.now.table c.push_entry.new.table c.requires.built.sound c.in-Ok.ensures.sound c.args.of c.in-Ok.ensures.types c.in-Ok.ensures.entries
+
+pub returns-in-Ok-clause-known : goal.returns-in-Ok-clause-known
+returns-in-Ok-clause-known c =
+    known_pushed c.args.self.now.table c.push_entry.new.table
+    (table_pushed c.args.self.now.table c.push_entry.new.table c.requires.built.sound c.in-Ok.ensures.sound c.args.of c.in-Ok.ensures.types c.in-Ok.ensures.entries)
+    c.requires.built.layouts c.in-Ok.ensures.layouts c.in-Ok.ensures.bases
+
+pub returns-in-Ok-clause-numbered : goal.returns-in-Ok-clause-numbered
+returns-in-Ok-clause-numbered c =
+    (length c.args.self.now.table.entries.items, ap (λ es. Rattle.std.specs.Prelude.slice_get es (length c.args.self.now.table.entries.items)) c.in-Ok.ensures.entries ∙ get_last c.args.self.now.table.entries.items c.args.of)
+
+pub returns-in-Err-clause-built : goal.returns-in-Err-clause-built
+returns-in-Err-clause-built c =
+    let b = contents_of c.args.self.now.table c.args.self.now.numbers in
+    let none = sym c.find.ensures ∙ none_of c.find.result (sym c.is_some.ensures ∙ c.if-is_some.false) in
+    same_contents b c.requires.built _ _ _ _ _ c.in-Err.ensures.same_types c.in-Err.ensures.same_entries (ap (λ bs. bs.items) c.in-Err.ensures.bases) (ap (λ ls. ls.items) c.in-Err.ensures.layouts)
+    (same_arrays b.notes _ (array_restored b c.requires.built c.args.of c.args.parts.now c.requires.array none c.in_ok-n.n _ _ c.in_ok-note.ensures.ok c.forget.ensures))
+
+pub push_entry-requires : goal.push_entry-requires
+push_entry-requires c =
+    let b = contents_of c.args.self.now.table c.args.self.now.numbers in
+    let none = sym c.find.ensures ∙ none_of c.find.result (sym c.is_some.ensures ∙ c.if-is_some.false) in
+    record { sound = c.requires.built.sound; next = array_next b c.requires.built c.args.of c.args.parts.now c.requires.array none }

@@ -1,0 +1,36 @@
+-- Entries of a table of types, by their numbers.
+use Rattle.std.specs.Prelude.{◌≡◌, ◌<◌, ℕ, List, [], ◌∷◌, Bool, true, false, Some, slice_get}
+use Rattle.ob_types.specs.declared.types.Signature.{Signature}
+use Rattle.judged_tree.specs.Tables.{is_before}
+use Rattle.check_types.specs.declared.types.TypeRef.{TypeRef}
+use Rattle.check_types.specs.declared.types.TypeRef.TheVariants as TheType
+
+-- a type has a number
+abbrev pub IsNumbered : List TypeRef → TypeRef → Type 0
+IsNumbered entries of = (n : ℕ) × (slice_get entries n ≡ Some of)
+
+-- a type that variables may have: no open array, and neither NIL's type, nor a string's, nor none
+abbrev pub is_whole : TypeRef → Bool
+is_whole (TheType.Open e) = false
+is_whole TheType.Nil = false
+is_whole TheType.Nothing = false
+is_whole (TheType.Text n) = false
+is_whole of = true
+
+-- one that has a number
+pub record IsElement (entries : List TypeRef) (of : TypeRef) : Type 0 where
+  pub numbered : IsNumbered entries of
+  pub whole : is_whole of ≡ true
+
+-- what an entry at this number is made of stands before it
+abbrev pub HasParts : List Signature → ℕ → TypeRef → Type 0
+HasParts signatures k (TheType.Array n e) = e < k
+HasParts signatures k (TheType.Open e) = e < k
+HasParts signatures k (TheType.Procedure g) = is_before k (slice_get signatures g)
+HasParts signatures k of = Unit {0}
+
+-- the pointer types among these, in order
+abbrev pub pointers_of : List TypeRef → List ℕ
+pointers_of [] = []
+pointers_of (TheType.Pointer p ∷ es) = p ∷ pointers_of es
+pointers_of (e ∷ es) = pointers_of es

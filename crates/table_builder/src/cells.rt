@@ -1,0 +1,78 @@
+//! Cells of types (Oberon-07 report, section 6), counted as far as any type may have them.
+
+ghost use Rattle.std.specs.Prelude.{◌≡◌, ◌<◌, ◌≤◌, ◌*◌, ◌^◌, ℕ, Some, length, slice_get, min, IfSome, IfNone};
+ghost use Rattle.ob_judge.specs.Shapes.{cells as cells_of};
+ghost use Rattle.judged_tree.specs.TypeShapes.{shape_of};
+ghost use Rattle.check_types.specs.TypeMeaning.{type_shape};
+ghost use Rattle.check_types.specs.Known.{known_of};
+ghost use Rattle.table_builder.specs.Entries.{IsNumbered};
+ghost use Rattle.table_builder.specs.Builder.{IsBuilt};
+ghost use Rattle.table_builder.specs.Cells.{most_cells};
+
+use crate::builder::TableBuilder;
+use check_types::TypeRef;
+
+/// More cells than any type may have: so many are counted, and no more.
+pub const MOST_CELLS: u64 = 1 << 30;
+
+/// A count, as far as cells are counted.
+pub fn capped(count: u64) -> u64
+    ensures is { result ≡ min most_cells count }
+    ensures small { result ≤ 2 ^ 30 }
+{
+    count.min(MOST_CELLS)
+}
+
+impl TableBuilder {
+    // The length and the element type of an array of known length, by its number.
+    fn array_at(&self, n: u32) -> Option<(u32, u32)>
+        ensures array { IfSome result (λ a. slice_get self.now.table.entries.items n ≡ Some (TypeRef.Array a.0 a.1)) }
+        ensures none { IfNone result ((l e : ℕ) → slice_get self.now.table.entries.items n ≡ Some (TypeRef.Array l e) → ⊥) }
+    {
+        match self.table.entries.get(n as usize) {
+            Some(TypeRef::Array { length, element }) => Some((*length, *element)),
+            _ => None,
+        }
+    }
+
+    // The cells of a record type.
+    fn record_cells(&self, r: u32) -> u64
+        ensures is { result ≡ min most_cells (cells_of (known_of self.now.table) (type_shape self.now.table.types (TypeRef.Record r))) }
+        ensures small { result ≤ 2 ^ 30 }
+    {
+        match self.table.layouts.get(r as usize) {
+            Some(layout) => capped(layout.cells),
+            None => 0,
+        }
+    }
+
+    // The cells of a type that is no array of known length, by its number.
+    fn own_cells(&self, n: u32) -> u64
+        requires built { IsBuilt self.now }
+        requires there { n < length self.now.table.entries.items }
+        requires single { (l e : ℕ) → slice_get self.now.table.entries.items n ≡ Some (TypeRef.Array l e) → ⊥ }
+        ensures is { result ≡ min most_cells (cells_of (known_of self.now.table) (shape_of self.now.table.types n)) }
+        ensures small { result ≤ 2 ^ 30 }
+    {
+        match self.table.entries[n as usize] {
+            TypeRef::Record(r) => self.record_cells(r),
+            TypeRef::Open(_) => 0,
+            _ => 1,
+        }
+    }
+
+    /// The cells of a type, as far as they are counted.
+    pub fn cells(&self, of: TypeRef) -> u64
+        requires built { IsBuilt self.now }
+        requires numbered { IsNumbered self.now.table.entries.items of }
+        ensures { result ≡ min most_cells (cells_of (known_of self.now.table) (type_shape self.now.table.types of)) }
+    {
+        let mut count: u64 = 1;
+        let mut n = self.number(of);
+        while let Some((length, element)) = self.array_at(n) {
+            count = capped(count * u64::from(length));
+            n = element;
+        }
+        capped(count * self.own_cells(n))
+    }
+}
