@@ -11,6 +11,7 @@ mod Suits
 mod Fitting
 mod FittingTree
 mod Bounds
+mod Narrow
 mod Bodies
 mod Valid
 mod Samples

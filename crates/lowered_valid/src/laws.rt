@@ -5,17 +5,18 @@ ghost use Rattle.std.specs.List.{list_all};
 ghost use Rattle.block_runs.specs.Blocks.{successors};
 ghost use Rattle.block_runs.specs.Valid.{IsPlaced, made, all_below, block_reads, condition_fits, arguments_fit, params_of, enter_below};
 ghost use Rattle.std.specs.declared.alloc.Global.{Global as Heap};
+ghost use Rattle.ob_types.specs.Table.{Table};
 ghost use Rattle.ob_types.specs.WellFormed.{well_formed};
 ghost use Rattle.ob_types.specs.declared.program.Procedure.{Procedure};
 ghost use Rattle.ob_types.specs.declared.program.Program.{Program};
 ghost use Rattle.ssa_core.specs.Validity.{IsValid};
 ghost use Rattle.ssa_laws.specs.Contents.{IsBare};
-ghost use Rattle.ssa_lowered.specs.Data.{Layout};
-ghost use Rattle.ssa_lowered.specs.Limits.{limit_of};
+ghost use Rattle.ssa_lowered.specs.Data.{Layout, in_cells, packed};
 ghost use Rattle.ssa_lowered.specs.Pieces.{numbers};
 ghost use Rattle.ssa_lowered.specs.Variables.{words_of};
-ghost use Rattle.ssa_lowered.specs.Lowered.{lowered};
-ghost use Rattle.lowered_valid.specs.Claims.{code_of, blocks_of, values_of, CanBeLowered, HaveFittingOperations, TakesFewWords};
+ghost use Rattle.ssa_lowered.specs.Lowered.{lowered, lowered_by};
+ghost use Rattle.ssa_lowered.specs.Limits.{limit_of};
+ghost use Rattle.lowered_valid.specs.Claims.{code_of, blocks_of, values_of, CanBeLowered, IsNarrow, IsShort, IsWithinLimits, HasFittingOperations, TakesFewWords};
 
 /// The values that a procedure's blocks make are 0, 1, 2 and so on, in order, each once, as many as the procedure says.
 pub fn values_are_made_once()
@@ -51,21 +52,28 @@ pub fn conditions_are_known()
     ensures { (p : Program) (l : Layout) (f : ℕ) (q : Procedure) → list_all (λ b. condition_fits b.end) (code_of p l f q) ≡ true }
 {}
 
+/// In both layouts nothing takes more than eight bytes a cell.
+pub fn layouts_are_narrow()
+    ensures cells { (t : Table) → IsNarrow t (in_cells t) }
+    ensures packed { (t : Table) → IsNarrow t (packed t) }
+{}
+
 /// Of a well-formed program that passes no limit: each operation has as many uses as it must have, and a result or none; its number is
 /// small enough, and a call has at most 24 argument words.
 pub fn operations_fit()
-    ensures { (p : Program) → well_formed p ≡ true → limit_of p ≡ None → All HaveFittingOperations (lowered p) }
+    ensures { (p : Program) (l : Layout) → IsWithinLimits l p → All HasFittingOperations (lowered_by l p) }
 {}
 
 /// Procedures of a well-formed program take at most 24 argument words, and modules' bodies none.
 pub fn argument_words_are_few()
-    ensures few { (p : Program) → well_formed p ≡ true → All TakesFewWords (lowered p) }
-    ensures bodies { (p : Program) → well_formed p ≡ true → All IsBare (lowered p) }
+    ensures few { (p : Program) (l : Layout) → well_formed p ≡ true → All TakesFewWords (lowered_by l p) }
+    ensures bodies { (p : Program) (l : Layout) → well_formed p ≡ true → All IsBare (lowered_by l p) }
 {}
 
-/// The procedures of a well-formed program that passes no limit are valid, where they are short. There are such programs (a tree
-/// with calls has boxes and vectors in it, so it is given with some).
+/// The procedures of a well-formed program that passes no limit are valid, where they are short. There are such programs, in both
+/// layouts (a tree with calls has boxes and vectors in it, so it is given with some).
 pub fn lowered_procedures_are_valid()
-    ensures valid { (p : Program) → CanBeLowered p → All IsValid (lowered p) }
-    ensures some { Box (Unit {0}) Heap → Vec (Unit {0}) Heap → (p : Program) × CanBeLowered p }
+    ensures valid { (p : Program) (l : Layout) → CanBeLowered l p → All IsValid (lowered_by l p) }
+    ensures cells { (p : Program) → well_formed p ≡ true → limit_of p ≡ None → All IsShort (lowered p) → All IsValid (lowered p) }
+    ensures some { Box (Unit {0}) Heap → Vec (Unit {0}) Heap → (p : Program) × CanBeLowered (in_cells p.types) p × CanBeLowered (packed p.types) p }
 {}
