@@ -1,10 +1,8 @@
 //! The conditions of valid procedures, one by one.
 
 ghost use Rattle.std.specs.Prelude.{◌≡◌, ℕ, ◌<◌, length, min, true, None, All, Box, Vec};
-ghost use Rattle.std.specs.List.{list_all};
-ghost use Rattle.block_runs.specs.Blocks.{successors};
-ghost use Rattle.block_runs.specs.Valid.{IsPlaced, made, all_below, block_reads, condition_fits, arguments_fit, params_of, enter_below};
 ghost use Rattle.std.specs.declared.alloc.Global.{Global as Heap};
+ghost use Rattle.block_runs.specs.Valid.{IsPlaced, params_of};
 ghost use Rattle.ob_types.specs.Table.{Table};
 ghost use Rattle.ob_types.specs.WellFormed.{well_formed};
 ghost use Rattle.ob_types.specs.declared.program.Procedure.{Procedure};
@@ -12,44 +10,45 @@ ghost use Rattle.ob_types.specs.declared.program.Program.{Program};
 ghost use Rattle.ssa_core.specs.Validity.{IsValid};
 ghost use Rattle.ssa_laws.specs.Contents.{IsBare};
 ghost use Rattle.ssa_lowered.specs.Data.{Layout, in_cells, packed};
-ghost use Rattle.ssa_lowered.specs.Pieces.{numbers};
-ghost use Rattle.ssa_lowered.specs.Variables.{words_of};
-ghost use Rattle.ssa_lowered.specs.Lowered.{lowered, lowered_by};
 ghost use Rattle.ssa_lowered.specs.Limits.{limit_of};
-ghost use Rattle.lowered_valid.specs.Claims.{code_of, blocks_of, values_of, CanBeLowered, IsNarrow, IsShort, IsWithinLimits, HasFittingOperations, TakesFewWords};
+ghost use Rattle.ssa_lowered.specs.Lowered.{lowered, lowered_by, proc_of};
+ghost use Rattle.ssa_lowered.specs.Variables.{words_of};
+ghost use Rattle.lowered_valid.specs.Claims.{code_of, MakesInOrder, ReadsItsValues, LeadsToItsBlocks, EntersFromItsBlocks};
+ghost use Rattle.lowered_valid.specs.Claims.{HasFittingArguments, HasKnownConditions, HasFittingOperations, TakesFewWords};
+ghost use Rattle.lowered_valid.specs.Claims.{IsShort, IsNarrow, IsWithinLimits, CanBeLowered};
 
 /// The values that a procedure's blocks make are 0, 1, 2 and so on, in order, each once, as many as the procedure says.
 pub fn values_are_made_once()
-    ensures { (p : Program) (l : Layout) (f : ℕ) (q : Procedure) → made (code_of p l f q) ≡ numbers 0 (values_of p l f q) }
+    ensures { (p : Program) (l : Layout) (f : ℕ) (q : Procedure) → MakesInOrder (proc_of p l f q) }
 {}
 
 /// No value is live into the first block, or into a block that makes it: each value that is read was made before, on every way.
 pub fn values_are_placed()
-    ensures { (p : Program) (l : Layout) (f : ℕ) (q : Procedure) → IsPlaced (code_of p l f q) }
+    ensures { (p : Program) (l : Layout) (f : ℕ) (q : Procedure) → IsPlaced (code_of (proc_of p l f q)) }
 {}
 
 /// Each value that is read is one of the procedure's.
 pub fn values_are_below()
-    ensures { (p : Program) (l : Layout) (f : ℕ) (q : Procedure) → list_all (λ b. all_below (values_of p l f q) (block_reads b)) (code_of p l f q) ≡ true }
+    ensures { (p : Program) (l : Layout) (f : ℕ) (q : Procedure) → ReadsItsValues (proc_of p l f q) }
 {}
 
 /// Each end leads to blocks that are there, there is a first one, and what enters a loop is one of them.
 pub fn targets_are_there()
-    ensures ends { (p : Program) (l : Layout) (f : ℕ) (q : Procedure) → list_all (λ b. all_below (length (code_of p l f q)) (successors b.end)) (code_of p l f q) ≡ true }
-    ensures first { (p : Program) (l : Layout) (f : ℕ) (q : Procedure) → 0 < length (code_of p l f q) }
-    ensures loops { (p : Program) (l : Layout) (f : ℕ) (q : Procedure) → list_all (λ b. enter_below (length (blocks_of p l f q)) b.enter) (blocks_of p l f q) ≡ true }
+    ensures ends { (p : Program) (l : Layout) (f : ℕ) (q : Procedure) → LeadsToItsBlocks (proc_of p l f q) }
+    ensures first { (p : Program) (l : Layout) (f : ℕ) (q : Procedure) → 0 < length (code_of (proc_of p l f q)) }
+    ensures loops { (p : Program) (l : Layout) (f : ℕ) (q : Procedure) → EntersFromItsBlocks (proc_of p l f q) }
 {}
 
 /// A jump has an argument for each parameter of the block where it leads, and a test leads to blocks without parameters. The first block
 /// has a parameter for each argument word, at most four.
 pub fn arguments_fit_parameters()
-    ensures ends { (p : Program) (l : Layout) (f : ℕ) (q : Procedure) → list_all (λ b. arguments_fit (code_of p l f q) b.end) (code_of p l f q) ≡ true }
-    ensures first { (p : Program) (l : Layout) (f : ℕ) (q : Procedure) → params_of (code_of p l f q) 0 ≡ min 4 (words_of q.formals) }
+    ensures ends { (p : Program) (l : Layout) (f : ℕ) (q : Procedure) → HasFittingArguments (proc_of p l f q) }
+    ensures first { (p : Program) (l : Layout) (f : ℕ) (q : Procedure) → params_of (code_of (proc_of p l f q)) 0 ≡ min 4 (words_of q.formals) }
 {}
 
 /// The condition of each branch is one of the fourteen.
 pub fn conditions_are_known()
-    ensures { (p : Program) (l : Layout) (f : ℕ) (q : Procedure) → list_all (λ b. condition_fits b.end) (code_of p l f q) ≡ true }
+    ensures { (p : Program) (l : Layout) (f : ℕ) (q : Procedure) → HasKnownConditions (proc_of p l f q) }
 {}
 
 /// In both layouts nothing takes more than eight bytes a cell.
