@@ -13,5 +13,8 @@ mod FittingTree
 mod Bounds
 mod Narrow
 mod Bodies
+mod Costs
+mod CostsTree
+mod Sizes
 mod Valid
 mod Samples

@@ -35,7 +35,9 @@ use Rattle.lowered_valid.proofs.Bounds.{words_same, procedure_words}
 use Rattle.lowered_valid.proofs.Bounds.{numbers as small_numbers}
 use Rattle.lowered_valid.proofs.Once.{numbers_below, times_once}
 use Rattle.ssa_laws.specs.Contents.{IsBare}
+use Rattle.lowered_valid.specs.Parts.{IsSmall}
 use Rattle.lowered_valid.proofs.Narrow.{cells_narrow}
+use Rattle.lowered_valid.proofs.Sizes.{short_all}
 use Rattle.lowered_valid.proofs.Bodies.{bodies_bare}
 use Rattle.lowered_valid.proofs.Procedures.{in_order, values_placed, values_below, targets_there, conditions_fit, ends_fit, enters_there, begins, first_params}
 
@@ -205,5 +207,5 @@ both_all P Q (x ∷ xs) f a = All-cons Q x xs (All-head (λ x. P x → Q x) x xs
 pub valid_all : (p : Program) (l : Layout) → CanBeLowered l p → All IsValid (lowered_by l p)
 valid_all p l can = both_all IsShort IsValid (lowered_by l p) (all_within l p (λ x. IsShort x → IsValid x) can.within.limits (valid l p can.within)) can.short
 
-pub cells_valid : (p : Program) → well_formed p ≡ true → limit_of p ≡ None → All IsShort (lowered p) → All IsValid (lowered p)
-cells_valid p fine limits short = valid_all p (in_cells p.types) (record { within = record { narrow = cells_narrow p.types; fine = fine; limits = limits }; short = short })
+pub small_valid : (p : Program) → well_formed p ≡ true → limit_of p ≡ None → All IsSmall p.procedures → All IsValid (lowered p)
+small_valid p fine limits small = valid_all p (in_cells p.types) (record { within = record { narrow = cells_narrow p.types; fine = fine; limits = limits }; short = short_all p (in_cells p.types) small })

@@ -1,8 +1,8 @@
 //! The conditions of valid procedures, one by one.
 
-ghost use Rattle.std.specs.Prelude.{◌≡◌, ℕ, ◌<◌, length, min, true, None, All, Box, Vec};
+ghost use Rattle.std.specs.Prelude.{◌≡◌, ℕ, ◌*◌, ◌<◌, ◌≤◌, length, min, true, None, All, Box, Vec};
 ghost use Rattle.std.specs.declared.alloc.Global.{Global as Heap};
-ghost use Rattle.block_runs.specs.Valid.{IsPlaced, params_of};
+ghost use Rattle.block_runs.specs.Valid.{IsPlaced, params_of, size_of};
 ghost use Rattle.ob_types.specs.Table.{Table};
 ghost use Rattle.ob_types.specs.WellFormed.{well_formed};
 ghost use Rattle.ob_types.specs.declared.program.Procedure.{Procedure};
@@ -15,6 +15,7 @@ ghost use Rattle.ssa_lowered.specs.Lowered.{lowered, lowered_by, proc_of};
 ghost use Rattle.ssa_lowered.specs.Variables.{words_of};
 ghost use Rattle.lowered_valid.specs.Claims.{code_of, MakesInOrder, ReadsItsValues, LeadsToItsBlocks, EntersFromItsBlocks};
 ghost use Rattle.lowered_valid.specs.Claims.{HasFittingArguments, HasKnownConditions, HasFittingOperations, TakesFewWords};
+ghost use Rattle.lowered_valid.specs.Parts.{parts_of, IsSmall};
 ghost use Rattle.lowered_valid.specs.Claims.{IsShort, IsNarrow, IsWithinLimits, CanBeLowered};
 
 /// The values that a procedure's blocks make are 0, 1, 2 and so on, in order, each once, as many as the procedure says.
@@ -69,10 +70,16 @@ pub fn argument_words_are_few()
     ensures bodies { (p : Program) (l : Layout) → well_formed p ≡ true → All IsBare (lowered_by l p) }
 {}
 
-/// The procedures of a well-formed program that passes no limit are valid, where they are short. There are such programs, in both
-/// layouts (a tree with calls has boxes and vectors in it, so it is given with some).
+/// A procedure has at most sixteen blocks and operations for each part of its tree, so that small trees become short procedures.
+pub fn small_trees_become_short()
+    ensures size { (p : Program) (l : Layout) (f : ℕ) (q : Procedure) → size_of (code_of (proc_of p l f q)) ≤ 16 * parts_of q }
+    ensures short { (p : Program) (l : Layout) → All IsSmall p.procedures → All IsShort (lowered_by l p) }
+{}
+
+/// The procedures of a well-formed program that passes no limit are valid, where they are short, as where their trees are small. There
+/// are such programs, in both layouts (a tree with calls has boxes and vectors in it, so it is given with some).
 pub fn lowered_procedures_are_valid()
     ensures valid { (p : Program) (l : Layout) → CanBeLowered l p → All IsValid (lowered_by l p) }
-    ensures cells { (p : Program) → well_formed p ≡ true → limit_of p ≡ None → All IsShort (lowered p) → All IsValid (lowered p) }
+    ensures small { (p : Program) → well_formed p ≡ true → limit_of p ≡ None → All IsSmall p.procedures → All IsValid (lowered p) }
     ensures some { Box (Unit {0}) Heap → Vec (Unit {0}) Heap → (p : Program) × CanBeLowered (in_cells p.types) p × CanBeLowered (packed p.types) p }
 {}

@@ -10,6 +10,6 @@ mod laws;
 
 pub use laws::{
     argument_words_are_few, arguments_fit_parameters, conditions_are_known, layouts_are_narrow,
-    lowered_procedures_are_valid, operations_fit, targets_are_there, values_are_below,
-    values_are_made_once, values_are_placed,
+    lowered_procedures_are_valid, operations_fit, small_trees_become_short, targets_are_there,
+    values_are_below, values_are_made_once, values_are_placed,
 };
