@@ -11,6 +11,10 @@ mod Suits
 mod Fitting
 mod FittingTree
 mod Bounds
+mod Narrow
 mod Bodies
+mod Costs
+mod CostsTree
+mod Sizes
 mod Valid
 mod Samples

@@ -1,13 +1,12 @@
 -- A program that meets what is asked: what is proved speaks of some programs.
-use Rattle.std.proofs.Common.{◌≤◌, ℕ, [], ◌∷◌, true, false, Some, None, refl, arith}
+use Rattle.std.proofs.Common.{ℕ, [], ◌∷◌, true, false, Some, None, All, refl, arith}
 use Rattle.std.specs.Prelude.{Vec, Box}
 use Rattle.std.specs.declared.alloc.Global.{Global as Heap}
 use Rattle.std.proofs.lemmas.Bool.{leb-true}
 use Rattle.std.proofs.lemmas.List.Elements.{All-cons, All-nil}
-use Rattle.block_runs.specs.Valid.{size_of}
-use Rattle.ssa_core.specs.Procedures.{code_blocks}
-use Rattle.ssa_lowered.specs.Data.{in_cells}
-use Rattle.ssa_lowered.specs.Lowered.{proc_of, procs_from}
+use Rattle.ssa_core.specs.declared.procedure.Proc.{Proc}
+use Rattle.ssa_lowered.specs.Data.{Layout, in_cells, packed}
+use Rattle.ssa_lowered.specs.Lowered.{proc_of, lowered_by}
 use Rattle.ob_types.specs.Meaning.{procedure_of}
 use Rattle.ob_types.specs.declared.program.Program.{Program}
 use Rattle.ob_types.specs.declared.statements.Stmt.{Stmt, Assign, Increase, OutInt, While', end_of-Stmt, more_of-Stmt, end_of-Branch, more_of-Branch}
@@ -27,6 +26,7 @@ use Rattle.ob_types.specs.declared.types.TypeKind.{TypeKind}
 use Rattle.ob_types.specs.declared.types.TypeKind.TheVariants.{Int, Array, Nothing}
 use Rattle.ob_types.specs.declared.types.TypeKind.TheVariants.{Bool as Boolean, Record as RecordOf}
 use Rattle.lowered_valid.specs.Claims.{CanBeLowered, IsShort}
+use Rattle.lowered_valid.proofs.Narrow.{cells_narrow, packed_narrow}
 
 -- MODULE M; IMPORT Out; TYPE R = RECORD n: INTEGER END; VAR v: INTEGER; a: ARRAY 3 OF INTEGER; r: R;
 -- PROCEDURE Add(a: ARRAY OF INTEGER; n: INTEGER; VAR total: INTEGER; VAR r: R): INTEGER; VAR i: INTEGER; b: ARRAY 3 OF INTEGER;
@@ -106,16 +106,24 @@ module _ (b : Box (Unit {0}) Heap) (v : Vec (Unit {0}) Heap) where
     imports_in = false;
   }
 
-  short : (f : ℕ) → size_of (code_blocks (proc_of sample (in_cells sample.types) f (procedure_of sample f)).blocks) ≤ 500000000 → IsShort (proc_of sample (in_cells sample.types) f (procedure_of sample f))
-  short f l = l
+  module _ (l : Layout) where
+    abbrev at : ℕ → Proc
+    at f = proc_of sample l f (procedure_of sample f)
 
-  sample_lowers : CanBeLowered sample
-  sample_lowers = record {
-    fine = refl;
-    limits = refl;
-    short = All-cons IsShort (proc_of sample (in_cells sample.types) 0 (procedure_of sample 0)) (procs_from sample (in_cells sample.types) 1 (procedure_of sample 1 ∷ [])) (short 0 (leb-true _ _ refl))
-        (All-cons IsShort (proc_of sample (in_cells sample.types) 1 (procedure_of sample 1)) [] (short 1 (leb-true _ _ refl)) (All-nil IsShort));
+    all_short : IsShort (at 0) → IsShort (at 1) → All IsShort (lowered_by l sample)
+    all_short a b = All-cons IsShort (at 0) (at 1 ∷ []) a (All-cons IsShort (at 1) [] b (All-nil IsShort))
+
+  in_cells_lowers : CanBeLowered (in_cells sample.types) sample
+  in_cells_lowers = record {
+    within = record { narrow = cells_narrow sample.types; fine = refl; limits = refl };
+    short = all_short (in_cells sample.types) (leb-true _ _ refl) (leb-true _ _ refl);
   }
 
-  pub some_lowers : (p : Program) × CanBeLowered p
-  some_lowers = (sample, sample_lowers)
+  packed_lowers : CanBeLowered (packed sample.types) sample
+  packed_lowers = record {
+    within = record { narrow = packed_narrow sample.types; fine = refl; limits = refl };
+    short = all_short (packed sample.types) (leb-true _ _ refl) (leb-true _ _ refl);
+  }
+
+  pub some_lowers : (p : Program) × CanBeLowered (in_cells p.types) p × CanBeLowered (packed p.types) p
+  some_lowers = (sample, in_cells_lowers, packed_lowers)

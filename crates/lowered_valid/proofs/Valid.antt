@@ -24,17 +24,20 @@ use Rattle.ob_types.specs.declared.program.Program.{Program}
 use Rattle.ob_types.proofs.Tests.{none_some, and_of}
 use Rattle.ob_types.proofs.WellFormedParts.{Parts, parts_of}
 use Rattle.ssa_lowered.specs.Data.{Layout, in_cells}
-use Rattle.ssa_lowered.specs.Limits.{Limit, or_else, passes, at_procedure, limit_in, limits_from, limit_of, passed, global_cells, constant_cells}
+use Rattle.ssa_lowered.specs.Limits.{Limit, or_else, passes, at_procedure, limit_in, limits_from, limit_by, limit_of, passed, global_cells, constant_cells}
 use Rattle.ssa_lowered.specs.Pieces.{Start, Piece, Appends, Closes, blocks_of}
 use Rattle.ssa_lowered.specs.Variables.{words_of}
-use Rattle.ssa_lowered.specs.Lowered.{here_of, zeroed_bytes, at_entry, entry, made_of, proc_of, procs_from, lowered}
-use Rattle.lowered_valid.specs.Claims.{code_of, CanBeLowered, IsShort, HaveFittingOperations, TakesFewWords}
+use Rattle.ssa_lowered.specs.Lowered.{here_of, zeroed_bytes, at_entry, entry, made_of, proc_of, procs_from, lowered_by, lowered}
+use Rattle.lowered_valid.specs.Claims.{CanBeLowered, IsWithinLimits, IsShort, HasFittingOperations, TakesFewWords}
 use Rattle.lowered_valid.proofs.Fitting.{AllFit}
 use Rattle.lowered_valid.proofs.FittingTree.{Numbers, whole_fits}
 use Rattle.lowered_valid.proofs.Bounds.{words_same, procedure_words}
 use Rattle.lowered_valid.proofs.Bounds.{numbers as small_numbers}
 use Rattle.lowered_valid.proofs.Once.{numbers_below, times_once}
 use Rattle.ssa_laws.specs.Contents.{IsBare}
+use Rattle.lowered_valid.specs.Parts.{IsSmall}
+use Rattle.lowered_valid.proofs.Narrow.{cells_narrow}
+use Rattle.lowered_valid.proofs.Sizes.{short_all}
 use Rattle.lowered_valid.proofs.Bodies.{bodies_bare}
 use Rattle.lowered_valid.proofs.Procedures.{in_order, values_placed, values_below, targets_there, conditions_fit, ends_fit, enters_there, begins, first_params}
 
@@ -65,132 +68,144 @@ if_none : (over : Bool) (x : Limit) (o : Option Limit) → (if over then Some x 
 if_none false x o h = refl
 if_none true x o h = none_some x (sym h)
 
-module _ (p : Program) where
-  abbrev lay : Layout
-  lay = in_cells p.types
-
-  globals_few : limit_of p ≡ None → global_cells p ≤ 1048576
+module _ (l : Layout) (p : Program) where
+  globals_few : limit_by l p ≡ None → global_cells p ≤ 1048576
   globals_few h =
       let constants = passes 58 (nat_lt 262144 (constant_cells p)) in
-      let procedures = or_else (limits_from p lay 0 p.procedures) constants in
+      let procedures = or_else (limits_from p l 0 p.procedures) constants in
       let globals = passes 53 (nat_lt 1048576 (global_cells p)) in
       let a = or_none (passes 52 (nat_lt 4096 (length p.procedures))) (or_else globals procedures) h in
       ltb-false 1048576 (global_cells p) (passes_none 53 (nat_lt 1048576 (global_cells p)) (or_none globals procedures a.1).0)
 
-  procedures_few : limit_of p ≡ None → limits_from p lay 0 p.procedures ≡ None
+  procedures_few : limit_by l p ≡ None → limits_from p l 0 p.procedures ≡ None
   procedures_few h =
       let constants = passes 58 (nat_lt 262144 (constant_cells p)) in
-      let procedures = or_else (limits_from p lay 0 p.procedures) constants in
+      let procedures = or_else (limits_from p l 0 p.procedures) constants in
       let globals = passes 53 (nat_lt 1048576 (global_cells p)) in
       let a = or_none (passes 52 (nat_lt 4096 (length p.procedures))) (or_else globals procedures) h in
-      (or_none (limits_from p lay 0 p.procedures) constants (or_none globals procedures a.1).1).0
+      (or_none (limits_from p l 0 p.procedures) constants (or_none globals procedures a.1).1).0
 
-  locals_few : (f : ℕ) (q : Procedure) → limit_in p lay f q ≡ None → cells_of_all p.types (locals_of q) ≤ 1048576
-  locals_few f q h = ltb-false 1048576 (cells_of_all p.types (locals_of q)) (if_none (nat_lt 1048576 (cells_of_all p.types (locals_of q))) (record { number = 59; index = f }) (at_procedure f (passed (made_of p lay f q).pieces)) h)
+  locals_few : (f : ℕ) (q : Procedure) → limit_in p l f q ≡ None → cells_of_all p.types (locals_of q) ≤ 1048576
+  locals_few f q h = ltb-false 1048576 (cells_of_all p.types (locals_of q)) (if_none (nat_lt 1048576 (cells_of_all p.types (locals_of q))) (record { number = 59; index = f }) (at_procedure f (passed (made_of p l f q).pieces)) h)
 
-  ---- A procedure
+---- A procedure of the program, by its number
 
-  few_words : well_formed p ≡ true → (f : ℕ) (q : Procedure) → procedure_of p f ≡ q → words_of q.formals ≤ 24
-  few_words fine f q at = let a = procedure_words p (parts_of p fine) f in let b = words_same q.formals in let c = ap (λ (z : Procedure). WellFormed.argument_words z.formals) at in omega (arith, a, b, c)
+pub record IsAt (p : Program) (f : ℕ) (q : Procedure) : Type 0 where
+  pub same : procedure_of p f ≡ q
+  pub there : f < length p.procedures
 
-  module _ (fine : well_formed p ≡ true) (few : limit_of p ≡ None) (f : ℕ) (q : Procedure) (at : procedure_of p f ≡ q) (there : f < length p.procedures) (within : limit_in p lay f q ≡ None) where
-    parts : Parts p
-    parts = parts_of p fine
+few_words : (p : Program) → well_formed p ≡ true → (f : ℕ) (q : Procedure) → IsAt p f q → words_of q.formals ≤ 24
+few_words p fine f q at =
+    let a = procedure_words p (parts_of p fine) f in
+    let b = words_same q.formals in
+    let c = ap (λ (z : Procedure). WellFormed.argument_words z.formals) at.same in
+    omega (arith, a, b, c)
 
-    fine_here : (all (WellFormed.fine p f) q.body ≡ true) × (WellFormed.answer_fine p f (WellFormed.form_of p q.result) q.answer ≡ true)
-    fine_here =
-        let a = parts.procedures f there in
-        let b = and_of (all (formal_legal p.types) (procedure_of p f).formals) (all (WellFormed.fine p f) (procedure_of p f).body && WellFormed.answer_fine p f (WellFormed.form_of p (procedure_of p f).result) (procedure_of p f).answer) a in
-        let c = and_of (all (WellFormed.fine p f) (procedure_of p f).body) (WellFormed.answer_fine p f (WellFormed.form_of p (procedure_of p f).result) (procedure_of p f).answer) b.1 in
-        (subst (λ (z : Procedure). all (WellFormed.fine p f) z.body ≡ true) at c.0, subst (λ (z : Procedure). WellFormed.answer_fine p f (WellFormed.form_of p z.result) z.answer ≡ true) at c.1)
+module _ (l : Layout) (p : Program) (can : IsWithinLimits l p) (f : ℕ) (q : Procedure) (at : IsAt p f q) (within : limit_in p l f q ≡ None) where
+  parts : Parts p
+  parts = parts_of p can.fine
 
-    small : Numbers p lay (here_of p lay f q)
-    small = small_numbers p parts (globals_few few) f q (locals_few f q within)
+  fine_here : (all (WellFormed.fine p f) q.body ≡ true) × (WellFormed.answer_fine p f (WellFormed.form_of p q.result) q.answer ≡ true)
+  fine_here =
+      let g = procedure_of p f in
+      let body = all (WellFormed.fine p f) g.body in
+      let answer = WellFormed.answer_fine p f (WellFormed.form_of p g.result) g.answer in
+      let a = and_of (all (formal_legal p.types) g.formals) (body && answer) (parts.procedures f at.there) in
+      let b = and_of body answer a.1 in
+      (subst (λ (z : Procedure). all (WellFormed.fine p f) z.body ≡ true) at.same b.0, subst (λ (z : Procedure). WellFormed.answer_fine p f (WellFormed.form_of p z.result) z.answer ≡ true) at.same b.1)
 
-    pub operations : list_all (λ bl. list_all (operation_fits (words_of q.formals)) bl.ops) (code_of p lay f q) ≡ true
-    operations =
-        let words = words_of q.formals in
-        let r = (whole_fits words p lay (here_of p lay f q) small (zeroed_bytes p lay q) (WellFormed.form_of p q.result) fine_here.0 fine_here.1).by (at_entry words) in
-        fit_blocks words (entry words) [] (Return (made_of p lay f q).result) (made_of p lay f q).pieces refl r.0.all
+  small : Numbers p l (here_of p l f q)
+  small = small_numbers p parts l can.narrow (globals_few l p can.limits) f q (locals_few l p f q within)
 
-    valid : IsShort (proc_of p lay f q) → IsValid (proc_of p lay f q)
-    valid short = record {
-      code = record {
-        few_args = few_words fine f q at;
-        few = short;
-        begins = begins p lay f q;
-        targets = targets_there p lay f q;
-        read_below = values_below p lay f q;
-        made_below = subst (λ z. all_below (proc_of p lay f q).values z ≡ true) (sym (in_order p lay f q)) (numbers_below 0 (proc_of p lay f q).values (proc_of p lay f q).values (omega arith));
-        made_once = λ v l. ap (λ z. times z v) (in_order p lay f q) ∙ times_once 0 (proc_of p lay f q).values v (omega arith) (omega (arith, l));
-        operations = operations;
-        conditions = conditions_fit p lay f q;
-        arguments = ends_fit p lay f q;
-        first_params = first_params p lay f q;
-        placed = values_placed p lay f q;
-      };
-      enters = enters_there p lay f q;
-    }
+  operations : HasFittingOperations (proc_of p l f q)
+  operations =
+      let words = words_of q.formals in
+      let r = (whole_fits words p l (here_of p l f q) small (zeroed_bytes p l q) (WellFormed.form_of p q.result) fine_here.0 fine_here.1).by (at_entry words) in
+      fit_blocks words (entry words) [] (Return (made_of p l f q).result) (made_of p l f q).pieces refl r.0.all
 
-  ---- All procedures
+  valid : IsShort (proc_of p l f q) → IsValid (proc_of p l f q)
+  valid short = record {
+    code = record {
+      few_args = few_words p can.fine f q at;
+      few = short;
+      begins = begins p l f q;
+      targets = targets_there p l f q;
+      read_below = values_below p l f q;
+      made_below = subst (λ z. all_below (proc_of p l f q).values z ≡ true) (sym (in_order p l f q)) (numbers_below 0 (proc_of p l f q).values (proc_of p l f q).values (omega arith));
+      made_once = λ v less. ap (λ z. times z v) (in_order p l f q) ∙ times_once 0 (proc_of p l f q).values v (omega arith) (omega (arith, less));
+      operations = operations;
+      conditions = conditions_fit p l f q;
+      arguments = ends_fit p l f q;
+      first_params = first_params p l f q;
+      placed = values_placed p l f q;
+    };
+    enters = enters_there p l f q;
+  }
 
+---- All procedures
+
+-- what stands behind some items
+index_here : (before : List Procedure) (q : Procedure) (qs : List Procedure) → slice_index_or (before ++ q ∷ qs) (length before) no_procedure ≡ q
+index_here [] q qs = refl
+index_here (x ∷ xs) q qs = index_here xs q qs
+
+index_less : (before : List Procedure) (q : Procedure) (qs : List Procedure) → length before < length (before ++ q ∷ qs)
+index_less [] q qs = omega arith
+index_less (x ∷ xs) q qs = let a = index_less xs q qs in omega (arith, a)
+
+length_last : (before : List Procedure) (q : Procedure) → length (before ++ q ∷ []) ≡ suc (length before)
+length_last [] q = refl
+length_last (x ∷ xs) q = ap suc (length_last xs q)
+
+append_one : (before : List Procedure) (q : Procedure) (qs : List Procedure) → (before ++ q ∷ []) ++ qs ≡ before ++ q ∷ qs
+append_one [] q qs = refl
+append_one (x ∷ xs) q qs = ap (λ z. x ∷ z) (append_one xs q qs)
+
+module _ (l : Layout) (p : Program) (P : Proc → Type 0) where
   -- the procedures of a list are the program's, from number f on
   abbrev From : ℕ → List Procedure → Type 0
   From f [] = Unit {0}
-  From f (q ∷ qs) = (procedure_of p f ≡ q) × (f < length p.procedures) × From (suc f) qs
+  From f (q ∷ qs) = IsAt p f q × From (suc f) qs
 
-  each_from : (P : Proc → Type 0) → ((f : ℕ) (q : Procedure) → procedure_of p f ≡ q → f < length p.procedures → limit_in p lay f q ≡ None → P (proc_of p lay f q)) → (f : ℕ) (qs : List Procedure) → From f qs → limits_from p lay f qs ≡ None → All P (procs_from p lay f qs)
-  each_from P each f [] at h = All-nil P
-  each_from P each f (q ∷ qs) at h =
-      let a = or_none (limit_in p lay f q) (limits_from p lay (suc f) qs) h in
-      All-cons P (proc_of p lay f q) (procs_from p lay (suc f) qs) (each f q at.0 at.1 a.0) (each_from P each (suc f) qs at.2 a.1)
+  from_all : (before qs : List Procedure) → before ++ qs ≡ p.procedures → From (length before) qs
+  from_all before [] e = tt
+  from_all before (q ∷ qs) e =
+      let same = ap (λ z. slice_index_or z (length before) no_procedure) (sym e) ∙ index_here before q qs in
+      let there = subst (λ z. length before < length z) e (index_less before q qs) in
+      (record { same = same; there = there }, subst (λ n. From n qs) (length_last before q) (from_all (before ++ q ∷ []) qs (append_one before q qs ∙ e)))
 
--- the procedures of a list, of which so many stand before them
-from_all : (p : Program) (before qs : List Procedure) → before ++ qs ≡ p.procedures → From p (length before) qs
-from_all p before [] e = tt
-from_all p before (q ∷ qs) e = (
-  ap (λ z. slice_index_or z (length before) no_procedure) (sym e) ∙ index_here before q qs,
-  subst (λ z. length before < length z) e (index_less before q qs),
-  subst (λ n. From p n qs) (length_last before q) (from_all p (before ++ q ∷ []) qs (append_one before q qs ∙ e)),
-)
-  where
-    index_here : (before : List Procedure) (q : Procedure) (qs : List Procedure) → slice_index_or (before ++ q ∷ qs) (length before) no_procedure ≡ q
-    index_here [] q qs = refl
-    index_here (x ∷ xs) q qs = index_here xs q qs
+  -- what holds of each procedure, within its limits or not, holds of all
+  each_within : ((f : ℕ) (q : Procedure) → IsAt p f q → limit_in p l f q ≡ None → P (proc_of p l f q)) → (f : ℕ) (qs : List Procedure) → From f qs → limits_from p l f qs ≡ None → All P (procs_from p l f qs)
+  each_within each f [] at h = All-nil P
+  each_within each f (q ∷ qs) at h =
+      let a = or_none (limit_in p l f q) (limits_from p l (suc f) qs) h in
+      All-cons P (proc_of p l f q) (procs_from p l (suc f) qs) (each f q at.0 a.0) (each_within each (suc f) qs at.1 a.1)
 
-    index_less : (before : List Procedure) (q : Procedure) (qs : List Procedure) → length before < length (before ++ q ∷ qs)
-    index_less [] q qs = omega arith
-    index_less (x ∷ xs) q qs = let a = index_less xs q qs in omega (arith, a)
+  each_procedure : ((f : ℕ) (q : Procedure) → IsAt p f q → P (proc_of p l f q)) → (f : ℕ) (qs : List Procedure) → From f qs → All P (procs_from p l f qs)
+  each_procedure each f [] at = All-nil P
+  each_procedure each f (q ∷ qs) at = All-cons P (proc_of p l f q) (procs_from p l (suc f) qs) (each f q at.0) (each_procedure each (suc f) qs at.1)
 
-    length_last : (before : List Procedure) (q : Procedure) → length (before ++ q ∷ []) ≡ suc (length before)
-    length_last [] q = refl
-    length_last (x ∷ xs) q = ap suc (length_last xs q)
+  all_within : limit_by l p ≡ None → ((f : ℕ) (q : Procedure) → IsAt p f q → limit_in p l f q ≡ None → P (proc_of p l f q)) → All P (lowered_by l p)
+  all_within few each = each_within each 0 p.procedures (from_all [] p.procedures refl) (procedures_few l p few)
 
-    append_one : (before : List Procedure) (q : Procedure) (qs : List Procedure) → (before ++ q ∷ []) ++ qs ≡ before ++ q ∷ qs
-    append_one [] q qs = refl
-    append_one (x ∷ xs) q qs = ap (λ z. x ∷ z) (append_one xs q qs)
+  all_procedures : ((f : ℕ) (q : Procedure) → IsAt p f q → P (proc_of p l f q)) → All P (lowered_by l p)
+  all_procedures each = each_procedure each 0 p.procedures (from_all [] p.procedures refl)
 
--- what holds of each procedure within its limits holds of all
-each_lowered : (p : Program) (P : Proc → Type 0) → limit_of p ≡ None → ((f : ℕ) (q : Procedure) → procedure_of p f ≡ q → f < length p.procedures → limit_in p (in_cells p.types) f q ≡ None → P (proc_of p (in_cells p.types) f q)) → All P (lowered p)
-each_lowered p P few each = each_from p P each 0 p.procedures (from_all p [] p.procedures refl) (procedures_few p few)
+pub operations_fit_all : (p : Program) (l : Layout) → IsWithinLimits l p → All HasFittingOperations (lowered_by l p)
+operations_fit_all p l can = all_within l p HasFittingOperations can.limits (operations l p can)
 
-pub operations_fit_all : (p : Program) → well_formed p ≡ true → limit_of p ≡ None → All HaveFittingOperations (lowered p)
-operations_fit_all p fine few = each_lowered p HaveFittingOperations few (λ f q at there within. operations p fine few f q at there within)
+pub words_few_all : (p : Program) (l : Layout) → well_formed p ≡ true → All TakesFewWords (lowered_by l p)
+words_few_all p l fine = all_procedures l p TakesFewWords (few_words p fine)
+
+pub bare_all : (p : Program) (l : Layout) → well_formed p ≡ true → All IsBare (lowered_by l p)
+bare_all p l fine = all_procedures l p IsBare (λ f q at. bodies_bare p (parts_of p fine) l f q at.same at.there)
 
 both_all : (P Q : Proc → Type 0) (xs : List Proc) → All (λ x. P x → Q x) xs → All P xs → All Q xs
 both_all P Q [] f a = All-nil Q
 both_all P Q (x ∷ xs) f a = All-cons Q x xs (All-head (λ x. P x → Q x) x xs f (All-head P x xs a)) (both_all P Q xs (All-tail (λ x. P x → Q x) x xs f) (All-tail P x xs a))
 
-pub valid_all : (p : Program) → CanBeLowered p → All IsValid (lowered p)
-valid_all p h = both_all IsShort IsValid (lowered p) (each_lowered p (λ x. IsShort x → IsValid x) h.limits (λ f q at there within. valid p h.fine h.limits f q at there within)) h.short
+pub valid_all : (p : Program) (l : Layout) → CanBeLowered l p → All IsValid (lowered_by l p)
+valid_all p l can = both_all IsShort IsValid (lowered_by l p) (all_within l p (λ x. IsShort x → IsValid x) can.within.limits (valid l p can.within)) can.short
 
--- without limits
-each_procedure : (p : Program) (P : Proc → Type 0) → ((f : ℕ) (q : Procedure) → procedure_of p f ≡ q → f < length p.procedures → P (proc_of p (in_cells p.types) f q)) → (f : ℕ) (qs : List Procedure) → From p f qs → All P (procs_from p (in_cells p.types) f qs)
-each_procedure p P each f [] at = All-nil P
-each_procedure p P each f (q ∷ qs) at = All-cons P (proc_of p (in_cells p.types) f q) (procs_from p (in_cells p.types) (suc f) qs) (each f q at.0 at.1) (each_procedure p P each (suc f) qs at.2)
-
-pub bare_all : (p : Program) → well_formed p ≡ true → All IsBare (lowered p)
-bare_all p fine = each_procedure p IsBare (bodies_bare p (parts_of p fine) (in_cells p.types)) 0 p.procedures (from_all p [] p.procedures refl)
-
-pub words_few_all : (p : Program) → well_formed p ≡ true → All TakesFewWords (lowered p)
-words_few_all p fine = each_procedure p TakesFewWords (λ f q at there. few_words p fine f q at) 0 p.procedures (from_all p [] p.procedures refl)
+pub small_valid : (p : Program) → well_formed p ≡ true → limit_of p ≡ None → All IsSmall p.procedures → All IsValid (lowered p)
+small_valid p fine limits small = valid_all p (in_cells p.types) (record { within = record { narrow = cells_narrow p.types; fine = fine; limits = limits }; short = short_all p (in_cells p.types) small })
