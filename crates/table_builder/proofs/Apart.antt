@@ -69,10 +69,12 @@ module _ (t : Table) (entries : List TypeRef) (bases : List (Option ℕ)) (ok : 
   entries_one a b _ _ h g s = no s
 
   pub each_once : HasEachOnce t
-  each_once = record { once = λ a b l m s.
-      let e = entry_there t entries bases ok a l in
-      let f = entry_there t entries bases ok b m in
-      entries_one a b e.0 f.0 e.1 f.1 (subst (λ k. same_entry t k (kind_of_type bases f.0) ≡ true) (kind_at t entries bases ok a e.0 e.1) (subst (λ k. same_entry t (kind_of t a) k ≡ true) (kind_at t entries bases ok b f.0 f.1) s)) }
+  each_once = record {
+    once = λ a b l m s.
+        let e = entry_there t entries bases ok a l in
+        let f = entry_there t entries bases ok b m in
+        entries_one a b e.0 f.0 e.1 f.1 (subst (λ k. same_entry t k (kind_of_type bases f.0) ≡ true) (kind_at t entries bases ok a e.0 e.1) (subst (λ k. same_entry t (kind_of t a) k ≡ true) (kind_at t entries bases ok b f.0 f.1) s));
+  }
 
   pub one_shape : HasOneShapeEach t
   one_shape = one-shape t each_once (front t entries bases ok)

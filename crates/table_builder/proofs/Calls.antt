@@ -36,7 +36,7 @@ use Rattle.table_builder.proofs.Lists.{there, get_left, get_from, get_last}
 use Rattle.table_builder.proofs.Growth.{Extends, formals_mean, number_means}
 use Rattle.table_builder.proofs.Pushing.{extends_append, extends_self, pointers-append, with_entry, pushed, other_records, without_base, with_signature, signed}
 use Rattle.table_builder.proofs.Indexing.{IsNoted, indexed, IsWith, value_here, value_there, record_noted, pointer_noted, procedure_noted, HasSameParts, parts_tell}
-use Rattle.table_builder.proofs.Built.{layouts_more, same_contents, known_grown, grown}
+use Rattle.table_builder.proofs.Built.{elements_more, layouts_more, same_contents, known_grown, grown}
 
 -- ---- lists of record types
 
@@ -121,6 +121,7 @@ module _ (b : Contents) (ok : IsConsistent b) where
           pointers = ok.pointers;
           bases = ok.bases ∙ sym (ap (λ ps. length ps) (pointers-append b.entries (TheType.Record r) ∙ append_nil (pointers_of b.entries)));
           procedures = ok.procedures;
+          elements = elements_more b ok (TheType.Record r) b.types.signatures tt (λ a e is h. none_some a is);
         }
       where
         append_nil : (ns : List ℕ) → ns ++ [] ≡ ns
@@ -174,6 +175,7 @@ module _ (b : Contents) (ok : IsConsistent b) where
           pointers = one_longer b.notes.pointers b.bases n None ok.pointers;
           bases = one_longer b.bases (pointers_of b.entries) None p ok.bases ∙ sym (ap (λ ps. length ps) (pointers-append b.entries (TheType.Pointer p)));
           procedures = ok.procedures;
+          elements = elements_more b ok (TheType.Pointer p) b.types.signatures tt (λ a e is h. none_some a is);
         }
       where
         one_longer : {A B : Type 0} (xs : List A) (ys : List B) (x : A) (y : B) → length xs ≡ length ys → length (xs ++ x ∷ []) ≡ length (ys ++ y ∷ [])
@@ -204,6 +206,7 @@ module _ (b : Contents) (ok : IsConsistent b) where
         pointers = ok.pointers ∙ sym (length-set b.bases p (Some r));
         bases = length-set b.bases p (Some r) ∙ ok.bases;
         procedures = ok.procedures;
+        elements = ok.elements;
       }) t es bs ls b.notes i q u v refl
 
   -- ---- what is known of a record type
@@ -222,6 +225,7 @@ module _ (b : Contents) (ok : IsConsistent b) where
         pointers = ok.pointers;
         bases = ok.bases;
         procedures = ok.procedures;
+        elements = ok.elements;
       }) t es bs ls b.notes i q u v refl
 
   -- ---- procedure types
@@ -312,6 +316,7 @@ module _ (b : Contents) (ok : IsConsistent b) where
       pointers = ok.pointers;
       bases = ok.bases ∙ sym (ap (λ ps. length ps) (pointers-append b.entries (TheType.Procedure g) ∙ append_nil (pointers_of b.entries)));
       procedures = one_longer b.notes.procedures b.types.signatures n x ok.procedures;
+      elements = elements_more b ok (TheType.Procedure g) with_procedure.types.signatures (procedure_next x g at before).parts (λ a e is h. none_some a is);
     }
       where
         append_nil : (ns : List ℕ) → ns ++ [] ≡ ns

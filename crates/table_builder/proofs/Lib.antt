@@ -10,3 +10,4 @@ pub mod Calls
 pub mod Known
 pub mod Basics
 pub mod Counts
+pub mod Growing

@@ -1,5 +1,5 @@
 -- Entries of a table of types, by their numbers.
-use Rattle.std.specs.Prelude.{◌≡◌, ◌<◌, ℕ, List, [], ◌∷◌, Bool, true, false, Some, slice_get}
+use Rattle.std.specs.Prelude.{◌≡◌, ◌<◌, ℕ, List, [], ◌∷◌, Bool, true, false, Option, Some, None, slice_get}
 use Rattle.ob_types.specs.declared.types.Signature.{Signature}
 use Rattle.judged_tree.specs.Tables.{is_before}
 use Rattle.check_types.specs.declared.types.TypeRef.{TypeRef}
@@ -21,6 +21,16 @@ is_whole of = true
 pub record IsElement (entries : List TypeRef) (of : TypeRef) : Type 0 where
   pub numbered : IsNumbered entries of
   pub whole : is_whole of ≡ true
+
+-- the number of an array's element type
+abbrev pub element_in : TypeRef → Option ℕ
+element_in (TheType.Array n e) = Some e
+element_in (TheType.Open e) = Some e
+element_in of = None
+
+-- if this is an array, then of elements of a type that variables may have
+abbrev pub HasWholeElements : List TypeRef → TypeRef → Type 0
+HasWholeElements entries of = (a : ℕ) (e : TypeRef) → element_in of ≡ Some a → slice_get entries a ≡ Some e → is_whole e ≡ true
 
 -- what an entry at this number is made of stands before it
 abbrev pub HasParts : List Signature → ℕ → TypeRef → Type 0

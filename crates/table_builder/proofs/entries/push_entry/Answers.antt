@@ -12,7 +12,7 @@ invariant_of-table-in-Ok c =
     let es = c.args.table.now.entries.items in
     let bs = c.args.table.now.bases.items in
     let s = pushed_as t es bs c.requires.sound c.args.of c.requires.next c.push_kind.new.self c.push.new.self.items
-          (c.in-Ok.ensures.ok ∙ ap (λ k. record t { kinds = t.kinds ++ k ∷ [] }) c.kind_of-kind.ensures) c.in_ok-push.ensures.items in
+    (c.in-Ok.ensures.ok ∙ ap (λ k. record t { kinds = t.kinds ++ k ∷ [] }) c.kind_of-kind.ensures) c.in_ok-push.ensures.items in
     record { meant = each_meant _ _ bs s; apart = each_apart _ _ bs s }
 
 pub returns-in-Ok-clause-sound : goal.returns-in-Ok-clause-sound

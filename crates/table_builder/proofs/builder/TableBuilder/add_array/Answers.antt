@@ -30,7 +30,7 @@ returns-in-Ok-clause-built c =
     let b = contents_of c.args.self.now.table c.args.self.now.numbers in
     let none = sym c.find.ensures ∙ none_of c.find.result (sym c.is_some.ensures ∙ c.if-is_some.false) in
     let n = c.in_ok-n.ensures ∙ ap (λ es. length es) c.deref.ensures.value in
-    array_built b c.requires.built c.args.of c.args.parts.now c.requires.array none _ c.in_ok-n.n n c.in_ok-note.ensures.ok _ _ _ _
+    array_built b c.requires.built c.args.of c.args.parts.now c.requires.array none c.requires.elements _ c.in_ok-n.n n c.in_ok-note.ensures.ok _ _ _ _
     c.in-Ok.ensures.types c.in-Ok.ensures.entries (ap (λ bs. bs.items) c.in-Ok.ensures.bases) (ap (λ ls. ls.items) c.in-Ok.ensures.layouts)
 
 pub returns-in-Ok-clause-grows : goal.returns-in-Ok-clause-grows
