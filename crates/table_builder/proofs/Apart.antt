@@ -1,8 +1,6 @@
 -- Where entries are sound, types with different numbers are different.
-use Rattle.std.proofs.Common.{◌≡◌, ℕ, ◌<◌, ◌≤◌, List, length, Bool, true, false, ◌&&◌, ◌||◌, nat_eq, Option, Some, refl, sym, ap, ◌∙◌, subst, arith, eqb-true, eq-eqb, ◌⊎◌, inl, inr}
+use Rattle.std.proofs.Common.{◌≡◌, ℕ, ◌<◌, ◌≤◌, List, length, Bool, true, false, ◌&&◌, ◌||◌, nat_eq, Option, Some, refl, sym, ap, ◌∙◌, subst, eqb-true, eq-eqb, ◌⊎◌, inl, inr}
 use Rattle.std.specs.Prelude.{◌==◌, slice_get}
-use Rattle.ob_types.specs.declared.types.TypeKind.{TypeKind}
-use Rattle.ob_types.specs.Assignable.{same_length}
 use Rattle.ob_types.specs.Layout.{kind_of}
 use Rattle.ob_types.specs.Table.{Table}
 use Rattle.ob_types.specs.declared.types.Signature.{Signature}

@@ -1,5 +1,5 @@
 -- What a builder keeps at its start.
-use Rattle.std.proofs.Common.{◌≡◌, ℕ, zero, suc, ◌<◌, List, [], ◌∷◌, length, map, Option, Some, None, refl, sym, ap, ap₂, ◌∙◌, subst}
+use Rattle.std.proofs.Common.{◌≡◌, ℕ, zero, suc, ◌<◌, List, [], length, Option, Some, None, refl, sym, ap, ap₂, ◌∙◌, subst}
 use Rattle.std.specs.Prelude.{slice_get}
 use Rattle.std.proofs.lemmas.Option.{slice_get_within}
 use Rattle.ob_types.specs.Table.{Table}
@@ -8,9 +8,9 @@ use Rattle.ob_types.proofs.Tests.{none_some, some_same}
 use Rattle.check_types.specs.declared.types.TypeRef.{TypeRef}
 use Rattle.check_types.specs.declared.types.TypeRef.TheVariants as TheType
 use Rattle.check_types.specs.declared.table.Layout.{Layout}
-use Rattle.table_builder.specs.Entries.{IsElement, is_whole, element_in}
+use Rattle.table_builder.specs.Entries.{IsElement, element_in}
 use Rattle.table_builder.specs.Sound.{IsSound}
-use Rattle.table_builder.specs.Index.{Notes, number_in, basic_types, IsIndex, IndexesSignatures}
+use Rattle.table_builder.specs.Index.{Notes, number_in, basic_types, IsIndex}
 use Rattle.table_builder.specs.Contents.{Contents, IsConsistent}
 use Rattle.table_builder.proofs.Built.{same_contents}
 

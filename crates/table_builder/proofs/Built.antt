@@ -1,21 +1,17 @@
 -- What a builder keeps, call by call.
-use Rattle.std.proofs.Common.{◌≡◌, ℕ, zero, suc, ◌+◌, ◌<◌, ◌≤◌, List, [], ◌∷◌, ◌++◌, length, map, Bool, true, false, ◌&&◌, cond, Option, Some, None, option_map, refl, sym, ap, ap₂, ◌∙◌, subst, arith, eqb-true, ◌⊎◌, inl, inr}
-use Rattle.std.specs.Prelude.{◌==◌, slice_get, slice_set}
+use Rattle.std.proofs.Common.{◌≡◌, ℕ, ◌<◌, List, [], ◌∷◌, ◌++◌, length, map, true, cond, Option, Some, None, option_map, refl, sym, ap, ap₂, ◌∙◌, subst, arith, ◌⊎◌, inl, inr}
+use Rattle.std.specs.Prelude.{slice_get}
 use mathlib.Core.Path.{fun_ext}
 use Rattle.std.specs.Str.{bytes_eq}
 use Rattle.std.proofs.lemmas.List.{length-append}
 use Rattle.std.proofs.lemmas.Option.{slice_get_within}
 use Rattle.table_builder.proofs.Lists.{there, get_left, get_from}
 use Rattle.ob_types.specs.declared.types.Field.{Field}
-use Rattle.ob_types.specs.declared.types.Formal.{Formal}
 use Rattle.ob_types.specs.declared.types.RecordType.{RecordType}
 use Rattle.ob_types.specs.declared.types.Signature.{Signature}
-use Rattle.ob_types.specs.Assignable.{both_or_neither}
 use Rattle.ob_types.specs.Table.{Table}
-use Rattle.ob_types.proofs.Tests.{none_some, some_same, no, and_of}
-use Rattle.ob_judge.specs.Shapes.{Known}
+use Rattle.ob_types.proofs.Tests.{none_some, some_same}
 use Rattle.ob_judge.specs.Shapes.{Added as AddedOf, Field as FieldOf, Layout as LayoutOf}
-use Rattle.judged_tree.specs.Tables.{same_parameters, same_signatures}
 use Rattle.check_steps.specs.Maps.{at_bytes}
 use Rattle.check_types.specs.declared.types.TypeRef.{TypeRef}
 use Rattle.check_types.specs.declared.types.TypeRef.TheVariants as TheType
@@ -28,8 +24,8 @@ use Rattle.check_types.specs.TypeMeaning.{type_shape, kind_of_type}
 use Rattle.table_builder.specs.Entries.{IsNumbered, is_whole, HasParts, element_in, HasWholeElements, pointers_of}
 use Rattle.table_builder.specs.Sound.{IsSound, IsNext}
 use Rattle.table_builder.specs.Growing.{Grows}
-use Rattle.table_builder.specs.Index.{Notes, signature_parts, number_in, IsIndex, HasSignature, IndexesSignatures, bit, IsArray}
-use Rattle.table_builder.specs.Contents.{IsField, AreFields, IsRecordType, IsClosed, AreRecordTypes, Contents, IsConsistent}
+use Rattle.table_builder.specs.Index.{Notes, signature_parts, number_in, IsArray}
+use Rattle.table_builder.specs.Contents.{AreFields, IsRecordType, IsClosed, AreRecordTypes, Contents, IsConsistent}
 use Rattle.table_builder.proofs.Growth.{Extends, type_means}
 use Rattle.table_builder.proofs.Pushing.{extends_append, extends_self, own_pointer, pointers-append, with_entry, pushed}
 use Rattle.table_builder.proofs.Indexing.{IsNoted, indexed, IsWith, restored, array_noted, open_noted}

@@ -1,6 +1,4 @@
 -- What a table that grew still has.
-use Rattle.std.proofs.Common.{◌≡◌, ℕ, ◌<◌, Some}
-use Rattle.std.specs.Prelude.{slice_get}
 use Rattle.check_types.specs.declared.types.TypeRef.{TypeRef}
 use Rattle.check_types.specs.declared.table.TypeTable.{TypeTable}
 use Rattle.table_builder.specs.Entries.{IsNumbered, IsElement}

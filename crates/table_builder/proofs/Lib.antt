@@ -11,3 +11,4 @@ pub mod Known
 pub mod Basics
 pub mod Counts
 pub mod Growing
+pub mod ByShape

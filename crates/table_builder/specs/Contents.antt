@@ -4,7 +4,6 @@ use Rattle.ob_types.specs.declared.types.Field.{Field}
 use Rattle.ob_types.specs.declared.types.RecordType.{RecordType}
 use Rattle.check_steps.specs.Maps.{at_bytes}
 use Rattle.check_types.specs.declared.types.TypeRef.{TypeRef}
-use Rattle.check_types.specs.declared.types.TypeRef.TheVariants as TheType
 use Rattle.check_types.specs.declared.table.Added.{Added}
 use Rattle.check_types.specs.declared.table.FieldEntry.{FieldEntry}
 use Rattle.check_types.specs.declared.table.Layout.{Layout}

@@ -1,6 +1,9 @@
 -- Entries of a table of types, by their numbers.
-use Rattle.std.specs.Prelude.{◌≡◌, ◌<◌, ℕ, List, [], ◌∷◌, Bool, true, false, Option, Some, None, slice_get}
+use Rattle.std.specs.Prelude.{◌≡◌, ◌<◌, ℕ, List, [], ◌∷◌, Bool, true, false, Option, Some, None, length, slice_get}
 use Rattle.ob_types.specs.declared.types.Signature.{Signature}
+use Rattle.ob_types.specs.Table.{Table}
+use Rattle.ob_judge.specs.Shapes.{Shape, Open, Nil, Nothing, Text}
+use Rattle.judged_tree.specs.TypeShapes.{shape_of}
 use Rattle.judged_tree.specs.Tables.{is_before}
 use Rattle.check_types.specs.declared.types.TypeRef.{TypeRef}
 use Rattle.check_types.specs.declared.types.TypeRef.TheVariants as TheType
@@ -44,3 +47,17 @@ abbrev pub pointers_of : List TypeRef → List ℕ
 pointers_of [] = []
 pointers_of (TheType.Pointer p ∷ es) = p ∷ pointers_of es
 pointers_of (e ∷ es) = pointers_of es
+
+-- the same of a shape
+abbrev pub is_whole_shape : Shape → Bool
+is_whole_shape (Open s) = false
+is_whole_shape Nil = false
+is_whole_shape Nothing = false
+is_whole_shape (Text n) = false
+is_whole_shape s = true
+
+-- a type of the table has this shape
+pub record HasShape (t : Table) (s : Shape) : Type 0 where
+  pub number : ℕ
+  pub there : number < length t.kinds
+  pub same : shape_of t number ≡ s

@@ -1,4 +1,4 @@
-use Rattle.std.proofs.Common.{◌≡◌, ◌++◌, ◌∷◌, [], refl, ⊎_elim}
+use Rattle.std.proofs.Common.{refl, ⊎_elim}
 use Rattle.table_builder.specs.Sound.{IsSound}
 use Rattle.table_builder.proofs.Meaning.{each_meant}
 use Rattle.table_builder.proofs.Apart.{each_apart}

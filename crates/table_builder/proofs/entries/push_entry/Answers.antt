@@ -1,6 +1,4 @@
-use Rattle.std.proofs.Common.{◌≡◌, ap, sym, subst, ◌∙◌, ◌++◌, ◌∷◌, []}
-use Rattle.check_types.specs.TypeMeaning.{kind_of_type}
-use Rattle.table_builder.specs.Sound.{IsSound}
+use Rattle.std.proofs.Common.{ap, ◌∙◌, ◌++◌, ◌∷◌, []}
 use Rattle.table_builder.proofs.Meaning.{each_meant}
 use Rattle.table_builder.proofs.Apart.{each_apart}
 use Rattle.table_builder.proofs.Pushing.{pushed_as}

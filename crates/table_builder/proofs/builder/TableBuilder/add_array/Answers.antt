@@ -1,9 +1,8 @@
-use Rattle.std.proofs.Common.{◌≡◌, ◌∙◌, sym, ap, refl, subst, length, Option, Some, None, Bool, true, false, ℕ}
+use Rattle.std.proofs.Common.{◌≡◌, ◌∙◌, sym, ap, refl, length, Option, Some, None, true, false, ℕ}
 use Rattle.std.specs.Prelude.{is_some}
 use Rattle.ob_types.proofs.Tests.{no}
-use Rattle.table_builder.specs.Contents.{contents_of, notes_of}
+use Rattle.table_builder.specs.Contents.{contents_of}
 use Rattle.table_builder.proofs.Lists.{get_last}
-use Rattle.table_builder.proofs.Indexing.{IsWith}
 use Rattle.table_builder.proofs.Built.{array_next, same_contents, same_arrays, array_built, array_restored, table_pushed, known_pushed}
 use Rattle.table_builder.proofs.builder.TableBuilder.add_array.Goals as goal
 

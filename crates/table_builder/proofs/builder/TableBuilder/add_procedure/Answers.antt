@@ -1,7 +1,7 @@
-use Rattle.std.proofs.Common.{◌≡◌, refl, ap, ◌∙◌, sym, subst, length, take, ◌++◌, ◌∷◌, [], ℕ, List, Option}
+use Rattle.std.proofs.Common.{◌≡◌, refl, ap, ◌∙◌, sym, subst, length, take, ◌++◌, ◌∷◌, []}
 use Rattle.std.proofs.Math.Seq.{take-append_seam}
-use Rattle.table_builder.specs.Index.{signature_parts, Notes}
-use Rattle.table_builder.specs.Contents.{contents_of, notes_of, Contents, IsConsistent}
+use Rattle.table_builder.specs.Index.{Notes}
+use Rattle.table_builder.specs.Contents.{contents_of, notes_of, IsConsistent}
 use Rattle.table_builder.specs.declared.numbers.Numbers.{Numbers}
 use Rattle.table_builder.proofs.Indexing.{restored}
 use Rattle.table_builder.proofs.Built.{same_contents, known_pushed}

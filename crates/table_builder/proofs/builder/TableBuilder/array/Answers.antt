@@ -1,4 +1,4 @@
-use Rattle.std.proofs.Common.{◌≡◌, ap, sym, ◌∙◌}
+use Rattle.std.proofs.Common.{ap, sym, ◌∙◌}
 use Rattle.ob_judge.specs.Shapes.{Array}
 use Rattle.std.specs.Prelude.{slice_get}
 use Rattle.ob_types.proofs.Tests.{some_same}
