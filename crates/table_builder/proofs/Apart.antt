@@ -1,8 +1,6 @@
 -- Where entries are sound, types with different numbers are different.
-use Rattle.std.proofs.Common.{◌≡◌, ℕ, ◌<◌, ◌≤◌, List, length, Bool, true, false, ◌&&◌, ◌||◌, nat_eq, Option, Some, refl, sym, ap, ◌∙◌, subst, arith, eqb-true, eq-eqb, ◌⊎◌, inl, inr}
+use Rattle.std.proofs.Common.{◌≡◌, ℕ, ◌<◌, ◌≤◌, List, length, Bool, true, false, ◌&&◌, ◌||◌, nat_eq, Option, Some, refl, sym, ap, ◌∙◌, subst, eqb-true, eq-eqb, ◌⊎◌, inl, inr}
 use Rattle.std.specs.Prelude.{◌==◌, slice_get}
-use Rattle.ob_types.specs.declared.types.TypeKind.{TypeKind}
-use Rattle.ob_types.specs.Assignable.{same_length}
 use Rattle.ob_types.specs.Layout.{kind_of}
 use Rattle.ob_types.specs.Table.{Table}
 use Rattle.ob_types.specs.declared.types.Signature.{Signature}
@@ -69,10 +67,12 @@ module _ (t : Table) (entries : List TypeRef) (bases : List (Option ℕ)) (ok : 
   entries_one a b _ _ h g s = no s
 
   pub each_once : HasEachOnce t
-  each_once = record { once = λ a b l m s.
-      let e = entry_there t entries bases ok a l in
-      let f = entry_there t entries bases ok b m in
-      entries_one a b e.0 f.0 e.1 f.1 (subst (λ k. same_entry t k (kind_of_type bases f.0) ≡ true) (kind_at t entries bases ok a e.0 e.1) (subst (λ k. same_entry t (kind_of t a) k ≡ true) (kind_at t entries bases ok b f.0 f.1) s)) }
+  each_once = record {
+    once = λ a b l m s.
+        let e = entry_there t entries bases ok a l in
+        let f = entry_there t entries bases ok b m in
+        entries_one a b e.0 f.0 e.1 f.1 (subst (λ k. same_entry t k (kind_of_type bases f.0) ≡ true) (kind_at t entries bases ok a e.0 e.1) (subst (λ k. same_entry t (kind_of t a) k ≡ true) (kind_at t entries bases ok b f.0 f.1) s));
+  }
 
   pub one_shape : HasOneShapeEach t
   one_shape = one-shape t each_once (front t entries bases ok)

@@ -1,14 +1,16 @@
 -- What a builder keeps at its start.
-use Rattle.std.proofs.Common.{◌≡◌, ℕ, zero, suc, List, [], ◌∷◌, length, map, Option, Some, None, refl, sym, ap, ap₂, ◌∙◌, subst}
+use Rattle.std.proofs.Common.{◌≡◌, ℕ, zero, suc, ◌<◌, List, [], length, Option, Some, None, refl, sym, ap, ap₂, ◌∙◌, subst}
 use Rattle.std.specs.Prelude.{slice_get}
+use Rattle.std.proofs.lemmas.Option.{slice_get_within}
 use Rattle.ob_types.specs.Table.{Table}
 use Rattle.ob_types.specs.declared.types.TypeKind.{TypeKind}
 use Rattle.ob_types.proofs.Tests.{none_some, some_same}
 use Rattle.check_types.specs.declared.types.TypeRef.{TypeRef}
 use Rattle.check_types.specs.declared.types.TypeRef.TheVariants as TheType
 use Rattle.check_types.specs.declared.table.Layout.{Layout}
+use Rattle.table_builder.specs.Entries.{IsElement, element_in}
 use Rattle.table_builder.specs.Sound.{IsSound}
-use Rattle.table_builder.specs.Index.{Notes, number_in, basic_types, IsIndex, IndexesSignatures}
+use Rattle.table_builder.specs.Index.{Notes, number_in, basic_types, IsIndex}
 use Rattle.table_builder.specs.Contents.{Contents, IsConsistent}
 use Rattle.table_builder.proofs.Built.{same_contents}
 
@@ -58,7 +60,20 @@ start_built ks sound = record {
   pointers = refl;
   bases = refl;
   procedures = refl;
+  elements = λ n of h a e is g. plain n of h a is;
 }
+  where
+    one : (f of : TypeRef) → Some f ≡ Some of → (a : ℕ) → element_in f ≡ None → element_in of ≡ Some a → {A : Type 0} → A
+    one f of h a none is = none_some a (sym none ∙ ap element_in (some_same f of h) ∙ is)
+
+    plain : (n : ℕ) (of : TypeRef) → slice_get basic_types n ≡ Some of → (a : ℕ) → element_in of ≡ Some a → {A : Type 0} → A
+    plain zero of h a is = one TheType.Int of h a refl is
+    plain (suc zero) of h a is = one TheType.Bool of h a refl is
+    plain (suc (suc zero)) of h a is = one TheType.Char of h a refl is
+    plain (suc (suc (suc zero))) of h a is = one TheType.Byte of h a refl is
+    plain (suc (suc (suc (suc zero)))) of h a is = one TheType.Set of h a refl is
+    plain (suc (suc (suc (suc (suc zero))))) of h a is = one TheType.Nothing of h a refl is
+    plain (suc (suc (suc (suc (suc (suc n)))))) of h a is = none_some of h
 
 pub basics_built : (t : Table) (es : List TypeRef) (bs : List (Option ℕ)) (ls : List Layout) (s : Notes) → IsSound t es bs → t.records ≡ [] → t.signatures ≡ [] → es ≡ basic_types → bs ≡ [] → ls ≡ [] → s ≡ no_notes
     → IsConsistent (record { types = t; entries = es; bases = bs; layouts = ls; notes = s })
@@ -66,3 +81,13 @@ basics_built t es bs ls s sound r g q u v w =
     let is : t ≡ record { kinds = t.kinds; records = []; signatures = [] } = ap₂ (λ xs ys. record { kinds = t.kinds; records = xs; signatures = ys }) r g in
     same_contents (record { types = record { kinds = t.kinds; records = []; signatures = [] }; entries = basic_types; bases = []; layouts = []; notes = no_notes })
     (start_built t.kinds (subst (λ z. IsSound z basic_types []) is (subst (λ fs. IsSound t fs []) q (subst (λ cs. IsSound t es cs) u sound)))) t es bs ls s is q u v w
+
+-- ---- the basic types have their numbers, in any table
+
+module _ (b : Contents) (ok : IsConsistent b) where
+  pub integer_element : IsElement b.entries TheType.Int
+  integer_element = record { numbered = (0, ok.index.says TheType.Int 0 refl); whole = refl }
+
+  -- no result's type is there
+  pub nothing_there : 5 < length b.entries
+  nothing_there = slice_get_within b.entries 5 TheType.Nothing (ok.index.says TheType.Nothing 5 refl)

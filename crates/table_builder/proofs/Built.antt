@@ -1,19 +1,17 @@
 -- What a builder keeps, call by call.
-use Rattle.std.proofs.Common.{◌≡◌, ℕ, zero, suc, ◌+◌, ◌<◌, ◌≤◌, List, [], ◌∷◌, ◌++◌, length, map, Bool, true, false, ◌&&◌, cond, Option, Some, None, option_map, refl, sym, ap, ap₂, ◌∙◌, subst, arith, eqb-true, ◌⊎◌, inl, inr}
-use Rattle.std.specs.Prelude.{◌==◌, slice_get, slice_set}
+use Rattle.std.proofs.Common.{◌≡◌, ℕ, ◌<◌, List, [], ◌∷◌, ◌++◌, length, map, true, cond, Option, Some, None, option_map, refl, sym, ap, ap₂, ◌∙◌, subst, arith, ◌⊎◌, inl, inr}
+use Rattle.std.specs.Prelude.{slice_get}
 use mathlib.Core.Path.{fun_ext}
 use Rattle.std.specs.Str.{bytes_eq}
 use Rattle.std.proofs.lemmas.List.{length-append}
+use Rattle.std.proofs.lemmas.Option.{slice_get_within}
+use Rattle.table_builder.proofs.Lists.{there, get_left, get_from}
 use Rattle.ob_types.specs.declared.types.Field.{Field}
-use Rattle.ob_types.specs.declared.types.Formal.{Formal}
 use Rattle.ob_types.specs.declared.types.RecordType.{RecordType}
 use Rattle.ob_types.specs.declared.types.Signature.{Signature}
-use Rattle.ob_types.specs.Assignable.{both_or_neither}
 use Rattle.ob_types.specs.Table.{Table}
-use Rattle.ob_types.proofs.Tests.{none_some, no, and_of}
-use Rattle.ob_judge.specs.Shapes.{Known}
+use Rattle.ob_types.proofs.Tests.{none_some, some_same}
 use Rattle.ob_judge.specs.Shapes.{Added as AddedOf, Field as FieldOf, Layout as LayoutOf}
-use Rattle.judged_tree.specs.Tables.{same_parameters, same_signatures}
 use Rattle.check_steps.specs.Maps.{at_bytes}
 use Rattle.check_types.specs.declared.types.TypeRef.{TypeRef}
 use Rattle.check_types.specs.declared.types.TypeRef.TheVariants as TheType
@@ -23,11 +21,11 @@ use Rattle.check_types.specs.declared.table.Layout.{Layout}
 use Rattle.check_types.specs.declared.table.TypeTable.{TypeTable}
 use Rattle.check_types.specs.Known.{field_of, added_of, layout_of, known_of}
 use Rattle.check_types.specs.TypeMeaning.{type_shape, kind_of_type}
-use Rattle.table_builder.specs.Entries.{IsNumbered, HasParts, pointers_of}
+use Rattle.table_builder.specs.Entries.{IsNumbered, is_whole, HasParts, element_in, HasWholeElements, pointers_of}
 use Rattle.table_builder.specs.Sound.{IsSound, IsNext}
 use Rattle.table_builder.specs.Growing.{Grows}
-use Rattle.table_builder.specs.Index.{Notes, signature_parts, number_in, IsIndex, HasSignature, IndexesSignatures, bit, IsArray}
-use Rattle.table_builder.specs.Contents.{IsField, AreFields, IsRecordType, IsClosed, AreRecordTypes, Contents, IsConsistent}
+use Rattle.table_builder.specs.Index.{Notes, signature_parts, number_in, IsArray}
+use Rattle.table_builder.specs.Contents.{AreFields, IsRecordType, IsClosed, AreRecordTypes, Contents, IsConsistent}
 use Rattle.table_builder.proofs.Growth.{Extends, type_means}
 use Rattle.table_builder.proofs.Pushing.{extends_append, extends_self, own_pointer, pointers-append, with_entry, pushed}
 use Rattle.table_builder.proofs.Indexing.{IsNoted, indexed, IsWith, restored, array_noted, open_noted}
@@ -49,9 +47,11 @@ closed_more es fs more l h = record { field = λ q f at. numbered_more es fs mor
 
 pub layouts_more : (es fs : List TypeRef) → Extends es fs → (xs : List RecordType) (ls : List Layout) → AreRecordTypes es xs ls → AreRecordTypes fs xs ls
 layouts_more es fs more [] [] h = tt
-layouts_more es fs more (x ∷ xs) (l ∷ ls) h =
-    (record { unit = h.0.unit; base = h.0.base; level = h.0.level; fields = fields_more es fs more x.fields l.added.items h.0.fields; cells = h.0.cells },
-    closed_more es fs more l h.1, layouts_more es fs more xs ls h.2)
+layouts_more es fs more (x ∷ xs) (l ∷ ls) h = (
+  record { unit = h.0.unit; base = h.0.base; level = h.0.level; fields = fields_more es fs more x.fields l.added.items h.0.fields; cells = h.0.cells },
+  closed_more es fs more l h.1,
+  layouts_more es fs more xs ls h.2,
+)
 layouts_more es fs more [] (l ∷ ls) h = absurd h
 layouts_more es fs more (x ∷ xs) [] h = absurd h
 
@@ -104,6 +104,29 @@ known_same t u p q r =
 pub known_grown : (t u : TypeTable) → Grows t u → AreRecordTypes t.entries.items t.types.records t.layouts.items → map (layout_of u.types) t.layouts.items ≡ map (layout_of t.types) t.layouts.items
 known_grown t u g h = layouts_stay t.types u.types t.entries.items g.shape t.types.records t.layouts.items h
 
+-- ---- elements of arrays
+
+element_before : (sigs : List Signature) (k : ℕ) (of : TypeRef) (a : ℕ) → HasParts sigs k of → element_in of ≡ Some a → a < k
+element_before sigs k (TheType.Array n e) a h is = subst (λ m. m < k) (some_same e a is) h
+element_before sigs k (TheType.Open e) a h is = subst (λ m. m < k) (some_same e a is) h
+element_before sigs k _ a h is = none_some a is
+
+pub elements_more : (b : Contents) → IsConsistent b → (of : TypeRef) (sigs : List Signature) → HasParts sigs (length b.entries) of → HasWholeElements b.entries of
+    → (n : ℕ) (q : TypeRef) → slice_get (b.entries ++ of ∷ []) n ≡ Some q → HasWholeElements (b.entries ++ of ∷ []) q
+elements_more b ok of sigs parts whole n q at a e is h = by (get_from b.entries of n q at)
+  where
+    known : a < length b.entries → slice_get b.entries a ≡ Some e
+    known l = let d = there b.entries a l in d.1 ∙ ap (λ x. Some x) (some_same d.0 e (sym (get_left b.entries (of ∷ []) a d.0 d.1) ∙ h))
+
+    by : (slice_get b.entries n ≡ Some q) ⊎ ((n ≡ length b.entries) × (of ≡ q)) → is_whole e ≡ true
+    by (inl g) =
+        let l = slice_get_within b.entries n q g in
+        let m = element_before b.types.signatures n q a (ok.sound.parts n q g) is in
+        ok.elements n q g a e is (known (omega (arith, l, m)))
+    by (inr g) =
+        let i = ap element_in g.1 ∙ is in
+        whole a e i (known (element_before sigs (length b.entries) of a parts i))
+
 -- ---- one more entry
 
 module _ (b : Contents) (ok : IsConsistent b) (of : TypeRef) (fits : IsNext b.types.signatures b.entries of) where
@@ -111,10 +134,10 @@ module _ (b : Contents) (ok : IsConsistent b) (of : TypeRef) (fits : IsNext b.ty
   longer = extends_append b.entries (of ∷ [])
 
   -- an array type
-  pub built_array : (notes : Notes) → IsNoted b.notes notes of (length b.entries) → own_pointer of ≡ []
+  pub built_array : (notes : Notes) → IsNoted b.notes notes of (length b.entries) → own_pointer of ≡ [] → HasWholeElements b.entries of
       → notes.records ≡ b.notes.records → notes.pointers ≡ b.notes.pointers → notes.procedures ≡ b.notes.procedures → notes.signatures ≡ b.notes.signatures
       → IsConsistent (record { types = with_entry b.types b.entries b.bases ok.sound of fits; entries = b.entries ++ of ∷ []; bases = b.bases; layouts = b.layouts; notes = notes })
-  built_array notes noted none records pointers procedures signatures = record {
+  built_array notes noted none whole records pointers procedures signatures = record {
     sound = pushed b.types b.entries b.bases ok.sound of fits;
     index = indexed b.notes notes b.entries of noted fits.new ok.index;
     signatures = record {
@@ -126,6 +149,7 @@ module _ (b : Contents) (ok : IsConsistent b) (of : TypeRef) (fits : IsNext b.ty
     pointers = ap (λ xs. length xs) pointers ∙ ok.pointers;
     bases = ok.bases ∙ sym (no_more (pointers_of b.entries) (own_pointer of) none (pointers_of (b.entries ++ of ∷ [])) (pointers-append b.entries of));
     procedures = ap (λ xs. length xs) procedures ∙ ok.procedures;
+    elements = elements_more b ok of b.types.signatures fits.parts whole;
   }
     where
       no_more : (xs ys : List ℕ) → ys ≡ [] → (zs : List ℕ) → zs ≡ xs ++ ys → length zs ≡ length xs
@@ -172,14 +196,14 @@ module _ (b : Contents) (ok : IsConsistent b) (of : TypeRef) (parts : List ℕ) 
   array_is_noted _ h n arrays w = absurd h
 
   -- it was added
-  pub array_built : number_in b.notes of ≡ None → (arrays : List ℕ → Option ℕ) (n : ℕ) → n ≡ length b.entries → IsWith parts n b.notes.arrays arrays
+  pub array_built : number_in b.notes of ≡ None → HasWholeElements b.entries of → (arrays : List ℕ → Option ℕ) (n : ℕ) → n ≡ length b.entries → IsWith parts n b.notes.arrays arrays
       → (t : Table) (es : List TypeRef) (bs : List (Option ℕ)) (ls : List Layout)
       → t ≡ record b.types { kinds = b.types.kinds ++ kind_of_type b.bases of ∷ [] } → es ≡ b.entries ++ of ∷ [] → bs ≡ b.bases → ls ≡ b.layouts
       → IsConsistent (record { types = t; entries = es; bases = bs; layouts = ls; notes = record b.notes { arrays = arrays } })
-  array_built none arrays n at w t es bs ls p q r u =
+  array_built none whole arrays n at w t es bs ls p q r u =
       let fits = array_next none in
       same_contents (record { types = with_entry b.types b.entries b.bases ok.sound of fits; entries = b.entries ++ of ∷ []; bases = b.bases; layouts = b.layouts; notes = record b.notes { arrays = arrays } })
-      (built_array b ok of fits (record b.notes { arrays = arrays }) (array_is_noted of is (length b.entries) arrays (subst (λ m. IsWith parts m b.notes.arrays arrays) at w)) (array_parted of is).1 refl refl refl refl)
+      (built_array b ok of fits (record b.notes { arrays = arrays }) (array_is_noted of is (length b.entries) arrays (subst (λ m. IsWith parts m b.notes.arrays arrays) at w)) (array_parted of is).1 whole refl refl refl refl)
       t es bs ls (record b.notes { arrays = arrays }) p q r u refl
 
   -- it was noted, and that taken away again

@@ -1,9 +1,8 @@
 -- One more record, pointer or procedure type, and what a pointer type points to.
-use Rattle.std.proofs.Common.{◌≡◌, ℕ, zero, suc, ◌+◌, ◌<◌, ◌≤◌, ◌-◌, List, [], ◌∷◌, ◌++◌, length, get_or, map, Bool, true, false, ◌&&◌, cond, Option, Some, None, option_map, refl, sym, ap, ap₂, ◌∙◌, subst, arith, eqb-true, ◌⊎◌, inl, inr}
+use Rattle.std.proofs.Common.{◌≡◌, ℕ, zero, suc, ◌<◌, List, [], ◌∷◌, ◌++◌, length, get_or, map, Bool, true, false, ◌&&◌, Option, Some, None, option_map, refl, sym, ap, ap₂, ◌∙◌, subst, arith, eqb-true, ◌⊎◌, inl, inr}
 use Rattle.std.specs.Prelude.{◌==◌, slice_get, slice_set}
 use mathlib.Core.Path.{fun_ext}
-use Rattle.std.specs.Str.{bytes_eq}
-use Rattle.std.proofs.lemmas.List.{length-append, length-set, map-append}
+use Rattle.std.proofs.lemmas.List.{length-append, length-set}
 use Rattle.std.proofs.lemmas.Option.{slice_get_within}
 use Rattle.ob_types.specs.declared.types.Field.{Field}
 use Rattle.ob_types.specs.declared.types.Formal.{Formal}
@@ -12,31 +11,30 @@ use Rattle.ob_types.specs.declared.types.Signature.{Signature}
 use Rattle.ob_types.specs.declared.types.TypeKind.TheVariants as TheKind
 use Rattle.ob_types.specs.Assignable.{both_or_neither}
 use Rattle.ob_types.specs.Table.{Table}
-use Rattle.ob_types.proofs.Tests.{none_some, some_same, no, and_of}
-use Rattle.ob_judge.specs.Shapes.{Shape, Procedure}
-use Rattle.ob_judge.specs.Shapes.{Field as FieldOf, Added as AddedOf, Layout as LayoutOf}
+use Rattle.ob_types.proofs.Tests.{none_some, some_same, no}
+use Rattle.ob_judge.specs.Shapes.{Procedure}
+use Rattle.ob_judge.specs.Shapes.{Field as FieldOf, Added as AddedOf}
 use Rattle.ob_judge.specs.Making.{no_layout}
 use Rattle.judged_tree.specs.TypeShapes.{formals_shape, signature_shape, shapes_of, shape_of}
-use Rattle.judged_tree.specs.Tables.{are_before, is_before, same_parameters, same_signatures}
+use Rattle.judged_tree.specs.Tables.{is_before, same_parameters}
 use Rattle.check_steps.specs.Maps.{at_bytes}
 use Rattle.check_types.specs.declared.types.TypeRef.{TypeRef}
 use Rattle.check_types.specs.declared.types.TypeRef.TheVariants as TheType
 use Rattle.check_types.specs.declared.table.Added.{Added}
 use Rattle.check_types.specs.declared.table.Layout.{Layout}
 use Rattle.check_types.specs.declared.table.TypeTable.{TypeTable}
-use Rattle.check_types.specs.Known.{field_of, added_of, layout_of, known_of}
-use Rattle.check_types.specs.TypeMeaning.{type_shape, kind_of_type, formals_of, result_of}
+use Rattle.check_types.specs.Known.{field_of, added_of, layout_of}
+use Rattle.check_types.specs.TypeMeaning.{type_shape}
 use Rattle.table_builder.specs.Entries.{IsNumbered, IsElement, is_whole, pointers_of}
 use Rattle.table_builder.specs.Sound.{IsSound, IsNext, IsNewSignature}
-use Rattle.table_builder.specs.Growing.{Grows}
-use Rattle.table_builder.specs.Index.{Notes, signature_parts, number_in, IsIndex, HasSignature, IndexesSignatures, bit}
+use Rattle.table_builder.specs.Index.{signature_parts, HasSignature, bit}
 use Rattle.table_builder.specs.Contents.{IsField, AreFields, IsRecordType, IsClosed, AreRecordTypes, IsBlank, base_in, AreElements, Contents, notes_of, IsConsistent}
 use Rattle.table_builder.specs.declared.numbers.Numbers.{Numbers}
 use Rattle.table_builder.proofs.Lists.{there, get_left, get_from, get_last}
 use Rattle.table_builder.proofs.Growth.{Extends, formals_mean, number_means}
-use Rattle.table_builder.proofs.Pushing.{extends_append, extends_self, pointers-append, with_entry, pushed, other_records, without_base, with_signature, signed}
-use Rattle.table_builder.proofs.Indexing.{IsNoted, indexed, IsWith, value_here, value_there, record_noted, pointer_noted, procedure_noted, HasSameParts, parts_tell}
-use Rattle.table_builder.proofs.Built.{layouts_more, same_contents, known_grown, grown}
+use Rattle.table_builder.proofs.Pushing.{extends_append, pointers-append, pushed, other_records}
+use Rattle.table_builder.proofs.Indexing.{IsNoted, indexed, IsWith, value_here, value_there, record_noted, pointer_noted, procedure_noted, parts_tell}
+use Rattle.table_builder.proofs.Built.{elements_more, layouts_more, same_contents}
 
 -- ---- lists of record types
 
@@ -121,6 +119,7 @@ module _ (b : Contents) (ok : IsConsistent b) where
           pointers = ok.pointers;
           bases = ok.bases ∙ sym (ap (λ ps. length ps) (pointers-append b.entries (TheType.Record r) ∙ append_nil (pointers_of b.entries)));
           procedures = ok.procedures;
+          elements = elements_more b ok (TheType.Record r) b.types.signatures tt (λ a e is h. none_some a is);
         }
       where
         append_nil : (ns : List ℕ) → ns ++ [] ≡ ns
@@ -174,6 +173,7 @@ module _ (b : Contents) (ok : IsConsistent b) where
           pointers = one_longer b.notes.pointers b.bases n None ok.pointers;
           bases = one_longer b.bases (pointers_of b.entries) None p ok.bases ∙ sym (ap (λ ps. length ps) (pointers-append b.entries (TheType.Pointer p)));
           procedures = ok.procedures;
+          elements = elements_more b ok (TheType.Pointer p) b.types.signatures tt (λ a e is h. none_some a is);
         }
       where
         one_longer : {A B : Type 0} (xs : List A) (ys : List B) (x : A) (y : B) → length xs ≡ length ys → length (xs ++ x ∷ []) ≡ length (ys ++ y ∷ [])
@@ -204,6 +204,7 @@ module _ (b : Contents) (ok : IsConsistent b) where
         pointers = ok.pointers ∙ sym (length-set b.bases p (Some r));
         bases = length-set b.bases p (Some r) ∙ ok.bases;
         procedures = ok.procedures;
+        elements = ok.elements;
       }) t es bs ls b.notes i q u v refl
 
   -- ---- what is known of a record type
@@ -222,6 +223,7 @@ module _ (b : Contents) (ok : IsConsistent b) where
         pointers = ok.pointers;
         bases = ok.bases;
         procedures = ok.procedures;
+        elements = ok.elements;
       }) t es bs ls b.notes i q u v refl
 
   -- ---- procedure types
@@ -312,6 +314,7 @@ module _ (b : Contents) (ok : IsConsistent b) where
       pointers = ok.pointers;
       bases = ok.bases ∙ sym (ap (λ ps. length ps) (pointers-append b.entries (TheType.Procedure g) ∙ append_nil (pointers_of b.entries)));
       procedures = one_longer b.notes.procedures b.types.signatures n x ok.procedures;
+      elements = elements_more b ok (TheType.Procedure g) with_procedure.types.signatures (procedure_next x g at before).parts (λ a e is h. none_some a is);
     }
       where
         append_nil : (ns : List ℕ) → ns ++ [] ≡ ns

@@ -1,12 +1,12 @@
 -- Entries that stay mean what they meant.
-use Rattle.std.proofs.Common.{◌≡◌, ℕ, zero, suc, ◌<◌, ◌≤◌, List, [], ◌∷◌, length, Option, Some, None, refl, sym, ap, ap₂, ◌∙◌, subst, arith}
+use Rattle.std.proofs.Common.{◌≡◌, ℕ, zero, suc, ◌<◌, ◌≤◌, List, [], ◌∷◌, length, Option, Some, None, refl, sym, ap, ap₂, ◌∙◌, arith}
 use Rattle.std.specs.Prelude.{slice_get}
 use Rattle.std.proofs.lemmas.Option.{slice_get_within}
 use Rattle.ob_types.specs.declared.types.Formal.{Formal}
 use Rattle.ob_types.specs.declared.types.Signature.{Signature}
 use Rattle.ob_types.specs.Table.{Table}
-use Rattle.ob_judge.specs.Shapes.{Shape, Array, Open, Procedure, one}
-use Rattle.judged_tree.specs.TypeShapes.{shapes_of, shape_of, shape_at, formals_shape, formals_in, result_in, signature_shape}
+use Rattle.ob_judge.specs.Shapes.{Array, Open, Procedure, one}
+use Rattle.judged_tree.specs.TypeShapes.{shapes_of, shape_of, formals_shape, signature_shape}
 use Rattle.judged_tree.specs.Tables.{are_before, is_before}
 use Rattle.check_types.specs.declared.types.TypeRef.{TypeRef}
 use Rattle.check_types.specs.declared.types.TypeRef.TheVariants as TheType

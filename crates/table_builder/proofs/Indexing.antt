@@ -1,18 +1,16 @@
 -- One more type, noted with its number.
-use Rattle.std.proofs.Common.{◌≡◌, ℕ, zero, suc, ◌+◌, ◌<◌, ◌≤◌, List, [], ◌∷◌, ◌++◌, length, Bool, true, false, cond, Option, Some, None, refl, sym, ap, ap₂, ◌∙◌, subst, arith, ◌⊎◌, inl, inr, ⊎_elim}
+use Rattle.std.proofs.Common.{◌≡◌, ℕ, List, [], ◌∷◌, ◌++◌, length, Bool, true, false, cond, Option, Some, None, refl, sym, ap, ap₂, ◌∙◌, subst, arith, ◌⊎◌, inl, inr}
 use Rattle.std.specs.Prelude.{slice_get}
 use Rattle.std.specs.Str.{bytes_eq}
 use Rattle.std.specs.Cmp.Lexicographic.{bytes_decides}
 use Rattle.std.proofs.lemmas.Bool.{cases_Bool, cond-true, cond-false}
 use Rattle.ob_types.specs.declared.types.Formal.{Formal}
-use Rattle.ob_types.specs.declared.types.Signature.{Signature}
-use Rattle.ob_types.proofs.Tests.{none_some, some_same, no, and_from}
-use Rattle.ob_judge.specs.Shapes.{Shape, Formals, one}
+use Rattle.ob_types.proofs.Tests.{some_same}
+use Rattle.ob_judge.specs.Shapes.{Shape, one}
 use Rattle.judged_tree.specs.TypeShapes.{shape_at, formals_shape}
-use Rattle.judged_tree.specs.Tables.{same_parameters, same_signatures}
 use Rattle.check_types.specs.declared.types.TypeRef.{TypeRef}
 use Rattle.check_types.specs.declared.types.TypeRef.TheVariants as TheType
-use Rattle.table_builder.specs.Index.{Notes, array_parts, open_parts, bit, signature_parts, number_in, IsIndex, HasSignature, IndexesSignatures}
+use Rattle.table_builder.specs.Index.{Notes, array_parts, open_parts, bit, signature_parts, number_in, IsIndex}
 use Rattle.table_builder.proofs.Lists.{get_left, get_last, get_from, one_more}
 
 -- a type is noted that was not, and nothing else is

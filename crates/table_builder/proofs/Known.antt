@@ -1,12 +1,11 @@
 -- What is known after each call.
-use Rattle.std.proofs.Common.{◌≡◌, ℕ, zero, suc, List, [], ◌∷◌, ◌++◌, length, map, Option, Some, None, refl, sym, ap, ap₂, ◌∙◌, subst}
+use Rattle.std.proofs.Common.{◌≡◌, ℕ, zero, suc, List, [], ◌∷◌, ◌++◌, map, Option, refl, sym, ap, ap₂, ◌∙◌, subst}
 use Rattle.std.specs.Prelude.{slice_set}
 use Rattle.std.proofs.lemmas.List.{map-append}
 use Rattle.ob_types.specs.declared.types.RecordType.{RecordType}
 use Rattle.ob_types.specs.declared.types.Signature.{Signature}
 use Rattle.ob_types.specs.declared.types.TypeKind.{TypeKind}
 use Rattle.ob_types.specs.declared.types.TypeKind.TheVariants as TheKind
-use Rattle.ob_types.specs.Table.{Table}
 use Rattle.ob_judge.specs.Shapes.{Layout as LayoutOf}
 use Rattle.ob_judge.specs.Making.{no_layout}
 use Rattle.check_types.specs.declared.types.TypeRef.{TypeRef}

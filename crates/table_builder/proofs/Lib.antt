@@ -10,3 +10,5 @@ pub mod Calls
 pub mod Known
 pub mod Basics
 pub mod Counts
+pub mod Growing
+pub mod ByShape

@@ -1,15 +1,14 @@
 -- What entries mean, where they and the table say the same.
-use Rattle.std.proofs.Common.{◌≡◌, ℕ, zero, suc, ◌+◌, ◌<◌, ◌≤◌, List, [], ◌∷◌, ◌++◌, length, map, true, Option, Some, None, refl, sym, ap, ◌∙◌, subst, arith, ◌⊎◌, inl, inr}
+use Rattle.std.proofs.Common.{◌≡◌, ℕ, zero, suc, ◌+◌, ◌<◌, ◌≤◌, List, [], ◌∷◌, length, map, true, Option, Some, refl, sym, ap, ◌∙◌, subst, arith, ◌⊎◌, inl, inr}
 use Rattle.std.specs.Prelude.{slice_get, slice_index_or}
 use Rattle.std.specs.List.{range_with_len}
 use Rattle.std.proofs.lemmas.List.{length-map, get_or_past}
 use Rattle.std.proofs.lemmas.Option.{slice_get_within}
-use Rattle.ob_types.specs.declared.types.TypeKind.{TypeKind}
 use Rattle.ob_types.specs.declared.types.TypeKind.TheVariants as TheKind
 use Rattle.ob_types.specs.Layout.{kind_of}
 use Rattle.ob_types.specs.Table.{Table}
-use Rattle.ob_types.proofs.Tests.{none_some, some_same, less_or_past}
-use Rattle.ob_judge.specs.Shapes.{Shape, Nothing, Pointer, same}
+use Rattle.ob_types.proofs.Tests.{none_some, less_or_past}
+use Rattle.ob_judge.specs.Shapes.{Shape, Pointer, same}
 use Rattle.judged_tree.specs.TypeShapes.{kind_shape, shapes_of, shape_of}
 use Rattle.judged_tree.specs.Tables.{HasPartsBefore, IsFromTheFront}
 use Rattle.judged_tree.proofs.Numbers.{shape-of_kind, pointer_from, pointer_of}

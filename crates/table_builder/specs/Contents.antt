@@ -4,13 +4,12 @@ use Rattle.ob_types.specs.declared.types.Field.{Field}
 use Rattle.ob_types.specs.declared.types.RecordType.{RecordType}
 use Rattle.check_steps.specs.Maps.{at_bytes}
 use Rattle.check_types.specs.declared.types.TypeRef.{TypeRef}
-use Rattle.check_types.specs.declared.types.TypeRef.TheVariants as TheType
 use Rattle.check_types.specs.declared.table.Added.{Added}
 use Rattle.check_types.specs.declared.table.FieldEntry.{FieldEntry}
 use Rattle.check_types.specs.declared.table.Layout.{Layout}
 use Rattle.check_types.specs.declared.table.TypeTable.{TypeTable}
 use Rattle.table_builder.specs.declared.numbers.Numbers.{Numbers}
-use Rattle.table_builder.specs.Entries.{IsNumbered, IsElement, is_whole, pointers_of}
+use Rattle.table_builder.specs.Entries.{IsNumbered, IsElement, is_whole, HasWholeElements, pointers_of}
 use Rattle.table_builder.specs.Sound.{IsSound}
 use Rattle.table_builder.specs.Index.{Notes, IsIndex, IndexesSignatures}
 use Rattle.ob_types.specs.Table.{Table}
@@ -73,6 +72,7 @@ pub record IsConsistent (b : Contents) : Type 0 where
   pub pointers : length b.notes.pointers ≡ length b.bases
   pub bases : length b.bases ≡ length (pointers_of b.entries)
   pub procedures : length b.notes.procedures ≡ length b.types.signatures
+  pub elements : (n : ℕ) (of : TypeRef) → slice_get b.entries n ≡ Some of → HasWholeElements b.entries of
 
 -- types that variables may have, each with a number
 abbrev pub AreElements : List TypeRef → List Added → Type 0

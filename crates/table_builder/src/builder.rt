@@ -8,14 +8,16 @@ ghost use Rattle.judged_tree.specs.Tables.{are_before, is_before, IsFromTheFront
 ghost use Rattle.check_steps.specs.Maps.{at_bytes};
 ghost use Rattle.check_types.specs.TypeMeaning.{type_shape};
 ghost use Rattle.check_types.specs.Known.{known_of, layout_of};
-ghost use Rattle.table_builder.specs.Entries.{IsNumbered, IsElement};
+ghost use Rattle.table_builder.specs.Entries.{IsNumbered, IsElement, HasWholeElements};
 ghost use Rattle.table_builder.specs.Growing.{Grows};
 ghost use Rattle.table_builder.specs.Index.{IsArray, basic_types, signature_parts as parts_of};
 ghost use Rattle.table_builder.specs.Builder.{IsBuilt};
 ghost use Rattle.table_builder.specs.Contents.{IsReady};
 
 use crate::blanks::{blank_layout, blank_record};
-use crate::entries::{push_entry, push_pointer, push_procedure, push_record, set_layout, set_target};
+use crate::entries::{
+    push_entry, push_pointer, push_procedure, push_record, set_layout, set_target,
+};
 use crate::numbers::{Numbers, forget, note};
 use crate::parts::signature_parts;
 use crate::start::{empty_table, push_basics};
@@ -88,6 +90,7 @@ impl TableBuilder {
     fn add_array(&mut self, of: TypeRef, parts: &[u32]) -> Result<(), Memory>
         requires built { IsBuilt self.old }
         requires array { IsArray (length self.old.table.entries.items) of parts.now }
+        requires elements { HasWholeElements self.old.table.entries.items of }
         ensures built { IsBuilt self.new }
         ensures grows { Grows self.old.table self.new.table }
         ensures known { known_of self.new.table ≡ known_of self.old.table }
@@ -259,6 +262,62 @@ impl TableBuilder {
     {
         let declared = self.declared(&layout)?;
         set_layout(&mut self.table, r, layout, declared);
+        Ok(())
+    }
+}
+
+#[cfg(test)]
+mod tests {
+    use super::*;
+    use ob_types::Mode;
+    use std::test::Fail;
+
+    #[test]
+    fn arrays_have_one_number_each(rt: HostRuntime) -> Result<(), Fail> {
+        let mut builder = TableBuilder::new(rt.alloc())?;
+        let row = builder.array(3, TypeRef::Int)?;
+        let again = builder.array(3, TypeRef::Int)?;
+        assert_eq!(rt; builder.number(row), 6);
+        assert_eq!(rt; builder.number(again), 6);
+        let matrix = builder.array(2, row)?;
+        assert_eq!(rt; builder.number(matrix), 7);
+        assert_eq!(rt; builder.cells(matrix), 6);
+        Ok(())
+    }
+
+    #[test]
+    fn pointers_point_to_later_records(rt: HostRuntime) -> Result<(), Fail> {
+        let mut builder = TableBuilder::new(rt.alloc())?;
+        let pointer = builder.new_pointer()?;
+        assert!(rt;
+            builder
+                .table()
+                .target_of(TypeRef::Pointer(pointer))
+                .is_none()
+        );
+        let record = builder.new_record()?;
+        builder.set_base(pointer, record);
+        assert_eq!(rt;
+            builder.table().target_of(TypeRef::Pointer(pointer)),
+            Some(record)
+        );
+        Ok(())
+    }
+
+    #[test]
+    fn procedure_types_are_found_by_their_parts(rt: HostRuntime) -> Result<(), Fail> {
+        let mut builder = TableBuilder::new(rt.alloc())?;
+        let none = builder.procedure(Items::new(rt.alloc()), 5)?;
+        let again = builder.procedure(Items::new(rt.alloc()), 5)?;
+        let mut formals = Items::new(rt.alloc());
+        formals.push(Formal {
+            mode: Mode::Value,
+            variable: false,
+            type_number: 0,
+        })?;
+        let one = builder.procedure(formals, 5)?;
+        assert_eq!(rt; builder.number(none), builder.number(again));
+        assert_ne!(rt; builder.number(none), builder.number(one));
         Ok(())
     }
 }

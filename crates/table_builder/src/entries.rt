@@ -126,11 +126,7 @@ pub fn push_pointer(table: &mut TypeTable, p: u32) -> Result<(), Memory>
 }
 
 /// One more procedure type: its signature and its entry; or neither.
-pub fn push_procedure(
-    table: &mut TypeTable,
-    signature: Signature,
-    g: u32,
-) -> Result<(), Memory>
+pub fn push_procedure(table: &mut TypeTable, signature: Signature, g: u32) -> Result<(), Memory>
     requires sound { IsSound table.old.types table.old.entries.items table.old.bases.items }
     requires new { IsNewSignature table.old.types.signatures signature }
     requires next { IsNext (table.old.types.signatures ++ signature ∷ []) table.old.entries.items (TypeRef.Procedure g) }

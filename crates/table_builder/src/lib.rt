@@ -1,4 +1,9 @@
 //! The table of types while declarations are judged.
+//!
+//! A `TableBuilder` keeps a `TypeTable` and, of each type, its number: so each type gets one number, and looking it up takes
+//! no pass over the table. `IsBuilt` (`specs/Builder.antt`) says that both agree. What each call leaves is said in three
+//! words: `Grows` (`specs/Growing.antt`), that every type has the number and the meaning that it had; what `known_of` says of
+//! the table, which is the judgement's knowledge of record and pointer types; and the shape of the type that is given.
 #![tactic(auto)]
 
 mod blanks;

@@ -1,6 +1,4 @@
-use Rattle.std.proofs.Common.{◌≡◌, ap, sym, subst, ◌∙◌, ◌++◌, ◌∷◌, []}
-use Rattle.check_types.specs.TypeMeaning.{kind_of_type}
-use Rattle.table_builder.specs.Sound.{IsSound}
+use Rattle.std.proofs.Common.{ap, ◌∙◌, ◌++◌, ◌∷◌, []}
 use Rattle.table_builder.proofs.Meaning.{each_meant}
 use Rattle.table_builder.proofs.Apart.{each_apart}
 use Rattle.table_builder.proofs.Pushing.{pushed_as}
@@ -12,7 +10,7 @@ invariant_of-table-in-Ok c =
     let es = c.args.table.now.entries.items in
     let bs = c.args.table.now.bases.items in
     let s = pushed_as t es bs c.requires.sound c.args.of c.requires.next c.push_kind.new.self c.push.new.self.items
-          (c.in-Ok.ensures.ok ∙ ap (λ k. record t { kinds = t.kinds ++ k ∷ [] }) c.kind_of-kind.ensures) c.in_ok-push.ensures.items in
+    (c.in-Ok.ensures.ok ∙ ap (λ k. record t { kinds = t.kinds ++ k ∷ [] }) c.kind_of-kind.ensures) c.in_ok-push.ensures.items in
     record { meant = each_meant _ _ bs s; apart = each_apart _ _ bs s }
 
 pub returns-in-Ok-clause-sound : goal.returns-in-Ok-clause-sound

@@ -1,4 +1,4 @@
-use Rattle.std.proofs.Common.{◌≡◌, ◌++◌, ◌∷◌, [], refl, ⊎_elim}
+use Rattle.std.proofs.Common.{refl, ⊎_elim}
 use Rattle.table_builder.specs.Sound.{IsSound}
 use Rattle.table_builder.proofs.Meaning.{each_meant}
 use Rattle.table_builder.proofs.Apart.{each_apart}
@@ -8,7 +8,7 @@ use Rattle.table_builder.proofs.entries.push_procedure.Goals as goal
 pub invariant_of-table : goal.invariant_of-table
 invariant_of-table c =
     let s : IsSound c.push_signature.new.self c.args.table.now.entries.items c.args.table.now.bases.items =
-          ⊎_elim (λ e. signed_as c.args.table.now.types c.args.table.now.entries.items c.args.table.now.bases.items c.requires.sound c.args.signature c.requires.new c.push_signature.new.self e) (λ e. sound_as c.args.table.now.types c.args.table.now.entries.items c.args.table.now.bases.items c.requires.sound c.push_signature.new.self c.args.table.now.entries.items e refl) (either c.push_signature.result c.push_signature.ensures.ok c.push_signature.ensures.err) in
+    ⊎_elim (λ e. signed_as c.args.table.now.types c.args.table.now.entries.items c.args.table.now.bases.items c.requires.sound c.args.signature c.requires.new c.push_signature.new.self e) (λ e. sound_as c.args.table.now.types c.args.table.now.entries.items c.args.table.now.bases.items c.requires.sound c.push_signature.new.self c.args.table.now.entries.items e refl) (either c.push_signature.result c.push_signature.ensures.ok c.push_signature.ensures.err) in
     record { meant = each_meant _ _ _ s; apart = each_apart _ _ _ s }
 
 pub push_entry-requires-clause-sound : goal.push_entry-requires-clause-sound
@@ -18,6 +18,6 @@ push_entry-requires-clause-sound c =
 pub invariant_of-table-in-Err : goal.invariant_of-table-in-Err
 invariant_of-table-in-Err c =
     let s = sound_as c.args.table.now.types c.args.table.now.entries.items c.args.table.now.bases.items c.requires.sound c.drop_signature.new.types c.push_entry.new.table.entries.items
-          (signatures_restored c.args.table.now.types c.push_signature.new.self c.push_entry.new.table.types c.drop_signature.new.types c.args.signature c.in_ok-push_signature.ensures.ok c.in-Err.ensures.same_types c.drop_signature.ensures)
-          c.in-Err.ensures.same_entries in
+    (signatures_restored c.args.table.now.types c.push_signature.new.self c.push_entry.new.table.types c.drop_signature.new.types c.args.signature c.in_ok-push_signature.ensures.ok c.in-Err.ensures.same_types c.drop_signature.ensures)
+    c.in-Err.ensures.same_entries in
     record { meant = each_meant _ _ _ s; apart = each_apart _ _ _ s }

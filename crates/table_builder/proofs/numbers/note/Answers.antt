@@ -1,4 +1,4 @@
-use Rattle.std.proofs.Common.{◌≡◌, ap, ◌∙◌, cond, Some}
+use Rattle.std.proofs.Common.{ap, ◌∙◌, cond, Some}
 use Rattle.std.specs.Str.{bytes_eq}
 use Rattle.check_steps.specs.Maps.{at_bytes}
 use Rattle.check_steps.proofs.Maps.{at_bytes_after}

@@ -1,9 +1,8 @@
-use Rattle.std.proofs.Common.{◌≡◌, ◌∙◌, sym, ap, refl, subst, length, Option, Some, None, Bool, true, false, ℕ}
+use Rattle.std.proofs.Common.{◌≡◌, ◌∙◌, sym, ap, refl, length, Option, Some, None, true, false, ℕ}
 use Rattle.std.specs.Prelude.{is_some}
 use Rattle.ob_types.proofs.Tests.{no}
-use Rattle.table_builder.specs.Contents.{contents_of, notes_of}
+use Rattle.table_builder.specs.Contents.{contents_of}
 use Rattle.table_builder.proofs.Lists.{get_last}
-use Rattle.table_builder.proofs.Indexing.{IsWith}
 use Rattle.table_builder.proofs.Built.{array_next, same_contents, same_arrays, array_built, array_restored, table_pushed, known_pushed}
 use Rattle.table_builder.proofs.builder.TableBuilder.add_array.Goals as goal
 
@@ -30,7 +29,7 @@ returns-in-Ok-clause-built c =
     let b = contents_of c.args.self.now.table c.args.self.now.numbers in
     let none = sym c.find.ensures ∙ none_of c.find.result (sym c.is_some.ensures ∙ c.if-is_some.false) in
     let n = c.in_ok-n.ensures ∙ ap (λ es. length es) c.deref.ensures.value in
-    array_built b c.requires.built c.args.of c.args.parts.now c.requires.array none _ c.in_ok-n.n n c.in_ok-note.ensures.ok _ _ _ _
+    array_built b c.requires.built c.args.of c.args.parts.now c.requires.array none c.requires.elements _ c.in_ok-n.n n c.in_ok-note.ensures.ok _ _ _ _
     c.in-Ok.ensures.types c.in-Ok.ensures.entries (ap (λ bs. bs.items) c.in-Ok.ensures.bases) (ap (λ ls. ls.items) c.in-Ok.ensures.layouts)
 
 pub returns-in-Ok-clause-grows : goal.returns-in-Ok-clause-grows

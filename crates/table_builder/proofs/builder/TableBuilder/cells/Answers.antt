@@ -1,4 +1,4 @@
-use Rattle.std.proofs.Common.{◌≡◌, ◌<◌, ◌*◌, sym, ap, ◌∙◌, length, arith}
+use Rattle.std.proofs.Common.{◌*◌, sym, ap, ◌∙◌, arith}
 use Rattle.std.specs.Prelude.{min}
 use Rattle.ob_judge.specs.Shapes.{cells as cells_of}
 use Rattle.judged_tree.specs.TypeShapes.{shape_of}

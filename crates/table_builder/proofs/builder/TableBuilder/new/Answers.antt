@@ -1,4 +1,4 @@
-use Rattle.std.proofs.Common.{◌≡◌, ap, ◌∙◌}
+use Rattle.std.proofs.Common.{ap, ◌∙◌}
 use Rattle.table_builder.proofs.Basics.{basics_built}
 use Rattle.table_builder.proofs.builder.TableBuilder.new.Goals as goal
 

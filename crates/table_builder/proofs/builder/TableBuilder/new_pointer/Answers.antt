@@ -1,4 +1,4 @@
-use Rattle.std.proofs.Common.{◌≡◌, refl, ap, ◌∙◌, sym, length}
+use Rattle.std.proofs.Common.{refl, ap, ◌∙◌, length}
 use Rattle.table_builder.specs.Contents.{contents_of}
 use Rattle.table_builder.proofs.Calls.{pointer_next, pointer_built, last_element}
 use Rattle.table_builder.proofs.Known.{pointer_grows, known_pointer}

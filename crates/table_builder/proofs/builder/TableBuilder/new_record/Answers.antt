@@ -1,4 +1,4 @@
-use Rattle.std.proofs.Common.{◌≡◌, refl, ap, ◌∙◌, sym, length}
+use Rattle.std.proofs.Common.{refl, ap, ◌∙◌, length}
 use Rattle.table_builder.specs.Contents.{contents_of}
 use Rattle.table_builder.proofs.Calls.{record_next, record_built, last_element}
 use Rattle.table_builder.proofs.Known.{record_grows, known_record}

@@ -1,4 +1,4 @@
-use Rattle.std.proofs.Common.{◌≡◌, ◌∙◌, sym}
+use Rattle.std.proofs.Common.{◌∙◌, sym}
 use Rattle.table_builder.proofs.Meaning.{meant}
 use Rattle.table_builder.proofs.builder.TableBuilder.number.Goals as goal
 

@@ -1,4 +1,4 @@
-use Rattle.std.proofs.Common.{◌≡◌, refl, ap, ◌∙◌, sym, subst}
+use Rattle.std.proofs.Common.{ap, ◌∙◌, sym, subst}
 use Rattle.table_builder.specs.Index.{HasSignature, signature_parts}
 use Rattle.table_builder.specs.Contents.{contents_of}
 use Rattle.table_builder.proofs.Calls.{procedure_numbered, procedure_means}

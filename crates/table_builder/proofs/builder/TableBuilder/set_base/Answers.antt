@@ -1,4 +1,4 @@
-use Rattle.std.proofs.Common.{◌≡◌, refl, ap, ◌∙◌, sym}
+use Rattle.std.proofs.Common.{ap}
 use Rattle.table_builder.specs.Contents.{contents_of}
 use Rattle.table_builder.proofs.Calls.{pointer_numbered, base_built}
 use Rattle.table_builder.proofs.Known.{base_grows, known_pointer}

@@ -1,4 +1,4 @@
-use Rattle.std.proofs.Common.{◌≡◌, refl, ap, ◌∙◌, sym, arith}
+use Rattle.std.proofs.Common.{ap, arith}
 use Rattle.table_builder.specs.Contents.{contents_of}
 use Rattle.table_builder.proofs.Calls.{layout_built, as_many}
 use Rattle.table_builder.proofs.Known.{layout_grows, known_layout}

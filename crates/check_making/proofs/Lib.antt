@@ -1,0 +1,3 @@
+pub mod Typed
+pub mod Standing
+pub mod Places
