@@ -36,7 +36,7 @@ use Rattle.ob_types.specs.declared.statements.Stmt.{Call as Invoke}
 use Rattle.ob_types.specs.declared.program.Program.{Program}
 use Rattle.ssa_lowered.specs.Data.{Layout, rounded}
 use Rattle.ssa_lowered.specs.Variables.{Site, Register, Memory, Variable, some_structured, further, zeroing, first_value, store_first, stored, first_of, opened, is_structured, assigned_all}
-use Rattle.lowered_valid.specs.Parts.{in_expr, in_links, in_link, in_designator, in_selectors, in_selector, in_call, in_argument, in_arguments, in_checked, in_statement, in_row, in_branches, in_case_parts, in_type_parts, in_list, in_answer}
+use Rattle.lowered_valid.specs.TreeSizes.{in_expr, in_links, in_link, in_designator, in_selectors, in_selector, in_call, in_argument, in_arguments, in_checked, in_statement, in_row, in_branches, in_case_parts, in_type_parts, in_list, in_answer}
 use Rattle.lowered_valid.proofs.Costs.{Costs, CostsTest, at_most, test_at_most, seq, free, emitted, done, c_const, f_value, f_branch, f_and, f_or, c_choose, Rounds, c_loop, c_repeat, Bodies, c_case, c_data_at, c_local_at, c_element, c_field, c_dereferenced, c_narrowed, c_binary, c_compared, c_texts, c_guarded, c_contained, c_with_element, c_with_range, c_is_pointer, c_is_tag, c_tag_of, c_as_byte, c_length_of, c_by_word, c_address, c_by_record, c_by_open, c_also, c_call, c_call_at, c_with_result, c_without_result, c_home_of, c_load, Good, g_valued, g_tested, g_one, c_store, c_assign, c_if, c_change_number, c_change_set, c_new, c_copy_array, c_copy_record, c_assert, c_out_char, c_out_int, c_out_string, c_in_char, c_for}
 use Rattle.block_runs.specs.declared.code.Code.TheVariants.{Zero as ZeroOp}
 

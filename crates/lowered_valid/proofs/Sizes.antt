@@ -24,7 +24,7 @@ use Rattle.ssa_lowered.specs.Variables.{words_by, words_of, Variable, is_structu
 use Rattle.ssa_lowered.specs.Variables.{Register as InRegister, Memory as InMemory}
 use Rattle.ssa_lowered.specs.Lowered.{here_of, zeroed_bytes, lent_in_body, at_entry, entry, made_of, proc_of, procs_from, lowered_by}
 use Rattle.lowered_valid.specs.Claims.{code_of, IsShort}
-use Rattle.lowered_valid.specs.Parts.{parts_of, IsSmall}
+use Rattle.lowered_valid.specs.TreeSizes.{tree_size, IsSmall}
 use Rattle.lowered_valid.proofs.CostsTree.{whole_costs}
 
 -- each piece is an operation or a block
@@ -77,7 +77,7 @@ words_twice (x ∷ xs) =
 abbrev no_word : Option ℕ
 no_word = None
 
-pub size_few : (p : Program) (l : Layout) (f : ℕ) (q : Procedure) → size_of (code_of (proc_of p l f q)) ≤ 16 * parts_of q
+pub size_few : (p : Program) (l : Layout) (f : ℕ) (q : Procedure) → size_of (code_of (proc_of p l f q)) ≤ 16 * tree_size q
 size_few p l f q =
     let words = words_of q.formals in
     let here = here_of p l f q in

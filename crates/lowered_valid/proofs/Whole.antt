@@ -17,11 +17,11 @@ use Rattle.lowered_valid.proofs.Scoped.{Certificate, OfValue, OfNone, Known, Sco
 use Rattle.lowered_valid.proofs.Tree.{OfWord, OfAnswer, OfNamed, s_const, s_skip, s_store, s_if, s_rest}
 
 -- as `Scoped`, but for the variables behind it
-pub record Ending {A : Type 0} (f : Certificate) (P : A → List ℕ → Type 0) (w : List ℕ) (m : Low A) : Type 0 where
+pub record Concludes {A : Type 0} (f : Certificate) (P : A → List ℕ → Type 0) (w : List ℕ) (m : Low A) : Type 0 where
   pub by : (c : Cursor) → Sub w c.seen → Known f c.env c.seen → Begins f (m c).pieces → Certified f c.seen (m c).pieces (m c).after.seen × P (m c).result (m c).after.seen
 
 bind_end : {A B : Type 0} {f : Certificate} {P : A → List ℕ → Type 0} {Q : B → List ℕ → Type 0} {w : List ℕ} {m : Low A} {k : A → Low B}
-    → Scoped f P w m → ((a : A) (x : List ℕ) → Sub w x → P a x → Ending f Q x (k a)) → Ending f Q w (m >>= k)
+    → Scoped f P w m → ((a : A) (x : List ℕ) → Sub w x → P a x → Concludes f Q x (k a)) → Concludes f Q w (m >>= k)
 bind_end {A} {B} {f} {P} {Q} {w} {m} {k} p q = record {
   by = λ c s e h.
       let a = m c in
@@ -94,7 +94,7 @@ module _ (f : Certificate) (p : Program) (l : Layout) (here : Here)
   abbrev behind_entry : Low (Option ℕ)
   behind_entry = deeds_of p l here here.procedure.body >>= λ _. answer p l here here.procedure.answer
 
-  entered : {w : List ℕ} (env : List ℕ) → Env f.given f.regs env w → length env ≡ f.size → Ending (before_all f) OfAnswer w (enters p l here env >>= λ _. behind_entry)
+  entered : {w : List ℕ} (env : List ℕ) → Env f.given f.regs env w → length env ≡ f.size → Concludes (before_all f) OfAnswer w (enters p l here env >>= λ _. behind_entry)
   entered {w} env i n = record {
     by = λ c s e h.
         let at : Cursor = record c { env = env } in
@@ -106,7 +106,7 @@ module _ (f : Certificate) (p : Program) (l : Layout) (here : Here)
   behind_words zeroed =
       zeroing (some_structured p.types here.procedure.locals) here.bytes zeroed >>= λ _. stored p.types l here.bytes here.variables >>= λ _. opened here.variables >>= λ env. enters p l here env >>= λ _. behind_entry
 
-  from_words : (zeroed : ℕ) → Ending (before_all f) OfAnswer [] (behind_words zeroed)
+  from_words : (zeroed : ℕ) → Concludes (before_all f) OfAnswer [] (behind_words zeroed)
   from_words zeroed =
       let g = before_all f in
       bind_end (s_zeroing g (some_structured p.types here.procedure.locals) here.bytes zeroed) (λ _ w1 s1 _. bind_end (lift g w1 (s_stored g p l here here.variables first)) (λ _ w2 s2 _. bind_end (lift g w2 (s_opened g p l here here.variables f.regs same first)) (λ env w3 s3 ie.

@@ -15,7 +15,7 @@ ghost use Rattle.ssa_lowered.specs.Lowered.{lowered, lowered_by, proc_of};
 ghost use Rattle.ssa_lowered.specs.Variables.{words_of};
 ghost use Rattle.lowered_valid.specs.Claims.{code_of, MakesInOrder, ReadsItsValues, LeadsToItsBlocks, EntersFromItsBlocks};
 ghost use Rattle.lowered_valid.specs.Claims.{HasFittingArguments, HasKnownConditions, HasFittingOperations, TakesFewWords};
-ghost use Rattle.lowered_valid.specs.Parts.{parts_of, IsSmall};
+ghost use Rattle.lowered_valid.specs.TreeSizes.{tree_size, IsSmall};
 ghost use Rattle.lowered_valid.specs.Claims.{IsShort, IsNarrow, IsWithinLimits, CanBeLowered};
 
 /// The values that a procedure's blocks make are 0, 1, 2 and so on, in order, each once, as many as the procedure says.
@@ -72,7 +72,7 @@ pub fn argument_words_are_few()
 
 /// A procedure has at most sixteen blocks and operations for each part of its tree, so that small trees become short procedures.
 pub fn small_trees_become_short()
-    ensures size { (p : Program) (l : Layout) (f : ℕ) (q : Procedure) → size_of (code_of (proc_of p l f q)) ≤ 16 * parts_of q }
+    ensures size { (p : Program) (l : Layout) (f : ℕ) (q : Procedure) → size_of (code_of (proc_of p l f q)) ≤ 16 * tree_size q }
     ensures short { (p : Program) (l : Layout) → All IsSmall p.procedures → All IsShort (lowered_by l p) }
 {}
 

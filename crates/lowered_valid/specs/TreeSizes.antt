@@ -1,4 +1,4 @@
--- How many parts a procedure of the checked tree has, each as often as it is lowered.
+-- The size of a tree: how many parts it has, each as often as it is lowered.
 use Rattle.std.specs.Prelude.{ℕ, suc, ◌+◌, ◌*◌, ◌≤◌, List, [], ◌∷◌, length, Option, Some, None}
 use Rattle.ob_types.specs.declared.program.Procedure.{Procedure}
 use Rattle.ob_types.specs.declared.tree.Expr.{Expr, Literal, Routine, Load, Guard, Unary', Chain', Compare', CompareTexts', In', IsPointer', IsParameter, Byte', Length, Call', Row_of-Link, end_of-Link, more_of-Link}
@@ -120,10 +120,10 @@ abbrev pub in_answer : Option Checked → ℕ
 in_answer None = 0
 in_answer (Some x) = in_checked x
 
--- its parameters and local variables count too
-abbrev pub parts_of : Procedure → ℕ
-parts_of q = suc (length q.formals + (length q.locals + (in_list q.body + in_answer q.answer)))
+-- of a procedure: its parameters and local variables count too
+abbrev pub tree_size : Procedure → ℕ
+tree_size q = suc (length q.formals + (length q.locals + (in_list q.body + in_answer q.answer)))
 
 -- at most so many
 abbrev pub IsSmall : Procedure → Type 0
-IsSmall q = parts_of q ≤ 31250000
+IsSmall q = tree_size q ≤ 31250000
