@@ -5,3 +5,6 @@ pub mod Straight
 pub mod Choose
 pub mod Loops
 pub mod Repeats
+pub mod Ladders
+pub mod Limbs
+pub mod Cases
