@@ -6,5 +6,7 @@
 #![tactic(auto)]
 
 mod assigned;
+mod joins;
 
 pub use assigned::{note, note_all, note_cases, note_parts, note_types};
+pub use joins::registers;

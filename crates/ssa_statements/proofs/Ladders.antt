@@ -1,5 +1,7 @@
 -- The tests of CASE, one after the other.
-use Rattle.std.proofs.Common.{◌≡◌, ℕ, zero, suc, ◌+◌, List, [], ◌∷◌, ◌++◌, Option, None, refl, sym, ap, ap₂, ◌∙◌, subst, arith}
+use Rattle.std.proofs.Common.{◌≡◌, ℕ, zero, suc, ◌+◌, ◌-◌, ◌<◌, ◌≤◌, ◌≢◌, map, drop, length, get_or, List, [], ◌∷◌, ◌++◌, Option, None, refl, sym, ap, ap₂, ◌∙◌, subst, arith}
+use Rattle.std.proofs.lemmas.List.{drop_more, length-drop}
+use Rattle.std.proofs.Math.ListN.{drop_of_length-le}
 use Rattle.block_runs.specs.declared.end.End.TheVariants.{Jump}
 use Rattle.ssa_lowered.specs.Pieces.{Cursor, close, fresh, plain}
 use Rattle.ssa_lowered.specs.Pieces.{Piece as Placed}
@@ -121,3 +123,28 @@ pub climbing_more : {v u w : View} {last next : ℕ} (labels : ℕ → ℕ) (r :
     → Climbs v w last labels (r ∷ rs)
 climbing_more {v = v} {u = u} {w = w} {last = last} labels r [] x e y = subst (λ z. Climbs v z last labels (r ∷ [])) (sym y) (climbs_last labels r (subst (λ n. Tests (asked v) u r.test (labels r.part) v.labels n) e x))
 climbing_more {v = v} {u = u} {w = w} {last = last} labels r (s ∷ rs) x e y = climbs_more labels r s rs (subst (λ n. Tests (asked v) u r.test (labels r.part) v.labels n) e x) y
+
+---- A list of tests, one more of which is made
+
+-- the tests that are left behind one
+pub above_is : {A : Type 0} (f : A → Rung) (xs : List A) (next inside last : ℕ) → (0 < length xs → next ≡ inside) → (length xs ≤ 0 → next ≡ last) → next ≡ above (map f xs) inside last
+above_is f [] next inside last more none = none (omega arith)
+above_is f (x ∷ xs) next inside last more none = more (omega arith)
+
+pub climbing_next : {A : Type 0} {v u : View} {last next : ℕ} (z : View) (labels : ℕ → ℕ) (f : A → Rung) (all : List A) (i : ℕ) (d : A) → i < length all → Tests (asked v) u (f (get_or all i d)).test (labels (f (get_or all i d)).part) v.labels next
+    → (i + 1 < length all → next ≡ v.freq) → (length all ≤ i + 1 → next ≡ last) → Climbing (bound u v.labels) z last labels (map f (drop (i + 1) all)) → Climbing v z last labels (map f (drop i all))
+climbing_next {v = v} {u = u} {last = last} {next = next} z labels f all i d lt x more none y =
+    let left : length (drop (i + 1) all) ≡ length all - (i + 1) = length-drop (i + 1) all in
+    subst (λ l. Climbing v z last labels (map f l)) (sym (drop_more all i d lt))
+    (climbing_more labels (f (get_or all i d)) (map f (drop (i + 1) all)) x (above_is f (drop (i + 1) all) next v.freq last (λ h. more (omega (arith, left, h))) (λ h. none (omega (arith, left, h)))) y)
+
+pub climbs_all : {A : Type 0} {v z : View} {last : ℕ} (labels : ℕ → ℕ) (f : A → Rung) (all : List A) → length all ≢ 0 → Climbing v z last labels (map f all) → Climbs v z last labels (map f all)
+climbs_all labels f [] some x = absurd (some refl)
+climbs_all labels f (r ∷ rs) some x = x
+
+pub climbing_end : {A : Type 0} (v : View) (last : ℕ) (labels : ℕ → ℕ) (f : A → Rung) (all : List A) (i : ℕ) → length all ≤ i → Climbing v v last labels (map f (drop i all))
+climbing_end v last labels f all i le = subst (λ l. Climbing v v last labels (map f l)) (sym (drop_of_length-le all le)) refl
+
+pub climbs_bare : {A : Type 0} {v w : View} {last : ℕ} (labels : ℕ → ℕ) (f : A → Rung) (all : List A) → length all ≡ 0 → w ≡ bound (closed (asked v) (Jump v.labels []) 0 last None) v.labels → Climbs v w last labels (map f all)
+climbs_bare {v = v} {w = w} {last = last} labels f [] none e = subst (λ z. Climbs v z last labels []) (sym e) (climbs_none v last labels)
+climbs_bare labels f (r ∷ rs) none e = absurd (omega (arith, none))

@@ -8,6 +8,7 @@ use Rattle.ssa_lowered.specs.Control.{Rung, Ladder, ladder, Limbs, limbs, half, 
 use Rattle.ssa_lowered.specs.Limits.{passed}
 use Rattle.ssa_exprs.specs.Changes.{Undoes, rewound, chosen, values_of, joined}
 use Rattle.ssa_exprs.specs.Making.{View, Fits, Follows, Once, all_bare, resolved, times, same, given, later, cursor_at, asked, bound, closed, Tests}
+use Rattle.ssa_statements.specs.declared.control.Frame.{Frame}
 use Rattle.ssa_statements.specs.Steps.{Steps}
 
 -- the code of tests, once the parts have blocks
@@ -64,3 +65,19 @@ pub record Parts (start v w : View) (mask : Mask) (leave : Option (List ℕ)) (t
 abbrev pub AllBelow : ℕ → List Rung → Type 0
 AllBelow n [] = Unit {0}
 AllBelow n (r ∷ rs) = (r.part < n) × AllBelow n rs
+
+-- a choice whose parts are being made: a part begins, and the join of all of them does
+abbrev pub Enters : Frame → (v w : View) → Option (List ℕ) → (label : ℕ) → Type 0
+Enters f v w leave label = w ≡ bound (record (closed v (ends leave f.out) 0 (half f.freq) None) { known = rewound v.known f.moment }) label
+
+abbrev pub Leaves : Frame → (v w : View) → Option (List ℕ) → Type 0
+Leaves f v w leave = w ≡ bound (joined (record v { known = rewound v.known f.moment }) (ends leave f.out) f.vars.items f.freq None) f.out
+
+abbrev pub MakesCase : (v u w : View) → Mask → List Rung → List Deed → (unmatched : ℕ → List ℕ → End) → (leave by : Option (List ℕ)) → Type 0
+MakesCase v u w mask rungs bodies unmatched leave by =
+    Climbs (record v { labels = suc (v.labels + length bodies) }) u (half v.freq) (λ i. v.labels + i) rungs
+    → Parts v u w mask leave (v.labels + length bodies) v.labels bodies
+    → AllBelow (length bodies) rungs
+    → (λ out. unmatched out (picked mask v.known.env)) ≡ ends by
+    → (u.over ≡ None → leave ≡ by)
+    → Steps v w (case mask rungs bodies unmatched)
