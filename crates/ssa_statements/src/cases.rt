@@ -34,7 +34,7 @@ pub enum Choice {
 #[derive(Clone, Copy)]
 pub struct Rung {
     pub choice: Choice,
-    pub part: u32,
+    pub part: usize,
 }
 
 /// So many labels, one after the other.
@@ -144,15 +144,11 @@ fn tested(
     }
 }
 
-/// The item of a number; 0 where there is none.
-fn at(list: &[u32], i: u32) -> u32
-    ensures { result ≡ slice_index list.now i }
+/// The label of a part; 0 where there is no such part.
+pub fn label_at(starts: &[u32], part: usize) -> u32
+    ensures { result ≡ slice_index starts.now part }
 {
-    if (i as usize) < list.len() {
-        list[i as usize]
-    } else {
-        0
-    }
+    if part < starts.len() { starts[part] } else { 0 }
 }
 
 /// The tests of CASE, which lead to the labels of parts; the block without a match runs so often.
@@ -173,16 +169,16 @@ pub fn ladder(
     let freq = b.freq();
     for i in 0..rungs.len() {
         let rung = &rungs[i];
-        let next = above(i + 1, rungs.len(), freq, last);
+        let next = freq_behind(i + 1, rungs.len(), freq, last);
         let no = b.label()?;
-        tested(t, b, v, &rung.choice, at(starts, rung.part), no, next)?;
+        tested(t, b, v, &rung.choice, label_at(starts, rung.part), no, next)?;
         b.bind(no)?;
     }
     Ok(())
 }
 
-/// How often the block behind a test runs, where so many of all tests are made.
-fn above(made: usize, all: usize, inside: u64, last: u64) -> u64
+/// How often the block behind a test or a guard runs, where so many of all are made: the last one leads to another block.
+pub fn freq_behind(made: usize, all: usize, inside: u64, last: u64) -> u64
     ensures inside { made < all → result ≡ inside }
     ensures last { all ≤ made → result ≡ last }
 {

@@ -11,7 +11,7 @@ mod homes;
 mod laws;
 mod simple;
 
-pub use cases::{Choice, Rung, enter_part, labels, ladder, leave_parts};
+pub use cases::{Choice, Rung, enter_part, freq_behind, label_at, labels, ladder, leave_parts};
 pub use control::{Frame, finish, head, jump, meet};
 pub use homes::{Home, change, current, home_at};
 pub use laws::{

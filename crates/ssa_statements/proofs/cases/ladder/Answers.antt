@@ -19,12 +19,11 @@ loop-i-preserved c = λ p here s.
     let no_is = c.in_ok-no.ensures.number in
     let behind = c.in_ok-bind.ensures ∙ ap (bound c.tested.new.b) no_is in
     let f = rung_in p here c.args.v in
-    let test = tests_at c.in_ok-no.ensures.given c.at.ensures no_is refl (c.in_ok-tested.ensures p here s) in
-    let before = c.loop-i.invariant p here s in
-    (
-      λ lt. ap (λ (v : View). v.freq) behind ∙ test.freq ∙ c.above-next.ensures.inside lt,
-      λ z y. before.1 z (climbing_next z labels f c.args.rungs.now c.loop-i.i _ c.loop-i-test.true test (λ lt. c.above-next.ensures.inside lt ∙ sym (before.0 c.loop-i-test.true)) c.above-next.ensures.last
-      (subst (λ k. Climbing k z c.args.last labels (rungs_in p here c.args.v (drop (c.loop-i.i + 1) c.args.rungs.now))) behind y)),
+    let test = tests_at c.in_ok-no.ensures.given c.label_at.ensures no_is refl (c.in_ok-tested.ensures p here s) in
+    let before = c.loop-i.invariant p here s in (
+      λ lt. ap (λ (v : View). v.freq) behind ∙ test.freq ∙ c.freq_behind-next.ensures.inside lt,
+      λ z y. before.1 z (climbing_next z labels f c.args.rungs.now c.loop-i.i _ c.loop-i-test.true test (λ lt. c.freq_behind-next.ensures.inside lt ∙ sym (before.0 c.loop-i-test.true)) c.freq_behind-next.ensures.last
+          (subst (λ k. Climbing k z c.args.last labels (rungs_in p here c.args.v (drop (c.loop-i.i + 1) c.args.rungs.now))) behind y)),
     )
 
 pub returns : goal.returns
