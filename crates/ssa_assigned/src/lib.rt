@@ -8,5 +8,5 @@
 mod assigned;
 mod joins;
 
-pub use assigned::{note, note_all, note_cases, note_parts, note_types};
+pub use assigned::{note, note_all, note_cases, note_parts, note_types, note_whole};
 pub use joins::registers;
