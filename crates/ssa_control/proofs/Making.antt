@@ -1,6 +1,6 @@
 -- Parts of statements with blocks, and what is behind them.
-use Rattle.std.proofs.Common.{◌≡◌, ℕ, zero, suc, ◌+◌, ◌<◌, ◌≤◌, ℤ, map, drop, length, get_or, List, [], ◌∷◌, ◌++◌, Option, Some, None, refl, sym, ap, ap₂, ◌∙◌, subst, arith}
-use Rattle.std.specs.Prelude.{slice_index}
+use Rattle.std.proofs.Common.{◌≡◌, ℕ, zero, suc, ◌+◌, ◌<◌, ◌≤◌, ℤ, map, drop, length, get_or, List, [], ◌∷◌, ◌++◌, Option, Some, None, true, refl, sym, ap, ap₂, ◌∙◌, subst, arith}
+use Rattle.std.specs.Prelude.{slice_index, is_some}
 use Rattle.std.proofs.lemmas.List.{drop_more, length-drop}
 use Rattle.std.proofs.Math.ListN.{drop_of_length-le}
 use Rattle.block_runs.specs.declared.end.End.{End}
@@ -46,8 +46,15 @@ use Rattle.ssa_control.specs.declared.rungs.Dynamic.{Dynamic}
 use Rattle.ssa_control.specs.Lists.{deeds_in, alternatives_in, round_in, rounds_in}
 
 -- where a limit is passed nothing is made
-pub steps_over : (v : View) (n : ℕ) (m : Deed) → v.over ≡ Some n → Steps v v m
+steps_over : (v : View) (n : ℕ) (m : Deed) → v.over ≡ Some n → Steps v v m
 steps_over v n m e = record { follows = follows_over v n (λ _. m) (λ _. tt) e; once = once_none v; undoes = undoes_none v.known }
+
+passed_by : (v : View) (m : Deed) (o : Option ℕ) → v.over ≡ o → is_some o ≡ true → Steps v v m
+passed_by v m None e h = absurd (cc)
+passed_by v m (Some n) e h = steps_over v n m e
+
+pub steps_passed : (v : View) (m : Deed) → is_some v.over ≡ true → Steps v v m
+steps_passed v m h = passed_by v m v.over refl h
 
 ---- One statement after the other
 
