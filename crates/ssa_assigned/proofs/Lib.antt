@@ -1,2 +1,3 @@
 pub mod Noting
 pub mod Rows
+pub mod Kept

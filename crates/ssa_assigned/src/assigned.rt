@@ -8,7 +8,7 @@ use ob_types::{Base, Branch, CasePart, Designator, Stmt, TypePart};
 use ssa_exprs::LowerFault;
 
 /// The variable that a designator is as a whole.
-fn note_whole(d: &Designator, found: &mut Vec<u32>) -> Result<(), LowerFault>
+pub fn note_whole(d: &Designator, found: &mut Vec<u32>) -> Result<(), LowerFault>
     ensures { OnOk result ((x : ℕ) → has found.new.items x ≡ (has found.old.items x || itself d.now x)) }
 {
     match d {

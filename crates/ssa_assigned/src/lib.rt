@@ -6,5 +6,9 @@
 #![tactic(auto)]
 
 mod assigned;
+mod joins;
 
-pub use assigned::{note, note_all, note_base, note_cases, note_parts, note_types};
+pub use assigned::{
+    note, note_all, note_base, note_cases, note_parts, note_types, note_whole,
+};
+pub use joins::registers;

@@ -8,10 +8,12 @@ use Rattle.ob_types.specs.declared.tree.Selector.{Selector}
 use Rattle.ob_types.specs.declared.tree.Link.{Link}
 use Rattle.ob_types.specs.declared.tree.Argument.{Argument}
 use Rattle.ob_types.specs.declared.tree.Call.{Call}
+use Rattle.ob_types.specs.declared.tree.Relation.{Relation}
+use Rattle.ob_types.specs.Meaning.{kind_in, length_of_kind}
 use Rattle.ssa_lowered.specs.Data.{in_cells}
 use Rattle.ssa_lowered.specs.Pieces.{Low, give}
 use Rattle.ssa_lowered.specs.Control.{Lowers}
-use Rattle.ssa_lowered.specs.Values.{Named, also, Request, home_of, load}
+use Rattle.ssa_lowered.specs.Values.{Named, also, Request, home_of, load, texts_compared}
 use Rattle.ssa_exprs.specs.Tables.{expr_in}
 use Rattle.ssa_lowered.specs.Lowered.{Here, named, select, link, called, argument, all_guarded}
 
@@ -27,6 +29,10 @@ module _ (p : Program) (here : Here) where
   abbrev pub selected_in : List Selector → Low Named → Low Named
   selected_in [] d = d
   selected_in (s ∷ more) d = selected_in more (select_in s d)
+
+  -- a relation of two texts
+  abbrev pub texts_in : Relation → Designator → Designator → Low ℕ
+  texts_in r d e = texts_compared 8 r (named p (in_cells p.types) here d) (length_of_kind (kind_in d)) (named p (in_cells p.types) here e) (length_of_kind (kind_in e))
 
   abbrev pub link_in : Link → Lowers → Lowers
   link_in k x = link p (in_cells p.types) here k x

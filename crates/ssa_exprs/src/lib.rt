@@ -16,7 +16,9 @@ mod walk;
 pub use fault::LowerFault;
 pub use lowering::{Lowering, lower_cond, lower_value};
 pub use making::{Bound, Making, Piece, Undo};
-pub use named::{Named, address_in, bytes_in, condition, length_in, second, two_operands};
+pub use named::{
+    Named, address_in, bytes_in, condition, is_pointer, is_tag, length_in, second, two_operands,
+};
 pub use tables::Tables;
 pub use walk::{
     Request, cond, half, kind_in, length_of_kind, load, named as designated, prepared,

@@ -8,11 +8,12 @@ ghost use Rattle.ssa_exprs.specs.Making.{View, Gives, Passed, Tests, asked, clos
 ghost use Rattle.block_runs.specs.declared.end.End.TheVariants.{Nonzero, Branch};
 ghost use Rattle.ssa_lowered.specs.Control.{Test, half, flag};
 ghost use Rattle.ssa_exprs.specs.Named.{named_of};
-ghost use Rattle.ssa_exprs.specs.Walk.{load_in, select_in, selected_in, linked_in, argument_in, arguments_in, called_in, guarded_in, links_of, prefix_in, is_plain};
+ghost use Rattle.ssa_exprs.specs.Walk.{load_in, select_in, selected_in, linked_in, texts_in, argument_in, arguments_in, called_in, guarded_in, links_of, prefix_in, is_plain};
 ghost use Rattle.ssa_lowered.specs.Pieces.{Low};
 ghost use Rattle.ssa_lowered.specs.Values.{Named as NamedThing};
 ghost use Rattle.ssa_exprs.specs.Tables.{Serves, expr_in, named_in, based_in, passed_in, own_in};
-ghost use Rattle.ssa_lowered.specs.Values.{data_at, local_at};
+ghost use Rattle.ssa_lowered.specs.Values.{data_at, local_at, as_byte, with_result};
+ghost use Rattle.ssa_lowered.specs.Values.{length_of as length_of_named};
 
 use crate::fault::LowerFault;
 use crate::making::Making;
@@ -22,7 +23,7 @@ use crate::named::{
 };
 use crate::tables::Tables;
 use block_runs::{Code, End};
-use ob_types::{Argument, Base, Call, Designator, Expr, Link, Selector, TypeKind, Unary};
+use ob_types::{Argument, Base, Call, Designator, Expr, Link, Relation, Selector, TypeKind, Unary};
 
 /// The type that a designator has.
 pub fn kind_in(d: &Designator) -> TypeKind
@@ -196,85 +197,104 @@ pub fn value(t: &Tables, b: &mut Making, e: &Expr) -> Result<u32, LowerFault>
     ensures { IfOk result (λ v. (p : Program) (here : Here) → Serves t.now p here → Gives b.old b.new (expr_in p here e.now).value v) }
 {
     match e {
-        Expr::Literal(n) => {
-            let v = b.emit(Code::Const(*n), &[])?;
-            Ok(v)
-        }
-        Expr::Routine(g) => {
-            let v = b.emit(Code::Code(*g), &[])?;
-            Ok(v)
-        }
-        Expr::Load(d) => {
-            let v = load(t, b, d)?;
-            Ok(v)
-        }
-        Expr::Guard(d, types) => {
-            let v = load(t, b, d)?;
-            guard_all(t, b, types.as_slice(), v)?;
-            Ok(v)
-        }
+        Expr::Literal(n) => b.emit(Code::Const(*n), &[]),
+        Expr::Routine(g) => b.emit(Code::Code(*g), &[]),
+        Expr::Load(d) => load(t, b, d),
+        Expr::Guard(d, types) => guarded(t, b, d, types.as_slice()),
         Expr::Unary(op, x) => {
             let a = value(t, b, x)?;
-            let v = one_operand(b, *op, a)?;
-            Ok(v)
+            one_operand(b, *op, a)
         }
-        Expr::Chain(_, links) => {
-            let v = chain(t, b, e, links.len())?;
-            Ok(v)
-        }
+        Expr::Chain(_, links) => chain(t, b, e, links.len()),
         Expr::Compare(r, x, y) => {
             let a = value(t, b, x)?;
             let c = value(t, b, y)?;
-            let v = b.emit(Code::Set(condition(*r)), &[a, c])?;
-            Ok(v)
+            b.emit(Code::Set(condition(*r)), &[a, c])
         }
-        Expr::CompareTexts(r, d, e) => {
-            let x = named(t, b, d)?;
-            let a = address_in(b, x, 0)?;
-            let i = bytes_in(b, 8, length_of_kind(kind_in(d)), x)?;
-            let y = named(t, b, e)?;
-            let c = address_in(b, y, 0)?;
-            let j = bytes_in(b, 8, length_of_kind(kind_in(e)), y)?;
-            let k = b.emit(Code::Compare, &[a, i, c, j])?;
-            let z = b.emit(Code::Const(0), &[])?;
-            let v = b.emit(Code::Set(condition(*r)), &[k, z])?;
-            Ok(v)
-        }
+        Expr::CompareTexts(r, d, e) => compared_texts(t, b, *r, d, e),
         Expr::In(x, s) => {
             let a = value(t, b, x)?;
             b.act(Code::Elem, &[a])?;
             let c = value(t, b, s)?;
-            let v = b.emit(Code::Has, &[a, c])?;
-            Ok(v)
+            b.emit(Code::Has, &[a, c])
         }
         Expr::IsPointer(x, r) => {
             let a = value(t, b, x)?;
-            let v = is_pointer(b, t.descriptor(*r), t.level(*r), a)?;
-            Ok(v)
+            is_pointer(b, t.descriptor(*r), t.level(*r), a)
         }
         Expr::IsParameter(d, r) => {
             let h = named(t, b, d)?;
             let tag = second(b, h)?;
-            let v = is_tag(b, t.descriptor(*r), t.level(*r), tag)?;
-            Ok(v)
+            is_tag(b, t.descriptor(*r), t.level(*r), tag)
         }
-        Expr::Byte(x) => {
-            let v = value(t, b, x)?;
-            b.act(Code::Byte, &[v])?;
-            Ok(v)
-        }
-        Expr::Length(d) => {
-            let h = named(t, b, d)?;
-            address_in(b, h, 0)?;
-            let v = length_in(b, length_of_kind(kind_in(d)), h)?;
-            Ok(v)
-        }
-        Expr::Call(c) => {
-            let r = prepared(t, b, c)?;
-            let v = b.emit(r.code, r.words.as_slice())?;
-            Ok(v)
-        }
+        Expr::Byte(x) => tested_byte(t, b, x),
+        Expr::Length(d) => array_length(t, b, d),
+        Expr::Call(c) => called(t, b, c),
     }
+}
+
+/// The value of a pointer variable, guarded by these record types one after the other.
+#[cycle(walk)]
+fn guarded(t: &Tables, b: &mut Making, d: &Designator, types: &[u32]) -> Result<u32, LowerFault>
+    ensures { IfOk result (λ v. (p : Program) (here : Here) → Serves t.now p here → Gives b.old b.new (guarded_in p here types.now (load_in p here d.now)) v) }
+{
+    let v = load(t, b, d)?;
+    guard_all(t, b, types, v)?;
+    Ok(v)
+}
+
+/// A relation of two texts.
+#[cycle(walk)]
+fn compared_texts(
+    t: &Tables,
+    b: &mut Making,
+    r: Relation,
+    d: &Designator,
+    e: &Designator,
+) -> Result<u32, LowerFault>
+    ensures { IfOk result (λ v. (p : Program) (here : Here) → Serves t.now p here → Gives b.old b.new (texts_in p here r d.now e.now) v) }
+{
+    let x = named(t, b, d)?;
+    let a = address_in(b, x, 0)?;
+    let i = bytes_in(b, 8, length_of_kind(kind_in(d)), x)?;
+    let y = named(t, b, e)?;
+    let c = address_in(b, y, 0)?;
+    let j = bytes_in(b, 8, length_of_kind(kind_in(e)), y)?;
+    let k = b.emit(Code::Compare, &[a, i, c, j])?;
+    let z = b.emit(Code::Const(0), &[])?;
+    let v = b.emit(Code::Set(condition(r)), &[k, z])?;
+    Ok(v)
+}
+
+/// A value that becomes a BYTE.
+#[cycle(walk)]
+fn tested_byte(t: &Tables, b: &mut Making, x: &Expr) -> Result<u32, LowerFault>
+    ensures { IfOk result (λ v. (p : Program) (here : Here) → Serves t.now p here → Gives b.old b.new (as_byte (expr_in p here x.now).value) v) }
+{
+    let v = value(t, b, x)?;
+    b.act(Code::Byte, &[v])?;
+    Ok(v)
+}
+
+/// LEN.
+#[cycle(walk)]
+fn array_length(t: &Tables, b: &mut Making, d: &Designator) -> Result<u32, LowerFault>
+    ensures { IfOk result (λ v. (p : Program) (here : Here) → Serves t.now p here → Gives b.old b.new (length_of_named (named_in p here d.now) (length_of_kind (kind_in d.now))) v) }
+{
+    let h = named(t, b, d)?;
+    address_in(b, h, 0)?;
+    let v = length_in(b, length_of_kind(kind_in(d)), h)?;
+    Ok(v)
+}
+
+/// The result of a call.
+#[cycle(walk)]
+fn called(t: &Tables, b: &mut Making, c: &Call) -> Result<u32, LowerFault>
+    ensures { IfOk result (λ v. (p : Program) (here : Here) → Serves t.now p here → Gives b.old b.new (with_result (called_in p here c.now)) v) }
+{
+    let r = prepared(t, b, c)?;
+    let v = b.emit(r.code, r.words.as_slice())?;
+    Ok(v)
 }
 
 /// The pointer is tested to be of these record types, one after the other.

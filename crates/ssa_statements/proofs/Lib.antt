@@ -1,7 +1,10 @@
 pub mod Becomes
-pub mod Joining
-pub mod Finishing
-pub mod Straight
+pub mod Choosing
 pub mod Choose
+pub mod Finishing
+pub mod Joining
+pub mod Ladders
+pub mod Limbs
 pub mod Loops
 pub mod Repeats
+pub mod Straight

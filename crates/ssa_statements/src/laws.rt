@@ -1,10 +1,12 @@
 //! How statements with blocks of their own are put together, whatever their conditions and their parts are.
 
-ghost use Rattle.std.specs.Prelude.{ℕ, List, suc};
+ghost use Rattle.std.specs.Prelude.{ℕ, List, Option, suc};
+ghost use Rattle.block_runs.specs.declared.end.End.{End};
 ghost use Rattle.ssa_lowered.specs.Pieces.{Mask};
 ghost use Rattle.ssa_lowered.specs.Statements.{Deed};
-ghost use Rattle.ssa_lowered.specs.Control.{Test, Round};
+ghost use Rattle.ssa_lowered.specs.Control.{Test, Round, Rung};
 ghost use Rattle.ssa_exprs.specs.Making.{View};
+ghost use Rattle.ssa_statements.specs.Cases.{MakesCase};
 ghost use Rattle.ssa_statements.specs.Parts.{MakesChoice, MakesGuard, MakesLoop, MakesRepeat};
 
 /// A condition, what is done where it holds, what is done otherwise, and the join of the two.
@@ -25,4 +27,9 @@ pub fn loops_are_made()
 /// REPEAT.
 pub fn repeats_are_made()
     ensures { (v u3 u4 : View) (t : Test) (body : Deed) (mask : Mask) (args1 args2 : List ℕ) → MakesRepeat v u3 u4 t body mask args1 args2 }
+{}
+
+/// CASE, from its tests and its parts.
+pub fn cases_are_made()
+    ensures { (v u w : View) (mask : Mask) (rungs : List Rung) (bodies : List Deed) (unmatched : ℕ → List ℕ → End) (leave by : Option (List ℕ)) → MakesCase v u w mask rungs bodies unmatched leave by }
 {}

@@ -1,15 +1,16 @@
 use Rattle.std.proofs.Common.{◌≡◌, [], ◌∷◌, ◌++◌, suc, ◌+◌, ◌-◌, ◌<◌, ◌≤◌, length, None, false, refl, sym, ap, ap₂, ◌∙◌, subst, arith, append_assoc}
+use Rattle.std.proofs.lemmas.Result.{IfOk-weaker}
 use Rattle.ob_types.specs.Meaning.{kind_in, length_of_kind, record_of_kind}
 use Rattle.ssa_lowered.specs.Pieces.{emits, does}
 use Rattle.block_runs.specs.declared.code.Code.TheVariants.{Set, Global, GuardTag, Call, CallAt}
 use Rattle.ssa_lowered.specs.Data.{in_cells}
-use Rattle.ssa_lowered.specs.Values.{const, is_pointer, is_tag, tag_in, length_in, address_in, bytes_in, condition, home_of, load, call, call_at}
+use Rattle.ssa_lowered.specs.Values.{const, is_pointer, is_tag, tag_in, length_in, address_in, bytes_in, condition, home_of, load, call, call_at, as_byte, with_result}
 use Rattle.ssa_lowered.specs.Lowered.{descriptor, level}
 use Rattle.ssa_exprs.specs.Making.{View, Gives, asked, bound, closed}
 use Rattle.block_runs.specs.declared.end.End.TheVariants.{Branch}
 use Rattle.ssa_exprs.specs.Named.{named_of}
 use Rattle.ssa_exprs.specs.Tables.{expr_in, named_in, based_in, descriptor_in}
-use Rattle.ssa_exprs.specs.Walk.{load_in, select_in, selected_in, guarded_in, argument_in, arguments_in, called_in, links_of}
+use Rattle.ssa_exprs.specs.Walk.{load_in, select_in, selected_in, guarded_in, texts_in, argument_in, arguments_in, called_in, links_of}
 use Rattle.ssa_exprs.proofs.Giving.{gives_bind, gives_as}
 use Rattle.ssa_exprs.proofs.Parts.{gives_element, gives_field, gives_dereferenced, gives_narrowed, gives_unary, gives_binary, gives_compared, gives_texts_compared, gives_contained, gives_member, gives_with_element, gives_with_range, gives_as_byte, gives_length_of, gives_tag_of, gives_by_word, gives_by_record, gives_by_open, gives_address, gives_call, gives_call_at, gives_with_result}
 use Rattle.ssa_exprs.proofs.Chains.{one_link, links_are, tests_at, plain_test, unary_test, tests_to, all_links}
@@ -116,56 +117,81 @@ select-returns-in_ok-act-in-Narrow t c = λ p here s v d g.
     (gives_as (ap (λ n. emits (Global n) []) (sym (c.descriptor.ensures ∙ s.descriptor r))) c.in_ok-g-in-Narrow.ensures)
     (gives_as (ap (λ n. does (GuardTag n) (c.in_ok-x-in-Narrow.x ∷ c.in_ok-g-in-Narrow.g ∷ [])) (sym (c.level.ensures ∙ s.level r))) c.in_ok-act-in-Narrow.ensures))
 
-pub value-returns-in_ok-v-in-Load : goal.value-returns-in_ok-v-in-Load
-value-returns-in_ok-v-in-Load t c = λ p here s. gives_as (ap (λ e. (expr_in p here e).value) c.in-Load.is) (c.in_ok-v-in-Load.ensures p here s)
+pub value-returns-in-Literal : goal.value-returns-in-Literal
+value-returns-in-Literal t c = IfOk-weaker c.emit.result _ _ (λ v g p here s. gives_as (ap (λ e. (expr_in p here e).value) c.in-Literal.is) (g)) c.emit.ensures
 
-pub value-returns-in_ok-guard_all-in-Guard : goal.value-returns-in_ok-guard_all-in-Guard
-value-returns-in_ok-guard_all-in-Guard t c = λ p here s. gives_as (ap (λ e. (expr_in p here e).value) c.in-Guard.is)
-    (gives_as (ap (λ rs. guarded_in p here rs (load_in p here c.in-Guard.d)) (sym c.as_slice.ensures)) (c.in_ok-guard_all-in-Guard.ensures p here s _ _ (c.in_ok-v-in-Guard.ensures p here s)))
+pub value-returns-in-Routine : goal.value-returns-in-Routine
+value-returns-in-Routine t c = IfOk-weaker c.emit-in-Routine.result _ _ (λ v g p here s. gives_as (ap (λ e. (expr_in p here e).value) c.in-Routine.is) (g)) c.emit-in-Routine.ensures
 
-pub value-returns-in_ok-v-in-Unary : goal.value-returns-in_ok-v-in-Unary
-value-returns-in_ok-v-in-Unary t c = λ p here s. gives_as (ap (λ e. (expr_in p here e).value) c.in-Unary.is ∙ value_one c.in-Unary.op (expr_in p here c.in-Unary.x.value)) (gives_unary c.in-Unary.op (gives_as (ap (λ e. (expr_in p here e).value) (sym c.deref.ensures)) (c.in_ok-a-in-Unary.ensures p here s)) c.in_ok-v-in-Unary.ensures)
+pub value-returns-in-Load : goal.value-returns-in-Load
+value-returns-in-Load t c = IfOk-weaker c.load.result _ _ (λ v g p here s. gives_as (ap (λ e. (expr_in p here e).value) c.in-Load.is) (g p here s)) c.load.ensures
 
-pub value-returns-in_ok-v-in-Compare : goal.value-returns-in_ok-v-in-Compare
-value-returns-in_ok-v-in-Compare t c = λ p here s. gives_as (ap (λ e. (expr_in p here e).value) c.in-Compare.is) (gives_compared c.in-Compare.r (gives_as (ap (λ e. (expr_in p here e).value) (sym c.deref-in-Compare.ensures)) (c.in_ok-a-in-Compare.ensures p here s)) (gives_as (ap (λ e. (expr_in p here e).value) (sym c.deref-in-Compare-2.ensures)) (c.in_ok-c-in-Compare.ensures p here s)) (gives_as (ap (λ k. emits (Set k) (c.in_ok-a-in-Compare.a ∷ c.in_ok-c-in-Compare.c ∷ [])) (sym c.condition.ensures)) c.in_ok-v-in-Compare.ensures))
+pub value-returns-in-Guard : goal.value-returns-in-Guard
+value-returns-in-Guard t c = IfOk-weaker c.guarded.result _ _ (λ v g p here s. gives_as (ap (λ e. (expr_in p here e).value) c.in-Guard.is) (gives_as (ap (λ rs. guarded_in p here rs (load_in p here c.in-Guard.d)) (sym c.as_slice.ensures)) (g p here s))) c.guarded.ensures
 
-pub value-returns-in_ok-v-in-CompareTexts : goal.value-returns-in_ok-v-in-CompareTexts
-value-returns-in_ok-v-in-CompareTexts t c = λ p here s.
-    let d = c.in-CompareTexts.d.value in
-    let e = c.in-CompareTexts.e.value in
-    let n_is : c.length_of_kind.result ≡ length_of_kind (kind_in d) = c.length_of_kind.ensures.is ∙ ap length_of_kind (c.kind_in.ensures ∙ ap kind_in c.deref-in-CompareTexts-2.ensures) in
-    let m_is : c.length_of_kind-in-CompareTexts.result ≡ length_of_kind (kind_in e) = c.length_of_kind-in-CompareTexts.ensures.is ∙ ap length_of_kind (c.kind_in-in-CompareTexts.ensures ∙ ap kind_in c.deref-in-CompareTexts-4.ensures) in
-    gives_as (ap (λ e. (expr_in p here e).value) c.in-CompareTexts.is)
-    (gives_texts_compared 8 c.in-CompareTexts.r (length_of_kind (kind_in d)) (length_of_kind (kind_in e))
-    (gives_as (ap (named_in p here) (sym c.deref-in-CompareTexts.ensures)) (c.in_ok-x-in-CompareTexts.ensures p here s))
-    (c.in_ok-a-in-CompareTexts.ensures (omega arith))
-    (gives_as (ap (λ n. bytes_in 8 n (named_of c.in_ok-x-in-CompareTexts.x)) (sym n_is)) c.in_ok-i-in-CompareTexts.ensures)
-    (gives_as (ap (named_in p here) (sym c.deref-in-CompareTexts-3.ensures)) (c.in_ok-y-in-CompareTexts.ensures p here s))
-    (c.in_ok-c-in-CompareTexts.ensures (omega arith))
-    (gives_as (ap (λ n. bytes_in 8 n (named_of c.in_ok-y-in-CompareTexts.y)) (sym m_is)) c.in_ok-j-in-CompareTexts.ensures)
-    c.in_ok-k-in-CompareTexts.ensures c.in_ok-z-in-CompareTexts.ensures
-    (gives_as (ap (λ k. emits (Set k) (c.in_ok-k-in-CompareTexts.k ∷ c.in_ok-z-in-CompareTexts.z ∷ [])) (sym c.condition-in-CompareTexts.ensures)) c.in_ok-v-in-CompareTexts.ensures))
+pub value-returns-in_ok-a-in-Unary : goal.value-returns-in_ok-a-in-Unary
+value-returns-in_ok-a-in-Unary t c = IfOk-weaker c.one_operand.result _ _ (λ v g p here s. gives_as (ap (λ e. (expr_in p here e).value) c.in-Unary.is ∙ value_one c.in-Unary.op (expr_in p here c.in-Unary.x.value)) (gives_unary c.in-Unary.op (gives_as (ap (λ e. (expr_in p here e).value) (sym c.deref.ensures)) (c.in_ok-a-in-Unary.ensures p here s)) g)) c.one_operand.ensures
 
-pub value-returns-in_ok-v-in-In : goal.value-returns-in_ok-v-in-In
-value-returns-in_ok-v-in-In t c = λ p here s. gives_as (ap (λ e. (expr_in p here e).value) c.in-In.is) (gives_contained (expr_in p here c.in-In.x.value).value (gives_member (gives_as (ap (λ e. (expr_in p here e).value) (sym c.deref-in-In.ensures)) (c.in_ok-a-in-In.ensures p here s)) c.in_ok-act-in-In.ensures) (gives_as (ap (λ e. (expr_in p here e).value) (sym c.deref-in-In-2.ensures)) (c.in_ok-c-in-In.ensures p here s)) c.in_ok-v-in-In.ensures)
+pub value-returns-in-Chain : goal.value-returns-in-Chain
+value-returns-in-Chain t c = IfOk-weaker c.chain.result _ _ (λ v g p here s.
+    let len : c.len.result ≡ length c.in-Chain.links.items = c.len.ensures ∙ c.in-Chain.links.ok.0 in
+    let few : c.len.result ≤ length (links_of c.args.e.now) = let e = ap length (links_are c.args.e.now c.in-Chain.field-0 c.in-Chain.links c.in-Chain.is) in omega (arith, len, e) in
+    gives_as (ap (λ (z : Lowers). z.value) (all_links p here c.args.e.now c.in-Chain.field-0 c.in-Chain.links c.len.result c.in-Chain.is len)) (g p here s few)) c.chain.ensures
 
-pub value-returns-in_ok-v-in-IsPointer : goal.value-returns-in_ok-v-in-IsPointer
-value-returns-in_ok-v-in-IsPointer t c = λ p here s. gives_as (ap (λ e. (expr_in p here e).value) c.in-IsPointer.is) (gives_bind (is_pointer (descriptor p (in_cells p.types) here c.in-IsPointer.r) (level p (in_cells p.types) here c.in-IsPointer.r)) (gives_as (ap (λ e. (expr_in p here e).value) (sym c.deref-in-IsPointer.ensures)) (c.in_ok-a-in-IsPointer.ensures p here s)) (gives_as (ap₂ (λ g j. is_pointer g j c.in_ok-a-in-IsPointer.a) (sym (c.descriptor.ensures ∙ s.descriptor c.in-IsPointer.r)) (sym (c.level.ensures ∙ s.level c.in-IsPointer.r))) c.in_ok-v-in-IsPointer.ensures))
+pub value-returns-in_ok-c-in-Compare : goal.value-returns-in_ok-c-in-Compare
+value-returns-in_ok-c-in-Compare t c = IfOk-weaker c.emit-in-Compare.result _ _ (λ v g p here s. gives_as (ap (λ e. (expr_in p here e).value) c.in-Compare.is) (gives_compared c.in-Compare.r (gives_as (ap (λ e. (expr_in p here e).value) (sym c.deref-in-Compare.ensures)) (c.in_ok-a-in-Compare.ensures p here s)) (gives_as (ap (λ e. (expr_in p here e).value) (sym c.deref-in-Compare-2.ensures)) (c.in_ok-c-in-Compare.ensures p here s)) (gives_as (ap (λ k. emits (Set k) (c.in_ok-a-in-Compare.a ∷ c.in_ok-c-in-Compare.c ∷ [])) (sym c.condition.ensures)) g))) c.emit-in-Compare.ensures
 
-pub value-returns-in_ok-v-in-IsParameter : goal.value-returns-in_ok-v-in-IsParameter
-value-returns-in_ok-v-in-IsParameter t c = λ p here s. gives_as (ap (λ e. (expr_in p here e).value) c.in-IsParameter.is) (gives_bind (is_tag (descriptor p (in_cells p.types) here c.in-IsParameter.r) (level p (in_cells p.types) here c.in-IsParameter.r)) (gives_tag_of (c.in_ok-h-in-IsParameter.ensures p here s) c.in_ok-tag-in-IsParameter.ensures) (gives_as (ap₂ (λ g j. is_tag g j c.in_ok-tag-in-IsParameter.tag) (sym (c.descriptor-in-IsParameter.ensures ∙ s.descriptor c.in-IsParameter.r)) (sym (c.level-in-IsParameter.ensures ∙ s.level c.in-IsParameter.r))) c.in_ok-v-in-IsParameter.ensures))
+pub value-returns-in-CompareTexts : goal.value-returns-in-CompareTexts
+value-returns-in-CompareTexts t c = IfOk-weaker c.compared_texts.result _ _ (λ v g p here s. gives_as (ap (λ e. (expr_in p here e).value) c.in-CompareTexts.is) (gives_as (ap₂ (λ d e. texts_in p here c.in-CompareTexts.r d e) (sym c.deref-in-CompareTexts.ensures) (sym c.deref-in-CompareTexts-2.ensures)) (g p here s))) c.compared_texts.ensures
 
-pub value-returns-in_ok-act-in-Byte : goal.value-returns-in_ok-act-in-Byte
-value-returns-in_ok-act-in-Byte t c = λ p here s. gives_as (ap (λ e. (expr_in p here e).value) c.in-Byte.is) (gives_as_byte (gives_as (ap (λ e. (expr_in p here e).value) (sym c.deref-in-Byte.ensures)) (c.in_ok-v-in-Byte.ensures p here s)) c.in_ok-act-in-Byte.ensures)
+pub value-returns-in_ok-c-in-In : goal.value-returns-in_ok-c-in-In
+value-returns-in_ok-c-in-In t c = IfOk-weaker c.emit-in-In.result _ _ (λ v g p here s. gives_as (ap (λ e. (expr_in p here e).value) c.in-In.is) (gives_contained (expr_in p here c.in-In.x.value).value (gives_member (gives_as (ap (λ e. (expr_in p here e).value) (sym c.deref-in-In.ensures)) (c.in_ok-a-in-In.ensures p here s)) c.in_ok-act-in-In.ensures) (gives_as (ap (λ e. (expr_in p here e).value) (sym c.deref-in-In-2.ensures)) (c.in_ok-c-in-In.ensures p here s)) g)) c.emit-in-In.ensures
 
-pub value-returns-in_ok-v-in-Length : goal.value-returns-in_ok-v-in-Length
-value-returns-in_ok-v-in-Length t c = λ p here s.
-    let n = length_of_kind (kind_in c.in-Length.d) in
-    let same : c.length_of_kind-in-Length.result ≡ n = c.length_of_kind-in-Length.ensures.is ∙ ap length_of_kind c.kind_in-in-Length.ensures in
-    gives_as (ap (λ e. (expr_in p here e).value) c.in-Length.is) (gives_length_of n (c.in_ok-h-in-Length.ensures p here s) (c.in_ok-address_in-in-Length.ensures (omega arith)) (gives_as (ap (λ k. length_in k (named_of c.in_ok-h-in-Length.h)) (sym same)) c.in_ok-v-in-Length.ensures))
+pub value-returns-in_ok-a-in-IsPointer : goal.value-returns-in_ok-a-in-IsPointer
+value-returns-in_ok-a-in-IsPointer t c = IfOk-weaker c.is_pointer.result _ _ (λ v g p here s. gives_as (ap (λ e. (expr_in p here e).value) c.in-IsPointer.is) (gives_bind (is_pointer (descriptor p (in_cells p.types) here c.in-IsPointer.r) (level p (in_cells p.types) here c.in-IsPointer.r)) (gives_as (ap (λ e. (expr_in p here e).value) (sym c.deref-in-IsPointer.ensures)) (c.in_ok-a-in-IsPointer.ensures p here s)) (gives_as (ap₂ (λ g j. is_pointer g j c.in_ok-a-in-IsPointer.a) (sym (c.descriptor.ensures ∙ s.descriptor c.in-IsPointer.r)) (sym (c.level.ensures ∙ s.level c.in-IsPointer.r))) g))) c.is_pointer.ensures
 
-pub value-returns-in_ok-v-in-Call : goal.value-returns-in_ok-v-in-Call
-value-returns-in_ok-v-in-Call t c = λ p here s. gives_as (ap (λ e. (expr_in p here e).value) c.in-Call.is) (gives_with_result (gives_as (ap (called_in p here) (sym c.deref-in-Call.ensures)) (c.in_ok-r-in-Call.ensures p here s)) (gives_as (ap (λ ws. emits c.in_ok-r-in-Call.r.code ws) (sym c.as_slice-in-Call.ensures.value)) c.in_ok-v-in-Call.ensures))
+pub value-returns-in_ok-tag-in-IsParameter : goal.value-returns-in_ok-tag-in-IsParameter
+value-returns-in_ok-tag-in-IsParameter t c = IfOk-weaker c.is_tag.result _ _ (λ v g p here s. gives_as (ap (λ e. (expr_in p here e).value) c.in-IsParameter.is) (gives_bind (is_tag (descriptor p (in_cells p.types) here c.in-IsParameter.r) (level p (in_cells p.types) here c.in-IsParameter.r)) (gives_tag_of (c.in_ok-h-in-IsParameter.ensures p here s) c.in_ok-tag-in-IsParameter.ensures) (gives_as (ap₂ (λ g j. is_tag g j c.in_ok-tag-in-IsParameter.tag) (sym (c.descriptor-in-IsParameter.ensures ∙ s.descriptor c.in-IsParameter.r)) (sym (c.level-in-IsParameter.ensures ∙ s.level c.in-IsParameter.r))) g))) c.is_tag.ensures
+
+pub value-returns-in-Byte : goal.value-returns-in-Byte
+value-returns-in-Byte t c = IfOk-weaker c.tested_byte.result _ _ (λ v g p here s. gives_as (ap (λ e. (expr_in p here e).value) c.in-Byte.is) (gives_as (ap (λ e. as_byte (expr_in p here e).value) (sym c.deref-in-Byte.ensures)) (g p here s))) c.tested_byte.ensures
+
+pub value-returns-in-Length : goal.value-returns-in-Length
+value-returns-in-Length t c = IfOk-weaker c.array_length.result _ _ (λ v g p here s. gives_as (ap (λ e. (expr_in p here e).value) c.in-Length.is) (g p here s)) c.array_length.ensures
+
+pub value-returns-in-Call : goal.value-returns-in-Call
+value-returns-in-Call t c = IfOk-weaker c.called.result _ _ (λ v g p here s. gives_as (ap (λ e. (expr_in p here e).value) c.in-Call.is) (gives_as (ap (λ k. with_result (called_in p here k)) (sym c.deref-in-Call.ensures)) (g p here s))) c.called.ensures
+
+pub guarded-returns : goal.guarded-returns
+guarded-returns t c = λ p here s. c.in_ok-guard_all.ensures p here s _ _ (c.in_ok-v.ensures p here s)
+
+pub compared_texts-returns : goal.compared_texts-returns
+compared_texts-returns t c = λ p here s.
+    let d = c.args.d.now in
+    let e = c.args.e.now in
+    let n_is : c.length_of_kind.result ≡ length_of_kind (kind_in d) = c.length_of_kind.ensures.is ∙ ap length_of_kind c.kind_in.ensures in
+    let m_is : c.length_of_kind-2.result ≡ length_of_kind (kind_in e) = c.length_of_kind-2.ensures.is ∙ ap length_of_kind c.kind_in-2.ensures in
+    gives_texts_compared 8 c.args.r (length_of_kind (kind_in d)) (length_of_kind (kind_in e))
+    (c.in_ok-x.ensures p here s)
+    (c.in_ok-a.ensures (omega arith))
+    (gives_as (ap (λ n. bytes_in 8 n (named_of c.in_ok-x.x)) (sym n_is)) c.in_ok-i.ensures)
+    (c.in_ok-y.ensures p here s)
+    (c.in_ok-c.ensures (omega arith))
+    (gives_as (ap (λ n. bytes_in 8 n (named_of c.in_ok-y.y)) (sym m_is)) c.in_ok-j.ensures)
+    c.in_ok-k.ensures c.in_ok-z.ensures
+    (gives_as (ap (λ k. emits (Set k) (c.in_ok-k.k ∷ c.in_ok-z.z ∷ [])) (sym c.condition.ensures)) c.in_ok-v.ensures)
+
+pub tested_byte-returns : goal.tested_byte-returns
+tested_byte-returns t c = λ p here s. gives_as_byte (c.in_ok-v.ensures p here s) c.in_ok-act.ensures
+
+pub array_length-returns : goal.array_length-returns
+array_length-returns t c = λ p here s.
+    let n = length_of_kind (kind_in c.args.d.now) in
+    let same : c.length_of_kind.result ≡ n = c.length_of_kind.ensures.is ∙ ap length_of_kind c.kind_in.ensures in
+    gives_length_of n (c.in_ok-h.ensures p here s) (c.in_ok-address_in.ensures (omega arith)) (gives_as (ap (λ k. length_in k (named_of c.in_ok-h.h)) (sym same)) c.in_ok-v.ensures)
+
+pub called-returns : goal.called-returns
+called-returns t c = λ p here s. gives_with_result (c.in_ok-r.ensures p here s) (gives_as (ap (λ ws. emits c.in_ok-r.r.code ws) (sym c.as_slice.ensures.value)) c.in_ok-v.ensures)
 
 pub chain-returns-in_ok-v-in-Operate : goal.chain-returns-in_ok-v-in-Operate
 chain-returns-in_ok-v-in-Operate t c = λ p here s le.
@@ -287,9 +313,3 @@ cond-returns-in_ok-branch-in-Compare t c = λ p here s.
     tests_as (ap (λ e. (expr_in p here e).test) c.in-Compare.is)
     (tests_to (c.in_ok-branch-in-Compare.ensures ∙ ap (λ k. closed c.value-in-Compare-2.new.b (Branch k c.in_ok-a-in-Compare.a c.in_ok-c-in-Compare.c c.args.yes c.args.no) 0 c.args.next None) c.condition.ensures)
     (tests_branch (condition c.in-Compare.r) c.args.yes c.args.no c.args.next x y))
-
-pub value-returns-in_ok-v-in-Chain : goal.value-returns-in_ok-v-in-Chain
-value-returns-in_ok-v-in-Chain t c = λ p here s.
-    let len : c.len.result ≡ length c.in-Chain.links.items = c.len.ensures ∙ c.in-Chain.links.ok.0 in
-    let few : c.len.result ≤ length (links_of c.args.e.now) = let e = ap length (links_are c.args.e.now c.in-Chain.field-0 c.in-Chain.links c.in-Chain.is) in omega (arith, len, e) in
-    gives_as (ap (λ (z : Lowers). z.value) (all_links p here c.args.e.now c.in-Chain.field-0 c.in-Chain.links c.len.result c.in-Chain.is len)) (c.in_ok-v-in-Chain.ensures p here s few)

@@ -1,4 +1,4 @@
-use Rattle.std.proofs.Common.{drop, List, ℕ, ◌+◌, ◌*◌}
+use Rattle.std.proofs.Common.{drop, List, ℕ, max, ◌+◌, ◌*◌}
 use Rattle.ob_types.specs.declared.program.Program.{Program}
 use Rattle.ssa_lowered.specs.Lowered.{Here}
 use Rattle.ssa_lowered.specs.Values.{Named}
@@ -6,6 +6,7 @@ use Rattle.ssa_exprs.specs.Making.{View}
 use Rattle.ssa_exprs.specs.Named.{named_of}
 use Rattle.ssa_exprs.specs.Tables.{Serves}
 use Rattle.ssa_exprs.proofs.Guards.{Selecting, Passing}
+use Rattle.ob_types.specs.declared.tree.Designator.{size-Designator}
 use Rattle.ssa_exprs.proofs.walk.+walk.Given as goal
 
 abbrev pub invariant-selected-loop-s : goal.invariant-selected-loop-s
@@ -28,6 +29,21 @@ decreases-select l = goal.size-select l * 147573952589676412928 + 0
 
 abbrev pub decreases-value : goal.decreases-value
 decreases-value l = goal.size-value l * 147573952589676412928 + 36893488147419103232
+
+abbrev pub decreases-guarded : goal.decreases-guarded
+decreases-guarded l = goal.size-guarded l * 147573952589676412928 + 3
+
+abbrev pub decreases-compared_texts : goal.decreases-compared_texts
+decreases-compared_texts l = max (goal.size-compared_texts l) (size-Designator l.e.now) * 147573952589676412928 + 3
+
+abbrev pub decreases-tested_byte : goal.decreases-tested_byte
+decreases-tested_byte l = goal.size-tested_byte l * 147573952589676412928 + 36893488147419103233
+
+abbrev pub decreases-array_length : goal.decreases-array_length
+decreases-array_length l = goal.size-array_length l * 147573952589676412928 + 3
+
+abbrev pub decreases-called : goal.decreases-called
+decreases-called l = goal.size-called l * 147573952589676412928 + 1
 
 abbrev pub decreases-cond : goal.decreases-cond
 decreases-cond l = goal.size-cond l * 147573952589676412928 + 36893488147419103233

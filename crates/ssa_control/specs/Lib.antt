@@ -1,0 +1,4 @@
+pub mod Frames
+pub mod Joins
+pub mod Lists
+pub mod Rungs
