@@ -1,5 +1,5 @@
 -- A procedure's variables: what is declared, whose addresses are made, and where they stand.
-use Rattle.std.proofs.Common.{◌≡◌, ◌≢◌, ℕ, zero, suc, ◌+◌, ◌-◌, ◌*◌, ◌<◌, ◌≤◌, List, [], ◌∷◌, ◌++◌, map, take, drop, set, replicate, length, get_or, Bool, true, false, cond, not, eqb, ◌||◌, ◌&&◌, Option, Some, None, eqb-true, refl, sym, ap, ap₂, ◌∙◌, subst, arith, append_assoc, sum}
+use Rattle.std.proofs.Common.{◌≡◌, ◌≢◌, ℕ, zero, suc, ◌+◌, ◌-◌, ◌*◌, ◌/◌, ◌<◌, ◌≤◌, List, [], ◌∷◌, ◌++◌, map, take, drop, set, replicate, length, get_or, Bool, true, false, cond, not, eqb, ◌||◌, ◌&&◌, Option, Some, None, eqb-true, refl, sym, ap, ap₂, ◌∙◌, subst, arith, append_assoc, sum}
 use Rattle.std.specs.Prelude.{◌==◌, if◌then◌else◌, slice_get}
 use Rattle.std.specs.List.{sum_by, filter}
 use Rattle.std.proofs.lemmas.Bool.{eq-eqb}
@@ -282,8 +282,8 @@ module _ (t : Table) (sizes : List ℕ) (known : (k : ℕ) → size_by sizes k �
   -- a procedure's variables
   module _ (p : Program) (f : ℕ) (q : Procedure) (of_table : p.types ≡ t) where
     pub locals_are : (x : Locals) (vs : List Variable) (ms : List Bool) → map pair_of vs ≡ declared_in q → length ms ≡ length vs → Marks ms (lent_in_body q) vs → finish (λ (v : Variable). size_by sizes v.type_number) 0 vs ≤ 8388608
-        → x.variables ≡ placed_by t sizes ms (ends 0 x.structured) vs → x.bytes ≡ (ends_by t sizes ms (ends 0 x.structured) vs).scalar → x.structured ≡ finish (structured_size t sizes) 0 vs → AreLocals x p f q
-    locals_are x vs ms declared same marks few variables bytes structured =
+        → x.variables ≡ placed_by t sizes ms (ends 0 x.structured) vs → x.bytes ≡ (ends_by t sizes ms (ends 0 x.structured) vs).scalar → x.structured ≡ finish (structured_size t sizes) 0 vs → x.cells ≡ finish (λ (v : Variable). size_by sizes v.type_number) 0 vs / 8 → AreLocals x p f q
+    locals_are x vs ms declared same marks few variables bytes structured counted =
         let lent = lent_in_body q in
         let types = declared_types q vs declared in
         let all = variables_finish_is vs in
@@ -294,6 +294,7 @@ module _ (t : Table) (sizes : List ℕ) (known : (k : ℕ) → size_by sizes k �
         let ended : x.bytes ≡ x.structured + 8 * scalars_lent t l lent (map type_in vs) = bytes ∙ ends_is ms lent vs 0 x.structured same marks range in
         record {
           variables = ap (map seen) variables ∙ placed_is ms lent vs 0 x.structured same marks range ∙ ap₂ (λ n ps. placed t l lent 0 n ps) whole declared ∙ sym (ap (λ u. placed u (in_cells u) lent 0 (structured_room u (in_cells u) (locals_of q)) (declared_in q)) of_table);
+          cells = (omega (arith, all, few, counted)) ∙ ap₂ (λ u ks. cells_of_all u ks) (sym of_table) types;
           bytes = ended ∙ ap₂ (λ n ks. n + 8 * scalars_lent t l lent ks) whole types ∙ sym (ap (λ u. structured_room u (in_cells u) (locals_of q) + 8 * scalars_lent u (in_cells u) lent (locals_of q)) of_table);
           structured = whole ∙ sym (ap (λ u. structured_room u (in_cells u) (locals_of q)) of_table);
         }

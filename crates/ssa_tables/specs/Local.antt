@@ -66,9 +66,10 @@ module _ (t : Table) (sizes : List ℕ) where
   ends_by (m ∷ ms) e (v ∷ vs) = ends_by ms (ends_behind (is_structured (kind_of t v.type_number)) m (size_by sizes v.type_number) e) vs
   ends_by _ e _ = e
 
--- the variables of a procedure of a program, and the bytes of its local data
+-- the variables of a procedure of a program, their cells, and the bytes of its local data
 pub record AreLocals (x : Locals) (p : Program) (f : ℕ) (q : Procedure) : Type 0 where
   pub variables : map seen x.variables ≡ (here_of p (in_cells p.types) f q).variables
+  pub cells : x.cells ≡ cells_of_all p.types (locals_of q)
   pub bytes : x.bytes ≡ (here_of p (in_cells p.types) f q).bytes
   pub structured : x.structured ≡ zeroed_bytes p (in_cells p.types) q
 

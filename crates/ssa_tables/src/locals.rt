@@ -34,7 +34,9 @@ pub struct Variable {
 #[derive(Drop)]
 pub struct Locals {
     pub variables: Items<Variable>,
-    /// All bytes.
+    /// The cells of all of them, those in registers included.
+    pub cells: u32,
+    /// The bytes of those in memory.
     pub bytes: u32,
     /// Those of arrays and records, which stand first.
     pub structured: u32,
@@ -222,7 +224,8 @@ fn placed(
     };
     let marks = marks(alloc, declared.len(), lent.as_slice())?;
     let structured = structured_finish(types, sizes, declared);
-    let locals = place_all(alloc, types, sizes, marks.as_slice(), declared, structured)?;
+    let mut locals = place_all(alloc, types, sizes, marks.as_slice(), declared, structured)?;
+    locals.cells = variables_finish(sizes, declared) / 8;
     Ok(locals)
 }
 
@@ -257,6 +260,7 @@ fn place_all(
     }
     Ok(Locals {
         variables,
+        cells: 0,
         bytes: ends.scalar,
         structured,
     })
