@@ -8,7 +8,5 @@
 mod assigned;
 mod joins;
 
-pub use assigned::{
-    note, note_all, note_base, note_cases, note_parts, note_types, note_whole,
-};
+pub use assigned::{note, note_all, note_base, note_cases, note_parts, note_types, note_whole};
 pub use joins::registers;

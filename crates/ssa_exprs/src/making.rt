@@ -307,6 +307,20 @@ impl Making {
         self.made.as_slice()
     }
 
+    /// How many labels are given out.
+    pub fn labels(&self) -> u32
+        ensures { result ≡ self.now.labels }
+    {
+        self.labels
+    }
+
+    /// The labels that have blocks, in the order in which they got them.
+    pub fn bounds(&self) -> &[Bound]
+        ensures { result.now ≡ self.now.bounds }
+    {
+        self.bounds.as_slice()
+    }
+
     /// The limit that is passed.
     pub fn over(&self) -> Option<u8>
         ensures { result ≡ self.now.over }

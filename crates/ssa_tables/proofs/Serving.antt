@@ -1,0 +1,319 @@
+-- Tables that are made so are right.
+use Rattle.std.proofs.Common.{◌≡◌, ℕ, zero, suc, ◌+◌, ◌-◌, ◌*◌, ◌<◌, ◌≤◌, min, List, [], ◌∷◌, ◌++◌, map, take, length, get_or, Bool, true, false, ltb, Option, Some, None, refl, sym, ap, ap₂, ◌∙◌, subst, arith, sum, ◌⊎◌, inl, inr}
+use Rattle.std.specs.Prelude.{if◌then◌else◌, slice_get, nat_lt}
+use Rattle.std.specs.List.{sum_by}
+use Rattle.std.proofs.lemmas.Bool.{lt-ltb}
+use Rattle.std.proofs.lemmas.List.{get_or-map, get_or_past}
+use Rattle.std.proofs.lemmas.List.Sums.{sum_by-cons, sum-map, sum_by-take-le}
+use Rattle.ob_types.specs.Table.{Table}
+use Rattle.ob_types.specs.Layout.{kind_of, record_of, types_of, base_cells, cells, cells_of_all, record_cells, field_place}
+use Rattle.ob_types.specs.Meaning.{globals_of, texts_of, text_number}
+use Rattle.ob_types.specs.declared.types.Field.{Field}
+use Rattle.ob_types.specs.declared.types.Formal.{Formal}
+use Rattle.ob_types.specs.declared.types.RecordType.{RecordType}
+use Rattle.ob_types.specs.declared.types.Mode.{Mode}
+use Rattle.ob_types.specs.declared.types.Mode.TheVariants.{Value, Place, Record, Open}
+use Rattle.ob_types.specs.declared.program.Module.{Module}
+use Rattle.ob_types.specs.declared.program.Procedure.{Procedure}
+use Rattle.ob_types.specs.declared.program.Program.{Program}
+use Rattle.ob_types.proofs.Tests.{less_or_past}
+use Rattle.ssa_lowered.specs.Data.{Layout, in_cells, room, room_of_all, modules_room, global_at, globals_room, descriptor_at, text_room, text_at, within}
+use Rattle.ssa_lowered.specs.Pieces.{give}
+use Rattle.ssa_lowered.specs.Limits.{global_cells, constant_cells}
+use Rattle.ssa_lowered.specs.Lowered.{Here, here_of, by_mode, parameter_by, variable_of}
+use Rattle.ssa_lowered.specs.Variables.{words_by, words_of, Site, Register, Memory}
+use Rattle.ssa_lowered.specs.Variables.{Variable as VariableThere}
+use Rattle.ssa_exprs.specs.Named.{named_of}
+use Rattle.ssa_exprs.specs.Tables.{Serves, clamped, of_row, global_in, descriptor_in, level_in, size_in, offset_in, record_in, local_in, site_by, parameter_in}
+use Rattle.ssa_exprs.specs.declared.tables.Tables.{Tables}
+use Rattle.ssa_tables.specs.Measured.{HasSizes, IsMeasured}
+use Rattle.ssa_tables.specs.Places.{starts, finish, size_by, field_size, module_starts, module_finish, base_by, string_size}
+use Rattle.ssa_tables.specs.Shared.{ServesAll, ServesFrom}
+use Rattle.ssa_tables.specs.Local.{seen, site_of, distance, name_by, parameters_from, AreLocals}
+use Rattle.ssa_tables.specs.declared.locals.Variable.{Variable}
+use Rattle.ssa_tables.specs.declared.locals.Locals.{Locals}
+use Rattle.ssa_tables.proofs.Placing.{finish_is, starts_clamped, module_finish_is, module_starts_at, module_starts_length, rounded_cells, within_on, take_all, not_less}
+use Rattle.ssa_tables.proofs.Levels.{record_parts}
+
+---- Parameters
+
+name_is : (m : Mode) (w : ℕ) → by_mode m w ≡ named_of (name_by m w)
+name_is Value w = refl
+name_is Place w = refl
+name_is Record w = refl
+name_is Open w = refl
+
+named_at : (w : ℕ) (xs : List Formal) (k : ℕ) → parameter_by (slice_get xs k) (w + words_of (take k xs)) ≡ parameter_in (slice_get (parameters_from w xs) k)
+named_at w [] k = refl
+named_at w (x ∷ xs) zero = let e : w + 0 ≡ w = omega arith in ap (λ n. give (by_mode x.mode n)) e ∙ ap give (name_is x.mode w)
+named_at w (x ∷ xs) (suc k) =
+    let s = sum_by-cons (λ (y : Formal). words_by y.mode) x (take k xs) in
+    let e : w + words_of (x ∷ take k xs) ≡ (w + words_by x.mode) + words_of (take k xs) = omega (arith, s) in
+    ap (λ n. parameter_by (slice_get xs k) n) e ∙ named_at (w + words_by x.mode) xs k
+
+---- Variables
+
+site_is : (bytes : ℕ) (o : Option ℕ) → distance bytes o ≡ site_by bytes (site_of o)
+site_is bytes None = refl
+site_is bytes (Some n) = refl
+
+local_is : (bytes : ℕ) (vs : List Variable) (x : ℕ) → get_or (map (λ (v : Variable). distance bytes v.place) vs) x None ≡ site_by bytes (get_or (map seen vs) x (record { type_number = 0; word = None; site = Register })).site
+local_is bytes [] x = refl
+local_is bytes (v ∷ vs) zero = site_is bytes v.place
+local_is bytes (v ∷ vs) (suc x) = local_is bytes vs x
+
+---- What all procedures share
+
+at_inside : (xss : List (List ℕ)) (i j other : ℕ) → i < length xss → of_row xss i j other ≡ clamped (get_or xss i []) j
+at_inside xss i j other lt = ap (λ (b : Bool). if b then clamped (get_or xss i []) j else other) (lt-ltb i (length xss) lt)
+
+at_past : (xss : List (List ℕ)) (i j other : ℕ) → length xss ≤ i → of_row xss i j other ≡ other
+at_past xss i j other le = ap (λ (b : Bool). if b then clamped (get_or xss i []) j else other) (not_less i (length xss) le)
+
+take_nothing : {A : Type 0} (n : ℕ) → take {A = A} n [] ≡ []
+take_nothing zero = refl
+take_nothing (suc n) = refl
+
+take_one : {A : Type 0} (f : A → ℕ) (xs : List A) (i : ℕ) (d : A) → i < length xs → sum_by f (take i xs) + f (get_or xs i d) ≤ sum_by f xs
+take_one f [] i d lt = absurd (omega (arith, lt))
+take_one f (x ∷ xs) zero d lt = let s = sum_by-cons f x xs in omega (arith, s)
+take_one f (x ∷ xs) (suc i) d lt =
+    let s = sum_by-cons f x xs in
+    let r = sum_by-cons f x (take i xs) in
+    let more = take_one f xs i d (omega (arith, lt)) in
+    omega (arith, s, r, more)
+
+module _ (p : Program) (sizes : List ℕ) (known : (k : ℕ) → size_by sizes k ≡ 8 * cells p.types k) where
+  abbrev t : Table
+  t = p.types
+
+  abbrev l : Layout
+  l = in_cells t
+
+  pub all_room : (ks : List ℕ) → sum_by (size_by sizes) ks ≡ room_of_all l ks
+  all_room [] = refl
+  all_room (k ∷ ks) =
+      sum_by-cons (size_by sizes) k ks
+      ∙ ap₂ (λ a b. a + b) (known k ∙ sym (rounded_cells (cells t k))) (all_room ks)
+      ∙ sym (sum_by-cons (λ x. x) (room l k) (map (room l) ks))
+
+  pub room_cells : (ks : List ℕ) → room_of_all l ks ≡ 8 * cells_of_all t ks
+  room_cells [] = refl
+  room_cells (k ∷ ks) =
+      let a = sum_by-cons (λ x. x) (room l k) (map (room l) ks) in
+      let b = sum_by-cons (λ x. x) (cells t k) (map (cells t) ks) in
+      let c = rounded_cells (cells t k) in
+      let more = room_cells ks in
+      omega (arith, a, b, c, more)
+
+  abbrev module_size : Module → ℕ
+  module_size m = sum_by (size_by sizes) m.variables
+
+  pub modules_are : (ms : List Module) → sum_by module_size ms ≡ sum_by (λ x. room_of_all l x.variables) ms
+  modules_are [] = refl
+  modules_are (m ∷ ms) =
+      sum_by-cons module_size m ms
+      ∙ ap₂ (λ a b. a + b) (all_room m.variables) (modules_are ms)
+      ∙ sym (sum_by-cons (λ (x : Module). room_of_all l x.variables) m ms)
+
+  modules_cells : (ms : List Module) → sum_by (λ x. room_of_all l x.variables) ms ≡ 8 * sum_by (λ m. cells_of_all t m.variables) ms
+  modules_cells [] = refl
+  modules_cells (m ∷ ms) =
+      let a = sum_by-cons (λ (x : Module). room_of_all l x.variables) m ms in
+      let b = sum_by-cons (λ (x : Module). cells_of_all t x.variables) m ms in
+      let c = room_cells m.variables in
+      let more = modules_cells ms in
+      omega (arith, a, b, c, more)
+
+  -- where the globals end, in cells
+  pub finish_cells : module_finish (size_by sizes) 8 p.modules ≡ within (8 * global_cells p)
+  finish_cells =
+      let a = modules_are p.modules in
+      let b = modules_cells p.modules in
+      module_finish_is (size_by sizes) 8 p.modules (omega arith) ∙ (omega (arith, a, b))
+
+  pub room_in_cells : globals_room p l ≡ 8 * global_cells p
+  room_in_cells =
+      let a = modules_cells p.modules in
+      let b = ap (λ ms. sum_by (λ (x : Module). room_of_all l x.variables) ms) (take_all p.modules (length p.modules) (omega arith)) in
+      omega (arith, a, b)
+
+  pub globals_end : module_finish (size_by sizes) 8 p.modules ≤ 8388608 → module_finish (size_by sizes) 8 p.modules ≡ globals_room p l
+  globals_end few = let a = finish_cells in let b = room_in_cells in omega (arith, a, b, few)
+
+  module _ (few : module_finish (size_by sizes) 8 p.modules ≤ 8388608) where
+    abbrev nothing_there : Module
+    nothing_there = record { name = []; objects = []; variables = []; body = 0 }
+
+    small : globals_room p l ≤ 8388608
+    small = let e = globals_end few in omega (arith, e, few)
+
+    modules_take : (m : ℕ) → sum_by module_size (take m p.modules) ≡ modules_room p l m
+    modules_take m = modules_are (take m p.modules)
+
+    pub global_is : (m v : ℕ) → of_row (module_starts (size_by sizes) 8 p.modules) m v (module_finish (size_by sizes) 8 p.modules) ≡ global_at p l m v
+    global_is m v = by (less_or_past m (length p.modules))
+      where
+        n : length (module_starts (size_by sizes) 8 p.modules) ≡ length p.modules
+        n = module_starts_length (size_by sizes) 8 p.modules
+
+        by : (m < length p.modules) ⊎ (length p.modules ≤ m) → of_row (module_starts (size_by sizes) 8 p.modules) m v (module_finish (size_by sizes) 8 p.modules) ≡ global_at p l m v
+        by (inl lt) =
+            let ks = globals_of p m in
+            let before = module_finish (size_by sizes) 8 (take m p.modules) in
+            let a : before ≡ within (8 + sum_by module_size (take m p.modules)) = module_finish_is (size_by sizes) 8 (take m p.modules) (omega arith) in
+            let b = modules_take m in
+            let c = take_one module_size p.modules m nothing_there lt in
+            let d = sum_by-take-le (size_by sizes) ks v in
+            let e = modules_are p.modules in
+            let f = small in
+            let g = ap (λ ms. sum_by (λ (x : Module). room_of_all l x.variables) ms) (take_all p.modules (length p.modules) (omega arith)) in
+            let h = all_room (take v ks) in
+            let le : before ≤ 16777215 = omega (arith, a) in
+            at_inside (module_starts (size_by sizes) 8 p.modules) m v (module_finish (size_by sizes) 8 p.modules) (subst (λ k. m < k) (sym n) lt)
+            ∙ ap (λ r. clamped r v) (module_starts_at (size_by sizes) 8 p.modules m nothing_there lt)
+            ∙ starts_clamped (size_by sizes) before ks v
+            ∙ finish_is (size_by sizes) before (take v ks) le
+            ∙ (omega (arith, a, b, c, d, e, f, g, h))
+        by (inr le) =
+            let none : globals_of p m ≡ [] = ap (λ (x : Module). x.variables) (get_or_past p.modules m nothing_there le) in
+            let a = ap (room_of_all l) (ap (take v) none ∙ take_nothing v) in
+            let b = ap (λ ms. sum_by (λ (x : Module). room_of_all l x.variables) ms) (take_all p.modules (length p.modules) (omega arith) ∙ sym (take_all p.modules m le)) in
+            at_past (module_starts (size_by sizes) 8 p.modules) m v (module_finish (size_by sizes) 8 p.modules) (subst (λ k. k ≤ m) (sym n) le)
+            ∙ globals_end few
+            ∙ (omega (arith, a, b))
+
+  ---- Records
+
+  module _ (has : HasSizes t) where
+    abbrev plain : RecordType
+    plain = record { «module» = 0; base = None; level = 0; fields = []; cells = 0 }
+
+    abbrev record_bytes : List ℕ
+    record_bytes = map (λ (r : RecordType). 8 * r.cells) t.records
+
+    pub whole_is : (r : ℕ) → get_or record_bytes r 0 ≡ 8 * record_cells t r
+    whole_is r = by (less_or_past r (length t.records))
+      where
+        by : (r < length t.records) ⊎ (length t.records ≤ r) → get_or record_bytes r 0 ≡ 8 * record_cells t r
+        by (inl lt) = get_or-map (λ (x : RecordType). 8 * x.cells) t.records r plain 0 lt ∙ ap (λ n. 8 * n) (has.records r lt)
+        by (inr le) = get_or_past record_bytes r 0 (subst (λ n. n ≤ r) (sym (map_length t.records)) le) ∙ sym (ap (λ n. 8 * n) (none r le))
+          where
+            map_length : (xs : List RecordType) → length (map (λ (x : RecordType). 8 * x.cells) xs) ≡ length xs
+            map_length [] = refl
+            map_length (x ∷ xs) = ap suc (map_length xs)
+
+            none : (r : ℕ) → length t.records ≤ r → record_cells t r ≡ 0
+            none r le = ap (λ (x : RecordType). base_cells x.base (λ b. Rattle.ob_types.specs.Layout.record_within t (length t.kinds + length t.records) b) + sum (map (λ k. Rattle.ob_types.specs.Layout.cells_within t (length t.kinds + length t.records) k) (types_of x.fields))) (get_or_past t.records r plain le)
+
+    base_is : (o : Option ℕ) → base_by record_bytes o ≡ 8 * base_cells o (record_cells t)
+    base_is None = refl
+    base_is (Some b) = whole_is b
+
+    fields_are : (fs : List Field) → sum_by (field_size sizes) fs ≡ 8 * cells_of_all t (types_of fs)
+    fields_are [] = refl
+    fields_are (f ∷ fs) =
+        let a = sum_by-cons (field_size sizes) f fs in
+        let b = sum_by-cons (λ x. x) (cells t f.type_number) (map (cells t) (types_of fs)) in
+        let c = known f.type_number in
+        let more = fields_are fs in
+        omega (arith, a, b, c, more)
+
+    types_take : (i : ℕ) (fs : List Field) → types_of (take i fs) ≡ take i (types_of fs)
+    types_take zero [] = refl
+    types_take zero (f ∷ fs) = refl
+    types_take (suc i) [] = refl
+    types_take (suc i) (f ∷ fs) = ap (λ ks. f.type_number ∷ ks) (types_take i fs)
+
+    abbrev row_of : RecordType → List ℕ
+    row_of r = starts (field_size sizes) (base_by record_bytes r.base) r.fields
+
+    -- a field's offset, and that it is in range
+    inside : (r field : ℕ) → r < length t.records → (clamped (row_of (record_of t r)) field ≡ 8 * field_place t r field) × (8 * field_place t r field ≤ 8388608)
+    inside r field lt =
+        let x = record_of t r in
+        let first = base_by record_bytes x.base in
+        let a = base_is x.base in
+        let b = fields_are (take field x.fields) ∙ ap (λ ks. 8 * cells_of_all t ks) (types_take field x.fields) in
+        let c = sum_by-take-le (field_size sizes) x.fields field in
+        let d = fields_are x.fields in
+        let e = record_parts t has.fine r lt in
+        let f = has.few_records r lt in
+        let le : first ≤ 16777215 = omega (arith, a, e, f) in
+        let is = starts_clamped (field_size sizes) first x.fields field ∙ finish_is (field_size sizes) first (take field x.fields) le in
+        (omega (arith, a, b, c, d, e, f, is), omega (arith, a, b, c, d, e, f))
+
+    offset_both : (r field : ℕ) → (of_row (map row_of t.records) r field 0 ≡ 8 * field_place t r field) × (8 * field_place t r field ≤ 8388608)
+    offset_both r field = by (less_or_past r (length t.records))
+      where
+        rows_length : (xs : List RecordType) → length (map row_of xs) ≡ length xs
+        rows_length [] = refl
+        rows_length (x ∷ xs) = ap suc (rows_length xs)
+
+        by : (r < length t.records) ⊎ (length t.records ≤ r) → (of_row (map row_of t.records) r field 0 ≡ 8 * field_place t r field) × (8 * field_place t r field ≤ 8388608)
+        by (inl lt) = (
+          at_inside (map row_of t.records) r field 0 (subst (λ n. r < n) (sym (rows_length t.records)) lt) ∙ ap (λ row. clamped row field) (get_or-map row_of t.records r plain [] lt) ∙ (inside r field lt).0,
+          (inside r field lt).1,
+        )
+        by (inr le) =
+            let a : field_place t r field ≡ 0 + cells_of_all t (take {A = ℕ} field []) = ap (λ (x : RecordType). base_cells x.base (record_cells t) + cells_of_all t (take field (types_of x.fields))) (get_or_past t.records r plain le) in
+            let b : cells_of_all t (take {A = ℕ} field []) ≡ 0 = ap (cells_of_all t) (take_nothing field) in
+            let none : field_place t r field ≡ 0 = omega (arith, a, b) in
+            (at_past (map row_of t.records) r field 0 (subst (λ n. n ≤ r) (sym (rows_length t.records)) le) ∙ omega (arith, none), omega (arith, none))
+
+    level_is : (r : ℕ) → get_or (map (λ (x : RecordType). x.level) t.records) r 0 ≡ (record_of t r).level
+    level_is r = by t.records r
+      where
+        by : (xs : List RecordType) (r : ℕ) → get_or (map (λ (x : RecordType). x.level) xs) r 0 ≡ (get_or xs r plain).level
+        by [] r = refl
+        by (x ∷ xs) zero = refl
+        by (x ∷ xs) (suc r) = by xs r
+
+    string_is : (first n : ℕ) → first ≡ within (module_finish (size_by sizes) 8 p.modules + 128 * length t.records) → module_finish (size_by sizes) 8 p.modules ≤ 8388608 → clamped (starts string_size first (texts_of p.procedures)) n ≡ within (text_at p l n)
+    string_is first n is few =
+        let e = globals_end few in
+        let le : first ≤ 16777215 = omega (arith, is) in
+        starts_clamped string_size first (texts_of p.procedures) n
+        ∙ finish_is string_size first (take n (texts_of p.procedures)) le
+        ∙ ap (λ m. within (m + sum_by string_size (take n (texts_of p.procedures)))) (is ∙ ap (λ m. within (m + 128 * length t.records)) e)
+        ∙ within_on (globals_room p l) (128 * length t.records) (sum_by string_size (take n (texts_of p.procedures)))
+        ∙ (omega arith)
+
+    -- all of them
+    pub serves_all : (x : Tables) (first : ℕ) → module_finish (size_by sizes) 8 p.modules ≤ 8388608
+        → x.globals ≡ module_starts (size_by sizes) 8 p.modules → x.descriptors ≡ module_finish (size_by sizes) 8 p.modules
+        → x.levels ≡ map (λ (r : RecordType). r.level) t.records → x.sizes ≡ sizes → x.records ≡ record_bytes → x.offsets ≡ map row_of t.records
+        → first ≡ within (module_finish (size_by sizes) 8 p.modules + 128 * length t.records) → x.texts ≡ starts string_size first (texts_of p.procedures) → ServesAll x p
+    serves_all x first few globals descriptors levels all records offsets place texts = record {
+      global = λ m v. ap₂ (λ rows d. of_row rows m v d) globals descriptors ∙ global_is few m v;
+      descriptor = λ r. ap (λ d. min (d + 128 * r) 16777215) (descriptors ∙ globals_end few);
+      level = λ r. ap (λ xs. get_or xs r 0) levels ∙ level_is r;
+      size = λ k. ap (λ xs. size_by xs k) all ∙ known k;
+      whole = λ r. ap (λ xs. get_or xs r 0) records ∙ whole_is r;
+      offset = λ r field. ap (λ rows. of_row rows r field 0) offsets ∙ (offset_both r field).0;
+      short = λ r field. let e = ap (λ rows. of_row rows r field 0) offsets ∙ (offset_both r field).0 in let f = (offset_both r field).1 in omega (arith, e, f);
+      text = λ n. ap (λ xs. clamped xs n) texts ∙ string_is first n place few;
+    }
+
+-- and with what belongs to a procedure
+pub serves_one : (x y : Tables) (p : Program) (f : ℕ) (q : Procedure) (v : Locals) → ServesFrom x p f → AreLocals v p f q
+    → y ≡ record x { locals = map (λ (w : Variable). distance v.bytes w.place) v.variables; parameters = parameters_from 0 q.formals } → Serves y p (here_of p (in_cells p.types) f q)
+serves_one x y p f q v from are is = subst (λ z. Serves z p (here_of p (in_cells p.types) f q)) (sym is) (record {
+  global = from.all.global;
+  descriptor = from.all.descriptor;
+  level = from.all.level;
+  size = from.all.size;
+  whole = from.all.whole;
+  offset = from.all.offset;
+  short = from.all.short;
+  text = λ k. ap (λ n. clamped x.texts (n + k)) from.texts ∙ from.all.text (text_number p f k);
+  parameter = λ k. let e : words_of (take k q.formals) ≡ 0 + words_of (take k q.formals) = omega arith in ap (λ n. parameter_by (slice_get q.formals k) n) e ∙ named_at 0 q.formals k;
+  local = λ z. local_is v.bytes v.variables z ∙ ap₂ (λ b vs. site_by b (get_or {A = VariableThere} vs z (record { type_number = 0; word = None; site = Register })).site) are.bytes are.variables;
+})
+
+-- what belongs to no procedure stays
+pub from_same : (x y : Tables) (p : Program) (f : ℕ) (locals : List (Option ℕ)) (parameters : List Rattle.ssa_exprs.specs.declared.named.Named.Named) → ServesFrom x p f → y ≡ record x { locals = locals; parameters = parameters } → ServesFrom y p f
+from_same x y p f locals parameters from is = subst (λ z. ServesFrom z p f) (sym is) (record {
+  all = record { global = from.all.global; descriptor = from.all.descriptor; level = from.all.level; size = from.all.size; whole = from.all.whole; offset = from.all.offset; short = from.all.short; text = from.all.text };
+  texts = from.texts;
+})

@@ -1,0 +1,7 @@
+-- Sizes of the first types of a table.
+use Rattle.std.specs.Prelude.{◌≡◌, ◌*◌, ◌<◌, ◌≤◌, ℕ, List, length, slice_index}
+use Rattle.ob_types.specs.Layout.{cells}
+use Rattle.ob_types.specs.Table.{Table}
+
+pub record AreFirstSizes (t : Table) (sizes : List ℕ) : Type 0 where
+  pub at : (k : ℕ) → k < length sizes → slice_index sizes k ≡ 8 * cells t k

@@ -1,0 +1,24 @@
+//! Where a program's data stands, for the lowering of each of its procedures.
+//!
+//! `program_tables` makes, once for a program, all that its procedures share: the addresses of variables, descriptors and
+//! strings, the sizes of types and the offsets of fields. `enter` then puts in what belongs to one procedure, and `pass`
+//! goes on to the next one's strings; so nothing is copied from one procedure to the next. The tables are those that
+//! lowering asks for (`Serves`, in `ssa_exprs`). The limits of a program's and a procedure's data are found on the way.
+#![tactic(auto)]
+
+mod fields;
+mod globals;
+mod laws;
+mod locals;
+mod places;
+mod procedure;
+mod program;
+mod sizes;
+mod strings;
+#[cfg(test)]
+mod tests;
+
+pub use laws::well_formed_is_measured;
+pub use locals::{Locals, Variable, is_structured, words};
+pub use procedure::{enter, pass};
+pub use program::{check_constants, program_tables};
