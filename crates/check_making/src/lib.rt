@@ -1,8 +1,0 @@
-//! What declarations make, in code.
-#![tactic(auto)]
-
-mod looking;
-mod making;
-mod standing;
-
-pub use making::{Declaring, Forward, Offered, Surroundings};
