@@ -1,0 +1,203 @@
+//! A procedure's blocks, from the pieces that were made and the blocks that labels stand for.
+
+ghost use Rattle.std.specs.Prelude.{◌≡◌, ◌≤◌, ℕ, List, [], ◌∷◌, replicate, length, slice_index, min, None, IfOk};
+ghost use Rattle.block_runs.specs.declared.end.End.{End as EndThere};
+ghost use Rattle.ssa_lowered.specs.Pieces.{numbers};
+ghost use Rattle.ssa_exprs.specs.declared.making.Piece.{Piece as PieceThere};
+ghost use Rattle.ssa_exprs.specs.Making.{resolve, resolved, resolve_end};
+ghost use Rattle.ssa_build.specs.Blocks.{placed_at, finished, blocks_by};
+
+use block_runs::{End, Uses};
+use items::Items;
+use outside::Memory;
+use ssa_core::{Block, Op};
+use ssa_exprs::{Bound, Piece};
+use std::alloc::Global;
+
+/// How a block begins.
+#[derive(Drop)]
+pub struct Head {
+    pub params: Items<u32>,
+    pub freq: u64,
+    pub enter: Option<u32>,
+}
+
+/// Blocks that are complete, and the one that is open.
+#[derive(Drop)]
+pub struct Blocks {
+    pub done: Items<Block>,
+    pub head: Head,
+    pub ops: Items<Op>,
+}
+
+/// The block of each label.
+pub fn places(alloc: Global, labels: u32, bounds: &[Bound]) -> Result<Vec<u32>, Memory>
+    ensures { IfOk result (λ list. list.items ≡ placed_at bounds.now (replicate labels 0)) }
+{
+    let mut list = vec![in alloc; 0; labels as usize]?;
+    for x in bounds {
+        let at = x.label as usize;
+        if at < list.len() {
+            list[at] = x.block;
+        }
+    }
+    Ok(list)
+}
+
+/// The block of a label.
+fn place_in(places: &[u32], label: u32) -> u32
+    ensures { result ≡ slice_index places.now label }
+{
+    let at = label as usize;
+    if at < places.len() { places[at] } else { 0 }
+}
+
+/// An end with blocks in the place of labels.
+fn placed_end(alloc: Global, places: &[u32], end: &End) -> Result<End, Memory>
+    ensures { IfOk result (λ e. e ≡ resolve_end (λ t. slice_index places.now t) end.now) }
+{
+    match end {
+        End::Jump { to, args } => Ok(End::Jump {
+            to: place_in(places, *to),
+            args: Items::from_slice(alloc, args.as_slice())?,
+        }),
+        End::Branch {
+            cond,
+            a,
+            b,
+            yes,
+            no,
+        } => Ok(End::Branch {
+            cond: *cond,
+            a: *a,
+            b: *b,
+            yes: place_in(places, *yes),
+            no: place_in(places, *no),
+        }),
+        End::Nonzero { a, yes, no } => Ok(End::Nonzero {
+            a: *a,
+            yes: place_in(places, *yes),
+            no: place_in(places, *no),
+        }),
+        End::Return(a) => Ok(End::Return(*a)),
+        End::Trap(kind) => Ok(End::Trap(*kind)),
+    }
+}
+
+/// An operation once more.
+fn copy_of(alloc: Global, op: &Op) -> Result<Op, Memory>
+    ensures { IfOk result (λ o. o ≡ op.now) }
+{
+    let uses = Uses::from_slice(alloc, op.uses.as_slice())?;
+    Ok(Op {
+        code: op.code,
+        uses,
+        def: op.def,
+    })
+}
+
+/// The open block gets its end.
+fn block(head: Head, ops: Items<Op>, end: End) -> Block
+    ensures { result ≡ record { params = head.params; ops = ops; end = end; freq = head.freq; enter = head.enter } }
+{
+    let Head {
+        params,
+        freq,
+        enter,
+    } = head;
+    Block {
+        params,
+        ops,
+        end,
+        freq,
+        enter,
+    }
+}
+
+/// One more piece.
+fn add(alloc: Global, places: &[u32], blocks: Blocks, piece: &Piece) -> Result<Blocks, Memory>
+    ensures { IfOk result (λ new. (rest : List PieceThere) (last : EndThere) → finished new last rest ≡ finished blocks last (resolve (λ t. slice_index places.now t) piece.now ∷ rest)) }
+{
+    let Blocks {
+        mut done,
+        head,
+        mut ops,
+    } = blocks;
+    match piece {
+        Piece::Adds(op) => {
+            ops.push(copy_of(alloc, op)?)?;
+            Ok(Blocks { done, head, ops })
+        }
+        Piece::Ends {
+            end,
+            params,
+            freq,
+            enter,
+        } => {
+            let end = placed_end(alloc, places, end)?;
+            let params = Items::from_slice(alloc, params.as_slice())?;
+            done.push(block(head, ops, end))?;
+            Ok(Blocks {
+                done,
+                head: Head {
+                    params,
+                    freq: *freq,
+                    enter: *enter,
+                },
+                ops: Items::new(alloc),
+            })
+        }
+    }
+}
+
+/// The first argument words, which are parameters of the first block.
+fn first_params(alloc: Global, words: u32) -> Result<Items<u32>, Memory>
+    ensures { IfOk result (λ list. list ≡ numbers 0 (min words 4)) }
+{
+    let mut list = Items::new(alloc);
+    for i in 0..words.min(4) {
+        list.push(i)?;
+    }
+    Ok(list)
+}
+
+/// The blocks of a procedure with so many argument words; the last block gets this end.
+pub fn all_blocks(
+    alloc: Global,
+    places: &[u32],
+    pieces: &[Piece],
+    words: u32,
+    last: End,
+) -> Result<Items<Block>, Memory>
+    ensures { IfOk result (λ list. list ≡ blocks_by (record { params = numbers 0 (min words 4); freq = 1048576; enter = None }) [] last (resolved (λ t. slice_index places.now t) pieces.now)) }
+{
+    let params = first_params(alloc, words)?;
+    let head = Head {
+        params,
+        freq: 1048576,
+        enter: None,
+    };
+    let blocks = add_all(alloc, places, head, pieces)?;
+    let Blocks {
+        mut done,
+        head,
+        ops,
+    } = blocks;
+    done.push(block(head, ops, last))?;
+    Ok(done)
+}
+
+/// All pieces, behind the beginning of the first block.
+fn add_all(alloc: Global, places: &[u32], head: Head, pieces: &[Piece]) -> Result<Blocks, Memory>
+    ensures { IfOk result (λ new. (last : EndThere) → finished new last [] ≡ blocks_by head [] last (resolved (λ t. slice_index places.now t) pieces.now)) }
+{
+    let mut blocks = Blocks {
+        done: Items::new(alloc),
+        head,
+        ops: Items::new(alloc),
+    };
+    for piece in pieces {
+        blocks = add(alloc, places, blocks, piece)?;
+    }
+    Ok(blocks)
+}

@@ -1,0 +1,14 @@
+//! Lowering of whole programs: each procedure's beginning and end, its blocks, and the limits that are passed.
+//!
+//! `lower` makes exactly the procedures that `ssa_lowered` defines, where each cell takes eight bytes, or tells the limit that
+//! the definition says is passed first. A procedure begins with its arguments, what is zeroed, and the first values of its
+//! variables (`src/entry.rt`); then its statements are walked (`ssa_control`), and labels get their blocks (`src/finish.rt`).
+#![tactic(auto)]
+
+mod body;
+mod entry;
+mod finish;
+mod lowering;
+mod procedure;
+
+pub use lowering::lower;

@@ -1,0 +1,70 @@
+//! Programs.
+
+ghost use Rattle.std.specs.Prelude.{◌≡◌, ◌≤◌, length, None, IfOk, OnOk, IfErr};
+ghost use Rattle.ssa_lowered.specs.Data.{in_cells};
+ghost use Rattle.ssa_lowered.specs.Limits.{limits_from, limit_of};
+ghost use Rattle.ssa_lowered.specs.Lowered.{procs_from, lowered};
+ghost use Rattle.ssa_tables.specs.Faults.{Tells};
+ghost use Rattle.ssa_tables.specs.Measured.{IsMeasured};
+ghost use Rattle.ssa_tables.specs.Shared.{ServesAll, ServesFrom};
+
+use crate::procedure::lower_procedure;
+use items::Items;
+use ob_types::Program;
+use ssa_core::Proc;
+use ssa_exprs::{LowerFault, Tables};
+use ssa_tables::{check_constants, program_tables};
+use std::alloc::Global;
+
+/// The procedures of a program, where each cell takes eight bytes. A program is refused by the first of these limits that it
+/// passes: over 4,096 procedures (52), over 1,048,576 cells of globals (53); then, procedure by procedure, over 1,048,576 cells
+/// of local data (59), and over 4,000 values (50) or blocks (51), whichever comes first, with the procedure's number; then over
+/// 262,144 cells of constants (58).
+pub fn lower(alloc: Global, program: &Program) -> Result<Items<Proc>, LowerFault>
+    requires { IsMeasured program.now }
+    ensures ok { IfOk result (λ list. list ≡ lowered program.now) }
+    ensures within { OnOk result (limit_of program.now ≡ None) }
+    ensures limit { IfErr result (λ e. Tells e (limit_of program.now)) }
+{
+    let mut tables = match program_tables(alloc, program) {
+        Ok(tables) => tables,
+        Err(e) => return Err(e),
+    };
+    let list = match all_procedures(alloc, &mut tables, program) {
+        Ok(list) => list,
+        Err(e) => return Err(e),
+    };
+    match check_constants(&tables) {
+        Ok(_) => Ok(list),
+        Err(e) => Err(e),
+    }
+}
+
+/// All procedures, one after the other.
+fn all_procedures(
+    alloc: Global,
+    tables: &mut Tables,
+    program: &Program,
+) -> Result<Items<Proc>, LowerFault>
+    requires measured { IsMeasured program.now }
+    requires from { ServesFrom tables.old program.now 0 }
+    requires few { length program.now.procedures ≤ 4096 }
+    ensures ok { IfOk result (λ list. list ≡ procs_from program.now (in_cells program.now.types) 0 program.now.procedures) }
+    ensures within { OnOk result (limits_from program.now (in_cells program.now.types) 0 program.now.procedures ≡ None) }
+    ensures limit { IfErr result (λ e. Tells e (limits_from program.now (in_cells program.now.types) 0 program.now.procedures)) }
+    ensures all { OnOk result (ServesAll tables.new program.now) }
+{
+    let procedures = program.procedures.as_slice();
+    let mut list = Items::new(alloc);
+    for f in 0..procedures.len() {
+        let made = match lower_procedure(alloc, tables, program, f as u32, &procedures[f]) {
+            Ok(made) => made,
+            Err(e) => return Err(e),
+        };
+        match list.push(made) {
+            Ok(_) => {}
+            Err(_) => return Err(LowerFault::Memory),
+        }
+    }
+    Ok(list)
+}
