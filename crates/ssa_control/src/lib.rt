@@ -10,3 +10,6 @@ mod rungs;
 mod walk;
 
 pub use walk::statements;
+
+#[cfg(test)]
+mod tests;

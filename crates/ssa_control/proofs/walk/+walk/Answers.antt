@@ -1,4 +1,4 @@
-use Rattle.std.proofs.Common.{rules, ◌≡◌, ℕ, suc, ◌+◌, ◌<◌, ◌≤◌, ◌||◌, drop, take, length, List, [], ◌∷◌, Some, None, to_z, of_z, w64, refl, sym, ap, ap₂, ◌∙◌, subst, arith}
+use Rattle.std.proofs.Common.{rules, ◌≡◌, ℕ, ◌+◌, ◌||◌, drop, take, length, List, ◌∷◌, Some, None, to_z, of_z, w64, refl, sym, ap, ap₂, ◌∙◌, subst, arith}
 use Rattle.std.specs.Prelude.{slice_index, is_some}
 use Rattle.std.proofs.lemmas.Int.{to_z-of_z}
 use Rattle.std.proofs.lemmas.List.{drop_more, length-drop, length-map}
@@ -105,7 +105,7 @@ pub statement-returns-in-Repeat : goal.statement-returns-in-Repeat
 statement-returns-in-Repeat t c = on_ok_weaker c.repeated.result (λ g p here s. steps_as (ap (deed_in p here) c.in-Repeat.is ∙ deed_repeat p here c.in-Repeat.body c.in-Repeat.x ∙ ap (λ l. repeat_in p here l c.in-Repeat.x) (sym c.deref-in-Repeat.ensures.value)) (g p here s)) c.repeated.ensures
 
 pub statement-returns-in_ok-last-in-For : goal.statement-returns-in_ok-last-in-For
-statement-returns-in_ok-last-in-For t c = 
+statement-returns-in_ok-last-in-For t c =
     let same : to_z w64 (of_z w64 c.in-For.step) ≡ c.in-For.step = search (rules, to_z-of_z) in
     on_ok_weaker c.counted.result (λ g p here s. steps_as (ap (deed_in p here) c.in-For.is)
     (steps_count p here c.in-For.variable c.in-For.first c.in-For.limit c.in-For.step c.in-For.body (c.in_ok-assign-in-For.ensures p here s) (c.in_ok-last-in-For.ensures p here s)
@@ -147,7 +147,7 @@ alternatives-returns t c = λ p here s g w z st f.
     c.loop-i.invariant p here s g w z (subst (λ l. Steps c.loop-i.b w (alternatives_in p here l c.args.other.now g)) (sym (drop_of_length-le c.args.parts.now c.loop-i-test.false)) st) f
 
 pub alternative-returns : goal.alternative-returns
-alternative-returns t c = 
+alternative-returns t c =
     let frame : Frame = record { out = c.in_ok-out.out; vars = c.args.vars; moment = c.moment-moment.result; freq = c.freq-freq.result } in
     let two = c.in_ok-no.ensures.given ∙ ap asked c.in_ok-yes.ensures.given in
     let three = c.in_ok-out.ensures.given ∙ ap asked two in
@@ -168,8 +168,7 @@ looped-loop-i-init t c = λ p here s mask vars. (λ lt. sym c.freq-inside.ensure
 pub looped-loop-i-preserved : goal.looped-loop-i-preserved
 looped-loop-i-preserved t c = λ p here s mask vars.
     let before = c.loop-i.invariant p here s mask vars in
-    let turned = c.in_ok-turn.ensures p here s in
-    (
+    let turned = c.in_ok-turn.ensures p here s in (
       λ lt. turned.freq ∙ c.freq_behind-next.ensures.inside lt,
       turned.known ∙ before.1,
       λ z r. before.2 z
