@@ -4,3 +4,4 @@ pub mod Placed
 pub mod Whole
 pub mod Limits
 pub mod Procedures
+pub mod Sampled

@@ -10,5 +10,7 @@ mod entry;
 mod finish;
 mod lowering;
 mod procedure;
+#[cfg(test)]
+mod tests;
 
 pub use lowering::lower;

@@ -1,5 +1,5 @@
 -- Parts of statements with blocks, and what is behind them.
-use Rattle.std.proofs.Common.{◌≡◌, ℕ, zero, suc, ◌+◌, ◌<◌, ◌≤◌, ℤ, map, drop, length, get_or, List, [], ◌∷◌, ◌++◌, Option, Some, None, true, refl, sym, ap, ap₂, ◌∙◌, subst, arith}
+use Rattle.std.proofs.Common.{◌≡◌, ℕ, zero, suc, ◌+◌, ◌<◌, ◌≤◌, map, drop, length, get_or, List, [], ◌∷◌, ◌++◌, Option, Some, None, true, refl, sym, ap, ap₂, ◌∙◌, subst, arith}
 use Rattle.std.specs.Prelude.{slice_index, is_some}
 use Rattle.std.proofs.lemmas.List.{drop_more, length-drop}
 use Rattle.std.proofs.Math.ListN.{drop_of_length-le}
@@ -11,7 +11,7 @@ use Rattle.ob_types.specs.declared.statements.CasePart.{CasePart}
 use Rattle.ob_types.specs.declared.statements.Label.{Label}
 use Rattle.ob_types.specs.declared.statements.Stmt.{Stmt}
 use Rattle.ob_types.specs.declared.statements.TypePart.{TypePart}
-use Rattle.ssa_lowered.specs.Control.{Test, Round, Rung, ladder, case, choose, loop, repeat, behind, half, often}
+use Rattle.ssa_lowered.specs.Control.{Test, Round, Rung, ladder, case, loop, repeat, behind, half, often}
 use Rattle.ssa_lowered.specs.Lowered.{Here}
 use Rattle.ssa_lowered.specs.Pieces.{Mask, numbers, picked}
 use Rattle.ssa_lowered.specs.Statements.{Deed}
@@ -27,14 +27,13 @@ use Rattle.ssa_assigned.specs.Assigned.{assigned_list, assigned_parts}
 use Rattle.ssa_assigned.specs.Registers.{registers_in}
 use Rattle.ssa_statements.specs.declared.control.Frame.{Frame}
 use Rattle.ssa_statements.specs.Cases.{as_ladder, AllBelow, Climbs, ends, entered, Enters, Leaves, Parts}
-use Rattle.ssa_statements.specs.Meeting.{Jumps, Meets, Heads, Finishes, FinishesAll}
+use Rattle.ssa_statements.specs.Meeting.{Jumps, Heads, Finishes, FinishesAll}
 use Rattle.ssa_statements.specs.Parts.{left, met, headed}
 use Rattle.ssa_statements.specs.Steps.{Steps, Rounds, deed_in}
 use Rattle.ssa_statements.specs.Rungs.{rungs_in}
 use Rattle.ssa_statements.specs.declared.cases.Rung.{Rung as Coded}
 use Rattle.ssa_statements.proofs.Choose.{steps_choose}
 use Rattle.ssa_statements.proofs.Choosing.{same_rungs, steps_case}
-use Rattle.ssa_statements.proofs.Finishing.{finishes_split}
 use Rattle.ssa_statements.proofs.Joining.{steps_from, steps_on, steps_none, steps_to, as_many, undoes_joined}
 use Rattle.ssa_statements.proofs.Limbs.{parts_none, parts_more}
 use Rattle.ssa_statements.proofs.Loops.{rounds_more, rounds_none, steps_loop}

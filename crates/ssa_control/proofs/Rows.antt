@@ -12,7 +12,7 @@ use Rattle.ob_types.specs.declared.statements.TypePart.{TypePart}
 use Rattle.ob_types.specs.declared.statements.Stmt.{Stmt, If, If', While, While', Repeat, Repeat', For, For', Case, Case', CasePointer, CasePointer', CaseParameter, CaseParameter', Row_of-Stmt, end_of-Stmt, more_of-Stmt, items-the_row-Stmt, Row_of-Branch, end_of-Branch, more_of-Branch, items-the_row-Branch, Row_of-CasePart, end_of-CasePart, more_of-CasePart, items-the_row-CasePart, Row_of-TypePart, end_of-TypePart, more_of-TypePart, items-the_row-TypePart, items_hidden-the_row-Stmt-0, items_hidden-the_row-Branch-1, items_shown-the_row-Stmt-0, items_hidden-the_row-CasePart-2, items_hidden-the_row-TypePart-3}
 use Rattle.ssa_lowered.specs.Control.{choose, Round, loop, repeat, case, Rung}
 use Rattle.ssa_lowered.specs.Data.{in_cells}
-use Rattle.ssa_lowered.specs.Lowered.{Here, deed, deeds, alternatives, guarded_rounds, case_bodies, type_bodies, labels_of, records_of, label_test, type_test, rungs_from, label_tests, type_tests}
+use Rattle.ssa_lowered.specs.Lowered.{Here, deeds, alternatives, guarded_rounds, case_bodies, type_bodies, label_test, type_test, rungs_from, label_tests, type_tests}
 use Rattle.ssa_lowered.specs.Pieces.{Low, ◌>>=◌, Mask}
 use Rattle.ssa_lowered.specs.Statements.{Deed, assign}
 use Rattle.ssa_lowered.specs.Values.{home_of, tag_of, is_pointer, is_tag}
@@ -27,8 +27,8 @@ use Rattle.ssa_statements.specs.Rungs.{rung_in, rungs_in}
 use Rattle.ssa_statements.proofs.Joining.{steps_after, steps_as, steps_on}
 use Rattle.ssa_control.specs.declared.rungs.Dynamic.{Dynamic}
 use Rattle.ssa_control.specs.declared.rungs.Dynamic.TheVariants.{Pointer, Parameter}
-use Rattle.ssa_control.specs.Lists.{deeds_in, alternatives_in, rounds_in, round_in, loop_in, repeat_in, count_in, case_bodies_in, type_bodies_in, case_in, types_in}
-use Rattle.ssa_control.specs.Rungs.{coded_labels, coded_cases, kind_of, coded_types}
+use Rattle.ssa_control.specs.Lists.{deeds_in, alternatives_in, rounds_in, loop_in, repeat_in, count_in, case_bodies_in, type_bodies_in, case_in, types_in}
+use Rattle.ssa_control.specs.Rungs.{coded_labels, coded_cases, coded_types}
 
 ---- The variables that are assigned, as masks
 

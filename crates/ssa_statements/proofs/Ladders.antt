@@ -1,13 +1,12 @@
 -- The tests of CASE, one after the other.
-use Rattle.std.proofs.Common.{◌≡◌, ℕ, zero, suc, ◌+◌, ◌-◌, ◌<◌, ◌≤◌, ◌≢◌, map, drop, length, get_or, List, [], ◌∷◌, ◌++◌, Option, None, refl, sym, ap, ap₂, ◌∙◌, subst, arith}
+use Rattle.std.proofs.Common.{◌≡◌, ℕ, suc, ◌+◌, ◌-◌, ◌<◌, ◌≤◌, ◌≢◌, map, drop, length, get_or, List, [], ◌∷◌, ◌++◌, None, refl, sym, ap, ap₂, ◌∙◌, subst, arith}
 use Rattle.std.proofs.lemmas.List.{drop_more, length-drop}
 use Rattle.std.proofs.Math.ListN.{drop_of_length-le}
 use Rattle.block_runs.specs.declared.end.End.TheVariants.{Jump}
-use Rattle.ssa_lowered.specs.Pieces.{Cursor, close, fresh, plain}
-use Rattle.ssa_lowered.specs.Pieces.{Piece as Placed}
+use Rattle.ssa_lowered.specs.Pieces.{Cursor}
 use Rattle.ssa_lowered.specs.Limits.{passed}
-use Rattle.ssa_lowered.specs.Control.{Fork, Test, Rung, Ladder, ladder, at_freq}
-use Rattle.ssa_exprs.specs.Making.{View, all_bare, resolved, Fits, later, cursor_at, Came, asked, bound, closed, as_part, Tests}
+use Rattle.ssa_lowered.specs.Control.{Fork, Rung, Ladder, ladder}
+use Rattle.ssa_exprs.specs.Making.{View, all_bare, resolved, Fits, later, cursor_at, Came, asked, bound, closed, Tests}
 use Rattle.ssa_exprs.proofs.Giving.{later_first, passed_on, limit_on, came_as}
 use Rattle.ssa_exprs.proofs.Forks.{Adding, adding_on, adding_closed, at_plain, fits_bound, place_bound, times_bound, given_more}
 use Rattle.ssa_statements.specs.Cases.{as_ladder, Climbs, Climbing, above}

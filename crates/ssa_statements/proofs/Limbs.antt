@@ -1,17 +1,16 @@
 -- The parts of CASE, one after the other.
-use Rattle.std.proofs.Common.{◌≡◌, ℕ, zero, suc, ◌+◌, ◌<◌, List, [], ◌∷◌, ◌++◌, length, Option, Some, None, refl, sym, ap, ap₂, ◌∙◌, subst, arith}
-use Rattle.block_runs.specs.declared.end.End.{End}
+use Rattle.std.proofs.Common.{◌≡◌, ℕ, zero, suc, ◌+◌, ◌<◌, List, [], ◌∷◌, ◌++◌, length, Option, Some, None, refl, sym, ap, ap₂, ◌∙◌, arith}
 use Rattle.block_runs.specs.declared.end.End.TheVariants.{Jump}
-use Rattle.ssa_lowered.specs.Pieces.{Cursor, Made, close, fresh, plain, Mask, params, beyond, merged, picked, join, join_start, numbers}
+use Rattle.ssa_lowered.specs.Pieces.{Cursor, Made, close, fresh, plain, Mask, params, beyond, merged, picked, join, numbers}
 use Rattle.ssa_lowered.specs.Pieces.{Piece as Placed}
 use Rattle.ssa_lowered.specs.Limits.{passed}
 use Rattle.ssa_lowered.specs.Statements.{Deed}
 use Rattle.ssa_lowered.specs.Control.{Limbs, limbs, half}
-use Rattle.ssa_exprs.specs.Making.{View, Known, all_bare, resolve_end, resolved, Fits, later, cursor_at, Came, asked, bound, begins, closed, given}
+use Rattle.ssa_exprs.specs.Making.{View, Known, all_bare, resolve_end, resolved, Fits, later, cursor_at, Came, bound, begins, closed, given}
 use Rattle.ssa_exprs.specs.Changes.{rewound, Undoes, chosen, values_of, joined}
-use Rattle.ssa_exprs.proofs.Giving.{later_first, passed_on, limit_on, came_as}
+use Rattle.ssa_exprs.proofs.Giving.{later_first, came_as}
 use Rattle.ssa_exprs.proofs.Flags.{limit_list}
-use Rattle.ssa_exprs.proofs.Forks.{Adding, adding_on, adding_closed, closed_before, at_plain, fits_bound, place_bound, times_bound, given_more}
+use Rattle.ssa_exprs.proofs.Forks.{Adding, adding_on, adding_closed, at_plain, fits_bound, place_bound, times_bound, given_more}
 use Rattle.ssa_exprs.proofs.Changes.{undoes_on, undoes_same, rewound_is, params_are}
 use Rattle.ssa_statements.specs.Steps.{Steps}
 use Rattle.ssa_statements.specs.Cases.{ends, entered, left_all, Parts}

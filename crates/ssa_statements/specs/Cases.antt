@@ -4,10 +4,10 @@ use Rattle.block_runs.specs.declared.end.End.{End}
 use Rattle.block_runs.specs.declared.end.End.TheVariants.{Jump, Trap}
 use Rattle.ssa_lowered.specs.Pieces.{Cursor, Low, Mask, picked}
 use Rattle.ssa_lowered.specs.Statements.{Deed}
-use Rattle.ssa_lowered.specs.Control.{Rung, Ladder, ladder, Limbs, limbs, half, case}
+use Rattle.ssa_lowered.specs.Control.{Rung, ladder, limbs, half, case}
 use Rattle.ssa_lowered.specs.Limits.{passed}
-use Rattle.ssa_exprs.specs.Changes.{Undoes, rewound, chosen, values_of, joined}
-use Rattle.ssa_exprs.specs.Making.{View, Fits, Follows, Once, all_bare, resolved, times, same, given, later, cursor_at, asked, bound, closed, Tests}
+use Rattle.ssa_exprs.specs.Changes.{Undoes, rewound, chosen, joined}
+use Rattle.ssa_exprs.specs.Making.{View, Fits, Follows, Once, all_bare, resolved, times, same, given, later, cursor_at, bound, closed}
 use Rattle.ssa_statements.specs.declared.control.Frame.{Frame}
 use Rattle.ssa_statements.specs.Steps.{Steps}
 

@@ -42,6 +42,13 @@ pub struct Locals {
     pub structured: u32,
 }
 
+/// Variables with their places, and where the last scalar in memory ends.
+#[derive(Drop)]
+struct Arranged {
+    variables: Items<Variable>,
+    bytes: u32,
+}
+
 /// Where the next array or record and the next scalar in memory stand.
 #[derive(Clone, Copy)]
 pub struct Ends {
@@ -224,9 +231,13 @@ fn placed(
     };
     let marks = marks(alloc, declared.len(), lent.as_slice())?;
     let structured = structured_finish(types, sizes, declared);
-    let mut locals = place_all(alloc, types, sizes, marks.as_slice(), declared, structured)?;
-    locals.cells = variables_finish(sizes, declared) / 8;
-    Ok(locals)
+    let placed = place_all(alloc, types, sizes, marks.as_slice(), declared, structured)?;
+    Ok(Locals {
+        variables: placed.variables,
+        cells: variables_finish(sizes, declared) / 8,
+        bytes: placed.bytes,
+        structured,
+    })
 }
 
 /// Variables one after the other, arrays and records from the start on and scalars behind all of them.
@@ -237,11 +248,10 @@ fn place_all(
     marks: &[bool],
     declared: &[Variable],
     structured: u32,
-) -> Result<Locals, Memory>
+) -> Result<Arranged, Memory>
     requires { length marks.now ≡ length declared.now }
     ensures variables { IfOk result (λ x. x.variables ≡ placed_by types.now sizes.now marks.now (record { structured = 0; scalar = structured }) declared.now) }
     ensures bytes { IfOk result (λ x. x.bytes ≡ (ends_by types.now sizes.now marks.now (record { structured = 0; scalar = structured }) declared.now).scalar) }
-    ensures structured { IfOk result (λ x. x.structured ≡ structured) }
 {
     let mut variables = Items::new(alloc);
     let mut ends = Ends {
@@ -258,11 +268,9 @@ fn place_all(
         })?;
         ends = next_ends(whole, marks[i], size_in(sizes, v.type_number), ends);
     }
-    Ok(Locals {
+    Ok(Arranged {
         variables,
-        cells: 0,
         bytes: ends.scalar,
-        structured,
     })
 }
 

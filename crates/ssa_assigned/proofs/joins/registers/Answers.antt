@@ -1,4 +1,4 @@
-use Rattle.std.proofs.Common.{◌≡◌, ℕ, Bool, ◌==◌, ◌&&◌, sym, ap, ap₂, ◌∙◌}
+use Rattle.std.proofs.Common.{ℕ, Bool, ◌==◌, ◌&&◌, sym, ap, ap₂, ◌∙◌}
 use Rattle.std.specs.Prelude.{nat_lt, is_none}
 use Rattle.std.specs.List.{filter, dedup}
 use Rattle.std.proofs.lemmas.List.Filters.{dedup_is}

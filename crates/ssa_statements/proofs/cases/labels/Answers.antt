@@ -1,4 +1,4 @@
-use Rattle.std.proofs.Common.{◌≡◌, ℕ, suc, ◌+◌, ◌++◌, [], ◌∷◌, refl, sym, ap, ap₂, ◌∙◌, arith}
+use Rattle.std.proofs.Common.{◌≡◌, suc, ◌+◌, ◌++◌, [], ◌∷◌, sym, ap, ap₂, ◌∙◌, arith}
 use Rattle.ssa_lowered.specs.Pieces.{numbers}
 use Rattle.ssa_exprs.specs.Making.{View, asked}
 use Rattle.ssa_exprs.proofs.Numbered.{numbers_more}

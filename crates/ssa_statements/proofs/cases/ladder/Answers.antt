@@ -1,10 +1,10 @@
-use Rattle.std.proofs.Common.{◌≡◌, ℕ, ◌+◌, ◌<◌, ◌≤◌, drop, length, refl, sym, ap, ap₂, ◌∙◌, subst, arith}
+use Rattle.std.proofs.Common.{ℕ, ◌+◌, drop, refl, sym, ap, ◌∙◌, subst}
 use Rattle.std.specs.Prelude.{slice_index}
 use Rattle.ssa_exprs.specs.Making.{View, bound}
 use Rattle.ssa_exprs.proofs.Chains.{tests_at}
-use Rattle.ssa_statements.specs.Cases.{Climbs, Climbing}
+use Rattle.ssa_statements.specs.Cases.{Climbing}
 use Rattle.ssa_statements.specs.Rungs.{rung_in, rungs_in}
-use Rattle.ssa_statements.proofs.Ladders.{climbs_none, climbing_next, climbs_all, climbs_bare, climbing_end}
+use Rattle.ssa_statements.proofs.Ladders.{climbing_next, climbs_all, climbs_bare, climbing_end}
 use Rattle.ssa_statements.proofs.cases.ladder.Goals as goal
 
 pub returns-then-rungs-eq0 : goal.returns-then-rungs-eq0

@@ -1,7 +1,7 @@
 use Rattle.std.proofs.Common.{◌≡◌, ◌<◌, ◌/◌, ℕ, List, Bool, length, get_or, replicate, false, sym, ap, ◌∙◌, IfOk}
 use Rattle.ssa_assigned.specs.Assigned.{has}
 use Rattle.ssa_lowered.specs.Lowered.{lent_in_body}
-use Rattle.ssa_tables.specs.Local.{marked, placed_by, ends_by}
+use Rattle.ssa_tables.specs.Local.{marked}
 use Rattle.ssa_tables.proofs.Variables.{marks_length, marks_at, locals_are}
 use Rattle.ssa_tables.proofs.locals.placed.Goals as goal
 
@@ -15,7 +15,4 @@ returns c = λ p f of_table.
     let marks : (i : ℕ) → i < length c.args.declared.now → get_or c.as_slice-2.result.now i false ≡ lent_in_body c.args.procedure.now i = (λ i lt.
     ap (λ l. get_or l i false) is ∙ marks_at c.as_slice.result.now (length c.args.declared.now) i lt ∙ ap (λ l. has l i) c.as_slice.ensures ∙ c.in-Ok.ensures i) in
     locals_are c.args.types.now c.args.sizes.now c.requires.known p f c.args.procedure.now of_table _ c.args.declared.now c.as_slice-2.result.now c.requires.declared same marks c.requires.few
-    (c.in_ok-locals.ensures.variables ∙ ap (λ n. placed_by c.args.types.now c.args.sizes.now c.as_slice-2.result.now (record { structured = 0; scalar = n }) c.args.declared.now) (sym c.in_ok-locals.ensures.structured))
-    (c.in_ok-locals.ensures.bytes ∙ ap (λ n. (ends_by c.args.types.now c.args.sizes.now c.as_slice-2.result.now (record { structured = 0; scalar = n }) c.args.declared.now).scalar) (sym c.in_ok-locals.ensures.structured))
-    (c.in_ok-locals.ensures.structured ∙ c.structured_finish-structured.ensures)
-    (ap (λ n. n / 8) c.variables_finish.ensures)
+    c.in_ok-placed.ensures.variables c.in_ok-placed.ensures.bytes c.structured_finish-structured.ensures (ap (λ n. n / 8) c.variables_finish.ensures)

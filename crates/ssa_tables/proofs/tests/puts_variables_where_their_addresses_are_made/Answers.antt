@@ -4,4 +4,4 @@ use Rattle.ssa_tables.proofs.Sampled.{sample_measured}
 use Rattle.ssa_tables.proofs.tests.puts_variables_where_their_addresses_are_made.Goals as goal
 
 pub enter-requires-clause-measured : goal.enter-requires-clause-measured
-enter-requires-clause-measured c = subst IsMeasured (sym c.in_ok-program.ensures) sample_measured
+enter-requires-clause-measured t c = subst IsMeasured (sym c.in_ok-program.ensures) sample_measured
