@@ -1,3 +1,3 @@
 pub mod Typed
-pub mod Standing
+pub mod OneName
 pub mod Places

@@ -64,11 +64,11 @@ module _ (t : Table) where
 
   looked_has : (ls : List (List ℕ → Option Entry)) → AllHaveTypes t ls → (q : List ℕ) (x : Entry) → look_up q ls ≡ Some x → HasType t x.object
   looked_has [] h q x is = none_some x is
-  looked_has (l ∷ ls) h q x is = by (look_up q ls) (l q) refl refl is
+  looked_has (l ∷ ls) h q x is = by (look_up q ls) (l q) refl refl is (λ e. looked_has ls h.1 q x e)
     where
-      by : (a b : Option Entry) → look_up q ls ≡ a → l q ≡ b → or_else a b ≡ Some x → HasType t x.object
-      by (Some y) b i j is = looked_has ls h.1 q x (i ∙ is)
-      by None b i j is = h.0.each q x (j ∙ is)
+      by : (a b : Option Entry) → look_up q ls ≡ a → l q ≡ b → or_else a b ≡ Some x → (look_up q ls ≡ Some x → HasType t x.object) → HasType t x.object
+      by (Some y) b i j is go = go (i ∙ is)
+      by None b i j is go = h.0.each q x (j ∙ is)
 
   module _ (p : Source) (w : World) (names : AllHaveTypes t w.levels) (members : (n : ℕ) (k : KnownModule) → slice_get w.modules n ≡ Some k → NamesHaveTypes t k.names) where
     named_has : (i : ℕ) → Gives (HasType t) (named p w i)
