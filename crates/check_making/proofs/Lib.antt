@@ -1,3 +1,4 @@
 pub mod Typed
 pub mod OneName
 pub mod Places
+pub mod Known

@@ -64,5 +64,5 @@ module _ (r : Surroundings) (s : Declaring) where
           variables = makes.variables;
           objects = makes.objects;
         };
-        settled = record { built = ok.built; levels = ok.levels; modules = ok.modules; types = ok.types; members = ok.members; variables = ok.variables; open_scope = ok.open_scope };
+        settled = record { built = ok.built; levels = ok.levels; modules = ok.modules; types = ok.types; members = ok.members; variables = ok.variables; objects = ok.objects; open_scope = ok.open_scope };
       } })

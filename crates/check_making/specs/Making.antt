@@ -1,5 +1,5 @@
 -- What the state between declarations stands for: what the judgement has made so far.
-use Rattle.std.specs.Prelude.{◌≡◌, ◌<◌, ℕ, List, [], ◌∷◌, ◌++◌, length, map, Bool, false, Option, is_some}
+use Rattle.std.specs.Prelude.{◌≡◌, ◌<◌, ℕ, List, [], ◌∷◌, ◌++◌, length, map, Bool, true, false, Option, is_some}
 use Rattle.ob_types.specs.Table.{Table}
 use Rattle.ob_judge.specs.Image.{Declared}
 use Rattle.ob_judge.specs.Shapes.{Shape}
@@ -7,10 +7,12 @@ use Rattle.ob_judge.specs.Scopes.{World, Entry}
 use Rattle.ob_judge.specs.Standards.{predeclared}
 use Rattle.ob_judge.specs.Making.{Making, is_among, entity_of, declared_as}
 use Rattle.check_steps.specs.Maps.{at_bytes}
+use Rattle.check_types.specs.declared.table.TypeTable.{TypeTable}
 use Rattle.check_types.specs.declared.types.TypeRef.{TypeRef}
 use Rattle.check_types.specs.TypeMeaning.{type_shape}
 use Rattle.check_types.specs.Known.{known_of}
 use Rattle.check_names.specs.declared.levels.Level.{Level}
+use Rattle.check_names.specs.declared.scope.Declared.{Declared as TheDeclared}
 use Rattle.check_names.specs.Meaning.{object_of, names_of, module_of}
 use Rattle.table_builder.specs.Entries.{IsNumbered, IsElement}
 use Rattle.table_builder.specs.Builder.{IsBuilt}
@@ -18,7 +20,7 @@ use Rattle.check_making.specs.declared.making.Declaring.{Declaring}
 use Rattle.check_making.specs.declared.making.Forward.{Forward}
 use Rattle.check_making.specs.declared.making.Offered.{Offered}
 use Rattle.check_making.specs.declared.making.Surroundings.{Surroundings}
-use Rattle.check_making.specs.Staying.{LevelsStay, ModulesStay, AllHaveTypes}
+use Rattle.check_making.specs.Staying.{LevelsStay, ModulesStay, NamedStays, AllHaveTypes}
 
 abbrev pub table_of : Declaring → Table
 table_of s = s.types.table.types
@@ -48,9 +50,18 @@ abbrev pub offered_of : Table → List (List ℕ) → List Offered → List Decl
 offered_of t strings [] = []
 offered_of t strings (x ∷ xs) = declared_as x.name x.declared.exported (entity_of (object_of t strings x.declared.named)) ++ offered_of t strings xs
 
+-- one more, if it is one of the module
+abbrev pub offered_if : Bool → List ℕ → TheDeclared → List Offered → List Offered
+offered_if true name d xs = xs ++ record { name = name; declared = d } ∷ []
+offered_if false name d xs = xs
+
 abbrev pub AreNumbered : List TypeRef → List TypeRef → Type 0
 AreNumbered entries [] = Unit {0}
 AreNumbered entries (k ∷ ks) = IsElement entries k × AreNumbered entries ks
+
+abbrev pub OfferedStay : TypeTable → List (List ℕ) → List Offered → Type 0
+OfferedStay t strings [] = Unit {0}
+OfferedStay t strings (x ∷ xs) = NamedStays t strings x.declared.named × OfferedStay t strings xs
 
 -- the state stands for what the judgement has made
 pub record Makes (r : Surroundings) (s : Declaring) (m : Making) : Type 0 where
@@ -71,6 +82,7 @@ pub record IsSettled (r : Surroundings) (s : Declaring) : Type 0 where
   pub types : AllHaveTypes (table_of s) (levels_of s)
   pub members : AllHaveTypes (table_of s) (map (λ k. (module_of (table_of s) (strings_of s) k).names) r.modules.now)
   pub variables : AreNumbered s.types.table.entries.items s.variables.items
+  pub objects : OfferedStay s.types.table (strings_of s) s.objects.items
   pub open_scope : 0 < length s.levels.items
 
 -- this is what the type is, and it has a number

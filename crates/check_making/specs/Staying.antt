@@ -1,11 +1,13 @@
 -- Names that mean the same in a table of types that grew, beside more strings; and of which types they are.
-use Rattle.std.specs.Prelude.{◌≡◌, ℕ, List, [], ◌∷◌, ◌++◌, true, Option, Some}
+use Rattle.std.specs.Prelude.{◌≡◌, ℕ, List, [], ◌∷◌, ◌++◌, true, Option, Some, slice_get, slice_set}
 use Rattle.ob_types.specs.Table.{Table}
-use Rattle.ob_judge.specs.Scopes.{Object, AType, Entry}
+use Rattle.ob_judge.specs.Scopes.{Object, AType, Entry, declare}
 use Rattle.check_types.specs.declared.table.TypeTable.{TypeTable}
 use Rattle.check_names.specs.declared.levels.Level.{Level}
 use Rattle.check_names.specs.declared.scope.KnownModule.{KnownModule}
-use Rattle.check_names.specs.Meaning.{names_of, module_of}
+use Rattle.check_names.specs.declared.scope.Named.{Named}
+use Rattle.check_names.specs.declared.scope.Declared.{Declared}
+use Rattle.check_names.specs.Meaning.{object_of, entry_of, names_of, module_of}
 use Rattle.table_builder.specs.Entries.{HasShape, is_whole_shape}
 use Rattle.table_builder.specs.Growing.{Grows}
 
@@ -36,3 +38,13 @@ pub record NamesHaveTypes (t : Table) (names : List ℕ → Option Entry) : Type
 abbrev pub AllHaveTypes : Table → List (List ℕ → Option Entry) → Type 0
 AllHaveTypes t [] = Unit {0}
 AllHaveTypes t (l ∷ ls) = NamesHaveTypes t l × AllHaveTypes t ls
+
+-- what a name stands for stays
+pub record NamedStays (t : TypeTable) (strings : List (List ℕ)) (n : Named) : Type 0 where
+  pub object : (u : TypeTable) (more : List (List ℕ)) → Grows t u → object_of u.types (strings ++ more) n ≡ object_of t.types strings n
+
+-- these levels are the others, with one more name in the one at this place
+pub record IsDeclaredIn (old new : List Level) (at : ℕ) (name : List ℕ) (d : Declared) : Type 0 where
+  pub level : Level
+  pub set : new ≡ slice_set old at level
+  pub names : (l : Level) → slice_get old at ≡ Some l → (t : Table) (strings : List (List ℕ)) → names_of t strings level ≡ declare name (entry_of t strings d) (names_of t strings l)
