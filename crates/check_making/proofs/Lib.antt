@@ -2,3 +2,4 @@ pub mod Typed
 pub mod OneName
 pub mod Places
 pub mod Known
+pub mod Growing

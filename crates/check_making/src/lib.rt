@@ -5,5 +5,6 @@ mod declaring;
 mod looking;
 mod making;
 mod standing;
+mod typing;
 
 pub use making::{Declaring, Forward, Offered, Surroundings};
