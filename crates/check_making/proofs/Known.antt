@@ -117,7 +117,7 @@ module _ (r : Surroundings) (s : Declaring) (ok : IsSettled r s) (x : Identdef) 
         names_set (table_of s) (strings_of s) name e level.level s.levels.items (length s.levels.items - 1) (λ l is. level.names l is (table_of s) (strings_of s)) predeclared refl ok.open_scope
         ∙ ap (λ ls. predeclared ∷ map (names_of (table_of s) (strings_of s)) ls) (sym level.set)
 
-    settled_after : IsSettled r after
+    pub settled_after : IsSettled r after
     settled_after = record {
       built = ok.built;
       levels = subst (LevelsStay s.types.table (strings_of s)) (sym level.set) (stay_set s.types.table (strings_of s) name d stays level.level s.levels.items (length s.levels.items - 1) level.names ok.levels);
@@ -164,5 +164,4 @@ module _ (r : Surroundings) (s : Declaring) (ok : IsSettled r s) (x : Identdef) 
       pub declared_made : Answers (Made r after) (declared r.source.now x (object_of (table_of s) (strings_of s) n) m) (Ok tt)
       declared_made = record { by = record {
         makes = subst (λ b. Makes r after (offer_if b name e (with_levels (declare_last name e) m))) (sym (ap (λ (w : World). is_none w.procedure) makes.world)) (makes_after (is_none s.procedure) refl);
-        settled = settled_after;
       } }

@@ -3,3 +3,4 @@ pub mod OneName
 pub mod Places
 pub mod Known
 pub mod Growing
+pub mod First

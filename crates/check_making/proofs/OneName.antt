@@ -50,9 +50,12 @@ module _ (r : Surroundings) (s : Declaring) where
   stand_refused m makes i e is there {t} =
       as_judged (stands_twice r.source.now i m (makes.standing (spelled r.source.now i) ∙ there)) (subst (λ z. Answers (Made r t) (Breaks 36 (place r.source.now i)) (Err z)) (sym is) (record { by = (refl, refl) }))
 
-  pub stand_made : IsSettled r s → (m : Making) → Makes r s m → (i : ℕ) (new : BTreeMap (Vec ℕ Global) ℕ) → is_some (at_bytes s.standing (spelled r.source.now i)) ≡ false
+  pub stand_settled : IsSettled r s → (new : BTreeMap (Vec ℕ Global) ℕ) → IsSettled r (record s { standing = new })
+  stand_settled ok new = record { built = ok.built; levels = ok.levels; modules = ok.modules; types = ok.types; members = ok.members; variables = ok.variables; objects = ok.objects; open_scope = ok.open_scope }
+
+  pub stand_made : (m : Making) → Makes r s m → (i : ℕ) (new : BTreeMap (Vec ℕ Global) ℕ) → is_some (at_bytes s.standing (spelled r.source.now i)) ≡ false
       → ((q : List ℕ) → at_bytes new q ≡ cond (bytes_eq (spelled r.source.now i) q) (Some i) (at_bytes s.standing q)) → Answers (Made r (record s { standing = new })) (stand r.source.now (i ∷ []) m) (Ok tt)
-  stand_made ok m makes i new none w =
+  stand_made m makes i new none w =
       as_judged (stands_new r.source.now i m (makes.standing (spelled r.source.now i) ∙ none)) (record { by = record {
         makes = record {
           imports_in = makes.imports_in;
@@ -64,5 +67,4 @@ module _ (r : Surroundings) (s : Declaring) where
           variables = makes.variables;
           objects = makes.objects;
         };
-        settled = record { built = ok.built; levels = ok.levels; modules = ok.modules; types = ok.types; members = ok.members; variables = ok.variables; objects = ok.objects; open_scope = ok.open_scope };
       } })

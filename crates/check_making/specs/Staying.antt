@@ -1,5 +1,5 @@
 -- Names that mean the same in a table of types that grew, beside more strings; and of which types they are.
-use Rattle.std.specs.Prelude.{◌≡◌, ℕ, List, [], ◌∷◌, ◌++◌, true, Option, Some, slice_get, slice_set}
+use Rattle.std.specs.Prelude.{◌≡◌, ℕ, List, [], ◌∷◌, ◌++◌, map, true, Option, Some, slice_get, slice_set}
 use Rattle.ob_types.specs.Table.{Table}
 use Rattle.ob_judge.specs.Scopes.{Object, AType, Entry, declare}
 use Rattle.check_types.specs.declared.table.TypeTable.{TypeTable}
@@ -48,3 +48,8 @@ pub record IsDeclaredIn (old new : List Level) (at : ℕ) (name : List ℕ) (d :
   pub level : Level
   pub set : new ≡ slice_set old at level
   pub names : (l : Level) → slice_get old at ≡ Some l → (t : Table) (strings : List (List ℕ)) → names_of t strings level ≡ declare name (entry_of t strings d) (names_of t strings l)
+
+-- the names of modules before stay, and the types that they stand for have numbers
+pub record AreSettled (t : TypeTable) (strings : List (List ℕ)) (ks : List KnownModule) : Type 0 where
+  pub stay : ModulesStay t strings ks
+  pub types : AllHaveTypes t.types (map (λ k. (module_of t.types strings k).names) ks)

@@ -1,6 +1,7 @@
 //! What declarations make, in code.
 #![tactic(auto)]
 
+mod beginning;
 mod declaring;
 mod looking;
 mod making;

@@ -1,6 +1,6 @@
 //! Names that stand in the innermost scope.
 
-ghost use Rattle.std.specs.Prelude.{◌≡◌, [], ◌∷◌};
+ghost use Rattle.std.specs.Prelude.{◌≡◌, [], ◌∷◌, OnOk};
 ghost use Rattle.ob_judge.specs.Making.{Making};
 ghost use Rattle.ob_judge.specs.Parameters.{stand as judged_stand};
 ghost use Rattle.check_steps.specs.Answers.{Answers};
@@ -14,7 +14,8 @@ impl Declaring {
     /// A name stands in the innermost scope, and no other of its bytes.
     pub fn stand(&mut self, round: &Surroundings, i: u32) -> Result<(), CheckFault>
         requires { IsSettled round.now self.old }
-        ensures { (m : Making) → Makes round.now self.old m → Answers (Made round.now self.new) (judged_stand round.now.source.now (i ∷ []) m) result }
+        ensures settled { OnOk result (IsSettled round.now self.new) }
+        ensures judged { (m : Making) → Makes round.now self.old m → Answers (Made round.now self.new) (judged_stand round.now.source.now (i ∷ []) m) result }
     {
         let name = round.source.spelled(i);
         if self.standing.contains_key(name) {

@@ -29,6 +29,7 @@ impl Declaring {
     /// A record type at the next number, of which nothing is known yet.
     pub fn new_record(&mut self, round: &Surroundings) -> Result<u32, CheckFault>
         requires { IsSettled round.now self.old }
+        ensures settled { OnOk result (IsSettled round.now self.new) }
         ensures judged { (m : Making) → Makes round.now self.old m → Answers (Gave (IsRecord self.new) round.now self.new) (judged_record m) result }
         ensures grows { Grows self.old.types.table self.new.types.table }
     {
@@ -41,6 +42,7 @@ impl Declaring {
     /// A pointer type at the next number, of which it isn't known yet what it points to.
     pub fn new_pointer(&mut self, round: &Surroundings) -> Result<u32, CheckFault>
         requires { IsSettled round.now self.old }
+        ensures settled { OnOk result (IsSettled round.now self.new) }
         ensures judged { (m : Making) → Makes round.now self.old m → Answers (Gave (IsPointer self.new) round.now self.new) (judged_pointer m) result }
         ensures grows { Grows self.old.types.table self.new.types.table }
     {
@@ -54,6 +56,7 @@ impl Declaring {
     pub fn set_base(&mut self, round: &Surroundings, pointer: u32, r: u32)
         requires settled { IsSettled round.now self.old }
         requires pointer { pointer < length self.old.types.table.bases.items }
+        ensures settled { IsSettled round.now self.new }
         ensures judged { (m : Making) → Makes round.now self.old m → Answers (Made round.now self.new) (judged_base pointer r m) (Ok tt) }
         ensures grows { Grows self.old.types.table self.new.types.table }
     {
@@ -70,6 +73,7 @@ impl Declaring {
         requires settled { IsSettled round.now self.old }
         requires ready { IsReady self.old.types.table.entries.items layout }
         requires there { r < length self.old.types.table.layouts.items }
+        ensures settled { OnOk result (IsSettled round.now self.new) }
         ensures judged { (m : Making) → Makes round.now self.old m → Answers (Made round.now self.new) (judged_layout r (layout_of (table_of self.old) layout) m) result }
         ensures grows { Grows self.old.types.table self.new.types.table }
     {

@@ -12,5 +12,10 @@ returns-in-Ok-clause-judged c = λ m makes.
     record { by = record {
       value = record { number = h.number ∙ sym (ap (λ (w : World). length w.known.bases) makes.world); element = h.element };
       makes = makes_grown c.args.round.now s c.requires c.new_pointer.new.self h.built h.grows m makes (λ (k : Known). record k { bases = k.bases ++ None ∷ [] }) h.known;
-      settled = settled_grown c.args.round.now s c.requires c.new_pointer.new.self h.built h.grows;
     } }
+
+pub returns-in-Ok-clause-settled : goal.returns-in-Ok-clause-settled
+returns-in-Ok-clause-settled c =
+    let s = c.args.self.now in
+    let h = c.in-Ok.ensures in
+    settled_grown c.args.round.now s c.requires c.new_pointer.new.self h.built h.grows

@@ -12,5 +12,10 @@ returns-clause-judged c = λ m makes.
     let h = c.set_base.ensures in
     record { by = record {
       makes = makes_grown c.args.round.now s c.requires.settled c.set_base.new.self h.built h.grows m makes (λ (k : Known). record k { bases = slice_set k.bases c.args.pointer (Some c.args.r) }) h.known;
-      settled = settled_grown c.args.round.now s c.requires.settled c.set_base.new.self h.built h.grows;
     } }
+
+pub returns-clause-settled : goal.returns-clause-settled
+returns-clause-settled c =
+    let s = c.args.self.now in
+    let h = c.set_base.ensures in
+    settled_grown c.args.round.now s c.requires.settled c.set_base.new.self h.built h.grows
