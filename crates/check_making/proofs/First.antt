@@ -30,7 +30,7 @@ use Rattle.std.specs.Cmp.Lexicographic.{slice_cmp}
 use Rattle.std.specs.Ordering.{nat_cmp}
 
 module _ (b : TableBuilder) (ok : IsBuilt b) where
-  basic_shape : (e : TypeRef) (n : ℕ) → slice_get b.table.entries.items n ≡ Some e → HasShape b.table.types (type_shape b.table.types e)
+  pub basic_shape : (e : TypeRef) (n : ℕ) → slice_get b.table.entries.items n ≡ Some e → HasShape b.table.types (type_shape b.table.types e)
   basic_shape e n at = record {
     number = n;
     there = (let l = slice_get_within b.table.entries.items n e at in let m = long b.table.types b.table.entries.items b.table.bases.items ok.sound in omega (arith, l, m));
@@ -38,10 +38,12 @@ module _ (b : TableBuilder) (ok : IsBuilt b) where
   }
 
   pub predeclared_have : NamesHaveTypes b.table.types predeclared
-  predeclared_have = record { each = of_predeclared (HasType b.table.types)
-      (basic_shape TheType.Int 0 (ok.index.says TheType.Int 0 refl), refl) (basic_shape TheType.Bool 1 (ok.index.says TheType.Bool 1 refl), refl)
-      (basic_shape TheType.Char 2 (ok.index.says TheType.Char 2 refl), refl) (basic_shape TheType.Byte 3 (ok.index.says TheType.Byte 3 refl), refl)
-      (basic_shape TheType.Set 4 (ok.index.says TheType.Set 4 refl), refl) (λ s. tt) }
+  predeclared_have = record {
+    each = of_predeclared (HasType b.table.types)
+        (basic_shape TheType.Int 0 (ok.index.says TheType.Int 0 refl), refl) (basic_shape TheType.Bool 1 (ok.index.says TheType.Bool 1 refl), refl)
+        (basic_shape TheType.Char 2 (ok.index.says TheType.Char 2 refl), refl) (basic_shape TheType.Byte 3 (ok.index.says TheType.Byte 3 refl), refl)
+        (basic_shape TheType.Set 4 (ok.index.says TheType.Set 4 refl), refl) (λ s. tt);
+  }
 
 -- a scope without names
 module _ (l : Level) (empty : (q : List ℕ) → at_bytes l.names q ≡ None) where

@@ -1,6 +1,6 @@
 -- A state whose table of types grew.
-use Rattle.std.proofs.Common.{◌≡◌, ℕ, zero, suc, ◌<◌, ◌≤◌, List, [], ◌∷◌, ◌++◌, length, map, true, Option, Some, None, refl, sym, ap, ap₂, ◌∙◌, subst, arith}
-use Rattle.std.specs.Prelude.{slice_get}
+use Rattle.std.proofs.Common.{◌≡◌, ℕ, zero, suc, ◌<◌, ◌≤◌, List, [], ◌∷◌, ◌++◌, length, map, true, Option, Some, None, Vec, Global, append_assoc, refl, sym, ap, ap₂, ◌∙◌, subst, arith}
+use Rattle.std.specs.Prelude.{slice_get, slice_index_or}
 use Rattle.std.proofs.lemmas.Option.{slice_get_within}
 use Rattle.ob_types.specs.Table.{Table}
 use Rattle.ob_judge.specs.Image.{Declared as DeclaredOf}
@@ -81,6 +81,40 @@ module _ (t u : TypeTable) (strings : List (List ℕ)) (g : Grows t u) where
   variables_still : (ks : List TypeRef) → AreNumbered t.entries.items ks → AreNumbered u.entries.items ks
   variables_still [] h = tt
   variables_still (k ∷ ks) h = (element_still t u g k h.0, variables_still ks h.1)
+
+-- ---- more strings
+
+module _ (t : TypeTable) (strings more : List (List ℕ)) where
+  same_table : Grows t t
+  same_table = record { entry = λ n e h. h; shape = λ e h. refl }
+
+  more_levels_same : (ls : List Level) → LevelsStay t strings ls → map (names_of t.types (strings ++ more)) ls ≡ map (names_of t.types strings) ls
+  more_levels_same [] h = refl
+  more_levels_same (l ∷ ls) h = ap₂ (λ (a : List ℕ → Option Entry) (as' : List (List ℕ → Option Entry)). a ∷ as') ((h.0).names t more same_table) (more_levels_same ls h.1)
+
+  more_levels_still : (ls : List Level) → LevelsStay t strings ls → LevelsStay t (strings ++ more) ls
+  more_levels_still [] h = tt
+  more_levels_still (l ∷ ls) h =
+      (record { names = λ v rest k. ap (λ ss. names_of v.types ss l) (append_assoc strings more rest) ∙ (h.0).names v (more ++ rest) k ∙ sym ((h.0).names t more same_table) }, more_levels_still ls h.1)
+
+  more_modules_same : (ks : List KnownModule) → ModulesStay t strings ks → map (module_of t.types (strings ++ more)) ks ≡ map (module_of t.types strings) ks
+  more_modules_same [] h = refl
+  more_modules_same (k ∷ ks) h = ap₂ (λ (a : KnownModuleOf) (as' : List KnownModuleOf). a ∷ as') ((h.0).names t more same_table) (more_modules_same ks h.1)
+
+  more_modules_still : (ks : List KnownModule) → ModulesStay t strings ks → ModulesStay t (strings ++ more) ks
+  more_modules_still [] h = tt
+  more_modules_still (k ∷ ks) h =
+      (record { names = λ v rest d. ap (λ ss. module_of v.types ss k) (append_assoc strings more rest) ∙ (h.0).names v (more ++ rest) d ∙ sym ((h.0).names t more same_table) }, more_modules_still ks h.1)
+
+  more_offered_same : (xs : List Offered) → OfferedStay t strings xs → offered_of t.types (strings ++ more) xs ≡ offered_of t.types strings xs
+  more_offered_same [] h = refl
+  more_offered_same (x ∷ xs) h =
+      ap₂ (λ (o : Object) (ds : List DeclaredOf). declared_as x.name x.declared.exported (entity_of o) ++ ds) ((h.0).object t more same_table) (more_offered_same xs h.1)
+
+  more_offered_still : (xs : List Offered) → OfferedStay t strings xs → OfferedStay t (strings ++ more) xs
+  more_offered_still [] h = tt
+  more_offered_still (x ∷ xs) h =
+      (record { object = λ v rest k. ap (λ ss. object_of v.types ss x.declared.named) (append_assoc strings more rest) ∙ (h.0).object v (more ++ rest) k ∙ sym ((h.0).object t more same_table) }, more_offered_still xs h.1)
 
 -- ---- of which types names are
 
@@ -164,3 +198,47 @@ module _ (r : Surroundings) (s : Declaring) (ok : IsSettled r s) (types : TableB
     variables = makes.variables ∙ sym (variables_same s.types.table types.table ss g s.variables.items ok.variables);
     objects = makes.objects ∙ sym (offered_same s.types.table types.table ss g s.objects.items ok.objects);
   }
+
+-- ---- the state with more strings
+
+module _ (r : Surroundings) (s : Declaring) (ok : IsSettled r s) (strings : Vec (List ℕ) Global) (more : List (List ℕ)) (is : strings.items ≡ strings_of s ++ more) where
+  abbrev pub with_strings : Declaring
+  with_strings = record s { strings = strings }
+
+  levels_with : map (names_of (table_of s) strings.items) s.levels.items ≡ map (names_of (table_of s) (strings_of s)) s.levels.items
+  levels_with = ap (λ ss. map (names_of (table_of s) ss) s.levels.items) is ∙ more_levels_same s.types.table (strings_of s) more s.levels.items ok.levels
+
+  modules_with : map (module_of (table_of s) strings.items) r.modules.now ≡ map (module_of (table_of s) (strings_of s)) r.modules.now
+  modules_with = ap (λ ss. map (module_of (table_of s) ss) r.modules.now) is ∙ more_modules_same s.types.table (strings_of s) more r.modules.now ok.modules
+
+  pub settled_with : IsSettled r with_strings
+  settled_with = record {
+    built = ok.built;
+    levels = subst (λ ss. LevelsStay s.types.table ss s.levels.items) (sym is) (more_levels_still s.types.table (strings_of s) more s.levels.items ok.levels);
+    modules = subst (λ ss. ModulesStay s.types.table ss r.modules.now) (sym is) (more_modules_still s.types.table (strings_of s) more r.modules.now ok.modules);
+    types = subst (AllHaveTypes (table_of s)) (sym (ap (λ ls. predeclared ∷ ls) levels_with)) ok.types;
+    members = subst (AllHaveTypes (table_of s))
+        (members_as (table_of s) (strings_of s) r.modules.now ∙ ap (λ ks. map (λ (k : KnownModuleOf). k.names) ks) (sym modules_with) ∙ sym (members_as (table_of s) strings.items r.modules.now)) ok.members;
+    variables = ok.variables;
+    objects = subst (λ ss. OfferedStay s.types.table ss s.objects.items) (sym is) (more_offered_still s.types.table (strings_of s) more s.objects.items ok.objects);
+    open_scope = ok.open_scope;
+  }
+
+  pub makes_with : (m : Making) → Makes r s m → Makes r with_strings m
+  makes_with m makes = record {
+    imports_in = makes.imports_in;
+    world = makes.world ∙ sym (ap₂ (λ (ks : List KnownModuleOf) (ls : List (List ℕ → Option Entry)). record (world_in r s) { modules = ks; levels = predeclared ∷ ls }) modules_with levels_with);
+    is_type_part = makes.is_type_part;
+    forward = makes.forward;
+    standing = makes.standing;
+    values = makes.values;
+    variables = makes.variables;
+    objects = makes.objects ∙ sym (ap (λ ss. offered_of (table_of s) ss s.objects.items) is ∙ more_offered_same s.types.table (strings_of s) more s.objects.items ok.objects);
+  }
+
+-- a string that is one of these is one of more
+pub string_there : (xs more : List (List ℕ)) (x : List ℕ) (k : ℕ) → k ≡ length xs → slice_index_or (xs ++ x ∷ more) k [] ≡ x
+string_there [] more x zero e = refl
+string_there [] more x (suc k) e = absurd (omega (arith, e))
+string_there (y ∷ xs) more x zero e = absurd (omega (arith, e))
+string_there (y ∷ xs) more x (suc k) e = string_there xs more x k (omega (arith, e))

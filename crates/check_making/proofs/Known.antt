@@ -122,8 +122,11 @@ module _ (r : Surroundings) (s : Declaring) (ok : IsSettled r s) (x : Identdef) 
       built = ok.built;
       levels = subst (LevelsStay s.types.table (strings_of s)) (sym level.set) (stay_set s.types.table (strings_of s) name d stays level.level s.levels.items (length s.levels.items - 1) level.names ok.levels);
       modules = ok.modules;
-      types = (ok.types.0, subst (λ ls. AllHaveTypes (table_of s) (map (names_of (table_of s) (strings_of s)) ls)) (sym level.set)
-          (have_set (table_of s) (strings_of s) name e typed level.level s.levels.items (length s.levels.items - 1) (λ l is. level.names l is (table_of s) (strings_of s)) ok.types.1));
+      types = (
+        ok.types.0,
+        subst (λ ls. AllHaveTypes (table_of s) (map (names_of (table_of s) (strings_of s)) ls)) (sym level.set)
+            (have_set (table_of s) (strings_of s) name e typed level.level s.levels.items (length s.levels.items - 1) (λ l is. level.names l is (table_of s) (strings_of s)) ok.types.1),
+      );
       members = ok.members;
       variables = ok.variables;
       objects = subst (OfferedStay s.types.table (strings_of s)) (sym offered) (either (is_none s.procedure));
@@ -162,6 +165,8 @@ module _ (r : Surroundings) (s : Declaring) (ok : IsSettled r s) (x : Identdef) 
       }
 
       pub declared_made : Answers (Made r after) (declared r.source.now x (object_of (table_of s) (strings_of s) n) m) (Ok tt)
-      declared_made = record { by = record {
-        makes = subst (λ b. Makes r after (offer_if b name e (with_levels (declare_last name e) m))) (sym (ap (λ (w : World). is_none w.procedure) makes.world)) (makes_after (is_none s.procedure) refl);
-      } }
+      declared_made = record {
+        by = record {
+          makes = subst (λ b. Makes r after (offer_if b name e (with_levels (declare_last name e) m))) (sym (ap (λ (w : World). is_none w.procedure) makes.world)) (makes_after (is_none s.procedure) refl);
+        };
+      }

@@ -56,15 +56,17 @@ module _ (r : Surroundings) (s : Declaring) where
   pub stand_made : (m : Making) → Makes r s m → (i : ℕ) (new : BTreeMap (Vec ℕ Global) ℕ) → is_some (at_bytes s.standing (spelled r.source.now i)) ≡ false
       → ((q : List ℕ) → at_bytes new q ≡ cond (bytes_eq (spelled r.source.now i) q) (Some i) (at_bytes s.standing q)) → Answers (Made r (record s { standing = new })) (stand r.source.now (i ∷ []) m) (Ok tt)
   stand_made m makes i new none w =
-      as_judged (stands_new r.source.now i m (makes.standing (spelled r.source.now i) ∙ none)) (record { by = record {
-        makes = record {
-          imports_in = makes.imports_in;
-          world = makes.world;
-          is_type_part = makes.is_type_part;
-          forward = makes.forward;
-          standing = λ q. among_more (spelled r.source.now i) q m.standing i (at_bytes s.standing) (at_bytes new) makes.standing w;
-          values = makes.values;
-          variables = makes.variables;
-          objects = makes.objects;
+      as_judged (stands_new r.source.now i m (makes.standing (spelled r.source.now i) ∙ none)) (record {
+        by = record {
+          makes = record {
+            imports_in = makes.imports_in;
+            world = makes.world;
+            is_type_part = makes.is_type_part;
+            forward = makes.forward;
+            standing = λ q. among_more (spelled r.source.now i) q m.standing i (at_bytes s.standing) (at_bytes new) makes.standing w;
+            values = makes.values;
+            variables = makes.variables;
+            objects = makes.objects;
+          };
         };
-      } })
+      })

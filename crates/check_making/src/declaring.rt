@@ -82,3 +82,54 @@ impl Declaring {
         Ok(())
     }
 }
+
+#[cfg(test)]
+mod tests {
+    use super::*;
+    use check_steps::Source;
+    use check_types::TypeRef;
+    use ob_symbol::{Kind, Symbol};
+    use ob_syntax::names::Qualident;
+    use std::test::Fail;
+    use table_builder::TableBuilder;
+
+    #[test]
+    fn a_name_stands_once_and_is_found(rt: HostRuntime) -> Result<(), Fail> {
+        let symbols = [
+            Symbol {
+                kind: Kind::Ident,
+                from: 0,
+                to: 1,
+            },
+            Symbol {
+                kind: Kind::Ident,
+                from: 2,
+                to: 3,
+            },
+        ];
+        let source = Source::new(b"A A", &symbols);
+        let round = Surroundings {
+            alloc: rt.alloc(),
+            source: &source,
+            modules: &[],
+            module_number: 0,
+        };
+        let types = TableBuilder::new(rt.alloc())?;
+        let mut state = Declaring::begin(&round, types, Vec::new(rt.alloc()), false)?;
+        state.stand(&round, 0)?;
+        let ident = Identdef {
+            name: 0,
+            star: None,
+        };
+        state.declare(&round, &ident, Named::Type(TypeRef::Int))?;
+        let named = Qualident {
+            name: 1,
+            member: None,
+        };
+        let found = state.type_at(&round, 31, &named)?;
+        assert!(rt; matches!(found, TypeRef::Int));
+        let again = state.stand(&round, 1);
+        assert!(rt; matches!(again, Err(CheckFault::Fault { number: 36, at: 2 })));
+        Ok(())
+    }
+}

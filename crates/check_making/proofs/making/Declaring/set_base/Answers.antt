@@ -10,9 +10,11 @@ pub returns-clause-judged : goal.returns-clause-judged
 returns-clause-judged c = λ m makes.
     let s = c.args.self.now in
     let h = c.set_base.ensures in
-    record { by = record {
-      makes = makes_grown c.args.round.now s c.requires.settled c.set_base.new.self h.built h.grows m makes (λ (k : Known). record k { bases = slice_set k.bases c.args.pointer (Some c.args.r) }) h.known;
-    } }
+    record {
+      by = record {
+        makes = makes_grown c.args.round.now s c.requires.settled c.set_base.new.self h.built h.grows m makes (λ (k : Known). record k { bases = slice_set k.bases c.args.pointer (Some c.args.r) }) h.known;
+      };
+    }
 
 pub returns-clause-settled : goal.returns-clause-settled
 returns-clause-settled c =

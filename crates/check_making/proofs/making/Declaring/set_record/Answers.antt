@@ -11,9 +11,11 @@ pub returns-in-Ok-clause-judged : goal.returns-in-Ok-clause-judged
 returns-in-Ok-clause-judged c = λ m makes.
     let s = c.args.self.now in
     let h = c.in-Ok.ensures in
-    record { by = record {
-      makes = makes_grown c.args.round.now s c.requires.settled c.set_record.new.self h.built h.grows m makes (λ (k : Known). record k { records = slice_set k.records c.args.r (layout_of s.types.table.types c.args.layout) }) h.known;
-    } }
+    record {
+      by = record {
+        makes = makes_grown c.args.round.now s c.requires.settled c.set_record.new.self h.built h.grows m makes (λ (k : Known). record k { records = slice_set k.records c.args.r (layout_of s.types.table.types c.args.layout) }) h.known;
+      };
+    }
 
 pub returns-in-Ok-clause-settled : goal.returns-in-Ok-clause-settled
 returns-in-Ok-clause-settled c =
