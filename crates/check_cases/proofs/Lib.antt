@@ -1,0 +1,2 @@
+mod Labelling
+mod Naming

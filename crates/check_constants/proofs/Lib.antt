@@ -1,0 +1,2 @@
+mod Basic
+mod Values
