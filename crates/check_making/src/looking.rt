@@ -7,7 +7,7 @@ ghost use Rattle.ob_judge.specs.Scopes.{Source, World};
 ghost use Rattle.ob_judge.specs.Parameters.{type_at as judged_type};
 ghost use Rattle.check_steps.specs.Answers.{Answers};
 ghost use Rattle.check_names.specs.Worlds.{world_of};
-ghost use Rattle.check_making.specs.Making.{world_in, Makes, IsSettled, IsTypeOf};
+ghost use Rattle.check_making.specs.Making.{strings_of, world_in, Makes, IsSettled, IsTypeOf};
 
 use crate::making::{Declaring, Surroundings};
 use check_names::Scope;
@@ -31,6 +31,7 @@ impl Declaring {
         ensures source { result.source.now ≡ round.now.source.now }
         ensures world { world_of result ≡ world_in round.now self.now }
         ensures types { result.types.now ≡ self.now.types.table }
+        ensures strings { result.strings.now ≡ strings_of self.now }
     {
         Scope {
             source: round.source,
