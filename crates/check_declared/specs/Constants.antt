@@ -1,0 +1,26 @@
+-- Constants, between their expression and their name.
+use Rattle.std.specs.Prelude.{◌≡◌, ◌++◌, ℕ, List, [], ◌∷◌, map, slice_index_or}
+use Rattle.ob_judge.specs.Image as I
+use Rattle.check_operands.specs.Operands.{between_quotes}
+use Rattle.check_names.specs.declared.scope.Constant.{Constant}
+use Rattle.check_names.specs.Meaning.{constant_of}
+use Rattle.check_constants.specs.declared.constants.ConstantValue.{ConstantValue}
+use Rattle.check_constants.specs.Constants.{constant_meant}
+use Rattle.check_making.specs.declared.making.Declaring.{Declaring}
+use Rattle.check_making.specs.declared.making.Surroundings.{Surroundings}
+use Rattle.check_making.specs.Making.{table_of, strings_of}
+
+-- the strings that trees may name by their numbers there
+abbrev pub texts_in : Surroundings → Declaring → List (List ℕ)
+texts_in r s = map (between_quotes r.source.now.bytes) r.source.now.symbols ++ [] ∷ strings_of s
+
+abbrev pub text_in : Surroundings → Declaring → ℕ → List ℕ
+text_in r s n = slice_index_or (texts_in r s) n []
+
+-- this is the value
+abbrev pub IsValue : Surroundings → Declaring → ConstantValue → I.Constant → Type 0
+IsValue r s c x = constant_meant (texts_in r s) c ≡ x
+
+-- the name's constant is the expression's
+abbrev pub IsKept : Surroundings → Declaring → ConstantValue → Declaring → Constant → Type 0
+IsKept r s value t c = constant_of (table_of t) (strings_of t) c ≡ constant_meant (texts_in r s) value

@@ -1,0 +1,101 @@
+//! CONST (Oberon-07 report, section 5).
+
+ghost use Rattle.std.specs.Prelude.{◌≡◌, OnOk, IfOk, IfErr};
+ghost use Rattle.ob_syntax.specs.Plain.{plain_const_decl, plain_each, plain_expression};
+ghost use Rattle.ob_judge.specs.Expressions.{constant as judged_constant};
+ghost use Rattle.ob_judge.specs.Making.{Making};
+ghost use Rattle.ob_judge.specs.Declarations.{const_part, each};
+ghost use Rattle.check_steps.specs.Answers.{Answers};
+ghost use Rattle.check_making.specs.Staying.{NamedStays};
+ghost use Rattle.check_making.specs.Making.{strings_of, Makes, IsSettled};
+ghost use Rattle.check_making.specs.Parts.{Made};
+ghost use Rattle.check_declared.specs.Constants.{text_in, IsValue, IsKept};
+
+use check_constants::{ConstantValue, constant};
+use check_making::{Declaring, Surroundings};
+use check_names::{Constant, Named};
+use check_operands::text;
+use check_steps::CheckFault;
+use ob_syntax::declarations::ConstDecl;
+
+// A constant as its name keeps it: the characters of a string are among those of the state.
+fn keep(
+    state: &mut Declaring,
+    round: &Surroundings,
+    value: ConstantValue,
+) -> Result<Constant, CheckFault>
+    requires { IsSettled round.now state.old }
+    ensures settled { OnOk result (IsSettled round.now state.new) }
+    ensures makes { OnOk result ((m : Making) → Makes round.now state.old m → Makes round.now state.new m) }
+    ensures stays { IfOk result (λ c. NamedStays state.new.types.table (strings_of state.new) (Named.Constant c)) }
+    ensures means { IfOk result (λ c. IsKept round.now state.old value state.new c) }
+    ensures memory { IfErr result (λ e. e ≡ CheckFault.Memory) }
+{
+    match value {
+        ConstantValue::Bits(basic, bits) => Ok(Constant::Bits(basic, bits)),
+        ConstantValue::Chars(n) => {
+            let characters = characters_of(state, round, n)?;
+            state.string(round, &characters)
+        }
+    }
+}
+
+// The characters of a string by its number, copied.
+fn characters_of(
+    state: &Declaring,
+    round: &Surroundings,
+    n: u32,
+) -> Result<Vec<u8>, CheckFault>
+    ensures characters { IfOk result (λ v. v.items ≡ text_in round.now state.now n) }
+    ensures memory { IfErr result (λ e. e ≡ CheckFault.Memory) }
+{
+    let scope = state.scope(round);
+    match Vec::from_slice(round.alloc, text(&scope, n)) {
+        Ok(characters) => Ok(characters),
+        Err(_) => Err(CheckFault::Memory),
+    }
+}
+
+/// A constant is declared.
+pub fn const_decl(
+    state: &mut Declaring,
+    round: &Surroundings,
+    tree: &ConstDecl,
+) -> Result<(), CheckFault>
+    requires { IsSettled round.now state.old }
+    ensures settled { OnOk result (IsSettled round.now state.new) }
+    ensures judged { (m : Making) → Makes round.now state.old m → Answers (Made round.now state.new) (const_part round.now.source.now (plain_const_decl tree.now) m) result }
+{
+    state.stand(round, tree.name.name)?;
+    let value = constant_at(state, round, tree)?;
+    let kept = keep(state, round, value)?;
+    state.declare(round, &tree.name, Named::Constant(kept))
+}
+
+// The value of a declaration's expression.
+fn constant_at(
+    state: &Declaring,
+    round: &Surroundings,
+    tree: &ConstDecl,
+) -> Result<ConstantValue, CheckFault>
+    ensures { (m : Making) → Makes round.now state.now m → Answers (IsValue round.now state.now) (judged_constant round.now.source.now m.world (plain_expression tree.now.value)) result }
+{
+    let scope = state.scope(round);
+    constant(&scope, round.alloc, &tree.value)
+}
+
+/// Constants are declared, one after the other.
+pub fn const_decls(
+    state: &mut Declaring,
+    round: &Surroundings,
+    trees: &[ConstDecl],
+) -> Result<(), CheckFault>
+    requires { IsSettled round.now state.old }
+    ensures settled { OnOk result (IsSettled round.now state.new) }
+    ensures judged { (m : Making) → Makes round.now state.old m → Answers (Made round.now state.new) (each round.now.source.now (const_part round.now.source.now) (plain_each plain_const_decl trees.now) m) result }
+{
+    for tree in trees {
+        const_decl(state, round, tree)?;
+    }
+    Ok(())
+}

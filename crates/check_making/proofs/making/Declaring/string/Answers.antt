@@ -1,0 +1,8 @@
+use Rattle.check_making.proofs.Growing.{settled_with, makes_with}
+use Rattle.check_making.proofs.making.Declaring.string.Goals as goal
+
+pub returns-clause-settled : goal.returns-clause-settled
+returns-clause-settled c = settled_with c.args.round.now c.args.self.now c.requires c.push.new.self _ c.in_ok-push.ensures.items
+
+pub returns-clause-makes : goal.returns-clause-makes
+returns-clause-makes c = λ m makes. makes_with c.args.round.now c.args.self.now c.requires c.push.new.self _ c.in_ok-push.ensures.items m makes

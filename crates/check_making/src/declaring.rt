@@ -1,0 +1,135 @@
+//! Names that are known from here on.
+
+ghost use Rattle.std.specs.Prelude.{◌≡◌, ◌<◌, ◌-◌, ◌∷◌, ◌++◌, [], length, OnOk};
+ghost use Rattle.ob_judge.specs.Making.{Making};
+ghost use Rattle.ob_judge.specs.Parameters.{declared as judged_declared};
+ghost use Rattle.check_steps.specs.Answers.{Answers};
+ghost use Rattle.check_names.specs.Meaning.{object_of};
+ghost use Rattle.check_making.specs.Staying.{HasType, NamedStays, IsDeclaredIn};
+ghost use Rattle.check_making.specs.Making.{table_of, strings_of, offered_if, Makes, IsSettled};
+ghost use Rattle.check_making.specs.Parts.{Made};
+
+use crate::making::{Declaring, Offered, Surroundings};
+use check_names::{Declared, Level, Named};
+use check_steps::CheckFault;
+use items::Items;
+use ob_syntax::names::Identdef;
+use std::alloc::{AllocError, Global};
+
+// The place of the innermost of some scopes.
+fn innermost(levels: &[Level]) -> usize
+    requires { 0 < length levels.now }
+    ensures { result ≡ length levels.now - 1 }
+{
+    levels.len() - 1
+}
+
+/// One more name in one of some scopes.
+pub fn declare_in(
+    levels: &mut Vec<Level>,
+    at: usize,
+    alloc: Global,
+    name: &[u8],
+    declared: Declared,
+) -> Result<(), AllocError>
+    requires { at < length levels.old.items }
+    ensures { OnOk result (IsDeclaredIn levels.old.items levels.new.items at name.now declared) }
+{
+    levels[at].declare(alloc, name, declared)?;
+    Ok(())
+}
+
+// One more name of the module, unless it is a procedure's.
+fn offer(
+    objects: &mut Vec<Offered>,
+    of_module: bool,
+    alloc: Global,
+    name: &[u8],
+    declared: Declared,
+) -> Result<(), AllocError>
+    ensures { OnOk result (objects.new.items ≡ offered_if of_module name.now declared objects.old.items) }
+{
+    if of_module {
+        let name = Items::from_slice(alloc, name)?;
+        objects.push(Offered { name, declared })?;
+    }
+    Ok(())
+}
+
+impl Declaring {
+    /// A name is known from here on.
+    pub fn declare(
+        &mut self,
+        round: &Surroundings,
+        ident: &Identdef,
+        named: Named,
+    ) -> Result<(), CheckFault>
+        requires settled { IsSettled round.now self.old }
+        requires stays { NamedStays self.old.types.table (strings_of self.old) named }
+        requires typed { HasType (table_of self.old) (object_of (table_of self.old) (strings_of self.old) named) }
+        ensures settled { OnOk result (IsSettled round.now self.new) }
+        ensures judged { (m : Making) → Makes round.now self.old m → Answers (Made round.now self.new) (judged_declared round.now.source.now ident.now (object_of (table_of self.old) (strings_of self.old) named) m) result }
+    {
+        let name = round.source.spelled(ident.name);
+        let declared = Declared {
+            named,
+            exported: ident.star.is_some(),
+        };
+        let of_module = self.procedure.is_none();
+        offer(&mut self.objects, of_module, round.alloc, name, declared)?;
+        let at = innermost(&self.levels);
+        declare_in(&mut self.levels, at, round.alloc, name, declared)?;
+        Ok(())
+    }
+}
+
+#[cfg(test)]
+mod tests {
+    use super::*;
+    use check_steps::Source;
+    use check_types::TypeRef;
+    use ob_symbol::{Kind, Symbol};
+    use ob_syntax::names::Qualident;
+    use std::test::Fail;
+    use table_builder::TableBuilder;
+
+    #[test]
+    fn a_name_stands_once_and_is_found(rt: HostRuntime) -> Result<(), Fail> {
+        let symbols = [
+            Symbol {
+                kind: Kind::Ident,
+                from: 0,
+                to: 1,
+            },
+            Symbol {
+                kind: Kind::Ident,
+                from: 2,
+                to: 3,
+            },
+        ];
+        let source = Source::new(b"A A", &symbols);
+        let round = Surroundings {
+            alloc: rt.alloc(),
+            source: &source,
+            modules: &[],
+            module_number: 0,
+        };
+        let types = TableBuilder::new(rt.alloc())?;
+        let mut state = Declaring::begin(&round, types, Vec::new(rt.alloc()), false)?;
+        state.stand(&round, 0)?;
+        let ident = Identdef {
+            name: 0,
+            star: None,
+        };
+        state.declare(&round, &ident, Named::Type(TypeRef::Int))?;
+        let named = Qualident {
+            name: 1,
+            member: None,
+        };
+        let found = state.type_at(&round, 31, &named)?;
+        assert!(rt; matches!(found, TypeRef::Int));
+        let again = state.stand(&round, 1);
+        assert!(rt; matches!(again, Err(CheckFault::Fault { number: 36, at: 2 })));
+        Ok(())
+    }
+}

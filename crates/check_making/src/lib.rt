@@ -1,0 +1,18 @@
+//! What declarations make, in code.
+//!
+//! A `Declaring` is the state between declarations. `Makes` (`specs/Making.antt`) says which state of the judgement it stands
+//! for, in `Surroundings`: the module's text and number, and the modules before. A part of the judgement is a function whose
+//! clause `judged` says that from each state that it stands for, its answer is the judgement's, and the state then stands for
+//! what that leaves. `IsSettled` is what such a function asks for and leaves: above all that names mean the same whatever the
+//! table of types becomes.
+#![tactic(auto)]
+
+mod beginning;
+mod declaring;
+mod looking;
+mod making;
+mod standing;
+mod strings;
+mod typing;
+
+pub use making::{Declaring, Forward, Offered, Surroundings};

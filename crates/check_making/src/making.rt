@@ -1,0 +1,51 @@
+//! The state between declarations.
+
+use check_names::{Declared, KnownModule, Level};
+use check_steps::Source;
+use check_types::TypeRef;
+use items::Items;
+use std::alloc::Global;
+use std::collections::BTreeMap;
+use table_builder::TableBuilder;
+
+/// Where declarations stand: the module's text and its number, and the modules before.
+#[derive(Drop)]
+pub struct Surroundings<'a> {
+    pub alloc: Global,
+    pub source: &'a Source<'a>,
+    pub modules: &'a [KnownModule],
+    pub module_number: u32,
+}
+
+/// A pointer type whose base is named, and declared later: its number and the symbol of the name.
+#[derive(Clone, Copy)]
+pub struct Forward {
+    pub pointer: u32,
+    pub name: u32,
+}
+
+/// A name that the module declares, and what it stands for.
+#[derive(Drop)]
+pub struct Offered {
+    pub name: Items<u8>,
+    pub declared: Declared,
+}
+
+/// What declarations have made so far: the types, the strings of constants, the open scopes with the innermost last, the
+/// procedure that is open, whether this is a TYPE part and which of its pointer types have no base yet, the names that
+/// stand in the innermost scope with their symbols, how many scalar value parameters it has, and its variables; the names
+/// of the module; and whether In was imported.
+#[derive(Drop)]
+pub struct Declaring {
+    pub imports_in: bool,
+    pub types: TableBuilder,
+    pub strings: Vec<Items<u8>>,
+    pub levels: Vec<Level>,
+    pub procedure: Option<u32>,
+    pub is_type_part: bool,
+    pub forward: Vec<Forward>,
+    pub standing: BTreeMap<Vec<u8>, u32>,
+    pub values: u32,
+    pub variables: Vec<TypeRef>,
+    pub objects: Vec<Offered>,
+}

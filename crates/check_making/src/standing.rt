@@ -1,0 +1,28 @@
+//! Names that stand in the innermost scope.
+
+ghost use Rattle.std.specs.Prelude.{◌≡◌, [], ◌∷◌, OnOk};
+ghost use Rattle.ob_judge.specs.Making.{Making};
+ghost use Rattle.ob_judge.specs.Parameters.{stand as judged_stand};
+ghost use Rattle.check_steps.specs.Answers.{Answers};
+ghost use Rattle.check_making.specs.Making.{Makes, IsSettled};
+ghost use Rattle.check_making.specs.Parts.{Made};
+
+use crate::making::{Declaring, Surroundings};
+use check_steps::CheckFault;
+
+impl Declaring {
+    /// A name stands in the innermost scope, and no other of its bytes.
+    pub fn stand(&mut self, round: &Surroundings, i: u32) -> Result<(), CheckFault>
+        requires { IsSettled round.now self.old }
+        ensures settled { OnOk result (IsSettled round.now self.new) }
+        ensures judged { (m : Making) → Makes round.now self.old m → Answers (Made round.now self.new) (judged_stand round.now.source.now (i ∷ []) m) result }
+    {
+        let name = round.source.spelled(i);
+        if self.standing.contains_key(name) {
+            return Err(round.source.fault(36, i));
+        }
+        let key = Vec::from_slice(round.alloc, name)?;
+        self.standing.insert(key, i)?;
+        Ok(())
+    }
+}
