@@ -1,6 +1,6 @@
 //! The register variables that a join or a header has as parameters.
 
-ghost use Rattle.std.specs.Prelude.{◌≡◌, ℕ, List, length, IfOk};
+ghost use Rattle.std.specs.Prelude.{◌≡◌, ℕ, IfOk};
 ghost use Rattle.ob_types.specs.declared.program.Program.{Program};
 ghost use Rattle.ssa_lowered.specs.Lowered.{Here};
 ghost use Rattle.ssa_lowered.specs.Pieces.{Mask};
@@ -20,7 +20,8 @@ pub fn of_branches(
     parts: &[Branch],
     other: &[u32],
 ) -> Result<Vec<u32>, LowerFault>
-    ensures { IfOk result (λ list. (p : Program) (here : Here) → Serves t.now p here → (rest mask : Mask) → ((x : ℕ) → has other.now x ≡ rest x) →
+    ensures { IfOk result (λ list. (p : Program) (here : Here) → Serves t.now p here →
+        (rest mask : Mask) → ((x : ℕ) → has other.now x ≡ rest x) →
         ((x : ℕ) → either (assigned_parts parts.now) rest x ≡ mask x) → AreJoined p here mask b.now list.items) }
 {
     let mut found = other.to_vec(b.allocator())?;
@@ -56,7 +57,8 @@ pub fn of_count(
     variable: &Designator,
     body: &[Stmt],
 ) -> Result<Vec<u32>, LowerFault>
-    ensures { IfOk result (λ list. (p : Program) (here : Here) → Serves t.now p here → AreJoined p here (either (itself variable.now) (assigned_list body.now)) b.now list.items) }
+    ensures { IfOk result (λ list. (p : Program) (here : Here) → Serves t.now p here →
+        AreJoined p here (either (itself variable.now) (assigned_list body.now)) b.now list.items) }
 {
     let mut found = Vec::new(b.allocator());
     note_whole(variable, &mut found)?;

@@ -1,18 +1,15 @@
 //! The walk over statements.
 
-ghost use Rattle.std.specs.Prelude.{◌≡◌, OnOk, IfOk, ℕ, Option, Some, None, List};
+ghost use Rattle.std.specs.Prelude.{◌≡◌, OnOk, IfOk};
 ghost use Rattle.ob_types.specs.declared.program.Program.{Program};
-ghost use Rattle.ob_types.specs.declared.statements.Stmt.{If, While, Repeat, For, Case, CasePointer, CaseParameter};
 ghost use Rattle.ssa_lowered.specs.Lowered.{Here};
-ghost use Rattle.ssa_lowered.specs.Pieces.{Mask};
 ghost use Rattle.ssa_lowered.specs.Statements.{Deed};
-ghost use Rattle.ssa_lowered.specs.Control.{Round, repeat, for, loop};
 ghost use Rattle.ssa_exprs.specs.Making.{View};
-ghost use Rattle.ssa_exprs.specs.Tables.{Serves, expr_in, named_in};
-ghost use Rattle.ssa_assigned.specs.Assigned.{has};
+ghost use Rattle.ssa_exprs.specs.Tables.{Serves, expr_in};
 ghost use Rattle.ssa_statements.specs.Meeting.{FinishesAll};
 ghost use Rattle.ssa_statements.specs.Steps.{Steps, deed_in};
-ghost use Rattle.ssa_control.specs.Lists.{deeds_in, alternatives_in, rounds_in, round_in, loop_in, repeat_in, count_in, case_in, types_in, case_bodies_in, type_bodies_in};
+ghost use Rattle.ssa_control.specs.Lists.{deeds_in, alternatives_in, round_in, loop_in};
+ghost use Rattle.ssa_control.specs.Lists.{repeat_in, count_in, case_in, types_in, case_bodies_in, type_bodies_in};
 ghost use Rattle.ssa_control.specs.Frames.{Opens, Turns, Takes};
 
 use crate::joins::{of_body, of_branches, of_cases, of_count, of_guards, of_types};
@@ -105,7 +102,8 @@ fn alternatives(
     parts: &[Branch],
     other: &[Stmt],
 ) -> Result<Vec<Frame>, LowerFault>
-    ensures { IfOk result (λ frames. (p : Program) (here : Here) → Serves t.now p here → (g : Deed) (w z : View) → Steps b.new w g → FinishesAll frames.items w z →
+    ensures { IfOk result (λ frames. (p : Program) (here : Here) → Serves t.now p here →
+        (g : Deed) (w z : View) → Steps b.new w g → FinishesAll frames.items w z →
         Steps b.old z (alternatives_in p here parts.now other.now g)) }
 {
     let mut assigned = Vec::new(b.allocator());
@@ -127,7 +125,8 @@ fn alternative(
     part: &Branch,
     vars: Vec<u32>,
 ) -> Result<Frame, LowerFault>
-    ensures opens { IfOk result (λ f. (p : Program) (here : Here) → Serves t.now p here → Opens b.old b.new f (expr_in p here part.now.condition.form).test (deeds_in p here part.now.body.items)) }
+    ensures opens { IfOk result (λ f. (p : Program) (here : Here) → Serves t.now p here →
+        Opens b.old b.new f (expr_in p here part.now.condition.form).test (deeds_in p here part.now.body.items)) }
     ensures vars { IfOk result (λ f. f.vars.items ≡ vars.items) }
 {
     let freq = b.freq();
@@ -270,7 +269,8 @@ fn case_parts(
     frame: &Frame,
     starts: &[u32],
 ) -> Result<Option<Items<u32>>, LowerFault>
-    ensures { IfOk result (λ last. (p : Program) (here : Here) → Serves t.now p here → Takes b.old b.new frame.now leave last starts.now 0 (case_bodies_in p here parts.now)) }
+    ensures { IfOk result (λ last. (p : Program) (here : Here) → Serves t.now p here →
+        Takes b.old b.new frame.now leave last starts.now 0 (case_bodies_in p here parts.now)) }
 {
     let mut leave = leave;
     for i in 0..parts.len() {
@@ -320,7 +320,8 @@ fn type_parts(
     frame: &Frame,
     starts: &[u32],
 ) -> Result<Option<Items<u32>>, LowerFault>
-    ensures { IfOk result (λ last. (p : Program) (here : Here) → Serves t.now p here → Takes b.old b.new frame.now leave last starts.now 0 (type_bodies_in p here parts.now)) }
+    ensures { IfOk result (λ last. (p : Program) (here : Here) → Serves t.now p here →
+        Takes b.old b.new frame.now leave last starts.now 0 (type_bodies_in p here parts.now)) }
 {
     let mut leave = leave;
     for i in 0..parts.len() {
