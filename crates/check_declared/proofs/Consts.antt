@@ -56,8 +56,8 @@ module _ (r : Surroundings) (d : ConstDecl) (m : Making) where
       → Answers (Made r t) (const_part r.source.now (plain_const_decl d) m) result
   is_declared {t = t} c result h k kept on go =
       goes_on (stand r.source.now (d.name.name ∷ []) m) _ h (λ a made.
-        look_on (constant r.source.now (a.1).world (plain_expression d.value)) a.1 _ (k a.1 made.makes) (λ x is.
-          subst (λ (z : I.Constant). Answers (Made r t) (declared r.source.now d.name (AConstant z) a.1) result) (kept ∙ is) (go a.1 (on a.1 made.makes))))
+      look_on (constant r.source.now (a.1).world (plain_expression d.value)) a.1 _ (k a.1 made.makes) (λ x is.
+      subst (λ (z : I.Constant). Answers (Made r t) (declared r.source.now d.name (AConstant z) a.1) result) (kept ∙ is) (go a.1 (on a.1 made.makes))))
 
 -- ---- one after the other
 

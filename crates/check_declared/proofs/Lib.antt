@@ -1,2 +1,3 @@
 pub mod Parts
 pub mod Consts
+pub mod Vars

@@ -41,11 +41,7 @@ fn keep(
 }
 
 // The characters of a string by its number, copied.
-fn characters_of(
-    state: &Declaring,
-    round: &Surroundings,
-    n: u32,
-) -> Result<Vec<u8>, CheckFault>
+fn characters_of(state: &Declaring, round: &Surroundings, n: u32) -> Result<Vec<u8>, CheckFault>
     ensures characters { IfOk result (λ v. v.items ≡ text_in round.now state.now n) }
     ensures memory { IfErr result (λ e. e ≡ CheckFault.Memory) }
 {

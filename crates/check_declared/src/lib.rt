@@ -6,5 +6,7 @@
 #![tactic(auto)]
 
 mod constants;
+mod variables;
 
 pub use constants::{const_decl, const_decls};
+pub use variables::variable;
