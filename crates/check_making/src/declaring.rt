@@ -68,6 +68,7 @@ impl Declaring {
         requires stays { NamedStays self.old.types.table (strings_of self.old) named }
         requires typed { HasType (table_of self.old) (object_of (table_of self.old) (strings_of self.old) named) }
         ensures settled { OnOk result (IsSettled round.now self.new) }
+        ensures types { self.new.types ≡ self.old.types }
         ensures judged { (m : Making) → Makes round.now self.old m → Answers (Made round.now self.new) (judged_declared round.now.source.now ident.now (object_of (table_of self.old) (strings_of self.old) named) m) result }
     {
         let name = round.source.spelled(ident.name);

@@ -15,6 +15,7 @@ impl Declaring {
     pub fn stand(&mut self, round: &Surroundings, i: u32) -> Result<(), CheckFault>
         requires { IsSettled round.now self.old }
         ensures settled { OnOk result (IsSettled round.now self.new) }
+        ensures types { self.new.types ≡ self.old.types }
         ensures judged { (m : Making) → Makes round.now self.old m → Answers (Made round.now self.new) (judged_stand round.now.source.now (i ∷ []) m) result }
     {
         let name = round.source.spelled(i);
