@@ -9,7 +9,7 @@ use Rattle.check_making.specs.Making.{table_of, strings_of}
 use Rattle.check_making.specs.Parts.{Made}
 use Rattle.check_making.specs.Staying.{NamedStays}
 use Rattle.check_declared.proofs.Vars.{variable_stays, settled_variable, variable_made, variable_refused}
-use Rattle.check_declared.proofs.variables.variable.Goals as goal
+use Rattle.check_declared.proofs.one_variable.variable.Goals as goal
 
 pub returns-in_err-declare-clause-judged : goal.returns-in_err-declare-clause-judged
 returns-in_err-declare-clause-judged c = λ m makes.
