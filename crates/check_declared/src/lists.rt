@@ -1,15 +1,11 @@
 //! Lists of names (Oberon-07 report, section 7).
 
-ghost use Rattle.std.specs.Prelude.{◌≡◌, OnOk};
-ghost use Rattle.ob_syntax.specs.Plain.{plain_idents};
-ghost use Rattle.ob_judge.specs.Making.{Making};
-ghost use Rattle.ob_judge.specs.Parameters.{stand, symbols_of, idents_list, next_list};
-ghost use Rattle.ob_judge.specs.Declarations.{variable_part, each};
-ghost use Rattle.check_steps.specs.Answers.{Answers};
-ghost use Rattle.check_types.specs.TypeMeaning.{type_shape};
+ghost use Rattle.std.specs.Prelude.{OnOk};
+ghost use Rattle.ob_judge.specs.Parameters.{stand, symbols_of, next_list};
 ghost use Rattle.table_builder.specs.Entries.{IsElement};
-ghost use Rattle.check_making.specs.Making.{table_of, Makes, IsSettled};
-ghost use Rattle.check_making.specs.Parts.{Made};
+ghost use Rattle.check_making.specs.Making.{shape_in, IsSettled};
+ghost use Rattle.check_making.specs.Parts.{Judges};
+ghost use Rattle.check_declared.specs.Variables.{names_in, variables_part};
 
 use crate::one_variable::variable;
 use check_making::{Declaring, Surroundings};
@@ -25,7 +21,7 @@ fn stand_more(
 ) -> Result<(), CheckFault>
     requires { IsSettled round.now state.old }
     ensures settled { OnOk result (IsSettled round.now state.new) }
-    ensures judged { (m : Making) → Makes round.now state.old m → Answers (Made round.now state.new) (stand round.now.source.now (symbols_of (next_list more.now)) m) result }
+    ensures judged { Judges round.now state.old state.new (stand round.now.source.now (symbols_of (next_list more.now))) result }
 {
     for next in more {
         state.stand(round, next.name.name)?;
@@ -41,7 +37,7 @@ pub fn stand_all(
 ) -> Result<(), CheckFault>
     requires { IsSettled round.now state.old }
     ensures settled { OnOk result (IsSettled round.now state.new) }
-    ensures judged { (m : Making) → Makes round.now state.old m → Answers (Made round.now state.new) (stand round.now.source.now (symbols_of (idents_list (plain_idents idents.now))) m) result }
+    ensures judged { Judges round.now state.old state.new (stand round.now.source.now (symbols_of (names_in idents.now))) result }
 {
     state.stand(round, idents.first.name)?;
     stand_more(state, round, &idents.more)
@@ -57,7 +53,7 @@ fn more_variables(
     requires settled { IsSettled round.now state.old }
     requires element { IsElement state.old.types.table.entries.items of }
     ensures settled { OnOk result (IsSettled round.now state.new) }
-    ensures judged { (m : Making) → Makes round.now state.old m → Answers (Made round.now state.new) (each round.now.source.now (variable_part round.now.source.now (type_shape (table_of state.old) of)) (next_list more.now) m) result }
+    ensures judged { Judges round.now state.old state.new (variables_part round.now.source.now (shape_in state.old of) (next_list more.now)) result }
 {
     for next in more {
         variable(state, round, of, &next.name)?;
@@ -75,7 +71,7 @@ pub fn variables(
     requires settled { IsSettled round.now state.old }
     requires element { IsElement state.old.types.table.entries.items of }
     ensures settled { OnOk result (IsSettled round.now state.new) }
-    ensures judged { (m : Making) → Makes round.now state.old m → Answers (Made round.now state.new) (each round.now.source.now (variable_part round.now.source.now (type_shape (table_of state.old) of)) (idents_list (plain_idents idents.now)) m) result }
+    ensures judged { Judges round.now state.old state.new (variables_part round.now.source.now (shape_in state.old of) (names_in idents.now)) result }
 {
     variable(state, round, of, &idents.first)?;
     more_variables(state, round, of, &idents.more)

@@ -1,13 +1,10 @@
 //! Variables of a type (Oberon-07 report, section 7).
 
 ghost use Rattle.std.specs.Prelude.{◌≡◌, ◌+◌, length, OnOk, IfOk, IfErr};
-ghost use Rattle.ob_judge.specs.Making.{Making};
-ghost use Rattle.ob_judge.specs.Declarations.{variable_part, each};
-ghost use Rattle.check_steps.specs.Answers.{Answers};
-ghost use Rattle.check_types.specs.TypeMeaning.{type_shape};
+ghost use Rattle.ob_judge.specs.Declarations.{variable_part};
 ghost use Rattle.table_builder.specs.Entries.{IsElement};
-ghost use Rattle.check_making.specs.Making.{table_of, Makes, IsSettled};
-ghost use Rattle.check_making.specs.Parts.{Made};
+ghost use Rattle.check_making.specs.Making.{shape_in, IsSettled};
+ghost use Rattle.check_making.specs.Parts.{Judges};
 ghost use Rattle.check_declared.specs.Variables.{variable_here};
 
 use check_making::{Declaring, Surroundings};
@@ -65,7 +62,7 @@ pub fn variable(
     requires element { IsElement state.old.types.table.entries.items of }
     ensures settled { OnOk result (IsSettled round.now state.new) }
     ensures types { state.new.types ≡ state.old.types }
-    ensures judged { (m : Making) → Makes round.now state.old m → Answers (Made round.now state.new) (variable_part round.now.source.now (type_shape (table_of state.old) of) ident.now m) result }
+    ensures judged { Judges round.now state.old state.new (variable_part round.now.source.now (shape_in state.old of) ident.now) result }
 {
     let n = next_place(state.values, &state.variables)?;
     let variable = variable_of(round, state.procedure, of, n);
