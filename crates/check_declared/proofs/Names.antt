@@ -1,7 +1,7 @@
 -- Names in lists: that they stand, and that they are variables.
-use Rattle.std.proofs.Common.{◌≡◌, ℕ, ◌+◌, ◌<◌, List, [], ◌∷◌, length, drop, get_or, Bool, true, false, not, Result, Ok, Err, refl, sym, ap, ◌∙◌, subst}
+use Rattle.std.proofs.Common.{◌≡◌, ℕ, ◌+◌, ◌<◌, List, [], ◌∷◌, length, drop, get_or, Bool, true, false, not, Result, Ok, Err, refl}
 use Rattle.ob_syntax.specs.declared.names.NextIdentdef.{NextIdentdef}
-use Rattle.ob_judge.specs.Judged.{Judged, Keeps, Breaks, ◌>>=◌, rule}
+use Rattle.ob_judge.specs.Judged.{Judged, Keeps, ◌>>=◌, rule}
 use Rattle.ob_judge.specs.Shapes.{Shape}
 use Rattle.ob_judge.specs.Scopes.{Source, place, spelled}
 use Rattle.ob_judge.specs.Making.{Making, is_among}

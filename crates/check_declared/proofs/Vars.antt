@@ -1,14 +1,11 @@
 -- Variables that are declared.
-use Rattle.std.proofs.Common.{◌≡◌, ℕ, ◌+◌, List, [], ◌∷◌, ◌++◌, length, map, Option, Some, None, Result, Ok, Err, Vec, Global, refl, sym, ap, ap₂, ◌∙◌, subst}
-use Rattle.std.specs.Prelude.{is_some}
+use Rattle.std.proofs.Common.{◌≡◌, ℕ, ◌+◌, List, [], ◌∷◌, ◌++◌, length, map, Option, Some, None, Ok, Err, Vec, Global, refl, sym, ap, ap₂, ◌∙◌, subst}
 use Rattle.std.proofs.lemmas.List.{map-append}
 use Rattle.std.proofs.lemmas.List.{length-map}
 use Rattle.ob_syntax.specs.declared.names.Identdef.{Identdef}
 use Rattle.ob_types.specs.Table.{Table}
-use Rattle.ob_judge.specs.Image as I
 use Rattle.ob_judge.specs.Judged.{Judged, Keeps, Breaks, ◌>>=◌}
 use Rattle.ob_judge.specs.Shapes.{Shape}
-use Rattle.ob_judge.specs.Scopes as J
 use Rattle.ob_judge.specs.Scopes.{Object, AVariable, World}
 use Rattle.ob_judge.specs.Making.{Making}
 use Rattle.ob_judge.specs.Parameters.{declared}
@@ -20,10 +17,8 @@ use Rattle.check_types.specs.declared.types.TypeRef.{TypeRef}
 use Rattle.check_types.specs.declared.table.TypeTable.{TypeTable}
 use Rattle.check_types.specs.TypeMeaning.{type_shape}
 use Rattle.check_names.specs.declared.scope.Named.TheVariants as TheNamed
-use Rattle.check_names.specs.declared.scope.Variable.{Variable}
-use Rattle.check_names.specs.Meaning.{home_of, place_of, object_of, variable_of}
+use Rattle.check_names.specs.Meaning.{home_of, place_of, object_of}
 use Rattle.table_builder.specs.Entries.{IsElement}
-use Rattle.table_builder.specs.Growing.{Grows}
 use Rattle.check_making.specs.declared.making.Declaring.{Declaring}
 use Rattle.check_making.specs.declared.making.Surroundings.{Surroundings}
 use Rattle.check_making.specs.Staying.{NamedStays}

@@ -1,13 +1,11 @@
-use Rattle.std.proofs.Common.{◌≡◌, refl, ap, sym, drop, ◌+◌, ◌∙◌, subst, Ok, Err, arith}
+use Rattle.std.proofs.Common.{refl, ap, sym, drop, ◌+◌, ◌∙◌, subst, arith}
 use Rattle.std.proofs.lemmas.List.{drop_all}
-use Rattle.check_steps.specs.Answers.{Answers}
 use Rattle.check_steps.proofs.Answering.{exit, Judging}
-use Rattle.check_making.specs.Parts.{Made}
 use Rattle.check_declared.proofs.Parts.{StateMakes}
 use Rattle.check_types.specs.TypeMeaning.{type_shape}
 use Rattle.table_builder.specs.Entries.{IsElement}
 use Rattle.check_making.specs.Making.{table_of}
-use Rattle.check_declared.proofs.Names.{variables_from, variable_item, variables_first, variables_next, variables_stop, variables_done}
+use Rattle.check_declared.proofs.Names.{variables_from, variables_first, variables_next, variables_stop, variables_done}
 use Rattle.check_declared.proofs.lists.more_variables.Goals as goal
 
 pub variable-requires-clause-element : goal.variable-requires-clause-element

@@ -1,10 +1,8 @@
-use Rattle.std.proofs.Common.{◌≡◌, ap, sym, ◌∙◌, subst, Ok, Err, arith}
+use Rattle.std.proofs.Common.{subst, arith}
 use Rattle.std.proofs.lemmas.List.{drop_all}
-use Rattle.check_steps.specs.Answers.{Answers}
 use Rattle.check_steps.proofs.Answering.{exit, Judging}
-use Rattle.check_making.specs.Parts.{Made}
 use Rattle.check_declared.proofs.Parts.{StateMakes}
-use Rattle.check_declared.proofs.Names.{stand_from, stand_item, stand_first, stand_next, stand_stop, stand_done}
+use Rattle.check_declared.proofs.Names.{stand_from, stand_first, stand_next, stand_stop, stand_done}
 use Rattle.check_declared.proofs.lists.stand_more.Goals as goal
 
 pub loop-next-init : goal.loop-next-init

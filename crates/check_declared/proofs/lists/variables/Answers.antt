@@ -1,4 +1,4 @@
-use Rattle.std.proofs.Common.{◌≡◌, ap, sym, ◌∙◌, subst}
+use Rattle.std.proofs.Common.{ap, sym, subst}
 use Rattle.ob_judge.specs.Making.{Making}
 use Rattle.ob_judge.specs.Parameters.{next_list}
 use Rattle.ob_judge.specs.Declarations.{variable_part, each}

@@ -1,4 +1,4 @@
-use Rattle.std.proofs.Common.{◌≡◌, ◌+◌, length, refl, ap, sym, ◌∙◌, subst, Ok, Err, Result}
+use Rattle.std.proofs.Common.{◌+◌, length, ap, sym, ◌∙◌, subst, Ok, Err}
 use Rattle.check_steps.specs.Answers.{Answers}
 use Rattle.check_steps.proofs.Answering.{exit}
 use Rattle.check_names.specs.Meaning.{object_of}
