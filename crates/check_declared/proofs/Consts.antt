@@ -1,5 +1,5 @@
 -- Constants that are declared.
-use Rattle.std.proofs.Common.{◌≡◌, ℕ, ◌+◌, ◌<◌, length, drop, get_or, List, [], ◌∷◌, ◌++◌, map, Result, Ok, Err, refl, sym, ap, ap₂, ◌∙◌, subst}
+use Rattle.std.proofs.Common.{◌≡◌, ℕ, ◌+◌, ◌<◌, length, drop, get_or, List, [], ◌∷◌, ◌++◌, map, Result, Ok, Err, refl, sym, ap₂, ◌∙◌, subst}
 use Rattle.ob_syntax.specs.declared.declarations.ConstDecl.{ConstDecl}
 use Rattle.ob_syntax.specs.Plain.{plain_const_decl, plain_each, plain_expression}
 use Rattle.ob_judge.specs.Image as I
@@ -23,8 +23,8 @@ use Rattle.check_making.specs.declared.making.Declaring.{Declaring}
 use Rattle.check_making.specs.declared.making.Surroundings.{Surroundings}
 use Rattle.check_making.specs.Making.{table_of, strings_of, world_in, Makes}
 use Rattle.check_making.specs.Parts.{Made}
-use Rattle.check_declared.specs.Constants.{texts_in, text_in, IsValue, IsKept}
-use Rattle.check_declared.proofs.Parts.{look_on, look_stops, refused, StateMakes, left_first, left_next, left_stops, left_none}
+use Rattle.check_declared.specs.Constants.{texts_in, IsValue, IsKept}
+use Rattle.check_declared.proofs.Parts.{look_on, look_stops, StateMakes, left_first, left_next, left_stops, left_none}
 
 -- the texts of the state's scope
 pub texts_same : (r : Surroundings) (s : Declaring) (scope : Scope) → scope.source.now ≡ r.source.now → scope.strings.now ≡ strings_of s → texts_of scope ≡ texts_in r s
@@ -56,8 +56,8 @@ module _ (r : Surroundings) (d : ConstDecl) (m : Making) where
       → Answers (Made r t) (const_part r.source.now (plain_const_decl d) m) result
   is_declared {t = t} c result h k kept on go =
       goes_on (stand r.source.now (d.name.name ∷ []) m) _ h (λ a made.
-        look_on (constant r.source.now (a.1).world (plain_expression d.value)) a.1 _ (k a.1 made.makes) (λ x is.
-          subst (λ (z : I.Constant). Answers (Made r t) (declared r.source.now d.name (AConstant z) a.1) result) (kept ∙ is) (go a.1 (on a.1 made.makes))))
+      look_on (constant r.source.now (a.1).world (plain_expression d.value)) a.1 _ (k a.1 made.makes) (λ x is.
+      subst (λ (z : I.Constant). Answers (Made r t) (declared r.source.now d.name (AConstant z) a.1) result) (kept ∙ is) (go a.1 (on a.1 made.makes))))
 
 -- ---- one after the other
 

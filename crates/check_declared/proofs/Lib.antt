@@ -1,2 +1,4 @@
 pub mod Parts
 pub mod Consts
+pub mod Vars
+pub mod Names

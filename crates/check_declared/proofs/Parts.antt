@@ -1,8 +1,8 @@
 -- Parts of the judgement, one after the other, and the states that stand for what they leave.
-use Rattle.std.proofs.Common.{◌≡◌, ℕ, ◌+◌, ◌<◌, List, [], ◌∷◌, length, drop, get_or, Result, Ok, Err, refl, sym, ap, ◌∙◌, subst}
+use Rattle.std.proofs.Common.{◌≡◌, ℕ, ◌+◌, ◌<◌, List, [], ◌∷◌, length, drop, get_or, Result, Ok, Err, refl, sym, ◌∙◌, subst}
 use Rattle.ob_judge.specs.Judged.{Judged, Keeps, Breaks, ◌>>=◌}
 use Rattle.ob_judge.specs.Making.{Making}
-use Rattle.check_steps.specs.Answers.{Answers, Answer, Gives, Refuses}
+use Rattle.check_steps.specs.Answers.{Answers, Refuses}
 use Rattle.check_steps.specs.declared.fault.CheckFault.{CheckFault}
 use Rattle.check_steps.specs.declared.fault.CheckFault.TheVariants.{Fault, Memory}
 use Rattle.check_steps.proofs.Answering.{Judging, round_on, round_stops}

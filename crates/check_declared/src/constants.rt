@@ -1,15 +1,13 @@
 //! CONST (Oberon-07 report, section 5).
 
 ghost use Rattle.std.specs.Prelude.{◌≡◌, OnOk, IfOk, IfErr};
-ghost use Rattle.ob_syntax.specs.Plain.{plain_const_decl, plain_each, plain_expression};
-ghost use Rattle.ob_judge.specs.Expressions.{constant as judged_constant};
+ghost use Rattle.ob_syntax.specs.Plain.{plain_const_decl};
 ghost use Rattle.ob_judge.specs.Making.{Making};
-ghost use Rattle.ob_judge.specs.Declarations.{const_part, each};
-ghost use Rattle.check_steps.specs.Answers.{Answers};
+ghost use Rattle.ob_judge.specs.Declarations.{const_part};
 ghost use Rattle.check_making.specs.Staying.{NamedStays};
 ghost use Rattle.check_making.specs.Making.{strings_of, Makes, IsSettled};
-ghost use Rattle.check_making.specs.Parts.{Made};
-ghost use Rattle.check_declared.specs.Constants.{text_in, IsValue, IsKept};
+ghost use Rattle.check_making.specs.Parts.{Judges, JudgesHere};
+ghost use Rattle.check_declared.specs.Constants.{text_in, consts_part, constant_part, IsValue, IsKept};
 
 use check_constants::{ConstantValue, constant};
 use check_making::{Declaring, Surroundings};
@@ -41,11 +39,7 @@ fn keep(
 }
 
 // The characters of a string by its number, copied.
-fn characters_of(
-    state: &Declaring,
-    round: &Surroundings,
-    n: u32,
-) -> Result<Vec<u8>, CheckFault>
+fn characters_of(state: &Declaring, round: &Surroundings, n: u32) -> Result<Vec<u8>, CheckFault>
     ensures characters { IfOk result (λ v. v.items ≡ text_in round.now state.now n) }
     ensures memory { IfErr result (λ e. e ≡ CheckFault.Memory) }
 {
@@ -64,7 +58,7 @@ pub fn const_decl(
 ) -> Result<(), CheckFault>
     requires { IsSettled round.now state.old }
     ensures settled { OnOk result (IsSettled round.now state.new) }
-    ensures judged { (m : Making) → Makes round.now state.old m → Answers (Made round.now state.new) (const_part round.now.source.now (plain_const_decl tree.now) m) result }
+    ensures judged { Judges round.now state.old state.new (const_part round.now.source.now (plain_const_decl tree.now)) result }
 {
     state.stand(round, tree.name.name)?;
     let value = constant_at(state, round, tree)?;
@@ -78,7 +72,7 @@ fn constant_at(
     round: &Surroundings,
     tree: &ConstDecl,
 ) -> Result<ConstantValue, CheckFault>
-    ensures { (m : Making) → Makes round.now state.now m → Answers (IsValue round.now state.now) (judged_constant round.now.source.now m.world (plain_expression tree.now.value)) result }
+    ensures { JudgesHere (IsValue round.now state.now) round.now state.now (constant_part round.now.source.now tree.now.value) result }
 {
     let scope = state.scope(round);
     constant(&scope, round.alloc, &tree.value)
@@ -92,7 +86,7 @@ pub fn const_decls(
 ) -> Result<(), CheckFault>
     requires { IsSettled round.now state.old }
     ensures settled { OnOk result (IsSettled round.now state.new) }
-    ensures judged { (m : Making) → Makes round.now state.old m → Answers (Made round.now state.new) (each round.now.source.now (const_part round.now.source.now) (plain_each plain_const_decl trees.now) m) result }
+    ensures judged { Judges round.now state.old state.new (consts_part round.now.source.now trees.now) result }
 {
     for tree in trees {
         const_decl(state, round, tree)?;

@@ -1,4 +1,4 @@
-//! Declarations judged (Oberon-07 report, section 5).
+//! Declarations judged (Oberon-07 report, sections 5 and 7).
 //!
 //! Each function is a part of the judgement on the state between declarations (check_making): its clause `judged` says that
 //! from each state of the judgement that the code's stands for, its answer is the judgement's, and what the state then stands
@@ -6,5 +6,9 @@
 #![tactic(auto)]
 
 mod constants;
+mod lists;
+mod one_variable;
 
 pub use constants::{const_decl, const_decls};
+pub use lists::{stand_all, variables};
+pub use one_variable::variable;

@@ -3,7 +3,7 @@ use Rattle.std.specs.Prelude.{◌≡◌, ◌<◌, ℕ, List, [], ◌∷◌, ◌+
 use Rattle.ob_types.specs.Table.{Table}
 use Rattle.ob_judge.specs.Image.{Declared}
 use Rattle.ob_judge.specs.Shapes.{Shape}
-use Rattle.ob_judge.specs.Scopes.{World, Entry}
+use Rattle.ob_judge.specs.Scopes.{World, Entry, Object}
 use Rattle.ob_judge.specs.Standards.{predeclared}
 use Rattle.ob_judge.specs.Making.{Making, is_among, entity_of, declared_as}
 use Rattle.check_steps.specs.Maps.{at_bytes}
@@ -13,6 +13,7 @@ use Rattle.check_types.specs.TypeMeaning.{type_shape}
 use Rattle.check_types.specs.Known.{known_of}
 use Rattle.check_names.specs.declared.levels.Level.{Level}
 use Rattle.check_names.specs.declared.scope.Declared.{Declared as TheDeclared}
+use Rattle.check_names.specs.declared.scope.Named.{Named}
 use Rattle.check_names.specs.Meaning.{object_of, names_of, module_of}
 use Rattle.table_builder.specs.Entries.{IsNumbered, IsElement}
 use Rattle.table_builder.specs.Builder.{IsBuilt}
@@ -27,6 +28,14 @@ table_of s = s.types.table.types
 
 abbrev pub strings_of : Declaring → List (List ℕ)
 strings_of s = s.strings.items
+
+-- what a name stands for there
+abbrev pub object_in : Declaring → Named → Object
+object_in s n = object_of (table_of s) (strings_of s) n
+
+-- what a type is there
+abbrev pub shape_in : Declaring → TypeRef → Shape
+shape_in s k = type_shape (table_of s) k
 
 abbrev pub levels_of : Declaring → List (List ℕ → Option Entry)
 levels_of s = predeclared ∷ map (names_of (table_of s) (strings_of s)) s.levels.items

@@ -47,7 +47,8 @@ pub record NamedStays (t : TypeTable) (strings : List (List ℕ)) (n : Named) : 
 pub record IsDeclaredIn (old new : List Level) (at : ℕ) (name : List ℕ) (d : Declared) : Type 0 where
   pub level : Level
   pub set : new ≡ slice_set old at level
-  pub names : (l : Level) → slice_get old at ≡ Some l → (t : Table) (strings : List (List ℕ)) → names_of t strings level ≡ declare name (entry_of t strings d) (names_of t strings l)
+  pub names : (l : Level) → slice_get old at ≡ Some l → (t : Table) (strings : List (List ℕ))
+      → names_of t strings level ≡ declare name (entry_of t strings d) (names_of t strings l)
 
 -- the names of modules before stay, and the types that they stand for have numbers
 pub record AreSettled (t : TypeTable) (strings : List (List ℕ)) (ks : List KnownModule) : Type 0 where

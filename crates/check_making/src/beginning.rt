@@ -1,12 +1,11 @@
 //! The state where a module begins.
 
-ghost use Rattle.std.specs.Prelude.{◌≡◌, IfOk, length, map};
+ghost use Rattle.std.specs.Prelude.{IfOk};
 ghost use Rattle.ob_judge.specs.Modules.{SoFar, first_making};
-ghost use Rattle.check_types.specs.Known.{known_of};
-ghost use Rattle.check_names.specs.Meaning.{module_of};
 ghost use Rattle.table_builder.specs.Builder.{IsBuilt};
 ghost use Rattle.check_making.specs.Staying.{AreSettled};
 ghost use Rattle.check_making.specs.Making.{Makes, IsSettled};
+ghost use Rattle.check_making.specs.Parts.{IsNextModule};
 
 use crate::making::{Declaring, Surroundings};
 use check_names::Level;
@@ -26,7 +25,7 @@ impl Declaring {
         requires built { IsBuilt types }
         requires modules { AreSettled types.table strings.items round.now.modules.now }
         ensures settled { IfOk result (λ s. IsSettled round.now s) }
-        ensures judged { IfOk result (λ s. (c : SoFar) → c.imports_in ≡ imports_in → c.modules ≡ map (module_of types.table.types strings.items) round.now.modules.now → c.known ≡ known_of types.table → length c.modules ≡ round.now.module_number → Makes round.now s (first_making c)) }
+        ensures judged { IfOk result (λ s. (c : SoFar) → IsNextModule round.now types.table strings.items imports_in c → Makes round.now s (first_making c)) }
     {
         let mut levels = Vec::new(round.alloc);
         levels.push(Level {

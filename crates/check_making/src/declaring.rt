@@ -1,13 +1,10 @@
 //! Names that are known from here on.
 
 ghost use Rattle.std.specs.Prelude.{◌≡◌, ◌<◌, ◌-◌, ◌∷◌, ◌++◌, [], length, OnOk};
-ghost use Rattle.ob_judge.specs.Making.{Making};
 ghost use Rattle.ob_judge.specs.Parameters.{declared as judged_declared};
-ghost use Rattle.check_steps.specs.Answers.{Answers};
-ghost use Rattle.check_names.specs.Meaning.{object_of};
 ghost use Rattle.check_making.specs.Staying.{HasType, NamedStays, IsDeclaredIn};
-ghost use Rattle.check_making.specs.Making.{table_of, strings_of, offered_if, Makes, IsSettled};
-ghost use Rattle.check_making.specs.Parts.{Made};
+ghost use Rattle.check_making.specs.Making.{table_of, strings_of, object_in, offered_if, IsSettled};
+ghost use Rattle.check_making.specs.Parts.{Judges};
 
 use crate::making::{Declaring, Offered, Surroundings};
 use check_names::{Declared, Level, Named};
@@ -66,9 +63,10 @@ impl Declaring {
     ) -> Result<(), CheckFault>
         requires settled { IsSettled round.now self.old }
         requires stays { NamedStays self.old.types.table (strings_of self.old) named }
-        requires typed { HasType (table_of self.old) (object_of (table_of self.old) (strings_of self.old) named) }
+        requires typed { HasType (table_of self.old) (object_in self.old named) }
         ensures settled { OnOk result (IsSettled round.now self.new) }
-        ensures judged { (m : Making) → Makes round.now self.old m → Answers (Made round.now self.new) (judged_declared round.now.source.now ident.now (object_of (table_of self.old) (strings_of self.old) named) m) result }
+        ensures types { self.new.types ≡ self.old.types }
+        ensures judged { Judges round.now self.old self.new (judged_declared round.now.source.now ident.now (object_in self.old named)) result }
     {
         let name = round.source.spelled(ident.name);
         let declared = Declared {

@@ -1,13 +1,12 @@
 //! Names looked up between declarations.
 
 ghost use Rattle.std.specs.Prelude.{◌≡◌};
-ghost use Rattle.ob_judge.specs.Making.{Making};
 ghost use Rattle.ob_judge.specs.Names.{member_symbol as symbol_of};
 ghost use Rattle.ob_judge.specs.Scopes.{Source, World};
 ghost use Rattle.ob_judge.specs.Parameters.{type_at as judged_type};
-ghost use Rattle.check_steps.specs.Answers.{Answers};
 ghost use Rattle.check_names.specs.Worlds.{world_of};
-ghost use Rattle.check_making.specs.Making.{strings_of, world_in, Makes, IsSettled, IsTypeOf};
+ghost use Rattle.check_making.specs.Making.{strings_of, world_in, IsSettled, IsTypeOf};
+ghost use Rattle.check_making.specs.Parts.{JudgesHere};
 
 use crate::making::{Declaring, Surroundings};
 use check_names::Scope;
@@ -54,7 +53,7 @@ impl Declaring {
         qualident: &Qualident,
     ) -> Result<TypeRef, CheckFault>
         requires { IsSettled round.now self.now }
-        ensures { (m : Making) → Makes round.now self.now m → Answers (IsTypeOf self.now) (judged_type round.now.source.now number qualident.now m.world) result }
+        ensures { JudgesHere (IsTypeOf self.now) round.now self.now (judged_type round.now.source.now number qualident.now) result }
     {
         let scope = self.scope(round);
         scope.type_named(number, qualident.name, member_symbol(&qualident.member))

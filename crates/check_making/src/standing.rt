@@ -1,11 +1,9 @@
 //! Names that stand in the innermost scope.
 
 ghost use Rattle.std.specs.Prelude.{◌≡◌, [], ◌∷◌, OnOk};
-ghost use Rattle.ob_judge.specs.Making.{Making};
 ghost use Rattle.ob_judge.specs.Parameters.{stand as judged_stand};
-ghost use Rattle.check_steps.specs.Answers.{Answers};
-ghost use Rattle.check_making.specs.Making.{Makes, IsSettled};
-ghost use Rattle.check_making.specs.Parts.{Made};
+ghost use Rattle.check_making.specs.Making.{IsSettled};
+ghost use Rattle.check_making.specs.Parts.{Judges};
 
 use crate::making::{Declaring, Surroundings};
 use check_steps::CheckFault;
@@ -15,7 +13,8 @@ impl Declaring {
     pub fn stand(&mut self, round: &Surroundings, i: u32) -> Result<(), CheckFault>
         requires { IsSettled round.now self.old }
         ensures settled { OnOk result (IsSettled round.now self.new) }
-        ensures judged { (m : Making) → Makes round.now self.old m → Answers (Made round.now self.new) (judged_stand round.now.source.now (i ∷ []) m) result }
+        ensures types { self.new.types ≡ self.old.types }
+        ensures judged { Judges round.now self.old self.new (judged_stand round.now.source.now (i ∷ [])) result }
     {
         let name = round.source.spelled(i);
         if self.standing.contains_key(name) {

@@ -4,14 +4,12 @@ ghost use Rattle.std.specs.Prelude.{◌≡◌, ◌<◌, length, Ok, OnOk, IfOk, 
 ghost use Rattle.ob_judge.specs.Making.{Making};
 ghost use Rattle.ob_judge.specs.Making.{new_record as judged_record, new_pointer as judged_pointer, set_base as judged_base, set_record as judged_layout};
 ghost use Rattle.ob_judge.specs.Shapes.{Array};
-ghost use Rattle.check_steps.specs.Answers.{Answers};
 ghost use Rattle.check_types.specs.Known.{layout_of};
-ghost use Rattle.check_types.specs.TypeMeaning.{type_shape};
 ghost use Rattle.table_builder.specs.Entries.{IsElement};
 ghost use Rattle.table_builder.specs.Contents.{IsReady};
 ghost use Rattle.table_builder.specs.Growing.{Grows};
-ghost use Rattle.check_making.specs.Making.{table_of, Makes, IsSettled, IsTypeOf};
-ghost use Rattle.check_making.specs.Parts.{Made, Gave, IsRecord, IsPointer};
+ghost use Rattle.check_making.specs.Making.{table_of, shape_in, Makes, IsSettled, IsTypeOf};
+ghost use Rattle.check_making.specs.Parts.{Judges, JudgesAs, IsRecord, IsPointer};
 
 use crate::making::{Declaring, Surroundings};
 use check_steps::CheckFault;
@@ -30,7 +28,7 @@ impl Declaring {
     pub fn new_record(&mut self, round: &Surroundings) -> Result<u32, CheckFault>
         requires { IsSettled round.now self.old }
         ensures settled { OnOk result (IsSettled round.now self.new) }
-        ensures judged { (m : Making) → Makes round.now self.old m → Answers (Gave (IsRecord self.new) round.now self.new) (judged_record m) result }
+        ensures judged { JudgesAs (IsRecord self.new) round.now self.old self.new judged_record result }
         ensures grows { Grows self.old.types.table self.new.types.table }
     {
         match self.types.new_record() {
@@ -43,7 +41,7 @@ impl Declaring {
     pub fn new_pointer(&mut self, round: &Surroundings) -> Result<u32, CheckFault>
         requires { IsSettled round.now self.old }
         ensures settled { OnOk result (IsSettled round.now self.new) }
-        ensures judged { (m : Making) → Makes round.now self.old m → Answers (Gave (IsPointer self.new) round.now self.new) (judged_pointer m) result }
+        ensures judged { JudgesAs (IsPointer self.new) round.now self.old self.new judged_pointer result }
         ensures grows { Grows self.old.types.table self.new.types.table }
     {
         match self.types.new_pointer() {
@@ -57,7 +55,7 @@ impl Declaring {
         requires settled { IsSettled round.now self.old }
         requires pointer { pointer < length self.old.types.table.bases.items }
         ensures settled { IsSettled round.now self.new }
-        ensures judged { (m : Making) → Makes round.now self.old m → Answers (Made round.now self.new) (judged_base pointer r m) (Ok tt) }
+        ensures judged { Judges round.now self.old self.new (judged_base pointer r) (Ok tt) }
         ensures grows { Grows self.old.types.table self.new.types.table }
     {
         self.types.set_base(pointer, r);
@@ -74,7 +72,7 @@ impl Declaring {
         requires ready { IsReady self.old.types.table.entries.items layout }
         requires there { r < length self.old.types.table.layouts.items }
         ensures settled { OnOk result (IsSettled round.now self.new) }
-        ensures judged { (m : Making) → Makes round.now self.old m → Answers (Made round.now self.new) (judged_layout r (layout_of (table_of self.old) layout) m) result }
+        ensures judged { Judges round.now self.old self.new (judged_layout r (layout_of (table_of self.old) layout)) result }
         ensures grows { Grows self.old.types.table self.new.types.table }
     {
         match self.types.set_record(r, layout) {
@@ -94,7 +92,7 @@ impl Declaring {
         requires element { IsElement self.old.types.table.entries.items element }
         ensures makes { OnOk result ((m : Making) → Makes round.now self.old m → Makes round.now self.new m) }
         ensures settled { OnOk result (IsSettled round.now self.new) }
-        ensures shape { IfOk result (λ k. IsTypeOf self.new k (Array length (type_shape (table_of self.old) element))) }
+        ensures shape { IfOk result (λ k. IsTypeOf self.new k (Array length (shape_in self.old element))) }
         ensures memory { IfErr result (λ e. e ≡ CheckFault.Memory) }
         ensures grows { Grows self.old.types.table self.new.types.table }
     {

@@ -1,5 +1,8 @@
 -- What a builder of a table keeps.
-use Rattle.std.specs.Prelude.{◌≡◌, ◌-◌, ◌≤◌, ℕ, List, [], ◌∷◌, length, true, Option, Some, None, slice_get}
+use Rattle.std.specs.Prelude.{◌≡◌, ◌-◌, ◌≤◌, ℕ, List, [], ◌∷◌, length, true, cond, Option, Some, None, Vec, slice_get}
+use Rattle.std.specs.BTreeMap.{BTreeMap}
+use Rattle.std.specs.Global.{Global}
+use Rattle.std.specs.Str.{bytes_eq}
 use Rattle.ob_types.specs.declared.types.Field.{Field}
 use Rattle.ob_types.specs.declared.types.RecordType.{RecordType}
 use Rattle.check_steps.specs.Maps.{at_bytes}
@@ -57,7 +60,13 @@ pub record Contents : Type 0 where
   pub notes : Notes
 
 abbrev pub notes_of : Numbers → Notes
-notes_of s = record { records = s.records.items; pointers = s.pointers.items; procedures = s.procedures.items; arrays = at_bytes s.arrays; signatures = at_bytes s.signatures }
+notes_of s = record {
+  records = s.records.items;
+  pointers = s.pointers.items;
+  procedures = s.procedures.items;
+  arrays = at_bytes s.arrays;
+  signatures = at_bytes s.signatures;
+}
 
 abbrev pub contents_of : TypeTable → Numbers → Contents
 contents_of t s = record { types = t.types; entries = t.entries.items; bases = t.bases.items; layouts = t.layouts.items; notes = notes_of s }
@@ -93,3 +102,7 @@ pub record IsBlank (l : Layout) : Type 0 where
   pub added : l.added.items ≡ []
   pub fields : (q : List ℕ) → at_bytes l.fields q ≡ None
   pub cells : l.cells ≡ 0
+
+-- a map with this number at these parts, and otherwise what it was
+abbrev pub IsNotedIn : (old new : BTreeMap (Vec ℕ Global) ℕ) → List ℕ → ℕ → Type 0
+IsNotedIn old new parts n = (q : List ℕ) → at_bytes new q ≡ cond (bytes_eq parts q) (Some n) (at_bytes old q)

@@ -1,15 +1,14 @@
 //! A table of types while declarations are judged.
 
 ghost use Rattle.std.specs.Prelude.{◌≡◌, ◌<◌, ◌∷◌, ◌++◌, [], ℕ, Some, None, slice_get, slice_set, length, IfOk, OnOk, OnErr};
-ghost use Rattle.ob_judge.specs.Shapes.{Array, Open, Procedure};
-ghost use Rattle.ob_judge.specs.Making.{no_layout};
-ghost use Rattle.judged_tree.specs.TypeShapes.{shape_of, shapes_of, formals_shape};
+ghost use Rattle.ob_judge.specs.Shapes.{Array, Open};
+ghost use Rattle.judged_tree.specs.TypeShapes.{shape_of};
 ghost use Rattle.judged_tree.specs.Tables.{are_before, is_before, IsFromTheFront, HasEachOnce};
 ghost use Rattle.check_steps.specs.Maps.{at_bytes};
 ghost use Rattle.check_types.specs.TypeMeaning.{type_shape};
 ghost use Rattle.check_types.specs.Known.{known_of, layout_of};
 ghost use Rattle.table_builder.specs.Entries.{IsNumbered, IsElement, HasWholeElements};
-ghost use Rattle.table_builder.specs.Growing.{Grows};
+ghost use Rattle.table_builder.specs.Growing.{Grows, with_blank_record, with_blank_pointer, with_layout, with_base, procedure_shape};
 ghost use Rattle.table_builder.specs.Index.{IsArray, basic_types, signature_parts as parts_of};
 ghost use Rattle.table_builder.specs.Builder.{IsBuilt};
 ghost use Rattle.table_builder.specs.Contents.{IsReady};
@@ -151,7 +150,7 @@ impl TableBuilder {
         ensures built { IsBuilt self.new }
         ensures grows { Grows self.old.table self.new.table }
         ensures number { IfOk result (λ r. r ≡ length (known_of self.old.table).records) }
-        ensures known { OnOk result (known_of self.new.table ≡ record (known_of self.old.table) { records = (known_of self.old.table).records ++ no_layout ∷ [] }) }
+        ensures known { OnOk result (known_of self.new.table ≡ with_blank_record (known_of self.old.table)) }
         ensures element { IfOk result (λ r. IsElement self.new.table.entries.items (TypeRef.Record r)) }
         ensures same { OnErr result (known_of self.new.table ≡ known_of self.old.table) }
     {
@@ -175,7 +174,7 @@ impl TableBuilder {
         ensures built { IsBuilt self.new }
         ensures grows { Grows self.old.table self.new.table }
         ensures number { IfOk result (λ p. p ≡ length (known_of self.old.table).bases) }
-        ensures known { OnOk result (known_of self.new.table ≡ record (known_of self.old.table) { bases = (known_of self.old.table).bases ++ None ∷ [] }) }
+        ensures known { OnOk result (known_of self.new.table ≡ with_blank_pointer (known_of self.old.table)) }
         ensures element { IfOk result (λ p. IsElement self.new.table.entries.items (TypeRef.Pointer p)) }
         ensures same { OnErr result (known_of self.new.table ≡ known_of self.old.table) }
     {
@@ -197,7 +196,7 @@ impl TableBuilder {
         requires pointer { pointer < length self.old.table.bases.items }
         ensures built { IsBuilt self.new }
         ensures grows { Grows self.old.table self.new.table }
-        ensures known { known_of self.new.table ≡ record (known_of self.old.table) { bases = slice_set (known_of self.old.table).bases pointer (Some r) } }
+        ensures known { known_of self.new.table ≡ with_base pointer r (known_of self.old.table) }
     {
         let n = self.number(TypeRef::Pointer(pointer));
         set_target(&mut self.table, n, pointer, r);
@@ -212,7 +211,7 @@ impl TableBuilder {
         ensures grows { Grows self.old.table self.new.table }
         ensures known { known_of self.new.table ≡ known_of self.old.table }
         ensures element { IfOk result (λ k. IsElement self.new.table.entries.items k) }
-        ensures shape { IfOk result (λ k. type_shape self.new.table.types k ≡ Procedure (formals_shape (shapes_of self.old.table.types) formals) (shape_of self.old.table.types result_type)) }
+        ensures shape { IfOk result (λ k. type_shape self.new.table.types k ≡ procedure_shape self.old.table.types formals result_type) }
     {
         let parts = signature_parts(self.alloc, formals.as_slice(), result_type)?;
         if let Some(g) = self.numbers.signature(&parts) {
@@ -235,7 +234,7 @@ impl TableBuilder {
         ensures grows { Grows self.old.table self.new.table }
         ensures known { known_of self.new.table ≡ known_of self.old.table }
         ensures element { IfOk result (λ k. IsElement self.new.table.entries.items k) }
-        ensures shape { IfOk result (λ k. type_shape self.new.table.types k ≡ Procedure (formals_shape (shapes_of self.old.table.types) signature.formals) (shape_of self.old.table.types signature.result)) }
+        ensures shape { IfOk result (λ k. type_shape self.new.table.types k ≡ procedure_shape self.old.table.types signature.formals signature.result) }
     {
         let g = next_number(self.table.types.signatures())?;
         let n = next_number(&self.table.entries)?;
@@ -257,7 +256,7 @@ impl TableBuilder {
         requires there { r < length self.old.table.layouts.items }
         ensures built { IsBuilt self.new }
         ensures grows { Grows self.old.table self.new.table }
-        ensures known { OnOk result (known_of self.new.table ≡ record (known_of self.old.table) { records = slice_set (known_of self.old.table).records r (layout_of self.old.table.types layout) }) }
+        ensures known { OnOk result (known_of self.new.table ≡ with_layout r (layout_of self.old.table.types layout) (known_of self.old.table)) }
         ensures same { OnErr result (known_of self.new.table ≡ known_of self.old.table) }
     {
         let declared = self.declared(&layout)?;

@@ -2,6 +2,7 @@
 
 ghost use Rattle.std.specs.Prelude.{◌≡◌, ◌<◌, ◌-◌, ℕ, true, [], ◌∷◌, ◌++◌, Some, None, length, take, slice_get, slice_set, OnOk, OnErr};
 ghost use Rattle.check_types.specs.TypeMeaning.{kind_of_type};
+ghost use Rattle.table_builder.specs.Growing.{with_kind, with_record_type, with_procedure_type};
 ghost use Rattle.table_builder.specs.Sound.{IsSound, IsNext, IsNewSignature};
 
 use check_types::{Layout, TypeRef, TypeTable};
@@ -13,7 +14,7 @@ pub fn push_entry(table: &mut TypeTable, of: TypeRef) -> Result<(), Memory>
     requires sound { IsSound table.old.types table.old.entries.items table.old.bases.items }
     requires next { IsNext table.old.types.signatures table.old.entries.items of }
     ensures entries { OnOk result (table.new.entries.items ≡ table.old.entries.items ++ of ∷ []) }
-    ensures types { OnOk result (table.new.types ≡ record table.old.types { kinds = table.old.types.kinds ++ kind_of_type table.old.bases.items of ∷ [] }) }
+    ensures types { OnOk result (table.new.types ≡ with_kind table.old.types (kind_of_type table.old.bases.items of)) }
     ensures sound { OnOk result (IsSound table.new.types table.new.entries.items table.new.bases.items) }
     ensures same_entries { OnErr result (table.new.entries.items ≡ table.old.entries.items) }
     ensures same_types { OnErr result (table.new.types ≡ table.old.types) }
@@ -56,7 +57,7 @@ fn push_declared(table: &mut TypeTable, declared: RecordType, r: u32) -> Result<
     requires sound { IsSound table.old.types table.old.entries.items table.old.bases.items }
     requires next { IsNext table.old.types.signatures table.old.entries.items (TypeRef.Record r) }
     ensures entries { OnOk result (table.new.entries.items ≡ table.old.entries.items ++ TypeRef.Record r ∷ []) }
-    ensures types { OnOk result (table.new.types ≡ record table.old.types { kinds = table.old.types.kinds ++ TypeKind.Record r ∷ []; records = table.old.types.records ++ declared ∷ [] }) }
+    ensures types { OnOk result (table.new.types ≡ with_record_type table.old.types r declared) }
     ensures sound { OnOk result (IsSound table.new.types table.new.entries.items table.new.bases.items) }
     ensures same_entries { OnErr result (table.new.entries.items ≡ table.old.entries.items) }
     ensures same_types { OnErr result (table.new.types ≡ table.old.types) }
@@ -83,7 +84,7 @@ pub fn push_record(
     requires sound { IsSound table.old.types table.old.entries.items table.old.bases.items }
     requires next { IsNext table.old.types.signatures table.old.entries.items (TypeRef.Record r) }
     ensures entries { OnOk result (table.new.entries.items ≡ table.old.entries.items ++ TypeRef.Record r ∷ []) }
-    ensures types { OnOk result (table.new.types ≡ record table.old.types { kinds = table.old.types.kinds ++ TypeKind.Record r ∷ []; records = table.old.types.records ++ declared ∷ [] }) }
+    ensures types { OnOk result (table.new.types ≡ with_record_type table.old.types r declared) }
     ensures layouts { OnOk result (table.new.layouts.items ≡ table.old.layouts.items ++ layout ∷ []) }
     ensures sound { OnOk result (IsSound table.new.types table.new.entries.items table.new.bases.items) }
     ensures same_entries { OnErr result (table.new.entries.items ≡ table.old.entries.items) }
@@ -107,7 +108,7 @@ pub fn push_pointer(table: &mut TypeTable, p: u32) -> Result<(), Memory>
     requires next { IsNext table.old.types.signatures table.old.entries.items (TypeRef.Pointer p) }
     requires number { p ≡ length table.old.bases.items }
     ensures entries { OnOk result (table.new.entries.items ≡ table.old.entries.items ++ TypeRef.Pointer p ∷ []) }
-    ensures types { OnOk result (table.new.types ≡ record table.old.types { kinds = table.old.types.kinds ++ TypeKind.Pointer 0 ∷ [] }) }
+    ensures types { OnOk result (table.new.types ≡ with_kind table.old.types (TypeKind.Pointer 0)) }
     ensures bases { OnOk result (table.new.bases.items ≡ table.old.bases.items ++ None ∷ []) }
     ensures sound { OnOk result (IsSound table.new.types table.new.entries.items table.new.bases.items) }
     ensures same_entries { OnErr result (table.new.entries.items ≡ table.old.entries.items) }
@@ -131,7 +132,7 @@ pub fn push_procedure(table: &mut TypeTable, signature: Signature, g: u32) -> Re
     requires new { IsNewSignature table.old.types.signatures signature }
     requires next { IsNext (table.old.types.signatures ++ signature ∷ []) table.old.entries.items (TypeRef.Procedure g) }
     ensures entries { OnOk result (table.new.entries.items ≡ table.old.entries.items ++ TypeRef.Procedure g ∷ []) }
-    ensures types { OnOk result (table.new.types ≡ record table.old.types { kinds = table.old.types.kinds ++ TypeKind.Procedure g ∷ []; signatures = table.old.types.signatures ++ signature ∷ [] }) }
+    ensures types { OnOk result (table.new.types ≡ with_procedure_type table.old.types g signature) }
     ensures sound { OnOk result (IsSound table.new.types table.new.entries.items table.new.bases.items) }
     ensures same_entries { OnErr result (table.new.entries.items ≡ table.old.entries.items) }
     ensures same_types { OnErr result (table.new.types ≡ table.old.types) }

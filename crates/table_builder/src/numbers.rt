@@ -4,7 +4,7 @@ ghost use Rattle.std.specs.Prelude.{◌≡◌, List, ℕ, [], ◌∷◌, ◌++�
 ghost use Rattle.std.specs.Str.{bytes_eq};
 ghost use Rattle.check_steps.specs.Maps.{at_bytes};
 ghost use Rattle.table_builder.specs.Index.{number_in, array_parts, open_parts};
-ghost use Rattle.table_builder.specs.Contents.{notes_of};
+ghost use Rattle.table_builder.specs.Contents.{notes_of, IsNotedIn};
 
 use check_types::TypeRef;
 use outside::Memory;
@@ -39,7 +39,7 @@ pub fn note(
     parts: &[u32],
     n: u32,
 ) -> Result<(), Memory>
-    ensures ok { OnOk result ((q : List ℕ) → at_bytes map.new q ≡ cond (bytes_eq parts.now q) (Some n) (at_bytes map.old q)) }
+    ensures ok { OnOk result (IsNotedIn map.old map.new parts.now n) }
     ensures err { OnErr result ((q : List ℕ) → at_bytes map.new q ≡ at_bytes map.old q) }
 {
     let key = Vec::from_slice(alloc, parts)?;
@@ -112,7 +112,7 @@ impl Numbers {
         n: u32,
     ) -> Result<(), Memory>
         ensures procedures { OnOk result (self.new.procedures.items ≡ self.old.procedures.items ++ n ∷ []) }
-        ensures signatures { OnOk result ((q : List ℕ) → at_bytes self.new.signatures q ≡ cond (bytes_eq parts.now q) (Some g) (at_bytes self.old.signatures q)) }
+        ensures signatures { OnOk result (IsNotedIn self.old.signatures self.new.signatures parts.now g) }
         ensures others { self.new ≡ record self.old { procedures = self.new.procedures; signatures = self.new.signatures } }
         ensures same_procedures { OnErr result (self.new.procedures.items ≡ self.old.procedures.items) }
         ensures same_signatures { OnErr result ((q : List ℕ) → at_bytes self.new.signatures q ≡ at_bytes self.old.signatures q) }

@@ -1,4 +1,4 @@
-use Rattle.std.proofs.Common.{◌≡◌, subst, Ok, Err, arith}
+use Rattle.std.proofs.Common.{subst, Ok, Err, arith}
 use Rattle.std.proofs.lemmas.List.{drop_all}
 use Rattle.check_steps.specs.Answers.{Answers}
 use Rattle.check_steps.proofs.Answering.{exit, Judging}

@@ -1,8 +1,5 @@
-use Rattle.std.proofs.Common.{drop, List}
-use Rattle.ob_syntax.specs.declared.declarations.ConstDecl.{ConstDecl}
-use Rattle.ob_syntax.specs.Plain.{plain_const_decl, plain_each}
+use Rattle.std.proofs.Common.{drop}
 use Rattle.ob_judge.specs.Making.{Making}
-use Rattle.ob_judge.specs.Declarations.{const_part, each}
 use Rattle.check_steps.proofs.Answering.{Judging}
 use Rattle.check_making.specs.Making.{Makes, IsSettled}
 use Rattle.check_declared.proofs.Parts.{StateMakes}
