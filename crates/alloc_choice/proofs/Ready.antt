@@ -20,7 +20,7 @@ use Rattle.alloc_choice.specs.Tasks.{task_case, IsReady, AreResults}
 use Rattle.alloc_choice.specs.Places.{hint_by, if_row}
 use Rattle.alloc_choice.proofs.Hinted.{ready}
 
-length-results_to : (p : Policy) (x : Case) (first : ℕ) (traces : List Trace) (n : ℕ) → length (results_to p x first traces n) ≡ n
+pub length-results_to : (p : Policy) (x : Case) (first : ℕ) (traces : List Trace) (n : ℕ) → length (results_to p x first traces n) ≡ n
 length-results_to p x first traces zero = refl
 length-results_to p x first traces (suc n) =
     let e = length-append (results_to p x first traces n) (result_at p x first traces (results_to p x first traces n) n ∷ []) in

@@ -1,45 +1,17 @@
 //! Images, and how they are printed.
 
-ghost use Rattle.std.specs.Prelude.{◌≤◌};
-
 use crate::Module;
-use crate::results::results;
-use boundary_resolve::{Placed, resolve};
-use global_live::live;
+use flow_allocation::{AllocatedFlows, Builder, Choice, Policy, allocate_flows};
 use link_plan::{Bytes, Data, Image, LinkFault, link};
-use lir_core::{Flow, TraceOut};
 use outside::Memory;
 use std::alloc::{AllocError, Global};
-use trace_build::{Builder, build};
-
-/// The results of flows, and their lines in code order.
-#[derive(Drop)]
-struct Laid {
-    outs: Vec<Vec<TraceOut>>,
-    parts: Vec<Vec<Placed>>,
-}
-
-fn laid_out(alloc: Global, flows: &[Flow], linear: bool, regs: u8) -> Result<Laid, Memory>
-    requires enough { 4 ≤ regs }
-    requires few { regs ≤ 16 }
-{
-    let mut laid = Laid {
-        outs: Vec::new(alloc),
-        parts: Vec::new(alloc),
-    };
-    for flow in flows {
-        let live = live(alloc, flow)?;
-        let traces = build(alloc, Builder::Bi, flow)?;
-        let outs = results(alloc, flow, &live, traces.as_slice(), linear, regs)?;
-        let part = resolve(alloc, flow, traces.as_slice(), outs.as_slice())?;
-        laid.outs.push(outs)?;
-        laid.parts.push(part)?;
-    }
-    Ok(laid)
-}
 
 /// The image of a module, or why there is none.
-fn linked(alloc: Global, module: &Module, laid: &Laid) -> Result<Result<Image, LinkFault>, Memory> {
+fn linked(
+    alloc: Global,
+    module: &Module,
+    allocated: &AllocatedFlows,
+) -> Result<Result<Image, LinkFault>, Memory> {
     let constants = Vec::from_slice(alloc, module.constants.as_slice())?;
     let fits = module.flags < 2 && module.globals <= 8_388_608 && constants.len() <= 2_097_152;
     let whole = module.globals % 8 == 0 && constants.len() % 8 == 0;
@@ -58,8 +30,8 @@ fn linked(alloc: Global, module: &Module, laid: &Laid) -> Result<Result<Image, L
     Ok(link(
         alloc,
         flows,
-        laid.parts.as_slice(),
-        laid.outs.as_slice(),
+        allocated.parts.as_slice(),
+        allocated.outs.as_slice(),
         data,
     ))
 }
@@ -108,9 +80,19 @@ pub(crate) fn answer(
     if regs < 4 || regs > 16 {
         return Ok(text);
     }
-    let laid = laid_out(alloc, module.flows.as_slice(), linear, regs)?;
+    let choice = Choice {
+        policy: if linear {
+            Policy::Linear
+        } else {
+            Policy::Plain
+        },
+        builder: Builder::Bi,
+        regs,
+        jobs: 1,
+    };
+    let allocated = allocate_flows(alloc, &choice, module.flows.as_slice())?;
     for _ in 0..times {
-        text = match linked(alloc, module, &laid)? {
+        text = match linked(alloc, module, &allocated)? {
             Ok(image) => text_of(alloc, &image, all)?,
             Err(LinkFault::Limit) => String::from_str(alloc, "limit\n")?,
             Err(LinkFault::Misfit) => String::from_str(alloc, "misfit\n")?,

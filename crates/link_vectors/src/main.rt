@@ -15,7 +15,6 @@
 
 mod images;
 mod orders;
-mod results;
 
 use flow_text::{Words, flow_in};
 use images::answer;
