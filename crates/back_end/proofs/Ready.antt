@@ -1,0 +1,83 @@
+-- What linking asks, from what allocation gives.
+use Rattle.std.proofs.Common.{◌≡◌, ℕ, zero, suc, true, ◌+◌, ◌<◌, ◌≤◌, ◌^◌, List, [], ◌∷◌, map, drop, length, sym, ◌∙◌, subst, arith, false}
+use Rattle.std.specs.Prelude.{All}
+use Rattle.block_runs.specs.Blocks.{Operation, block_at}
+use Rattle.ssa_core.specs.declared.procedure.Proc.{Proc}
+use Rattle.lir_core.specs.declared.flow.Flow.{Flow}
+use Rattle.lir_core.specs.Flows.{code_nodes, IsValidFlow}
+use Rattle.a64_select.specs.Selected.{selected}
+use Rattle.a64_select.proofs.FlowValid.{selected_valid}
+use Rattle.placed_code.specs.Claims.{IsNumber}
+use Rattle.linked_flows.specs.Allocations.{Cut}
+use Rattle.boundary_resolve.specs.declared.placed.Placed.{Placed as Line}
+use Rattle.lir_core.specs.declared.places.TraceOut.{TraceOut}
+use Rattle.link_plan.specs.Linked.{IsAllocated, AreCuts}
+use Rattle.alloc_choice.specs.declared.choice.Choice.{Choice}
+use Rattle.flow_allocation.specs.Allocations.{IsAllocation, AllAllocations, AreAllocated}
+use Rattle.back_end.specs.Images.{IsReady, AreCutsOf}
+use Rattle.back_end.specs.Numbers.{node_numbers}
+use Rattle.back_end.proofs.Reading.{of_nodes}
+
+-- what linking asks of a flow besides its result
+record CanPlace (f : Flow) : Type 0 where
+  numbers : (b i : ℕ) (op : Operation) (rest : List Operation) → drop i (block_at (code_nodes f.nodes) b).ops ≡ op ∷ rest → IsNumber op.code
+  local_data : (f.local_cells < 2 ^ 64) × (f.local_bytes < 2 ^ 24)
+  body : f.counted ≡ false → f.args ≡ 0
+
+can_place : (p : Proc) → IsReady p → node_numbers (selected p).nodes ≡ true → CanPlace (selected p)
+can_place p r numbers = record { numbers = of_nodes (selected p).nodes numbers; local_data = r.local_data; body = r.body }
+
+-- all operations of these flows have numbers of 64 bits
+abbrev pub HaveNumbers : List Flow → Type 0
+HaveNumbers flows = All (λ (f : Flow). node_numbers f.nodes ≡ true) flows
+
+allocated : (choice : Choice) (first : ℕ) (c : Cut) → IsAllocation choice first c → CanPlace c.flow → IsAllocated choice.regs c
+allocated choice first c a can = record { sound = a.sound; paths = a.paths; numbers = can.numbers; local_data = can.local_data; body = can.body }
+
+all_allocated : (choice : Choice) (first : ℕ) (procs : List Proc) (cuts : List Cut) → All IsReady procs → HaveNumbers (map selected procs) → map (λ c. c.flow) cuts ≡ map selected procs → AllAllocations choice first cuts
+    → (q : ℕ) (c : Cut) (rest : List Cut) → drop q cuts ≡ c ∷ rest → IsAllocated choice.regs c
+all_allocated choice first procs [] ready numbers same each zero c rest e = cc
+all_allocated choice first procs [] ready numbers same each (suc q) c rest e = cc
+all_allocated choice first [] (d ∷ cuts) ready numbers same each q c rest e = absurd (let z : d.flow ∷ map (λ x. x.flow) cuts ≡ [] = same in cc)
+all_allocated choice first (p ∷ procs) (d ∷ cuts) ready numbers same each zero c rest e =
+    let flow : d.flow ≡ selected p = cc in
+    let is : d ≡ c = cc in
+    subst (IsAllocated choice.regs) is (allocated choice first d each.0 (subst CanPlace (sym flow) (can_place p (ready 0 p (omega arith)) (numbers 0 (selected p) (omega arith)))))
+all_allocated choice first (p ∷ procs) (d ∷ cuts) ready numbers same each (suc q) c rest e =
+    let rest_same : map (λ (x : Cut). x.flow) cuts ≡ map selected procs = cc in
+    all_allocated choice (first + length d.traces) procs cuts (λ k x n. ready (suc k) x (omega (arith, n))) (λ k x n. numbers (suc k) x (omega (arith, n))) rest_same each.1 q c rest e
+
+pub are_cuts_of : (choice : Choice) (procs : List Proc) (parts : List (List Line)) (outs : List (List TraceOut)) (n : ℕ) (h : AreAllocated choice (map selected procs) parts outs n) → AreCutsOf choice procs h.cuts
+are_cuts_of choice procs parts outs n h = record { flows = sym h.flows_are; each = h.each }
+
+pub are_cuts : (choice : Choice) (procs : List Proc) (parts : List (List Line)) (outs : List (List TraceOut)) (n : ℕ) (h : AreAllocated choice (map selected procs) parts outs n) → choice.regs ≤ 16 → All IsReady procs → HaveNumbers (map selected procs)
+    → AreCuts choice.regs (map selected procs) parts outs h.cuts
+are_cuts choice procs parts outs n h few ready numbers = record {
+  flows_are = h.flows_are;
+  parts_are = h.parts_are;
+  outs_are = h.outs_are;
+  few = few;
+  each = all_allocated choice 0 procs h.cuts ready numbers (sym h.flows_are) h.each;
+}
+
+-- the flows of valid procedures are valid
+pub valid_flows : (procs : List Proc) → All IsReady procs → All IsValidFlow (map selected procs)
+valid_flows [] ready k f n = absurd (omega (arith, n))
+valid_flows (p ∷ procs) ready zero f n = selected_valid p (ready 0 p (omega arith)).valid
+valid_flows (p ∷ procs) ready (suc k) f n = valid_flows procs (λ i x m. ready (suc i) x (omega (arith, m))) k f (omega (arith, n))
+
+-- what passes give, in the words of the procedures and of linking
+module _ (choice : Choice) (procs : List Proc) (ready : All IsReady procs) (few : choice.regs ≤ 16) (flows : List Flow) (same : flows ≡ map selected procs) (numbers : HaveNumbers flows) where
+  pub valid_there : (fs : List Flow) → fs ≡ flows → All IsValidFlow fs
+  valid_there fs e = subst (All IsValidFlow) (sym (e ∙ same)) (valid_flows procs ready)
+
+  pub allocated_there : (fs : List Flow) → fs ≡ flows → (parts : List (List Line)) (outs : List (List TraceOut)) (n : ℕ) → AreAllocated choice fs parts outs n → AreAllocated choice (map selected procs) parts outs n
+  allocated_there fs e parts outs n h = subst (λ xs. AreAllocated choice xs parts outs n) (e ∙ same) h
+
+  pub cuts_there : (parts : List (List Line)) (outs : List (List TraceOut)) (n : ℕ) (h : AreAllocated choice (map selected procs) parts outs n) (fs : List Flow) → fs ≡ flows
+      → (ps : List (List Line)) → ps ≡ parts → (os : List (List TraceOut)) → os ≡ outs → AreCuts choice.regs fs ps os h.cuts
+  cuts_there parts outs n h fs e ps f os g =
+      subst (λ (xs : List Flow). AreCuts choice.regs xs ps os h.cuts) (sym (e ∙ same))
+      (subst (λ (xs : List (List Line)). AreCuts choice.regs (map selected procs) xs os h.cuts) (sym f)
+      (subst (λ (xs : List (List TraceOut)). AreCuts choice.regs (map selected procs) parts xs h.cuts) (sym g)
+      (are_cuts choice procs parts outs n h few ready (subst HaveNumbers same numbers))))

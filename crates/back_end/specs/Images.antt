@@ -1,0 +1,30 @@
+-- Which image procedures have.
+use Rattle.std.specs.Prelude.{◌≡◌, ℕ, ◌<◌, ◌≤◌, ◌^◌, List, map, get_or, false}
+use Rattle.a64_memory.specs.Memory.{AreBytes}
+use Rattle.image_form.specs.declared.image.Image.{Image}
+use Rattle.ssa_core.specs.declared.procedure.Proc.{Proc}
+use Rattle.ssa_core.specs.Validity.{IsValid}
+use Rattle.a64_select.specs.Selected.{selected}
+use Rattle.linked_flows.specs.Allocations.{Cut}
+use Rattle.link_plan.specs.Linked.{linked, Runs}
+use Rattle.alloc_choice.specs.declared.choice.Choice.{Choice}
+use Rattle.flow_allocation.specs.Allocations.{AllAllocations, trace_count}
+
+-- a valid procedure with few local data; a module's body takes no arguments
+pub record IsReady (p : Proc) : Type 0 where
+  pub valid : IsValid p
+  pub local_data : (p.local_cells < 2 ^ 64) × (p.local_bytes < 2 ^ 24)
+  pub body : p.counted ≡ false → p.args ≡ 0
+
+-- the flows of procedures in traces with final results, by the choice
+pub record AreCutsOf (choice : Choice) (procs : List Proc) (cuts : List Cut) : Type 0 where
+  pub flows : map (λ c. c.flow) cuts ≡ map selected procs
+  pub each : AllAllocations choice 0 cuts
+
+-- these, at most 262,144 traces, linked; the machine that runs the image is in step with what they keep up with
+pub record IsImageBy (choice : Choice) (procs : List Proc) (flags globals : ℕ) (constants : List ℕ) (image : Image) : Type 0 where
+  pub cuts : List Cut
+  pub are : AreCutsOf choice procs cuts
+  pub few : trace_count cuts ≤ 262144
+  pub is : image ≡ linked cuts flags globals constants
+  pub runs : (input : List ℕ) → AreBytes constants → ((i : ℕ) → get_or input i 0 < 2 ^ 64) → Runs image cuts globals constants input

@@ -1,0 +1,79 @@
+//! The image of procedures.
+
+ghost use Rattle.std.specs.Prelude.{◌≡◌, true, ℕ, ◌<◌, ◌≤◌, ◌^◌, List, length, map, All, IfOk, IfErr};
+ghost use Rattle.a64_select.specs.Selected.{selected};
+ghost use Rattle.image_form.specs.Form.{IsInForm};
+ghost use Rattle.placed_code.specs.Results.{all_placed};
+ghost use Rattle.placed_code.specs.Layout.{all_words};
+ghost use Rattle.linked_flows.specs.Allocations.{Cut, steps_of, all_allocated};
+ghost use Rattle.link_plan.specs.Linked.{DataFits, AreSmall};
+ghost use Rattle.flow_allocation.specs.Allocations.{trace_count};
+ghost use Rattle.back_end.specs.Images.{IsReady, AreCutsOf, IsImageBy};
+ghost use Rattle.back_end.specs.Numbers.{node_numbers};
+ghost use Rattle.back_end.specs.declared.fault.ImageFault.TheVariants.{Traces, Code, Misfit, Memory as OutOfMemory};
+
+use crate::fault::{ImageFault, fault_of};
+use crate::numbers::read_nodes;
+use a64_select::select;
+use flow_allocation::{Choice, Flow, allocate_flows};
+use image_form::Image;
+use link_plan::{Data, link};
+use ssa_core::Proc;
+use std::alloc::Global;
+
+/// How many traces there are at most.
+const MOST_TRACES: u32 = 262_144;
+
+/// The image of procedures by their numbers: each one's flow in the traces of the builder that is chosen, the first of these with
+/// the number behind those of the procedures before it, each with the final result by the policy, in lines with the moves of
+/// edges, linked. `Traces` comes exactly where there are over 262,144 traces, `Code` where there are not and the code is over
+/// 262,144 words, and `Misfit` for no procedures whose numbers and frames are small enough. Takes the time of the passes.
+pub fn image_of(
+    alloc: Global,
+    choice: &Choice,
+    procedures: &[Proc],
+    extra: Data,
+) -> Result<Image, ImageFault>
+    requires ready { All IsReady procedures.now }
+    requires enough { 4 ≤ choice.now.regs }
+    requires few { choice.now.regs ≤ 16 }
+    requires extra { DataFits extra.flags extra.globals extra.constants }
+    ensures image { IfOk result (IsImageBy choice.now procedures.now extra.flags extra.globals extra.constants) }
+    ensures form { IfOk result IsInForm }
+    ensures traces { IfErr result (λ fault. fault ≡ Traces → (cuts : List Cut) × AreCutsOf choice.now procedures.now cuts × (262144 < trace_count cuts)) }
+    ensures code { IfErr result (λ fault. fault ≡ Code → (cuts : List Cut) × AreCutsOf choice.now procedures.now cuts × (trace_count cuts ≤ 262144) × (2 ^ 18 < length (all_words (all_placed steps_of (all_allocated cuts))))) }
+    ensures misfit { IfErr result (λ fault. fault ≡ Misfit → (cuts : List Cut) × AreCutsOf choice.now procedures.now cuts × (AreSmall cuts → ⊥)) }
+{
+    let flows = select_all(alloc, procedures)?;
+    let allocated = allocate_flows(alloc, choice, flows.as_slice())?;
+    if allocated.traces > MOST_TRACES {
+        return Err(ImageFault::Traces);
+    }
+    let parts = allocated.parts.as_slice();
+    match link(
+        alloc,
+        flows.as_slice(),
+        parts,
+        allocated.outs.as_slice(),
+        extra,
+    ) {
+        Ok(image) => Ok(image),
+        Err(fault) => Err(fault_of(fault)),
+    }
+}
+
+// The flows of procedures.
+fn select_all(alloc: Global, procedures: &[Proc]) -> Result<Vec<Flow>, ImageFault>
+    requires { All IsReady procedures.now }
+    ensures flows { IfOk result (λ flows. flows.items ≡ map selected procedures.now) }
+    ensures numbers { IfOk result (λ flows. All (λ f. node_numbers f.nodes ≡ true) flows.items) }
+    ensures memory { IfErr result (λ fault. fault ≡ OutOfMemory) }
+{
+    let mut flows = Vec::new(alloc);
+    for procedure in procedures {
+        let flow = select(alloc, procedure)?;
+        read_nodes(flow.nodes.as_slice());
+        flows.push(flow)?;
+    }
+    Ok(flows)
+}

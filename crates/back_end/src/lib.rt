@@ -1,0 +1,15 @@
+//! From valid procedures to their image.
+//!
+//! Selection, traces, allocation by the policy that is chosen, the moves of edges, and linking, one after the other.
+#![tactic(auto)]
+
+mod fault;
+mod imaging;
+mod numbers;
+
+pub use fault::ImageFault;
+pub use flow_allocation::{Builder, Choice, Policy};
+pub use image_form::Image;
+pub use imaging::image_of;
+pub use link_plan::Data;
+pub use ssa_core::Proc;
