@@ -16,5 +16,5 @@ mod Bodies
 mod Costs
 mod CostsTree
 mod Sizes
-mod Valid
+pub mod Valid
 mod Samples
