@@ -5,3 +5,4 @@ pub mod Whole
 pub mod Limits
 pub mod Procedures
 pub mod Sampled
+pub mod Within

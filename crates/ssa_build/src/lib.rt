@@ -8,9 +8,11 @@
 mod body;
 mod entry;
 mod finish;
+mod laws;
 mod lowering;
 mod procedure;
 #[cfg(test)]
 mod tests;
 
+pub use laws::data_is_within_limits;
 pub use lowering::lower;
