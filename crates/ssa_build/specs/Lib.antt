@@ -1,3 +1,4 @@
 pub mod Makes
 pub mod Blocks
+pub mod Bodies
 pub mod Sample

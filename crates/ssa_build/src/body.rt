@@ -1,15 +1,13 @@
 //! A procedure's code, from its beginning to its result.
 
-ghost use Rattle.std.specs.Prelude.{◌≡◌, map, OnOk, IfOk};
-ghost use Rattle.std.specs.List.{list_any};
-ghost use Rattle.ob_types.specs.Layout.{kind_of};
+ghost use Rattle.std.specs.Prelude.{◌≡◌, IfOk};
 ghost use Rattle.ob_types.specs.declared.program.Program.{Program};
 ghost use Rattle.ssa_lowered.specs.Data.{in_cells};
 ghost use Rattle.ssa_lowered.specs.Lowered.{Here, answer as answer_there, whole};
 ghost use Rattle.ssa_lowered.specs.Variables.{some_structured};
 ghost use Rattle.ssa_exprs.specs.Making.{Gives};
 ghost use Rattle.ssa_exprs.specs.Tables.{Serves};
-ghost use Rattle.ssa_tables.specs.Local.{seen};
+ghost use Rattle.ssa_build.specs.Bodies.{InProgram};
 ghost use Rattle.ssa_build.specs.Makes.{Makes};
 
 use crate::entry::{further, open, store_all, zero};
@@ -52,7 +50,7 @@ pub fn lower_body(
     locals: &Locals,
     words: u32,
 ) -> Result<Option<u32>, LowerFault>
-    ensures { IfOk result (λ r. (p : Program) (here : Here) → Serves t.now p here → p.types ≡ types.now → here.procedure ≡ procedure.now → map seen locals.now.variables ≡ here.variables → locals.now.bytes ≡ here.bytes → Makes b.old b.new (whole p (in_cells p.types) here words locals.now.structured) r) }
+    ensures { IfOk result (λ r. InProgram t.now types.now procedure.now locals.now (λ p here. Makes b.old b.new (whole p (in_cells p.types) here words locals.now.structured) r)) }
 {
     let variables = locals.variables.as_slice();
     let structured = has_structured(types, procedure.locals.as_slice());

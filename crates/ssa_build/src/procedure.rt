@@ -1,13 +1,13 @@
 //! A procedure, from its tables to its blocks.
 
-ghost use Rattle.std.specs.Prelude.{◌≡◌, suc, not, Some, None, slice_get, IfOk, OnOk, IfErr};
+ghost use Rattle.std.specs.Prelude.{◌≡◌, suc, Some, None, slice_get, IfOk, OnOk, IfErr};
 ghost use Rattle.ssa_lowered.specs.Data.{in_cells};
 ghost use Rattle.ssa_lowered.specs.Limits.{limit_in};
 ghost use Rattle.ssa_lowered.specs.Lowered.{proc_of};
 ghost use Rattle.ssa_tables.specs.Faults.{Tells};
 ghost use Rattle.ssa_tables.specs.Measured.{IsMeasured};
 ghost use Rattle.ssa_tables.specs.Shared.{ServesFrom};
-ghost use Rattle.ssa_build.specs.Blocks.{blocks_in};
+ghost use Rattle.ssa_build.specs.Bodies.{completed};
 
 use crate::body::lower_body;
 use crate::entry::argument_words;
@@ -75,7 +75,7 @@ fn complete(
     words: u32,
     answer: Option<u32>,
 ) -> Result<Proc, Memory>
-    ensures { IfOk result (λ made. made ≡ record { blocks = blocks_in making.now words answer; values = making.now.values; args = words; counted = not procedure.now.is_body; local_cells = locals.now.cells; local_bytes = locals.now.bytes }) }
+    ensures { IfOk result (λ made. made ≡ completed making.now words answer procedure.now locals.now) }
 {
     let places = places(alloc, making.labels(), making.bounds())?;
     let last = End::Return(answer);
