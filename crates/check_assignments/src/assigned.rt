@@ -73,10 +73,7 @@ fn assigned<'a>(
             as_designator(scope, x),
             as_designator(scope, y),
         )),
-        TypeRef::Open(_) => Ok(Stmt::CopyArray(
-            as_designator(scope, x),
-            as_designator(scope, y),
-        )),
+        TypeRef::Open(_) => Ok(Stmt::CopyArray(as_designator(scope, x), as_designator(scope, y))),
         TypeRef::Record(_) => Ok(Stmt::CopyRecord(
             as_designator(scope, x),
             as_designator(scope, y),

@@ -323,4 +323,3 @@ module _ (p : Source) (at : ℕ) where
 
   pub deed_typed : (s : Scope) (shape : Shape) (w : What) (e : CheckFault) → e ≡ Fault 31 at → is_nothing shape ≡ false → Answers (IsStatement s) (deed_of p at shape w) (Err e)
   deed_typed s shape w e f n = as_judged (other_deed shape w n) (breaks_so 31 at f)
-

@@ -77,7 +77,6 @@ then_repeat (Keeps b) (Keeps g) = refl
 then_repeat (Keeps b) (Breaks i at) = refl
 then_repeat (Breaks i at) n = refl
 
-
 for_last : (d : Designator) (x : Operand) (l : Judged Checked) (k : Judged ℤ) (n : Judged Statements) →
     (l >>= λ y. k >>= λ step. n >>= λ b. Keeps (next_statement (For d (checked x) y step b)))
     ≡ (((l >>= λ y. k >>= λ step. Keeps (record { variable = d; first = checked x; limit = y; step = step })) >>= λ (h : JudgedHead). n >>= λ b. Keeps (For h.variable h.first h.limit h.step b)) >>= λ s. Keeps (next_statement s))

@@ -20,7 +20,7 @@ returns-then-is_step c =
     let f : SFits w64 c.in-Some.found = search rules in
     let l = to_z-of_z w64 c.in-Some.found f in
     goes_on _ _ c.in_ok-value.ensures (λ k h. there 31 _ _ (ap (int_only s.source.now) (sym h) ∙ sym (c.in-Some.ensures s.source.now (texts_of s)))
-      (kept 35 _ _ (ap (λ n. not (int_eq n (pos 0))) (sym l) ∙ sym c.is_step.ensures ∙ c.if-is_step.true) (record { by = l })))
+    (kept 35 _ _ (ap (λ n. not (int_eq n (pos 0))) (sym l) ∙ sym c.is_step.ensures ∙ c.if-is_step.true) (record { by = l })))
 
 pub returns-else-is_step : goal.returns-else-is_step
 returns-else-is_step c =
@@ -28,4 +28,4 @@ returns-else-is_step c =
     let f : SFits w64 c.in-Some.found = search rules in
     let l = to_z-of_z w64 c.in-Some.found f in
     goes_on _ _ c.in_ok-value.ensures (λ k h. there 31 _ _ (ap (int_only s.source.now) (sym h) ∙ sym (c.in-Some.ensures s.source.now (texts_of s)))
-      (refused_by 35 _ _ (c.fault-else-is_step.ensures ∙ ap (λ n. Fault 35 (place s.source.now n)) c.expression_first-else-is_step.ensures) (ap (λ n. not (int_eq n (pos 0))) (sym l) ∙ sym c.is_step.ensures ∙ c.if-is_step.false)))
+    (refused_by 35 _ _ (c.fault-else-is_step.ensures ∙ ap (λ n. Fault 35 (place s.source.now n)) c.expression_first-else-is_step.ensures) (ap (λ n. not (int_eq n (pos 0))) (sym l) ∙ sym c.is_step.ensures ∙ c.if-is_step.false)))

@@ -14,10 +14,10 @@ returns-then-is_empty t c = λ t' texts.
     c.invoked.ensures t' texts
     ∙ ap (λ e. option_map Invoke (call_by (plain_expr t' texts e))) c.into_inner-then-is_empty.ensures
     ∙ sym (ap (λ e. option_map Invoke (call_by (plain_expr t' texts e))) c.in-Chain.is
-      ∙ ap (λ z. option_map Invoke (call_by z)) (chain_is t' texts c.in-Chain.first c.in-Chain.links ∙ empty_result t' texts c.in-Chain.links.items (plain_expr t' texts c.in-Chain.first.value) c.is_empty.result (c.is_empty.ensures ∙ ap (λ xs. nat_eq (length xs) 0) c.as_slice.ensures.value) c.if-is_empty.true))
+    ∙ ap (λ z. option_map Invoke (call_by z)) (chain_is t' texts c.in-Chain.first c.in-Chain.links ∙ empty_result t' texts c.in-Chain.links.items (plain_expr t' texts c.in-Chain.first.value) c.is_empty.result (c.is_empty.ensures ∙ ap (λ xs. nat_eq (length xs) 0) c.as_slice.ensures.value) c.if-is_empty.true))
 
 pub returns-in-Chain : goal.returns-in-Chain
 returns-in-Chain t c = λ t' texts.
     sym (ap (λ e. option_map Invoke (call_by (plain_expr t' texts e))) c.in-Chain.is
-      ∙ ap (λ z. option_map Invoke (call_by z)) (chain_is t' texts c.in-Chain.first c.in-Chain.links)
-      ∙ ap (option_map Invoke) (linked_call t' texts c.in-Chain.links.items (plain_expr t' texts c.in-Chain.first.value) c.is_empty.result (c.is_empty.ensures ∙ ap (λ xs. nat_eq (length xs) 0) c.as_slice.ensures.value) c.if-is_empty.false))
+    ∙ ap (λ z. option_map Invoke (call_by z)) (chain_is t' texts c.in-Chain.first c.in-Chain.links)
+    ∙ ap (option_map Invoke) (linked_call t' texts c.in-Chain.links.items (plain_expr t' texts c.in-Chain.first.value) c.is_empty.result (c.is_empty.ensures ∙ ap (λ xs. nat_eq (length xs) 0) c.as_slice.ensures.value) c.if-is_empty.false))
