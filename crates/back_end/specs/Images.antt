@@ -1,11 +1,13 @@
 -- Which image procedures have.
-use Rattle.std.specs.Prelude.{◌≡◌, ℕ, ◌<◌, ◌≤◌, ◌^◌, List, map, get_or, false}
+use Rattle.std.specs.Prelude.{◌≡◌, ℕ, ◌<◌, ◌≤◌, ◌^◌, List, map, get_or, false, length}
 use Rattle.a64_memory.specs.Memory.{AreBytes}
 use Rattle.image_form.specs.declared.image.Image.{Image}
 use Rattle.ssa_core.specs.declared.procedure.Proc.{Proc}
 use Rattle.ssa_core.specs.Validity.{IsValid}
 use Rattle.a64_select.specs.Selected.{selected}
-use Rattle.linked_flows.specs.Allocations.{Cut}
+use Rattle.placed_code.specs.Results.{all_placed}
+use Rattle.placed_code.specs.Layout.{all_words}
+use Rattle.linked_flows.specs.Allocations.{Cut, steps_of, all_allocated}
 use Rattle.link_plan.specs.Linked.{linked, Runs}
 use Rattle.alloc_choice.specs.declared.choice.Choice.{Choice}
 use Rattle.flow_allocation.specs.Allocations.{AllAllocations, trace_count}
@@ -20,6 +22,10 @@ pub record IsReady (p : Proc) : Type 0 where
 pub record AreCutsOf (choice : Choice) (procs : List Proc) (cuts : List Cut) : Type 0 where
   pub flows : map (λ c. c.flow) cuts ≡ map selected procs
   pub each : AllAllocations choice 0 cuts
+
+-- how many words their code has
+abbrev pub code_length : List Cut → ℕ
+code_length cuts = length (all_words (all_placed steps_of (all_allocated cuts)))
 
 -- these, at most 262,144 traces, linked; the machine that runs the image is in step with what they keep up with
 pub record IsImageBy (choice : Choice) (procs : List Proc) (flags globals : ℕ) (constants : List ℕ) (image : Image) : Type 0 where

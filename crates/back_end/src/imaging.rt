@@ -1,14 +1,12 @@
 //! The image of procedures.
 
-ghost use Rattle.std.specs.Prelude.{◌≡◌, true, ℕ, ◌<◌, ◌≤◌, ◌^◌, List, length, map, All, IfOk, IfErr};
+ghost use Rattle.std.specs.Prelude.{◌≡◌, true, ℕ, ◌<◌, ◌≤◌, ◌^◌, List, map, All, IfOk, IfErr};
 ghost use Rattle.a64_select.specs.Selected.{selected};
 ghost use Rattle.image_form.specs.Form.{IsInForm};
-ghost use Rattle.placed_code.specs.Results.{all_placed};
-ghost use Rattle.placed_code.specs.Layout.{all_words};
-ghost use Rattle.linked_flows.specs.Allocations.{Cut, steps_of, all_allocated};
+ghost use Rattle.linked_flows.specs.Allocations.{Cut};
 ghost use Rattle.link_plan.specs.Linked.{DataFits, AreSmall};
 ghost use Rattle.flow_allocation.specs.Allocations.{trace_count};
-ghost use Rattle.back_end.specs.Images.{IsReady, AreCutsOf, IsImageBy};
+ghost use Rattle.back_end.specs.Images.{IsReady, AreCutsOf, IsImageBy, code_length};
 ghost use Rattle.back_end.specs.Numbers.{node_numbers};
 ghost use Rattle.back_end.specs.declared.fault.ImageFault.TheVariants.{Traces, Code, Misfit, Memory as OutOfMemory};
 
@@ -41,7 +39,7 @@ pub fn image_of(
     ensures image { IfOk result (IsImageBy choice.now procedures.now extra.flags extra.globals extra.constants) }
     ensures form { IfOk result IsInForm }
     ensures traces { IfErr result (λ fault. fault ≡ Traces → (cuts : List Cut) × AreCutsOf choice.now procedures.now cuts × (262144 < trace_count cuts)) }
-    ensures code { IfErr result (λ fault. fault ≡ Code → (cuts : List Cut) × AreCutsOf choice.now procedures.now cuts × (trace_count cuts ≤ 262144) × (2 ^ 18 < length (all_words (all_placed steps_of (all_allocated cuts))))) }
+    ensures code { IfErr result (λ fault. fault ≡ Code → (cuts : List Cut) × AreCutsOf choice.now procedures.now cuts × (trace_count cuts ≤ 262144) × (2 ^ 18 < code_length cuts)) }
     ensures misfit { IfErr result (λ fault. fault ≡ Misfit → (cuts : List Cut) × AreCutsOf choice.now procedures.now cuts × (AreSmall cuts → ⊥)) }
 {
     let flows = select_all(alloc, procedures)?;
