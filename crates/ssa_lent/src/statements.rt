@@ -2,13 +2,13 @@
 
 ghost use Rattle.std.specs.Prelude.{◌≡◌, ◌||◌, ℕ, OnOk, IfOk};
 ghost use Rattle.ssa_assigned.specs.Assigned.{has};
-ghost use Rattle.ssa_lowered.specs.Variables.{lent_by, lent_by_answer};
+ghost use Rattle.ssa_lowered.specs.Variables.{lent, lent_at, lent_whole, lent_by, lent_by_answer};
 ghost use Rattle.ssa_lowered.specs.Lowered.{lent_in_body};
 ghost use Rattle.ssa_lent.specs.Lent.{lent_by_statements, lent_by_parts, lent_by_cases, lent_by_types};
 
 use crate::expressions::{lend, lend_call, lend_read, lend_whole};
 use items::Items;
-use ob_types::{Branch, CasePart, Checked, Procedure, Stmt, TypePart};
+use ob_types::{Branch, CasePart, Checked, Designator, Procedure, Stmt, TypePart};
 use ssa_exprs::LowerFault;
 use std::alloc::Global;
 
@@ -57,77 +57,53 @@ fn lend_types(parts: &[TypePart], found: &mut Vec<u32>) -> Result<(), LowerFault
     Ok(())
 }
 
+/// By a variable that is changed, and the value.
+fn lend_change(
+    variable: &Designator,
+    value: &Checked,
+    found: &mut Vec<u32>,
+) -> Result<(), LowerFault>
+    ensures { OnOk result ((x : ℕ) → has found.new.items x ≡ (has found.old.items x || (lent_at variable.now x || lent value.now.form x))) }
+{
+    lend_read(variable, found)?;
+    lend(&value.form, found)?;
+    Ok(())
+}
+
+/// By what is copied, and where.
+fn lend_copy(to: &Designator, from: &Designator, found: &mut Vec<u32>) -> Result<(), LowerFault>
+    ensures { OnOk result ((x : ℕ) → has found.new.items x ≡ (has found.old.items x || (lent_whole to.now x || lent_whole from.now x))) }
+{
+    lend_whole(to, found)?;
+    lend_whole(from, found)?;
+    Ok(())
+}
+
 /// By a statement.
 #[cycle(statements)]
 fn lend_statement(s: &Stmt, found: &mut Vec<u32>) -> Result<(), LowerFault>
     ensures { OnOk result ((x : ℕ) → has found.new.items x ≡ (has found.old.items x || lent_by s.now x)) }
 {
     match s {
-        Stmt::Assign(d, x) => {
-            lend_read(d, found)?;
-            lend(&x.form, found)?;
-            Ok(())
-        }
-        Stmt::CopyArray(d, e) => {
-            lend_whole(d, found)?;
-            lend_whole(e, found)?;
-            Ok(())
-        }
-        Stmt::CopyRecord(d, e) => {
-            lend_whole(d, found)?;
-            lend_whole(e, found)?;
-            Ok(())
-        }
-        Stmt::Increase(d, x) => {
-            lend_read(d, found)?;
-            lend(&x.form, found)?;
-            Ok(())
-        }
-        Stmt::Decrease(d, x) => {
-            lend_read(d, found)?;
-            lend(&x.form, found)?;
-            Ok(())
-        }
-        Stmt::Include(d, x) => {
-            lend_read(d, found)?;
-            lend(&x.form, found)?;
-            Ok(())
-        }
-        Stmt::Exclude(d, x) => {
-            lend_read(d, found)?;
-            lend(&x.form, found)?;
-            Ok(())
-        }
-        Stmt::New(d) => {
-            lend_read(d, found)?;
-            Ok(())
-        }
-        Stmt::Assert(x) => {
-            lend(&x.form, found)?;
-            Ok(())
-        }
-        Stmt::OutChar(x) => {
-            lend(&x.form, found)?;
-            Ok(())
-        }
+        Stmt::Assign(d, x) => lend_change(d, x, found),
+        Stmt::CopyArray(d, e) => lend_copy(d, e, found),
+        Stmt::CopyRecord(d, e) => lend_copy(d, e, found),
+        Stmt::Increase(d, x) => lend_change(d, x, found),
+        Stmt::Decrease(d, x) => lend_change(d, x, found),
+        Stmt::Include(d, x) => lend_change(d, x, found),
+        Stmt::Exclude(d, x) => lend_change(d, x, found),
+        Stmt::New(d) => lend_read(d, found),
+        Stmt::Assert(x) => lend(&x.form, found),
+        Stmt::OutChar(x) => lend(&x.form, found),
         Stmt::OutInt(x, n) => {
             lend(&x.form, found)?;
             lend(&n.form, found)?;
             Ok(())
         }
-        Stmt::OutString(d) => {
-            lend_whole(d, found)?;
-            Ok(())
-        }
+        Stmt::OutString(d) => lend_whole(d, found),
         Stmt::OutLn => Ok(()),
-        Stmt::InChar(d) => {
-            lend_whole(d, found)?;
-            Ok(())
-        }
-        Stmt::Call(c) => {
-            lend_call(c, found)?;
-            Ok(())
-        }
+        Stmt::InChar(d) => lend_whole(d, found),
+        Stmt::Call(c) => lend_call(c, found),
         Stmt::If(parts, other) => {
             lend_parts(parts, found)?;
             lend_all(other, found)?;
