@@ -25,20 +25,24 @@ pub fn each_has_one_shape()
 
 /// Two types are the same where their shapes are.
 pub fn same_agrees()
-    ensures { (t : Table) → HasOneNumberEach t → HasOneShapeEach t → (a b : ℕ) → a < length t.kinds → b < length t.kinds → same_type t a b ≡ same (shape_of t a) (shape_of t b) }
+    ensures { (t : Table) → HasOneNumberEach t → HasOneShapeEach t
+        → (a b : ℕ) → a < length t.kinds → b < length t.kinds → same_type t a b ≡ same (shape_of t a) (shape_of t b) }
 {}
 
 /// A type extends another where its shape does.
 pub fn extends_agrees()
-    ensures { (t : Table) (known : Known) → Knows known t → types_fine t ≡ true → IsFromTheFront t → (a b : ℕ) → a < length t.kinds → b < length t.kinds → extends_type t a b ≡ extends known (shape_of t a) (shape_of t b) }
+    ensures { (t : Table) (known : Known) → Knows known t → types_fine t ≡ true → IsFromTheFront t
+        → (a b : ℕ) → a < length t.kinds → b < length t.kinds → extends_type t a b ≡ extends known (shape_of t a) (shape_of t b) }
 {}
 
 /// One type may be assigned to another where their shapes may.
 pub fn assignable_agrees()
-    ensures { (t : Table) (known : Known) → Knows known t → types_fine t ≡ true → IsFromTheFront t → HasOneNumberEach t → HasOneShapeEach t → (to from : ℕ) → to < length t.kinds → from < length t.kinds → may_assign t to from ≡ assignable known (shape_of t to) (shape_of t from) }
+    ensures { (t : Table) (known : Known) → Knows known t → types_fine t ≡ true → IsFromTheFront t → HasOneNumberEach t → HasOneShapeEach t
+        → (to from : ℕ) → to < length t.kinds → from < length t.kinds → may_assign t to from ≡ assignable known (shape_of t to) (shape_of t from) }
 {}
 
 /// A type that is no open array has as many cells as its shape.
 pub fn cells_agree()
-    ensures { (t : Table) (known : Known) → Knows known t → IsFromTheFront t → IsCounted t → HasNoOpenElements t → (k : ℕ) → k < length t.kinds → is_open (kind_of t k) ≡ false → cells_of_type t k ≡ cells known (shape_of t k) }
+    ensures { (t : Table) (known : Known) → Knows known t → IsFromTheFront t → IsCounted t → HasNoOpenElements t
+        → (k : ℕ) → k < length t.kinds → is_open (kind_of t k) ≡ false → cells_of_type t k ≡ cells known (shape_of t k) }
 {}
