@@ -26,8 +26,10 @@ pub fn allocate(alloc: Global, t: &TraceIn, hint: Option<&Places>) -> Result<Tra
     requires enough { 4 ≤ t.now.regs }
     requires few { t.now.regs ≤ 16 }
     requires row { IfSome hint (λ q. length q.now.regs ≡ t.now.regs) }
-    ensures linear { IsInput (case_of t.now) t.now.trace.now.nodes (hint_of t.now.from (lent hint.entry)) → IfOk result (λ out. out ≡ linear (case_of t.now) t.now.number t.now.trace.now.nodes (hint_of t.now.from (lent hint.entry))) }
-    ensures sound { IsInput (case_of t.now) t.now.trace.now.nodes (hint_of t.now.from (lent hint.entry)) → IfOk result (IsSound t.now.regs t.now.flow.now t.now.trace.now) }
+    ensures linear { IsInput (case_of t.now) t.now.trace.now.nodes (hint_of t.now.from (lent hint.entry))
+        → IfOk result (λ out. out ≡ linear (case_of t.now) t.now.number t.now.trace.now.nodes (hint_of t.now.from (lent hint.entry))) }
+    ensures sound { IsInput (case_of t.now) t.now.trace.now.nodes (hint_of t.now.from (lent hint.entry))
+        → IfOk result (IsSound t.now.regs t.now.flow.now t.now.trace.now) }
 {
     let nodes = t.trace.nodes.as_slice();
     let Some(head) = number_at(nodes, 0) else {
