@@ -26,7 +26,8 @@ pub fn allocate_trace(
     requires few { t.now.regs ≤ 16 }
     requires row { IfSome hint (λ q. length q.now.regs ≡ t.now.regs) }
     ensures result_is { IsInput (case_of t.now) t.now.trace.now.nodes (hint_of t.now.from (lent hint.entry))
-        → IfOk result (λ out. out ≡ result_by (used choice.now.policy t.now.flow.now.nodes t.now.trace.now.nodes) (case_of t.now) t.now.number t.now.trace.now.nodes (hint_of t.now.from (lent hint.entry))) }
+        → IfOk result (λ out. out ≡ result_by (used choice.now.policy t.now.flow.now.nodes t.now.trace.now.nodes)
+        (case_of t.now) t.now.number t.now.trace.now.nodes (hint_of t.now.from (lent hint.entry))) }
     ensures sound { IsInput (case_of t.now) t.now.trace.now.nodes (hint_of t.now.from (lent hint.entry))
         → IfOk result (IsSound t.now.regs t.now.flow.now t.now.trace.now) }
 {

@@ -112,7 +112,8 @@ fn run(
     requires few { k.now.choice.now.regs ≤ 16 }
     requires row { IfSome hint (λ q. length q.now.regs ≡ k.now.choice.now.regs) }
     ensures is { IsInput (task_case k.now) trace.now.nodes (hint_of from (lent hint.entry))
-        → IfOk result (λ out. out ≡ result_by (used k.now.choice.now.policy k.now.flow.now.nodes trace.now.nodes) (task_case k.now) number trace.now.nodes (hint_of from (lent hint.entry))) }
+        → IfOk result (λ out. out ≡ result_by (used k.now.choice.now.policy k.now.flow.now.nodes trace.now.nodes)
+        (task_case k.now) number trace.now.nodes (hint_of from (lent hint.entry))) }
     ensures sound { IsInput (task_case k.now) trace.now.nodes (hint_of from (lent hint.entry))
         → IfOk result (IsSound k.now.choice.now.regs k.now.flow.now trace.now) }
 {

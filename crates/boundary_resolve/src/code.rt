@@ -219,7 +219,9 @@ fn push_edge(
     params: &[u32],
     args: &[u32],
 ) -> Result<(), Memory>
-    ensures { FewRegs from.now → FewRegs to.now → IsRising to.now.homed → OnOk result (placed.new.items ≡ placed.old.items ++ map Edge (order_of (edge_moves from.now to.now (argument_of params.now args.now)))) }
+    ensures { FewRegs from.now → FewRegs to.now → IsRising to.now.homed
+        → OnOk result (placed.new.items ≡ placed.old.items ++ map Edge
+        (order_of (edge_moves from.now to.now (argument_of params.now args.now)))) }
 {
     let moves = edge_moves(alloc, from, to, params, args)?;
     let steps = order(alloc, moves.as_slice())?;

@@ -16,7 +16,8 @@ ghost use Rattle.boundary_resolve.specs.Edges.{AreSound, EdgesHold};
 
 /// The moves of an edge, in order, take places over: where those before it hold, those behind it do.
 pub fn moves_take_over()
-    ensures { (before after : Places) (argument : ℕ → ℕ) → Covers before after argument → TakesOver before after argument (steps_source (order_of (edge_moves before after argument))) }
+    ensures { (before after : Places) (argument : ℕ → ℕ) → Covers before after argument
+        → TakesOver before after argument (steps_source (order_of (edge_moves before after argument))) }
 {}
 
 /// Over each edge of a flow, and from its entry, the steps that stand there take places over, whichever sound results its

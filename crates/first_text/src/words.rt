@@ -119,7 +119,9 @@ pub fn number_of(bytes: &[u8], symbol: &Symbol) -> Option<u64>
 
 /// The bytes of a symbol that is a name which a module may have: neither `Out` nor `In`.
 pub fn own_name<'a>(bytes: &'a [u8], symbol: &Symbol) -> Option<&'a [u8]>
-    ensures { MatchOption result (is_own_name (terminal_of bytes.now symbol.now) ≡ false) (λ n. (terminal_of bytes.now symbol.now ≡ Name n.now) × (is_own_name (Name n.now) ≡ true)) }
+    ensures { MatchOption result (is_own_name (terminal_of bytes.now symbol.now) ≡ false)
+        (λ n. (terminal_of bytes.now symbol.now ≡ Name n.now)
+        × (is_own_name (Name n.now) ≡ true)) }
 {
     match symbol.kind {
         Kind::Ident => other_name(word(bytes, symbol)),

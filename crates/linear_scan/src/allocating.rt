@@ -119,7 +119,8 @@ fn walk(
 ) -> Result<u32, Memory>
     requires some { 0 < length fw.old.part.regs }
     requires few { length fw.old.part.regs ≤ 16 }
-    ensures step { IfOk result (λ b. fw.new ≡ behind (case_of t.now) (need_told positions.now) (drop_all (need_told positions.now)) at (slice_get t.now.flow.now.nodes number) following fw.old) }
+    ensures step { IfOk result (λ b. fw.new ≡ behind (case_of t.now) (need_told positions.now)
+        (drop_all (need_told positions.now)) at (slice_get t.now.flow.now.nodes number) following fw.old) }
     ensures position { IfOk result (λ b. b ≡ position_behind at (slice_get t.now.flow.now.nodes number)) }
     ensures row { IfOk result (λ b. is_some following ≡ true → length fw.new.part.regs ≡ length fw.old.part.regs) }
 {

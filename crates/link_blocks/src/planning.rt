@@ -101,8 +101,10 @@ fn laid_out(
 ) -> Result<Laid, Memory>
     requires { list_all (λ n. node_fits n) nodes.now ≡ true }
     ensures each { IfOk result (λ laid. length laid.blocks.items ≡ length nodes.now) }
-    ensures laid { (k : ℕ) (c : Cut) → nodes.now ≡ c.flow.nodes → outs.now ≡ c.outs → AreSound k c.flow c.traces c.outs → AllTraces c.flow (lists_of c.traces) → AreAllDistinct lines.now
-        → drop from lines.now ≡ flat_map (node_lines c.flow c.traces c.outs) (all_nodes (lists_of c.traces)) → IfOk result (λ laid. (laid.order.items ≡ all_nodes (lists_of c.traces)) × AreLaid c laid) }
+    ensures laid { (k : ℕ) (c : Cut) → nodes.now ≡ c.flow.nodes → outs.now ≡ c.outs → AreSound k c.flow c.traces c.outs
+        → AllTraces c.flow (lists_of c.traces) → AreAllDistinct lines.now
+        → drop from lines.now ≡ flat_map (node_lines c.flow c.traces c.outs) (all_nodes (lists_of c.traces))
+        → IfOk result (λ laid. (laid.order.items ≡ all_nodes (lists_of c.traces)) × AreLaid c laid) }
 {
     let mut laid = Laid {
         blocks: none_yet(alloc, nodes.len())?,
@@ -136,7 +138,8 @@ fn lay_all(
 ) -> Result<usize, Memory>
     requires { list_all (λ n. node_fits n) nodes.now ≡ true }
     ensures each { length laid.new.blocks.items ≡ length laid.old.blocks.items }
-    ensures read { (k : ℕ) (c : Cut) (ns : List ℕ) (tail : List Ahead) → nodes.now ≡ c.flow.nodes → AreSound k c.flow c.traces c.outs → AreAllDistinct lines.now → AreLaid c laid.old → AreAhead c ns rows.now (drop from lines.now) tail
+    ensures read { (k : ℕ) (c : Cut) (ns : List ℕ) (tail : List Ahead) → nodes.now ≡ c.flow.nodes → AreSound k c.flow c.traces c.outs
+        → AreAllDistinct lines.now → AreLaid c laid.old → AreAhead c ns rows.now (drop from lines.now) tail
         → IfOk result (λ at. HasRead c ns laid.old laid.new (drop at lines.now) tail) }
 {
     let mut at = from;
@@ -158,7 +161,8 @@ fn lay(
     requires { list_all (λ n. node_fits n) nodes.now ≡ true }
     ensures each { length laid.new.blocks.items ≡ length laid.old.blocks.items }
     ensures read { (n : ℕ) (ls : List Ahead) → drop at lines.now ≡ Begins n ∷ ls → n < length nodes.now → AreAllDistinct lines.now
-        → IfOk result (λ behind. (drop behind lines.now ≡ behind_block (code_node (node_at nodes.now n)) ls) × Lays laid.old laid.new n (block_ahead (code_node (node_at nodes.now n)) named.now ls)) }
+        → IfOk result (λ behind. (drop behind lines.now ≡ behind_block (code_node (node_at nodes.now n)) ls)
+        × Lays laid.old laid.new n (block_ahead (code_node (node_at nodes.now n)) named.now ls)) }
 {
     let Some(Placed::Node(number)) = lines.get(at) else {
         return Ok(at);

@@ -99,7 +99,8 @@ pub(crate) fn push_code(
     requires number { number_fits code ≡ true }
     requires near { length words.old.items < 2 ^ 18 }
     ensures { OnOk result (words.new.items ≡ words.old.items
-        ++ map word_of (op_words (entry_at entries.entry.procedures.now) entries.entry.routines slots (length words.old.items) code registers.a registers.b registers.c registers.d)) }
+        ++ map word_of (op_words (entry_at entries.entry.procedures.now) entries.entry.routines slots
+        (length words.old.items) code registers.a registers.b registers.c registers.d)) }
 {
     let last = entries.procedures.len().saturating_sub(1);
     let code = clamped(last, code);
@@ -117,7 +118,9 @@ fn push_cell(words: &mut Vec<u32>, entries: Entries, plan: &Plan, cell: &Cell) -
     requires procedures { InReach entries.procedures.now }
     requires routines { entries.routines < 2 ^ 17 }
     requires near { length words.old.items + cell_width (placed_in plan.now) 0 (cell_in cell.now) ≤ 2 ^ 18 }
-    ensures { OnOk result (words.new.items ≡ words.old.items ++ map word_of (cell_code (entry_at entries.entry.procedures.now) entries.entry.routines (placed_in plan.now) 0 (length words.old.items) (cell_in cell.now))) }
+    ensures { OnOk result (words.new.items ≡ words.old.items ++ map word_of
+        (cell_code (entry_at entries.entry.procedures.now) entries.entry.routines (placed_in plan.now) 0 (length words.old.items)
+        (cell_in cell.now))) }
 {
     push_copies(words, plan, cell.copies.as_slice())?;
     push_code(words, entries, plan.frame.slots, cell.code, cell.registers)
@@ -133,7 +136,8 @@ fn push_cells(
     requires routines { entries.routines < 2 ^ 17 }
     requires near { length words.old.items + whole_width (cell_width (placed_in plan.now)) 0 (map cell_in cells.now) ≤ 2 ^ 18 }
     ensures { OnOk result (words.new.items ≡ words.old.items
-        ++ map word_of (spread (cell_code (entry_at entries.entry.procedures.now) entries.entry.routines (placed_in plan.now)) (cell_width (placed_in plan.now)) 0 (length words.old.items) (map cell_in cells.now))) }
+        ++ map word_of (spread (cell_code (entry_at entries.entry.procedures.now) entries.entry.routines (placed_in plan.now))
+        (cell_width (placed_in plan.now)) 0 (length words.old.items) (map cell_in cells.now))) }
 {
     for cell in cells {
         push_cell(words, entries, plan, cell)?;
@@ -155,7 +159,8 @@ pub(crate) fn push_parts(
     requires places { InReach places.now }
     requires near { length words.old.items + parts_width (placed_in plan.now) next (block_in block.now) ≤ 2 ^ 18 }
     ensures { OnOk result (words.new.items ≡ words.old.items
-        ++ map word_of (parts_code (entry_at entries.entry.procedures.now) entries.entry.routines (entry_in places.now) (placed_in plan.now) next (length words.old.items) (block_in block.now))) }
+        ++ map word_of (parts_code (entry_at entries.entry.procedures.now) entries.entry.routines (entry_in places.now)
+        (placed_in plan.now) next (length words.old.items) (block_in block.now))) }
 {
     push_cells(words, entries, plan, block.cells.as_slice())?;
     push_copies(words, plan, block.copies.as_slice())?;

@@ -102,7 +102,8 @@ fn push_start(words: &mut Vec<u32>, entries: Entries, plans: &[Plan]) -> Result<
     requires routines { entries.routines < 2 ^ 17 }
     requires few { length plans.now ≤ 2 ^ 18 }
     requires near { length words.old.items + body_count (map placed_in plans.now) < 2 ^ 18 }
-    ensures { OnOk result (words.new.items ≡ words.old.items ++ map word_of (start_words (entry_at entries.entry.procedures.now) (length words.old.items) (bodies (procedures (map placed_in plans.now))))) }
+    ensures { OnOk result (words.new.items ≡ words.old.items ++ map word_of
+        (start_words (entry_at entries.entry.procedures.now) (length words.old.items) (bodies (procedures (map placed_in plans.now))))) }
 {
     for (number, plan) in plans.iter().enumerate() {
         if !plan.frame.counted {
@@ -160,7 +161,8 @@ fn push_procedures(
     requires near { length words.old.items + whole_width proc_width 0 (map placed_in plans.now) ≤ 2 ^ 18 }
     ensures size { OnOk result (length words.new.items ≡ length words.old.items + whole_width proc_width 0 (map placed_in plans.now)) }
     ensures words { AreReady (map placed_in plans.now) entries.entry.procedures.now entries.entry.routines (length words.old.items)
-        → OnOk result (words.new.items ≡ words.old.items ++ map word_of (spread (proc_words (map placed_in plans.now)) proc_width 0 (length words.old.items) (map placed_in plans.now))) }
+        → OnOk result (words.new.items ≡ words.old.items ++ map word_of
+        (spread (proc_words (map placed_in plans.now)) proc_width 0 (length words.old.items) (map placed_in plans.now))) }
     ensures limit { length words.old.items ≡ procedures_at (map placed_in plans.now) → IfErr result (λ fault. fault ≡ Limit → ⊥) }
 {
     for plan in plans {

@@ -53,7 +53,8 @@ fn push_block(
     requires places { InReach places.now }
     requires near { length words.old.items + parts_width (placed_in plan.now) next (block_of (placed_in plan.now) number) ≤ 2 ^ 18 }
     ensures { OnOk result (words.new.items ≡ words.old.items
-        ++ map word_of (parts_code (entry_at entries.entry.procedures.now) entries.entry.routines (entry_in places.now) (placed_in plan.now) next (length words.old.items) (block_of (placed_in plan.now) number))) }
+        ++ map word_of (parts_code (entry_at entries.entry.procedures.now) entries.entry.routines (entry_in places.now)
+        (placed_in plan.now) next (length words.old.items) (block_of (placed_in plan.now) number))) }
 {
     match plan.blocks.as_slice().get(number as usize) {
         Some(block) => push_parts(words, entries, places, plan, block, next),
@@ -74,7 +75,8 @@ fn push_blocks(
     requires places { InReach places.now }
     requires near { length words.old.items + whole_width (block_width (placed_in plan.now)) 0 (placings (placed_in plan.now)) ≤ 2 ^ 18 }
     ensures { OnOk result (words.new.items ≡ words.old.items
-        ++ map word_of (spread (block_code (entry_at entries.entry.procedures.now) entries.entry.routines (entry_in places.now) (placed_in plan.now)) (block_width (placed_in plan.now)) 0 (length words.old.items) (placings (placed_in plan.now)))) }
+        ++ map word_of (spread (block_code (entry_at entries.entry.procedures.now) entries.entry.routines (entry_in places.now)
+        (placed_in plan.now)) (block_width (placed_in plan.now)) 0 (length words.old.items) (placings (placed_in plan.now)))) }
 {
     for (i, number) in plan.order.as_slice().iter().enumerate() {
         let next = first_in(plan, i + 1);

@@ -10,5 +10,6 @@ ghost use Rattle.linked_flows.specs.Allocations.{Cut, steps_of, allocated};
 /// With sound results, the frame of a flow of at most 4,000 values has at most 4,021 slots: one for each value, 20 for
 /// arguments, and the link's.
 pub fn small_flows_have_small_frames()
-    ensures { (k : ℕ) (c : Cut) → AreSound k c.flow c.traces c.outs → AllTraces c.flow (lists_of c.traces) → c.flow.values ≤ 4000 → slots_of (placed steps_of (allocated c)) ≤ 4021 }
+    ensures { (k : ℕ) (c : Cut) → AreSound k c.flow c.traces c.outs → AllTraces c.flow (lists_of c.traces) → c.flow.values ≤ 4000
+        → slots_of (placed steps_of (allocated c)) ≤ 4021 }
 {}

@@ -24,7 +24,8 @@ pub fn block_places(
     ensures places { IfOk result (λ places. (ps : List Placed) (p : ℕ) → AreBlocks ps p first order.now widths.now count → ArePlaces ps p places.items) }
     ensures fits { IfOk result (λ places. (ps : List Placed) (p : ℕ) → AreBlocks ps p first order.now widths.now count → entry ps p + proc_width p (proc_of ps p) ≤ 2 ^ 18) }
     ensures reach { IfOk result (λ places. InReach places.items) }
-    ensures limit { IfErr result (λ fault. fault ≡ Limit → (ps : List Placed) (p : ℕ) → AreBlocks ps p first order.now widths.now count → 2 ^ 18 < entry ps p + proc_width p (proc_of ps p)) }
+    ensures limit { IfErr result (λ fault. fault ≡ Limit → (ps : List Placed) (p : ℕ)
+        → AreBlocks ps p first order.now widths.now count → 2 ^ 18 < entry ps p + proc_width p (proc_of ps p)) }
 {
     let first = behind(first, 0)?;
     let starts = starts(alloc, first, widths)?;

@@ -105,7 +105,8 @@ fn push_branch(words: &mut Vec<u32>, compared: Instr, cond: Cond, ways: Ways) ->
     requires one { ways.one ≤ 2 ^ 18 }
     requires other { ways.other ≤ 2 ^ 18 }
     requires near { length words.old.items + 1 + width_of_ways ways.turned ways.falls ≤ 2 ^ 18 }
-    ensures { OnOk result (words.new.items ≡ words.old.items ++ map word_of (compared ∷ branch_words ways.turned ways.falls (suc (length words.old.items)) cond ways.one ways.other)) }
+    ensures { OnOk result (words.new.items ≡ words.old.items ++ map word_of
+        (compared ∷ branch_words ways.turned ways.falls (suc (length words.old.items)) cond ways.one ways.other)) }
 {
     let from = words.len() as u32 + 1;
     if ways.turned {

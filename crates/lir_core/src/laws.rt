@@ -10,5 +10,7 @@ ghost use Rattle.lir_core.specs.Sound.{AreSoundLines};
 
 /// Lines that the walk by names accepts are sound, for every numbers of values and every contents.
 pub fn walks_are_sound()
-    ensures { (room : Room) (ops : List Operation) (last : List ℕ) (start : Places) (lines : List Line) (named : List ℕ) (end : Places) → Walks room ops last start lines named end → AreSoundLines room ops last start lines named end }
+    ensures { (room : Room) (ops : List Operation) (last : List ℕ) (start : Places) (lines : List Line) (named : List ℕ)
+        (end : Places)
+        → Walks room ops last start lines named end → AreSoundLines room ops last start lines named end }
 {}

@@ -1,10 +1,9 @@
 -- The rows of a trace tell what a search finds.
 use Rattle.std.proofs.Common.{◌≡◌, ℕ, List, [], Option, Some, None, refl, sym, ap, ap₂, ◌∙◌, subst, arith}
-use Rattle.std.specs.Prelude.{Vec}
+use Rattle.std.specs.Prelude.{Vec, nat_eq}
 use Rattle.std.specs.Global.{Global}
 use Rattle.std.specs.Option.{unwrap_or, option_map}
-use Rattle.std.specs.Ordering.{nat_cmp}
-use Rattle.std.specs.BTreeMap.{get, is_at}
+use Rattle.std.specs.HashMap.{get}
 use Rattle.std.proofs.lemmas.Map.Made.{lookup-map_values}
 use Rattle.lir_core.specs.declared.flow.Flow.{Flow}
 use Rattle.live_interval.specs.declared.notes.Note.{Note}
@@ -48,7 +47,7 @@ module _ (f : Flow) (rows : List (List ℕ)) (ns : List ℕ) (t : Tables) (is : 
 
 -- the row of a value among all rows
 pub row_among : (s : Rows) (v : ℕ) → row_at (rows_of s) v ≡ row_of s v
-row_among s v = ap (λ o. unwrap_or o []) (lookup-map_values (λ row. row.items) (is_at (nat_cmp v)) s.rows.entries) ∙ by (get nat_cmp s.rows v)
+row_among s v = ap (λ o. unwrap_or o []) (lookup-map_values (λ row. row.items) (nat_eq v) s.rows.entries) ∙ by (get nat_eq s.rows v)
   where
     by : (o : Option (Vec ℕ Global)) → unwrap_or (option_map (λ row. row.items) o) [] ≡ items_of o
     by None = refl

@@ -1,9 +1,7 @@
 -- What positions answer, by rows of numbers that rise.
-use Rattle.std.specs.Prelude.{ℕ, ◌<◌, ◌≤◌, nat_lt, nat_le, cond, List, [], ◌∷◌, length, slice_index, Option, Some, None}
+use Rattle.std.specs.Prelude.{ℕ, nat_eq, ◌<◌, ◌≤◌, nat_lt, nat_le, cond, List, [], ◌∷◌, length, slice_index, Option, Some, None}
 use Rattle.std.specs.Option.{unwrap_or}
-use Rattle.std.specs.Ordering.{nat_cmp}
 use Rattle.std.specs.Map.{lookup}
-use Rattle.std.specs.BTreeMap.{is_at}
 
 -- for each value the numbers of the positions that need it, and of those that mention it, rising
 pub record Numbers : Type 0 where
@@ -12,7 +10,7 @@ pub record Numbers : Type 0 where
 
 -- the row of a value; an empty one where it has none
 abbrev pub row_at : List (ℕ × List ℕ) → ℕ → List ℕ
-row_at rows v = unwrap_or (lookup (is_at (nat_cmp v)) rows) []
+row_at rows v = unwrap_or (lookup (nat_eq v) rows) []
 
 -- the first number of a row from a limit on
 abbrev pub first_from : ℕ → List ℕ → Option ℕ

@@ -1,8 +1,7 @@
 -- What is noted position by position, and for each value the positions at which it is noted.
-use Rattle.std.specs.Prelude.{ℕ, ◌+◌, ◌==◌, Bool, cond, List, [], ◌∷◌, ◌++◌, map, Option, Some, None, Vec}
+use Rattle.std.specs.Prelude.{ℕ, nat_eq, ◌+◌, ◌==◌, Bool, cond, List, [], ◌∷◌, ◌++◌, map, Option, Some, None, Vec}
 use Rattle.std.specs.Global.{Global}
-use Rattle.std.specs.Ordering.{nat_cmp}
-use Rattle.std.specs.BTreeMap.{get}
+use Rattle.std.specs.HashMap.{get}
 use Rattle.live_interval.specs.Needs.{Position}
 use Rattle.live_interval.specs.declared.notes.Note.{Note}
 use Rattle.live_interval.specs.declared.rows.Rows.{Rows}
@@ -47,7 +46,7 @@ items_of None = []
 items_of (Some row) = row.items
 
 abbrev pub row_of : Rows → ℕ → List ℕ
-row_of s v = items_of (get nat_cmp s.rows v)
+row_of s v = items_of (get nat_eq s.rows v)
 
 -- all rows
 abbrev pub rows_of : Rows → List (ℕ × List ℕ)

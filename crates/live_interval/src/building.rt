@@ -24,7 +24,9 @@ pub fn positions(
     live: &LiveSets,
 ) -> Result<Positions, Memory>
     ensures next_need { IsValidFlow flow.now → IfOk result (λ ps. (v at : ℕ) → need_told ps v at ≡ next_need (positions_of flow.now live.now trace.now.nodes) v at) }
-    ensures last_mention { IsValidFlow flow.now → IfOk result (λ ps. (v before : ℕ) → mention_told ps v before ≡ last_mention (positions_of flow.now live.now trace.now.nodes) v before) }
+    ensures last_mention { IsValidFlow flow.now
+        → IfOk result (λ ps. (v before : ℕ)
+        → mention_told ps v before ≡ last_mention (positions_of flow.now live.now trace.now.nodes) v before) }
 {
     let mut tables = Tables {
         at: 0,

@@ -5,21 +5,21 @@ ghost use Rattle.live_interval.specs.Tables.{row_in, row_of, one_at};
 
 use crate::notes::Note;
 use std::alloc::{AllocError, Global};
-use std::collections::BTreeMap;
+use std::collections::HashMap;
 
 /// A row of positions for each value of which something is said.
 #[derive(Drop)]
 pub(crate) struct Rows {
-    rows: BTreeMap<u32, Vec<u32>>,
+    rows: HashMap<u32, Vec<u32>>,
 }
 
 impl Rows {
-    /// The rows of notes. Takes time in proportion to them, each times a logarithm of how many values they name.
+    /// The rows of notes. Takes time in proportion to them, on average over how values hash.
     pub(crate) fn of(alloc: Global, notes: &[Note]) -> Result<Rows, AllocError>
         ensures { IfOk result (λ rows. (v : ℕ) → row_of rows v ≡ row_in notes.now v) }
     {
         let mut rows = Rows {
-            rows: BTreeMap::new(alloc),
+            rows: HashMap::new(alloc),
         };
         for note in notes {
             rows.add(alloc, note.value, note.position)?;

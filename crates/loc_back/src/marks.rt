@@ -89,7 +89,8 @@ impl Marking<'_> {
     }
 
     fn start_homes(&self, alloc: Global, number: u32) -> Result<Homes, AllocError>
-        ensures { IfOk result (λ marks. marks ≡ marked self.now.homed.now (at_start self.now.flow.now.values self.now.live.now number (slice_get self.now.flow.now.nodes number)) []) }
+        ensures { IfOk result (λ marks. marks ≡ marked self.now.homed.now
+            (at_start self.now.flow.now.values self.now.live.now number (slice_get self.now.flow.now.nodes number)) []) }
     {
         let mut marks = Homes::new(alloc);
         self.mark_live(alloc, &mut marks, number)?;

@@ -284,7 +284,8 @@ impl BackPart {
     // The target, which is the first use, then the arguments.
     fn write_aimed(&mut self, alloc: Global, uses: &[u32]) -> Result<(), Memory>
         requires { length self.old.regs ≤ 16 }
-        ensures { OnOk result (self.new ≡ record self.old { lines = (aims (place_of self.old.regs) uses.now ++ moves (place_of self.old.regs) (drop 1 uses.now)) ++ self.old.lines }) }
+        ensures { OnOk result (self.new
+            ≡ record self.old { lines = (aims (place_of self.old.regs) uses.now ++ moves (place_of self.old.regs) (drop 1 uses.now)) ++ self.old.lines }) }
     {
         let Some((target, arguments)) = uses.split_first() else {
             return Ok(());

@@ -47,7 +47,8 @@ impl Forward {
         requires few { length self.old.part.regs ≤ 16 }
         requires in_row { InRow reg self.old.part }
         ensures step { OnOk result (self.new ≡ in_part (brought value reg) self.old) }
-        ensures simulates { OnOk result ((x : Course) (n : ℕ) (noted : List ℕ) → CanBring value reg self.old.part → Simulates x n noted self.old → Simulates x n (noted ++ value ∷ []) self.new) }
+        ensures simulates { OnOk result ((x : Course) (n : ℕ) (noted : List ℕ) → CanBring value reg self.old.part
+            → Simulates x n noted self.old → Simulates x n (noted ++ value ∷ []) self.new) }
     {
         self.part.bring(value, reg)?;
         Ok(())
@@ -75,7 +76,9 @@ impl Forward {
     pub fn define(&mut self, index: u32, lir: &Lir, reg: Option<u8>) -> Result<(), Memory>
         requires { Matches lir.now.def reg self.old.part }
         ensures step { OnOk result (self.new ≡ in_part (defines index lir.now.def reg) self.old) }
-        ensures simulates { OnOk result ((x : Course) → slice_get x.ops index ≡ Some (operation_of lir.now) → CanDefine x.room.values (operation_of lir.now) reg self.old.part → Simulates x index lir.now.uses self.old → Simulates x (index + 1) [] self.new) }
+        ensures simulates { OnOk result ((x : Course) → slice_get x.ops index ≡ Some (operation_of lir.now)
+            → CanDefine x.room.values (operation_of lir.now) reg self.old.part → Simulates x index lir.now.uses self.old
+            → Simulates x (index + 1) [] self.new) }
     {
         self.part.define(index, lir.def, reg)?;
         Ok(())
@@ -88,7 +91,8 @@ impl Forward {
         requires few { length self.old.part.regs ≤ 16 }
         requires some { 0 < length self.old.part.regs }
         ensures step { OnOk result (self.new ≡ in_part (called index (operation_of lir.now) keep.now) self.old) }
-        ensures simulates { OnOk result ((x : Course) → slice_get x.ops index ≡ Some (operation_of lir.now) → CanCall x.room (operation_of lir.now) self.old.part → Simulates x index [] self.old → Simulates x (index + 1) [] self.new) }
+        ensures simulates { OnOk result ((x : Course) → slice_get x.ops index ≡ Some (operation_of lir.now)
+            → CanCall x.room (operation_of lir.now) self.old.part → Simulates x index [] self.old → Simulates x (index + 1) [] self.new) }
     {
         self.part.call(alloc, index, lir, keep)?;
         Ok(())
@@ -103,8 +107,10 @@ impl Forward {
         start: Option<Places>,
     ) -> Result<(), Memory>
         ensures step { OnOk result (self.new ≡ closed start self.old) }
-        ensures ended { OnOk result ((x : Course) → Simulates x (length x.ops) (end_reads end.now) self.old → IsWalked x.room (x.done ++ task x.ops (end_reads end.now) ∷ []) self.new) }
-        ensures begun { OnOk result ((room : Room) (ops : List Operation) (q : Places) → start ≡ Some q → length q.regs ≡ room.regs → AreValues room.values q → Walked room ops 0 [] self.new.part) }
+        ensures ended { OnOk result ((x : Course) → Simulates x (length x.ops) (end_reads end.now) self.old
+            → IsWalked x.room (x.done ++ task x.ops (end_reads end.now) ∷ []) self.new) }
+        ensures begun { OnOk result ((room : Room) (ops : List Operation) (q : Places) → start ≡ Some q → length q.regs ≡ room.regs
+            → AreValues room.values q → Walked room ops 0 [] self.new.part) }
     {
         let start = match start {
             Some(start) => start,

@@ -179,7 +179,8 @@ impl Part {
     // The target, which is the first use, then the arguments.
     fn write_aimed(&mut self, alloc: Global, uses: &[u32]) -> Result<(), Memory>
         requires { length self.old.regs ≤ 16 }
-        ensures { OnOk result (self.new ≡ record self.old { lines = self.old.lines ++ (aims (place_of self.old.regs) uses.now ++ moves (place_of self.old.regs) (drop 1 uses.now)) }) }
+        ensures { OnOk result (self.new
+            ≡ record self.old { lines = self.old.lines ++ (aims (place_of self.old.regs) uses.now ++ moves (place_of self.old.regs) (drop 1 uses.now)) }) }
     {
         let Some((target, arguments)) = uses.split_first() else {
             return Ok(());

@@ -16,7 +16,8 @@ pub fn only_adds()
 
 /// A bound on the recursion that is at least the turns is never met.
 pub fn fuel_is_free()
-    ensures { (p : Program) (input : List ℕ) (n more : ℕ) → n ≤ more → outcome (bodies p more p.modules (record { store = start p input; out = []; turns = n })) ≡ meaning p input n }
+    ensures { (p : Program) (input : List ℕ) (n more : ℕ) → n ≤ more
+        → outcome (bodies p more p.modules (record { store = start p input; out = []; turns = n })) ≡ meaning p input n }
 {}
 
 /// A meaning that is over with n turns is the same with more.

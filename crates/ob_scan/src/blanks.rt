@@ -12,7 +12,9 @@ const LAST_BLANK: u8 = 32;
 /// The place after a comment, from a place in it; `None` where it isn't closed.
 fn comment_end(bytes: &[u8], from: usize) -> Option<usize>
     requires { from ≤ length bytes.now }
-    ensures { MatchOption result (close zero (drop from bytes.now) ≡ None) (λ i. (close zero (drop from bytes.now) ≡ Some (drop i bytes.now)) × (from ≤ i) × (i ≤ length bytes.now)) }
+    ensures { MatchOption result (close zero (drop from bytes.now) ≡ None)
+        (λ i. (close zero (drop from bytes.now) ≡ Some (drop i bytes.now))
+        × (from ≤ i) × (i ≤ length bytes.now)) }
 {
     let mut others: usize = 0;
     let mut i = from;

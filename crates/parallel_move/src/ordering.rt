@@ -90,7 +90,8 @@ fn add_reader(entries: &mut [Entry], writer: Option<usize>)
 // Makes the moves that can be made without X16: no move that is left is free then.
 fn make_free(entries: &mut [Entry], steps: &mut Vec<Step>) -> Result<(), AllocError>
     ensures length { length entries.new ≡ length entries.old }
-    ensures steps { OnOk result ((all : List Step) → Ordering all entries.old steps.old.items → Ordering all entries.new steps.new.items × NoneFree entries.new (length entries.new)) }
+    ensures steps { OnOk result ((all : List Step) → Ordering all entries.old steps.old.items
+        → Ordering all entries.new steps.new.items × NoneFree entries.new (length entries.new)) }
 {
     for i in 0..entries.len() {
         make_along(entries, steps, Some(i), i + 1)?;

@@ -30,7 +30,8 @@ pub fn expression(parser: &mut Parser, alloc: Global) -> Result<Expression, Pars
 
 #[cycle(expressions)]
 fn compared(parser: &mut Parser, alloc: Global) -> Result<Option<Box<Compared>>, ParseFault>
-    ensures { Gives (opt ((equal ∣ not_equal ∣ less ∣ less_equal ∣ greater ∣ greater_equal ∣ IN ∣ IS) · part simple)) (optional (boxed compared_text)) parser.old parser.new result }
+    ensures { Gives (opt ((equal ∣ not_equal ∣ less ∣ less_equal ∣ greater ∣ greater_equal ∣ IN ∣ IS) · part simple))
+        (optional (boxed compared_text)) parser.old parser.new result }
 {
     match relation(parser) {
         None => Ok(None),
@@ -212,7 +213,8 @@ pub fn designator(parser: &mut Parser, alloc: Global) -> Result<Designator, Pars
 /// `"." ident | "[" list "]" | "^" | "(" [list] ")"`
 #[cycle(expressions)]
 fn selector(parser: &mut Parser, alloc: Global) -> Result<Selector, ParseFault>
-    ensures gives { Gives (period · ident ∣ opening left_bracket (part list · right_bracket) ∣ arrow ∣ opening left_paren (opt (part list) · right_paren)) selector_text parser.old parser.new result }
+    ensures gives { Gives (period · ident ∣ opening left_bracket (part list · right_bracket) ∣ arrow
+        ∣ opening left_paren (opt (part list) · right_paren)) selector_text parser.old parser.new result }
     ensures next { OnOk result (parser.old.at < parser.new.at) }
 {
     if parser.is_at(Mark(Delimiter::Period)) {

@@ -99,7 +99,8 @@ fn maybe_assigned(parser: &mut Parser, alloc: Global) -> Result<Option<Assigned>
 /// `IF expression THEN stats {ELSIF expression THEN stats} [ELSE stats] END`
 #[cycle(statements)]
 fn if_stat(parser: &mut Parser, alloc: Global) -> Result<Stat, ParseFault>
-    ensures { Gives (opening IF (part expression · THEN · part stats · many (ELSIF · part expression · THEN · part stats) · opt (ELSE · part stats) · END)) stat_text parser.old parser.new result }
+    ensures { Gives (opening IF (part expression · THEN · part stats · many (ELSIF · part expression · THEN · part stats)
+        · opt (ELSE · part stats) · END)) stat_text parser.old parser.new result }
 {
     let if_word = parser.enter(Word(Reserved::IfWord))?;
     let guard = expression(parser, alloc)?;
@@ -229,7 +230,8 @@ fn repeat_stat(parser: &mut Parser, alloc: Global) -> Result<Stat, ParseFault>
 /// `FOR ident ":=" expression TO expression [BY expression] DO stats END`
 #[cycle(statements)]
 fn for_stat(parser: &mut Parser, alloc: Global) -> Result<Stat, ParseFault>
-    ensures { Gives (opening FOR (ident · becomes · part expression · TO · part expression · opt (BY · part expression) · DO · part stats · END)) stat_text parser.old parser.new result }
+    ensures { Gives (opening FOR (ident · becomes · part expression · TO · part expression · opt (BY · part expression) · DO
+        · part stats · END)) stat_text parser.old parser.new result }
 {
     let for_word = parser.enter(Word(Reserved::ForWord))?;
     let variable = parser.expect(Terminal::Ident)?;

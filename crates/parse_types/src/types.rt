@@ -64,7 +64,8 @@ fn array_type(parser: &mut Parser, alloc: Global) -> Result<ArrayType, ParseFaul
 /// `RECORD ["(" qualident ")"] [fields] {";" [fields]} END`
 #[cycle(types)]
 fn record_type(parser: &mut Parser, alloc: Global) -> Result<RecordType, ParseFault>
-    ensures { Gives (opening RECORD (opt (left_paren · part qualident · right_paren) · opt (part fields) · many (semicolon · opt (part fields)) · END)) record_type_text parser.old parser.new result }
+    ensures { Gives (opening RECORD (opt (left_paren · part qualident · right_paren) · opt (part fields)
+        · many (semicolon · opt (part fields)) · END)) record_type_text parser.old parser.new result }
 {
     let record_word = parser.enter(Word(Reserved::RecordWord))?;
     let base = base(parser)?;

@@ -14,7 +14,8 @@ pub fn runs_stay()
 /// Walks compose, and after a walk the run goes on from where it leads.
 pub fn walks_compose()
     ensures append { (y : System ℕ ℕ ℕ) (ps qs : List ℕ) (s t u : ℕ) (v w : List ℕ) → Walk y s ps v t → Walk y t qs w u → Walk y s (ps ++ qs) (v ++ w) u }
-    ensures runs { (y : System ℕ ℕ ℕ) (ps : List ℕ) (s : ℕ) (w : List ℕ) (t : ℕ) → Walk y s ps w t → (k : ℕ) (out : List ℕ) → run y.step (length ps + k) s out ≡ run y.step k t (out ++ w) }
+    ensures runs { (y : System ℕ ℕ ℕ) (ps : List ℕ) (s : ℕ) (w : List ℕ) (t : ℕ) → Walk y s ps w t → (k : ℕ) (out : List ℕ)
+        → run y.step (length ps + k) s out ≡ run y.step k t (out ++ w) }
 {}
 
 /// The weight of a list is that of its parts.
@@ -28,14 +29,20 @@ pub fn weights_add()
 /// What keeps up with a meaning for every number of turns is in step with it, and so agrees with it both ways; each
 /// of its traps has its source in the meaning.
 pub fn keeping_up_is_in_step()
-    ensures agrees { (y : System ℕ ℕ ℕ) (all : List ℕ) (same : ℕ → ℕ → Bool) (s : ℕ) (meaning : ℕ → Outcome ℕ) → ((n : ℕ) → Keeps y (λ _. 1) all (λ a b. IsTrue (same a b)) s n (meaning n)) → InStep y (length all) (λ a b. IsTrue (same a b)) s meaning }
-    ensures both_ways { (y : System ℕ ℕ ℕ) (points : ℕ) (same : ℕ → ℕ → Bool) (s : ℕ) (meaning : ℕ → Outcome ℕ) → InStep y points (λ a b. IsTrue (same a b)) s meaning → Agrees y (λ a b. IsTrue (same a b)) s meaning }
-    ensures source { (y : System ℕ ℕ ℕ) (points : ℕ) (same : ℕ → ℕ → Bool) (s : ℕ) (meaning : ℕ → Outcome ℕ) → InStep y points (λ a b. IsTrue (same a b)) s meaning → (m trap : ℕ) (out : List ℕ) → run y.step m s [] ≡ Trapped trap out → (mine : ℕ) × IsTrue (same mine trap) }
+    ensures agrees { (y : System ℕ ℕ ℕ) (all : List ℕ) (same : ℕ → ℕ → Bool) (s : ℕ) (meaning : ℕ → Outcome ℕ)
+        → ((n : ℕ) → Keeps y (λ _. 1) all (λ a b. IsTrue (same a b)) s n (meaning n))
+        → InStep y (length all) (λ a b. IsTrue (same a b)) s meaning }
+    ensures both_ways { (y : System ℕ ℕ ℕ) (points : ℕ) (same : ℕ → ℕ → Bool) (s : ℕ) (meaning : ℕ → Outcome ℕ)
+        → InStep y points (λ a b. IsTrue (same a b)) s meaning → Agrees y (λ a b. IsTrue (same a b)) s meaning }
+    ensures source { (y : System ℕ ℕ ℕ) (points : ℕ) (same : ℕ → ℕ → Bool) (s : ℕ) (meaning : ℕ → Outcome ℕ)
+        → InStep y points (λ a b. IsTrue (same a b)) s meaning → (m trap : ℕ) (out : List ℕ) → run y.step m s [] ≡ Trapped trap out
+        → (mine : ℕ) × IsTrue (same mine trap) }
 {}
 
 /// A lower system that carries out an upper one keeps up with what the upper one keeps up with.
 pub fn carrying_out_keeps_up()
-    ensures { (x y : System ℕ ℕ ℕ) (least : ℕ → ℕ) (words : ℕ → List ℕ) (all places : List ℕ) (similar same : ℕ → ℕ → Bool) → Lowers x y least words all places (λ a b. IsTrue (similar a b)) (λ a b. IsTrue (same a b)) }
+    ensures { (x y : System ℕ ℕ ℕ) (least : ℕ → ℕ) (words : ℕ → List ℕ) (all places : List ℕ) (similar same : ℕ → ℕ → Bool)
+        → Lowers x y least words all places (λ a b. IsTrue (similar a b)) (λ a b. IsTrue (same a b)) }
 {}
 
 /// What carries out a system that carries out another carries out that one.
@@ -43,5 +50,6 @@ pub fn layers_compose()
     ensures { (x y z : System ℕ ℕ ℕ) (least fewest lowest : ℕ → ℕ) (words bits : ℕ → List ℕ) (similar alike same equal : ℕ → ℕ → Bool)
         → CarriesBy x y least fewest words (λ a b. IsTrue (similar a b)) (λ a b. IsTrue (same a b))
         → CarriesBy y z fewest lowest bits (λ a b. IsTrue (alike a b)) (λ a b. IsTrue (equal a b))
-        → CarriesBy x z least lowest (λ p. flat_map bits (words p)) (Through (λ a b. IsTrue (similar a b)) (λ a b. IsTrue (alike a b))) (Through (λ a b. IsTrue (same a b)) (λ a b. IsTrue (equal a b))) }
+        → CarriesBy x z least lowest (λ p. flat_map bits (words p)) (Through (λ a b. IsTrue (similar a b)) (λ a b. IsTrue (alike a b)))
+        (Through (λ a b. IsTrue (same a b)) (λ a b. IsTrue (equal a b))) }
 {}

@@ -14,7 +14,8 @@ use std::alloc::{AllocError, Global};
 /// and homed values, or to the flow's values where there is no hint.
 pub fn trivial(alloc: Global, t: &TraceIn, hint: Option<&Places>) -> Result<TraceOut, Memory>
     ensures trivial { IfOk result (λ out. out ≡ trivial (case_of t.now) t.now.number t.now.trace.now.nodes (hint_of t.now.from (lent hint.entry))) }
-    ensures sound { IsInput (case_of t.now) t.now.trace.now.nodes (hint_of t.now.from (lent hint.entry)) → IsTrivial t.now.flow.now t.now.trace.now.nodes → IfOk result (IsSound t.now.regs t.now.flow.now t.now.trace.now) }
+    ensures sound { IsInput (case_of t.now) t.now.trace.now.nodes (hint_of t.now.from (lent hint.entry))
+        → IsTrivial t.now.flow.now t.now.trace.now.nodes → IfOk result (IsSound t.now.regs t.now.flow.now t.now.trace.now) }
 {
     let nodes = t.trace.nodes.as_slice();
     let mut out = empty(alloc, t.number);
