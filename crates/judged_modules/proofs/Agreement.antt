@@ -30,7 +30,7 @@ use Rattle.judged_tree.specs.Outline.{outlined_procedure}
 use Rattle.judged_modules.specs.Final.{final_of}
 use Rattle.judged_modules.specs.Agrees.{Agrees, IsProcedure, IsVariable, value_shapes, formals_of, records_of, bases_of}
 use Rattle.judged_modules.proofs.Lists.{get_within}
-use Rattle.judged_modules.proofs.Lines.{AllLines, IsLine, unknown, root, behind}
+use Rattle.judged_modules.specs.Lines.{AllLines, IsLine, unknown, root, behind}
 
 -- ---- lists that come out the same
 

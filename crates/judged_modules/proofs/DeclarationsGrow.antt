@@ -16,9 +16,10 @@ use Rattle.judged_well.specs.Gives.{Gives}
 use Rattle.judged_well.proofs.Judging.{keeps, breaks, weaken, and_then}
 use Rattle.judged_modules.specs.Agrees.{records_of, bases_of}
 use Rattle.judged_modules.proofs.Lists.{get_append, get_within, set_other, set_length}
-use Rattle.judged_modules.proofs.Lines.{AllLines}
+use Rattle.judged_modules.specs.Lines.{AllLines}
 use Rattle.judged_modules.proofs.Growing.{Grows, self, onward}
-use Rattle.judged_modules.proofs.TypesGrow.{Each, each_map, GrowsIn, calm, still, follows, InTo, i_next, i_stand, i_type}
+use Rattle.judged_modules.specs.Lists.{Each}
+use Rattle.judged_modules.proofs.TypesGrow.{each_map, GrowsIn, calm, still, follows, InTo, i_next, i_stand, i_type}
 
 abbrev pub To : {A : Type 0} → Making → A × Making → Type 0
 To s r = Grows s r.1

@@ -24,7 +24,8 @@ use Rattle.judged_modules.specs.Agrees.{Agrees, IsVariable, bases_of}
 use Rattle.judged_modules.specs.Sound.{IsGood, IsKept}
 use Rattle.judged_modules.proofs.Lists.{get_last}
 use Rattle.judged_modules.proofs.Growing.{onward}
-use Rattle.judged_modules.proofs.TypesGrow.{Each, each_map, GrowsIn}
+use Rattle.judged_modules.specs.Lists.{Each}
+use Rattle.judged_modules.proofs.TypesGrow.{each_map, GrowsIn}
 use Rattle.judged_modules.proofs.DeclarationsGrow.{i_declared, one_variable, SetsBases, typing, typed, set_forwards, i_type_decls, typed_grows}
 use Rattle.judged_modules.proofs.Righting.{agrees_back, right_of}
 use Rattle.judged_modules.proofs.Keeping.{Ok, Some_, k_next, k_look, k_give, k_stand, k_declared}

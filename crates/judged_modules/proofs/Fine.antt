@@ -5,6 +5,7 @@ use Rattle.ob_types.specs.declared.types.TypeKind.TheVariants as TheKind
 use Rattle.ob_types.specs.declared.types.Formal.{Formal as FormalOf}
 use Rattle.ob_types.specs.declared.program.Program.{Program}
 use Rattle.ob_types.specs.Layout.{kind_of}
+use Rattle.ob_types.specs.Table.{Table}
 use Rattle.ob_types.specs.Meaning.{procedure_of}
 use Rattle.ob_types.specs.Forms.{all}
 use Rattle.ob_types.specs.LegalTypes.{mode_fits, formal_legal}
@@ -22,9 +23,9 @@ use Rattle.judged_well.proofs.Whole.{body_fine, answer_fine}
 use Rattle.judged_modules.specs.Final.{final_of}
 use Rattle.judged_modules.specs.Made.{IsParameter, AreParameters, IsWell}
 
-module _ (p : Program) (ok : IsFaithful p.types) (inside : IsInside p) where
+module _ (t : Table) (ok : IsFaithful t) where
   -- a parameter that is handed over as its shape is is so as its type is
-  mode_of_kind : (k : ℕ) (v : Bool) (kind : TypeKind) → is_formal (here p.types ok k kind) ≡ true → mode_fits (mode_of v (here p.types ok k kind)) v kind ≡ true
+  pub mode_of_kind : (k : ℕ) (v : Bool) (kind : TypeKind) → is_formal (here t ok k kind) ≡ true → mode_fits (mode_of v (here t ok k kind)) v kind ≡ true
   mode_of_kind k true TheKind.Int h = refl
   mode_of_kind k false TheKind.Int h = refl
   mode_of_kind k true TheKind.Bool h = refl
@@ -49,11 +50,12 @@ module _ (p : Program) (ok : IsFaithful p.types) (inside : IsInside p) where
   mode_of_kind k v TheKind.Nothing h = no h
   mode_of_kind k v (TheKind.Text n) h = no h
 
+module _ (p : Program) (ok : IsFaithful p.types) (inside : IsInside p) where
   legal_formal : (x : FormalOf) → IsParameter (final_of p) (plain_formal p.types x) → formal_legal p.types x ≡ true
   legal_formal x h =
       let shape = is_here p.types ok x.type_number in
       subst (λ m. mode_fits m x.variable (kind_of p.types x.type_number) ≡ true) (sym (h.0 ∙ ap (mode_of x.variable) shape))
-      (mode_of_kind x.type_number x.variable (kind_of p.types x.type_number) (ap is_formal (sym shape) ∙ h.1))
+      (mode_of_kind p.types ok x.type_number x.variable (kind_of p.types x.type_number) (ap is_formal (sym shape) ∙ h.1))
 
   legal_formals : (xs : List FormalOf) → AreParameters (final_of p) (map (plain_formal p.types) xs) → all (formal_legal p.types) xs ≡ true
   legal_formals [] h = refl

@@ -5,7 +5,7 @@ use Rattle.ob_judge.specs.Judged.{Judged, Keeps, Breaks, ◌>>=◌, ◌>>◌, ru
 use Rattle.ob_judge.specs.Shapes.{Shape}
 use Rattle.ob_judge.specs.Scopes.{World}
 use Rattle.ob_judge.specs.Making.{Making, Part, ◌>>>◌, give, here, become, ask}
-use Rattle.judged_modules.proofs.Lines.{AllLines}
+use Rattle.judged_modules.specs.Lines.{AllLines}
 use Rattle.judged_modules.specs.Agrees.{records_of, bases_of}
 
 -- ---- what a part that keeps its rules went through

@@ -1,16 +1,16 @@
-mod Lists
-mod Lines
-mod Growing
-mod TypesGrow
-mod DeclarationsGrow
-mod Righting
-mod Keeping
-mod Fields
-mod Parameters
-mod TypesStand
-mod DeclarationsStand
-mod ProceduresStand
-mod ModulesStand
-mod Fine
-mod Agreement
-mod OneModule
+pub mod Lists
+pub mod Lines
+pub mod Growing
+pub mod TypesGrow
+pub mod DeclarationsGrow
+pub mod Righting
+pub mod Keeping
+pub mod Fields
+pub mod Parameters
+pub mod TypesStand
+pub mod DeclarationsStand
+pub mod ProceduresStand
+pub mod ModulesStand
+pub mod Fine
+pub mod Agreement
+pub mod OneModule

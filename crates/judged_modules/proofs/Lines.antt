@@ -4,16 +4,8 @@ use Rattle.std.specs.Prelude.{slice_get, slice_set}
 use Rattle.ob_types.proofs.Tests.{some_same, less_or_past}
 use Rattle.ob_judge.specs.Shapes.{Layout}
 use Rattle.ob_judge.specs.Making.{no_layout}
+use Rattle.judged_modules.specs.Lines.{IsLine, AllLines, unknown, root, behind}
 use Rattle.judged_modules.proofs.Lists.{get_append, get_last, get_within, set_other, set_here, append_length}
-
--- the line of record type r among these: none yet, itself, or itself before the line of another
-pub data IsLine (records : List Layout) (r : ℕ) (line : List ℕ) : Type 0 where
-  unknown : line ≡ [] → IsLine records r line
-  root : line ≡ r ∷ [] → IsLine records r line
-  behind : (b : ℕ) (l : Layout) → slice_get records b ≡ Some l → (l.line ≡ [] → ⊥) → line ≡ r ∷ l.line → IsLine records r line
-
-abbrev pub AllLines : List Layout → Type 0
-AllLines records = (r : ℕ) (l : Layout) → slice_get records r ≡ Some l → IsLine records r l.line
 
 -- the line of its base: none, or that of a record type
 pub data IsBaseLine (records : List Layout) (line : List ℕ) : Type 0 where

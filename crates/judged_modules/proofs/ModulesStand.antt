@@ -37,7 +37,7 @@ use Rattle.judged_modules.proofs.ProceduresStand.{Done, done_self, done_on, from
 
 module _ (w : Final) where
   -- the scope in which the first module begins
-  kept_type : (n : ℕ) (a : _) → ((f : ℕ) → Rattle.judged_well.specs.Standing.ObjectStands (setting_in w f) (AType a)) → IsKept w n (AType a)
+  pub kept_type : (n : ℕ) (a : _) → ((f : ℕ) → Rattle.judged_well.specs.Standing.ObjectStands (setting_in w f) (AType a)) → IsKept w n (AType a)
   kept_type n a h f seen = (h f, tt)
 
   pub first_sound : Sound w (first_making no_modules).world

@@ -39,7 +39,7 @@ kept_same a b h = cc
 legal_same : (a b : Tree.Program) → Legal a ≡ Legal b → a ≡ b
 legal_same a b h = cc
 
-there_at : {A : Type 0} (xs : List A) (n : ℕ) → n < length xs → (x : A) × (slice_get xs n ≡ Some x)
+pub there_at : {A : Type 0} (xs : List A) (n : ℕ) → n < length xs → (x : A) × (slice_get xs n ≡ Some x)
 there_at [] n l = absurd (omega (arith, l))
 there_at (x ∷ xs) zero l = (x, refl)
 there_at (x ∷ xs) (suc n) l = there_at xs n (omega (arith, l))
@@ -127,18 +127,18 @@ module _ (p : Program) (ok : IsFaithful p.types) (inside : IsInside p) (fine : t
 
   -- ---- strings
 
-  abbrev AreBytes : List (List ℕ) → Type 0
+  abbrev pub AreBytes : List (List ℕ) → Type 0
   AreBytes xs = all (all (λ c. nat_lt c 256)) xs ≡ true
 
   bytes_both : (xs ys : List (List ℕ)) → AreBytes xs → AreBytes ys → AreBytes (xs ++ ys)
   bytes_both [] ys h k = k
   bytes_both (x ∷ xs) ys h k = let g = and_of (all (λ c. nat_lt c 256) x) (all (all (λ c. nat_lt c 256)) xs) h in and_from (all (λ c. nat_lt c 256) x) (all (all (λ c. nat_lt c 256)) (xs ++ ys)) g.0 (bytes_both xs ys g.1 k)
 
-  well_bytes : (f : ℕ) (k : Procedure) → IsWell (final_of p) f k → AreBytes k.texts
+  pub well_bytes : (f : ℕ) (k : Procedure) → IsWell (final_of p) f k → AreBytes k.texts
   well_bytes f k well = subst AreBytes (sym well.texts) (bytes_both (in_statements k.body) (in_answer k.answer)
       (b_statements (setting_of p f) (outline (setting_of p f)) k.body well.body) (answer_bytes (setting_of p f) k.result k.answer well.answer))
 
-  texts_bytes : (rs : List ProcedureOf) → ((f : ℕ) (r : ProcedureOf) → slice_get rs f ≡ Some r → AreBytes r.texts) → AreBytes (texts_of_all rs)
+  pub texts_bytes : (rs : List ProcedureOf) → ((f : ℕ) (r : ProcedureOf) → slice_get rs f ≡ Some r → AreBytes r.texts) → AreBytes (texts_of_all rs)
   texts_bytes [] h = refl
   texts_bytes (r ∷ rs) h = bytes_both r.texts (texts_of_all rs) (h 0 r refl) (texts_bytes rs (λ f x at. h (suc f) x at))
 

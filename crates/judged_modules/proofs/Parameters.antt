@@ -23,9 +23,10 @@ use Rattle.judged_modules.specs.Final.{Final, setting_in}
 use Rattle.judged_modules.specs.Agrees.{Agrees, value_shapes, formals_of, records_of, bases_of}
 use Rattle.judged_modules.specs.Sound.{IsGood, IsKept, Sound, IsHere}
 use Rattle.judged_modules.proofs.Lists.{get_append, get_last, get_within, append_length}
-use Rattle.judged_modules.proofs.Lines.{AllLines}
+use Rattle.judged_modules.specs.Lines.{AllLines}
 use Rattle.judged_modules.proofs.Growing.{Grows, untouched}
-use Rattle.judged_modules.proofs.TypesGrow.{Each, each_append, joined, right_none}
+use Rattle.judged_modules.specs.Lists.{Each}
+use Rattle.judged_modules.proofs.TypesGrow.{each_append, joined, right_none}
 use Rattle.judged_modules.proofs.Righting.{agrees_back, here_in, here_between, right_of}
 use Rattle.judged_modules.proofs.Keeping.{given, sound_declared}
 

@@ -29,7 +29,8 @@ use Rattle.judged_modules.specs.Sound.{IsKept, AllNames, Sound, IsHere}
 use Rattle.judged_modules.specs.Made.{AreParameters, IsWell, AllMade}
 use Rattle.judged_modules.proofs.Lists.{get_append, get_behind, get_last, get_within, set_other, set_here, set_length, append_length}
 use Rattle.judged_modules.proofs.Growing.{Grows, untouched, self, onward}
-use Rattle.judged_modules.proofs.TypesGrow.{Each, InTo, i_next, i_look, i_stand, i_type}
+use Rattle.judged_modules.specs.Lists.{Each}
+use Rattle.judged_modules.proofs.TypesGrow.{InTo, i_next, i_look, i_stand, i_type}
 use Rattle.judged_modules.proofs.DeclarationsGrow.{t_typed, i_declared}
 use Rattle.judged_modules.proofs.Righting.{agrees_back, here_in, right_of}
 use Rattle.judged_modules.proofs.Keeping.{Ok, Some_, given, k_stand, offer_world}

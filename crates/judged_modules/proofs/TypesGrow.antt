@@ -11,6 +11,7 @@ use Rattle.ob_judge.specs.Parameters.{stand, type_at, formal_part, idents_list}
 use Rattle.ob_judge.specs.Types.{limit, array_length, array_lengths, arrays, base_layout, record_only, stand_fields, add_fields, among_fields, forward_name, type_part, fields_part, more_part, place_of_type, layout_of}
 use Rattle.judged_well.specs.Gives.{Gives}
 use Rattle.judged_well.proofs.Judging.{keeps, breaks, weaken, and_then, anything, by_some, by_rule, gives_both}
+use Rattle.judged_modules.specs.Lists.{Each}
 use Rattle.judged_modules.specs.Agrees.{records_of, bases_of}
 use Rattle.judged_modules.proofs.Lists.{get_append, get_within, get_last, set_other, set_length, append_length}
 use Rattle.judged_modules.proofs.Lines.{IsBaseLine, alone, based, base_line_later, lines_with_record, lines_set}
@@ -18,10 +19,6 @@ use Rattle.judged_modules.proofs.Growing.{Grows, untouched, onward}
 use Rattle.ob_syntax.specs.declared.types.Base.{Base}
 
 -- ---- what holds of each
-
-abbrev pub Each : {A : Type 0} → (A → Type 0) → List A → Type 0
-Each P [] = Unit {0}
-Each P (x ∷ xs) = P x × Each P xs
 
 pub each_map : {A : Type 0} (P Q : A → Type 0) (xs : List A) → ((x : A) → P x → Q x) → Each P xs → Each Q xs
 each_map P Q [] f h = tt

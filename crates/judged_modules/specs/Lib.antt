@@ -2,3 +2,5 @@ pub mod Final
 pub mod Agrees
 pub mod Sound
 pub mod Made
+pub mod Lines
+pub mod Lists

@@ -1,0 +1,8 @@
+use Rattle.std.proofs.Common.{subst, ap}
+use Rattle.judged_modules.proofs.Growing.{kept_same}
+use Rattle.judged_programs.specs.Tidy.{Tidy}
+use Rattle.judged_programs.proofs.TypesTidy.{tidy_with_record}
+use Rattle.judged_programs.proofs.records.begun_records_stay_tidy.Goals as goal
+
+pub returns : goal.returns
+returns c = λ from s t n is tidy. subst (Tidy from) (ap (λ r. r.1) (kept_same _ (n, t) is)) (tidy_with_record from s tidy)
