@@ -1,0 +1,15 @@
+pub mod Reach
+pub mod Images
+pub mod Named
+pub mod Parted
+pub mod Called
+pub mod Expressed
+pub mod Stated
+pub mod Outlined
+pub mod Parts
+pub mod Parameters
+pub mod Types
+pub mod Declared
+pub mod Tidies
+pub mod Modules
+pub mod Uprights
