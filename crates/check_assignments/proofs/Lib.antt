@@ -1,1 +1,1 @@
-mod Assigning
+pub mod Assigning

@@ -112,7 +112,8 @@ impl<'a> Scope<'a> {
 
     // What a name stands for in a module before.
     fn find_in(&self, number: u32, name: &[u8]) -> Option<Declared>
-        ensures { option_map (entry_of (table_of self.now) (strings_of self.now)) result ≡ names_in_module self.now.source.now (world_of self.now) (imported_of (Imported.Earlier number)) name.now }
+        ensures { option_map (entry_of (table_of self.now) (strings_of self.now)) result ≡ names_in_module self.now.source.now
+            (world_of self.now) (imported_of (Imported.Earlier number)) name.now }
     {
         match self.modules.get(number as usize) {
             None => None,
@@ -193,7 +194,8 @@ impl<'a> Scope<'a> {
 
     /// How a variable is narrowed here, if it is.
     pub fn narrowing(&self, variable: VariablePlace) -> Option<Narrowing>
-        ensures { option_map (narrowing_of (table_of self.now) (strings_of self.now)) result ≡ narrowing_at self.now.source.now (world_of self.now) (place_of variable) (world_of self.now).narrowed }
+        ensures { option_map (narrowing_of (table_of self.now) (strings_of self.now)) result ≡ narrowing_at self.now.source.now
+            (world_of self.now) (place_of variable) (world_of self.now).narrowed }
     {
         let mut found = None;
         for narrowing in self.narrowed {

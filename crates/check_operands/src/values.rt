@@ -41,7 +41,9 @@ pub fn form<'a>(scope: &Scope<'a>, x: Operand) -> Expr
 
 /// Where an operand stands, with its type: a string is an array of its characters and a 0X.
 pub fn designator<'a>(scope: &Scope<'a>, x: Operand) -> Designator
-    ensures { (a : Judgement) → Stands scope.now x a → plain_designator (table_of scope.now) (texts_of scope.now) result ≡ outlined_designator (bases_of scope.now) (designator_from a) }
+    ensures { (a : Judgement) → Stands scope.now x a
+        → plain_designator (table_of scope.now) (texts_of scope.now) result ≡ outlined_designator (bases_of scope.now)
+        (designator_from a) }
 {
     let Operand { of, what, .. } = x;
     let kind = scope.types.kind_of(of);

@@ -177,7 +177,9 @@ pub fn related<'a>(
 
 /// An element of a set: 31 where it is no number.
 pub fn set_element<'a>(scope: &Scope<'a>, symbol: u32, x: Operand) -> Result<Expr, CheckFault>
-    ensures { (a : Judgement) → Stands scope.now x a → Answers (IsTree scope.now) (judged_element scope.now.source.now (world_of scope.now) (place scope.now.source.now symbol) a) result }
+    ensures { (a : Judgement) → Stands scope.now x a
+        → Answers (IsTree scope.now) (judged_element scope.now.source.now (world_of scope.now)
+        (place scope.now.source.now symbol) a) result }
 {
     if x.of.is_number() {
         Ok(form(scope, x))

@@ -52,7 +52,8 @@ pub fn element<'a>(
     x: Part,
     i: Operand,
 ) -> Result<Part, CheckFault>
-    ensures { JudgesElement scope.now x i (judged_element scope.now.source.now (world_of scope.now) (place scope.now.source.now symbol) (place scope.now.source.now index_symbol)) result }
+    ensures { JudgesElement scope.now x i (judged_element scope.now.source.now (world_of scope.now)
+        (place scope.now.source.now symbol) (place scope.now.source.now index_symbol)) result }
 {
     match x.of {
         TypeRef::Array { length, element } => {

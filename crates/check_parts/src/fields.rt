@@ -18,7 +18,8 @@ use std::alloc::Global;
 
 // A field of a record type by its name.
 fn find<'a>(scope: &Scope<'a>, record_type: u32, name: &[u8]) -> Option<FieldEntry>
-    ensures { option_map (field_of (table_of scope.now)) result ≡ fields_from scope.now.source.now (world_of scope.now) (slice_get (known_of scope.now.types.now).records record_type) name.now }
+    ensures { option_map (field_of (table_of scope.now)) result ≡ fields_from scope.now.source.now (world_of scope.now)
+        (slice_get (known_of scope.now.types.now).records record_type) name.now }
 {
     match scope.types.layouts.get(record_type as usize) {
         Some(layout) => layout.fields.get(name).copied(),
@@ -79,7 +80,8 @@ fn field_behind<'a>(
     record_type: u32,
     x: Part,
 ) -> Result<Part, CheckFault>
-    ensures { JudgesPart scope.now x (λ a. judged_field_in scope.now.source.now (world_of scope.now) i record_type (followed_from scope.now.source.now (world_of scope.now) a record_type)) result }
+    ensures { JudgesPart scope.now x (λ a. judged_field_in scope.now.source.now (world_of scope.now) i record_type
+        (followed_from scope.now.source.now (world_of scope.now) a record_type)) result }
 {
     let target = followed(alloc, scope, record_type, x)?;
     field_in(scope, alloc, i, record_type, target)

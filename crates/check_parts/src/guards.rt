@@ -27,7 +27,8 @@ use tree_parts::{Place, is_pointer};
 // The record type that a guard or a test asks for, if it may: the type extends that of a pointer, or of a VAR record
 // parameter.
 fn tested_tag<'a>(scope: &Scope<'a>, of: TypeRef, usage: Use, t: TypeRef) -> Option<u32>
-    ensures { (a : Judgement) → type_shape (table_of scope.now) of ≡ a.shape → use_of usage ≡ a.use_ → judged_tag scope.now.source.now (world_of scope.now) a (type_shape (table_of scope.now) t) ≡ result }
+    ensures { (a : Judgement) → type_shape (table_of scope.now) of ≡ a.shape → use_of usage ≡ a.use_
+        → judged_tag scope.now.source.now (world_of scope.now) a (type_shape (table_of scope.now) t) ≡ result }
 {
     match t {
         TypeRef::Pointer(_) => {
@@ -57,7 +58,8 @@ fn first_guard<'a>(
     pointer: u32,
     r: u32,
 ) -> Result<Part, CheckFault>
-    ensures { (a : Judgement) → type_shape (table_of scope.now) own ≡ a.shape → IsNamedAt scope.now place a.what → Answers (IsPart scope.now) (guard_in scope.now (Pointer pointer) r a) result }
+    ensures { (a : Judgement) → type_shape (table_of scope.now) own ≡ a.shape → IsNamedAt scope.now place a.what
+        → Answers (IsPart scope.now) (guard_in scope.now (Pointer pointer) r a) result }
 {
     further_guard(scope, place, own, Items::new(alloc), pointer, r)
 }
@@ -129,7 +131,8 @@ pub fn guarded<'a>(
     x: Part,
     t: TypeRef,
 ) -> Result<Part, CheckFault>
-    ensures { JudgesPart scope.now x (λ a. judged_guarded scope.now.source.now (world_of scope.now) (place scope.now.source.now symbol) a (type_shape (table_of scope.now) t)) result }
+    ensures { JudgesPart scope.now x (λ a. judged_guarded scope.now.source.now (world_of scope.now)
+        (place scope.now.source.now symbol) a (type_shape (table_of scope.now) t)) result }
 {
     match tested_tag(scope, x.of, x.usage, t) {
         None => Err(scope.source.fault(31, symbol)),

@@ -113,7 +113,8 @@ impl TypeTable {
 
     // Whether two signatures are the same.
     fn same_signature(&self, g: u32, h: u32) -> bool
-        ensures { same_shape (Procedure (formals_of self.now.types g) (result_of self.now.types g)) (Procedure (formals_of self.now.types h) (result_of self.now.types h)) ≡ result }
+        ensures { same_shape (Procedure (formals_of self.now.types g) (result_of self.now.types g))
+            (Procedure (formals_of self.now.types h) (result_of self.now.types h)) ≡ result }
     {
         self.same_formals(self.formals(g), self.formals(h))
             && self.same_results(self.result(g), self.result(h))

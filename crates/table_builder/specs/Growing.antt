@@ -19,6 +19,11 @@ pub record Grows (old new : TypeTable) : Type 0 where
   pub entry : (n : ℕ) (e : TypeRef) → slice_get old.entries.items n ≡ Some e → slice_get new.entries.items n ≡ Some e
   pub shape : (e : TypeRef) → IsNumbered old.entries.items e → type_shape new.types e ≡ type_shape old.types e
 
+-- the list is as it was, or with this behind it
+pub data AddsOnly {A : Type 0} (x : A) (old new : List A) : Type 0 where
+  as_before : new ≡ old → AddsOnly x old new
+  behind : new ≡ old ++ x ∷ [] → AddsOnly x old new
+
 -- what is known of types, with one more record type or pointer type, or with one of them known
 abbrev pub with_blank_record : Known → Known
 with_blank_record k = record k { records = k.records ++ no_layout ∷ [] }

@@ -8,7 +8,7 @@ ghost use Rattle.check_steps.specs.Maps.{at_bytes};
 ghost use Rattle.check_types.specs.TypeMeaning.{type_shape};
 ghost use Rattle.check_types.specs.Known.{known_of, layout_of};
 ghost use Rattle.table_builder.specs.Entries.{IsNumbered, IsElement, HasWholeElements};
-ghost use Rattle.table_builder.specs.Growing.{Grows, with_blank_record, with_blank_pointer, with_layout, with_base, procedure_shape};
+ghost use Rattle.table_builder.specs.Growing.{AddsOnly, Grows, with_blank_record, with_blank_pointer, with_layout, with_base, procedure_shape};
 ghost use Rattle.table_builder.specs.Index.{IsArray, basic_types, signature_parts as parts_of};
 ghost use Rattle.table_builder.specs.Builder.{IsBuilt};
 ghost use Rattle.table_builder.specs.Contents.{IsReady};
@@ -52,6 +52,7 @@ impl TableBuilder {
         ensures built { IfOk result (λ b. IsBuilt b) }
         ensures entries { IfOk result (λ b. b.table.entries.items ≡ basic_types) }
         ensures known { IfOk result (λ b. known_of b.table ≡ record { records = []; bases = [] }) }
+        ensures signatures { IfOk result (λ b. b.table.types.signatures ≡ []) }
     {
         let mut table = empty_table(alloc);
         push_basics(&mut table)?;
@@ -94,6 +95,8 @@ impl TableBuilder {
         ensures grows { Grows self.old.table self.new.table }
         ensures known { known_of self.new.table ≡ known_of self.old.table }
         ensures numbered { OnOk result (IsNumbered self.new.table.entries.items of) }
+        ensures entries { OnOk result (AddsOnly of self.old.table.entries.items self.new.table.entries.items) }
+        ensures signatures { self.new.table.types.signatures ≡ self.old.table.types.signatures }
     {
         if self.numbers.find(of).is_some() {
             return Ok(());
@@ -118,6 +121,8 @@ impl TableBuilder {
         ensures known { known_of self.new.table ≡ known_of self.old.table }
         ensures element { IfOk result (λ k. IsElement self.new.table.entries.items k) }
         ensures shape { IfOk result (λ k. type_shape self.new.table.types k ≡ Array length (type_shape self.old.table.types element)) }
+        ensures entries { IfOk result (λ k. AddsOnly k self.old.table.entries.items self.new.table.entries.items) }
+        ensures signatures { self.new.table.types.signatures ≡ self.old.table.types.signatures }
     {
         let number = self.number(element);
         let of = TypeRef::Array {
@@ -137,6 +142,8 @@ impl TableBuilder {
         ensures known { known_of self.new.table ≡ known_of self.old.table }
         ensures numbered { IfOk result (λ k. IsNumbered self.new.table.entries.items k) }
         ensures shape { IfOk result (λ k. type_shape self.new.table.types k ≡ Open (type_shape self.old.table.types element)) }
+        ensures entries { IfOk result (λ k. AddsOnly k self.old.table.entries.items self.new.table.entries.items) }
+        ensures signatures { self.new.table.types.signatures ≡ self.old.table.types.signatures }
     {
         let number = self.number(element);
         let of = TypeRef::Open(number);
@@ -153,6 +160,8 @@ impl TableBuilder {
         ensures known { OnOk result (known_of self.new.table ≡ with_blank_record (known_of self.old.table)) }
         ensures element { IfOk result (λ r. IsElement self.new.table.entries.items (TypeRef.Record r)) }
         ensures same { OnErr result (known_of self.new.table ≡ known_of self.old.table) }
+        ensures entries { IfOk result (λ r. self.new.table.entries.items ≡ self.old.table.entries.items ++ TypeRef.Record r ∷ []) }
+        ensures signatures { self.new.table.types.signatures ≡ self.old.table.types.signatures }
     {
         let r = next_number(&self.table.layouts)?;
         let n = next_number(&self.table.entries)?;
@@ -177,6 +186,8 @@ impl TableBuilder {
         ensures known { OnOk result (known_of self.new.table ≡ with_blank_pointer (known_of self.old.table)) }
         ensures element { IfOk result (λ p. IsElement self.new.table.entries.items (TypeRef.Pointer p)) }
         ensures same { OnErr result (known_of self.new.table ≡ known_of self.old.table) }
+        ensures entries { IfOk result (λ p. self.new.table.entries.items ≡ self.old.table.entries.items ++ TypeRef.Pointer p ∷ []) }
+        ensures signatures { self.new.table.types.signatures ≡ self.old.table.types.signatures }
     {
         let p = next_number(&self.table.bases)?;
         let n = next_number(&self.table.entries)?;
@@ -197,6 +208,8 @@ impl TableBuilder {
         ensures built { IsBuilt self.new }
         ensures grows { Grows self.old.table self.new.table }
         ensures known { known_of self.new.table ≡ with_base pointer r (known_of self.old.table) }
+        ensures entries { self.new.table.entries.items ≡ self.old.table.entries.items }
+        ensures signatures { self.new.table.types.signatures ≡ self.old.table.types.signatures }
     {
         let n = self.number(TypeRef::Pointer(pointer));
         set_target(&mut self.table, n, pointer, r);
@@ -212,6 +225,9 @@ impl TableBuilder {
         ensures known { known_of self.new.table ≡ known_of self.old.table }
         ensures element { IfOk result (λ k. IsElement self.new.table.entries.items k) }
         ensures shape { IfOk result (λ k. type_shape self.new.table.types k ≡ procedure_shape self.old.table.types formals result_type) }
+        ensures entries { IfOk result (λ k. AddsOnly k self.old.table.entries.items self.new.table.entries.items) }
+        ensures signatures { OnOk result
+            (AddsOnly (record { formals = formals; result = result_type }) self.old.table.types.signatures self.new.table.types.signatures) }
     {
         let parts = signature_parts(self.alloc, formals.as_slice(), result_type)?;
         if let Some(g) = self.numbers.signature(&parts) {
@@ -235,6 +251,8 @@ impl TableBuilder {
         ensures known { known_of self.new.table ≡ known_of self.old.table }
         ensures element { IfOk result (λ k. IsElement self.new.table.entries.items k) }
         ensures shape { IfOk result (λ k. type_shape self.new.table.types k ≡ procedure_shape self.old.table.types signature.formals signature.result) }
+        ensures entries { IfOk result (λ k. AddsOnly k self.old.table.entries.items self.new.table.entries.items) }
+        ensures signatures { OnOk result (AddsOnly signature self.old.table.types.signatures self.new.table.types.signatures) }
     {
         let g = next_number(self.table.types.signatures())?;
         let n = next_number(&self.table.entries)?;
@@ -258,6 +276,8 @@ impl TableBuilder {
         ensures grows { Grows self.old.table self.new.table }
         ensures known { OnOk result (known_of self.new.table ≡ with_layout r (layout_of self.old.table.types layout) (known_of self.old.table)) }
         ensures same { OnErr result (known_of self.new.table ≡ known_of self.old.table) }
+        ensures entries { self.new.table.entries.items ≡ self.old.table.entries.items }
+        ensures signatures { self.new.table.types.signatures ≡ self.old.table.types.signatures }
     {
         let declared = self.declared(&layout)?;
         set_layout(&mut self.table, r, layout, declared);

@@ -43,7 +43,8 @@ impl Place {
 
     /// An element.
     pub fn index(self, length: Option<u32>, element: u32, index: Expr) -> Result<Place, AllocError>
-        ensures { IfOk result (λ p. (t : Table) (texts : List (List ℕ)) → place_image t texts p ≡ I.Index (place_image t texts self) length (shape_of t element) (plain_expr t texts index)) }
+        ensures { IfOk result (λ p. (t : Table) (texts : List (List ℕ))
+            → place_image t texts p ≡ I.Index (place_image t texts self) length (shape_of t element) (plain_expr t texts index)) }
     {
         self.with(Selector::Index {
             length,

@@ -1,0 +1,130 @@
+//! Bodies.
+
+ghost use Rattle.ob_syntax.specs.Plain.{plain_option, plain_body};
+ghost use Rattle.ob_judge.specs.Statements.{body_of as judged_body};
+ghost use Rattle.check_steps.specs.Answers.{Answers};
+ghost use Rattle.check_names.specs.Worlds.{world_of};
+ghost use Rattle.check_statements.specs.Standing.{AreStatements};
+
+use crate::walk::statements;
+use check_names::Scope;
+use check_steps::CheckFault;
+use ob_syntax::statements::Body;
+use ob_types::Stmt;
+use std::alloc::Global;
+
+/// The body of a procedure or a module: no statement where there is no BEGIN.
+pub fn body_of<'a>(
+    scope: &Scope<'a>,
+    alloc: Global,
+    tree: &Option<Body>,
+) -> Result<Vec<Stmt>, CheckFault>
+    ensures { Answers (AreStatements scope.now)
+        (judged_body scope.now.source.now (world_of scope.now) (plain_option plain_body tree.now)) result }
+{
+    match tree {
+        None => Ok(Vec::new(alloc)),
+        Some(body) => statements(scope, alloc, &body.stats),
+    }
+}
+
+#[cfg(test)]
+mod tests {
+    use super::*;
+    use check_steps::Source;
+    use check_types::TypeTable;
+    use ob_symbol::{Kind, Symbol};
+    use ob_syntax::expressions::{Expression, Factor, Simple, Term};
+    use ob_syntax::statements::{RepeatStat, Stat, Stats};
+    use std::test::Fail;
+
+    // An expression that is a number or a truth.
+    fn written(alloc: Global, factor: Factor) -> Expression {
+        Expression {
+            left: Simple {
+                sign: None,
+                first: Term {
+                    first: factor,
+                    more: Vec::new(alloc),
+                },
+                more: Vec::new(alloc),
+            },
+            compared: None,
+        }
+    }
+
+    // `REPEAT UNTIL 1` or `REPEAT UNTIL TRUE` behind BEGIN.
+    fn repeated(alloc: Global, guard: Factor) -> Result<Body, CheckFault> {
+        let repeat = RepeatStat {
+            repeat_word: 1,
+            body: Stats {
+                first: Stat::Empty,
+                more: Vec::new(alloc),
+            },
+            until_word: 2,
+            guard: written(alloc, guard),
+        };
+        Ok(Body {
+            begin_word: 0,
+            stats: Stats {
+                first: Stat::Repeat(Box::new(alloc, repeat)?),
+                more: Vec::new(alloc),
+            },
+        })
+    }
+
+    // What a body comes to: how many statements, or the fault.
+    fn judged(alloc: Global, guard: Factor) -> Result<usize, CheckFault> {
+        let symbols = [
+            Symbol {
+                kind: Kind::Ident,
+                from: 0,
+                to: 5,
+            },
+            Symbol {
+                kind: Kind::Ident,
+                from: 6,
+                to: 12,
+            },
+            Symbol {
+                kind: Kind::Ident,
+                from: 13,
+                to: 18,
+            },
+            Symbol {
+                kind: Kind::Int(1),
+                from: 19,
+                to: 20,
+            },
+        ];
+        let source = Source::new(b"BEGIN REPEAT UNTIL 1", &symbols);
+        let types = TypeTable::new(alloc);
+        let scope = Scope {
+            source: &source,
+            types: &types,
+            strings: &[],
+            modules: &[],
+            levels: &[],
+            narrowed: &[],
+            module_number: 0,
+            procedure: None,
+            constant: false,
+        };
+        let body = repeated(alloc, guard)?;
+        let all = body_of(&scope, alloc, &Some(body))?;
+        Ok(all.len())
+    }
+
+    #[test]
+    fn repeats_until_a_truth(rt: HostRuntime) -> Result<(), Fail> {
+        assert!(rt; matches!(judged(rt.alloc(), Factor::True(3)), Ok(1)));
+        Ok(())
+    }
+
+    #[test]
+    fn a_condition_is_no_number(rt: HostRuntime) -> Result<(), Fail> {
+        let fault = judged(rt.alloc(), Factor::Int(3));
+        assert!(rt; matches!(fault, Err(CheckFault::Fault { number: 31, at: 19 })));
+        Ok(())
+    }
+}

@@ -1,0 +1,25 @@
+//! One statement more.
+
+ghost use Rattle.std.specs.Prelude.{◌≡◌, ℕ, List, IfOk};
+ghost use Rattle.ob_types.specs.Table.{Table};
+ghost use Rattle.ob_judge.specs.Image.{Statements};
+ghost use Rattle.statement_trees.specs.Onto.{statements_onto};
+ghost use Rattle.check_statements.specs.Standing.{put_made};
+
+use ob_types::Stmt;
+use statement_trees::with_statement;
+use std::alloc::AllocError;
+
+/// Statements and what a further one puts behind them, if it isn't empty.
+pub fn with_put(so_far: Vec<Stmt>, made: Option<Stmt>) -> Result<Vec<Stmt>, AllocError>
+    ensures { IfOk result (λ v. (t : Table) (texts : List (List ℕ)) (rest : Statements) →
+        statements_onto t texts v.items rest ≡ statements_onto t texts so_far.items (put_made t texts made rest)) }
+{
+    match made {
+        None => Ok(so_far),
+        Some(one) => {
+            let all = with_statement(so_far, one)?;
+            Ok(all)
+        }
+    }
+}
