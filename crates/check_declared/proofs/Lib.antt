@@ -2,3 +2,4 @@ pub mod Parts
 pub mod Consts
 pub mod Vars
 pub mod Names
+pub mod StringPlaces

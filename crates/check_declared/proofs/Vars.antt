@@ -60,6 +60,8 @@ module _ (r : Surroundings) (s : Declaring) (of : TypeRef) (variables : Vec Type
     variables = subst (AreNumbered s.types.table.entries.items) (sym is) (numbered_more s.types.table.entries.items s.variables.items of ok.variables e);
     objects = ok.objects;
     open_scope = ok.open_scope;
+    places = ok.places;
+    own_text = ok.own_text;
   }
 
   makes_variable : (m : Making) → Makes r s m → Makes r with_variable (record m { variables = m.variables ++ type_shape (table_of s) of ∷ [] })

@@ -9,6 +9,7 @@ ghost use Rattle.check_making.specs.Making.{strings_of, Makes, IsSettled};
 ghost use Rattle.check_making.specs.Parts.{Judges, JudgesHere};
 ghost use Rattle.check_declared.specs.Constants.{text_in, consts_part, constant_part, IsValue, IsKept};
 
+use crate::string_places::string_place;
 use check_constants::{ConstantValue, constant};
 use check_making::{Declaring, Surroundings};
 use check_names::{Constant, Named};
@@ -27,13 +28,15 @@ fn keep(
     ensures makes { OnOk result ((m : Making) → Makes round.now state.old m → Makes round.now state.new m) }
     ensures stays { IfOk result (λ c. NamedStays state.new.types.table (strings_of state.new) (Named.Constant c)) }
     ensures means { IfOk result (λ c. IsKept round.now state.old value state.new c) }
+    ensures types { OnOk result (state.new.types ≡ state.old.types) }
     ensures memory { IfErr result (λ e. e ≡ CheckFault.Memory) }
 {
     match value {
         ConstantValue::Bits(basic, bits) => Ok(Constant::Bits(basic, bits)),
         ConstantValue::Chars(n) => {
             let characters = characters_of(state, round, n)?;
-            state.string(round, &characters)
+            let place = string_place(state, round, n);
+            state.string(round, &characters, place)
         }
     }
 }
@@ -58,6 +61,7 @@ pub fn const_decl(
 ) -> Result<(), CheckFault>
     requires { IsSettled round.now state.old }
     ensures settled { OnOk result (IsSettled round.now state.new) }
+    ensures types { OnOk result (state.new.types ≡ state.old.types) }
     ensures judged { Judges round.now state.old state.new (const_part round.now.source.now (plain_const_decl tree.now)) result }
 {
     state.stand(round, tree.name.name)?;
@@ -86,6 +90,7 @@ pub fn const_decls(
 ) -> Result<(), CheckFault>
     requires { IsSettled round.now state.old }
     ensures settled { OnOk result (IsSettled round.now state.new) }
+    ensures types { OnOk result (state.new.types ≡ state.old.types) }
     ensures judged { Judges round.now state.old state.new (consts_part round.now.source.now trees.now) result }
 {
     for tree in trees {

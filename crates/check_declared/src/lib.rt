@@ -8,6 +8,7 @@
 mod constants;
 mod lists;
 mod one_variable;
+mod string_places;
 
 pub use constants::{const_decl, const_decls};
 pub use lists::{stand_all, variables};

@@ -1,12 +1,11 @@
 -- The state where a module begins.
-use Rattle.std.proofs.Common.{◌≡◌, ℕ, zero, suc, ◌<◌, List, [], ◌∷◌, length, map, true, false, Option, Some, None, Vec, Global, option_map, refl, sym, ap, ◌∙◌, subst, arith}
+use Rattle.std.proofs.Common.{◌≡◌, ℕ, ◌<◌, List, [], ◌∷◌, length, map, Some, None, Vec, Global, option_map, refl, sym, ap, ◌∙◌, subst, arith}
 use Rattle.std.specs.Prelude.{slice_get}
 use Rattle.std.proofs.lemmas.Option.{slice_get_within}
 use mathlib.Core.Path.{fun_ext}
 use Rattle.ob_types.specs.Table.{Table}
 use Rattle.ob_types.proofs.Tests.{none_some}
-use Rattle.ob_judge.specs.Shapes.{Shape, Integer, Boolean, Char, Byte, Set}
-use Rattle.ob_judge.specs.Scopes.{AType, AStandard, Entry, no_names}
+use Rattle.ob_judge.specs.Scopes.{no_names}
 use Rattle.ob_judge.specs.Standards.{predeclared}
 use Rattle.judged_well.proofs.FirstWorld.{of_predeclared}
 use Rattle.check_steps.specs.Maps.{at_bytes}
@@ -23,7 +22,7 @@ use Rattle.table_builder.proofs.Meaning.{meant, long}
 use Rattle.check_making.specs.declared.making.Declaring.{Declaring}
 use Rattle.check_making.specs.declared.making.Surroundings.{Surroundings}
 use Rattle.check_making.specs.Staying.{LevelStays, LevelsStay, AreSettled, HasType, NamesHaveTypes, AllHaveTypes}
-use Rattle.check_making.specs.Making.{table_of, strings_of, AreNumbered, OfferedStay, IsSettled}
+use Rattle.check_making.specs.Making.{table_of, strings_of, AreNumbered, OfferedStay, AreTextPlaces, IsSettled}
 use Rattle.std.specs.BTreeMap.{BTreeMap, is_at}
 use Rattle.std.specs.Map.{lookup}
 use Rattle.std.specs.Cmp.Lexicographic.{slice_cmp}
@@ -56,11 +55,12 @@ module _ (l : Level) (empty : (q : List ℕ) → at_bytes l.names q ≡ None) wh
   pub empty_have : (t : Table) (strings : List (List ℕ)) → NamesHaveTypes t (names_of t strings l)
   empty_have t strings = record { each = λ q x is. none_some _ (sym (ap (λ f. f q) (empty_names t strings)) ∙ is) }
 
-at_empty : {X : Type 0} (m : BTreeMap (Vec ℕ Global) X) → m.entries ≡ [] → (q : List ℕ) → at_bytes m q ≡ None
+pub at_empty : {X : Type 0} (m : BTreeMap (Vec ℕ Global) X) → m.entries ≡ [] → (q : List ℕ) → at_bytes m q ≡ None
 at_empty m h q = ap (lookup (is_at (λ (k : Vec ℕ Global). slice_cmp nat_cmp q k.items))) h
 
-pub first_settled : (r : Surroundings) (s : Declaring) (l : Level) → l.names.entries ≡ [] → IsBuilt s.types → AreSettled s.types.table (strings_of s) r.modules.now → s.levels.items ≡ l ∷ [] → s.variables.items ≡ [] → s.objects.items ≡ [] → IsSettled r s
-first_settled r s l empty built modules ls vs os =
+pub first_settled : (r : Surroundings) (s : Declaring) (l : Level) → r.depth ≡ 0 → l.names.entries ≡ [] → IsBuilt s.types → AreSettled s.types.table (strings_of s) r.modules.now → s.levels.items ≡ l ∷ [] → s.variables.items ≡ [] → s.objects.items ≡ []
+    → AreTextPlaces r.texts.now s.places.items (strings_of s) → slice_get r.texts.now r.module_number ≡ Some r.source.now.bytes → IsSettled r s
+first_settled r s l depth empty built modules ls vs os places own =
     let none = at_empty l.names empty in
     record {
       built = built;
@@ -70,5 +70,7 @@ first_settled r s l empty built modules ls vs os =
       members = modules.types;
       variables = subst (AreNumbered s.types.table.entries.items) (sym vs) tt;
       objects = subst (OfferedStay s.types.table (strings_of s)) (sym os) tt;
-      open_scope = subst (λ ks. 0 < length ks) (sym ls) (omega arith);
+      open_scope = subst (λ ks. r.depth < length ks) (sym ls) (omega (arith, depth));
+      places = places;
+      own_text = own;
     }

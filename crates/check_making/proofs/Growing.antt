@@ -1,6 +1,6 @@
 -- A state whose table of types grew.
-use Rattle.std.proofs.Common.{◌≡◌, ℕ, zero, suc, ◌<◌, ◌≤◌, List, [], ◌∷◌, ◌++◌, length, map, true, Option, Some, None, Vec, Global, append_assoc, refl, sym, ap, ap₂, ◌∙◌, subst, arith}
-use Rattle.std.specs.Prelude.{slice_get, slice_index_or}
+use Rattle.std.proofs.Common.{◌≡◌, ℕ, zero, suc, List, [], ◌∷◌, ◌++◌, length, map, Option, Vec, Global, append_assoc, refl, sym, ap, ap₂, ◌∙◌, subst, arith}
+use Rattle.std.specs.Prelude.{slice_index_or}
 use Rattle.std.proofs.lemmas.Option.{slice_get_within}
 use Rattle.ob_types.specs.Table.{Table}
 use Rattle.ob_judge.specs.Image.{Declared as DeclaredOf}
@@ -14,10 +14,11 @@ use Rattle.check_types.specs.declared.table.TypeTable.{TypeTable}
 use Rattle.check_types.specs.TypeMeaning.{type_shape}
 use Rattle.check_types.specs.Known.{known_of}
 use Rattle.check_names.specs.declared.levels.Level.{Level}
+use Rattle.check_names.specs.declared.scope.Named.{Named}
 use Rattle.check_names.specs.declared.scope.KnownModule.{KnownModule}
 use Rattle.check_names.specs.Meaning.{object_of, names_of, module_of}
 use Rattle.table_builder.specs.declared.builder.TableBuilder.{TableBuilder}
-use Rattle.table_builder.specs.Entries.{IsNumbered, IsElement, HasShape}
+use Rattle.table_builder.specs.Entries.{HasShape}
 use Rattle.table_builder.specs.Growing.{Grows}
 use Rattle.table_builder.specs.Builder.{IsBuilt}
 use Rattle.table_builder.proofs.Meaning.{meant, long, entry_there}
@@ -25,8 +26,9 @@ use Rattle.table_builder.proofs.Growing.{numbered_still, element_still}
 use Rattle.check_making.specs.declared.making.Declaring.{Declaring}
 use Rattle.check_making.specs.declared.making.Offered.{Offered}
 use Rattle.check_making.specs.declared.making.Surroundings.{Surroundings}
-use Rattle.check_making.specs.Staying.{LevelStays, LevelsStay, ModuleStays, ModulesStay, HasType, NamesHaveTypes, AllHaveTypes, NamedStays}
-use Rattle.check_making.specs.Making.{table_of, strings_of, levels_of, world_in, offered_of, OfferedStay, AreNumbered, Makes, IsSettled}
+use Rattle.check_making.specs.declared.making.TextPlace.{TextPlace}
+use Rattle.check_making.specs.Staying.{LevelStays, LevelsStay, ModuleStays, ModulesStay, HasType, AllHaveTypes, NamedStays}
+use Rattle.check_making.specs.Making.{table_of, strings_of, levels_of, world_in, offered_of, OfferedStay, AreNumbered, AreTextPlaces, Makes, IsSettled}
 
 pub grows_on : (t u v : TypeTable) → Grows t u → Grows u v → Grows t v
 grows_on t u v g h = record {
@@ -67,25 +69,26 @@ module _ (t u : TypeTable) (strings : List (List ℕ)) (g : Grows t u) where
   offered_same [] h = refl
   offered_same (x ∷ xs) h =
       ap₂ (λ (o : Object) (ds : List DeclaredOf). declared_as x.name x.declared.exported (entity_of o) ++ ds)
-      (ap (λ ss. object_of u.types ss x.declared.named) (sym (append_nil strings)) ∙ (h.0).object u [] g) (offered_same xs h.1)
+      (ap (λ ss. object_of u.types ss x.declared.named) (sym (append_nil strings)) ∙ (h.0).object u [] g) (offered_same xs h.2)
 
-  offered_still : (xs : List Offered) → OfferedStay t strings xs → OfferedStay u strings xs
-  offered_still [] h = tt
-  offered_still (x ∷ xs) h =
-      (record { object = λ v more k. (h.0).object v more (grows_on t u v g k) ∙ sym (ap (λ ss. object_of u.types ss x.declared.named) (sym (append_nil strings)) ∙ (h.0).object u [] g) }, offered_still xs h.1)
+  object_same : (n : Named) → NamedStays t strings n → object_of u.types strings n ≡ object_of t.types strings n
+  object_same n h = ap (λ ss. object_of u.types ss n) (sym (append_nil strings)) ∙ h.object u [] g
 
-  variables_same : (ks : List TypeRef) → AreNumbered t.entries.items ks → map (type_shape u.types) ks ≡ map (type_shape t.types) ks
+  named_still : (n : Named) → NamedStays t strings n → NamedStays u strings n
+  named_still n h = record { object = λ v more k. h.object v more (grows_on t u v g k) ∙ sym (object_same n h) }
+
+  pub variables_same : (ks : List TypeRef) → AreNumbered t.entries.items ks → map (type_shape u.types) ks ≡ map (type_shape t.types) ks
   variables_same [] h = refl
   variables_same (k ∷ ks) h = ap₂ (λ (a : Shape) (as' : List Shape). a ∷ as') (g.shape k (h.0).numbered) (variables_same ks h.1)
 
-  variables_still : (ks : List TypeRef) → AreNumbered t.entries.items ks → AreNumbered u.entries.items ks
+  pub variables_still : (ks : List TypeRef) → AreNumbered t.entries.items ks → AreNumbered u.entries.items ks
   variables_still [] h = tt
   variables_still (k ∷ ks) h = (element_still t u g k h.0, variables_still ks h.1)
 
 -- ---- more strings
 
 module _ (t : TypeTable) (strings more : List (List ℕ)) where
-  same_table : Grows t t
+  pub same_table : Grows t t
   same_table = record { entry = λ n e h. h; shape = λ e h. refl }
 
   more_levels_same : (ls : List Level) → LevelsStay t strings ls → map (names_of t.types (strings ++ more)) ls ≡ map (names_of t.types strings) ls
@@ -109,12 +112,15 @@ module _ (t : TypeTable) (strings more : List (List ℕ)) where
   more_offered_same : (xs : List Offered) → OfferedStay t strings xs → offered_of t.types (strings ++ more) xs ≡ offered_of t.types strings xs
   more_offered_same [] h = refl
   more_offered_same (x ∷ xs) h =
-      ap₂ (λ (o : Object) (ds : List DeclaredOf). declared_as x.name x.declared.exported (entity_of o) ++ ds) ((h.0).object t more same_table) (more_offered_same xs h.1)
+      ap₂ (λ (o : Object) (ds : List DeclaredOf). declared_as x.name x.declared.exported (entity_of o) ++ ds) ((h.0).object t more same_table) (more_offered_same xs h.2)
 
   more_offered_still : (xs : List Offered) → OfferedStay t strings xs → OfferedStay t (strings ++ more) xs
   more_offered_still [] h = tt
-  more_offered_still (x ∷ xs) h =
-      (record { object = λ v rest k. ap (λ ss. object_of v.types ss x.declared.named) (append_assoc strings more rest) ∙ (h.0).object v (more ++ rest) k ∙ sym ((h.0).object t more same_table) }, more_offered_still xs h.1)
+  more_offered_still (x ∷ xs) h = (
+    record { object = λ v rest k. ap (λ ss. object_of v.types ss x.declared.named) (append_assoc strings more rest) ∙ (h.0).object v (more ++ rest) k ∙ sym ((h.0).object t more same_table) },
+    subst (HasType t.types) (sym ((h.0).object t more same_table)) h.1,
+    more_offered_still xs h.2,
+  )
 
 -- ---- of which types names are
 
@@ -137,6 +143,12 @@ module _ (a b : TableBuilder) (old : IsBuilt a) (new : IsBuilt b) (g : Grows a.t
   all_still : (ls : List (List ℕ → Option Entry)) → AllHaveTypes a.table.types ls → AllHaveTypes b.table.types ls
   all_still [] h = tt
   all_still (l ∷ ls) h = (record { each = λ q x is. has_still x.object ((h.0).each q x is) }, all_still ls h.1)
+
+  offered_still : (strings : List (List ℕ)) (xs : List Offered) → OfferedStay a.table strings xs → OfferedStay b.table strings xs
+  offered_still strings [] h = tt
+  offered_still strings (x ∷ xs) h =
+      let n = x.declared.named in
+      (named_still a.table b.table strings g n h.0, subst (HasType b.table.types) (sym (object_same a.table b.table strings g n h.0)) (has_still (object_of a.table.types strings n) h.1), offered_still strings xs h.2)
 
 -- ---- the whole state
 
@@ -164,8 +176,10 @@ module _ (r : Surroundings) (s : Declaring) (ok : IsSettled r s) (types : TableB
         (members_as s.types.table.types ss r.modules.now ∙ ap (λ ks. map (λ (k : KnownModuleOf). k.names) ks) (sym (modules_same s.types.table types.table ss g r.modules.now ok.modules)) ∙ sym (members_as types.table.types ss r.modules.now))
         (all_still s.types types ok.built built g (map (λ k. (module_of (table_of s) ss k).names) r.modules.now) ok.members);
     variables = variables_still s.types.table types.table ss g s.variables.items ok.variables;
-    objects = offered_still s.types.table types.table ss g s.objects.items ok.objects;
+    objects = offered_still s.types types ok.built built g ss s.objects.items ok.objects;
     open_scope = ok.open_scope;
+    places = ok.places;
+    own_text = ok.own_text;
   }
 
   world_grown : world_in r with_types ≡ record (world_in r s) { known = known_of types.table }
@@ -201,9 +215,16 @@ module _ (r : Surroundings) (s : Declaring) (ok : IsSettled r s) (types : TableB
 
 -- ---- the state with more strings
 
-module _ (r : Surroundings) (s : Declaring) (ok : IsSettled r s) (strings : Vec (List ℕ) Global) (more : List (List ℕ)) (is : strings.items ≡ strings_of s ++ more) where
+places_with : (texts : List (List ℕ)) (xs more : List TextPlace) (strings rest : List (List ℕ)) → AreTextPlaces texts xs strings → AreTextPlaces texts more rest → AreTextPlaces texts (xs ++ more) (strings ++ rest)
+places_with texts [] more [] rest h k = k
+places_with texts (x ∷ xs) more (cs ∷ strings) rest h k = (h.0, places_with texts xs more strings rest h.1 k)
+places_with texts [] more (cs ∷ strings) rest h k = absurd h
+places_with texts (x ∷ xs) more [] rest h k = absurd h
+
+module _ (r : Surroundings) (s : Declaring) (ok : IsSettled r s) (strings : Vec (List ℕ) Global) (more : List (List ℕ)) (is : strings.items ≡ strings_of s ++ more)
+    (places : Vec TextPlace Global) (there : List TextPlace) (are : places.items ≡ s.places.items ++ there) where
   abbrev pub with_strings : Declaring
-  with_strings = record s { strings = strings }
+  with_strings = record s { strings = strings; places = places }
 
   levels_with : map (names_of (table_of s) strings.items) s.levels.items ≡ map (names_of (table_of s) (strings_of s)) s.levels.items
   levels_with = ap (λ ss. map (names_of (table_of s) ss) s.levels.items) is ∙ more_levels_same s.types.table (strings_of s) more s.levels.items ok.levels
@@ -211,8 +232,8 @@ module _ (r : Surroundings) (s : Declaring) (ok : IsSettled r s) (strings : Vec 
   modules_with : map (module_of (table_of s) strings.items) r.modules.now ≡ map (module_of (table_of s) (strings_of s)) r.modules.now
   modules_with = ap (λ ss. map (module_of (table_of s) ss) r.modules.now) is ∙ more_modules_same s.types.table (strings_of s) more r.modules.now ok.modules
 
-  pub settled_with : IsSettled r with_strings
-  settled_with = record {
+  pub settled_with : AreTextPlaces r.texts.now there more → IsSettled r with_strings
+  settled_with at = record {
     built = ok.built;
     levels = subst (λ ss. LevelsStay s.types.table ss s.levels.items) (sym is) (more_levels_still s.types.table (strings_of s) more s.levels.items ok.levels);
     modules = subst (λ ss. ModulesStay s.types.table ss r.modules.now) (sym is) (more_modules_still s.types.table (strings_of s) more r.modules.now ok.modules);
@@ -222,6 +243,8 @@ module _ (r : Surroundings) (s : Declaring) (ok : IsSettled r s) (strings : Vec 
     variables = ok.variables;
     objects = subst (λ ss. OfferedStay s.types.table ss s.objects.items) (sym is) (more_offered_still s.types.table (strings_of s) more s.objects.items ok.objects);
     open_scope = ok.open_scope;
+    places = subst (λ xs. AreTextPlaces r.texts.now xs strings.items) (sym are) (subst (AreTextPlaces r.texts.now (s.places.items ++ there)) (sym is) (places_with r.texts.now s.places.items there (strings_of s) more ok.places at));
+    own_text = ok.own_text;
   }
 
   pub makes_with : (m : Making) → Makes r s m → Makes r with_strings m

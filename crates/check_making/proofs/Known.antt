@@ -1,5 +1,5 @@
 -- One more name that is known.
-use Rattle.std.proofs.Common.{◌≡◌, ℕ, zero, suc, ◌<◌, ◌-◌, List, [], ◌∷◌, ◌++◌, length, map, Bool, true, false, not, Option, Some, None, Result, Ok, Err, Vec, Global, refl, sym, ap, ap₂, ◌∙◌, subst, arith, append_assoc, get_or}
+use Rattle.std.proofs.Common.{◌≡◌, ℕ, zero, suc, ◌<◌, ◌-◌, List, [], ◌∷◌, ◌++◌, length, map, Bool, true, false, not, Option, Some, None, Ok, Vec, Global, refl, sym, ap, ap₂, ◌∙◌, subst, arith, append_assoc, get_or}
 use Rattle.std.specs.Prelude.{slice_get, slice_set, is_some, is_none, if◌then◌else◌}
 use Rattle.std.specs.Str.{bytes_eq}
 use Rattle.std.proofs.lemmas.List.{length-set}
@@ -7,7 +7,7 @@ use Rattle.ob_types.specs.Table.{Table}
 use Rattle.ob_types.proofs.Tests.{none_some, some_same, no}
 use Rattle.ob_syntax.specs.declared.names.Identdef.{Identdef}
 use Rattle.ob_judge.specs.Image.{Declared as DeclaredOf}
-use Rattle.ob_judge.specs.Scopes.{Object, Entry, World, Source, declare, spelled}
+use Rattle.ob_judge.specs.Scopes.{Entry, World, declare, spelled}
 use Rattle.ob_judge.specs.Standards.{predeclared}
 use Rattle.ob_judge.specs.Making.{Making, declare_last, with_levels, offer_if, declared_as, entity_of}
 use Rattle.ob_judge.specs.Parameters.{declared}
@@ -21,14 +21,14 @@ use Rattle.table_builder.specs.Growing.{Grows}
 use Rattle.check_making.specs.declared.making.Declaring.{Declaring}
 use Rattle.check_making.specs.declared.making.Offered.{Offered}
 use Rattle.check_making.specs.declared.making.Surroundings.{Surroundings}
-use Rattle.check_making.specs.Staying.{LevelStays, LevelsStay, HasType, NamesHaveTypes, AllHaveTypes, NamedStays, IsDeclaredIn}
+use Rattle.check_making.specs.Staying.{LevelsStay, HasType, AllHaveTypes, NamedStays, IsDeclaredIn}
 use Rattle.check_making.specs.Making.{table_of, strings_of, levels_of, world_in, offered_of, offered_if, OfferedStay, Makes, IsSettled}
 use Rattle.check_making.specs.Parts.{Made}
 
 -- ---- scopes, one of which has one more name
 
 module _ (t : Table) (strings : List (List ℕ)) (name : List ℕ) (e : Entry) where
-  names_set : (level : Level) (ls : List Level) (n : ℕ) → ((l : Level) → slice_get ls n ≡ Some l → names_of t strings level ≡ declare name e (names_of t strings l)) → (k : List ℕ → Option Entry) → n ≡ length ls - 1 → 0 < length ls
+  pub names_set : (level : Level) (ls : List Level) (n : ℕ) → ((l : Level) → slice_get ls n ≡ Some l → names_of t strings level ≡ declare name e (names_of t strings l)) → (k : List ℕ → Option Entry) → n ≡ length ls - 1 → 0 < length ls
       → declare_last name e (k ∷ map (names_of t strings) ls) ≡ k ∷ map (names_of t strings) (slice_set ls n level)
   names_set level [] n h k at l = absurd (omega (arith, l))
   names_set level (c ∷ []) zero h k at l = ap (λ f. k ∷ f ∷ []) (sym (h c refl))
@@ -37,7 +37,7 @@ module _ (t : Table) (strings : List (List ℕ)) (name : List ℕ) (e : Entry) w
   names_set level (c ∷ d ∷ ls) (suc n) h k at l =
       ap (λ fs. k ∷ fs) (names_set level (d ∷ ls) n (λ b is. h b is) (names_of t strings c) (omega (arith, at)) (omega arith))
 
-  have_set : HasType t e.object → (level : Level) (ls : List Level) (n : ℕ) → ((l : Level) → slice_get ls n ≡ Some l → names_of t strings level ≡ declare name e (names_of t strings l)) → AllHaveTypes t (map (names_of t strings) ls) → AllHaveTypes t (map (names_of t strings) (slice_set ls n level))
+  pub have_set : HasType t e.object → (level : Level) (ls : List Level) (n : ℕ) → ((l : Level) → slice_get ls n ≡ Some l → names_of t strings level ≡ declare name e (names_of t strings l)) → AllHaveTypes t (map (names_of t strings) ls) → AllHaveTypes t (map (names_of t strings) (slice_set ls n level))
   have_set has level [] n h all = tt
   have_set has level (c ∷ ls) zero h all = (record { each = λ q x is. by (bytes_eq name q) q x (ap (λ f. f q) (sym (h c refl)) ∙ is) }, all.1)
     where
@@ -50,7 +50,7 @@ module _ (t : TypeTable) (strings : List (List ℕ)) (name : List ℕ) (d : Decl
   entry_stays : (u : TypeTable) (more : List (List ℕ)) → Grows t u → entry_of u.types (strings ++ more) d ≡ entry_of t.types strings d
   entry_stays u more g = ap (λ o. record { object = o; exported = d.exported }) (stays.object u more g)
 
-  stay_set : (level : Level) (ls : List Level) (n : ℕ) → ((l : Level) → slice_get ls n ≡ Some l → (v : Table) (ss : List (List ℕ)) → names_of v ss level ≡ declare name (entry_of v ss d) (names_of v ss l)) → LevelsStay t strings ls → LevelsStay t strings (slice_set ls n level)
+  pub stay_set : (level : Level) (ls : List Level) (n : ℕ) → ((l : Level) → slice_get ls n ≡ Some l → (v : Table) (ss : List (List ℕ)) → names_of v ss level ≡ declare name (entry_of v ss d) (names_of v ss l)) → LevelsStay t strings ls → LevelsStay t strings (slice_set ls n level)
   stay_set level [] n h all = tt
   stay_set level (c ∷ ls) zero h all =
       (record { names = λ u more g. h c refl u.types (strings ++ more) ∙ ap₂ (λ e f. declare name e f) (entry_stays u more g) ((all.0).names u more g) ∙ sym (h c refl t.types strings) }, all.1)
@@ -82,7 +82,7 @@ none_by (Some n) false h = refl
 
 -- ---- names of the module
 
-offered-append : (t : Table) (strings : List (List ℕ)) (xs : List Offered) (x : Offered) → offered_of t strings (xs ++ x ∷ []) ≡ offered_of t strings xs ++ declared_as x.name x.declared.exported (entity_of (object_of t strings x.declared.named))
+pub offered-append : (t : Table) (strings : List (List ℕ)) (xs : List Offered) (x : Offered) → offered_of t strings (xs ++ x ∷ []) ≡ offered_of t strings xs ++ declared_as x.name x.declared.exported (entity_of (object_of t strings x.declared.named))
 offered-append t strings [] x = append_nil (declared_as x.name x.declared.exported (entity_of (object_of t strings x.declared.named)))
   where
     append_nil : (ds : List DeclaredOf) → ds ++ [] ≡ ds
@@ -92,9 +92,10 @@ offered-append t strings (y ∷ xs) x =
     ap (λ ds. declared_as y.name y.declared.exported (entity_of (object_of t strings y.declared.named)) ++ ds) (offered-append t strings xs x)
     ∙ sym (append_assoc (declared_as y.name y.declared.exported (entity_of (object_of t strings y.declared.named))) (offered_of t strings xs) (declared_as x.name x.declared.exported (entity_of (object_of t strings x.declared.named))))
 
-offered_stay : (t : TypeTable) (strings : List (List ℕ)) (xs : List Offered) (x : Offered) → OfferedStay t strings xs → NamedStays t strings x.declared.named → OfferedStay t strings (xs ++ x ∷ [])
-offered_stay t strings [] x all h = (h, tt)
-offered_stay t strings (y ∷ xs) x all h = (all.0, offered_stay t strings xs x all.1 h)
+pub offered_stay : (t : TypeTable) (strings : List (List ℕ)) (xs : List Offered) (x : Offered) → OfferedStay t strings xs → NamedStays t strings x.declared.named → HasType t.types (object_of t.types strings x.declared.named)
+    → OfferedStay t strings (xs ++ x ∷ [])
+offered_stay t strings [] x all h k = (h, k, tt)
+offered_stay t strings (y ∷ xs) x all h k = (all.0, all.1, offered_stay t strings xs x all.2 h k)
 
 -- ---- the whole
 
@@ -114,7 +115,7 @@ module _ (r : Surroundings) (s : Declaring) (ok : IsSettled r s) (x : Identdef) 
   module _ (level : IsDeclaredIn s.levels.items levels.items (length s.levels.items - 1) name d) (offered : objects.items ≡ offered_if (is_none s.procedure) name d s.objects.items) where
     levels_after : declare_last name e (levels_of s) ≡ levels_of after
     levels_after =
-        names_set (table_of s) (strings_of s) name e level.level s.levels.items (length s.levels.items - 1) (λ l is. level.names l is (table_of s) (strings_of s)) predeclared refl ok.open_scope
+        names_set (table_of s) (strings_of s) name e level.level s.levels.items (length s.levels.items - 1) (λ l is. level.names l is (table_of s) (strings_of s)) predeclared refl (let o = ok.open_scope in omega (arith, o))
         ∙ ap (λ ls. predeclared ∷ map (names_of (table_of s) (strings_of s)) ls) (sym level.set)
 
     pub settled_after : IsSettled r after
@@ -130,11 +131,13 @@ module _ (r : Surroundings) (s : Declaring) (ok : IsSettled r s) (x : Identdef) 
       members = ok.members;
       variables = ok.variables;
       objects = subst (OfferedStay s.types.table (strings_of s)) (sym offered) (either (is_none s.procedure));
-      open_scope = subst (λ ls. 0 < length ls) (sym level.set) (let l = length-set s.levels.items (length s.levels.items - 1) level.level in let o = ok.open_scope in omega (arith, l, o));
+      open_scope = subst (λ ls. r.depth < length ls) (sym level.set) (let l = length-set s.levels.items (length s.levels.items - 1) level.level in let o = ok.open_scope in omega (arith, l, o));
+      places = ok.places;
+      own_text = ok.own_text;
     }
       where
         either : (b : Bool) → OfferedStay s.types.table (strings_of s) (offered_if b name d s.objects.items)
-        either true = offered_stay s.types.table (strings_of s) s.objects.items (record { name = name; declared = d }) ok.objects stays
+        either true = offered_stay s.types.table (strings_of s) s.objects.items (record { name = name; declared = d }) ok.objects stays typed
         either false = ok.objects
 
     module _ (m : Making) (makes : Makes r s m) where

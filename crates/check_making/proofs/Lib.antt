@@ -4,3 +4,4 @@ pub mod Places
 pub mod Known
 pub mod Growing
 pub mod First
+pub mod Legal

@@ -1,5 +1,5 @@
 -- One name that stands.
-use Rattle.std.proofs.Common.{◌≡◌, ℕ, List, [], ◌∷◌, Bool, true, false, ◌||◌, not, cond, Option, Some, None, Result, Ok, Err, Vec, Global, refl, sym, ap, ap₂, ◌∙◌, subst, ◌⊎◌, inl, inr}
+use Rattle.std.proofs.Common.{◌≡◌, ℕ, List, [], ◌∷◌, Bool, true, false, ◌||◌, not, cond, Option, Some, Ok, Err, Vec, Global, refl, sym, ap, ◌∙◌, subst, ◌⊎◌, inl, inr}
 use Rattle.std.specs.Prelude.{is_some}
 use Rattle.std.specs.Str.{bytes_eq}
 use Rattle.std.specs.Cmp.Lexicographic.{nat_list_eq_equiv}
@@ -51,7 +51,18 @@ module _ (r : Surroundings) (s : Declaring) where
       as_judged (stands_twice r.source.now i m (makes.standing (spelled r.source.now i) ∙ there)) (subst (λ z. Answers (Made r t) (Breaks 36 (place r.source.now i)) (Err z)) (sym is) (record { by = (refl, refl) }))
 
   pub stand_settled : IsSettled r s → (new : BTreeMap (Vec ℕ Global) ℕ) → IsSettled r (record s { standing = new })
-  stand_settled ok new = record { built = ok.built; levels = ok.levels; modules = ok.modules; types = ok.types; members = ok.members; variables = ok.variables; objects = ok.objects; open_scope = ok.open_scope }
+  stand_settled ok new = record {
+    built = ok.built;
+    levels = ok.levels;
+    modules = ok.modules;
+    types = ok.types;
+    members = ok.members;
+    variables = ok.variables;
+    objects = ok.objects;
+    open_scope = ok.open_scope;
+    places = ok.places;
+    own_text = ok.own_text;
+  }
 
   pub stand_made : (m : Making) → Makes r s m → (i : ℕ) (new : BTreeMap (Vec ℕ Global) ℕ) → is_some (at_bytes s.standing (spelled r.source.now i)) ≡ false
       → ((q : List ℕ) → at_bytes new q ≡ cond (bytes_eq (spelled r.source.now i) q) (Some i) (at_bytes s.standing q)) → Answers (Made r (record s { standing = new })) (stand r.source.now (i ∷ []) m) (Ok tt)

@@ -1,12 +1,9 @@
 -- The state and the judgement, part by part.
-use Rattle.std.proofs.Common.{◌≡◌, ℕ, zero, suc, ◌<◌, ◌-◌, List, [], ◌∷◌, ◌++◌, length, map, Bool, true, false, Option, Some, None, Result, refl, sym, ap, ap₂, ◌∙◌, subst}
-use Rattle.std.specs.Prelude.{slice_get, option_map}
+use Rattle.std.proofs.Common.{◌≡◌, ℕ, zero, suc, List, [], ◌∷◌, map, true, Some, Result, sym, ap, ◌∙◌, subst}
+use Rattle.std.specs.Prelude.{slice_get}
 use Rattle.ob_types.specs.Table.{Table}
 use Rattle.ob_types.proofs.Tests.{none_some, some_same}
 use Rattle.ob_syntax.specs.declared.names.Qualident.{Qualident}
-use Rattle.ob_judge.specs.Judged.{Judged}
-use Rattle.ob_judge.specs.Shapes.{Shape}
-use Rattle.ob_judge.specs.Scopes.{World, Source}
 use Rattle.ob_judge.specs.Scopes.{KnownModule as KnownModuleOf}
 use Rattle.ob_judge.specs.Making.{Making}
 use Rattle.ob_judge.specs.Names.{type_named, member_symbol}

@@ -1,16 +1,15 @@
 -- A type that a name stands for has a number.
-use Rattle.std.proofs.Common.{◌≡◌, ℕ, List, [], ◌∷◌, ◌++◌, map, Bool, true, false, Option, Some, None, Result, Ok, Err, refl, sym, ap, ◌∙◌, subst}
+use Rattle.std.proofs.Common.{◌≡◌, ℕ, List, [], ◌∷◌, Bool, true, false, Option, Some, None, Result, Ok, Err, refl, ◌∙◌, subst}
 use Rattle.std.specs.Prelude.{if◌then◌else◌, slice_get}
 use Rattle.std.specs.Str.{bytes_eq}
 use Rattle.ob_types.specs.Table.{Table}
 use Rattle.ob_types.proofs.Tests.{none_some, some_same}
-use Rattle.ob_syntax.specs.declared.names.Qualident.{Qualident}
-use Rattle.ob_judge.specs.Judged.{Judged, Keeps, Breaks, ◌>>=◌, rule, some}
+use Rattle.ob_judge.specs.Judged.{Judged, Keeps, Breaks}
 use Rattle.ob_judge.specs.Shapes.{Shape, Boolean}
 use Rattle.ob_judge.specs.Image.{Done}
-use Rattle.ob_judge.specs.Scopes.{Object, AType, AModule, AConstant, AVariable, AProcedure, AStandard, Entry, Imported, TheOut, TheIn, Earlier, KnownModule, World, Source, or_else, look_up, is_visible, place, spelled, OutChar, OutInt, OutString, OutLn, InChar, ReadOnly}
+use Rattle.ob_judge.specs.Scopes.{Object, AType, AModule, AVariable, AStandard, Entry, Imported, TheOut, TheIn, Earlier, KnownModule, World, Source, or_else, look_up, is_visible, place, spelled, OutChar, OutInt, OutString, OutLn, InChar, ReadOnly}
 use Rattle.ob_judge.specs.Standards.{names_of, names_of_out, names_of_in}
-use Rattle.ob_judge.specs.Names.{named, member, member_of_object, qualified, type_of_object, type_named, names_in, member_symbol}
+use Rattle.ob_judge.specs.Names.{named, member, member_of_object, qualified, type_of_object, type_named, names_in}
 use Rattle.ob_judge.specs.Names.{names_of as names_of_module}
 use Rattle.judged_well.specs.Gives.{Gives}
 use Rattle.judged_well.proofs.Judging.{keeps, breaks, and_then, by_rule, by_some, at_last}

@@ -1,13 +1,13 @@
 //! The state where a module begins.
 
-ghost use Rattle.std.specs.Prelude.{IfOk};
+ghost use Rattle.std.specs.Prelude.{◌≡◌, Some, IfOk, slice_get};
 ghost use Rattle.ob_judge.specs.Modules.{SoFar, first_making};
 ghost use Rattle.table_builder.specs.Builder.{IsBuilt};
 ghost use Rattle.check_making.specs.Staying.{AreSettled};
-ghost use Rattle.check_making.specs.Making.{Makes, IsSettled};
+ghost use Rattle.check_making.specs.Making.{AreTextPlaces, Makes, IsSettled};
 ghost use Rattle.check_making.specs.Parts.{IsNextModule};
 
-use crate::making::{Declaring, Surroundings};
+use crate::making::{Declaring, Surroundings, TextPlace};
 use check_names::Level;
 use items::Items;
 use outside::Memory;
@@ -15,16 +15,22 @@ use std::collections::BTreeMap;
 use table_builder::TableBuilder;
 
 impl Declaring {
-    /// Nothing is declared yet: the types and strings are those of the modules before, and there is one open scope.
+    /// Nothing is declared yet: the types and strings are those of the modules before, each string with its place, and there
+    /// is one open scope.
     pub fn begin(
         round: &Surroundings,
         types: TableBuilder,
         strings: Vec<Items<u8>>,
+        places: Vec<TextPlace>,
         imports_in: bool,
     ) -> Result<Declaring, Memory>
         requires built { IsBuilt types }
+        requires outermost { round.now.depth ≡ 0 }
+        requires own_text { slice_get round.now.texts.now round.now.module_number ≡ Some round.now.source.now.bytes }
+        requires places { AreTextPlaces round.now.texts.now places.items strings.items }
         requires modules { AreSettled types.table strings.items round.now.modules.now }
         ensures settled { IfOk result (λ s. IsSettled round.now s) }
+        ensures types { IfOk result (λ s. s.types ≡ types) }
         ensures judged { IfOk result (λ s. (c : SoFar) → IsNextModule round.now types.table strings.items imports_in c → Makes round.now s (first_making c)) }
     {
         let mut levels = Vec::new(round.alloc);
@@ -35,6 +41,7 @@ impl Declaring {
             imports_in,
             types,
             strings,
+            places,
             levels,
             procedure: None,
             is_type_part: false,

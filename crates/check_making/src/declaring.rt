@@ -36,8 +36,8 @@ pub fn declare_in(
     Ok(())
 }
 
-// One more name of the module, unless it is a procedure's.
-fn offer(
+/// One more name of the module, unless it is a procedure's.
+pub fn offer(
     objects: &mut Vec<Offered>,
     of_module: bool,
     alloc: Global,
@@ -66,6 +66,7 @@ impl Declaring {
         requires typed { HasType (table_of self.old) (object_in self.old named) }
         ensures settled { OnOk result (IsSettled round.now self.new) }
         ensures types { self.new.types ≡ self.old.types }
+        ensures forward { self.new.forward ≡ self.old.forward }
         ensures judged { Judges round.now self.old self.new (judged_declared round.now.source.now ident.now (object_in self.old named)) result }
     {
         let name = round.source.spelled(ident.name);
@@ -105,15 +106,24 @@ mod tests {
                 to: 3,
             },
         ];
-        let source = Source::new(b"A A", &symbols);
+        let texts = [Items::from_slice(rt.alloc(), b"A A")?];
+        let source = Source::new(texts[0].as_slice(), &symbols);
         let round = Surroundings {
             alloc: rt.alloc(),
             source: &source,
+            texts: &texts,
             modules: &[],
             module_number: 0,
+            depth: 0,
         };
         let types = TableBuilder::new(rt.alloc())?;
-        let mut state = Declaring::begin(&round, types, Vec::new(rt.alloc()), false)?;
+        let mut state = Declaring::begin(
+            &round,
+            types,
+            Vec::new(rt.alloc()),
+            Vec::new(rt.alloc()),
+            false,
+        )?;
         state.stand(&round, 0)?;
         let ident = Identdef {
             name: 0,

@@ -1,7 +1,7 @@
 //! What declarations make, in code.
 //!
 //! A `Declaring` is the state between declarations. `Makes` (`specs/Making.antt`) says which state of the judgement it stands
-//! for, in `Surroundings`: the module's text and number, and the modules before. A part of the judgement is a function whose
+//! for, in `Surroundings`: the module's text and number, all texts, and the modules before. A part of the judgement is a function whose
 //! clause `judged` says that from each state that it stands for, its answer is the judgement's, and the state then stands for
 //! what that leaves. `IsSettled` is what such a function asks for and leaves: above all that names mean the same whatever the
 //! table of types becomes.
@@ -15,4 +15,6 @@ mod standing;
 mod strings;
 mod typing;
 
-pub use making::{Declaring, Forward, Offered, Surroundings};
+pub use declaring::{declare_in, offer};
+pub use making::{Declaring, Forward, Offered, Surroundings, TextPlace};
+pub use strings::next_number;

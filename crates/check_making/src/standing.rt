@@ -14,6 +14,7 @@ impl Declaring {
         requires { IsSettled round.now self.old }
         ensures settled { OnOk result (IsSettled round.now self.new) }
         ensures types { self.new.types ≡ self.old.types }
+        ensures forward { self.new.forward ≡ self.old.forward }
         ensures judged { Judges round.now self.old self.new (judged_stand round.now.source.now (i ∷ [])) result }
     {
         let name = round.source.spelled(i);

@@ -5,15 +5,15 @@ ghost use Rattle.ob_judge.specs.Image.{Chars};
 ghost use Rattle.ob_judge.specs.Making.{Making};
 ghost use Rattle.check_names.specs.Meaning.{constant_of};
 ghost use Rattle.check_making.specs.Staying.{NamedStays};
-ghost use Rattle.check_making.specs.Making.{table_of, strings_of, Makes, IsSettled};
+ghost use Rattle.check_making.specs.Making.{table_of, strings_of, characters_at, Makes, IsSettled};
 
-use crate::making::{Declaring, Surroundings};
+use crate::making::{Declaring, Surroundings, TextPlace};
 use check_names::{Constant, Named};
 use check_steps::CheckFault;
 use items::Items;
 
-// The number behind so many; without one there is no memory for another.
-fn next_number<T>(items: &[T]) -> Result<u32, CheckFault>
+/// The number behind so many; without one there is no memory for another.
+pub fn next_number<T>(items: &[T]) -> Result<u32, CheckFault>
     ensures number { IfOk result (λ n. n ≡ length items.now) }
     ensures memory { IfErr result (λ e. e ≡ CheckFault.Memory) }
 {
@@ -24,13 +24,15 @@ fn next_number<T>(items: &[T]) -> Result<u32, CheckFault>
 }
 
 impl Declaring {
-    /// The constant that is a string of these characters.
+    /// The constant that is a string of these characters, which stand at this place.
     pub fn string(
         &mut self,
         round: &Surroundings,
         characters: &[u8],
+        place: TextPlace,
     ) -> Result<Constant, CheckFault>
-        requires { IsSettled round.now self.old }
+        requires settled { IsSettled round.now self.old }
+        requires place { characters_at round.now.texts.now place ≡ characters.now }
         ensures settled { OnOk result (IsSettled round.now self.new) }
         ensures makes { OnOk result ((m : Making) → Makes round.now self.old m → Makes round.now self.new m) }
         ensures stays { IfOk result (λ c. NamedStays self.new.types.table (strings_of self.new) (Named.Constant c)) }
@@ -41,6 +43,7 @@ impl Declaring {
         let n = next_number(&self.strings)?;
         let string = Items::from_slice(round.alloc, characters)?;
         self.strings.push(string)?;
+        self.places.push(place)?;
         Ok(Constant::Chars(n))
     }
 }

@@ -1,13 +1,14 @@
 //! Types that declarations make.
 
-ghost use Rattle.std.specs.Prelude.{◌≡◌, ◌<◌, length, Ok, OnOk, IfOk, IfErr};
-ghost use Rattle.ob_judge.specs.Making.{Making};
+ghost use Rattle.std.specs.Prelude.{◌≡◌, ◌<◌, length, Ok, Some, OnOk, IfOk, IfErr, slice_get};
+ghost use Rattle.ob_judge.specs.Making.{Making, no_layout};
 ghost use Rattle.ob_judge.specs.Making.{new_record as judged_record, new_pointer as judged_pointer, set_base as judged_base, set_record as judged_layout};
 ghost use Rattle.ob_judge.specs.Shapes.{Array};
-ghost use Rattle.check_types.specs.Known.{layout_of};
+ghost use Rattle.check_types.specs.Known.{known_of, layout_of};
 ghost use Rattle.table_builder.specs.Entries.{IsElement};
 ghost use Rattle.table_builder.specs.Contents.{IsReady};
 ghost use Rattle.table_builder.specs.Growing.{Grows};
+ghost use Rattle.legal_tables.specs.Promised.{HasLegalTypes, IsLegalArray};
 ghost use Rattle.check_making.specs.Making.{table_of, shape_in, Makes, IsSettled, IsTypeOf};
 ghost use Rattle.check_making.specs.Parts.{Judges, JudgesAs, IsRecord, IsPointer};
 
@@ -30,6 +31,7 @@ impl Declaring {
         ensures settled { OnOk result (IsSettled round.now self.new) }
         ensures judged { JudgesAs (IsRecord self.new) round.now self.old self.new judged_record result }
         ensures grows { Grows self.old.types.table self.new.types.table }
+        ensures legal { OnOk result (HasLegalTypes self.old.types.table → HasLegalTypes self.new.types.table) }
     {
         match self.types.new_record() {
             Ok(r) => Ok(r),
@@ -43,6 +45,7 @@ impl Declaring {
         ensures settled { OnOk result (IsSettled round.now self.new) }
         ensures judged { JudgesAs (IsPointer self.new) round.now self.old self.new judged_pointer result }
         ensures grows { Grows self.old.types.table self.new.types.table }
+        ensures legal { OnOk result (HasLegalTypes self.old.types.table → HasLegalTypes self.new.types.table) }
     {
         match self.types.new_pointer() {
             Ok(p) => Ok(p),
@@ -57,6 +60,7 @@ impl Declaring {
         ensures settled { IsSettled round.now self.new }
         ensures judged { Judges round.now self.old self.new (judged_base pointer r) (Ok tt) }
         ensures grows { Grows self.old.types.table self.new.types.table }
+        ensures legal { HasLegalTypes self.old.types.table → HasLegalTypes self.new.types.table }
     {
         self.types.set_base(pointer, r);
     }
@@ -74,6 +78,8 @@ impl Declaring {
         ensures settled { OnOk result (IsSettled round.now self.new) }
         ensures judged { Judges round.now self.old self.new (judged_layout r (layout_of (table_of self.old) layout)) result }
         ensures grows { Grows self.old.types.table self.new.types.table }
+        ensures legal { OnOk result (slice_get (known_of self.old.types.table).records r ≡ Some no_layout
+            → HasLegalTypes self.old.types.table → HasLegalTypes self.new.types.table) }
     {
         match self.types.set_record(r, layout) {
             Ok(()) => Ok(()),
@@ -95,6 +101,9 @@ impl Declaring {
         ensures shape { IfOk result (λ k. IsTypeOf self.new k (Array length (shape_in self.old element))) }
         ensures memory { IfErr result (λ e. e ≡ CheckFault.Memory) }
         ensures grows { Grows self.old.types.table self.new.types.table }
+        ensures known { known_of self.new.types.table ≡ known_of self.old.types.table }
+        ensures legal { OnOk result (IsLegalArray (known_of self.old.types.table) length (shape_in self.old element)
+            → HasLegalTypes self.old.types.table → HasLegalTypes self.new.types.table) }
     {
         match self.types.array(length, element) {
             Ok(k) => Ok(k),

@@ -1,4 +1,4 @@
-use Rattle.std.proofs.Common.{subst, Ok, Err, arith}
+use Rattle.std.proofs.Common.{◌∙◌, refl, subst, Ok, Err, arith}
 use Rattle.std.proofs.lemmas.List.{drop_all}
 use Rattle.check_steps.specs.Answers.{Answers}
 use Rattle.check_steps.proofs.Answering.{exit, Judging}
@@ -8,7 +8,7 @@ use Rattle.check_declared.proofs.Consts.{consts_from, const_item, consts_first, 
 use Rattle.check_declared.proofs.constants.const_decls.Goals as goal
 
 pub loop-tree-init : goal.loop-tree-init
-loop-tree-init c = record { settled = c.requires; judged = λ m makes. consts_first c.args.round.now c.args.state.now m makes c.args.trees.now }
+loop-tree-init c = record { settled = c.requires; types = refl; judged = λ m makes. consts_first c.args.round.now c.args.state.now m makes c.args.trees.now }
 
 pub loop-tree-preserved : goal.loop-tree-preserved
 loop-tree-preserved c =
@@ -16,6 +16,7 @@ loop-tree-preserved c =
     let ds = c.args.trees.now in
     record {
       settled = c.in_ok-const_decl.ensures.settled;
+      types = c.in_ok-const_decl.ensures.types ∙ c.loop-tree.invariant.types;
       judged = λ m makes.
           consts_next r (consts_from r (tt, m) ds) c.loop-tree.state c.const_decl.new.state ds c.loop-tree.tree-index c.tree-item.result c.loop-tree-test.true (c.loop-tree.invariant.judged m makes)
           (λ n k. subst (λ d. Answers (Made r c.const_decl.new.state) (const_item r (tt, n) d) (Ok tt)) c.tree-item.is (c.in_ok-const_decl.ensures.judged n k));

@@ -1,4 +1,4 @@
-use Rattle.std.proofs.Common.{drop}
+use Rattle.std.proofs.Common.{◌≡◌, drop}
 use Rattle.ob_judge.specs.Making.{Making}
 use Rattle.check_steps.proofs.Answering.{Judging}
 use Rattle.check_making.specs.Making.{Makes, IsSettled}
@@ -9,6 +9,7 @@ use Rattle.check_declared.proofs.constants.const_decls.Given as goal
 abbrev pub invariant-loop-tree : goal.invariant-loop-tree
 invariant-loop-tree l = record {
   settled : IsSettled l.round l.state;
+  types : l.state.types ≡ l.initial.state.types;
   judged : (m : Making) → Makes l.round l.initial.state m
       → Judging (StateMakes l.round) (consts_from l.round) (consts_from l.round (tt, m) l.trees) l.state (drop l.tree-index l.trees);
 }

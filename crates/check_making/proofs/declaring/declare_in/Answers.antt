@@ -1,4 +1,4 @@
-use Rattle.std.proofs.Common.{◌≡◌, refl, ap, sym, ◌∙◌, subst}
+use Rattle.std.proofs.Common.{refl, ap, ◌∙◌}
 use Rattle.ob_judge.specs.Scopes.{declare}
 use Rattle.check_names.specs.Meaning.{entry_of, names_of}
 use Rattle.check_making.proofs.Known.{at_place}

@@ -1,4 +1,4 @@
-use Rattle.std.proofs.Common.{◌≡◌, refl, ap, sym, ◌∙◌, length, ◌-◌}
+use Rattle.std.proofs.Common.{ap, ◌∙◌, length, ◌-◌}
 use Rattle.check_making.proofs.Known.{declared_made, settled_after, as_declared, as_offered, none_by}
 use Rattle.check_making.proofs.making.Declaring.declare.Goals as goal
 

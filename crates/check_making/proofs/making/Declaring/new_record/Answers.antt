@@ -1,8 +1,13 @@
-use Rattle.std.proofs.Common.{◌≡◌, refl, ap, sym, ◌∙◌, length, ◌++◌, ◌∷◌, [], None, Some}
+use Rattle.std.proofs.Common.{ap, sym, ◌∙◌, length, ◌++◌, ◌∷◌, []}
 use Rattle.ob_judge.specs.Shapes.{Known}
 use Rattle.ob_judge.specs.Scopes.{World}
 use Rattle.ob_judge.specs.Making.{no_layout}
-use Rattle.check_making.proofs.Growing.{settled_grown, makes_grown, makes_still}
+use Rattle.check_making.proofs.Growing.{settled_grown, makes_grown}
+use Rattle.check_types.specs.Known.{known_of}
+use Rattle.check_types.specs.declared.types.TypeRef.TheVariants as TheType
+use Rattle.table_builder.specs.Growing.{behind}
+use Rattle.legal_tables.proofs.Keeping.{kept}
+use Rattle.check_making.proofs.Legal.{begun_stay}
 use Rattle.check_making.proofs.making.Declaring.new_record.Goals as goal
 
 pub returns-in-Ok-clause-judged : goal.returns-in-Ok-clause-judged
@@ -21,3 +26,10 @@ returns-in-Ok-clause-settled c =
     let s = c.args.self.now in
     let h = c.in-Ok.ensures in
     settled_grown c.args.round.now s c.requires c.new_record.new.self h.built h.grows
+
+pub returns-in-Ok-clause-legal : goal.returns-in-Ok-clause-legal
+returns-in-Ok-clause-legal c = λ legal.
+    let s = c.args.self.now in
+    let new = c.new_record.new.self in
+    let h = c.in-Ok.ensures in
+    kept s.types new c.requires.built h.built h.grows (begun_stay (known_of s.types.table) (known_of new.table) h.known) (TheType.Record c.in-Ok.r) (behind h.entries) tt h.signatures legal

@@ -1,4 +1,4 @@
-use Rattle.std.proofs.Common.{◌≡◌, ap, sym, ◌∙◌, subst, cond, Some, ℕ, List}
+use Rattle.std.proofs.Common.{ap, sym, ◌∙◌, cond, Some}
 use Rattle.std.specs.Str.{bytes_eq}
 use Rattle.std.specs.Prelude.{is_some}
 use Rattle.check_steps.specs.Maps.{at_bytes}

@@ -1,4 +1,4 @@
-use Rattle.std.proofs.Common.{◌≡◌, ap, sym, ◌∙◌, subst}
+use Rattle.std.proofs.Common.{subst}
 use Rattle.ob_judge.specs.Names.{type_named}
 use Rattle.check_steps.specs.Answers.{Answers}
 use Rattle.check_names.specs.Worlds.{world_of, IsOfType}

@@ -1,0 +1,4 @@
+pub mod Found
+pub mod KnownAs
+pub mod LastNames
+pub mod ImportSteps

@@ -1,0 +1,8 @@
+pub mod ArrayLists
+pub mod Cells
+pub mod LayoutsSoFar
+pub mod FieldLists
+pub mod WholeRecords
+pub mod PointerParts
+pub mod Copies
+pub mod LegalArrays

@@ -1,0 +1,5 @@
+pub mod Arrays
+pub mod Layouts
+pub mod Fields
+pub mod Records
+pub mod Pointers

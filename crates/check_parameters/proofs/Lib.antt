@@ -1,0 +1,12 @@
+pub mod Answering
+pub mod Stages
+pub mod Updates
+pub mod Rounds
+pub mod InLists
+pub mod Leaving
+pub mod Growing
+pub mod OneMore
+pub mod ManySections
+pub mod ProcedureTypes
+pub mod Knowing
+pub mod LegalTypes

@@ -1,0 +1,4 @@
+pub mod Stands
+pub mod Listed
+pub mod Headings
+pub mod Names

@@ -1,0 +1,6 @@
+pub mod Blank
+pub mod Building
+pub mod Built
+pub mod Scopes
+pub mod Naming
+pub mod Numbers

@@ -1,0 +1,9 @@
+mod TypeParts
+mod ArrayLengths
+mod WalkLaws
+mod States
+mod NamedTypes
+mod Bases
+mod Lists
+mod LegalTypes
+mod TidyStates

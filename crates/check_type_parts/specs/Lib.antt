@@ -1,0 +1,4 @@
+pub mod Lengths
+pub mod Records
+pub mod TypeSyntax
+pub mod Forward
