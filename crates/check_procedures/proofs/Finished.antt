@@ -1,0 +1,196 @@
+-- A procedure that is complete stands for the judgement's.
+use Rattle.std.proofs.Common.{◌≡◌, ◌<◌, ◌≤◌, ℕ, List, [], ◌∷◌, map, false, Option, Some, Result, Ok, Err, length, refl, sym, ap, ap₂, ◌∙◌, subst, arith}
+use Rattle.std.specs.Prelude.{option_map, slice_get, Vec}
+use Rattle.std.specs.Global.{Global}
+use Rattle.std.specs.Str.{bytes_eq}
+use Rattle.ob_types.specs.declared.types.Formal.{Formal}
+use Rattle.ob_types.specs.declared.program.Procedure.{Procedure}
+use Rattle.ob_types.specs.declared.statements.Stmt.{Stmt}
+use Rattle.ob_types.specs.declared.statements.Checked.{Checked}
+use Rattle.ob_judge.specs.Image as I
+use Rattle.ob_judge.specs.Judged.{Judged, Keeps, ◌>>=◌, ◌>>◌, rule}
+use Rattle.ob_judge.specs.Shapes.{Shape}
+use Rattle.ob_judge.specs.Texts.{texts_of}
+use Rattle.ob_judge.specs.Scopes.{World, Source, place, spelled, line}
+use Rattle.ob_judge.specs.Statements.{body_of}
+use Rattle.ob_judge.specs.Declarations.{answer}
+use Rattle.ob_judge.specs.Making.{Making}
+use Rattle.ob_judge.specs.Modules.{SoFar}
+use Rattle.ob_judge.specs.Parameters.{Listed}
+use Rattle.judged_tree.specs.Plain.{plain_body, plain_checked, plain_formal, plain_procedure}
+use Rattle.judged_tree.specs.Outline.{outlined_statements, outlined_checked, outlined_procedure}
+use Rattle.judged_tree.specs.Tables.{are_before}
+use Rattle.judged_outlines.specs.Upright.{Upright}
+use Rattle.judged_outlines.proofs.Outlined.{procedure_outlined}
+use Rattle.text_numbers.specs.declared.renumbering.Numbered.{Numbered}
+use Rattle.check_steps.specs.Answers.{Answers}
+use Rattle.check_steps.specs.declared.fault.CheckFault.{CheckFault}
+use Rattle.check_steps.proofs.Answering.{as_judged, stop}
+use Rattle.check_names.specs.declared.scope.Scope.{Scope}
+use Rattle.check_names.specs.Worlds.{world_of}
+use Rattle.check_names.specs.Worlds.{table_of as table_in}
+use Rattle.check_operands.specs.Operands.{texts_of as texts_in}
+use Rattle.check_standard.specs.Made.{IsKept}
+use Rattle.check_statements.specs.Standing.{AreStatements}
+use Rattle.check_assignments.specs.Assigned.{IsAnswer}
+use Rattle.check_types.specs.TypeMeaning.{type_shape}
+use Rattle.check_types.specs.declared.types.TypeRef.{TypeRef}
+use Rattle.check_types.specs.declared.table.TypeTable.{TypeTable}
+use Rattle.check_types.specs.declared.types.TypeRef.TheVariants as TheType
+use Rattle.text_numbers.specs.Numbering.{NumbersAll}
+use Rattle.table_builder.specs.declared.builder.TableBuilder.{TableBuilder}
+use Rattle.table_builder.specs.Builder.{IsBuilt}
+use Rattle.table_builder.specs.Growing.{Grows}
+use Rattle.table_builder.proofs.Lists.{there}
+use Rattle.procedure_steps.specs.Procedures.{OneProcedure}
+use Rattle.procedure_steps.specs.Steps.{completed}
+use Rattle.procedure_steps.specs.Frames.{Begins}
+use Rattle.check_making.specs.declared.making.Declaring.{Declaring}
+use Rattle.check_making.specs.declared.making.Surroundings.{Surroundings}
+use Rattle.check_making.specs.Making.{world_in, Makes}
+use Rattle.check_parameters.specs.declared.sections.Heading.{Heading}
+use Rattle.check_parameters.specs.Headings.{IsHeading}
+use Rattle.check_scopes.specs.Building.{IsLater, StandsFor}
+use Rattle.check_scopes.specs.Numbers.{AreNumbersOf}
+use Rattle.check_scopes.proofs.ByNumber.{numbers_mean, numbers_still}
+use Rattle.check_scopes.proofs.Procedures.{number_means, number_still, begins_self}
+use Rattle.check_procedures.specs.Completing.{image_of, IsStill}
+use Rattle.check_procedures.proofs.Giving.{came, then_so, rule_stops}
+use Rattle.check_procedures.proofs.Texts.{texts_same}
+
+-- a procedure that isn't a module's body, by its parts
+abbrev by_parts : ℕ → ℕ → List I.Formal → Shape → List Shape → List (List ℕ) → I.Statements → Option I.Checked → I.Procedure
+by_parts m l fs r ls ts b a = record { module_number = m; line = l; is_body = false; formals = fs; result = r; locals = ls; texts = ts; body = b; answer = a }
+
+parts_same : (m n l k : ℕ) (fs gs : List I.Formal) (r s : Shape) (ls ks : List Shape) (ts us : List (List ℕ)) (b c : I.Statements) (a d : Option I.Checked)
+    → m ≡ n → l ≡ k → fs ≡ gs → r ≡ s → ls ≡ ks → ts ≡ us → b ≡ c → a ≡ d → by_parts m l fs r ls ts b a ≡ by_parts n k gs s ks us c d
+parts_same m n l k fs gs r s ls ks ts us b c a d e1 e2 e3 e4 e5 e6 e7 e8 =
+    ap (λ z. by_parts z l fs r ls ts b a) e1 ∙ ap (λ z. by_parts n z fs r ls ts b a) e2 ∙ ap (λ z. by_parts n k z r ls ts b a) e3 ∙ ap (λ z. by_parts n k gs z ls ts b a) e4
+    ∙ ap (λ z. by_parts n k gs s z ts b a) e5 ∙ ap (λ z. by_parts n k gs s ks z b a) e6 ∙ ap (λ z. by_parts n k gs s ks us z a) e7 ∙ ap (λ z. by_parts n k gs s ks us c z) e8
+
+-- ---- the code's procedure, there and in a table that grew
+
+module _ (t u : TypeTable) (g : Grows t u) where
+  formals_still : (xs : List Formal) → are_before (length t.entries.items) xs → map (plain_formal u.types) xs ≡ map (plain_formal t.types) xs
+  formals_still [] h = refl
+  formals_still (x ∷ xs) h =
+      let e = there t.entries.items x.type_number h.0 in
+      ap₂ (λ (z : Shape) (fs : List I.Formal). record { mode = x.mode; variable = x.variable; shape = z } ∷ fs) (number_still t u g x.type_number e.0 e.1) (formals_still xs h.1)
+
+module _ (t : TypeTable) (m line : ℕ) (formals : List Formal) (result : ℕ) (of : TypeRef) (locals : List ℕ) (variables : List TypeRef) (n : Numbered)
+    (entry : slice_get t.entries.items result ≡ Some of) (numbers : AreNumbersOf t.entries.items locals variables) where
+  abbrev made : Procedure
+  made = record { «module» = m; line = line; is_body = false; formals = formals; result = result; locals = locals; texts = n.texts; body = n.body; answer = n.answer }
+
+  pub made_image : plain_procedure t.types made
+      ≡ by_parts m line (map (plain_formal t.types) formals) (type_shape t.types of) (map (type_shape t.types) variables) n.texts (plain_body t.types n.texts n.body) (option_map (plain_checked t.types n.texts) n.answer)
+  made_image = parts_same m m line line _ _ _ _ _ _ _ _ _ _ _ _ refl refl refl (number_means t result of entry) (numbers_mean t locals variables numbers) refl refl refl
+
+  pub made_still : (u : TypeTable) → Grows t u → are_before (length t.entries.items) formals → IsStill t u n → plain_procedure u.types made ≡ plain_procedure t.types made
+  made_still u g before still =
+      parts_same m m line line _ _ _ _ _ _ _ _ _ _ _ _ refl refl (formals_still t u g formals before) (number_still t u g result of entry) (numbers_still t u g locals variables numbers) refl still.body still.answer
+
+-- ---- the judgement's
+
+-- statements with final numbers, as text_numbers gives them
+pub record IsRenumbered (t : TypeTable) (texts : List (List ℕ)) (body : List Stmt) (given : Option Checked) (n : Numbered) : Type 0 where
+  pub all : n.texts ≡ texts_of (plain_body t.types texts body) (option_map (plain_checked t.types texts) given)
+  pub body_same : plain_body t.types n.texts n.body ≡ plain_body t.types texts body
+  pub answer_same : option_map (plain_checked t.types n.texts) n.answer ≡ option_map (plain_checked t.types texts) given
+  pub body_stays : (u : TypeTable) → Grows t u → length u.types.signatures ≤ 4294967295 → plain_body u.types n.texts n.body ≡ plain_body t.types n.texts n.body
+  pub answer_stays : (u : TypeTable) → Grows t u → length u.types.signatures ≤ 4294967295 → option_map (plain_checked u.types n.texts) n.answer ≡ option_map (plain_checked t.types n.texts) n.answer
+
+module _ (r : Surroundings) (s : Declaring) (c : SoFar) (m : Making) (makes : Makes r s m) (up : Upright c m) (q : OneProcedure) (h : Listed × Shape) (heading : Heading) (is : IsHeading s heading h) where
+  abbrev table : TypeTable
+  table = s.types.table
+
+  -- what the judgement makes of these statements and this answer
+  abbrev pub judged : I.Statements → Option I.Checked → I.Procedure
+  judged b a = by_parts m.world.module_number (line r.source.now q.name.name) h.0.parameters h.1 m.variables (texts_of b a) b a
+
+  module _ (texts : List (List ℕ)) (body : List Stmt) (given : Option Checked) (n : Numbered) (renumbered : IsRenumbered table texts body given n) (b : I.Statements) (a : Option I.Checked)
+      (body_is : plain_body table.types texts body ≡ outlined_statements table.bases.items b) (answer_is : option_map (plain_checked table.types texts) given ≡ option_map (outlined_checked table.bases.items) a) where
+    image_is : (k : ℕ) → k ≡ line r.source.now q.name.name → image_of r s k heading n ≡ outlined_procedure table.bases.items (judged b a)
+    image_is k e = parts_same r.module_number m.world.module_number k (line r.source.now q.name.name) _ _ _ _ _ _ _ _ _ _ _ _
+        (sym (ap (λ (w : World). w.module_number) makes.world)) e (sym is.listed.parameters) is.result_is (sym makes.variables)
+        (renumbered.all ∙ ap₂ texts_of body_is answer_is ∙ texts_same table.bases.items b a) (renumbered.body_same ∙ body_is) (renumbered.answer_same ∙ answer_is)
+
+    pub finished_stands : (k : ℕ) → k ≡ line r.source.now q.name.name → (done : Procedure) → plain_procedure table.types done ≡ image_of r s k heading n → done.result < length table.entries.items
+        → ((u : TypeTable) → IsLater table u → IsStill table u n → plain_procedure u.types done ≡ plain_procedure table.types done)
+        → completed r.source.now q h m ≡ Keeps (judged b a) → StandsFor table done (judged b a)
+    finished_stands k e done image result stays keeps = record {
+      bases = table.bases.items;
+      begins = begins_self table.bases.items;
+      image = image ∙ image_is k e;
+      same = subst (λ bs. (later : List (Option ℕ)) → Begins bs later → outlined_procedure later (judged b a) ≡ outlined_procedure bs (judged b a)) (ap (λ (w : World). w.known.bases) makes.world)
+          (λ later begins. procedure_outlined c r.source.now m up later begins q h (judged b a) keeps);
+      result_there = result;
+      stays = λ u later. stays u later (record { body = renumbered.body_stays u later.grows later.few; answer = renumbered.answer_stays u later.grows later.few });
+    }
+
+-- ---- the answer, part by part
+
+module _ (r : Surroundings) (s : Declaring) (c : SoFar) (m : Making) (makes : Makes r s m) (up : Upright c m) (q : OneProcedure) (h : Listed × Shape) (heading : Heading) (is : IsHeading s heading h)
+    (scope : Scope) (source : scope.source.now ≡ r.source.now) (world : world_of scope ≡ world_in r s) (types : scope.types.now ≡ s.types.table) where
+  abbrev p : Source
+  p = r.source.now
+
+  abbrev BodyIs : Result (Vec Stmt Global) CheckFault → Type 0
+  BodyIs result = Answers (AreStatements scope) (body_of scope.source.now (world_of scope) q.body) result
+
+  abbrev AnswerIs : Result (Option Checked) CheckFault → Type 0
+  AnswerIs result = Answers (IsAnswer scope) (answer scope.source.now (type_shape (table_in scope) heading.outcome) q.end_word q.returned (world_of scope)) result
+
+  abbrev named : Judged (Unit {0})
+  named = rule 37 (place p q.end_name) (bytes_eq (spelled p q.end_name) (spelled p q.name.name))
+
+  body_here : {result : Result (Vec Stmt Global) CheckFault} → BodyIs result → Answers (AreStatements scope) (body_of p m.world q.body) result
+  body_here {result = result} k =
+      subst (λ w. Answers (AreStatements scope) (body_of p w q.body) result) (world ∙ sym makes.world) (subst (λ z. Answers (AreStatements scope) (body_of z (world_of scope) q.body) result) source k)
+
+  answer_here : {result : Result (Option Checked) CheckFault} → AnswerIs result → Answers (IsAnswer scope) (answer p h.1 q.end_word q.returned m.world) result
+  answer_here {result = result} k =
+      subst (λ z. Answers (IsAnswer scope) (answer p z q.end_word q.returned m.world) result) (ap (λ (t : TypeTable). type_shape t.types heading.outcome) types ∙ is.result_is)
+      (subst (λ w. Answers (IsAnswer scope) (answer p (type_shape (table_in scope) heading.outcome) q.end_word q.returned w) result) (world ∙ sym makes.world)
+      (subst (λ z. Answers (IsAnswer scope) (answer z (type_shape (table_in scope) heading.outcome) q.end_word q.returned (world_of scope)) result) source k))
+
+  pub no_body : {B : Type 0} {S : B → I.Procedure → Type 0} {e : CheckFault} → BodyIs (Err e) → Answers S (completed p q h m) (Err e)
+  no_body k = stop _ _ (body_here k)
+
+  pub no_answer : {B : Type 0} {S : B → I.Procedure → Type 0} {e : CheckFault} {body : Vec Stmt Global} → BodyIs (Ok body) → AnswerIs (Err e) → Answers S (completed p q h m) (Err e)
+  no_answer j k = then_so _ _ (body_here j) (λ b is_body body_is. stop _ _ (answer_here k))
+
+  pub no_name : {B : Type 0} {S : B → I.Procedure → Type 0} {e : CheckFault} {body : Vec Stmt Global} {given : Option Checked} → BodyIs (Ok body) → AnswerIs (Ok given) → Answers IsKept named (Err e) → Answers S (completed p q h m) (Err e)
+  no_name {S = S} {e = e} j k l = then_so _ _ (body_here j) (λ b is_body body_is. then_so _ _ (answer_here k) (λ a is_answer answer_is. rule_stops named _ l))
+
+  module _ (body : Vec Stmt Global) (given : Option Checked) (n : Numbered) (renumbered : IsRenumbered scope.types.now (texts_in scope) body.items given n) where
+    pub is_finished : (k : ℕ) → k ≡ line p q.name.name → (done : Procedure) → plain_procedure s.types.table.types done ≡ image_of r s k heading n → done.result < length s.types.table.entries.items
+        → ((u : TypeTable) → IsLater s.types.table u → IsStill s.types.table u n → plain_procedure u.types done ≡ plain_procedure s.types.table.types done)
+        → BodyIs (Ok body) → AnswerIs (Ok given) → Answers IsKept named (Ok tt) → Answers (StandsFor s.types.table) (completed p q h m) (Ok done)
+    is_finished k e done image result stays j l o =
+        came (body_of p m.world q.body) (body_here j) (λ b is_body body_is.
+        came (answer p h.1 q.end_word q.returned m.world) (answer_here l) (λ a is_answer answer_is.
+        came named o (λ u is_named kept.
+        let keeps = completed_keeps b a u is_body is_answer is_named in
+        as_judged keeps (record {
+          by = finished_stands r s c m makes up q h heading is (texts_in scope) body.items given n
+              (subst (λ z. IsRenumbered z (texts_in scope) body.items given n) types renumbered) b a
+              (subst (λ (z : TypeTable). plain_body z.types (texts_in scope) body.items ≡ outlined_statements z.bases.items b) types body_is)
+              (subst (λ (z : TypeTable). option_map (plain_checked z.types (texts_in scope)) given ≡ option_map (outlined_checked z.bases.items) a) types answer_is)
+              k e done image result stays keeps;
+        }))))
+      where
+        completed_keeps : (b : I.Statements) (a : Option I.Checked) (u : Unit {0}) → body_of p m.world q.body ≡ Keeps b → answer p h.1 q.end_word q.returned m.world ≡ Keeps a → named ≡ Keeps u
+            → completed p q h m ≡ Keeps (judged r s c m makes up q h heading is b a)
+        completed_keeps b a u e1 e2 e3 =
+            ap (λ (j : Judged I.Statements). j >>= λ y. answer p h.1 q.end_word q.returned m.world >>= λ x. named >> Keeps (judged r s c m makes up q h heading is y x)) e1
+            ∙ ap (λ (j : Judged (Option I.Checked)). j >>= λ x. named >> Keeps (judged r s c m makes up q h heading is b x)) e2
+            ∙ ap (λ (j : Judged (Unit {0})). j >> Keeps (judged r s c m makes up q h heading is b a)) e3
+
+-- ---- a table that is built numbers all its types
+
+pub numbers_all : (b : TableBuilder) → IsBuilt b → NumbersAll b.table
+numbers_all b h = record {
+  nothing = h.index.says TheType.Nothing 5 refl;
+  procedures = λ g l. let n = there b.numbers.procedures.items g (let e = h.procedures in omega (arith, l, e)) in (n.0, h.index.says (TheType.Procedure g) n.0 n.1);
+}

@@ -1,0 +1,13 @@
+pub mod Giving
+pub mod Steadiness
+pub mod Uprights
+pub mod Outers
+pub mod Opens
+pub mod Forward
+pub mod ByParts
+pub mod Texts
+pub mod Finished
+pub mod Rounds
+pub mod Scoped
+pub mod Closed
+pub mod Whole

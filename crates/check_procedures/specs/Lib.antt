@@ -1,0 +1,4 @@
+pub mod Parts
+pub mod UnderWay
+pub mod Completing
+pub mod Open

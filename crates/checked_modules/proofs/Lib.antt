@@ -1,0 +1,3 @@
+pub mod WholeProgram
+pub mod Entities
+pub mod MadeModule
