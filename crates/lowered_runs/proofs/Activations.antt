@@ -8,7 +8,7 @@ use Rattle.block_runs.specs.States.{Frame}
 use Rattle.ob_types.specs.Forms.{scalar_form, joined, forms, all, types_fine}
 use Rattle.ob_types.specs.Layout.{kind_of, cells, cells_of_all, record_cells}
 use Rattle.ob_types.specs.LegalTypes.{formal_legal, mode_fits}
-use Rattle.ob_types.specs.Meaning.{globals_of, locals_of, is_value, receives, received, zeroed, structured_by}
+use Rattle.ob_types.specs.Meaning.{globals_of, locals_of, is_value, receives, received, zeroed, structured_by, texts_of}
 use Rattle.ob_types.specs.Meaning.{procedure_of as declared_of}
 use Rattle.ob_types.specs.Store.{Cell, Bits, Globals, Frames, Heap, Strings, Address, Handed, At as Addressed, Sized, Tagged, Value}
 use Rattle.ob_types.specs.Store.{Store as Objects, Area as Kind_of_area}
@@ -28,7 +28,7 @@ use Rattle.ob_sound.proofs.Constructs.{with_is}
 use Rattle.ssa_lowered.specs.Pieces.{Mask}
 use Rattle.ssa_lowered.specs.Values.{At, Beside}
 use Rattle.block_runs.specs.First.{data_base}
-use Rattle.ssa_lowered.specs.Data.{global_at}
+use Rattle.ssa_lowered.specs.Data.{global_at, descriptor_at, within, text_at}
 use Rattle.ssa_lowered.specs.Variables.{Site, Variable, is_structured, some_structured, structured_room, scalars_lent, placed, value_parameters, words_by, words_of, none, Register}
 use Rattle.ssa_lowered.specs.Lowered.{Here, here_of, lent_in_body, zeroed_bytes, in_register, variable_of, by_mode}
 use Rattle.lowered_runs.specs.Words.{Whole, Level, sizes_of, heap_word, word_at, ValueIs, Apart}
@@ -289,8 +289,11 @@ own_cells p q hs cs is legal =
 abbrev pub no_variable : Variable
 no_variable = record { type_number = 0; word = None; site = Register }
 
--- where the data of modules are, in whatever level
+-- where descriptors are, and the data of modules, in whatever level
 pub record DataPlaced (w : Whole) : Type 0 where
+  pub descriptor : (r : ℕ) → w.descriptor r ≡ data_base + within (descriptor_at w.program (lay w.program) r)
+  pub text : (l : Level) (o : ℕ) (xs : List ℕ) → slice_get (texts_of w.program.procedures) o ≡ Some xs → (s : Objects) → AddressIs w l (record { area = Strings; object = o; cell = 0 }) (suc (length xs)) (data_base + within (text_at w.program (lay w.program) o)) s
+  pub records : w.records ≡ length w.program.types.records
   pub global : (l : Level) (m v k : ℕ) → slice_get (globals_of w.program m) v ≡ Some k → (s : Objects) → AddressIs w l (record { area = Globals; object = suc m; cell = cells_of_all w.program.types (take v (globals_of w.program m)) }) (cells w.program.types k) (data_base + global_at w.program (lay w.program) m v) s
   pub done : (l : Level) (s : Objects) → AddressIs w l (record { area = Globals; object = 0; cell = 0 }) 1 (data_base + 0) s
 
@@ -407,6 +410,9 @@ module _ (w : Whole) (l : Level) (g : ℕ) (hs : List Handed) (xs : List ℕ) (c
       count = refl;
       local = λ x k at. by x k (there (locals_of q) x k at) (site_at x k (subst (λ ks. slice_get ks x ≡ Some k) (sym (types_are q)) at));
       global = λ m v k at t. placed_data.global u m v k at t;
+      descriptor = placed_data.descriptor;
+      text = λ o xs is t. placed_data.text u o xs is t;
+      records = placed_data.records;
       done = λ t. placed_data.done u t;
     }
       where

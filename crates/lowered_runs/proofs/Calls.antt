@@ -1,46 +1,58 @@
 -- Calls: argument words, the call's operation, and what is behind it.
-use Rattle.std.proofs.Common.{◌≡◌, ◌*◌, Bool, ℕ, ◌+◌, ◌<◌, ◌≤◌, ◌⊎◌, inl, inr, List, [], ◌∷◌, ◌++◌, map, length, true, false, slice_index, refl, sym, ap, ◌∙◌, subst, arith, Option, Some, None}
-use Rattle.std.specs.Prelude.{drop, if◌then◌else◌}
+use Rattle.std.proofs.Common.{◌≡◌, ◌*◌, Bool, ℕ, zero, suc, ◌+◌, ◌<◌, ◌≤◌, ◌⊎◌, inl, inr, List, [], ◌∷◌, ◌++◌, map, length, true, false, not, slice_index, refl, sym, ap, ◌∙◌, subst, arith, cond, Option, Some, None, eqb-true, eq-eqb, ne_eqb}
+use Rattle.std.specs.Prelude.{drop, ◌==◌, if◌then◌else◌}
+use Rattle.std.proofs.lemmas.Bool.{cases_lt}
 use Rattle.std.proofs.lemmas.List.Sums.{sum_by-cons}
 use Rattle.run_laws.specs.Runs.{Moves, Traps, weigh}
-use Rattle.run_laws.specs.Turns.{Gives, Fails, give, ◌>>=◌}
+use Rattle.run_laws.specs.Turns.{Ending, Gives, Fails, Spent, after, give, ◌>>=◌}
 use Rattle.run_laws.specs.Turns.{State as At}
 use Rattle.run_laws.proofs.Reached.{pass_quiet}
-use Rattle.a64_memory.specs.Memory.{Area}
+use Rattle.a64_memory.specs.Memory.{Area, covers, loaded8}
 use Rattle.block_runs.specs.declared.code.Code.{Code}
-use Rattle.block_runs.specs.declared.code.Code.TheVariants.{Call}
+use Rattle.block_runs.specs.declared.code.Code.TheVariants.{Const, Global, Load, Call, CallAt, NotNil}
 use Rattle.block_runs.specs.Blocks.{Operation, block_of, procedure_of}
 use Rattle.block_runs.specs.States.{Enters, Runs, Point, In, Fault}
-use Rattle.block_runs.specs.Steps.{set, behind}
+use Rattle.block_runs.specs.Effects.{code_at, given_at}
+use Rattle.block_runs.specs.First.{data_base}
+use Rattle.block_runs.specs.Effects.{Calls as Leads, Gives as Yields, Fails as Refuses}
+use Rattle.block_runs.specs.Steps.{set, behind, operate}
 use Rattle.block_runs.specs.Points.{least}
-use Rattle.ob_types.specs.Forms.{Form, types_fine}
-use Rattle.ob_types.specs.Layout.{kind_of, cells, record_cells}
-use Rattle.ob_types.specs.Store.{Cell, Store, Address, Handed, At as Addressed, Sized, Tagged, Value, Act, Senseless, given, cell_of}
-use Rattle.ob_types.specs.Expressions.{Calls, cons, by_value, called_by_number, result_of}
+use Rattle.ob_types.specs.Forms.{Form, Routines, types_fine}
+use Rattle.ob_types.specs.Layout.{kind_of, signature_of, cells, record_cells}
+use Rattle.ob_types.specs.Store.{Cell, Bits, Pointer, Heap, Store, address_in, Address, Handed, At as Addressed, Sized, Tagged, Value, Act, Trap, Span, Senseless, given, cell_of, code_in}
+use Rattle.ob_types.specs.Store.{Code as Procedure}
+use Rattle.ob_types.specs.Expressions.{Calls, cons, by_value, by_record, by_open, with_tag, called_by_number, called_by_value, result_of}
 use Rattle.ob_types.specs.Meaning.{procedure_of as declared_of}
 use Rattle.ob_types.specs.WellFormed
 use Rattle.ob_types.specs.WellFormed.{callable, open_element}
+use Rattle.ob_types.specs.WellFormed.{Named as Thing}
 use Rattle.ob_types.specs.declared.types.Formal.{Formal}
 use Rattle.ob_types.specs.declared.types.Mode.{Mode}
 use Rattle.ob_types.specs.declared.types.Mode.TheVariants.{Place}
 use Rattle.ob_types.specs.declared.types.Mode.TheVariants.{Value as OfValue, Record as OfRecord, Open as OfOpen}
 use Rattle.ob_types.specs.declared.program.Program.{Program}
-use Rattle.ob_sound.proofs.Handing.{AllTaken, all_taken_older}
+use Rattle.ob_types.proofs.Tests.{and_of, none_some}
+use Rattle.ob_sound.proofs.Typed.{HasForm, fits_older}
+use Rattle.ob_sound.proofs.Handing.{AllTaken, all_taken_older, of_type}
 use Rattle.ssa_core.specs.Procedures.{operation_of}
 use Rattle.ssa_core.specs.declared.procedure.Op.{Op}
 use Rattle.ssa_lowered.specs.Pieces.{Cursor, Low, Mask, emits, does}
-use Rattle.ssa_lowered.specs.Pieces.{give as gives}
-use Rattle.ssa_lowered.specs.Values.{Request, by_word, also, call, with_result, without_result}
+use Rattle.ssa_lowered.specs.Pieces.{◌>>=◌ as ◌>>>◌, give as gives}
+use Rattle.ssa_lowered.specs.Values.{Named, Beside, Object, length_in, tag_in, Request, by_word, also, call, call_at, with_result, without_result}
+use Rattle.ssa_lowered.specs.Values.{At as AtAddress, Held as InRegister, by_record as lower_record, by_open as lower_open, address_in as lower_address}
 use Rattle.ssa_lowered.specs.Variables.{words_of, words_by}
-use Rattle.lowered_runs.specs.Words.{Whole, Level, Right, sizes_of, ValueIs, Held, Later, Apart}
-use Rattle.lowered_runs.proofs.Stores.{later_on, value_later}
+use Rattle.lowered_runs.specs.Words.{Whole, Level, Right, sizes_of, TagOf, ValueIs, word, Held, Later, Apart}
+use Rattle.lowered_runs.proofs.Stores.{later_on, value_later, covers_thing, there_tag}
 use Rattle.lowered_runs.proofs.Values.{Under, Same, put_here, put_same, under_more, under_at, map_same, off_refl}
 use Rattle.lowered_runs.proofs.Standing.{Standing, bulk}
 use Rattle.lowered_runs.proofs.Ready.{Position, position, system, world_of, frame_at, runs_at, Typing, Goes, Came_to, Ready, ready_more}
-use Rattle.lowered_runs.proofs.Follows.{Fact, And as Both, Steady, steady_and, Grows, grows_bind, grows_give, grows_emits, grows_does, Follows, FollowsTo, DoneTo, Fits, follows_bind, follows_give, follows_known, follows_then, follows_result, goes_on, op_step, op_pays}
+use Rattle.lowered_runs.proofs.Follows.{Fact, And as Both, Steady, steady_and, Grows, grows_bind, grows_give, grows_emits, grows_does, Follows, FollowsTo, DoneTo, Fits, follows_bind, follows_give, follows_known, follows_seen, follows_then, follows_found, steady_fixed, follows_result, follows_emits, follows_does, follows_never, goes_on, op_step, op_pays, effect_at, Acts, acts_give, acts_trap, acts_senseless}
 use Rattle.lowered_runs.proofs.Homes.{AddressIs, address_later}
-use Rattle.lowered_runs.proofs.Designators.{SecondIs, RowIs}
-use Rattle.lowered_runs.proofs.Exprs.{CellIs}
+use Rattle.lowered_runs.proofs.Sets.{follows_same}
+use Rattle.lowered_runs.proofs.Designators.{row_of, SecondIs, NamedIs, RowIs, steady_row, shorter, grows_address, follows_address}
+use Rattle.lowered_runs.proofs.Elements.{LengthIn, SpanIs, steady_span, span_by, spanned_same, follows_length_in, grows_length_in}
+use Rattle.lowered_runs.proofs.Exprs.{CellIs, steady_cell}
+use Rattle.lowered_runs.proofs.Deeds.{follows_same_to}
 
 map_append : (f : ℕ → ℕ) (us vs : List ℕ) → map f (us ++ vs) ≡ map f us ++ map f vs
 map_append f [] vs = refl
@@ -132,6 +144,108 @@ module _ (w : Whole) (l : Level) where
   pub follows_by_place : {fuel : ℕ} {mask : Mask} {K : Fact} {x : Act Address} {low : Low ℕ} (k : ℕ) → Steady w l K → Follows w l 0 fuel mask K (RowIs w l (cells w.program.types k)) x low → Follows w l 0 fuel mask K (OneWord Place k) (λ s. (x >>= λ a. give (Addressed a)) s) (by_word low)
   follows_by_place k steady one = follows_bind w l steady one (λ a. grows_give w l (a ∷ [])) (λ c a. follows_give w l (Addressed c) (a ∷ []) (λ n f s z. ((z.1.0, tt), (z.1.1, tt))))
 
+  -- a record's address, and its tag: that of its own type where no other goes with it
+  abbrev TagIs : Handed → ℕ → ℕ → Fact
+  TagIs h r i n f s = (i < n) × ((a : Address) (t : ℕ) → with_tag h r ≡ Some (Tagged a t) → f i ≡ w.descriptor t)
+
+  steady_tag : (h : Handed) (r i : ℕ) → Steady w l (TagIs h r i)
+  steady_tag h r i = record { by = λ n u f g s t le same later k. let lt = k.0 in (omega (arith, le, lt), (λ a b e. same i k.0 ∙ k.1 a b e)) }
+
+  tag_of_handed : (a b : Address) (r t : ℕ) → Some (Tagged a r) ≡ Some (Tagged b t) → r ≡ t
+  tag_of_handed a b r t e = cc
+
+  grows_tag : (descriptor : ℕ) (v : Named) → Grows w l (tag_in descriptor v)
+  grows_tag descriptor (AtAddress i) = grows_emits w l (Global descriptor) []
+  grows_tag descriptor (Beside i j) = grows_give w l j
+  grows_tag descriptor (Object i) = grows_emits w l Load (i ∷ [])
+  grows_tag descriptor (InRegister x) = grows_emits w l (Const 0) []
+
+  follows_tag : {fuel : ℕ} {mask : Mask} {K : Fact} (own : Mask) (d : Thing) (h : Handed) (v : Named) (r descriptor : ℕ) → w.descriptor r ≡ data_base + descriptor → ((x : ℕ) → own x ≡ true → l.in_register x ≡ false)
+      → Follows w l 0 fuel mask (Both K (NamedIs w l own d h v)) (λ (u : Unit {0}) i. TagIs h r i) (give tt) (tag_in descriptor v)
+  follows_tag own d h (AtAddress i) r descriptor placed memory = follows_emits w l (Global descriptor) [] (λ n f m s held known. acts_give w l tt (data_base + descriptor) held refl refl
+      (omega arith, (λ a t e. put_here n (data_base + descriptor) f ∙ sym placed ∙ ap w.descriptor (own_tag h known.1.1.0 a t known.1.1.1 e))))
+    where
+      own_tag : (h : Handed) (c a : Address) (t : ℕ) → h ≡ Addressed c → with_tag h r ≡ Some (Tagged a t) → r ≡ t
+      own_tag h c a t is e = tag_of_handed c a r t (sym (ap (λ x. with_tag x r) is) ∙ e)
+  follows_tag own d h (Beside i j) r descriptor placed memory = follows_seen w l j (λ n f s m held typed known. inl (tt, refl, (known.1.1.0, (λ a t e. second h a t (f j) known.1.1.1.3 e))))
+    where
+      second : (h : Handed) (a : Address) (t y : ℕ) → SecondIs w l h y → with_tag h r ≡ Some (Tagged a t) → y ≡ w.descriptor t
+      second (Tagged c k) a t y is e = is ∙ ap w.descriptor (tag_of_handed c a k t e)
+      second (Sized c k) a t y is e = none_some (Tagged a t) e
+      second (Addressed c) a t y is e = absurd is
+      second (Value c) a t y is e = absurd is
+  follows_tag own d h (Object i) r descriptor placed memory = follows_emits w l Load (i ∷ []) (λ n f m s held known.
+      let z = known.1.1 in
+      let cover = covers_thing w l s.store m (TagOf z.0) z.4.0 held (there_tag s.store z.0 z.1 held.tagged z.3) z.4.1 in
+      acts_give w l tt (word m z.4.0) held refl (ap (λ x. given_at x (cond (covers m x 8) (Some (loaded8 m x)) None) Yields) z.4.2 ∙ ap (λ b. given_at (8 * z.4.0) (cond b (Some (word m z.4.0)) None) Yields) cover)
+      (omega arith, (λ a t e. put_here n (word m z.4.0) f ∙ (held.tags z.0 z.1 z.4.0 z.3 z.4.1).0 ∙ ap w.descriptor (its_tag h z.0 z.1 a t z.2 e))))
+    where
+      its_tag : (h : Handed) (o k : ℕ) (a : Address) (t : ℕ) → h ≡ Tagged (record { area = Heap; object = o; cell = 0 }) k → with_tag h r ≡ Some (Tagged a t) → k ≡ t
+      its_tag h o k a t is e = tag_of_handed (record { area = Heap; object = o; cell = 0 }) a k t (sym (ap (λ x. with_tag x r) is) ∙ e)
+  follows_tag own d h (InRegister x) r descriptor placed memory = follows_never w l (λ n f s g. differ (sym g.1.2 ∙ memory x g.1.3)) (grows_tag descriptor (InRegister x))
+    where
+      differ : true ≡ false → ⊥
+      differ e = cc
+
+  pub follows_by_record : {fuel : ℕ} {mask : Mask} {K : Fact} {A : Handed → Named → Fact} {q : Low Named} (k r : ℕ) (own : Mask) (d : Thing) (descriptor : ℕ) (place_of : Act Handed) → Steady w l K → w.descriptor r ≡ data_base + descriptor → ((x : ℕ) → own x ≡ true → l.in_register x ≡ false) → ((h : Handed) (v : Named) → Steady w l (A h v))
+      → ((h : Handed) (v : Named) (n : ℕ) (f : ℕ → ℕ) (s : Store) → A h v n f s → NamedIs w l own d h v n f s)
+      → ((h : Handed) (v : Named) (n : ℕ) (f : ℕ → ℕ) (s : Store) → A h v n f s → (a : Address) (t : ℕ) → with_tag h r ≡ Some (Tagged a t) → record_cells w.program.types t ≤ row_of w l d h)
+      → Follows w l 0 fuel mask K A place_of q → Follows w l 0 fuel mask K (OneWord OfRecord k) (by_record place_of r) (lower_record q descriptor)
+  follows_by_record {fuel = fuel} {mask = mask} {K = K} {A = A} k r own d descriptor place_of steady placed memory steady_record names rows one =
+      follows_same w l (place_of >>= λ h. given (address_in h) >>= λ a. given (with_tag h r)) (by_record place_of r) (λ s. regroup (place_of s))
+      (follows_bind w l steady one (λ v. grows_bind w l (grows_address w l v 0) (λ i. grows_second v i))
+      (λ h v. follows_bind w l (steady_and w l steady (steady_record h v))
+      (follows_found w l (address_in h) (follows_known w l {K = Both K (NamedIs w l own d h v)} (λ n f s z. (z.0, names h v n f s z.1)) (follows_address w l own d h v (row_of w l d h) (omega arith) (inr memory))))
+      (λ i. grows_second v i)
+      (λ a i. let known = steady_and w l (steady_and w l steady (steady_record h v)) (steady_and w l (steady_row w l (row_of w l d h) a i) (steady_fixed w l (address_in h ≡ Some a))) in
+      follows_bind w l {m = give tt} {h = λ (u : Unit {0}). given (with_tag h r)} known (follows_known w l {K = Both K (NamedIs w l own d h v)} (λ n f s z. (z.0.0, names h v n f s z.0.1)) (follows_tag own d h v r descriptor placed memory)) (λ z. grows_give w l (i ∷ z ∷ []))
+      (λ u z. follows_seen w l (i ∷ z ∷ []) (λ n f s m held typed g. by h v a i z n f s g.0.0.1 g.0.1 g.1)))))
+    where
+      grows_second : (v : Named) (i : ℕ) → Grows w l (tag_in descriptor v >>> λ z. gives (i ∷ z ∷ []))
+      grows_second v i = grows_bind w l (grows_tag descriptor v) (λ z. grows_give w l (i ∷ z ∷ []))
+
+      no_address : (h : Handed) (s : At Store) → after (given (address_in h) s) (λ a. given (with_tag h r)) ≡ given (with_tag h r) s
+      no_address (Addressed a) s = refl
+      no_address (Sized a n) s = refl
+      no_address (Tagged a t) s = refl
+      no_address (Value c) s = refl
+
+      regroup : (e : Ending Store Trap Handed) → after e (λ h. given (address_in h) >>= λ a. given (with_tag h r)) ≡ after e (λ h. given (with_tag h r))
+      regroup (Gives h s) = no_address h s
+      regroup (Fails trap out) = refl
+      regroup (Spent out) = refl
+
+      same : (a b : Address) → Some b ≡ Some a → a ≡ b
+      same a b e = cc
+
+      -- the words are those of the record and its tag
+      words : (b a : Address) (t i z n : ℕ) (f : ℕ → ℕ) (s : Store) (row : ℕ) → Some b ≡ Some a → record_cells w.program.types t ≤ row → RowIs w l row a i n f s → (z < n) × (f z ≡ w.descriptor t) → OneWord OfRecord k (Tagged b t) (i ∷ z ∷ []) n f s
+      words b a t i z n f s row is long at tag = ((at.0, (tag.0, tt)), (shorter w l b (f i) s (record_cells w.program.types t) row long (subst (λ a. AddressIs w l a row (f i) s) (same a b is) at.1), (tag.1, tt)))
+
+      by : (h : Handed) (v : Named) (a : Address) (i z n : ℕ) (f : ℕ → ℕ) (s : At Store) → A h v n f s.store → RowIs w l (row_of w l d h) a i n f s.store × (address_in h ≡ Some a) → TagIs h r z n f s.store
+          → ((x : Handed) × (given (with_tag h r) s ≡ Gives x s) × OneWord OfRecord k x (i ∷ z ∷ []) n f s.store) ⊎ (given (with_tag h r) s ≡ Fails Senseless s.out)
+      by (Addressed b) v a i z n f s is at tag = inl (Tagged b r, refl, words b a r i z n f s.store (row_of w l d (Addressed b)) at.1 (rows (Addressed b) v n f s.store is b r refl) at.0 (tag.0, tag.1 b r refl))
+      by (Tagged b t) v a i z n f s is at tag = inl (Tagged b t, refl, words b a t i z n f s.store (row_of w l d (Tagged b t)) at.1 (rows (Tagged b t) v n f s.store is b t refl) at.0 (tag.0, tag.1 b t refl))
+      by (Sized b n2) v a i z n f s is at tag = inr refl
+      by (Value c) v a i z n f s is at tag = inr refl
+
+  -- an array's address, and its length
+  pub follows_by_open : {fuel : ℕ} {mask : Mask} {K : Fact} {A : Handed → Named → Fact} {q : Low Named} (k : ℕ) (o : Option ℕ) (c : ℕ) (place_of : Act Handed) → Steady w l K → ((h : Handed) (v : Named) → Steady w l (A h v)) → ((e : ℕ) → open_element (kind_of w.program.types k) ≡ Some e → c ≡ cells w.program.types e)
+      → ((h : Handed) (v : Named) → Follows w l 0 fuel mask (Both K (A h v)) (SpanIs w l o c v) (span_by w l o h) (lower_address v 0)) → Follows w l 0 fuel mask K A place_of q → Follows w l 0 fuel mask K (OneWord OfOpen k) (by_open place_of o) (lower_open q o)
+  follows_by_open {K = K} {A = A} k o c place_of steady steady_array same spans one =
+      follows_same w l (place_of >>= λ h. span_by w l o h >>= handed) (by_open place_of o) (spanned_same w l place_of o handed)
+      (follows_bind w l steady one (λ v. grows_bind w l (grows_address w l v 0) (λ i. grows_second v i))
+      (λ h v. follows_bind w l (steady_and w l steady (steady_array h v)) (spans h v) (λ i. grows_second v i)
+      (λ a i. follows_bind w l {m = give tt} {h = λ (u : Unit {0}). handed a} (steady_and w l (steady_and w l steady (steady_array h v)) (steady_span w l o c v a i))
+      (follows_known w l {K = Both K (LengthIn w l o a.length v)} (λ n f s g. (g.0.0, g.1.3)) (follows_length_in w l o a.length v)) (λ z. grows_give w l (i ∷ z ∷ []))
+      (λ u z. follows_give w l (Sized a.at a.length) (i ∷ z ∷ []) (λ n f s g. ((g.0.1.0, (g.1.0, tt)), ((λ e is. subst (λ b. AddressIs w l a.at (a.length * b) (f i) s) (same e is) g.0.1.1), (g.1.1, tt))))))))
+    where
+      handed : Span → Act Handed
+      handed a = give (Sized a.at a.length)
+
+      grows_second : (v : Named) (i : ℕ) → Grows w l (length_in o v >>> λ z. gives (i ∷ z ∷ []))
+      grows_second v i = grows_bind w l (grows_length_in w l o v) (λ z. grows_give w l (i ∷ z ∷ []))
+
   pub follows_no_words : {fuel : ℕ} {mask : Mask} {K : Fact} → Follows w l 0 fuel mask K (WordsAre []) (give []) (gives [])
   follows_no_words = follows_give w l [] [] (λ n f s z. (tt, tt))
 
@@ -143,6 +257,26 @@ module _ (w : Whole) (l : Level) where
         under_append n us vs z.0.1.0 z.1.0,
         subst (λ ys. OneIs s x.mode x.type_number h ys (λ rest. Words s xs hs rest)) (sym (map_append f us vs)) (one_append s x.mode x.type_number h (map f us) (map f vs) (λ rest. Words s xs hs rest) z.1.1 z.0.1.1),
       ))))
+
+-- the procedure whose code is at its address
+code_found : (code : ℕ → ℕ) (n g : ℕ) → ((i : ℕ) → i < n → code i ≡ code g → i ≡ g) → g < n → code_at code n (code g) ≡ Some g
+code_found code zero g apart lt = absurd (omega (arith, lt))
+code_found code (suc n) g apart lt = by (code n == code g) refl (λ less. code_found code n g (λ i below e. apart i (omega (arith, below)) e) less)
+  where
+    differ : {b : Bool} → b ≡ true → b ≡ false → ⊥
+    differ e f = cc
+
+    below : n ≡ g ⊎ (g < n) → (code n == code g) ≡ false → g < n
+    below (inl same) e = absurd (differ (eq-eqb (code n) (code g) (ap code same)) e)
+    below (inr less) e = less
+
+    one_of : (g < n) ⊎ (n ≤ g) → n ≡ g ⊎ (g < n)
+    one_of (inl less) = inr less
+    one_of (inr more) = inl (omega (arith, lt, more))
+
+    by : (b : Bool) → (code n == code g) ≡ b → (g < n → code_at code n (code g) ≡ Some g) → (if b then Some n else code_at code n (code g)) ≡ Some g
+    by true e rest = ap (λ i. Some i) (apart n (omega arith) (eqb-true (code n) (code g) e))
+    by false e rest = rest (below (one_of (cases_lt g n)) e)
 
 -- what is behind RETURN
 abbrev pub AnswerIs : (w : Whole) (l : Level) → Option Cell → Option ℕ → Fact
@@ -189,15 +323,21 @@ pub record Calling (w : Whole) (good : types_fine w.program.types ≡ true) (fue
 
 module _ (w : Whole) (l : Level) (right : Right w) (apart : Apart l) (stacked : Stacked l) (good : types_fine w.program.types ≡ true) where
   -- what is known where a call is made
-  abbrev pub Known : ℕ → List Handed → List ℕ → Fact
-  Known g hs us n f s = WordsAre w l (declared_of w.program g).formals hs us n f s × AllTaken w.program good l.forms s.tags (declared_of w.program g).formals hs
+  abbrev pub Known : List Formal → List Handed → List ℕ → Fact
+  Known xs hs us n f s = WordsAre w l xs hs us n f s × AllTaken w.program good l.forms s.tags xs hs
+
+  steady_known : (xs : List Formal) (hs : List Handed) (us : List ℕ) → Steady w l (Known xs hs us)
+  steady_known xs hs us = record {
+    by = λ n v f h s t le same later z. ((steady_words w l xs hs us).by n v f h s t le same later z.0, all_taken_older w.program good l.forms s.tags t.tags (λ o k e. later.tag o k e) xs hs z.1);
+  }
 
   -- the operation leads to the procedure's entry
-  call_step : (c : Position) (f : ℕ → ℕ) (m : List Area) (s : Store) (g : ℕ) (us : List ℕ) (def : Option ℕ) → callable w.program g ≡ true → length (map f us) ≡ words_of (declared_of w.program g).formals
-      → ((rest : List Operation) × (drop c.op (block_of (procedure_of w.procedures l.proc) c.block).ops ≡ operation_of (record { code = Call g; uses = us; def = def }) ∷ rest))
+  call_step : (c : Position) (f : ℕ → ℕ) (m : List Area) (s : Store) (g : ℕ) (us : List ℕ) (op : Op) → callable w.program g ≡ true → length (map f us) ≡ words_of (declared_of w.program g).formals
+      → effect_at w l f m s op.code op.uses ≡ Leads (Some g) (map f us) → ((rest : List Operation) × (drop c.op (block_of (procedure_of w.procedures l.proc) c.block).ops ≡ operation_of op ∷ rest))
       → (system w).step (runs_at l c f m s) ≡ Moves [] (Enters g (map f us) (frame_at l c f ∷ l.callers) (world_of l m s))
-  call_step c f m s g us def ok long stands =
-      op_step w l c f m s (record { code = Call g; uses = us; def = def }) stands
+  call_step c f m s g us op ok long leads stands =
+      op_step w l c f m s op stands
+      ∙ ap (operate w.procedures (operation_of op) (frame_at l c f) l.callers (world_of l m s)) leads
       ∙ ap (λ b. if b then Moves [] (Enters g (map f us) (frame_at l c f ∷ l.callers) (world_of l m s)) else Traps (Fault g)) (right.may g ok (map f us) long)
 
   -- the caller behind a call
@@ -219,21 +359,25 @@ module _ (w : Whole) (l : Level) (right : Right w) (apart : Apart l) (stacked : 
   }
 
   module _ {fuel : ℕ} (calls : Calls) (calling : Calling w good fuel calls) where
+    -- an operation that calls a procedure
+    abbrev Enters_with : Fact → ℕ → List ℕ → Code → List ℕ → Type 0
+    Enters_with K g us code uses = (n : ℕ) (f : ℕ → ℕ) (s : Store) (m : List Area) → K n f s → effect_at w l f m s code uses ≡ Leads (Some g) (map f us)
+
     -- a call that gives a value
-    pub follows_call : {mask : Mask} {K : Fact} (g : ℕ) (hs : List Handed) (us : List ℕ) → callable w.program g ≡ true → ((v : ℕ) → GivesFor w.program g (Some v))
-        → FollowsTo w l false 0 fuel mask (Both K (Known g hs us)) (λ r i n f s. (i < n) × ResultIs w (Some i) r s (f i)) (calls g hs) (emits (Call g) us)
-    follows_call {mask = mask} {K = K} g hs us ok has = record {
-      grows = grows_emits w l (Call g) us;
+    follows_call : {mask : Mask} {K : Fact} (code : Code) (uses : List ℕ) (g : ℕ) (hs : List Handed) (us : List ℕ) → callable w.program g ≡ true → ((v : ℕ) → GivesFor w.program g (Some v)) → Enters_with K g us code uses
+        → FollowsTo w l false 0 fuel mask (Both K (Known (declared_of w.program g).formals hs us)) (λ r i n f s. (i < n) × ResultIs w (Some i) r s (f i)) (calls g hs) (emits code uses)
+    follows_call {mask = mask} {K = K} code uses g hs us ok has leads = record {
+      grows = grows_emits w l code uses;
       by = λ most gain c f s room free le needs few stands fits within known typed r.
-          let op : Op = record { code = Call g; uses = us; def = Some c.values } in
+          let op : Op = record { code = code; uses = uses; def = Some c.values } in
           goes_on w l (calls g hs s)
           (calling.by l g hs (map f us) (Some c.values) most (position c) f s r.memory free free (operation_of op) stands.0.0 stacked ok (has c.values) le (λ h. let z = within h in omega (arith, z)) stands.0.1 refl
           (pass_quiet (system w) (least w.procedures) w.points w.first w.turns 1 free (In l.proc c.block c.op) (Enters g (map f us) (frame_at l (position c) f ∷ l.callers) (world_of l r.memory s.store)) r.reached refl
-          (call_step (position c) f r.memory s.store g us (Some c.values) ok (words_length w l s.store (declared_of w.program g).formals hs (map f us) known.1.0.1) stands.0)
+          (call_step (position c) f r.memory s.store g us op ok (words_length w l s.store (declared_of w.program g).formals hs (map f us) known.1.0.1) (leads c.values f s.store r.memory known.0) stands.0)
           (λ h. let z = fits h in omega (arith, z)) (let e = op_pays w l (position c) op stands.0 in omega (arith, e)))
           r.held typed known.1.1 known.1.0.1)
           (λ v t b.
-          let ready = back_ready most gain c f s room free (Some c.values) (position (emits (Call g) us c).after) (set f c.values b.x) v t r b refl refl (omega arith) (put_same c.values c.values b.x f (omega arith)) in
+          let ready = back_ready most gain c f s room free (Some c.values) (position (emits code uses c).after) (set f c.values b.x) v t r b refl refl (omega arith) (put_same c.values c.values b.x f (omega arith)) in
           record {
             values = set f c.values b.x;
             ready = ready_more w l most gain free ready (omega arith) few (λ h. omega arith);
@@ -249,20 +393,20 @@ module _ (w : Whole) (l : Level) (right : Right w) (apart : Apart l) (stacked : 
         given_is i r t x y e h = subst (λ n. ResultIs w (Some i) r t n) (sym e) h
 
     -- one that doesn't
-    pub follows_call_only : {mask : Mask} {K : Fact} (g : ℕ) (hs : List Handed) (us : List ℕ) → callable w.program g ≡ true
-        → FollowsTo w l false 0 fuel mask (Both K (Known g hs us)) (λ r (u : Unit {0}) n f s. Unit {0}) (calls g hs) (does (Call g) us)
-    follows_call_only {mask = mask} {K = K} g hs us ok = record {
-      grows = grows_does w l (Call g) us;
+    follows_call_only : {mask : Mask} {K : Fact} (code : Code) (uses : List ℕ) (g : ℕ) (hs : List Handed) (us : List ℕ) → callable w.program g ≡ true → Enters_with K g us code uses
+        → FollowsTo w l false 0 fuel mask (Both K (Known (declared_of w.program g).formals hs us)) (λ r (u : Unit {0}) n f s. Unit {0}) (calls g hs) (does code uses)
+    follows_call_only {mask = mask} {K = K} code uses g hs us ok leads = record {
+      grows = grows_does w l code uses;
       by = λ most gain c f s room free le needs few stands fits within known typed r.
-          let op : Op = record { code = Call g; uses = us; def = None } in
+          let op : Op = record { code = code; uses = uses; def = None } in
           goes_on w l (calls g hs s)
           (calling.by l g hs (map f us) None most (position c) f s r.memory free free (operation_of op) stands.0.0 stacked ok tt le (λ h. let z = within h in omega (arith, z)) stands.0.1 refl
           (pass_quiet (system w) (least w.procedures) w.points w.first w.turns 1 free (In l.proc c.block c.op) (Enters g (map f us) (frame_at l (position c) f ∷ l.callers) (world_of l r.memory s.store)) r.reached refl
-          (call_step (position c) f r.memory s.store g us None ok (words_length w l s.store (declared_of w.program g).formals hs (map f us) known.1.0.1) stands.0)
+          (call_step (position c) f r.memory s.store g us op ok (words_length w l s.store (declared_of w.program g).formals hs (map f us) known.1.0.1) (leads c.values f s.store r.memory known.0) stands.0)
           (λ h. let z = fits h in omega (arith, z)) (let e = op_pays w l (position c) op stands.0 in omega (arith, e)))
           r.held typed known.1.1 known.1.0.1)
           (λ v t b.
-          let ready = back_ready most gain c f s room free None (position (does (Call g) us c).after) f v t r b refl refl (omega arith) (λ u lt. refl) in
+          let ready = back_ready most gain c f s room free None (position (does code uses c).after) f v t r b refl refl (omega arith) (λ u lt. refl) in
           record {
             values = f;
             ready = ready_more w l most gain free ready (omega arith) few (λ h. omega arith);
@@ -274,24 +418,13 @@ module _ (w : Whole) (l : Level) (right : Right w) (apart : Apart l) (stacked : 
           });
     }
 
-    -- arguments, and then the call
-    abbrev Asked : ℕ → List Handed → Request → Fact
-    Asked g hs r n f s = (us : List ℕ) × (r ≡ record { code = Call g; words = us }) × Known g hs us n f s
+    -- a request is one of a family's, and what is known of that one
+    abbrev Asked : {T : Type 0} → (T → Request) → (T → Fact) → Request → Fact
+    Asked {T} request L r n f s = (t : T) × (r ≡ request t) × L t n f s
 
-    steady_known : (g : ℕ) (hs : List Handed) (us : List ℕ) → Steady w l (Known g hs us)
-    steady_known g hs us = record {
-      by = λ n v f h s t le same later z. ((steady_words w l (declared_of w.program g).formals hs us).by n v f h s t le same later z.0, all_taken_older w.program good l.forms s.tags t.tags (λ o k e. later.tag o k e) (declared_of w.program g).formals hs z.1);
-    }
-
-    abbrev AllGiven : ℕ → List Handed → List ℕ → Fact
-    AllGiven g hs us = Both (WordsAre w l (declared_of w.program g).formals hs us) (λ n f s. AllTaken w.program good l.forms s.tags (declared_of w.program g).formals hs)
-
-    asked : {mask : Mask} {K : Fact} {args : Act (List Handed)} {low : Low (List ℕ)} (g : ℕ) → Follows w l 0 fuel mask K (AllGiven g) args low → Follows w l 0 fuel mask K (Asked g) args (call g low)
-    asked g one = follows_result w l (λ us. record { code = Call g; words = us }) (λ hs us n f s z. (us, refl, z)) one
-
-    at_request : {A B : Type 0} {kept : Bool} {mask : Mask} {K : Fact} {Q : A → B → Fact} {m : Act A} (g : ℕ) (hs : List Handed) (r : Request) (low : Code → List ℕ → Low B) → ((code : Code) (us : List ℕ) → Grows w l (low code us))
-        → ((us : List ℕ) → FollowsTo w l kept 0 fuel mask (Both K (Known g hs us)) Q m (low (Call g) us)) → FollowsTo w l kept 0 fuel mask (Both K (Asked g hs r)) Q m (low r.code r.words)
-    at_request {A} {B} {kept} {mask} {K} {Q} {m} g hs r low grows one = record {
+    at_request : {A B T : Type 0} {kept : Bool} {mask : Mask} {K : Fact} {Q : A → B → Fact} {m : Act A} (request : T → Request) (L : T → Fact) (r : Request) (low : Code → List ℕ → Low B) → ((code : Code) (us : List ℕ) → Grows w l (low code us))
+        → ((t : T) → FollowsTo w l kept 0 fuel mask (Both K (L t)) Q m (low (request t).code (request t).words)) → FollowsTo w l kept 0 fuel mask (Both K (Asked request L r)) Q m (low r.code r.words)
+    at_request {A} {B} {T} {kept} {mask} {K} {Q} {m} request L r low grows one = record {
       grows = grows r.code r.words;
       by = λ most gain c f s room free le needs few stands fits within known typed ready.
           let e = known.1.1 in
@@ -304,18 +437,150 @@ module _ (w : Whole) (l : Level) (right : Right w) (apart : Apart l) (stacked : 
           (known.0, known.1.2) typed ready);
     }
 
-    pub follows_called : {mask : Mask} {K : Fact} {args : Act (List Handed)} {low : Low (List ℕ)} (g : ℕ) → Steady w l K → callable w.program g ≡ true → ((v : ℕ) → GivesFor w.program g (Some v)) → Follows w l 0 fuel mask K (AllGiven g) args low
-        → FollowsTo w l false 0 fuel mask K (λ r i n f s. (i < n) × ResultIs w (Some i) r s (f i)) (called_by_number calls g args) (with_result (call g low))
-    follows_called {K = K} g steady ok has one = follows_bind w l steady (asked g one) (λ r. grows_emits w l r.code r.words)
-        (λ hs r. at_request {K = K} g hs r (λ code us. emits code us) (λ code us. grows_emits w l code us) (λ us. follows_call {K = K} g hs us ok has))
+    -- what is behind a call that gives a value
+    abbrev pub Returned : Option Cell → ℕ → Fact
+    Returned r i n f s = (i < n) × ResultIs w (Some i) r s (f i)
 
-    pub follows_called_only : {mask : Mask} {K : Fact} {args : Act (List Handed)} {low : Low (List ℕ)} (g : ℕ) → Steady w l K → callable w.program g ≡ true → Follows w l 0 fuel mask K (AllGiven g) args low
+    ---- Calls of declared procedures
+
+    -- arguments, and then the call
+    abbrev direct : ℕ → List ℕ → Request
+    direct g us = record { code = Call g; words = us }
+
+    asked : {mask : Mask} {K : Fact} {args : Act (List Handed)} {low : Low (List ℕ)} (g : ℕ) → Follows w l 0 fuel mask K (Known (declared_of w.program g).formals) args low
+        → Follows w l 0 fuel mask K (λ hs. Asked (direct g) (Known (declared_of w.program g).formals hs)) args (call g low)
+    asked g one = follows_result w l (direct g) (λ hs us n f s z. (us, refl, z)) one
+
+    pub follows_called : {mask : Mask} {K : Fact} {args : Act (List Handed)} {low : Low (List ℕ)} (g : ℕ) → Steady w l K → callable w.program g ≡ true → ((v : ℕ) → GivesFor w.program g (Some v)) → Follows w l 0 fuel mask K (Known (declared_of w.program g).formals) args low
+        → FollowsTo w l false 0 fuel mask K Returned (called_by_number calls g args) (with_result (call g low))
+    follows_called {K = K} g steady ok has one = follows_bind w l steady (asked g one) (λ r. grows_emits w l r.code r.words)
+        (λ hs r. at_request {K = K} (direct g) (Known (declared_of w.program g).formals hs) r (λ code us. emits code us) (λ code us. grows_emits w l code us) (λ us. follows_call {K = K} (Call g) us g hs us ok has (λ n f s m k. refl)))
+
+    pub follows_called_only : {mask : Mask} {K : Fact} {args : Act (List Handed)} {low : Low (List ℕ)} (g : ℕ) → Steady w l K → callable w.program g ≡ true → Follows w l 0 fuel mask K (Known (declared_of w.program g).formals) args low
         → FollowsTo w l false 0 fuel mask K (λ r (u : Unit {0}) n f s. Unit {0}) (called_by_number calls g args) (without_result (call g low))
     follows_called_only {K = K} g steady ok one = follows_bind w l steady (asked g one) (λ r. grows_does w l r.code r.words)
-        (λ hs r. at_request {K = K} g hs r (λ code us. does code us) (λ code us. grows_does w l code us) (λ us. follows_call_only {K = K} g hs us ok))
+        (λ hs r. at_request {K = K} (direct g) (Known (declared_of w.program g).formals hs) r (λ code us. does code us) (λ code us. grows_does w l code us) (λ us. follows_call_only {K = K} (Call g) us g hs us ok (λ n f s m k. refl)))
+
+    ---- Calls through procedure variables
+
+    -- value i is what a variable of procedure type k holds; it is the address of a procedure of that type
+    abbrev pub VariableIs : ℕ → Cell → ℕ → Fact
+    VariableIs k c i n f s = CellIs w l c i n f s × HasForm w.program (Routines k) s.tags c
+
+    abbrev CodeIs : ℕ → ℕ → ℕ → Fact
+    CodeIs k g i n f s = (i < n) × (g < length w.procedures) × (f i ≡ w.code g) × (WellFormed.is_of_type w.program g k ≡ true)
+
+    steady_variable : (k : ℕ) (c : Cell) (i : ℕ) → Steady w l (VariableIs k c i)
+    steady_variable k c i = record {
+      by = λ n v f h s t le same later z. ((steady_cell w l c i).by n v f h s t le same later z.0, fits_older w.program s.tags t.tags (λ o k e. later.tag o k e) (Routines k) c z.1);
+    }
+
+    -- NIL traps
+    follows_code : {mask : Mask} {K : Fact} (k : ℕ) (c : Cell) (i : ℕ) → Follows w l 0 fuel mask (Both K (VariableIs k c i)) (λ g (u : Unit {0}). CodeIs k g i) (code_in l.proc c) (does NotNil (i ∷ []))
+    follows_code k c i = follows_does w l NotNil (i ∷ []) (λ n f m s held known. by c n f m s held known.1)
+      where
+        says : (f : ℕ → ℕ) (m : List Area) (s : Store) → effect_at w l f m s NotNil (i ∷ []) ≡ (if not (f i == 0) then Yields 0 else Refuses 2)
+        says f m s = refl
+
+        by : (c : Cell) (n : ℕ) (f : ℕ → ℕ) (m : List Area) (s : At Store) → Held w l s.store m → VariableIs k c i n f s.store → Acts w l (λ g x t. CodeIs k g i n f t) (code_in l.proc c s) s m (effect_at w l f m s.store NotNil (i ∷ []))
+        by (Procedure g) n f m s held h = acts_give w l g 0 held refl
+            (says f m s.store ∙ ap (λ b. if not b then Yields 0 else Refuses 2) (ne_eqb (f i) 0 (λ e. right.codes.nowhere g h.0.1.0 (sym h.0.1.1 ∙ e))))
+            (h.0.0, h.0.1.0, h.0.1.1, h.1)
+        by (Bits zero) n f m s held h = acts_trap w l 2 refl (says f m s.store ∙ ap (λ x. if not (x == 0) then Yields 0 else Refuses 2) h.0.1.0)
+        by (Bits (suc j)) n f m s held h = acts_senseless w l refl
+        by (Pointer o) n f m s held h = acts_senseless w l refl
+
+    -- the variable's value and the arguments; the procedure and its arguments
+    abbrev through : ℕ × List ℕ → Request
+    through t = record { code = CallAt; words = t.0 ∷ t.1 }
+
+    abbrev Chosen : ℕ → ℕ × List Handed → ℕ × List ℕ → Fact
+    Chosen k z t = Both (CodeIs k z.0 t.0) (Known (signature_of w.program.types k).formals z.1 t.1)
+
+    abbrev asked_with : List Handed → ℕ → Act (ℕ × List Handed)
+    asked_with hs g = give (g, hs)
+
+    abbrev chosen : Act Cell → Act (List Handed) → Act (ℕ × List Handed)
+    chosen x args = x >>= λ c. args >>= λ hs. code_in l.proc c >>= asked_with hs
+
+    follows_chosen : {mask : Mask} {K : Fact} {x : Act Cell} {args : Act (List Handed)} {low : Low ℕ} {words : Low (List ℕ)} (k : ℕ) → Steady w l K → Follows w l 0 fuel mask K (VariableIs k) x low → Follows w l 0 fuel mask K (Known (signature_of w.program.types k).formals) args words
+        → Follows w l 0 fuel mask K (λ z. Asked through (Chosen k z)) (chosen x args) (call_at low words)
+    follows_chosen k steady one two = follows_bind w l steady one (λ i. grows_bind w l two.grows (λ us. grows_tested i us))
+        (λ c i. follows_bind w l (steady_and w l steady (steady_variable k c i)) (follows_known w l (λ n f s z. z.0) two) (λ us. grows_tested i us)
+        (λ hs us. follows_bind w l (steady_and w l (steady_and w l steady (steady_variable k c i)) (steady_known (signature_of w.program.types k).formals hs us)) (follows_known w l (λ n f s z. z.0) (follows_code k c i)) (λ u. grows_give w l (through (i, us)))
+        (λ g u. follows_give w l (g, hs) (through (i, us)) (λ n f s z. ((i, us), refl, (z.1, z.0.1))))))
+      where
+        grows_tested : (i : ℕ) (us : List ℕ) → Grows w l (does NotNil (i ∷ []) >>> λ _. gives (through (i, us)))
+        grows_tested i us = grows_bind w l (grows_does w l NotNil (i ∷ [])) (λ u. grows_give w l (through (i, us)))
+
+    called_same : (x : Act Cell) (args : Act (List Handed)) (s : At Store) → (chosen x args >>= λ z. calls z.0 z.1) s ≡ called_by_value l.proc calls x args s
+    called_same x args s = by_value_of (x s)
+      where
+        by_code : (hs : List Handed) (e : Ending Store Trap ℕ) → after (after e (asked_with hs)) (λ z. calls z.0 z.1) ≡ after e (λ g. calls g hs)
+        by_code hs (Gives g t) = refl
+        by_code hs (Fails trap out) = refl
+        by_code hs (Spent out) = refl
+
+        by_arguments : (c : Cell) (e : Ending Store Trap (List Handed)) → after (after e (λ hs. code_in l.proc c >>= asked_with hs)) (λ z. calls z.0 z.1) ≡ after e (λ hs. code_in l.proc c >>= λ g. calls g hs)
+        by_arguments c (Gives hs t) = by_code hs (code_in l.proc c t)
+        by_arguments c (Fails trap out) = refl
+        by_arguments c (Spent out) = refl
+
+        by_value_of : (e : Ending Store Trap Cell) → after (after e (λ c. args >>= λ hs. code_in l.proc c >>= asked_with hs)) (λ z. calls z.0 z.1) ≡ after e (λ c. args >>= λ hs. code_in l.proc c >>= λ g. calls g hs)
+        by_value_of (Gives c t) = by_arguments c (args t)
+        by_value_of (Fails trap out) = refl
+        by_value_of (Spent out) = refl
+
+    -- its code is where the value says
+    enters_through : (K : Fact) (k g : ℕ) (t : ℕ × List ℕ) → Enters_with (Both K (CodeIs k g t.0)) g t.1 CallAt (t.0 ∷ t.1)
+    enters_through K k g t n f s m known =
+        ap (λ a. Leads (code_at w.code (length w.procedures) a) (map f t.1)) known.1.2
+        ∙ ap (λ o. Leads o (map f t.1)) (code_found w.code (length w.procedures) g (λ i lt e. right.codes.apart i g lt known.1.1 e) known.1.1)
+
+    abbrev GivesThrough : ℕ → Type 0
+    GivesThrough k = (f : Form) × (WellFormed.form_of w.program (signature_of w.program.types k).result ≡ Some f)
+
+    -- a procedure of the type has its parameters, and may be called
+    of_its_type : (K : Fact) (k : ℕ) (z : ℕ × List Handed) (t : ℕ × List ℕ) (n : ℕ) (f : ℕ → ℕ) (s : Store) → (Both K (Chosen k z t)) n f s
+        → (callable w.program z.0 ≡ true) × ((declared_of w.program z.0).result ≡ (signature_of w.program.types k).result) × (Both (Both K (CodeIs k z.0 t.0)) (Known (declared_of w.program z.0).formals z.1 t.1)) n f s
+    of_its_type K k z t n f s known =
+        let is = known.1.0.3 in
+        let type_is = of_type w.program good z.0 k is in (
+          (and_of (callable w.program z.0) _ is).0,
+          type_is.2,
+          ((known.0, known.1.0), subst (λ xs. Known xs z.1 t.1 n f s) (sym type_is.1) known.1.1),
+        )
+
+    through_call : {mask : Mask} {K : Fact} (k : ℕ) (z : ℕ × List Handed) (t : ℕ × List ℕ) → GivesThrough k → FollowsTo w l false 0 fuel mask (Both K (Chosen k z t)) Returned (calls z.0 z.1) (emits CallAt (t.0 ∷ t.1))
+    through_call {K = K} k z t has = record {
+      grows = grows_emits w l CallAt (t.0 ∷ t.1);
+      by = λ most gain c f s room free le needs few stands fits within known typed r.
+          let q = of_its_type K k z t c.values f s.store known in
+          (follows_call {K = Both K (CodeIs k z.0 t.0)} CallAt (t.0 ∷ t.1) z.0 z.1 t.1 q.0 (λ v. (has.0, ap (λ n. WellFormed.form_of w.program n) q.1 ∙ has.1)) (enters_through K k z.0 t)).by most gain c f s room free le needs few stands fits within q.2 typed r;
+    }
+
+    through_call_only : {mask : Mask} {K : Fact} (k : ℕ) (z : ℕ × List Handed) (t : ℕ × List ℕ) → FollowsTo w l false 0 fuel mask (Both K (Chosen k z t)) (λ r (u : Unit {0}) n f s. Unit {0}) (calls z.0 z.1) (does CallAt (t.0 ∷ t.1))
+    through_call_only {K = K} k z t = record {
+      grows = grows_does w l CallAt (t.0 ∷ t.1);
+      by = λ most gain c f s room free le needs few stands fits within known typed r.
+          let q = of_its_type K k z t c.values f s.store known in
+          (follows_call_only {K = Both K (CodeIs k z.0 t.0)} CallAt (t.0 ∷ t.1) z.0 z.1 t.1 q.0 (enters_through K k z.0 t)).by most gain c f s room free le needs few stands fits within q.2 typed r;
+    }
+
+    pub follows_called_value : {mask : Mask} {K : Fact} {x : Act Cell} {args : Act (List Handed)} {low : Low ℕ} {words : Low (List ℕ)} (k : ℕ) → Steady w l K → GivesThrough k → Follows w l 0 fuel mask K (VariableIs k) x low → Follows w l 0 fuel mask K (Known (signature_of w.program.types k).formals) args words
+        → FollowsTo w l false 0 fuel mask K Returned (called_by_value l.proc calls x args) (with_result (call_at low words))
+    follows_called_value {K = K} {x = x} {args = args} k steady has one two = follows_same_to w l (chosen x args >>= λ z. calls z.0 z.1) (called_by_value l.proc calls x args) (called_same x args)
+        (follows_bind w l steady (follows_chosen k steady one two) (λ r. grows_emits w l r.code r.words)
+        (λ z r. at_request {K = K} through (Chosen k z) r (λ code us. emits code us) (λ code us. grows_emits w l code us) (λ t. through_call {K = K} k z t has)))
+
+    pub follows_called_value_only : {mask : Mask} {K : Fact} {x : Act Cell} {args : Act (List Handed)} {low : Low ℕ} {words : Low (List ℕ)} (k : ℕ) → Steady w l K → Follows w l 0 fuel mask K (VariableIs k) x low → Follows w l 0 fuel mask K (Known (signature_of w.program.types k).formals) args words
+        → FollowsTo w l false 0 fuel mask K (λ r (u : Unit {0}) n f s. Unit {0}) (called_by_value l.proc calls x args) (without_result (call_at low words))
+    follows_called_value_only {K = K} {x = x} {args = args} k steady one two = follows_same_to w l (chosen x args >>= λ z. calls z.0 z.1) (called_by_value l.proc calls x args) (called_same x args)
+        (follows_bind w l steady (follows_chosen k steady one two) (λ r. grows_does w l r.code r.words)
+        (λ z r. at_request {K = K} through (Chosen k z) r (λ code us. does code us) (λ code us. grows_does w l code us) (λ t. through_call_only {K = K} k z t)))
 
     -- the value of a call
-    pub follows_result_of : {mask : Mask} {K : Fact} {c : Act (Option Cell)} {low : Low ℕ} → Steady w l K → Follows w l 0 fuel mask K (λ r i n f s. (i < n) × ResultIs w (Some i) r s (f i)) c low → Follows w l 0 fuel mask K (CellIs w l) (result_of c) low
+    pub follows_result_of : {mask : Mask} {K : Fact} {c : Act (Option Cell)} {low : Low ℕ} → Steady w l K → Follows w l 0 fuel mask K Returned c low → Follows w l 0 fuel mask K (CellIs w l) (result_of c) low
     follows_result_of {K = K} steady one = follows_then w l steady one by
       where
         by : (r : Option Cell) (i n : ℕ) (f : ℕ → ℕ) (s : At Store) → K n f s.store → (i < n) × ResultIs w (Some i) r s.store (f i) → ((x : Cell) × (given r s ≡ Gives x s) × CellIs w l x i n f s.store) ⊎ (given r s ≡ Fails Senseless s.out)

@@ -1,12 +1,12 @@
 -- What designators name, and its address.
-use Rattle.std.proofs.Common.{◌≡◌, ℕ, zero, suc, ◌+◌, ◌*◌, ◌<◌, ◌≤◌, ◌⊎◌, List, [], ◌∷◌, Bool, true, false, not, slice_get, inl, inr, refl, sym, ap, ◌∙◌, subst, arith, Some}
+use Rattle.std.proofs.Common.{◌≡◌, ℕ, zero, suc, ◌+◌, ◌*◌, ◌<◌, ◌≤◌, ◌^◌, ◌⊎◌, List, [], ◌∷◌, Bool, true, false, not, slice_get, inl, inr, refl, sym, ap, ◌∙◌, subst, arith, Some}
 use Rattle.std.specs.Prelude.{option_map}
 use Rattle.run_laws.specs.Turns.{give}
 use Rattle.a64_memory.specs.Memory.{Area}
 use Rattle.wrapping_numbers.specs.Numbers.{add64, sub64}
 use Rattle.block_runs.specs.First.{data_base}
 use Rattle.block_runs.specs.declared.code.Code.TheVariants.{Global, Plus, Local}
-use Rattle.ob_types.specs.Layout.{kind_of, cells, record_cells}
+use Rattle.ob_types.specs.Layout.{kind_of, cells, record_cells, extends}
 use Rattle.ob_types.specs.Store.{Heap, Address, Handed, Sized, Tagged, Act, given, place, address_in}
 use Rattle.ob_types.specs.Store.{Store as Objects, Pointer as PointerTo, At as Addressed}
 use Rattle.ob_types.specs.WellFormed.{Cells, Of, OpenOf, Dynamic, Characters}
@@ -19,7 +19,7 @@ use Rattle.ssa_lowered.specs.Variables.{is_structured}
 use Rattle.lowered_runs.specs.Words.{Whole, Level, sizes_of, heap_word, ValueIs, Held, local}
 use Rattle.lowered_runs.proofs.Stores.{value_later}
 use Rattle.lowered_runs.proofs.Values.{put_here}
-use Rattle.lowered_runs.proofs.Follows.{Fact, And as Both, Steady, Grows, grows_bind, grows_give, grows_emits, Follows, follows_bind, follows_give, follows_seen, follows_result, follows_emits, follows_never, acts_give}
+use Rattle.lowered_runs.proofs.Follows.{Fact, And as Both, Steady, steady_and, Grows, grows_bind, grows_give, grows_emits, Follows, follows_bind, follows_give, follows_seen, follows_less, follows_result, follows_emits, follows_never, acts_give}
 use Rattle.lowered_runs.proofs.Homes.{AddressIs, address_later, HomeIs, place_below}
 
 module _ (w : Whole) (l : Level) where
@@ -41,7 +41,7 @@ module _ (w : Whole) (l : Level) where
   -- a parameter's second word
   abbrev pub SecondIs : Handed → ℕ → Type 0
   SecondIs (Sized a n) y = y ≡ n
-  SecondIs (Tagged a t) y = (y ≡ 8 * w.descriptor t) × (t < w.records)
+  SecondIs (Tagged a t) y = y ≡ w.descriptor t
   SecondIs _ y = ⊥
 
   -- what lowering has for a designator; a variable in a register is the designator itself
@@ -67,6 +67,23 @@ module _ (w : Whole) (l : Level) where
         (omega (arith, le, lt), (k.1.0, k.1.1, k.1.2, later.tag k.1.0 k.1.1 k.1.3, subst (λ x. ValueIs w (sizes_of t) (PointerTo k.1.0) x) (sym (same i k.0)) (value_later w l s t (PointerTo k.1.0) (f i) later k.1.4)));
   }
   steady_named own d h (InRegister x) = record { by = λ n m f g s t le same later k. k }
+
+  -- what goes with an address is as the designator's name says: a length has 32 bits, a dynamic type is an extension
+  abbrev pub SecondFits : Thing → Handed → Type 0
+  SecondFits (OpenOf e may) (Sized a n) = n < 2 ^ 32
+  SecondFits (OpenOf e may) _ = ⊥
+  SecondFits (Dynamic r) (Tagged a t) = extends w.program.types t r ≡ true
+  SecondFits (Dynamic r) _ = ⊥
+  SecondFits _ h = Unit {0}
+
+  abbrev pub DesignatorIs : Mask → Thing → Handed → Named → Fact
+  DesignatorIs own d h v = Both (NamedIs own d h v) (λ n f s. SecondFits d h)
+
+  pub steady_designator : (own : Mask) (d : Thing) (h : Handed) (v : Named) → Steady w l (DesignatorIs own d h v)
+  steady_designator own d h v = steady_and w l (steady_named own d h v) (record { by = λ n m f g s t le same later fits. fits })
+
+  pub only_named : {need fuel : ℕ} {mask : Mask} {K : Fact} {x : Act Handed} {q : Low Named} {own : Mask} (d : Thing) → Follows w l need fuel mask K (DesignatorIs own d) x q → Follows w l need fuel mask K (NamedIs own d) x q
+  only_named d one = follows_less w l (λ h v n f s k. k.0) one
 
   grows_past : (i n : ℕ) → Grows w l (lower_past i n)
   grows_past i zero = grows_give w l i
@@ -98,7 +115,7 @@ module _ (w : Whole) (l : Level) where
         row = λ j lt. let e = h.2 in (suc h.0 + (0 + j), ap (option_map (λ i. suc i + (0 + j))) h.1, omega (arith, e, below, top));
       }
 
-  shorter : (a : Address) (x : ℕ) (s : Objects) (k n : ℕ) → k ≤ n → AddressIs w l a n x s → AddressIs w l a k x s
+  pub shorter : (a : Address) (x : ℕ) (s : Objects) (k n : ℕ) → k ≤ n → AddressIs w l a n x s → AddressIs w l a k x s
   shorter a x s k n le at = record { few = at.few; row = λ j lt. at.row j (omega (arith, lt, le)) }
 
   -- the address of what is named

@@ -1,31 +1,34 @@
 -- Elements of arrays.
-use Rattle.std.proofs.Common.{◌≡◌, ℕ, zero, suc, ◌+◌, ◌*◌, ◌%◌, ◌^◌, ◌<◌, ◌≤◌, List, [], ◌∷◌, Bool, true, false, inl, refl, sym, ap, ap₂, ◌∙◌, subst, arith, Option, Some, None}
+use Rattle.std.proofs.Common.{◌≡◌, ℕ, zero, suc, ◌+◌, ◌*◌, ◌%◌, ◌^◌, ◌<◌, ◌≤◌, ◌⊎◌, List, [], ◌∷◌, Bool, true, false, inl, inr, refl, sym, ap, ap₂, ◌∙◌, subst, arith, Option, Some, None}
 use Rattle.std.specs.Prelude.{if◌then◌else◌, nat_lt}
 use Rattle.std.proofs.lemmas.Bool.Decides.{nat_tests}
 use Rattle.run_laws.specs.Turns.{Ending, Gives, Fails, Spent, after, ◌>>=◌, give}
 use Rattle.run_laws.specs.Turns.{State as Moment}
 use Rattle.a64_memory.specs.Memory.{Area}
 use Rattle.wrapping_numbers.specs.Numbers.{add64, madd64}
-use Rattle.block_runs.specs.declared.code.Code.TheVariants.{Const, Plus, MulAdd, Below}
+use Rattle.block_runs.specs.declared.code.Code.TheVariants.{Const, Plus, Load, MulAdd, Below}
 use Rattle.block_runs.specs.Steps.{set}
 use Rattle.block_runs.specs.Effects.{Gives as Yields, Fails as Refuses}
-use Rattle.ob_types.specs.Store.{Cell, Bits, Heap, Address, Handed, Act, Trap, Span, given, address_in, past, bits, unless}
+use Rattle.ob_types.specs.Store.{Cell, Bits, Senseless, Heap, Address, Handed, Sized, Tagged, Value, Act, Trap, Span, given, address_in, span_in, span, past, bits, unless}
 use Rattle.ob_types.specs.Store.{Store as Objects, At as Addressed}
 use Rattle.ob_types.specs.Operators.{inside}
 use Rattle.ob_types.specs.Expressions.{element_place, field_of, length_of}
+use Rattle.ob_types.specs.Layout.{cells}
+use Rattle.ob_types.specs.WellFormed.{OpenOf}
 use Rattle.ob_types.specs.WellFormed.{Named as Thing}
 use Rattle.ssa_lowered.specs.Pieces.{Low, Mask, emits, does}
 use Rattle.ssa_lowered.specs.Pieces.{◌>>=◌ as ◌>>>◌, give as gives}
-use Rattle.ssa_lowered.specs.Values.{Named, At, Beside, Object, const, element, field, past as lower_past, length_of as lower_length, address_in as lower_address}
+use Rattle.ssa_lowered.specs.Values.{Named, At, Beside, Object, const, element, field, length_in, past as lower_past, length_of as lower_length, address_in as lower_address}
 use Rattle.ssa_lowered.specs.Values.{Held as InRegister}
 use Rattle.lowered_runs.specs.Words.{Whole, Level, sizes_of, word_at, Held}
 use Rattle.lowered_runs.proofs.Values.{put_here}
-use Rattle.lowered_runs.proofs.Follows.{Fact, And as Both, Steady, steady_and, Grows, grows_bind, grows_give, grows_emits, grows_does, Follows, follows_bind, follows_give, follows_known, follows_emits, follows_does, follows_seen, follows_never, acts_give, acts_trap, effect_at, Acts}
-use Rattle.lowered_runs.proofs.Exprs.{follows_literal, CellIs, NumberIs, steady_number, follows_bits}
+use Rattle.lowered_runs.proofs.Follows.{Fact, And as Both, Steady, steady_and, Grows, grows_bind, grows_give, grows_emits, grows_does, Follows, follows_bind, follows_give, follows_then, follows_known, follows_emits, follows_does, follows_seen, follows_never, acts_give, acts_trap, acts_senseless, effect_at, Acts}
+use Rattle.lowered_runs.proofs.Exprs.{CellIs, NumberIs, steady_number, follows_bits}
 use Rattle.lowered_runs.proofs.Numbers.{inside_same}
 use Rattle.lowered_runs.proofs.Sets.{follows_same}
-use Rattle.lowered_runs.proofs.Homes.{AddressIs}
-use Rattle.lowered_runs.proofs.Designators.{row_of, is_single, NamedIs, steady_named, grows_address, RowIs, steady_row, object_row, follows_address}
+use Rattle.lowered_runs.proofs.Forks.{after_after}
+use Rattle.lowered_runs.proofs.Homes.{AddressIs, address_later}
+use Rattle.lowered_runs.proofs.Designators.{row_of, is_single, NamedIs, SecondFits, DesignatorIs, steady_designator, grows_address, RowIs, object_row, follows_address}
 
 -- the cells of an element are among those of its array
 among : (n c i j : ℕ) → i < n → j < c → i * c + j < n * c
@@ -85,66 +88,171 @@ module _ (w : Whole) (l : Level) where
       by : (m x y j r : ℕ) → i * (8 * c) ≡ 8 * m → y ≡ madd64 i (8 * c) x → (x + 8 * (m + j)) % 2 ^ 64 ≡ 8 * r % 2 ^ 64 → (y + 8 * j) % 2 ^ 64 ≡ 8 * r % 2 ^ 64
       by m x y j r e g h = omega (arith, e, g, h)
 
-  pub follows_element_place : {need fuel : ℕ} {mask : Mask} {K : Fact} {q : Low Named} {t : Low ℕ} (own other : Mask) (d : Thing) (e : Thing) (place_of : Act Handed) (n c : ℕ) (x : Act Cell) → Steady w l K → ((h : Handed) → row_of w l d h ≡ n * c) → is_single w l d ≡ false → ((a : Address) → row_of w l e (Addressed a) ≡ c) → n < 2 ^ 63
-      → Follows w l need fuel mask K (NamedIs w l own d) place_of q → Follows w l need fuel mask K (CellIs w l) x t → Follows w l need fuel mask K (NamedIs w l other e) (element_place l.proc place_of (Some n) c x) (element q (Some n) (8 * c) t)
-  follows_element_place {need} {fuel} {mask} {K} {q} {t} own other d e place_of n c x steady long many short few one two =
-      follows_same w l (place_of >>= λ h. given (address_in h) >>= λ a. indexed a) (element_place l.proc place_of (Some n) c x) (λ s. regroup (place_of s))
-      (follows_bind w l steady one (λ h. grows_bind w l (grows_address w l h 0) (λ i. grows_indexed i))
-      (λ h v. follows_bind w l (steady_and w l steady (steady_named w l own d h v)) (follows_address w l own d h v (n * c) (same_le (long h)) (inl many)) (λ i. grows_indexed i)
-      (λ a i. let known = steady_and w l (steady_and w l steady (steady_named w l own d h v)) (steady_row w l (n * c) a i) in
-      follows_bind w l known (follows_known w l (λ n f s k. k.0.0) (follows_bits w l steady two)) (λ j. grows_behind i j)
-      (λ k j. follows_bind w l {m = give tt} {h = λ (u : Unit {0}). tested a k} (steady_and w l known (steady_number w l k j)) (follows_const n) (λ z. grows_tested i j z)
-      (λ u z. follows_bind w l (steady_and w l (steady_and w l known (steady_number w l k j)) (steady_const n z)) (follows_below k j n z few) (λ u. grows_place i j)
-      (λ u v2. follows_bind w l {m = give tt} {h = λ (u : Unit {0}). give (Addressed (past a (k * c)))} (steady_and w l (steady_and w l (steady_and w l known (steady_number w l k j)) (steady_const n z)) (steady_less k n)) (follows_const (8 * c)) (λ b. grows_bind w l (grows_emits w l MulAdd (j ∷ b ∷ i ∷ [])) (λ y. grows_give w l (At y)))
-      (λ u b. follows_bind w l {m = give tt} {h = λ (u : Unit {0}). give (Addressed (past a (k * c)))} (steady_and w l (steady_and w l (steady_and w l (steady_and w l known (steady_number w l k j)) (steady_const n z)) (steady_less k n)) (steady_const (8 * c) b))
-      (follows_emits w l {R = λ (u : Unit {0}) y. RowIs w l c (past a (k * c)) y} MulAdd (j ∷ b ∷ i ∷ []) (λ v f m s held g. acts_give w l tt (madd64 (f j) (f b) (f i)) held refl refl
-      (omega arith, part_is a n c k (f i) (set_at v f (madd64 (f j) (f b) (f i))) s.store g.0.1 g.0.0.0.0.1.1 (put_here v (madd64 (f j) (f b) (f i)) f ∙ ap₂ (λ x y. madd64 x y (f i)) g.0.0.0.1.1.0 g.1.1))))
-      (λ y. grows_give w l (At y))
-      (λ u y. follows_give w l (Addressed (past a (k * c))) (At y) (λ v f s g. (g.1.0, (past a (k * c), refl, subst (λ r. AddressIs w l (past a (k * c)) r (f y) s) (sym (short (past a (k * c)))) g.1.1)))))))))))
+  ---- Arrays with their lengths
+
+  -- the length of an array is its type's, or stands in a parameter's second word
+  abbrev pub LengthIn : Option ℕ → ℕ → Named → Fact
+  LengthIn (Some m) k v n f s = k ≡ m
+  LengthIn None k (Beside i j) n f s = (j < n) × (f j ≡ k)
+  LengthIn None k _ n f s = ⊥
+
+  pub steady_length : (o : Option ℕ) (k : ℕ) (v : Named) → Steady w l (LengthIn o k v)
+  steady_length (Some m) k v = record { by = λ n u f g s t le same later h. h }
+  steady_length None k (Beside i j) = record { by = λ n u f g s t le same later h. let lt = h.0 in (omega (arith, le, lt), same j h.0 ∙ h.1) }
+  steady_length None k (At i) = record { by = λ n u f g s t le same later h. h }
+  steady_length None k (Object i) = record { by = λ n u f g s t le same later h. h }
+  steady_length None k (InRegister x) = record { by = λ n u f g s t le same later h. h }
+
+  -- value i is the address of an array of elements of c cells, which is named so
+  abbrev pub SpanIs : Option ℕ → ℕ → Named → Span → ℕ → Fact
+  SpanIs o c v a i n f s = (i < n) × AddressIs w l a.at (a.length * c) (f i) s × (a.length < 2 ^ 32) × LengthIn o a.length v n f s
+
+  pub steady_span : (o : Option ℕ) (c : ℕ) (v : Named) (a : Span) (i : ℕ) → Steady w l (SpanIs o c v a i)
+  steady_span o c v a i = record {
+    by = λ n u f g s t le same later h.
+        let lt = h.0 in (
+          omega (arith, le, lt),
+          subst (λ x. AddressIs w l a.at (a.length * c) x t) (sym (same i h.0)) (address_later w l a.at (a.length * c) (f i) s t later h.1),
+          h.2,
+          (steady_length o a.length v).by n u f g s t le same later h.3,
+        );
+  }
+
+  -- an array that was named, with its length
+  abbrev pub span_by : Option ℕ → Handed → Act Span
+  span_by None h = given (span_in h)
+  span_by (Some n) h = given (address_in h) >>= λ a. give (record { at = a; length = n })
+
+  pub spanned_same : {C : Type 0} (d : Act Handed) (o : Option ℕ) (go : Span → Act C) (s : Moment Objects) → (d >>= λ h. span_by o h >>= go) s ≡ (span d o >>= go) s
+  spanned_same d None go s = sym (after_after (d s) (λ h. given (span_in h)) go)
+  spanned_same d (Some n) go s =
+      sym (after_after (d s) (λ h. span_by (Some n) h) go)
+      ∙ ap (λ e. after e go) (sym (after_after (d s) (λ h. given (address_in h)) (λ a. give (record { at = a; length = n }))))
+
+  -- one of known length
+  pub follows_known_span : {need fuel : ℕ} {mask : Mask} {K : Fact} (own : Mask) (d : Thing) (h : Handed) (v : Named) (n c : ℕ) → Steady w l K → n * c ≤ row_of w l d h → is_single w l d ≡ false → n < 2 ^ 32
+      → Follows w l need fuel mask (Both K (DesignatorIs w l own d h v)) (SpanIs (Some n) c v) (span_by (Some n) h) (lower_address v 0)
+  follows_known_span {K = K} own d h v n c steady long many few = follows_then w l {h = λ a. give (record { at = a; length = n })} (steady_and w l steady (steady_designator w l own d h v))
+      (follows_known w l {K = Both K (NamedIs w l own d h v)} (λ m f s k. (k.0, k.1.0)) (follows_address w l own d h v (n * c) long (inl many)))
+      (λ a i m f s known at. inl (record { at = a; length = n }, refl, (at.0, at.1, few, refl)))
+
+  -- an open array: an address without a length makes no sense
+  pub follows_open_span : {need fuel : ℕ} {mask : Mask} {K : Fact} (own : Mask) (e : ℕ) (may : Bool) (h : Handed) (v : Named)
+      → Follows w l need fuel mask (Both K (DesignatorIs w l own (OpenOf e may) h v)) (SpanIs None (cells w.program.types e) v) (span_by None h) (lower_address v 0)
+  follows_open_span own e may h (At i) = follows_seen w l i (λ n f s m held typed known. absurd (no_length h known.1.0.1.0 known.1.0.1.1 known.1.1))
     where
-      set_at : ℕ → (ℕ → ℕ) → ℕ → ℕ
-      set_at v f x = set f v x v
+      no_length : (h : Handed) (a : Address) → h ≡ Addressed a → SecondFits w l (OpenOf e may) h → ⊥
+      no_length h a is fits = subst (λ x. SecondFits w l (OpenOf e may) x) is fits
+  follows_open_span own e may h (Beside i j) = follows_seen w l i (λ n f s m held typed known. by h n f s known.1)
+    where
+      same : (a b : Address) → Some a ≡ Some b → b ≡ a
+      same a b e = cc
 
-      same_le : {a b : ℕ} → a ≡ b → b ≤ a
-      same_le e = omega (arith, e)
+      by : (h : Handed) (n : ℕ) (f : ℕ → ℕ) (s : Moment Objects) → DesignatorIs w l own (OpenOf e may) h (Beside i j) n f s.store → ((a : Span) × (span_by None h s ≡ Gives a s) × SpanIs None (cells w.program.types e) (Beside i j) a i n f s.store) ⊎ (span_by None h s ≡ Fails Senseless s.out)
+      by (Sized a k) n f s g = inl (
+        record { at = a; length = k },
+        refl,
+        (
+          g.0.0,
+          subst (λ b. AddressIs w l b (k * cells w.program.types e) (f i) s.store) (same a g.0.1.1.0 g.0.1.1.1) g.0.1.1.2,
+          g.1,
+          (g.0.1.0, g.0.1.1.3),
+        ),
+      )
+      by (Addressed a) n f s g = inr refl
+      by (Tagged a t) n f s g = inr refl
+      by (Value c) n f s g = inr refl
+  follows_open_span own e may h (Object i) = follows_emits w l (Plus (8 + 0)) (i ∷ []) (λ n f m s held known. acts_senseless w l (ap (λ x. given (span_in x) s) known.1.0.1.2))
+  follows_open_span own e may h (InRegister x) = follows_never w l (λ n f s g. differ g.1.0.4) (grows_address w l (InRegister x) 0)
+    where
+      differ : false ≡ true → ⊥
+      differ e = cc
 
-      tested : Address → ℕ → Act Handed
-      tested a k = unless l.proc 1 (inside k n) >>= λ _. give (Addressed (past a (k * c)))
+  -- its length as a number
+  pub follows_length_in : {need fuel : ℕ} {mask : Mask} {K : Fact} (o : Option ℕ) (k : ℕ) (v : Named) → Follows w l need fuel mask (Both K (LengthIn o k v)) (λ (u : Unit {0}) i. ConstIs k i) (give tt) (length_in o v)
+  follows_length_in (Some m) k v = follows_emits w l (Const m) [] (λ n f memory s held known. acts_give w l tt m held refl refl (omega arith, put_here n m f ∙ sym known.1))
+  follows_length_in None k (Beside i j) = follows_seen w l j (λ n f s m held typed known. inl (tt, refl, known.1))
+  follows_length_in None k (At i) = follows_never w l (λ n f s g. g.1) (grows_emits w l (Const 0) [])
+  follows_length_in None k (Object i) = follows_never w l (λ n f s g. g.1) (grows_emits w l Load (i ∷ []))
+  follows_length_in None k (InRegister x) = follows_never w l (λ n f s g. g.1) (grows_emits w l (Const 0) [])
 
-      indexed : Address → Act Handed
-      indexed a = bits x >>= λ k. tested a k
+  pub grows_length_in : (o : Option ℕ) (v : Named) → Grows w l (length_in o v)
+  grows_length_in (Some m) v = grows_emits w l (Const m) []
+  grows_length_in None (Beside i j) = grows_give w l j
+  grows_length_in None (At i) = grows_emits w l (Const 0) []
+  grows_length_in None (Object i) = grows_emits w l Load (i ∷ [])
+  grows_length_in None (InRegister x) = grows_emits w l (Const 0) []
 
-      spanned : Address → Act Span
-      spanned a = give (record { at = a; length = n })
+  ---- Elements
 
-      indexed_in : Span → Act Handed
-      indexed_in array = bits x >>= λ i. unless l.proc 1 (inside i array.length) >>= λ _. give (Addressed (past array.at (i * c)))
+  module _ (o : Option ℕ) (c : ℕ) (x : Act Cell) (t : Low ℕ) where
+    abbrev indexed : Span → Act Handed
+    indexed a = bits x >>= λ k. unless l.proc 1 (inside k a.length) >>= λ _. give (Addressed (past a.at (k * c)))
 
-      regroup : (e : Ending Objects Trap Handed) → after e (λ h. given (address_in h) >>= λ a. indexed a) ≡ after (after (after e (λ h. given (address_in h))) spanned) indexed_in
-      regroup (Gives h s) = by (address_in h)
-        where
-          by : (o : Option Address) → after (given o s) (λ a. indexed a) ≡ after (after (given o s) spanned) indexed_in
-          by None = refl
-          by (Some a) = refl
-      regroup (Fails trap out) = refl
-      regroup (Spent out) = refl
+    abbrev placed_at : ℕ → ℕ → Low Named
+    placed_at i j = const (8 * c) >>> λ b. emits MulAdd (j ∷ b ∷ i ∷ []) >>> λ y. gives (At y)
 
-      grows_place : (i j : ℕ) → Grows w l (const (8 * c) >>> λ b. emits MulAdd (j ∷ b ∷ i ∷ []) >>> λ y. gives (At y))
-      grows_place i j = grows_bind w l (grows_emits w l (Const (8 * c)) []) (λ b. grows_bind w l (grows_emits w l MulAdd (j ∷ b ∷ i ∷ [])) (λ y. grows_give w l (At y)))
+    abbrev tested_at : ℕ → ℕ → ℕ → Low Named
+    tested_at i j z = does Below (j ∷ z ∷ []) >>> λ _. placed_at i j
 
-      grows_tested : (i j z : ℕ) → Grows w l (does Below (j ∷ z ∷ []) >>> λ _. const (8 * c) >>> λ b. emits MulAdd (j ∷ b ∷ i ∷ []) >>> λ y. gives (At y))
-      grows_tested i j z = grows_bind w l (grows_does w l Below (j ∷ z ∷ [])) (λ u. grows_place i j)
+    abbrev indexed_at : Named → ℕ → Low Named
+    indexed_at v i = t >>> λ j. length_in o v >>> λ z. tested_at i j z
 
-      grows_behind : (i j : ℕ) → Grows w l (const n >>> λ z. does Below (j ∷ z ∷ []) >>> λ _. const (8 * c) >>> λ b. emits MulAdd (j ∷ b ∷ i ∷ []) >>> λ y. gives (At y))
-      grows_behind i j = grows_bind w l (grows_emits w l (Const n) []) (λ z. grows_tested i j z)
+    grows_placed : (i j : ℕ) → Grows w l (placed_at i j)
+    grows_placed i j = grows_bind w l (grows_emits w l (Const (8 * c)) []) (λ b. grows_bind w l (grows_emits w l MulAdd (j ∷ b ∷ i ∷ [])) (λ y. grows_give w l (At y)))
 
-      grows_indexed : (i : ℕ) → Grows w l (t >>> λ j. const n >>> λ z. does Below (j ∷ z ∷ []) >>> λ _. const (8 * c) >>> λ b. emits MulAdd (j ∷ b ∷ i ∷ []) >>> λ y. gives (At y))
-      grows_indexed i = grows_bind w l two.grows (λ j. grows_behind i j)
+    grows_tested : (i j z : ℕ) → Grows w l (tested_at i j z)
+    grows_tested i j z = grows_bind w l (grows_does w l Below (j ∷ z ∷ [])) (λ u. grows_placed i j)
+
+    grows_behind : (v : Named) (i j : ℕ) → Grows w l (length_in o v >>> λ z. tested_at i j z)
+    grows_behind v i j = grows_bind w l (grows_length_in o v) (λ z. grows_tested i j z)
+
+    grows_indexed : Grows w l t → (v : Named) (i : ℕ) → Grows w l (indexed_at v i)
+    grows_indexed two v i = grows_bind w l two (λ j. grows_behind v i j)
+
+    -- the element's address, where the index is tested
+    follows_placed : {need fuel : ℕ} {mask : Mask} {K : Fact} (other : Mask) (e : Thing) (v : Named) (a : Span) (i k j : ℕ) → Steady w l K → ((b : Address) → row_of w l e (Addressed b) ≡ c)
+        → Follows w l need fuel mask (Both (Both (Both K (SpanIs o c v a i)) (NumberIs w l k j)) (Less k a.length)) (NamedIs w l other e) (give (Addressed (past a.at (k * c)))) (placed_at i j)
+    follows_placed {K = K} other e v a i k j steady short =
+        let known = steady_and w l (steady_and w l (steady_and w l steady (steady_span o c v a i)) (steady_number w l k j)) (steady_less k a.length) in
+        follows_bind w l {m = give tt} {h = λ (u : Unit {0}). give (Addressed (past a.at (k * c)))} known (follows_const (8 * c)) (λ b. grows_bind w l (grows_emits w l MulAdd (j ∷ b ∷ i ∷ [])) (λ y. grows_give w l (At y)))
+        (λ u b. follows_bind w l {m = give tt} {h = λ (u : Unit {0}). give (Addressed (past a.at (k * c)))} (steady_and w l known (steady_const (8 * c) b))
+        (follows_emits w l {R = λ (u : Unit {0}) y. RowIs w l c (past a.at (k * c)) y} MulAdd (j ∷ b ∷ i ∷ []) (λ n f m s held g. acts_give w l tt (madd64 (f j) (f b) (f i)) held refl refl
+        (omega arith, part_is a.at a.length c k (f i) (set_at n f (madd64 (f j) (f b) (f i))) s.store g.0.1 g.0.0.0.1.1 (put_here n (madd64 (f j) (f b) (f i)) f ∙ ap₂ (λ x y. madd64 x y (f i)) g.0.0.1.1.0 g.1.1))))
+        (λ y. grows_give w l (At y))
+        (λ u y. follows_give w l (Addressed (past a.at (k * c))) (At y) (λ n f s g. (g.1.0, (past a.at (k * c), refl, subst (λ r. AddressIs w l (past a.at (k * c)) r (f y) s) (sym (short (past a.at (k * c)))) g.1.1)))))
+      where
+        set_at : ℕ → (ℕ → ℕ) → ℕ → ℕ
+        set_at v f x = set f v x v
+
+    follows_indexed : {need fuel : ℕ} {mask : Mask} {K : Fact} (other : Mask) (e : Thing) (v : Named) (a : Span) (i : ℕ) → Steady w l K → ((b : Address) → row_of w l e (Addressed b) ≡ c) → a.length < 2 ^ 32 → Follows w l need fuel mask K (CellIs w l) x t
+        → Follows w l need fuel mask (Both K (SpanIs o c v a i)) (NamedIs w l other e) (indexed a) (indexed_at v i)
+    follows_indexed {K = K} other e v a i steady short few two =
+        let known = steady_and w l steady (steady_span o c v a i) in
+        follows_bind w l known (follows_known w l (λ n f s k. k.0) (follows_bits w l steady two)) (λ j. grows_behind v i j)
+        (λ k j. follows_bind w l {m = give tt} {h = λ (u : Unit {0}). unless l.proc 1 (inside k a.length) >>= λ _. give (Addressed (past a.at (k * c)))} (steady_and w l known (steady_number w l k j))
+        (follows_known w l {K = Both K (LengthIn o a.length v)} (λ n f s g. (g.0.0, g.0.1.3)) (follows_length_in o a.length v)) (λ z. grows_tested i j z)
+        (λ u z. follows_bind w l (steady_and w l (steady_and w l known (steady_number w l k j)) (steady_const a.length z)) (follows_below k j a.length z (omega (arith, few))) (λ u. grows_placed i j)
+        (λ u y. follows_known w l (λ n f s g. (g.0.0, g.1)) (follows_placed other e v a i k j steady short))))
+
+    pub follows_element_place : {need fuel : ℕ} {mask : Mask} {K : Fact} {A : Handed → Named → Fact} {q : Low Named} (other : Mask) (e : Thing) (place_of : Act Handed) → Steady w l K → ((h : Handed) (v : Named) → Steady w l (A h v)) → ((b : Address) → row_of w l e (Addressed b) ≡ c)
+        → ((h : Handed) (v : Named) → Follows w l need fuel mask (Both K (A h v)) (SpanIs o c v) (span_by o h) (lower_address v 0)) → Follows w l need fuel mask K A place_of q → Follows w l need fuel mask K (CellIs w l) x t → Follows w l need fuel mask K (NamedIs w l other e) (element_place l.proc place_of o c x) (element q o (8 * c) t)
+    follows_element_place {need} {fuel} {mask} {K} {A} other e place_of steady steady_array short spans one two =
+        follows_same w l (place_of >>= λ h. span_by o h >>= indexed) (element_place l.proc place_of o c x) (spanned_same place_of o indexed)
+        (follows_bind w l steady one (λ v. grows_bind w l (grows_address w l v 0) (λ i. grows_indexed two.grows v i))
+        (λ h v. follows_bind w l (steady_and w l steady (steady_array h v)) (spans h v) (λ i. grows_indexed two.grows v i) (λ a i. behind_span h v a i)))
+      where
+        behind_span : (h : Handed) (v : Named) (a : Span) (i : ℕ) → Follows w l need fuel mask (Both (Both K (A h v)) (SpanIs o c v a i)) (NamedIs w l other e) (indexed a) (indexed_at v i)
+        behind_span h v a i = record {
+          grows = grows_indexed two.grows v i;
+          by = λ most g d f s room free le needs few stands fits within known typed r.
+              (follows_indexed other e v a i (steady_and w l steady (steady_array h v)) short known.1.2 (follows_known w l (λ n f s k. k.0) two)).by most g d f s room free le needs few stands fits within known typed r;
+        }
 
   ---- Fields
 
   -- the cells from the m-th on
-  behind_is : (a : Address) (m c r x y : ℕ) (s : Objects) → ((j : ℕ) → j < c → m + j < r) → AddressIs w l a r x s → y < 2 ^ 64 → (x + 8 * m) % 2 ^ 64 ≡ y → AddressIs w l (past a m) c y s
+  pub behind_is : (a : Address) (m c r x y : ℕ) (s : Objects) → ((j : ℕ) → j < c → m + j < r) → AddressIs w l a r x s → y < 2 ^ 64 → (x + 8 * m) % 2 ^ 64 ≡ y → AddressIs w l (past a m) c y s
   behind_is a m c r x y s long at few is = record {
     few = few;
     row = λ j less.
@@ -189,14 +297,21 @@ module _ (w : Whole) (l : Level) where
       differ : true ≡ false → ⊥
       differ e = cc
 
-  pub follows_field_place : {need fuel : ℕ} {mask : Mask} {K : Fact} {q : Low Named} (own other : Mask) (d : Thing) (e : Thing) (place_of : Act Handed) (m c : ℕ) → Steady w l K → ((h : Handed) (j : ℕ) → j < c → m + j < row_of w l d h) → is_single w l d ≡ false → ((a : Address) → row_of w l e (Addressed a) ≡ c)
-      → Follows w l need fuel mask K (NamedIs w l own d) place_of q → Follows w l need fuel mask K (NamedIs w l other e) (field_of place_of m) (field q (8 * m))
+  pub follows_field_place : {need fuel : ℕ} {mask : Mask} {K : Fact} {q : Low Named} (own other : Mask) (d : Thing) (e : Thing) (place_of : Act Handed) (m c : ℕ) → Steady w l K → ((h : Handed) → SecondFits w l d h → (j : ℕ) → j < c → m + j < row_of w l d h) → is_single w l d ≡ false → ((a : Address) → row_of w l e (Addressed a) ≡ c)
+      → Follows w l need fuel mask K (DesignatorIs w l own d) place_of q → Follows w l need fuel mask K (NamedIs w l other e) (field_of place_of m) (field q (8 * m))
   follows_field_place {need} {fuel} {mask} {K} {q} own other d e place_of m c steady long many short one =
       follows_same w l (place_of >>= λ h. placed_past m h >>= λ a. give (Addressed a)) (field_of place_of m) (λ s. regroup (place_of s))
       (follows_bind w l steady one (λ v. grows_bind w l (grows_address w l v (8 * m)) (λ i. grows_give w l (At i)))
-      (λ h v. follows_bind w l (steady_and w l steady (steady_named w l own d h v)) (follows_field_at own d h v m c (long h) many) (λ i. grows_give w l (At i))
+      (λ h v. follows_bind w l (steady_and w l steady (steady_designator w l own d h v)) (field_at h v) (λ i. grows_give w l (At i))
       (λ a i. follows_give w l (Addressed a) (At i) (λ n f s g. (g.1.0, (a, refl, subst (λ r. AddressIs w l a r (f i) s) (sym (short a)) g.1.1))))))
     where
+      field_at : (h : Handed) (v : Named) → Follows w l need fuel mask (Both K (DesignatorIs w l own d h v)) (RowIs w l c) (placed_past m h) (lower_address v (8 * m))
+      field_at h v = record {
+        grows = grows_address w l v (8 * m);
+        by = λ most g b f s room free le needs few stands fits within known typed r.
+            (follows_field_at {K = K} own d h v m c (long h known.1.1) many).by most g b f s room free le needs few stands fits within (known.0, known.1.0) typed r;
+      }
+
       regroup : (e : Ending Objects Trap Handed) → after e (λ h. placed_past m h >>= λ a. give (Addressed a)) ≡ after (after e (λ h. given (address_in h))) (λ a. give (Addressed (past a m)))
       regroup (Gives h s) = by (address_in h)
         where
@@ -208,21 +323,12 @@ module _ (w : Whole) (l : Level) where
 
   ---- Lengths
 
-  pub follows_length : {need fuel : ℕ} {mask : Mask} {K : Fact} {q : Low Named} (own : Mask) (d : Thing) (place_of : Act Handed) (n : ℕ) → Steady w l K → is_single w l d ≡ false → n < 2 ^ 64 → Follows w l need fuel mask K (NamedIs w l own d) place_of q → Follows w l need fuel mask K (CellIs w l) (length_of place_of (Some n)) (lower_length q (Some n))
-  follows_length {need} {fuel} {mask} {K} {q} own d place_of n steady many few one =
-      follows_same w l (place_of >>= λ h. given (address_in h) >>= λ a. give (Bits n)) (length_of place_of (Some n)) (λ s. regroup (place_of s))
-      (follows_bind w l steady one (λ v. grows_bind w l (grows_address w l v 0) (λ i. grows_emits w l (Const n) []))
-      (λ h v. follows_bind w l (steady_and w l steady (steady_named w l own d h v)) (follows_address w l own d h v 0 (omega arith) (inl many)) (λ i. grows_emits w l (Const n) [])
-      (λ a i. follows_literal w l n few)))
-    where
-      spanned : Address → Act Span
-      spanned a = give (record { at = a; length = n })
-
-      regroup : (e : Ending Objects Trap Handed) → after e (λ h. given (address_in h) >>= λ a. give (Bits n)) ≡ after (after (after e (λ h. given (address_in h))) (λ a. spanned a)) (λ a. give (Bits a.length))
-      regroup (Gives h s) = by (address_in h)
-        where
-          by : (o : Option Address) → after (given o s) (λ a. give (Bits n)) ≡ after (after (given o s) (λ a. spanned a)) (λ a. give (Bits a.length))
-          by None = refl
-          by (Some a) = refl
-      regroup (Fails trap out) = refl
-      regroup (Spent out) = refl
+  pub follows_length : {need fuel : ℕ} {mask : Mask} {K : Fact} {A : Handed → Named → Fact} {q : Low Named} (o : Option ℕ) (c : ℕ) (place_of : Act Handed) → Steady w l K → ((h : Handed) (v : Named) → Steady w l (A h v))
+      → ((h : Handed) (v : Named) → Follows w l need fuel mask (Both K (A h v)) (SpanIs o c v) (span_by o h) (lower_address v 0)) → Follows w l need fuel mask K A place_of q → Follows w l need fuel mask K (CellIs w l) (length_of place_of o) (lower_length q o)
+  follows_length {need} {fuel} {mask} {K} {A} o c place_of steady steady_array spans one =
+      follows_same w l (place_of >>= λ h. span_by o h >>= λ a. give (Bits a.length)) (length_of place_of o) (spanned_same place_of o (λ a. give (Bits a.length)))
+      (follows_bind w l steady one (λ v. grows_bind w l (grows_address w l v 0) (λ i. grows_length_in o v))
+      (λ h v. follows_bind w l (steady_and w l steady (steady_array h v)) (spans h v) (λ i. grows_length_in o v)
+      (λ a i. let known = steady_and w l (steady_and w l steady (steady_array h v)) (steady_span o c v a i) in
+      follows_then w l {m = give tt} {h = λ (u : Unit {0}). give (Bits a.length)} known (follows_known w l {K = Both K (LengthIn o a.length v)} (λ n f s g. (g.0.0, g.1.3)) (follows_length_in o a.length v))
+      (λ u z n f s g at. let few = g.1.2 in inl (Bits a.length, refl, (at.0, (at.1, omega (arith, few))))))))

@@ -16,7 +16,7 @@ use Rattle.block_runs.specs.Effects.{Gives as Yields, Fails as Refuses}
 use Rattle.block_runs.specs.Steps.{set, define, behind, perform, operate}
 use Rattle.block_runs.specs.Points.{least, rest_least}
 use Rattle.ob_types.specs.Sense.{HasSense}
-use Rattle.ob_types.specs.Store.{Cell, Store, Trap, Kind, Senseless, Act, cell_of}
+use Rattle.ob_types.specs.Store.{Cell, Store, Trap, Kind, Senseless, Act, given, cell_of}
 use Rattle.ob_sound.proofs.Typed.{Sound, Good, Older, older_refl}
 use Rattle.ssa_core.specs.Procedures.{operation_of}
 use Rattle.ssa_core.specs.declared.procedure.Op.{Op}
@@ -224,6 +224,21 @@ module _ (w : Whole) (l : Level) where
       by_ending most g c f s free (Gives a t) good goes = let v = goes.by in record { by = record { values = v.values; ready = v.ready; later = v.later; is = (v.is, good.2); same = v.same; off = v.off; typed = good.0 } }
       by_ending most g c f s free (Fails trap out) good goes = record { by = goes.by }
       by_ending most g c f s free (Spent out) good goes = record { by = goes.by }
+
+  -- what is given is what is there
+  pub follows_found : {A B : Type 0} {need fuel : ℕ} {mask : Mask} {K : Fact} {R : A → B → Fact} {low : Low B} (o : Option A) → Follows need fuel mask K R (given o) low → Follows need fuel mask K (λ a b. And (R a b) (λ n f s. o ≡ Some a)) (given o) low
+  follows_found {A} {B} {need} {fuel} {mask} {K} {R} {low} o one = record {
+    grows = one.grows;
+    by = λ most g c f s room free le needs few stands fits within known typed r. by o most g c f s free (one.by most g c f s room free le needs few stands fits within known typed r);
+  }
+    where
+      by : (o : Option A) (most g : ℕ) (c : Cursor) (f : ℕ → ℕ) (s : At Store) (free : (Point → ℕ) → ℕ) → Goes w (given o s) (Done R mask most g c (low c) s.store f free) → Goes w (given o s) (Done (λ a b. And (R a b) (λ n f s. o ≡ Some a)) mask most g c (low c) s.store f free)
+      by (Some a) most g c f s free goes = let v = goes.by in record { by = record { values = v.values; ready = v.ready; later = v.later; is = (v.is, refl); same = v.same; off = v.off; typed = v.typed } }
+      by None most g c f s free goes = record { by = goes.by }
+
+  -- what doesn't change
+  pub steady_fixed : (T : Type 0) → Steady (λ n f s. T)
+  steady_fixed T = record { by = λ n m f g s t le same later h. h }
 
   -- what can't be
   pub follows_never : {A B : Type 0} {kept : Bool} {need fuel : ℕ} {mask : Mask} {K : Fact} {R : A → B → Fact} {m : Act A} {low : Low B} → ((n : ℕ) (f : ℕ → ℕ) (s : Store) → K n f s → ⊥) → Grows low → FollowsTo kept need fuel mask K R m low

@@ -193,7 +193,7 @@ module _ (w : Whole) (l : Level) where
     | inr e ↦ sym e ∙ it
   ]
 
-  other_cell : (s : Objects) (v : Cell) (a : Address) (i y : ℕ) (d : Cell) → word_at w l (sizes_of s) a.area a.object a.cell ≡ Some i → l.slots l.frame (l.cell y) ≡ None → cell_of (put_in s a.area a.object a.cell v).frames l.frame (l.cell y) ≡ Some d → cell_of s.frames l.frame (l.cell y) ≡ Some d
+  pub other_cell : (s : Objects) (v : Cell) (a : Address) (i y : ℕ) (d : Cell) → word_at w l (sizes_of s) a.area a.object a.cell ≡ Some i → l.slots l.frame (l.cell y) ≡ None → cell_of (put_in s a.area a.object a.cell v).frames l.frame (l.cell y) ≡ Some d → cell_of s.frames l.frame (l.cell y) ≡ Some d
   other_cell s v a i y d at none it = elim (written s a.area a.object a.cell v Frames l.frame (l.cell y)) [
     | inl h ↦ absurd (some_none (sym (place_one h.0 h.1 h.2) ∙ at) none)
     | inr e ↦ sym e ∙ it
@@ -202,7 +202,7 @@ module _ (w : Whole) (l : Level) where
       place_one : a.area ≡ Frames → a.object ≡ l.frame → a.cell ≡ l.cell y → word_at w l (sizes_of s) a.area a.object a.cell ≡ word_at w l (sizes_of s) Frames l.frame (l.cell y)
       place_one e f g = subst (λ b. word_at w l (sizes_of s) a.area a.object a.cell ≡ word_at w l (sizes_of s) b l.frame (l.cell y)) e (ap₂ (λ p d. word_at w l (sizes_of s) a.area p d) f g)
 
-  not_slot : (s : Objects) (a : Address) (i : ℕ) → word_at w l (sizes_of s) a.area a.object a.cell ≡ Some i → a.area ≡ Frames → a.object < l.frame → l.slots a.object a.cell ≡ None → ⊥
+  pub not_slot : (s : Objects) (a : Address) (i : ℕ) → word_at w l (sizes_of s) a.area a.object a.cell ≡ Some i → a.area ≡ Frames → a.object < l.frame → l.slots a.object a.cell ≡ None → ⊥
   not_slot s a i at e lt none = some_none (sym (ap (λ b. word_at w l (sizes_of s) b a.object a.cell) e) ∙ at) none
 
   -- a new value

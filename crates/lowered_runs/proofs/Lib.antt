@@ -35,3 +35,10 @@ pub mod Procedures
 pub mod BodiesInOrder
 pub mod Cases
 pub mod Labels
+pub mod Pointers
+pub mod Allocation
+pub mod Copies
+pub mod Extents
+pub mod Texts
+pub mod Strings
+pub mod Comparing

@@ -5,7 +5,7 @@ use Rattle.std.proofs.lemmas.List.Sums.{sum_by-cons}
 use Rattle.block_runs.specs.Points.{AreCodePlaces}
 use Rattle.ob_types.specs.Layout.{cells_of_all}
 use Rattle.ob_types.specs.Store.{Globals, Frames, Heap, Strings, Store}
-use Rattle.ob_types.specs.Meaning.{procedure_of, globals_of, locals_of}
+use Rattle.ob_types.specs.Meaning.{procedure_of, globals_of, locals_of, texts_of}
 use Rattle.ob_types.specs.declared.program.Procedure.{Procedure as Declared}
 use Rattle.ob_types.specs.declared.program.Program.{Program}
 use Rattle.ob_types.proofs.Tests.{and_of}
@@ -14,7 +14,15 @@ use Rattle.ssa_core.specs.Procedures.{procedures}
 use Rattle.ssa_lowered.specs.Data.{Layout, in_cells, globals_room, room_of_all}
 use Rattle.ssa_lowered.specs.Lowered.{lowered, procs_from}
 use Rattle.lowered_runs.specs.Words.{Whole, Level, Right, Sizes, sizes_of, Thing, InCell, TagOf, Constant, word_of, There, Room, Held, Apart, data_word}
-use Rattle.lowered_runs.proofs.Starting.{start_of, whole_of, body_level, global_sizes}
+use Rattle.ob_types.specs.WellFormed.{declarations_fine}
+use Rattle.block_runs.specs.First.{data_base}
+use Rattle.ob_types.specs.WellFormed.{is_empty}
+use Rattle.ssa_lowered.specs.Data.{text_at, within}
+use Rattle.lowered_runs.specs.Claims.{has_strings, StringsStand}
+use Rattle.lowered_runs.proofs.Homes.{AddressIs}
+use Rattle.lowered_runs.proofs.Strings.{start_of, starts_below, length_constants, rooms_before}
+use Rattle.lowered_runs.proofs.Extents.{cells_few, record_cells_few}
+use Rattle.lowered_runs.proofs.Starting.{whole_of, body_level, global_sizes, string_sizes}
 use Rattle.lowered_runs.proofs.Bodies.{module_sizes, modules_are, starts_are, rooms_are, variable_below}
 use Rattle.lowered_runs.proofs.Levels.{Variables}
 use Rattle.lowered_runs.proofs.Calls.{Stacked}
@@ -67,9 +75,11 @@ module _ (p : Program) (input : List ℕ) where
     abbrev l : Level
     l = body_level p input q j s
 
-    pub right_of_code : AreCodePlaces (length (procedures (lowered p))) code → Right w
-    right_of_code are = record {
+    pub right_of_code : AreCodePlaces (length (procedures (lowered p))) code → declarations_fine p ≡ true → Right w
+    right_of_code are declared = record {
       codes = are;
+      cells = cells_few p declared;
+      record_cells = record_cells_few p declared;
       callable = λ g h. let e = many p lay 0 p.procedures in let lt = lt_of p g (length p.procedures) (and_of _ _ h).0 in omega (arith, e, lt);
       may = λ g h xs long.
           let parts = and_of (nat_lt g (length p.procedures)) (not (procedure_of p g).is_body) h in
@@ -102,8 +112,30 @@ module _ (p : Program) (input : List ℕ) where
     none_taken zero = refl
     none_taken (suc x) = refl
 
-    pub data_placed : globals_room p lay ≤ 0x800000 → DataPlaced w
-    data_placed small = record {
+    has_one : (texts : List (List ℕ)) (o : ℕ) (xs : List ℕ) → slice_get texts o ≡ Some xs → not (is_empty texts) ≡ true
+    has_one [] o xs e = absurd (nothing_some e)
+    has_one (x ∷ texts) o xs e = refl
+
+    text_placed : (has_strings p ≡ true → StringsStand p constants) → (l : Level) (o : ℕ) (xs : List ℕ) → slice_get (texts_of p.procedures) o ≡ Some xs → (s : Store) → AddressIs w l (record { area = Strings; object = o; cell = 0 }) (suc (length xs)) (data_base + within (text_at p lay o)) s
+    text_placed strings l o xs at s =
+        let stand = strings (has_one (texts_of p.procedures) o xs at) in
+        let long = ap (λ (bs : List ℕ). length bs) stand.same ∙ length_constants p data_base (texts_of p.procedures) in
+        let before = rooms_before p data_base (texts_of p.procedures) o xs at in
+        let lt = starts_below (texts_of p.procedures) o xs at in
+        let near = stand.near in
+        let sizes = room_sizes in
+        let near_one : text_at p lay o ≤ 16777215 = omega (arith, before, lt, near, long) in
+        let place = within_is (text_at p lay o) near_one in
+        record {
+          few = omega (arith, place, near_one);
+          row = λ j less. (data_word + (sum (global_sizes p input) + 16 * length p.types.records + start_of (string_sizes p input) o) + (0 + j), refl, ap (λ x. x % 2 ^ 64) (omega (arith, place, before, sizes)));
+        }
+      where
+        within_is : (n : ℕ) → n ≤ 16777215 → within n ≡ n
+        within_is n le = grind (arith, nat_tests)
+
+    pub data_placed : globals_room p lay ≤ 0x800000 → (has_strings p ≡ true → StringsStand p constants) → DataPlaced w
+    data_placed small strings = record {
       global = λ l m v k at t.
           let below = variable_below p p.modules (record { name = []; objects = []; variables = []; body = 0 }) m v k refl at in
           let a = starts_are p p.modules m in
@@ -118,16 +150,22 @@ module _ (p : Program) (input : List ℕ) where
               ap (λ x. x % 2 ^ 64) (omega (arith, a, b)),
             );
           };
+      descriptor = λ r. refl;
+      records = refl;
+      text = λ l o xs at t. text_placed strings l o xs at t;
       done = λ l t. record { few = omega arith; row = λ i lt. (data_word + 0 + (0 + i), refl, ap (λ x. x % 2 ^ 64) (omega arith)) };
     }
 
-    pub variables_in_body : locals_of (procedure_of p q) ≡ [] → globals_room p lay ≤ 0x800000 → Variables w l
-    variables_in_body none small = record {
+    pub variables_in_body : locals_of (procedure_of p q) ≡ [] → globals_room p lay ≤ 0x800000 → (has_strings p ≡ true → StringsStand p constants) → Variables w l
+    variables_in_body none small strings = record {
       cell = λ x. none_taken x ∙ ap (λ ls. cells_of_all p.types (take x ls)) (sym none);
       count = ap (λ ls. length ls) (sym none);
       local = λ x k at. absurd (nothing_some (ap (λ ls. slice_get ls x) (sym none) ∙ at));
-      global = λ m v k at t. (data_placed small).global l m v k at t;
-      done = λ t. (data_placed small).done l t;
+      global = λ m v k at t. (data_placed small strings).global l m v k at t;
+      descriptor = λ r. refl;
+      records = refl;
+      text = λ o xs at t. (data_placed small strings).text l o xs at t;
+      done = λ t. (data_placed small strings).done l t;
     }
 
     pub stacked_body : Stacked l

@@ -1,4 +1,5 @@
 -- All calls of a program do what they mean, by turns.
+use Rattle.lowered_runs.specs.Claims.{has_strings, StringsStand}
 use Rattle.std.proofs.Common.{◌≡◌, ℕ, zero, suc, ◌+◌, ◌<◌, ◌≤◌, List, [], ◌∷◌, ◌++◌, map, length, Bool, true, false, not, ◌&&◌, ◌||◌, refl, sym, ap, ◌∙◌, subst, arith, Option, Some, None}
 use Rattle.std.specs.Prelude.{slice_index_or, is_some, nat_lt}
 use Rattle.run_laws.specs.Runs.{weigh}
@@ -30,7 +31,7 @@ use Rattle.ssa_lowered.specs.Pieces.{Cursor}
 use Rattle.ssa_lowered.specs.Variables.{lent_by_list, lent_by_answer}
 use Rattle.ssa_lowered.specs.Lowered.{Here, here_of, lowered, made_of, proc_of}
 use Rattle.ssa_lowered.specs.Lowered.{answer as lower_answer}
-use Rattle.lowered_runs.specs.Covered.{is_simple, covered, answer_covered, procedure_covered}
+use Rattle.lowered_runs.specs.Covered.{covered, answer_covered, procedure_covered}
 use Rattle.lowered_runs.specs.Words.{same_trap, Whole, Level, Right, heap_word}
 use Rattle.lowered_runs.proofs.Standing.{shared}
 use Rattle.lowered_runs.proofs.Ready.{Position, system, frame_at}
@@ -89,13 +90,13 @@ module _ (p : Program) (input : List ℕ) (code : ℕ → ℕ) (constants : List
       let e = ap (λ i. whole_weight p lay i (procedure_of p g) h) z in
       omega (arith, a, b, d, e)
 
-  module _ (good : types_fine p.types ≡ true) (all_fine : (f : ℕ) → f < length p.procedures → WellFormed.procedure_fine p f ≡ true) (codes : AreCodePlaces (length ps) code) (small : globals_room p lay ≤ 0x800000)
+  module _ (good : types_fine p.types ≡ true) (all_fine : (f : ℕ) → f < length p.procedures → WellFormed.procedure_fine p f ≡ true) (codes : AreCodePlaces (length ps) code) (declared : WellFormed.declarations_fine p ≡ true) (small : globals_room p lay ≤ 0x800000) (strings : has_strings p ≡ true → StringsStand p constants)
       (covers : (f : ℕ) → f < length p.procedures → procedure_covered (procedure_of p f) ≡ true) where
     right : Right w
-    right = right_of_code p input code constants n 0 0 no_store codes
+    right = right_of_code p input code constants n 0 0 no_store codes declared
 
     data_at : DataPlaced w
-    data_at = data_placed p input code constants n 0 0 no_store small
+    data_at = data_placed p input code constants n 0 0 no_store small strings
 
     given_by : (g : ℕ) (def : Option ℕ) (r : Option Form) (e : Option Checked) → WellFormed.form_of p (procedure_of p g).result ≡ r → (procedure_of p g).answer ≡ e → WellFormed.answer_fine p g r e ≡ true → GivesFor p g def → IsGiven def (made_of p lay g (procedure_of p g)).result
     given_by g None r e is at fine gives = tt
@@ -119,11 +120,8 @@ module _ (p : Program) (input : List ℕ) (code : ℕ → ℕ) (constants : List
       fine_code : (all (WellFormed.fine p g) q.body ≡ true) × (WellFormed.answer_fine p g (WellFormed.form_of p q.result) q.answer ≡ true)
       fine_code = and_of (all (WellFormed.fine p g) q.body) (WellFormed.answer_fine p g (WellFormed.form_of p q.result) q.answer) fine_parts.1
 
-      covered_parts : (all (λ x. is_simple x.mode) q.formals ≡ true) × ((all covered q.body && answer_covered q.answer) ≡ true)
-      covered_parts = and_of (all (λ x. is_simple x.mode) q.formals) (all covered q.body && answer_covered q.answer) (covers g there)
-
       covered_code : (all covered q.body ≡ true) × (answer_covered q.answer ≡ true)
-      covered_code = and_of (all covered q.body) (answer_covered q.answer) covered_parts.1
+      covered_code = and_of (all covered q.body) (answer_covered q.answer) (covers g there)
 
       module _ (s : Objects) (cs : List Cell) (words_small : l.local + k.words ≤ heap_word) (taken : AllTaken p good l.forms s.tags q.formals hs) where
         abbrev u : Level
@@ -135,10 +133,10 @@ module _ (p : Program) (input : List ℕ) (code : ℕ → ℕ) (constants : List
         pub serves : Serves w u fuel (at_most p fuel)
         serves = record {
           body = list_is w u right (apart_above w l g hs xs (frame_at l c f) (with_frame cs s)) (variables_above w l g hs xs (frame_at l c f) (with_frame cs s) data_at words_small) good (at_most p fuel) (s_at_most p good all_fine fuel) own_forms
-              (all_taken_push p good l.forms k.forms s.tags q.formals hs taken) (stacked_above w l g hs xs (frame_at l c f) (with_frame cs s) stacked) covered_parts.0 fuel calling (λ x. true) q.body fine_code.0 covered_code.0 (λ x. refl)
+              (all_taken_push p good l.forms k.forms s.tags q.formals hs taken) (stacked_above w l g hs xs (frame_at l c f) (with_frame cs s) stacked) fuel calling (λ x. true) q.body fine_code.0 covered_code.0 (λ x. refl)
               (λ x e. lent_above w l g hs xs (frame_at l c f) (with_frame cs s) x (either_left (lent_by_list q.body x) (lent_by_answer q.answer x) e));
           result = answer_is w u right (apart_above w l g hs xs (frame_at l c f) (with_frame cs s)) (variables_above w l g hs xs (frame_at l c f) (with_frame cs s) data_at words_small) good (at_most p fuel) (s_at_most p good all_fine fuel) own_forms
-              (all_taken_push p good l.forms k.forms s.tags q.formals hs taken) (stacked_above w l g hs xs (frame_at l c f) (with_frame cs s) stacked) covered_parts.0 fuel calling (WellFormed.form_of p q.result) q.answer fine_code.1 covered_code.1
+              (all_taken_push p good l.forms k.forms s.tags q.formals hs taken) (stacked_above w l g hs xs (frame_at l c f) (with_frame cs s) stacked) fuel calling (WellFormed.form_of p q.result) q.answer fine_code.1 covered_code.1
               (λ x e. lent_above w l g hs xs (frame_at l c f) (with_frame cs s) x (either_right (lent_by_list q.body x) (lent_by_answer q.answer x) e));
         }
 

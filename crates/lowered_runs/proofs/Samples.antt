@@ -1,23 +1,30 @@
 -- The samples can run: what is proved speaks of some programs.
-use Rattle.std.proofs.Common.{suc, [], ◌∷◌, true, false, Some, None, refl, arith}
+use Rattle.std.proofs.Common.{◌≡◌, suc, List, [], ◌∷◌, true, false, Some, None, refl, arith}
 use Rattle.std.specs.Prelude.{Vec, Box}
 use Rattle.std.specs.Fmt.{digits}
 use Rattle.std.specs.declared.alloc.Global.{Global as Heap}
 use Rattle.ob_types.specs.declared.program.Program.{Program}
 use Rattle.ob_types.specs.declared.statements.Stmt.{Assign, Increase, OutInt, If', end_of-Stmt, more_of-Stmt, end_of-Branch, more_of-Branch}
-use Rattle.ob_types.specs.declared.tree.Argument.{ByValue, ByPlace}
+use Rattle.ob_types.specs.declared.statements.Stmt.{Call as Invoke}
+use Rattle.ob_types.specs.declared.tree.Argument.{ByValue, ByPlace, ByRecord, ByOpen}
 use Rattle.ob_types.specs.declared.tree.Base.TheVariants.{Global, Local, Parameter}
 use Rattle.ob_types.specs.declared.tree.Binary.TheVariants.{Add, Subtract}
-use Rattle.ob_types.specs.declared.tree.Call.{Direct', end_of-Argument, more_of-Argument}
-use Rattle.ob_types.specs.declared.tree.Designator.{Designator, Whole}
-use Rattle.ob_types.specs.declared.tree.Expr.{Expr, Literal, Load, Chain', Compare', Call', end_of-Link, more_of-Link}
+use Rattle.ob_types.specs.declared.tree.Call.{Direct', Indirect', end_of-Argument, more_of-Argument}
+use Rattle.ob_types.specs.declared.tree.Designator.{Designator, Whole, Part', end_of-Selector, more_of-Selector}
+use Rattle.ob_types.specs.declared.tree.Selector.{Index, Field}
+use Rattle.ob_types.specs.declared.tree.Expr.{Expr, Literal, Load, Routine, Length, Chain', Compare', Call', end_of-Link, more_of-Link}
 use Rattle.ob_types.specs.declared.tree.Link.{Operate}
 use Rattle.ob_types.specs.declared.tree.Relation.TheVariants.{Greater}
-use Rattle.ob_types.specs.declared.types.Mode.TheVariants.{Value, Place}
-use Rattle.ob_types.specs.declared.types.TypeKind.TheVariants.{Int, Nothing}
-use Rattle.ob_types.specs.declared.types.TypeKind.TheVariants.{Bool as Boolean}
+use Rattle.ob_types.specs.declared.types.Formal.{Formal}
+use Rattle.ob_types.specs.declared.types.Mode.TheVariants.{Value, Place, Open}
+use Rattle.ob_types.specs.declared.types.Mode.TheVariants.{Record as Tagged}
+use Rattle.ob_types.specs.declared.types.TypeKind.TheVariants.{Int, Array, Record, Nothing}
+use Rattle.ob_types.specs.declared.types.TypeKind.TheVariants.{Bool as Boolean, Procedure as ProcedureOf}
 use Rattle.lowered_runs.specs.Claims.{CanRun}
-use Rattle.lowered_runs.specs.Sample.{sample, CallsItself}
+use Rattle.lowered_runs.specs.Sample.{sample, number, CallsItself, HandsOver}
+
+no_strings : false ≡ true → ⊥
+no_strings e = cc
 
 pub sample_runs : CanRun sample [] [] (λ g. suc g)
 sample_runs = record {
@@ -28,6 +35,7 @@ sample_runs = record {
   places = record { few = λ g lt. omega (arith, lt); nowhere = λ g lt e. absurd (omega (arith, e)); apart = λ g h lt less e. omega (arith, e) };
   globals = omega arith;
   room = omega arith;
+  strings = λ h. absurd (no_strings h);
 }
 
 -- MODULE M; IMPORT Out; VAR v: INTEGER; PROCEDURE Count(n: INTEGER; VAR total: INTEGER): INTEGER; VAR left: INTEGER;
@@ -90,6 +98,7 @@ module _ (b : Box (Unit {0}) Heap) (v : Vec (Unit {0}) Heap) where
     places = record { few = λ g lt. omega (arith, lt); nowhere = λ g lt e. absurd (omega (arith, e)); apart = λ g h lt less e. omega (arith, e) };
     globals = omega arith;
     room = omega arith;
+    strings = λ h. absurd (no_strings h);
   }
 
   counting_calls : CallsItself counting
@@ -98,3 +107,69 @@ module _ (b : Box (Unit {0}) Heap) (v : Vec (Unit {0}) Heap) where
 
   pub some_calls : (p : Program) × CanRun p [] [] (λ g. suc g) × CallsItself p
   some_calls = (counting, counting_runs, counting_calls)
+
+  -- MODULE M; IMPORT Out; TYPE Total = RECORD sum: INTEGER END; Adding = PROCEDURE (xs: ARRAY OF INTEGER; VAR t: Total);
+  -- VAR numbers: ARRAY 3 OF INTEGER; total: Total; add: Adding; PROCEDURE Add(xs: ARRAY OF INTEGER; VAR t: Total); BEGIN t.sum := LEN(xs) + xs[1] END Add;
+  -- BEGIN numbers[1] := 4; add := Add; add(numbers, total); Out.Int(total.sum, 0) END M.
+  abbrev handed : List Formal
+  handed = record { mode = Open; variable = false; type_number = 5 } ∷ record { mode = Tagged; variable = true; type_number = 3 } ∷ []
+
+  abbrev add : Designator
+  add = Whole (Global 0 2) (ProcedureOf 0)
+
+  abbrev handing : Program
+  handing = record {
+    types = record {
+      kinds = Int ∷ Nothing ∷ Array (Some 3) 0 ∷ Record 0 ∷ ProcedureOf 0 ∷ Array None 0 ∷ [];
+      records = record { «module» = 0; base = None; level = 0; fields = record { name = 115 ∷ []; exported = false; type_number = 0 } ∷ []; cells = 1 } ∷ [];
+      signatures = record { formals = handed; result = 1 } ∷ [];
+    };
+    modules = record { name = 77 ∷ []; objects = []; variables = 2 ∷ 3 ∷ 4 ∷ []; body = 1 } ∷ [];
+    procedures = record {
+      «module» = 0;
+      line = 1;
+      is_body = false;
+      formals = handed;
+      result = 1;
+      locals = [];
+      texts = [];
+      body = Assign (Part' (Parameter 1) Int vec1 (more_of-Selector (Field 0 0) end_of-Selector)) (record {
+        form = Chain' b (Length (Whole (Parameter 0) (Array None 0))) vec1 (more_of-Link (Operate Add (Load (Part' (Parameter 0) Int vec1 (more_of-Selector (Index None 0 (Literal 1)) end_of-Selector)))) end_of-Link);
+        kind = Int;
+      }) ∷ [];
+      answer = None;
+    } ∷ record {
+      «module» = 0;
+      line = 2;
+      is_body = true;
+      formals = [];
+      result = 1;
+      locals = [];
+      texts = [];
+      body = Assign (Part' (Global 0 0) Int vec1 (more_of-Selector (Index (Some 3) 0 (Literal 1)) end_of-Selector)) (number 4)
+          ∷ Assign add (record { form = Routine 0; kind = ProcedureOf 0 })
+          ∷ Invoke (Indirect' add vec2 (more_of-Argument (ByOpen (Whole (Global 0 0) (Array (Some 3) 0))) (more_of-Argument (ByRecord (Whole (Global 0 1) (Record 0))) end_of-Argument)))
+          ∷ OutInt (record { form = Load (Part' (Global 0 1) Int vec1 (more_of-Selector (Field 0 0) end_of-Selector)); kind = Int }) (number 0) ∷ [];
+      answer = None;
+    } ∷ [];
+    imports_in = false;
+  }
+
+  handing_runs : CanRun handing [] [] (λ g. suc g)
+  handing_runs = record {
+    fine = refl;
+    covers = refl;
+    numbers = refl;
+    bytes = λ i. omega arith;
+    places = record { few = λ g lt. omega (arith, lt); nowhere = λ g lt e. absurd (omega (arith, e)); apart = λ g h lt less e. omega (arith, e) };
+    globals = omega arith;
+    room = omega arith;
+    strings = λ h. absurd (no_strings h);
+  }
+
+  handing_hands : HandsOver handing
+  unfolding digits
+  handing_hands = record { through = refl; modes = refl; asks = refl; writes = refl }
+
+  pub some_hands : (p : Program) × CanRun p [] [] (λ g. suc g) × HandsOver p
+  some_hands = (handing, handing_runs, handing_hands)

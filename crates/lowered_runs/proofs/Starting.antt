@@ -1,12 +1,15 @@
 -- How a program begins: memory holds the first store.
-use Rattle.std.proofs.Common.{◌≡◌, ℕ, zero, suc, ◌+◌, ◌*◌, ◌<◌, ◌≤◌, inl, List, [], ◌∷◌, ◌++◌, map, length, take, replicate, Bool, true, false, cond, ◌&&◌, ◌||◌, nat_le, slice_get, slice_index, refl, sym, ap, ap₂, ◌∙◌, subst, arith, Some, None}
+use Rattle.std.proofs.Common.{◌≡◌, ℕ, zero, suc, ◌+◌, ◌*◌, ◌<◌, ◌≤◌, inl, List, [], ◌∷◌, ◌++◌, map, length, take, replicate, Bool, true, false, cond, ◌&&◌, ◌||◌, not, nat_le, inr, ◌⊎◌, slice_get, slice_index, refl, sym, ap, ap₂, ◌∙◌, subst, arith, Some, None}
 use Rattle.std.specs.Prelude.{◌-◌, sum}
 use Rattle.std.proofs.lemmas.Bool.Decides.{nat_tests}
 use Rattle.std.proofs.lemmas.List.{length-replicate, length-append, take-append-le}
 use Rattle.std.proofs.lemmas.List.Sums.{sum_by-cons}
 use Rattle.a64_memory.specs.Bytes.{slab}
 use Rattle.a64_memory.specs.Memory.{Area, Shape, lies, covers, covered, shapes, bytes_at, IsRising, IsOfBytes, AreBytes}
-use Rattle.a64_memory.proofs.Blocks.{loaded8_in_zeros}
+use Rattle.a64_memory.proofs.Blocks.{loaded8_in_zeros, loaded8_lt}
+use Rattle.std.specs.Int.{from_le_bytes, w64}
+use Rattle.ob_types.specs.WellFormed.{is_empty}
+use Rattle.ssa_lowered.specs.Constants.{constants as own_constants}
 use Rattle.a64_memory.proofs.Shapes.{covers-shapes, zero_bytes, append_bytes}
 use Rattle.block_runs.specs.First.{data_base, local_base, heap_base, local_bytes, heap_bytes, first_world, zeroed}
 use Rattle.block_runs.specs.First.{first_state}
@@ -14,20 +17,17 @@ use Rattle.block_runs.specs.Points.{all_points}
 use Rattle.ob_types.specs.Layout.{cells_of_all}
 use Rattle.ob_types.specs.Store.{Cell, Bits, Globals, Frames, Heap, Strings, Store, objects, cell_of}
 use Rattle.ob_types.specs.Store.{Area as Kind}
-use Rattle.ob_types.specs.Meaning.{start, zeros}
+use Rattle.ob_types.specs.Meaning.{start, zeros, texts_of}
 use Rattle.ob_types.specs.declared.program.Module.{Module}
 use Rattle.ob_types.specs.declared.program.Program.{Program}
 use Rattle.ssa_core.specs.Procedures.{procedures}
-use Rattle.ssa_lowered.specs.Data.{in_cells, globals_room}
+use Rattle.ssa_lowered.specs.Data.{in_cells, globals_room, descriptor_at, within}
 use Rattle.ssa_lowered.specs.Lowered.{lowered}
 use Rattle.lowered_runs.specs.Words.{Whole, Level, Sizes, sizes_of, sizes_in, data_word, local_word, heap_word, local_words, heap_words, Thing, InCell, TagOf, Constant, word_at, word_of, There, ValueIs, word, Held, AreInput}
+use Rattle.lowered_runs.specs.Claims.{has_strings, StringsStand}
 use Rattle.lowered_runs.proofs.Stores.{there_cell}
-
--- where the parts of a row begin
-abbrev pub start_of : List ℕ → ℕ → ℕ
-start_of ns zero = 0
-start_of [] (suc o) = 0
-start_of (n ∷ ns) (suc o) = n + start_of ns o
+pub use Rattle.lowered_runs.proofs.Strings.{start_of}
+use Rattle.lowered_runs.proofs.Strings.{string_cells, characters, cell_is, all_characters, length_constants, character_at, character_number}
 
 sum_of : (n : ℕ) (ns : List ℕ) → sum (n ∷ ns) ≡ n + sum ns
 sum_of n ns = sum_by-cons (λ x. x) n ns
@@ -88,7 +88,7 @@ module _ (globals : ℕ) (constants : List ℕ) (input : List ℕ) (small : glob
   abbrev local_shapes : List Shape
   local_shapes = record { base = local_base; bytes = length {A = ℕ} (replicate local_bytes 0) } ∷ heap_shapes
 
-  pub data_covered : (i n : ℕ) → data_word ≤ i → 8 * i + 8 * n ≤ data_base + globals → covered (shapes first) (8 * i) (8 * n) ≡ true
+  pub data_covered : (i n : ℕ) → data_word ≤ i → 8 * i + 8 * n ≤ data_base + (globals + length constants) → covered (shapes first) (8 * i) (8 * n) ≡ true
   data_covered i n low high = in_first i n data_base (length (replicate globals 0 ++ constants)) local_shapes (omega (arith, low)) (let e = size in omega (arith, high, e))
 
   pub local_covered : (i n : ℕ) → local_word ≤ i → i + n ≤ local_word + local_words → covered (shapes first) (8 * i) (8 * n) ≡ true
@@ -190,6 +190,9 @@ module _ (p : Program) (input : List ℕ) where
   abbrev pub global_sizes : List ℕ
   global_sizes = (sizes_of (start p input)).globals
 
+  abbrev pub string_sizes : List ℕ
+  string_sizes = (sizes_of (start p input)).strings
+
   -- what the whole program is, with no procedure's object yet
   abbrev pub whole_of : (code : ℕ → ℕ) (constants : List ℕ) → ℕ → Whole
   whole_of code constants n = record {
@@ -197,10 +200,10 @@ module _ (p : Program) (input : List ℕ) where
     procedures = procedures (lowered p);
     code = code;
     global = λ o. data_word + start_of global_sizes o;
-    string = λ o. None;
-    descriptor = λ r. 0;
+    string = λ o. Some (data_word + (sum global_sizes + 16 * length p.types.records + start_of string_sizes o));
+    descriptor = λ r. data_base + within (descriptor_at p (in_cells p.types) r);
     entry = λ i. None;
-    records = 0;
+    records = length p.types.records;
     areas = shapes (first_world (globals_room p (in_cells p.types)) constants input).memory;
     points = all_points (procedures (lowered p));
     first = first_state (globals_room p (in_cells p.types)) constants input;
@@ -211,7 +214,7 @@ module _ (p : Program) (input : List ℕ) where
   abbrev pub body_level : ℕ → ℕ → Store → Level
   body_level q j s = record { proc = q; args = []; arguments = []; callers = []; body = j; local = local_word; sizes = []; frame = 0; slots = λ o c. None; forms = []; count = 0; in_register = λ x. false; cell = λ x. 0; store = s }
 
-  module _ (code : ℕ → ℕ) (constants : List ℕ) (n : ℕ) (small : globals_room p (in_cells p.types) + length constants ≤ 0x10000000) (are : AreBytes constants) (room : 8 * sum global_sizes ≡ globals_room p (in_cells p.types)) (few : sum global_sizes ≤ 1048576) (bytes : AreInput input) (q j : ℕ) where
+  module _ (code : ℕ → ℕ) (constants : List ℕ) (n : ℕ) (small : globals_room p (in_cells p.types) + length constants ≤ 0x10000000) (are : AreBytes constants) (room : 8 * sum global_sizes ≡ globals_room p (in_cells p.types)) (few : sum global_sizes ≤ 1048576) (bytes : AreInput input) (strings : has_strings p ≡ true → StringsStand p constants) (q j : ℕ) where
     abbrev w : Whole
     w = whole_of code constants n
 
@@ -236,27 +239,91 @@ module _ (p : Program) (input : List ℕ) where
     none_some : {A : Type 0} {x : A} → None ≡ Some x → ⊥
     none_some e = cc
 
-    -- of all things only globals are in memory
-    only : (t : Thing) (i : ℕ) → There w l z t → word_of w l z t ≡ Some i → (o : ℕ) × (c : ℕ) × (t ≡ InCell Globals o c) × (c < slice_index global_sizes o) × (i ≡ data_word + start_of global_sizes o + c)
-    only (InCell Globals o c) i there at = (o, c, refl, there, global_word o c i at)
+    abbrev texts : List (List ℕ)
+    texts = texts_of p.procedures
+
+    abbrev behind : ℕ
+    behind = data_word + (sum global_sizes + 16 * length p.types.records)
+
+    string_word : (o c i : ℕ) → word_at w l z Strings o c ≡ Some i → i ≡ behind + (start_of string_sizes o + c)
+    string_word o c i e = let x = same e in omega (arith, x)
+      where
+        same : Some (data_word + (sum global_sizes + 16 * length p.types.records + start_of string_sizes o) + c) ≡ Some i → data_word + (sum global_sizes + 16 * length p.types.records + start_of string_sizes o) + c ≡ i
+        same e = cc
+
+    abbrev IsGlobal : Thing → ℕ → Type 0
+    IsGlobal t i = (o : ℕ) × (c : ℕ) × (t ≡ InCell Globals o c) × (c < slice_index global_sizes o) × (i ≡ data_word + start_of global_sizes o + c)
+
+    abbrev IsString : Thing → ℕ → Type 0
+    IsString t i = (o : ℕ) × (c : ℕ) × (t ≡ InCell Strings o c) × (c < slice_index string_sizes o) × (i ≡ behind + (start_of string_sizes o + c))
+
+    -- of all things only globals and strings are in memory
+    only : (t : Thing) (i : ℕ) → There w l z t → word_of w l z t ≡ Some i → IsGlobal t i ⊎ IsString t i
+    only (InCell Globals o c) i there at = inl (o, c, refl, there, global_word o c i at)
     only (InCell Frames o c) i there at = absurd (none_some at)
     only (InCell Heap o c) i there at = absurd (none_some at)
-    only (InCell Strings o c) i there at = absurd (none_some at)
+    only (InCell Strings o c) i there at = inr (o, c, refl, there, string_word o c i at)
     only (TagOf o) i there at = absurd (none_some at)
     only (Constant k) i there at = absurd (none_some there.1)
+
+    -- where a string's cell is, there are strings
+    some_strings : (xs : List (List ℕ)) (o c : ℕ) → c < slice_index (map length (string_cells xs)) o → not (is_empty xs) ≡ true
+    some_strings [] o c lt = absurd (omega (arith, lt))
+    some_strings (x ∷ xs) o c lt = refl
+
+    globals_below : (t : Thing) (i : ℕ) → IsGlobal t i → i < data_word + sum global_sizes
+    globals_below t i a = let e = a.4 in let lt = start_below global_sizes a.0 a.1 a.3 in omega (arith, e, lt)
+
+    strings_from : (t : Thing) (i : ℕ) → IsString t i → (data_word + sum global_sizes ≤ i) × (8 * i + 8 ≤ data_base + (globals_room p (in_cells p.types) + length constants))
+    strings_from t i a =
+        let e = a.4 in
+        let lt = start_below string_sizes a.0 a.1 a.3 in
+        let all_are = all_characters texts in
+        let stand = strings (some_strings texts a.0 a.1 a.3) in
+        let long = ap (λ (bs : List ℕ). length bs) stand.same ∙ length_constants p data_base texts in
+        (omega (arith, e), omega (arith, e, lt, all_are, long, room))
+
+    things_apart : (t u : Thing) (i : ℕ) → IsGlobal t i ⊎ IsString t i → IsGlobal u i ⊎ IsString u i → t ≡ u
+    things_apart t u i (inl a) (inl b) =
+        let e = a.4 in let f = b.4 in
+        let g = start_apart global_sizes a.0 a.1 b.0 b.1 a.3 b.3 (omega (arith, e, f)) in
+        a.2 ∙ ap₂ (λ o c. InCell Globals o c) g.0 g.1 ∙ sym b.2
+    things_apart t u i (inr a) (inr b) =
+        let e = a.4 in let f = b.4 in
+        let g = start_apart string_sizes a.0 a.1 b.0 b.1 a.3 b.3 (omega (arith, e, f)) in
+        a.2 ∙ ap₂ (λ o c. InCell Strings o c) g.0 g.1 ∙ sym b.2
+    things_apart t u i (inl a) (inr b) = let lt = globals_below t i a in let le = (strings_from u i b).0 in absurd (omega (arith, lt, le))
+    things_apart t u i (inr a) (inl b) = let lt = globals_below u i b in let le = (strings_from t i a).0 in absurd (omega (arith, lt, le))
+
+    thing_covered : (t : Thing) (i : ℕ) → IsGlobal t i ⊎ IsString t i → covered w.areas (8 * i) 8 ≡ true
+    thing_covered t i (inl a) =
+        let e = a.4 in let lt = start_below global_sizes a.0 a.1 a.3 in
+        data_covered (globals_room p (in_cells p.types)) constants input small are i 1 (omega (arith, e)) (omega (arith, e, lt, room))
+    thing_covered t i (inr a) = let x = strings_from t i a in let low = x.0 in let high = x.1 in
+        data_covered (globals_room p (in_cells p.types)) constants input small are i 1 (omega (arith, low)) (omega (arith, high))
+
+    thing_below : (t : Thing) (i : ℕ) → IsGlobal t i ⊎ IsString t i → i < local_word
+    thing_below t i (inl a) = let lt = globals_below t i a in omega (arith, lt, few)
+    thing_below t i (inr a) = let high = (strings_from t i a).1 in omega (arith, high, small)
+
+    -- a character's word
+    character_word : (k c i : ℕ) → StringsStand p constants → slice_get (characters texts) k ≡ Some c → i ≡ behind + k → 8 * i + 8 ≤ data_base + (globals_room p (in_cells p.types) + length constants) → word m i ≡ c
+    character_word k c i stand is at high =
+        let own = own_constants p (in_cells p.types) data_base in
+        let place : 8 * i - data_base ≡ globals_room p (in_cells p.types) + (128 * length p.types.records + 8 * k) = omega (arith, at, room) in
+        let long : length {A = ℕ} (replicate (globals_room p (in_cells p.types)) 0 ++ constants) ≡ globals_room p (in_cells p.types) + length constants = length-append (replicate (globals_room p (in_cells p.types)) 0) constants ∙ ap (λ n. n + length constants) (length-replicate {A = ℕ} (globals_room p (in_cells p.types)) 0) in
+        let within_data = lies_here (globals_room p (in_cells p.types)) constants input small are (record { base = data_base; bytes = replicate (globals_room p (in_cells p.types)) 0 ++ constants }) (8 * i) 8 (omega (arith, at)) (omega (arith, high, long)) in
+        ap (from_le_bytes w64) (ap (λ t. cond t (slab (replicate (globals_room p (in_cells p.types)) 0 ++ constants) (8 * i - data_base) 8) (bytes_at (zeroed local_base local_bytes ∷ zeroed heap_base heap_bytes ∷ []) (8 * i) 8)) within_data
+        ∙ ap (λ cs. slab (replicate (globals_room p (in_cells p.types)) 0 ++ cs) (8 * i - data_base) 8) stand.same
+        ∙ character_at p data_base (globals_room p (in_cells p.types)) texts k c (8 * i - data_base) is place)
+        ∙ character_number p data_base c
 
     pub first_held : Held w l (start p input) m
     first_held = record {
       room = record {
-        apart = λ t u i one two at by.
-            let a = only t i one at in let b = only u i two by in
-            let e = a.4 in let f = b.4 in
-            let g = start_apart global_sizes a.0 a.1 b.0 b.1 a.3 b.3 (omega (arith, e, f)) in
-            a.2 ∙ ap₂ (λ o c. InCell Globals o c) g.0 g.1 ∙ sym b.2;
-        lies = λ t i there at.
-            let a = only t i there at in let e = a.4 in let lt = start_below global_sizes a.0 a.1 a.3 in
-            data_covered (globals_room p (in_cells p.types)) constants input small are i 1 (omega (arith, e)) (omega (arith, e, lt, room));
-        below = λ t i there at. let a = only t i there at in let e = a.4 in let lt = start_below global_sizes a.0 a.1 a.3 in inl (omega (arith, e, lt, few));
+        apart = λ t u i one two at by. things_apart t u i (only t i one at) (only u i two by);
+        lies = λ t i there at. thing_covered t i (only t i there at);
+        below = λ t i there at. inl (thing_below t i (only t i there at));
         heap_ends = omega arith;
         heap_covered = λ i low high. heap_covered (globals_room p (in_cells p.types)) constants input small are i low high;
         local_begins = omega arith;
@@ -268,14 +335,7 @@ module _ (p : Program) (input : List ℕ) where
       areas = refl;
       rises = first_rises (globals_room p (in_cells p.types)) constants input small are;
       bytes = first_bytes (globals_room p (in_cells p.types)) constants input small are;
-      holds = λ a o c i v is at.
-          let b = only (InCell a o c) i (there_cell (start p input) a o c v is) at in
-          let e = b.4 in let lt = start_below global_sizes b.0 b.1 b.3 in
-          let zero = first_value a o c i v is at in
-          subst (λ v. ValueIs w z v (word m i)) (sym zero)
-          (subst (λ i. ValueIs w z (Bits 0) (word m i)) (sym e ∙ refl)
-          (let k = global_word_zero (globals_room p (in_cells p.types)) constants input small are (start_of global_sizes b.0 + b.1) (omega (arith, lt, room)) in
-          (ap (word m) (assoc data_word (start_of global_sizes b.0) b.1) ∙ k, omega arith)));
+      holds = first_holds;
       tags = λ o t i is at. absurd (none_some is);
       constants = λ i x e. absurd (none_some e);
       tagged = refl;
@@ -286,8 +346,20 @@ module _ (p : Program) (input : List ℕ) where
         assoc : (a b c : ℕ) → a + b + c ≡ a + (b + c)
         assoc a b c = omega arith
 
-        first_value : (a : Kind) (o c i : ℕ) (v : Cell) → cell_of (objects a (start p input)) o c ≡ Some v → word_at w l z a o c ≡ Some i → v ≡ Bits 0
-        first_value Globals o c i v is at = global_zero o c v is
-        first_value Frames o c i v is at = absurd (none_some at)
-        first_value Heap o c i v is at = absurd (none_some at)
-        first_value Strings o c i v is at = absurd (none_some at)
+        first_holds : (a : Kind) (o c i : ℕ) (v : Cell) → cell_of (objects a (start p input)) o c ≡ Some v → word_at w l z a o c ≡ Some i → ValueIs w z v (word m i)
+        first_holds Globals o c i v is at =
+            let there = there_cell (start p input) Globals o c v is in
+            let e = global_word o c i at in
+            let lt = start_below global_sizes o c there in
+            let k = global_word_zero (globals_room p (in_cells p.types)) constants input small are (start_of global_sizes o + c) (omega (arith, lt, room)) in
+            subst (λ v. ValueIs w z v (word m i)) (sym (global_zero o c v is)) (ap (word m) (e ∙ assoc data_word (start_of global_sizes o) c) ∙ k, omega arith)
+        first_holds Frames o c i v is at = absurd (none_some at)
+        first_holds Heap o c i v is at = absurd (none_some at)
+        first_holds Strings o c i v is at =
+            let there = there_cell (start p input) Strings o c v is in
+            let e = string_word o c i at in
+            let x = cell_is texts o c v is in
+            let high = (strings_from (InCell Strings o c) i (o, c, refl, there, e)).1 in
+            let word_is = character_word (start_of string_sizes o + c) x.0 i (strings (some_strings texts o c there)) x.2 e high in
+            let low = loaded8_lt m (8 * i) (first_bytes (globals_room p (in_cells p.types)) constants input small are) in
+            subst (λ v. ValueIs w z v (word m i)) (sym x.1) (word_is, omega (arith, word_is, low))

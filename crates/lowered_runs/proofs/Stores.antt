@@ -60,7 +60,7 @@ size_at [] o = refl
 size_at (cs ∷ all) zero = refl
 size_at (cs ∷ all) (suc o) = size_at all o
 
-get_below : {A : Type 0} (xs : List A) (i : ℕ) (x : A) → slice_get xs i ≡ Some x → i < length xs
+pub get_below : {A : Type 0} (xs : List A) (i : ℕ) (x : A) → slice_get xs i ≡ Some x → i < length xs
 get_below [] i x e = absurd (cc)
 get_below (y ∷ xs) zero x e = omega arith
 get_below (y ∷ xs) (suc i) x e = let h = get_below xs i x e in omega (arith, h)
@@ -77,7 +77,7 @@ there_cell s a o c v is =
     let lt = get_below (slice_index_or (objects a s) o []) c v is in
     omega (arith, e, lt)
 
-map_length : {A : Type 0} (all : List (List A)) → length (map length all) ≡ length all
+pub map_length : {A : Type 0} (all : List (List A)) → length (map length all) ≡ length all
 map_length [] = refl
 map_length (cs ∷ all) = ap suc (map_length all)
 

@@ -1,19 +1,21 @@
 -- The recursion on the checked tree.
-use Rattle.std.proofs.Common.{◌≡◌, ℕ, zero, suc, ◌+◌, ◌*◌, ◌<◌, ◌≤◌, ◌^◌, ◌⊎◌, inl, inr, List, [], ◌∷◌, length, take, Bool, true, false, not, cond, ◌&&◌, slice_get, refl, sym, ap, ◌∙◌, subst, arith, Option, Some, None, eqb-true, eq-eqb}
+use Rattle.std.proofs.Common.{◌≡◌, ℕ, zero, suc, ◌+◌, ◌*◌, ◌<◌, ◌≤◌, ◌^◌, inl, inr, List, [], ◌∷◌, length, take, Bool, true, false, not, cond, ◌&&◌, slice_get, refl, sym, ap, ◌∙◌, subst, arith, Option, Some, None, eqb-true, eq-eqb}
 use Rattle.std.specs.Prelude.{◌-◌, ◌||◌, ◌==◌, nat_lt, slice_index_or, if◌then◌else◌}
 use Rattle.run_laws.specs.Turns.{Ending, Gives, Fails, Spent, after, ◌>>=◌, give}
 use Rattle.run_laws.specs.Turns.{State as Moment}
-use Rattle.ob_types.specs.Forms.{Form, Truth, Small, Number, Exactly, forms, joined, all, types_fine}
-use Rattle.ob_types.specs.Layout.{kind_of, cells, cells_of_all}
-use Rattle.ob_types.specs.Store.{Cell, Bits, Globals, Frames, Handed, At as Addressed, Senseless, Act, given, place, bits, bits_in, Trap}
+use Rattle.ob_types.specs.LegalTypes.{is_record_type}
+use Rattle.std.proofs.lemmas.Bool.Decides.{nat_tests}
+use Rattle.ob_types.specs.Forms.{Form, Zero, Truth, Small, Number, ToRecord, Exactly, Routines, forms, joined, all, types_fine}
+use Rattle.ob_types.specs.Layout.{kind_of, signature_of, cells, record_cells, cells_of_all}
+use Rattle.ob_types.specs.Store.{Cell, Bits, Globals, Frames, Strings, Handed, At as Addressed, Sized, Tagged, Value, Act, given, place, bits, bits_in, Trap}
 use Rattle.ob_types.specs.Store.{Store as Objects, Here as Running}
 use Rattle.ob_types.specs.Operators.{holds, truth, unary_of}
 use Rattle.ob_types.specs.Expressions.{Calls, one_operand, both}
 use Rattle.ob_types.specs.Expressions.{either as or_else}
 use Rattle.ob_types.specs.Statements.{Deed, test, try, otherwise}
-use Rattle.ob_types.specs.Meaning.{procedure_of, globals_of, value, linked, link, designated, base_of, called, argument, arguments, answer, effect, effects, effects_of, branches, kind_in, is_byte}
+use Rattle.ob_types.specs.Meaning.{procedure_of, globals_of, texts_of, text_number, value, linked, link, designated, base_of, called, argument, arguments, answer, effect, effects, effects_of, branches, kind_in, record_of_kind, element_kind, is_byte}
 use Rattle.ob_types.specs.WellFormed
-use Rattle.ob_types.specs.WellFormed.{Named as Thing, Cells, Of, OpenOf, Dynamic, Characters, provided, with_some, holds_of, gives_number, is_number}
+use Rattle.ob_types.specs.WellFormed.{Named as Thing, Cells, Of, OpenOf, Dynamic, Characters, pointed, provided, with_some, holds_of, gives_number, is_number}
 use Rattle.ob_types.specs.declared.tree.Unary.{Unary}
 use Rattle.ob_types.specs.declared.tree.Unary.TheVariants.{Negate, Complement, Not, Abs, Odd}
 use Rattle.ob_types.specs.declared.tree.Binary.TheVariants.{Add, Subtract, Union, Difference}
@@ -31,31 +33,34 @@ use Rattle.ob_sound.proofs.Typed.{Sound, Any, HasForm, Older}
 use Rattle.ob_sound.proofs.Constructs.{Means, with_is, holds_is}
 use Rattle.ob_sound.proofs.Typed.{provided_is, lt_of}
 use Rattle.ob_sound.proofs.Tables.{cells_length, scalar_forms}
-use Rattle.ob_sound.proofs.Handing.{CallsSound, AllTaken, all_taken_older, Answers}
+use Rattle.ob_sound.proofs.Handing.{CallsSound, AllTaken, all_taken_older, Answers, through_is, parameter_names, open_parts}
+use Rattle.ob_sound.proofs.Handing.{taken_at as taken_of}
 use Rattle.ob_types.proofs.WellFormedParts.{step_small}
 use Rattle.ob_sound.proofs.Constructs.{or_split}
 use Rattle.ob_sound.proofs.Tree.{t_call, t_arguments}
-use Rattle.lowered_runs.proofs.Calls.{AnswerIs, Stacked, Calling, OneWord, WordsAre, follows_by_value, follows_by_place, follows_no_words, follows_words, follows_called, follows_called_only, follows_result_of}
-use Rattle.lowered_runs.proofs.Follows.{follows_then, grows_give}
-use Rattle.lowered_runs.proofs.Designators.{grows_address, follows_address}
+use Rattle.lowered_runs.proofs.Calls.{AnswerIs, Stacked, Calling, OneWord, WordsAre, follows_by_value, follows_by_place, follows_by_record, follows_by_open, follows_no_words, follows_words, follows_called, follows_called_only, follows_called_value, follows_called_value_only, follows_result_of}
+use Rattle.lowered_runs.proofs.Follows.{Fact, follows_then, grows_give}
+use Rattle.lowered_runs.proofs.Designators.{RowIs, grows_address, follows_address}
 use Rattle.ob_types.specs.declared.types.Formal.{Formal}
 use Rattle.ob_types.specs.declared.types.Mode.{Mode}
 use Rattle.ob_types.specs.declared.types.Mode.TheVariants.{Place}
 use Rattle.ob_types.specs.declared.types.Mode.TheVariants.{Value as OfValue, Record as OfRecord, Open as OfOpen}
 use Rattle.ob_types.specs.declared.tree.Call.{Call, Direct', Indirect', Row_of-Argument, end_of-Argument, more_of-Argument}
 use Rattle.ob_types.specs.declared.tree.Argument.{Argument, ByValue, ByPlace, ByRecord, ByOpen}
-use Rattle.ob_types.specs.Expressions.{by_value, by_place, result_of}
-use Rattle.ssa_lowered.specs.Values.{by_word, address, with_result, without_result}
-use Rattle.ob_types.specs.WellFormed.{record_by, has_branch}
+use Rattle.ob_types.specs.Expressions.{by_value, by_place, by_record, by_open, with_tag, result_of}
+use Rattle.ssa_lowered.specs.Values.{by_word, address, with_result, without_result, home_of}
+use Rattle.ssa_lowered.specs.Values.{by_record as lower_record, by_open as lower_open, address_in as lower_address}
+use Rattle.ssa_lowered.specs.Values.{load as lower_load}
+use Rattle.ob_types.specs.WellFormed.{record_by, open_element, has_branch, Elementary, OfType, Letter}
 use Rattle.ob_sound.proofs.Deeds.{takes_is, given_is}
-use Rattle.ob_sound.proofs.Tree.{t_value, t_link, t_effect}
-use Rattle.ssa_lowered.specs.Data.{Layout, global_at}
+use Rattle.ob_sound.proofs.Tree.{t_base, t_select, t_value, t_link, t_effect}
+use Rattle.ssa_lowered.specs.Data.{Layout, global_at, descriptor_at, text_at, within}
 use Rattle.ssa_lowered.specs.Pieces.{Low, Mask}
 use Rattle.ssa_lowered.specs.Control.{Lowers, Round, fork_and, fork_or, fork_value}
 use Rattle.ssa_lowered.specs.Variables.{is_structured, either, none, origin, itself as whole_of, assigned, assigned_all, assigned_branches, words_of, lent, lent_links, lent_link, lent_at, lent_whole, lent_by_first, lent_selectors, lent_selector, lent_call, lent_as, lent_in, lent_by, lent_by_all, lent_by_branches, lent_by_list, lent_by_answer}
-use Rattle.ssa_lowered.specs.Lowered.{Here, in_register, variable_of, local_by, parameter_by, by_mode, based, named, expr, link as lower_link, linked as lower_linked, called as lower_called, argument as lower_argument, arguments as lower_arguments, answer as lower_answer, home, registers, deed, deeds, deeds_of, one_of, alternatives, guarded_rounds}
+use Rattle.ssa_lowered.specs.Lowered.{Here, in_register, variable_of, local_by, parameter_by, by_mode, based, descriptor, named, small, expr, link as lower_link, linked as lower_linked, called as lower_called, argument as lower_argument, arguments as lower_arguments, answer as lower_answer, home, registers, deed, deeds, deeds_of, one_of, alternatives, guarded_rounds}
 use Rattle.lowered_runs.specs.Words.{Whole, Level, Right, local, Apart}
-use Rattle.lowered_runs.specs.Covered.{is_simple, has_length, part_covered, base_has_parts, selectors_covered, selector_covered, is_fixed, base_covered, designator_covered, expr_covered, links_covered, link_covered, call_covered, argument_covered, arguments_covered, checked_covered, covered, row_covered, branches_covered, answer_covered}
+use Rattle.lowered_runs.specs.Covered.{part_covered, base_has_parts, selectors_covered, selector_covered, is_fixed, designator_covered, expr_covered, links_covered, link_covered, call_covered, argument_covered, arguments_covered, checked_covered, covered, row_covered, branches_covered, answer_covered}
 use Rattle.block_runs.specs.declared.end.End.TheVariants.{Trap as Trap_end}
 use Rattle.ob_types.specs.Operators.{label_has, labels_have}
 use Rattle.ob_types.specs.Statements.{case as case_of_value}
@@ -72,14 +77,14 @@ use Rattle.lowered_runs.proofs.Cases.{bodies_known, first_of, parts_of, Matched,
 use Rattle.lowered_runs.proofs.Labels.{Known, known_steady, labels_any, rungs_same, all_labels_say, trap_otherwise}
 use Rattle.std.proofs.Common.{map, ap₂}
 use Rattle.lowered_runs.proofs.Levels.{layout, here, running, locals, LocalIs, Variables, Given, steady_given}
-use Rattle.lowered_runs.proofs.Follows.{Steady, Follows, FollowsTo, follows_bind, follows_seen, follows_give, follows_sound, follows_known, follows_less, follows_mask}
+use Rattle.lowered_runs.proofs.Follows.{And as Both, Steady, steady_and, Follows, FollowsTo, follows_bind, follows_seen, follows_give, follows_sound, follows_known, follows_less, follows_mask}
 use Rattle.lowered_runs.proofs.Exprs.{CellIs, follows_literal, follows_routine, follows_unary, follows_binary}
 use Rattle.lowered_runs.proofs.Sets.{follows_same, follows_contained, follows_element, follows_range, follows_byte, follows_compared}
 use Rattle.lowered_runs.proofs.Forks.{nothing, No_more, after_after, Forks, forks_value, forks_branch, forks_not, forks_and, forks_or, forks_as}
 use Rattle.lowered_runs.proofs.Structures.{Always, forks_test, follows_choose, Rounded, rounds_none, rounds_less, rounds_more, follows_loop, follows_until}
 use Rattle.lowered_runs.proofs.Homes.{HomeIs, follows_load, follows_assign}
-use Rattle.lowered_runs.proofs.Designators.{is_single, row_of, NamedIs, follows_home, follows_data, follows_register, follows_local}
-use Rattle.lowered_runs.proofs.Elements.{follows_element_place, follows_field_place, follows_length}
+use Rattle.lowered_runs.proofs.Designators.{row_of, is_single, NamedIs, SecondFits, DesignatorIs, steady_designator, only_named, follows_home, follows_data, follows_register, follows_local}
+use Rattle.lowered_runs.proofs.Elements.{SpanIs, span_by, follows_known_span, follows_open_span, follows_element_place, follows_field_place, follows_length}
 use Rattle.ob_types.specs.Meaning.{length_of_kind}
 use Rattle.ob_types.specs.Expressions.{length_of}
 use Rattle.ssa_lowered.specs.Values.{length_of as lower_length}
@@ -89,14 +94,20 @@ use Rattle.ob_types.specs.declared.types.TypeKind.TheVariants.{Record as RecordO
 use Rattle.ob_types.specs.Layout.{record_of, types_of, field_place, extends}
 use Rattle.ob_types.specs.Forms.{record_forms}
 use Rattle.ob_sound.proofs.Typed.{in_length}
-use Rattle.ob_sound.proofs.Constructs.{record_is}
+use Rattle.ob_sound.proofs.Constructs.{record_is, p_of, pointed_is, letter_forms}
 use Rattle.ob_types.specs.declared.tree.Designator.{Row_of-Selector, end_of-Selector, more_of-Selector}
 use Rattle.ob_types.specs.declared.tree.Selector.{Selector, Index, Field, Dereference, Narrow}
-use Rattle.ob_sound.proofs.Typed.{element_is}
-use Rattle.ob_sound.proofs.Tables.{array_forms, length_repeated, whole_forms, field_at, prefix}
+use Rattle.ob_sound.proofs.Typed.{Names, NamesOf, names_older, element_is, element_forms}
+use Rattle.ob_sound.proofs.Constructs.{element_same}
+use Rattle.ob_sound.proofs.Tables.{array_forms, length_repeated, whole_forms, field_at, prefix, record_cells_length, extends_trans}
 use Rattle.ssa_lowered.specs.Lowered.{selected as lower_selected, select as lower_select}
 use Rattle.ssa_lowered.specs.Values.{Named}
 use Rattle.lowered_runs.proofs.Input.{follows_in_char}
+use Rattle.lowered_runs.proofs.Texts.{NamedText, follows_out_string}
+use Rattle.lowered_runs.proofs.Comparing.{follows_texts_compared}
+use Rattle.lowered_runs.proofs.Pointers.{follows_object, follows_new}
+use Rattle.lowered_runs.proofs.Copies.{Reaches, follows_copy_record, follows_copy_array}
+use Rattle.lowered_runs.specs.Covered.{lengths_fit}
 use Rattle.ob_types.specs.Statements.{done}
 use Rattle.ob_sound.proofs.Deeds.{done_formed}
 use Rattle.lowered_runs.proofs.Bounds.{load_is, assign_is, step_is, follows_for}
@@ -104,7 +115,7 @@ use Rattle.wrapping_numbers.proofs.Wrapping.{add64_lt}
 use Rattle.wrapping_numbers.specs.Numbers.{add64, signed, unsigned}
 use Rattle.block_runs.specs.Compares.{compares}
 use Rattle.std.specs.Prelude.{int_lt, int_le, pos}
-use Rattle.ob_types.specs.Store.{Address, fetch, put, can_write}
+use Rattle.ob_types.specs.Store.{Address, fetch, put, can_write, address_in}
 use Rattle.ob_types.specs.Expressions.{load, two_operands}
 use Rattle.ob_types.specs.Statements.{assign}
 use Rattle.ob_sound.proofs.Typed.{Good, Formed, s_bind, s_older, s_put, form_older}
@@ -140,7 +151,7 @@ regroup_mask true false b c h = h
 regroup_mask false a b c h = no h
 
 module _ (w : Whole) (l : Level) (right : Right w) (apart : Apart l) (vars : Variables w l) (good : types_fine w.program.types ≡ true) (calls : Calls) (sound : CallsSound w.program good calls)
-    (frame : slice_index_or l.forms l.frame [] ≡ joined (forms w.program.types) (locals w l)) (taken : AllTaken w.program good l.forms l.store.tags (procedure_of w.program l.proc).formals l.arguments) (stacked : Stacked l) (simple : all (λ x. is_simple x.mode) (procedure_of w.program l.proc).formals ≡ true) (fuel : ℕ) (calling : Calling w good fuel calls) where
+    (frame : slice_index_or l.forms l.frame [] ≡ joined (forms w.program.types) (locals w l)) (taken : AllTaken w.program good l.forms l.store.tags (procedure_of w.program l.proc).formals l.arguments) (stacked : Stacked l) (fuel : ℕ) (calling : Calling w good fuel calls) where
   abbrev p : Program
   p = w.program
 
@@ -179,17 +190,31 @@ module _ (w : Whole) (l : Level) (right : Right w) (apart : Apart l) (vars : Var
 
   ---- Designators
 
-  pub base_is : {mask : Mask} (b : Base) (n : Thing) → WellFormed.base_named p l.proc b ≡ Some n → base_covered b ≡ true → Follows w l 0 fuel mask (Given w l) (NamedIs w l (origin b) n) (base_of p calls runs b) (based p lay mine b)
-  base_is {mask} Done n is ok = subst (λ n. Follows w l 0 fuel mask (Given w l) (NamedIs w l none n) (base_of p calls runs Done) (based p lay mine Done)) (some_same (Cells Truth false) n is)
-      (follows_data w l none (Cells Truth false) (record { area = Globals; object = 0; cell = 0 }) 0 steady vars.done)
-  base_is {mask} (Global m v) n is ok =
+  -- what goes with an address is as its name says
+  names_second : (n : Thing) (h : Handed) (tags : List ℕ) → Names p l.forms tags n h → SecondFits w l n h
+  names_second (Cells f may) h tags x = tt
+  names_second (Of k may) h tags x = tt
+  names_second (Characters m) h tags x = tt
+  names_second (OpenOf e may) (Sized a k) tags x = x.2
+  names_second (Dynamic r) (Tagged a t) tags x = x.1
+  names_second (OpenOf e may) _ tags x = absurd x
+  names_second (Dynamic r) _ tags x = absurd x
+
+  -- with a variable's address nothing goes
+  of_variable : {mask own : Mask} {d : Act Handed} {low : Low Named} (k : ℕ) (may : Bool) → Follows w l 0 fuel mask (Given w l) (NamedIs w l own (Of k may)) d low → Follows w l 0 fuel mask (Given w l) (DesignatorIs w l own (Of k may)) d low
+  of_variable k may one = follows_less w l (λ h v n f s known. (known, tt)) one
+
+  pub base_is : {mask : Mask} (b : Base) (n : Thing) → WellFormed.base_named p l.proc b ≡ Some n → Follows w l 0 fuel mask (Given w l) (DesignatorIs w l (origin b) n) (base_of p calls runs b) (based p lay mine b)
+  base_is {mask} Done n is = subst (λ n. Follows w l 0 fuel mask (Given w l) (DesignatorIs w l none n) (base_of p calls runs Done) (based p lay mine Done)) (some_same (Cells Truth false) n is)
+      (follows_less w l (λ h v n f s k. (k, tt)) (follows_data w l none (Cells Truth false) (record { area = Globals; object = 0; cell = 0 }) 0 steady vars.done))
+  base_is {mask} (Global m v) n is =
       let z = with_is p good (slice_get (globals_of p m) v) (λ k. Some (Of k true)) n is in
-      subst (λ n. Follows w l 0 fuel mask (Given w l) (NamedIs w l none n) (base_of p calls runs (Global m v)) (based p lay mine (Global m v))) (some_same (Of z.0 true) n z.2)
-      (follows_data w l none (Of z.0 true) (record { area = Globals; object = suc m; cell = cells_of_all p.types (take v (globals_of p m)) }) (global_at p lay m v) steady (vars.global m v z.0 z.1))
-  base_is {mask} (Local x) n is ok =
+      subst (λ n. Follows w l 0 fuel mask (Given w l) (DesignatorIs w l none n) (base_of p calls runs (Global m v)) (based p lay mine (Global m v))) (some_same (Of z.0 true) n z.2)
+      (of_variable z.0 true (follows_data w l none (Of z.0 true) (record { area = Globals; object = suc m; cell = cells_of_all p.types (take v (globals_of p m)) }) (global_at p lay m v) steady (vars.global m v z.0 z.1)))
+  base_is {mask} (Local x) n is =
       let z = with_is p good (slice_get (locals w l) x) (λ k. Some (Of k true)) n is in
-      subst (λ n. Follows w l 0 fuel mask (Given w l) (NamedIs w l (origin (Local x)) n) (base_of p calls runs (Local x)) (based p lay mine (Local x))) (some_same (Of z.0 true) n z.2)
-      (subst (λ c. Follows w l 0 fuel mask (Given w l) (NamedIs w l (origin (Local x)) (Of z.0 true)) (give (Addressed (record { area = Frames; object = l.frame; cell = c }))) (based p lay mine (Local x))) (vars.cell x) (by z.0 (vars.local x z.0 z.1) (below (locals w l) x z.0 z.1)))
+      subst (λ n. Follows w l 0 fuel mask (Given w l) (DesignatorIs w l (origin (Local x)) n) (base_of p calls runs (Local x)) (based p lay mine (Local x))) (some_same (Of z.0 true) n z.2)
+      (of_variable z.0 true (subst (λ c. Follows w l 0 fuel mask (Given w l) (NamedIs w l (origin (Local x)) (Of z.0 true)) (give (Addressed (record { area = Frames; object = l.frame; cell = c }))) (based p lay mine (Local x))) (vars.cell x) (by z.0 (vars.local x z.0 z.1) (below (locals w l) x z.0 z.1))))
     where
       below : (xs : List ℕ) (x k : ℕ) → slice_get xs x ≡ Some k → x < length xs
       below [] x k e = none_some k e
@@ -203,16 +228,16 @@ module _ (w : Whole) (l : Level) (right : Right w) (apart : Apart l) (vars : Var
       by k (inr h) lt =
           subst (λ site. Follows w l 0 fuel mask (Given w l) (NamedIs w l (origin (Local x)) (Of k true)) (give (Addressed (local l x))) (local_by p lay mine site x)) (sym h.1)
           (follows_local w l (origin (Local x)) (Of k true) (local l x) (mine.bytes - h.0) steady h.3)
-  base_is {mask} (Parameter k) n is ok =
+  base_is {mask} (Parameter k) n is =
       let z = with_is p good (slice_get (procedure_of p l.proc).formals k) (λ x. WellFormed.parameter_by p x.mode x.type_number x.variable) n is in
-      subst (λ o. Follows w l 0 fuel mask (Given w l) (NamedIs w l none n) (given (slice_get l.arguments k)) (parameter_by o (words_of (take k (procedure_of p l.proc).formals)))) (sym z.1)
-      (follows_seen w l (by_mode z.0.mode (words_of (take k (procedure_of p l.proc).formals))) (λ v f s m held typed known. by z.0 n z.1 z.2 v f s known (slice_get l.arguments k) refl))
-    where
-      by : (x : _) (n : Thing) → slice_get (procedure_of p l.proc).formals k ≡ Some x → WellFormed.parameter_by p x.mode x.type_number x.variable ≡ Some n → (v : ℕ) (f : ℕ → ℕ) (s : Moment Objects) → Given w l v f s.store → (o : Option Handed) → slice_get l.arguments k ≡ o
-          → ((h : Handed) × (given (slice_get l.arguments k) s ≡ Gives h s) × NamedIs w l none n h (by_mode x.mode (words_of (take k (procedure_of p l.proc).formals))) v f s.store) ⊎ (given (slice_get l.arguments k) s ≡ Fails Senseless s.out)
-      by x n at is v f s known None e = inr (ap (λ o. given o s) e)
-      by x n at is v f s known (Some h) e = inl (h, ap (λ o. given o s) e, known k x h n at e is)
-  base_is (Text k) n is ok = no ok
+      let t = taken_of p good l.forms l.store.tags (procedure_of p l.proc).formals l.arguments taken k z.0 z.1 in
+      let second = names_second n t.0 l.store.tags (parameter_names p good l.forms l.store.tags z.0.mode z.0.type_number z.0.variable t.0 n z.2 t.2) in
+      subst (λ o. Follows w l 0 fuel mask (Given w l) (DesignatorIs w l none n) (given (slice_get l.arguments k)) (parameter_by o (words_of (take k (procedure_of p l.proc).formals)))) (sym z.1)
+      (follows_seen w l (by_mode z.0.mode (words_of (take k (procedure_of p l.proc).formals))) (λ v f s m held typed known. inl (t.0, ap (λ o. given o s) t.1, (known k z.0 t.0 n z.1 t.1 z.2, second))))
+  base_is {mask} (Text k) n is =
+      let z = with_is p good (slice_get (texts_of p.procedures) (text_number p l.proc k)) (λ xs. Some (Characters (suc (length xs)))) n is in
+      subst (λ n. Follows w l 0 fuel mask (Given w l) (DesignatorIs w l none n) (base_of p calls runs (Text k)) (based p lay mine (Text k))) (some_same (Characters (suc (length z.0))) n z.2)
+      (follows_less w l (λ h v n f s known. (known, tt)) (follows_data w l none (Characters (suc (length z.0))) (record { area = Strings; object = text_number p l.proc k; cell = 0 }) (within (text_at p lay (text_number p l.proc k))) steady (vars.text (text_number p l.proc k) z.0 z.1)))
 
   -- a scalar has a cell
   scalar_row : (n : Thing) (f : Form) → WellFormed.scalar_in p n ≡ Some f → (h : Handed) → 1 ≤ row_of w l n h
@@ -230,10 +255,10 @@ module _ (w : Whole) (l : Level) (right : Right w) (apart : Apart l) (vars : Var
   -- behind selectors that are covered there is nothing where there was nothing
   selected_none : {m : _} (row : Row_of-Selector m) (n : Thing) → selectors_covered row ≡ true → WellFormed.selected_named p l.proc row None ≡ Some n → ⊥
   selected_none end_of-Selector n ok is = none_some n is
-  selected_none (more_of-Selector (Index (Some i) k x) rest) n ok is = selected_none rest n (and_of (expr_covered x) (selectors_covered rest) ok).1 is
-  selected_none (more_of-Selector (Index None k x) rest) n ok is = no ok
+  selected_none (more_of-Selector (Index i k x) rest) n ok is = selected_none rest n (and_of (expr_covered x) (selectors_covered rest) ok).1 is
   selected_none (more_of-Selector (Field r f) rest) n ok is = selected_none rest n ok is
-  selected_none (more_of-Selector (Dereference rs) rest) n ok is = no ok
+  selected_none (more_of-Selector (Dereference []) rest) n ok is = selected_none rest n ok is
+  selected_none (more_of-Selector (Dereference (r ∷ rs)) rest) n ok is = no ok
   selected_none (more_of-Selector (Narrow r) rest) n ok is = no ok
 
   selected_some : {m : _} (row : Row_of-Selector m) (o : Option Thing) (n : Thing) → selectors_covered row ≡ true → WellFormed.selected_named p l.proc row o ≡ Some n → (t : Thing) × (o ≡ Some t)
@@ -245,104 +270,106 @@ module _ (w : Whole) (l : Level) (right : Right w) (apart : Apart l) (vars : Var
   array_cells k n e is =
       cells_length p.types k ∙ ap (λ (xs : List Form). length xs) (array_forms p.types good k n e is) ∙ length_repeated n (forms p.types e) ∙ ap (λ m. n * m) (sym (cells_length p.types e))
 
-  -- what a part is
-  abbrev PartIs : Mask → Bool → Thing → Act Handed → Low Named → Type 0
-  PartIs mask may t d low = (k : ℕ) × (t ≡ Of k may) × Follows w l 0 fuel mask (Given w l) (NamedIs w l none (Of k may)) d low
-
   part_some : {m : _} (row : Row_of-Selector m) (o : Option Thing) (n : Thing) → part_covered row ≡ true → WellFormed.selected_named p l.proc row o ≡ Some n → (t : Thing) × (o ≡ Some t)
   part_some row (Some t) n ok is = (t, refl)
   part_some end_of-Selector None n ok is = no ok
   part_some (more_of-Selector s rest) None n ok is = absurd (selected_none (more_of-Selector s rest) n ok is)
 
-  parts_base : (b : Base) (n : Thing) → base_has_parts b ≡ true → WellFormed.base_named p l.proc b ≡ Some n → (k : ℕ) × (may : Bool) × (n ≡ Of k may) × (base_covered b ≡ true)
-  parts_base (Global m v) n ok is = let z = with_is p good (slice_get (globals_of p m) v) (λ k. Some (Of k true)) n is in (z.0, true, sym (some_same (Of z.0 true) n z.2), refl)
-  parts_base (Local x) n ok is = let z = with_is p good (slice_get (locals w l) x) (λ k. Some (Of k true)) n is in (z.0, true, sym (some_same (Of z.0 true) n z.2), refl)
+  -- what has parts
+  abbrev HasParts : Thing → Type 0
+  HasParts (Of k may) = Unit {0}
+  HasParts (OpenOf e may) = Unit {0}
+  HasParts (Dynamic r) = Unit {0}
+  HasParts _ = ⊥
+
+  -- what a part is
+  abbrev PartIs : Thing → Act Handed → Low Named → Type 0
+  PartIs t d low = HasParts t × Follows w l 0 fuel nothing (Given w l) (DesignatorIs w l none t) d low
+
+  -- a designator names what its name says
+  abbrev Sensible : Thing → Act Handed → Type 0
+  Sensible t d = (tags : List ℕ) → Older l.store.tags tags → Sound p l.forms tags (NamesOf p l.forms t) d
+
+  -- and so does a part of it
+  sensible_part : (s : Selector) (b t : Thing) (d : Act Handed) → WellFormed.select_named p l.proc s (Some b) ≡ Some t → Sensible b d → Sensible t (select p calls runs s d)
+  sensible_part s b t d is sensible tags older = (t_select p good calls sound runs l.forms tags frame (taken_at tags older) s (Some b) d (p_of p good b (sensible tags older))).sound t is
+
+  of_sensible : {mask own : Mask} {d : Act Handed} {low : Low Named} (n : Thing) → Sensible n d → Follows w l 0 fuel mask (Given w l) (NamedIs w l own n) d low → Follows w l 0 fuel mask (Given w l) (DesignatorIs w l own n) d low
+  of_sensible n sensible one = follows_less w l (λ h v i f s known. (known.0, names_second n h s.tags known.1)) (follows_sound w l {P = NamesOf p l.forms n} sensible one)
+
+  parts_base : (b : Base) (n : Thing) → base_has_parts b ≡ true → WellFormed.base_named p l.proc b ≡ Some n → HasParts n
+  parts_base (Global m v) n ok is = let z = with_is p good (slice_get (globals_of p m) v) (λ k. Some (Of k true)) n is in subst HasParts (some_same (Of z.0 true) n z.2) tt
+  parts_base (Local x) n ok is = let z = with_is p good (slice_get (locals w l) x) (λ k. Some (Of k true)) n is in subst HasParts (some_same (Of z.0 true) n z.2) tt
   parts_base (Parameter k) n ok is =
       let z = with_is p good (slice_get (procedure_of p l.proc).formals k) (λ x. WellFormed.parameter_by p x.mode x.type_number x.variable) n is in
-      by z.0.mode z.0.type_number z.0.variable (simple_at (procedure_of p l.proc).formals k z.0 simple z.1) z.2
+      by z.0.mode z.0.type_number z.0.variable z.2
     where
-      simple_at : (xs : List Formal) (k : ℕ) (x : Formal) → all (λ x. is_simple x.mode) xs ≡ true → slice_get xs k ≡ Some x → is_simple x.mode ≡ true
-      simple_at [] k x h at = none_some x at
-      simple_at (y ∷ xs) zero x h at = subst (λ (z : Formal). is_simple z.mode ≡ true) (some_same y x at) (and_of (is_simple y.mode) (all (λ x. is_simple x.mode) xs) h).0
-      simple_at (y ∷ xs) (suc k) x h at = simple_at xs k x (and_of (is_simple y.mode) (all (λ x. is_simple x.mode) xs) h).1 at
-
-      by : (m : Mode) (k : ℕ) (v : Bool) → is_simple m ≡ true → WellFormed.parameter_by p m k v ≡ Some n → (k : ℕ) × (may : Bool) × (n ≡ Of k may) × (true ≡ true)
-      by OfValue k v h e = none_some n e
-      by Place k v h e = (k, v, sym (some_same (Of k v) n e), refl)
-      by OfRecord k v h e = no h
-      by OfOpen k v h e = no h
+      by : (m : Mode) (k : ℕ) (v : Bool) → WellFormed.parameter_by p m k v ≡ Some n → HasParts n
+      by OfValue k v e = none_some n e
+      by Place k v e = subst HasParts (some_same (Of k v) n e) tt
+      by OfRecord k v e = let x = with_is p good (record_by (kind_of p.types k)) (λ r. Some (Dynamic r)) n e in subst HasParts (some_same (Dynamic x.0) n x.2) tt
+      by OfOpen k v e = let x = with_is p good (open_element (kind_of p.types k)) (λ e. Some (OpenOf e v)) n e in subst HasParts (some_same (OpenOf x.0 v) n x.2) tt
   parts_base Done n ok is = no ok
   parts_base (Text k) n ok is = no ok
 
-  -- what is named is of a type, but for In.Done
-  abbrev IsPlain : Thing → Type 0
-  IsPlain (Cells f may) = Unit {0}
-  IsPlain (Of k may) = Unit {0}
-  IsPlain _ = ⊥
+  ---- Arrays
 
-  selected_plain : {m : _} (row : Row_of-Selector m) (k : ℕ) (may : Bool) (n : Thing) → WellFormed.selected_named p l.proc row (Some (Of k may)) ≡ Some n → selectors_covered row ≡ true → IsPlain n
-  selected_plain end_of-Selector k may n is ok = subst IsPlain (some_same (Of k may) n is) tt
-  selected_plain (more_of-Selector (Index (Some i) e x) rest) k may n is ok =
-      let covers = and_of (expr_covered x) (selectors_covered rest) ok in
-      let t = selected_some rest (WellFormed.select_named p l.proc (Index (Some i) e x) (Some (Of k may))) n covers.1 is in
-      let a = provided_is p (WellFormed.array_of p e (Some i) (Of k may)) (provided (gives_number (WellFormed.form p l.proc x)) (Some (Of e may))) t.0 t.1 in
-      let b = provided_is p (gives_number (WellFormed.form p l.proc x)) (Some (Of e may)) t.0 a.1 in
-      selected_plain rest e may n (ap (WellFormed.selected_named p l.proc rest) (b.1 ∙ sym t.1) ∙ is) covers.1
-  selected_plain (more_of-Selector (Field r f) rest) k may n is ok =
-      let t = selected_some rest (WellFormed.select_named p l.proc (Field r f) (Some (Of k may))) n ok is in
-      let a = provided_is p (WellFormed.has_record p r (Of k may)) (with_some (slice_get (types_of (record_of p.types r).fields) f) (λ k. Some (Of k may))) t.0 t.1 in
-      let c = with_is p good (slice_get (types_of (record_of p.types r).fields) f) (λ k. Some (Of k may)) t.0 a.1 in
-      selected_plain rest c.0 may n (ap (WellFormed.selected_named p l.proc rest) (c.2 ∙ sym t.1) ∙ is) ok
-  selected_plain (more_of-Selector (Index None e x) rest) k may n is ok = no ok
-  selected_plain (more_of-Selector (Dereference rs) rest) k may n is ok = no ok
-  selected_plain (more_of-Selector (Narrow r) rest) k may n is ok = no ok
+  abbrev element_cells : Elementary → ℕ
+  element_cells el = length (element_forms p el)
 
-  base_plain : (b : Base) (n : Thing) → base_covered b ≡ true → WellFormed.base_named p l.proc b ≡ Some n → IsPlain n
-  base_plain Done n ok is = subst IsPlain (some_same (Cells Truth false) n is) tt
-  base_plain (Global m v) n ok is = let z = parts_base (Global m v) n refl is in subst IsPlain (sym z.2) tt
-  base_plain (Local x) n ok is = let z = parts_base (Local x) n refl is in subst IsPlain (sym z.2) tt
-  base_plain (Parameter k) n ok is = let z = parts_base (Parameter k) n refl is in subst IsPlain (sym z.2) tt
-  base_plain (Text k) n ok is = no ok
-
-  named_plain : (d : Designator) (n : Thing) → WellFormed.named p l.proc d ≡ Some n → designator_covered d ≡ true → IsPlain n
-  named_plain (Variable b kind) n is ok =
-      let z = with_is p good (WellFormed.base_named p l.proc b) (WellFormed.of_kind p kind) n is in
-      let y = provided_is p (WellFormed.has_kind p kind z.0) (Some z.0) n z.2 in
-      subst IsPlain (some_same z.0 n y.1) (base_plain b z.0 ok z.1)
-  named_plain (Part' b kind _ row) n is ok =
-      let cover = and_of (base_has_parts b) (part_covered row) ok in
-      let z = with_is p good (WellFormed.selected_named p l.proc row (WellFormed.base_named p l.proc b)) (WellFormed.of_kind p kind) n is in
-      let y = provided_is p (WellFormed.has_kind p kind z.0) (Some z.0) n z.2 in
-      let base = part_some row (WellFormed.base_named p l.proc b) z.0 cover.1 z.1 in
-      let k = parts_base b base.0 cover.0 base.1 in
-      subst IsPlain (some_same z.0 n y.1) (selected_plain row k.0 k.1 z.0 (ap (WellFormed.selected_named p l.proc row) (sym (base.1 ∙ ap (λ n. Some n) k.2)) ∙ z.1) (covers_all row cover.1))
+  span_is : {mask : Mask} (own : Mask) (t : Thing) (o : Option ℕ) (el : Elementary) → WellFormed.elements_in p t o ≡ Some el → (h : Handed) (v : Named) → Follows w l 0 fuel mask (Both (Given w l) (DesignatorIs w l own t h v)) (SpanIs w l o (element_cells el) v) (span_by w l o h) (lower_address v 0)
+  span_is own (Of k may) (Some n) el is h v =
+      let a = element_is p (kind_of p.types k) n el is in
+      let long = ap (λ m. n * m) (sym (ap element_cells a.2) ∙ sym (cells_length p.types a.0)) ∙ sym (array_cells k n a.0 a.1) in
+      follows_known_span w l own (Of k may) h v n (element_cells el) steady (at_most long) (ap (λ z. not (is_structured z)) a.1) a.3
     where
-      covers_all : {m : _} (row : Row_of-Selector m) → part_covered row ≡ true → selectors_covered row ≡ true
-      covers_all end_of-Selector h = no h
-      covers_all (more_of-Selector s rest) h = h
+      at_most : {x y : ℕ} → x ≡ y → x ≤ y
+      at_most e = omega (arith, e)
+  span_is own (Characters m) (Some n) el is h v =
+      let a = provided_is p (m == n && nat_lt n (2 ^ 32)) (Some Letter) el is in
+      let b = and_of (m == n) (nat_lt n (2 ^ 32)) a.0 in
+      follows_known_span w l own (Characters m) h v n (element_cells el) steady (as_long (eqb-true m n b.0) (sym (ap element_cells (some_same Letter el a.1)))) refl (lt_of p n (2 ^ 32) b.1)
+    where
+      as_long : {m n c : ℕ} → m ≡ n → c ≡ 1 → n * c ≤ m
+      as_long {m} {n} {c} e one = subst (λ c. n * c ≤ m) (sym one) (omega (arith, e))
+  span_is {mask} own (OpenOf e may) None el is h v =
+      subst (λ el. Follows w l 0 fuel mask (Both (Given w l) (DesignatorIs w l own (OpenOf e may) h v)) (SpanIs w l None (element_cells el) v) (span_by w l None h) (lower_address v 0)) (some_same (OfType e) el is)
+      (subst (λ c. Follows w l 0 fuel mask (Both (Given w l) (DesignatorIs w l own (OpenOf e may) h v)) (SpanIs w l None c v) (span_by w l None h) (lower_address v 0)) (cells_length p.types e) (follows_open_span w l own e may h v))
+  span_is own (Of k may) None el is h v = none_some el is
+  span_is own (Characters m) None el is h v = none_some el is
+  span_is own (OpenOf e may) (Some n) el is h v = none_some el is
+  span_is own (Cells f may) o el is h v = none_some el is
+  span_is own (Dynamic r) o el is h v = none_some el is
 
-  -- an array of known length
-  array_is : (t : Thing) (n : ℕ) (e : _) → WellFormed.elements_in p t (Some n) ≡ Some e → (is_single w l t ≡ false) × (n < 2 ^ 64)
-  array_is (Of k may) n e is = let a = element_is p (kind_of p.types k) n e is in let lt = a.3 in (ap (λ z. not (is_structured z)) a.1, omega (arith, lt))
-  array_is (Characters m) n e is =
-      let a = provided_is p (m == n && nat_lt n (2 ^ 32)) (Some WellFormed.Letter) e is in
-      let lt = lt_of p n (2 ^ 32) (and_of (m == n) (nat_lt n (2 ^ 32)) a.0).1 in (refl, omega (arith, lt))
-  array_is (Cells f may) n e is = none_some e is
-  array_is (OpenOf k may) n e is = none_some e is
-  array_is (Dynamic r) n e is = none_some e is
+  -- of elements of a type
+  array_is : {mask : Mask} (own : Mask) (t : Thing) (o : Option ℕ) (e : ℕ) → WellFormed.array_of p e o t ≡ true → (h : Handed) (v : Named) → Follows w l 0 fuel mask (Both (Given w l) (DesignatorIs w l own t h v)) (SpanIs w l o (cells p.types e) v) (span_by w l o h) (lower_address v 0)
+  array_is {mask} own t o e has h v =
+      let el = holds_is p good (λ x. WellFormed.is_element p x e) (WellFormed.elements_in p t o) has in
+      subst (λ c. Follows w l 0 fuel mask (Both (Given w l) (DesignatorIs w l own t h v)) (SpanIs w l o c v) (span_by w l o h) (lower_address v 0)) (ap (λ (xs : List Form). length xs) (element_same p good el.0 e el.2) ∙ sym (cells_length p.types e)) (span_is own t o el.0 el.1 h v)
 
   -- a field's cells are among those of its record
-  field_cells : (k s r f kind j : ℕ) → kind_of p.types k ≡ RecordOf s → extends p.types s r ≡ true → slice_get (types_of (record_of p.types r).fields) f ≡ Some kind → j < cells p.types kind → field_place p.types r f + j < cells p.types k
-  field_cells k s r f kind j is ext at lt =
+  field_within : (s r f kind j : ℕ) → extends p.types s r ≡ true → slice_get (types_of (record_of p.types r).fields) f ≡ Some kind → j < cells p.types kind → field_place p.types r f + j < length (record_forms p.types s)
+  field_within s r f kind j ext at lt =
       let x = slice_found (forms p.types kind) j (let e = cells_length p.types kind in omega (arith, lt, e)) in
-      let there = in_length p (record_forms p.types s) (field_place p.types r f + j) x.0 (prefix p.types good s r (field_place p.types r f + j) x.0 ext (field_at p.types good r f kind j x.0 at x.1)) in
-      let e = cells_length p.types k ∙ ap (λ (xs : List Form). length xs) (whole_forms p.types good k s is) in
-      omega (arith, there, e)
+      in_length p (record_forms p.types s) (field_place p.types r f + j) x.0 (prefix p.types good s r (field_place p.types r f + j) x.0 ext (field_at p.types good r f kind j x.0 at x.1))
     where
       slice_found : (xs : List Form) (j : ℕ) → j < length xs → (x : Form) × (slice_get xs j ≡ Some x)
       slice_found [] j lt = absurd (omega (arith, lt))
       slice_found (x ∷ xs) zero lt = (x, refl)
       slice_found (x ∷ xs) (suc j) lt = slice_found xs j (omega (arith, lt))
+
+  field_cells : (k s r f kind j : ℕ) → kind_of p.types k ≡ RecordOf s → extends p.types s r ≡ true → slice_get (types_of (record_of p.types r).fields) f ≡ Some kind → j < cells p.types kind → field_place p.types r f + j < cells p.types k
+  field_cells k s r f kind j is ext at lt =
+      let there = field_within s r f kind j ext at lt in
+      let e = cells_length p.types k ∙ ap (λ (xs : List Form). length xs) (whole_forms p.types good k s is) in
+      omega (arith, there, e)
+
+  -- also where the record has a dynamic type
+  dynamic_cells : (b r f kind : ℕ) (h : Handed) → SecondFits w l (Dynamic b) h → extends p.types b r ≡ true → slice_get (types_of (record_of p.types r).fields) f ≡ Some kind → (j : ℕ) → j < cells p.types kind → field_place p.types r f + j < row_of w l (Dynamic b) h
+  dynamic_cells b r f kind (Tagged a t) second ext at j lt =
+      let there = field_within t r f kind j (extends_trans p.types good t b r second ext) at lt in
+      let e = record_cells_length p.types t in omega (arith, there, e)
+  dynamic_cells b r f kind _ second ext at j lt = absurd second
 
   -- the address of a whole variable is made where it is in memory
   own_lent : (d : Designator) → Lends (lent_whole d) → (x : ℕ) → whole_of d x ≡ true → l.in_register x ≡ false
@@ -370,24 +397,32 @@ module _ (w : Whole) (l : Level) (right : Right w) (apart : Apart l) (vars : Var
       let b = cells_length p.types l ∙ ap (λ (xs : List Form). length xs) (whole_forms p.types good l s (record_is p good (kind_of p.types l) s on)) in
       let e = extended_cells s r h in omega (arith, a, b, e)
 
+  no_record : (o : Option ℕ) → (false || holds_of (λ r. false) o) ≡ true → ⊥
+  no_record None e = no e
+  no_record (Some r) e = no e
+
   -- what may be handed over has the cells of its parameter
-  place_row : (k : ℕ) (v : Bool) (n : Thing) (h : Handed) → IsPlain n → WellFormed.place_suits p k v n ≡ true → cells p.types k ≤ row_of w l n h
-  place_row k true (Of j may) h plain suits = let e = eqb-true j k (and_of (j == k) may suits).0 in let f = ap (cells p.types) e in omega (arith, f)
-  place_row k false (Of j may) h plain suits = elim (or_split p good (j == k) (holds_of (λ r. WellFormed.has_record p r (Of j may)) (record_by (kind_of p.types k))) suits) [
+  place_row : (k : ℕ) (v : Bool) (n : Thing) (h : Handed) → SecondFits w l n h → WellFormed.place_suits p k v n ≡ true → cells p.types k ≤ row_of w l n h
+  place_row k true (Of j may) h second suits = let e = eqb-true j k (and_of (j == k) may suits).0 in let f = ap (cells p.types) e in omega (arith, f)
+  place_row k false (Of j may) h second suits = elim (or_split p good (j == k) (holds_of (λ r. WellFormed.has_record p r (Of j may)) (record_by (kind_of p.types k))) suits) [
     | inl e ↦ (let f = ap (cells p.types) (eqb-true j k e) in omega (arith, f))
     | inr e ↦ (let r = holds_is p good (λ r. WellFormed.has_record p r (Of j may)) (record_by (kind_of p.types k)) e in
         let s = holds_is p good (λ s. extends p.types s r.0) (record_by (kind_of p.types j)) r.2 in
         record_row k j s.0 r.0 r.1 s.1 s.2)
   ]
-  place_row k true (Cells f may) h plain suits = no suits
-  place_row k false (Cells f may) h plain suits = absurd (no_record (record_by (kind_of p.types k)) suits)
-    where
-      no_record : (o : Option ℕ) → (false || holds_of (λ r. false) o) ≡ true → ⊥
-      no_record None e = no e
-      no_record (Some r) e = no e
-  place_row k v (OpenOf e may) h plain suits = absurd plain
-  place_row k v (Dynamic r) h plain suits = absurd plain
-  place_row k v (Characters m) h plain suits = absurd plain
+  place_row k false (Dynamic r) (Tagged a t) second suits =
+      let b = holds_is p good (λ b. extends p.types r b) (record_by (kind_of p.types k)) suits in
+      let whole = cells_length p.types k ∙ ap (λ (xs : List Form). length xs) (whole_forms p.types good k b.0 (record_is p good (kind_of p.types k) b.0 b.1)) in
+      let less = extended_cells t b.0 (extends_trans p.types good t r b.0 second b.2) in
+      let own = record_cells_length p.types t in omega (arith, whole, less, own)
+  place_row k false (Dynamic r) _ second suits = absurd second
+  place_row k true (Dynamic r) h second suits = no suits
+  place_row k true (Cells f may) h second suits = no suits
+  place_row k true (OpenOf e may) h second suits = no suits
+  place_row k true (Characters m) h second suits = no suits
+  place_row k false (Cells f may) h second suits = absurd (no_record (record_by (kind_of p.types k)) suits)
+  place_row k false (OpenOf e may) h second suits = absurd (no_record (record_by (kind_of p.types k)) suits)
+  place_row k false (Characters m) h second suits = absurd (no_record (record_by (kind_of p.types k)) suits)
 
   ---- Expressions
 
@@ -451,23 +486,40 @@ module _ (w : Whole) (l : Level) (right : Right w) (apart : Apart l) (vars : Var
   means_link : (k : Link) (o : Option Form) (x : Act Cell) → Meant o x → Meant (WellFormed.link_form p l.proc k o) (link p calls runs k x)
   means_link k o x q tags older = t_link p good calls sound runs l.forms tags frame (taken_at tags older) k o x (q tags older)
 
-  length_shows : (o : Option ℕ) (d : Designator) (k : Form) → has_length o ≡ true → provided (holds_of (WellFormed.any_array p o) (WellFormed.named p l.proc d)) (Some Number) ≡ Some k
-      → ((t : Thing) → WellFormed.named p l.proc d ≡ Some t → Follows w l 0 fuel nothing (Given w l) (NamedIs w l (whole_of d) t) (designated p calls runs d) (named p lay mine d))
+  length_shows : (o : Option ℕ) (d : Designator) (k : Form) → provided (holds_of (WellFormed.any_array p o) (WellFormed.named p l.proc d)) (Some Number) ≡ Some k
+      → ((t : Thing) → WellFormed.named p l.proc d ≡ Some t → Follows w l 0 fuel nothing (Given w l) (DesignatorIs w l (whole_of d) t) (designated p calls runs d) (named p lay mine d))
       → Shows (length_of (designated p calls runs d) o) (record { value = lower_length (named p lay mine d) o; test = fork_value (lower_length (named p lay mine d) o) })
-  length_shows None d k has is one = no has
-  length_shows (Some n) d k has is one =
-      let a = provided_is p (holds_of (WellFormed.any_array p (Some n)) (WellFormed.named p l.proc d)) (Some Number) k is in
-      let t = holds_is p good (WellFormed.any_array p (Some n)) (WellFormed.named p l.proc d) a.0 in
-      let e = holds_is p good (λ x. true) (WellFormed.elements_in p t.0 (Some n)) t.2 in
-      let array = array_is t.0 n e.0 e.1 in
-      shown (follows_length w l (whole_of d) t.0 (designated p calls runs d) n steady array.0 array.1 (one t.0 t.1))
+  length_shows o d k is one =
+      let a = provided_is p (holds_of (WellFormed.any_array p o) (WellFormed.named p l.proc d)) (Some Number) k is in
+      let t = holds_is p good (WellFormed.any_array p o) (WellFormed.named p l.proc d) a.0 in
+      let e = holds_is p good (λ x. true) (WellFormed.elements_in p t.0 o) t.2 in
+      shown (follows_length w l o (element_cells e.0) (designated p calls runs d) steady (steady_designator w l (whole_of d) t.0) (span_is (whole_of d) t.0 o e.0 e.1) (one t.0 t.1))
 
   ---- Arguments
 
   -- they are as they are taken
-  all_given : {m : _} (g : ℕ) (row : Row_of-Argument m) → WellFormed.all_suit p l.proc row (procedure_of p g).formals ≡ true → Follows w l 0 fuel nothing (Given w l) (WordsAre w l (procedure_of p g).formals) (arguments p calls runs row) (lower_arguments p lay mine row)
-      → Follows w l 0 fuel nothing (Given w l) (λ hs us n f s. WordsAre w l (procedure_of p g).formals hs us n f s × AllTaken p good l.forms s.tags (procedure_of p g).formals hs) (arguments p calls runs row) (lower_arguments p lay mine row)
-  all_given g row suits one = follows_sound w l {P = λ tags hs. AllTaken p good l.forms tags (procedure_of p g).formals hs} (λ tags older. t_arguments p good calls sound runs l.forms tags frame (taken_at tags older) _ row (procedure_of p g).formals suits) one
+  all_given : {m : _} (xs : List Formal) (row : Row_of-Argument m) → WellFormed.all_suit p l.proc row xs ≡ true → Follows w l 0 fuel nothing (Given w l) (WordsAre w l xs) (arguments p calls runs row) (lower_arguments p lay mine row)
+      → Follows w l 0 fuel nothing (Given w l) (λ hs us n f s. WordsAre w l xs hs us n f s × AllTaken p good l.forms s.tags xs hs) (arguments p calls runs row) (lower_arguments p lay mine row)
+  all_given xs row suits one = follows_sound w l {P = λ tags hs. AllTaken p good l.forms tags xs hs} (λ tags older. t_arguments p good calls sound runs l.forms tags frame (taken_at tags older) _ row xs suits) one
+
+  -- a procedure variable that is called is of a procedure type, and so are the arguments
+  called_through : {m : _} (d : Designator) (args : Row_of-Argument m) → holds_of (WellFormed.suits_through p (WellFormed.all_suit p l.proc args)) (with_some (WellFormed.named p l.proc d) (WellFormed.scalar_in p)) ≡ true
+      → (k : ℕ) × (with_some (WellFormed.named p l.proc d) (WellFormed.scalar_in p) ≡ Some (Routines k)) × (WellFormed.all_suit p l.proc args (signature_of p.types k).formals ≡ true)
+  called_through d args suits =
+      let f = holds_is p good (WellFormed.suits_through p (WellFormed.all_suit p l.proc args)) (with_some (WellFormed.named p l.proc d) (WellFormed.scalar_in p)) suits in
+      let k = through_is p good calls sound (WellFormed.all_suit p l.proc args) f.0 f.2 in
+      (k.0, f.1 ∙ ap (λ x. Some x) k.1, k.2)
+
+  -- the value of a variable, and of a procedure variable that is called
+  variable_value : (d : Designator) (k : Form) → with_some (WellFormed.named p l.proc d) (WellFormed.scalar_in p) ≡ Some k → ((n : Thing) → WellFormed.named p l.proc d ≡ Some n → Follows w l 0 fuel nothing (Given w l) (DesignatorIs w l (whole_of d) n) (designated p calls runs d) (named p lay mine d))
+      → Follows w l 0 fuel nothing (Given w l) (CellIs w l) (load (designated p calls runs d)) (lower_load (home_of (named p lay mine d) (small p lay mine d)))
+  variable_value d k is one =
+      let z = with_is p good (WellFormed.named p l.proc d) (WellFormed.scalar_in p) k is in
+      follows_load w l (whole_of d) (designated p calls runs d) steady (follows_home w l (whole_of d) z.0 (designated p calls runs d) steady (λ h v m g s known. scalar_row z.0 k z.2 h) (only_named w l z.0 (one z.0 z.1)))
+
+  code_value : (d : Designator) (k : ℕ) → with_some (WellFormed.named p l.proc d) (WellFormed.scalar_in p) ≡ Some (Routines k) → ((n : Thing) → WellFormed.named p l.proc d ≡ Some n → Follows w l 0 fuel nothing (Given w l) (DesignatorIs w l (whole_of d) n) (designated p calls runs d) (named p lay mine d))
+      → Follows w l 0 fuel nothing (Given w l) (λ c i n f s. CellIs w l c i n f s × HasForm p (Routines k) s.tags c) (load (designated p calls runs d)) (lower_load (home_of (named p lay mine d) (small p lay mine d)))
+  code_value d k is one = follows_sound w l {P = HasForm p (Routines k)} (sound_value (Load d) (Routines k) is) (variable_value d (Routines k) is one)
 
   value_word : (m : Mode) (k : ℕ) (e : Expr) → WellFormed.value_suits p m (WellFormed.form p l.proc e) (WellFormed.form_of p k) ≡ true → ((f : Form) → WellFormed.form p l.proc e ≡ Some f → Follows w l 0 fuel nothing (Given w l) (CellIs w l) (value p calls runs e) (expr p lay mine e).value)
       → Follows w l 0 fuel nothing (Given w l) (OneWord w l m k) (by_value (value p calls runs e)) (by_word (expr p lay mine e).value)
@@ -476,81 +528,151 @@ module _ (w : Whole) (l : Level) (right : Right w) (apart : Apart l) (vars : Var
   value_word OfRecord k e suits one = no suits
   value_word OfOpen k e suits one = no suits
 
-  place_word : (m : Mode) (k : ℕ) (v : Bool) (d : Designator) → WellFormed.place_argument p m k v (WellFormed.named p l.proc d) ≡ true → designator_covered d ≡ true → Lends (lent_whole d) → ((n : Thing) → WellFormed.named p l.proc d ≡ Some n → Follows w l 0 fuel nothing (Given w l) (NamedIs w l (whole_of d) n) (designated p calls runs d) (named p lay mine d))
+  place_word : (m : Mode) (k : ℕ) (v : Bool) (d : Designator) → WellFormed.place_argument p m k v (WellFormed.named p l.proc d) ≡ true → Lends (lent_whole d) → ((n : Thing) → WellFormed.named p l.proc d ≡ Some n → Follows w l 0 fuel nothing (Given w l) (DesignatorIs w l (whole_of d) n) (designated p calls runs d) (named p lay mine d))
       → Follows w l 0 fuel nothing (Given w l) (OneWord w l m k) (by_place (designated p calls runs d)) (by_word (address (named p lay mine d)))
-  place_word Place k v d suits ok lends one =
+  place_word Place k v d suits lends one =
       let n = holds_is p good (WellFormed.place_suits p k v) (WellFormed.named p l.proc d) suits in
-      follows_by_place w l k steady (follows_bind w l steady (one n.0 n.1) (λ h. grows_address w l h 0)
-      (λ h a. follows_address w l (whole_of d) n.0 h a (cells p.types k) (place_row k v n.0 h (named_plain d n.0 n.1 ok) n.2) (inr (own_lent d lends))))
-  place_word OfValue k v d suits ok lends one = no suits
-  place_word OfRecord k v d suits ok lends one = no suits
-  place_word OfOpen k v d suits ok lends one = no suits
+      follows_by_place w l k steady (follows_bind w l steady (one n.0 n.1) (λ h. grows_address w l h 0) (λ h a. addressed n.0 n.2 h a))
+    where
+      addressed : (n : Thing) → WellFormed.place_suits p k v n ≡ true → (h : Handed) (a : Named) → Follows w l 0 fuel nothing (Both (Given w l) (DesignatorIs w l (whole_of d) n h a)) (RowIs w l (cells p.types k)) (given (address_in h)) (lower_address a 0)
+      addressed n suits h a = record {
+        grows = grows_address w l a 0;
+        by = λ most g c f s room free le needs few stands fits within known typed r.
+            (follows_address w l {K = Given w l} (whole_of d) n h a (cells p.types k) (place_row k v n h known.1.1 suits) (inr (own_lent d lends))).by most g c f s room free le needs few stands fits within (known.0, known.1.0) typed r;
+      }
+  place_word OfValue k v d suits lends one = no suits
+  place_word OfRecord k v d suits lends one = no suits
+  place_word OfOpen k v d suits lends one = no suits
+
+  tags_same : (a b : Address) (r t : ℕ) → Some (Tagged a r) ≡ Some (Tagged b t) → r ≡ t
+  tags_same a b r t e = cc
+
+  -- a record that may be handed over with a tag has that record type's cells
+  tagged_row : (b r : ℕ) (n : Thing) (h : Handed) (tags : List ℕ) → WellFormed.record_suits p b r n ≡ true → Names p l.forms tags n h → (a : Address) (t : ℕ) → with_tag h r ≡ Some (Tagged a t) → record_cells p.types t ≤ row_of w l n h
+  tagged_row b r (Of k true) (Addressed c) tags suits names a t is =
+      let s = holds_is p good (λ s. s == r && extends p.types s b) (record_by (kind_of p.types k)) suits in
+      let same = eqb-true s.0 r (and_of (s.0 == r) (extends p.types s.0 b) s.2).0 in
+      let whole = cells_length p.types k ∙ ap (λ (xs : List Form). length xs) (whole_forms p.types good k s.0 (record_is p good (kind_of p.types k) s.0 s.1)) in
+      let own = record_cells_length p.types s.0 in
+      let tag = ap (record_cells p.types) (same ∙ tags_same c a r t is) in omega (arith, whole, own, tag)
+  tagged_row b r (Dynamic s) (Tagged c k) tags suits names a t is = let tag = ap (record_cells p.types) (tags_same c a k t is) in omega (arith, tag)
+  tagged_row b r (Of k false) h tags suits names a t is = no suits
+  tagged_row b r (Cells f may) h tags suits names a t is = no suits
+  tagged_row b r (OpenOf e may) h tags suits names a t is = no suits
+  tagged_row b r (Characters m) h tags suits names a t is = no suits
+  tagged_row b r _ _ tags suits names a t is = absurd names
+
+  record_word : (m : Mode) (k r : ℕ) (d : Designator) → WellFormed.record_argument p m (record_by (kind_of p.types k)) r (WellFormed.named p l.proc d) ≡ true → Lends (lent_whole d) → ((n : Thing) → WellFormed.named p l.proc d ≡ Some n → Follows w l 0 fuel nothing (Given w l) (DesignatorIs w l (whole_of d) n) (designated p calls runs d) (named p lay mine d))
+      → Follows w l 0 fuel nothing (Given w l) (OneWord w l m k) (by_record (designated p calls runs d) r) (lower_record (named p lay mine d) (descriptor p lay mine r))
+  record_word OfRecord k r d suits lends one = by (record_by (kind_of p.types k)) suits
+    where
+      by : (o : Option ℕ) → WellFormed.record_argument p OfRecord o r (WellFormed.named p l.proc d) ≡ true → Follows w l 0 fuel nothing (Given w l) (OneWord w l OfRecord k) (by_record (designated p calls runs d) r) (lower_record (named p lay mine d) (descriptor p lay mine r))
+      by None h = no h
+      by (Some b) h =
+          let n = holds_is p good (WellFormed.record_suits p b r) (WellFormed.named p l.proc d) h in
+          follows_by_record w l k r (whole_of d) n.0 (descriptor p lay mine r) (designated p calls runs d) steady (vars.descriptor r) (own_lent d lends)
+          (λ h v. steady_and w l (steady_designator w l (whole_of d) n.0 h v) (record { by = λ i j f g s t le same later names. names_older p l.forms s.tags t.tags (λ o k e. later.tag o k e) n.0 h names }))
+          (λ h v i f s names. names.0.0) (λ h v i f s names. tagged_row b r n.0 h s.tags n.2 names.1)
+          (follows_sound w l {P = NamesOf p l.forms n.0} (λ tags older. (t_named p good calls sound runs l.forms tags frame (taken_at tags older) d).sound n.0 n.1) (one n.0 n.1))
+  record_word OfValue k r d suits lends one = no suits
+  record_word Place k r d suits lends one = no suits
+  record_word OfOpen k r d suits lends one = no suits
+
+  open_word : (m : Mode) (k : ℕ) (v : Bool) (d : Designator) (o : Option ℕ) → WellFormed.open_argument p m (open_element (kind_of p.types k)) v o (WellFormed.named p l.proc d) ≡ true → ((n : Thing) → WellFormed.named p l.proc d ≡ Some n → Follows w l 0 fuel nothing (Given w l) (DesignatorIs w l (whole_of d) n) (designated p calls runs d) (named p lay mine d))
+      → Follows w l 0 fuel nothing (Given w l) (OneWord w l m k) (by_open (designated p calls runs d) o) (lower_open (named p lay mine d) o)
+  open_word OfOpen k v d o suits one = by (open_element (kind_of p.types k)) refl suits
+    where
+      by : (element : Option ℕ) → open_element (kind_of p.types k) ≡ element → WellFormed.open_argument p OfOpen element v o (WellFormed.named p l.proc d) ≡ true → Follows w l 0 fuel nothing (Given w l) (OneWord w l OfOpen k) (by_open (designated p calls runs d) o) (lower_open (named p lay mine d) o)
+      by None at h = no h
+      by (Some e) at h =
+          let n = holds_is p good (WellFormed.open_suits p e v o) (WellFormed.named p l.proc d) h in
+          follows_by_open w l k o (cells p.types e) (designated p calls runs d) steady (steady_designator w l (whole_of d) n.0) (λ i is. ap (cells p.types) (some_same e i (sym at ∙ is)))
+          (array_is (whole_of d) n.0 o e (open_parts p good e v o n.0 n.2).0) (one n.0 n.1)
+  open_word OfValue k v d o suits one = no suits
+  open_word Place k v d o suits one = no suits
+  open_word OfRecord k v d o suits one = no suits
+
+  -- an array of characters, and what it is
+  letters_span : {mask : Mask} (own : Mask) (t : Thing) (o : Option ℕ) (el : Elementary) → WellFormed.elements_in p t o ≡ Some el → WellFormed.is_letter p el ≡ true → (h : Handed) (v : Named) → Follows w l 0 fuel mask (Both (Given w l) (DesignatorIs w l own t h v)) (SpanIs w l o 1 v) (span_by w l o h) (lower_address v 0)
+  letters_span {mask} own t o el is letter h v =
+      subst (λ c. Follows w l 0 fuel mask (Both (Given w l) (DesignatorIs w l own t h v)) (SpanIs w l o c v) (span_by w l o h) (lower_address v 0)) (ap (λ (xs : List Form). length xs) (letter_forms p good el letter)) (span_is own t o el is h v)
+
+  sound_named : {mask : Mask} (d : Designator) (t : Thing) → WellFormed.named p l.proc d ≡ Some t → Follows w l 0 fuel mask (Given w l) (DesignatorIs w l (whole_of d) t) (designated p calls runs d) (named p lay mine d) → Follows w l 0 fuel mask (Given w l) (NamedText w l (whole_of d) t) (designated p calls runs d) (named p lay mine d)
+  sound_named d t is one = follows_sound w l {P = NamesOf p l.forms t} (λ tags older. (t_named p good calls sound runs l.forms tags frame (taken_at tags older) d).sound t is) one
+
+  sensible_base : (b : Base) (n : Thing) → WellFormed.base_named p l.proc b ≡ Some n → Sensible n (base_of p calls runs b)
+  sensible_base b n is tags older = (t_base p good calls sound runs l.forms tags frame (taken_at tags older) b).sound n is
 
   mutual
-    pub named_is : (d : Designator) (n : Thing) → WellFormed.named p l.proc d ≡ Some n → designator_covered d ≡ true → Lends (lent_at d) → Follows w l 0 fuel nothing (Given w l) (NamedIs w l (whole_of d) n) (designated p calls runs d) (named p lay mine d)
+    pub named_is : (d : Designator) (n : Thing) → WellFormed.named p l.proc d ≡ Some n → designator_covered d ≡ true → Lends (lent_at d) → Follows w l 0 fuel nothing (Given w l) (DesignatorIs w l (whole_of d) n) (designated p calls runs d) (named p lay mine d)
     named_is (Variable b kind) n is ok lends =
         let z = with_is p good (WellFormed.base_named p l.proc b) (WellFormed.of_kind p kind) n is in
         let y = provided_is p (WellFormed.has_kind p kind z.0) (Some z.0) n z.2 in
-        subst (λ n. Follows w l 0 fuel nothing (Given w l) (NamedIs w l (origin b) n) (base_of p calls runs b) (based p lay mine b)) (some_same z.0 n y.1) (base_is b z.0 z.1 ok)
+        subst (λ n. Follows w l 0 fuel nothing (Given w l) (DesignatorIs w l (origin b) n) (base_of p calls runs b) (based p lay mine b)) (some_same z.0 n y.1) (base_is b z.0 z.1)
     named_is (Part' b kind _ row) n is ok lends =
         let cover = and_of (base_has_parts b) (part_covered row) ok in
         let z = with_is p good (WellFormed.selected_named p l.proc row (WellFormed.base_named p l.proc b)) (WellFormed.of_kind p kind) n is in
         let y = provided_is p (WellFormed.has_kind p kind z.0) (Some z.0) n z.2 in
         let base = part_some row (WellFormed.base_named p l.proc b) z.0 cover.1 z.1 in
-        let k = parts_base b base.0 cover.0 base.1 in
-        let e = base.1 ∙ ap (λ n. Some n) k.2 in
-        let one = part_of row (origin b) k.0 k.1 z.0 (base_of p calls runs b) (based p lay mine b) (ap (WellFormed.selected_named p l.proc row) (sym e) ∙ z.1) cover.1 lends
-        (subst (λ n. Follows w l 0 fuel nothing (Given w l) (NamedIs w l (origin b) n) (base_of p calls runs b) (based p lay mine b)) k.2 (base_is b base.0 base.1 k.3)) in
-        subst (λ n. Follows w l 0 fuel nothing (Given w l) (NamedIs w l none n) (selected p calls runs row (base_of p calls runs b)) (lower_selected p lay mine row (based p lay mine b))) (sym one.1 ∙ some_same z.0 n y.1) one.2
+        let parts = parts_base b base.0 cover.0 base.1 in
+        let one = part_of row (origin b) base.0 z.0 (base_of p calls runs b) (based p lay mine b) (ap (WellFormed.selected_named p l.proc row) (sym base.1) ∙ z.1) parts cover.1 lends (sensible_base b base.0 base.1) (base_is b base.0 base.1) in
+        subst (λ n. Follows w l 0 fuel nothing (Given w l) (DesignatorIs w l none n) (selected p calls runs row (base_of p calls runs b)) (lower_selected p lay mine row (based p lay mine b))) (some_same z.0 n y.1) one
 
-    part_of : {m : _} (row : Row_of-Selector m) (own : Mask) (k : ℕ) (may : Bool) (n : Thing) (d : Act Handed) (low : Low Named) → WellFormed.selected_named p l.proc row (Some (Of k may)) ≡ Some n → part_covered row ≡ true → Lends (lent_selectors own row) → Follows w l 0 fuel nothing (Given w l) (NamedIs w l own (Of k may)) d low
-        → PartIs nothing may n (selected p calls runs row d) (lower_selected p lay mine row low)
-    part_of end_of-Selector own k may n d low is ok lends one = no ok
-    part_of (more_of-Selector s rest) own k may n d low is ok lends one =
+    part_of : {m : _} (row : Row_of-Selector m) (own : Mask) (b n : Thing) (d : Act Handed) (low : Low Named) → WellFormed.selected_named p l.proc row (Some b) ≡ Some n → HasParts b → part_covered row ≡ true → Lends (lent_selectors own row) → Sensible b d → Follows w l 0 fuel nothing (Given w l) (DesignatorIs w l own b) d low
+        → Follows w l 0 fuel nothing (Given w l) (DesignatorIs w l none n) (selected p calls runs row d) (lower_selected p lay mine row low)
+    part_of end_of-Selector own b n d low is parts ok lends sensible one = no ok
+    part_of (more_of-Selector s rest) own b n d low is parts ok lends sensible one =
         let behind = right_lends (lent_by_first own s) (either (lent_selector s) (lent_selectors none rest)) lends in
         let covers = and_of (selector_covered s) (selectors_covered rest) ok in
-        let t = selected_some rest (WellFormed.select_named p l.proc s (Some (Of k may))) n covers.1 is in
-        let two = select_is s own k may t.0 d low t.1 covers.0 (left_lends (lent_selector s) (lent_selectors none rest) behind) one in
-        selected_is rest two.0 may n (select p calls runs s d) (lower_select p lay mine s low) (ap (WellFormed.selected_named p l.proc rest) (sym (t.1 ∙ ap (λ n. Some n) two.1)) ∙ is) covers.1 (right_lends (lent_selector s) (lent_selectors none rest) behind) two.2
+        let t = selected_some rest (WellFormed.select_named p l.proc s (Some b)) n covers.1 is in
+        let two = select_is s own b t.0 d low t.1 parts covers.0 (left_lends (lent_selector s) (lent_selectors none rest) behind) sensible one in
+        selected_is rest t.0 n (select p calls runs s d) (lower_select p lay mine s low) (ap (WellFormed.selected_named p l.proc rest) (sym t.1) ∙ is) two.0 covers.1 (right_lends (lent_selector s) (lent_selectors none rest) behind) (sensible_part s b t.0 d t.1 sensible) two.1
 
-    selected_is : {m : _} (row : Row_of-Selector m) (k : ℕ) (may : Bool) (n : Thing) (d : Act Handed) (low : Low Named) → WellFormed.selected_named p l.proc row (Some (Of k may)) ≡ Some n → selectors_covered row ≡ true → Lends (lent_selectors none row) → Follows w l 0 fuel nothing (Given w l) (NamedIs w l none (Of k may)) d low
-        → PartIs nothing may n (selected p calls runs row d) (lower_selected p lay mine row low)
-    selected_is end_of-Selector k may n d low is ok lends one = (k, sym (some_same (Of k may) n is), one)
-    selected_is (more_of-Selector s rest) k may n d low is ok lends one =
+    selected_is : {m : _} (row : Row_of-Selector m) (b n : Thing) (d : Act Handed) (low : Low Named) → WellFormed.selected_named p l.proc row (Some b) ≡ Some n → HasParts b → selectors_covered row ≡ true → Lends (lent_selectors none row) → Sensible b d → Follows w l 0 fuel nothing (Given w l) (DesignatorIs w l none b) d low
+        → Follows w l 0 fuel nothing (Given w l) (DesignatorIs w l none n) (selected p calls runs row d) (lower_selected p lay mine row low)
+    selected_is end_of-Selector b n d low is parts ok lends sensible one = subst (λ n. Follows w l 0 fuel nothing (Given w l) (DesignatorIs w l none n) d low) (some_same b n is) one
+    selected_is (more_of-Selector s rest) b n d low is parts ok lends sensible one =
         let behind = right_lends (lent_by_first none s) (either (lent_selector s) (lent_selectors none rest)) lends in
         let covers = and_of (selector_covered s) (selectors_covered rest) ok in
-        let t = selected_some rest (WellFormed.select_named p l.proc s (Some (Of k may))) n covers.1 is in
-        let two = select_is s none k may t.0 d low t.1 covers.0 (left_lends (lent_selector s) (lent_selectors none rest) behind) one in
-        selected_is rest two.0 may n (select p calls runs s d) (lower_select p lay mine s low) (ap (WellFormed.selected_named p l.proc rest) (sym (t.1 ∙ ap (λ n. Some n) two.1)) ∙ is) covers.1 (right_lends (lent_selector s) (lent_selectors none rest) behind) two.2
+        let t = selected_some rest (WellFormed.select_named p l.proc s (Some b)) n covers.1 is in
+        let two = select_is s none b t.0 d low t.1 parts covers.0 (left_lends (lent_selector s) (lent_selectors none rest) behind) sensible one in
+        selected_is rest t.0 n (select p calls runs s d) (lower_select p lay mine s low) (ap (WellFormed.selected_named p l.proc rest) (sym t.1) ∙ is) two.0 covers.1 (right_lends (lent_selector s) (lent_selectors none rest) behind) (sensible_part s b t.0 d t.1 sensible) two.1
 
-    select_is : (s : Selector) (own : Mask) (k : ℕ) (may : Bool) (t : Thing) (d : Act Handed) (low : Low Named) → WellFormed.select_named p l.proc s (Some (Of k may)) ≡ Some t → selector_covered s ≡ true → Lends (lent_selector s) → Follows w l 0 fuel nothing (Given w l) (NamedIs w l own (Of k may)) d low
-        → PartIs nothing may t (select p calls runs s d) (lower_select p lay mine s low)
-    select_is (Index (Some n) e x) own k may t d low is ok lends one =
-        let a = provided_is p (WellFormed.array_of p e (Some n) (Of k may)) (provided (gives_number (WellFormed.form p l.proc x)) (Some (Of e may))) t is in
-        let b = provided_is p (gives_number (WellFormed.form p l.proc x)) (Some (Of e may)) t a.1 in
-        let el = holds_is p good (λ x. WellFormed.is_element p x e) (WellFormed.elements_in p (Of k may) (Some n)) a.0 in
-        let of = element_is p (kind_of p.types k) n el.0 el.1 in
-        let same = eqb-true of.0 e (ap (λ x. WellFormed.is_element p x e) of.2 ∙ el.2) in
-        let kind = of.1 ∙ ap (λ e. Array (Some n) e) same in
-        let g = number_form (WellFormed.form p l.proc x) b.0 in
-        let few = of.3 in
-        (e, sym (some_same (Of e may) t b.1), follows_element_place w l own none (Of k may) (Of e may) d n (cells p.types e) (value p calls runs x) steady (λ h. array_cells k n e kind) (ap (λ z. not (is_structured z)) kind) (λ a. refl) (omega (arith, few)) one (shows_of x g.0 g.1 ok lends).value)
-    select_is (Index None e x) own k may t d low is ok lends one = no ok
-    select_is (Field r f) own k may t d low is ok lends one =
+    select_is : (s : Selector) (own : Mask) (b t : Thing) (d : Act Handed) (low : Low Named) → WellFormed.select_named p l.proc s (Some b) ≡ Some t → HasParts b → selector_covered s ≡ true → Lends (lent_selector s) → Sensible b d → Follows w l 0 fuel nothing (Given w l) (DesignatorIs w l own b) d low
+        → PartIs t (select p calls runs s d) (lower_select p lay mine s low)
+    select_is (Index o e x) own b t d low is parts ok lends sensible one =
+        let has = provided_is p (WellFormed.array_of p e o b) (provided (gives_number (WellFormed.form p l.proc x)) (Some (Of e (WellFormed.is_writable b)))) t is in
+        let c = provided_is p (gives_number (WellFormed.form p l.proc x)) (Some (Of e (WellFormed.is_writable b))) t has.1 in
+        let g = number_form (WellFormed.form p l.proc x) c.0 in
+        subst (λ t. PartIs t (select p calls runs (Index o e x) d) (lower_select p lay mine (Index o e x) low)) (some_same (Of e (WellFormed.is_writable b)) t c.1)
+        (tt, of_variable e (WellFormed.is_writable b) (follows_element_place w l o (cells p.types e) (value p calls runs x) (expr p lay mine x).value none (Of e (WellFormed.is_writable b)) d steady (steady_designator w l own b) (λ a. refl) (array_is own b o e has.0) one (shows_of x g.0 g.1 ok lends).value))
+    select_is (Field r f) own (Of k may) t d low is parts ok lends sensible one =
         let a = provided_is p (WellFormed.has_record p r (Of k may)) (with_some (slice_get (types_of (record_of p.types r).fields) f) (λ k. Some (Of k may))) t is in
         let c = with_is p good (slice_get (types_of (record_of p.types r).fields) f) (λ k. Some (Of k may)) t a.1 in
         let s = holds_is p good (λ s. extends p.types s r) (WellFormed.record_by (kind_of p.types k)) a.0 in
         let kind = record_is p good (kind_of p.types k) s.0 s.1 in
-        (c.0, sym (some_same (Of c.0 may) t c.2), follows_field_place w l own none (Of k may) (Of c.0 may) d (field_place p.types r f) (cells p.types c.0) steady (λ h j lt. field_cells k s.0 r f c.0 j kind s.2 c.1 lt) (ap (λ z. not (is_structured z)) kind) (λ a. refl) one)
-    select_is (Dereference rs) own k may t d low is ok lends one = no ok
-    select_is (Narrow r) own k may t d low is ok lends one = no ok
+        subst (λ t. PartIs t (select p calls runs (Field r f) d) (lower_select p lay mine (Field r f) low)) (some_same (Of c.0 may) t c.2)
+        (tt, of_variable c.0 may (follows_field_place w l own none (Of k may) (Of c.0 may) d (field_place p.types r f) (cells p.types c.0) steady (λ h second j lt. field_cells k s.0 r f c.0 j kind s.2 c.1 lt) (ap (λ z. not (is_structured z)) kind) (λ a. refl) one))
+    select_is (Field r f) own (Dynamic b) t d low is parts ok lends sensible one =
+        let a = provided_is p (WellFormed.has_record p r (Dynamic b)) (with_some (slice_get (types_of (record_of p.types r).fields) f) (λ k. Some (Of k true))) t is in
+        let c = with_is p good (slice_get (types_of (record_of p.types r).fields) f) (λ k. Some (Of k true)) t a.1 in
+        subst (λ t. PartIs t (select p calls runs (Field r f) d) (lower_select p lay mine (Field r f) low)) (some_same (Of c.0 true) t c.2)
+        (tt, of_variable c.0 true (follows_field_place w l own none (Dynamic b) (Of c.0 true) d (field_place p.types r f) (cells p.types c.0) steady (λ h second j lt. dynamic_cells b r f c.0 h second a.0 c.1 j lt) refl (λ a. refl) one))
+    select_is (Field r f) own (OpenOf e may) t d low is parts ok lends sensible one = none_some t is
+    select_is (Field r f) own _ t d low is parts ok lends sensible one = absurd parts
+    select_is (Dereference []) own b t d low is parts ok lends sensible one =
+        let a = with_is p good (WellFormed.scalar_in p b) pointed t is in
+        let r = pointed_is p good a.0 t a.2 in
+        let whole = sensible_part (Dereference []) b t d is sensible in
+        subst (λ t. Sensible t (select p calls runs (Dereference []) d) → PartIs t (select p calls runs (Dereference []) d) (lower_select p lay mine (Dereference []) low)) (sym r.2)
+        (λ sensible. (tt, of_sensible (Dynamic r.0) sensible (follows_object w l none r.0 steady (follows_load w l own d steady (follows_home w l own b d steady (λ h v m g s known. scalar_row b a.0 a.1 h) (only_named w l b one)))))) whole
+    select_is (Dereference (r ∷ rs)) own b t d low is parts ok lends sensible one = no ok
+    select_is (Narrow r) own b t d low is parts ok lends sensible one = no ok
 
     pub shows_of : (e : Expr) (k : Form) → WellFormed.form p l.proc e ≡ Some k → expr_covered e ≡ true → Lends (lent e) → Shows (value p calls runs e) (expr p lay mine e)
     shows_of (Literal n) k is ok lends = shown (follows_literal w l n (literal_few n k is))
     shows_of (Routine g) k is ok lends = shown (follows_routine w l g (right.callable g (provided_is p (WellFormed.callable p g) (Some (Exactly g)) k is).0))
-    shows_of (Load d) k is ok lends =
-        let z = with_is p good (WellFormed.named p l.proc d) (WellFormed.scalar_in p) k is in
-        shown (follows_load w l (whole_of d) (designated p calls runs d) steady (follows_home w l (whole_of d) z.0 (designated p calls runs d) steady (λ h v m g s known. scalar_row z.0 k z.2 h) (named_is d z.0 z.1 ok lends)))
+    shows_of (Load d) k is ok lends = shown (variable_value d k is (λ n e. named_is d n e ok lends))
     shows_of (Guard d rs) k is ok lends = no ok
     shows_of (Unary' op _ x) k is ok lends =
         let z = provided_is p (gives_number (WellFormed.form p l.proc x)) (Some (WellFormed.unary_form op)) k is in
@@ -567,7 +689,17 @@ module _ (w : Whole) (l : Level) (right : Right w) (apart : Apart l) (vars : Var
         let one = shows_of x a.0 a.1 parts.0 (left_lends (lent x) (lent y) lends) in
         let two = shows_of y b.0 b.1 parts.1 (right_lends (lent x) (lent y) lends) in
         record { value = follows_compared w l right r steady one.value two.value; test = forks_branch w l right r steady one.value two.value }
-    shows_of (CompareTexts' r _ d _ e) k is ok lends = no ok
+    shows_of (CompareTexts' r _ d _ e) k is ok lends =
+        let parts = and_of (designator_covered d) (designator_covered e) ok in
+        let a = provided_is p (holds_of (WellFormed.is_text p (length_of_kind (kind_in d))) (WellFormed.named p l.proc d)) (provided (holds_of (WellFormed.is_text p (length_of_kind (kind_in e))) (WellFormed.named p l.proc e)) (Some Truth)) k is in
+        let b = provided_is p (holds_of (WellFormed.is_text p (length_of_kind (kind_in e))) (WellFormed.named p l.proc e)) (Some Truth) k a.1 in
+        let t = holds_is p good (WellFormed.is_text p (length_of_kind (kind_in d))) (WellFormed.named p l.proc d) a.0 in
+        let u = holds_is p good (WellFormed.is_text p (length_of_kind (kind_in e))) (WellFormed.named p l.proc e) b.0 in
+        let x = holds_is p good (WellFormed.is_letter p) (WellFormed.elements_in p t.0 (length_of_kind (kind_in d))) t.2 in
+        let y = holds_is p good (WellFormed.is_letter p) (WellFormed.elements_in p u.0 (length_of_kind (kind_in e))) u.2 in
+        shown (follows_texts_compared w l right apart good r t.0 u.0 (length_of_kind (kind_in d)) (length_of_kind (kind_in e)) x.0 y.0 (designated p calls runs d) (designated p calls runs e) x.1 x.2 y.1 y.2 steady
+        (letters_span (whole_of d) t.0 (length_of_kind (kind_in d)) x.0 x.1 x.2) (letters_span (whole_of e) u.0 (length_of_kind (kind_in e)) y.0 y.1 y.2)
+        (sound_named d t.0 t.1 (named_is d t.0 t.1 parts.0 (at_of_whole d (left_lends (lent_whole d) (lent_whole e) lends)))) (sound_named e u.0 u.1 (named_is e u.0 u.1 parts.1 (at_of_whole e (right_lends (lent_whole d) (lent_whole e) lends)))))
     shows_of (In' _ x _ s) k is ok lends =
         let parts = and_of (expr_covered x) (expr_covered s) ok in
         let a = provided_is p (gives_number (WellFormed.form p l.proc x)) (provided (gives_number (WellFormed.form p l.proc s)) (Some Truth)) k is in
@@ -581,9 +713,7 @@ module _ (w : Whole) (l : Level) (right : Right w) (apart : Apart l) (vars : Var
         let a = provided_is p (gives_number (WellFormed.form p l.proc x)) (Some Small) k is in
         let y = number_form (WellFormed.form p l.proc x) a.0 in
         shown (follows_byte w l steady (shows_of x y.0 y.1 ok lends).value)
-    shows_of (Length d) k is ok lends =
-        let cover = and_of (designator_covered d) (has_length (length_of_kind (kind_in d))) ok in
-        length_shows (length_of_kind (kind_in d)) d k cover.1 is (λ t e. named_is d t e cover.0 (at_of_whole d lends))
+    shows_of (Length d) k is ok lends = length_shows (length_of_kind (kind_in d)) d k is (λ t e. named_is d t e ok (at_of_whole d lends))
     shows_of (Call' _ c) k is ok lends = shown (call_value c k is ok lends)
 
     linked_shows : {m : _} (row : Row_of-Link m) (o : Option Form) (x : Act Cell) (low : Lowers) (k : Form) → WellFormed.linked_form p l.proc row o ≡ Some k → links_covered row ≡ true → Lends (lent_links row) → Shows x low → Meant o x → Shows (linked p calls runs row x) (lower_linked p lay mine row low)
@@ -634,8 +764,15 @@ module _ (w : Whole) (l : Level) (right : Right w) (apart : Apart l) (vars : Var
         let y = and_of (WellFormed.callable p g) (WellFormed.all_suit p l.proc args (procedure_of p g).formals) a.0 in
         follows_result_of w l right apart stacked good calls calling steady
         (follows_less w l (λ r i n f s h. h.0) (follows_sound w l {P = Answers p good (WellFormed.form_of p (procedure_of p g).result)} (λ tags older. t_call p good calls sound runs l.forms tags frame (taken_at tags older) (Direct' g m args) a.0)
-        (follows_called w l right apart stacked good calls calling g steady y.0 (λ v. (k, a.1)) (all_given g args y.1 (words_are (procedure_of p g).formals args y.1 ok lends)))))
-    call_value (Indirect' d m args) k is ok lends = no ok
+        (follows_called w l right apart stacked good calls calling g steady y.0 (λ v. (k, a.1)) (all_given (procedure_of p g).formals args y.1 (words_are (procedure_of p g).formals args y.1 ok lends)))))
+    call_value (Indirect' d m args) k is ok lends =
+        let a = provided_is p (WellFormed.call_suits p l.proc (Indirect' d m args)) (WellFormed.call_form p l.proc (Indirect' d m args)) k is in
+        let t = called_through d args a.0 in
+        let y = and_of (designator_covered d) (arguments_covered args) ok in
+        follows_result_of w l right apart stacked good calls calling steady
+        (follows_less w l (λ r i n f s h. h.0) (follows_sound w l {P = Answers p good (WellFormed.call_form p l.proc (Indirect' d m args))} (λ tags older. t_call p good calls sound runs l.forms tags frame (taken_at tags older) (Indirect' d m args) a.0)
+        (follows_called_value w l right apart stacked good calls calling t.0 steady (k, sym (ap (λ o. with_some o (WellFormed.result_through p)) t.1) ∙ a.1) (code_value d t.0 t.1 (λ n e. named_is d n e y.0 (left_lends (lent_at d) (lent_in args) lends)))
+        (all_given (signature_of p.types t.0).formals args t.2 (words_are (signature_of p.types t.0).formals args t.2 y.1 (right_lends (lent_at d) (lent_in args) lends))))))
 
     words_are : {m : _} (xs : List Formal) (row : Row_of-Argument m) → WellFormed.all_suit p l.proc row xs ≡ true → arguments_covered row ≡ true → Lends (lent_in row) → Follows w l 0 fuel nothing (Given w l) (WordsAre w l xs) (arguments p calls runs row) (lower_arguments p lay mine row)
     words_are [] end_of-Argument suits ok lends = follows_no_words w l
@@ -648,12 +785,12 @@ module _ (w : Whole) (l : Level) (right : Right w) (apart : Apart l) (vars : Var
 
     word_is : (a : Argument) (x : Formal) → WellFormed.argument_suits p l.proc a x ≡ true → argument_covered a ≡ true → Lends (lent_as a) → Follows w l 0 fuel nothing (Given w l) (OneWord w l x.mode x.type_number) (argument p calls runs a) (lower_argument p lay mine a)
     word_is (ByValue e) x suits ok lends = value_word x.mode x.type_number e suits (λ f is. (shows_of e f is ok lends).value)
-    word_is (ByPlace d) x suits ok lends = place_word x.mode x.type_number x.variable d suits ok lends (λ n is. named_is d n is ok (at_of_whole d lends))
-    word_is (ByRecord d) x suits ok lends = no ok
-    word_is (ByOpen d) x suits ok lends = no ok
+    word_is (ByPlace d) x suits ok lends = place_word x.mode x.type_number x.variable d suits lends (λ n is. named_is d n is ok (at_of_whole d lends))
+    word_is (ByRecord d) x suits ok lends = record_word x.mode x.type_number (record_of_kind (kind_in d)) d suits lends (λ n is. named_is d n is ok (at_of_whole d lends))
+    word_is (ByOpen d) x suits ok lends = open_word x.mode x.type_number x.variable d (length_of_kind (kind_in d)) suits (λ n is. named_is d n is ok (at_of_whole d lends))
 
   pub home_is : (d : Designator) (n : Thing) (f : Form) → WellFormed.named p l.proc d ≡ Some n → WellFormed.scalar_in p n ≡ Some f → designator_covered d ≡ true → Lends (lent_at d) → Follows w l 0 fuel nothing (Given w l) (HomeIs w l (whole_of d)) (place (designated p calls runs d)) (home p lay mine d)
-  home_is d n f is scalar ok lends = follows_home w l (whole_of d) n (designated p calls runs d) steady (λ h v m g s k. scalar_row n f scalar h) (named_is d n is ok lends)
+  home_is d n f is scalar ok lends = follows_home w l (whole_of d) n (designated p calls runs d) steady (λ h v m g s k. scalar_row n f scalar h) (only_named w l n (named_is d n is ok lends))
 
   ---- Statements
 
@@ -710,6 +847,53 @@ module _ (w : Whole) (l : Level) (right : Right w) (apart : Apart l) (vars : Var
   -- a statement that makes sense leaves a typed store
   typed_by : {mask : Mask} (s : Stmt) {low : Low (Unit {0})} → WellFormed.fine p l.proc s ≡ true → FollowsTo w l false 1 fuel mask (Given w l) Always (effect p calls runs fuel s) low → Follows w l 1 fuel mask (Given w l) Always (effect p calls runs fuel s) low
   typed_by s fine one = follows_less w l (λ a b n f t h. tt) (follows_sound w l {P = Any p} (λ tags older. (t_effect p good calls sound runs l.forms tags frame (taken_at tags older) fuel s).sound fine) one)
+
+  -- what needs no turns before it
+  unpaid : {mask : Mask} {A B : Type 0} {K : Fact} {R : A → B → Fact} {x : Act A} {low : Low B} → Follows w l 0 fuel nothing K R x low → Follows w l 1 fuel mask K R x low
+  unpaid one = follows_mask w l {less = nothing} (omega arith) (λ y e. refl) one
+
+  -- a record reaches as far as its type's base does
+  record_long : (d : Thing) (r : ℕ) → WellFormed.has_record p r d ≡ true → (h : Handed) → SecondFits w l d h → record_cells p.types r ≤ row_of w l d h
+  record_long (Of k may) r has h second =
+      let s = holds_is p good (λ s. extends p.types s r) (record_by (kind_of p.types k)) has in
+      let a = cells_length p.types k ∙ ap (λ (xs : List Form). length xs) (whole_forms p.types good k s.0 (record_is p good (kind_of p.types k) s.0 s.1)) in
+      let b = record_cells_length p.types r in
+      let e = extended_cells s.0 r s.2 in omega (arith, a, b, e)
+  record_long (Dynamic b) r has (Tagged a t) second =
+      let less = extended_cells t r (extends_trans p.types good t b r second has) in
+      let own = record_cells_length p.types t in
+      let base = record_cells_length p.types r in omega (arith, less, own, base)
+  record_long (Dynamic b) r has (Addressed a) second = absurd second
+  record_long (Dynamic b) r has (Sized a n) second = absurd second
+  record_long (Dynamic b) r has (Value c) second = absurd second
+  record_long (Cells f may) r has h second = no has
+  record_long (OpenOf e may) r has h second = no has
+  record_long (Characters m) r has h second = no has
+
+  record_many : (d : Thing) (r : ℕ) → WellFormed.has_record p r d ≡ true → is_single w l d ≡ false
+  record_many (Of k may) r has =
+      let s = holds_is p good (λ s. extends p.types s r) (record_by (kind_of p.types k)) has in
+      ap (λ z. not (is_structured z)) (record_is p good (kind_of p.types k) s.0 s.1)
+  record_many (Dynamic b) r has = refl
+  record_many (Cells f may) r has = no has
+  record_many (OpenOf e may) r has = no has
+  record_many (Characters m) r has = no has
+
+  record_reaches : (own : Mask) (d : Thing) (r : ℕ) → WellFormed.has_record p r d ≡ true → Reaches w l right apart own d (record_cells p.types r)
+  record_reaches own d r has = record { long = record_long d r has; many = record_many d r has }
+
+  -- the record type of a new object is there, and its descriptor's place is within the limit
+  record_type_of : (r : ℕ) (k : Form) → WellFormed.points_to p r k ≡ true → r < length p.types.records
+  record_type_of r (ToRecord b) h = lt_of p r (length p.types.records) (and_of (is_record_type p.types r) (extends p.types r b) h).0
+  record_type_of r Zero h = no h
+  record_type_of r Truth h = no h
+  record_type_of r Small h = no h
+  record_type_of r Number h = no h
+  record_type_of r (Routines k) h = no h
+  record_type_of r (Exactly g) h = no h
+
+  clamped : (n : ℕ) → within n < 2 ^ 32
+  clamped n = grind (arith, nat_tests)
 
   -- alternatives one behind the other
   unit_after : (e : Ending Objects Trap (Unit {0})) (other : Deed) → after (after e (λ u t. Gives true t)) (λ done. if done then give tt else other) ≡ e
@@ -775,9 +959,16 @@ module _ (w : Whole) (l : Level) (right : Right w) (apart : Apart l) (vars : Var
       let y = and_of (WellFormed.callable p g) (WellFormed.all_suit p l.proc args (procedure_of p g).formals) suits in
       follows_then w l {R = λ r (u : Unit {0}) n f s. Unit {0}} steady
       (follows_less w l (λ r u n f s h. tt) (follows_sound w l {P = Answers p good (WellFormed.form_of p (procedure_of p g).result)} (λ tags older. t_call p good calls sound runs l.forms tags frame (taken_at tags older) (Direct' g m args) suits)
-      (follows_called_only w l right apart stacked good calls calling g steady y.0 (all_given g args y.1 (words_are (procedure_of p g).formals args y.1 ok lends)))))
+      (follows_called_only w l right apart stacked good calls calling g steady y.0 (all_given (procedure_of p g).formals args y.1 (words_are (procedure_of p g).formals args y.1 ok lends)))))
       (λ r u n f s known h. inl (tt, refl, tt))
-  call_only (Indirect' d m args) suits ok lends = no ok
+  call_only (Indirect' d m args) suits ok lends =
+      let t = called_through d args suits in
+      let y = and_of (designator_covered d) (arguments_covered args) ok in
+      follows_then w l {R = λ r (u : Unit {0}) n f s. Unit {0}} steady
+      (follows_less w l (λ r u n f s h. tt) (follows_sound w l {P = Answers p good (WellFormed.call_form p l.proc (Indirect' d m args))} (λ tags older. t_call p good calls sound runs l.forms tags frame (taken_at tags older) (Indirect' d m args) suits)
+      (follows_called_value_only w l right apart stacked good calls calling t.0 steady (code_value d t.0 t.1 (λ n e. named_is d n e y.0 (left_lends (lent_at d) (lent_in args) lends)))
+      (all_given (signature_of p.types t.0).formals args t.2 (words_are (signature_of p.types t.0).formals args t.2 y.1 (right_lends (lent_at d) (lent_in args) lends))))))
+      (λ r u n f s known h. inl (tt, refl, tt))
 
   -- what is behind RETURN
   pub answer_is : (k : Option Form) (e : Option Checked) → WellFormed.answer_fine p l.proc k e ≡ true → answer_covered e ≡ true → Lends (lent_by_answer e) → Follows w l 0 fuel nothing (Given w l) (AnswerIs w l) (answer p calls runs e) (lower_answer p lay mine e)
@@ -889,15 +1080,44 @@ module _ (w : Whole) (l : Level) (right : Right w) (apart : Apart l) (vars : Var
         let g = number_form (WellFormed.checked_form p l.proc x) y.1 in
         follows_mask w l {low_need = 1} {less = registers p lay mine (assigned_all body)} (omega arith) (not_covered mask (assigned_all body) c)
         (follows_until w l (registers p lay mine (assigned_all body)) (test (value p calls runs x.form)) (effects p calls runs fuel body) (expr p lay mine x.form).test (deeds p lay mine body) steady (forks_test w l (value p calls runs x.form) (checked_shows x g.0 g.1 z.1 (right_lends (lent_by_all body) (lent x.form) lends)).test) (row_is (registers p lay mine (assigned_all body)) body y.0 z.0 (λ v e. e) (left_lends (lent_by_all body) (lent x.form) lends)))
-    stmt_is mask (CopyArray d e) fine ok c lends = no ok
-    stmt_is mask (CopyRecord d e) fine ok c lends = no ok
-    stmt_is mask (New d) fine ok c lends = no ok
-    stmt_is mask (OutString d) fine ok c lends = no ok
+    stmt_is mask (CopyArray d e) fine ok c lends =
+        let parts = and_of (lengths_fit (length_of_kind (kind_in d)) (length_of_kind (kind_in e))) (designator_covered d && designator_covered e) ok in
+        let places = and_of (designator_covered d) (designator_covered e) parts.1 in
+        let y = and_of (holds_of (WellFormed.may_copy p l.proc (element_kind (kind_in d)) (length_of_kind (kind_in d))) (WellFormed.named p l.proc d)) (holds_of (WellFormed.array_of p (element_kind (kind_in d)) (length_of_kind (kind_in e))) (WellFormed.named p l.proc e)) fine in
+        let a = holds_is p good (WellFormed.may_copy p l.proc (element_kind (kind_in d)) (length_of_kind (kind_in d))) (WellFormed.named p l.proc d) y.0 in
+        let b = holds_is p good (WellFormed.array_of p (element_kind (kind_in d)) (length_of_kind (kind_in e))) (WellFormed.named p l.proc e) y.1 in
+        let may = and_of (WellFormed.is_writable a.0) (WellFormed.array_of p (element_kind (kind_in d)) (length_of_kind (kind_in d)) a.0) a.2 in
+        typed_by (CopyArray d e) fine (follows_copy_array w l right apart (cells p.types (element_kind (kind_in d))) (length_of_kind (kind_in d)) (length_of_kind (kind_in e)) (designated p calls runs d) (designated p calls runs e) (right.cells (element_kind (kind_in d))) parts.0 steady
+        (steady_designator w l (whole_of d) a.0) (steady_designator w l (whole_of e) b.0)
+        (λ h v. unpaid (array_is (whole_of d) a.0 (length_of_kind (kind_in d)) (element_kind (kind_in d)) may.1 h v)) (λ h v. unpaid (array_is (whole_of e) b.0 (length_of_kind (kind_in e)) (element_kind (kind_in d)) b.2 h v))
+        (unpaid (named_is d a.0 a.1 places.0 (at_of_whole d (left_lends (lent_whole d) (lent_whole e) lends)))) (unpaid (named_is e b.0 b.1 places.1 (at_of_whole e (right_lends (lent_whole d) (lent_whole e) lends)))))
+    stmt_is mask (CopyRecord d e) fine ok c lends =
+        let parts = and_of (designator_covered d) (designator_covered e) ok in
+        let y = and_of (holds_of (λ t. WellFormed.is_writable t && WellFormed.has_record p (record_of_kind (kind_in d)) t) (WellFormed.named p l.proc d)) (holds_of (WellFormed.has_record p (record_of_kind (kind_in d))) (WellFormed.named p l.proc e)) fine in
+        let a = holds_is p good (λ t. WellFormed.is_writable t && WellFormed.has_record p (record_of_kind (kind_in d)) t) (WellFormed.named p l.proc d) y.0 in
+        let b = holds_is p good (WellFormed.has_record p (record_of_kind (kind_in d))) (WellFormed.named p l.proc e) y.1 in
+        let may = and_of (WellFormed.is_writable a.0) (WellFormed.has_record p (record_of_kind (kind_in d)) a.0) a.2 in
+        let few = right.record_cells (record_of_kind (kind_in d)) in
+        typed_by (CopyRecord d e) fine (follows_copy_record w l right apart a.0 b.0 (designated p calls runs d) (designated p calls runs e) (record_cells p.types (record_of_kind (kind_in d))) (omega (arith, few)) steady (record_reaches (whole_of d) a.0 (record_of_kind (kind_in d)) may.1) (record_reaches (whole_of e) b.0 (record_of_kind (kind_in d)) b.2)
+        (unpaid (named_is d a.0 a.1 parts.0 (at_of_whole d (left_lends (lent_whole d) (lent_whole e) lends)))) (unpaid (named_is e b.0 b.1 parts.1 (at_of_whole e (right_lends (lent_whole d) (lent_whole e) lends)))))
+    stmt_is mask (New d) fine ok c lends =
+        let t = takes_is p good (WellFormed.points_to p (record_of_kind (kind_in d))) (WellFormed.named p l.proc d) fine in
+        let n = record_type_of (record_of_kind (kind_in d)) t.1 t.4 in
+        let e = vars.records in
+        typed_by (New d) fine (follows_new w l right apart (whole_of d) (designated p calls runs d) (record_cells p.types (record_of_kind (kind_in d))) (record_of_kind (kind_in d)) (descriptor p lay mine (record_of_kind (kind_in d))) (vars.descriptor (record_of_kind (kind_in d)))
+        (clamped (descriptor_at p lay (record_of_kind (kind_in d)))) (record_cells_length p.types (record_of_kind (kind_in d))) (omega (arith, n, e)) steady (masked_by mask d t.0 t.2 c) (home_at d t.0 t.1 t.2 t.3 ok lends))
+    stmt_is mask (OutString d) fine ok c lends =
+        let t = holds_is p good (WellFormed.is_text p (length_of_kind (kind_in d))) (WellFormed.named p l.proc d) fine in
+        let el = holds_is p good (WellFormed.is_letter p) (WellFormed.elements_in p t.0 (length_of_kind (kind_in d))) t.2 in
+        let one_cell = ap (λ (xs : List Form). length xs) (letter_forms p good el.0 el.2) in
+        follows_out_string w l good t.0 (length_of_kind (kind_in d)) el.0 (designated p calls runs d) el.1 el.2 steady
+        (λ h v. unpaid (subst (λ c. Follows w l 0 fuel nothing (Both (Given w l) (DesignatorIs w l (whole_of d) t.0 h v)) (SpanIs w l (length_of_kind (kind_in d)) c v) (span_by w l (length_of_kind (kind_in d)) h) (lower_address v 0)) one_cell (span_is (whole_of d) t.0 (length_of_kind (kind_in d)) el.0 el.1 h v)))
+        (unpaid (follows_sound w l {P = NamesOf p l.forms t.0} (λ tags older. (t_named p good calls sound runs l.forms tags frame (taken_at tags older) d).sound t.0 t.1) (named_is d t.0 t.1 ok (at_of_whole d lends))))
     stmt_is mask (InChar d) fine ok c lends =
         let t = takes_is p good (WellFormed.changes true) (WellFormed.named p l.proc d) fine in
         typed_by (InChar d) fine (follows_in_char w l right apart (whole_of d) t.0 (designated p calls runs d) steady (own_lent d lends) (λ h. scalar_row t.0 t.1 t.3 h) vars.done
         (λ n le tags older. s_put p done Truth (Bits n) (done_formed p good l.forms tags) refl (omega (arith, le)))
-        (follows_mask w l {less = nothing} (omega arith) (λ y e. refl) (named_is d t.0 t.2 ok (at_of_whole d lends))))
+        (follows_mask w l {less = nothing} (omega arith) (λ y e. refl) (only_named w l t.0 (named_is d t.0 t.2 ok (at_of_whole d lends)))))
     stmt_is mask (Invoke k) fine ok c lends = follows_mask w l {less = nothing} (omega arith) (λ y e. refl) (call_only k fine ok lends)
     stmt_is mask (For' d x y step _ body) fine ok c lends =
         let z = and_of (is_fixed d) (checked_covered x && (checked_covered y && row_covered body)) ok in

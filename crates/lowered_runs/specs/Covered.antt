@@ -1,33 +1,21 @@
 -- The programs of which the simulation is proved so far: which constructs they may have.
-use Rattle.std.specs.Prelude.{ℕ, Bool, true, false, ◌&&◌, Option, Some, None}
+use Rattle.std.specs.Prelude.{ℕ, nat_le, Bool, true, false, ◌&&◌, Option, Some, None}
 use Rattle.ob_types.specs.Forms.{all}
-use Rattle.ob_types.specs.Meaning.{length_of_kind, kind_in}
-use Rattle.ob_types.specs.declared.types.Mode.{Mode}
-use Rattle.ob_types.specs.declared.types.Mode.TheVariants.{Value, Place}
-use Rattle.ob_types.specs.declared.tree.Expr.{Expr, Literal, Routine, Load, Length, Unary', Chain', Compare', In', Byte', Call', Row_of-Link, end_of-Link, more_of-Link}
+use Rattle.ob_types.specs.Meaning.{kind_in, length_of_kind}
+use Rattle.ob_types.specs.WellFormed.{is_empty}
+use Rattle.ob_types.specs.declared.tree.Expr.{Expr, Literal, Routine, Load, Length, Unary', Chain', Compare', CompareTexts', In', Byte', Call', Row_of-Link, end_of-Link, more_of-Link}
 use Rattle.ob_types.specs.declared.tree.Link.{Link, Operate, And, Or, Element, Elements}
 use Rattle.ob_types.specs.declared.tree.Base.{Base}
-use Rattle.ob_types.specs.declared.tree.Base.TheVariants.{Global, Local, Parameter, Text}
+use Rattle.ob_types.specs.declared.tree.Base.TheVariants.{Global, Local, Parameter}
 use Rattle.ob_types.specs.declared.tree.Designator.{Designator, Whole, Part', Row_of-Selector, end_of-Selector, more_of-Selector}
-use Rattle.ob_types.specs.declared.tree.Selector.{Selector, Index, Field}
-use Rattle.ob_types.specs.declared.tree.Call.{Call, Direct', Row_of-Argument, end_of-Argument, more_of-Argument}
-use Rattle.ob_types.specs.declared.tree.Argument.{Argument, ByValue, ByPlace}
+use Rattle.ob_types.specs.declared.tree.Selector.{Selector, Index, Field, Dereference, Narrow}
+use Rattle.ob_types.specs.declared.tree.Call.{Call, Direct', Indirect', Row_of-Argument, end_of-Argument, more_of-Argument}
+use Rattle.ob_types.specs.declared.tree.Argument.{Argument, ByValue, ByPlace, ByRecord, ByOpen}
 use Rattle.ob_types.specs.declared.statements.Checked.{Checked}
-use Rattle.ob_types.specs.declared.statements.Stmt.{Stmt, Assign, Increase, Decrease, Include, Exclude, Assert, OutChar, OutInt, OutLn, InChar, If', While', Repeat', For', Case', Row_of-Stmt, end_of-Stmt, more_of-Stmt, Row_of-Branch, end_of-Branch, more_of-Branch, Row_of-CasePart, end_of-CasePart, more_of-CasePart}
+use Rattle.ob_types.specs.declared.statements.Stmt.{Stmt, Assign, CopyArray, CopyRecord, Increase, Decrease, Include, Exclude, New, Assert, OutChar, OutInt, OutString, OutLn, InChar, If', While', Repeat', For', Case', Row_of-Stmt, end_of-Stmt, more_of-Stmt, Row_of-Branch, end_of-Branch, more_of-Branch, Row_of-CasePart, end_of-CasePart, more_of-CasePart}
 use Rattle.ob_types.specs.declared.statements.Stmt.{Call as Invoke}
 use Rattle.ob_types.specs.declared.program.Procedure.{Procedure}
 use Rattle.ob_types.specs.declared.program.Program.{Program}
-
--- a parameter that is a scalar, or the address of a variable of its type
-abbrev pub is_simple : Mode → Bool
-is_simple Value = true
-is_simple Place = true
-is_simple _ = false
-
--- variables of modules, and of calls
-abbrev pub base_covered : Base → Bool
-base_covered (Text k) = false
-base_covered _ = true
 
 -- one that may have parts
 abbrev pub base_has_parts : Base → Bool
@@ -42,12 +30,8 @@ is_fixed (Whole (Global m v) k) = true
 is_fixed (Whole (Local x) k) = true
 is_fixed _ = false
 
--- a length that the type says
-abbrev pub has_length : Option ℕ → Bool
-has_length None = false
-has_length (Some n) = true
-
--- scalars and their operators, elements of arrays of known length, fields, and calls of declared procedures
+-- scalars and their operators, comparisons of texts, elements of arrays and their lengths, fields, the objects of pointers without a guard, and
+-- calls of declared procedures and through procedure variables
 abbrev mutual
   pub expr_covered : Expr → Bool
   expr_covered (Literal n) = true
@@ -56,15 +40,16 @@ abbrev mutual
   expr_covered (Unary' op _ x) = expr_covered x
   expr_covered (Chain' _ x _ links) = expr_covered x && links_covered links
   expr_covered (Compare' r _ x _ y) = expr_covered x && expr_covered y
+  expr_covered (CompareTexts' r _ d _ e) = designator_covered d && designator_covered e
   expr_covered (In' _ x _ s) = expr_covered x && expr_covered s
   expr_covered (Byte' _ x) = expr_covered x
-  expr_covered (Length d) = designator_covered d && has_length (length_of_kind (kind_in d))
+  expr_covered (Length d) = designator_covered d
   expr_covered (Call' _ c) = call_covered c
   expr_covered _ = false
 
-  -- a variable, or a part of one
+  -- a variable or a string, or a part of a variable
   pub designator_covered : Designator → Bool
-  designator_covered (Whole b k) = base_covered b
+  designator_covered (Whole b k) = true
   designator_covered (Part' b k _ selectors) = base_has_parts b && part_covered selectors
 
   pub part_covered : {m : _} → Row_of-Selector m → Bool
@@ -76,9 +61,10 @@ abbrev mutual
   selectors_covered (more_of-Selector s rest) = selector_covered s && selectors_covered rest
 
   pub selector_covered : Selector → Bool
-  selector_covered (Index (Some n) k x) = expr_covered x
+  selector_covered (Index n k x) = expr_covered x
   selector_covered (Field r f) = true
-  selector_covered _ = false
+  selector_covered (Dereference guards) = is_empty guards
+  selector_covered (Narrow r) = false
 
   pub links_covered : {m : _} → Row_of-Link m → Bool
   links_covered end_of-Link = true
@@ -93,31 +79,41 @@ abbrev mutual
 
   pub call_covered : Call → Bool
   call_covered (Direct' g _ args) = arguments_covered args
-  call_covered _ = false
+  call_covered (Indirect' d _ args) = designator_covered d && arguments_covered args
 
   pub argument_covered : Argument → Bool
   argument_covered (ByValue x) = expr_covered x
   argument_covered (ByPlace d) = designator_covered d
-  argument_covered _ = false
+  argument_covered (ByRecord d) = designator_covered d
+  argument_covered (ByOpen d) = designator_covered d
 
   pub arguments_covered : {m : _} → Row_of-Argument m → Bool
   arguments_covered end_of-Argument = true
   arguments_covered (more_of-Argument x rest) = argument_covered x && arguments_covered rest
 
+-- an array is copied into one that isn't shorter, as far as both lengths are known
+abbrev pub lengths_fit : Option ℕ → Option ℕ → Bool
+lengths_fit (Some n) (Some m) = nat_le m n
+lengths_fit _ _ = true
+
 abbrev pub checked_covered : Checked → Bool
 checked_covered x = expr_covered x.form
 
--- assignments of scalars, output, input, calls and control, CASE on values too
+-- assignments, NEW, output, input, calls and control, CASE on values too
 abbrev mutual
   pub covered : Stmt → Bool
   covered (Assign d x) = designator_covered d && checked_covered x
+  covered (CopyArray d e) = lengths_fit (length_of_kind (kind_in d)) (length_of_kind (kind_in e)) && (designator_covered d && designator_covered e)
+  covered (CopyRecord d e) = designator_covered d && designator_covered e
   covered (Increase d x) = designator_covered d && checked_covered x
   covered (Decrease d x) = designator_covered d && checked_covered x
   covered (Include d x) = designator_covered d && checked_covered x
   covered (Exclude d x) = designator_covered d && checked_covered x
+  covered (New d) = designator_covered d
   covered (Assert x) = checked_covered x
   covered (OutChar x) = checked_covered x
   covered (OutInt x n) = checked_covered x && checked_covered n
+  covered (OutString d) = designator_covered d
   covered OutLn = true
   covered (InChar d) = designator_covered d
   covered (Invoke c) = call_covered c
@@ -144,9 +140,9 @@ abbrev pub answer_covered : Option Checked → Bool
 answer_covered None = true
 answer_covered (Some x) = checked_covered x
 
--- its parameters, its statements, and what is behind RETURN
+-- its statements, and what is behind RETURN
 abbrev pub procedure_covered : Procedure → Bool
-procedure_covered q = all (λ x. is_simple x.mode) q.formals && (all covered q.body && answer_covered q.answer)
+procedure_covered q = all covered q.body && answer_covered q.answer
 
 -- all procedures, the modules' bodies among them
 abbrev pub program_covered : Program → Bool

@@ -7,6 +7,8 @@ use Rattle.block_runs.specs.States.{Frame, State, Point, Stop}
 use Rattle.block_runs.specs.States.{Kind as Stopped}
 use Rattle.block_runs.specs.Points.{AreCodePlaces}
 use Rattle.ob_types.specs.Forms.{Form, all}
+use Rattle.ob_types.specs.Layout.{cells, record_cells}
+use Rattle.ob_types.specs.LegalTypes.{most_cells}
 use Rattle.ob_types.specs.declared.program.Program.{Program}
 use Rattle.ob_types.specs.WellFormed.{callable as can_call}
 use Rattle.ob_types.specs.Meaning.{procedure_of}
@@ -37,8 +39,8 @@ abbrev pub heap_words : ℕ
 heap_words = 8388608
 
 -- what is the same all through a run: the checked program; the procedures that run; the addresses of their code; the first
--- words of a global object, of a string and of a record type's descriptor; what the words of descriptors have; how many record types there
--- are; the memory's areas; the points; and where and with how many turns it began
+-- words of a global object and of a string; the address of a record type's descriptor; what the words of descriptors have; how many record
+-- types there are; the memory's areas; the points; and where and with how many turns it began
 pub record Whole : Type 0 where
   pub program : Program
   pub procedures : List Procedure
@@ -72,11 +74,14 @@ pub record Level : Type 0 where
   pub cell : ℕ → ℕ
   pub store : Store
 
--- code addresses are told apart, procedures that may be called are there, and they may be called with their argument words
+-- code addresses are told apart, procedures that may be called are there, and they may be called with their argument words; no type and no record
+-- type has more cells than types may have
 pub record Right (w : Whole) : Type 0 where
   pub codes : AreCodePlaces (length w.procedures) w.code
   pub callable : (g : ℕ) → can_call w.program g ≡ true → g < length w.procedures
   pub may : (g : ℕ) → can_call w.program g ≡ true → (xs : List ℕ) → length xs ≡ words_of (procedure_of w.program g).formals → may_call w.procedures g xs ≡ true
+  pub cells : (k : ℕ) → cells w.program.types k ≤ most_cells
+  pub record_cells : (r : ℕ) → record_cells w.program.types r ≤ most_cells
 
 -- the sizes of all objects
 pub record Sizes : Type 0 where
@@ -166,7 +171,7 @@ pub record Held (w : Whole) (l : Level) (s : Store) (m : List Region) : Type 0 w
   pub rises : IsRising 0 m
   pub bytes : IsOfBytes m
   pub holds : (a : Area) (o c i : ℕ) (v : Cell) → cell_of (objects a s) o c ≡ Some v → word_at w l (sizes_of s) a o c ≡ Some i → ValueIs w (sizes_of s) v (word m i)
-  pub tags : (o t i : ℕ) → slice_get s.tags o ≡ Some t → place (sizes_of s) o ≡ Some i → (word m i ≡ 8 * w.descriptor t) × (t < w.records)
+  pub tags : (o t i : ℕ) → slice_get s.tags o ≡ Some t → place (sizes_of s) o ≡ Some i → (word m i ≡ w.descriptor t) × (t < w.records)
   pub constants : (i x : ℕ) → w.entry i ≡ Some x → word m i ≡ x
   pub tagged : length s.tags ≡ length s.heap
   pub zeros : (i : ℕ) → next (sizes_of s) ≤ i → i < heap_word + heap_words → word m i ≡ 0

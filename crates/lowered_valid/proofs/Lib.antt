@@ -17,4 +17,5 @@ mod Costs
 mod CostsTree
 mod Sizes
 pub mod Valid
+pub mod Modest
 mod Samples

@@ -17,6 +17,7 @@ ghost use Rattle.lowered_valid.specs.Claims.{code_of, MakesInOrder, ReadsItsValu
 ghost use Rattle.lowered_valid.specs.Claims.{HasFittingArguments, HasKnownConditions, HasFittingOperations, TakesFewWords};
 ghost use Rattle.lowered_valid.specs.TreeSizes.{tree_size, IsSmall};
 ghost use Rattle.lowered_valid.specs.Claims.{IsShort, IsNarrow, IsWithinLimits, CanBeLowered};
+ghost use Rattle.lowered_valid.specs.Modest.{HasFewValues, HasSmallData};
 
 /// The values that a procedure's blocks make are 0, 1, 2 and so on, in order, each once, as many as the procedure says.
 pub fn values_are_made_once()
@@ -82,4 +83,14 @@ pub fn lowered_procedures_are_valid()
     ensures valid { (p : Program) (l : Layout) → CanBeLowered l p → All IsValid (lowered_by l p) }
     ensures small { (p : Program) → well_formed p ≡ true → limit_of p ≡ None → All IsSmall p.procedures → All IsValid (lowered p) }
     ensures some { Box (Unit {0}) Heap → Vec (Unit {0}) Heap → (p : Program) × CanBeLowered (in_cells p.types) p × CanBeLowered (packed p.types) p }
+{}
+
+/// The procedures of a program that passes no limit have at most 4,000 values each.
+pub fn values_are_few()
+    ensures { (p : Program) → limit_of p ≡ None → All HasFewValues (lowered p) }
+{}
+
+/// Those of a well-formed one have local data of less than 2^24 bytes, and of less than 2^64 cells.
+pub fn local_data_is_small()
+    ensures { (p : Program) → well_formed p ≡ true → limit_of p ≡ None → All HasSmallData (lowered p) }
 {}

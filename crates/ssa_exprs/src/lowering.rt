@@ -30,7 +30,8 @@ pub fn lower_value(b: &mut Lowering, e: &Checked) -> Result<u32, LowerFault>
 /// Appends the code of a condition, which leads to one label where it holds and to another where it doesn't. The block behind
 /// it is begun, and runs as often as the one that was open.
 pub fn lower_cond(b: &mut Lowering, e: &Checked, yes: u32, no: u32) -> Result<(), LowerFault>
-    ensures test { OnOk result ((p : Program) (here : Here) → Serves b.old.tables p here → Tests b.old.making b.new.making (expr_in p here e.now.form).test yes no b.old.making.freq) }
+    ensures test { OnOk result ((p : Program) (here : Here) → Serves b.old.tables p here
+        → Tests b.old.making b.new.making (expr_in p here e.now.form).test yes no b.old.making.freq) }
     ensures tables { b.new.tables ≡ b.old.tables }
 {
     let freq = b.making.freq();

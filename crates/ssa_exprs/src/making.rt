@@ -68,7 +68,16 @@ impl Model for Making {
 
     ghost Value = { View };
 
-    ghost view = { λ m. record { made = m.made.items; block = m.block; freq = m.freq; values = m.values; known = record { env = m.env.items; log = m.log.items }; labels = m.labels; bounds = m.bounds.items; over = m.over } };
+    ghost view = { λ m. record {
+      made = m.made.items;
+      block = m.block;
+      freq = m.freq;
+      values = m.values;
+      known = record { env = m.env.items; log = m.log.items };
+      labels = m.labels;
+      bounds = m.bounds.items;
+      over = m.over;
+    } };
 }
 
 impl Making {

@@ -144,7 +144,8 @@ fn selected(
     selectors: &[Selector],
     first: Named,
 ) -> Result<Named, LowerFault>
-    ensures { IfOk result (λ h. (p : Program) (here : Here) → Serves t.now p here → (v : View) (d : Low NamedThing) → Gives v b.old d (named_of first) → Gives v b.new (selected_in p here selectors.now d) (named_of h)) }
+    ensures { IfOk result (λ h. (p : Program) (here : Here) → Serves t.now p here → (v : View) (d : Low NamedThing)
+        → Gives v b.old d (named_of first) → Gives v b.new (selected_in p here selectors.now d) (named_of h)) }
 {
     let mut h = first;
     for s in selectors {
@@ -156,7 +157,8 @@ fn selected(
 /// What a selector leads to.
 #[cycle(walk)]
 fn select(t: &Tables, b: &mut Making, s: &Selector, h: Named) -> Result<Named, LowerFault>
-    ensures { IfOk result (λ r. (p : Program) (here : Here) → Serves t.now p here → (v : View) (d : Low NamedThing) → Gives v b.old d (named_of h) → Gives v b.new (select_in p here s.now d) (named_of r)) }
+    ensures { IfOk result (λ r. (p : Program) (here : Here) → Serves t.now p here → (v : View) (d : Low NamedThing)
+        → Gives v b.old d (named_of h) → Gives v b.new (select_in p here s.now d) (named_of r)) }
 {
     match s {
         Selector::Index {
@@ -279,7 +281,8 @@ fn tested_byte(t: &Tables, b: &mut Making, x: &Expr) -> Result<u32, LowerFault>
 /// LEN.
 #[cycle(walk)]
 fn array_length(t: &Tables, b: &mut Making, d: &Designator) -> Result<u32, LowerFault>
-    ensures { IfOk result (λ v. (p : Program) (here : Here) → Serves t.now p here → Gives b.old b.new (length_of_named (named_in p here d.now) (length_of_kind (kind_in d.now))) v) }
+    ensures { IfOk result (λ v. (p : Program) (here : Here) → Serves t.now p here
+        → Gives b.old b.new (length_of_named (named_in p here d.now) (length_of_kind (kind_in d.now))) v) }
 {
     let h = named(t, b, d)?;
     address_in(b, h, 0)?;
@@ -299,7 +302,8 @@ fn called(t: &Tables, b: &mut Making, c: &Call) -> Result<u32, LowerFault>
 
 /// The pointer is tested to be of these record types, one after the other.
 fn guard_all(t: &Tables, b: &mut Making, types: &[u32], p: u32) -> Result<(), LowerFault>
-    ensures { OnOk result ((program : Program) (here : Here) → Serves t.now program here → (v : View) (m : Low ℕ) → Gives v b.old m p → Gives v b.new (guarded_in program here types.now m) p) }
+    ensures { OnOk result ((program : Program) (here : Here) → Serves t.now program here → (v : View) (m : Low ℕ) → Gives v b.old m p
+        → Gives v b.new (guarded_in program here types.now m) p) }
 {
     for r in types {
         guard(b, t.descriptor(*r), t.level(*r), p)?;
@@ -625,7 +629,8 @@ pub fn half(freq: u64) -> u64
 
 /// A condition's two ways become 1 and 0: behind the labels and the test.
 fn flagged(b: &mut Making, yes: u32, no: u32, freq: u64) -> Result<u32, LowerFault>
-    ensures { IfOk result (λ r. (v : View) (t : Test) → yes ≡ v.labels → no ≡ suc v.labels → freq ≡ v.freq → Tests (asked (asked v)) b.old t yes no (half v.freq) → Gives v b.new (flag t) r) }
+    ensures { IfOk result (λ r. (v : View) (t : Test) → yes ≡ v.labels → no ≡ suc v.labels → freq ≡ v.freq
+        → Tests (asked (asked v)) b.old t yes no (half v.freq) → Gives v b.new (flag t) r) }
 {
     b.bind(yes)?;
     let one = b.emit(Code::Const(1), &[])?;

@@ -12,5 +12,7 @@ ghost use Rattle.ssa_lowered.specs.Lowered.{made_of, proc_of};
 /// Each piece of a procedure stands at its place, and behind the last piece stands the return.
 pub fn pieces_stand()
     ensures pieces { (p : Program) (l : Layout) (f : ℕ) (q : Procedure) → Stand (code_blocks (proc_of p l f q).blocks) (made_of p l f q).pieces }
-    ensures end { (p : Program) (l : Layout) (f : ℕ) (q : Procedure) → Leaves (code_blocks (proc_of p l f q).blocks) (made_of p l f q).after.block (made_of p l f q).after.op (Return (made_of p l f q).result) }
+    ensures end { (p : Program) (l : Layout) (f : ℕ) (q : Procedure)
+        → Leaves (code_blocks (proc_of p l f q).blocks) (made_of p l f q).after.block (made_of p l f q).after.op
+        (Return (made_of p l f q).result) }
 {}

@@ -16,7 +16,8 @@ pub fn choices_are_made()
 
 /// A guard of a loop and what is done where it holds, before the guards behind it.
 pub fn guards_are_made()
-    ensures { (v u u2 w : View) (t : Test) (f : Deed) (mask : Mask) (head outside next : ℕ) (args : List ℕ) (rs : List Round) → MakesGuard v u u2 w t f mask head outside next args rs }
+    ensures { (v u u2 w : View) (t : Test) (f : Deed) (mask : Mask) (head outside next : ℕ) (args : List ℕ) (rs : List Round)
+        → MakesGuard v u u2 w t f mask head outside next args rs }
 {}
 
 /// The header of a loop, and its guards.
@@ -31,5 +32,6 @@ pub fn repeats_are_made()
 
 /// CASE, from its tests and its parts.
 pub fn cases_are_made()
-    ensures { (v u w : View) (mask : Mask) (rungs : List Rung) (bodies : List Deed) (unmatched : ℕ → List ℕ → End) (leave by : Option (List ℕ)) → MakesCase v u w mask rungs bodies unmatched leave by }
+    ensures { (v u w : View) (mask : Mask) (rungs : List Rung) (bodies : List Deed) (unmatched : ℕ → List ℕ → End)
+        (leave by : Option (List ℕ)) → MakesCase v u w mask rungs bodies unmatched leave by }
 {}

@@ -53,7 +53,9 @@ pub fn step(
     d: &Designator,
     x: &Checked,
 ) -> Result<(), LowerFault>
-    ensures { OnOk result ((p : Program) (here : Here) → Serves t.now p here → Steps b.old b.new (change_number op (home_of (named_in p here d.now) false) (expr_in p here x.now.form).value (Rattle.ob_types.specs.Meaning.is_byte (Rattle.ob_types.specs.Meaning.kind_in d.now)))) }
+    ensures { OnOk result ((p : Program) (here : Here) → Serves t.now p here
+        → Steps b.old b.new (change_number op (home_of (named_in p here d.now) false) (expr_in p here x.now.form).value
+        (Rattle.ob_types.specs.Meaning.is_byte (Rattle.ob_types.specs.Meaning.kind_in d.now)))) }
 {
     let h = place(t, b, d)?;
     let n = value(t, b, &x.form)?;
@@ -89,7 +91,8 @@ pub fn alter(
     d: &Designator,
     x: &Checked,
 ) -> Result<(), LowerFault>
-    ensures { OnOk result ((p : Program) (here : Here) → Serves t.now p here → Steps b.old b.new (change_set op (home_of (named_in p here d.now) false) (expr_in p here x.now.form).value)) }
+    ensures { OnOk result ((p : Program) (here : Here) → Serves t.now p here
+        → Steps b.old b.new (change_set op (home_of (named_in p here d.now) false) (expr_in p here x.now.form).value)) }
 {
     let h = place(t, b, d)?;
     let a = value(t, b, &x.form)?;
