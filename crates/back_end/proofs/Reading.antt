@@ -14,9 +14,10 @@ use Rattle.lir_core.specs.declared.flow.Flow.{Flow}
 use Rattle.lir_core.specs.Flows.{operation_of, code_nodes}
 use Rattle.placed_code.specs.Claims.{IsNumber}
 use Rattle.link_plan.proofs.Low.{and_left, and_right}
+use Rattle.link_blocks.specs.Fits.{trap_fits}
 use Rattle.back_end.specs.Numbers.{has_number, lirs_number, node_numbers}
 
-both : (a b : Bool) → a ≡ true → b ≡ true → (a && b) ≡ true
+pub both : (a b : Bool) → a ≡ true → b ≡ true → (a && b) ≡ true
 both true b e f = f
 both false b e f = cc
 
@@ -38,8 +39,14 @@ of_lirs (x ∷ xs) h (suc i) op rest e = of_lirs xs (and_right (has_number x.tem
 pub of_nodes : (ns : List Node) → node_numbers ns ≡ true → (b i : ℕ) (op : Operation) (rest : List Operation) → drop i (block_at (code_nodes ns) b).ops ≡ op ∷ rest → IsNumber op.code
 of_nodes [] h b zero op rest e = cc
 of_nodes [] h b (suc i) op rest e = cc
-of_nodes (n ∷ ns) h zero i op rest e = of_lirs n.lirs (and_left (lirs_number n.lirs) (node_numbers ns) h) i op rest e
-of_nodes (n ∷ ns) h (suc b) i op rest e = of_nodes ns (and_right (lirs_number n.lirs) (node_numbers ns) h) b i op rest e
+of_nodes (n ∷ ns) h zero i op rest e = of_lirs n.lirs (and_right (trap_fits n.end) (lirs_number n.lirs) (and_left (trap_fits n.end && lirs_number n.lirs) (node_numbers ns) h)) i op rest e
+of_nodes (n ∷ ns) h (suc b) i op rest e = of_nodes ns (and_right (trap_fits n.end && lirs_number n.lirs) (node_numbers ns) h) b i op rest e
+
+pub kinds_of : (ns : List Node) → node_numbers ns ≡ true → list_all (λ n. trap_fits n.end) ns ≡ true
+kinds_of [] h = refl
+kinds_of (n ∷ ns) h =
+    both (trap_fits n.end) (list_all (λ (x : Node). trap_fits x.end) ns) (and_left (trap_fits n.end) (lirs_number n.lirs) (and_left (trap_fits n.end && lirs_number n.lirs) (node_numbers ns) h))
+    (kinds_of ns (and_right (trap_fits n.end && lirs_number n.lirs) (node_numbers ns) h))
 
 -- one flow more
 pub all_further : (flows after : List Flow) (flow : Flow) → after ≡ flows ++ flow ∷ [] → All (λ (f : Flow). node_numbers f.nodes ≡ true) flows → node_numbers flow.nodes ≡ true → All (λ (f : Flow). node_numbers f.nodes ≡ true) after

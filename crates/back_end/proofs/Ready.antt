@@ -11,12 +11,15 @@ use Rattle.placed_code.specs.Claims.{IsNumber}
 use Rattle.linked_flows.specs.Allocations.{Cut}
 use Rattle.boundary_resolve.specs.declared.placed.Placed.{Placed as Line}
 use Rattle.lir_core.specs.declared.places.TraceOut.{TraceOut}
-use Rattle.link_plan.specs.Linked.{IsAllocated, AreCuts}
+use Rattle.link_blocks.specs.Laid.{Fits}
+use Rattle.link_plan.specs.Linked.{IsAllocated, AreCuts, AreSmall}
 use Rattle.alloc_choice.specs.declared.choice.Choice.{Choice}
 use Rattle.flow_allocation.specs.Allocations.{IsAllocation, AllAllocations, AreAllocated}
-use Rattle.back_end.specs.Images.{IsReady, AreCutsOf}
+use Rattle.modest_flows.specs.Modest.{IsModest}
+use Rattle.modest_flows.proofs.Fitting.{modest_fits}
+use Rattle.back_end.specs.Images.{IsReady, HasFewValues, AreCutsOf}
 use Rattle.back_end.specs.Numbers.{node_numbers}
-use Rattle.back_end.proofs.Reading.{of_nodes}
+use Rattle.back_end.proofs.Reading.{of_nodes, kinds_of}
 
 -- what linking asks of a flow besides its result
 record CanPlace (f : Flow) : Type 0 where
@@ -46,6 +49,28 @@ all_allocated choice first (p ∷ procs) (d ∷ cuts) ready numbers same each ze
 all_allocated choice first (p ∷ procs) (d ∷ cuts) ready numbers same each (suc q) c rest e =
     let rest_same : map (λ (x : Cut). x.flow) cuts ≡ map selected procs = cc in
     all_allocated choice (first + length d.traces) procs cuts (λ k x n. ready (suc k) x (omega (arith, n))) (λ k x n. numbers (suc k) x (omega (arith, n))) rest_same each.1 q c rest e
+
+---- Flows of few values fit instructions
+
+is_modest : (p : Proc) → IsReady p → HasFewValues p → node_numbers (selected p).nodes ≡ true → IsModest (selected p)
+is_modest p r few numbers = let bytes = r.local_data.1 in record { values = few; local_bytes = omega (arith, bytes); kinds = kinds_of (selected p).nodes numbers }
+
+small : (choice : Choice) (first : ℕ) (c : Cut) → IsAllocation choice first c → IsModest c.flow → Fits c
+small choice first c a modest = modest_fits choice.regs c a.sound a.paths modest
+
+pub all_small : (choice : Choice) (first : ℕ) (procs : List Proc) (cuts : List Cut) → All IsReady procs → All HasFewValues procs → HaveNumbers (map selected procs)
+    → map (λ c. c.flow) cuts ≡ map selected procs → AllAllocations choice first cuts → AreSmall cuts
+all_small choice first procs [] ready few numbers same each zero c rest e = cc
+all_small choice first procs [] ready few numbers same each (suc q) c rest e = cc
+all_small choice first [] (d ∷ cuts) ready few numbers same each q c rest e = absurd (let z : d.flow ∷ map (λ x. x.flow) cuts ≡ [] = same in cc)
+all_small choice first (p ∷ procs) (d ∷ cuts) ready few numbers same each zero c rest e =
+    let flow : d.flow ≡ selected p = cc in
+    let is : d ≡ c = cc in
+    let modest = is_modest p (ready 0 p (omega arith)) (few 0 p (omega arith)) (numbers 0 (selected p) (omega arith)) in
+    subst Fits is (small choice first d each.0 (subst IsModest (sym flow) modest))
+all_small choice first (p ∷ procs) (d ∷ cuts) ready few numbers same each (suc q) c rest e =
+    let rest_same : map (λ (x : Cut). x.flow) cuts ≡ map selected procs = cc in
+    all_small choice (first + length d.traces) procs cuts (λ k x n. ready (suc k) x (omega (arith, n))) (λ k x n. few (suc k) x (omega (arith, n))) (λ k x n. numbers (suc k) x (omega (arith, n))) rest_same each.1 q c rest e
 
 pub are_cuts_of : (choice : Choice) (procs : List Proc) (parts : List (List Line)) (outs : List (List TraceOut)) (n : ℕ) (h : AreAllocated choice (map selected procs) parts outs n) → AreCutsOf choice procs h.cuts
 are_cuts_of choice procs parts outs n h = record { flows = sym h.flows_are; each = h.each }

@@ -18,6 +18,10 @@ pub record IsReady (p : Proc) : Type 0 where
   pub local_data : (p.local_cells < 2 ^ 64) × (p.local_bytes < 2 ^ 24)
   pub body : p.counted ≡ false → p.args ≡ 0
 
+-- at most 4,000 values
+abbrev pub HasFewValues : Proc → Type 0
+HasFewValues p = p.values ≤ 4000
+
 -- the flows of procedures in traces with final results, by the choice
 pub record AreCutsOf (choice : Choice) (procs : List Proc) (cuts : List Cut) : Type 0 where
   pub flows : map (λ c. c.flow) cuts ≡ map selected procs

@@ -6,7 +6,7 @@ ghost use Rattle.image_form.specs.Form.{IsInForm};
 ghost use Rattle.linked_flows.specs.Allocations.{Cut};
 ghost use Rattle.link_plan.specs.Linked.{DataFits, AreSmall};
 ghost use Rattle.flow_allocation.specs.Allocations.{trace_count};
-ghost use Rattle.back_end.specs.Images.{IsReady, AreCutsOf, IsImageBy, code_length};
+ghost use Rattle.back_end.specs.Images.{IsReady, HasFewValues, AreCutsOf, IsImageBy, code_length};
 ghost use Rattle.back_end.specs.Numbers.{node_numbers};
 ghost use Rattle.back_end.specs.declared.fault.ImageFault.TheVariants.{Traces, Code, Misfit, Memory as OutOfMemory};
 
@@ -25,7 +25,8 @@ const MOST_TRACES: u32 = 262_144;
 /// The image of procedures by their numbers: each one's flow in the traces of the builder that is chosen, the first of these with
 /// the number behind those of the procedures before it, each with the final result by the policy, in lines with the moves of
 /// edges, linked. `Traces` comes exactly where there are over 262,144 traces, `Code` where there are not and the code is over
-/// 262,144 words, and `Misfit` for no procedures whose numbers and frames are small enough. Takes the time of the passes.
+/// 262,144 words, and `Misfit` for no procedures whose numbers and frames are small enough, so for none of at most 4,000 values
+/// each. Takes the time of the passes.
 pub fn image_of(
     alloc: Global,
     choice: &Choice,
@@ -38,9 +39,13 @@ pub fn image_of(
     requires extra { DataFits extra.flags extra.globals extra.constants }
     ensures image { IfOk result (IsImageBy choice.now procedures.now extra.flags extra.globals extra.constants) }
     ensures form { IfOk result IsInForm }
-    ensures traces { IfErr result (λ fault. fault ≡ Traces → (cuts : List Cut) × AreCutsOf choice.now procedures.now cuts × (262144 < trace_count cuts)) }
-    ensures code { IfErr result (λ fault. fault ≡ Code → (cuts : List Cut) × AreCutsOf choice.now procedures.now cuts × (trace_count cuts ≤ 262144) × (2 ^ 18 < code_length cuts)) }
-    ensures misfit { IfErr result (λ fault. fault ≡ Misfit → (cuts : List Cut) × AreCutsOf choice.now procedures.now cuts × (AreSmall cuts → ⊥)) }
+    ensures traces { IfErr result (λ fault. fault ≡ Traces
+        → (cuts : List Cut) × AreCutsOf choice.now procedures.now cuts × (262144 < trace_count cuts)) }
+    ensures code { IfErr result (λ fault. fault ≡ Code
+        → (cuts : List Cut) × AreCutsOf choice.now procedures.now cuts × (trace_count cuts ≤ 262144) × (2 ^ 18 < code_length cuts)) }
+    ensures misfit { IfErr result (λ fault. fault ≡ Misfit
+        → (cuts : List Cut) × AreCutsOf choice.now procedures.now cuts × (AreSmall cuts → ⊥)) }
+    ensures modest { All HasFewValues procedures.now → IfErr result (λ fault. fault ≡ Misfit → ⊥) }
 {
     let flows = select_all(alloc, procedures)?;
     let allocated = allocate_flows(alloc, choice, flows.as_slice())?;

@@ -1,18 +1,29 @@
-//! Numbers of operations have 64 bits, as their type says: each is read once, so that clauses may say so of the whole flow.
+//! Numbers of operations have 64 bits, and kinds of traps 16, as their types say: each is read once, so that clauses may say so
+//! of the whole flow.
 
 ghost use Rattle.std.specs.Prelude.{◌≡◌, true};
 ghost use Rattle.std.specs.List.{list_all};
+ghost use Rattle.link_blocks.specs.Fits.{trap_fits};
 ghost use Rattle.back_end.specs.Numbers.{has_number, lirs_number, node_numbers};
 
-use block_runs::Code;
+use block_runs::{Code, End};
 use lir_core::{Lir, Node};
 
-/// All operations of nodes.
+/// All operations and ends of nodes.
 pub fn read_nodes(nodes: &[Node])
     ensures { node_numbers nodes.now ≡ true }
 {
     for node in nodes {
+        read_kind(&node.end);
         read_lirs(node.lirs.as_slice());
+    }
+}
+
+fn read_kind(end: &End)
+    ensures { trap_fits end.now ≡ true }
+{
+    if let End::Trap(kind) = end {
+        let _kind: u16 = *kind;
     }
 }
 

@@ -116,7 +116,8 @@ fn block(head: Head, ops: Items<Op>, end: End) -> Block
 
 /// One more piece.
 fn add(alloc: Global, places: &[u32], blocks: Blocks, piece: &Piece) -> Result<Blocks, Memory>
-    ensures { IfOk result (λ new. (rest : List PieceThere) (last : EndThere) → finished new last rest ≡ finished blocks last (resolve (λ t. slice_index places.now t) piece.now ∷ rest)) }
+    ensures { IfOk result (λ new. (rest : List PieceThere) (last : EndThere)
+        → finished new last rest ≡ finished blocks last (resolve (λ t. slice_index places.now t) piece.now ∷ rest)) }
 {
     let Blocks {
         mut done,
@@ -169,7 +170,8 @@ pub fn all_blocks(
     words: u32,
     last: End,
 ) -> Result<Items<Block>, Memory>
-    ensures { IfOk result (λ list. list ≡ blocks_by (record { params = numbers 0 (min words 4); freq = 1048576; enter = None }) [] last (resolved (λ t. slice_index places.now t) pieces.now)) }
+    ensures { IfOk result (λ list. list ≡ blocks_by (record { params = numbers 0 (min words 4); freq = 1048576; enter = None })
+        [] last (resolved (λ t. slice_index places.now t) pieces.now)) }
 {
     let params = first_params(alloc, words)?;
     let head = Head {

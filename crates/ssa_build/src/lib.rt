@@ -1,8 +1,9 @@
 //! Lowering of whole programs: each procedure's beginning and end, its blocks, and the limits that are passed.
 //!
 //! `lower` makes exactly the procedures that `ssa_lowered` defines, where each cell takes eight bytes, or tells the limit that
-//! the definition says is passed first. A procedure begins with its arguments, what is zeroed, and the first values of its
-//! variables (`src/entry.rt`); then its statements are walked (`ssa_control`), and labels get their blocks (`src/finish.rt`).
+//! the definition says is passed first; `lower_with_tables` gives the tables too, by which constants are made. A procedure
+//! begins with its arguments, what is zeroed, and the first values of its variables (`src/entry.rt`); then its statements are
+//! walked (`ssa_control`), and labels get their blocks (`src/finish.rt`).
 #![tactic(auto)]
 
 mod body;
@@ -15,4 +16,4 @@ mod procedure;
 mod tests;
 
 pub use laws::data_is_within_limits;
-pub use lowering::lower;
+pub use lowering::{LoweredProgram, lower, lower_with_tables};

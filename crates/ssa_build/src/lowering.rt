@@ -16,6 +16,13 @@ use ssa_exprs::{LowerFault, Tables};
 use ssa_tables::{check_constants, program_tables};
 use std::alloc::Global;
 
+/// The procedures of a program, and the tables by which they were made, which serve its constants too.
+#[derive(Drop)]
+pub struct LoweredProgram {
+    pub procedures: Items<Proc>,
+    pub tables: Tables,
+}
+
 /// The procedures of a program, where each cell takes eight bytes. A program is refused by the first of these limits that it
 /// passes: over 4,096 procedures (52), over 1,048,576 cells of globals (53); then, procedure by procedure, over 1,048,576 cells
 /// of local data (59), and over 4,000 values (50) or blocks (51), whichever comes first, with the procedure's number; then over
@@ -26,16 +33,33 @@ pub fn lower(alloc: Global, program: &Program) -> Result<Items<Proc>, LowerFault
     ensures within { OnOk result (limit_of program.now ≡ None) }
     ensures limit { IfErr result (λ e. Tells e (limit_of program.now)) }
 {
+    match lower_with_tables(alloc, program) {
+        Ok(made) => {
+            let LoweredProgram { procedures, .. } = made;
+            Ok(procedures)
+        }
+        Err(e) => Err(e),
+    }
+}
+
+/// The same, with the tables that serve all procedures of the program, which are made once.
+pub fn lower_with_tables(alloc: Global, program: &Program) -> Result<LoweredProgram, LowerFault>
+    requires { IsMeasured program.now }
+    ensures ok { IfOk result (λ made. made.procedures ≡ lowered program.now) }
+    ensures tables { IfOk result (λ made. ServesAll made.tables program.now) }
+    ensures within { OnOk result (limit_of program.now ≡ None) }
+    ensures limit { IfErr result (λ e. Tells e (limit_of program.now)) }
+{
     let mut tables = match program_tables(alloc, program) {
         Ok(tables) => tables,
         Err(e) => return Err(e),
     };
-    let list = match all_procedures(alloc, &mut tables, program) {
-        Ok(list) => list,
+    let procedures = match all_procedures(alloc, &mut tables, program) {
+        Ok(procedures) => procedures,
         Err(e) => return Err(e),
     };
     match check_constants(&tables) {
-        Ok(_) => Ok(list),
+        Ok(_) => Ok(LoweredProgram { procedures, tables }),
         Err(e) => Err(e),
     }
 }

@@ -1,6 +1,6 @@
-use Rattle.std.proofs.Common.{ap, map, arith}
+use Rattle.std.proofs.Common.{ap, map, sym, subst, arith}
 use Rattle.flow_allocation.specs.Allocations.{items_of}
-use Rattle.back_end.proofs.Ready.{valid_there, allocated_there, cuts_there, are_cuts_of}
+use Rattle.back_end.proofs.Ready.{HaveNumbers, valid_there, allocated_there, cuts_there, are_cuts_of, all_small}
 use Rattle.back_end.proofs.imaging.image_of.Goals as goal
 
 pub returns-then-allocated-gt-MOST_TRACES-clause-traces : goal.returns-then-allocated-gt-MOST_TRACES-clause-traces
@@ -69,3 +69,18 @@ returns-clause-misfit c e =
     let h = allocated_there choice procs c.requires.ready c.requires.few flows made.flows made.numbers c.as_slice.result.now c.as_slice.ensures.value parts outs n (c.in_ok-allocated.ensures valid) in
     let cuts = cuts_there choice procs c.requires.ready c.requires.few flows made.flows made.numbers parts outs n h c.as_slice-2.result.now c.as_slice-2.ensures.value _ (ap (map (λ v. v.items)) c.as_slice-parts.ensures.value) _ (ap (map (λ v. v.items)) c.as_slice-3.ensures.value) in
     (h.cuts, are_cuts_of choice procs parts outs n h, c.in-Err.ensures.misfit (c.fault_of.ensures.misfit e) choice.regs h.cuts cuts)
+
+pub returns-clause-modest : goal.returns-clause-modest
+returns-clause-modest c values e =
+    let choice = c.args.choice.now in
+    let procs = c.args.procedures.now in
+    let made = c.in_ok-flows.ensures in
+    let flows = c.in_ok-flows.flows.items in
+    let parts = items_of c.in_ok-allocated.allocated.parts in
+    let outs = items_of c.in_ok-allocated.allocated.outs in
+    let n = c.in_ok-allocated.allocated.traces in
+    let valid = valid_there choice procs c.requires.ready c.requires.few flows made.flows made.numbers c.as_slice.result.now c.as_slice.ensures.value in
+    let h = allocated_there choice procs c.requires.ready c.requires.few flows made.flows made.numbers c.as_slice.result.now c.as_slice.ensures.value parts outs n (c.in_ok-allocated.ensures valid) in
+    let cuts = cuts_there choice procs c.requires.ready c.requires.few flows made.flows made.numbers parts outs n h c.as_slice-2.result.now c.as_slice-2.ensures.value _ (ap (map (λ v. v.items)) c.as_slice-parts.ensures.value) _ (ap (map (λ v. v.items)) c.as_slice-3.ensures.value) in
+    c.in-Err.ensures.misfit (c.fault_of.ensures.misfit e) choice.regs h.cuts cuts
+    (all_small choice 0 procs h.cuts c.requires.ready values (subst HaveNumbers made.flows made.numbers) (sym h.flows_are) h.each)

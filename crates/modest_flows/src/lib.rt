@@ -1,0 +1,9 @@
+//! Modest flows fit instructions.
+//!
+//! A flow is modest that has at most 4,000 values, less than 2^24 bytes of local data and traps whose kinds have 16 bits. With
+//! sound results by 4 to 16 registers its numbers, registers and frame fit instructions, so linking refuses none.
+#![tactic(auto)]
+
+mod laws;
+
+pub use laws::modest_flows_fit;

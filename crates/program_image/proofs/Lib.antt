@@ -1,0 +1,6 @@
+mod Ready
+mod Fitting
+mod Running
+mod Counting
+mod Telling
+mod Sampled

@@ -1,0 +1,80 @@
+use Rattle.std.proofs.Common.{◌≡◌, true, false, sym, ◌∙◌, subst}
+use Rattle.std.specs.Prelude.{All}
+use Rattle.ssa_tables.proofs.Measuring.{measured}
+use Rattle.back_end.specs.Images.{IsReady, HasFewValues}
+use Rattle.program_image.specs.Faults.{Tells}
+use Rattle.program_image.specs.Limits.{ByLength}
+use Rattle.program_image.proofs.Ready.{are_short, has_long, ready, few_values}
+use Rattle.program_image.proofs.Fitting.{data_fits_as}
+use Rattle.program_image.proofs.Running.{in_program, program_image_is, does_as_meant}
+use Rattle.program_image.proofs.Telling.{lowering_tells, imaging_tells, few_traces}
+use Rattle.program_image.proofs.imaging.program_image.Goals as goal
+
+pub lower_with_tables-requires : goal.lower_with_tables-requires
+lower_with_tables-requires c = measured c.args.program.now c.requires.well_formed
+
+pub returns-in-Err-clause-limit : goal.returns-in-Err-clause-limit
+returns-in-Err-clause-limit c =
+    let choice = c.args.choice.now in
+    let p = c.args.program.now in
+    subst (Tells choice p) (sym c.of_lowering.ensures) (lowering_tells choice p c.in-Err.fault c.in-Err.ensures.limit)
+
+pub returns-then-not-are_short-clause-limit : goal.returns-then-not-are_short-clause-limit
+returns-then-not-are_short-clause-limit c =
+    let choice = c.args.choice.now in
+    let p = c.args.program.now in
+    let same = c.as_slice-procedures.ensures ∙ c.in-Ok.ensures.ok in
+    let e : false ≡ c.are_short.result = let t = c.if-not-are_short.true in cc in
+    subst (Tells choice p) (sym c.whole_limit.ensures) (ByLength c.in-Ok.ensures.within (has_long p c.as_slice-procedures.result.now same (e ∙ c.are_short.ensures)))
+
+pub image_of-requires-clause-ready : goal.image_of-requires-clause-ready
+image_of-requires-clause-ready c =
+    let p = c.args.program.now in
+    let same = c.as_slice-procedures.ensures ∙ c.in-Ok.ensures.ok in
+    let e : true ≡ c.are_short.result = let t = c.if-not-are_short.false in cc in
+    let short = are_short p c.as_slice-procedures.result.now same (e ∙ c.are_short.ensures) in
+    subst (All IsReady) (sym same) (ready p c.requires.well_formed c.in-Ok.ensures.within short)
+
+pub image_of-requires-clause-extra : goal.image_of-requires-clause-extra
+image_of-requires-clause-extra c =
+    let made = c.in-Ok-program_data.ensures in
+    data_fits_as c.args.program.now c.in-Ok.ensures.within c.in-Ok-program_data.data.flags c.in-Ok-program_data.data.globals c.in-Ok-program_data.data.constants made.flags made.globals made.constants
+
+pub returns-in-Ok-image_of-clause-means : goal.returns-in-Ok-image_of-clause-means
+returns-in-Ok-image_of-clause-means c =
+    let choice = c.args.choice.now in
+    let p = c.args.program.now in
+    let image = c.in-Ok-image_of.image in
+    let same = c.as_slice-procedures.ensures ∙ c.in-Ok.ensures.ok in
+    let made = c.in-Ok-program_data.ensures in
+    let e : true ≡ c.are_short.result = let t = c.if-not-are_short.false in cc in
+    let short = are_short p c.as_slice-procedures.result.now same (e ∙ c.are_short.ensures) in
+    let h = in_program choice p c.as_slice-procedures.result.now c.in-Ok-program_data.data.flags c.in-Ok-program_data.data.globals c.in-Ok-program_data.data.constants image
+    same made.flags made.globals made.constants c.in-Ok-image_of.ensures.image in
+    (h.cuts, program_image_is choice p image h, does_as_meant choice p image h c.requires.well_formed c.in-Ok.ensures.within short c.in-Ok-image_of.ensures.form)
+
+pub returns-in-Ok-image_of-clause-traces : goal.returns-in-Ok-image_of-clause-traces
+returns-in-Ok-image_of-clause-traces c =
+    let choice = c.args.choice.now in
+    let p = c.args.program.now in
+    let image = c.in-Ok-image_of.image in
+    let same = c.as_slice-procedures.ensures ∙ c.in-Ok.ensures.ok in
+    let made = c.in-Ok-program_data.ensures in
+    let h = in_program choice p c.as_slice-procedures.result.now c.in-Ok-program_data.data.flags c.in-Ok-program_data.data.globals c.in-Ok-program_data.data.constants image
+    same made.flags made.globals made.constants c.in-Ok-image_of.ensures.image in
+    few_traces choice p c.in-Ok.ensures.within h.cuts h.are h.few
+
+pub of_imaging-requires : goal.of_imaging-requires
+of_imaging-requires c is =
+    let p = c.args.program.now in
+    let same = c.as_slice-procedures.ensures ∙ c.in-Ok.ensures.ok in
+    c.in-Err-image_of.ensures.modest (subst (All HasFewValues) (sym same) (few_values p c.in-Ok.ensures.within)) is
+
+pub returns-clause-limit : goal.returns-clause-limit
+returns-clause-limit c =
+    let choice = c.args.choice.now in
+    let p = c.args.program.now in
+    let same = c.as_slice-procedures.ensures ∙ c.in-Ok.ensures.ok in
+    let told = c.in-Err-image_of.ensures in
+    subst (Tells choice p) (sym c.of_imaging.ensures)
+    (imaging_tells choice p c.in-Ok.ensures.within c.as_slice-procedures.result.now same c.in-Err-image_of.fault told.traces told.code)

@@ -1,0 +1,3 @@
+pub mod Images
+pub mod Limits
+pub mod Faults

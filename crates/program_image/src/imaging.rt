@@ -1,0 +1,57 @@
+//! The image of a program.
+
+ghost use Rattle.std.specs.Prelude.{◌≡◌, ◌≤◌, true, None, List, IfOk, OnOk, IfErr};
+ghost use Rattle.image_form.specs.Form.{IsInForm};
+ghost use Rattle.ob_types.specs.WellFormed.{well_formed};
+ghost use Rattle.ssa_lowered.specs.Limits.{limit_of};
+ghost use Rattle.linked_flows.specs.Allocations.{Cut};
+ghost use Rattle.compiled_runs.specs.Compiled.{flows_of};
+ghost use Rattle.program_image.specs.Faults.{Tells};
+ghost use Rattle.program_image.specs.Images.{IsProgramImage, DoesAsMeant};
+ghost use Rattle.program_image.specs.Limits.{most_traces, traces_in};
+
+use crate::data::program_data;
+use crate::fault::{ProgramFault, of_imaging, of_lowering, whole_limit};
+use back_end::{Choice, Image, image_of};
+use ob_types::Program;
+use short_procedures::are_short;
+use ssa_build::lower_with_tables;
+use std::alloc::Global;
+
+/// The image of a well-formed program: its procedures, lowered, by the builder, the policy and the registers that are chosen,
+/// with its globals and constants. A program is refused by the first limit that it passes: one of lowering, or over 262,144
+/// traces (57), or over 262,144 words of code (54). A procedure of over 500,000,000 blocks and operations
+/// is refused by 54 at once. Takes the time of the passes.
+pub fn program_image(
+    alloc: Global,
+    choice: &Choice,
+    program: &Program,
+) -> Result<Image, ProgramFault>
+    requires well_formed { well_formed program.now ≡ true }
+    requires enough { 4 ≤ choice.now.regs }
+    requires few { choice.now.regs ≤ 16 }
+    ensures image { IfOk result (λ image. (cuts : List Cut) × IsProgramImage choice.now program.now cuts image) }
+    ensures means { IfOk result (λ image. (cuts : List Cut) × IsProgramImage choice.now program.now cuts image
+        × DoesAsMeant program.now cuts image) }
+    ensures form { IfOk result IsInForm }
+    ensures within { OnOk result (limit_of program.now ≡ None) }
+    ensures traces { OnOk result (traces_in choice.now.builder (flows_of program.now) ≤ most_traces) }
+    ensures limit { IfErr result (Tells choice.now program.now) }
+{
+    let made = match lower_with_tables(alloc, program) {
+        Ok(made) => made,
+        Err(fault) => return Err(of_lowering(fault)),
+    };
+    let procedures = made.procedures.as_slice();
+    if !are_short(procedures) {
+        return Err(whole_limit(54));
+    }
+    let data = match program_data(alloc, &made.tables, program) {
+        Ok(data) => data,
+        Err(_) => return Err(ProgramFault::Memory),
+    };
+    match image_of(alloc, choice, procedures, data) {
+        Ok(image) => Ok(image),
+        Err(fault) => Err(of_imaging(fault)),
+    }
+}
