@@ -9,16 +9,16 @@ use Rattle.ob_judge.specs.Making.{Making}
 use Rattle.ob_judge.specs.Expressions.{constant}
 use Rattle.ob_judge.specs.Parameters.{stand, declared}
 use Rattle.ob_judge.specs.Declarations.{const_part, each}
-use Rattle.check_steps.specs.Answers.{Answers}
-use Rattle.check_steps.specs.declared.fault.CheckFault.{CheckFault}
-use Rattle.check_steps.proofs.Answering.{goes_on, stop, Judging}
-use Rattle.check_names.specs.declared.scope.Scope.{Scope}
-use Rattle.check_names.specs.declared.scope.Constant.{Constant}
-use Rattle.check_names.specs.Meaning.{constant_of}
-use Rattle.check_names.specs.Worlds.{world_of}
+use Rattle.check_types.specs.steps.Answers.{Answers}
+use Rattle.check_types.specs.declared.steps.fault.CheckFault.{CheckFault}
+use Rattle.check_types.proofs.steps.Answering.{goes_on, stop, Judging}
+use Rattle.check_types.specs.declared.names.scope.Scope.{Scope}
+use Rattle.check_types.specs.declared.names.scope.Constant.{Constant}
+use Rattle.check_types.specs.names.Meaning.{constant_of}
+use Rattle.check_types.specs.names.Worlds.{world_of}
 use Rattle.check_operands.specs.Operands.{texts_of, between_quotes}
-use Rattle.check_constants.specs.declared.constants.ConstantValue.{ConstantValue}
-use Rattle.check_constants.specs.Constants.{constant_meant, IsConstant}
+use Rattle.check_expressions.specs.declared.constants.constants.ConstantValue.{ConstantValue}
+use Rattle.check_expressions.specs.constants.Constants.{constant_meant, IsConstant}
 use Rattle.check_making.specs.declared.making.Declaring.{Declaring}
 use Rattle.check_making.specs.declared.making.Surroundings.{Surroundings}
 use Rattle.check_making.specs.Making.{table_of, strings_of, world_in, Makes}

@@ -7,9 +7,9 @@ use Rattle.ob_judge.specs.Scopes.{Source, place, spelled}
 use Rattle.ob_judge.specs.Making.{Making, is_among}
 use Rattle.ob_judge.specs.Parameters.{stand, symbols_of, next_list}
 use Rattle.ob_judge.specs.Declarations.{variable_part, each}
-use Rattle.check_steps.specs.Answers.{Answers}
-use Rattle.check_steps.specs.declared.fault.CheckFault.{CheckFault}
-use Rattle.check_steps.proofs.Answering.{goes_on, stop, as_judged, Judging}
+use Rattle.check_types.specs.steps.Answers.{Answers}
+use Rattle.check_types.specs.declared.steps.fault.CheckFault.{CheckFault}
+use Rattle.check_types.proofs.steps.Answering.{goes_on, stop, as_judged, Judging}
 use Rattle.check_making.specs.declared.making.Declaring.{Declaring}
 use Rattle.check_making.specs.declared.making.Surroundings.{Surroundings}
 use Rattle.check_making.specs.Making.{Makes}

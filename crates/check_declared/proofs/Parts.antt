@@ -2,10 +2,10 @@
 use Rattle.std.proofs.Common.{◌≡◌, ℕ, ◌+◌, ◌<◌, List, [], ◌∷◌, length, drop, get_or, Result, Ok, Err, refl, sym, ◌∙◌, subst}
 use Rattle.ob_judge.specs.Judged.{Judged, Keeps, Breaks, ◌>>=◌}
 use Rattle.ob_judge.specs.Making.{Making}
-use Rattle.check_steps.specs.Answers.{Answers, Refuses}
-use Rattle.check_steps.specs.declared.fault.CheckFault.{CheckFault}
-use Rattle.check_steps.specs.declared.fault.CheckFault.TheVariants.{Fault, Memory}
-use Rattle.check_steps.proofs.Answering.{Judging, round_on, round_stops}
+use Rattle.check_types.specs.steps.Answers.{Answers, Refuses}
+use Rattle.check_types.specs.declared.steps.fault.CheckFault.{CheckFault}
+use Rattle.check_types.specs.declared.steps.fault.CheckFault.TheVariants.{Fault, Memory}
+use Rattle.check_types.proofs.steps.Answering.{Judging, round_on, round_stops}
 use Rattle.check_making.specs.declared.making.Declaring.{Declaring}
 use Rattle.check_making.specs.declared.making.Surroundings.{Surroundings}
 use Rattle.check_making.specs.Making.{Makes}

@@ -10,14 +10,14 @@ use Rattle.ob_judge.specs.Scopes.{Object, AVariable, World}
 use Rattle.ob_judge.specs.Making.{Making}
 use Rattle.ob_judge.specs.Parameters.{declared}
 use Rattle.ob_judge.specs.Declarations.{variable_part, home_here, place_here}
-use Rattle.check_steps.specs.Answers.{Answers}
-use Rattle.check_steps.specs.declared.fault.CheckFault.{CheckFault}
-use Rattle.check_steps.proofs.Answering.{stop}
+use Rattle.check_types.specs.steps.Answers.{Answers}
+use Rattle.check_types.specs.declared.steps.fault.CheckFault.{CheckFault}
+use Rattle.check_types.proofs.steps.Answering.{stop}
 use Rattle.check_types.specs.declared.types.TypeRef.{TypeRef}
 use Rattle.check_types.specs.declared.table.TypeTable.{TypeTable}
 use Rattle.check_types.specs.TypeMeaning.{type_shape}
-use Rattle.check_names.specs.declared.scope.Named.TheVariants as TheNamed
-use Rattle.check_names.specs.Meaning.{home_of, place_of, object_of}
+use Rattle.check_types.specs.declared.names.scope.Named.TheVariants as TheNamed
+use Rattle.check_types.specs.names.Meaning.{home_of, place_of, object_of}
 use Rattle.table_builder.specs.Entries.{IsElement}
 use Rattle.check_making.specs.declared.making.Declaring.{Declaring}
 use Rattle.check_making.specs.declared.making.Surroundings.{Surroundings}

@@ -10,10 +10,10 @@ use Rattle.ob_judge.specs.Making.{Part}
 use Rattle.ob_judge.specs.Expressions.{constant}
 use Rattle.ob_judge.specs.Declarations.{const_part, each}
 use Rattle.check_operands.specs.Operands.{between_quotes}
-use Rattle.check_names.specs.declared.scope.Constant.{Constant}
-use Rattle.check_names.specs.Meaning.{constant_of}
-use Rattle.check_constants.specs.declared.constants.ConstantValue.{ConstantValue}
-use Rattle.check_constants.specs.Constants.{constant_meant}
+use Rattle.check_types.specs.declared.names.scope.Constant.{Constant}
+use Rattle.check_types.specs.names.Meaning.{constant_of}
+use Rattle.check_expressions.specs.declared.constants.constants.ConstantValue.{ConstantValue}
+use Rattle.check_expressions.specs.constants.Constants.{constant_meant}
 use Rattle.check_making.specs.declared.making.Declaring.{Declaring}
 use Rattle.check_making.specs.declared.making.Surroundings.{Surroundings}
 use Rattle.check_making.specs.Making.{table_of, strings_of}

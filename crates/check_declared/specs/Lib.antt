@@ -1,2 +1,3 @@
 pub mod Constants
 pub mod Variables
+pub mod type_parts

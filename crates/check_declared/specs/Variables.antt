@@ -9,11 +9,11 @@ use Rattle.ob_judge.specs.Making.{Part}
 use Rattle.ob_judge.specs.Parameters.{idents_list}
 use Rattle.ob_judge.specs.Declarations.{each, variable_part}
 use Rattle.check_types.specs.declared.types.TypeRef.{TypeRef}
-use Rattle.check_names.specs.declared.scope.Home.{Home}
-use Rattle.check_names.specs.declared.scope.Home.TheVariants as TheHome
-use Rattle.check_names.specs.declared.scope.Variable.{Variable}
-use Rattle.check_names.specs.declared.scope.VariablePlace.{VariablePlace}
-use Rattle.check_names.specs.declared.scope.VariablePlace.TheVariants as ThePlace
+use Rattle.check_types.specs.declared.names.scope.Home.{Home}
+use Rattle.check_types.specs.declared.names.scope.Home.TheVariants as TheHome
+use Rattle.check_types.specs.declared.names.scope.Variable.{Variable}
+use Rattle.check_types.specs.declared.names.scope.VariablePlace.{VariablePlace}
+use Rattle.check_types.specs.declared.names.scope.VariablePlace.TheVariants as ThePlace
 
 abbrev pub place_of_next : Option ℕ → (unit number : ℕ) → VariablePlace
 place_of_next None unit number = ThePlace.Global unit number

@@ -10,11 +10,11 @@ ghost use Rattle.check_making.specs.Parts.{Judges, JudgesHere};
 ghost use Rattle.check_declared.specs.Constants.{text_in, consts_part, constant_part, IsValue, IsKept};
 
 use crate::string_places::string_place;
-use check_constants::{ConstantValue, constant};
+use check_expressions::constants::{ConstantValue, constant};
 use check_making::{Declaring, Surroundings};
-use check_names::{Constant, Named};
 use check_operands::text;
-use check_steps::CheckFault;
+use check_types::names::{Constant, Named};
+use check_types::steps::CheckFault;
 use ob_syntax::declarations::ConstDecl;
 
 // A constant as its name keeps it: the characters of a string are among those of the state.

@@ -9,6 +9,7 @@ mod constants;
 mod lists;
 mod one_variable;
 mod string_places;
+pub mod type_parts;
 
 pub use constants::{const_decl, const_decls};
 pub use lists::{stand_all, variables};

@@ -9,8 +9,8 @@ ghost use Rattle.check_declared.specs.Variables.{names_in, variables_part};
 
 use crate::one_variable::variable;
 use check_making::{Declaring, Surroundings};
-use check_steps::CheckFault;
 use check_types::TypeRef;
+use check_types::steps::CheckFault;
 use ob_syntax::names::{Idents, NextIdentdef};
 
 // These names stand, one after the other.

@@ -8,9 +8,9 @@ ghost use Rattle.check_making.specs.Parts.{Judges};
 ghost use Rattle.check_declared.specs.Variables.{variable_here};
 
 use check_making::{Declaring, Surroundings};
-use check_names::{Home, Named, Variable, VariablePlace};
-use check_steps::CheckFault;
 use check_types::TypeRef;
+use check_types::names::{Home, Named, Variable, VariablePlace};
+use check_types::steps::CheckFault;
 use ob_syntax::names::Identdef;
 
 // How many variables there are, behind so many; without a number for the next there is no memory for it.

@@ -21,8 +21,8 @@ use Rattle.ob_syntax.specs.declared.expressions.List.{List as ExpressionList, ou
 use Rattle.ob_syntax.specs.declared.expressions.NextExpression.{NextExpression, out-NextExpression}
 use Rattle.ob_syntax.specs.declared.expressions.Selector.{Selector}
 use Rattle.ob_syntax.proofs.PlainParts.{expression_parts, simple_parts, added_parts, term_parts}
-use Rattle.expression_symbols.specs.Parts.{plain_each_element, plain_set, plain_maybe_elements, plain_maybe_high}
-use Rattle.expression_symbols.proofs.Parts.{compared_parts, designator_parts, list_parts, next_expression_parts, elements_parts, set_parts, next_element_parts, element_parts, high_parts}
+use Rattle.check_operands.specs.symbols.Parts.{plain_each_element, plain_set, plain_maybe_elements, plain_maybe_high}
+use Rattle.check_operands.proofs.symbols.Parts.{compared_parts, designator_parts, list_parts, next_expression_parts, elements_parts, set_parts, next_element_parts, element_parts, high_parts}
 use Rattle.ob_judge.specs.Judged.{Judged, Keeps, Breaks, ◌>>=◌}
 use Rattle.ob_judge.specs.Shapes.{Set as SetShape}
 use Rattle.ob_judge.specs.Image as I
@@ -34,9 +34,9 @@ use Rattle.ob_judge.specs.Names.{Stage, Whole, named}
 use Rattle.ob_judge.specs.Parts.{element, joined, signed, related, set_element, is_test, as_factor}
 use Rattle.ob_judge.specs.Expressions.{expression, simple, added, term, multiplied, factor, with_elements, with_element, selected, select, indexed, indexed_more, arguments, next_arguments, designator}
 use Rattle.check_expressions.specs.Steps.{is_with, related_with, compared_with, added_one, multiplied_one, number_in, indexed_one, given_by, arguments_from}
-use Rattle.check_names.specs.declared.scope.Scope.{Scope}
-use Rattle.check_calls.specs.declared.arguments.Given.{Given}
-use Rattle.check_calls.specs.Given.{IsGiven, AreGiven}
+use Rattle.check_types.specs.declared.names.scope.Scope.{Scope}
+use Rattle.check_operands.specs.declared.calls.arguments.Given.{Given}
+use Rattle.check_operands.specs.calls.Given.{IsGiven, AreGiven}
 use Rattle.check_expressions.proofs.Walking.{then_then, alike}
 
 -- given arguments, and one more

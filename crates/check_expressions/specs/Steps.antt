@@ -21,12 +21,12 @@ use Rattle.ob_judge.specs.Parts.{element, joined, related, set_element, is_test}
 use Rattle.ob_judge.specs.Expressions.{expression, simple, term, factor, next_arguments}
 use Rattle.judged_tree.specs.Plain.{plain_expr}
 use Rattle.judged_tree.specs.Outline.{outlined_expr}
-use Rattle.tree_parts.specs.declared.values.Value.{Value}
-use Rattle.check_names.specs.declared.scope.Scope.{Scope}
-use Rattle.check_names.specs.Worlds.{table_of}
+use Rattle.check_operands.specs.declared.trees.values.Value.{Value}
+use Rattle.check_types.specs.declared.names.scope.Scope.{Scope}
+use Rattle.check_types.specs.names.Worlds.{table_of}
 use Rattle.check_operands.specs.Operands.{texts_of, bases_of}
-use Rattle.check_calls.specs.declared.arguments.Given.{Given}
-use Rattle.check_calls.specs.Given.{AreGiven}
+use Rattle.check_operands.specs.declared.calls.arguments.Given.{Given}
+use Rattle.check_operands.specs.calls.Given.{AreGiven}
 
 -- this is the tree
 abbrev pub IsValue : Scope → Value → I.Expr → Type 0

@@ -6,6 +6,8 @@
 //! loop, so that the walk is as deep as the tree is nested.
 #![tactic(auto)]
 
+pub mod constants;
+pub mod folding;
 mod links;
 mod steps;
 mod walk;

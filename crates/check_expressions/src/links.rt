@@ -5,10 +5,10 @@ ghost use Rattle.ob_types.specs.Table.{Table};
 ghost use Rattle.ob_judge.specs.Image.{Linked};
 ghost use Rattle.judged_tree.specs.Plain.{plain_expr, plain_link};
 
-use check_steps::CheckFault;
+use check_operands::trees::{Value, linked};
+use check_types::steps::CheckFault;
 use ob_types::Link;
 use std::alloc::Global;
-use tree_parts::{Value, linked};
 
 /// A value and what is done to it.
 pub fn with_link(alloc: Global, x: Value, link: Link) -> Result<Value, CheckFault>

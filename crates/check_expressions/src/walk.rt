@@ -2,18 +2,18 @@
 
 ghost use Rattle.std.specs.Prelude.{◌≡◌};
 ghost use Rattle.ob_syntax.specs.Plain.{plain_expression, plain_simple, plain_each_added, plain_term, plain_each_multiplied, plain_factor, plain_element, plain_selector, plain_each_selector, plain_list, plain_each_expression, plain_designator};
-ghost use Rattle.expression_symbols.specs.Parts.{plain_each_element, plain_set};
+ghost use Rattle.check_operands.specs.symbols.Parts.{plain_each_element, plain_set};
 ghost use Rattle.ob_judge.specs.Image.{Expr as Image};
 ghost use Rattle.ob_judge.specs.Scopes.{place};
 ghost use Rattle.ob_judge.specs.Operands.{Operand as Judgement};
 ghost use Rattle.ob_judge.specs.Names.{Stage as JudgedStage};
 ghost use Rattle.ob_judge.specs.Calls.{Given as JudgedGiven};
 ghost use Rattle.ob_judge.specs.Expressions.{expression as judged_expression, simple as judged_simple, added as judged_added, term as judged_term, multiplied as judged_multiplied, factor as judged_factor, with_elements as judged_elements, with_element as judged_element, selected as judged_selected, select as judged_select, indexed as judged_indexed, indexed_more as judged_indices, designator as judged_designator};
-ghost use Rattle.check_steps.specs.Answers.{Answers};
-ghost use Rattle.check_names.specs.Worlds.{world_of};
+ghost use Rattle.check_types.specs.steps.Answers.{Answers};
+ghost use Rattle.check_types.specs.names.Worlds.{world_of};
 ghost use Rattle.check_operands.specs.Operands.{Stands};
-ghost use Rattle.check_calls.specs.Given.{IsGiven};
-ghost use Rattle.check_parts.specs.Parts.{IsPart};
+ghost use Rattle.check_operands.specs.calls.Given.{IsGiven};
+ghost use Rattle.check_selectors.specs.parts.Parts.{IsPart};
 ghost use Rattle.check_selectors.specs.Stages.{IsStage, IsBegun};
 ghost use Rattle.check_selectors.specs.Behind.{index_behind, parens_behind_any};
 ghost use Rattle.check_expressions.specs.Steps.{IsValue, AreGivenIn, compared_with, added_one as judged_one_added, multiplied_one as judged_one_multiplied, number_in, indexed_one as judged_index, given_by, arguments_from};
@@ -22,25 +22,27 @@ use crate::links::with_link;
 use crate::steps::{
     as_factor, as_value, char_literal, guard_name, int_literal, joined_factors, joined_terms,
 };
-use check_calls::Given;
-use check_names::{Basic, Scope};
 use check_operands::Operand;
-use check_operators::{inverted, literal, related, set_element, signed, text_literal, value};
-use check_parts::{Part, element};
+use check_operands::calls::Given;
+use check_operands::operators::{
+    inverted, literal, related, set_element, signed, text_literal, value,
+};
+use check_operands::symbols::{bare_simple, expression_first};
+use check_operands::trees::Value;
+use check_selectors::parts::{Part, element};
 use check_selectors::{
     Begun, Stage, begin, called_last, element_of, finished, guarded_by, select_arrow,
     select_empty_parens, select_field, standard_last, standard_of, type_test,
 };
-use check_steps::CheckFault;
 use check_types::TypeRef;
-use expression_symbols::{bare_simple, expression_first};
+use check_types::names::{Basic, Scope};
+use check_types::steps::CheckFault;
 use ob_syntax::expressions::{
     Added, Compared, Designator, Element, Expression, Factor, List, Multiplied, NextElement,
     NextExpression, Relation, Selector, Set, Simple, Term,
 };
 use ob_types::{Expr, Link};
 use std::alloc::Global;
-use tree_parts::Value;
 
 /// An expression.
 #[cycle(walk)]

@@ -8,13 +8,13 @@ use Rattle.ob_types.proofs.Tests.{none_some}
 use Rattle.ob_judge.specs.Scopes.{no_names}
 use Rattle.ob_judge.specs.Standards.{predeclared}
 use Rattle.judged_well.proofs.FirstWorld.{of_predeclared}
-use Rattle.check_steps.specs.Maps.{at_bytes}
+use Rattle.check_types.specs.steps.Maps.{at_bytes}
 use Rattle.check_types.specs.declared.types.TypeRef.{TypeRef}
 use Rattle.check_types.specs.declared.types.TypeRef.TheVariants as TheType
 use Rattle.check_types.specs.declared.table.TypeTable.{TypeTable}
 use Rattle.check_types.specs.TypeMeaning.{type_shape}
-use Rattle.check_names.specs.declared.levels.Level.{Level}
-use Rattle.check_names.specs.Meaning.{entry_of, names_of}
+use Rattle.check_types.specs.declared.names.levels.Level.{Level}
+use Rattle.check_types.specs.names.Meaning.{entry_of, names_of}
 use Rattle.table_builder.specs.declared.builder.TableBuilder.{TableBuilder}
 use Rattle.table_builder.specs.Entries.{HasShape}
 use Rattle.table_builder.specs.Builder.{IsBuilt}

@@ -13,10 +13,10 @@ use Rattle.check_types.specs.declared.types.TypeRef.{TypeRef}
 use Rattle.check_types.specs.declared.table.TypeTable.{TypeTable}
 use Rattle.check_types.specs.TypeMeaning.{type_shape}
 use Rattle.check_types.specs.Known.{known_of}
-use Rattle.check_names.specs.declared.levels.Level.{Level}
-use Rattle.check_names.specs.declared.scope.Named.{Named}
-use Rattle.check_names.specs.declared.scope.KnownModule.{KnownModule}
-use Rattle.check_names.specs.Meaning.{object_of, names_of, module_of}
+use Rattle.check_types.specs.declared.names.levels.Level.{Level}
+use Rattle.check_types.specs.declared.names.scope.Named.{Named}
+use Rattle.check_types.specs.declared.names.scope.KnownModule.{KnownModule}
+use Rattle.check_types.specs.names.Meaning.{object_of, names_of, module_of}
 use Rattle.table_builder.specs.declared.builder.TableBuilder.{TableBuilder}
 use Rattle.table_builder.specs.Entries.{HasShape}
 use Rattle.table_builder.specs.Growing.{Grows}

@@ -11,12 +11,12 @@ use Rattle.ob_judge.specs.Scopes.{Entry, World, declare, spelled}
 use Rattle.ob_judge.specs.Standards.{predeclared}
 use Rattle.ob_judge.specs.Making.{Making, declare_last, with_levels, offer_if, declared_as, entity_of}
 use Rattle.ob_judge.specs.Parameters.{declared}
-use Rattle.check_steps.specs.Answers.{Answers}
+use Rattle.check_types.specs.steps.Answers.{Answers}
 use Rattle.check_types.specs.declared.table.TypeTable.{TypeTable}
-use Rattle.check_names.specs.declared.levels.Level.{Level}
-use Rattle.check_names.specs.declared.scope.Named.{Named}
-use Rattle.check_names.specs.declared.scope.Declared.{Declared}
-use Rattle.check_names.specs.Meaning.{object_of, entry_of, names_of}
+use Rattle.check_types.specs.declared.names.levels.Level.{Level}
+use Rattle.check_types.specs.declared.names.scope.Named.{Named}
+use Rattle.check_types.specs.declared.names.scope.Declared.{Declared}
+use Rattle.check_types.specs.names.Meaning.{object_of, entry_of, names_of}
 use Rattle.table_builder.specs.Growing.{Grows}
 use Rattle.check_making.specs.declared.making.Declaring.{Declaring}
 use Rattle.check_making.specs.declared.making.Offered.{Offered}

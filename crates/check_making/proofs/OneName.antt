@@ -5,11 +5,11 @@ use Rattle.std.specs.Str.{bytes_eq}
 use Rattle.std.specs.Cmp.Lexicographic.{nat_list_eq_equiv}
 use Rattle.std.proofs.lemmas.Bool.{cases_Bool, cond-true, cond-false}
 use Rattle.std.specs.BTreeMap.{BTreeMap}
-use Rattle.check_steps.specs.Maps.{at_bytes}
-use Rattle.check_steps.specs.Answers.{Answers}
-use Rattle.check_steps.specs.declared.fault.CheckFault.{CheckFault}
-use Rattle.check_steps.specs.declared.fault.CheckFault.TheVariants.{Fault}
-use Rattle.check_steps.proofs.Answering.{as_judged}
+use Rattle.check_types.specs.steps.Maps.{at_bytes}
+use Rattle.check_types.specs.steps.Answers.{Answers}
+use Rattle.check_types.specs.declared.steps.fault.CheckFault.{CheckFault}
+use Rattle.check_types.specs.declared.steps.fault.CheckFault.TheVariants.{Fault}
+use Rattle.check_types.proofs.steps.Answering.{as_judged}
 use Rattle.check_making.specs.declared.making.Declaring.{Declaring}
 use Rattle.check_making.specs.declared.making.Surroundings.{Surroundings}
 use Rattle.check_making.specs.Making.{Makes, IsSettled}

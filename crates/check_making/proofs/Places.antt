@@ -10,14 +10,14 @@ use Rattle.ob_judge.specs.Names.{type_named, member_symbol}
 use Rattle.ob_judge.specs.Parameters.{type_at}
 use Rattle.judged_well.specs.Gives.{Gives}
 use Rattle.table_builder.specs.Entries.{HasShape, is_whole_shape}
-use Rattle.check_steps.specs.Answers.{Answers}
-use Rattle.check_steps.specs.declared.fault.CheckFault.{CheckFault}
+use Rattle.check_types.specs.steps.Answers.{Answers}
+use Rattle.check_types.specs.declared.steps.fault.CheckFault.{CheckFault}
 use Rattle.check_types.specs.declared.types.TypeRef.{TypeRef}
 use Rattle.check_types.specs.TypeMeaning.{type_shape}
-use Rattle.check_names.specs.declared.scope.KnownModule.{KnownModule}
-use Rattle.check_names.specs.declared.scope.Scope.{Scope}
-use Rattle.check_names.specs.Meaning.{module_of}
-use Rattle.check_names.specs.Worlds.{world_of, IsOfType}
+use Rattle.check_types.specs.declared.names.scope.KnownModule.{KnownModule}
+use Rattle.check_types.specs.declared.names.scope.Scope.{Scope}
+use Rattle.check_types.specs.names.Meaning.{module_of}
+use Rattle.check_types.specs.names.Worlds.{world_of, IsOfType}
 use Rattle.table_builder.specs.Contents.{contents_of}
 use Rattle.table_builder.proofs.ByShape.{element_by_shape}
 use Rattle.check_making.specs.declared.making.Declaring.{Declaring}

@@ -13,8 +13,8 @@ use Rattle.ob_judge.specs.Names.{named, member, member_of_object, qualified, typ
 use Rattle.ob_judge.specs.Names.{names_of as names_of_module}
 use Rattle.judged_well.specs.Gives.{Gives}
 use Rattle.judged_well.proofs.Judging.{keeps, breaks, and_then, by_rule, by_some, at_last}
-use Rattle.check_steps.specs.Answers.{Answers, Answer}
-use Rattle.check_steps.specs.declared.fault.CheckFault.{CheckFault}
+use Rattle.check_types.specs.steps.Answers.{Answers, Answer}
+use Rattle.check_types.specs.declared.steps.fault.CheckFault.{CheckFault}
 use Rattle.table_builder.specs.Entries.{HasShape, is_whole_shape}
 use Rattle.check_making.specs.Staying.{HasType, NamesHaveTypes, AllHaveTypes}
 

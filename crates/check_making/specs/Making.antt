@@ -6,14 +6,14 @@ use Rattle.ob_judge.specs.Shapes.{Shape}
 use Rattle.ob_judge.specs.Scopes.{World, Entry, Object, part}
 use Rattle.ob_judge.specs.Standards.{predeclared}
 use Rattle.ob_judge.specs.Making.{Making, is_among, entity_of, declared_as}
-use Rattle.check_steps.specs.Maps.{at_bytes}
+use Rattle.check_types.specs.steps.Maps.{at_bytes}
 use Rattle.check_types.specs.declared.table.TypeTable.{TypeTable}
 use Rattle.check_types.specs.declared.types.TypeRef.{TypeRef}
 use Rattle.check_types.specs.TypeMeaning.{type_shape}
 use Rattle.check_types.specs.Known.{known_of}
-use Rattle.check_names.specs.declared.scope.Declared.{Declared as TheDeclared}
-use Rattle.check_names.specs.declared.scope.Named.{Named}
-use Rattle.check_names.specs.Meaning.{object_of, names_of, module_of}
+use Rattle.check_types.specs.declared.names.scope.Declared.{Declared as TheDeclared}
+use Rattle.check_types.specs.declared.names.scope.Named.{Named}
+use Rattle.check_types.specs.names.Meaning.{object_of, names_of, module_of}
 use Rattle.table_builder.specs.Entries.{IsElement}
 use Rattle.table_builder.specs.Builder.{IsBuilt}
 use Rattle.check_making.specs.declared.making.Declaring.{Declaring}

@@ -3,12 +3,12 @@ use Rattle.std.specs.Prelude.{◌≡◌, ℕ, List, length, map, Bool, Result}
 use Rattle.ob_judge.specs.Modules.{SoFar}
 use Rattle.check_types.specs.declared.table.TypeTable.{TypeTable}
 use Rattle.check_types.specs.Known.{known_of}
-use Rattle.check_names.specs.Meaning.{module_of}
+use Rattle.check_types.specs.names.Meaning.{module_of}
 use Rattle.ob_judge.specs.Judged.{Judged}
 use Rattle.ob_judge.specs.Scopes.{World}
 use Rattle.ob_judge.specs.Making.{Making, Part}
-use Rattle.check_steps.specs.Answers.{Answers}
-use Rattle.check_steps.specs.declared.fault.CheckFault.{CheckFault}
+use Rattle.check_types.specs.steps.Answers.{Answers}
+use Rattle.check_types.specs.declared.steps.fault.CheckFault.{CheckFault}
 use Rattle.check_types.specs.declared.types.TypeRef.TheVariants as TheType
 use Rattle.table_builder.specs.Entries.{IsElement}
 use Rattle.check_making.specs.declared.making.Declaring.{Declaring}

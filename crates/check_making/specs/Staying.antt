@@ -3,11 +3,11 @@ use Rattle.std.specs.Prelude.{◌≡◌, ℕ, List, [], ◌∷◌, ◌++◌, map
 use Rattle.ob_types.specs.Table.{Table}
 use Rattle.ob_judge.specs.Scopes.{Object, AType, Entry, declare}
 use Rattle.check_types.specs.declared.table.TypeTable.{TypeTable}
-use Rattle.check_names.specs.declared.levels.Level.{Level}
-use Rattle.check_names.specs.declared.scope.KnownModule.{KnownModule}
-use Rattle.check_names.specs.declared.scope.Named.{Named}
-use Rattle.check_names.specs.declared.scope.Declared.{Declared}
-use Rattle.check_names.specs.Meaning.{object_of, entry_of, names_of, module_of}
+use Rattle.check_types.specs.declared.names.levels.Level.{Level}
+use Rattle.check_types.specs.declared.names.scope.KnownModule.{KnownModule}
+use Rattle.check_types.specs.declared.names.scope.Named.{Named}
+use Rattle.check_types.specs.declared.names.scope.Declared.{Declared}
+use Rattle.check_types.specs.names.Meaning.{object_of, entry_of, names_of, module_of}
 use Rattle.table_builder.specs.Entries.{HasShape, is_whole_shape}
 use Rattle.table_builder.specs.Growing.{Grows}
 

@@ -8,7 +8,7 @@ ghost use Rattle.check_making.specs.Making.{AreTextPlaces, Makes, IsSettled};
 ghost use Rattle.check_making.specs.Parts.{IsNextModule};
 
 use crate::making::{Declaring, Surroundings, TextPlace};
-use check_names::Level;
+use check_types::names::Level;
 use items::Items;
 use outside::Memory;
 use std::collections::BTreeMap;

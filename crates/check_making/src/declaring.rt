@@ -7,8 +7,8 @@ ghost use Rattle.check_making.specs.Making.{table_of, strings_of, object_in, off
 ghost use Rattle.check_making.specs.Parts.{Judges};
 
 use crate::making::{Declaring, Offered, Surroundings};
-use check_names::{Declared, Level, Named};
-use check_steps::CheckFault;
+use check_types::names::{Declared, Level, Named};
+use check_types::steps::CheckFault;
 use items::Items;
 use ob_syntax::names::Identdef;
 use std::alloc::{AllocError, Global};
@@ -85,8 +85,8 @@ impl Declaring {
 #[cfg(test)]
 mod tests {
     use super::*;
-    use check_steps::Source;
     use check_types::TypeRef;
+    use check_types::steps::Source;
     use ob_symbol::{Kind, Symbol};
     use ob_syntax::names::Qualident;
     use std::test::Fail;

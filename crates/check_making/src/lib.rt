@@ -9,8 +9,12 @@
 
 mod beginning;
 mod declaring;
+pub mod headings;
 mod looking;
 mod making;
+pub mod new_types;
+pub mod parameters;
+pub mod scopes;
 mod standing;
 mod strings;
 mod typing;

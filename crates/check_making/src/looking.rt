@@ -4,14 +4,14 @@ ghost use Rattle.std.specs.Prelude.{◌≡◌};
 ghost use Rattle.ob_judge.specs.Names.{member_symbol as symbol_of};
 ghost use Rattle.ob_judge.specs.Scopes.{Source, World};
 ghost use Rattle.ob_judge.specs.Parameters.{type_at as judged_type};
-ghost use Rattle.check_names.specs.Worlds.{world_of};
+ghost use Rattle.check_types.specs.names.Worlds.{world_of};
 ghost use Rattle.check_making.specs.Making.{strings_of, world_in, IsSettled, IsTypeOf};
 ghost use Rattle.check_making.specs.Parts.{JudgesHere};
 
 use crate::making::{Declaring, Surroundings};
-use check_names::Scope;
-use check_steps::CheckFault;
 use check_types::TypeRef;
+use check_types::names::Scope;
+use check_types::steps::CheckFault;
 use ob_syntax::names::{Member, Qualident};
 
 // The symbol of a member.

@@ -1,8 +1,8 @@
 //! The state between declarations.
 
-use check_names::{Declared, KnownModule, Level};
-use check_steps::Source;
 use check_types::TypeRef;
+use check_types::names::{Declared, KnownModule, Level};
+use check_types::steps::Source;
 use items::Items;
 use std::alloc::Global;
 use std::collections::BTreeMap;

@@ -6,7 +6,7 @@ ghost use Rattle.check_making.specs.Making.{IsSettled};
 ghost use Rattle.check_making.specs.Parts.{Judges};
 
 use crate::making::{Declaring, Surroundings};
-use check_steps::CheckFault;
+use check_types::steps::CheckFault;
 
 impl Declaring {
     /// A name stands in the innermost scope, and no other of its bytes.

@@ -3,13 +3,13 @@
 ghost use Rattle.std.specs.Prelude.{◌≡◌, List, ℕ, length, OnOk, IfOk, IfErr};
 ghost use Rattle.ob_judge.specs.Image.{Chars};
 ghost use Rattle.ob_judge.specs.Making.{Making};
-ghost use Rattle.check_names.specs.Meaning.{constant_of};
+ghost use Rattle.check_types.specs.names.Meaning.{constant_of};
 ghost use Rattle.check_making.specs.Staying.{NamedStays};
 ghost use Rattle.check_making.specs.Making.{table_of, strings_of, characters_at, Makes, IsSettled};
 
 use crate::making::{Declaring, Surroundings, TextPlace};
-use check_names::{Constant, Named};
-use check_steps::CheckFault;
+use check_types::names::{Constant, Named};
+use check_types::steps::CheckFault;
 use items::Items;
 
 /// The number behind so many; without one there is no memory for another.

@@ -13,7 +13,7 @@ ghost use Rattle.check_making.specs.Making.{table_of, shape_in, Makes, IsSettled
 ghost use Rattle.check_making.specs.Parts.{Judges, JudgesAs, IsRecord, IsPointer};
 
 use crate::making::{Declaring, Surroundings};
-use check_steps::CheckFault;
+use check_types::steps::CheckFault;
 use check_types::{Layout, TypeRef};
 use outside::Memory;
 

@@ -21,24 +21,24 @@ use Rattle.judged_tree.specs.Outline.{outlined_statements, outlined_procedure}
 use Rattle.judged_tree.specs.TypeShapes.{shape_of}
 use Rattle.judged_outlines.specs.Upright.{Upright}
 use Rattle.judged_outlines.proofs.Outlined.{body_outlined}
-use Rattle.check_steps.specs.Answers.{Answers}
-use Rattle.check_steps.specs.declared.fault.CheckFault.{CheckFault}
-use Rattle.check_steps.proofs.Answering.{as_judged, stop}
-use Rattle.check_names.specs.declared.scope.Scope.{Scope}
-use Rattle.check_names.specs.Worlds.{world_of}
-use Rattle.check_names.specs.Worlds.{table_of as table_in}
+use Rattle.check_types.specs.steps.Answers.{Answers}
+use Rattle.check_types.specs.declared.steps.fault.CheckFault.{CheckFault}
+use Rattle.check_types.proofs.steps.Answering.{as_judged, stop}
+use Rattle.check_types.specs.declared.names.scope.Scope.{Scope}
+use Rattle.check_types.specs.names.Worlds.{world_of}
+use Rattle.check_types.specs.names.Worlds.{table_of as table_in}
 use Rattle.check_operands.specs.Operands.{texts_of as texts_in}
-use Rattle.check_standard.specs.Made.{IsKept}
+use Rattle.check_selectors.specs.standard.Made.{IsKept}
 use Rattle.check_statements.specs.Standing.{AreStatements}
 use Rattle.check_types.specs.declared.types.TypeRef.TheVariants as TheType
 use Rattle.check_types.specs.declared.table.TypeTable.{TypeTable}
 use Rattle.table_builder.specs.Growing.{Grows}
-use Rattle.procedure_steps.specs.Frames.{Begins}
+use Rattle.judged_modules.specs.steps.Frames.{Begins}
 use Rattle.check_making.specs.declared.making.Declaring.{Declaring}
 use Rattle.check_making.specs.declared.making.Surroundings.{Surroundings}
 use Rattle.check_making.specs.Making.{table_of, world_in, Makes}
-use Rattle.check_scopes.specs.Building.{IsLater, StandsFor}
-use Rattle.check_scopes.proofs.Procedures.{number_means, number_still, begins_self}
+use Rattle.check_making.specs.scopes.Building.{IsLater, StandsFor}
+use Rattle.check_making.proofs.scopes.Procedures.{number_means, number_still, begins_self}
 use Rattle.check_procedures.proofs.Giving.{came, then_so, rule_stops}
 use Rattle.check_procedures.proofs.Texts.{texts_same}
 use Rattle.check_modules.specs.Parts.{body_procedure, completed_module}

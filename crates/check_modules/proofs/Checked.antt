@@ -16,14 +16,14 @@ use Rattle.judged_well.specs.Standing.{IsRead}
 use Rattle.judged_outlines.specs.Upright.{Upright, UprightSoFar}
 use Rattle.judged_outlines.proofs.Modules.{first_upright}
 use Rattle.legal_tables.specs.Promised.{HasLegalTypes}
-use Rattle.check_steps.specs.Answers.{Answers}
-use Rattle.check_steps.specs.declared.fault.CheckFault.{CheckFault}
-use Rattle.check_steps.proofs.Answering.{as_judged, goes_on, stop}
+use Rattle.check_types.specs.steps.Answers.{Answers}
+use Rattle.check_types.specs.declared.steps.fault.CheckFault.{CheckFault}
+use Rattle.check_types.proofs.steps.Answering.{as_judged, goes_on, stop}
 use Rattle.check_types.specs.declared.table.TypeTable.{TypeTable}
 use Rattle.check_types.specs.Known.{known_of}
-use Rattle.check_names.specs.declared.scope.KnownModule.{KnownModule}
-use Rattle.check_names.specs.Meaning.{module_of}
-use Rattle.check_standard.specs.Made.{IsKept}
+use Rattle.check_types.specs.declared.names.scope.KnownModule.{KnownModule}
+use Rattle.check_types.specs.names.Meaning.{module_of}
+use Rattle.check_selectors.specs.standard.Made.{IsKept}
 use Rattle.table_builder.specs.declared.builder.TableBuilder.{TableBuilder}
 use Rattle.table_builder.specs.Growing.{Grows}
 use Rattle.check_making.specs.declared.making.Declaring.{Declaring}
@@ -32,17 +32,17 @@ use Rattle.check_making.specs.Staying.{ModuleStays, ModulesStay, NamesHaveTypes,
 use Rattle.check_making.specs.Making.{table_of, strings_of, world_in, AreTextPlaces, Makes, IsSettled}
 use Rattle.check_making.specs.Parts.{IsNextModule}
 use Rattle.check_making.proofs.Growing.{grows_on}
-use Rattle.check_scopes.specs.declared.building.Building.{Building}
-use Rattle.check_scopes.specs.Building.{TheyStandFor, Represents}
-use Rattle.check_scopes.specs.Built.{Built}
+use Rattle.check_making.specs.declared.scopes.building.Building.{Building}
+use Rattle.check_making.specs.scopes.Building.{TheyStandFor, Represents}
+use Rattle.check_making.specs.scopes.Built.{Built}
 use Rattle.check_procedures.specs.UnderWay.{IsUnderWay, BuildsUpright}
 use Rattle.check_procedures.proofs.Giving.{came, rule_stops}
-use Rattle.module_ends.specs.Ends.{EndsWell}
-use Rattle.line_numbers.specs.Lines.{IsLineTable}
+use Rattle.judged_outlines.specs.ends.Ends.{EndsWell}
+use Rattle.check_procedures.specs.lines.Lines.{IsLineTable}
 use Rattle.check_modules.specs.declared.ending.JudgedModule.{JudgedModule}
-use Rattle.checked_modules.specs.declared.modules.Modules.{Modules}
-use Rattle.checked_modules.specs.Entities.{AreTold}
-use Rattle.checked_modules.specs.Modules.{IsModuleOf, AreModulesOf, StandsForModules, HasSettledModules, modules_behind}
+use Rattle.check_modules.specs.declared.programs.modules.Modules.{Modules}
+use Rattle.check_modules.specs.programs.Entities.{AreTold}
+use Rattle.check_modules.specs.programs.Modules.{IsModuleOf, AreModulesOf, StandsForModules, HasSettledModules, modules_behind}
 use Rattle.check_modules.specs.Parts.{declared_part, ending_part}
 use Rattle.check_modules.specs.Ended.{IsEnded, SeenStays, HasSoFar}
 use Rattle.check_modules.proofs.ByParts.{module_parts}
@@ -157,7 +157,7 @@ module _ (texts : List (List ℕ)) (state : Modules) (r : Surroundings) (modules
       offers_told read h ok =
           came (declared_part r.source.now x (first_making h.so_far)) (declared h.so_far (first_making h.so_far) (first_represents h.so_far h.stands) (first_upright h.so_far h.upright)) (λ a e built.
           told b.declaring.types ok.built (strings_of b.declaring) b.declaring.objects.items ok.objects
-          (subst (λ os. Rattle.module_ends.specs.Ends.OffersInRange os) (built.represents.makes.objects) (declared_in_range r x h.so_far a read h.ends e)))
+          (subst (λ os. Rattle.judged_outlines.specs.ends.Ends.OffersInRange os) (built.represents.makes.objects) (declared_in_range r x h.so_far a read h.ends e)))
 
       -- ---- and has ended
 

@@ -14,37 +14,37 @@ use Rattle.judged_well.specs.Standing.{IsRead}
 use Rattle.judged_outlines.specs.Upright.{Upright, UprightSoFar}
 use Rattle.judged_outlines.proofs.Uprights.{imports_upright, decls_upright}
 use Rattle.legal_tables.specs.Promised.{HasLegalTypes}
-use Rattle.check_steps.specs.Answers.{Answers}
-use Rattle.check_steps.specs.declared.fault.CheckFault.{CheckFault}
-use Rattle.check_steps.proofs.Answering.{stop}
+use Rattle.check_types.specs.steps.Answers.{Answers}
+use Rattle.check_types.specs.declared.steps.fault.CheckFault.{CheckFault}
+use Rattle.check_types.proofs.steps.Answering.{stop}
 use Rattle.check_types.specs.declared.types.TypeRef.{TypeRef}
 use Rattle.check_types.specs.declared.table.TypeTable.{TypeTable}
 use Rattle.check_types.specs.TypeMeaning.{type_shape}
-use Rattle.check_names.specs.declared.scope.Named.{Named}
-use Rattle.check_names.specs.declared.scope.Named.TheVariants as TheNamed
-use Rattle.check_names.specs.declared.scope.Constant.TheVariants as TheConstant
-use Rattle.check_names.specs.Meaning.{object_of}
+use Rattle.check_types.specs.declared.names.scope.Named.{Named}
+use Rattle.check_types.specs.declared.names.scope.Named.TheVariants as TheNamed
+use Rattle.check_types.specs.declared.names.scope.Constant.TheVariants as TheConstant
+use Rattle.check_types.specs.names.Meaning.{object_of}
 use Rattle.table_builder.specs.declared.builder.TableBuilder.{TableBuilder}
 use Rattle.table_builder.specs.Builder.{IsBuilt}
 use Rattle.table_builder.specs.Contents.{contents_of}
 use Rattle.table_builder.proofs.ByShape.{entry_by_shape}
-use Rattle.procedure_steps.proofs.FrameTypes.{m_decls}
+use Rattle.judged_modules.proofs.steps.FrameTypes.{m_decls}
 use Rattle.check_making.specs.declared.making.Declaring.{Declaring}
 use Rattle.check_making.specs.declared.making.Offered.{Offered}
 use Rattle.check_making.specs.declared.making.Surroundings.{Surroundings}
 use Rattle.check_making.specs.Staying.{HasType}
 use Rattle.check_making.specs.Making.{table_of, strings_of, offered_of, OfferedStay, Makes, IsSettled}
 use Rattle.check_making.specs.Parts.{Made, Judges}
-use Rattle.check_imports.specs.Importing.{imports_part}
-use Rattle.check_scopes.specs.declared.building.Building.{Building}
-use Rattle.check_scopes.specs.Building.{Represents}
-use Rattle.check_scopes.specs.Built.{Built}
-use Rattle.check_scopes.proofs.Together.{built_at}
+use Rattle.check_modules.specs.importing.Importing.{imports_part}
+use Rattle.check_making.specs.declared.scopes.building.Building.{Building}
+use Rattle.check_making.specs.scopes.Building.{Represents}
+use Rattle.check_making.specs.scopes.Built.{Built}
+use Rattle.check_making.proofs.scopes.Together.{built_at}
 use Rattle.check_procedures.specs.UnderWay.{IsUnderWay, BuildsUpright}
 use Rattle.check_procedures.proofs.Giving.{came, then_so, given_so}
-use Rattle.module_ends.specs.Ends.{OffersInRange, EndsWell}
-use Rattle.module_ends.proofs.Modules.{constants_offered}
-use Rattle.checked_modules.specs.Entities.{IsTold, AreTold}
+use Rattle.judged_outlines.specs.ends.Ends.{OffersInRange, EndsWell}
+use Rattle.judged_outlines.proofs.ends.Modules.{constants_offered}
+use Rattle.check_modules.specs.programs.Entities.{IsTold, AreTold}
 use Rattle.check_modules.specs.Parts.{declared_part}
 use Rattle.check_modules.proofs.Imports.{h_imports}
 

@@ -16,31 +16,31 @@ use Rattle.ob_judge.specs.Making.{Making, last_names, new_procedure, set_procedu
 use Rattle.ob_judge.specs.Modules.{offered, offered_by}
 use Rattle.judged_tree.specs.TypeShapes.{shape_of}
 use Rattle.judged_tree.specs.Plain.{plain_module, plain_object}
-use Rattle.check_steps.specs.Answers.{Answers}
-use Rattle.check_steps.specs.declared.fault.CheckFault.{CheckFault}
-use Rattle.check_steps.proofs.Answering.{goes_on, stop}
+use Rattle.check_types.specs.steps.Answers.{Answers}
+use Rattle.check_types.specs.declared.steps.fault.CheckFault.{CheckFault}
+use Rattle.check_types.proofs.steps.Answering.{goes_on, stop}
 use Rattle.check_types.specs.declared.types.TypeRef.{TypeRef}
 use Rattle.check_types.specs.declared.table.TypeTable.{TypeTable}
 use Rattle.check_types.specs.TypeMeaning.{type_shape}
 use Rattle.check_types.specs.Known.{known_of}
-use Rattle.check_names.specs.declared.levels.Level.{Level}
-use Rattle.check_names.specs.declared.scope.KnownModule.{KnownModule}
-use Rattle.check_names.specs.Meaning.{names_of, module_of}
+use Rattle.check_types.specs.declared.names.levels.Level.{Level}
+use Rattle.check_types.specs.declared.names.scope.KnownModule.{KnownModule}
+use Rattle.check_types.specs.names.Meaning.{names_of, module_of}
 use Rattle.table_builder.specs.declared.builder.TableBuilder.{TableBuilder}
 use Rattle.table_builder.specs.Growing.{Grows}
 use Rattle.check_making.specs.declared.making.Declaring.{Declaring}
 use Rattle.check_making.specs.declared.making.Surroundings.{Surroundings}
 use Rattle.check_making.specs.Staying.{LevelsStay, ModuleStays, HasType, NamesHaveTypes, AllHaveTypes}
 use Rattle.check_making.specs.Making.{table_of, strings_of, levels_of, offered_of, Makes, IsSettled}
-use Rattle.check_imports.specs.Ends.{seen}
-use Rattle.check_scopes.specs.declared.building.Building.{Building}
-use Rattle.check_scopes.specs.Building.{StandsFor, TheyStandFor, Represents}
-use Rattle.check_scopes.specs.Built.{Built, BuiltAs, Builds, BuildsAs, IsNumber}
-use Rattle.check_scopes.specs.Numbers.{AreNumbersOf}
-use Rattle.check_scopes.proofs.ByNumber.{numbers_mean, numbers_still}
+use Rattle.check_modules.specs.importing.Ends.{seen}
+use Rattle.check_making.specs.declared.scopes.building.Building.{Building}
+use Rattle.check_making.specs.scopes.Building.{StandsFor, TheyStandFor, Represents}
+use Rattle.check_making.specs.scopes.Built.{Built, BuiltAs, Builds, BuildsAs, IsNumber}
+use Rattle.check_making.specs.scopes.Numbers.{AreNumbersOf}
+use Rattle.check_making.proofs.scopes.ByNumber.{numbers_mean, numbers_still}
 use Rattle.check_modules.specs.declared.ending.JudgedModule.{JudgedModule}
-use Rattle.checked_modules.specs.Entities.{AreObjects}
-use Rattle.checked_modules.specs.Modules.{IsModuleOf}
+use Rattle.check_modules.specs.programs.Entities.{AreObjects}
+use Rattle.check_modules.specs.programs.Modules.{IsModuleOf}
 use Rattle.check_modules.specs.Parts.{numbered_part, module_made, ending_part, body_part, completed_module}
 use Rattle.check_modules.specs.Ended.{IsEnded, SeenStays}
 

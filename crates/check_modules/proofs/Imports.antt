@@ -9,7 +9,7 @@ use Rattle.ob_judge.specs.Declarations.{each}
 use Rattle.ob_judge.specs.Modules.{imported, import_part, is_in, origin}
 use Rattle.judged_well.specs.Gives.{Gives}
 use Rattle.judged_well.proofs.Judging.{keeps}
-use Rattle.procedure_steps.proofs.Frame.{held, HeldTo, h_next, h_look, h_stand}
+use Rattle.judged_modules.proofs.steps.Frame.{held, HeldTo, h_next, h_look, h_stand}
 
 module _ (p : Source) where
   h_import : (x : Import) (s : Making) → Gives (HeldTo s) (import_part p x s)

@@ -1,9 +1,9 @@
 -- Want of memory is free.
 use Rattle.std.proofs.Common.{◌≡◌, Result, Err, sym, subst}
 use Rattle.ob_judge.specs.Judged.{Judged, Keeps, Breaks}
-use Rattle.check_steps.specs.Answers.{Answers, Refuses}
-use Rattle.check_steps.specs.declared.fault.CheckFault.{CheckFault}
-use Rattle.check_steps.specs.declared.fault.CheckFault.TheVariants.{Memory}
+use Rattle.check_types.specs.steps.Answers.{Answers, Refuses}
+use Rattle.check_types.specs.declared.steps.fault.CheckFault.{CheckFault}
+use Rattle.check_types.specs.declared.steps.fault.CheckFault.TheVariants.{Memory}
 
 refused : {A : Type 0} (m : Judged A) → Refuses m Memory
 refused (Keeps a) = tt

@@ -6,16 +6,16 @@ use Rattle.ob_judge.specs.Making.{Making}
 use Rattle.ob_judge.specs.Modules.{SoFar, offered_by}
 use Rattle.judged_outlines.specs.Upright.{UprightSoFar}
 use Rattle.check_types.specs.Known.{known_of}
-use Rattle.check_names.specs.Meaning.{module_of}
+use Rattle.check_types.specs.names.Meaning.{module_of}
 use Rattle.check_making.specs.declared.making.Surroundings.{Surroundings}
 use Rattle.check_making.specs.Making.{table_of, strings_of}
 use Rattle.check_making.specs.Staying.{AreSettled, ModuleStays, NamesHaveTypes}
-use Rattle.check_scopes.specs.declared.building.Building.{Building}
-use Rattle.check_scopes.specs.Building.{TheyStandFor}
-use Rattle.module_ends.specs.Ends.{EndsWell}
+use Rattle.check_making.specs.declared.scopes.building.Building.{Building}
+use Rattle.check_making.specs.scopes.Building.{TheyStandFor}
+use Rattle.judged_outlines.specs.ends.Ends.{EndsWell}
 use Rattle.check_modules.specs.declared.ending.JudgedModule.{JudgedModule}
-use Rattle.checked_modules.specs.declared.modules.Modules.{Modules}
-use Rattle.checked_modules.specs.Modules.{IsModuleOf, StandsForModules}
+use Rattle.check_modules.specs.declared.programs.modules.Modules.{Modules}
+use Rattle.check_modules.specs.programs.Modules.{IsModuleOf, StandsForModules}
 
 -- it is the judgement's module of this name, and the rest is what that leaves
 pub record IsEnded (r : Surroundings) (name : ℕ) (s : Building) (e : JudgedModule) (x : I.Module × Making) : Type 0 where

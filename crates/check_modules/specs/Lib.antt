@@ -1,2 +1,4 @@
 pub mod Parts
 pub mod Ended
+pub mod programs
+pub mod importing

@@ -9,24 +9,24 @@ ghost use Rattle.ob_judge.specs.Making.{Making};
 ghost use Rattle.ob_judge.specs.Modules.{SoFar};
 ghost use Rattle.ob_judge.specs.Scopes.{place, spelled};
 ghost use Rattle.judged_outlines.specs.Upright.{Upright};
-ghost use Rattle.line_numbers.specs.Lines.{IsLineTable};
-ghost use Rattle.check_steps.specs.Answers.{Answers};
-ghost use Rattle.check_standard.specs.Made.{IsKept};
+ghost use Rattle.check_procedures.specs.lines.Lines.{IsLineTable};
+ghost use Rattle.check_types.specs.steps.Answers.{Answers};
+ghost use Rattle.check_selectors.specs.standard.Made.{IsKept};
 ghost use Rattle.check_making.specs.Making.{Makes, IsSettled};
-ghost use Rattle.check_scopes.specs.Building.{StandsFor};
-ghost use Rattle.check_scopes.specs.Built.{BuildsAs, IsNumber};
+ghost use Rattle.check_making.specs.scopes.Building.{StandsFor};
+ghost use Rattle.check_making.specs.scopes.Built.{BuildsAs, IsNumber};
 ghost use Rattle.check_modules.specs.Parts.{completed_module, numbered_part};
 
+use check_making::scopes::Building;
 use check_making::{Declaring, Surroundings};
-use check_scopes::Building;
+use check_procedures::lines::line_at;
+use check_procedures::numbers::renumbered;
 use check_statements::body_of;
-use check_steps::CheckFault;
 use check_types::TypeRef;
+use check_types::steps::CheckFault;
 use items::Items;
-use line_numbers::line_at;
 use ob_syntax::modules::Module;
 use ob_types::Procedure;
-use text_numbers::renumbered;
 
 // Behind END stands the module's name.
 fn end_name(round: &Surroundings, name: u32, end: u32) -> Result<(), CheckFault>

@@ -10,22 +10,22 @@ ghost use Rattle.ob_judge.specs.Scopes.{place, spelled};
 ghost use Rattle.judged_well.specs.Standing.{IsRead};
 ghost use Rattle.judged_outlines.specs.Upright.{Upright};
 ghost use Rattle.legal_tables.specs.Promised.{HasLegalTypes};
-ghost use Rattle.line_numbers.specs.Lines.{IsLineTable};
+ghost use Rattle.check_procedures.specs.lines.Lines.{IsLineTable};
 ghost use Rattle.table_builder.specs.Growing.{Grows};
-ghost use Rattle.check_steps.specs.Answers.{Answers};
-ghost use Rattle.check_names.specs.Meaning.{module_of};
-ghost use Rattle.check_standard.specs.Made.{IsKept};
+ghost use Rattle.check_types.specs.steps.Answers.{Answers};
+ghost use Rattle.check_types.specs.names.Meaning.{module_of};
+ghost use Rattle.check_selectors.specs.standard.Made.{IsKept};
 ghost use Rattle.check_making.specs.Making.{IsSettled};
-ghost use Rattle.check_scopes.specs.Building.{IsLater, Represents};
+ghost use Rattle.check_making.specs.scopes.Building.{IsLater, Represents};
 ghost use Rattle.check_procedures.specs.UnderWay.{IsUnderWay, BuildsUpright};
 ghost use Rattle.check_modules.specs.Parts.{declared_part};
 
-use check_imports::{imports, is_new};
+use crate::importing::{imports, is_new};
 use check_making::Surroundings;
-use check_names::KnownModule;
+use check_making::scopes::Building;
 use check_procedures::declarations;
-use check_scopes::Building;
-use check_steps::{CheckFault, Source};
+use check_types::names::KnownModule;
+use check_types::steps::{CheckFault, Source};
 use ob_syntax::modules::Module;
 
 /// No module before has this name.

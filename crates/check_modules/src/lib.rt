@@ -8,5 +8,7 @@ mod bodies;
 mod checking;
 mod declaring;
 mod ending;
+pub mod importing;
+pub mod programs;
 
 pub use checking::check_module;

@@ -1,1 +1,5 @@
 pub mod Operands
+pub mod trees
+pub mod operators
+pub mod calls
+pub mod symbols

@@ -8,12 +8,12 @@ use Rattle.ob_judge.specs.Operands as J
 use Rattle.ob_judge.specs.Image as I
 use Rattle.judged_tree.specs.Plain.{plain_expr, plain_statement}
 use Rattle.judged_tree.specs.Outline.{outlined_place, outlined_expr, outlined_statement}
-use Rattle.tree_parts.specs.Lists.{place_image}
-use Rattle.check_steps.specs.declared.fault.CheckFault.{CheckFault}
-use Rattle.check_steps.specs.Answers.{Answers}
+use Rattle.check_operands.specs.trees.Lists.{place_image}
+use Rattle.check_types.specs.declared.steps.fault.CheckFault.{CheckFault}
+use Rattle.check_types.specs.steps.Answers.{Answers}
 use Rattle.check_types.specs.TypeMeaning.{type_shape}
-use Rattle.check_names.specs.declared.scope.Scope.{Scope}
-use Rattle.check_names.specs.Worlds.{table_of, strings_of}
+use Rattle.check_types.specs.declared.names.scope.Scope.{Scope}
+use Rattle.check_types.specs.names.Worlds.{table_of, strings_of}
 use Rattle.check_operands.specs.declared.operand.Operand.{Operand}
 use Rattle.check_operands.specs.declared.operand.Use.{Use}
 use Rattle.check_operands.specs.declared.operand.Use.TheVariants as TheUse

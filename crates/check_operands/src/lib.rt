@@ -5,8 +5,12 @@
 //! scope (`texts_of`), and so is a use of it in a tree that is being made.
 #![tactic(auto)]
 
+pub mod calls;
 mod operand;
+pub mod operators;
+pub mod symbols;
 mod texts;
+pub mod trees;
 mod usage;
 mod values;
 

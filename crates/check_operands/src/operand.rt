@@ -1,8 +1,8 @@
 //! Operands.
 
+use crate::trees::{Place, Value};
 use check_types::TypeRef;
 use ob_types::Stmt;
-use tree_parts::{Place, Value};
 
 /// What an operand is.
 #[derive(Drop)]

@@ -2,11 +2,11 @@
 
 ghost use Rattle.std.specs.Prelude.{◌≡◌, ℕ, List, [], ◌∷◌, ◌++◌, map, IfOk, IfErr, Some, slice_get, slice_index_or};
 ghost use Rattle.ob_judge.specs.Scopes.{characters};
-ghost use Rattle.check_names.specs.Worlds.{strings_of};
+ghost use Rattle.check_types.specs.names.Worlds.{strings_of};
 ghost use Rattle.check_operands.specs.Operands.{texts_of};
 
-use check_names::Scope;
-use check_steps::CheckFault;
+use check_types::names::Scope;
+use check_types::steps::CheckFault;
 
 /// The number of a literal's characters.
 pub fn literal_text<'a>(scope: &Scope<'a>, i: u32) -> u32

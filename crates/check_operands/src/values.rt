@@ -6,13 +6,13 @@ ghost use Rattle.judged_tree.specs.TypeShapes.{shape_of_kind};
 ghost use Rattle.check_types.specs.TypeMeaning.{type_shape};
 ghost use Rattle.judged_tree.specs.Plain.{plain_expr, plain_designator, plain_checked};
 ghost use Rattle.judged_tree.specs.Outline.{outlined_expr, outlined_designator, outlined_checked, outlined_shape};
-ghost use Rattle.check_names.specs.Worlds.{table_of};
+ghost use Rattle.check_types.specs.names.Worlds.{table_of};
 ghost use Rattle.check_operands.specs.Operands.{texts_of, bases_of, first_or_none, Stands};
 
 use crate::operand::{Operand, What};
 use crate::texts::{known_text, text};
-use check_names::Scope;
 use check_types::TypeRef;
+use check_types::names::Scope;
 use ob_types::{Base, Checked, Designator, Expr, TypeKind};
 
 // The first of some characters, or 0.

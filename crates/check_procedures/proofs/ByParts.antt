@@ -10,11 +10,11 @@ use Rattle.ob_judge.specs.Declarations.{heading, decls_part}
 use Rattle.ob_syntax.specs.Plain.{plain_option, plain_formals, plain_decls}
 use Rattle.ob_syntax.specs.declared.declarations.Procedure.{out-Procedure}
 use Rattle.ob_syntax.specs.declared.declarations.Procedure.{Procedure as ProcedureTree}
-use Rattle.procedure_steps.specs.Procedures.{OneProcedure, plain_procedure}
-use Rattle.procedure_steps.specs.Steps.{completes, inside, procedure_part}
-use Rattle.procedure_steps.specs.Frames.{entered, left}
-use Rattle.procedure_steps.proofs.Laws.{then_then, then_same}
-use Rattle.procedure_steps.proofs.Parts.{procedure_parts}
+use Rattle.judged_modules.specs.steps.Procedures.{OneProcedure, plain_procedure}
+use Rattle.judged_modules.specs.steps.Steps.{completes, inside, procedure_part}
+use Rattle.judged_modules.specs.steps.Frames.{entered, left}
+use Rattle.judged_modules.proofs.steps.Laws.{then_then, then_same}
+use Rattle.judged_modules.proofs.steps.Parts.{procedure_parts}
 use Rattle.check_procedures.specs.Parts.{JudgedOpen, waiting, next_procedure, opening, closing}
 use Rattle.check_procedures.proofs.Forward.{heading_forgets}
 

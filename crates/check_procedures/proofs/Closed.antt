@@ -6,22 +6,22 @@ use Rattle.ob_judge.specs.Image.{Procedure as JudgedProcedure}
 use Rattle.ob_judge.specs.Judged.{Keeps}
 use Rattle.ob_judge.specs.Scopes.{Source}
 use Rattle.ob_judge.specs.Making.{Making, set_procedure}
-use Rattle.check_steps.specs.Answers.{Answers}
-use Rattle.check_steps.specs.declared.fault.CheckFault.{CheckFault}
-use Rattle.check_steps.proofs.Answering.{as_judged, stop}
-use Rattle.procedure_steps.specs.Procedures.{OneProcedure}
-use Rattle.procedure_steps.specs.Steps.{completed}
-use Rattle.procedure_steps.specs.Frames.{left}
-use Rattle.procedure_steps.proofs.Laws.{then_then}
+use Rattle.check_types.specs.steps.Answers.{Answers}
+use Rattle.check_types.specs.declared.steps.fault.CheckFault.{CheckFault}
+use Rattle.check_types.proofs.steps.Answering.{as_judged, stop}
+use Rattle.judged_modules.specs.steps.Procedures.{OneProcedure}
+use Rattle.judged_modules.specs.steps.Steps.{completed}
+use Rattle.judged_modules.specs.steps.Frames.{left}
+use Rattle.judged_modules.proofs.steps.Laws.{then_then}
 use Rattle.check_making.specs.declared.making.Declaring.{Declaring}
 use Rattle.check_making.specs.declared.making.Forward.{Forward}
 use Rattle.check_making.specs.declared.making.Surroundings.{Surroundings}
 use Rattle.check_making.specs.Making.{Makes}
-use Rattle.check_scopes.specs.declared.building.Building.{Building}
-use Rattle.check_scopes.specs.declared.entering.Outer.{Outer}
-use Rattle.check_scopes.specs.Building.{StandsFor, TheyStandFor, Represents}
-use Rattle.check_scopes.specs.Built.{Built, Builds}
-use Rattle.check_scopes.specs.Scopes.{deeper, IsOuter}
+use Rattle.check_making.specs.declared.scopes.building.Building.{Building}
+use Rattle.check_making.specs.declared.scopes.entering.Outer.{Outer}
+use Rattle.check_making.specs.scopes.Building.{StandsFor, TheyStandFor, Represents}
+use Rattle.check_making.specs.scopes.Built.{Built, Builds}
+use Rattle.check_making.specs.scopes.Scopes.{deeper, IsOuter}
 use Rattle.check_procedures.specs.declared.opening.OpenProcedure.{OpenProcedure}
 use Rattle.check_procedures.specs.Parts.{JudgedOpen, closing}
 use Rattle.check_procedures.specs.Open.{IsOpened}

@@ -22,38 +22,38 @@ use Rattle.judged_tree.specs.Outline.{outlined_statements, outlined_checked, out
 use Rattle.judged_tree.specs.Tables.{are_before}
 use Rattle.judged_outlines.specs.Upright.{Upright}
 use Rattle.judged_outlines.proofs.Outlined.{procedure_outlined}
-use Rattle.text_numbers.specs.declared.renumbering.Numbered.{Numbered}
-use Rattle.check_steps.specs.Answers.{Answers}
-use Rattle.check_steps.specs.declared.fault.CheckFault.{CheckFault}
-use Rattle.check_steps.proofs.Answering.{as_judged, stop}
-use Rattle.check_names.specs.declared.scope.Scope.{Scope}
-use Rattle.check_names.specs.Worlds.{world_of}
-use Rattle.check_names.specs.Worlds.{table_of as table_in}
+use Rattle.check_procedures.specs.declared.numbers.renumbering.Numbered.{Numbered}
+use Rattle.check_types.specs.steps.Answers.{Answers}
+use Rattle.check_types.specs.declared.steps.fault.CheckFault.{CheckFault}
+use Rattle.check_types.proofs.steps.Answering.{as_judged, stop}
+use Rattle.check_types.specs.declared.names.scope.Scope.{Scope}
+use Rattle.check_types.specs.names.Worlds.{world_of}
+use Rattle.check_types.specs.names.Worlds.{table_of as table_in}
 use Rattle.check_operands.specs.Operands.{texts_of as texts_in}
-use Rattle.check_standard.specs.Made.{IsKept}
+use Rattle.check_selectors.specs.standard.Made.{IsKept}
 use Rattle.check_statements.specs.Standing.{AreStatements}
-use Rattle.check_assignments.specs.Assigned.{IsAnswer}
+use Rattle.check_statements.specs.assignments.Assigned.{IsAnswer}
 use Rattle.check_types.specs.TypeMeaning.{type_shape}
 use Rattle.check_types.specs.declared.types.TypeRef.{TypeRef}
 use Rattle.check_types.specs.declared.table.TypeTable.{TypeTable}
 use Rattle.check_types.specs.declared.types.TypeRef.TheVariants as TheType
-use Rattle.text_numbers.specs.Numbering.{NumbersAll}
+use Rattle.check_procedures.specs.numbers.Numbering.{NumbersAll}
 use Rattle.table_builder.specs.declared.builder.TableBuilder.{TableBuilder}
 use Rattle.table_builder.specs.Builder.{IsBuilt}
 use Rattle.table_builder.specs.Growing.{Grows}
 use Rattle.table_builder.proofs.Lists.{there}
-use Rattle.procedure_steps.specs.Procedures.{OneProcedure}
-use Rattle.procedure_steps.specs.Steps.{completed}
-use Rattle.procedure_steps.specs.Frames.{Begins}
+use Rattle.judged_modules.specs.steps.Procedures.{OneProcedure}
+use Rattle.judged_modules.specs.steps.Steps.{completed}
+use Rattle.judged_modules.specs.steps.Frames.{Begins}
 use Rattle.check_making.specs.declared.making.Declaring.{Declaring}
 use Rattle.check_making.specs.declared.making.Surroundings.{Surroundings}
 use Rattle.check_making.specs.Making.{world_in, Makes}
-use Rattle.check_parameters.specs.declared.sections.Heading.{Heading}
-use Rattle.check_parameters.specs.Headings.{IsHeading}
-use Rattle.check_scopes.specs.Building.{IsLater, StandsFor}
-use Rattle.check_scopes.specs.Numbers.{AreNumbersOf}
-use Rattle.check_scopes.proofs.ByNumber.{numbers_mean, numbers_still}
-use Rattle.check_scopes.proofs.Procedures.{number_means, number_still, begins_self}
+use Rattle.check_making.specs.declared.parameters.sections.Heading.{Heading}
+use Rattle.check_making.specs.parameters.Headings.{IsHeading}
+use Rattle.check_making.specs.scopes.Building.{IsLater, StandsFor}
+use Rattle.check_making.specs.scopes.Numbers.{AreNumbersOf}
+use Rattle.check_making.proofs.scopes.ByNumber.{numbers_mean, numbers_still}
+use Rattle.check_making.proofs.scopes.Procedures.{number_means, number_still, begins_self}
 use Rattle.check_procedures.specs.Completing.{image_of, IsStill}
 use Rattle.check_procedures.proofs.Giving.{came, then_so, rule_stops}
 use Rattle.check_procedures.proofs.Texts.{texts_same}

@@ -11,7 +11,7 @@ use Rattle.ob_judge.specs.Expressions.{constant}
 use Rattle.ob_judge.specs.Making.{Making, is_among, declare_last, declare_outer, with_levels, offer_if}
 use Rattle.ob_judge.specs.Parameters.{Listed, listed, no_parameters, words_of, mode_of, is_value, opened, next_names, stand, declared, type_at, parameter_variable, add_parameters, section, next_sections, sections, result_shape, formal_part}
 use Rattle.ob_judge.specs.Declarations.{each, const_part, consts_in, types_in, vars_in, types_part, var_part, procedures_part, decls_part, heading}
-use Rattle.procedure_steps.proofs.Laws.{then_then, then_same}
+use Rattle.judged_modules.proofs.steps.Laws.{then_then, then_same}
 use Rattle.check_procedures.specs.Parts.{waiting}
 
 -- the same but for those pointer types

@@ -3,9 +3,9 @@ use Rattle.std.proofs.Common.{◌≡◌, Result, Ok, Err, refl, subst}
 use Rattle.ob_judge.specs.Judged.{Judged, Keeps, Breaks, ◌>>=◌, ◌>>◌}
 use Rattle.judged_well.specs.Gives.{Gives}
 use Rattle.judged_well.proofs.Judging.{keeps, breaks}
-use Rattle.check_steps.specs.Answers.{Answers, Refuses}
-use Rattle.check_steps.specs.declared.fault.CheckFault.{CheckFault}
-use Rattle.check_steps.specs.declared.fault.CheckFault.TheVariants.{Fault, Memory}
+use Rattle.check_types.specs.steps.Answers.{Answers, Refuses}
+use Rattle.check_types.specs.declared.steps.fault.CheckFault.{CheckFault}
+use Rattle.check_types.specs.declared.steps.fault.CheckFault.TheVariants.{Fault, Memory}
 
 -- a law of all that is given
 pub by_law : {A : Type 0} {P : A → Type 0} (m : Judged A) → ((a : A) → m ≡ Keeps a → P a) → Gives P m

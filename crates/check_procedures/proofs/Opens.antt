@@ -9,28 +9,28 @@ use Rattle.ob_judge.specs.Making.{Making}
 use Rattle.ob_judge.specs.Modules.{SoFar}
 use Rattle.ob_judge.specs.Parameters.{Listed}
 use Rattle.ob_judge.specs.Declarations.{heading}
-use Rattle.check_steps.specs.Answers.{Answers}
-use Rattle.check_steps.specs.declared.fault.CheckFault.{CheckFault}
-use Rattle.check_steps.proofs.Answering.{stop}
+use Rattle.check_types.specs.steps.Answers.{Answers}
+use Rattle.check_types.specs.declared.steps.fault.CheckFault.{CheckFault}
+use Rattle.check_types.proofs.steps.Answering.{stop}
 use Rattle.legal_tables.specs.Promised.{HasLegalTypes}
 use Rattle.judged_outlines.specs.Upright.{Upright}
 use Rattle.judged_tree.specs.Tables.{are_before}
 use Rattle.table_builder.specs.Builder.{IsBuilt}
 use Rattle.table_builder.specs.Entries.{IsNumbered}
 use Rattle.table_builder.specs.Growing.{Grows}
-use Rattle.procedure_steps.specs.Frames.{entered}
+use Rattle.judged_modules.specs.steps.Frames.{entered}
 use Rattle.check_making.specs.declared.making.Surroundings.{Surroundings}
 use Rattle.check_making.proofs.Growing.{variables_still}
 use Rattle.check_making.specs.Making.{strings_of, AreNumbered, IsSettled}
-use Rattle.check_parameters.specs.declared.sections.Heading.{Heading}
-use Rattle.check_parameters.specs.Headings.{IsHeading}
-use Rattle.check_parameters.specs.Stands.{Stands}
-use Rattle.check_headings.proofs.Heads.{heading_still}
-use Rattle.check_headings.proofs.Signing.{heading_meant}
-use Rattle.check_scopes.specs.declared.building.Building.{Building}
-use Rattle.check_scopes.specs.Building.{Represents}
-use Rattle.check_scopes.specs.Built.{BuiltAs, BuildsAs, IsNumber}
-use Rattle.check_scopes.specs.Scopes.{deeper}
+use Rattle.check_making.specs.declared.parameters.sections.Heading.{Heading}
+use Rattle.check_making.specs.parameters.Headings.{IsHeading}
+use Rattle.check_making.specs.parameters.Stands.{Stands}
+use Rattle.check_making.proofs.headings.Heads.{heading_still}
+use Rattle.check_making.proofs.headings.Signing.{heading_meant}
+use Rattle.check_making.specs.declared.scopes.building.Building.{Building}
+use Rattle.check_making.specs.scopes.Building.{Represents}
+use Rattle.check_making.specs.scopes.Built.{BuiltAs, BuildsAs, IsNumber}
+use Rattle.check_making.specs.scopes.Scopes.{deeper}
 use Rattle.check_procedures.specs.declared.opening.OpenProcedure.{OpenProcedure}
 use Rattle.check_procedures.specs.declared.opening.PutAside.{PutAside}
 use Rattle.check_procedures.specs.Parts.{JudgedOpen, waiting, next_procedure, opening}

@@ -4,19 +4,19 @@ use Rattle.std.specs.Prelude.{is_some, Vec}
 use Rattle.std.specs.Global.{Global}
 use Rattle.ob_judge.specs.Scopes.{World}
 use Rattle.ob_judge.specs.Making.{Making, is_among}
-use Rattle.check_steps.specs.Maps.{at_bytes}
+use Rattle.check_types.specs.steps.Maps.{at_bytes}
 use Rattle.check_types.specs.TypeMeaning.{type_shape}
 use Rattle.table_builder.specs.Growing.{Grows}
-use Rattle.procedure_steps.specs.Frames.{entered}
+use Rattle.judged_modules.specs.steps.Frames.{entered}
 use Rattle.check_making.specs.declared.making.Declaring.{Declaring}
 use Rattle.check_making.specs.declared.making.Forward.{Forward}
 use Rattle.check_making.specs.declared.making.Surroundings.{Surroundings}
 use Rattle.check_making.specs.Making.{table_of, strings_of, forward_of, AreNumbered, Makes, IsSettled}
 use Rattle.check_making.proofs.Growing.{variables_same}
-use Rattle.check_scopes.specs.declared.entering.Outer.{Outer}
-use Rattle.check_scopes.specs.declared.building.Building.{Building}
-use Rattle.check_scopes.specs.Building.{TheyStandFor, Represents}
-use Rattle.check_scopes.specs.Scopes.{deeper, IsPutAside, IsOuter}
+use Rattle.check_making.specs.declared.scopes.entering.Outer.{Outer}
+use Rattle.check_making.specs.declared.scopes.building.Building.{Building}
+use Rattle.check_making.specs.scopes.Building.{TheyStandFor, Represents}
+use Rattle.check_making.specs.scopes.Scopes.{deeper, IsPutAside, IsOuter}
 use Rattle.check_procedures.specs.declared.opening.PutAside.{PutAside}
 use Rattle.check_procedures.specs.Open.{IsEntered}
 use Rattle.check_procedures.specs.Parts.{waiting}

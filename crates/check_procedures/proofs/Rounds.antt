@@ -9,18 +9,18 @@ use Rattle.ob_judge.specs.Declarations.{procedures_part}
 use Rattle.legal_tables.specs.Promised.{HasLegalTypes}
 use Rattle.judged_outlines.specs.Upright.{Upright}
 use Rattle.judged_outlines.proofs.Uprights.{procedure_upright}
-use Rattle.check_steps.specs.Answers.{Answers}
-use Rattle.check_steps.specs.declared.fault.CheckFault.{CheckFault}
-use Rattle.check_steps.proofs.Answering.{as_judged, stop}
-use Rattle.procedure_steps.specs.Procedures.{plain_procedure, plain_each_procedure}
-use Rattle.procedure_steps.specs.Steps.{procedure_part}
-use Rattle.procedure_steps.proofs.Laws.{procedures_law}
-use Rattle.procedure_steps.proofs.Parts.{each_parts}
+use Rattle.check_types.specs.steps.Answers.{Answers}
+use Rattle.check_types.specs.declared.steps.fault.CheckFault.{CheckFault}
+use Rattle.check_types.proofs.steps.Answering.{as_judged, stop}
+use Rattle.judged_modules.specs.steps.Procedures.{plain_procedure, plain_each_procedure}
+use Rattle.judged_modules.specs.steps.Steps.{procedure_part}
+use Rattle.judged_modules.proofs.steps.Laws.{procedures_law}
+use Rattle.judged_modules.proofs.steps.Parts.{each_parts}
 use Rattle.check_types.specs.declared.table.TypeTable.{TypeTable}
 use Rattle.check_making.specs.declared.making.Surroundings.{Surroundings}
-use Rattle.check_scopes.specs.declared.building.Building.{Building}
-use Rattle.check_scopes.specs.Building.{Represents}
-use Rattle.check_scopes.specs.Built.{Built}
+use Rattle.check_making.specs.declared.scopes.building.Building.{Building}
+use Rattle.check_making.specs.scopes.Building.{Represents}
+use Rattle.check_making.specs.scopes.Built.{Built}
 use Rattle.check_procedures.specs.UnderWay.{BuildsUpright}
 use Rattle.check_procedures.proofs.Giving.{came}
 

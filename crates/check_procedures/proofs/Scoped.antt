@@ -10,20 +10,20 @@ use Rattle.ob_judge.specs.Declarations.{decls_part}
 use Rattle.legal_tables.specs.Promised.{HasLegalTypes}
 use Rattle.judged_outlines.specs.Upright.{Upright}
 use Rattle.judged_outlines.proofs.Uprights.{decls_upright}
-use Rattle.check_steps.specs.Answers.{Answers}
-use Rattle.check_steps.specs.declared.fault.CheckFault.{CheckFault}
-use Rattle.check_steps.proofs.Answering.{as_judged, stop}
+use Rattle.check_types.specs.steps.Answers.{Answers}
+use Rattle.check_types.specs.declared.steps.fault.CheckFault.{CheckFault}
+use Rattle.check_types.proofs.steps.Answering.{as_judged, stop}
 use Rattle.table_builder.specs.Builder.{IsBuilt}
 use Rattle.table_builder.specs.Growing.{Grows}
-use Rattle.procedure_steps.specs.Procedures.{plain_procedure}
-use Rattle.procedure_steps.specs.Steps.{procedure_part}
-use Rattle.procedure_steps.proofs.FrameTypes.{m_decls}
+use Rattle.judged_modules.specs.steps.Procedures.{plain_procedure}
+use Rattle.judged_modules.specs.steps.Steps.{procedure_part}
+use Rattle.judged_modules.proofs.steps.FrameTypes.{m_decls}
 use Rattle.check_making.specs.declared.making.Surroundings.{Surroundings}
 use Rattle.check_making.specs.Making.{IsSettled}
-use Rattle.check_scopes.specs.declared.building.Building.{Building}
-use Rattle.check_scopes.specs.Building.{Represents}
-use Rattle.check_scopes.specs.Built.{Built}
-use Rattle.check_scopes.specs.Scopes.{deeper}
+use Rattle.check_making.specs.declared.scopes.building.Building.{Building}
+use Rattle.check_making.specs.scopes.Building.{Represents}
+use Rattle.check_making.specs.scopes.Built.{Built}
+use Rattle.check_making.specs.scopes.Scopes.{deeper}
 use Rattle.check_procedures.specs.declared.opening.OpenProcedure.{OpenProcedure}
 use Rattle.check_procedures.specs.Parts.{JudgedOpen, opening, closing}
 use Rattle.check_procedures.specs.UnderWay.{IsUnderWay, BuildsUpright}

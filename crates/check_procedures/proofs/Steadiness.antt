@@ -11,20 +11,20 @@ use Rattle.ob_judge.specs.Parameters.{Listed}
 use Rattle.ob_judge.specs.Declarations.{consts_in, types_in, vars_in, heading}
 use Rattle.judged_well.specs.Gives.{Gives}
 use Rattle.judged_well.proofs.Judging.{weaken, and_then}
-use Rattle.check_steps.specs.Answers.{Answers}
-use Rattle.check_steps.specs.declared.fault.CheckFault.{CheckFault}
-use Rattle.procedure_steps.specs.Frames.{Held, Steady}
-use Rattle.procedure_steps.proofs.Frame.{h_heading}
-use Rattle.procedure_steps.proofs.FrameTypes.{s_consts, s_types, s_vars}
+use Rattle.check_types.specs.steps.Answers.{Answers}
+use Rattle.check_types.specs.declared.steps.fault.CheckFault.{CheckFault}
+use Rattle.judged_modules.specs.steps.Frames.{Held, Steady}
+use Rattle.judged_modules.proofs.steps.Frame.{h_heading}
+use Rattle.judged_modules.proofs.steps.FrameTypes.{s_consts, s_types, s_vars}
 use Rattle.check_making.specs.declared.making.Declaring.{Declaring}
 use Rattle.check_making.specs.declared.making.Surroundings.{Surroundings}
 use Rattle.check_making.specs.Parts.{Made}
 use Rattle.check_making.proofs.Typed.{answers_with}
-use Rattle.check_scopes.specs.declared.building.Building.{Building}
-use Rattle.check_scopes.specs.Building.{IsLater, Represents}
-use Rattle.check_scopes.specs.Built.{Built}
-use Rattle.check_scopes.proofs.Procedures.{begins_on}
-use Rattle.check_scopes.proofs.Together.{with_declaring, goes_on_to}
+use Rattle.check_making.specs.declared.scopes.building.Building.{Building}
+use Rattle.check_making.specs.scopes.Building.{IsLater, Represents}
+use Rattle.check_making.specs.scopes.Built.{Built}
+use Rattle.check_making.proofs.scopes.Procedures.{begins_on}
+use Rattle.check_making.proofs.scopes.Together.{with_declaring, goes_on_to}
 use Rattle.check_procedures.specs.Parts.{first_parts}
 
 steady_on : (s t u : Making) → Steady s t → Steady t u → Steady s u

@@ -13,7 +13,7 @@ use Rattle.judged_well.proofs.Judging.{keeps, and_then}
 use Rattle.judged_outlines.specs.Upright.{Upright}
 use Rattle.judged_outlines.proofs.Uprights.{numbered_upright, stand_upright, consts_upright, types_upright, vars_upright, heading_upright}
 use Rattle.judged_outlines.proofs.Uprights.{entered_upright as scope_upright}
-use Rattle.procedure_steps.specs.Frames.{entered}
+use Rattle.judged_modules.specs.steps.Frames.{entered}
 use Rattle.check_procedures.specs.Parts.{JudgedOpen, waiting, first_parts, next_procedure, opening}
 use Rattle.check_procedures.proofs.Giving.{by_law}
 

@@ -9,16 +9,16 @@ use Rattle.ob_judge.specs.Scopes.{Source}
 use Rattle.ob_judge.specs.Declarations.{each, const_part, types_part, var_part, consts_in, types_in, vars_in, decls_part, procedures_part}
 use Rattle.legal_tables.specs.Promised.{HasLegalTypes}
 use Rattle.judged_outlines.specs.Upright.{Upright}
-use Rattle.check_steps.specs.declared.fault.CheckFault.{CheckFault}
-use Rattle.check_steps.proofs.Answering.{as_judged, stop}
-use Rattle.procedure_steps.specs.Procedures.{plain_each_procedure}
-use Rattle.procedure_steps.proofs.Laws.{then_then, then_same}
-use Rattle.procedure_steps.proofs.Parts.{decls_parts}
+use Rattle.check_types.specs.declared.steps.fault.CheckFault.{CheckFault}
+use Rattle.check_types.proofs.steps.Answering.{as_judged, stop}
+use Rattle.judged_modules.specs.steps.Procedures.{plain_each_procedure}
+use Rattle.judged_modules.proofs.steps.Laws.{then_then, then_same}
+use Rattle.judged_modules.proofs.steps.Parts.{decls_parts}
 use Rattle.check_making.specs.declared.making.Surroundings.{Surroundings}
 use Rattle.check_making.specs.Making.{IsSettled}
-use Rattle.check_scopes.specs.declared.building.Building.{Building}
-use Rattle.check_scopes.specs.Building.{Represents}
-use Rattle.check_scopes.specs.Built.{Builds}
+use Rattle.check_making.specs.declared.scopes.building.Building.{Building}
+use Rattle.check_making.specs.scopes.Building.{Represents}
+use Rattle.check_making.specs.scopes.Built.{Builds}
 use Rattle.check_procedures.specs.Parts.{first_parts}
 use Rattle.check_procedures.specs.UnderWay.{IsUnderWay, BuildsUpright}
 use Rattle.check_procedures.proofs.Giving.{came, then_so, given_so}

@@ -2,13 +2,13 @@
 use Rattle.std.specs.Prelude.{◌≡◌, ℕ, map, false, option_map}
 use Rattle.ob_judge.specs.Image.{Procedure}
 use Rattle.judged_tree.specs.Plain.{plain_body, plain_checked, plain_formal}
-use Rattle.text_numbers.specs.declared.renumbering.Numbered.{Numbered}
+use Rattle.check_procedures.specs.declared.numbers.renumbering.Numbered.{Numbered}
 use Rattle.check_types.specs.TypeMeaning.{type_shape}
 use Rattle.check_types.specs.declared.table.TypeTable.{TypeTable}
 use Rattle.check_making.specs.declared.making.Declaring.{Declaring}
 use Rattle.check_making.specs.declared.making.Surroundings.{Surroundings}
 use Rattle.check_making.specs.Making.{table_of}
-use Rattle.check_parameters.specs.declared.sections.Heading.{Heading}
+use Rattle.check_making.specs.declared.parameters.sections.Heading.{Heading}
 
 -- one with this heading and these statements, its name standing on this line
 abbrev pub image_of : Surroundings → Declaring → (line : ℕ) → Heading → Numbered → Procedure

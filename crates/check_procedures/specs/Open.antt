@@ -3,13 +3,13 @@ use Rattle.std.specs.Prelude.{◌≡◌, ◌<◌, ℕ, [], length}
 use Rattle.ob_judge.specs.Making.{Making}
 use Rattle.judged_tree.specs.Tables.{are_before}
 use Rattle.table_builder.specs.Entries.{IsNumbered}
-use Rattle.procedure_steps.specs.Frames.{entered}
+use Rattle.judged_modules.specs.steps.Frames.{entered}
 use Rattle.check_making.specs.declared.making.Surroundings.{Surroundings}
 use Rattle.check_making.specs.Making.{AreNumbered}
-use Rattle.check_parameters.specs.Headings.{IsHeading}
-use Rattle.check_scopes.specs.declared.building.Building.{Building}
-use Rattle.check_scopes.specs.Building.{Represents}
-use Rattle.check_scopes.specs.Scopes.{deeper, IsOuter}
+use Rattle.check_making.specs.parameters.Headings.{IsHeading}
+use Rattle.check_making.specs.declared.scopes.building.Building.{Building}
+use Rattle.check_making.specs.scopes.Building.{Represents}
+use Rattle.check_making.specs.scopes.Scopes.{deeper, IsOuter}
 use Rattle.check_procedures.specs.declared.opening.PutAside.{PutAside}
 use Rattle.check_procedures.specs.declared.opening.OpenProcedure.{OpenProcedure}
 use Rattle.check_procedures.specs.Parts.{JudgedOpen, waiting}

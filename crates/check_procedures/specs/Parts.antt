@@ -8,9 +8,9 @@ use Rattle.ob_judge.specs.Scopes.{Source}
 use Rattle.ob_judge.specs.Making.{Making, Part, ◌>>>◌, new_procedure}
 use Rattle.ob_judge.specs.Parameters.{Listed, stand}
 use Rattle.ob_judge.specs.Declarations.{each, const_part, types_part, var_part, consts_in, types_in, vars_in, heading}
-use Rattle.procedure_steps.specs.Procedures.{OneProcedure}
-use Rattle.procedure_steps.specs.Steps.{completes}
-use Rattle.procedure_steps.specs.Frames.{entered, left}
+use Rattle.judged_modules.specs.steps.Procedures.{OneProcedure}
+use Rattle.judged_modules.specs.steps.Steps.{completes}
+use Rattle.judged_modules.specs.steps.Frames.{entered, left}
 
 -- a procedure whose scope is open: what was made round it, its number, its heading, and what was made in its scope
 pub record JudgedOpen : Type 0 where

@@ -3,14 +3,14 @@ use Rattle.std.specs.Prelude.{◌≤◌, length, Result}
 use Rattle.ob_judge.specs.Making.{Making, Part}
 use Rattle.ob_judge.specs.Modules.{SoFar}
 use Rattle.judged_outlines.specs.Upright.{Upright}
-use Rattle.check_steps.specs.Answers.{Answers}
-use Rattle.check_steps.specs.declared.fault.CheckFault.{CheckFault}
+use Rattle.check_types.specs.steps.Answers.{Answers}
+use Rattle.check_types.specs.declared.steps.fault.CheckFault.{CheckFault}
 use Rattle.check_types.specs.declared.table.TypeTable.{TypeTable}
 use Rattle.check_making.specs.declared.making.Surroundings.{Surroundings}
 use Rattle.check_making.specs.Making.{IsSettled}
-use Rattle.check_scopes.specs.declared.building.Building.{Building}
-use Rattle.check_scopes.specs.Building.{Represents}
-use Rattle.check_scopes.specs.Built.{Built}
+use Rattle.check_making.specs.declared.scopes.building.Building.{Building}
+use Rattle.check_making.specs.scopes.Building.{Represents}
+use Rattle.check_making.specs.scopes.Built.{Built}
 
 -- it is settled, and stands for what the judgement has made behind the modules so far
 pub record IsUnderWay (r : Surroundings) (s : Building) : Type 0 where

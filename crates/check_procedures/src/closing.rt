@@ -4,20 +4,20 @@ ghost use Rattle.std.specs.Prelude.{◌≡◌, ◌≤◌, length, OnOk};
 ghost use Rattle.ob_judge.specs.Making.{Making};
 ghost use Rattle.ob_judge.specs.Modules.{SoFar};
 ghost use Rattle.judged_outlines.specs.Upright.{Upright};
-ghost use Rattle.procedure_steps.specs.Procedures.{plain_procedure};
-ghost use Rattle.line_numbers.specs.Lines.{IsLineTable};
-ghost use Rattle.check_steps.specs.Answers.{Answers};
+ghost use Rattle.judged_modules.specs.steps.Procedures.{plain_procedure};
+ghost use Rattle.check_procedures.specs.lines.Lines.{IsLineTable};
+ghost use Rattle.check_types.specs.steps.Answers.{Answers};
 ghost use Rattle.check_making.specs.Making.{IsSettled};
-ghost use Rattle.check_scopes.specs.Built.{Built};
-ghost use Rattle.check_scopes.specs.Scopes.{deeper};
+ghost use Rattle.check_making.specs.scopes.Built.{Built};
+ghost use Rattle.check_making.specs.scopes.Scopes.{deeper};
 ghost use Rattle.check_procedures.specs.Parts.{JudgedOpen, closing};
 ghost use Rattle.check_procedures.specs.Open.{CanBeClosed, IsOpened};
 
 use crate::completing::completed;
 use crate::opening::OpenProcedure;
 use check_making::Surroundings;
-use check_scopes::{Building, inside, leave};
-use check_steps::CheckFault;
+use check_making::scopes::{Building, inside, leave};
+use check_types::steps::CheckFault;
 use ob_syntax::declarations::Procedure as ProcedureTree;
 
 /// A procedure is completed, and its scope closed.

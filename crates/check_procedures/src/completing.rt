@@ -11,30 +11,30 @@ ghost use Rattle.ob_judge.specs.Shapes.{Shape};
 ghost use Rattle.judged_tree.specs.Plain.{plain_body, plain_checked, plain_procedure as plain_judged};
 ghost use Rattle.judged_tree.specs.Tables.{are_before};
 ghost use Rattle.judged_outlines.specs.Upright.{Upright};
-ghost use Rattle.procedure_steps.specs.Procedures.{plain_procedure};
-ghost use Rattle.procedure_steps.specs.Steps.{completed as judged_completed};
-ghost use Rattle.line_numbers.specs.Lines.{IsLineTable};
+ghost use Rattle.judged_modules.specs.steps.Procedures.{plain_procedure};
+ghost use Rattle.judged_modules.specs.steps.Steps.{completed as judged_completed};
+ghost use Rattle.check_procedures.specs.lines.Lines.{IsLineTable};
 ghost use Rattle.table_builder.specs.Entries.{IsNumbered};
-ghost use Rattle.check_steps.specs.Answers.{Answers};
+ghost use Rattle.check_types.specs.steps.Answers.{Answers};
 ghost use Rattle.check_types.specs.declared.table.TypeTable.{TypeTable};
-ghost use Rattle.check_standard.specs.Made.{IsKept};
+ghost use Rattle.check_selectors.specs.standard.Made.{IsKept};
 ghost use Rattle.check_making.specs.Making.{Makes, IsSettled};
-ghost use Rattle.check_parameters.specs.Headings.{IsHeading};
-ghost use Rattle.check_scopes.specs.Building.{IsLater, StandsFor};
-ghost use Rattle.check_scopes.specs.Numbers.{AreNumbersOf};
+ghost use Rattle.check_making.specs.parameters.Headings.{IsHeading};
+ghost use Rattle.check_making.specs.scopes.Building.{IsLater, StandsFor};
+ghost use Rattle.check_making.specs.scopes.Numbers.{AreNumbersOf};
 ghost use Rattle.check_procedures.specs.Completing.{image_of, IsStill};
 
-use check_assignments::answer;
+use crate::lines::line_at;
+use crate::numbers::{Numbered, renumbered};
+use check_making::parameters::Heading;
+use check_making::scopes::numbers_of;
 use check_making::{Declaring, Surroundings};
-use check_parameters::Heading;
-use check_scopes::numbers_of;
+use check_statements::assignments::answer;
 use check_statements::body_of;
-use check_steps::CheckFault;
+use check_types::steps::CheckFault;
 use items::Items;
-use line_numbers::line_at;
 use ob_syntax::declarations::Procedure as ProcedureTree;
 use ob_types::Procedure;
-use text_numbers::{Numbered, renumbered};
 
 // Behind END stands the procedure's name.
 fn end_name(round: &Surroundings, name: u32, end: u32) -> Result<(), CheckFault>

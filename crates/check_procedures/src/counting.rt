@@ -2,7 +2,7 @@
 
 ghost use Rattle.std.specs.Prelude.{◌≡◌, ◌≤◌, length, OnOk, IfErr};
 
-use check_steps::CheckFault;
+use check_types::steps::CheckFault;
 use table_builder::TableBuilder;
 
 /// Each procedure type has a number of 32 bits; without one there is no memory for it.

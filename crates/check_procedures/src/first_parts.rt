@@ -10,18 +10,18 @@ ghost use Rattle.legal_tables.specs.Promised.{HasLegalTypes};
 ghost use Rattle.judged_outlines.specs.Upright.{Upright};
 ghost use Rattle.check_making.specs.Making.{Makes, IsSettled};
 ghost use Rattle.check_making.specs.Parts.{Judges};
-ghost use Rattle.check_parameters.specs.Stands.{Stands};
-ghost use Rattle.check_scopes.specs.Building.{IsLater, Represents};
-ghost use Rattle.check_scopes.specs.Built.{Builds};
+ghost use Rattle.check_making.specs.parameters.Stands.{Stands};
+ghost use Rattle.check_making.specs.scopes.Building.{IsLater, Represents};
+ghost use Rattle.check_making.specs.scopes.Built.{Builds};
 ghost use Rattle.check_procedures.specs.Parts.{first_parts as judged_parts};
 ghost use Rattle.check_procedures.specs.UnderWay.{IsUnderWay, HasFewSignatures};
 
 use crate::counting::count_signatures;
 use check_declared::const_decls;
+use check_declared::type_parts::{type_declarations, variable_declarations};
+use check_making::scopes::Building;
 use check_making::{Declaring, Surroundings};
-use check_scopes::Building;
-use check_steps::CheckFault;
-use check_type_parts::{type_declarations, variable_declarations};
+use check_types::steps::CheckFault;
 use ob_syntax::declarations::{Consts, Types, Vars};
 
 // The CONST part.

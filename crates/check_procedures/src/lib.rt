@@ -9,6 +9,8 @@ mod closing;
 mod completing;
 mod counting;
 mod first_parts;
+pub mod lines;
+pub mod numbers;
 mod opening;
 mod walk;
 

@@ -8,19 +8,19 @@ ghost use Rattle.ob_judge.specs.Making.{Making};
 ghost use Rattle.ob_judge.specs.Modules.{SoFar};
 ghost use Rattle.legal_tables.specs.Promised.{HasLegalTypes};
 ghost use Rattle.judged_outlines.specs.Upright.{Upright};
-ghost use Rattle.procedure_steps.specs.Procedures.{plain_procedure, plain_each_procedure};
-ghost use Rattle.procedure_steps.specs.Steps.{procedure_part};
-ghost use Rattle.line_numbers.specs.Lines.{IsLineTable};
+ghost use Rattle.judged_modules.specs.steps.Procedures.{plain_procedure, plain_each_procedure};
+ghost use Rattle.judged_modules.specs.steps.Steps.{procedure_part};
+ghost use Rattle.check_procedures.specs.lines.Lines.{IsLineTable};
 ghost use Rattle.check_making.specs.Making.{IsSettled};
-ghost use Rattle.check_scopes.specs.Building.{IsLater, Represents};
+ghost use Rattle.check_making.specs.scopes.Building.{IsLater, Represents};
 ghost use Rattle.check_procedures.specs.UnderWay.{IsUnderWay, HasFewSignatures, BuildsUpright};
 
 use crate::closing::close_procedure;
 use crate::first_parts::before_procedures;
 use crate::opening::{open_procedure, scope_of};
 use check_making::Surroundings;
-use check_scopes::Building;
-use check_steps::CheckFault;
+use check_making::scopes::Building;
+use check_types::steps::CheckFault;
 use ob_syntax::declarations::{Decls, Procedure as ProcedureTree};
 
 /// All declarations of a scope: constants, types and variables, and then procedures, each with its own declarations and its

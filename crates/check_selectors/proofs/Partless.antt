@@ -5,12 +5,12 @@ use Rattle.ob_judge.specs.Scopes.{World, Source}
 use Rattle.ob_judge.specs.Operands as J
 use Rattle.ob_judge.specs.Image as I
 use Rattle.ob_judge.specs.Parts.{record_of, tested_tag}
-use Rattle.check_names.specs.Basics.{basic_shape}
-use Rattle.check_names.specs.declared.scope.Basic.{Basic}
-use Rattle.check_names.specs.declared.scope.Basic.TheVariants as TheBasic
-use Rattle.check_names.specs.declared.scope.Constant.{Constant}
-use Rattle.check_names.specs.declared.scope.Constant.TheVariants as TheConstant
-use Rattle.check_names.specs.Meaning.{constant_of}
+use Rattle.check_types.specs.names.Basics.{basic_shape}
+use Rattle.check_types.specs.declared.names.scope.Basic.{Basic}
+use Rattle.check_types.specs.declared.names.scope.Basic.TheVariants as TheBasic
+use Rattle.check_types.specs.declared.names.scope.Constant.{Constant}
+use Rattle.check_types.specs.declared.names.scope.Constant.TheVariants as TheConstant
+use Rattle.check_types.specs.names.Meaning.{constant_of}
 use Rattle.ob_types.specs.Table.{Table}
 use Rattle.std.specs.Prelude.{List}
 use Rattle.check_selectors.specs.Stages.{is_simple, IsWhole}

@@ -8,14 +8,14 @@ use Rattle.ob_judge.specs.Symbols.{bare_list}
 use Rattle.ob_judge.specs.Names.{Stage, Whole, Partly, Ended, member, begun}
 use Rattle.ob_judge.specs.Parts.{guard_name}
 use Rattle.ob_judge.specs.Expressions.{select, arguments}
-use Rattle.check_names.specs.declared.scope.Named.{Named}
-use Rattle.check_names.specs.declared.scope.Scope.{Scope}
-use Rattle.check_names.specs.Meaning.{object_of}
-use Rattle.check_names.specs.Worlds.{table_of, strings_of}
+use Rattle.check_types.specs.declared.names.scope.Named.{Named}
+use Rattle.check_types.specs.declared.names.scope.Scope.{Scope}
+use Rattle.check_types.specs.names.Meaning.{object_of}
+use Rattle.check_types.specs.names.Worlds.{table_of, strings_of}
 use Rattle.check_operands.specs.Operands.{Stands}
 use Rattle.check_operands.specs.declared.operand.Operand.{Operand}
-use Rattle.check_parts.specs.declared.part.Part.{Part}
-use Rattle.check_parts.specs.Parts.{IsPart}
+use Rattle.check_selectors.specs.declared.parts.part.Part.{Part}
+use Rattle.check_selectors.specs.parts.Parts.{IsPart}
 use Rattle.check_selectors.specs.Stages.{IsStage}
 use Rattle.check_selectors.specs.declared.stage.Stage.TheVariants as TheStage
 use Rattle.check_selectors.specs.Behind.{module_in, standard_in, member_behind, field_behind, target_behind, index_behind, standard_behind, call_behind, guard_behind, list_behind, parens_behind, arguments_behind, parens_at, parens_behind_any}

@@ -1,2 +1,4 @@
 pub mod Stages
 pub mod Behind
+pub mod parts
+pub mod standard

@@ -3,10 +3,10 @@ use Rattle.std.specs.Prelude.{◌≡◌, Bool, true, false}
 use Rattle.ob_judge.specs.Shapes.{Shape, Array, Open, Record, Pointer}
 use Rattle.ob_judge.specs.Operands as J
 use Rattle.ob_judge.specs.Names as N
-use Rattle.check_names.specs.declared.scope.Scope.{Scope}
-use Rattle.check_names.specs.Worlds.{IsNamed}
+use Rattle.check_types.specs.declared.names.scope.Scope.{Scope}
+use Rattle.check_types.specs.names.Worlds.{IsNamed}
 use Rattle.check_operands.specs.Operands.{Stands}
-use Rattle.check_parts.specs.Parts.{IsPart}
+use Rattle.check_selectors.specs.parts.Parts.{IsPart}
 use Rattle.check_selectors.specs.declared.begun.Begun.{Begun}
 use Rattle.check_selectors.specs.declared.begun.Begun.TheVariants as TheBegun
 use Rattle.check_selectors.specs.declared.stage.Stage.{Stage}

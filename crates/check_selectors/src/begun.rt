@@ -5,21 +5,21 @@ ghost use Rattle.ob_judge.specs.Judged.{Keeps};
 ghost use Rattle.ob_judge.specs.Scopes.{place};
 ghost use Rattle.ob_judge.specs.Operands.{Operand as Judgement, of_constant as operand_of_constant};
 ghost use Rattle.ob_judge.specs.Names.{Stage as JudgedStage, object_operand as judged_object, begun as judged_beginning, finished as judged_end};
-ghost use Rattle.check_steps.specs.Answers.{Answers};
-ghost use Rattle.check_names.specs.Meaning.{object_of, constant_of as constant_meant};
-ghost use Rattle.check_names.specs.Worlds.{table_of, strings_of, world_of};
+ghost use Rattle.check_types.specs.steps.Answers.{Answers};
+ghost use Rattle.check_types.specs.names.Meaning.{object_of, constant_of as constant_meant};
+ghost use Rattle.check_types.specs.names.Worlds.{table_of, strings_of, world_of};
 ghost use Rattle.check_operands.specs.Operands.{Stands};
 ghost use Rattle.check_selectors.specs.Stages.{IsStage, IsBegun};
 
+use crate::parts::{Part, operand, variable_read};
 use crate::stage::Stage;
-use check_names::{Basic, Constant, Named, Scope};
+use check_operands::trees::Value;
 use check_operands::{Operand, Use, What, constant_text, text};
-use check_parts::{Part, operand, variable_read};
-use check_steps::CheckFault;
 use check_types::TypeRef;
+use check_types::names::{Basic, Constant, Named, Scope};
+use check_types::steps::CheckFault;
 use ob_types::Expr;
 use std::alloc::Global;
-use tree_parts::Value;
 
 /// A variable or a part of one; or a constant or a procedure, which has no parts.
 #[derive(Drop)]

@@ -7,8 +7,10 @@
 
 mod begun;
 mod lists;
+pub mod parts;
 mod selectors;
 mod stage;
+pub mod standard;
 mod tests;
 
 pub use begun::{Begun, begin, constant_operand, finished, operand_of};

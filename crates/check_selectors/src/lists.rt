@@ -5,27 +5,27 @@ ghost use Rattle.ob_judge.specs.Scopes.{place};
 ghost use Rattle.ob_judge.specs.Operands.{Operand as Judgement};
 ghost use Rattle.ob_judge.specs.Calls.{Given as JudgedGiven};
 ghost use Rattle.ob_judge.specs.Parts.{element as judged_element, guarded as judged_guard, applied as judged_call, is_procedure as tests_procedure};
-ghost use Rattle.check_steps.specs.Answers.{Answers};
+ghost use Rattle.check_types.specs.steps.Answers.{Answers};
 ghost use Rattle.check_types.specs.TypeMeaning.{type_shape};
-ghost use Rattle.check_names.specs.Worlds.{table_of, world_of};
+ghost use Rattle.check_types.specs.names.Worlds.{table_of, world_of};
 ghost use Rattle.check_operands.specs.Operands.{Stands};
-ghost use Rattle.check_calls.specs.Given.{AreGiven};
-ghost use Rattle.check_parts.specs.Parts.{IsPart};
+ghost use Rattle.check_operands.specs.calls.Given.{AreGiven};
+ghost use Rattle.check_selectors.specs.parts.Parts.{IsPart};
 ghost use Rattle.check_selectors.specs.Stages.{IsStage, IsBegun};
 ghost use Rattle.check_selectors.specs.Behind.{guard_behind, call_behind, standard_behind};
 ghost use Rattle.ob_types.specs.Table.{Table};
 ghost use Rattle.ob_judge.specs.Scopes.{Source as SourceOf, World};
-ghost use Rattle.check_names.specs.Meaning.{standard_of as standard_meant};
+ghost use Rattle.check_types.specs.names.Meaning.{standard_of as standard_meant};
 
 use crate::begun::{Begun, operand_of};
+use crate::parts::{Part, element, guarded};
 use crate::stage::Stage;
-use check_calls::{Given, called};
-use check_names::{Scope, Standard};
+use crate::standard::standard;
 use check_operands::Operand;
-use check_parts::{Part, element, guarded};
-use check_standard::standard;
-use check_steps::CheckFault;
+use check_operands::calls::{Given, called};
 use check_types::TypeRef;
+use check_types::names::{Scope, Standard};
+use check_types::steps::CheckFault;
 use std::alloc::Global;
 
 /// An element, after the index was walked.

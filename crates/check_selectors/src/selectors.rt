@@ -8,18 +8,18 @@ ghost use Rattle.ob_judge.specs.Names.{Stage as JudgedStage};
 ghost use Rattle.ob_judge.specs.Parts.{field as judged_field, target as judged_target};
 ghost use Rattle.ob_judge.specs.Expressions.{select as judged_select};
 ghost use Rattle.check_selectors.specs.Behind.{member_behind, field_behind};
-ghost use Rattle.check_steps.specs.Answers.{Answers};
-ghost use Rattle.check_names.specs.Meaning.{imported_of};
-ghost use Rattle.check_names.specs.Worlds.{world_of};
-ghost use Rattle.check_parts.specs.Parts.{IsPart};
+ghost use Rattle.check_types.specs.steps.Answers.{Answers};
+ghost use Rattle.check_types.specs.names.Meaning.{imported_of};
+ghost use Rattle.check_types.specs.names.Worlds.{world_of};
+ghost use Rattle.check_selectors.specs.parts.Parts.{IsPart};
 ghost use Rattle.check_selectors.specs.Stages.{IsStage, IsBegun};
 
 use crate::begun::{Begun, begin};
 use crate::lists::{called_last, standard_last};
+use crate::parts::{Part, field, target};
 use crate::stage::{Stage, module_of, standard_of};
-use check_names::{Imported, Scope};
-use check_parts::{Part, field, target};
-use check_steps::CheckFault;
+use check_types::names::{Imported, Scope};
+use check_types::steps::CheckFault;
 use std::alloc::Global;
 
 // A field of what stands before it.

@@ -2,17 +2,17 @@
 
 ghost use Rattle.std.specs.Prelude.{◌≡◌, option_map};
 ghost use Rattle.ob_judge.specs.Names.{Stage as JudgedStage};
-ghost use Rattle.check_names.specs.Meaning.{imported_of, standard_of as standard_meant};
+ghost use Rattle.check_types.specs.names.Meaning.{imported_of, standard_of as standard_meant};
 ghost use Rattle.ob_judge.specs.Names.{Whole as WholeName};
-ghost use Rattle.check_names.specs.declared.scope.Scope.{Scope as TheScope};
-ghost use Rattle.check_names.specs.Meaning.{object_of};
-ghost use Rattle.check_names.specs.Worlds.{table_of, strings_of};
+ghost use Rattle.check_types.specs.declared.names.scope.Scope.{Scope as TheScope};
+ghost use Rattle.check_types.specs.names.Meaning.{object_of};
+ghost use Rattle.check_types.specs.names.Worlds.{table_of, strings_of};
 ghost use Rattle.check_selectors.specs.Stages.{IsStage};
 ghost use Rattle.check_selectors.specs.Behind.{module_in, standard_in};
 
-use check_names::{Imported, Named, Scope, Standard};
+use crate::parts::Part;
 use check_operands::Operand;
-use check_parts::Part;
+use check_types::names::{Imported, Named, Scope, Standard};
 
 /// What a designator has come to: a name alone, a part of what it names, or a call, which is last.
 #[derive(Drop)]

@@ -4,14 +4,14 @@ ghost use Rattle.std.specs.Prelude.{◌≡◌, Some};
 ghost use Rattle.ob_judge.specs.Scopes.{place};
 ghost use Rattle.ob_judge.specs.Operands.{Operand as Judgement};
 ghost use Rattle.ob_judge.specs.Parts.{is_test as judged_test};
-ghost use Rattle.check_steps.specs.Answers.{Answers};
-ghost use Rattle.check_names.specs.Worlds.{world_of};
+ghost use Rattle.check_types.specs.steps.Answers.{Answers};
+ghost use Rattle.check_types.specs.names.Worlds.{world_of};
 ghost use Rattle.check_operands.specs.Operands.{Stands};
 
-use check_names::Scope;
+use crate::parts::tested;
 use check_operands::Operand;
-use check_parts::tested;
-use check_steps::CheckFault;
+use check_types::names::Scope;
+use check_types::steps::CheckFault;
 use std::alloc::Global;
 
 /// IS and the name of a type.

@@ -15,20 +15,20 @@ use Rattle.ob_judge.specs.Cases.{SelectorOf, OnType, Labelled, narrow, case_of}
 use Rattle.ob_judge.specs.Statements.{statements}
 use Rattle.judged_tree.specs.Plain.{plain_body}
 use Rattle.judged_tree.specs.Outline.{outlined_parts}
-use Rattle.statement_trees.specs.Onto.{case_parts_onto, type_parts_onto}
-use Rattle.statement_steps.specs.Steps.{on_value as on_value_in}
-use Rattle.check_steps.specs.Answers.{Answers}
-use Rattle.check_steps.specs.declared.fault.CheckFault.{CheckFault}
-use Rattle.check_steps.proofs.Answering.{as_judged}
+use Rattle.check_statements.specs.trees.Onto.{case_parts_onto, type_parts_onto}
+use Rattle.check_statements.specs.steps.Steps.{on_value as on_value_in}
+use Rattle.check_types.specs.steps.Answers.{Answers}
+use Rattle.check_types.specs.declared.steps.fault.CheckFault.{CheckFault}
+use Rattle.check_types.proofs.steps.Answering.{as_judged}
 use Rattle.check_types.specs.declared.types.TypeRef.{TypeRef}
 use Rattle.check_types.specs.TypeMeaning.{type_shape}
-use Rattle.check_names.specs.declared.scope.Scope.{Scope}
-use Rattle.check_names.specs.declared.scope.VariablePlace.{VariablePlace}
-use Rattle.check_names.specs.declared.scope.Narrowing.{Narrowing}
-use Rattle.check_names.specs.Meaning.{place_of, narrowings_before}
-use Rattle.check_names.specs.Worlds.{table_of, strings_of, world_of, IsOfType}
+use Rattle.check_types.specs.declared.names.scope.Scope.{Scope}
+use Rattle.check_types.specs.declared.names.scope.VariablePlace.{VariablePlace}
+use Rattle.check_types.specs.declared.names.scope.Narrowing.{Narrowing}
+use Rattle.check_types.specs.names.Meaning.{place_of, narrowings_before}
+use Rattle.check_types.specs.names.Worlds.{table_of, strings_of, world_of, IsOfType}
 use Rattle.check_operands.specs.Operands.{texts_of, bases_of}
-use Rattle.label_ranges.specs.Ranges.{AreRanges}
+use Rattle.check_statements.specs.ranges.Ranges.{AreRanges}
 use Rattle.check_statements.specs.declared.parts.CaseParts.{CaseParts}
 use Rattle.check_statements.specs.declared.parts.CaseParts.TheVariants.{Values, Types}
 use Rattle.check_statements.specs.Standing.{AreStatements, SoFar, on_value, on_of, ArePutParts, AreParts}

@@ -11,16 +11,16 @@ use Rattle.ob_judge.specs.Judged.{Judged, Keeps, ◌>>=◌}
 use Rattle.ob_judge.specs.Image as I
 use Rattle.judged_tree.specs.Plain.{plain_designator, plain_checked, plain_statement, plain_body}
 use Rattle.judged_tree.specs.Outline.{outlined_statement, outlined_statements, outlined_branches}
-use Rattle.statement_trees.specs.Onto.{statements_onto, branches_onto}
-use Rattle.statement_trees.proofs.Rows.{statements_all}
-use Rattle.statement_steps.specs.Steps.{JudgedHead}
-use Rattle.check_steps.specs.Answers.{Answers}
-use Rattle.check_steps.proofs.Answering.{goes_on}
-use Rattle.check_names.specs.declared.scope.Scope.{Scope}
-use Rattle.check_names.specs.Worlds.{table_of}
+use Rattle.check_statements.specs.trees.Onto.{statements_onto, branches_onto}
+use Rattle.check_statements.proofs.trees.Rows.{statements_all}
+use Rattle.check_statements.specs.steps.Steps.{JudgedHead}
+use Rattle.check_types.specs.steps.Answers.{Answers}
+use Rattle.check_types.proofs.steps.Answering.{goes_on}
+use Rattle.check_types.specs.declared.names.scope.Scope.{Scope}
+use Rattle.check_types.specs.names.Worlds.{table_of}
 use Rattle.check_operands.specs.Operands.{texts_of, bases_of}
-use Rattle.check_standard.specs.Made.{IsChecked}
-use Rattle.check_assignments.specs.Assigned.{IsStatement}
+use Rattle.check_selectors.specs.standard.Made.{IsChecked}
+use Rattle.check_statements.specs.assignments.Assigned.{IsStatement}
 use Rattle.check_statements.specs.declared.heads.Head.{Head}
 use Rattle.check_statements.specs.Standing.{AreStatements, put_made, IsPut, ArePut, ArePutBranches, AreBranches, IsHead}
 

@@ -16,15 +16,15 @@ use Rattle.ob_judge.specs.Cases.{SelectorOf, OnInteger, OnChar, OnType}
 use Rattle.ob_judge.specs.Statements.{statements}
 use Rattle.judged_tree.specs.Plain.{plain_designator, plain_statement, plain_body}
 use Rattle.judged_tree.specs.Outline.{outlined_designator, outlined_statements, outlined_branches, outlined_parts}
-use Rattle.statement_trees.specs.Onto.{statements_onto, branches_onto, case_parts_onto, type_parts_onto}
-use Rattle.statement_steps.specs.Steps.{JudgedHead}
+use Rattle.check_statements.specs.trees.Onto.{statements_onto, branches_onto, case_parts_onto, type_parts_onto}
+use Rattle.check_statements.specs.steps.Steps.{JudgedHead}
 use Rattle.check_types.specs.TypeMeaning.{type_shape}
-use Rattle.check_names.specs.declared.scope.Scope.{Scope}
-use Rattle.check_names.specs.Meaning.{place_of}
-use Rattle.check_names.specs.Worlds.{table_of}
+use Rattle.check_types.specs.declared.names.scope.Scope.{Scope}
+use Rattle.check_types.specs.names.Meaning.{place_of}
+use Rattle.check_types.specs.names.Worlds.{table_of}
 use Rattle.check_operands.specs.Operands.{texts_of, bases_of}
-use Rattle.check_standard.specs.Made.{IsChecked}
-use Rattle.label_ranges.specs.Ranges.{AreRanges}
+use Rattle.check_selectors.specs.standard.Made.{IsChecked}
+use Rattle.check_statements.specs.ranges.Ranges.{AreRanges}
 use Rattle.check_statements.specs.declared.heads.Head.{Head}
 use Rattle.check_statements.specs.declared.parts.CaseParts.{CaseParts}
 use Rattle.check_statements.specs.declared.parts.CaseParts.TheVariants as TheParts

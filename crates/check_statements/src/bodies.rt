@@ -2,13 +2,13 @@
 
 ghost use Rattle.ob_syntax.specs.Plain.{plain_option, plain_body};
 ghost use Rattle.ob_judge.specs.Statements.{body_of as judged_body};
-ghost use Rattle.check_steps.specs.Answers.{Answers};
-ghost use Rattle.check_names.specs.Worlds.{world_of};
+ghost use Rattle.check_types.specs.steps.Answers.{Answers};
+ghost use Rattle.check_types.specs.names.Worlds.{world_of};
 ghost use Rattle.check_statements.specs.Standing.{AreStatements};
 
 use crate::walk::statements;
-use check_names::Scope;
-use check_steps::CheckFault;
+use check_types::names::Scope;
+use check_types::steps::CheckFault;
 use ob_syntax::statements::Body;
 use ob_types::Stmt;
 use std::alloc::Global;
@@ -31,8 +31,8 @@ pub fn body_of<'a>(
 #[cfg(test)]
 mod tests {
     use super::*;
-    use check_steps::Source;
     use check_types::TypeTable;
+    use check_types::steps::Source;
     use ob_symbol::{Kind, Symbol};
     use ob_syntax::expressions::{Expression, Factor, Simple, Term};
     use ob_syntax::statements::{RepeatStat, Stat, Stats};

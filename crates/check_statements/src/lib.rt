@@ -6,10 +6,17 @@
 //! nested. `body_of` is a body behind BEGIN, where there is one.
 #![tactic(auto)]
 
+pub mod assignments;
 mod bodies;
+pub mod cases;
+pub mod deeds;
 mod heads;
 mod parts;
 mod puts;
+pub mod ranges;
+pub mod steps;
+pub mod syntax;
+pub mod trees;
 mod walk;
 
 pub use bodies::body_of;

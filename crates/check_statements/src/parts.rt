@@ -4,21 +4,21 @@ ghost use Rattle.std.specs.Prelude.{◌≡◌, []};
 ghost use Rattle.ob_judge.specs.Image.{Parts};
 ghost use Rattle.ob_judge.specs.Operands.{Operand as Judgement};
 ghost use Rattle.ob_judge.specs.Cases.{SelectorOf, case_of as judged_case};
-ghost use Rattle.check_names.specs.declared.scope.Scope.{Scope as TheScope};
-ghost use Rattle.check_names.specs.declared.scope.VariablePlace.{VariablePlace as ThePlace};
-ghost use Rattle.check_names.specs.Worlds.{table_of};
+ghost use Rattle.check_types.specs.declared.names.scope.Scope.{Scope as TheScope};
+ghost use Rattle.check_types.specs.declared.names.scope.VariablePlace.{VariablePlace as ThePlace};
+ghost use Rattle.check_types.specs.names.Worlds.{table_of};
 ghost use Rattle.check_operands.specs.Operands.{Stands};
-ghost use Rattle.check_assignments.specs.Assigned.{IsStatement};
-ghost use Rattle.check_cases.specs.Selecting.{selecting_meant};
+ghost use Rattle.check_statements.specs.assignments.Assigned.{IsStatement};
+ghost use Rattle.check_statements.specs.cases.Selecting.{selecting_meant};
 ghost use Rattle.check_statements.specs.Standing.{AreParts, ArePutParts};
 
-use check_cases::Selecting;
-use check_names::{Narrowing, Scope, VariablePlace};
+use crate::cases::Selecting;
+use crate::ranges::LabelRanges;
+use crate::trees::{case_parameter, case_pointer, case_values};
 use check_operands::{Operand, checked, designator};
 use check_types::TypeRef;
-use label_ranges::LabelRanges;
+use check_types::names::{Narrowing, Scope, VariablePlace};
 use ob_types::{CasePart, Stmt, TypePart};
-use statement_trees::{case_parameter, case_pointer, case_values};
 use std::alloc::Global;
 
 /// What a CASE is on, with its parts so far: of INTEGER or CHAR with all labels, or of types.

@@ -3,11 +3,11 @@
 ghost use Rattle.std.specs.Prelude.{◌≡◌, ℕ, List, IfOk};
 ghost use Rattle.ob_types.specs.Table.{Table};
 ghost use Rattle.ob_judge.specs.Image.{Statements};
-ghost use Rattle.statement_trees.specs.Onto.{statements_onto};
+ghost use Rattle.check_statements.specs.trees.Onto.{statements_onto};
 ghost use Rattle.check_statements.specs.Standing.{put_made};
 
+use crate::trees::with_statement;
 use ob_types::Stmt;
-use statement_trees::with_statement;
 use std::alloc::AllocError;
 
 /// Statements and what a further one puts behind them, if it isn't empty.

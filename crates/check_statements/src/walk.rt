@@ -2,40 +2,40 @@
 
 ghost use Rattle.std.specs.Prelude.{◌≡◌};
 ghost use Rattle.ob_syntax.specs.Plain.{plain_expression, plain_stats, plain_stat, plain_case};
-ghost use Rattle.statement_syntax.specs.Lists.{plain_maybe_else};
+ghost use Rattle.check_statements.specs.syntax.Lists.{plain_maybe_else};
 ghost use Rattle.ob_judge.specs.Image.{Statements, Branches, Checked as JudgedCondition};
 ghost use Rattle.ob_judge.specs.Cases.{SelectorOf};
 ghost use Rattle.ob_judge.specs.Statements.{statements as judged_statements, statement as judged_statement, else_part};
-ghost use Rattle.statement_steps.specs.Steps.{put_one, put_more, branch_one, branches_more, branches_more_do, if_of, while_of, repeat_of, for_of, part_one, part_more, filled, case_stat_of};
+ghost use Rattle.check_statements.specs.steps.Steps.{put_one, put_more, branch_one, branches_more, branches_more_do, if_of, while_of, repeat_of, for_of, part_one, part_more, filled, case_stat_of};
 ghost use Rattle.ob_syntax.specs.declared.statements.Elsif.{out-Elsif};
 ghost use Rattle.ob_syntax.specs.declared.statements.ElsifDo.{out-ElsifDo};
-ghost use Rattle.check_steps.specs.Answers.{Answers};
-ghost use Rattle.check_names.specs.Worlds.{world_of};
-ghost use Rattle.check_standard.specs.Made.{IsChecked};
-ghost use Rattle.check_assignments.specs.Assigned.{IsStatement};
+ghost use Rattle.check_types.specs.steps.Answers.{Answers};
+ghost use Rattle.check_types.specs.names.Worlds.{world_of};
+ghost use Rattle.check_selectors.specs.standard.Made.{IsChecked};
+ghost use Rattle.check_statements.specs.assignments.Assigned.{IsStatement};
 ghost use Rattle.check_statements.specs.Standing.{AreStatements, IsPut, ArePut, ArePutBranches, AreBranches, branch_with, SoFar, ArePutParts, AreParts};
 
+use crate::assignments::condition;
+use crate::cases::{narrowed, selector, tag_of, type_labels, value_labels};
+use crate::deeds::assign_or_call;
 use crate::heads::for_head;
 use crate::parts::{CaseParts, case_made, in_part, no_parts};
 use crate::puts::with_put;
-use check_assignments::condition;
-use check_cases::{narrowed, selector, tag_of, type_labels, value_labels};
-use check_deeds::assign_or_call;
+use crate::ranges::LabelRanges;
+use crate::trees::{
+    for_statement, if_statement, repeat_statement, while_statement, with_branch, with_case_part,
+    with_type_part,
+};
 use check_expressions::expression;
-use check_names::{Scope, VariablePlace};
-use check_steps::CheckFault;
+use check_operands::symbols::expression_first;
 use check_types::TypeRef;
-use expression_symbols::expression_first;
-use label_ranges::LabelRanges;
+use check_types::names::{Scope, VariablePlace};
+use check_types::steps::CheckFault;
 use ob_syntax::statements::{
     Case, CasePart as CaseTree, CaseStat, Else, Elsif, ElsifDo, ForStat, IfStat, NextCase,
     NextStat, RepeatStat, Stat, Stats, WhileStat,
 };
 use ob_types::{Branch, CasePart, Checked, Stmt, TypePart};
-use statement_trees::{
-    for_statement, if_statement, repeat_statement, while_statement, with_branch, with_case_part,
-    with_type_part,
-};
 use std::alloc::Global;
 
 /// Statements, one after the other.

@@ -3,7 +3,7 @@ use Rattle.std.specs.Prelude.{ℕ, List, Option, map, option_map}
 use Rattle.ob_types.specs.Table.{Table}
 use Rattle.ob_judge.specs.Shapes.{Shape, Known}
 use Rattle.ob_judge.specs.Shapes.{Field as FieldOf, Layout as LayoutOf, Added as AddedOf}
-use Rattle.check_steps.specs.Maps.{at_bytes}
+use Rattle.check_types.specs.steps.Maps.{at_bytes}
 use Rattle.check_types.specs.declared.table.FieldEntry.{FieldEntry}
 use Rattle.check_types.specs.declared.table.Added.{Added}
 use Rattle.check_types.specs.declared.table.Layout.{Layout}

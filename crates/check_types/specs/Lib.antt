@@ -1,3 +1,5 @@
 pub mod TypeMeaning
 pub mod TableFacts
 pub mod Known
+pub mod steps
+pub mod names

@@ -7,8 +7,10 @@
 #![tactic(auto)]
 
 mod kinds;
+pub mod names;
 mod operators;
 mod sameness;
+pub mod steps;
 mod table;
 mod tests_of_types;
 mod types;

@@ -4,3 +4,4 @@ pub mod Sound
 pub mod Made
 pub mod Lines
 pub mod Lists
+pub mod steps

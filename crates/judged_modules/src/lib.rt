@@ -6,6 +6,7 @@
 #![tactic(auto)]
 
 mod laws;
+pub mod steps;
 
 pub use laws::{
     constants_stay_sound, modules_are_well, one_module_has_byte_strings,

@@ -17,10 +17,10 @@ use Rattle.judged_well.specs.Gives.{Gives}
 use Rattle.judged_well.proofs.Judging.{keeps, and_then, anything}
 use Rattle.judged_modules.specs.Agrees.{bases_of}
 use Rattle.judged_modules.proofs.Lists.{set_length}
-use Rattle.procedure_steps.specs.Frames.{entered, left}
-use Rattle.procedure_steps.specs.Procedures.{OneProcedure}
-use Rattle.procedure_steps.specs.Steps.{completed, completes, inside, procedure_part}
-use Rattle.procedure_steps.proofs.Laws.{procedures_law}
+use Rattle.judged_modules.specs.steps.Frames.{entered, left}
+use Rattle.judged_modules.specs.steps.Procedures.{OneProcedure}
+use Rattle.judged_modules.specs.steps.Steps.{completed, completes, inside, procedure_part}
+use Rattle.judged_modules.proofs.steps.Laws.{procedures_law}
 use Rattle.judged_outlines.specs.Among.{ConstantAmong, ObjectAmong, IsDeclaredPlace}
 use Rattle.judged_outlines.proofs.Reach.{object_later, narrowed_later}
 use Rattle.judged_outlines.proofs.Expressed.{a_constant}

@@ -18,9 +18,9 @@ use Rattle.judged_well.specs.Gives.{Gives}
 use Rattle.judged_well.proofs.Judging.{keeps, and_then, by_rule}
 use Rattle.judged_modules.specs.Agrees.{bases_of}
 use Rattle.judged_modules.proofs.Keeping.{given}
-use Rattle.procedure_steps.specs.Frames.{Begins}
-use Rattle.procedure_steps.specs.Procedures.{OneProcedure}
-use Rattle.procedure_steps.specs.Steps.{completed}
+use Rattle.judged_modules.specs.steps.Frames.{Begins}
+use Rattle.judged_modules.specs.steps.Procedures.{OneProcedure}
+use Rattle.judged_modules.specs.steps.Steps.{completed}
 use Rattle.judged_outlines.specs.Upright.{Upright}
 use Rattle.judged_outlines.proofs.Stated.{a_body, a_answer}
 

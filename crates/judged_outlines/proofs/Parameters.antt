@@ -12,7 +12,7 @@ use Rattle.ob_judge.specs.Image.{Local, Parameter}
 use Rattle.ob_judge.specs.Parameters.{Listed, no_parameters, append, opened, mode_of, is_value, listed, type_at, parameter_variable, add_parameters, next_names, section, next_sections, sections, result_shape, formal_part, words_of}
 use Rattle.judged_well.specs.Gives.{Gives}
 use Rattle.judged_well.proofs.Judging.{keeps, weaken, and_then, by_rule, gives_both}
-use Rattle.procedure_steps.proofs.Frame.{h_formals}
+use Rattle.judged_modules.proofs.steps.Frame.{h_formals}
 use Rattle.judged_outlines.specs.Among.{PointsAmong, AllPointAmong, IsDeclaredPlace}
 use Rattle.judged_outlines.proofs.Reach.{shape_later, formals_later}
 use Rattle.judged_outlines.proofs.Named.{a_type_named}

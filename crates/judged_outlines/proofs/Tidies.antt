@@ -27,9 +27,9 @@ use Rattle.judged_programs.proofs.Cores.{grown_later}
 use Rattle.judged_programs.proofs.Tidy.{s_stand, tidy_declared, tidy_offered, object_later}
 use Rattle.judged_programs.proofs.HeadingsTidy.{no_words, h_formals}
 use Rattle.judged_programs.proofs.ProceduresTidy.{each_with, each_set, s_decls}
-use Rattle.procedure_steps.specs.Frames.{entered, left}
-use Rattle.procedure_steps.specs.Procedures.{OneProcedure}
-use Rattle.procedure_steps.specs.Steps.{completed, completes}
+use Rattle.judged_modules.specs.steps.Frames.{entered, left}
+use Rattle.judged_modules.specs.steps.Procedures.{OneProcedure}
+use Rattle.judged_modules.specs.steps.Steps.{completed, completes}
 use Rattle.judged_outlines.specs.Upright.{MadeWithin}
 use Rattle.judged_outlines.proofs.Parts.{of_declared, names_more, names_fewer, names_outer}
 

@@ -21,10 +21,10 @@ use Rattle.judged_programs.proofs.TypesTidy.{s_type}
 use Rattle.judged_programs.proofs.DeclarationsTidy.{s_const, s_types, s_var}
 use Rattle.judged_programs.proofs.ProceduresTidy.{s_decls, s_procedures}
 use Rattle.judged_programs.proofs.ModulesTidy.{module_tidy}
-use Rattle.procedure_steps.specs.Frames.{entered, left}
-use Rattle.procedure_steps.specs.Procedures.{OneProcedure, with_procedure}
-use Rattle.procedure_steps.specs.Steps.{completes, procedure_part}
-use Rattle.procedure_steps.proofs.Laws.{procedures_law}
+use Rattle.judged_modules.specs.steps.Frames.{entered, left}
+use Rattle.judged_modules.specs.steps.Procedures.{OneProcedure, with_procedure}
+use Rattle.judged_modules.specs.steps.Steps.{completes, procedure_part}
+use Rattle.judged_modules.proofs.steps.Laws.{procedures_law}
 use Rattle.judged_outlines.specs.Among.{PointsAmong}
 use Rattle.judged_outlines.specs.Upright.{MadeWithin, Upright, UprightSoFar}
 use Rattle.judged_outlines.proofs.Parts.{d_stand}

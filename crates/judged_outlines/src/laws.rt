@@ -13,9 +13,9 @@ ghost use Rattle.ob_judge.specs.Shapes.{Shape};
 ghost use Rattle.ob_judge.specs.Statements.{body_of};
 ghost use Rattle.judged_tree.specs.Outline.{outlined_checked, outlined_procedure, outlined_statements};
 ghost use Rattle.judged_modules.specs.Agrees.{bases_of};
-ghost use Rattle.procedure_steps.specs.Frames.{Begins};
-ghost use Rattle.procedure_steps.specs.Procedures.{OneProcedure};
-ghost use Rattle.procedure_steps.specs.Steps.{completed};
+ghost use Rattle.judged_modules.specs.steps.Frames.{Begins};
+ghost use Rattle.judged_modules.specs.steps.Procedures.{OneProcedure};
+ghost use Rattle.judged_modules.specs.steps.Steps.{completed};
 ghost use Rattle.judged_outlines.specs.Upright.{Upright};
 
 /// A body is outlined alike by all later pointer types.

@@ -5,6 +5,7 @@
 //! a procedure when it is complete, and the outline is the one of the finished program. There is no code here.
 #![tactic(auto)]
 
+pub mod ends;
 mod laws;
 mod scopes;
 

@@ -16,9 +16,9 @@ ghost use Rattle.ob_judge.specs.Types.{type_part};
 ghost use Rattle.judged_well.specs.Standing.{is_result};
 ghost use Rattle.judged_modules.specs.Agrees.{bases_of};
 ghost use Rattle.judged_programs.specs.Tidy.{AreListed, IsInProcedure};
-ghost use Rattle.procedure_steps.specs.Frames.{entered, left};
-ghost use Rattle.procedure_steps.specs.Procedures.{OneProcedure};
-ghost use Rattle.procedure_steps.specs.Steps.{completes, procedure_part};
+ghost use Rattle.judged_modules.specs.steps.Frames.{entered, left};
+ghost use Rattle.judged_modules.specs.steps.Procedures.{OneProcedure};
+ghost use Rattle.judged_modules.specs.steps.Steps.{completes, procedure_part};
 ghost use Rattle.judged_outlines.specs.Among.{PointsAmong};
 ghost use Rattle.judged_outlines.specs.Upright.{MadeWithin, Upright, UprightSoFar};
 

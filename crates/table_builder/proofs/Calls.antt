@@ -17,7 +17,7 @@ use Rattle.ob_judge.specs.Shapes.{Field as FieldOf, Added as AddedOf}
 use Rattle.ob_judge.specs.Making.{no_layout}
 use Rattle.judged_tree.specs.TypeShapes.{formals_shape, signature_shape, shapes_of, shape_of}
 use Rattle.judged_tree.specs.Tables.{is_before, same_parameters}
-use Rattle.check_steps.specs.Maps.{at_bytes}
+use Rattle.check_types.specs.steps.Maps.{at_bytes}
 use Rattle.check_types.specs.declared.types.TypeRef.{TypeRef}
 use Rattle.check_types.specs.declared.types.TypeRef.TheVariants as TheType
 use Rattle.check_types.specs.declared.table.Added.{Added}

@@ -5,7 +5,7 @@ use Rattle.std.specs.Global.{Global}
 use Rattle.std.specs.Str.{bytes_eq}
 use Rattle.ob_types.specs.declared.types.Field.{Field}
 use Rattle.ob_types.specs.declared.types.RecordType.{RecordType}
-use Rattle.check_steps.specs.Maps.{at_bytes}
+use Rattle.check_types.specs.steps.Maps.{at_bytes}
 use Rattle.check_types.specs.declared.types.TypeRef.{TypeRef}
 use Rattle.check_types.specs.declared.table.Added.{Added}
 use Rattle.check_types.specs.declared.table.FieldEntry.{FieldEntry}

@@ -4,7 +4,7 @@ ghost use Rattle.std.specs.Prelude.{◌≡◌, ◌<◌, ◌∷◌, ◌++◌, [],
 ghost use Rattle.ob_judge.specs.Shapes.{Array, Open};
 ghost use Rattle.judged_tree.specs.TypeShapes.{shape_of};
 ghost use Rattle.judged_tree.specs.Tables.{are_before, is_before, IsFromTheFront, HasEachOnce};
-ghost use Rattle.check_steps.specs.Maps.{at_bytes};
+ghost use Rattle.check_types.specs.steps.Maps.{at_bytes};
 ghost use Rattle.check_types.specs.TypeMeaning.{type_shape};
 ghost use Rattle.check_types.specs.Known.{known_of, layout_of};
 ghost use Rattle.table_builder.specs.Entries.{IsNumbered, IsElement, HasWholeElements};

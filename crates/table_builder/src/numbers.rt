@@ -2,7 +2,7 @@
 
 ghost use Rattle.std.specs.Prelude.{◌≡◌, List, ℕ, [], ◌∷◌, ◌++◌, Some, None, OnOk, OnErr, cond};
 ghost use Rattle.std.specs.Str.{bytes_eq};
-ghost use Rattle.check_steps.specs.Maps.{at_bytes};
+ghost use Rattle.check_types.specs.steps.Maps.{at_bytes};
 ghost use Rattle.table_builder.specs.Index.{number_in, array_parts, open_parts};
 ghost use Rattle.table_builder.specs.Contents.{notes_of, IsNotedIn};
 

@@ -1,4 +1,4 @@
-use Rattle.check_steps.proofs.Answering.{exit}
+use Rattle.check_types.proofs.steps.Answering.{exit}
 use Rattle.check_declared.proofs.Consts.{not_stood, no_value, is_declared}
 use Rattle.check_declared.proofs.constants.const_decl.Goals as goal
 

@@ -1,7 +1,7 @@
 use Rattle.std.proofs.Common.{◌∙◌, refl, subst, Ok, Err, arith}
 use Rattle.std.proofs.lemmas.List.{drop_all}
-use Rattle.check_steps.specs.Answers.{Answers}
-use Rattle.check_steps.proofs.Answering.{exit, Judging}
+use Rattle.check_types.specs.steps.Answers.{Answers}
+use Rattle.check_types.proofs.steps.Answering.{exit, Judging}
 use Rattle.check_making.specs.Parts.{Made}
 use Rattle.check_declared.proofs.Parts.{StateMakes}
 use Rattle.check_declared.proofs.Consts.{consts_from, const_item, consts_first, consts_next, consts_stop, consts_done}

@@ -1,6 +1,6 @@
 use Rattle.std.proofs.Common.{refl, ap, sym, drop, ◌+◌, ◌∙◌, subst, arith}
 use Rattle.std.proofs.lemmas.List.{drop_all}
-use Rattle.check_steps.proofs.Answering.{exit, Judging}
+use Rattle.check_types.proofs.steps.Answering.{exit, Judging}
 use Rattle.check_declared.proofs.Parts.{StateMakes}
 use Rattle.check_types.specs.TypeMeaning.{type_shape}
 use Rattle.table_builder.specs.Entries.{IsElement}

@@ -1,7 +1,7 @@
 use Rattle.std.proofs.Common.{◌≡◌, drop}
 use Rattle.check_types.specs.TypeMeaning.{type_shape}
 use Rattle.ob_judge.specs.Making.{Making}
-use Rattle.check_steps.proofs.Answering.{Judging}
+use Rattle.check_types.proofs.steps.Answering.{Judging}
 use Rattle.check_making.specs.Making.{table_of, Makes, IsSettled}
 use Rattle.check_declared.proofs.Parts.{StateMakes}
 use Rattle.check_declared.proofs.Names.{variables_from}

@@ -1,7 +1,7 @@
 use Rattle.std.proofs.Common.{subst}
 use Rattle.ob_judge.specs.Parameters.{stand, symbols_of, next_list}
-use Rattle.check_steps.specs.Answers.{Answers}
-use Rattle.check_steps.proofs.Answering.{exit}
+use Rattle.check_types.specs.steps.Answers.{Answers}
+use Rattle.check_types.proofs.steps.Answering.{exit}
 use Rattle.check_making.specs.Parts.{Made}
 use Rattle.check_declared.proofs.Names.{stand_both, stand_broken}
 use Rattle.check_declared.proofs.lists.stand_all.Goals as goal

@@ -1,6 +1,6 @@
 use Rattle.std.proofs.Common.{subst, arith}
 use Rattle.std.proofs.lemmas.List.{drop_all}
-use Rattle.check_steps.proofs.Answering.{exit, Judging}
+use Rattle.check_types.proofs.steps.Answering.{exit, Judging}
 use Rattle.check_declared.proofs.Parts.{StateMakes}
 use Rattle.check_declared.proofs.Names.{stand_from, stand_first, stand_next, stand_stop, stand_done}
 use Rattle.check_declared.proofs.lists.stand_more.Goals as goal

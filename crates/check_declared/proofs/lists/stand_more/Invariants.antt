@@ -1,6 +1,6 @@
 use Rattle.std.proofs.Common.{drop}
 use Rattle.ob_judge.specs.Making.{Making}
-use Rattle.check_steps.proofs.Answering.{Judging}
+use Rattle.check_types.proofs.steps.Answering.{Judging}
 use Rattle.check_making.specs.Making.{Makes, IsSettled}
 use Rattle.check_declared.proofs.Parts.{StateMakes}
 use Rattle.check_declared.proofs.Names.{stand_from}

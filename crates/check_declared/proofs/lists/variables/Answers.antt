@@ -2,8 +2,8 @@ use Rattle.std.proofs.Common.{ap, sym, subst}
 use Rattle.ob_judge.specs.Making.{Making}
 use Rattle.ob_judge.specs.Parameters.{next_list}
 use Rattle.ob_judge.specs.Declarations.{variable_part, each}
-use Rattle.check_steps.specs.Answers.{Answers}
-use Rattle.check_steps.proofs.Answering.{exit, goes_on, stop}
+use Rattle.check_types.specs.steps.Answers.{Answers}
+use Rattle.check_types.proofs.steps.Answering.{exit, goes_on, stop}
 use Rattle.check_types.specs.TypeMeaning.{type_shape}
 use Rattle.table_builder.specs.Entries.{IsElement}
 use Rattle.check_making.specs.Making.{table_of}

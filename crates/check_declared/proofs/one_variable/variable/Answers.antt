@@ -1,8 +1,8 @@
 use Rattle.std.proofs.Common.{◌+◌, length, ap, sym, ◌∙◌, subst, Ok, Err}
-use Rattle.check_steps.specs.Answers.{Answers}
-use Rattle.check_steps.proofs.Answering.{exit}
-use Rattle.check_names.specs.Meaning.{object_of}
-use Rattle.check_names.specs.declared.scope.Named.TheVariants as TheNamed
+use Rattle.check_types.specs.steps.Answers.{Answers}
+use Rattle.check_types.proofs.steps.Answering.{exit}
+use Rattle.check_types.specs.names.Meaning.{object_of}
+use Rattle.check_types.specs.declared.names.scope.Named.TheVariants as TheNamed
 use Rattle.ob_judge.specs.Parameters.{declared}
 use Rattle.table_builder.specs.Entries.{IsElement}
 use Rattle.check_making.specs.Making.{table_of, strings_of}

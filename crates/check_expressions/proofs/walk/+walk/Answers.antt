@@ -12,15 +12,15 @@ use Rattle.ob_judge.specs.Names.{Stage, Whole, Partly}
 use Rattle.ob_judge.specs.Parts.{element, related}
 use Rattle.ob_judge.specs.Expressions.{expression, simple, added, multiplied, factor, with_elements, with_element, selected, select, indexed_more}
 use Rattle.judged_tree.specs.Plain.{plain_expr}
-use Rattle.expression_symbols.specs.Parts.{plain_each_element, plain_maybe_list}
-use Rattle.expression_symbols.proofs.Parts.{parens_parts}
-use Rattle.check_steps.proofs.Answering.{goes_on, stop, exit, as_judged}
-use Rattle.tree_parts.specs.declared.values.Value.{Value}
-use Rattle.check_names.specs.Meaning.{standard_of}
-use Rattle.check_names.specs.Worlds.{table_of, world_of}
+use Rattle.check_operands.specs.symbols.Parts.{plain_each_element, plain_maybe_list}
+use Rattle.check_operands.proofs.symbols.Parts.{parens_parts}
+use Rattle.check_types.proofs.steps.Answering.{goes_on, stop, exit, as_judged}
+use Rattle.check_operands.specs.declared.trees.values.Value.{Value}
+use Rattle.check_types.specs.names.Meaning.{standard_of}
+use Rattle.check_types.specs.names.Worlds.{table_of, world_of}
 use Rattle.check_operands.specs.Operands.{texts_of}
-use Rattle.check_calls.specs.declared.arguments.Given.{Given}
-use Rattle.check_calls.specs.Given.{AreGiven}
+use Rattle.check_operands.specs.declared.calls.arguments.Given.{Given}
+use Rattle.check_operands.specs.calls.Given.{AreGiven}
 use Rattle.check_selectors.proofs.Selecting.{parens_any_is}
 use Rattle.check_selectors.specs.Behind.{standard_behind, call_behind, list_behind, parens_at}
 use Rattle.check_expressions.specs.Steps.{added_one, multiplied_one, indexed_one, arguments_from}

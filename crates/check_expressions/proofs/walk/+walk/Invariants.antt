@@ -6,11 +6,11 @@ use Rattle.ob_judge.specs.Operands.{Operand}
 use Rattle.ob_judge.specs.Names.{Stage}
 use Rattle.ob_judge.specs.Calls as J
 use Rattle.ob_judge.specs.Expressions.{added, multiplied, with_elements, selected, indexed_more}
-use Rattle.expression_symbols.specs.Parts.{plain_each_element}
-use Rattle.check_names.specs.Worlds.{world_of}
+use Rattle.check_operands.specs.symbols.Parts.{plain_each_element}
+use Rattle.check_types.specs.names.Worlds.{world_of}
 use Rattle.check_operands.specs.Operands.{Stands}
-use Rattle.check_calls.specs.Given.{IsGiven}
-use Rattle.check_parts.specs.Parts.{IsPart}
+use Rattle.check_operands.specs.calls.Given.{IsGiven}
+use Rattle.check_selectors.specs.parts.Parts.{IsPart}
 use Rattle.check_selectors.specs.Stages.{IsStage}
 use Rattle.check_expressions.specs.Steps.{IsValue, AreGivenIn, arguments_from}
 use Rattle.check_expressions.proofs.Walking.{Walking}

@@ -1,6 +1,6 @@
 use Rattle.std.proofs.Common.{refl, ap, ◌∙◌}
 use Rattle.ob_judge.specs.Scopes.{declare}
-use Rattle.check_names.specs.Meaning.{entry_of, names_of}
+use Rattle.check_types.specs.names.Meaning.{entry_of, names_of}
 use Rattle.check_making.proofs.Known.{at_place}
 use Rattle.check_making.proofs.declaring.declare_in.Goals as goal
 

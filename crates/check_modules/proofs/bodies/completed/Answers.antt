@@ -1,10 +1,10 @@
 use Rattle.std.proofs.Common.{None, refl, sym, subst}
 use Rattle.ob_syntax.specs.Plain.{plain_module}
-use Rattle.text_numbers.specs.Numbering.{NumbersAll}
+use Rattle.check_procedures.specs.numbers.Numbering.{NumbersAll}
 use Rattle.check_types.specs.declared.types.TypeRef.TheVariants as TheType
-use Rattle.check_steps.proofs.Answering.{exit}
+use Rattle.check_types.proofs.steps.Answering.{exit}
 use Rattle.check_modules.proofs.WantOfMemory.{no_memory}
-use Rattle.text_numbers.proofs.Lasting.{numbers_all}
+use Rattle.check_procedures.proofs.numbers.Lasting.{numbers_all}
 use Rattle.check_modules.proofs.BodyStands.{no_body, no_name, is_bare, is_completed}
 use Rattle.check_modules.proofs.bodies.completed.Goals as goal
 

@@ -1,6 +1,6 @@
 use Rattle.std.proofs.Common.{sym, subst, arith}
-use Rattle.check_steps.proofs.Answering.{exit}
-use Rattle.check_scopes.specs.Building.{StandsFor}
+use Rattle.check_types.proofs.steps.Answering.{exit}
+use Rattle.check_making.specs.scopes.Building.{StandsFor}
 use Rattle.check_modules.proofs.Ends.{body_numbered, none_numbered}
 use Rattle.check_modules.proofs.bodies.number_body.Goals as goal
 

@@ -4,10 +4,10 @@ use Rattle.ob_syntax.specs.Plain.{plain_module}
 use Rattle.ob_judge.specs.Modules.{with_module}
 use Rattle.legal_tables.specs.Promised.{HasLegalTypes}
 use Rattle.table_builder.specs.Growing.{Grows}
-use Rattle.check_steps.specs.Answers.{Answers}
-use Rattle.check_steps.proofs.Answering.{exit}
+use Rattle.check_types.specs.steps.Answers.{Answers}
+use Rattle.check_types.proofs.steps.Answering.{exit}
 use Rattle.check_making.specs.declared.making.Surroundings.{Surroundings}
-use Rattle.checked_modules.specs.Modules.{HasSettledModules, StandsForModules, modules_behind}
+use Rattle.check_modules.specs.programs.Modules.{HasSettledModules, StandsForModules, modules_behind}
 use Rattle.check_modules.proofs.Checked.{lines_here, name_judged, not_new, first_under_way, offers_told, settled_behind, checked, not_ended, not_declared}
 use Rattle.check_modules.proofs.checking.check_module.Goals as goal
 

@@ -1,6 +1,6 @@
 use Rattle.std.proofs.Common.{◌≡◌, sym, subst}
 use Rattle.ob_syntax.specs.Plain.{plain_module}
-use Rattle.check_steps.proofs.Answering.{exit}
+use Rattle.check_types.proofs.steps.Answering.{exit}
 use Rattle.table_builder.specs.Growing.{Grows}
 use Rattle.check_modules.proofs.Declared.{not_imported, imported_under_way, declared_on, legal_if}
 use Rattle.check_modules.proofs.declaring.declared.Goals as goal

@@ -1,8 +1,8 @@
 use Rattle.std.proofs.Common.{sym, ap, subst, ◌∙◌}
 use Rattle.ob_syntax.specs.Plain.{plain_module}
-use Rattle.check_steps.proofs.Answering.{exit}
+use Rattle.check_types.proofs.steps.Answering.{exit}
 use Rattle.check_making.specs.Making.{IsSettled}
-use Rattle.checked_modules.specs.Entities.{AreTold}
+use Rattle.check_modules.specs.programs.Entities.{AreTold}
 use Rattle.check_modules.proofs.WantOfMemory.{no_memory}
 use Rattle.check_modules.proofs.Ends.{not_completed, not_numbered, ends, is_ended, seen_on}
 use Rattle.check_modules.proofs.ending.end_module.Goals as goal

@@ -1,6 +1,6 @@
 use Rattle.std.proofs.Common.{◌≡◌, ℕ, ◌+◌, ◌<◌, [], map, length, arith, sym, subst, ◌∙◌, Some, slice_get, slice_index_or}
 use Rattle.std.proofs.lemmas.List.{length-map}
-use Rattle.check_names.specs.Worlds.{strings_of}
+use Rattle.check_types.specs.names.Worlds.{strings_of}
 use Rattle.check_operands.specs.Operands.{between_quotes, texts_of}
 use Rattle.check_operands.proofs.Known.{past}
 use Rattle.check_operands.proofs.texts.known_text.Goals as goal

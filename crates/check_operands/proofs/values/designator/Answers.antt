@@ -3,8 +3,8 @@ use Rattle.judged_tree.specs.Plain.{text_place}
 use Rattle.judged_tree.specs.TypeShapes.{shape_of_kind}
 use Rattle.ob_judge.specs.Image as I
 use Rattle.judged_tree.specs.Outline.{outlined_shape}
-use Rattle.tree_parts.specs.Lists.{place_image}
-use Rattle.check_names.specs.Worlds.{table_of}
+use Rattle.check_operands.specs.trees.Lists.{place_image}
+use Rattle.check_types.specs.names.Worlds.{table_of}
 use Rattle.check_operands.specs.Operands.{texts_of, bases_of, what_image}
 use Rattle.check_operands.proofs.Forms.{kind_is, place_named, place_chars}
 use Rattle.check_operands.proofs.values.designator.Goals as goal

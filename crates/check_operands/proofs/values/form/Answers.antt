@@ -1,7 +1,7 @@
 use Rattle.std.proofs.Common.{◌≡◌, sym, ap, ◌∙◌}
 use Rattle.ob_judge.specs.Image as I
-use Rattle.tree_parts.specs.Lists.{place_image}
-use Rattle.check_names.specs.Worlds.{table_of}
+use Rattle.check_operands.specs.trees.Lists.{place_image}
+use Rattle.check_types.specs.names.Worlds.{table_of}
 use Rattle.check_operands.specs.Operands.{texts_of, bases_of, what_image}
 use Rattle.check_operands.proofs.Forms.{kind_is, form_named}
 use Rattle.check_operands.proofs.values.form.Goals as goal

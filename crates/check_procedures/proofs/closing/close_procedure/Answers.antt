@@ -1,12 +1,12 @@
 use Rattle.std.proofs.Common.{Ok, Err, sym, ap, subst, ◌∙◌}
-use Rattle.line_numbers.specs.Lines.{IsLineTable}
-use Rattle.procedure_steps.specs.Procedures.{plain_procedure}
-use Rattle.procedure_steps.specs.Steps.{completed}
-use Rattle.check_steps.specs.Answers.{Answers}
-use Rattle.check_steps.proofs.Answering.{exit}
+use Rattle.check_procedures.specs.lines.Lines.{IsLineTable}
+use Rattle.judged_modules.specs.steps.Procedures.{plain_procedure}
+use Rattle.judged_modules.specs.steps.Steps.{completed}
+use Rattle.check_types.specs.steps.Answers.{Answers}
+use Rattle.check_types.proofs.steps.Answering.{exit}
 use Rattle.check_making.specs.Making.{AreNumbered, IsSettled, Makes}
-use Rattle.check_scopes.specs.Building.{StandsFor}
-use Rattle.check_scopes.specs.Scopes.{deeper}
+use Rattle.check_making.specs.scopes.Building.{StandsFor}
+use Rattle.check_making.specs.scopes.Scopes.{deeper}
 use Rattle.check_procedures.proofs.Closed.{closed, not_closed}
 use Rattle.check_procedures.proofs.closing.close_procedure.Goals as goal
 

@@ -1,10 +1,10 @@
 use Rattle.std.proofs.Common.{sym, ap, subst}
 use Rattle.ob_syntax.specs.declared.declarations.Procedure.{out-Procedure}
-use Rattle.text_numbers.specs.Numbering.{NumbersAll}
-use Rattle.procedure_steps.specs.Steps.{completed}
-use Rattle.procedure_steps.proofs.Parts.{procedure_of, procedure_parts}
-use Rattle.check_steps.proofs.Answering.{exit, as_judged}
-use Rattle.check_parameters.proofs.Answering.{no_memory}
+use Rattle.check_procedures.specs.numbers.Numbering.{NumbersAll}
+use Rattle.judged_modules.specs.steps.Steps.{completed}
+use Rattle.judged_modules.proofs.steps.Parts.{procedure_of, procedure_parts}
+use Rattle.check_types.proofs.steps.Answering.{exit, as_judged}
+use Rattle.check_making.proofs.parameters.Answering.{no_memory}
 use Rattle.check_procedures.proofs.Finished.{no_body, no_answer, no_name, is_finished, numbers_all}
 use Rattle.check_procedures.proofs.completing.completed.Goals as goal
 

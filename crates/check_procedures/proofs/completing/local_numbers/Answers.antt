@@ -1,5 +1,5 @@
 use Rattle.std.proofs.Common.{subst}
-use Rattle.check_scopes.specs.Numbers.{AreNumbersOf}
+use Rattle.check_making.specs.scopes.Numbers.{AreNumbersOf}
 use Rattle.check_procedures.proofs.completing.local_numbers.Goals as goal
 
 pub returns-in-Ok-clause-numbers : goal.returns-in-Ok-clause-numbers

@@ -1,6 +1,6 @@
-use Rattle.check_steps.proofs.Answering.{exit}
+use Rattle.check_types.proofs.steps.Answering.{exit}
 use Rattle.ob_syntax.specs.Plain.{plain_option, plain_consts, plain_types, plain_vars}
-use Rattle.check_parameters.proofs.Answering.{refused, no_memory}
+use Rattle.check_making.proofs.parameters.Answering.{refused, no_memory}
 use Rattle.check_procedures.specs.Parts.{first_parts}
 use Rattle.check_procedures.proofs.Giving.{came, given_so}
 use Rattle.check_procedures.proofs.Uprights.{first_parts_upright}

@@ -1,7 +1,7 @@
 use Rattle.std.proofs.Common.{sym, ap}
 use Rattle.ob_syntax.specs.Plain.{plain_option, plain_consts, plain_each, plain_const_decl}
 use Rattle.ob_judge.specs.Declarations.{each, const_part, consts_in}
-use Rattle.check_steps.proofs.Answering.{exit, as_judged}
+use Rattle.check_types.proofs.steps.Answering.{exit, as_judged}
 use Rattle.check_procedures.proofs.first_parts.constant_declarations.Goals as goal
 
 pub returns-in_err-const_decls-in-Some-clause-judged :

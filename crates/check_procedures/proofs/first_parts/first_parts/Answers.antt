@@ -2,10 +2,10 @@ use Rattle.std.proofs.Common.{length, sym, subst}
 use Rattle.table_builder.specs.Growing.{Grows}
 use Rattle.legal_tables.specs.Promised.{HasLegalTypes}
 use Rattle.judged_outlines.proofs.Uprights.{consts_upright, types_upright}
-use Rattle.check_steps.proofs.Answering.{exit, goes_on, stop}
+use Rattle.check_types.proofs.steps.Answering.{exit, goes_on, stop}
 use Rattle.check_making.proofs.Growing.{grows_on}
 use Rattle.check_procedures.proofs.Giving.{came}
-use Rattle.check_parameters.proofs.Stages.{stands_made}
+use Rattle.check_making.proofs.parameters.Stages.{stands_made}
 use Rattle.check_procedures.proofs.first_parts.first_parts.Goals as goal
 
 pub type_declarations-requires : goal.type_declarations-requires

@@ -1,6 +1,6 @@
 use Rattle.std.proofs.Common.{◌<◌, sym, ap, subst, ◌∙◌}
 use Rattle.check_making.specs.Making.{AreNumbered, IsSettled}
-use Rattle.check_scopes.specs.Scopes.{deeper}
+use Rattle.check_making.specs.scopes.Scopes.{deeper}
 use Rattle.check_procedures.proofs.Outers.{settled_waiting, is_entered}
 use Rattle.check_procedures.proofs.opening.enter_procedure.Goals as goal
 

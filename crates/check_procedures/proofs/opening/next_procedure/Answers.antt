@@ -1,8 +1,8 @@
 use Rattle.std.proofs.Common.{[], ◌∷◌, Ok}
 use Rattle.ob_judge.specs.Parameters.{stand}
-use Rattle.check_steps.proofs.Answering.{exit, goes_on, stop}
-use Rattle.procedure_steps.proofs.Frame.{h_stand}
-use Rattle.check_scopes.proofs.Together.{built_at}
+use Rattle.check_types.proofs.steps.Answering.{exit, goes_on, stop}
+use Rattle.judged_modules.proofs.steps.Frame.{h_stand}
+use Rattle.check_making.proofs.scopes.Together.{built_at}
 use Rattle.check_procedures.proofs.opening.next_procedure.Goals as goal
 
 pub returns-in_err-stand-clause-judged : goal.returns-in_err-stand-clause-judged

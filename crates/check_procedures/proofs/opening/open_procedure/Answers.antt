@@ -1,12 +1,12 @@
 use Rattle.std.proofs.Common.{◌<◌, ◌≤◌, length, Vec, Global, sym, subst, ◌∙◌, arith}
 use Rattle.ob_syntax.specs.Plain.{plain_option, plain_formals}
-use Rattle.check_steps.proofs.Answering.{exit, stop}
-use Rattle.check_parameters.proofs.Answering.{no_memory}
+use Rattle.check_types.proofs.steps.Answering.{exit, stop}
+use Rattle.check_making.proofs.parameters.Answering.{no_memory}
 use Rattle.legal_tables.specs.Promised.{HasLegalTypes}
 use Rattle.ob_types.specs.declared.program.Procedure.{Procedure}
 use Rattle.check_making.specs.Making.{strings_of, IsSettled}
 use Rattle.check_making.proofs.Growing.{variables_still}
-use Rattle.check_scopes.specs.Building.{IsLater}
+use Rattle.check_making.specs.scopes.Building.{IsLater}
 use Rattle.check_procedures.proofs.Giving.{came, given_so}
 use Rattle.check_procedures.proofs.Uprights.{opening_upright}
 use Rattle.check_procedures.specs.Parts.{opening}

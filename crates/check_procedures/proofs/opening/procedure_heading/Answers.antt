@@ -1,9 +1,9 @@
 use Rattle.std.proofs.Common.{length}
 use Rattle.ob_syntax.specs.Plain.{plain_option, plain_formals}
 use Rattle.ob_judge.specs.Declarations.{heading}
-use Rattle.check_steps.proofs.Answering.{exit}
-use Rattle.check_parameters.proofs.Answering.{refused, no_memory}
-use Rattle.check_scopes.proofs.Together.{built_on}
+use Rattle.check_types.proofs.steps.Answering.{exit}
+use Rattle.check_making.proofs.parameters.Answering.{refused, no_memory}
+use Rattle.check_making.proofs.scopes.Together.{built_on}
 use Rattle.check_procedures.proofs.Steadiness.{heading_steady}
 use Rattle.check_procedures.proofs.opening.procedure_heading.Goals as goal
 

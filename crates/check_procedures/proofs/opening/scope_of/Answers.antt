@@ -1,5 +1,5 @@
 use Rattle.std.proofs.Common.{sym, subst}
-use Rattle.line_numbers.specs.Lines.{IsLineTable}
+use Rattle.check_procedures.specs.lines.Lines.{IsLineTable}
 use Rattle.check_procedures.specs.UnderWay.{IsUnderWay}
 use Rattle.check_procedures.proofs.opening.scope_of.Goals as goal
 

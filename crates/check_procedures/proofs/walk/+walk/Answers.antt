@@ -3,11 +3,11 @@ use Rattle.ob_syntax.specs.declared.declarations.Decls.{out-Decls}
 use Rattle.ob_syntax.specs.declared.declarations.ProcedureDecl.{out-ProcedureDecl}
 use Rattle.ob_types.specs.declared.program.Procedure.{Procedure}
 use Rattle.ob_judge.specs.Declarations.{procedures_part}
-use Rattle.check_steps.proofs.Answering.{exit}
-use Rattle.procedure_steps.specs.Procedures.{plain_procedure, plain_each_procedure}
-use Rattle.procedure_steps.specs.Steps.{procedure_part}
+use Rattle.check_types.proofs.steps.Answering.{exit}
+use Rattle.judged_modules.specs.steps.Procedures.{plain_procedure, plain_each_procedure}
+use Rattle.judged_modules.specs.steps.Steps.{procedure_part}
 use Rattle.check_making.proofs.Growing.{grows_on}
-use Rattle.check_scopes.specs.Building.{IsLater}
+use Rattle.check_making.specs.scopes.Building.{IsLater}
 use Rattle.legal_tables.specs.Promised.{HasLegalTypes}
 use Rattle.check_making.specs.Making.{IsSettled}
 use Rattle.check_procedures.specs.UnderWay.{BuildsUpright}

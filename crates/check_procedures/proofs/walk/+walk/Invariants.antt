@@ -4,9 +4,9 @@ use Rattle.ob_judge.specs.Making.{Making}
 use Rattle.ob_judge.specs.Modules.{SoFar}
 use Rattle.ob_judge.specs.Declarations.{procedures_part}
 use Rattle.judged_outlines.specs.Upright.{Upright}
-use Rattle.procedure_steps.specs.Procedures.{plain_each_procedure}
+use Rattle.judged_modules.specs.steps.Procedures.{plain_each_procedure}
 use Rattle.check_making.specs.Making.{IsSettled}
-use Rattle.check_scopes.specs.Building.{IsLater, Represents}
+use Rattle.check_making.specs.scopes.Building.{IsLater, Represents}
 use Rattle.check_procedures.specs.UnderWay.{IsUnderWay}
 use Rattle.check_procedures.proofs.Rounds.{StandsAt}
 use Rattle.check_procedures.proofs.walk.+walk.Given as goal

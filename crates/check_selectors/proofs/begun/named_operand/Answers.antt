@@ -1,6 +1,6 @@
-use Rattle.check_steps.proofs.Answering.{goes_on, stop, exit, as_judged}
+use Rattle.check_types.proofs.steps.Answering.{goes_on, stop, exit, as_judged}
 use Rattle.ob_judge.specs.Judged.{Keeps}
-use Rattle.check_calls.proofs.Binding.{kept_on}
+use Rattle.check_operands.proofs.calls.Binding.{kept_on}
 use Rattle.check_selectors.proofs.begun.named_operand.Goals as goal
 
 pub returns : goal.returns

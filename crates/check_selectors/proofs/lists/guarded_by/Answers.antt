@@ -1,8 +1,8 @@
 use Rattle.std.proofs.Common.{sym, ap}
 use Rattle.ob_judge.specs.Scopes.{place}
 use Rattle.ob_judge.specs.Parts.{guarded}
-use Rattle.check_names.specs.Worlds.{world_of}
-use Rattle.check_steps.proofs.Answering.{goes_on, stop, exit, as_judged}
+use Rattle.check_types.specs.names.Worlds.{world_of}
+use Rattle.check_types.proofs.steps.Answering.{goes_on, stop, exit, as_judged}
 use Rattle.check_selectors.proofs.lists.guarded_by.Goals as goal
 
 pub returns-in_err-part : goal.returns-in_err-part

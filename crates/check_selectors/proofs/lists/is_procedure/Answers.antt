@@ -1,6 +1,6 @@
 use Rattle.std.proofs.Common.{◌≡◌, sym, ap, ◌∙◌, subst}
 use Rattle.ob_judge.specs.Parts.{is_procedure}
-use Rattle.check_names.specs.Worlds.{table_of, world_of}
+use Rattle.check_types.specs.names.Worlds.{table_of, world_of}
 use Rattle.check_selectors.specs.Stages.{IsBegun}
 use Rattle.check_selectors.specs.declared.begun.Begun.{Begun}
 use Rattle.check_selectors.proofs.lists.is_procedure.Goals as goal

@@ -1,4 +1,4 @@
-use Rattle.check_steps.proofs.Answering.{goes_on, stop, exit, as_judged}
+use Rattle.check_types.proofs.steps.Answering.{goes_on, stop, exit, as_judged}
 use Rattle.check_selectors.proofs.lists.standard_last.Goals as goal
 
 pub returns-in_err-x : goal.returns-in_err-x

@@ -1,4 +1,4 @@
-use Rattle.check_steps.proofs.Answering.{goes_on, stop, exit, as_judged}
+use Rattle.check_types.proofs.steps.Answering.{goes_on, stop, exit, as_judged}
 use Rattle.check_selectors.proofs.selectors.field_at.Goals as goal
 
 pub returns-in_err-part : goal.returns-in_err-part

@@ -1,10 +1,10 @@
 use Rattle.std.proofs.Common.{List, [], sym, subst}
-use Rattle.check_steps.proofs.Answering.{goes_on, stop, exit, as_judged}
+use Rattle.check_types.proofs.steps.Answering.{goes_on, stop, exit, as_judged}
 use Rattle.ob_judge.specs.Scopes.{place}
-use Rattle.check_calls.specs.declared.arguments.Given.{Given}
-use Rattle.check_calls.specs.Given.{AreGiven}
-use Rattle.check_names.specs.Meaning.{standard_of}
-use Rattle.check_names.specs.Worlds.{world_of}
+use Rattle.check_operands.specs.declared.calls.arguments.Given.{Given}
+use Rattle.check_operands.specs.calls.Given.{AreGiven}
+use Rattle.check_types.specs.names.Meaning.{standard_of}
+use Rattle.check_types.specs.names.Worlds.{world_of}
 use Rattle.check_selectors.proofs.Selecting.{empty_standard_is, empty_is}
 use Rattle.check_selectors.proofs.selectors.select_empty_parens.Goals as goal
 

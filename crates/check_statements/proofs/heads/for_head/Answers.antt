@@ -2,10 +2,10 @@ use Rattle.std.proofs.Common.{sym, ap, ◌∙◌}
 use Rattle.ob_judge.specs.Assignments.{integer_variable}
 use Rattle.judged_tree.specs.Outline.{outlined_designator}
 use Rattle.std.specs.Prelude.{option_map}
-use Rattle.check_steps.proofs.Answering.{goes_on, stop, exit, there}
-use Rattle.check_names.specs.Worlds.{world_of}
+use Rattle.check_types.proofs.steps.Answering.{goes_on, stop, exit, there}
+use Rattle.check_types.specs.names.Worlds.{world_of}
 use Rattle.check_operands.specs.Operands.{bases_of}
-use Rattle.check_assignments.proofs.Assigning.{missing_so}
+use Rattle.check_statements.proofs.assignments.Assigning.{missing_so}
 use Rattle.check_statements.proofs.Joining.{no_image, an_image}
 use Rattle.check_statements.proofs.heads.for_head.Goals as goal
 

@@ -2,7 +2,7 @@ use Rattle.std.proofs.Common.{sym, ap, ap₂, ◌∙◌, subst}
 use Rattle.ob_judge.specs.Image as I
 use Rattle.ob_judge.specs.Cases.{case_of}
 use Rattle.judged_tree.specs.Outline.{outlined_statement}
-use Rattle.check_names.specs.Worlds.{table_of}
+use Rattle.check_types.specs.names.Worlds.{table_of}
 use Rattle.check_operands.specs.Operands.{texts_of, bases_of}
 use Rattle.check_statements.specs.Standing.{AreParts}
 use Rattle.check_statements.proofs.Filling.{on_values}

@@ -3,8 +3,8 @@ use Rattle.ob_judge.specs.Image as I
 use Rattle.ob_judge.specs.Cases.{case_of}
 use Rattle.judged_tree.specs.Outline.{outlined_statement}
 use Rattle.check_types.specs.TypeMeaning.{type_shape}
-use Rattle.check_names.specs.Meaning.{place_of}
-use Rattle.check_names.specs.Worlds.{table_of}
+use Rattle.check_types.specs.names.Meaning.{place_of}
+use Rattle.check_types.specs.names.Worlds.{table_of}
 use Rattle.check_operands.specs.Operands.{texts_of, bases_of}
 use Rattle.check_statements.proofs.Filling.{on_pointer, on_parameter}
 use Rattle.check_statements.proofs.parts.on_types.Goals as goal

@@ -10,8 +10,8 @@ use Rattle.ob_syntax.specs.declared.statements.NextCase.{NextCase, out-NextCase}
 use Rattle.ob_syntax.specs.declared.statements.AssignOrCall.{AssignOrCall}
 use Rattle.ob_syntax.specs.declared.statements.CaseStat.{out-CaseStat}
 use Rattle.ob_syntax.specs.declared.statements.CasePart.{out-CasePart}
-use Rattle.statement_syntax.specs.Lists.{plain_maybe_else, plain_maybe_case}
-use Rattle.statement_syntax.proofs.Parts.{else_parts, case_parts, case_part_parts}
+use Rattle.check_statements.specs.syntax.Lists.{plain_maybe_else, plain_maybe_case}
+use Rattle.check_statements.proofs.syntax.Parts.{else_parts, case_parts, case_part_parts}
 use Rattle.ob_judge.specs.Judged.{Keeps, ◌>>=◌}
 use Rattle.ob_judge.specs.Image as I
 use Rattle.ob_judge.specs.Scopes.{place}
@@ -19,16 +19,16 @@ use Rattle.ob_judge.specs.Symbols.{bare}
 use Rattle.ob_judge.specs.Assignments.{assign_or_call}
 use Rattle.ob_judge.specs.Cases.{as_list, ranges, type_labels, tag_of, case_variable, named_alone, selector_of}
 use Rattle.ob_judge.specs.Statements.{statement, else_part}
-use Rattle.statement_steps.specs.Steps.{if_of, while_of, repeat_of, for_of, case_stat_of, put_one, put_more, branch_one, branches_more, branches_more_do, part_one, part_more, filled}
-use Rattle.statement_steps.proofs.Laws.{put_law, statements_is, elsif_law, elsif_do_law, if_is, while_is, repeat_is, for_is, case_is, part_law, value_filled_is, type_filled_is}
-use Rattle.check_steps.proofs.Answering.{goes_on, stop, exit, as_judged, there}
-use Rattle.check_steps.specs.declared.fault.CheckFault.TheVariants.{Fault}
+use Rattle.check_statements.specs.steps.Steps.{if_of, while_of, repeat_of, for_of, case_stat_of, put_one, put_more, branch_one, branches_more, branches_more_do, part_one, part_more, filled}
+use Rattle.check_statements.proofs.steps.Laws.{put_law, statements_is, elsif_law, elsif_do_law, if_is, while_is, repeat_is, for_is, case_is, part_law, value_filled_is, type_filled_is}
+use Rattle.check_types.proofs.steps.Answering.{goes_on, stop, exit, as_judged, there}
+use Rattle.check_types.specs.declared.steps.fault.CheckFault.TheVariants.{Fault}
 use Rattle.check_types.specs.TypeMeaning.{type_shape}
-use Rattle.check_names.specs.Meaning.{place_of, narrowings_before}
-use Rattle.check_names.specs.Worlds.{table_of, strings_of, world_of}
+use Rattle.check_types.specs.names.Meaning.{place_of, narrowings_before}
+use Rattle.check_types.specs.names.Worlds.{table_of, strings_of, world_of}
 use Rattle.check_operands.specs.Operands.{texts_of}
-use Rattle.check_cases.specs.Selecting.{selecting_meant}
-use Rattle.check_assignments.proofs.Assigning.{missing_so}
+use Rattle.check_statements.specs.cases.Selecting.{selecting_meant}
+use Rattle.check_statements.proofs.assignments.Assigning.{missing_so}
 use Rattle.check_expressions.proofs.Walking.{walk_on, walk_stops, walk_ends}
 use Rattle.check_statements.specs.Standing.{ArePut, ArePutBranches, SoFar, ArePutParts}
 use Rattle.check_statements.proofs.Joining.{none_put, one_put, all_put, made_put, no_branch_put, branch_put, for_made}

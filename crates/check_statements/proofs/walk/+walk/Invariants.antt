@@ -1,8 +1,8 @@
 use Rattle.std.proofs.Common.{drop}
 use Rattle.ob_judge.specs.Image.{Statements, Branches}
 use Rattle.ob_judge.specs.Cases.{SelectorOf}
-use Rattle.statement_steps.specs.Steps.{put_more, branches_more, branches_more_do, part_more}
-use Rattle.check_names.specs.Worlds.{world_of}
+use Rattle.check_statements.specs.steps.Steps.{put_more, branches_more, branches_more_do, part_more}
+use Rattle.check_types.specs.names.Worlds.{world_of}
 use Rattle.check_expressions.proofs.Walking.{Walking}
 use Rattle.check_statements.specs.Standing.{ArePut, ArePutBranches, SoFar, ArePutParts}
 use Rattle.check_statements.proofs.walk.+walk.Given as goal

@@ -1,4 +1,4 @@
-use Rattle.check_steps.proofs.Maps.{at_bytes_after}
+use Rattle.check_types.proofs.steps.Maps.{at_bytes_after}
 use Rattle.table_builder.proofs.numbers.forget.Goals as goal
 
 pub returns : goal.returns

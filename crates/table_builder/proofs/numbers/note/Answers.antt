@@ -1,7 +1,7 @@
 use Rattle.std.proofs.Common.{ap, ◌∙◌, cond, Some}
 use Rattle.std.specs.Str.{bytes_eq}
-use Rattle.check_steps.specs.Maps.{at_bytes}
-use Rattle.check_steps.proofs.Maps.{at_bytes_after}
+use Rattle.check_types.specs.steps.Maps.{at_bytes}
+use Rattle.check_types.proofs.steps.Maps.{at_bytes_after}
 use Rattle.table_builder.proofs.numbers.note.Goals as goal
 
 pub returns-clause-ok : goal.returns-clause-ok

@@ -1,8 +1,8 @@
 use Rattle.std.proofs.Common.{ap, sym, ◌∙◌, cond, Some}
 use Rattle.std.specs.Str.{bytes_eq}
 use Rattle.std.specs.Prelude.{is_some}
-use Rattle.check_steps.specs.Maps.{at_bytes}
-use Rattle.check_steps.proofs.Maps.{at_bytes_after}
+use Rattle.check_types.specs.steps.Maps.{at_bytes}
+use Rattle.check_types.proofs.steps.Maps.{at_bytes_after}
 use Rattle.check_making.proofs.OneName.{stand_refused, stand_settled, stand_made}
 use Rattle.check_making.proofs.making.Declaring.stand.Goals as goal
 

@@ -1,7 +1,7 @@
 use Rattle.std.proofs.Common.{subst}
 use Rattle.ob_judge.specs.Names.{type_named}
-use Rattle.check_steps.specs.Answers.{Answers}
-use Rattle.check_names.specs.Worlds.{world_of, IsOfType}
+use Rattle.check_types.specs.steps.Answers.{Answers}
+use Rattle.check_types.specs.names.Worlds.{world_of, IsOfType}
 use Rattle.check_making.proofs.Places.{type_answers}
 use Rattle.check_making.proofs.making.Declaring.type_at.Goals as goal
 

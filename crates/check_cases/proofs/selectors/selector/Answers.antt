@@ -1,8 +1,0 @@
-use Rattle.std.proofs.Common.{ap, ◌∙◌}
-use Rattle.ob_judge.specs.Cases.{selector_of}
-use Rattle.check_names.specs.Worlds.{table_of}
-use Rattle.check_types.specs.TypeMeaning.{type_shape}
-use Rattle.check_cases.proofs.selectors.selector.Goals as goal
-
-pub returns-in-None : goal.returns-in-None
-returns-in-None c = c.on_values.ensures (table_of c.args.scope.now) c.args.scope.now.source.now ∙ ap (λ o. selector_of c.args.scope.now.source.now o (type_shape (table_of c.args.scope.now) c.args.of)) c.in-None.ensures

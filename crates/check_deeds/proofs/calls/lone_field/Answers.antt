@@ -1,5 +1,0 @@
-use Rattle.check_deeds.proofs.Deeds.{many_behind}
-use Rattle.check_deeds.proofs.calls.lone_field.Goals as goal
-
-pub returns-in_default-2 : goal.returns-in_default-2
-returns-in_default-2 c = many_behind c.args.selectors.now c.in_default.len_at_least

@@ -1,0 +1,94 @@
+use Rattle.std.proofs.lemmas.Int.{to_z-of_z}
+use Rattle.std.proofs.Common.{to_z, of_z, w64, ◌≡◌, ◌<◌, ◌≤◌, length, Vec, Global, sym, ap, arith, rules}
+use Rattle.ob_types.specs.declared.statements.Branch.{Branch}
+use Rattle.ob_types.specs.declared.statements.CasePart.{CasePart}
+use Rattle.ob_types.specs.declared.statements.TypePart.{TypePart}
+use Rattle.ob_types.specs.declared.statements.Stmt.{Stmt}
+use Rattle.ob_types.specs.declared.statements.Stmt.TheVariants as TheStmt
+use Rattle.ob_types.specs.declared.statements.Stmt as Z
+use Rattle.check_procedures.specs.numbers.Numbering.{numbering_of}
+use Rattle.check_procedures.specs.numbers.Readings.{each, designators, checked, statements, bodies, branches, case_parts, type_parts}
+use Rattle.check_procedures.proofs.numbers.Keeping.{at, next_turn, all_items, made_so}
+use Rattle.check_procedures.proofs.numbers.StatementParts.{body, if_holds, while_holds, repeat_until, for_each, case_value, case_pointer, case_parameter}
+use Rattle.check_procedures.proofs.numbers.statements.+statements.Goals as goal
+
+pub renumber_compound-returns-in_ok-renumber_statements-in-If : goal.renumber_compound-returns-in_ok-renumber_statements-in-If
+renumber_compound-returns-in_ok-renumber_statements-in-If t c = λ _.
+    at (numbering_of c.args.scope.now) statements _ _ _ _ _ c.in-If.is (if_holds (numbering_of c.args.scope.now) c.in-If.list c.renumber_branches.new.list c.in-If.otherwise c.renumber_statements.new.list _ _ _
+    (at (numbering_of c.args.scope.now) (each branches) _ _ _ _ _ (sym (ap (λ (v : Vec Branch Global). v.items) c.in-If.list-is)) c.in_ok-renumber_branches-in-If.ensures)
+    (at (numbering_of c.args.scope.now) bodies _ _ _ _ _ (sym (ap (λ (v : Vec Stmt Global). v.items) c.in-If.otherwise-is)) c.in_ok-renumber_statements-in-If.ensures))
+
+pub renumber_compound-returns-in_ok-renumber_branches-in-While : goal.renumber_compound-returns-in_ok-renumber_branches-in-While
+unfolding Z.out-Stmt denote.Hole.Carrier.out
+renumber_compound-returns-in_ok-renumber_branches-in-While t c = λ _.
+    let made = TheStmt.While c.renumber_branches-in-While.new.list in
+    made_so (numbering_of c.args.scope.now) statements c.args.statement.now _ made c.args.uses.now c.renumber_branches-in-While.new.uses
+    (at (numbering_of c.args.scope.now) statements c.args.statement.now (TheStmt.While c.in-While.list) made c.args.uses.now c.renumber_branches-in-While.new.uses c.in-While.is
+    (while_holds (numbering_of c.args.scope.now) c.in-While.list c.renumber_branches-in-While.new.list _ _
+    (at (numbering_of c.args.scope.now) (each branches) c.in-While.list.items _ _ _ _ (search rules) c.in_ok-renumber_branches-in-While.ensures)))
+    (rw c.in-While.is)
+
+pub renumber_compound-returns-in_ok-renumber_checked-in-Repeat : goal.renumber_compound-returns-in_ok-renumber_checked-in-Repeat
+renumber_compound-returns-in_ok-renumber_checked-in-Repeat t c = λ _.
+    at (numbering_of c.args.scope.now) statements _ _ _ _ _ c.in-Repeat.is (repeat_until (numbering_of c.args.scope.now) c.in-Repeat.body c.renumber_statements-in-Repeat.new.list c.in-Repeat.x c.renumber_checked.new.x _ _ _
+    (at (numbering_of c.args.scope.now) bodies _ _ _ _ _ (sym (ap (λ (v : Vec Stmt Global). v.items) c.in-Repeat.body-is)) c.in_ok-renumber_statements-in-Repeat.ensures)
+    (at (numbering_of c.args.scope.now) checked _ _ _ _ _ (sym c.in-Repeat.x-is) c.in_ok-renumber_checked-in-Repeat.ensures))
+
+pub renumber_compound-returns-in_ok-renumber_case_parts-in-Case : goal.renumber_compound-returns-in_ok-renumber_case_parts-in-Case
+renumber_compound-returns-in_ok-renumber_case_parts-in-Case t c = λ _.
+    at (numbering_of c.args.scope.now) statements _ _ _ _ _ c.in-Case.is (case_value (numbering_of c.args.scope.now) c.in-Case.x c.renumber_checked-in-Case.new.x c.in-Case.list c.renumber_case_parts.new.list _ _ _
+    (at (numbering_of c.args.scope.now) checked _ _ _ _ _ (sym c.in-Case.x-is) c.in_ok-renumber_checked-in-Case.ensures)
+    (at (numbering_of c.args.scope.now) (each case_parts) _ _ _ _ _ (sym (ap (λ (v : Vec CasePart Global). v.items) c.in-Case.list-is)) c.in_ok-renumber_case_parts-in-Case.ensures))
+
+pub renumber_compound-returns-in_ok-renumber_type_parts-in-CasePointer : goal.renumber_compound-returns-in_ok-renumber_type_parts-in-CasePointer
+renumber_compound-returns-in_ok-renumber_type_parts-in-CasePointer t c = λ _.
+    at (numbering_of c.args.scope.now) statements _ _ _ _ _ c.in-CasePointer.is (case_pointer (numbering_of c.args.scope.now) c.in-CasePointer.x c.renumber_checked-in-CasePointer.new.x c.in-CasePointer.list c.renumber_type_parts.new.list _ _ _
+    (at (numbering_of c.args.scope.now) checked _ _ _ _ _ (sym c.in-CasePointer.x-is) c.in_ok-renumber_checked-in-CasePointer.ensures)
+    (at (numbering_of c.args.scope.now) (each type_parts) _ _ _ _ _ (sym (ap (λ (v : Vec TypePart Global). v.items) c.in-CasePointer.list-is)) c.in_ok-renumber_type_parts-in-CasePointer.ensures))
+
+pub renumber_compound-returns-in_ok-renumber_type_parts-in-CaseParameter : goal.renumber_compound-returns-in_ok-renumber_type_parts-in-CaseParameter
+renumber_compound-returns-in_ok-renumber_type_parts-in-CaseParameter t c = λ _.
+    at (numbering_of c.args.scope.now) statements _ _ _ _ _ c.in-CaseParameter.is (case_parameter (numbering_of c.args.scope.now) c.in-CaseParameter.d c.renumber_designator.new.d c.in-CaseParameter.list c.renumber_type_parts-in-CaseParameter.new.list _ _ _
+    (at (numbering_of c.args.scope.now) designators _ _ _ _ _ (sym c.in-CaseParameter.d-is) c.in_ok-renumber_designator-in-CaseParameter.ensures)
+    (at (numbering_of c.args.scope.now) (each type_parts) _ _ _ _ _ (sym (ap (λ (v : Vec TypePart Global). v.items) c.in-CaseParameter.list-is)) c.in_ok-renumber_type_parts-in-CaseParameter.ensures))
+
+pub renumber_statements-loop-i-preserved : goal.renumber_statements-loop-i-preserved
+renumber_statements-loop-i-preserved t c =
+    let long = c.loop-i.invariant.0.0 in
+    let inside : c.loop-i.i < length c.args.list.now.items = omega (arith, long, c.args.list.now.ok.0) in
+    next_turn (numbering_of c.args.scope.now) statements c.args.list.now.items c.loop-i.list.items c.loop-i.i c.index_mut.result.now c.renumber_statement.new.statement c.args.uses.now c.loop-i.uses c.renumber_statement.new.uses
+    long c.loop-i.invariant.0.1 inside c.index_mut.ensures.value c.loop-i.invariant.1 c.in_ok-renumber_statement.ensures
+
+pub renumber_branches-loop-i-preserved : goal.renumber_branches-loop-i-preserved
+renumber_branches-loop-i-preserved t c =
+    let long = c.loop-i.invariant.0.0 in
+    let inside : c.loop-i.i < length c.args.list.now.items = omega (arith, long, c.args.list.now.ok.0) in
+    next_turn (numbering_of c.args.scope.now) branches c.args.list.now.items c.loop-i.list.items c.loop-i.i c.index_mut.result.now c.renumber_branch.new.branch c.args.uses.now c.loop-i.uses c.renumber_branch.new.uses
+    long c.loop-i.invariant.0.1 inside c.index_mut.ensures.value c.loop-i.invariant.1 c.in_ok-renumber_branch.ensures
+
+pub renumber_case_parts-loop-i-preserved : goal.renumber_case_parts-loop-i-preserved
+renumber_case_parts-loop-i-preserved t c =
+    let long = c.loop-i.invariant.0.0 in
+    let inside : c.loop-i.i < length c.args.list.now.items = omega (arith, long, c.args.list.now.ok.0) in
+    next_turn (numbering_of c.args.scope.now) case_parts c.args.list.now.items c.loop-i.list.items c.loop-i.i c.index_mut.result.now c.renumber_case_part.new.part c.args.uses.now c.loop-i.uses c.renumber_case_part.new.uses
+    long c.loop-i.invariant.0.1 inside c.index_mut.ensures.value c.loop-i.invariant.1 c.in_ok-renumber_case_part.ensures
+
+pub renumber_type_parts-loop-i-preserved : goal.renumber_type_parts-loop-i-preserved
+renumber_type_parts-loop-i-preserved t c =
+    let long = c.loop-i.invariant.0.0 in
+    let inside : c.loop-i.i < length c.args.list.now.items = omega (arith, long, c.args.list.now.ok.0) in
+    next_turn (numbering_of c.args.scope.now) type_parts c.args.list.now.items c.loop-i.list.items c.loop-i.i c.index_mut.result.now c.renumber_type_part.new.part c.args.uses.now c.loop-i.uses c.renumber_type_part.new.uses
+    long c.loop-i.invariant.0.1 inside c.index_mut.ensures.value c.loop-i.invariant.1 c.in_ok-renumber_type_part.ensures
+
+pub renumber_statements-returns : goal.renumber_statements-returns
+renumber_statements-returns t c =
+    let long = c.loop-i.invariant.0.0 in
+    let done : length c.args.list.now.items ≤ c.loop-i.i = omega (arith, long, c.args.list.now.ok.0) in
+    body (numbering_of c.args.scope.now) _ _ _ _ (all_items (numbering_of c.args.scope.now) statements c.args.list.now.items c.loop-i.list.items c.loop-i.i _ _ done (omega (arith, long, done)) c.loop-i.invariant.1)
+
+pub renumbered_for-returns-in_ok-renumber_statements-in-For : goal.renumbered_for-returns-in_ok-renumber_statements-in-For
+renumbered_for-returns-in_ok-renumber_statements-in-For t c = λ _.
+    let same : to_z w64 (of_z w64 c.in-For.step) ≡ c.in-For.step = search (rules, to_z-of_z) in
+    at (numbering_of c.args.scope.now) statements _ _ _ _ _ c.in-For.is
+    (for_each (numbering_of c.args.scope.now) c.in-For.variable c.renumber_head.new.variable c.in-For.first c.renumber_head.new.first c.in-For.limit c.renumber_head.new.limit c.in-For.step _ c.in-For.body c.renumber_statements.new.list _ _ _ _ same
+    c.for_statement.ensures c.in_ok-renumber_head-in-For.ensures c.in_ok-renumber_statements-in-For.ensures)

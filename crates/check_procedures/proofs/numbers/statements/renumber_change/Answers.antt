@@ -1,0 +1,7 @@
+use Rattle.check_procedures.specs.numbers.Numbering.{numbering_of}
+use Rattle.check_procedures.specs.numbers.Readings.{designators, checked}
+use Rattle.check_procedures.proofs.numbers.Keeping.{beside}
+use Rattle.check_procedures.proofs.numbers.statements.renumber_change.Goals as goal
+
+pub returns : goal.returns
+returns c = beside (numbering_of c.args.scope.now) designators checked _ _ _ _ _ _ _ c.in_ok-renumber_designator.ensures c.in_ok-renumber_checked.ensures

@@ -1,0 +1,22 @@
+use Rattle.std.proofs.Common.{◌≡◌, true, false, not, refl, sym, ap, ap₂, ◌∙◌}
+use Rattle.ob_judge.specs.Judged.{Judged, Keeps, ◌>>=◌, ◌>>◌, rule, some}
+use Rattle.ob_judge.specs.Shapes.{Integer, Boolean, Char, Set, is_number, is_truth, is_set, element_of, target_of}
+use Rattle.ob_judge.specs.Image as I
+use Rattle.ob_judge.specs.Operands.{checked, form, designator_of}
+use Rattle.ob_judge.specs.Calls as J
+use Rattle.judged_tree.specs.Plain.{plain_expr, plain_designator, plain_checked}
+use Rattle.check_types.proofs.steps.Answering.{goes_on, stop, exit, kept, there, as_judged}
+use Rattle.check_types.specs.TypeMeaning.{type_shape}
+use Rattle.check_types.specs.names.Worlds.{table_of, world_of}
+use Rattle.check_operands.specs.Operands.{texts_of, bases_of}
+use Rattle.check_selectors.specs.standard.Made.{changed_by}
+use Rattle.check_selectors.proofs.standard.Kept.{kept_so, number_is, some_mapped, both_true}
+use Rattle.ob_types.specs.declared.tree.Unary.TheVariants as TheUnary
+use Rattle.ob_types.specs.declared.tree.Binary.TheVariants as TheBinary
+use Rattle.check_selectors.proofs.standard.functions.odd.Goals as goal
+
+pub returns-in_ok-tree : goal.returns-in_ok-tree
+returns-in_ok-tree c = λ a h.
+    let s = c.args.scope.now in
+    as_judged (ap (λ m. m >>= λ e. J.function (world_of s) Boolean (I.Apply TheUnary.Odd e.form)) (number_is (world_of s) a (ap is_number (sym h.operand.shape) ∙ c.is_number.ensures (table_of s) ∙ c.if-is_number.true)))
+    (record { by = c.function.ensures s Boolean (I.Apply TheUnary.Odd (form a.operand)) refl (c.in_ok-tree.ensures (table_of s) (texts_of s) ∙ ap (I.Apply TheUnary.Odd) (c.form.ensures a.operand h.operand)) })

@@ -1,5 +1,0 @@
-use Rattle.std.proofs.Common.{arith}
-use Rattle.check_type_parts.proofs.forward.declared_record.Goals as goal
-
-pub last_declared-requires : goal.last_declared-requires
-last_declared-requires c = let l = c.requires.open_scope in omega (arith, l)

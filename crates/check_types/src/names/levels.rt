@@ -1,0 +1,65 @@
+//! The names of one scope.
+
+ghost use Rattle.std.specs.Prelude.{◌≡◌, ℕ, List, option_map, OnOk};
+ghost use Rattle.ob_types.specs.Table.{Table};
+ghost use Rattle.ob_judge.specs.Scopes.{declare, no_names};
+ghost use Rattle.check_types.specs.names.Meaning.{entry_of, names_of};
+
+use crate::names::scope::Declared;
+use std::alloc::{AllocError, Global};
+use std::collections::BTreeMap;
+
+/// The names of one scope, by their bytes.
+#[derive(Drop)]
+pub struct Level {
+    pub names: BTreeMap<Vec<u8>, Declared>,
+}
+
+impl Level {
+    /// What a name stands for in this scope.
+    pub fn find(&self, name: &[u8]) -> Option<Declared>
+        ensures { (t : Table) (strings : List (List ℕ)) → option_map (entry_of t strings) result ≡ names_of t strings self.now name.now }
+    {
+        self.names.get(name).copied()
+    }
+
+    /// Declares a name.
+    pub fn declare(
+        &mut self,
+        alloc: Global,
+        name: &[u8],
+        declared: Declared,
+    ) -> Result<(), AllocError>
+        ensures { OnOk result ((t : Table) (strings : List (List ℕ)) → names_of t strings self.new ≡ declare name.now (entry_of t strings declared) (names_of t strings self.old)) }
+    {
+        let key = Vec::from_slice(alloc, name)?;
+        self.names.insert(key, declared)?;
+        Ok(())
+    }
+}
+
+#[cfg(test)]
+mod tests {
+    use super::*;
+    use crate::names::scope::{Named, Standard};
+    use std::test::Fail;
+
+    #[test]
+    fn keeps_ten_thousand_names(rt: HostRuntime) -> Result<(), Fail> {
+        let mut level = Level {
+            names: BTreeMap::new(rt.alloc()),
+        };
+        let entry = Declared {
+            named: Named::Standard(Standard::Abs),
+            exported: true,
+        };
+        for high in 0..100 {
+            for low in 0..100 {
+                level.declare(rt.alloc(), &[high, low], entry)?;
+            }
+        }
+        assert!(rt; level.find(&[99, 99]).is_some());
+        assert!(rt; level.find(&[99, 100]).is_none());
+        Ok(())
+    }
+}

@@ -1,0 +1,210 @@
+//! Names judged.
+
+ghost use Rattle.std.specs.Prelude.{◌≡◌, ℕ, List, Some, map, option_map, slice_get};
+ghost use Rattle.ob_types.specs.Table.{Table};
+ghost use Rattle.ob_judge.specs.Scopes.{World, Source as SourceOf, or_else, is_visible as visible, spelled, place};
+ghost use Rattle.ob_judge.specs.Scopes.{look_up as looked_up};
+ghost use Rattle.ob_judge.specs.Modules.{offered};
+ghost use Rattle.ob_judge.specs.Names.{named as judged_name, member as judged_member, member_of_object as judged_member_of, qualified as judged_qualident, type_of_object, type_named as judged_type, names_of as names_in_module, is_place as same_place, narrowing_of as narrowing_at};
+ghost use Rattle.check_types.specs.TypeMeaning.{type_shape};
+ghost use Rattle.check_types.specs.steps.Answers.{Answers};
+ghost use Rattle.check_types.specs.names.Meaning.{entry_of, names_of, object_of, imported_of, place_of, narrowing_of, narrowings_before};
+ghost use Rattle.check_types.specs.names.Worlds.{table_of, strings_of, world_of, IsNamed, IsOfType};
+
+use crate::TypeRef;
+use crate::names::levels::Level;
+use crate::names::predeclared::{name_of_in, name_of_out, predeclared};
+use crate::names::scope::{
+    Declared, Imported, KnownModule, Named, Narrowing, Scope, VariablePlace,
+};
+use crate::steps::CheckFault;
+
+// The first of two.
+fn newer(a: Option<Declared>, b: Option<Declared>) -> Option<Declared>
+    ensures { (t : Table) (strings : List (List ℕ)) → option_map (entry_of t strings) result ≡ or_else (option_map (entry_of t strings) a) (option_map (entry_of t strings) b) }
+{
+    match a {
+        Some(a) => Some(a),
+        None => b,
+    }
+}
+
+/// What a name stands for in open scopes, the innermost of which is the last.
+pub fn look_up(levels: &[Level], name: &[u8]) -> Option<Declared>
+    ensures { (t : Table) (strings : List (List ℕ)) → option_map (entry_of t strings) result ≡ looked_up name.now (map (names_of t strings) levels.now) }
+{
+    let mut found = None;
+    for level in levels {
+        found = newer(level.find(name), found);
+    }
+    found
+}
+
+// A declaration as other modules see it: not an import.
+fn offer(found: Option<Declared>) -> Option<Declared>
+    ensures { (t : Table) (strings : List (List ℕ)) → option_map (entry_of t strings) result ≡ offered (option_map (entry_of t strings) found) }
+{
+    match found {
+        None => None,
+        Some(declared) => match declared.named {
+            Named::Module(_) => None,
+            _ => Some(declared),
+        },
+    }
+}
+
+// Whether two places are the same variable's.
+fn is_place(a: VariablePlace, b: VariablePlace) -> bool
+    ensures { (p : SourceOf) (w : World) → same_place p w (place_of a) (place_of b) ≡ result }
+{
+    match (a, b) {
+        (
+            VariablePlace::Global {
+                module: m,
+                variable: v,
+            },
+            VariablePlace::Global {
+                module: n,
+                variable: u,
+            },
+        ) => m == n && v == u,
+        (VariablePlace::Local(v), VariablePlace::Local(u)) => v == u,
+        (VariablePlace::Parameter(v), VariablePlace::Parameter(u)) => v == u,
+        _ => false,
+    }
+}
+
+impl<'a> Scope<'a> {
+    /// What a name stands for here, before it is judged.
+    pub fn look_up(&self, name: &[u8]) -> Option<Declared>
+        ensures { option_map (entry_of (table_of self.now) (strings_of self.now)) result ≡ looked_up name.now (world_of self.now).levels }
+    {
+        newer(look_up(self.levels, name), predeclared(name))
+    }
+
+    // Whether a variable is seen here.
+    fn is_visible(&self, named: &Named) -> bool
+        ensures { visible self.now.procedure (object_of (table_of self.now) (strings_of self.now) named.now) ≡ result }
+    {
+        match named {
+            Named::Variable(variable) => match (variable.procedure, self.procedure) {
+                (None, _) => true,
+                (Some(_), None) => false,
+                (Some(owner), Some(here)) => owner == here,
+            },
+            _ => true,
+        }
+    }
+
+    /// What a name stands for here.
+    pub fn named(&self, i: u32) -> Result<Named, CheckFault>
+        ensures { Answers (IsNamed self.now) (judged_name self.now.source.now (world_of self.now) i) result }
+    {
+        match self.look_up(self.source.spelled(i)) {
+            None => Err(self.source.fault(30, i)),
+            Some(declared) => {
+                if self.is_visible(&declared.named) {
+                    Ok(declared.named)
+                } else {
+                    Err(self.source.fault(34, i))
+                }
+            }
+        }
+    }
+
+    // What a name stands for in a module before.
+    fn find_in(&self, number: u32, name: &[u8]) -> Option<Declared>
+        ensures { option_map (entry_of (table_of self.now) (strings_of self.now)) result ≡ names_in_module self.now.source.now
+            (world_of self.now) (imported_of (Imported.Earlier number)) name.now }
+    {
+        match self.modules.get(number as usize) {
+            None => None,
+            Some(known) => offer(known.names.find(name)),
+        }
+    }
+
+    // What a name stands for in a module that is imported.
+    fn find_member(&self, imported: Imported, name: &[u8]) -> Option<Declared>
+        ensures { option_map (entry_of (table_of self.now) (strings_of self.now)) result ≡ names_in_module self.now.source.now (world_of self.now) (imported_of imported) name.now }
+    {
+        match imported {
+            Imported::Out => name_of_out(name),
+            Imported::In => name_of_in(name),
+            Imported::Earlier(number) => self.find_in(number, name),
+        }
+    }
+
+    /// What a name of a module stands for.
+    pub fn member(&self, imported: Imported, i: u32) -> Result<Named, CheckFault>
+        ensures { Answers (IsNamed self.now) (judged_member self.now.source.now (world_of self.now) (imported_of imported) i) result }
+    {
+        match self.find_member(imported, self.source.spelled(i)) {
+            None => Err(self.source.fault(30, i)),
+            Some(declared) => {
+                if declared.exported {
+                    Ok(declared.named)
+                } else {
+                    Err(self.source.fault(34, i))
+                }
+            }
+        }
+    }
+
+    // A member of what a name stands for.
+    fn member_of(&self, name: u32, i: u32, named: Named) -> Result<Named, CheckFault>
+        ensures { Answers (IsNamed self.now) (judged_member_of self.now.source.now (world_of self.now) name i (object_of (table_of self.now) (strings_of self.now) named)) result }
+    {
+        match named {
+            Named::Module(imported) => self.member(imported, i),
+            _ => Err(self.source.fault(31, name)),
+        }
+    }
+
+    // What a name of a module that is named here stands for.
+    fn named_member(&self, name: u32, i: u32) -> Result<Named, CheckFault>
+        ensures { Answers (IsNamed self.now) (judged_qualident self.now.source.now (world_of self.now) name (Some i)) result }
+    {
+        let named = self.named(name)?;
+        self.member_of(name, i, named)
+    }
+
+    /// What a qualident names.
+    pub fn qualified(&self, name: u32, member: Option<u32>) -> Result<Named, CheckFault>
+        ensures { Answers (IsNamed self.now) (judged_qualident self.now.source.now (world_of self.now) name member) result }
+    {
+        match member {
+            None => self.named(name),
+            Some(i) => self.named_member(name, i),
+        }
+    }
+
+    /// The type that a qualident names, or this rule is broken at it.
+    pub fn type_named(
+        &self,
+        number: u8,
+        name: u32,
+        member: Option<u32>,
+    ) -> Result<TypeRef, CheckFault>
+        ensures { Answers (IsOfType self.now) (judged_type self.now.source.now (world_of self.now) number name member) result }
+    {
+        let named = self.qualified(name, member)?;
+        match named {
+            Named::Type(of) => Ok(of),
+            _ => Err(self.source.fault(number, name)),
+        }
+    }
+
+    /// How a variable is narrowed here, if it is.
+    pub fn narrowing(&self, variable: VariablePlace) -> Option<Narrowing>
+        ensures { option_map (narrowing_of (table_of self.now) (strings_of self.now)) result ≡ narrowing_at self.now.source.now
+            (world_of self.now) (place_of variable) (world_of self.now).narrowed }
+    {
+        let mut found = None;
+        for narrowing in self.narrowed {
+            if is_place(variable, narrowing.variable) {
+                found = Some(*narrowing);
+            }
+        }
+        found
+    }
+}

@@ -1,7 +1,0 @@
-use Rattle.std.proofs.Common.{List, ℕ, take}
-use Rattle.check_making.specs.Making.{offered_of, AreTextPlaces}
-use Rattle.checked_modules.specs.Entities.{AreObjects}
-use Rattle.checked_modules.proofs.objects.objects_of.Given as goal
-
-abbrev pub invariant-loop-offer : goal.invariant-loop-offer
-invariant-loop-offer l = (texts strings : List (List ℕ)) → AreTextPlaces texts l.places strings → AreObjects texts l.types.table l.objects (offered_of l.types.table.types strings (take l.offer-index l.offered))

@@ -1,5 +1,0 @@
-use Rattle.module_ends.proofs.Modules.{constants_offered}
-use Rattle.module_ends.proofs.laws.offered_constants_are_in_range.Goals as goal
-
-pub returns : goal.returns
-returns g = λ p m c s t read ends i d. constants_offered p read m c ends s t i d

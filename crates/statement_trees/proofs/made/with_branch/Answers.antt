@@ -1,7 +1,0 @@
-use Rattle.std.proofs.Common.{ap, ◌∙◌}
-use Rattle.statement_trees.specs.Onto.{branches_onto}
-use Rattle.statement_trees.proofs.Rows.{branches_more}
-use Rattle.statement_trees.proofs.made.with_branch.Goals as goal
-
-pub returns : goal.returns
-returns c = λ t texts rest. ap (λ l. branches_onto t texts l rest) c.in_ok-push.ensures.items ∙ branches_more t texts c.args.so_far.items _ rest

@@ -1,7 +1,0 @@
-use Rattle.text_numbers.specs.Numbering.{numbering_of}
-use Rattle.text_numbers.specs.Readings.{pair, designators, checked}
-use Rattle.text_numbers.proofs.Keeping.{beside}
-use Rattle.text_numbers.proofs.statements.renumber_head.Goals as goal
-
-pub returns : goal.returns
-returns c = beside (numbering_of c.args.scope.now) (pair designators checked) checked _ _ _ _ _ _ _ c.in_ok-renumber_change.ensures c.in_ok-renumber_checked.ensures
