@@ -10,8 +10,6 @@ mod asm;
 mod assembling;
 mod fault;
 mod laws;
-#[cfg(test)]
-mod tests;
 
 pub use asm::{Asm, Branch};
 pub use assembling::assemble;

@@ -10,8 +10,6 @@ mod access;
 mod chunk;
 mod chunks;
 mod region;
-#[cfg(test)]
-mod tests;
 
 pub use access::{load1, load8, store1, store8};
 pub use region::Region;

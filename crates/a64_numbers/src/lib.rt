@@ -9,8 +9,6 @@
 mod arithmetic;
 mod flags;
 mod moves;
-#[cfg(test)]
-mod tests;
 
 pub use arithmetic::{bic, branch_19, branch_26, immediate, madd, msub, orn, sdiv, shifted};
 pub use flags::{Flags, ands_flags, csel, csinc, csneg, holds, opposite, subs_flags};

@@ -10,8 +10,6 @@ mod choice;
 mod hints;
 mod places;
 mod results;
-#[cfg(test)]
-mod tests;
 
 pub use allocating::allocate_trace;
 pub use choice::{Choice, Policy, Used, policy_of};

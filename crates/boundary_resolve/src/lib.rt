@@ -10,8 +10,6 @@ mod moves;
 mod placed;
 mod resolving;
 mod seats;
-#[cfg(test)]
-mod tests;
 
 pub use laws::{edges_hold, moves_take_over, nodes_are_sound};
 pub use lir_core::{Flow, Line, Move, Place, Places, Trace, TraceOut};

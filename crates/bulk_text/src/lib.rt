@@ -9,6 +9,3 @@ mod generator;
 mod statement;
 
 pub use bulk::bulk_text;
-
-#[cfg(test)]
-mod tests;

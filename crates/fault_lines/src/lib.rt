@@ -3,8 +3,6 @@
 
 mod names;
 mod places;
-#[cfg(test)]
-mod tests;
 
 pub use names::{limit_name, rule_name};
 pub use places::{Position, position_of};

@@ -13,6 +13,3 @@ mod writing;
 pub use fault::ImageFault;
 pub use reading::read_image;
 pub use writing::write_image;
-
-#[cfg(test)]
-mod tests;

@@ -11,8 +11,6 @@ mod frames;
 mod homes;
 mod laws;
 mod starting;
-#[cfg(test)]
-mod tests;
 mod widths;
 
 pub use blocks::{block_places, end_of, procedure_width};

@@ -9,8 +9,6 @@ use outside::Gate;
 use std::sync::atomic::{AtomicBool, AtomicU64, Ordering};
 use std::thread;
 
-#[cfg(test)]
-mod tests;
 
 /// Which call of `enter` is held, and until which call.
 #[derive(Clone, Copy)]

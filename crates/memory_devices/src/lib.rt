@@ -11,8 +11,6 @@ mod mem_sink;
 mod mem_source;
 mod schedule;
 mod store;
-#[cfg(test)]
-mod tests;
 
 pub use clean::{CleanFiles, CleanSink, CleanSource};
 pub use mem_files::MemFiles;

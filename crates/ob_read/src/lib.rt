@@ -7,8 +7,6 @@
 mod fault;
 mod laws;
 mod reading;
-#[cfg(test)]
-mod tests;
 
 pub use fault::TextFault;
 pub use laws::literals_fit;

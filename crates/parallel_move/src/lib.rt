@@ -9,8 +9,6 @@
 mod entry;
 mod ordering;
 mod step;
-#[cfg(test)]
-mod tests;
 mod writers;
 
 pub use lir_core::{Move, Place};

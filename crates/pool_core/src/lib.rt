@@ -12,8 +12,6 @@ mod children;
 mod laws;
 mod machine;
 mod model;
-#[cfg(test)]
-mod tests;
 mod work;
 mod workers;
 

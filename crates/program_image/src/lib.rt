@@ -8,8 +8,6 @@
 mod data;
 mod fault;
 mod imaging;
-#[cfg(test)]
-mod tests;
 
 pub use back_end::{Builder, Choice, Image, Policy};
 pub use fault::ProgramFault;

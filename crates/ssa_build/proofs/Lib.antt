@@ -4,5 +4,4 @@ pub mod Placed
 pub mod Whole
 pub mod Limits
 pub mod Procedures
-pub mod Sampled
 pub mod Within

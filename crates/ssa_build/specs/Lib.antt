@@ -1,4 +1,3 @@
 pub mod Makes
 pub mod Blocks
 pub mod Bodies
-pub mod Sample

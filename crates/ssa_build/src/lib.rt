@@ -12,8 +12,6 @@ mod finish;
 mod laws;
 mod lowering;
 mod procedure;
-#[cfg(test)]
-mod tests;
 
 pub use laws::data_is_within_limits;
 pub use lowering::{LoweredProgram, lower, lower_with_tables};

@@ -1,2 +1,1 @@
 pub mod Described
-pub mod Sample

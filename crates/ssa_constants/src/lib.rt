@@ -8,8 +8,6 @@
 mod bytes;
 mod descriptors;
 mod laws;
-#[cfg(test)]
-mod tests;
 
 pub use bytes::program_constants;
 pub use laws::{constants_are_counted, globals_are_counted};

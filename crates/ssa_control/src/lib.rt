@@ -10,6 +10,3 @@ mod rungs;
 mod walk;
 
 pub use walk::statements;
-
-#[cfg(test)]
-mod tests;

@@ -5,4 +5,3 @@ pub mod Variables
 pub mod Texts
 pub mod Serving
 pub mod Limits
-pub mod Sampled

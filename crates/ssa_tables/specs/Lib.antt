@@ -5,4 +5,3 @@ pub mod Strings
 pub mod Shared
 pub mod Local
 pub mod Faults
-pub mod Sample

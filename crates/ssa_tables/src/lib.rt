@@ -15,8 +15,6 @@ mod procedure;
 mod program;
 mod sizes;
 mod strings;
-#[cfg(test)]
-mod tests;
 
 pub use laws::well_formed_is_measured;
 pub use locals::{Locals, Variable, is_structured, words};

@@ -6,7 +6,5 @@
 
 mod lines;
 mod reporting;
-#[cfg(test)]
-mod tests;
 
 pub use reporting::trace_report;

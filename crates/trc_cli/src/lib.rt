@@ -13,8 +13,6 @@ mod laws;
 mod program;
 mod report;
 mod running;
-#[cfg(test)]
-mod tests;
 mod top;
 
 pub use causes::{Cause, Device, Outcome};

@@ -9,8 +9,6 @@ mod asked;
 mod commands;
 mod numbers;
 mod reading;
-#[cfg(test)]
-mod tests;
 
 pub use asked::{Request, WordsFault};
 pub use reading::read_words;

@@ -8,8 +8,6 @@
 mod allocating;
 mod homed;
 mod lines;
-#[cfg(test)]
-mod tests;
 
 pub use allocating::plain;
 pub use lir_core::{TraceIn, TraceOut};

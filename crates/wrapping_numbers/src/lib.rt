@@ -8,7 +8,5 @@
 #![tactic(auto)]
 
 mod shifts;
-#[cfg(test)]
-mod tests;
 
 pub use shifts::{asr, lsl, lsr, ror};

@@ -1,0 +1,3 @@
+mod SampledOfPrograms
+mod SampledOfConstants
+mod SampledOfTables

@@ -1,0 +1,3 @@
+pub mod SampleOfPrograms
+pub mod SampleOfConstants
+pub mod SampleOfTables

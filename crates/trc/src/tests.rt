@@ -1,0 +1,4 @@
+//! What words ask for, and what commands tell and write.
+
+mod commands;
+mod words;
