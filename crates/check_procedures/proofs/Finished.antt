@@ -92,7 +92,7 @@ module _ (t : TypeTable) (m line : ℕ) (formals : List Formal) (result : ℕ) (
 
 -- ---- the judgement's
 
--- statements with final numbers, as text_numbers gives them
+-- statements with final numbers, as `numbers` gives them
 pub record IsRenumbered (t : TypeTable) (texts : List (List ℕ)) (body : List Stmt) (given : Option Checked) (n : Numbered) : Type 0 where
   pub all : n.texts ≡ texts_of (plain_body t.types texts body) (option_map (plain_checked t.types texts) given)
   pub body_same : plain_body t.types n.texts n.body ≡ plain_body t.types texts body
