@@ -1,7 +1,7 @@
 use Rattle.table_builder.specs.Contents.{contents_of}
 use Rattle.table_builder.proofs.Basics.{integer_element}
 use Rattle.table_builder.proofs.Growing.{numbered_still}
-use Rattle.table_builder.proofs.builder.tests.arrays_have_one_number_each.Goals as goal
+use Rattle.checker_tests.proofs.builders.arrays_have_one_number_each.Goals as goal
 
 pub array-requires-2-clause-element : goal.array-requires-2-clause-element
 array-requires-2-clause-element g c = integer_element (contents_of c.array.new.self.table c.array.new.self.numbers) c.in_ok-row.ensures.built

@@ -1,7 +1,7 @@
 use Rattle.table_builder.specs.Contents.{contents_of}
 use Rattle.table_builder.proofs.Basics.{nothing_there}
 use Rattle.table_builder.proofs.Growing.{numbered_still}
-use Rattle.table_builder.proofs.builder.tests.procedure_types_are_found_by_their_parts.Goals as goal
+use Rattle.checker_tests.proofs.builders.procedure_types_are_found_by_their_parts.Goals as goal
 
 pub procedure-requires-2-clause-outcome : goal.procedure-requires-2-clause-outcome
 procedure-requires-2-clause-outcome g c = nothing_there (contents_of c.procedure.new.self.table c.procedure.new.self.numbers) c.in_ok-none.ensures.built
