@@ -9,7 +9,6 @@ use outside::Gate;
 use std::sync::atomic::{AtomicBool, AtomicU64, Ordering};
 use std::thread;
 
-
 /// Which call of `enter` is held, and until which call.
 #[derive(Clone, Copy)]
 enum Meeting {
