@@ -1,4 +1,4 @@
-//! Tests of lowering's parts, up to whole programs and their images.
+//! Tests of lowering's parts, up to whole programs.
 #![tactic(auto)]
 
 #[cfg(test)]
@@ -13,8 +13,6 @@ mod loops;
 mod making;
 #[cfg(test)]
 mod procedures;
-#[cfg(test)]
-mod programs;
 #[cfg(test)]
 mod statements;
 #[cfg(test)]

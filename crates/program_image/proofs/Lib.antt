@@ -3,4 +3,3 @@ mod Fitting
 mod Running
 mod Counting
 mod Telling
-mod Sampled
