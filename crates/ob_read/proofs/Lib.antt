@@ -1,1 +1,1 @@
-mod Literals
+pub mod Literals
