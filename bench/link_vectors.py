@@ -12,7 +12,7 @@ is said in crates/link_vectors and crates/flow_text.
 import os
 import sys
 
-from other_compiler import TOP, folder_of, line_of
+from other_compiler import TOP, folder_of, line_of, sum_of
 import backend  # noqa: E402
 import check  # noqa: E402
 import trc  # noqa: E402
@@ -40,13 +40,6 @@ def flow_of(flow):
     """A flow in words."""
     kind = 'counted' if flow.counted else 'body'
     return line_of(['flow', flow.values, flow.args, kind, flow.local_cells, flow.local_bytes], flow, operation_of)
-
-
-def sum_of(image):
-    total = 0xcbf29ce484222325
-    for x in list(image.code) + list(image.constants):
-        total = ((total ^ x) * 0x100000001b3) % (1 << 64)
-    return total
 
 
 def answer_of(image, whole):

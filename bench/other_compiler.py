@@ -35,3 +35,11 @@ def node_of(b, operation):
 def line_of(head, flow, operation):
     """A flow in words, behind these."""
     return ' '.join(map(str, head + [word for b in flow.blocks for word in node_of(b, operation)]))
+
+
+def sum_of(image):
+    """A sum over an image's words and constants."""
+    total = 0xcbf29ce484222325
+    for x in list(image.code) + list(image.constants):
+        total = ((total ^ x) * 0x100000001b3) % (1 << 64)
+    return total

@@ -1,0 +1,90 @@
+#!/usr/bin/env python3
+"""Makes the input of crates/compile_vectors and the answers that are wanted, by another compiler.
+
+    bench/compile_vectors.py [FOLDER]
+    bench/compile_vectors.py bench POLICY PROCEDURES
+
+Writes `stdin` and `stdout` into FOLDER (that crate's, if none is given): the modules of bench/rows, made modules, and programs at
+limits and beyond; those that have no image with one choice, the others with each policy, among them both builders and 4 to 16
+registers. `bench` prints the line of a made module of so many procedures, for bench/compile.sh. bench/other_compiler.py says
+where the other compiler is; how lines are written is said in crates/compile_vectors.
+"""
+import os
+import sys
+
+from other_compiler import TOP, folder_of, sum_of
+import backend  # noqa: E402
+import check  # noqa: E402
+import trc  # noqa: E402
+from scan import Fault  # noqa: E402
+from lower import Limit  # noqa: E402
+
+CHOICES = ['linear bi 16', 'plain bi 4', 'bottomup uni 8', 'mixed bi 5']
+
+
+def rows():
+    """The modules' texts of each piece in bench/rows."""
+    top = os.path.join(TOP, 'bench', 'rows')
+    names = sorted(os.listdir(top)) + [os.path.join('judged', name) for name in sorted(os.listdir(os.path.join(top, 'judged')))]
+    for name in names:
+        if name.endswith('.txt') and name != 'spoils.txt':
+            for piece in open(os.path.join(top, name)).read().split('---\n'):
+                first, _, text = piece.strip('\n').partition('\n')
+                if first and text and '[' not in first and 'MODULE' in text:
+                    yield [m.strip('\n').encode() + b'\n' for m in text.split('===\n')]
+
+
+def limits():
+    """Programs at a limit, and one beyond."""
+    for n in (3999, 4000, 4001):
+        yield [b'MODULE V; VAR a: INTEGER; BEGIN a := ' + b'+'.join([b'a'] * (n // 2)) + b' END V.']
+    for n in (1333, 1334):
+        yield [b'MODULE B; VAR a: INTEGER; BEGIN ' + b'; '.join([b'IF a = 0 THEN a := 1 END'] * n) + b' END B.']
+    for n in (1048574, 1048575, 1048576):
+        yield [b'MODULE G; VAR a: ARRAY %d OF BYTE; END G.' % n]
+    for n in (1048576, 1048577):
+        yield [b'MODULE L; PROCEDURE P; VAR a: ARRAY %d OF BYTE; END P; END L.' % n]
+    for n in (4095, 4096):
+        yield [b'MODULE P; ' + b''.join(b'PROCEDURE p%d; END p%d; ' % (i, i) for i in range(n)) + b'END P.']
+
+
+def answer(sources, choice):
+    policy, builder, regs = choice.split()
+    for i, source in enumerate(sources):
+        if len(source) > 1048576:
+            return 'limit 55 at %d' % i
+    try:
+        image = backend.compile_program(check.check_sources(sources), policy, builder, int(regs))
+    except Fault as fault:
+        return 'fault %d in %d at %d' % (fault.number, fault.module, fault.at)
+    except Limit as limit:
+        return 'limit %d at %d' % (limit.number, limit.index)
+    return 'image %d frame %d globals %d constants %d flags %d sum %d' % (
+        len(image.code), image.frame, image.globals, len(image.constants), image.flags, sum_of(image))
+
+
+def written(text):
+    return text.decode().replace('\\', '\\\\').replace('\t', '\\t').replace('\n', '\\n')
+
+
+def main():
+    folder = folder_of('compile_vectors')
+    lines, answers = [], []
+    pieces = list(rows()) + [[trc.bulk_text(i, 2 + i % 4)] for i in range(1, 9)] + list(limits())
+    for sources in pieces:
+        for choice in CHOICES:
+            lines.append(choice + ''.join('\t' + written(text) for text in sources) + '\n')
+            answers.append(answer(sources, choice) + '\n')
+            if not answers[-1].startswith('image'):
+                break
+    with open(os.path.join(folder, 'stdin'), 'w') as out:
+        out.writelines(lines)
+    with open(os.path.join(folder, 'stdout'), 'w') as out:
+        out.writelines(answers)
+    print(len(pieces), 'pieces,', len(lines), 'lines')
+
+
+if sys.argv[1:2] == ['bench']:
+    print('%s bi 16\t%s' % (sys.argv[2], written(trc.bulk_text(7, int(sys.argv[3])))))
+else:
+    main()

@@ -1,0 +1,132 @@
+//! Compiles the modules of each line of its input, and prints what the texts come to: the image's sizes and a sum over its words,
+//! or why there is none.
+//!
+//! A line is a policy, a builder, a number of registers, and then the modules' texts, each behind a tab; in a text, `\n` stands
+//! for a line's end, `\t` for a tab and `\\` for a backslash. The stored input are modules that break each rule, programs that use
+//! the whole language, and programs beyond limits; what is wanted is what another compiler, written in Python from the rules alone,
+//! says of them (`bench/compile_vectors.py` makes both where it is).
+#![tactic(auto)]
+
+ghost use Rattle.std.specs.Prelude.{◌≤◌};
+
+use items::Items;
+use source_image::{Builder, Choice, Image, Policy, Refusal, source_image};
+use std::alloc::{AllocError, Global};
+use std::io;
+use std::io::{BufRead, BufReader};
+
+/// A policy by its word.
+fn policy_named(word: &str) -> Option<Policy> {
+    match word {
+        "plain" => Some(Policy::Plain),
+        "linear" => Some(Policy::Linear),
+        "bottomup" => Some(Policy::BottomUp),
+        "mixed" => Some(Policy::Mixed),
+        _ => None,
+    }
+}
+
+/// A builder by its word.
+fn builder_named(word: &str) -> Option<Builder> {
+    match word {
+        "uni" => Some(Builder::Uni),
+        "bi" => Some(Builder::Bi),
+        _ => None,
+    }
+}
+
+/// The choice that a line begins with.
+fn choice_in(words: &str) -> Option<Choice> {
+    let mut words = words.split(' ');
+    Some(Choice {
+        policy: policy_named(words.next()?)?,
+        builder: builder_named(words.next()?)?,
+        regs: words.next()?.parse::<u8>().ok()?,
+        jobs: 1,
+    })
+}
+
+/// A text as it is written in a line.
+fn text_of(alloc: Global, written: &str) -> Result<Items<u8>, AllocError> {
+    let mut text = Vec::new(alloc);
+    let mut escaped = false;
+    for byte in written.as_bytes() {
+        if escaped {
+            escaped = false;
+            text.push(match *byte {
+                b'n' => b'\n',
+                b't' => b'\t',
+                other => other,
+            })?;
+        } else if *byte == b'\\' {
+            escaped = true;
+        } else {
+            text.push(*byte)?;
+        }
+    }
+    Ok(Items::from_vec(text))
+}
+
+/// A sum over an image's words and constants.
+fn sum_of(image: &Image) -> u64 {
+    let mut sum: u64 = 0xcbf29ce484222325;
+    for word in image.code.as_slice() {
+        sum = (sum ^ u64::from(*word)).wrapping_mul(0x100000001b3);
+    }
+    for byte in image.constants.as_slice() {
+        sum = (sum ^ u64::from(*byte)).wrapping_mul(0x100000001b3);
+    }
+    sum
+}
+
+/// The line that tells what texts come to.
+fn told(alloc: Global, made: &Result<Image, Refusal>) -> Result<String, AllocError> {
+    match made {
+        Ok(image) => {
+            let words = image.code.as_slice().len();
+            let constants = image.constants.as_slice().len();
+            let sum = sum_of(image);
+            format!(in alloc;
+                "image {words} frame {} globals {} constants {constants} flags {} sum {sum}",
+                image.frame, image.globals, image.flags
+            )
+        }
+        Err(Refusal::TooLong { module }) => format!(in alloc; "limit 55 at {module}"),
+        Err(Refusal::Source { module, number, at }) => {
+            format!(in alloc; "fault {number} in {module} at {at}")
+        }
+        Err(Refusal::Limit { number, index }) => format!(in alloc; "limit {number} at {index}"),
+        Err(Refusal::Memory) => format!(in alloc; "out of memory"),
+    }
+}
+
+/// What a line's modules come to, by its choice; nothing where it has none of 4 to 16 registers.
+fn answer(alloc: Global, line: &str) -> Result<String, AllocError> {
+    let mut parts = line.split('\t');
+    let choice = match parts.next() {
+        Some(words) => choice_in(words),
+        None => None,
+    };
+    let Some(choice) = choice else {
+        return Ok(String::new(alloc));
+    };
+    if choice.regs < 4 || choice.regs > 16 {
+        return Ok(String::new(alloc));
+    }
+    let mut texts = Vec::new(alloc);
+    for written in parts {
+        texts.push(text_of(alloc, written)?)?;
+    }
+    told(alloc, &source_image(alloc, &choice, texts.as_slice()))
+}
+
+fn main(rt: HostRuntime) -> io::Result<()> {
+    for line in BufReader::new(rt.alloc(), rt.reader())?.lines(rt.alloc()) {
+        let line = line?;
+        match answer(rt.alloc(), line.as_str()) {
+            Ok(text) => println!(rt; "{text}")?,
+            Err(AllocError) => println!(rt; "out of memory")?,
+        }
+    }
+    Ok(())
+}

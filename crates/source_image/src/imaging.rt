@@ -1,0 +1,32 @@
+//! The image of a program's texts.
+
+ghost use Rattle.std.specs.Prelude.{◌≤◌, IfOk, IfErr};
+ghost use Rattle.image_form.specs.Form.{IsInForm};
+ghost use Rattle.source_image.specs.Images.{IsImageOfTexts};
+ghost use Rattle.source_image.specs.Refusals.{IsRefusal};
+
+use crate::refusal::{Refusal, refused_program, refused_source};
+use items::Items;
+use program_image::{Choice, Image, program_image};
+use source_program::source_program;
+use std::alloc::Global;
+
+/// The image of the modules with these texts, in this order, by the builder, the policy and the registers that are chosen.
+///
+/// Each text is read and judged before the next is begun, and limits of the program come after all modules are judged.
+pub fn source_image(alloc: Global, choice: &Choice, texts: &[Items<u8>]) -> Result<Image, Refusal>
+    requires enough { 4 ≤ choice.now.regs }
+    requires few { choice.now.regs ≤ 16 }
+    ensures image { IfOk result (IsImageOfTexts choice.now texts.now) }
+    ensures form { IfOk result IsInForm }
+    ensures refused { IfErr result (IsRefusal choice.now texts.now) }
+{
+    let program = match source_program(alloc, texts) {
+        Ok(program) => program,
+        Err(fault) => return Err(refused_source(fault)),
+    };
+    match program_image(alloc, choice, &program) {
+        Ok(image) => Ok(image),
+        Err(fault) => Err(refused_program(fault)),
+    }
+}
