@@ -40,6 +40,13 @@ def limits():
         yield [b'MODULE V; VAR a: INTEGER; BEGIN a := ' + b'+'.join([b'a'] * (n // 2)) + b' END V.']
     for n in (1333, 1334):
         yield [b'MODULE B; VAR a: INTEGER; BEGIN ' + b'; '.join([b'IF a = 0 THEN a := 1 END'] * n) + b' END B.']
+    for n in (500, 1990, 3000):
+        names = [b'a%d' % i for i in range(n)]
+        moved = b'; '.join(b'%s := %s' % (x, y) for x, y in zip(names, names[1:]))
+        yield [b'MODULE H; PROCEDURE P; VAR ' + b', '.join(names) + b': INTEGER; BEGIN WHILE a0 < 9 DO ' + moved + b' END END P; BEGIN P END H.']
+    yield [b'MODULE S; VAR a: INTEGER; BEGIN a := ' + b'+'.join([b'a'] * 20000) + b' END S.']
+    yield [b'MODULE C; VAR a: INTEGER; BEGIN CASE a OF ' + b' | '.join(b'%d:' % (i * 7919 % 10007) for i in range(10000)) + b' END END C.']
+    yield [b'MODULE N; CONST ' + b''.join(b'c%d = %d; ' % (i, i) for i in range(3000)) + b'VAR a: INTEGER; BEGIN a := c2999 END N.']
     for n in (1048574, 1048575, 1048576):
         yield [b'MODULE G; VAR a: ARRAY %d OF BYTE; END G.' % n]
     for n in (1048576, 1048577):

@@ -1,3 +1,0 @@
-mod SampledOfPrograms
-mod SampledOfConstants
-mod SampledOfTables

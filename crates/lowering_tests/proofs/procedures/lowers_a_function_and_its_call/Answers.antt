@@ -1,5 +1,0 @@
-use Rattle.lowering_tests.proofs.SampledOfPrograms.{sample_measured}
-use Rattle.lowering_tests.proofs.procedures.lowers_a_function_and_its_call.Goals as goal
-
-pub lower-requires : goal.lower-requires
-lower-requires t c = sample_measured c.in_ok-program.program c.in_ok-function.function c.module_body-body.result c.in_ok-program.ensures.types c.in_ok-program.ensures.procedures c.in_ok-function.ensures c.module_body-body.ensures

@@ -1,3 +1,0 @@
-pub mod SampleOfPrograms
-pub mod SampleOfConstants
-pub mod SampleOfTables
