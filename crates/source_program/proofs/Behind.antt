@@ -1,7 +1,7 @@
 -- What is known behind one module more, and behind all.
-use Rattle.std.proofs.Common.{◌≡◌, ℕ, zero, suc, List, [], ◌∷◌, ◌++◌, length, map, take, Some, Ok, Err, refl, sym, ap, ap₂, subst, ◌∙◌, arith}
+use Rattle.std.proofs.Common.{◌≡◌, ℕ, zero, suc, List, [], ◌∷◌, ◌++◌, length, take, Some, Ok, Err, refl, sym, ap, ap₂, subst, ◌∙◌, arith}
 use Rattle.std.specs.Prelude.{slice_get}
-use Rattle.std.proofs.lemmas.List.{take_all}
+use Rattle.std.proofs.lemmas.List.{length-map, take_all}
 use Rattle.ob_types.proofs.Tests.{none_some, some_same}
 use Rattle.ob_types.specs.declared.program.Program.{Program}
 use Rattle.ob_judge.specs.Judged.{Judged, Keeps, Breaks, ◌>>=◌}
@@ -167,15 +167,11 @@ module _ (texts : List (List ℕ)) (s : Modules) (h : IsBehind texts (length tex
     program = program_is;
   }
 
-map_length : {A B : Type 0} (f : A → B) (xs : List A) → length (map f xs) ≡ length xs
-map_length f [] = refl
-map_length f (x ∷ xs) = ap suc (map_length f xs)
-
 -- none
 pub none_behind : (texts : List (List ℕ)) (s : Modules) → HasSettledModules texts s → StandsForModules texts s no_modules → IsBehind texts zero s
 none_behind texts s settled stands = record {
   settled = settled;
-  count = sym (map_length (module_of s.types.table.types s.strings.items) s.known.items) ∙ sym (ap (λ ms. length ms) stands.modules);
+  count = sym (length-map s.known.items (module_of s.types.table.types s.strings.items)) ∙ sym (ap (λ ms. length ms) stands.modules);
   before = [];
   are_parsed = tt;
   are_read = tt;
