@@ -41,7 +41,10 @@ const CALLS: [(&str, &str); 30] = [
     ("run Stack.Mod UseStack.Mod", ""),
     ("run Sorting.Mod --policy plain", ""),
     ("run Sorting.Mod --policy bottomup --regs 4", ""),
-    ("run Interpreter.Mod --policy mixed --traces uni --jobs 1", ""),
+    (
+        "run Interpreter.Mod --policy mixed --traces uni --jobs 1",
+        "",
+    ),
     ("run Shapes.Mod --policy linear --regs 4 --jobs 64", ""),
     ("run Answer.Mod --steps 15", ""),
     ("traces Gcd.Mod", ""),
