@@ -1,5 +1,5 @@
-(* A small interpreter: a machine with a stack runs a program that is an array of records. CASE on INTEGER with a range,
-   constants as names of operations, and a string that says the program. *)
+(* A small interpreter: a machine with a stack runs a program that is an array of records. CASE on numbers with a range,
+   constants as names of operations, a BYTE in a record, and records that are copied. *)
 MODULE Interpreter;
   IMPORT Out;
   CONST

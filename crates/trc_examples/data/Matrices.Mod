@@ -1,4 +1,5 @@
-(* Matrices: arrays of arrays, and records and arrays as parameters. The power of a matrix gives Fibonacci numbers. *)
+(* Matrices: arrays of arrays, copied and as parameters. An array by value is its argument's variable, without a copy. The
+   powers of one matrix have the Fibonacci numbers. *)
 MODULE Matrices;
   IMPORT Out;
   CONST size = 2;
