@@ -1,0 +1,58 @@
+#!/usr/bin/env python3
+"""Makes what crates/trc_examples must print, by another compiler.
+
+    bench/example_runs.py [FOLDER]
+
+Writes `stdout` into FOLDER (that crate's, if none is given): for each call that the crate's main.rt lists, its words, what it
+writes, its error line and its status. Each call of `run` is made with every policy and both builders too, with 4, 5 and 16
+registers, and the script ends where one of them writes something else. bench/other_compiler.py says where the other
+compiler is.
+"""
+import ast
+import itertools
+import os
+import re
+
+from other_compiler import TOP, folder_of
+import trc  # noqa: E402
+
+CRATE = os.path.join(TOP, 'crates', 'trc_examples')
+
+
+def calls():
+    """The calls that main.rt lists: words and input."""
+    listed = open(os.path.join(CRATE, 'src', 'main.rt')).read().partition('] = [\n')[2].partition('\n];')[0]
+    return ast.literal_eval('[' + re.sub(r'^\s*//.*$', '', listed, flags=re.M) + ']')
+
+
+def files():
+    folder = os.path.join(CRATE, 'data')
+    return {name: open(os.path.join(folder, name), 'rb').read() for name in os.listdir(folder)}
+
+
+def made(words, given):
+    """What a call comes to: its status, its output, its line."""
+    run = trc.Run(words, files(), given.encode())
+    return run.status, bytes(run.out).decode(), run.err and run.err + '\n'
+
+
+def is_same_with_all(words, given):
+    """Whether a run writes the same with every policy, builder and number of registers that is tried."""
+    names = [word for word in words[1:] if word.endswith('.Mod')]
+    choices = itertools.product(trc.POLICIES, ['uni', 'bi'], ['4', '5', '16'])
+    ends = {made(['run', '--policy', p, '--traces', t, '--regs', r, '--'] + names, given) for p, t, r in choices}
+    return len(ends) == 1
+
+
+def main():
+    text = ''
+    for line, given in calls():
+        words = line.split(' ')
+        if words[0] == 'run' and not is_same_with_all(words, given):
+            raise SystemExit('policies differ: ' + line)
+        status, out, err = made(words, given)
+        text += '%s:\n%s%sstatus %d\n' % (line, out, err, status)
+    open(os.path.join(folder_of('trc_examples'), 'stdout'), 'w').write(text)
+
+
+main()
