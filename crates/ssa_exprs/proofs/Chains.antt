@@ -1,5 +1,5 @@
--- A chain with one link more.
-use Rattle.std.proofs.Common.{◌≡◌, ℕ, zero, suc, ◌-◌, ◌<◌, None, true, false, List, [], ◌∷◌, Box, Vec, Global, take, length, get_or, refl, sym, ap, ap₂, ◌∙◌, subst, arith}
+-- The links of a chain, and conditions.
+use Rattle.std.proofs.Common.{◌≡◌, ℕ, zero, suc, ◌-◌, ◌<◌, ◌≤◌, None, true, false, List, [], ◌∷◌, Box, Vec, Global, take, length, get_or, refl, sym, ap, ap₂, ◌∙◌, subst, arith}
 use mathlib.Core.Former.{Count}
 use Rattle.block_runs.specs.declared.end.End.TheVariants.{Jump}
 use Rattle.ob_types.specs.declared.program.Program.{Program}
@@ -14,16 +14,16 @@ use Rattle.ssa_lowered.specs.Control.{Lowers, Test, half, flag, fork_value, fork
 use Rattle.ssa_lowered.specs.Lowered.{Here, linked}
 use Rattle.ssa_exprs.specs.Making.{View, Gives, Tests, asked, bound, closed}
 use Rattle.ssa_exprs.specs.Tables.{expr_in}
-use Rattle.ssa_exprs.specs.Walk.{link_in, linked_in, links_of, first_of, prefix_in, is_plain}
+use Rattle.ssa_exprs.specs.Walk.{link_in, linked_in, is_plain}
 use Rattle.ssa_exprs.proofs.Flags.{gives_flag}
 
 take_none : (xs : List Link) → take 0 xs ≡ []
 take_none [] = refl
 take_none (x ∷ xs) = refl
 
-take_all : (xs : List Link) → take (length xs) xs ≡ xs
-take_all [] = refl
-take_all (x ∷ xs) = ap (λ ys. x ∷ ys) (take_all xs)
+take_whole : (xs : List Link) → take (length xs) xs ≡ xs
+take_whole [] = refl
+take_whole (x ∷ xs) = ap (λ ys. x ∷ ys) (take_whole xs)
 
 module _ (p : Program) (here : Here) where
   linked_row : (m : _) (row : Row_of-Link m) (x : Lowers) → linked p (in_cells p.types) here row x ≡ linked_in p here (items-the_row-Link m row) x
@@ -35,27 +35,30 @@ module _ (p : Program) (here : Here) where
   more_linked (k ∷ ks) zero d x lt = ap (λ l. linked_in p here l (link_in p here k x)) (take_none ks) ∙ sym (ap (λ l. link_in p here k (linked_in p here l x)) (take_none (k ∷ ks)))
   more_linked (k ∷ ks) (suc n) d x lt = more_linked ks n d (link_in p here k x) (omega (arith, lt))
 
-  pub no_links : (e : Expr) (n : ℕ) → n ≡ 0 → prefix_in p here n e ≡ expr_in p here (first_of e)
-  no_links e n is = ap (λ k. linked_in p here (take k (links_of e)) (expr_in p here (first_of e))) is ∙ ap (λ l. linked_in p here l (expr_in p here (first_of e))) (take_none (links_of e))
+  -- the first so many links: none, all, and with the last of them apart
+  pub no_links : (ks : List Link) (n : ℕ) (x : Lowers) → n ≤ 0 → linked_in p here (take n ks) x ≡ x
+  no_links ks n x le = let e : n ≡ 0 = omega (arith, le) in ap (λ k. linked_in p here (take k ks) x) e ∙ ap (λ l. linked_in p here l x) (take_none ks)
 
-  pub one_link : (e : Expr) (n : ℕ) (ks : List Link) (k l : Link) → links_of e ≡ ks → n - 1 < length ks → n ≡ suc (n - 1) → k ≡ get_or ks (n - 1) k → k ≡ l → prefix_in p here n e ≡ link_in p here l (prefix_in p here (n - 1) e)
-  one_link e n ks k l same lt pos at is =
-      let x = expr_in p here (first_of e) in
-      ap₂ (λ j ms. linked_in p here (take j ms) x) pos same
-      ∙ more_linked ks (n - 1) k x lt
-      ∙ ap₂ (λ h ms. link_in p here h (linked_in p here (take (n - 1) ms) x)) (sym at ∙ is) (sym same)
+  pub all_links : (ks : List Link) (x : Lowers) → linked_in p here (take (length ks) ks) x ≡ linked_in p here ks x
+  all_links ks x = ap (λ l. linked_in p here l x) (take_whole ks)
+
+  pub last_link : (ks : List Link) (n : ℕ) (k : Link) (x : Lowers) → 0 < n → n - 1 < length ks → k ≡ get_or ks (n - 1) k → linked_in p here (take n ks) x ≡ link_in p here k (linked_in p here (take (n - 1) ks) x)
+  last_link ks n k x pos lt at =
+      let e : n ≡ suc (n - 1) = omega (arith, pos) in
+      ap (λ m. linked_in p here (take m ks) x) e ∙ more_linked ks (n - 1) k x lt ∙ ap (λ l. link_in p here l (linked_in p here (take (n - 1) ks) x)) (sym at)
 
   abbrev row_in : Expr → (n : Count) × Row_of-Link n
   row_in (Chain' _ x _ row) = (_, row)
   row_in e = (_, end_of-Link)
 
-  pub chain_whole : (x : Box Expr Global) (ks : Vec Link Global) → expr_in p here (Chain x ks) ≡ prefix_in p here (length (links_of (Chain x ks))) (Chain x ks)
-  chain_whole x ks =
+  chain_linked : (x : Box Expr Global) (ks : Vec Link Global) → expr_in p here (Chain x ks) ≡ linked_in p here ks.items (expr_in p here x.value)
+  chain_linked x ks =
       let r = row_in (Chain x ks) in
-      linked_row r.0 r.1 (expr_in p here x.value) ∙ sym (ap (λ l. linked_in p here l (expr_in p here x.value)) (take_all (links_of (Chain x ks))))
+      linked_row r.0 r.1 (expr_in p here x.value) ∙ ap (λ l. linked_in p here l (expr_in p here x.value)) (items_hidden-the_row-Link-2 ks)
 
-pub links_are : (e : Expr) (x : Box Expr Global) (ks : Vec Link Global) → e ≡ Chain x ks → links_of e ≡ ks.items
-links_are e x ks is = ap links_of is ∙ items_hidden-the_row-Link-2 ks
+  -- a chain is its links, behind its first operand
+  pub chain_is : (x : Box Expr Global) (ks : Vec Link Global) {e y : Expr} {ls : List Link} → e ≡ Chain x ks → y ≡ x.value → ls ≡ ks.items → expr_in p here e ≡ linked_in p here ls (expr_in p here y)
+  chain_is x ks {e} {y} {ls} is ey el = ap (expr_in p here) is ∙ chain_linked x ks ∙ sym (ap₂ (λ l z. linked_in p here l (expr_in p here z)) el ey)
 
 -- between other views and labels that are equal
 pub tests_at : {v v1 w : View} {t : Test} {yes1 yes2 no1 no2 f1 f2 : ℕ} → v1 ≡ v → yes1 ≡ yes2 → no1 ≡ no2 → f1 ≡ f2 → Tests v1 w t yes1 no1 f1 → Tests v w t yes2 no2 f2
@@ -117,9 +120,3 @@ unary_test p here e op x is h = ap (λ z. (expr_in p here z).test) is ∙ not_te
 
 pub tests_to : {v w w1 : View} {t : Test} {yes_to no_to next : ℕ} → w1 ≡ w → Tests v w t yes_to no_to next → Tests v w1 t yes_to no_to next
 tests_to {v = v} {t = t} {yes_to = yes_to} {no_to = no_to} {next = next} e x = subst (λ z. Tests v z t yes_to no_to next) (sym e) x
-
--- a chain is its first so many links, where these are all
-pub all_links : (p : Program) (here : Here) (e : Expr) (x : Box Expr Global) (ks : Vec Link Global) (n : ℕ) → e ≡ Chain x ks → n ≡ length ks.items → expr_in p here e ≡ prefix_in p here n e
-all_links p here e x ks n is len =
-    ap (expr_in p here) is ∙ chain_whole p here x ks ∙ sym (ap (λ z. prefix_in p here (length (links_of z)) z) is)
-    ∙ ap (λ k. prefix_in p here k e) (ap length (links_are e x ks is) ∙ sym len)

@@ -7,3 +7,4 @@ pub mod Flags
 pub mod Rows
 pub mod Guards
 pub mod Chains
+pub mod Planning

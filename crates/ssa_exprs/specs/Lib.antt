@@ -1,5 +1,6 @@
 pub mod Changes
 pub mod Making
 pub mod Named
+pub mod Steps
 pub mod Tables
 pub mod Walk

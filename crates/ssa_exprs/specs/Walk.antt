@@ -1,7 +1,7 @@
 -- The lists in expressions and designators, as the code walks them.
-use Rattle.std.specs.Prelude.{ℕ, false, true, Bool, take, List, [], ◌∷◌}
+use Rattle.std.specs.Prelude.{ℕ, false, true, Bool, List, [], ◌∷◌}
 use Rattle.ob_types.specs.declared.program.Program.{Program}
-use Rattle.ob_types.specs.declared.tree.Expr.{Expr, Unary', Chain', Compare', items-the_row-Link}
+use Rattle.ob_types.specs.declared.tree.Expr.{Expr, Unary', Chain', Compare'}
 use Rattle.ob_types.specs.declared.tree.Unary.TheVariants.{Not}
 use Rattle.ob_types.specs.declared.tree.Designator.{Designator}
 use Rattle.ob_types.specs.declared.tree.Selector.{Selector}
@@ -14,7 +14,6 @@ use Rattle.ssa_lowered.specs.Data.{in_cells}
 use Rattle.ssa_lowered.specs.Pieces.{Low, give}
 use Rattle.ssa_lowered.specs.Control.{Lowers}
 use Rattle.ssa_lowered.specs.Values.{Named, also, Request, home_of, load, texts_compared}
-use Rattle.ssa_exprs.specs.Tables.{expr_in}
 use Rattle.ssa_lowered.specs.Lowered.{Here, named, select, link, called, argument, all_guarded}
 
 module _ (p : Program) (here : Here) where
@@ -54,19 +53,6 @@ module _ (p : Program) (here : Here) where
 
   abbrev pub guarded_in : List ℕ → Low ℕ → Low ℕ
   guarded_in rs m = all_guarded p (in_cells p.types) here rs m
-
--- a chain's links, and what they begin with
-abbrev pub links_of : Expr → List Link
-links_of (Chain' _ x m row) = items-the_row-Link _ row
-links_of _ = []
-
-abbrev pub first_of : Expr → Expr
-first_of (Chain' _ x m row) = x
-first_of e = e
-
--- a chain with its first so many links
-abbrev pub prefix_in : Program → Here → ℕ → Expr → Lowers
-prefix_in p here n e = linked_in p here (take n (links_of e)) (expr_in p here (first_of e))
 
 -- an expression is a condition by its value alone
 abbrev pub is_plain : Expr → Bool

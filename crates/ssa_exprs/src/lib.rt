@@ -10,6 +10,7 @@ mod fault;
 mod lowering;
 mod making;
 mod named;
+mod steps;
 mod tables;
 mod walk;
 
@@ -19,8 +20,9 @@ pub use making::{Bound, Making, Piece, Undo};
 pub use named::{
     Named, address_in, bytes_in, condition, is_pointer, is_tag, length_in, second, two_operands,
 };
+pub use steps::half;
 pub use tables::Tables;
 pub use walk::{
-    Request, cond, half, kind_in, length_of_kind, load, named as designated, prepared,
-    record_of_kind, value,
+    Request, cond, kind_in, length_of_kind, load, named as designated, prepared, record_of_kind,
+    value,
 };

@@ -6,9 +6,10 @@ ghost use Rattle.ob_types.specs.Meaning.{kind_in, length_of_kind, record_of_kind
 ghost use Rattle.ssa_lowered.specs.Lowered.{Here, based, select, argument};
 ghost use Rattle.ssa_exprs.specs.Making.{View, Gives, Passed, Tests, asked, closed};
 ghost use Rattle.block_runs.specs.declared.end.End.TheVariants.{Nonzero, Branch};
-ghost use Rattle.ssa_lowered.specs.Control.{Test, half, flag};
+ghost use Rattle.ssa_lowered.specs.Control.{Lowers, Test, half, flag};
 ghost use Rattle.ssa_exprs.specs.Named.{named_of};
-ghost use Rattle.ssa_exprs.specs.Walk.{load_in, select_in, selected_in, linked_in, texts_in, argument_in, arguments_in, called_in, guarded_in, links_of, prefix_in, is_plain};
+ghost use Rattle.ssa_exprs.specs.Steps.{Fulfils, Taken, AllTaken, operand_of};
+ghost use Rattle.ssa_exprs.specs.Walk.{load_in, select_in, selected_in, link_in, linked_in, texts_in, argument_in, arguments_in, called_in, guarded_in, is_plain};
 ghost use Rattle.ssa_lowered.specs.Pieces.{Low};
 ghost use Rattle.ssa_lowered.specs.Values.{Named as NamedThing};
 ghost use Rattle.ssa_exprs.specs.Tables.{Serves, expr_in, named_in, based_in, passed_in, own_in};
@@ -21,6 +22,7 @@ use crate::named::{
     Named, address_in, bytes_in, condition, guard, is_pointer, is_tag, length_in, one_operand,
     read, second, tag_in, two_operands,
 };
+use crate::steps::{Step, Wanted, Ways, half, planned};
 use crate::tables::Tables;
 use block_runs::{Code, End};
 use ob_types::{Argument, Base, Call, Designator, Expr, Link, Relation, Selector, TypeKind, Unary};
@@ -207,7 +209,7 @@ pub fn value(t: &Tables, b: &mut Making, e: &Expr) -> Result<u32, LowerFault>
             let a = value(t, b, x)?;
             one_operand(b, *op, a)
         }
-        Expr::Chain(_, links) => chain(t, b, e, links.len()),
+        Expr::Chain(x, links) => chain(t, b, links, x, Wanted::Value),
         Expr::Compare(r, x, y) => {
             let a = value(t, b, x)?;
             let c = value(t, b, y)?;
@@ -421,119 +423,138 @@ pub fn record_of_kind(kind: TypeKind) -> u32
     }
 }
 
-/// The value of a chain with its first so many links.
+/// A chain of links behind an expression, as it is wanted; the result is its value, where that is wanted. The links are gone
+/// through from the last one to the first, and then from the first one to the last, in loops: what this takes of the stack
+/// doesn't depend on how many there are.
 #[cycle(walk)]
-fn chain(t: &Tables, b: &mut Making, e: &Expr, n: usize) -> Result<u32, LowerFault>
-    ensures { IfOk result (λ v. (p : Program) (here : Here) → Serves t.now p here → n ≤ length (links_of e.now) → Gives b.old b.new (prefix_in p here n e.now).value v) }
+fn chain(
+    t: &Tables,
+    b: &mut Making,
+    links: &[Link],
+    x: &Expr,
+    wanted: Wanted,
+) -> Result<u32, LowerFault>
+    ensures { IfOk result (λ r. (p : Program) (here : Here) → Serves t.now p here → Fulfils wanted b.old b.new (linked_in p here links.now (expr_in p here x.now)) r) }
 {
-    match e {
-        Expr::Chain(x, links) => {
-            if n == 0 || n > links.len() {
-                let v = value(t, b, x)?;
-                return Ok(v);
+    let plan = planned(b, links, wanted)?;
+    let a = as_wanted(t, b, x, plan.first)?;
+    let r = take_all(t, b, links, plan.steps, a)?;
+    Ok(r)
+}
+
+/// An expression, as it is wanted; the result is its value, where that is wanted.
+#[cycle(walk)]
+fn as_wanted(t: &Tables, b: &mut Making, e: &Expr, wanted: Wanted) -> Result<u32, LowerFault>
+    ensures { IfOk result (λ r. (p : Program) (here : Here) → Serves t.now p here → Fulfils wanted b.old b.new (expr_in p here e.now) r) }
+{
+    match wanted {
+        Wanted::Value => {
+            let v = value(t, b, e)?;
+            Ok(v)
+        }
+        Wanted::Condition(ways) => {
+            cond(t, b, e, ways.yes, ways.no, ways.next)?;
+            Ok(0)
+        }
+    }
+}
+
+/// Steps are taken, the last of them first, from one number to another.
+#[cycle(walk)]
+fn take_all(
+    t: &Tables,
+    b: &mut Making,
+    links: &[Link],
+    steps: Vec<Step>,
+    first: u32,
+) -> Result<u32, LowerFault>
+    ensures { IfOk result (λ r. (p : Program) (here : Here) → Serves t.now p here → AllTaken p here links.now steps.items b.old b.new first r) }
+{
+    let mut steps = steps;
+    let mut a = first;
+    while let Some(step) = steps.pop() {
+        a = take(t, b, links, step, a)?;
+    }
+    Ok(a)
+}
+
+/// A step is taken, from one number to another.
+#[cycle(walk)]
+fn take(t: &Tables, b: &mut Making, links: &[Link], step: Step, a: u32) -> Result<u32, LowerFault>
+    ensures { IfOk result (λ r. (p : Program) (here : Here) → Serves t.now p here → Taken p here links.now step b.old b.new a r) }
+{
+    match step {
+        Step::Apply(i) => {
+            if i >= links.len() {
+                return Err(LowerFault::Memory);
             }
-            match &links[n - 1] {
-                Link::Operate(op, y) => {
-                    let a = chain(t, b, e, n - 1)?;
-                    let c = value(t, b, y)?;
-                    let v = two_operands(b, *op, a, c)?;
-                    Ok(v)
-                }
-                Link::And(y) => {
-                    let freq = b.freq();
-                    let yes = b.label()?;
-                    let no = b.label()?;
-                    let middle = b.label()?;
-                    chain_test(t, b, e, n - 1, middle, no, freq)?;
-                    b.bind(middle)?;
-                    cond(t, b, y, yes, no, half(freq))?;
-                    let v = flagged(b, yes, no, freq)?;
-                    Ok(v)
-                }
-                Link::Or(y) => {
-                    let freq = b.freq();
-                    let yes = b.label()?;
-                    let no = b.label()?;
-                    let middle = b.label()?;
-                    chain_test(t, b, e, n - 1, yes, middle, freq)?;
-                    b.bind(middle)?;
-                    cond(t, b, y, yes, no, half(freq))?;
-                    let v = flagged(b, yes, no, freq)?;
-                    Ok(v)
-                }
-                Link::Element(y) => {
-                    let s = chain(t, b, e, n - 1)?;
-                    let a = value(t, b, y)?;
-                    b.act(Code::Elem, &[a])?;
-                    let bit = b.emit(Code::Bit, &[a])?;
-                    let v = b.emit(Code::Or, &[s, bit])?;
-                    Ok(v)
-                }
-                Link::Elements(y, z) => {
-                    let s = chain(t, b, e, n - 1)?;
-                    let a = value(t, b, y)?;
-                    b.act(Code::Elem, &[a])?;
-                    let c = value(t, b, z)?;
-                    b.act(Code::Elem, &[c])?;
-                    let bits = b.emit(Code::Span, &[a, c])?;
-                    let v = b.emit(Code::Or, &[s, bits])?;
-                    Ok(v)
-                }
+            let r = applied(t, b, &links[i], a)?;
+            Ok(r)
+        }
+        Step::Fork(ways) => {
+            fork(b, a, ways.yes, ways.no, ways.next)?;
+            Ok(a)
+        }
+        Step::Part { link, label, ways } => {
+            if link >= links.len() {
+                return Err(LowerFault::Memory);
             }
+            b.bind(label)?;
+            operand_cond(t, b, &links[link], ways)?;
+            Ok(a)
+        }
+        Step::Flag { yes, no, freq } => {
+            let r = flagged(b, yes, no, freq)?;
+            Ok(r)
+        }
+    }
+}
+
+/// The value with one link more.
+#[cycle(walk)]
+fn applied(t: &Tables, b: &mut Making, link: &Link, a: u32) -> Result<u32, LowerFault>
+    ensures { IfOk result (λ r. (p : Program) (here : Here) → Serves t.now p here → (v : View) (x : Lowers) → Gives v b.old x.value a → Gives v b.new (link_in p here link.now x).value r) }
+{
+    match link {
+        Link::Operate(op, y) => {
+            let c = value(t, b, y)?;
+            let v = two_operands(b, *op, a, c)?;
+            Ok(v)
+        }
+        Link::Element(y) => {
+            let c = value(t, b, y)?;
+            b.act(Code::Elem, &[c])?;
+            let bit = b.emit(Code::Bit, &[c])?;
+            let v = b.emit(Code::Or, &[a, bit])?;
+            Ok(v)
+        }
+        Link::Elements(y, z) => {
+            let c = value(t, b, y)?;
+            b.act(Code::Elem, &[c])?;
+            let d = value(t, b, z)?;
+            b.act(Code::Elem, &[d])?;
+            let bits = b.emit(Code::Span, &[c, d])?;
+            let v = b.emit(Code::Or, &[a, bits])?;
+            Ok(v)
         }
         _ => Err(LowerFault::Memory),
     }
 }
 
-/// A chain with its first so many links, as a condition.
+/// A link's last operand, as a condition.
 #[cycle(walk)]
-fn chain_test(
-    t: &Tables,
-    b: &mut Making,
-    e: &Expr,
-    n: usize,
-    yes: u32,
-    no: u32,
-    next: u64,
-) -> Result<(), LowerFault>
-    ensures { OnOk result ((p : Program) (here : Here) → Serves t.now p here → n ≤ length (links_of e.now) → Tests b.old b.new (prefix_in p here n e.now).test yes no next) }
+fn operand_cond(t: &Tables, b: &mut Making, link: &Link, ways: Ways) -> Result<(), LowerFault>
+    ensures { OnOk result ((p : Program) (here : Here) → Serves t.now p here → Tests b.old b.new (expr_in p here (operand_of link.now)).test ways.yes ways.no ways.next) }
 {
-    match e {
-        Expr::Chain(x, links) => {
-            if n == 0 || n > links.len() {
-                cond(t, b, x, yes, no, next)?;
-                return Ok(());
-            }
-            let freq = b.freq();
-            match &links[n - 1] {
-                Link::And(y) => {
-                    let middle = b.label()?;
-                    chain_test(t, b, e, n - 1, middle, no, freq)?;
-                    b.bind(middle)?;
-                    cond(t, b, y, yes, no, next)?;
-                }
-                Link::Or(y) => {
-                    let middle = b.label()?;
-                    chain_test(t, b, e, n - 1, yes, middle, freq)?;
-                    b.bind(middle)?;
-                    cond(t, b, y, yes, no, next)?;
-                }
-                Link::Operate(_, _) => {
-                    let a = chain(t, b, e, n)?;
-                    fork(b, a, yes, no, next)?;
-                }
-                Link::Element(_) => {
-                    let a = chain(t, b, e, n)?;
-                    fork(b, a, yes, no, next)?;
-                }
-                Link::Elements(_, _) => {
-                    let a = chain(t, b, e, n)?;
-                    fork(b, a, yes, no, next)?;
-                }
-            }
+    match link {
+        Link::Operate(_, y)
+        | Link::And(y)
+        | Link::Or(y)
+        | Link::Element(y)
+        | Link::Elements(_, y) => {
+            cond(t, b, y, ways.yes, ways.no, ways.next)?;
             Ok(())
         }
-        _ => Err(LowerFault::Memory),
     }
 }
 
@@ -559,8 +580,8 @@ pub fn cond(
             cond(t, b, x, no, yes, next)?;
             Ok(())
         }
-        Expr::Chain(_, links) => {
-            chain_test(t, b, e, links.len(), yes, no, next)?;
+        Expr::Chain(x, links) => {
+            chain(t, b, links, x, Wanted::Condition(Ways { yes, no, next }))?;
             Ok(())
         }
         Expr::Compare(r, x, y) => {
@@ -618,13 +639,6 @@ fn branch(
         None,
     )?;
     Ok(())
-}
-
-/// Half of a frequency, and at least 1.
-pub fn half(freq: u64) -> u64
-    ensures { result ≡ half freq }
-{
-    if freq < 2 { 1 } else { freq / 2 }
 }
 
 /// A condition's two ways become 1 and 0: behind the labels and the test.

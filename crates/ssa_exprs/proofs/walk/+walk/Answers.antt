@@ -1,4 +1,4 @@
-use Rattle.std.proofs.Common.{◌≡◌, [], ◌∷◌, ◌++◌, suc, ◌+◌, ◌-◌, ◌<◌, ◌≤◌, length, None, false, refl, sym, ap, ap₂, ◌∙◌, subst, arith, append_assoc}
+use Rattle.std.proofs.Common.{◌≡◌, [], ◌∷◌, ◌++◌, ◌+◌, ◌<◌, length, None, false, refl, sym, ap, ap₂, ◌∙◌, subst, arith, append_assoc}
 use Rattle.std.proofs.lemmas.Result.{IfOk-weaker}
 use Rattle.ob_types.specs.Meaning.{kind_in, length_of_kind, record_of_kind}
 use Rattle.ssa_lowered.specs.Pieces.{emits, does}
@@ -6,17 +6,18 @@ use Rattle.block_runs.specs.declared.code.Code.TheVariants.{Set, Global, GuardTa
 use Rattle.ssa_lowered.specs.Data.{in_cells}
 use Rattle.ssa_lowered.specs.Values.{const, is_pointer, is_tag, tag_in, length_in, address_in, bytes_in, condition, home_of, load, call, call_at, as_byte, with_result}
 use Rattle.ssa_lowered.specs.Lowered.{descriptor, level}
-use Rattle.ssa_exprs.specs.Making.{View, Gives, asked, bound, closed}
+use Rattle.ssa_exprs.specs.Making.{Gives, closed}
 use Rattle.block_runs.specs.declared.end.End.TheVariants.{Branch}
 use Rattle.ssa_exprs.specs.Named.{named_of}
 use Rattle.ssa_exprs.specs.Tables.{expr_in, named_in, based_in, descriptor_in}
-use Rattle.ssa_exprs.specs.Walk.{load_in, select_in, selected_in, guarded_in, texts_in, argument_in, arguments_in, called_in, links_of}
+use Rattle.ssa_exprs.specs.Steps.{Fulfils, Taken, AllTaken, operand_of}
+use Rattle.ssa_exprs.specs.Walk.{load_in, select_in, selected_in, link_in, guarded_in, texts_in, argument_in, arguments_in, called_in}
 use Rattle.ssa_exprs.proofs.Giving.{gives_bind, gives_as}
 use Rattle.ssa_exprs.proofs.Parts.{gives_element, gives_field, gives_dereferenced, gives_narrowed, gives_unary, gives_binary, gives_compared, gives_texts_compared, gives_contained, gives_member, gives_with_element, gives_with_range, gives_as_byte, gives_length_of, gives_tag_of, gives_by_word, gives_by_record, gives_by_open, gives_address, gives_call, gives_call_at, gives_with_result}
-use Rattle.ssa_exprs.proofs.Chains.{one_link, links_are, tests_at, plain_test, unary_test, tests_to, all_links}
-use Rattle.ssa_exprs.proofs.Forks.{tests_and, tests_or, tests_as, tests_not, tests_value, tests_branch}
-use Rattle.ssa_lowered.specs.Control.{Lowers, half}
-use Rattle.ob_types.specs.declared.tree.Link.{Operate, And, Or, Element, Elements}
+use Rattle.ssa_exprs.proofs.Chains.{chain_is, plain_test, unary_test, tests_at, tests_to}
+use Rattle.ssa_exprs.proofs.Planning.{taken_push, no_steps, same_link}
+use Rattle.ssa_exprs.proofs.Forks.{tests_as, tests_not, tests_value, tests_branch}
+use Rattle.ssa_lowered.specs.Control.{Lowers}
 use Rattle.ssa_exprs.proofs.Rows.{value_one, named_part, called_direct, called_indirect}
 use Rattle.ssa_exprs.proofs.Guards.{selecting_more, selecting_end, passing_more, passing_end}
 use Rattle.ssa_exprs.proofs.walk.+walk.Goals as goal
@@ -133,10 +134,7 @@ pub value-returns-in_ok-a-in-Unary : goal.value-returns-in_ok-a-in-Unary
 value-returns-in_ok-a-in-Unary t c = IfOk-weaker c.one_operand.result _ _ (λ v g p here s. gives_as (ap (λ e. (expr_in p here e).value) c.in-Unary.is ∙ value_one c.in-Unary.op (expr_in p here c.in-Unary.x.value)) (gives_unary c.in-Unary.op (gives_as (ap (λ e. (expr_in p here e).value) (sym c.deref.ensures)) (c.in_ok-a-in-Unary.ensures p here s)) g)) c.one_operand.ensures
 
 pub value-returns-in-Chain : goal.value-returns-in-Chain
-value-returns-in-Chain t c = IfOk-weaker c.chain.result _ _ (λ v g p here s.
-    let len : c.len.result ≡ length c.in-Chain.links.items = c.len.ensures ∙ c.in-Chain.links.ok.0 in
-    let few : c.len.result ≤ length (links_of c.args.e.now) = let e = ap length (links_are c.args.e.now c.in-Chain.field-0 c.in-Chain.links c.in-Chain.is) in omega (arith, len, e) in
-    gives_as (ap (λ (z : Lowers). z.value) (all_links p here c.args.e.now c.in-Chain.field-0 c.in-Chain.links c.len.result c.in-Chain.is len)) (g p here s few)) c.chain.ensures
+value-returns-in-Chain t c = IfOk-weaker c.chain.result _ _ (λ v g p here s. gives_as (ap (λ (z : Lowers). z.value) (chain_is p here c.in-Chain.x c.in-Chain.links c.in-Chain.is c.deref-in-Chain-2.ensures c.deref-in-Chain.ensures.value)) (g p here s)) c.chain.ensures
 
 pub value-returns-in_ok-c-in-Compare : goal.value-returns-in_ok-c-in-Compare
 value-returns-in_ok-c-in-Compare t c = IfOk-weaker c.emit-in-Compare.result _ _ (λ v g p here s. gives_as (ap (λ e. (expr_in p here e).value) c.in-Compare.is) (gives_compared c.in-Compare.r (gives_as (ap (λ e. (expr_in p here e).value) (sym c.deref-in-Compare.ensures)) (c.in_ok-a-in-Compare.ensures p here s)) (gives_as (ap (λ e. (expr_in p here e).value) (sym c.deref-in-Compare-2.ensures)) (c.in_ok-c-in-Compare.ensures p here s)) (gives_as (ap (λ k. emits (Set k) (c.in_ok-a-in-Compare.a ∷ c.in_ok-c-in-Compare.c ∷ [])) (sym c.condition.ensures)) g))) c.emit-in-Compare.ensures
@@ -193,106 +191,68 @@ array_length-returns t c = λ p here s.
 pub called-returns : goal.called-returns
 called-returns t c = λ p here s. gives_with_result (c.in_ok-r.ensures p here s) (gives_as (ap (λ ws. emits c.in_ok-r.r.code ws) (sym c.as_slice.ensures.value)) c.in_ok-v.ensures)
 
-pub chain-returns-in_ok-v-in-Operate : goal.chain-returns-in_ok-v-in-Operate
-chain-returns-in_ok-v-in-Operate t c = λ p here s le.
-    let lt : c.args.n - 1 < length c.in-Chain.links.items = omega (arith, c.if-n-eq0.false, c.if-n-len.false, c.len.ensures, c.in-Chain.links.ok.0) in
-    let pos : c.args.n ≡ suc (c.args.n - 1) = omega (arith, c.if-n-eq0.false) in
-    let fewer : c.args.n - 1 ≤ length (links_of c.args.e.now) = omega (arith, le) in
-    let step = one_link p here c.args.e.now c.args.n c.in-Chain.links.items c.index.result.now (Operate c.in-Operate.op c.in-Operate.y) (links_are c.args.e.now c.in-Chain.x c.in-Chain.links c.in-Chain.is) lt pos c.index.ensures c.in-Operate.is in
-    gives_as (ap (λ (z : Lowers). z.value) step) (gives_binary c.in-Operate.op (c.in_ok-a-in-Operate.ensures p here s fewer) (c.in_ok-c-in-Operate.ensures p here s) c.in_ok-v-in-Operate.ensures)
+pub chain-returns : goal.chain-returns
+chain-returns t c = λ p here s. (c.in_ok-plan.ensures p here (expr_in p here c.args.x.now)).by _ _ _ _ (c.in_ok-a.ensures p here s) (c.in_ok-r.ensures p here s)
 
-pub chain-returns-in_ok-v-in-And : goal.chain-returns-in_ok-v-in-And
-chain-returns-in_ok-v-in-And t c = λ p here s le.
-    let lt : c.args.n - 1 < length c.in-Chain.links.items = omega (arith, c.if-n-eq0.false, c.if-n-len.false, c.len.ensures, c.in-Chain.links.ok.0) in
-    let pos : c.args.n ≡ suc (c.args.n - 1) = omega (arith, c.if-n-eq0.false) in
-    let fewer : c.args.n - 1 ≤ length (links_of c.args.e.now) = omega (arith, le) in
-    let step = one_link p here c.args.e.now c.args.n c.in-Chain.links.items c.index.result.now (And c.in-And.y) (links_are c.args.e.now c.in-Chain.x c.in-Chain.links c.in-Chain.is) lt pos c.index.ensures c.in-And.is in
-    let e1 = c.in_ok-yes-in-And.ensures.given in
-    let two : c.label-in-And.new.self ≡ asked (asked c.args.b.now) = c.in_ok-no-in-And.ensures.given ∙ ap asked e1 in
-    let three : c.label-in-And-2.new.self ≡ asked (asked (asked c.args.b.now)) = c.in_ok-middle-in-And.ensures.given ∙ ap asked two in
-    let yes_is : c.in_ok-yes-in-And.yes ≡ c.args.b.now.labels = c.in_ok-yes-in-And.ensures.number in
-    let no_is : c.in_ok-no-in-And.no ≡ suc c.args.b.now.labels = c.in_ok-no-in-And.ensures.number ∙ ap (λ (v : View). v.labels) e1 in
-    let middle_is : c.in_ok-middle-in-And.middle ≡ suc (suc c.args.b.now.labels) = c.in_ok-middle-in-And.ensures.number ∙ ap (λ (v : View). v.labels) two in
-    let freq_is : c.freq-freq.result ≡ c.args.b.now.freq = c.freq-freq.ensures in
-    let one = tests_at three middle_is refl freq_is (c.in_ok-chain_test-in-And.ensures p here s fewer) in
-    let other = tests_at (c.in_ok-bind-in-And.ensures ∙ ap (bound c.chain_test.new.b) middle_is) refl refl (c.half.ensures ∙ ap half freq_is) (c.in_ok-cond-in-And.ensures p here s) in
-    gives_as (ap (λ (z : Lowers). z.value) step) (c.in_ok-v-in-And.ensures c.args.b.now _ yes_is no_is freq_is (tests_and one other))
+pub as_wanted-returns-in_ok-v-in-Value : goal.as_wanted-returns-in_ok-v-in-Value
+as_wanted-returns-in_ok-v-in-Value t c = λ p here s.
+    subst (λ f. Fulfils f c.args.b.now c.value.new.b (expr_in p here c.args.e.now) c.in_ok-v-in-Value.v) (sym c.in-Value.is) (c.in_ok-v-in-Value.ensures p here s)
 
-pub chain-returns-in_ok-v-in-Or : goal.chain-returns-in_ok-v-in-Or
-chain-returns-in_ok-v-in-Or t c = λ p here s le.
-    let lt : c.args.n - 1 < length c.in-Chain.links.items = omega (arith, c.if-n-eq0.false, c.if-n-len.false, c.len.ensures, c.in-Chain.links.ok.0) in
-    let pos : c.args.n ≡ suc (c.args.n - 1) = omega (arith, c.if-n-eq0.false) in
-    let fewer : c.args.n - 1 ≤ length (links_of c.args.e.now) = omega (arith, le) in
-    let step = one_link p here c.args.e.now c.args.n c.in-Chain.links.items c.index.result.now (Or c.in-Or.y) (links_are c.args.e.now c.in-Chain.x c.in-Chain.links c.in-Chain.is) lt pos c.index.ensures c.in-Or.is in
-    let e1 = c.in_ok-yes-in-Or.ensures.given in
-    let two : c.label-in-Or-2.new.self ≡ asked (asked c.args.b.now) = c.in_ok-no-in-Or.ensures.given ∙ ap asked e1 in
-    let three : c.label-in-Or-3.new.self ≡ asked (asked (asked c.args.b.now)) = c.in_ok-middle-in-Or.ensures.given ∙ ap asked two in
-    let yes_is : c.in_ok-yes-in-Or.yes ≡ c.args.b.now.labels = c.in_ok-yes-in-Or.ensures.number in
-    let no_is : c.in_ok-no-in-Or.no ≡ suc c.args.b.now.labels = c.in_ok-no-in-Or.ensures.number ∙ ap (λ (v : View). v.labels) e1 in
-    let middle_is : c.in_ok-middle-in-Or.middle ≡ suc (suc c.args.b.now.labels) = c.in_ok-middle-in-Or.ensures.number ∙ ap (λ (v : View). v.labels) two in
-    let freq_is : c.freq-freq-in-Or.result ≡ c.args.b.now.freq = c.freq-freq-in-Or.ensures in
-    let one = tests_at three refl middle_is freq_is (c.in_ok-chain_test-in-Or.ensures p here s fewer) in
-    let other = tests_at (c.in_ok-bind-in-Or.ensures ∙ ap (bound c.chain_test-in-Or.new.b) middle_is) refl refl (c.half-in-Or.ensures ∙ ap half freq_is) (c.in_ok-cond-in-Or.ensures p here s) in
-    gives_as (ap (λ (z : Lowers). z.value) step) (c.in_ok-v-in-Or.ensures c.args.b.now _ yes_is no_is freq_is (tests_or one other))
+pub as_wanted-returns-in_ok-cond-in-Condition : goal.as_wanted-returns-in_ok-cond-in-Condition
+as_wanted-returns-in_ok-cond-in-Condition t c = λ p here s.
+    subst (λ f. Fulfils f c.args.b.now c.cond.new.b (expr_in p here c.args.e.now) 0) (sym c.in-Condition.is) (c.in_ok-cond-in-Condition.ensures p here s)
 
-pub chain-returns-in_ok-v-in-Element : goal.chain-returns-in_ok-v-in-Element
-chain-returns-in_ok-v-in-Element t c = λ p here s le.
-    let lt : c.args.n - 1 < length c.in-Chain.links.items = omega (arith, c.if-n-eq0.false, c.if-n-len.false, c.len.ensures, c.in-Chain.links.ok.0) in
-    let pos : c.args.n ≡ suc (c.args.n - 1) = omega (arith, c.if-n-eq0.false) in
-    let fewer : c.args.n - 1 ≤ length (links_of c.args.e.now) = omega (arith, le) in
-    let step = one_link p here c.args.e.now c.args.n c.in-Chain.links.items c.index.result.now (Element c.in-Element.y) (links_are c.args.e.now c.in-Chain.x c.in-Chain.links c.in-Chain.is) lt pos c.index.ensures c.in-Element.is in
-    gives_as (ap (λ (z : Lowers). z.value) step) (gives_with_element (expr_in p here c.in-Element.y).value (c.in_ok-s-in-Element.ensures p here s fewer) (gives_member (c.in_ok-a-in-Element.ensures p here s) c.in_ok-act-in-Element.ensures) c.in_ok-bit-in-Element.ensures c.in_ok-v-in-Element.ensures)
+pub take_all-loop-step-init : goal.take_all-loop-step-init
+take_all-loop-step-init t c = λ p here s new r g. g
 
-pub chain-returns-in_ok-v-in-Elements : goal.chain-returns-in_ok-v-in-Elements
-chain-returns-in_ok-v-in-Elements t c = λ p here s le.
-    let lt : c.args.n - 1 < length c.in-Chain.links.items = omega (arith, c.if-n-eq0.false, c.if-n-len.false, c.len.ensures, c.in-Chain.links.ok.0) in
-    let pos : c.args.n ≡ suc (c.args.n - 1) = omega (arith, c.if-n-eq0.false) in
-    let fewer : c.args.n - 1 ≤ length (links_of c.args.e.now) = omega (arith, le) in
-    let step = one_link p here c.args.e.now c.args.n c.in-Chain.links.items c.index.result.now (Elements c.in-Elements.y c.in-Elements.z) (links_are c.args.e.now c.in-Chain.x c.in-Chain.links c.in-Chain.is) lt pos c.index.ensures c.in-Elements.is in
-    gives_as (ap (λ (z : Lowers). z.value) step) (gives_with_range (expr_in p here c.in-Elements.y).value (expr_in p here c.in-Elements.z).value (c.in_ok-s-in-Elements.ensures p here s fewer) (gives_member (c.in_ok-a-in-Elements.ensures p here s) c.in_ok-act-in-Elements.ensures) (gives_member (c.in_ok-c-in-Elements.ensures p here s) c.in_ok-act-in-Elements-2.ensures) c.in_ok-bits-in-Elements.ensures c.in_ok-v-in-Elements.ensures)
+pub take_all-loop-step-preserved : goal.take_all-loop-step-preserved
+take_all-loop-step-preserved t c = λ p here s new r g.
+    let ks = c.args.links.now in
+    c.loop-step.invariant p here s new r
+    (subst (λ l. AllTaken p here ks l c.loop-step.b new c.loop-step.a r) (sym c.in-Some.ensures.items)
+    (taken_push p here ks c.pop.new.self.items c.in-Some.step c.loop-step.b c.take.new.b new c.loop-step.a c.in_ok-a.a r (c.in_ok-a.ensures p here s) g))
 
-pub chain_test-returns-in_ok-cond-in-And : goal.chain_test-returns-in_ok-cond-in-And
-chain_test-returns-in_ok-cond-in-And t c = λ p here s le.
-    let lt : c.args.n - 1 < length c.in-Chain.links.items = omega (arith, c.if-n-eq0.false, c.if-n-len.false, c.len.ensures, c.in-Chain.links.ok.0) in
-    let pos : c.args.n ≡ suc (c.args.n - 1) = omega (arith, c.if-n-eq0.false) in
-    let fewer : c.args.n - 1 ≤ length (links_of c.args.e.now) = omega (arith, le) in
-    let step = one_link p here c.args.e.now c.args.n c.in-Chain.links.items c.index.result.now (And c.in-And.y) (links_are c.args.e.now c.in-Chain.x c.in-Chain.links c.in-Chain.is) lt pos c.index.ensures c.in-And.is in
-    let middle_is : c.in_ok-middle-in-And.middle ≡ c.args.b.now.labels = c.in_ok-middle-in-And.ensures.number in
-    let one = tests_at c.in_ok-middle-in-And.ensures.given middle_is refl c.freq-freq.ensures (c.in_ok-chain_test-in-And.ensures p here s fewer) in
-    let other = tests_at (c.in_ok-bind-in-And.ensures ∙ ap (bound c.chain_test.new.b) middle_is) refl refl refl (c.in_ok-cond-in-And.ensures p here s) in
-    tests_as (ap (λ (z : Lowers). z.test) step) (tests_and one other)
+pub take_all-returns : goal.take_all-returns
+take_all-returns t c = λ p here s.
+    let len : length c.loop-step.steps.items ≡ 0 = omega (arith, c.in_default.ensures.cases.0, c.loop-step.steps.ok.0) in
+    c.loop-step.invariant p here s c.loop-step.b c.loop-step.a
+    (subst (λ l. AllTaken p here c.args.links.now l c.loop-step.b c.loop-step.b c.loop-step.a c.loop-step.a) (sym (no_steps c.loop-step.steps.items len)) (refl, refl))
 
-pub chain_test-returns-in_ok-cond-in-Or : goal.chain_test-returns-in_ok-cond-in-Or
-chain_test-returns-in_ok-cond-in-Or t c = λ p here s le.
-    let lt : c.args.n - 1 < length c.in-Chain.links.items = omega (arith, c.if-n-eq0.false, c.if-n-len.false, c.len.ensures, c.in-Chain.links.ok.0) in
-    let pos : c.args.n ≡ suc (c.args.n - 1) = omega (arith, c.if-n-eq0.false) in
-    let fewer : c.args.n - 1 ≤ length (links_of c.args.e.now) = omega (arith, le) in
-    let step = one_link p here c.args.e.now c.args.n c.in-Chain.links.items c.index.result.now (Or c.in-Or.y) (links_are c.args.e.now c.in-Chain.x c.in-Chain.links c.in-Chain.is) lt pos c.index.ensures c.in-Or.is in
-    let middle_is : c.in_ok-middle-in-Or.middle ≡ c.args.b.now.labels = c.in_ok-middle-in-Or.ensures.number in
-    let one = tests_at c.in_ok-middle-in-Or.ensures.given refl middle_is c.freq-freq.ensures (c.in_ok-chain_test-in-Or.ensures p here s fewer) in
-    let other = tests_at (c.in_ok-bind-in-Or.ensures ∙ ap (bound c.chain_test-in-Or.new.b) middle_is) refl refl refl (c.in_ok-cond-in-Or.ensures p here s) in
-    tests_as (ap (λ (z : Lowers). z.test) step) (tests_or one other)
+pub take-returns-in_ok-r-in-Apply : goal.take-returns-in_ok-r-in-Apply
+take-returns-in_ok-r-in-Apply t c = λ p here s.
+    let ks = c.args.links.now in
+    let one = c.in_ok-r-in-Apply.ensures p here s in
+    subst (λ z. Taken p here ks z c.args.b.now c.applied.new.b c.args.a c.in_ok-r-in-Apply.r) (sym c.in-Apply.is)
+    (λ k at v x g. gives_as (ap (λ j. (link_in p here j x).value) (sym (same_link ks c.in-Apply.i c.index-links-i.result k c.index-links-i.is at))) (one v x g))
 
-pub chain_test-returns-in_ok-fork-in-Operate : goal.chain_test-returns-in_ok-fork-in-Operate
-chain_test-returns-in_ok-fork-in-Operate t c = λ p here s le.
-    let lt : c.args.n - 1 < length c.in-Chain.links.items = omega (arith, c.if-n-eq0.false, c.if-n-len.false, c.len.ensures, c.in-Chain.links.ok.0) in
-    let pos : c.args.n ≡ suc (c.args.n - 1) = omega (arith, c.if-n-eq0.false) in
-    let step = one_link p here c.args.e.now c.args.n c.in-Chain.links.items c.index.result.now (Operate c.in-Operate.field-0 c.in-Operate.field-1) (links_are c.args.e.now c.in-Chain.x c.in-Chain.links c.in-Chain.is) lt pos c.index.ensures c.in-Operate.is in
-    tests_as (ap (λ (z : Lowers). z.test) step) (tests_to c.in_ok-fork-in-Operate.ensures (tests_value c.args.yes c.args.no c.args.next (gives_as (sym (ap (λ (z : Lowers). z.value) step)) (c.in_ok-a-in-Operate.ensures p here s le))))
+pub take-returns-in_ok-fork-in-Fork : goal.take-returns-in_ok-fork-in-Fork
+take-returns-in_ok-fork-in-Fork t c = λ p here s.
+    subst (λ z. Taken p here c.args.links.now z c.args.b.now c.fork.new.b c.args.a c.args.a) (sym c.in-Fork.is) c.in_ok-fork-in-Fork.ensures
 
-pub chain_test-returns-in_ok-fork-in-Element : goal.chain_test-returns-in_ok-fork-in-Element
-chain_test-returns-in_ok-fork-in-Element t c = λ p here s le.
-    let lt : c.args.n - 1 < length c.in-Chain.links.items = omega (arith, c.if-n-eq0.false, c.if-n-len.false, c.len.ensures, c.in-Chain.links.ok.0) in
-    let pos : c.args.n ≡ suc (c.args.n - 1) = omega (arith, c.if-n-eq0.false) in
-    let step = one_link p here c.args.e.now c.args.n c.in-Chain.links.items c.index.result.now (Element c.in-Element.field-0) (links_are c.args.e.now c.in-Chain.x c.in-Chain.links c.in-Chain.is) lt pos c.index.ensures c.in-Element.is in
-    tests_as (ap (λ (z : Lowers). z.test) step) (tests_to c.in_ok-fork-in-Element.ensures (tests_value c.args.yes c.args.no c.args.next (gives_as (sym (ap (λ (z : Lowers). z.value) step)) (c.in_ok-a-in-Element.ensures p here s le))))
+pub take-returns-in_ok-operand_cond-in-Part : goal.take-returns-in_ok-operand_cond-in-Part
+take-returns-in_ok-operand_cond-in-Part t c = λ p here s.
+    let ks = c.args.links.now in
+    let one = tests_at c.in_ok-bind-in-Part.ensures refl refl refl (c.in_ok-operand_cond-in-Part.ensures p here s) in
+    subst (λ z. Taken p here ks z c.args.b.now c.operand_cond.new.b c.args.a c.args.a) (sym c.in-Part.is)
+    (λ k at. tests_as (ap (λ j. (expr_in p here (operand_of j)).test) (sym (same_link ks c.in-Part.link c.index-links-link.result k c.index-links-link.is at))) one)
 
-pub chain_test-returns-in_ok-fork-in-Elements : goal.chain_test-returns-in_ok-fork-in-Elements
-chain_test-returns-in_ok-fork-in-Elements t c = λ p here s le.
-    let lt : c.args.n - 1 < length c.in-Chain.links.items = omega (arith, c.if-n-eq0.false, c.if-n-len.false, c.len.ensures, c.in-Chain.links.ok.0) in
-    let pos : c.args.n ≡ suc (c.args.n - 1) = omega (arith, c.if-n-eq0.false) in
-    let step = one_link p here c.args.e.now c.args.n c.in-Chain.links.items c.index.result.now (Elements c.in-Elements.field-0 c.in-Elements.field-1) (links_are c.args.e.now c.in-Chain.x c.in-Chain.links c.in-Chain.is) lt pos c.index.ensures c.in-Elements.is in
-    tests_as (ap (λ (z : Lowers). z.test) step) (tests_to c.in_ok-fork-in-Elements.ensures (tests_value c.args.yes c.args.no c.args.next (gives_as (sym (ap (λ (z : Lowers). z.value) step)) (c.in_ok-a-in-Elements.ensures p here s le))))
+pub take-returns-in_ok-r-in-Flag : goal.take-returns-in_ok-r-in-Flag
+take-returns-in_ok-r-in-Flag t c = λ p here s.
+    subst (λ z. Taken p here c.args.links.now z c.args.b.now c.flagged.new.b c.args.a c.in_ok-r-in-Flag.r) (sym c.in-Flag.is) c.in_ok-r-in-Flag.ensures
+
+pub applied-returns-in_ok-v-in-Operate : goal.applied-returns-in_ok-v-in-Operate
+applied-returns-in_ok-v-in-Operate t c = λ p here s v x g.
+    gives_as (ap (λ k. (link_in p here k x).value) c.in-Operate.is) (gives_binary c.in-Operate.op g (c.in_ok-c-in-Operate.ensures p here s) c.in_ok-v-in-Operate.ensures)
+
+pub applied-returns-in_ok-v-in-Element : goal.applied-returns-in_ok-v-in-Element
+applied-returns-in_ok-v-in-Element t c = λ p here s v x g.
+    gives_as (ap (λ k. (link_in p here k x).value) c.in-Element.is)
+    (gives_with_element (expr_in p here c.in-Element.y).value g (gives_member (c.in_ok-c-in-Element.ensures p here s) c.in_ok-act-in-Element.ensures) c.in_ok-bit-in-Element.ensures c.in_ok-v-in-Element.ensures)
+
+pub applied-returns-in_ok-v-in-Elements : goal.applied-returns-in_ok-v-in-Elements
+applied-returns-in_ok-v-in-Elements t c = λ p here s v x g.
+    gives_as (ap (λ k. (link_in p here k x).value) c.in-Elements.is)
+    (gives_with_range (expr_in p here c.in-Elements.y).value (expr_in p here c.in-Elements.z).value g (gives_member (c.in_ok-c-in-Elements.ensures p here s) c.in_ok-act-in-Elements.ensures) (gives_member (c.in_ok-d-in-Elements.ensures p here s) c.in_ok-act-in-Elements-2.ensures) c.in_ok-bits-in-Elements.ensures c.in_ok-v-in-Elements.ensures)
 
 pub cond-returns-then-is_plain : goal.cond-returns-then-is_plain
 cond-returns-then-is_plain t c = λ p here s. tests_as (plain_test p here c.args.e.now (sym c.if-is_plain.ensures)) (tests_to c.in_ok-fork.ensures (tests_value c.args.yes c.args.no c.args.next (c.in_ok-a.ensures p here s)))
@@ -300,11 +260,8 @@ cond-returns-then-is_plain t c = λ p here s. tests_as (plain_test p here c.args
 pub cond-returns-in_ok-cond-in-Unary : goal.cond-returns-in_ok-cond-in-Unary
 cond-returns-in_ok-cond-in-Unary t c = λ p here s. tests_as (unary_test p here c.args.e.now c.in-Unary.field-0 c.in-Unary.x c.in-Unary.is (sym c.if-is_plain.ensures)) (tests_not (tests_as (ap (λ e. (expr_in p here e).test) (sym c.deref.ensures)) (c.in_ok-cond-in-Unary.ensures p here s)))
 
-pub cond-returns-in_ok-chain_test-in-Chain : goal.cond-returns-in_ok-chain_test-in-Chain
-cond-returns-in_ok-chain_test-in-Chain t c = λ p here s.
-    let len : c.len.result ≡ length c.in-Chain.links.items = c.len.ensures ∙ c.in-Chain.links.ok.0 in
-    let few : c.len.result ≤ length (links_of c.args.e.now) = let e = ap length (links_are c.args.e.now c.in-Chain.field-0 c.in-Chain.links c.in-Chain.is) in omega (arith, len, e) in
-    tests_as (ap (λ (z : Lowers). z.test) (all_links p here c.args.e.now c.in-Chain.field-0 c.in-Chain.links c.len.result c.in-Chain.is len)) (c.in_ok-chain_test-in-Chain.ensures p here s few)
+pub cond-returns-in_ok-chain-in-Chain : goal.cond-returns-in_ok-chain-in-Chain
+cond-returns-in_ok-chain-in-Chain t c = λ p here s. tests_as (ap (λ (z : Lowers). z.test) (chain_is p here c.in-Chain.x c.in-Chain.links c.in-Chain.is c.deref-in-Chain-2.ensures c.deref-in-Chain.ensures.value)) (c.in_ok-chain-in-Chain.ensures p here s)
 
 pub cond-returns-in_ok-branch-in-Compare : goal.cond-returns-in_ok-branch-in-Compare
 cond-returns-in_ok-branch-in-Compare t c = λ p here s.

@@ -1,12 +1,14 @@
-use Rattle.std.proofs.Common.{drop, List, ℕ, max, ◌+◌, ◌*◌}
+use Rattle.std.proofs.Common.{drop, length, List, ℕ, max, ◌+◌, ◌*◌}
 use Rattle.ob_types.specs.declared.program.Program.{Program}
 use Rattle.ssa_lowered.specs.Lowered.{Here}
 use Rattle.ssa_lowered.specs.Values.{Named}
 use Rattle.ssa_exprs.specs.Making.{View}
 use Rattle.ssa_exprs.specs.Named.{named_of}
+use Rattle.ssa_exprs.specs.Steps.{AllTaken}
 use Rattle.ssa_exprs.specs.Tables.{Serves}
 use Rattle.ssa_exprs.proofs.Guards.{Selecting, Passing}
 use Rattle.ob_types.specs.declared.tree.Designator.{size-Designator}
+use Rattle.ob_types.specs.declared.tree.Expr.{size-Expr}
 use Rattle.ssa_exprs.proofs.walk.+walk.Given as goal
 
 abbrev pub invariant-selected-loop-s : goal.invariant-selected-loop-s
@@ -14,6 +16,12 @@ invariant-selected-loop-s l = (program : Program) (here : Here) → Serves l.fn.
 
 abbrev pub invariant-arguments-loop-a : goal.invariant-arguments-loop-a
 invariant-arguments-loop-a l = (program : Program) (here : Here) → Serves l.t program here → (new : View) (words : List ℕ) → Passing program here (drop l.a-index l.args) l.b new l.words.items words → Passing program here l.args l.initial.b new l.initial.words.items words
+
+abbrev pub invariant-take_all-loop-step : goal.invariant-take_all-loop-step
+invariant-take_all-loop-step l = (program : Program) (here : Here) → Serves l.fn.t program here → (new : View) (r : ℕ) → AllTaken program here l.links l.steps.items l.b new l.a r → AllTaken program here l.links l.initial.steps.items l.initial.b new l.initial.a r
+
+abbrev pub decreases-take_all-loop-step : goal.decreases-take_all-loop-step
+decreases-take_all-loop-step l = length l.steps.items
 
 abbrev pub decreases-load : goal.decreases-load
 decreases-load l = goal.size-load l * 147573952589676412928 + 2
@@ -58,7 +66,19 @@ abbrev pub decreases-argument : goal.decreases-argument
 decreases-argument l = goal.size-argument l * 147573952589676412928 + 0
 
 abbrev pub decreases-chain : goal.decreases-chain
-decreases-chain l = goal.size-chain l * 147573952589676412928 + 2 * l.n
+decreases-chain l = max (goal.size-chain l) (size-Expr l.x.now) * 147573952589676412928 + 36893488147419103235
 
-abbrev pub decreases-chain_test : goal.decreases-chain_test
-decreases-chain_test l = goal.size-chain_test l * 147573952589676412928 + (1 + 2 * l.n)
+abbrev pub decreases-as_wanted : goal.decreases-as_wanted
+decreases-as_wanted l = goal.size-as_wanted l * 147573952589676412928 + 36893488147419103234
+
+abbrev pub decreases-take_all : goal.decreases-take_all
+decreases-take_all l = goal.size-take_all l * 147573952589676412928 + 3
+
+abbrev pub decreases-take : goal.decreases-take
+decreases-take l = goal.size-take l * 147573952589676412928 + 2
+
+abbrev pub decreases-applied : goal.decreases-applied
+decreases-applied l = goal.size-applied l * 147573952589676412928 + 1
+
+abbrev pub decreases-operand_cond : goal.decreases-operand_cond
+decreases-operand_cond l = goal.size-operand_cond l * 147573952589676412928 + 1
