@@ -1,3 +1,3 @@
-mod Simple
 mod Taking
 mod Matching
+mod Fitting

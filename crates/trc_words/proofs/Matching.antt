@@ -1,31 +1,40 @@
 -- From matches to what words ask for.
-use Rattle.std.proofs.Common.{◌≡◌, ℕ, ◌+◌, ◌-◌, ◌<◌, ◌≤◌, ◌^◌, Bool, true, false, ◌&&◌, List, [], ◌∷◌, length, drop, nat_le, Option, Some, None, Result, Ok, Err, cond, ⊎_elim, refl, sym, ap, ap₂, ◌∙◌, subst, arith}
-use Rattle.std.specs.Prelude.{option_map, slice_index}
+use Rattle.std.proofs.Common.{◌≡◌, ℕ, ◌<◌, ◌≤◌, ◌^◌, Bool, true, false, ◌&&◌, List, [], ◌∷◌, length, drop, nat_le, Option, Some, None, Result, Ok, Err, IsErrAnd, cond, ⊎_elim, refl, sym, ap, ap₂, ◌∙◌, subst, arith}
 use Rattle.std.specs.List.{list_all}
 use Rattle.std.specs.Str.Parse.{AllDigits, IsNumeral, digits_value, without_leading_plus}
 use Rattle.std.specs.Char.{digit_value}
 use Rattle.std.proofs.lemmas.Bool.{leb-true, ne_eqb}
 use Rattle.std.proofs.lemmas.Bool.Decides.{leb_tells}
 use Rattle.std.proofs.lemmas.Str.{digit_value_digit}
-use Rattle.clap.specs.Words.{App, Row, fault_of, found_of, matches_of, rows_of}
+use Rattle.clap.specs.Words.{App, Row, found_of, matches_of, rows_of}
 use Rattle.clap.specs.declared.parser.matches.ArgMatches.{ArgMatches}
-use Rattle.trc_words.specs.Asked.{Asked, is_none, taken}
+use Rattle.trc_words.specs.Asked.{Asked, taken}
 use Rattle.trc_words.specs.Taking.{IsTakenBy}
-use Rattle.trc_words.specs.Numbers.{is_digit, is_number, number_up_to}
-use Rattle.trc_words.specs.Requests.{Asks, plain}
+use Rattle.trc_words.specs.Numbers.{is_digit, is_number, is_between, number_between}
+use Rattle.trc_words.specs.Requests.{Asks}
 use Rattle.trc_words.specs.declared.asked.Request.{Request}
-use Rattle.trc_words.specs.declared.asked.WordsFault.TheVariants.{Usage}
+use Rattle.trc_words.specs.declared.asked.WordsFault.{WordsFault}
+use Rattle.trc_words.specs.declared.asked.WordsFault.TheVariants.{Usage, Memory}
 
 -- a command that takes words asks for what its matches do
 pub taken_is : (app : App) (words : List (List ℕ)) (m : ArgMatches) (f : List Row → Option Asked) → IsTakenBy app words (Ok m) → taken app words f ≡ f (rows_of (found_of m))
+unfolding taken
 taken_is app words m f h = ap (λ b. cond b (f (matches_of app words)) None) h.0 ∙ ap f (sym h.1)
 
--- the request that its matches make
-pub asks_some : (app : App) (words : List (List ℕ)) (m : ArgMatches) (f : List Row → Option Asked) (request : Request) → IsTakenBy app words (Ok m) → option_map plain (Some request) ≡ f (rows_of (found_of m)) → Asks (taken app words f) (Ok request)
-asks_some app words m f request h e = taken_is app words m f h ∙ sym e
+pub asks_taken : (app : App) (words : List (List ℕ)) (m : ArgMatches) (f : List Row → Option Asked) (r : Result Request WordsFault)
+    → IsTakenBy app words (Ok m) → Asks (f (rows_of (found_of m))) r → Asks (taken app words f) r
+asks_taken app words m f r h asks = subst (λ o. Asks o r) (sym (taken_is app words m f h)) asks
 
-pub asks_none : (app : App) (words : List (List ℕ)) (m : ArgMatches) (f : List Row → Option Asked) → IsTakenBy app words (Ok m) → None ≡ f (rows_of (found_of m)) → Asks (taken app words f) (Err Usage)
-asks_none app words m f h e = taken_is app words m f h ∙ sym e
+refused : (app : App) (words : List (List ℕ)) (f : List Row → Option Asked) (fault : WordsFault) → IsTakenBy app words (Err fault) → Asks (taken app words f) (Err fault)
+unfolding taken
+refused app words f Usage h = ap (λ b. cond b (f (matches_of app words)) None) h
+refused app words f Memory h = tt
+
+-- one that refuses them asks for nothing, or memory ran out
+pub asks_refused : (app : App) (words : List (List ℕ)) (f : List Row → Option Asked) (fault : WordsFault) (r : Result Request WordsFault)
+    → IsTakenBy app words (Err fault) → IsErrAnd r (λ e. e ≡ fault) → Asks (taken app words f) r
+asks_refused app words f fault (Ok request) h e = absurd e
+asks_refused app words f fault (Err other) h e = subst (λ x. Asks (taken app words f) (Err x)) (sym e) (refused app words f fault h)
 
 ---- Digits
 
@@ -39,6 +48,10 @@ second_holds false b e = cc
 
 not_le : (a b : ℕ) → (a ≤ b → ⊥) → nat_le a b ≡ false
 not_le a b h = ⊎_elim (λ t. absurd (h t.1)) (λ f. f.0) (leb_tells a b)
+
+not_and : (a b : Bool) → b ≡ false → (a && b) ≡ false
+not_and true b e = e
+not_and false b e = refl
 
 digit_below : (byte : ℕ) → is_digit byte ≡ true → digit_value byte < 10
 digit_below byte e =
@@ -68,10 +81,11 @@ numeral text e =
     (subst (IsNumeral 10) (sym plain) (some, all_digits text digits), ap (digits_value 10) plain)
 
 -- what isn't read is more than 64 bits have
-pub unread : (most : ℕ) (text : List ℕ) → is_number text ≡ true → most < 2 ^ 64
-    → (IsNumeral 10 (without_leading_plus text) × (digits_value 10 (without_leading_plus text) < 2 ^ 64) → ⊥) → None ≡ number_up_to most text
-unread most text e l refused =
+pub unread : (least most : ℕ) (text : List ℕ) → is_number text ≡ true → most < 2 ^ 64
+    → (IsNumeral 10 (without_leading_plus text) × (digits_value 10 (without_leading_plus text) < 2 ^ 64) → ⊥) → None ≡ number_between least most text
+unread least most text e l refused =
     let n = numeral text e in
     let large : (digits_value 10 text < 2 ^ 64 → ⊥) = λ h. refused (n.0, subst (λ x. x < 2 ^ 64) (sym n.1) h) in
     let over : nat_le (digits_value 10 text) most ≡ false = not_le (digits_value 10 text) most (λ h. large (omega (arith, l, h))) in
-    sym (ap₂ (λ a b. cond (a && b) (Some (digits_value 10 text)) None) e over)
+    let outside : is_between least most (digits_value 10 text) ≡ false = not_and (nat_le least (digits_value 10 text)) _ over in
+    sym (ap₂ (λ a b. cond (a && b) (Some (digits_value 10 text)) None) e outside)

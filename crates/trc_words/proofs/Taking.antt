@@ -1,9 +1,8 @@
 -- From what `clap` says of a parse to what a command takes.
-use Rattle.std.proofs.Common.{◌≡◌, ◌⊎◌, inl, inr, ℕ, Bool, true, false, ◌&&◌, List, [], ◌∷◌, Result, Ok, Err, refl, sym, ap, subst}
-use Rattle.clap.specs.Words.{App, app_of, fault_of, found_of, kind_of, matches_of, rows_of, HasMatchesOf}
+use Rattle.std.proofs.Common.{◌≡◌, ◌⊎◌, inl, inr, ℕ, Bool, true, false, ◌&&◌, List, [], ◌∷◌, Ok, Err, refl, ap}
+use Rattle.clap.specs.Words.{App, fault_of, kind_of, HasMatchesOf}
 use Rattle.trc_words.specs.Asked.{is_none}
 use Rattle.clap.specs.Kinds.{HasKind, IsAmong, Kinds}
-use Rattle.clap.specs.Simple.{is_simple}
 use Rattle.clap.specs.Faults.{is_simple_and_free}
 use Rattle.clap.specs.declared.error.Error.{Error}
 use Rattle.clap.specs.declared.error.kind.ErrorKind.{ErrorKind}

@@ -1,30 +1,61 @@
 -- What words ask for.
 use Rattle.std.specs.Prelude.{ℕ, List, [], ◌∷◌, Bool, true, false, Option, Some, None, codes, if◌then◌else◌}
 use Rattle.std.specs.Str.{bytes_eq}
-use Rattle.clap.specs.Words.{App, Row, fault_of, first_of, matches_of}
+use Rattle.clap.specs.Words.{App, Row, all_of, fault_of, first_of, matches_of}
 use Rattle.clap.specs.Kinds.{Kinds}
-use Rattle.trc_words.specs.Commands.{run_command, build_command, exec_command, help_command}
-use Rattle.trc_words.specs.Numbers.{number_up_to}
+use Rattle.alloc_choice.specs.declared.choice.Choice.{Choice}
+use Rattle.trc_words.specs.Commands.{run_command, build_command, exec_command, traces_command, bulk_command, help_command}
+use Rattle.trc_words.specs.Numbers.{number_between}
+use Rattle.trc_words.specs.Options.{choice_in, given, steps_in, traces_choice_in}
 
 pub data Asked : Type 0 where
-  Run : (file : List ℕ) (steps : ℕ) → Asked
-  Build : (out file : List ℕ) → Asked
+  Run : (files : List (List ℕ)) (choice : Choice) (steps : ℕ) → Asked
+  Build : (out : List ℕ) (files : List (List ℕ)) (choice : Choice) → Asked
   Exec : (image : List ℕ) (steps : ℕ) → Asked
+  Traces : (files : List (List ℕ)) (choice : Choice) → Asked
+  Bulk : (seed size : ℕ) (choice : Choice) (steps : ℕ) → Asked
   Help : Asked
 
-module _ {A B : Type 0} where
-  -- where there is a value, what it leads to
-  abbrev pub given : Option A → (A → Option B) → Option B
-  given None f = None
-  given (Some a) f = f a
+-- a list that isn't empty
+abbrev pub some_of : List (List ℕ) → Option (List (List ℕ))
+some_of [] = None
+some_of (first ∷ rest) = Some (first ∷ rest)
 
--- the steps of a run: 1,000,000,000 where the words don't say, at most 1,000,000,000,000,000
-abbrev pub steps_by : Option (List ℕ) → Option ℕ
-steps_by None = Some 1000000000
-steps_by (Some text) = number_up_to 1000000000000000 text
+-- the names of the files, of which there is one at least
+abbrev pub files_in : List Row → Option (List (List ℕ))
+files_in rows = given (all_of (codes "FILE") rows) some_of
 
-abbrev pub steps_in : List Row → Option ℕ
-steps_in rows = steps_by (first_of (codes "steps") rows)
+abbrev pub seed_in : List Row → Option ℕ
+seed_in rows = given (first_of (codes "SEED") rows) (number_between 0 9223372036854775807)
+
+abbrev pub size_in : List Row → Option ℕ
+size_in rows = given (first_of (codes "SIZE") rows) (number_between 1 1000)
+
+abbrev pub run_asked : List Row → Option Asked
+run_asked rows =
+    given (files_in rows) (λ files.
+    given (choice_in rows) (λ choice. given (steps_in rows) (λ steps. Some (Run files choice steps))))
+
+abbrev pub build_asked : List Row → Option Asked
+build_asked rows =
+    given (first_of (codes "OUT") rows) (λ out.
+    given (files_in rows) (λ files. given (choice_in rows) (λ choice. Some (Build out files choice))))
+
+abbrev pub exec_asked : List Row → Option Asked
+exec_asked rows =
+    given (first_of (codes "IMAGE") rows) (λ image. given (steps_in rows) (λ steps. Some (Exec image steps)))
+
+abbrev pub traces_asked : List Row → Option Asked
+traces_asked rows =
+    given (files_in rows) (λ files. given (traces_choice_in rows) (λ choice. Some (Traces files choice)))
+
+abbrev pub bulk_asked : List Row → Option Asked
+bulk_asked rows =
+    given (seed_in rows) (λ seed. given (size_in rows) (λ size.
+    given (choice_in rows) (λ choice. given (steps_in rows) (λ steps. Some (Bulk seed size choice steps)))))
+
+abbrev pub help_asked : List Row → Option Asked
+help_asked rows = Some Help
 
 -- no kind of fault
 abbrev pub is_none : Kinds → Bool
@@ -32,20 +63,8 @@ is_none [] = true
 is_none (kind ∷ kinds) = false
 
 -- where a command takes the words, what its matches lead to
-abbrev pub taken : App → List (List ℕ) → (List Row → Option Asked) → Option Asked
+unfoldable pub taken : App → List (List ℕ) → (List Row → Option Asked) → Option Asked
 taken app words f = if is_none (fault_of app words) then f (matches_of app words) else None
-
-abbrev pub run_asked : List Row → Option Asked
-run_asked rows = given (first_of (codes "FILE") rows) (λ file. given (steps_in rows) (λ steps. Some (Run file steps)))
-
-abbrev pub build_asked : List Row → Option Asked
-build_asked rows = given (first_of (codes "OUT") rows) (λ out. given (first_of (codes "FILE") rows) (λ file. Some (Build out file)))
-
-abbrev pub exec_asked : List Row → Option Asked
-exec_asked rows = given (first_of (codes "IMAGE") rows) (λ image. given (steps_in rows) (λ steps. Some (Exec image steps)))
-
-abbrev pub help_asked : List Row → Option Asked
-help_asked rows = Some Help
 
 -- what the words of a command ask for; the command is the first of them
 abbrev pub asked_of : List ℕ → List (List ℕ) → Option Asked
@@ -53,8 +72,10 @@ asked_of command words =
     if bytes_eq command (codes "run") then taken run_command words run_asked
     else (if bytes_eq command (codes "build") then taken build_command words build_asked
     else (if bytes_eq command (codes "exec") then taken exec_command words exec_asked
+    else (if bytes_eq command (codes "traces") then taken traces_command words traces_asked
+    else (if bytes_eq command (codes "bulk") then taken bulk_command words bulk_asked
     else (if bytes_eq command (codes "help") then taken help_command words help_asked
-    else None)))
+    else None)))))
 
 -- what words ask for, or nothing where they are refused
 abbrev pub asked : List (List ℕ) → Option Asked

@@ -10,6 +10,10 @@ is_digit byte = nat_le 48 byte && nat_le byte 57
 abbrev pub is_number : List ℕ → Bool
 is_number text = (nat_le 1 (length text) && nat_le (length text) 19) && list_all is_digit text
 
--- the number that a text spells, where it is at most `most`
-abbrev pub number_up_to : ℕ → List ℕ → Option ℕ
-number_up_to most text = if is_number text && nat_le (digits_value 10 text) most then Some (digits_value 10 text) else None
+abbrev pub is_between : ℕ → ℕ → ℕ → Bool
+is_between least most n = nat_le least n && nat_le n most
+
+-- the number that a text spells, where it is `least` to `most`
+abbrev pub number_between : ℕ → ℕ → List ℕ → Option ℕ
+number_between least most text =
+    if is_number text && is_between least most (digits_value 10 text) then Some (digits_value 10 text) else None

@@ -1,21 +1,33 @@
 -- A request, as what words ask for.
-use Rattle.std.specs.Prelude.{◌≡◌, Option, Some, None, Result, Ok, Err}
+use Rattle.std.specs.Prelude.{◌≡◌, ℕ, List, map, Option, Some, None, Result, Ok, Err}
+use Rattle.std.specs.Borrow.{Bor}
 use Rattle.trc_words.specs.Asked.{Asked}
 use Rattle.trc_words.specs.Asked as asked
 use Rattle.trc_words.specs.declared.asked.Request.{Request}
-use Rattle.trc_words.specs.declared.asked.Request.TheVariants.{Run, Build, Exec, Help}
+use Rattle.trc_words.specs.declared.asked.Request.TheVariants.{Run, Build, Exec, Traces, Bulk, Help}
 use Rattle.trc_words.specs.declared.asked.WordsFault.{WordsFault}
 use Rattle.trc_words.specs.declared.asked.WordsFault.TheVariants.{Usage, Memory}
 
+-- the bytes of each text
+abbrev pub texts : List (Bor (List ℕ)) → List (List ℕ)
+texts list = map (λ text. text.now) list
+
 -- what a request asks for
 abbrev pub plain : Request → Asked
-plain (Run file steps) = asked.Run file.now steps
-plain (Build out file) = asked.Build out.now file.now
+plain (Run files choice steps) = asked.Run (texts files.items) choice steps
+plain (Build out files choice) = asked.Build out.now (texts files.items) choice
 plain (Exec image steps) = asked.Exec image.now steps
+plain (Traces files choice) = asked.Traces (texts files.items) choice
+plain (Bulk seed size choice steps) = asked.Bulk seed size choice steps
 plain Help = asked.Help
 
--- the answer is what the words ask for; they are refused exactly where they ask for nothing, want of memory apart
+module _ {A B : Type 0} where
+  -- the answer shows what is wanted; it is a refusal exactly where nothing is, want of memory apart
+  abbrev pub Shows : (A → B) → Option B → Result A WordsFault → Type 0
+  Shows view wanted (Ok a) = wanted ≡ Some (view a)
+  Shows view wanted (Err Usage) = wanted ≡ None
+  Shows view wanted (Err Memory) = Unit {0}
+
+-- the answer is what the words ask for
 abbrev pub Asks : Option Asked → Result Request WordsFault → Type 0
-Asks o (Ok request) = o ≡ Some (plain request)
-Asks o (Err Usage) = o ≡ None
-Asks o (Err Memory) = Unit {0}
+Asks = Shows plain

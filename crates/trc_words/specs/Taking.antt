@@ -1,5 +1,5 @@
 -- What a command answers of words.
-use Rattle.std.specs.Prelude.{◌≡◌, ℕ, List, [], true, false, Result, Ok, Err}
+use Rattle.std.specs.Prelude.{◌≡◌, ℕ, List, true, false, Result, Ok, Err}
 use Rattle.clap.specs.Words.{App, fault_of, found_of, kind_of, matches_of, rows_of}
 use Rattle.trc_words.specs.Asked.{is_none}
 use Rattle.clap.specs.declared.error.Error.{Error}

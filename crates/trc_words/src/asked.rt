@@ -6,21 +6,45 @@ ghost use Rattle.trc_words.specs.Asked.{Asked};
 ghost use Rattle.trc_words.specs.Taking.{FollowsFrom};
 ghost use Rattle.trc_words.specs.declared.asked.WordsFault.TheVariants.{Memory};
 
+use alloc_choice::Choice;
 use clap::Error;
 use clap::error::ErrorKind;
 use std::alloc::{AllocError, AllocFailed};
 use thiserror::Error as ErrorOf;
 
-/// What a command is asked for. Files go by their names; a run makes at most `steps` steps, which is at most
-/// 1,000,000,000,000,000.
-#[derive(Clone, Copy, Debug)]
+/// What a command is asked for. Files go by their names, of which there is one at least. A choice has 4 to 16 registers
+/// and 1 to 64 workers. A run makes at most `steps` steps, which is at most 1,000,000,000,000,000.
+#[derive(Debug, Drop)]
 pub enum Request<'a> {
-    /// Compile a file and run its image.
-    Run { file: &'a str, steps: u64 },
-    /// Compile a file, and write its image to the file `out`.
-    Build { out: &'a str, file: &'a str },
+    /// Compile files and run their image.
+    Run {
+        files: Vec<&'a str>,
+        choice: Choice,
+        steps: u64,
+    },
+    /// Compile files, and write their image to the file `out`.
+    Build {
+        out: &'a str,
+        files: Vec<&'a str>,
+        choice: Choice,
+    },
     /// Run the image that a file holds.
-    Exec { image: &'a str, steps: u64 },
+    Exec {
+        image: &'a str,
+        steps: u64,
+    },
+    /// Compile files up to their traces, and tell these.
+    Traces {
+        files: Vec<&'a str>,
+        choice: Choice,
+    },
+    /// Make a module of `size` procedures, 1 to 1,000, compile it and run its image.
+    Bulk {
+        seed: u64,
+        size: u32,
+        choice: Choice,
+        steps: u64,
+    },
     /// Tell the commands and their options.
     Help,
 }

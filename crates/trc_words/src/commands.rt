@@ -3,11 +3,14 @@
 ghost use Rattle.std.specs.Prelude.{◌≡◌, map, string_bytes, true, IfOk};
 ghost use Rattle.clap.specs.Words.{app_of};
 ghost use Rattle.clap.specs.Faults.{is_simple_and_free};
-ghost use Rattle.trc_words.specs.Commands.{run_command, build_command, exec_command, help_command};
+ghost use Rattle.trc_words.specs.Commands.{run_command, build_command, exec_command, traces_command, bulk_command, help_command};
 ghost use Rattle.trc_words.specs.Taking.{IsTakenBy};
 
+use crate::arguments::{
+    with_argument, with_choice, with_files, with_option, with_run, with_traces,
+};
 use crate::asked::{WordsFault, fault};
-use clap::{Arg, ArgMatches, Command};
+use clap::{ArgMatches, Command};
 use std::alloc::{AllocError, Global};
 
 /// What a command makes of words, of which the first is its name.
@@ -21,31 +24,46 @@ fn matches<'a>(command: Command<'a>, words: &'a [String]) -> Result<ArgMatches<'
     }
 }
 
-/// `run FILE [--steps N]`
+/// `run FILE {FILE}`, with all options
 fn run_command<'a>(alloc: Global) -> Result<Command<'a>, AllocError>
     ensures { IfOk result (λ command. app_of command ≡ run_command) }
 {
-    let file = Arg::new(alloc, "FILE").required(true);
-    let steps = Arg::new(alloc, "steps").long("steps");
-    Ok(Command::new(alloc, "run").arg(file)?.arg(steps)?)
+    let command = with_files(alloc, Command::new(alloc, "run"))?;
+    with_run(alloc, command)
 }
 
-/// `build OUT FILE`
+/// `build OUT FILE {FILE}`, with the options of compiling
 fn build_command<'a>(alloc: Global) -> Result<Command<'a>, AllocError>
     ensures { IfOk result (λ command. app_of command ≡ build_command) }
 {
-    let out = Arg::new(alloc, "OUT").required(true);
-    let file = Arg::new(alloc, "FILE").required(true);
-    Ok(Command::new(alloc, "build").arg(out)?.arg(file)?)
+    let command = with_argument(alloc, Command::new(alloc, "build"), "OUT")?;
+    let command = with_files(alloc, command)?;
+    with_choice(alloc, command)
 }
 
 /// `exec IMAGE [--steps N]`
 fn exec_command<'a>(alloc: Global) -> Result<Command<'a>, AllocError>
     ensures { IfOk result (λ command. app_of command ≡ exec_command) }
 {
-    let image = Arg::new(alloc, "IMAGE").required(true);
-    let steps = Arg::new(alloc, "steps").long("steps");
-    Ok(Command::new(alloc, "exec").arg(image)?.arg(steps)?)
+    let command = with_argument(alloc, Command::new(alloc, "exec"), "IMAGE")?;
+    with_option(alloc, command, "steps")
+}
+
+/// `traces FILE {FILE} [--policy NAME] [--traces NAME]`
+fn traces_command<'a>(alloc: Global) -> Result<Command<'a>, AllocError>
+    ensures { IfOk result (λ command. app_of command ≡ traces_command) }
+{
+    let command = with_files(alloc, Command::new(alloc, "traces"))?;
+    with_traces(alloc, command)
+}
+
+/// `bulk SEED SIZE`, with all options
+fn bulk_command<'a>(alloc: Global) -> Result<Command<'a>, AllocError>
+    ensures { IfOk result (λ command. app_of command ≡ bulk_command) }
+{
+    let command = with_argument(alloc, Command::new(alloc, "bulk"), "SEED")?;
+    let command = with_argument(alloc, command, "SIZE")?;
+    with_run(alloc, command)
 }
 
 /// What `run` makes of words.
@@ -69,6 +87,22 @@ pub(crate) fn exec<'a>(alloc: Global, words: &'a [String]) -> Result<ArgMatches<
     ensures { IsTakenBy exec_command (map string_bytes words.entry.now) result }
 {
     let command = exec_command(alloc)?;
+    matches(command, words)
+}
+
+/// What `traces` makes of words.
+pub(crate) fn traces<'a>(alloc: Global, words: &'a [String]) -> Result<ArgMatches<'a>, WordsFault>
+    ensures { IsTakenBy traces_command (map string_bytes words.entry.now) result }
+{
+    let command = traces_command(alloc)?;
+    matches(command, words)
+}
+
+/// What `bulk` makes of words.
+pub(crate) fn bulk<'a>(alloc: Global, words: &'a [String]) -> Result<ArgMatches<'a>, WordsFault>
+    ensures { IsTakenBy bulk_command (map string_bytes words.entry.now) result }
+{
+    let command = bulk_command(alloc)?;
     matches(command, words)
 }
 

@@ -1,8 +1,8 @@
 //! Numbers in words.
 
-ghost use Rattle.std.specs.Prelude.{◌≡◌};
+ghost use Rattle.std.specs.Prelude.{◌≡◌, ◌≤◌, IfSome};
 ghost use Rattle.std.specs.List.{list_all};
-ghost use Rattle.trc_words.specs.Numbers.{is_digit, is_number, number_up_to};
+ghost use Rattle.trc_words.specs.Numbers.{is_digit, is_number, number_between};
 
 /// Whether these are decimal digits.
 fn are_digits(bytes: &[u8]) -> bool
@@ -24,9 +24,11 @@ fn is_number(text: &str) -> bool
     !bytes.is_empty() && bytes.len() <= 19 && are_digits(bytes)
 }
 
-/// The number that a text spells in 1 to 19 decimal digits, leading zeros among them, where it is at most `most`.
-pub(crate) fn number_up_to(most: u64, text: &str) -> Option<u64>
-    ensures { result ≡ number_up_to most text.now }
+/// The number that a text spells in 1 to 19 decimal digits, leading zeros among them, where it is `least` to `most`.
+pub(crate) fn number_between(least: u64, most: u64, text: &str) -> Option<u64>
+    ensures value { result ≡ number_between least most text.now }
+    ensures least { IfSome result (λ number. least ≤ number) }
+    ensures most { IfSome result (λ number. number ≤ most) }
 {
     if !is_number(text) {
         return None;
@@ -34,5 +36,9 @@ pub(crate) fn number_up_to(most: u64, text: &str) -> Option<u64>
     let Ok(number) = text.parse::<u64>() else {
         return None;
     };
-    if number <= most { Some(number) } else { None }
+    if least <= number && number <= most {
+        Some(number)
+    } else {
+        None
+    }
 }

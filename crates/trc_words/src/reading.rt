@@ -1,59 +1,99 @@
 //! From words to what they ask for.
 
-ghost use Rattle.std.specs.Prelude.{◌≡◌, map, option_map, string_bytes};
-ghost use Rattle.trc_words.specs.Asked.{asked, asked_of, steps_in, taken, run_asked, build_asked, exec_asked, help_asked};
-ghost use Rattle.trc_words.specs.Commands.{run_command, build_command, exec_command, help_command};
-ghost use Rattle.trc_words.specs.Requests.{Asks, plain};
-ghost use Rattle.clap.specs.Words.{first_of, found_of, rows_of};
+ghost use Rattle.std.specs.Prelude.{map, string_bytes, IfOk, ◌≡◌};
+ghost use Rattle.trc_words.specs.Asked.{asked, asked_of, files_in, seed_in, size_in, taken, run_asked, build_asked, exec_asked, traces_asked, bulk_asked, help_asked};
+ghost use Rattle.trc_words.specs.Commands.{run_command, build_command, exec_command, traces_command, bulk_command, help_command};
+ghost use Rattle.trc_words.specs.Fitting.{Fits};
+ghost use Rattle.trc_words.specs.Requests.{Asks, Shows, plain, texts};
+ghost use Rattle.clap.specs.Words.{found_of, rows_of};
 
 use crate::asked::{Request, WordsFault};
 use crate::commands;
-use crate::numbers::number_up_to;
+use crate::numbers::number_between;
+use crate::options::{choice, file_names, steps, traces_choice, value};
 use clap::ArgMatches;
 use std::alloc::Global;
 
-/// The value of an argument or option, by its name.
-fn value<'a>(matches: &ArgMatches<'a>, name: &str) -> Option<&'a str>
-    ensures { option_map (λ text. text.now) result ≡ first_of name.now (rows_of (found_of matches.now)) }
+/// The names of the files, of which there is one at least.
+fn files<'a>(alloc: Global, matches: &ArgMatches<'a>) -> Result<Vec<&'a str>, WordsFault>
+    ensures { Shows (λ files. texts files.items) (files_in (rows_of (found_of matches.now))) result }
 {
-    matches.get_str(name)
+    let names = file_names(matches).ok_or(WordsFault::Usage)?;
+    let mut files = Vec::new(alloc);
+    files.extend_from_slice(names)?;
+    Ok(files)
 }
 
-/// The steps of a run: 1,000,000,000 where the words don't say.
-fn steps(matches: &ArgMatches<'_>) -> Option<u64>
-    ensures { result ≡ steps_in (rows_of (found_of matches.now)) }
+/// The seed of a made module.
+fn seed(matches: &ArgMatches<'_>) -> Option<u64>
+    ensures { result ≡ seed_in (rows_of (found_of matches.now)) }
 {
-    match value(matches, "steps") {
-        Some(text) => number_up_to(1_000_000_000_000_000, text),
-        None => Some(1_000_000_000),
-    }
+    number_between(0, 9_223_372_036_854_775_807, value(matches, "SEED")?)
+}
+
+/// The number of procedures of a made module.
+fn size(matches: &ArgMatches<'_>) -> Option<u32>
+    ensures { result ≡ size_in (rows_of (found_of matches.now)) }
+{
+    Some(number_between(1, 1_000, value(matches, "SIZE")?)? as u32)
 }
 
 /// What the matches of `run` ask for.
-fn run_request<'a>(matches: &ArgMatches<'a>) -> Option<Request<'a>>
-    ensures { option_map plain result ≡ run_asked (rows_of (found_of matches.now)) }
+fn run_request<'a>(alloc: Global, matches: &ArgMatches<'a>) -> Result<Request<'a>, WordsFault>
+    ensures { Asks (run_asked (rows_of (found_of matches.now))) result }
 {
-    let file = value(matches, "FILE")?;
-    let steps = steps(matches)?;
-    Some(Request::Run { file, steps })
+    let files = files(alloc, matches)?;
+    let choice = choice(matches).ok_or(WordsFault::Usage)?;
+    let steps = steps(matches).ok_or(WordsFault::Usage)?;
+    Ok(Request::Run {
+        files,
+        choice,
+        steps,
+    })
 }
 
 /// What the matches of `build` ask for.
-fn build_request<'a>(matches: &ArgMatches<'a>) -> Option<Request<'a>>
-    ensures { option_map plain result ≡ build_asked (rows_of (found_of matches.now)) }
+fn build_request<'a>(alloc: Global, matches: &ArgMatches<'a>) -> Result<Request<'a>, WordsFault>
+    ensures { Asks (build_asked (rows_of (found_of matches.now))) result }
 {
-    let out = value(matches, "OUT")?;
-    let file = value(matches, "FILE")?;
-    Some(Request::Build { out, file })
+    let out = value(matches, "OUT").ok_or(WordsFault::Usage)?;
+    let files = files(alloc, matches)?;
+    let choice = choice(matches).ok_or(WordsFault::Usage)?;
+    Ok(Request::Build { out, files, choice })
 }
 
 /// What the matches of `exec` ask for.
-fn exec_request<'a>(matches: &ArgMatches<'a>) -> Option<Request<'a>>
-    ensures { option_map plain result ≡ exec_asked (rows_of (found_of matches.now)) }
+fn exec_request<'a>(matches: &ArgMatches<'a>) -> Result<Request<'a>, WordsFault>
+    ensures { Asks (exec_asked (rows_of (found_of matches.now))) result }
 {
-    let image = value(matches, "IMAGE")?;
-    let steps = steps(matches)?;
-    Some(Request::Exec { image, steps })
+    let image = value(matches, "IMAGE").ok_or(WordsFault::Usage)?;
+    let steps = steps(matches).ok_or(WordsFault::Usage)?;
+    Ok(Request::Exec { image, steps })
+}
+
+/// What the matches of `traces` ask for.
+fn traces_request<'a>(alloc: Global, matches: &ArgMatches<'a>) -> Result<Request<'a>, WordsFault>
+    ensures { Asks (traces_asked (rows_of (found_of matches.now))) result }
+{
+    let files = files(alloc, matches)?;
+    let choice = traces_choice(matches).ok_or(WordsFault::Usage)?;
+    Ok(Request::Traces { files, choice })
+}
+
+/// What the matches of `bulk` ask for.
+fn bulk_request<'a>(matches: &ArgMatches<'a>) -> Result<Request<'a>, WordsFault>
+    ensures { Asks (bulk_asked (rows_of (found_of matches.now))) result }
+{
+    let seed = seed(matches).ok_or(WordsFault::Usage)?;
+    let size = size(matches).ok_or(WordsFault::Usage)?;
+    let choice = choice(matches).ok_or(WordsFault::Usage)?;
+    let steps = steps(matches).ok_or(WordsFault::Usage)?;
+    Ok(Request::Bulk {
+        seed,
+        size,
+        choice,
+        steps,
+    })
 }
 
 /// What words ask for that begin with `run`.
@@ -61,7 +101,7 @@ fn run<'a>(alloc: Global, words: &'a [String]) -> Result<Request<'a>, WordsFault
     ensures { Asks (taken run_command (map string_bytes words.entry.now) run_asked) result }
 {
     let matches = commands::run(alloc, words)?;
-    run_request(&matches).ok_or(WordsFault::Usage)
+    run_request(alloc, &matches)
 }
 
 /// What words ask for that begin with `build`.
@@ -69,7 +109,7 @@ fn build<'a>(alloc: Global, words: &'a [String]) -> Result<Request<'a>, WordsFau
     ensures { Asks (taken build_command (map string_bytes words.entry.now) build_asked) result }
 {
     let matches = commands::build(alloc, words)?;
-    build_request(&matches).ok_or(WordsFault::Usage)
+    build_request(alloc, &matches)
 }
 
 /// What words ask for that begin with `exec`.
@@ -77,7 +117,23 @@ fn exec<'a>(alloc: Global, words: &'a [String]) -> Result<Request<'a>, WordsFaul
     ensures { Asks (taken exec_command (map string_bytes words.entry.now) exec_asked) result }
 {
     let matches = commands::exec(alloc, words)?;
-    exec_request(&matches).ok_or(WordsFault::Usage)
+    exec_request(&matches)
+}
+
+/// What words ask for that begin with `traces`.
+fn traces<'a>(alloc: Global, words: &'a [String]) -> Result<Request<'a>, WordsFault>
+    ensures { Asks (taken traces_command (map string_bytes words.entry.now) traces_asked) result }
+{
+    let matches = commands::traces(alloc, words)?;
+    traces_request(alloc, &matches)
+}
+
+/// What words ask for that begin with `bulk`.
+fn bulk<'a>(alloc: Global, words: &'a [String]) -> Result<Request<'a>, WordsFault>
+    ensures { Asks (taken bulk_command (map string_bytes words.entry.now) bulk_asked) result }
+{
+    let matches = commands::bulk(alloc, words)?;
+    bulk_request(&matches)
 }
 
 /// What words ask for that begin with `help`.
@@ -96,6 +152,8 @@ fn of_command<'a>(alloc: Global, name: &str, words: &'a [String]) -> Result<Requ
         "run" => run(alloc, words),
         "build" => build(alloc, words),
         "exec" => exec(alloc, words),
+        "traces" => traces(alloc, words),
+        "bulk" => bulk(alloc, words),
         "help" => help(alloc, words),
         _ => Err(WordsFault::Usage),
     }
@@ -105,6 +163,7 @@ fn of_command<'a>(alloc: Global, name: &str, words: &'a [String]) -> Result<Requ
 /// read as the command's written meaning says, and a value is tested against its table.
 pub fn read_words<'a>(alloc: Global, words: &'a [String]) -> Result<Request<'a>, WordsFault>
     ensures asks { Asks (asked (map string_bytes words.entry.now)) result }
+    ensures fits { IfOk result (λ request. Fits (plain request)) }
 {
     match words.first() {
         Some(command) => of_command(alloc, command.as_str(), words),

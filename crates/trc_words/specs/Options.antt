@@ -1,0 +1,61 @@
+-- The options' values and defaults, by the rows that a command's matches have.
+use Rattle.std.specs.Prelude.{ℕ, List, [], ◌∷◌, Option, Some, None, codes, if◌then◌else◌}
+use Rattle.std.specs.Str.{bytes_eq}
+use Rattle.clap.specs.Words.{Row, first_of}
+use Rattle.alloc_choice.specs.declared.choice.Choice.{Choice}
+use Rattle.alloc_choice.specs.declared.choice.Policy.{Policy}
+use Rattle.alloc_choice.specs.declared.choice.Policy.TheVariants.{Plain, Linear, BottomUp, Mixed}
+use Rattle.trace_build.specs.declared.builder.Builder.{Builder}
+use Rattle.trace_build.specs.declared.builder.Builder.TheVariants.{Uni, Bi}
+use Rattle.trc_words.specs.Numbers.{number_between}
+
+module _ {A B : Type 0} where
+  -- where there is a value, what it leads to
+  abbrev pub given : Option A → (A → Option B) → Option B
+  given None f = None
+  given (Some a) f = f a
+
+module _ {A : Type 0} where
+  -- what a name stands for in a table of names
+  abbrev pub named_in : List (List ℕ × A) → List ℕ → Option A
+  named_in [] name = None
+  named_in (row ∷ rows) name = if bytes_eq name row.0 then Some row.1 else named_in rows name
+
+  -- the default where the words have no text, else what the text stands for
+  abbrev pub value_or : A → (List ℕ → Option A) → Option (List ℕ) → Option A
+  value_or default stands_for None = Some default
+  value_or default stands_for (Some text) = stands_for text
+
+abbrev pub policies : List (List ℕ × Policy)
+policies = (codes "plain", Plain) ∷ (codes "linear", Linear) ∷ (codes "bottomup", BottomUp) ∷ (codes "mixed", Mixed) ∷ []
+
+abbrev pub builders : List (List ℕ × Builder)
+builders = (codes "uni", Uni) ∷ (codes "bi", Bi) ∷ []
+
+abbrev pub policy_in : List Row → Option Policy
+policy_in rows = value_or Linear (named_in policies) (first_of (codes "policy") rows)
+
+abbrev pub traces_in : List Row → Option Builder
+traces_in rows = value_or Bi (named_in builders) (first_of (codes "traces") rows)
+
+abbrev pub regs_in : List Row → Option ℕ
+regs_in rows = value_or 16 (number_between 4 16) (first_of (codes "regs") rows)
+
+abbrev pub jobs_in : List Row → Option ℕ
+jobs_in rows = value_or 4 (number_between 1 64) (first_of (codes "jobs") rows)
+
+abbrev pub steps_in : List Row → Option ℕ
+steps_in rows = value_or 1000000000 (number_between 0 1000000000000000) (first_of (codes "steps") rows)
+
+-- the policy and the traces that the words choose, with 16 registers and 4 workers
+abbrev pub traces_choice_in : List Row → Option Choice
+traces_choice_in rows =
+    given (policy_in rows) (λ policy.
+    given (traces_in rows) (λ builder. Some (record { policy = policy; builder = builder; regs = 16; jobs = 4 })))
+
+-- all four
+abbrev pub choice_in : List Row → Option Choice
+choice_in rows =
+    given (policy_in rows) (λ policy. given (traces_in rows) (λ builder.
+    given (regs_in rows) (λ regs.
+    given (jobs_in rows) (λ jobs. Some (record { policy = policy; builder = builder; regs = regs; jobs = jobs })))))
