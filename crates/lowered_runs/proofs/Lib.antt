@@ -42,3 +42,5 @@ pub mod Extents
 pub mod Texts
 pub mod Strings
 pub mod Comparing
+pub mod Ancestors
+pub mod Descriptors
