@@ -44,3 +44,4 @@ pub mod Strings
 pub mod Comparing
 pub mod Ancestors
 pub mod Descriptors
+pub mod TypeTests

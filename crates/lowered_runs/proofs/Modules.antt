@@ -19,11 +19,11 @@ use Rattle.block_runs.specs.First.{data_base}
 use Rattle.ob_types.specs.WellFormed.{is_empty}
 use Rattle.ssa_lowered.specs.Data.{descriptor_at, text_at, within}
 use Rattle.ob_types.specs.declared.types.RecordType.{RecordType}
-use Rattle.lowered_runs.proofs.Ancestors.{or_first, or_second, level, level_most, cell_at, tells}
+use Rattle.lowered_runs.proofs.Ancestors.{or_first, or_second, level, level_most, extends_there, cell_at, tells}
 use Rattle.lowered_runs.specs.Claims.{has_constants, ConstantsStand}
 use Rattle.lowered_runs.proofs.Homes.{AddressIs}
 use Rattle.lowered_runs.proofs.Strings.{start_of, starts_below, length_constants, rooms_before}
-use Rattle.lowered_runs.proofs.Extents.{cells_few, record_cells_few}
+use Rattle.lowered_runs.proofs.Extents.{cells_few, record_cells_few, record_there, target_there}
 use Rattle.lowered_runs.proofs.Starting.{whole_of, body_level, global_sizes, string_sizes, entry_there}
 use Rattle.lowered_runs.proofs.Bodies.{module_sizes, modules_are, starts_are, rooms_are, variable_below}
 use Rattle.lowered_runs.proofs.Levels.{Variables, TellsExtensions}
@@ -82,6 +82,9 @@ module _ (p : Program) (input : List ℕ) where
       codes = are;
       cells = cells_few p declared;
       record_cells = record_cells_few p declared;
+      record_there = record_there p declared;
+      target_there = target_there p declared;
+      extension_there = extends_there p declared;
       callable = λ g h. let e = many p lay 0 p.procedures in let lt = lt_of p g (length p.procedures) (and_of _ _ h).0 in omega (arith, e, lt);
       may = λ g h xs long.
           let parts = and_of (nat_lt g (length p.procedures)) (not (procedure_of p g).is_body) h in
