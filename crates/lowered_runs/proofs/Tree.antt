@@ -106,6 +106,10 @@ use Rattle.lowered_runs.proofs.Input.{follows_in_char}
 use Rattle.lowered_runs.proofs.Texts.{NamedText, follows_out_string}
 use Rattle.lowered_runs.proofs.Comparing.{follows_texts_compared}
 use Rattle.lowered_runs.proofs.Pointers.{follows_object, follows_new}
+use Rattle.lowered_runs.proofs.TypeTests.{follows_guarded}
+use Rattle.ob_types.specs.Expressions.{guarded, all_guarded}
+use Rattle.ssa_lowered.specs.Values.{guarded as lower_guarded}
+use Rattle.ssa_lowered.specs.Lowered.{level, all_guarded as lower_all_guarded}
 use Rattle.lowered_runs.proofs.Copies.{Reaches, follows_copy_record, follows_copy_array}
 use Rattle.lowered_runs.specs.Covered.{lengths_fit}
 use Rattle.ob_types.specs.Statements.{done}
@@ -250,6 +254,30 @@ module _ (w : Whole) (l : Level) (right : Right w) (apart : Apart l) (vars : Var
   scalar_row (Dynamic r) f is h = none_some f is
   scalar_row (Characters m) f is h = none_some f is
 
+  ---- Guards
+
+  guarded_nothing : (rs : List ℕ) → WellFormed.guarded_form p rs None ≡ None
+  guarded_nothing [] = refl
+  guarded_nothing (r ∷ rs) = by (is_record_type p.types r) (guarded_nothing rs)
+    where
+      by : (b : Bool) → WellFormed.guarded_form p rs None ≡ None → WellFormed.guarded_form p rs (provided b None) ≡ None
+      by true e = e
+      by false e = e
+
+  guarded_some : (rs : List ℕ) (o : Option Form) (k : Form) → WellFormed.guarded_form p rs o ≡ Some k → (a : Form) × (o ≡ Some a)
+  guarded_some rs None k is = none_some k (sym (guarded_nothing rs) ∙ is)
+  guarded_some rs (Some a) k is = (a, refl)
+
+  -- guards, one after the other
+  follows_guards : (rs : List ℕ) (o : Option Form) (k : Form) (x : Act Cell) (q : Low ℕ) → WellFormed.guarded_form p rs o ≡ Some k → Follows w l 0 fuel nothing (Given w l) (CellIs w l) x q → Follows w l 0 fuel nothing (Given w l) (CellIs w l) (all_guarded l.proc (extends p.types) x rs) (lower_all_guarded p lay mine rs q)
+  follows_guards [] o k x q is one = one
+  follows_guards (r ∷ rs) o k x q is one =
+      let on = provided (is_record_type p.types r) (provided (WellFormed.gives_pointer o) (Some (ToRecord r))) in
+      let a = guarded_some rs on k is in
+      let b = provided_is p (is_record_type p.types r) (provided (WellFormed.gives_pointer o) (Some (ToRecord r))) a.0 a.1 in
+      follows_guards rs on k (guarded l.proc (extends p.types) x r) (lower_guarded q (descriptor p lay mine r) (level p lay mine r)) is
+      (follows_guarded w l right vars r (descriptor p lay mine r) (lt_of p r (length p.types.records) b.0) (vars.descriptor r) steady one)
+
   ---- Parts
 
   -- behind selectors that are covered there is nothing where there was nothing
@@ -257,8 +285,7 @@ module _ (w : Whole) (l : Level) (right : Right w) (apart : Apart l) (vars : Var
   selected_none end_of-Selector n ok is = none_some n is
   selected_none (more_of-Selector (Index i k x) rest) n ok is = selected_none rest n (and_of (expr_covered x) (selectors_covered rest) ok).1 is
   selected_none (more_of-Selector (Field r f) rest) n ok is = selected_none rest n ok is
-  selected_none (more_of-Selector (Dereference []) rest) n ok is = selected_none rest n ok is
-  selected_none (more_of-Selector (Dereference (r ∷ rs)) rest) n ok is = no ok
+  selected_none (more_of-Selector (Dereference rs) rest) n ok is = selected_none rest n ok (sym (ap (λ o. WellFormed.selected_named p l.proc rest (with_some o pointed)) (guarded_nothing rs)) ∙ is)
   selected_none (more_of-Selector (Narrow r) rest) n ok is = no ok
 
   selected_some : {m : _} (row : Row_of-Selector m) (o : Option Thing) (n : Thing) → selectors_covered row ≡ true → WellFormed.selected_named p l.proc row o ≡ Some n → (t : Thing) × (o ≡ Some t)
@@ -660,20 +687,23 @@ module _ (w : Whole) (l : Level) (right : Right w) (apart : Apart l) (vars : Var
         (tt, of_variable c.0 true (follows_field_place w l own none (Dynamic b) (Of c.0 true) d (field_place p.types r f) (cells p.types c.0) steady (λ h second j lt. dynamic_cells b r f c.0 h second a.0 c.1 j lt) refl (λ a. refl) one))
     select_is (Field r f) own (OpenOf e may) t d low is parts ok lends sensible one = none_some t is
     select_is (Field r f) own _ t d low is parts ok lends sensible one = absurd parts
-    select_is (Dereference []) own b t d low is parts ok lends sensible one =
-        let a = with_is p good (WellFormed.scalar_in p b) pointed t is in
+    select_is (Dereference rs) own b t d low is parts ok lends sensible one =
+        let a = with_is p good (WellFormed.guarded_form p rs (WellFormed.scalar_in p b)) pointed t is in
         let r = pointed_is p good a.0 t a.2 in
-        let whole = sensible_part (Dereference []) b t d is sensible in
-        subst (λ t. Sensible t (select p calls runs (Dereference []) d) → PartIs t (select p calls runs (Dereference []) d) (lower_select p lay mine (Dereference []) low)) (sym r.2)
-        (λ sensible. (tt, of_sensible (Dynamic r.0) sensible (follows_object w l none r.0 steady (follows_load w l own d steady (follows_home w l own b d steady (λ h v m g s known. scalar_row b a.0 a.1 h) (only_named w l b one)))))) whole
-    select_is (Dereference (r ∷ rs)) own b t d low is parts ok lends sensible one = no ok
+        let c = guarded_some rs (WellFormed.scalar_in p b) a.0 a.1 in
+        let whole = sensible_part (Dereference rs) b t d is sensible in
+        subst (λ t. Sensible t (select p calls runs (Dereference rs) d) → PartIs t (select p calls runs (Dereference rs) d) (lower_select p lay mine (Dereference rs) low)) (sym r.2)
+        (λ sensible. (tt, of_sensible (Dynamic r.0) sensible (follows_object w l none r.0 steady (follows_guards rs (WellFormed.scalar_in p b) a.0 (load d) (lower_load (home_of low false)) a.1
+        (follows_load w l own d steady (follows_home w l own b d steady (λ h v m g s known. scalar_row b c.0 c.1 h) (only_named w l b one))))))) whole
     select_is (Narrow r) own b t d low is parts ok lends sensible one = no ok
 
     pub shows_of : (e : Expr) (k : Form) → WellFormed.form p l.proc e ≡ Some k → expr_covered e ≡ true → Lends (lent e) → Shows (value p calls runs e) (expr p lay mine e)
     shows_of (Literal n) k is ok lends = shown (follows_literal w l n (literal_few n k is))
     shows_of (Routine g) k is ok lends = shown (follows_routine w l g (right.callable g (provided_is p (WellFormed.callable p g) (Some (Exactly g)) k is).0))
     shows_of (Load d) k is ok lends = shown (variable_value d k is (λ n e. named_is d n e ok lends))
-    shows_of (Guard d rs) k is ok lends = no ok
+    shows_of (Guard d rs) k is ok lends =
+        let a = guarded_some rs (with_some (WellFormed.named p l.proc d) (WellFormed.scalar_in p)) k is in
+        shown (follows_guards rs (with_some (WellFormed.named p l.proc d) (WellFormed.scalar_in p)) k (load (designated p calls runs d)) (lower_load (home_of (named p lay mine d) (small p lay mine d))) is (variable_value d a.0 a.1 (λ n e. named_is d n e ok lends)))
     shows_of (Unary' op _ x) k is ok lends =
         let z = provided_is p (gives_number (WellFormed.form p l.proc x)) (Some (WellFormed.unary_form op)) k is in
         let y = number_form (WellFormed.form p l.proc x) z.0 in

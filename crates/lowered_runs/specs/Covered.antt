@@ -2,8 +2,7 @@
 use Rattle.std.specs.Prelude.{ℕ, nat_le, Bool, true, false, ◌&&◌, Option, Some, None}
 use Rattle.ob_types.specs.Forms.{all}
 use Rattle.ob_types.specs.Meaning.{kind_in, length_of_kind}
-use Rattle.ob_types.specs.WellFormed.{is_empty}
-use Rattle.ob_types.specs.declared.tree.Expr.{Expr, Literal, Routine, Load, Length, Unary', Chain', Compare', CompareTexts', In', Byte', Call', Row_of-Link, end_of-Link, more_of-Link}
+use Rattle.ob_types.specs.declared.tree.Expr.{Expr, Literal, Routine, Load, Guard, Length, Unary', Chain', Compare', CompareTexts', In', Byte', Call', Row_of-Link, end_of-Link, more_of-Link}
 use Rattle.ob_types.specs.declared.tree.Link.{Link, Operate, And, Or, Element, Elements}
 use Rattle.ob_types.specs.declared.tree.Base.{Base}
 use Rattle.ob_types.specs.declared.tree.Base.TheVariants.{Global, Local, Parameter}
@@ -30,13 +29,14 @@ is_fixed (Whole (Global m v) k) = true
 is_fixed (Whole (Local x) k) = true
 is_fixed _ = false
 
--- scalars and their operators, comparisons of texts, elements of arrays and their lengths, fields, the objects of pointers without a guard, and
+-- scalars and their operators, comparisons of texts, elements of arrays and their lengths, fields, pointers with their guards and objects, and
 -- calls of declared procedures and through procedure variables
 abbrev mutual
   pub expr_covered : Expr → Bool
   expr_covered (Literal n) = true
   expr_covered (Routine g) = true
   expr_covered (Load d) = designator_covered d
+  expr_covered (Guard d rs) = designator_covered d
   expr_covered (Unary' op _ x) = expr_covered x
   expr_covered (Chain' _ x _ links) = expr_covered x && links_covered links
   expr_covered (Compare' r _ x _ y) = expr_covered x && expr_covered y
@@ -63,7 +63,7 @@ abbrev mutual
   pub selector_covered : Selector → Bool
   selector_covered (Index n k x) = expr_covered x
   selector_covered (Field r f) = true
-  selector_covered (Dereference guards) = is_empty guards
+  selector_covered (Dereference guards) = true
   selector_covered (Narrow r) = false
 
   pub links_covered : {m : _} → Row_of-Link m → Bool
