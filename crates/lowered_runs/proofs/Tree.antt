@@ -90,7 +90,10 @@ use Rattle.ob_types.specs.Expressions.{length_of}
 use Rattle.ssa_lowered.specs.Values.{length_of as lower_length}
 use Rattle.ob_types.specs.Meaning.{selected, select}
 use Rattle.ob_types.specs.declared.types.TypeKind.TheVariants.{Array}
-use Rattle.ob_types.specs.declared.types.TypeKind.TheVariants.{Record as RecordOf}
+use Rattle.ob_types.specs.declared.types.TypeKind.{TypeKind}
+use Rattle.ob_types.specs.declared.types.TypeKind.TheVariants.{Int, Char, Byte}
+use Rattle.ob_types.specs.declared.types.TypeKind.TheVariants.{Record as RecordOf, Bool as Boolean, Set as SetOf, Pointer as PointerTo, Procedure as ProcedureOf}
+use Rattle.ob_types.specs.Forms.{scalar_form}
 use Rattle.ob_types.specs.Layout.{record_of, types_of, field_place, extends}
 use Rattle.ob_types.specs.Forms.{record_forms}
 use Rattle.ob_sound.proofs.Typed.{in_length}
@@ -106,9 +109,9 @@ use Rattle.lowered_runs.proofs.Input.{follows_in_char}
 use Rattle.lowered_runs.proofs.Texts.{NamedText, follows_out_string}
 use Rattle.lowered_runs.proofs.Comparing.{follows_texts_compared}
 use Rattle.lowered_runs.proofs.Pointers.{follows_object, follows_new}
-use Rattle.lowered_runs.proofs.TypeTests.{follows_guarded}
+use Rattle.lowered_runs.proofs.TypeTests.{follows_guarded, PointerType, grows_is_pointer, follows_is_pointer, follows_pointer_type, ParameterType, grows_is_tag, follows_is_tag, follows_parameter_type, follows_type_test, follows_narrowed}
 use Rattle.ob_types.specs.Expressions.{guarded, all_guarded}
-use Rattle.ssa_lowered.specs.Values.{guarded as lower_guarded}
+use Rattle.ssa_lowered.specs.Values.{guarded as lower_guarded, is_pointer, is_tag}
 use Rattle.ssa_lowered.specs.Lowered.{level, all_guarded as lower_all_guarded}
 use Rattle.lowered_runs.proofs.Copies.{Reaches, follows_copy_record, follows_copy_array}
 use Rattle.lowered_runs.specs.Covered.{lengths_fit}
@@ -286,7 +289,11 @@ module _ (w : Whole) (l : Level) (right : Right w) (apart : Apart l) (vars : Var
   selected_none (more_of-Selector (Index i k x) rest) n ok is = selected_none rest n (and_of (expr_covered x) (selectors_covered rest) ok).1 is
   selected_none (more_of-Selector (Field r f) rest) n ok is = selected_none rest n ok is
   selected_none (more_of-Selector (Dereference rs) rest) n ok is = selected_none rest n ok (sym (ap (λ o. WellFormed.selected_named p l.proc rest (with_some o pointed)) (guarded_nothing rs)) ∙ is)
-  selected_none (more_of-Selector (Narrow r) rest) n ok is = no ok
+  selected_none (more_of-Selector (Narrow r) rest) n ok is = selected_none rest n ok (sym (by (is_record_type p.types r)) ∙ is)
+    where
+      by : (b : Bool) → WellFormed.selected_named p l.proc rest (provided b None) ≡ WellFormed.selected_named p l.proc rest None
+      by true = refl
+      by false = refl
 
   selected_some : {m : _} (row : Row_of-Selector m) (o : Option Thing) (n : Thing) → selectors_covered row ≡ true → WellFormed.selected_named p l.proc row o ≡ Some n → (t : Thing) × (o ≡ Some t)
   selected_some row None n ok is = absurd (selected_none row n ok is)
@@ -302,12 +309,115 @@ module _ (w : Whole) (l : Level) (right : Right w) (apart : Apart l) (vars : Var
   part_some end_of-Selector None n ok is = no ok
   part_some (more_of-Selector s rest) None n ok is = absurd (selected_none (more_of-Selector s rest) n ok is)
 
-  -- what has parts
+  -- what has parts; a record type is in the table
   abbrev HasParts : Thing → Type 0
   HasParts (Of k may) = Unit {0}
   HasParts (OpenOf e may) = Unit {0}
-  HasParts (Dynamic r) = Unit {0}
+  HasParts (Dynamic r) = r < length p.types.records
   HasParts _ = ⊥
+
+  -- record types that designators name are in the table; In.Done is a truth
+  abbrev Legal : Thing → Type 0
+  Legal (Dynamic r) = r < length p.types.records
+  Legal (Cells f may) = f ≡ Truth
+  Legal _ = Unit {0}
+
+  legal_of : (t : Thing) → HasParts t → Legal t
+  legal_of (Of k may) parts = tt
+  legal_of (OpenOf e may) parts = tt
+  legal_of (Dynamic r) parts = parts
+  legal_of (Cells f may) parts = absurd parts
+  legal_of (Characters m) parts = absurd parts
+
+  legal_base : (b : Base) (n : Thing) → WellFormed.base_named p l.proc b ≡ Some n → Legal n
+  legal_base Done n is = subst Legal (some_same (Cells Truth false) n is) refl
+  legal_base (Global m v) n is = let z = with_is p good (slice_get (globals_of p m) v) (λ k. Some (Of k true)) n is in subst Legal (some_same (Of z.0 true) n z.2) tt
+  legal_base (Local x) n is = let z = with_is p good (slice_get (locals w l) x) (λ k. Some (Of k true)) n is in subst Legal (some_same (Of z.0 true) n z.2) tt
+  legal_base (Parameter k) n is =
+      let z = with_is p good (slice_get (procedure_of p l.proc).formals k) (λ x. WellFormed.parameter_by p x.mode x.type_number x.variable) n is in
+      by z.0.mode z.0.type_number z.0.variable z.2
+    where
+      by : (m : Mode) (k : ℕ) (v : Bool) → WellFormed.parameter_by p m k v ≡ Some n → Legal n
+      by OfValue k v e = none_some n e
+      by Place k v e = subst Legal (some_same (Of k v) n e) tt
+      by OfRecord k v e = let x = with_is p good (record_by (kind_of p.types k)) (λ r. Some (Dynamic r)) n e in subst Legal (some_same (Dynamic x.0) n x.2) (right.record_there k x.0 (record_is p good (kind_of p.types k) x.0 x.1))
+      by OfOpen k v e = let x = with_is p good (open_element (kind_of p.types k)) (λ e. Some (OpenOf e v)) n e in subst Legal (some_same (OpenOf x.0 v) n x.2) tt
+  legal_base (Text k) n is = let z = with_is p good (slice_get (texts_of p.procedures) (text_number p l.proc k)) (λ xs. Some (Characters (suc (length xs)))) n is in subst Legal (some_same (Characters (suc (length z.0))) n z.2) tt
+
+  -- a pointer's record type
+  legal_pointer : (rs : List ℕ) (o : Option Form) (r : ℕ) → WellFormed.guarded_form p rs o ≡ Some (ToRecord r) → (o ≡ Some (ToRecord r) → r < length p.types.records) → r < length p.types.records
+  legal_pointer [] o r is own = own is
+  legal_pointer (s ∷ rs) o r is own = legal_pointer rs (provided (is_record_type p.types s) (provided (WellFormed.gives_pointer o) (Some (ToRecord s)))) r is (λ e.
+      let a = provided_is p (is_record_type p.types s) (provided (WellFormed.gives_pointer o) (Some (ToRecord s))) (ToRecord r) e in
+      let b = provided_is p (WellFormed.gives_pointer o) (Some (ToRecord s)) (ToRecord r) a.1 in
+      subst (λ x. x < length p.types.records) (same b.1) (lt_of p s (length p.types.records) a.0))
+    where
+      same : {s r : ℕ} → Some (ToRecord s) ≡ Some (ToRecord r) → s ≡ r
+      same e = cc
+
+  legal_scalar : (b : Thing) (r : ℕ) → Legal b → WellFormed.scalar_in p b ≡ Some (ToRecord r) → r < length p.types.records
+  legal_scalar (Of k may) r legal is = right.target_there k r (by (kind_of p.types k) is)
+    where
+      by : (kind : TypeKind) → scalar_form kind ≡ Some (ToRecord r) → kind ≡ PointerTo r
+      by (PointerTo s) e = ap PointerTo (same e)
+        where
+          same : {s r : ℕ} → Some (ToRecord s) ≡ Some (ToRecord r) → s ≡ r
+          same e = cc
+      by Int e = absurd (cc)
+      by Char e = absurd (cc)
+      by Byte e = absurd (cc)
+      by Boolean e = absurd (cc)
+      by SetOf e = absurd (cc)
+      by (ProcedureOf k) e = absurd (cc)
+      by _ e = none_some (ToRecord r) e
+  legal_scalar (Cells f may) r legal is = absurd (other (sym (ap (λ f. Some f) legal) ∙ is))
+    where
+      other : Some Truth ≡ Some (ToRecord r) → ⊥
+      other e = cc
+  legal_scalar (OpenOf e may) r legal is = none_some (ToRecord r) is
+  legal_scalar (Dynamic s) r legal is = none_some (ToRecord r) is
+  legal_scalar (Characters m) r legal is = none_some (ToRecord r) is
+
+  legal_select : (s : Selector) (b t : Thing) → WellFormed.select_named p l.proc s (Some b) ≡ Some t → Legal b → Legal t
+  legal_select (Index o e x) b t is legal =
+      let a = provided_is p (WellFormed.array_of p e o b) (provided (gives_number (WellFormed.form p l.proc x)) (Some (Of e (WellFormed.is_writable b)))) t is in
+      let c = provided_is p (gives_number (WellFormed.form p l.proc x)) (Some (Of e (WellFormed.is_writable b))) t a.1 in
+      subst Legal (some_same (Of e (WellFormed.is_writable b)) t c.1) tt
+  legal_select (Field r f) b t is legal =
+      let a = provided_is p (WellFormed.has_record p r b) (with_some (slice_get (types_of (record_of p.types r).fields) f) (λ k. Some (Of k (WellFormed.is_writable b)))) t is in
+      let c = with_is p good (slice_get (types_of (record_of p.types r).fields) f) (λ k. Some (Of k (WellFormed.is_writable b))) t a.1 in
+      subst Legal (some_same (Of c.0 (WellFormed.is_writable b)) t c.2) tt
+  legal_select (Dereference rs) b t is legal =
+      let a = with_is p good (WellFormed.guarded_form p rs (WellFormed.scalar_in p b)) pointed t is in
+      let r = pointed_is p good a.0 t a.2 in
+      subst Legal (sym r.2) (legal_pointer rs (WellFormed.scalar_in p b) r.0 (a.1 ∙ ap (λ f. Some f) r.1) (λ e. legal_scalar b r.0 legal e))
+  legal_select (Narrow r) b t is legal =
+      let a = provided_is p (is_record_type p.types r) (provided (WellFormed.is_dynamic p b) (Some (Dynamic r))) t is in
+      let c = provided_is p (WellFormed.is_dynamic p b) (Some (Dynamic r)) t a.1 in
+      subst Legal (some_same (Dynamic r) t c.1) (lt_of p r (length p.types.records) a.0)
+
+  legal_selected : {m : _} (row : Row_of-Selector m) (b n : Thing) → selectors_covered row ≡ true → WellFormed.selected_named p l.proc row (Some b) ≡ Some n → Legal b → Legal n
+  legal_selected end_of-Selector b n ok is legal = subst Legal (some_same b n is) legal
+  legal_selected (more_of-Selector s rest) b n ok is legal =
+      let covers = and_of (selector_covered s) (selectors_covered rest) ok in
+      let t = selected_some rest (WellFormed.select_named p l.proc s (Some b)) n covers.1 is in
+      legal_selected rest t.0 n covers.1 (ap (WellFormed.selected_named p l.proc rest) (sym t.1) ∙ is) (legal_select s b t.0 t.1 legal)
+
+  row_covered_too : {m : _} (row : Row_of-Selector m) → part_covered row ≡ true → selectors_covered row ≡ true
+  row_covered_too end_of-Selector ok = refl
+  row_covered_too (more_of-Selector s rest) ok = ok
+
+  legal_named : (d : Designator) (n : Thing) → designator_covered d ≡ true → WellFormed.named p l.proc d ≡ Some n → Legal n
+  legal_named (Variable b kind) n ok is =
+      let z = with_is p good (WellFormed.base_named p l.proc b) (WellFormed.of_kind p kind) n is in
+      let y = provided_is p (WellFormed.has_kind p kind z.0) (Some z.0) n z.2 in
+      subst Legal (some_same z.0 n y.1) (legal_base b z.0 z.1)
+  legal_named (Part' b kind _ row) n ok is =
+      let cover = and_of (base_has_parts b) (part_covered row) ok in
+      let z = with_is p good (WellFormed.selected_named p l.proc row (WellFormed.base_named p l.proc b)) (WellFormed.of_kind p kind) n is in
+      let y = provided_is p (WellFormed.has_kind p kind z.0) (Some z.0) n z.2 in
+      let base = part_some row (WellFormed.base_named p l.proc b) z.0 cover.1 z.1 in
+      subst Legal (some_same z.0 n y.1) (legal_selected row base.0 z.0 (row_covered_too row cover.1) (ap (WellFormed.selected_named p l.proc row) (sym base.1) ∙ z.1) (legal_base b base.0 base.1))
 
   -- what a part is
   abbrev PartIs : Thing → Act Handed → Low Named → Type 0
@@ -334,7 +444,7 @@ module _ (w : Whole) (l : Level) (right : Right w) (apart : Apart l) (vars : Var
       by : (m : Mode) (k : ℕ) (v : Bool) → WellFormed.parameter_by p m k v ≡ Some n → HasParts n
       by OfValue k v e = none_some n e
       by Place k v e = subst HasParts (some_same (Of k v) n e) tt
-      by OfRecord k v e = let x = with_is p good (record_by (kind_of p.types k)) (λ r. Some (Dynamic r)) n e in subst HasParts (some_same (Dynamic x.0) n x.2) tt
+      by OfRecord k v e = let x = with_is p good (record_by (kind_of p.types k)) (λ r. Some (Dynamic r)) n e in subst HasParts (some_same (Dynamic x.0) n x.2) (right.record_there k x.0 (record_is p good (kind_of p.types k) x.0 x.1))
       by OfOpen k v e = let x = with_is p good (open_element (kind_of p.types k)) (λ e. Some (OpenOf e v)) n e in subst HasParts (some_same (OpenOf x.0 v) n x.2) tt
   parts_base Done n ok is = no ok
   parts_base (Text k) n ok is = no ok
@@ -506,6 +616,20 @@ module _ (w : Whole) (l : Level) (right : Right w) (apart : Apart l) (vars : Var
 
   truth_form : (o : Option Form) → WellFormed.gives_truth o ≡ true → (k : Form) × (o ≡ Some k)
   truth_form o h = let z = holds_is p good WellFormed.is_truth o h in (z.0, z.1)
+
+  pointer_form : (o : Option Form) → WellFormed.gives_pointer o ≡ true → (k : Form) × (o ≡ Some k)
+  pointer_form o h = let z = holds_is p good WellFormed.is_pointer o h in (z.0, z.1)
+
+  -- a record with a dynamic type
+  dynamic_named : (d : Designator) → holds_of (WellFormed.is_dynamic p) (WellFormed.named p l.proc d) ≡ true → (b : ℕ) × (WellFormed.named p l.proc d ≡ Some (Dynamic b))
+  dynamic_named d h = let z = holds_is p good (WellFormed.is_dynamic p) (WellFormed.named p l.proc d) h in by z.0 z.1 z.2
+    where
+      by : (n : Thing) → WellFormed.named p l.proc d ≡ Some n → WellFormed.is_dynamic p n ≡ true → (b : ℕ) × (WellFormed.named p l.proc d ≡ Some (Dynamic b))
+      by (Dynamic b) at is = (b, at)
+      by (Cells f may) at is = no is
+      by (Of k may) at is = no is
+      by (OpenOf e may) at is = no is
+      by (Characters m) at is = no is
 
   abbrev Meant : Option Form → Act Cell → Type 0
   Meant o x = (tags : List ℕ) → Older l.store.tags tags → Means p good l.forms tags o x
@@ -693,9 +817,16 @@ module _ (w : Whole) (l : Level) (right : Right w) (apart : Apart l) (vars : Var
         let c = guarded_some rs (WellFormed.scalar_in p b) a.0 a.1 in
         let whole = sensible_part (Dereference rs) b t d is sensible in
         subst (λ t. Sensible t (select p calls runs (Dereference rs) d) → PartIs t (select p calls runs (Dereference rs) d) (lower_select p lay mine (Dereference rs) low)) (sym r.2)
-        (λ sensible. (tt, of_sensible (Dynamic r.0) sensible (follows_object w l none r.0 steady (follows_guards rs (WellFormed.scalar_in p b) a.0 (load d) (lower_load (home_of low false)) a.1
+        (λ sensible. (subst Legal r.2 (legal_select (Dereference rs) b t is (legal_of b parts)), of_sensible (Dynamic r.0) sensible (follows_object w l none r.0 steady (follows_guards rs (WellFormed.scalar_in p b) a.0 (load d) (lower_load (home_of low false)) a.1
         (follows_load w l own d steady (follows_home w l own b d steady (λ h v m g s known. scalar_row b c.0 c.1 h) (only_named w l b one))))))) whole
-    select_is (Narrow r) own b t d low is parts ok lends sensible one = no ok
+    select_is (Narrow r) own (Dynamic b) t d low is parts ok lends sensible one =
+        let a = provided_is p (is_record_type p.types r) (Some (Dynamic r)) t is in
+        let there = lt_of p r (length p.types.records) a.0 in
+        subst (λ t. PartIs t (select p calls runs (Narrow r) d) (lower_select p lay mine (Narrow r) low)) (some_same (Dynamic r) t a.1)
+        (there, follows_narrowed w l right vars own none b r (descriptor p lay mine r) d parts there (vars.descriptor r) steady one)
+    select_is (Narrow r) own (Of k may) t d low is parts ok lends sensible one = none_some t (provided_is p (is_record_type p.types r) None t is).1
+    select_is (Narrow r) own (OpenOf e may) t d low is parts ok lends sensible one = none_some t (provided_is p (is_record_type p.types r) None t is).1
+    select_is (Narrow r) own _ t d low is parts ok lends sensible one = absurd parts
 
     pub shows_of : (e : Expr) (k : Form) → WellFormed.form p l.proc e ≡ Some k → expr_covered e ≡ true → Lends (lent e) → Shows (value p calls runs e) (expr p lay mine e)
     shows_of (Literal n) k is ok lends = shown (follows_literal w l n (literal_few n k is))
@@ -737,8 +868,20 @@ module _ (w : Whole) (l : Level) (right : Right w) (apart : Apart l) (vars : Var
         let y = number_form (WellFormed.form p l.proc x) a.0 in
         let z = number_form (WellFormed.form p l.proc s) b.0 in
         shown (follows_contained w l steady (shows_of x y.0 y.1 parts.0 (left_lends (lent x) (lent s) lends)).value (shows_of s z.0 z.1 parts.1 (right_lends (lent x) (lent s) lends)).value)
-    shows_of (IsPointer' _ x r) k is ok lends = no ok
-    shows_of (IsParameter d r) k is ok lends = no ok
+    shows_of (IsPointer' _ x r) k is ok lends =
+        let a = provided_is p (is_record_type p.types r) (provided (WellFormed.gives_pointer (WellFormed.form p l.proc x)) (Some Truth)) k is in
+        let b = provided_is p (WellFormed.gives_pointer (WellFormed.form p l.proc x)) (Some Truth) k a.1 in
+        let y = pointer_form (WellFormed.form p l.proc x) b.0 in
+        let there = lt_of p r (length p.types.records) a.0 in
+        shown (follows_type_test w l right vars (PointerType w l right vars) is_pointer r (descriptor p lay mine r) steady (grows_is_pointer w l right vars) (λ t i. follows_is_pointer w l right vars t i r (descriptor p lay mine r) there (vars.descriptor r) steady)
+        (follows_pointer_type w l right vars steady (shows_of x y.0 y.1 ok lends).value))
+    shows_of (IsParameter d r) k is ok lends =
+        let a = provided_is p (is_record_type p.types r) (provided (holds_of (WellFormed.is_dynamic p) (WellFormed.named p l.proc d)) (Some Truth)) k is in
+        let b = provided_is p (holds_of (WellFormed.is_dynamic p) (WellFormed.named p l.proc d)) (Some Truth) k a.1 in
+        let n = dynamic_named d b.0 in
+        let there = lt_of p r (length p.types.records) a.0 in
+        shown (follows_type_test w l right vars (ParameterType w l right vars) is_tag r (descriptor p lay mine r) steady (grows_is_tag w l right vars) (λ t i. follows_is_tag w l right vars t i r (descriptor p lay mine r) there (vars.descriptor r) steady)
+        (follows_parameter_type w l right vars (whole_of d) n.0 (designated p calls runs d) (legal_named d (Dynamic n.0) ok n.1) steady (named_is d (Dynamic n.0) n.1 ok (at_of_whole d lends))))
     shows_of (Byte' _ x) k is ok lends =
         let a = provided_is p (gives_number (WellFormed.form p l.proc x)) (Some Small) k is in
         let y = number_form (WellFormed.form p l.proc x) a.0 in

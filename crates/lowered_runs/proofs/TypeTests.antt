@@ -18,6 +18,7 @@ use Rattle.ob_types.specs.Store.{Code as Procedure, At as Addressed}
 use Rattle.ob_types.specs.Operators.{truth}
 use Rattle.ob_types.specs.Expressions.{guarded, all_guarded, narrowed, pointer_type, parameter_type, is_of, type_test}
 use Rattle.ob_types.specs.WellFormed.{Dynamic}
+use Rattle.ob_types.proofs.Tests.{none_some, some_same}
 use Rattle.ob_sound.proofs.Numbers.{truth_lt}
 use Rattle.ssa_lowered.specs.Pieces.{Low, Mask, emits, does}
 use Rattle.ssa_lowered.specs.Pieces.{◌>>=◌ as ◌>>>◌, give as gives}
@@ -268,36 +269,27 @@ module _ (w : Whole) (l : Level) (right : Right w) (vars : Variables w l) where
           by_answer true it doing = acts_give w l tt 0 held (ap (λ b. unless l.proc 3 b s) it) doing it
           by_answer false it doing = acts_trap w l 3 (ap (λ b. unless l.proc 3 b s) it) doing
 
-  -- what is named by a record type is named by another one of the same object
-  renamed : (own : Mask) (b r : ℕ) (h : Handed) (v : Named) (n : ℕ) (f : ℕ → ℕ) (s : Store) → NamedIs w l own (Dynamic b) h v n f s → NamedIs w l own (Dynamic r) h v n f s
-  renamed own b r (Addressed a) (AtAddress i) n f s k = k
-  renamed own b r (Sized a m) (AtAddress i) n f s k = k
-  renamed own b r (Tagged a t) (AtAddress i) n f s k = k
-  renamed own b r (Value c) (AtAddress i) n f s k = k
-  renamed own b r (Addressed a) (Beside i j) n f s k = k
-  renamed own b r (Sized a m) (Beside i j) n f s k = k
-  renamed own b r (Tagged a t) (Beside i j) n f s k = k
-  renamed own b r (Value c) (Beside i j) n f s k = k
-  renamed own b r h (Object i) n f s k = k
-  renamed own b r h (InRegister x) n f s k = k
+  -- what is named by a record type is named by another one of the same object, and is no variable in a register
+  renamed : (own other : Mask) (b r : ℕ) (h : Handed) (v : Named) (n : ℕ) (f : ℕ → ℕ) (s : Store) → NamedIs w l own (Dynamic b) h v n f s → NamedIs w l other (Dynamic r) h v n f s
+  renamed own other b r (Addressed a) (AtAddress i) n f s k = k
+  renamed own other b r (Sized a m) (AtAddress i) n f s k = k
+  renamed own other b r (Tagged a t) (AtAddress i) n f s k = k
+  renamed own other b r (Value c) (AtAddress i) n f s k = k
+  renamed own other b r (Addressed a) (Beside i j) n f s k = k
+  renamed own other b r (Sized a m) (Beside i j) n f s k = k
+  renamed own other b r (Tagged a t) (Beside i j) n f s k = k
+  renamed own other b r (Value c) (Beside i j) n f s k = k
+  renamed own other b r h (Object i) n f s k = k
+  renamed own other b r h (InRegister x) n f s k = absurd (differ k.4)
+    where
+      differ : false ≡ true → ⊥
+      differ e = cc
 
   tagged_fits : (r t : ℕ) (h : Handed) → tag_in h ≡ Some t → IsExtension t r ≡ true → SecondFits w l (Dynamic r) h
-  tagged_fits r t (Tagged a k) is fits = subst (λ k. IsExtension k r ≡ true) (sym (same is)) fits
-    where
-      same : {a b : ℕ} → Some a ≡ Some b → a ≡ b
-      same e = cc
-  tagged_fits r t (Addressed a) is fits = absurd (none is)
-    where
-      none : {a : ℕ} → None ≡ Some a → ⊥
-      none e = cc
-  tagged_fits r t (Sized a m) is fits = absurd (none is)
-    where
-      none : {a : ℕ} → None ≡ Some a → ⊥
-      none e = cc
-  tagged_fits r t (Value c) is fits = absurd (none is)
-    where
-      none : {a : ℕ} → None ≡ Some a → ⊥
-      none e = cc
+  tagged_fits r t (Tagged a k) is fits = subst (λ k. IsExtension k r ≡ true) (sym (some_same k t is)) fits
+  tagged_fits r t (Addressed a) is fits = none_some t is
+  tagged_fits r t (Sized a m) is fits = none_some t is
+  tagged_fits r t (Value c) is fits = none_some t is
 
   grows_narrowed : (v : Named) (at j : ℕ) → Grows w l (second v >>> λ t. emits (Global at) [] >>> λ g. does (GuardTag j) (t ∷ g ∷ []) >>> λ u. gives v)
   grows_narrowed v at j = grows_bind w l (grows_second v) (λ t. grows_checked v at j t)
@@ -305,12 +297,12 @@ module _ (w : Whole) (l : Level) (right : Right w) (vars : Variables w l) where
       grows_checked : (v : Named) (at j t : ℕ) → Grows w l (emits (Global at) [] >>> λ g. does (GuardTag j) (t ∷ g ∷ []) >>> λ u. gives v)
       grows_checked v at j t = grows_bind w l (grows_emits w l (Global at) []) (λ g. grows_bind w l (grows_does w l (GuardTag j) (t ∷ g ∷ [])) (λ u. grows_give w l v))
 
-  pub follows_narrowed : {need fuel : ℕ} {mask : Mask} {K : Fact} {q : Low Named} (own : Mask) (b r at : ℕ) (d : Act Handed) → b < many → r < many → w.descriptor r ≡ data_base + at → Steady w l K → Follows w l need fuel mask K (DesignatorIs w l own (Dynamic b)) d q
-      → Follows w l need fuel mask K (DesignatorIs w l own (Dynamic r)) (narrowed l.proc IsExtension d r) (lower_narrowed q at (rank r))
-  follows_narrowed {need} {fuel} {mask} {K} own b r at d known_type there placed steady one = follows_bind w l steady one (λ v. grows_narrowed v at (rank r))
+  pub follows_narrowed : {need fuel : ℕ} {mask : Mask} {K : Fact} {q : Low Named} (own other : Mask) (b r at : ℕ) (d : Act Handed) → b < many → r < many → w.descriptor r ≡ data_base + at → Steady w l K → Follows w l need fuel mask K (DesignatorIs w l own (Dynamic b)) d q
+      → Follows w l need fuel mask K (DesignatorIs w l other (Dynamic r)) (narrowed l.proc IsExtension d r) (lower_narrowed q at (rank r))
+  follows_narrowed {need} {fuel} {mask} {K} own other b r at d known_type there placed steady one = follows_bind w l steady one (λ v. grows_narrowed v at (rank r))
       (λ h v. let known = steady_and w l steady (steady_designator w l own (Dynamic b) h v) in
       follows_bind w l known (follows_found w l (tag_in h) (follows_second own b h v known_type)) (λ i. grows_bind w l (grows_emits w l (Global at) []) (λ g. grows_bind w l (grows_does w l (GuardTag (rank r)) (i ∷ g ∷ [])) (λ u. grows_give w l v)))
       (λ t i. let more = steady_and w l known (steady_and w l (steady_parameter_type (Some t) i) (steady_fixed w l (tag_in h ≡ Some t))) in
       follows_bind w l {m = give tt} {h = λ (u : Unit {0}). unless l.proc 3 (IsExtension t r) >>= λ u. give h} more (follows_descriptor r at placed) (λ g. grows_bind w l (grows_does w l (GuardTag (rank r)) (i ∷ g ∷ [])) (λ u. grows_give w l v))
       (λ u g. follows_bind w l (steady_and w l more (steady_const w l (w.descriptor r) g)) (follows_known w l (λ n f s k. ((k.0.0, k.0.1.0), k.1)) (follows_tag_tested t i g r there)) (λ u. grows_give w l v)
-      (λ x y. follows_give w l h v (λ n f s k. (renamed own b r h v n f s k.0.0.0.1.0, tagged_fits r t h k.0.0.1.1 k.1))))))
+      (λ x y. follows_give w l h v (λ n f s k. (renamed own other b r h v n f s k.0.0.0.1.0, tagged_fits r t h k.0.0.1.1 k.1))))))

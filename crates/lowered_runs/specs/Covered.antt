@@ -2,7 +2,7 @@
 use Rattle.std.specs.Prelude.{ℕ, nat_le, Bool, true, false, ◌&&◌, Option, Some, None}
 use Rattle.ob_types.specs.Forms.{all}
 use Rattle.ob_types.specs.Meaning.{kind_in, length_of_kind}
-use Rattle.ob_types.specs.declared.tree.Expr.{Expr, Literal, Routine, Load, Guard, Length, Unary', Chain', Compare', CompareTexts', In', Byte', Call', Row_of-Link, end_of-Link, more_of-Link}
+use Rattle.ob_types.specs.declared.tree.Expr.{Expr, Literal, Routine, Load, Guard, Length, Unary', Chain', Compare', CompareTexts', In', IsPointer', IsParameter, Byte', Call', Row_of-Link, end_of-Link, more_of-Link}
 use Rattle.ob_types.specs.declared.tree.Link.{Link, Operate, And, Or, Element, Elements}
 use Rattle.ob_types.specs.declared.tree.Base.{Base}
 use Rattle.ob_types.specs.declared.tree.Base.TheVariants.{Global, Local, Parameter}
@@ -45,7 +45,8 @@ abbrev mutual
   expr_covered (Byte' _ x) = expr_covered x
   expr_covered (Length d) = designator_covered d
   expr_covered (Call' _ c) = call_covered c
-  expr_covered _ = false
+  expr_covered (IsPointer' _ x r) = expr_covered x
+  expr_covered (IsParameter d r) = designator_covered d
 
   -- a variable or a string, or a part of a variable
   pub designator_covered : Designator → Bool
@@ -64,7 +65,7 @@ abbrev mutual
   selector_covered (Index n k x) = expr_covered x
   selector_covered (Field r f) = true
   selector_covered (Dereference guards) = true
-  selector_covered (Narrow r) = false
+  selector_covered (Narrow r) = true
 
   pub links_covered : {m : _} → Row_of-Link m → Bool
   links_covered end_of-Link = true
