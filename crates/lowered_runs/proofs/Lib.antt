@@ -45,3 +45,4 @@ pub mod Comparing
 pub mod Ancestors
 pub mod Descriptors
 pub mod TypeTests
+pub mod TypeCases

@@ -109,7 +109,17 @@ use Rattle.lowered_runs.proofs.Input.{follows_in_char}
 use Rattle.lowered_runs.proofs.Texts.{NamedText, follows_out_string}
 use Rattle.lowered_runs.proofs.Comparing.{follows_texts_compared}
 use Rattle.lowered_runs.proofs.Pointers.{follows_object, follows_new}
-use Rattle.lowered_runs.proofs.TypeTests.{follows_guarded, PointerType, grows_is_pointer, follows_is_pointer, follows_pointer_type, ParameterType, grows_is_tag, follows_is_tag, follows_parameter_type, follows_type_test, follows_narrowed}
+use Rattle.ob_types.specs.Expressions.{pointer_type, parameter_type, is_of}
+use Rattle.ob_types.specs.Statements.{type_case}
+use Rattle.ob_types.specs.Meaning.{type_parts}
+use Rattle.ob_types.specs.declared.statements.Stmt.{Row_of-TypePart, end_of-TypePart, more_of-TypePart}
+use Rattle.block_runs.specs.declared.end.End.TheVariants.{Jump}
+use Rattle.ssa_lowered.specs.Values.{tag_of}
+use Rattle.ssa_lowered.specs.Lowered.{records_of, type_tests, type_bodies}
+use Rattle.ssa_lowered.specs.Variables.{assigned_type_parts, lent_by_type_parts}
+use Rattle.lowered_runs.specs.Covered.{types_covered}
+use Rattle.lowered_runs.proofs.TypeCases.{nothing_more, KnownType, known_type, all_types_say, jump_otherwise}
+use Rattle.lowered_runs.proofs.TypeTests.{answer as type_answer, steady_pointer_type, steady_parameter_type, follows_guarded, PointerType, grows_is_pointer, follows_is_pointer, follows_pointer_type, ParameterType, grows_is_tag, follows_is_tag, follows_parameter_type, follows_type_test, follows_narrowed}
 use Rattle.ob_types.specs.Expressions.{guarded, all_guarded}
 use Rattle.ssa_lowered.specs.Values.{guarded as lower_guarded, is_pointer, is_tag}
 use Rattle.ssa_lowered.specs.Lowered.{level, all_guarded as lower_all_guarded}
@@ -1197,6 +1207,50 @@ module _ (w : Whole) (l : Level) (right : Right w) (apart : Apart l) (vars : Var
           (follows_case w l fuel K inner sk (label_tests p lay mine parts i) (answers_of v parts) says (deeds_in parts) (case_bodies p lay mine parts) each (matched v parts) (λ out args. Trap_end 6) (unless l.proc 6) (λ t. refl)
           (trap_otherwise w l right fuel (Given w l) steady inner lay mine v i (label_tests p lay mine parts i) (answers_of v parts) says (deeds_in parts) (case_bodies p lay mine parts) each (matched v parts))))
 
+  abbrev type_deeds : {m : _} → Row_of-TypePart m → List Deed
+  type_deeds end_of-TypePart = []
+  type_deeds (more_of-TypePart r _ body rest) = effects p calls runs fuel body ∷ type_deeds rest
+
+  abbrev type_answers : {m : _} → Option ℕ → Row_of-TypePart m → List (List Bool)
+  type_answers t parts = map (λ r. is_of (extends p.types) t r ∷ []) (records_of p lay mine parts)
+
+  records_are : {m : _} (parts : Row_of-TypePart m) → WellFormed.fine_type_parts p l.proc parts ≡ true → all (is_record_type p.types) (records_of p lay mine parts) ≡ true
+  records_are end_of-TypePart fine = refl
+  records_are (more_of-TypePart r _ body rest) fine =
+      let y = and_of (is_record_type p.types r) (WellFormed.fine_row p l.proc body && WellFormed.fine_type_parts p l.proc rest) fine in
+      ap₂ (λ a b. a && b) y.0 (records_are rest (and_of (WellFormed.fine_row p l.proc body) (WellFormed.fine_type_parts p l.proc rest) y.1).1)
+
+  types_matched : {m : _} (t : Option ℕ) (parts : Row_of-TypePart m) → Matched (type_answers t parts) (type_deeds parts)
+  types_matched t end_of-TypePart = tt
+  types_matched t (more_of-TypePart r _ body rest) = types_matched t rest
+
+  types_same : {m : _} (t : Option ℕ) (parts : Row_of-TypePart m) (s : Moment Objects) → first_of (parts_of (type_answers t parts) (type_deeds parts)) s ≡ type_parts p calls runs fuel t parts s
+  types_same t end_of-TypePart s = refl
+  types_same t (more_of-TypePart r _ body rest) s = by (is_of (extends p.types) t r) (types_same t rest s)
+    where
+      by : (b : Bool) → first_of (parts_of (type_answers t rest) (type_deeds rest)) s ≡ type_parts p calls runs fuel t rest s
+          → (if b || false then (effects p calls runs fuel body >>= λ _. give true) else first_of (parts_of (type_answers t rest) (type_deeds rest))) s ≡ (if b then (effects p calls runs fuel body >>= λ _. give true) else type_parts p calls runs fuel t rest) s
+      by true e = refl
+      by false e = e
+
+  -- CASE on dynamic types of either kind
+  type_case_is : {m : _} (TypeIs : Option ℕ → ℕ → Fact) (is : ℕ → ℕ → ℕ → Low ℕ) (stays : (t : Option ℕ) (i : ℕ) → Steady w l (TypeIs t i))
+      → ((t : Option ℕ) (i r : ℕ) → r < length p.types.records → Follows w l 0 fuel nothing (Both (Given w l) (TypeIs t i)) (CellIs w l) (type_answer w l right vars t r) (is (descriptor p lay mine r) (level p lay mine r) i))
+      → (x : Act (Option ℕ)) (q : Low ℕ) (parts : Row_of-TypePart m) (inner : Mask) → WellFormed.fine_type_parts p l.proc parts ≡ true → Follows w l 1 fuel inner (Given w l) TypeIs x q → Bodies w l fuel (Given w l) inner steady (type_deeds parts) (type_bodies p lay mine parts)
+      → Follows w l 1 fuel inner (Given w l) Always (type_case x (λ t. type_parts p calls runs fuel t parts)) (lower_case p lay mine inner q (type_tests p lay mine parts is) (type_bodies p lay mine parts) (λ out args. Jump out args))
+  type_case_is TypeIs is stays tells x q parts inner fine one bodies = follows_bind w l steady one (λ i. (parts_follow None i).grows) parts_follow
+    where
+      parts_follow : (t : Option ℕ) (i : ℕ) → Follows w l 1 fuel inner (Both (Given w l) (TypeIs t i)) Always (type_parts p calls runs fuel t parts >>= nothing_more) (case inner (rungs_from p lay mine 0 (type_tests p lay mine parts is i)) (type_bodies p lay mine parts) (λ out args. Jump out args))
+      parts_follow t i =
+          let K = KnownType w l right vars fuel (Given w l) steady inner mine TypeIs is stays t i in
+          let sk = known_type w l right vars fuel (Given w l) steady inner mine TypeIs is stays t i in
+          let says = all_types_say w l right vars fuel (Given w l) steady inner mine TypeIs is stays t i (tells t i) (records_of p lay mine parts) (records_are parts fine) in
+          let each = bodies_known w l fuel inner steady sk (λ n f s h. h.0) (type_deeds parts) (type_bodies p lay mine parts) bodies in
+          follows_same w l (first_of (parts_of (type_answers t parts) (type_deeds parts)) >>= nothing_more) (type_parts p calls runs fuel t parts >>= nothing_more) (λ s. ap (λ e. after e nothing_more) (types_same t parts s))
+          (subst (λ rs. Follows w l 1 fuel inner K Always (first_of (parts_of (type_answers t parts) (type_deeds parts)) >>= nothing_more) (case inner rs (type_bodies p lay mine parts) (λ out args. Jump out args))) (sym (rungs_same p lay mine 0 (type_tests p lay mine parts is i)))
+          (follows_case w l fuel K inner sk (type_tests p lay mine parts is i) (type_answers t parts) says (type_deeds parts) (type_bodies p lay mine parts) each (types_matched t parts) (λ out args. Jump out args) nothing_more (λ t. refl)
+          (jump_otherwise w l right vars fuel (Given w l) steady inner mine TypeIs is stays t i (type_tests p lay mine parts is i) (type_answers t parts) says (type_deeds parts) (type_bodies p lay mine parts) each (types_matched t parts))))
+
   mutual
     pub stmt_is : (mask : Mask) (s : Stmt) → WellFormed.fine p l.proc s ≡ true → covered s ≡ true → Covers mask (assigned s) → Lends (lent_by s) → Follows w l 1 fuel mask (Given w l) Always (effect p calls runs fuel s) (deed p lay mine s)
     stmt_is mask (Assign d x) fine ok c lends =
@@ -1328,8 +1382,22 @@ module _ (w : Whole) (l : Level) (right : Right w) (apart : Apart l) (vars : Var
         let inner = registers p lay mine (assigned_case_parts parts) in
         follows_mask w l {low_need = 1} {less = inner} (omega arith) (not_covered mask (assigned_case_parts parts) c)
         (case_is x parts inner y.1 (value_at x g.0 g.1 z.0 (left_lends (lent x.form) (lent_by_case_parts parts) lends)) (bodies_are inner parts y.1 z.1 (λ v e. e) (right_lends (lent x.form) (lent_by_case_parts parts) lends)))
-    stmt_is mask (CasePointer' x _ parts) fine ok c lends = no ok
-    stmt_is mask (CaseParameter' d _ parts) fine ok c lends = no ok
+    stmt_is mask (CasePointer' x _ parts) fine ok c lends =
+        let y = and_of (WellFormed.gives_pointer (WellFormed.checked_form p l.proc x)) (WellFormed.fine_type_parts p l.proc parts) fine in
+        let z = and_of (checked_covered x) (types_covered parts) ok in
+        let g = pointer_form (WellFormed.checked_form p l.proc x) y.0 in
+        let inner = registers p lay mine (assigned_type_parts parts) in
+        follows_mask w l {low_need = 1} {less = inner} (omega arith) (not_covered mask (assigned_type_parts parts) c)
+        (type_case_is (PointerType w l right vars) is_pointer (steady_pointer_type w l right vars) (λ t i r there. follows_is_pointer w l right vars t i r (descriptor p lay mine r) there (vars.descriptor r) steady) (pointer_type (value p calls runs x.form)) (expr p lay mine x.form).value parts inner y.1
+        (follows_pointer_type w l right vars steady (value_at x g.0 g.1 z.0 (left_lends (lent x.form) (lent_by_type_parts parts) lends))) (types_are inner parts y.1 z.1 (λ v e. e) (right_lends (lent x.form) (lent_by_type_parts parts) lends)))
+    stmt_is mask (CaseParameter' d _ parts) fine ok c lends =
+        let y = and_of (holds_of (WellFormed.is_dynamic p) (WellFormed.named p l.proc d)) (WellFormed.fine_type_parts p l.proc parts) fine in
+        let z = and_of (designator_covered d) (types_covered parts) ok in
+        let n = dynamic_named d y.0 in
+        let inner = registers p lay mine (assigned_type_parts parts) in
+        follows_mask w l {low_need = 1} {less = inner} (omega arith) (not_covered mask (assigned_type_parts parts) c)
+        (type_case_is (ParameterType w l right vars) is_tag (steady_parameter_type w l right vars) (λ t i r there. follows_is_tag w l right vars t i r (descriptor p lay mine r) there (vars.descriptor r) steady) (parameter_type (designated p calls runs d)) (tag_of (named p lay mine d)) parts inner y.1
+        (follows_parameter_type w l right vars (whole_of d) n.0 (designated p calls runs d) (legal_named d (Dynamic n.0) z.0 n.1) steady (unpaid (named_is d (Dynamic n.0) n.1 z.0 (at_of_whole d (left_lends (lent_whole d) (lent_by_type_parts parts) lends))))) (types_are inner parts y.1 z.1 (λ v e. e) (right_lends (lent_whole d) (lent_by_type_parts parts) lends)))
 
     pub row_is : (mask : Mask) {m : _} (r : Row_of-Stmt m) → WellFormed.fine_row p l.proc r ≡ true → row_covered r ≡ true → Covers mask (assigned_all r) → Lends (lent_by_all r) → Follows w l 1 fuel mask (Given w l) Always (effects p calls runs fuel r) (deeds p lay mine r)
     row_is mask end_of-Stmt fine ok c lends = follows_give w l tt tt (λ n f s k. tt)
@@ -1371,6 +1439,17 @@ module _ (w : Whole) (l : Level) (right : Right w) (apart : Apart l) (vars : Var
         (forks_test w l (value p calls runs x.form) (checked_shows x g.0 g.1 z.0 (left_lends (lent x.form) (either (lent_by_all body) (lent_by_branches rest)) lends)).test)
         (row_is mask body y2.0 z2.0 (λ v e. c v (left_of (in_register p lay mine (variable_of p lay mine v).site) (assigned_all body v) (assigned_branches rest v) e)) (left_lends (lent_by_all body) (lent_by_branches rest) lends2))
         (rounds_any (has_branch rest) (rounds_are mask rest y2.1 z2.1 (λ v e. c v (right_of (in_register p lay mine (variable_of p lay mine v).site) (assigned_all body v) (assigned_branches rest v) e)) (right_lends (lent_by_all body) (lent_by_branches rest) lends2)))
+
+    types_are : (mask : Mask) {m : _} (parts : Row_of-TypePart m) → WellFormed.fine_type_parts p l.proc parts ≡ true → types_covered parts ≡ true → Covers mask (assigned_type_parts parts) → Lends (lent_by_type_parts parts)
+        → Bodies w l fuel (Given w l) mask steady (type_deeds parts) (type_bodies p lay mine parts)
+    types_are mask end_of-TypePart fine ok c lends = tt
+    types_are mask (more_of-TypePart r _ body rest) fine ok c lends =
+        let y = and_of (is_record_type p.types r) (WellFormed.fine_row p l.proc body && WellFormed.fine_type_parts p l.proc rest) fine in
+        let y2 = and_of (WellFormed.fine_row p l.proc body) (WellFormed.fine_type_parts p l.proc rest) y.1 in
+        let z = and_of (row_covered body) (types_covered rest) ok in (
+          row_is mask body y2.0 z.0 (λ v e. c v (left_of (in_register p lay mine (variable_of p lay mine v).site) (assigned_all body v) (assigned_type_parts rest v) e)) (left_lends (lent_by_all body) (lent_by_type_parts rest) lends),
+          types_are mask rest y2.1 z.1 (λ v e. c v (right_of (in_register p lay mine (variable_of p lay mine v).site) (assigned_all body v) (assigned_type_parts rest v) e)) (right_lends (lent_by_all body) (lent_by_type_parts rest) lends),
+        )
 
     bodies_are : (mask : Mask) {m : _} (parts : Row_of-CasePart m) → WellFormed.fine_case_parts p l.proc parts ≡ true → case_covered parts ≡ true → Covers mask (assigned_case_parts parts) → Lends (lent_by_case_parts parts)
         → Bodies w l fuel (Given w l) mask steady (deeds_in parts) (case_bodies p lay mine parts)

@@ -39,7 +39,7 @@ module _ (w : Whole) (l : Level) (right : Right w) (vars : Variables w l) where
   abbrev many : ℕ
   many = length w.program.types.records
 
-  abbrev rank : ℕ → ℕ
+  abbrev pub rank : ℕ → ℕ
   rank r = (record_of w.program.types r).level
 
   abbrev IsExtension : ℕ → ℕ → Bool

@@ -11,7 +11,7 @@ use Rattle.ob_types.specs.declared.tree.Selector.{Selector, Index, Field, Derefe
 use Rattle.ob_types.specs.declared.tree.Call.{Call, Direct', Indirect', Row_of-Argument, end_of-Argument, more_of-Argument}
 use Rattle.ob_types.specs.declared.tree.Argument.{Argument, ByValue, ByPlace, ByRecord, ByOpen}
 use Rattle.ob_types.specs.declared.statements.Checked.{Checked}
-use Rattle.ob_types.specs.declared.statements.Stmt.{Stmt, Assign, CopyArray, CopyRecord, Increase, Decrease, Include, Exclude, New, Assert, OutChar, OutInt, OutString, OutLn, InChar, If', While', Repeat', For', Case', Row_of-Stmt, end_of-Stmt, more_of-Stmt, Row_of-Branch, end_of-Branch, more_of-Branch, Row_of-CasePart, end_of-CasePart, more_of-CasePart}
+use Rattle.ob_types.specs.declared.statements.Stmt.{Stmt, Assign, CopyArray, CopyRecord, Increase, Decrease, Include, Exclude, New, Assert, OutChar, OutInt, OutString, OutLn, InChar, If', While', Repeat', For', Case', CasePointer', CaseParameter', Row_of-Stmt, end_of-Stmt, more_of-Stmt, Row_of-Branch, end_of-Branch, more_of-Branch, Row_of-CasePart, end_of-CasePart, more_of-CasePart, Row_of-TypePart, end_of-TypePart, more_of-TypePart}
 use Rattle.ob_types.specs.declared.statements.Stmt.{Call as Invoke}
 use Rattle.ob_types.specs.declared.program.Procedure.{Procedure}
 use Rattle.ob_types.specs.declared.program.Program.{Program}
@@ -100,7 +100,7 @@ lengths_fit _ _ = true
 abbrev pub checked_covered : Checked → Bool
 checked_covered x = expr_covered x.form
 
--- assignments, NEW, output, input, calls and control, CASE on values too
+-- assignments, NEW, output, input, calls and control, CASE on values and on types too
 abbrev mutual
   pub covered : Stmt → Bool
   covered (Assign d x) = designator_covered d && checked_covered x
@@ -122,8 +122,9 @@ abbrev mutual
   covered (While' _ parts) = branches_covered parts
   covered (Repeat' _ body x) = row_covered body && checked_covered x
   covered (Case' x _ parts) = checked_covered x && case_covered parts
+  covered (CasePointer' x _ parts) = checked_covered x && types_covered parts
+  covered (CaseParameter' d _ parts) = designator_covered d && types_covered parts
   covered (For' d x y step _ body) = is_fixed d && (checked_covered x && (checked_covered y && row_covered body))
-  covered _ = false
 
   pub row_covered : {m : _} → Row_of-Stmt m → Bool
   row_covered end_of-Stmt = true
@@ -136,6 +137,10 @@ abbrev mutual
   pub case_covered : {m : _} → Row_of-CasePart m → Bool
   case_covered end_of-CasePart = true
   case_covered (more_of-CasePart labels _ body rest) = row_covered body && case_covered rest
+
+  pub types_covered : {m : _} → Row_of-TypePart m → Bool
+  types_covered end_of-TypePart = true
+  types_covered (more_of-TypePart r _ body rest) = row_covered body && types_covered rest
 
 abbrev pub answer_covered : Option Checked → Bool
 answer_covered None = true
