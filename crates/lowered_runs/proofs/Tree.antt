@@ -60,7 +60,7 @@ use Rattle.ssa_lowered.specs.Control.{Lowers, Round, fork_and, fork_or, fork_val
 use Rattle.ssa_lowered.specs.Variables.{is_structured, either, none, origin, itself as whole_of, assigned, assigned_all, assigned_branches, words_of, lent, lent_links, lent_link, lent_at, lent_whole, lent_by_first, lent_selectors, lent_selector, lent_call, lent_as, lent_in, lent_by, lent_by_all, lent_by_branches, lent_by_list, lent_by_answer}
 use Rattle.ssa_lowered.specs.Lowered.{Here, in_register, variable_of, local_by, parameter_by, by_mode, based, descriptor, named, small, expr, link as lower_link, linked as lower_linked, called as lower_called, argument as lower_argument, arguments as lower_arguments, answer as lower_answer, home, registers, deed, deeds, deeds_of, one_of, alternatives, guarded_rounds}
 use Rattle.lowered_runs.specs.Words.{Whole, Level, Right, local, Apart}
-use Rattle.lowered_runs.specs.Covered.{part_covered, base_has_parts, selectors_covered, selector_covered, is_fixed, designator_covered, expr_covered, links_covered, link_covered, call_covered, argument_covered, arguments_covered, checked_covered, covered, row_covered, branches_covered, answer_covered}
+use Rattle.lowered_runs.specs.Covered.{part_covered, selectors_covered, selector_covered, is_whole, designator_covered, expr_covered, links_covered, link_covered, call_covered, argument_covered, arguments_covered, checked_covered, covered, row_covered, branches_covered, answer_covered}
 use Rattle.block_runs.specs.declared.end.End.TheVariants.{Trap as Trap_end}
 use Rattle.ob_types.specs.Operators.{label_has, labels_have}
 use Rattle.ob_types.specs.Statements.{case as case_of_value}
@@ -319,25 +319,11 @@ module _ (w : Whole) (l : Level) (right : Right w) (apart : Apart l) (vars : Var
   part_some end_of-Selector None n ok is = no ok
   part_some (more_of-Selector s rest) None n ok is = absurd (selected_none (more_of-Selector s rest) n ok is)
 
-  -- what has parts; a record type is in the table
-  abbrev HasParts : Thing → Type 0
-  HasParts (Of k may) = Unit {0}
-  HasParts (OpenOf e may) = Unit {0}
-  HasParts (Dynamic r) = r < length p.types.records
-  HasParts _ = ⊥
-
   -- record types that designators name are in the table; In.Done is a truth
   abbrev Legal : Thing → Type 0
   Legal (Dynamic r) = r < length p.types.records
   Legal (Cells f may) = f ≡ Truth
   Legal _ = Unit {0}
-
-  legal_of : (t : Thing) → HasParts t → Legal t
-  legal_of (Of k may) parts = tt
-  legal_of (OpenOf e may) parts = tt
-  legal_of (Dynamic r) parts = parts
-  legal_of (Cells f may) parts = absurd parts
-  legal_of (Characters m) parts = absurd parts
 
   legal_base : (b : Base) (n : Thing) → WellFormed.base_named p l.proc b ≡ Some n → Legal n
   legal_base Done n is = subst Legal (some_same (Cells Truth false) n is) refl
@@ -423,15 +409,14 @@ module _ (w : Whole) (l : Level) (right : Right w) (apart : Apart l) (vars : Var
       let y = provided_is p (WellFormed.has_kind p kind z.0) (Some z.0) n z.2 in
       subst Legal (some_same z.0 n y.1) (legal_base b z.0 z.1)
   legal_named (Part' b kind _ row) n ok is =
-      let cover = and_of (base_has_parts b) (part_covered row) ok in
       let z = with_is p good (WellFormed.selected_named p l.proc row (WellFormed.base_named p l.proc b)) (WellFormed.of_kind p kind) n is in
       let y = provided_is p (WellFormed.has_kind p kind z.0) (Some z.0) n z.2 in
-      let base = part_some row (WellFormed.base_named p l.proc b) z.0 cover.1 z.1 in
-      subst Legal (some_same z.0 n y.1) (legal_selected row base.0 z.0 (row_covered_too row cover.1) (ap (WellFormed.selected_named p l.proc row) (sym base.1) ∙ z.1) (legal_base b base.0 base.1))
+      let base = part_some row (WellFormed.base_named p l.proc b) z.0 ok z.1 in
+      subst Legal (some_same z.0 n y.1) (legal_selected row base.0 z.0 (row_covered_too row ok) (ap (WellFormed.selected_named p l.proc row) (sym base.1) ∙ z.1) (legal_base b base.0 base.1))
 
   -- what a part is
   abbrev PartIs : Thing → Act Handed → Low Named → Type 0
-  PartIs t d low = HasParts t × Follows w l 0 fuel nothing (Given w l) (DesignatorIs w l none t) d low
+  PartIs t d low = Legal t × Follows w l 0 fuel nothing (Given w l) (DesignatorIs w l none t) d low
 
   -- a designator names what its name says
   abbrev Sensible : Thing → Act Handed → Type 0
@@ -443,21 +428,6 @@ module _ (w : Whole) (l : Level) (right : Right w) (apart : Apart l) (vars : Var
 
   of_sensible : {mask own : Mask} {d : Act Handed} {low : Low Named} (n : Thing) → Sensible n d → Follows w l 0 fuel mask (Given w l) (NamedIs w l own n) d low → Follows w l 0 fuel mask (Given w l) (DesignatorIs w l own n) d low
   of_sensible n sensible one = follows_less w l (λ h v i f s known. (known.0, names_second n h s.tags known.1)) (follows_sound w l {P = NamesOf p l.forms n} sensible one)
-
-  parts_base : (b : Base) (n : Thing) → base_has_parts b ≡ true → WellFormed.base_named p l.proc b ≡ Some n → HasParts n
-  parts_base (Global m v) n ok is = let z = with_is p good (slice_get (globals_of p m) v) (λ k. Some (Of k true)) n is in subst HasParts (some_same (Of z.0 true) n z.2) tt
-  parts_base (Local x) n ok is = let z = with_is p good (slice_get (locals w l) x) (λ k. Some (Of k true)) n is in subst HasParts (some_same (Of z.0 true) n z.2) tt
-  parts_base (Parameter k) n ok is =
-      let z = with_is p good (slice_get (procedure_of p l.proc).formals k) (λ x. WellFormed.parameter_by p x.mode x.type_number x.variable) n is in
-      by z.0.mode z.0.type_number z.0.variable z.2
-    where
-      by : (m : Mode) (k : ℕ) (v : Bool) → WellFormed.parameter_by p m k v ≡ Some n → HasParts n
-      by OfValue k v e = none_some n e
-      by Place k v e = subst HasParts (some_same (Of k v) n e) tt
-      by OfRecord k v e = let x = with_is p good (record_by (kind_of p.types k)) (λ r. Some (Dynamic r)) n e in subst HasParts (some_same (Dynamic x.0) n x.2) (right.record_there k x.0 (record_is p good (kind_of p.types k) x.0 x.1))
-      by OfOpen k v e = let x = with_is p good (open_element (kind_of p.types k)) (λ e. Some (OpenOf e v)) n e in subst HasParts (some_same (OpenOf x.0 v) n x.2) tt
-  parts_base Done n ok is = no ok
-  parts_base (Text k) n ok is = no ok
 
   ---- Arrays
 
@@ -771,15 +741,14 @@ module _ (w : Whole) (l : Level) (right : Right w) (apart : Apart l) (vars : Var
         let y = provided_is p (WellFormed.has_kind p kind z.0) (Some z.0) n z.2 in
         subst (λ n. Follows w l 0 fuel nothing (Given w l) (DesignatorIs w l (origin b) n) (base_of p calls runs b) (based p lay mine b)) (some_same z.0 n y.1) (base_is b z.0 z.1)
     named_is (Part' b kind _ row) n is ok lends =
-        let cover = and_of (base_has_parts b) (part_covered row) ok in
         let z = with_is p good (WellFormed.selected_named p l.proc row (WellFormed.base_named p l.proc b)) (WellFormed.of_kind p kind) n is in
         let y = provided_is p (WellFormed.has_kind p kind z.0) (Some z.0) n z.2 in
-        let base = part_some row (WellFormed.base_named p l.proc b) z.0 cover.1 z.1 in
-        let parts = parts_base b base.0 cover.0 base.1 in
-        let one = part_of row (origin b) base.0 z.0 (base_of p calls runs b) (based p lay mine b) (ap (WellFormed.selected_named p l.proc row) (sym base.1) ∙ z.1) parts cover.1 lends (sensible_base b base.0 base.1) (base_is b base.0 base.1) in
+        let base = part_some row (WellFormed.base_named p l.proc b) z.0 ok z.1 in
+        let parts = legal_base b base.0 base.1 in
+        let one = part_of row (origin b) base.0 z.0 (base_of p calls runs b) (based p lay mine b) (ap (WellFormed.selected_named p l.proc row) (sym base.1) ∙ z.1) parts ok lends (sensible_base b base.0 base.1) (base_is b base.0 base.1) in
         subst (λ n. Follows w l 0 fuel nothing (Given w l) (DesignatorIs w l none n) (selected p calls runs row (base_of p calls runs b)) (lower_selected p lay mine row (based p lay mine b))) (some_same z.0 n y.1) one
 
-    part_of : {m : _} (row : Row_of-Selector m) (own : Mask) (b n : Thing) (d : Act Handed) (low : Low Named) → WellFormed.selected_named p l.proc row (Some b) ≡ Some n → HasParts b → part_covered row ≡ true → Lends (lent_selectors own row) → Sensible b d → Follows w l 0 fuel nothing (Given w l) (DesignatorIs w l own b) d low
+    part_of : {m : _} (row : Row_of-Selector m) (own : Mask) (b n : Thing) (d : Act Handed) (low : Low Named) → WellFormed.selected_named p l.proc row (Some b) ≡ Some n → Legal b → part_covered row ≡ true → Lends (lent_selectors own row) → Sensible b d → Follows w l 0 fuel nothing (Given w l) (DesignatorIs w l own b) d low
         → Follows w l 0 fuel nothing (Given w l) (DesignatorIs w l none n) (selected p calls runs row d) (lower_selected p lay mine row low)
     part_of end_of-Selector own b n d low is parts ok lends sensible one = no ok
     part_of (more_of-Selector s rest) own b n d low is parts ok lends sensible one =
@@ -789,7 +758,7 @@ module _ (w : Whole) (l : Level) (right : Right w) (apart : Apart l) (vars : Var
         let two = select_is s own b t.0 d low t.1 parts covers.0 (left_lends (lent_selector s) (lent_selectors none rest) behind) sensible one in
         selected_is rest t.0 n (select p calls runs s d) (lower_select p lay mine s low) (ap (WellFormed.selected_named p l.proc rest) (sym t.1) ∙ is) two.0 covers.1 (right_lends (lent_selector s) (lent_selectors none rest) behind) (sensible_part s b t.0 d t.1 sensible) two.1
 
-    selected_is : {m : _} (row : Row_of-Selector m) (b n : Thing) (d : Act Handed) (low : Low Named) → WellFormed.selected_named p l.proc row (Some b) ≡ Some n → HasParts b → selectors_covered row ≡ true → Lends (lent_selectors none row) → Sensible b d → Follows w l 0 fuel nothing (Given w l) (DesignatorIs w l none b) d low
+    selected_is : {m : _} (row : Row_of-Selector m) (b n : Thing) (d : Act Handed) (low : Low Named) → WellFormed.selected_named p l.proc row (Some b) ≡ Some n → Legal b → selectors_covered row ≡ true → Lends (lent_selectors none row) → Sensible b d → Follows w l 0 fuel nothing (Given w l) (DesignatorIs w l none b) d low
         → Follows w l 0 fuel nothing (Given w l) (DesignatorIs w l none n) (selected p calls runs row d) (lower_selected p lay mine row low)
     selected_is end_of-Selector b n d low is parts ok lends sensible one = subst (λ n. Follows w l 0 fuel nothing (Given w l) (DesignatorIs w l none n) d low) (some_same b n is) one
     selected_is (more_of-Selector s rest) b n d low is parts ok lends sensible one =
@@ -799,7 +768,7 @@ module _ (w : Whole) (l : Level) (right : Right w) (apart : Apart l) (vars : Var
         let two = select_is s none b t.0 d low t.1 parts covers.0 (left_lends (lent_selector s) (lent_selectors none rest) behind) sensible one in
         selected_is rest t.0 n (select p calls runs s d) (lower_select p lay mine s low) (ap (WellFormed.selected_named p l.proc rest) (sym t.1) ∙ is) two.0 covers.1 (right_lends (lent_selector s) (lent_selectors none rest) behind) (sensible_part s b t.0 d t.1 sensible) two.1
 
-    select_is : (s : Selector) (own : Mask) (b t : Thing) (d : Act Handed) (low : Low Named) → WellFormed.select_named p l.proc s (Some b) ≡ Some t → HasParts b → selector_covered s ≡ true → Lends (lent_selector s) → Sensible b d → Follows w l 0 fuel nothing (Given w l) (DesignatorIs w l own b) d low
+    select_is : (s : Selector) (own : Mask) (b t : Thing) (d : Act Handed) (low : Low Named) → WellFormed.select_named p l.proc s (Some b) ≡ Some t → Legal b → selector_covered s ≡ true → Lends (lent_selector s) → Sensible b d → Follows w l 0 fuel nothing (Given w l) (DesignatorIs w l own b) d low
         → PartIs t (select p calls runs s d) (lower_select p lay mine s low)
     select_is (Index o e x) own b t d low is parts ok lends sensible one =
         let has = provided_is p (WellFormed.array_of p e o b) (provided (gives_number (WellFormed.form p l.proc x)) (Some (Of e (WellFormed.is_writable b)))) t is in
@@ -820,14 +789,15 @@ module _ (w : Whole) (l : Level) (right : Right w) (apart : Apart l) (vars : Var
         subst (λ t. PartIs t (select p calls runs (Field r f) d) (lower_select p lay mine (Field r f) low)) (some_same (Of c.0 true) t c.2)
         (tt, of_variable c.0 true (follows_field_place w l own none (Dynamic b) (Of c.0 true) d (field_place p.types r f) (cells p.types c.0) steady (λ h second j lt. dynamic_cells b r f c.0 h second a.0 c.1 j lt) refl (λ a. refl) one))
     select_is (Field r f) own (OpenOf e may) t d low is parts ok lends sensible one = none_some t is
-    select_is (Field r f) own _ t d low is parts ok lends sensible one = absurd parts
+    select_is (Field r f) own (Cells g may) t d low is parts ok lends sensible one = none_some t is
+    select_is (Field r f) own (Characters m) t d low is parts ok lends sensible one = none_some t is
     select_is (Dereference rs) own b t d low is parts ok lends sensible one =
         let a = with_is p good (WellFormed.guarded_form p rs (WellFormed.scalar_in p b)) pointed t is in
         let r = pointed_is p good a.0 t a.2 in
         let c = guarded_some rs (WellFormed.scalar_in p b) a.0 a.1 in
         let whole = sensible_part (Dereference rs) b t d is sensible in
         subst (λ t. Sensible t (select p calls runs (Dereference rs) d) → PartIs t (select p calls runs (Dereference rs) d) (lower_select p lay mine (Dereference rs) low)) (sym r.2)
-        (λ sensible. (subst Legal r.2 (legal_select (Dereference rs) b t is (legal_of b parts)), of_sensible (Dynamic r.0) sensible (follows_object w l none r.0 steady (follows_guards rs (WellFormed.scalar_in p b) a.0 (load d) (lower_load (home_of low false)) a.1
+        (λ sensible. (subst Legal r.2 (legal_select (Dereference rs) b t is parts), of_sensible (Dynamic r.0) sensible (follows_object w l none r.0 steady (follows_guards rs (WellFormed.scalar_in p b) a.0 (load d) (lower_load (home_of low false)) a.1
         (follows_load w l own d steady (follows_home w l own b d steady (λ h v m g s known. scalar_row b c.0 c.1 h) (only_named w l b one))))))) whole
     select_is (Narrow r) own (Dynamic b) t d low is parts ok lends sensible one =
         let a = provided_is p (is_record_type p.types r) (Some (Dynamic r)) t is in
@@ -836,7 +806,8 @@ module _ (w : Whole) (l : Level) (right : Right w) (apart : Apart l) (vars : Var
         (there, follows_narrowed w l right vars own none b r (descriptor p lay mine r) d parts there (vars.descriptor r) steady one)
     select_is (Narrow r) own (Of k may) t d low is parts ok lends sensible one = none_some t (provided_is p (is_record_type p.types r) None t is).1
     select_is (Narrow r) own (OpenOf e may) t d low is parts ok lends sensible one = none_some t (provided_is p (is_record_type p.types r) None t is).1
-    select_is (Narrow r) own _ t d low is parts ok lends sensible one = absurd parts
+    select_is (Narrow r) own (Cells f may) t d low is parts ok lends sensible one = none_some t (provided_is p (is_record_type p.types r) None t is).1
+    select_is (Narrow r) own (Characters m) t d low is parts ok lends sensible one = none_some t (provided_is p (is_record_type p.types r) None t is).1
 
     pub shows_of : (e : Expr) (k : Form) → WellFormed.form p l.proc e ≡ Some k → expr_covered e ≡ true → Lends (lent e) → Shows (value p calls runs e) (expr p lay mine e)
     shows_of (Literal n) k is ok lends = shown (follows_literal w l n (literal_few n k is))
@@ -1099,21 +1070,37 @@ module _ (w : Whole) (l : Level) (right : Right w) (apart : Apart l) (vars : Var
 
   ---- FOR
 
-  fixed_at : (d : Designator) → is_fixed d ≡ true → (a : Address) × ((s : Moment Objects) → place (designated p calls runs d) s ≡ Gives a s)
-  fixed_at (Variable (Global m v) kind) h = (_, λ s. refl)
-  fixed_at (Variable (Local x) kind) h = (_, λ s. refl)
-  fixed_at (Variable Done kind) h = no h
-  fixed_at (Variable (Parameter k) kind) h = no h
-  fixed_at (Variable (Text k) kind) h = no h
-  fixed_at (Part' b kind _ selectors) h = no h
+  -- a whole variable has one address
+  fixed_at : (d : Designator) (n : Thing) (f : Form) → is_whole d ≡ true → WellFormed.named p l.proc d ≡ Some n → WellFormed.scalar_in p n ≡ Some f → (a : Address) × ((s : Moment Objects) → place (designated p calls runs d) s ≡ Gives a s)
+  fixed_at (Variable (Global m v) kind) n f h is scalar = (_, λ s. refl)
+  fixed_at (Variable (Local x) kind) n f h is scalar = (_, λ s. refl)
+  fixed_at (Variable Done kind) n f h is scalar = (_, λ s. refl)
+  fixed_at (Variable (Parameter k) kind) n f h is scalar =
+      let z = with_is p good (WellFormed.base_named p l.proc (Parameter k)) (WellFormed.of_kind p kind) n is in
+      let y = provided_is p (WellFormed.has_kind p kind z.0) (Some z.0) n z.2 in
+      let x = with_is p good (slice_get (procedure_of p l.proc).formals k) (λ x. WellFormed.parameter_by p x.mode x.type_number x.variable) z.0 z.1 in
+      let t = taken_of p good l.forms l.store.tags (procedure_of p l.proc).formals l.arguments taken k x.0 x.1 in
+      let names = parameter_names p good l.forms l.store.tags x.0.mode x.0.type_number x.0.variable t.0 z.0 x.2 t.2 in
+      let a = by z.0 t.0 (ap (WellFormed.scalar_in p) (some_same z.0 n y.1) ∙ scalar) names in
+      (a.0, λ s. ap (λ o. place (given o) s) t.1 ∙ ap (λ h. place (give h) s) a.1)
+    where
+      by : (m : Thing) (h : Handed) → WellFormed.scalar_in p m ≡ Some f → Names p l.forms l.store.tags m h → (a : Address) × (h ≡ Addressed a)
+      by (Of k may) (Addressed a) e names = (a, refl)
+      by (Cells g may) (Addressed a) e names = (a, refl)
+      by (OpenOf g may) h e names = none_some f e
+      by (Dynamic r) h e names = none_some f e
+      by (Characters m) h e names = none_some f e
+      by _ _ e names = absurd names
+  fixed_at (Variable (Text k) kind) n f h is scalar =
+      let z = with_is p good (WellFormed.base_named p l.proc (Text k)) (WellFormed.of_kind p kind) n is in
+      let y = provided_is p (WellFormed.has_kind p kind z.0) (Some z.0) n z.2 in
+      let x = with_is p good (slice_get (texts_of p.procedures) (text_number p l.proc k)) (λ xs. Some (Characters (suc (length xs)))) z.0 z.1 in
+      none_some f (ap (WellFormed.scalar_in p) (some_same (Characters (suc (length x.0))) z.0 x.2 ∙ some_same z.0 n y.1) ∙ scalar)
+  fixed_at (Part' b kind _ selectors) n f h is scalar = no h
 
-  fixed_covered : (d : Designator) → is_fixed d ≡ true → designator_covered d ≡ true
-  fixed_covered (Variable (Global m v) kind) h = refl
-  fixed_covered (Variable (Local x) kind) h = refl
-  fixed_covered (Variable Done kind) h = refl
-  fixed_covered (Variable (Parameter k) kind) h = refl
-  fixed_covered (Variable (Text k) kind) h = no h
-  fixed_covered (Part' b kind _ selectors) h = no h
+  whole_covered : (d : Designator) → is_whole d ≡ true → designator_covered d ≡ true
+  whole_covered (Variable b kind) h = refl
+  whole_covered (Part' b kind _ selectors) h = no h
 
   limit_test : (b : Bool) (x y : ℕ) → compares (if b then 13 else 10) x y ≡ (if b then int_le (signed x) (signed y) else int_le (signed y) (signed x))
   limit_test true x y = refl
@@ -1347,7 +1334,7 @@ module _ (w : Whole) (l : Level) (right : Right w) (apart : Apart l) (vars : Var
         (follows_mask w l {less = nothing} (omega arith) (λ y e. refl) (only_named w l t.0 (named_is d t.0 t.2 ok (at_of_whole d lends)))))
     stmt_is mask (Invoke k) fine ok c lends = follows_mask w l {less = nothing} (omega arith) (λ y e. refl) (call_only k fine ok lends)
     stmt_is mask (For' d x y step _ body) fine ok c lends =
-        let z = and_of (is_fixed d) (checked_covered x && (checked_covered y && row_covered body)) ok in
+        let z = and_of (is_whole d) (checked_covered x && (checked_covered y && row_covered body)) ok in
         let z2 = and_of (checked_covered x) (checked_covered y && row_covered body) z.1 in
         let z3 = and_of (checked_covered y) (row_covered body) z2.1 in
         let y0 = and_of (WellFormed.is_step step) (holds_of (WellFormed.takes p WellFormed.is_full) (WellFormed.named p l.proc d) && (gives_number (WellFormed.checked_form p l.proc x) && (gives_number (WellFormed.checked_form p l.proc y) && WellFormed.fine_row p l.proc body))) fine in
@@ -1357,8 +1344,8 @@ module _ (w : Whole) (l : Level) (right : Right w) (apart : Apart l) (vars : Var
         let t = takes_is p good WellFormed.is_full (WellFormed.named p l.proc d) y1.0 in
         let g = number_form (WellFormed.checked_form p l.proc x) y2.0 in
         let h = number_form (WellFormed.checked_form p l.proc y) y3.0 in
-        let fixed = fixed_at d z.0 in
-        let whole = fixed_covered d z.0 in
+        let fixed = fixed_at d t.0 t.1 z.0 t.2 t.3 in
+        let whole = whole_covered d z.0 in
         let lends2 = right_lends (lent_at d) (either (lent x.form) (either (lent y.form) (lent_by_all body))) lends in
         let lends3 = right_lends (lent x.form) (either (lent y.form) (lent_by_all body)) lends2 in
         let at = left_lends (lent_at d) (either (lent x.form) (either (lent y.form) (lent_by_all body))) lends in

@@ -4,8 +4,6 @@ use Rattle.ob_types.specs.Forms.{all}
 use Rattle.ob_types.specs.Meaning.{kind_in, length_of_kind}
 use Rattle.ob_types.specs.declared.tree.Expr.{Expr, Literal, Routine, Load, Guard, Length, Unary', Chain', Compare', CompareTexts', In', IsPointer', IsParameter, Byte', Call', Row_of-Link, end_of-Link, more_of-Link}
 use Rattle.ob_types.specs.declared.tree.Link.{Link, Operate, And, Or, Element, Elements}
-use Rattle.ob_types.specs.declared.tree.Base.{Base}
-use Rattle.ob_types.specs.declared.tree.Base.TheVariants.{Global, Local, Parameter}
 use Rattle.ob_types.specs.declared.tree.Designator.{Designator, Whole, Part', Row_of-Selector, end_of-Selector, more_of-Selector}
 use Rattle.ob_types.specs.declared.tree.Selector.{Selector, Index, Field, Dereference, Narrow}
 use Rattle.ob_types.specs.declared.tree.Call.{Call, Direct', Indirect', Row_of-Argument, end_of-Argument, more_of-Argument}
@@ -16,18 +14,10 @@ use Rattle.ob_types.specs.declared.statements.Stmt.{Call as Invoke}
 use Rattle.ob_types.specs.declared.program.Procedure.{Procedure}
 use Rattle.ob_types.specs.declared.program.Program.{Program}
 
--- one that may have parts
-abbrev pub base_has_parts : Base → Bool
-base_has_parts (Global m v) = true
-base_has_parts (Local x) = true
-base_has_parts (Parameter k) = true
-base_has_parts _ = false
-
--- a variable of a module, or of a call
-abbrev pub is_fixed : Designator → Bool
-is_fixed (Whole (Global m v) k) = true
-is_fixed (Whole (Local x) k) = true
-is_fixed _ = false
+-- a whole variable
+abbrev pub is_whole : Designator → Bool
+is_whole (Whole b k) = true
+is_whole (Part' b k _ selectors) = false
 
 -- scalars and their operators, comparisons of texts, elements of arrays and their lengths, fields, pointers with their guards and objects, and
 -- calls of declared procedures and through procedure variables
@@ -48,10 +38,10 @@ abbrev mutual
   expr_covered (IsPointer' _ x r) = expr_covered x
   expr_covered (IsParameter d r) = designator_covered d
 
-  -- a variable or a string, or a part of a variable
+  -- a variable or a string, or a part of one, behind some selector
   pub designator_covered : Designator → Bool
   designator_covered (Whole b k) = true
-  designator_covered (Part' b k _ selectors) = base_has_parts b && part_covered selectors
+  designator_covered (Part' b k _ selectors) = part_covered selectors
 
   pub part_covered : {m : _} → Row_of-Selector m → Bool
   part_covered end_of-Selector = false
@@ -124,7 +114,7 @@ abbrev mutual
   covered (Case' x _ parts) = checked_covered x && case_covered parts
   covered (CasePointer' x _ parts) = checked_covered x && types_covered parts
   covered (CaseParameter' d _ parts) = designator_covered d && types_covered parts
-  covered (For' d x y step _ body) = is_fixed d && (checked_covered x && (checked_covered y && row_covered body))
+  covered (For' d x y step _ body) = is_whole d && (checked_covered x && (checked_covered y && row_covered body))
 
   pub row_covered : {m : _} → Row_of-Stmt m → Bool
   row_covered end_of-Stmt = true
