@@ -1,11 +1,11 @@
 -- Descriptors tell extensions: the cell at a record type's level is the address of that type's descriptor just in the descriptors of what extends it.
-use Rattle.std.proofs.Common.{◌≡◌, ◌≢◌, ℕ, zero, suc, ◌+◌, ◌*◌, ◌<◌, ◌≤◌, ◌⊎◌, ⊎_elim, inl, inr, [], length, Bool, true, false, ◌&&◌, ◌||◌, refl, sym, ap, ◌∙◌, subst, arith, Option, Some, None, eq-eqb, ne_eqb, eqb-true, leb-true, ltb-true}
-use Rattle.std.specs.Prelude.{◌==◌, nat_le, nat_lt, if◌then◌else◌}
+use Rattle.std.proofs.Common.{◌≡◌, ℕ, zero, suc, ◌+◌, ◌*◌, ◌<◌, ◌≤◌, ◌⊎◌, ⊎_elim, inl, inr, [], length, Bool, true, false, ◌&&◌, ◌||◌, refl, sym, ap, ◌∙◌, subst, arith, Option, Some, None, eq-eqb, ne_eqb, eqb-true, leb-true, ltb-true}
+use Rattle.std.specs.Prelude.{◌==◌, nat_le, if◌then◌else◌}
 use Rattle.std.proofs.lemmas.Bool.{cases_lt}
 use Rattle.std.proofs.lemmas.List.{get_or_past}
 use Rattle.ob_types.specs.Forms.{all, all_below, if_base}
-use Rattle.ob_types.specs.Layout.{kind_of, record_of, types_of, or_base, extends_within, extends}
-use Rattle.ob_types.specs.LegalTypes.{most_cells, kind_legal, type_legal, record_legal, signature_legal, is_record_type, is_variable_type, types_legal}
+use Rattle.ob_types.specs.Layout.{record_of, types_of, or_base, extends_within, extends}
+use Rattle.ob_types.specs.LegalTypes.{most_cells, type_legal, record_legal, signature_legal, is_record_type, is_variable_type, types_legal}
 use Rattle.ob_types.specs.Table.{Table}
 use Rattle.ob_types.specs.WellFormed.{argument_words, counts_fine, level_by, level_fine, cells_fine, variables_fine, bodies_in_order, declarations_fine}
 use Rattle.ob_types.specs.declared.program.Program.{Program}

@@ -797,8 +797,11 @@ module _ (w : Whole) (l : Level) (right : Right w) (apart : Apart l) (vars : Var
         let c = guarded_some rs (WellFormed.scalar_in p b) a.0 a.1 in
         let whole = sensible_part (Dereference rs) b t d is sensible in
         subst (λ t. Sensible t (select p calls runs (Dereference rs) d) → PartIs t (select p calls runs (Dereference rs) d) (lower_select p lay mine (Dereference rs) low)) (sym r.2)
-        (λ sensible. (subst Legal r.2 (legal_select (Dereference rs) b t is parts), of_sensible (Dynamic r.0) sensible (follows_object w l none r.0 steady (follows_guards rs (WellFormed.scalar_in p b) a.0 (load d) (lower_load (home_of low false)) a.1
-        (follows_load w l own d steady (follows_home w l own b d steady (λ h v m g s known. scalar_row b c.0 c.1 h) (only_named w l b one))))))) whole
+        (λ sensible. (
+          subst Legal r.2 (legal_select (Dereference rs) b t is parts),
+          of_sensible (Dynamic r.0) sensible (follows_object w l none r.0 steady (follows_guards rs (WellFormed.scalar_in p b) a.0 (load d) (lower_load (home_of low false)) a.1
+              (follows_load w l own d steady (follows_home w l own b d steady (λ h v m g s known. scalar_row b c.0 c.1 h) (only_named w l b one))))),
+        )) whole
     select_is (Narrow r) own (Dynamic b) t d low is parts ok lends sensible one =
         let a = provided_is p (is_record_type p.types r) (Some (Dynamic r)) t is in
         let there = lt_of p r (length p.types.records) a.0 in

@@ -1,5 +1,5 @@
 -- CASE on dynamic types: its tests, and what comes where no part fits.
-use Rattle.std.proofs.Common.{◌≡◌, ℕ, ◌<◌, List, [], ◌∷◌, map, length, Bool, true, false, ◌&&◌, refl, sym, ap, ◌∙◌, arith, Option}
+use Rattle.std.proofs.Common.{◌≡◌, ℕ, ◌<◌, List, [], ◌∷◌, map, length, Bool, true, false, refl, sym, ap, arith, Option}
 use Rattle.run_laws.specs.Turns.{Gives, give}
 use Rattle.block_runs.specs.declared.end.End.TheVariants.{Jump}
 use Rattle.block_runs.specs.Steps.{set_all}
@@ -13,7 +13,7 @@ use Rattle.ob_types.proofs.Tests.{and_of}
 use Rattle.ob_sound.proofs.Typed.{lt_of}
 use Rattle.ssa_lowered.specs.Data.{Layout, in_cells}
 use Rattle.ssa_lowered.specs.Pieces.{Low, Mask, params, picked}
-use Rattle.ssa_lowered.specs.Control.{Test, fork_value}
+use Rattle.ssa_lowered.specs.Control.{Test}
 use Rattle.ssa_lowered.specs.Lowered.{Here, descriptor, type_test}
 use Rattle.lowered_runs.specs.Words.{Whole, Level, Right}
 use Rattle.lowered_runs.proofs.Stores.{later_refl}
@@ -23,7 +23,7 @@ use Rattle.lowered_runs.proofs.Exprs.{CellIs}
 use Rattle.lowered_runs.proofs.Forks.{No_more, Forks, nothing, forks_value, forks_as}
 use Rattle.lowered_runs.proofs.Structures.{itself, jump}
 use Rattle.lowered_runs.proofs.Cases.{AllSay, Bodies, Matched, Otherwise}
-use Rattle.lowered_runs.proofs.Levels.{Variables, layout}
+use Rattle.lowered_runs.proofs.Levels.{Variables}
 use Rattle.lowered_runs.proofs.TypeTests.{answer, rank}
 
 holds_truth : (b : Bool) → holds (truth b) ≡ b

@@ -1,7 +1,7 @@
 -- Dynamic types: guards and tests of pointers and of VAR record parameters.
-use Rattle.std.proofs.Common.{◌≡◌, ◌≢◌, ℕ, zero, suc, ◌+◌, ◌*◌, ◌^◌, ◌<◌, ◌≤◌, ◌⊎◌, List, [], ◌∷◌, length, Bool, true, false, cond, slice_get, inl, inr, refl, sym, ap, ap₂, ◌∙◌, subst, arith, Option, Some, None, ne_eqb}
+use Rattle.std.proofs.Common.{◌≡◌, ◌≢◌, ℕ, zero, suc, ◌+◌, ◌*◌, ◌<◌, ◌≤◌, ◌⊎◌, List, [], ◌∷◌, length, Bool, true, false, cond, slice_get, inl, inr, refl, sym, ap, ◌∙◌, subst, arith, Option, Some, None, ne_eqb}
 use Rattle.std.specs.Prelude.{◌==◌, if◌then◌else◌}
-use Rattle.run_laws.specs.Turns.{Ending, Gives, Fails, Spent, after, give, ◌>>=◌}
+use Rattle.run_laws.specs.Turns.{Gives, Fails, after, give, ◌>>=◌}
 use Rattle.run_laws.specs.Turns.{State as At}
 use Rattle.a64_memory.specs.Memory.{Area, covers, loaded8, load8}
 use Rattle.a64_memory.proofs.Blocks.{covers-top}
@@ -13,10 +13,10 @@ use Rattle.block_runs.specs.Effects.{Gives as Yields, Fails as Refuses}
 use Rattle.block_runs.specs.Effects.{truth as truth_of}
 use Rattle.block_runs.specs.Steps.{set}
 use Rattle.ob_types.specs.Layout.{record_of, extends}
-use Rattle.ob_types.specs.Store.{Cell, Bits, Pointer, Heap, Address, Store, Handed, Sized, Tagged, Value, Trap, Senseless, Act, given, object_in, tag_of, tag_in, dynamic_in, address_in, unless}
+use Rattle.ob_types.specs.Store.{Cell, Bits, Pointer, Store, Handed, Sized, Tagged, Value, Senseless, Act, given, object_in, tag_of, tag_in, dynamic_in, unless}
 use Rattle.ob_types.specs.Store.{Code as Procedure, At as Addressed}
 use Rattle.ob_types.specs.Operators.{truth}
-use Rattle.ob_types.specs.Expressions.{guarded, all_guarded, narrowed, pointer_type, parameter_type, is_of, type_test}
+use Rattle.ob_types.specs.Expressions.{guarded, narrowed, pointer_type, parameter_type, is_of, type_test}
 use Rattle.ob_types.specs.WellFormed.{Dynamic}
 use Rattle.ob_types.proofs.Tests.{none_some, some_same}
 use Rattle.ob_sound.proofs.Numbers.{truth_lt}
@@ -27,11 +27,11 @@ use Rattle.ssa_lowered.specs.Values.{guarded as lower_guarded, narrowed as lower
 use Rattle.lowered_runs.specs.Words.{Whole, Level, Right, sizes_of, heap_word, TagOf, Constant, ValueIs, word, Held}
 use Rattle.lowered_runs.proofs.Stores.{covers_thing, there_tag, value_later}
 use Rattle.lowered_runs.proofs.Values.{put_here}
-use Rattle.lowered_runs.proofs.Follows.{Fact, And as Both, Anything, Steady, steady_and, steady_fixed, Grows, grows_bind, grows_give, grows_emits, grows_does, Follows, follows_bind, follows_then, follows_found, follows_give, follows_seen, follows_known, follows_less, follows_emits, follows_does, follows_never, Acts, acts_give, acts_trap, acts_senseless, effect_at}
+use Rattle.lowered_runs.proofs.Follows.{Fact, And as Both, Anything, Steady, steady_and, steady_fixed, Grows, grows_bind, grows_give, grows_emits, grows_does, Follows, follows_bind, follows_then, follows_found, follows_give, follows_seen, follows_known, follows_emits, follows_does, follows_never, Acts, acts_give, acts_trap, acts_senseless, effect_at}
 use Rattle.lowered_runs.proofs.Forks.{after_after}
 use Rattle.lowered_runs.proofs.Exprs.{CellIs, steady_cell, made_bits, place_above}
 use Rattle.lowered_runs.proofs.Sets.{follows_same}
-use Rattle.lowered_runs.proofs.Designators.{row_of, SecondIs, SecondFits, NamedIs, DesignatorIs, steady_designator}
+use Rattle.lowered_runs.proofs.Designators.{SecondIs, SecondFits, NamedIs, DesignatorIs, steady_designator}
 use Rattle.lowered_runs.proofs.Elements.{ConstIs, steady_const}
 use Rattle.lowered_runs.proofs.Levels.{Tells, Variables}
 
