@@ -35,7 +35,7 @@ use Rattle.lowered_runs.specs.Words.{Whole, Level, sizes_of, heap_word, word_at,
 use Rattle.lowered_runs.proofs.Stores.{some_none}
 use Rattle.lowered_runs.proofs.Homes.{AddressIs}
 use Rattle.lowered_runs.proofs.Designators.{NamedIs, SecondIs}
-use Rattle.lowered_runs.proofs.Levels.{Variables, LocalIs, Given}
+use Rattle.lowered_runs.proofs.Levels.{Variables, LocalIs, Given, TellsExtensions}
 use Rattle.lowered_runs.proofs.Calls.{OneIs, Words, Stacked}
 use Rattle.lowered_runs.proofs.Frames.{Activation, Laid, above, with_frame, own_slot, other_slot}
 use Rattle.lowered_runs.proofs.Locals.{Pairs, types_in, lay, size, is_wide, single, wide_of, way, wide_in, lent_in, first, first_grows, wide_bytes, lent_words, words_fit, own_at, own_inside, own_apart, SiteIs, site_is}
@@ -294,6 +294,7 @@ pub record DataPlaced (w : Whole) : Type 0 where
   pub descriptor : (r : ℕ) → w.descriptor r ≡ data_base + within (descriptor_at w.program (lay w.program) r)
   pub text : (l : Level) (o : ℕ) (xs : List ℕ) → slice_get (texts_of w.program.procedures) o ≡ Some xs → (s : Objects) → AddressIs w l (record { area = Strings; object = o; cell = 0 }) (suc (length xs)) (data_base + within (text_at w.program (lay w.program) o)) s
   pub records : w.records ≡ length w.program.types.records
+  pub tells : TellsExtensions w
   pub global : (l : Level) (m v k : ℕ) → slice_get (globals_of w.program m) v ≡ Some k → (s : Objects) → AddressIs w l (record { area = Globals; object = suc m; cell = cells_of_all w.program.types (take v (globals_of w.program m)) }) (cells w.program.types k) (data_base + global_at w.program (lay w.program) m v) s
   pub done : (l : Level) (s : Objects) → AddressIs w l (record { area = Globals; object = 0; cell = 0 }) 1 (data_base + 0) s
 
@@ -413,6 +414,7 @@ module _ (w : Whole) (l : Level) (g : ℕ) (hs : List Handed) (xs : List ℕ) (c
       descriptor = placed_data.descriptor;
       text = λ o xs is t. placed_data.text u o xs is t;
       records = placed_data.records;
+      tells = placed_data.tells;
       done = λ t. placed_data.done u t;
     }
       where

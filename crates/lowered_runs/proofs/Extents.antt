@@ -1,5 +1,5 @@
 -- No type and no record type has more cells than types may have.
-use Rattle.std.proofs.Common.{◌≡◌, ℕ, ◌+◌, ◌≤◌, ⊎_elim, None, [], map, length, ap, arith, true, ◌&&◌, eqb-true, leb-true}
+use Rattle.std.proofs.Common.{◌≡◌, ℕ, ◌+◌, ◌≤◌, ⊎_elim, None, [], map, length, sym, ap, ◌∙◌, arith, true, ◌&&◌, eqb-true, leb-true, ltb-true}
 use Rattle.std.specs.Prelude.{◌<◌, nat_le, sum}
 use Rattle.std.proofs.lemmas.Bool.{cases_lt}
 use Rattle.std.proofs.lemmas.List.{get_or_past}
@@ -9,6 +9,7 @@ use Rattle.ob_types.specs.LegalTypes.{kind_legal, type_legal, record_legal, sign
 use Rattle.ob_types.specs.WellFormed.{argument_words, counts_fine, level_fine, cells_fine, variables_fine, bodies_in_order, declarations_fine}
 use Rattle.ob_types.specs.declared.program.Program.{Program}
 use Rattle.ob_types.specs.declared.types.TypeKind.TheVariants.{Nothing}
+use Rattle.ob_types.specs.declared.types.TypeKind.TheVariants.{Record as RecordOf, Pointer as PointerTo}
 use Rattle.ob_types.proofs.Tests.{and_of, below}
 
 module _ (p : Program) (declared : declarations_fine p ≡ true) where
@@ -41,3 +42,17 @@ module _ (p : Program) (declared : declarations_fine p ≡ true) where
       let e = ap (λ (x : _). base_cells x.base (record_within p.types (length p.types.kinds + length p.types.records)) + sum (map (cells_within p.types (length p.types.kinds + length p.types.records)) (types_of x.fields))) (get_or_past p.types.records r (record { «module» = 0; base = None; level = 0; fields = []; cells = 0 }) ge) in
       omega (arith, e))
       (cases_lt r (length p.types.records))
+
+  kind_there : (k : ℕ) → kind_legal p.types (kind_of p.types k) ≡ true
+  kind_there k = ⊎_elim
+      (λ (lt : k < length p.types.kinds).
+      let all_types = and_of (all_below (length p.types.kinds) (type_legal p.types)) (all_below (length p.types.records) (record_legal p.types) && all (signature_legal p.types) p.types.signatures) legal.0 in
+      (and_of (kind_legal p.types (kind_of p.types k)) (nat_le (cells p.types k) most_cells) (below (length p.types.kinds) (type_legal p.types) all_types.0 k lt)).0)
+      (λ (ge : length p.types.kinds ≤ k). ap (kind_legal p.types) (get_or_past p.types.kinds k Nothing ge))
+      (cases_lt k (length p.types.kinds))
+
+  pub record_there : (k r : ℕ) → kind_of p.types k ≡ RecordOf r → r < length p.types.records
+  record_there k r is = ltb-true r (length p.types.records) (sym (ap (kind_legal p.types) is) ∙ kind_there k)
+
+  pub target_there : (k r : ℕ) → kind_of p.types k ≡ PointerTo r → r < length p.types.records
+  target_there k r is = ltb-true r (length p.types.records) (sym (ap (kind_legal p.types) is) ∙ kind_there k)

@@ -1,9 +1,9 @@
 -- What holds while a call runs: where its variables and parameters are.
-use Rattle.std.proofs.Common.{◌≡◌, ℕ, suc, ◌+◌, ◌*◌, ◌⊎◌, List, length, take, true, false, slice_get, Some}
-use Rattle.std.specs.Prelude.{◌-◌}
+use Rattle.std.proofs.Common.{◌≡◌, ℕ, suc, ◌+◌, ◌*◌, ◌<◌, ◌⊎◌, List, length, take, true, false, slice_get, Some}
+use Rattle.std.specs.Prelude.{◌-◌, ◌==◌}
 use Rattle.wrapping_numbers.specs.Numbers.{sub64}
 use Rattle.block_runs.specs.First.{data_base}
-use Rattle.ob_types.specs.Layout.{kind_of, cells, cells_of_all}
+use Rattle.ob_types.specs.Layout.{kind_of, record_of, cells, cells_of_all, extends}
 use Rattle.ob_types.specs.Meaning.{procedure_of, locals_of, globals_of, texts_of}
 use Rattle.ob_types.specs.Store.{Globals, Strings, Handed}
 use Rattle.ob_types.specs.Store.{Store as Objects, Here as Running}
@@ -17,6 +17,18 @@ use Rattle.lowered_runs.specs.Words.{Whole, Level, local}
 use Rattle.lowered_runs.proofs.Follows.{Fact, Steady}
 use Rattle.lowered_runs.proofs.Homes.{AddressIs}
 use Rattle.lowered_runs.proofs.Designators.{NamedIs, steady_named}
+
+-- the descriptor of a record type, and its cell at the level of another one
+pub record Tells (w : Whole) (t r : ℕ) : Type 0 where
+  pub word : ℕ
+  pub cell : ℕ
+  pub place : w.descriptor t ≡ 8 * word
+  pub there : w.entry (word + (record_of w.program.types r).level) ≡ Some cell
+  pub tells : (cell == w.descriptor r) ≡ extends w.program.types t r
+
+-- it is the other one's descriptor just where the former extends it
+pub record TellsExtensions (w : Whole) : Type 0 where
+  pub by : (t r : ℕ) → t < length w.program.types.records → r < length w.program.types.records → Tells w t r
 
 module _ (w : Whole) (l : Level) where
   abbrev pub program : Program
@@ -48,6 +60,7 @@ module _ (w : Whole) (l : Level) where
     pub descriptor : (r : ℕ) → w.descriptor r ≡ data_base + within (descriptor_at program layout r)
     pub text : (o : ℕ) (xs : List ℕ) → slice_get (texts_of program.procedures) o ≡ Some xs → (s : Objects) → AddressIs w l (record { area = Strings; object = o; cell = 0 }) (suc (length xs)) (data_base + within (text_at program layout o)) s
     pub records : w.records ≡ length program.types.records
+    pub tells : TellsExtensions w
     pub done : (s : Objects) → AddressIs w l (record { area = Globals; object = 0; cell = 0 }) 1 (data_base + 0) s
 
   -- parameters that are addresses have their words

@@ -42,3 +42,7 @@ pub mod Extents
 pub mod Texts
 pub mod Strings
 pub mod Comparing
+pub mod Ancestors
+pub mod Descriptors
+pub mod TypeTests
+pub mod TypeCases

@@ -17,20 +17,22 @@ use Rattle.lowered_runs.specs.Words.{Whole, Level, Right, Sizes, sizes_of, Thing
 use Rattle.ob_types.specs.WellFormed.{declarations_fine}
 use Rattle.block_runs.specs.First.{data_base}
 use Rattle.ob_types.specs.WellFormed.{is_empty}
-use Rattle.ssa_lowered.specs.Data.{text_at, within}
-use Rattle.lowered_runs.specs.Claims.{has_strings, StringsStand}
+use Rattle.ssa_lowered.specs.Data.{descriptor_at, text_at, within}
+use Rattle.ob_types.specs.declared.types.RecordType.{RecordType}
+use Rattle.lowered_runs.proofs.Ancestors.{or_first, or_second, level, level_most, extends_there, cell_at, tells}
+use Rattle.lowered_runs.specs.Claims.{has_constants, ConstantsStand}
 use Rattle.lowered_runs.proofs.Homes.{AddressIs}
 use Rattle.lowered_runs.proofs.Strings.{start_of, starts_below, length_constants, rooms_before}
-use Rattle.lowered_runs.proofs.Extents.{cells_few, record_cells_few}
-use Rattle.lowered_runs.proofs.Starting.{whole_of, body_level, global_sizes, string_sizes}
+use Rattle.lowered_runs.proofs.Extents.{cells_few, record_cells_few, record_there, target_there}
+use Rattle.lowered_runs.proofs.Starting.{whole_of, body_level, global_sizes, string_sizes, entry_there}
 use Rattle.lowered_runs.proofs.Bodies.{module_sizes, modules_are, starts_are, rooms_are, variable_below}
-use Rattle.lowered_runs.proofs.Levels.{Variables}
+use Rattle.lowered_runs.proofs.Levels.{Variables, TellsExtensions}
 use Rattle.lowered_runs.proofs.Calls.{Stacked}
 use Rattle.lowered_runs.proofs.Activations.{DataPlaced}
 use Rattle.lowered_runs.proofs.Callees.{first_block}
 use Rattle.lowered_runs.proofs.Points.{procedure_at}
 use Rattle.std.proofs.Common.{Bool, not, ◌&&◌}
-use Rattle.std.specs.Prelude.{min, nat_lt, nat_le, slice_index_or}
+use Rattle.std.specs.Prelude.{◌==◌, min, nat_lt, nat_le, slice_index_or}
 use Rattle.std.proofs.lemmas.Bool.Decides.{nat_tests}
 use Rattle.block_runs.specs.declared.end.End.TheVariants.{Return}
 use Rattle.block_runs.specs.Blocks.{block_of}
@@ -80,6 +82,9 @@ module _ (p : Program) (input : List ℕ) where
       codes = are;
       cells = cells_few p declared;
       record_cells = record_cells_few p declared;
+      record_there = record_there p declared;
+      target_there = target_there p declared;
+      extension_there = extends_there p declared;
       callable = λ g h. let e = many p lay 0 p.procedures in let lt = lt_of p g (length p.procedures) (and_of _ _ h).0 in omega (arith, e, lt);
       may = λ g h xs long.
           let parts = and_of (nat_lt g (length p.procedures)) (not (procedure_of p g).is_body) h in
@@ -116,9 +121,12 @@ module _ (p : Program) (input : List ℕ) where
     has_one [] o xs e = absurd (nothing_some e)
     has_one (x ∷ texts) o xs e = refl
 
-    text_placed : (has_strings p ≡ true → StringsStand p constants) → (l : Level) (o : ℕ) (xs : List ℕ) → slice_get (texts_of p.procedures) o ≡ Some xs → (s : Store) → AddressIs w l (record { area = Strings; object = o; cell = 0 }) (suc (length xs)) (data_base + within (text_at p lay o)) s
-    text_placed strings l o xs at s =
-        let stand = strings (has_one (texts_of p.procedures) o xs at) in
+    within_is : (n : ℕ) → n ≤ 16777215 → within n ≡ n
+    within_is n le = grind (arith, nat_tests)
+
+    text_placed : (has_constants p ≡ true → ConstantsStand p constants) → (l : Level) (o : ℕ) (xs : List ℕ) → slice_get (texts_of p.procedures) o ≡ Some xs → (s : Store) → AddressIs w l (record { area = Strings; object = o; cell = 0 }) (suc (length xs)) (data_base + within (text_at p lay o)) s
+    text_placed standing l o xs at s =
+        let stand = standing (or_second (not (is_empty p.types.records)) (not (is_empty (texts_of p.procedures))) (has_one (texts_of p.procedures) o xs at)) in
         let long = ap (λ (bs : List ℕ). length bs) stand.same ∙ length_constants p data_base (texts_of p.procedures) in
         let before = rooms_before p data_base (texts_of p.procedures) o xs at in
         let lt = starts_below (texts_of p.procedures) o xs at in
@@ -130,12 +138,34 @@ module _ (p : Program) (input : List ℕ) where
           few = omega (arith, place, near_one);
           row = λ j less. (data_word + (sum (global_sizes p input) + 16 * length p.types.records + start_of (string_sizes p input) o) + (0 + j), refl, ap (λ x. x % 2 ^ 64) (omega (arith, place, before, sizes)));
         }
-      where
-        within_is : (n : ℕ) → n ≤ 16777215 → within n ≡ n
-        within_is n le = grind (arith, nat_tests)
 
-    pub data_placed : globals_room p lay ≤ 0x800000 → (has_strings p ≡ true → StringsStand p constants) → DataPlaced w
-    data_placed small strings = record {
+    -- descriptors tell extensions
+    told_by : declarations_fine p ≡ true → (has_constants p ≡ true → ConstantsStand p constants) → TellsExtensions w
+    told_by declared standing = record {
+      by = λ t r there other.
+          let stand = standing (or_first (not (is_empty p.types.records)) (not (is_empty (texts_of p.procedures))) (has_some p.types.records t there)) in
+          let long = ap (λ (bs : List ℕ). length bs) stand.same ∙ length_constants p data_base (texts_of p.procedures) in
+          let near = stand.near in
+          let sizes = room_sizes in
+          let most = level_most p declared r other in
+          let at = within_is (descriptor_at p lay t) (omega (arith, there, near, long)) in
+          let to = within_is (descriptor_at p lay r) (omega (arith, other, near, long)) in
+          let word : ℕ = data_word + (sum (global_sizes p input) + 16 * t) in
+          record {
+            word = word;
+            cell = cell_at p declared data_base (level p declared r) t;
+            place = omega (arith, at, sizes);
+            there = entry_there p input t (level p declared r) there most;
+            tells = ap (λ a. cell_at p declared data_base (level p declared r) t == data_base + a) to ∙ tells p declared data_base t r (omega arith) there;
+          };
+    }
+      where
+        has_some : (rs : List RecordType) (t : ℕ) → t < length rs → not (is_empty rs) ≡ true
+        has_some [] t lt = absurd (omega (arith, lt))
+        has_some (x ∷ rs) t lt = refl
+
+    pub data_placed : declarations_fine p ≡ true → globals_room p lay ≤ 0x800000 → (has_constants p ≡ true → ConstantsStand p constants) → DataPlaced w
+    data_placed declared small standing = record {
       global = λ l m v k at t.
           let below = variable_below p p.modules (record { name = []; objects = []; variables = []; body = 0 }) m v k refl at in
           let a = starts_are p p.modules m in
@@ -152,20 +182,22 @@ module _ (p : Program) (input : List ℕ) where
           };
       descriptor = λ r. refl;
       records = refl;
-      text = λ l o xs at t. text_placed strings l o xs at t;
+      tells = told_by declared standing;
+      text = λ l o xs at t. text_placed standing l o xs at t;
       done = λ l t. record { few = omega arith; row = λ i lt. (data_word + 0 + (0 + i), refl, ap (λ x. x % 2 ^ 64) (omega arith)) };
     }
 
-    pub variables_in_body : locals_of (procedure_of p q) ≡ [] → globals_room p lay ≤ 0x800000 → (has_strings p ≡ true → StringsStand p constants) → Variables w l
-    variables_in_body none small strings = record {
+    pub variables_in_body : locals_of (procedure_of p q) ≡ [] → declarations_fine p ≡ true → globals_room p lay ≤ 0x800000 → (has_constants p ≡ true → ConstantsStand p constants) → Variables w l
+    variables_in_body none declared small standing = record {
       cell = λ x. none_taken x ∙ ap (λ ls. cells_of_all p.types (take x ls)) (sym none);
       count = ap (λ ls. length ls) (sym none);
       local = λ x k at. absurd (nothing_some (ap (λ ls. slice_get ls x) (sym none) ∙ at));
-      global = λ m v k at t. (data_placed small strings).global l m v k at t;
+      global = λ m v k at t. (data_placed declared small standing).global l m v k at t;
       descriptor = λ r. refl;
       records = refl;
-      text = λ o xs at t. (data_placed small strings).text l o xs at t;
-      done = λ t. (data_placed small strings).done l t;
+      tells = told_by declared standing;
+      text = λ o xs at t. (data_placed declared small standing).text l o xs at t;
+      done = λ t. (data_placed declared small standing).done l t;
     }
 
     pub stacked_body : Stacked l

@@ -1,5 +1,5 @@
 -- All calls of a program do what they mean, by turns.
-use Rattle.lowered_runs.specs.Claims.{has_strings, StringsStand}
+use Rattle.lowered_runs.specs.Claims.{has_constants, ConstantsStand}
 use Rattle.std.proofs.Common.{◌≡◌, ℕ, zero, suc, ◌+◌, ◌<◌, ◌≤◌, List, [], ◌∷◌, ◌++◌, map, length, Bool, true, false, not, ◌&&◌, ◌||◌, refl, sym, ap, ◌∙◌, subst, arith, Option, Some, None}
 use Rattle.std.specs.Prelude.{slice_index_or, is_some, nat_lt}
 use Rattle.run_laws.specs.Runs.{weigh}
@@ -90,13 +90,13 @@ module _ (p : Program) (input : List ℕ) (code : ℕ → ℕ) (constants : List
       let e = ap (λ i. whole_weight p lay i (procedure_of p g) h) z in
       omega (arith, a, b, d, e)
 
-  module _ (good : types_fine p.types ≡ true) (all_fine : (f : ℕ) → f < length p.procedures → WellFormed.procedure_fine p f ≡ true) (codes : AreCodePlaces (length ps) code) (declared : WellFormed.declarations_fine p ≡ true) (small : globals_room p lay ≤ 0x800000) (strings : has_strings p ≡ true → StringsStand p constants)
+  module _ (good : types_fine p.types ≡ true) (all_fine : (f : ℕ) → f < length p.procedures → WellFormed.procedure_fine p f ≡ true) (codes : AreCodePlaces (length ps) code) (declared : WellFormed.declarations_fine p ≡ true) (small : globals_room p lay ≤ 0x800000) (standing : has_constants p ≡ true → ConstantsStand p constants)
       (covers : (f : ℕ) → f < length p.procedures → procedure_covered (procedure_of p f) ≡ true) where
     right : Right w
     right = right_of_code p input code constants n 0 0 no_store codes declared
 
     data_at : DataPlaced w
-    data_at = data_placed p input code constants n 0 0 no_store small strings
+    data_at = data_placed p input code constants n 0 0 no_store declared small standing
 
     given_by : (g : ℕ) (def : Option ℕ) (r : Option Form) (e : Option Checked) → WellFormed.form_of p (procedure_of p g).result ≡ r → (procedure_of p g).answer ≡ e → WellFormed.answer_fine p g r e ≡ true → GivesFor p g def → IsGiven def (made_of p lay g (procedure_of p g)).result
     given_by g None r e is at fine gives = tt

@@ -1,6 +1,7 @@
 -- The samples can run: what is proved speaks of some programs.
-use Rattle.std.proofs.Common.{◌≡◌, suc, List, [], ◌∷◌, true, false, Some, None, refl, arith}
-use Rattle.std.specs.Prelude.{Vec, Box}
+use Rattle.std.proofs.Common.{◌≡◌, ℕ, suc, List, [], ◌∷◌, true, false, Some, None, refl, arith}
+use Rattle.std.specs.Prelude.{flat_map, Vec, Box}
+use Rattle.std.specs.Int.{to_le_bytes, w64}
 use Rattle.std.specs.Fmt.{digits}
 use Rattle.std.specs.declared.alloc.Global.{Global as Heap}
 use Rattle.ob_types.specs.declared.program.Program.{Program}
@@ -20,11 +21,18 @@ use Rattle.ob_types.specs.declared.types.Mode.TheVariants.{Value, Place, Open}
 use Rattle.ob_types.specs.declared.types.Mode.TheVariants.{Record as Tagged}
 use Rattle.ob_types.specs.declared.types.TypeKind.TheVariants.{Int, Array, Record, Nothing}
 use Rattle.ob_types.specs.declared.types.TypeKind.TheVariants.{Bool as Boolean, Procedure as ProcedureOf}
-use Rattle.lowered_runs.specs.Claims.{CanRun}
+use Rattle.a64_memory.specs.Memory.{AreBytes}
+use Rattle.a64_memory.proofs.Cells.{no_bytes, bytes_of_8}
+use Rattle.a64_memory.proofs.Shapes.{append_bytes}
+use Rattle.block_runs.specs.First.{data_base}
+use Rattle.ssa_lowered.specs.Constants.{ancestor, address_of, descriptor_bytes}
+use Rattle.ssa_lowered.specs.Data.{in_cells}
+use Rattle.ssa_lowered.specs.Pieces.{numbers}
+use Rattle.lowered_runs.specs.Claims.{CanRun, constants_of}
 use Rattle.lowered_runs.specs.Sample.{sample, number, CallsItself, HandsOver}
 
-no_strings : false ≡ true → ⊥
-no_strings e = cc
+no_constants : false ≡ true → ⊥
+no_constants e = cc
 
 pub sample_runs : CanRun sample [] [] (λ g. suc g)
 sample_runs = record {
@@ -35,8 +43,12 @@ sample_runs = record {
   places = record { few = λ g lt. omega (arith, lt); nowhere = λ g lt e. absurd (omega (arith, e)); apart = λ g h lt less e. omega (arith, e) };
   globals = omega arith;
   room = omega arith;
-  strings = λ h. absurd (no_strings h);
+  stands = λ h. absurd (no_constants h);
 }
+
+each_bytes : {A : Type 0} (f : A → List ℕ) → ((x : A) → AreBytes (f x)) → (xs : List A) → AreBytes (flat_map f xs)
+each_bytes f are [] = no_bytes
+each_bytes f are (x ∷ xs) = append_bytes (f x) (flat_map f xs) (are x) (each_bytes f are xs)
 
 -- MODULE M; IMPORT Out; VAR v: INTEGER; PROCEDURE Count(n: INTEGER; VAR total: INTEGER): INTEGER; VAR left: INTEGER;
 -- BEGIN IF n > 0 THEN INC(total, Count(n - 1, left)) END RETURN left + n END Count; BEGIN v := 2; INC(v, Count(3, v)); Out.Int(v, 0) END M.
@@ -98,7 +110,7 @@ module _ (b : Box (Unit {0}) Heap) (v : Vec (Unit {0}) Heap) where
     places = record { few = λ g lt. omega (arith, lt); nowhere = λ g lt e. absurd (omega (arith, e)); apart = λ g h lt less e. omega (arith, e) };
     globals = omega arith;
     room = omega arith;
-    strings = λ h. absurd (no_strings h);
+    stands = λ h. absurd (no_constants h);
   }
 
   counting_calls : CallsItself counting
@@ -155,21 +167,24 @@ module _ (b : Box (Unit {0}) Heap) (v : Vec (Unit {0}) Heap) where
     imports_in = false;
   }
 
-  handing_runs : CanRun handing [] [] (λ g. suc g)
+  handing_bytes : AreBytes (constants_of handing)
+  handing_bytes = each_bytes (descriptor_bytes handing (in_cells handing.types) data_base) (λ r. each_bytes (λ j. to_le_bytes w64 (address_of handing (in_cells handing.types) data_base (ancestor handing.types j r))) (λ j. bytes_of_8 (address_of handing (in_cells handing.types) data_base (ancestor handing.types j r))) (numbers 0 16)) (numbers 0 1)
+
+  handing_runs : CanRun handing [] (constants_of handing) (λ g. suc g)
   handing_runs = record {
     fine = refl;
     covers = refl;
     numbers = refl;
-    bytes = λ i. omega arith;
+    bytes = handing_bytes;
     places = record { few = λ g lt. omega (arith, lt); nowhere = λ g lt e. absurd (omega (arith, e)); apart = λ g h lt less e. omega (arith, e) };
     globals = omega arith;
     room = omega arith;
-    strings = λ h. absurd (no_strings h);
+    stands = λ h. record { same = refl; near = omega arith };
   }
 
   handing_hands : HandsOver handing
   unfolding digits
   handing_hands = record { through = refl; modes = refl; asks = refl; writes = refl }
 
-  pub some_hands : (p : Program) × CanRun p [] [] (λ g. suc g) × HandsOver p
+  pub some_hands : (p : Program) × CanRun p [] (constants_of p) (λ g. suc g) × HandsOver p
   some_hands = (handing, handing_runs, handing_hands)

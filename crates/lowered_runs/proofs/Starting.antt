@@ -1,6 +1,6 @@
 -- How a program begins: memory holds the first store.
 use Rattle.std.proofs.Common.{◌≡◌, ℕ, zero, suc, ◌+◌, ◌*◌, ◌<◌, ◌≤◌, inl, List, [], ◌∷◌, ◌++◌, map, length, take, replicate, Bool, true, false, cond, ◌&&◌, ◌||◌, not, nat_le, inr, ◌⊎◌, slice_get, slice_index, refl, sym, ap, ap₂, ◌∙◌, subst, arith, Some, None}
-use Rattle.std.specs.Prelude.{◌-◌, sum}
+use Rattle.std.specs.Prelude.{◌-◌, ◌/◌, ◌%◌, ◌^◌, nat_lt, flat_map, if◌then◌else◌, Option, sum}
 use Rattle.std.proofs.lemmas.Bool.Decides.{nat_tests}
 use Rattle.std.proofs.lemmas.List.{length-replicate, length-append, take-append-le}
 use Rattle.std.proofs.lemmas.List.Sums.{sum_by-cons}
@@ -9,7 +9,12 @@ use Rattle.a64_memory.specs.Memory.{Area, Shape, lies, covers, covered, shapes, 
 use Rattle.a64_memory.proofs.Blocks.{loaded8_in_zeros, loaded8_lt}
 use Rattle.std.specs.Int.{from_le_bytes, w64}
 use Rattle.ob_types.specs.WellFormed.{is_empty}
-use Rattle.ssa_lowered.specs.Constants.{constants as own_constants}
+use Rattle.ob_types.specs.WellFormed.{declarations_fine}
+use Rattle.ssa_lowered.specs.Constants.{descriptor_bytes, text_bytes, ancestor, address_of}
+use Rattle.ssa_lowered.specs.Pieces.{numbers}
+use Rattle.ob_types.specs.declared.types.RecordType.{RecordType}
+use Rattle.std.proofs.Math.Seq.{drop-append-add}
+use Rattle.std.proofs.lemmas.Nat.{from_le_bytes-to_le_bytes_8}
 use Rattle.a64_memory.proofs.Shapes.{covers-shapes, zero_bytes, append_bytes}
 use Rattle.block_runs.specs.First.{data_base, local_base, heap_base, local_bytes, heap_bytes, first_world, zeroed}
 use Rattle.block_runs.specs.First.{first_state}
@@ -24,10 +29,45 @@ use Rattle.ssa_core.specs.Procedures.{procedures}
 use Rattle.ssa_lowered.specs.Data.{in_cells, globals_room, descriptor_at, within}
 use Rattle.ssa_lowered.specs.Lowered.{lowered}
 use Rattle.lowered_runs.specs.Words.{Whole, Level, Sizes, sizes_of, sizes_in, data_word, local_word, heap_word, local_words, heap_words, Thing, InCell, TagOf, Constant, word_at, word_of, There, ValueIs, word, Held, AreInput}
-use Rattle.lowered_runs.specs.Claims.{has_strings, StringsStand}
+use Rattle.lowered_runs.specs.Claims.{has_constants, ConstantsStand}
 use Rattle.lowered_runs.proofs.Stores.{there_cell}
 pub use Rattle.lowered_runs.proofs.Strings.{start_of}
-use Rattle.lowered_runs.proofs.Strings.{string_cells, characters, cell_is, all_characters, length_constants, character_at, character_number}
+use Rattle.lowered_runs.proofs.Strings.{string_cells, characters, cell_is, all_characters, length_descriptors, length_constants, character_at, character_number}
+use Rattle.lowered_runs.proofs.Ancestors.{or_first, or_second, cell_below}
+use Rattle.lowered_runs.proofs.Descriptors.{slab_first, cell_slab}
+
+-- one of some words, of which the first stands at a word
+abbrev pub row_at : (first many : ℕ) → (ℕ → ℕ) → ℕ → Option ℕ
+row_at first many f i = if nat_le first i && nat_lt i (first + many) then Some (f (i - first)) else None
+
+row_found : (first many : ℕ) (f : ℕ → ℕ) (i x : ℕ) → row_at first many f i ≡ Some x → (first ≤ i) × (i < first + many) × (x ≡ f (i - first))
+row_found first many f i x e = by (nat_le first i) (nat_lt i (first + many)) refl refl e
+  where
+    from : nat_le first i ≡ true → first ≤ i
+    from h = grind (arith, nat_tests)
+
+    to : nat_lt i (first + many) ≡ true → i < first + many
+    to h = grind (arith, nat_tests)
+
+    same : {a b : ℕ} → Some a ≡ Some b → b ≡ a
+    same e = cc
+
+    none : {a : ℕ} → None ≡ Some a → ⊥
+    none e = cc
+
+    by : (a b : Bool) → nat_le first i ≡ a → nat_lt i (first + many) ≡ b → (if a && b then Some (f (i - first)) else None) ≡ Some x → (first ≤ i) × (i < first + many) × (x ≡ f (i - first))
+    by true true g h e = (from g, to h, same e)
+    by true false g h e = absurd (none e)
+    by false b g h e = absurd (none e)
+
+row_there : (first many : ℕ) (f : ℕ → ℕ) (i : ℕ) → first ≤ i → i < first + many → row_at first many f i ≡ Some (f (i - first))
+row_there first many f i low high = ap₂ (λ a b. if a && b then Some (f (i - first)) else None) from to
+  where
+    from : nat_le first i ≡ true
+    from = grind (arith, nat_tests)
+
+    to : nat_lt i (first + many) ≡ true
+    to = grind (arith, nat_tests)
 
 sum_of : (n : ℕ) (ns : List ℕ) → sum (n ∷ ns) ≡ n + sum ns
 sum_of n ns = sum_by-cons (λ x. x) n ns
@@ -193,6 +233,20 @@ module _ (p : Program) (input : List ℕ) where
   abbrev pub string_sizes : List ℕ
   string_sizes = (sizes_of (start p input)).strings
 
+  -- cell k of all descriptors
+  abbrev descriptor_cell : ℕ → ℕ
+  descriptor_cell k = address_of p (in_cells p.types) data_base (ancestor p.types (k % 16) (k / 16))
+
+  abbrev first_cell : ℕ
+  first_cell = data_word + sum global_sizes
+
+  pub entry_there : (t j : ℕ) → t < length p.types.records → j ≤ 15 → row_at first_cell (16 * length p.types.records) descriptor_cell (data_word + (sum global_sizes + 16 * t) + j) ≡ Some (address_of p (in_cells p.types) data_base (ancestor p.types j t))
+  entry_there t j lt le =
+      let i = data_word + (sum global_sizes + 16 * t) + j in
+      let level : (i - first_cell) % 16 ≡ j = omega (arith, le) in
+      let record_type : (i - first_cell) / 16 ≡ t = omega (arith, le) in
+      row_there first_cell (16 * length p.types.records) descriptor_cell i (omega arith) (omega (arith, lt, le)) ∙ ap₂ (λ a b. Some (address_of p (in_cells p.types) data_base (ancestor p.types a b))) level record_type
+
   -- what the whole program is, with no procedure's object yet
   abbrev pub whole_of : (code : ℕ → ℕ) (constants : List ℕ) → ℕ → Whole
   whole_of code constants n = record {
@@ -202,7 +256,7 @@ module _ (p : Program) (input : List ℕ) where
     global = λ o. data_word + start_of global_sizes o;
     string = λ o. Some (data_word + (sum global_sizes + 16 * length p.types.records + start_of string_sizes o));
     descriptor = λ r. data_base + within (descriptor_at p (in_cells p.types) r);
-    entry = λ i. None;
+    entry = row_at first_cell (16 * length p.types.records) descriptor_cell;
     records = length p.types.records;
     areas = shapes (first_world (globals_room p (in_cells p.types)) constants input).memory;
     points = all_points (procedures (lowered p));
@@ -214,7 +268,7 @@ module _ (p : Program) (input : List ℕ) where
   abbrev pub body_level : ℕ → ℕ → Store → Level
   body_level q j s = record { proc = q; args = []; arguments = []; callers = []; body = j; local = local_word; sizes = []; frame = 0; slots = λ o c. None; forms = []; count = 0; in_register = λ x. false; cell = λ x. 0; store = s }
 
-  module _ (code : ℕ → ℕ) (constants : List ℕ) (n : ℕ) (small : globals_room p (in_cells p.types) + length constants ≤ 0x10000000) (are : AreBytes constants) (room : 8 * sum global_sizes ≡ globals_room p (in_cells p.types)) (few : sum global_sizes ≤ 1048576) (bytes : AreInput input) (strings : has_strings p ≡ true → StringsStand p constants) (q j : ℕ) where
+  module _ (code : ℕ → ℕ) (constants : List ℕ) (n : ℕ) (small : globals_room p (in_cells p.types) + length constants ≤ 0x10000000) (are : AreBytes constants) (room : 8 * sum global_sizes ≡ globals_room p (in_cells p.types)) (few : sum global_sizes ≤ 1048576) (bytes : AreInput input) (standing : has_constants p ≡ true → ConstantsStand p constants) (declared : declarations_fine p ≡ true) (q j : ℕ) where
     abbrev w : Whole
     w = whole_of code constants n
 
@@ -257,59 +311,96 @@ module _ (p : Program) (input : List ℕ) where
     abbrev IsString : Thing → ℕ → Type 0
     IsString t i = (o : ℕ) × (c : ℕ) × (t ≡ InCell Strings o c) × (c < slice_index string_sizes o) × (i ≡ behind + (start_of string_sizes o + c))
 
-    -- of all things only globals and strings are in memory
-    only : (t : Thing) (i : ℕ) → There w l z t → word_of w l z t ≡ Some i → IsGlobal t i ⊎ IsString t i
+    abbrev IsEntry : Thing → ℕ → Type 0
+    IsEntry t i = (t ≡ Constant i) × (data_word + sum global_sizes ≤ i) × (i < behind)
+
+    abbrev IsPlaced : Thing → ℕ → Type 0
+    IsPlaced t i = IsGlobal t i ⊎ (IsString t i ⊎ IsEntry t i)
+
+    -- of all things only globals, strings and descriptors are in memory
+    only : (t : Thing) (i : ℕ) → There w l z t → word_of w l z t ≡ Some i → IsPlaced t i
     only (InCell Globals o c) i there at = inl (o, c, refl, there, global_word o c i at)
     only (InCell Frames o c) i there at = absurd (none_some at)
     only (InCell Heap o c) i there at = absurd (none_some at)
-    only (InCell Strings o c) i there at = inr (o, c, refl, there, string_word o c i at)
+    only (InCell Strings o c) i there at = inr (inl (o, c, refl, there, string_word o c i at))
     only (TagOf o) i there at = absurd (none_some at)
-    only (Constant k) i there at = absurd (none_some there.1)
+    only (Constant k) i there at =
+        let x = row_found first_cell (16 * length p.types.records) descriptor_cell k there.0 there.1 in
+        let low = x.0 in let high = x.1 in
+        subst (λ i. IsPlaced (Constant k) i) (same at) (inr (inr (refl, low, omega (arith, high))))
+      where
+        same : {a b : ℕ} → Some a ≡ Some b → a ≡ b
+        same e = cc
 
     -- where a string's cell is, there are strings
     some_strings : (xs : List (List ℕ)) (o c : ℕ) → c < slice_index (map length (string_cells xs)) o → not (is_empty xs) ≡ true
     some_strings [] o c lt = absurd (omega (arith, lt))
     some_strings (x ∷ xs) o c lt = refl
 
+    some_records : (rs : List RecordType) → 0 < length rs → not (is_empty rs) ≡ true
+    some_records [] lt = absurd (omega (arith, lt))
+    some_records (x ∷ rs) lt = refl
+
+    strings_stand : (o c : ℕ) → c < slice_index string_sizes o → ConstantsStand p constants
+    strings_stand o c lt = standing (or_second (not (is_empty p.types.records)) (not (is_empty texts)) (some_strings texts o c lt))
+
+    entries_stand : (i : ℕ) → data_word + sum global_sizes ≤ i → i < behind → ConstantsStand p constants
+    entries_stand i low high = standing (or_first (not (is_empty p.types.records)) (not (is_empty texts)) (some_records p.types.records (omega (arith, low, high))))
+
     globals_below : (t : Thing) (i : ℕ) → IsGlobal t i → i < data_word + sum global_sizes
     globals_below t i a = let e = a.4 in let lt = start_below global_sizes a.0 a.1 a.3 in omega (arith, e, lt)
 
-    strings_from : (t : Thing) (i : ℕ) → IsString t i → (data_word + sum global_sizes ≤ i) × (8 * i + 8 ≤ data_base + (globals_room p (in_cells p.types) + length constants))
+    strings_from : (t : Thing) (i : ℕ) → IsString t i → (behind ≤ i) × (8 * i + 8 ≤ data_base + (globals_room p (in_cells p.types) + length constants))
     strings_from t i a =
         let e = a.4 in
         let lt = start_below string_sizes a.0 a.1 a.3 in
         let all_are = all_characters texts in
-        let stand = strings (some_strings texts a.0 a.1 a.3) in
+        let stand = strings_stand a.0 a.1 a.3 in
         let long = ap (λ (bs : List ℕ). length bs) stand.same ∙ length_constants p data_base texts in
         (omega (arith, e), omega (arith, e, lt, all_are, long, room))
 
-    things_apart : (t u : Thing) (i : ℕ) → IsGlobal t i ⊎ IsString t i → IsGlobal u i ⊎ IsString u i → t ≡ u
+    entries_below : (t : Thing) (i : ℕ) → IsEntry t i → 8 * i + 8 ≤ data_base + (globals_room p (in_cells p.types) + length constants)
+    entries_below t i a =
+        let low = a.1 in
+        let high = a.2 in
+        let stand = entries_stand i low high in
+        let long = ap (λ (bs : List ℕ). length bs) stand.same ∙ length_constants p data_base texts in
+        omega (arith, high, long, room)
+
+    things_apart : (t u : Thing) (i : ℕ) → IsPlaced t i → IsPlaced u i → t ≡ u
     things_apart t u i (inl a) (inl b) =
         let e = a.4 in let f = b.4 in
         let g = start_apart global_sizes a.0 a.1 b.0 b.1 a.3 b.3 (omega (arith, e, f)) in
         a.2 ∙ ap₂ (λ o c. InCell Globals o c) g.0 g.1 ∙ sym b.2
-    things_apart t u i (inr a) (inr b) =
+    things_apart t u i (inr (inl a)) (inr (inl b)) =
         let e = a.4 in let f = b.4 in
         let g = start_apart string_sizes a.0 a.1 b.0 b.1 a.3 b.3 (omega (arith, e, f)) in
         a.2 ∙ ap₂ (λ o c. InCell Strings o c) g.0 g.1 ∙ sym b.2
-    things_apart t u i (inl a) (inr b) = let lt = globals_below t i a in let le = (strings_from u i b).0 in absurd (omega (arith, lt, le))
-    things_apart t u i (inr a) (inl b) = let lt = globals_below u i b in let le = (strings_from t i a).0 in absurd (omega (arith, lt, le))
+    things_apart t u i (inr (inr a)) (inr (inr b)) = a.0 ∙ sym b.0
+    things_apart t u i (inl a) (inr (inl b)) = let lt = globals_below t i a in let le = (strings_from u i b).0 in absurd (omega (arith, lt, le))
+    things_apart t u i (inr (inl a)) (inl b) = let lt = globals_below u i b in let le = (strings_from t i a).0 in absurd (omega (arith, lt, le))
+    things_apart t u i (inl a) (inr (inr b)) = let lt = globals_below t i a in let le = b.1 in absurd (omega (arith, lt, le))
+    things_apart t u i (inr (inr a)) (inl b) = let lt = globals_below u i b in let le = a.1 in absurd (omega (arith, lt, le))
+    things_apart t u i (inr (inl a)) (inr (inr b)) = let le = (strings_from t i a).0 in let lt = b.2 in absurd (omega (arith, lt, le))
+    things_apart t u i (inr (inr a)) (inr (inl b)) = let le = (strings_from u i b).0 in let lt = a.2 in absurd (omega (arith, lt, le))
 
-    thing_covered : (t : Thing) (i : ℕ) → IsGlobal t i ⊎ IsString t i → covered w.areas (8 * i) 8 ≡ true
+    thing_covered : (t : Thing) (i : ℕ) → IsPlaced t i → covered w.areas (8 * i) 8 ≡ true
     thing_covered t i (inl a) =
         let e = a.4 in let lt = start_below global_sizes a.0 a.1 a.3 in
         data_covered (globals_room p (in_cells p.types)) constants input small are i 1 (omega (arith, e)) (omega (arith, e, lt, room))
-    thing_covered t i (inr a) = let x = strings_from t i a in let low = x.0 in let high = x.1 in
+    thing_covered t i (inr (inl a)) = let x = strings_from t i a in let low = x.0 in let high = x.1 in
+        data_covered (globals_room p (in_cells p.types)) constants input small are i 1 (omega (arith, low)) (omega (arith, high))
+    thing_covered t i (inr (inr a)) = let high = entries_below t i a in let low = a.1 in
         data_covered (globals_room p (in_cells p.types)) constants input small are i 1 (omega (arith, low)) (omega (arith, high))
 
-    thing_below : (t : Thing) (i : ℕ) → IsGlobal t i ⊎ IsString t i → i < local_word
+    thing_below : (t : Thing) (i : ℕ) → IsPlaced t i → i < local_word
     thing_below t i (inl a) = let lt = globals_below t i a in omega (arith, lt, few)
-    thing_below t i (inr a) = let high = (strings_from t i a).1 in omega (arith, high, small)
+    thing_below t i (inr (inl a)) = let high = (strings_from t i a).1 in omega (arith, high, small)
+    thing_below t i (inr (inr a)) = let high = entries_below t i a in omega (arith, high, small)
 
     -- a character's word
-    character_word : (k c i : ℕ) → StringsStand p constants → slice_get (characters texts) k ≡ Some c → i ≡ behind + k → 8 * i + 8 ≤ data_base + (globals_room p (in_cells p.types) + length constants) → word m i ≡ c
+    character_word : (k c i : ℕ) → ConstantsStand p constants → slice_get (characters texts) k ≡ Some c → i ≡ behind + k → 8 * i + 8 ≤ data_base + (globals_room p (in_cells p.types) + length constants) → word m i ≡ c
     character_word k c i stand is at high =
-        let own = own_constants p (in_cells p.types) data_base in
         let place : 8 * i - data_base ≡ globals_room p (in_cells p.types) + (128 * length p.types.records + 8 * k) = omega (arith, at, room) in
         let long : length {A = ℕ} (replicate (globals_room p (in_cells p.types)) 0 ++ constants) ≡ globals_room p (in_cells p.types) + length constants = length-append (replicate (globals_room p (in_cells p.types)) 0) constants ∙ ap (λ n. n + length constants) (length-replicate {A = ℕ} (globals_room p (in_cells p.types)) 0) in
         let within_data = lies_here (globals_room p (in_cells p.types)) constants input small are (record { base = data_base; bytes = replicate (globals_room p (in_cells p.types)) 0 ++ constants }) (8 * i) 8 (omega (arith, at)) (omega (arith, high, long)) in
@@ -317,6 +408,38 @@ module _ (p : Program) (input : List ℕ) where
         ∙ ap (λ cs. slab (replicate (globals_room p (in_cells p.types)) 0 ++ cs) (8 * i - data_base) 8) stand.same
         ∙ character_at p data_base (globals_room p (in_cells p.types)) texts k c (8 * i - data_base) is place)
         ∙ character_number p data_base c
+
+    -- a descriptor's word
+    entry_word : (i x : ℕ) → w.entry i ≡ Some x → word m i ≡ x
+    entry_word i x e =
+        let found = row_found first_cell (16 * length p.types.records) descriptor_cell i x e in
+        let low = found.0 in
+        let high = found.1 in
+        let k = i - first_cell in
+        let r = k / 16 in
+        let j = k % 16 in
+        let stand = entries_stand i low (omega (arith, high)) in
+        let long_own = ap (λ (bs : List ℕ). length bs) stand.same ∙ length_constants p data_base texts in
+        let top = entries_below (Constant i) i (refl, low, omega (arith, high)) in
+        let lt : r < length p.types.records = omega (arith, low, high) in
+        let less : j < 16 = omega arith in
+        let zeros : List ℕ = replicate (globals_room p (in_cells p.types)) 0 in
+        let own = flat_map (descriptor_bytes p (in_cells p.types) data_base) (numbers 0 (length p.types.records)) in
+        let more = flat_map (text_bytes (in_cells p.types)) texts in
+        let empty = length-replicate {A = ℕ} (globals_room p (in_cells p.types)) 0 in
+        let place : 8 * i - data_base ≡ length {A = ℕ} (replicate (globals_room p (in_cells p.types)) 0) + (128 * r + 8 * j) = omega (arith, low, room, empty) in
+        let long : length {A = ℕ} (replicate (globals_room p (in_cells p.types)) 0 ++ constants) ≡ globals_room p (in_cells p.types) + length constants = length-append (replicate (globals_room p (in_cells p.types)) 0) constants ∙ ap (λ n. n + length constants) (length-replicate {A = ℕ} (globals_room p (in_cells p.types)) 0) in
+        let within_data = lies_here (globals_room p (in_cells p.types)) constants input small are (record { base = data_base; bytes = replicate (globals_room p (in_cells p.types)) 0 ++ constants }) (8 * i) 8 (omega (arith, low)) (omega (arith, top, long)) in
+        let whole = length_descriptors p data_base in
+        let few_bytes : descriptor_cell k < 2 ^ 64 = let b = cell_below p declared data_base j r lt in omega (arith, b, small, long_own) in
+        ap (from_le_bytes w64) (ap (λ t. cond t (slab (replicate (globals_room p (in_cells p.types)) 0 ++ constants) (8 * i - data_base) 8) (bytes_at (zeroed local_base local_bytes ∷ zeroed heap_base heap_bytes ∷ []) (8 * i) 8)) within_data
+        ∙ ap (λ cs. slab (replicate (globals_room p (in_cells p.types)) 0 ++ cs) (8 * i - data_base) 8) stand.same
+        ∙ ap (λ n. slab (zeros ++ (own ++ more)) n 8) place
+        ∙ ap (take 8) (drop-append-add zeros (own ++ more) (128 * r + 8 * j))
+        ∙ slab_first own more (128 * r + 8 * j) 8 (omega (arith, whole, lt, less))
+        ∙ cell_slab p data_base (length p.types.records) r j lt less)
+        ∙ from_le_bytes-to_le_bytes_8 (descriptor_cell k) few_bytes
+        ∙ sym found.2
 
     pub first_held : Held w l (start p input) m
     first_held = record {
@@ -337,7 +460,7 @@ module _ (p : Program) (input : List ℕ) where
       bytes = first_bytes (globals_room p (in_cells p.types)) constants input small are;
       holds = first_holds;
       tags = λ o t i is at. absurd (none_some is);
-      constants = λ i x e. absurd (none_some e);
+      constants = entry_word;
       tagged = refl;
       zeros = λ i low high. heap_word_zero (globals_room p (in_cells p.types)) constants input small are i (omega (arith, low)) high;
       input = bytes;
@@ -360,6 +483,6 @@ module _ (p : Program) (input : List ℕ) where
             let e = string_word o c i at in
             let x = cell_is texts o c v is in
             let high = (strings_from (InCell Strings o c) i (o, c, refl, there, e)).1 in
-            let word_is = character_word (start_of string_sizes o + c) x.0 i (strings (some_strings texts o c there)) x.2 e high in
+            let word_is = character_word (start_of string_sizes o + c) x.0 i (strings_stand o c there) x.2 e high in
             let low = loaded8_lt m (8 * i) (first_bytes (globals_room p (in_cells p.types)) constants input small are) in
             subst (λ v. ValueIs w z v (word m i)) (sym x.1) (word_is, omega (arith, word_is, low))

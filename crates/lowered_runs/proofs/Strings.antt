@@ -29,11 +29,11 @@ start_of ns zero = 0
 start_of [] (suc o) = 0
 start_of (n ∷ ns) (suc o) = n + start_of ns o
 
-length_flat : {X A : Type 0} (f : X → List A) (k : ℕ) → ((x : X) → length (f x) ≡ k) → (xs : List X) → length (flat_map f xs) ≡ length xs * k
+pub length_flat : {X A : Type 0} (f : X → List A) (k : ℕ) → ((x : X) → length (f x) ≡ k) → (xs : List X) → length (flat_map f xs) ≡ length xs * k
 length_flat f k each [] = omega arith
 length_flat f k each (x ∷ xs) = let a = length-append (f x) (flat_map f xs) in let b = each x in let c = length_flat f k each xs in omega (arith, a, b, c)
 
-length_numbers : (i n : ℕ) → length (numbers i n) ≡ n
+pub length_numbers : (i n : ℕ) → length (numbers i n) ≡ n
 length_numbers i zero = refl
 length_numbers i (suc n) = ap suc (length_numbers (suc i) n)
 
@@ -115,7 +115,7 @@ module _ (p : Program) (globals : ℕ) where
   abbrev lay : Layout
   lay = in_cells p.types
 
-  length_descriptors : length (flat_map (descriptor_bytes p lay globals) (numbers 0 (length p.types.records))) ≡ 128 * length p.types.records
+  pub length_descriptors : length (flat_map (descriptor_bytes p lay globals) (numbers 0 (length p.types.records))) ≡ 128 * length p.types.records
   length_descriptors =
       let a = length_flat (descriptor_bytes p lay globals) 128 (λ r. length_flat (λ j. to_le_bytes w64 (address_of p lay globals (ancestor p.types j r))) 8 (λ j. refl) (numbers 0 16) ∙ ap (λ n. n * 8) (length_numbers 0 16)) (numbers 0 (length p.types.records)) in
       let b = length_numbers 0 (length p.types.records) in omega (arith, a, b)

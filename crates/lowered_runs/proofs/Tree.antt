@@ -60,7 +60,7 @@ use Rattle.ssa_lowered.specs.Control.{Lowers, Round, fork_and, fork_or, fork_val
 use Rattle.ssa_lowered.specs.Variables.{is_structured, either, none, origin, itself as whole_of, assigned, assigned_all, assigned_branches, words_of, lent, lent_links, lent_link, lent_at, lent_whole, lent_by_first, lent_selectors, lent_selector, lent_call, lent_as, lent_in, lent_by, lent_by_all, lent_by_branches, lent_by_list, lent_by_answer}
 use Rattle.ssa_lowered.specs.Lowered.{Here, in_register, variable_of, local_by, parameter_by, by_mode, based, descriptor, named, small, expr, link as lower_link, linked as lower_linked, called as lower_called, argument as lower_argument, arguments as lower_arguments, answer as lower_answer, home, registers, deed, deeds, deeds_of, one_of, alternatives, guarded_rounds}
 use Rattle.lowered_runs.specs.Words.{Whole, Level, Right, local, Apart}
-use Rattle.lowered_runs.specs.Covered.{part_covered, base_has_parts, selectors_covered, selector_covered, is_fixed, designator_covered, expr_covered, links_covered, link_covered, call_covered, argument_covered, arguments_covered, checked_covered, covered, row_covered, branches_covered, answer_covered}
+use Rattle.lowered_runs.specs.Covered.{part_covered, selectors_covered, selector_covered, is_whole, designator_covered, expr_covered, links_covered, link_covered, call_covered, argument_covered, arguments_covered, checked_covered, covered, row_covered, branches_covered, answer_covered}
 use Rattle.block_runs.specs.declared.end.End.TheVariants.{Trap as Trap_end}
 use Rattle.ob_types.specs.Operators.{label_has, labels_have}
 use Rattle.ob_types.specs.Statements.{case as case_of_value}
@@ -90,7 +90,10 @@ use Rattle.ob_types.specs.Expressions.{length_of}
 use Rattle.ssa_lowered.specs.Values.{length_of as lower_length}
 use Rattle.ob_types.specs.Meaning.{selected, select}
 use Rattle.ob_types.specs.declared.types.TypeKind.TheVariants.{Array}
-use Rattle.ob_types.specs.declared.types.TypeKind.TheVariants.{Record as RecordOf}
+use Rattle.ob_types.specs.declared.types.TypeKind.{TypeKind}
+use Rattle.ob_types.specs.declared.types.TypeKind.TheVariants.{Int, Char, Byte}
+use Rattle.ob_types.specs.declared.types.TypeKind.TheVariants.{Record as RecordOf, Bool as Boolean, Set as SetOf, Pointer as PointerTo, Procedure as ProcedureOf}
+use Rattle.ob_types.specs.Forms.{scalar_form}
 use Rattle.ob_types.specs.Layout.{record_of, types_of, field_place, extends}
 use Rattle.ob_types.specs.Forms.{record_forms}
 use Rattle.ob_sound.proofs.Typed.{in_length}
@@ -106,6 +109,20 @@ use Rattle.lowered_runs.proofs.Input.{follows_in_char}
 use Rattle.lowered_runs.proofs.Texts.{NamedText, follows_out_string}
 use Rattle.lowered_runs.proofs.Comparing.{follows_texts_compared}
 use Rattle.lowered_runs.proofs.Pointers.{follows_object, follows_new}
+use Rattle.ob_types.specs.Expressions.{pointer_type, parameter_type, is_of}
+use Rattle.ob_types.specs.Statements.{type_case}
+use Rattle.ob_types.specs.Meaning.{type_parts}
+use Rattle.ob_types.specs.declared.statements.Stmt.{Row_of-TypePart, end_of-TypePart, more_of-TypePart}
+use Rattle.block_runs.specs.declared.end.End.TheVariants.{Jump}
+use Rattle.ssa_lowered.specs.Values.{tag_of}
+use Rattle.ssa_lowered.specs.Lowered.{records_of, type_tests, type_bodies}
+use Rattle.ssa_lowered.specs.Variables.{assigned_type_parts, lent_by_type_parts}
+use Rattle.lowered_runs.specs.Covered.{types_covered}
+use Rattle.lowered_runs.proofs.TypeCases.{nothing_more, KnownType, known_type, all_types_say, jump_otherwise}
+use Rattle.lowered_runs.proofs.TypeTests.{answer as type_answer, steady_pointer_type, steady_parameter_type, follows_guarded, PointerType, grows_is_pointer, follows_is_pointer, follows_pointer_type, ParameterType, grows_is_tag, follows_is_tag, follows_parameter_type, follows_type_test, follows_narrowed}
+use Rattle.ob_types.specs.Expressions.{guarded, all_guarded}
+use Rattle.ssa_lowered.specs.Values.{guarded as lower_guarded, is_pointer, is_tag}
+use Rattle.ssa_lowered.specs.Lowered.{level, all_guarded as lower_all_guarded}
 use Rattle.lowered_runs.proofs.Copies.{Reaches, follows_copy_record, follows_copy_array}
 use Rattle.lowered_runs.specs.Covered.{lengths_fit}
 use Rattle.ob_types.specs.Statements.{done}
@@ -250,6 +267,30 @@ module _ (w : Whole) (l : Level) (right : Right w) (apart : Apart l) (vars : Var
   scalar_row (Dynamic r) f is h = none_some f is
   scalar_row (Characters m) f is h = none_some f is
 
+  ---- Guards
+
+  guarded_nothing : (rs : List ℕ) → WellFormed.guarded_form p rs None ≡ None
+  guarded_nothing [] = refl
+  guarded_nothing (r ∷ rs) = by (is_record_type p.types r) (guarded_nothing rs)
+    where
+      by : (b : Bool) → WellFormed.guarded_form p rs None ≡ None → WellFormed.guarded_form p rs (provided b None) ≡ None
+      by true e = e
+      by false e = e
+
+  guarded_some : (rs : List ℕ) (o : Option Form) (k : Form) → WellFormed.guarded_form p rs o ≡ Some k → (a : Form) × (o ≡ Some a)
+  guarded_some rs None k is = none_some k (sym (guarded_nothing rs) ∙ is)
+  guarded_some rs (Some a) k is = (a, refl)
+
+  -- guards, one after the other
+  follows_guards : (rs : List ℕ) (o : Option Form) (k : Form) (x : Act Cell) (q : Low ℕ) → WellFormed.guarded_form p rs o ≡ Some k → Follows w l 0 fuel nothing (Given w l) (CellIs w l) x q → Follows w l 0 fuel nothing (Given w l) (CellIs w l) (all_guarded l.proc (extends p.types) x rs) (lower_all_guarded p lay mine rs q)
+  follows_guards [] o k x q is one = one
+  follows_guards (r ∷ rs) o k x q is one =
+      let on = provided (is_record_type p.types r) (provided (WellFormed.gives_pointer o) (Some (ToRecord r))) in
+      let a = guarded_some rs on k is in
+      let b = provided_is p (is_record_type p.types r) (provided (WellFormed.gives_pointer o) (Some (ToRecord r))) a.0 a.1 in
+      follows_guards rs on k (guarded l.proc (extends p.types) x r) (lower_guarded q (descriptor p lay mine r) (level p lay mine r)) is
+      (follows_guarded w l right vars r (descriptor p lay mine r) (lt_of p r (length p.types.records) b.0) (vars.descriptor r) steady one)
+
   ---- Parts
 
   -- behind selectors that are covered there is nothing where there was nothing
@@ -257,9 +298,12 @@ module _ (w : Whole) (l : Level) (right : Right w) (apart : Apart l) (vars : Var
   selected_none end_of-Selector n ok is = none_some n is
   selected_none (more_of-Selector (Index i k x) rest) n ok is = selected_none rest n (and_of (expr_covered x) (selectors_covered rest) ok).1 is
   selected_none (more_of-Selector (Field r f) rest) n ok is = selected_none rest n ok is
-  selected_none (more_of-Selector (Dereference []) rest) n ok is = selected_none rest n ok is
-  selected_none (more_of-Selector (Dereference (r ∷ rs)) rest) n ok is = no ok
-  selected_none (more_of-Selector (Narrow r) rest) n ok is = no ok
+  selected_none (more_of-Selector (Dereference rs) rest) n ok is = selected_none rest n ok (sym (ap (λ o. WellFormed.selected_named p l.proc rest (with_some o pointed)) (guarded_nothing rs)) ∙ is)
+  selected_none (more_of-Selector (Narrow r) rest) n ok is = selected_none rest n ok (sym (by (is_record_type p.types r)) ∙ is)
+    where
+      by : (b : Bool) → WellFormed.selected_named p l.proc rest (provided b None) ≡ WellFormed.selected_named p l.proc rest None
+      by true = refl
+      by false = refl
 
   selected_some : {m : _} (row : Row_of-Selector m) (o : Option Thing) (n : Thing) → selectors_covered row ≡ true → WellFormed.selected_named p l.proc row o ≡ Some n → (t : Thing) × (o ≡ Some t)
   selected_some row None n ok is = absurd (selected_none row n ok is)
@@ -275,16 +319,104 @@ module _ (w : Whole) (l : Level) (right : Right w) (apart : Apart l) (vars : Var
   part_some end_of-Selector None n ok is = no ok
   part_some (more_of-Selector s rest) None n ok is = absurd (selected_none (more_of-Selector s rest) n ok is)
 
-  -- what has parts
-  abbrev HasParts : Thing → Type 0
-  HasParts (Of k may) = Unit {0}
-  HasParts (OpenOf e may) = Unit {0}
-  HasParts (Dynamic r) = Unit {0}
-  HasParts _ = ⊥
+  -- record types that designators name are in the table; In.Done is a truth
+  abbrev Legal : Thing → Type 0
+  Legal (Dynamic r) = r < length p.types.records
+  Legal (Cells f may) = f ≡ Truth
+  Legal _ = Unit {0}
+
+  legal_base : (b : Base) (n : Thing) → WellFormed.base_named p l.proc b ≡ Some n → Legal n
+  legal_base Done n is = subst Legal (some_same (Cells Truth false) n is) refl
+  legal_base (Global m v) n is = let z = with_is p good (slice_get (globals_of p m) v) (λ k. Some (Of k true)) n is in subst Legal (some_same (Of z.0 true) n z.2) tt
+  legal_base (Local x) n is = let z = with_is p good (slice_get (locals w l) x) (λ k. Some (Of k true)) n is in subst Legal (some_same (Of z.0 true) n z.2) tt
+  legal_base (Parameter k) n is =
+      let z = with_is p good (slice_get (procedure_of p l.proc).formals k) (λ x. WellFormed.parameter_by p x.mode x.type_number x.variable) n is in
+      by z.0.mode z.0.type_number z.0.variable z.2
+    where
+      by : (m : Mode) (k : ℕ) (v : Bool) → WellFormed.parameter_by p m k v ≡ Some n → Legal n
+      by OfValue k v e = none_some n e
+      by Place k v e = subst Legal (some_same (Of k v) n e) tt
+      by OfRecord k v e = let x = with_is p good (record_by (kind_of p.types k)) (λ r. Some (Dynamic r)) n e in subst Legal (some_same (Dynamic x.0) n x.2) (right.record_there k x.0 (record_is p good (kind_of p.types k) x.0 x.1))
+      by OfOpen k v e = let x = with_is p good (open_element (kind_of p.types k)) (λ e. Some (OpenOf e v)) n e in subst Legal (some_same (OpenOf x.0 v) n x.2) tt
+  legal_base (Text k) n is = let z = with_is p good (slice_get (texts_of p.procedures) (text_number p l.proc k)) (λ xs. Some (Characters (suc (length xs)))) n is in subst Legal (some_same (Characters (suc (length z.0))) n z.2) tt
+
+  -- a pointer's record type
+  legal_pointer : (rs : List ℕ) (o : Option Form) (r : ℕ) → WellFormed.guarded_form p rs o ≡ Some (ToRecord r) → (o ≡ Some (ToRecord r) → r < length p.types.records) → r < length p.types.records
+  legal_pointer [] o r is own = own is
+  legal_pointer (s ∷ rs) o r is own = legal_pointer rs (provided (is_record_type p.types s) (provided (WellFormed.gives_pointer o) (Some (ToRecord s)))) r is (λ e.
+      let a = provided_is p (is_record_type p.types s) (provided (WellFormed.gives_pointer o) (Some (ToRecord s))) (ToRecord r) e in
+      let b = provided_is p (WellFormed.gives_pointer o) (Some (ToRecord s)) (ToRecord r) a.1 in
+      subst (λ x. x < length p.types.records) (same b.1) (lt_of p s (length p.types.records) a.0))
+    where
+      same : {s r : ℕ} → Some (ToRecord s) ≡ Some (ToRecord r) → s ≡ r
+      same e = cc
+
+  legal_scalar : (b : Thing) (r : ℕ) → Legal b → WellFormed.scalar_in p b ≡ Some (ToRecord r) → r < length p.types.records
+  legal_scalar (Of k may) r legal is = right.target_there k r (by (kind_of p.types k) is)
+    where
+      by : (kind : TypeKind) → scalar_form kind ≡ Some (ToRecord r) → kind ≡ PointerTo r
+      by (PointerTo s) e = ap PointerTo (same e)
+        where
+          same : {s r : ℕ} → Some (ToRecord s) ≡ Some (ToRecord r) → s ≡ r
+          same e = cc
+      by Int e = absurd (cc)
+      by Char e = absurd (cc)
+      by Byte e = absurd (cc)
+      by Boolean e = absurd (cc)
+      by SetOf e = absurd (cc)
+      by (ProcedureOf k) e = absurd (cc)
+      by _ e = none_some (ToRecord r) e
+  legal_scalar (Cells f may) r legal is = absurd (other (sym (ap (λ f. Some f) legal) ∙ is))
+    where
+      other : Some Truth ≡ Some (ToRecord r) → ⊥
+      other e = cc
+  legal_scalar (OpenOf e may) r legal is = none_some (ToRecord r) is
+  legal_scalar (Dynamic s) r legal is = none_some (ToRecord r) is
+  legal_scalar (Characters m) r legal is = none_some (ToRecord r) is
+
+  legal_select : (s : Selector) (b t : Thing) → WellFormed.select_named p l.proc s (Some b) ≡ Some t → Legal b → Legal t
+  legal_select (Index o e x) b t is legal =
+      let a = provided_is p (WellFormed.array_of p e o b) (provided (gives_number (WellFormed.form p l.proc x)) (Some (Of e (WellFormed.is_writable b)))) t is in
+      let c = provided_is p (gives_number (WellFormed.form p l.proc x)) (Some (Of e (WellFormed.is_writable b))) t a.1 in
+      subst Legal (some_same (Of e (WellFormed.is_writable b)) t c.1) tt
+  legal_select (Field r f) b t is legal =
+      let a = provided_is p (WellFormed.has_record p r b) (with_some (slice_get (types_of (record_of p.types r).fields) f) (λ k. Some (Of k (WellFormed.is_writable b)))) t is in
+      let c = with_is p good (slice_get (types_of (record_of p.types r).fields) f) (λ k. Some (Of k (WellFormed.is_writable b))) t a.1 in
+      subst Legal (some_same (Of c.0 (WellFormed.is_writable b)) t c.2) tt
+  legal_select (Dereference rs) b t is legal =
+      let a = with_is p good (WellFormed.guarded_form p rs (WellFormed.scalar_in p b)) pointed t is in
+      let r = pointed_is p good a.0 t a.2 in
+      subst Legal (sym r.2) (legal_pointer rs (WellFormed.scalar_in p b) r.0 (a.1 ∙ ap (λ f. Some f) r.1) (λ e. legal_scalar b r.0 legal e))
+  legal_select (Narrow r) b t is legal =
+      let a = provided_is p (is_record_type p.types r) (provided (WellFormed.is_dynamic p b) (Some (Dynamic r))) t is in
+      let c = provided_is p (WellFormed.is_dynamic p b) (Some (Dynamic r)) t a.1 in
+      subst Legal (some_same (Dynamic r) t c.1) (lt_of p r (length p.types.records) a.0)
+
+  legal_selected : {m : _} (row : Row_of-Selector m) (b n : Thing) → selectors_covered row ≡ true → WellFormed.selected_named p l.proc row (Some b) ≡ Some n → Legal b → Legal n
+  legal_selected end_of-Selector b n ok is legal = subst Legal (some_same b n is) legal
+  legal_selected (more_of-Selector s rest) b n ok is legal =
+      let covers = and_of (selector_covered s) (selectors_covered rest) ok in
+      let t = selected_some rest (WellFormed.select_named p l.proc s (Some b)) n covers.1 is in
+      legal_selected rest t.0 n covers.1 (ap (WellFormed.selected_named p l.proc rest) (sym t.1) ∙ is) (legal_select s b t.0 t.1 legal)
+
+  row_covered_too : {m : _} (row : Row_of-Selector m) → part_covered row ≡ true → selectors_covered row ≡ true
+  row_covered_too end_of-Selector ok = refl
+  row_covered_too (more_of-Selector s rest) ok = ok
+
+  legal_named : (d : Designator) (n : Thing) → designator_covered d ≡ true → WellFormed.named p l.proc d ≡ Some n → Legal n
+  legal_named (Variable b kind) n ok is =
+      let z = with_is p good (WellFormed.base_named p l.proc b) (WellFormed.of_kind p kind) n is in
+      let y = provided_is p (WellFormed.has_kind p kind z.0) (Some z.0) n z.2 in
+      subst Legal (some_same z.0 n y.1) (legal_base b z.0 z.1)
+  legal_named (Part' b kind _ row) n ok is =
+      let z = with_is p good (WellFormed.selected_named p l.proc row (WellFormed.base_named p l.proc b)) (WellFormed.of_kind p kind) n is in
+      let y = provided_is p (WellFormed.has_kind p kind z.0) (Some z.0) n z.2 in
+      let base = part_some row (WellFormed.base_named p l.proc b) z.0 ok z.1 in
+      subst Legal (some_same z.0 n y.1) (legal_selected row base.0 z.0 (row_covered_too row ok) (ap (WellFormed.selected_named p l.proc row) (sym base.1) ∙ z.1) (legal_base b base.0 base.1))
 
   -- what a part is
   abbrev PartIs : Thing → Act Handed → Low Named → Type 0
-  PartIs t d low = HasParts t × Follows w l 0 fuel nothing (Given w l) (DesignatorIs w l none t) d low
+  PartIs t d low = Legal t × Follows w l 0 fuel nothing (Given w l) (DesignatorIs w l none t) d low
 
   -- a designator names what its name says
   abbrev Sensible : Thing → Act Handed → Type 0
@@ -296,21 +428,6 @@ module _ (w : Whole) (l : Level) (right : Right w) (apart : Apart l) (vars : Var
 
   of_sensible : {mask own : Mask} {d : Act Handed} {low : Low Named} (n : Thing) → Sensible n d → Follows w l 0 fuel mask (Given w l) (NamedIs w l own n) d low → Follows w l 0 fuel mask (Given w l) (DesignatorIs w l own n) d low
   of_sensible n sensible one = follows_less w l (λ h v i f s known. (known.0, names_second n h s.tags known.1)) (follows_sound w l {P = NamesOf p l.forms n} sensible one)
-
-  parts_base : (b : Base) (n : Thing) → base_has_parts b ≡ true → WellFormed.base_named p l.proc b ≡ Some n → HasParts n
-  parts_base (Global m v) n ok is = let z = with_is p good (slice_get (globals_of p m) v) (λ k. Some (Of k true)) n is in subst HasParts (some_same (Of z.0 true) n z.2) tt
-  parts_base (Local x) n ok is = let z = with_is p good (slice_get (locals w l) x) (λ k. Some (Of k true)) n is in subst HasParts (some_same (Of z.0 true) n z.2) tt
-  parts_base (Parameter k) n ok is =
-      let z = with_is p good (slice_get (procedure_of p l.proc).formals k) (λ x. WellFormed.parameter_by p x.mode x.type_number x.variable) n is in
-      by z.0.mode z.0.type_number z.0.variable z.2
-    where
-      by : (m : Mode) (k : ℕ) (v : Bool) → WellFormed.parameter_by p m k v ≡ Some n → HasParts n
-      by OfValue k v e = none_some n e
-      by Place k v e = subst HasParts (some_same (Of k v) n e) tt
-      by OfRecord k v e = let x = with_is p good (record_by (kind_of p.types k)) (λ r. Some (Dynamic r)) n e in subst HasParts (some_same (Dynamic x.0) n x.2) tt
-      by OfOpen k v e = let x = with_is p good (open_element (kind_of p.types k)) (λ e. Some (OpenOf e v)) n e in subst HasParts (some_same (OpenOf x.0 v) n x.2) tt
-  parts_base Done n ok is = no ok
-  parts_base (Text k) n ok is = no ok
 
   ---- Arrays
 
@@ -480,6 +597,20 @@ module _ (w : Whole) (l : Level) (right : Right w) (apart : Apart l) (vars : Var
   truth_form : (o : Option Form) → WellFormed.gives_truth o ≡ true → (k : Form) × (o ≡ Some k)
   truth_form o h = let z = holds_is p good WellFormed.is_truth o h in (z.0, z.1)
 
+  pointer_form : (o : Option Form) → WellFormed.gives_pointer o ≡ true → (k : Form) × (o ≡ Some k)
+  pointer_form o h = let z = holds_is p good WellFormed.is_pointer o h in (z.0, z.1)
+
+  -- a record with a dynamic type
+  dynamic_named : (d : Designator) → holds_of (WellFormed.is_dynamic p) (WellFormed.named p l.proc d) ≡ true → (b : ℕ) × (WellFormed.named p l.proc d ≡ Some (Dynamic b))
+  dynamic_named d h = let z = holds_is p good (WellFormed.is_dynamic p) (WellFormed.named p l.proc d) h in by z.0 z.1 z.2
+    where
+      by : (n : Thing) → WellFormed.named p l.proc d ≡ Some n → WellFormed.is_dynamic p n ≡ true → (b : ℕ) × (WellFormed.named p l.proc d ≡ Some (Dynamic b))
+      by (Dynamic b) at is = (b, at)
+      by (Cells f may) at is = no is
+      by (Of k may) at is = no is
+      by (OpenOf e may) at is = no is
+      by (Characters m) at is = no is
+
   abbrev Meant : Option Form → Act Cell → Type 0
   Meant o x = (tags : List ℕ) → Older l.store.tags tags → Means p good l.forms tags o x
 
@@ -610,15 +741,14 @@ module _ (w : Whole) (l : Level) (right : Right w) (apart : Apart l) (vars : Var
         let y = provided_is p (WellFormed.has_kind p kind z.0) (Some z.0) n z.2 in
         subst (λ n. Follows w l 0 fuel nothing (Given w l) (DesignatorIs w l (origin b) n) (base_of p calls runs b) (based p lay mine b)) (some_same z.0 n y.1) (base_is b z.0 z.1)
     named_is (Part' b kind _ row) n is ok lends =
-        let cover = and_of (base_has_parts b) (part_covered row) ok in
         let z = with_is p good (WellFormed.selected_named p l.proc row (WellFormed.base_named p l.proc b)) (WellFormed.of_kind p kind) n is in
         let y = provided_is p (WellFormed.has_kind p kind z.0) (Some z.0) n z.2 in
-        let base = part_some row (WellFormed.base_named p l.proc b) z.0 cover.1 z.1 in
-        let parts = parts_base b base.0 cover.0 base.1 in
-        let one = part_of row (origin b) base.0 z.0 (base_of p calls runs b) (based p lay mine b) (ap (WellFormed.selected_named p l.proc row) (sym base.1) ∙ z.1) parts cover.1 lends (sensible_base b base.0 base.1) (base_is b base.0 base.1) in
+        let base = part_some row (WellFormed.base_named p l.proc b) z.0 ok z.1 in
+        let parts = legal_base b base.0 base.1 in
+        let one = part_of row (origin b) base.0 z.0 (base_of p calls runs b) (based p lay mine b) (ap (WellFormed.selected_named p l.proc row) (sym base.1) ∙ z.1) parts ok lends (sensible_base b base.0 base.1) (base_is b base.0 base.1) in
         subst (λ n. Follows w l 0 fuel nothing (Given w l) (DesignatorIs w l none n) (selected p calls runs row (base_of p calls runs b)) (lower_selected p lay mine row (based p lay mine b))) (some_same z.0 n y.1) one
 
-    part_of : {m : _} (row : Row_of-Selector m) (own : Mask) (b n : Thing) (d : Act Handed) (low : Low Named) → WellFormed.selected_named p l.proc row (Some b) ≡ Some n → HasParts b → part_covered row ≡ true → Lends (lent_selectors own row) → Sensible b d → Follows w l 0 fuel nothing (Given w l) (DesignatorIs w l own b) d low
+    part_of : {m : _} (row : Row_of-Selector m) (own : Mask) (b n : Thing) (d : Act Handed) (low : Low Named) → WellFormed.selected_named p l.proc row (Some b) ≡ Some n → Legal b → part_covered row ≡ true → Lends (lent_selectors own row) → Sensible b d → Follows w l 0 fuel nothing (Given w l) (DesignatorIs w l own b) d low
         → Follows w l 0 fuel nothing (Given w l) (DesignatorIs w l none n) (selected p calls runs row d) (lower_selected p lay mine row low)
     part_of end_of-Selector own b n d low is parts ok lends sensible one = no ok
     part_of (more_of-Selector s rest) own b n d low is parts ok lends sensible one =
@@ -628,7 +758,7 @@ module _ (w : Whole) (l : Level) (right : Right w) (apart : Apart l) (vars : Var
         let two = select_is s own b t.0 d low t.1 parts covers.0 (left_lends (lent_selector s) (lent_selectors none rest) behind) sensible one in
         selected_is rest t.0 n (select p calls runs s d) (lower_select p lay mine s low) (ap (WellFormed.selected_named p l.proc rest) (sym t.1) ∙ is) two.0 covers.1 (right_lends (lent_selector s) (lent_selectors none rest) behind) (sensible_part s b t.0 d t.1 sensible) two.1
 
-    selected_is : {m : _} (row : Row_of-Selector m) (b n : Thing) (d : Act Handed) (low : Low Named) → WellFormed.selected_named p l.proc row (Some b) ≡ Some n → HasParts b → selectors_covered row ≡ true → Lends (lent_selectors none row) → Sensible b d → Follows w l 0 fuel nothing (Given w l) (DesignatorIs w l none b) d low
+    selected_is : {m : _} (row : Row_of-Selector m) (b n : Thing) (d : Act Handed) (low : Low Named) → WellFormed.selected_named p l.proc row (Some b) ≡ Some n → Legal b → selectors_covered row ≡ true → Lends (lent_selectors none row) → Sensible b d → Follows w l 0 fuel nothing (Given w l) (DesignatorIs w l none b) d low
         → Follows w l 0 fuel nothing (Given w l) (DesignatorIs w l none n) (selected p calls runs row d) (lower_selected p lay mine row low)
     selected_is end_of-Selector b n d low is parts ok lends sensible one = subst (λ n. Follows w l 0 fuel nothing (Given w l) (DesignatorIs w l none n) d low) (some_same b n is) one
     selected_is (more_of-Selector s rest) b n d low is parts ok lends sensible one =
@@ -638,7 +768,7 @@ module _ (w : Whole) (l : Level) (right : Right w) (apart : Apart l) (vars : Var
         let two = select_is s none b t.0 d low t.1 parts covers.0 (left_lends (lent_selector s) (lent_selectors none rest) behind) sensible one in
         selected_is rest t.0 n (select p calls runs s d) (lower_select p lay mine s low) (ap (WellFormed.selected_named p l.proc rest) (sym t.1) ∙ is) two.0 covers.1 (right_lends (lent_selector s) (lent_selectors none rest) behind) (sensible_part s b t.0 d t.1 sensible) two.1
 
-    select_is : (s : Selector) (own : Mask) (b t : Thing) (d : Act Handed) (low : Low Named) → WellFormed.select_named p l.proc s (Some b) ≡ Some t → HasParts b → selector_covered s ≡ true → Lends (lent_selector s) → Sensible b d → Follows w l 0 fuel nothing (Given w l) (DesignatorIs w l own b) d low
+    select_is : (s : Selector) (own : Mask) (b t : Thing) (d : Act Handed) (low : Low Named) → WellFormed.select_named p l.proc s (Some b) ≡ Some t → Legal b → selector_covered s ≡ true → Lends (lent_selector s) → Sensible b d → Follows w l 0 fuel nothing (Given w l) (DesignatorIs w l own b) d low
         → PartIs t (select p calls runs s d) (lower_select p lay mine s low)
     select_is (Index o e x) own b t d low is parts ok lends sensible one =
         let has = provided_is p (WellFormed.array_of p e o b) (provided (gives_number (WellFormed.form p l.proc x)) (Some (Of e (WellFormed.is_writable b)))) t is in
@@ -659,21 +789,36 @@ module _ (w : Whole) (l : Level) (right : Right w) (apart : Apart l) (vars : Var
         subst (λ t. PartIs t (select p calls runs (Field r f) d) (lower_select p lay mine (Field r f) low)) (some_same (Of c.0 true) t c.2)
         (tt, of_variable c.0 true (follows_field_place w l own none (Dynamic b) (Of c.0 true) d (field_place p.types r f) (cells p.types c.0) steady (λ h second j lt. dynamic_cells b r f c.0 h second a.0 c.1 j lt) refl (λ a. refl) one))
     select_is (Field r f) own (OpenOf e may) t d low is parts ok lends sensible one = none_some t is
-    select_is (Field r f) own _ t d low is parts ok lends sensible one = absurd parts
-    select_is (Dereference []) own b t d low is parts ok lends sensible one =
-        let a = with_is p good (WellFormed.scalar_in p b) pointed t is in
+    select_is (Field r f) own (Cells g may) t d low is parts ok lends sensible one = none_some t is
+    select_is (Field r f) own (Characters m) t d low is parts ok lends sensible one = none_some t is
+    select_is (Dereference rs) own b t d low is parts ok lends sensible one =
+        let a = with_is p good (WellFormed.guarded_form p rs (WellFormed.scalar_in p b)) pointed t is in
         let r = pointed_is p good a.0 t a.2 in
-        let whole = sensible_part (Dereference []) b t d is sensible in
-        subst (λ t. Sensible t (select p calls runs (Dereference []) d) → PartIs t (select p calls runs (Dereference []) d) (lower_select p lay mine (Dereference []) low)) (sym r.2)
-        (λ sensible. (tt, of_sensible (Dynamic r.0) sensible (follows_object w l none r.0 steady (follows_load w l own d steady (follows_home w l own b d steady (λ h v m g s known. scalar_row b a.0 a.1 h) (only_named w l b one)))))) whole
-    select_is (Dereference (r ∷ rs)) own b t d low is parts ok lends sensible one = no ok
-    select_is (Narrow r) own b t d low is parts ok lends sensible one = no ok
+        let c = guarded_some rs (WellFormed.scalar_in p b) a.0 a.1 in
+        let whole = sensible_part (Dereference rs) b t d is sensible in
+        subst (λ t. Sensible t (select p calls runs (Dereference rs) d) → PartIs t (select p calls runs (Dereference rs) d) (lower_select p lay mine (Dereference rs) low)) (sym r.2)
+        (λ sensible. (
+          subst Legal r.2 (legal_select (Dereference rs) b t is parts),
+          of_sensible (Dynamic r.0) sensible (follows_object w l none r.0 steady (follows_guards rs (WellFormed.scalar_in p b) a.0 (load d) (lower_load (home_of low false)) a.1
+              (follows_load w l own d steady (follows_home w l own b d steady (λ h v m g s known. scalar_row b c.0 c.1 h) (only_named w l b one))))),
+        )) whole
+    select_is (Narrow r) own (Dynamic b) t d low is parts ok lends sensible one =
+        let a = provided_is p (is_record_type p.types r) (Some (Dynamic r)) t is in
+        let there = lt_of p r (length p.types.records) a.0 in
+        subst (λ t. PartIs t (select p calls runs (Narrow r) d) (lower_select p lay mine (Narrow r) low)) (some_same (Dynamic r) t a.1)
+        (there, follows_narrowed w l right vars own none b r (descriptor p lay mine r) d parts there (vars.descriptor r) steady one)
+    select_is (Narrow r) own (Of k may) t d low is parts ok lends sensible one = none_some t (provided_is p (is_record_type p.types r) None t is).1
+    select_is (Narrow r) own (OpenOf e may) t d low is parts ok lends sensible one = none_some t (provided_is p (is_record_type p.types r) None t is).1
+    select_is (Narrow r) own (Cells f may) t d low is parts ok lends sensible one = none_some t (provided_is p (is_record_type p.types r) None t is).1
+    select_is (Narrow r) own (Characters m) t d low is parts ok lends sensible one = none_some t (provided_is p (is_record_type p.types r) None t is).1
 
     pub shows_of : (e : Expr) (k : Form) → WellFormed.form p l.proc e ≡ Some k → expr_covered e ≡ true → Lends (lent e) → Shows (value p calls runs e) (expr p lay mine e)
     shows_of (Literal n) k is ok lends = shown (follows_literal w l n (literal_few n k is))
     shows_of (Routine g) k is ok lends = shown (follows_routine w l g (right.callable g (provided_is p (WellFormed.callable p g) (Some (Exactly g)) k is).0))
     shows_of (Load d) k is ok lends = shown (variable_value d k is (λ n e. named_is d n e ok lends))
-    shows_of (Guard d rs) k is ok lends = no ok
+    shows_of (Guard d rs) k is ok lends =
+        let a = guarded_some rs (with_some (WellFormed.named p l.proc d) (WellFormed.scalar_in p)) k is in
+        shown (follows_guards rs (with_some (WellFormed.named p l.proc d) (WellFormed.scalar_in p)) k (load (designated p calls runs d)) (lower_load (home_of (named p lay mine d) (small p lay mine d))) is (variable_value d a.0 a.1 (λ n e. named_is d n e ok lends)))
     shows_of (Unary' op _ x) k is ok lends =
         let z = provided_is p (gives_number (WellFormed.form p l.proc x)) (Some (WellFormed.unary_form op)) k is in
         let y = number_form (WellFormed.form p l.proc x) z.0 in
@@ -707,8 +852,20 @@ module _ (w : Whole) (l : Level) (right : Right w) (apart : Apart l) (vars : Var
         let y = number_form (WellFormed.form p l.proc x) a.0 in
         let z = number_form (WellFormed.form p l.proc s) b.0 in
         shown (follows_contained w l steady (shows_of x y.0 y.1 parts.0 (left_lends (lent x) (lent s) lends)).value (shows_of s z.0 z.1 parts.1 (right_lends (lent x) (lent s) lends)).value)
-    shows_of (IsPointer' _ x r) k is ok lends = no ok
-    shows_of (IsParameter d r) k is ok lends = no ok
+    shows_of (IsPointer' _ x r) k is ok lends =
+        let a = provided_is p (is_record_type p.types r) (provided (WellFormed.gives_pointer (WellFormed.form p l.proc x)) (Some Truth)) k is in
+        let b = provided_is p (WellFormed.gives_pointer (WellFormed.form p l.proc x)) (Some Truth) k a.1 in
+        let y = pointer_form (WellFormed.form p l.proc x) b.0 in
+        let there = lt_of p r (length p.types.records) a.0 in
+        shown (follows_type_test w l right vars (PointerType w l right vars) is_pointer r (descriptor p lay mine r) steady (grows_is_pointer w l right vars) (λ t i. follows_is_pointer w l right vars t i r (descriptor p lay mine r) there (vars.descriptor r) steady)
+        (follows_pointer_type w l right vars steady (shows_of x y.0 y.1 ok lends).value))
+    shows_of (IsParameter d r) k is ok lends =
+        let a = provided_is p (is_record_type p.types r) (provided (holds_of (WellFormed.is_dynamic p) (WellFormed.named p l.proc d)) (Some Truth)) k is in
+        let b = provided_is p (holds_of (WellFormed.is_dynamic p) (WellFormed.named p l.proc d)) (Some Truth) k a.1 in
+        let n = dynamic_named d b.0 in
+        let there = lt_of p r (length p.types.records) a.0 in
+        shown (follows_type_test w l right vars (ParameterType w l right vars) is_tag r (descriptor p lay mine r) steady (grows_is_tag w l right vars) (λ t i. follows_is_tag w l right vars t i r (descriptor p lay mine r) there (vars.descriptor r) steady)
+        (follows_parameter_type w l right vars (whole_of d) n.0 (designated p calls runs d) (legal_named d (Dynamic n.0) ok n.1) steady (named_is d (Dynamic n.0) n.1 ok (at_of_whole d lends))))
     shows_of (Byte' _ x) k is ok lends =
         let a = provided_is p (gives_number (WellFormed.form p l.proc x)) (Some Small) k is in
         let y = number_form (WellFormed.form p l.proc x) a.0 in
@@ -916,21 +1073,37 @@ module _ (w : Whole) (l : Level) (right : Right w) (apart : Apart l) (vars : Var
 
   ---- FOR
 
-  fixed_at : (d : Designator) → is_fixed d ≡ true → (a : Address) × ((s : Moment Objects) → place (designated p calls runs d) s ≡ Gives a s)
-  fixed_at (Variable (Global m v) kind) h = (_, λ s. refl)
-  fixed_at (Variable (Local x) kind) h = (_, λ s. refl)
-  fixed_at (Variable Done kind) h = no h
-  fixed_at (Variable (Parameter k) kind) h = no h
-  fixed_at (Variable (Text k) kind) h = no h
-  fixed_at (Part' b kind _ selectors) h = no h
+  -- a whole variable has one address
+  fixed_at : (d : Designator) (n : Thing) (f : Form) → is_whole d ≡ true → WellFormed.named p l.proc d ≡ Some n → WellFormed.scalar_in p n ≡ Some f → (a : Address) × ((s : Moment Objects) → place (designated p calls runs d) s ≡ Gives a s)
+  fixed_at (Variable (Global m v) kind) n f h is scalar = (_, λ s. refl)
+  fixed_at (Variable (Local x) kind) n f h is scalar = (_, λ s. refl)
+  fixed_at (Variable Done kind) n f h is scalar = (_, λ s. refl)
+  fixed_at (Variable (Parameter k) kind) n f h is scalar =
+      let z = with_is p good (WellFormed.base_named p l.proc (Parameter k)) (WellFormed.of_kind p kind) n is in
+      let y = provided_is p (WellFormed.has_kind p kind z.0) (Some z.0) n z.2 in
+      let x = with_is p good (slice_get (procedure_of p l.proc).formals k) (λ x. WellFormed.parameter_by p x.mode x.type_number x.variable) z.0 z.1 in
+      let t = taken_of p good l.forms l.store.tags (procedure_of p l.proc).formals l.arguments taken k x.0 x.1 in
+      let names = parameter_names p good l.forms l.store.tags x.0.mode x.0.type_number x.0.variable t.0 z.0 x.2 t.2 in
+      let a = by z.0 t.0 (ap (WellFormed.scalar_in p) (some_same z.0 n y.1) ∙ scalar) names in
+      (a.0, λ s. ap (λ o. place (given o) s) t.1 ∙ ap (λ h. place (give h) s) a.1)
+    where
+      by : (m : Thing) (h : Handed) → WellFormed.scalar_in p m ≡ Some f → Names p l.forms l.store.tags m h → (a : Address) × (h ≡ Addressed a)
+      by (Of k may) (Addressed a) e names = (a, refl)
+      by (Cells g may) (Addressed a) e names = (a, refl)
+      by (OpenOf g may) h e names = none_some f e
+      by (Dynamic r) h e names = none_some f e
+      by (Characters m) h e names = none_some f e
+      by _ _ e names = absurd names
+  fixed_at (Variable (Text k) kind) n f h is scalar =
+      let z = with_is p good (WellFormed.base_named p l.proc (Text k)) (WellFormed.of_kind p kind) n is in
+      let y = provided_is p (WellFormed.has_kind p kind z.0) (Some z.0) n z.2 in
+      let x = with_is p good (slice_get (texts_of p.procedures) (text_number p l.proc k)) (λ xs. Some (Characters (suc (length xs)))) z.0 z.1 in
+      none_some f (ap (WellFormed.scalar_in p) (some_same (Characters (suc (length x.0))) z.0 x.2 ∙ some_same z.0 n y.1) ∙ scalar)
+  fixed_at (Part' b kind _ selectors) n f h is scalar = no h
 
-  fixed_covered : (d : Designator) → is_fixed d ≡ true → designator_covered d ≡ true
-  fixed_covered (Variable (Global m v) kind) h = refl
-  fixed_covered (Variable (Local x) kind) h = refl
-  fixed_covered (Variable Done kind) h = refl
-  fixed_covered (Variable (Parameter k) kind) h = refl
-  fixed_covered (Variable (Text k) kind) h = no h
-  fixed_covered (Part' b kind _ selectors) h = no h
+  whole_covered : (d : Designator) → is_whole d ≡ true → designator_covered d ≡ true
+  whole_covered (Variable b kind) h = refl
+  whole_covered (Part' b kind _ selectors) h = no h
 
   limit_test : (b : Bool) (x y : ℕ) → compares (if b then 13 else 10) x y ≡ (if b then int_le (signed x) (signed y) else int_le (signed y) (signed x))
   limit_test true x y = refl
@@ -1023,6 +1196,50 @@ module _ (w : Whole) (l : Level) (right : Right w) (apart : Apart l) (vars : Var
           (subst (λ rs. Follows w l 1 fuel inner K Always (first_of (parts_of (answers_of v parts) (deeds_in parts)) >>= unless l.proc 6) (case inner rs (case_bodies p lay mine parts) (λ out args. Trap_end 6))) (sym (rungs_same p lay mine 0 (label_tests p lay mine parts i)))
           (follows_case w l fuel K inner sk (label_tests p lay mine parts i) (answers_of v parts) says (deeds_in parts) (case_bodies p lay mine parts) each (matched v parts) (λ out args. Trap_end 6) (unless l.proc 6) (λ t. refl)
           (trap_otherwise w l right fuel (Given w l) steady inner lay mine v i (label_tests p lay mine parts i) (answers_of v parts) says (deeds_in parts) (case_bodies p lay mine parts) each (matched v parts))))
+
+  abbrev type_deeds : {m : _} → Row_of-TypePart m → List Deed
+  type_deeds end_of-TypePart = []
+  type_deeds (more_of-TypePart r _ body rest) = effects p calls runs fuel body ∷ type_deeds rest
+
+  abbrev type_answers : {m : _} → Option ℕ → Row_of-TypePart m → List (List Bool)
+  type_answers t parts = map (λ r. is_of (extends p.types) t r ∷ []) (records_of p lay mine parts)
+
+  records_are : {m : _} (parts : Row_of-TypePart m) → WellFormed.fine_type_parts p l.proc parts ≡ true → all (is_record_type p.types) (records_of p lay mine parts) ≡ true
+  records_are end_of-TypePart fine = refl
+  records_are (more_of-TypePart r _ body rest) fine =
+      let y = and_of (is_record_type p.types r) (WellFormed.fine_row p l.proc body && WellFormed.fine_type_parts p l.proc rest) fine in
+      ap₂ (λ a b. a && b) y.0 (records_are rest (and_of (WellFormed.fine_row p l.proc body) (WellFormed.fine_type_parts p l.proc rest) y.1).1)
+
+  types_matched : {m : _} (t : Option ℕ) (parts : Row_of-TypePart m) → Matched (type_answers t parts) (type_deeds parts)
+  types_matched t end_of-TypePart = tt
+  types_matched t (more_of-TypePart r _ body rest) = types_matched t rest
+
+  types_same : {m : _} (t : Option ℕ) (parts : Row_of-TypePart m) (s : Moment Objects) → first_of (parts_of (type_answers t parts) (type_deeds parts)) s ≡ type_parts p calls runs fuel t parts s
+  types_same t end_of-TypePart s = refl
+  types_same t (more_of-TypePart r _ body rest) s = by (is_of (extends p.types) t r) (types_same t rest s)
+    where
+      by : (b : Bool) → first_of (parts_of (type_answers t rest) (type_deeds rest)) s ≡ type_parts p calls runs fuel t rest s
+          → (if b || false then (effects p calls runs fuel body >>= λ _. give true) else first_of (parts_of (type_answers t rest) (type_deeds rest))) s ≡ (if b then (effects p calls runs fuel body >>= λ _. give true) else type_parts p calls runs fuel t rest) s
+      by true e = refl
+      by false e = e
+
+  -- CASE on dynamic types of either kind
+  type_case_is : {m : _} (TypeIs : Option ℕ → ℕ → Fact) (is : ℕ → ℕ → ℕ → Low ℕ) (stays : (t : Option ℕ) (i : ℕ) → Steady w l (TypeIs t i))
+      → ((t : Option ℕ) (i r : ℕ) → r < length p.types.records → Follows w l 0 fuel nothing (Both (Given w l) (TypeIs t i)) (CellIs w l) (type_answer w l right vars t r) (is (descriptor p lay mine r) (level p lay mine r) i))
+      → (x : Act (Option ℕ)) (q : Low ℕ) (parts : Row_of-TypePart m) (inner : Mask) → WellFormed.fine_type_parts p l.proc parts ≡ true → Follows w l 1 fuel inner (Given w l) TypeIs x q → Bodies w l fuel (Given w l) inner steady (type_deeds parts) (type_bodies p lay mine parts)
+      → Follows w l 1 fuel inner (Given w l) Always (type_case x (λ t. type_parts p calls runs fuel t parts)) (lower_case p lay mine inner q (type_tests p lay mine parts is) (type_bodies p lay mine parts) (λ out args. Jump out args))
+  type_case_is TypeIs is stays tells x q parts inner fine one bodies = follows_bind w l steady one (λ i. (parts_follow None i).grows) parts_follow
+    where
+      parts_follow : (t : Option ℕ) (i : ℕ) → Follows w l 1 fuel inner (Both (Given w l) (TypeIs t i)) Always (type_parts p calls runs fuel t parts >>= nothing_more) (case inner (rungs_from p lay mine 0 (type_tests p lay mine parts is i)) (type_bodies p lay mine parts) (λ out args. Jump out args))
+      parts_follow t i =
+          let K = KnownType w l right vars fuel (Given w l) steady inner mine TypeIs is stays t i in
+          let sk = known_type w l right vars fuel (Given w l) steady inner mine TypeIs is stays t i in
+          let says = all_types_say w l right vars fuel (Given w l) steady inner mine TypeIs is stays t i (tells t i) (records_of p lay mine parts) (records_are parts fine) in
+          let each = bodies_known w l fuel inner steady sk (λ n f s h. h.0) (type_deeds parts) (type_bodies p lay mine parts) bodies in
+          follows_same w l (first_of (parts_of (type_answers t parts) (type_deeds parts)) >>= nothing_more) (type_parts p calls runs fuel t parts >>= nothing_more) (λ s. ap (λ e. after e nothing_more) (types_same t parts s))
+          (subst (λ rs. Follows w l 1 fuel inner K Always (first_of (parts_of (type_answers t parts) (type_deeds parts)) >>= nothing_more) (case inner rs (type_bodies p lay mine parts) (λ out args. Jump out args))) (sym (rungs_same p lay mine 0 (type_tests p lay mine parts is i)))
+          (follows_case w l fuel K inner sk (type_tests p lay mine parts is i) (type_answers t parts) says (type_deeds parts) (type_bodies p lay mine parts) each (types_matched t parts) (λ out args. Jump out args) nothing_more (λ t. refl)
+          (jump_otherwise w l right vars fuel (Given w l) steady inner mine TypeIs is stays t i (type_tests p lay mine parts is i) (type_answers t parts) says (type_deeds parts) (type_bodies p lay mine parts) each (types_matched t parts))))
 
   mutual
     pub stmt_is : (mask : Mask) (s : Stmt) → WellFormed.fine p l.proc s ≡ true → covered s ≡ true → Covers mask (assigned s) → Lends (lent_by s) → Follows w l 1 fuel mask (Given w l) Always (effect p calls runs fuel s) (deed p lay mine s)
@@ -1120,7 +1337,7 @@ module _ (w : Whole) (l : Level) (right : Right w) (apart : Apart l) (vars : Var
         (follows_mask w l {less = nothing} (omega arith) (λ y e. refl) (only_named w l t.0 (named_is d t.0 t.2 ok (at_of_whole d lends)))))
     stmt_is mask (Invoke k) fine ok c lends = follows_mask w l {less = nothing} (omega arith) (λ y e. refl) (call_only k fine ok lends)
     stmt_is mask (For' d x y step _ body) fine ok c lends =
-        let z = and_of (is_fixed d) (checked_covered x && (checked_covered y && row_covered body)) ok in
+        let z = and_of (is_whole d) (checked_covered x && (checked_covered y && row_covered body)) ok in
         let z2 = and_of (checked_covered x) (checked_covered y && row_covered body) z.1 in
         let z3 = and_of (checked_covered y) (row_covered body) z2.1 in
         let y0 = and_of (WellFormed.is_step step) (holds_of (WellFormed.takes p WellFormed.is_full) (WellFormed.named p l.proc d) && (gives_number (WellFormed.checked_form p l.proc x) && (gives_number (WellFormed.checked_form p l.proc y) && WellFormed.fine_row p l.proc body))) fine in
@@ -1130,8 +1347,8 @@ module _ (w : Whole) (l : Level) (right : Right w) (apart : Apart l) (vars : Var
         let t = takes_is p good WellFormed.is_full (WellFormed.named p l.proc d) y1.0 in
         let g = number_form (WellFormed.checked_form p l.proc x) y2.0 in
         let h = number_form (WellFormed.checked_form p l.proc y) y3.0 in
-        let fixed = fixed_at d z.0 in
-        let whole = fixed_covered d z.0 in
+        let fixed = fixed_at d t.0 t.1 z.0 t.2 t.3 in
+        let whole = whole_covered d z.0 in
         let lends2 = right_lends (lent_at d) (either (lent x.form) (either (lent y.form) (lent_by_all body))) lends in
         let lends3 = right_lends (lent x.form) (either (lent y.form) (lent_by_all body)) lends2 in
         let at = left_lends (lent_at d) (either (lent x.form) (either (lent y.form) (lent_by_all body))) lends in
@@ -1155,8 +1372,22 @@ module _ (w : Whole) (l : Level) (right : Right w) (apart : Apart l) (vars : Var
         let inner = registers p lay mine (assigned_case_parts parts) in
         follows_mask w l {low_need = 1} {less = inner} (omega arith) (not_covered mask (assigned_case_parts parts) c)
         (case_is x parts inner y.1 (value_at x g.0 g.1 z.0 (left_lends (lent x.form) (lent_by_case_parts parts) lends)) (bodies_are inner parts y.1 z.1 (λ v e. e) (right_lends (lent x.form) (lent_by_case_parts parts) lends)))
-    stmt_is mask (CasePointer' x _ parts) fine ok c lends = no ok
-    stmt_is mask (CaseParameter' d _ parts) fine ok c lends = no ok
+    stmt_is mask (CasePointer' x _ parts) fine ok c lends =
+        let y = and_of (WellFormed.gives_pointer (WellFormed.checked_form p l.proc x)) (WellFormed.fine_type_parts p l.proc parts) fine in
+        let z = and_of (checked_covered x) (types_covered parts) ok in
+        let g = pointer_form (WellFormed.checked_form p l.proc x) y.0 in
+        let inner = registers p lay mine (assigned_type_parts parts) in
+        follows_mask w l {low_need = 1} {less = inner} (omega arith) (not_covered mask (assigned_type_parts parts) c)
+        (type_case_is (PointerType w l right vars) is_pointer (steady_pointer_type w l right vars) (λ t i r there. follows_is_pointer w l right vars t i r (descriptor p lay mine r) there (vars.descriptor r) steady) (pointer_type (value p calls runs x.form)) (expr p lay mine x.form).value parts inner y.1
+        (follows_pointer_type w l right vars steady (value_at x g.0 g.1 z.0 (left_lends (lent x.form) (lent_by_type_parts parts) lends))) (types_are inner parts y.1 z.1 (λ v e. e) (right_lends (lent x.form) (lent_by_type_parts parts) lends)))
+    stmt_is mask (CaseParameter' d _ parts) fine ok c lends =
+        let y = and_of (holds_of (WellFormed.is_dynamic p) (WellFormed.named p l.proc d)) (WellFormed.fine_type_parts p l.proc parts) fine in
+        let z = and_of (designator_covered d) (types_covered parts) ok in
+        let n = dynamic_named d y.0 in
+        let inner = registers p lay mine (assigned_type_parts parts) in
+        follows_mask w l {low_need = 1} {less = inner} (omega arith) (not_covered mask (assigned_type_parts parts) c)
+        (type_case_is (ParameterType w l right vars) is_tag (steady_parameter_type w l right vars) (λ t i r there. follows_is_tag w l right vars t i r (descriptor p lay mine r) there (vars.descriptor r) steady) (parameter_type (designated p calls runs d)) (tag_of (named p lay mine d)) parts inner y.1
+        (follows_parameter_type w l right vars (whole_of d) n.0 (designated p calls runs d) (legal_named d (Dynamic n.0) z.0 n.1) steady (unpaid (named_is d (Dynamic n.0) n.1 z.0 (at_of_whole d (left_lends (lent_whole d) (lent_by_type_parts parts) lends))))) (types_are inner parts y.1 z.1 (λ v e. e) (right_lends (lent_whole d) (lent_by_type_parts parts) lends)))
 
     pub row_is : (mask : Mask) {m : _} (r : Row_of-Stmt m) → WellFormed.fine_row p l.proc r ≡ true → row_covered r ≡ true → Covers mask (assigned_all r) → Lends (lent_by_all r) → Follows w l 1 fuel mask (Given w l) Always (effects p calls runs fuel r) (deeds p lay mine r)
     row_is mask end_of-Stmt fine ok c lends = follows_give w l tt tt (λ n f s k. tt)
@@ -1198,6 +1429,17 @@ module _ (w : Whole) (l : Level) (right : Right w) (apart : Apart l) (vars : Var
         (forks_test w l (value p calls runs x.form) (checked_shows x g.0 g.1 z.0 (left_lends (lent x.form) (either (lent_by_all body) (lent_by_branches rest)) lends)).test)
         (row_is mask body y2.0 z2.0 (λ v e. c v (left_of (in_register p lay mine (variable_of p lay mine v).site) (assigned_all body v) (assigned_branches rest v) e)) (left_lends (lent_by_all body) (lent_by_branches rest) lends2))
         (rounds_any (has_branch rest) (rounds_are mask rest y2.1 z2.1 (λ v e. c v (right_of (in_register p lay mine (variable_of p lay mine v).site) (assigned_all body v) (assigned_branches rest v) e)) (right_lends (lent_by_all body) (lent_by_branches rest) lends2)))
+
+    types_are : (mask : Mask) {m : _} (parts : Row_of-TypePart m) → WellFormed.fine_type_parts p l.proc parts ≡ true → types_covered parts ≡ true → Covers mask (assigned_type_parts parts) → Lends (lent_by_type_parts parts)
+        → Bodies w l fuel (Given w l) mask steady (type_deeds parts) (type_bodies p lay mine parts)
+    types_are mask end_of-TypePart fine ok c lends = tt
+    types_are mask (more_of-TypePart r _ body rest) fine ok c lends =
+        let y = and_of (is_record_type p.types r) (WellFormed.fine_row p l.proc body && WellFormed.fine_type_parts p l.proc rest) fine in
+        let y2 = and_of (WellFormed.fine_row p l.proc body) (WellFormed.fine_type_parts p l.proc rest) y.1 in
+        let z = and_of (row_covered body) (types_covered rest) ok in (
+          row_is mask body y2.0 z.0 (λ v e. c v (left_of (in_register p lay mine (variable_of p lay mine v).site) (assigned_all body v) (assigned_type_parts rest v) e)) (left_lends (lent_by_all body) (lent_by_type_parts rest) lends),
+          types_are mask rest y2.1 z.1 (λ v e. c v (right_of (in_register p lay mine (variable_of p lay mine v).site) (assigned_all body v) (assigned_type_parts rest v) e)) (right_lends (lent_by_all body) (lent_by_type_parts rest) lends),
+        )
 
     bodies_are : (mask : Mask) {m : _} (parts : Row_of-CasePart m) → WellFormed.fine_case_parts p l.proc parts ≡ true → case_covered parts ≡ true → Covers mask (assigned_case_parts parts) → Lends (lent_by_case_parts parts)
         → Bodies w l fuel (Given w l) mask steady (deeds_in parts) (case_bodies p lay mine parts)

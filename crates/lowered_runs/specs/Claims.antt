@@ -1,5 +1,5 @@
 -- What is claimed of a program's run: its lowered procedures keep up with its meaning.
-use Rattle.std.specs.Prelude.{◌≡◌, ℕ, ◌+◌, ◌≤◌, List, length, Bool, true, not}
+use Rattle.std.specs.Prelude.{◌≡◌, ℕ, ◌+◌, ◌≤◌, ◌||◌, List, length, Bool, true, not}
 use Rattle.run_laws.specs.Runs.{Keeps}
 use Rattle.a64_memory.specs.Memory.{AreBytes}
 use Rattle.block_runs.specs.Blocks.{Procedure}
@@ -23,17 +23,21 @@ code_of p = procedures (lowered p)
 abbrev pub data_bytes : Program → ℕ
 data_bytes p = globals_room p (in_cells p.types)
 
--- it has strings
-abbrev pub has_strings : Program → Bool
-has_strings p = not (is_empty (texts_of p.procedures))
+-- the bytes of its record types' descriptors and of its strings
+abbrev pub constants_of : Program → List ℕ
+constants_of p = own_constants p (in_cells p.types) data_base
 
--- the bytes behind the globals are those of the program's descriptors and strings, and the number of an operation can say where each stands
-pub record StringsStand (p : Program) (constants : List ℕ) : Type 0 where
-  pub same : constants ≡ own_constants p (in_cells p.types) data_base
+-- it has record types or strings
+abbrev pub has_constants : Program → Bool
+has_constants p = not (is_empty p.types.records) || not (is_empty (texts_of p.procedures))
+
+-- the bytes behind the globals are the program's own, and the number of an operation can say where each stands
+pub record ConstantsStand (p : Program) (constants : List ℕ) : Type 0 where
+  pub same : constants ≡ constants_of p
   pub near : data_bytes p + length constants ≤ 0x1000000
 
 -- a well-formed program that has only what is covered; its input; the bytes behind the globals; the addresses of its code; there are at most
--- 8 MiB of globals, the bytes behind them leave room for what comes then, and where there are strings, these stand there
+-- 8 MiB of globals, the bytes behind them leave room for what comes then, and where there are record types or strings, these stand there
 pub record CanRun (p : Program) (input constants : List ℕ) (code : ℕ → ℕ) : Type 0 where
   pub fine : well_formed p ≡ true
   pub covers : program_covered p ≡ true
@@ -42,7 +46,7 @@ pub record CanRun (p : Program) (input constants : List ℕ) (code : ℕ → ℕ
   pub places : AreCodePlaces (length (code_of p)) code
   pub globals : data_bytes p ≤ 0x800000
   pub room : data_bytes p + length constants ≤ 0x10000000
-  pub strings : has_strings p ≡ true → StringsStand p constants
+  pub stands : has_constants p ≡ true → ConstantsStand p constants
 
 -- with n turns the system of its procedures, from its first state, does what the program means
 abbrev pub KeepsUp : Program → (input constants : List ℕ) → (code : ℕ → ℕ) → ℕ → Type 0

@@ -2,41 +2,31 @@
 use Rattle.std.specs.Prelude.{ℕ, nat_le, Bool, true, false, ◌&&◌, Option, Some, None}
 use Rattle.ob_types.specs.Forms.{all}
 use Rattle.ob_types.specs.Meaning.{kind_in, length_of_kind}
-use Rattle.ob_types.specs.WellFormed.{is_empty}
-use Rattle.ob_types.specs.declared.tree.Expr.{Expr, Literal, Routine, Load, Length, Unary', Chain', Compare', CompareTexts', In', Byte', Call', Row_of-Link, end_of-Link, more_of-Link}
+use Rattle.ob_types.specs.declared.tree.Expr.{Expr, Literal, Routine, Load, Guard, Length, Unary', Chain', Compare', CompareTexts', In', IsPointer', IsParameter, Byte', Call', Row_of-Link, end_of-Link, more_of-Link}
 use Rattle.ob_types.specs.declared.tree.Link.{Link, Operate, And, Or, Element, Elements}
-use Rattle.ob_types.specs.declared.tree.Base.{Base}
-use Rattle.ob_types.specs.declared.tree.Base.TheVariants.{Global, Local, Parameter}
 use Rattle.ob_types.specs.declared.tree.Designator.{Designator, Whole, Part', Row_of-Selector, end_of-Selector, more_of-Selector}
 use Rattle.ob_types.specs.declared.tree.Selector.{Selector, Index, Field, Dereference, Narrow}
 use Rattle.ob_types.specs.declared.tree.Call.{Call, Direct', Indirect', Row_of-Argument, end_of-Argument, more_of-Argument}
 use Rattle.ob_types.specs.declared.tree.Argument.{Argument, ByValue, ByPlace, ByRecord, ByOpen}
 use Rattle.ob_types.specs.declared.statements.Checked.{Checked}
-use Rattle.ob_types.specs.declared.statements.Stmt.{Stmt, Assign, CopyArray, CopyRecord, Increase, Decrease, Include, Exclude, New, Assert, OutChar, OutInt, OutString, OutLn, InChar, If', While', Repeat', For', Case', Row_of-Stmt, end_of-Stmt, more_of-Stmt, Row_of-Branch, end_of-Branch, more_of-Branch, Row_of-CasePart, end_of-CasePart, more_of-CasePart}
+use Rattle.ob_types.specs.declared.statements.Stmt.{Stmt, Assign, CopyArray, CopyRecord, Increase, Decrease, Include, Exclude, New, Assert, OutChar, OutInt, OutString, OutLn, InChar, If', While', Repeat', For', Case', CasePointer', CaseParameter', Row_of-Stmt, end_of-Stmt, more_of-Stmt, Row_of-Branch, end_of-Branch, more_of-Branch, Row_of-CasePart, end_of-CasePart, more_of-CasePart, Row_of-TypePart, end_of-TypePart, more_of-TypePart}
 use Rattle.ob_types.specs.declared.statements.Stmt.{Call as Invoke}
 use Rattle.ob_types.specs.declared.program.Procedure.{Procedure}
 use Rattle.ob_types.specs.declared.program.Program.{Program}
 
--- one that may have parts
-abbrev pub base_has_parts : Base → Bool
-base_has_parts (Global m v) = true
-base_has_parts (Local x) = true
-base_has_parts (Parameter k) = true
-base_has_parts _ = false
+-- a whole variable
+abbrev pub is_whole : Designator → Bool
+is_whole (Whole b k) = true
+is_whole (Part' b k _ selectors) = false
 
--- a variable of a module, or of a call
-abbrev pub is_fixed : Designator → Bool
-is_fixed (Whole (Global m v) k) = true
-is_fixed (Whole (Local x) k) = true
-is_fixed _ = false
-
--- scalars and their operators, comparisons of texts, elements of arrays and their lengths, fields, the objects of pointers without a guard, and
+-- scalars and their operators, comparisons of texts, elements of arrays and their lengths, fields, pointers with their guards and objects, and
 -- calls of declared procedures and through procedure variables
 abbrev mutual
   pub expr_covered : Expr → Bool
   expr_covered (Literal n) = true
   expr_covered (Routine g) = true
   expr_covered (Load d) = designator_covered d
+  expr_covered (Guard d rs) = designator_covered d
   expr_covered (Unary' op _ x) = expr_covered x
   expr_covered (Chain' _ x _ links) = expr_covered x && links_covered links
   expr_covered (Compare' r _ x _ y) = expr_covered x && expr_covered y
@@ -45,12 +35,13 @@ abbrev mutual
   expr_covered (Byte' _ x) = expr_covered x
   expr_covered (Length d) = designator_covered d
   expr_covered (Call' _ c) = call_covered c
-  expr_covered _ = false
+  expr_covered (IsPointer' _ x r) = expr_covered x
+  expr_covered (IsParameter d r) = designator_covered d
 
-  -- a variable or a string, or a part of a variable
+  -- a variable or a string, or a part of one, behind some selector
   pub designator_covered : Designator → Bool
   designator_covered (Whole b k) = true
-  designator_covered (Part' b k _ selectors) = base_has_parts b && part_covered selectors
+  designator_covered (Part' b k _ selectors) = part_covered selectors
 
   pub part_covered : {m : _} → Row_of-Selector m → Bool
   part_covered end_of-Selector = false
@@ -63,8 +54,8 @@ abbrev mutual
   pub selector_covered : Selector → Bool
   selector_covered (Index n k x) = expr_covered x
   selector_covered (Field r f) = true
-  selector_covered (Dereference guards) = is_empty guards
-  selector_covered (Narrow r) = false
+  selector_covered (Dereference guards) = true
+  selector_covered (Narrow r) = true
 
   pub links_covered : {m : _} → Row_of-Link m → Bool
   links_covered end_of-Link = true
@@ -99,7 +90,7 @@ lengths_fit _ _ = true
 abbrev pub checked_covered : Checked → Bool
 checked_covered x = expr_covered x.form
 
--- assignments, NEW, output, input, calls and control, CASE on values too
+-- assignments, NEW, output, input, calls and control, CASE on values and on types too
 abbrev mutual
   pub covered : Stmt → Bool
   covered (Assign d x) = designator_covered d && checked_covered x
@@ -121,8 +112,9 @@ abbrev mutual
   covered (While' _ parts) = branches_covered parts
   covered (Repeat' _ body x) = row_covered body && checked_covered x
   covered (Case' x _ parts) = checked_covered x && case_covered parts
-  covered (For' d x y step _ body) = is_fixed d && (checked_covered x && (checked_covered y && row_covered body))
-  covered _ = false
+  covered (CasePointer' x _ parts) = checked_covered x && types_covered parts
+  covered (CaseParameter' d _ parts) = designator_covered d && types_covered parts
+  covered (For' d x y step _ body) = is_whole d && (checked_covered x && (checked_covered y && row_covered body))
 
   pub row_covered : {m : _} → Row_of-Stmt m → Bool
   row_covered end_of-Stmt = true
@@ -135,6 +127,10 @@ abbrev mutual
   pub case_covered : {m : _} → Row_of-CasePart m → Bool
   case_covered end_of-CasePart = true
   case_covered (more_of-CasePart labels _ body rest) = row_covered body && case_covered rest
+
+  pub types_covered : {m : _} → Row_of-TypePart m → Bool
+  types_covered end_of-TypePart = true
+  types_covered (more_of-TypePart r _ body rest) = row_covered body && types_covered rest
 
 abbrev pub answer_covered : Option Checked → Bool
 answer_covered None = true

@@ -7,9 +7,10 @@ use Rattle.block_runs.specs.States.{Frame, State, Point, Stop}
 use Rattle.block_runs.specs.States.{Kind as Stopped}
 use Rattle.block_runs.specs.Points.{AreCodePlaces}
 use Rattle.ob_types.specs.Forms.{Form, all}
-use Rattle.ob_types.specs.Layout.{cells, record_cells}
+use Rattle.ob_types.specs.Layout.{kind_of, cells, record_cells, extends}
 use Rattle.ob_types.specs.LegalTypes.{most_cells}
 use Rattle.ob_types.specs.declared.program.Program.{Program}
+use Rattle.ob_types.specs.declared.types.TypeKind.TheVariants.{Record as RecordOf, Pointer as PointerTo}
 use Rattle.ob_types.specs.WellFormed.{callable as can_call}
 use Rattle.ob_types.specs.Meaning.{procedure_of}
 use Rattle.ssa_lowered.specs.Variables.{words_of}
@@ -75,13 +76,16 @@ pub record Level : Type 0 where
   pub store : Store
 
 -- code addresses are told apart, procedures that may be called are there, and they may be called with their argument words; no type and no record
--- type has more cells than types may have
+-- type has more cells than types may have; the record types of types and of pointers' objects are in the table, and what extends one of the table is
 pub record Right (w : Whole) : Type 0 where
   pub codes : AreCodePlaces (length w.procedures) w.code
   pub callable : (g : ℕ) → can_call w.program g ≡ true → g < length w.procedures
   pub may : (g : ℕ) → can_call w.program g ≡ true → (xs : List ℕ) → length xs ≡ words_of (procedure_of w.program g).formals → may_call w.procedures g xs ≡ true
   pub cells : (k : ℕ) → cells w.program.types k ≤ most_cells
   pub record_cells : (r : ℕ) → record_cells w.program.types r ≤ most_cells
+  pub record_there : (k r : ℕ) → kind_of w.program.types k ≡ RecordOf r → r < length w.program.types.records
+  pub target_there : (k r : ℕ) → kind_of w.program.types k ≡ PointerTo r → r < length w.program.types.records
+  pub extension_there : (t r : ℕ) → r < length w.program.types.records → extends w.program.types t r ≡ true → t < length w.program.types.records
 
 -- the sizes of all objects
 pub record Sizes : Type 0 where

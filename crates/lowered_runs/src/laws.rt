@@ -2,7 +2,7 @@
 
 ghost use Rattle.std.specs.Prelude.{ℕ, suc, List, [], Vec, Box};
 ghost use Rattle.ob_types.specs.declared.program.Program.{Program};
-ghost use Rattle.lowered_runs.specs.Claims.{CanRun, KeepsUp};
+ghost use Rattle.lowered_runs.specs.Claims.{CanRun, KeepsUp, constants_of};
 ghost use Rattle.lowered_runs.specs.Sample.{sample, CallsItself, HandsOver};
 ghost use Rattle.std.specs.declared.alloc.Global.{Global as Heap};
 
@@ -14,5 +14,5 @@ pub fn programs_keep_up()
         → KeepsUp p input constants code n }
     ensures some { CanRun sample [] [] (λ g. suc g) }
     ensures calls { Box (Unit {0}) Heap → Vec (Unit {0}) Heap → (p : Program) × CanRun p [] [] (λ g. suc g) × CallsItself p }
-    ensures hands { Box (Unit {0}) Heap → Vec (Unit {0}) Heap → (p : Program) × CanRun p [] [] (λ g. suc g) × HandsOver p }
+    ensures hands { Box (Unit {0}) Heap → Vec (Unit {0}) Heap → (p : Program) × CanRun p [] (constants_of p) (λ g. suc g) × HandsOver p }
 {}

@@ -102,7 +102,7 @@ module _ (choice : Choice) (p : Program) (image : Image) (h : IsImageBy choice (
       places = places;
       globals = (room p none).0;
       room = (room p none).1;
-      strings = λ has. record { same = refl; near = near p none };
+      stands = λ has. record { same = refl; near = near p none };
     }
 
     pub does_as_meant : DoesAsMeant p h.cuts image
