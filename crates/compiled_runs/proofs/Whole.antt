@@ -85,7 +85,7 @@ module _ (p : Program) (cuts : List Cut) (flags : ℕ) (constants : List ℕ) (i
   able = can (code_places ps) (are_code_places ps (length (code_of p)) count few)
 
   procedures_keep : (n : ℕ) → Keeps (block_system (code_of p) (code_places ps)) (least (code_of p)) (all_points (code_of p)) same_trap first n (meaning p input n)
-  procedures_keep n = keeps_up p input (code_places ps) constants n able.fine able.numbers able.covers able.places able.globals able.room able.bytes able.stands
+  procedures_keep n = keeps_up p input (code_places ps) constants n able.fine able.numbers able.places able.globals able.room able.bytes able.stands
 
   flows_same : flow_procedures (flows_of p) ≡ procedures_of (all_allocated cuts)
   flows_same = sym (flows_are cuts ∙ ap flow_procedures is.flows)

@@ -10,7 +10,7 @@ ghost use Rattle.link_plan.specs.Linked.{Runs};
 ghost use Rattle.lowered_runs.specs.Claims.{data_bytes};
 ghost use Rattle.compiled_runs.specs.Compiled.{IsImageOf, CanRunAnywhere, Means};
 
-/// An image of a covered program within the limits of lowering, which runs as its flows do whichever sound results their traces
+/// An image of a well-formed program within the limits of lowering, which runs as its flows do whichever sound results their traces
 /// have, is in step with the program's meaning on the input: (n + 1) * L steps are enough for n turns where the code has L words,
 /// 8 * m + 8 turns for m steps, and both end, trap and write alike, in both directions.
 pub fn images_mean()

@@ -1,6 +1,7 @@
 -- Statements are well-formed where their images are: by recursion on the tree.
-use Rattle.std.proofs.Common.{◌≡◌, ℕ, List, [], ◌∷◌, Bool, true, ◌&&◌, Option, refl, sym, ap, ◌∙◌, subst}
-use Rattle.ob_types.specs.declared.tree.Designator.{Designator, Whole, Part'}
+use Rattle.ob_types.specs.declared.tree.Selector.{Selector, Index, Field, Dereference, Narrow}
+use Rattle.std.proofs.Common.{◌≡◌, ℕ, List, [], ◌∷◌, Bool, true, ◌&&◌, Option, refl, sym, ap, ◌∙◌, subst, ap₂, false}
+use Rattle.ob_types.specs.declared.tree.Designator.{Designator, Whole, Part', Row_of-Selector, end_of-Selector, more_of-Selector}
 use Rattle.ob_types.specs.declared.statements.Checked.{Checked}
 use Rattle.ob_types.specs.declared.statements.Stmt.{Stmt, Assign, CopyArray, CopyRecord, Increase, Decrease, Include, Exclude, New, Assert, OutChar, OutInt, OutString, OutLn, InChar, If', While', Repeat', For', Case', CasePointer', CaseParameter', Row_of-Stmt, end_of-Stmt, more_of-Stmt, Row_of-Branch, end_of-Branch, more_of-Branch, Row_of-CasePart, end_of-CasePart, more_of-CasePart, Row_of-TypePart, end_of-TypePart, more_of-TypePart}
 use Rattle.ob_types.specs.declared.statements.Stmt.{Call as Invoke}
@@ -14,9 +15,9 @@ use Rattle.ob_types.proofs.Tests.{no}
 use Rattle.ob_judge.specs.Shapes.{Shape}
 use Rattle.ob_judge.specs.Image as I
 use Rattle.judged_tree.specs.TypeShapes.{shape_of_kind}
-use Rattle.judged_tree.specs.Plain.{plain_designator, plain_checked, plain_statement, plain_statements, plain_branches, plain_case_parts, plain_type_parts, plain_body}
+use Rattle.judged_tree.specs.Plain.{plain_designator, plain_checked, plain_statement, plain_statements, plain_branches, plain_case_parts, plain_type_parts, plain_body, plain_selector, plain_selectors, plain_base}
 use Rattle.judged_well.specs.Forms.{Form, Named, gives_number, gives_pointer, is_number, is_small, is_pointer, is_full, is_writable, is_dynamic, changes}
-use Rattle.judged_well.specs.Typing.{designated, checked_form, given_for, scalar_in, takes, points_to, has_record, array_of, may_copy, is_text, length_in, record_written, shape_in, element_in, fine, fine_all, fine_branches, fine_parts, has_branch}
+use Rattle.judged_well.specs.Typing.{designated, checked_form, given_for, scalar_in, takes, points_to, has_record, array_of, may_copy, is_text, length_in, record_written, shape_in, element_in, fine, fine_all, fine_branches, fine_parts, has_branch, begins_there, is_base}
 use Rattle.judged_well.specs.Typing.{is_byte as is_byte_shape}
 use Rattle.judged_well.specs.OfProgram.{IsFaithful, IsInside}
 use Rattle.judged_well.proofs.Forming.{below_holds, and_both, zero_form, small_form, number_form, record_form, number_is, small_is, pointer_is, set, Relates, given_is}
@@ -91,6 +92,26 @@ module _ (p : Program) (ok : IsFaithful p.types) (inside : IsInside p) (at : ℕ
   record_at : (d : Designator) (a : W.Named) (b : Named) → Names a b → has_record (set p ok inside at) (record_written (set p ok inside at) as_written (plain_designator p.types texts d)) b ≡ true → W.has_record p (record_of_kind (kind_in d)) a ≡ true
   record_at d a b r h = subst (λ k. W.has_record p k a ≡ true) (sym (written_record p ok inside at d)) (has_record_is p ok inside at (record_written (set p ok inside at) as_written (plain_designator p.types texts d)) a b r h)
 
+  -- a variable as a whole in the image is one in the tree
+
+  selected_no : (s : Selector) (q : I.Place) → is_base (plain_selector p.types texts s q) ≡ false
+  selected_no (Index n k x) q = refl
+  selected_no (Field r k) q = refl
+  selected_no (Dereference rs) q = refl
+  selected_no (Narrow r) q = refl
+
+  behind_no : {m : _} (row : Row_of-Selector m) (q : I.Place) → is_base q ≡ false → is_base (plain_selectors p.types texts row q) ≡ false
+  behind_no end_of-Selector q h = h
+  behind_no (more_of-Selector s rest) q h = behind_no rest (plain_selector p.types texts s q) (selected_no s q)
+
+  none_behind : {m : _} (row : Row_of-Selector m) (q : I.Place) → is_base (plain_selectors p.types texts row q) ≡ true → W.no_selector row ≡ true
+  none_behind end_of-Selector q h = refl
+  none_behind (more_of-Selector s rest) q h = no (sym (behind_no rest (plain_selector p.types texts s q) (selected_no s q)) ∙ h)
+
+  whole_at : (d : Designator) → begins_there (plain_designator p.types texts d) ≡ true → W.is_whole d ≡ true
+  whole_at (Whole b kind) h = refl
+  whole_at (Part' b kind v row) h = none_behind row (plain_base p.types texts b) h
+
   -- ---- simple statements
 
   s_assign : (d : Designator) (x : Checked) → holds_of (λ t. is_writable t && given_for (set p ok inside at) (x_image x) (scalar_in (set p ok inside at) t)) (d_image d) ≡ true
@@ -112,6 +133,11 @@ module _ (p : Program) (ok : IsFaithful p.types) (inside : IsInside p) (at : ℕ
 
   s_copy_array : (d f : Designator) → fine (set p ok inside at) as_written (I.CopyArray (plain_designator p.types texts d) (plain_designator p.types texts f)) ≡ true → W.fine p at (CopyArray d f) ≡ true
   s_copy_array d f = and_both
+      (W.lengths_fit (length_of_kind (kind_in d)) (length_of_kind (kind_in f))) (W.lengths_fit (length_in (set p ok inside at) as_written (plain_designator p.types texts d)) (length_in (set p ok inside at) as_written (plain_designator p.types texts f)))
+      ((holds_of (W.may_copy p at (element_kind (kind_in d)) (length_of_kind (kind_in d))) (W.named p at d)) && (holds_of (W.array_of p (element_kind (kind_in d)) (length_of_kind (kind_in f))) (W.named p at f)))
+      ((holds_of (may_copy (element_in (shape_in (set p ok inside at) as_written (plain_designator p.types texts d))) (length_in (set p ok inside at) as_written (plain_designator p.types texts d))) (d_image d)) && (holds_of (array_of (element_in (shape_in (set p ok inside at) as_written (plain_designator p.types texts d))) (length_in (set p ok inside at) as_written (plain_designator p.types texts f))) (d_image f)))
+      (λ h. ap₂ W.lengths_fit (written_length p ok inside at d) (written_length p ok inside at f) ∙ h)
+      (and_both
       (holds_of (W.may_copy p at (element_kind (kind_in d)) (length_of_kind (kind_in d))) (W.named p at d))
       (holds_of (may_copy (element_in (shape_in (set p ok inside at) as_written (plain_designator p.types texts d))) (length_in (set p ok inside at) as_written (plain_designator p.types texts d))) (d_image d))
       (holds_of (W.array_of p (element_kind (kind_in d)) (length_of_kind (kind_in f))) (W.named p at f))
@@ -120,7 +146,7 @@ module _ (p : Program) (ok : IsFaithful p.types) (inside : IsInside p) (at : ℕ
       (λ a b r. and_both (W.is_writable a) (is_writable b) (W.array_of p (element_kind (kind_in d)) (length_of_kind (kind_in d)) a) (array_of (element_in (shape_in (set p ok inside at) as_written (plain_designator p.types texts d))) (length_in (set p ok inside at) as_written (plain_designator p.types texts d)) b) (writable a b r)
       (array_at d (length_of_kind (kind_in d)) (length_in (set p ok inside at) as_written (plain_designator p.types texts d)) (written_length p ok inside at d) a b r)))
       (names f (W.array_of p (element_kind (kind_in d)) (length_of_kind (kind_in f))) (array_of (element_in (shape_in (set p ok inside at) as_written (plain_designator p.types texts d))) (length_in (set p ok inside at) as_written (plain_designator p.types texts f)))
-      (array_at d (length_of_kind (kind_in f)) (length_in (set p ok inside at) as_written (plain_designator p.types texts f)) (written_length p ok inside at f)))
+      (array_at d (length_of_kind (kind_in f)) (length_in (set p ok inside at) as_written (plain_designator p.types texts f)) (written_length p ok inside at f))))
 
   s_copy_record : (d f : Designator) → fine (set p ok inside at) as_written (I.CopyRecord (plain_designator p.types texts d) (plain_designator p.types texts f)) ≡ true → W.fine p at (CopyRecord d f) ≡ true
   s_copy_record d f = and_both
@@ -163,10 +189,13 @@ module _ (p : Program) (ok : IsFaithful p.types) (inside : IsInside p) (at : ℕ
     s_statement (If' v branches u other) h = and_both (W.fine_branches p at branches) (fine_branches (set p ok inside at) as_written (plain_branches p.types texts branches)) (W.fine_row p at other) (fine_all (set p ok inside at) as_written (plain_statements p.types texts other)) (s_branches branches) (s_row other) h
     s_statement (While' v branches) h = and_both (W.has_branch branches) (has_branch (plain_branches p.types texts branches)) (W.fine_branches p at branches) (fine_branches (set p ok inside at) as_written (plain_branches p.types texts branches)) (s_has branches) (s_branches branches) h
     s_statement (Repeat' v body x) h = and_both (W.fine_row p at body) (fine_all (set p ok inside at) as_written (plain_statements p.types texts body)) (W.gives_number (W.checked_form p at x)) (gives_number (x_image x)) (s_row body) (numbers x) h
-    s_statement (For' d x y step v body) h = and_both (W.is_step step) (W.is_step step) (holds_of (W.takes p W.is_full) (W.named p at d) && (W.gives_number (W.checked_form p at x) && (W.gives_number (W.checked_form p at y) && W.fine_row p at body))) (holds_of (takes (set p ok inside at) is_full) (d_image d) && (gives_number (x_image x) && (gives_number (x_image y) && fine_all (set p ok inside at) as_written (plain_statements p.types texts body)))) (λ i. i) (and_both (holds_of (W.takes p W.is_full) (W.named p at d)) (holds_of (takes (set p ok inside at) is_full) (d_image d)) (W.gives_number (W.checked_form p at x) && (W.gives_number (W.checked_form p at y) && W.fine_row p at body)) (gives_number (x_image x) && (gives_number (x_image y) && fine_all (set p ok inside at) as_written (plain_statements p.types texts body)))
+    s_statement (For' d x y step v body) h =
+        and_both (W.is_step step) (W.is_step step) (W.is_whole d && (holds_of (W.takes p W.is_full) (W.named p at d) && (W.gives_number (W.checked_form p at x) && (W.gives_number (W.checked_form p at y) && W.fine_row p at body)))) (begins_there (plain_designator p.types texts d) && (holds_of (takes (set p ok inside at) is_full) (d_image d) && (gives_number (x_image x) && (gives_number (x_image y) && fine_all (set p ok inside at) as_written (plain_statements p.types texts body))))) (λ i. i)
+        (and_both (W.is_whole d) (begins_there (plain_designator p.types texts d)) (holds_of (W.takes p W.is_full) (W.named p at d) && (W.gives_number (W.checked_form p at x) && (W.gives_number (W.checked_form p at y) && W.fine_row p at body))) (holds_of (takes (set p ok inside at) is_full) (d_image d) && (gives_number (x_image x) && (gives_number (x_image y) && fine_all (set p ok inside at) as_written (plain_statements p.types texts body)))) (whole_at d)
+        (and_both (holds_of (W.takes p W.is_full) (W.named p at d)) (holds_of (takes (set p ok inside at) is_full) (d_image d)) (W.gives_number (W.checked_form p at x) && (W.gives_number (W.checked_form p at y) && W.fine_row p at body)) (gives_number (x_image x) && (gives_number (x_image y) && fine_all (set p ok inside at) as_written (plain_statements p.types texts body)))
         (names d (W.takes p W.is_full) (takes (set p ok inside at) is_full) (taken W.is_full is_full full_is))
         (and_both (W.gives_number (W.checked_form p at x)) (gives_number (x_image x)) (W.gives_number (W.checked_form p at y) && W.fine_row p at body) (gives_number (x_image y) && fine_all (set p ok inside at) as_written (plain_statements p.types texts body)) (numbers x)
-        (and_both (W.gives_number (W.checked_form p at y)) (gives_number (x_image y)) (W.fine_row p at body) (fine_all (set p ok inside at) as_written (plain_statements p.types texts body)) (numbers y) (s_row body)))) h
+        (and_both (W.gives_number (W.checked_form p at y)) (gives_number (x_image y)) (W.fine_row p at body) (fine_all (set p ok inside at) as_written (plain_statements p.types texts body)) (numbers y) (s_row body))))) h
     s_statement (Case' x v parts) h = and_both (W.gives_number (W.checked_form p at x)) (gives_number (x_image x)) (W.fine_case_parts p at parts) (fine_parts (set p ok inside at) as_written (plain_case_parts p.types texts parts)) (numbers x) (s_case_parts parts) h
     s_statement (CasePointer' x v parts) h = and_both (W.gives_pointer (W.checked_form p at x)) (gives_pointer (x_image x)) (W.fine_type_parts p at parts) (fine_parts (set p ok inside at) as_written (plain_type_parts p.types texts parts)) (gives x W.is_pointer is_pointer (pointer_is p.types)) (s_type_parts parts) h
     s_statement (CaseParameter' d v parts) h = and_both (holds_of (W.is_dynamic p) (W.named p at d)) (holds_of is_dynamic (d_image d)) (W.fine_type_parts p at parts) (fine_parts (set p ok inside at) as_written (plain_type_parts p.types texts parts)) (names d (W.is_dynamic p) is_dynamic (dynamic_is p ok inside at)) (s_type_parts parts) h

@@ -1,13 +1,13 @@
 -- Assignments, calls that are statements, and conditions.
-use Rattle.std.proofs.Common.{◌≡◌, ℕ, [], Bool, true, false, not, ◌&&◌, ◌||◌, Option, Some, None, refl, sym, ap, ap₂, ◌∙◌, subst, eqb-true}
+use Rattle.std.proofs.Common.{◌≡◌, ℕ, [], Bool, true, false, not, ◌&&◌, ◌||◌, Option, Some, None, refl, sym, ap, ap₂, ◌∙◌, subst, eqb-true, le-leb, ltb-true, arith, suc}
 use Rattle.std.specs.Prelude.{if◌then◌else◌, nat_eq, slice_get}
-use Rattle.ob_types.specs.WellFormed.{holds_of}
+use Rattle.ob_types.specs.WellFormed.{holds_of, lengths_fit}
 use Rattle.ob_types.proofs.Tests.{no, none_some, some_same, and_of, and_from}
 use Rattle.ob_syntax.specs.Syntax as S
 use Rattle.ob_judge.specs.Judged.{Judged, Keeps, ◌>>=◌}
 use Rattle.ob_judge.specs.Shapes.{Shape, target_of, element_of, Integer, Boolean, Char, Byte, Set, Nil, Nothing, Array, Open, Record, Pointer, Procedure, Formals, same, assignable, record_extends, is_number, is_truth, is_scalar, is_pointer}
 use Rattle.ob_judge.specs.Shapes.{Text as TextShape}
-use Rattle.ob_judge.specs.Image.{Expr, Literal, Result, Call, Constant, Designator, of_type, Checked, Statement, Assign, CopyArray, CopyRecord, Invoke}
+use Rattle.ob_judge.specs.Image.{Expr, Literal, Result, Call, Constant, Designator, of_type, Checked, Statement, Assign, CopyArray, CopyRecord, Invoke, Place, Global, Local, Parameter}
 use Rattle.ob_judge.specs.Image as Tree
 use Rattle.ob_judge.specs.Scopes.{World, Source, spelled, Object, AConstant, AType, AVariable, AProcedure, AStandard, AModule, place}
 use Rattle.ob_judge.specs.Operands.{What, Named as ThePlace, Valued, Chars, Code, Proper, Use, AsValue, Operand, operand, place_of, length_of, of_constant, designator_of, checked, is_variable, is_read_only, is_narrowed, is_local_code, whole_variable}
@@ -22,8 +22,8 @@ use Rattle.judged_tree.proofs.SameShapes.{same-is}
 use Rattle.judged_well.specs.Gives.{Gives}
 use Rattle.judged_well.specs.Forms.{Named, is_writable, gives_number, is_full}
 use Rattle.judged_well.specs.Setting.{Setting, IsOrder}
-use Rattle.judged_well.specs.Typing.{outline, form, designated, scalar, scalar_in, given_for, checked_form, fine, array_of, may_copy, has_record, length_of_shape, element_in, record_in, takes, call_suits}
-use Rattle.judged_well.specs.Standing.{is_whole, Fits, as_done, as_whole, as_open, as_record, StandsAs, Stands, IsBegun, IsLast, IsRead, is_call, is_procedure_shape, IsValue, good, ObjectStands, IsUnnarrowed, StageStands, Right}
+use Rattle.judged_well.specs.Typing.{outline, form, designated, scalar, scalar_in, given_for, checked_form, fine, array_of, may_copy, has_record, length_of_shape, element_in, record_in, takes, call_suits, begins_there, is_base}
+use Rattle.judged_well.specs.Standing.{is_whole, Fits, as_done, as_whole, as_open, as_record, StandsAs, Stands, IsBegun, IsLast, IsRead, is_call, is_procedure_shape, IsValue, good, ObjectStands, IsUnnarrowed, StageStands, Right, IsOwn, is_own}
 use Rattle.judged_well.proofs.Judging.{keeps, breaks, weaken, and_then, and_then_as, by_rule, by_some, anything, gives_both}
 use Rattle.judged_well.proofs.Values.{designated_is}
 use Rattle.judged_well.proofs.Places.{compound, fits_array, fits_open}
@@ -263,12 +263,22 @@ module _ (e : Setting) (order : IsOrder e) (p : Source) (read : IsRead p) (w : W
   source_array a y h Integer i f = absurd f
   source_array a y h _ i f = absurd f
 
-  array_copied : (a : Shape) (m : Option ℕ) (x y : Operand) → (d : Written e order x) → element_in (outline e x.shape) ≡ a → length_of_shape (outline e x.shape) ≡ m → array_of a m d.0 ≡ true
+  -- an array that is assigned isn't longer
+  from_fits : (a : Shape) (n : ℕ) (s : Shape) → assignable w.known (Array n a) s ≡ true → lengths_fit (Some n) (length_of_shape (outline e s)) ≡ true
+  from_fits a n (TextShape m) h = le-leb (suc m) n (let lt = ltb-true m n (subst (λ a. assignable w.known (Array n a) (TextShape m) ≡ true) (array_text a n m h) h) in omega (arith, lt))
+  from_fits a n (Array m b) h =
+      let same_long = eqb-true n m (and_of (nat_eq n m) (same a b) (or_no (nat_eq n m && same a b) (sym (array_array a b n m) ∙ h))).0 in
+      le-leb m n (omega (arith, same_long))
+  from_fits a n _ h = refl
+
+  array_copied : (a : Shape) (m : Option ℕ) (x y : Operand) → (d : Written e order x) → element_in (outline e x.shape) ≡ a → length_of_shape (outline e x.shape) ≡ m → lengths_fit m (length_of_shape (outline e y.shape)) ≡ true → array_of a m d.0 ≡ true
       → holds_of (array_of a (length_of_shape (outline e y.shape))) (designated e (outline e) (designator_of y)) ≡ true → IsFine (CopyArray (designator_of x) (designator_of y))
-  array_copied a m x y d el long h k =
-      and_from (holds_of (may_copy (element_in (outline e x.shape)) (length_of_shape (outline e x.shape))) (designated e (outline e) (designator_of x))) (holds_of (array_of (element_in (outline e x.shape)) (length_of_shape (outline e y.shape))) (designated e (outline e) (designator_of y)))
+  array_copied a m x y d el long fit h k =
+      and_from (lengths_fit (length_of_shape (outline e x.shape)) (length_of_shape (outline e y.shape))) (holds_of (may_copy (element_in (outline e x.shape)) (length_of_shape (outline e x.shape))) (designated e (outline e) (designator_of x)) && holds_of (array_of (element_in (outline e x.shape)) (length_of_shape (outline e y.shape))) (designated e (outline e) (designator_of y)))
+      (ap (λ n. lengths_fit n (length_of_shape (outline e y.shape))) long ∙ fit)
+      (and_from (holds_of (may_copy (element_in (outline e x.shape)) (length_of_shape (outline e x.shape))) (designated e (outline e) (designator_of x))) (holds_of (array_of (element_in (outline e x.shape)) (length_of_shape (outline e y.shape))) (designated e (outline e) (designator_of y)))
       (ap (λ o. holds_of (may_copy (element_in (outline e x.shape)) (length_of_shape (outline e x.shape))) o) d.1 ∙ and_from (is_writable d.0) (array_of (element_in (outline e x.shape)) (length_of_shape (outline e x.shape)) d.0) d.3 (ap₂ (λ b n. array_of b n d.0) el long ∙ h))
-      (ap (λ b. holds_of (array_of b (length_of_shape (outline e y.shape))) (designated e (outline e) (designator_of y))) el ∙ k)
+      (ap (λ b. holds_of (array_of b (length_of_shape (outline e y.shape))) (designated e (outline e) (designator_of y))) el ∙ k))
 
   from_record : (r : ℕ) (s : Shape) → assignable w.known (Record r) s ≡ true → (k : ℕ) × (s ≡ Record k) × (e.extends k r ≡ true)
   from_record r (Record k) h = (k, refl, by (nat_eq r k) refl h)
@@ -310,8 +320,8 @@ module _ (e : Setting) (order : IsOrder e) (p : Source) (read : IsRead p) (w : W
   t_assigned x y d h k m = by x.shape refl (and_of (assignable w.known x.shape y.shape) (not (is_local_code y.what)) m).0
     where
       by : (s : Shape) → x.shape ≡ s → assignable w.known s y.shape ≡ true → IsFine (assigned p s x y)
-      by (Array n a) i m = array_copied a (Some n) x y d (ap (λ s. element_in (outline e s)) i) (ap (λ s. length_of_shape (outline e s)) i) (fits_array e order d.0 n a (subst (λ s. Fits d.0 s) i d.2) (ap (good e) (sym i) ∙ h.good)) (source_array a y k y.shape refl (from_array a n y.shape m))
-      by (Open a) i m = array_copied a None x y d (ap (λ s. element_in (outline e s)) i) (ap (λ s. length_of_shape (outline e s)) i) (fits_open e order d.0 a (subst (λ s. Fits d.0 s) i d.2)) (source_array a y k y.shape refl (from_open a y.shape m))
+      by (Array n a) i m = array_copied a (Some n) x y d (ap (λ s. element_in (outline e s)) i) (ap (λ s. length_of_shape (outline e s)) i) (from_fits a n y.shape m) (fits_array e order d.0 n a (subst (λ s. Fits d.0 s) i d.2) (ap (good e) (sym i) ∙ h.good)) (source_array a y k y.shape refl (from_array a n y.shape m))
+      by (Open a) i m = array_copied a None x y d (ap (λ s. element_in (outline e s)) i) (ap (λ s. length_of_shape (outline e s)) i) refl (fits_open e order d.0 a (subst (λ s. Fits d.0 s) i d.2)) (source_array a y k y.shape refl (from_open a y.shape m))
       by (Record r) i m = record_copied r x y d k i m
       by Integer i m = scalar_assigned Integer x y d h k i refl m
       by Boolean i m = scalar_assigned Boolean x y d h k i refl m
@@ -409,6 +419,21 @@ module _ (e : Setting) (order : IsOrder e) (p : Source) (read : IsRead p) (w : W
   t_number x = and_then (t_expression e order p read w right x) (λ y h. by_rule 31 (place p (expression_first x)) (is_number y.shape) (λ n. keeps IsCondition (checked y) (number_checked y h n)))
 
   -- the variable of a FOR
+  own_base : (here : ℕ) (d : Place) → is_own e here d ≡ true → is_base d ≡ true
+  own_base here (Global m v) h = refl
+  own_base here (Local v) h = refl
+  own_base here (Parameter k) h = refl
+  own_base here _ h = no h
+
+  pub integer_base : (o : Object) → IsOwn e w o → (d : Designator) → integer_variable p w o ≡ Some d → begins_there d ≡ true
+  integer_base (AVariable v) h d is = by v.shape is
+    where
+      by : (s : Shape) → elim s as (λ _. Option Designator) [ Integer ↦ Some (of_type v.place Integer) | other ↦ None ] ≡ Some d → begins_there d ≡ true
+      by Integer j = subst (λ k. begins_there k ≡ true) (some_same (of_type v.place Integer) d j) (own_base w.module_number v.place h)
+      by _ j = none_some d j
+  integer_base (AConstant c) h d is = none_some d is
+  integer_base _ h d is = none_some d is
+
   pub t_integer_variable : (o : Object) → ObjectStands e o → (d : Designator) → integer_variable p w o ≡ Some d → holds_of (takes e is_full) (designated e (outline e) d) ≡ true
   t_integer_variable (AVariable v) h d is = by v.shape refl is
     where

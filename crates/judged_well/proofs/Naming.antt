@@ -13,7 +13,7 @@ use Rattle.judged_well.specs.Forms.{Form, Zero, Truth, Small, Number, ToRecord, 
 use Rattle.judged_well.specs.Setting.{Setting, IsOrder}
 use Rattle.judged_well.specs.Typing.{outline, pointer}
 use Rattle.judged_well.specs.Typing.{named as names}
-use Rattle.judged_well.specs.Standing.{is_whole, Fits, as_done, as_whole, as_open, as_record, HomeClaims, Stands, IsBegun, IsValue, FollowsAs, FollowsTo, near_for, good, ConstantStands, VariableStands, ObjectStands, StageStands, NarrowsTo, to_pointer, to_record, IsUnnarrowed, is_procedure_shape, is_call, Right}
+use Rattle.judged_well.specs.Standing.{is_whole, Fits, as_done, as_whole, as_open, as_record, HomeClaims, Stands, IsBegun, IsValue, FollowsAs, FollowsTo, near_for, good, ConstantStands, VariableStands, ObjectStands, StageStands, NarrowsTo, to_pointer, to_record, IsUnnarrowed, is_procedure_shape, is_call, Right, IsOwn}
 use Rattle.judged_well.specs.Gives.{Gives}
 use Rattle.judged_well.proofs.Judging.{keeps, breaks, weaken, and_then, by_rule, by_some, at_last}
 use Rattle.judged_well.proofs.Selecting.{place_begun, t_guard, guard_value}
@@ -22,6 +22,11 @@ module _ (e : Setting) (order : IsOrder e) (p : Source) (w : World) (right : Rig
   pub t_named : (i : ℕ) → Gives (ObjectStands e) (named p w i)
   t_named i = by_some 30 (place p i) (look_up (spelled p i) w.levels) (λ x is.
       by_rule 34 (place p i) (is_visible w.procedure x.object) (λ seen. keeps (ObjectStands e) x.object (right.names (spelled p i) x is seen).0))
+
+  -- of this module, or of the procedure
+  pub t_named_own : (i : ℕ) → Gives (λ o. ObjectStands e o × IsOwn e w o) (named p w i)
+  t_named_own i = by_some 30 (place p i) (look_up (spelled p i) w.levels) (λ x is.
+      by_rule 34 (place p i) (is_visible w.procedure x.object) (λ seen. keeps (λ o. ObjectStands e o × IsOwn e w o) x.object (right.names (spelled p i) x is seen)))
 
   -- of another module: what it stands for isn't narrowed
   pub t_member : (m : Imported) (i : ℕ) → Gives (λ o. ObjectStands e o × IsUnnarrowed e p w o) (member p w m i)

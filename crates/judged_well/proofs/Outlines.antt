@@ -1,14 +1,14 @@
 -- An image is well-formed where its outline is.
 use Rattle.std.proofs.Common.{◌≡◌, ℕ, List, Bool, true, ◌&&◌, Option, Some, None, refl, ap, ap₂, ◌∙◌}
 use Rattle.std.specs.Prelude.{slice_get, option_map}
-use Rattle.ob_types.specs.WellFormed.{provided, holds_of, with_some, is_step}
+use Rattle.ob_types.specs.WellFormed.{provided, holds_of, with_some, is_step, lengths_fit}
 use Rattle.ob_judge.specs.Shapes.{Shape, Pointer, Integer, Formals, none, one, base_of}
 use Rattle.ob_judge.specs.Image.{Expr, Literal, Routine, Load, Guard, Apply, Linked, Compare, CompareTexts, In, IsPointer, IsParameter, AsByte, Length, Result, Link, Operate, And, Or, Element, Elements, Designator, of_type, Place, Done, Global, Local, Parameter, Text, Index, Field, Dereference, Narrow, Call, Direct, Indirect, Arguments, no_argument, next_argument, Argument, ByValue, ByPlace, ByRecord, ByOpen, Checked}
 use Rattle.ob_judge.specs.Image.{Statement, Assign, CopyArray, CopyRecord, Increase, Decrease, Include, Exclude, New, Assert, OutChar, OutInt, OutString, InChar, OutLn, Invoke, If, While, Repeat, For, Case, CasePointer, CaseParameter, Statements, no_statement, next_statement, Branches, no_branch, next_branch, Parts, no_part, next_part}
 use Rattle.judged_tree.specs.Outline.{record_or_zero, outlined_shape, outlined_expr, outlined_link, outlined_designator, outlined_place, outlined_pointer, untyped, outlined_call, outlined_arguments, outlined_argument, outlined_checked, outlined_statement, outlined_statements, outlined_branches, outlined_parts}
 use Rattle.judged_well.specs.Forms.{Form, Zero, Routines, Truth, Small, Number, ToRecord, Of, Dynamic, gives_number, gives_truth, gives_pointer, comparable, unary_form, binary_form, is_writable, is_dynamic, is_small, is_full, changes, pointed}
 use Rattle.judged_well.specs.Setting.{Setting}
-use Rattle.judged_well.specs.Typing.{or_zero, outline, form, link_form, designated, named, pointer, length_in, record_written, shape_in, call_suits, call_form, all_suit, argument_suits, checked_form, scalar, scalar_in, of_shape, array_of, has_record, is_text, any_array, value_suits, place_argument, record_argument, open_argument, record_by, open_element, suits_through, result_through, shape_suits, length_of_shape, record_in, element_in, is_byte, may_copy, takes, points_to, given_for, fine, fine_all, fine_branches, fine_parts, has_branch, when_fine}
+use Rattle.judged_well.specs.Typing.{or_zero, outline, form, link_form, designated, named, pointer, length_in, record_written, shape_in, call_suits, call_form, all_suit, argument_suits, checked_form, scalar, scalar_in, of_shape, array_of, has_record, is_text, any_array, value_suits, place_argument, record_argument, open_argument, record_by, open_element, suits_through, result_through, shape_suits, length_of_shape, record_in, element_in, is_byte, may_copy, takes, points_to, given_for, fine, fine_all, fine_branches, fine_parts, has_branch, when_fine, is_base, begins_there}
 use Rattle.judged_well.specs.Typing.{untyped as untyped_form}
 use Rattle.ob_judge.specs.Parameters.{mode_of}
 
@@ -123,12 +123,26 @@ module _ (e : Setting) (bases : List (Option ℕ)) (targets : (n : ℕ) → e.ta
   o_set_changed : (d : Designator) (x : Checked) → (gives_number (checked_form e (outline e) x) && holds_of (takes e is_full) (designated e (outline e) d)) ≡ (gives_number (checked_form e as_written (outlined_checked bases x)) && holds_of (takes e is_full) (designated e as_written (outlined_designator bases d)))
   o_set_changed d x = ap₂ (λ a b. gives_number a && holds_of (takes e is_full) b) (o_checked x) (o_designator d)
 
+  o_base : (d : Place) → is_base d ≡ is_base (outlined_place bases d)
+  o_base Done = refl
+  o_base (Global m v) = refl
+  o_base (Local v) = refl
+  o_base (Parameter k) = refl
+  o_base (Text cs) = refl
+  o_base (Index d n a x) = refl
+  o_base (Field d r n) = refl
+  o_base (Dereference x) = refl
+  o_base (Narrow d r) = refl
+
+  o_begins : (d : Designator) → begins_there d ≡ begins_there (outlined_designator bases d)
+  o_begins (of_type place s) = o_base place
+
   mutual
     pub o_statement : (s : Statement) → fine e (outline e) s ≡ fine e as_written (outlined_statement bases s)
     o_statement (Assign d x) = ap₂ (λ c o. holds_of (λ t. is_writable t && given_for e c (scalar_in e t)) o) (o_checked x) (o_designator d)
-    o_statement (CopyArray d f) = ap₂ (λ a b. a && b)
+    o_statement (CopyArray d f) = ap₂ (λ a b. a && b) (ap₂ lengths_fit (o_length d) (o_length f)) (ap₂ (λ a b. a && b)
         (ap₂ (λ g o. holds_of g o) (ap₂ (λ s n. may_copy (element_in s) n) (o_shape d) (o_length d)) (o_designator d))
-        (ap₂ (λ g o. holds_of g o) (ap₂ (λ s n. array_of (element_in s) n) (o_shape d) (o_length f)) (o_designator f))
+        (ap₂ (λ g o. holds_of g o) (ap₂ (λ s n. array_of (element_in s) n) (o_shape d) (o_length f)) (o_designator f)))
     o_statement (CopyRecord d f) = ap₂ (λ a b. a && b)
         (ap₂ (λ r o. holds_of (λ t. is_writable t && has_record e r t) o) (o_record d) (o_designator d))
         (ap₂ (λ r o. holds_of (has_record e r) o) (o_record d) (o_designator f))
@@ -147,7 +161,7 @@ module _ (e : Setting) (bases : List (Option ℕ)) (targets : (n : ℕ) → e.ta
     o_statement (If branches other) = ap₂ (λ a b. a && b) (o_branches branches) (o_statements other)
     o_statement (While branches) = ap₂ (λ a b. a && b) (o_has branches) (o_branches branches)
     o_statement (Repeat body x) = ap₂ (λ a b. a && gives_number b) (o_statements body) (o_checked x)
-    o_statement (For d x y step body) = ap (λ c. is_step step && c) (ap₂ (λ a b. holds_of (takes e is_full) a && b) (o_designator d) (ap₂ (λ a b. gives_number a && b) (o_checked x) (ap₂ (λ a b. gives_number a && b) (o_checked y) (o_statements body))))
+    o_statement (For d x y step body) = ap (λ c. is_step step && c) (ap₂ (λ a b. a && b) (o_begins d) (ap₂ (λ a b. holds_of (takes e is_full) a && b) (o_designator d) (ap₂ (λ a b. gives_number a && b) (o_checked x) (ap₂ (λ a b. gives_number a && b) (o_checked y) (o_statements body)))))
     o_statement (Case x parts) = ap₂ (λ a b. gives_number a && b) (o_checked x) (o_parts parts)
     o_statement (CasePointer x parts) = ap₂ (λ a b. gives_pointer a && b) (o_checked x) (o_parts parts)
     o_statement (CaseParameter d parts) = ap₂ (λ a b. holds_of is_dynamic a && b) (o_designator d) (o_parts parts)

@@ -2,7 +2,7 @@
 use Rattle.std.proofs.Common.{◌≡◌, ℕ, List, ◌++◌, Bool, true, false, ◌&&◌, Option, Some, None, refl}
 use Rattle.std.specs.Prelude.{nat_lt, is_some}
 use Rattle.ob_types.specs.Forms.{all}
-use Rattle.ob_types.specs.WellFormed.{provided, holds_of, with_some, is_step}
+use Rattle.ob_types.specs.WellFormed.{provided, holds_of, with_some, is_step, lengths_fit}
 use Rattle.ob_types.proofs.Tests.{no, and_of, and_from}
 use Rattle.ob_sound.proofs.Tables.{all_append}
 use Rattle.ob_judge.specs.Shapes.{Shape, Nothing, Formals, none, one}
@@ -15,7 +15,7 @@ use Rattle.ob_judge.specs.Texts.{in_expr, in_link, in_designator, in_place, in_c
 use Rattle.judged_well.specs.Forms.{Form, Zero, Routines, Named, is_number, is_truth, is_pointer, gives_number, gives_truth, gives_pointer}
 use Rattle.judged_well.specs.Setting.{Setting}
 use Rattle.judged_well.specs.Answers.{answer_suits}
-use Rattle.judged_well.specs.Typing.{are_bytes, form, link_form, designated, named, pointer, untyped, call_suits, call_form, suits_through, all_suit, argument_suits, value_suits, place_argument, record_argument, open_argument, given_for, scalar, scalar_in, of_shape, record_by, open_element, record_written, length_in, checked_form, fine, fine_all, fine_branches, fine_parts, outline, has_branch, when_fine}
+use Rattle.judged_well.specs.Typing.{are_bytes, form, link_form, designated, named, pointer, untyped, call_suits, call_form, suits_through, all_suit, argument_suits, value_suits, place_argument, record_argument, open_argument, given_for, scalar, scalar_in, of_shape, record_by, open_element, record_written, length_in, checked_form, fine, fine_all, fine_branches, fine_parts, outline, has_branch, when_fine, begins_there}
 
 is_there : {A : Type 0} (test : A → Bool) (o : Option A) → holds_of test o ≡ true → is_some o ≡ true
 is_there test None h = no h
@@ -180,7 +180,7 @@ module _ (e : Setting) (written : Shape → Shape) where
   mutual
     pub b_statement : (s : Statement) → fine e written s ≡ true → Bytes (in_statement s)
     b_statement (Assign d x) h = let k = given_some _ (checked_form e written x) _ (designated e written d) h in both (in_designator d) (in_expr x.form) (b_designator d k.0) (checked_there x k.1)
-    b_statement (CopyArray d f) h = let k = and_of (holds_of _ (designated e written d)) (holds_of _ (designated e written f)) h in both (in_designator d) (in_designator f) (designated_bytes d _ k.0) (designated_bytes f _ k.1)
+    b_statement (CopyArray d f) h = let k = and_of (holds_of _ (designated e written d)) (holds_of _ (designated e written f)) (and_of (lengths_fit (length_in e written d) (length_in e written f)) _ h).1 in both (in_designator d) (in_designator f) (designated_bytes d _ k.0) (designated_bytes f _ k.1)
     b_statement (CopyRecord d f) h = let k = and_of (holds_of _ (designated e written d)) (holds_of _ (designated e written f)) h in both (in_designator d) (in_designator f) (designated_bytes d _ k.0) (designated_bytes f _ k.1)
     b_statement (Increase d x) h = changed_bytes d x _ h
     b_statement (Decrease d x) h = changed_bytes d x _ h
@@ -198,7 +198,7 @@ module _ (e : Setting) (written : Shape → Shape) where
     b_statement (While branches) h = b_branches branches (and_of (has_branch branches) (fine_branches e written branches) h).1
     b_statement (Repeat body x) h = let k = and_of (fine_all e written body) (gives_number (checked_form e written x)) h in both (in_statements body) (in_expr x.form) (b_statements body k.0) (number_bytes x k.1)
     b_statement (For d x y step body) h =
-        let k = and_of (holds_of _ (designated e written d)) (gives_number (checked_form e written x) && (gives_number (checked_form e written y) && fine_all e written body)) (and_of (is_step step) _ h).1 in
+        let k = and_of (holds_of _ (designated e written d)) (gives_number (checked_form e written x) && (gives_number (checked_form e written y) && fine_all e written body)) (and_of (begins_there d) _ (and_of (is_step step) _ h).1).1 in
         let l = and_of (gives_number (checked_form e written x)) (gives_number (checked_form e written y) && fine_all e written body) k.1 in
         let m = and_of (gives_number (checked_form e written y)) (fine_all e written body) l.1 in
         both (in_designator d ++ in_expr x.form ++ in_expr y.form) (in_statements body)

@@ -19,17 +19,17 @@ use Rattle.ob_judge.specs.Statements.{statements, statement, next_statements, br
 use Rattle.judged_well.specs.Gives.{Gives}
 use Rattle.judged_well.specs.Forms.{Named, is_dynamic, is_full, gives_number, gives_pointer}
 use Rattle.judged_well.specs.Setting.{Setting, IsOrder}
-use Rattle.judged_well.specs.Typing.{outline, designated, takes, checked_form, fine, fine_all, fine_branches, fine_parts, when_fine}
+use Rattle.judged_well.specs.Typing.{outline, designated, takes, checked_form, fine, fine_all, fine_branches, fine_parts, when_fine, begins_there}
 use Rattle.judged_well.specs.Standing.{IsRead, Stands, Right, NarrowsTo, to_pointer, to_record}
 use Rattle.judged_well.proofs.Judging.{keeps, and_then, by_rule, by_some, gives_both}
-use Rattle.judged_well.proofs.Naming.{t_named}
+use Rattle.judged_well.proofs.Naming.{t_named_own}
 use Rattle.judged_well.proofs.Operating.{pointers, char_value}
 use Rattle.judged_well.proofs.Storing.{checked_is}
 use Rattle.judged_well.specs.Standing.{is_plain}
 use Rattle.judged_well.proofs.Tree.{t_expression}
 use Rattle.judged_well.proofs.Worlds.{right_narrow}
 use Rattle.judged_well.proofs.Selectors.{IsCase, of_pointer, of_record, IsSelector, t_selector, t_type_labels, t_narrows}
-use Rattle.judged_well.proofs.Deeds.{t_assign_or_call, t_condition, number_checked, t_number, t_integer_variable}
+use Rattle.judged_well.proofs.Deeds.{t_assign_or_call, t_condition, number_checked, t_number, t_integer_variable, integer_base}
 use Rattle.judged_well.proofs.Labels.{t_ranges, t_step}
 
 module _ (e : Setting) (order : IsOrder e) (p : Source) (read : IsRead p) where
@@ -84,11 +84,12 @@ module _ (e : Setting) (order : IsOrder e) (p : Source) (read : IsRead p) where
   one_branch : (g : Checked) (b : Statements) (more : Branches) → gives_number (checked_form e (outline e) g) ≡ true → IsFineAll b → AreBranches more → AreBranches (next_branch g b more)
   one_branch g b more h k l = and_from (gives_number (checked_form e (outline e) g)) (fine_all e (outline e) b && fine_branches e (outline e) more) h (and_from (fine_all e (outline e) b) (fine_branches e (outline e) more) k l)
 
-  for_fine : (d : Designator) (x y : Checked) (step : ℤ) (b : Statements) → is_step step ≡ true → holds_of (takes e is_full) (designated e (outline e) d) ≡ true → gives_number (checked_form e (outline e) x) ≡ true → gives_number (checked_form e (outline e) y) ≡ true → IsFineAll b → fine e (outline e) (For d x y step b) ≡ true
-  for_fine d x y step b g h k l m =
-      and_from (is_step step) (holds_of (takes e is_full) (designated e (outline e) d) && (gives_number (checked_form e (outline e) x) && (gives_number (checked_form e (outline e) y) && fine_all e (outline e) b))) g
+  for_fine : (d : Designator) (x y : Checked) (step : ℤ) (b : Statements) → is_step step ≡ true → begins_there d ≡ true → holds_of (takes e is_full) (designated e (outline e) d) ≡ true → gives_number (checked_form e (outline e) x) ≡ true → gives_number (checked_form e (outline e) y) ≡ true → IsFineAll b → fine e (outline e) (For d x y step b) ≡ true
+  for_fine d x y step b g whole h k l m =
+      and_from (is_step step) (begins_there d && (holds_of (takes e is_full) (designated e (outline e) d) && (gives_number (checked_form e (outline e) x) && (gives_number (checked_form e (outline e) y) && fine_all e (outline e) b)))) g
+      (and_from (begins_there d) (holds_of (takes e is_full) (designated e (outline e) d) && (gives_number (checked_form e (outline e) x) && (gives_number (checked_form e (outline e) y) && fine_all e (outline e) b))) whole
       (and_from (holds_of (takes e is_full) (designated e (outline e) d)) (gives_number (checked_form e (outline e) x) && (gives_number (checked_form e (outline e) y) && fine_all e (outline e) b)) h
-      (and_from (gives_number (checked_form e (outline e) x)) (gives_number (checked_form e (outline e) y) && fine_all e (outline e) b) k (and_from (gives_number (checked_form e (outline e) y)) (fine_all e (outline e) b) l m)))
+      (and_from (gives_number (checked_form e (outline e) x)) (gives_number (checked_form e (outline e) y) && fine_all e (outline e) b) k (and_from (gives_number (checked_form e (outline e) y)) (fine_all e (outline e) b) l m))))
 
   mutual
     pub t_statements : (w : World) → Right e p w → (x : S.Stats) → Gives IsFineAll (statements p w x)
@@ -113,11 +114,11 @@ module _ (e : Setting) (order : IsOrder e) (p : Source) (read : IsRead p) where
         and_then (t_statements w right body) (λ b k. and_then (t_condition e order p read w right guard) (λ g h.
         put (Repeat b g) (and_from (fine_all e (outline e) b) (gives_number (checked_form e (outline e) g)) k h)))
     t_statement w right (S.For for_word variable becomes from to_word to by_ do_word body end_word) =
-        and_then (t_named e order p w right variable) (λ o h. and_then (t_expression e order p read w right from) (λ x k.
+        and_then (t_named_own e order p w right variable) (λ o h. and_then (t_expression e order p read w right from) (λ x k.
         by_some 31 (place p variable) (integer_variable p w o) (λ d is.
         by_rule 31 (place p (expression_first from)) (is_number x.shape) (λ n.
         and_then (t_number e order p read w right to) (λ y l. and_then (t_step e order p read w right by_) (λ step z. and_then (t_statements w right body) (λ b m.
-        put (For d (checked x) y step b) (for_fine d (checked x) y step b z (t_integer_variable e order p read w right o h d is) (number_checked e order p read w right x k n) l m))))))))
+        put (For d (checked x) y step b) (for_fine d (checked x) y step b z (integer_base e order p read w right o h.1 d is) (t_integer_variable e order p read w right o h.0 d is) (number_checked e order p read w right x k n) l m))))))))
 
     t_next_statements : (w : World) → Right e p w → (x : S.NextStats) → Gives IsFineAll (next_statements p w x)
     t_next_statements w right S.no_stat = keeps IsFineAll no_statement refl

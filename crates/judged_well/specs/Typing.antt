@@ -3,7 +3,7 @@ use Rattle.std.specs.Prelude.{ℕ, suc, ◌^◌, length, Bool, true, false, ◌&
 use Rattle.ob_types.specs.declared.types.Mode.{Mode}
 use Rattle.ob_types.specs.declared.types.Mode.TheVariants as TheMode
 use Rattle.ob_types.specs.Forms.{all}
-use Rattle.ob_types.specs.WellFormed.{provided, holds_of, with_some, is_step, label_fine}
+use Rattle.ob_types.specs.WellFormed.{provided, holds_of, with_some, is_step, lengths_fit, label_fine}
 use Rattle.ob_judge.specs.Shapes.{Shape, Integer, Boolean, Char, Byte, Set, Nil, Nothing, Array, Open, Record, Pointer, Procedure, Formals, none, one, same, same_formals}
 use Rattle.ob_judge.specs.Shapes.{Text as TextShape}
 use Rattle.ob_judge.specs.Parameters.{mode_of}
@@ -36,6 +36,18 @@ is_byte _ = false
 abbrev pub is_string : ℕ → Shape → Bool
 is_string n (TextShape m) = n == suc m
 is_string n _ = false
+
+-- a variable or a string as a whole
+abbrev pub is_base : Place → Bool
+is_base Done = true
+is_base (Global m v) = true
+is_base (Local v) = true
+is_base (Parameter k) = true
+is_base (Text cs) = true
+is_base _ = false
+
+abbrev pub begins_there : Designator → Bool
+begins_there (of_type place s) = is_base place
 
 -- the length of an array or a string, where the type has one
 abbrev pub length_of_shape : Shape → Option ℕ
@@ -347,7 +359,7 @@ module _ (e : Setting) where
     abbrev mutual
       pub fine : Statement → Bool
       fine (Assign d x) = holds_of (λ t. is_writable t && given_for (checked_form x) (scalar_in t)) (designated d)
-      fine (CopyArray d f) = holds_of (may_copy (element_in (shape_in d)) (length_in d)) (designated d) && holds_of (array_of (element_in (shape_in d)) (length_in f)) (designated f)
+      fine (CopyArray d f) = lengths_fit (length_in d) (length_in f) && (holds_of (may_copy (element_in (shape_in d)) (length_in d)) (designated d) && holds_of (array_of (element_in (shape_in d)) (length_in f)) (designated f))
       fine (CopyRecord d f) = holds_of (λ t. is_writable t && has_record (record_written d) t) (designated d) && holds_of (has_record (record_written d)) (designated f)
       fine (Increase d x) = gives_number (checked_form x) && holds_of (takes (changes (is_byte (shape_in d)))) (designated d)
       fine (Decrease d x) = gives_number (checked_form x) && holds_of (takes (changes (is_byte (shape_in d)))) (designated d)
@@ -364,7 +376,7 @@ module _ (e : Setting) where
       fine (If branches other) = fine_branches branches && fine_all other
       fine (While branches) = has_branch branches && fine_branches branches
       fine (Repeat body x) = fine_all body && gives_number (checked_form x)
-      fine (For d x y step body) = is_step step && (holds_of (takes is_full) (designated d) && (gives_number (checked_form x) && (gives_number (checked_form y) && fine_all body)))
+      fine (For d x y step body) = is_step step && (begins_there d && (holds_of (takes is_full) (designated d) && (gives_number (checked_form x) && (gives_number (checked_form y) && fine_all body))))
       fine (Case x parts) = gives_number (checked_form x) && fine_parts parts
       fine (CasePointer x parts) = gives_pointer (checked_form x) && fine_parts parts
       fine (CaseParameter d parts) = holds_of is_dynamic (designated d) && fine_parts parts

@@ -33,7 +33,7 @@ use Rattle.ssa_lowered.specs.Values.{address_in as lower_address}
 use Rattle.ssa_lowered.specs.Statements.{fits}
 use Rattle.ssa_lowered.specs.Statements.{copy_array as lower_array, copy_record as lower_record}
 use Rattle.lowered_runs.specs.Words.{same_trap, Whole, Level, Right, Apart, next, heap_words, word, Held, Later}
-use Rattle.lowered_runs.specs.Covered.{lengths_fit}
+use Rattle.ob_types.specs.WellFormed.{lengths_fit}
 use Rattle.lowered_runs.proofs.Stores.{later_refl, later_on, later_put, put_in, put_held, sizes_put, value_later}
 use Rattle.lowered_runs.proofs.Values.{put_here, off_refl}
 use Rattle.lowered_runs.proofs.Ready.{position, system, world_of, frame_at, runs_at, Goes, Came_to, Registers}

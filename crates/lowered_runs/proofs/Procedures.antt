@@ -31,7 +31,6 @@ use Rattle.ssa_lowered.specs.Pieces.{Cursor}
 use Rattle.ssa_lowered.specs.Variables.{lent_by_list, lent_by_answer}
 use Rattle.ssa_lowered.specs.Lowered.{Here, here_of, lowered, made_of, proc_of}
 use Rattle.ssa_lowered.specs.Lowered.{answer as lower_answer}
-use Rattle.lowered_runs.specs.Covered.{covered, answer_covered, procedure_covered}
 use Rattle.lowered_runs.specs.Words.{same_trap, Whole, Level, Right, heap_word}
 use Rattle.lowered_runs.proofs.Standing.{shared}
 use Rattle.lowered_runs.proofs.Ready.{Position, system, frame_at}
@@ -90,8 +89,7 @@ module _ (p : Program) (input : List ℕ) (code : ℕ → ℕ) (constants : List
       let e = ap (λ i. whole_weight p lay i (procedure_of p g) h) z in
       omega (arith, a, b, d, e)
 
-  module _ (good : types_fine p.types ≡ true) (all_fine : (f : ℕ) → f < length p.procedures → WellFormed.procedure_fine p f ≡ true) (codes : AreCodePlaces (length ps) code) (declared : WellFormed.declarations_fine p ≡ true) (small : globals_room p lay ≤ 0x800000) (standing : has_constants p ≡ true → ConstantsStand p constants)
-      (covers : (f : ℕ) → f < length p.procedures → procedure_covered (procedure_of p f) ≡ true) where
+  module _ (good : types_fine p.types ≡ true) (all_fine : (f : ℕ) → f < length p.procedures → WellFormed.procedure_fine p f ≡ true) (codes : AreCodePlaces (length ps) code) (declared : WellFormed.declarations_fine p ≡ true) (small : globals_room p lay ≤ 0x800000) (standing : has_constants p ≡ true → ConstantsStand p constants) where
     right : Right w
     right = right_of_code p input code constants n 0 0 no_store codes declared
 
@@ -120,9 +118,6 @@ module _ (p : Program) (input : List ℕ) (code : ℕ → ℕ) (constants : List
       fine_code : (all (WellFormed.fine p g) q.body ≡ true) × (WellFormed.answer_fine p g (WellFormed.form_of p q.result) q.answer ≡ true)
       fine_code = and_of (all (WellFormed.fine p g) q.body) (WellFormed.answer_fine p g (WellFormed.form_of p q.result) q.answer) fine_parts.1
 
-      covered_code : (all covered q.body ≡ true) × (answer_covered q.answer ≡ true)
-      covered_code = and_of (all covered q.body) (answer_covered q.answer) (covers g there)
-
       module _ (s : Objects) (cs : List Cell) (words_small : l.local + k.words ≤ heap_word) (taken : AllTaken p good l.forms s.tags q.formals hs) where
         abbrev u : Level
         u = above l k (with_frame cs s)
@@ -133,10 +128,10 @@ module _ (p : Program) (input : List ℕ) (code : ℕ → ℕ) (constants : List
         pub serves : Serves w u fuel (at_most p fuel)
         serves = record {
           body = list_is w u right (apart_above w l g hs xs (frame_at l c f) (with_frame cs s)) (variables_above w l g hs xs (frame_at l c f) (with_frame cs s) data_at words_small) good (at_most p fuel) (s_at_most p good all_fine fuel) own_forms
-              (all_taken_push p good l.forms k.forms s.tags q.formals hs taken) (stacked_above w l g hs xs (frame_at l c f) (with_frame cs s) stacked) fuel calling (λ x. true) q.body fine_code.0 covered_code.0 (λ x. refl)
+              (all_taken_push p good l.forms k.forms s.tags q.formals hs taken) (stacked_above w l g hs xs (frame_at l c f) (with_frame cs s) stacked) fuel calling (λ x. true) q.body fine_code.0 (λ x. refl)
               (λ x e. lent_above w l g hs xs (frame_at l c f) (with_frame cs s) x (either_left (lent_by_list q.body x) (lent_by_answer q.answer x) e));
           result = answer_is w u right (apart_above w l g hs xs (frame_at l c f) (with_frame cs s)) (variables_above w l g hs xs (frame_at l c f) (with_frame cs s) data_at words_small) good (at_most p fuel) (s_at_most p good all_fine fuel) own_forms
-              (all_taken_push p good l.forms k.forms s.tags q.formals hs taken) (stacked_above w l g hs xs (frame_at l c f) (with_frame cs s) stacked) fuel calling (WellFormed.form_of p q.result) q.answer fine_code.1 covered_code.1
+              (all_taken_push p good l.forms k.forms s.tags q.formals hs taken) (stacked_above w l g hs xs (frame_at l c f) (with_frame cs s) stacked) fuel calling (WellFormed.form_of p q.result) q.answer fine_code.1
               (λ x e. lent_above w l g hs xs (frame_at l c f) (with_frame cs s) x (either_right (lent_by_list q.body x) (lent_by_answer q.answer x) e));
         }
 

@@ -46,7 +46,6 @@ use Rattle.ob_types.specs.Layout.{kind_of}
 use Rattle.ob_types.specs.LegalTypes.{is_no_kind, formal_legal}
 use Rattle.ob_types.specs.WellFormed.{no_answer}
 use Rattle.ob_types.proofs.WellFormedParts.{parts_of}
-use Rattle.lowered_runs.specs.Covered.{covered, answer_covered, procedure_covered, program_covered}
 use Rattle.lowered_runs.proofs.BodiesInOrder.{bodies_in_modules}
 use Rattle.lowered_runs.proofs.Procedures.{each_of, coded_at, calling_all}
 use Rattle.lowered_runs.proofs.Stores.{later_refl}
@@ -111,8 +110,7 @@ module _ (p : Program) (input : List ℕ) (code : ℕ → ℕ) (constants : List
     pub held : Held w (level 0 j s.store) s.store memory
     pub typed : Typing w (level 0 j s.store) s.store
 
-  module _ (good : types_fine p.types ≡ true) (all_fine : (f : ℕ) → f < length p.procedures → WellFormed.procedure_fine p f ≡ true) (codes : AreCodePlaces (length ps) code) (declared : WellFormed.declarations_fine p ≡ true) (small : globals_room p lay ≤ 0x800000) (standing : has_constants p ≡ true → ConstantsStand p constants)
-      (covers : (f : ℕ) → f < length p.procedures → procedure_covered (procedure_of p f) ≡ true) where
+  module _ (good : types_fine p.types ≡ true) (all_fine : (f : ℕ) → f < length p.procedures → WellFormed.procedure_fine p f ≡ true) (codes : AreCodePlaces (length ps) code) (declared : WellFormed.declarations_fine p ≡ true) (small : globals_room p lay ≤ 0x800000) (standing : has_constants p ≡ true → ConstantsStand p constants) where
     module _ (j : ℕ) (m : Module) (ms : List Module) (s : Moment Store) (fine : WellFormed.module_fine p m ≡ true) where
       abbrev q : ℕ
       q = m.body
@@ -221,7 +219,7 @@ module _ (p : Program) (input : List ℕ) (code : ℕ → ℕ) (constants : List
           let body = and_of (all (WellFormed.fine p q) d.body) (WellFormed.answer_fine p q (WellFormed.form_of p d.result) d.answer) parts.1 in
           goes_on w l (effects_of p (at_most p n) (record { procedure = q; frame = 0; arguments = [] }) n d.body s)
           ((list_is w l (right_of_code p input code constants n q j s.store codes declared) (apart_in_body p input code constants n q j s.store) (variables_in_body p input code constants n q j s.store none declared small standing) good (at_most p n) (s_at_most p good all_fine n)
-          (sym (ap (λ ls. joined (forms p.types) ls) none)) (subst (λ xs. AllTaken p good [] s.store.tags xs []) (sym no_formals) tt) (stacked_body p input code constants n q j s.store) n (calling_all p input code constants n good all_fine codes declared small standing covers n) (λ x. true) d.body body.0 (and_of (all covered d.body) (answer_covered d.answer) (covers q there)).0 (λ x. refl) (λ x e. refl)).by
+          (sym (ap (λ ls. joined (forms p.types) ls) none)) (subst (λ xs. AllTaken p good [] s.store.tags xs []) (sym no_formals) tt) (stacked_body p input code constants n q j s.store) n (calling_all p input code constants n good all_fine codes declared small standing n) (λ x. true) d.body body.0 (λ x. refl) (λ x e. refl)).by
           n 1 first (first_values (procedure (proc_of p lay q d)) []) s enough behind (omega arith) (omega arith) (omega arith) stands (λ h. omega arith) (λ h. let e = weight h in let f = fits h in omega (arith, e, f))
           (λ k x h f at. absurd (nothing (ap (λ xs. slice_get xs k) (sym no_formals) ∙ at))) b.typed (ready is b))
           (λ u t z. next_body t z)
@@ -283,15 +281,15 @@ module _ (p : Program) (input : List ℕ) (code : ℕ → ℕ) (constants : List
   declared_well h = (and_of (types_fine p.types) (WellFormed.declarations_fine p) (and_of (types_fine p.types && WellFormed.declarations_fine p) (all (all (λ c. nat_lt c 256)) (texts_of p.procedures) && (all (WellFormed.module_fine p) p.modules && all_below (length p.procedures) (WellFormed.procedure_fine p))) h).0).1
 
   -- the procedures keep up with the meaning
-  pub keeps_up : well_formed p ≡ true → AreInput input → program_covered p ≡ true → AreCodePlaces (length ps) code → globals_room p lay ≤ 0x800000 → globals_room p lay + length constants ≤ 0x10000000 → AreBytes constants → (has_constants p ≡ true → ConstantsStand p constants)
+  pub keeps_up : well_formed p ≡ true → AreInput input → AreCodePlaces (length ps) code → globals_room p lay ≤ 0x800000 → globals_room p lay + length constants ≤ 0x10000000 → AreBytes constants → (has_constants p ≡ true → ConstantsStand p constants)
       → Keeps (block_system ps code) (least ps) (all_points ps) same_trap (first_state (globals_room p lay) constants input) n (meaning p input n)
-  keeps_up h bytes ok codes small room are standing =
+  keeps_up h bytes codes small room are standing =
       let parts = parts_of p h in
       let order = bodies_in_modules p h in
       let sizes = room_sizes p input in
       keeps_comes HasSense (system w) (least w.procedures) w.points w.first w.turns same_trap (all_bodies p n p.modules (record { store = start p input; out = []; turns = n }))
       (makes_no_nonsense (all_bodies p n p.modules (record { store = start p input; out = []; turns = n })) (makes_sense p input n h bytes))
-      (bodies_run parts.table parts.procedures codes (declared_well h) small standing (λ f lt. each_of procedure_covered p.procedures f _ ok lt) 0 p.modules (record { store = start p input; out = []; turns = n }) order parts.modules (enough_room order) (record {
+      (bodies_run parts.table parts.procedures codes (declared_well h) small standing 0 p.modules (record { store = start p input; out = []; turns = n }) order parts.modules (enough_room order) (record {
         gain = 0;
         memory = (first_world (globals_room p lay) constants input).memory;
         reached = starts (system w) (least w.procedures) w.points w.first w.turns (left 0 p.modules) (λ h. let e = enough_room order h in omega (arith, e));

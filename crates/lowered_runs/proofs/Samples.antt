@@ -37,7 +37,6 @@ no_constants e = cc
 pub sample_runs : CanRun sample [] [] (λ g. suc g)
 sample_runs = record {
   fine = refl;
-  covers = refl;
   numbers = refl;
   bytes = λ i. omega arith;
   places = record { few = λ g lt. omega (arith, lt); nowhere = λ g lt e. absurd (omega (arith, e)); apart = λ g h lt less e. omega (arith, e) };
@@ -104,7 +103,6 @@ module _ (b : Box (Unit {0}) Heap) (v : Vec (Unit {0}) Heap) where
   pub counting_runs : CanRun counting [] [] (λ g. suc g)
   counting_runs = record {
     fine = refl;
-    covers = refl;
     numbers = refl;
     bytes = λ i. omega arith;
     places = record { few = λ g lt. omega (arith, lt); nowhere = λ g lt e. absurd (omega (arith, e)); apart = λ g h lt less e. omega (arith, e) };
@@ -173,7 +171,6 @@ module _ (b : Box (Unit {0}) Heap) (v : Vec (Unit {0}) Heap) where
   handing_runs : CanRun handing [] (constants_of handing) (λ g. suc g)
   handing_runs = record {
     fine = refl;
-    covers = refl;
     numbers = refl;
     bytes = handing_bytes;
     places = record { few = λ g lt. omega (arith, lt); nowhere = λ g lt e. absurd (omega (arith, e)); apart = λ g h lt less e. omega (arith, e) };

@@ -57,10 +57,9 @@ use Rattle.ob_sound.proofs.Tree.{t_base, t_select, t_value, t_link, t_effect}
 use Rattle.ssa_lowered.specs.Data.{Layout, global_at, descriptor_at, text_at, within}
 use Rattle.ssa_lowered.specs.Pieces.{Low, Mask}
 use Rattle.ssa_lowered.specs.Control.{Lowers, Round, fork_and, fork_or, fork_value}
-use Rattle.ssa_lowered.specs.Variables.{is_structured, either, none, origin, itself as whole_of, assigned, assigned_all, assigned_branches, words_of, lent, lent_links, lent_link, lent_at, lent_whole, lent_by_first, lent_selectors, lent_selector, lent_call, lent_as, lent_in, lent_by, lent_by_all, lent_by_branches, lent_by_list, lent_by_answer}
+use Rattle.ssa_lowered.specs.Variables.{is_structured, either, none, origin, unselected, itself as whole_of, assigned, assigned_all, assigned_branches, words_of, lent, lent_links, lent_link, lent_at, lent_whole, lent_by_first, lent_selectors, lent_selector, lent_call, lent_as, lent_in, lent_by, lent_by_all, lent_by_branches, lent_by_list, lent_by_answer}
 use Rattle.ssa_lowered.specs.Lowered.{Here, in_register, variable_of, local_by, parameter_by, by_mode, based, descriptor, named, small, expr, link as lower_link, linked as lower_linked, called as lower_called, argument as lower_argument, arguments as lower_arguments, answer as lower_answer, home, registers, deed, deeds, deeds_of, one_of, alternatives, guarded_rounds}
 use Rattle.lowered_runs.specs.Words.{Whole, Level, Right, local, Apart}
-use Rattle.lowered_runs.specs.Covered.{part_covered, selectors_covered, selector_covered, is_whole, designator_covered, expr_covered, links_covered, link_covered, call_covered, argument_covered, arguments_covered, checked_covered, covered, row_covered, branches_covered, answer_covered}
 use Rattle.block_runs.specs.declared.end.End.TheVariants.{Trap as Trap_end}
 use Rattle.ob_types.specs.Operators.{label_has, labels_have}
 use Rattle.ob_types.specs.Statements.{case as case_of_value}
@@ -71,7 +70,6 @@ use Rattle.ob_types.specs.declared.statements.Stmt.{Row_of-CasePart, end_of-Case
 use Rattle.ssa_lowered.specs.Control.{case}
 use Rattle.ssa_lowered.specs.Lowered.{labels_of, label_tests, case_bodies, rungs_from, case_of as lower_case}
 use Rattle.ssa_lowered.specs.Variables.{assigned_case_parts, lent_by_case_parts}
-use Rattle.lowered_runs.specs.Covered.{case_covered}
 use Rattle.lowered_runs.proofs.Exprs.{follows_bits}
 use Rattle.lowered_runs.proofs.Cases.{bodies_known, first_of, parts_of, Matched, Bodies, follows_case}
 use Rattle.lowered_runs.proofs.Labels.{Known, known_steady, labels_any, rungs_same, all_labels_say, trap_otherwise}
@@ -117,14 +115,12 @@ use Rattle.block_runs.specs.declared.end.End.TheVariants.{Jump}
 use Rattle.ssa_lowered.specs.Values.{tag_of}
 use Rattle.ssa_lowered.specs.Lowered.{records_of, type_tests, type_bodies}
 use Rattle.ssa_lowered.specs.Variables.{assigned_type_parts, lent_by_type_parts}
-use Rattle.lowered_runs.specs.Covered.{types_covered}
 use Rattle.lowered_runs.proofs.TypeCases.{nothing_more, KnownType, known_type, all_types_say, jump_otherwise}
 use Rattle.lowered_runs.proofs.TypeTests.{answer as type_answer, steady_pointer_type, steady_parameter_type, follows_guarded, PointerType, grows_is_pointer, follows_is_pointer, follows_pointer_type, ParameterType, grows_is_tag, follows_is_tag, follows_parameter_type, follows_type_test, follows_narrowed}
 use Rattle.ob_types.specs.Expressions.{guarded, all_guarded}
 use Rattle.ssa_lowered.specs.Values.{guarded as lower_guarded, is_pointer, is_tag}
 use Rattle.ssa_lowered.specs.Lowered.{level, all_guarded as lower_all_guarded}
 use Rattle.lowered_runs.proofs.Copies.{Reaches, follows_copy_record, follows_copy_array}
-use Rattle.lowered_runs.specs.Covered.{lengths_fit}
 use Rattle.ob_types.specs.Statements.{done}
 use Rattle.ob_sound.proofs.Deeds.{done_formed}
 use Rattle.lowered_runs.proofs.Bounds.{load_is, assign_is, step_is, follows_for}
@@ -194,7 +190,7 @@ module _ (w : Whole) (l : Level) (right : Right w) (apart : Apart l) (vars : Var
   -- a designator whose address may be made is read in the same way
   at_of_whole : (d : Designator) → Lends (lent_whole d) → Lends (lent_at d)
   at_of_whole (Variable b k) h x e = no e
-  at_of_whole (Part' b k _ row) h x e = h x e
+  at_of_whole (Part' b k _ row) h x e = right_lends (unselected (origin b) row) (lent_selectors (origin b) row) h x e
 
   steady : Steady w l (Given w l)
   steady = steady_given w l
@@ -293,31 +289,26 @@ module _ (w : Whole) (l : Level) (right : Right w) (apart : Apart l) (vars : Var
 
   ---- Parts
 
-  -- behind selectors that are covered there is nothing where there was nothing
-  selected_none : {m : _} (row : Row_of-Selector m) (n : Thing) → selectors_covered row ≡ true → WellFormed.selected_named p l.proc row None ≡ Some n → ⊥
-  selected_none end_of-Selector n ok is = none_some n is
-  selected_none (more_of-Selector (Index i k x) rest) n ok is = selected_none rest n (and_of (expr_covered x) (selectors_covered rest) ok).1 is
-  selected_none (more_of-Selector (Field r f) rest) n ok is = selected_none rest n ok is
-  selected_none (more_of-Selector (Dereference rs) rest) n ok is = selected_none rest n ok (sym (ap (λ o. WellFormed.selected_named p l.proc rest (with_some o pointed)) (guarded_nothing rs)) ∙ is)
-  selected_none (more_of-Selector (Narrow r) rest) n ok is = selected_none rest n ok (sym (by (is_record_type p.types r)) ∙ is)
+  -- behind selectors there is nothing where there was nothing
+  selected_none : {m : _} (row : Row_of-Selector m) (n : Thing) → WellFormed.selected_named p l.proc row None ≡ Some n → ⊥
+  selected_none end_of-Selector n is = none_some n is
+  selected_none (more_of-Selector (Index i k x) rest) n is = selected_none rest n is
+  selected_none (more_of-Selector (Field r f) rest) n is = selected_none rest n is
+  selected_none (more_of-Selector (Dereference rs) rest) n is = selected_none rest n (sym (ap (λ o. WellFormed.selected_named p l.proc rest (with_some o pointed)) (guarded_nothing rs)) ∙ is)
+  selected_none (more_of-Selector (Narrow r) rest) n is = selected_none rest n (sym (by (is_record_type p.types r)) ∙ is)
     where
       by : (b : Bool) → WellFormed.selected_named p l.proc rest (provided b None) ≡ WellFormed.selected_named p l.proc rest None
       by true = refl
       by false = refl
 
-  selected_some : {m : _} (row : Row_of-Selector m) (o : Option Thing) (n : Thing) → selectors_covered row ≡ true → WellFormed.selected_named p l.proc row o ≡ Some n → (t : Thing) × (o ≡ Some t)
-  selected_some row None n ok is = absurd (selected_none row n ok is)
-  selected_some row (Some t) n ok is = (t, refl)
+  selected_some : {m : _} (row : Row_of-Selector m) (o : Option Thing) (n : Thing) → WellFormed.selected_named p l.proc row o ≡ Some n → (t : Thing) × (o ≡ Some t)
+  selected_some row None n is = absurd (selected_none row n is)
+  selected_some row (Some t) n is = (t, refl)
 
   -- an array's cells
   array_cells : (k n e : ℕ) → kind_of p.types k ≡ Array (Some n) e → cells p.types k ≡ n * cells p.types e
   array_cells k n e is =
       cells_length p.types k ∙ ap (λ (xs : List Form). length xs) (array_forms p.types good k n e is) ∙ length_repeated n (forms p.types e) ∙ ap (λ m. n * m) (sym (cells_length p.types e))
-
-  part_some : {m : _} (row : Row_of-Selector m) (o : Option Thing) (n : Thing) → part_covered row ≡ true → WellFormed.selected_named p l.proc row o ≡ Some n → (t : Thing) × (o ≡ Some t)
-  part_some row (Some t) n ok is = (t, refl)
-  part_some end_of-Selector None n ok is = no ok
-  part_some (more_of-Selector s rest) None n ok is = absurd (selected_none (more_of-Selector s rest) n ok is)
 
   -- record types that designators name are in the table; In.Done is a truth
   abbrev Legal : Thing → Type 0
@@ -392,27 +383,22 @@ module _ (w : Whole) (l : Level) (right : Right w) (apart : Apart l) (vars : Var
       let c = provided_is p (WellFormed.is_dynamic p b) (Some (Dynamic r)) t a.1 in
       subst Legal (some_same (Dynamic r) t c.1) (lt_of p r (length p.types.records) a.0)
 
-  legal_selected : {m : _} (row : Row_of-Selector m) (b n : Thing) → selectors_covered row ≡ true → WellFormed.selected_named p l.proc row (Some b) ≡ Some n → Legal b → Legal n
-  legal_selected end_of-Selector b n ok is legal = subst Legal (some_same b n is) legal
-  legal_selected (more_of-Selector s rest) b n ok is legal =
-      let covers = and_of (selector_covered s) (selectors_covered rest) ok in
-      let t = selected_some rest (WellFormed.select_named p l.proc s (Some b)) n covers.1 is in
-      legal_selected rest t.0 n covers.1 (ap (WellFormed.selected_named p l.proc rest) (sym t.1) ∙ is) (legal_select s b t.0 t.1 legal)
+  legal_selected : {m : _} (row : Row_of-Selector m) (b n : Thing) → WellFormed.selected_named p l.proc row (Some b) ≡ Some n → Legal b → Legal n
+  legal_selected end_of-Selector b n is legal = subst Legal (some_same b n is) legal
+  legal_selected (more_of-Selector s rest) b n is legal =
+      let t = selected_some rest (WellFormed.select_named p l.proc s (Some b)) n is in
+      legal_selected rest t.0 n (ap (WellFormed.selected_named p l.proc rest) (sym t.1) ∙ is) (legal_select s b t.0 t.1 legal)
 
-  row_covered_too : {m : _} (row : Row_of-Selector m) → part_covered row ≡ true → selectors_covered row ≡ true
-  row_covered_too end_of-Selector ok = refl
-  row_covered_too (more_of-Selector s rest) ok = ok
-
-  legal_named : (d : Designator) (n : Thing) → designator_covered d ≡ true → WellFormed.named p l.proc d ≡ Some n → Legal n
-  legal_named (Variable b kind) n ok is =
+  legal_named : (d : Designator) (n : Thing) → WellFormed.named p l.proc d ≡ Some n → Legal n
+  legal_named (Variable b kind) n is =
       let z = with_is p good (WellFormed.base_named p l.proc b) (WellFormed.of_kind p kind) n is in
       let y = provided_is p (WellFormed.has_kind p kind z.0) (Some z.0) n z.2 in
       subst Legal (some_same z.0 n y.1) (legal_base b z.0 z.1)
-  legal_named (Part' b kind _ row) n ok is =
+  legal_named (Part' b kind _ row) n is =
       let z = with_is p good (WellFormed.selected_named p l.proc row (WellFormed.base_named p l.proc b)) (WellFormed.of_kind p kind) n is in
       let y = provided_is p (WellFormed.has_kind p kind z.0) (Some z.0) n z.2 in
-      let base = part_some row (WellFormed.base_named p l.proc b) z.0 ok z.1 in
-      subst Legal (some_same z.0 n y.1) (legal_selected row base.0 z.0 (row_covered_too row ok) (ap (WellFormed.selected_named p l.proc row) (sym base.1) ∙ z.1) (legal_base b base.0 base.1))
+      let base = selected_some row (WellFormed.base_named p l.proc b) z.0 z.1 in
+      subst Legal (some_same z.0 n y.1) (legal_selected row base.0 z.0 (ap (WellFormed.selected_named p l.proc row) (sym base.1) ∙ z.1) (legal_base b base.0 base.1))
 
   -- what a part is
   abbrev PartIs : Thing → Act Handed → Low Named → Type 0
@@ -491,7 +477,7 @@ module _ (w : Whole) (l : Level) (right : Right w) (apart : Apart l) (vars : Var
   -- the address of a whole variable is made where it is in memory
   own_lent : (d : Designator) → Lends (lent_whole d) → (x : ℕ) → whole_of d x ≡ true → l.in_register x ≡ false
   own_lent (Variable b k) lends x e = lends x e
-  own_lent (Part' b k _ row) lends x e = no e
+  own_lent (Part' b k _ row) lends x e = left_lends (unselected (origin b) row) (lent_selectors (origin b) row) lends x e
 
   -- an extension has its base's cells
   extended_cells : (s r : ℕ) → extends p.types s r ≡ true → length (record_forms p.types r) ≤ length (record_forms p.types s)
@@ -735,63 +721,61 @@ module _ (w : Whole) (l : Level) (right : Right w) (apart : Apart l) (vars : Var
   sensible_base b n is tags older = (t_base p good calls sound runs l.forms tags frame (taken_at tags older) b).sound n is
 
   mutual
-    pub named_is : (d : Designator) (n : Thing) → WellFormed.named p l.proc d ≡ Some n → designator_covered d ≡ true → Lends (lent_at d) → Follows w l 0 fuel nothing (Given w l) (DesignatorIs w l (whole_of d) n) (designated p calls runs d) (named p lay mine d)
-    named_is (Variable b kind) n is ok lends =
+    pub named_is : (d : Designator) (n : Thing) → WellFormed.named p l.proc d ≡ Some n → Lends (lent_at d) → Follows w l 0 fuel nothing (Given w l) (DesignatorIs w l (whole_of d) n) (designated p calls runs d) (named p lay mine d)
+    named_is (Variable b kind) n is lends =
         let z = with_is p good (WellFormed.base_named p l.proc b) (WellFormed.of_kind p kind) n is in
         let y = provided_is p (WellFormed.has_kind p kind z.0) (Some z.0) n z.2 in
         subst (λ n. Follows w l 0 fuel nothing (Given w l) (DesignatorIs w l (origin b) n) (base_of p calls runs b) (based p lay mine b)) (some_same z.0 n y.1) (base_is b z.0 z.1)
-    named_is (Part' b kind _ row) n is ok lends =
+    named_is (Part' b kind _ row) n is lends =
         let z = with_is p good (WellFormed.selected_named p l.proc row (WellFormed.base_named p l.proc b)) (WellFormed.of_kind p kind) n is in
         let y = provided_is p (WellFormed.has_kind p kind z.0) (Some z.0) n z.2 in
-        let base = part_some row (WellFormed.base_named p l.proc b) z.0 ok z.1 in
+        let base = selected_some row (WellFormed.base_named p l.proc b) z.0 z.1 in
         let parts = legal_base b base.0 base.1 in
-        let one = part_of row (origin b) base.0 z.0 (base_of p calls runs b) (based p lay mine b) (ap (WellFormed.selected_named p l.proc row) (sym base.1) ∙ z.1) parts ok lends (sensible_base b base.0 base.1) (base_is b base.0 base.1) in
-        subst (λ n. Follows w l 0 fuel nothing (Given w l) (DesignatorIs w l none n) (selected p calls runs row (base_of p calls runs b)) (lower_selected p lay mine row (based p lay mine b))) (some_same z.0 n y.1) one
+        let one = part_of row (origin b) base.0 z.0 (base_of p calls runs b) (based p lay mine b) (ap (WellFormed.selected_named p l.proc row) (sym base.1) ∙ z.1) parts lends (sensible_base b base.0 base.1) (base_is b base.0 base.1) in
+        subst (λ n. Follows w l 0 fuel nothing (Given w l) (DesignatorIs w l (unselected (origin b) row) n) (selected p calls runs row (base_of p calls runs b)) (lower_selected p lay mine row (based p lay mine b))) (some_same z.0 n y.1) one
 
-    part_of : {m : _} (row : Row_of-Selector m) (own : Mask) (b n : Thing) (d : Act Handed) (low : Low Named) → WellFormed.selected_named p l.proc row (Some b) ≡ Some n → Legal b → part_covered row ≡ true → Lends (lent_selectors own row) → Sensible b d → Follows w l 0 fuel nothing (Given w l) (DesignatorIs w l own b) d low
-        → Follows w l 0 fuel nothing (Given w l) (DesignatorIs w l none n) (selected p calls runs row d) (lower_selected p lay mine row low)
-    part_of end_of-Selector own b n d low is parts ok lends sensible one = no ok
-    part_of (more_of-Selector s rest) own b n d low is parts ok lends sensible one =
+    part_of : {m : _} (row : Row_of-Selector m) (own : Mask) (b n : Thing) (d : Act Handed) (low : Low Named) → WellFormed.selected_named p l.proc row (Some b) ≡ Some n → Legal b → Lends (lent_selectors own row) → Sensible b d → Follows w l 0 fuel nothing (Given w l) (DesignatorIs w l own b) d low
+        → Follows w l 0 fuel nothing (Given w l) (DesignatorIs w l (unselected own row) n) (selected p calls runs row d) (lower_selected p lay mine row low)
+    part_of end_of-Selector own b n d low is parts lends sensible one = subst (λ n. Follows w l 0 fuel nothing (Given w l) (DesignatorIs w l own n) d low) (some_same b n is) one
+    part_of (more_of-Selector s rest) own b n d low is parts lends sensible one =
         let behind = right_lends (lent_by_first own s) (either (lent_selector s) (lent_selectors none rest)) lends in
-        let covers = and_of (selector_covered s) (selectors_covered rest) ok in
-        let t = selected_some rest (WellFormed.select_named p l.proc s (Some b)) n covers.1 is in
-        let two = select_is s own b t.0 d low t.1 parts covers.0 (left_lends (lent_selector s) (lent_selectors none rest) behind) sensible one in
-        selected_is rest t.0 n (select p calls runs s d) (lower_select p lay mine s low) (ap (WellFormed.selected_named p l.proc rest) (sym t.1) ∙ is) two.0 covers.1 (right_lends (lent_selector s) (lent_selectors none rest) behind) (sensible_part s b t.0 d t.1 sensible) two.1
+        let t = selected_some rest (WellFormed.select_named p l.proc s (Some b)) n is in
+        let two = select_is s own b t.0 d low t.1 parts (left_lends (lent_selector s) (lent_selectors none rest) behind) sensible one in
+        selected_is rest t.0 n (select p calls runs s d) (lower_select p lay mine s low) (ap (WellFormed.selected_named p l.proc rest) (sym t.1) ∙ is) two.0 (right_lends (lent_selector s) (lent_selectors none rest) behind) (sensible_part s b t.0 d t.1 sensible) two.1
 
-    selected_is : {m : _} (row : Row_of-Selector m) (b n : Thing) (d : Act Handed) (low : Low Named) → WellFormed.selected_named p l.proc row (Some b) ≡ Some n → Legal b → selectors_covered row ≡ true → Lends (lent_selectors none row) → Sensible b d → Follows w l 0 fuel nothing (Given w l) (DesignatorIs w l none b) d low
+    selected_is : {m : _} (row : Row_of-Selector m) (b n : Thing) (d : Act Handed) (low : Low Named) → WellFormed.selected_named p l.proc row (Some b) ≡ Some n → Legal b → Lends (lent_selectors none row) → Sensible b d → Follows w l 0 fuel nothing (Given w l) (DesignatorIs w l none b) d low
         → Follows w l 0 fuel nothing (Given w l) (DesignatorIs w l none n) (selected p calls runs row d) (lower_selected p lay mine row low)
-    selected_is end_of-Selector b n d low is parts ok lends sensible one = subst (λ n. Follows w l 0 fuel nothing (Given w l) (DesignatorIs w l none n) d low) (some_same b n is) one
-    selected_is (more_of-Selector s rest) b n d low is parts ok lends sensible one =
+    selected_is end_of-Selector b n d low is parts lends sensible one = subst (λ n. Follows w l 0 fuel nothing (Given w l) (DesignatorIs w l none n) d low) (some_same b n is) one
+    selected_is (more_of-Selector s rest) b n d low is parts lends sensible one =
         let behind = right_lends (lent_by_first none s) (either (lent_selector s) (lent_selectors none rest)) lends in
-        let covers = and_of (selector_covered s) (selectors_covered rest) ok in
-        let t = selected_some rest (WellFormed.select_named p l.proc s (Some b)) n covers.1 is in
-        let two = select_is s none b t.0 d low t.1 parts covers.0 (left_lends (lent_selector s) (lent_selectors none rest) behind) sensible one in
-        selected_is rest t.0 n (select p calls runs s d) (lower_select p lay mine s low) (ap (WellFormed.selected_named p l.proc rest) (sym t.1) ∙ is) two.0 covers.1 (right_lends (lent_selector s) (lent_selectors none rest) behind) (sensible_part s b t.0 d t.1 sensible) two.1
+        let t = selected_some rest (WellFormed.select_named p l.proc s (Some b)) n is in
+        let two = select_is s none b t.0 d low t.1 parts (left_lends (lent_selector s) (lent_selectors none rest) behind) sensible one in
+        selected_is rest t.0 n (select p calls runs s d) (lower_select p lay mine s low) (ap (WellFormed.selected_named p l.proc rest) (sym t.1) ∙ is) two.0 (right_lends (lent_selector s) (lent_selectors none rest) behind) (sensible_part s b t.0 d t.1 sensible) two.1
 
-    select_is : (s : Selector) (own : Mask) (b t : Thing) (d : Act Handed) (low : Low Named) → WellFormed.select_named p l.proc s (Some b) ≡ Some t → Legal b → selector_covered s ≡ true → Lends (lent_selector s) → Sensible b d → Follows w l 0 fuel nothing (Given w l) (DesignatorIs w l own b) d low
+    select_is : (s : Selector) (own : Mask) (b t : Thing) (d : Act Handed) (low : Low Named) → WellFormed.select_named p l.proc s (Some b) ≡ Some t → Legal b → Lends (lent_selector s) → Sensible b d → Follows w l 0 fuel nothing (Given w l) (DesignatorIs w l own b) d low
         → PartIs t (select p calls runs s d) (lower_select p lay mine s low)
-    select_is (Index o e x) own b t d low is parts ok lends sensible one =
+    select_is (Index o e x) own b t d low is parts lends sensible one =
         let has = provided_is p (WellFormed.array_of p e o b) (provided (gives_number (WellFormed.form p l.proc x)) (Some (Of e (WellFormed.is_writable b)))) t is in
         let c = provided_is p (gives_number (WellFormed.form p l.proc x)) (Some (Of e (WellFormed.is_writable b))) t has.1 in
         let g = number_form (WellFormed.form p l.proc x) c.0 in
         subst (λ t. PartIs t (select p calls runs (Index o e x) d) (lower_select p lay mine (Index o e x) low)) (some_same (Of e (WellFormed.is_writable b)) t c.1)
-        (tt, of_variable e (WellFormed.is_writable b) (follows_element_place w l o (cells p.types e) (value p calls runs x) (expr p lay mine x).value none (Of e (WellFormed.is_writable b)) d steady (steady_designator w l own b) (λ a. refl) (array_is own b o e has.0) one (shows_of x g.0 g.1 ok lends).value))
-    select_is (Field r f) own (Of k may) t d low is parts ok lends sensible one =
+        (tt, of_variable e (WellFormed.is_writable b) (follows_element_place w l o (cells p.types e) (value p calls runs x) (expr p lay mine x).value none (Of e (WellFormed.is_writable b)) d steady (steady_designator w l own b) (λ a. refl) (array_is own b o e has.0) one (shows_of x g.0 g.1 lends).value))
+    select_is (Field r f) own (Of k may) t d low is parts lends sensible one =
         let a = provided_is p (WellFormed.has_record p r (Of k may)) (with_some (slice_get (types_of (record_of p.types r).fields) f) (λ k. Some (Of k may))) t is in
         let c = with_is p good (slice_get (types_of (record_of p.types r).fields) f) (λ k. Some (Of k may)) t a.1 in
         let s = holds_is p good (λ s. extends p.types s r) (WellFormed.record_by (kind_of p.types k)) a.0 in
         let kind = record_is p good (kind_of p.types k) s.0 s.1 in
         subst (λ t. PartIs t (select p calls runs (Field r f) d) (lower_select p lay mine (Field r f) low)) (some_same (Of c.0 may) t c.2)
         (tt, of_variable c.0 may (follows_field_place w l own none (Of k may) (Of c.0 may) d (field_place p.types r f) (cells p.types c.0) steady (λ h second j lt. field_cells k s.0 r f c.0 j kind s.2 c.1 lt) (ap (λ z. not (is_structured z)) kind) (λ a. refl) one))
-    select_is (Field r f) own (Dynamic b) t d low is parts ok lends sensible one =
+    select_is (Field r f) own (Dynamic b) t d low is parts lends sensible one =
         let a = provided_is p (WellFormed.has_record p r (Dynamic b)) (with_some (slice_get (types_of (record_of p.types r).fields) f) (λ k. Some (Of k true))) t is in
         let c = with_is p good (slice_get (types_of (record_of p.types r).fields) f) (λ k. Some (Of k true)) t a.1 in
         subst (λ t. PartIs t (select p calls runs (Field r f) d) (lower_select p lay mine (Field r f) low)) (some_same (Of c.0 true) t c.2)
         (tt, of_variable c.0 true (follows_field_place w l own none (Dynamic b) (Of c.0 true) d (field_place p.types r f) (cells p.types c.0) steady (λ h second j lt. dynamic_cells b r f c.0 h second a.0 c.1 j lt) refl (λ a. refl) one))
-    select_is (Field r f) own (OpenOf e may) t d low is parts ok lends sensible one = none_some t is
-    select_is (Field r f) own (Cells g may) t d low is parts ok lends sensible one = none_some t is
-    select_is (Field r f) own (Characters m) t d low is parts ok lends sensible one = none_some t is
-    select_is (Dereference rs) own b t d low is parts ok lends sensible one =
+    select_is (Field r f) own (OpenOf e may) t d low is parts lends sensible one = none_some t is
+    select_is (Field r f) own (Cells g may) t d low is parts lends sensible one = none_some t is
+    select_is (Field r f) own (Characters m) t d low is parts lends sensible one = none_some t is
+    select_is (Dereference rs) own b t d low is parts lends sensible one =
         let a = with_is p good (WellFormed.guarded_form p rs (WellFormed.scalar_in p b)) pointed t is in
         let r = pointed_is p good a.0 t a.2 in
         let c = guarded_some rs (WellFormed.scalar_in p b) a.0 a.1 in
@@ -802,40 +786,37 @@ module _ (w : Whole) (l : Level) (right : Right w) (apart : Apart l) (vars : Var
           of_sensible (Dynamic r.0) sensible (follows_object w l none r.0 steady (follows_guards rs (WellFormed.scalar_in p b) a.0 (load d) (lower_load (home_of low false)) a.1
               (follows_load w l own d steady (follows_home w l own b d steady (λ h v m g s known. scalar_row b c.0 c.1 h) (only_named w l b one))))),
         )) whole
-    select_is (Narrow r) own (Dynamic b) t d low is parts ok lends sensible one =
+    select_is (Narrow r) own (Dynamic b) t d low is parts lends sensible one =
         let a = provided_is p (is_record_type p.types r) (Some (Dynamic r)) t is in
         let there = lt_of p r (length p.types.records) a.0 in
         subst (λ t. PartIs t (select p calls runs (Narrow r) d) (lower_select p lay mine (Narrow r) low)) (some_same (Dynamic r) t a.1)
         (there, follows_narrowed w l right vars own none b r (descriptor p lay mine r) d parts there (vars.descriptor r) steady one)
-    select_is (Narrow r) own (Of k may) t d low is parts ok lends sensible one = none_some t (provided_is p (is_record_type p.types r) None t is).1
-    select_is (Narrow r) own (OpenOf e may) t d low is parts ok lends sensible one = none_some t (provided_is p (is_record_type p.types r) None t is).1
-    select_is (Narrow r) own (Cells f may) t d low is parts ok lends sensible one = none_some t (provided_is p (is_record_type p.types r) None t is).1
-    select_is (Narrow r) own (Characters m) t d low is parts ok lends sensible one = none_some t (provided_is p (is_record_type p.types r) None t is).1
+    select_is (Narrow r) own (Of k may) t d low is parts lends sensible one = none_some t (provided_is p (is_record_type p.types r) None t is).1
+    select_is (Narrow r) own (OpenOf e may) t d low is parts lends sensible one = none_some t (provided_is p (is_record_type p.types r) None t is).1
+    select_is (Narrow r) own (Cells f may) t d low is parts lends sensible one = none_some t (provided_is p (is_record_type p.types r) None t is).1
+    select_is (Narrow r) own (Characters m) t d low is parts lends sensible one = none_some t (provided_is p (is_record_type p.types r) None t is).1
 
-    pub shows_of : (e : Expr) (k : Form) → WellFormed.form p l.proc e ≡ Some k → expr_covered e ≡ true → Lends (lent e) → Shows (value p calls runs e) (expr p lay mine e)
-    shows_of (Literal n) k is ok lends = shown (follows_literal w l n (literal_few n k is))
-    shows_of (Routine g) k is ok lends = shown (follows_routine w l g (right.callable g (provided_is p (WellFormed.callable p g) (Some (Exactly g)) k is).0))
-    shows_of (Load d) k is ok lends = shown (variable_value d k is (λ n e. named_is d n e ok lends))
-    shows_of (Guard d rs) k is ok lends =
+    pub shows_of : (e : Expr) (k : Form) → WellFormed.form p l.proc e ≡ Some k → Lends (lent e) → Shows (value p calls runs e) (expr p lay mine e)
+    shows_of (Literal n) k is lends = shown (follows_literal w l n (literal_few n k is))
+    shows_of (Routine g) k is lends = shown (follows_routine w l g (right.callable g (provided_is p (WellFormed.callable p g) (Some (Exactly g)) k is).0))
+    shows_of (Load d) k is lends = shown (variable_value d k is (λ n e. named_is d n e lends))
+    shows_of (Guard d rs) k is lends =
         let a = guarded_some rs (with_some (WellFormed.named p l.proc d) (WellFormed.scalar_in p)) k is in
-        shown (follows_guards rs (with_some (WellFormed.named p l.proc d) (WellFormed.scalar_in p)) k (load (designated p calls runs d)) (lower_load (home_of (named p lay mine d) (small p lay mine d))) is (variable_value d a.0 a.1 (λ n e. named_is d n e ok lends)))
-    shows_of (Unary' op _ x) k is ok lends =
+        shown (follows_guards rs (with_some (WellFormed.named p l.proc d) (WellFormed.scalar_in p)) k (load (designated p calls runs d)) (lower_load (home_of (named p lay mine d) (small p lay mine d))) is (variable_value d a.0 a.1 (λ n e. named_is d n e lends)))
+    shows_of (Unary' op _ x) k is lends =
         let z = provided_is p (gives_number (WellFormed.form p l.proc x)) (Some (WellFormed.unary_form op)) k is in
         let y = number_form (WellFormed.form p l.proc x) z.0 in
-        one_shows op (value p calls runs x) (expr p lay mine x) (shows_of x y.0 y.1 ok lends)
-    shows_of (Chain' _ x _ links) k is ok lends =
-        let parts = and_of (expr_covered x) (links_covered links) ok in
+        one_shows op (value p calls runs x) (expr p lay mine x) (shows_of x y.0 y.1 lends)
+    shows_of (Chain' _ x _ links) k is lends =
         let z = linked_some links (WellFormed.form p l.proc x) k is in
-        linked_shows links (WellFormed.form p l.proc x) (value p calls runs x) (expr p lay mine x) k is parts.1 (right_lends (lent x) (lent_links links) lends) (shows_of x z.0 z.1 parts.0 (left_lends (lent x) (lent_links links) lends)) (λ tags older. t_value p good calls sound runs l.forms tags frame (taken_at tags older) x)
-    shows_of (Compare' r _ x _ y) k is ok lends =
-        let parts = and_of (expr_covered x) (expr_covered y) ok in
+        linked_shows links (WellFormed.form p l.proc x) (value p calls runs x) (expr p lay mine x) k is (right_lends (lent x) (lent_links links) lends) (shows_of x z.0 z.1 (left_lends (lent x) (lent_links links) lends)) (λ tags older. t_value p good calls sound runs l.forms tags frame (taken_at tags older) x)
+    shows_of (Compare' r _ x _ y) k is lends =
         let a = with_is p good (WellFormed.form p l.proc x) (λ a. with_some (WellFormed.form p l.proc y) (λ b. provided (WellFormed.comparable r a b) (Some Truth))) k is in
         let b = with_is p good (WellFormed.form p l.proc y) (λ b. provided (WellFormed.comparable r a.0 b) (Some Truth)) k a.2 in
-        let one = shows_of x a.0 a.1 parts.0 (left_lends (lent x) (lent y) lends) in
-        let two = shows_of y b.0 b.1 parts.1 (right_lends (lent x) (lent y) lends) in
+        let one = shows_of x a.0 a.1 (left_lends (lent x) (lent y) lends) in
+        let two = shows_of y b.0 b.1 (right_lends (lent x) (lent y) lends) in
         record { value = follows_compared w l right r steady one.value two.value; test = forks_branch w l right r steady one.value two.value }
-    shows_of (CompareTexts' r _ d _ e) k is ok lends =
-        let parts = and_of (designator_covered d) (designator_covered e) ok in
+    shows_of (CompareTexts' r _ d _ e) k is lends =
         let a = provided_is p (holds_of (WellFormed.is_text p (length_of_kind (kind_in d))) (WellFormed.named p l.proc d)) (provided (holds_of (WellFormed.is_text p (length_of_kind (kind_in e))) (WellFormed.named p l.proc e)) (Some Truth)) k is in
         let b = provided_is p (holds_of (WellFormed.is_text p (length_of_kind (kind_in e))) (WellFormed.named p l.proc e)) (Some Truth) k a.1 in
         let t = holds_is p good (WellFormed.is_text p (length_of_kind (kind_in d))) (WellFormed.named p l.proc d) a.0 in
@@ -844,110 +825,105 @@ module _ (w : Whole) (l : Level) (right : Right w) (apart : Apart l) (vars : Var
         let y = holds_is p good (WellFormed.is_letter p) (WellFormed.elements_in p u.0 (length_of_kind (kind_in e))) u.2 in
         shown (follows_texts_compared w l right apart good r t.0 u.0 (length_of_kind (kind_in d)) (length_of_kind (kind_in e)) x.0 y.0 (designated p calls runs d) (designated p calls runs e) x.1 x.2 y.1 y.2 steady
         (letters_span (whole_of d) t.0 (length_of_kind (kind_in d)) x.0 x.1 x.2) (letters_span (whole_of e) u.0 (length_of_kind (kind_in e)) y.0 y.1 y.2)
-        (sound_named d t.0 t.1 (named_is d t.0 t.1 parts.0 (at_of_whole d (left_lends (lent_whole d) (lent_whole e) lends)))) (sound_named e u.0 u.1 (named_is e u.0 u.1 parts.1 (at_of_whole e (right_lends (lent_whole d) (lent_whole e) lends)))))
-    shows_of (In' _ x _ s) k is ok lends =
-        let parts = and_of (expr_covered x) (expr_covered s) ok in
+        (sound_named d t.0 t.1 (named_is d t.0 t.1 (at_of_whole d (left_lends (lent_whole d) (lent_whole e) lends)))) (sound_named e u.0 u.1 (named_is e u.0 u.1 (at_of_whole e (right_lends (lent_whole d) (lent_whole e) lends)))))
+    shows_of (In' _ x _ s) k is lends =
         let a = provided_is p (gives_number (WellFormed.form p l.proc x)) (provided (gives_number (WellFormed.form p l.proc s)) (Some Truth)) k is in
         let b = provided_is p (gives_number (WellFormed.form p l.proc s)) (Some Truth) k a.1 in
         let y = number_form (WellFormed.form p l.proc x) a.0 in
         let z = number_form (WellFormed.form p l.proc s) b.0 in
-        shown (follows_contained w l steady (shows_of x y.0 y.1 parts.0 (left_lends (lent x) (lent s) lends)).value (shows_of s z.0 z.1 parts.1 (right_lends (lent x) (lent s) lends)).value)
-    shows_of (IsPointer' _ x r) k is ok lends =
+        shown (follows_contained w l steady (shows_of x y.0 y.1 (left_lends (lent x) (lent s) lends)).value (shows_of s z.0 z.1 (right_lends (lent x) (lent s) lends)).value)
+    shows_of (IsPointer' _ x r) k is lends =
         let a = provided_is p (is_record_type p.types r) (provided (WellFormed.gives_pointer (WellFormed.form p l.proc x)) (Some Truth)) k is in
         let b = provided_is p (WellFormed.gives_pointer (WellFormed.form p l.proc x)) (Some Truth) k a.1 in
         let y = pointer_form (WellFormed.form p l.proc x) b.0 in
         let there = lt_of p r (length p.types.records) a.0 in
         shown (follows_type_test w l right vars (PointerType w l right vars) is_pointer r (descriptor p lay mine r) steady (grows_is_pointer w l right vars) (λ t i. follows_is_pointer w l right vars t i r (descriptor p lay mine r) there (vars.descriptor r) steady)
-        (follows_pointer_type w l right vars steady (shows_of x y.0 y.1 ok lends).value))
-    shows_of (IsParameter d r) k is ok lends =
+        (follows_pointer_type w l right vars steady (shows_of x y.0 y.1 lends).value))
+    shows_of (IsParameter d r) k is lends =
         let a = provided_is p (is_record_type p.types r) (provided (holds_of (WellFormed.is_dynamic p) (WellFormed.named p l.proc d)) (Some Truth)) k is in
         let b = provided_is p (holds_of (WellFormed.is_dynamic p) (WellFormed.named p l.proc d)) (Some Truth) k a.1 in
         let n = dynamic_named d b.0 in
         let there = lt_of p r (length p.types.records) a.0 in
         shown (follows_type_test w l right vars (ParameterType w l right vars) is_tag r (descriptor p lay mine r) steady (grows_is_tag w l right vars) (λ t i. follows_is_tag w l right vars t i r (descriptor p lay mine r) there (vars.descriptor r) steady)
-        (follows_parameter_type w l right vars (whole_of d) n.0 (designated p calls runs d) (legal_named d (Dynamic n.0) ok n.1) steady (named_is d (Dynamic n.0) n.1 ok (at_of_whole d lends))))
-    shows_of (Byte' _ x) k is ok lends =
+        (follows_parameter_type w l right vars (whole_of d) n.0 (designated p calls runs d) (legal_named d (Dynamic n.0) n.1) steady (named_is d (Dynamic n.0) n.1 (at_of_whole d lends))))
+    shows_of (Byte' _ x) k is lends =
         let a = provided_is p (gives_number (WellFormed.form p l.proc x)) (Some Small) k is in
         let y = number_form (WellFormed.form p l.proc x) a.0 in
-        shown (follows_byte w l steady (shows_of x y.0 y.1 ok lends).value)
-    shows_of (Length d) k is ok lends = length_shows (length_of_kind (kind_in d)) d k is (λ t e. named_is d t e ok (at_of_whole d lends))
-    shows_of (Call' _ c) k is ok lends = shown (call_value c k is ok lends)
+        shown (follows_byte w l steady (shows_of x y.0 y.1 lends).value)
+    shows_of (Length d) k is lends = length_shows (length_of_kind (kind_in d)) d k is (λ t e. named_is d t e (at_of_whole d lends))
+    shows_of (Call' _ c) k is lends = shown (call_value c k is lends)
 
-    linked_shows : {m : _} (row : Row_of-Link m) (o : Option Form) (x : Act Cell) (low : Lowers) (k : Form) → WellFormed.linked_form p l.proc row o ≡ Some k → links_covered row ≡ true → Lends (lent_links row) → Shows x low → Meant o x → Shows (linked p calls runs row x) (lower_linked p lay mine row low)
-    linked_shows end_of-Link o x low k is ok lends q means = q
-    linked_shows (more_of-Link a rest) o x low k is ok lends q means =
-        let parts = and_of (link_covered a) (links_covered rest) ok in
+    linked_shows : {m : _} (row : Row_of-Link m) (o : Option Form) (x : Act Cell) (low : Lowers) (k : Form) → WellFormed.linked_form p l.proc row o ≡ Some k → Lends (lent_links row) → Shows x low → Meant o x → Shows (linked p calls runs row x) (lower_linked p lay mine row low)
+    linked_shows end_of-Link o x low k is lends q means = q
+    linked_shows (more_of-Link a rest) o x low k is lends q means =
         let z = linked_some rest (WellFormed.link_form p l.proc a o) k is in
-        linked_shows rest (WellFormed.link_form p l.proc a o) (link p calls runs a x) (lower_link p lay mine a low) k is parts.1 (right_lends (lent_link a) (lent_links rest) lends) (link_shows a o x low z.0 z.1 parts.0 (left_lends (lent_link a) (lent_links rest) lends) q means) (means_link a o x means)
+        linked_shows rest (WellFormed.link_form p l.proc a o) (link p calls runs a x) (lower_link p lay mine a low) k is (right_lends (lent_link a) (lent_links rest) lends) (link_shows a o x low z.0 z.1 (left_lends (lent_link a) (lent_links rest) lends) q means) (means_link a o x means)
 
-    link_shows : (a : Link) (o : Option Form) (x : Act Cell) (low : Lowers) (k : Form) → WellFormed.link_form p l.proc a o ≡ Some k → link_covered a ≡ true → Lends (lent_link a) → Shows x low → Meant o x → Shows (link p calls runs a x) (lower_link p lay mine a low)
-    link_shows (Operate op y) o x low k is ok lends q means =
+    link_shows : (a : Link) (o : Option Form) (x : Act Cell) (low : Lowers) (k : Form) → WellFormed.link_form p l.proc a o ≡ Some k → Lends (lent_link a) → Shows x low → Meant o x → Shows (link p calls runs a x) (lower_link p lay mine a low)
+    link_shows (Operate op y) o x low k is lends q means =
         let a = provided_is p (gives_number o) (provided (gives_number (WellFormed.form p l.proc y)) (Some (WellFormed.binary_form op))) k is in
         let b = provided_is p (gives_number (WellFormed.form p l.proc y)) (Some (WellFormed.binary_form op)) k a.1 in
         let z = number_form (WellFormed.form p l.proc y) b.0 in
-        shown (follows_binary w l op steady q.value (shows_of y z.0 z.1 ok lends).value)
-    link_shows (And y) o x low k is ok lends q means =
+        shown (follows_binary w l op steady q.value (shows_of y z.0 z.1 lends).value)
+    link_shows (And y) o x low k is lends q means =
         let a = provided_is p (WellFormed.gives_truth o) (provided (WellFormed.gives_truth (WellFormed.form p l.proc y)) (Some Truth)) k is in
         let b = provided_is p (WellFormed.gives_truth (WellFormed.form p l.proc y)) (Some Truth) k a.1 in
         let z = truth_form (WellFormed.form p l.proc y) b.0 in
-        let two = shows_of y z.0 z.1 ok lends in
+        let two = shows_of y z.0 z.1 lends in
         let forks = forks_and w l x (value p calls runs y) low.test (expr p lay mine y).test steady q.test two.test in
         record { value = follows_flag w l (both x (value p calls runs y)) (fork_and low.test (expr p lay mine y).test) forks (λ tags older. (means_link (And y) o x means tags older).sound Truth (is ∙ ap (λ f. Some f) (sym (some_same Truth k b.1)))); test = forks }
-    link_shows (Or y) o x low k is ok lends q means =
+    link_shows (Or y) o x low k is lends q means =
         let a = provided_is p (WellFormed.gives_truth o) (provided (WellFormed.gives_truth (WellFormed.form p l.proc y)) (Some Truth)) k is in
         let b = provided_is p (WellFormed.gives_truth (WellFormed.form p l.proc y)) (Some Truth) k a.1 in
         let z = truth_form (WellFormed.form p l.proc y) b.0 in
-        let two = shows_of y z.0 z.1 ok lends in
+        let two = shows_of y z.0 z.1 lends in
         let forks = forks_or w l x (value p calls runs y) low.test (expr p lay mine y).test steady q.test two.test in
         record { value = follows_flag w l (or_else x (value p calls runs y)) (fork_or low.test (expr p lay mine y).test) forks (λ tags older. (means_link (Or y) o x means tags older).sound Truth (is ∙ ap (λ f. Some f) (sym (some_same Truth k b.1)))); test = forks }
-    link_shows (Element y) o x low k is ok lends q means =
+    link_shows (Element y) o x low k is lends q means =
         let a = provided_is p (gives_number o) (provided (gives_number (WellFormed.form p l.proc y)) (Some Number)) k is in
         let b = provided_is p (gives_number (WellFormed.form p l.proc y)) (Some Number) k a.1 in
         let z = number_form (WellFormed.form p l.proc y) b.0 in
-        shown (follows_element w l steady q.value (shows_of y z.0 z.1 ok lends).value)
-    link_shows (Elements y z) o x low k is ok lends q means =
-        let parts = and_of (expr_covered y) (expr_covered z) ok in
+        shown (follows_element w l steady q.value (shows_of y z.0 z.1 lends).value)
+    link_shows (Elements y z) o x low k is lends q means =
         let a = provided_is p (gives_number o) (provided (gives_number (WellFormed.form p l.proc y)) (provided (gives_number (WellFormed.form p l.proc z)) (Some Number))) k is in
         let b = provided_is p (gives_number (WellFormed.form p l.proc y)) (provided (gives_number (WellFormed.form p l.proc z)) (Some Number)) k a.1 in
         let c = provided_is p (gives_number (WellFormed.form p l.proc z)) (Some Number) k b.1 in
         let u = number_form (WellFormed.form p l.proc y) b.0 in
         let v = number_form (WellFormed.form p l.proc z) c.0 in
-        shown (follows_range w l steady q.value (shows_of y u.0 u.1 parts.0 (left_lends (lent y) (lent z) lends)).value (shows_of z v.0 v.1 parts.1 (right_lends (lent y) (lent z) lends)).value)
+        shown (follows_range w l steady q.value (shows_of y u.0 u.1 (left_lends (lent y) (lent z) lends)).value (shows_of z v.0 v.1 (right_lends (lent y) (lent z) lends)).value)
 
     -- the value of a call
-    call_value : (c : Call) (k : Form) → provided (WellFormed.call_suits p l.proc c) (WellFormed.call_form p l.proc c) ≡ Some k → call_covered c ≡ true → Lends (lent_call c) → Follows w l 0 fuel nothing (Given w l) (CellIs w l) (result_of (called p calls runs c)) (with_result (lower_called p lay mine c))
-    call_value (Direct' g m args) k is ok lends =
+    call_value : (c : Call) (k : Form) → provided (WellFormed.call_suits p l.proc c) (WellFormed.call_form p l.proc c) ≡ Some k → Lends (lent_call c) → Follows w l 0 fuel nothing (Given w l) (CellIs w l) (result_of (called p calls runs c)) (with_result (lower_called p lay mine c))
+    call_value (Direct' g m args) k is lends =
         let a = provided_is p (WellFormed.call_suits p l.proc (Direct' g m args)) (WellFormed.call_form p l.proc (Direct' g m args)) k is in
         let y = and_of (WellFormed.callable p g) (WellFormed.all_suit p l.proc args (procedure_of p g).formals) a.0 in
         follows_result_of w l right apart stacked good calls calling steady
         (follows_less w l (λ r i n f s h. h.0) (follows_sound w l {P = Answers p good (WellFormed.form_of p (procedure_of p g).result)} (λ tags older. t_call p good calls sound runs l.forms tags frame (taken_at tags older) (Direct' g m args) a.0)
-        (follows_called w l right apart stacked good calls calling g steady y.0 (λ v. (k, a.1)) (all_given (procedure_of p g).formals args y.1 (words_are (procedure_of p g).formals args y.1 ok lends)))))
-    call_value (Indirect' d m args) k is ok lends =
+        (follows_called w l right apart stacked good calls calling g steady y.0 (λ v. (k, a.1)) (all_given (procedure_of p g).formals args y.1 (words_are (procedure_of p g).formals args y.1 lends)))))
+    call_value (Indirect' d m args) k is lends =
         let a = provided_is p (WellFormed.call_suits p l.proc (Indirect' d m args)) (WellFormed.call_form p l.proc (Indirect' d m args)) k is in
         let t = called_through d args a.0 in
-        let y = and_of (designator_covered d) (arguments_covered args) ok in
         follows_result_of w l right apart stacked good calls calling steady
         (follows_less w l (λ r i n f s h. h.0) (follows_sound w l {P = Answers p good (WellFormed.call_form p l.proc (Indirect' d m args))} (λ tags older. t_call p good calls sound runs l.forms tags frame (taken_at tags older) (Indirect' d m args) a.0)
-        (follows_called_value w l right apart stacked good calls calling t.0 steady (k, sym (ap (λ o. with_some o (WellFormed.result_through p)) t.1) ∙ a.1) (code_value d t.0 t.1 (λ n e. named_is d n e y.0 (left_lends (lent_at d) (lent_in args) lends)))
-        (all_given (signature_of p.types t.0).formals args t.2 (words_are (signature_of p.types t.0).formals args t.2 y.1 (right_lends (lent_at d) (lent_in args) lends))))))
+        (follows_called_value w l right apart stacked good calls calling t.0 steady (k, sym (ap (λ o. with_some o (WellFormed.result_through p)) t.1) ∙ a.1) (code_value d t.0 t.1 (λ n e. named_is d n e (left_lends (lent_at d) (lent_in args) lends)))
+        (all_given (signature_of p.types t.0).formals args t.2 (words_are (signature_of p.types t.0).formals args t.2 (right_lends (lent_at d) (lent_in args) lends))))))
 
-    words_are : {m : _} (xs : List Formal) (row : Row_of-Argument m) → WellFormed.all_suit p l.proc row xs ≡ true → arguments_covered row ≡ true → Lends (lent_in row) → Follows w l 0 fuel nothing (Given w l) (WordsAre w l xs) (arguments p calls runs row) (lower_arguments p lay mine row)
-    words_are [] end_of-Argument suits ok lends = follows_no_words w l
-    words_are (x ∷ xs) end_of-Argument suits ok lends = no suits
-    words_are [] (more_of-Argument a rest) suits ok lends = no suits
-    words_are (x ∷ xs) (more_of-Argument a rest) suits ok lends =
+    words_are : {m : _} (xs : List Formal) (row : Row_of-Argument m) → WellFormed.all_suit p l.proc row xs ≡ true → Lends (lent_in row) → Follows w l 0 fuel nothing (Given w l) (WordsAre w l xs) (arguments p calls runs row) (lower_arguments p lay mine row)
+    words_are [] end_of-Argument suits lends = follows_no_words w l
+    words_are (x ∷ xs) end_of-Argument suits lends = no suits
+    words_are [] (more_of-Argument a rest) suits lends = no suits
+    words_are (x ∷ xs) (more_of-Argument a rest) suits lends =
         let y = and_of (WellFormed.argument_suits p l.proc a x) (WellFormed.all_suit p l.proc rest xs) suits in
-        let z = and_of (argument_covered a) (arguments_covered rest) ok in
-        follows_words w l x xs steady (word_is a x y.0 z.0 (left_lends (lent_as a) (lent_in rest) lends)) (words_are xs rest y.1 z.1 (right_lends (lent_as a) (lent_in rest) lends))
+        follows_words w l x xs steady (word_is a x y.0 (left_lends (lent_as a) (lent_in rest) lends)) (words_are xs rest y.1 (right_lends (lent_as a) (lent_in rest) lends))
 
-    word_is : (a : Argument) (x : Formal) → WellFormed.argument_suits p l.proc a x ≡ true → argument_covered a ≡ true → Lends (lent_as a) → Follows w l 0 fuel nothing (Given w l) (OneWord w l x.mode x.type_number) (argument p calls runs a) (lower_argument p lay mine a)
-    word_is (ByValue e) x suits ok lends = value_word x.mode x.type_number e suits (λ f is. (shows_of e f is ok lends).value)
-    word_is (ByPlace d) x suits ok lends = place_word x.mode x.type_number x.variable d suits lends (λ n is. named_is d n is ok (at_of_whole d lends))
-    word_is (ByRecord d) x suits ok lends = record_word x.mode x.type_number (record_of_kind (kind_in d)) d suits lends (λ n is. named_is d n is ok (at_of_whole d lends))
-    word_is (ByOpen d) x suits ok lends = open_word x.mode x.type_number x.variable d (length_of_kind (kind_in d)) suits (λ n is. named_is d n is ok (at_of_whole d lends))
+    word_is : (a : Argument) (x : Formal) → WellFormed.argument_suits p l.proc a x ≡ true → Lends (lent_as a) → Follows w l 0 fuel nothing (Given w l) (OneWord w l x.mode x.type_number) (argument p calls runs a) (lower_argument p lay mine a)
+    word_is (ByValue e) x suits lends = value_word x.mode x.type_number e suits (λ f is. (shows_of e f is lends).value)
+    word_is (ByPlace d) x suits lends = place_word x.mode x.type_number x.variable d suits lends (λ n is. named_is d n is (at_of_whole d lends))
+    word_is (ByRecord d) x suits lends = record_word x.mode x.type_number (record_of_kind (kind_in d)) d suits lends (λ n is. named_is d n is (at_of_whole d lends))
+    word_is (ByOpen d) x suits lends = open_word x.mode x.type_number x.variable d (length_of_kind (kind_in d)) suits (λ n is. named_is d n is (at_of_whole d lends))
 
-  pub home_is : (d : Designator) (n : Thing) (f : Form) → WellFormed.named p l.proc d ≡ Some n → WellFormed.scalar_in p n ≡ Some f → designator_covered d ≡ true → Lends (lent_at d) → Follows w l 0 fuel nothing (Given w l) (HomeIs w l (whole_of d)) (place (designated p calls runs d)) (home p lay mine d)
-  home_is d n f is scalar ok lends = follows_home w l (whole_of d) n (designated p calls runs d) steady (λ h v m g s k. scalar_row n f scalar h) (only_named w l n (named_is d n is ok lends))
+  pub home_is : (d : Designator) (n : Thing) (f : Form) → WellFormed.named p l.proc d ≡ Some n → WellFormed.scalar_in p n ≡ Some f → Lends (lent_at d) → Follows w l 0 fuel nothing (Given w l) (HomeIs w l (whole_of d)) (place (designated p calls runs d)) (home p lay mine d)
+  home_is d n f is scalar lends = follows_home w l (whole_of d) n (designated p calls runs d) steady (λ h v m g s k. scalar_row n f scalar h) (only_named w l n (named_is d n is lends))
 
   ---- Statements
 
@@ -955,22 +931,22 @@ module _ (w : Whole) (l : Level) (right : Right w) (apart : Apart l) (vars : Var
   checked_is : (x : Checked) (k : Form) → WellFormed.checked_form p l.proc x ≡ Some k → WellFormed.form p l.proc x.form ≡ Some k
   checked_is x k is = (provided_is p (WellFormed.kind_suits p x.kind (WellFormed.form p l.proc x.form)) (WellFormed.form p l.proc x.form) k is).1
 
-  checked_shows : (x : Checked) (k : Form) → WellFormed.checked_form p l.proc x ≡ Some k → checked_covered x ≡ true → Lends (lent x.form) → Shows (value p calls runs x.form) (expr p lay mine x.form)
-  checked_shows x k is ok lends = shows_of x.form k (checked_is x k is) ok lends
+  checked_shows : (x : Checked) (k : Form) → WellFormed.checked_form p l.proc x ≡ Some k → Lends (lent x.form) → Shows (value p calls runs x.form) (expr p lay mine x.form)
+  checked_shows x k is lends = shows_of x.form k (checked_is x k is) lends
 
   -- values and homes where turns are paid for and variables may change
-  value_at : {mask : Mask} (x : Checked) (k : Form) → WellFormed.checked_form p l.proc x ≡ Some k → checked_covered x ≡ true → Lends (lent x.form) → Follows w l 1 fuel mask (Given w l) (CellIs w l) (value p calls runs x.form) (expr p lay mine x.form).value
-  value_at x k is ok lends = follows_mask w l {less = nothing} (omega arith) (λ y e. refl) (checked_shows x k is ok lends).value
+  value_at : {mask : Mask} (x : Checked) (k : Form) → WellFormed.checked_form p l.proc x ≡ Some k → Lends (lent x.form) → Follows w l 1 fuel mask (Given w l) (CellIs w l) (value p calls runs x.form) (expr p lay mine x.form).value
+  value_at x k is lends = follows_mask w l {less = nothing} (omega arith) (λ y e. refl) (checked_shows x k is lends).value
 
-  home_at : {mask : Mask} (d : Designator) (n : Thing) (f : Form) → WellFormed.named p l.proc d ≡ Some n → WellFormed.scalar_in p n ≡ Some f → designator_covered d ≡ true → Lends (lent_at d) → Follows w l 1 fuel mask (Given w l) (HomeIs w l (whole_of d)) (place (designated p calls runs d)) (home p lay mine d)
-  home_at d n f is scalar ok lends = follows_mask w l {less = nothing} (omega arith) (λ y e. refl) (home_is d n f is scalar ok lends)
+  home_at : {mask : Mask} (d : Designator) (n : Thing) (f : Form) → WellFormed.named p l.proc d ≡ Some n → WellFormed.scalar_in p n ≡ Some f → Lends (lent_at d) → Follows w l 1 fuel mask (Given w l) (HomeIs w l (whole_of d)) (place (designated p calls runs d)) (home p lay mine d)
+  home_at d n f is scalar lends = follows_mask w l {less = nothing} (omega arith) (λ y e. refl) (home_is d n f is scalar lends)
 
   -- the variables that may change
   abbrev Covers : Mask → Mask → Type 0
   Covers mask some = (x : ℕ) → registers p lay mine some x ≡ true → mask x ≡ true
 
-  not_covered : (mask some : Mask) → Covers mask some → (x : ℕ) → mask x ≡ false → registers p lay mine some x ≡ false
-  not_covered mask some c x out = by (registers p lay mine some x) refl
+  not_assigned : (mask some : Mask) → Covers mask some → (x : ℕ) → mask x ≡ false → registers p lay mine some x ≡ false
+  not_assigned mask some c x out = by (registers p lay mine some x) refl
     where
       differ : {b : Bool} → b ≡ true → b ≡ false → ⊥
       differ e f = cc
@@ -980,23 +956,29 @@ module _ (w : Whole) (l : Level) (right : Right w) (apart : Apart l) (vars : Var
       by true e = absurd (differ (c x e) out)
 
   -- a variable in a register that is assigned is in the mask
-  own_register : (d : Designator) (n : Thing) → WellFormed.named p l.proc d ≡ Some n → (x : ℕ) → whole_of d x ≡ true → l.in_register x ≡ true → registers p lay mine (whole_of d) x ≡ true
-  own_register (Variable (Local y) kind) n is x e reg =
-      let z = with_is p good (WellFormed.base_named p l.proc (Local y)) (WellFormed.of_kind p kind) n is in
-      let u = with_is p good (slice_get (locals w l) y) (λ k. Some (Of k true)) z.0 z.1 in
+  own_base : (b : Base) (n : Thing) → WellFormed.base_named p l.proc b ≡ Some n → (x : ℕ) → origin b x ≡ true → l.in_register x ≡ true → registers p lay mine (origin b) x ≡ true
+  own_base (Local y) n is x e reg =
+      let u = with_is p good (slice_get (locals w l) y) (λ k. Some (Of k true)) n is in
       by u.0 (subst (λ y. LocalIs w l y u.0) (eqb-true y x e) (vars.local y u.0 u.1))
     where
       differ : {b : Bool} → b ≡ true → b ≡ false → ⊥
       differ e f = cc
 
-      by : (k : ℕ) → LocalIs w l x k → registers p lay mine (whole_of (Variable (Local y) kind)) x ≡ true
+      by : (k : ℕ) → LocalIs w l x k → registers p lay mine (origin (Local y)) x ≡ true
       by k (inl h) = ap (λ s. in_register p lay mine s && (y == x)) h.0 ∙ e
       by k (inr h) = absurd (differ reg h.2)
-  own_register (Variable Done kind) n is x e reg = no e
-  own_register (Variable (Global m v) kind) n is x e reg = no e
-  own_register (Variable (Parameter k) kind) n is x e reg = no e
-  own_register (Variable (Text k) kind) n is x e reg = no e
-  own_register (Part' b kind _ selectors) n is x e reg = no e
+  own_base Done n is x e reg = no e
+  own_base (Global m v) n is x e reg = no e
+  own_base (Parameter k) n is x e reg = no e
+  own_base (Text k) n is x e reg = no e
+
+  own_part : {m : _} (row : Row_of-Selector m) (b : Base) (n : Thing) → WellFormed.selected_named p l.proc row (WellFormed.base_named p l.proc b) ≡ Some n → (x : ℕ) → unselected (origin b) row x ≡ true → l.in_register x ≡ true → registers p lay mine (unselected (origin b) row) x ≡ true
+  own_part end_of-Selector b n is x e reg = own_base b n is x e reg
+  own_part (more_of-Selector s rest) b n is x e reg = no e
+
+  own_register : (d : Designator) (n : Thing) → WellFormed.named p l.proc d ≡ Some n → (x : ℕ) → whole_of d x ≡ true → l.in_register x ≡ true → registers p lay mine (whole_of d) x ≡ true
+  own_register (Variable b kind) n is x e reg = let z = with_is p good (WellFormed.base_named p l.proc b) (WellFormed.of_kind p kind) n is in own_base b z.0 z.1 x e reg
+  own_register (Part' b kind _ row) n is x e reg = let z = with_is p good (WellFormed.selected_named p l.proc row (WellFormed.base_named p l.proc b)) (WellFormed.of_kind p kind) n is in own_part row b z.0 z.1 x e reg
 
   masked_by : (mask : Mask) (d : Designator) (n : Thing) → WellFormed.named p l.proc d ≡ Some n → Covers mask (whole_of d) → (x : ℕ) → whole_of d x ≡ true → l.in_register x ≡ true → mask x ≡ true
   masked_by mask d n is c x e reg = c x (own_register d n is x e reg)
@@ -1073,18 +1055,15 @@ module _ (w : Whole) (l : Level) (right : Right w) (apart : Apart l) (vars : Var
 
   ---- FOR
 
-  -- a whole variable has one address
-  fixed_at : (d : Designator) (n : Thing) (f : Form) → is_whole d ≡ true → WellFormed.named p l.proc d ≡ Some n → WellFormed.scalar_in p n ≡ Some f → (a : Address) × ((s : Moment Objects) → place (designated p calls runs d) s ≡ Gives a s)
-  fixed_at (Variable (Global m v) kind) n f h is scalar = (_, λ s. refl)
-  fixed_at (Variable (Local x) kind) n f h is scalar = (_, λ s. refl)
-  fixed_at (Variable Done kind) n f h is scalar = (_, λ s. refl)
-  fixed_at (Variable (Parameter k) kind) n f h is scalar =
-      let z = with_is p good (WellFormed.base_named p l.proc (Parameter k)) (WellFormed.of_kind p kind) n is in
-      let y = provided_is p (WellFormed.has_kind p kind z.0) (Some z.0) n z.2 in
-      let x = with_is p good (slice_get (procedure_of p l.proc).formals k) (λ x. WellFormed.parameter_by p x.mode x.type_number x.variable) z.0 z.1 in
+  fixed_base : (b : Base) (n : Thing) (f : Form) → WellFormed.base_named p l.proc b ≡ Some n → WellFormed.scalar_in p n ≡ Some f → (a : Address) × ((s : Moment Objects) → place (base_of p calls runs b) s ≡ Gives a s)
+  fixed_base (Global m v) n f is scalar = (_, λ s. refl)
+  fixed_base (Local x) n f is scalar = (_, λ s. refl)
+  fixed_base Done n f is scalar = (_, λ s. refl)
+  fixed_base (Parameter k) n f is scalar =
+      let x = with_is p good (slice_get (procedure_of p l.proc).formals k) (λ x. WellFormed.parameter_by p x.mode x.type_number x.variable) n is in
       let t = taken_of p good l.forms l.store.tags (procedure_of p l.proc).formals l.arguments taken k x.0 x.1 in
-      let names = parameter_names p good l.forms l.store.tags x.0.mode x.0.type_number x.0.variable t.0 z.0 x.2 t.2 in
-      let a = by z.0 t.0 (ap (WellFormed.scalar_in p) (some_same z.0 n y.1) ∙ scalar) names in
+      let names = parameter_names p good l.forms l.store.tags x.0.mode x.0.type_number x.0.variable t.0 n x.2 t.2 in
+      let a = by n t.0 scalar names in
       (a.0, λ s. ap (λ o. place (given o) s) t.1 ∙ ap (λ h. place (give h) s) a.1)
     where
       by : (m : Thing) (h : Handed) → WellFormed.scalar_in p m ≡ Some f → Names p l.forms l.store.tags m h → (a : Address) × (h ≡ Addressed a)
@@ -1094,16 +1073,24 @@ module _ (w : Whole) (l : Level) (right : Right w) (apart : Apart l) (vars : Var
       by (Dynamic r) h e names = none_some f e
       by (Characters m) h e names = none_some f e
       by _ _ e names = absurd names
-  fixed_at (Variable (Text k) kind) n f h is scalar =
-      let z = with_is p good (WellFormed.base_named p l.proc (Text k)) (WellFormed.of_kind p kind) n is in
-      let y = provided_is p (WellFormed.has_kind p kind z.0) (Some z.0) n z.2 in
-      let x = with_is p good (slice_get (texts_of p.procedures) (text_number p l.proc k)) (λ xs. Some (Characters (suc (length xs)))) z.0 z.1 in
-      none_some f (ap (WellFormed.scalar_in p) (some_same (Characters (suc (length x.0))) z.0 x.2 ∙ some_same z.0 n y.1) ∙ scalar)
-  fixed_at (Part' b kind _ selectors) n f h is scalar = no h
+  fixed_base (Text k) n f is scalar =
+      let x = with_is p good (slice_get (texts_of p.procedures) (text_number p l.proc k)) (λ xs. Some (Characters (suc (length xs)))) n is in
+      none_some f (ap (WellFormed.scalar_in p) (some_same (Characters (suc (length x.0))) n x.2) ∙ scalar)
 
-  whole_covered : (d : Designator) → is_whole d ≡ true → designator_covered d ≡ true
-  whole_covered (Variable b kind) h = refl
-  whole_covered (Part' b kind _ selectors) h = no h
+  fixed_part : {m : _} (row : Row_of-Selector m) (b : Base) (n : Thing) (f : Form) → WellFormed.no_selector row ≡ true → WellFormed.selected_named p l.proc row (WellFormed.base_named p l.proc b) ≡ Some n → WellFormed.scalar_in p n ≡ Some f → (a : Address) × ((s : Moment Objects) → place (selected p calls runs row (base_of p calls runs b)) s ≡ Gives a s)
+  fixed_part end_of-Selector b n f h is scalar = fixed_base b n f is scalar
+  fixed_part (more_of-Selector s rest) b n f h is scalar = no h
+
+  -- a whole variable has one address
+  fixed_at : (d : Designator) (n : Thing) (f : Form) → WellFormed.is_whole d ≡ true → WellFormed.named p l.proc d ≡ Some n → WellFormed.scalar_in p n ≡ Some f → (a : Address) × ((s : Moment Objects) → place (designated p calls runs d) s ≡ Gives a s)
+  fixed_at (Variable b kind) n f h is scalar =
+      let z = with_is p good (WellFormed.base_named p l.proc b) (WellFormed.of_kind p kind) n is in
+      let y = provided_is p (WellFormed.has_kind p kind z.0) (Some z.0) n z.2 in
+      fixed_base b z.0 f z.1 (ap (WellFormed.scalar_in p) (some_same z.0 n y.1) ∙ scalar)
+  fixed_at (Part' b kind _ row) n f h is scalar =
+      let z = with_is p good (WellFormed.selected_named p l.proc row (WellFormed.base_named p l.proc b)) (WellFormed.of_kind p kind) n is in
+      let y = provided_is p (WellFormed.has_kind p kind z.0) (Some z.0) n z.2 in
+      fixed_part row b z.0 f h z.1 (ap (WellFormed.scalar_in p) (some_same z.0 n y.1) ∙ scalar)
 
   limit_test : (b : Bool) (x y : ℕ) → compares (if b then 13 else 10) x y ≡ (if b then int_le (signed x) (signed y) else int_le (signed y) (signed x))
   limit_test true x y = refl
@@ -1127,30 +1114,29 @@ module _ (w : Whole) (l : Level) (right : Right w) (apart : Apart l) (vars : Var
       (s_bind p (sound_place d h tags older) (λ t1 a e1 at. s_bind p (s_number_at p good a Number refl at.0) (λ t2 v e2 j. s_put p a Number (Bits (add64 v n)) (form_older p l.forms t1 t2 e2 a.area a.object a.cell Number at.0) at.1 (add64_lt v n))))
 
   -- a call of a procedure without a result
-  call_only : (c : Call) → WellFormed.call_suits p l.proc c ≡ true → call_covered c ≡ true → Lends (lent_call c) → Follows w l 0 fuel nothing (Given w l) Always (called p calls runs c >>= λ _. give tt) (without_result (lower_called p lay mine c))
-  call_only (Direct' g m args) suits ok lends =
+  call_only : (c : Call) → WellFormed.call_suits p l.proc c ≡ true → Lends (lent_call c) → Follows w l 0 fuel nothing (Given w l) Always (called p calls runs c >>= λ _. give tt) (without_result (lower_called p lay mine c))
+  call_only (Direct' g m args) suits lends =
       let y = and_of (WellFormed.callable p g) (WellFormed.all_suit p l.proc args (procedure_of p g).formals) suits in
       follows_then w l {R = λ r (u : Unit {0}) n f s. Unit {0}} steady
       (follows_less w l (λ r u n f s h. tt) (follows_sound w l {P = Answers p good (WellFormed.form_of p (procedure_of p g).result)} (λ tags older. t_call p good calls sound runs l.forms tags frame (taken_at tags older) (Direct' g m args) suits)
-      (follows_called_only w l right apart stacked good calls calling g steady y.0 (all_given (procedure_of p g).formals args y.1 (words_are (procedure_of p g).formals args y.1 ok lends)))))
+      (follows_called_only w l right apart stacked good calls calling g steady y.0 (all_given (procedure_of p g).formals args y.1 (words_are (procedure_of p g).formals args y.1 lends)))))
       (λ r u n f s known h. inl (tt, refl, tt))
-  call_only (Indirect' d m args) suits ok lends =
+  call_only (Indirect' d m args) suits lends =
       let t = called_through d args suits in
-      let y = and_of (designator_covered d) (arguments_covered args) ok in
       follows_then w l {R = λ r (u : Unit {0}) n f s. Unit {0}} steady
       (follows_less w l (λ r u n f s h. tt) (follows_sound w l {P = Answers p good (WellFormed.call_form p l.proc (Indirect' d m args))} (λ tags older. t_call p good calls sound runs l.forms tags frame (taken_at tags older) (Indirect' d m args) suits)
-      (follows_called_value_only w l right apart stacked good calls calling t.0 steady (code_value d t.0 t.1 (λ n e. named_is d n e y.0 (left_lends (lent_at d) (lent_in args) lends)))
-      (all_given (signature_of p.types t.0).formals args t.2 (words_are (signature_of p.types t.0).formals args t.2 y.1 (right_lends (lent_at d) (lent_in args) lends))))))
+      (follows_called_value_only w l right apart stacked good calls calling t.0 steady (code_value d t.0 t.1 (λ n e. named_is d n e (left_lends (lent_at d) (lent_in args) lends)))
+      (all_given (signature_of p.types t.0).formals args t.2 (words_are (signature_of p.types t.0).formals args t.2 (right_lends (lent_at d) (lent_in args) lends))))))
       (λ r u n f s known h. inl (tt, refl, tt))
 
   -- what is behind RETURN
-  pub answer_is : (k : Option Form) (e : Option Checked) → WellFormed.answer_fine p l.proc k e ≡ true → answer_covered e ≡ true → Lends (lent_by_answer e) → Follows w l 0 fuel nothing (Given w l) (AnswerIs w l) (answer p calls runs e) (lower_answer p lay mine e)
-  answer_is None None fine ok lends = follows_give w l None None (λ n f s h. tt)
-  answer_is (Some k) (Some x) fine ok lends =
+  pub answer_is : (k : Option Form) (e : Option Checked) → WellFormed.answer_fine p l.proc k e ≡ true → Lends (lent_by_answer e) → Follows w l 0 fuel nothing (Given w l) (AnswerIs w l) (answer p calls runs e) (lower_answer p lay mine e)
+  answer_is None None fine lends = follows_give w l None None (λ n f s h. tt)
+  answer_is (Some k) (Some x) fine lends =
       let g = given_is p good (WellFormed.checked_form p l.proc x) (Some k) fine in
-      follows_bind w l steady (checked_shows x g.0 g.2 ok lends).value (λ v. grows_give w l (Some v)) (λ c v. follows_give w l (Some c) (Some v) (λ n f s h. h.1))
-  answer_is None (Some x) fine ok lends = no fine
-  answer_is (Some k) None fine ok lends = no fine
+      follows_bind w l steady (checked_shows x g.0 g.2 lends).value (λ v. grows_give w l (Some v)) (λ c v. follows_give w l (Some c) (Some v) (λ n f s h. h.1))
+  answer_is None (Some x) fine lends = no fine
+  answer_is (Some k) None fine lends = no fine
 
   ---- CASE
 
@@ -1242,113 +1228,100 @@ module _ (w : Whole) (l : Level) (right : Right w) (apart : Apart l) (vars : Var
           (jump_otherwise w l right vars fuel (Given w l) steady inner mine TypeIs is stays t i (type_tests p lay mine parts is i) (type_answers t parts) says (type_deeds parts) (type_bodies p lay mine parts) each (types_matched t parts))))
 
   mutual
-    pub stmt_is : (mask : Mask) (s : Stmt) → WellFormed.fine p l.proc s ≡ true → covered s ≡ true → Covers mask (assigned s) → Lends (lent_by s) → Follows w l 1 fuel mask (Given w l) Always (effect p calls runs fuel s) (deed p lay mine s)
-    stmt_is mask (Assign d x) fine ok c lends =
-        let parts = and_of (designator_covered d) (checked_covered x) ok in
+    pub stmt_is : (mask : Mask) (s : Stmt) → WellFormed.fine p l.proc s ≡ true → Covers mask (assigned s) → Lends (lent_by s) → Follows w l 1 fuel mask (Given w l) Always (effect p calls runs fuel s) (deed p lay mine s)
+    stmt_is mask (Assign d x) fine c lends =
         let z = holds_is p good (λ t. WellFormed.is_writable t && WellFormed.given_for p (WellFormed.checked_form p l.proc x) (WellFormed.scalar_in p t)) (WellFormed.named p l.proc d) fine in
         let y = and_of (WellFormed.is_writable z.0) (WellFormed.given_for p (WellFormed.checked_form p l.proc x) (WellFormed.scalar_in p z.0)) z.2 in
         let g = given_is p good (WellFormed.checked_form p l.proc x) (WellFormed.scalar_in p z.0) y.1 in
-        typed_by (Assign d x) fine (follows_assign w l right apart (whole_of d) (designated p calls runs d) steady (masked_by mask d z.0 z.1 c) (home_at d z.0 g.1 z.1 g.3 parts.0 (left_lends (lent_at d) (lent x.form) lends)) (value_at x g.0 g.2 parts.1 (right_lends (lent_at d) (lent x.form) lends)))
-    stmt_is mask (Increase d x) fine ok c lends =
-        let parts = and_of (designator_covered d) (checked_covered x) ok in
+        typed_by (Assign d x) fine (follows_assign w l right apart (whole_of d) (designated p calls runs d) steady (masked_by mask d z.0 z.1 c) (home_at d z.0 g.1 z.1 g.3 (left_lends (lent_at d) (lent x.form) lends)) (value_at x g.0 g.2 (right_lends (lent_at d) (lent x.form) lends)))
+    stmt_is mask (Increase d x) fine c lends =
         let y = and_of (gives_number (WellFormed.checked_form p l.proc x)) (holds_of (WellFormed.takes p (WellFormed.changes (is_byte (kind_in d)))) (WellFormed.named p l.proc d)) fine in
         let z = takes_is p good (WellFormed.changes (is_byte (kind_in d))) (WellFormed.named p l.proc d) y.1 in
         let g = number_form (WellFormed.checked_form p l.proc x) y.0 in
-        typed_by (Increase d x) fine (follows_number_change w l right apart (whole_of d) Add (designated p calls runs d) (is_byte (kind_in d)) tt steady (masked_by mask d z.0 z.2 c) (home_at d z.0 z.1 z.2 z.3 parts.0 (left_lends (lent_at d) (lent x.form) lends)) (value_at x g.0 g.1 parts.1 (right_lends (lent_at d) (lent x.form) lends)))
-    stmt_is mask (Decrease d x) fine ok c lends =
-        let parts = and_of (designator_covered d) (checked_covered x) ok in
+        typed_by (Increase d x) fine (follows_number_change w l right apart (whole_of d) Add (designated p calls runs d) (is_byte (kind_in d)) tt steady (masked_by mask d z.0 z.2 c) (home_at d z.0 z.1 z.2 z.3 (left_lends (lent_at d) (lent x.form) lends)) (value_at x g.0 g.1 (right_lends (lent_at d) (lent x.form) lends)))
+    stmt_is mask (Decrease d x) fine c lends =
         let y = and_of (gives_number (WellFormed.checked_form p l.proc x)) (holds_of (WellFormed.takes p (WellFormed.changes (is_byte (kind_in d)))) (WellFormed.named p l.proc d)) fine in
         let z = takes_is p good (WellFormed.changes (is_byte (kind_in d))) (WellFormed.named p l.proc d) y.1 in
         let g = number_form (WellFormed.checked_form p l.proc x) y.0 in
-        typed_by (Decrease d x) fine (follows_number_change w l right apart (whole_of d) Subtract (designated p calls runs d) (is_byte (kind_in d)) tt steady (masked_by mask d z.0 z.2 c) (home_at d z.0 z.1 z.2 z.3 parts.0 (left_lends (lent_at d) (lent x.form) lends)) (value_at x g.0 g.1 parts.1 (right_lends (lent_at d) (lent x.form) lends)))
-    stmt_is mask (Include d x) fine ok c lends =
-        let parts = and_of (designator_covered d) (checked_covered x) ok in
+        typed_by (Decrease d x) fine (follows_number_change w l right apart (whole_of d) Subtract (designated p calls runs d) (is_byte (kind_in d)) tt steady (masked_by mask d z.0 z.2 c) (home_at d z.0 z.1 z.2 z.3 (left_lends (lent_at d) (lent x.form) lends)) (value_at x g.0 g.1 (right_lends (lent_at d) (lent x.form) lends)))
+    stmt_is mask (Include d x) fine c lends =
         let y = and_of (gives_number (WellFormed.checked_form p l.proc x)) (holds_of (WellFormed.takes p WellFormed.is_full) (WellFormed.named p l.proc d)) fine in
         let z = takes_is p good WellFormed.is_full (WellFormed.named p l.proc d) y.1 in
         let g = number_form (WellFormed.checked_form p l.proc x) y.0 in
-        typed_by (Include d x) fine (follows_set_change w l right apart (whole_of d) Union (designated p calls runs d) tt steady (masked_by mask d z.0 z.2 c) (home_at d z.0 z.1 z.2 z.3 parts.0 (left_lends (lent_at d) (lent x.form) lends)) (value_at x g.0 g.1 parts.1 (right_lends (lent_at d) (lent x.form) lends)))
-    stmt_is mask (Exclude d x) fine ok c lends =
-        let parts = and_of (designator_covered d) (checked_covered x) ok in
+        typed_by (Include d x) fine (follows_set_change w l right apart (whole_of d) Union (designated p calls runs d) tt steady (masked_by mask d z.0 z.2 c) (home_at d z.0 z.1 z.2 z.3 (left_lends (lent_at d) (lent x.form) lends)) (value_at x g.0 g.1 (right_lends (lent_at d) (lent x.form) lends)))
+    stmt_is mask (Exclude d x) fine c lends =
         let y = and_of (gives_number (WellFormed.checked_form p l.proc x)) (holds_of (WellFormed.takes p WellFormed.is_full) (WellFormed.named p l.proc d)) fine in
         let z = takes_is p good WellFormed.is_full (WellFormed.named p l.proc d) y.1 in
         let g = number_form (WellFormed.checked_form p l.proc x) y.0 in
-        typed_by (Exclude d x) fine (follows_set_change w l right apart (whole_of d) Difference (designated p calls runs d) tt steady (masked_by mask d z.0 z.2 c) (home_at d z.0 z.1 z.2 z.3 parts.0 (left_lends (lent_at d) (lent x.form) lends)) (value_at x g.0 g.1 parts.1 (right_lends (lent_at d) (lent x.form) lends)))
-    stmt_is mask (Assert x) fine ok c lends = let g = number_form (WellFormed.checked_form p l.proc x) fine in follows_assert w l steady (value_at x g.0 g.1 ok lends)
-    stmt_is mask (OutChar x) fine ok c lends = let g = holds_is p good WellFormed.is_small (WellFormed.checked_form p l.proc x) fine in follows_out_char w l steady (value_at x g.0 g.1 ok lends)
-    stmt_is mask (OutInt x n) fine ok c lends =
-        let parts = and_of (checked_covered x) (checked_covered n) ok in
+        typed_by (Exclude d x) fine (follows_set_change w l right apart (whole_of d) Difference (designated p calls runs d) tt steady (masked_by mask d z.0 z.2 c) (home_at d z.0 z.1 z.2 z.3 (left_lends (lent_at d) (lent x.form) lends)) (value_at x g.0 g.1 (right_lends (lent_at d) (lent x.form) lends)))
+    stmt_is mask (Assert x) fine c lends = let g = number_form (WellFormed.checked_form p l.proc x) fine in follows_assert w l steady (value_at x g.0 g.1 lends)
+    stmt_is mask (OutChar x) fine c lends = let g = holds_is p good WellFormed.is_small (WellFormed.checked_form p l.proc x) fine in follows_out_char w l steady (value_at x g.0 g.1 lends)
+    stmt_is mask (OutInt x n) fine c lends =
         let y = and_of (gives_number (WellFormed.checked_form p l.proc x)) (gives_number (WellFormed.checked_form p l.proc n)) fine in
         let g = number_form (WellFormed.checked_form p l.proc x) y.0 in
         let h = number_form (WellFormed.checked_form p l.proc n) y.1 in
-        follows_out_int w l steady (value_at x g.0 g.1 parts.0 (left_lends (lent x.form) (lent n.form) lends)) (value_at n h.0 h.1 parts.1 (right_lends (lent x.form) (lent n.form) lends))
-    stmt_is mask OutLn fine ok c lends = follows_out_char w l steady (follows_literal w l 10 (omega arith))
-    stmt_is mask (If' _ parts _ other) fine ok c lends =
+        follows_out_int w l steady (value_at x g.0 g.1 (left_lends (lent x.form) (lent n.form) lends)) (value_at n h.0 h.1 (right_lends (lent x.form) (lent n.form) lends))
+    stmt_is mask OutLn fine c lends = follows_out_char w l steady (follows_literal w l 10 (omega arith))
+    stmt_is mask (If' _ parts _ other) fine c lends =
         let y = and_of (WellFormed.fine_branches p l.proc parts) (WellFormed.fine_row p l.proc other) fine in
-        let z = and_of (branches_covered parts) (row_covered other) ok in
-        alternatives_are mask parts (assigned_all other) (effects p calls runs fuel other) (deeds p lay mine other) y.0 z.0 c (left_lends (lent_by_branches parts) (lent_by_all other) lends)
-        (λ inner d. row_is inner other y.1 z.1 d (right_lends (lent_by_branches parts) (lent_by_all other) lends))
-    stmt_is mask (While' _ parts) fine ok c lends =
+        alternatives_are mask parts (assigned_all other) (effects p calls runs fuel other) (deeds p lay mine other) y.0 c (left_lends (lent_by_branches parts) (lent_by_all other) lends)
+        (λ inner d. row_is inner other y.1 d (right_lends (lent_by_branches parts) (lent_by_all other) lends))
+    stmt_is mask (While' _ parts) fine c lends =
         let z = and_of (has_branch parts) (WellFormed.fine_branches p l.proc parts) fine in
-        follows_mask w l {low_need = 1} {less = registers p lay mine (assigned_branches parts)} (omega arith) (not_covered mask (assigned_branches parts) c)
-        (follows_loop w l (registers p lay mine (assigned_branches parts)) (branches p calls runs fuel parts) (guarded_rounds p lay mine parts) steady (subst (λ b. Rounded w l (cond b 0 1) fuel (registers p lay mine (assigned_branches parts)) (Given w l) (branches p calls runs fuel parts) (guarded_rounds p lay mine parts)) z.0 (rounds_are (registers p lay mine (assigned_branches parts)) parts z.1 ok (λ x e. e) lends)))
-    stmt_is mask (Repeat' _ body x) fine ok c lends =
+        follows_mask w l {low_need = 1} {less = registers p lay mine (assigned_branches parts)} (omega arith) (not_assigned mask (assigned_branches parts) c)
+        (follows_loop w l (registers p lay mine (assigned_branches parts)) (branches p calls runs fuel parts) (guarded_rounds p lay mine parts) steady (subst (λ b. Rounded w l (cond b 0 1) fuel (registers p lay mine (assigned_branches parts)) (Given w l) (branches p calls runs fuel parts) (guarded_rounds p lay mine parts)) z.0 (rounds_are (registers p lay mine (assigned_branches parts)) parts z.1 (λ x e. e) lends)))
+    stmt_is mask (Repeat' _ body x) fine c lends =
         let y = and_of (WellFormed.fine_row p l.proc body) (gives_number (WellFormed.checked_form p l.proc x)) fine in
-        let z = and_of (row_covered body) (checked_covered x) ok in
         let g = number_form (WellFormed.checked_form p l.proc x) y.1 in
-        follows_mask w l {low_need = 1} {less = registers p lay mine (assigned_all body)} (omega arith) (not_covered mask (assigned_all body) c)
-        (follows_until w l (registers p lay mine (assigned_all body)) (test (value p calls runs x.form)) (effects p calls runs fuel body) (expr p lay mine x.form).test (deeds p lay mine body) steady (forks_test w l (value p calls runs x.form) (checked_shows x g.0 g.1 z.1 (right_lends (lent_by_all body) (lent x.form) lends)).test) (row_is (registers p lay mine (assigned_all body)) body y.0 z.0 (λ v e. e) (left_lends (lent_by_all body) (lent x.form) lends)))
-    stmt_is mask (CopyArray d e) fine ok c lends =
-        let parts = and_of (lengths_fit (length_of_kind (kind_in d)) (length_of_kind (kind_in e))) (designator_covered d && designator_covered e) ok in
-        let places = and_of (designator_covered d) (designator_covered e) parts.1 in
-        let y = and_of (holds_of (WellFormed.may_copy p l.proc (element_kind (kind_in d)) (length_of_kind (kind_in d))) (WellFormed.named p l.proc d)) (holds_of (WellFormed.array_of p (element_kind (kind_in d)) (length_of_kind (kind_in e))) (WellFormed.named p l.proc e)) fine in
+        follows_mask w l {low_need = 1} {less = registers p lay mine (assigned_all body)} (omega arith) (not_assigned mask (assigned_all body) c)
+        (follows_until w l (registers p lay mine (assigned_all body)) (test (value p calls runs x.form)) (effects p calls runs fuel body) (expr p lay mine x.form).test (deeds p lay mine body) steady (forks_test w l (value p calls runs x.form) (checked_shows x g.0 g.1 (right_lends (lent_by_all body) (lent x.form) lends)).test) (row_is (registers p lay mine (assigned_all body)) body y.0 (λ v e. e) (left_lends (lent_by_all body) (lent x.form) lends)))
+    stmt_is mask (CopyArray d e) fine c lends =
+        let fits = and_of (WellFormed.lengths_fit (length_of_kind (kind_in d)) (length_of_kind (kind_in e))) (holds_of (WellFormed.may_copy p l.proc (element_kind (kind_in d)) (length_of_kind (kind_in d))) (WellFormed.named p l.proc d) && holds_of (WellFormed.array_of p (element_kind (kind_in d)) (length_of_kind (kind_in e))) (WellFormed.named p l.proc e)) fine in
+        let y = and_of (holds_of (WellFormed.may_copy p l.proc (element_kind (kind_in d)) (length_of_kind (kind_in d))) (WellFormed.named p l.proc d)) (holds_of (WellFormed.array_of p (element_kind (kind_in d)) (length_of_kind (kind_in e))) (WellFormed.named p l.proc e)) fits.1 in
         let a = holds_is p good (WellFormed.may_copy p l.proc (element_kind (kind_in d)) (length_of_kind (kind_in d))) (WellFormed.named p l.proc d) y.0 in
         let b = holds_is p good (WellFormed.array_of p (element_kind (kind_in d)) (length_of_kind (kind_in e))) (WellFormed.named p l.proc e) y.1 in
         let may = and_of (WellFormed.is_writable a.0) (WellFormed.array_of p (element_kind (kind_in d)) (length_of_kind (kind_in d)) a.0) a.2 in
-        typed_by (CopyArray d e) fine (follows_copy_array w l right apart (cells p.types (element_kind (kind_in d))) (length_of_kind (kind_in d)) (length_of_kind (kind_in e)) (designated p calls runs d) (designated p calls runs e) (right.cells (element_kind (kind_in d))) parts.0 steady
+        typed_by (CopyArray d e) fine (follows_copy_array w l right apart (cells p.types (element_kind (kind_in d))) (length_of_kind (kind_in d)) (length_of_kind (kind_in e)) (designated p calls runs d) (designated p calls runs e) (right.cells (element_kind (kind_in d))) fits.0 steady
         (steady_designator w l (whole_of d) a.0) (steady_designator w l (whole_of e) b.0)
         (λ h v. unpaid (array_is (whole_of d) a.0 (length_of_kind (kind_in d)) (element_kind (kind_in d)) may.1 h v)) (λ h v. unpaid (array_is (whole_of e) b.0 (length_of_kind (kind_in e)) (element_kind (kind_in d)) b.2 h v))
-        (unpaid (named_is d a.0 a.1 places.0 (at_of_whole d (left_lends (lent_whole d) (lent_whole e) lends)))) (unpaid (named_is e b.0 b.1 places.1 (at_of_whole e (right_lends (lent_whole d) (lent_whole e) lends)))))
-    stmt_is mask (CopyRecord d e) fine ok c lends =
-        let parts = and_of (designator_covered d) (designator_covered e) ok in
+        (unpaid (named_is d a.0 a.1 (at_of_whole d (left_lends (lent_whole d) (lent_whole e) lends)))) (unpaid (named_is e b.0 b.1 (at_of_whole e (right_lends (lent_whole d) (lent_whole e) lends)))))
+    stmt_is mask (CopyRecord d e) fine c lends =
         let y = and_of (holds_of (λ t. WellFormed.is_writable t && WellFormed.has_record p (record_of_kind (kind_in d)) t) (WellFormed.named p l.proc d)) (holds_of (WellFormed.has_record p (record_of_kind (kind_in d))) (WellFormed.named p l.proc e)) fine in
         let a = holds_is p good (λ t. WellFormed.is_writable t && WellFormed.has_record p (record_of_kind (kind_in d)) t) (WellFormed.named p l.proc d) y.0 in
         let b = holds_is p good (WellFormed.has_record p (record_of_kind (kind_in d))) (WellFormed.named p l.proc e) y.1 in
         let may = and_of (WellFormed.is_writable a.0) (WellFormed.has_record p (record_of_kind (kind_in d)) a.0) a.2 in
         let few = right.record_cells (record_of_kind (kind_in d)) in
         typed_by (CopyRecord d e) fine (follows_copy_record w l right apart a.0 b.0 (designated p calls runs d) (designated p calls runs e) (record_cells p.types (record_of_kind (kind_in d))) (omega (arith, few)) steady (record_reaches (whole_of d) a.0 (record_of_kind (kind_in d)) may.1) (record_reaches (whole_of e) b.0 (record_of_kind (kind_in d)) b.2)
-        (unpaid (named_is d a.0 a.1 parts.0 (at_of_whole d (left_lends (lent_whole d) (lent_whole e) lends)))) (unpaid (named_is e b.0 b.1 parts.1 (at_of_whole e (right_lends (lent_whole d) (lent_whole e) lends)))))
-    stmt_is mask (New d) fine ok c lends =
+        (unpaid (named_is d a.0 a.1 (at_of_whole d (left_lends (lent_whole d) (lent_whole e) lends)))) (unpaid (named_is e b.0 b.1 (at_of_whole e (right_lends (lent_whole d) (lent_whole e) lends)))))
+    stmt_is mask (New d) fine c lends =
         let t = takes_is p good (WellFormed.points_to p (record_of_kind (kind_in d))) (WellFormed.named p l.proc d) fine in
         let n = record_type_of (record_of_kind (kind_in d)) t.1 t.4 in
         let e = vars.records in
         typed_by (New d) fine (follows_new w l right apart (whole_of d) (designated p calls runs d) (record_cells p.types (record_of_kind (kind_in d))) (record_of_kind (kind_in d)) (descriptor p lay mine (record_of_kind (kind_in d))) (vars.descriptor (record_of_kind (kind_in d)))
-        (clamped (descriptor_at p lay (record_of_kind (kind_in d)))) (record_cells_length p.types (record_of_kind (kind_in d))) (omega (arith, n, e)) steady (masked_by mask d t.0 t.2 c) (home_at d t.0 t.1 t.2 t.3 ok lends))
-    stmt_is mask (OutString d) fine ok c lends =
+        (clamped (descriptor_at p lay (record_of_kind (kind_in d)))) (record_cells_length p.types (record_of_kind (kind_in d))) (omega (arith, n, e)) steady (masked_by mask d t.0 t.2 c) (home_at d t.0 t.1 t.2 t.3 lends))
+    stmt_is mask (OutString d) fine c lends =
         let t = holds_is p good (WellFormed.is_text p (length_of_kind (kind_in d))) (WellFormed.named p l.proc d) fine in
         let el = holds_is p good (WellFormed.is_letter p) (WellFormed.elements_in p t.0 (length_of_kind (kind_in d))) t.2 in
         let one_cell = ap (λ (xs : List Form). length xs) (letter_forms p good el.0 el.2) in
         follows_out_string w l good t.0 (length_of_kind (kind_in d)) el.0 (designated p calls runs d) el.1 el.2 steady
         (λ h v. unpaid (subst (λ c. Follows w l 0 fuel nothing (Both (Given w l) (DesignatorIs w l (whole_of d) t.0 h v)) (SpanIs w l (length_of_kind (kind_in d)) c v) (span_by w l (length_of_kind (kind_in d)) h) (lower_address v 0)) one_cell (span_is (whole_of d) t.0 (length_of_kind (kind_in d)) el.0 el.1 h v)))
-        (unpaid (follows_sound w l {P = NamesOf p l.forms t.0} (λ tags older. (t_named p good calls sound runs l.forms tags frame (taken_at tags older) d).sound t.0 t.1) (named_is d t.0 t.1 ok (at_of_whole d lends))))
-    stmt_is mask (InChar d) fine ok c lends =
+        (unpaid (follows_sound w l {P = NamesOf p l.forms t.0} (λ tags older. (t_named p good calls sound runs l.forms tags frame (taken_at tags older) d).sound t.0 t.1) (named_is d t.0 t.1 (at_of_whole d lends))))
+    stmt_is mask (InChar d) fine c lends =
         let t = takes_is p good (WellFormed.changes true) (WellFormed.named p l.proc d) fine in
         typed_by (InChar d) fine (follows_in_char w l right apart (whole_of d) t.0 (designated p calls runs d) steady (own_lent d lends) (λ h. scalar_row t.0 t.1 t.3 h) vars.done
         (λ n le tags older. s_put p done Truth (Bits n) (done_formed p good l.forms tags) refl (omega (arith, le)))
-        (follows_mask w l {less = nothing} (omega arith) (λ y e. refl) (only_named w l t.0 (named_is d t.0 t.2 ok (at_of_whole d lends)))))
-    stmt_is mask (Invoke k) fine ok c lends = follows_mask w l {less = nothing} (omega arith) (λ y e. refl) (call_only k fine ok lends)
-    stmt_is mask (For' d x y step _ body) fine ok c lends =
-        let z = and_of (is_whole d) (checked_covered x && (checked_covered y && row_covered body)) ok in
-        let z2 = and_of (checked_covered x) (checked_covered y && row_covered body) z.1 in
-        let z3 = and_of (checked_covered y) (row_covered body) z2.1 in
-        let y0 = and_of (WellFormed.is_step step) (holds_of (WellFormed.takes p WellFormed.is_full) (WellFormed.named p l.proc d) && (gives_number (WellFormed.checked_form p l.proc x) && (gives_number (WellFormed.checked_form p l.proc y) && WellFormed.fine_row p l.proc body))) fine in
-        let y1 = and_of (holds_of (WellFormed.takes p WellFormed.is_full) (WellFormed.named p l.proc d)) (gives_number (WellFormed.checked_form p l.proc x) && (gives_number (WellFormed.checked_form p l.proc y) && WellFormed.fine_row p l.proc body)) y0.1 in
+        (follows_mask w l {less = nothing} (omega arith) (λ y e. refl) (only_named w l t.0 (named_is d t.0 t.2 (at_of_whole d lends)))))
+    stmt_is mask (Invoke k) fine c lends = follows_mask w l {less = nothing} (omega arith) (λ y e. refl) (call_only k fine lends)
+    stmt_is mask (For' d x y step _ body) fine c lends =
+        let y0 = and_of (WellFormed.is_step step) (WellFormed.is_whole d && (holds_of (WellFormed.takes p WellFormed.is_full) (WellFormed.named p l.proc d) && (gives_number (WellFormed.checked_form p l.proc x) && (gives_number (WellFormed.checked_form p l.proc y) && WellFormed.fine_row p l.proc body)))) fine in
+        let whole = and_of (WellFormed.is_whole d) (holds_of (WellFormed.takes p WellFormed.is_full) (WellFormed.named p l.proc d) && (gives_number (WellFormed.checked_form p l.proc x) && (gives_number (WellFormed.checked_form p l.proc y) && WellFormed.fine_row p l.proc body))) y0.1 in
+        let y1 = and_of (holds_of (WellFormed.takes p WellFormed.is_full) (WellFormed.named p l.proc d)) (gives_number (WellFormed.checked_form p l.proc x) && (gives_number (WellFormed.checked_form p l.proc y) && WellFormed.fine_row p l.proc body)) whole.1 in
         let y2 = and_of (gives_number (WellFormed.checked_form p l.proc x)) (gives_number (WellFormed.checked_form p l.proc y) && WellFormed.fine_row p l.proc body) y1.1 in
         let y3 = and_of (gives_number (WellFormed.checked_form p l.proc y)) (WellFormed.fine_row p l.proc body) y2.1 in
         let t = takes_is p good WellFormed.is_full (WellFormed.named p l.proc d) y1.0 in
         let g = number_form (WellFormed.checked_form p l.proc x) y2.0 in
         let h = number_form (WellFormed.checked_form p l.proc y) y3.0 in
-        let fixed = fixed_at d t.0 t.1 z.0 t.2 t.3 in
-        let whole = whole_covered d z.0 in
+        let fixed = fixed_at d t.0 t.1 whole.0 t.2 t.3 in
         let lends2 = right_lends (lent_at d) (either (lent x.form) (either (lent y.form) (lent_by_all body))) lends in
         let lends3 = right_lends (lent x.form) (either (lent y.form) (lent_by_all body)) lends2 in
         let at = left_lends (lent_at d) (either (lent x.form) (either (lent y.form) (lent_by_all body))) lends in
@@ -1356,106 +1329,95 @@ module _ (w : Whole) (l : Level) (right : Right w) (apart : Apart l) (vars : Var
         let n = unsigned step in
         let stepped = follows_same w l (assign (designated p calls runs d) (two_operands l.proc Add (load (designated p calls runs d)) (give (Bits n)))) (bits (fetch fixed.0) >>= λ v. put fixed.0 (Bits (add64 v n))) (step_is w l fixed.0 (designated p calls runs d) fixed.1 n)
         (follows_less w l {Q = Always} (λ a b n f t h. tt) (follows_sound w l {P = Any p} (λ tags older. sound_step d n fixed.0 fixed.1 y1.0 tags older)
-        (follows_assign w l right apart (whole_of d) (designated p calls runs d) steady (masked_by inner d t.0 t.2 (λ v e. left_of (in_register p lay mine (variable_of p lay mine v).site) (whole_of d v) (assigned_all body v) e)) (home_at d t.0 t.1 t.2 t.3 whole at)
-        (follows_binary w l Add steady (follows_load w l (whole_of d) (designated p calls runs d) steady (home_at d t.0 t.1 t.2 t.3 whole at)) (follows_literal w l n (step_small step y0.0)))))) in
-        follows_for w l mask inner (bound p lay mine step) step (value p calls runs x.form) (effects p calls runs fuel body) fixed.0 (designated p calls runs d) fixed.1 (limit_test (int_lt (pos 0) step)) (not_covered mask (either (whole_of d) (assigned_all body)) c) steady
+        (follows_assign w l right apart (whole_of d) (designated p calls runs d) steady (masked_by inner d t.0 t.2 (λ v e. left_of (in_register p lay mine (variable_of p lay mine v).site) (whole_of d v) (assigned_all body v) e)) (home_at d t.0 t.1 t.2 t.3 at)
+        (follows_binary w l Add steady (follows_load w l (whole_of d) (designated p calls runs d) steady (home_at d t.0 t.1 t.2 t.3 at)) (follows_literal w l n (step_small step y0.0)))))) in
+        follows_for w l mask inner (bound p lay mine step) step (value p calls runs x.form) (effects p calls runs fuel body) fixed.0 (designated p calls runs d) fixed.1 (limit_test (int_lt (pos 0) step)) (not_assigned mask (either (whole_of d) (assigned_all body)) c) steady
         (follows_same w l (assign (designated p calls runs d) (value p calls runs x.form)) (value p calls runs x.form >>= λ c. put fixed.0 c) (assign_is w l fixed.0 (designated p calls runs d) fixed.1 (value p calls runs x.form))
         (follows_less w l {Q = Always} (λ a b n f t h. tt) (follows_sound w l {P = Any p} (λ tags older. sound_first d x y1.0 y2.0 tags older)
-        (follows_assign w l right apart (whole_of d) (designated p calls runs d) steady (masked_by mask d t.0 t.2 (λ v e. c v (left_of (in_register p lay mine (variable_of p lay mine v).site) (whole_of d v) (assigned_all body v) e))) (home_at d t.0 t.1 t.2 t.3 whole at) (value_at x g.0 g.1 z2.0 (left_lends (lent x.form) (either (lent y.form) (lent_by_all body)) lends2))))))
-        (value_at y h.0 h.1 z3.0 (left_lends (lent y.form) (lent_by_all body) lends3))
-        (follows_same w l (load (designated p calls runs d)) (fetch fixed.0) (load_is w l fixed.0 (designated p calls runs d) fixed.1) (follows_load w l (whole_of d) (designated p calls runs d) steady (home_is d t.0 t.1 t.2 t.3 whole at)))
-        (follows_bind w l steady (row_is inner body y3.1 z3.1 (λ v e. right_of (in_register p lay mine (variable_of p lay mine v).site) (whole_of d v) (assigned_all body v) e) (right_lends (lent y.form) (lent_by_all body) lends3)) (λ u. stepped.grows) (λ u v. follows_known w l (λ n f s k. k.0) stepped))
-    stmt_is mask (Case' x _ parts) fine ok c lends =
+        (follows_assign w l right apart (whole_of d) (designated p calls runs d) steady (masked_by mask d t.0 t.2 (λ v e. c v (left_of (in_register p lay mine (variable_of p lay mine v).site) (whole_of d v) (assigned_all body v) e))) (home_at d t.0 t.1 t.2 t.3 at) (value_at x g.0 g.1 (left_lends (lent x.form) (either (lent y.form) (lent_by_all body)) lends2))))))
+        (value_at y h.0 h.1 (left_lends (lent y.form) (lent_by_all body) lends3))
+        (follows_same w l (load (designated p calls runs d)) (fetch fixed.0) (load_is w l fixed.0 (designated p calls runs d) fixed.1) (follows_load w l (whole_of d) (designated p calls runs d) steady (home_is d t.0 t.1 t.2 t.3 at)))
+        (follows_bind w l steady (row_is inner body y3.1 (λ v e. right_of (in_register p lay mine (variable_of p lay mine v).site) (whole_of d v) (assigned_all body v) e) (right_lends (lent y.form) (lent_by_all body) lends3)) (λ u. stepped.grows) (λ u v. follows_known w l (λ n f s k. k.0) stepped))
+    stmt_is mask (Case' x _ parts) fine c lends =
         let y = and_of (gives_number (WellFormed.checked_form p l.proc x)) (WellFormed.fine_case_parts p l.proc parts) fine in
-        let z = and_of (checked_covered x) (case_covered parts) ok in
         let g = number_form (WellFormed.checked_form p l.proc x) y.0 in
         let inner = registers p lay mine (assigned_case_parts parts) in
-        follows_mask w l {low_need = 1} {less = inner} (omega arith) (not_covered mask (assigned_case_parts parts) c)
-        (case_is x parts inner y.1 (value_at x g.0 g.1 z.0 (left_lends (lent x.form) (lent_by_case_parts parts) lends)) (bodies_are inner parts y.1 z.1 (λ v e. e) (right_lends (lent x.form) (lent_by_case_parts parts) lends)))
-    stmt_is mask (CasePointer' x _ parts) fine ok c lends =
+        follows_mask w l {low_need = 1} {less = inner} (omega arith) (not_assigned mask (assigned_case_parts parts) c)
+        (case_is x parts inner y.1 (value_at x g.0 g.1 (left_lends (lent x.form) (lent_by_case_parts parts) lends)) (bodies_are inner parts y.1 (λ v e. e) (right_lends (lent x.form) (lent_by_case_parts parts) lends)))
+    stmt_is mask (CasePointer' x _ parts) fine c lends =
         let y = and_of (WellFormed.gives_pointer (WellFormed.checked_form p l.proc x)) (WellFormed.fine_type_parts p l.proc parts) fine in
-        let z = and_of (checked_covered x) (types_covered parts) ok in
         let g = pointer_form (WellFormed.checked_form p l.proc x) y.0 in
         let inner = registers p lay mine (assigned_type_parts parts) in
-        follows_mask w l {low_need = 1} {less = inner} (omega arith) (not_covered mask (assigned_type_parts parts) c)
+        follows_mask w l {low_need = 1} {less = inner} (omega arith) (not_assigned mask (assigned_type_parts parts) c)
         (type_case_is (PointerType w l right vars) is_pointer (steady_pointer_type w l right vars) (λ t i r there. follows_is_pointer w l right vars t i r (descriptor p lay mine r) there (vars.descriptor r) steady) (pointer_type (value p calls runs x.form)) (expr p lay mine x.form).value parts inner y.1
-        (follows_pointer_type w l right vars steady (value_at x g.0 g.1 z.0 (left_lends (lent x.form) (lent_by_type_parts parts) lends))) (types_are inner parts y.1 z.1 (λ v e. e) (right_lends (lent x.form) (lent_by_type_parts parts) lends)))
-    stmt_is mask (CaseParameter' d _ parts) fine ok c lends =
+        (follows_pointer_type w l right vars steady (value_at x g.0 g.1 (left_lends (lent x.form) (lent_by_type_parts parts) lends))) (types_are inner parts y.1 (λ v e. e) (right_lends (lent x.form) (lent_by_type_parts parts) lends)))
+    stmt_is mask (CaseParameter' d _ parts) fine c lends =
         let y = and_of (holds_of (WellFormed.is_dynamic p) (WellFormed.named p l.proc d)) (WellFormed.fine_type_parts p l.proc parts) fine in
-        let z = and_of (designator_covered d) (types_covered parts) ok in
         let n = dynamic_named d y.0 in
         let inner = registers p lay mine (assigned_type_parts parts) in
-        follows_mask w l {low_need = 1} {less = inner} (omega arith) (not_covered mask (assigned_type_parts parts) c)
+        follows_mask w l {low_need = 1} {less = inner} (omega arith) (not_assigned mask (assigned_type_parts parts) c)
         (type_case_is (ParameterType w l right vars) is_tag (steady_parameter_type w l right vars) (λ t i r there. follows_is_tag w l right vars t i r (descriptor p lay mine r) there (vars.descriptor r) steady) (parameter_type (designated p calls runs d)) (tag_of (named p lay mine d)) parts inner y.1
-        (follows_parameter_type w l right vars (whole_of d) n.0 (designated p calls runs d) (legal_named d (Dynamic n.0) z.0 n.1) steady (unpaid (named_is d (Dynamic n.0) n.1 z.0 (at_of_whole d (left_lends (lent_whole d) (lent_by_type_parts parts) lends))))) (types_are inner parts y.1 z.1 (λ v e. e) (right_lends (lent_whole d) (lent_by_type_parts parts) lends)))
+        (follows_parameter_type w l right vars (whole_of d) n.0 (designated p calls runs d) (legal_named d (Dynamic n.0) n.1) steady (unpaid (named_is d (Dynamic n.0) n.1 (at_of_whole d (left_lends (lent_whole d) (lent_by_type_parts parts) lends))))) (types_are inner parts y.1 (λ v e. e) (right_lends (lent_whole d) (lent_by_type_parts parts) lends)))
 
-    pub row_is : (mask : Mask) {m : _} (r : Row_of-Stmt m) → WellFormed.fine_row p l.proc r ≡ true → row_covered r ≡ true → Covers mask (assigned_all r) → Lends (lent_by_all r) → Follows w l 1 fuel mask (Given w l) Always (effects p calls runs fuel r) (deeds p lay mine r)
-    row_is mask end_of-Stmt fine ok c lends = follows_give w l tt tt (λ n f s k. tt)
-    row_is mask (more_of-Stmt s rest) fine ok c lends =
+    pub row_is : (mask : Mask) {m : _} (r : Row_of-Stmt m) → WellFormed.fine_row p l.proc r ≡ true → Covers mask (assigned_all r) → Lends (lent_by_all r) → Follows w l 1 fuel mask (Given w l) Always (effects p calls runs fuel r) (deeds p lay mine r)
+    row_is mask end_of-Stmt fine c lends = follows_give w l tt tt (λ n f s k. tt)
+    row_is mask (more_of-Stmt s rest) fine c lends =
         let y = and_of (WellFormed.fine p l.proc s) (WellFormed.fine_row p l.proc rest) fine in
-        let z = and_of (covered s) (row_covered rest) ok in
-        let more = row_is mask rest y.1 z.1 (λ x e. c x (right_of (in_register p lay mine (variable_of p lay mine x).site) (assigned s x) (assigned_all rest x) e)) (right_lends (lent_by s) (lent_by_all rest) lends) in
-        follows_bind w l steady (stmt_is mask s y.0 z.0 (λ x e. c x (left_of (in_register p lay mine (variable_of p lay mine x).site) (assigned s x) (assigned_all rest x) e)) (left_lends (lent_by s) (lent_by_all rest) lends)) (λ u. more.grows) (λ a b. follows_known w l (λ n f s k. k.0) more)
+        let more = row_is mask rest y.1 (λ x e. c x (right_of (in_register p lay mine (variable_of p lay mine x).site) (assigned s x) (assigned_all rest x) e)) (right_lends (lent_by s) (lent_by_all rest) lends) in
+        follows_bind w l steady (stmt_is mask s y.0 (λ x e. c x (left_of (in_register p lay mine (variable_of p lay mine x).site) (assigned s x) (assigned_all rest x) e)) (left_lends (lent_by s) (lent_by_all rest) lends)) (λ u. more.grows) (λ a b. follows_known w l (λ n f s k. k.0) more)
 
-    alternatives_are : (mask : Mask) {m : _} (parts : Row_of-Branch m) (last : Mask) (other : Deed) (low : Low (Unit {0})) → WellFormed.fine_branches p l.proc parts ≡ true → branches_covered parts ≡ true → Covers mask (either (assigned_branches parts) last) → Lends (lent_by_branches parts)
+    alternatives_are : (mask : Mask) {m : _} (parts : Row_of-Branch m) (last : Mask) (other : Deed) (low : Low (Unit {0})) → WellFormed.fine_branches p l.proc parts ≡ true → Covers mask (either (assigned_branches parts) last) → Lends (lent_by_branches parts)
         → ((inner : Mask) → Covers inner last → Follows w l 1 fuel inner (Given w l) Always other low) → Follows w l 1 fuel mask (Given w l) Always (otherwise (branches p calls runs fuel parts) other) (alternatives p lay mine parts last low)
-    alternatives_are mask end_of-Branch last other low fine ok c lends go = go mask c
-    alternatives_are mask (more_of-Branch x _ body rest) last other low fine ok c lends go =
+    alternatives_are mask end_of-Branch last other low fine c lends go = go mask c
+    alternatives_are mask (more_of-Branch x _ body rest) last other low fine c lends go =
         let lends2 = right_lends (lent x.form) (either (lent_by_all body) (lent_by_branches rest)) lends in
         let y = and_of (gives_number (WellFormed.checked_form p l.proc x)) (WellFormed.fine_row p l.proc body && WellFormed.fine_branches p l.proc rest) fine in
         let y2 = and_of (WellFormed.fine_row p l.proc body) (WellFormed.fine_branches p l.proc rest) y.1 in
-        let z = and_of (checked_covered x) (row_covered body && branches_covered rest) ok in
-        let z2 = and_of (row_covered body) (branches_covered rest) z.1 in
         let g = number_form (WellFormed.checked_form p l.proc x) y.0 in
         let few = registers p lay mine (either (assigned_all body) (either (assigned_branches rest) last)) in
         follows_same w l (test (value p calls runs x.form) >>= λ ok. if ok then effects p calls runs fuel body else otherwise (branches p calls runs fuel rest) other) (otherwise (try (test (value p calls runs x.form)) (effects p calls runs fuel body) (branches p calls runs fuel rest)) other)
         (otherwise_is (test (value p calls runs x.form)) (effects p calls runs fuel body) other (branches p calls runs fuel rest))
-        (follows_mask w l {low_need = 1} {less = few} (omega arith) (not_covered mask (either (assigned_all body) (either (assigned_branches rest) last)) (λ v e. c v (regroup_mask (in_register p lay mine (variable_of p lay mine v).site) (assigned_all body v) (assigned_branches rest v) (last v) e)))
+        (follows_mask w l {low_need = 1} {less = few} (omega arith) (not_assigned mask (either (assigned_all body) (either (assigned_branches rest) last)) (λ v e. c v (regroup_mask (in_register p lay mine (variable_of p lay mine v).site) (assigned_all body v) (assigned_branches rest v) (last v) e)))
         (follows_choose w l few (test (value p calls runs x.form)) (expr p lay mine x.form).test (effects p calls runs fuel body) (otherwise (branches p calls runs fuel rest) other) (deeds p lay mine body) (alternatives p lay mine rest last low) steady
-        (forks_test w l (value p calls runs x.form) (checked_shows x g.0 g.1 z.0 (left_lends (lent x.form) (either (lent_by_all body) (lent_by_branches rest)) lends)).test)
-        (row_is few body y2.0 z2.0 (λ v e. left_of (in_register p lay mine (variable_of p lay mine v).site) (assigned_all body v) (assigned_branches rest v || last v) e) (left_lends (lent_by_all body) (lent_by_branches rest) lends2))
-        (alternatives_are few rest last other low y2.1 z2.1 (λ v e. right_of (in_register p lay mine (variable_of p lay mine v).site) (assigned_all body v) (assigned_branches rest v || last v) e) (right_lends (lent_by_all body) (lent_by_branches rest) lends2) go)))
+        (forks_test w l (value p calls runs x.form) (checked_shows x g.0 g.1 (left_lends (lent x.form) (either (lent_by_all body) (lent_by_branches rest)) lends)).test)
+        (row_is few body y2.0 (λ v e. left_of (in_register p lay mine (variable_of p lay mine v).site) (assigned_all body v) (assigned_branches rest v || last v) e) (left_lends (lent_by_all body) (lent_by_branches rest) lends2))
+        (alternatives_are few rest last other low y2.1 (λ v e. right_of (in_register p lay mine (variable_of p lay mine v).site) (assigned_all body v) (assigned_branches rest v || last v) e) (right_lends (lent_by_all body) (lent_by_branches rest) lends2) go)))
 
-    rounds_are : (mask : Mask) {m : _} (parts : Row_of-Branch m) → WellFormed.fine_branches p l.proc parts ≡ true → branches_covered parts ≡ true → Covers mask (assigned_branches parts) → Lends (lent_by_branches parts) → Rounded w l (cond (has_branch parts) 0 1) fuel mask (Given w l) (branches p calls runs fuel parts) (guarded_rounds p lay mine parts)
-    rounds_are mask end_of-Branch fine ok c lends = rounds_none w l
-    rounds_are mask (more_of-Branch x _ body rest) fine ok c lends =
+    rounds_are : (mask : Mask) {m : _} (parts : Row_of-Branch m) → WellFormed.fine_branches p l.proc parts ≡ true → Covers mask (assigned_branches parts) → Lends (lent_by_branches parts) → Rounded w l (cond (has_branch parts) 0 1) fuel mask (Given w l) (branches p calls runs fuel parts) (guarded_rounds p lay mine parts)
+    rounds_are mask end_of-Branch fine c lends = rounds_none w l
+    rounds_are mask (more_of-Branch x _ body rest) fine c lends =
         let lends2 = right_lends (lent x.form) (either (lent_by_all body) (lent_by_branches rest)) lends in
         let y = and_of (gives_number (WellFormed.checked_form p l.proc x)) (WellFormed.fine_row p l.proc body && WellFormed.fine_branches p l.proc rest) fine in
         let y2 = and_of (WellFormed.fine_row p l.proc body) (WellFormed.fine_branches p l.proc rest) y.1 in
-        let z = and_of (checked_covered x) (row_covered body && branches_covered rest) ok in
-        let z2 = and_of (row_covered body) (branches_covered rest) z.1 in
         let g = number_form (WellFormed.checked_form p l.proc x) y.0 in
         rounds_more w l mask (test (value p calls runs x.form)) (branches p calls runs fuel rest) (effects p calls runs fuel body) (record { test = (expr p lay mine x.form).test; body = deeds p lay mine body }) (guarded_rounds p lay mine rest) steady
-        (forks_test w l (value p calls runs x.form) (checked_shows x g.0 g.1 z.0 (left_lends (lent x.form) (either (lent_by_all body) (lent_by_branches rest)) lends)).test)
-        (row_is mask body y2.0 z2.0 (λ v e. c v (left_of (in_register p lay mine (variable_of p lay mine v).site) (assigned_all body v) (assigned_branches rest v) e)) (left_lends (lent_by_all body) (lent_by_branches rest) lends2))
-        (rounds_any (has_branch rest) (rounds_are mask rest y2.1 z2.1 (λ v e. c v (right_of (in_register p lay mine (variable_of p lay mine v).site) (assigned_all body v) (assigned_branches rest v) e)) (right_lends (lent_by_all body) (lent_by_branches rest) lends2)))
+        (forks_test w l (value p calls runs x.form) (checked_shows x g.0 g.1 (left_lends (lent x.form) (either (lent_by_all body) (lent_by_branches rest)) lends)).test)
+        (row_is mask body y2.0 (λ v e. c v (left_of (in_register p lay mine (variable_of p lay mine v).site) (assigned_all body v) (assigned_branches rest v) e)) (left_lends (lent_by_all body) (lent_by_branches rest) lends2))
+        (rounds_any (has_branch rest) (rounds_are mask rest y2.1 (λ v e. c v (right_of (in_register p lay mine (variable_of p lay mine v).site) (assigned_all body v) (assigned_branches rest v) e)) (right_lends (lent_by_all body) (lent_by_branches rest) lends2)))
 
-    types_are : (mask : Mask) {m : _} (parts : Row_of-TypePart m) → WellFormed.fine_type_parts p l.proc parts ≡ true → types_covered parts ≡ true → Covers mask (assigned_type_parts parts) → Lends (lent_by_type_parts parts)
+    types_are : (mask : Mask) {m : _} (parts : Row_of-TypePart m) → WellFormed.fine_type_parts p l.proc parts ≡ true → Covers mask (assigned_type_parts parts) → Lends (lent_by_type_parts parts)
         → Bodies w l fuel (Given w l) mask steady (type_deeds parts) (type_bodies p lay mine parts)
-    types_are mask end_of-TypePart fine ok c lends = tt
-    types_are mask (more_of-TypePart r _ body rest) fine ok c lends =
+    types_are mask end_of-TypePart fine c lends = tt
+    types_are mask (more_of-TypePart r _ body rest) fine c lends =
         let y = and_of (is_record_type p.types r) (WellFormed.fine_row p l.proc body && WellFormed.fine_type_parts p l.proc rest) fine in
-        let y2 = and_of (WellFormed.fine_row p l.proc body) (WellFormed.fine_type_parts p l.proc rest) y.1 in
-        let z = and_of (row_covered body) (types_covered rest) ok in (
-          row_is mask body y2.0 z.0 (λ v e. c v (left_of (in_register p lay mine (variable_of p lay mine v).site) (assigned_all body v) (assigned_type_parts rest v) e)) (left_lends (lent_by_all body) (lent_by_type_parts rest) lends),
-          types_are mask rest y2.1 z.1 (λ v e. c v (right_of (in_register p lay mine (variable_of p lay mine v).site) (assigned_all body v) (assigned_type_parts rest v) e)) (right_lends (lent_by_all body) (lent_by_type_parts rest) lends),
+        let y2 = and_of (WellFormed.fine_row p l.proc body) (WellFormed.fine_type_parts p l.proc rest) y.1 in (
+          row_is mask body y2.0 (λ v e. c v (left_of (in_register p lay mine (variable_of p lay mine v).site) (assigned_all body v) (assigned_type_parts rest v) e)) (left_lends (lent_by_all body) (lent_by_type_parts rest) lends),
+          types_are mask rest y2.1 (λ v e. c v (right_of (in_register p lay mine (variable_of p lay mine v).site) (assigned_all body v) (assigned_type_parts rest v) e)) (right_lends (lent_by_all body) (lent_by_type_parts rest) lends),
         )
 
-    bodies_are : (mask : Mask) {m : _} (parts : Row_of-CasePart m) → WellFormed.fine_case_parts p l.proc parts ≡ true → case_covered parts ≡ true → Covers mask (assigned_case_parts parts) → Lends (lent_by_case_parts parts)
+    bodies_are : (mask : Mask) {m : _} (parts : Row_of-CasePart m) → WellFormed.fine_case_parts p l.proc parts ≡ true → Covers mask (assigned_case_parts parts) → Lends (lent_by_case_parts parts)
         → Bodies w l fuel (Given w l) mask steady (deeds_in parts) (case_bodies p lay mine parts)
-    bodies_are mask end_of-CasePart fine ok c lends = tt
-    bodies_are mask (more_of-CasePart labels _ body rest) fine ok c lends =
+    bodies_are mask end_of-CasePart fine c lends = tt
+    bodies_are mask (more_of-CasePart labels _ body rest) fine c lends =
         let y = and_of (all label_fine labels) (WellFormed.fine_row p l.proc body && WellFormed.fine_case_parts p l.proc rest) fine in
-        let y2 = and_of (WellFormed.fine_row p l.proc body) (WellFormed.fine_case_parts p l.proc rest) y.1 in
-        let z = and_of (row_covered body) (case_covered rest) ok in (
-          row_is mask body y2.0 z.0 (λ v e. c v (left_of (in_register p lay mine (variable_of p lay mine v).site) (assigned_all body v) (assigned_case_parts rest v) e)) (left_lends (lent_by_all body) (lent_by_case_parts rest) lends),
-          bodies_are mask rest y2.1 z.1 (λ v e. c v (right_of (in_register p lay mine (variable_of p lay mine v).site) (assigned_all body v) (assigned_case_parts rest v) e)) (right_lends (lent_by_all body) (lent_by_case_parts rest) lends),
+        let y2 = and_of (WellFormed.fine_row p l.proc body) (WellFormed.fine_case_parts p l.proc rest) y.1 in (
+          row_is mask body y2.0 (λ v e. c v (left_of (in_register p lay mine (variable_of p lay mine v).site) (assigned_all body v) (assigned_case_parts rest v) e)) (left_lends (lent_by_all body) (lent_by_case_parts rest) lends),
+          bodies_are mask rest y2.1 (λ v e. c v (right_of (in_register p lay mine (variable_of p lay mine v).site) (assigned_all body v) (assigned_case_parts rest v) e)) (right_lends (lent_by_all body) (lent_by_case_parts rest) lends),
         )
 
-  pub list_is : (mask : Mask) (ss : List Stmt) → all (WellFormed.fine p l.proc) ss ≡ true → all covered ss ≡ true → ((x : ℕ) → mask x ≡ true) → Lends (lent_by_list ss) → Follows w l 1 fuel mask (Given w l) Always (effects_of p calls runs fuel ss) (deeds_of p lay mine ss)
-  list_is mask [] fine ok every lends = follows_give w l tt tt (λ n f s k. tt)
-  list_is mask (s ∷ ss) fine ok every lends =
+  pub list_is : (mask : Mask) (ss : List Stmt) → all (WellFormed.fine p l.proc) ss ≡ true → ((x : ℕ) → mask x ≡ true) → Lends (lent_by_list ss) → Follows w l 1 fuel mask (Given w l) Always (effects_of p calls runs fuel ss) (deeds_of p lay mine ss)
+  list_is mask [] fine every lends = follows_give w l tt tt (λ n f s k. tt)
+  list_is mask (s ∷ ss) fine every lends =
       let y = and_of (WellFormed.fine p l.proc s) (all (WellFormed.fine p l.proc) ss) fine in
-      let z = and_of (covered s) (all covered ss) ok in
-      let more = list_is mask ss y.1 z.1 every (right_lends (lent_by s) (lent_by_list ss) lends) in
-      follows_bind w l steady (stmt_is mask s y.0 z.0 (λ x e. every x) (left_lends (lent_by s) (lent_by_list ss) lends)) (λ u. more.grows) (λ a b. follows_known w l (λ n f s k. k.0) more)
+      let more = list_is mask ss y.1 every (right_lends (lent_by s) (lent_by_list ss) lends) in
+      follows_bind w l steady (stmt_is mask s y.0 (λ x e. every x) (left_lends (lent_by s) (lent_by_list ss) lends)) (λ u. more.grows) (λ a b. follows_known w l (λ n f s k. k.0) more)

@@ -13,7 +13,6 @@ use Rattle.ssa_core.specs.Procedures.{procedures}
 use Rattle.ssa_lowered.specs.Data.{in_cells, globals_room}
 use Rattle.ssa_lowered.specs.Constants.{constants as own_constants}
 use Rattle.ssa_lowered.specs.Lowered.{lowered}
-use Rattle.lowered_runs.specs.Covered.{program_covered}
 use Rattle.lowered_runs.specs.Words.{same_trap, AreInput}
 
 -- what runs
@@ -36,11 +35,10 @@ pub record ConstantsStand (p : Program) (constants : List ℕ) : Type 0 where
   pub same : constants ≡ constants_of p
   pub near : data_bytes p + length constants ≤ 0x1000000
 
--- a well-formed program that has only what is covered; its input; the bytes behind the globals; the addresses of its code; there are at most
+-- a well-formed program; its input; the bytes behind the globals; the addresses of its code; there are at most
 -- 8 MiB of globals, the bytes behind them leave room for what comes then, and where there are record types or strings, these stand there
 pub record CanRun (p : Program) (input constants : List ℕ) (code : ℕ → ℕ) : Type 0 where
   pub fine : well_formed p ≡ true
-  pub covers : program_covered p ≡ true
   pub numbers : AreInput input
   pub bytes : AreBytes constants
   pub places : AreCodePlaces (length (code_of p)) code

@@ -1,4 +1,3 @@
 pub mod Words
-pub mod Covered
 pub mod Claims
 pub mod Sample

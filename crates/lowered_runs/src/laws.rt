@@ -6,11 +6,11 @@ ghost use Rattle.lowered_runs.specs.Claims.{CanRun, KeepsUp, constants_of};
 ghost use Rattle.lowered_runs.specs.Sample.{sample, CallsItself, HandsOver};
 ghost use Rattle.std.specs.declared.alloc.Global.{Global as Heap};
 
-/// On every input and for every number of turns the procedures of a covered program do what it means; there are such programs, one of them with
+/// On every input and for every number of turns the procedures of a well-formed program do what it means; there are such programs, one of them with
 /// a procedure that calls itself, and one that calls through a procedure variable and hands over an array and a record (a tree with calls has
 /// boxes and vectors in it, so it is given with some).
 pub fn programs_keep_up()
-    ensures covered { (p : Program) (input constants : List ℕ) (code : ℕ → ℕ) (n : ℕ) → CanRun p input constants code
+    ensures all { (p : Program) (input constants : List ℕ) (code : ℕ → ℕ) (n : ℕ) → CanRun p input constants code
         → KeepsUp p input constants code n }
     ensures some { CanRun sample [] [] (λ g. suc g) }
     ensures calls { Box (Unit {0}) Heap → Vec (Unit {0}) Heap → (p : Program) × CanRun p [] [] (λ g. suc g) × CallsItself p }

@@ -307,7 +307,7 @@ module _ (args : ℕ) (p : Program) (l : Layout) (here : Here) (small_enough : N
     s_deed (CopyArray d e) h =
         let to = holds_of (WellFormed.may_copy p f (element_kind (kind_in d)) (length_of_kind (kind_in d))) (WellFormed.named p f d) in
         let from = holds_of (WellFormed.array_of p (element_kind (kind_in d)) (length_of_kind (kind_in e))) (WellFormed.named p f e) in
-        let a = and_of to from h in
+        let a = and_of to from (and_of (WellFormed.lengths_fit (length_of_kind (kind_in d)) (length_of_kind (kind_in e))) (to && from) h).1 in
         s_copy_array args (length_of_kind (kind_in d)) (length_of_kind (kind_in e)) (l.bytes (element_kind (kind_in d)))
         (s_named d (holds_is (WellFormed.may_copy p f (element_kind (kind_in d)) (length_of_kind (kind_in d))) (WellFormed.named p f d) a.0))
         (s_named e (holds_is (WellFormed.array_of p (element_kind (kind_in d)) (length_of_kind (kind_in e))) (WellFormed.named p f e) a.1))
@@ -336,8 +336,9 @@ module _ (args : ℕ) (p : Program) (l : Layout) (here : Here) (small_enough : N
         let place = holds_of (WellFormed.takes p WellFormed.is_full) (WellFormed.named p f d) in
         let number = gives_number (WellFormed.checked_form p f x) in
         let limit = gives_number (WellFormed.checked_form p f y) in
-        let a = and_of (WellFormed.is_step step) (place && (number && (limit && WellFormed.fine_row p f body))) h in
-        let b = and_of place (number && (limit && WellFormed.fine_row p f body)) a.1 in
+        let a = and_of (WellFormed.is_step step) (WellFormed.is_whole d && (place && (number && (limit && WellFormed.fine_row p f body)))) h in
+        let w = and_of (WellFormed.is_whole d) (place && (number && (limit && WellFormed.fine_row p f body))) a.1 in
+        let b = and_of place (number && (limit && WellFormed.fine_row p f body)) w.1 in
         let c = and_of number (limit && WellFormed.fine_row p f body) b.1 in
         let e = and_of limit (WellFormed.fine_row p f body) c.1 in
         let variable = s_home d (holds_is (WellFormed.takes p WellFormed.is_full) (WellFormed.named p f d) b.0) in

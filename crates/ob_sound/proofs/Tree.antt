@@ -26,7 +26,7 @@ use Rattle.ob_types.specs.declared.program.Program.{Program}
 use Rattle.ob_types.specs.Forms.{Form, Zero, Truth, Small, Number, Exactly, repeated, joined, all, types_fine, forms}
 use Rattle.ob_types.specs.LegalTypes.{is_record_type}
 use Rattle.ob_types.specs.WellFormed
-use Rattle.ob_types.specs.WellFormed.{has_branch, is_step, label_fine, Named, Cells, Of, OpenOf, Dynamic, Characters, Elementary, Letter, provided, is_number, is_small, is_truth, unary_form, binary_form, is_pointer, is_code, holds_of, with_some, gives_number, gives_pointer, is_equality, comparable, literal_by, literal, is_writable, element_by, open_element, record_by, is_char, is_empty, matched, pointed, changes, is_full, well_formed}
+use Rattle.ob_types.specs.WellFormed.{has_branch, is_step, lengths_fit, is_whole, label_fine, Named, Cells, Of, OpenOf, Dynamic, Characters, Elementary, Letter, provided, is_number, is_small, is_truth, unary_form, binary_form, is_pointer, is_code, holds_of, with_some, gives_number, gives_pointer, is_equality, comparable, literal_by, literal, is_writable, element_by, open_element, record_by, is_char, is_empty, matched, pointed, changes, is_full, well_formed}
 use Rattle.ob_types.proofs.Tests.{none_some, some_same, no, and_of}
 use Rattle.ob_sound.proofs.Typed.{Any, Fits, Good, HasForm, Older, Sound, Stands, Typed, fits_older, global_forms, lt_of, names_older, older_trans, s_bind, s_give, s_given, s_older, s_repeat, string_forms}
 use Rattle.ob_sound.proofs.Constructs.{does_also, Does, Means, Points, holds_is, m_both, m_byte, m_compared, m_either, m_guards, m_in, m_length, m_load, m_of, m_provided, m_texts, m_two, m_unary, m_with, m_with_range, p_field, p_index, p_narrowed, p_object, p_of, p_provided, p_some, s_parameter_type, s_pointer_type, s_type_test}
@@ -161,7 +161,7 @@ module _ (p : Program) where
           mutual
             pub t_effect : (s : Stmt) → Does p fine fs tags (WellFormed.fine p here.procedure s) (effect p calls here fuel s)
             t_effect (Assign d x) = d_assign p fine (name_of d) (form_in x) (t_named d) (t_checked x)
-            t_effect (CopyArray d e) = d_copy_array p fine here.procedure (length_of_kind (kind_in d)) (length_of_kind (kind_in e)) (element_kind (kind_in d)) (name_of d) (name_of e) (t_named d) (t_named e)
+            t_effect (CopyArray d e) = does_also p fine (lengths_fit (length_of_kind (kind_in d)) (length_of_kind (kind_in e))) (d_copy_array p fine here.procedure (length_of_kind (kind_in d)) (length_of_kind (kind_in e)) (element_kind (kind_in d)) (name_of d) (name_of e) (t_named d) (t_named e))
             t_effect (CopyRecord d e) = d_copy_record p fine (record_of_kind (kind_in d)) (name_of d) (name_of e) (t_named d) (t_named e)
             t_effect (Increase d x) = d_change p fine here.procedure Add (λ v n. (_, refl)) (is_byte (kind_in d)) (name_of d) (form_in x) (t_named d) (t_checked x)
             t_effect (Decrease d x) = d_change p fine here.procedure Subtract (λ v n. (_, refl)) (is_byte (kind_in d)) (name_of d) (form_in x) (t_named d) (t_checked x)
@@ -178,7 +178,7 @@ module _ (p : Program) where
             t_effect (If' _ parts _ other) = record { sound = λ h. let y = and_of (WellFormed.fine_branches p here.procedure parts) (WellFormed.fine_row p here.procedure other) h in s_otherwise p fine ((t_branches _ parts).sound y.0) ((t_effects _ other).sound y.1) }
             t_effect (While' _ parts) = record { sound = λ h. let y = and_of (has_branch parts) (WellFormed.fine_branches p here.procedure parts) h in s_repeat p fuel (branches p calls here fuel parts) ((t_branches _ parts).sound y.1) }
             t_effect (Repeat' _ body x) = d_until p fine fuel (WellFormed.fine_row p here.procedure body) (form_in x) (t_effects _ body) (t_checked x)
-            t_effect (For' d x y step _ body) = does_also p fine (is_step step) (d_for p fine fuel step (name_of d) (form_in x) (form_in y) (WellFormed.fine_row p here.procedure body) (t_named d) (t_checked x) (t_checked y) (t_effects _ body))
+            t_effect (For' d x y step _ body) = does_also p fine (is_step step) (does_also p fine (is_whole d) (d_for p fine fuel step (name_of d) (form_in x) (form_in y) (WellFormed.fine_row p here.procedure body) (t_named d) (t_checked x) (t_checked y) (t_effects _ body)))
             t_effect (Case' x _ parts) = d_case p fine here.procedure (form_in x) (WellFormed.fine_case_parts p here.procedure parts) (t_checked x) (λ v. t_case_parts v _ parts)
             t_effect (CasePointer' x _ parts) = record { sound = λ h. let y = and_of (gives_pointer (form_in x)) (WellFormed.fine_type_parts p here.procedure parts) h in s_type_case p fine (s_pointer_type p fine (form_in x) y.0 (t_checked x)) (λ t. (t_type_parts t _ parts).sound y.1) }
             t_effect (CaseParameter' d _ parts) = record { sound = λ h. let y = and_of (holds_of (WellFormed.is_dynamic p) (name_of d)) (WellFormed.fine_type_parts p here.procedure parts) h in s_type_case p fine (s_parameter_type p fine (name_of d) y.0 (t_named d)) (λ t. (t_type_parts t _ parts).sound y.1) }

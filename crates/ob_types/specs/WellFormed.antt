@@ -220,6 +220,20 @@ abbrev pub label_fine : Label → Bool
 label_fine (One a) = is_integer a
 label_fine (Range a b) = is_integer a && (is_integer b && int_le a b)
 
+-- an array is copied into one that isn't shorter, as far as both lengths are known
+abbrev pub lengths_fit : Option ℕ → Option ℕ → Bool
+lengths_fit (Some n) (Some m) = nat_le m n
+lengths_fit _ _ = true
+
+-- behind no selector there is the variable as a whole
+abbrev pub no_selector : {m : _} → Row_of-Selector m → Bool
+no_selector end_of-Selector = true
+no_selector (more_of-Selector s rest) = false
+
+abbrev pub is_whole : Designator → Bool
+is_whole (Whole b k) = true
+is_whole (Part' b k _ selectors) = no_selector selectors
+
 abbrev pub no_answer : Option Checked → Bool
 no_answer None = true
 no_answer (Some x) = false
@@ -489,7 +503,7 @@ module _ (p : Program) where
     abbrev mutual
       pub fine : Stmt → Bool
       fine (Assign d x) = holds_of (λ t. is_writable t && given_for (checked_form x) (scalar_in t)) (named d)
-      fine (CopyArray d e) = holds_of (may_copy (element_kind (kind_in d)) (length_of_kind (kind_in d))) (named d) && holds_of (array_of (element_kind (kind_in d)) (length_of_kind (kind_in e))) (named e)
+      fine (CopyArray d e) = lengths_fit (length_of_kind (kind_in d)) (length_of_kind (kind_in e)) && (holds_of (may_copy (element_kind (kind_in d)) (length_of_kind (kind_in d))) (named d) && holds_of (array_of (element_kind (kind_in d)) (length_of_kind (kind_in e))) (named e))
       fine (CopyRecord d e) = holds_of (λ t. is_writable t && has_record (record_of_kind (kind_in d)) t) (named d) && holds_of (has_record (record_of_kind (kind_in d))) (named e)
       fine (Increase d x) = gives_number (checked_form x) && holds_of (takes (changes (is_byte (kind_in d)))) (named d)
       fine (Decrease d x) = gives_number (checked_form x) && holds_of (takes (changes (is_byte (kind_in d)))) (named d)
@@ -506,7 +520,7 @@ module _ (p : Program) where
       fine (If' _ parts _ other) = fine_branches parts && fine_row other
       fine (While' _ parts) = has_branch parts && fine_branches parts
       fine (Repeat' _ body x) = fine_row body && gives_number (checked_form x)
-      fine (For' d x y step _ body) = is_step step && (holds_of (takes is_full) (named d) && (gives_number (checked_form x) && (gives_number (checked_form y) && fine_row body)))
+      fine (For' d x y step _ body) = is_step step && (is_whole d && (holds_of (takes is_full) (named d) && (gives_number (checked_form x) && (gives_number (checked_form y) && fine_row body))))
       fine (Case' x _ parts) = gives_number (checked_form x) && fine_case_parts parts
       fine (CasePointer' x _ parts) = gives_pointer (checked_form x) && fine_type_parts parts
       fine (CaseParameter' d _ parts) = holds_of is_dynamic (named d) && fine_type_parts parts

@@ -26,7 +26,6 @@ use Rattle.alloc_choice.specs.declared.choice.Choice.{Choice}
 use Rattle.back_end.specs.Images.{IsImageBy}
 use Rattle.lowered_valid.specs.Claims.{IsShort}
 use Rattle.lowered_runs.specs.Claims.{data_bytes}
-use Rattle.lowered_runs.specs.Covered.{program_covered}
 use Rattle.lowered_runs.specs.Words.{AreInput}
 use Rattle.compiled_runs.specs.Compiled.{CanRunAnywhere}
 use Rattle.compiled_runs.proofs.Whole.{means}
@@ -93,10 +92,9 @@ module _ (choice : Choice) (p : Program) (image : Image) (h : IsImageBy choice (
   program_image_is = record { are = h.are; few = h.few; is = h.is }
 
   module _ (fine : well_formed p ≡ true) (none : limit_of p ≡ None) (short : All IsShort (lowered p)) (form : IsInForm image) where
-    can_run : program_covered p ≡ true → (input : List ℕ) → AreInput input → CanRunAnywhere p input (constants_of p)
-    can_run covered input numbers code places = record {
+    can_run : (input : List ℕ) → AreInput input → CanRunAnywhere p input (constants_of p)
+    can_run input numbers code places = record {
       fine = fine;
-      covers = covered;
       numbers = numbers;
       bytes = constants_small p fine;
       places = places;
@@ -106,9 +104,9 @@ module _ (choice : Choice) (p : Program) (image : Image) (h : IsImageBy choice (
     }
 
     pub does_as_meant : DoesAsMeant p h.cuts image
-    does_as_meant covered input numbers =
+    does_as_meant input numbers =
         means p h.cuts (flags_of p) (constants_of p) image input
         (record { flows = h.are.flows; is = h.is; form = form })
         (h.runs input (constants_small p fine) (input_small input numbers))
         (valid p fine none short)
-        (can_run covered input numbers)
+        (can_run input numbers)

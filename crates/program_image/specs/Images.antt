@@ -12,7 +12,6 @@ use Rattle.alloc_choice.specs.declared.choice.Choice.{Choice}
 use Rattle.flow_allocation.specs.Allocations.{trace_count}
 use Rattle.back_end.specs.Images.{AreCutsOf}
 use Rattle.lowered_runs.specs.Claims.{data_bytes}
-use Rattle.lowered_runs.specs.Covered.{program_covered}
 use Rattle.lowered_runs.specs.Words.{AreInput}
 use Rattle.compiled_runs.specs.Compiled.{Means}
 use Rattle.program_image.specs.Limits.{most_traces}
@@ -31,6 +30,6 @@ pub record IsProgramImage (choice : Choice) (p : Program) (cuts : List Cut) (ima
   pub few : trace_count cuts ≤ most_traces
   pub is : image ≡ linked cuts (flags_of p) (data_bytes p) (constants_of p)
 
--- on every input the machine that runs it is in step with what a covered program means
+-- on every input the machine that runs it is in step with what the program means
 abbrev pub DoesAsMeant : Program → List Cut → Image → Type 0
-DoesAsMeant p cuts image = program_covered p ≡ true → (input : List ℕ) → AreInput input → Means p cuts image input
+DoesAsMeant p cuts image = (input : List ℕ) → AreInput input → Means p cuts image input

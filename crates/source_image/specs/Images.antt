@@ -8,8 +8,8 @@ use Rattle.alloc_choice.specs.declared.choice.Choice.{Choice}
 use Rattle.program_image.specs.Images.{IsProgramImage, DoesAsMeant}
 use Rattle.source_program.specs.Texts.{IsProgramOfTexts}
 
--- the image of a program that the texts are, by the choice; where the program is covered, the machine that runs the image is in
--- step with what the program means
+-- the image of a program that the texts are, by the choice; the machine that runs the image is in step with
+-- what the program means
 pub record IsImageOfTexts (choice : Choice) (texts : List (List ℕ)) (image : Image) : Type 0 where
   pub program : Program
   pub of_texts : IsProgramOfTexts texts program

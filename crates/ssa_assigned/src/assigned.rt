@@ -2,9 +2,9 @@
 
 ghost use Rattle.std.specs.Prelude.{◌≡◌, ◌||◌, ℕ, OnOk};
 ghost use Rattle.ssa_lowered.specs.Variables.{itself, origin, assigned};
-ghost use Rattle.ssa_assigned.specs.Assigned.{has, assigned_list, assigned_parts, assigned_cases, assigned_types};
+ghost use Rattle.ssa_assigned.specs.Assigned.{has, unselected_by, assigned_list, assigned_parts, assigned_cases, assigned_types};
 
-use ob_types::{Base, Branch, CasePart, Designator, Stmt, TypePart};
+use ob_types::{Base, Branch, CasePart, Designator, Selector, Stmt, TypePart};
 use ssa_exprs::LowerFault;
 
 /// The variable that a designator is as a whole.
@@ -13,7 +13,25 @@ pub fn note_whole(d: &Designator, found: &mut Vec<u32>) -> Result<(), LowerFault
 {
     match d {
         Designator::Whole(base, _) => note_base(*base, found),
-        Designator::Part(_, _, _) => Ok(()),
+        Designator::Part(base, _, selectors) => {
+            note_unselected(*base, selectors, found)?;
+            Ok(())
+        }
+    }
+}
+
+/// A local variable, where no selector is behind it.
+pub fn note_unselected(
+    base: Base,
+    selectors: &[Selector],
+    found: &mut Vec<u32>,
+) -> Result<(), LowerFault>
+    ensures { OnOk result ((x : ℕ) → has found.new.items x ≡ (has found.old.items x || unselected_by (origin base) selectors.now x)) }
+{
+    if selectors.is_empty() {
+        note_base(base, found)
+    } else {
+        Ok(())
     }
 }
 

@@ -8,5 +8,7 @@
 mod assigned;
 mod joins;
 
-pub use assigned::{note, note_all, note_base, note_cases, note_parts, note_types, note_whole};
+pub use assigned::{
+    note, note_all, note_base, note_cases, note_parts, note_types, note_unselected, note_whole,
+};
 pub use joins::registers;

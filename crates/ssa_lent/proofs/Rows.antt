@@ -14,7 +14,9 @@ use Rattle.ob_types.specs.declared.statements.Branch.{Branch}
 use Rattle.ob_types.specs.declared.statements.CasePart.{CasePart}
 use Rattle.ob_types.specs.declared.statements.TypePart.{TypePart}
 use Rattle.ob_types.specs.declared.statements.Stmt.{Stmt, If, If', While, While', Repeat, Repeat', For, For', Case, Case', CasePointer, CasePointer', CaseParameter, CaseParameter', Row_of-Stmt, end_of-Stmt, more_of-Stmt, items-the_row-Stmt, Row_of-Branch, end_of-Branch, more_of-Branch, items-the_row-Branch, Row_of-CasePart, end_of-CasePart, more_of-CasePart, items-the_row-CasePart, Row_of-TypePart, end_of-TypePart, more_of-TypePart, items-the_row-TypePart, items_hidden-the_row-Stmt-0, items_hidden-the_row-Branch-1, items_shown-the_row-Stmt-0, items_hidden-the_row-CasePart-2, items_hidden-the_row-TypePart-3}
+use Rattle.ssa_assigned.specs.Assigned.{unselected_by}
 use Rattle.ssa_assigned.proofs.Noting.{or_assoc}
+use Rattle.ssa_assigned.proofs.Rows.{unselected_part}
 use Rattle.ssa_lowered.specs.Variables.{none, origin, lent, lent_links, lent_link, lent_at, lent_whole, lent_by_first, lent_selectors, lent_selector, lent_call, lent_in, lent_as, lent_by, lent_by_all, lent_by_branches, lent_by_case_parts, lent_by_type_parts, lent_by_list}
 use Rattle.ssa_lent.specs.Lent.{lent_by_links, lent_by_selectors, lent_by_part, lent_by_arguments, lent_by_statements, lent_by_parts, lent_by_cases, lent_by_types}
 
@@ -62,8 +64,10 @@ lent_chain e ks x =
 pub read_part : (at : Base) (k : TypeKind) (ss : Vec Selector Global) (x : ℕ) → lent_at (Part at k ss) x ≡ lent_by_part at ss.items x
 read_part at k ss x = let r = selectors_of (Part at k ss) in selectors_row r.0 r.1 at x ∙ ap (λ l. lent_by_part at l x) (items_hidden-the_row-Selector-1 ss)
 
-pub whole_part : (at : Base) (k : TypeKind) (ss : Vec Selector Global) (x : ℕ) → lent_whole (Part at k ss) x ≡ lent_by_part at ss.items x
-whole_part at k ss x = let r = selectors_of (Part at k ss) in selectors_row r.0 r.1 at x ∙ ap (λ l. lent_by_part at l x) (items_hidden-the_row-Selector-1 ss)
+pub whole_part : (at : Base) (k : TypeKind) (ss : Vec Selector Global) (x : ℕ) → lent_whole (Part at k ss) x ≡ unselected_by (origin at) ss.items x || lent_by_part at ss.items x
+whole_part at k ss x =
+    let r = selectors_of (Part at k ss) in
+    ap₂ (λ a b. a || b) (unselected_part at k ss x) (selectors_row r.0 r.1 at x ∙ ap (λ l. lent_by_part at l x) (items_hidden-the_row-Selector-1 ss))
 
 pub lent_direct : (g : ℕ) (args : Vec Argument Global) (x : ℕ) → lent_call (Direct g args) x ≡ lent_by_arguments args.items x
 lent_direct g args x = let r = arguments_of (Direct g args) in arguments_row r.0 r.1 x ∙ ap (λ l. lent_by_arguments l x) (items_hidden-the_row-Argument-0 args)

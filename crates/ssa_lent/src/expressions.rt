@@ -6,7 +6,7 @@ ghost use Rattle.ssa_lowered.specs.Variables.{origin, lent, lent_link, lent_at, 
 ghost use Rattle.ssa_lent.specs.Lent.{lent_by_links, lent_by_selectors, lent_by_arguments, lent_by_part};
 
 use ob_types::{Argument, Base, Call, Designator, Expr, Link, Selector};
-use ssa_assigned::note_base;
+use ssa_assigned::{note_base, note_unselected};
 use ssa_exprs::LowerFault;
 
 /// By an expression.
@@ -138,6 +138,7 @@ pub fn lend_whole(d: &Designator, found: &mut Vec<u32>) -> Result<(), LowerFault
             Ok(())
         }
         Designator::Part(base, _, selectors) => {
+            note_unselected(*base, selectors, found)?;
             lend_part(*base, selectors, found)?;
             Ok(())
         }

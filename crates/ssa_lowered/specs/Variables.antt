@@ -38,9 +38,14 @@ abbrev pub origin : Base → Mask
 origin (Local x) = λ y. x == y
 origin _ = none
 
+-- behind no selector there is the variable as a whole
+abbrev pub unselected : {m : _} → Mask → Row_of-Selector m → Mask
+unselected first end_of-Selector = first
+unselected first (more_of-Selector s more) = none
+
 abbrev pub itself : Designator → Mask
 itself (Whole b k) = origin b
-itself _ = none
+itself (Part' b k _ selectors) = unselected (origin b) selectors
 
 ---- Whose addresses are made: of arrays and records, which are in memory anyway, and of scalars those that are VAR arguments and that of In.Char
 
@@ -85,7 +90,7 @@ abbrev mutual
   -- by one whose address is made
   pub lent_whole : Designator → Mask
   lent_whole (Whole b k) = origin b
-  lent_whole (Part' b k _ selectors) = lent_selectors (origin b) selectors
+  lent_whole (Part' b k _ selectors) = either (unselected (origin b) selectors) (lent_selectors (origin b) selectors)
 
   -- by the selectors of what begins at a variable: only the first is one of the variable itself
   pub lent_selectors : {m : _} → Mask → Row_of-Selector m → Mask

@@ -4,7 +4,7 @@ use Rattle.lowered_runs.proofs.laws.programs_keep_up.Goals as goal
 
 pub returns : goal.returns
 returns c = record {
-  covered = λ p input constants code n h. keeps_up p input code constants n h.fine h.numbers h.covers h.places h.globals h.room h.bytes h.stands;
+  all = λ p input constants code n h. keeps_up p input code constants n h.fine h.numbers h.places h.globals h.room h.bytes h.stands;
   some = sample_runs;
   calls = λ b v. some_calls b v;
   hands = λ b v. some_hands b v;

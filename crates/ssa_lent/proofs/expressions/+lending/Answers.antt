@@ -1,6 +1,6 @@
 use Rattle.std.proofs.Common.{◌≡◌, ◌∙◌, ◌||◌, ap, ap₂, sym}
-use Rattle.ssa_lowered.specs.Variables.{lent, lent_at, lent_whole, lent_call}
-use Rattle.ssa_assigned.specs.Assigned.{has}
+use Rattle.ssa_lowered.specs.Variables.{origin, lent, lent_at, lent_whole, lent_call}
+use Rattle.ssa_assigned.specs.Assigned.{has, unselected_by}
 use Rattle.ssa_assigned.proofs.Noting.{or_assoc}
 use Rattle.ssa_lent.specs.Lent.{lent_by_links, lent_by_arguments, lent_by_part}
 use Rattle.ssa_lent.proofs.Rows.{lent_chain, read_part, whole_part, lent_direct, lent_indirect}
@@ -34,6 +34,7 @@ lend_read-returns-in_ok-lend_part-in-Part t c = λ x.
 
 pub lend_whole-returns-in_ok-lend_part-in-Part : goal.lend_whole-returns-in_ok-lend_part-in-Part
 lend_whole-returns-in_ok-lend_part-in-Part t c = λ x.
+    let whole : lent_whole c.args.d.now x ≡ unselected_by (origin c.in-Part.base) c.in-Part.selectors.items x || lent_by_part c.in-Part.base c.in-Part.selectors.items x = ap (λ d. lent_whole d x) c.in-Part.is ∙ whole_part c.in-Part.base c.in-Part.field-1 c.in-Part.selectors x in
     c.in_ok-lend_part-in-Part.ensures x
-    ∙ ap (λ l. has c.args.found.now.items x || lent_by_part c.in-Part.base l x) c.deref.ensures.value
-    ∙ ap (λ b. has c.args.found.now.items x || b) (sym (ap (λ d. lent_whole d x) c.in-Part.is ∙ whole_part c.in-Part.base c.in-Part.field-1 c.in-Part.selectors x))
+    ∙ ap₂ (λ a b. a || b) (c.in_ok-note_unselected-in-Part.ensures x ∙ ap (λ l. has c.args.found.now.items x || unselected_by (origin c.in-Part.base) l x) c.deref.ensures.value) (ap (λ l. lent_by_part c.in-Part.base l x) c.deref-in-Part.ensures.value)
+    ∙ or_assoc (has c.args.found.now.items x) (unselected_by (origin c.in-Part.base) c.in-Part.selectors.items x) (lent_by_part c.in-Part.base c.in-Part.selectors.items x) ∙ ap (λ b. has c.args.found.now.items x || b) (sym whole)
