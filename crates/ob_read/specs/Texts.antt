@@ -46,7 +46,7 @@ pub data Breaks (w : List ℕ) (number at : ℕ) : Type 0 where
 
 abbrev pub IsFault : List ℕ → TextFault → Type 0
 IsFault w TooLong = most_bytes < length w
-IsFault w (Fault number at) = Breaks w number at
+IsFault w (Fault number at) = (length w ≤ most_bytes) × Breaks w number at
 IsFault w Memory = Unit {0}
 
 -- a literal's number has 64 bits, a character one byte

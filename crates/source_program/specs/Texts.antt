@@ -9,6 +9,7 @@ use Rattle.ob_judge.specs.Modules.{SoFar, Parsed, no_modules, with_module}
 use Rattle.judged_programs.specs.ProgramOf.{IsProgramOf}
 use Rattle.ob_read.specs.Texts.{IsModuleText, most_bytes}
 use Rattle.ob_read.specs.Texts as Read
+use Rattle.ob_read.specs.declared.fault.TextFault.TheVariants as OfText
 use Rattle.source_program.specs.declared.fault.SourceFault.{SourceFault}
 use Rattle.source_program.specs.declared.fault.SourceFault.TheVariants.{TooLong, Fault, Memory}
 
@@ -45,7 +46,7 @@ pub record IsProgramOfTexts (texts : List (List ℕ)) (p : Program) : Type 0 whe
 
 -- a text breaks this rule at this byte, behind these modules: one of symbols or of the grammar, or one of the language
 pub data BreaksBehind (c : SoFar) (bytes : List ℕ) (number at : ℕ) : Type 0 where
-  InText : Read.Breaks bytes number at → BreaksBehind c bytes number at
+  InText : Read.IsFault bytes (OfText.Fault number at) → BreaksBehind c bytes number at
   InModule : (m : Parsed) → IsParsed bytes m → with_module m.source m.tree c ≡ Breaks number at → BreaksBehind c bytes number at
 
 -- this is the first module with such a text: those before are read as modules that the judgement accepts
