@@ -73,9 +73,10 @@ fn a_trace_has_a_line(rt: HostRuntime) -> Result<(), Fail> {
         jobs: 1,
     };
     let flows = [flow(rt.alloc())?, flow(rt.alloc())?];
-    let text = trace_report(rt.alloc(), &choice, &flows)?;
+    let report = trace_report(rt.alloc(), &choice, &flows)?;
     let wanted =
         "0 0 1048576 - linear 0,1,3\n0 1 131072 0 trivial 2\n1 0 1048576 - linear 0,1,3\n1 1 131072 0 trivial 2\n";
-    assert!(rt; text.as_slice() == wanted.as_bytes());
+    assert!(rt; report.lines.as_slice() == wanted.as_bytes());
+    assert_eq!(rt; report.traces, 4);
     Ok(())
 }

@@ -1,7 +1,6 @@
 -- Which image procedures have.
 use Rattle.std.specs.Prelude.{◌≡◌, ℕ, ◌<◌, ◌≤◌, ◌^◌, List, map, get_or, false, length}
 use Rattle.a64_memory.specs.Memory.{AreBytes}
-use Rattle.image_form.specs.declared.image.Image.{Image}
 use Rattle.ssa_core.specs.declared.procedure.Proc.{Proc}
 use Rattle.ssa_core.specs.Validity.{IsValid}
 use Rattle.a64_select.specs.Selected.{selected}
@@ -11,6 +10,7 @@ use Rattle.linked_flows.specs.Allocations.{Cut, steps_of, all_allocated}
 use Rattle.link_plan.specs.Linked.{linked, Runs}
 use Rattle.alloc_choice.specs.declared.choice.Choice.{Choice}
 use Rattle.flow_allocation.specs.Allocations.{AllAllocations, trace_count}
+use Rattle.back_end.specs.declared.imaging.LinkedProcedures.{LinkedProcedures}
 
 -- a valid procedure with few local data; a module's body takes no arguments
 pub record IsReady (p : Proc) : Type 0 where
@@ -32,9 +32,10 @@ abbrev pub code_length : List Cut → ℕ
 code_length cuts = length (all_words (all_placed steps_of (all_allocated cuts)))
 
 -- these, at most 262,144 traces, linked; the machine that runs the image is in step with what they keep up with
-pub record IsImageBy (choice : Choice) (procs : List Proc) (flags globals : ℕ) (constants : List ℕ) (image : Image) : Type 0 where
+pub record IsImageBy (choice : Choice) (procs : List Proc) (flags globals : ℕ) (constants : List ℕ) (made : LinkedProcedures) : Type 0 where
   pub cuts : List Cut
   pub are : AreCutsOf choice procs cuts
   pub few : trace_count cuts ≤ 262144
-  pub is : image ≡ linked cuts flags globals constants
-  pub runs : (input : List ℕ) → AreBytes constants → ((i : ℕ) → get_or input i 0 < 2 ^ 64) → Runs image cuts globals constants input
+  pub count : made.traces ≡ trace_count cuts
+  pub is : made.image ≡ linked cuts flags globals constants
+  pub runs : (input : List ℕ) → AreBytes constants → ((i : ℕ) → get_or input i 0 < 2 ^ 64) → Runs made.image cuts globals constants input

@@ -22,6 +22,13 @@ use std::alloc::Global;
 /// How many traces there are at most.
 const MOST_TRACES: u32 = 262_144;
 
+/// An image, and of how many traces its code is made.
+#[derive(Drop)]
+pub struct LinkedProcedures {
+    pub image: Image,
+    pub traces: u32,
+}
+
 /// The image of procedures by their numbers: each one's flow in the traces of the builder that is chosen, the first of these with
 /// the number behind those of the procedures before it, each with the final result by the policy, in lines with the moves of
 /// edges, linked. `Traces` comes exactly where there are over 262,144 traces, `Code` where there are not and the code is over
@@ -32,13 +39,13 @@ pub fn image_of(
     choice: &Choice,
     procedures: &[Proc],
     extra: Data,
-) -> Result<Image, ImageFault>
+) -> Result<LinkedProcedures, ImageFault>
     requires ready { All IsReady procedures.now }
     requires enough { 4 ≤ choice.now.regs }
     requires few { choice.now.regs ≤ 16 }
     requires extra { DataFits extra.flags extra.globals extra.constants }
     ensures image { IfOk result (IsImageBy choice.now procedures.now extra.flags extra.globals extra.constants) }
-    ensures form { IfOk result IsInForm }
+    ensures form { IfOk result (λ linked. IsInForm linked.image) }
     ensures traces { IfErr result (λ fault. fault ≡ Traces
         → (cuts : List Cut) × AreCutsOf choice.now procedures.now cuts × (262144 < trace_count cuts)) }
     ensures code { IfErr result (λ fault. fault ≡ Code
@@ -60,13 +67,16 @@ pub fn image_of(
         allocated.outs.as_slice(),
         extra,
     ) {
-        Ok(image) => Ok(image),
+        Ok(image) => Ok(LinkedProcedures {
+            image,
+            traces: allocated.traces,
+        }),
         Err(fault) => Err(fault_of(fault)),
     }
 }
 
-// The flows of procedures.
-fn select_all(alloc: Global, procedures: &[Proc]) -> Result<Vec<Flow>, ImageFault>
+/// The flows of procedures, each selected.
+pub fn select_all(alloc: Global, procedures: &[Proc]) -> Result<Vec<Flow>, ImageFault>
     requires { All IsReady procedures.now }
     ensures flows { IfOk result (λ flows. flows.items ≡ map selected procedures.now) }
     ensures numbers { IfOk result (λ flows. All (λ f. node_numbers f.nodes ≡ true) flows.items) }

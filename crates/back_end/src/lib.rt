@@ -8,8 +8,8 @@ mod imaging;
 mod numbers;
 
 pub use fault::ImageFault;
-pub use flow_allocation::{Builder, Choice, Policy};
+pub use flow_allocation::{Builder, Choice, Flow, Policy};
 pub use image_form::Image;
-pub use imaging::image_of;
+pub use imaging::{LinkedProcedures, image_of, select_all};
 pub use link_plan::Data;
 pub use ssa_core::Proc;

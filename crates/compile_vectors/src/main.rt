@@ -10,7 +10,7 @@
 ghost use Rattle.std.specs.Prelude.{◌≤◌};
 
 use items::Items;
-use source_image::{Builder, Choice, Image, Policy, Refusal, source_image};
+use source_image::{Builder, Choice, Compiled, Image, Policy, Refusal, source_image};
 use std::alloc::{AllocError, Global};
 use std::io;
 use std::io::{BufRead, BufReader};
@@ -80,9 +80,9 @@ fn sum_of(image: &Image) -> u64 {
 }
 
 /// The line that tells what texts come to.
-fn told(alloc: Global, made: &Result<Image, Refusal>) -> Result<String, AllocError> {
+fn told(alloc: Global, made: &Result<Compiled, Refusal>) -> Result<String, AllocError> {
     match made {
-        Ok(image) => {
+        Ok(Compiled { image, .. }) => {
             let words = image.code.as_slice().len();
             let constants = image.constants.as_slice().len();
             let sum = sum_of(image);

@@ -7,7 +7,7 @@ use Rattle.trace_build.specs.Cuts.{lists_of}
 use Rattle.linked_flows.specs.Allocations.{Cut}
 use Rattle.alloc_choice.specs.declared.choice.Choice.{Choice}
 use Rattle.flow_allocation.specs.Allocations.{AllAllocations, trace_count}
-use Rattle.program_image.specs.Limits.{traces_in}
+use Rattle.trace_report.specs.Reports.{traces_in}
 
 as_many : (ts : List Trace) → length ts ≡ length (lists_of ts)
 as_many [] = refl

@@ -11,8 +11,8 @@ use Rattle.ssa_tables.proofs.Limits.{first_within, few_descriptors}
 use Rattle.ssa_constants.proofs.Counted.{constants_length, globals_length}
 use Rattle.ssa_build.proofs.Within.{few_procedures, few_globals, few_constants}
 use Rattle.link_plan.specs.Linked.{DataFits}
-use Rattle.lowered_runs.specs.Claims.{data_bytes}
-use Rattle.program_image.specs.Images.{flags_of, constants_of}
+use Rattle.lowered_runs.specs.Claims.{data_bytes, constants_of}
+use Rattle.program_image.specs.Images.{flags_of}
 
 flag_small : (b : Bool) → (if b then 1 else 0) < 2
 flag_small true = omega arith

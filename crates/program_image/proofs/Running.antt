@@ -4,7 +4,6 @@ use Rattle.std.specs.Prelude.{All, nat_lt}
 use Rattle.std.specs.List.{flat_map}
 use Rattle.std.specs.Int.{to_le_bytes, w64}
 use Rattle.std.proofs.lemmas.Bool.{ltb-true}
-use Rattle.image_form.specs.declared.image.Image.{Image}
 use Rattle.image_form.specs.Form.{IsInForm}
 use Rattle.a64_memory.specs.Memory.{AreBytes}
 use Rattle.a64_memory.proofs.Cells.{no_bytes, more_bytes, bytes_of_8}
@@ -23,13 +22,14 @@ use Rattle.ssa_lowered.specs.Lowered.{lowered}
 use Rattle.ssa_lowered.specs.Pieces.{numbers}
 use Rattle.link_plan.proofs.Low.{and_left, and_right}
 use Rattle.alloc_choice.specs.declared.choice.Choice.{Choice}
+use Rattle.back_end.specs.declared.imaging.LinkedProcedures.{LinkedProcedures}
 use Rattle.back_end.specs.Images.{IsImageBy}
 use Rattle.lowered_valid.specs.Claims.{IsShort}
-use Rattle.lowered_runs.specs.Claims.{data_bytes}
+use Rattle.lowered_runs.specs.Claims.{data_bytes, constants_of}
 use Rattle.lowered_runs.specs.Words.{AreInput}
 use Rattle.compiled_runs.specs.Compiled.{CanRunAnywhere}
 use Rattle.compiled_runs.proofs.Whole.{means}
-use Rattle.program_image.specs.Images.{flags_of, constants_of, IsProgramImage, DoesAsMeant}
+use Rattle.program_image.specs.Images.{flags_of, IsProgramImage, DoesAsMeant}
 use Rattle.program_image.proofs.Ready.{valid}
 use Rattle.program_image.proofs.Fitting.{room, near}
 
@@ -79,19 +79,19 @@ input_small (x ∷ xs) e (suc i) = input_small xs (and_right (nat_lt x 256) (all
 ---- The image
 
 -- the same image, in the words of the program
-pub in_program : (choice : Choice) (p : Program) (procs : List Proc) (flags globals : ℕ) (bytes : List ℕ) (image : Image) → procs ≡ lowered p → flags ≡ flags_of p → globals ≡ data_bytes p → bytes ≡ constants_of p
-    → IsImageBy choice procs flags globals bytes image → IsImageBy choice (lowered p) (flags_of p) (data_bytes p) (constants_of p) image
-in_program choice p procs flags globals bytes image a b c d h =
-    subst (λ ps. IsImageBy choice ps (flags_of p) (data_bytes p) (constants_of p) image) a
-    (subst (λ n. IsImageBy choice procs n (data_bytes p) (constants_of p) image) b
-    (subst (λ n. IsImageBy choice procs flags n (constants_of p) image) c
-    (subst (λ bs. IsImageBy choice procs flags globals bs image) d h)))
+pub in_program : (choice : Choice) (p : Program) (procs : List Proc) (flags globals : ℕ) (bytes : List ℕ) (made : LinkedProcedures) → procs ≡ lowered p → flags ≡ flags_of p → globals ≡ data_bytes p → bytes ≡ constants_of p
+    → IsImageBy choice procs flags globals bytes made → IsImageBy choice (lowered p) (flags_of p) (data_bytes p) (constants_of p) made
+in_program choice p procs flags globals bytes made a b c d h =
+    subst (λ ps. IsImageBy choice ps (flags_of p) (data_bytes p) (constants_of p) made) a
+    (subst (λ n. IsImageBy choice procs n (data_bytes p) (constants_of p) made) b
+    (subst (λ n. IsImageBy choice procs flags n (constants_of p) made) c
+    (subst (λ bs. IsImageBy choice procs flags globals bs made) d h)))
 
-module _ (choice : Choice) (p : Program) (image : Image) (h : IsImageBy choice (lowered p) (flags_of p) (data_bytes p) (constants_of p) image) where
-  pub program_image_is : IsProgramImage choice p h.cuts image
+module _ (choice : Choice) (p : Program) (made : LinkedProcedures) (h : IsImageBy choice (lowered p) (flags_of p) (data_bytes p) (constants_of p) made) where
+  pub program_image_is : IsProgramImage choice p h.cuts made.image
   program_image_is = record { are = h.are; few = h.few; is = h.is }
 
-  module _ (fine : well_formed p ≡ true) (none : limit_of p ≡ None) (short : All IsShort (lowered p)) (form : IsInForm image) where
+  module _ (fine : well_formed p ≡ true) (none : limit_of p ≡ None) (short : All IsShort (lowered p)) (form : IsInForm made.image) where
     can_run : (input : List ℕ) → AreInput input → CanRunAnywhere p input (constants_of p)
     can_run input numbers code places = record {
       fine = fine;
@@ -103,9 +103,9 @@ module _ (choice : Choice) (p : Program) (image : Image) (h : IsImageBy choice (
       stands = λ has. record { same = refl; near = near p none };
     }
 
-    pub does_as_meant : DoesAsMeant p h.cuts image
+    pub does_as_meant : DoesAsMeant p h.cuts made.image
     does_as_meant input numbers =
-        means p h.cuts (flags_of p) (constants_of p) image input
+        means p h.cuts (flags_of p) (constants_of p) made.image input
         (record { flows = h.are.flows; is = h.is; form = form })
         (h.runs input (constants_small p fine) (input_small input numbers))
         (valid p fine none short)

@@ -15,7 +15,8 @@ use Rattle.back_end.specs.declared.fault.ImageFault.{ImageFault}
 use Rattle.back_end.specs.declared.fault.ImageFault.TheVariants as back
 use Rattle.compiled_runs.specs.Compiled.{flows_of}
 use Rattle.program_image.specs.Faults.{Tells, of_lowering, of_imaging}
-use Rattle.program_image.specs.Limits.{most_traces, traces_in, IsPassedFirst, InLowering, ByTraces, ByWords}
+use Rattle.trace_report.specs.Reports.{traces_in}
+use Rattle.program_image.specs.Limits.{most_traces, IsPassedFirst, InLowering, ByTraces, ByWords}
 use Rattle.program_image.proofs.Counting.{counted}
 
 pub lowering_tells : (choice : Choice) (p : Program) (fault : LowerFault) → TellsLowered fault (limit_of p) → Tells choice p (of_lowering fault)
@@ -30,7 +31,7 @@ module _ (choice : Choice) (p : Program) (none : limit_of p ≡ None) where
   abbrev HasWords : List Proc → Type 0
   HasWords procs = (cuts : List Cut) × AreCutsOf choice procs cuts × (trace_count cuts ≤ 262144) × (2 ^ 18 < code_length cuts)
 
-  count_is : (cuts : List Cut) → AreCutsOf choice (lowered p) cuts → trace_count cuts ≡ traces_in choice.builder (flows_of p)
+  pub count_is : (cuts : List Cut) → AreCutsOf choice (lowered p) cuts → trace_count cuts ≡ traces_in choice.builder (flows_of p)
   count_is cuts are = counted choice 0 cuts (flows_of p) are.flows are.each
 
   by_traces : HasTraces (lowered p) → most_traces < traces_in choice.builder (flows_of p)

@@ -1,17 +1,14 @@
 -- Which image a program has by a choice, and what it does.
-use Rattle.std.specs.Prelude.{◌≡◌, ℕ, ◌≤◌, List, true, if◌then◌else◌}
+use Rattle.std.specs.Prelude.{◌≡◌, ℕ, ◌≤◌, List, if◌then◌else◌}
 use Rattle.image_form.specs.declared.image.Image.{Image}
-use Rattle.block_runs.specs.First.{data_base}
 use Rattle.ob_types.specs.declared.program.Program.{Program}
-use Rattle.ssa_lowered.specs.Constants.{constants}
-use Rattle.ssa_lowered.specs.Data.{in_cells}
 use Rattle.ssa_lowered.specs.Lowered.{lowered}
 use Rattle.linked_flows.specs.Allocations.{Cut}
 use Rattle.link_plan.specs.Linked.{linked}
 use Rattle.alloc_choice.specs.declared.choice.Choice.{Choice}
 use Rattle.flow_allocation.specs.Allocations.{trace_count}
 use Rattle.back_end.specs.Images.{AreCutsOf}
-use Rattle.lowered_runs.specs.Claims.{data_bytes}
+use Rattle.lowered_runs.specs.Claims.{data_bytes, constants_of}
 use Rattle.lowered_runs.specs.Words.{AreInput}
 use Rattle.compiled_runs.specs.Compiled.{Means}
 use Rattle.program_image.specs.Limits.{most_traces}
@@ -19,10 +16,6 @@ use Rattle.program_image.specs.Limits.{most_traces}
 -- 1 where some module imports In, else 0
 abbrev pub flags_of : Program → ℕ
 flags_of p = if p.imports_in then 1 else 0
-
--- descriptors and strings, where the globals start at the machine's address
-abbrev pub constants_of : Program → List ℕ
-constants_of p = constants p (in_cells p.types) data_base
 
 -- the flows of the lowered procedures in traces with final results by the choice, linked with the program's data
 pub record IsProgramImage (choice : Choice) (p : Program) (cuts : List Cut) (image : Image) : Type 0 where

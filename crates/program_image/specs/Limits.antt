@@ -1,12 +1,10 @@
 -- Which limit a program passes first on its way to an image.
-use Rattle.std.specs.Prelude.{◌≡◌, ℕ, ◌+◌, ◌<◌, ◌≤◌, List, [], ◌∷◌, length, All, Some, None}
+use Rattle.std.specs.Prelude.{◌≡◌, ℕ, ◌<◌, ◌≤◌, List, All, Some, None}
 use Rattle.ob_types.specs.declared.program.Program.{Program}
 use Rattle.ssa_lowered.specs.Limits.{Limit, limit_of}
 use Rattle.ssa_lowered.specs.Lowered.{lowered}
 use Rattle.lowered_valid.specs.Claims.{IsShort}
-use Rattle.lir_core.specs.declared.flow.Flow.{Flow}
-use Rattle.trace_build.specs.declared.builder.Builder.{Builder}
-use Rattle.trace_build.specs.Traces.{traces_of}
+use Rattle.trace_report.specs.Reports.{traces_in}
 use Rattle.linked_flows.specs.Allocations.{Cut}
 use Rattle.alloc_choice.specs.declared.choice.Choice.{Choice}
 use Rattle.back_end.specs.Images.{AreCutsOf, code_length}
@@ -17,11 +15,6 @@ most_traces = 262144
 
 abbrev pub most_words : ℕ
 most_words = 262144
-
--- how many traces a builder makes of flows
-abbrev pub traces_in : Builder → List Flow → ℕ
-traces_in builder [] = 0
-traces_in builder (f ∷ fs) = length (traces_of builder f.nodes) + traces_in builder fs
 
 -- the code of the program's flows in traces with final results by the choice has too many words
 abbrev pub HasMuchCode : Choice → Program → Type 0

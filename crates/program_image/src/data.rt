@@ -3,8 +3,8 @@
 ghost use Rattle.std.specs.Prelude.{◌≡◌, None, IfOk};
 ghost use Rattle.ssa_lowered.specs.Limits.{limit_of};
 ghost use Rattle.ssa_tables.specs.Shared.{ServesAll};
-ghost use Rattle.lowered_runs.specs.Claims.{data_bytes};
-ghost use Rattle.program_image.specs.Images.{flags_of, constants_of};
+ghost use Rattle.lowered_runs.specs.Claims.{data_bytes, constants_of};
+ghost use Rattle.program_image.specs.Images.{flags_of};
 
 use back_end::Data;
 use image_form::Bytes;

@@ -1,14 +1,16 @@
 //! The image of a program.
 
-ghost use Rattle.std.specs.Prelude.{◌≡◌, ◌≤◌, true, None, List, IfOk, OnOk, IfErr};
+ghost use Rattle.std.specs.Prelude.{◌≡◌, ◌≤◌, true, None, List, length, IfOk, OnOk, IfErr};
 ghost use Rattle.image_form.specs.Form.{IsInForm};
 ghost use Rattle.ob_types.specs.WellFormed.{well_formed};
 ghost use Rattle.ssa_lowered.specs.Limits.{limit_of};
+ghost use Rattle.ssa_lowered.specs.Lowered.{lowered};
 ghost use Rattle.linked_flows.specs.Allocations.{Cut};
 ghost use Rattle.compiled_runs.specs.Compiled.{flows_of};
 ghost use Rattle.program_image.specs.Faults.{Tells};
 ghost use Rattle.program_image.specs.Images.{IsProgramImage, DoesAsMeant};
-ghost use Rattle.program_image.specs.Limits.{most_traces, traces_in};
+ghost use Rattle.program_image.specs.Limits.{most_traces};
+ghost use Rattle.trace_report.specs.Reports.{traces_in};
 
 use crate::data::program_data;
 use crate::fault::{ProgramFault, of_imaging, of_lowering, whole_limit};
@@ -18,6 +20,14 @@ use short_procedures::are_short;
 use ssa_build::lower_with_tables;
 use std::alloc::Global;
 
+/// A program's image, and how many procedures and traces it was made of, the modules' bodies among the procedures.
+#[derive(Drop)]
+pub struct Compiled {
+    pub image: Image,
+    pub procedures: usize,
+    pub traces: u32,
+}
+
 /// The image of a well-formed program: its procedures, lowered, by the builder, the policy and the registers that are chosen,
 /// with its globals and constants. A program is refused by the first limit that it passes: one of lowering, or over 262,144
 /// traces (57), or over 262,144 words of code (54). A procedure of over 500,000,000 blocks and operations
@@ -26,16 +36,18 @@ pub fn program_image(
     alloc: Global,
     choice: &Choice,
     program: &Program,
-) -> Result<Image, ProgramFault>
+) -> Result<Compiled, ProgramFault>
     requires well_formed { well_formed program.now ≡ true }
     requires enough { 4 ≤ choice.now.regs }
     requires few { choice.now.regs ≤ 16 }
-    ensures image { IfOk result (λ image. (cuts : List Cut) × IsProgramImage choice.now program.now cuts image) }
-    ensures means { IfOk result (λ image. (cuts : List Cut) × IsProgramImage choice.now program.now cuts image
-        × DoesAsMeant program.now cuts image) }
-    ensures form { IfOk result IsInForm }
+    ensures image { IfOk result (λ made. (cuts : List Cut) × IsProgramImage choice.now program.now cuts made.image) }
+    ensures means { IfOk result (λ made. (cuts : List Cut) × IsProgramImage choice.now program.now cuts made.image
+        × DoesAsMeant program.now cuts made.image) }
+    ensures form { IfOk result (λ made. IsInForm made.image) }
     ensures within { OnOk result (limit_of program.now ≡ None) }
-    ensures traces { OnOk result (traces_in choice.now.builder (flows_of program.now) ≤ most_traces) }
+    ensures few { OnOk result (traces_in choice.now.builder (flows_of program.now) ≤ most_traces) }
+    ensures procedures { IfOk result (λ made. made.procedures ≡ length (lowered program.now)) }
+    ensures traces { IfOk result (λ made. made.traces ≡ traces_in choice.now.builder (flows_of program.now)) }
     ensures limit { IfErr result (Tells choice.now program.now) }
 {
     let made = match lower_with_tables(alloc, program) {
@@ -51,7 +63,11 @@ pub fn program_image(
         Err(_) => return Err(ProgramFault::Memory),
     };
     match image_of(alloc, choice, procedures, data) {
-        Ok(image) => Ok(image),
+        Ok(linked) => Ok(Compiled {
+            image: linked.image,
+            procedures: procedures.len(),
+            traces: linked.traces,
+        }),
         Err(fault) => Err(of_imaging(fault)),
     }
 }

@@ -1,19 +1,31 @@
--- Which image texts have by a choice, and what it does.
-use Rattle.std.specs.Prelude.{◌≡◌, ℕ, List, true}
-use Rattle.image_form.specs.declared.image.Image.{Image}
+-- Which image texts have by a choice, and what it does; and which traces.
+use Rattle.std.specs.Prelude.{◌≡◌, ℕ, List, true, length}
 use Rattle.ob_types.specs.WellFormed.{well_formed}
 use Rattle.ob_types.specs.declared.program.Program.{Program}
+use Rattle.ssa_lowered.specs.Lowered.{lowered}
 use Rattle.linked_flows.specs.Allocations.{Cut}
 use Rattle.alloc_choice.specs.declared.choice.Choice.{Choice}
+use Rattle.compiled_runs.specs.Compiled.{flows_of}
+use Rattle.trace_report.specs.Reports.{IsReport, traces_in}
 use Rattle.program_image.specs.Images.{IsProgramImage, DoesAsMeant}
+use Rattle.program_image.specs.declared.imaging.Compiled.{Compiled}
 use Rattle.source_program.specs.Texts.{IsProgramOfTexts}
 
--- the image of a program that the texts are, by the choice; the machine that runs the image is in step with
--- what the program means
-pub record IsImageOfTexts (choice : Choice) (texts : List (List ℕ)) (image : Image) : Type 0 where
+-- the image of a program that the texts are, by the choice, with the numbers of its procedures and traces; the machine that runs the
+-- image is in step with what the program means
+pub record IsImageOfTexts (choice : Choice) (texts : List (List ℕ)) (made : Compiled) : Type 0 where
   pub program : Program
   pub of_texts : IsProgramOfTexts texts program
   pub well_formed : well_formed program ≡ true
   pub cuts : List Cut
-  pub is : IsProgramImage choice program cuts image
-  pub means : DoesAsMeant program cuts image
+  pub is : IsProgramImage choice program cuts made.image
+  pub means : DoesAsMeant program cuts made.image
+  pub procedures : made.procedures ≡ length (lowered program)
+  pub traces : made.traces ≡ traces_in choice.builder (flows_of program)
+
+-- the lines that tell the traces of a program that the texts are
+pub record AreTracesOfTexts (choice : Choice) (texts : List (List ℕ)) (lines : List ℕ) : Type 0 where
+  pub program : Program
+  pub of_texts : IsProgramOfTexts texts program
+  pub well_formed : well_formed program ≡ true
+  pub are : IsReport choice 0 (flows_of program) lines

@@ -1,24 +1,28 @@
-//! The image of a program's texts.
+//! The image of a program's texts, and its traces.
 
 ghost use Rattle.std.specs.Prelude.{◌≤◌, IfOk, IfErr};
 ghost use Rattle.image_form.specs.Form.{IsInForm};
-ghost use Rattle.source_image.specs.Images.{IsImageOfTexts};
+ghost use Rattle.source_image.specs.Images.{IsImageOfTexts, AreTracesOfTexts};
 ghost use Rattle.source_image.specs.Refusals.{IsRefusal};
 
 use crate::refusal::{Refusal, refused_program, refused_source};
 use items::Items;
-use program_image::{Choice, Image, program_image};
+use program_image::{Choice, Compiled, program_image, program_traces};
 use source_program::source_program;
 use std::alloc::Global;
 
 /// The image of the modules with these texts, in this order, by the builder, the policy and the registers that are chosen.
 ///
 /// Each text is read and judged before the next is begun, and limits of the program come after all modules are judged.
-pub fn source_image(alloc: Global, choice: &Choice, texts: &[Items<u8>]) -> Result<Image, Refusal>
+pub fn source_image(
+    alloc: Global,
+    choice: &Choice,
+    texts: &[Items<u8>],
+) -> Result<Compiled, Refusal>
     requires enough { 4 ≤ choice.now.regs }
     requires few { choice.now.regs ≤ 16 }
     ensures image { IfOk result (IsImageOfTexts choice.now texts.now) }
-    ensures form { IfOk result IsInForm }
+    ensures form { IfOk result (λ made. IsInForm made.image) }
     ensures refused { IfErr result (IsRefusal choice.now texts.now) }
 {
     let program = match source_program(alloc, texts) {
@@ -26,7 +30,28 @@ pub fn source_image(alloc: Global, choice: &Choice, texts: &[Items<u8>]) -> Resu
         Err(fault) => return Err(refused_source(fault)),
     };
     match program_image(alloc, choice, &program) {
-        Ok(image) => Ok(image),
+        Ok(made) => Ok(made),
+        Err(fault) => Err(refused_program(fault)),
+    }
+}
+
+/// The lines that tell the traces of the modules with these texts, by the builder and the policy that are chosen.
+///
+/// Each text is read and judged before the next is begun, and limits of the program come after all modules are judged.
+pub fn source_traces(
+    alloc: Global,
+    choice: &Choice,
+    texts: &[Items<u8>],
+) -> Result<Vec<u8>, Refusal>
+    ensures lines { IfOk result (λ lines. AreTracesOfTexts choice.now texts.now lines.items) }
+    ensures refused { IfErr result (IsRefusal choice.now texts.now) }
+{
+    let program = match source_program(alloc, texts) {
+        Ok(program) => program,
+        Err(fault) => return Err(refused_source(fault)),
+    };
+    match program_traces(alloc, choice, &program) {
+        Ok(lines) => Ok(lines),
         Err(fault) => Err(refused_program(fault)),
     }
 }

@@ -1,13 +1,13 @@
 //! From the texts of modules to the image of the program that they are.
 //!
 //! `source_image` reads and judges the texts, and makes the image of their program by a choice of traces, policy and registers.
-//! `specs/Images.antt` says which image that is, and that it does what the program means; `specs/Refusals.antt`, why there is
+//! `source_traces` tells its traces instead. `specs/Images.antt` says which image that is, and that it does what the program means; `specs/Refusals.antt`, why there is
 //! none: the first rule that is broken, the first limit that is passed, or want of memory.
 #![tactic(auto)]
 
 mod imaging;
 mod refusal;
 
-pub use imaging::source_image;
-pub use program_image::{Builder, Choice, Image, Policy};
+pub use imaging::{source_image, source_traces};
+pub use program_image::{Builder, Choice, Compiled, Image, Policy};
 pub use refusal::Refusal;

@@ -7,4 +7,4 @@
 mod lines;
 mod reporting;
 
-pub use reporting::trace_report;
+pub use reporting::{Report, trace_report};

@@ -36,6 +36,7 @@ returns-in-Ok-clause-image c =
       cuts = h.cuts;
       are = are_cuts_of choice procs parts outs n h;
       few = omega (arith, few, count);
+      count = h.count;
       is = c.in-Ok.ensures.image choice.regs h.cuts cuts;
       runs = λ input bytes numbers. c.in-Ok.ensures.runs choice.regs h.cuts input cuts bytes numbers;
     }

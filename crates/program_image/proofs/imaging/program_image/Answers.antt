@@ -1,4 +1,5 @@
-use Rattle.std.proofs.Common.{◌≡◌, true, false, sym, ◌∙◌, subst}
+use Rattle.std.proofs.Common.{◌≡◌, true, false, List, length, sym, ap, ◌∙◌, subst}
+use Rattle.ssa_core.specs.declared.procedure.Proc.{Proc}
 use Rattle.std.specs.Prelude.{All}
 use Rattle.ssa_tables.proofs.Measuring.{measured}
 use Rattle.back_end.specs.Images.{IsReady, HasFewValues}
@@ -7,7 +8,7 @@ use Rattle.program_image.specs.Limits.{ByLength}
 use Rattle.program_image.proofs.Ready.{are_short, has_long, ready, few_values}
 use Rattle.program_image.proofs.Fitting.{data_fits_as}
 use Rattle.program_image.proofs.Running.{in_program, program_image_is, does_as_meant}
-use Rattle.program_image.proofs.Telling.{lowering_tells, imaging_tells, few_traces}
+use Rattle.program_image.proofs.Telling.{lowering_tells, imaging_tells, few_traces, count_is}
 use Rattle.program_image.proofs.imaging.program_image.Goals as goal
 
 pub lower_with_tables-requires : goal.lower_with_tables-requires
@@ -44,25 +45,40 @@ pub returns-in-Ok-image_of-clause-means : goal.returns-in-Ok-image_of-clause-mea
 returns-in-Ok-image_of-clause-means c =
     let choice = c.args.choice.now in
     let p = c.args.program.now in
-    let image = c.in-Ok-image_of.image in
+    let linked = c.in-Ok-image_of.linked in
     let same = c.as_slice-procedures.ensures ∙ c.in-Ok.ensures.ok in
     let made = c.in-Ok-program_data.ensures in
     let e : true ≡ c.are_short.result = let t = c.if-not-are_short.false in cc in
     let short = are_short p c.as_slice-procedures.result.now same (e ∙ c.are_short.ensures) in
-    let h = in_program choice p c.as_slice-procedures.result.now c.in-Ok-program_data.data.flags c.in-Ok-program_data.data.globals c.in-Ok-program_data.data.constants image
+    let h = in_program choice p c.as_slice-procedures.result.now c.in-Ok-program_data.data.flags c.in-Ok-program_data.data.globals c.in-Ok-program_data.data.constants linked
     same made.flags made.globals made.constants c.in-Ok-image_of.ensures.image in
-    (h.cuts, program_image_is choice p image h, does_as_meant choice p image h c.requires.well_formed c.in-Ok.ensures.within short c.in-Ok-image_of.ensures.form)
+    (h.cuts, program_image_is choice p linked h, does_as_meant choice p linked h c.requires.well_formed c.in-Ok.ensures.within short c.in-Ok-image_of.ensures.form)
+
+pub returns-in-Ok-image_of-clause-few : goal.returns-in-Ok-image_of-clause-few
+returns-in-Ok-image_of-clause-few c =
+    let choice = c.args.choice.now in
+    let p = c.args.program.now in
+    let linked = c.in-Ok-image_of.linked in
+    let same = c.as_slice-procedures.ensures ∙ c.in-Ok.ensures.ok in
+    let made = c.in-Ok-program_data.ensures in
+    let h = in_program choice p c.as_slice-procedures.result.now c.in-Ok-program_data.data.flags c.in-Ok-program_data.data.globals c.in-Ok-program_data.data.constants linked
+    same made.flags made.globals made.constants c.in-Ok-image_of.ensures.image in
+    few_traces choice p c.in-Ok.ensures.within h.cuts h.are h.few
 
 pub returns-in-Ok-image_of-clause-traces : goal.returns-in-Ok-image_of-clause-traces
 returns-in-Ok-image_of-clause-traces c =
     let choice = c.args.choice.now in
     let p = c.args.program.now in
-    let image = c.in-Ok-image_of.image in
+    let linked = c.in-Ok-image_of.linked in
     let same = c.as_slice-procedures.ensures ∙ c.in-Ok.ensures.ok in
     let made = c.in-Ok-program_data.ensures in
-    let h = in_program choice p c.as_slice-procedures.result.now c.in-Ok-program_data.data.flags c.in-Ok-program_data.data.globals c.in-Ok-program_data.data.constants image
+    let h = in_program choice p c.as_slice-procedures.result.now c.in-Ok-program_data.data.flags c.in-Ok-program_data.data.globals c.in-Ok-program_data.data.constants linked
     same made.flags made.globals made.constants c.in-Ok-image_of.ensures.image in
-    few_traces choice p c.in-Ok.ensures.within h.cuts h.are h.few
+    h.count ∙ count_is choice p c.in-Ok.ensures.within h.cuts h.are
+
+pub returns-in-Ok-image_of-clause-procedures : goal.returns-in-Ok-image_of-clause-procedures
+returns-in-Ok-image_of-clause-procedures c =
+    ap (λ (ps : List Proc). length ps) (c.as_slice-procedures.ensures ∙ c.in-Ok.ensures.ok)
 
 pub of_imaging-requires : goal.of_imaging-requires
 of_imaging-requires c is =
