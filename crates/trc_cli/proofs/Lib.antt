@@ -1,5 +1,3 @@
-mod Answering
+mod Endings
 mod Once
-mod Meant
-mod Hex
-mod Lines
+mod Summaries

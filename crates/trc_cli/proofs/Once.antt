@@ -1,31 +1,18 @@
 -- Words come to one thing.
-use Rattle.std.proofs.Common.{◌≡◌, ℕ, ◌+◌, ◌<◌, ◌≤◌, List, [], ◌∷◌, ◌++◌, map, length, Bool, true, Option, Some, None, ◌⊎◌, inl, inr, refl, sym, ap, ap₂, ◌∙◌, subst, arith}
+use Rattle.std.proofs.Common.{◌≡◌, ℕ, List, length, true, Option, Some, None, ◌⊎◌, inl, inr, refl, sym, ap, ◌∙◌, subst, arith}
 use Rattle.outside.specs.Files.{Held}
-use Rattle.run_laws.specs.Runs.{Outcome}
 use Rattle.image_form.specs.declared.image.Image.{Image}
-use Rattle.image_form.specs.Form.{IsInForm}
-use Rattle.image_file.specs.Rules.{Broken, first_fault}
-use Rattle.image_file.specs.Spelling.{image_bytes, AreWords}
+use Rattle.image_file.specs.Rules.{Broken}
 use Rattle.image_file.proofs.Whole.{images_are_same, image_has_no_fault}
-use Rattle.a64_machine.specs.State.{Trap}
-use Rattle.first_text.specs.declared.tree.Statement.{Statement}
-use Rattle.first_text.specs.declared.tree.Text.{Text}
-use Rattle.first_text.specs.Syntax.{Call}
-use Rattle.first_text.specs.Trees.{call}
-use Rattle.first_text.specs.Texts.{IsText, call_values}
-use Rattle.first_text.proofs.Once.{one_body}
-use Rattle.straight_code.specs.declared.operation.Operation.{Operation}
-use Rattle.straight_code.specs.Images.{image}
-use Rattle.trc_compile.specs.Images.{image_of}
-use Rattle.trc_compile.specs.Lowering.{call_operations, statements_operations, operations_of}
-use Rattle.trc_words.specs.Asked.{Asked, Run, Build, Exec, Help}
-use Rattle.trc_cli.specs.declared.causes.Cause.{Cause}
-use Rattle.trc_cli.specs.declared.causes.Cause.TheVariants.{Memory, NotImage}
-use Rattle.trc_cli.specs.declared.causes.Device.TheVariants.{Files, Input, Output}
-use Rattle.trc_cli.specs.Runs.{run_of}
-use Rattle.trc_cli.specs.Verdict.{Verdict, Refuses, Runs, Writes, Prints, cause_of, FileComesTo, IsMissing, HasBytes, IsHeld, SourceComesTo, IsUnbuilt, IsCompiled, ImageComesTo, RunsAlone, RunsOnInput, HasTooMuch, BytesComeTo, AreTooMany, AreNoImage, AreAnImage, ComesTo, world, Written}
-use Rattle.trc_cli.specs.Answers.{Told, told, Answers, AsItComes, FailsReading, FailsPrinting, FailsWriting, LacksMemory, AllDone}
-use Rattle.trc_cli.specs.Laws.{Alike, SameFile, NoneFailed, TellsAll}
+use Rattle.trc_words.specs.Asked.{Asked, Run, Build, Exec, Traces, Bulk, Help}
+use Rattle.trc_answers.specs.declared.causes.Cause.{Cause}
+use Rattle.trc_answers.specs.declared.causes.Cause.TheVariants.{Memory, NotImage}
+use Rattle.trc_answers.specs.declared.causes.Device.TheVariants.{Files, Output}
+use Rattle.trc_answers.specs.Runs.{run_of}
+use Rattle.trc_answers.specs.Verdict.{Verdict, Refuses, Runs, Writes, Prints, cause_of, FileComesTo, IsMissing, HasBytes, ImageComesTo, RunsAlone, RunsOnInput, HasTooMuch, BytesComeTo, AreTooMany, AreNoImage, AreAnImage, world}
+use Rattle.trc_cli.specs.Commands.{ComesTo}
+use Rattle.trc_answers.specs.Answers.{Told, Answers, AsItComes, FailsReading, FailsPrinting, FailsWriting, LacksMemory, AllDone}
+use Rattle.trc_cli.specs.Laws.{Alike, SameFile, NoneFailed, CompilesNothing}
 
 same_file : (v : Verdict) → SameFile v v
 same_file (Refuses cause) = tt
@@ -43,19 +30,6 @@ both a b v e f = subst (λ x. Alike a x) (sym f) (subst (λ x. Alike x v) (sym e
 -- each is the same as the other
 two : (a b v w : Verdict) → v ≡ w → a ≡ v → b ≡ w → Alike a b
 two a b v w same e f = both a b v e (f ∙ sym same)
-
--- the operations of calls
-abbrev calls_operations : ℕ → List Call → List Operation
-calls_operations made [] = []
-calls_operations made (c ∷ cs) = call_operations made c ++ calls_operations (made + call_values c) cs
-
-operations_are : (made : ℕ) (statements : List Statement) → calls_operations made (map call statements) ≡ statements_operations made statements
-operations_are made [] = refl
-operations_are made (s ∷ rest) = ap (λ operations. call_operations made (call s) ++ operations) (operations_are (made + call_values (call s)) rest)
-
--- a text has one image
-one_image : (bytes : List ℕ) (a b : Text) → IsText bytes a → IsText bytes b → image_of a ≡ image_of b
-one_image bytes a b x y = ap image (sym (operations_are 0 a.statements.items) ∙ ap (calls_operations 0) (one_body bytes a b x y) ∙ operations_are 0 b.statements.items)
 
 image_once : (left : List ℕ) (steps : ℕ) (image : Image) (a b : Verdict) → ImageComesTo (Some left) steps image a → ImageComesTo (Some left) steps image b → Alike a b
 image_once left steps image a b (RunsAlone f e) (RunsAlone f' e') = both a b _ e e'
@@ -86,12 +60,6 @@ bytes_once left steps bytes a b (AreAnImage i l form words is e) (AreNoImage c m
 bytes_once left steps bytes a b (AreAnImage i l form words is e) (AreAnImage j m form' words' is' f) =
     image_once left steps i a b e (subst (λ x. ImageComesTo (Some left) steps x b) (images_are_same j i form' form words' words (sym is' ∙ is)) f)
 
-source_once : (next : Image → Verdict → Type 0) (bytes : List ℕ) (a b : Verdict) → ((i : Image) → next i a → next i b → Alike a b) → SourceComesTo next bytes a → SourceComesTo next bytes b → Alike a b
-source_once next bytes a b one (IsUnbuilt none e) (IsUnbuilt none' f) = both a b _ e f
-source_once next bytes a b one (IsUnbuilt none e) (IsCompiled text is meant f) = absurd (none.none text is)
-source_once next bytes a b one (IsCompiled text is meant e) (IsUnbuilt none f) = absurd (none.none text is)
-source_once next bytes a b one (IsCompiled text is meant e) (IsCompiled other is' meant' f) = one (image_of text) e (subst (λ i. next i b) (one_image bytes other text is' is) f)
-
 some_held : (xs ys : List ℕ) (o : Option (List ℕ)) → o ≡ Some xs → o ≡ Some ys → ys ≡ xs
 some_held xs ys o e f = cc
 
@@ -105,24 +73,19 @@ file_once held name next a b one (IsMissing none e) (HasBytes bytes is f) = absu
 file_once held name next a b one (HasBytes bytes is e) (IsMissing none f) = absurd (not_held bytes _ none is)
 file_once held name next a b one (HasBytes bytes is e) (HasBytes other is' f) = one bytes e (subst (λ x. next x b) (some_held bytes other _ is is') f)
 
-pub once : (held : Held) (left : List ℕ) (asked : Option Asked) (a b : Verdict) → ComesTo (world (Some held) (Some left)) asked a → ComesTo (world (Some held) (Some left)) asked b → Alike a b
-once held left None a b h k = both a b _ h k
-once held left (Some (Run file steps)) a b h k = file_once held file _ a b (λ bytes. source_once _ bytes a b (λ i. image_once left steps i a b)) h k
-once held left (Some (Build out file)) a b h k = file_once held file _ a b (λ bytes. source_once (Written out) bytes a b (λ i e f. both a b _ e f)) h k
-once held left (Some (Exec image steps)) a b h k = file_once held image _ a b (λ bytes. bytes_once left steps bytes a b) h k
-once held left (Some Help) a b h k = both a b _ h k
+pub once : (held : Held) (left : List ℕ) (asked : Option Asked) (a b : Verdict) → CompilesNothing asked → ComesTo (world (Some held) (Some left)) asked a → ComesTo (world (Some held) (Some left)) asked b → Alike a b
+once held left None a b nothing h k = both a b _ h k
+once held left (Some (Run files choice steps)) a b nothing h k = absurd nothing
+once held left (Some (Build out files choice)) a b nothing h k = absurd nothing
+once held left (Some (Exec image steps)) a b nothing h k = file_once held image _ a b (λ bytes. bytes_once left steps bytes a b) h k
+once held left (Some (Traces files choice)) a b nothing h k = absurd nothing
+once held left (Some (Bulk seed size choice steps)) a b nothing h k = absurd nothing
+once held left (Some Help) a b nothing h k = both a b _ h k
 
-told_once : (old : Told) (asked : Option Asked) (a b : Verdict) → TellsAll old → ComesTo (world old.held old.left) asked a → ComesTo (world old.held old.left) asked b → Alike a b
-told_once old asked a b tells h k =
-    once tells.files tells.input asked a b
-    (subst (λ l. ComesTo (world (Some tells.files) l) asked a) tells.left (subst (λ f. ComesTo (world f old.left) asked a) tells.held h))
-    (subst (λ l. ComesTo (world (Some tells.files) l) asked b) tells.left (subst (λ f. ComesTo (world f old.left) asked b) tells.held k))
-
-pub quiet : (asked : Option Asked) (old new : Told) (verdict : Verdict) (cause : Cause) → TellsAll old → NoneFailed old new → ComesTo (world old.held old.left) asked verdict
-    → Answers (ComesTo (world old.held old.left) asked) old new cause
-    → (cause ≡ Memory) ⊎ ((other : Verdict) × Alike verdict other × (cause ≡ cause_of other) × AllDone old other new)
-quiet asked old new verdict cause tells none comes (AsItComes other it is done) = inr (other, told_once old asked verdict other tells comes it, is, done)
-quiet asked old new verdict cause tells none comes (FailsReading device is rose nothing) = absurd (none.none device rose)
-quiet asked old new verdict cause tells none comes (FailsPrinting other it is cut) = absurd (none.none Output cut.failed)
-quiet asked old new verdict cause tells none comes (FailsWriting name bytes it is rose took file still) = absurd (none.none Files rose)
-quiet asked old new verdict cause tells none comes (LacksMemory is nothing) = inl is
+pub quiet : (asked : Option Asked) (old new : Told) (cause : Cause) → NoneFailed old new → Answers (ComesTo (world old.held old.left) asked) old new cause
+    → (cause ≡ Memory) ⊎ ((verdict : Verdict) × ComesTo (world old.held old.left) asked verdict × (cause ≡ cause_of verdict) × AllDone old verdict new)
+quiet asked old new cause none (AsItComes verdict it is done) = inr (verdict, it, is, done)
+quiet asked old new cause none (FailsReading device is rose nothing) = absurd (none.none device rose)
+quiet asked old new cause none (FailsPrinting verdict it is cut) = absurd (none.none Output cut.failed)
+quiet asked old new cause none (FailsWriting name bytes it is rose took file still) = absurd (none.none Files rose)
+quiet asked old new cause none (LacksMemory is nothing) = inl is

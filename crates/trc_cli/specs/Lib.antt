@@ -1,5 +1,3 @@
-pub mod Causes
-pub mod Runs
-pub mod Verdict
-pub mod Answers
+pub mod Commands
+pub mod Lines
 pub mod Laws

@@ -1,69 +1,63 @@
-//! An image is made and written to a file.
+//! Modules are compiled, and their image is written to a file.
 
-ghost use Rattle.std.specs.Prelude.{◌≡◌, ◌≤◌, ℕ, List, Option};
+ghost use Rattle.std.specs.Prelude.{◌≡◌, ◌≤◌, ℕ, List, Option, map};
 ghost use Rattle.outside.specs.Sink.{Account};
-ghost use Rattle.image_form.specs.Form.{IsInForm};
-ghost use Rattle.image_file.specs.Spelling.{image_bytes};
-ghost use Rattle.trc_cli.specs.Verdict.{FileComesTo, SourceComesTo, Written};
-ghost use Rattle.trc_cli.specs.Answers.{Answers, told};
+ghost use Rattle.trc_answers.specs.Answers.{Answers, told};
+ghost use Rattle.trc_answers.specs.Causes.{IsPlaced};
+ghost use Rattle.trc_answers.specs.Reading.{FilesComeTo};
+ghost use Rattle.trc_answers.specs.Verdict.{Written};
+ghost use Rattle.trc_cli.specs.Commands.{IsTextHeld, IsTextIn, TextsComeTo};
 
-use crate::causes::{Cause, Device};
-use crate::running::MOST_SOURCE;
-use image_file::write_image;
-use image_form::Image;
-use outside::{Files, GetFault, PutFault};
+use crate::compiling::compile;
+use items::Items;
+use outside::Files;
+use source_image::Choice;
 use std::alloc::Global;
-use trc_compile::{Refusal, compile};
+use trc_answers::{Ending, read_texts, write_image_file};
 
-/// Writes an image to the file of this name.
-fn write_file<F: Files>(alloc: Global, name: &str, image: &Image, files: &mut F) -> Cause
-    requires { IsInForm image.now }
+// Compiles texts, and writes their image to the file of this name.
+fn build_texts<F: Files>(
+    alloc: Global,
+    name: &str,
+    texts: &[Items<u8>],
+    choice: &Choice,
+    files: &mut F,
+) -> Ending
+    requires enough { 4 ≤ choice.now.regs }
+    requires few { choice.now.regs ≤ 16 }
     ensures answers { (left : Option (List ℕ)) (faults : ℕ) (out : Account)
-        → Answers (Written name.now image.now) (told (F.held files.old) (F.faults files.old) left faults out)
-        (told (F.held files.new) (F.faults files.new) left faults out) result }
+        → Answers (TextsComeTo choice.now (λ made. Written name.now made.image) texts.now)
+        (told (F.held files.old) (F.faults files.old) left faults out)
+        (told (F.held files.new) (F.faults files.new) left faults out) result.cause }
+    ensures placed { IsPlaced (IsTextIn texts.now) result.cause result.place }
     ensures rises { F.faults files.old ≤ F.faults files.new }
 {
-    let Ok(bytes) = write_image(alloc, image) else {
-        return Cause::Memory;
-    };
-    match files.write(alloc, name, bytes.as_slice()) {
-        Ok(()) => Cause::Done,
-        Err(PutFault::Failed) => Cause::WriteFault {
-            device: Device::Files,
-        },
-        Err(PutFault::Memory) => Cause::Memory,
+    match compile(alloc, choice, texts) {
+        Ok(made) => Ending::of(write_image_file(alloc, name, &made.image, files)),
+        Err(ending) => ending,
     }
 }
 
-/// Compiles a source and writes its image to the file of this name.
-fn build_source<F: Files>(alloc: Global, name: &str, source: &[u8], files: &mut F) -> Cause
-    ensures answers { (left : Option (List ℕ)) (faults : ℕ) (out : Account)
-        → Answers (SourceComesTo (Written name.now) source.now) (told (F.held files.old) (F.faults files.old) left faults out)
-        (told (F.held files.new) (F.faults files.new) left faults out) result }
-    ensures rises { F.faults files.old ≤ F.faults files.new }
-{
-    match compile(alloc, source) {
-        Ok(image) => write_file(alloc, name, &image, files),
-        Err(Refusal::Unbuilt) => Cause::Unbuilt,
-        Err(Refusal::Memory) => Cause::Memory,
-    }
-}
-
-/// Compiles a file and writes its image to the file `out`; the file is written last.
-pub(crate) fn build<F: Files>(alloc: Global, out: &str, file: &str, files: &mut F) -> Cause
+/// Compiles the files of these names, and writes their image to the file `out`, which is written last.
+pub(crate) fn build<F: Files>(
+    alloc: Global,
+    out: &str,
+    names: &[&str],
+    choice: &Choice,
+    files: &mut F,
+) -> Ending
+    requires enough { 4 ≤ choice.now.regs }
+    requires few { choice.now.regs ≤ 16 }
     ensures answers { (left : Option (List ℕ)) (faults : ℕ) (output : Account)
-        → Answers (FileComesTo (F.held files.old) file.now (SourceComesTo (Written out.now)))
+        → Answers (FilesComeTo (F.held files.old) (map (λ name. name.now) names.now)
+        (TextsComeTo choice.now (λ made. Written out.now made.image)))
         (told (F.held files.old) (F.faults files.old) left faults output)
-        (told (F.held files.new) (F.faults files.new) left faults output) result }
+        (told (F.held files.new) (F.faults files.new) left faults output) result.cause }
+    ensures placed { IsPlaced (IsTextHeld (F.held files.old) (map (λ name. name.now) names.now)) result.cause result.place }
     ensures rises { F.faults files.old ≤ F.faults files.new }
 {
-    match files.read(alloc, file, MOST_SOURCE) {
-        Ok(source) => build_source(alloc, out, source.as_slice(), files),
-        Err(GetFault::NoSuchFile) => Cause::NoSuchFile { word: 0 },
-        Err(GetFault::TooLong) => Cause::Unbuilt,
-        Err(GetFault::Failed) => Cause::ReadFault {
-            device: Device::Files,
-        },
-        Err(GetFault::Memory) => Cause::Memory,
+    match read_texts(alloc, names, files) {
+        Ok(texts) => build_texts(alloc, out, texts.as_slice(), choice, files),
+        Err(cause) => Ending::of(cause),
     }
 }

@@ -1,40 +1,37 @@
 //! The commands.
 
-ghost use Rattle.std.specs.Prelude.{◌≡◌, ◌≤◌, [], ◌∷◌, Some, IfSome, IfNone};
+ghost use Rattle.std.specs.Prelude.{◌≡◌, ◌≤◌, Some, map, IfOk};
+ghost use Rattle.trc_words.specs.Fitting.{Fits};
 ghost use Rattle.trc_words.specs.Requests.{plain};
-ghost use Rattle.trc_cli.specs.Verdict.{RequestComesTo, help_lines, names_read, world};
-ghost use Rattle.trc_cli.specs.Answers.{Answers, InputUse, PrintAnswers, told};
+ghost use Rattle.trc_answers.specs.Answers.{Answers, told};
+ghost use Rattle.trc_answers.specs.Causes.{IsPlaced};
+ghost use Rattle.trc_cli.specs.Commands.{InputUse, IsTextOf, RequestComesTo, names_read};
+ghost use Rattle.trc_answers.specs.Verdict.{world};
 
 use crate::building::build;
-use crate::causes::{Cause, Device};
-use crate::running::{exec, run};
-use outside::{Files, Sink, Source, write_all};
-use std::alloc::Global;
+use crate::bulk::bulk;
+use crate::running::run;
+use crate::tracing::traces;
+use outside::{Files, Sink, Source};
+use std::alloc::{AllocError, Global};
+use trc_answers::{Ending, exec, print};
 use trc_words::Request;
 
-/// Tells the commands and their options.
-fn help<O: Sink>(out: &mut O) -> Cause
-    ensures answers { PrintAnswers help_lines (O.account out.old) (O.account out.new) result }
-    ensures rises { (O.account out.old).faults ≤ (O.account out.new).faults }
-{
-    match write_all(out, b"trc run|build|exec|help\n--steps\n") {
-        Ok(()) => Cause::Done,
-        Err(_) => Cause::WriteFault {
-            device: Device::Output,
-        },
-    }
-}
+/// The lines of `help`.
+const HELP: &[u8] =
+    b"trc run|build|traces|exec|bulk|help\n--policy --traces --regs --jobs --steps\n";
 
-/// The name of the file that a command reads, where it reads one.
-pub(crate) fn name_read<'a>(request: &Request<'a>) -> Option<&'a str>
-    ensures some { IfSome result (λ name. names_read (Some (plain request.now)) ≡ name.now ∷ []) }
-    ensures none { IfNone result (names_read (Some (plain request.now)) ≡ []) }
+/// The names of the files that a command reads, in the order of reading.
+pub(crate) fn names_of<'a>(alloc: Global, request: &Request<'a>) -> Result<Vec<&'a str>, AllocError>
+    ensures { IfOk result (λ names. map (λ name. name.now) names.items ≡ names_read (Some (plain request.now))) }
 {
     match request {
-        Request::Run { file, .. } => Some(*file),
-        Request::Build { file, .. } => Some(*file),
-        Request::Exec { image, .. } => Some(*image),
-        Request::Help => None,
+        Request::Run { files, .. } => Vec::from_slice(alloc, files.as_slice()),
+        Request::Build { files, .. } => Vec::from_slice(alloc, files.as_slice()),
+        Request::Traces { files, .. } => Vec::from_slice(alloc, files.as_slice()),
+        Request::Exec { image, .. } => Vec::from_slice(alloc, &[*image]),
+        Request::Bulk { .. } => Ok(Vec::new(alloc)),
+        Request::Help => Ok(Vec::new(alloc)),
     }
 }
 
@@ -45,21 +42,43 @@ pub(crate) fn perform<F: Files, I: Source, O: Sink>(
     files: &mut F,
     input: &mut I,
     out: &mut O,
-) -> Cause
+) -> Ending
+    requires { Fits (plain request.now) }
     ensures answers { Answers (RequestComesTo (world (F.held files.old) (I.left input.old)) (plain request.now))
         (told (F.held files.old) (F.faults files.old) (I.left input.old) (I.faults input.old) (O.account out.old))
-        (told (F.held files.new) (F.faults files.new) (I.left input.new) (I.faults input.new) (O.account out.new)) result }
+        (told (F.held files.new) (F.faults files.new) (I.left input.new) (I.faults input.new) (O.account out.new)) result.cause }
     ensures unread { InputUse (Some (plain request.now))
         (told (F.held files.old) (F.faults files.old) (I.left input.old) (I.faults input.old) (O.account out.old))
         (told (F.held files.new) (F.faults files.new) (I.left input.new) (I.faults input.new) (O.account out.new)) }
+    ensures placed { IsPlaced (IsTextOf (F.held files.old) (Some (plain request.now))) result.cause result.place }
     ensures files_rise { F.faults files.old ≤ F.faults files.new }
     ensures input_rises { I.faults input.old ≤ I.faults input.new }
     ensures out_rises { (O.account out.old).faults ≤ (O.account out.new).faults }
 {
     match request {
-        Request::Run { file, steps } => run(alloc, file, *steps, files, input, out),
-        Request::Build { out: name, file } => build(alloc, name, file, files),
-        Request::Exec { image, steps } => exec(alloc, image, *steps, files, input, out),
-        Request::Help => help(out),
+        Request::Run {
+            files: names,
+            choice,
+            steps,
+        } => run(alloc, names.as_slice(), choice, *steps, files, input, out),
+        Request::Build {
+            out: name,
+            files: names,
+            choice,
+        } => build(alloc, name, names.as_slice(), choice, files),
+        Request::Exec { image, steps } => {
+            Ending::of(exec(alloc, image, *steps, files, input, out))
+        }
+        Request::Traces {
+            files: names,
+            choice,
+        } => traces(alloc, names.as_slice(), choice, files, out),
+        Request::Bulk {
+            seed,
+            size,
+            choice,
+            steps,
+        } => bulk(alloc, *seed, *size, choice, *steps, out),
+        Request::Help => Ending::of(print(out, HELP)),
     }
 }

@@ -1,9 +1,8 @@
 //! The program, but for the host's devices.
 
 ghost use Rattle.std.specs.Prelude.{◌≤◌};
-ghost use Rattle.trc_cli.specs.Causes.{Finishes};
+ghost use Rattle.trc_answers.specs.Causes.{Finishes};
 
-use crate::causes::Cause;
 use crate::top::{finish, trc};
 use outside::{Files, Memory, OpenGate, Sink, Source};
 use std::alloc::AllocGlobal;
@@ -12,6 +11,7 @@ use std::io::ErrorKind;
 use std::rt::Env;
 use std::sync::Wait;
 use std::thread::Threads;
+use trc_answers::{Cause, Ending};
 
 /// The words behind the program's name; no words where one of them isn't UTF-8, which no word of a command is.
 fn words_of<R: Env + AllocGlobal>(rt: &R) -> Result<Vec<String>, Memory> {
@@ -37,6 +37,6 @@ pub fn run_program<
 {
     match words_of(rt) {
         Ok(words) => trc(rt, words.as_slice(), files, input, out, err, &OpenGate).status,
-        Err(Memory) => finish(err, Cause::Memory, &[]).status,
+        Err(Memory) => finish(err, Ending::of(Cause::Memory), &[]).status,
     }
 }

@@ -1,194 +1,68 @@
-//! An image is run, and what is read before it.
+//! Modules are compiled, and their image is run.
 
-ghost use Rattle.std.specs.Prelude.{◌≡◌, ◌≤◌, ℕ, Option, length};
+ghost use Rattle.std.specs.Prelude.{◌≡◌, ◌≤◌, ℕ, Option, map};
 ghost use Rattle.outside.specs.Files.{Held};
-ghost use Rattle.image_form.specs.Form.{IsInForm};
-ghost use Rattle.trc_cli.specs.Runs.{cause_of_fault, run_of};
-ghost use Rattle.trc_cli.specs.Verdict.{BytesComeTo, FileComesTo, ImageComesTo, SourceComesTo};
-ghost use Rattle.trc_cli.specs.Answers.{Answers, RunAnswers, told};
+ghost use Rattle.trc_answers.specs.Answers.{Answers, told};
+ghost use Rattle.trc_answers.specs.Causes.{IsPlaced};
+ghost use Rattle.trc_answers.specs.Reading.{FilesComeTo};
+ghost use Rattle.trc_answers.specs.Verdict.{ImageComesTo};
+ghost use Rattle.trc_cli.specs.Commands.{IsTextHeld, IsTextIn, TextsComeTo};
 
-use crate::causes::{Cause, Device};
-use a64_machine::{Halt, Machine, Step};
-use image_file::{ImageFault, read_image};
-use image_form::Image;
-use outside::{Files, GetFault, InFault, Sink, Source, read_all};
+use crate::compiling::compile;
+use items::Items;
+use outside::{Files, Sink, Source};
+use source_image::Choice;
 use std::alloc::Global;
-use trc_compile::{Refusal, compile};
+use trc_answers::{Ending, read_texts, run_image};
 
-/// The most bytes that a source may have.
-pub(crate) const MOST_SOURCE: usize = 1_048_576;
-
-/// The most bytes that a file of an image is read with.
-const MOST_IMAGE: u32 = 16_777_216;
-
-/// The most bytes that the input may have.
-const MOST_INPUT: usize = 1_048_576;
-
-/// Runs an image on an input, for at most so many steps.
-fn run_on<O: Sink>(alloc: Global, image: Image, input: Vec<u8>, steps: u64, out: &mut O) -> Cause
-    requires { IsInForm image }
-    ensures answers { RunAnswers (run_of image input.items steps) (O.account out.old) (O.account out.new) result }
-    ensures rises { (O.account out.old).faults ≤ (O.account out.new).faults }
-{
-    let machine = match Machine::load(alloc, image, input) {
-        Ok(machine) => machine,
-        Err(_) => return Cause::Memory,
-    };
-    match machine.run(steps, out) {
-        Halt::Ended => Cause::Done,
-        Halt::Spent => Cause::Spent,
-        Halt::Trapped(kind) => Cause::Trapped { kind },
-        Halt::Undefined(word) => Cause::MachineFault {
-            fault: Step::Undefined(word),
-        },
-        Halt::BadAddress(address) => Cause::MachineFault {
-            fault: Step::BadAddress(address),
-        },
-        Halt::BadCall(number) => Cause::MachineFault {
-            fault: Step::BadCall(number),
-        },
-        Halt::WriteFault => Cause::WriteFault {
-            device: Device::Output,
-        },
-    }
-}
-
-/// Runs an image, on the input where the image reads it.
-fn run_image<I: Source, O: Sink>(
+// Compiles texts, and runs their image.
+fn run_texts<I: Source, O: Sink>(
     alloc: Global,
-    image: Image,
+    texts: &[Items<u8>],
+    choice: &Choice,
     steps: u64,
     input: &mut I,
     out: &mut O,
-) -> Cause
-    requires { IsInForm image }
+) -> Ending
+    requires enough { 4 ≤ choice.now.regs }
+    requires few { choice.now.regs ≤ 16 }
     ensures answers { (held : Option Held) (faults : ℕ)
-        → Answers (ImageComesTo (I.left input.old) steps image)
+        → Answers (TextsComeTo choice.now (λ made. ImageComesTo (I.left input.old) steps made.image) texts.now)
         (told held faults (I.left input.old) (I.faults input.old) (O.account out.old))
-        (told held faults (I.left input.new) (I.faults input.new) (O.account out.new)) result }
+        (told held faults (I.left input.new) (I.faults input.new) (O.account out.new)) result.cause }
+    ensures placed { IsPlaced (IsTextIn texts.now) result.cause result.place }
     ensures input_rises { I.faults input.old ≤ I.faults input.new }
     ensures out_rises { (O.account out.old).faults ≤ (O.account out.new).faults }
 {
-    if image.flags == 0 {
-        return run_on(alloc, image, Vec::new(alloc), steps, out);
-    }
-    match read_all(alloc, input, MOST_INPUT) {
-        Ok(bytes) => run_on(alloc, image, bytes, steps, out),
-        Err(InFault::TooLong) => Cause::InputTooLong,
-        Err(InFault::ReadFault) => Cause::ReadFault {
-            device: Device::Input,
-        },
-        Err(InFault::Memory) => Cause::Memory,
+    match compile(alloc, choice, texts) {
+        Ok(made) => Ending::of(run_image(alloc, made.image, steps, input, out)),
+        Err(ending) => ending,
     }
 }
 
-/// The cause of bytes that are no image.
-fn no_image(fault: ImageFault) -> Cause
-    ensures { result ≡ cause_of_fault fault }
-{
-    match fault {
-        ImageFault::Fault { number, at } => Cause::NotImage { number, at },
-        ImageFault::Memory => Cause::Memory,
-    }
-}
-
-/// Runs the image that these bytes are.
-fn run_bytes<I: Source, O: Sink>(
-    alloc: Global,
-    bytes: &[u8],
-    steps: u64,
-    input: &mut I,
-    out: &mut O,
-) -> Cause
-    requires { length bytes.now ≤ 16777216 }
-    ensures answers { (held : Option Held) (faults : ℕ)
-        → Answers (BytesComeTo (I.left input.old) steps bytes.now)
-        (told held faults (I.left input.old) (I.faults input.old) (O.account out.old))
-        (told held faults (I.left input.new) (I.faults input.new) (O.account out.new)) result }
-    ensures input_rises { I.faults input.old ≤ I.faults input.new }
-    ensures out_rises { (O.account out.old).faults ≤ (O.account out.new).faults }
-{
-    match read_image(alloc, bytes) {
-        Ok(image) => run_image(alloc, image, steps, input, out),
-        Err(fault) => no_image(fault),
-    }
-}
-
-/// Compiles a source and runs its image.
-fn run_source<I: Source, O: Sink>(
-    alloc: Global,
-    source: &[u8],
-    steps: u64,
-    input: &mut I,
-    out: &mut O,
-) -> Cause
-    ensures answers { (held : Option Held) (faults : ℕ)
-        → Answers (SourceComesTo (ImageComesTo (I.left input.old) steps) source.now)
-        (told held faults (I.left input.old) (I.faults input.old) (O.account out.old))
-        (told held faults (I.left input.new) (I.faults input.new) (O.account out.new)) result }
-    ensures input_rises { I.faults input.old ≤ I.faults input.new }
-    ensures out_rises { (O.account out.old).faults ≤ (O.account out.new).faults }
-{
-    match compile(alloc, source) {
-        Ok(image) => run_image(alloc, image, steps, input, out),
-        Err(Refusal::Unbuilt) => Cause::Unbuilt,
-        Err(Refusal::Memory) => Cause::Memory,
-    }
-}
-
-/// Compiles the file of this name and runs its image.
+/// Compiles the files of these names, and runs their image.
 pub(crate) fn run<F: Files, I: Source, O: Sink>(
     alloc: Global,
-    file: &str,
+    names: &[&str],
+    choice: &Choice,
     steps: u64,
     files: &mut F,
     input: &mut I,
     out: &mut O,
-) -> Cause
-    ensures answers { Answers (FileComesTo (F.held files.old) file.now (SourceComesTo (ImageComesTo (I.left input.old) steps)))
+) -> Ending
+    requires enough { 4 ≤ choice.now.regs }
+    requires few { choice.now.regs ≤ 16 }
+    ensures answers { Answers (FilesComeTo (F.held files.old) (map (λ name. name.now) names.now)
+        (TextsComeTo choice.now (λ made. ImageComesTo (I.left input.old) steps made.image)))
         (told (F.held files.old) (F.faults files.old) (I.left input.old) (I.faults input.old) (O.account out.old))
-        (told (F.held files.new) (F.faults files.new) (I.left input.new) (I.faults input.new) (O.account out.new)) result }
+        (told (F.held files.new) (F.faults files.new) (I.left input.new) (I.faults input.new) (O.account out.new)) result.cause }
+    ensures placed { IsPlaced (IsTextHeld (F.held files.old) (map (λ name. name.now) names.now)) result.cause result.place }
     ensures files_rise { F.faults files.old ≤ F.faults files.new }
     ensures input_rises { I.faults input.old ≤ I.faults input.new }
     ensures out_rises { (O.account out.old).faults ≤ (O.account out.new).faults }
 {
-    match files.read(alloc, file, MOST_SOURCE) {
-        Ok(source) => run_source(alloc, source.as_slice(), steps, input, out),
-        Err(GetFault::NoSuchFile) => Cause::NoSuchFile { word: 0 },
-        Err(GetFault::TooLong) => Cause::Unbuilt,
-        Err(GetFault::Failed) => Cause::ReadFault {
-            device: Device::Files,
-        },
-        Err(GetFault::Memory) => Cause::Memory,
-    }
-}
-
-/// Runs the image that the file of this name holds.
-pub(crate) fn exec<F: Files, I: Source, O: Sink>(
-    alloc: Global,
-    image: &str,
-    steps: u64,
-    files: &mut F,
-    input: &mut I,
-    out: &mut O,
-) -> Cause
-    ensures answers { Answers (FileComesTo (F.held files.old) image.now (BytesComeTo (I.left input.old) steps))
-        (told (F.held files.old) (F.faults files.old) (I.left input.old) (I.faults input.old) (O.account out.old))
-        (told (F.held files.new) (F.faults files.new) (I.left input.new) (I.faults input.new) (O.account out.new)) result }
-    ensures files_rise { F.faults files.old ≤ F.faults files.new }
-    ensures input_rises { I.faults input.old ≤ I.faults input.new }
-    ensures out_rises { (O.account out.old).faults ≤ (O.account out.new).faults }
-{
-    match files.read(alloc, image, MOST_IMAGE as usize) {
-        Ok(bytes) => run_bytes(alloc, bytes.as_slice(), steps, input, out),
-        Err(GetFault::NoSuchFile) => Cause::NoSuchFile { word: 0 },
-        Err(GetFault::TooLong) => Cause::NotImage {
-            number: 65,
-            at: MOST_IMAGE,
-        },
-        Err(GetFault::Failed) => Cause::ReadFault {
-            device: Device::Files,
-        },
-        Err(GetFault::Memory) => Cause::Memory,
+    match read_texts(alloc, names, files) {
+        Ok(texts) => run_texts(alloc, texts.as_slice(), choice, steps, input, out),
+        Err(cause) => Ending::of(cause),
     }
 }

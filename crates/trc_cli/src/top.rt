@@ -2,31 +2,35 @@
 
 ghost use Rattle.std.specs.Prelude.{◌≡◌, ◌≤◌, Some, map, string_bytes};
 ghost use Rattle.trc_words.specs.Asked.{asked};
+ghost use Rattle.trc_words.specs.Fitting.{Fits};
 ghost use Rattle.trc_words.specs.Requests.{plain};
-ghost use Rattle.trc_cli.specs.Causes.{status_of, line_of, Told};
-ghost use Rattle.trc_cli.specs.Verdict.{ComesTo, RequestComesTo, names_read, world};
-ghost use Rattle.trc_cli.specs.Answers.{Answers, InputUse, told};
+ghost use Rattle.trc_answers.specs.Causes.{status_of, line_of, Told};
+ghost use Rattle.trc_answers.specs.Verdict.{world};
+ghost use Rattle.trc_answers.specs.Answers.{Answers, told};
+ghost use Rattle.trc_cli.specs.Commands.{ComesTo, InputUse, RequestComesTo};
+ghost use Rattle.trc_cli.specs.Lines.{IsTold};
 
-use crate::causes::{Cause, Outcome, status};
-use crate::commands::{name_read, perform};
-use crate::report::report;
+use crate::commands::{names_of, perform};
 use outside::{Files, Gate, Sink, Source};
 use std::alloc::{AllocGlobal, Global};
 use std::sync::Wait;
 use std::thread::Threads;
+use trc_answers::{Cause, Ending, Outcome, report, status};
 use trc_words::{Request, WordsFault, read_words};
 
-/// Tells a cause on the error sink, whose fault changes nothing, and gives it with its status. The names are those of
-/// the files that the command reads.
-pub(crate) fn finish<E: Sink>(err: &mut E, cause: Cause, names: &[&str]) -> Outcome
-    ensures cause { result.cause ≡ cause }
-    ensures status { result.status ≡ status_of cause }
-    ensures told { Told (E.account err.old) (E.account err.new) (line_of (map (λ name. name.now) names.now) cause) }
+/// Tells how a command ended on the error sink, whose fault changes nothing, and gives the cause with its status. The names are
+/// those of the files that the command reads.
+pub(crate) fn finish<E: Sink>(err: &mut E, ending: Ending, names: &[&str]) -> Outcome
+    ensures cause { result.cause ≡ ending.cause }
+    ensures status { result.status ≡ status_of ending.cause }
+    ensures told { Told (E.account err.old) (E.account err.new) (line_of (map (λ name. name.now) names.now) ending.place ending.cause) }
     ensures rises { (E.account err.old).faults ≤ (E.account err.new).faults }
 {
-    let status = status(cause);
-    let _ = report(err, cause, names);
-    Outcome { status, cause }
+    let _ = report(err, ending.cause, ending.place, names);
+    Outcome {
+        status: status(ending.cause),
+        cause: ending.cause,
+    }
 }
 
 /// Does what a command asks for, and tells how it ended.
@@ -38,6 +42,7 @@ fn perform_and_tell<F: Files, I: Source, O: Sink, E: Sink>(
     out: &mut O,
     err: &mut E,
 ) -> Outcome
+    requires { Fits (plain request.now) }
     ensures answers { Answers (RequestComesTo (world (F.held files.old) (I.left input.old)) (plain request.now))
         (told (F.held files.old) (F.faults files.old) (I.left input.old) (I.faults input.old) (O.account out.old))
         (told (F.held files.new) (F.faults files.new) (I.left input.new) (I.faults input.new) (O.account out.new)) result.cause }
@@ -45,27 +50,29 @@ fn perform_and_tell<F: Files, I: Source, O: Sink, E: Sink>(
         (told (F.held files.old) (F.faults files.old) (I.left input.old) (I.faults input.old) (O.account out.old))
         (told (F.held files.new) (F.faults files.new) (I.left input.new) (I.faults input.new) (O.account out.new)) }
     ensures status { result.status ≡ status_of result.cause }
-    ensures told { Told (E.account err.old) (E.account err.new) (line_of (names_read (Some (plain request.now))) result.cause) }
+    ensures told { IsTold (F.held files.old) (Some (plain request.now)) (E.account err.old) (E.account err.new) result.cause }
     ensures files_rise { F.faults files.old ≤ F.faults files.new }
     ensures input_rises { I.faults input.old ≤ I.faults input.new }
     ensures out_rises { (O.account out.old).faults ≤ (O.account out.new).faults }
     ensures err_rises { (E.account err.old).faults ≤ (E.account err.new).faults }
 {
-    let cause = perform(alloc, request, files, input, out);
-    match name_read(request) {
-        Some(name) => finish(err, cause, &[name]),
-        None => finish(err, cause, &[]),
-    }
+    let Ok(names) = names_of(alloc, request) else {
+        return finish(err, Ending::of(Cause::Memory), &[]);
+    };
+    let ending = perform(alloc, request, files, input, out);
+    finish(err, ending, names.as_slice())
 }
 
 /// Does what the words ask for, those behind the program's name:
 ///
-/// - `run FILE [--steps N]` compiles the file and runs its image on `out`;
-/// - `build OUT FILE` compiles the file and writes the image to OUT;
-/// - `exec IMAGE [--steps N]` runs the image that the file holds;
-/// - `help` tells the commands.
+/// - `run FILE {FILE}` compiles the modules and runs their image on `out`;
+/// - `build OUT FILE {FILE}` compiles the modules and writes the image to OUT;
+/// - `traces FILE {FILE}` tells the traces of the modules' procedures;
+/// - `exec IMAGE` runs the image that the file holds;
+/// - `bulk SEED SIZE` makes a module of SIZE procedures, compiles and runs it, and tells what came of it;
+/// - `help` tells the commands;
 ///
-/// One line is written to `err` for each cause but Done.
+/// with the options `--policy`, `--traces`, `--regs`, `--jobs` and `--steps`. One line is written to `err` for each cause but Done.
 pub fn trc<R: Threads + Wait + AllocGlobal + Sync, F: Files, I: Source, O: Sink, E: Sink, G: Gate>(
     rt: &R,
     words: &[String],
@@ -82,8 +89,7 @@ pub fn trc<R: Threads + Wait + AllocGlobal + Sync, F: Files, I: Source, O: Sink,
         (told (F.held files.old) (F.faults files.old) (I.left input.old) (I.faults input.old) (O.account out.old))
         (told (F.held files.new) (F.faults files.new) (I.left input.new) (I.faults input.new) (O.account out.new)) }
     ensures status { result.status ≡ status_of result.cause }
-    ensures told { Told (E.account err.old) (E.account err.new) (line_of (names_read (asked (map string_bytes words.now))) result.cause) }
-
+    ensures told { IsTold (F.held files.old) (asked (map string_bytes words.now)) (E.account err.old) (E.account err.new) result.cause }
     ensures files_rise { F.faults files.old ≤ F.faults files.new }
     ensures input_rises { I.faults input.old ≤ I.faults input.new }
     ensures out_rises { (O.account out.old).faults ≤ (O.account out.new).faults }
@@ -91,7 +97,7 @@ pub fn trc<R: Threads + Wait + AllocGlobal + Sync, F: Files, I: Source, O: Sink,
 {
     match read_words(rt.alloc(), words) {
         Ok(request) => perform_and_tell(rt.alloc(), &request, files, input, out, err),
-        Err(WordsFault::Usage) => finish(err, Cause::Usage, &[]),
-        Err(WordsFault::Memory) => finish(err, Cause::Memory, &[]),
+        Err(WordsFault::Usage) => finish(err, Ending::of(Cause::Usage), &[]),
+        Err(WordsFault::Memory) => finish(err, Ending::of(Cause::Memory), &[]),
     }
 }

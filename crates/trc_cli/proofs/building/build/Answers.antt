@@ -1,24 +1,27 @@
-use Rattle.std.proofs.Common.{refl}
-use Rattle.trc_cli.specs.Verdict.{FileComesTo, SourceComesTo, Written}
-use Rattle.trc_cli.specs.declared.causes.Cause.TheVariants.{NoSuchFile, Unbuilt}
-use Rattle.trc_cli.proofs.Answering.{files_failed, long_source, missing, reads_file, refuses}
+use Rattle.std.proofs.Common.{map, sym, subst}
+use Rattle.trc_answers.specs.Verdict.{Written}
+use Rattle.trc_answers.specs.Reading.{AreTextsOf}
+use Rattle.trc_answers.proofs.Texts.{reads_texts, unread}
+use Rattle.trc_cli.specs.Commands.{TextsComeTo}
+use Rattle.trc_cli.proofs.Endings.{placed_held}
 use Rattle.trc_cli.proofs.building.build.Goals as goal
 
 pub returns-in-Ok-clause-answers : goal.returns-in-Ok-clause-answers
 returns-in-Ok-clause-answers g c = λ left faults output.
-    reads_file _ _ c.args.file.now 1048576 _ _ left faults output _ _ c.in-Ok.source c.as_slice.result.now (SourceComesTo (Written c.args.out.now))
-    c.in-Ok.ensures.stays c.in-Ok.ensures.tells c.as_slice.ensures.value c.in-Ok.ensures.rises (c.build_source.ensures.answers left faults output)
+    let held = g.F.Files.held c.args.files.now in
+    let names = map (λ name. name.now) c.args.names.now in
+    let are = subst (AreTextsOf held names) (sym c.as_slice.ensures.value) c.in-Ok.ensures.texts in
+    reads_texts held _ names c.as_slice.result.now _ _ (TextsComeTo c.args.choice.now (λ made. Written c.args.out.now made.image)) c.in-Ok.ensures.stays are c.in-Ok.ensures.rises left faults output _ _ (c.build_texts.ensures.answers left faults output)
 
-pub returns-in-Err-NoSuchFile-clause-answers : goal.returns-in-Err-NoSuchFile-clause-answers
-returns-in-Err-NoSuchFile-clause-answers g c = λ left faults output.
-    let told = rw c.in-Err-NoSuchFile.field-0-is at c.in-Err-NoSuchFile.ensures.tells in
-    refuses _ _ _ _ _ left faults output (NoSuchFile 0) c.in-Err-NoSuchFile.ensures.stays (missing _ _ 1048576 (SourceComesTo (Written c.args.out.now)) told)
+pub returns-in-Ok-clause-placed : goal.returns-in-Ok-clause-placed
+returns-in-Ok-clause-placed g c =
+    let held = g.F.Files.held c.args.files.now in
+    let names = map (λ name. name.now) c.args.names.now in
+    let are = subst (AreTextsOf held names) (sym c.as_slice.ensures.value) c.in-Ok.ensures.texts in
+    placed_held held names c.as_slice.result.now _ _ are c.build_texts.ensures.placed
 
-pub returns-in-Err-TooLong-clause-answers : goal.returns-in-Err-TooLong-clause-answers
-returns-in-Err-TooLong-clause-answers g c = λ left faults output.
-    let told = rw c.in-Err-TooLong.field-0-is at c.in-Err-TooLong.ensures.tells in
-    refuses _ _ _ _ _ left faults output Unbuilt c.in-Err-TooLong.ensures.stays (long_source _ _ (Written c.args.out.now) told)
-
-pub returns-in-Err-Failed-clause-answers : goal.returns-in-Err-Failed-clause-answers
-returns-in-Err-Failed-clause-answers g c = λ left faults output.
-    files_failed (FileComesTo _ c.args.file.now (SourceComesTo (Written c.args.out.now))) _ _ _ _ left faults output c.in-Err-Failed.ensures.stays (c.in-Err-Failed.ensures.failed c.in-Err-Failed.field-0-is)
+pub returns-in-Err-clause-answers : goal.returns-in-Err-clause-answers
+returns-in-Err-clause-answers g c = λ left faults output.
+    let held = g.F.Files.held c.args.files.now in
+    let names = map (λ name. name.now) c.args.names.now in
+    rw c.of.ensures (unread held _ names _ _ _ (TextsComeTo c.args.choice.now (λ made. Written c.args.out.now made.image)) c.in-Err.ensures.stays c.in-Err.ensures.fault left faults output)

@@ -1,16 +1,22 @@
 use Rattle.std.proofs.Common.{refl}
-use Rattle.trc_cli.specs.Verdict.{RequestComesTo, help_lines}
-use Rattle.trc_cli.proofs.Answering.{prints}
+use Rattle.trc_answers.proofs.Answering.{prints}
+use Rattle.trc_cli.specs.Commands.{help_lines}
 use Rattle.trc_cli.proofs.commands.perform.Goals as goal
 
 pub returns-in-Run-clause-answers : goal.returns-in-Run-clause-answers
-returns-in-Run-clause-answers g c = rw c.in-Run.is c.run.ensures.answers
+returns-in-Run-clause-answers g c = rw (c.in-Run.is, ← c.as_slice.ensures.value) c.run.ensures.answers
 
 pub returns-in-Build-clause-answers : goal.returns-in-Build-clause-answers
-returns-in-Build-clause-answers g c = rw c.in-Build.is (c.build.ensures.answers _ _ _)
+returns-in-Build-clause-answers g c = rw (c.in-Build.is, ← c.as_slice-in-Build.ensures.value) (c.build.ensures.answers _ _ _)
 
 pub returns-in-Exec-clause-answers : goal.returns-in-Exec-clause-answers
-returns-in-Exec-clause-answers g c = rw c.in-Exec.is c.exec.ensures.answers
+returns-in-Exec-clause-answers g c = rw (c.in-Exec.is, c.of.ensures) c.exec.ensures.answers
+
+pub returns-in-Traces-clause-answers : goal.returns-in-Traces-clause-answers
+returns-in-Traces-clause-answers g c = rw (c.in-Traces.is, ← c.as_slice-in-Traces.ensures.value) (c.traces.ensures.answers _ _)
+
+pub returns-in-Bulk-clause-answers : goal.returns-in-Bulk-clause-answers
+returns-in-Bulk-clause-answers g c = rw c.in-Bulk.is (c.bulk.ensures.answers _ _ _ _)
 
 pub returns-in-Help-clause-answers : goal.returns-in-Help-clause-answers
-returns-in-Help-clause-answers g c = rw c.in-Help.is (prints _ help_lines _ _ _ _ _ _ _ refl c.help.ensures.answers)
+returns-in-Help-clause-answers g c = rw (c.in-Help.is, c.of-in-Help.ensures) (prints _ help_lines _ _ _ _ _ _ _ refl c.print.ensures.answers)

@@ -1,23 +1,27 @@
-use Rattle.trc_cli.specs.Verdict.{FileComesTo, ImageComesTo, SourceComesTo}
-use Rattle.trc_cli.specs.declared.causes.Cause.TheVariants.{NoSuchFile, Unbuilt}
-use Rattle.trc_cli.proofs.Answering.{files_failed, long_source, missing, reads_file, refuses}
+use Rattle.std.proofs.Common.{map, sym, subst}
+use Rattle.trc_answers.specs.Verdict.{ImageComesTo}
+use Rattle.trc_answers.specs.Reading.{AreTextsOf}
+use Rattle.trc_answers.proofs.Texts.{reads_texts, unread}
+use Rattle.trc_cli.specs.Commands.{TextsComeTo}
+use Rattle.trc_cli.proofs.Endings.{placed_held}
 use Rattle.trc_cli.proofs.running.run.Goals as goal
 
 pub returns-in-Ok-clause-answers : goal.returns-in-Ok-clause-answers
 returns-in-Ok-clause-answers g c =
-    reads_file _ _ c.args.file.now 1048576 _ _ _ _ _ _ _ c.in-Ok.source c.as_slice.result.now (SourceComesTo (ImageComesTo _ c.args.steps))
-    c.in-Ok.ensures.stays c.in-Ok.ensures.tells c.as_slice.ensures.value c.in-Ok.ensures.rises (c.run_source.ensures.answers _ _)
+    let held = g.F.Files.held c.args.files.now in
+    let names = map (λ name. name.now) c.args.names.now in
+    let are = subst (AreTextsOf held names) (sym c.as_slice.ensures.value) c.in-Ok.ensures.texts in
+    reads_texts held _ names c.as_slice.result.now _ _ (TextsComeTo c.args.choice.now (λ made. ImageComesTo _ c.args.steps made.image)) c.in-Ok.ensures.stays are c.in-Ok.ensures.rises _ _ _ _ _ (c.run_texts.ensures.answers _ _)
 
-pub returns-in-Err-NoSuchFile-clause-answers : goal.returns-in-Err-NoSuchFile-clause-answers
-returns-in-Err-NoSuchFile-clause-answers g c =
-    let told = rw c.in-Err-NoSuchFile.field-0-is at c.in-Err-NoSuchFile.ensures.tells in
-    refuses _ _ _ _ _ _ _ _ (NoSuchFile 0) c.in-Err-NoSuchFile.ensures.stays (missing _ _ 1048576 (SourceComesTo (ImageComesTo _ c.args.steps)) told)
+pub returns-in-Ok-clause-placed : goal.returns-in-Ok-clause-placed
+returns-in-Ok-clause-placed g c =
+    let held = g.F.Files.held c.args.files.now in
+    let names = map (λ name. name.now) c.args.names.now in
+    let are = subst (AreTextsOf held names) (sym c.as_slice.ensures.value) c.in-Ok.ensures.texts in
+    placed_held held names c.as_slice.result.now _ _ are c.run_texts.ensures.placed
 
-pub returns-in-Err-TooLong-clause-answers : goal.returns-in-Err-TooLong-clause-answers
-returns-in-Err-TooLong-clause-answers g c =
-    let told = rw c.in-Err-TooLong.field-0-is at c.in-Err-TooLong.ensures.tells in
-    refuses _ _ _ _ _ _ _ _ Unbuilt c.in-Err-TooLong.ensures.stays (long_source _ _ (ImageComesTo _ c.args.steps) told)
-
-pub returns-in-Err-Failed-clause-answers : goal.returns-in-Err-Failed-clause-answers
-returns-in-Err-Failed-clause-answers g c =
-    files_failed (FileComesTo _ c.args.file.now (SourceComesTo (ImageComesTo _ c.args.steps))) _ _ _ _ _ _ _ c.in-Err-Failed.ensures.stays (c.in-Err-Failed.ensures.failed c.in-Err-Failed.field-0-is)
+pub returns-in-Err-clause-answers : goal.returns-in-Err-clause-answers
+returns-in-Err-clause-answers g c =
+    let held = g.F.Files.held c.args.files.now in
+    let names = map (λ name. name.now) c.args.names.now in
+    rw c.of.ensures (unread held _ names _ _ _ (TextsComeTo c.args.choice.now (λ made. ImageComesTo _ c.args.steps made.image)) c.in-Err.ensures.stays c.in-Err.ensures.fault _ _ _)

@@ -1,5 +1,0 @@
-pub mod Frames
-pub mod Carried
-pub mod Ranges
-pub mod Whole
-mod Pushed

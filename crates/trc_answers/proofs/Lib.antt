@@ -1,0 +1,4 @@
+pub mod Answering
+pub mod Hex
+pub mod Lines
+pub mod Texts

@@ -1,0 +1,112 @@
+-- The status of each cause, and the line that tells it.
+use Rattle.std.specs.Prelude.{ℕ, zero, suc, ◌+◌, ◌/◌, ◌%◌, List, [], ◌∷◌, ◌++◌, ◌⊎◌, ◌≡◌, length, take, codes, nat_lt, slice_index_or, if◌then◌else◌}
+use Rattle.out_text.specs.Text.{shortest_text}
+use Rattle.outside.specs.Sink.{Account, TookAll, Faulted}
+use Rattle.ob_judge.specs.Scopes.{line_ends}
+use Rattle.fault_lines.specs.Places.{last_line}
+use Rattle.fault_lines.specs.Names.{name_of_rule, name_of_limit}
+use Rattle.fault_lines.specs.declared.places.Position.{Position}
+use Rattle.a64_machine.specs.declared.answers.Step.{Step}
+use Rattle.a64_machine.specs.declared.answers.Step.TheVariants as step
+use Rattle.trc_answers.specs.declared.causes.Device.{Device}
+use Rattle.trc_answers.specs.declared.causes.Device.TheVariants.{Files, Input, Output}
+use Rattle.trc_answers.specs.declared.causes.Cause.{Cause}
+use Rattle.trc_answers.specs.declared.causes.Cause.TheVariants.{Usage, NoSuchFile, ReadFault, Source, Limit, NotImage, InputTooLong, Trapped, MachineFault, Spent, WriteFault, Memory, Done}
+
+abbrev pub status_of : Cause → ℕ
+status_of Usage = 1
+status_of (NoSuchFile word) = 4
+status_of (ReadFault device) = 4
+status_of (Source number m at) = 2
+status_of (Limit number index) = 3
+status_of (NotImage number at) = 8
+status_of InputTooLong = 3
+status_of (Trapped kind) = 6
+status_of (MachineFault fault) = 9
+status_of Spent = 7
+status_of (WriteFault device) = 4
+status_of Memory = 5
+status_of Done = 0
+
+-- a device's name in a line
+abbrev pub device_name : Device → List ℕ
+device_name Files = codes "files"
+device_name Input = codes "input"
+device_name Output = codes "output"
+
+-- a hexadecimal digit, in lower case
+abbrev pub hex_digit : ℕ → ℕ
+hex_digit n = if nat_lt n 10 then 48 + n else 87 + n
+
+-- so many hexadecimal digits of a number
+unfoldable pub hex : ℕ → ℕ → List ℕ
+hex zero n = []
+hex (suc digits) n = hex digits (n / 16) ++ hex_digit (n % 16) ∷ []
+
+-- a line: a message, what stands behind it, and the line's end
+abbrev pub line : List ℕ → List ℕ → List ℕ
+line message rest = message ++ (rest ++ 10 ∷ [])
+
+-- the line of what the machine can't do; the other answers of a step are no fault
+abbrev pub fault_line : Step → List ℕ
+fault_line (step.Undefined word) = line (codes "trc: undefined word ") (hex 8 word)
+fault_line (step.BadAddress address) = line (codes "trc: bad address ") (hex 16 address)
+fault_line (step.BadCall number) = line (codes "trc: bad call ") (shortest_text number)
+fault_line _ = []
+
+-- a name by its number, or no bytes where there is none
+abbrev pub name_at : List (List ℕ) → ℕ → List ℕ
+name_at names number = slice_index_or names number []
+
+-- where a byte of a text stands: one more than the line ends before it, and one more than the bytes since the last of them
+pub record IsAt (text : List ℕ) (at : ℕ) (place : Position) : Type 0 where
+  pub line : place.line ≡ suc (line_ends (take at text))
+  pub column : place.column ≡ suc (length (last_line (take at text)))
+
+-- the line of a rule that is broken: the module's file, line and column, the rule's number and name
+abbrev pub source_line : List ℕ → Position → ℕ → List ℕ
+source_line name place number =
+    codes "trc: " ++ (name ++ (codes ":" ++ (shortest_text place.line ++ (codes ":" ++ (shortest_text place.column
+    ++ (codes ": error " ++ (shortest_text number ++ line (codes " ") (name_of_rule number))))))))
+
+-- the line of a limit that is passed
+abbrev pub limit_line : ℕ → ℕ → List ℕ
+limit_line number index = codes "trc: limit " ++ (shortest_text number ++ (codes " " ++ (name_of_limit number ++ line (codes " at ") (shortest_text index))))
+
+-- the line of a cause, where the command reads the files of these names, and a rule is broken at this place; none where all was done
+abbrev pub line_of : List (List ℕ) → Position → Cause → List ℕ
+line_of names place Usage = line (codes "trc: usage") []
+line_of names place (NoSuchFile word) = line (codes "trc: no file ") (name_at names word)
+line_of names place (ReadFault device) = line (codes "trc: read fault on ") (device_name device)
+line_of names place (Source number m at) = source_line (name_at names m) place number
+line_of names place (Limit number index) = limit_line number index
+line_of names place (NotImage number at) = line (codes "trc: not an image: ") (shortest_text number ++ (codes " at " ++ shortest_text at))
+line_of names place InputTooLong = line (codes "trc: input too long") []
+line_of names place (Trapped kind) = line (codes "trc: trap ") (shortest_text kind)
+line_of names place (MachineFault fault) = fault_line fault
+line_of names place Spent = line (codes "trc: steps spent") []
+line_of names place (WriteFault device) = line (codes "trc: write fault on ") (device_name device)
+line_of names place Memory = line (codes "trc: out of memory") []
+line_of names place Done = []
+
+-- no rule of the language is broken
+abbrev pub IsPlain : Cause → Type 0
+IsPlain (Source number m at) = ⊥
+IsPlain cause = Unit {0}
+
+-- where a rule of the language is broken, this is the place of the byte in its module's text
+abbrev pub IsPlaced : (IsText : ℕ → List ℕ → Type 0) → Cause → Position → Type 0
+IsPlaced IsText (Source number m at) place = (text : List ℕ) × IsText m text × IsAt text at place
+IsPlaced IsText cause place = Unit {0}
+
+-- the error output took this line, or its count of faults rose
+abbrev pub Told : Account → Account → List ℕ → Type 0
+Told old new line = TookAll old new line ⊎ Faulted old new
+
+-- a program ends with the status of a cause, and told its line
+pub record Finishes (status : ℕ) (old new : Account) : Type 0 where
+  pub names : List (List ℕ)
+  pub place : Position
+  pub cause : Cause
+  pub is : status ≡ status_of cause
+  pub told : Told old new (line_of names place cause)

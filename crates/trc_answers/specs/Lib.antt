@@ -1,0 +1,5 @@
+pub mod Causes
+pub mod Runs
+pub mod Verdict
+pub mod Answers
+pub mod Reading

@@ -1,0 +1,83 @@
+-- What a command comes to when nothing fails.
+use Rattle.std.specs.Prelude.{◌≡◌, ◌≤◌, ◌<◌, ℕ, List, [], length, Bool, true, false, Option, Some, None}
+use Rattle.outside.specs.Files.{Held}
+use Rattle.run_laws.specs.Runs.{Outcome, output}
+use Rattle.image_form.specs.declared.image.Image.{Image}
+use Rattle.image_form.specs.Form.{IsInForm}
+use Rattle.image_file.specs.Rules.{Broken, first_fault}
+use Rattle.image_file.specs.Spelling.{image_bytes, AreWords}
+use Rattle.a64_machine.specs.State.{Trap}
+use Rattle.trc_answers.specs.Runs.{run_of, cause_of_run}
+use Rattle.trc_answers.specs.declared.causes.Cause.{Cause}
+use Rattle.trc_answers.specs.declared.causes.Cause.TheVariants.{NoSuchFile, NotImage, InputTooLong, Done}
+
+-- a command is refused for a cause, runs an image, writes a file, or prints lines
+pub data Verdict : Type 0 where
+  Refuses : Cause → Verdict
+  Runs : (reads_input : Bool) → Outcome Trap → Verdict
+  Writes : (name bytes : List ℕ) → Verdict
+  Prints : List ℕ → Verdict
+
+-- the cause that it answers
+abbrev pub cause_of : Verdict → Cause
+cause_of (Refuses cause) = cause
+cause_of (Runs reads outcome) = cause_of_run outcome
+cause_of (Writes name bytes) = Done
+cause_of (Prints lines) = Done
+
+-- what it writes on the output
+abbrev pub written_by : Verdict → List ℕ
+written_by (Refuses cause) = []
+written_by (Runs reads outcome) = output outcome
+written_by (Writes name bytes) = []
+written_by (Prints lines) = lines
+
+-- whether it reads the input
+abbrev pub reads_input : Verdict → Bool
+reads_input (Refuses InputTooLong) = true
+reads_input (Runs reads outcome) = reads
+reads_input _ = false
+
+-- what the devices tell before a command: what files hold, and what is left of the input, each where it is told
+pub record World : Type 0 where
+  pub held : Option Held
+  pub left : Option (List ℕ)
+
+abbrev pub world : Option Held → Option (List ℕ) → World
+world held left = record { held = held; left = left }
+
+-- where the files tell what they hold, this is held under the name
+abbrev pub IsHeld : Option Held → List ℕ → Option (List ℕ) → Type 0
+IsHeld None name content = Unit {0}
+IsHeld (Some held) name content = held name ≡ content
+
+-- where it is told what is left of the input, this is
+abbrev pub IsLeft : Option (List ℕ) → List ℕ → Type 0
+IsLeft None input = Unit {0}
+IsLeft (Some left) input = left ≡ input
+
+-- a file isn't there, or its bytes come to something
+pub data FileComesTo (held : Option Held) (name : List ℕ) (next : List ℕ → Verdict → Type 0) (verdict : Verdict) : Type 0 where
+  IsMissing : IsHeld held name None → verdict ≡ Refuses (NoSuchFile 0) → FileComesTo held name next verdict
+  HasBytes : (bytes : List ℕ) → IsHeld held name (Some bytes) → next bytes verdict → FileComesTo held name next verdict
+
+-- an image is run, on the input where its flag says that it reads it
+pub data ImageComesTo (left : Option (List ℕ)) (steps : ℕ) (image : Image) (verdict : Verdict) : Type 0 where
+  RunsAlone : image.flags ≡ 0 → verdict ≡ Runs false (run_of image [] steps) → ImageComesTo left steps image verdict
+  RunsOnInput : (input : List ℕ) → image.flags ≡ 1 → IsLeft left input → length input ≤ 1048576
+      → verdict ≡ Runs true (run_of image input steps) → ImageComesTo left steps image verdict
+  HasTooMuch : (input : List ℕ) → image.flags ≡ 1 → IsLeft left input → 1048576 < length input
+      → verdict ≡ Refuses InputTooLong → ImageComesTo left steps image verdict
+
+-- bytes are too many for an image, break a rule of images, or are an image, which is run
+pub data BytesComeTo (left : Option (List ℕ)) (steps : ℕ) (bytes : List ℕ) (verdict : Verdict) : Type 0 where
+  AreTooMany : 16777216 < length bytes → verdict ≡ Refuses (NotImage 65 16777216) → BytesComeTo left steps bytes verdict
+  AreNoImage : (broken : Broken) → length bytes ≤ 16777216 → first_fault bytes ≡ Some broken
+      → verdict ≡ Refuses (NotImage broken.number broken.at) → BytesComeTo left steps bytes verdict
+  AreAnImage : (image : Image) → length bytes ≤ 16777216 → IsInForm image → AreWords image.code → bytes ≡ image_bytes image
+      → ImageComesTo left steps image verdict
+      → BytesComeTo left steps bytes verdict
+
+-- an image is written to the file of this name
+abbrev pub Written : List ℕ → Image → Verdict → Type 0
+Written name image verdict = verdict ≡ Writes name (image_bytes image)

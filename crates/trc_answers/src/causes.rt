@@ -1,0 +1,93 @@
+//! How a call ends.
+
+ghost use Rattle.std.specs.Prelude.{◌≡◌};
+ghost use Rattle.trc_answers.specs.Causes.{status_of};
+
+use a64_machine::Step;
+use fault_lines::{Position, position_of};
+
+/// A device of the outside.
+#[derive(Clone, Copy, Debug)]
+pub enum Device {
+    Files,
+    Input,
+    Output,
+}
+
+/// Why a call ended, in the order in which the causes are tried; want of memory can come at any time.
+#[derive(Clone, Copy, Debug)]
+pub enum Cause {
+    /// The words are no command.
+    Usage,
+    /// The file isn't there; the number is that of its name among the names that the command reads, from 0.
+    NoSuchFile { word: usize },
+    /// The device failed while it was read.
+    ReadFault { device: Device },
+    /// A rule of the language is broken: its number, 10 to 42, the module by its place among the files, from 0, and the byte.
+    Source { number: u8, module: usize, at: u32 },
+    /// A limit is passed: its number, 50 to 59, and the module's or the procedure's where it is one of these, else 0.
+    Limit { number: u8, index: usize },
+    /// The file is no image: the number of the first rule that it breaks, 60 to 65, and the place of the byte.
+    NotImage { number: u8, at: u32 },
+    /// The input has more than 1,048,576 bytes.
+    InputTooLong,
+    /// The program stopped at a trap of this kind.
+    Trapped { kind: u16 },
+    /// The machine came to what it can't do: an undefined word, a bad address or a bad call.
+    MachineFault { fault: Step },
+    /// All steps were made, and the program would go on.
+    Spent,
+    /// The device failed while it was written.
+    WriteFault { device: Device },
+    /// There was no memory.
+    Memory,
+    /// All was done.
+    Done,
+}
+
+/// How a command ended: the cause, and where in its text a rule was broken, if one was; else a text's beginning.
+#[derive(Clone, Copy)]
+pub struct Ending {
+    pub cause: Cause,
+    pub place: Position,
+}
+
+impl Ending {
+    /// A cause that stands in no text.
+    pub fn of(cause: Cause) -> Ending
+        ensures { result.cause ≡ cause }
+    {
+        Ending {
+            cause,
+            place: position_of(b"", 0),
+        }
+    }
+}
+
+/// A cause, and the status with which the program ends.
+#[derive(Clone, Copy, Debug)]
+pub struct Outcome {
+    pub status: u8,
+    pub cause: Cause,
+}
+
+/// The status of a cause.
+pub fn status(cause: Cause) -> u8
+    ensures { result ≡ status_of cause }
+{
+    match cause {
+        Cause::Usage => 1,
+        Cause::NoSuchFile { .. } => 4,
+        Cause::ReadFault { .. } => 4,
+        Cause::Source { .. } => 2,
+        Cause::Limit { .. } => 3,
+        Cause::NotImage { .. } => 8,
+        Cause::InputTooLong => 3,
+        Cause::Trapped { .. } => 6,
+        Cause::MachineFault { .. } => 9,
+        Cause::Spent => 7,
+        Cause::WriteFault { .. } => 4,
+        Cause::Memory => 5,
+        Cause::Done => 0,
+    }
+}

@@ -1,0 +1,18 @@
+//! How a call of the program ends: its cause, its status and its line; and the parts of commands that compile nothing.
+//!
+//! `specs/Verdict.antt` says what a command comes to when nothing fails, and `specs/Answers.antt` what is answered then: that, a
+//! read fault, a write fault, or want of memory. `specs/Causes.antt` has the status of each cause and the line that tells it.
+//! Here are also the files that are read, the run of an image, and what is written: a file's bytes, or lines.
+#![tactic(auto)]
+
+mod causes;
+mod reading;
+mod reporting;
+mod running;
+mod writing;
+
+pub use causes::{Cause, Device, Ending, Outcome, status};
+pub use reading::read_texts;
+pub use reporting::report;
+pub use running::{exec, run_image, run_on};
+pub use writing::{print, write_image_file};

@@ -1,0 +1,214 @@
+//! The line that tells a cause.
+
+ghost use Rattle.std.specs.Prelude.{◌≡◌, ◌<◌, ◌≤◌, ◌++◌, codes, length, map, OnOk, OnErr};
+ghost use Rattle.outside.specs.Sink.{TookAll, Faulted};
+ghost use Rattle.out_text.specs.Text.{shortest_text};
+ghost use Rattle.trc_answers.specs.Causes.{device_name, fault_line, hex, hex_digit, limit_line, line, line_of, name_at, source_line};
+
+use crate::causes::{Cause, Device};
+use a64_machine::Step;
+use fault_lines::{Position, limit_name, rule_name};
+use out_text::IntText;
+use outside::{Sink, WriteFault, write_all};
+
+/// A device's name in a line.
+fn name_of(device: Device) -> &'static [u8]
+    ensures { result.now ≡ device_name device }
+{
+    match device {
+        Device::Files => b"files",
+        Device::Input => b"input",
+        Device::Output => b"output",
+    }
+}
+
+/// Writes a message, what stands behind it, and the line's end.
+fn say<E: Sink>(err: &mut E, message: &[u8], rest: &[u8]) -> Result<(), WriteFault>
+    ensures all { OnOk result (TookAll (E.account err.old) (E.account err.new) (line message.now rest.now)) }
+    ensures rises { (E.account err.old).faults ≤ (E.account err.new).faults }
+    ensures failed { OnErr result (Faulted (E.account err.old) (E.account err.new)) }
+{
+    write_all(err, message)?;
+    write_all(err, rest)?;
+    write_all(err, b"\n")?;
+    Ok(())
+}
+
+/// The text of a number in decimal.
+fn decimal(number: u64) -> IntText
+    ensures { result ≡ shortest_text number }
+{
+    IntText::new(number, 0)
+}
+
+/// Writes a message and a number.
+fn put_number<E: Sink>(err: &mut E, message: &[u8], number: u64) -> Result<(), WriteFault>
+    ensures all { OnOk result (TookAll (E.account err.old) (E.account err.new) (message.now ++ shortest_text number)) }
+    ensures rises { (E.account err.old).faults ≤ (E.account err.new).faults }
+    ensures failed { OnErr result (Faulted (E.account err.old) (E.account err.new)) }
+{
+    write_all(err, message)?;
+    write_all(err, decimal(number).as_slice())?;
+    Ok(())
+}
+
+/// Writes the line of bytes that are no image.
+fn say_no_image<E: Sink>(err: &mut E, number: u8, at: u32) -> Result<(), WriteFault>
+    ensures all { OnOk result (TookAll (E.account err.old) (E.account err.new) (line (codes "trc: not an image: ") (shortest_text number ++ (codes " at " ++ shortest_text at)))) }
+    ensures rises { (E.account err.old).faults ≤ (E.account err.new).faults }
+    ensures failed { OnErr result (Faulted (E.account err.old) (E.account err.new)) }
+{
+    put_number(err, b"trc: not an image: ", u64::from(number))?;
+    say(err, b" at ", decimal(u64::from(at)).as_slice())?;
+    Ok(())
+}
+
+/// Writes a file's name, a line and a column.
+fn put_place<E: Sink>(err: &mut E, name: &[u8], place: Position) -> Result<(), WriteFault>
+    ensures all { OnOk result (TookAll (E.account err.old) (E.account err.new)
+        (codes "trc: " ++ (name.now ++ (codes ":" ++ (shortest_text place.line ++ (codes ":" ++ shortest_text place.column)))))) }
+    ensures rises { (E.account err.old).faults ≤ (E.account err.new).faults }
+    ensures failed { OnErr result (Faulted (E.account err.old) (E.account err.new)) }
+{
+    write_all(err, b"trc: ")?;
+    write_all(err, name)?;
+    put_number(err, b":", place.line as u64)?;
+    put_number(err, b":", place.column as u64)?;
+    Ok(())
+}
+
+/// Writes the line of a rule that is broken.
+fn say_source<E: Sink>(
+    err: &mut E,
+    name: &[u8],
+    place: Position,
+    number: u8,
+) -> Result<(), WriteFault>
+    ensures all { OnOk result (TookAll (E.account err.old) (E.account err.new) (source_line name.now place number)) }
+    ensures rises { (E.account err.old).faults ≤ (E.account err.new).faults }
+    ensures failed { OnErr result (Faulted (E.account err.old) (E.account err.new)) }
+{
+    put_place(err, name, place)?;
+    put_number(err, b": error ", u64::from(number))?;
+    say(err, b" ", rule_name(number))?;
+    Ok(())
+}
+
+/// Writes the line of a limit that is passed.
+fn say_limit<E: Sink>(err: &mut E, number: u8, index: usize) -> Result<(), WriteFault>
+    ensures all { OnOk result (TookAll (E.account err.old) (E.account err.new) (limit_line number index)) }
+    ensures rises { (E.account err.old).faults ≤ (E.account err.new).faults }
+    ensures failed { OnErr result (Faulted (E.account err.old) (E.account err.new)) }
+{
+    put_number(err, b"trc: limit ", u64::from(number))?;
+    write_all(err, b" ")?;
+    write_all(err, limit_name(number))?;
+    say(err, b" at ", decimal(index as u64).as_slice())?;
+    Ok(())
+}
+
+/// A hexadecimal digit, in lower case.
+fn hex_digit(number: u8) -> u8
+    requires { number < 16 }
+    ensures { result ≡ hex_digit number }
+{
+    if number < 10 {
+        b'0' + number
+    } else {
+        b'a' - 10 + number
+    }
+}
+
+/// Fills the digits with those of a number, in hexadecimal.
+fn put_hex(digits: &mut [u8], number: u64)
+    ensures { digits.new ≡ hex (length digits.old) number }
+{
+    let mut left = number;
+    let mut at = digits.len();
+    while at > 0 {
+        at -= 1;
+        digits[at] = hex_digit((left % 16) as u8);
+        left /= 16;
+    }
+}
+
+/// Writes the line of a word that isn't in the table.
+fn say_undefined<E: Sink>(err: &mut E, word: u32) -> Result<(), WriteFault>
+    ensures all { OnOk result (TookAll (E.account err.old) (E.account err.new) (fault_line (Step.Undefined word))) }
+    ensures rises { (E.account err.old).faults ≤ (E.account err.new).faults }
+    ensures failed { OnErr result (Faulted (E.account err.old) (E.account err.new)) }
+{
+    let mut digits = [b'0'; 8];
+    put_hex(&mut digits, word as u64);
+    say(err, b"trc: undefined word ", &digits)
+}
+
+/// Writes the line of an address that can't be used.
+fn say_bad_address<E: Sink>(err: &mut E, address: u64) -> Result<(), WriteFault>
+    ensures all { OnOk result (TookAll (E.account err.old) (E.account err.new) (fault_line (Step.BadAddress address))) }
+    ensures rises { (E.account err.old).faults ≤ (E.account err.new).faults }
+    ensures failed { OnErr result (Faulted (E.account err.old) (E.account err.new)) }
+{
+    let mut digits = [b'0'; 16];
+    put_hex(&mut digits, address);
+    say(err, b"trc: bad address ", &digits)
+}
+
+/// Writes the line of what the machine can't do.
+fn say_fault<E: Sink>(err: &mut E, fault: Step) -> Result<(), WriteFault>
+    ensures all { OnOk result (TookAll (E.account err.old) (E.account err.new) (fault_line fault)) }
+    ensures rises { (E.account err.old).faults ≤ (E.account err.new).faults }
+    ensures failed { OnErr result (Faulted (E.account err.old) (E.account err.new)) }
+{
+    match fault {
+        Step::Undefined(word) => say_undefined(err, word),
+        Step::BadAddress(address) => say_bad_address(err, address),
+        Step::BadCall(number) => say(
+            err,
+            b"trc: bad call ",
+            decimal(u64::from(number)).as_slice(),
+        ),
+        Step::Going | Step::Ended | Step::Trapped(_) | Step::WriteFault => write_all(err, b""),
+    }
+}
+
+/// A name by its number, or no bytes where there is none.
+fn name_at<'a>(names: &[&'a str], number: usize) -> &'a [u8]
+    ensures { result.now ≡ name_at (map (λ name. name.now) names.now) number }
+{
+    if number < names.len() {
+        names[number].as_bytes()
+    } else {
+        b""
+    }
+}
+
+/// Writes the line of a cause of a command that reads the files of these names, where a rule is broken at this place.
+pub fn report<E: Sink>(
+    err: &mut E,
+    cause: Cause,
+    place: Position,
+    names: &[&str],
+) -> Result<(), WriteFault>
+    ensures all { OnOk result (TookAll (E.account err.old) (E.account err.new) (line_of (map (λ name. name.now) names.now) place cause)) }
+    ensures rises { (E.account err.old).faults ≤ (E.account err.new).faults }
+    ensures failed { OnErr result (Faulted (E.account err.old) (E.account err.new)) }
+{
+    match cause {
+        Cause::Usage => say(err, b"trc: usage", b""),
+        Cause::NoSuchFile { word } => say(err, b"trc: no file ", name_at(names, word)),
+        Cause::ReadFault { device } => say(err, b"trc: read fault on ", name_of(device)),
+        Cause::Source { number, module, .. } => {
+            say_source(err, name_at(names, module), place, number)
+        }
+        Cause::Limit { number, index } => say_limit(err, number, index),
+        Cause::NotImage { number, at } => say_no_image(err, number, at),
+        Cause::InputTooLong => say(err, b"trc: input too long", b""),
+        Cause::Trapped { kind } => say(err, b"trc: trap ", decimal(u64::from(kind)).as_slice()),
+        Cause::MachineFault { fault } => say_fault(err, fault),
+        Cause::Spent => say(err, b"trc: steps spent", b""),
+        Cause::WriteFault { device } => say(err, b"trc: write fault on ", name_of(device)),
+        Cause::Memory => say(err, b"trc: out of memory", b""),
+        Cause::Done => write_all(err, b""),
+    }
+}

@@ -1,0 +1,49 @@
+//! What is written: an image to a file, or lines on the output.
+
+ghost use Rattle.std.specs.Prelude.{◌≤◌, ℕ, List, Option};
+ghost use Rattle.outside.specs.Sink.{Account};
+ghost use Rattle.image_form.specs.Form.{IsInForm};
+ghost use Rattle.trc_answers.specs.Causes.{IsPlain};
+ghost use Rattle.trc_answers.specs.Verdict.{Written};
+ghost use Rattle.trc_answers.specs.Answers.{Answers, PrintAnswers, told};
+
+use crate::causes::{Cause, Device};
+use image_file::write_image;
+use image_form::Image;
+use outside::{Files, PutFault, Sink, write_all};
+use std::alloc::Global;
+
+/// Writes an image to the file of this name.
+pub fn write_image_file<F: Files>(alloc: Global, name: &str, image: &Image, files: &mut F) -> Cause
+    requires { IsInForm image.now }
+    ensures answers { (left : Option (List ℕ)) (faults : ℕ) (out : Account)
+        → Answers (Written name.now image.now) (told (F.held files.old) (F.faults files.old) left faults out)
+        (told (F.held files.new) (F.faults files.new) left faults out) result }
+    ensures plain { IsPlain result }
+    ensures rises { F.faults files.old ≤ F.faults files.new }
+{
+    let Ok(bytes) = write_image(alloc, image) else {
+        return Cause::Memory;
+    };
+    match files.write(alloc, name, bytes.as_slice()) {
+        Ok(()) => Cause::Done,
+        Err(PutFault::Failed) => Cause::WriteFault {
+            device: Device::Files,
+        },
+        Err(PutFault::Memory) => Cause::Memory,
+    }
+}
+
+/// Writes lines on the output.
+pub fn print<O: Sink>(out: &mut O, lines: &[u8]) -> Cause
+    ensures answers { PrintAnswers lines.now (O.account out.old) (O.account out.new) result }
+    ensures plain { IsPlain result }
+    ensures rises { (O.account out.old).faults ≤ (O.account out.new).faults }
+{
+    match write_all(out, lines) {
+        Ok(()) => Cause::Done,
+        Err(_) => Cause::WriteFault {
+            device: Device::Output,
+        },
+    }
+}

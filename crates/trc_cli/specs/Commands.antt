@@ -1,0 +1,128 @@
+-- What each command comes to when nothing fails.
+use Rattle.std.specs.Prelude.{◌≡◌, ℕ, List, [], ◌∷◌, ◌++◌, length, decimal, Option, Some, None, codes, slice_get}
+use Rattle.outside.specs.Files.{Held}
+use Rattle.run_laws.specs.Runs.{Outcome, Ended}
+use Rattle.a64_machine.specs.State.{Trap}
+use Rattle.alloc_choice.specs.declared.choice.Choice.{Choice}
+use Rattle.program_image.specs.declared.imaging.Compiled.{Compiled}
+use Rattle.source_image.specs.Images.{IsImageOfTexts, AreTracesOfTexts}
+use Rattle.source_image.specs.Refusals.{IsRefusal}
+use Rattle.source_image.specs.declared.refusal.Refusal.{Refusal}
+use Rattle.source_image.specs.declared.refusal.Refusal.TheVariants.{TooLong, Source, Limit, Memory}
+use Rattle.bulk_text.specs.Bulk.{bulk_text}
+use Rattle.trc_words.specs.Asked.{Asked, Run, Build, Exec, Traces, Bulk, Help}
+use Rattle.trc_answers.specs.declared.causes.Cause.{Cause}
+use Rattle.trc_answers.specs.declared.causes.Cause.TheVariants as cause
+use Rattle.trc_answers.specs.Answers.{Told, InputStays}
+use Rattle.trc_answers.specs.Reading.{FilesComeTo}
+use Rattle.trc_answers.specs.Runs.{run_of, cause_of_run}
+use Rattle.trc_answers.specs.Verdict.{Verdict, Refuses, Prints, World, IsHeld, FileComesTo, ImageComesTo, BytesComeTo, Written}
+use Rattle.trc_cli.specs.declared.bulk.Counts.{Counts}
+
+---- Texts
+
+-- why texts have no image, as a cause
+abbrev pub cause_of_refusal : Refusal → Cause
+cause_of_refusal (TooLong m) = cause.Limit 55 m
+cause_of_refusal (Source m number at) = cause.Source number m at
+cause_of_refusal (Limit number index) = cause.Limit number index
+cause_of_refusal Memory = cause.Memory
+
+-- texts are refused for this cause, want of memory among them
+pub record IsRefusedAs (choice : Choice) (texts : List (List ℕ)) (cause : Cause) : Type 0 where
+  pub refusal : Refusal
+  pub is : IsRefusal choice texts refusal
+  pub cause_is : cause ≡ cause_of_refusal refusal
+
+-- texts break a rule, or their program passes a limit
+pub record AreRefused (choice : Choice) (texts : List (List ℕ)) (verdict : Verdict) : Type 0 where
+  pub refusal : Refusal
+  pub is : IsRefusal choice texts refusal
+  pub tells : refusal ≡ Memory → ⊥
+  pub verdict_is : verdict ≡ Refuses (cause_of_refusal refusal)
+
+-- texts are refused, or their image comes to something
+pub data TextsComeTo (choice : Choice) (next : Compiled → Verdict → Type 0) (texts : List (List ℕ)) (verdict : Verdict) : Type 0 where
+  HaveNoImage : AreRefused choice texts verdict → TextsComeTo choice next texts verdict
+  HaveImage : (made : Compiled) → IsImageOfTexts choice texts made → next made verdict → TextsComeTo choice next texts verdict
+
+-- texts are refused, or their traces are told
+pub data TracesComeTo (choice : Choice) (texts : List (List ℕ)) (verdict : Verdict) : Type 0 where
+  HaveNoTraces : AreRefused choice texts verdict → TracesComeTo choice texts verdict
+  HaveTraces : (lines : List ℕ) → AreTracesOfTexts choice texts lines → verdict ≡ Prints lines → TracesComeTo choice texts verdict
+
+---- Made modules
+
+abbrev pub counts_of : Compiled → Counts
+counts_of made = record { procedures = made.procedures; traces = made.traces; words = length made.image.code }
+
+-- the line of a count
+abbrev pub count_line : List ℕ → ℕ → List ℕ
+count_line name number = name ++ (decimal number ++ 10 ∷ [])
+
+abbrev pub counts_text : Counts → List ℕ
+counts_text counts = count_line (codes "procedures ") counts.procedures ++ (count_line (codes "traces ") counts.traces ++ count_line (codes "words ") counts.words)
+
+-- with what the module wrote
+abbrev pub summary_of : Counts → List ℕ → List ℕ
+summary_of counts written = counts_text counts ++ (codes "output " ++ written)
+
+-- a run that ends is told; of any other there is the cause alone
+abbrev pub told_of_run : Compiled → Outcome Trap → Verdict
+told_of_run made (Ended written) = Prints (summary_of (counts_of made) written)
+told_of_run made outcome = Refuses (cause_of_run outcome)
+
+-- an image is run on no input, and what came of it is told
+abbrev pub SummaryComesTo : ℕ → Compiled → Verdict → Type 0
+SummaryComesTo steps made verdict = verdict ≡ told_of_run made (run_of made.image [] steps)
+
+---- Commands
+
+-- the lines of help
+abbrev pub help_lines : List ℕ
+help_lines = codes "trc run|build|traces|exec|bulk|help" ++ (10 ∷ (codes "--policy --traces --regs --jobs --steps" ++ 10 ∷ []))
+
+-- what each command comes to
+abbrev pub RequestComesTo : World → Asked → Verdict → Type 0
+RequestComesTo world (Run files choice steps) = FilesComeTo world.held files (TextsComeTo choice (λ made. ImageComesTo world.left steps made.image))
+RequestComesTo world (Build out files choice) = FilesComeTo world.held files (TextsComeTo choice (λ made. Written out made.image))
+RequestComesTo world (Exec image steps) = FileComesTo world.held image (BytesComeTo world.left steps)
+RequestComesTo world (Traces files choice) = FilesComeTo world.held files (TracesComeTo choice)
+RequestComesTo world (Bulk seed size choice steps) = TextsComeTo choice (SummaryComesTo steps) (bulk_text seed size ∷ [])
+RequestComesTo world Help = λ verdict. verdict ≡ Prints help_lines
+
+-- what words come to that ask for this, or for nothing
+abbrev pub ComesTo : World → Option Asked → Verdict → Type 0
+ComesTo world None verdict = verdict ≡ Refuses cause.Usage
+ComesTo world (Some request) verdict = RequestComesTo world request verdict
+
+-- only what runs an image reads the input; a made module reads none
+abbrev pub InputUse : Option Asked → Told → Told → Type 0
+InputUse (Some (Run files choice steps)) old new = Unit {0}
+InputUse (Some (Exec image steps)) old new = Unit {0}
+InputUse other old new = InputStays old new
+
+---- Names and texts
+
+-- the names of the files that a command reads, in the order of reading
+abbrev pub names_read : Option Asked → List (List ℕ)
+names_read None = []
+names_read (Some (Run files choice steps)) = files
+names_read (Some (Build out files choice)) = files
+names_read (Some (Exec image steps)) = image ∷ []
+names_read (Some (Traces files choice)) = files
+names_read (Some (Bulk seed size choice steps)) = []
+names_read (Some Help) = []
+
+-- the text of this number
+abbrev pub IsTextIn : List (List ℕ) → ℕ → List ℕ → Type 0
+IsTextIn texts number text = slice_get texts number ≡ Some text
+
+-- the text that is held under the name of this number
+abbrev pub IsTextHeld : Option Held → List (List ℕ) → ℕ → List ℕ → Type 0
+IsTextHeld held names number text = (name : List ℕ) × (slice_get names number ≡ Some name) × IsHeld held name (Some text)
+
+-- the text of the module of this number: the one that is made, or the one that is held
+abbrev pub IsTextOf : Option Held → Option Asked → ℕ → List ℕ → Type 0
+IsTextOf held (Some (Bulk seed size choice steps)) = IsTextIn (bulk_text seed size ∷ [])
+IsTextOf held asked = IsTextHeld held (names_read asked)

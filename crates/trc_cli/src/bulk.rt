@@ -1,0 +1,136 @@
+//! A module is made, compiled and run, and what came of it is told.
+
+ghost use Rattle.std.specs.Prelude.{◌≡◌, ◌≤◌, ◌++◌, ◌∷◌, [], ℕ, List, Option, length, OnOk, IfOk};
+ghost use Rattle.outside.specs.Files.{Held};
+ghost use Rattle.image_form.specs.Form.{IsInForm};
+ghost use Rattle.bulk_text.specs.Bulk.{bulk_text};
+ghost use Rattle.trc_answers.specs.Answers.{Answers, told};
+ghost use Rattle.trc_answers.specs.Causes.{IsPlaced, IsPlain};
+ghost use Rattle.trc_answers.specs.Verdict.{Prints};
+ghost use Rattle.trc_cli.specs.Commands.{IsTextIn, SummaryComesTo, TextsComeTo, count_line, counts_of, counts_text, summary_of};
+ghost use Rattle.trc_cli.specs.declared.bulk.Counts.{Counts};
+
+use crate::compiling::compile;
+use bulk_text::bulk_text;
+use items::Items;
+use memory_devices::MemSink;
+use outside::Sink;
+use source_image::{Choice, Compiled};
+use std::alloc::{AllocError, Global};
+use trc_answers::{Cause, Ending, print, run_on};
+
+/// How much a made module may write; it writes one number and a line's end.
+const ROOM: usize = 4096;
+
+/// What is counted of a made module: its procedures, its body among them, their traces, and the words of its code.
+#[derive(Clone, Copy)]
+struct Counts {
+    procedures: u64,
+    traces: u64,
+    words: u64,
+}
+
+// The counts of an image.
+fn counted(made: &Compiled) -> Counts
+    ensures { result ≡ counts_of made.now }
+{
+    Counts {
+        procedures: made.procedures as u64,
+        traces: u64::from(made.traces),
+        words: made.image.code.as_slice().len() as u64,
+    }
+}
+
+// Appends a line of a count.
+fn put_count(alloc: Global, text: &mut Vec<u8>, name: &[u8], number: u64) -> Result<(), AllocError>
+    ensures { OnOk result (text.new.items ≡ text.old.items ++ count_line name.now number) }
+{
+    text.extend_from_slice(name)?;
+    let digits = format!(in alloc; "{number}")?;
+    text.extend_from_slice(digits.as_bytes())?;
+    text.push(b'\n')?;
+    Ok(())
+}
+
+// The lines of counts.
+fn count_lines(alloc: Global, counts: Counts) -> Result<Vec<u8>, AllocError>
+    ensures { IfOk result (λ lines. lines.items ≡ counts_text counts) }
+{
+    let mut lines = Vec::new(alloc);
+    put_count(alloc, &mut lines, b"procedures ", counts.procedures)?;
+    put_count(alloc, &mut lines, b"traces ", counts.traces)?;
+    put_count(alloc, &mut lines, b"words ", counts.words)?;
+    Ok(lines)
+}
+
+// All lines, with what the module wrote.
+fn summary(alloc: Global, counts: Counts, written: &[u8]) -> Result<Vec<u8>, AllocError>
+    ensures { IfOk result (λ lines. lines.items ≡ summary_of counts written.now) }
+{
+    let mut lines = count_lines(alloc, counts)?;
+    lines.extend_from_slice(b"output ")?;
+    lines.extend_from_slice(written)?;
+    Ok(lines)
+}
+
+// Runs an image on no input, and tells what came of it where it ends.
+fn run_and_tell<O: Sink>(alloc: Global, made: Compiled, steps: u64, out: &mut O) -> Cause
+    requires { IsInForm made.image }
+    ensures answers { (held : Option Held) (faults : ℕ) (left : Option (List ℕ)) (input_faults : ℕ)
+        → Answers (SummaryComesTo steps made) (told held faults left input_faults (O.account out.old))
+        (told held faults left input_faults (O.account out.new)) result }
+    ensures plain { IsPlain result }
+    ensures rises { (O.account out.old).faults ≤ (O.account out.new).faults }
+{
+    let counts = counted(&made);
+    let Ok(mut written) = MemSink::new(alloc, ROOM, ROOM, Vec::new(alloc)) else {
+        return Cause::Memory;
+    };
+    match run_on(alloc, made.image, Vec::new(alloc), steps, &mut written) {
+        Cause::Done => tell(alloc, counts, written.bytes(), out),
+        Cause::WriteFault { .. } => Cause::Memory,
+        cause => cause,
+    }
+}
+
+// Tells what came of a run that ended.
+fn tell<O: Sink>(alloc: Global, counts: Counts, written: &[u8], out: &mut O) -> Cause
+    ensures answers { (held : Option Held) (faults : ℕ) (left : Option (List ℕ)) (input_faults : ℕ)
+        → Answers (λ verdict. verdict ≡ Prints (summary_of counts written.now)) (told held faults left input_faults (O.account out.old))
+        (told held faults left input_faults (O.account out.new)) result }
+    ensures plain { IsPlain result }
+    ensures rises { (O.account out.old).faults ≤ (O.account out.new).faults }
+{
+    match summary(alloc, counts, written) {
+        Ok(lines) => print(out, lines.as_slice()),
+        Err(AllocError) => Cause::Memory,
+    }
+}
+
+/// Makes a module of a seed and a size, compiles it, and runs its image on no input; tells how many procedures, traces and words
+/// there are, and what it wrote.
+pub(crate) fn bulk<O: Sink>(
+    alloc: Global,
+    seed: u64,
+    size: u32,
+    choice: &Choice,
+    steps: u64,
+    out: &mut O,
+) -> Ending
+    requires some { 1 ≤ size }
+    requires enough { 4 ≤ choice.now.regs }
+    requires few { choice.now.regs ≤ 16 }
+    ensures answers { (held : Option Held) (faults : ℕ) (left : Option (List ℕ)) (input_faults : ℕ)
+        → Answers (TextsComeTo choice.now (SummaryComesTo steps) (bulk_text seed size ∷ []))
+        (told held faults left input_faults (O.account out.old)) (told held faults left input_faults (O.account out.new)) result.cause }
+    ensures placed { IsPlaced (IsTextIn (bulk_text seed size ∷ [])) result.cause result.place }
+    ensures rises { (O.account out.old).faults ≤ (O.account out.new).faults }
+{
+    let Ok(text) = bulk_text(alloc, seed, size) else {
+        return Ending::of(Cause::Memory);
+    };
+    match compile(alloc, choice, &[Items::from_vec(text)]) {
+        Ok(made) => Ending::of(run_and_tell(alloc, made, steps, out)),
+        Err(ending) => ending,
+    }
+}

@@ -1,4 +1,0 @@
-pub mod Meant
-mod Taken
-mod SoFar
-mod Compiled
