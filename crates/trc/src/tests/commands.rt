@@ -3,7 +3,6 @@
 
 ghost use Rattle.std.specs.Prelude.{◌<◌, ◌≤◌, length};
 
-use a64_machine::{Halt, Machine};
 use image_file::write_image;
 use image_form::{Bytes, Image, Words};
 use std::alloc::AllocGlobal;
@@ -11,9 +10,8 @@ use std::process::Abort;
 use std::sync::Wait;
 use std::test::Fail;
 use std::thread::Threads;
-use trc_base::{MemFiles, MemSink, MemSource, OpenGate};
+use trc_base::{Files, MemFiles, MemSink, MemSource, OpenGate};
 use trc_cli::{Outcome, trc};
-use trc_compile::compile;
 
 /// How a call ended, and what the output and the error sink took.
 #[derive(Drop)]
@@ -107,20 +105,14 @@ fn prints<R: Threads + Wait + AllocGlobal + Sync + Abort>(
     )
 }
 
-/// Runs a module that isn't compiled yet.
-fn is_unbuilt<R: Threads + Wait + AllocGlobal + Sync + Abort>(
+/// Runs a module that is refused, with this line.
+fn is_refused<R: Threads + Wait + AllocGlobal + Sync + Abort>(
     rt: &R,
     body: &str,
+    status: u8,
+    err: &str,
 ) -> Result<(), Fail> {
-    check(
-        rt,
-        body,
-        Wanted {
-            status: 20,
-            out: "",
-            err: "trc: unbuilt\n",
-        },
-    )
+    check(rt, body, refused(status, err))
 }
 
 #[test]
@@ -133,18 +125,50 @@ fn texts_write_what_they_mean(rt: HostRuntime) -> Result<(), Fail> {
     let lines =
         "42\n   42\n9223372036854775807\n-9\n   -33\n-9223372036854775808\n9223372036854775807\n1\n         -281470681743361\n";
     prints(&rt, body, lines)?;
-    is_unbuilt(&rt, "Out.Int(9223372036854775808, 0)")?;
-    is_unbuilt(&rt, "Out.Int(42)")?;
-    is_unbuilt(&rt, "Out.Int(42, 0);")?;
-    is_unbuilt(&rt, "Out.Int(2AH, 0)")?;
-    is_unbuilt(&rt, "Out.Int(42, 0) (* a comment *)")
+    prints(&rt, "Out.Int(2AH, 0) (* a comment *);", "42")
 }
 
 #[test]
-fn a_text_makes_so_many_values(rt: HostRuntime) -> Result<(), Fail> {
+fn broken_rules_are_told_with_their_places(rt: HostRuntime) -> Result<(), Fail> {
+    let too_large = "trc: M.Mod:1:37: error 13 NumberTooLarge\n";
+    is_refused(&rt, "Out.Int(9223372036854775808, 0)", 2, too_large)?;
+    let parameters = "trc: M.Mod:1:29: error 40 BadParameter\n";
+    is_refused(&rt, "Out.Int(42)", 2, parameters)?;
+    is_refused(
+        &rt,
+        "Out.Int(x, 0)",
+        2,
+        "trc: M.Mod:1:37: error 30 Unknown\n",
+    )?;
+    let types = "trc: M.Mod:1:32: error 31 TypeMismatch\n";
+    is_refused(&rt, "IF 1 THEN END", 2, types)?;
+    let mut files = MemFiles::new(rt.alloc(), Vec::new(rt.alloc()));
+    files.put(
+        "M.Mod",
+        b"MODULE M;\nIMPORT Out;\n\nBEGIN\n  Out.Int(y, 0)\nEND M.\n",
+    )?;
+    let unknown = refused(2, "trc: M.Mod:5:11: error 30 Unknown\n");
+    wants(&rt, &["run", "M.Mod"], &mut files, b"", unknown)?;
+    wants(&rt, &["build", "A", "M.Mod"], &mut files, b"", unknown)?;
+    wants(&rt, &["traces", "M.Mod"], &mut files, b"", unknown)
+}
+
+#[test]
+fn a_procedure_has_so_many_values(rt: HostRuntime) -> Result<(), Fail> {
     let ones = "1+".repeat(rt.alloc(), 1999)?;
     prints(&rt, &format!(in rt.alloc(); "Out.Int({ones}1, 0)")?, "2000")?;
-    is_unbuilt(&rt, &format!(in rt.alloc(); "Out.Int(-{ones}1, 0)")?)
+    let text = format!(in rt.alloc(); "Out.Int(-{ones}1, 0)")?;
+    is_refused(&rt, &text, 3, "trc: limit 50 Values at 0\n")
+}
+
+#[test]
+fn long_chains_are_refused_by_limits(rt: HostRuntime) -> Result<(), Fail> {
+    let ones = "1+".repeat(rt.alloc(), 50_000)?;
+    let text = format!(in rt.alloc(); "Out.Int({ones}1, 0)")?;
+    is_refused(&rt, &text, 3, "trc: limit 50 Values at 0\n")?;
+    let truths = "TRUE & ".repeat(rt.alloc(), 50_000)?;
+    let text = format!(in rt.alloc(); "IF {truths}TRUE THEN END")?;
+    is_refused(&rt, &text, 3, "trc: limit 51 Blocks at 0\n")
 }
 
 #[test]
@@ -155,10 +179,8 @@ fn so_many_parentheses_are_open(rt: HostRuntime) -> Result<(), Fail> {
         &format!(in rt.alloc(); "Out.Int({open}7{close}, 0)")?,
         "7",
     )?;
-    is_unbuilt(
-        &rt,
-        &format!(in rt.alloc(); "Out.Int(({open}7{close}), 0)")?,
-    )
+    let text = format!(in rt.alloc(); "Out.Int(({open}7{close}), 0)")?;
+    is_refused(&rt, &text, 2, "trc: M.Mod:1:136: error 21 TooDeep\n")
 }
 
 /// What a call is refused with, which writes nothing on the output.
@@ -186,7 +208,14 @@ fn words_and_files_are_refused(rt: HostRuntime) -> Result<(), Fail> {
     let usage = refused(1, "trc: usage\n");
     wants(&rt, &["walk", "M.Mod"], &mut files, b"", usage)?;
     wants(&rt, &[], &mut files, b"", usage)?;
-    wants(&rt, &["run", "M.Mod", "M.Mod"], &mut files, b"", usage)?;
+    wants(
+        &rt,
+        &["run", "M.Mod", "--regs", "3"],
+        &mut files,
+        b"",
+        usage,
+    )?;
+    wants(&rt, &["bulk", "7", "0"], &mut files, b"", usage)?;
     wants(
         &rt,
         &["run", "M.Mod", "--steps", "x"],
@@ -212,7 +241,7 @@ fn words_and_files_are_refused(rt: HostRuntime) -> Result<(), Fail> {
     wants(&rt, &["exec", "Missing.Mod"], &mut files, b"", missing)?;
     let help = Wanted {
         status: 0,
-        out: "trc run|build|exec|help\n--steps\n",
+        out: "trc run|build|traces|exec|bulk|help\n--policy --traces --regs --jobs --steps\n",
         err: "",
     };
     wants(&rt, &["help"], &mut files, b"", help)
@@ -228,7 +257,7 @@ fn steps_are_spent(rt: HostRuntime) -> Result<(), Fail> {
     };
     wants(
         &rt,
-        &["run", "M.Mod", "--steps", "26"],
+        &["run", "M.Mod", "--steps", "16"],
         &mut files,
         b"",
         done,
@@ -240,7 +269,7 @@ fn steps_are_spent(rt: HostRuntime) -> Result<(), Fail> {
     };
     wants(
         &rt,
-        &["run", "M.Mod", "--steps", "25"],
+        &["run", "M.Mod", "--steps", "15"],
         &mut files,
         b"",
         spent,
@@ -433,17 +462,175 @@ const WORDS: [u32; 64] = [
 
 #[test]
 fn an_image_has_so_many_words_and_steps(rt: HostRuntime) -> Result<(), Fail> {
-    let source = b"MODULE M; IMPORT Out; BEGIN Out.Int(6*7, 0); Out.Ln END M.";
-    for (steps, halt) in [(26, Halt::Ended), (25, Halt::Spent)] {
-        let image = compile(rt.alloc(), source)?;
-        assert_eq!(rt; image.code.as_slice(), WORDS.as_slice());
-        assert_eq!(rt; image.globals, 8);
-        assert_eq!(rt; image.constants.as_slice().len(), 0);
-        assert_eq!(rt; image.frame, 48);
-        let machine = Machine::load(rt.alloc(), image, Vec::new(rt.alloc()))?;
-        let mut out = MemSink::new(rt.alloc(), 10, 10, Vec::new(rt.alloc()))?;
-        assert_eq!(rt; machine.run(steps, &mut out), halt);
-        assert_eq!(rt; out.bytes(), b"42\n".as_slice());
+    let mut files = answer(&rt, Vec::new(rt.alloc()))?;
+    let plain = ["build", "A", "M.Mod", "--policy", "plain"];
+    wants(&rt, &plain, &mut files, b"", refused(0, ""))?;
+    let image = Image {
+        version: 1,
+        flags: 0,
+        code: Words::new(Vec::from_slice(rt.alloc(), WORDS.as_slice())?),
+        globals: 8,
+        constants: Bytes::new(Vec::new(rt.alloc())),
+        frame: 48,
+    };
+    let bytes = write_image(rt.alloc(), &image)?;
+    let built = files.read(rt.alloc(), "A", 1000)?;
+    assert_eq!(rt; built.as_slice(), bytes.as_slice());
+    for (steps, status, err) in [("26", 0, ""), ("25", 7, "trc: steps spent\n")] {
+        let wanted = Wanted {
+            status,
+            out: "42\n",
+            err,
+        };
+        wants(
+            &rt,
+            &["exec", "A", "--steps", steps],
+            &mut files,
+            b"",
+            wanted,
+        )?;
     }
     Ok(())
+}
+
+/// Two modules, the second of which imports the first, and one that writes what it mustn't.
+fn two_modules<R: AllocGlobal>(rt: &R) -> Result<MemFiles, Fail> {
+    let mut files = MemFiles::new(rt.alloc(), Vec::new(rt.alloc()));
+    files.put(
+        "A.Mod",
+        b"MODULE A; VAR x*: INTEGER; PROCEDURE p*(n: INTEGER): INTEGER; BEGIN x := x + n RETURN x * 2 END p; END A.",
+    )?;
+    files.put(
+        "B.Mod",
+        b"MODULE B; IMPORT Out, A; BEGIN Out.Int(A.p(3), 0); Out.Int(A.p(4), 4); Out.Ln END B.",
+    )?;
+    files.put(
+        "C.Mod",
+        b"MODULE C;\n IMPORT A;\nBEGIN\n A.x := 1\nEND C.\n",
+    )?;
+    Ok(files)
+}
+
+#[test]
+fn modules_are_compiled_in_their_order(rt: HostRuntime) -> Result<(), Fail> {
+    let mut files = two_modules(&rt)?;
+    let sums = Wanted {
+        status: 0,
+        out: "6  14\n",
+        err: "",
+    };
+    wants(&rt, &["run", "A.Mod", "B.Mod"], &mut files, b"", sums)?;
+    wants(
+        &rt,
+        &["run", "B.Mod", "A.Mod"],
+        &mut files,
+        b"",
+        refused(2, "trc: B.Mod:1:23: error 38 ImportOrder\n"),
+    )?;
+    wants(
+        &rt,
+        &["run", "A.Mod", "C.Mod"],
+        &mut files,
+        b"",
+        refused(2, "trc: C.Mod:4:2: error 33 ReadOnly\n"),
+    )?;
+    wants(
+        &rt,
+        &["run", "A.Mod", "Missing.Mod"],
+        &mut files,
+        b"",
+        refused(4, "trc: no file Missing.Mod\n"),
+    )
+}
+
+#[test]
+fn limits_are_told(rt: HostRuntime) -> Result<(), Fail> {
+    let mut files = two_modules(&rt)?;
+    let mut words = ["A.Mod"; 66];
+    words[0] = "run";
+    let modules = refused(3, "trc: limit 56 Modules at 0\n");
+    wants(&rt, words.as_slice(), &mut files, b"", modules)?;
+    let twice = refused(2, "trc: A.Mod:1:8: error 36 Redeclared\n");
+    wants(&rt, &words[..65], &mut files, b"", twice)?;
+    files.put("L.Mod", vec![in rt.alloc(); b' '; 1_048_577]?.as_slice())?;
+    let source = refused(3, "trc: limit 55 Source at 1\n");
+    wants(&rt, &["run", "A.Mod", "L.Mod"], &mut files, b"", source)?;
+    files.put("G.Mod", b"MODULE G; VAR a: ARRAY 1048576 OF BYTE; END G.")?;
+    let globals = refused(3, "trc: limit 53 Globals at 0\n");
+    wants(&rt, &["build", "A", "G.Mod"], &mut files, b"", globals)?;
+    wants(
+        &rt,
+        &["exec", "A"],
+        &mut files,
+        b"",
+        refused(4, "trc: no file A\n"),
+    )
+}
+
+#[test]
+fn programs_stop_where_they_must(rt: HostRuntime) -> Result<(), Fail> {
+    let mut files = MemFiles::new(rt.alloc(), Vec::new(rt.alloc()));
+    files.put(
+        "I.Mod",
+        b"MODULE I; IMPORT In, Out; VAR c: CHAR; BEGIN In.Char(c); WHILE In.Done DO Out.Char(c); In.Char(c) END END I.",
+    )?;
+    files.put(
+        "T.Mod",
+        b"MODULE T; VAR a: ARRAY 3 OF INTEGER; i: INTEGER; BEGIN i := 3; a[i] := 1 END T.",
+    )?;
+    files.put("W.Mod", b"MODULE W; BEGIN WHILE TRUE DO END END W.")?;
+    let echo = Wanted {
+        status: 0,
+        out: "abc\n",
+        err: "",
+    };
+    wants(&rt, &["run", "I.Mod"], &mut files, b"abc\n", echo)?;
+    let trap = refused(6, "trc: trap 1\n");
+    wants(&rt, &["run", "T.Mod"], &mut files, b"", trap)?;
+    let spent = refused(7, "trc: steps spent\n");
+    wants(
+        &rt,
+        &["run", "W.Mod", "--steps", "1000"],
+        &mut files,
+        b"",
+        spent,
+    )
+}
+
+/// A call without files that is done, and writes this.
+fn writes<R: Threads + Wait + AllocGlobal + Sync + Abort>(
+    rt: &R,
+    texts: &[&str],
+    files: &mut MemFiles,
+    out: &str,
+) -> Result<(), Fail> {
+    let wanted = Wanted {
+        status: 0,
+        out,
+        err: "",
+    };
+    wants(rt, texts, files, b"", wanted)
+}
+
+#[test]
+fn traces_and_made_modules_are_told(rt: HostRuntime) -> Result<(), Fail> {
+    let mut files = answer(&rt, Vec::new(rt.alloc()))?;
+    let linear = "0 0 1048576 - linear 0\n";
+    writes(&rt, &["traces", "M.Mod"], &mut files, linear)?;
+    let plain = ["traces", "M.Mod", "--policy", "plain"];
+    writes(&rt, &plain, &mut files, "0 0 1048576 - plain 0\n")?;
+    let counts = "procedures 3\ntraces 11\nwords 208\noutput 1109\n";
+    writes(&rt, &["bulk", "7", "2"], &mut files, counts)?;
+    let mixed = [
+        "bulk", "7", "2", "--policy", "mixed", "--traces", "uni", "--regs", "4",
+    ];
+    let counts = "procedures 3\ntraces 13\nwords 250\noutput 1109\n";
+    writes(&rt, &mixed, &mut files, counts)?;
+    wants(
+        &rt,
+        &["bulk", "7", "2", "--steps", "10"],
+        &mut files,
+        b"",
+        refused(7, "trc: steps spent\n"),
+    )
 }

@@ -1,0 +1,161 @@
+#!/usr/bin/env python3
+"""Makes the input of crates/trc_vectors and the answers that are wanted, by another compiler.
+
+    bench/trc_vectors.py [FOLDER]
+
+Writes `stdin` and `stdout` into FOLDER (that crate's, if none is given): worked programs, the modules of bench/rows with one choice
+of policy, traces and registers after another, made modules, commands with their options, files that aren't there, limits, and the
+bytes of the smallest image, cut off at each place and changed at each. bench/other_compiler.py says where the other compiler
+is; how lines are written is said in crates/trc_vectors.
+"""
+import itertools
+import os
+
+from other_compiler import TOP, folder_of
+import trc  # noqa: E402
+
+CHOICES = list(itertools.product(['plain', 'linear', 'bottomup', 'mixed'], ['bi', 'uni'], ['16', '4', '8']))
+
+
+def module(body, declared='', imports='Out'):
+    return 'MODULE M; %s%sBEGIN %s END M.' % ('IMPORT %s; ' % imports if imports else '', declared, body)
+
+
+def run(text, *options, given=b''):
+    return ['run', 'M.Mod', *options], {'M.Mod': text.encode()}, given
+
+
+def worked():
+    """Programs with what they show: operators, traps, recursion, records, input."""
+    yield run(module('Out.Int(6*7, 0); Out.Ln'))
+    for first in ('(-7) DIV 2', '7 DIV 0', '7 DIV (-1)'):
+        yield run(module('Out.Int(%s, 0); Out.Char(" "); Out.Int((-7) MOD 2, 0)' % first))
+    swaps = ('MODULE S; IMPORT Out; PROCEDURE P; VAR a, b, t, i: INTEGER; BEGIN a := 1; b := 2; i := 0; WHILE i < 3 DO t := a; a := b; '
+             'b := t; i := i + 1 END; Out.Int(a, 0); Out.Int(b, 0) END P; BEGIN P END S.')
+    names = ['a%d' % i for i in range(1, 21)]
+    sums = 'MODULE T; IMPORT Out; PROCEDURE P; VAR %s: INTEGER; BEGIN %s; Out.Int(%s, 0) END P; BEGIN P END T.' % (
+        ', '.join(names), '; '.join('%s := %d' % (n, i + 1) for i, n in enumerate(names)), ' + '.join(names))
+    queens = ('MODULE Queens; IMPORT Out; VAR a: ARRAY 6 OF BOOLEAN; b, c: ARRAY 11 OF BOOLEAN; count: INTEGER; PROCEDURE Try(i: INTEGER); '
+              'VAR j: INTEGER; BEGIN FOR j := 0 TO 5 DO IF ~a[j] & ~b[i + j] & ~c[i - j + 5] THEN a[j] := TRUE; b[i + j] := TRUE; '
+              'c[i - j + 5] := TRUE; IF i < 5 THEN Try(i + 1) ELSE INC(count) END; a[j] := FALSE; b[i + j] := FALSE; '
+              'c[i - j + 5] := FALSE END END END Try; BEGIN Try(0); Out.Int(count, 0); Out.Ln END Queens.')
+    for text in (swaps, sums, queens):
+        for policy, traces, regs in CHOICES:
+            yield run(text, '--policy', policy, '--traces', traces, '--regs', regs)
+        for jobs in ('1', '3', '64'):
+            yield ['build', 'A', 'M.Mod', '--jobs', jobs], {'M.Mod': text.encode()}, b''
+    for i in ('3', '-1', '2'):
+        yield run(module('i := %s; a[i] := 1' % i, 'VAR a: ARRAY 3 OF INTEGER; i: INTEGER; ', ''))
+    yield run(module('WHILE TRUE DO END', imports=''), '--steps', '1000')
+    yield run(module('WHILE TRUE DO END', imports=''), '--steps', '0')
+    for n in (8192, 8193):
+        yield run(module('Out.Char("a"); D(%d); Out.Char("b")' % n, 'PROCEDURE D(n: INTEGER); BEGIN IF n > 1 THEN D(n - 1) END END D; '))
+        yield run(module('FOR i := 1 TO %d DO NEW(p) END' % n, 'VAR p: POINTER TO RECORD a: ARRAY 1023 OF INTEGER END; i: INTEGER; ', ''))
+    yield run('MODULE C; (* a (* b *) END C.')
+    yield run('MODULE C; (* a (* b *) *) END C.')
+    records = ('TYPE B = RECORD END; E = RECORD (B) x: INTEGER END; F = RECORD (E) END; PB = POINTER TO B; PE = POINTER TO E; '
+               'PF = POINTER TO F; VAR p: PB; e: PE; f: PF; ')
+    for body in ('NEW(e); p := e; e := p(PE)', 'NEW(f); p := f; e := p(PE)', 'NEW(p); e := p(PE)', 'e := p(PE)', 'ASSERT(~(p IS PE))'):
+        yield run(module(body, records, ''))
+    loop = 'MODULE T; VAR i: INTEGER; BEGIN i := 0; WHILE i < 9 DO IF i = 3 THEN i := i + 2 END; i := i + 1 END END T.'
+    for policy, traces in itertools.product(['plain', 'linear', 'bottomup', 'mixed'], ['bi', 'uni']):
+        yield ['traces', 'M.Mod', '--policy', policy, '--traces', traces], {'M.Mod': loop.encode()}, b''
+    for body in ('Out.Int(0FFFFFFFFFFFFFFFFH, 0); Out.Int(42, 5); Out.Char(41X)', 'Out.Int(ORD("0"), 0)', 'Out.Int(9223372036854775808, 0)',
+                 'Out.Char(100X)'):
+        yield run(module(body))
+    echo = module('In.Char(c); WHILE In.Done DO Out.Char(c); In.Char(c) END', 'VAR c: CHAR; ', 'In, Out')
+    for given in (b'ab', b'', bytes(range(256)), b'a' * 2000):
+        yield run(echo, given=given)
+    tests = ('VAR i: INTEGER; y: BYTE; short: ARRAY 3 OF CHAR; long: ARRAY 4 OF CHAR; '
+             'PROCEDURE Q(VAR s: ARRAY OF CHAR); BEGIN s := "abc" END Q; ')
+    for body in ('i := 5; CASE i OF 1: | 2..4: END', 'ASSERT(i = 1)', 'i := 64; ASSERT(i IN {1})', 'i := 256; y := i', 'Q(short)', 'Q(long)'):
+        yield run(module(body, tests, ''))
+    local = 'VAR n: INTEGER; PROCEDURE P; VAR a: ARRAY 1048576 OF INTEGER; BEGIN IF n > 0 THEN n := n - 1; P END END P; '
+    yield run(module('n := 1; P', local, ''))
+
+
+def modules():
+    """Several modules, in their order and in another, and what isn't there."""
+    a = b'MODULE A; PROCEDURE Twice*(x: INTEGER): INTEGER; BEGIN RETURN 2*x END Twice; END A.'
+    b = b'MODULE B; IMPORT A, Out; BEGIN Out.Int(A.Twice(21), 0); Out.Ln END B.'
+    files = {'A.Mod': a, 'B.Mod': b}
+    for words in ('run A.Mod B.Mod', 'run B.Mod A.Mod', 'build O A.Mod B.Mod', 'build O B.Mod', 'traces A.Mod B.Mod', 'run A.Mod C.Mod',
+                  'build O C.Mod B.Mod', 'traces C.Mod', 'exec C.Mod', 'run A.Mod A.Mod', 'run ' + ' '.join(['A.Mod'] * 65),
+                  'run ' + ' '.join(['A.Mod'] * 64)):
+        yield words.split(' '), files, b''
+
+
+def commands():
+    """Words that are taken and words that are refused."""
+    text = {'M.Mod': module('Out.Int(6*7, 0); Out.Ln').encode()}
+    for words in ('', 'help', 'help me', 'walk', 'run', 'build', 'build A', 'traces', 'exec', 'exec A B', 'bulk', 'bulk 7', 'bulk 7 2',
+                  'bulk 7 2 3', 'bulk 7 0', 'bulk 7 1001', 'bulk 9223372036854775808 1', 'bulk 9223372036854775807 1', 'bulk 7 2 --steps 10',
+                  'bulk 7 3 --policy mixed --traces uni --regs 4 --jobs 2', 'run M.Mod --policy fast', 'run M.Mod --policy', 'run M.Mod --regs 3',
+                  'run M.Mod --regs 17', 'run M.Mod --regs 04', 'run M.Mod --traces tri', 'run M.Mod --jobs 0', 'run M.Mod --jobs 65',
+                  'run M.Mod --jobs 64', 'run M.Mod --steps 15', 'run M.Mod --steps=16', 'run M.Mod --steps 1000000000000001',
+                  'run M.Mod --steps x', 'run --steps 16 M.Mod', 'run -- M.Mod', 'run M.Mod --', 'run M.Mod --help', 'traces M.Mod --regs 4',
+                  'build A M.Mod --steps 4', 'exec A --policy plain', 'build A M.Mod', 'build A M.Mod --policy plain --regs 4'):
+        yield words.split(' '), text, b''
+
+
+def images():
+    """The smallest image, whole, cut off at each place, and changed at each; and some that read."""
+    whole = bytes(trc.Run(['build', 'A', 'M.Mod'], {'M.Mod': b'MODULE E; END E.'}, b'').files['A'])
+    cut = [whole[:n] for n in range(len(whole))] + [whole + b'\0']
+    changed = [whole[:n] + bytes([whole[n] ^ 0x41]) + whole[n + 1:] for n in range(len(whole))]
+    for image in [whole] + cut + changed:
+        yield ['exec', 'A', '--steps', '1000'], {'A': image}, b'xyz'
+    for steps in ('9', '8'):
+        yield ['exec', 'A', '--steps', steps], {'A': whole}, b''
+
+
+def stored():
+    """The modules of bench/rows, with one choice after another."""
+    top = os.path.join(TOP, 'bench', 'rows')
+    choices = itertools.cycle(CHOICES)
+    for name in sorted(os.listdir(top)):
+        if name.endswith('.txt') and name != 'spoils.txt':
+            for piece in open(os.path.join(top, name)).read().split('---\n'):
+                first, _, text = piece.strip('\n').partition('\n')
+                if first and text and '[' not in first and 'MODULE' in text:
+                    sources = [m.strip('\n').encode() + b'\n' for m in text.split('===\n')]
+                    names = ['M%d.Mod' % i for i in range(len(sources))]
+                    policy, traces, regs = next(choices)
+                    words = ['run', *names, '--policy', policy, '--traces', traces, '--regs', regs, '--steps', '20000']
+                    yield words, dict(zip(names, sources)), b'some input\n'
+
+
+def made():
+    """Two hundred made modules of some sizes, with one choice after another."""
+    for seed, (policy, traces, regs) in zip(range(200), itertools.cycle(CHOICES)):
+        yield ['bulk', str(seed), str(2 + seed % 5), '--policy', policy, '--traces', traces, '--regs', regs], {}, b''
+
+
+def written(data):
+    signs = {10: '\\n', 9: '\\t', 92: '\\\\'}
+    return ''.join(signs.get(b) or (chr(b) if 32 <= b <= 126 else '\\x%02x' % b) for b in data)
+
+
+def line(words, files, given):
+    fields = [' '.join(words)] + ['%s=%s' % (name, written(data)) for name, data in files.items()]
+    return '\t'.join(fields + (['<' + written(given)] if given else [])) + '\n'
+
+
+def answer(words, files, given):
+    call = trc.Run([] if words == [''] else words, dict(files), given)
+    told = written((call.err + '\n').encode()) if call.err else ''
+    built = written(call.files[words[1]]) if words[0] == 'build' and len(words) > 1 and words[1] in call.files else ''
+    return '%d %s | %s%s\n' % (call.status, written(bytes(call.out)), told, built)
+
+
+def main():
+    folder = folder_of('trc_vectors')
+    calls = [call for part in (worked, modules, commands, images, stored, made) for call in part()]
+    with open(os.path.join(folder, 'stdin'), 'w') as out:
+        out.writelines(line(*call) for call in calls)
+    with open(os.path.join(folder, 'stdout'), 'w') as out:
+        out.writelines(answer(*call) for call in calls)
+    print(len(calls), 'calls')
+
+
+main()
