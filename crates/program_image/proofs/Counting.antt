@@ -2,12 +2,11 @@
 use Rattle.std.proofs.Common.{◌≡◌, ℕ, suc, ◌+◌, List, [], ◌∷◌, map, length, refl, ap, ap₂, ◌∙◌}
 use Rattle.lir_core.specs.declared.flow.Flow.{Flow}
 use Rattle.lir_core.specs.declared.flow.Trace.{Trace}
-use Rattle.trace_build.specs.Traces.{traces_of}
+use Rattle.trace_build.specs.Traces.{traces_of, traces_in}
 use Rattle.trace_build.specs.Cuts.{lists_of}
 use Rattle.linked_flows.specs.Allocations.{Cut}
 use Rattle.alloc_choice.specs.declared.choice.Choice.{Choice}
 use Rattle.flow_allocation.specs.Allocations.{AllAllocations, trace_count}
-use Rattle.trace_report.specs.Reports.{traces_in}
 
 as_many : (ts : List Trace) → length ts ≡ length (lists_of ts)
 as_many [] = refl

@@ -15,7 +15,7 @@ use Rattle.back_end.specs.declared.fault.ImageFault.{ImageFault}
 use Rattle.back_end.specs.declared.fault.ImageFault.TheVariants as back
 use Rattle.compiled_runs.specs.Compiled.{flows_of}
 use Rattle.program_image.specs.Faults.{Tells, of_lowering, of_imaging}
-use Rattle.trace_report.specs.Reports.{traces_in}
+use Rattle.trace_build.specs.Traces.{traces_in}
 use Rattle.program_image.specs.Limits.{most_traces, IsPassedFirst, InLowering, ByTraces, ByWords}
 use Rattle.program_image.proofs.Counting.{counted}
 

@@ -10,7 +10,7 @@ ghost use Rattle.compiled_runs.specs.Compiled.{flows_of};
 ghost use Rattle.program_image.specs.Faults.{Tells};
 ghost use Rattle.program_image.specs.Images.{IsProgramImage, DoesAsMeant};
 ghost use Rattle.program_image.specs.Limits.{most_traces};
-ghost use Rattle.trace_report.specs.Reports.{traces_in};
+ghost use Rattle.trace_build.specs.Traces.{traces_in};
 
 use crate::data::program_data;
 use crate::fault::{ProgramFault, of_imaging, of_lowering, whole_limit};

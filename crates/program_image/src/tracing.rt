@@ -4,7 +4,8 @@ ghost use Rattle.std.specs.Prelude.{◌≡◌, ◌≤◌, true, None, IfOk, OnOk
 ghost use Rattle.ob_types.specs.WellFormed.{well_formed};
 ghost use Rattle.ssa_lowered.specs.Limits.{limit_of};
 ghost use Rattle.compiled_runs.specs.Compiled.{flows_of};
-ghost use Rattle.trace_report.specs.Reports.{IsReport, traces_in};
+ghost use Rattle.trace_build.specs.Traces.{traces_in};
+ghost use Rattle.trace_report.specs.Reports.{IsReport};
 ghost use Rattle.program_image.specs.Faults.{Tells};
 ghost use Rattle.program_image.specs.Limits.{most_traces};
 

@@ -6,7 +6,8 @@ use Rattle.ssa_lowered.specs.Lowered.{lowered}
 use Rattle.linked_flows.specs.Allocations.{Cut}
 use Rattle.alloc_choice.specs.declared.choice.Choice.{Choice}
 use Rattle.compiled_runs.specs.Compiled.{flows_of}
-use Rattle.trace_report.specs.Reports.{IsReport, traces_in}
+use Rattle.trace_build.specs.Traces.{traces_in}
+use Rattle.trace_report.specs.Reports.{IsReport}
 use Rattle.program_image.specs.Images.{IsProgramImage, DoesAsMeant}
 use Rattle.program_image.specs.declared.imaging.Compiled.{Compiled}
 use Rattle.source_program.specs.Texts.{IsProgramOfTexts}

@@ -3,7 +3,7 @@ use Rattle.std.proofs.Common.{◌≡◌, ◌≢◌, ℕ, zero, suc, ◌+◌, ◌
 use Rattle.std.specs.Prelude.{nat_lt, slice_get}
 use Rattle.std.specs.List.{list_any}
 use Rattle.std.proofs.Math.ListN.{set}
-use Rattle.std.proofs.lemmas.List.{get_or-set_same, get_or-set_other, length-set, length-replicate, get_or-replicate, get_or_default, length-map}
+use Rattle.std.proofs.lemmas.List.{get_or-set_same, get_or-set_other, length-set, length-replicate, get_or-replicate, get_or_default, get_or_past, length-map}
 use Rattle.std.proofs.lemmas.Option.{slice_get-get_or}
 use Rattle.std.proofs.lemmas.Bool.{eqb-true, eq-eqb, cases_lt, ltb-true, ltb-false}
 use Rattle.block_runs.specs.Blocks.{block_at, successors}
@@ -16,7 +16,7 @@ use Rattle.lir_core.specs.Flows.{code_node, code_nodes, leads, IsValidFlow}
 use Rattle.global_live.proofs.Lists.{has_head, has_back, all_below_in}
 use Rattle.global_live.proofs.Tables.{at_block, leads_there, has-preds_of}
 use Rattle.trace_build.specs.Traces.{no_node}
-use Rattle.trace_build.specs.Parents.{trace_at, enters, is_above, IsParent, held, holders_from, lower, lowest_of, parent_at, parent_by}
+use Rattle.trace_build.specs.Parents.{trace_at, enters, is_above, AreBelow, IsParent, held, holders_from, if_below, lower, lowest_of, parent_at, parent_by}
 
 ---- Filling the table
 
@@ -237,3 +237,28 @@ module _ (f : Flow) (valid : IsValidFlow f) (traces : List Trace) where
       by : (ns : List ℕ) → (trace_at traces t).nodes ≡ ns → IsParent (code_nodes f.nodes) traces t (parent_by f.nodes table ns t)
       by [] e = λ s l. above_is [] e s false refl
       by (head ∷ rest) e = node_case head rest e (slice_get f.nodes head) refl
+
+---- Every parent that the table gives is below
+
+below_if : (number low p : ℕ) → if_below number low ≡ Some p → p < number
+below_if number low p e = by (nat_lt low number) refl e
+  where
+    by : (b : Bool) → nat_lt low number ≡ b → cond b (Some low) None ≡ Some p → p < number
+    by true lt e = let l = ltb-true low number lt in let q : low ≡ p = cc in omega (arith, l, q)
+    by false lt e = cc
+
+below_at : (o : Option Node) (holders : List ℕ) (number p : ℕ) → parent_at o holders number ≡ Some p → p < number
+below_at None holders number p e = cc
+below_at (Some node) holders number p e = below_if number (lowest_of holders node.preds number) p e
+
+below_by : (nodes : List Node) (holders ns : List ℕ) (number p : ℕ) → parent_by nodes holders ns number ≡ Some p → p < number
+below_by nodes holders [] number p e = cc
+below_by nodes holders (head ∷ rest) number p e = below_at (slice_get nodes head) holders number p e
+
+pub are_below : (nodes : List Node) (holders : List ℕ) (traces : List Trace) (parents : List (Option ℕ)) → length parents ≡ length traces
+    → ((t : ℕ) → t < length traces → get_or parents t None ≡ parent_by nodes holders (trace_at traces t).nodes t) → AreBelow parents
+are_below nodes holders traces parents long each t p e = by (cases_lt t (length traces))
+  where
+    by : ◌⊎◌ (t < length traces) (length traces ≤ t) → p < t
+    by (inl lt) = below_by nodes holders (trace_at traces t).nodes t p (sym (each t lt) ∙ e)
+    by (inr le) = let none : get_or parents t None ≡ None = get_or_past parents t None (omega (arith, long, le)) in cc

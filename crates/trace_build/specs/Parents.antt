@@ -32,6 +32,10 @@ pub record AreParents (f : Flow) (traces : List Trace) (parents : List (Option �
   pub each : length parents ≡ length traces
   pub parent : (t : ℕ) → t < length traces → IsParent (code_nodes f.nodes) traces t (slice_index_or parents t None)
 
+-- each parent's number is below its trace's
+abbrev pub AreBelow : List (Option ℕ) → Type 0
+AreBelow parents = (t p : ℕ) → slice_index_or parents t None ≡ Some p → p < t
+
 ---- The table by which parents are found
 
 -- trace t has these nodes

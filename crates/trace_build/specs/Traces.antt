@@ -1,9 +1,10 @@
 -- The traces of a flow (Eisl and others, 2016): as long as nodes are unassigned, the most frequent of them begins a trace, which grows along edges over unassigned nodes.
-use Rattle.std.specs.Prelude.{ℕ, zero, suc, ◌==◌, nat_lt, nat_le, Bool, true, false, ◌&&◌, ◌||◌, cond, List, [], ◌∷◌, ◌++◌, length, fold, reverse, filter, count_by, replicate, slice_index_or, slice_set, Option, Some, None}
+use Rattle.std.specs.Prelude.{ℕ, zero, suc, ◌+◌, ◌==◌, nat_lt, nat_le, Bool, true, false, ◌&&◌, ◌||◌, cond, List, [], ◌∷◌, ◌++◌, length, fold, reverse, filter, count_by, replicate, slice_index_or, slice_set, Option, Some, None}
 use Rattle.run_laws.specs.Layers.{places_from}
 use Rattle.block_runs.specs.declared.end.End.TheVariants.{Return}
 use Rattle.block_runs.specs.Blocks.{successors}
 use Rattle.lir_core.specs.declared.flow.Node.{Node}
+use Rattle.lir_core.specs.declared.flow.Flow.{Flow}
 use Rattle.trace_build.specs.declared.builder.Builder.{Builder}
 use Rattle.trace_build.specs.declared.builder.Builder.TheVariants.{Uni, Bi}
 use Rattle.trace_build.specs.declared.growing.Direction.{Direction}
@@ -102,3 +103,8 @@ traces_from builder nodes (suc k) free =
 -- the traces of a flow; there are no more than nodes, since each has one
 abbrev pub traces_of : Builder → List Node → List (List ℕ)
 traces_of builder nodes = traces_from builder nodes (length nodes) (replicate (length nodes) true)
+
+-- how many traces there are of some flows
+abbrev pub traces_in : Builder → List Flow → ℕ
+traces_in builder [] = 0
+traces_in builder (f ∷ fs) = length (traces_of builder f.nodes) + traces_in builder fs

@@ -2,7 +2,7 @@
 
 ghost use Rattle.std.specs.Prelude.{◌≡◌, ◌<◌, ◌^◌, length, replicate, slice_set, IfOk};
 ghost use Rattle.lir_core.specs.Flows.{IsValidFlow};
-ghost use Rattle.trace_build.specs.Parents.{AreParents, holders_from, held, lowest_of, parent_by};
+ghost use Rattle.trace_build.specs.Parents.{AreBelow, AreParents, holders_from, held, lowest_of, parent_by};
 
 use lir_core::{Flow, Trace};
 use outside::Memory;
@@ -11,7 +11,9 @@ use std::alloc::{AllocError, Global};
 /// For each trace the lowest-numbered one below it from which an edge leads into its head, if there is one. Takes time in
 /// proportion to the nodes of the traces and the edges into their heads.
 pub fn parents(alloc: Global, flow: &Flow, traces: &[Trace]) -> Result<Vec<Option<u32>>, Memory>
-    ensures { IsValidFlow flow.now → IfOk result (λ parents. AreParents flow.now traces.now parents.items) }
+    ensures each { IfOk result (λ parents. length parents.items ≡ length traces.now) }
+    ensures below { IfOk result (λ parents. AreBelow parents.items) }
+    ensures parents { IsValidFlow flow.now → IfOk result (λ parents. AreParents flow.now traces.now parents.items) }
 {
     if u32::try_from(traces.len()).is_err() {
         return Err(Memory);

@@ -5,9 +5,9 @@ use Rattle.lir_core.specs.declared.flow.Flow.{Flow}
 use Rattle.alloc_choice.specs.declared.choice.Choice.{Choice}
 use Rattle.lir_core.specs.declared.flow.Trace.{Trace}
 use Rattle.trace_build.specs.declared.builder.Builder.{Builder}
-use Rattle.trace_build.specs.Traces.{traces_of}
+use Rattle.trace_build.specs.Traces.{traces_of, traces_in}
 use Rattle.trace_build.specs.Cuts.{lists_of}
-use Rattle.trace_report.specs.Reports.{IsFlowReport, IsReport, traces_in}
+use Rattle.trace_report.specs.Reports.{IsFlowReport, IsReport}
 
 -- the report of the flows from place i on, where that of those behind it is known
 pub report_next : (choice : Choice) (flows : List Flow) (i : ℕ) (d : Flow) (lines rest : List ℕ) → i < length flows → IsFlowReport choice i (get_or flows i d) lines

@@ -1,9 +1,8 @@
 -- The lines of all traces of flows.
-use Rattle.std.specs.Prelude.{◌≡◌, ℕ, suc, ◌+◌, List, [], ◌∷◌, ◌++◌, length, Option, None, slice_index_or}
+use Rattle.std.specs.Prelude.{◌≡◌, ℕ, suc, List, [], ◌∷◌, ◌++◌, Option, None, slice_index_or}
 use Rattle.lir_core.specs.declared.flow.Node.{Node}
 use Rattle.lir_core.specs.declared.flow.Flow.{Flow}
 use Rattle.lir_core.specs.declared.flow.Trace.{Trace}
-use Rattle.trace_build.specs.declared.builder.Builder.{Builder}
 use Rattle.trace_build.specs.Cuts.{lists_of}
 use Rattle.trace_build.specs.Traces.{traces_of}
 use Rattle.trace_build.specs.Parents.{AreParents}
@@ -43,8 +42,3 @@ pub record IsJoined (first next : List ℕ → Type 0) (bytes : List ℕ) : Type
 abbrev pub IsReport : Choice → (procedure : ℕ) → List Flow → List ℕ → Type 0
 IsReport choice procedure [] bytes = bytes ≡ []
 IsReport choice procedure (f ∷ fs) bytes = IsJoined (IsFlowReport choice procedure f) (IsReport choice (suc procedure) fs) bytes
-
--- how many traces a builder makes of flows
-abbrev pub traces_in : Builder → List Flow → ℕ
-traces_in builder [] = 0
-traces_in builder (f ∷ fs) = length (traces_of builder f.nodes) + traces_in builder fs

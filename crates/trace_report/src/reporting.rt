@@ -2,8 +2,8 @@
 
 ghost use Rattle.std.specs.Prelude.{◌≡◌, ◌+◌, ◌++◌, ℕ, List, None, OnOk, IfOk, All, slice_index_or, length};
 ghost use Rattle.lir_core.specs.Flows.{IsValidFlow};
-ghost use Rattle.trace_build.specs.Traces.{traces_of};
-ghost use Rattle.trace_report.specs.Reports.{lines_from, traces_in, IsFlowReport, IsReport};
+ghost use Rattle.trace_build.specs.Traces.{traces_of, traces_in};
+ghost use Rattle.trace_report.specs.Reports.{lines_from, IsFlowReport, IsReport};
 
 use crate::lines::{Told, put_line};
 use alloc_choice::{Choice, policy_of};

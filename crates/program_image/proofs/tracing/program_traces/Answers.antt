@@ -8,7 +8,8 @@ use Rattle.ssa_tables.proofs.Measuring.{measured}
 use Rattle.ssa_lowered.specs.Lowered.{lowered}
 use Rattle.back_end.specs.Images.{IsReady}
 use Rattle.back_end.proofs.Ready.{valid_flows}
-use Rattle.trace_report.specs.Reports.{IsReport, traces_in}
+use Rattle.trace_build.specs.Traces.{traces_in}
+use Rattle.trace_report.specs.Reports.{IsReport}
 use Rattle.compiled_runs.specs.Compiled.{flows_of}
 use Rattle.program_image.specs.Faults.{Tells}
 use Rattle.program_image.specs.Limits.{ByLength, ByTraces}

@@ -2,7 +2,8 @@ use Rattle.std.proofs.Common.{◌≡◌, [], ◌++◌, ◌+◌, get_or, drop, re
 use Rattle.std.proofs.lemmas.List.{append-nil, drop_all}
 use Rattle.lir_core.specs.declared.flow.Flow.{Flow}
 use Rattle.lir_core.specs.Flows.{IsValidFlow}
-use Rattle.trace_report.specs.Reports.{IsFlowReport, IsReport, traces_in}
+use Rattle.trace_build.specs.Traces.{traces_in}
+use Rattle.trace_report.specs.Reports.{IsFlowReport, IsReport}
 use Rattle.trace_report.proofs.Joined.{report_next, count_next}
 use Rattle.trace_report.proofs.reporting.trace_report.Goals as goal
 

@@ -1,7 +1,8 @@
 use Rattle.std.proofs.Common.{◌≡◌, ◌+◌, ℕ, List, ◌++◌, drop}
 use Rattle.std.specs.Prelude.{All}
 use Rattle.lir_core.specs.Flows.{IsValidFlow}
-use Rattle.trace_report.specs.Reports.{IsReport, traces_in}
+use Rattle.trace_build.specs.Traces.{traces_in}
+use Rattle.trace_report.specs.Reports.{IsReport}
 use Rattle.trace_report.proofs.reporting.trace_report.Given as goal
 
 abbrev pub invariant-loop-place : goal.invariant-loop-place
