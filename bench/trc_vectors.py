@@ -98,6 +98,21 @@ def commands():
         yield words.split(' '), text, b''
 
 
+def workers():
+    """The same modules by one, three and sixty-four workers."""
+    moves = ('MODULE S; IMPORT Out; PROCEDURE P; VAR a, b, t, i: INTEGER; BEGIN a := 1; b := 2; i := 0; '
+             'WHILE i < 3 DO t := a; a := b; b := t; i := i + 1 END; Out.Int(a, 0); Out.Int(b, 0) END P; BEGIN P END S.')
+    names = ['a%d' % i for i in range(1, 21)]
+    sums = ('MODULE L; IMPORT Out; PROCEDURE P; VAR ' + ', '.join(names) + ': INTEGER; BEGIN '
+            + '; '.join('%s := %d' % (name, i + 1) for i, name in enumerate(names))
+            + '; Out.Int(' + ' + '.join(names) + ', 0) END P; BEGIN P END L.')
+    for jobs in ('1', '3', '64'):
+        for text in (moves, sums):
+            yield ['build', 'O', 'M.Mod', '--regs', '4', '--jobs', jobs], {'M.Mod': text.encode()}, b''
+        for size in ('60', '400'):
+            yield ['bulk', '7', size, '--jobs', jobs], {}, b''
+
+
 def images():
     """The smallest image, whole, cut off at each place, and changed at each; and some that read."""
     whole = bytes(trc.Run(['build', 'A', 'M.Mod'], {'M.Mod': b'MODULE E; END E.'}, b'').files['A'])
@@ -150,7 +165,7 @@ def answer(words, files, given):
 
 def main():
     folder = folder_of('trc_vectors')
-    calls = [call for part in (worked, modules, commands, images, stored, made) for call in part()]
+    calls = [call for part in (worked, modules, commands, workers, images, stored, made) for call in part()]
     with open(os.path.join(folder, 'stdin'), 'w') as out:
         out.writelines(line(*call) for call in calls)
     with open(os.path.join(folder, 'stdout'), 'w') as out:
