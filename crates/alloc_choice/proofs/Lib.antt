@@ -1,4 +1,1 @@
 pub mod Fits
-pub mod Seated
-pub mod Hinted
-pub mod Ready

@@ -1,13 +1,21 @@
 -- By what a trace's result is made.
-use Rattle.std.specs.Prelude.{ℕ, nat_le, Bool, true, false, ◌&&◌, cond, List, [], ◌∷◌, Option, Some, None, slice_get}
+use Rattle.std.specs.Prelude.{ℕ, ◌≤◌, nat_le, Bool, true, false, ◌&&◌, cond, List, [], ◌∷◌, Option, Some, None, slice_get}
 use Rattle.std.specs.List.{list_any}
 use Rattle.block_runs.specs.declared.end.End.{End}
 use Rattle.block_runs.specs.declared.end.End.TheVariants.{Jump}
 use Rattle.lir_core.specs.declared.flow.Node.{Node}
+use Rattle.alloc_choice.specs.declared.choice.Choice.{Choice}
 use Rattle.alloc_choice.specs.declared.choice.Policy.{Policy}
 use Rattle.alloc_choice.specs.declared.choice.Policy.TheVariants.{Plain, Linear, BottomUp, Mixed}
 use Rattle.alloc_choice.specs.declared.choice.Used.{Used}
 use Rattle.alloc_choice.specs.declared.choice.Used.TheVariants.{Plain as ByPlain, Trivial as ByTrivial, Linear as ByLinear, BottomUp as ByBottomUp}
+
+-- there are 4 to 16 registers and 1 to 64 workers
+pub record IsFitChoice (choice : Choice) : Type 0 where
+  pub enough : 4 ≤ choice.regs
+  pub few : choice.regs ≤ 16
+  pub some_jobs : 1 ≤ choice.jobs
+  pub few_jobs : choice.jobs ≤ 64
 
 abbrev pub is_jump : End → Bool
 is_jump (Jump to args) = true

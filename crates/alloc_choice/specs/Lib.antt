@@ -1,5 +1,2 @@
 pub mod Choice
 pub mod Results
-pub mod Places
-pub mod Lent
-pub mod Tasks

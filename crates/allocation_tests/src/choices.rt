@@ -1,12 +1,14 @@
 //! The results of a large flow.
 
 use alloc_choice::*;
-use global_live::live;
 use lir_core::{Items, Leave, Lir, Node, Template, Uses};
-use outside::Memory;
+use outside::{Memory, OpenGate};
 use std::alloc::{AllocError, Global};
+use std::sync::Wait;
 use std::test::Fail;
-use trace_build::build;
+use std::thread::Threads;
+use trace_pool::final_results;
+use trace_work::TraceWork;
 
 // How many tests there are one behind the other.
 const TESTS: u32 = 2000;
@@ -94,38 +96,48 @@ fn trivial_and_named(
     (trivial, named)
 }
 
-fn passes(alloc: Global, policy: Policy, wanted: u32) -> Result<bool, Memory> {
-    let flow = tests(alloc)?;
-    let live = live(alloc, &flow)?;
-    let traces = build(alloc, Builder::Bi, &flow)?;
+fn passes<R: Threads + Wait + Sync>(
+    rt: &R,
+    alloc: Global,
+    policy: Policy,
+    wanted: u32,
+) -> Result<bool, Memory> {
     let choice = Choice {
         policy,
         builder: Builder::Bi,
         regs: 4,
-        jobs: 1,
+        jobs: 2,
     };
-    let outs = final_results(alloc, &choice, &flow, &live, traces.as_slice(), 0)?;
-    Ok(trivial_and_named(&choice, &flow, traces.as_slice(), outs.as_slice()) == (wanted, true))
+    let flows = [tests(alloc)?];
+    let Ok(work) = TraceWork::new(alloc, &choice, &flows) else {
+        return Err(Memory);
+    };
+    let outs = final_results(rt, alloc, &work, &OpenGate, choice.jobs)?;
+    let Some(plan) = work.plans.as_slice().first() else {
+        return Ok(false);
+    };
+    let found = trivial_and_named(&choice, plan.flow, plan.traces.as_slice(), outs.as_slice());
+    Ok(found == (wanted, true))
 }
 
 // Of the nodes on edges those of one side are in the first trace, and the others are traces of their own.
 #[test]
 fn mixed(rt: HostRuntime) -> Result<(), Fail> {
-    let passed = passes(rt.alloc(), Policy::Mixed, TESTS)?;
+    let passed = passes(&rt, rt.alloc(), Policy::Mixed, TESTS)?;
     assert!(rt; passed);
     Ok(())
 }
 
 #[test]
 fn bottom_up(rt: HostRuntime) -> Result<(), Fail> {
-    let passed = passes(rt.alloc(), Policy::BottomUp, TESTS)?;
+    let passed = passes(&rt, rt.alloc(), Policy::BottomUp, TESTS)?;
     assert!(rt; passed);
     Ok(())
 }
 
 #[test]
 fn plain(rt: HostRuntime) -> Result<(), Fail> {
-    let passed = passes(rt.alloc(), Policy::Plain, 0)?;
+    let passed = passes(&rt, rt.alloc(), Policy::Plain, 0)?;
     assert!(rt; passed);
     Ok(())
 }

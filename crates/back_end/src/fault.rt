@@ -3,7 +3,9 @@
 ghost use Rattle.std.specs.Prelude.{◌≡◌};
 ghost use Rattle.link_plan.specs.declared.fault.LinkFault.TheVariants as link;
 ghost use Rattle.back_end.specs.declared.fault.ImageFault.TheVariants.{Traces as TooManyTraces, Code as TooMuchCode, Misfit as NotFitting, Memory as OutOfMemory};
+ghost use Rattle.back_end.specs.Faults.{of_work};
 
+use flow_allocation::WorkFault;
 use link_plan::LinkFault;
 use outside::Memory;
 use std::alloc::{AllocError, AllocFailed};
@@ -31,6 +33,17 @@ impl From<Memory> for ImageFault {
 
     fn from(_error: Memory) -> Self {
         ImageFault::Memory
+    }
+}
+
+impl From<WorkFault> for ImageFault {
+    ghost from_gives = { λ fault e. e ≡ of_work fault };
+
+    fn from(fault: WorkFault) -> Self {
+        match fault {
+            WorkFault::Traces => ImageFault::Traces,
+            WorkFault::Memory => ImageFault::Memory,
+        }
     }
 }
 

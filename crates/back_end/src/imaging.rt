@@ -5,6 +5,8 @@ ghost use Rattle.a64_select.specs.Selected.{selected};
 ghost use Rattle.image_form.specs.Form.{IsInForm};
 ghost use Rattle.linked_flows.specs.Allocations.{Cut};
 ghost use Rattle.link_plan.specs.Linked.{DataFits, AreSmall};
+ghost use Rattle.trace_build.specs.Traces.{traces_in};
+ghost use Rattle.alloc_choice.specs.Choice.{IsFitChoice};
 ghost use Rattle.flow_allocation.specs.Allocations.{trace_count};
 ghost use Rattle.back_end.specs.Images.{IsReady, HasFewValues, AreCutsOf, IsImageBy, code_length};
 ghost use Rattle.back_end.specs.Numbers.{node_numbers};
@@ -16,11 +18,11 @@ use a64_select::select;
 use flow_allocation::{Choice, Flow, allocate_flows};
 use image_form::Image;
 use link_plan::{Data, link};
+use outside::Gate;
 use ssa_core::Proc;
 use std::alloc::Global;
-
-/// How many traces there are at most.
-const MOST_TRACES: u32 = 262_144;
+use std::sync::Wait;
+use std::thread::Threads;
 
 /// An image, and of how many traces its code is made.
 #[derive(Drop)]
@@ -31,23 +33,24 @@ pub struct LinkedProcedures {
 
 /// The image of procedures by their numbers: each one's flow in the traces of the builder that is chosen, the first of these with
 /// the number behind those of the procedures before it, each with the final result by the policy, in lines with the moves of
-/// edges, linked. `Traces` comes exactly where there are over 262,144 traces, `Code` where there are not and the code is over
+/// edges, linked. The workers of the choice share the traces, and whatever they do the image is the same; a worker passes the gate
+/// before it begins a trace. `Traces` comes exactly where there are over 262,144 traces, `Code` where there are not and the code is over
 /// 262,144 words, and `Misfit` for no procedures whose numbers and frames are small enough, so for none of at most 4,000 values
-/// each. Takes the time of the passes.
-pub fn image_of(
+/// each. Takes the time of the passes. It may wait.
+pub fn image_of<G: Gate, R: Threads + Wait + Sync>(
+    rt: &R,
     alloc: Global,
     choice: &Choice,
     procedures: &[Proc],
     extra: Data,
+    gate: &G,
 ) -> Result<LinkedProcedures, ImageFault>
     requires ready { All IsReady procedures.now }
-    requires enough { 4 ≤ choice.now.regs }
-    requires few { choice.now.regs ≤ 16 }
+    requires choice { IsFitChoice choice.now }
     requires extra { DataFits extra.flags extra.globals extra.constants }
     ensures image { IfOk result (IsImageBy choice.now procedures.now extra.flags extra.globals extra.constants) }
     ensures form { IfOk result (λ linked. IsInForm linked.image) }
-    ensures traces { IfErr result (λ fault. fault ≡ Traces
-        → (cuts : List Cut) × AreCutsOf choice.now procedures.now cuts × (262144 < trace_count cuts)) }
+    ensures traces { IfErr result (λ fault. fault ≡ Traces → 262144 < traces_in choice.now.builder (map selected procedures.now)) }
     ensures code { IfErr result (λ fault. fault ≡ Code
         → (cuts : List Cut) × AreCutsOf choice.now procedures.now cuts × (trace_count cuts ≤ 262144) × (2 ^ 18 < code_length cuts)) }
     ensures misfit { IfErr result (λ fault. fault ≡ Misfit
@@ -55,10 +58,7 @@ pub fn image_of(
     ensures modest { All HasFewValues procedures.now → IfErr result (λ fault. fault ≡ Misfit → ⊥) }
 {
     let flows = select_all(alloc, procedures)?;
-    let allocated = allocate_flows(alloc, choice, flows.as_slice())?;
-    if allocated.traces > MOST_TRACES {
-        return Err(ImageFault::Traces);
-    }
+    let allocated = allocate_flows(rt, alloc, choice, flows.as_slice(), gate)?;
     let parts = allocated.parts.as_slice();
     match link(
         alloc,

@@ -10,10 +10,13 @@
 ghost use Rattle.std.specs.Prelude.{◌≤◌};
 
 use items::Items;
+use outside::OpenGate;
 use source_image::{Builder, Choice, Compiled, Image, Policy, Refusal, source_image};
 use std::alloc::{AllocError, Global};
 use std::io;
 use std::io::{BufRead, BufReader};
+use std::sync::Wait;
+use std::thread::Threads;
 
 /// A policy by its word.
 fn policy_named(word: &str) -> Option<Policy> {
@@ -101,7 +104,11 @@ fn told(alloc: Global, made: &Result<Compiled, Refusal>) -> Result<String, Alloc
 }
 
 /// What a line's modules come to, by its choice; nothing where it has none of 4 to 16 registers.
-fn answer(alloc: Global, line: &str) -> Result<String, AllocError> {
+fn answer<R: Threads + Wait + Sync>(
+    rt: &R,
+    alloc: Global,
+    line: &str,
+) -> Result<String, AllocError> {
     let mut parts = line.split('\t');
     let choice = match parts.next() {
         Some(words) => choice_in(words),
@@ -117,13 +124,14 @@ fn answer(alloc: Global, line: &str) -> Result<String, AllocError> {
     for written in parts {
         texts.push(text_of(alloc, written)?)?;
     }
-    told(alloc, &source_image(alloc, &choice, texts.as_slice()))
+    let made = source_image(rt, alloc, &choice, texts.as_slice(), &OpenGate);
+    told(alloc, &made)
 }
 
 fn main(rt: HostRuntime) -> io::Result<()> {
     for line in BufReader::new(rt.alloc(), rt.reader())?.lines(rt.alloc()) {
         let line = line?;
-        match answer(rt.alloc(), line.as_str()) {
+        match answer(&rt, rt.alloc(), line.as_str()) {
             Ok(text) => println!(rt; "{text}")?,
             Err(AllocError) => println!(rt; "out of memory")?,
         }

@@ -1,74 +1,186 @@
--- One flow, and one flow more.
-use Rattle.std.proofs.Common.{◌≡◌, ℕ, ◌+◌, ◌≤◌, List, [], ◌∷◌, ◌++◌, map, length, refl, sym, ap, ap₂, ◌∙◌, subst, arith}
-use Rattle.std.proofs.lemmas.List.{map-append}
+-- From final results, one behind the other, to flows in traces.
+use Rattle.std.proofs.Common.{◌≡◌, ℕ, zero, suc, ◌+◌, ◌<◌, ◌≤◌, List, [], ◌∷◌, ◌++◌, map, length, take, drop, get_or, refl, sym, ap, ap₂, ◌∙◌, subst, arith}
+use Rattle.std.specs.Prelude.{All, Option, Some, slice_get}
+use Rattle.std.proofs.lemmas.List.{get_or-drop, get_or-take, length-drop, length-take-le, drop-drop}
+use mathlib.Core.Option.{some}
+use lib.ListN.{get_elem?}
 use Rattle.lir_core.specs.declared.flow.Flow.{Flow}
 use Rattle.lir_core.specs.declared.flow.Trace.{Trace}
 use Rattle.lir_core.specs.declared.places.TraceOut.{TraceOut}
-use Rattle.lir_core.specs.Flows.{IsValidFlow}
-use Rattle.global_live.specs.Reading.{HasLive}
-use Rattle.trace_build.specs.Traces.{traces_of}
-use Rattle.trace_build.specs.Cuts.{lists_of, AllTraces, IsPartition}
+use Rattle.lir_core.specs.Sound.{IsSound}
 use Rattle.boundary_resolve.specs.declared.placed.Placed.{Placed as Line}
 use Rattle.boundary_resolve.specs.Placing.{placed_of}
 use Rattle.boundary_resolve.specs.Edges.{AreSound}
+use Rattle.trace_build.specs.Parents.{trace_at}
+use Rattle.trace_build.specs.Traces.{traces_in}
 use Rattle.linked_flows.specs.Allocations.{Cut}
+use Rattle.pool_core.proofs.Sums.{get_or_at}
+use Rattle.trace_pool.specs.Ends.{AreFinal}
 use Rattle.alloc_choice.specs.declared.choice.Choice.{Choice}
-use Rattle.alloc_choice.specs.Results.{case_with, results_to, IsCase}
-use Rattle.alloc_choice.specs.Results.{AreSound as AreSoundTo}
-use Rattle.alloc_choice.proofs.Ready.{length-results_to}
-use Rattle.flow_allocation.specs.Allocations.{IsAllocation, IsAllocatedAs, AllAllocations, AreAllocated, trace_count}
+use Rattle.alloc_choice.specs.Choice.{IsFitChoice}
+use Rattle.alloc_choice.specs.Results.{no_out, results_to}
+use Rattle.trace_work.specs.declared.planning.Plan.{Plan}
+use Rattle.trace_work.specs.declared.work.Entry.{Entry}
+use Rattle.trace_work.specs.Plans.{IsPlan, IsFinal, case_of, finals_to}
+use Rattle.trace_work.specs.Entries.{AreEntries, entry_of, parents_in}
+use Rattle.trace_work.specs.Finals.{AreNumbered, flows_in, IsFinalOf}
+use Rattle.trace_work.proofs.Ready.{are_finals}
+use Rattle.flow_allocation.specs.Allocations.{IsAllocation, AllAllocations, AreAllocated, trace_count}
+use Rattle.flow_allocation.proofs.Counting.{counted}
+use Rattle.flow_allocation.specs.Sharing.{shares, AreLines, HaveLines, AreShared}
 
--- a flow's case from what the passes before allocation give
-pub case_of : (flow : Flow) (rows : List (List ℕ)) (k : ℕ) (traces : List Trace) → IsValidFlow flow → HasLive flow rows → AllTraces flow (lists_of traces) → IsPartition flow (lists_of traces) → IsCase (case_with flow rows k) traces
-case_of flow rows k traces valid live paths partition = record { valid = valid; live = live; paths = paths; partition = partition }
+---- Sharing, flow by flow
 
-module _ (choice : Choice) (first : ℕ) (flow : Flow) (rows : List (List ℕ)) (traces : List Trace) (outs : List TraceOut) (enough : 4 ≤ choice.regs) (few : choice.regs ≤ 16)
-    (case : IsCase (case_with flow rows choice.regs) traces)
-    (results : outs ≡ results_to choice.policy (case_with flow rows choice.regs) first traces (length traces)) where
-  pub count_is : length outs ≡ length traces
-  count_is = ap length results ∙ length-results_to choice.policy (case_with flow rows choice.regs) first traces (length traces)
+pub lines_more : (ps : List Plan) (os : List (List TraceOut)) (ls : List (List Line)) (p : Plan) (o : List TraceOut) (l : List Line) → HaveLines ps os ls → AreLines p o l → HaveLines (ps ++ p ∷ []) (os ++ o ∷ []) (ls ++ l ∷ [])
+lines_more [] [] [] p o l h one = (one, tt)
+lines_more [] [] (x ∷ ls) p o l h one = absurd h
+lines_more [] (y ∷ os) ls p o l h one = absurd h
+lines_more (q ∷ ps) [] ls p o l h one = absurd h
+lines_more (q ∷ ps) (y ∷ os) [] p o l h one = absurd h
+lines_more (q ∷ ps) (y ∷ os) (x ∷ ls) p o l h one = (h.0, lines_more ps os ls p o l h.1 one)
 
-  pub sound_all : AreSoundTo (case_with flow rows choice.regs) traces outs (length traces) → AreSound choice.regs flow traces outs
-  sound_all sound = record { valid = case.valid; few = (enough, few); partition = case.partition; each = count_is; sound = sound }
+-- lines that are made of these traces and results
+pub lines_are : (p : Plan) (own : List TraceOut) (lines : List Line) (traces : List Trace) (outs : List TraceOut) → traces ≡ p.traces → outs ≡ own
+    → ((k : ℕ) → AreSound k p.flow.now traces outs → lines ≡ placed_of p.flow.now traces outs) → AreLines p own lines
+lines_are p own lines traces outs t o made k sound =
+    made k (subst (λ os. AreSound k p.flow.now traces os) (sym o) (subst (λ (ts : List Trace). AreSound k p.flow.now ts own) (sym t) sound))
+    ∙ ap₂ (λ ts os. placed_of p.flow.now ts os) t o
 
-  pub allocated_as : (lines : List Line) → AreSoundTo (case_with flow rows choice.regs) traces outs (length traces) → lists_of traces ≡ traces_of choice.builder flow.nodes → lines ≡ placed_of flow traces outs
-      → IsAllocatedAs choice first flow lines outs
-  allocated_as lines sound are placed = record {
-    cut = record { flow = flow; traces = traces; outs = outs };
-    flow_is = refl;
-    lines_are = placed;
-    outs_are = refl;
-    allocation = record { rows = rows; live = case.live; traces = are; results = results; sound = sound_all sound; paths = case.paths };
-  }
+---- Final results for each flow
 
-count-append : (cs : List Cut) (c : Cut) → trace_count (cs ++ c ∷ []) ≡ trace_count cs + length c.traces
-count-append [] c = omega arith
-count-append (d ∷ cs) c = let r = count-append cs c in omega (arith, r)
+-- these stand behind each other, for each flow those of its traces
+abbrev AllFinal : Choice → List Plan → List TraceOut → Type 0
+AllFinal choice [] rest = Unit {0}
+AllFinal choice (p ∷ ps) rest = ((t : ℕ) → t < length p.traces → IsFinal choice p t (get_or rest t no_out)) × (length p.traces ≤ length rest) × AllFinal choice ps (drop (length p.traces) rest)
 
-all-append : (choice : Choice) (first : ℕ) (cs : List Cut) (c : Cut) → AllAllocations choice first cs → IsAllocation choice (first + trace_count cs) c → AllAllocations choice first (cs ++ c ∷ [])
-all-append choice first [] c h one = (subst (λ n. IsAllocation choice n c) (omega arith) one, tt)
-all-append choice first (d ∷ cs) c h one = (h.0, all-append choice (first + length d.traces) cs c h.1 (subst (λ n. IsAllocation choice n c) (omega arith) one))
+drop_head : {A : Type 0} (xs : List A) (i : ℕ) (x : A) (rest : List A) → drop i xs ≡ x ∷ rest → (slice_get xs i ≡ Some x) × (drop (suc i) xs ≡ rest)
+drop_head [] i x rest e = absurd (nothing i e)
+  where
+    nothing : (i : ℕ) → drop i ([]) ≡ x ∷ rest → ⊥
+    nothing zero e = cc
+    nothing (suc i) e = cc
+drop_head (y ∷ xs) zero x rest e = ((let q : y ≡ x = cc in ap Some q), (let r : xs ≡ rest = cc in r))
+drop_head (y ∷ xs) (suc i) x rest e = drop_head xs i x rest e
 
-pub none_yet : (choice : Choice) → AreAllocated choice [] [] [] 0
-none_yet choice = record { cuts = []; flows_are = refl; parts_are = refl; outs_are = refl; each = tt; count = refl }
+entry_within : (es : List Entry) (i : ℕ) (e : Entry) → slice_get es i ≡ Some e → i < length (parents_in es)
+entry_within [] i e h = cc
+entry_within (x ∷ es) zero e h = omega arith
+entry_within (x ∷ es) (suc i) e h = let l = entry_within es i e h in omega (arith, l)
 
--- the next flow, whose traces follow
-pub one_more : (choice : Choice) (flows : List Flow) (flow : Flow) (parts : List (List Line)) (lines : List Line) (outs : List (List TraceOut)) (own : List TraceOut) (n m : ℕ)
-    → AreAllocated choice flows parts outs n → IsAllocatedAs choice n flow lines own → m ≡ n + length own → AreAllocated choice (flows ++ flow ∷ []) (parts ++ lines ∷ []) (outs ++ own ∷ []) m
-one_more choice flows flow parts lines outs own n m h one e =
-    let c = one.cut in
-    let l = ap length one.outs_are ∙ one.allocation.sound.each in
-    let k = h.count in
-    let s = count-append h.cuts c in
-    record {
-      cuts = h.cuts ++ c ∷ [];
-      flows_are = ap₂ (λ xs x. xs ++ x ∷ []) h.flows_are one.flow_is ∙ sym (map-append (λ (x : Cut). x.flow) h.cuts (c ∷ []));
-      parts_are = ap₂ (λ xs x. xs ++ x ∷ []) h.parts_are one.lines_are ∙ sym (map-append (λ (x : Cut). placed_of x.flow x.traces x.outs) h.cuts (c ∷ []));
-      outs_are = ap₂ (λ xs x. xs ++ x ∷ []) h.outs_are one.outs_are ∙ sym (map-append (λ (x : Cut). x.outs) h.cuts (c ∷ []));
-      each = all-append choice 0 h.cuts c h.each (subst (λ i. IsAllocation choice i c) (omega (arith, k)) one.allocation);
-      count = omega (arith, e, l, k, s);
+module _ (choice : Choice) (plans : List Plan) (entries : List Entry) (outs : List TraceOut) (entered : AreEntries plans entries) (each : All (IsPlan choice.builder) plans)
+    (final : AreFinal (IsFinalOf choice plans entries) (parents_in entries) outs) where
+  is_plan : (i : ℕ) (p : Plan) → slice_get plans i ≡ Some p → IsPlan choice.builder p
+  is_plan i p e = at plans i each e
+    where
+      at : (ps : List Plan) (i : ℕ) → All (IsPlan choice.builder) ps → slice_get ps i ≡ Some p → IsPlan choice.builder p
+      at [] i h e = cc
+      at (q ∷ ps) zero h e = let same : q ≡ p = cc in subst (IsPlan choice.builder) same (h 0 q (omega arith))
+      at (q ∷ ps) (suc i) h e = at ps i (λ k x n. h (suc k) x (omega (arith, n))) e
+
+  trace_final : (i t : ℕ) (p : Plan) → slice_get plans i ≡ Some p → t < length p.traces → IsFinal choice p t (get_or outs (p.first + t) no_out)
+  trace_final i t p there lt =
+      let g = entered.all i p t there lt in
+      let d = final.1 (p.first + t) (entry_within entries (p.first + t) (entry_of i p t) g) in
+      subst (λ x. IsFinal choice p t x) (sym (get_or_at outs (p.first + t) d.0 no_out d.1)) (d.2 (entry_of i p t) p g there (is_plan i p there))
+
+  count_is : length outs ≡ length (parents_in entries)
+  count_is = final.0
+
+  -- an entry past the last is none
+  room : (i t : ℕ) (p : Plan) → slice_get plans i ≡ Some p → t < length p.traces → p.first + t < length outs
+  room i t p there lt =
+      let g = entered.all i p t there lt in
+      let e = count_is in
+      let l = entry_within entries (p.first + t) (entry_of i p t) g in
+      omega (arith, e, l)
+
+  fits : (i n : ℕ) (p : Plan) → slice_get plans i ≡ Some p → p.first ≡ n → n ≤ length outs → length p.traces ≤ length (drop n outs)
+  fits i n p there first le = by (length p.traces) refl
+    where
+      by : (k : ℕ) → length p.traces ≡ k → length p.traces ≤ length (drop n outs)
+      by zero e = omega (arith, e)
+      by (suc k) e = let r = room i k p there (omega (arith, e)) in let l = length-drop n outs in omega (arith, e, r, l, first)
+
+  all_final_from : (i n : ℕ) (ps : List Plan) → drop i plans ≡ ps → AreNumbered n ps → n ≤ length outs → AllFinal choice ps (drop n outs)
+  all_final_from i n [] e numbered le = tt
+  all_final_from i n (p ∷ ps) e numbered le =
+      let d = drop_head plans i p ps e in
+      let room = fits i n p d.0 numbered.0 le in
+      let l = length-drop n outs in (
+        λ t lt. subst (λ x. IsFinal choice p t x) (ap (λ k. get_or outs (k + t) no_out) numbered.0 ∙ sym (get_or-drop n outs t no_out)) (trace_final i t p d.0 lt),
+        room,
+        subst (AllFinal choice ps) (sym (drop-drop (length p.traces) n outs)) (all_final_from (suc i) (n + length p.traces) ps d.1 numbered.1 (omega (arith, room, l, le))),
+      )
+
+  pub all_final : AreNumbered 0 plans → AllFinal choice plans outs
+  all_final numbered = all_final_from 0 0 plans refl numbered (omega arith)
+
+---- Cuts
+
+module _ (choice : Choice) (fit : IsFitChoice choice) where
+  abbrev cut_of : Plan → List TraceOut → Cut
+  cut_of p own = record { flow = p.flow.now; traces = p.traces; outs = own }
+
+  module _ (p : Plan) (is : IsPlan choice.builder p) (rest : List TraceOut) (final : (t : ℕ) → t < length p.traces → IsFinal choice p t (get_or rest t no_out)) (room : length p.traces ≤ length rest) where
+    abbrev own : List TraceOut
+    own = take (length p.traces) rest
+
+    own_count : length own ≡ length p.traces
+    own_count = length-take-le (length p.traces) rest room
+
+    own_at : (t : ℕ) → t < length p.traces → get_or own t no_out ≡ get_or rest t no_out
+    own_at t lt = get_or-take (length p.traces) rest t no_out lt
+
+    sound : AreSound choice.regs p.flow.now p.traces own
+    sound = record {
+      valid = is.valid;
+      few = (fit.enough, fit.few);
+      partition = is.partition;
+      each = own_count;
+      sound = λ t lt. subst (λ x. IsSound choice.regs p.flow.now (trace_at p.traces t) x) (sym (own_at t lt)) (final t lt).sound;
     }
 
--- and its items
-pub items_more : {A B : Type 0} (f : A → B) (xs ys : List A) (x : A) → ys ≡ xs ++ x ∷ [] → map f ys ≡ map f xs ++ f x ∷ []
-items_more f xs ys x e = ap (map f) e ∙ map-append f xs (x ∷ [])
+    allocation : (first : ℕ) → p.first ≡ first → IsAllocation choice first (cut_of p own)
+    allocation first e = record {
+      rows = p.live;
+      live = is.live;
+      traces = is.cut;
+      results = are_finals choice p own (length p.traces) own_count (λ t lt. own_at t lt ∙ (final t lt).is) ∙ ap (λ n. results_to choice.policy (case_of choice p) n p.traces (length p.traces)) e;
+      sound = sound;
+      paths = is.paths;
+    }
+
+  record Cuts (first : ℕ) (plans : List Plan) (outs : List (List TraceOut)) (parts : List (List Line)) : Type 0 where
+    pub cuts : List Cut
+    pub each : AllAllocations choice first cuts
+    pub flows_are : flows_in plans ≡ map (λ c. c.flow) cuts
+    pub outs_are : outs ≡ map (λ c. c.outs) cuts
+    pub parts_are : parts ≡ map (λ c. placed_of c.flow c.traces c.outs) cuts
+
+  cuts_of : (first : ℕ) (plans : List Plan) (rest : List TraceOut) (parts : List (List Line)) → All (IsPlan choice.builder) plans → AreNumbered first plans → AllFinal choice plans rest → HaveLines plans (shares plans rest) parts → Cuts first plans (shares plans rest) parts
+  cuts_of first [] rest [] each numbered final lines = record { cuts = []; each = tt; flows_are = refl; outs_are = refl; parts_are = refl }
+  cuts_of first [] rest (l ∷ ls) each numbered final lines = absurd lines
+  cuts_of first (p ∷ ps) rest [] each numbered final lines = absurd lines
+  cuts_of first (p ∷ ps) rest (l ∷ ls) each numbered final lines =
+      let is = each 0 p (omega arith) in
+      let r = cuts_of (first + length p.traces) ps (drop (length p.traces) rest) ls (λ k x n. each (suc k) x (omega (arith, n))) numbered.1 final.2 lines.1 in
+      record {
+        cuts = cut_of p (own p is rest final.0 final.1) ∷ r.cuts;
+        each = (allocation p is rest final.0 final.1 first numbered.0, r.each);
+        flows_are = ap (λ fs. p.flow.now ∷ fs) r.flows_are;
+        outs_are = ap (λ os. take (length p.traces) rest ∷ os) r.outs_are;
+        parts_are = ap₂ (λ x xs. x ∷ xs) (lines.0 choice.regs (sound p is rest final.0 final.1)) r.parts_are;
+      }
+
+  pub allocated : (plans : List Plan) (entries : List Entry) (outs : List TraceOut) (shared : List (List TraceOut)) (parts : List (List Line)) (flows : List Flow) (traces : ℕ) → AreEntries plans entries → All (IsPlan choice.builder) plans
+      → AreNumbered 0 plans → flows_in plans ≡ flows → AreFinal (IsFinalOf choice plans entries) (parents_in entries) outs → AreShared plans outs parts shared → traces ≡ traces_in choice.builder flows → AreAllocated choice flows parts shared traces
+  allocated plans entries outs shared parts flows traces entered each numbered are final h count =
+      let r = cuts_of 0 plans outs parts each numbered (all_final choice plans entries outs entered each final numbered) (subst (λ os. HaveLines plans os parts) h.outs_are h.parts_are) in
+      record {
+        cuts = r.cuts;
+        flows_are = sym are ∙ r.flows_are;
+        parts_are = r.parts_are;
+        outs_are = h.outs_are ∙ r.outs_are;
+        each = r.each;
+        count = count ∙ sym (counted choice 0 r.cuts flows (sym (sym are ∙ r.flows_are)) r.each);
+      }

@@ -25,14 +25,6 @@ pub record IsAllocation (choice : Choice) (first : ℕ) (c : Cut) : Type 0 where
   pub sound : AreSound choice.regs c.flow c.traces c.outs
   pub paths : AllTraces c.flow (lists_of c.traces)
 
--- a flow's lines and results are those of such a cut
-pub record IsAllocatedAs (choice : Choice) (first : ℕ) (flow : Flow) (lines : List Line) (outs : List TraceOut) : Type 0 where
-  pub cut : Cut
-  pub flow_is : flow ≡ cut.flow
-  pub lines_are : lines ≡ placed_of cut.flow cut.traces cut.outs
-  pub outs_are : outs ≡ cut.outs
-  pub allocation : IsAllocation choice first cut
-
 abbrev pub trace_count : List Cut → ℕ
 trace_count [] = 0
 trace_count (c ∷ cs) = length c.traces + trace_count cs

@@ -1,16 +1,24 @@
 //! All flows, one behind the other.
 
-ghost use Rattle.std.specs.Prelude.{◌≡◌, ◌+◌, ◌≤◌, map, IfOk, All};
+ghost use Rattle.std.specs.Prelude.{◌≡◌, ◌≤◌, ◌<◌, take, drop, All, IfOk, OnOk, IfErr};
+ghost use Rattle.std.specs.Vec.Iter.{into_iter_items};
 ghost use Rattle.lir_core.specs.Flows.{IsValidFlow};
-ghost use Rattle.flow_allocation.specs.Allocations.{IsAllocatedAs, AreAllocated, items_of};
+ghost use Rattle.trace_build.specs.Traces.{traces_in};
+ghost use Rattle.alloc_choice.specs.Choice.{IsFitChoice};
+ghost use Rattle.trace_work.specs.declared.fault.WorkFault.TheVariants.{Traces};
+ghost use Rattle.flow_allocation.specs.Allocations.{AreAllocated, items_of};
+ghost use Rattle.flow_allocation.specs.Sharing.{AreShared};
 
-use alloc_choice::{Choice, final_results};
 use boundary_resolve::{Placed, resolve};
-use global_live::live;
 use lir_core::{Flow, TraceOut};
-use outside::Memory;
+use outside::{Gate, Memory};
+use pool_core::Work;
 use std::alloc::Global;
-use trace_build::build;
+use std::sync::Wait;
+use std::thread::Threads;
+use std::vec::IntoIter;
+use trace_pool::final_results;
+use trace_work::{Choice, Plan, TraceWork, WorkFault};
 
 /// Flows with final results, by their numbers.
 #[derive(Drop)]
@@ -23,62 +31,74 @@ pub struct AllocatedFlows {
     pub traces: u32,
 }
 
-/// One flow with final results.
-#[derive(Drop)]
-struct AllocatedFlow {
-    lines: Vec<Placed>,
-    outs: Vec<TraceOut>,
-}
-
 /// Flows in traces with final results: the traces of a flow are those of the builder that is chosen, and follow those of the
-/// flows before it in number; the result of each is that of the policy, with its parent's hint, and sound; the lines have the moves
-/// of every edge. Takes the time of the passes that it calls, flow by flow.
-pub fn allocate_flows(
+/// flows before it in number; the result of each is that of the policy, with its parent's hint, and sound, whichever of the chosen
+/// number of workers finds it, and whenever; the lines have the moves of every edge. A worker passes the gate before it begins a
+/// trace. `Traces` comes exactly where there are over 262,144 traces. Takes the time of the passes that it calls, flow by flow,
+/// but for the traces, which the workers share. It may wait.
+pub fn allocate_flows<G: Gate, R: Threads + Wait + Sync>(
+    rt: &R,
     alloc: Global,
     choice: &Choice,
     flows: &[Flow],
-) -> Result<AllocatedFlows, Memory>
-    requires enough { 4 ≤ choice.now.regs }
-    requires few { choice.now.regs ≤ 16 }
-    ensures { All IsValidFlow flows.now → IfOk result (λ a. AreAllocated choice.now flows.now (items_of a.parts) (items_of a.outs) a.traces) }
+    gate: &G,
+) -> Result<AllocatedFlows, WorkFault>
+    requires { IsFitChoice choice.now }
+    ensures allocated { All IsValidFlow flows.now → IfOk result (λ a. AreAllocated choice.now flows.now (items_of a.parts) (items_of a.outs) a.traces) }
+    ensures count { IfOk result (λ a. a.traces ≡ traces_in choice.now.builder flows.now) }
+    ensures few { IfOk result (λ a. a.traces ≤ 262144) }
+    ensures limit { IfErr result (λ fault. fault ≡ Traces → 262144 < traces_in choice.now.builder flows.now) }
 {
-    let mut all = AllocatedFlows {
+    let work = TraceWork::new(alloc, choice, flows)?;
+    let outs = final_results(rt, alloc, &work, gate, choice.jobs)?;
+    let shared = share(alloc, work.plans.as_slice(), outs)?;
+    Ok(AllocatedFlows {
+        parts: shared.parts,
+        outs: shared.outs,
+        traces: work.count(),
+    })
+}
+
+/// What the flows have of all lines and results.
+#[derive(Drop)]
+struct Shared {
+    parts: Vec<Vec<Placed>>,
+    outs: Vec<Vec<TraceOut>>,
+}
+
+// Gives each flow in turn the results of its traces, and makes its lines.
+fn share(alloc: Global, plans: &[Plan], outs: Vec<TraceOut>) -> Result<Shared, Memory>
+    ensures { IfOk result (λ shared. AreShared plans.now outs.items (items_of shared.parts) (items_of shared.outs)) }
+{
+    let mut shared = Shared {
         parts: Vec::new(alloc),
         outs: Vec::new(alloc),
-        traces: 0,
     };
-    for flow in flows {
-        let one = allocate_flow(alloc, choice, flow, all.traces)?;
-        all.traces = number_behind(all.traces, one.outs.len())?;
-        all.parts.push(one.lines)?;
-        all.outs.push(one.outs)?;
+    let mut rest = outs.into_iter();
+    for plan in plans {
+        let own = taken(alloc, &mut rest, plan.traces.len())?;
+        let lines = resolve(alloc, plan.flow, plan.traces.as_slice(), own.as_slice())?;
+        shared.parts.push(lines)?;
+        shared.outs.push(own)?;
     }
-    Ok(all)
+    Ok(shared)
 }
 
-// One flow, whose first trace has this number.
-fn allocate_flow(
+// The next so many results.
+fn taken(
     alloc: Global,
-    choice: &Choice,
-    flow: &Flow,
-    first: u32,
-) -> Result<AllocatedFlow, Memory>
-    requires enough { 4 ≤ choice.now.regs }
-    requires few { choice.now.regs ≤ 16 }
-    ensures { IsValidFlow flow.now → IfOk result (λ one. IsAllocatedAs choice.now first flow.now one.lines.items one.outs.items) }
+    rest: &mut IntoIter<TraceOut>,
+    count: usize,
+) -> Result<Vec<TraceOut>, Memory>
+    ensures taken { IfOk result (λ own. own.items ≡ take count (into_iter_items rest.old)) }
+    ensures left { OnOk result (into_iter_items rest.new ≡ drop count (into_iter_items rest.old)) }
 {
-    let live = live(alloc, flow)?;
-    let traces = build(alloc, choice.builder, flow)?;
-    let outs = final_results(alloc, choice, flow, &live, traces.as_slice(), first)?;
-    let lines = resolve(alloc, flow, traces.as_slice(), outs.as_slice())?;
-    Ok(AllocatedFlow { lines, outs })
-}
-
-fn number_behind(first: u32, count: usize) -> Result<u32, Memory>
-    ensures { IfOk result (λ n. n ≡ first + count) }
-{
-    let Ok(count) = u32::try_from(count) else {
-        return Err(Memory);
-    };
-    first.checked_add(count).ok_or(Memory)
+    let mut own = Vec::new(alloc);
+    for _ in 0..count {
+        match rest.next() {
+            Some(out) => own.push(out)?,
+            None => return Ok(own),
+        }
+    }
+    Ok(own)
 }

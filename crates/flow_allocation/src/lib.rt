@@ -1,12 +1,13 @@
 //! Flows in traces with final results, in lines.
 //!
-//! Of each flow its live values, its traces, the final results of these by the policy that is chosen, and its code in lines, with
-//! the moves of every edge. Traces are numbered through all flows, so that a pool can take them all.
+//! The traces of all flows, which are numbered through all flows, are the work of a pool; the workers' final results are those of one
+//! worker that takes traces in the order of their numbers, however many worked. Of each flow come then its results, and its code in
+//! lines, with the moves of every edge.
 #![tactic(auto)]
 
 mod allocating;
 
-pub use alloc_choice::{Builder, Choice, Policy};
 pub use allocating::{AllocatedFlows, allocate_flows};
 pub use boundary_resolve::Placed;
 pub use lir_core::{Flow, TraceOut};
+pub use trace_work::{Builder, Choice, Policy, WorkFault};

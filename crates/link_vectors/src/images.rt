@@ -1,10 +1,12 @@
 //! Images, and how they are printed.
 
 use crate::Module;
-use flow_allocation::{AllocatedFlows, Builder, Choice, Policy, allocate_flows};
+use flow_allocation::{AllocatedFlows, Builder, Choice, Policy, WorkFault, allocate_flows};
 use link_plan::{Bytes, Data, Image, LinkFault, link};
-use outside::Memory;
+use outside::{Memory, OpenGate};
 use std::alloc::{AllocError, Global};
+use std::sync::Wait;
+use std::thread::Threads;
 
 /// The image of a module, or why there is none.
 fn linked(
@@ -68,7 +70,8 @@ fn text_of(alloc: Global, image: &Image, all: bool) -> Result<String, AllocError
 }
 
 /// What a `link` prints: the module linked so often.
-pub(crate) fn answer(
+pub(crate) fn answer<R: Threads + Wait + Sync>(
+    rt: &R,
     alloc: Global,
     module: &Module,
     linear: bool,
@@ -90,7 +93,11 @@ pub(crate) fn answer(
         regs,
         jobs: 1,
     };
-    let allocated = allocate_flows(alloc, &choice, module.flows.as_slice())?;
+    let allocated = match allocate_flows(rt, alloc, &choice, module.flows.as_slice(), &OpenGate) {
+        Ok(allocated) => allocated,
+        Err(WorkFault::Traces) => return String::from_str(alloc, "traces\n"),
+        Err(WorkFault::Memory) => return Err(Memory),
+    };
     for _ in 0..times {
         text = match linked(alloc, module, &allocated)? {
             Ok(image) => text_of(alloc, &image, all)?,

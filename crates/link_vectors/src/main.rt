@@ -23,6 +23,8 @@ use orders::ordered;
 use outside::Memory;
 use std::alloc::Global;
 use std::io::{BufRead, BufReader};
+use std::sync::Wait;
+use std::thread::Threads;
 use std::{env, io};
 
 /// A module, as far as it is read.
@@ -50,7 +52,13 @@ fn module_of(alloc: Global, words: &mut Words) -> Result<Module, Memory> {
 }
 
 /// What a line gives to print: nothing but for a `link`.
-fn reply(alloc: Global, module: &mut Module, times: u32, line: &str) -> Result<String, Memory> {
+fn reply<R: Threads + Wait + Sync>(
+    rt: &R,
+    alloc: Global,
+    module: &mut Module,
+    times: u32,
+    line: &str,
+) -> Result<String, Memory> {
     let mut words = Words::new(line);
     if words.takes("module") {
         *module = module_of(alloc, &mut words)?;
@@ -60,7 +68,7 @@ fn reply(alloc: Global, module: &mut Module, times: u32, line: &str) -> Result<S
         let linear = words.word() == "linear";
         let regs = u8::try_from(words.or_zero()).unwrap_or(0);
         let all = words.takes("words");
-        return answer(alloc, module, linear, regs, all, times);
+        return answer(rt, alloc, module, linear, regs, all, times);
     }
     if words.takes("order") {
         return ordered(alloc, words.or_zero(), words.or_zero(), times);
@@ -84,7 +92,7 @@ fn main(rt: HostRuntime) -> io::Result<()> {
         flows: Items::new(rt.alloc()),
     };
     for line in BufReader::new(rt.alloc(), rt.reader())?.lines(rt.alloc()) {
-        match reply(rt.alloc(), &mut module, times, line?.as_str()) {
+        match reply(&rt, rt.alloc(), &mut module, times, line?.as_str()) {
             Ok(text) => print!(rt; "{text}")?,
             Err(Memory) => println!(rt; "out of memory")?,
         }

@@ -7,17 +7,21 @@
 //! With the word `bench`, for `bench/allocate.sh`, it prints how many lines there are in all.
 #![tactic(auto)]
 
-ghost use Rattle.std.specs.Prelude.{◌≤◌};
+ghost use Rattle.alloc_choice.specs.Choice.{IsFitChoice};
 
-use alloc_choice::{Choice, Policy, allocate_trace, final_results};
+use alloc_choice::{Choice, Policy, allocate_trace};
 use flow_text::{Words, flow_in};
 use global_live::live;
-use lir_core::{Flow, Line, LiveSets, Place, Places, TraceIn, TraceOut};
-use outside::Memory;
+use lir_core::{Flow, Line, Place, Places, TraceIn, TraceOut};
+use outside::{Memory, OpenGate};
 use std::alloc::{AllocError, Global};
 use std::io::{BufRead, BufReader};
+use std::sync::Wait;
+use std::thread::Threads;
 use std::{env, io};
-use trace_build::{Builder, Trace, build};
+use trace_build::{Builder, build};
+use trace_pool::final_results;
+use trace_work::{TraceWork, WorkFault};
 
 fn push_places(text: &mut String, q: &Places) -> Result<(), AllocError> {
     for content in q.regs.as_slice() {
@@ -101,7 +105,11 @@ fn policy_named(word: &str) -> Option<Policy> {
 
 /// The results of the traces of the flow that a line has behind its policy and its number of registers, from 4 to 16;
 /// none where it has no such policy or number. With `alone` behind the policy no trace has a hint.
-fn results(alloc: Global, line: &str) -> Result<Vec<TraceOut>, Memory> {
+fn results<R: Threads + Wait + Sync>(
+    rt: &R,
+    alloc: Global,
+    line: &str,
+) -> Result<Vec<TraceOut>, Memory> {
     let mut words = Words::new(line);
     let Some(policy) = policy_named(words.word()) else {
         return Ok(Vec::new(alloc));
@@ -112,8 +120,6 @@ fn results(alloc: Global, line: &str) -> Result<Vec<TraceOut>, Memory> {
         return Ok(Vec::new(alloc));
     }
     let flow = flow_in(alloc, &mut words)?;
-    let live = live(alloc, &flow)?;
-    let traces = build(alloc, Builder::Bi, &flow)?;
     let choice = Choice {
         policy,
         builder: Builder::Bi,
@@ -121,28 +127,40 @@ fn results(alloc: Global, line: &str) -> Result<Vec<TraceOut>, Memory> {
         jobs: 1,
     };
     if alone {
-        results_alone(alloc, &choice, &flow, &live, traces.as_slice())
+        results_alone(alloc, &choice, &flow)
     } else {
-        final_results(alloc, &choice, &flow, &live, traces.as_slice(), 0)
+        results_with_hints(rt, alloc, &choice, flow)
+    }
+}
+
+/// The final results of a flow's traces.
+fn results_with_hints<R: Threads + Wait + Sync>(
+    rt: &R,
+    alloc: Global,
+    choice: &Choice,
+    flow: Flow,
+) -> Result<Vec<TraceOut>, Memory>
+    requires { IsFitChoice choice.now }
+{
+    let flows = [flow];
+    match TraceWork::new(alloc, choice, &flows) {
+        Ok(work) => final_results(rt, alloc, &work, &OpenGate, choice.jobs),
+        Err(WorkFault::Traces) => Ok(Vec::new(alloc)),
+        Err(WorkFault::Memory) => Err(Memory),
     }
 }
 
 /// The results of a flow's traces without hints.
-fn results_alone(
-    alloc: Global,
-    choice: &Choice,
-    flow: &Flow,
-    live: &LiveSets,
-    traces: &[Trace],
-) -> Result<Vec<TraceOut>, Memory>
-    requires enough { 4 ≤ choice.now.regs }
-    requires few { choice.now.regs ≤ 16 }
+fn results_alone(alloc: Global, choice: &Choice, flow: &Flow) -> Result<Vec<TraceOut>, Memory>
+    requires { IsFitChoice choice.now }
 {
+    let live = live(alloc, flow)?;
+    let traces = build(alloc, choice.builder, flow)?;
     let mut outs = Vec::new(alloc);
     for (number, trace) in traces.iter().enumerate() {
         let t = TraceIn {
             flow,
-            live,
+            live: &live,
             trace,
             number: u32::try_from(number).unwrap_or(0),
             regs: choice.regs,
@@ -153,17 +171,17 @@ fn results_alone(
     Ok(outs)
 }
 
-fn answer(alloc: Global, line: &str) -> Result<String, Memory> {
+fn answer<R: Threads + Wait + Sync>(rt: &R, alloc: Global, line: &str) -> Result<String, Memory> {
     let mut text = String::new(alloc);
-    for out in &results(alloc, line)? {
+    for out in &results(rt, alloc, line)? {
         push_result(&mut text, out)?;
     }
     Ok(text)
 }
 
-fn count(alloc: Global, line: &str) -> Result<String, Memory> {
+fn count<R: Threads + Wait + Sync>(rt: &R, alloc: Global, line: &str) -> Result<String, Memory> {
     let mut lines: u64 = 0;
-    for out in &results(alloc, line)? {
+    for out in &results(rt, alloc, line)? {
         for node in out.lines.as_slice() {
             lines = lines.saturating_add(node.len() as u64);
         }
@@ -178,9 +196,9 @@ fn main(rt: HostRuntime) -> io::Result<()> {
     for line in BufReader::new(rt.alloc(), rt.reader())?.lines(rt.alloc()) {
         let line = line?;
         let text = if bench {
-            count(rt.alloc(), line.as_str())
+            count(&rt, rt.alloc(), line.as_str())
         } else {
-            answer(rt.alloc(), line.as_str())
+            answer(&rt, rt.alloc(), line.as_str())
         };
         match text {
             Ok(text) => print!(rt; "{text}")?,

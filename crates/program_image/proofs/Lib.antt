@@ -1,5 +1,4 @@
 mod Ready
 mod Fitting
 mod Running
-mod Counting
 mod Telling

@@ -1,5 +1,5 @@
 -- Each fault tells of the limit that is passed first.
-use Rattle.std.proofs.Common.{◌≡◌, ◌<◌, ◌≤◌, ◌^◌, List, None, refl, subst, arith}
+use Rattle.std.proofs.Common.{◌≡◌, ◌<◌, ◌≤◌, ◌^◌, List, map, None, refl, subst, arith}
 use Rattle.ob_types.specs.declared.program.Program.{Program}
 use Rattle.ssa_core.specs.declared.procedure.Proc.{Proc}
 use Rattle.ssa_exprs.specs.declared.fault.LowerFault.{LowerFault}
@@ -7,9 +7,11 @@ use Rattle.ssa_exprs.specs.declared.fault.LowerFault.TheVariants as low
 use Rattle.ssa_tables.specs.Faults.{Tells as TellsLowered}
 use Rattle.ssa_lowered.specs.Limits.{limit_of}
 use Rattle.ssa_lowered.specs.Lowered.{lowered}
+use Rattle.a64_select.specs.Selected.{selected}
 use Rattle.linked_flows.specs.Allocations.{Cut}
 use Rattle.alloc_choice.specs.declared.choice.Choice.{Choice}
 use Rattle.flow_allocation.specs.Allocations.{trace_count}
+use Rattle.flow_allocation.proofs.Counting.{counted}
 use Rattle.back_end.specs.Images.{AreCutsOf, code_length}
 use Rattle.back_end.specs.declared.fault.ImageFault.{ImageFault}
 use Rattle.back_end.specs.declared.fault.ImageFault.TheVariants as back
@@ -17,7 +19,6 @@ use Rattle.compiled_runs.specs.Compiled.{flows_of}
 use Rattle.program_image.specs.Faults.{Tells, of_lowering, of_imaging}
 use Rattle.trace_build.specs.Traces.{traces_in}
 use Rattle.program_image.specs.Limits.{most_traces, IsPassedFirst, InLowering, ByTraces, ByWords}
-use Rattle.program_image.proofs.Counting.{counted}
 
 pub lowering_tells : (choice : Choice) (p : Program) (fault : LowerFault) → TellsLowered fault (limit_of p) → Tells choice p (of_lowering fault)
 lowering_tells choice p (low.Limit n i) h = InLowering (record { number = n; index = i }) h
@@ -26,7 +27,7 @@ lowering_tells choice p low.Memory h = tt
 module _ (choice : Choice) (p : Program) (none : limit_of p ≡ None) where
   -- as the back end tells of them
   abbrev HasTraces : List Proc → Type 0
-  HasTraces procs = (cuts : List Cut) × AreCutsOf choice procs cuts × (262144 < trace_count cuts)
+  HasTraces procs = 262144 < traces_in choice.builder (map selected procs)
 
   abbrev HasWords : List Proc → Type 0
   HasWords procs = (cuts : List Cut) × AreCutsOf choice procs cuts × (trace_count cuts ≤ 262144) × (2 ^ 18 < code_length cuts)
@@ -34,14 +35,11 @@ module _ (choice : Choice) (p : Program) (none : limit_of p ≡ None) where
   pub count_is : (cuts : List Cut) → AreCutsOf choice (lowered p) cuts → trace_count cuts ≡ traces_in choice.builder (flows_of p)
   count_is cuts are = counted choice 0 cuts (flows_of p) are.flows are.each
 
-  by_traces : HasTraces (lowered p) → most_traces < traces_in choice.builder (flows_of p)
-  by_traces h = let a = count_is h.0 h.1 in let b = h.2 in omega (arith, a, b)
-
   by_words : HasWords (lowered p) → IsPassedFirst choice p (record { number = 54; index = 0 })
   by_words h = let a = count_is h.0 h.1 in let b = h.2 in let c = h.3 in ByWords none (omega (arith, a, b)) (h.0, h.1, omega (arith, c))
 
   pub imaging_tells : (procs : List Proc) → procs ≡ lowered p → (fault : ImageFault) → (fault ≡ back.Traces → HasTraces procs) → (fault ≡ back.Code → HasWords procs) → Tells choice p (of_imaging fault)
-  imaging_tells procs same back.Traces traces words = ByTraces none (by_traces (subst HasTraces same (traces refl)))
+  imaging_tells procs same back.Traces traces words = ByTraces none (subst HasTraces same (traces refl))
   imaging_tells procs same back.Code traces words = by_words (subst HasWords same (words refl))
   imaging_tells procs same back.Misfit traces words = tt
   imaging_tells procs same back.Memory traces words = tt

@@ -3,6 +3,7 @@
 ghost use Rattle.std.specs.Prelude.{◌≡◌, ◌≤◌, true, None, List, length, IfOk, OnOk, IfErr};
 ghost use Rattle.image_form.specs.Form.{IsInForm};
 ghost use Rattle.ob_types.specs.WellFormed.{well_formed};
+ghost use Rattle.alloc_choice.specs.Choice.{IsFitChoice};
 ghost use Rattle.ssa_lowered.specs.Limits.{limit_of};
 ghost use Rattle.ssa_lowered.specs.Lowered.{lowered};
 ghost use Rattle.linked_flows.specs.Allocations.{Cut};
@@ -16,9 +17,12 @@ use crate::data::program_data;
 use crate::fault::{ProgramFault, of_imaging, of_lowering, whole_limit};
 use back_end::{Choice, Image, image_of};
 use ob_types::Program;
+use outside::Gate;
 use short_procedures::are_short;
 use ssa_build::lower_with_tables;
 use std::alloc::Global;
+use std::sync::Wait;
+use std::thread::Threads;
 
 /// A program's image, and how many procedures and traces it was made of, the modules' bodies among the procedures.
 #[derive(Drop)]
@@ -31,15 +35,17 @@ pub struct Compiled {
 /// The image of a well-formed program: its procedures, lowered, by the builder, the policy and the registers that are chosen,
 /// with its globals and constants. A program is refused by the first limit that it passes: one of lowering, or over 262,144
 /// traces (57), or over 262,144 words of code (54). A procedure of over 500,000,000 blocks and operations
-/// is refused by 54 at once. Takes the time of the passes.
-pub fn program_image(
+/// is refused by 54 at once. Takes the time of the passes; the workers of the choice share the traces, whose results, and so the
+/// image, are the same whatever they do. It may wait.
+pub fn program_image<G: Gate, R: Threads + Wait + Sync>(
+    rt: &R,
     alloc: Global,
     choice: &Choice,
     program: &Program,
+    gate: &G,
 ) -> Result<Compiled, ProgramFault>
     requires well_formed { well_formed program.now ≡ true }
-    requires enough { 4 ≤ choice.now.regs }
-    requires few { choice.now.regs ≤ 16 }
+    requires choice { IsFitChoice choice.now }
     ensures image { IfOk result (λ made. (cuts : List Cut) × IsProgramImage choice.now program.now cuts made.image) }
     ensures means { IfOk result (λ made. (cuts : List Cut) × IsProgramImage choice.now program.now cuts made.image
         × DoesAsMeant program.now cuts made.image) }
@@ -62,7 +68,7 @@ pub fn program_image(
         Ok(data) => data,
         Err(_) => return Err(ProgramFault::Memory),
     };
-    match image_of(alloc, choice, procedures, data) {
+    match image_of(rt, alloc, choice, procedures, data, gate) {
         Ok(linked) => Ok(Compiled {
             image: linked.image,
             procedures: procedures.len(),

@@ -1,26 +1,32 @@
 //! The image of a program's texts, and its traces.
 
-ghost use Rattle.std.specs.Prelude.{◌≤◌, IfOk, IfErr};
+ghost use Rattle.std.specs.Prelude.{IfOk, IfErr};
 ghost use Rattle.image_form.specs.Form.{IsInForm};
+ghost use Rattle.alloc_choice.specs.Choice.{IsFitChoice};
 ghost use Rattle.source_image.specs.Images.{IsImageOfTexts, AreTracesOfTexts};
 ghost use Rattle.source_image.specs.Refusals.{IsRefusal};
 
 use crate::refusal::{Refusal, refused_program, refused_source};
 use items::Items;
+use outside::Gate;
 use program_image::{Choice, Compiled, program_image, program_traces};
 use source_program::source_program;
 use std::alloc::Global;
+use std::sync::Wait;
+use std::thread::Threads;
 
 /// The image of the modules with these texts, in this order, by the builder, the policy and the registers that are chosen.
 ///
-/// Each text is read and judged before the next is begun, and limits of the program come after all modules are judged.
-pub fn source_image(
+/// Each text is read and judged before the next is begun, and limits of the program come after all modules are judged. The workers
+/// of the choice share the traces of all procedures, and pass the gate before each; it may wait.
+pub fn source_image<G: Gate, R: Threads + Wait + Sync>(
+    rt: &R,
     alloc: Global,
     choice: &Choice,
     texts: &[Items<u8>],
+    gate: &G,
 ) -> Result<Compiled, Refusal>
-    requires enough { 4 ≤ choice.now.regs }
-    requires few { choice.now.regs ≤ 16 }
+    requires { IsFitChoice choice.now }
     ensures image { IfOk result (IsImageOfTexts choice.now texts.now) }
     ensures form { IfOk result (λ made. IsInForm made.image) }
     ensures refused { IfErr result (IsRefusal choice.now texts.now) }
@@ -29,7 +35,7 @@ pub fn source_image(
         Ok(program) => program,
         Err(fault) => return Err(refused_source(fault)),
     };
-    match program_image(alloc, choice, &program) {
+    match program_image(rt, alloc, choice, &program, gate) {
         Ok(made) => Ok(made),
         Err(fault) => Err(refused_program(fault)),
     }

@@ -1,6 +1,6 @@
 -- One flow more.
-use Rattle.std.proofs.Common.{◌≡◌, ◌<◌, ◌+◌, ℕ, suc, List, [], ◌∷◌, ◌++◌, length, drop, get_or, refl, sym, ap, ◌∙◌, subst, arith}
-use Rattle.std.proofs.lemmas.List.{drop_more}
+use Rattle.std.proofs.Common.{◌≡◌, ◌<◌, ◌+◌, ℕ, List, [], ◌∷◌, ◌++◌, length, drop, get_or, refl, sym, ap, ◌∙◌, subst, arith}
+use Rattle.std.proofs.lemmas.List.{drop_more, length-map}
 use Rattle.lir_core.specs.declared.flow.Flow.{Flow}
 use Rattle.alloc_choice.specs.declared.choice.Choice.{Choice}
 use Rattle.lir_core.specs.declared.flow.Trace.{Trace}
@@ -17,12 +17,8 @@ report_next choice flows i d lines rest l one more =
 
 ---- How many there are
 
-as_many : (ts : List Trace) → length ts ≡ length (lists_of ts)
-as_many [] = refl
-as_many (t ∷ ts) = ap suc (as_many ts)
-
 pub cut_length : (builder : Builder) (flow : Flow) (ts : List Trace) → lists_of ts ≡ traces_of builder flow.nodes → length ts ≡ length (traces_of builder flow.nodes)
-cut_length builder flow ts e = as_many ts ∙ ap (λ (xs : List (List ℕ)). length xs) e
+cut_length builder flow ts e = sym (length-map ts (λ (t : Trace). t.nodes)) ∙ ap (λ (xs : List (List ℕ)). length xs) e
 
 pub count_next : (builder : Builder) (flows : List Flow) (i : ℕ) (d : Flow) (so_far more : ℕ) → i < length flows → get_or flows i d ≡ d → more ≡ length (traces_of builder d.nodes)
     → so_far + traces_in builder (drop i flows) ≡ traces_in builder flows → (so_far + more) + traces_in builder (drop (i + 1) flows) ≡ traces_in builder flows

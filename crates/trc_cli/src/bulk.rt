@@ -1,6 +1,7 @@
 //! A module is made, compiled and run, and what came of it is told.
 
 ghost use Rattle.std.specs.Prelude.{◌≡◌, ◌≤◌, ◌++◌, ◌∷◌, [], ℕ, List, Option, length, OnOk, IfOk};
+ghost use Rattle.alloc_choice.specs.Choice.{IsFitChoice};
 ghost use Rattle.outside.specs.Files.{Held};
 ghost use Rattle.image_form.specs.Form.{IsInForm};
 ghost use Rattle.bulk_text.specs.Bulk.{bulk_text};
@@ -14,9 +15,11 @@ use crate::compiling::compile;
 use bulk_text::bulk_text;
 use items::Items;
 use memory_devices::MemSink;
-use outside::Sink;
+use outside::{Gate, Sink};
 use source_image::{Choice, Compiled};
-use std::alloc::{AllocError, Global};
+use std::alloc::{AllocError, AllocGlobal, Global};
+use std::sync::Wait;
+use std::thread::Threads;
 use trc_answers::{Cause, Ending, print, run_on};
 
 /// How much a made module may write; it writes one number and a line's end.
@@ -109,28 +112,28 @@ fn tell<O: Sink>(alloc: Global, counts: Counts, written: &[u8], out: &mut O) -> 
 
 /// Makes a module of a seed and a size, compiles it, and runs its image on no input; tells how many procedures, traces and words
 /// there are, and what it wrote.
-pub(crate) fn bulk<O: Sink>(
-    alloc: Global,
+pub(crate) fn bulk<R: Threads + Wait + AllocGlobal + Sync, O: Sink, G: Gate>(
+    rt: &R,
     seed: u64,
     size: u32,
     choice: &Choice,
     steps: u64,
     out: &mut O,
+    gate: &G,
 ) -> Ending
     requires some { 1 ≤ size }
-    requires enough { 4 ≤ choice.now.regs }
-    requires few { choice.now.regs ≤ 16 }
+    requires choice { IsFitChoice choice.now }
     ensures answers { (held : Option Held) (faults : ℕ) (left : Option (List ℕ)) (input_faults : ℕ)
         → Answers (TextsComeTo choice.now (SummaryComesTo steps) (bulk_text seed size ∷ []))
         (told held faults left input_faults (O.account out.old)) (told held faults left input_faults (O.account out.new)) result.cause }
     ensures placed { IsPlaced (IsTextIn (bulk_text seed size ∷ [])) result.cause result.place }
     ensures rises { (O.account out.old).faults ≤ (O.account out.new).faults }
 {
-    let Ok(text) = bulk_text(alloc, seed, size) else {
+    let Ok(text) = bulk_text(rt.alloc(), seed, size) else {
         return Ending::of(Cause::Memory);
     };
-    match compile(alloc, choice, &[Items::from_vec(text)]) {
-        Ok(made) => Ending::of(run_and_tell(alloc, made, steps, out)),
+    match compile(rt, choice, &[Items::from_vec(text)], gate) {
+        Ok(made) => Ending::of(run_and_tell(rt.alloc(), made, steps, out)),
         Err(ending) => ending,
     }
 }

@@ -12,8 +12,10 @@ use crate::building::build;
 use crate::bulk::bulk;
 use crate::running::run;
 use crate::tracing::traces;
-use outside::{Files, Sink, Source};
-use std::alloc::{AllocError, Global};
+use outside::{Files, Gate, Sink, Source};
+use std::alloc::{AllocError, AllocGlobal, Global};
+use std::sync::Wait;
+use std::thread::Threads;
 use trc_answers::{Ending, exec, print};
 use trc_words::Request;
 
@@ -36,13 +38,13 @@ pub(crate) fn names_of<'a>(alloc: Global, request: &Request<'a>) -> Result<Vec<&
 }
 
 /// Does what a command asks for.
-pub(crate) fn perform<F: Files, I: Source, O: Sink>(
-    alloc: Global,
-    request: &Request<'_>,
-    files: &mut F,
-    input: &mut I,
-    out: &mut O,
-) -> Ending
+pub(crate) fn perform<
+    R: Threads + Wait + AllocGlobal + Sync,
+    F: Files,
+    I: Source,
+    O: Sink,
+    G: Gate,
+>(rt: &R, request: &Request<'_>, files: &mut F, input: &mut I, out: &mut O, gate: &G) -> Ending
     requires { Fits (plain request.now) }
     ensures answers { Answers (RequestComesTo (world (F.held files.old) (I.left input.old)) (plain request.now))
         (told (F.held files.old) (F.faults files.old) (I.left input.old) (I.faults input.old) (O.account out.old))
@@ -60,25 +62,34 @@ pub(crate) fn perform<F: Files, I: Source, O: Sink>(
             files: names,
             choice,
             steps,
-        } => run(alloc, names.as_slice(), choice, *steps, files, input, out),
+        } => run(
+            rt,
+            names.as_slice(),
+            choice,
+            *steps,
+            files,
+            input,
+            out,
+            gate,
+        ),
         Request::Build {
             out: name,
             files: names,
             choice,
-        } => build(alloc, name, names.as_slice(), choice, files),
+        } => build(rt, name, names.as_slice(), choice, files, gate),
         Request::Exec { image, steps } => {
-            Ending::of(exec(alloc, image, *steps, files, input, out))
+            Ending::of(exec(rt.alloc(), image, *steps, files, input, out))
         }
         Request::Traces {
             files: names,
             choice,
-        } => traces(alloc, names.as_slice(), choice, files, out),
+        } => traces(rt.alloc(), names.as_slice(), choice, files, out),
         Request::Bulk {
             seed,
             size,
             choice,
             steps,
-        } => bulk(alloc, *seed, *size, choice, *steps, out),
+        } => bulk(rt, *seed, *size, choice, *steps, out, gate),
         Request::Help => Ending::of(print(out, HELP)),
     }
 }

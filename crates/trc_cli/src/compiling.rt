@@ -3,6 +3,7 @@
 ghost use Rattle.std.specs.Prelude.{◌≡◌, ◌≤◌, ℕ, List, Some, slice_get, IfOk, IfErr};
 ghost use Rattle.image_form.specs.Form.{IsInForm};
 ghost use Rattle.alloc_choice.specs.declared.choice.Choice.{Choice};
+ghost use Rattle.alloc_choice.specs.Choice.{IsFitChoice};
 ghost use Rattle.source_image.specs.Images.{IsImageOfTexts, AreTracesOfTexts};
 ghost use Rattle.source_image.specs.Refusals.{IsRefusal};
 ghost use Rattle.trc_answers.specs.Causes.{IsAt, IsPlaced};
@@ -11,8 +12,11 @@ ghost use Rattle.trc_cli.specs.Commands.{IsRefusedAs, IsTextIn, cause_of_refusal
 
 use fault_lines::position_of;
 use items::Items;
+use outside::Gate;
 use source_image::{Choice, Compiled, Refusal, source_image, source_traces};
-use std::alloc::Global;
+use std::alloc::{AllocGlobal, Global};
+use std::sync::Wait;
+use std::thread::Threads;
 use trc_answers::{Cause, Ending};
 
 // A rule is broken in the text of this number, at this byte.
@@ -54,19 +58,19 @@ pub(crate) fn refused(texts: &[Items<u8>], refusal: Refusal) -> Ending
 }
 
 /// The image of texts by a choice.
-pub(crate) fn compile(
-    alloc: Global,
+pub(crate) fn compile<R: Threads + Wait + AllocGlobal + Sync, G: Gate>(
+    rt: &R,
     choice: &Choice,
     texts: &[Items<u8>],
+    gate: &G,
 ) -> Result<Compiled, Ending>
-    requires enough { 4 ≤ choice.now.regs }
-    requires few { choice.now.regs ≤ 16 }
+    requires { IsFitChoice choice.now }
     ensures image { IfOk result (IsImageOfTexts choice.now texts.now) }
     ensures form { IfOk result (λ made. IsInForm made.image) }
     ensures refused { IfErr result (λ ending. IsRefusedAs choice.now texts.now ending.cause) }
     ensures placed { IfErr result (λ ending. IsPlaced (IsTextIn texts.now) ending.cause ending.place) }
 {
-    match source_image(alloc, choice, texts) {
+    match source_image(rt, rt.alloc(), choice, texts, gate) {
         Ok(made) => Ok(made),
         Err(refusal) => Err(refused(texts, refusal)),
     }

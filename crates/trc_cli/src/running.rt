@@ -1,6 +1,7 @@
 //! Modules are compiled, and their image is run.
 
 ghost use Rattle.std.specs.Prelude.{◌≡◌, ◌≤◌, ℕ, Option, map};
+ghost use Rattle.alloc_choice.specs.Choice.{IsFitChoice};
 ghost use Rattle.outside.specs.Files.{Held};
 ghost use Rattle.trc_answers.specs.Answers.{Answers, told};
 ghost use Rattle.trc_answers.specs.Causes.{IsPlaced};
@@ -10,22 +11,24 @@ ghost use Rattle.trc_cli.specs.Commands.{IsTextHeld, IsTextIn, TextsComeTo};
 
 use crate::compiling::compile;
 use items::Items;
-use outside::{Files, Sink, Source};
+use outside::{Files, Gate, Sink, Source};
 use source_image::Choice;
-use std::alloc::Global;
+use std::alloc::AllocGlobal;
+use std::sync::Wait;
+use std::thread::Threads;
 use trc_answers::{Ending, read_texts, run_image};
 
 // Compiles texts, and runs their image.
-fn run_texts<I: Source, O: Sink>(
-    alloc: Global,
+fn run_texts<R: Threads + Wait + AllocGlobal + Sync, I: Source, O: Sink, G: Gate>(
+    rt: &R,
     texts: &[Items<u8>],
     choice: &Choice,
     steps: u64,
     input: &mut I,
     out: &mut O,
+    gate: &G,
 ) -> Ending
-    requires enough { 4 ≤ choice.now.regs }
-    requires few { choice.now.regs ≤ 16 }
+    requires { IsFitChoice choice.now }
     ensures answers { (held : Option Held) (faults : ℕ)
         → Answers (TextsComeTo choice.now (λ made. ImageComesTo (I.left input.old) steps made.image) texts.now)
         (told held faults (I.left input.old) (I.faults input.old) (O.account out.old))
@@ -34,24 +37,24 @@ fn run_texts<I: Source, O: Sink>(
     ensures input_rises { I.faults input.old ≤ I.faults input.new }
     ensures out_rises { (O.account out.old).faults ≤ (O.account out.new).faults }
 {
-    match compile(alloc, choice, texts) {
-        Ok(made) => Ending::of(run_image(alloc, made.image, steps, input, out)),
+    match compile(rt, choice, texts, gate) {
+        Ok(made) => Ending::of(run_image(rt.alloc(), made.image, steps, input, out)),
         Err(ending) => ending,
     }
 }
 
 /// Compiles the files of these names, and runs their image.
-pub(crate) fn run<F: Files, I: Source, O: Sink>(
-    alloc: Global,
+pub(crate) fn run<R: Threads + Wait + AllocGlobal + Sync, F: Files, I: Source, O: Sink, G: Gate>(
+    rt: &R,
     names: &[&str],
     choice: &Choice,
     steps: u64,
     files: &mut F,
     input: &mut I,
     out: &mut O,
+    gate: &G,
 ) -> Ending
-    requires enough { 4 ≤ choice.now.regs }
-    requires few { choice.now.regs ≤ 16 }
+    requires { IsFitChoice choice.now }
     ensures answers { Answers (FilesComeTo (F.held files.old) (map (λ name. name.now) names.now)
         (TextsComeTo choice.now (λ made. ImageComesTo (I.left input.old) steps made.image)))
         (told (F.held files.old) (F.faults files.old) (I.left input.old) (I.faults input.old) (O.account out.old))
@@ -61,8 +64,8 @@ pub(crate) fn run<F: Files, I: Source, O: Sink>(
     ensures input_rises { I.faults input.old ≤ I.faults input.new }
     ensures out_rises { (O.account out.old).faults ≤ (O.account out.new).faults }
 {
-    match read_texts(alloc, names, files) {
-        Ok(texts) => run_texts(alloc, texts.as_slice(), choice, steps, input, out),
+    match read_texts(rt.alloc(), names, files) {
+        Ok(texts) => run_texts(rt, texts.as_slice(), choice, steps, input, out, gate),
         Err(cause) => Ending::of(cause),
     }
 }

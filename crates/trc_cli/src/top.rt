@@ -12,7 +12,7 @@ ghost use Rattle.trc_cli.specs.Lines.{IsTold};
 
 use crate::commands::{names_of, perform};
 use outside::{Files, Gate, Sink, Source};
-use std::alloc::{AllocGlobal, Global};
+use std::alloc::AllocGlobal;
 use std::sync::Wait;
 use std::thread::Threads;
 use trc_answers::{Cause, Ending, Outcome, report, status};
@@ -34,13 +34,21 @@ pub(crate) fn finish<E: Sink>(err: &mut E, ending: Ending, names: &[&str]) -> Ou
 }
 
 /// Does what a command asks for, and tells how it ended.
-fn perform_and_tell<F: Files, I: Source, O: Sink, E: Sink>(
-    alloc: Global,
+fn perform_and_tell<
+    R: Threads + Wait + AllocGlobal + Sync,
+    F: Files,
+    I: Source,
+    O: Sink,
+    E: Sink,
+    G: Gate,
+>(
+    rt: &R,
     request: &Request<'_>,
     files: &mut F,
     input: &mut I,
     out: &mut O,
     err: &mut E,
+    gate: &G,
 ) -> Outcome
     requires { Fits (plain request.now) }
     ensures answers { Answers (RequestComesTo (world (F.held files.old) (I.left input.old)) (plain request.now))
@@ -56,10 +64,10 @@ fn perform_and_tell<F: Files, I: Source, O: Sink, E: Sink>(
     ensures out_rises { (O.account out.old).faults ≤ (O.account out.new).faults }
     ensures err_rises { (E.account err.old).faults ≤ (E.account err.new).faults }
 {
-    let Ok(names) = names_of(alloc, request) else {
+    let Ok(names) = names_of(rt.alloc(), request) else {
         return finish(err, Ending::of(Cause::Memory), &[]);
     };
-    let ending = perform(alloc, request, files, input, out);
+    let ending = perform(rt, request, files, input, out, gate);
     finish(err, ending, names.as_slice())
 }
 
@@ -96,7 +104,7 @@ pub fn trc<R: Threads + Wait + AllocGlobal + Sync, F: Files, I: Source, O: Sink,
     ensures err_rises { (E.account err.old).faults ≤ (E.account err.new).faults }
 {
     match read_words(rt.alloc(), words) {
-        Ok(request) => perform_and_tell(rt.alloc(), &request, files, input, out, err),
+        Ok(request) => perform_and_tell(rt, &request, files, input, out, err, gate),
         Err(WordsFault::Usage) => finish(err, Ending::of(Cause::Usage), &[]),
         Err(WordsFault::Memory) => finish(err, Ending::of(Cause::Memory), &[]),
     }

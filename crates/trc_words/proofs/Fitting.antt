@@ -11,7 +11,8 @@ use Rattle.trc_words.specs.Commands.{run_command, build_command, exec_command, t
 use Rattle.trc_words.specs.Numbers.{is_between, is_number, number_between}
 use Rattle.trc_words.specs.Options.{choice_in, given, jobs_in, policy_in, regs_in, steps_in, traces_choice_in, traces_in, value_or}
 use Rattle.trc_words.specs.Asked.{Asked, Run, Build, Exec, Traces, Bulk, Help, asked_of, bulk_asked, build_asked, exec_asked, files_in, help_asked, is_none, run_asked, seed_in, size_in, some_of, taken, traces_asked}
-use Rattle.trc_words.specs.Fitting.{Fits, IsInRange}
+use Rattle.alloc_choice.specs.Choice.{IsFitChoice}
+use Rattle.trc_words.specs.Fitting.{Fits}
 use Rattle.trc_words.specs.Requests.{Asks, plain}
 use Rattle.trc_words.specs.declared.asked.Request.{Request}
 use Rattle.trc_words.specs.declared.asked.WordsFault.{WordsFault}
@@ -79,22 +80,22 @@ abbrev Any : {A : Type 0} → A → Type 0
 Any a = Unit {0}
 
 chosen : (policy : Policy) (builder : Builder) (regs jobs : ℕ) → Between 4 16 regs → Between 1 64 jobs
-    → IsInRange (record { policy = policy; builder = builder; regs = regs; jobs = jobs })
-chosen policy builder regs jobs r j = record { least_regs = r.0; most_regs = r.1; least_jobs = j.0; most_jobs = j.1 }
+    → IsFitChoice (record { policy = policy; builder = builder; regs = regs; jobs = jobs })
+chosen policy builder regs jobs r j = record { enough = r.0; few = r.1; some_jobs = j.0; few_jobs = j.1 }
 
-choice_holds : (rows : List Row) → Holds IsInRange (choice_in rows)
+choice_holds : (rows : List Row) → Holds IsFitChoice (choice_in rows)
 choice_holds rows =
-    given_holds Any IsInRange (policy_in rows) _ (λ _ _. tt) (λ policy _.
-    given_holds Any IsInRange (traces_in rows) _ (λ _ _. tt) (λ builder _.
-    given_holds (Between 4 16) IsInRange (regs_in rows) _ (regs_hold rows) (λ regs r.
-    given_holds (Between 1 64) IsInRange (jobs_in rows) _ (jobs_hold rows) (λ jobs j.
-    some_holds IsInRange _ (chosen policy builder regs jobs r j)))))
+    given_holds Any IsFitChoice (policy_in rows) _ (λ _ _. tt) (λ policy _.
+    given_holds Any IsFitChoice (traces_in rows) _ (λ _ _. tt) (λ builder _.
+    given_holds (Between 4 16) IsFitChoice (regs_in rows) _ (regs_hold rows) (λ regs r.
+    given_holds (Between 1 64) IsFitChoice (jobs_in rows) _ (jobs_hold rows) (λ jobs j.
+    some_holds IsFitChoice _ (chosen policy builder regs jobs r j)))))
 
-traces_choice_holds : (rows : List Row) → Holds IsInRange (traces_choice_in rows)
+traces_choice_holds : (rows : List Row) → Holds IsFitChoice (traces_choice_in rows)
 traces_choice_holds rows =
-    given_holds Any IsInRange (policy_in rows) _ (λ _ _. tt) (λ policy _.
-    given_holds Any IsInRange (traces_in rows) _ (λ _ _. tt) (λ builder _.
-    some_holds IsInRange _ (chosen policy builder 16 4 (lit≤ tt, lit≤ tt) (lit≤ tt, lit≤ tt))))
+    given_holds Any IsFitChoice (policy_in rows) _ (λ _ _. tt) (λ policy _.
+    given_holds Any IsFitChoice (traces_in rows) _ (λ _ _. tt) (λ builder _.
+    some_holds IsFitChoice _ (chosen policy builder 16 4 (lit≤ tt, lit≤ tt) (lit≤ tt, lit≤ tt))))
 
 ---- Commands
 
@@ -119,7 +120,7 @@ size_holds rows = given_holds Any (Between 1 1000) (first_of (codes "SIZE") rows
 run_fits : (rows : List Row) → Holds Fits (run_asked rows)
 run_fits rows =
     given_holds IsFull Fits (files_in rows) _ (files_hold rows) (λ files f.
-    given_holds IsInRange Fits (choice_in rows) _ (choice_holds rows) (λ choice c.
+    given_holds IsFitChoice Fits (choice_in rows) _ (choice_holds rows) (λ choice c.
     given_holds (λ n. n ≤ 1000000000000000) Fits (steps_in rows) _ (steps_hold rows) (λ steps s.
     some_holds Fits (Run files choice steps) (f, c, s))))
 
@@ -127,7 +128,7 @@ build_fits : (rows : List Row) → Holds Fits (build_asked rows)
 build_fits rows =
     given_holds Any Fits (first_of (codes "OUT") rows) _ (λ _ _. tt) (λ out _.
     given_holds IsFull Fits (files_in rows) _ (files_hold rows) (λ files f.
-    given_holds IsInRange Fits (choice_in rows) _ (choice_holds rows) (λ choice c.
+    given_holds IsFitChoice Fits (choice_in rows) _ (choice_holds rows) (λ choice c.
     some_holds Fits (Build out files choice) (f, c))))
 
 exec_fits : (rows : List Row) → Holds Fits (exec_asked rows)
@@ -139,14 +140,14 @@ exec_fits rows =
 traces_fits : (rows : List Row) → Holds Fits (traces_asked rows)
 traces_fits rows =
     given_holds IsFull Fits (files_in rows) _ (files_hold rows) (λ files f.
-    given_holds IsInRange Fits (traces_choice_in rows) _ (traces_choice_holds rows) (λ choice c.
+    given_holds IsFitChoice Fits (traces_choice_in rows) _ (traces_choice_holds rows) (λ choice c.
     some_holds Fits (Traces files choice) (f, c)))
 
 bulk_fits : (rows : List Row) → Holds Fits (bulk_asked rows)
 bulk_fits rows =
     given_holds (λ n. n ≤ 9223372036854775807) Fits (seed_in rows) _ (seed_holds rows) (λ seed e.
     given_holds (Between 1 1000) Fits (size_in rows) _ (size_holds rows) (λ size z.
-    given_holds IsInRange Fits (choice_in rows) _ (choice_holds rows) (λ choice c.
+    given_holds IsFitChoice Fits (choice_in rows) _ (choice_holds rows) (λ choice c.
     given_holds (λ n. n ≤ 1000000000000000) Fits (steps_in rows) _ (steps_hold rows) (λ steps s.
     some_holds Fits (Bulk seed size choice steps) (e, z.0, z.1, c, s)))))
 

@@ -3,23 +3,8 @@ use Rattle.flow_allocation.specs.Allocations.{items_of}
 use Rattle.back_end.proofs.Ready.{HaveNumbers, valid_there, allocated_there, cuts_there, are_cuts_of, all_small}
 use Rattle.back_end.proofs.imaging.image_of.Goals as goal
 
-pub returns-then-allocated-gt-MOST_TRACES-clause-traces : goal.returns-then-allocated-gt-MOST_TRACES-clause-traces
-returns-then-allocated-gt-MOST_TRACES-clause-traces c e =
-    let choice = c.args.choice.now in
-    let procs = c.args.procedures.now in
-    let made = c.in_ok-flows.ensures in
-    let flows = c.in_ok-flows.flows.items in
-    let parts = items_of c.in_ok-allocated.allocated.parts in
-    let outs = items_of c.in_ok-allocated.allocated.outs in
-    let n = c.in_ok-allocated.allocated.traces in
-    let valid = valid_there choice procs c.requires.ready c.requires.few flows made.flows made.numbers c.as_slice.result.now c.as_slice.ensures.value in
-    let h = allocated_there choice procs c.requires.ready c.requires.few flows made.flows made.numbers c.as_slice.result.now c.as_slice.ensures.value parts outs n (c.in_ok-allocated.ensures valid) in
-    let over = c.if-allocated-gt-MOST_TRACES.true in
-    let count = h.count in
-    (h.cuts, are_cuts_of choice procs parts outs n h, omega (arith, over, count))
-
 pub returns-in-Ok-clause-image : goal.returns-in-Ok-clause-image
-returns-in-Ok-clause-image c =
+returns-in-Ok-clause-image g c =
     let choice = c.args.choice.now in
     let procs = c.args.procedures.now in
     let made = c.in_ok-flows.ensures in
@@ -27,11 +12,11 @@ returns-in-Ok-clause-image c =
     let parts = items_of c.in_ok-allocated.allocated.parts in
     let outs = items_of c.in_ok-allocated.allocated.outs in
     let n = c.in_ok-allocated.allocated.traces in
-    let valid = valid_there choice procs c.requires.ready c.requires.few flows made.flows made.numbers c.as_slice.result.now c.as_slice.ensures.value in
-    let h = allocated_there choice procs c.requires.ready c.requires.few flows made.flows made.numbers c.as_slice.result.now c.as_slice.ensures.value parts outs n (c.in_ok-allocated.ensures valid) in
-    let few = c.if-allocated-gt-MOST_TRACES.false in
+    let valid = valid_there choice procs c.requires.ready c.requires.choice.few flows made.flows made.numbers c.as_slice.result.now c.as_slice.ensures.value in
+    let h = allocated_there choice procs c.requires.ready c.requires.choice.few flows made.flows made.numbers c.as_slice.result.now c.as_slice.ensures.value parts outs n (c.in_ok-allocated.ensures.allocated valid) in
+    let few = c.in_ok-allocated.ensures.few in
     let count = h.count in
-    let cuts = cuts_there choice procs c.requires.ready c.requires.few flows made.flows made.numbers parts outs n h c.as_slice-2.result.now c.as_slice-2.ensures.value _ (ap (map (λ v. v.items)) c.as_slice-parts.ensures.value) _ (ap (map (λ v. v.items)) c.as_slice-3.ensures.value) in
+    let cuts = cuts_there choice procs c.requires.ready c.requires.choice.few flows made.flows made.numbers parts outs n h c.as_slice-2.result.now c.as_slice-2.ensures.value _ (ap (map (λ v. v.items)) c.as_slice-parts.ensures.value) _ (ap (map (λ v. v.items)) c.as_slice-3.ensures.value) in
     record {
       cuts = h.cuts;
       are = are_cuts_of choice procs parts outs n h;
@@ -42,7 +27,7 @@ returns-in-Ok-clause-image c =
     }
 
 pub returns-clause-code : goal.returns-clause-code
-returns-clause-code c e =
+returns-clause-code g c e =
     let choice = c.args.choice.now in
     let procs = c.args.procedures.now in
     let made = c.in_ok-flows.ensures in
@@ -50,15 +35,15 @@ returns-clause-code c e =
     let parts = items_of c.in_ok-allocated.allocated.parts in
     let outs = items_of c.in_ok-allocated.allocated.outs in
     let n = c.in_ok-allocated.allocated.traces in
-    let valid = valid_there choice procs c.requires.ready c.requires.few flows made.flows made.numbers c.as_slice.result.now c.as_slice.ensures.value in
-    let h = allocated_there choice procs c.requires.ready c.requires.few flows made.flows made.numbers c.as_slice.result.now c.as_slice.ensures.value parts outs n (c.in_ok-allocated.ensures valid) in
-    let few = c.if-allocated-gt-MOST_TRACES.false in
+    let valid = valid_there choice procs c.requires.ready c.requires.choice.few flows made.flows made.numbers c.as_slice.result.now c.as_slice.ensures.value in
+    let h = allocated_there choice procs c.requires.ready c.requires.choice.few flows made.flows made.numbers c.as_slice.result.now c.as_slice.ensures.value parts outs n (c.in_ok-allocated.ensures.allocated valid) in
+    let few = c.in_ok-allocated.ensures.few in
     let count = h.count in
-    let cuts = cuts_there choice procs c.requires.ready c.requires.few flows made.flows made.numbers parts outs n h c.as_slice-2.result.now c.as_slice-2.ensures.value _ (ap (map (λ v. v.items)) c.as_slice-parts.ensures.value) _ (ap (map (λ v. v.items)) c.as_slice-3.ensures.value) in
+    let cuts = cuts_there choice procs c.requires.ready c.requires.choice.few flows made.flows made.numbers parts outs n h c.as_slice-2.result.now c.as_slice-2.ensures.value _ (ap (map (λ v. v.items)) c.as_slice-parts.ensures.value) _ (ap (map (λ v. v.items)) c.as_slice-3.ensures.value) in
     (h.cuts, are_cuts_of choice procs parts outs n h, omega (arith, few, count), c.in-Err.ensures.limit (c.fault_of.ensures.code e) choice.regs h.cuts cuts)
 
 pub returns-clause-misfit : goal.returns-clause-misfit
-returns-clause-misfit c e =
+returns-clause-misfit g c e =
     let choice = c.args.choice.now in
     let procs = c.args.procedures.now in
     let made = c.in_ok-flows.ensures in
@@ -66,13 +51,13 @@ returns-clause-misfit c e =
     let parts = items_of c.in_ok-allocated.allocated.parts in
     let outs = items_of c.in_ok-allocated.allocated.outs in
     let n = c.in_ok-allocated.allocated.traces in
-    let valid = valid_there choice procs c.requires.ready c.requires.few flows made.flows made.numbers c.as_slice.result.now c.as_slice.ensures.value in
-    let h = allocated_there choice procs c.requires.ready c.requires.few flows made.flows made.numbers c.as_slice.result.now c.as_slice.ensures.value parts outs n (c.in_ok-allocated.ensures valid) in
-    let cuts = cuts_there choice procs c.requires.ready c.requires.few flows made.flows made.numbers parts outs n h c.as_slice-2.result.now c.as_slice-2.ensures.value _ (ap (map (λ v. v.items)) c.as_slice-parts.ensures.value) _ (ap (map (λ v. v.items)) c.as_slice-3.ensures.value) in
+    let valid = valid_there choice procs c.requires.ready c.requires.choice.few flows made.flows made.numbers c.as_slice.result.now c.as_slice.ensures.value in
+    let h = allocated_there choice procs c.requires.ready c.requires.choice.few flows made.flows made.numbers c.as_slice.result.now c.as_slice.ensures.value parts outs n (c.in_ok-allocated.ensures.allocated valid) in
+    let cuts = cuts_there choice procs c.requires.ready c.requires.choice.few flows made.flows made.numbers parts outs n h c.as_slice-2.result.now c.as_slice-2.ensures.value _ (ap (map (λ v. v.items)) c.as_slice-parts.ensures.value) _ (ap (map (λ v. v.items)) c.as_slice-3.ensures.value) in
     (h.cuts, are_cuts_of choice procs parts outs n h, c.in-Err.ensures.misfit (c.fault_of.ensures.misfit e) choice.regs h.cuts cuts)
 
 pub returns-clause-modest : goal.returns-clause-modest
-returns-clause-modest c values e =
+returns-clause-modest g c values e =
     let choice = c.args.choice.now in
     let procs = c.args.procedures.now in
     let made = c.in_ok-flows.ensures in
@@ -80,8 +65,8 @@ returns-clause-modest c values e =
     let parts = items_of c.in_ok-allocated.allocated.parts in
     let outs = items_of c.in_ok-allocated.allocated.outs in
     let n = c.in_ok-allocated.allocated.traces in
-    let valid = valid_there choice procs c.requires.ready c.requires.few flows made.flows made.numbers c.as_slice.result.now c.as_slice.ensures.value in
-    let h = allocated_there choice procs c.requires.ready c.requires.few flows made.flows made.numbers c.as_slice.result.now c.as_slice.ensures.value parts outs n (c.in_ok-allocated.ensures valid) in
-    let cuts = cuts_there choice procs c.requires.ready c.requires.few flows made.flows made.numbers parts outs n h c.as_slice-2.result.now c.as_slice-2.ensures.value _ (ap (map (λ v. v.items)) c.as_slice-parts.ensures.value) _ (ap (map (λ v. v.items)) c.as_slice-3.ensures.value) in
+    let valid = valid_there choice procs c.requires.ready c.requires.choice.few flows made.flows made.numbers c.as_slice.result.now c.as_slice.ensures.value in
+    let h = allocated_there choice procs c.requires.ready c.requires.choice.few flows made.flows made.numbers c.as_slice.result.now c.as_slice.ensures.value parts outs n (c.in_ok-allocated.ensures.allocated valid) in
+    let cuts = cuts_there choice procs c.requires.ready c.requires.choice.few flows made.flows made.numbers parts outs n h c.as_slice-2.result.now c.as_slice-2.ensures.value _ (ap (map (λ v. v.items)) c.as_slice-parts.ensures.value) _ (ap (map (λ v. v.items)) c.as_slice-3.ensures.value) in
     c.in-Err.ensures.misfit (c.fault_of.ensures.misfit e) choice.regs h.cuts cuts
     (all_small choice 0 procs h.cuts c.requires.ready values (subst HaveNumbers made.flows made.numbers) (sym h.flows_are) h.each)

@@ -1,33 +1,25 @@
-use Rattle.std.proofs.Common.{◌≡◌, ◌+◌, ◌∷◌, [], ◌++◌, List, refl, ap, sym, ◌∙◌, subst, arith, take}
-use Rattle.std.proofs.lemmas.List.{take_more}
-use Rattle.lir_core.specs.declared.flow.Flow.{Flow}
-use Rattle.lir_core.specs.declared.places.TraceOut.{TraceOut}
-use Rattle.lir_core.specs.Flows.{IsValidFlow}
-use Rattle.boundary_resolve.specs.declared.placed.Placed.{Placed as Line}
-use Rattle.flow_allocation.specs.Allocations.{AreAllocated, items_of}
-use Rattle.flow_allocation.proofs.Further.{one_more, items_more}
+use Rattle.std.proofs.Common.{◌≡◌, List, length, sym, ap, ◌∙◌, subst, arith}
+use Rattle.std.proofs.lemmas.List.{length-map}
+use Rattle.trace_build.specs.Traces.{traces_in}
+use Rattle.trace_pool.specs.Ends.{AreFinal}
+use Rattle.trace_work.specs.declared.planning.Plan.{Plan}
+use Rattle.trace_work.specs.declared.work.Entry.{Entry}
+use Rattle.trace_work.specs.Entries.{parents_in}
+use Rattle.trace_work.specs.Finals.{IsFinalOf}
+use Rattle.flow_allocation.specs.Allocations.{items_of}
+use Rattle.flow_allocation.specs.Sharing.{AreShared}
+use Rattle.flow_allocation.proofs.Further.{allocated}
 use Rattle.flow_allocation.proofs.allocating.allocate_flows.Goals as goal
 
-pub loop-flow-preserved : goal.loop-flow-preserved
-loop-flow-preserved c = record {
-  end = refl;
-  before = λ valid.
-      let choice = c.args.choice.now in
-      let flows = c.args.flows.now in
-      let i = c.loop-flow.flow-index in
-      let flow = c.flow-item.result in
-      let lt = c.loop-flow-test.true in
-      let parts = items_of c.loop-flow.all.parts in
-      let outs = items_of c.loop-flow.all.outs in
-      let number = c.in_ok-all.field-0 in
-      let fs : take (i + 1) flows ≡ take i flows ++ flow ∷ [] = take_more flows i flow lt ∙ ap (λ x. take i flows ++ x ∷ []) (sym c.flow-item.is) in
-      let ps = items_more (λ v. v.items) c.loop-flow.all.parts.items c.push.new.self.items c.in_ok-one.one.lines c.in_ok-push.ensures.items in
-      let os = items_more (λ v. v.items) c.loop-flow.all.outs.items c.push-in-loop-flow.new.self.items c.in_ok-one.one.outs c.in_ok-push-2.ensures.items in
-      let one = c.in_ok-one.ensures (subst IsValidFlow (sym c.flow-item.is) (valid i flow lt)) in
-      let n = c.in_ok-all.ensures in
-      let l = c.len.ensures in
-      let more = one_more choice (take i flows) flow parts c.in_ok-one.one.lines.items outs c.in_ok-one.one.outs.items c.loop-flow.all.traces number (c.loop-flow.invariant.before valid) one (omega (arith, n, l)) in
-      subst (λ (xs : List Flow). AreAllocated choice xs (items_of c.push.new.self) (items_of c.push-in-loop-flow.new.self) number) (sym fs)
-      (subst (λ (xs : List (List Line)). AreAllocated choice (take i flows ++ flow ∷ []) xs (items_of c.push-in-loop-flow.new.self) number) (sym ps)
-      (subst (λ (xs : List (List TraceOut)). AreAllocated choice (take i flows ++ flow ∷ []) (parts ++ c.in_ok-one.one.lines.items ∷ []) xs number) (sym os) more));
-}
+pub returns-clause-allocated : goal.returns-clause-allocated
+returns-clause-allocated g c valid =
+    let choice = c.args.choice.now in
+    let w = c.in_ok-work.work in
+    let is = c.in_ok-work.ensures in
+    let outs = c.in_ok-outs.outs.items in
+    let parts = items_of c.in_ok-shared.shared.parts in
+    let shared = items_of c.in_ok-shared.shared.outs in
+    let final = subst (λ x. AreFinal (IsFinalOf x w.plans.items w.entries.items) (parents_in w.entries.items) outs) is.choice c.in_ok-outs.ensures in
+    let count : c.count.result ≡ traces_in choice.builder c.args.flows.now = c.count.ensures ∙ length-map w.entries.items (λ (y : Entry). y.parent) ∙ is.count in
+    allocated choice c.requires w.plans.items w.entries.items outs shared parts c.args.flows.now c.count.result w.entered (is.plans valid) is.numbered is.flows final
+    (subst (λ (ps : List Plan). AreShared ps outs parts shared) c.as_slice.ensures.value c.in_ok-shared.ensures) count

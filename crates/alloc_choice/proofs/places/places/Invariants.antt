@@ -1,6 +1,0 @@
-use Rattle.std.proofs.Common.{◌≡◌, drop, replicate}
-use Rattle.alloc_choice.specs.Places.{placed_all}
-use Rattle.alloc_choice.proofs.places.places.Given as goal
-
-abbrev pub invariant-loop-trace : goal.invariant-loop-trace
-invariant-loop-trace l = placed_all (drop l.trace-index l.traces) l.places.items ≡ placed_all l.traces (replicate l.nodes 0)

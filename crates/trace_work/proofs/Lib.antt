@@ -1,0 +1,5 @@
+pub mod Seated
+pub mod Hinted
+pub mod Entered
+pub mod Ready
+pub mod Made

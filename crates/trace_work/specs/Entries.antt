@@ -1,0 +1,41 @@
+-- Which trace a number is.
+use Rattle.std.specs.Prelude.{◌≡◌, ℕ, zero, suc, ◌+◌, ◌<◌, List, [], ◌∷◌, ◌++◌, map, length, Option, None, Some, slice_get, slice_index_or}
+use Rattle.std.specs.Option.{option_map}
+use Rattle.trace_work.specs.declared.planning.Plan.{Plan}
+use Rattle.trace_work.specs.declared.work.Entry.{Entry}
+use Rattle.trace_work.specs.Plans.{IsOrdered}
+
+-- the trace above a plan's trace, in the numbers of all flows
+abbrev pub above : Plan → ℕ → Option ℕ
+above p t = option_map (λ n. p.first + n) (slice_index_or p.parents t None)
+
+-- the entry of a plan's trace, where the plan is the one at this place
+abbrev pub entry_of : ℕ → Plan → ℕ → Entry
+entry_of flow p t = record { flow = flow; number = t; parent = above p t }
+
+-- the trace of this number is the entry's, of this plan
+pub record IsEntryOf (p : Plan) (trace : ℕ) (e : Entry) : Type 0 where
+  pub ordered : IsOrdered p
+  pub within : e.number < length p.traces
+  pub number : trace ≡ p.first + e.number
+  pub above : e.parent ≡ above p e.number
+
+pub record IsEntry (plans : List Plan) (trace : ℕ) (e : Entry) : Type 0 where
+  pub known : e.flow < length plans
+  pub of : (p : Plan) → slice_get plans e.flow ≡ Some p → IsEntryOf p trace e
+
+-- an entry for each trace of each plan, at its number
+pub record AreEntries (plans : List Plan) (entries : List Entry) : Type 0 where
+  pub each : (trace : ℕ) (e : Entry) → slice_get entries trace ≡ Some e → IsEntry plans trace e
+  pub all : (flow : ℕ) (p : Plan) (t : ℕ) → slice_get plans flow ≡ Some p → t < length p.traces → slice_get entries (p.first + t) ≡ Some (entry_of flow p t)
+
+-- the entries of the first n traces of the plan at a place
+abbrev pub entries_to : ℕ → Plan → ℕ → List Entry
+entries_to flow p zero = []
+entries_to flow p (suc n) = entries_to flow p n ++ entry_of flow p n ∷ []
+
+abbrev pub entries_of : ℕ → Plan → List Entry
+entries_of flow p = entries_to flow p (length p.traces)
+
+abbrev pub parents_in : List Entry → List (Option ℕ)
+parents_in entries = map (λ (e : Entry). e.parent) entries

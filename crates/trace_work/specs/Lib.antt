@@ -1,0 +1,5 @@
+pub mod Places
+pub mod Lent
+pub mod Plans
+pub mod Entries
+pub mod Finals

@@ -1,0 +1,251 @@
+//! The traces of flows, as a pool takes them.
+
+ghost use Rattle.std.specs.Prelude.{◌≡◌, ◌+◌, ◌++◌, ◌<◌, ◌≤◌, length, All, IfOk, IfErr, IfSome, OnOk, Some};
+ghost use Rattle.lir_core.specs.Flows.{IsValidFlow};
+ghost use Rattle.pool_core.specs.Tree.{IsTree};
+ghost use Rattle.trace_build.specs.Parents.{trace_at};
+ghost use Rattle.trace_build.specs.Traces.{traces_in};
+ghost use Rattle.live_interval.specs.Needs.{first_of};
+ghost use Rattle.linear_scan.specs.Inputs.{hint_of, lent};
+ghost use Rattle.alloc_choice.specs.Choice.{IsFitChoice};
+ghost use Rattle.trace_work.specs.Places.{hint_by, if_row};
+ghost use Rattle.trace_work.specs.Lent.{hints};
+ghost use Rattle.trace_work.specs.Plans.{nodes_of, IsFinal, IsHint, IsOrdered, IsPlan};
+ghost use Rattle.trace_work.specs.Entries.{AreEntries, entries_of, parents_in};
+ghost use Rattle.trace_work.specs.Entries.{above as above_in};
+ghost use Rattle.trace_work.specs.Finals.{AreNumbered, flows_in, joined, plain_hint, IsFinalOf, IsHintOf};
+ghost use Rattle.trace_work.specs.declared.fault.WorkFault.TheVariants.{Traces};
+
+use crate::fault::WorkFault;
+use crate::hints::{Hint, head_of, hint_from};
+use crate::planning::{Plan, plan_of};
+use alloc_choice::{Choice, allocate_trace};
+use items::Items;
+use lir_core::{Flow, Places, TraceIn, TraceOut};
+use outside::Memory;
+use pool_core::Work;
+use std::alloc::{AllocError, Global};
+
+/// The most traces that a pool takes.
+const MOST_TRACES: usize = 262_144;
+
+/// Which trace a number is.
+#[derive(Clone, Copy)]
+pub struct Entry {
+    /// The flow's place among the flows.
+    pub flow: usize,
+    /// The trace's number in its flow.
+    pub number: usize,
+    /// The number of the trace above it, through all flows.
+    pub parent: Option<u32>,
+}
+
+/// The places behind a node of the trace above, which a trace takes as its hint.
+#[derive(Drop)]
+pub struct TraceHint {
+    pub node: u32,
+    pub places: Places,
+}
+
+/// Flows in traces, which are numbered through all flows, and the entry of each number.
+#[derive(Drop)]
+pub struct TraceWork<'a> {
+    pub choice: Choice,
+    pub plans: Vec<Plan<'a>>,
+    pub entries: Vec<Entry>,
+    pub ghost fit: { IsFitChoice choice },
+    pub ghost small: { length entries.items ≤ 262144 },
+    pub ghost entered: { AreEntries plans.items entries.items },
+    pub ghost tree: { IsTree (parents_in entries.items) },
+}
+
+impl<'a> TraceWork<'a> {
+    /// The flows in the traces of the builder that is chosen. `Traces` comes exactly where there are over 262,144. Near-linear in
+    /// the flows' nodes, edges and live values.
+    pub fn new(
+        alloc: Global,
+        choice: &Choice,
+        flows: &'a [Flow],
+    ) -> Result<TraceWork<'a>, WorkFault>
+        requires { IsFitChoice choice.now }
+        ensures choice { IfOk result (λ work. work.choice ≡ choice.now) }
+        ensures flows { IfOk result (λ work. flows_in work.plans.items ≡ flows.now) }
+        ensures plans { All IsValidFlow flows.now → IfOk result (λ work. All (IsPlan choice.now.builder) work.plans.items) }
+        ensures numbered { IfOk result (λ work. AreNumbered 0 work.plans.items) }
+        ensures count { IfOk result (λ work. length work.entries.items ≡ traces_in choice.now.builder flows.now) }
+        ensures limit { IfErr result (λ fault. fault ≡ Traces → 262144 < traces_in choice.now.builder flows.now) }
+    {
+        let mut plans = Vec::new(alloc);
+        let mut entries = Vec::new(alloc);
+        for flow in flows {
+            let plan = plan_of(alloc, choice.builder, flow, entries.len() as u32)?;
+            if plan.traces.len() > MOST_TRACES - entries.len() {
+                return Err(WorkFault::Traces);
+            }
+            put_entries(&mut entries, plans.len(), &plan)?;
+            plans.push(plan)?;
+        }
+        Ok(TraceWork {
+            choice: *choice,
+            plans,
+            entries,
+        })
+    }
+}
+
+// Appends the entries of the plan at this place.
+fn put_entries(entries: &mut Vec<Entry>, flow: usize, plan: &Plan) -> Result<(), WorkFault>
+    requires few { length entries.old.items + length plan.now.traces ≤ 262144 }
+    requires first { plan.now.first ≡ length entries.old.items }
+    requires ordered { IsOrdered plan.now }
+    ensures entries { OnOk result (entries.new.items ≡ entries.old.items ++ entries_of flow plan.now) }
+    ensures limit { IfErr result (λ fault. fault ≡ Traces → ⊥) }
+{
+    for number in 0..plan.traces.len() {
+        entries.push(Entry {
+            flow,
+            number,
+            parent: above(plan, number),
+        })?;
+    }
+    Ok(())
+}
+
+// The number of the trace above, through all flows.
+fn above(plan: &Plan, number: usize) -> Option<u32>
+    requires few { plan.now.first + length plan.now.traces ≤ 262144 }
+    requires number { number < length plan.now.traces }
+    requires ordered { IsOrdered plan.now }
+    ensures { result ≡ above_in plan.now number }
+{
+    let parent = plan.parents.as_slice()[number]?;
+    Some(plan.first + parent)
+}
+
+// A copy of a hint.
+fn copied(alloc: Global, hint: Hint) -> Result<TraceHint, AllocError>
+    ensures { IfOk result (λ copy. plain_hint (Some copy) ≡ hints (Some hint.entry)) }
+{
+    Ok(TraceHint {
+        node: hint.node,
+        places: Places {
+            regs: Items::from_slice(alloc, hint.places.regs.as_slice())?,
+            homed: Items::from_slice(alloc, hint.places.homed.as_slice())?,
+        },
+    })
+}
+
+// The hint that is given, if one is.
+fn given<'b>(hint: Option<&'b Option<TraceHint>>) -> Option<&'b TraceHint>
+    ensures { lent result ≡ joined (lent hint.entry) }
+{
+    let hint = hint?;
+    hint.as_ref()
+}
+
+// The hint that the final result of a plan's trace gives to a trace below it.
+fn hint_between<'b>(
+    plan: &Plan,
+    above: usize,
+    done: &'b TraceOut,
+    below: usize,
+    regs: u8,
+) -> Option<Hint<'b>>
+    requires enough { 0 < regs }
+    requires above { above < length plan.now.traces }
+    requires below { below < length plan.now.traces }
+    ensures hint { hints result ≡ if_row regs (hint_by plan.now.flow.now.nodes plan.now.places (trace_at plan.now.traces above) done.now (first_of (nodes_of plan.now below))) }
+    ensures row { IfSome result (λ h. length h.places.now.regs ≡ regs) }
+{
+    let traces = plan.traces.as_slice();
+    let head = head_of(traces[below].nodes.as_slice());
+    hint_from(
+        plan.flow,
+        plan.places.as_slice(),
+        &traces[above],
+        done,
+        head,
+        regs,
+    )
+}
+
+// The result of a plan's trace, whose number through all flows is `trace`, with a hint where there is one.
+fn result(
+    alloc: Global,
+    choice: &Choice,
+    plan: &Plan,
+    entry: Entry,
+    from: Option<u32>,
+    hint: Option<&Places>,
+) -> Result<TraceOut, Memory>
+    requires choice { IsFitChoice choice.now }
+    requires small { plan.now.first + entry.number < 262144 }
+    requires within { entry.number < length plan.now.traces }
+    requires row { IfSome hint (λ q. length q.now.regs ≡ choice.now.regs) }
+    ensures { IsHint choice.now plan.now entry.number (hint_of from (lent hint.entry)) → IfOk result (IsFinal choice.now plan.now entry.number) }
+{
+    let t = TraceIn {
+        flow: plan.flow,
+        live: &plan.live,
+        trace: &plan.traces.as_slice()[entry.number],
+        number: plan.first + entry.number as u32,
+        regs: choice.regs,
+        from,
+    };
+    allocate_trace(alloc, choice, &t, hint)
+}
+
+impl<'a> Work for TraceWork<'a> {
+    type Done = TraceOut;
+
+    type Hint = Option<TraceHint>;
+
+    ghost parents = { λ w. parents_in w.entries.items };
+
+    ghost is_final = { λ w trace out. IsFinalOf w.choice w.plans.items w.entries.items trace out };
+
+    ghost is_hint = { λ w trace hint. IsHintOf w.choice w.plans.items w.entries.items trace hint };
+
+    fn count(&self) -> u32 {
+        self.entries.len() as u32
+    }
+
+    fn parent(&self, trace: u32) -> Option<u32> {
+        self.entries[trace as usize].parent
+    }
+
+    fn run<'b>(
+        &'b self,
+        alloc: Global,
+        trace: u32,
+        hint: Option<&'b Option<TraceHint>>,
+    ) -> Result<TraceOut, Memory> {
+        let entry = self.entries[trace as usize];
+        let plan = &self.plans[entry.flow];
+        match given(hint) {
+            Some(hint) => {
+                let (node, places) = (Some(hint.node), Some(&hint.places));
+                result(alloc, &self.choice, plan, entry, node, places)
+            }
+            None => result(alloc, &self.choice, plan, entry, None, None),
+        }
+    }
+
+    fn hint(
+        &self,
+        alloc: Global,
+        done: &TraceOut,
+        child: u32,
+    ) -> Result<Option<TraceHint>, Memory> {
+        let entry = self.entries[child as usize];
+        let Some(parent) = entry.parent else {
+            return Ok(None);
+        };
+        let above = self.entries[parent as usize].number;
+        let plan = &self.plans[entry.flow];
+        match hint_between(plan, above, done, entry.number, self.choice.regs) {
+            Some(hint) => Ok(Some(copied(alloc, hint)?)),
+            None => Ok(None),
+        }
+    }
+}
