@@ -10,7 +10,7 @@ use std::process::Abort;
 use std::sync::Wait;
 use std::test::Fail;
 use std::thread::Threads;
-use trc_base::{Files, MemFiles, MemSink, MemSource, OpenGate};
+use trc_base::{Files, Gate, MeetGate, MemFiles, MemSink, MemSource, OpenGate};
 use trc_cli::{Outcome, trc};
 
 /// How a call ended, and what the output and the error sink took.
@@ -31,21 +31,26 @@ fn call<R: Threads + Wait + AllocGlobal + Sync>(
     room: usize,
     failing: Vec<u64>,
 ) -> Result<Seen, Fail> {
+    call_through(rt, texts, files, input, room, failing, &OpenGate)
+}
+
+/// Calls `trc` so, with workers that pass this gate.
+fn call_through<R: Threads + Wait + AllocGlobal + Sync, G: Gate>(
+    rt: &R,
+    texts: &[&str],
+    files: &mut MemFiles,
+    input: &mut MemSource,
+    room: usize,
+    failing: Vec<u64>,
+    gate: &G,
+) -> Result<Seen, Fail> {
     let mut words = Vec::new(rt.alloc());
     for text in texts {
         words.push(String::from_str(rt.alloc(), text)?)?;
     }
     let mut out = MemSink::new(rt.alloc(), room, 7, failing)?;
     let mut err = MemSink::new(rt.alloc(), 200, 3, Vec::new(rt.alloc()))?;
-    let outcome = trc(
-        rt,
-        words.as_slice(),
-        files,
-        input,
-        &mut out,
-        &mut err,
-        &OpenGate,
-    );
+    let outcome = trc(rt, words.as_slice(), files, input, &mut out, &mut err, gate);
     let out = Vec::from_slice(rt.alloc(), out.bytes())?;
     let err = Vec::from_slice(rt.alloc(), err.bytes())?;
     Ok(Seen { outcome, out, err })
@@ -633,4 +638,30 @@ fn traces_and_made_modules_are_told(rt: HostRuntime) -> Result<(), Fail> {
         b"",
         refused(7, "trc: steps spent\n"),
     )
+}
+
+// Two workers are inside at once, each at a trace of its own.
+#[test]
+fn two_inside(rt: HostRuntime) -> Result<(), Fail> {
+    let text = "MODULE T; IMPORT Out;
+        PROCEDURE P; BEGIN Out.Int(1, 0) END P;
+        PROCEDURE Q; BEGIN Out.Int(2, 0) END Q;
+        BEGIN P; Q END T.";
+    let mut files = MemFiles::new(rt.alloc(), Vec::new(rt.alloc()));
+    files.put("T.Mod", text.as_bytes())?;
+    let mut input = MemSource::new(Vec::new(rt.alloc()), 5, Vec::new(rt.alloc()));
+    let gate = MeetGate::new(1_000_000);
+    let seen = call_through(
+        &rt,
+        &["run", "T.Mod", "--jobs", "2"],
+        &mut files,
+        &mut input,
+        100,
+        Vec::new(rt.alloc()),
+        &gate,
+    )?;
+    assert_eq!(rt; seen.outcome.status, 0);
+    assert_eq!(rt; seen.out.as_slice(), b"12");
+    assert!(rt; gate.met());
+    Ok(())
 }
