@@ -7,12 +7,13 @@
 Writes `stdin` and `stdout` into FOLDER (that crate's, if none is given): the modules of bench/rows, made modules, and programs at
 limits and beyond; those that have no image with one choice, the others with each policy, among them both builders and 4 to 16
 registers. `bench` prints the line of a made module of so many procedures, for bench/compile.sh. bench/other_compiler.py says
-where the other compiler is; how lines are written is said in crates/compile_vectors.
+where the other compiler is; how lines are written is said in crates/compile_vectors and crates/module_texts.
 """
 import os
 import sys
 
-from other_compiler import TOP, folder_of, sum_of
+from other_compiler import folder_of, sum_of
+from module_texts import rows, texts_line
 import backend  # noqa: E402
 import check  # noqa: E402
 import trc  # noqa: E402
@@ -20,18 +21,6 @@ from scan import Fault  # noqa: E402
 from lower import Limit  # noqa: E402
 
 CHOICES = ['linear bi 16', 'plain bi 4', 'bottomup uni 8', 'mixed bi 5']
-
-
-def rows():
-    """The modules' texts of each piece in bench/rows."""
-    top = os.path.join(TOP, 'bench', 'rows')
-    names = sorted(os.listdir(top)) + [os.path.join('judged', name) for name in sorted(os.listdir(os.path.join(top, 'judged')))]
-    for name in names:
-        if name.endswith('.txt') and name != 'spoils.txt':
-            for piece in open(os.path.join(top, name)).read().split('---\n'):
-                first, _, text = piece.strip('\n').partition('\n')
-                if first and text and '[' not in first and 'MODULE' in text:
-                    yield [m.strip('\n').encode() + b'\n' for m in text.split('===\n')]
 
 
 def limits():
@@ -70,17 +59,13 @@ def answer(sources, choice):
         len(image.code), image.frame, image.globals, len(image.constants), image.flags, sum_of(image))
 
 
-def written(text):
-    return text.decode().replace('\\', '\\\\').replace('\t', '\\t').replace('\n', '\\n')
-
-
 def main():
     folder = folder_of('compile_vectors')
     lines, answers = [], []
-    pieces = list(rows()) + [[trc.bulk_text(i, 2 + i % 4)] for i in range(1, 9)] + list(limits())
+    pieces = [texts for _, texts in rows()] + [[trc.bulk_text(i, 2 + i % 4)] for i in range(1, 9)] + list(limits())
     for sources in pieces:
         for choice in CHOICES:
-            lines.append(choice + ''.join('\t' + written(text) for text in sources) + '\n')
+            lines.append(texts_line(choice, sources))
             answers.append(answer(sources, choice) + '\n')
             if not answers[-1].startswith('image'):
                 break
@@ -92,6 +77,6 @@ def main():
 
 
 if sys.argv[1:2] == ['bench']:
-    print('%s bi 16\t%s' % (sys.argv[2], written(trc.bulk_text(7, int(sys.argv[3])))))
+    print(texts_line('%s bi 16' % sys.argv[2], [trc.bulk_text(7, int(sys.argv[3]))]), end='')
 else:
     main()

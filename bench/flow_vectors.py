@@ -15,12 +15,12 @@ A procedure is one in the same way, with its operations' names and numbers (0 wh
     proc VALUES ARGS {block FREQ ENTER [params {V}] {op NAME NUMBER DEF {V}} END}
 
 The answer is `invalid`, or `valid` with the nodes of its flow: FREQ ENTER PARAMS PREDS {op DEF USES} END, with `op!` for a
-call, and commas in lists. Procedures that break one rule each are made here, from one that keeps them all.
+call, and commas in the lists before an END. Procedures that break one rule each are made here, from one that keeps them all.
 """
 import copy
 import os
 
-from other_compiler import end_of, folder_of, line_of
+from other_compiler import end_of, folder_of, line_of, proc_line
 import backend  # noqa: E402
 import check  # noqa: E402
 import lower  # noqa: E402
@@ -54,17 +54,6 @@ def answer_of(flow):
     return lines
 
 
-def line_of_proc(proc):
-    """A procedure in words."""
-    out = ['proc', proc.values, proc.args]
-    for b in proc.blocks:
-        out += ['block', b.freq, '-' if b.enter is None else b.enter, 'params'] + b.params
-        for o in b.ops:
-            out += ['op', o.code, 0 if o.n is None else o.n, '-' if o.d is None else o.d] + o.uses
-        out += end_of(b.end)
-    return ' '.join(map(str, out))
-
-
 def commas(xs):
     return ','.join(map(str, xs)) or '-'
 
@@ -78,9 +67,7 @@ def answer_of_proc(proc):
         out += ['node', b.freq, '-' if b.enter is None else b.enter, commas(b.params), commas(b.preds)]
         for o in b.ops:
             out += ['op!' if o.call else 'op', '-' if o.d is None else o.d, commas(o.uses)]
-        e = b.end
-        out += ['jump', e.to, commas(e.args)] if e.kind == 'Jump' else end_of(e)
-        out += ['-'] if e.kind == 'Return' and e.a is None else []
+        out += end_of(b.end)
     return ' '.join(map(str, out))
 
 
@@ -212,12 +199,12 @@ def main():
             answers += answer_of(flow)
         procs += lower.lower(check.check_sources([text]), 12).procs
     for proc in procs:
-        lines.append(line_of_proc(proc))
+        lines.append(proc_line(proc))
         answers.append(answer_of_proc(proc))
     # a header's entering block must be there too, of which the other compiler makes no test
     far = whole()
     far.blocks[1].enter = 6
-    lines.append(line_of_proc(far))
+    lines.append(proc_line(far))
     answers.append('invalid')
     for name, rows in (('stdin', lines), ('stdout', answers)):
         with open(os.path.join(folder, name), 'w') as file:

@@ -12,7 +12,8 @@ is said in crates/link_vectors and crates/flow_text.
 import os
 import sys
 
-from other_compiler import TOP, folder_of, line_of, sum_of
+from other_compiler import folder_of, line_of, sum_of
+from module_texts import pieces_of
 import backend  # noqa: E402
 import check  # noqa: E402
 import trc  # noqa: E402
@@ -23,12 +24,7 @@ WHOLE = {'loop', 'types', 'modules', 'telling'}  # printed with all their words
 
 def sources():
     """Names and texts of modules, as far as they are programs."""
-    found = []
-    for name in ROWS:
-        for piece in open(os.path.join(TOP, 'bench', 'rows', name)).read().split('---\n'):
-            first, _, text = piece.strip('\n').partition('\n')
-            if first and text and '[' not in first:
-                found.append((first.split()[0], [m.strip('\n').encode() + b'\n' for m in text.split('===\n')]))
+    found = [piece for name in ROWS for piece in pieces_of(name)]
     return found + [('made%d' % i, [trc.bulk_text(i, 2 + i % 4)]) for i in range(1, 25)]
 
 

@@ -110,10 +110,15 @@ def copies(found):
     return ''.join(found[2].replace('#', str(i)) for i in range(int(found[1])))
 
 
+def spread(short):
+    """A text with its copies."""
+    return re.sub(r'\[(\d+)\*([^]]*)\]', copies, short)
+
+
 def limits(rows):
     checked_rows.listed = in_runs
     for (name, *_), short in rows_of(rows):
-        source = re.sub(r'\[(\d+)\*([^]]*)\]', copies, short)
+        source = spread(short)
         p, text = program_of(source)
         want = 'None'
         try:

@@ -1,4 +1,4 @@
-"""The plain compiler, outside of this repository, that scripts here take expected values from, and flows in its words.
+"""The plain compiler, outside of this repository, that scripts here take expected values from, and flows and procedures in words.
 
 It is in ../shared/oracle, seen from the top of the repository, or in the folder that ORACLE names. Importing this makes its
 modules importable; where it isn't there, the script ends and has written nothing.
@@ -35,6 +35,17 @@ def node_of(b, operation):
 def line_of(head, flow, operation):
     """A flow in words, behind these."""
     return ' '.join(map(str, head + [word for b in flow.blocks for word in node_of(b, operation)]))
+
+
+def proc_line(proc, *head):
+    """A procedure in words, with these in its head."""
+    out = ['proc', proc.values, proc.args, *head]
+    for b in proc.blocks:
+        out += ['block', b.freq, '-' if b.enter is None else b.enter, 'params'] + b.params
+        for o in b.ops:
+            out += ['op', o.code, 0 if o.n is None else o.n % (1 << 64), '-' if o.d is None else o.d] + o.uses
+        out += end_of(b.end)
+    return ' '.join(map(str, out))
 
 
 def sum_of(image):

@@ -11,7 +11,8 @@ is; how lines are written is said in crates/trc_vectors.
 import itertools
 import os
 
-from other_compiler import TOP, folder_of
+from other_compiler import folder_of
+from module_texts import pieces_of, row_files
 import trc  # noqa: E402
 
 CHOICES = list(itertools.product(['plain', 'linear', 'bottomup', 'mixed'], ['bi', 'uni'], ['16', '4', '8']))
@@ -125,19 +126,12 @@ def images():
 
 
 def stored():
-    """The modules of bench/rows, with one choice after another."""
-    top = os.path.join(TOP, 'bench', 'rows')
-    choices = itertools.cycle(CHOICES)
-    for name in sorted(os.listdir(top)):
-        if name.endswith('.txt') and name != 'spoils.txt':
-            for piece in open(os.path.join(top, name)).read().split('---\n'):
-                first, _, text = piece.strip('\n').partition('\n')
-                if first and text and '[' not in first and 'MODULE' in text:
-                    sources = [m.strip('\n').encode() + b'\n' for m in text.split('===\n')]
-                    names = ['M%d.Mod' % i for i in range(len(sources))]
-                    policy, traces, regs = next(choices)
-                    words = ['run', *names, '--policy', policy, '--traces', traces, '--regs', regs, '--steps', '20000']
-                    yield words, dict(zip(names, sources)), b'some input\n'
+    """The modules of bench/rows but those of the judgement, with one choice after another."""
+    pieces = [texts for name in row_files() if not os.path.dirname(name) for _, texts in pieces_of(name)]
+    for sources, (policy, traces, regs) in zip(pieces, itertools.cycle(CHOICES)):
+        names = ['M%d.Mod' % i for i in range(len(sources))]
+        words = ['run', *names, '--policy', policy, '--traces', traces, '--regs', regs, '--steps', '20000']
+        yield words, dict(zip(names, sources)), b'some input\n'
 
 
 def made():

@@ -1,15 +1,14 @@
 //! Compiles the modules of each line of its input, and prints what the texts come to: the image's sizes and a sum over its words,
 //! or why there is none.
 //!
-//! A line is a policy, a builder, a number of registers, and then the modules' texts, each behind a tab; in a text, `\n` stands
-//! for a line's end, `\t` for a tab and `\\` for a backslash. The stored input are modules that break each rule, programs that use
-//! the whole language, and programs beyond limits; what is wanted is what another compiler, written in Python from the rules alone,
-//! says of them (`bench/compile_vectors.py` makes both where it is).
+//! A line is a policy, a builder, a number of registers, and then the modules' texts (`module_texts`). The stored input are modules
+//! that break each rule, programs that use the whole language, and programs beyond limits; what is wanted is what another compiler,
+//! written in Python from the rules alone, says of them (`bench/compile_vectors.py` makes both where it is).
 #![tactic(auto)]
 
 ghost use Rattle.std.specs.Prelude.{◌≤◌};
 
-use items::Items;
+use module_texts::texts_of;
 use outside::OpenGate;
 use source_image::{Builder, Choice, Compiled, Image, Policy, Refusal, source_image};
 use std::alloc::{AllocError, Global};
@@ -47,27 +46,6 @@ fn choice_in(words: &str) -> Option<Choice> {
         regs: words.next()?.parse::<u8>().ok()?,
         jobs: 1,
     })
-}
-
-/// A text as it is written in a line.
-fn text_of(alloc: Global, written: &str) -> Result<Items<u8>, AllocError> {
-    let mut text = Vec::new(alloc);
-    let mut escaped = false;
-    for byte in written.as_bytes() {
-        if escaped {
-            escaped = false;
-            text.push(match *byte {
-                b'n' => b'\n',
-                b't' => b'\t',
-                other => other,
-            })?;
-        } else if *byte == b'\\' {
-            escaped = true;
-        } else {
-            text.push(*byte)?;
-        }
-    }
-    Ok(Items::from_vec(text))
 }
 
 /// A sum over an image's words and constants.
@@ -109,8 +87,7 @@ fn answer<R: Threads + Wait + Sync>(
     alloc: Global,
     line: &str,
 ) -> Result<String, AllocError> {
-    let mut parts = line.split('\t');
-    let choice = match parts.next() {
+    let choice = match line.split('\t').next() {
         Some(words) => choice_in(words),
         None => None,
     };
@@ -120,10 +97,7 @@ fn answer<R: Threads + Wait + Sync>(
     if choice.regs < 4 || choice.regs > 16 {
         return Ok(String::new(alloc));
     }
-    let mut texts = Vec::new(alloc);
-    for written in parts {
-        texts.push(text_of(alloc, written)?)?;
-    }
+    let texts = texts_of(alloc, line)?;
     let made = source_image(rt, alloc, &choice, texts.as_slice(), &OpenGate);
     told(alloc, &made)
 }

@@ -1,9 +1,9 @@
 //! Ends as words.
 
-use crate::words::Words;
+use crate::words::{Words, push_numbers};
 use lir_core::{Items, Leave};
 use outside::Memory;
-use std::alloc::Global;
+use std::alloc::{AllocError, Global};
 
 /// The end that comes next.
 pub fn end_of(alloc: Global, words: &mut Words) -> Result<Leave, Memory> {
@@ -34,4 +34,25 @@ pub fn end_of(alloc: Global, words: &mut Words) -> Result<Leave, Memory> {
     let _ = words.takes("trap");
     let kind = u16::try_from(words.or_zero()).unwrap_or(u16::MAX);
     Ok(Leave::Trap(kind))
+}
+
+/// Adds an end, behind a blank.
+pub fn push_end(text: &mut String, end: &Leave) -> Result<(), AllocError> {
+    match end {
+        Leave::Jump { to, args } => {
+            write!(text, " jump {to}")?;
+            push_numbers(text, args.as_slice())
+        }
+        Leave::Branch {
+            cond,
+            a,
+            b,
+            yes,
+            no,
+        } => write!(text, " branch {cond} {a} {b} {yes} {no}"),
+        Leave::Nonzero { a, yes, no } => write!(text, " nonzero {a} {yes} {no}"),
+        Leave::Return(Some(value)) => write!(text, " return {value}"),
+        Leave::Return(None) => text.push_str(" return"),
+        Leave::Trap(kind) => write!(text, " trap {kind}"),
+    }
 }

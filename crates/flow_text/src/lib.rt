@@ -12,7 +12,7 @@ mod ends;
 mod flows;
 mod words;
 
-pub use codes::code_of;
-pub use ends::end_of;
+pub use codes::{code_of, name_of};
+pub use ends::{end_of, push_end};
 pub use flows::{flow_in, flow_of};
-pub use words::Words;
+pub use words::{Words, push_numbers, push_optional};

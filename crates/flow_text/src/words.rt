@@ -1,7 +1,7 @@
 //! A line as words.
 
 use outside::Memory;
-use std::alloc::Global;
+use std::alloc::{AllocError, Global};
 use std::str::SplitWhitespace;
 
 /// The words of a line; what is read goes on behind a word that is looked at.
@@ -66,4 +66,20 @@ impl<'a> Words<'a> {
         }
         Ok(numbers)
     }
+}
+
+/// Adds a number, or `-` for none, behind a blank.
+pub fn push_optional(text: &mut String, number: Option<u32>) -> Result<(), AllocError> {
+    match number {
+        Some(number) => write!(text, " {number}"),
+        None => text.push_str(" -"),
+    }
+}
+
+/// Adds numbers, each behind a blank.
+pub fn push_numbers(text: &mut String, numbers: &[u32]) -> Result<(), AllocError> {
+    for number in numbers {
+        write!(text, " {number}")?;
+    }
+    Ok(())
 }

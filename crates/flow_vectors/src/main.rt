@@ -24,7 +24,7 @@ use std::{env, io};
 use trace_build::{Builder, Trace, build, parents};
 
 /// Adds numbers between commas, or `-` where there are none.
-pub(crate) fn push_numbers(text: &mut String, numbers: &[u32]) -> Result<(), AllocError> {
+pub(crate) fn push_list(text: &mut String, numbers: &[u32]) -> Result<(), AllocError> {
     if numbers.is_empty() {
         return text.push_str("-");
     }
@@ -43,7 +43,7 @@ fn cut(alloc: Global, name: &str, builder: Builder, flow: &Flow) -> Result<Strin
     let mut text = String::from_str(alloc, name)?;
     for trace in &traces {
         text.push_str(" ")?;
-        push_numbers(&mut text, trace.nodes.as_slice())?;
+        push_list(&mut text, trace.nodes.as_slice())?;
     }
     push_parents(alloc, &mut text, flow, traces.as_slice())?;
     Ok(text)
@@ -71,7 +71,7 @@ fn lives(alloc: Global, flow: &Flow) -> Result<String, Memory> {
     let mut text = String::from_str(alloc, "live")?;
     for node in 0..u32::try_from(flow.nodes.len()).unwrap_or(0) {
         text.push_str(" ")?;
-        push_numbers(
+        push_list(
             &mut text,
             live_into(alloc, &sets, node, flow.values)?.as_slice(),
         )?;

@@ -1,43 +1,13 @@
 //! Whether procedures are valid, and the flows of those that are.
 
-use crate::push_numbers;
+use crate::push_list;
 use a64_select::select;
-use lir_core::{Flow, Leave, Node};
+use flow_text::{push_end, push_optional};
+use lir_core::{Flow, Node};
 use outside::Memory;
 use ssa_core::Proc;
 use ssa_valid::is_valid;
 use std::alloc::{AllocError, Global};
-
-/// Adds a number, or `-` where there is none.
-fn push_optional(text: &mut String, number: Option<u32>) -> Result<(), AllocError> {
-    match number {
-        Some(number) => write!(text, " {number}"),
-        None => text.push_str(" -"),
-    }
-}
-
-/// Adds how a node ends, as it is written in the input.
-fn push_end(text: &mut String, end: &Leave) -> Result<(), AllocError> {
-    match end {
-        Leave::Jump { to, args } => {
-            write!(text, " jump {to} ")?;
-            push_numbers(text, args.as_slice())
-        }
-        Leave::Branch {
-            cond,
-            a,
-            b,
-            yes,
-            no,
-        } => write!(text, " branch {cond} {a} {b} {yes} {no}"),
-        Leave::Nonzero { a, yes, no } => write!(text, " nonzero {a} {yes} {no}"),
-        Leave::Return(value) => {
-            text.push_str(" return")?;
-            push_optional(text, *value)
-        }
-        Leave::Trap(kind) => write!(text, " trap {kind}"),
-    }
-}
 
 /// Adds a node: its frequency, the node that enters it, its parameters and predecessors, its operations' values, each as
 /// what it makes and what it reads, calls marked by `!`, and its end.
@@ -46,14 +16,14 @@ fn push_node(text: &mut String, node: &Node) -> Result<(), AllocError> {
     write!(text, " node {freq}")?;
     push_optional(text, node.enter)?;
     text.push_str(" ")?;
-    push_numbers(text, node.params.as_slice())?;
+    push_list(text, node.params.as_slice())?;
     text.push_str(" ")?;
-    push_numbers(text, node.preds.as_slice())?;
+    push_list(text, node.preds.as_slice())?;
     for lir in node.lirs.as_slice() {
         text.push_str(if lir.call { " op!" } else { " op" })?;
         push_optional(text, lir.def)?;
         text.push_str(" ")?;
-        push_numbers(text, lir.uses.as_slice())?;
+        push_list(text, lir.uses.as_slice())?;
     }
     push_end(text, &node.end)
 }

@@ -1,0 +1,83 @@
+#!/usr/bin/env python3
+"""Makes the input of crates/lower_vectors and the procedures that are wanted, by another compiler.
+
+    bench/lower_vectors.py [FOLDER]
+
+Writes `stdin` and `stdout` into FOLDER (that crate's, if none is given): legal modules of bench/rows, examples, and programs at limits
+and beyond; prints how often there is each operation and end, and which operations there aren't. bench/other_compiler.py says where
+the other compiler is; how lines are written is said in crates/lower_vectors and crates/module_texts.
+"""
+import collections
+import os
+import sys
+
+from other_compiler import folder_of, proc_line
+from module_texts import WHOLE, example, pieces_of, texts_line
+import check  # noqa: E402
+import lower  # noqa: E402
+import ssa  # noqa: E402
+from lowered_rows import spread  # noqa: E402
+
+ROWS = [WHOLE, 'programs.txt', 'more_programs.txt', 'lowered.txt', 'lowered_telling.txt', 'telling.txt', 'frames.txt', 'linked.txt']
+EXAMPLES = [['Answer'], ['Calc'], ['Collatz'], ['Count'], ['Functions'], ['Gcd'], ['Interpreter'], ['List'], ['Lucky'], ['Matrices'], ['Range'], ['Sets'],
+            ['Shapes'], ['Sorting'], ['Squares'], ['Texts'], ['Tree'], ['Wrap'], ['Stack', 'UseStack']]
+
+
+def sums(n):
+    """A procedure with so many values: a sum of its parameter."""
+    return b'MODULE S; PROCEDURE P(a: INTEGER): INTEGER; RETURN a%s END P; END S.\n' % (b'+a' * (n - 1))
+
+
+def tests(n):
+    """A procedure with so many blocks: IFs of three, some of which have one more."""
+    ifs, more = (n - 1) // 3, (n - 1) % 3
+    return b'MODULE B; PROCEDURE P(a: BOOLEAN); BEGIN %s END P; END B.\n' % b'; '.join([b'IF a & a THEN END'] * more + [b'IF a THEN END'] * (ifs - more))
+
+
+def limits():
+    """Programs at a limit, and one beyond; of bench/rows those of moderate length that show another limit, or which comes first."""
+    for n in (4000, 4001):
+        yield 'values_%d' % n, [sums(n)]
+        yield 'blocks_%d' % n, [tests(n)]
+    for name, texts in pieces_of('limits.txt'):
+        if name not in ('values', 'values_just', 'blocks', 'blocks_just', 'procedures', 'procedures_just', 'constants_just', 'constants_over'):
+            yield name, [spread(text.decode()).encode() for text in texts]
+
+
+def cases():
+    """Names and texts of legal modules."""
+    for name in ROWS:
+        yield from pieces_of(name)
+    for names in EXAMPLES:
+        yield names[-1], example(*names)
+    yield from limits()
+
+
+def answer(texts, counts):
+    """The lines that are wanted; counts what procedures are made of."""
+    try:
+        procs = lower.lower(check.check_sources(texts)).procs
+    except lower.Limit as limit:
+        return ['limit %d at %d' % (limit.number, limit.index)]
+    for block in [b for p in procs for b in p.blocks]:
+        counts.update([block.end.kind] + [o.code for o in block.ops])
+    heads = [('counted' if p.counted else 'body', p.local_cells, p.local_bytes) for p in procs]
+    return ['procedures %d' % len(procs)] + [proc_line(p, *head) for p, head in zip(procs, heads)]
+
+
+def main():
+    folder = folder_of('lower_vectors')
+    lines, answers, counts = [], [], collections.Counter()
+    for name, texts in cases():
+        lines.append(texts_line(name, texts))
+        answers += answer(texts, counts)
+    with open(os.path.join(folder, 'stdin'), 'w') as out:
+        out.writelines(lines)
+    with open(os.path.join(folder, 'stdout'), 'w') as out:
+        out.writelines(line + '\n' for line in answers)
+    print(len(lines), 'programs,', sum(line.startswith('limit') for line in answers), 'beyond a limit')
+    print(', '.join('%s %d' % found for found in counts.most_common()), file=sys.stderr)
+    print('none of', ', '.join(sorted(set(ssa.CODES) - set(counts))), file=sys.stderr)
+
+
+main()
