@@ -12,15 +12,13 @@ import os
 import sys
 
 from other_compiler import folder_of, proc_line
-from module_texts import WHOLE, example, pieces_of, texts_line
+from module_texts import EXAMPLE_NAMES, WHOLE, example, pieces_of, texts_line
 import check  # noqa: E402
 import lower  # noqa: E402
 import ssa  # noqa: E402
 from lowered_rows import spread  # noqa: E402
 
 ROWS = [WHOLE, 'programs.txt', 'more_programs.txt', 'lowered.txt', 'lowered_telling.txt', 'telling.txt', 'frames.txt', 'linked.txt']
-EXAMPLES = [['Answer'], ['Calc'], ['Collatz'], ['Count'], ['Functions'], ['Gcd'], ['Interpreter'], ['List'], ['Lucky'], ['Matrices'], ['Range'], ['Sets'],
-            ['Shapes'], ['Sorting'], ['Squares'], ['Texts'], ['Tree'], ['Wrap'], ['Stack', 'UseStack']]
 
 
 def sums(n):
@@ -48,7 +46,7 @@ def cases():
     """Names and texts of legal modules."""
     for name in ROWS:
         yield from pieces_of(name)
-    for names in EXAMPLES:
+    for names in EXAMPLE_NAMES:
         yield names[-1], example(*names)
     yield from limits()
 

@@ -8,9 +8,9 @@
 
 ghost use Rattle.std.specs.Prelude.{◌≤◌};
 
-use module_texts::texts_of;
+use module_texts::{sum_of, texts_of};
 use outside::OpenGate;
-use source_image::{Builder, Choice, Compiled, Image, Policy, Refusal, source_image};
+use source_image::{Builder, Choice, Compiled, Policy, Refusal, source_image};
 use std::alloc::{AllocError, Global};
 use std::io;
 use std::io::{BufRead, BufReader};
@@ -48,25 +48,13 @@ fn choice_in(words: &str) -> Option<Choice> {
     })
 }
 
-/// A sum over an image's words and constants.
-fn sum_of(image: &Image) -> u64 {
-    let mut sum: u64 = 0xcbf29ce484222325;
-    for word in image.code.as_slice() {
-        sum = (sum ^ u64::from(*word)).wrapping_mul(0x100000001b3);
-    }
-    for byte in image.constants.as_slice() {
-        sum = (sum ^ u64::from(*byte)).wrapping_mul(0x100000001b3);
-    }
-    sum
-}
-
 /// The line that tells what texts come to.
 fn told(alloc: Global, made: &Result<Compiled, Refusal>) -> Result<String, AllocError> {
     match made {
         Ok(Compiled { image, .. }) => {
             let words = image.code.as_slice().len();
             let constants = image.constants.as_slice().len();
-            let sum = sum_of(image);
+            let sum = sum_of(image.code.as_slice(), image.constants.as_slice());
             format!(in alloc;
                 "image {words} frame {} globals {} constants {constants} flags {} sum {sum}",
                 image.frame, image.globals, image.flags
