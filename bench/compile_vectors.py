@@ -2,15 +2,12 @@
 """Makes the input of crates/compile_vectors and the answers that are wanted, by another compiler.
 
     bench/compile_vectors.py [FOLDER]
-    bench/compile_vectors.py bench POLICY PROCEDURES
 
 Writes `stdin` and `stdout` into FOLDER (that crate's, if none is given): the modules of bench/rows, made modules, and programs at
 limits and beyond; those that have no image with one choice, the others with each policy, among them both builders and 4 to 16
-registers. `bench` prints the line of a made module of so many procedures, for bench/compile.sh. bench/other_compiler.py says
-where the other compiler is; how lines are written is said in crates/compile_vectors.
+registers. bench/other_compiler.py says where the other compiler is; how lines are written is said in crates/compile_vectors.
 """
 import os
-import sys
 
 from other_compiler import TOP, folder_of, sum_of
 import backend  # noqa: E402
@@ -91,7 +88,4 @@ def main():
     print(len(pieces), 'pieces,', len(lines), 'lines')
 
 
-if sys.argv[1:2] == ['bench']:
-    print('%s bi 16\t%s' % (sys.argv[2], written(trc.bulk_text(7, int(sys.argv[3])))))
-else:
-    main()
+main()
