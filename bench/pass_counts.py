@@ -14,20 +14,17 @@ import check  # noqa: E402
 import machine  # noqa: E402
 import trc  # noqa: E402
 
-POLICIES = {'Plain': 'plain', 'Linear': 'linear', 'BottomUp': 'bottomup', 'Mixed': 'mixed'}
-
-
-def counted(name):
+def counted(policy):
     """The lines of a policy."""
-    image = backend.compile_program(check.check_sources([trc.bulk_text(7, 100)]), POLICIES[name], 'bi', 16)
+    image = backend.compile_program(check.check_sources([trc.bulk_text(7, 100)]), policy, 'bi', 16)
     run = machine.Machine(image)
     assert run.run(10 ** 9) == ('Ended',)
-    return '%s\nwords %d\noutput %ssteps %d\n' % (name, len(image.code), bytes(run.out).decode(), run.steps)
+    return '7 100 %s\nwords %d\noutput %ssteps %d\n' % (policy, len(image.code), bytes(run.out).decode(), run.steps)
 
 
 def main():
     with open(os.path.join(folder_of('pass_times'), 'stdout'), 'w') as out:
-        out.writelines(map(counted, POLICIES))
+        out.writelines(map(counted, ['plain', 'linear', 'bottomup', 'mixed']))
 
 
 main()

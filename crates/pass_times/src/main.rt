@@ -22,15 +22,20 @@ use bulk_text::bulk_text;
 use items::Items;
 use passes::compiled;
 use running::steps_of;
-use source_image::{Builder, Choice, Image, Policy};
+use source_image::Image;
 use std::alloc::{AllocError, Global};
 use std::env;
 use timing::{MOST_BYTES, time_all, time_check, time_passes};
 use trc_base::{HostSink, HostSource, Sink, read_all, write_all};
 use words::wanted;
 
-/// The size of the stored run's module.
-const SIZE: u32 = 100;
+/// The words of the stored run's modules.
+const CALLS: [&str; 4] = [
+    "7 100 plain",
+    "7 100 linear",
+    "7 100 bottomup",
+    "7 100 mixed",
+];
 
 // The text of a made module.
 fn made_text(alloc: Global, seed: u64, size: u32) -> Result<[Items<u8>; 1], AllocError>
@@ -53,25 +58,17 @@ fn tell_image<R: Print, O: Sink>(rt: &R, alloc: Global, image: Image, out: &mut 
     Ok(())
 }
 
-// The stored run.
-fn tell_policies<R: Print, O: Sink>(rt: &R, alloc: Global, out: &mut O) -> Result<()> {
-    for policy in [
-        Policy::Plain,
-        Policy::Linear,
-        Policy::BottomUp,
-        Policy::Mixed,
-    ] {
-        let choice = Choice {
-            policy,
-            builder: Builder::Bi,
-            regs: 16,
-            jobs: 4,
-        };
-        println!(rt; "{policy:?}")?;
-        let made = compiled(alloc, &choice, &made_text(alloc, 7, SIZE)?)?;
-        tell_image(rt, alloc, made.image, out)?;
+// Compiles the module of these words, and tells of its image.
+fn tell_call<R: Print, O: Sink>(rt: &R, alloc: Global, call: &str, out: &mut O) -> Result<()> {
+    println!(rt; "{call}")?;
+    let mut words = Vec::new(alloc);
+    for word in call.split(' ') {
+        words.push(String::from_str(alloc, word)?)?;
     }
-    Ok(())
+    let wanted = wanted(alloc, words.as_slice())?;
+    let text = made_text(alloc, wanted.seed, wanted.size)?;
+    let made = compiled(alloc, &wanted.choice, &text)?;
+    tell_image(rt, alloc, made.image, out)
 }
 
 fn main(rt: HostRuntime) -> Result<()> {
@@ -79,7 +76,10 @@ fn main(rt: HostRuntime) -> Result<()> {
     let mut out = HostSink::new(&rt, false);
     let words = env::args(&rt)?.skip(1).collect::<Vec<String>>(alloc)?;
     let Some(first) = words.first() else {
-        return tell_policies(&rt, alloc, &mut out);
+        for call in CALLS {
+            tell_call(&rt, alloc, call, &mut out)?;
+        }
+        return Ok(());
     };
     match first.as_str() {
         "check" => {
