@@ -27,7 +27,7 @@ use std::alloc::{AllocError, Global};
 use std::env;
 use timing::{MOST_BYTES, time_all, time_check, time_passes};
 use trc_base::{HostSink, HostSource, Sink, read_all, write_all};
-use words::wanted;
+use words::made_module;
 
 /// The words of the stored run's modules.
 const CALLS: [&str; 4] = [
@@ -65,7 +65,7 @@ fn tell_call<R: Print, O: Sink>(rt: &R, alloc: Global, call: &str, out: &mut O) 
     for word in call.split(' ') {
         words.push(String::from_str(alloc, word)?)?;
     }
-    let wanted = wanted(alloc, words.as_slice())?;
+    let wanted = made_module(alloc, words.as_slice())?;
     let text = made_text(alloc, wanted.seed, wanted.size)?;
     let made = compiled(alloc, &wanted.choice, &text)?;
     tell_image(rt, alloc, made.image, out)
@@ -88,19 +88,19 @@ fn main(rt: HostRuntime) -> Result<()> {
             Ok(())
         }
         "text" => {
-            let wanted = wanted(alloc, &words[1..])?;
+            let wanted = made_module(alloc, &words[1..])?;
             let text = made_text(alloc, wanted.seed, wanted.size)?;
             write_all(&mut out, text[0].as_slice())?;
             Ok(())
         }
         "all" => {
-            let wanted = wanted(alloc, &words[1..])?;
+            let wanted = made_module(alloc, &words[1..])?;
             let text = made_text(alloc, wanted.seed, wanted.size)?;
             let image = time_all(&rt, alloc, &wanted.choice, &text)?;
             tell_image(&rt, alloc, image, &mut out)
         }
         _ => {
-            let wanted = wanted(alloc, &words)?;
+            let wanted = made_module(alloc, &words)?;
             let text = made_text(alloc, wanted.seed, wanted.size)?;
             let image = time_passes(&rt, alloc, &wanted.choice, &text)?;
             tell_image(&rt, alloc, image, &mut out)

@@ -32,7 +32,7 @@ fn bulk_call(alloc: Global, words: &[String]) -> Result<Vec<String>, AllocError>
 }
 
 /// What SEED, SIZE, POLICY, BUILDER, REGS and JOBS ask for, the last four as `trc` has them where they aren't there.
-pub fn wanted(alloc: Global, words: &[String]) -> Result<Wanted, WordsFault>
+pub fn made_module(alloc: Global, words: &[String]) -> Result<Wanted, WordsFault>
     ensures some { IfOk result (λ w. 1 ≤ w.size) }
     ensures in_range { IfOk result (λ w. IsInRange w.choice) }
 {
