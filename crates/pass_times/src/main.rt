@@ -25,6 +25,8 @@ use running::steps_of;
 use source_image::Image;
 use std::alloc::{AllocError, Global};
 use std::env;
+use std::sync::Wait;
+use std::thread::Threads;
 use timing::{MOST_BYTES, time_all, time_check, time_passes};
 use trc_base::{HostSink, HostSource, Sink, read_all, write_all};
 use words::made_module;
@@ -59,7 +61,12 @@ fn tell_image<R: Print, O: Sink>(rt: &R, alloc: Global, image: Image, out: &mut 
 }
 
 // Compiles the module of these words, and tells of its image.
-fn tell_call<R: Print, O: Sink>(rt: &R, alloc: Global, call: &str, out: &mut O) -> Result<()> {
+fn tell_call<R: Print + Threads + Wait + Sync, O: Sink>(
+    rt: &R,
+    alloc: Global,
+    call: &str,
+    out: &mut O,
+) -> Result<()> {
     println!(rt; "{call}")?;
     let mut words = Vec::new(alloc);
     for word in call.split(' ') {
@@ -67,7 +74,7 @@ fn tell_call<R: Print, O: Sink>(rt: &R, alloc: Global, call: &str, out: &mut O) 
     }
     let wanted = made_module(alloc, words.as_slice())?;
     let text = made_text(alloc, wanted.seed, wanted.size)?;
-    let made = compiled(alloc, &wanted.choice, &text)?;
+    let made = compiled(rt, alloc, &wanted.choice, &text)?;
     tell_image(rt, alloc, made.image, out)
 }
 

@@ -5,10 +5,10 @@ ghost use Rattle.image_form.specs.Form.{IsInForm};
 ghost use Rattle.ob_types.specs.WellFormed.{well_formed};
 ghost use Rattle.ssa_lowered.specs.Limits.{limit_of};
 ghost use Rattle.ssa_lowered.specs.Lowered.{lowered};
-ghost use Rattle.trc_words.specs.Fitting.{IsInRange};
+ghost use Rattle.alloc_choice.specs.Choice.{IsFitChoice};
 
 use back_end::{Choice, Flow, ImageFault, select_all};
-use flow_allocation::{AllocatedFlows, allocate_flows};
+use flow_allocation::{AllocatedFlows, WorkFault, allocate_flows};
 use items::Items;
 use link_plan::{Bytes, Data, Image, LinkFault, link};
 use ob_types::Program;
@@ -18,7 +18,9 @@ use source_image::{Refusal, source_image};
 use ssa_build::{LoweredProgram, lower_with_tables};
 use ssa_exprs::LowerFault;
 use std::alloc::Global;
-use trc_base::Memory;
+use std::sync::Wait;
+use std::thread::Threads;
+use trc_base::OpenGate;
 
 /// The procedures of a well-formed program.
 pub fn lowered(alloc: Global, program: &Program) -> Result<LoweredProgram, ProgramFault>
@@ -51,10 +53,15 @@ pub fn selected(
 }
 
 /// The flows' traces with final results, in lines.
-pub fn allocated(alloc: Global, choice: &Choice, flows: &[Flow]) -> Result<AllocatedFlows, Memory>
-    requires { IsInRange choice.now }
+pub fn allocated<R: Threads + Wait + Sync>(
+    rt: &R,
+    alloc: Global,
+    choice: &Choice,
+    flows: &[Flow],
+) -> Result<AllocatedFlows, WorkFault>
+    requires { IsFitChoice choice.now }
 {
-    allocate_flows(alloc, choice, flows)
+    allocate_flows(rt, alloc, choice, flows, &OpenGate)
 }
 
 /// The image of flows with final results. It has no globals and no constants, as a made module has none.
@@ -71,9 +78,14 @@ pub fn linked(alloc: Global, flows: &[Flow], allocated: &AllocatedFlows) -> Resu
 }
 
 /// The image of modules' texts, by all passes.
-pub fn compiled(alloc: Global, choice: &Choice, texts: &[Items<u8>]) -> Result<Compiled, Refusal>
-    requires { IsInRange choice.now }
+pub fn compiled<R: Threads + Wait + Sync>(
+    rt: &R,
+    alloc: Global,
+    choice: &Choice,
+    texts: &[Items<u8>],
+) -> Result<Compiled, Refusal>
+    requires { IsFitChoice choice.now }
     ensures { IfOk result (λ made. IsInForm made.image) }
 {
-    source_image(alloc, choice, texts)
+    source_image(rt, alloc, choice, texts, &OpenGate)
 }

@@ -3,7 +3,7 @@
 ghost use Rattle.std.specs.Prelude.{◌≡◌, ◌≤◌, length, true, IfOk};
 ghost use Rattle.image_form.specs.Form.{IsInForm};
 ghost use Rattle.ob_types.specs.WellFormed.{well_formed};
-ghost use Rattle.trc_words.specs.Fitting.{IsInRange};
+ghost use Rattle.alloc_choice.specs.Choice.{IsFitChoice};
 
 use crate::passes::{allocated, compiled, linked, lowered, selected};
 use anyhow::Result;
@@ -16,6 +16,8 @@ use source_program::source_program;
 use std::alloc::Global;
 use std::io;
 use std::rt::{Clock, CpuClock};
+use std::sync::Wait;
+use std::thread::Threads;
 use std::time::{Duration, Instant};
 
 /// The most bytes that the scanner takes.
@@ -83,13 +85,13 @@ pub fn time_check<R: Clock + CpuClock + Print>(
 }
 
 /// The image of a module's text without globals and constants. Told are what `time_check` tells, and each later pass.
-pub fn time_passes<R: Clock + CpuClock + Print>(
+pub fn time_passes<R: Clock + CpuClock + Print + Threads + Wait + Sync>(
     rt: &R,
     alloc: Global,
     choice: &Choice,
     texts: &[Items<u8>; 1],
 ) -> Result<Image>
-    requires { IsInRange choice.now }
+    requires { IsFitChoice choice.now }
     ensures { IfOk result IsInForm }
 {
     let program = time_check(rt, alloc, texts)?;
@@ -100,7 +102,7 @@ pub fn time_passes<R: Clock + CpuClock + Print>(
     let flows = selected(alloc, &program, &made)?;
     start.tell(rt, "select")?;
     let start = Start::now(rt)?;
-    let results = allocated(alloc, choice, flows.as_slice())?;
+    let results = allocated(rt, alloc, choice, flows.as_slice())?;
     start.tell(rt, "allocate")?;
     let start = Start::now(rt)?;
     let image = linked(alloc, flows.as_slice(), &results)?;
@@ -109,17 +111,17 @@ pub fn time_passes<R: Clock + CpuClock + Print>(
 }
 
 /// The image of a module's text. Told is what all passes take in one call.
-pub fn time_all<R: Clock + CpuClock + Print>(
+pub fn time_all<R: Clock + CpuClock + Print + Threads + Wait + Sync>(
     rt: &R,
     alloc: Global,
     choice: &Choice,
     texts: &[Items<u8>; 1],
 ) -> Result<Image>
-    requires { IsInRange choice.now }
+    requires { IsFitChoice choice.now }
     ensures { IfOk result IsInForm }
 {
     let start = Start::now(rt)?;
-    let made = compiled(alloc, choice, texts)?;
+    let made = compiled(rt, alloc, choice, texts)?;
     start.tell(rt, "all")?;
     Ok(made.image)
 }

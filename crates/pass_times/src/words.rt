@@ -1,7 +1,7 @@
 //! The words for a made module.
 
 ghost use Rattle.std.specs.Prelude.{◌≤◌, IfOk};
-ghost use Rattle.trc_words.specs.Fitting.{IsInRange};
+ghost use Rattle.alloc_choice.specs.Choice.{IsFitChoice};
 
 use source_image::Choice;
 use std::alloc::{AllocError, Global};
@@ -34,7 +34,7 @@ fn bulk_call(alloc: Global, words: &[String]) -> Result<Vec<String>, AllocError>
 /// What SEED, SIZE, POLICY, BUILDER, REGS and JOBS ask for, the last four as `trc` has them where they aren't there.
 pub fn made_module(alloc: Global, words: &[String]) -> Result<Wanted, WordsFault>
     ensures some { IfOk result (λ w. 1 ≤ w.size) }
-    ensures in_range { IfOk result (λ w. IsInRange w.choice) }
+    ensures choice { IfOk result (λ w. IsFitChoice w.choice) }
 {
     let call = bulk_call(alloc, words)?;
     match read_words(alloc, call.as_slice())? {
