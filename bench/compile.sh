@@ -1,25 +1,104 @@
 #!/bin/bash
-# Time of a whole compilation, from a text to its image, against the size of the text and by policy.
+# Time of the compiler by pass and by policy, its code in words and steps, and its memory, for made modules; and what other
+# compilers take for the same modules.
 #
 #     bench/compile.sh [PROGRAM]
 #
-# PROGRAM is the built program of crates/compile_vectors (`rt run` leaves it in that crate's out/). `bench/compile_vectors.py`
-# makes the modules, where the other compiler is: those of 100 to 1,000 made procedures, by linear scan; and that of 400 by each
-# policy, in Bi traces with 16 registers. Times are the processor's.
+# PROGRAM is the built program of crates/pass_times (`rt run` leaves it in that crate's out/), which makes the modules. Without other
+# words it compiles by linear scan, in Bi traces, with 16 registers. Times are the processors', the least of five runs, of three
+# for other compilers: gcc -O0, tcc, fpc and fpc -O2, where they are installed. These get the module in C and Pascal
+# (bench/others.py); their programs must write the same number.
 set -eu
 . "$(dirname "$0")/measure.sh"
-program=${1:-$(built compile_vectors)}
+program=${1:-$(built pass_times)}
+: >"$work/in"
 
-printf '%10s %10s %9s %9s\n' policy procedures words ms
-row() {
-    "$top/bench/compile_vectors.py" bench "$1" "$2" >"$work/in"
-    local ms
-    ms=$(milliseconds "$program")
-    printf '%10s %10d %9s %9.0f\n' "$1" "$2" "$(awk '$1 == "image" { print $2 }' "$work/out")" "$ms"
+# calls SIZE [WORD..]: the calls of all passes, one by one and in one
+calls() {
+    "$program" 7 "$@"
+    "$program" all 7 "$@"
 }
-for procedures in 100 200 400 1000; do
-    row linear "$procedures"
+
+# passes SIZE: the milliseconds of each pass; of linking, which gives the image; and of all in one call
+passes() {
+    least 5 calls "$1" | awk '
+        { of[$1] = $2 / 1000 }
+        END {
+            of["check"] -= of["read"]
+            of["read"] -= of["scan"]
+            print of["scan"], of["read"], of["check"], of["lower"], of["select"], of["allocate"], of["link"], of["all"]
+        }'
+}
+
+heads='scan parse check lower select allocate link all'
+printf '%-10s' procedures
+printf '%10s' $heads
+printf '\n'
+for size in 100 200 400 800 1000; do
+    passes "$size" >"$work/$size"
+    printf '%-10d' "$size"
+    printf '%10.2f' $(cat "$work/$size")
+    printf '\n'
 done
-for policy in plain bottomup mixed; do
-    row "$policy" 400
+printf '%-10s' 1000/400
+paste -d' ' "$work/1000" "$work/400" | awk '{ for (i = 1; i <= NF / 2; i++) printf "%10.2f", $i / $(i + NF / 2); print "   (wanted: at most 2.75)" }'
+
+printf '\n%-10s %9s %9s %12s %9s   of 400 procedures\n' policy words steps 'allocate, ms' 'all, ms'
+for policy in linear bottomup mixed plain; do
+    least 5 calls 400 "$policy" | awk -v p="$policy" '
+        { of[$1] = $2 }
+        END { printf "%-10s %9d %9d %12.2f %9.2f\n", p, of["words"], of["steps"], of["allocate"] / 1000, of["all"] / 1000 }'
 done
+
+printf '\n%-10s %9s %9s %14s   (wanted: under 1024)\n' procedures words MiB 'bytes a word'
+for size in 100 400 1000; do
+    words=$("$program" all 7 "$size" | awk '$1 == "words" { print $2 }')
+    awk -v n="$size" -v w="$words" -v k="$(kilobytes "$program" all 7 "$size")" \
+        'BEGIN { printf "%-10d %9d %9.1f %14.0f\n", n, w, k / 1024, 1024 * k / w }'
+done
+
+# flags NAME, object NAME, linked NAME: how a compiler is called; its call for an object file, and for a program, in the work folder
+flags() {
+    case $1 in
+    gcc) echo gcc -O0 -fwrapv -w ;;
+    tcc) echo tcc -w ;;
+    fpc) echo fpc -v0 -l- ;;
+    fpc-O2) echo fpc -v0 -l- -O2 ;;
+    esac
+}
+object() {
+    case $1 in
+    *cc) $(flags "$1") -c -o "$work/made.o" "$work/made.c" ;;
+    *) $(flags "$1") -Cn -FE"$work" "$work/made.pas" ;;
+    esac
+}
+linked() {
+    case $1 in
+    *cc) $(flags "$1") -o "$work/made" "$work/made.c" ;;
+    *) $(flags "$1") -FE"$work" "$work/made.pas" ;;
+    esac
+}
+
+# row NAME MS MS: a compiler's times, and what trc's is of each
+row() {
+    awk -v n="$1" -v o="$2" -v l="$3" -v t="$ours" \
+        'BEGIN { printf "%-10s %14.1f %14.1f %14.2f %14.2f\n", n, o, l, t / o, t / l }'
+}
+
+for size in 400 1000; do
+    printf '\n%-10s %14s %14s %14s %14s   for %d procedures\n' compiler 'object, ms' 'program, ms' 'trc / object' 'trc / program' "$size"
+    number=$("$program" all 7 "$size" | awk '$1 == "output" { print $2 }')
+    ours=$(least 5 named all "$program" all 7 "$size" | awk '{ print $2 }')
+    row trc "$ours" "$ours"
+    "$program" text 7 "$size" >"$work/made.Mod"
+    "$top/bench/others.py" c <"$work/made.Mod" >"$work/made.c"
+    "$top/bench/others.py" pascal <"$work/made.Mod" >"$work/made.pas"
+    for compiler in gcc tcc fpc fpc-O2; do
+        command -v "${compiler%-O2}" >/dev/null || { echo "$compiler isn't here"; continue; }
+        object=$(least 3 named object object "$compiler" | awk '{ print $2 }')
+        linked=$(least 3 named linked linked "$compiler" | awk '{ print $2 }')
+        row "$compiler" "$object" "$linked"
+        [ "$("$work/made")" = "$number" ] || echo "the program of $compiler writes another number than $number"
+    done
+done
+echo '(wanted: at most 6 times tcc, at most 0.2 of fpc -O2)'

@@ -2,15 +2,13 @@
 """Makes the input of crates/compile_vectors and the answers that are wanted, by another compiler.
 
     bench/compile_vectors.py [FOLDER]
-    bench/compile_vectors.py bench POLICY PROCEDURES
 
 Writes `stdin` and `stdout` into FOLDER (that crate's, if none is given): the modules of bench/rows, made modules, and programs at
 limits and beyond; those that have no image with one choice, the others with each policy, among them both builders and 4 to 16
-registers. `bench` prints the line of a made module of so many procedures, for bench/compile.sh. bench/other_compiler.py says
-where the other compiler is; how lines are written is said in crates/compile_vectors and crates/module_texts.
+registers. bench/other_compiler.py says where the other compiler is; how lines are written is said in crates/compile_vectors and
+crates/module_texts.
 """
 import os
-import sys
 
 from other_compiler import folder_of, sum_of
 from module_texts import rows, texts_line
@@ -76,7 +74,4 @@ def main():
     print(len(pieces), 'pieces,', len(lines), 'lines')
 
 
-if sys.argv[1:2] == ['bench']:
-    print(texts_line('%s bi 16' % sys.argv[2], [trc.bulk_text(7, int(sys.argv[3]))]), end='')
-else:
-    main()
+main()

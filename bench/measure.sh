@@ -23,3 +23,22 @@ milliseconds() {
 each_call() {
     awk -v o="$1" -v t="$2" -v n="$3" 'BEGIN { print (t - o) / n }'
 }
+
+# least TIMES COMMAND..: runs a command so many times, whose lines are a name and a number; prints each name and its least number
+least() {
+    local times=$1 run
+    for ((run = 0; run < times; run++)); do "${@:2}"; done | awk '
+        !($1 in best) { best[$1] = $2; names[++n] = $1 }
+        $2 + 0 < best[$1] + 0 { best[$1] = $2 }
+        END { for (i = 1; i <= n; i++) print names[i], best[names[i]] }'
+}
+
+# named NAME PROGRAM WORD..: a name and the milliseconds of one run, as `least` takes them
+named() {
+    echo "$1 $(milliseconds "${@:2}")"
+}
+
+# kilobytes PROGRAM WORD..: the greatest resident set of one run, in KiB; it wants GNU time
+kilobytes() {
+    /usr/bin/time -f %M "$@" 2>&1 >/dev/null
+}

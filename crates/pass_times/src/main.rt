@@ -1,0 +1,116 @@
+//! Tells what the passes of the compiler take, for the scripts in bench/.
+//!
+//! With the words SEED SIZE [POLICY [BUILDER [REGS [JOBS]]]] it makes the module of this seed and size (`bulk_text`) and calls the
+//! passes one behind the other. It writes a line for each call, its name and the microseconds that it took, those of the
+//! processors' time and those that passed: `scan`; `read`, which is scanning and parsing; `check`, which is both and checking;
+//! `lower`; `select`; `allocate`; `link`. Behind these stand the words of the code, what the module writes, and the machine's
+//! steps. With `all` before these words the passes are called in one call, and the first line is `all`. With `text SEED SIZE` it
+//! writes the module's text; with `check` it reads a text from its input, and writes the first three lines for it.
+//!
+//! Its stored run has no words and tells no times: the words, the number and the steps of a made module by each policy.
+#![tactic(auto)]
+
+ghost use Rattle.image_form.specs.Form.{IsInForm};
+
+mod passes;
+mod running;
+mod timing;
+mod words;
+
+use anyhow::Result;
+use bulk_text::bulk_text;
+use items::Items;
+use passes::compiled;
+use running::steps_of;
+use source_image::Image;
+use std::alloc::{AllocError, Global};
+use std::env;
+use std::sync::Wait;
+use std::thread::Threads;
+use timing::{MOST_BYTES, time_all, time_check, time_passes};
+use trc_base::{HostSink, HostSource, Sink, read_all, write_all};
+use words::made_module;
+
+/// The words of the stored run's modules.
+const CALLS: [&str; 4] = [
+    "7 100 plain",
+    "7 100 linear",
+    "7 100 bottomup",
+    "7 100 mixed",
+];
+
+// The text of a made module.
+fn made_text(alloc: Global, seed: u64, size: u32) -> Result<[Items<u8>; 1], AllocError>
+    requires { 1 ≤ size }
+{
+    Ok([Items::from_vec(bulk_text(alloc, seed, size)?)])
+}
+
+// Writes how many words an image has, what it writes, and how many steps it takes.
+fn tell_image<R: Print, O: Sink>(rt: &R, alloc: Global, image: Image, out: &mut O) -> Result<()>
+    requires { IsInForm image }
+{
+    let words = image.code.as_slice().len();
+    println!(rt; "words {words}")?;
+    print!(rt; "output ")?;
+    match steps_of(alloc, image, out)? {
+        Some(steps) => println!(rt; "steps {steps}")?,
+        None => println!(rt; "no end")?,
+    }
+    Ok(())
+}
+
+// Compiles the module of these words, and tells of its image.
+fn tell_call<R: Print + Threads + Wait + Sync, O: Sink>(
+    rt: &R,
+    alloc: Global,
+    call: &str,
+    out: &mut O,
+) -> Result<()> {
+    println!(rt; "{call}")?;
+    let mut words = Vec::new(alloc);
+    for word in call.split(' ') {
+        words.push(String::from_str(alloc, word)?)?;
+    }
+    let wanted = made_module(alloc, words.as_slice())?;
+    let text = made_text(alloc, wanted.seed, wanted.size)?;
+    let made = compiled(rt, alloc, &wanted.choice, &text)?;
+    tell_image(rt, alloc, made.image, out)
+}
+
+fn main(rt: HostRuntime) -> Result<()> {
+    let alloc = rt.alloc();
+    let mut out = HostSink::new(&rt, false);
+    let words = env::args(&rt)?.skip(1).collect::<Vec<String>>(alloc)?;
+    let Some(first) = words.first() else {
+        for call in CALLS {
+            tell_call(&rt, alloc, call, &mut out)?;
+        }
+        return Ok(());
+    };
+    match first.as_str() {
+        "check" => {
+            let text = read_all(alloc, &mut HostSource::new(&rt), MOST_BYTES)?;
+            time_check(&rt, alloc, &[Items::from_vec(text)])?;
+            Ok(())
+        }
+        "text" => {
+            let wanted = made_module(alloc, &words[1..])?;
+            let text = made_text(alloc, wanted.seed, wanted.size)?;
+            write_all(&mut out, text[0].as_slice())?;
+            Ok(())
+        }
+        "all" => {
+            let wanted = made_module(alloc, &words[1..])?;
+            let text = made_text(alloc, wanted.seed, wanted.size)?;
+            let image = time_all(&rt, alloc, &wanted.choice, &text)?;
+            tell_image(&rt, alloc, image, &mut out)
+        }
+        _ => {
+            let wanted = made_module(alloc, &words)?;
+            let text = made_text(alloc, wanted.seed, wanted.size)?;
+            let image = time_passes(&rt, alloc, &wanted.choice, &text)?;
+            tell_image(&rt, alloc, image, &mut out)
+        }
+    }
+}

@@ -1,0 +1,91 @@
+//! The passes of the compiler, a call for each, and all in one call.
+
+ghost use Rattle.std.specs.Prelude.{◌≡◌, true, None, IfOk, OnOk};
+ghost use Rattle.image_form.specs.Form.{IsInForm};
+ghost use Rattle.ob_types.specs.WellFormed.{well_formed};
+ghost use Rattle.ssa_lowered.specs.Limits.{limit_of};
+ghost use Rattle.ssa_lowered.specs.Lowered.{lowered};
+ghost use Rattle.alloc_choice.specs.Choice.{IsFitChoice};
+
+use back_end::{Choice, Flow, ImageFault, select_all};
+use flow_allocation::{AllocatedFlows, WorkFault, allocate_flows};
+use items::Items;
+use link_plan::{Bytes, Data, Image, LinkFault, link};
+use ob_types::Program;
+use program_image::{Compiled, ProgramFault};
+use short_procedures::are_short;
+use source_image::{Refusal, source_image};
+use ssa_build::{LoweredProgram, lower_with_tables};
+use ssa_exprs::LowerFault;
+use std::alloc::Global;
+use std::sync::Wait;
+use std::thread::Threads;
+use trc_base::OpenGate;
+
+/// The procedures of a well-formed program.
+pub fn lowered(alloc: Global, program: &Program) -> Result<LoweredProgram, ProgramFault>
+    requires { well_formed program.now ≡ true }
+    ensures procedures { IfOk result (λ made. made.procedures ≡ lowered program.now) }
+    ensures within { OnOk result (limit_of program.now ≡ None) }
+{
+    match lower_with_tables(alloc, program) {
+        Ok(made) => Ok(made),
+        Err(LowerFault::Limit { number, index }) => Err(ProgramFault::Limit { number, index }),
+        Err(LowerFault::Memory) => Err(ProgramFault::Memory),
+    }
+}
+
+/// The flows of a program's procedures.
+pub fn selected(
+    alloc: Global,
+    program: &Program,
+    made: &LoweredProgram,
+) -> Result<Vec<Flow>, ImageFault>
+    requires well_formed { well_formed program.now ≡ true }
+    requires within { limit_of program.now ≡ None }
+    requires procedures { made.now.procedures ≡ lowered program.now }
+{
+    let procedures = made.procedures.as_slice();
+    if !are_short(procedures) {
+        return Err(ImageFault::Code);
+    }
+    select_all(alloc, procedures)
+}
+
+/// The flows' traces with final results, in lines.
+pub fn allocated<R: Threads + Wait + Sync>(
+    rt: &R,
+    alloc: Global,
+    choice: &Choice,
+    flows: &[Flow],
+) -> Result<AllocatedFlows, WorkFault>
+    requires { IsFitChoice choice.now }
+{
+    allocate_flows(rt, alloc, choice, flows, &OpenGate)
+}
+
+/// The image of flows with final results. It has no globals and no constants, as a made module has none.
+pub fn linked(alloc: Global, flows: &[Flow], allocated: &AllocatedFlows) -> Result<Image, LinkFault>
+    ensures { IfOk result IsInForm }
+{
+    let none = Data {
+        flags: 0,
+        globals: 0,
+        constants: Bytes::new(Vec::new(alloc)),
+    };
+    let parts = allocated.parts.as_slice();
+    link(alloc, flows, parts, allocated.outs.as_slice(), none)
+}
+
+/// The image of modules' texts, by all passes.
+pub fn compiled<R: Threads + Wait + Sync>(
+    rt: &R,
+    alloc: Global,
+    choice: &Choice,
+    texts: &[Items<u8>],
+) -> Result<Compiled, Refusal>
+    requires { IsFitChoice choice.now }
+    ensures { IfOk result (λ made. IsInForm made.image) }
+{
+    source_image(rt, alloc, choice, texts, &OpenGate)
+}
