@@ -3,7 +3,8 @@
 //! With the words SEED SIZE [POLICY [BUILDER [REGS [JOBS]]]] it makes the module of this seed and size (`bulk_text`) and calls the
 //! passes one behind the other. It writes a line for each call, its name and the microseconds that it took, those of the
 //! processors' time and those that passed: `scan`; `read`, which is scanning and parsing; `check`, which is both and checking;
-//! `lower`; `select`; `allocate`; `link`. Behind these stand the words of the code, what the module writes, and the machine's
+//! `lower`; `select`; `cut`, which makes traces, and `results`, which gives them places by the workers; `allocate`, which is both
+//! and the lines of edges; `link`. Behind these stand the words of the code, what the module writes, and the machine's
 //! steps. With `all` before these words the passes are called in one call, and the first line is `all`. With `text SEED SIZE` it
 //! writes the module's text; with `check` it reads a text from its input, and writes the first three lines for it.
 //!

@@ -8,7 +8,7 @@ ghost use Rattle.ssa_lowered.specs.Lowered.{lowered};
 ghost use Rattle.alloc_choice.specs.Choice.{IsFitChoice};
 
 use back_end::{Choice, Flow, ImageFault, select_all};
-use flow_allocation::{AllocatedFlows, WorkFault, allocate_flows};
+use flow_allocation::{AllocatedFlows, TraceOut, WorkFault, allocate_flows};
 use items::Items;
 use link_plan::{Bytes, Data, Image, LinkFault, link};
 use ob_types::Program;
@@ -20,7 +20,9 @@ use ssa_exprs::LowerFault;
 use std::alloc::Global;
 use std::sync::Wait;
 use std::thread::Threads;
-use trc_base::OpenGate;
+use trace_pool::final_results;
+use trace_work::TraceWork;
+use trc_base::{Memory, OpenGate};
 
 /// The procedures of a well-formed program.
 pub fn lowered(alloc: Global, program: &Program) -> Result<LoweredProgram, ProgramFault>
@@ -50,6 +52,29 @@ pub fn selected(
         return Err(ImageFault::Code);
     }
     select_all(alloc, procedures)
+}
+
+/// The flows in traces.
+pub fn cut<'a>(
+    alloc: Global,
+    choice: &Choice,
+    flows: &'a [Flow],
+) -> Result<TraceWork<'a>, WorkFault>
+    requires { IsFitChoice choice.now }
+{
+    TraceWork::new(alloc, choice, flows)
+}
+
+/// The final results of all traces, by the workers that are chosen.
+pub fn final_outs<R: Threads + Wait + Sync>(
+    rt: &R,
+    alloc: Global,
+    choice: &Choice,
+    work: &TraceWork,
+) -> Result<Vec<TraceOut>, Memory>
+    requires { IsFitChoice choice.now }
+{
+    final_results(rt, alloc, work, &OpenGate, choice.jobs)
 }
 
 /// The flows' traces with final results, in lines.

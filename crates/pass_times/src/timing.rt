@@ -5,9 +5,9 @@ ghost use Rattle.image_form.specs.Form.{IsInForm};
 ghost use Rattle.ob_types.specs.WellFormed.{well_formed};
 ghost use Rattle.alloc_choice.specs.Choice.{IsFitChoice};
 
-use crate::passes::{allocated, compiled, linked, lowered, selected};
+use crate::passes::{allocated, compiled, cut, final_outs, linked, lowered, selected};
 use anyhow::Result;
-use back_end::{Choice, Image};
+use back_end::{Choice, Flow, Image};
 use items::Items;
 use ob_read::{TextFault, read_module};
 use ob_scan::scan;
@@ -84,6 +84,24 @@ pub fn time_check<R: Clock + CpuClock + Print>(
     Ok(program)
 }
 
+// The flows in traces, and their final results.
+fn time_traces<R: Clock + CpuClock + Print + Threads + Wait + Sync>(
+    rt: &R,
+    alloc: Global,
+    choice: &Choice,
+    flows: &[Flow],
+) -> Result<()>
+    requires { IsFitChoice choice.now }
+{
+    let start = Start::now(rt)?;
+    let work = cut(alloc, choice, flows)?;
+    start.tell(rt, "cut")?;
+    let start = Start::now(rt)?;
+    let _outs = final_outs(rt, alloc, choice, &work)?;
+    start.tell(rt, "results")?;
+    Ok(())
+}
+
 /// The image of a module's text without globals and constants. Told are what `time_check` tells, and each later pass.
 pub fn time_passes<R: Clock + CpuClock + Print + Threads + Wait + Sync>(
     rt: &R,
@@ -101,6 +119,7 @@ pub fn time_passes<R: Clock + CpuClock + Print + Threads + Wait + Sync>(
     let start = Start::now(rt)?;
     let flows = selected(alloc, &program, &made)?;
     start.tell(rt, "select")?;
+    time_traces(rt, alloc, choice, flows.as_slice())?;
     let start = Start::now(rt)?;
     let results = allocated(rt, alloc, choice, flows.as_slice())?;
     start.tell(rt, "allocate")?;

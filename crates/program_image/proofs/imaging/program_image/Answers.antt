@@ -29,7 +29,7 @@ returns-then-not-are_short-clause-limit g c =
     subst (Tells choice p) (sym c.whole_limit.ensures) (ByLength c.in-Ok.ensures.within (has_long p c.as_slice-procedures.result.now same (e ∙ c.are_short.ensures)))
 
 pub image_of-requires-clause-ready : goal.image_of-requires-clause-ready
-image_of-requires-clause-ready g c =
+image_of-requires-clause-ready g c κs within =
     let p = c.args.program.now in
     let same = c.as_slice-procedures.ensures ∙ c.in-Ok.ensures.ok in
     let e : true ≡ c.are_short.result = let t = c.if-not-are_short.false in cc in
@@ -37,7 +37,7 @@ image_of-requires-clause-ready g c =
     subst (All IsReady) (sym same) (ready p c.requires.well_formed c.in-Ok.ensures.within short)
 
 pub image_of-requires-clause-extra : goal.image_of-requires-clause-extra
-image_of-requires-clause-extra g c =
+image_of-requires-clause-extra g c κs within =
     let made = c.in-Ok-program_data.ensures in
     data_fits_as c.args.program.now c.in-Ok.ensures.within c.in-Ok-program_data.data.flags c.in-Ok-program_data.data.globals c.in-Ok-program_data.data.constants made.flags made.globals made.constants
 
