@@ -5,13 +5,14 @@
 
 Writes `stdin` and `stdout` into FOLDER (that crate's, if none is given): the modules of bench/rows, made modules, and programs at
 limits and beyond; those that have no image with one choice, the others with each policy, among them both builders and 4 to 16
-registers. bench/other_compiler.py says where the other compiler is; how lines are written is said in crates/compile_vectors and
+registers; and modules that have the whole language in them, by every choice. bench/other_compiler.py says where the other compiler is; how lines are written is said in crates/compile_vectors and
 crates/module_texts.
 """
+import itertools
 import os
 
 from other_compiler import folder_of, sum_of
-from module_texts import rows, texts_line
+from module_texts import EXAMPLE_NAMES, WHOLE, example, pieces_of, rows, texts_line
 import backend  # noqa: E402
 import check  # noqa: E402
 import trc  # noqa: E402
@@ -19,6 +20,7 @@ from scan import Fault  # noqa: E402
 from lower import Limit  # noqa: E402
 
 CHOICES = ['linear bi 16', 'plain bi 4', 'bottomup uni 8', 'mixed bi 5']
+EVERY = list(itertools.product(['plain', 'linear', 'bottomup', 'mixed'], ['uni', 'bi'], [4, 8, 16]))
 
 
 def limits():
@@ -57,6 +59,17 @@ def answer(sources, choice):
         len(image.code), image.frame, image.globals, len(image.constants), image.flags, sum_of(image))
 
 
+def every_image(texts):
+    """The lines of all images of modules; none where they pass a limit."""
+    program = check.check_sources(texts)
+    try:
+        images = [backend.compile_program(program, *choice) for choice in EVERY]
+    except Limit:
+        return None
+    heads = ['%s %s %d' % choice for choice in EVERY]
+    return 'images\n' + ''.join('%s words %d sum %d\n' % (head, len(image.code), sum_of(image)) for head, image in zip(heads, images))
+
+
 def main():
     folder = folder_of('compile_vectors')
     lines, answers = [], []
@@ -67,6 +80,11 @@ def main():
             answers.append(answer(sources, choice) + '\n')
             if not answers[-1].startswith('image'):
                 break
+    for name, sources in list(pieces_of(WHOLE)) + [(names[-1], example(*names)) for names in EXAMPLE_NAMES]:
+        images = every_image(sources)
+        if images:
+            lines.append(texts_line('every ' + name, sources))
+            answers.append(images)
     with open(os.path.join(folder, 'stdin'), 'w') as out:
         out.writelines(lines)
     with open(os.path.join(folder, 'stdout'), 'w') as out:

@@ -4,10 +4,17 @@
 //! A line is a policy, a builder, a number of registers, and then the modules' texts (`module_texts`). The stored input are modules
 //! that break each rule, programs that use the whole language, and programs beyond limits; what is wanted is what another compiler,
 //! written in Python from the rules alone, says of them (`bench/compile_vectors.py` makes both where it is).
+//!
+//! Of a line that begins with `every` and a name each image is printed, by each policy and builder with 4, 8 and 16 registers, by
+//! one worker; and it is made again by 2, 3, 8 and 64 workers, by the last choice ten times each: where one differs, its line says
+//! so.
 #![tactic(auto)]
+
+mod choices;
 
 ghost use Rattle.std.specs.Prelude.{◌≤◌};
 
+use choices::every_image;
 use module_texts::{sum_of, texts_of};
 use outside::OpenGate;
 use source_image::{Builder, Choice, Compiled, Policy, Refusal, source_image};
@@ -75,6 +82,9 @@ fn answer<R: Threads + Wait + Sync>(
     alloc: Global,
     line: &str,
 ) -> Result<String, AllocError> {
+    if line.starts_with("every ") {
+        return every_image(rt, alloc, line);
+    }
     let choice = match line.split('\t').next() {
         Some(words) => choice_in(words),
         None => None,

@@ -1,4 +1,3 @@
-//! What words ask for, and what commands tell and write.
+//! What commands tell and write.
 
 mod commands;
-mod words;

@@ -1,11 +1,4 @@
-//! Compiles the modules of each line of its input by each policy and builder, with 4, 8 and 16 registers, and prints the words and
-//! a sum of each image.
-//!
-//! Each image is made by one worker, and again by 2, 3, 8 and 64 workers, by the last choice ten times each: where one differs, the
-//! line says so. A line of the input is a name, which tells what it shows, and then the modules' texts (`module_texts`). The stored
-//! input are modules that have the whole language in them; the images that are wanted come from another compiler, written in Python
-//! from the rules alone (`bench/choice_vectors.py` makes both where it is).
-#![tactic(auto)]
+//! The images of modules by every policy and builder, with 4, 8 and 16 registers, by one worker and by several.
 
 ghost use Rattle.alloc_choice.specs.Choice.{IsFitChoice};
 
@@ -14,8 +7,6 @@ use module_texts::{sum_of, texts_of};
 use outside::OpenGate;
 use source_image::{Builder, Choice, Image, Policy, source_image};
 use std::alloc::{AllocError, Global};
-use std::io;
-use std::io::{BufRead, BufReader};
 use std::sync::Wait;
 use std::thread::Threads;
 
@@ -67,7 +58,7 @@ fn agree<R: Threads + Wait + Sync>(
     all_same
 }
 
-/// Adds the line of an image by a choice, which one worker makes and then several, so often.
+/// Adds the line of an image by a choice, behind a line's end, which one worker makes and then several, so often.
 fn push_image<R: Threads + Wait + Sync>(
     rt: &R,
     alloc: Global,
@@ -79,9 +70,9 @@ fn push_image<R: Threads + Wait + Sync>(
     requires { IsFitChoice one.now }
 {
     let (policy, builder) = (name_of_policy(one.policy), name_of_builder(one.builder));
-    write!(text, "{policy} {builder} {}", one.regs)?;
+    write!(text, "\n{policy} {builder} {}", one.regs)?;
     let Ok(made) = source_image(rt, alloc, one, texts, &OpenGate) else {
-        return text.push_str(" no image\n");
+        return text.push_str(" no image");
     };
     let words = made.image.code.as_slice();
     let sum = sum_of(words, made.image.constants.as_slice());
@@ -92,17 +83,17 @@ fn push_image<R: Threads + Wait + Sync>(
             write!(text, " differs by {jobs} workers")?;
         }
     }
-    text.push_str("\n")
+    Ok(())
 }
 
-/// The lines of all images of a line's modules.
-fn answer<R: Threads + Wait + Sync>(
+/// The lines of all images of a line's modules, behind a line that tells of them.
+pub(crate) fn every_image<R: Threads + Wait + Sync>(
     rt: &R,
     alloc: Global,
     line: &str,
 ) -> Result<String, AllocError> {
     let texts = texts_of(alloc, line)?;
-    let mut text = String::new(alloc);
+    let mut text = String::from_str(alloc, "images")?;
     for policy in [
         Policy::Plain,
         Policy::Linear,
@@ -124,14 +115,4 @@ fn answer<R: Threads + Wait + Sync>(
         }
     }
     Ok(text)
-}
-
-fn main(rt: HostRuntime) -> io::Result<()> {
-    for line in BufReader::new(rt.alloc(), rt.reader())?.lines(rt.alloc()) {
-        match answer(&rt, rt.alloc(), line?.as_str()) {
-            Ok(text) => print!(rt; "{text}")?,
-            Err(AllocError) => println!(rt; "out of memory")?,
-        }
-    }
-    Ok(())
 }
