@@ -1,0 +1,6 @@
+mod Bits
+mod Needs
+mod Linear
+mod Bottom
+mod Results
+mod Cuts
