@@ -95,7 +95,7 @@ pub(crate) fn answer<R: Threads + Wait + Sync>(
     };
     let allocated = match allocate_flows(rt, alloc, &choice, module.flows.as_slice(), &OpenGate) {
         Ok(allocated) => allocated,
-        Err(WorkFault::Traces) => return String::from_str(alloc, "traces\n"),
+        Err(WorkFault::Traces) => return Ok(String::from_str(alloc, "traces\n")?),
         Err(WorkFault::Memory) => return Err(Memory),
     };
     for _ in 0..times {
