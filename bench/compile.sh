@@ -26,6 +26,7 @@ passes() {
         END {
             of["check"] -= of["read"]
             of["read"] -= of["scan"]
+            of["select"] -= of["valid"]
             print of["scan"], of["read"], of["check"], of["lower"], of["select"], of["allocate"], of["link"], of["all"]
         }'
 }

@@ -12,7 +12,8 @@
 
 mod choices;
 
-ghost use Rattle.std.specs.Prelude.{◌≤◌};
+ghost use Rattle.std.specs.Prelude.{IfSome};
+ghost use Rattle.alloc_choice.specs.Choice.{IsFitChoice};
 
 use choices::every_image;
 use module_texts::{sum_of, texts_of};
@@ -44,13 +45,21 @@ fn builder_named(word: &str) -> Option<Builder> {
     }
 }
 
-/// The choice that a line begins with.
-fn choice_in(words: &str) -> Option<Choice> {
+/// The choice that a line begins with; none where it has none of 4 to 16 registers.
+fn choice_in(words: &str) -> Option<Choice>
+    ensures { IfSome result IsFitChoice }
+{
     let mut words = words.split(' ');
+    let policy = policy_named(words.next()?)?;
+    let builder = builder_named(words.next()?)?;
+    let regs = words.next()?.parse::<u8>().ok()?;
+    if regs < 4 || regs > 16 {
+        return None;
+    }
     Some(Choice {
-        policy: policy_named(words.next()?)?,
-        builder: builder_named(words.next()?)?,
-        regs: words.next()?.parse::<u8>().ok()?,
+        policy,
+        builder,
+        regs,
         jobs: 1,
     })
 }
@@ -76,7 +85,7 @@ fn told(alloc: Global, made: &Result<Compiled, Refusal>) -> Result<String, Alloc
     }
 }
 
-/// What a line's modules come to, by its choice; nothing where it has none of 4 to 16 registers.
+/// What a line's modules come to, by its choice; nothing where it has none.
 fn answer<R: Threads + Wait + Sync>(
     rt: &R,
     alloc: Global,
@@ -92,9 +101,6 @@ fn answer<R: Threads + Wait + Sync>(
     let Some(choice) = choice else {
         return Ok(String::new(alloc));
     };
-    if choice.regs < 4 || choice.regs > 16 {
-        return Ok(String::new(alloc));
-    }
     let texts = texts_of(alloc, line)?;
     let made = source_image(rt, alloc, &choice, texts.as_slice(), &OpenGate);
     told(alloc, &made)

@@ -3,7 +3,8 @@
 //! With the words SEED SIZE [POLICY [BUILDER [REGS [JOBS]]]] it makes the module of this seed and size (`bulk_text`) and calls the
 //! passes one behind the other. It writes a line for each call, its name and the microseconds that it took, those of the
 //! processors' time and those that passed: `scan`; `read`, which is scanning and parsing; `check`, which is both and checking;
-//! `lower`; `select`; `cut`, which makes traces, and `results`, which gives them places by the workers; `allocate`, which is both
+//! `lower`; `valid`, which looks whether procedures are valid, as the compiler needn't; `select`, which does that and selects; `cut`,
+//! which makes traces, and `results`, which gives them places by the workers; `allocate`, which is both
 //! and the lines of edges; `link`. Behind these stand the words of the code, what the module writes, and the machine's
 //! steps. With `all` before these words the passes are called in one call, and the first line is `all`. With `text SEED SIZE` it
 //! writes the module's text; with `check` it reads a text from its input, and writes the first three lines for it.
@@ -11,6 +12,7 @@
 //! Its stored run has no words and tells no times: the words, the number and the steps of a made module by each policy.
 #![tactic(auto)]
 
+ghost use Rattle.std.specs.Prelude.{◌≤◌};
 ghost use Rattle.image_form.specs.Form.{IsInForm};
 
 mod passes;

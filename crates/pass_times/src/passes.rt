@@ -1,25 +1,25 @@
 //! The passes of the compiler, a call for each, and all in one call.
 
-ghost use Rattle.std.specs.Prelude.{◌≡◌, true, None, IfOk, OnOk};
+ghost use Rattle.std.specs.Prelude.{◌≡◌, true, IfOk};
 ghost use Rattle.image_form.specs.Form.{IsInForm};
 ghost use Rattle.ob_types.specs.WellFormed.{well_formed};
-ghost use Rattle.ssa_lowered.specs.Limits.{limit_of};
-ghost use Rattle.ssa_lowered.specs.Lowered.{lowered};
 ghost use Rattle.alloc_choice.specs.Choice.{IsFitChoice};
 
-use back_end::{Choice, Flow, ImageFault, select_all};
-use flow_allocation::{AllocatedFlows, TraceOut, WorkFault, allocate_flows};
+use a64_select::select;
+use flow_allocation::{AllocatedFlows, Choice, Flow, TraceOut, WorkFault, allocate_flows};
 use items::Items;
 use link_plan::{Bytes, Data, Image, LinkFault, link};
 use ob_types::Program;
 use program_image::{Compiled, ProgramFault};
-use short_procedures::are_short;
 use source_image::{Refusal, source_image};
 use ssa_build::{LoweredProgram, lower_with_tables};
+use ssa_core::Proc;
 use ssa_exprs::LowerFault;
+use ssa_valid::is_valid;
 use std::alloc::Global;
 use std::sync::Wait;
 use std::thread::Threads;
+use thiserror::Error;
 use trace_pool::final_results;
 use trace_work::TraceWork;
 use trc_base::{Memory, OpenGate};
@@ -27,8 +27,6 @@ use trc_base::{Memory, OpenGate};
 /// The procedures of a well-formed program.
 pub fn lowered(alloc: Global, program: &Program) -> Result<LoweredProgram, ProgramFault>
     requires { well_formed program.now ≡ true }
-    ensures procedures { IfOk result (λ made. made.procedures ≡ lowered program.now) }
-    ensures within { OnOk result (limit_of program.now ≡ None) }
 {
     match lower_with_tables(alloc, program) {
         Ok(made) => Ok(made),
@@ -37,21 +35,43 @@ pub fn lowered(alloc: Global, program: &Program) -> Result<LoweredProgram, Progr
     }
 }
 
-/// The flows of a program's procedures.
-pub fn selected(
-    alloc: Global,
-    program: &Program,
-    made: &LoweredProgram,
-) -> Result<Vec<Flow>, ImageFault>
-    requires well_formed { well_formed program.now ≡ true }
-    requires within { limit_of program.now ≡ None }
-    requires procedures { made.now.procedures ≡ lowered program.now }
-{
-    let procedures = made.procedures.as_slice();
-    if !are_short(procedures) {
-        return Err(ImageFault::Code);
+/// Why procedures have no flows.
+#[derive(Clone, Copy, Debug, Error)]
+pub enum NoFlows {
+    #[error("a procedure that isn't valid")]
+    Invalid,
+    #[error("out of memory")]
+    Memory,
+}
+
+/// Whether all procedures are valid.
+pub fn all_valid(alloc: Global, procedures: &[Proc]) -> Result<bool, Memory> {
+    for procedure in procedures {
+        if !is_valid(alloc, procedure)? {
+            return Ok(false);
+        }
     }
-    select_all(alloc, procedures)
+    Ok(true)
+}
+
+/// The flows of procedures, each of which is looked at whether it is valid.
+pub fn selected(alloc: Global, procedures: &[Proc]) -> Result<Vec<Flow>, NoFlows> {
+    let mut flows = Vec::new(alloc);
+    for procedure in procedures {
+        let Ok(valid) = is_valid(alloc, procedure) else {
+            return Err(NoFlows::Memory);
+        };
+        if !valid {
+            return Err(NoFlows::Invalid);
+        }
+        let Ok(flow) = select(alloc, procedure) else {
+            return Err(NoFlows::Memory);
+        };
+        if flows.push(flow).is_err() {
+            return Err(NoFlows::Memory);
+        }
+    }
+    Ok(flows)
 }
 
 /// The flows in traces.

@@ -5,9 +5,10 @@ ghost use Rattle.image_form.specs.Form.{IsInForm};
 ghost use Rattle.ob_types.specs.WellFormed.{well_formed};
 ghost use Rattle.alloc_choice.specs.Choice.{IsFitChoice};
 
-use crate::passes::{allocated, compiled, cut, final_outs, linked, lowered, selected};
+use crate::passes::{all_valid, allocated, compiled, cut, final_outs, linked, lowered, selected};
 use anyhow::Result;
-use back_end::{Choice, Flow, Image};
+use flow_allocation::{Choice, Flow};
+use image_form::Image;
 use items::Items;
 use ob_read::{TextFault, read_module};
 use ob_scan::scan;
@@ -116,8 +117,12 @@ pub fn time_passes<R: Clock + CpuClock + Print + Threads + Wait + Sync>(
     let start = Start::now(rt)?;
     let made = lowered(alloc, &program)?;
     start.tell(rt, "lower")?;
+    let procedures = made.procedures.as_slice();
     let start = Start::now(rt)?;
-    let flows = selected(alloc, &program, &made)?;
+    let _valid = all_valid(alloc, procedures)?;
+    start.tell(rt, "valid")?;
+    let start = Start::now(rt)?;
+    let flows = selected(alloc, procedures)?;
     start.tell(rt, "select")?;
     time_traces(rt, alloc, choice, flows.as_slice())?;
     let start = Start::now(rt)?;
