@@ -28,10 +28,11 @@ use running::steps_of;
 use source_image::Image;
 use std::alloc::{AllocError, Global};
 use std::env;
+use std::rt::{Clock, CpuClock};
 use std::sync::Wait;
 use std::thread::Threads;
 use timing::{MOST_BYTES, time_all, time_check, time_passes};
-use trc_base::{HostSink, HostSource, Sink, read_all, write_all};
+use trc_base::{HostSink, HostSource, Sink, Source, read_all, write_all};
 use words::made_module;
 
 /// The words of the stored run's modules.
@@ -81,39 +82,66 @@ fn tell_call<R: Print + Threads + Wait + Sync, O: Sink>(
     tell_image(rt, alloc, made.image, out)
 }
 
+// Compiles the modules of the stored run.
+fn tell_calls<R: Print + Threads + Wait + Sync, O: Sink>(
+    rt: &R,
+    alloc: Global,
+    out: &mut O,
+) -> Result<()> {
+    for call in CALLS {
+        tell_call(rt, alloc, call, out)?;
+    }
+    Ok(())
+}
+
+// Writes the text of the module of these words.
+fn write_text<O: Sink>(alloc: Global, words: &[String], out: &mut O) -> Result<()> {
+    let wanted = made_module(alloc, words)?;
+    let text = made_text(alloc, wanted.seed, wanted.size)?;
+    write_all(out, text[0].as_slice())?;
+    Ok(())
+}
+
+// Times the checking of a text.
+fn time_text<R: Clock + CpuClock + Print, I: Source>(
+    rt: &R,
+    alloc: Global,
+    input: &mut I,
+) -> Result<()> {
+    let text = read_all(alloc, input, MOST_BYTES)?;
+    time_check(rt, alloc, &[Items::from_vec(text)])?;
+    Ok(())
+}
+
+// Times the passes for the module of these words, in one call or one by one.
+fn time_module<R: Clock + CpuClock + Print + Threads + Wait + Sync, O: Sink>(
+    rt: &R,
+    alloc: Global,
+    words: &[String],
+    in_one: bool,
+    out: &mut O,
+) -> Result<()> {
+    let wanted = made_module(alloc, words)?;
+    let text = made_text(alloc, wanted.seed, wanted.size)?;
+    let image = if in_one {
+        time_all(rt, alloc, &wanted.choice, &text)?
+    } else {
+        time_passes(rt, alloc, &wanted.choice, &text)?
+    };
+    tell_image(rt, alloc, image, out)
+}
+
 fn main(rt: HostRuntime) -> Result<()> {
     let alloc = rt.alloc();
     let mut out = HostSink::new(&rt, false);
     let words = env::args(&rt)?.skip(1).collect::<Vec<String>>(alloc)?;
     let Some(first) = words.first() else {
-        for call in CALLS {
-            tell_call(&rt, alloc, call, &mut out)?;
-        }
-        return Ok(());
+        return tell_calls(&rt, alloc, &mut out);
     };
     match first.as_str() {
-        "check" => {
-            let text = read_all(alloc, &mut HostSource::new(&rt), MOST_BYTES)?;
-            time_check(&rt, alloc, &[Items::from_vec(text)])?;
-            Ok(())
-        }
-        "text" => {
-            let wanted = made_module(alloc, &words[1..])?;
-            let text = made_text(alloc, wanted.seed, wanted.size)?;
-            write_all(&mut out, text[0].as_slice())?;
-            Ok(())
-        }
-        "all" => {
-            let wanted = made_module(alloc, &words[1..])?;
-            let text = made_text(alloc, wanted.seed, wanted.size)?;
-            let image = time_all(&rt, alloc, &wanted.choice, &text)?;
-            tell_image(&rt, alloc, image, &mut out)
-        }
-        _ => {
-            let wanted = made_module(alloc, &words)?;
-            let text = made_text(alloc, wanted.seed, wanted.size)?;
-            let image = time_passes(&rt, alloc, &wanted.choice, &text)?;
-            tell_image(&rt, alloc, image, &mut out)
-        }
+        "check" => time_text(&rt, alloc, &mut HostSource::new(&rt)),
+        "text" => write_text(alloc, &words[1..], &mut out),
+        "all" => time_module(&rt, alloc, &words[1..], true, &mut out),
+        _ => time_module(&rt, alloc, &words, false, &mut out),
     }
 }

@@ -14,6 +14,8 @@ use ob_read::{TextFault, read_module};
 use ob_scan::scan;
 use ob_types::Program;
 use source_program::source_program;
+use ssa_build::LoweredProgram;
+use ssa_core::Proc;
 use std::alloc::Global;
 use std::io;
 use std::rt::{Clock, CpuClock};
@@ -103,6 +105,65 @@ fn time_traces<R: Clock + CpuClock + Print + Threads + Wait + Sync>(
     Ok(())
 }
 
+// The image of flows without globals and constants.
+fn time_places<R: Clock + CpuClock + Print + Threads + Wait + Sync>(
+    rt: &R,
+    alloc: Global,
+    choice: &Choice,
+    flows: &[Flow],
+) -> Result<Image>
+    requires { IsFitChoice choice.now }
+    ensures { IfOk result IsInForm }
+{
+    let start = Start::now(rt)?;
+    let results = allocated(rt, alloc, choice, flows)?;
+    start.tell(rt, "allocate")?;
+    let start = Start::now(rt)?;
+    let image = linked(alloc, flows, &results)?;
+    start.tell(rt, "link")?;
+    Ok(image)
+}
+
+// The flows of procedures.
+fn time_flows<R: Clock + CpuClock + Print>(
+    rt: &R,
+    alloc: Global,
+    procedures: &[Proc],
+) -> Result<Vec<Flow>> {
+    let start = Start::now(rt)?;
+    let _valid = all_valid(alloc, procedures)?;
+    start.tell(rt, "valid")?;
+    let start = Start::now(rt)?;
+    let flows = selected(alloc, procedures)?;
+    start.tell(rt, "select")?;
+    Ok(flows)
+}
+
+// The procedures of a program.
+fn time_lower<R: Clock + CpuClock + Print>(
+    rt: &R,
+    alloc: Global,
+    program: &Program,
+) -> Result<LoweredProgram>
+    requires { well_formed program.now ≡ true }
+{
+    let start = Start::now(rt)?;
+    let made = lowered(alloc, program)?;
+    start.tell(rt, "lower")?;
+    Ok(made)
+}
+
+// The flows of a module's text.
+fn time_front<R: Clock + CpuClock + Print>(
+    rt: &R,
+    alloc: Global,
+    texts: &[Items<u8>; 1],
+) -> Result<Vec<Flow>> {
+    let program = time_check(rt, alloc, texts)?;
+    let made = time_lower(rt, alloc, &program)?;
+    time_flows(rt, alloc, made.procedures.as_slice())
+}
+
 /// The image of a module's text without globals and constants. Told are what `time_check` tells, and each later pass.
 pub fn time_passes<R: Clock + CpuClock + Print + Threads + Wait + Sync>(
     rt: &R,
@@ -113,25 +174,9 @@ pub fn time_passes<R: Clock + CpuClock + Print + Threads + Wait + Sync>(
     requires { IsFitChoice choice.now }
     ensures { IfOk result IsInForm }
 {
-    let program = time_check(rt, alloc, texts)?;
-    let start = Start::now(rt)?;
-    let made = lowered(alloc, &program)?;
-    start.tell(rt, "lower")?;
-    let procedures = made.procedures.as_slice();
-    let start = Start::now(rt)?;
-    let _valid = all_valid(alloc, procedures)?;
-    start.tell(rt, "valid")?;
-    let start = Start::now(rt)?;
-    let flows = selected(alloc, procedures)?;
-    start.tell(rt, "select")?;
+    let flows = time_front(rt, alloc, texts)?;
     time_traces(rt, alloc, choice, flows.as_slice())?;
-    let start = Start::now(rt)?;
-    let results = allocated(rt, alloc, choice, flows.as_slice())?;
-    start.tell(rt, "allocate")?;
-    let start = Start::now(rt)?;
-    let image = linked(alloc, flows.as_slice(), &results)?;
-    start.tell(rt, "link")?;
-    Ok(image)
+    time_places(rt, alloc, choice, flows.as_slice())
 }
 
 /// The image of a module's text. Told is what all passes take in one call.
