@@ -5,7 +5,7 @@
 #
 # PROGRAM is the built program of crates/pass_times (`rt run` leaves it in that crate's out/), SIZE the number of the module's
 # procedures, 1,000 where there is none. `cut` makes traces, `results` gives them places, which the workers share; `allocate` is
-# both and the lines of edges; `all` goes from the text to the image. Times are those that passed, the least of seven runs, so the
+# both and the lines of edges; `all` goes from the text to the image. Times are those that passed, the least of fifteen runs, so the
 # machine should have nothing else to do; behind each its part of one worker's time.
 set -eu
 . "$(dirname "$0")/measure.sh"
@@ -22,7 +22,7 @@ printf '%6s' jobs
 printf '%12s %6s' 'cut, ms' '' 'results, ms' '' 'allocate, ms' '' 'all, ms' ''
 printf '\n'
 for jobs in 1 2 4; do
-    least 7 passed "$jobs" >"$work/$jobs"
+    least 15 passed "$jobs" >"$work/$jobs"
     awk -v j="$jobs" '
         NR == FNR { one[$1] = $2; next }
         { of[$1] = $2 }
