@@ -3,6 +3,7 @@
 use crate::Module;
 use flow_allocation::{AllocatedFlows, Builder, Choice, Policy, WorkFault, allocate_flows};
 use link_plan::{Bytes, Data, Image, LinkFault, link};
+use module_texts::sum_of;
 use outside::{Memory, OpenGate};
 use std::alloc::{AllocError, Global};
 use std::sync::Wait;
@@ -38,22 +39,13 @@ fn linked(
     ))
 }
 
-/// A sum of words and bytes in which each counts by its place (FNV-1a, 64 bits).
-fn sum_of(image: &Image) -> u64 {
-    let mut sum: u64 = 0xcbf2_9ce4_8422_2325;
-    for word in image.code.as_slice() {
-        sum = (sum ^ u64::from(*word)).wrapping_mul(0x100_0000_01b3);
-    }
-    for byte in image.constants.as_slice() {
-        sum = (sum ^ u64::from(*byte)).wrapping_mul(0x100_0000_01b3);
-    }
-    sum
-}
-
 fn text_of(alloc: Global, image: &Image, all: bool) -> Result<String, AllocError> {
     let (words, frame) = (image.code.as_slice().len(), image.frame);
     let (globals, constants) = (image.globals, image.constants.as_slice().len());
-    let (flags, sum) = (image.flags, sum_of(image));
+    let (flags, sum) = (
+        image.flags,
+        sum_of(image.code.as_slice(), image.constants.as_slice()),
+    );
     let mut text = String::new(alloc);
     write!(
         text,

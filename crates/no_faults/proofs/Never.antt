@@ -11,7 +11,8 @@ use Rattle.ob_types.specs.declared.program.Program.{Program}
 use Rattle.linked_flows.specs.Allocations.{Cut}
 use Rattle.placed_code.specs.Placed.{Placed}
 use Rattle.compiled_runs.specs.Compiled.{Means, placed_of, same_break}
-use Rattle.no_faults.specs.Faults.{IsBreak, run_of}
+use Rattle.trc_answers.specs.Runs.{run_of}
+use Rattle.no_faults.specs.Faults.{IsBreak}
 
 no_undefined : (ps : List Placed) (word : ℕ) (mine : store.Trap) → same_break ps mine (Undefined word) → ⊥
 no_undefined ps word (store.Kind kind procedure) h = h

@@ -7,7 +7,8 @@ ghost use Rattle.alloc_choice.specs.declared.choice.Choice.{Choice};
 ghost use Rattle.lowered_runs.specs.Words.{AreInput};
 ghost use Rattle.program_image.specs.declared.imaging.Compiled.{Compiled};
 ghost use Rattle.source_image.specs.Images.{IsImageOfTexts};
-ghost use Rattle.no_faults.specs.Faults.{IsBreak, run_of};
+ghost use Rattle.trc_answers.specs.Runs.{run_of};
+ghost use Rattle.no_faults.specs.Faults.{IsBreak};
 
 /// The machine that runs an image of texts, on any bytes as input and for any number of steps, comes to no fault: where it traps,
 /// that is a BRK.
