@@ -12,25 +12,25 @@ use Rattle.program_image.proofs.Telling.{lowering_tells, imaging_tells, few_trac
 use Rattle.program_image.proofs.imaging.program_image.Goals as goal
 
 pub lower_with_tables-requires : goal.lower_with_tables-requires
-lower_with_tables-requires g c = measured c.args.program.now c.requires.well_formed
+lower_with_tables-requires g c = measured c.args.program c.requires.well_formed
 
 pub returns-in-Err-clause-limit : goal.returns-in-Err-clause-limit
 returns-in-Err-clause-limit g c =
     let choice = c.args.choice.now in
-    let p = c.args.program.now in
+    let p = c.args.program in
     subst (Tells choice p) (sym c.of_lowering.ensures) (lowering_tells choice p c.in-Err.fault c.in-Err.ensures.limit)
 
 pub returns-then-not-are_short-clause-limit : goal.returns-then-not-are_short-clause-limit
 returns-then-not-are_short-clause-limit g c =
     let choice = c.args.choice.now in
-    let p = c.args.program.now in
+    let p = c.args.program in
     let same = c.as_slice-procedures.ensures ∙ c.in-Ok.ensures.ok in
     let e : false ≡ c.are_short.result = let t = c.if-not-are_short.true in cc in
     subst (Tells choice p) (sym c.whole_limit.ensures) (ByLength c.in-Ok.ensures.within (has_long p c.as_slice-procedures.result.now same (e ∙ c.are_short.ensures)))
 
 pub image_of-requires-clause-ready : goal.image_of-requires-clause-ready
 image_of-requires-clause-ready g c κs within =
-    let p = c.args.program.now in
+    let p = c.args.program in
     let same = c.as_slice-procedures.ensures ∙ c.in-Ok.ensures.ok in
     let e : true ≡ c.are_short.result = let t = c.if-not-are_short.false in cc in
     let short = are_short p c.as_slice-procedures.result.now same (e ∙ c.are_short.ensures) in
@@ -39,12 +39,12 @@ image_of-requires-clause-ready g c κs within =
 pub image_of-requires-clause-extra : goal.image_of-requires-clause-extra
 image_of-requires-clause-extra g c κs within =
     let made = c.in-Ok-program_data.ensures in
-    data_fits_as c.args.program.now c.in-Ok.ensures.within c.in-Ok-program_data.data.flags c.in-Ok-program_data.data.globals c.in-Ok-program_data.data.constants made.flags made.globals made.constants
+    data_fits_as c.args.program c.in-Ok.ensures.within c.in-Ok-program_data.data.flags c.in-Ok-program_data.data.globals c.in-Ok-program_data.data.constants made.flags made.globals made.constants
 
 pub returns-in-Ok-image_of-clause-means : goal.returns-in-Ok-image_of-clause-means
 returns-in-Ok-image_of-clause-means g c =
     let choice = c.args.choice.now in
-    let p = c.args.program.now in
+    let p = c.args.program in
     let linked = c.in-Ok-image_of.linked in
     let same = c.as_slice-procedures.ensures ∙ c.in-Ok.ensures.ok in
     let made = c.in-Ok-program_data.ensures in
@@ -57,7 +57,7 @@ returns-in-Ok-image_of-clause-means g c =
 pub returns-in-Ok-image_of-clause-few : goal.returns-in-Ok-image_of-clause-few
 returns-in-Ok-image_of-clause-few g c =
     let choice = c.args.choice.now in
-    let p = c.args.program.now in
+    let p = c.args.program in
     let linked = c.in-Ok-image_of.linked in
     let same = c.as_slice-procedures.ensures ∙ c.in-Ok.ensures.ok in
     let made = c.in-Ok-program_data.ensures in
@@ -68,7 +68,7 @@ returns-in-Ok-image_of-clause-few g c =
 pub returns-in-Ok-image_of-clause-traces : goal.returns-in-Ok-image_of-clause-traces
 returns-in-Ok-image_of-clause-traces g c =
     let choice = c.args.choice.now in
-    let p = c.args.program.now in
+    let p = c.args.program in
     let linked = c.in-Ok-image_of.linked in
     let same = c.as_slice-procedures.ensures ∙ c.in-Ok.ensures.ok in
     let made = c.in-Ok-program_data.ensures in
@@ -82,14 +82,14 @@ returns-in-Ok-image_of-clause-procedures g c =
 
 pub of_imaging-requires : goal.of_imaging-requires
 of_imaging-requires g c is =
-    let p = c.args.program.now in
+    let p = c.args.program in
     let same = c.as_slice-procedures.ensures ∙ c.in-Ok.ensures.ok in
     c.in-Err-image_of.ensures.modest (subst (All HasFewValues) (sym same) (few_values p c.in-Ok.ensures.within)) is
 
 pub returns-clause-limit : goal.returns-clause-limit
 returns-clause-limit g c =
     let choice = c.args.choice.now in
-    let p = c.args.program.now in
+    let p = c.args.program in
     let same = c.as_slice-procedures.ensures ∙ c.in-Ok.ensures.ok in
     let told = c.in-Err-image_of.ensures in
     subst (Tells choice p) (sym c.of_imaging.ensures)
