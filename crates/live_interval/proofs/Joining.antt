@@ -5,7 +5,7 @@ use Rattle.block_runs.specs.Valid.{times}
 use Rattle.lir_core.specs.declared.flow.Node.{Node}
 use Rattle.lir_core.specs.declared.flow.Flow.{Flow}
 use Rattle.live_interval.specs.Needs.{Position, at_start, at_operation, at_end, in_node, first_of, positions_of}
-use Rattle.live_interval.specs.Tables.{noted, noted_all, passed, passed_all, row_in, one_at}
+use Rattle.live_interval.specs.Tables.{noted, noted_all, passed, passed_all, row_in}
 use Rattle.live_interval.specs.declared.notes.Note.{Note}
 use Rattle.live_interval.specs.declared.tables.Tables.{Tables}
 
@@ -43,26 +43,6 @@ row_noted_all (x ∷ vs) p notes v =
     at_test : (b : Bool) → cond b (p ∷ []) [] ++ replicate (times vs v) p ≡ replicate (cond b (suc (times vs v)) (times vs v)) p
     at_test true = refl
     at_test false = refl
-
--- a note more joins its value's row
-pub row_step : (notes : List Note) (i : ℕ) (x : Note) (old new : List ℕ) (v : ℕ) → i < length notes → x ≡ get_or notes i x → new ≡ old ++ one_at x.value x.position v → old ++ row_in (drop i notes) v ≡ row_in notes v → new ++ row_in (drop (i + 1) notes) v ≡ row_in notes v
-row_step notes i x old new v lt is e h =
-    ap (λ r. r ++ row_in (drop (i + 1) notes) v) e
-    ∙ append_assoc old (one_at x.value x.position v) (row_in (drop (i + 1) notes) v)
-    ∙ ap (λ t. old ++ t) (sym (first_row notes i x v lt is))
-    ∙ h
-  where
-    one : (x : Note) (ns : List Note) (v : ℕ) → row_in (x ∷ ns) v ≡ one_at x.value x.position v ++ row_in ns v
-    one x ns v = at_test (x.value == v)
-      where
-        at_test : (b : Bool) → cond b (x.position ∷ row_in ns v) (row_in ns v) ≡ cond b (x.position ∷ []) [] ++ row_in ns v
-        at_test true = refl
-        at_test false = refl
-
-    first_row : (notes : List Note) (i : ℕ) (x : Note) (v : ℕ) → i < length notes → x ≡ get_or notes i x → row_in (drop i notes) v ≡ one_at x.value x.position v ++ row_in (drop (i + 1) notes) v
-    first_row [] i x v lt is = absurd (omega (arith, lt))
-    first_row (n ∷ ns) zero x v lt is = one n ns v ∙ ap (λ (y : Note). one_at y.value y.position v ++ row_in ns v) (sym is)
-    first_row (n ∷ ns) (suc i) x v lt is = let e : suc i + 1 ≡ suc (i + 1) = omega arith in first_row ns i x v (omega (arith, lt)) is ∙ ap (λ k. one_at x.value x.position v ++ row_in (drop k (n ∷ ns)) v) (sym e)
 
 ---- Nodes
 

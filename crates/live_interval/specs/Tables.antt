@@ -1,10 +1,7 @@
 -- What is noted position by position, and for each value the positions at which it is noted.
-use Rattle.std.specs.Prelude.{ℕ, nat_eq, ◌+◌, ◌==◌, Bool, cond, List, [], ◌∷◌, ◌++◌, map, Option, Some, None, Vec}
-use Rattle.std.specs.Global.{Global}
-use Rattle.std.specs.HashMap.{get}
+use Rattle.std.specs.Prelude.{ℕ, nat_lt, ◌+◌, ◌==◌, Bool, true, false, cond, List, [], ◌∷◌, ◌++◌, Option, Some, None}
 use Rattle.live_interval.specs.Needs.{Position}
 use Rattle.live_interval.specs.declared.notes.Note.{Note}
-use Rattle.live_interval.specs.declared.rows.Rows.{Rows}
 use Rattle.live_interval.specs.declared.tables.Tables.{Tables}
 
 ---- Notes
@@ -16,12 +13,12 @@ abbrev pub noted_all : List ℕ → ℕ → List Note → List Note
 noted_all [] p notes = notes
 noted_all (v ∷ vs) p notes = noted_all vs p (noted v p notes)
 
-abbrev pub one_if : Bool → ℕ → List ℕ
-one_if b v = cond b (v ∷ []) []
-
 -- behind a position
 abbrev pub passed : Position → Tables → Tables
 passed p t = record { at = t.at + 1; needs = noted_all p.needs t.at t.needs; mentions = noted_all p.mentions t.at t.mentions }
+
+abbrev pub no_notes : Tables
+no_notes = record { at = 0; needs = []; mentions = [] }
 
 abbrev pub passed_all : List Position → Tables → Tables
 passed_all [] t = t
@@ -38,16 +35,10 @@ abbrev pub row_in : List Note → ℕ → List ℕ
 row_in [] v = []
 row_in (n ∷ ns) v = cond (n.value == v) (n.position ∷ row_in ns v) (row_in ns v)
 
-abbrev pub one_at : ℕ → ℕ → ℕ → List ℕ
-one_at value position v = cond (value == v) (position ∷ []) []
+-- a note comes before a value's note at a position, in order of values and then of positions
+abbrev pub is_before : ℕ → ℕ → Note → Bool
+is_before v p n = cond (nat_lt n.value v) true (cond (n.value == v) (nat_lt n.position p) false)
 
-abbrev pub items_of : Option (Vec ℕ Global) → List ℕ
-items_of None = []
-items_of (Some row) = row.items
-
-abbrev pub row_of : Rows → ℕ → List ℕ
-row_of s v = items_of (get nat_eq s.rows v)
-
--- all rows
-abbrev pub rows_of : Rows → List (ℕ × List ℕ)
-rows_of s = map (λ e. (e.0, e.1.items)) s.rows.entries
+-- the position of a note, if it speaks of a value
+abbrev pub position_of : ℕ → Note → Option ℕ
+position_of v n = cond (n.value == v) (Some n.position) None

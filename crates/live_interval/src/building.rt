@@ -4,15 +4,15 @@ ghost use Rattle.std.specs.Prelude.{◌≡◌, ℕ, ◌+◌, slice_get, IfOk, On
 ghost use Rattle.lir_core.specs.Flows.{IsValidFlow};
 ghost use Rattle.live_interval.specs.Needs.{in_node, positions_of, next_need, last_mention};
 ghost use Rattle.live_interval.specs.Asked.{need_told, mention_told};
-ghost use Rattle.live_interval.specs.Tables.{passed_all};
+ghost use Rattle.live_interval.specs.Tables.{no_notes, passed_all};
 
-use crate::asking::{Positions, number_at};
+use crate::asking::Positions;
 use crate::notes::Notes;
 use crate::rows::Rows;
 use crate::tables::Tables;
 use lir_core::{Flow, LiveSets, Trace};
 use outside::Memory;
-use std::alloc::Global;
+use std::alloc::{AllocError, Global};
 
 /// The positions of a trace of a flow: what they answer is what a search finds, where `live` has the values that are live
 /// into each node. Takes time in proportion to the trace's operations and uses, and at each edge out of the trace to the words
@@ -28,15 +28,40 @@ pub fn positions(
         → IfOk result (λ ps. (v before : ℕ)
         → mention_told ps v before ≡ last_mention (positions_of flow.now live.now trace.now.nodes) v before) }
 {
-    let mut tables = Tables {
-        at: 0,
-        needs: Notes::new(alloc),
-        mentions: Notes::new(alloc),
-    };
-    pass_nodes(&mut tables, flow, live, trace.nodes.as_slice())?;
-    let needs = Rows::of(alloc, tables.needs.as_slice())?;
-    let mentions = Rows::of(alloc, tables.mentions.as_slice())?;
+    let nodes = trace.nodes.as_slice();
+    let mut tables = empty_tables(alloc, flow, nodes)?;
+    pass_nodes(&mut tables, flow, live, nodes)?;
+    let Tables {
+        needs,
+        mentions,
+        ..
+    } = tables;
+    let needs = Rows::of(needs)?;
+    let mentions = Rows::of(mentions)?;
     Ok(Positions { needs, mentions })
+}
+
+// Empty tables, with room for what most traces of these nodes need and mention (measured).
+fn empty_tables(alloc: Global, flow: &Flow, nodes: &[u32]) -> Result<Tables, AllocError>
+    ensures { IfOk result (λ tables. tables ≡ no_notes) }
+{
+    let room = operations(flow, nodes).saturating_mul(2);
+    Ok(Tables {
+        at: 0,
+        needs: Notes::with_room(alloc, room)?,
+        mentions: Notes::with_room(alloc, room)?,
+    })
+}
+
+// How many operations some nodes have, their starts and ends among them.
+fn operations(flow: &Flow, nodes: &[u32]) -> usize {
+    let mut count = 0usize;
+    for number in nodes {
+        if let Some(node) = flow.nodes.as_slice().get(*number as usize) {
+            count = count.saturating_add(node.lirs.len()).saturating_add(2);
+        }
+    }
+    count
 }
 
 // Passes the nodes of a trace.
@@ -52,6 +77,14 @@ fn pass_nodes(
         pass_node(tables, flow, live, nodes[i], number_at(nodes, i + 1))?;
     }
     Ok(())
+}
+
+// The number of that index, if there is one.
+fn number_at(numbers: &[u32], index: usize) -> Option<u32>
+    ensures { result ≡ slice_get numbers.now index }
+{
+    let number = numbers.get(index)?;
+    Some(*number)
 }
 
 // Passes a node, behind which the trace goes on with the next.
