@@ -12,7 +12,7 @@ ghost use Rattle.linear_scan.specs.Linear.{params_of, end_of, first_start, next_
 ghost use Rattle.linear_scan.specs.Inputs.{case_of, hint_of, lent, IsInput};
 
 use crate::policy::{bring_all, next, operate_all};
-use crate::starting::{Head, number_at, start_afresh, start_behind};
+use crate::starting::{Behind, Head, number_at, start_afresh, start_behind};
 use lir_core::{Flow, Items, Leave, Node, Places, TraceIn, TraceOut};
 use live_interval::{Positions, positions};
 use loc_state::Forward;
@@ -74,7 +74,11 @@ fn first_start(
     };
     if let Some(from) = t.from {
         if let Some(q) = hint {
-            return Ok(start_behind(alloc, positions, 0, &head, end_of(t.flow, from), q)?);
+            let q = Behind {
+                regs: q.regs.as_slice(),
+                homed: q.homed.as_slice(),
+            };
+            return Ok(start_behind(alloc, positions, 0, &head, end_of(t.flow, from), &q)?);
         }
     }
     Ok(start_afresh(alloc, positions, 0, &head, t.flow.values, t.regs)?)
@@ -127,6 +131,7 @@ fn walk(
     let Some(node) = node_at(t.flow, number) else {
         return Ok(at);
     };
+    fw.make_room(alloc, node.lirs.len())?;
     let end = operate_all(alloc, fw, positions, next(at)?, node.lirs.as_slice())?;
     bring_end(fw, positions, end, &node.end)?;
     let behind = next(end)?;
@@ -173,7 +178,11 @@ fn next_start(
         node,
         params: params_of(t.flow, node),
     };
-    let q = fw.part.places(alloc)?;
+    let homed = fw.part.homed.list(alloc)?;
+    let q = Behind {
+        regs: fw.part.regs.as_slice(),
+        homed: homed.as_slice(),
+    };
     let start = start_behind(alloc, positions, at, &head, arguments_of(end), &q)?;
     Ok(Some(start))
 }

@@ -41,6 +41,14 @@ impl Forward {
         })
     }
 
+    /// Makes room for the lines of so many operations.
+    pub fn make_room(&mut self, alloc: Global, operations: usize) -> Result<(), Memory>
+        ensures { OnOk result (self.new ≡ self.old) }
+    {
+        self.part.make_room(alloc, operations)?;
+        Ok(())
+    }
+
     /// Notes the register of the next use. With none given the value is in a register; else it is homed, and is loaded
     /// into the register, which is empty and isn't noted.
     pub fn bring(&mut self, value: u32, reg: Option<u8>) -> Result<(), Memory>
