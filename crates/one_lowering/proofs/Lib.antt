@@ -1,0 +1,14 @@
+mod Lists
+mod Sizes
+mod Entries
+mod Parts
+mod Middle
+mod Masks
+mod Suits
+mod Sound
+mod Expressions
+mod Statements
+mod Whole
+mod Data
+mod Procedures
+mod Programs

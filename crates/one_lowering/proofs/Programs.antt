@@ -1,0 +1,98 @@
+-- What a program becomes is told by its form.
+use Rattle.std.proofs.Common.{◌≡◌, ℕ, zero, suc, ◌+◌, ◌<◌, List, [], ◌∷◌, ◌++◌, map, length, true, Option, Some, None, refl, sym, ap, ap₂, subst, ◌∙◌, slice_get, arith}
+use Rattle.std.specs.Prelude.{slice_index_or, flat_map, if◌then◌else◌, ◌==◌}
+use Rattle.std.specs.Int.{to_le_bytes, w64}
+use Rattle.ob_types.specs.Meaning.{procedure_of, no_procedure, texts_of}
+use Rattle.ob_types.specs.WellFormed.{well_formed}
+use Rattle.ob_types.specs.declared.program.Procedure.{Procedure}
+use Rattle.ob_types.specs.declared.program.Program.{Program}
+use Rattle.ob_types.proofs.Tests.{none_some, some_same}
+use Rattle.ssa_lowered.specs.Data.{in_cells, globals_room}
+use Rattle.ssa_lowered.specs.Pieces.{numbers}
+use Rattle.ssa_lowered.specs.Constants
+use Rattle.ssa_lowered.specs.Constants.{base_by, ancestor, constants}
+use Rattle.ssa_lowered.specs.Lowered.{proc_of, procs_from, lowered}
+use Rattle.judged_tree.specs.Plain.{plain_program, plain_procedure}
+use Rattle.one_lowering.specs.Forms.{HasClosedTypes, numbered, numbered_procedure, HaveOneForm, HaveOneLowering}
+use Rattle.one_lowering.proofs.Whole
+use Rattle.one_lowering.proofs.Whole.{Facts, facts_of, descriptor_bytes, all_globals, string_bytes, low_procedure, low_procedures, low_program, low_constants, strings}
+use Rattle.one_lowering.proofs.Data.{facts, form_of, level_same, base_same, globals_same, descriptor_same, strings_same, records_many}
+use Rattle.one_lowering.proofs.Procedures.{procedure_same}
+
+at_place : {A : Type 0} (xs : List A) (i : ℕ) (x d : A) → slice_get xs i ≡ Some x → (slice_index_or xs i d ≡ x) × (i < length xs)
+at_place [] i x d e = none_some x e
+at_place (y ∷ ys) zero x d e = (some_same y x e, omega arith)
+at_place (y ∷ ys) (suc i) x d e = let b = at_place ys i x d e in let l = b.1 in (b.0, omega (arith, l))
+
+module _ (p : Program) (well : well_formed p ≡ true) (sources : List (List ℕ)) (closed : HasClosedTypes (plain_program sources (numbered p))) where
+  abbrev x : Facts
+  x = facts p well sources closed
+
+  -- these are the program's procedures from number f on
+  abbrev AreFrom : ℕ → List Procedure → Type 0
+  AreFrom f qs = (i : ℕ) (q : Procedure) → slice_get qs i ≡ Some q → (procedure_of p (f + i) ≡ q) × (f + i < length p.procedures)
+
+  first_from : (f : ℕ) (q : Procedure) → (procedure_of p (f + 0) ≡ q) × (f + 0 < length p.procedures) → (procedure_of p f ≡ q) × (f < length p.procedures)
+  first_from f q h = subst (λ n. (procedure_of p n ≡ q) × (n < length p.procedures)) (plus_zero f) h
+    where
+      plus_zero : (n : ℕ) → n + 0 ≡ n
+      plus_zero n = omega arith
+
+  rest_from : (f : ℕ) (q : Procedure) (qs : List Procedure) → AreFrom f (q ∷ qs) → AreFrom (suc f) qs
+  rest_from f q qs h i r e = subst (λ n. (procedure_of p n ≡ r) × (n < length p.procedures)) (moved f i) (h (suc i) r e)
+    where
+      moved : (f i : ℕ) → f + suc i ≡ suc f + i
+      moved f i = omega arith
+
+  procedures_same : (f : ℕ) (qs : List Procedure) → AreFrom f qs → procs_from p (in_cells p.types) f qs ≡ low_procedures x f (map (plain_procedure p.types) (map (numbered_procedure (length (texts_of p.procedures))) qs))
+  procedures_same f [] h = refl
+  procedures_same f (q ∷ qs) h =
+      let b = first_from f q (h 0 q refl) in
+      let first = subst (λ r. proc_of p (in_cells p.types) f r ≡ low_procedure x f (form_of p well sources closed r)) b.0 (procedure_same p well sources closed f b.1) in
+      ap₂ (λ u us. u ∷ us) first (procedures_same (suc f) qs (rest_from f q qs h))
+
+  all_from : AreFrom 0 p.procedures
+  all_from i q e = subst (λ n. (procedure_of p n ≡ q) × (n < length p.procedures)) (zero_plus i) (at_place p.procedures i q no_procedure e)
+    where
+      zero_plus : (n : ℕ) → n ≡ 0 + n
+      zero_plus n = omega arith
+
+  pub lowered_same : lowered p ≡ low_program (plain_program sources (numbered p)) (map (λ q. q.texts) p.procedures)
+  lowered_same = procedures_same 0 p.procedures all_from
+
+  pub data_same : globals_room p (in_cells p.types) ≡ all_globals x
+  data_same = globals_same p well sources closed
+
+  -- ---- constants
+
+  ancestor_same : (depth j r : ℕ) → Constants.ancestor_within p.types depth j r ≡ Whole.ancestor_within x depth j r
+  ancestor_same zero j r = refl
+  ancestor_same (suc depth) j r = λ k. if level_same p well sources closed r k == j then Some r else base_by (base_same p well sources closed r k) (λ b. ancestor_same depth j b k)
+
+  own_ancestor : (j r : ℕ) → ancestor p.types j r ≡ Whole.ancestor_within x (suc (length x.records)) j r
+  own_ancestor j r = ap (λ n. Constants.ancestor_within p.types (suc n) j r) (records_many p well sources closed) ∙ ancestor_same (suc (length x.records)) j r
+
+  address_same : (globals : ℕ) (o : Option ℕ) → Constants.address_of p (in_cells p.types) globals o ≡ Whole.address_of x globals o
+  address_same globals None = refl
+  address_same globals (Some r) = ap (λ n. globals + n) (descriptor_same p well sources closed r)
+
+  descriptor_bytes_same : (globals r : ℕ) → Constants.descriptor_bytes p (in_cells p.types) globals r ≡ descriptor_bytes x globals r
+  descriptor_bytes_same globals r =
+      let own : (j : ℕ) → Constants.address_of p (in_cells p.types) globals (ancestor p.types j r) ≡ Whole.address_of x globals (Whole.ancestor_within x (suc (length x.records)) j r) =
+      λ j. address_same globals (ancestor p.types j r) ∙ ap (λ o. Whole.address_of x globals o) (own_ancestor j r) in
+      λ k. flat_map (λ j. to_le_bytes w64 (own j k)) (numbers 0 16)
+
+  pub constants_same : (globals : ℕ) → constants p (in_cells p.types) globals ≡ low_constants x globals
+  constants_same globals = λ k.
+      flat_map (λ r. descriptor_bytes_same globals r k) (numbers 0 (records_many p well sources closed k)) ++ flat_map string_bytes (strings_same p well sources closed k)
+
+pub one_lowering : (p q : Program) → well_formed p ≡ true → well_formed q ≡ true → (h : HaveOneForm p q) → HasClosedTypes (plain_program h.sources (numbered p)) → HaveOneLowering p q
+one_lowering p q good well h closed =
+    let closed_too = subst HasClosedTypes h.form closed in
+    let same_facts : facts p good h.sources closed ≡ facts q well h.others closed_too = λ k. facts_of (h.form k) (h.texts k) in
+    record {
+      procedures = lowered_same p good h.sources closed ∙ ap₂ (λ image texts. low_program image texts) h.form h.texts ∙ sym (lowered_same q well h.others closed_too);
+      globals = data_same p good h.sources closed ∙ ap (λ x. all_globals x) same_facts ∙ sym (data_same q well h.others closed_too);
+      constants = λ base. constants_same p good h.sources closed base ∙ ap (λ x. low_constants x base) same_facts ∙ sym (constants_same q well h.others closed_too base);
+      imports = ap (λ image. image.imports_in) h.form;
+    }
