@@ -14,13 +14,13 @@ ghost use Rattle.linear_scan.specs.Inputs.{case_of, hint_of, lent, IsInput};
 use crate::policy::{bring_all, next, operate_all};
 use crate::starting::{Behind, Head, number_at, start_afresh, start_behind};
 use lir_core::{Flow, Items, Leave, Node, Places, TraceIn, TraceOut};
-use live_interval::{Positions, positions};
+use live_interval::{Needs, needs};
 use loc_state::Forward;
 use outside::Memory;
 use std::alloc::Global;
 
 /// Linear scan over a trace: the defined result, which is sound, for a valid flow, what is live in it, a trace, and a hint
-/// that is fit or none. With 16 registers at most it takes time in proportion to what `positions` takes, to the trace's
+/// that is fit or none. With 16 registers at most it takes time in proportion to what `needs` takes, to the trace's
 /// operations and uses, and to the homed values at each node, each times a logarithm.
 pub fn allocate(alloc: Global, t: &TraceIn, hint: Option<&Places>) -> Result<TraceOut, Memory>
     requires enough { 4 ≤ t.now.regs }
@@ -35,9 +35,11 @@ pub fn allocate(alloc: Global, t: &TraceIn, hint: Option<&Places>) -> Result<Tra
     let Some(head) = number_at(nodes, 0) else {
         return Ok(empty(alloc, t.number));
     };
-    let positions = positions(alloc, t.flow, t.trace, t.live)?;
+    let positions = needs(alloc, t.flow, t.trace, t.live)?;
     let start = first_start(alloc, t, &positions, head, hint)?;
-    let fw = along(alloc, t, &positions, nodes, Forward::new(alloc, start)?)?;
+    let mut fw = Forward::new(alloc, start)?;
+    fw.make_room_for_nodes(alloc, nodes.len())?;
+    let fw = along(alloc, t, &positions, nodes, fw)?;
     Ok(fw.finish(t.number))
 }
 
@@ -57,7 +59,7 @@ fn empty(alloc: Global, number: u32) -> TraceOut
 fn first_start(
     alloc: Global,
     t: &TraceIn,
-    positions: &Positions,
+    positions: &Needs,
     head: u32,
     hint: Option<&Places>,
 ) -> Result<Places, Memory>
@@ -88,7 +90,7 @@ fn first_start(
 fn along(
     alloc: Global,
     t: &TraceIn,
-    positions: &Positions,
+    positions: &Needs,
     nodes: &[u32],
     mut fw: Forward,
 ) -> Result<Forward, Memory>
@@ -115,7 +117,7 @@ fn along(
 fn walk(
     alloc: Global,
     t: &TraceIn,
-    positions: &Positions,
+    positions: &Needs,
     fw: &mut Forward,
     at: u32,
     number: u32,
@@ -141,7 +143,7 @@ fn walk(
 }
 
 // Brings what an end uses.
-fn bring_end(fw: &mut Forward, positions: &Positions, at: u32, end: &Leave) -> Result<(), Memory>
+fn bring_end(fw: &mut Forward, positions: &Needs, at: u32, end: &Leave) -> Result<(), Memory>
     requires some { 0 < length fw.old.part.regs }
     requires few { length fw.old.part.regs ≤ 16 }
     ensures step { OnOk result (fw.new ≡ in_part (bring_all (need_told positions.now) at (end_reads end.now) (end_reads end.now)) fw.old) }
@@ -159,7 +161,7 @@ fn bring_end(fw: &mut Forward, positions: &Positions, at: u32, end: &Leave) -> R
 fn next_start(
     alloc: Global,
     t: &TraceIn,
-    positions: &Positions,
+    positions: &Needs,
     at: u32,
     fw: &Forward,
     end: &Leave,

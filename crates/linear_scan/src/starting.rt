@@ -11,7 +11,7 @@ ghost use Rattle.linear_scan.specs.Made.{lent_places};
 
 use crate::policy::is_needed;
 use lir_core::{LiveSets, Places};
-use live_interval::{Positions, next_live};
+use live_interval::{Needs, next_live};
 use loc_state::{Homes, Registers, has_register, lowest_empty, register_of};
 use outside::Memory;
 use std::alloc::{AllocError, Global};
@@ -68,7 +68,7 @@ impl Start {
     // A parameter that has a need takes a register, or is homed.
     fn add(
         &mut self,
-        positions: &Positions,
+        positions: &Needs,
         at: u32,
         value: u32,
         reg: Option<u8>,
@@ -92,7 +92,7 @@ impl Start {
     // The parameters, each in its argument's register in the hint where that is empty.
     fn add_all(
         &mut self,
-        positions: &Positions,
+        positions: &Needs,
         at: u32,
         params: &[u32],
         hint: &[Option<u32>],
@@ -123,7 +123,7 @@ impl Start {
 /// Where a node starts behind other places, at a position.
 pub(crate) fn start_behind(
     alloc: Global,
-    positions: &Positions,
+    positions: &Needs,
     at: u32,
     head: &Head,
     arguments: &[u32],
@@ -141,7 +141,7 @@ pub(crate) fn start_behind(
 /// Where a node starts with no hint.
 pub(crate) fn start_afresh(
     alloc: Global,
-    positions: &Positions,
+    positions: &Needs,
     at: u32,
     head: &Head,
     values: u32,

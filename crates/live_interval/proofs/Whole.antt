@@ -1,32 +1,26 @@
 -- The rows of a trace tell what a search finds.
 use Rattle.std.proofs.Common.{◌≡◌, ℕ, List, None, sym, ap, ap₂, ◌∙◌, subst, arith}
 use Rattle.lir_core.specs.declared.flow.Flow.{Flow}
-use Rattle.live_interval.specs.declared.tables.Tables.{Tables}
-use Rattle.live_interval.specs.Needs.{positions_of, next_need, last_mention}
+use Rattle.live_interval.specs.declared.table.Table.{Table}
+use Rattle.live_interval.specs.Needs.{Position, positions_of, next_need, last_mention}
 use Rattle.live_interval.specs.Asked.{first_from, last_below, IsRising}
-use Rattle.live_interval.specs.Tables.{no_notes, passed_all, row_in}
-use Rattle.live_interval.proofs.Joining.{repeated, needs_row, mentions_row}
+use Rattle.live_interval.specs.Tables.{needed, mentioned, no_notes, passed_all, row_in}
+use Rattle.live_interval.proofs.Joining.{repeated, noted_row}
 use Rattle.live_interval.proofs.Search.{next_told, last_told, from_repeated, rises}
 
--- how the tables begin
-pub begun : (f : Flow) (rows : List (List ℕ)) (ns ms : List ℕ) (t start : Tables) → t ≡ passed_all (positions_of f rows ms) start → ms ≡ ns → start ≡ no_notes → t ≡ passed_all (positions_of f rows ns) no_notes
-begun f rows ns ms t start e n s = e ∙ ap₂ (λ ns s. passed_all (positions_of f rows ns) s) n s
+-- how a table begins
+pub begun : (part : Position → List ℕ) (f : Flow) (rows : List (List ℕ)) (ns ms : List ℕ) (t start : Table) → t ≡ passed_all part (positions_of f rows ms) start → ms ≡ ns → start ≡ no_notes → t ≡ passed_all part (positions_of f rows ns) no_notes
+begun part f rows ns ms t start e n s = e ∙ ap₂ (λ ns s. passed_all part (positions_of f rows ns) s) n s
 
-module _ (f : Flow) (rows : List (List ℕ)) (ns : List ℕ) (t : Tables) (is : t ≡ passed_all (positions_of f rows ns) no_notes) where
-  needs_are : (v : ℕ) → row_in t.needs v ≡ repeated (λ x. x.needs) v 0 (positions_of f rows ns)
-  needs_are v = ap (λ (s : Tables). row_in s.needs v) is ∙ needs_row v (positions_of f rows ns) no_notes
+module _ (f : Flow) (rows : List (List ℕ)) (ns : List ℕ) (t : Table) where
+  rows_are : (part : Position → List ℕ) → t ≡ passed_all part (positions_of f rows ns) no_notes → (v : ℕ) → row_in t.notes v ≡ repeated part v 0 (positions_of f rows ns)
+  rows_are part is v = ap (λ (s : Table). row_in s.notes v) is ∙ noted_row part v (positions_of f rows ns) no_notes
 
-  pub needs_rise : (v : ℕ) → IsRising (row_in t.needs v)
-  needs_rise v = subst IsRising (sym (needs_are v)) (rises 0 _ (from_repeated (λ x. x.needs) v 0 (positions_of f rows ns)))
+  pub rows_rise : (part : Position → List ℕ) → t ≡ passed_all part (positions_of f rows ns) no_notes → (v : ℕ) → IsRising (row_in t.notes v)
+  rows_rise part is v = subst IsRising (sym (rows_are part is v)) (rises 0 _ (from_repeated part v 0 (positions_of f rows ns)))
 
-  pub next_right : (v at : ℕ) → first_from at (row_in t.needs v) ≡ next_need (positions_of f rows ns) v at
-  next_right v at = ap (first_from at) (needs_are v) ∙ next_told v (positions_of f rows ns) at 0 at (omega arith)
+  pub next_right : t ≡ passed_all needed (positions_of f rows ns) no_notes → (v at : ℕ) → first_from at (row_in t.notes v) ≡ next_need (positions_of f rows ns) v at
+  next_right is v at = ap (first_from at) (rows_are needed is v) ∙ next_told v (positions_of f rows ns) at 0 at (omega arith)
 
-  mentions_are : (v : ℕ) → row_in t.mentions v ≡ repeated (λ x. x.mentions) v 0 (positions_of f rows ns)
-  mentions_are v = ap (λ (s : Tables). row_in s.mentions v) is ∙ mentions_row v (positions_of f rows ns) no_notes
-
-  pub mentions_rise : (v : ℕ) → IsRising (row_in t.mentions v)
-  mentions_rise v = subst IsRising (sym (mentions_are v)) (rises 0 _ (from_repeated (λ x. x.mentions) v 0 (positions_of f rows ns)))
-
-  pub last_right : (v before : ℕ) → last_below before None (row_in t.mentions v) ≡ last_mention (positions_of f rows ns) v before
-  last_right v before = ap (last_below before None) (mentions_are v) ∙ last_told v (positions_of f rows ns) before 0 before None (omega arith)
+  pub last_right : t ≡ passed_all mentioned (positions_of f rows ns) no_notes → (v before : ℕ) → last_below before None (row_in t.notes v) ≡ last_mention (positions_of f rows ns) v before
+  last_right is v before = ap (last_below before None) (rows_are mentioned is v) ∙ last_told v (positions_of f rows ns) before 0 before None (omega arith)

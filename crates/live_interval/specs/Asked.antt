@@ -3,11 +3,6 @@ use Rattle.std.specs.Prelude.{ℕ, ◌≤◌, ◌<◌, nat_lt, nat_le, cond, Lis
 use Rattle.live_interval.specs.declared.notes.Note.{Note}
 use Rattle.live_interval.specs.Tables.{row_in}
 
--- the values that positions need, and those that they mention, each with the position's number
-pub record Numbers : Type 0 where
-  pub needs : List Note
-  pub mentions : List Note
-
 -- the first number of a row from a limit on
 abbrev pub first_from : ℕ → List ℕ → Option ℕ
 first_from limit [] = None
@@ -18,12 +13,12 @@ abbrev pub last_below : ℕ → Option ℕ → List ℕ → Option ℕ
 last_below limit last [] = last
 last_below limit last (x ∷ xs) = last_below limit (cond (nat_lt x limit) (Some x) last) xs
 
--- the answers
-unfoldable pub need_told : Numbers → ℕ → ℕ → Option ℕ
-need_told n v at = first_from at (row_in n.needs v)
+-- the answers, by notes of what positions need, and of what they mention
+unfoldable pub need_told : List Note → ℕ → ℕ → Option ℕ
+need_told notes v at = first_from at (row_in notes v)
 
-unfoldable pub mention_told : Numbers → ℕ → ℕ → Option ℕ
-mention_told n v before = last_below before None (row_in n.mentions v)
+unfoldable pub mention_told : List Note → ℕ → ℕ → Option ℕ
+mention_told notes v before = last_below before None (row_in notes v)
 
 abbrev pub IsRising : List ℕ → Type 0
 IsRising row = (i j : ℕ) → i ≤ j → j < length row → slice_index row i ≤ slice_index row j

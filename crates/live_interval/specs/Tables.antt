@@ -2,7 +2,7 @@
 use Rattle.std.specs.Prelude.{ℕ, nat_lt, ◌+◌, ◌==◌, Bool, true, false, cond, List, [], ◌∷◌, ◌++◌, Option, Some, None}
 use Rattle.live_interval.specs.Needs.{Position}
 use Rattle.live_interval.specs.declared.notes.Note.{Note}
-use Rattle.live_interval.specs.declared.tables.Tables.{Tables}
+use Rattle.live_interval.specs.declared.table.Table.{Table}
 
 ---- Notes
 
@@ -13,20 +13,30 @@ abbrev pub noted_all : List ℕ → ℕ → List Note → List Note
 noted_all [] p notes = notes
 noted_all (v ∷ vs) p notes = noted_all vs p (noted v p notes)
 
--- behind a position
-abbrev pub passed : Position → Tables → Tables
-passed p t = record { at = t.at + 1; needs = noted_all p.needs t.at t.needs; mentions = noted_all p.mentions t.at t.mentions }
+abbrev pub one_if : Bool → ℕ → List ℕ
+one_if b v = cond b (v ∷ []) []
 
-abbrev pub no_notes : Tables
-no_notes = record { at = 0; needs = []; mentions = [] }
+-- what of a position is noted
+abbrev pub needed : Position → List ℕ
+needed p = p.needs
 
-abbrev pub passed_all : List Position → Tables → Tables
-passed_all [] t = t
-passed_all (p ∷ ps) t = passed_all ps (passed p t)
+abbrev pub mentioned : Position → List ℕ
+mentioned p = p.mentions
 
--- these values are used at the position that is being passed
-abbrev pub used : List ℕ → Tables → Tables
-used vs t = record { at = t.at; needs = noted_all vs t.at t.needs; mentions = noted_all vs t.at t.mentions }
+-- these values are noted at the position that is being passed
+abbrev pub with_notes : List ℕ → Table → Table
+with_notes vs t = record { at = t.at; notes = noted_all vs t.at t.notes }
+
+-- behind a position, of which a part is noted
+abbrev pub passed : (Position → List ℕ) → Position → Table → Table
+passed part p t = record { at = t.at + 1; notes = noted_all (part p) t.at t.notes }
+
+abbrev pub passed_all : (Position → List ℕ) → List Position → Table → Table
+passed_all part [] t = t
+passed_all part (p ∷ ps) t = passed_all part ps (passed part p t)
+
+abbrev pub no_notes : Table
+no_notes = record { at = 0; notes = [] }
 
 ---- Rows
 

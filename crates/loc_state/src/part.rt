@@ -49,7 +49,7 @@ impl Part {
         ensures { OnOk result (self.new ≡ self.old) }
     {
         let lines = replace(&mut self.lines, Items::new(alloc));
-        self.lines = with_room(lines, operations.saturating_add(operations / 2))?;
+        self.lines = with_room(lines, operations.saturating_add(operations / 4))?;
         let named = replace(&mut self.named, Items::new(alloc));
         self.named = with_room(named, operations.saturating_mul(3))?;
         Ok(())
@@ -204,11 +204,11 @@ impl Part {
     }
 }
 
-// The same items, with room for so many more.
-fn with_room<T: Drop>(items: Items<T>, count: usize) -> Result<Items<T>, AllocError>
+/// The same items, with room for so many more.
+pub(crate) fn with_room<T: Drop>(items: Items<T>, count: usize) -> Result<Items<T>, AllocError>
     ensures { IfOk result (λ more. more ≡ items) }
 {
     let mut items = items.into_vec();
-    items.reserve(count)?;
+    items.reserve_exact(count)?;
     Ok(Items::from_vec(items))
 }
