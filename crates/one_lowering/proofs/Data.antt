@@ -4,7 +4,7 @@ use Rattle.std.specs.Prelude.{slice_index_or, sum_by, flat_map, filter}
 use Rattle.std.proofs.lemmas.List.{length-map}
 use Rattle.std.proofs.lemmas.List.Sums.{sum_by-cons}
 use Rattle.ob_types.specs.Forms.{all}
-use Rattle.ob_types.specs.Layout.{record_of, types_of, base_cells, cells, record_cells, field_place}
+use Rattle.ob_types.specs.Layout.{record_of, types_of, base_cells, cells, cells_of_all, record_cells, field_place}
 use Rattle.ob_types.specs.Meaning.{procedure_of, no_procedure, globals_of, locals_of, texts_of, text_number, is_value}
 use Rattle.ob_types.specs.WellFormed.{well_formed}
 use Rattle.ob_types.specs.declared.types.Field.{Field}
@@ -133,6 +133,16 @@ module _ (p : Program) (well : well_formed p ≡ true) (sources : List (List ℕ
 
   pub descriptor_same : (r : ℕ) → descriptor_at p (in_cells p.types) r ≡ descriptor_place facts r
   descriptor_same r = ap (λ n. n + 128 * r) globals_same
+
+  -- their cells
+  pub module_cells : (ms : List Module) → all (λ (y : I.Module). all is_closed y.variables) (map (plain_module p.types sources) ms) ≡ true
+      → sum_by (λ (y : Module). cells_of_all p.types y.variables) ms ≡ sum_by (λ (y : I.Module). sum (map (λ s. cells_in facts s) y.variables)) (map (plain_module p.types sources) ms)
+  module_cells [] h = refl
+  module_cells (m ∷ ms) h =
+      let b = and_of (all is_closed (map shape m.variables)) (all (λ (y : I.Module). all is_closed y.variables) (map (plain_module p.types sources) ms)) h in
+      sum_by-cons (λ (y : Module). cells_of_all p.types y.variables) m ms
+      ∙ ap₂ (λ u v. u + v) (ap sum (of_shapes (λ k. cells p.types k) (λ s. cells_in facts s) cells_same m.variables b.0)) (module_cells ms b.1)
+      ∙ sym (sum_by-cons (λ (y : I.Module). sum (map (λ s. cells_in facts s) y.variables)) (plain_module p.types sources m) (map (plain_module p.types sources) ms))
 
   -- ---- strings
 

@@ -52,7 +52,7 @@ pub record Answers (p : Program) (here : Here) (a : Asked) : Type 0 where
   pub whole : (r : ℕ) → record_cells p.types r ≡ a.whole r
   pub place : (r i : ℕ) → 8 * field_place p.types r i ≡ a.place r i
 
-tally_at : (n i k : ℕ) → k < n → slice_get (tally i n) k ≡ Some ((i + k) ∷ [])
+pub tally_at : (n i k : ℕ) → k < n → slice_get (tally i n) k ≡ Some ((i + k) ∷ [])
 tally_at zero i k l = absurd (omega (arith, l))
 tally_at (suc n) i zero l = ap (λ m. Some (m ∷ [])) (plus_zero i)
   where
@@ -63,7 +63,7 @@ tally_at (suc n) i (suc k) l = tally_at n (suc i) k (omega (arith, l)) ∙ ap (�
     moved : (i k : ℕ) → suc i + k ≡ i + suc k
     moved i k = omega arith
 
-in_list : {A : Type 0} (xs : List A) (i : ℕ) → Is (slice_get xs i) → i < length xs
+pub in_list : {A : Type 0} (xs : List A) (i : ℕ) → Is (slice_get xs i) → i < length xs
 in_list [] i h = no h
 in_list (x ∷ xs) zero h = omega arith
 in_list (x ∷ xs) (suc i) h = let l = in_list xs i h in omega (arith, l)

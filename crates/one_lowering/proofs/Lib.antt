@@ -12,3 +12,7 @@ mod Whole
 mod Data
 mod Procedures
 mod Programs
+mod Erased
+mod Uses
+mod InOrder
+mod Front

@@ -232,10 +232,10 @@ module _ (p : Program) (well : well_formed p ≡ true) (sources : List (List ℕ
         let open_all = opened_alike here.variables ∙ ap (λ vs. open_slots vs) slots_same in
         λ k. further 4 (words k - 4) >>= λ _. zeroing (some k) (bytes_same k) (zeroed_same k) >>= λ _. store k >>= λ _. open_all k >>= λ env. enter env >>= λ _. body_same k >>= λ _. answer_same k
 
-    made_same : made_of p (in_cells p.types) f q ≡ low_made x f (form q)
+    pub made_same : made_of p (in_cells p.types) f q ≡ low_made x f (form q)
     made_same = λ k. whole_same k (at_entry (words_same q.formals k))
 
-    cells_all : sum (map (λ k. cells p.types k) (locals_of q)) ≡ sum (map (λ s. cells_in x s) (local_shapes (form q)))
+    pub cells_all : sum (map (λ k. cells p.types k) (locals_of q)) ≡ sum (map (λ s. cells_in x s) (local_shapes (form q)))
     cells_all =
         ap sum (of_shapes p well sources closed (λ k. cells p.types k) (λ s. cells_in x s) (cells_same p well sources closed) (locals_of q) (locals_closed p well sources closed f))
         ∙ ap (λ ss. sum (map (λ s. cells_in x s) ss)) (local_shapes_same p well sources closed q)

@@ -1,6 +1,7 @@
 -- What a program becomes is told by its form.
-use Rattle.std.proofs.Common.{◌≡◌, ℕ, zero, suc, ◌+◌, ◌<◌, List, [], ◌∷◌, ◌++◌, map, length, true, Option, Some, None, refl, sym, ap, ap₂, subst, ◌∙◌, slice_get, arith}
-use Rattle.std.specs.Prelude.{slice_index_or, flat_map, if◌then◌else◌, ◌==◌}
+use Rattle.std.proofs.Common.{◌≡◌, ℕ, zero, suc, ◌+◌, ◌*◌, ◌<◌, List, [], ◌∷◌, ◌++◌, map, length, true, Option, Some, None, refl, sym, ap, ap₂, subst, ◌∙◌, slice_get, arith}
+use Rattle.std.specs.Prelude.{slice_index_or, flat_map, if◌then◌else◌, ◌==◌, sum_by, nat_lt}
+use Rattle.std.proofs.lemmas.List.{length-map}
 use Rattle.std.specs.Int.{to_le_bytes, w64}
 use Rattle.ob_types.specs.Meaning.{procedure_of, no_procedure, texts_of}
 use Rattle.ob_types.specs.WellFormed.{well_formed}
@@ -11,13 +12,14 @@ use Rattle.ssa_lowered.specs.Data.{in_cells, globals_room}
 use Rattle.ssa_lowered.specs.Pieces.{numbers}
 use Rattle.ssa_lowered.specs.Constants
 use Rattle.ssa_lowered.specs.Constants.{base_by, ancestor, constants}
+use Rattle.ssa_lowered.specs.Limits.{passed, or_else, at_procedure, passes, limit_in, limits_from, limit_of}
 use Rattle.ssa_lowered.specs.Lowered.{proc_of, procs_from, lowered}
 use Rattle.judged_tree.specs.Plain.{plain_program, plain_procedure}
 use Rattle.one_lowering.specs.Forms.{HasClosedTypes, numbered, numbered_procedure, HaveOneForm, HaveOneLowering}
 use Rattle.one_lowering.proofs.Whole
-use Rattle.one_lowering.proofs.Whole.{Facts, facts_of, descriptor_bytes, all_globals, string_bytes, low_procedure, low_procedures, low_program, low_constants, strings}
-use Rattle.one_lowering.proofs.Data.{facts, form_of, level_same, base_same, globals_same, descriptor_same, strings_same, records_many}
-use Rattle.one_lowering.proofs.Procedures.{procedure_same}
+use Rattle.one_lowering.proofs.Whole.{Facts, facts_of, descriptor_bytes, all_globals, string_bytes, low_procedure, low_procedures, low_program, low_constants, strings, low_limit_in, low_limits_from, low_limit}
+use Rattle.one_lowering.proofs.Data.{facts, form_of, level_same, base_same, globals_same, descriptor_same, strings_same, records_many, module_cells}
+use Rattle.one_lowering.proofs.Procedures.{procedure_same, made_same, cells_all}
 
 at_place : {A : Type 0} (xs : List A) (i : ℕ) (x d : A) → slice_get xs i ≡ Some x → (slice_index_or xs i d ≡ x) × (i < length xs)
 at_place [] i x d e = none_some x e
@@ -86,6 +88,33 @@ module _ (p : Program) (well : well_formed p ≡ true) (sources : List (List ℕ
   constants_same globals = λ k.
       flat_map (λ r. descriptor_bytes_same globals r k) (numbers 0 (records_many p well sources closed k)) ++ flat_map string_bytes (strings_same p well sources closed k)
 
+  -- ---- limits
+
+  limit_in_same : (f : ℕ) → f < length p.procedures → limit_in p (in_cells p.types) f (procedure_of p f) ≡ low_limit_in x f (form_of p well sources closed (procedure_of p f))
+  limit_in_same f l = λ k.
+      if nat_lt 1048576 (cells_all p well sources closed f l k) then Some (record { number = 59; index = f })
+      else at_procedure f (passed (made_same p well sources closed f l k).pieces)
+
+  limits_same : (f : ℕ) (qs : List Procedure) → AreFrom f qs → limits_from p (in_cells p.types) f qs ≡ low_limits_from x f (map (plain_procedure p.types) (map (numbered_procedure (length (texts_of p.procedures))) qs))
+  limits_same f [] h = refl
+  limits_same f (q ∷ qs) h =
+      let b = first_from f q (h 0 q refl) in
+      let first = subst (λ r. limit_in p (in_cells p.types) f r ≡ low_limit_in x f (form_of p well sources closed r)) b.0 (limit_in_same f b.1) in
+      ap₂ (λ u v. or_else u v) first (limits_same (suc f) qs (rest_from f q qs h))
+
+  pub limit_same : limit_of p ≡ low_limit (plain_program sources (numbered p)) (map (λ q. q.texts) p.procedures)
+  limit_same =
+      let many = sym (length-map p.procedures (numbered_procedure (length (texts_of p.procedures)))) ∙ sym (length-map (map (numbered_procedure (length (texts_of p.procedures))) p.procedures) (plain_procedure p.types)) in
+      let globals = module_cells p well sources closed p.modules closed.variables in
+      let inside = limits_same 0 p.procedures all_from in
+      let records = records_many p well sources closed in
+      let texts = strings_same p well sources closed in
+      λ k.
+      or_else (passes 52 (nat_lt 4096 (many k)))
+      (or_else (passes 53 (nat_lt 1048576 (suc (globals k))))
+      (or_else (inside k)
+      (passes 58 (nat_lt 262144 (16 * records k + sum_by (λ (cs : List ℕ). suc (length cs)) (texts k))))))
+
 pub one_lowering : (p q : Program) → well_formed p ≡ true → well_formed q ≡ true → (h : HaveOneForm p q) → HasClosedTypes (plain_program h.sources (numbered p)) → HaveOneLowering p q
 one_lowering p q good well h closed =
     let closed_too = subst HasClosedTypes h.form closed in
@@ -94,5 +123,6 @@ one_lowering p q good well h closed =
       procedures = lowered_same p good h.sources closed ∙ ap₂ (λ image texts. low_program image texts) h.form h.texts ∙ sym (lowered_same q well h.others closed_too);
       globals = data_same p good h.sources closed ∙ ap (λ x. all_globals x) same_facts ∙ sym (data_same q well h.others closed_too);
       constants = λ base. constants_same p good h.sources closed base ∙ ap (λ x. low_constants x base) same_facts ∙ sym (constants_same q well h.others closed_too base);
+      limit = limit_same p good h.sources closed ∙ ap₂ (λ image texts. low_limit image texts) h.form h.texts ∙ sym (limit_same q well h.others closed_too);
       imports = ap (λ image. image.imports_in) h.form;
     }

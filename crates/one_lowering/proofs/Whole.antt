@@ -1,5 +1,5 @@
 -- Lowering as a function of a program's form: of whole procedures, over what the program's types, modules and strings are.
-use Rattle.std.specs.Prelude.{ℕ, zero, suc, ◌+◌, ◌-◌, ◌*◌, ◌==◌, ◌&&◌, List, [], ◌∷◌, ◌++◌, map, take, length, sum, sum_by, flat_map, filter, replicate, Bool, true, false, not, cond, Option, Some, None, slice_get, slice_index_or, if◌then◌else◌}
+use Rattle.std.specs.Prelude.{ℕ, zero, suc, ◌+◌, ◌-◌, ◌*◌, ◌==◌, ◌&&◌, List, [], ◌∷◌, ◌++◌, map, take, length, sum, sum_by, flat_map, filter, replicate, nat_lt, Bool, true, false, not, cond, Option, Some, None, slice_get, slice_index_or, if◌then◌else◌}
 use Rattle.std.specs.Int.{to_le_bytes, w64}
 use Rattle.std.specs.List.{list_any}
 use Rattle.ob_types.specs.Layout.{base_cells}
@@ -14,6 +14,7 @@ use Rattle.ssa_lowered.specs.Statements.{Deed}
 use Rattle.ssa_lowered.specs.Variables.{either, words_by, Site, Register, Memory, further, zeroing, first_value, first_of}
 use Rattle.ssa_lowered.specs.Lowered.{by_mode, entry, at_entry}
 use Rattle.ssa_lowered.specs.Constants.{base_by}
+use Rattle.ssa_lowered.specs.Limits.{Limit, passed, or_else, at_procedure, passes}
 use Rattle.ob_judge.specs.Shapes.{Shape}
 use Rattle.ob_judge.specs.Image as I
 use Rattle.one_lowering.proofs.Sizes.{shape_cells, structured_shape}
@@ -237,3 +238,28 @@ string_bytes cs = flat_map (λ c. c ∷ replicate (8 - 1) 0) (cs ++ 0 ∷ []) ++
 -- descriptors and strings
 abbrev pub low_constants : Facts → (globals : ℕ) → List ℕ
 low_constants x globals = flat_map (descriptor_bytes x globals) (numbers 0 (length x.records)) ++ flat_map string_bytes (strings x)
+
+---- Limits
+
+module _ (x : Facts) where
+  abbrev pub low_limit_in : ℕ → I.Procedure → Option Limit
+  low_limit_in f q =
+      if nat_lt 1048576 (sum (map (cells_in x) (local_shapes q))) then Some (record { number = 59; index = f })
+      else at_procedure f (passed (low_made x f q).pieces)
+
+  abbrev pub low_limits_from : ℕ → List I.Procedure → Option Limit
+  low_limits_from f [] = None
+  low_limits_from f (q ∷ qs) = or_else (low_limit_in f q) (low_limits_from (suc f) qs)
+
+  abbrev pub low_global_cells : ℕ
+  low_global_cells = suc (sum_by (λ (m : I.Module). sum (map (cells_in x) m.variables)) x.modules)
+
+  abbrev pub low_constant_cells : ℕ
+  low_constant_cells = 16 * length x.records + sum_by (λ cs. suc (length cs)) (strings x)
+
+abbrev pub low_limit : I.Program → List (List (List ℕ)) → Option Limit
+low_limit p texts =
+    or_else (passes 52 (nat_lt 4096 (length p.procedures)))
+    (or_else (passes 53 (nat_lt 1048576 (low_global_cells (facts_of p texts))))
+    (or_else (low_limits_from (facts_of p texts) 0 p.procedures)
+    (passes 58 (nat_lt 262144 (low_constant_cells (facts_of p texts))))))

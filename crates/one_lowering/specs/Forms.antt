@@ -10,6 +10,7 @@ use Rattle.ob_judge.specs.Image.{Program as ProgramImage}
 use Rattle.judged_tree.specs.Plain.{plain_program}
 use Rattle.ssa_lowered.specs.Data.{in_cells, globals_room}
 use Rattle.ssa_lowered.specs.Constants.{constants}
+use Rattle.ssa_lowered.specs.Limits.{limit_of}
 use Rattle.ssa_lowered.specs.Lowered.{lowered}
 
 -- a type, and not the want of one
@@ -51,10 +52,12 @@ pub record HaveOneForm (p q : Program) : Type 0 where
   pub form : plain_program sources (numbered p) ≡ plain_program others (numbered q)
   pub texts : map (λ x. x.texts) p.procedures ≡ map (λ x. x.texts) q.procedures
 
--- two programs have the same procedures in blocks, the same bytes of variables and of constants, and import In both or neither
+-- two programs have the same procedures in blocks, the same bytes of variables and of constants, the same limit that is passed
+-- first, if one is, and import In both or neither
 pub record HaveOneLowering (p q : Program) : Type 0 where
   pub procedures : lowered p ≡ lowered q
   pub globals : globals_room p (in_cells p.types) ≡ globals_room q (in_cells q.types)
   -- where the globals start at any address
   pub constants : (base : ℕ) → constants p (in_cells p.types) base ≡ constants q (in_cells q.types) base
+  pub limit : limit_of p ≡ limit_of q
   pub imports : p.imports_in ≡ q.imports_in
