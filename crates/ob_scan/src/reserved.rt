@@ -18,6 +18,7 @@ macro_rules! in_table {
 }
 
 /// Whether two words are the same: most differ in their lengths, and then no byte is looked at.
+#[inline(always)]
 fn is_word(word: &[u8], other: &[u8]) -> bool
     ensures { result ≡ is_same word.now other.now }
 {
