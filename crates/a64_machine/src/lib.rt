@@ -9,6 +9,7 @@
 mod answers;
 mod code;
 mod execute;
+mod groups;
 mod layout;
 mod machine;
 mod processor;

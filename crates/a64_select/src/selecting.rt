@@ -41,7 +41,7 @@ fn lir_of(alloc: Global, op: &Op) -> Result<Lir, AllocError>
 fn lirs_of(alloc: Global, ops: &[Op]) -> Result<Items<Lir>, AllocError>
     ensures { IfOk result (λ lirs. lirs ≡ map lir_of ops.now) }
 {
-    let mut lirs = Vec::new(alloc);
+    let mut lirs = Vec::with_capacity(alloc, ops.len())?;
     for op in ops {
         lirs.push(lir_of(alloc, op)?)?;
     }
@@ -201,7 +201,7 @@ fn split_nodes(alloc: Global, blocks: &[Block], joins: &[bool]) -> Result<Vec<No
     requires few { length blocks.now < 2 ^ 30 }
     ensures { IfOk result (λ nodes. nodes.items ≡ old_nodes joins.now (length blocks.now) blocks.now ++ new_nodes joins.now blocks.now blocks.now) }
 {
-    let mut old = Vec::new(alloc);
+    let mut old = Vec::with_capacity(alloc, blocks.len())?;
     let mut new = Vec::new(alloc);
     for block in blocks {
         let next = (blocks.len() + new.len()) as u32;

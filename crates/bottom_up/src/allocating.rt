@@ -15,13 +15,13 @@ use crate::ends::{Following, passing};
 use crate::homing::{homed_first, node_at};
 use crate::policy::{behind, operate_all, take_all};
 use lir_core::{Flow, Leave, Node, TraceIn, TraceOut};
-use live_interval::{Positions, positions};
+use live_interval::{Mentions, mentions};
 use loc_back::Backward;
 use outside::Memory;
 use std::alloc::Global;
 
 /// Bottom-up allocation of a trace: the defined result, which is sound, for a valid flow, what is live in it, and a trace. With 16
-/// registers at most it takes time in proportion to what `positions` takes, to the trace's operations and uses, and to the
+/// registers at most it takes time in proportion to what `mentions` takes, to the trace's operations and uses, and to the
 /// values that are live at each node, each times a logarithm.
 pub fn allocate(alloc: Global, t: &TraceIn) -> Result<TraceOut, Memory>
     requires enough { 4 ≤ t.now.regs }
@@ -31,7 +31,7 @@ pub fn allocate(alloc: Global, t: &TraceIn) -> Result<TraceOut, Memory>
     ensures sound { IsInput (case_of t.now) t.now.trace.now.nodes None
         → IfOk result (IsSound t.now.regs t.now.flow.now t.now.trace.now) }
 {
-    let positions = positions(alloc, t.flow, t.trace, t.live)?;
+    let positions = mentions(alloc, t.flow, t.trace)?;
     let homed = homed_first(alloc, t)?;
     let b = Backward::new(alloc, homed.as_slice(), t.regs)?;
     let mut b = along(alloc, t, &positions, t.trace.nodes.as_slice(), b)?;
@@ -71,7 +71,7 @@ fn end_position(at: u32, node: &Node) -> Result<u32, Memory>
 fn along(
     alloc: Global,
     t: &TraceIn,
-    positions: &Positions,
+    positions: &Mentions,
     nodes: &[u32],
     mut b: Backward,
 ) -> Result<Backward, Memory>
@@ -115,7 +115,7 @@ fn number_at(numbers: &[u32], index: usize) -> Option<u32>
 fn walk(
     alloc: Global,
     t: &TraceIn,
-    positions: &Positions,
+    positions: &Mentions,
     b: &mut Backward,
     at: u32,
     number: u32,
@@ -174,7 +174,7 @@ fn next_params(flow: &Flow, next: Option<u32>) -> &[u32]
 }
 
 // Takes what an end uses.
-fn take_end(b: &mut Backward, positions: &Positions, at: u32, end: &Leave) -> Result<(), Memory>
+fn take_end(b: &mut Backward, positions: &Mentions, at: u32, end: &Leave) -> Result<(), Memory>
     requires few { length b.old.part.regs ≤ 16 }
     ensures step { OnOk result (b.new ≡ in_part (take_all (mention_told positions.now) at (end_reads end.now) (end_reads end.now)) b.old) }
     ensures row { OnOk result (length b.new.part.regs ≡ length b.old.part.regs) }

@@ -4,7 +4,7 @@ ghost use Rattle.std.specs.Prelude.{◌≡◌, ◌≤◌, length};
 ghost use Rattle.live_interval.specs.Asked.{mention_told};
 ghost use Rattle.bottom_up.specs.Policy.{is_earlier, earlier, nearer, victim, before};
 
-use live_interval::Positions;
+use live_interval::Mentions;
 use loc_state::has;
 
 /// A register, and the last position before that mentions its value, if one does.
@@ -15,7 +15,7 @@ pub(crate) struct Found {
 }
 
 /// Of the registers the lowest one whose value isn't kept and was mentioned earliest before a position.
-pub(crate) fn victim(regs: &[Option<u32>], keep: &[u32], positions: &Positions, at: u32) -> u8
+pub(crate) fn victim(regs: &[Option<u32>], keep: &[u32], positions: &Mentions, at: u32) -> u8
     requires { length regs.now ≤ 16 }
     ensures { result ≡ victim keep.now (before (mention_told positions.now) at) regs.now }
 {
@@ -34,7 +34,7 @@ pub(crate) fn victim(regs: &[Option<u32>], keep: &[u32], positions: &Positions, 
 // The best so far, with a register more.
 fn nearer(
     keep: &[u32],
-    positions: &Positions,
+    positions: &Mentions,
     at: u32,
     reg: u8,
     content: Option<u32>,

@@ -10,7 +10,7 @@ ghost use Rattle.bottom_up.specs.Policy.{is_empty, own_or_lowest, seated_at, wit
 
 use crate::choosing::victim;
 use lir_core::{Lir, Template};
-use live_interval::Positions;
+use live_interval::Mentions;
 use loc_back::Backward;
 use loc_state::{Registers, has_register, is_aimed, lowest_empty, register_of};
 use outside::Memory;
@@ -29,7 +29,7 @@ pub(crate) fn behind(at: u32, count: usize) -> Result<u32, Memory>
 // Takes a use.
 fn take_one(
     b: &mut Backward,
-    positions: &Positions,
+    positions: &Mentions,
     at: u32,
     keep: &[u32],
     value: u32,
@@ -56,7 +56,7 @@ fn take_one(
 /// Takes uses.
 pub(crate) fn take_all(
     b: &mut Backward,
-    positions: &Positions,
+    positions: &Mentions,
     at: u32,
     uses: &[u32],
 ) -> Result<(), Memory>
@@ -71,7 +71,7 @@ pub(crate) fn take_all(
 }
 
 // The register in which a definition is made.
-fn made_in(regs: &[Option<u32>], positions: &Positions, at: u32, def: Option<u32>) -> Option<u8>
+fn made_in(regs: &[Option<u32>], positions: &Mentions, at: u32, def: Option<u32>) -> Option<u8>
     requires { length regs.now ≤ 16 }
     ensures { result ≡ made_in (mention_told positions.now) at def regs.now }
 {
@@ -224,7 +224,7 @@ fn call(alloc: Global, b: &mut Backward, index: u32, lir: &Lir) -> Result<(), Me
 fn operate(
     alloc: Global,
     b: &mut Backward,
-    positions: &Positions,
+    positions: &Mentions,
     at: u32,
     index: u32,
     lir: &Lir,
@@ -245,7 +245,7 @@ fn operate(
 pub(crate) fn operate_all(
     alloc: Global,
     b: &mut Backward,
-    positions: &Positions,
+    positions: &Mentions,
     first: u32,
     lirs: &[Lir],
 ) -> Result<(), Memory>

@@ -1,7 +1,7 @@
 -- What a table knows of types.
-use Rattle.std.specs.Prelude.{ℕ, List, Option, map, option_map}
+use Rattle.std.specs.Prelude.{map, option_map}
 use Rattle.ob_types.specs.Table.{Table}
-use Rattle.ob_judge.specs.Shapes.{Shape, Known}
+use Rattle.ob_judge.specs.Shapes.{Known}
 use Rattle.ob_judge.specs.Shapes.{Field as FieldOf, Layout as LayoutOf, Added as AddedOf}
 use Rattle.check_types.specs.steps.Maps.{at_bytes}
 use Rattle.check_types.specs.declared.table.FieldEntry.{FieldEntry}

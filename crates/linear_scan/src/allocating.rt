@@ -12,15 +12,15 @@ ghost use Rattle.linear_scan.specs.Linear.{params_of, end_of, first_start, next_
 ghost use Rattle.linear_scan.specs.Inputs.{case_of, hint_of, lent, IsInput};
 
 use crate::policy::{bring_all, next, operate_all};
-use crate::starting::{Head, number_at, start_afresh, start_behind};
+use crate::starting::{Behind, Head, number_at, start_afresh, start_behind};
 use lir_core::{Flow, Items, Leave, Node, Places, TraceIn, TraceOut};
-use live_interval::{Positions, positions};
+use live_interval::{Needs, needs};
 use loc_state::Forward;
 use outside::Memory;
 use std::alloc::Global;
 
 /// Linear scan over a trace: the defined result, which is sound, for a valid flow, what is live in it, a trace, and a hint
-/// that is fit or none. With 16 registers at most it takes time in proportion to what `positions` takes, to the trace's
+/// that is fit or none. With 16 registers at most it takes time in proportion to what `needs` takes, to the trace's
 /// operations and uses, and to the homed values at each node, each times a logarithm.
 pub fn allocate(alloc: Global, t: &TraceIn, hint: Option<&Places>) -> Result<TraceOut, Memory>
     requires enough { 4 ≤ t.now.regs }
@@ -35,9 +35,11 @@ pub fn allocate(alloc: Global, t: &TraceIn, hint: Option<&Places>) -> Result<Tra
     let Some(head) = number_at(nodes, 0) else {
         return Ok(empty(alloc, t.number));
     };
-    let positions = positions(alloc, t.flow, t.trace, t.live)?;
+    let positions = needs(alloc, t.flow, t.trace, t.live)?;
     let start = first_start(alloc, t, &positions, head, hint)?;
-    let fw = along(alloc, t, &positions, nodes, Forward::new(alloc, start)?)?;
+    let mut fw = Forward::new(alloc, start)?;
+    fw.make_room_for_nodes(alloc, nodes.len())?;
+    let fw = along(alloc, t, &positions, nodes, fw)?;
     Ok(fw.finish(t.number))
 }
 
@@ -57,7 +59,7 @@ fn empty(alloc: Global, number: u32) -> TraceOut
 fn first_start(
     alloc: Global,
     t: &TraceIn,
-    positions: &Positions,
+    positions: &Needs,
     head: u32,
     hint: Option<&Places>,
 ) -> Result<Places, Memory>
@@ -74,7 +76,11 @@ fn first_start(
     };
     if let Some(from) = t.from {
         if let Some(q) = hint {
-            return Ok(start_behind(alloc, positions, 0, &head, end_of(t.flow, from), q)?);
+            let q = Behind {
+                regs: q.regs.as_slice(),
+                homed: q.homed.as_slice(),
+            };
+            return Ok(start_behind(alloc, positions, 0, &head, end_of(t.flow, from), &q)?);
         }
     }
     Ok(start_afresh(alloc, positions, 0, &head, t.flow.values, t.regs)?)
@@ -84,7 +90,7 @@ fn first_start(
 fn along(
     alloc: Global,
     t: &TraceIn,
-    positions: &Positions,
+    positions: &Needs,
     nodes: &[u32],
     mut fw: Forward,
 ) -> Result<Forward, Memory>
@@ -111,7 +117,7 @@ fn along(
 fn walk(
     alloc: Global,
     t: &TraceIn,
-    positions: &Positions,
+    positions: &Needs,
     fw: &mut Forward,
     at: u32,
     number: u32,
@@ -127,6 +133,7 @@ fn walk(
     let Some(node) = node_at(t.flow, number) else {
         return Ok(at);
     };
+    fw.make_room(alloc, node.lirs.len())?;
     let end = operate_all(alloc, fw, positions, next(at)?, node.lirs.as_slice())?;
     bring_end(fw, positions, end, &node.end)?;
     let behind = next(end)?;
@@ -136,7 +143,7 @@ fn walk(
 }
 
 // Brings what an end uses.
-fn bring_end(fw: &mut Forward, positions: &Positions, at: u32, end: &Leave) -> Result<(), Memory>
+fn bring_end(fw: &mut Forward, positions: &Needs, at: u32, end: &Leave) -> Result<(), Memory>
     requires some { 0 < length fw.old.part.regs }
     requires few { length fw.old.part.regs ≤ 16 }
     ensures step { OnOk result (fw.new ≡ in_part (bring_all (need_told positions.now) at (end_reads end.now) (end_reads end.now)) fw.old) }
@@ -154,7 +161,7 @@ fn bring_end(fw: &mut Forward, positions: &Positions, at: u32, end: &Leave) -> R
 fn next_start(
     alloc: Global,
     t: &TraceIn,
-    positions: &Positions,
+    positions: &Needs,
     at: u32,
     fw: &Forward,
     end: &Leave,
@@ -173,7 +180,11 @@ fn next_start(
         node,
         params: params_of(t.flow, node),
     };
-    let q = fw.part.places(alloc)?;
+    let homed = fw.part.homed.list(alloc)?;
+    let q = Behind {
+        regs: fw.part.regs.as_slice(),
+        homed: homed.as_slice(),
+    };
     let start = start_behind(alloc, positions, at, &head, arguments_of(end), &q)?;
     Ok(Some(start))
 }

@@ -4,7 +4,7 @@ ghost use Rattle.std.specs.Prelude.{◌≡◌, ◌<◌, ◌≤◌, length};
 ghost use Rattle.live_interval.specs.Asked.{need_told};
 ghost use Rattle.linear_scan.specs.Policy.{is_later, later, farther, victim, from};
 
-use live_interval::Positions;
+use live_interval::Needs;
 use loc_state::has;
 
 /// A register, and the next position that needs its value, if one does.
@@ -15,7 +15,7 @@ pub(crate) struct Found {
 }
 
 /// Of the registers the lowest one whose value isn't kept and has the latest need from a position on.
-pub(crate) fn victim(regs: &[Option<u32>], keep: &[u32], positions: &Positions, at: u32) -> u8
+pub(crate) fn victim(regs: &[Option<u32>], keep: &[u32], positions: &Needs, at: u32) -> u8
     requires some { 0 < length regs.now }
     requires few { length regs.now ≤ 16 }
     ensures victim { result ≡ victim keep.now (from (need_told positions.now) at) regs.now }
@@ -36,7 +36,7 @@ pub(crate) fn victim(regs: &[Option<u32>], keep: &[u32], positions: &Positions, 
 // The best so far, with a register more.
 fn farther(
     keep: &[u32],
-    positions: &Positions,
+    positions: &Needs,
     at: u32,
     reg: u8,
     content: Option<u32>,

@@ -7,7 +7,7 @@ ghost use Rattle.linear_scan.specs.Policy.{is_needed, bring_one, bring_all, drop
 
 use crate::choosing::victim;
 use lir_core::Lir;
-use live_interval::Positions;
+use live_interval::Needs;
 use loc_state::{Forward, has_register, lowest_empty};
 use outside::Memory;
 use std::alloc::{AllocError, Global};
@@ -20,7 +20,7 @@ pub(crate) fn next(at: u32) -> Result<u32, Memory>
 }
 
 /// Whether a value has a need from a position on.
-pub(crate) fn is_needed(positions: &Positions, at: u32, value: u32) -> bool
+pub(crate) fn is_needed(positions: &Needs, at: u32, value: u32) -> bool
     ensures { result ≡ is_needed (need_told positions.now) at value }
 {
     positions.next_need(value, at).is_some()
@@ -29,7 +29,7 @@ pub(crate) fn is_needed(positions: &Positions, at: u32, value: u32) -> bool
 // Brings a use into a register.
 fn bring_one(
     fw: &mut Forward,
-    positions: &Positions,
+    positions: &Needs,
     at: u32,
     keep: &[u32],
     value: u32,
@@ -57,7 +57,7 @@ fn bring_one(
 /// Brings uses into registers.
 pub(crate) fn bring_all(
     fw: &mut Forward,
-    positions: &Positions,
+    positions: &Needs,
     at: u32,
     uses: &[u32],
 ) -> Result<(), Memory>
@@ -73,7 +73,7 @@ pub(crate) fn bring_all(
 }
 
 // Takes a value's places away if it has no need.
-fn drop_one(fw: &mut Forward, positions: &Positions, at: u32, value: u32)
+fn drop_one(fw: &mut Forward, positions: &Needs, at: u32, value: u32)
     ensures step { fw.new ≡ in_part (drop_one (need_told positions.now) at value) fw.old }
     ensures row { length fw.new.part.regs ≡ length fw.old.part.regs }
 {
@@ -82,7 +82,7 @@ fn drop_one(fw: &mut Forward, positions: &Positions, at: u32, value: u32)
     }
 }
 
-fn drop_all(fw: &mut Forward, positions: &Positions, at: u32, values: &[u32])
+fn drop_all(fw: &mut Forward, positions: &Needs, at: u32, values: &[u32])
     ensures step { fw.new ≡ in_part (drop_all (need_told positions.now) at values.now) fw.old }
     ensures row { length fw.new.part.regs ≡ length fw.old.part.regs }
 {
@@ -94,7 +94,7 @@ fn drop_all(fw: &mut Forward, positions: &Positions, at: u32, values: &[u32])
 // Gives the definition of an operation that isn't a call a register.
 fn define_one(
     fw: &mut Forward,
-    positions: &Positions,
+    positions: &Needs,
     at: u32,
     index: u32,
     lir: &Lir,
@@ -123,7 +123,7 @@ fn define_one(
 // The values in registers that have a need.
 fn needed_in(
     alloc: Global,
-    positions: &Positions,
+    positions: &Needs,
     at: u32,
     regs: &[Option<u32>],
 ) -> Result<Vec<u32>, AllocError>
@@ -144,7 +144,7 @@ fn needed_in(
 fn call(
     alloc: Global,
     fw: &mut Forward,
-    positions: &Positions,
+    positions: &Needs,
     behind: u32,
     index: u32,
     lir: &Lir,
@@ -161,7 +161,7 @@ fn call(
     Ok(())
 }
 
-fn drop_definition(fw: &mut Forward, positions: &Positions, at: u32, def: Option<u32>)
+fn drop_definition(fw: &mut Forward, positions: &Needs, at: u32, def: Option<u32>)
     ensures step { fw.new ≡ in_part (drop_all (need_told positions.now) at (option_to_list def)) fw.old }
     ensures row { length fw.new.part.regs ≡ length fw.old.part.regs }
 {
@@ -174,7 +174,7 @@ fn drop_definition(fw: &mut Forward, positions: &Positions, at: u32, def: Option
 fn operate(
     alloc: Global,
     fw: &mut Forward,
-    positions: &Positions,
+    positions: &Needs,
     at: u32,
     index: u32,
     lir: &Lir,
@@ -197,7 +197,7 @@ fn operate(
 pub(crate) fn operate_all(
     alloc: Global,
     fw: &mut Forward,
-    positions: &Positions,
+    positions: &Needs,
     first: u32,
     lirs: &[Lir],
 ) -> Result<u32, Memory>

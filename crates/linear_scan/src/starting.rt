@@ -7,10 +7,11 @@ ghost use Rattle.live_interval.specs.Asked.{need_told};
 ghost use Rattle.loc_state.specs.Homed.{inserted, all_inserted};
 ghost use Rattle.linear_scan.specs.Policy.{from};
 ghost use Rattle.linear_scan.specs.Starts.{if_live, hinted, param_reg, start_behind, start_afresh};
+ghost use Rattle.linear_scan.specs.Made.{lent_places};
 
 use crate::policy::is_needed;
 use lir_core::{LiveSets, Places};
-use live_interval::{Positions, next_live};
+use live_interval::{Needs, next_live};
 use loc_state::{Homes, Registers, has_register, lowest_empty, register_of};
 use outside::Memory;
 use std::alloc::{AllocError, Global};
@@ -21,6 +22,13 @@ pub(crate) struct Head<'a> {
     pub(crate) live: &'a LiveSets,
     pub(crate) node: u32,
     pub(crate) params: &'a [u32],
+}
+
+/// Places behind which a node starts.
+#[derive(Clone, Copy)]
+pub(crate) struct Behind<'a> {
+    pub(crate) regs: &'a [Option<u32>],
+    pub(crate) homed: &'a [u32],
 }
 
 /// Places that are being made.
@@ -37,13 +45,12 @@ impl Start {
     ghost use Rattle.linear_scan.specs.Made.{made};
 
     // What is live into a node where it was.
-    fn live(alloc: Global, head: &Head, q: &Places) -> Result<Start, AllocError>
-        ensures { IfOk result (λ s. made s ≡ only_live (has_bit head.now.live.now head.now.node) q.now) }
+    fn live(alloc: Global, head: &Head, q: &Behind) -> Result<Start, AllocError>
+        ensures { IfOk result (λ s. made s ≡ only_live (has_bit head.now.live.now head.now.node) (lent_places q.now)) }
     {
-        let regs = live_registers(alloc, head, q.regs.as_slice())?;
         Ok(Start {
-            regs: Registers::from_slice(alloc, regs.as_slice())?,
-            homed: live_homes(alloc, head, q.homed.as_slice())?,
+            regs: live_registers(alloc, head, q.regs)?,
+            homed: live_homes(alloc, head, q.homed)?,
         })
     }
 
@@ -61,7 +68,7 @@ impl Start {
     // A parameter that has a need takes a register, or is homed.
     fn add(
         &mut self,
-        positions: &Positions,
+        positions: &Needs,
         at: u32,
         value: u32,
         reg: Option<u8>,
@@ -85,7 +92,7 @@ impl Start {
     // The parameters, each in its argument's register in the hint where that is empty.
     fn add_all(
         &mut self,
-        positions: &Positions,
+        positions: &Needs,
         at: u32,
         params: &[u32],
         hint: &[Option<u32>],
@@ -116,25 +123,25 @@ impl Start {
 /// Where a node starts behind other places, at a position.
 pub(crate) fn start_behind(
     alloc: Global,
-    positions: &Positions,
+    positions: &Needs,
     at: u32,
     head: &Head,
     arguments: &[u32],
-    q: &Places,
+    q: &Behind,
 ) -> Result<Places, AllocError>
-    requires { length q.now.regs ≤ 16 }
-    ensures start { IfOk result (λ s. s ≡ start_behind (from (need_told positions.now) at) (has_bit head.now.live.now head.now.node) head.now.params.now arguments.now q.now) }
-    ensures row { IfOk result (λ s. length s.regs ≡ length q.now.regs) }
+    requires { length q.now.regs.now ≤ 16 }
+    ensures start { IfOk result (λ s. s ≡ start_behind (from (need_told positions.now) at) (has_bit head.now.live.now head.now.node) head.now.params.now arguments.now (lent_places q.now)) }
+    ensures row { IfOk result (λ s. length s.regs ≡ length q.now.regs.now) }
 {
     let mut start = Start::live(alloc, head, q)?;
-    start.add_all(positions, at, head.params, q.regs.as_slice(), arguments)?;
+    start.add_all(positions, at, head.params, q.regs, arguments)?;
     start.into_places(alloc)
 }
 
 /// Where a node starts with no hint.
 pub(crate) fn start_afresh(
     alloc: Global,
-    positions: &Positions,
+    positions: &Needs,
     at: u32,
     head: &Head,
     values: u32,
@@ -159,14 +166,10 @@ fn if_live(head: &Head, content: Option<u32>) -> Option<u32>
 }
 
 // What is live in registers.
-fn live_registers(
-    alloc: Global,
-    head: &Head,
-    regs: &[Option<u32>],
-) -> Result<Vec<Option<u32>>, AllocError>
-    ensures { IfOk result (λ row. row.items ≡ map (if_live (has_bit head.now.live.now head.now.node)) regs.now) }
+fn live_registers(alloc: Global, head: &Head, regs: &[Option<u32>]) -> Result<Registers, AllocError>
+    ensures { IfOk result (λ row. row ≡ map (if_live (has_bit head.now.live.now head.now.node)) regs.now) }
 {
-    let mut row = Vec::with_capacity(alloc, regs.len())?;
+    let mut row = Registers::new(alloc);
     for content in regs {
         row.push(if_live(head, *content))?;
     }

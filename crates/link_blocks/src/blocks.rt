@@ -35,7 +35,7 @@ pub(crate) fn block_of(
 {
     let mut copies = Vec::new(alloc);
     let mut at = push_edges(&mut copies, lines, from)?;
-    let mut cells = Vec::new(alloc);
+    let mut cells = Vec::with_capacity(alloc, node.lirs.len())?;
     let mut named = row;
     for lir in node.lirs.as_slice() {
         at = push_body(alloc, &mut copies, lines, at)?;

@@ -108,7 +108,7 @@ fn laid_out(
 {
     let mut laid = Laid {
         blocks: none_yet(alloc, nodes.len())?,
-        order: Vec::new(alloc),
+        order: Vec::with_capacity(alloc, nodes.len())?,
     };
     let mut at = from;
     for out in outs {
@@ -120,7 +120,7 @@ fn laid_out(
 fn none_yet(alloc: Global, count: usize) -> Result<Vec<Option<Block>>, AllocError>
     ensures { IfOk result (λ blocks. length blocks.items ≡ count) }
 {
-    let mut blocks = Vec::new(alloc);
+    let mut blocks = Vec::with_capacity(alloc, count)?;
     for _number in 0..count {
         blocks.push(None)?;
     }
@@ -192,7 +192,7 @@ fn put(blocks: &mut Vec<Option<Block>>, number: u32, block: Block)
 fn all_blocks(alloc: Global, blocks: Vec<Option<Block>>) -> Result<Vec<Block>, AllocError>
     ensures { IfOk result (λ list. map block_in list.items ≡ map block_or blocks.items) }
 {
-    let mut list = Vec::new(alloc);
+    let mut list = Vec::with_capacity(alloc, blocks.len())?;
     for slot in blocks {
         match slot {
             Some(block) => list.push(block)?,

@@ -37,7 +37,7 @@ pub(crate) fn starts(alloc: Global, first: u32, widths: &[u32]) -> Result<Vec<u3
     ensures reach { IfOk result (λ starts. InReach starts.items) }
     ensures limit { IfErr result (λ fault. fault ≡ Limit → 2 ^ 18 < end_from first widths.now) }
 {
-    let mut starts = Vec::new(alloc);
+    let mut starts = Vec::with_capacity(alloc, widths.len())?;
     let mut at = first;
     for width in widths {
         starts.push(at)?;

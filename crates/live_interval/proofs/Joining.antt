@@ -5,17 +5,17 @@ use Rattle.block_runs.specs.Valid.{times}
 use Rattle.lir_core.specs.declared.flow.Node.{Node}
 use Rattle.lir_core.specs.declared.flow.Flow.{Flow}
 use Rattle.live_interval.specs.Needs.{Position, at_start, at_operation, at_end, in_node, first_of, positions_of}
-use Rattle.live_interval.specs.Tables.{noted, noted_all, passed, passed_all, row_in, one_at}
+use Rattle.live_interval.specs.Tables.{noted, noted_all, passed, passed_all, row_in}
 use Rattle.live_interval.specs.declared.notes.Note.{Note}
-use Rattle.live_interval.specs.declared.tables.Tables.{Tables}
+use Rattle.live_interval.specs.declared.table.Table.{Table}
 
 pub noted_all_join : (xs ys : List ℕ) (p : ℕ) (notes : List Note) → noted_all (xs ++ ys) p notes ≡ noted_all ys p (noted_all xs p notes)
 noted_all_join [] ys p notes = refl
 noted_all_join (x ∷ xs) ys p notes = noted_all_join xs ys p (noted x p notes)
 
-pub passed_all_join : (xs ys : List Position) (t : Tables) → passed_all (xs ++ ys) t ≡ passed_all ys (passed_all xs t)
-passed_all_join [] ys t = refl
-passed_all_join (x ∷ xs) ys t = passed_all_join xs ys (passed x t)
+passed_all_join : (part : Position → List ℕ) (xs ys : List Position) (t : Table) → passed_all part (xs ++ ys) t ≡ passed_all part ys (passed_all part xs t)
+passed_all_join part [] ys t = refl
+passed_all_join part (x ∷ xs) ys t = passed_all_join part xs ys (passed part x t)
 
 ---- Rows
 
@@ -44,64 +44,36 @@ row_noted_all (x ∷ vs) p notes v =
     at_test true = refl
     at_test false = refl
 
--- a note more joins its value's row
-pub row_step : (notes : List Note) (i : ℕ) (x : Note) (old new : List ℕ) (v : ℕ) → i < length notes → x ≡ get_or notes i x → new ≡ old ++ one_at x.value x.position v → old ++ row_in (drop i notes) v ≡ row_in notes v → new ++ row_in (drop (i + 1) notes) v ≡ row_in notes v
-row_step notes i x old new v lt is e h =
-    ap (λ r. r ++ row_in (drop (i + 1) notes) v) e
-    ∙ append_assoc old (one_at x.value x.position v) (row_in (drop (i + 1) notes) v)
-    ∙ ap (λ t. old ++ t) (sym (first_row notes i x v lt is))
-    ∙ h
-  where
-    one : (x : Note) (ns : List Note) (v : ℕ) → row_in (x ∷ ns) v ≡ one_at x.value x.position v ++ row_in ns v
-    one x ns v = at_test (x.value == v)
-      where
-        at_test : (b : Bool) → cond b (x.position ∷ row_in ns v) (row_in ns v) ≡ cond b (x.position ∷ []) [] ++ row_in ns v
-        at_test true = refl
-        at_test false = refl
-
-    first_row : (notes : List Note) (i : ℕ) (x : Note) (v : ℕ) → i < length notes → x ≡ get_or notes i x → row_in (drop i notes) v ≡ one_at x.value x.position v ++ row_in (drop (i + 1) notes) v
-    first_row [] i x v lt is = absurd (omega (arith, lt))
-    first_row (n ∷ ns) zero x v lt is = one n ns v ∙ ap (λ (y : Note). one_at y.value y.position v ++ row_in ns v) (sym is)
-    first_row (n ∷ ns) (suc i) x v lt is = let e : suc i + 1 ≡ suc (i + 1) = omega arith in first_row ns i x v (omega (arith, lt)) is ∙ ap (λ k. one_at x.value x.position v ++ row_in (drop k (n ∷ ns)) v) (sym e)
-
 ---- Nodes
 
 -- a node more of a trace
-pub pass_step : (f : Flow) (rows : List (List ℕ)) (nodes : List ℕ) (i n : ℕ) (next : Option ℕ) (t : Tables) → i < length nodes → n ≡ get_or nodes i 0 → next ≡ slice_get nodes (i + 1) → passed_all (positions_of f rows (drop i nodes)) t ≡ passed_all (positions_of f rows (drop (i + 1) nodes)) (passed_all (in_node f.values rows next (slice_get f.nodes n)) t)
-pass_step f rows (m ∷ nodes) zero n next t lt e g = ap₂ (λ o k. passed_all (in_node f.values rows o (slice_get f.nodes k) ++ positions_of f rows nodes) t) (sym (g ∙ at_first nodes)) (sym e) ∙ passed_all_join (in_node f.values rows next (slice_get f.nodes n)) (positions_of f rows nodes) t
+pub pass_step : (part : Position → List ℕ) (f : Flow) (rows : List (List ℕ)) (nodes : List ℕ) (i n : ℕ) (next : Option ℕ) (t : Table) → i < length nodes → n ≡ get_or nodes i 0 → next ≡ slice_get nodes (i + 1) → passed_all part (positions_of f rows (drop i nodes)) t ≡ passed_all part (positions_of f rows (drop (i + 1) nodes)) (passed_all part (in_node f.values rows next (slice_get f.nodes n)) t)
+pass_step part f rows (m ∷ nodes) zero n next t lt e g = ap₂ (λ o k. passed_all part (in_node f.values rows o (slice_get f.nodes k) ++ positions_of f rows nodes) t) (sym (g ∙ at_first nodes)) (sym e) ∙ passed_all_join part (in_node f.values rows next (slice_get f.nodes n)) (positions_of f rows nodes) t
   where
     at_first : (ms : List ℕ) → slice_get (m ∷ ms) 1 ≡ first_of ms
     at_first [] = refl
     at_first (x ∷ ms) = refl
-pass_step f rows (m ∷ nodes) (suc i) n next t lt e g =
+pass_step part f rows (m ∷ nodes) (suc i) n next t lt e g =
     let a : suc i + 1 ≡ suc (i + 1) = omega arith in
-    pass_step f rows nodes i n next t (omega (arith, lt)) e (g ∙ ap (slice_get (m ∷ nodes)) a) ∙ ap (λ k. passed_all (positions_of f rows (drop k (m ∷ nodes))) (passed_all (in_node f.values rows next (slice_get f.nodes n)) t)) (sym a)
-pass_step f rows [] i n next t lt e g = absurd (omega (arith, lt))
+    pass_step part f rows nodes i n next t (omega (arith, lt)) e (g ∙ ap (slice_get (m ∷ nodes)) a) ∙ ap (λ k. passed_all part (positions_of f rows (drop k (m ∷ nodes))) (passed_all part (in_node f.values rows next (slice_get f.nodes n)) t)) (sym a)
+pass_step part f rows [] i n next t lt e g = absurd (omega (arith, lt))
 
 -- a node is its start, its operations and its end
-pub node_passed : (f : Flow) (rows : List (List ℕ)) (next : Option ℕ) (o : Option Node) (node : Node) (old t1 t2 t3 : Tables) → o ≡ Some node → t1 ≡ passed (at_start node) old → t2 ≡ passed_all (map at_operation node.lirs) t1 → t3 ≡ passed (at_end f.values rows next node) t2 → t3 ≡ passed_all (in_node f.values rows next o) old
-node_passed f rows next o node old t1 t2 t3 is a b e =
-    e ∙ ap (passed (at_end f.values rows next node)) b
-    ∙ sym (passed_all_join (map at_operation node.lirs) (at_end f.values rows next node ∷ []) t1)
-    ∙ ap (passed_all (map at_operation node.lirs ++ at_end f.values rows next node ∷ [])) a
-    ∙ ap (λ q. passed_all (in_node f.values rows next q) old) (sym is)
+pub node_passed : (part : Position → List ℕ) (f : Flow) (rows : List (List ℕ)) (next : Option ℕ) (o : Option Node) (node : Node) (old t1 t2 t3 : Table) → o ≡ Some node → t1 ≡ passed part (at_start node) old → t2 ≡ passed_all part (map at_operation node.lirs) t1 → t3 ≡ passed part (at_end f.values rows next node) t2 → t3 ≡ passed_all part (in_node f.values rows next o) old
+node_passed part f rows next o node old t1 t2 t3 is a b e =
+    e ∙ ap (passed part (at_end f.values rows next node)) b
+    ∙ sym (passed_all_join part (map at_operation node.lirs) (at_end f.values rows next node ∷ []) t1)
+    ∙ ap (passed_all part (map at_operation node.lirs ++ at_end f.values rows next node ∷ [])) a
+    ∙ ap (λ q. passed_all part (in_node f.values rows next q) old) (sym is)
 
 -- the numbers of the positions of which a part has a value, as often as it has it, where the first position is number p
 abbrev pub repeated : (Position → List ℕ) → ℕ → ℕ → List Position → List ℕ
 repeated part v p [] = []
 repeated part v p (x ∷ xs) = replicate (times (part x) v) p ++ repeated part v (suc p) xs
 
-module _ (v : ℕ) where
-  pub needs_row : (ps : List Position) (t : Tables) → row_in (passed_all ps t).needs v ≡ row_in t.needs v ++ repeated (λ x. x.needs) v t.at ps
-  needs_row [] t = sym (append_nil (row_in t.needs v))
-  needs_row (x ∷ ps) t =
-      needs_row ps (passed x t)
-      ∙ ap₂ (λ r n. r ++ repeated (λ x. x.needs) v n ps) (row_noted_all x.needs t.at t.needs v) (add-one t.at)
-      ∙ append_assoc (row_in t.needs v) (replicate (times x.needs v) t.at) (repeated (λ x. x.needs) v (suc t.at) ps)
-
-  pub mentions_row : (ps : List Position) (t : Tables) → row_in (passed_all ps t).mentions v ≡ row_in t.mentions v ++ repeated (λ x. x.mentions) v t.at ps
-  mentions_row [] t = sym (append_nil (row_in t.mentions v))
-  mentions_row (x ∷ ps) t =
-      mentions_row ps (passed x t)
-      ∙ ap₂ (λ r n. r ++ repeated (λ x. x.mentions) v n ps) (row_noted_all x.mentions t.at t.mentions v) (add-one t.at)
-      ∙ append_assoc (row_in t.mentions v) (replicate (times x.mentions v) t.at) (repeated (λ x. x.mentions) v (suc t.at) ps)
+pub noted_row : (part : Position → List ℕ) (v : ℕ) (ps : List Position) (t : Table) → row_in (passed_all part ps t).notes v ≡ row_in t.notes v ++ repeated part v t.at ps
+noted_row part v [] t = sym (append_nil (row_in t.notes v))
+noted_row part v (x ∷ ps) t =
+    noted_row part v ps (passed part x t)
+    ∙ ap₂ (λ r n. r ++ repeated part v n ps) (row_noted_all (part x) t.at t.notes v) (add-one t.at)
+    ∙ append_assoc (row_in t.notes v) (replicate (times (part x) v) t.at) (repeated part v (suc t.at) ps)

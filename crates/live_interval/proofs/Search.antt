@@ -1,49 +1,25 @@
--- Halving finds what a search finds.
+-- The first and the last number of a row are what a search finds.
 use Rattle.std.proofs.Common.{◌≡◌, ℕ, zero, suc, ◌+◌, ◌<◌, ◌≤◌, Bool, true, false, cond, List, [], ◌∷◌, ◌++◌, length, take, drop, replicate, Option, Some, refl, sym, ap, ◌∙◌, arith}
-use Rattle.std.specs.Prelude.{◌==◌, nat_lt, nat_le, slice_get, slice_index}
+use Rattle.std.specs.Prelude.{◌==◌, nat_lt, nat_le, slice_index}
 use Rattle.std.proofs.lemmas.Bool.Decides.{nat_tests}
 use Rattle.block_runs.specs.Live.{has}
 use Rattle.block_runs.specs.Valid.{times}
 use Rattle.global_live.proofs.Lists.{times_of_in}
 use Rattle.live_interval.specs.Needs.{Position, first_need, latest_mention}
-use Rattle.live_interval.specs.Asked.{first_from, last_below, IsRising, IsCount}
+use Rattle.live_interval.specs.Asked.{first_from, last_below, IsRising}
 use Rattle.live_interval.proofs.Joining.{repeated}
 
-le_test : (a b : ℕ) → a ≤ b → nat_le a b ≡ true
+pub le_test : (a b : ℕ) → a ≤ b → nat_le a b ≡ true
 le_test a b h = grind (arith, nat_tests)
 
-not_le : (a b : ℕ) → b < a → nat_le a b ≡ false
+pub not_le : (a b : ℕ) → b < a → nat_le a b ≡ false
 not_le a b h = grind (arith, nat_tests)
 
-lt_test : (a b : ℕ) → a < b → nat_lt a b ≡ true
+pub lt_test : (a b : ℕ) → a < b → nat_lt a b ≡ true
 lt_test a b h = grind (arith, nat_tests)
 
-not_lt : (a b : ℕ) → b ≤ a → nat_lt a b ≡ false
+pub not_lt : (a b : ℕ) → b ≤ a → nat_lt a b ≡ false
 not_lt a b h = grind (arith, nat_tests)
-
----- Rows
-
-behind_one : (x : ℕ) (xs : List ℕ) (limit n : ℕ) → IsCount (x ∷ xs) limit (suc n) → IsCount xs limit n
-behind_one x xs limit n h = record {
-  within = let w = h.within in omega (arith, w);
-  below = λ i l. h.below (suc i) (omega (arith, l));
-  behind = λ i l m. h.behind (suc i) (omega (arith, l)) (omega (arith, m));
-}
-
-pub first_found : (row : List ℕ) (limit n : ℕ) → IsCount row limit n → slice_get row n ≡ first_from limit row
-first_found [] limit zero h = refl
-first_found [] limit (suc n) h = let w = h.within in absurd (omega (arith, w))
-first_found (x ∷ xs) limit zero h = sym (ap (λ b. cond b (Some x) (first_from limit xs)) (le_test limit x (h.behind 0 (omega arith) (omega arith))))
-first_found (x ∷ xs) limit (suc n) h = first_found xs limit n (behind_one x xs limit n h) ∙ sym (ap (λ b. cond b (Some x) (first_from limit xs)) (not_le limit x (h.below 0 (omega arith))))
-
-pub last_none : (row : List ℕ) (limit : ℕ) (last : Option ℕ) → ((i : ℕ) → i < length row → limit ≤ slice_index row i) → last_below limit last row ≡ last
-last_none [] limit last h = refl
-last_none (x ∷ xs) limit last h = ap (λ b. last_below limit (cond b (Some x) last) xs) (not_lt x limit (h 0 (omega arith))) ∙ last_none xs limit last (λ i l. h (suc i) (omega (arith, l)))
-
-pub last_found : (row : List ℕ) (limit n : ℕ) (last : Option ℕ) → IsCount row limit (suc n) → last_below limit last row ≡ Some (slice_index row n)
-last_found [] limit n last h = let w = h.within in absurd (omega (arith, w))
-last_found (x ∷ xs) limit zero last h = ap (λ b. last_below limit (cond b (Some x) last) xs) (lt_test x limit (h.below 0 (omega arith))) ∙ last_none xs limit (Some x) (λ i l. h.behind (suc i) (omega arith) (omega (arith, l)))
-last_found (x ∷ xs) limit (suc n) last h = last_found xs limit n (cond (nat_lt x limit) (Some x) last) (behind_one x xs limit (suc n) h)
 
 ---- What rows are
 
@@ -138,6 +114,3 @@ rises p (x ∷ xs) h zero zero le lt = omega arith
 rises p (x ∷ xs) h zero (suc j) le lt = least x xs j h.1 (omega (arith, lt))
 rises p (x ∷ xs) h (suc i) zero le lt = absurd (omega (arith, le))
 rises p (x ∷ xs) h (suc i) (suc j) le lt = rises x xs h.1 i j (omega (arith, le)) (omega (arith, lt))
-
-pub rises_none : IsRising []
-rises_none i j le lt = absurd (omega (arith, lt))

@@ -1,11 +1,8 @@
 -- What is noted position by position, and for each value the positions at which it is noted.
-use Rattle.std.specs.Prelude.{ℕ, nat_eq, ◌+◌, ◌==◌, Bool, cond, List, [], ◌∷◌, ◌++◌, map, Option, Some, None, Vec}
-use Rattle.std.specs.Global.{Global}
-use Rattle.std.specs.HashMap.{get}
+use Rattle.std.specs.Prelude.{ℕ, nat_lt, ◌+◌, ◌==◌, Bool, true, false, cond, List, [], ◌∷◌, ◌++◌, Option, Some, None}
 use Rattle.live_interval.specs.Needs.{Position}
 use Rattle.live_interval.specs.declared.notes.Note.{Note}
-use Rattle.live_interval.specs.declared.rows.Rows.{Rows}
-use Rattle.live_interval.specs.declared.tables.Tables.{Tables}
+use Rattle.live_interval.specs.declared.table.Table.{Table}
 
 ---- Notes
 
@@ -19,17 +16,27 @@ noted_all (v ∷ vs) p notes = noted_all vs p (noted v p notes)
 abbrev pub one_if : Bool → ℕ → List ℕ
 one_if b v = cond b (v ∷ []) []
 
--- behind a position
-abbrev pub passed : Position → Tables → Tables
-passed p t = record { at = t.at + 1; needs = noted_all p.needs t.at t.needs; mentions = noted_all p.mentions t.at t.mentions }
+-- what of a position is noted
+abbrev pub needed : Position → List ℕ
+needed p = p.needs
 
-abbrev pub passed_all : List Position → Tables → Tables
-passed_all [] t = t
-passed_all (p ∷ ps) t = passed_all ps (passed p t)
+abbrev pub mentioned : Position → List ℕ
+mentioned p = p.mentions
 
--- these values are used at the position that is being passed
-abbrev pub used : List ℕ → Tables → Tables
-used vs t = record { at = t.at; needs = noted_all vs t.at t.needs; mentions = noted_all vs t.at t.mentions }
+-- these values are noted at the position that is being passed
+abbrev pub with_notes : List ℕ → Table → Table
+with_notes vs t = record { at = t.at; notes = noted_all vs t.at t.notes }
+
+-- behind a position, of which a part is noted
+abbrev pub passed : (Position → List ℕ) → Position → Table → Table
+passed part p t = record { at = t.at + 1; notes = noted_all (part p) t.at t.notes }
+
+abbrev pub passed_all : (Position → List ℕ) → List Position → Table → Table
+passed_all part [] t = t
+passed_all part (p ∷ ps) t = passed_all part ps (passed part p t)
+
+abbrev pub no_notes : Table
+no_notes = record { at = 0; notes = [] }
 
 ---- Rows
 
@@ -38,16 +45,10 @@ abbrev pub row_in : List Note → ℕ → List ℕ
 row_in [] v = []
 row_in (n ∷ ns) v = cond (n.value == v) (n.position ∷ row_in ns v) (row_in ns v)
 
-abbrev pub one_at : ℕ → ℕ → ℕ → List ℕ
-one_at value position v = cond (value == v) (position ∷ []) []
+-- a note comes before a value's note at a position, in order of values and then of positions
+abbrev pub is_before : ℕ → ℕ → Note → Bool
+is_before v p n = cond (nat_lt n.value v) true (cond (n.value == v) (nat_lt n.position p) false)
 
-abbrev pub items_of : Option (Vec ℕ Global) → List ℕ
-items_of None = []
-items_of (Some row) = row.items
-
-abbrev pub row_of : Rows → ℕ → List ℕ
-row_of s v = items_of (get nat_eq s.rows v)
-
--- all rows
-abbrev pub rows_of : Rows → List (ℕ × List ℕ)
-rows_of s = map (λ e. (e.0, e.1.items)) s.rows.entries
+-- the position of a note, if it speaks of a value
+abbrev pub position_of : ℕ → Note → Option ℕ
+position_of v n = cond (n.value == v) (Some n.position) None

@@ -1,74 +1,55 @@
-//! The call that makes the tables.
+//! The calls that make the tables.
 
-ghost use Rattle.std.specs.Prelude.{◌≡◌, ℕ, ◌+◌, slice_get, IfOk, OnOk};
+ghost use Rattle.std.specs.Prelude.{◌≡◌, ℕ, List, IfOk};
 ghost use Rattle.lir_core.specs.Flows.{IsValidFlow};
-ghost use Rattle.live_interval.specs.Needs.{in_node, positions_of, next_need, last_mention};
+ghost use Rattle.live_interval.specs.Needs.{positions_of, next_need, last_mention};
 ghost use Rattle.live_interval.specs.Asked.{need_told, mention_told};
-ghost use Rattle.live_interval.specs.Tables.{passed_all};
 
-use crate::asking::{Positions, number_at};
-use crate::notes::Notes;
+use crate::asking::{Mentions, Needs};
+use crate::mentioning::pass_mentions;
+use crate::needing::pass_needs;
 use crate::rows::Rows;
-use crate::tables::Tables;
+use crate::table::Table;
 use lir_core::{Flow, LiveSets, Trace};
 use outside::Memory;
 use std::alloc::Global;
 
-/// The positions of a trace of a flow: what they answer is what a search finds, where `live` has the values that are live
-/// into each node. Takes time in proportion to the trace's operations and uses, and at each edge out of the trace to the words
-/// of a row and the values that are live there, each times a logarithm.
-pub fn positions(
-    alloc: Global,
-    flow: &Flow,
-    trace: &Trace,
-    live: &LiveSets,
-) -> Result<Positions, Memory>
-    ensures next_need { IsValidFlow flow.now → IfOk result (λ ps. (v at : ℕ) → need_told ps v at ≡ next_need (positions_of flow.now live.now trace.now.nodes) v at) }
+/// What the positions of a trace of a flow need: the first that needs a value is what a search finds, where `live` has the
+/// values that are live into each node. Takes time in proportion to the trace's operations and uses, and at each edge out of
+/// the trace to the words of a row and the values that are live there, each times a logarithm.
+pub fn needs(alloc: Global, flow: &Flow, trace: &Trace, live: &LiveSets) -> Result<Needs, Memory>
+    ensures next_need { IsValidFlow flow.now → IfOk result (λ ns. (v at : ℕ) → need_told ns v at ≡ next_need (positions_of flow.now live.now trace.now.nodes) v at) }
+{
+    let nodes = trace.nodes.as_slice();
+    let mut table = Table::new(alloc, room(flow, nodes))?;
+    pass_needs(&mut table, flow, live, nodes)?;
+    let Table { notes, .. } = table;
+    let rows = Rows::of(notes)?;
+    Ok(Needs { rows })
+}
+
+/// What the positions of a trace of a flow mention: the last that mentions a value is what a search finds, whatever is live.
+/// Takes time in proportion to the trace's operations and uses, times a logarithm.
+pub fn mentions(alloc: Global, flow: &Flow, trace: &Trace) -> Result<Mentions, Memory>
     ensures last_mention { IsValidFlow flow.now
-        → IfOk result (λ ps. (v before : ℕ)
-        → mention_told ps v before ≡ last_mention (positions_of flow.now live.now trace.now.nodes) v before) }
+        → IfOk result (λ ms. (rows : List (List ℕ)) (v before : ℕ)
+        → mention_told ms v before ≡ last_mention (positions_of flow.now rows trace.now.nodes) v before) }
 {
-    let mut tables = Tables {
-        at: 0,
-        needs: Notes::new(alloc),
-        mentions: Notes::new(alloc),
-    };
-    pass_nodes(&mut tables, flow, live, trace.nodes.as_slice())?;
-    let needs = Rows::of(alloc, tables.needs.as_slice())?;
-    let mentions = Rows::of(alloc, tables.mentions.as_slice())?;
-    Ok(Positions { needs, mentions })
+    let nodes = trace.nodes.as_slice();
+    let mut table = Table::new(alloc, room(flow, nodes))?;
+    pass_mentions(&mut table, flow, nodes)?;
+    let Table { notes, .. } = table;
+    let rows = Rows::of(notes)?;
+    Ok(Mentions { rows })
 }
 
-// Passes the nodes of a trace.
-fn pass_nodes(
-    tables: &mut Tables,
-    flow: &Flow,
-    live: &LiveSets,
-    nodes: &[u32],
-) -> Result<(), Memory>
-    ensures { OnOk result (tables.new ≡ passed_all (positions_of flow.now live.now nodes.now) tables.old) }
-{
-    for i in 0..nodes.len() {
-        pass_node(tables, flow, live, nodes[i], number_at(nodes, i + 1))?;
+// Room for what most traces of these nodes need or mention (measured): twice as many notes as there are positions.
+fn room(flow: &Flow, nodes: &[u32]) -> usize {
+    let mut count = 0usize;
+    for number in nodes {
+        if let Some(node) = flow.nodes.as_slice().get(*number as usize) {
+            count = count.saturating_add(node.lirs.len()).saturating_add(2);
+        }
     }
-    Ok(())
-}
-
-// Passes a node, behind which the trace goes on with the next.
-fn pass_node(
-    tables: &mut Tables,
-    flow: &Flow,
-    live: &LiveSets,
-    number: u32,
-    next: Option<u32>,
-) -> Result<(), Memory>
-    ensures { OnOk result (tables.new ≡ passed_all (in_node flow.now.values live.now next (slice_get flow.now.nodes number)) tables.old) }
-{
-    let Some(node) = flow.nodes.as_slice().get(number as usize) else {
-        return Ok(());
-    };
-    tables.start(node)?;
-    tables.operations(node.lirs.as_slice())?;
-    tables.end(live, flow.values, next, node)?;
-    Ok(())
+    count.saturating_mul(2)
 }

@@ -1,8 +1,9 @@
 //! What positions say of values, in the order of positions.
 
-ghost use Rattle.std.specs.Prelude.{◌≡◌, [], OnOk};
+ghost use Rattle.std.specs.Prelude.{◌≡◌, ℕ, [], IfOk, OnOk};
+ghost use Rattle.std.specs.List.Sorted.{IsNonDecreasingBy};
 ghost use Rattle.live_interval.specs.Needs.{live_into};
-ghost use Rattle.live_interval.specs.Tables.{noted, noted_all};
+ghost use Rattle.live_interval.specs.Tables.{noted, noted_all, row_in, is_before, position_of};
 
 use crate::living::next_live;
 use lir_core::LiveSets;
@@ -14,6 +15,26 @@ use std::marker::Model;
 pub(crate) struct Note {
     pub(crate) value: u32,
     pub(crate) position: u32,
+}
+
+impl Note {
+    /// Whether the note comes before a value's note at a position, in order of values and then of positions.
+    pub(crate) fn is_before(&self, value: u32, position: u32) -> bool
+        ensures { result ≡ is_before value position self.now }
+    {
+        self.value < value || self.value == value && self.position < position
+    }
+
+    /// The position, if something is said of that value.
+    pub(crate) fn position_of(&self, value: u32) -> Option<u32>
+        ensures { result ≡ position_of value self.now }
+    {
+        if self.value == value {
+            Some(self.position)
+        } else {
+            None
+        }
+    }
 }
 
 /// Notes, in order.
@@ -32,20 +53,22 @@ impl Model for Notes {
 }
 
 impl Notes {
-    /// None.
-    pub(crate) fn new(alloc: Global) -> Notes
-        ensures { result ≡ [] }
+    /// None, with room for so many.
+    pub(crate) fn with_room(alloc: Global, count: usize) -> Result<Notes, AllocError>
+        ensures { IfOk result (λ notes. notes ≡ []) }
     {
-        Notes {
-            notes: Vec::new(alloc),
-        }
+        let notes = Vec::with_capacity(alloc, count)?;
+        Ok(Notes { notes })
     }
 
-    /// The notes.
-    pub(crate) fn as_slice(&self) -> &[Note]
-        ensures { result.now ≡ self.now }
+    /// The notes in order of values, and those of a value as they were.
+    pub(crate) fn by_value(self) -> Result<Vec<Note>, AllocError>
+        ensures same_rows { IfOk result (λ notes. (v : ℕ) → row_in notes.items v ≡ row_in self v) }
+        ensures values_rise { IfOk result (λ notes. IsNonDecreasingBy (λ n. n.value) notes.items) }
     {
-        self.notes.as_slice()
+        let Notes { mut notes } = self;
+        notes.sort_by_key(|note| note.value)?;
+        Ok(notes)
     }
 
     /// Notes a value at a position.

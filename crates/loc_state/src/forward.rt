@@ -7,7 +7,7 @@ ghost use Rattle.lir_core.specs.declared.places.TraceOut.{TraceOut};
 ghost use Rattle.lir_core.specs.Flows.{operation_of};
 ghost use Rattle.lir_core.specs.Lines.{Room, end_reads};
 
-use crate::part::Part;
+use crate::part::{Part, with_room};
 use lir_core::{Items, Leave, Line, Lir, Places, TraceOut};
 use outside::Memory;
 use std::alloc::Global;
@@ -39,6 +39,29 @@ impl Forward {
             regs: Items::new(alloc),
             part: Part::begin(alloc, start)?,
         })
+    }
+
+    /// Makes room for what so many nodes will have.
+    pub fn make_room_for_nodes(&mut self, alloc: Global, nodes: usize) -> Result<(), Memory>
+        ensures { OnOk result (self.new ≡ self.old) }
+    {
+        let starts = replace(&mut self.starts, Items::new(alloc));
+        self.starts = with_room(starts, nodes)?;
+        let ends = replace(&mut self.ends, Items::new(alloc));
+        self.ends = with_room(ends, nodes)?;
+        let lines = replace(&mut self.lines, Items::new(alloc));
+        self.lines = with_room(lines, nodes)?;
+        let regs = replace(&mut self.regs, Items::new(alloc));
+        self.regs = with_room(regs, nodes)?;
+        Ok(())
+    }
+
+    /// Makes room for the lines of so many operations.
+    pub fn make_room(&mut self, alloc: Global, operations: usize) -> Result<(), Memory>
+        ensures { OnOk result (self.new ≡ self.old) }
+    {
+        self.part.make_room(alloc, operations)?;
+        Ok(())
     }
 
     /// Notes the register of the next use. With none given the value is in a register; else it is homed, and is loaded

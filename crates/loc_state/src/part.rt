@@ -11,6 +11,7 @@ use crate::registers::{Registers, register_of};
 use lir_core::{Items, Line, Lir, Places};
 use outside::Memory;
 use std::alloc::{AllocError, Global};
+use std::mem::replace;
 
 /// A node's start places, where the values are now, the lines so far, and the registers that are named, of which those
 /// from `since` on are noted for what comes.
@@ -25,7 +26,7 @@ pub struct Part {
 }
 
 impl Part {
-    ghost use Rattle.loc_state.specs.Steps.{begun, places, brought, evicted, dropped, defines, saving, keeps_one, keeps_all, called};
+    ghost use Rattle.loc_state.specs.Steps.{begun, brought, evicted, dropped, defines, saving, keeps_one, keeps_all, called};
     ghost use Rattle.loc_state.specs.Lines.{place_of, aims, moves, call_lines};
     ghost use Rattle.loc_state.specs.Walked.{InRow, Matches};
 
@@ -43,14 +44,15 @@ impl Part {
         })
     }
 
-    /// Where the values are now.
-    pub fn places(&self, alloc: Global) -> Result<Places, AllocError>
-        ensures { IfOk result (λ q. q ≡ places self.now) }
+    /// Makes room for the lines of so many operations, and for the registers that they name.
+    pub(crate) fn make_room(&mut self, alloc: Global, operations: usize) -> Result<(), AllocError>
+        ensures { OnOk result (self.new ≡ self.old) }
     {
-        Ok(Places {
-            regs: self.regs.list(alloc)?,
-            homed: self.homed.list(alloc)?,
-        })
+        let lines = replace(&mut self.lines, Items::new(alloc));
+        self.lines = with_room(lines, operations.saturating_add(operations / 4))?;
+        let named = replace(&mut self.named, Items::new(alloc));
+        self.named = with_room(named, operations.saturating_mul(3))?;
+        Ok(())
     }
 
     pub(crate) fn bring(&mut self, value: u32, reg: Option<u8>) -> Result<(), AllocError>
@@ -200,4 +202,13 @@ impl Part {
         }
         Ok(())
     }
+}
+
+/// The same items, with room for so many more.
+pub(crate) fn with_room<T: Drop>(items: Items<T>, count: usize) -> Result<Items<T>, AllocError>
+    ensures { IfOk result (λ more. more ≡ items) }
+{
+    let mut items = items.into_vec();
+    items.reserve_exact(count)?;
+    Ok(Items::from_vec(items))
 }

@@ -1,18 +1,19 @@
 //! A row of registers.
 
-ghost use Rattle.std.specs.Prelude.{◌≡◌, ◌<◌, ◌≤◌, length, map, None, true, IfOk, IfSome, slice_set};
+ghost use Rattle.std.specs.Prelude.{◌≡◌, ◌<◌, ◌≤◌, [], ◌∷◌, ◌++◌, length, map, None, true, IfOk, IfSome, OnOk, slice_set};
 ghost use Rattle.lir_core.specs.Spots.{get, in_register};
 ghost use Rattle.lir_core.specs.Walks.{without};
 ghost use Rattle.loc_state.specs.Registers.{is, register_of, lowest_empty};
 
 use lir_core::Items;
+use smallvec::SmallVec;
 use std::alloc::{AllocError, Global};
 use std::marker::Model;
 
-/// Registers, each empty or with one value, which contracts see as the list of what they have.
+/// Registers, each empty or with one value, which contracts see as the list of what they have. Up to 16 take no memory.
 #[derive(Drop)]
 pub struct Registers {
-    row: Vec<Option<u32>>,
+    row: SmallVec<Option<u32>, 16>,
 }
 
 impl Model for Registers {
@@ -24,12 +25,29 @@ impl Model for Registers {
 }
 
 impl Registers {
+    /// No registers.
+    pub fn new(alloc: Global) -> Registers
+        ensures { result ≡ [] }
+    {
+        Registers {
+            row: SmallVec::new(alloc),
+        }
+    }
+
+    /// A register more.
+    pub fn push(&mut self, value: Option<u32>) -> Result<(), AllocError>
+        ensures { OnOk result (self.new ≡ self.old ++ value ∷ []) }
+    {
+        self.row.push(value)?;
+        Ok(())
+    }
+
     /// Registers with these values.
     pub fn from_slice(alloc: Global, row: &[Option<u32>]) -> Result<Registers, AllocError>
         ensures { IfOk result (λ regs. regs ≡ row.now) }
     {
         Ok(Registers {
-            row: Vec::from_slice(alloc, row)?,
+            row: SmallVec::from_slice(alloc, row)?,
         })
     }
 
@@ -45,7 +63,7 @@ impl Registers {
         requires { reg < length self.now }
         ensures { result ≡ get self.now reg }
     {
-        self.row[reg as usize]
+        self.row.as_slice()[reg as usize]
     }
 
     /// Writes a register.
@@ -53,7 +71,7 @@ impl Registers {
         requires { reg < length self.old }
         ensures { self.new ≡ slice_set self.old reg value }
     {
-        self.row[reg as usize] = value;
+        write(self.row.as_mut_slice(), reg, value);
     }
 
     /// Empties the registers that have a value.
@@ -140,6 +158,13 @@ fn value_left(content: &Option<u32>, value: u32) -> Option<u32>
         Some(v) if *v != value => Some(*v),
         _ => None,
     }
+}
+
+fn write(regs: &mut [Option<u32>], reg: u8, value: Option<u32>)
+    requires { reg < length regs.old }
+    ensures { regs.new ≡ slice_set regs.old reg value }
+{
+    regs[reg as usize] = value;
 }
 
 fn clear(regs: &mut [Option<u32>], value: u32)

@@ -17,11 +17,12 @@ macro_rules! in_table {
     }};
 }
 
-/// Whether two words are the same.
+/// Whether two words are the same: most differ in their lengths, and then no byte is looked at.
+#[inline(always)]
 fn is_word(word: &[u8], other: &[u8]) -> bool
     ensures { result ≡ is_same word.now other.now }
 {
-    word == other
+    word.len() == other.len() && word == other
 }
 
 /// The reserved word that these bytes are, if they are one; case counts. (Oberon-07 report, section 3.)

@@ -7,7 +7,7 @@ ghost use Rattle.ssa_exprs.specs.declared.making.Piece.{Piece as PieceThere};
 ghost use Rattle.ssa_exprs.specs.Making.{resolve, resolved, resolve_end};
 ghost use Rattle.ssa_build.specs.Blocks.{placed_at, finished, blocks_by};
 
-use block_runs::{End, Uses};
+use block_runs::End;
 use items::Items;
 use outside::Memory;
 use ssa_core::{Block, Op};
@@ -53,47 +53,35 @@ fn place_in(places: &[u32], label: u32) -> u32
 }
 
 /// An end with blocks in the place of labels.
-fn placed_end(alloc: Global, places: &[u32], end: &End) -> Result<End, Memory>
-    ensures { IfOk result (λ e. e ≡ resolve_end (λ t. slice_index places.now t) end.now) }
+fn placed_end(places: &[u32], end: End) -> End
+    ensures { result ≡ resolve_end (λ t. slice_index places.now t) end }
 {
     match end {
-        End::Jump { to, args } => Ok(End::Jump {
-            to: place_in(places, *to),
-            args: Items::from_slice(alloc, args.as_slice())?,
-        }),
+        End::Jump { to, args } => End::Jump {
+            to: place_in(places, to),
+            args,
+        },
         End::Branch {
             cond,
             a,
             b,
             yes,
             no,
-        } => Ok(End::Branch {
-            cond: *cond,
-            a: *a,
-            b: *b,
-            yes: place_in(places, *yes),
-            no: place_in(places, *no),
-        }),
-        End::Nonzero { a, yes, no } => Ok(End::Nonzero {
-            a: *a,
-            yes: place_in(places, *yes),
-            no: place_in(places, *no),
-        }),
-        End::Return(a) => Ok(End::Return(*a)),
-        End::Trap(kind) => Ok(End::Trap(*kind)),
+        } => End::Branch {
+            cond,
+            a,
+            b,
+            yes: place_in(places, yes),
+            no: place_in(places, no),
+        },
+        End::Nonzero { a, yes, no } => End::Nonzero {
+            a,
+            yes: place_in(places, yes),
+            no: place_in(places, no),
+        },
+        End::Return(a) => End::Return(a),
+        End::Trap(kind) => End::Trap(kind),
     }
-}
-
-/// An operation once more.
-fn copy_of(alloc: Global, op: &Op) -> Result<Op, Memory>
-    ensures { IfOk result (λ o. o ≡ op.now) }
-{
-    let uses = Uses::from_slice(alloc, op.uses.as_slice())?;
-    Ok(Op {
-        code: op.code,
-        uses,
-        def: op.def,
-    })
 }
 
 /// The open block gets its end.
@@ -115,9 +103,9 @@ fn block(head: Head, ops: Items<Op>, end: End) -> Block
 }
 
 /// One more piece.
-fn add(alloc: Global, places: &[u32], blocks: Blocks, piece: &Piece) -> Result<Blocks, Memory>
+fn add(alloc: Global, places: &[u32], blocks: Blocks, piece: Piece) -> Result<Blocks, Memory>
     ensures { IfOk result (λ new. (rest : List PieceThere) (last : EndThere)
-        → finished new last rest ≡ finished blocks last (resolve (λ t. slice_index places.now t) piece.now ∷ rest)) }
+        → finished new last rest ≡ finished blocks last (resolve (λ t. slice_index places.now t) piece ∷ rest)) }
 {
     let Blocks {
         mut done,
@@ -126,7 +114,7 @@ fn add(alloc: Global, places: &[u32], blocks: Blocks, piece: &Piece) -> Result<B
     } = blocks;
     match piece {
         Piece::Adds(op) => {
-            ops.push(copy_of(alloc, op)?)?;
+            ops.push(op)?;
             Ok(Blocks { done, head, ops })
         }
         Piece::Ends {
@@ -135,15 +123,13 @@ fn add(alloc: Global, places: &[u32], blocks: Blocks, piece: &Piece) -> Result<B
             freq,
             enter,
         } => {
-            let end = placed_end(alloc, places, end)?;
-            let params = Items::from_slice(alloc, params.as_slice())?;
-            done.push(block(head, ops, end))?;
+            done.push(block(head, ops, placed_end(places, end)))?;
             Ok(Blocks {
                 done,
                 head: Head {
                     params,
-                    freq: *freq,
-                    enter: *enter,
+                    freq,
+                    enter,
                 },
                 ops: Items::new(alloc),
             })
@@ -162,16 +148,18 @@ fn first_params(alloc: Global, words: u32) -> Result<Items<u32>, Memory>
     Ok(list)
 }
 
-/// The blocks of a procedure with so many argument words; the last block gets this end.
+/// The blocks of a procedure with so many argument words; the last block gets this end. Room is taken for `count` blocks at
+/// once.
 pub fn all_blocks(
     alloc: Global,
     places: &[u32],
-    pieces: &[Piece],
+    pieces: Vec<Piece>,
+    count: usize,
     words: u32,
     last: End,
 ) -> Result<Items<Block>, Memory>
     ensures { IfOk result (λ list. list ≡ blocks_by (record { params = numbers 0 (min words 4); freq = 1048576; enter = None })
-        [] last (resolved (λ t. slice_index places.now t) pieces.now)) }
+        [] last (resolved (λ t. slice_index places.now t) pieces.items)) }
 {
     let params = first_params(alloc, words)?;
     let head = Head {
@@ -179,7 +167,13 @@ pub fn all_blocks(
         freq: 1048576,
         enter: None,
     };
-    let blocks = add_all(alloc, places, head, pieces)?;
+    let done = Items::from_vec(Vec::with_capacity(alloc, count)?);
+    let blocks = Blocks {
+        done,
+        head,
+        ops: Items::new(alloc),
+    };
+    let blocks = add_all(alloc, places, blocks, pieces)?;
     let Blocks {
         mut done,
         head,
@@ -189,15 +183,16 @@ pub fn all_blocks(
     Ok(done)
 }
 
-/// All pieces, behind the beginning of the first block.
-fn add_all(alloc: Global, places: &[u32], head: Head, pieces: &[Piece]) -> Result<Blocks, Memory>
-    ensures { IfOk result (λ new. (last : EndThere) → finished new last [] ≡ blocks_by head [] last (resolved (λ t. slice_index places.now t) pieces.now)) }
+/// All pieces, one after the other.
+fn add_all(
+    alloc: Global,
+    places: &[u32],
+    blocks: Blocks,
+    pieces: Vec<Piece>,
+) -> Result<Blocks, Memory>
+    ensures { IfOk result (λ new. (last : EndThere) → finished new last [] ≡ finished blocks last (resolved (λ t. slice_index places.now t) pieces.items)) }
 {
-    let mut blocks = Blocks {
-        done: Items::new(alloc),
-        head,
-        ops: Items::new(alloc),
-    };
+    let mut blocks = blocks;
     for piece in pieces {
         blocks = add(alloc, places, blocks, piece)?;
     }

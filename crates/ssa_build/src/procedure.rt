@@ -60,7 +60,7 @@ pub fn lower_procedure(
         Ok(_) => {}
         Err(_) => return Err(LowerFault::Memory),
     }
-    match complete(alloc, &making, procedure, &locals, words, result) {
+    match complete(alloc, making, procedure, &locals, words, result) {
         Ok(made) => Ok(made),
         Err(_) => Err(LowerFault::Memory),
     }
@@ -69,20 +69,23 @@ pub fn lower_procedure(
 /// The procedure that was made.
 fn complete(
     alloc: Global,
-    making: &Making,
+    making: Making,
     procedure: &Procedure,
     locals: &Locals,
     words: u32,
     answer: Option<u32>,
 ) -> Result<Proc, Memory>
-    ensures { IfOk result (λ made. made ≡ completed making.now words answer procedure.now locals.now) }
+    ensures { IfOk result (λ made. made ≡ completed making words answer procedure.now locals.now) }
 {
     let places = places(alloc, making.labels(), making.bounds())?;
     let last = End::Return(answer);
-    let blocks = all_blocks(alloc, places.as_slice(), making.pieces(), words, last)?;
+    let values = making.values();
+    let count = making.block() as usize + 1;
+    let pieces = making.into_pieces();
+    let blocks = all_blocks(alloc, places.as_slice(), pieces, count, words, last)?;
     Ok(Proc {
         blocks,
-        values: making.values(),
+        values,
         args: words,
         counted: !procedure.is_body,
         local_cells: u64::from(locals.cells),

@@ -309,11 +309,12 @@ impl Making {
         }
     }
 
-    /// The code that is made so far.
-    pub fn pieces(&self) -> &[Piece]
-        ensures { result.now ≡ self.now.made }
+    /// The code that is made.
+    pub fn into_pieces(self) -> Vec<Piece>
+        ensures { result.items ≡ self.made }
     {
-        self.made.as_slice()
+        let Making { made, .. } = self;
+        made
     }
 
     /// How many labels are given out.

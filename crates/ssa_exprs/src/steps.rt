@@ -13,6 +13,7 @@ ghost use Rattle.ssa_exprs.specs.Steps.{Leads};
 use crate::fault::LowerFault;
 use crate::making::Making;
 use ob_types::Link;
+use smallvec::SmallVec;
 
 /// The labels that a condition leads to, and how often the block behind it runs.
 #[derive(Clone, Copy)]
@@ -42,18 +43,27 @@ pub enum Step {
     Flag { yes: u32, no: u32, freq: u64 },
 }
 
+impl Default for Step {
+    fn default() -> Self {
+        Step::Apply(0)
+    }
+}
+
+/// Steps, the last one first: up to two stay inline.
+pub type Steps = SmallVec<Step, 2>;
+
 /// What is wanted of a chain's first operand, and what is done behind it, the last step first.
 #[derive(Drop)]
 pub struct Plan {
     pub first: Wanted,
-    pub steps: Vec<Step>,
+    pub steps: Steps,
 }
 
 /// What has to be done for a chain of links, as it is wanted. Labels are given out from the last link to the first.
 pub fn planned(b: &mut Making, links: &[Link], wanted: Wanted) -> Result<Plan, LowerFault>
     ensures { IfOk result (λ q. (p : Program) (here : Here) (x : Lowers) → Leads p here links.now q.steps.items q.first b.new x wanted b.old (linked_in p here links.now x)) }
 {
-    let mut steps = Vec::new(b.allocator());
+    let mut steps = SmallVec::new(b.allocator());
     let mut first = wanted;
     let mut i = links.len();
     while i > 0 {
@@ -69,7 +79,7 @@ fn before(
     link: &Link,
     i: usize,
     wanted: Wanted,
-    steps: &mut Vec<Step>,
+    steps: &mut Steps,
 ) -> Result<Wanted, LowerFault>
     ensures { IfOk result (λ first. (p : Program) (here : Here) (ks : List Link) (x y : Lowers) (last : Wanted) (v : View) → slice_get ks i ≡ Some link.now
         → Leads p here ks steps.old.items wanted b.old (link_in p here link.now x) last v y → Leads p here ks steps.new.items first b.new x last v y) }
@@ -112,7 +122,7 @@ fn before(
 }
 
 /// Where what is made by a test is to lead: where its value is wanted, to labels that become it.
-fn as_condition(b: &mut Making, wanted: Wanted, steps: &mut Vec<Step>) -> Result<Ways, LowerFault>
+fn as_condition(b: &mut Making, wanted: Wanted, steps: &mut Steps) -> Result<Ways, LowerFault>
     ensures { IfOk result (λ ways. (p : Program) (here : Here) (ks : List Link) (t : Test) (y : Lowers) (last : Wanted) (v : View)
         → Leads p here ks steps.old.items wanted b.old (tested t) last v y → Leads p here ks steps.new.items (Wanted.Condition ways) b.new (tested t) last v y) }
 {
@@ -133,7 +143,7 @@ fn as_condition(b: &mut Making, wanted: Wanted, steps: &mut Vec<Step>) -> Result
 }
 
 /// The value of what isn't a test is made in any case: where a condition is wanted, it is tested.
-fn as_value(wanted: Wanted, steps: &mut Vec<Step>) -> Result<(), LowerFault>
+fn as_value(wanted: Wanted, steps: &mut Steps) -> Result<(), LowerFault>
     ensures { OnOk result ((p : Program) (here : Here) (ks : List Link) (u v : View) (x y : Lowers) (last : Wanted) → x.test ≡ fork_value x.value
         → Leads p here ks steps.old.items wanted u x last v y → Leads p here ks steps.new.items Wanted.Value u x last v y) }
 {

@@ -22,7 +22,7 @@ use crate::named::{
     Named, address_in, bytes_in, condition, guard, is_pointer, is_tag, length_in, one_operand,
     read, second, tag_in, two_operands,
 };
-use crate::steps::{Step, Wanted, Ways, half, planned};
+use crate::steps::{Step, Steps, Wanted, Ways, half, planned};
 use crate::tables::Tables;
 use block_runs::{Code, End};
 use ob_types::{Argument, Base, Call, Designator, Expr, Link, Relation, Selector, TypeKind, Unary};
@@ -465,7 +465,7 @@ fn take_all(
     t: &Tables,
     b: &mut Making,
     links: &[Link],
-    steps: Vec<Step>,
+    steps: Steps,
     first: u32,
 ) -> Result<u32, LowerFault>
     ensures { IfOk result (λ r. (p : Program) (here : Here) → Serves t.now p here → AllTaken p here links.now steps.items b.old b.new first r) }

@@ -23,12 +23,12 @@ pub fn linked(alloc: Global, x: Expr, link: Link) -> Result<Expr, AllocError>
     }
 }
 
-// A value, and the first thing done to it.
+// A value, and the first thing done to it. Room is taken for that one, since most chains have one link.
 fn begun(alloc: Global, x: Expr, link: Link) -> Result<Expr, AllocError>
     ensures { IfOk result (λ e. (t : Table) (texts : List (List ℕ)) → plain_expr t texts e ≡ I.Linked (plain_expr t texts x) (plain_link t texts link)) }
 {
     let first = Box::new(alloc, x)?;
-    let mut links = Vec::new(alloc);
+    let mut links = Vec::with_capacity(alloc, 1)?;
     links.push(link)?;
     Ok(Expr::Chain(first, links))
 }

@@ -1,7 +1,7 @@
 -- What a scope stands for: a text with its symbols, and a world.
-use Rattle.std.specs.Prelude.{◌≡◌, ℕ, List, [], ◌∷◌, Option, map}
+use Rattle.std.specs.Prelude.{◌≡◌, ℕ, List, [], ◌∷◌, map}
 use Rattle.ob_types.specs.Table.{Table}
-use Rattle.ob_judge.specs.Scopes.{Object, Entry, World}
+use Rattle.ob_judge.specs.Scopes.{Object, World}
 use Rattle.ob_judge.specs.Standards.{predeclared}
 use Rattle.ob_judge.specs.Shapes.{Shape}
 use Rattle.check_types.specs.declared.types.TypeRef.{TypeRef}

@@ -2,7 +2,7 @@
 
 ghost use Rattle.std.specs.Prelude.{◌≡◌, ℕ, List, Some, map, option_map, slice_get};
 ghost use Rattle.ob_types.specs.Table.{Table};
-ghost use Rattle.ob_judge.specs.Scopes.{World, Source as SourceOf, or_else, is_visible as visible, spelled, place};
+ghost use Rattle.ob_judge.specs.Scopes.{World, Source as SourceOf, is_visible as visible, spelled, place};
 ghost use Rattle.ob_judge.specs.Scopes.{look_up as looked_up};
 ghost use Rattle.ob_judge.specs.Modules.{offered};
 ghost use Rattle.ob_judge.specs.Names.{named as judged_name, member as judged_member, member_of_object as judged_member_of, qualified as judged_qualident, type_of_object, type_named as judged_type, names_of as names_in_module, is_place as same_place, narrowing_of as narrowing_at};
@@ -19,25 +19,16 @@ use crate::names::scope::{
 };
 use crate::steps::CheckFault;
 
-// The first of two.
-fn newer(a: Option<Declared>, b: Option<Declared>) -> Option<Declared>
-    ensures { (t : Table) (strings : List (List ℕ)) → option_map (entry_of t strings) result ≡ or_else (option_map (entry_of t strings) a) (option_map (entry_of t strings) b) }
-{
-    match a {
-        Some(a) => Some(a),
-        None => b,
-    }
-}
-
-/// What a name stands for in open scopes, the innermost of which is the last.
+/// What a name stands for in open scopes, the innermost of which is the last: it is looked for from there outward.
 pub fn look_up(levels: &[Level], name: &[u8]) -> Option<Declared>
     ensures { (t : Table) (strings : List (List ℕ)) → option_map (entry_of t strings) result ≡ looked_up name.now (map (names_of t strings) levels.now) }
 {
-    let mut found = None;
-    for level in levels {
-        found = newer(level.find(name), found);
+    for i in (0..levels.len()).rev() {
+        if let Some(declared) = levels[i].find(name) {
+            return Some(declared);
+        }
     }
-    found
+    None
 }
 
 // A declaration as other modules see it: not an import.
@@ -79,7 +70,7 @@ impl<'a> Scope<'a> {
     pub fn look_up(&self, name: &[u8]) -> Option<Declared>
         ensures { option_map (entry_of (table_of self.now) (strings_of self.now)) result ≡ looked_up name.now (world_of self.now).levels }
     {
-        newer(look_up(self.levels, name), predeclared(name))
+        look_up(self.levels, name).or_else(|| predeclared(name))
     }
 
     // Whether a variable is seen here.

@@ -21,11 +21,12 @@ macro_rules! in_table {
     }};
 }
 
-// Whether two names are the same.
+// Whether two names are the same. Most differ in length already.
+#[inline(always)]
 fn is_name(spelling: &[u8], name: &[u8]) -> bool
     ensures { result ≡ bytes_eq spelling.now name.now }
 {
-    spelling == name
+    spelling.len() == name.len() && spelling == name
 }
 
 /// What a name stands for round all modules.

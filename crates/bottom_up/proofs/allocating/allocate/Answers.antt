@@ -9,7 +9,7 @@ use Rattle.lir_core.specs.Sound.{IsSound}
 use Rattle.bottom_up.proofs.Traces.{bottom_sound}
 use Rattle.bottom_up.proofs.allocating.allocate.Goals as goal
 
-module _ (c : goal.After-drop-positions-inside-3) where
+module _ (c : goal.After-drop-positions-inside-2) where
   x : Case
   x = case_of c.args.t.now
 
@@ -28,7 +28,7 @@ module _ (c : goal.After-drop-positions-inside-3) where
 
   same : IsInput x ns None → said ≡ mention_in x ns
   unfolding x ns said
-  same given = fun_ext (λ v. fun_ext (λ p. c.in_ok-positions.ensures.last_mention given.valid v p))
+  same given = fun_ext (λ v. fun_ext (λ p. c.in_ok-positions.ensures.last_mention given.valid x.rows v p))
 
 pub returns-clause-bottom_up : goal.returns-clause-bottom_up
 unfolding x ns said

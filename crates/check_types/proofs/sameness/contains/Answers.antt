@@ -1,4 +1,4 @@
-use Rattle.std.proofs.Common.{◌≡◌, ◌+◌, ◌||◌, sym, ap, ◌∙◌, drop}
+use Rattle.std.proofs.Common.{◌+◌, ◌||◌, sym, ap, ◌∙◌, drop}
 use Rattle.std.proofs.lemmas.Bool.{eq-eqb}
 use Rattle.ob_judge.specs.Shapes.{contains}
 use Rattle.check_types.proofs.Rounds.{contains_more, eqb_false}

@@ -1,21 +1,22 @@
-use Rattle.std.proofs.Common.{◌≡◌, ◌+◌, ◌∷◌, drop, ap, sym, ◌∙◌}
+use Rattle.std.proofs.Common.{◌≡◌, [], ◌∷◌, sym, ap, ◌∙◌, append_assoc}
 use Rattle.std.specs.Prelude.{slice_index}
-use Rattle.std.proofs.lemmas.List.{drop_more}
-use Rattle.std.proofs.Math.ListN.{drop_of_length-le}
+use Rattle.std.proofs.lemmas.Iterator.Adapters.{YieldsList-from_vec}
+use Rattle.std.proofs.lemmas.Iterator.Consumers.{YieldsList-end}
+use Rattle.std.proofs.lemmas.List.{append-nil, map-id}
 use Rattle.ssa_exprs.specs.Making.{resolved}
 use Rattle.ssa_build.specs.Blocks.{finished}
 use Rattle.ssa_build.proofs.finish.add_all.Goals as goal
 
 pub loop-piece-preserved : goal.loop-piece-preserved
-loop-piece-preserved c = λ last.
-    let i = c.loop-piece.piece-index in
-    let ps = c.args.pieces.now in
-    let e : drop i ps ≡ c.piece-item.result ∷ drop (i + 1) ps = drop_more ps i c.piece-item.result c.loop-piece-test.true ∙ ap (λ y. y ∷ drop (i + 1) ps) (sym c.piece-item.is) in
-    c.in_ok-blocks.ensures (resolved (λ t. slice_index c.args.places.now t) (drop (i + 1) ps)) last
-    ∙ sym (ap (λ xs. finished c.loop-piece.blocks last (resolved (λ t. slice_index c.args.places.now t) xs)) e)
-    ∙ c.loop-piece.invariant last
+loop-piece-preserved c = λ rest last.
+    c.in_ok-blocks.ensures (resolved (λ t. slice_index c.args.places.now t) rest) last
+    ∙ c.loop-piece.invariant (c.in-Some.piece ∷ rest) last
+    ∙ ap (λ ps. finished c.args.blocks last (resolved (λ t. slice_index c.args.places.now t) ps)) (sym (append_assoc c.loop-piece.yielded (c.in-Some.piece ∷ []) rest))
 
 pub returns : goal.returns
 returns c = λ last.
-    sym (ap (λ xs. finished c.loop-piece.blocks last (resolved (λ t. slice_index c.args.places.now t) xs)) (drop_of_length-le c.args.pieces.now c.loop-piece-test.false))
-    ∙ c.loop-piece.invariant last
+    let gives = c.into_iter-piece-iterator.ensures.into_iter_gives in
+    let end = YieldsList-end (YieldsList-from_vec {s = c.into_iter-piece-iterator.result} c.args.pieces.items gives.0 (gives.1 ∙ c.args.pieces.ok.0)) c.loop-piece.yielded c.loop-piece.piece-iterator c.loop-piece.yielded_by c.next.result c.next.new.self c.in-None.is c.next.ensures.steps in
+    let all : c.loop-piece.yielded ≡ c.args.pieces.items = sym (map-id c.loop-piece.yielded) ∙ end.0 in
+    c.loop-piece.invariant [] last
+    ∙ ap (λ ps. finished c.args.blocks last (resolved (λ t. slice_index c.args.places.now t) ps)) (append-nil c.loop-piece.yielded ∙ all)

@@ -10,7 +10,7 @@ returns-in_ok-push-in-Value c = λ p here ks t y last v l.
     let one = c.in_ok-yes-in-Value.ensures in
     let two = c.in_ok-no-in-Value.ensures in
     leads_flag p here ks c.in_ok-yes-in-Value.yes c.in_ok-no-in-Value.no c.freq-freq.result c.half.result
-    one.number (two.number ∙ ap (λ (u : View). u.labels) one.given) c.freq-freq.ensures c.half.ensures (two.given ∙ ap asked one.given) c.in_ok-push-in-Value.ensures.items
+    one.number (two.number ∙ ap (λ (u : View). u.labels) one.given) c.freq-freq.ensures c.half.ensures (two.given ∙ ap asked one.given) c.in_ok-push-in-Value.ensures.ok
     (subst (λ f. Leads p here ks c.args.steps.now.items f c.args.b.now (tested t) last v y) c.in-Value.is l)
 
 pub returns-in-Condition : goal.returns-in-Condition

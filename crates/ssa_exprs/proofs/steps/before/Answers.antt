@@ -11,7 +11,7 @@ returns-in_ok-push-in-And c = λ p here ks x y last v at l.
     let z = c.in-And.field-0 in
     let one = subst (λ k. Leads p here ks c.args.steps.now.items c.args.wanted c.args.b.now (link_in p here k x) last v y) c.in-And.is l in
     leads_and p here ks c.args.i c.in_ok-label-in-And.label c.freq.result c.in_ok-ways-in-And.ways z at c.in-And.is
-    c.in_ok-label-in-And.ensures.number c.in_ok-label-in-And.ensures.given c.freq.ensures c.in_ok-push-in-And.ensures.items
+    c.in_ok-label-in-And.ensures.number c.in_ok-label-in-And.ensures.given c.freq.ensures c.in_ok-push-in-And.ensures.ok
     (c.in_ok-ways-in-And.ensures p here ks (fork_and x.test (expr_in p here z).test) y last v one)
 
 pub returns-in_ok-push-in-Or : goal.returns-in_ok-push-in-Or
@@ -19,10 +19,10 @@ returns-in_ok-push-in-Or c = λ p here ks x y last v at l.
     let z = c.in-Or.field-0 in
     let one = subst (λ k. Leads p here ks c.args.steps.now.items c.args.wanted c.args.b.now (link_in p here k x) last v y) c.in-Or.is l in
     leads_or p here ks c.args.i c.in_ok-label-in-Or.label c.freq-in-Or.result c.in_ok-ways-in-Or.ways z at c.in-Or.is
-    c.in_ok-label-in-Or.ensures.number c.in_ok-label-in-Or.ensures.given c.freq-in-Or.ensures c.in_ok-push-in-Or.ensures.items
+    c.in_ok-label-in-Or.ensures.number c.in_ok-label-in-Or.ensures.given c.freq-in-Or.ensures c.in_ok-push-in-Or.ensures.ok
     (c.in_ok-ways-in-Or.ensures p here ks (fork_or x.test (expr_in p here z).test) y last v one)
 
 pub returns-in_ok-push-in_default : goal.returns-in_ok-push-in_default
 returns-in_ok-push-in_default c = λ p here ks x y last v at l.
-    leads_apply p here ks c.args.i at c.in_ok-push-in_default.ensures.items
+    leads_apply p here ks c.args.i at c.in_ok-push-in_default.ensures.ok
     (c.in_ok-as_value-in_default.ensures p here ks c.args.b.now v (link_in p here c.args.link.now x) y last (plain_link p here c.args.link.now x c.in_default.not-And c.in_default.not-Or) l)

@@ -1,4 +1,4 @@
-use Rattle.std.proofs.Common.{◌≡◌, [], ◌∷◌, ◌++◌, ◌+◌, ◌<◌, length, None, false, refl, sym, ap, ap₂, ◌∙◌, subst, arith, append_assoc}
+use Rattle.std.proofs.Common.{◌≡◌, [], ◌∷◌, ◌++◌, ◌+◌, ◌<◌, length, None, false, true, refl, sym, ap, ap₂, ◌∙◌, subst, arith, append_assoc}
 use Rattle.std.proofs.lemmas.Result.{IfOk-weaker}
 use Rattle.ob_types.specs.Meaning.{kind_in, length_of_kind, record_of_kind}
 use Rattle.ssa_lowered.specs.Pieces.{emits, does}
@@ -214,7 +214,8 @@ take_all-loop-step-preserved t c = λ p here s new r g.
 
 pub take_all-returns : goal.take_all-returns
 take_all-returns t c = λ p here s.
-    let len : length c.loop-step.steps.items ≡ 0 = omega (arith, c.in_default.ensures.cases.0, c.loop-step.steps.ok.0) in
+    let none : 0 < length c.loop-step.steps.items → ⊥ = λ h. let e : false ≡ true = c.in_default.ensures.variant.1 h in cc in
+    let len : length c.loop-step.steps.items ≡ 0 = omega (arith, none) in
     c.loop-step.invariant p here s c.loop-step.b c.loop-step.a
     (subst (λ l. AllTaken p here c.args.links.now l c.loop-step.b c.loop-step.b c.loop-step.a c.loop-step.a) (sym (no_steps c.loop-step.steps.items len)) (refl, refl))
 

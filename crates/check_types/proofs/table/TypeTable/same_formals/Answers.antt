@@ -1,4 +1,4 @@
-use Rattle.std.proofs.Common.{◌≡◌, ◌+◌, ◌<◌, ◌&&◌, length, sym, ap, ◌∙◌, arith, drop}
+use Rattle.std.proofs.Common.{◌≡◌, ◌+◌, ◌<◌, ◌&&◌, length, ap, ◌∙◌, arith, drop}
 use Rattle.ob_judge.specs.Shapes.{same_formals}
 use Rattle.judged_tree.specs.TypeShapes.{shapes_of, formals_shape}
 use Rattle.check_types.proofs.Rounds.{formals_more, formals_longer, formals_end}

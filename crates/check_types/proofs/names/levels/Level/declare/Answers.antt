@@ -1,4 +1,4 @@
-use Rattle.std.proofs.Common.{◌≡◌, ap, sym, ◌∙◌, cond, Some, option_map}
+use Rattle.std.proofs.Common.{ap, ◌∙◌, cond, Some, option_map}
 use Rattle.std.specs.Str.{bytes_eq}
 use mathlib.Core.Path.{fun_ext}
 use Rattle.check_types.specs.steps.Maps.{at_bytes}

@@ -1,4 +1,4 @@
-use Rattle.std.proofs.Common.{◌≡◌, ap, sym}
+use Rattle.std.proofs.Common.{ap, sym}
 use Rattle.ob_judge.specs.Names.{member_of_object}
 use Rattle.check_types.proofs.steps.Answering.{goes_on, stop, exit, as_judged}
 use Rattle.check_types.specs.names.Worlds.{world_of}

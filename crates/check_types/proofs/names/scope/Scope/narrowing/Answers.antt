@@ -1,4 +1,4 @@
-use Rattle.std.proofs.Common.{◌≡◌, ◌+◌, [], drop, true, false, option_map, sym, ap, ◌∙◌}
+use Rattle.std.proofs.Common.{◌+◌, [], drop, true, false, option_map, sym, ap, ◌∙◌}
 use Rattle.ob_judge.specs.Scopes.{or_else}
 use Rattle.ob_judge.specs.Names as Names
 use Rattle.check_types.specs.names.Meaning.{place_of, narrowing_of, narrowings_before}
