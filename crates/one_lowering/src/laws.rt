@@ -41,11 +41,11 @@ pub fn forms_have_one_lowering()
 {}
 
 /// Programs that the judgement gives of the same modules, as code holds them, have one lowering, where they are well-formed,
-/// their tables name parts before wholes, and their uses of strings are in order.
+/// their uses of strings are in order, and the table of one names parts before wholes.
 pub fn judged_programs_have_one_lowering()
     ensures { (ms : List Parsed) (image other : ProgramImage) (p q : Program) (sources others : List (List ℕ))
         → checked ms ≡ Legal image → plain_program sources p ≡ outlined_program image
         → checked ms ≡ Legal other → plain_program others q ≡ outlined_program other
-        → well_formed p ≡ true → well_formed q ≡ true → IsFromTheFront p.types → IsFromTheFront q.types → UsesInOrder p → UsesInOrder q
+        → well_formed p ≡ true → well_formed q ≡ true → IsFromTheFront p.types → UsesInOrder p → UsesInOrder q
         → HaveOneLowering p q }
 {}

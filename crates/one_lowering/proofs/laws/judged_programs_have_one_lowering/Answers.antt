@@ -11,7 +11,7 @@ one_image : (i j : ProgramImage) → Legal i ≡ Legal j → i ≡ j
 one_image i j e = cc
 
 pub returns : goal.returns
-returns c = λ ms image other p q sources others first own second its well good front behind order ordered.
+returns c = λ ms image other p q sources others first own second its well good front order ordered.
     let same = own ∙ (ap outlined_program (one_image image other (sym first ∙ second)) ∙ sym its) in
     let form = one_form p q sources others same order ordered in
     one_lowering p q well good form (closed_types p well front form.sources)
