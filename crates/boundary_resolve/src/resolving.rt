@@ -7,7 +7,7 @@ ghost use Rattle.boundary_resolve.specs.Edges.{AreSound};
 use crate::code::Code;
 use crate::placed::Placed;
 use crate::seats::seats;
-use lir_core::{Flow, Items, Places, Trace, TraceOut};
+use lir_core::{Flow, Items, Line, Places, Trace, TraceOut};
 use outside::Memory;
 use std::alloc::Global;
 
@@ -30,10 +30,27 @@ pub fn resolve(
             homed: Items::new(alloc),
         },
     };
-    let mut placed = Vec::new(alloc);
+    let mut placed = Vec::with_capacity(alloc, room(outs))?;
     code.push_entry(alloc, &mut placed)?;
     for trace in traces {
         code.push_nodes(alloc, &mut placed, trace.nodes.as_slice())?;
     }
     Ok(placed)
+}
+
+// Room for the code of these results: their lines, where each node begins and ends, and a step for it (measured).
+fn room(outs: &[TraceOut]) -> usize {
+    let mut count = 0usize;
+    for out in outs {
+        count = count.saturating_add(room_of_nodes(out.lines.as_slice()));
+    }
+    count
+}
+
+fn room_of_nodes(nodes: &[Items<Line>]) -> usize {
+    let mut count = 0usize;
+    for lines in nodes {
+        count = count.saturating_add(lines.len()).saturating_add(3);
+    }
+    count
 }

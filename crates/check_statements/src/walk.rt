@@ -48,7 +48,8 @@ pub fn statements<'a>(
     ensures { Answers (AreStatements scope.now)
         (judged_statements scope.now.source.now (world_of scope.now) (plain_stats tree.now)) result }
 {
-    let first = put(scope, alloc, &tree.first, Vec::new(alloc))?;
+    let room = Vec::with_capacity(alloc, 1 + tree.more.len())?;
+    let first = put(scope, alloc, &tree.first, room)?;
     further(scope, alloc, &tree.more, first)
 }
 
@@ -127,7 +128,8 @@ fn if_branches<'a>(scope: &Scope<'a>, alloc: Global, tree: &IfStat) -> Result<St
     ensures { Answers (IsStatement scope.now) (if_of scope.now.source.now (world_of scope.now) tree.now) result }
 {
     let guard = condition(scope, alloc, &tree.guard)?;
-    let first = guarded_branch(scope, alloc, &tree.body, Vec::new(alloc), guard)?;
+    let room = Vec::with_capacity(alloc, 1 + tree.elsifs.len())?;
+    let first = guarded_branch(scope, alloc, &tree.body, room, guard)?;
     let branches = elsifs(scope, alloc, &tree.elsifs, first)?;
     let other = otherwise(scope, alloc, &tree.otherwise)?;
     Ok(if_statement(branches, other))
@@ -213,7 +215,8 @@ fn while_branches<'a>(
     ensures { Answers (IsStatement scope.now) (while_of scope.now.source.now (world_of scope.now) tree.now) result }
 {
     let guard = condition(scope, alloc, &tree.guard)?;
-    let first = guarded_branch(scope, alloc, &tree.body, Vec::new(alloc), guard)?;
+    let room = Vec::with_capacity(alloc, 1 + tree.elsifs.len())?;
+    let first = guarded_branch(scope, alloc, &tree.body, room, guard)?;
     let branches = elsif_dos(scope, alloc, &tree.elsifs, first)?;
     Ok(while_statement(branches))
 }

@@ -9,7 +9,7 @@ use Rattle.block_runs.specs.declared.end.End.{End}
 use Rattle.block_runs.specs.declared.end.End.TheVariants.{Return, Jump, Branch, Nonzero, Trap}
 use Rattle.placed_code.specs.Placed.{Cell, Block, Placed, block_of, proc_of, no_procedure}
 use Rattle.placed_code.specs.Words.{copies_words, last_words}
-use Rattle.placed_code.specs.Layout.{cell_width, last_width, Placing, first_of, followed, placings, block_width, front_width, proc_width, proc_words, entry, place, routines_at, procedures_at}
+use Rattle.placed_code.specs.Layout.{cell_width, Placing, first_of, followed, placings, block_width, front_width, proc_width, proc_words, entry, place, routines_at, procedures_at}
 use Rattle.placed_code.proofs.Parts.{length_map}
 use Rattle.placed_code.proofs.Linking.{get_of_drop}
 use Rattle.link_words.specs.declared.frames.Frame.{Frame}
@@ -19,7 +19,7 @@ use Rattle.link_layout.specs.Widths.{AreBlocks, ArePlaces, widths_of}
 use Rattle.link_blocks.specs.declared.plans.Plan.{Plan}
 use Rattle.link_blocks.specs.Plans.{block_in, placed_in}
 use Rattle.link_code.specs.Parts.{entry_at, cell_code, parts_code, block_code, front_code, proc_code, IsWhole}
-use Rattle.link_code.specs.Measured.{parts_width, Measures}
+use Rattle.link_code.specs.Measured.{parts_width}
 use Rattle.link_code.specs.Written.{AreReady, StandsAt}
 use Rattle.link_code.proofs.Rows.{then, longer, row_more, before_and_behind}
 use Rattle.link_code.proofs.Sizes.{cell_size, parts_size, block_size, front_size, proc_size, branch_within}

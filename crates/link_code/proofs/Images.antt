@@ -1,13 +1,12 @@
 -- The start, the routines and the procedures in one row.
-use Rattle.std.proofs.Common.{◌≡◌, ℕ, zero, suc, ◌+◌, ◌*◌, ◌<◌, ◌≤◌, ◌^◌, List, [], ◌∷◌, ◌++◌, map, length, Bool, true, false, refl, arith, sym, ap, ap₂, ◌∙◌, subst, length-append}
+use Rattle.std.proofs.Common.{◌≡◌, ℕ, suc, ◌+◌, ◌*◌, ◌<◌, ◌≤◌, ◌^◌, List, [], ◌∷◌, ◌++◌, map, length, Bool, true, false, refl, arith, ap, ◌∙◌, length-append}
 use Rattle.std.specs.Prelude.{if◌then◌else◌}
 use Rattle.run_laws.specs.Layers.{whole_width, spread}
-use Rattle.run_laws.proofs.Rows.{length-spread}
 use Rattle.a64_instr.specs.declared.instr.Instr.{Instr}
 use Rattle.a64_table.specs.Table.{word_of}
 use Rattle.a64_runtime.specs.Routines.{routines}
 use Rattle.block_runs.specs.Blocks.{bodies, bodies_from}
-use Rattle.placed_code.specs.Placed.{Placed, procedures, proc_of}
+use Rattle.placed_code.specs.Placed.{Placed, procedures}
 use Rattle.placed_code.specs.Words.{depth_words, frame_words, local_words, frame_of}
 use Rattle.placed_code.specs.Layout.{proc_width, proc_words, start_words, body_count, procedures_at, all_words, entry}
 use Rattle.placed_code.proofs.Linking.{all_size}
@@ -15,7 +14,6 @@ use Rattle.link_code.specs.Parts.{entry_at}
 use Rattle.link_code.specs.Written.{EntriesAre}
 use Rattle.link_code.proofs.Rows.{then, longer}
 use Rattle.link_code.proofs.Same.{start_is}
-use Rattle.link_code.proofs.Appended.{procs_size}
 
 -- a procedure has three words at least
 wide : (p : ℕ) (pr : Placed) → 3 ≤ proc_width p pr

@@ -1,25 +1,26 @@
 -- Plans as procedures, while they are measured.
-use Rattle.std.proofs.Common.{◌≡◌, ℕ, zero, suc, ◌+◌, ◌-◌, ◌<◌, ◌≤◌, ◌^◌, List, [], ◌∷◌, ◌++◌, map, length, drop, get_or, Bool, true, false, refl, arith, sym, ap, ap₂, ◌∙◌, subst, min, length-append}
+use Rattle.std.proofs.Common.{◌≡◌, ℕ, zero, suc, ◌+◌, ◌-◌, ◌<◌, ◌≤◌, ◌^◌, List, [], ◌∷◌, ◌++◌, map, length, drop, get_or, Bool, true, false, refl, arith, sym, ap, ap₂, ◌∙◌, subst, min, take, append_assoc, length-append}
 use Rattle.std.specs.Prelude.{◌==◌, nat_lt}
 use Rattle.std.proofs.lemmas.Bool.{ltb-true, eqb-true, eq-eqb}
 use Rattle.std.proofs.lemmas.Bool.Decides.{nat_tests}
-use Rattle.std.proofs.lemmas.List.{drop_more, drop_all}
-use Rattle.run_laws.specs.Layers.{width_before, whole_width}
+use Rattle.std.proofs.lemmas.List.{drop_more, drop_all, take_more, map-append}
+use Rattle.run_laws.specs.Layers.{whole_width}
 use Rattle.run_laws.proofs.Rows.{width_before-all}
 use Rattle.placed_code.specs.Placed.{Placed, block_of}
-use Rattle.placed_code.specs.Layout.{jump_width, Placing, first_of, followed, placings, block_width, proc_width, procedures_at, entry, all_words}
+use Rattle.placed_code.specs.Layout.{jump_width, first_of, followed, block_width, proc_width, entry, all_words}
 use Rattle.placed_code.proofs.Linking.{all_size}
 use Rattle.link_words.specs.declared.frames.Frame.{Frame}
 use Rattle.link_words.specs.Fields.{entry_in}
 use Rattle.link_words.specs.Frames.{frame_in}
 use Rattle.link_layout.specs.Spots.{IsFrameOf}
-use Rattle.link_layout.specs.Widths.{AreEntries}
+use Rattle.link_layout.specs.Widths.{AreEntries, widths_of}
 use Rattle.link_blocks.specs.declared.plans.Plan.{Plan}
 use Rattle.link_blocks.specs.Plans.{placed_in}
 use Rattle.link_code.specs.Parts.{entry_at}
-use Rattle.link_code.specs.Measured.{parts_width}
+use Rattle.link_code.specs.declared.measuring.Measure.{Measure}
+use Rattle.link_code.specs.Measured.{parts_width, measured}
 use Rattle.link_code.specs.Written.{EntriesAre}
-use Rattle.link_code.proofs.Rows.{one_over}
+use Rattle.link_code.proofs.Rows.{one_over, drop_map, mapped_more}
 
 -- a plan's frame is the placed procedure's
 pub frame_is : (plan : Plan) → frame_in (placed_in plan) ≡ plan.frame
@@ -55,6 +56,40 @@ over_block pr n items order i next many same l is far =
     subst (λ (xs : List ℕ). 2 ^ 18 < parts_width pr (first_of (length pr.blocks) (drop (i + 1) order)) (block_of pr (get_or xs i 0))) same
     (subst (λ m. 2 ^ 18 < parts_width pr m (block_of pr (get_or items i 0))) (is ∙ ap (λ m. first_of m (drop (i + 1) order)) many) far) in
     one_over (block_width pr) (followed (length pr.blocks) order) i (record { number = get_or order i 0; next = first_of (length pr.blocks) (drop (i + 1) order) }) (followed (length pr.blocks) (drop (i + 1) order)) d far'
+
+-- a procedure that is too wide makes all too wide
+pub over_plan : (plans : List Plan) (i : ℕ) (plan : Plan) → i < length plans → plan ≡ get_or plans i plan → 2 ^ 18 < proc_width 0 (placed_in plan) → 2 ^ 18 < whole_width proc_width 0 (map placed_in plans)
+over_plan plans i plan l is far =
+    one_over proc_width (map placed_in plans) i (placed_in plan) (map placed_in (drop (i + 1) plans))
+    (drop_map placed_in plans i ∙ ap (λ (ps : List Plan). map placed_in ps) (drop_more plans i plan l) ∙ ap (λ (p : Plan). placed_in p ∷ map placed_in (drop (i + 1) plans)) (sym is)) far
+
+-- one procedure more is measured
+pub measures_more : (plans : List Plan) (i : ℕ) (plan : Plan) (old new : List Measure) (m : Measure) → i < length plans → plan ≡ get_or plans i plan → new ≡ old ++ m ∷ [] → m ≡ measured plan
+    → old ≡ map measured (take i plans) → new ≡ map measured (take (i + 1) plans)
+measures_more plans i plan old new m l is e f inv =
+    e ∙ ap₂ (λ (x : Measure) (xs : List Measure). xs ++ x ∷ []) f inv
+    ∙ sym (map-append measured (take i plans) (plan ∷ []))
+    ∙ ap (λ (p : Plan). map measured (take i plans ++ p ∷ [])) is
+    ∙ ap (λ (ps : List Plan). map measured ps) (sym (take_more plans i plan l))
+
+pub widths_more : (plans : List Plan) (i : ℕ) (plan : Plan) (old new all : List ℕ) (w : ℕ) → i < length plans → plan ≡ get_or plans i plan → new ≡ old ++ w ∷ [] → w ≡ proc_width 0 (placed_in plan)
+    → old ++ widths_of proc_width i (map placed_in (drop i plans)) ≡ all → new ++ widths_of proc_width (i + 1) (map placed_in (drop (i + 1) plans)) ≡ all
+widths_more plans i plan old new all w l is e f inv =
+    let z : i + 1 ≡ suc i = omega arith in
+    let rest = map placed_in (drop (i + 1) plans) in
+    ap (λ (xs : List ℕ). xs ++ widths_of proc_width (i + 1) rest) (e ∙ ap (λ n. old ++ n ∷ []) f)
+    ∙ append_assoc old (proc_width 0 (placed_in plan) ∷ []) (widths_of proc_width (i + 1) rest)
+    ∙ ap (λ k. old ++ (proc_width 0 (placed_in plan) ∷ widths_of proc_width k rest)) z
+    ∙ ap (λ (xs : List Placed). old ++ widths_of proc_width i xs) (sym (mapped_more placed_in plans i plan l is))
+    ∙ inv
+
+-- a procedure's measure among those of all
+pub measured_at : (plans : List Plan) (measures : List Measure) (i : ℕ) (plan : Plan) (measure : Measure) → measures ≡ map measured plans → i < length plans → plan ≡ get_or plans i plan → measure ≡ get_or measures i measure → measure ≡ measured plan
+measured_at [] measures i plan measure all l is at = absurd (omega (arith, l))
+measured_at (p ∷ ps) [] i plan measure all l is at = cc
+measured_at (p ∷ ps) (m ∷ ms) zero plan measure all l is at = at ∙ ap (λ (xs : List Measure). get_or xs 0 m) all ∙ ap measured (sym is)
+measured_at (p ∷ ps) (m ∷ ms) (suc i) plan measure all l is at =
+    measured_at ps ms i plan measure (ap (λ (xs : List Measure). drop 1 xs) all) (omega (arith, l)) is at
 
 ---- Entries, with one behind the last
 

@@ -1,7 +1,7 @@
 -- Words from lists of places are those from layout's places.
-use Rattle.std.proofs.Common.{◌≡◌, ℕ, zero, suc, ◌+◌, ◌-◌, ◌<◌, ◌≤◌, List, [], ◌∷◌, ◌++◌, map, length, refl, arith, sym, ap, ap₂, ◌∙◌, subst, min}
+use Rattle.std.proofs.Common.{◌≡◌, ℕ, suc, ◌+◌, ◌<◌, List, ◌∷◌, ◌++◌, length, refl, arith, sym, ap, ap₂, ◌∙◌, subst, min}
 use Rattle.std.specs.Prelude.{◌==◌}
-use Rattle.run_laws.specs.Layers.{whole_width, spread, width_before}
+use Rattle.run_laws.specs.Layers.{whole_width, spread}
 use Rattle.run_laws.proofs.Rows.{width_before-zero}
 use Rattle.a64_instr.specs.declared.instr.Instr.{Instr}
 use Rattle.a64_runtime.specs.Routines.{against}
@@ -11,12 +11,12 @@ use Rattle.block_runs.specs.declared.code.Code.TheVariants.{Call}
 use Rattle.block_runs.specs.declared.code.Code.TheVariants.{Code as CodeOf}
 use Rattle.block_runs.specs.declared.end.End.{End}
 use Rattle.block_runs.specs.declared.end.End.TheVariants.{Return, Jump, Branch, Nonzero, Trap}
-use Rattle.placed_code.specs.Placed.{Cell, Block, Placed, block_of, proc_of}
+use Rattle.placed_code.specs.Placed.{Placed, block_of, proc_of}
 use Rattle.placed_code.specs.Words.{copies_words, prologue, op_words, last_words, jump_words, branch_words, nonzero_words, turned}
-use Rattle.placed_code.specs.Layout.{cell_width, Placing, placings, block_width, zero_first, front_width, proc_words, start_words, entry, routines_at, place, position}
+use Rattle.placed_code.specs.Layout.{cell_width, Placing, placings, block_width, zero_first, front_width, proc_words, start_words, entry, place, position}
 use Rattle.link_words.specs.Fields.{entry_in}
 use Rattle.link_layout.specs.Widths.{ArePlaces}
-use Rattle.link_code.specs.Parts.{entry_at, clamped, cell_code, end_code, parts_code, block_code, front_code, proc_code, LeadsBelow, IsWhole}
+use Rattle.link_code.specs.Parts.{entry_at, clamped, cell_code, block_code, proc_code, LeadsBelow, IsWhole}
 use Rattle.link_code.specs.Written.{EntriesAre, StandsAt}
 
 -- a procedure's number that is the last one's at most leads where that number does

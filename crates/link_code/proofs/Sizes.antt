@@ -1,5 +1,5 @@
 -- How many words the parts of placed procedures have, wherever they stand.
-use Rattle.std.proofs.Common.{◌≡◌, ℕ, zero, suc, ◌+◌, ◌<◌, ◌≤◌, List, [], ◌∷◌, ◌++◌, map, length, Bool, true, false, Option, Some, None, refl, arith, sym, ap, ap₂, ◌∙◌, length-append}
+use Rattle.std.proofs.Common.{◌≡◌, ℕ, suc, ◌+◌, ◌<◌, ◌≤◌, List, [], ◌∷◌, ◌++◌, map, length, Bool, true, false, Option, Some, None, refl, arith, sym, ap, ap₂, ◌∙◌, length-append}
 use Rattle.std.specs.Prelude.{if◌then◌else◌, ◌==◌}
 use Rattle.run_laws.specs.Layers.{whole_width, spread}
 use Rattle.run_laws.proofs.Rows.{length-spread}
@@ -15,7 +15,7 @@ use Rattle.placed_code.specs.Placed.{Cell, Block, Placed, block_of, use_register
 use Rattle.placed_code.specs.Words.{copies_words, slots_of, move_word, op_words, result_words, nonzero_words, last_words, jump_words, turned, branch_words, prologue, epilogue, depth_words, frame_words, local_words, frame_of}
 use Rattle.placed_code.specs.Layout.{op_width, cell_width, jump_width, last_width, end_width, Placing, placings, block_width, zero_first, front_width, proc_width, own_words}
 use Rattle.placed_code.proofs.Operations.{some_words as some_words_of}
-use Rattle.link_words.specs.Frames.{width_of_end, width_of_ways}
+use Rattle.link_words.specs.Frames.{width_of_end}
 use Rattle.link_code.specs.Parts.{cell_code, end_code, parts_code, block_code, front_code, proc_code}
 use Rattle.link_code.specs.Measured.{parts_width}
 

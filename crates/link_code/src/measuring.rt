@@ -9,7 +9,8 @@ ghost use Rattle.link_layout.specs.declared.fault.LayoutFault.TheVariants.{Limit
 ghost use Rattle.link_blocks.specs.Plans.{cell_in, block_in, placed_in};
 ghost use Rattle.block_runs.specs.declared.end.End.TheVariants.{Jump};
 ghost use Rattle.placed_code.specs.Placed.{no_block};
-ghost use Rattle.link_code.specs.Measured.{parts_width, Measures};
+ghost use Rattle.link_blocks.specs.declared.plans.Plan.{Plan as Planned};
+ghost use Rattle.link_code.specs.Measured.{parts_width, measured};
 
 use a64_instr::Bits;
 use items::Items;
@@ -27,25 +28,27 @@ const MOST: u32 = 262_144;
 #[derive(Drop)]
 pub(crate) struct Measure {
     pub(crate) front: u32,
-    pub(crate) blocks: Vec<u32>,
+    pub(crate) blocks: Items<u32>,
 }
 
 /// How many words the parts of a procedure have.
 pub(crate) fn measure_of(alloc: Global, plan: &Plan) -> Result<Measure, LayoutFault>
-    ensures measures { IfOk result (λ m. Measures plan.now m) }
+    ensures measures { IfOk result (λ m. m ≡ measured plan.now) }
     ensures limit { IfErr result (λ fault. fault ≡ Limit → 2 ^ 18 < proc_width 0 (placed_in plan.now)) }
 {
     let front = front_width(alloc, plan)?;
     let blocks = block_widths(alloc, plan)?;
-    Ok(Measure { front, blocks })
+    Ok(Measure {
+        front,
+        blocks: Items::from_vec(blocks),
+    })
 }
 
-/// How many words a procedure has.
-pub(crate) fn width(alloc: Global, plan: &Plan) -> Result<u32, LayoutFault>
-    ensures width { IfOk result (λ width. width ≡ proc_width 0 (placed_in plan.now)) }
-    ensures limit { IfErr result (λ fault. fault ≡ Limit → 2 ^ 18 < proc_width 0 (placed_in plan.now)) }
+/// How many words a measured procedure has.
+pub(crate) fn width(measure: &Measure) -> Result<u32, LayoutFault>
+    ensures width { IfOk result (λ width. (plan : Planned) → measure.now ≡ measured plan → width ≡ proc_width 0 (placed_in plan)) }
+    ensures limit { IfErr result (λ fault. (plan : Planned) → measure.now ≡ measured plan → 2 ^ 18 < proc_width 0 (placed_in plan)) }
 {
-    let measure = measure_of(alloc, plan)?;
     procedure_width(measure.front, measure.blocks.as_slice())
 }
 
@@ -97,7 +100,7 @@ fn block_widths(alloc: Global, plan: &Plan) -> Result<Vec<u32>, LayoutFault>
     ensures widths { IfOk result (λ widths. widths.items ≡ widths_of (block_width (placed_in plan.now)) 0 (placings (placed_in plan.now))) }
     ensures limit { IfErr result (λ fault. fault ≡ Limit → 2 ^ 18 < whole_width (block_width (placed_in plan.now)) 0 (placings (placed_in plan.now))) }
 {
-    let mut widths = Vec::new(alloc);
+    let mut widths = Vec::with_capacity(alloc, plan.order.len())?;
     for (i, number) in plan.order.as_slice().iter().enumerate() {
         let width = block_width(alloc, plan, *number, first_in(plan, i + 1))?;
         widths.push(width)?;

@@ -14,9 +14,10 @@ ghost use Rattle.link_layout.specs.declared.fault.LayoutFault.TheVariants.{Limit
 ghost use Rattle.link_blocks.specs.Fits.{number_fits};
 ghost use Rattle.link_blocks.specs.Plans.{placed_in};
 ghost use Rattle.link_code.specs.Parts.{entry_at, IsWhole};
+ghost use Rattle.link_code.specs.Measured.{measured};
 ghost use Rattle.link_code.specs.Written.{EntriesAre, AreReady};
 
-use crate::measuring::{add, width};
+use crate::measuring::{Measure, add, measure_of, width};
 use crate::putting::{Entries, push_code};
 use crate::writing::push_procedure;
 use a64_instr::Bits;
@@ -41,9 +42,9 @@ pub fn code_of(alloc: Global, plans: &[Plan]) -> Result<Vec<u32>, LayoutFault>
     if plans.len() > MOST {
         return Err(LayoutFault::Limit);
     }
-    let widths = all_widths(alloc, plans)?;
+    let sizes = all_sizes(alloc, plans)?;
     let bodies = count_bodies(plans)?;
-    let found = all_entries(alloc, bodies, widths.as_slice())?;
+    let found = all_entries(alloc, bodies, sizes.widths.as_slice())?;
     let entries = Entries {
         procedures: found.as_slice(),
         routines: bodies + 1,
@@ -51,20 +52,32 @@ pub fn code_of(alloc: Global, plans: &[Plan]) -> Result<Vec<u32>, LayoutFault>
     let mut words = Vec::new(alloc);
     push_start(&mut words, entries, plans)?;
     push_routines(&mut words)?;
-    push_procedures(alloc, &mut words, entries, plans)?;
+    let measures = sizes.measures.as_slice();
+    push_procedures(alloc, &mut words, entries, plans, measures)?;
     Ok(words)
 }
 
-/// How many words each procedure has.
-fn all_widths(alloc: Global, plans: &[Plan]) -> Result<Vec<u32>, LayoutFault>
-    ensures widths { IfOk result (λ widths. widths.items ≡ widths_of proc_width 0 (map placed_in plans.now)) }
+/// How many words the parts of each procedure have, and how many each has in all.
+#[derive(Drop)]
+struct Sizes {
+    measures: Vec<Measure>,
+    widths: Vec<u32>,
+}
+
+/// The sizes of all procedures.
+fn all_sizes(alloc: Global, plans: &[Plan]) -> Result<Sizes, LayoutFault>
+    ensures measures { IfOk result (λ sizes. sizes.measures.items ≡ map measured plans.now) }
+    ensures widths { IfOk result (λ sizes. sizes.widths.items ≡ widths_of proc_width 0 (map placed_in plans.now)) }
     ensures limit { IfErr result (λ fault. fault ≡ Limit → 2 ^ 18 < whole_width proc_width 0 (map placed_in plans.now)) }
 {
-    let mut widths = Vec::new(alloc);
+    let mut measures = Vec::with_capacity(alloc, plans.len())?;
+    let mut widths = Vec::with_capacity(alloc, plans.len())?;
     for plan in plans {
-        widths.push(width(alloc, plan)?)?;
+        let measure = measure_of(alloc, plan)?;
+        widths.push(width(&measure)?)?;
+        measures.push(measure)?;
     }
-    Ok(widths)
+    Ok(Sizes { measures, widths })
 }
 
 /// How many of the procedures are bodies of modules.
@@ -155,7 +168,9 @@ fn push_procedures(
     words: &mut Vec<u32>,
     entries: Entries,
     plans: &[Plan],
+    measures: &[Measure],
 ) -> Result<(), LayoutFault>
+    requires measured { measures.now ≡ map measured plans.now }
     requires procedures { InReach entries.procedures.now }
     requires routines { entries.routines < 2 ^ 17 }
     requires near { length words.old.items + whole_width proc_width 0 (map placed_in plans.now) ≤ 2 ^ 18 }
@@ -165,8 +180,8 @@ fn push_procedures(
         (spread (proc_words (map placed_in plans.now)) proc_width 0 (length words.old.items) (map placed_in plans.now))) }
     ensures limit { length words.old.items ≡ procedures_at (map placed_in plans.now) → IfErr result (λ fault. fault ≡ Limit → ⊥) }
 {
-    for plan in plans {
-        push_procedure(alloc, words, entries, plan)?;
+    for (i, plan) in plans.iter().enumerate() {
+        push_procedure(alloc, words, entries, plan, &measures[i])?;
     }
     Ok(())
 }

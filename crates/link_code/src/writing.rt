@@ -8,11 +8,11 @@ ghost use Rattle.placed_code.specs.Layout.{placings, block_width, front_width, p
 ghost use Rattle.link_words.specs.Fields.{InReach, entry_in};
 ghost use Rattle.link_blocks.specs.Plans.{placed_in};
 ghost use Rattle.link_code.specs.Parts.{entry_at, parts_code, front_code, block_code, IsWhole};
-ghost use Rattle.link_code.specs.Measured.{parts_width, Measures};
+ghost use Rattle.link_code.specs.Measured.{parts_width, measured};
 ghost use Rattle.link_code.specs.Written.{StandsAt};
 ghost use Rattle.link_layout.specs.declared.fault.LayoutFault.TheVariants.{Limit};
 
-use crate::measuring::{first_in, measure_of, no_block, to_the_first};
+use crate::measuring::{Measure, first_in, no_block, to_the_first};
 use crate::putting::{Entries, push_copies, push_parts};
 use a64_instr::Bits;
 use link_blocks::Plan;
@@ -85,13 +85,15 @@ fn push_blocks(
     Ok(())
 }
 
-/// Appends the words of a procedure.
+/// Appends the words of a measured procedure.
 pub(crate) fn push_procedure(
     alloc: Global,
     words: &mut Vec<u32>,
     entries: Entries,
     plan: &Plan,
+    measure: &Measure,
 ) -> Result<(), LayoutFault>
+    requires measured { measure.now ≡ measured plan.now }
     requires procedures { InReach entries.procedures.now }
     requires routines { entries.routines < 2 ^ 17 }
     requires near { length words.old.items + proc_width 0 (placed_in plan.now) ≤ 2 ^ 18 }
@@ -100,7 +102,6 @@ pub(crate) fn push_procedure(
         → OnOk result (words.new.items ≡ words.old.items ++ map word_of (proc_words ps p (length words.old.items) (placed_in plan.now))) }
     ensures limit { (ps : List Placed) (p : ℕ) → proc_of ps p ≡ placed_in plan.now → entry ps p ≡ length words.old.items → IfErr result (λ fault. fault ≡ Limit → ⊥) }
 {
-    let measure = measure_of(alloc, plan)?;
     let first = words.len() as u32 + measure.front;
     let order = plan.order.as_slice();
     let count = plan.blocks.len() as u32;

@@ -37,11 +37,11 @@ use Rattle.check_statements.proofs.walk.+walk.Goals as goal
 
 pub statements-returns-in_err-first : goal.statements-returns-in_err-first
 statements-returns-in_err-first t c = let s = c.args.scope.now in let p = s.source.now in let w = world_of s in
-    exit _ c.from_residual.ensures.1 (as_judged (statements_is p w c.args.tree.now) (stop _ _ (c.in_err-first.ensures (λ rest. rest) (none_put s c.new.result c.new.ensures.items))))
+    exit _ c.from_residual-in_err-first.ensures.1 (as_judged (statements_is p w c.args.tree.now) (stop _ _ (c.in_err-first.ensures (λ rest. rest) (none_put s c.in_ok-room.room c.in_ok-room.ensures.items))))
 
 pub statements-returns : goal.statements-returns
 statements-returns t c = let s = c.args.scope.now in let p = s.source.now in let w = world_of s in
-    as_judged (statements_is p w c.args.tree.now) (goes_on _ _ (c.in_ok-first.ensures (λ rest. rest) (none_put s c.new.result c.new.ensures.items)) (λ a h. as_judged (ap (put_more p w a) (sym c.deref.ensures.value)) (c.further.ensures a h)))
+    as_judged (statements_is p w c.args.tree.now) (goes_on _ _ (c.in_ok-first.ensures (λ rest. rest) (none_put s c.in_ok-room.room c.in_ok-room.ensures.items)) (λ a h. as_judged (ap (put_more p w a) (sym c.deref.ensures.value)) (c.further.ensures a h)))
 
 pub further-returns-in_err-all : goal.further-returns-in_err-all
 further-returns-in_err-all t c = let s = c.args.scope.now in let p = s.source.now in let w = world_of s in
@@ -165,19 +165,19 @@ if_branches-returns-in_err-guard t c = let s = c.args.scope.now in let p = s.sou
 
 pub if_branches-returns-in_err-first : goal.if_branches-returns-in_err-first
 if_branches-returns-in_err-first t c = let s = c.args.scope.now in let p = s.source.now in let w = world_of s in
-    exit _ c.from_residual-in_err-first.ensures.1 (stop _ _ (goes_on _ _ c.in_ok-guard.ensures (λ g k. c.in_err-first.ensures (λ rest. rest) g (no_branch_put s c.new.result c.new.ensures.items) k)))
+    exit _ c.from_residual-in_err-first.ensures.1 (stop _ _ (goes_on _ _ c.in_ok-guard.ensures (λ g k. c.in_err-first.ensures (λ rest. rest) g (no_branch_put s c.in_ok-room.room c.in_ok-room.ensures.items) k)))
 
 pub if_branches-returns-in_err-branches : goal.if_branches-returns-in_err-branches
 if_branches-returns-in_err-branches t c = let s = c.args.scope.now in let p = s.source.now in let w = world_of s in
-    exit _ c.from_residual-in_err-branches.ensures.1 (goes_on _ _ (goes_on _ _ c.in_ok-guard.ensures (λ g k. c.in_ok-first.ensures (λ rest. rest) g (no_branch_put s c.new.result c.new.ensures.items) k)) (λ a h. stop _ _ (as_judged (ap (branches_more p w a) (sym c.deref.ensures.value)) (c.in_err-branches.ensures a h))))
+    exit _ c.from_residual-in_err-branches.ensures.1 (goes_on _ _ (goes_on _ _ c.in_ok-guard.ensures (λ g k. c.in_ok-first.ensures (λ rest. rest) g (no_branch_put s c.in_ok-room.room c.in_ok-room.ensures.items) k)) (λ a h. stop _ _ (as_judged (ap (branches_more p w a) (sym c.deref.ensures.value)) (c.in_err-branches.ensures a h))))
 
 pub if_branches-returns-in_err-other : goal.if_branches-returns-in_err-other
 if_branches-returns-in_err-other t c = let s = c.args.scope.now in let p = s.source.now in let w = world_of s in
-    exit _ c.from_residual-in_err-other.ensures.1 (goes_on _ _ (goes_on _ _ c.in_ok-guard.ensures (λ g k. c.in_ok-first.ensures (λ rest. rest) g (no_branch_put s c.new.result c.new.ensures.items) k)) (λ a h. goes_on _ _ (as_judged (ap (branches_more p w a) (sym c.deref.ensures.value)) (c.in_ok-branches.ensures a h)) (λ bs k. stop _ _ c.in_err-other.ensures)))
+    exit _ c.from_residual-in_err-other.ensures.1 (goes_on _ _ (goes_on _ _ c.in_ok-guard.ensures (λ g k. c.in_ok-first.ensures (λ rest. rest) g (no_branch_put s c.in_ok-room.room c.in_ok-room.ensures.items) k)) (λ a h. goes_on _ _ (as_judged (ap (branches_more p w a) (sym c.deref.ensures.value)) (c.in_ok-branches.ensures a h)) (λ bs k. stop _ _ c.in_err-other.ensures)))
 
 pub if_branches-returns : goal.if_branches-returns
 if_branches-returns t c = let s = c.args.scope.now in let p = s.source.now in let w = world_of s in
-    goes_on _ _ (goes_on _ _ c.in_ok-guard.ensures (λ g k. c.in_ok-first.ensures (λ rest. rest) g (no_branch_put s c.new.result c.new.ensures.items) k)) (λ a h. goes_on _ _ (as_judged (ap (branches_more p w a) (sym c.deref.ensures.value)) (c.in_ok-branches.ensures a h)) (λ bs k. goes_on _ _ c.in_ok-other.ensures (λ o l. record { by = c.if_statement.ensures (table_of s) (texts_of s) ∙ ap₂ I.If k l })))
+    goes_on _ _ (goes_on _ _ c.in_ok-guard.ensures (λ g k. c.in_ok-first.ensures (λ rest. rest) g (no_branch_put s c.in_ok-room.room c.in_ok-room.ensures.items) k)) (λ a h. goes_on _ _ (as_judged (ap (branches_more p w a) (sym c.deref.ensures.value)) (c.in_ok-branches.ensures a h)) (λ bs k. goes_on _ _ c.in_ok-other.ensures (λ o l. record { by = c.if_statement.ensures (table_of s) (texts_of s) ∙ ap₂ I.If k l })))
 
 pub while_branches-returns-in_err-guard : goal.while_branches-returns-in_err-guard
 while_branches-returns-in_err-guard t c = let s = c.args.scope.now in let p = s.source.now in let w = world_of s in
@@ -185,15 +185,15 @@ while_branches-returns-in_err-guard t c = let s = c.args.scope.now in let p = s.
 
 pub while_branches-returns-in_err-first : goal.while_branches-returns-in_err-first
 while_branches-returns-in_err-first t c = let s = c.args.scope.now in let p = s.source.now in let w = world_of s in
-    exit _ c.from_residual-in_err-first.ensures.1 (stop _ _ (goes_on _ _ c.in_ok-guard.ensures (λ g k. c.in_err-first.ensures (λ rest. rest) g (no_branch_put s c.new.result c.new.ensures.items) k)))
+    exit _ c.from_residual-in_err-first.ensures.1 (stop _ _ (goes_on _ _ c.in_ok-guard.ensures (λ g k. c.in_err-first.ensures (λ rest. rest) g (no_branch_put s c.in_ok-room.room c.in_ok-room.ensures.items) k)))
 
 pub while_branches-returns-in_err-branches : goal.while_branches-returns-in_err-branches
 while_branches-returns-in_err-branches t c = let s = c.args.scope.now in let p = s.source.now in let w = world_of s in
-    exit _ c.from_residual-in_err-branches.ensures.1 (goes_on _ _ (goes_on _ _ c.in_ok-guard.ensures (λ g k. c.in_ok-first.ensures (λ rest. rest) g (no_branch_put s c.new.result c.new.ensures.items) k)) (λ a h. stop _ _ (as_judged (ap (branches_more_do p w a) (sym c.deref.ensures.value)) (c.in_err-branches.ensures a h))))
+    exit _ c.from_residual-in_err-branches.ensures.1 (goes_on _ _ (goes_on _ _ c.in_ok-guard.ensures (λ g k. c.in_ok-first.ensures (λ rest. rest) g (no_branch_put s c.in_ok-room.room c.in_ok-room.ensures.items) k)) (λ a h. stop _ _ (as_judged (ap (branches_more_do p w a) (sym c.deref.ensures.value)) (c.in_err-branches.ensures a h))))
 
 pub while_branches-returns : goal.while_branches-returns
 while_branches-returns t c = let s = c.args.scope.now in let p = s.source.now in let w = world_of s in
-    goes_on _ _ (goes_on _ _ c.in_ok-guard.ensures (λ g k. c.in_ok-first.ensures (λ rest. rest) g (no_branch_put s c.new.result c.new.ensures.items) k)) (λ a h. goes_on _ _ (as_judged (ap (branches_more_do p w a) (sym c.deref.ensures.value)) (c.in_ok-branches.ensures a h)) (λ bs k. record { by = c.while_statement.ensures (table_of s) (texts_of s) ∙ ap I.While k }))
+    goes_on _ _ (goes_on _ _ c.in_ok-guard.ensures (λ g k. c.in_ok-first.ensures (λ rest. rest) g (no_branch_put s c.in_ok-room.room c.in_ok-room.ensures.items) k)) (λ a h. goes_on _ _ (as_judged (ap (branches_more_do p w a) (sym c.deref.ensures.value)) (c.in_ok-branches.ensures a h)) (λ bs k. record { by = c.while_statement.ensures (table_of s) (texts_of s) ∙ ap I.While k }))
 
 pub guarded_branch-returns-in_err-done : goal.guarded_branch-returns-in_err-done
 guarded_branch-returns-in_err-done t c = let s = c.args.scope.now in let p = s.source.now in let w = world_of s in

@@ -1,4 +1,4 @@
-use Rattle.std.proofs.Common.{◌≡◌, ℕ, ◌∙◌, ap, sym, map, length, arith}
+use Rattle.std.proofs.Common.{◌≡◌, ◌∙◌, ap, sym, map, length, arith}
 use Rattle.std.specs.Prelude.{◌==◌}
 use Rattle.placed_code.specs.Words.{copies_words}
 use Rattle.placed_code.specs.Layout.{jump_width, first_of, last_width}

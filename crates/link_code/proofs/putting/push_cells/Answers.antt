@@ -1,4 +1,4 @@
-use Rattle.std.proofs.Common.{◌≡◌, ◌+◌, ◌++◌, ℕ, suc, map, drop, length, ap, sym, ◌∙◌, arith}
+use Rattle.std.proofs.Common.{◌≡◌, ◌+◌, ◌++◌, suc, map, drop, length, ap, sym, ◌∙◌, arith}
 use Rattle.run_laws.specs.Layers.{whole_width, spread}
 use Rattle.a64_table.specs.Table.{word_of}
 use Rattle.placed_code.specs.Layout.{cell_width}

@@ -1,4 +1,4 @@
-use Rattle.std.proofs.Common.{◌≡◌, ◌++◌, map, length, ap, ◌∙◌}
+use Rattle.std.proofs.Common.{◌++◌, map, length, ap, ◌∙◌}
 use Rattle.a64_table.specs.Table.{word_of}
 use Rattle.placed_code.specs.Words.{copies_words}
 use Rattle.run_laws.specs.Layers.{spread}

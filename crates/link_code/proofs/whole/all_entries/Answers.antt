@@ -1,4 +1,4 @@
-use Rattle.std.proofs.Common.{◌≡◌, ◌+◌, ◌∙◌, arith}
+use Rattle.std.proofs.Common.{◌+◌, ◌∙◌, arith}
 use Rattle.link_layout.proofs.Placing.{end_is}
 use Rattle.link_code.proofs.Rows.{err_so}
 use Rattle.link_code.proofs.Measures.{entries_with_end}

@@ -1,4 +1,4 @@
-use Rattle.std.proofs.Common.{◌≡◌, sym}
+use Rattle.std.proofs.Common.{sym}
 use Rattle.placed_code.proofs.Parts.{length_map}
 use Rattle.link_words.specs.Fields.{entry_in}
 use Rattle.link_blocks.specs.Plans.{block_in}
