@@ -1,4 +1,4 @@
-mod Lists
+pub mod Lists
 mod Sizes
 mod Entries
 mod Parts
@@ -15,4 +15,3 @@ mod Programs
 mod Erased
 mod Uses
 mod InOrder
-mod Front

@@ -4,7 +4,6 @@ use Rattle.std.specs.Prelude.{nat_le}
 use Rattle.std.proofs.lemmas.List.{get_or_past}
 use Rattle.ob_types.specs.Forms.{all, all_below, types_fine}
 use Rattle.ob_types.specs.Layout.{record_of, types_of, record_cells, base_cells, cells_within, record_within}
-use Rattle.ob_types.specs.LegalTypes.{type_legal, record_legal, signature_legal}
 use Rattle.ob_types.specs.WellFormed.{well_formed, level_fine, cells_fine, argument_words, procedure_fine}
 use Rattle.ob_types.specs.declared.program.Program.{Program}
 use Rattle.ob_types.proofs.Tests.{and_of, below, less_or_past}
@@ -16,10 +15,6 @@ module _ (p : Program) (well : well_formed p ≡ true) where
 
   pub procedures_are_fine : (f : ℕ) → f < length p.procedures → procedure_fine p f ≡ true
   procedures_are_fine = (parts_of p well).procedures
-
-  pub types_are_legal : all_below (length p.types.kinds) (type_legal p.types) ≡ true
-  types_are_legal =
-      (and_of (all_below (length p.types.kinds) (type_legal p.types)) (all_below (length p.types.records) (record_legal p.types) && all (signature_legal p.types) p.types.signatures) (parts_of p well).legal).0
 
   counted : all_below (length p.types.records) (cells_fine p) ≡ true
   counted =

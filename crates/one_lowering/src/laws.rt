@@ -4,11 +4,7 @@ ghost use Rattle.std.specs.Prelude.{◌≡◌, ℕ, List, true};
 ghost use Rattle.ob_types.specs.Layout.{cells};
 ghost use Rattle.ob_types.specs.WellFormed.{well_formed};
 ghost use Rattle.ob_types.specs.declared.program.Program.{Program};
-ghost use Rattle.ob_judge.specs.Image.{Program as ProgramImage};
-ghost use Rattle.ob_judge.specs.Modules.{Legal, Parsed, checked};
-ghost use Rattle.judged_tree.specs.Outline.{outlined_program};
 ghost use Rattle.judged_tree.specs.Plain.{plain_program};
-ghost use Rattle.judged_tree.specs.Tables.{IsFromTheFront};
 ghost use Rattle.judged_tree.specs.TypeShapes.{shape_of};
 ghost use Rattle.one_lowering.specs.Forms.{HasClosedTypes, HaveOneForm, HaveOneLowering, is_closed, numbered};
 ghost use Rattle.one_lowering.specs.Order.{UsesInOrder};
@@ -18,12 +14,6 @@ pub fn shapes_have_one_size()
     ensures { (p : Program) → well_formed p ≡ true
         → (a b : ℕ) → shape_of p.types a ≡ shape_of p.types b → is_closed (shape_of p.types a) ≡ true
         → cells p.types a ≡ cells p.types b }
-{}
-
-/// Each array has elements of some type, where the table of types names parts before wholes.
-pub fn tables_from_the_front_are_closed()
-    ensures { (p : Program) → well_formed p ≡ true → IsFromTheFront p.types
-        → (sources : List (List ℕ)) → HasClosedTypes (plain_program sources (numbered p)) }
 {}
 
 /// Programs with the same image and with uses of strings in order have one form, in which each use is told by its number.
@@ -37,15 +27,5 @@ pub fn ordered_programs_have_one_form()
 pub fn forms_have_one_lowering()
     ensures { (p q : Program) → well_formed p ≡ true → well_formed q ≡ true
         → (one : HaveOneForm p q) → HasClosedTypes (plain_program one.sources (numbered p))
-        → HaveOneLowering p q }
-{}
-
-/// Programs that the judgement gives of the same modules, as code holds them, have one lowering, where they are well-formed,
-/// their uses of strings are in order, and the table of one names parts before wholes.
-pub fn judged_programs_have_one_lowering()
-    ensures { (ms : List Parsed) (image other : ProgramImage) (p q : Program) (sources others : List (List ℕ))
-        → checked ms ≡ Legal image → plain_program sources p ≡ outlined_program image
-        → checked ms ≡ Legal other → plain_program others q ≡ outlined_program other
-        → well_formed p ≡ true → well_formed q ≡ true → IsFromTheFront p.types → UsesInOrder p → UsesInOrder q
         → HaveOneLowering p q }
 {}

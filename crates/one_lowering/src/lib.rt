@@ -7,7 +7,4 @@
 
 mod laws;
 
-pub use laws::{
-    forms_have_one_lowering, judged_programs_have_one_lowering, ordered_programs_have_one_form,
-    shapes_have_one_size, tables_from_the_front_are_closed,
-};
+pub use laws::{forms_have_one_lowering, ordered_programs_have_one_form, shapes_have_one_size};

@@ -1,0 +1,5 @@
+mod Closed
+mod Types
+mod Declared
+mod Modules
+mod Programs
