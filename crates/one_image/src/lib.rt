@@ -5,5 +5,7 @@
 #![tactic(auto)]
 
 mod laws;
+mod lowerings;
 
 pub use laws::programs_have_one_image;
+pub use lowerings::lowerings_have_one_image;
