@@ -2,15 +2,18 @@
 # Time of the compiler by pass and by policy, its code in words and steps, and its memory, for made modules; and what other
 # compilers take for the same modules.
 #
-#     bench/compile.sh [PROGRAM]
+#     bench/compile.sh [PROGRAM [TRC]]
 #
 # PROGRAM is the built program of crates/pass_times (`rt run` leaves it in that crate's out/), which makes the modules. Without other
-# words it compiles by linear scan, in Bi traces, with 16 registers. Times are the processors', the least of five runs, of three
-# for other compilers: gcc -O0, tcc, fpc and fpc -O2, where they are installed. These get the module in C and Pascal
-# (bench/others.py); their programs must write the same number.
+# words it compiles by linear scan, in Bi traces, with 16 registers. Times are the processors', the least of five runs. TRC is the
+# built program of crates/trc, which builds an image of the module's file, with four workers as without options. Beside it stand
+# gcc -O0, tcc, fpc and fpc -O2, where they are installed: they get the module in C and Pascal (bench/others.py), and their programs
+# must write the same number. These times are the least that the processors used and the least that passed, of fifteen runs of
+# trc and of five of each other compiler.
 set -eu
 . "$(dirname "$0")/measure.sh"
 program=${1:-$(built pass_times)}
+trc=${2:-$(built trc)}
 : >"$work/in"
 
 # calls SIZE [WORD..]: the calls of all passes, one by one and in one
@@ -80,25 +83,24 @@ linked() {
     esac
 }
 
-# row NAME MS MS: a compiler's times, and what trc's is of each
+# row NAME USED PASSED USED PASSED: a compiler's times for an object file and for a program, and what trc's are of the former
 row() {
-    awk -v n="$1" -v o="$2" -v l="$3" -v t="$ours" \
-        'BEGIN { printf "%-10s %14.1f %14.1f %14.2f %14.2f\n", n, o, l, t / o, t / l }'
+    awk -v n="$1" -v ou="$2" -v op="$3" -v pu="$4" -v pp="$5" -v u="${ours[0]}" -v p="${ours[1]}" \
+        'BEGIN { printf "%-10s %10.0f %10.0f %10.0f %10.0f %10.2f %10.2f\n", n, ou, op, pu, pp, u / ou, p / op }'
 }
 
 for size in 400 1000; do
-    printf '\n%-10s %14s %14s %14s %14s   for %d procedures\n' compiler 'object, ms' 'program, ms' 'trc / object' 'trc / program' "$size"
+    printf '\n%-10s %21s %21s %21s   for %d procedures\n' '' 'object file, ms' 'program, ms' 'trc by object file' "$size"
+    printf '%-10s %10s %10s %10s %10s %10s %10s\n' compiler used passed used passed used passed
     number=$("$program" all 7 "$size" | awk '$1 == "output" { print $2 }')
-    ours=$(least 5 named all "$program" all 7 "$size" | awk '{ print $2 }')
-    row trc "$ours" "$ours"
     "$program" text 7 "$size" >"$work/made.Mod"
+    ours=($(both 15 "$trc" build "$work/made.img" "$work/made.Mod"))
+    row trc "${ours[@]}" "${ours[@]}"
     "$top/bench/others.py" c <"$work/made.Mod" >"$work/made.c"
     "$top/bench/others.py" pascal <"$work/made.Mod" >"$work/made.pas"
     for compiler in gcc tcc fpc fpc-O2; do
         command -v "${compiler%-O2}" >/dev/null || { echo "$compiler isn't here"; continue; }
-        object=$(least 3 named object object "$compiler" | awk '{ print $2 }')
-        linked=$(least 3 named linked linked "$compiler" | awk '{ print $2 }')
-        row "$compiler" "$object" "$linked"
+        row "$compiler" $(both 5 object "$compiler") $(both 5 linked "$compiler")
         [ "$("$work/made")" = "$number" ] || echo "the program of $compiler writes another number than $number"
     done
 done

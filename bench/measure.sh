@@ -19,6 +19,16 @@ milliseconds() {
     seconds "$@" | awk '{ print 1000 * ($1 + $2) }'
 }
 
+# both TIMES PROGRAM WORD..: of so many runs the least milliseconds of the processors, and the least that pass
+both() {
+    local times=$1 run TIMEFORMAT='%U %S %R'
+    for ((run = 0; run < times; run++)); do seconds "${@:2}"; done | awk '
+        { used = 1000 * ($1 + $2); passed = 1000 * $3 }
+        NR == 1 || used < least_used { least_used = used }
+        NR == 1 || passed < least_passed { least_passed = passed }
+        END { print least_used, least_passed }'
+}
+
 # each_call NONE ALL TIMES: the milliseconds of one of so many calls, from those of a run without any and of one with all
 each_call() {
     awk -v o="$1" -v t="$2" -v n="$3" 'BEGIN { print (t - o) / n }'

@@ -17,6 +17,7 @@ use crate::numbers::read_nodes;
 use a64_select::select;
 use flow_allocation::{Choice, Flow, allocate_flows};
 use image_form::Image;
+use items::Items;
 use link_plan::{Data, link};
 use outside::Gate;
 use ssa_core::Proc;
@@ -36,28 +37,28 @@ pub struct LinkedProcedures {
 /// edges, linked. The workers of the choice share the traces, and whatever they do the image is the same; a worker passes the gate
 /// before it begins a trace. `Traces` comes exactly where there are over 262,144 traces, `Code` where there are not and the code is over
 /// 262,144 words, and `Misfit` for no procedures whose numbers and frames are small enough, so for none of at most 4,000 values
-/// each. Takes the time of the passes. It may wait.
+/// each. Takes the time of the passes. The procedures are let go before their flows are allocated. It may wait.
 pub fn image_of<G: Gate, R: Threads + Wait + Sync>(
     rt: &R,
     alloc: Global,
     choice: &Choice,
-    procedures: &[Proc],
+    procedures: Items<Proc>,
     extra: Data,
     gate: &G,
 ) -> Result<LinkedProcedures, ImageFault>
-    requires ready { All IsReady procedures.now }
+    requires ready { All IsReady procedures }
     requires choice { IsFitChoice choice.now }
     requires extra { DataFits extra.flags extra.globals extra.constants }
-    ensures image { IfOk result (IsImageBy choice.now procedures.now extra.flags extra.globals extra.constants) }
+    ensures image { IfOk result (IsImageBy choice.now procedures extra.flags extra.globals extra.constants) }
     ensures form { IfOk result (λ linked. IsInForm linked.image) }
-    ensures traces { IfErr result (λ fault. fault ≡ Traces → 262144 < traces_in choice.now.builder (map selected procedures.now)) }
+    ensures traces { IfErr result (λ fault. fault ≡ Traces → 262144 < traces_in choice.now.builder (map selected procedures)) }
     ensures code { IfErr result (λ fault. fault ≡ Code
-        → (cuts : List Cut) × AreCutsOf choice.now procedures.now cuts × (trace_count cuts ≤ 262144) × (2 ^ 18 < code_length cuts)) }
+        → (cuts : List Cut) × AreCutsOf choice.now procedures cuts × (trace_count cuts ≤ 262144) × (2 ^ 18 < code_length cuts)) }
     ensures misfit { IfErr result (λ fault. fault ≡ Misfit
-        → (cuts : List Cut) × AreCutsOf choice.now procedures.now cuts × (AreSmall cuts → ⊥)) }
-    ensures modest { All HasFewValues procedures.now → IfErr result (λ fault. fault ≡ Misfit → ⊥) }
+        → (cuts : List Cut) × AreCutsOf choice.now procedures cuts × (AreSmall cuts → ⊥)) }
+    ensures modest { All HasFewValues procedures → IfErr result (λ fault. fault ≡ Misfit → ⊥) }
 {
-    let flows = select_all(alloc, procedures)?;
+    let flows = flows_of(alloc, procedures)?;
     let allocated = allocate_flows(rt, alloc, choice, flows.as_slice(), gate)?;
     let parts = allocated.parts.as_slice();
     match link(
@@ -73,6 +74,16 @@ pub fn image_of<G: Gate, R: Threads + Wait + Sync>(
         }),
         Err(fault) => Err(fault_of(fault)),
     }
+}
+
+// The flows of procedures, which are let go.
+fn flows_of(alloc: Global, procedures: Items<Proc>) -> Result<Vec<Flow>, ImageFault>
+    requires { All IsReady procedures }
+    ensures flows { IfOk result (λ flows. flows.items ≡ map selected procedures) }
+    ensures numbers { IfOk result (λ flows. All (λ f. node_numbers f.nodes ≡ true) flows.items) }
+    ensures memory { IfErr result (λ fault. fault ≡ OutOfMemory) }
+{
+    select_all(alloc, procedures.as_slice())
 }
 
 /// The flows of procedures, each selected.

@@ -26,12 +26,11 @@ fn behind(line: u32, byte: u8) -> Result<u32, CheckFault>
 pub fn line_numbers(alloc: Global, bytes: &[u8]) -> Result<Vec<u32>, CheckFault>
     ensures { IfOk result (λ v. IsLineTable bytes.now v.items) }
 {
-    let mut lines = Vec::new(alloc);
     let mut line = 1;
-    lines.push(line)?;
-    for byte in bytes {
+    let mut lines = vec![in alloc; line; bytes.len() + 1]?;
+    for (i, byte) in bytes.iter().enumerate() {
         line = behind(line, *byte)?;
-        lines.push(line)?;
+        lines[i + 1] = line;
     }
     Ok(lines)
 }

@@ -93,7 +93,7 @@ fn taken(
     ensures taken { IfOk result (λ own. own.items ≡ take count (into_iter_items rest.old)) }
     ensures left { OnOk result (into_iter_items rest.new ≡ drop count (into_iter_items rest.old)) }
 {
-    let mut own = Vec::new(alloc);
+    let mut own = Vec::with_capacity(alloc, count)?;
     for _ in 0..count {
         match rest.next() {
             Some(out) => own.push(out)?,

@@ -19,7 +19,7 @@ use back_end::{Choice, Image, image_of};
 use ob_types::Program;
 use outside::Gate;
 use short_procedures::are_short;
-use ssa_build::lower_with_tables;
+use ssa_build::{LoweredProgram, lower_with_tables};
 use std::alloc::Global;
 use std::sync::Wait;
 use std::thread::Threads;
@@ -36,42 +36,44 @@ pub struct Compiled {
 /// with its globals and constants. A program is refused by the first limit that it passes: one of lowering, or over 262,144
 /// traces (57), or over 262,144 words of code (54). A procedure of over 500,000,000 blocks and operations
 /// is refused by 54 at once. Takes the time of the passes; the workers of the choice share the traces, whose results, and so the
-/// image, are the same whatever they do. It may wait.
+/// image, are the same whatever they do. The program is let go once it is lowered. It may wait.
 pub fn program_image<G: Gate, R: Threads + Wait + Sync>(
     rt: &R,
     alloc: Global,
     choice: &Choice,
-    program: &Program,
+    program: Program,
     gate: &G,
 ) -> Result<Compiled, ProgramFault>
-    requires well_formed { well_formed program.now ≡ true }
+    requires well_formed { well_formed program ≡ true }
     requires choice { IsFitChoice choice.now }
-    ensures image { IfOk result (λ made. (cuts : List Cut) × IsProgramImage choice.now program.now cuts made.image) }
-    ensures means { IfOk result (λ made. (cuts : List Cut) × IsProgramImage choice.now program.now cuts made.image
-        × DoesAsMeant program.now cuts made.image) }
+    ensures image { IfOk result (λ made. (cuts : List Cut) × IsProgramImage choice.now program cuts made.image) }
+    ensures means { IfOk result (λ made. (cuts : List Cut) × IsProgramImage choice.now program cuts made.image
+        × DoesAsMeant program cuts made.image) }
     ensures form { IfOk result (λ made. IsInForm made.image) }
-    ensures within { OnOk result (limit_of program.now ≡ None) }
-    ensures few { OnOk result (traces_in choice.now.builder (flows_of program.now) ≤ most_traces) }
-    ensures procedures { IfOk result (λ made. made.procedures ≡ length (lowered program.now)) }
-    ensures traces { IfOk result (λ made. made.traces ≡ traces_in choice.now.builder (flows_of program.now)) }
-    ensures limit { IfErr result (Tells choice.now program.now) }
+    ensures within { OnOk result (limit_of program ≡ None) }
+    ensures few { OnOk result (traces_in choice.now.builder (flows_of program) ≤ most_traces) }
+    ensures procedures { IfOk result (λ made. made.procedures ≡ length (lowered program)) }
+    ensures traces { IfOk result (λ made. made.traces ≡ traces_in choice.now.builder (flows_of program)) }
+    ensures limit { IfErr result (Tells choice.now program) }
 {
-    let made = match lower_with_tables(alloc, program) {
+    let made = match lower_with_tables(alloc, &program) {
         Ok(made) => made,
         Err(fault) => return Err(of_lowering(fault)),
     };
-    let procedures = made.procedures.as_slice();
-    if !are_short(procedures) {
+    let LoweredProgram { procedures, tables } = made;
+    if !are_short(procedures.as_slice()) {
         return Err(whole_limit(54));
     }
-    let data = match program_data(alloc, &made.tables, program) {
+    let data = match program_data(alloc, &tables, &program) {
         Ok(data) => data,
         Err(_) => return Err(ProgramFault::Memory),
     };
+    drop(program);
+    let count = procedures.len();
     match image_of(rt, alloc, choice, procedures, data, gate) {
         Ok(linked) => Ok(Compiled {
             image: linked.image,
-            procedures: procedures.len(),
+            procedures: count,
             traces: linked.traces,
         }),
         Err(fault) => Err(of_imaging(fault)),

@@ -35,7 +35,7 @@ pub fn source_image<G: Gate, R: Threads + Wait + Sync>(
         Ok(program) => program,
         Err(fault) => return Err(refused_source(fault)),
     };
-    match program_image(rt, alloc, choice, &program, gate) {
+    match program_image(rt, alloc, choice, program, gate) {
         Ok(made) => Ok(made),
         Err(fault) => Err(refused_program(fault)),
     }

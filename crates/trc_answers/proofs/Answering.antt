@@ -20,7 +20,7 @@ use Rattle.image_form.specs.declared.image.Image.{Image}
 use Rattle.a64_machine.specs.State.{Trap}
 use Rattle.trc_answers.specs.Runs.{run_of, cause_of_fault}
 use Rattle.trc_answers.specs.Verdict.{Verdict, Refuses, Runs, Writes, Prints, FileComesTo, IsMissing, HasBytes, IsHeld, IsLeft, ImageComesTo, RunsAlone, RunsOnInput, HasTooMuch, BytesComeTo, AreTooMany, AreNoImage, Written}
-use Rattle.trc_answers.specs.Answers.{Told, told, Answers, AsItComes, FailsReading, FailsPrinting, FailsWriting, LacksMemory, InputStays, Failed, FilesHold, RunAnswers, Ran, RanIntoFault, HadNoRoom, PrintAnswers, Printed, PrintedAFront}
+use Rattle.trc_answers.specs.Answers.{Devices, devices, Answers, AsItComes, FailsReading, FailsPrinting, FailsWriting, LacksMemory, InputStays, Failed, FilesHold, RunAnswers, Ran, RanIntoFault, HadNoRoom, PrintAnswers, Printed, PrintedAFront}
 use Rattle.trc_answers.specs.declared.causes.Device.{Device}
 use Rattle.trc_answers.specs.declared.causes.Device.TheVariants.{Files, Input, Output}
 use Rattle.trc_answers.specs.declared.causes.Cause.{Cause}
@@ -29,40 +29,40 @@ use Rattle.trc_answers.specs.declared.causes.Cause.TheVariants.{NoSuchFile, Read
 pub nothing : (out : Account) → TookNothing out out
 nothing out = record { taken = refl; amount = refl }
 
-pub stays : (t : Told) → InputStays t t
+pub stays : (t : Devices) → InputStays t t
 stays t = record { left = refl; faults = refl }
 
 -- a command is refused, and nothing changed but the files' count of faults
 pub refuses : (comes : Verdict → Type 0) (held mid : Option Held) (m n : ℕ) (left : Option (List ℕ)) (k : ℕ) (out : Account) (cause : Cause)
-    → mid ≡ held → comes (Refuses cause) → Answers comes (told held m left k out) (told mid n left k out) cause
+    → mid ≡ held → comes (Refuses cause) → Answers comes (devices held m left k out) (devices mid n left k out) cause
 refuses comes held mid m n left k out cause same it = AsItComes (Refuses cause) it refl (record { written = all_none out; files = same; input = λ e. record { left = refl; faults = refl } })
 
 -- the files failed while they were read
 pub files_failed : (comes : Verdict → Type 0) (held mid : Option Held) (m n : ℕ) (left : Option (List ℕ)) (k : ℕ) (out : Account)
-    → mid ≡ held → Rose m n → Answers comes (told held m left k out) (told mid n left k out) (ReadFault Files)
+    → mid ≡ held → Rose m n → Answers comes (devices held m left k out) (devices mid n left k out) (ReadFault Files)
 files_failed comes held mid m n left k out same rose = FailsReading Files refl rose (record { output = nothing out; files = same })
 
 -- the input failed while it was read
 pub input_failed : (comes : Verdict → Type 0) (held : Option Held) (m : ℕ) (left left' : Option (List ℕ)) (k k' : ℕ) (out : Account)
-    → Rose k k' → Answers comes (told held m left k out) (told held m left' k' out) (ReadFault Input)
+    → Rose k k' → Answers comes (devices held m left k out) (devices held m left' k' out) (ReadFault Input)
 input_failed comes held m left left' k k' out rose = FailsReading Input refl rose (record { output = nothing out; files = refl })
 
 -- from a run to the command
 pub runs : (comes : Verdict → Type 0) (reads : Bool) (outcome : Outcome Trap) (held : Option Held) (m : ℕ) (left left' : Option (List ℕ)) (k k' : ℕ) (a b : Account) (cause : Cause)
-    → comes (Runs reads outcome) → (reads ≡ false → InputStays (told held m left k a) (told held m left' k' b)) → RunAnswers outcome a b cause
-    → Answers comes (told held m left k a) (told held m left' k' b) cause
+    → comes (Runs reads outcome) → (reads ≡ false → InputStays (devices held m left k a) (devices held m left' k' b)) → RunAnswers outcome a b cause
+    → Answers comes (devices held m left k a) (devices held m left' k' b) cause
 runs comes reads outcome held m left left' k k' a b cause it still (Ran is took) = AsItComes (Runs reads outcome) it is (record { written = took; files = refl; input = still })
 runs comes reads outcome held m left left' k k' a b cause it still (RanIntoFault is took rose) = FailsPrinting (Runs reads outcome) it is (record { front = took; failed = rose; files = refl; input = still })
 runs comes reads outcome held m left left' k k' a b cause it still (HadNoRoom is took) = LacksMemory is (record { output = took; files = refl })
 
 -- from lines that are printed to the command
 pub prints : (comes : Verdict → Type 0) (lines : List ℕ) (held : Option Held) (m : ℕ) (left : Option (List ℕ)) (k : ℕ) (a b : Account) (cause : Cause)
-    → comes (Prints lines) → PrintAnswers lines a b cause → Answers comes (told held m left k a) (told held m left k b) cause
+    → comes (Prints lines) → PrintAnswers lines a b cause → Answers comes (devices held m left k a) (devices held m left k b) cause
 prints comes lines held m left k a b cause it (Printed is took) = AsItComes (Prints lines) it is (record { written = took; files = refl; input = λ e. record { left = refl; faults = refl } })
 prints comes lines held m left k a b cause it (PrintedAFront is took rose) = FailsPrinting (Prints lines) it is (record { front = took; failed = rose; files = refl; input = λ e. record { left = refl; faults = refl } })
 
 -- what a part comes to, the whole does
-pub mapped : (comes comes' : Verdict → Type 0) (old new : Told) (cause : Cause) → ((v : Verdict) → comes v → comes' v) → Answers comes old new cause → Answers comes' old new cause
+pub mapped : (comes comes' : Verdict → Type 0) (old new : Devices) (cause : Cause) → ((v : Verdict) → comes v → comes' v) → Answers comes old new cause → Answers comes' old new cause
 mapped comes comes' old new cause f (AsItComes verdict it is done) = AsItComes verdict (f verdict it) is done
 mapped comes comes' old new cause f (FailsReading device is rose none) = FailsReading device is rose none
 mapped comes comes' old new cause f (FailsPrinting verdict it is cut) = FailsPrinting verdict (f verdict it) is cut
@@ -72,26 +72,26 @@ mapped comes comes' old new cause f (LacksMemory is none) = LacksMemory is none
 rose_later : (a b c : ℕ) → a ≤ b → Rose b c → Rose a c
 rose_later a b c l rose = omega (arith, l, rose)
 
-failed_later : (held : Option Held) (m n : ℕ) (left : Option (List ℕ)) (k : ℕ) (out : Account) (new : Told) (device : Device) → m ≤ n
-    → Failed (told held n left k out) new device → Failed (told held m left k out) new device
+failed_later : (held : Option Held) (m n : ℕ) (left : Option (List ℕ)) (k : ℕ) (out : Account) (new : Devices) (device : Device) → m ≤ n
+    → Failed (devices held n left k out) new device → Failed (devices held m left k out) new device
 failed_later held m n left k out new Files l rose = rose_later m n new.files_faults l rose
 failed_later held m n left k out new Input l rose = rose
 failed_later held m n left k out new Output l rose = rose
 
-files_later : (held : Option Held) (m n : ℕ) (left : Option (List ℕ)) (k : ℕ) (out : Account) (new : Told) (verdict : Verdict)
-    → FilesHold (told held n left k out) verdict new → FilesHold (told held m left k out) verdict new
+files_later : (held : Option Held) (m n : ℕ) (left : Option (List ℕ)) (k : ℕ) (out : Account) (new : Devices) (verdict : Verdict)
+    → FilesHold (devices held n left k out) verdict new → FilesHold (devices held m left k out) verdict new
 files_later held m n left k out new (Refuses cause) h = h
 files_later held m n left k out new (Runs reads outcome) h = h
 files_later held m n left k out new (Writes name bytes) h = h
 files_later held m n left k out new (Prints lines) h = h
 
-input_later : (held : Option Held) (m n : ℕ) (left : Option (List ℕ)) (k : ℕ) (out : Account) (new : Told)
-    → InputStays (told held n left k out) new → InputStays (told held m left k out) new
+input_later : (held : Option Held) (m n : ℕ) (left : Option (List ℕ)) (k : ℕ) (out : Account) (new : Devices)
+    → InputStays (devices held n left k out) new → InputStays (devices held m left k out) new
 input_later held m n left k out new h = record { left = h.left; faults = h.faults }
 
 -- the files' count of faults was lower before
-pub later : (comes : Verdict → Type 0) (held : Option Held) (m n : ℕ) (left : Option (List ℕ)) (k : ℕ) (out : Account) (new : Told) (cause : Cause) → m ≤ n
-    → Answers comes (told held n left k out) new cause → Answers comes (told held m left k out) new cause
+pub later : (comes : Verdict → Type 0) (held : Option Held) (m n : ℕ) (left : Option (List ℕ)) (k : ℕ) (out : Account) (new : Devices) (cause : Cause) → m ≤ n
+    → Answers comes (devices held n left k out) new cause → Answers comes (devices held m left k out) new cause
 later comes held m n left k out new cause l (AsItComes verdict it is done) = AsItComes verdict it is (record { written = done.written; files = files_later held m n left k out new verdict done.files; input = λ e. input_later held m n left k out new (done.input e) })
 later comes held m n left k out new cause l (FailsReading device is rose none) = FailsReading device is (failed_later held m n left k out new device l rose) (record { output = none.output; files = none.files })
 later comes held m n left k out new cause l (FailsPrinting verdict it is cut) = FailsPrinting verdict it is (record { front = cut.front; failed = cut.failed; files = cut.files; input = λ e. input_later held m n left k out new (cut.input e) })
@@ -109,14 +109,14 @@ missing None name most next r = IsMissing tt refl
 missing (Some h) name most next r = IsMissing r refl
 
 -- a file that was read, and what its bytes come to
-pub reads_file : (held mid : Option Held) (name : List ℕ) (most m n : ℕ) (left : Option (List ℕ)) (k : ℕ) (out : Account) (new : Told) (cause : Cause) (bytes : Vec ℕ Global) (text : List ℕ) (next : List ℕ → Verdict → Type 0)
-    → mid ≡ held → ToldOfRead held name most (Ok bytes) → text ≡ bytes.items → m ≤ n → Answers (next text) (told mid n left k out) new cause
-    → Answers (FileComesTo held name next) (told held m left k out) new cause
+pub reads_file : (held mid : Option Held) (name : List ℕ) (most m n : ℕ) (left : Option (List ℕ)) (k : ℕ) (out : Account) (new : Devices) (cause : Cause) (bytes : Vec ℕ Global) (text : List ℕ) (next : List ℕ → Verdict → Type 0)
+    → mid ≡ held → ToldOfRead held name most (Ok bytes) → text ≡ bytes.items → m ≤ n → Answers (next text) (devices mid n left k out) new cause
+    → Answers (FileComesTo held name next) (devices held m left k out) new cause
 reads_file held mid name most m n left k out new cause bytes text next same r e l answers =
     later _ held m n left k out new cause l
-    (mapped (next text) (FileComesTo held name next) (told held n left k out) new cause
+    (mapped (next text) (FileComesTo held name next) (devices held n left k out) new cause
     (λ v it. HasBytes bytes.items (held_bytes held name most bytes r) (subst (λ b. next b v) e it))
-    (subst (λ h. Answers (next text) (told h n left k out) new cause) same answers))
+    (subst (λ h. Answers (next text) (devices h n left k out) new cause) same answers))
 
 list_of : (n : ℕ) → (bytes : List ℕ) × (length bytes ≡ n)
 list_of zero = ([], refl)
@@ -157,7 +157,7 @@ other_flag flags l h = omega (arith, l, h)
 -- an image that doesn't read the input was run
 pub runs_alone : (left : Option (List ℕ)) (steps : ℕ) (image : Image) (items : List ℕ) (k : ℕ) (a b : Account) (cause : Cause)
     → image.flags ≡ 0 → items ≡ [] → RunAnswers (run_of image items steps) a b cause
-    → (held : Option Held) (faults : ℕ) → Answers (ImageComesTo left steps image) (told held faults left k a) (told held faults left k b) cause
+    → (held : Option Held) (faults : ℕ) → Answers (ImageComesTo left steps image) (devices held faults left k a) (devices held faults left k b) cause
 runs_alone left steps image items k a b cause flag none ran held faults =
     runs (ImageComesTo left steps image) false (run_of image [] steps) held faults left left k k a b cause (RunsAlone flag refl) (λ e. record { left = refl; faults = refl })
     (subst (λ i. RunAnswers (run_of image i steps) a b cause) none ran)
@@ -165,7 +165,7 @@ runs_alone left steps image items k a b cause flag none ran held faults =
 -- an image was run on the whole input
 pub runs_on_input : (left left' : Option (List ℕ)) (steps : ℕ) (image : Image) (items : List ℕ) (k k' : ℕ) (a b : Account) (cause : Cause)
     → image.flags < 2 → (image.flags ≡ 0 → ⊥) → Gave left items left' → IsAtEnd left' → length items ≤ 1048576 → RunAnswers (run_of image items steps) a b cause
-    → (held : Option Held) (faults : ℕ) → Answers (ImageComesTo left steps image) (told held faults left k a) (told held faults left' k' b) cause
+    → (held : Option Held) (faults : ℕ) → Answers (ImageComesTo left steps image) (devices held faults left k a) (devices held faults left' k' b) cause
 runs_on_input left left' steps image items k k' a b cause few flag gave end size ran held faults =
     runs (ImageComesTo left steps image) true (run_of image items steps) held faults left left' k k' a b cause
     (RunsOnInput items (other_flag image.flags few flag) (whole_input left left' items gave end) size refl) (λ e. absurd (true_false e)) ran
@@ -176,7 +176,7 @@ runs_on_input left left' steps image items k k' a b cause few flag gave end size
 -- the input was too long for an image
 pub has_too_much : (left left' : Option (List ℕ)) (steps : ℕ) (image : Image) (k k' : ℕ) (out : Account)
     → image.flags < 2 → (image.flags ≡ 0 → ⊥) → GaveSome left left' (λ n. n ≡ 1048576 + 1)
-    → (held : Option Held) (faults : ℕ) → Answers (ImageComesTo left steps image) (told held faults left k out) (told held faults left' k' out) InputTooLong
+    → (held : Option Held) (faults : ℕ) → Answers (ImageComesTo left steps image) (devices held faults left k out) (devices held faults left' k' out) InputTooLong
 has_too_much left left' steps image k k' out few flag gave held faults =
     let long = long_input left left' 1048576 gave in
     AsItComes (Refuses InputTooLong) (HasTooMuch long.0 (other_flag image.flags few flag) long.1 long.2 refl) refl
@@ -188,9 +188,9 @@ has_too_much left left' steps image k k' out few flag gave held faults =
 -- bytes that are no image, or for which there is no memory
 pub no_image : (left : Option (List ℕ)) (steps : ℕ) (bytes : List ℕ) (e : ImageFault) (cause : Cause) (k : ℕ) (out : Account)
     → cause ≡ cause_of_fault e → BreaksRule e (first_fault bytes) → length bytes ≤ 16777216
-    → (held : Option Held) (faults : ℕ) → Answers (BytesComeTo left steps bytes) (told held faults left k out) (told held faults left k out) cause
+    → (held : Option Held) (faults : ℕ) → Answers (BytesComeTo left steps bytes) (devices held faults left k out) (devices held faults left k out) cause
 no_image left steps bytes (Fault number at) cause k out is fault size held faults =
-    subst (Answers (BytesComeTo left steps bytes) (told held faults left k out) (told held faults left k out)) (sym is)
+    subst (Answers (BytesComeTo left steps bytes) (devices held faults left k out) (devices held faults left k out)) (sym is)
     (refuses (BytesComeTo left steps bytes) held held faults faults left k out (NotImage number at) refl
     (AreNoImage (record { number = number; at = at }) size fault refl))
 no_image left steps bytes image_fault.Memory cause k out is fault size held faults =
@@ -199,7 +199,7 @@ no_image left steps bytes image_fault.Memory cause k out is fault size held faul
 -- an image was written
 pub writes : (held held' : Option Held) (m n : ℕ) (name bytes : List ℕ) (image : Image)
     → ToldOfWrite held name bytes held' (Ok tt) → bytes ≡ image_bytes image
-    → (left : Option (List ℕ)) (k : ℕ) (out : Account) → Answers (Written name image) (told held m left k out) (told held' n left k out) Done
+    → (left : Option (List ℕ)) (k : ℕ) (out : Account) → Answers (Written name image) (devices held m left k out) (devices held' n left k out) Done
 writes held held' m n name bytes image tells same left k out =
     AsItComes (Writes name (image_bytes image)) refl refl
     (record { written = all_none out; files = subst (λ b. ToldOfWrite held name b held' (Ok tt)) same tells; input = λ e. record { left = refl; faults = refl } })
@@ -207,7 +207,7 @@ writes held held' m n name bytes image tells same left k out =
 -- the files failed while an image was written
 pub write_failed : (held held' : Option Held) (m n : ℕ) (name bytes : List ℕ) (image : Image) (e : PutFault)
     → e ≡ put.Failed → ToldOfWrite held name bytes held' (Err e) → bytes ≡ image_bytes image → Rose m n
-    → (left : Option (List ℕ)) (k : ℕ) (out : Account) → Answers (Written name image) (told held m left k out) (told held' n left k out) (WriteFault Files)
+    → (left : Option (List ℕ)) (k : ℕ) (out : Account) → Answers (Written name image) (devices held m left k out) (devices held' n left k out) (WriteFault Files)
 write_failed held held' m n name bytes image e is tells same rose left k out =
     FailsWriting name (image_bytes image) refl refl rose (nothing out)
     (subst (λ b. ToldOfWrite held name b held' (Err put.Failed)) same (subst (λ x. ToldOfWrite held name bytes held' (Err x)) is tells)) (record { left = refl; faults = refl })

@@ -6,7 +6,7 @@ use Rattle.std.specs.Borrow.{Bor}
 use Rattle.std.proofs.lemmas.List.{take_more, map-append}
 use Rattle.outside.specs.Files.{Held}
 use Rattle.trc_answers.specs.Verdict.{Verdict, Refuses, IsHeld}
-use Rattle.trc_answers.specs.Answers.{Told, told, Answers, LacksMemory}
+use Rattle.trc_answers.specs.Answers.{Devices, devices, Answers, LacksMemory}
 use Rattle.outside.specs.Sink.{Account}
 use Rattle.fault_lines.specs.declared.places.Position.{Position}
 use Rattle.trc_answers.specs.Causes.{IsPlain, IsPlaced}
@@ -60,19 +60,19 @@ no_texts held names next v (HaveTexts texts are none) = absurd none
 
 -- the files weren't read
 pub unread : (held mid : Option Held) (names : List (List ℕ)) (m n : ℕ) (cause : Cause) (next : List (List ℕ) → Verdict → Type 0) → mid ≡ held → IsUnread held names m n cause
-    → (left : Option (List ℕ)) (k : ℕ) (out : Account) → Answers (FilesComeTo held names next) (told held m left k out) (told mid n left k out) cause
+    → (left : Option (List ℕ)) (k : ℕ) (out : Account) → Answers (FilesComeTo held names next) (devices held m left k out) (devices mid n left k out) cause
 unread held mid names m n cause next same (IsRefused comes) left k out = refuses (FilesComeTo held names next) held mid m n left k out cause same (no_texts held names next (Refuses cause) comes)
 unread held mid names m n cause next same (OneFailed rose e) left k out =
-    subst (Answers (FilesComeTo held names next) (told held m left k out) (told mid n left k out)) (sym e) (files_failed (FilesComeTo held names next) held mid m n left k out same rose)
+    subst (Answers (FilesComeTo held names next) (devices held m left k out) (devices mid n left k out)) (sym e) (files_failed (FilesComeTo held names next) held mid m n left k out same rose)
 unread held mid names m n cause next same (LackMemory e) left k out = LacksMemory e (record { output = nothing out; files = same })
 
 -- the files were read, and what their texts come to
 pub reads_texts : (held mid : Option Held) (names texts : List (List ℕ)) (m n : ℕ) (next : List (List ℕ) → Verdict → Type 0) → mid ≡ held → AreTextsOf held names texts → m ≤ n
-    → (left : Option (List ℕ)) (k : ℕ) (out : Account) (new : Told) (cause : Cause) → Answers (next texts) (told mid n left k out) new cause → Answers (FilesComeTo held names next) (told held m left k out) new cause
+    → (left : Option (List ℕ)) (k : ℕ) (out : Account) (new : Devices) (cause : Cause) → Answers (next texts) (devices mid n left k out) new cause → Answers (FilesComeTo held names next) (devices held m left k out) new cause
 reads_texts held mid names texts m n next same are l left k out new cause answers =
     later _ held m n left k out new cause l
-    (mapped (next texts) (FilesComeTo held names next) (told held n left k out) new cause (λ v it. HaveTexts texts are it)
-    (subst (λ h. Answers (next texts) (told h n left k out) new cause) same answers))
+    (mapped (next texts) (FilesComeTo held names next) (devices held n left k out) new cause (λ v it. HaveTexts texts are it)
+    (subst (λ h. Answers (next texts) (devices h n left k out) new cause) same answers))
 
 ---- Places
 

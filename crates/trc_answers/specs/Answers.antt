@@ -14,53 +14,53 @@ use Rattle.trc_answers.specs.declared.causes.Cause.{Cause}
 use Rattle.trc_answers.specs.declared.causes.Cause.TheVariants.{ReadFault, WriteFault, Memory, Done}
 
 -- what the devices tell at a moment
-pub record Told : Type 0 where
+pub record Devices : Type 0 where
   pub held : Option Held
   pub files_faults : ℕ
   pub left : Option (List ℕ)
   pub input_faults : ℕ
   pub out : Account
 
-abbrev pub told : Option Held → ℕ → Option (List ℕ) → ℕ → Account → Told
-told held files_faults left input_faults out = record { held = held; files_faults = files_faults; left = left; input_faults = input_faults; out = out }
+abbrev pub devices : Option Held → ℕ → Option (List ℕ) → ℕ → Account → Devices
+devices held files_faults left input_faults out = record { held = held; files_faults = files_faults; left = left; input_faults = input_faults; out = out }
 
 -- the device's count of faults rose
-abbrev pub Failed : Told → Told → Device → Type 0
+abbrev pub Failed : Devices → Devices → Device → Type 0
 Failed old new Files = Rose old.files_faults new.files_faults
 Failed old new Input = Rose old.input_faults new.input_faults
 Failed old new Output = Faulted old.out new.out
 
 -- what files hold afterwards: the file that was written, and all else as before
-abbrev pub FilesHold : Told → Verdict → Told → Type 0
+abbrev pub FilesHold : Devices → Verdict → Devices → Type 0
 FilesHold old (Writes name bytes) new = ToldOfWrite old.held name bytes new.held (Ok tt)
 FilesHold old verdict new = new.held ≡ old.held
 
 -- the input is as it was
-pub record InputStays (old new : Told) : Type 0 where
+pub record InputStays (old new : Devices) : Type 0 where
   pub left : new.left ≡ old.left
   pub faults : new.input_faults ≡ old.input_faults
 
 -- all was done to which the command comes
-pub record AllDone (old : Told) (verdict : Verdict) (new : Told) : Type 0 where
+pub record AllDone (old : Devices) (verdict : Verdict) (new : Devices) : Type 0 where
   pub written : TookAll old.out new.out (written_by verdict)
   pub files : FilesHold old verdict new
   pub input : reads_input verdict ≡ false → InputStays old new
 
 -- a front of what the command writes was taken, and the output's count of faults rose
-pub record CutOff (old : Told) (verdict : Verdict) (new : Told) : Type 0 where
+pub record CutOff (old : Devices) (verdict : Verdict) (new : Devices) : Type 0 where
   pub front : TookFront old.out new.out (written_by verdict)
   pub failed : Failed old new Output
   pub files : new.held ≡ old.held
   pub input : reads_input verdict ≡ false → InputStays old new
 
 -- nothing was written
-pub record NothingWritten (old new : Told) : Type 0 where
+pub record NothingWritten (old new : Devices) : Type 0 where
   pub output : TookNothing old.out new.out
   pub files : new.held ≡ old.held
 
 -- the answer of a command: the cause to which it comes, with all done; a read fault of a device that failed; a write fault, of the
 -- output or of the file that it writes, which may hold anything then; or want of memory
-pub data Answers (comes : Verdict → Type 0) (old new : Told) (cause : Cause) : Type 0 where
+pub data Answers (comes : Verdict → Type 0) (old new : Devices) (cause : Cause) : Type 0 where
   AsItComes : (verdict : Verdict) → comes verdict → cause ≡ cause_of verdict → AllDone old verdict new → Answers comes old new cause
   FailsReading : (device : Device) → cause ≡ ReadFault device → Failed old new device → NothingWritten old new → Answers comes old new cause
   FailsPrinting : (verdict : Verdict) → comes verdict → cause ≡ WriteFault Output → CutOff old verdict new → Answers comes old new cause

@@ -100,8 +100,8 @@ IsPlaced IsText (Source number m at) place = (text : List ℕ) × IsText m text 
 IsPlaced IsText cause place = Unit {0}
 
 -- the error output took this line, or its count of faults rose
-abbrev pub Told : Account → Account → List ℕ → Type 0
-Told old new line = TookAll old new line ⊎ Faulted old new
+abbrev pub TookLine : Account → Account → List ℕ → Type 0
+TookLine old new line = TookAll old new line ⊎ Faulted old new
 
 -- a program ends with the status of a cause, and told its line
 pub record Finishes (status : ℕ) (old new : Account) : Type 0 where
@@ -109,4 +109,4 @@ pub record Finishes (status : ℕ) (old new : Account) : Type 0 where
   pub place : Position
   pub cause : Cause
   pub is : status ≡ status_of cause
-  pub told : Told old new (line_of names place cause)
+  pub told : TookLine old new (line_of names place cause)

@@ -6,7 +6,7 @@ ghost use Rattle.image_form.specs.Form.{IsInForm};
 ghost use Rattle.trc_answers.specs.Runs.{cause_of_fault, run_of};
 ghost use Rattle.trc_answers.specs.Causes.{IsPlain};
 ghost use Rattle.trc_answers.specs.Verdict.{BytesComeTo, FileComesTo, ImageComesTo};
-ghost use Rattle.trc_answers.specs.Answers.{Answers, RunAnswers, told};
+ghost use Rattle.trc_answers.specs.Answers.{Answers, RunAnswers, devices};
 
 use crate::causes::{Cause, Device};
 use a64_machine::{Halt, Machine, Step};
@@ -68,8 +68,8 @@ pub fn run_image<I: Source, O: Sink>(
     requires { IsInForm image }
     ensures answers { (held : Option Held) (faults : ℕ)
         → Answers (ImageComesTo (I.left input.old) steps image)
-        (told held faults (I.left input.old) (I.faults input.old) (O.account out.old))
-        (told held faults (I.left input.new) (I.faults input.new) (O.account out.new)) result }
+        (devices held faults (I.left input.old) (I.faults input.old) (O.account out.old))
+        (devices held faults (I.left input.new) (I.faults input.new) (O.account out.new)) result }
     ensures plain { IsPlain result }
     ensures input_rises { I.faults input.old ≤ I.faults input.new }
     ensures out_rises { (O.account out.old).faults ≤ (O.account out.new).faults }
@@ -109,8 +109,8 @@ fn run_bytes<I: Source, O: Sink>(
     requires { length bytes.now ≤ 16777216 }
     ensures answers { (held : Option Held) (faults : ℕ)
         → Answers (BytesComeTo (I.left input.old) steps bytes.now)
-        (told held faults (I.left input.old) (I.faults input.old) (O.account out.old))
-        (told held faults (I.left input.new) (I.faults input.new) (O.account out.new)) result }
+        (devices held faults (I.left input.old) (I.faults input.old) (O.account out.old))
+        (devices held faults (I.left input.new) (I.faults input.new) (O.account out.new)) result }
     ensures plain { IsPlain result }
     ensures input_rises { I.faults input.old ≤ I.faults input.new }
     ensures out_rises { (O.account out.old).faults ≤ (O.account out.new).faults }
@@ -131,8 +131,8 @@ pub fn exec<F: Files, I: Source, O: Sink>(
     out: &mut O,
 ) -> Cause
     ensures answers { Answers (FileComesTo (F.held files.old) image.now (BytesComeTo (I.left input.old) steps))
-        (told (F.held files.old) (F.faults files.old) (I.left input.old) (I.faults input.old) (O.account out.old))
-        (told (F.held files.new) (F.faults files.new) (I.left input.new) (I.faults input.new) (O.account out.new)) result }
+        (devices (F.held files.old) (F.faults files.old) (I.left input.old) (I.faults input.old) (O.account out.old))
+        (devices (F.held files.new) (F.faults files.new) (I.left input.new) (I.faults input.new) (O.account out.new)) result }
     ensures plain { IsPlain result }
     ensures files_rise { F.faults files.old ≤ F.faults files.new }
     ensures input_rises { I.faults input.old ≤ I.faults input.new }

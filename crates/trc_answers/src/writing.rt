@@ -5,7 +5,7 @@ ghost use Rattle.outside.specs.Sink.{Account};
 ghost use Rattle.image_form.specs.Form.{IsInForm};
 ghost use Rattle.trc_answers.specs.Causes.{IsPlain};
 ghost use Rattle.trc_answers.specs.Verdict.{Written};
-ghost use Rattle.trc_answers.specs.Answers.{Answers, PrintAnswers, told};
+ghost use Rattle.trc_answers.specs.Answers.{Answers, PrintAnswers, devices};
 
 use crate::causes::{Cause, Device};
 use image_file::write_image;
@@ -17,8 +17,8 @@ use std::alloc::Global;
 pub fn write_image_file<F: Files>(alloc: Global, name: &str, image: &Image, files: &mut F) -> Cause
     requires { IsInForm image.now }
     ensures answers { (left : Option (List ℕ)) (faults : ℕ) (out : Account)
-        → Answers (Written name.now image.now) (told (F.held files.old) (F.faults files.old) left faults out)
-        (told (F.held files.new) (F.faults files.new) left faults out) result }
+        → Answers (Written name.now image.now) (devices (F.held files.old) (F.faults files.old) left faults out)
+        (devices (F.held files.new) (F.faults files.new) left faults out) result }
     ensures plain { IsPlain result }
     ensures rises { F.faults files.old ≤ F.faults files.new }
 {

@@ -11,7 +11,7 @@ use Rattle.trc_answers.specs.declared.causes.Device.TheVariants.{Files, Output}
 use Rattle.trc_answers.specs.Runs.{run_of}
 use Rattle.trc_answers.specs.Verdict.{Verdict, Refuses, Runs, Writes, Prints, cause_of, FileComesTo, IsMissing, HasBytes, ImageComesTo, RunsAlone, RunsOnInput, HasTooMuch, BytesComeTo, AreTooMany, AreNoImage, AreAnImage, world}
 use Rattle.trc_cli.specs.Commands.{ComesTo}
-use Rattle.trc_answers.specs.Answers.{Told, Answers, AsItComes, FailsReading, FailsPrinting, FailsWriting, LacksMemory, AllDone}
+use Rattle.trc_answers.specs.Answers.{Devices, Answers, AsItComes, FailsReading, FailsPrinting, FailsWriting, LacksMemory, AllDone}
 use Rattle.trc_cli.specs.Laws.{Alike, SameFile, NoneFailed, CompilesNothing}
 
 same_file : (v : Verdict) → SameFile v v
@@ -82,7 +82,7 @@ once held left (Some (Traces files choice)) a b nothing h k = absurd nothing
 once held left (Some (Bulk seed size choice steps)) a b nothing h k = absurd nothing
 once held left (Some Help) a b nothing h k = both a b _ h k
 
-pub quiet : (asked : Option Asked) (old new : Told) (cause : Cause) → NoneFailed old new → Answers (ComesTo (world old.held old.left) asked) old new cause
+pub quiet : (asked : Option Asked) (old new : Devices) (cause : Cause) → NoneFailed old new → Answers (ComesTo (world old.held old.left) asked) old new cause
     → (cause ≡ Memory) ⊎ ((verdict : Verdict) × ComesTo (world old.held old.left) asked verdict × (cause ≡ cause_of verdict) × AllDone old verdict new)
 quiet asked old new cause none (AsItComes verdict it is done) = inr (verdict, it, is, done)
 quiet asked old new cause none (FailsReading device is rose nothing) = absurd (none.none device rose)

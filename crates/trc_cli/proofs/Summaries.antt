@@ -12,7 +12,7 @@ use Rattle.trc_answers.specs.declared.causes.Cause.{Cause}
 use Rattle.trc_answers.specs.declared.causes.Cause.TheVariants.{Done, Spent, WriteFault, Memory}
 use Rattle.trc_answers.specs.Runs.{cause_of_trap}
 use Rattle.trc_answers.specs.Verdict.{Refuses, Prints}
-use Rattle.trc_answers.specs.Answers.{told, Answers, LacksMemory, RunAnswers, Ran, RanIntoFault, HadNoRoom}
+use Rattle.trc_answers.specs.Answers.{devices, Answers, LacksMemory, RunAnswers, Ran, RanIntoFault, HadNoRoom}
 use Rattle.trc_answers.proofs.Answering.{nothing, refuses}
 use Rattle.trc_cli.specs.Commands.{counts_of, summary_of, told_of_run}
 
@@ -49,7 +49,7 @@ told_when_done made outcome a b none (HadNoRoom e took) = absurd (not_lacking e)
 
 -- of any other run there is the cause
 pub stopped : (made : Compiled) (outcome : Outcome Trap) (a b : Account) (cause : Cause) → RunAnswers outcome a b cause → (cause ≡ Done → ⊥) → ((device : Device) → cause ≡ WriteFault device → ⊥)
-    → (held : Option Held) (m : ℕ) (left : Option (List ℕ)) (k : ℕ) (out : Account) → Answers (λ verdict. verdict ≡ told_of_run made outcome) (told held m left k out) (told held m left k out) cause
+    → (held : Option Held) (m : ℕ) (left : Option (List ℕ)) (k : ℕ) (out : Account) → Answers (λ verdict. verdict ≡ told_of_run made outcome) (devices held m left k out) (devices held m left k out) cause
 stopped made (Ended written) a b cause (Ran e took) not_ended no_fault held m left k out = absurd (not_ended e)
 stopped made (Trapped trap written) a b cause (Ran e took) not_ended no_fault held m left k out = refuses _ held held m m left k out cause refl (ap Refuses e)
 stopped made (Going written) a b cause (Ran e took) not_ended no_fault held m left k out = refuses _ held held m m left k out cause refl (ap Refuses e)

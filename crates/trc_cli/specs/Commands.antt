@@ -13,7 +13,7 @@ use Rattle.bulk_text.specs.Bulk.{bulk_text}
 use Rattle.trc_words.specs.Asked.{Asked, Run, Build, Exec, Traces, Bulk, Help}
 use Rattle.trc_answers.specs.declared.causes.Cause.{Cause}
 use Rattle.trc_answers.specs.declared.causes.Cause.TheVariants as cause
-use Rattle.trc_answers.specs.Answers.{Told, InputStays}
+use Rattle.trc_answers.specs.Answers.{Devices, InputStays}
 use Rattle.trc_answers.specs.Reading.{FilesComeTo}
 use Rattle.trc_answers.specs.Runs.{run_of, cause_of_run}
 use Rattle.trc_answers.specs.Verdict.{Verdict, Refuses, Prints, World, IsHeld, FileComesTo, ImageComesTo, BytesComeTo, Written}
@@ -97,7 +97,7 @@ ComesTo world None verdict = verdict ≡ Refuses cause.Usage
 ComesTo world (Some request) verdict = RequestComesTo world request verdict
 
 -- only what runs an image reads the input; a made module reads none
-abbrev pub InputUse : Option Asked → Told → Told → Type 0
+abbrev pub InputUse : Option Asked → Devices → Devices → Type 0
 InputUse (Some (Run files choice steps)) old new = Unit {0}
 InputUse (Some (Exec image steps)) old new = Unit {0}
 InputUse other old new = InputStays old new

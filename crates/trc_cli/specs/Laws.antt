@@ -3,7 +3,7 @@ use Rattle.std.specs.Prelude.{◌≡◌, Option, Some, None}
 use Rattle.trc_words.specs.Asked.{Asked, Exec, Help}
 use Rattle.trc_answers.specs.declared.causes.Device.{Device}
 use Rattle.trc_answers.specs.Verdict.{Verdict, Writes, cause_of, written_by}
-use Rattle.trc_answers.specs.Answers.{Failed, Told}
+use Rattle.trc_answers.specs.Answers.{Failed, Devices}
 
 -- the same cause, the same output, and the same file written, if any
 abbrev pub SameFile : Verdict → Verdict → Type 0
@@ -18,7 +18,7 @@ pub record Alike (a b : Verdict) : Type 0 where
   pub file : SameFile a b
 
 -- no count of faults rose
-pub record NoneFailed (old new : Told) : Type 0 where
+pub record NoneFailed (old new : Devices) : Type 0 where
   pub none : (device : Device) → Failed old new device → ⊥
 
 -- what is asked for compiles nothing

@@ -3,7 +3,7 @@
 ghost use Rattle.std.specs.Prelude.{◌≡◌, ◌≤◌, ℕ, List, Option, map};
 ghost use Rattle.alloc_choice.specs.Choice.{IsFitChoice};
 ghost use Rattle.outside.specs.Sink.{Account};
-ghost use Rattle.trc_answers.specs.Answers.{Answers, told};
+ghost use Rattle.trc_answers.specs.Answers.{Answers, devices};
 ghost use Rattle.trc_answers.specs.Causes.{IsPlaced};
 ghost use Rattle.trc_answers.specs.Reading.{FilesComeTo};
 ghost use Rattle.trc_answers.specs.Verdict.{Written};
@@ -30,8 +30,8 @@ fn build_texts<R: Threads + Wait + AllocGlobal + Sync, F: Files, G: Gate>(
     requires { IsFitChoice choice.now }
     ensures answers { (left : Option (List ℕ)) (faults : ℕ) (out : Account)
         → Answers (TextsComeTo choice.now (λ made. Written name.now made.image) texts.now)
-        (told (F.held files.old) (F.faults files.old) left faults out)
-        (told (F.held files.new) (F.faults files.new) left faults out) result.cause }
+        (devices (F.held files.old) (F.faults files.old) left faults out)
+        (devices (F.held files.new) (F.faults files.new) left faults out) result.cause }
     ensures placed { IsPlaced (IsTextIn texts.now) result.cause result.place }
     ensures rises { F.faults files.old ≤ F.faults files.new }
 {
@@ -54,8 +54,8 @@ pub(crate) fn build<R: Threads + Wait + AllocGlobal + Sync, F: Files, G: Gate>(
     ensures answers { (left : Option (List ℕ)) (faults : ℕ) (output : Account)
         → Answers (FilesComeTo (F.held files.old) (map (λ name. name.now) names.now)
         (TextsComeTo choice.now (λ made. Written out.now made.image)))
-        (told (F.held files.old) (F.faults files.old) left faults output)
-        (told (F.held files.new) (F.faults files.new) left faults output) result.cause }
+        (devices (F.held files.old) (F.faults files.old) left faults output)
+        (devices (F.held files.new) (F.faults files.new) left faults output) result.cause }
     ensures placed { IsPlaced (IsTextHeld (F.held files.old) (map (λ name. name.now) names.now)) result.cause result.place }
     ensures rises { F.faults files.old ≤ F.faults files.new }
 {

@@ -5,7 +5,7 @@ ghost use Rattle.alloc_choice.specs.Choice.{IsFitChoice};
 ghost use Rattle.outside.specs.Files.{Held};
 ghost use Rattle.image_form.specs.Form.{IsInForm};
 ghost use Rattle.bulk_text.specs.Bulk.{bulk_text};
-ghost use Rattle.trc_answers.specs.Answers.{Answers, told};
+ghost use Rattle.trc_answers.specs.Answers.{Answers, devices};
 ghost use Rattle.trc_answers.specs.Causes.{IsPlaced, IsPlain};
 ghost use Rattle.trc_answers.specs.Verdict.{Prints};
 ghost use Rattle.trc_cli.specs.Commands.{IsTextIn, SummaryComesTo, TextsComeTo, count_line, counts_of, counts_text, summary_of};
@@ -80,8 +80,8 @@ fn summary(alloc: Global, counts: Counts, written: &[u8]) -> Result<Vec<u8>, All
 fn run_and_tell<O: Sink>(alloc: Global, made: Compiled, steps: u64, out: &mut O) -> Cause
     requires { IsInForm made.image }
     ensures answers { (held : Option Held) (faults : ℕ) (left : Option (List ℕ)) (input_faults : ℕ)
-        → Answers (SummaryComesTo steps made) (told held faults left input_faults (O.account out.old))
-        (told held faults left input_faults (O.account out.new)) result }
+        → Answers (SummaryComesTo steps made) (devices held faults left input_faults (O.account out.old))
+        (devices held faults left input_faults (O.account out.new)) result }
     ensures plain { IsPlain result }
     ensures rises { (O.account out.old).faults ≤ (O.account out.new).faults }
 {
@@ -99,8 +99,8 @@ fn run_and_tell<O: Sink>(alloc: Global, made: Compiled, steps: u64, out: &mut O)
 // Tells what came of a run that ended.
 fn tell<O: Sink>(alloc: Global, counts: Counts, written: &[u8], out: &mut O) -> Cause
     ensures answers { (held : Option Held) (faults : ℕ) (left : Option (List ℕ)) (input_faults : ℕ)
-        → Answers (λ verdict. verdict ≡ Prints (summary_of counts written.now)) (told held faults left input_faults (O.account out.old))
-        (told held faults left input_faults (O.account out.new)) result }
+        → Answers (λ verdict. verdict ≡ Prints (summary_of counts written.now)) (devices held faults left input_faults (O.account out.old))
+        (devices held faults left input_faults (O.account out.new)) result }
     ensures plain { IsPlain result }
     ensures rises { (O.account out.old).faults ≤ (O.account out.new).faults }
 {
@@ -125,7 +125,7 @@ pub(crate) fn bulk<R: Threads + Wait + AllocGlobal + Sync, O: Sink, G: Gate>(
     requires choice { IsFitChoice choice.now }
     ensures answers { (held : Option Held) (faults : ℕ) (left : Option (List ℕ)) (input_faults : ℕ)
         → Answers (TextsComeTo choice.now (SummaryComesTo steps) (bulk_text seed size ∷ []))
-        (told held faults left input_faults (O.account out.old)) (told held faults left input_faults (O.account out.new)) result.cause }
+        (devices held faults left input_faults (O.account out.old)) (devices held faults left input_faults (O.account out.new)) result.cause }
     ensures placed { IsPlaced (IsTextIn (bulk_text seed size ∷ [])) result.cause result.place }
     ensures rises { (O.account out.old).faults ≤ (O.account out.new).faults }
 {

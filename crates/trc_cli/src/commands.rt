@@ -3,7 +3,7 @@
 ghost use Rattle.std.specs.Prelude.{◌≡◌, ◌≤◌, Some, map, IfOk};
 ghost use Rattle.trc_words.specs.Fitting.{Fits};
 ghost use Rattle.trc_words.specs.Requests.{plain};
-ghost use Rattle.trc_answers.specs.Answers.{Answers, told};
+ghost use Rattle.trc_answers.specs.Answers.{Answers, devices};
 ghost use Rattle.trc_answers.specs.Causes.{IsPlaced};
 ghost use Rattle.trc_cli.specs.Commands.{InputUse, IsTextOf, RequestComesTo, names_read};
 ghost use Rattle.trc_answers.specs.Verdict.{world};
@@ -47,11 +47,11 @@ pub(crate) fn perform<
 >(rt: &R, request: &Request<'_>, files: &mut F, input: &mut I, out: &mut O, gate: &G) -> Ending
     requires { Fits (plain request.now) }
     ensures answers { Answers (RequestComesTo (world (F.held files.old) (I.left input.old)) (plain request.now))
-        (told (F.held files.old) (F.faults files.old) (I.left input.old) (I.faults input.old) (O.account out.old))
-        (told (F.held files.new) (F.faults files.new) (I.left input.new) (I.faults input.new) (O.account out.new)) result.cause }
+        (devices (F.held files.old) (F.faults files.old) (I.left input.old) (I.faults input.old) (O.account out.old))
+        (devices (F.held files.new) (F.faults files.new) (I.left input.new) (I.faults input.new) (O.account out.new)) result.cause }
     ensures unread { InputUse (Some (plain request.now))
-        (told (F.held files.old) (F.faults files.old) (I.left input.old) (I.faults input.old) (O.account out.old))
-        (told (F.held files.new) (F.faults files.new) (I.left input.new) (I.faults input.new) (O.account out.new)) }
+        (devices (F.held files.old) (F.faults files.old) (I.left input.old) (I.faults input.old) (O.account out.old))
+        (devices (F.held files.new) (F.faults files.new) (I.left input.new) (I.faults input.new) (O.account out.new)) }
     ensures placed { IsPlaced (IsTextOf (F.held files.old) (Some (plain request.now))) result.cause result.place }
     ensures files_rise { F.faults files.old ≤ F.faults files.new }
     ensures input_rises { I.faults input.old ≤ I.faults input.new }

@@ -5,7 +5,7 @@ ghost use Rattle.outside.specs.Files.{Held};
 ghost use Rattle.trc_words.specs.Asked.{Asked};
 ghost use Rattle.trc_answers.specs.declared.causes.Cause.{Cause};
 ghost use Rattle.trc_answers.specs.Verdict.{Verdict, cause_of, world};
-ghost use Rattle.trc_answers.specs.Answers.{AllDone, Answers, Told};
+ghost use Rattle.trc_answers.specs.Answers.{AllDone, Answers, Devices};
 ghost use Rattle.trc_cli.specs.Commands.{ComesTo};
 ghost use Rattle.trc_cli.specs.Laws.{Alike, CompilesNothing, NoneFailed};
 
@@ -13,7 +13,7 @@ ghost use Rattle.trc_cli.specs.Laws.{Alike, CompilesNothing, NoneFailed};
 /// files and input tell what they hold, words that compile nothing come to one thing at most: to one cause, one output and one
 /// file that is written.
 pub fn answers_are_verdicts()
-    ensures quiet { (asked : Option Asked) (old new : Told) (cause : Cause) → NoneFailed old new
+    ensures quiet { (asked : Option Asked) (old new : Devices) (cause : Cause) → NoneFailed old new
         → Answers (ComesTo (world old.held old.left) asked) old new cause
         → ((cause ≡ Cause.Memory) ⊎ ((verdict : Verdict) × ComesTo (world old.held old.left) asked verdict × (cause ≡ cause_of verdict) × AllDone old verdict new)) }
     ensures once { (held : Held) (left : List ℕ) (asked : Option Asked) (a b : Verdict) → CompilesNothing asked

@@ -3,7 +3,7 @@
 ghost use Rattle.std.specs.Prelude.{◌≡◌, ◌≤◌, ℕ, Option, map};
 ghost use Rattle.alloc_choice.specs.Choice.{IsFitChoice};
 ghost use Rattle.outside.specs.Files.{Held};
-ghost use Rattle.trc_answers.specs.Answers.{Answers, told};
+ghost use Rattle.trc_answers.specs.Answers.{Answers, devices};
 ghost use Rattle.trc_answers.specs.Causes.{IsPlaced};
 ghost use Rattle.trc_answers.specs.Reading.{FilesComeTo};
 ghost use Rattle.trc_answers.specs.Verdict.{ImageComesTo};
@@ -31,8 +31,8 @@ fn run_texts<R: Threads + Wait + AllocGlobal + Sync, I: Source, O: Sink, G: Gate
     requires { IsFitChoice choice.now }
     ensures answers { (held : Option Held) (faults : ℕ)
         → Answers (TextsComeTo choice.now (λ made. ImageComesTo (I.left input.old) steps made.image) texts.now)
-        (told held faults (I.left input.old) (I.faults input.old) (O.account out.old))
-        (told held faults (I.left input.new) (I.faults input.new) (O.account out.new)) result.cause }
+        (devices held faults (I.left input.old) (I.faults input.old) (O.account out.old))
+        (devices held faults (I.left input.new) (I.faults input.new) (O.account out.new)) result.cause }
     ensures placed { IsPlaced (IsTextIn texts.now) result.cause result.place }
     ensures input_rises { I.faults input.old ≤ I.faults input.new }
     ensures out_rises { (O.account out.old).faults ≤ (O.account out.new).faults }
@@ -57,8 +57,8 @@ pub(crate) fn run<R: Threads + Wait + AllocGlobal + Sync, F: Files, I: Source, O
     requires { IsFitChoice choice.now }
     ensures answers { Answers (FilesComeTo (F.held files.old) (map (λ name. name.now) names.now)
         (TextsComeTo choice.now (λ made. ImageComesTo (I.left input.old) steps made.image)))
-        (told (F.held files.old) (F.faults files.old) (I.left input.old) (I.faults input.old) (O.account out.old))
-        (told (F.held files.new) (F.faults files.new) (I.left input.new) (I.faults input.new) (O.account out.new)) result.cause }
+        (devices (F.held files.old) (F.faults files.old) (I.left input.old) (I.faults input.old) (O.account out.old))
+        (devices (F.held files.new) (F.faults files.new) (I.left input.new) (I.faults input.new) (O.account out.new)) result.cause }
     ensures placed { IsPlaced (IsTextHeld (F.held files.old) (map (λ name. name.now) names.now)) result.cause result.place }
     ensures files_rise { F.faults files.old ≤ F.faults files.new }
     ensures input_rises { I.faults input.old ≤ I.faults input.new }

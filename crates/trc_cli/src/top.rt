@@ -4,9 +4,9 @@ ghost use Rattle.std.specs.Prelude.{◌≡◌, ◌≤◌, Some, map, string_byte
 ghost use Rattle.trc_words.specs.Asked.{asked};
 ghost use Rattle.trc_words.specs.Fitting.{Fits};
 ghost use Rattle.trc_words.specs.Requests.{plain};
-ghost use Rattle.trc_answers.specs.Causes.{status_of, line_of, Told};
+ghost use Rattle.trc_answers.specs.Causes.{status_of, line_of, TookLine};
 ghost use Rattle.trc_answers.specs.Verdict.{world};
-ghost use Rattle.trc_answers.specs.Answers.{Answers, told};
+ghost use Rattle.trc_answers.specs.Answers.{Answers, devices};
 ghost use Rattle.trc_cli.specs.Commands.{ComesTo, InputUse, RequestComesTo};
 ghost use Rattle.trc_cli.specs.Lines.{IsTold};
 
@@ -23,7 +23,7 @@ use trc_words::{Request, WordsFault, read_words};
 pub(crate) fn finish<E: Sink>(err: &mut E, ending: Ending, names: &[&str]) -> Outcome
     ensures cause { result.cause ≡ ending.cause }
     ensures status { result.status ≡ status_of ending.cause }
-    ensures told { Told (E.account err.old) (E.account err.new) (line_of (map (λ name. name.now) names.now) ending.place ending.cause) }
+    ensures told { TookLine (E.account err.old) (E.account err.new) (line_of (map (λ name. name.now) names.now) ending.place ending.cause) }
     ensures rises { (E.account err.old).faults ≤ (E.account err.new).faults }
 {
     let _ = report(err, ending.cause, ending.place, names);
@@ -52,11 +52,11 @@ fn perform_and_tell<
 ) -> Outcome
     requires { Fits (plain request.now) }
     ensures answers { Answers (RequestComesTo (world (F.held files.old) (I.left input.old)) (plain request.now))
-        (told (F.held files.old) (F.faults files.old) (I.left input.old) (I.faults input.old) (O.account out.old))
-        (told (F.held files.new) (F.faults files.new) (I.left input.new) (I.faults input.new) (O.account out.new)) result.cause }
+        (devices (F.held files.old) (F.faults files.old) (I.left input.old) (I.faults input.old) (O.account out.old))
+        (devices (F.held files.new) (F.faults files.new) (I.left input.new) (I.faults input.new) (O.account out.new)) result.cause }
     ensures unread { InputUse (Some (plain request.now))
-        (told (F.held files.old) (F.faults files.old) (I.left input.old) (I.faults input.old) (O.account out.old))
-        (told (F.held files.new) (F.faults files.new) (I.left input.new) (I.faults input.new) (O.account out.new)) }
+        (devices (F.held files.old) (F.faults files.old) (I.left input.old) (I.faults input.old) (O.account out.old))
+        (devices (F.held files.new) (F.faults files.new) (I.left input.new) (I.faults input.new) (O.account out.new)) }
     ensures status { result.status ≡ status_of result.cause }
     ensures told { IsTold (F.held files.old) (Some (plain request.now)) (E.account err.old) (E.account err.new) result.cause }
     ensures files_rise { F.faults files.old ≤ F.faults files.new }
@@ -91,11 +91,11 @@ pub fn trc<R: Threads + Wait + AllocGlobal + Sync, F: Files, I: Source, O: Sink,
     gate: &G,
 ) -> Outcome
     ensures answers { Answers (ComesTo (world (F.held files.old) (I.left input.old)) (asked (map string_bytes words.now)))
-        (told (F.held files.old) (F.faults files.old) (I.left input.old) (I.faults input.old) (O.account out.old))
-        (told (F.held files.new) (F.faults files.new) (I.left input.new) (I.faults input.new) (O.account out.new)) result.cause }
+        (devices (F.held files.old) (F.faults files.old) (I.left input.old) (I.faults input.old) (O.account out.old))
+        (devices (F.held files.new) (F.faults files.new) (I.left input.new) (I.faults input.new) (O.account out.new)) result.cause }
     ensures unread { InputUse (asked (map string_bytes words.now))
-        (told (F.held files.old) (F.faults files.old) (I.left input.old) (I.faults input.old) (O.account out.old))
-        (told (F.held files.new) (F.faults files.new) (I.left input.new) (I.faults input.new) (O.account out.new)) }
+        (devices (F.held files.old) (F.faults files.old) (I.left input.old) (I.faults input.old) (O.account out.old))
+        (devices (F.held files.new) (F.faults files.new) (I.left input.new) (I.faults input.new) (O.account out.new)) }
     ensures status { result.status ≡ status_of result.cause }
     ensures told { IsTold (F.held files.old) (asked (map string_bytes words.now)) (E.account err.old) (E.account err.new) result.cause }
     ensures files_rise { F.faults files.old ≤ F.faults files.new }

@@ -2,7 +2,7 @@
 
 ghost use Rattle.std.specs.Prelude.{◌≡◌, ◌≤◌, ℕ, List, Option, map};
 ghost use Rattle.outside.specs.Files.{Held};
-ghost use Rattle.trc_answers.specs.Answers.{Answers, told};
+ghost use Rattle.trc_answers.specs.Answers.{Answers, devices};
 ghost use Rattle.trc_answers.specs.Causes.{IsPlaced};
 ghost use Rattle.trc_answers.specs.Reading.{FilesComeTo};
 ghost use Rattle.trc_cli.specs.Commands.{IsTextHeld, IsTextIn, TracesComeTo};
@@ -18,8 +18,8 @@ use trc_answers::{Ending, print, read_texts};
 fn trace_texts<O: Sink>(alloc: Global, texts: &[Items<u8>], choice: &Choice, out: &mut O) -> Ending
     ensures answers { (held : Option Held) (faults : ℕ) (left : Option (List ℕ)) (input_faults : ℕ)
         → Answers (TracesComeTo choice.now texts.now)
-        (told held faults left input_faults (O.account out.old))
-        (told held faults left input_faults (O.account out.new)) result.cause }
+        (devices held faults left input_faults (O.account out.old))
+        (devices held faults left input_faults (O.account out.new)) result.cause }
     ensures placed { IsPlaced (IsTextIn texts.now) result.cause result.place }
     ensures rises { (O.account out.old).faults ≤ (O.account out.new).faults }
 {
@@ -39,8 +39,8 @@ pub(crate) fn traces<F: Files, O: Sink>(
 ) -> Ending
     ensures answers { (left : Option (List ℕ)) (input_faults : ℕ)
         → Answers (FilesComeTo (F.held files.old) (map (λ name. name.now) names.now) (TracesComeTo choice.now))
-        (told (F.held files.old) (F.faults files.old) left input_faults (O.account out.old))
-        (told (F.held files.new) (F.faults files.new) left input_faults (O.account out.new)) result.cause }
+        (devices (F.held files.old) (F.faults files.old) left input_faults (O.account out.old))
+        (devices (F.held files.new) (F.faults files.new) left input_faults (O.account out.new)) result.cause }
     ensures placed { IsPlaced (IsTextHeld (F.held files.old) (map (λ name. name.now) names.now)) result.cause result.place }
     ensures files_rise { F.faults files.old ≤ F.faults files.new }
     ensures out_rises { (O.account out.old).faults ≤ (O.account out.new).faults }

@@ -6,7 +6,7 @@ use Rattle.back_end.proofs.imaging.image_of.Goals as goal
 pub returns-in-Ok-clause-image : goal.returns-in-Ok-clause-image
 returns-in-Ok-clause-image g c =
     let choice = c.args.choice.now in
-    let procs = c.args.procedures.now in
+    let procs = c.args.procedures in
     let made = c.in_ok-flows.ensures in
     let flows = c.in_ok-flows.flows.items in
     let parts = items_of c.in_ok-allocated.allocated.parts in
@@ -29,7 +29,7 @@ returns-in-Ok-clause-image g c =
 pub returns-clause-code : goal.returns-clause-code
 returns-clause-code g c e =
     let choice = c.args.choice.now in
-    let procs = c.args.procedures.now in
+    let procs = c.args.procedures in
     let made = c.in_ok-flows.ensures in
     let flows = c.in_ok-flows.flows.items in
     let parts = items_of c.in_ok-allocated.allocated.parts in
@@ -45,7 +45,7 @@ returns-clause-code g c e =
 pub returns-clause-misfit : goal.returns-clause-misfit
 returns-clause-misfit g c e =
     let choice = c.args.choice.now in
-    let procs = c.args.procedures.now in
+    let procs = c.args.procedures in
     let made = c.in_ok-flows.ensures in
     let flows = c.in_ok-flows.flows.items in
     let parts = items_of c.in_ok-allocated.allocated.parts in
@@ -59,7 +59,7 @@ returns-clause-misfit g c e =
 pub returns-clause-modest : goal.returns-clause-modest
 returns-clause-modest g c values e =
     let choice = c.args.choice.now in
-    let procs = c.args.procedures.now in
+    let procs = c.args.procedures in
     let made = c.in_ok-flows.ensures in
     let flows = c.in_ok-flows.flows.items in
     let parts = items_of c.in_ok-allocated.allocated.parts in
