@@ -1,4 +1,5 @@
 pub mod Blank
+pub mod InTurn
 pub mod Building
 pub mod Built
 pub mod Scopes

@@ -6,7 +6,9 @@ use Rattle.std.specs.Str.{bytes_eq}
 use Rattle.std.proofs.lemmas.Option.{slice_get_within}
 use Rattle.ob_types.specs.declared.program.Procedure.{Procedure}
 use Rattle.ob_types.specs.declared.types.Formal.{Formal}
+use Rattle.ob_types.specs.declared.statements.Checked.{Checked}
 use Rattle.ob_types.specs.declared.statements.Stmt.{Stmt}
+use Rattle.ob_types.specs.Table.{Table}
 use Rattle.ob_syntax.specs.Syntax as S
 use Rattle.ob_judge.specs.Image as I
 use Rattle.ob_judge.specs.Judged.{Judged, Keeps, Breaks, ◌>>=◌, ◌>>◌, rule}
@@ -16,7 +18,7 @@ use Rattle.ob_judge.specs.Scopes.{World, Source, place, spelled, line}
 use Rattle.ob_judge.specs.Statements.{body_of}
 use Rattle.ob_judge.specs.Making.{Making}
 use Rattle.ob_judge.specs.Modules.{SoFar}
-use Rattle.judged_tree.specs.Plain.{plain_body, plain_procedure}
+use Rattle.judged_tree.specs.Plain.{plain_body, plain_checked, plain_procedure}
 use Rattle.judged_tree.specs.Outline.{outlined_statements, outlined_procedure}
 use Rattle.judged_tree.specs.TypeShapes.{shape_of}
 use Rattle.judged_outlines.specs.Upright.{Upright}
@@ -38,6 +40,7 @@ use Rattle.check_making.specs.declared.making.Declaring.{Declaring}
 use Rattle.check_making.specs.declared.making.Surroundings.{Surroundings}
 use Rattle.check_making.specs.Making.{table_of, world_in, Makes}
 use Rattle.check_making.specs.scopes.Building.{IsLater, StandsFor}
+use Rattle.check_making.specs.scopes.InTurn.{UseInTurn}
 use Rattle.check_making.proofs.scopes.Procedures.{number_means, number_still, begins_self}
 use Rattle.check_procedures.proofs.Giving.{came, then_so, rule_stops}
 use Rattle.check_procedures.proofs.Texts.{texts_same}
@@ -59,6 +62,15 @@ pub record IsRenumbered (t : TypeTable) (texts : List (List ℕ)) (body : List S
   pub all : uses ≡ texts_of (plain_body t.types texts body) None
   pub same : plain_body t.types uses made ≡ plain_body t.types texts body
   pub stays : (u : TypeTable) → Grows t u → length u.types.signatures ≤ 4294967295 → plain_body u.types uses made ≡ plain_body t.types uses made
+  pub in_turn : UseInTurn uses made None
+
+-- with no expression behind RETURN there is none with final numbers, and the statements use strings in turn without it
+none_given : (t : Table) (texts : List (List ℕ)) (answer : Option Checked) → option_map (plain_checked t texts) answer ≡ None → answer ≡ None
+none_given t texts None e = refl
+none_given t texts (Some x) e = absurd (let h = e in cc)
+
+pub in_turn_alone : (t : Table) (uses texts : List (List ℕ)) (made : List Stmt) (answer : Option Checked) → option_map (plain_checked t texts) answer ≡ None → UseInTurn uses made answer → UseInTurn uses made None
+in_turn_alone t uses texts made answer none h = subst (UseInTurn uses made) (none_given t texts answer none) h
 
 module _ (r : Surroundings) (s : Declaring) (c : SoFar) (m : Making) (makes : Makes r s m) (up : Upright c m) (x : S.Module) where
   abbrev p : Source
@@ -92,6 +104,7 @@ module _ (r : Surroundings) (s : Declaring) (c : SoFar) (m : Making) (makes : Ma
       same = subst (λ bs. (later : List (Option ℕ)) → Begins bs later
           → outlined_procedure later (body_procedure p x.name m.world.module_number b) ≡ outlined_procedure bs (body_procedure p x.name m.world.module_number b)) (ap (λ (w : World). w.known.bases) makes.world) (body_same keeps);
       result_there = slice_get_within t.entries.items n TheType.Nothing entry;
+      in_turn = again.in_turn;
       stays = λ u later.
           ap (λ z. by_parts r.module_number k z uses (plain_body u.types uses made)) (number_still t u later.grows n TheType.Nothing entry)
           ∙ ap (λ z. by_parts r.module_number k (shape_of t.types n) uses z) (again.stays u later.grows later.few);

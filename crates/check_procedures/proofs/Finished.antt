@@ -51,6 +51,7 @@ use Rattle.check_making.specs.Making.{world_in, Makes}
 use Rattle.check_making.specs.declared.parameters.sections.Heading.{Heading}
 use Rattle.check_making.specs.parameters.Headings.{IsHeading}
 use Rattle.check_making.specs.scopes.Building.{IsLater, StandsFor}
+use Rattle.check_making.specs.scopes.InTurn.{UseInTurn}
 use Rattle.check_making.specs.scopes.Numbers.{AreNumbersOf}
 use Rattle.check_making.proofs.scopes.ByNumber.{numbers_mean, numbers_still}
 use Rattle.check_making.proofs.scopes.Procedures.{number_means, number_still, begins_self}
@@ -99,6 +100,7 @@ pub record IsRenumbered (t : TypeTable) (texts : List (List ℕ)) (body : List S
   pub answer_same : option_map (plain_checked t.types n.texts) n.answer ≡ option_map (plain_checked t.types texts) given
   pub body_stays : (u : TypeTable) → Grows t u → length u.types.signatures ≤ 4294967295 → plain_body u.types n.texts n.body ≡ plain_body t.types n.texts n.body
   pub answer_stays : (u : TypeTable) → Grows t u → length u.types.signatures ≤ 4294967295 → option_map (plain_checked u.types n.texts) n.answer ≡ option_map (plain_checked t.types n.texts) n.answer
+  pub in_turn : UseInTurn n.texts n.body n.answer
 
 module _ (r : Surroundings) (s : Declaring) (c : SoFar) (m : Making) (makes : Makes r s m) (up : Upright c m) (q : OneProcedure) (h : Listed × Shape) (heading : Heading) (is : IsHeading s heading h) where
   abbrev table : TypeTable
@@ -117,8 +119,9 @@ module _ (r : Surroundings) (s : Declaring) (c : SoFar) (m : Making) (makes : Ma
 
     pub finished_stands : (k : ℕ) → k ≡ line r.source.now q.name.name → (done : Procedure) → plain_procedure table.types done ≡ image_of r s k heading n → done.result < length table.entries.items
         → ((u : TypeTable) → IsLater table u → IsStill table u n → plain_procedure u.types done ≡ plain_procedure table.types done)
+        → (UseInTurn n.texts n.body n.answer → UseInTurn done.texts done.body done.answer)
         → completed r.source.now q h m ≡ Keeps (judged b a) → StandsFor table done (judged b a)
-    finished_stands k e done image result stays keeps = record {
+    finished_stands k e done image result stays in_turn keeps = record {
       bases = table.bases.items;
       begins = begins_self table.bases.items;
       image = image ∙ image_is k e;
@@ -126,6 +129,7 @@ module _ (r : Surroundings) (s : Declaring) (c : SoFar) (m : Making) (makes : Ma
           (λ later begins. procedure_outlined c r.source.now m up later begins q h (judged b a) keeps);
       result_there = result;
       stays = λ u later. stays u later (record { body = renumbered.body_stays u later.grows later.few; answer = renumbered.answer_stays u later.grows later.few });
+      in_turn = in_turn renumbered.in_turn;
     }
 
 -- ---- the answer, part by part
@@ -166,8 +170,9 @@ module _ (r : Surroundings) (s : Declaring) (c : SoFar) (m : Making) (makes : Ma
   module _ (body : Vec Stmt Global) (given : Option Checked) (n : Numbered) (renumbered : IsRenumbered scope.types.now (texts_in scope) body.items given n) where
     pub is_finished : (k : ℕ) → k ≡ line p q.name.name → (done : Procedure) → plain_procedure s.types.table.types done ≡ image_of r s k heading n → done.result < length s.types.table.entries.items
         → ((u : TypeTable) → IsLater s.types.table u → IsStill s.types.table u n → plain_procedure u.types done ≡ plain_procedure s.types.table.types done)
+        → (UseInTurn n.texts n.body n.answer → UseInTurn done.texts done.body done.answer)
         → BodyIs (Ok body) → AnswerIs (Ok given) → Answers IsKept named (Ok tt) → Answers (StandsFor s.types.table) (completed p q h m) (Ok done)
-    is_finished k e done image result stays j l o =
+    is_finished k e done image result stays in_turn j l o =
         came (body_of p m.world q.body) (body_here j) (λ b is_body body_is.
         came (answer p h.1 q.end_word q.returned m.world) (answer_here l) (λ a is_answer answer_is.
         came named o (λ u is_named kept.
@@ -177,7 +182,7 @@ module _ (r : Surroundings) (s : Declaring) (c : SoFar) (m : Making) (makes : Ma
               (subst (λ z. IsRenumbered z (texts_in scope) body.items given n) types renumbered) b a
               (subst (λ (z : TypeTable). plain_body z.types (texts_in scope) body.items ≡ outlined_statements z.bases.items b) types body_is)
               (subst (λ (z : TypeTable). option_map (plain_checked z.types (texts_in scope)) given ≡ option_map (outlined_checked z.bases.items) a) types answer_is)
-              k e done image result stays keeps;
+              k e done image result stays in_turn keeps;
         }))))
       where
         completed_keeps : (b : I.Statements) (a : Option I.Checked) (u : Unit {0}) → body_of p m.world q.body ≡ Keeps b → answer p h.1 q.end_word q.returned m.world ≡ Keeps a → named ≡ Keeps u

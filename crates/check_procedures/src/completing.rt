@@ -21,6 +21,7 @@ ghost use Rattle.check_selectors.specs.standard.Made.{IsKept};
 ghost use Rattle.check_making.specs.Making.{Makes, IsSettled};
 ghost use Rattle.check_making.specs.parameters.Headings.{IsHeading};
 ghost use Rattle.check_making.specs.scopes.Building.{IsLater, StandsFor};
+ghost use Rattle.check_making.specs.scopes.InTurn.{UseInTurn};
 ghost use Rattle.check_making.specs.scopes.Numbers.{AreNumbersOf};
 ghost use Rattle.check_procedures.specs.Completing.{image_of, IsStill};
 
@@ -75,6 +76,7 @@ fn procedure_with(
     ensures result_there { IfOk result (λ q. q.result < length state.now.types.table.entries.items) }
     ensures stays { IfOk result (λ q. (u : TypeTable) → IsLater state.now.types.table u → IsStill state.now.types.table u numbered
         → plain_judged u.types q ≡ plain_judged state.now.types.table.types q) }
+    ensures in_turn { IfOk result (λ q. UseInTurn numbered.texts numbered.body numbered.answer → UseInTurn q.texts q.body q.answer) }
     ensures memory { IfErr result (λ e. e ≡ CheckFault.Memory) }
 {
     let locals = local_numbers(state, round)?;

@@ -2,7 +2,6 @@
 
 ghost use Rattle.std.specs.Prelude.{◌≡◌, ℕ, List};
 ghost use Rattle.alloc_choice.specs.declared.choice.Choice.{Choice};
-ghost use Rattle.one_lowering.specs.Order.{UsesInOrder};
 ghost use Rattle.program_image.specs.declared.imaging.Compiled.{Compiled};
 ghost use Rattle.source_image.specs.Images.{IsImageOfTexts};
 
@@ -10,14 +9,13 @@ use judged_shapes::modules_have_one_lowering;
 use one_image::lowerings_have_one_image;
 use one_reading::texts_are_read_once;
 
-/// By choices with the same policy, builder and number of registers texts have one image, made of as many procedures and traces,
-/// where the programs that they are use their strings in order. This follows from the laws below, which are cited as calls that
-/// do nothing.
+/// By choices with the same policy, builder and number of registers texts have one image, made of as many procedures and traces:
+/// how many workers there are, and what the definitions leave open of the program that the texts are, changes neither. This
+/// follows from the laws below, which are cited as calls that do nothing.
 pub fn texts_have_one_image()
     ensures { (a b : Choice) (texts : List (List ℕ)) (made other : Compiled)
         → a.policy ≡ b.policy → a.builder ≡ b.builder → a.regs ≡ b.regs
-        → (x : IsImageOfTexts a texts made) (y : IsImageOfTexts b texts other)
-        → UsesInOrder x.program → UsesInOrder y.program
+        → IsImageOfTexts a texts made → IsImageOfTexts b texts other
         → (made.image ≡ other.image) × (made.procedures ≡ other.procedures) × (made.traces ≡ other.traces) }
 {
     texts_are_read_once();

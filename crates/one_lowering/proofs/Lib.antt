@@ -13,5 +13,5 @@ mod Data
 mod Procedures
 mod Programs
 mod Erased
-mod Uses
+pub mod Uses
 mod InOrder

@@ -52,7 +52,7 @@ past [] i l = refl
 past (x ∷ xs) zero l = absurd (omega (arith, l))
 past (x ∷ xs) (suc i) l = past xs i (omega (arith, l))
 
-tally_length : (i n : ℕ) → length (tally i n) ≡ n
+pub tally_length : (i n : ℕ) → length (tally i n) ≡ n
 tally_length i zero = refl
 tally_length i (suc n) = ap (λ m. suc m) (tally_length (suc i) n)
 

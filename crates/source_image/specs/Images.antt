@@ -1,7 +1,8 @@
 -- Which image texts have by a choice, and what it does; and which traces.
-use Rattle.std.specs.Prelude.{◌≡◌, ℕ, List, true, length}
+use Rattle.std.specs.Prelude.{◌≡◌, ℕ, List, true, length, None}
 use Rattle.ob_types.specs.WellFormed.{well_formed}
 use Rattle.ob_types.specs.declared.program.Program.{Program}
+use Rattle.ssa_lowered.specs.Limits.{limit_of}
 use Rattle.ssa_lowered.specs.Lowered.{lowered}
 use Rattle.linked_flows.specs.Allocations.{Cut}
 use Rattle.alloc_choice.specs.declared.choice.Choice.{Choice}
@@ -12,12 +13,13 @@ use Rattle.program_image.specs.Images.{IsProgramImage, DoesAsMeant}
 use Rattle.program_image.specs.declared.imaging.Compiled.{Compiled}
 use Rattle.source_program.specs.Texts.{IsProgramOfTexts}
 
--- the image of a program that the texts are, by the choice, with the numbers of its procedures and traces; the machine that runs the
--- image is in step with what the program means
+-- the image of a program that the texts are, by the choice, with the numbers of its procedures and traces; the program passes no
+-- limit of lowering, and the machine that runs the image is in step with what it means
 pub record IsImageOfTexts (choice : Choice) (texts : List (List ℕ)) (made : Compiled) : Type 0 where
   pub program : Program
   pub of_texts : IsProgramOfTexts texts program
   pub well_formed : well_formed program ≡ true
+  pub within : limit_of program ≡ None
   pub cuts : List Cut
   pub is : IsProgramImage choice program cuts made.image
   pub means : DoesAsMeant program cuts made.image

@@ -26,6 +26,7 @@ use Rattle.ob_read.specs.declared.fault.TextFault.TheVariants as OfText
 use Rattle.check_modules.specs.declared.programs.modules.Modules.{Modules}
 use Rattle.check_modules.specs.programs.Modules.{HasSettledModules, StandsForModules}
 use Rattle.check_modules.specs.Ended.{HasSoFar}
+use Rattle.check_making.specs.scopes.InTurn.{AllUseInTurn}
 use Rattle.source_program.specs.Texts.{IsParsed, AreParsed, accepted_after, accepted, InText, InModule, IsProgramOfTexts, IsSourceFault}
 use Rattle.source_program.specs.Faults.{read_fault, judged_fault}
 use Rattle.source_program.specs.Behind.{IsBehind}
@@ -160,11 +161,12 @@ module _ (texts : List (List ℕ)) (s : Modules) (h : IsBehind texts (length tex
     same = is texts h.so_far h.stands (ends texts (length texts) s h).points;
   }
 
-  pub program_behind : IsProgramOfTexts texts p
-  program_behind = record {
+  pub program_behind : ((texts : List (List ℕ)) (c : SoFar) → StandsForModules texts s c → AllUseInTurn p.procedures) → IsProgramOfTexts texts p
+  program_behind in_turn = record {
     modules = h.before;
     are_parsed = subst (λ ts. AreParsed ts h.before) (take_all (length texts) texts (omega arith)) h.are_parsed;
     program = program_is;
+    in_turn = in_turn texts h.so_far h.stands;
   }
 
 -- none

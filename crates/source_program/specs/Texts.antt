@@ -7,6 +7,7 @@ use Rattle.ob_types.specs.declared.program.Program.{Program}
 use Rattle.ob_judge.specs.Judged.{Judged, Keeps, Breaks, ◌>>=◌}
 use Rattle.ob_judge.specs.Modules.{SoFar, Parsed, no_modules, with_module}
 use Rattle.judged_programs.specs.ProgramOf.{IsProgramOf}
+use Rattle.check_making.specs.scopes.InTurn.{AllUseInTurn}
 use Rattle.ob_read.specs.Texts.{IsModuleText, most_bytes}
 use Rattle.ob_read.specs.Texts as Read
 use Rattle.ob_read.specs.declared.fault.TextFault.TheVariants as OfText
@@ -38,11 +39,12 @@ accepted_after c (m ∷ ms) = with_module m.source m.tree c >>= λ d. accepted_a
 abbrev pub accepted : List Parsed → Judged SoFar
 accepted = accepted_after no_modules
 
--- the texts are read as modules, of which the judgement gives this program
+-- the texts are read as modules, of which the judgement gives this program, whose procedures use their strings in turn
 pub record IsProgramOfTexts (texts : List (List ℕ)) (p : Program) : Type 0 where
   pub modules : List Parsed
   pub are_parsed : AreParsed texts modules
   pub program : IsProgramOf modules p
+  pub in_turn : AllUseInTurn p.procedures
 
 -- a text breaks this rule at this byte, behind these modules: one of symbols or of the grammar, or one of the language
 pub data BreaksBehind (c : SoFar) (bytes : List ℕ) (number at : ℕ) : Type 0 where

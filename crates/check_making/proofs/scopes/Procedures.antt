@@ -57,6 +57,7 @@ blank_stands t n at = record {
   same = λ later b. refl;
   result_there = slice_get_within t.entries.items n TheType.Nothing at;
   stays = λ u g. ap blank_of (number_still t u g.grows n TheType.Nothing at);
+  in_turn = record { each = λ v all many few. refl };
 }
   where
     blank_of : Shape → JudgedProcedure
@@ -71,6 +72,7 @@ module _ (t u : TypeTable) (g : IsLater t u) (bases : Begins t.bases.items u.bas
     same = h.same;
     result_there = number_there t u g.grows q.result h.result_there;
     stays = λ v k. h.stays v (record { grows = grows_on t u v g.grows k.grows; few = k.few }) ∙ sym (h.stays u g);
+    in_turn = h.in_turn;
   }
 
   pub they_stand_still : (qs : List Procedure) (js : List JudgedProcedure) → TheyStandFor t qs js → TheyStandFor u qs js

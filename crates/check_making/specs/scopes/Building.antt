@@ -11,6 +11,7 @@ use Rattle.judged_modules.specs.steps.Frames.{Begins}
 use Rattle.check_making.specs.declared.making.Surroundings.{Surroundings}
 use Rattle.check_making.specs.Making.{Makes}
 use Rattle.check_making.specs.declared.scopes.building.Building.{Building}
+use Rattle.check_making.specs.scopes.InTurn.{UseInTurn}
 
 -- the table grew to this one, in which all procedure types have a number below the greatest
 pub record IsLater (t u : TypeTable) : Type 0 where
@@ -18,7 +19,7 @@ pub record IsLater (t u : TypeTable) : Type 0 where
   pub few : length u.types.signatures ≤ 4294967295
 
 -- a procedure is the judgement's, as it was outlined with the pointer types that there were, and as it is with all that
--- come later; its result's type is there; and it stays so
+-- come later; its result's type is there; it stays so; and it uses its strings in turn
 pub record StandsFor (t : TypeTable) (q : Procedure) (j : JudgedProcedure) : Type 0 where
   pub bases : List (Option ℕ)
   pub begins : Begins bases t.bases.items
@@ -26,6 +27,7 @@ pub record StandsFor (t : TypeTable) (q : Procedure) (j : JudgedProcedure) : Typ
   pub same : (later : List (Option ℕ)) → Begins bases later → outlined_procedure later j ≡ outlined_procedure bases j
   pub result_there : q.result < length t.entries.items
   pub stays : (u : TypeTable) → IsLater t u → plain_procedure u.types q ≡ plain_procedure t.types q
+  pub in_turn : UseInTurn q.texts q.body q.answer
 
 -- one for one
 abbrev pub TheyStandFor : TypeTable → List Procedure → List JudgedProcedure → Type 0

@@ -28,6 +28,7 @@ use Rattle.table_builder.specs.Contents.{base_in, AreFields, AreRecordTypes}
 use Rattle.table_builder.specs.Builder.{IsBuilt}
 use Rattle.table_builder.proofs.Meaning.{long}
 use Rattle.check_making.specs.scopes.Building.{TheyStandFor}
+use Rattle.check_making.specs.scopes.InTurn.{UseInTurn, AllUseInTurn}
 use Rattle.check_making.proofs.scopes.Procedures.{number_means}
 use Rattle.judged_outlines.specs.ends.Ends.{AllPoint}
 use Rattle.check_modules.specs.declared.programs.modules.Modules.{Modules}
@@ -131,6 +132,13 @@ results_there t (p ∷ qs) (j ∷ js) h (suc f) q at = results_there t qs js h.1
 results_there t [] (j ∷ js) h f q at = absurd h
 results_there t (p ∷ qs) [] h f q at = absurd h
 
+all_in_turn : (t : TypeTable) (qs : List Procedure) (js : List I.Procedure) → TheyStandFor t qs js → (f : ℕ) (q : Procedure) → slice_get qs f ≡ Some q → UseInTurn q.texts q.body q.answer
+all_in_turn t [] [] h f q at = none_some q at
+all_in_turn t (p ∷ qs) (j ∷ js) h zero q at = subst (λ (x : Procedure). UseInTurn x.texts x.body x.answer) (some_same p q at) (h.0).in_turn
+all_in_turn t (p ∷ qs) (j ∷ js) h (suc f) q at = all_in_turn t qs js h.1 f q at
+all_in_turn t [] (j ∷ js) h f q at = absurd h
+all_in_turn t (p ∷ qs) [] h f q at = absurd h
+
 -- ---- the whole
 
 abbrev image_by : List I.RecordType → List (Option ℕ) → List I.Module → List I.Procedure → Bool → I.Program
@@ -166,3 +174,6 @@ module _ (texts : List (List ℕ)) (s : Modules) (built : IsBuilt s.types) (c : 
   results_are p is = subst HasResults (sym is) (record {
     each = λ f q at. let l = results_there t s.procedures.items c.procedures stands.procedures f q at in let m = long t.types t.entries.items t.bases.items built.sound in omega (arith, l, m);
   })
+
+  pub all_use_in_turn : (procedures : List Procedure) → procedures ≡ s.procedures.items → AllUseInTurn procedures
+  all_use_in_turn procedures is = subst AllUseInTurn (sym is) (record { each = all_in_turn t s.procedures.items c.procedures stands.procedures })

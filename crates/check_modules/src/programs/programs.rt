@@ -7,6 +7,7 @@ ghost use Rattle.judged_tree.specs.Outline.{outlined_program};
 ghost use Rattle.judged_programs.specs.ProgramOf.{HasResults};
 ghost use Rattle.table_builder.specs.Builder.{IsBuilt};
 ghost use Rattle.judged_outlines.specs.ends.Ends.{AllPoint};
+ghost use Rattle.check_making.specs.scopes.InTurn.{AllUseInTurn};
 ghost use Rattle.check_modules.specs.programs.Modules.{StandsForModules};
 
 use crate::programs::modules::Modules;
@@ -22,6 +23,7 @@ pub fn into_program(state: Modules) -> Program
     ensures program { (texts : List (List ℕ)) (c : SoFar) → StandsForModules texts state c → AllPoint c.known.bases
         → plain_program texts result ≡ outlined_program (program_of c) }
     ensures results { (texts : List (List ℕ)) (c : SoFar) → StandsForModules texts state c → HasResults result }
+    ensures in_turn { (texts : List (List ℕ)) (c : SoFar) → StandsForModules texts state c → AllUseInTurn result.procedures }
 {
     let Modules {
         imports_in,

@@ -134,7 +134,7 @@ module _ (n : Numbering) where
       → Goes selectors (TheSelector.Index l k x) (TheSelector.Index l j y) a b
   index l k j x y a b same h =
       joined n numbers expressions selectors (ToElement l) (part k j a a) (part x y a b) (TheSelector.Index l k x) (TheSelector.Index l j y) refl (λ v all. refl) (λ v all. refl) (λ p s. refl)
-      (unused n numbers k j a refl (λ v all lasts front. same v lasts)) h
+      (unused n numbers k j a refl (λ v all lasts front. same v lasts) (λ v all few. refl)) h
 
   -- ---- calls
 

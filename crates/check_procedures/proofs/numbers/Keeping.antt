@@ -1,7 +1,9 @@
 -- Parts that keep their meaning make up wholes that do.
-use Rattle.std.proofs.Common.{◌≡◌, ℕ, ◌<◌, ◌≤◌, List, [], ◌∷◌, ◌++◌, ◌+◌, length, take, set, get_or, refl, sym, ap, ap₂, ◌∙◌, subst, append_assoc, arith}
-use Rattle.std.specs.List.{flat_map}
-use Rattle.std.proofs.lemmas.List.{append-nil, map-append, length-set, get_or-set_other, take_all, take_more, take_more_set}
+use Rattle.std.proofs.Common.{◌≡◌, ℕ, ◌<◌, ◌≤◌, List, [], ◌∷◌, ◌++◌, ◌+◌, ◌-◌, length, take, drop, set, get_or, refl, sym, ap, ap₂, ◌∙◌, subst, append_assoc, arith}
+use Rattle.std.specs.List.{between, flat_map}
+use Rattle.std.proofs.Math.Seq.{take-add}
+use Rattle.std.proofs.lemmas.List.{append-nil, map-append, length-append, length-set, get_or-set_other, take_all, take_more, take_more_set, drop-drop}
+use Rattle.std.proofs.lemmas.List.Edits.{between_none}
 use Rattle.std.proofs.lemmas.Grind.{flat_map-append}
 use Rattle.ob_types.specs.Table.{Table}
 use Rattle.ob_judge.specs.Texts.{Strings}
@@ -12,12 +14,30 @@ use Rattle.check_procedures.specs.numbers.Readings.{each, pair}
 begins_at : (front after added all : Strings) → after ≡ front ++ added → BeginsWith after all → BeginsWith front all
 begins_at front after added all e h = record { more = added ++ h.more; is = h.is ∙ ap (λ l. l ++ h.more) e ∙ append_assoc front added h.more; few = h.few }
 
+-- what stands between two places, and then up to a third
+pub between_on : (xs : Strings) (i j k : ℕ) → i ≤ j → j ≤ k → between i j xs ++ between j k xs ≡ between i k xs
+between_on xs i j k l m =
+    let there : i + (j - i) ≡ j = omega (arith, l) in
+    let whole : (j - i) + (k - j) ≡ k - i = omega (arith, l, m) in
+    sym (ap (λ n. take n (drop i xs)) (sym whole) ∙ take-add (j - i) (k - j) (drop i xs)
+    ∙ ap (λ ys. take (j - i) (drop i xs) ++ take (k - j) ys) (drop-drop (j - i) i xs ∙ ap (λ n. drop n xs) there))
+
+-- a list to which others were added is as long, or longer
+pub no_shorter : (before added after : Strings) → after ≡ before ++ added → length before ≤ length after
+no_shorter before added after e = let l = ap (λ us. length us) e ∙ length-append before added in omega (arith, l)
+
 module _ (n : Numbering) where
   -- a part that uses no strings
   pub unused : {A B : Type 0} (r : Reading A B) (tree made : A) (a : Strings) → r.uses (r.image n.types.types n.texts tree) ≡ []
       → ((v : Table) (all : Strings) → LastsIn n.types v → BeginsWith a all → r.image v all made ≡ r.image n.types.types n.texts tree)
+      → ((v : Table) (all : Strings) → length all ≤ 4294967295 → r.uses (r.image v all made) ≡ [])
       → KeepsMeaning r n (record { tree = tree; made = made; before = a; after = a })
-  unused r tree made a none same = record { added = sym (ap (λ l. a ++ l) none ∙ append-nil a); few = λ h. h; same = same }
+  unused r tree made a none same bare = record {
+    added = sym (ap (λ l. a ++ l) none ∙ append-nil a);
+    few = λ h. h;
+    same = same;
+    in_turn = λ v all many few. bare v all few ∙ sym (between_none all (length a));
+  }
 
   -- of the same part
   pub at : {A B : Type 0} (r : Reading A B) (x z y : A) (a b : Strings) → x ≡ z → KeepsMeaning r n (record { tree = z; made = y; before = a; after = b })
@@ -34,6 +54,7 @@ module _ (n : Numbering) where
     added = h.added ∙ ap (λ l. x.before ++ l) (sym (ap s.uses (of_tree n.types.types n.texts) ∙ uses (r.image n.types.types n.texts x.tree)));
     few = h.few;
     same = λ v all lasts front. of_made v all ∙ ap f (h.same v all lasts front) ∙ sym (of_tree n.types.types n.texts);
+    in_turn = λ v all many few. ap s.uses (of_made v all) ∙ uses (r.image v all x.made) ∙ h.in_turn v all many few;
   }
 
   -- a whole with two
@@ -55,11 +76,19 @@ module _ (n : Numbering) where
             of_made v all
             ∙ ap₂ f (g.same v all lasts (begins_at x.after y.after (r.uses d) all added front)) (h.same v all lasts front)
             ∙ sym (of_tree n.types.types n.texts);
+        in_turn = λ v all many few.
+            let first = no_shorter x.before (q.uses b) x.after g.added in
+            let met = ap (λ us. length us) meets in
+            let second = no_shorter x.after (r.uses d) y.after added in
+            ap s.uses (of_made v all) ∙ uses (q.image v all x.made) (r.image v all y.made)
+            ∙ ap₂ (λ (us ws : Strings). us ++ ws) (g.in_turn v all (omega (arith, second, many)) few)
+              (h.in_turn v all many few ∙ ap (λ i. between i (length y.after) all) (sym met))
+            ∙ between_on all (length x.before) (length x.after) (length y.after) first second;
       }
 
   -- no items
   pub no_item : {A B : Type 0} (r : Reading A B) (a : Strings) → KeepsMeaning (each r) n (record { tree = []; made = []; before = a; after = a })
-  no_item r a = unused (each r) [] [] a refl (λ v all lasts front. refl)
+  no_item r a = unused (each r) [] [] a refl (λ v all lasts front. refl) (λ v all few. refl)
 
   -- one more item
   pub one_more : {A B : Type 0} (r : Reading A B) (x : Renewed (List A)) (y : Renewed A) → x.after ≡ y.before → KeepsMeaning (each r) n x → KeepsMeaning r n y

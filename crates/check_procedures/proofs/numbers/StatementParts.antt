@@ -7,7 +7,7 @@ use Rattle.ob_types.specs.declared.tree.Expr.{Expr}
 use Rattle.ob_types.specs.declared.tree.Designator.{Designator}
 use Rattle.ob_types.specs.declared.tree.Call.{Call}
 use Rattle.ob_types.specs.declared.statements.Checked.{Checked}
-use Rattle.ob_types.specs.declared.statements.Branch.{Branch}
+use Rattle.ob_types.specs.declared.statements.Branch.{Branch, out-Branch}
 use Rattle.ob_types.specs.declared.statements.CasePart.{CasePart}
 use Rattle.ob_types.specs.declared.statements.TypePart.{TypePart}
 use Rattle.ob_types.specs.declared.statements.Stmt.{Stmt}
@@ -95,6 +95,12 @@ module _ (n : Numbering) where
       joined n checked checked statements I.OutInt (part x x' a b) (part y y' b c) (TheStmt.OutInt x y) (TheStmt.OutInt x' y') refl (λ v all. refl) (λ v all. refl) (λ p q. refl) g h
 
   -- ---- statements with statements in them
+
+  pub branch : (x y : Branch) (a b c : Strings) → Goes checked (out-Branch x).condition (out-Branch y).condition a b → Goes bodies (out-Branch x).body.items (out-Branch y).body.items b c
+      → Goes branches x y a c
+  branch x y a b c g h =
+      joined n checked bodies branches (λ when done. record { condition = when; body = done }) (part (out-Branch x).condition (out-Branch y).condition a b) (part (out-Branch x).body.items (out-Branch y).body.items b c) x y refl
+      (λ v all. refl) (λ v all. refl) (λ when done. refl) g h
 
   pub if_holds : (ps qs : Vec Branch Global) (ss ts : Vec Stmt Global) (a b c : Strings) → Goes (each branches) ps.items qs.items a b → Goes bodies ss.items ts.items b c
       → Goes statements (TheStmt.If ps ss) (TheStmt.If qs ts) a c

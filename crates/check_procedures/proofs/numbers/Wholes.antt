@@ -2,6 +2,7 @@
 use Rattle.std.proofs.Common.{◌≡◌, ◌≤◌, List, [], length, Option, sym, ap, ◌∙◌, arith}
 use Rattle.std.specs.Prelude.{option_map}
 use Rattle.std.proofs.lemmas.List.{append-nil}
+use Rattle.std.proofs.lemmas.Slice.{between_from_start}
 use Rattle.ob_types.specs.Table.{Table}
 use Rattle.ob_types.specs.declared.statements.Checked.{Checked}
 use Rattle.ob_types.specs.declared.statements.Stmt.{Stmt}
@@ -9,6 +10,7 @@ use Rattle.ob_judge.specs.Texts.{Strings, texts_of}
 use Rattle.judged_tree.specs.Plain.{plain_body, plain_checked}
 use Rattle.check_types.specs.declared.table.TypeTable.{TypeTable}
 use Rattle.table_builder.specs.Growing.{Grows}
+use Rattle.check_making.specs.scopes.InTurn.{UseInTurn}
 use Rattle.check_procedures.specs.numbers.Numbering.{Numbering, NumbersAll, LastsIn, BeginsWith, KeepsMeaning}
 use Rattle.check_procedures.specs.numbers.Readings.{pair, bodies, answers}
 use Rattle.check_procedures.proofs.numbers.Lasting.{lasts, lasts_on}
@@ -24,6 +26,9 @@ module _ (n : Numbering) (body made : List Stmt) (answer given : Option Checked)
 
   pub texts_are : texts ≡ texts_of (plain_body n.types.types n.texts body) (option_map (plain_checked n.types.types n.texts) answer)
   texts_are = h.whole.added
+
+  pub uses_in_turn : UseInTurn texts made given
+  uses_in_turn = record { each = λ v all many few. h.whole.in_turn v all many few ∙ between_from_start all (length texts) }
 
   body_in : (v : Table) → LastsIn n.types v → plain_body v texts made ≡ plain_body n.types.types n.texts body
   body_in v l = ap (λ p. p.0) (h.whole.same v texts l all_of_them)

@@ -1,5 +1,6 @@
 -- What it is to give a checked tree other numbers of strings and types, so that it means what it meant.
 use Rattle.std.specs.Prelude.{◌≡◌, ◌<◌, ◌≤◌, ℕ, ◌++◌, length, None, Some, slice_get}
+use Rattle.std.specs.List.{between}
 use Rattle.ob_types.specs.Table.{Table}
 use Rattle.ob_judge.specs.Shapes.{Shape, Nothing}
 use Rattle.ob_judge.specs.Texts.{Strings}
@@ -52,8 +53,11 @@ pub record Renewed (A : Type 0) : Type 0 where
   pub before : Strings
   pub after : Strings
 
--- the uses in it are added at the end, and with these it means what it meant, also where others or more types follow
+-- the uses in it are added at the end, and with these it means what it meant, also where others or more types follow; and
+-- whatever strings stand at the numbers, it uses in turn those at the places that were added
 pub record KeepsMeaning {A B : Type 0} (r : Reading A B) (n : Numbering) (x : Renewed A) : Type 0 where
   pub added : x.after ≡ x.before ++ r.uses (r.image n.types.types n.texts x.tree)
   pub few : length x.before ≤ 4294967295 → length x.after ≤ 4294967295
   pub same : (v : Table) (all : Strings) → LastsIn n.types v → BeginsWith x.after all → r.image v all x.made ≡ r.image n.types.types n.texts x.tree
+  pub in_turn : (v : Table) (all : Strings) → length x.after ≤ length all → length all ≤ 4294967295
+      → r.uses (r.image v all x.made) ≡ between (length x.before) (length x.after) all

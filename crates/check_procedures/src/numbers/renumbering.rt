@@ -7,6 +7,7 @@ ghost use Rattle.check_types.specs.declared.table.TypeTable.{TypeTable};
 ghost use Rattle.check_types.specs.names.Worlds.{table_of};
 ghost use Rattle.check_operands.specs.Operands.{texts_of};
 ghost use Rattle.table_builder.specs.Growing.{Grows};
+ghost use Rattle.check_making.specs.scopes.InTurn.{UseInTurn};
 ghost use Rattle.check_procedures.specs.numbers.Numbering.{NumbersAll, KeepsMeaning, numbering_of};
 ghost use Rattle.check_procedures.specs.numbers.Readings.{pair, bodies, answers};
 
@@ -87,6 +88,7 @@ pub fn renumbered<'a>(
         → plain_body u.types n.texts n.body ≡ plain_body (table_of scope.now) n.texts n.body) }
     ensures answer_stays { IfOk result (λ n. (u : TypeTable) → Grows scope.now.types.now u → length u.types.signatures ≤ 4294967295
         → option_map (plain_checked u.types n.texts) n.answer ≡ option_map (plain_checked (table_of scope.now) n.texts) n.answer) }
+    ensures in_turn { IfOk result (λ n. UseInTurn n.texts n.body n.answer) }
     ensures memory { IfErr result (λ e. e ≡ CheckFault.Memory) }
 {
     match with_uses(scope, alloc, body, answer) {

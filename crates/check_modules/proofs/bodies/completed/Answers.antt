@@ -5,7 +5,7 @@ use Rattle.check_types.specs.declared.types.TypeRef.TheVariants as TheType
 use Rattle.check_types.proofs.steps.Answering.{exit}
 use Rattle.check_modules.proofs.WantOfMemory.{no_memory}
 use Rattle.check_procedures.proofs.numbers.Lasting.{numbers_all}
-use Rattle.check_modules.proofs.BodyStands.{no_body, no_name, is_bare, is_completed}
+use Rattle.check_modules.proofs.BodyStands.{no_body, no_name, is_bare, is_completed, in_turn_alone}
 use Rattle.check_modules.proofs.bodies.completed.Goals as goal
 
 pub renumbered-requires : goal.renumbered-requires
@@ -30,7 +30,12 @@ pub returns : goal.returns
 returns c = λ k m makes up.
     let n = c.in_ok-numbered.ensures in
     is_completed c.args.round.now c.args.state.now k m makes up (plain_module c.args.tree.now) c.scope-scope.result c.scope-scope.ensures.source c.scope-scope.ensures.world c.scope-scope.ensures.types
-    c.in_ok-body.body c.in_ok-numbered.numbered.texts c.in_ok-numbered.numbered.body (record { all = n.texts; same = n.body; stays = n.body_stays })
+    c.in_ok-body.body c.in_ok-numbered.numbered.texts c.in_ok-numbered.numbered.body (record {
+      all = n.texts;
+      same = n.body;
+      stays = n.body_stays;
+      in_turn = in_turn_alone _ c.in_ok-numbered.numbered.texts _ c.in_ok-numbered.numbered.body c.in_ok-numbered.numbered.answer n.answer n.in_turn;
+    })
     c.line_at-line.result c.number-nothing.result c.line_at-line.ensures c.number-nothing.ensures.entry _
     (is_bare c.args.round.now.module_number c.line_at-line.result c.number-nothing.result c.in_ok-numbered.numbered.texts c.in_ok-numbered.numbered.body c.new.result c.new-2.result c.new.ensures c.new-2.ensures)
     c.in_ok-body.ensures c.in_ok-end_name.ensures

@@ -46,6 +46,6 @@ returns c = λ k m h makes up is.
     as_judged (ap (λ z. completed c.args.round.now.source.now z h m) (procedure_parts c.args.tree.now))
     (is_finished c.args.round.now c.args.state.now k m makes up q h c.args.heading is c.scope-scope.result c.scope-scope.ensures.source c.scope-scope.ensures.world c.scope-scope.ensures.types
     c.in_ok-body.body c.in_ok-given.given c.in_ok-numbered.numbered
-    (record { all = n.texts; body_same = n.body; answer_same = n.answer; body_stays = n.body_stays; answer_stays = n.answer_stays })
-    c.line_at-line.result c.line_at-line.ensures c.in_ok-done.done c.in_ok-done.ensures.image c.in_ok-done.ensures.result_there c.in_ok-done.ensures.stays
+    (record { all = n.texts; body_same = n.body; answer_same = n.answer; body_stays = n.body_stays; answer_stays = n.answer_stays; in_turn = n.in_turn })
+    c.line_at-line.result c.line_at-line.ensures c.in_ok-done.done c.in_ok-done.ensures.image c.in_ok-done.ensures.result_there c.in_ok-done.ensures.stays c.in_ok-done.ensures.in_turn
     c.in_ok-body.ensures c.in_ok-given.ensures c.in_ok-end_name.ensures)

@@ -9,7 +9,7 @@ pub into_program-requires : goal.into_program-requires
 into_program-requires c = c.in_ok-state.ensures.behind.settled.built
 
 pub returns-clause-program : goal.returns-clause-program
-returns-clause-program c = program_behind c.args.texts.now c.in_ok-state.state c.in_ok-state.ensures.behind c.into_program.result c.into_program.ensures.program
+returns-clause-program c = program_behind c.args.texts.now c.in_ok-state.state c.in_ok-state.ensures.behind c.into_program.result c.into_program.ensures.program c.into_program.ensures.in_turn
 
 pub returns-clause-well_formed : goal.returns-clause-well_formed
 returns-clause-well_formed c =

@@ -13,7 +13,7 @@ use Rattle.check_procedures.specs.numbers.Numbering.{numbering_of}
 use Rattle.check_procedures.specs.numbers.Readings.{each, kinds, bases, expressions, links, designators, selectors, calls, arguments}
 use Rattle.check_procedures.proofs.numbers.Keeping.{at, next_turn, made_so}
 use Rattle.check_procedures.proofs.numbers.Leaves.{kind_kept}
-use Rattle.check_procedures.proofs.numbers.ExpressionParts.{guard, chain, compare, compare_texts, part_of, direct, indirect}
+use Rattle.check_procedures.proofs.numbers.ExpressionParts.{guard, chain, compare, compare_texts, is_in, elements, part_of, direct, indirect}
 use Rattle.check_procedures.proofs.numbers.expressions.+expressions.Goals as goal
 
 pub renumber_expression-returns-in_ok-renumber_designator-in-Guard : goal.renumber_expression-returns-in_ok-renumber_designator-in-Guard
@@ -48,6 +48,24 @@ renumber_expression-returns-in_ok-renumber_designator-in-CompareTexts-2 t c =
     (at (numbering_of c.args.scope.now) designators c.in-CompareTexts.x.value _ _ _ _ (search rules) c.in_ok-renumber_designator-in-CompareTexts.ensures)
     (at (numbering_of c.args.scope.now) designators c.in-CompareTexts.y.value _ _ _ _ (search rules) c.in_ok-renumber_designator-in-CompareTexts-2.ensures)))
     (rw c.in-CompareTexts.is)
+
+pub renumber_expression-returns-in_ok-renumber_expression-in-In-2 : goal.renumber_expression-returns-in_ok-renumber_expression-in-In-2
+unfolding Z.out-Expr denote.Hole.Carrier.out
+renumber_expression-returns-in_ok-renumber_expression-in-In-2 t c =
+    let made = TheExpr.In (with_value c.in-In.x c.renumber_expression-in-In.new.tree) (with_value c.in-In.set c.renumber_expression-in-In-2.new.tree) in
+    made_so (numbering_of c.args.scope.now) expressions c.args.tree.now _ made c.args.uses.now c.renumber_expression-in-In-2.new.uses
+    (at (numbering_of c.args.scope.now) expressions c.args.tree.now (TheExpr.In c.in-In.x c.in-In.set) made c.args.uses.now c.renumber_expression-in-In-2.new.uses c.in-In.is
+    (is_in (numbering_of c.args.scope.now) _ _ _ _ _ _ _ _ _ _ _
+    (at (numbering_of c.args.scope.now) expressions c.in-In.x.value _ _ _ _ (search rules) c.in_ok-renumber_expression-in-In.ensures)
+    (at (numbering_of c.args.scope.now) expressions c.in-In.set.value _ _ _ _ (search rules) c.in_ok-renumber_expression-in-In-2.ensures)))
+    (rw c.in-In.is)
+
+pub renumber_link-returns-in_ok-renumber_expression-in-Elements-2 : goal.renumber_link-returns-in_ok-renumber_expression-in-Elements-2
+renumber_link-returns-in_ok-renumber_expression-in-Elements-2 t c =
+    at (numbering_of c.args.scope.now) links _ _ _ _ _ c.in-Elements.is
+    (elements (numbering_of c.args.scope.now) c.in-Elements.low c.renumber_expression-in-Elements.new.tree c.in-Elements.high c.renumber_expression-in-Elements-2.new.tree _ _ _
+    (at (numbering_of c.args.scope.now) expressions _ _ _ _ _ (sym c.in-Elements.low-is) c.in_ok-renumber_expression-in-Elements.ensures)
+    (at (numbering_of c.args.scope.now) expressions _ _ _ _ _ (sym c.in-Elements.high-is) c.in_ok-renumber_expression-in-Elements-2.ensures))
 
 pub renumber_designator-returns-in_ok-renumber_selectors-in-Part : goal.renumber_designator-returns-in_ok-renumber_selectors-in-Part
 renumber_designator-returns-in_ok-renumber_selectors-in-Part t c =

@@ -9,7 +9,7 @@ use Rattle.ob_types.specs.declared.statements.Stmt as Z
 use Rattle.check_procedures.specs.numbers.Numbering.{numbering_of}
 use Rattle.check_procedures.specs.numbers.Readings.{each, designators, checked, statements, bodies, branches, case_parts, type_parts}
 use Rattle.check_procedures.proofs.numbers.Keeping.{at, next_turn, all_items, made_so}
-use Rattle.check_procedures.proofs.numbers.StatementParts.{body, if_holds, while_holds, repeat_until, for_each, case_value, case_pointer, case_parameter}
+use Rattle.check_procedures.proofs.numbers.StatementParts.{body, branch, if_holds, while_holds, repeat_until, for_each, case_value, case_pointer, case_parameter}
 use Rattle.check_procedures.proofs.numbers.statements.+statements.Goals as goal
 
 pub renumber_compound-returns-in_ok-renumber_statements-in-If : goal.renumber_compound-returns-in_ok-renumber_statements-in-If
@@ -92,3 +92,6 @@ renumbered_for-returns-in_ok-renumber_statements-in-For t c = λ _.
     at (numbering_of c.args.scope.now) statements _ _ _ _ _ c.in-For.is
     (for_each (numbering_of c.args.scope.now) c.in-For.variable c.renumber_head.new.variable c.in-For.first c.renumber_head.new.first c.in-For.limit c.renumber_head.new.limit c.in-For.step _ c.in-For.body c.renumber_statements.new.list _ _ _ _ same
     c.for_statement.ensures c.in_ok-renumber_head-in-For.ensures c.in_ok-renumber_statements-in-For.ensures)
+
+pub renumber_branch-returns : goal.renumber_branch-returns
+renumber_branch-returns t c = branch (numbering_of c.args.scope.now) c.args.branch.now _ _ _ _ c.in_ok-renumber_checked.ensures c.in_ok-renumber_statements.ensures
