@@ -102,6 +102,18 @@ fn block(head: Head, ops: Items<Op>, end: End) -> Block
     }
 }
 
+/// The operations of a block in a list of their own, which has no more room than they need, and the list that they were in,
+/// which keeps its room.
+fn taken(alloc: Global, ops: Items<Op>) -> Result<(Items<Op>, Items<Op>), Memory>
+    ensures own { IfOk result (λ r. r.0 ≡ ops) }
+    ensures rest { IfOk result (λ r. r.1 ≡ []) }
+{
+    let mut rest = ops.into_vec();
+    let mut own = Vec::with_capacity(alloc, rest.len())?;
+    own.append(&mut rest)?;
+    Ok((Items::from_vec(own), Items::from_vec(rest)))
+}
+
 /// One more piece.
 fn add(alloc: Global, places: &[u32], blocks: Blocks, piece: Piece) -> Result<Blocks, Memory>
     ensures { IfOk result (λ new. (rest : List PieceThere) (last : EndThere)
@@ -123,7 +135,8 @@ fn add(alloc: Global, places: &[u32], blocks: Blocks, piece: Piece) -> Result<Bl
             freq,
             enter,
         } => {
-            done.push(block(head, ops, placed_end(places, end)))?;
+            let (own, rest) = taken(alloc, ops)?;
+            done.push(block(head, own, placed_end(places, end)))?;
             Ok(Blocks {
                 done,
                 head: Head {
@@ -131,7 +144,7 @@ fn add(alloc: Global, places: &[u32], blocks: Blocks, piece: Piece) -> Result<Bl
                     freq,
                     enter,
                 },
-                ops: Items::new(alloc),
+                ops: rest,
             })
         }
     }
