@@ -126,9 +126,8 @@ fn factor(parser: &mut Parser, alloc: Global) -> Result<Factor, ParseFault>
         let at = parser.advance();
         Ok(Factor::False(at))
     } else if parser.is_at(Mark(Delimiter::LeftBrace)) {
-        let set = set(parser, alloc)?;
-        let held = Box::new(alloc, set)?;
-        Ok(Factor::Set(held))
+        let set = set_factor(parser, alloc)?;
+        Ok(set)
     } else if parser.is_at(Terminal::Ident) {
         let designator = designator(parser, alloc)?;
         Ok(Factor::Designator(designator))
@@ -139,6 +138,17 @@ fn factor(parser: &mut Parser, alloc: Global) -> Result<Factor, ParseFault>
         let negation = negation(parser, alloc)?;
         Ok(negation)
     }
+}
+
+/// A set.
+#[cycle(expressions)]
+#[inline(never)]
+fn set_factor(parser: &mut Parser, alloc: Global) -> Result<Factor, ParseFault>
+    ensures { Gives (part set) factor_text parser.old parser.new result }
+{
+    let set = set(parser, alloc)?;
+    let held = Box::new(alloc, set)?;
+    Ok(Factor::Set(held))
 }
 
 /// `"(" expression ")"`
@@ -301,7 +311,6 @@ fn maybe_list(parser: &mut Parser, alloc: Global) -> Result<Option<List>, ParseF
 
 /// `"{" [element {"," element}] "}"`
 #[cycle(expressions)]
-#[inline(never)]
 fn set(parser: &mut Parser, alloc: Global) -> Result<Set, ParseFault>
     ensures { Gives (part set) set_text parser.old parser.new result }
 {

@@ -82,8 +82,8 @@ factor-returns-then-is_at-6 t c = reads_part (reads_right c.if-is_at.ensures.tel
 pub factor-returns-in_err-set : goal.factor-returns-in_err-set
 factor-returns-in_err-set t c = gives_err _ c.from_residual.result c.from_residual.ensures.1 (fails_part (fails_right c.if-is_at.ensures.tells (fails_right c.if-is_at-2.ensures.tells (fails_right c.if-is_at-3.ensures.tells (fails_right c.if-is_at-4.ensures.tells (fails_right c.if-is_at-5.ensures.tells (fails_right c.if-is_at-6.ensures.tells (fails_left c.if-is_at-7.ensures.tells c.in_err-set.ensures))))))))
 
-pub factor-returns-in_ok-held : goal.factor-returns-in_ok-held
-factor-returns-in_ok-held t c = as_text (ap set_text c.in_ok-held.ensures.ok) (reads_part (reads_right c.if-is_at.ensures.tells (reads_right c.if-is_at-2.ensures.tells (reads_right c.if-is_at-3.ensures.tells (reads_right c.if-is_at-4.ensures.tells (reads_right c.if-is_at-5.ensures.tells (reads_right c.if-is_at-6.ensures.tells (reads_left c.if-is_at-7.ensures.tells c.in_ok-set.ensures))))))))
+pub factor-returns-in_ok-set : goal.factor-returns-in_ok-set
+factor-returns-in_ok-set t c = reads_part (reads_right c.if-is_at.ensures.tells (reads_right c.if-is_at-2.ensures.tells (reads_right c.if-is_at-3.ensures.tells (reads_right c.if-is_at-4.ensures.tells (reads_right c.if-is_at-5.ensures.tells (reads_right c.if-is_at-6.ensures.tells (reads_left c.if-is_at-7.ensures.tells c.in_ok-set.ensures)))))))
 
 pub factor-returns-in_err-designator : goal.factor-returns-in_err-designator
 factor-returns-in_err-designator t c = gives_err _ c.from_residual-in_err-designator.result c.from_residual-in_err-designator.ensures.1 (fails_part (fails_right c.if-is_at.ensures.tells (fails_right c.if-is_at-2.ensures.tells (fails_right c.if-is_at-3.ensures.tells (fails_right c.if-is_at-4.ensures.tells (fails_right c.if-is_at-5.ensures.tells (fails_right c.if-is_at-6.ensures.tells (fails_right c.if-is_at-7.ensures.tells (fails_left c.if-is_at-8.ensures.tells c.in_err-designator.ensures)))))))))
@@ -102,6 +102,12 @@ factor-returns-in_err-negation t c = gives_err _ c.from_residual-in_err-negation
 
 pub factor-returns-in_ok-negation : goal.factor-returns-in_ok-negation
 factor-returns-in_ok-negation t c = reads_part (reads_right c.if-is_at.ensures.tells (reads_right c.if-is_at-2.ensures.tells (reads_right c.if-is_at-3.ensures.tells (reads_right c.if-is_at-4.ensures.tells (reads_right c.if-is_at-5.ensures.tells (reads_right c.if-is_at-6.ensures.tells (reads_right c.if-is_at-7.ensures.tells (reads_right c.if-is_at-8.ensures.tells (reads_right c.if-is_at-9.ensures.tells c.in_ok-negation.ensures)))))))))
+
+pub set_factor-returns-in_err-set : goal.set_factor-returns-in_err-set
+set_factor-returns-in_err-set t c = gives_err _ c.from_residual.result c.from_residual.ensures.1 c.in_err-set.ensures
+
+pub set_factor-returns : goal.set_factor-returns
+set_factor-returns t c = as_text (ap set_text c.in_ok-held.ensures.ok) c.in_ok-set.ensures
 
 pub paren-returns-in_err-left_paren : goal.paren-returns-in_err-left_paren
 paren-returns-in_err-left_paren t c = gives_err _ c.from_residual.result c.from_residual.ensures.1 (c.in_err-left_paren.ensures _)
