@@ -37,7 +37,7 @@ use Rattle.check_expressions.specs.Steps.{is_with, related_with, compared_with, 
 use Rattle.check_types.specs.declared.names.scope.Scope.{Scope}
 use Rattle.check_operands.specs.declared.calls.arguments.Given.{Given}
 use Rattle.check_operands.specs.calls.Given.{IsGiven, AreGiven}
-use Rattle.check_expressions.proofs.Walking.{then_then, alike}
+use Rattle.check_expressions.proofs.Walking.{then_then, alike, with_nothing_behind}
 
 -- given arguments, and one more
 pub given_last : (s : Scope) (xs : List Given) (bs : List J.Given) (x : Given) (b : J.Given) → AreGiven s xs bs → IsGiven s x b → AreGiven s (xs ++ x ∷ []) (bs ++ b ∷ [])
@@ -83,6 +83,20 @@ module _ (p : Source) (w : World) where
 
   pub term_is : (x : Term) → term p w (plain_term x) ≡ (factor p w (plain_factor (out-Term x).first) >>= λ y. multiplied p w y (plain_each_multiplied (out-Term x).more.items))
   term_is x = ap (term p w) (term_parts x)
+
+  -- without further terms or factors
+  pub bare_simple_is : (x : Simple) → (out-Simple x).sign ≡ None → (out-Simple x).more.items ≡ [] → simple p w (plain_simple x) ≡ term p w (plain_term (out-Simple x).first)
+  bare_simple_is x unsigned lone =
+      simple_is x
+      ∙ ap (λ o. term p w (plain_term (out-Simple x).first) >>= λ y. signed p w o y >>= λ z. added p w z (plain_each_added (out-Simple x).more.items)) unsigned
+      ∙ ap (λ xs. term p w (plain_term (out-Simple x).first) >>= λ y. added p w y (plain_each_added xs)) lone
+      ∙ with_nothing_behind (term p w (plain_term (out-Simple x).first))
+
+  pub bare_term_is : (x : Term) → (out-Term x).more.items ≡ [] → term p w (plain_term x) ≡ factor p w (plain_factor (out-Term x).first)
+  bare_term_is x lone =
+      term_is x
+      ∙ ap (λ xs. factor p w (plain_factor (out-Term x).first) >>= λ y. multiplied p w y (plain_each_multiplied xs)) lone
+      ∙ with_nothing_behind (factor p w (plain_factor (out-Term x).first))
 
   pub added_law : (a : Operand) (x : Added) (xs : List Added) → added p w a (plain_each_added (x ∷ xs)) ≡ (added_one p w a x >>= λ z. added p w z (plain_each_added xs))
   added_law a x xs =

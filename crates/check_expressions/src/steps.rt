@@ -120,6 +120,7 @@ pub fn as_value(x: Operand) -> Operand
 }
 
 /// A designator as a factor: 31 where it has no value; 32 where a constant expression has no such factor.
+#[inline(always)]
 pub fn as_factor<'a>(scope: &Scope<'a>, symbol: u32, x: Operand) -> Result<Operand, CheckFault>
     ensures { (a : Judgement) → Stands scope.now x a →
         Answers (Stands scope.now)

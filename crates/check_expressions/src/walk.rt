@@ -65,6 +65,7 @@ pub fn expression<'a>(
 
 /// A relation, whose left side has been walked. IS wants the name of a type, every other relation an expression.
 #[cycle(walk)]
+#[inline(never)]
 fn compared<'a>(
     scope: &Scope<'a>,
     alloc: Global,
@@ -89,12 +90,15 @@ fn compared<'a>(
     }
 }
 
-/// A sum.
+/// A sum. A term alone is what it comes to.
 #[cycle(walk)]
 pub fn simple<'a>(scope: &Scope<'a>, alloc: Global, tree: &Simple) -> Result<Operand, CheckFault>
     ensures { Answers (Stands scope.now)
         (judged_simple scope.now.source.now (world_of scope.now) (plain_simple tree.now)) result }
 {
+    if tree.sign.is_none() && tree.more.as_slice().is_empty() {
+        return term(scope, alloc, &tree.first);
+    }
     let x = term(scope, alloc, &tree.first)?;
     let y = signed(scope, alloc, &tree.sign, x)?;
     added(scope, alloc, y, &tree.more)
@@ -102,6 +106,7 @@ pub fn simple<'a>(scope: &Scope<'a>, alloc: Global, tree: &Simple) -> Result<Ope
 
 /// Further terms.
 #[cycle(walk)]
+#[inline(never)]
 fn added<'a>(
     scope: &Scope<'a>,
     alloc: Global,
@@ -134,18 +139,22 @@ fn added_one<'a>(
     joined_terms(scope, alloc, &tree.operator, x, y)
 }
 
-/// A product.
+/// A product. A factor alone is what it comes to.
 #[cycle(walk)]
 fn term<'a>(scope: &Scope<'a>, alloc: Global, tree: &Term) -> Result<Operand, CheckFault>
     ensures { Answers (Stands scope.now)
         (judged_term scope.now.source.now (world_of scope.now) (plain_term tree.now)) result }
 {
+    if tree.more.as_slice().is_empty() {
+        return factor(scope, alloc, &tree.first);
+    }
     let x = factor(scope, alloc, &tree.first)?;
     multiplied(scope, alloc, x, &tree.more)
 }
 
 /// Further factors.
 #[cycle(walk)]
+#[inline(never)]
 fn multiplied<'a>(
     scope: &Scope<'a>,
     alloc: Global,
@@ -215,6 +224,7 @@ fn factor<'a>(scope: &Scope<'a>, alloc: Global, tree: &Factor) -> Result<Operand
 
 /// A set.
 #[cycle(walk)]
+#[inline(never)]
 fn set<'a>(scope: &Scope<'a>, alloc: Global, tree: &Set) -> Result<Operand, CheckFault>
     ensures { Answers (Stands scope.now)
         (judged_factor scope.now.source.now (world_of scope.now) (plain_set tree.now)) result }
@@ -327,6 +337,7 @@ fn selected<'a>(
 
 /// What a selector leads to.
 #[cycle(walk)]
+#[inline(never)]
 fn select<'a>(
     scope: &Scope<'a>,
     alloc: Global,
@@ -455,7 +466,7 @@ fn arguments<'a>(
     ensures { (a : JudgedGiven) → IsGiven scope.now first a →
         Answers (AreGivenIn scope.now) (arguments_from scope.now.source.now (world_of scope.now) a (plain_each_expression more.now)) result }
 {
-    let mut all = Vec::new(alloc);
+    let mut all = Vec::with_capacity(alloc, 1 + more.len())?;
     all.push(first)?;
     for next in more {
         let x = given(scope, alloc, &next.expression)?;

@@ -71,6 +71,7 @@ pub fn constant_operand<'a>(scope: &Scope<'a>, c: Constant) -> Result<Operand, C
 }
 
 // What a name stands for, as an operand: 31 where it is none.
+#[inline(always)]
 fn object_operand<'a>(
     scope: &Scope<'a>,
     alloc: Global,
@@ -107,6 +108,7 @@ fn object_operand<'a>(
 }
 
 /// As an operand.
+#[inline(always)]
 pub fn operand_of<'a>(scope: &Scope<'a>, x: Begun) -> Operand
     ensures { (a : Judgement) → IsBegun scope.now x a → Stands scope.now result a }
 {
@@ -135,6 +137,7 @@ pub fn begin<'a>(
 }
 
 // A name alone, as an operand.
+#[inline(always)]
 fn named_operand<'a>(
     scope: &Scope<'a>,
     alloc: Global,

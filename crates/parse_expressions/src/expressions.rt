@@ -15,7 +15,7 @@ use ob_syntax::expressions::{
     Added, Compared, Designator, Element, ElementHigh, Elements, Expression, Factor, List,
     Multiplied, NextElement, NextExpression, Selector, Set, Simple, Term,
 };
-use parse_steps::{ParseFault, Parser};
+use parse_steps::{ParseFault, Parser, add};
 use std::alloc::Global;
 
 /// `simple [("=" | "#" | "<" | "<=" | ">" | ">=" | IN | IS) simple]`
@@ -62,10 +62,13 @@ fn more_terms(parser: &mut Parser, alloc: Global) -> Result<Vec<Added>, ParseFau
     let mut more = Vec::new(alloc);
     'rounds: while let Some(operator) = add_operator(parser) {
         let next = term(parser, alloc)?;
-        more.push(Added {
-            operator,
-            term: next,
-        })?;
+        add(
+            &mut more,
+            Added {
+                operator,
+                term: next,
+            },
+        )?;
     }
     Ok(more)
 }
@@ -88,10 +91,13 @@ fn more_factors(parser: &mut Parser, alloc: Global) -> Result<Vec<Multiplied>, P
     let mut more = Vec::new(alloc);
     'rounds: while let Some(operator) = mul_operator(parser) {
         let next = factor(parser, alloc)?;
-        more.push(Multiplied {
-            operator,
-            factor: next,
-        })?;
+        add(
+            &mut more,
+            Multiplied {
+                operator,
+                factor: next,
+            },
+        )?;
     }
     Ok(more)
 }
@@ -120,9 +126,8 @@ fn factor(parser: &mut Parser, alloc: Global) -> Result<Factor, ParseFault>
         let at = parser.advance();
         Ok(Factor::False(at))
     } else if parser.is_at(Mark(Delimiter::LeftBrace)) {
-        let set = set(parser, alloc)?;
-        let held = Box::new(alloc, set)?;
-        Ok(Factor::Set(held))
+        let set = set_factor(parser, alloc)?;
+        Ok(set)
     } else if parser.is_at(Terminal::Ident) {
         let designator = designator(parser, alloc)?;
         Ok(Factor::Designator(designator))
@@ -135,8 +140,20 @@ fn factor(parser: &mut Parser, alloc: Global) -> Result<Factor, ParseFault>
     }
 }
 
+/// A set.
+#[cycle(expressions)]
+#[inline(never)]
+fn set_factor(parser: &mut Parser, alloc: Global) -> Result<Factor, ParseFault>
+    ensures { Gives (part set) factor_text parser.old parser.new result }
+{
+    let set = set(parser, alloc)?;
+    let held = Box::new(alloc, set)?;
+    Ok(Factor::Set(held))
+}
+
 /// `"(" expression ")"`
 #[cycle(expressions)]
+#[inline(never)]
 fn paren(parser: &mut Parser, alloc: Global) -> Result<Factor, ParseFault>
     ensures { Gives (opening left_paren (part expression · right_paren)) factor_text parser.old parser.new result }
 {
@@ -154,6 +171,7 @@ fn paren(parser: &mut Parser, alloc: Global) -> Result<Factor, ParseFault>
 
 /// `"~" factor`
 #[cycle(expressions)]
+#[inline(never)]
 fn negation(parser: &mut Parser, alloc: Global) -> Result<Factor, ParseFault>
     ensures { Gives (opening tilde (part factor)) factor_text parser.old parser.new result }
 {
@@ -188,10 +206,13 @@ pub fn more_expressions(
     let mut more = Vec::new(alloc);
     'rounds: while let Some(comma) = parser.take(Mark(Delimiter::Comma)) {
         let next = expression(parser, alloc)?;
-        more.push(NextExpression {
-            comma,
-            expression: next,
-        })?;
+        add(
+            &mut more,
+            NextExpression {
+                comma,
+                expression: next,
+            },
+        )?;
     }
     Ok(more)
 }
@@ -205,7 +226,7 @@ pub fn designator(parser: &mut Parser, alloc: Global) -> Result<Designator, Pars
     let mut selectors = Vec::new(alloc);
     'rounds: while begins_selector(parser) {
         let next = selector(parser, alloc)?;
-        selectors.push(next)?;
+        add(&mut selectors, next)?;
     }
     Ok(Designator { name, selectors })
 }
@@ -326,10 +347,13 @@ fn more_elements(parser: &mut Parser, alloc: Global) -> Result<Vec<NextElement>,
     let mut more = Vec::new(alloc);
     'rounds: while let Some(comma) = parser.take(Mark(Delimiter::Comma)) {
         let next = element(parser, alloc)?;
-        more.push(NextElement {
-            comma,
-            element: next,
-        })?;
+        add(
+            &mut more,
+            NextElement {
+                comma,
+                element: next,
+            },
+        )?;
     }
     Ok(more)
 }

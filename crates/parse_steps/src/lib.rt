@@ -7,7 +7,9 @@
 #![tactic(auto)]
 
 mod fault;
+mod lists;
 mod parser;
 
 pub use fault::ParseFault;
+pub use lists::add;
 pub use parser::Parser;

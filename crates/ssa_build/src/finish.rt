@@ -1,6 +1,6 @@
 //! A procedure's blocks, from the pieces that were made and the blocks that labels stand for.
 
-ghost use Rattle.std.specs.Prelude.{◌≡◌, ◌≤◌, ℕ, List, [], ◌∷◌, replicate, length, slice_index, min, None, IfOk};
+ghost use Rattle.std.specs.Prelude.{◌≡◌, ◌≤◌, ℕ, List, [], ◌∷◌, replicate, length, slice_index, min, None, IfOk, OnOk};
 ghost use Rattle.block_runs.specs.declared.end.End.{End as EndThere};
 ghost use Rattle.ssa_lowered.specs.Pieces.{numbers};
 ghost use Rattle.ssa_exprs.specs.declared.making.Piece.{Piece as PieceThere};
@@ -13,6 +13,7 @@ use outside::Memory;
 use ssa_core::{Block, Op};
 use ssa_exprs::{Bound, Piece};
 use std::alloc::Global;
+use std::mem::replace;
 
 /// How a block begins.
 #[derive(Drop)]
@@ -102,20 +103,27 @@ fn block(head: Head, ops: Items<Op>, end: End) -> Block
     }
 }
 
-/// One more piece.
-fn add(alloc: Global, places: &[u32], blocks: Blocks, piece: Piece) -> Result<Blocks, Memory>
-    ensures { IfOk result (λ new. (rest : List PieceThere) (last : EndThere)
-        → finished new last rest ≡ finished blocks last (resolve (λ t. slice_index places.now t) piece ∷ rest)) }
+/// The operations of a block, in a list that has no more room than they need. The list that they were in keeps its room.
+fn taken(alloc: Global, ops: &mut Items<Op>) -> Result<Items<Op>, Memory>
+    ensures own { IfOk result (λ own. own ≡ ops.old) }
+    ensures rest { OnOk result (ops.new ≡ []) }
 {
-    let Blocks {
-        mut done,
-        head,
-        mut ops,
-    } = blocks;
+    let mut rest = replace(ops, Items::new(alloc)).into_vec();
+    let mut own = Vec::with_capacity(alloc, rest.len())?;
+    own.append(&mut rest)?;
+    *ops = Items::from_vec(rest);
+    Ok(Items::from_vec(own))
+}
+
+/// One more piece.
+fn add(alloc: Global, places: &[u32], blocks: &mut Blocks, piece: Piece) -> Result<(), Memory>
+    ensures { OnOk result ((rest : List PieceThere) (last : EndThere)
+        → finished blocks.new last rest ≡ finished blocks.old last (resolve (λ t. slice_index places.now t) piece ∷ rest)) }
+{
     match piece {
         Piece::Adds(op) => {
-            ops.push(op)?;
-            Ok(Blocks { done, head, ops })
+            blocks.ops.push(op)?;
+            Ok(())
         }
         Piece::Ends {
             end,
@@ -123,16 +131,15 @@ fn add(alloc: Global, places: &[u32], blocks: Blocks, piece: Piece) -> Result<Bl
             freq,
             enter,
         } => {
-            done.push(block(head, ops, placed_end(places, end)))?;
-            Ok(Blocks {
-                done,
-                head: Head {
-                    params,
-                    freq,
-                    enter,
-                },
-                ops: Items::new(alloc),
-            })
+            let ops = taken(alloc, &mut blocks.ops)?;
+            let next = Head {
+                params,
+                freq,
+                enter,
+            };
+            let head = replace(&mut blocks.head, next);
+            blocks.done.push(block(head, ops, placed_end(places, end)))?;
+            Ok(())
         }
     }
 }
@@ -194,7 +201,7 @@ fn add_all(
 {
     let mut blocks = blocks;
     for piece in pieces {
-        blocks = add(alloc, places, blocks, piece)?;
+        add(alloc, places, &mut blocks, piece)?;
     }
     Ok(blocks)
 }

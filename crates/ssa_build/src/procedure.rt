@@ -42,6 +42,10 @@ pub fn lower_procedure(
     };
     let words = argument_words(procedure.formals.as_slice());
     let mut making = Making::new(alloc, words);
+    match making.reserve() {
+        Ok(_) => {}
+        Err(_) => return Err(LowerFault::Memory),
+    }
     let result = match lower_body(
         tables,
         &mut making,

@@ -48,6 +48,13 @@ const VALUES: u8 = 50;
 
 const BLOCKS: u8 = 51;
 
+/// How many pieces, changes of variables and labels most procedures have at most.
+const PIECES: usize = 64;
+
+const CHANGES: usize = 16;
+
+const LABELS: usize = 16;
+
 /// The code that is made so far, and what lowering knows where it stands. Where a limit is passed no more code is made.
 #[derive(Drop)]
 pub struct Making {
@@ -192,6 +199,16 @@ impl Making {
         ensures { self.new ≡ record self.old { known = record { env = env.items; log = self.old.known.log } } }
     {
         self.env = env;
+    }
+
+    /// Takes room for the code of most procedures at once.
+    pub fn reserve(&mut self) -> Result<(), LowerFault>
+        ensures { OnOk result (self.new ≡ self.old) }
+    {
+        self.made.reserve(PIECES)?;
+        self.log.reserve(CHANGES)?;
+        self.bounds.reserve(LABELS)?;
+        Ok(())
     }
 
     /// The number of the open block.

@@ -1,4 +1,4 @@
-use Rattle.std.proofs.Common.{◌≡◌, ℕ, List, [], ◌∷◌, ◌++◌, None, refl, sym, ap, ◌∙◌, subst}
+use Rattle.std.proofs.Common.{◌≡◌, ℕ, List, [], ◌∷◌, ◌++◌, None, refl, sym, ap, ◌∙◌, subst, nat_eq, length}
 use Rattle.ob_syntax.specs.Plain.{plain_expression, plain_each_added, plain_each_multiplied, plain_factor, plain_element, plain_selector, plain_each_selector, plain_list, plain_each_expression}
 use Rattle.ob_syntax.specs.declared.expressions.NextElement.{NextElement, out-NextElement}
 use Rattle.ob_syntax.specs.declared.expressions.NextExpression.{NextExpression, out-NextExpression}
@@ -24,8 +24,8 @@ use Rattle.check_operands.specs.calls.Given.{AreGiven}
 use Rattle.check_selectors.proofs.Selecting.{parens_any_is}
 use Rattle.check_selectors.specs.Behind.{standard_behind, call_behind, list_behind, parens_at}
 use Rattle.check_expressions.specs.Steps.{added_one, multiplied_one, indexed_one, arguments_from}
-use Rattle.check_expressions.proofs.Walking.{walk_on, walk_stops}
-use Rattle.check_expressions.proofs.Parts.{simple_is, term_is, added_law, multiplied_law, set_some, elements_law, factor_designator, indexed_is, indexed_law, given_with, given_more, given_law, given_last, arguments_is, related_other}
+use Rattle.check_expressions.proofs.Walking.{nil_of, none_of, walk_on, walk_stops}
+use Rattle.check_expressions.proofs.Parts.{simple_is, term_is, bare_simple_is, bare_term_is, added_law, multiplied_law, set_some, elements_law, factor_designator, indexed_is, indexed_law, given_with, given_more, given_law, given_last, arguments_is, related_other}
 use Rattle.check_expressions.proofs.walk.+walk.Goals as goal
 
 pub added-returns-in_err-x : goal.added-returns-in_err-x
@@ -63,7 +63,7 @@ indexed-loop-next-preserved t c = λ a h. walk_on (λ b xs. indexed_more c.args.
 pub arguments-loop-next-init : goal.arguments-loop-next-init
 arguments-loop-next-init t c = λ a h. record {
   so_far = a ∷ [];
-  stands = subst (λ (l : List Given). AreGiven c.args.scope.now l (a ∷ [])) (sym (c.in_ok-push.ensures.items ∙ ap (λ l. l ++ c.args.first ∷ []) c.new-all.ensures.items)) (h, tt);
+  stands = subst (λ (l : List Given). AreGiven c.args.scope.now l (a ∷ [])) (sym (c.in_ok-push.ensures.items ∙ ap (λ l. l ++ c.args.first ∷ []) c.in_ok-all.ensures.items)) (h, tt);
   same = refl;
 }
 
@@ -149,9 +149,18 @@ pub set-returns-in_ok-all-in-Some : goal.set-returns-in_ok-all-in-Some
 set-returns-in_ok-all-in-Some t c = as_judged (set_some c.args.scope.now.source.now (world_of c.args.scope.now) c.args.tree.now c.in-Some.elements c.in-Some.is) (goes_on _ _ (c.in_ok-first-in-Some.ensures (Literal 0) (ap (λ (v : Value). plain_expr (table_of c.args.scope.now) (texts_of c.args.scope.now) v.tree) c.new-none.ensures)) (λ x e. goes_on _ _ (as_judged (ap (λ es. with_elements c.args.scope.now.source.now (world_of c.args.scope.now) x (plain_each_element es)) (sym c.deref.ensures.value)) (c.in_ok-all-in-Some.ensures x e))
     (λ y f. record { by = c.value.ensures c.args.scope.now Set y refl (ap (plain_expr (table_of c.args.scope.now) (texts_of c.args.scope.now)) c.into_tree.ensures ∙ f) })))
 
+pub simple-returns-then-is_empty : goal.simple-returns-then-is_empty
+simple-returns-then-is_empty t c = as_judged (bare_simple_is c.args.scope.now.source.now (world_of c.args.scope.now) c.args.tree.now
+    (none_of _ c.is_none.result c.is_none.ensures c.if-is_none.true)
+    (nil_of _ c.is_empty.result (c.is_empty.ensures ∙ ap (λ xs. nat_eq (length xs) 0) c.as_slice.ensures.value) c.if-is_empty.true)) c.term.ensures
+
 pub simple-returns : goal.simple-returns
 simple-returns t c = as_judged (simple_is c.args.scope.now.source.now (world_of c.args.scope.now) c.args.tree.now) (goes_on _ _ c.in_ok-x.ensures (λ a h. goes_on _ _ (c.in_ok-y.ensures a h)
     (λ b k. as_judged (ap (λ xs. added c.args.scope.now.source.now (world_of c.args.scope.now) b (plain_each_added xs)) (sym c.deref.ensures.value)) (c.added.ensures b k))))
+
+pub term-returns-then-is_empty : goal.term-returns-then-is_empty
+term-returns-then-is_empty t c = as_judged (bare_term_is c.args.scope.now.source.now (world_of c.args.scope.now) c.args.tree.now
+    (nil_of _ c.is_empty.result (c.is_empty.ensures ∙ ap (λ xs. nat_eq (length xs) 0) c.as_slice.ensures.value) c.if-is_empty.true)) c.factor.ensures
 
 pub term-returns : goal.term-returns
 term-returns t c = as_judged (term_is c.args.scope.now.source.now (world_of c.args.scope.now) c.args.tree.now) (goes_on _ _ c.in_ok-x.ensures (λ a h. as_judged (ap (λ xs. multiplied c.args.scope.now.source.now (world_of c.args.scope.now) a (plain_each_multiplied xs)) (sym c.deref.ensures.value)) (c.multiplied.ensures a h)))

@@ -38,7 +38,7 @@ pub more_terms-returns-in_err-next : goal.more_terms-returns-in_err-next
 more_terms-returns-in_err-next t c = gives_err _ c.from_residual.result c.from_residual.ensures.1 (fails_round c.rounds.invariant c.in-Some.ensures.here (fails_then c.in-Some.ensures.read c.in_err-next.ensures))
 
 pub more_terms-rounds-preserved : goal.more_terms-rounds-preserved
-more_terms-rounds-preserved t c = one_more added_text _ _ _ c.in_ok-push.ensures.items c.rounds.invariant c.in-Some.ensures.here (as_text (added_is _ _) (reads_then c.in-Some.ensures.read c.in_ok-next.ensures))
+more_terms-rounds-preserved t c = one_more added_text _ _ _ c.in_ok-add.ensures c.rounds.invariant c.in-Some.ensures.here (as_text (added_is _ _) (reads_then c.in-Some.ensures.read c.in_ok-next.ensures))
 
 pub more_terms-returns : goal.more_terms-returns
 more_terms-returns t c = rounds_over c.rounds.invariant c.in_default.ensures.none c.in_default.ensures
@@ -56,7 +56,7 @@ pub more_factors-returns-in_err-next : goal.more_factors-returns-in_err-next
 more_factors-returns-in_err-next t c = gives_err _ c.from_residual.result c.from_residual.ensures.1 (fails_round c.rounds.invariant c.in-Some.ensures.here (fails_then c.in-Some.ensures.read c.in_err-next.ensures))
 
 pub more_factors-rounds-preserved : goal.more_factors-rounds-preserved
-more_factors-rounds-preserved t c = one_more multiplied_text _ _ _ c.in_ok-push.ensures.items c.rounds.invariant c.in-Some.ensures.here (reads_then c.in-Some.ensures.read c.in_ok-next.ensures)
+more_factors-rounds-preserved t c = one_more multiplied_text _ _ _ c.in_ok-add.ensures c.rounds.invariant c.in-Some.ensures.here (reads_then c.in-Some.ensures.read c.in_ok-next.ensures)
 
 pub more_factors-returns : goal.more_factors-returns
 more_factors-returns t c = rounds_over c.rounds.invariant c.in_default.ensures.none c.in_default.ensures
@@ -82,8 +82,8 @@ factor-returns-then-is_at-6 t c = reads_part (reads_right c.if-is_at.ensures.tel
 pub factor-returns-in_err-set : goal.factor-returns-in_err-set
 factor-returns-in_err-set t c = gives_err _ c.from_residual.result c.from_residual.ensures.1 (fails_part (fails_right c.if-is_at.ensures.tells (fails_right c.if-is_at-2.ensures.tells (fails_right c.if-is_at-3.ensures.tells (fails_right c.if-is_at-4.ensures.tells (fails_right c.if-is_at-5.ensures.tells (fails_right c.if-is_at-6.ensures.tells (fails_left c.if-is_at-7.ensures.tells c.in_err-set.ensures))))))))
 
-pub factor-returns-in_ok-held : goal.factor-returns-in_ok-held
-factor-returns-in_ok-held t c = as_text (ap set_text c.in_ok-held.ensures.ok) (reads_part (reads_right c.if-is_at.ensures.tells (reads_right c.if-is_at-2.ensures.tells (reads_right c.if-is_at-3.ensures.tells (reads_right c.if-is_at-4.ensures.tells (reads_right c.if-is_at-5.ensures.tells (reads_right c.if-is_at-6.ensures.tells (reads_left c.if-is_at-7.ensures.tells c.in_ok-set.ensures))))))))
+pub factor-returns-in_ok-set : goal.factor-returns-in_ok-set
+factor-returns-in_ok-set t c = reads_part (reads_right c.if-is_at.ensures.tells (reads_right c.if-is_at-2.ensures.tells (reads_right c.if-is_at-3.ensures.tells (reads_right c.if-is_at-4.ensures.tells (reads_right c.if-is_at-5.ensures.tells (reads_right c.if-is_at-6.ensures.tells (reads_left c.if-is_at-7.ensures.tells c.in_ok-set.ensures)))))))
 
 pub factor-returns-in_err-designator : goal.factor-returns-in_err-designator
 factor-returns-in_err-designator t c = gives_err _ c.from_residual-in_err-designator.result c.from_residual-in_err-designator.ensures.1 (fails_part (fails_right c.if-is_at.ensures.tells (fails_right c.if-is_at-2.ensures.tells (fails_right c.if-is_at-3.ensures.tells (fails_right c.if-is_at-4.ensures.tells (fails_right c.if-is_at-5.ensures.tells (fails_right c.if-is_at-6.ensures.tells (fails_right c.if-is_at-7.ensures.tells (fails_left c.if-is_at-8.ensures.tells c.in_err-designator.ensures)))))))))
@@ -102,6 +102,12 @@ factor-returns-in_err-negation t c = gives_err _ c.from_residual-in_err-negation
 
 pub factor-returns-in_ok-negation : goal.factor-returns-in_ok-negation
 factor-returns-in_ok-negation t c = reads_part (reads_right c.if-is_at.ensures.tells (reads_right c.if-is_at-2.ensures.tells (reads_right c.if-is_at-3.ensures.tells (reads_right c.if-is_at-4.ensures.tells (reads_right c.if-is_at-5.ensures.tells (reads_right c.if-is_at-6.ensures.tells (reads_right c.if-is_at-7.ensures.tells (reads_right c.if-is_at-8.ensures.tells (reads_right c.if-is_at-9.ensures.tells c.in_ok-negation.ensures)))))))))
+
+pub set_factor-returns-in_err-set : goal.set_factor-returns-in_err-set
+set_factor-returns-in_err-set t c = gives_err _ c.from_residual.result c.from_residual.ensures.1 c.in_err-set.ensures
+
+pub set_factor-returns : goal.set_factor-returns
+set_factor-returns t c = as_text (ap set_text c.in_ok-held.ensures.ok) c.in_ok-set.ensures
 
 pub paren-returns-in_err-left_paren : goal.paren-returns-in_err-left_paren
 paren-returns-in_err-left_paren t c = gives_err _ c.from_residual.result c.from_residual.ensures.1 (c.in_err-left_paren.ensures _)
@@ -137,7 +143,7 @@ pub more_expressions-returns-in_err-next : goal.more_expressions-returns-in_err-
 more_expressions-returns-in_err-next t c = gives_err _ c.from_residual.result c.from_residual.ensures.1 (fails_round c.rounds.invariant c.in-Some.ensures.here (fails_then c.in-Some.ensures.read c.in_err-next.ensures))
 
 pub more_expressions-rounds-preserved : goal.more_expressions-rounds-preserved
-more_expressions-rounds-preserved t c = one_more next_expression_text _ _ _ c.in_ok-push.ensures.items c.rounds.invariant c.in-Some.ensures.here (as_text (next_expression_is _ _) (reads_then c.in-Some.ensures.read c.in_ok-next.ensures))
+more_expressions-rounds-preserved t c = one_more next_expression_text _ _ _ c.in_ok-add.ensures c.rounds.invariant c.in-Some.ensures.here (as_text (next_expression_is _ _) (reads_then c.in-Some.ensures.read c.in_ok-next.ensures))
 
 pub more_expressions-returns : goal.more_expressions-returns
 more_expressions-returns t c = rounds_over c.rounds.invariant c.in_default.ensures.none c.in_default.ensures
@@ -149,7 +155,7 @@ pub designator-returns-in_err-next : goal.designator-returns-in_err-next
 designator-returns-in_err-next t c = gives_err _ c.from_residual-in_err-next.result c.from_residual-in_err-next.ensures.1 (fails_part (fails_then c.in_ok-name.ensures.gives (fails_round c.rounds.invariant c.rounds-test.ensures c.in_err-next.ensures.gives)))
 
 pub designator-rounds-preserved : goal.designator-rounds-preserved
-designator-rounds-preserved t c = one_more selector_text _ _ _ c.in_ok-push.ensures.items c.rounds.invariant c.rounds-test.ensures c.in_ok-next.ensures.gives
+designator-rounds-preserved t c = one_more selector_text _ _ _ c.in_ok-add.ensures c.rounds.invariant c.rounds-test.ensures c.in_ok-next.ensures.gives
 
 pub designator-returns : goal.designator-returns
 designator-returns t c = reads_part (reads_then c.in_ok-name.ensures.gives (end_rounds c.rounds.invariant c.rounds-test.ensures))
@@ -236,7 +242,7 @@ pub more_elements-returns-in_err-next : goal.more_elements-returns-in_err-next
 more_elements-returns-in_err-next t c = gives_err _ c.from_residual.result c.from_residual.ensures.1 (fails_round c.rounds.invariant c.in-Some.ensures.here (fails_then c.in-Some.ensures.read c.in_err-next.ensures))
 
 pub more_elements-rounds-preserved : goal.more_elements-rounds-preserved
-more_elements-rounds-preserved t c = one_more next_element_text _ _ _ c.in_ok-push.ensures.items c.rounds.invariant c.in-Some.ensures.here (as_text (next_element_is _ _) (reads_then c.in-Some.ensures.read c.in_ok-next.ensures))
+more_elements-rounds-preserved t c = one_more next_element_text _ _ _ c.in_ok-add.ensures c.rounds.invariant c.in-Some.ensures.here (as_text (next_element_is _ _) (reads_then c.in-Some.ensures.read c.in_ok-next.ensures))
 
 pub more_elements-returns : goal.more_elements-returns
 more_elements-returns t c = rounds_over c.rounds.invariant c.in_default.ensures.none c.in_default.ensures

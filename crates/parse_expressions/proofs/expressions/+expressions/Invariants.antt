@@ -51,6 +51,9 @@ decreases-paren l = rank l.parser.now 9
 abbrev pub decreases-negation : goal.decreases-negation
 decreases-negation l = rank l.parser.now 8
 
+abbrev pub decreases-set_factor : goal.decreases-set_factor
+decreases-set_factor l = rank l.parser.now 8
+
 abbrev pub decreases-set : goal.decreases-set
 decreases-set l = rank l.parser.now 7
 

@@ -9,7 +9,7 @@ use Rattle.ssa_build.proofs.finish.add_all.Goals as goal
 
 pub loop-piece-preserved : goal.loop-piece-preserved
 loop-piece-preserved c = λ rest last.
-    c.in_ok-blocks.ensures (resolved (λ t. slice_index c.args.places.now t) rest) last
+    c.in_ok-add.ensures (resolved (λ t. slice_index c.args.places.now t) rest) last
     ∙ c.loop-piece.invariant (c.in-Some.piece ∷ rest) last
     ∙ ap (λ ps. finished c.args.blocks last (resolved (λ t. slice_index c.args.places.now t) ps)) (sym (append_assoc c.loop-piece.yielded (c.in-Some.piece ∷ []) rest))
 
