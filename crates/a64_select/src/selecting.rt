@@ -18,7 +18,7 @@ use ssa_core::{Block, Op, Proc};
 use std::alloc::{AllocError, Global};
 
 /// Whether an operation is a call, which leaves nothing in registers.
-fn is_call(code: Code) -> bool
+pub(crate) fn is_call(code: Code) -> bool
     ensures { result ≡ is_call code }
 {
     matches!(
@@ -49,7 +49,7 @@ fn lirs_of(alloc: Global, ops: &[Op]) -> Result<Items<Lir>, AllocError>
 }
 
 /// Where an edge to a block leads, if the next new node has this number.
-fn redirected(joins: &[bool], next: u32, to: u32) -> u32
+pub(crate) fn redirected(joins: &[bool], next: u32, to: u32) -> u32
     requires { to < length joins.now }
     ensures { result ≡ redirected joins.now next to }
 {
@@ -91,7 +91,7 @@ fn split_end(alloc: Global, joins: &[bool], next: u32, end: &End) -> Result<End,
 }
 
 /// The next new node's number behind an edge to a block.
-fn behind(joins: &[bool], next: u32, to: u32) -> u32
+pub(crate) fn behind(joins: &[bool], next: u32, to: u32) -> u32
     requires target { to < length joins.now }
     requires few { next + 1 < 2 ^ 32 }
     ensures { result ≡ behind joins.now next to }
@@ -171,7 +171,7 @@ fn add_two_nodes(
 }
 
 /// Adds the nodes on the edges of an end.
-fn add_edge_nodes(
+pub(crate) fn add_edge_nodes(
     alloc: Global,
     nodes: &mut Vec<Node>,
     blocks: &[Block],
