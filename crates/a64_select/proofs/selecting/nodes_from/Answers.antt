@@ -9,7 +9,7 @@ use Rattle.ssa_core.specs.Procedures.{code_blocks}
 use Rattle.a64_select.specs.Selected.{joins_of, old_nodes, new_nodes, split_nodes}
 use Rattle.a64_select.specs.Making.{no_node}
 use Rattle.a64_select.proofs.Targets.{nodes_lead, no_preds_old, few_nodes, length-joins_of}
-use Rattle.a64_select.proofs.taking.nodes_from.Goals as goal
+use Rattle.a64_select.proofs.selecting.nodes_from.Goals as goal
 
 pub edge_nodes-requires-clause-same : goal.edge_nodes-requires-clause-same
 edge_nodes-requires-clause-same c =

@@ -1,7 +1,7 @@
 use Rattle.std.proofs.Common.{◌∙◌, ap, ◌++◌, ◌∷◌, []}
 use Rattle.std.specs.Vec.Iter.{into_iter_items}
 use Rattle.a64_select.proofs.Taken.{taken_more}
-use Rattle.a64_select.proofs.taking.block_nodes.Goals as goal
+use Rattle.a64_select.proofs.selecting.block_nodes.Goals as goal
 
 pub loop-block-preserved : goal.loop-block-preserved
 loop-block-preserved c =
