@@ -9,3 +9,4 @@ pub mod Validity
 pub mod Split
 pub mod FlowValid
 pub mod Rows
+pub mod Taken

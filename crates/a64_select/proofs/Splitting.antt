@@ -1,7 +1,7 @@
 -- What a flow's nodes are as code.
-use Rattle.std.proofs.Common.{◌≡◌, ℕ, suc, ◌+◌, ◌*◌, ◌<◌, ◌≤◌, Bool, true, false, cond, List, [], ◌∷◌, ◌++◌, map, length, drop, get_or, refl, sym, ap, ◌∙◌, arith}
+use Rattle.std.proofs.Common.{◌≡◌, ℕ, suc, ◌+◌, ◌≤◌, Bool, true, false, cond, List, [], ◌∷◌, ◌++◌, map, length, refl, sym, ap, ◌∙◌, arith}
 use Rattle.std.specs.Prelude.{filter}
-use Rattle.std.proofs.lemmas.List.{append-nil, append_assoc, length-append, length-map, map-append, at_drop_more, at_drop_all}
+use Rattle.std.proofs.lemmas.List.{length-map, map-append}
 use Rattle.std.proofs.lemmas.Simd.{map-map}
 use Rattle.block_runs.specs.declared.end.End.{End}
 use Rattle.block_runs.specs.declared.end.End.TheVariants.{Jump, Branch, Nonzero, Return, Trap}
@@ -12,7 +12,7 @@ use Rattle.ssa_core.specs.Procedures.{code_block, code_blocks}
 use Rattle.ssa_core.specs.Procedures.{operation_of as of_op}
 use Rattle.lir_core.specs.declared.flow.Node.{Node}
 use Rattle.lir_core.specs.Flows.{code_node, code_nodes, operation_of}
-use Rattle.a64_select.specs.Selected.{joins_of, is_join, split_targets, split_end, lir_of, node_of, old_nodes, edge_node, new_nodes, with_preds}
+use Rattle.a64_select.specs.Selected.{joins_of, is_join, split_targets, split_end, lir_of, old_nodes, edge_node, new_nodes, with_preds}
 use Rattle.a64_select.specs.Carrying.{new_targets}
 
 -- a new node as code
@@ -77,42 +77,3 @@ split_targets_few joins (Branch k a b one other) = length_filter_two (is_join jo
 split_targets_few joins (Nonzero a one other) = length_filter_two (is_join joins) one other
 split_targets_few joins (Return a) = omega arith
 split_targets_few joins (Trap kind) = omega arith
-
--- the nodes made of the blocks below i, and what is still to come
-pub record AreSplit (joins : List Bool) (blocks : List Block) (i : ℕ) (old new : List Node) : Type 0 where
-  pub olds : old ++ old_nodes joins (length blocks + length new) (drop i blocks) ≡ old_nodes joins (length blocks) blocks
-  pub news : new ++ new_nodes joins blocks (drop i blocks) ≡ new_nodes joins blocks blocks
-  pub few : length new ≤ 2 * i
-
-pub split_start : (joins : List Bool) (blocks : List Block) → AreSplit joins blocks 0 [] []
-split_start joins blocks = record { olds = let e : length blocks + 0 ≡ length blocks = omega arith in ap (λ n. old_nodes joins n blocks) e; news = refl; few = omega arith }
-
-pub split_next : (joins : List Bool) (blocks : List Block) (i : ℕ) (old new old' new' : List Node) (b : Block) (next : ℕ) → i < length blocks → b ≡ get_or blocks i b → next ≡ length blocks + length new → AreSplit joins blocks i old new
-    → old' ≡ old ++ node_of joins next b ∷ [] → new' ≡ new ++ map (edge_node blocks b.freq) (split_targets joins b.end) → AreSplit joins blocks (i + 1) old' new'
-split_next joins blocks i old new old' new' b next l e m h o n = record {
-  olds =
-      ap (λ xs. xs ++ old_nodes joins (length blocks + length new') (drop (i + 1) blocks)) (o ∙ ap (λ k. old ++ node_of joins k b ∷ []) m)
-      ∙ (ap (λ k. (old ++ node_of joins (length blocks + length new) b ∷ []) ++ old_nodes joins k (drop (i + 1) blocks)) longer
-      ∙ (append_assoc old (node_of joins (length blocks + length new) b ∷ []) (old_nodes joins (length blocks + length new + length (split_targets joins b.end)) (drop (i + 1) blocks))
-      ∙ (ap (λ xs. old ++ old_nodes joins (length blocks + length new) xs) (sym there) ∙ h.olds)));
-  news =
-      ap (λ xs. xs ++ new_nodes joins blocks (drop (i + 1) blocks)) n
-      ∙ (append_assoc new (map (edge_node blocks b.freq) (split_targets joins b.end)) (new_nodes joins blocks (drop (i + 1) blocks))
-      ∙ (ap (λ xs. new ++ new_nodes joins blocks xs) (sym there) ∙ h.news));
-  few = let s = size in let f = h.few in let k = split_targets_few joins b.end in omega (arith, s, f, k);
-}
-  where
-    there : drop i blocks ≡ b ∷ drop (i + 1) blocks
-    there = at_drop_more (λ xs. xs) blocks i b l ∙ ap (λ x. x ∷ drop (i + 1) blocks) (sym e)
-
-    size : length new' ≡ length new + length (split_targets joins b.end)
-    size = ap length n ∙ (length-append new (map (edge_node blocks b.freq) (split_targets joins b.end)) ∙ ap (λ k. length new + k) (length-map (split_targets joins b.end) (edge_node blocks b.freq)))
-
-    longer : length blocks + length new' ≡ length blocks + length new + length (split_targets joins b.end)
-    longer = omega (arith, size)
-
-pub split_done : (joins : List Bool) (blocks : List Block) (i : ℕ) (old new : List Node) → length blocks ≤ i → AreSplit joins blocks i old new → old ++ new ≡ old_nodes joins (length blocks) blocks ++ new_nodes joins blocks blocks
-split_done joins blocks i old new l h =
-    let o : old ≡ old_nodes joins (length blocks) blocks = sym (append-nil old) ∙ (ap (λ xs. old ++ xs) (sym (at_drop_all (old_nodes joins (length blocks + length new)) blocks i l)) ∙ h.olds) in
-    let n : new ≡ new_nodes joins blocks blocks = sym (append-nil new) ∙ (ap (λ xs. new ++ xs) (sym (at_drop_all (new_nodes joins blocks) blocks i l)) ∙ h.news) in
-    ap (λ xs. xs ++ new) o ∙ ap (λ xs. old_nodes joins (length blocks) blocks ++ xs) n

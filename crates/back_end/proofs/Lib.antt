@@ -1,2 +1,3 @@
 pub mod Ready
 pub mod Reading
+pub mod Letting

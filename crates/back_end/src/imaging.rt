@@ -58,7 +58,7 @@ pub fn image_of<G: Gate, R: Threads + Wait + Sync>(
         → (cuts : List Cut) × AreCutsOf choice.now procedures cuts × (AreSmall cuts → ⊥)) }
     ensures modest { All HasFewValues procedures → IfErr result (λ fault. fault ≡ Misfit → ⊥) }
 {
-    let flows = flows_of(alloc, procedures)?;
+    let flows = select_all(alloc, procedures)?;
     let allocated = allocate_flows(rt, alloc, choice, flows.as_slice(), gate)?;
     let parts = allocated.parts.as_slice();
     match link(
@@ -76,25 +76,15 @@ pub fn image_of<G: Gate, R: Threads + Wait + Sync>(
     }
 }
 
-// The flows of procedures, which are let go.
-fn flows_of(alloc: Global, procedures: Items<Proc>) -> Result<Vec<Flow>, ImageFault>
+/// The flows of procedures, each selected and let go.
+pub fn select_all(alloc: Global, procedures: Items<Proc>) -> Result<Vec<Flow>, ImageFault>
     requires { All IsReady procedures }
     ensures flows { IfOk result (λ flows. flows.items ≡ map selected procedures) }
     ensures numbers { IfOk result (λ flows. All (λ f. node_numbers f.nodes ≡ true) flows.items) }
     ensures memory { IfErr result (λ fault. fault ≡ OutOfMemory) }
 {
-    select_all(alloc, procedures.as_slice())
-}
-
-/// The flows of procedures, each selected.
-pub fn select_all(alloc: Global, procedures: &[Proc]) -> Result<Vec<Flow>, ImageFault>
-    requires { All IsReady procedures.now }
-    ensures flows { IfOk result (λ flows. flows.items ≡ map selected procedures.now) }
-    ensures numbers { IfOk result (λ flows. All (λ f. node_numbers f.nodes ≡ true) flows.items) }
-    ensures memory { IfErr result (λ fault. fault ≡ OutOfMemory) }
-{
-    let mut flows = Vec::new(alloc);
-    for procedure in procedures {
+    let mut flows = Vec::with_capacity(alloc, procedures.len())?;
+    for procedure in procedures.into_vec() {
         let flow = select(alloc, procedure)?;
         read_nodes(flow.nodes.as_slice());
         flows.push(flow)?;

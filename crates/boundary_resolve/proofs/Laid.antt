@@ -31,6 +31,10 @@ edge_pushed from to params args moves slice steps steps' old new rising is same 
     let d : AreDistinct slice = subst AreDistinct (sym all) (moves_distinct from to (argument_of params args) rising) in
     more ∙ ap (λ (x : List Step). old ++ map Edge x) (again ∙ ordered d ∙ ap order_of all)
 
+-- nothing moves on an edge
+pub edge_kept : (from to : Places) (params args : List ℕ) (moves : List Move) (old : List Placed) → moves ≡ edge_moves from to (argument_of params args) → order_of moves ≡ [] → old ≡ old ++ map Edge (order_of (edge_moves from to (argument_of params args)))
+edge_kept from to params args moves old is none = sym (append-nil old) ∙ ap (λ (x : List Step). old ++ map Edge x) (sym (sym (ap order_of is) ∙ none))
+
 -- the same edge
 pub same_edge : (from from' to to' : Places) (params params' args args' : List ℕ) → from ≡ from' → to ≡ to' → params ≡ params' → args ≡ args' → order_of (edge_moves from to (argument_of params args)) ≡ order_of (edge_moves from' to' (argument_of params' args'))
 same_edge from from' to to' params params' args args' a b c d =

@@ -2,3 +2,4 @@ pub mod Crossing
 pub mod Between
 pub mod Sought
 pub mod Laid
+pub mod Seated

@@ -1,6 +1,6 @@
 -- The tables that find where values are before an edge.
-use Rattle.std.proofs.Common.{◌≡◌, ℕ, suc, ◌+◌, ◌<◌, ◌≤◌, Bool, true, false, ◌&&◌, ◌||◌, cond, List, [], ◌∷◌, ◌++◌, length, take, drop, get_or, Option, Some, None, refl, sym, ap, ap₂, ◌∙◌, subst, arith}
-use Rattle.std.specs.Prelude.{◌==◌, nat_lt, min, unwrap_or}
+use Rattle.std.proofs.Common.{◌≡◌, ℕ, suc, ◌+◌, ◌<◌, ◌≤◌, Bool, true, false, ◌&&◌, ◌||◌, cond, not, List, [], ◌∷◌, ◌++◌, length, map, filter, take, drop, get_or, Option, Some, None, refl, sym, ap, ap₂, ◌∙◌, subst, arith}
+use Rattle.std.specs.Prelude.{◌==◌, nat_lt, nat_le, min, unwrap_or}
 use Rattle.std.specs.Ordering.{nat_cmp, is_eq}
 use Rattle.std.specs.Cmp.{nat_cmp_is}
 use Rattle.std.specs.declared.cmp.Ordering.TheVariants.{Less, Equal, Greater}
@@ -10,17 +10,18 @@ use Rattle.std.specs.BTreeSet.{BTreeSet, contains}
 use Rattle.std.specs.BTreeSet.{Updates as Adds}
 use Rattle.std.proofs.lemmas.Bool.{eqb-true, eq-eqb, ltb-true}
 use Rattle.std.proofs.lemmas.Bool.Decides.{nat_tests}
-use Rattle.std.proofs.lemmas.List.{take_more, drop_more, drop_all, append_assoc}
+use Rattle.std.proofs.lemmas.List.{take_more, drop_more, drop_all, append_assoc, append-nil}
 use Rattle.block_runs.specs.Live.{has}
 use Rattle.lir_core.specs.declared.places.Place.{Place}
-use Rattle.lir_core.specs.declared.places.Place.TheVariants.{Reg, Home}
+use Rattle.lir_core.specs.declared.places.Place.TheVariants.{Reg, Home, Out}
 use Rattle.lir_core.specs.declared.places.Move.{Move}
 use Rattle.lir_core.specs.declared.places.Places.{Places}
-use Rattle.lir_core.specs.Spots.{argument_of}
+use Rattle.lir_core.specs.Spots.{argument_of, same, spot}
 use Rattle.global_live.proofs.Lists.{has-append}
+use Rattle.parallel_move.specs.Order.{is_moving, pending, ordered, order_of}
 use Rattle.boundary_resolve.specs.declared.moves.Before.{Before}
 use Rattle.boundary_resolve.specs.Moves.{register_of, register_or_home, place_of, reg_moves, home_moves, stays_home, edge_moves, FewRegs}
-use Rattle.boundary_resolve.specs.Before.{place_before, stays_before, HasFew, HasHomes, HasArguments, IsBefore}
+use Rattle.boundary_resolve.specs.Before.{argument_before, place_before, stays_before, moves_before, HasFew, HasHomes, HasArguments, IsBefore}
 
 at_key : (x y : ℕ) → is_eq (nat_cmp x y) ≡ (x == y)
 at_key x y = at_equal (x == y) refl (nat_lt x y) refl
@@ -73,6 +74,22 @@ arguments_more params args i j p a before after h is lp la at_p at_a puts v =
     at_test true e = sym (ap (λ b. cond b a (argument_of (drop i params) (drop i args) v)) (turned true e))
     at_test false e = h v ∙ sym (ap (λ b. cond b a (argument_of (drop i params) (drop i args) v)) (turned false e))
 
+pub argument_alone : (params args : List ℕ) (i v : ℕ) → length args ≤ i → argument_of (drop i params) (drop i args) v ≡ v
+argument_alone params args i v past = none (drop i params) (drop i args) (drop_all i args past)
+  where
+    none : (xs ys : List ℕ) → ys ≡ [] → argument_of xs ys v ≡ v
+    none [] ys e = refl
+    none (x ∷ xs) ys e = ap (λ z. argument_of (x ∷ xs) z v) e
+
+pub argument_further : (params args : List ℕ) (i p v : ℕ) → i < length params → i < length args → p ≡ get_or params i 0 → (p ≡ v → ⊥) → argument_of (drop i params) (drop i args) v ≡ argument_of (drop (i + 1) params) (drop (i + 1) args) v
+argument_further params args i p v lp la is other =
+    ap₂ (λ xs ys. argument_of xs ys v) (drop_more params i 0 lp ∙ ap (λ y. y ∷ drop (i + 1) params) (sym is)) (drop_more args i 0 la)
+    ∙ ap (λ b. cond b (get_or args i 0) (argument_of (drop (i + 1) params) (drop (i + 1) args) v)) (at_test (v == p) refl)
+  where
+    at_test : (b : Bool) → (v == p) ≡ b → b ≡ false
+    at_test true e = absurd (other (sym (eqb-true v p e)))
+    at_test false e = refl
+
 ---- Moves
 
 reg_same : (f g : ℕ → Place) → ((v : ℕ) → f v ≡ g v) → (i : ℕ) (regs : List (Option ℕ)) → reg_moves f i regs ≡ reg_moves g i regs
@@ -86,17 +103,59 @@ home_same s t f g e h (v ∷ vs) =
     ap₂ (λ p ms. cond (s v) ms (let m : Move = record { to = Home v; from = p } in m ∷ ms)) (h v) (home_same s t f g e h vs)
     ∙ ap (λ b. cond b (home_moves t g vs) (let m : Move = record { to = Home v; from = g v } in m ∷ home_moves t g vs)) (e v)
 
-pub moves_are : (before after : Places) (params args : List ℕ) (b : Before) (regs_moves all_moves : List Move) → IsBefore before params args b → FewRegs before → FewRegs after → (HasFew b → length after.regs ≤ 16 → regs_moves ≡ reg_moves (place_before b) 0 after.regs) → (HasFew b → all_moves ≡ regs_moves ++ home_moves (stays_before b) (place_before b) after.homed) → all_moves ≡ edge_moves before after (argument_of params args)
-moves_are before after params args b regs_moves all_moves is few_before few_after regs homes =
-    let few : HasFew b = subst (λ (rs : List (Option ℕ)). length rs ≤ 16) (sym is.regs) few_before in
-    homes few
-    ∙ ap₂ (λ (x y : List Move). x ++ y) (regs few few_after ∙ reg_same (place_before b) (λ v. place_of before (argument_of params args v)) place_is 0 after.regs) (home_same (stays_before b) (stays_home before (argument_of params args)) (place_before b) (λ v. place_of before (argument_of params args v)) stays_is place_is after.homed)
+pub before_is : (before after : Places) (params args : List ℕ) (b : Before) → IsBefore before params args b → moves_before b after ≡ edge_moves before after (argument_of params args)
+before_is before after params args b is =
+    ap₂ (λ (x y : List Move). x ++ y)
+    (reg_same (place_before b) (λ v. place_of before (argument_of params args v)) place_is 0 after.regs)
+    (home_same (stays_before b) (stays_home before (argument_of params args)) (place_before b) (λ v. place_of before (argument_of params args v)) stays_is place_is after.homed)
   where
     place_is : (v : ℕ) → place_before b v ≡ place_of before (argument_of params args v)
     place_is v = ap₂ (λ rs u. register_or_home (register_of rs 0 u) u) is.regs (is.arguments v)
 
     stays_is : (v : ℕ) → stays_before b v ≡ stays_home before (argument_of params args) v
     stays_is v = ap₂ (λ x u. x && u == v) (is.homed v) (is.arguments v)
+
+pub has_few : (before : Places) (params args : List ℕ) (b : Before) → IsBefore before params args b → FewRegs before → HasFew b
+has_few before params args b is few = subst (λ (rs : List (Option ℕ)). length rs ≤ 16) (sym is.regs) few
+
+---- Edges on which nothing moves
+
+same_place : (p : Place) → same (spot p) (spot p) ≡ true
+same_place (Reg r) = eq-eqb r r refl
+same_place (Home v) = eq-eqb v v refl
+same_place (Out k) = eq-eqb k k refl
+
+not_moving : (m : Move) → m.from ≡ m.to → is_moving m ≡ false
+not_moving m e = ap (λ p. not (same (spot m.to) (spot p))) e ∙ ap not (same_place m.to)
+
+pub kept_step : (from : ℕ → Place) (regs : List (Option ℕ)) (i : ℕ) (held : Option ℕ) (all : List Move) → i < length regs → held ≡ get_or regs i None → ((v : ℕ) → held ≡ Some v → from v ≡ Reg i) → all ≡ filter is_moving (reg_moves from i (drop i regs)) → all ≡ filter is_moving (reg_moves from (i + 1) (drop (i + 1) regs))
+kept_step from regs i held all lt is kept e =
+    e ∙ ap (λ x. filter is_moving (reg_moves from i x)) (drop_more regs i None lt ∙ ap (λ y. y ∷ drop (i + 1) regs) (sym is)) ∙ at_held held kept
+    ∙ ap (λ k. filter is_moving (reg_moves from k (drop (i + 1) regs))) (let one : suc i ≡ i + 1 = omega arith in one)
+  where
+    at_held : (h : Option ℕ) → ((v : ℕ) → h ≡ Some v → from v ≡ Reg i) → filter is_moving (reg_moves from i (h ∷ drop (i + 1) regs)) ≡ filter is_moving (reg_moves from (suc i) (drop (i + 1) regs))
+    at_held None k = refl
+    at_held (Some v) k =
+        let m : Move = record { to = Reg i; from = from v } in
+        ap (λ b. cond b (m ∷ filter is_moving (reg_moves from (suc i) (drop (i + 1) regs))) (filter is_moving (reg_moves from (suc i) (drop (i + 1) regs)))) (not_moving m (k v refl))
+
+pub nothing_moves : (xs ys : List Move) → filter is_moving xs ≡ [] → ys ≡ [] → order_of (xs ++ ys) ≡ []
+nothing_moves xs ys e none =
+    ap (λ z. order_of (xs ++ z)) none ∙ ap order_of (append-nil xs) ∙ ap (λ (fs : List Move). ordered (length (map pending fs)) (map pending fs)) e
+
+pub stays_step : (stays : ℕ → Bool) (from : ℕ → Place) (vs : List ℕ) (i v : ℕ) → i < length vs → v ≡ get_or vs i 0 → stays v ≡ true → home_moves stays from (drop i vs) ≡ home_moves stays from (drop (i + 1) vs)
+stays_step stays from vs i v lt is s =
+    ap (home_moves stays from) (drop_more vs i 0 lt ∙ ap (λ y. y ∷ drop (i + 1) vs) (sym is))
+    ∙ ap (λ b. cond b (home_moves stays from (drop (i + 1) vs)) ((record { to = Home v; from = from v }) ∷ home_moves stays from (drop (i + 1) vs))) s
+
+---- The table of arguments
+
+pub arguments_are : (b : Before) (params args : List ℕ) → b.params.now ≡ params → b.args.now ≡ args → (8 < length params → HasArguments params args b.arguments) → (v : ℕ) → argument_before b v ≡ argument_of params args v
+arguments_are b params args p a table v = ap₂ (λ xs ys. cond (nat_le (length xs) 8) (argument_of xs ys v) (unwrap_or (get nat_cmp b.arguments v) v)) p a ∙ at_test (nat_le (length params) 8) refl
+  where
+    at_test : (t : Bool) → nat_le (length params) 8 ≡ t → cond t (argument_of params args v) (unwrap_or (get nat_cmp b.arguments v) v) ≡ argument_of params args v
+    at_test true e = refl
+    at_test false e = table (grind (arith, nat_tests)) v
 
 pub home_step : (stays : ℕ → Bool) (from : ℕ → Place) (vs : List ℕ) (i v : ℕ) (all moves moves' : List Move) → moves ++ home_moves stays from (drop i vs) ≡ all → i < length vs → v ≡ get_or vs i 0 → (b : Bool) → stays v ≡ b → moves' ≡ cond b moves (moves ++ (record { to = Home v; from = from v }) ∷ []) → moves' ++ home_moves stays from (drop (i + 1) vs) ≡ all
 home_step stays from vs i v all moves moves' inv lt is true s e =

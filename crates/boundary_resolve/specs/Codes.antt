@@ -19,4 +19,4 @@ pub record AreRows (f : Flow) (traces : List Trace) (outs : List TraceOut) : Typ
 
 -- where seats are those in some traces, something holds of the flow, these traces and their results
 abbrev pub OfCode : Code → (Flow → List Trace → List TraceOut → Type 0) → Type 0
-OfCode c P = (traces : List Trace) → FindsSeats (seats_from 0 traces) c.seats → c.nowhere ≡ no_places → AreRows c.flow.now traces c.outs.now → P c.flow.now traces c.outs.now
+OfCode c P = (traces : List Trace) → FindsSeats (seats_from 0 traces) c.seats.items → c.nowhere ≡ no_places → AreRows c.flow.now traces c.outs.now → P c.flow.now traces c.outs.now

@@ -1,6 +1,6 @@
 //! A procedure's lines, node by node.
 
-ghost use Rattle.std.specs.Prelude.{◌≡◌, ℕ, ◌≤◌, ◌++◌, ◌∷◌, [], map, flat_map, length, IfOk, OnOk};
+ghost use Rattle.std.specs.Prelude.{◌≡◌, ℕ, ◌≤◌, ◌++◌, ◌∷◌, [], map, flat_map, length, None, IfOk, OnOk, slice_index_or};
 ghost use Rattle.run_laws.specs.Layers.{places_from};
 ghost use Rattle.lir_core.specs.Spots.{argument_of, IsRising};
 ghost use Rattle.trace_build.specs.Traces.{node_at};
@@ -10,21 +10,20 @@ ghost use Rattle.boundary_resolve.specs.Moves.{edge_moves, entry_places, FewRegs
 ghost use Rattle.boundary_resolve.specs.Placing.{start_at, end_at, lines_at, is_test, steps_of_end, jump_steps, steps_from, test_steps, entry_steps, node_lines};
 ghost use Rattle.boundary_resolve.specs.Codes.{OfCode};
 
-use crate::moves::edge_moves;
+use crate::moves::{Before, moves_to};
 use crate::placed::Placed;
 use crate::seats::Seat;
 use lir_core::{Flow, Items, Leave, Line, Places, TraceOut};
 use outside::Memory;
 use parallel_move::{Step, order};
 use std::alloc::{AllocError, Global};
-use std::collections::BTreeMap;
 
 /// A flow, the results for its traces, and where its nodes stand in them.
 #[derive(Drop)]
 pub(crate) struct Code<'a> {
     pub(crate) flow: &'a Flow,
     pub(crate) outs: &'a [TraceOut],
-    pub(crate) seats: BTreeMap<u32, Seat>,
+    pub(crate) seats: Vec<Option<Seat>>,
     /// The places of a node that has no seat.
     pub(crate) nowhere: Places,
 }
@@ -109,10 +108,19 @@ impl Code<'_> {
         }
     }
 
+    fn seat(&self, node: u32) -> Option<Seat>
+        ensures { result ≡ slice_index_or self.now.seats.items node None }
+    {
+        match self.seats.get(node as usize) {
+            Some(seat) => *seat,
+            None => None,
+        }
+    }
+
     fn start(&self, node: u32) -> &Places
         ensures { OfCode self.now (λ f traces outs. result.now ≡ start_at traces outs node) }
     {
-        let Some(seat) = self.seats.get(&node) else {
+        let Some(seat) = self.seat(node) else {
             return &self.nowhere;
         };
         let Some(out) = self.outs.get(seat.trace) else {
@@ -127,7 +135,7 @@ impl Code<'_> {
     fn end(&self, node: u32) -> &Places
         ensures { OfCode self.now (λ f traces outs. result.now ≡ end_at traces outs node) }
     {
-        let Some(seat) = self.seats.get(&node) else {
+        let Some(seat) = self.seat(node) else {
             return &self.nowhere;
         };
         let Some(out) = self.outs.get(seat.trace) else {
@@ -142,7 +150,7 @@ impl Code<'_> {
     fn lines(&self, node: u32) -> &[Line]
         ensures { OfCode self.now (λ f traces outs. result.now ≡ lines_at traces outs node) }
     {
-        let Some(seat) = self.seats.get(&node) else {
+        let Some(seat) = self.seat(node) else {
             return &[];
         };
         let Some(out) = self.outs.get(seat.trace) else {
@@ -223,7 +231,11 @@ fn push_edge(
         → OnOk result (placed.new.items ≡ placed.old.items ++ map Edge
         (order_of (edge_moves from.now to.now (argument_of params.now args.now)))) }
 {
-    let moves = edge_moves(alloc, from, to, params, args)?;
+    let before = Before::new(alloc, from, params, args)?;
+    if before.keeps(to) {
+        return Ok(());
+    }
+    let moves = moves_to(alloc, &before, to)?;
     let steps = order(alloc, moves.as_slice())?;
     push_steps(placed, steps.as_slice())?;
     Ok(())

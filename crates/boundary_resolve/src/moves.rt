@@ -1,11 +1,12 @@
 //! The moves of an edge.
 
-ghost use Rattle.std.specs.Prelude.{◌≡◌, ◌≤◌, ◌++◌, length, IfOk, OnOk};
+ghost use Rattle.std.specs.Prelude.{◌≡◌, ◌<◌, ◌≤◌, [], ◌++◌, true, length, filter, IfOk, OnOk};
+ghost use Rattle.lir_core.specs.declared.places.Place.TheVariants.{Reg};
 ghost use Rattle.lir_core.specs.Spots.{argument_of, TakesOver};
 ghost use Rattle.parallel_move.specs.Steps.{steps_source};
-ghost use Rattle.parallel_move.specs.Order.{order_of};
+ghost use Rattle.parallel_move.specs.Order.{is_moving, order_of};
 ghost use Rattle.boundary_resolve.specs.Moves.{register_of, reg_moves, home_moves, edge_moves, FewRegs, Covers};
-ghost use Rattle.boundary_resolve.specs.Before.{IsBefore, HasHomes, HasArguments, HasFew, argument_before, place_before, stays_before};
+ghost use Rattle.boundary_resolve.specs.Before.{IsBefore, HasHomes, HasArguments, HasFew, argument_before, place_before, stays_before, moves_before};
 
 use lir_core::{Move, Place, Places};
 use outside::Memory;
@@ -26,40 +27,99 @@ pub fn edge_moves(
         → IfOk result (λ moves. TakesOver from.now to.now (argument_of params.now args.now) (steps_source (order_of moves.items))) }
 {
     let before = Before::new(alloc, from, params, args)?;
+    Ok(moves_to(alloc, &before, to)?)
+}
+
+/// The moves to where the next node wants values.
+pub(crate) fn moves_to(alloc: Global, before: &Before, to: &Places) -> Result<Vec<Move>, AllocError>
+    ensures { HasFew before.now → FewRegs to.now → IfOk result (λ moves. moves.items ≡ moves_before before.now to.now) }
+{
     let mut moves = Vec::new(alloc);
-    push_registers(&mut moves, &before, to.regs.as_slice())?;
-    push_homes(&mut moves, &before, to.homed.as_slice())?;
+    push_registers(&mut moves, before, to.regs.as_slice())?;
+    push_homes(&mut moves, before, to.homed.as_slice())?;
     Ok(moves)
 }
 
+/// The most parameters among which is searched for one without a table.
+const FEW: usize = 8;
+
 /// Where values are before an edge.
 #[derive(Drop)]
-struct Before<'a> {
+pub(crate) struct Before<'a> {
     regs: &'a [Option<u32>],
     homed: BTreeSet<u32>,
+    params: &'a [u32],
+    args: &'a [u32],
+    /// The arguments by their parameters, where these are more than a few.
     arguments: BTreeMap<u32, u32>,
 }
 
 impl<'a> Before<'a> {
-    fn new(
+    pub(crate) fn new(
         alloc: Global,
         places: &'a Places,
-        params: &[u32],
-        args: &[u32],
+        params: &'a [u32],
+        args: &'a [u32],
     ) -> Result<Before<'a>, AllocError>
         ensures { IfOk result (λ before. IsBefore places.now params.now args.now before) }
     {
         Ok(Before {
             regs: places.regs.as_slice(),
             homed: homed(alloc, places.homed.as_slice())?,
-            arguments: arguments(alloc, params, args)?,
+            params,
+            args,
+            arguments: table(alloc, params, args)?,
         })
+    }
+
+    /// Whether all values that are wanted behind the edge stand there before it.
+    pub(crate) fn keeps(&self, to: &Places) -> bool
+        ensures { HasFew self.now → FewRegs to.now → result ≡ true → order_of (moves_before self.now to.now) ≡ [] }
+    {
+        self.keeps_registers(to.regs.as_slice()) && self.keeps_homes(to.homed.as_slice())
+    }
+
+    fn keeps_registers(&self, regs: &[Option<u32>]) -> bool
+        ensures { HasFew self.now → result ≡ true → filter is_moving (reg_moves (place_before self.now) 0 regs.now) ≡ [] }
+    {
+        for (register, held) in regs.iter().enumerate() {
+            if let Some(value) = held
+                && !self.is_in(*value, register)
+            {
+                return false;
+            }
+        }
+        true
+    }
+
+    fn keeps_homes(&self, homed: &[u32]) -> bool
+        ensures { result ≡ true → home_moves (stays_before self.now) (place_before self.now) homed.now ≡ [] }
+    {
+        for value in homed {
+            if !self.stays(*value) {
+                return false;
+            }
+        }
+        true
+    }
+
+    // Whether a value behind the edge is in a register before it.
+    fn is_in(&self, value: u32, register: usize) -> bool
+        ensures { HasFew self.now → result ≡ true → place_before self.now value ≡ Reg register }
+    {
+        match register_of(self.regs, self.argument(value)) {
+            Some(found) => found as usize == register,
+            None => false,
+        }
     }
 
     // What a value behind the edge was before it.
     fn argument(&self, value: u32) -> u32
         ensures { result ≡ argument_before self.now value }
     {
+        if self.params.len() <= FEW {
+            return argument_of(self.params, self.args, value);
+        }
         match self.arguments.get(&value) {
             Some(argument) => *argument,
             None => value,
@@ -107,6 +167,31 @@ fn homed(alloc: Global, values: &[u32]) -> Result<BTreeSet<u32>, AllocError>
         homed.insert(*value)?;
     }
     Ok(homed)
+}
+
+// A parameter's argument, of the first of two for one parameter; any other value is its own.
+fn argument_of(params: &[u32], args: &[u32], value: u32) -> u32
+    ensures { result ≡ argument_of params.now args.now value }
+{
+    for (i, param) in params.iter().enumerate() {
+        if i >= args.len() {
+            return value;
+        }
+        if *param == value {
+            return args[i];
+        }
+    }
+    value
+}
+
+// The arguments by their parameters, where these are more than a few.
+fn table(alloc: Global, params: &[u32], args: &[u32]) -> Result<BTreeMap<u32, u32>, AllocError>
+    ensures { 8 < length params.now → IfOk result (λ arguments. HasArguments params.now args.now arguments) }
+{
+    if params.len() <= FEW {
+        return Ok(BTreeMap::new(alloc));
+    }
+    arguments(alloc, params, args)
 }
 
 // The arguments by their parameters; the first of two for one parameter.

@@ -97,7 +97,7 @@ fn live_into(
 /// The answer to a line.
 fn answer(alloc: Global, line: &str) -> Result<String, Memory> {
     if line.starts_with("proc") {
-        return selection(alloc, &proc_of(alloc, line)?);
+        return selection(alloc, proc_of(alloc, line)?);
     }
     let flow = flow_of(alloc, line)?;
     let uni = cut(alloc, "uni", Builder::Uni, &flow)?;
@@ -137,7 +137,7 @@ fn reply(alloc: Global, bench: &Option<String>, times: u32, line: &str) -> Resul
         "traces" => traces_of(alloc, &flow_of(alloc, line)?, times)?,
         "live" => live_nodes(alloc, &flow_of(alloc, line)?, times)?,
         "valid" => times_valid(alloc, &proc_of(alloc, line)?, times)?,
-        _ => nodes_selected(alloc, &proc_of(alloc, line)?, times)?,
+        _ => nodes_selected(alloc, line, times)?,
     };
     Ok(format!(in alloc; "{count}")?)
 }

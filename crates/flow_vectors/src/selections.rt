@@ -1,5 +1,6 @@
 //! Whether procedures are valid, and the flows of those that are.
 
+use crate::procs::proc_of;
 use crate::push_list;
 use a64_select::select;
 use flow_text::{push_end, push_optional};
@@ -37,8 +38,8 @@ fn flow_line(alloc: Global, flow: &Flow) -> Result<String, AllocError> {
 }
 
 /// `invalid`, or `valid` with the nodes of the procedure's flow.
-pub(crate) fn selection(alloc: Global, proc: &Proc) -> Result<String, Memory> {
-    if !is_valid(alloc, proc)? {
+pub(crate) fn selection(alloc: Global, proc: Proc) -> Result<String, Memory> {
+    if !is_valid(alloc, &proc)? {
         return Ok(String::from_str(alloc, "invalid")?);
     }
     let flow = select(alloc, proc)?;
@@ -56,13 +57,14 @@ pub(crate) fn times_valid(alloc: Global, proc: &Proc, times: u32) -> Result<usiz
     Ok(count)
 }
 
-/// How many nodes a valid procedure's flow has, made so often; 0 for another procedure.
-pub(crate) fn nodes_selected(alloc: Global, proc: &Proc, times: u32) -> Result<usize, Memory> {
-    if !is_valid(alloc, proc)? {
-        return Ok(0);
-    }
+/// How many nodes the flow of the valid procedure in a line has, read and made so often; 0 for another procedure.
+pub(crate) fn nodes_selected(alloc: Global, line: &str, times: u32) -> Result<usize, Memory> {
     let mut count = 0;
     for _ in 0..times {
+        let proc = proc_of(alloc, line)?;
+        if !is_valid(alloc, &proc)? {
+            return Ok(0);
+        }
         count = select(alloc, proc)?.nodes.len();
     }
     Ok(count)

@@ -7,4 +7,4 @@ abbrev pub lent_places : Behind → Places
 lent_places q = record { regs = q.regs.now; homed = q.homed.now }
 
 abbrev pub made : Start → Places
-made s = record { regs = s.regs; homed = s.homed }
+made s = record { regs = s.regs.items; homed = s.homed }

@@ -10,9 +10,9 @@ ghost use Rattle.linear_scan.specs.Starts.{if_live, hinted, param_reg, start_beh
 ghost use Rattle.linear_scan.specs.Made.{lent_places};
 
 use crate::policy::is_needed;
-use lir_core::{LiveSets, Places};
+use lir_core::{Items, LiveSets, Places};
 use live_interval::{Needs, next_live};
-use loc_state::{Homes, Registers, has_register, lowest_empty, register_of};
+use loc_state::{Homes, has_register, lowest_empty, register_of};
 use outside::Memory;
 use std::alloc::{AllocError, Global};
 
@@ -34,7 +34,7 @@ pub(crate) struct Behind<'a> {
 /// Places that are being made.
 #[derive(Drop)]
 pub(crate) struct Start {
-    regs: Registers,
+    regs: Vec<Option<u32>>,
     homed: Homes,
 }
 
@@ -58,9 +58,8 @@ impl Start {
     fn homed(alloc: Global, head: &Head, values: u32, regs: u8) -> Result<Start, AllocError>
         ensures { IfOk result (λ s. made s ≡ record { regs = replicate regs None; homed = all_inserted (live_into values head.now.live.now head.now.node) [] }) }
     {
-        let row: Vec<Option<u32>> = vec![in alloc; None; regs as usize]?;
         Ok(Start {
-            regs: Registers::from_slice(alloc, row.as_slice())?,
+            regs: vec![in alloc; None; regs as usize]?,
             homed: all_live(alloc, head, values)?,
         })
     }
@@ -73,16 +72,16 @@ impl Start {
         value: u32,
         reg: Option<u8>,
     ) -> Result<(), AllocError>
-        requires { IfSome reg (λ r. r < length self.old.regs) }
+        requires { IfSome reg (λ r. r < length self.old.regs.items) }
         ensures step { OnOk result (made self.new ≡ with_param (from (need_told positions.now) at) value reg (made self.old)) }
-        ensures row { OnOk result (length self.new.regs ≡ length self.old.regs) }
+        ensures row { OnOk result (length self.new.regs.items ≡ length self.old.regs.items) }
     {
         if !is_needed(positions, at, value) {
             return Ok(());
         }
         match reg {
             Some(reg) => {
-                self.regs.set(reg, Some(value));
+                self.regs[reg as usize] = Some(value);
                 Ok(())
             }
             None => self.homed.insert(value),
@@ -98,10 +97,10 @@ impl Start {
         hint: &[Option<u32>],
         arguments: &[u32],
     ) -> Result<(), AllocError>
-        requires few { length self.old.regs ≤ 16 }
-        requires hint { length hint.now ≤ length self.old.regs }
+        requires few { length self.old.regs.items ≤ 16 }
+        requires hint { length hint.now ≤ length self.old.regs.items }
         ensures step { OnOk result (made self.new ≡ with_params (from (need_told positions.now) at) hint.now arguments.now 0 params.now (made self.old)) }
-        ensures row { OnOk result (length self.new.regs ≡ length self.old.regs) }
+        ensures row { OnOk result (length self.new.regs.items ≡ length self.old.regs.items) }
     {
         for (i, value) in params.iter().enumerate() {
             let reg = param_reg(hint, number_at(arguments, i), self.regs.as_slice());
@@ -113,9 +112,10 @@ impl Start {
     fn into_places(self, alloc: Global) -> Result<Places, AllocError>
         ensures { IfOk result (λ q. q ≡ made self) }
     {
+        let Start { regs, homed } = self;
         Ok(Places {
-            regs: self.regs.list(alloc)?,
-            homed: self.homed.list(alloc)?,
+            regs: Items::from_vec(regs),
+            homed: homed.list(alloc)?,
         })
     }
 }
@@ -166,10 +166,14 @@ fn if_live(head: &Head, content: Option<u32>) -> Option<u32>
 }
 
 // What is live in registers.
-fn live_registers(alloc: Global, head: &Head, regs: &[Option<u32>]) -> Result<Registers, AllocError>
-    ensures { IfOk result (λ row. row ≡ map (if_live (has_bit head.now.live.now head.now.node)) regs.now) }
+fn live_registers(
+    alloc: Global,
+    head: &Head,
+    regs: &[Option<u32>],
+) -> Result<Vec<Option<u32>>, AllocError>
+    ensures { IfOk result (λ row. row.items ≡ map (if_live (has_bit head.now.live.now head.now.node)) regs.now) }
 {
-    let mut row = Registers::new(alloc);
+    let mut row = Vec::with_capacity(alloc, regs.len())?;
     for content in regs {
         row.push(if_live(head, *content))?;
     }

@@ -150,16 +150,6 @@ pub fn lowest_empty(regs: &[Option<u32>]) -> Option<u8>
     None
 }
 
-// What a register has once the value lost its places.
-fn value_left(content: &Option<u32>, value: u32) -> Option<u32>
-    ensures { result ≡ without value content.now }
-{
-    match content {
-        Some(v) if *v != value => Some(*v),
-        _ => None,
-    }
-}
-
 fn write(regs: &mut [Option<u32>], reg: u8, value: Option<u32>)
     requires { reg < length regs.old }
     ensures { regs.new ≡ slice_set regs.old reg value }
@@ -171,7 +161,9 @@ fn clear(regs: &mut [Option<u32>], value: u32)
     ensures { regs.new ≡ map (without value) regs.old }
 {
     for content in regs.iter_mut() {
-        *content = value_left(content, value);
+        if holds(content, value) {
+            *content = None;
+        }
     }
 }
 

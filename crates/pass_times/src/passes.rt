@@ -54,11 +54,11 @@ pub fn all_valid(alloc: Global, procedures: &[Proc]) -> Result<bool, Memory> {
     Ok(true)
 }
 
-/// The flows of procedures, each of which is looked at whether it is valid.
-pub fn selected(alloc: Global, procedures: &[Proc]) -> Result<Vec<Flow>, NoFlows> {
+/// The flows of procedures, each of which is looked at whether it is valid, and let go.
+pub fn selected(alloc: Global, procedures: Items<Proc>) -> Result<Vec<Flow>, NoFlows> {
     let mut flows = Vec::new(alloc);
-    for procedure in procedures {
-        let Ok(valid) = is_valid(alloc, procedure) else {
+    for procedure in procedures.into_vec() {
+        let Ok(valid) = is_valid(alloc, &procedure) else {
             return Err(NoFlows::Memory);
         };
         if !valid {

@@ -128,10 +128,10 @@ fn time_places<R: Clock + CpuClock + Print + Threads + Wait + Sync>(
 fn time_flows<R: Clock + CpuClock + Print>(
     rt: &R,
     alloc: Global,
-    procedures: &[Proc],
+    procedures: Items<Proc>,
 ) -> Result<Vec<Flow>> {
     let start = Start::now(rt)?;
-    let _valid = all_valid(alloc, procedures)?;
+    let _valid = all_valid(alloc, procedures.as_slice())?;
     start.tell(rt, "valid")?;
     let start = Start::now(rt)?;
     let flows = selected(alloc, procedures)?;
@@ -161,7 +161,8 @@ fn time_front<R: Clock + CpuClock + Print>(
 ) -> Result<Vec<Flow>> {
     let program = time_check(rt, alloc, texts)?;
     let made = time_lower(rt, alloc, &program)?;
-    time_flows(rt, alloc, made.procedures.as_slice())
+    let LoweredProgram { procedures, .. } = made;
+    time_flows(rt, alloc, procedures)
 }
 
 /// The image of a module's text without globals and constants. Told are what `time_check` tells, and each later pass.

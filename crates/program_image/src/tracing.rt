@@ -13,7 +13,7 @@ use crate::fault::{ProgramFault, of_lowering, whole_limit};
 use back_end::{Choice, select_all};
 use ob_types::Program;
 use short_procedures::are_short;
-use ssa_build::lower_with_tables;
+use ssa_build::{LoweredProgram, lower_with_tables};
 use std::alloc::Global;
 use trace_report::trace_report;
 
@@ -37,8 +37,8 @@ pub fn program_traces(
         Ok(made) => made,
         Err(fault) => return Err(of_lowering(fault)),
     };
-    let procedures = made.procedures.as_slice();
-    if !are_short(procedures) {
+    let LoweredProgram { procedures, .. } = made;
+    if !are_short(procedures.as_slice()) {
         return Err(whole_limit(54));
     }
     let Ok(flows) = select_all(alloc, procedures) else {

@@ -30,24 +30,24 @@ pub returns-then-not-are_short-clause-limit : goal.returns-then-not-are_short-cl
 returns-then-not-are_short-clause-limit c =
     let choice = c.args.choice.now in
     let p = c.args.program.now in
-    let same = c.as_slice-procedures.ensures ∙ c.in-Ok.ensures.ok in
+    let same = c.as_slice.ensures ∙ c.in-Ok.ensures.ok in
     let e : false ≡ c.are_short.result = let t = c.if-not-are_short.true in cc in
-    subst (Tells choice p) (sym c.whole_limit.ensures) (ByLength c.in-Ok.ensures.within (has_long p c.as_slice-procedures.result.now same (e ∙ c.are_short.ensures)))
+    subst (Tells choice p) (sym c.whole_limit.ensures) (ByLength c.in-Ok.ensures.within (has_long p c.as_slice.result.now same (e ∙ c.are_short.ensures)))
 
 pub select_all-requires : goal.select_all-requires
 select_all-requires c =
     let p = c.args.program.now in
-    let same = c.as_slice-procedures.ensures ∙ c.in-Ok.ensures.ok in
+    let same = c.as_slice.ensures ∙ c.in-Ok.ensures.ok in
     let e : true ≡ c.are_short.result = let t = c.if-not-are_short.false in cc in
-    let short = are_short p c.as_slice-procedures.result.now same (e ∙ c.are_short.ensures) in
-    subst (All IsReady) (sym same) (ready p c.requires.well_formed c.in-Ok.ensures.within short)
+    let short = are_short p c.as_slice.result.now same (e ∙ c.are_short.ensures) in
+    subst (All IsReady) (sym c.in-Ok.ensures.ok) (ready p c.requires.well_formed c.in-Ok.ensures.within short)
 
 pub returns-then-report-gt-MOST_TRACES-clause-limit : goal.returns-then-report-gt-MOST_TRACES-clause-limit
 returns-then-report-gt-MOST_TRACES-clause-limit c =
     let choice = c.args.choice.now in
     let p = c.args.program.now in
-    let same = c.as_slice-procedures.ensures ∙ c.in-Ok.ensures.ok in
-    let flows = c.as_slice.ensures.value ∙ c.in-Ok-select_all.ensures.flows ∙ ap (λ (ps : List Proc). map selected ps) same in
+    let same = c.as_slice.ensures ∙ c.in-Ok.ensures.ok in
+    let flows = c.as_slice-2.ensures.value ∙ c.in-Ok-select_all.ensures.flows ∙ ap (λ (ps : List Proc). map selected ps) c.in-Ok.ensures.ok in
     let count : c.in-Ok-trace_report.report.traces ≡ traces_in choice.builder (flows_of p) = c.in-Ok-trace_report.ensures.count ∙ ap (λ (fs : List Flow). traces_in choice.builder fs) flows in
     let over = c.if-report-gt-MOST_TRACES.true in
     subst (Tells choice p) (sym c.whole_limit-then-report-gt-MOST_TRACES.ensures) (ByTraces c.in-Ok.ensures.within (omega (arith, over, count)))
@@ -56,9 +56,9 @@ pub returns-clause-report : goal.returns-clause-report
 returns-clause-report c =
     let choice = c.args.choice.now in
     let p = c.args.program.now in
-    let same = c.as_slice-procedures.ensures ∙ c.in-Ok.ensures.ok in
-    let flows = c.as_slice.ensures.value ∙ c.in-Ok-select_all.ensures.flows ∙ ap (λ (ps : List Proc). map selected ps) same in
+    let same = c.as_slice.ensures ∙ c.in-Ok.ensures.ok in
+    let flows = c.as_slice-2.ensures.value ∙ c.in-Ok-select_all.ensures.flows ∙ ap (λ (ps : List Proc). map selected ps) c.in-Ok.ensures.ok in
     let e : true ≡ c.are_short.result = let t = c.if-not-are_short.false in cc in
-    let short = are_short p c.as_slice-procedures.result.now same (e ∙ c.are_short.ensures) in
+    let short = are_short p c.as_slice.result.now same (e ∙ c.are_short.ensures) in
     let valid = subst (All IsValidFlow) (sym flows) (valid_flows (lowered p) (ready p c.requires.well_formed c.in-Ok.ensures.within short)) in
     subst (λ (fs : List Flow). IsReport choice 0 fs c.in-Ok-trace_report.report.lines.items) flows (c.in-Ok-trace_report.ensures.lines valid)

@@ -7,6 +7,6 @@ use Rattle.linear_scan.proofs.starting.Start.add_all.Given as goal
 
 abbrev pub invariant-loop-i : goal.invariant-loop-i
 invariant-loop-i l = record {
-  row : length l.self.regs ≡ length l.initial.self.regs;
+  row : length l.self.regs.items ≡ length l.initial.self.regs.items;
   step : with_params (from (need_told l.positions) l.at) l.hint l.arguments l.i (drop l.i l.params) (made l.self) ≡ with_params (from (need_told l.positions) l.at) l.hint l.arguments 0 l.params (made l.initial.self);
 }

@@ -1,7 +1,7 @@
 use Rattle.std.proofs.Common.{ap, sym, ◌∙◌}
 use Rattle.std.specs.Prelude.{min}
 use Rattle.a64_select.proofs.Targets.{freq_at-read, made_edge}
-use Rattle.a64_select.proofs.selecting.edge_node.Goals as goal
+use Rattle.a64_select.proofs.edge_splits.edge_node.Goals as goal
 
 pub returns : goal.returns
 returns c =
