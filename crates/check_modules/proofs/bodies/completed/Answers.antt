@@ -2,6 +2,7 @@ use Rattle.std.proofs.Common.{None, refl, sym, subst}
 use Rattle.ob_syntax.specs.Plain.{plain_module}
 use Rattle.check_procedures.specs.numbers.Numbering.{NumbersAll}
 use Rattle.check_types.specs.declared.types.TypeRef.TheVariants as TheType
+use Rattle.check_types.specs.names.Worlds.{table_of}
 use Rattle.check_types.proofs.steps.Answering.{exit}
 use Rattle.check_modules.proofs.WantOfMemory.{no_memory}
 use Rattle.check_procedures.proofs.numbers.Lasting.{numbers_all}
@@ -34,7 +35,7 @@ returns c = λ k m makes up.
       all = n.texts;
       same = n.body;
       stays = n.body_stays;
-      in_turn = in_turn_alone _ c.in_ok-numbered.numbered.texts _ c.in_ok-numbered.numbered.body c.in_ok-numbered.numbered.answer n.answer n.in_turn;
+      in_turn = in_turn_alone (table_of c.scope-scope.result) c.in_ok-numbered.numbered.texts c.in_ok-numbered.numbered.texts c.in_ok-numbered.numbered.body c.in_ok-numbered.numbered.answer n.answer n.in_turn;
     })
     c.line_at-line.result c.number-nothing.result c.line_at-line.ensures c.number-nothing.ensures.entry _
     (is_bare c.args.round.now.module_number c.line_at-line.result c.number-nothing.result c.in_ok-numbered.numbered.texts c.in_ok-numbered.numbered.body c.new.result c.new-2.result c.new.ensures c.new-2.ensures)
