@@ -82,7 +82,7 @@ module _ (n : Numbering) where
             let second = no_shorter x.after (r.uses d) y.after added in
             ap s.uses (of_made v all) ∙ uses (q.image v all x.made) (r.image v all y.made)
             ∙ ap₂ (λ (us ws : Strings). us ++ ws) (g.in_turn v all (omega (arith, second, many)) few)
-              (h.in_turn v all many few ∙ ap (λ i. between i (length y.after) all) (sym met))
+            (h.in_turn v all many few ∙ ap (λ i. between i (length y.after) all) (sym met))
             ∙ between_on all (length x.before) (length x.after) (length y.after) first second;
       }
 
