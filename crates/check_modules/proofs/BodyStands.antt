@@ -1,6 +1,6 @@
 -- A module's body stands for the judgement's.
-use Rattle.std.proofs.Common.{◌≡◌, ◌<◌, ◌≤◌, ℕ, suc, List, [], ◌∷◌, ◌++◌, map, Bool, true, false, Option, Some, None, Result, Ok, Err, length, refl, sym, ap, ap₂, ◌∙◌, subst, arith}
-use Rattle.std.specs.Prelude.{option_map, slice_get, slice_set, Vec}
+use Rattle.std.proofs.Common.{◌≡◌, ◌≤◌, ℕ, List, [], true, Option, Some, None, Result, Ok, Err, length, refl, sym, ap, ap₂, ◌∙◌, subst}
+use Rattle.std.specs.Prelude.{option_map, slice_get, Vec}
 use Rattle.std.specs.Global.{Global}
 use Rattle.std.specs.Str.{bytes_eq}
 use Rattle.std.proofs.lemmas.Option.{slice_get_within}
@@ -11,7 +11,7 @@ use Rattle.ob_types.specs.declared.statements.Stmt.{Stmt}
 use Rattle.ob_types.specs.Table.{Table}
 use Rattle.ob_syntax.specs.Syntax as S
 use Rattle.ob_judge.specs.Image as I
-use Rattle.ob_judge.specs.Judged.{Judged, Keeps, Breaks, ◌>>=◌, ◌>>◌, rule}
+use Rattle.ob_judge.specs.Judged.{Judged, Keeps, ◌>>=◌, ◌>>◌, rule}
 use Rattle.ob_judge.specs.Shapes.{Shape, Nothing}
 use Rattle.ob_judge.specs.Texts.{texts_of}
 use Rattle.ob_judge.specs.Scopes.{World, Source, place, spelled, line}
@@ -28,7 +28,6 @@ use Rattle.check_types.specs.declared.steps.fault.CheckFault.{CheckFault}
 use Rattle.check_types.proofs.steps.Answering.{as_judged, stop}
 use Rattle.check_types.specs.declared.names.scope.Scope.{Scope}
 use Rattle.check_types.specs.names.Worlds.{world_of}
-use Rattle.check_types.specs.names.Worlds.{table_of as table_in}
 use Rattle.check_operands.specs.Operands.{texts_of as texts_in}
 use Rattle.check_selectors.specs.standard.Made.{IsKept}
 use Rattle.check_statements.specs.Standing.{AreStatements}
@@ -38,8 +37,8 @@ use Rattle.table_builder.specs.Growing.{Grows}
 use Rattle.judged_modules.specs.steps.Frames.{Begins}
 use Rattle.check_making.specs.declared.making.Declaring.{Declaring}
 use Rattle.check_making.specs.declared.making.Surroundings.{Surroundings}
-use Rattle.check_making.specs.Making.{table_of, world_in, Makes}
-use Rattle.check_making.specs.scopes.Building.{IsLater, StandsFor}
+use Rattle.check_making.specs.Making.{world_in, Makes}
+use Rattle.check_making.specs.scopes.Building.{StandsFor}
 use Rattle.check_making.specs.scopes.InTurn.{UseInTurn}
 use Rattle.check_making.proofs.scopes.Procedures.{number_means, number_still, begins_self}
 use Rattle.check_procedures.proofs.Giving.{came, then_so, rule_stops}

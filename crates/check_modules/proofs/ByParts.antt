@@ -1,5 +1,5 @@
 -- The judgement of a module is that of its parts.
-use Rattle.std.proofs.Common.{◌≡◌, ℕ, List, [], Bool, true, false, None, refl, ap, ◌∙◌}
+use Rattle.std.proofs.Common.{◌≡◌, [], true, None, refl, ap, ◌∙◌}
 use Rattle.std.specs.Str.{bytes_eq}
 use Rattle.ob_syntax.specs.Syntax as S
 use Rattle.ob_judge.specs.Judged.{Judged, Keeps, Breaks, ◌>>=◌, ◌>>◌, rule}
@@ -11,7 +11,7 @@ use Rattle.ob_judge.specs.Statements.{body_of}
 use Rattle.ob_judge.specs.Making.{Making, Part, ◌>>>◌, give, ask, new_procedure, set_procedure}
 use Rattle.ob_judge.specs.Declarations.{each, decls_part}
 use Rattle.ob_judge.specs.Modules.{imported, is_new, import_part, import_list, module_part}
-use Rattle.check_modules.specs.Parts.{body_procedure, declared_part, completed_module, numbered_part, body_part, module_made, ending_part}
+use Rattle.check_modules.specs.Parts.{body_procedure, declared_part, numbered_part, module_made, ending_part}
 
 joined : {A B C : Type 0} (m : Judged A) (f : A → Judged B) (g : B → Judged C) (h : A → Judged C) → ((a : A) → h a ≡ (f a >>= g)) → (m >>= h) ≡ ((m >>= f) >>= g)
 joined (Keeps a) f g h e = e a

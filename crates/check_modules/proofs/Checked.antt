@@ -1,17 +1,16 @@
 -- One module more.
-use Rattle.std.proofs.Common.{◌≡◌, ℕ, suc, List, [], ◌∷◌, ◌++◌, map, length, Bool, true, false, Option, Some, None, Result, Ok, Err, Vec, Global, refl, sym, ap, ap₂, ◌∙◌, subst, arith}
+use Rattle.std.proofs.Common.{◌≡◌, ℕ, suc, List, [], ◌∷◌, ◌++◌, map, length, Option, Some, Result, Ok, Err, Vec, Global, refl, sym, ap, ap₂, ◌∙◌, subst}
 use Rattle.std.specs.Prelude.{slice_get, get_or}
 use Rattle.std.proofs.lemmas.Option.{get_or_from_slice_get}
 use Rattle.ob_types.specs.Table.{Table}
 use Rattle.ob_types.specs.declared.program.Module.{Module}
-use Rattle.ob_types.specs.declared.program.Procedure.{Procedure}
 use Rattle.ob_syntax.specs.Syntax as S
 use Rattle.ob_judge.specs.Image as I
-use Rattle.ob_judge.specs.Judged.{Judged, Keeps, Breaks, ◌>>=◌, ◌>>◌, rule}
+use Rattle.ob_judge.specs.Judged.{Judged, Keeps, ◌>>=◌, ◌>>◌, rule}
 use Rattle.ob_judge.specs.Scopes.{Source, World, Entry, place, spelled}
 use Rattle.ob_judge.specs.Scopes.{KnownModule as KnownModuleOf}
 use Rattle.ob_judge.specs.Making.{Making}
-use Rattle.ob_judge.specs.Modules.{SoFar, imported, is_new, first_making, module_part, with_module, offered_by}
+use Rattle.ob_judge.specs.Modules.{SoFar, imported, is_new, first_making, with_module, offered_by}
 use Rattle.judged_well.specs.Standing.{IsRead}
 use Rattle.judged_outlines.specs.Upright.{Upright, UprightSoFar}
 use Rattle.judged_outlines.proofs.Modules.{first_upright}
@@ -20,21 +19,18 @@ use Rattle.check_types.specs.steps.Answers.{Answers}
 use Rattle.check_types.specs.declared.steps.fault.CheckFault.{CheckFault}
 use Rattle.check_types.proofs.steps.Answering.{as_judged, goes_on, stop}
 use Rattle.check_types.specs.declared.table.TypeTable.{TypeTable}
-use Rattle.check_types.specs.Known.{known_of}
 use Rattle.check_types.specs.declared.names.scope.KnownModule.{KnownModule}
 use Rattle.check_types.specs.names.Meaning.{module_of}
 use Rattle.check_selectors.specs.standard.Made.{IsKept}
-use Rattle.table_builder.specs.declared.builder.TableBuilder.{TableBuilder}
 use Rattle.table_builder.specs.Growing.{Grows}
 use Rattle.check_making.specs.declared.making.Declaring.{Declaring}
 use Rattle.check_making.specs.declared.making.Surroundings.{Surroundings}
 use Rattle.check_making.specs.Staying.{ModuleStays, ModulesStay, NamesHaveTypes, AllHaveTypes, AreSettled}
-use Rattle.check_making.specs.Making.{table_of, strings_of, world_in, AreTextPlaces, Makes, IsSettled}
+use Rattle.check_making.specs.Making.{strings_of, AreTextPlaces, Makes, IsSettled}
 use Rattle.check_making.specs.Parts.{IsNextModule}
 use Rattle.check_making.proofs.Growing.{grows_on}
 use Rattle.check_making.specs.declared.scopes.building.Building.{Building}
 use Rattle.check_making.specs.scopes.Building.{TheyStandFor, Represents}
-use Rattle.check_making.specs.scopes.Built.{Built}
 use Rattle.check_procedures.specs.UnderWay.{IsUnderWay, BuildsUpright}
 use Rattle.check_procedures.proofs.Giving.{came, rule_stops}
 use Rattle.judged_outlines.specs.ends.Ends.{EndsWell}

@@ -1,24 +1,19 @@
 -- A module's imports and declarations.
-use Rattle.std.proofs.Common.{◌≡◌, ℕ, List, [], ◌∷◌, ◌++◌, map, length, Bool, true, false, Option, Some, None, Result, Ok, Err, refl, sym, ap, ◌∙◌, subst}
-use Rattle.std.specs.Prelude.{slice_get, OnOk}
-use Rattle.ob_types.specs.Table.{Table}
+use Rattle.std.proofs.Common.{◌≡◌, ℕ, List, [], ◌∷◌, ◌++◌, Bool, Result, Ok, Err, refl, sym, ◌∙◌, subst}
+use Rattle.std.specs.Prelude.{OnOk}
 use Rattle.ob_syntax.specs.Syntax as S
 use Rattle.ob_judge.specs.Image as I
 use Rattle.ob_judge.specs.Judged.{Judged, Keeps, Breaks, ◌>>=◌}
-use Rattle.ob_judge.specs.Scopes.{World}
 use Rattle.ob_judge.specs.Making.{Making, declared_as, entity_of}
 use Rattle.ob_judge.specs.Modules.{SoFar, import_list, import_part, first_making}
 use Rattle.ob_judge.specs.Declarations.{each, decls_part}
-use Rattle.judged_well.specs.Gives.{Gives}
 use Rattle.judged_well.specs.Standing.{IsRead}
-use Rattle.judged_outlines.specs.Upright.{Upright, UprightSoFar}
+use Rattle.judged_outlines.specs.Upright.{Upright}
 use Rattle.judged_outlines.proofs.Uprights.{imports_upright, decls_upright}
 use Rattle.legal_tables.specs.Promised.{HasLegalTypes}
 use Rattle.check_types.specs.steps.Answers.{Answers}
 use Rattle.check_types.specs.declared.steps.fault.CheckFault.{CheckFault}
 use Rattle.check_types.proofs.steps.Answering.{stop}
-use Rattle.check_types.specs.declared.types.TypeRef.{TypeRef}
-use Rattle.check_types.specs.declared.table.TypeTable.{TypeTable}
 use Rattle.check_types.specs.TypeMeaning.{type_shape}
 use Rattle.check_types.specs.declared.names.scope.Named.{Named}
 use Rattle.check_types.specs.declared.names.scope.Named.TheVariants as TheNamed
@@ -33,8 +28,8 @@ use Rattle.check_making.specs.declared.making.Declaring.{Declaring}
 use Rattle.check_making.specs.declared.making.Offered.{Offered}
 use Rattle.check_making.specs.declared.making.Surroundings.{Surroundings}
 use Rattle.check_making.specs.Staying.{HasType}
-use Rattle.check_making.specs.Making.{table_of, strings_of, offered_of, OfferedStay, Makes, IsSettled}
-use Rattle.check_making.specs.Parts.{Made, Judges}
+use Rattle.check_making.specs.Making.{offered_of, OfferedStay, IsSettled}
+use Rattle.check_making.specs.Parts.{Judges}
 use Rattle.check_modules.specs.importing.Importing.{imports_part}
 use Rattle.check_making.specs.declared.scopes.building.Building.{Building}
 use Rattle.check_making.specs.scopes.Building.{Represents}

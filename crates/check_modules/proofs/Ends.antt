@@ -1,45 +1,37 @@
 -- A module's end: what the program has of it, and what later modules see.
-use Rattle.std.proofs.Common.{◌≡◌, ℕ, List, [], ◌∷◌, ◌++◌, map, length, Bool, Option, Some, None, Result, Ok, Err, refl, sym, ap, ap₂, ◌∙◌, subst}
+use Rattle.std.proofs.Common.{◌≡◌, ℕ, List, [], ◌∷◌, ◌++◌, map, Option, Some, None, Ok, Err, refl, sym, ap, ap₂, ◌∙◌, subst}
 use Rattle.std.specs.Prelude.{slice_set}
 use Rattle.ob_types.proofs.Tests.{none_some, some_same}
 use Rattle.ob_types.specs.Table.{Table}
 use Rattle.ob_types.specs.declared.program.Module.{Module}
 use Rattle.ob_types.specs.declared.program.Procedure.{Procedure}
-use Rattle.ob_types.specs.declared.program.Object.{Object}
 use Rattle.ob_syntax.specs.Syntax as S
 use Rattle.ob_judge.specs.Image as I
-use Rattle.ob_judge.specs.Judged.{Judged, Keeps, Breaks, ◌>>=◌, ◌>>◌}
+use Rattle.ob_judge.specs.Judged.{Judged, Keeps, ◌>>=◌}
 use Rattle.ob_judge.specs.Scopes.{Object as JudgedObject, AConstant, AType, AVariable, AProcedure, AStandard, AModule, Entry, World, spelled}
 use Rattle.ob_judge.specs.Scopes.{KnownModule as KnownModuleOf}
 use Rattle.ob_judge.specs.Standards.{predeclared}
 use Rattle.ob_judge.specs.Making.{Making, last_names, new_procedure, set_procedure}
 use Rattle.ob_judge.specs.Modules.{offered, offered_by}
-use Rattle.judged_tree.specs.TypeShapes.{shape_of}
-use Rattle.judged_tree.specs.Plain.{plain_module, plain_object}
 use Rattle.check_types.specs.steps.Answers.{Answers}
 use Rattle.check_types.specs.declared.steps.fault.CheckFault.{CheckFault}
 use Rattle.check_types.proofs.steps.Answering.{goes_on, stop}
-use Rattle.check_types.specs.declared.types.TypeRef.{TypeRef}
 use Rattle.check_types.specs.declared.table.TypeTable.{TypeTable}
 use Rattle.check_types.specs.TypeMeaning.{type_shape}
 use Rattle.check_types.specs.Known.{known_of}
 use Rattle.check_types.specs.declared.names.levels.Level.{Level}
 use Rattle.check_types.specs.declared.names.scope.KnownModule.{KnownModule}
 use Rattle.check_types.specs.names.Meaning.{names_of, module_of}
-use Rattle.table_builder.specs.declared.builder.TableBuilder.{TableBuilder}
 use Rattle.table_builder.specs.Growing.{Grows}
 use Rattle.check_making.specs.declared.making.Declaring.{Declaring}
 use Rattle.check_making.specs.declared.making.Surroundings.{Surroundings}
 use Rattle.check_making.specs.Staying.{LevelsStay, ModuleStays, HasType, NamesHaveTypes, AllHaveTypes}
-use Rattle.check_making.specs.Making.{table_of, strings_of, levels_of, offered_of, Makes, IsSettled}
+use Rattle.check_making.specs.Making.{table_of, strings_of, levels_of, offered_of, IsSettled}
 use Rattle.check_modules.specs.importing.Ends.{seen}
 use Rattle.check_making.specs.declared.scopes.building.Building.{Building}
 use Rattle.check_making.specs.scopes.Building.{StandsFor, TheyStandFor, Represents}
-use Rattle.check_making.specs.scopes.Built.{Built, BuiltAs, Builds, BuildsAs, IsNumber}
-use Rattle.check_making.specs.scopes.Numbers.{AreNumbersOf}
-use Rattle.check_making.proofs.scopes.ByNumber.{numbers_mean, numbers_still}
+use Rattle.check_making.specs.scopes.Built.{BuiltAs, Builds, BuildsAs, IsNumber}
 use Rattle.check_modules.specs.declared.ending.JudgedModule.{JudgedModule}
-use Rattle.check_modules.specs.programs.Entities.{AreObjects}
 use Rattle.check_modules.specs.programs.Modules.{IsModuleOf}
 use Rattle.check_modules.specs.Parts.{numbered_part, module_made, ending_part, body_part, completed_module}
 use Rattle.check_modules.specs.Ended.{IsEnded, SeenStays}

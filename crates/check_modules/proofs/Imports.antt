@@ -2,7 +2,7 @@
 use Rattle.std.proofs.Common.{List, [], ◌∷◌, refl}
 use Rattle.std.specs.Prelude.{◌||◌, false}
 use Rattle.ob_syntax.specs.declared.modules.Import.{Import}
-use Rattle.ob_judge.specs.Judged.{Keeps, ◌>>=◌, some}
+use Rattle.ob_judge.specs.Judged.{some}
 use Rattle.ob_judge.specs.Scopes.{AModule, Source, place, spelled}
 use Rattle.ob_judge.specs.Making.{Making, declare_last, with_levels}
 use Rattle.ob_judge.specs.Declarations.{each}

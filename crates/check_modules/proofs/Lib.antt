@@ -5,3 +5,4 @@ pub mod Ends
 pub mod Declared
 pub mod Checked
 pub mod WantOfMemory
+pub mod Walked

@@ -1,5 +1,5 @@
 -- Want of memory is free.
-use Rattle.std.proofs.Common.{◌≡◌, Result, Err, sym, subst}
+use Rattle.std.proofs.Common.{◌≡◌, Err, sym, subst}
 use Rattle.ob_judge.specs.Judged.{Judged, Keeps, Breaks}
 use Rattle.check_types.specs.steps.Answers.{Answers, Refuses}
 use Rattle.check_types.specs.declared.steps.fault.CheckFault.{CheckFault}

@@ -9,7 +9,7 @@ use Rattle.check_types.specs.Known.{known_of}
 use Rattle.check_types.specs.names.Meaning.{module_of}
 use Rattle.check_making.specs.declared.making.Surroundings.{Surroundings}
 use Rattle.check_making.specs.Making.{table_of, strings_of}
-use Rattle.check_making.specs.Staying.{AreSettled, ModuleStays, NamesHaveTypes}
+use Rattle.check_making.specs.Staying.{ModuleStays, NamesHaveTypes}
 use Rattle.check_making.specs.declared.scopes.building.Building.{Building}
 use Rattle.check_making.specs.scopes.Building.{TheyStandFor}
 use Rattle.judged_outlines.specs.ends.Ends.{EndsWell}

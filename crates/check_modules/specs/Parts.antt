@@ -1,5 +1,5 @@
 -- The judgement of a module by the parts that code goes through (Oberon-07 report, section 11).
-use Rattle.std.specs.Prelude.{◌≡◌, ℕ, List, [], true, None}
+use Rattle.std.specs.Prelude.{ℕ, [], true, None}
 use Rattle.std.specs.Str.{bytes_eq}
 use Rattle.ob_syntax.specs.Syntax as S
 use Rattle.ob_judge.specs.Judged.{Judged, Keeps, ◌>>=◌, ◌>>◌, rule}

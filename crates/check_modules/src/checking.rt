@@ -19,7 +19,7 @@ use crate::ending::{JudgedModule, end_module};
 use crate::programs::Modules;
 use check_making::scopes::Building;
 use check_making::{Declaring, Surroundings, TextPlace, next_number};
-use check_procedures::lines::line_numbers;
+use check_procedures::lines::line_starts;
 use check_types::names::KnownModule;
 use check_types::steps::{CheckFault, Source};
 use items::Items;
@@ -28,12 +28,12 @@ use ob_types::Module as ModuleOf;
 use std::alloc::Global;
 use table_builder::TableBuilder;
 
-// The line at each place of a module's text.
+// Where the lines of a module's text begin.
 fn lines_of(alloc: Global, text: &[u8]) -> Result<Vec<u32>, CheckFault>
     ensures lines { IfOk result (λ v. IsLineTable text.now v.items) }
     ensures memory { IfErr result (λ e. e ≡ CheckFault.Memory) }
 {
-    match line_numbers(alloc, text) {
+    match line_starts(alloc, text) {
         Ok(lines) => Ok(lines),
         Err(_) => Err(CheckFault::Memory),
     }
@@ -96,13 +96,14 @@ fn behind(building: Building, known: Vec<KnownModule>, modules: Items<ModuleOf>)
     }
 }
 
-/// A module is judged behind those before. `texts` are the bytes of all modules' texts by their numbers.
+/// A module is judged behind those before, and its tree let go as far as it is judged. `texts` are the bytes of all modules' texts
+/// by their numbers.
 pub fn check_module(
     state: Modules,
     alloc: Global,
     texts: &[Items<u8>],
     source: &Source,
-    tree: &Module,
+    mut tree: Module,
 ) -> Result<Modules, CheckFault>
     requires settled { HasSettledModules texts.now state }
     requires so_far { HasSoFar texts.now state }
@@ -111,7 +112,7 @@ pub fn check_module(
     ensures settled { IfOk result (λ s. HasSettledModules texts.now s) }
     ensures number { IfOk result (λ s. length s.known.items ≡ suc (length state.known.items)) }
     ensures judged { (c : SoFar) → StandsForModules texts.now state c → UprightSoFar c
-        → Answers (StandsForModules texts.now) (with_module source.now (plain_module tree.now) c) result }
+        → Answers (StandsForModules texts.now) (with_module source.now (plain_module tree) c) result }
 {
     new_name(state.known.as_slice(), source, tree.name)?;
     let module_number = next_number(state.known.as_slice())?;
@@ -138,8 +139,8 @@ pub fn check_module(
         declaring,
         procedures,
     };
-    declared(&mut building, &round, lines.as_slice(), tree)?;
-    let ended = end_module(&mut building, &round, lines.as_slice(), tree)?;
+    declared(&mut building, &round, lines.as_slice(), &mut tree)?;
+    let ended = end_module(&mut building, &round, lines.as_slice(), &tree)?;
     let JudgedModule { own, seen } = ended;
     modules.push(own)?;
     known.push(seen)?;

@@ -20,13 +20,16 @@ ghost use Rattle.check_making.specs.scopes.Building.{IsLater, Represents};
 ghost use Rattle.check_procedures.specs.UnderWay.{IsUnderWay, BuildsUpright};
 ghost use Rattle.check_modules.specs.Parts.{declared_part};
 
+use crate::declarations::declarations;
 use crate::importing::{imports, is_new};
 use check_making::Surroundings;
 use check_making::scopes::Building;
-use check_procedures::declarations;
 use check_types::names::KnownModule;
 use check_types::steps::{CheckFault, Source};
+use ob_syntax::declarations::Decls;
 use ob_syntax::modules::Module;
+use std::alloc::Global;
+use std::mem::replace;
 
 /// No module before has this name.
 pub fn new_name(known: &[KnownModule], source: &Source, name: u32) -> Result<(), CheckFault>
@@ -40,21 +43,33 @@ pub fn new_name(known: &[KnownModule], source: &Source, name: u32) -> Result<(),
     }
 }
 
-/// A module's imports, and its declarations.
+// No declarations.
+fn no_declarations(alloc: Global) -> Decls {
+    Decls {
+        consts: None,
+        types: None,
+        vars: None,
+        procedures: Vec::new(alloc),
+    }
+}
+
+/// A module's imports, and its declarations, which are taken out of the tree.
 pub fn declared(
     state: &mut Building,
     round: &Surroundings,
     lines: &[u32],
-    tree: &Module,
+    tree: &mut Module,
 ) -> Result<(), CheckFault>
     requires under_way { IsUnderWay round.now state.old }
     requires read { IsRead round.now.source.now }
     requires lines { IsLineTable round.now.source.now.bytes lines.now }
     ensures settled { OnOk result (IsSettled round.now state.new.declaring) }
     ensures grows { OnOk result (Grows state.old.declaring.types.table state.new.declaring.types.table) }
-    ensures judged { BuildsUpright round.now state.old state.new (declared_part round.now.source.now (plain_module tree.now)) result }
+    ensures judged { BuildsUpright round.now state.old state.new (declared_part round.now.source.now (plain_module tree.old)) result }
+    ensures rest { OnOk result (tree.new ≡ record (tree.old) { decls = tree.new.decls }) }
     ensures legal { OnOk result (HasLegalTypes state.old.declaring.types.table → HasLegalTypes state.new.declaring.types.table) }
 {
     imports(&mut state.declaring, round, &tree.imports)?;
-    declarations(state, round, lines, &tree.decls)
+    let decls = replace(&mut tree.decls, no_declarations(round.alloc));
+    declarations(state, round, lines, decls)
 }

@@ -6,6 +6,7 @@
 
 mod bodies;
 mod checking;
+mod declarations;
 mod declaring;
 mod ending;
 pub mod importing;

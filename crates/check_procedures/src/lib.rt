@@ -14,4 +14,5 @@ pub mod numbers;
 mod opening;
 mod walk;
 
-pub use walk::declarations;
+pub use first_parts::before_procedures;
+pub use walk::procedure;

@@ -24,9 +24,9 @@ use check_types::steps::CheckFault;
 use ob_syntax::declarations::{Decls, Procedure as ProcedureTree};
 
 /// All declarations of a scope: constants, types and variables, and then procedures, each with its own declarations and its
-/// statements. `lines` are those of the text by their places.
+/// statements. `lines` are the places where the lines of the text begin.
 #[cycle(walk)]
-pub fn declarations(
+fn declarations(
     state: &mut Building,
     round: &Surroundings,
     lines: &[u32],
@@ -71,9 +71,10 @@ fn procedures(
     Ok(())
 }
 
-/// A procedure.
+/// A procedure, with its own declarations, procedures among them, and its statements. `lines` are the places where the lines of the
+/// text begin.
 #[cycle(walk)]
-fn procedure(
+pub fn procedure(
     state: &mut Building,
     round: &Surroundings,
     lines: &[u32],

@@ -20,16 +20,17 @@ fn judged(
     texts: &[Items<u8>],
     index: usize,
     bytes: &[u8],
-    text: &ModuleText,
+    text: ModuleText,
 ) -> Result<Modules, SourceFault>
     requires behind { IsBehind texts.now index state }
     requires own_text { slice_get texts.now index ≡ Some bytes.now }
-    requires text { IsModuleText bytes.now text.now.symbols.items text.now.tree }
+    requires text { IsModuleText bytes.now text.symbols.items text.tree }
     ensures behind { IfOk result (λ s. IsBehind texts.now (suc index) s) }
     ensures fault { IfErr result (λ e. IsSourceFault texts.now e) }
 {
-    let source = Source::new(bytes, text.symbols.as_slice());
-    match check_module(state, alloc, texts, &source, &text.tree) {
+    let ModuleText { symbols, tree } = text;
+    let source = Source::new(bytes, symbols.as_slice());
+    match check_module(state, alloc, texts, &source, tree) {
         Ok(state) => Ok(state),
         Err(fault) => Err(of_judging(index, fault)),
     }
@@ -49,7 +50,7 @@ pub(crate) fn one_more(
     ensures fault { IfErr result (λ e. IsSourceFault texts.now e) }
 {
     match read_module(alloc, bytes) {
-        Ok(text) => judged(state, alloc, texts, index, bytes, &text),
+        Ok(text) => judged(state, alloc, texts, index, bytes, text),
         Err(fault) => Err(of_reading(index, fault)),
     }
 }

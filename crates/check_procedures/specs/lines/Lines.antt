@@ -1,12 +1,12 @@
--- The lines of a text by their places.
-use Rattle.std.specs.Prelude.{◌≡◌, ◌≤◌, ℕ, suc, List, length, take, if◌then◌else◌, nat_eq, Some, slice_get}
-use Rattle.ob_judge.specs.Scopes.{line_ends}
+-- The lines of a text by the places where they begin.
+use Rattle.std.specs.Prelude.{◌≡◌, ◌<◌, ℕ, suc, List, [], ◌∷◌, length, if◌then◌else◌, nat_eq}
 
--- of each place the line, and of the text's end
+-- the places behind the line ends of bytes that stand from this place on
+abbrev pub starts_from : ℕ → List ℕ → List ℕ
+starts_from at [] = []
+starts_from at (b ∷ bs) = if nat_eq b 10 then suc at ∷ starts_from (suc at) bs else starts_from (suc at) bs
+
+-- where the lines of a text begin, but the first; each place, and each line, has a number of 32 bits
 pub record IsLineTable (bytes lines : List ℕ) : Type 0 where
-  pub many : length lines ≡ suc (length bytes)
-  pub line : (k : ℕ) → k ≤ length bytes → slice_get lines k ≡ Some (suc (line_ends (take k bytes)))
-
--- this is the line behind a byte of this line
-abbrev pub IsNextLine : (line byte next : ℕ) → Type 0
-IsNextLine line byte next = next ≡ (if nat_eq byte 10 then suc line else line)
+  pub starts : lines ≡ starts_from 0 bytes
+  pub few : length bytes < 4294967295

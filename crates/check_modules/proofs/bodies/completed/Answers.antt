@@ -1,4 +1,4 @@
-use Rattle.std.proofs.Common.{None, refl, sym, subst}
+use Rattle.std.proofs.Common.{refl, sym, subst}
 use Rattle.ob_syntax.specs.Plain.{plain_module}
 use Rattle.check_procedures.specs.numbers.Numbering.{NumbersAll}
 use Rattle.check_types.specs.declared.types.TypeRef.TheVariants as TheType

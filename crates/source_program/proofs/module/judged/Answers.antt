@@ -27,7 +27,7 @@ check_module-requires-clause-own_text c =
 pub check_module-requires-clause-read : goal.check_module-requires-clause-read
 check_module-requires-clause-read c =
     let b = c.args.bytes.now in
-    let x = c.args.text.now in
+    let x = c.args.text in
     let same = c.new-source.ensures ∙ ap (λ (ss : List Symbol). (parsed b ss x.tree).source) c.as_slice.ensures.value in
     subst IsRead (sym same) (text_is_read b x.symbols.items x.tree (λ i. omega (arith, c.type_inv.bytes i)) c.requires.text)
 
@@ -35,7 +35,7 @@ pub returns-in-Ok-clause-behind : goal.returns-in-Ok-clause-behind
 returns-in-Ok-clause-behind c =
     let T = c.args.texts.now in
     let b = c.args.bytes.now in
-    let x = c.args.text.now in
+    let x = c.args.text in
     let m = parsed b x.symbols.items x.tree in
     let same = c.new-source.ensures ∙ ap (λ (ss : List Symbol). (parsed b ss x.tree).source) c.as_slice.ensures.value in
     let read = text_is_read b x.symbols.items x.tree (λ i. omega (arith, c.type_inv.bytes i)) c.requires.text in
@@ -43,11 +43,11 @@ returns-in-Ok-clause-behind c =
     next_judged T c.args.index c.args.state c.requires.behind b m c.requires.own_text is read c.in-Ok.state c.in-Ok.ensures.settled c.in-Ok.ensures.number
     (subst (λ (p : Source). (k : SoFar) → StandsForModules T c.args.state k → UprightSoFar k → Answers (StandsForModules T) (with_module p (plain_module x.tree) k) (Ok c.in-Ok.state)) same c.in-Ok.ensures.judged)
 
-pub returns-in-Err-clause-fault : goal.returns-in-Err-clause-fault
-returns-in-Err-clause-fault c =
+pub returns-clause-fault : goal.returns-clause-fault
+returns-clause-fault c =
     let T = c.args.texts.now in
     let b = c.args.bytes.now in
-    let x = c.args.text.now in
+    let x = c.args.text in
     let m = parsed b x.symbols.items x.tree in
     let same = c.new-source.ensures ∙ ap (λ (ss : List Symbol). (parsed b ss x.tree).source) c.as_slice.ensures.value in
     let is : IsParsed b m = record { symbols = x.symbols.items; tree = x.tree; text = c.requires.text; is = refl } in

@@ -1,0 +1,1 @@
+use Rattle.check_procedures.proofs.lines.line_starts.Goals as goal
