@@ -4,8 +4,8 @@
 #     bench/link.sh [PROGRAM]
 #
 # PROGRAM is the built program of crates/link_vectors (`rt run` leaves it in that crate's out/). `bench/link_vectors.py`
-# makes the flows, where the other compiler is. Each module is read, allocated and resolved once and linked many times; what
-# is done once is subtracted, as the time of the same run that links nothing. Times are the processor's.
+# makes the flows, where the other compiler is. Each module is read once, and allocated, resolved and linked many times, since
+# linking lets go what it is given; the time of the same run that links nothing is subtracted. Times are the processor's.
 set -eu
 . "$(dirname "$0")/measure.sh"
 program=${1:-$(built link_vectors)}
@@ -14,7 +14,7 @@ printf '%9s %9s %14s %12s\n' copies words 'ms a call' 'us a word'
 for copies in 1 2 4 8 16 32; do
     "$top/bench/link_vectors.py" bench "$copies" >"$work/in"
     times=$((64 / copies + 1))
-    none=$(milliseconds "$program" bench 0)
+    none=$(milliseconds "$program" allocate "$times")
     all=$(milliseconds "$program" bench "$times")
     words=$(awk '$1 == "image" { print $2 }' "$work/out")
     awk -v c="$copies" -v m="$(each_call "$none" "$all" "$times")" -v w="${words:-0}" \

@@ -99,10 +99,5 @@ module _ (choice : Choice) (procs : List Proc) (ready : All IsReady procs) (few 
   pub allocated_there : (fs : List Flow) → fs ≡ flows → (parts : List (List Line)) (outs : List (List TraceOut)) (n : ℕ) → AreAllocated choice fs parts outs n → AreAllocated choice (map selected procs) parts outs n
   allocated_there fs e parts outs n h = subst (λ xs. AreAllocated choice xs parts outs n) (e ∙ same) h
 
-  pub cuts_there : (parts : List (List Line)) (outs : List (List TraceOut)) (n : ℕ) (h : AreAllocated choice (map selected procs) parts outs n) (fs : List Flow) → fs ≡ flows
-      → (ps : List (List Line)) → ps ≡ parts → (os : List (List TraceOut)) → os ≡ outs → AreCuts choice.regs fs ps os h.cuts
-  cuts_there parts outs n h fs e ps f os g =
-      subst (λ (xs : List Flow). AreCuts choice.regs xs ps os h.cuts) (sym (e ∙ same))
-      (subst (λ (xs : List (List Line)). AreCuts choice.regs (map selected procs) xs os h.cuts) (sym f)
-      (subst (λ (xs : List (List TraceOut)). AreCuts choice.regs (map selected procs) parts xs h.cuts) (sym g)
-      (are_cuts choice procs parts outs n h few ready (subst HaveNumbers same numbers))))
+  pub cuts_there : (parts : List (List Line)) (outs : List (List TraceOut)) (n : ℕ) (h : AreAllocated choice (map selected procs) parts outs n) (fs : List Flow) → fs ≡ flows → AreCuts choice.regs fs parts outs h.cuts
+  cuts_there parts outs n h fs e = subst (λ (xs : List Flow). AreCuts choice.regs xs parts outs h.cuts) (sym (e ∙ same)) (are_cuts choice procs parts outs n h few ready (subst HaveNumbers same numbers))

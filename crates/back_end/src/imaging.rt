@@ -15,7 +15,7 @@ ghost use Rattle.back_end.specs.declared.fault.ImageFault.TheVariants.{Traces, C
 use crate::fault::{ImageFault, fault_of};
 use crate::numbers::read_nodes;
 use a64_select::select;
-use flow_allocation::{Choice, Flow, allocate_flows};
+use flow_allocation::{AllocatedFlows, Choice, Flow, allocate_flows};
 use image_form::Image;
 use items::Items;
 use link_plan::{Data, link};
@@ -60,18 +60,13 @@ pub fn image_of<G: Gate, R: Threads + Wait + Sync>(
 {
     let flows = select_all(alloc, procedures)?;
     let allocated = allocate_flows(rt, alloc, choice, flows.as_slice(), gate)?;
-    let parts = allocated.parts.as_slice();
-    match link(
-        alloc,
-        flows.as_slice(),
+    let AllocatedFlows {
         parts,
-        allocated.outs.as_slice(),
-        extra,
-    ) {
-        Ok(image) => Ok(LinkedProcedures {
-            image,
-            traces: allocated.traces,
-        }),
+        outs,
+        traces,
+    } = allocated;
+    match link(alloc, flows.as_slice(), parts, outs, extra) {
+        Ok(image) => Ok(LinkedProcedures { image, traces }),
         Err(fault) => Err(fault_of(fault)),
     }
 }

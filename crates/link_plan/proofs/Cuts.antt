@@ -1,9 +1,9 @@
 -- Cuts one by one.
-use Rattle.std.proofs.Common.{◌≡◌, ℕ, zero, suc, ◌+◌, ◌<◌, ◌≤◌, List, [], ◌∷◌, ◌++◌, map, length, drop, get_or, Bool, true, false, refl, arith, sym, ap, ap₂, ◌∙◌, subst, append_assoc}
+use Rattle.std.proofs.Common.{◌≡◌, ℕ, zero, suc, ◌+◌, ◌<◌, ◌≤◌, List, [], ◌∷◌, ◌++◌, map, length, drop, get_or, Option, Some, Bool, true, refl, arith, sym, ap, ap₂, ◌∙◌, subst, append_assoc}
 use Rattle.std.specs.Prelude.{◌&&◌, max}
 use Rattle.std.specs.List.{list_all}
+use Rattle.std.specs.Option.{option_to_list}
 use Rattle.std.proofs.lemmas.List.{append-nil, drop_more, drop_all}
-use Rattle.placed_code.proofs.Parts.{get_mapped}
 use Rattle.lir_core.specs.declared.flow.Flow.{Flow}
 use Rattle.lir_core.specs.declared.places.TraceOut.{TraceOut}
 use Rattle.boundary_resolve.specs.declared.placed.Placed.{Placed as Line}
@@ -62,7 +62,7 @@ cut_at k flows parts outs cuts are i f lines os l ef el eo =
       };
     }
 
-drop_next : {A : Type 0} (xs : List A) (i : ℕ) (x : A) (rest : List A) → drop i xs ≡ x ∷ rest → drop (i + 1) xs ≡ rest
+pub drop_next : {A : Type 0} (xs : List A) (i : ℕ) (x : A) (rest : List A) → drop i xs ≡ x ∷ rest → drop (i + 1) xs ≡ rest
 drop_next {A} xs i x rest e = let z : i + 1 ≡ suc i = omega arith in ap (λ m. drop m xs) z ∙ on xs i e
   where
     on : (ys : List A) (m : ℕ) → drop m ys ≡ x ∷ rest → drop (suc m) ys ≡ rest
@@ -129,11 +129,26 @@ pub frames_plain : (ps : List Placed) → greatest_frame (map plain ps) ≡ grea
 frames_plain [] = refl
 frames_plain (p ∷ ps) = ap (λ m. max (frame_of p) m) (frames_plain ps)
 
----- While plans are made
+---- Lists whose items are taken one by one
+
+-- an item that is taken, and what is left
+pub next_is : {V : Type 0} (xs left left' : List V) (i : ℕ) (o : Option V) (v : V) → left ≡ drop i xs → left ≡ option_to_list o ++ left' → o ≡ Some v → drop i xs ≡ v ∷ left'
+next_is xs left left' i o v at e is = sym at ∙ e ∙ ap (λ (x : Option _). option_to_list x ++ left') is
 
 -- an item's list
-pub item_at : {V A : Type 0} (items : V → List A) (xs : List V) (i : ℕ) (v : V) → i < length xs → v ≡ get_or xs i v → items v ≡ get_or (map items xs) i []
-item_at items xs i v l e = ap items e ∙ sym (get_mapped items xs i [] v l)
+pub item_at : {V A : Type 0} (items : V → List A) (xs : List V) (i : ℕ) (v : V) (rest : List V) → drop i xs ≡ v ∷ rest → items v ≡ get_or (map items xs) i []
+item_at items [] zero v rest e = cc
+item_at items [] (suc i) v rest e = cc
+item_at items (x ∷ xs) zero v rest e = let same : v ≡ x = cc in ap items same
+item_at items (x ∷ xs) (suc i) v rest e = item_at items xs i v rest e
+
+-- none is left only behind the last
+pub left_none : {V A : Type 0} (items : V → List A) (xs left : List V) (i : ℕ) → left ≡ drop i xs → length left ≡ 0 → length (map items xs) ≤ i
+left_none items [] left i at e = omega arith
+left_none items (x ∷ xs) left zero at e = absurd (let n : length left ≡ suc (length xs) = ap (λ (ys : List _). length ys) at in omega (arith, n, e))
+left_none items (x ∷ xs) left (suc i) at e = let n = left_none items xs left i at e in omega (arith, n)
+
+---- While plans are made
 
 pub fits_more : (flows : List Flow) (i : ℕ) (f : Flow) (all : Bool) → i < length flows → f ≡ get_or flows i f → numbers_fit f ≡ true → all ≡ list_all (λ g. numbers_fit g) (drop i flows) → all ≡ list_all (λ g. numbers_fit g) (drop (i + 1) flows)
 fits_more flows i f all l e fits inv =

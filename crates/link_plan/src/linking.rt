@@ -36,23 +36,24 @@ pub struct Data {
 /// The image of flows by their numbers, from each one's lines in code order and the results for its traces. A flow whose
 /// calls aren't counted is the body of a module, and the bodies run in the order of their numbers. `Limit` comes exactly
 /// where the code is over 262,144 words, `Misfit` for no sound results of flows whose numbers and frames are small enough.
-/// Takes time in proportion to lines and words, and n log n for n homes.
+/// Takes time in proportion to lines and words, and n log n for n homes. The lines and results of a flow are let go once they are
+/// read.
 pub fn link(
     alloc: Global,
     flows: &[Flow],
-    parts: &[Vec<Placed>],
-    outs: &[Vec<TraceOut>],
+    parts: Vec<Vec<Placed>>,
+    outs: Vec<Vec<TraceOut>>,
     extra: Data,
 ) -> Result<Image, LinkFault>
     requires { DataFits extra.flags extra.globals extra.constants }
-    ensures image { (k : ℕ) (cuts : List Cut) → AreCuts k flows.now (map (λ v. v.items) parts.now) (map (λ v. v.items) outs.now) cuts
+    ensures image { (k : ℕ) (cuts : List Cut) → AreCuts k flows.now (map (λ v. v.items) parts.items) (map (λ v. v.items) outs.items) cuts
         → IfOk result (λ image. image ≡ linked cuts extra.flags extra.globals extra.constants) }
     ensures form { IfOk result IsInForm }
-    ensures runs { (k : ℕ) (cuts : List Cut) (input : List ℕ) → AreCuts k flows.now (map (λ v. v.items) parts.now) (map (λ v. v.items) outs.now) cuts → AreBytes extra.constants
+    ensures runs { (k : ℕ) (cuts : List Cut) (input : List ℕ) → AreCuts k flows.now (map (λ v. v.items) parts.items) (map (λ v. v.items) outs.items) cuts → AreBytes extra.constants
         → ((i : ℕ) → get_or input i 0 < 2 ^ 64) → IfOk result (λ image. Runs image cuts extra.globals extra.constants input) }
-    ensures limit { IfErr result (λ fault. fault ≡ Limit → (k : ℕ) (cuts : List Cut) → AreCuts k flows.now (map (λ v. v.items) parts.now) (map (λ v. v.items) outs.now) cuts
+    ensures limit { IfErr result (λ fault. fault ≡ Limit → (k : ℕ) (cuts : List Cut) → AreCuts k flows.now (map (λ v. v.items) parts.items) (map (λ v. v.items) outs.items) cuts
         → 2 ^ 18 < length (all_words (all_placed steps_of (all_allocated cuts)))) }
-    ensures misfit { IfErr result (λ fault. fault ≡ Misfit → (k : ℕ) (cuts : List Cut) → AreCuts k flows.now (map (λ v. v.items) parts.now) (map (λ v. v.items) outs.now) cuts
+    ensures misfit { IfErr result (λ fault. fault ≡ Misfit → (k : ℕ) (cuts : List Cut) → AreCuts k flows.now (map (λ v. v.items) parts.items) (map (λ v. v.items) outs.items) cuts
         → AreSmall cuts → ⊥) }
 {
     let plans = all_plans(alloc, flows, parts, outs)?;
@@ -72,22 +73,23 @@ pub fn link(
 fn all_plans(
     alloc: Global,
     flows: &[Flow],
-    parts: &[Vec<Placed>],
-    outs: &[Vec<TraceOut>],
+    parts: Vec<Vec<Placed>>,
+    outs: Vec<Vec<TraceOut>>,
 ) -> Result<Vec<Plan>, LinkFault>
-    ensures plans { (k : ℕ) (cuts : List Cut) → AreCuts k flows.now (map (λ v. v.items) parts.now) (map (λ v. v.items) outs.now) cuts
+    ensures plans { (k : ℕ) (cuts : List Cut) → AreCuts k flows.now (map (λ v. v.items) parts.items) (map (λ v. v.items) outs.items) cuts
         → IfOk result (λ plans. map placed_in plans.items ≡ map plain (all_placed steps_of (all_allocated cuts))) }
     ensures fits { IfOk result (λ plans. list_all (λ f. numbers_fit f) flows.now ≡ true) }
     ensures limit { IfErr result (λ fault. fault ≡ Limit → ⊥) }
-    ensures misfit { IfErr result (λ fault. fault ≡ Misfit → (k : ℕ) (cuts : List Cut) → AreCuts k flows.now (map (λ v. v.items) parts.now) (map (λ v. v.items) outs.now) cuts
+    ensures misfit { IfErr result (λ fault. fault ≡ Misfit → (k : ℕ) (cuts : List Cut) → AreCuts k flows.now (map (λ v. v.items) parts.items) (map (λ v. v.items) outs.items) cuts
         → AreSmall cuts → ⊥) }
 {
-    let mut plans = Vec::new(alloc);
-    for (i, flow) in flows.iter().enumerate() {
-        if i >= parts.len() || i >= outs.len() {
-            return Err(LinkFault::Misfit);
-        }
-        let plan = plan_of(alloc, flow, parts[i].as_slice(), outs[i].as_slice())?;
+    let mut plans = Vec::with_capacity(alloc, flows.len())?;
+    let mut parts = parts.into_iter();
+    let mut outs = outs.into_iter();
+    for flow in flows {
+        let lines = parts.next().ok_or(LinkFault::Misfit)?;
+        let results = outs.next().ok_or(LinkFault::Misfit)?;
+        let plan = plan_of(alloc, flow, lines.as_slice(), results.as_slice())?;
         plans.push(plan)?;
     }
     Ok(plans)

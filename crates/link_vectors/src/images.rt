@@ -13,7 +13,7 @@ use std::thread::Threads;
 fn linked(
     alloc: Global,
     module: &Module,
-    allocated: &AllocatedFlows,
+    allocated: AllocatedFlows,
 ) -> Result<Result<Image, LinkFault>, Memory> {
     let constants = Vec::from_slice(alloc, module.constants.as_slice())?;
     let fits = module.flags < 2 && module.globals <= 8_388_608 && constants.len() <= 2_097_152;
@@ -29,14 +29,8 @@ fn linked(
         globals: module.globals,
         constants: Bytes::new(constants),
     };
-    let flows = module.flows.as_slice();
-    Ok(link(
-        alloc,
-        flows,
-        allocated.parts.as_slice(),
-        allocated.outs.as_slice(),
-        data,
-    ))
+    let AllocatedFlows { parts, outs, .. } = allocated;
+    Ok(link(alloc, module.flows.as_slice(), parts, outs, data))
 }
 
 fn text_of(alloc: Global, image: &Image, all: bool) -> Result<String, AllocError> {
@@ -61,7 +55,14 @@ fn text_of(alloc: Global, image: &Image, all: bool) -> Result<String, AllocError
     Ok(text)
 }
 
-/// What a `link` prints: the module linked so often.
+/// How often a module is allocated, and whether it is then linked.
+#[derive(Clone, Copy)]
+pub(crate) struct Runs {
+    pub(crate) times: u32,
+    pub(crate) links: bool,
+}
+
+/// What a `link` prints: the module's image, or nothing where it isn't linked.
 pub(crate) fn answer<R: Threads + Wait + Sync>(
     rt: &R,
     alloc: Global,
@@ -69,7 +70,7 @@ pub(crate) fn answer<R: Threads + Wait + Sync>(
     linear: bool,
     regs: u8,
     all: bool,
-    times: u32,
+    runs: Runs,
 ) -> Result<String, Memory> {
     let mut text = String::new(alloc);
     if regs < 4 || regs > 16 {
@@ -85,18 +86,21 @@ pub(crate) fn answer<R: Threads + Wait + Sync>(
         regs,
         jobs: 1,
     };
-    let allocated = match allocate_flows(rt, alloc, &choice, module.flows.as_slice(), &OpenGate) {
-        Ok(allocated) => allocated,
-        Err(WorkFault::Traces) => return Ok(String::from_str(alloc, "traces\n")?),
-        Err(WorkFault::Memory) => return Err(Memory),
-    };
-    for _ in 0..times {
-        text = match linked(alloc, module, &allocated)? {
-            Ok(image) => text_of(alloc, &image, all)?,
-            Err(LinkFault::Limit) => String::from_str(alloc, "limit\n")?,
-            Err(LinkFault::Misfit) => String::from_str(alloc, "misfit\n")?,
-            Err(LinkFault::Memory) => return Err(Memory),
+    for _ in 0..runs.times {
+        let flows = module.flows.as_slice();
+        let allocated = match allocate_flows(rt, alloc, &choice, flows, &OpenGate) {
+            Ok(allocated) => allocated,
+            Err(WorkFault::Traces) => return Ok(String::from_str(alloc, "traces\n")?),
+            Err(WorkFault::Memory) => return Err(Memory),
         };
+        if runs.links {
+            text = match linked(alloc, module, allocated)? {
+                Ok(image) => text_of(alloc, &image, all)?,
+                Err(LinkFault::Limit) => String::from_str(alloc, "limit\n")?,
+                Err(LinkFault::Misfit) => String::from_str(alloc, "misfit\n")?,
+                Err(LinkFault::Memory) => return Err(Memory),
+            };
+        }
     }
     Ok(text)
 }

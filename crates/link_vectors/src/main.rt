@@ -9,15 +9,15 @@
 //! - `link POLICY REGISTERS [words]`: prints its image: how many code words, the bytes of the greatest frame, of the globals
 //!   and of the constants, the flags, a sum of words and constants, and with `words` all code words.
 //!
-//! With the words `bench TIMES`, for `bench/link.sh` and `bench/order.sh`, it links each module so often; the line
-//! `order REGISTERS HOMES` then orders the moves of a permutation of so many places.
+//! With the words `bench TIMES`, for `bench/link.sh` and `bench/order.sh`, it allocates and links each module so often, and with
+//! `allocate TIMES` it only allocates it; the line `order REGISTERS HOMES` then orders the moves of a permutation of so many places.
 #![tactic(auto)]
 
 mod images;
 mod orders;
 
 use flow_text::{Words, flow_in};
-use images::answer;
+use images::{Runs, answer};
 use lir_core::{Flow, Items};
 use orders::ordered;
 use outside::Memory;
@@ -56,7 +56,7 @@ fn reply<R: Threads + Wait + Sync>(
     rt: &R,
     alloc: Global,
     module: &mut Module,
-    times: u32,
+    runs: Runs,
     line: &str,
 ) -> Result<String, Memory> {
     let mut words = Words::new(line);
@@ -68,10 +68,10 @@ fn reply<R: Threads + Wait + Sync>(
         let linear = words.word() == "linear";
         let regs = u8::try_from(words.or_zero()).unwrap_or(0);
         let all = words.takes("words");
-        return answer(rt, alloc, module, linear, regs, all, times);
+        return answer(rt, alloc, module, linear, regs, all, runs);
     }
     if words.takes("order") {
-        return ordered(alloc, words.or_zero(), words.or_zero(), times);
+        return ordered(alloc, words.or_zero(), words.or_zero(), runs.times);
     }
     module.flows.push(flow_in(alloc, &mut words)?)?;
     Ok(String::new(alloc))
@@ -80,11 +80,15 @@ fn reply<R: Threads + Wait + Sync>(
 fn main(rt: HostRuntime) -> io::Result<()> {
     let mut words = env::args(&rt)?;
     words.next();
-    let bench = words.next().is_some();
-    let times = match words.next() {
-        Some(times) if bench => times.as_str().parse::<u32>().unwrap_or(1),
-        _ => 1,
+    let links = match words.next() {
+        Some(word) => word.as_str() != "allocate",
+        None => true,
     };
+    let times = match words.next() {
+        Some(times) => times.as_str().parse::<u32>().unwrap_or(1),
+        None => 1,
+    };
+    let runs = Runs { times, links };
     let mut module = Module {
         flags: 0,
         globals: 0,
@@ -92,7 +96,7 @@ fn main(rt: HostRuntime) -> io::Result<()> {
         flows: Items::new(rt.alloc()),
     };
     for line in BufReader::new(rt.alloc(), rt.reader())?.lines(rt.alloc()) {
-        match reply(&rt, rt.alloc(), &mut module, times, line?.as_str()) {
+        match reply(&rt, rt.alloc(), &mut module, runs, line?.as_str()) {
             Ok(text) => print!(rt; "{text}")?,
             Err(Memory) => println!(rt; "out of memory")?,
         }

@@ -110,7 +110,7 @@ pub fn allocated<R: Threads + Wait + Sync>(
 }
 
 /// The image of flows with final results. It has no globals and no constants, as a made module has none.
-pub fn linked(alloc: Global, flows: &[Flow], allocated: &AllocatedFlows) -> Result<Image, LinkFault>
+pub fn linked(alloc: Global, flows: &[Flow], allocated: AllocatedFlows) -> Result<Image, LinkFault>
     ensures { IfOk result IsInForm }
 {
     let none = Data {
@@ -118,8 +118,8 @@ pub fn linked(alloc: Global, flows: &[Flow], allocated: &AllocatedFlows) -> Resu
         globals: 0,
         constants: Bytes::new(Vec::new(alloc)),
     };
-    let parts = allocated.parts.as_slice();
-    link(alloc, flows, parts, allocated.outs.as_slice(), none)
+    let AllocatedFlows { parts, outs, .. } = allocated;
+    link(alloc, flows, parts, outs, none)
 }
 
 /// The image of modules' texts, by all passes.

@@ -119,7 +119,7 @@ fn time_places<R: Clock + CpuClock + Print + Threads + Wait + Sync>(
     let results = allocated(rt, alloc, choice, flows)?;
     start.tell(rt, "allocate")?;
     let start = Start::now(rt)?;
-    let image = linked(alloc, flows, &results)?;
+    let image = linked(alloc, flows, results)?;
     start.tell(rt, "link")?;
     Ok(image)
 }
