@@ -1,3 +1,4 @@
+mod Bytes
 mod Gaps
 mod Longest
 mod Places

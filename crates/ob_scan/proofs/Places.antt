@@ -43,13 +43,6 @@ two_there a b (x ∷ y ∷ w) h =
     let q = eq_at y b k.1 in
     (w, cc)
 
-pub short : (a b : ℕ) (w : List ℕ) (i : ℕ) → i ≤ length w → length w - i < 2 → false ≡ is_two a b (drop i w)
-short a b [] zero h l = refl
-short a b [] (suc i) h l = refl
-short a b (x ∷ []) zero h l = refl
-short a b (x ∷ y ∷ w) zero h l = absurd (omega arith)
-short a b (x ∷ w) (suc i) h l = short a b w i (omega arith) (omega arith)
-
 pub one_there : (a : ℕ) (v : List ℕ) → true ≡ begins_with a v → (u : List ℕ) × (v ≡ a ∷ u)
 one_there a [] h = cc
 one_there a (x ∷ v) h = let q = eq_at x a h in (v, ap (λ z. z ∷ v) q)
@@ -59,6 +52,23 @@ byte_there w i a h =
     let k = one_there a (drop i w) h in
     let m = after_one w i a k.0 k.1 in
     (k.1 ∙ ap (λ z. a ∷ z) (sym m.0), m.1)
+
+-- two bytes, one behind the other
+
+equal_to : (a : ℕ) → true ≡ nat_eq a a
+equal_to a = grind arith
+
+second_of : (a b : ℕ) (v : List ℕ) → begins_with b v ≡ is_two a b (a ∷ v)
+second_of a b [] = refl
+second_of a b (y ∷ v) = ap (λ c. c && nat_eq y b) (equal_to a)
+
+pub two_by : (a b : ℕ) (w : List ℕ) (i : ℕ) → true ≡ begins_with a (drop i w) → begins_with b (drop (i + 1) w) ≡ is_two a b (drop i w)
+two_by a b w i h = let k = byte_there w i a h in second_of a b (drop (i + 1) w) ∙ ap (is_two a b) (sym k.0)
+
+pub no_first : (a b : ℕ) (v : List ℕ) → false ≡ begins_with a v → false ≡ is_two a b v
+no_first a b [] h = refl
+no_first a b (x ∷ []) h = refl
+no_first a b (x ∷ y ∷ v) h = ap (λ c. c && nat_eq y b) h
 
 -- comments
 

@@ -2,17 +2,22 @@
 use Rattle.std.proofs.Common.{◌≡◌, ℕ, zero, suc, ◌+◌, ◌-◌, ◌*◌, ◌<◌, ◌≤◌, ◌^◌, List, [], ◌∷◌, ◌++◌, Bool, true, false, cond, nat_eq, Some, None, ℤ, pos, length, take, drop, get_or, refl, sym, ap, ◌∙◌, subst, arith, append_assoc, length-append, length-drop, lit<}
 use Rattle.std.proofs.lemmas.List.{append-nil}
 use Rattle.std.proofs.Math.Nat.{mul-le-mul_left}
+use Rattle.std.specs.Prelude.{IfOk, IfErr}
+use Rattle.std.specs.declared.result.Result.{Result}
+use Rattle.std.specs.declared.result.Result.TheVariants.{Ok, Err}
 use Rattle.ob_symbol.specs.declared.symbol.Kind.{Kind}
 use Rattle.ob_symbol.specs.declared.symbol.Kind.TheVariants.{Ident, Int, Char, Text, Word, Mark}
 use Rattle.ob_symbol.specs.declared.symbol.Reserved.{Reserved}
 use Rattle.ob_symbol.specs.declared.symbol.Delimiter.{Delimiter}
 use Rattle.ob_symbol.specs.declared.symbol.Symbol.{Symbol}
+use Rattle.ob_scan.specs.declared.fault.ScanFault.{ScanFault}
+use Rattle.ob_scan.specs.declared.fault.ScanFault.TheVariants.{Fault, Memory}
 use Rattle.ob_scan.specs.declared.fault.NoSymbol.{NoSymbol}
 use Rattle.ob_scan.specs.declared.fault.NoSymbol.TheVariants.{BadByte, OpenComment, OpenString, NumberTooLarge, NameTooLong}
 use Rattle.ob_scan.specs.Tables.{reserved_of, one_mark, two_mark}
 use Rattle.ob_scan.specs.Words.{is_letter, is_letter_or_digit, is_digit, is_hexadecimal, is_quotable, is_all, begins_with, begins_comment, digit, value_from, signed, WordForm, Name, Keyword, Decimal, Hexadecimal, Character, Quoted, Operator, name_or_keyword, kind_of, IsTooLarge, IsTooLong}
-use Rattle.ob_scan.specs.Scans.{Gap, Longest, Unclosed, symbol, Scans, End, Done, Broken, ends, reads, bad_byte, open_comment, open_string, too_large, too_long}
-use Rattle.ob_scan.specs.Steps.{Spanned, Passing, Past, Found, Broke, NoBeginning, Refused, IsNext, rule, two_at}
+use Rattle.ob_scan.specs.Scans.{Gap, Longest, Unclosed, symbol, Scans, IsFirst, End, Done, Broken, ends, reads, bad_byte, open_comment, open_string, too_large, too_long}
+use Rattle.ob_scan.specs.Steps.{Spanned, Passing, Past, Found, Broke, NoBeginning, Refused, IsAdded, IsRefused, Reads, Stops, rule, two_at}
 use Rattle.ob_scan.proofs.Places.{here, after_one, after_two, byte_there}
 use Rattle.ob_scan.proofs.Gaps.{cond_true}
 use Rattle.ob_scan.proofs.Longest.{all_more, all_first, all_rest, digit_is_hexadecimal, name_longest, hexadecimal_longest, character_longest, decimal_longest, text_longest, line_over, one_longest, two_longest, no_beginning}
@@ -261,10 +266,6 @@ open_at w i from h g p c =
     let a = place_of w i from p.gap h g p.split in
     subst (λ u. Scans i u [] (Broken 11 from)) (sym p.split) (subst (λ n. Scans i (p.gap ++ drop from w) [] (Broken 11 n)) a (open_comment p.is c))
 
--- the same, by the rule's number
-pub open_by : (w : List ℕ) (i from number : ℕ) → number ≡ rule OpenComment → i ≤ length w → from ≤ length w → Past (drop i w) (drop from w) → begins_comment (drop from w) ≡ true → Scans i (drop i w) [] (Broken number from)
-open_by w i from number e h g p c = subst (λ n. Scans i (drop i w) [] (Broken n from)) (sym e) (open_at w i from h g p c)
-
 -- the rule that is broken where no symbol stands
 pub refused_at : (w : List ℕ) (i from : ℕ) (none : NoSymbol) → i ≤ length w → from < length w → Past (drop i w) (drop from w) → begins_comment (drop from w) ≡ false → Refused (drop from w) none → Scans i (drop i w) [] (Broken (rule none) from)
 refused_at w i from OpenComment h g p c r = elim r [ ]
@@ -284,8 +285,32 @@ refused_at w i from NameTooLong h g p c r =
     let y = too_long {i = i} (subst (Gap p.gap) r.split p.is) (ap begins_comment (sym r.split) ∙ c) r.is r.past in
     subst (λ u. Scans i u [] (Broken 14 from)) (sym (p.split ∙ ap (λ u. p.gap ++ u) r.split)) (subst (λ n. Scans i (p.gap ++ (r.word ++ r.rest)) [] (Broken 14 n)) a y)
 
-pub next_at : (w : List ℕ) (i from to : ℕ) (kind : Kind) → i ≤ length w → i ≤ from → from < to → to ≤ length w → Past (drop i w) (drop from w) → begins_comment (drop from w) ≡ false → Found (drop from w) (drop to w) kind → IsNext w i (symbol kind from to)
-next_at w i from to kind h g l t p nc s = record { by = λ more e x. reads_at w i from to kind h (omega arith) t p nc s more e x; low = omega arith; high = t }
+-- a symbol that was found, or not, and what was made of it
 
-pub refused_by : (w : List ℕ) (i from number : ℕ) (none : NoSymbol) → number ≡ rule none → i ≤ length w → from < length w → Past (drop i w) (drop from w) → begins_comment (drop from w) ≡ false → Refused (drop from w) none → Scans i (drop i w) [] (Broken number from)
-refused_by w i from number none e h g p c r = subst (λ n. Scans i (drop i w) [] (Broken n from)) (sym e) (refused_at w i from none h g p c r)
+pub reads_found : (w : List ℕ) (from to : ℕ) (old new : List Symbol) (found : Result (Kind × ℕ) NoSymbol) → IfOk found (λ x. Found (drop from w) (drop x.1 w) x.0) → IfOk found (λ x. (from < x.1) × (x.1 ≤ length w)) → IsAdded from old new found to → Reads w from old new to
+reads_found w from to old new (Err none) f r a = absurd a
+reads_found w from to old new (Ok x) f r a = subst (λ n. Reads w from old new n) (sym a.0) (record { kind = x.0; found = f; low = r.0; high = r.1; added = a.1 })
+
+pub stops_refused : (w : List ℕ) (from : ℕ) (found : Result (Kind × ℕ) NoSymbol) (e : ScanFault) → IfErr found (λ none. Refused (drop from w) none) → IsRefused from found e → Stops w from e
+stops_refused w from (Ok x) (Fault number at) f r = absurd r
+stops_refused w from (Err none) (Fault number at) f r = record { none = none; number_is = r.0; at_is = r.1; refused = f }
+stops_refused w from (Ok x) Memory f r = tt
+stops_refused w from (Err none) Memory f r = tt
+
+-- the symbols so far are a beginning of those of the text
+abbrev pub SoFar : List ℕ → List Symbol → ℕ → Type 0
+SoFar w items i = (more : List Symbol) (e : End) → Scans i (drop i w) more e → Scans zero w (items ++ more) e
+
+pub so_far_read : (w : List ℕ) (i from to : ℕ) (old new : List Symbol) → SoFar w old i → i ≤ length w → Past (drop i w) (drop from w) → from ≤ length w → begins_comment (drop from w) ≡ false → Reads w from old new to → SoFar w new to
+so_far_read w i from to old new so h p g c r = λ more e x.
+    (let s = so (symbol r.kind from to ∷ more) e (reads_at w i from to r.kind h g r.high p c r.found more e x) in
+    subst (λ v. Scans zero w (v ++ more) e) (sym r.added) (subst (λ v. Scans zero w v e) (sym (append_assoc old (symbol r.kind from to ∷ []) more)) s))
+
+pub first_stop : (w : List ℕ) (i from : ℕ) (items : List Symbol) (e : ScanFault) → SoFar w items i → i ≤ length w → Past (drop i w) (drop from w) → from < length w → begins_comment (drop from w) ≡ false → Stops w from e → IsFirst w e
+first_stop w i from items Memory so h p g c s = tt
+first_stop w i from items (Fault number at) so h p g c s =
+    let k = subst (λ n. Scans i (drop i w) [] (Broken n from)) (sym s.number_is) (refused_at w i from s.none h g p c s.refused) in
+    (items ++ [], so [] (Broken number at) (subst (λ n. Scans i (drop i w) [] (Broken number n)) (sym s.at_is) k))
+
+pub all_read : (w : List ℕ) (i from : ℕ) (items : List Symbol) → SoFar w items i → Past (drop i w) (drop from w) → drop from w ≡ [] → Scans zero w items Done
+all_read w i from items so p e = subst (λ v. Scans zero w v Done) (append-nil items) (so [] Done (ends_at w i from p e))

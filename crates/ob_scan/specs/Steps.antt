@@ -1,5 +1,7 @@
 -- What the steps of a scan find, byte by byte; the proof of `scan` alone speaks of it.
 use Rattle.std.specs.Prelude.{◌≡◌, ℕ, zero, suc, ◌≤◌, ◌<◌, List, [], ◌∷◌, ◌++◌, Bool, true, false, if◌then◌else◌, Option, Some, None, length, drop}
+use Rattle.std.specs.declared.result.Result.{Result}
+use Rattle.std.specs.declared.result.Result.TheVariants.{Ok, Err}
 use Rattle.ob_symbol.specs.declared.symbol.Kind.{Kind}
 use Rattle.ob_symbol.specs.declared.symbol.Delimiter.{Delimiter}
 use Rattle.ob_symbol.specs.declared.symbol.Symbol.{Symbol}
@@ -11,7 +13,7 @@ use Rattle.ob_scan.specs.declared.fault.NoSymbol.{NoSymbol}
 use Rattle.ob_scan.specs.declared.fault.NoSymbol.TheVariants.{BadByte, OpenComment, OpenString, NumberTooLarge, NameTooLong}
 use Rattle.ob_scan.specs.Tables.{two_mark}
 use Rattle.ob_scan.specs.Words.{WordForm, form_of, kind_of, IsTooLarge, IsTooLong, IsWithin, is_gap, is_all, is_letter_or_digit, is_digit, is_hexadecimal, is_quotable, opens, closes}
-use Rattle.ob_scan.specs.Scans.{Gap, Longest, Unclosed, Scans, End, Done, Broken}
+use Rattle.ob_scan.specs.Scans.{Gap, Longest, Unclosed, symbol, Scans, Broken}
 
 -- the bytes of a class
 abbrev pub in_class : Class → ℕ → Bool
@@ -77,16 +79,44 @@ Refused w OpenString = Unclosed w
 Refused w NumberTooLarge = Broke (λ form word. IsTooLarge form) w
 Refused w NameTooLong = Broke IsTooLong w
 
--- s is the next symbol from place i on
-pub record IsNext (w : List ℕ) (i : ℕ) (s : Symbol) : Type 0 where
-  pub by : (more : List Symbol) (e : End) → Scans s.to (drop s.to w) more e → Scans i (drop i w) (s ∷ more) e
-  pub low : i < s.to
-  pub high : s.to ≤ length w
+-- the numbers of the rules that a text may break
+abbrev pub rule : NoSymbol → ℕ
+rule BadByte = 10
+rule OpenComment = 11
+rule OpenString = 12
+rule NumberTooLarge = 13
+rule NameTooLong = 14
 
--- what is next from place i on: a symbol, or the end
-abbrev pub Follows : List ℕ → ℕ → Option Symbol → Type 0
-Follows w i None = Scans i (drop i w) [] Done
-Follows w i (Some s) = IsNext w i s
+-- the symbols with what was found from a place on behind them, and the place after it
+abbrev pub IsAdded : ℕ → List Symbol → List Symbol → Result (Kind × ℕ) NoSymbol → ℕ → Type 0
+IsAdded from old new (Ok x) to = (to ≡ x.1) × (new ≡ old ++ (symbol x.0 from x.1 ∷ []))
+IsAdded from old new (Err none) to = ⊥
+
+-- the fault where no symbol was found from a place on
+abbrev pub IsRefused : ℕ → Result (Kind × ℕ) NoSymbol → ScanFault → Type 0
+IsRefused from (Ok x) (Fault number at) = ⊥
+IsRefused from (Err none) (Fault number at) = (number ≡ rule none) × (at ≡ from)
+IsRefused from found Memory = Unit {0}
+
+-- the symbols with the longest one at place from behind them, which ends before place to
+pub record Reads (w : List ℕ) (from : ℕ) (old new : List Symbol) (to : ℕ) : Type 0 where
+  pub kind : Kind
+  pub found : Found (drop from w) (drop to w) kind
+  pub low : from < to
+  pub high : to ≤ length w
+  pub added : new ≡ old ++ (symbol kind from to ∷ [])
+
+-- no symbol stands at place from
+pub record NoneThere (w : List ℕ) (from number at : ℕ) : Type 0 where
+  pub none : NoSymbol
+  pub number_is : number ≡ rule none
+  pub at_is : at ≡ from
+  pub refused : Refused (drop from w) none
+
+-- why no symbol was read at place from
+abbrev pub Stops : List ℕ → ℕ → ScanFault → Type 0
+Stops w from (Fault number at) = NoneThere w from number at
+Stops w from Memory = Unit {0}
 
 -- the next that stands from place i on is a fault
 abbrev pub BreaksAt : List ℕ → ℕ → ScanFault → Type 0
@@ -105,11 +135,3 @@ close n [] = None
 close n (a ∷ []) = None
 close zero (a ∷ b ∷ w) = if opens a b then close (suc zero) w else if closes a b then Some w else close zero (b ∷ w)
 close (suc n) (a ∷ b ∷ w) = if opens a b then close (suc (suc n)) w else if closes a b then close n w else close (suc n) (b ∷ w)
-
--- the numbers of the rules that a text may break
-abbrev pub rule : NoSymbol → ℕ
-rule BadByte = 10
-rule OpenComment = 11
-rule OpenString = 12
-rule NumberTooLarge = 13
-rule NameTooLong = 14

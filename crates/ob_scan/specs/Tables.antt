@@ -48,6 +48,27 @@ reserved_of w =
     if is_same w (codes "WHILE") then Some WhileWord else
     None
 
+-- the same, among those words that begin with a letter
+abbrev pub reserved_with : ℕ → List ℕ → Option Reserved
+reserved_with a w =
+    if nat_eq a 65 then (if is_same w (codes "ARRAY") then Some ArrayWord else None) else
+    if nat_eq a 66 then (if is_same w (codes "BEGIN") then Some BeginWord else if is_same w (codes "BY") then Some ByWord else None) else
+    if nat_eq a 67 then (if is_same w (codes "CASE") then Some CaseWord else if is_same w (codes "CONST") then Some ConstWord else None) else
+    if nat_eq a 68 then (if is_same w (codes "DIV") then Some DivWord else if is_same w (codes "DO") then Some DoWord else None) else
+    if nat_eq a 69 then (if is_same w (codes "ELSE") then Some ElseWord else if is_same w (codes "ELSIF") then Some ElsifWord else if is_same w (codes "END") then Some EndWord else None) else
+    if nat_eq a 70 then (if is_same w (codes "FALSE") then Some FalseWord else if is_same w (codes "FOR") then Some ForWord else None) else
+    if nat_eq a 73 then (if is_same w (codes "IF") then Some IfWord else if is_same w (codes "IMPORT") then Some ImportWord else if is_same w (codes "IN") then Some InWord else if is_same w (codes "IS") then Some IsWord else None) else
+    if nat_eq a 77 then (if is_same w (codes "MOD") then Some ModWord else if is_same w (codes "MODULE") then Some ModuleWord else None) else
+    if nat_eq a 78 then (if is_same w (codes "NIL") then Some NilWord else None) else
+    if nat_eq a 79 then (if is_same w (codes "OF") then Some OfWord else if is_same w (codes "OR") then Some OrWord else None) else
+    if nat_eq a 80 then (if is_same w (codes "POINTER") then Some PointerWord else if is_same w (codes "PROCEDURE") then Some ProcedureWord else None) else
+    if nat_eq a 82 then (if is_same w (codes "RECORD") then Some RecordWord else if is_same w (codes "REPEAT") then Some RepeatWord else if is_same w (codes "RETURN") then Some ReturnWord else None) else
+    if nat_eq a 84 then (if is_same w (codes "THEN") then Some ThenWord else if is_same w (codes "TO") then Some ToWord else if is_same w (codes "TRUE") then Some TrueWord else if is_same w (codes "TYPE") then Some TypeWord else None) else
+    if nat_eq a 85 then (if is_same w (codes "UNTIL") then Some UntilWord else None) else
+    if nat_eq a 86 then (if is_same w (codes "VAR") then Some VarWord else None) else
+    if nat_eq a 87 then (if is_same w (codes "WHILE") then Some WhileWord else None) else
+    None
+
 -- the first byte of a written mark, and its second
 abbrev pub first : List ℕ → ℕ
 first [] = 0

@@ -4,18 +4,6 @@ ghost use Rattle.std.specs.Prelude.{◌≡◌, ℕ, ◌≤◌, List, ◌∷◌, 
 ghost use Rattle.ob_scan.specs.Words.{is_letter, is_letter_or_digit, is_digit, is_hexadecimal, is_quotable, is_two, begins_with};
 ghost use Rattle.ob_scan.specs.Steps.{Passing, in_class};
 
-/// Whether these two bytes stand here.
-pub fn has_two(bytes: &[u8], at: usize, first: u8, second: u8) -> bool
-    requires { at ≤ length bytes.now }
-    ensures { result ≡ is_two first second (drop at bytes.now) }
-{
-    if bytes.len() - at >= 2 {
-        bytes[at] == first && bytes[at + 1] == second
-    } else {
-        false
-    }
-}
-
 /// Whether this byte stands here.
 pub fn has_byte(bytes: &[u8], at: usize, byte: u8) -> bool
     requires { at ≤ length bytes.now }
@@ -24,11 +12,46 @@ pub fn has_byte(bytes: &[u8], at: usize, byte: u8) -> bool
     at < bytes.len() && bytes[at] == byte
 }
 
-/// Whether a byte is a letter of ASCII.
-pub fn is_letter_byte(b: u8) -> bool
-    ensures { result ≡ is_letter b }
+/// Whether these two bytes stand here.
+pub fn has_two(bytes: &[u8], at: usize, first: u8, second: u8) -> bool
+    requires { at ≤ length bytes.now }
+    ensures { result ≡ is_two first second (drop at bytes.now) }
 {
-    (b >= b'A' && b < b'Z' + 1) || (b >= b'a' && b < b'z' + 1)
+    if has_byte(bytes, at, first) {
+        has_byte(bytes, at + 1, second)
+    } else {
+        false
+    }
+}
+
+/// Whether each byte is a letter or a digit: a name's bytes are asked one by one, and a table answers at once.
+const NAME_BYTES: [bool; 256] = [
+    false, false, false, false, false, false, false, false, false, false, false, false, false,
+    false, false, false, false, false, false, false, false, false, false, false, false, false,
+    false, false, false, false, false, false, false, false, false, false, false, false, false,
+    false, false, false, false, false, false, false, false, false, true, true, true, true, true,
+    true, true, true, true, true, false, false, false, false, false, false, false, true, true,
+    true, true, true, true, true, true, true, true, true, true, true, true, true, true, true, true,
+    true, true, true, true, true, true, true, true, false, false, false, false, false, false, true,
+    true, true, true, true, true, true, true, true, true, true, true, true, true, true, true, true,
+    true, true, true, true, true, true, true, true, true, false, false, false, false, false, false,
+    false, false, false, false, false, false, false, false, false, false, false, false, false,
+    false, false, false, false, false, false, false, false, false, false, false, false, false,
+    false, false, false, false, false, false, false, false, false, false, false, false, false,
+    false, false, false, false, false, false, false, false, false, false, false, false, false,
+    false, false, false, false, false, false, false, false, false, false, false, false, false,
+    false, false, false, false, false, false, false, false, false, false, false, false, false,
+    false, false, false, false, false, false, false, false, false, false, false, false, false,
+    false, false, false, false, false, false, false, false, false, false, false, false, false,
+    false, false, false, false, false, false, false, false, false, false, false, false, false,
+    false, false, false, false, false, false, false, false, false, false,
+];
+
+/// Whether a byte is a letter or a digit.
+fn is_name_byte(b: u8) -> bool
+    ensures { result ≡ is_letter_or_digit b }
+{
+    NAME_BYTES[usize::from(b)]
 }
 
 /// Whether a byte is a decimal digit.
@@ -38,15 +61,11 @@ pub fn is_digit_byte(b: u8) -> bool
     b >= b'0' && b < b'9' + 1
 }
 
-/// Whether a byte is a letter or a digit.
-fn is_name_byte(b: u8) -> bool
-    ensures { result ≡ is_letter_or_digit b }
+/// Whether a byte is a letter of ASCII.
+pub fn is_letter_byte(b: u8) -> bool
+    ensures { result ≡ is_letter b }
 {
-    if is_letter_byte(b) {
-        true
-    } else {
-        is_digit_byte(b)
-    }
+    is_name_byte(b) && !is_digit_byte(b)
 }
 
 /// Whether a byte is a digit or a letter A to F.
