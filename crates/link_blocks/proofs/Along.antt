@@ -1,5 +1,5 @@
 -- Reading node by node, and trace by trace.
-use Rattle.std.proofs.Common.{◌≡◌, ◌≢◌, ℕ, zero, suc, ◌+◌, ◌<◌, ◌≤◌, List, [], ◌∷◌, ◌++◌, length, take, drop, get_or, Bool, true, false, cond, Option, None, refl, arith, sym, ap, ap₂, ◌∙◌, subst, append_assoc}
+use Rattle.std.proofs.Common.{◌≡◌, ◌≢◌, ℕ, zero, suc, ◌+◌, ◌<◌, ◌≤◌, List, [], ◌∷◌, ◌++◌, length, take, drop, get_or, Bool, true, false, cond, refl, arith, sym, ap, ap₂, ◌∙◌, subst, append_assoc}
 use Rattle.std.specs.Prelude.{flat_map, ◌==◌}
 use Rattle.std.proofs.lemmas.Bool.{eqb-true, eq-eqb}
 use Rattle.std.proofs.lemmas.List.{append-nil, take_more, drop_more, drop_all, take_all}
@@ -20,7 +20,7 @@ use Rattle.linked_flows.proofs.Edges.{count}
 use Rattle.linked_flows.proofs.Ordering.{traced_below}
 use Rattle.placed_code.specs.Placed.{Block}
 use Rattle.link_blocks.specs.Ahead.{block_ahead, behind_block}
-use Rattle.link_blocks.specs.Laid.{block_or, Lays, wanted, AreLaid, AreAhead, HasRead, Reads}
+use Rattle.link_blocks.specs.Laid.{block_at, Lays, wanted, AreLaid, AreAhead, HasRead, Reads}
 use Rattle.link_blocks.specs.declared.planning.Laid.{Laid}
 use Rattle.link_blocks.proofs.Flat.{flat}
 use Rattle.link_blocks.proofs.Nodes.{node_flat, block_is, behind_is, named_at}
@@ -57,8 +57,8 @@ module _ (k : ℕ) (c : Cut) (sound : AreSound k c.flow c.traces c.outs) where
     blocks = λ m h. by_test m (n == m) refl (sym (ap (λ (xs : List ℕ). has xs m) step.order) ∙ h);
   }
     where
-      by_test : (m : ℕ) (b : Bool) → (n == m) ≡ b → has (before.order.items ++ n ∷ []) m ≡ true → block_or (get_or after.blocks.items m None) ≡ wanted c m
-      by_test m true e h = let same : n ≡ m = eqb-true n m e in let many = laid.each in subst (λ x. block_or (get_or after.blocks.items x None) ≡ wanted c x) same (step.here (omega (arith, low, many)))
+      by_test : (m : ℕ) (b : Bool) → (n == m) ≡ b → has (before.order.items ++ n ∷ []) m ≡ true → block_at after m ≡ wanted c m
+      by_test m true e h = let same : n ≡ m = eqb-true n m e in let many = laid.each in subst (λ x. block_at after x ≡ wanted c x) same (step.here (omega (arith, low, many)))
       by_test m false e h = step.others m (λ q. let wrong = eq-eqb n m (sym q) in cc) ∙ laid.blocks m (earlier before.order.items n m e h)
 
   -- reading a node's lines, where the nodes are these

@@ -1,5 +1,5 @@
 -- A plan's blocks, homes and frame are those of the placed procedure.
-use Rattle.std.proofs.Common.{◌≡◌, ℕ, zero, suc, ◌+◌, ◌<◌, ◌≤◌, List, [], ◌∷◌, ◌++◌, map, length, drop, get_or, Bool, true, false, Option, None, refl, arith, sym, ap, ap₂, ◌∙◌, subst}
+use Rattle.std.proofs.Common.{◌≡◌, ℕ, zero, suc, ◌+◌, ◌<◌, ◌≤◌, List, [], ◌∷◌, ◌++◌, map, length, drop, get_or, Bool, true, false, refl, arith, sym, ap, ap₂, ◌∙◌, subst}
 use Rattle.std.specs.Prelude.{flat_map}
 use Rattle.run_laws.specs.Layers.{places_from}
 use Rattle.block_runs.specs.Blocks.{CodeBlock, block_at}
@@ -26,7 +26,7 @@ use Rattle.link_layout.specs.Spots.{copy_of, all_copies}
 use Rattle.link_layout.proofs.Ranking.{homes_are}
 use Rattle.link_blocks.specs.Plans.{block_in, plain_cell, plain_block, plain}
 use Rattle.link_blocks.specs.Ahead.{edges_ahead, behind_edges, AreAllDistinct}
-use Rattle.link_blocks.specs.Laid.{IsCutOf, block_or, wanted, AreLaid}
+use Rattle.link_blocks.specs.Laid.{IsCutOf, wanted, AreLaid}
 use Rattle.link_blocks.specs.declared.plans.Block.{Block as Made}
 use Rattle.link_blocks.specs.declared.planning.Laid.{Laid}
 use Rattle.link_blocks.proofs.Flat.{edges_flat, behind_edges_flat}
@@ -55,18 +55,17 @@ module _ (k : ℕ) (c : Cut) (sound : AreSound k c.flow c.traces c.outs) where
       block_is steps_of 0 (code_nodes c.flow.nodes) (allocated c).parts n (omega (arith, l, m))
       ∙ ap₂ (λ (bl : CodeBlock) (part : Part). placed_block steps_of bl part) (blocks_at c.flow.nodes n) (ap (λ i. part_of (allocated c).parts i) z ∙ part_is (part_at c) 0 (length c.flow.nodes) n l ∙ ap (part_at c) z)
 
-  pub all_made : (laid : Laid) → laid.order.items ≡ all_nodes (lists_of c.traces) → AreLaid c laid → map block_or laid.blocks.items ≡ map plain_block (blocks_of c)
+  pub all_made : (laid : Laid) → laid.order.items ≡ all_nodes (lists_of c.traces) → AreLaid c laid → map block_in laid.blocks.items ≡ map plain_block (blocks_of c)
   all_made laid order is =
       let m = count k c.flow c.traces c.outs sound in
-      let many = length_map block_or laid.blocks.items in
+      let many = length_map block_in laid.blocks.items in
       let wide = length_map plain_block (blocks_of c) in
       let long = length_blocks steps_of 0 (code_nodes c.flow.nodes) (allocated c).parts in
       let each = is.each in
-      lists_same no_block (map block_or laid.blocks.items) (map plain_block (blocks_of c)) (omega (arith, m, many, wide, long, each))
+      lists_same no_block (map block_in laid.blocks.items) (map plain_block (blocks_of c)) (omega (arith, m, many, wide, long, each))
       (λ i l.
       let low : i < length c.flow.nodes = omega (arith, l, many, each) in
-      get_mapped block_or laid.blocks.items i no_block None (omega (arith, l, many))
-      ∙ is.blocks i (ap (λ (xs : List ℕ). has xs i) order ∙ traced k c.flow c.traces c.outs sound i low)
+      is.blocks i (ap (λ (xs : List ℕ). has xs i) order ∙ traced k c.flow c.traces c.outs sound i low)
       ∙ sym (get_mapped plain_block (blocks_of c) i no_block no_block (omega (arith, low, m, long)) ∙ ap plain_block (one_block i low)))
 
 ---- Homes
@@ -92,7 +91,7 @@ pub record IsMade (c : Cut) (first : List Move) (order homes : List ℕ) (blocks
 pub is_made : (k : ℕ) (c : Cut) (f : Flow) (lines : List Ahead) (outs : List TraceOut) → IsCutOf k f lines outs c → (first copies : List Move) (laid : Laid) (blocks : List Made) (homes : List ℕ) (at : ℕ)
     → map copy_of first ≡ edges_ahead lines → drop at lines ≡ behind_edges lines
     → (f.nodes ≡ c.flow.nodes → outs ≡ c.outs → AreSound k c.flow c.traces c.outs → AllTraces c.flow (lists_of c.traces) → AreAllDistinct lines → drop at lines ≡ flat_map (node_lines c.flow c.traces c.outs) (all_nodes (lists_of c.traces)) → (laid.order.items ≡ all_nodes (lists_of c.traces)) × AreLaid c laid)
-    → map block_in blocks ≡ map block_or laid.blocks.items → map copy_of copies ≡ all_copies (map copy_of first) (map block_in blocks) → homes ≡ with_copies (map copy_of copies) [] → IsMade c first laid.order.items homes blocks
+    → map block_in blocks ≡ map block_in laid.blocks.items → map copy_of copies ≡ all_copies (map copy_of first) (map block_in blocks) → homes ≡ with_copies (map copy_of copies) [] → IsMade c first laid.order.items homes blocks
 is_made k c f lines outs is first copies laid blocks homes at front back read made all found =
     let steps = entry_steps c.flow c.traces c.outs in
     let nodes = flat_map (node_lines c.flow c.traces c.outs) (all_nodes (lists_of c.traces)) in

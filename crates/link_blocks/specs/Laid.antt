@@ -1,5 +1,5 @@
 -- Blocks by number while a procedure's lines are read, and what a plan is made of.
-use Rattle.std.specs.Prelude.{◌≡◌, ◌≢◌, ℕ, ◌<◌, ◌≤◌, List, [], ◌∷◌, ◌++◌, map, length, get_or, flat_map, true, drop, Option, Some, None}
+use Rattle.std.specs.Prelude.{◌≡◌, ◌≢◌, ℕ, ◌<◌, ◌≤◌, List, [], ◌∷◌, ◌++◌, map, length, get_or, flat_map, true, drop}
 use Rattle.block_runs.specs.Live.{has}
 use Rattle.lir_core.specs.Flows.{code_node}
 use Rattle.lir_core.specs.declared.flow.Flow.{Flow}
@@ -17,7 +17,6 @@ use Rattle.placed_code.specs.Results.{placed, placed_block}
 use Rattle.linked_flows.specs.Allocations.{Cut, steps_of, part_at, allocated}
 use Rattle.link_blocks.specs.Fits.{numbers_fit, registers_fit}
 use Rattle.link_blocks.specs.Plans.{block_in, plain_block}
-use Rattle.link_blocks.specs.declared.plans.Block.{Block}
 use Rattle.link_blocks.specs.declared.planning.Laid.{Laid}
 
 -- a procedure's lines are those that its cut gives, for sound results over k registers
@@ -36,17 +35,16 @@ pub record Fits (c : Cut) : Type 0 where
   pub slots : slots_of (placed steps_of (allocated c)) ≤ 4075
   pub nodes : length c.flow.nodes < 4294967296
 
--- the block of a number, empty where there is none yet
-abbrev pub block_or : Option Block → place.Block
-block_or None = no_block
-block_or (Some bl) = block_in bl
+-- the block of a number
+abbrev pub block_at : Laid → ℕ → place.Block
+block_at laid n = get_or (map block_in laid.blocks.items) n no_block
 
 -- behind one more node
 pub record Lays (before after : Laid) (n : ℕ) (bl : place.Block) : Type 0 where
   pub order : after.order.items ≡ before.order.items ++ n ∷ []
   pub each : length after.blocks.items ≡ length before.blocks.items
-  pub here : n < length before.blocks.items → block_or (get_or after.blocks.items n None) ≡ bl
-  pub others : (m : ℕ) → m ≢ n → block_or (get_or after.blocks.items m None) ≡ block_or (get_or before.blocks.items m None)
+  pub here : n < length before.blocks.items → block_at after n ≡ bl
+  pub others : (m : ℕ) → m ≢ n → block_at after m ≡ block_at before m
 
 -- the block of a node, without what has no words
 abbrev pub wanted : Cut → ℕ → place.Block
@@ -55,7 +53,7 @@ wanted c n = plain_block (placed_block steps_of (code_node (node_at c.flow.nodes
 -- the blocks of all nodes that were read are there
 pub record AreLaid (c : Cut) (laid : Laid) : Type 0 where
   pub each : length laid.blocks.items ≡ length c.flow.nodes
-  pub blocks : (m : ℕ) → has laid.order.items m ≡ true → block_or (get_or laid.blocks.items m None) ≡ wanted c m
+  pub blocks : (m : ℕ) → has laid.order.items m ≡ true → block_at laid m ≡ wanted c m
 
 -- the lines of some nodes are ahead, with the registers named for them
 pub record AreAhead (c : Cut) (ns : List ℕ) (rows : List (List ℕ)) (ahead tail : List Placed) : Type 0 where

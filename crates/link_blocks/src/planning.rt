@@ -16,7 +16,7 @@ ghost use Rattle.link_layout.specs.Spots.{copy_of, cell_copies, block_copies, al
 ghost use Rattle.link_blocks.specs.Fits.{node_fits, numbers_fit};
 ghost use Rattle.link_blocks.specs.Plans.{cell_in, block_in, placed_in, plain};
 ghost use Rattle.link_blocks.specs.Ahead.{block_ahead, behind_block, AreAllDistinct};
-ghost use Rattle.link_blocks.specs.Laid.{IsCutOf, Fits, Lays, AreLaid, AreAhead, HasRead, block_or};
+ghost use Rattle.link_blocks.specs.Laid.{IsCutOf, Fits, Lays, AreLaid, AreAhead, HasRead};
 ghost use Rattle.link_blocks.specs.declared.fault.PlanFault.TheVariants.{Misfit};
 
 use crate::blocks::{block_of, slots_of};
@@ -60,8 +60,7 @@ impl Plan {
         let mut first = Vec::new(alloc);
         let at = push_edges(&mut first, lines, 0)?;
         let laid = laid_out(alloc, nodes, lines, at, outs)?;
-        let blocks = all_blocks(alloc, laid.blocks)?;
-        let copies = all_copies(alloc, first.as_slice(), blocks.as_slice())?;
+        let copies = all_copies(alloc, first.as_slice(), laid.blocks.as_slice())?;
         let homes = Ranks::of(alloc, copies.as_slice())?;
         if homes.count() + slots >= MOST_SLOTS {
             return Err(PlanFault::Misfit);
@@ -78,16 +77,16 @@ impl Plan {
             frame,
             homes,
             first: Items::from_vec(first),
-            blocks: Items::from_vec(blocks),
+            blocks: Items::from_vec(laid.blocks),
             order: Items::from_vec(laid.order),
         })
     }
 }
 
-/// The blocks of nodes by their numbers, as far as they are read, and the numbers in the order of the lines.
+/// The blocks of nodes by their numbers, empty until they are read, and the numbers in the order of the lines.
 #[derive(Drop)]
 pub(crate) struct Laid {
-    pub(crate) blocks: Vec<Option<Block>>,
+    pub(crate) blocks: Vec<Block>,
     pub(crate) order: Vec<u32>,
 }
 
@@ -107,7 +106,7 @@ fn laid_out(
         → IfOk result (λ laid. (laid.order.items ≡ all_nodes (lists_of c.traces)) × AreLaid c laid) }
 {
     let mut laid = Laid {
-        blocks: none_yet(alloc, nodes.len())?,
+        blocks: empty_blocks(alloc, nodes.len())?,
         order: Vec::with_capacity(alloc, nodes.len())?,
     };
     let mut at = from;
@@ -117,12 +116,13 @@ fn laid_out(
     Ok(laid)
 }
 
-fn none_yet(alloc: Global, count: usize) -> Result<Vec<Option<Block>>, AllocError>
+/// So many empty blocks.
+fn empty_blocks(alloc: Global, count: usize) -> Result<Vec<Block>, AllocError>
     ensures { IfOk result (λ blocks. length blocks.items ≡ count) }
 {
     let mut blocks = Vec::with_capacity(alloc, count)?;
     for _number in 0..count {
-        blocks.push(None)?;
+        blocks.push(empty(alloc))?;
     }
     Ok(blocks)
 }
@@ -177,29 +177,15 @@ fn lay(
 }
 
 /// The block of a number, where there is room for one.
-fn put(blocks: &mut Vec<Option<Block>>, number: u32, block: Block)
+fn put(blocks: &mut Vec<Block>, number: u32, block: Block)
     ensures each { length blocks.new.items ≡ length blocks.old.items }
-    ensures here { number < length blocks.old.items → block_or (get_or blocks.new.items number None) ≡ block_in block }
-    ensures others { (m : ℕ) → m ≢ number → get_or blocks.new.items m None ≡ get_or blocks.old.items m None }
+    ensures here { number < length blocks.old.items → get_or (map block_in blocks.new.items) number no_block ≡ block_in block }
+    ensures others { (m : ℕ) → m ≢ number → get_or (map block_in blocks.new.items) m no_block ≡ get_or (map block_in blocks.old.items) m no_block }
 {
     let number = number as usize;
     if number < blocks.len() {
-        blocks[number] = Some(block);
+        blocks[number] = block;
     }
-}
-
-/// The blocks, empty where there is none.
-fn all_blocks(alloc: Global, blocks: Vec<Option<Block>>) -> Result<Vec<Block>, AllocError>
-    ensures { IfOk result (λ list. map block_in list.items ≡ map block_or blocks.items) }
-{
-    let mut list = Vec::with_capacity(alloc, blocks.len())?;
-    for slot in blocks {
-        match slot {
-            Some(block) => list.push(block)?,
-            None => list.push(empty(alloc))?,
-        }
-    }
-    Ok(list)
 }
 
 fn empty(alloc: Global) -> Block

@@ -26,7 +26,7 @@ pub(crate) fn push_edges(
 {
     for at in from..lines.len() {
         match &lines[at] {
-            Placed::Edge(step) => copies.push(copy_of(*step))?,
+            Placed::Edge(step) => push_step(copies, *step)?,
             _ => return Ok(at),
         }
     }
@@ -53,6 +53,8 @@ pub(crate) fn push_body(
     Ok(lines.len())
 }
 
+/// A line before an operation becomes copies. Most operations have none, so this stands apart from the loop over lines.
+#[inline(never)]
 fn push_line(alloc: Global, copies: &mut Vec<Copy>, line: &Line) -> Result<(), Memory>
     ensures { IsDistinct line.now → OnOk result (map copy_of copies.new.items ≡ map copy_of copies.old.items ++ line_copies steps_of line.now) }
 {
@@ -78,8 +80,16 @@ fn push_steps(copies: &mut Vec<Copy>, steps: &[Step]) -> Result<(), AllocError>
     ensures { OnOk result (map copy_of copies.new.items ≡ map copy_of copies.old.items ++ copies_of steps.now) }
 {
     for step in steps {
-        copies.push(copy_of(*step))?;
+        push_step(copies, *step)?;
     }
+    Ok(())
+}
+
+#[inline(never)]
+fn push_step(copies: &mut Vec<Copy>, step: Step) -> Result<(), AllocError>
+    ensures { OnOk result (map copy_of copies.new.items ≡ map copy_of copies.old.items ++ linked.copy_of step ∷ []) }
+{
+    copies.push(copy_of(step))?;
     Ok(())
 }
 

@@ -46,6 +46,8 @@ fn where_is(plan: &Plan, spot: Spot) -> Option<Where>
     }
 }
 
+/// Appends the words of a copy. Most lists of copies are empty, so this stands apart from the loop over them.
+#[inline(never)]
 fn push_one(words: &mut Vec<u32>, plan: &Plan, copy: Copy) -> Result<(), Memory>
     ensures { OnOk result (words.new.items ≡ words.old.items ++ map word_of (copy_word (placed_in plan.now) (copy_of copy))) }
 {

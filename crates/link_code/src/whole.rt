@@ -49,7 +49,7 @@ pub fn code_of(alloc: Global, plans: &[Plan]) -> Result<Vec<u32>, LayoutFault>
         procedures: found.as_slice(),
         routines: bodies + 1,
     };
-    let mut words = Vec::new(alloc);
+    let mut words = room_for(alloc, found.as_slice())?;
     push_start(&mut words, entries, plans)?;
     push_routines(&mut words)?;
     let measures = sizes.measures.as_slice();
@@ -107,6 +107,16 @@ fn all_entries(alloc: Global, bodies: u32, widths: &[u32]) -> Result<Vec<u32>, L
     let end = end_of(bodies + 39, widths)?;
     found.push(end)?;
     Ok(found)
+}
+
+/// A list of no words yet, with room for all up to where the last procedure ends.
+fn room_for(alloc: Global, entries: &[u32]) -> Result<Vec<u32>, AllocError>
+    ensures { IfOk result (λ words. words.items ≡ []) }
+{
+    match entries.last() {
+        Some(end) => Vec::with_capacity(alloc, *end as usize),
+        None => Ok(Vec::new(alloc)),
+    }
 }
 
 /// Appends a call of each body, and the end.

@@ -1,6 +1,6 @@
 //! Copies between the spots of a frame, and how many words they have.
 
-ghost use Rattle.std.specs.Prelude.{◌≡◌, ℕ, ◌<◌, ◌≤◌, ◌+◌, ◌^◌, List, map, length, IfOk, IfErr};
+ghost use Rattle.std.specs.Prelude.{◌≡◌, ℕ, ◌<◌, ◌≤◌, ◌+◌, ◌^◌, List, [], ◌∷◌, map, length, IfOk, IfErr};
 ghost use Rattle.placed_code.specs.Placed.{Placed};
 ghost use Rattle.placed_code.specs.Words.{copies_words};
 ghost use Rattle.link_layout.specs.Spots.{spot_of, copy_of, IsFrameOf, room_of, widths_of_copies, width_between};
@@ -52,13 +52,21 @@ fn width_of_copies(homes: &Ranks, outs: u32, copies: &[Copy]) -> Result<u32, Lay
 {
     let mut width = 0;
     for copy in copies {
-        let more = between(
-            room_for(homes, outs, copy.to),
-            room_for(homes, outs, copy.from),
-        );
-        width = behind(width, more)?;
+        width = behind(width, copy_width(homes, outs, *copy))?;
     }
     Ok(width)
+}
+
+/// How many words a copy has. Most lists of copies are empty, so this stands apart from the loop over them.
+#[inline(never)]
+fn copy_width(homes: &Ranks, outs: u32, copy: Copy) -> u32
+    ensures width { result ≡ widths_of_copies homes.now outs (copy_of copy ∷ []) }
+    ensures most { result ≤ 2 }
+{
+    between(
+        room_for(homes, outs, copy.to),
+        room_for(homes, outs, copy.from),
+    )
 }
 
 fn between(to: Room, from: Room) -> u32

@@ -86,6 +86,18 @@ pub(crate) fn constant_width(number: u64) -> u32
     ensures mapped { result ≡ length (map (move_word 0) (constant_moves number)) }
     ensures most { result ≤ 4 }
 {
+    // One move makes a number of sixteen bits, as most are.
+    if number < 65_536 {
+        return 1;
+    }
+    moves_width(number)
+}
+
+#[inline(never)]
+fn moves_width(number: u64) -> u32
+    ensures all { result ≡ length (constant_moves number) }
+    ensures most { result ≤ 4 }
+{
     let [first, second, third, fourth] = constant_moves(number);
     one_if_given(first) + one_if_given(second) + one_if_given(third) + one_if_given(fourth)
 }

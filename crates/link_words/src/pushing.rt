@@ -5,6 +5,7 @@ ghost use Rattle.a64_numbers.specs.Moves.{given, constant_moves};
 ghost use Rattle.a64_table.specs.Table.{word_of};
 ghost use Rattle.placed_code.specs.Words.{move_word};
 
+use crate::shapes::small;
 use a64_instr::{Instr, Reg};
 use a64_numbers::{Move, constant_moves};
 use a64_table::encode;
@@ -51,6 +52,18 @@ fn push_move(words: &mut Vec<u32>, rd: Reg, step: Option<Move>) -> Result<(), Me
 
 /// Appends the moves that make a number in a register.
 pub(crate) fn push_constant(words: &mut Vec<u32>, rd: Reg, number: u64) -> Result<(), Memory>
+    ensures { OnOk result (words.new.items ≡ words.old.items ++ map word_of (map (move_word rd) (constant_moves number))) }
+{
+    // One move makes a number of sixteen bits, as most are.
+    if number < 65_536 {
+        return push(words, small(rd, number as u32));
+    }
+    push_moves(words, rd, number)
+}
+
+/// Appends the moves that make a number in a register, each where it is there.
+#[inline(never)]
+fn push_moves(words: &mut Vec<u32>, rd: Reg, number: u64) -> Result<(), Memory>
     ensures { OnOk result (words.new.items ≡ words.old.items ++ map word_of (map (move_word rd) (constant_moves number))) }
 {
     let [first, second, third, fourth] = constant_moves(number);

@@ -28,7 +28,7 @@ push_start-requires-clause-near c =
     let ps = map placed_in c.args.plans.now in
     let are : AreWidths ps c.in_ok-bodies.bodies c.as_slice.result.now = record { bodies_are = sym c.in_ok-bodies.ensures.count; widths_are = c.as_slice.ensures.value ∙ c.in_ok-sizes.ensures.widths } in
     let near = start_near ps (c.in_ok-found.ensures.fits ps are) in
-    let none = ap length c.new-words.ensures.items in
+    let none = ap length c.in_ok-words.ensures in
     omega (arith, near, none)
 
 pub push_procedures-requires-clause-routines : goal.push_procedures-requires-clause-routines
@@ -41,7 +41,7 @@ pub push_procedures-requires-clause-near : goal.push_procedures-requires-clause-
 push_procedures-requires-clause-near c =
     let ps = map placed_in c.args.plans.now in
     let are : AreWidths ps c.in_ok-bodies.bodies c.as_slice.result.now = record { bodies_are = sym c.in_ok-bodies.ensures.count; widths_are = c.as_slice.ensures.value ∙ c.in_ok-sizes.ensures.widths } in
-    procedures_near ps c.as_slice-2.result.now c.new-words.result.items c.push_start.new.words.items c.push_routines.new.words.items c.new-words.ensures.items c.in_ok-push_start.ensures c.in_ok-push_routines.ensures (c.in_ok-found.ensures.fits ps are)
+    procedures_near ps c.as_slice-2.result.now c.in_ok-words.words.items c.push_start.new.words.items c.push_routines.new.words.items c.in_ok-words.ensures c.in_ok-push_start.ensures c.in_ok-push_routines.ensures (c.in_ok-found.ensures.fits ps are)
 
 pub push_procedures-requires-clause-measured : goal.push_procedures-requires-clause-measured
 push_procedures-requires-clause-measured c = c.as_slice-measures.ensures.value ∙ c.in_ok-sizes.ensures.measures
@@ -49,7 +49,7 @@ push_procedures-requires-clause-measured c = c.as_slice-measures.ensures.value �
 pub returns-in_err-push_procedures-clause-limit : goal.returns-in_err-push_procedures-clause-limit
 returns-in_err-push_procedures-clause-limit c =
     let ps = map placed_in c.args.plans.now in
-    let next = procedures_next ps c.as_slice-2.result.now c.new-words.result.items c.push_start.new.words.items c.push_routines.new.words.items c.new-words.ensures.items c.in_ok-push_start.ensures c.in_ok-push_routines.ensures in
+    let next = procedures_next ps c.as_slice-2.result.now c.in_ok-words.words.items c.push_start.new.words.items c.push_routines.new.words.items c.in_ok-words.ensures c.in_ok-push_start.ensures c.in_ok-push_routines.ensures in
     errs_with _ _ c.from_residual-in_err-push_procedures.result c.from_residual-in_err-push_procedures.ensures.1 (λ fault same limit. absurd (c.in_err-push_procedures.ensures.limit next (sym same ∙ limit)))
 
 pub returns-clause-code : goal.returns-clause-code
@@ -57,7 +57,7 @@ returns-clause-code c whole =
     let ps = map placed_in c.args.plans.now in
     let are : AreWidths ps c.in_ok-bodies.bodies c.as_slice.result.now = record { bodies_are = sym c.in_ok-bodies.ensures.count; widths_are = c.as_slice.ensures.value ∙ c.in_ok-sizes.ensures.widths } in
     let entries : EntriesAre ps c.as_slice-2.result.now = subst (EntriesAre ps) (sym c.as_slice-2.ensures.value) (c.in_ok-found.ensures.entries ps are) in
-    let next = procedures_next ps c.as_slice-2.result.now c.new-words.result.items c.push_start.new.words.items c.push_routines.new.words.items c.new-words.ensures.items c.in_ok-push_start.ensures c.in_ok-push_routines.ensures in
+    let next = procedures_next ps c.as_slice-2.result.now c.in_ok-words.words.items c.push_start.new.words.items c.push_routines.new.words.items c.in_ok-words.ensures c.in_ok-push_start.ensures c.in_ok-push_routines.ensures in
     let bodies_are = c.in_ok-bodies.ensures.count in
     let ready : AreReady ps c.as_slice-2.result.now (c.in_ok-bodies.bodies + 1) (length c.push_routines.new.words.items) = record {
       entries_are = entries;
@@ -65,15 +65,15 @@ returns-clause-code c whole =
       here = next;
       whole = λ p l. whole p (let n = length_map placed_in c.args.plans.now in omega (arith, l, n));
     } in
-    all_appended ps c.as_slice-2.result.now c.new-words.result.items c.push_start.new.words.items c.push_routines.new.words.items c.new-words.ensures.items c.in_ok-push_start.ensures c.in_ok-push_routines.ensures c.push_procedures.new.words.items entries (c.in_ok-push_procedures.ensures.words ready)
+    all_appended ps c.as_slice-2.result.now c.in_ok-words.words.items c.push_start.new.words.items c.push_routines.new.words.items c.in_ok-words.ensures c.in_ok-push_start.ensures c.in_ok-push_routines.ensures c.push_procedures.new.words.items entries (c.in_ok-push_procedures.ensures.words ready)
 
 pub returns-clause-fits : goal.returns-clause-fits
 returns-clause-fits c =
     let ps = map placed_in c.args.plans.now in
     let are : AreWidths ps c.in_ok-bodies.bodies c.as_slice.result.now = record { bodies_are = sym c.in_ok-bodies.ensures.count; widths_are = c.as_slice.ensures.value ∙ c.in_ok-sizes.ensures.widths } in
-    all_near ps c.as_slice-2.result.now c.new-words.result.items c.push_start.new.words.items c.push_routines.new.words.items c.new-words.ensures.items c.in_ok-push_start.ensures c.in_ok-push_routines.ensures c.push_procedures.new.words.items c.in_ok-push_procedures.ensures.size (c.in_ok-found.ensures.fits ps are)
+    all_near ps c.as_slice-2.result.now c.in_ok-words.words.items c.push_start.new.words.items c.push_routines.new.words.items c.in_ok-words.ensures c.in_ok-push_start.ensures c.in_ok-push_routines.ensures c.push_procedures.new.words.items c.in_ok-push_procedures.ensures.size (c.in_ok-found.ensures.fits ps are)
 
 pub returns-clause-some : goal.returns-clause-some
 returns-clause-some c =
     let ps = map placed_in c.args.plans.now in
-    some_code ps c.as_slice-2.result.now c.new-words.result.items c.push_start.new.words.items c.push_routines.new.words.items c.new-words.ensures.items c.in_ok-push_start.ensures c.in_ok-push_routines.ensures c.push_procedures.new.words.items c.in_ok-push_procedures.ensures.size
+    some_code ps c.as_slice-2.result.now c.in_ok-words.words.items c.push_start.new.words.items c.push_routines.new.words.items c.in_ok-words.ensures c.in_ok-push_start.ensures c.in_ok-push_routines.ensures c.push_procedures.new.words.items c.in_ok-push_procedures.ensures.size
