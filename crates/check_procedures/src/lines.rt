@@ -2,7 +2,7 @@
 //!
 //! `line_starts` goes through a text once and notes where lines begin; `line_at` is the line of a symbol.
 
-ghost use Rattle.std.specs.Prelude.{◌≡◌, IfOk};
+ghost use Rattle.std.specs.Prelude.{◌≡◌, IfOk, IfErr};
 ghost use Rattle.ob_judge.specs.Scopes.{line as judged_line};
 ghost use Rattle.check_procedures.specs.lines.Lines.{IsLineTable};
 
@@ -12,7 +12,8 @@ use std::alloc::Global;
 /// The places where the lines of a text begin, but the first. For a text whose places have no numbers of 32 bits there is no
 /// memory.
 pub fn line_starts(alloc: Global, bytes: &[u8]) -> Result<Vec<u32>, CheckFault>
-    ensures { IfOk result (λ v. IsLineTable bytes.now v.items) }
+    ensures lines { IfOk result (λ v. IsLineTable bytes.now v.items) }
+    ensures memory { IfErr result (λ e. e ≡ CheckFault.Memory) }
 {
     if bytes.len() >= 4_294_967_295 {
         return Err(CheckFault::Memory);
