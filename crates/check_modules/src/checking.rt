@@ -5,7 +5,6 @@ ghost use Rattle.ob_syntax.specs.Plain.{plain_module};
 ghost use Rattle.ob_judge.specs.Modules.{SoFar, first_making, with_module};
 ghost use Rattle.judged_well.specs.Standing.{IsRead};
 ghost use Rattle.judged_outlines.specs.Upright.{UprightSoFar};
-ghost use Rattle.check_procedures.specs.lines.Lines.{IsLineTable};
 ghost use Rattle.check_types.specs.steps.Answers.{Answers};
 ghost use Rattle.table_builder.specs.Builder.{IsBuilt};
 ghost use Rattle.check_making.specs.Staying.{AreSettled};
@@ -27,17 +26,6 @@ use ob_syntax::modules::Module;
 use ob_types::Module as ModuleOf;
 use std::alloc::Global;
 use table_builder::TableBuilder;
-
-// Where the lines of a module's text begin.
-fn lines_of(alloc: Global, text: &[u8]) -> Result<Vec<u32>, CheckFault>
-    ensures lines { IfOk result (λ v. IsLineTable text.now v.items) }
-    ensures memory { IfErr result (λ e. e ≡ CheckFault.Memory) }
-{
-    match line_starts(alloc, text) {
-        Ok(lines) => Ok(lines),
-        Err(_) => Err(CheckFault::Memory),
-    }
-}
 
 // The state where a module begins.
 fn begun(
@@ -116,7 +104,7 @@ pub fn check_module(
 {
     new_name(state.known.as_slice(), source, tree.name)?;
     let module_number = next_number(state.known.as_slice())?;
-    let lines = lines_of(alloc, texts[module_number as usize].as_slice())?;
+    let lines = line_starts(alloc, texts[module_number as usize].as_slice())?;
     let Modules {
         imports_in,
         types,

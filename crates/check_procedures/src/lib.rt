@@ -1,6 +1,6 @@
 //! All declarations of a scope, with procedures in each other (Oberon-07 report, sections 4 to 7 and 10).
 //!
-//! `declarations` goes through constants, types and variables and then through the procedures. A procedure's name stands, and
+//! `before_procedures` goes through constants, types and variables; `procedure` judges a procedure. Its name stands, and
 //! it takes the next number (`open_procedure`); its heading and its own declarations are judged in its scope; what completes it
 //! is its body, RETURN and the name behind END (`close_procedure`). `specs/Parts.antt` has the judgement by these parts.
 #![tactic(auto)]
