@@ -1,17 +1,19 @@
 //! Rows of bits that are being filled.
 
-ghost use Rattle.std.specs.Prelude.{◌≡◌, ◌/◌, ◌<◌, IfOk, replicate, vec_len};
+ghost use Rattle.std.specs.Prelude.{◌≡◌, ◌/◌, ◌<◌, IfOk, length, replicate};
+ghost use Rattle.smallvec.specs.SmallVec.{small_vec_len};
 ghost use Rattle.lir_core.specs.Rows.{has_bit, is_in};
 ghost use Rattle.global_live.specs.Rows.{is_new, inserted, with_value};
 
 use lir_core::LiveSets;
+use smallvec::SmallVec;
 use std::alloc::{AllocError, Global};
 use std::marker::Model;
 
 /// For each node a row of words, in which each value has a bit: value v bit v % 64 of word v / 64.
 #[derive(Drop)]
 pub(crate) struct Rows {
-    rows: Vec<Vec<u64>>,
+    rows: Vec<SmallVec<u64, 2>>,
 }
 
 impl Model for Rows {
@@ -29,7 +31,7 @@ impl Rows {
     {
         let mut rows = Vec::with_capacity(alloc, nodes)?;
         for _ in 0..nodes {
-            rows.push(vec![in alloc; 0u64; words]?)?;
+            rows.push(SmallVec::from_elem(alloc, 0u64, words)?)?;
         }
         Ok(Rows { rows })
     }
@@ -80,9 +82,16 @@ fn is_set(row: &[u64], value: u32) -> bool
 }
 
 // Sets a value's bit of a row.
-fn set(row: &mut Vec<u64>, value: u32)
-    requires { value / 64 < vec_len row.old }
+fn set(row: &mut SmallVec<u64, 2>, value: u32)
+    requires { value / 64 < small_vec_len row.old }
     ensures { row.new.items ≡ with_value row.old.items value }
+{
+    write(row.as_mut_slice(), value);
+}
+
+fn write(row: &mut [u64], value: u32)
+    requires { value / 64 < length row.old }
+    ensures { row.new ≡ with_value row.old value }
 {
     row[value as usize / 64] |= 1 << (value % 64);
 }

@@ -37,8 +37,7 @@ pub fn allocate(alloc: Global, t: &TraceIn, hint: Option<&Places>) -> Result<Tra
     };
     let positions = needs(alloc, t.flow, t.trace, t.live)?;
     let start = first_start(alloc, t, &positions, head, hint)?;
-    let mut fw = Forward::new(alloc, start)?;
-    fw.make_room_for_nodes(alloc, nodes.len())?;
+    let fw = Forward::new(alloc, start, nodes.len())?;
     let fw = along(alloc, t, &positions, nodes, fw)?;
     Ok(fw.finish(t.number))
 }

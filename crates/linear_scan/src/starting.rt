@@ -173,11 +173,18 @@ fn live_registers(
 ) -> Result<Vec<Option<u32>>, AllocError>
     ensures { IfOk result (λ row. row.items ≡ map (if_live (has_bit head.now.live.now head.now.node)) regs.now) }
 {
-    let mut row = Vec::with_capacity(alloc, regs.len())?;
-    for content in regs {
-        row.push(if_live(head, *content))?;
-    }
+    let mut row = Vec::from_slice(alloc, regs)?;
+    keep_live(head, row.as_mut_slice());
     Ok(row)
+}
+
+// Empties what isn't live.
+fn keep_live(head: &Head, row: &mut [Option<u32>])
+    ensures { row.new ≡ map (if_live (has_bit head.now.live.now head.now.node)) row.old }
+{
+    for content in row.iter_mut() {
+        *content = if_live(head, *content);
+    }
 }
 
 // What is live of homed values.

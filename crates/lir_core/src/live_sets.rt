@@ -3,12 +3,14 @@
 ghost use Rattle.std.specs.Prelude.{◌≡◌, ◌*◌, map};
 ghost use Rattle.lir_core.specs.Rows.{has_bit, is_in, IsNext};
 
+use smallvec::SmallVec;
 use std::marker::Model;
 
-/// For each node a row of words, in which each value has a bit: value v bit v % 64 of word v / 64, from the lowest on.
+/// For each node a row of words, in which each value has a bit: value v bit v % 64 of word v / 64, from the lowest on. The
+/// first two words of a row take no memory of their own.
 #[derive(Drop)]
 pub struct LiveSets {
-    rows: Vec<Vec<u64>>,
+    rows: Vec<SmallVec<u64, 2>>,
 }
 
 impl Model for LiveSets {
@@ -21,7 +23,7 @@ impl Model for LiveSets {
 
 impl LiveSets {
     /// The sets with these rows, one for each node.
-    pub fn from_rows(rows: Vec<Vec<u64>>) -> LiveSets
+    pub fn from_rows(rows: Vec<SmallVec<u64, 2>>) -> LiveSets
         ensures { result ≡ map (λ row. row.items) rows.items }
     {
         LiveSets { rows }

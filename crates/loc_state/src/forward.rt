@@ -7,11 +7,10 @@ ghost use Rattle.lir_core.specs.declared.places.TraceOut.{TraceOut};
 ghost use Rattle.lir_core.specs.Flows.{operation_of};
 ghost use Rattle.lir_core.specs.Lines.{Room, end_reads};
 
-use crate::part::{Part, with_room};
+use crate::part::{Ended, Part, room_for};
 use lir_core::{Items, Leave, Line, Lir, Places, TraceOut};
 use outside::Memory;
 use std::alloc::Global;
-use std::mem::replace;
 
 /// The lists of the nodes that are walked, as a result has them, and the node that is being walked.
 #[derive(Drop)]
@@ -27,33 +26,18 @@ impl Forward {
     ghost use Rattle.loc_state.specs.Steps.{started, in_part, brought, evicted, dropped, defines, called, closed};
     ghost use Rattle.loc_state.specs.Walked.{Course, Simulates, AreValues, InRow, Matches, CanBring, CanDefine, CanCall, Walked, IsWalked, task};
 
-    /// Starts before a trace with these start places.
-    pub fn new(alloc: Global, start: Places) -> Result<Forward, Memory>
+    /// Starts before a trace with these start places, with room for what so many nodes will have.
+    pub fn new(alloc: Global, start: Places, nodes: usize) -> Result<Forward, Memory>
         ensures step { IfOk result (λ f. f ≡ started start) }
         ensures simulates { IfOk result (λ f. (x : Course) → x.done ≡ [] → length start.regs ≡ x.room.regs → AreValues x.room.values start → Simulates x 0 [] f) }
     {
         Ok(Forward {
-            starts: Items::new(alloc),
-            ends: Items::new(alloc),
-            lines: Items::new(alloc),
-            regs: Items::new(alloc),
+            starts: room_for(alloc, nodes)?,
+            ends: room_for(alloc, nodes)?,
+            lines: room_for(alloc, nodes)?,
+            regs: room_for(alloc, nodes)?,
             part: Part::begin(alloc, start)?,
         })
-    }
-
-    /// Makes room for what so many nodes will have.
-    pub fn make_room_for_nodes(&mut self, alloc: Global, nodes: usize) -> Result<(), Memory>
-        ensures { OnOk result (self.new ≡ self.old) }
-    {
-        let starts = replace(&mut self.starts, Items::new(alloc));
-        self.starts = with_room(starts, nodes)?;
-        let ends = replace(&mut self.ends, Items::new(alloc));
-        self.ends = with_room(ends, nodes)?;
-        let lines = replace(&mut self.lines, Items::new(alloc));
-        self.lines = with_room(lines, nodes)?;
-        let regs = replace(&mut self.regs, Items::new(alloc));
-        self.regs = with_room(regs, nodes)?;
-        Ok(())
     }
 
     /// Makes room for the lines of so many operations.
@@ -142,20 +126,14 @@ impl Forward {
                 homed: Items::new(alloc),
             },
         };
-        let next = Part::begin(alloc, start)?;
-        let Part {
+        let end = self.part.places(alloc)?;
+        let Ended {
             start,
-            regs,
-            homed,
             lines,
             named,
-            since: _,
-        } = replace(&mut self.part, next);
+        } = self.part.begin_next(alloc, start)?;
         self.starts.push(start)?;
-        self.ends.push(Places {
-            regs: regs.list(alloc)?,
-            homed: homed.list(alloc)?,
-        })?;
+        self.ends.push(end)?;
         self.lines.push(lines)?;
         self.regs.push(named)?;
         Ok(())

@@ -25,8 +25,16 @@ pub struct Part {
     pub since: usize,
 }
 
+/// What a node that is ended leaves: where it started, its lines and the registers that are named.
+#[derive(Drop)]
+pub(crate) struct Ended {
+    pub(crate) start: Places,
+    pub(crate) lines: Items<Line>,
+    pub(crate) named: Items<u8>,
+}
+
 impl Part {
-    ghost use Rattle.loc_state.specs.Steps.{begun, brought, evicted, dropped, defines, saving, keeps_one, keeps_all, called};
+    ghost use Rattle.loc_state.specs.Steps.{begun, places, brought, evicted, dropped, defines, saving, keeps_one, keeps_all, called};
     ghost use Rattle.loc_state.specs.Lines.{place_of, aims, moves, call_lines};
     ghost use Rattle.loc_state.specs.Walked.{InRow, Matches};
 
@@ -41,6 +49,31 @@ impl Part {
             lines: Items::new(alloc),
             named: Items::new(alloc),
             since: 0,
+        })
+    }
+
+    /// The node is ended, and another is begun.
+    pub(crate) fn begin_next(&mut self, alloc: Global, start: Places) -> Result<Ended, AllocError>
+        ensures begun { OnOk result (self.new ≡ begun start) }
+        ensures ended { IfOk result (λ ended. ended ≡ record { start = self.old.start; lines = self.old.lines; named = self.old.named }) }
+    {
+        self.regs.assign(alloc, start.regs.as_slice())?;
+        self.homed = Homes::from_slice(alloc, start.homed.as_slice())?;
+        self.since = 0;
+        Ok(Ended {
+            start: replace(&mut self.start, start),
+            lines: replace(&mut self.lines, Items::new(alloc)),
+            named: replace(&mut self.named, Items::new(alloc)),
+        })
+    }
+
+    /// Where the values are now.
+    pub(crate) fn places(&self, alloc: Global) -> Result<Places, AllocError>
+        ensures { IfOk result (λ q. q ≡ places self.now) }
+    {
+        Ok(Places {
+            regs: self.regs.list(alloc)?,
+            homed: self.homed.list(alloc)?,
         })
     }
 
@@ -204,8 +237,15 @@ impl Part {
     }
 }
 
-/// The same items, with room for so many more.
-pub(crate) fn with_room<T: Drop>(items: Items<T>, count: usize) -> Result<Items<T>, AllocError>
+/// No items, with room for so many.
+pub(crate) fn room_for<T>(alloc: Global, count: usize) -> Result<Items<T>, AllocError>
+    ensures { IfOk result (λ items. items ≡ []) }
+{
+    Ok(Items::from_vec(Vec::with_capacity(alloc, count)?))
+}
+
+// The same items, with room for so many more.
+fn with_room<T: Drop>(items: Items<T>, count: usize) -> Result<Items<T>, AllocError>
     ensures { IfOk result (λ more. more ≡ items) }
 {
     let mut items = items.into_vec();

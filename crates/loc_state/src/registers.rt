@@ -51,6 +51,18 @@ impl Registers {
         })
     }
 
+    /// Takes these values in place of its own.
+    pub fn assign(&mut self, alloc: Global, row: &[Option<u32>]) -> Result<(), AllocError>
+        ensures { OnOk result (self.new ≡ row.now) }
+    {
+        if self.row.len() == row.len() {
+            self.row.as_mut_slice().copy_from_slice(row);
+            return Ok(());
+        }
+        self.row = SmallVec::from_slice(alloc, row)?;
+        Ok(())
+    }
+
     /// The registers, lent.
     pub fn as_slice(&self) -> &[Option<u32>]
         ensures { result.now ≡ self.now }

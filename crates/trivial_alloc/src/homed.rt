@@ -10,6 +10,7 @@ ghost use Rattle.trivial_alloc.specs.Marks.{AreMarked, all_marked};
 
 use lir_core::{Items, Leave, LiveSets, Node, Places, TraceIn};
 use live_interval::next_live;
+use smallvec::SmallVec;
 use std::alloc::{AllocError, Global};
 
 /// The places at a node's start: what is live there and the parameters, homed.
@@ -98,7 +99,7 @@ fn mark(marks: &mut Vec<u64>, value: u32)
 fn in_homes(alloc: Global, regs: u8, marks: Vec<u64>, values: u32) -> Result<Places, AllocError>
     ensures { IfOk result (λ places. places ≡ in_homes regs (all_marked values marks.items)) }
 {
-    let marked = LiveSets::from_rows(vec![in alloc; marks]?);
+    let marked = LiveSets::from_rows(vec![in alloc; SmallVec::from_vec(marks)]?);
     let homed = list_marked(alloc, &marked, values)?;
     Ok(Places {
         regs: Items::from_vec(vec![in alloc; None; regs as usize]?),

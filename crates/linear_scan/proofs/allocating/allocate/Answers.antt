@@ -24,8 +24,8 @@ module _ (c : goal.After-drop-positions-inside-2) where
   made : IsInput x ns hint → IsMade x c.args.t.now.number ns hint told c.in-Some.head c.finish.result
   unfolding x ns hint told
   made given =
-      let start : c.make_room_for_nodes.new.self ≡ started (first_start x told c.in-Some.head hint) = c.in_ok-make_room_for_nodes.ensures ∙ c.in_ok-fw.ensures.step ∙ ap started c.in_ok-start.ensures.start in
-      let walked : c.in_ok-fw-2.fw ≡ along x told (drop_all told) 0 c.as_slice-nodes.result.now c.make_room_for_nodes.new.self = c.in_ok-fw-2.ensures in
+      let start : c.in_ok-fw.fw ≡ started (first_start x told c.in-Some.head hint) = c.in_ok-fw.ensures.step ∙ ap started c.in_ok-start.ensures.start in
+      let walked : c.in_ok-fw-2.fw ≡ along x told (drop_all told) 0 c.as_slice-nodes.result.now c.in_ok-fw.fw = c.in_ok-fw-2.ensures in
       let done : c.finish.result ≡ result_of c.args.t.now.number c.in_ok-fw-2.fw = c.finish.ensures in
       let nodes : c.as_slice-nodes.result.now ≡ ns = c.as_slice-nodes.ensures in
       record {
