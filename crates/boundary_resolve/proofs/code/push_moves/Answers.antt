@@ -2,7 +2,7 @@ use Rattle.std.proofs.Common.{◌∙◌}
 use Rattle.boundary_resolve.specs.Before.{moves_before}
 use Rattle.boundary_resolve.proofs.Laid.{edge_kept, edge_pushed}
 use Rattle.boundary_resolve.proofs.Sought.{before_is, has_few}
-use Rattle.boundary_resolve.proofs.code.push_edge.Goals as goal
+use Rattle.boundary_resolve.proofs.code.push_moves.Goals as goal
 
 pub returns-then-keeps : goal.returns-then-keeps
 returns-then-keeps c few_from few_to rising =
