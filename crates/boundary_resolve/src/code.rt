@@ -10,7 +10,7 @@ ghost use Rattle.boundary_resolve.specs.Moves.{edge_moves, entry_places, FewRegs
 ghost use Rattle.boundary_resolve.specs.Placing.{start_at, end_at, lines_at, is_test, steps_of_end, jump_steps, steps_from, test_steps, entry_steps, node_lines};
 ghost use Rattle.boundary_resolve.specs.Codes.{OfCode};
 
-use crate::moves::{Before, moves_to};
+use crate::moves::{Before, moves_nothing, moves_to};
 use crate::placed::Placed;
 use crate::seats::Seat;
 use lir_core::{Flow, Items, Leave, Line, Places, TraceOut};
@@ -220,6 +220,26 @@ fn entry(alloc: Global, count: usize) -> Result<(Places, Vec<u32>), Memory>
 }
 
 fn push_edge(
+    alloc: Global,
+    placed: &mut Vec<Placed>,
+    from: &Places,
+    to: &Places,
+    params: &[u32],
+    args: &[u32],
+) -> Result<(), Memory>
+    ensures { FewRegs from.now → FewRegs to.now → IsRising to.now.homed
+        → OnOk result (placed.new.items ≡ placed.old.items ++ map Edge
+        (order_of (edge_moves from.now to.now (argument_of params.now args.now)))) }
+{
+    if moves_nothing(from, to, params, args) {
+        return Ok(());
+    }
+    push_moves(alloc, placed, from, to, params, args)
+}
+
+// The steps of an edge. Most edges move nothing, so this stands apart from the test of that.
+#[inline(never)]
+fn push_moves(
     alloc: Global,
     placed: &mut Vec<Placed>,
     from: &Places,

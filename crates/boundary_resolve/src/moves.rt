@@ -5,7 +5,7 @@ ghost use Rattle.lir_core.specs.declared.places.Place.TheVariants.{Reg};
 ghost use Rattle.lir_core.specs.Spots.{argument_of, TakesOver};
 ghost use Rattle.parallel_move.specs.Steps.{steps_source};
 ghost use Rattle.parallel_move.specs.Order.{is_moving, order_of};
-ghost use Rattle.boundary_resolve.specs.Moves.{register_of, reg_moves, home_moves, edge_moves, FewRegs, Covers};
+ghost use Rattle.boundary_resolve.specs.Moves.{place_of, register_of, reg_moves, home_moves, edge_moves, FewRegs, Covers};
 ghost use Rattle.boundary_resolve.specs.Before.{IsBefore, HasHomes, HasArguments, HasFew, argument_before, place_before, stays_before, moves_before};
 
 use lir_core::{Move, Place, Places};
@@ -42,6 +42,39 @@ pub(crate) fn moves_to(alloc: Global, before: &Before, to: &Places) -> Result<Ve
 
 /// The most parameters among which is searched for one without a table.
 const FEW: usize = 8;
+
+/// Whether an edge moves nothing, for one behind which nothing is homed and that has few parameters.
+pub(crate) fn moves_nothing(from: &Places, to: &Places, params: &[u32], args: &[u32]) -> bool
+    ensures { FewRegs from.now → result ≡ true → order_of (edge_moves from.now to.now (argument_of params.now args.now)) ≡ [] }
+{
+    params.len() <= FEW
+        && to.homed.as_slice().is_empty()
+        && stay_in_registers(from, to.regs.as_slice(), params, args)
+}
+
+// Whether all values that are wanted in registers behind an edge are there before it.
+fn stay_in_registers(from: &Places, regs: &[Option<u32>], params: &[u32], args: &[u32]) -> bool
+    ensures { FewRegs from.now → result ≡ true → filter is_moving (reg_moves (λ v. place_of from.now (argument_of params.now args.now v)) 0 regs.now) ≡ [] }
+{
+    for (register, held) in regs.iter().enumerate() {
+        if let Some(value) = held
+            && !is_held(from, argument_of(params, args, *value), register)
+        {
+            return false;
+        }
+    }
+    true
+}
+
+// Whether a value is in a register, and in none below it.
+fn is_held(from: &Places, value: u32, register: usize) -> bool
+    ensures { FewRegs from.now → result ≡ true → place_of from.now value ≡ Reg register }
+{
+    match register_of(from.regs.as_slice(), value) {
+        Some(found) => found as usize == register,
+        None => false,
+    }
+}
 
 /// Where values are before an edge.
 #[derive(Drop)]

@@ -34,6 +34,7 @@ pub(crate) fn push_edges(
 }
 
 /// A node's lines up to its next operation, or to its last line, become copies; gives the line behind them.
+#[inline(always)]
 pub(crate) fn push_body(
     alloc: Global,
     copies: &mut Vec<Copy>,

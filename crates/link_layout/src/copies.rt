@@ -37,6 +37,7 @@ pub(crate) enum Room {
 }
 
 /// How many words copies have, in a frame with these homes and so many slots for arguments.
+#[inline(always)]
 pub fn copies_width(homes: &Ranks, outs: u32, copies: &[Copy]) -> Result<u32, LayoutFault>
     ensures width { IfOk result (λ width. (pr : Placed) → IsFrameOf homes.now outs pr → width ≡ length (copies_words pr (map copy_of copies.now))) }
     ensures fits { IfOk result (λ width. width ≤ 2 ^ 18) }
@@ -45,7 +46,22 @@ pub fn copies_width(homes: &Ranks, outs: u32, copies: &[Copy]) -> Result<u32, La
     width_of_copies(homes, outs, copies)
 }
 
+#[inline(always)]
 fn width_of_copies(homes: &Ranks, outs: u32, copies: &[Copy]) -> Result<u32, LayoutFault>
+    ensures width { IfOk result (λ width. width ≡ widths_of_copies homes.now outs (map copy_of copies.now)) }
+    ensures fits { IfOk result (λ width. width ≤ 2 ^ 18) }
+    ensures limit { IfErr result (λ fault. 2 ^ 18 < widths_of_copies homes.now outs (map copy_of copies.now)) }
+{
+    if copies.is_empty() {
+        Ok(0)
+    } else {
+        sum_of_widths(homes, outs, copies)
+    }
+}
+
+/// How many words copies have. Most lists of copies are empty, so this stands apart from the test of that.
+#[inline(never)]
+fn sum_of_widths(homes: &Ranks, outs: u32, copies: &[Copy]) -> Result<u32, LayoutFault>
     ensures width { IfOk result (λ width. width ≡ widths_of_copies homes.now outs (map copy_of copies.now)) }
     ensures fits { IfOk result (λ width. width ≤ 2 ^ 18) }
     ensures limit { IfErr result (λ fault. 2 ^ 18 < widths_of_copies homes.now outs (map copy_of copies.now)) }
@@ -57,8 +73,7 @@ fn width_of_copies(homes: &Ranks, outs: u32, copies: &[Copy]) -> Result<u32, Lay
     Ok(width)
 }
 
-/// How many words a copy has. Most lists of copies are empty, so this stands apart from the loop over them.
-#[inline(never)]
+/// How many words a copy has.
 fn copy_width(homes: &Ranks, outs: u32, copy: Copy) -> u32
     ensures width { result ≡ widths_of_copies homes.now outs (copy_of copy ∷ []) }
     ensures most { result ≤ 2 }

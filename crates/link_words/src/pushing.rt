@@ -12,6 +12,7 @@ use a64_table::encode;
 use outside::Memory;
 
 /// Appends an instruction's word.
+#[inline(always)]
 pub(crate) fn push(words: &mut Vec<u32>, instr: Instr) -> Result<(), Memory>
     ensures { OnOk result (words.new.items ≡ words.old.items ++ word_of instr ∷ []) }
 {

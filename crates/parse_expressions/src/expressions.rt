@@ -1,7 +1,8 @@
 //! Expressions, and the designators and sets in them.
 
-ghost use Rattle.std.specs.Prelude.{◌<◌, OnOk};
-ghost use Rattle.ob_grammar.specs.Grammar.{opening, part, opt, many, ◌·◌, ◌∣◌, DIV, IN, IS, MOD, OR, ampersand, arrow, comma, designator, dots, element, equal, expression, factor, greater, greater_equal, ident, left_bracket, left_paren, less, less_equal, list, minus, not_equal, period, plus, right_bracket, right_paren, set, simple, slash, term, tilde, times};
+ghost use Rattle.std.specs.Prelude.{◌≡◌, ◌<◌, false, OnOk};
+ghost use Rattle.ob_grammar.specs.Grammar.{opening, part, opt, many, ◌·◌, ◌∣◌, DIV, FALSE, IN, IS, MOD, NIL, OR, TRUE, ampersand, arrow, char, comma, designator, dots, element, equal, expression, factor, greater, greater_equal, ident, left_bracket, left_paren, less, less_equal, list, minus, not_equal, period, plus, right_bracket, right_paren, set, simple, slash, string, term, tilde, times};
+ghost use Rattle.ob_grammar.specs.Reading.{first, is_next};
 ghost use Rattle.ob_syntax.specs.Leaves.{boxed, each, optional};
 ghost use Rattle.ob_syntax.specs.ExpressionText.{added_text, compared_text, designator_text, element_high_text, element_text, elements_text, expression_text, factor_text, list_text, multiplied_text, next_element_text, next_expression_text, selector_text, set_text, simple_text, term_text};
 ghost use Rattle.parse_steps.specs.Parsing.{Gives};
@@ -107,10 +108,26 @@ fn more_factors(parser: &mut Parser, alloc: Global) -> Result<Vec<Multiplied>, P
 fn factor(parser: &mut Parser, alloc: Global) -> Result<Factor, ParseFault>
     ensures { Gives (part factor) factor_text parser.old parser.new result }
 {
-    if parser.is_at(Terminal::Int) {
+    if parser.is_at(Terminal::Ident) {
+        let designator = designator(parser, alloc)?;
+        Ok(Factor::Designator(designator))
+    } else if parser.is_at(Terminal::Int) {
         let at = parser.advance();
         Ok(Factor::Int(at))
-    } else if parser.is_at(Terminal::Text) {
+    } else {
+        other_factor(parser, alloc)
+    }
+}
+
+/// A factor that is no number. Most factors are numbers or designators, so the others stand apart.
+#[cycle(expressions)]
+#[inline(never)]
+fn other_factor(parser: &mut Parser, alloc: Global) -> Result<Factor, ParseFault>
+    requires { false ≡ is_next (first ident) parser.old.rest }
+    ensures { Gives (string ∣ char ∣ NIL ∣ TRUE ∣ FALSE ∣ part set ∣ part designator ∣ opening left_paren (part expression · right_paren)
+        ∣ opening tilde (part factor)) factor_text parser.old parser.new result }
+{
+    if parser.is_at(Terminal::Text) {
         let at = parser.advance();
         Ok(Factor::Text(at))
     } else if parser.is_at(Terminal::Char) {
@@ -126,17 +143,11 @@ fn factor(parser: &mut Parser, alloc: Global) -> Result<Factor, ParseFault>
         let at = parser.advance();
         Ok(Factor::False(at))
     } else if parser.is_at(Mark(Delimiter::LeftBrace)) {
-        let set = set_factor(parser, alloc)?;
-        Ok(set)
-    } else if parser.is_at(Terminal::Ident) {
-        let designator = designator(parser, alloc)?;
-        Ok(Factor::Designator(designator))
+        set_factor(parser, alloc)
     } else if parser.is_at(Mark(Delimiter::LeftParen)) {
-        let paren = paren(parser, alloc)?;
-        Ok(paren)
+        paren(parser, alloc)
     } else {
-        let negation = negation(parser, alloc)?;
-        Ok(negation)
+        negation(parser, alloc)
     }
 }
 

@@ -1,19 +1,6 @@
-use Rattle.std.proofs.Common.{◌∙◌}
-use Rattle.boundary_resolve.specs.Before.{moves_before}
-use Rattle.boundary_resolve.proofs.Laid.{edge_kept, edge_pushed}
-use Rattle.boundary_resolve.proofs.Sought.{before_is, has_few}
+use Rattle.std.proofs.Common.{refl}
+use Rattle.boundary_resolve.proofs.Laid.{edge_kept}
 use Rattle.boundary_resolve.proofs.code.push_edge.Goals as goal
 
-pub returns-then-keeps : goal.returns-then-keeps
-returns-then-keeps c few_from few_to rising =
-    let b = c.in_ok-before.before in
-    let is = c.in_ok-before.ensures in
-    let few = has_few c.args.from.now c.args.params.now c.args.args.now b is few_from in
-    edge_kept c.args.from.now c.args.to.now c.args.params.now c.args.args.now (moves_before b c.args.to.now) c.args.placed.now.items (before_is c.args.from.now c.args.to.now c.args.params.now c.args.args.now b is) (c.keeps.ensures few few_to c.if-keeps.true)
-
-pub returns : goal.returns
-returns c few_from few_to rising =
-    let b = c.in_ok-before.before in
-    let is = c.in_ok-before.ensures in
-    let few = has_few c.args.from.now c.args.params.now c.args.args.now b is few_from in
-    edge_pushed c.args.from.now c.args.to.now c.args.params.now c.args.args.now c.in_ok-moves.moves.items c.as_slice.result.now c.in_ok-steps.steps.items c.as_slice-2.result.now c.args.placed.now.items c.push_steps.new.placed.items rising (c.in_ok-moves.ensures few few_to ∙ before_is c.args.from.now c.args.to.now c.args.params.now c.args.args.now b is) c.as_slice.ensures.value c.in_ok-steps.ensures.steps c.as_slice-2.ensures.value c.in_ok-push_steps.ensures
+pub returns-then-moves_nothing : goal.returns-then-moves_nothing
+returns-then-moves_nothing c few_from few_to rising = edge_kept c.args.from.now c.args.to.now c.args.params.now c.args.args.now _ c.args.placed.now.items refl (c.moves_nothing.ensures few_from c.if-moves_nothing.true)

@@ -5,6 +5,7 @@ use Rattle.ob_syntax.specs.Leaves.{leaf}
 use Rattle.ob_syntax.specs.ExpressionText.{added_text, multiplied_text, next_element_text, next_expression_text, selector_text, set_text, expression_text, factor_text, compared_text}
 use Rattle.ob_syntax.proofs.ExpressionTexts.{expression_is, compared_is, simple_is, added_is, term_is, factor_designator_is, set_is, list_is, next_expression_is, elements_is, next_element_is, element_is, element_high_is, selector_parens_is}
 use Rattle.parse_steps.proofs.Steps.{as_text, reads_part, reads_then, reads_left, reads_right, reads_some, reads_none, fails_part, fails_first, fails_then, fails_left, fails_right, fails_some, fails_inside, reads_inside, one_more, end_rounds, fails_round, rounds_over, gives_err, left_out, maybe_taken, took}
+use Rattle.parse_expressions.proofs.Choosing.{reads_designator, fails_designator, gives_part, gives_left, gives_right}
 use Rattle.parse_expressions.proofs.expressions.+expressions.Goals as goal
 
 pub expression-returns-in_err-left : goal.expression-returns-in_err-left
@@ -61,47 +62,41 @@ more_factors-rounds-preserved t c = one_more multiplied_text _ _ _ c.in_ok-add.e
 pub more_factors-returns : goal.more_factors-returns
 more_factors-returns t c = rounds_over c.rounds.invariant c.in_default.ensures.none c.in_default.ensures
 
-pub factor-returns-then-is_at : goal.factor-returns-then-is_at
-factor-returns-then-is_at t c = reads_part (reads_left c.if-is_at.ensures.tells (took _ _ _ _ c.if-is_at.ensures.tells c.advance-at.ensures.rest c.advance-at.ensures.at).read)
-
-pub factor-returns-then-is_at-2 : goal.factor-returns-then-is_at-2
-factor-returns-then-is_at-2 t c = reads_part (reads_right c.if-is_at.ensures.tells (reads_left c.if-is_at-2.ensures.tells (took _ _ _ _ c.if-is_at-2.ensures.tells c.advance-at-then-is_at-2.ensures.rest c.advance-at-then-is_at-2.ensures.at).read))
-
-pub factor-returns-then-is_at-3 : goal.factor-returns-then-is_at-3
-factor-returns-then-is_at-3 t c = reads_part (reads_right c.if-is_at.ensures.tells (reads_right c.if-is_at-2.ensures.tells (reads_left c.if-is_at-3.ensures.tells (took _ _ _ _ c.if-is_at-3.ensures.tells c.advance-at-then-is_at-3.ensures.rest c.advance-at-then-is_at-3.ensures.at).read)))
-
-pub factor-returns-then-is_at-4 : goal.factor-returns-then-is_at-4
-factor-returns-then-is_at-4 t c = reads_part (reads_right c.if-is_at.ensures.tells (reads_right c.if-is_at-2.ensures.tells (reads_right c.if-is_at-3.ensures.tells (reads_left c.if-is_at-4.ensures.tells (took _ _ _ _ c.if-is_at-4.ensures.tells c.advance-at-then-is_at-4.ensures.rest c.advance-at-then-is_at-4.ensures.at).read))))
-
-pub factor-returns-then-is_at-5 : goal.factor-returns-then-is_at-5
-factor-returns-then-is_at-5 t c = reads_part (reads_right c.if-is_at.ensures.tells (reads_right c.if-is_at-2.ensures.tells (reads_right c.if-is_at-3.ensures.tells (reads_right c.if-is_at-4.ensures.tells (reads_left c.if-is_at-5.ensures.tells (took _ _ _ _ c.if-is_at-5.ensures.tells c.advance-at-then-is_at-5.ensures.rest c.advance-at-then-is_at-5.ensures.at).read)))))
-
-pub factor-returns-then-is_at-6 : goal.factor-returns-then-is_at-6
-factor-returns-then-is_at-6 t c = reads_part (reads_right c.if-is_at.ensures.tells (reads_right c.if-is_at-2.ensures.tells (reads_right c.if-is_at-3.ensures.tells (reads_right c.if-is_at-4.ensures.tells (reads_right c.if-is_at-5.ensures.tells (reads_left c.if-is_at-6.ensures.tells (took _ _ _ _ c.if-is_at-6.ensures.tells c.advance-at-then-is_at-6.ensures.rest c.advance-at-then-is_at-6.ensures.at).read))))))
-
-pub factor-returns-in_err-set : goal.factor-returns-in_err-set
-factor-returns-in_err-set t c = gives_err _ c.from_residual.result c.from_residual.ensures.1 (fails_part (fails_right c.if-is_at.ensures.tells (fails_right c.if-is_at-2.ensures.tells (fails_right c.if-is_at-3.ensures.tells (fails_right c.if-is_at-4.ensures.tells (fails_right c.if-is_at-5.ensures.tells (fails_right c.if-is_at-6.ensures.tells (fails_left c.if-is_at-7.ensures.tells c.in_err-set.ensures))))))))
-
-pub factor-returns-in_ok-set : goal.factor-returns-in_ok-set
-factor-returns-in_ok-set t c = reads_part (reads_right c.if-is_at.ensures.tells (reads_right c.if-is_at-2.ensures.tells (reads_right c.if-is_at-3.ensures.tells (reads_right c.if-is_at-4.ensures.tells (reads_right c.if-is_at-5.ensures.tells (reads_right c.if-is_at-6.ensures.tells (reads_left c.if-is_at-7.ensures.tells c.in_ok-set.ensures)))))))
-
 pub factor-returns-in_err-designator : goal.factor-returns-in_err-designator
-factor-returns-in_err-designator t c = gives_err _ c.from_residual-in_err-designator.result c.from_residual-in_err-designator.ensures.1 (fails_part (fails_right c.if-is_at.ensures.tells (fails_right c.if-is_at-2.ensures.tells (fails_right c.if-is_at-3.ensures.tells (fails_right c.if-is_at-4.ensures.tells (fails_right c.if-is_at-5.ensures.tells (fails_right c.if-is_at-6.ensures.tells (fails_right c.if-is_at-7.ensures.tells (fails_left c.if-is_at-8.ensures.tells c.in_err-designator.ensures)))))))))
+factor-returns-in_err-designator t c = gives_err _ c.from_residual.result c.from_residual.ensures.1 (fails_designator _ _ c.if-is_at.ensures.tells c.in_err-designator.ensures)
 
 pub factor-returns-in_ok-designator : goal.factor-returns-in_ok-designator
-factor-returns-in_ok-designator t c = as_text (factor_designator_is _) (reads_part (reads_right c.if-is_at.ensures.tells (reads_right c.if-is_at-2.ensures.tells (reads_right c.if-is_at-3.ensures.tells (reads_right c.if-is_at-4.ensures.tells (reads_right c.if-is_at-5.ensures.tells (reads_right c.if-is_at-6.ensures.tells (reads_right c.if-is_at-7.ensures.tells (reads_left c.if-is_at-8.ensures.tells c.in_ok-designator.ensures)))))))))
+factor-returns-in_ok-designator t c = as_text (factor_designator_is _) (reads_designator _ _ c.if-is_at.ensures.tells c.in_ok-designator.ensures)
 
-pub factor-returns-in_err-paren : goal.factor-returns-in_err-paren
-factor-returns-in_err-paren t c = gives_err _ c.from_residual-in_err-paren.result c.from_residual-in_err-paren.ensures.1 (fails_part (fails_right c.if-is_at.ensures.tells (fails_right c.if-is_at-2.ensures.tells (fails_right c.if-is_at-3.ensures.tells (fails_right c.if-is_at-4.ensures.tells (fails_right c.if-is_at-5.ensures.tells (fails_right c.if-is_at-6.ensures.tells (fails_right c.if-is_at-7.ensures.tells (fails_right c.if-is_at-8.ensures.tells (fails_left c.if-is_at-9.ensures.tells c.in_err-paren.ensures))))))))))
+pub factor-returns-then-is_at-2 : goal.factor-returns-then-is_at-2
+factor-returns-then-is_at-2 t c = reads_part (reads_left c.if-is_at-2.ensures.tells (took _ _ _ _ c.if-is_at-2.ensures.tells c.advance-at.ensures.rest c.advance-at.ensures.at).read)
 
-pub factor-returns-in_ok-paren : goal.factor-returns-in_ok-paren
-factor-returns-in_ok-paren t c = reads_part (reads_right c.if-is_at.ensures.tells (reads_right c.if-is_at-2.ensures.tells (reads_right c.if-is_at-3.ensures.tells (reads_right c.if-is_at-4.ensures.tells (reads_right c.if-is_at-5.ensures.tells (reads_right c.if-is_at-6.ensures.tells (reads_right c.if-is_at-7.ensures.tells (reads_right c.if-is_at-8.ensures.tells (reads_left c.if-is_at-9.ensures.tells c.in_ok-paren.ensures)))))))))
+pub factor-returns-else-is_at-2 : goal.factor-returns-else-is_at-2
+factor-returns-else-is_at-2 t c = gives_part _ _ _ _ c.other_factor.result (gives_right _ _ _ _ _ c.other_factor.result c.if-is_at-2.ensures.tells c.other_factor.ensures)
 
-pub factor-returns-in_err-negation : goal.factor-returns-in_err-negation
-factor-returns-in_err-negation t c = gives_err _ c.from_residual-in_err-negation.result c.from_residual-in_err-negation.ensures.1 (fails_part (fails_right c.if-is_at.ensures.tells (fails_right c.if-is_at-2.ensures.tells (fails_right c.if-is_at-3.ensures.tells (fails_right c.if-is_at-4.ensures.tells (fails_right c.if-is_at-5.ensures.tells (fails_right c.if-is_at-6.ensures.tells (fails_right c.if-is_at-7.ensures.tells (fails_right c.if-is_at-8.ensures.tells (fails_right c.if-is_at-9.ensures.tells c.in_err-negation.ensures))))))))))
+pub other_factor-returns-then-is_at : goal.other_factor-returns-then-is_at
+other_factor-returns-then-is_at t c = reads_left c.if-is_at.ensures.tells (took _ _ _ _ c.if-is_at.ensures.tells c.advance-at.ensures.rest c.advance-at.ensures.at).read
 
-pub factor-returns-in_ok-negation : goal.factor-returns-in_ok-negation
-factor-returns-in_ok-negation t c = reads_part (reads_right c.if-is_at.ensures.tells (reads_right c.if-is_at-2.ensures.tells (reads_right c.if-is_at-3.ensures.tells (reads_right c.if-is_at-4.ensures.tells (reads_right c.if-is_at-5.ensures.tells (reads_right c.if-is_at-6.ensures.tells (reads_right c.if-is_at-7.ensures.tells (reads_right c.if-is_at-8.ensures.tells (reads_right c.if-is_at-9.ensures.tells c.in_ok-negation.ensures)))))))))
+pub other_factor-returns-then-is_at-2 : goal.other_factor-returns-then-is_at-2
+other_factor-returns-then-is_at-2 t c = reads_right c.if-is_at.ensures.tells (reads_left c.if-is_at-2.ensures.tells (took _ _ _ _ c.if-is_at-2.ensures.tells c.advance-at-then-is_at-2.ensures.rest c.advance-at-then-is_at-2.ensures.at).read)
+
+pub other_factor-returns-then-is_at-3 : goal.other_factor-returns-then-is_at-3
+other_factor-returns-then-is_at-3 t c = reads_right c.if-is_at.ensures.tells (reads_right c.if-is_at-2.ensures.tells (reads_left c.if-is_at-3.ensures.tells (took _ _ _ _ c.if-is_at-3.ensures.tells c.advance-at-then-is_at-3.ensures.rest c.advance-at-then-is_at-3.ensures.at).read))
+
+pub other_factor-returns-then-is_at-4 : goal.other_factor-returns-then-is_at-4
+other_factor-returns-then-is_at-4 t c = reads_right c.if-is_at.ensures.tells (reads_right c.if-is_at-2.ensures.tells (reads_right c.if-is_at-3.ensures.tells (reads_left c.if-is_at-4.ensures.tells (took _ _ _ _ c.if-is_at-4.ensures.tells c.advance-at-then-is_at-4.ensures.rest c.advance-at-then-is_at-4.ensures.at).read)))
+
+pub other_factor-returns-then-is_at-5 : goal.other_factor-returns-then-is_at-5
+other_factor-returns-then-is_at-5 t c = reads_right c.if-is_at.ensures.tells (reads_right c.if-is_at-2.ensures.tells (reads_right c.if-is_at-3.ensures.tells (reads_right c.if-is_at-4.ensures.tells (reads_left c.if-is_at-5.ensures.tells (took _ _ _ _ c.if-is_at-5.ensures.tells c.advance-at-then-is_at-5.ensures.rest c.advance-at-then-is_at-5.ensures.at).read))))
+
+pub other_factor-returns-then-is_at-6 : goal.other_factor-returns-then-is_at-6
+other_factor-returns-then-is_at-6 t c = gives_right _ _ _ _ _ c.set_factor.result c.if-is_at.ensures.tells (gives_right _ _ _ _ _ c.set_factor.result c.if-is_at-2.ensures.tells (gives_right _ _ _ _ _ c.set_factor.result c.if-is_at-3.ensures.tells (gives_right _ _ _ _ _ c.set_factor.result c.if-is_at-4.ensures.tells (gives_right _ _ _ _ _ c.set_factor.result c.if-is_at-5.ensures.tells (gives_left _ _ _ _ _ c.set_factor.result c.if-is_at-6.ensures.tells c.set_factor.ensures)))))
+
+pub other_factor-returns-then-is_at-7 : goal.other_factor-returns-then-is_at-7
+other_factor-returns-then-is_at-7 t c = gives_right _ _ _ _ _ c.paren.result c.if-is_at.ensures.tells (gives_right _ _ _ _ _ c.paren.result c.if-is_at-2.ensures.tells (gives_right _ _ _ _ _ c.paren.result c.if-is_at-3.ensures.tells (gives_right _ _ _ _ _ c.paren.result c.if-is_at-4.ensures.tells (gives_right _ _ _ _ _ c.paren.result c.if-is_at-5.ensures.tells (gives_right _ _ _ _ _ c.paren.result c.if-is_at-6.ensures.tells (gives_right _ _ _ _ _ c.paren.result c.requires (gives_left _ _ _ _ _ c.paren.result c.if-is_at-7.ensures.tells c.paren.ensures)))))))
+
+pub other_factor-returns-else-is_at-7 : goal.other_factor-returns-else-is_at-7
+other_factor-returns-else-is_at-7 t c = gives_right _ _ _ _ _ c.negation.result c.if-is_at.ensures.tells (gives_right _ _ _ _ _ c.negation.result c.if-is_at-2.ensures.tells (gives_right _ _ _ _ _ c.negation.result c.if-is_at-3.ensures.tells (gives_right _ _ _ _ _ c.negation.result c.if-is_at-4.ensures.tells (gives_right _ _ _ _ _ c.negation.result c.if-is_at-5.ensures.tells (gives_right _ _ _ _ _ c.negation.result c.if-is_at-6.ensures.tells (gives_right _ _ _ _ _ c.negation.result c.requires (gives_right _ _ _ _ _ c.negation.result c.if-is_at-7.ensures.tells c.negation.ensures)))))))
 
 pub set_factor-returns-in_err-set : goal.set_factor-returns-in_err-set
 set_factor-returns-in_err-set t c = gives_err _ c.from_residual.result c.from_residual.ensures.1 c.in_err-set.ensures

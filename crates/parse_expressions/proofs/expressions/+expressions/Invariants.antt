@@ -7,43 +7,46 @@ use Rattle.parse_steps.specs.Parsing.{State, Repeated}
 use Rattle.parse_expressions.proofs.expressions.+expressions.Given as goal
 
 abbrev rank : State → ℕ → ℕ
-rank a n = 22 * length a.rest + n
+rank a n = 23 * length a.rest + n
 
 abbrev pub decreases-maybe_list : goal.decreases-maybe_list
-decreases-maybe_list l = rank l.parser.now 21
+decreases-maybe_list l = rank l.parser.now 22
 
 abbrev pub decreases-list : goal.decreases-list
-decreases-list l = rank l.parser.now 20
+decreases-list l = rank l.parser.now 21
 
 abbrev pub decreases-elements : goal.decreases-elements
-decreases-elements l = rank l.parser.now 19
+decreases-elements l = rank l.parser.now 20
 
 abbrev pub decreases-element : goal.decreases-element
-decreases-element l = rank l.parser.now 18
+decreases-element l = rank l.parser.now 19
 
 abbrev pub decreases-element_high : goal.decreases-element_high
-decreases-element_high l = rank l.parser.now 17
+decreases-element_high l = rank l.parser.now 18
 
 abbrev pub decreases-expression : goal.decreases-expression
-decreases-expression l = rank l.parser.now 16
+decreases-expression l = rank l.parser.now 17
 
 abbrev pub decreases-compared : goal.decreases-compared
-decreases-compared l = rank l.parser.now 15
+decreases-compared l = rank l.parser.now 16
 
 abbrev pub decreases-simple : goal.decreases-simple
-decreases-simple l = rank l.parser.now 14
+decreases-simple l = rank l.parser.now 15
 
 abbrev pub decreases-more_terms : goal.decreases-more_terms
-decreases-more_terms l = rank l.parser.now 13
+decreases-more_terms l = rank l.parser.now 14
 
 abbrev pub decreases-term : goal.decreases-term
-decreases-term l = rank l.parser.now 12
+decreases-term l = rank l.parser.now 13
 
 abbrev pub decreases-more_factors : goal.decreases-more_factors
-decreases-more_factors l = rank l.parser.now 11
+decreases-more_factors l = rank l.parser.now 12
 
 abbrev pub decreases-factor : goal.decreases-factor
-decreases-factor l = rank l.parser.now 10
+decreases-factor l = rank l.parser.now 11
+
+abbrev pub decreases-other_factor : goal.decreases-other_factor
+decreases-other_factor l = rank l.parser.now 10
 
 abbrev pub decreases-paren : goal.decreases-paren
 decreases-paren l = rank l.parser.now 9

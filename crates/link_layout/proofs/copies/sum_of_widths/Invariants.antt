@@ -1,6 +1,6 @@
 use Rattle.std.proofs.Common.{◌≡◌, ◌≤◌, ◌^◌, ◌+◌, drop, map}
 use Rattle.link_layout.specs.Spots.{copy_of, widths_of_copies}
-use Rattle.link_layout.proofs.copies.width_of_copies.Given as goal
+use Rattle.link_layout.proofs.copies.sum_of_widths.Given as goal
 
 abbrev pub invariant-loop-copy : goal.invariant-loop-copy
 invariant-loop-copy l = record {
