@@ -305,6 +305,9 @@ pub fn designator<'a>(
         (judged_designator scope.now.source.now (world_of scope.now) (plain_designator tree.now)) result }
 {
     let named = scope.named(tree.name)?;
+    if tree.selectors.as_slice().is_empty() {
+        return finished(scope, alloc, tree.name, Stage::Whole(named));
+    }
     selected(
         scope,
         alloc,
@@ -316,6 +319,7 @@ pub fn designator<'a>(
 
 /// What selectors lead to, one after the other.
 #[cycle(walk)]
+#[inline(never)]
 fn selected<'a>(
     scope: &Scope<'a>,
     alloc: Global,

@@ -18,11 +18,11 @@ impl Declaring {
         ensures judged { Judges round.now self.old self.new (judged_stand round.now.source.now (i ∷ [])) result }
     {
         let name = round.source.spelled(i);
-        if self.standing.contains_key(name) {
+        let key = Vec::from_slice(round.alloc, name)?;
+        let before = self.standing.insert(key, i)?;
+        if before.is_some() {
             return Err(round.source.fault(36, i));
         }
-        let key = Vec::from_slice(round.alloc, name)?;
-        self.standing.insert(key, i)?;
         Ok(())
     }
 }

@@ -4,9 +4,9 @@ ghost use Rattle.std.specs.Prelude.{◌≡◌, IfOk};
 ghost use Rattle.ob_judge.specs.Judged.{Keeps};
 ghost use Rattle.ob_judge.specs.Scopes.{place};
 ghost use Rattle.ob_judge.specs.Operands.{Operand as Judgement, of_constant as operand_of_constant};
-ghost use Rattle.ob_judge.specs.Names.{Stage as JudgedStage, object_operand as judged_object, begun as judged_beginning, finished as judged_end};
+ghost use Rattle.ob_judge.specs.Names.{Stage as JudgedStage, object_operand as judged_object, begun as judged_beginning, finished as judged_end, variable_read as judged_read};
 ghost use Rattle.check_types.specs.steps.Answers.{Answers};
-ghost use Rattle.check_types.specs.names.Meaning.{object_of, constant_of as constant_meant};
+ghost use Rattle.check_types.specs.names.Meaning.{object_of, variable_of, constant_of as constant_meant};
 ghost use Rattle.check_types.specs.names.Worlds.{table_of, strings_of, world_of};
 ghost use Rattle.check_operands.specs.Operands.{Stands};
 ghost use Rattle.check_selectors.specs.Stages.{IsStage, IsBegun};
@@ -16,7 +16,7 @@ use crate::stage::Stage;
 use check_operands::trees::Value;
 use check_operands::{Operand, Use, What, constant_text, text};
 use check_types::TypeRef;
-use check_types::names::{Basic, Constant, Named, Scope};
+use check_types::names::{Basic, Constant, Named, Scope, Variable};
 use check_types::steps::CheckFault;
 use ob_types::Expr;
 use std::alloc::Global;
@@ -136,9 +136,24 @@ pub fn begin<'a>(
     }
 }
 
-// A name alone, as an operand.
+// A variable alone, as an operand.
 #[inline(always)]
-fn named_operand<'a>(
+fn variable_operand<'a>(
+    scope: &Scope<'a>,
+    alloc: Global,
+    v: Variable,
+) -> Result<Operand, CheckFault>
+    ensures { Answers (Stands scope.now)
+        (Keeps (judged_read scope.now.source.now (world_of scope.now) (variable_of (table_of scope.now) (strings_of scope.now) v)))
+        result }
+{
+    let x = variable_read(scope, alloc, v)?;
+    Ok(operand(scope, x))
+}
+
+// What is no variable, as an operand.
+#[inline(never)]
+fn other_operand<'a>(
     scope: &Scope<'a>,
     alloc: Global,
     symbol: u32,
@@ -153,7 +168,27 @@ fn named_operand<'a>(
     Ok(operand_of(scope, x))
 }
 
+// A name alone, as an operand.
+#[inline(always)]
+fn named_operand<'a>(
+    scope: &Scope<'a>,
+    alloc: Global,
+    symbol: u32,
+    named: Named,
+) -> Result<Operand, CheckFault>
+    ensures { Answers (Stands scope.now)
+        (judged_object scope.now.source.now (world_of scope.now) (place scope.now.source.now symbol)
+        (object_of (table_of scope.now) (strings_of scope.now) named))
+        result }
+{
+    match named {
+        Named::Variable(v) => variable_operand(scope, alloc, v),
+        _ => other_operand(scope, alloc, symbol, named),
+    }
+}
+
 /// A stage with no further selector behind it, as an operand.
+#[inline(always)]
 pub fn finished<'a>(
     scope: &Scope<'a>,
     alloc: Global,

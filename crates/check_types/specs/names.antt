@@ -1,3 +1,4 @@
 pub mod Basics
+pub mod Entries
 pub mod Meaning
 pub mod Worlds

@@ -69,6 +69,7 @@ pub fn whole_variable<'a>(scope: &Scope<'a>, alloc: Global, v: Variable) -> Part
 }
 
 // A pointer variable that is narrowed: its value, guarded.
+#[inline(never)]
 fn narrowed_pointer<'a>(
     scope: &Scope<'a>,
     alloc: Global,
@@ -95,6 +96,7 @@ fn narrowed_pointer<'a>(
 }
 
 // A VAR record parameter that is narrowed.
+#[inline(never)]
 fn narrowed_record<'a>(
     scope: &Scope<'a>,
     alloc: Global,
@@ -116,6 +118,7 @@ fn narrowed_record<'a>(
 }
 
 /// A variable as it is read: in a part of a CASE on types its guard.
+#[inline(always)]
 pub fn variable_read<'a>(scope: &Scope<'a>, alloc: Global, v: Variable) -> Result<Part, CheckFault>
     ensures { Answers (IsPart scope.now) (Keeps (judged_read scope.now.source.now (world_of scope.now) (variable_of (table_of scope.now) (strings_of scope.now) v))) result }
 {

@@ -16,11 +16,18 @@ pub struct Level {
 }
 
 impl Level {
+    // The declaration of a name in this scope.
+    pub(crate) fn seen(&self, name: &[u8]) -> Option<&Declared>
+        ensures { (t : Table) (strings : List (List ℕ)) → option_map (λ d. entry_of t strings d.now) result ≡ names_of t strings self.now name.now }
+    {
+        self.names.get(name)
+    }
+
     /// What a name stands for in this scope.
     pub fn find(&self, name: &[u8]) -> Option<Declared>
         ensures { (t : Table) (strings : List (List ℕ)) → option_map (entry_of t strings) result ≡ names_of t strings self.now name.now }
     {
-        self.names.get(name).copied()
+        self.seen(name).copied()
     }
 
     /// Declares a name.

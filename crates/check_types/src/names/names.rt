@@ -8,6 +8,8 @@ ghost use Rattle.ob_judge.specs.Modules.{offered};
 ghost use Rattle.ob_judge.specs.Names.{named as judged_name, member as judged_member, member_of_object as judged_member_of, qualified as judged_qualident, type_of_object, type_named as judged_type, names_of as names_in_module, is_place as same_place, narrowing_of as narrowing_at};
 ghost use Rattle.check_types.specs.TypeMeaning.{type_shape};
 ghost use Rattle.check_types.specs.steps.Answers.{Answers};
+ghost use Rattle.ob_judge.specs.Standards.{predeclared as names_before};
+ghost use Rattle.check_types.specs.names.Entries.{found_as};
 ghost use Rattle.check_types.specs.names.Meaning.{entry_of, names_of, object_of, imported_of, place_of, narrowing_of, narrowings_before};
 ghost use Rattle.check_types.specs.names.Worlds.{table_of, strings_of, world_of, IsNamed, IsOfType};
 
@@ -19,16 +21,23 @@ use crate::names::scope::{
 };
 use crate::steps::CheckFault;
 
-/// What a name stands for in open scopes, the innermost of which is the last: it is looked for from there outward.
-pub fn look_up(levels: &[Level], name: &[u8]) -> Option<Declared>
-    ensures { (t : Table) (strings : List (List ℕ)) → option_map (entry_of t strings) result ≡ looked_up name.now (map (names_of t strings) levels.now) }
+// What a name stands for in open scopes, the innermost of which is the last: it is looked for from there outward.
+fn seen<'a>(levels: &'a [Level], name: &[u8]) -> Option<&'a Declared>
+    ensures { (t : Table) (strings : List (List ℕ)) → option_map (λ d. entry_of t strings d.now) result ≡ looked_up name.now (map (names_of t strings) levels.now) }
 {
     for i in (0..levels.len()).rev() {
-        if let Some(declared) = levels[i].find(name) {
+        if let Some(declared) = levels[i].seen(name) {
             return Some(declared);
         }
     }
     None
+}
+
+/// What a name stands for in open scopes, the innermost of which is the last: it is looked for from there outward.
+pub fn look_up(levels: &[Level], name: &[u8]) -> Option<Declared>
+    ensures { (t : Table) (strings : List (List ℕ)) → option_map (entry_of t strings) result ≡ looked_up name.now (map (names_of t strings) levels.now) }
+{
+    seen(levels, name).copied()
 }
 
 // A declaration as other modules see it: not an import.
@@ -87,19 +96,36 @@ impl<'a> Scope<'a> {
         }
     }
 
+    // What a name that is known stands for, if it is seen here.
+    #[inline(always)]
+    fn known(&self, i: u32, declared: &Declared) -> Result<Named, CheckFault>
+        ensures { Answers (IsNamed self.now) (found_as self.now.source.now (world_of self.now) i (Some (entry_of (table_of self.now) (strings_of self.now) declared.now))) result }
+    {
+        if self.is_visible(&declared.named) {
+            Ok(declared.named)
+        } else {
+            Err(self.source.fault(34, i))
+        }
+    }
+
+    // What a name stands for round all modules, as it is seen here.
+    #[inline(never)]
+    fn outermost(&self, i: u32) -> Result<Named, CheckFault>
+        ensures { Answers (IsNamed self.now) (found_as self.now.source.now (world_of self.now) i (names_before (spelled self.now.source.now i))) result }
+    {
+        match predeclared(self.source.spelled(i)) {
+            None => Err(self.source.fault(30, i)),
+            Some(declared) => self.known(i, &declared),
+        }
+    }
+
     /// What a name stands for here.
     pub fn named(&self, i: u32) -> Result<Named, CheckFault>
         ensures { Answers (IsNamed self.now) (judged_name self.now.source.now (world_of self.now) i) result }
     {
-        match self.look_up(self.source.spelled(i)) {
-            None => Err(self.source.fault(30, i)),
-            Some(declared) => {
-                if self.is_visible(&declared.named) {
-                    Ok(declared.named)
-                } else {
-                    Err(self.source.fault(34, i))
-                }
-            }
+        match seen(self.levels, self.source.spelled(i)) {
+            None => self.outermost(i),
+            Some(declared) => self.known(i, declared),
         }
     }
 

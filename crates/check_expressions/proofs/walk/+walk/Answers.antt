@@ -83,6 +83,10 @@ compared-returns-in_ok-y-in_default t c = λ a h. as_judged (related_other c.arg
 pub designator-returns-in_err-named : goal.designator-returns-in_err-named
 designator-returns-in_err-named t c = exit _ c.from_residual.ensures.1 (stop _ _ c.in_err-named.ensures)
 
+pub designator-returns-then-is_empty : goal.designator-returns-then-is_empty
+designator-returns-then-is_empty t c = goes_on _ _ c.in_ok-named.ensures (λ o h. as_judged (ap (λ ss. selected c.args.scope.now.source.now (world_of c.args.scope.now) (place c.args.scope.now.source.now c.args.tree.now.name) (Whole o) (plain_each_selector ss))
+    (nil_of _ c.is_empty.result (c.is_empty.ensures ∙ ap (λ xs. nat_eq (length xs) 0) c.as_slice.ensures.value) c.if-is_empty.true)) (c.finished.ensures (Whole o) h))
+
 pub designator-returns : goal.designator-returns
 designator-returns t c = goes_on _ _ c.in_ok-named.ensures (λ o h. as_judged (ap (λ ss. selected c.args.scope.now.source.now (world_of c.args.scope.now) (place c.args.scope.now.source.now c.args.tree.now.name) (Whole o) (plain_each_selector ss)) (sym c.deref.ensures.value)) (c.selected.ensures (Whole o) h))
 

@@ -2,7 +2,7 @@ use Rattle.std.proofs.Common.{◌≡◌, ℕ, List, map, take}
 use Rattle.ob_types.specs.Table.{Table}
 use Rattle.ob_judge.specs.Scopes.{look_up}
 use Rattle.check_types.specs.names.Meaning.{names_of}
-use Rattle.check_types.proofs.names.names.look_up.Given as goal
+use Rattle.check_types.proofs.names.names.seen.Given as goal
 
 abbrev pub invariant-loop-i : goal.invariant-loop-i
 invariant-loop-i l = (t : Table) (strings : List (List ℕ)) →
