@@ -92,7 +92,11 @@ fn declared(alloc: Global, procedure: &Procedure) -> Result<Vec<Variable>, Memor
     requires { words_of procedure.now.formals ≤ 24 }
     ensures { IfOk result (λ list. map pair_of list.items ≡ declared_in procedure.now) }
 {
-    let mut list = Vec::new(alloc);
+    let count = procedure
+        .formals
+        .len()
+        .saturating_add(procedure.locals.len());
+    let mut list = Vec::with_capacity(alloc, count)?;
     add_parameters(&mut list, procedure.formals.as_slice())?;
     add_locals(&mut list, procedure.locals.as_slice())?;
     Ok(list)
@@ -253,7 +257,7 @@ fn place_all(
     ensures variables { IfOk result (λ x. x.variables ≡ placed_by types.now sizes.now marks.now (record { structured = 0; scalar = structured }) declared.now) }
     ensures bytes { IfOk result (λ x. x.bytes ≡ (ends_by types.now sizes.now marks.now (record { structured = 0; scalar = structured }) declared.now).scalar) }
 {
-    let mut variables = Items::new(alloc);
+    let mut variables = Items::from_vec(Vec::with_capacity(alloc, declared.len())?);
     let mut ends = Ends {
         structured: 0,
         scalar: structured,

@@ -1,6 +1,6 @@
 //! From one procedure to the next.
 
-ghost use Rattle.std.specs.Prelude.{◌≡◌, ◌≤◌, ℕ, suc, map, Some, None, slice_get, IfOk, OnOk, IfErr};
+ghost use Rattle.std.specs.Prelude.{◌≡◌, ◌≤◌, ℕ, suc, [], map, Some, None, slice_get, IfOk, OnOk, IfErr};
 ghost use Rattle.ob_types.specs.declared.program.Program.{Program as ProgramThere};
 ghost use Rattle.ssa_lowered.specs.Data.{in_cells};
 ghost use Rattle.ssa_lowered.specs.Lowered.{here_of};
@@ -17,6 +17,7 @@ use ob_types::{Formal, Mode, Procedure, Program};
 use outside::Memory;
 use ssa_exprs::{LowerFault, Named, Tables};
 use std::alloc::Global;
+use std::mem::replace;
 
 /// The tables become those of a procedure, whose number is f; the result is its variables. It is refused, with limit 59, where
 /// these have over 1,048,576 cells.
@@ -40,11 +41,13 @@ pub fn enter(
         Ok(locals) => locals,
         Err(e) => return Err(e),
     };
-    let distances = match distances(alloc, &locals) {
+    let before = replace(&mut tables.locals, Items::new(alloc));
+    let distances = match distances(before, &locals) {
         Ok(distances) => distances,
         Err(_) => return Err(LowerFault::Memory),
     };
-    let parameters = match parameters(alloc, procedure.formals.as_slice()) {
+    let before = replace(&mut tables.parameters, Items::new(alloc));
+    let parameters = match parameters(before, procedure.formals.as_slice()) {
         Ok(parameters) => parameters,
         Err(_) => return Err(LowerFault::Memory),
     };
@@ -65,12 +68,21 @@ pub fn pass(tables: &mut Tables, procedure: &Procedure) -> Result<(), Memory>
     Ok(())
 }
 
-/// The distance of each variable in memory from the end of the local data.
-fn distances(alloc: Global, locals: &Locals) -> Result<Items<Option<u32>>, Memory>
+/// No items, in the room of a list.
+fn emptied<T: Drop>(list: Items<T>) -> Items<T>
+    ensures { result ≡ [] }
+{
+    let mut items = list.into_vec();
+    items.clear();
+    Items::from_vec(items)
+}
+
+/// The distance of each variable in memory from the end of the local data, in the room of a list.
+fn distances(before: Items<Option<u32>>, locals: &Locals) -> Result<Items<Option<u32>>, Memory>
     ensures { IfOk result (λ list. list ≡ map (λ v. distance locals.now.bytes v.place) locals.now.variables) }
 {
     let variables = locals.variables.as_slice();
-    let mut list = Items::new(alloc);
+    let mut list = emptied(before);
     for v in variables {
         list.push(distance_from(locals.bytes, v.place))?;
     }
@@ -87,12 +99,12 @@ fn distance_from(bytes: u32, place: Option<u32>) -> Option<u32>
     }
 }
 
-/// What parameters name.
-fn parameters(alloc: Global, formals: &[Formal]) -> Result<Items<Named>, Memory>
+/// What parameters name, in the room of a list.
+fn parameters(before: Items<Named>, formals: &[Formal]) -> Result<Items<Named>, Memory>
     requires { words_of formals.now ≤ 24 }
     ensures { IfOk result (λ list. list ≡ parameters_from 0 formals.now) }
 {
-    let mut list = Items::new(alloc);
+    let mut list = emptied(before);
     let mut word: u32 = 0;
     for x in formals {
         list.push(name_of(x.mode, word))?;
