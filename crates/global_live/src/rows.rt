@@ -89,6 +89,7 @@ fn set(row: &mut SmallVec<u64, 2>, value: u32)
     write(row.as_mut_slice(), value);
 }
 
+// The same, where the row stands.
 fn write(row: &mut [u64], value: u32)
     requires { value / 64 < length row.old }
     ensures { row.new ≡ with_value row.old value }

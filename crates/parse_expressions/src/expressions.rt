@@ -119,7 +119,7 @@ fn factor(parser: &mut Parser, alloc: Global) -> Result<Factor, ParseFault>
     }
 }
 
-/// A factor that is no number. Most factors are numbers or designators, so the others stand apart.
+/// A factor that is no whole number and begins with no name. Most factors are one or the other, so these stand apart.
 #[cycle(expressions)]
 #[inline(never)]
 fn other_factor(parser: &mut Parser, alloc: Global) -> Result<Factor, ParseFault>
