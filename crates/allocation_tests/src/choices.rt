@@ -109,7 +109,7 @@ fn passes<R: Threads + Wait + Sync>(
         jobs: 2,
     };
     let flows = [tests(alloc)?];
-    let Ok(work) = TraceWork::new(alloc, &choice, &flows) else {
+    let Ok(work) = TraceWork::new(alloc, &choice, 0, &flows) else {
         return Err(Memory);
     };
     let outs = final_results(rt, alloc, &work, &OpenGate, choice.jobs)?;

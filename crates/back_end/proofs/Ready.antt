@@ -37,7 +37,7 @@ HaveNumbers flows = All (λ (f : Flow). node_numbers f.nodes ≡ true) flows
 allocated : (choice : Choice) (first : ℕ) (c : Cut) → IsAllocation choice first c → CanPlace c.flow → IsAllocated choice.regs c
 allocated choice first c a can = record { sound = a.sound; paths = a.paths; numbers = can.numbers; local_data = can.local_data; body = can.body }
 
-all_allocated : (choice : Choice) (first : ℕ) (procs : List Proc) (cuts : List Cut) → All IsReady procs → HaveNumbers (map selected procs) → map (λ c. c.flow) cuts ≡ map selected procs → AllAllocations choice first cuts
+pub all_allocated : (choice : Choice) (first : ℕ) (procs : List Proc) (cuts : List Cut) → All IsReady procs → HaveNumbers (map selected procs) → map (λ c. c.flow) cuts ≡ map selected procs → AllAllocations choice first cuts
     → (q : ℕ) (c : Cut) (rest : List Cut) → drop q cuts ≡ c ∷ rest → IsAllocated choice.regs c
 all_allocated choice first procs [] ready numbers same each zero c rest e = cc
 all_allocated choice first procs [] ready numbers same each (suc q) c rest e = cc
@@ -72,32 +72,8 @@ all_small choice first (p ∷ procs) (d ∷ cuts) ready few numbers same each (s
     let rest_same : map (λ (x : Cut). x.flow) cuts ≡ map selected procs = cc in
     all_small choice (first + length d.traces) procs cuts (λ k x n. ready (suc k) x (omega (arith, n))) (λ k x n. few (suc k) x (omega (arith, n))) (λ k x n. numbers (suc k) x (omega (arith, n))) rest_same each.1 q c rest e
 
-pub are_cuts_of : (choice : Choice) (procs : List Proc) (parts : List (List Line)) (outs : List (List TraceOut)) (n : ℕ) (h : AreAllocated choice (map selected procs) parts outs n) → AreCutsOf choice procs h.cuts
-are_cuts_of choice procs parts outs n h = record { flows = sym h.flows_are; each = h.each }
-
-pub are_cuts : (choice : Choice) (procs : List Proc) (parts : List (List Line)) (outs : List (List TraceOut)) (n : ℕ) (h : AreAllocated choice (map selected procs) parts outs n) → choice.regs ≤ 16 → All IsReady procs → HaveNumbers (map selected procs)
-    → AreCuts choice.regs (map selected procs) parts outs h.cuts
-are_cuts choice procs parts outs n h few ready numbers = record {
-  flows_are = h.flows_are;
-  parts_are = h.parts_are;
-  outs_are = h.outs_are;
-  few = few;
-  each = all_allocated choice 0 procs h.cuts ready numbers (sym h.flows_are) h.each;
-}
-
 -- the flows of valid procedures are valid
 pub valid_flows : (procs : List Proc) → All IsReady procs → All IsValidFlow (map selected procs)
 valid_flows [] ready k f n = absurd (omega (arith, n))
 valid_flows (p ∷ procs) ready zero f n = selected_valid p (ready 0 p (omega arith)).valid
 valid_flows (p ∷ procs) ready (suc k) f n = valid_flows procs (λ i x m. ready (suc i) x (omega (arith, m))) k f (omega (arith, n))
-
--- what passes give, in the words of the procedures and of linking
-module _ (choice : Choice) (procs : List Proc) (ready : All IsReady procs) (few : choice.regs ≤ 16) (flows : List Flow) (same : flows ≡ map selected procs) (numbers : HaveNumbers flows) where
-  pub valid_there : (fs : List Flow) → fs ≡ flows → All IsValidFlow fs
-  valid_there fs e = subst (All IsValidFlow) (sym (e ∙ same)) (valid_flows procs ready)
-
-  pub allocated_there : (fs : List Flow) → fs ≡ flows → (parts : List (List Line)) (outs : List (List TraceOut)) (n : ℕ) → AreAllocated choice fs parts outs n → AreAllocated choice (map selected procs) parts outs n
-  allocated_there fs e parts outs n h = subst (λ xs. AreAllocated choice xs parts outs n) (e ∙ same) h
-
-  pub cuts_there : (parts : List (List Line)) (outs : List (List TraceOut)) (n : ℕ) (h : AreAllocated choice (map selected procs) parts outs n) (fs : List Flow) → fs ≡ flows → AreCuts choice.regs fs parts outs h.cuts
-  cuts_there parts outs n h fs e = subst (λ (xs : List Flow). AreCuts choice.regs xs parts outs h.cuts) (sym (e ∙ same)) (are_cuts choice procs parts outs n h few ready (subst HaveNumbers same numbers))

@@ -1,3 +1,4 @@
 pub mod Images
 pub mod Numbers
 pub mod Faults
+pub mod Batches

@@ -1,7 +1,9 @@
 //! The image of procedures.
 
-ghost use Rattle.std.specs.Prelude.{◌≡◌, true, ℕ, ◌<◌, ◌≤◌, ◌^◌, List, map, All, IfOk, IfErr};
+ghost use Rattle.std.specs.Prelude.{◌≡◌, true, ℕ, ◌+◌, ◌<◌, ◌≤◌, ◌^◌, List, map, take, drop, All, IfOk, OnOk, IfErr};
+ghost use Rattle.std.specs.Vec.Iter.{into_iter_items};
 ghost use Rattle.a64_select.specs.Selected.{selected};
+ghost use Rattle.lir_core.specs.Flows.{IsValidFlow};
 ghost use Rattle.image_form.specs.Form.{IsInForm};
 ghost use Rattle.linked_flows.specs.Allocations.{Cut};
 ghost use Rattle.link_plan.specs.Linked.{DataFits, AreSmall};
@@ -10,6 +12,7 @@ ghost use Rattle.alloc_choice.specs.Choice.{IsFitChoice};
 ghost use Rattle.flow_allocation.specs.Allocations.{trace_count};
 ghost use Rattle.back_end.specs.Images.{IsReady, HasFewValues, AreCutsOf, IsImageBy, code_length};
 ghost use Rattle.back_end.specs.Numbers.{node_numbers};
+ghost use Rattle.back_end.specs.Batches.{IsPlanned, AreMore};
 ghost use Rattle.back_end.specs.declared.fault.ImageFault.TheVariants.{Traces, Code, Misfit, Memory as OutOfMemory};
 
 use crate::fault::{ImageFault, fault_of};
@@ -18,12 +21,13 @@ use a64_select::select;
 use flow_allocation::{AllocatedFlows, Choice, Flow, allocate_flows};
 use image_form::Image;
 use items::Items;
-use link_plan::{Data, link};
+use link_plan::{Data, LinkFault, Plan, add_plans, image_of_plans};
 use outside::Gate;
 use ssa_core::Proc;
 use std::alloc::Global;
 use std::sync::Wait;
 use std::thread::Threads;
+use std::vec::IntoIter;
 
 /// An image, and of how many traces its code is made.
 #[derive(Drop)]
@@ -32,12 +36,16 @@ pub struct LinkedProcedures {
     pub traces: u32,
 }
 
+/// How many procedures each worker's share of a batch is made of. A batch goes through the passes as a whole, so what one pass makes of
+/// it is still near when the next one reads it; and the workers begin anew with each batch, so that it isn't to be small.
+const SHARE: usize = 64;
+
 /// The image of procedures by their numbers: each one's flow in the traces of the builder that is chosen, the first of these with
 /// the number behind those of the procedures before it, each with the final result by the policy, in lines with the moves of
 /// edges, linked. The workers of the choice share the traces, and whatever they do the image is the same; a worker passes the gate
 /// before it begins a trace. `Traces` comes exactly where there are over 262,144 traces, `Code` where there are not and the code is over
 /// 262,144 words, and `Misfit` for no procedures whose numbers and frames are small enough, so for none of at most 4,000 values
-/// each. Takes the time of the passes. The procedures are let go before their flows are allocated. It may wait.
+/// each. Takes the time of the passes. The procedures are let go in batches, before the flows of each are allocated. It may wait.
 pub fn image_of<G: Gate, R: Threads + Wait + Sync>(
     rt: &R,
     alloc: Global,
@@ -58,17 +66,112 @@ pub fn image_of<G: Gate, R: Threads + Wait + Sync>(
         → (cuts : List Cut) × AreCutsOf choice.now procedures cuts × (AreSmall cuts → ⊥)) }
     ensures modest { All HasFewValues procedures → IfErr result (λ fault. fault ≡ Misfit → ⊥) }
 {
-    let flows = select_all(alloc, procedures)?;
-    let allocated = allocate_flows(rt, alloc, choice, flows.as_slice(), gate)?;
+    let Planned { plans, traces, fit } = plan_all(rt, alloc, choice, procedures, gate)?;
+    if !fit {
+        return Err(ImageFault::Misfit);
+    }
+    match image_of_plans(alloc, plans, extra) {
+        Ok(image) => Ok(LinkedProcedures { image, traces }),
+        Err(fault) => Err(fault_of(fault)),
+    }
+}
+
+/// The plans of procedures, and of how many traces they are made. Where some procedure fits no instructions, `fit` says so, and the
+/// plans are of no use.
+#[derive(Drop)]
+struct Planned {
+    plans: Vec<Plan>,
+    traces: u32,
+    fit: bool,
+}
+
+// Takes procedures through the passes up to their plans, batch by batch.
+fn plan_all<G: Gate, R: Threads + Wait + Sync>(
+    rt: &R,
+    alloc: Global,
+    choice: &Choice,
+    procedures: Items<Proc>,
+    gate: &G,
+) -> Result<Planned, ImageFault>
+    requires ready { All IsReady procedures }
+    requires choice { IsFitChoice choice.now }
+    ensures planned { IfOk result (IsPlanned choice.now procedures) }
+    ensures traces { IfErr result (λ fault. fault ≡ Traces → 262144 < traces_in choice.now.builder (map selected procedures)) }
+    ensures code { IfErr result (λ fault. fault ≡ Code → ⊥) }
+    ensures misfit { IfErr result (λ fault. fault ≡ Misfit → ⊥) }
+{
+    let count = procedures.len();
+    let most = SHARE * choice.jobs as usize;
+    let mut rest = procedures.into_vec().into_iter();
+    let mut planned = Planned {
+        plans: Vec::with_capacity(alloc, count)?,
+        traces: 0,
+        fit: true,
+    };
+    for _ in 0..count {
+        let flows = select_next(alloc, &mut rest, most)?;
+        if flows.is_empty() {
+            return Ok(planned);
+        }
+        plan_more(rt, alloc, choice, &mut planned, flows.as_slice(), gate)?;
+    }
+    Ok(planned)
+}
+
+// Adds the plans of flows, where all before them fit instructions, and their traces.
+fn plan_more<G: Gate, R: Threads + Wait + Sync>(
+    rt: &R,
+    alloc: Global,
+    choice: &Choice,
+    planned: &mut Planned,
+    flows: &[Flow],
+    gate: &G,
+) -> Result<(), ImageFault>
+    requires choice { IsFitChoice choice.now }
+    requires few { planned.old.traces ≤ 262144 }
+    ensures more { All IsValidFlow flows.now → OnOk result (AreMore choice.now flows.now planned.old planned.new) }
+    ensures traces { IfErr result (λ fault. fault ≡ Traces → 262144 < planned.old.traces + traces_in choice.now.builder flows.now) }
+    ensures code { IfErr result (λ fault. fault ≡ Code → ⊥) }
+    ensures misfit { IfErr result (λ fault. fault ≡ Misfit → ⊥) }
+{
     let AllocatedFlows {
         parts,
         outs,
         traces,
-    } = allocated;
-    match link(alloc, flows.as_slice(), parts, outs, extra) {
-        Ok(image) => Ok(LinkedProcedures { image, traces }),
-        Err(fault) => Err(fault_of(fault)),
+    } = allocate_flows(rt, alloc, choice, planned.traces, flows, gate)?;
+    planned.traces += traces;
+    if planned.fit {
+        planned.fit = match add_plans(alloc, &mut planned.plans, flows, parts, outs) {
+            Ok(_) => true,
+            Err(LinkFault::Misfit) => false,
+            Err(fault) => return Err(fault_of(fault)),
+        };
     }
+    Ok(())
+}
+
+// The flows of the next procedures, at most so many, each selected and let go.
+fn select_next(
+    alloc: Global,
+    rest: &mut IntoIter<Proc>,
+    most: usize,
+) -> Result<Vec<Flow>, ImageFault>
+    requires { All IsReady (into_iter_items rest.old) }
+    ensures flows { IfOk result (λ flows. flows.items ≡ map selected (take most (into_iter_items rest.old))) }
+    ensures left { OnOk result (into_iter_items rest.new ≡ drop most (into_iter_items rest.old)) }
+    ensures numbers { IfOk result (λ flows. All (λ f. node_numbers f.nodes ≡ true) flows.items) }
+    ensures memory { IfErr result (λ fault. fault ≡ OutOfMemory) }
+{
+    let mut flows = Vec::new(alloc);
+    for _ in 0..most {
+        let Some(procedure) = rest.next() else {
+            return Ok(flows);
+        };
+        let flow = select(alloc, procedure)?;
+        read_nodes(flow.nodes.as_slice());
+        flows.push(flow)?;
+    }
+    Ok(flows)
 }
 
 /// The flows of procedures, each selected and let go.

@@ -23,7 +23,7 @@ use Rattle.trace_work.specs.declared.planning.Plan.{Plan}
 use Rattle.trace_work.specs.declared.work.Entry.{Entry}
 use Rattle.trace_work.specs.Plans.{IsPlan, IsFinal, case_of, finals_to}
 use Rattle.trace_work.specs.Entries.{AreEntries, entry_of, parents_in}
-use Rattle.trace_work.specs.Finals.{AreNumbered, flows_in, IsFinalOf}
+use Rattle.trace_work.specs.Finals.{AreNumbered, AreBehind, flows_in, IsFinalOf}
 use Rattle.trace_work.proofs.Ready.{are_finals}
 use Rattle.flow_allocation.specs.Allocations.{IsAllocation, AllAllocations, AreAllocated, trace_count}
 use Rattle.flow_allocation.proofs.Counting.{counted}
@@ -115,6 +115,20 @@ module _ (choice : Choice) (plans : List Plan) (entries : List Entry) (outs : Li
   pub all_final : AreNumbered 0 plans → AllFinal choice plans outs
   all_final numbered = all_final_from 0 0 plans refl numbered (omega arith)
 
+---- Numbers through all flows
+
+-- the first trace of each has the number behind those before it
+abbrev AreCounted : ℕ → List Plan → Type 0
+AreCounted n [] = Unit {0}
+AreCounted n (p ∷ ps) = (p.number ≡ n) × AreCounted (n + length p.traces) ps
+
+are_counted : (before k n : ℕ) (ps : List Plan) → AreNumbered k ps → AreBehind before ps → n ≡ before + k → AreCounted n ps
+are_counted before k n [] numbered behind e = tt
+are_counted before k n (p ∷ ps) numbered behind e =
+    let b = behind 0 p refl in
+    let f = numbered.0 in
+    (omega (arith, b, f, e), are_counted before (k + length p.traces) (n + length p.traces) ps numbered.1 (λ i q there. behind (suc i) q there) (omega (arith, e)))
+
 ---- Cuts
 
 module _ (choice : Choice) (fit : IsFitChoice choice) where
@@ -140,7 +154,7 @@ module _ (choice : Choice) (fit : IsFitChoice choice) where
       sound = λ t lt. subst (λ x. IsSound choice.regs p.flow.now (trace_at p.traces t) x) (sym (own_at t lt)) (final t lt).sound;
     }
 
-    allocation : (first : ℕ) → p.first ≡ first → IsAllocation choice first (cut_of p own)
+    allocation : (first : ℕ) → p.number ≡ first → IsAllocation choice first (cut_of p own)
     allocation first e = record {
       rows = p.live;
       live = is.live;
@@ -157,7 +171,7 @@ module _ (choice : Choice) (fit : IsFitChoice choice) where
     pub outs_are : outs ≡ map (λ c. c.outs) cuts
     pub parts_are : parts ≡ map (λ c. placed_of c.flow c.traces c.outs) cuts
 
-  cuts_of : (first : ℕ) (plans : List Plan) (rest : List TraceOut) (parts : List (List Line)) → All (IsPlan choice.builder) plans → AreNumbered first plans → AllFinal choice plans rest → HaveLines plans (shares plans rest) parts → Cuts first plans (shares plans rest) parts
+  cuts_of : (first : ℕ) (plans : List Plan) (rest : List TraceOut) (parts : List (List Line)) → All (IsPlan choice.builder) plans → AreCounted first plans → AllFinal choice plans rest → HaveLines plans (shares plans rest) parts → Cuts first plans (shares plans rest) parts
   cuts_of first [] rest [] each numbered final lines = record { cuts = []; each = tt; flows_are = refl; outs_are = refl; parts_are = refl }
   cuts_of first [] rest (l ∷ ls) each numbered final lines = absurd lines
   cuts_of first (p ∷ ps) rest [] each numbered final lines = absurd lines
@@ -172,15 +186,15 @@ module _ (choice : Choice) (fit : IsFitChoice choice) where
         parts_are = ap₂ (λ x xs. x ∷ xs) (lines.0 choice.regs (sound p is rest final.0 final.1)) r.parts_are;
       }
 
-  pub allocated : (plans : List Plan) (entries : List Entry) (outs : List TraceOut) (shared : List (List TraceOut)) (parts : List (List Line)) (flows : List Flow) (traces : ℕ) → AreEntries plans entries → All (IsPlan choice.builder) plans
-      → AreNumbered 0 plans → flows_in plans ≡ flows → AreFinal (IsFinalOf choice plans entries) (parents_in entries) outs → AreShared plans outs parts shared → traces ≡ traces_in choice.builder flows → AreAllocated choice flows parts shared traces
-  allocated plans entries outs shared parts flows traces entered each numbered are final h count =
-      let r = cuts_of 0 plans outs parts each numbered (all_final choice plans entries outs entered each final numbered) (subst (λ os. HaveLines plans os parts) h.outs_are h.parts_are) in
+  pub allocated : (before : ℕ) (plans : List Plan) (entries : List Entry) (outs : List TraceOut) (shared : List (List TraceOut)) (parts : List (List Line)) (flows : List Flow) (traces : ℕ) → AreEntries plans entries → All (IsPlan choice.builder) plans
+      → AreNumbered 0 plans → AreBehind before plans → flows_in plans ≡ flows → AreFinal (IsFinalOf choice plans entries) (parents_in entries) outs → AreShared plans outs parts shared → traces ≡ traces_in choice.builder flows → AreAllocated choice before flows parts shared traces
+  allocated before plans entries outs shared parts flows traces entered each numbered behind are final h count =
+      let r = cuts_of before plans outs parts each (are_counted before 0 before plans numbered behind (omega arith)) (all_final choice plans entries outs entered each final numbered) (subst (λ os. HaveLines plans os parts) h.outs_are h.parts_are) in
       record {
         cuts = r.cuts;
         flows_are = sym are ∙ r.flows_are;
         parts_are = r.parts_are;
         outs_are = h.outs_are ∙ r.outs_are;
         each = r.each;
-        count = count ∙ sym (counted choice 0 r.cuts flows (sym (sym are ∙ r.flows_are)) r.each);
+        count = count ∙ sym (counted choice before r.cuts flows (sym (sym are ∙ r.flows_are)) r.each);
       }

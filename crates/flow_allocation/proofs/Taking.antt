@@ -10,16 +10,16 @@ module _ {A : Type 0} where
   to_end [] = refl
   to_end (x ∷ xs) = ap (λ ys. x ∷ ys) (to_end xs)
 
-  none_of : (xs : List A) → length xs ≡ 0 → xs ≡ []
+  pub none_of : (xs : List A) → length xs ≡ 0 → xs ≡ []
   none_of [] e = refl
   none_of (x ∷ xs) e = absurd (omega (arith, e))
 
-  take_none : (k : ℕ) (xs : List A) → xs ≡ [] → take k xs ≡ []
+  pub take_none : (k : ℕ) (xs : List A) → xs ≡ [] → take k xs ≡ []
   take_none zero xs e = refl
   take_none (suc k) [] e = refl
   take_none (suc k) (x ∷ xs) e = cc
 
-  drop_none : (k : ℕ) (xs : List A) → xs ≡ [] → drop k xs ≡ []
+  pub drop_none : (k : ℕ) (xs : List A) → xs ≡ [] → drop k xs ≡ []
   drop_none zero xs e = e
   drop_none (suc k) [] e = refl
   drop_none (suc k) (x ∷ xs) e = cc

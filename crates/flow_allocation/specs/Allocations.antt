@@ -34,11 +34,11 @@ abbrev pub AllAllocations : Choice → (first : ℕ) → List Cut → Type 0
 AllAllocations choice first [] = Unit {0}
 AllAllocations choice first (c ∷ cs) = IsAllocation choice first c × AllAllocations choice (first + length c.traces) cs
 
--- the lines and results of flows are those of such cuts, which have so many traces
-pub record AreAllocated (choice : Choice) (flows : List Flow) (parts : List (List Line)) (outs : List (List TraceOut)) (traces : ℕ) : Type 0 where
+-- the lines and results of flows are those of such cuts, behind so many traces, which have so many traces themselves
+pub record AreAllocated (choice : Choice) (before : ℕ) (flows : List Flow) (parts : List (List Line)) (outs : List (List TraceOut)) (traces : ℕ) : Type 0 where
   pub cuts : List Cut
   pub flows_are : flows ≡ map (λ c. c.flow) cuts
   pub parts_are : parts ≡ map (λ c. placed_of c.flow c.traces c.outs) cuts
   pub outs_are : outs ≡ map (λ c. c.outs) cuts
-  pub each : AllAllocations choice 0 cuts
+  pub each : AllAllocations choice before cuts
   pub count : traces ≡ trace_count cuts

@@ -1,6 +1,6 @@
 //! All flows, one behind the other.
 
-ghost use Rattle.std.specs.Prelude.{◌≡◌, ◌≤◌, ◌<◌, take, drop, All, IfOk, OnOk, IfErr};
+ghost use Rattle.std.specs.Prelude.{◌≡◌, ◌+◌, ◌≤◌, ◌<◌, take, drop, All, IfOk, OnOk, IfErr};
 ghost use Rattle.std.specs.Vec.Iter.{into_iter_items};
 ghost use Rattle.lir_core.specs.Flows.{IsValidFlow};
 ghost use Rattle.trace_build.specs.Traces.{traces_in};
@@ -27,29 +27,31 @@ pub struct AllocatedFlows {
     pub parts: Vec<Vec<Placed>>,
     /// The results of each flow's traces.
     pub outs: Vec<Vec<TraceOut>>,
-    /// How many traces there are in all.
+    /// How many traces these flows have.
     pub traces: u32,
 }
 
-/// Flows in traces with final results: the traces of a flow are those of the builder that is chosen, and follow those of the
-/// flows before it in number; the result of each is that of the policy, with its parent's hint, and sound, whichever of the chosen
+/// Flows in traces with final results, behind so many traces of flows before them: the traces of a flow are those of the builder
+/// that is chosen, and follow those of the flows before it in number; the result of each is that of the policy, with its parent's hint, and sound, whichever of the chosen
 /// number of workers finds it, and whenever; the lines have the moves of every edge. A worker passes the gate before it begins a
-/// trace. `Traces` comes exactly where there are over 262,144 traces. Takes the time of the passes that it calls, flow by flow,
+/// trace. `Traces` comes exactly where there are over 262,144 traces with those before. Takes the time of the passes that it calls, flow by flow,
 /// but for the traces, which the workers share. It may wait.
 pub fn allocate_flows<G: Gate, R: Threads + Wait + Sync>(
     rt: &R,
     alloc: Global,
     choice: &Choice,
+    before: u32,
     flows: &[Flow],
     gate: &G,
 ) -> Result<AllocatedFlows, WorkFault>
-    requires { IsFitChoice choice.now }
-    ensures allocated { All IsValidFlow flows.now → IfOk result (λ a. AreAllocated choice.now flows.now (items_of a.parts) (items_of a.outs) a.traces) }
+    requires fit { IsFitChoice choice.now }
+    requires before { before ≤ 262144 }
+    ensures allocated { All IsValidFlow flows.now → IfOk result (λ a. AreAllocated choice.now before flows.now (items_of a.parts) (items_of a.outs) a.traces) }
     ensures count { IfOk result (λ a. a.traces ≡ traces_in choice.now.builder flows.now) }
-    ensures few { IfOk result (λ a. a.traces ≤ 262144) }
-    ensures limit { IfErr result (λ fault. fault ≡ Traces → 262144 < traces_in choice.now.builder flows.now) }
+    ensures few { IfOk result (λ a. before + a.traces ≤ 262144) }
+    ensures limit { IfErr result (λ fault. fault ≡ Traces → 262144 < before + traces_in choice.now.builder flows.now) }
 {
-    let work = TraceWork::new(alloc, choice, flows)?;
+    let work = TraceWork::new(alloc, choice, before, flows)?;
     let outs = final_results(rt, alloc, &work, gate, choice.jobs)?;
     let shared = share(alloc, work.plans.as_slice(), outs)?;
     Ok(AllocatedFlows {

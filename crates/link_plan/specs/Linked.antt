@@ -1,5 +1,6 @@
 -- The image of flows in traces with sound results, and what it does.
 use Rattle.std.specs.Prelude.{◌≡◌, ◌∷◌, ℕ, ◌<◌, ◌≤◌, ◌^◌, ◌%◌, max, List, [], map, drop, length, get_or, false, true}
+use Rattle.std.specs.List.{list_all}
 use Rattle.run_laws.specs.Runs.{Outcome, Keeps, InStep}
 use Rattle.run_laws.specs.Layers.{Through}
 use Rattle.image_form.specs.declared.image.Image.{Image}
@@ -21,7 +22,9 @@ use Rattle.placed_code.specs.Layout.{entry}
 use Rattle.placed_code.specs.Claims.{IsNumber, same_trap, image_of, code_places, sizes}
 use Rattle.placed_code.specs.Results.{all_placed, procedures_of, Reason, same_reason}
 use Rattle.linked_flows.specs.Allocations.{Cut, steps_of, all_allocated}
+use Rattle.link_blocks.specs.Fits.{numbers_fit}
 use Rattle.link_blocks.specs.Laid.{Fits}
+use Rattle.link_blocks.specs.Plans.{plain}
 
 -- what an image has besides its code is within its form
 pub record DataFits (flags globals : ℕ) (constants : List ℕ) : Type 0 where
@@ -45,6 +48,17 @@ pub record AreCuts (k : ℕ) (flows : List Flow) (parts : List (List Line)) (out
   pub flows_are : flows ≡ map (λ c. c.flow) cuts
   pub parts_are : parts ≡ map (λ c. placed_of c.flow c.traces c.outs) cuts
   pub outs_are : outs ≡ map (λ c. c.outs) cuts
+  pub few : k ≤ 16
+  pub each : (q : ℕ) (c : Cut) (rest : List Cut) → drop q cuts ≡ c ∷ rest → IsAllocated k c
+
+-- the plans of cuts
+abbrev pub plans_of : List Cut → List Placed
+plans_of cuts = map plain (all_placed steps_of (all_allocated cuts))
+
+-- plans are those of cuts with sound results, whose numbers fit instructions
+pub record ArePlans (k : ℕ) (plans : List Placed) (cuts : List Cut) : Type 0 where
+  pub plans_are : plans ≡ plans_of cuts
+  pub numbers : list_all (λ f. numbers_fit f) (map (λ c. c.flow) cuts) ≡ true
   pub few : k ≤ 16
   pub each : (q : ℕ) (c : Cut) (rest : List Cut) → drop q cuts ≡ c ∷ rest → IsAllocated k c
 

@@ -10,4 +10,5 @@ mod linking;
 
 pub use fault::LinkFault;
 pub use image_form::{Bytes, Image};
-pub use linking::{Data, link};
+pub use link_blocks::Plan;
+pub use linking::{Data, add_plans, image_of_plans, link};

@@ -1,6 +1,6 @@
 //! The image of flows.
 
-ghost use Rattle.std.specs.Prelude.{◌≡◌, ℕ, ◌<◌, ◌≤◌, ◌^◌, ◌%◌, List, length, get_or, map, true, IfOk, IfErr};
+ghost use Rattle.std.specs.Prelude.{◌≡◌, ◌++◌, ℕ, ◌<◌, ◌≤◌, ◌^◌, ◌%◌, List, length, get_or, map, true, IfOk, OnOk, IfErr};
 ghost use Rattle.std.specs.List.{list_all};
 ghost use Rattle.a64_memory.specs.Memory.{AreBytes};
 ghost use Rattle.image_form.specs.Form.{IsInForm};
@@ -12,7 +12,7 @@ ghost use Rattle.link_blocks.specs.Fits.{numbers_fit};
 ghost use Rattle.link_blocks.specs.Laid.{IsCutOf, Fits};
 ghost use Rattle.link_code.specs.Parts.{IsWhole};
 ghost use Rattle.link_blocks.specs.Plans.{placed_in, plain};
-ghost use Rattle.link_plan.specs.Linked.{DataFits, AreCuts, AreSmall, greatest_frame, Runs, linked};
+ghost use Rattle.link_plan.specs.Linked.{DataFits, AreCuts, ArePlans, AreSmall, greatest_frame, plans_of, Runs, linked};
 ghost use Rattle.link_plan.specs.declared.fault.LinkFault.TheVariants.{Limit, Misfit};
 
 use crate::fault::LinkFault;
@@ -56,7 +56,53 @@ pub fn link(
     ensures misfit { IfErr result (λ fault. fault ≡ Misfit → (k : ℕ) (cuts : List Cut) → AreCuts k flows.now (map (λ v. v.items) parts.items) (map (λ v. v.items) outs.items) cuts
         → AreSmall cuts → ⊥) }
 {
-    let plans = all_plans(alloc, flows, parts, outs)?;
+    let mut plans = Vec::with_capacity(alloc, flows.len())?;
+    add_plans(alloc, &mut plans, flows, parts, outs)?;
+    image_of_plans(alloc, plans, extra)
+}
+
+/// Adds the plans of flows, from each one's lines in code order and the results for its traces: `link` in parts, so that flows
+/// can be let go before those behind them are made. `Misfit` comes for no sound results of flows whose numbers and frames are small
+/// enough, and `Limit` never. Takes time in proportion to lines. The lines and results of a flow are let go once they are read.
+pub fn add_plans(
+    alloc: Global,
+    plans: &mut Vec<Plan>,
+    flows: &[Flow],
+    parts: Vec<Vec<Placed>>,
+    outs: Vec<Vec<TraceOut>>,
+) -> Result<(), LinkFault>
+    ensures plans { OnOk result ((k : ℕ) (cuts : List Cut) → AreCuts k flows.now (map (λ v. v.items) parts.items) (map (λ v. v.items) outs.items) cuts
+        → map placed_in plans.new.items ≡ map placed_in plans.old.items ++ plans_of cuts) }
+    ensures fits { OnOk result (list_all (λ f. numbers_fit f) flows.now ≡ true) }
+    ensures limit { IfErr result (λ fault. fault ≡ Limit → ⊥) }
+    ensures misfit { IfErr result (λ fault. fault ≡ Misfit → (k : ℕ) (cuts : List Cut) → AreCuts k flows.now (map (λ v. v.items) parts.items) (map (λ v. v.items) outs.items) cuts
+        → AreSmall cuts → ⊥) }
+{
+    let mut parts = parts.into_iter();
+    let mut outs = outs.into_iter();
+    for flow in flows {
+        let lines = parts.next().ok_or(LinkFault::Misfit)?;
+        let results = outs.next().ok_or(LinkFault::Misfit)?;
+        let plan = plan_of(alloc, flow, lines.as_slice(), results.as_slice())?;
+        plans.push(plan)?;
+    }
+    Ok(())
+}
+
+/// The image of plans, by the numbers of their flows. A flow whose calls aren't counted is the body of a module, and the bodies run
+/// in the order of their numbers. `Limit` comes exactly where the code is over 262,144 words, and `Misfit` never. Takes time in
+/// proportion to lines and words, and n log n for n homes.
+pub fn image_of_plans(alloc: Global, plans: Vec<Plan>, extra: Data) -> Result<Image, LinkFault>
+    requires { DataFits extra.flags extra.globals extra.constants }
+    ensures image { (k : ℕ) (cuts : List Cut) → ArePlans k (map placed_in plans.items) cuts
+        → IfOk result (λ image. image ≡ linked cuts extra.flags extra.globals extra.constants) }
+    ensures form { IfOk result IsInForm }
+    ensures runs { (k : ℕ) (cuts : List Cut) (input : List ℕ) → ArePlans k (map placed_in plans.items) cuts → AreBytes extra.constants
+        → ((i : ℕ) → get_or input i 0 < 2 ^ 64) → IfOk result (λ image. Runs image cuts extra.globals extra.constants input) }
+    ensures limit { IfErr result (λ fault. fault ≡ Limit → (k : ℕ) (cuts : List Cut) → ArePlans k (map placed_in plans.items) cuts
+        → 2 ^ 18 < length (all_words (all_placed steps_of (all_allocated cuts)))) }
+    ensures misfit { IfErr result (λ fault. fault ≡ Misfit → ⊥) }
+{
     let frame = greatest_frame(plans.as_slice());
     let code = words_of(alloc, plans.as_slice())?;
     Ok(Image {
@@ -67,32 +113,6 @@ pub fn link(
         constants: extra.constants,
         frame,
     })
-}
-
-/// The plans of procedures.
-fn all_plans(
-    alloc: Global,
-    flows: &[Flow],
-    parts: Vec<Vec<Placed>>,
-    outs: Vec<Vec<TraceOut>>,
-) -> Result<Vec<Plan>, LinkFault>
-    ensures plans { (k : ℕ) (cuts : List Cut) → AreCuts k flows.now (map (λ v. v.items) parts.items) (map (λ v. v.items) outs.items) cuts
-        → IfOk result (λ plans. map placed_in plans.items ≡ map plain (all_placed steps_of (all_allocated cuts))) }
-    ensures fits { IfOk result (λ plans. list_all (λ f. numbers_fit f) flows.now ≡ true) }
-    ensures limit { IfErr result (λ fault. fault ≡ Limit → ⊥) }
-    ensures misfit { IfErr result (λ fault. fault ≡ Misfit → (k : ℕ) (cuts : List Cut) → AreCuts k flows.now (map (λ v. v.items) parts.items) (map (λ v. v.items) outs.items) cuts
-        → AreSmall cuts → ⊥) }
-{
-    let mut plans = Vec::with_capacity(alloc, flows.len())?;
-    let mut parts = parts.into_iter();
-    let mut outs = outs.into_iter();
-    for flow in flows {
-        let lines = parts.next().ok_or(LinkFault::Misfit)?;
-        let results = outs.next().ok_or(LinkFault::Misfit)?;
-        let plan = plan_of(alloc, flow, lines.as_slice(), results.as_slice())?;
-        plans.push(plan)?;
-    }
-    Ok(plans)
 }
 
 fn plan_of(

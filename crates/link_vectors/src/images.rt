@@ -88,7 +88,7 @@ pub(crate) fn answer<R: Threads + Wait + Sync>(
     };
     for _ in 0..runs.times {
         let flows = module.flows.as_slice();
-        let allocated = match allocate_flows(rt, alloc, &choice, flows, &OpenGate) {
+        let allocated = match allocate_flows(rt, alloc, &choice, 0, flows, &OpenGate) {
             Ok(allocated) => allocated,
             Err(WorkFault::Traces) => return Ok(String::from_str(alloc, "traces\n")?),
             Err(WorkFault::Memory) => return Err(Memory),

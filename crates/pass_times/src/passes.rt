@@ -82,7 +82,7 @@ pub fn cut<'a>(
 ) -> Result<TraceWork<'a>, WorkFault>
     requires { IsFitChoice choice.now }
 {
-    TraceWork::new(alloc, choice, flows)
+    TraceWork::new(alloc, choice, 0, flows)
 }
 
 /// The final results of all traces, by the workers that are chosen.
@@ -106,7 +106,7 @@ pub fn allocated<R: Threads + Wait + Sync>(
 ) -> Result<AllocatedFlows, WorkFault>
     requires { IsFitChoice choice.now }
 {
-    allocate_flows(rt, alloc, choice, flows, &OpenGate)
+    allocate_flows(rt, alloc, choice, 0, flows, &OpenGate)
 }
 
 /// The image of flows with final results. It has no globals and no constants, as a made module has none.

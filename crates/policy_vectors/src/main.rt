@@ -143,7 +143,7 @@ fn results_with_hints<R: Threads + Wait + Sync>(
     requires { IsFitChoice choice.now }
 {
     let flows = [flow];
-    match TraceWork::new(alloc, choice, &flows) {
+    match TraceWork::new(alloc, choice, 0, &flows) {
         Ok(work) => final_results(rt, alloc, &work, &OpenGate, choice.jobs),
         Err(WorkFault::Traces) => Ok(Vec::new(alloc)),
         Err(WorkFault::Memory) => Err(Memory),

@@ -13,6 +13,7 @@ use Rattle.pool_core.specs.Fits.{FitsAt, FitsRun}
 use Rattle.trace_work.specs.declared.planning.Plan.{Plan}
 use Rattle.trace_work.specs.declared.work.Entry.{Entry}
 use Rattle.trace_work.specs.Plans.{IsOrdered}
+use Rattle.trace_work.specs.Finals.{AreBehind}
 use Rattle.trace_work.specs.Entries.{above, entry_of, entries_to, entries_of, parents_in, AreEntries, IsEntry, IsEntryOf}
 
 ---- Parts of lists
@@ -188,8 +189,8 @@ module _ (plans : List Plan) (entries : List Entry) (h : AreEntries plans entrie
   pub entry_of_plan : (t : ℕ) (e : Entry) → e ≡ get_or entries t e → (lt : t < length entries) → (p : Plan) → p ≡ get_or plans e.flow p → IsEntryOf p t e
   entry_of_plan t e is lt p same = (h.each t e (entry_is t e is lt)).of p (plan_is t e is lt p same)
 
-  pub number_small : (t : ℕ) (e : Entry) → e ≡ get_or entries t e → (lt : t < length entries) → (p : Plan) → p ≡ get_or plans e.flow p → length entries ≤ 262144 → p.first + e.number < 262144
-  number_small t e is lt p same small = let n = (entry_of_plan t e is lt p same).number in omega (arith, n, lt, small)
+  pub number_small : (t : ℕ) (e : Entry) → e ≡ get_or entries t e → (lt : t < length entries) → (p : Plan) → p ≡ get_or plans e.flow p → (before : ℕ) → AreBehind before plans → before + length entries ≤ 262144 → p.number + e.number < 262144
+  number_small t e is lt p same before behind small = let n = (entry_of_plan t e is lt p same).number in let b = behind e.flow p (plan_is t e is lt p same) in omega (arith, n, b, lt, small)
 
 fits_within : {H : Type 0} (P : List (Option ℕ)) (fits : H → Type 0) (t : ℕ) (x : Option H) → FitsAt (get_elem? P t) fits x → t < length P
 fits_within [] fits t None f = absurd f

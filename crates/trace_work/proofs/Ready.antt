@@ -41,7 +41,7 @@ length-results_to p x first traces (suc n) =
 
 module _ (choice : Choice) (p : Plan) where
   pub length-finals : (n : ℕ) → length (finals_to choice p n) ≡ n
-  length-finals n = length-results_to choice.policy (case_of choice p) p.first p.traces n
+  length-finals n = length-results_to choice.policy (case_of choice p) p.number p.traces n
 
   pub final_at : (n t : ℕ) → t < n → out_at (finals_to choice p n) t ≡ final_of choice p t
   final_at zero t lt = absurd (omega (arith, lt))
@@ -93,7 +93,7 @@ module _ (choice : Choice) (p : Plan) where
   ---- Results
 
   -- what is made with the hint is the final result
-  pub made_is : (t number : ℕ) (hint : Option Hint) → IsHint choice p t hint → number ≡ p.first + t
+  pub made_is : (t number : ℕ) (hint : Option Hint) → IsHint choice p t hint → number ≡ p.number + t
       → result_by (used choice.policy p.flow.now.nodes (nodes_of p t)) (case_of choice p) number (nodes_of p t) hint ≡ final_of choice p t
   made_is t number hint h n = ap₂ (λ m k. result_by (used choice.policy p.flow.now.nodes (nodes_of p t)) (case_of choice p) m (nodes_of p t) k) n h.is
 

@@ -1,11 +1,11 @@
--- Which trace a number is.
+-- Which trace stands at a place.
 use Rattle.std.specs.Prelude.{◌≡◌, ℕ, zero, suc, ◌+◌, ◌<◌, List, [], ◌∷◌, ◌++◌, map, length, Option, None, Some, slice_get, slice_index_or}
 use Rattle.std.specs.Option.{option_map}
 use Rattle.trace_work.specs.declared.planning.Plan.{Plan}
 use Rattle.trace_work.specs.declared.work.Entry.{Entry}
 use Rattle.trace_work.specs.Plans.{IsOrdered}
 
--- the trace above a plan's trace, in the numbers of all flows
+-- the place of the trace above a plan's trace
 abbrev pub above : Plan → ℕ → Option ℕ
 above p t = option_map (λ n. p.first + n) (slice_index_or p.parents t None)
 
@@ -13,7 +13,7 @@ above p t = option_map (λ n. p.first + n) (slice_index_or p.parents t None)
 abbrev pub entry_of : ℕ → Plan → ℕ → Entry
 entry_of flow p t = record { flow = flow; number = t; parent = above p t }
 
--- the trace of this number is the entry's, of this plan
+-- the trace at this place is the entry's, of this plan
 pub record IsEntryOf (p : Plan) (trace : ℕ) (e : Entry) : Type 0 where
   pub ordered : IsOrdered p
   pub within : e.number < length p.traces
@@ -24,7 +24,7 @@ pub record IsEntry (plans : List Plan) (trace : ℕ) (e : Entry) : Type 0 where
   pub known : e.flow < length plans
   pub of : (p : Plan) → slice_get plans e.flow ≡ Some p → IsEntryOf p trace e
 
--- an entry for each trace of each plan, at its number
+-- an entry for each trace of each plan, at its place
 pub record AreEntries (plans : List Plan) (entries : List Entry) : Type 0 where
   pub each : (trace : ℕ) (e : Entry) → slice_get entries trace ≡ Some e → IsEntry plans trace e
   pub all : (flow : ℕ) (p : Plan) (t : ℕ) → slice_get plans flow ≡ Some p → t < length p.traces → slice_get entries (p.first + t) ≡ Some (entry_of flow p t)

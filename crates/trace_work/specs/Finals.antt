@@ -12,10 +12,14 @@ use Rattle.trace_work.specs.Plans.{IsPlan, IsFinal, IsHint}
 abbrev pub flows_in : List Plan → List Flow
 flows_in plans = map (λ (p : Plan). p.flow.now) plans
 
--- the first trace of each has the number behind those before it
+-- the first trace of each has the place behind those before it
 abbrev pub AreNumbered : ℕ → List Plan → Type 0
 AreNumbered n [] = Unit {0}
 AreNumbered n (p ∷ ps) = (p.first ≡ n) × AreNumbered (n + length p.traces) ps
+
+-- the number of each one's first trace is its place behind so many
+abbrev pub AreBehind : ℕ → List Plan → Type 0
+AreBehind before plans = (i : ℕ) (p : Plan) → slice_get plans i ≡ Some p → p.number ≡ before + p.first
 
 -- of the plan that has the trace, and the trace's number there
 abbrev pub OfTrace : List Plan → List Entry → ℕ → (Plan → ℕ → Type 0) → Type 0

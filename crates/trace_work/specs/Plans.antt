@@ -38,11 +38,11 @@ nodes_of p t = (trace_at p.traces t).nodes
 
 -- the results of a plan's first n traces
 abbrev pub finals_to : Choice → Plan → ℕ → List TraceOut
-finals_to choice p n = results_to choice.policy (case_of choice p) p.first p.traces n
+finals_to choice p n = results_to choice.policy (case_of choice p) p.number p.traces n
 
 -- the final result of a plan's trace
 abbrev pub final_of : Choice → Plan → ℕ → TraceOut
-final_of choice p t = result_at choice.policy (case_of choice p) p.first p.traces (finals_to choice p t) t
+final_of choice p t = result_at choice.policy (case_of choice p) p.number p.traces (finals_to choice p t) t
 
 -- the hint of a plan's trace, where there is one
 abbrev pub hint_to : Choice → Plan → ℕ → Option Hint

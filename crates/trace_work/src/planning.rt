@@ -23,21 +23,25 @@ pub struct Plan<'a> {
     pub parents: Items<Option<u32>>,
     /// The place of each node in its trace.
     pub places: Items<usize>,
-    /// The number of the first trace, through all flows.
+    /// The place of the first trace among those of the flows that are worked on together.
     pub first: u32,
+    /// The number of the first trace, through all flows.
+    pub number: u32,
 }
 
-/// A flow in the traces of a builder, the first of which has this number. Takes the time of the passes: near-linear in the
+/// A flow in the traces of a builder, the first of which has this place and this number. Takes the time of the passes: near-linear in the
 /// flow's nodes, edges and live values.
 pub(crate) fn plan_of<'a>(
     alloc: Global,
     builder: Builder,
     flow: &'a Flow,
     first: u32,
+    number: u32,
 ) -> Result<Plan<'a>, Memory>
     ensures plan { IsValidFlow flow.now → IfOk result (IsPlan builder) }
     ensures flow { IfOk result (λ plan. plan.flow.now ≡ flow.now) }
     ensures first { IfOk result (λ plan. plan.first ≡ first) }
+    ensures number { IfOk result (λ plan. plan.number ≡ number) }
     ensures count { IfOk result (λ plan. length plan.traces ≡ length (traces_of builder flow.now.nodes)) }
     ensures ordered { IfOk result IsOrdered }
 {
@@ -52,5 +56,6 @@ pub(crate) fn plan_of<'a>(
         parents: Items::from_vec(parents),
         places: Items::from_vec(places),
         first,
+        number,
     })
 }

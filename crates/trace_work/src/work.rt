@@ -13,7 +13,7 @@ ghost use Rattle.trace_work.specs.Lent.{hints};
 ghost use Rattle.trace_work.specs.Plans.{nodes_of, IsFinal, IsHint, IsOrdered, IsPlan};
 ghost use Rattle.trace_work.specs.Entries.{AreEntries, entries_of, parents_in};
 ghost use Rattle.trace_work.specs.Entries.{above as above_in};
-ghost use Rattle.trace_work.specs.Finals.{AreNumbered, flows_in, joined, plain_hint, IsFinalOf, IsHintOf};
+ghost use Rattle.trace_work.specs.Finals.{AreNumbered, AreBehind, flows_in, joined, plain_hint, IsFinalOf, IsHintOf};
 ghost use Rattle.trace_work.specs.declared.fault.WorkFault.TheVariants.{Traces};
 
 use crate::fault::WorkFault;
@@ -29,14 +29,14 @@ use std::alloc::{AllocError, Global};
 /// The most traces that a pool takes.
 const MOST_TRACES: usize = 262_144;
 
-/// Which trace a number is.
+/// Which trace stands at a place.
 #[derive(Clone, Copy)]
 pub struct Entry {
     /// The flow's place among the flows.
     pub flow: usize,
     /// The trace's number in its flow.
     pub number: usize,
-    /// The number of the trace above it, through all flows.
+    /// The place of the trace above it.
     pub parent: Option<u32>,
 }
 
@@ -47,39 +47,49 @@ pub struct TraceHint {
     pub places: Places,
 }
 
-/// Flows in traces, which are numbered through all flows, and the entry of each number.
+/// Flows in traces, which have places one behind the other through all of these flows, and the entry of each place. Their numbers
+/// begin behind the traces of flows that were worked on before.
 #[derive(Drop)]
 pub struct TraceWork<'a> {
     pub choice: Choice,
     pub plans: Vec<Plan<'a>>,
     pub entries: Vec<Entry>,
+    /// How many traces there are in the flows before these.
+    pub before: u32,
     pub ghost fit: { IsFitChoice choice },
-    pub ghost small: { length entries.items ≤ 262144 },
+    pub ghost small: { before + length entries.items ≤ 262144 },
+    pub ghost behind: { AreBehind before plans.items },
     pub ghost entered: { AreEntries plans.items entries.items },
     pub ghost tree: { IsTree (parents_in entries.items) },
 }
 
 impl<'a> TraceWork<'a> {
-    /// The flows in the traces of the builder that is chosen. `Traces` comes exactly where there are over 262,144. Near-linear in
-    /// the flows' nodes, edges and live values.
+    /// The flows in the traces of the builder that is chosen, behind so many traces of flows before them. `Traces` comes exactly
+    /// where there are over 262,144 with those. Near-linear in the flows' nodes, edges and live values.
     pub fn new(
         alloc: Global,
         choice: &Choice,
+        before: u32,
         flows: &'a [Flow],
     ) -> Result<TraceWork<'a>, WorkFault>
-        requires { IsFitChoice choice.now }
+        requires fit { IsFitChoice choice.now }
+        requires before { before ≤ 262144 }
         ensures choice { IfOk result (λ work. work.choice ≡ choice.now) }
         ensures flows { IfOk result (λ work. flows_in work.plans.items ≡ flows.now) }
         ensures plans { All IsValidFlow flows.now → IfOk result (λ work. All (IsPlan choice.now.builder) work.plans.items) }
         ensures numbered { IfOk result (λ work. AreNumbered 0 work.plans.items) }
+        ensures behind { IfOk result (λ work. AreBehind before work.plans.items) }
         ensures count { IfOk result (λ work. length work.entries.items ≡ traces_in choice.now.builder flows.now) }
-        ensures limit { IfErr result (λ fault. fault ≡ Traces → 262144 < traces_in choice.now.builder flows.now) }
+        ensures few { IfOk result (λ work. before + length work.entries.items ≤ 262144) }
+        ensures limit { IfErr result (λ fault. fault ≡ Traces → 262144 < before + traces_in choice.now.builder flows.now) }
     {
+        let most = MOST_TRACES - before as usize;
         let mut plans = Vec::new(alloc);
         let mut entries = Vec::new(alloc);
         for flow in flows {
-            let plan = plan_of(alloc, choice.builder, flow, entries.len() as u32)?;
-            if plan.traces.len() > MOST_TRACES - entries.len() {
+            let first = entries.len() as u32;
+            let plan = plan_of(alloc, choice.builder, flow, first, before + first)?;
+            if plan.traces.len() > most - entries.len() {
                 return Err(WorkFault::Traces);
             }
             put_entries(&mut entries, plans.len(), &plan)?;
@@ -89,6 +99,7 @@ impl<'a> TraceWork<'a> {
             choice: *choice,
             plans,
             entries,
+            before,
         })
     }
 }
@@ -111,7 +122,7 @@ fn put_entries(entries: &mut Vec<Entry>, flow: usize, plan: &Plan) -> Result<(),
     Ok(())
 }
 
-// The number of the trace above, through all flows.
+// The place of the trace above.
 fn above(plan: &Plan, number: usize) -> Option<u32>
     requires few { plan.now.first + length plan.now.traces ≤ 262144 }
     requires number { number < length plan.now.traces }
@@ -169,7 +180,7 @@ fn hint_between<'b>(
     )
 }
 
-// The result of a plan's trace, whose number through all flows is `trace`, with a hint where there is one.
+// The result of a plan's trace, with a hint where there is one.
 fn result(
     alloc: Global,
     choice: &Choice,
@@ -179,7 +190,7 @@ fn result(
     hint: Option<&Places>,
 ) -> Result<TraceOut, Memory>
     requires choice { IsFitChoice choice.now }
-    requires small { plan.now.first + entry.number < 262144 }
+    requires small { plan.now.number + entry.number < 262144 }
     requires within { entry.number < length plan.now.traces }
     requires row { IfSome hint (λ q. length q.now.regs ≡ choice.now.regs) }
     ensures { IsHint choice.now plan.now entry.number (hint_of from (lent hint.entry)) → IfOk result (IsFinal choice.now plan.now entry.number) }
@@ -188,7 +199,7 @@ fn result(
         flow: plan.flow,
         live: &plan.live,
         trace: &plan.traces.as_slice()[entry.number],
-        number: plan.first + entry.number as u32,
+        number: plan.number + entry.number as u32,
         regs: choice.regs,
         from,
     };

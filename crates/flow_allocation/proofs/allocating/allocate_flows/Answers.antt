@@ -21,5 +21,5 @@ returns-clause-allocated g c valid =
     let shared = items_of c.in_ok-shared.shared.outs in
     let final = subst (λ x. AreFinal (IsFinalOf x w.plans.items w.entries.items) (parents_in w.entries.items) outs) is.choice c.in_ok-outs.ensures in
     let count : c.count.result ≡ traces_in choice.builder c.args.flows.now = c.count.ensures ∙ length-map w.entries.items (λ (y : Entry). y.parent) ∙ is.count in
-    allocated choice c.requires w.plans.items w.entries.items outs shared parts c.args.flows.now c.count.result w.entered (is.plans valid) is.numbered is.flows final
+    allocated choice c.requires.fit c.args.before w.plans.items w.entries.items outs shared parts c.args.flows.now c.count.result w.entered (is.plans valid) is.numbered is.behind is.flows final
     (subst (λ (ps : List Plan). AreShared ps outs parts shared) c.as_slice.ensures.value c.in_ok-shared.ensures) count

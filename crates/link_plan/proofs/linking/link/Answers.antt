@@ -1,35 +1,20 @@
-use Rattle.std.proofs.Common.{◌≡◌, ◌≤◌, map, length, ap, sym, subst, refl, ◌∙◌, arith}
-use Rattle.placed_code.proofs.Parts.{length_map}
+use Rattle.std.proofs.Common.{map, ap}
 use Rattle.link_blocks.specs.Plans.{placed_in}
-use Rattle.link_code.proofs.Rows.{errs_with}
-use Rattle.link_plan.specs.Linked.{greatest_frame}
-use Rattle.link_plan.proofs.Whole.{plans_whole, over_is, image_is, image_runs, form_is}
+use Rattle.link_plan.proofs.Whole.{are_plans, on_err}
 use Rattle.link_plan.proofs.linking.link.Goals as goal
-
-pub returns-in_err-code-clause-limit : goal.returns-in_err-code-clause-limit
-returns-in_err-code-clause-limit c =
-    errs_with _ _ c.from_residual-in_err-code.result c.from_residual-in_err-code.ensures.1
-    (λ fault same limit k cuts are. over_is k _ _ _ cuts are (map placed_in c.as_slice-2.result.now) (ap (λ ps. map placed_in ps) c.as_slice-2.ensures.value ∙ c.in_ok-plans.ensures.plans k cuts are) (c.in_err-code.ensures.limit (sym same ∙ limit)))
 
 pub returns-clause-image : goal.returns-clause-image
 returns-clause-image c k cuts are =
-    let plans = c.as_slice-2.result.now in
-    let e = ap (λ ps. map placed_in ps) c.as_slice-2.ensures.value ∙ c.in_ok-plans.ensures.plans k cuts are in
-    let n = length_map placed_in plans in
-    image_is k _ _ _ cuts are (map placed_in plans) c.in_ok-code.code.items c.new.result c.greatest_frame-frame.result c.args.extra.flags c.args.extra.globals c.args.extra.constants e
-    (c.in_ok-code.ensures.code (λ p l. plans_whole k _ _ _ cuts are (map placed_in plans) e p (omega (arith, l, n)))) c.new.ensures
-    (c.greatest_frame-frame.ensures.greatest ∙ ap (λ ps. greatest_frame (map placed_in ps)) (c.as_slice.ensures.value ∙ sym c.as_slice-2.ensures.value))
+    let made = c.in_ok-add_plans.ensures in
+    c.image_of_plans.ensures.image k cuts (are_plans k _ _ _ (map placed_in c.add_plans.new.plans.items) _ cuts are (ap (map placed_in) c.in_ok-plans.ensures.items) (made.plans k cuts are) made.fits)
 
 pub returns-clause-runs : goal.returns-clause-runs
 returns-clause-runs c k cuts input are bytes low =
-    let plans = c.as_slice-2.result.now in
-    let e = ap (λ ps. map placed_in ps) c.as_slice-2.ensures.value ∙ c.in_ok-plans.ensures.plans k cuts are in
-    let n = length_map placed_in plans in
-    let d = c.args.extra in
-    let frame = c.greatest_frame-frame in
-    image_runs k _ _ _ cuts are _ d.flags d.globals d.constants input c.in_ok-plans.ensures.fits
-    (image_is k _ _ _ cuts are (map placed_in plans) c.in_ok-code.code.items c.new.result frame.result d.flags d.globals d.constants e
-    (c.in_ok-code.ensures.code (λ p l. plans_whole k _ _ _ cuts are (map placed_in plans) e p (omega (arith, l, n)))) c.new.ensures
-    (frame.ensures.greatest ∙ ap (λ ps. greatest_frame (map placed_in ps)) (c.as_slice.ensures.value ∙ sym c.as_slice-2.ensures.value)))
-    (form_is d.flags d.globals frame.result d.constants c.new.result c.requires (subst (λ ws. (1 ≤ length ws) × (length ws ≤ 262144)) (sym c.new.ensures) c.in_ok-code.ensures.fits) frame.ensures.most frame.ensures.whole)
-    frame.ensures.most bytes low
+    let made = c.in_ok-add_plans.ensures in
+    c.image_of_plans.ensures.runs k cuts input (are_plans k _ _ _ (map placed_in c.add_plans.new.plans.items) _ cuts are (ap (map placed_in) c.in_ok-plans.ensures.items) (made.plans k cuts are) made.fits) bytes low
+
+pub returns-clause-limit : goal.returns-clause-limit
+returns-clause-limit c =
+    let made = c.in_ok-add_plans.ensures in
+    on_err _ _ c.image_of_plans.result c.image_of_plans.ensures.limit
+    (λ fault holds limit k cuts are. holds limit k cuts (are_plans k _ _ _ (map placed_in c.add_plans.new.plans.items) _ cuts are (ap (map placed_in) c.in_ok-plans.ensures.items) (made.plans k cuts are) made.fits))

@@ -17,7 +17,7 @@ index-plan-requires c =
 pub result-requires-clause-small : goal.result-requires-clause-small
 result-requires-clause-small c =
     let w = c.args.self.now in
-    number_small w.plans.items w.entries.items w.entered c.args.trace c.index-entry.result.now c.index-entry.ensures (run_within w.entries.items _ c.args.trace c.args.hint c.requires) c.index-plan.result.now c.index-plan.ensures w.small
+    number_small w.plans.items w.entries.items w.entered c.args.trace c.index-entry.result.now c.index-entry.ensures (run_within w.entries.items _ c.args.trace c.args.hint c.requires) c.index-plan.result.now c.index-plan.ensures w.before w.behind w.small
 
 pub result-requires-clause-within : goal.result-requires-clause-within
 result-requires-clause-within c =
@@ -37,7 +37,7 @@ result-requires-clause-row c =
 pub result-requires-in-None-clause-small : goal.result-requires-in-None-clause-small
 result-requires-in-None-clause-small c =
     let w = c.args.self.now in
-    number_small w.plans.items w.entries.items w.entered c.args.trace c.index-entry.result.now c.index-entry.ensures (run_within w.entries.items _ c.args.trace c.args.hint c.requires) c.index-plan.result.now c.index-plan.ensures w.small
+    number_small w.plans.items w.entries.items w.entered c.args.trace c.index-entry.result.now c.index-entry.ensures (run_within w.entries.items _ c.args.trace c.args.hint c.requires) c.index-plan.result.now c.index-plan.ensures w.before w.behind w.small
 
 pub result-requires-in-None-clause-within : goal.result-requires-in-None-clause-within
 result-requires-in-None-clause-within c =

@@ -3,11 +3,11 @@ use Rattle.std.specs.Vec.Iter.{into_iter_items}
 use Rattle.link_blocks.specs.Plans.{placed_in}
 use Rattle.link_code.proofs.Rows.{errs_with}
 use Rattle.link_plan.proofs.Cuts.{cut_at, next_is, item_at, left_none, drop_next, same_lengths, fits_more, map_last, plans_more, plans_all, cuts_length}
-use Rattle.link_plan.proofs.linking.all_plans.Goals as goal
+use Rattle.link_plan.proofs.linking.add_plans.Goals as goal
 
 pub returns-in_err-lines-clause-misfit : goal.returns-in_err-lines-clause-misfit
 returns-in_err-lines-clause-misfit c =
-    errs_with _ _ c.from_residual-in_err-lines.result c.from_residual-in_err-lines.ensures.1
+    errs_with _ _ c.from_residual.result c.from_residual.ensures.1
     (λ fault same refused k cuts are small.
     let n = (same_lengths k _ _ _ cuts are).0 in
     let lt = c.loop-flow-test.true in
