@@ -1,9 +1,12 @@
 -- Halving notes that stand in order of values finds what a search through a value's row finds.
-use Rattle.std.proofs.Common.{◌≡◌, ℕ, zero, suc, ◌<◌, ◌≤◌, Bool, true, false, cond, List, [], ◌∷◌, length, get_or, Option, Some, None, refl, sym, ap, ◌∙◌, arith}
+use Rattle.std.proofs.Common.{◌≡◌, ℕ, zero, suc, ◌+◌, ◌-◌, ◌<◌, ◌≤◌, ◌⊎◌, inl, inr, Bool, true, false, cond, List, [], ◌∷◌, length, take, drop, get_or, Option, Some, None, refl, sym, ap, subst, ◌∙◌, arith}
 use Rattle.std.specs.Prelude.{◌==◌, ◌&&◌, not, nat_lt, filter, map, slice_get, slice_index}
 use Rattle.std.specs.Ordering.{is_lt, nat_cmp}
+use Rattle.std.specs.List.{AllWithin}
 use Rattle.std.specs.List.Sorted.{IsPartitionPoint, IsPartitionedBy, IsNonDecreasingBy, IsStableByKey, ties}
 use Rattle.std.proofs.lemmas.Bool.Decides.{nat_tests}
+use Rattle.std.proofs.lemmas.List.{get_or-drop, get_or_default, length-drop}
+use Rattle.std.proofs.Math.Seq.{take-length}
 use Rattle.live_interval.specs.declared.notes.Note.{Note}
 use Rattle.live_interval.specs.Asked.{first_from, last_below, IsRising}
 use Rattle.live_interval.specs.Tables.{row_in, is_before, position_of}
@@ -208,6 +211,61 @@ parted v limit (x ∷ xs) up rise zero (suc j) d l m t = at_test (x.value == v) 
         let is = found.2 in
         let below : (get_or xs j d).position < limit = before_position v limit (get_or xs j d).value (get_or xs j d).position t now in
         comes_same v limit x.value x.position same (omega (arith, low, is, below))
+
+---- Halving behind notes that are passed
+
+less_or_past : (i n : ℕ) → (i < n) ⊎ (n ≤ i)
+less_or_past i n = grind arith
+
+get_behind : (P : Note → Type 0) (notes : List Note) (n k j : ℕ) (d : Note) → n + j ≡ k → P (get_or (drop n notes) j d) → P (get_or notes k d)
+get_behind P notes n k j d e h = let at : get_or (drop n notes) j d ≡ get_or notes k d = get_or-drop n notes j d ∙ ap (λ i. get_or notes i d) e in subst P at h
+
+get_ahead : (P : Note → Type 0) (notes : List Note) (n k j : ℕ) (d : Note) → n + j ≡ k → P (get_or notes k d) → P (get_or (drop n notes) j d)
+get_ahead P notes n k j d e h = let at : get_or notes k d ≡ get_or (drop n notes) j d = sym (get_or-drop n notes j d ∙ ap (λ i. get_or notes i d) e) in subst P at h
+
+pub parted_behind : (p : Note → Bool) (notes : List Note) (n : ℕ) → IsPartitionedBy p notes → IsPartitionedBy p (drop n notes)
+parted_behind p notes n h i j d le lt t =
+    let m = length-drop n notes in
+    get_ahead (λ x. p x ≡ true) notes n (n + i) i d refl (h (n + i) (n + j) d (omega (arith, le)) (omega (arith, lt, m)) (get_behind (λ x. p x ≡ true) notes n (n + j) j d refl t))
+
+pub rest_is : (notes : List Note) (n : ℕ) → take (length notes - n) (drop n notes) ≡ drop n notes
+rest_is notes n = ap (λ k. take k (drop n notes)) (sym (length-drop n notes)) ∙ take-length (drop n notes)
+
+less : (a b : ℕ) → nat_lt a b ≡ true → a < b
+less a b t = grind (arith, nat_tests)
+
+-- notes up to one of a lower value have lower values
+pub lower_upto : (v : ℕ) (notes : List Note) (at : ℕ) (x : Note) → Ascend notes → 0 < at → at ≤ length notes → x ≡ get_or notes (at - 1) x → nat_lt x.value v ≡ true → AllWithin (λ (y : Note). y.value < v) notes 0 at
+lower_upto v notes at x up some within is t k d l m =
+    let low : (get_or notes k x).value ≤ (get_or notes (at - 1) x).value = up k (at - 1) x (omega (arith, m)) (omega (arith, some, within)) in
+    let last : x.value ≡ (get_or notes (at - 1) x).value = ap (λ (y : Note). y.value) is in
+    let same : (get_or notes k d).value ≡ (get_or notes k x).value = ap (λ (y : Note). y.value) (get_or_default notes k d x (omega (arith, m, within))) in
+    let below = less x.value v t in
+    omega (arith, low, last, same, below)
+
+pub point_at : (v limit : ℕ) (notes : List Note) (n : ℕ) (x : Note) → IsPartitionedBy (is_before v limit) notes → AllWithin (λ (x : Note). is_before v limit x ≡ true) notes 0 n → is_before v limit (get_or notes n x) ≡ false → IsPoint v limit notes n
+point_at v limit notes n x parted before here = (before, behind)
+  where
+    behind : AllWithin (λ (x : Note). is_before v limit x ≡ false) notes n (length notes)
+    behind k d l m = at_test (is_before v limit (get_or notes k d)) refl
+      where
+        at_test : (b : Bool) → is_before v limit (get_or notes k d) ≡ b → b ≡ false
+        at_test false e = refl
+        at_test true e = let low = parted n k d l m e in let same : get_or notes n d ≡ get_or notes n x = get_or_default notes n d x (omega (arith, l, m)) in cc
+
+pub point_behind_near : (v limit : ℕ) (notes : List Note) (n i : ℕ) → AllWithin (λ (x : Note). is_before v limit x ≡ true) notes 0 n → IsPoint v limit (drop n notes) i → IsPoint v limit notes (n + i)
+point_behind_near v limit notes n i before h = (low, high)
+  where
+    low : AllWithin (λ (x : Note). is_before v limit x ≡ true) notes 0 (n + i)
+    low k d l m = elim (less_or_past k n) as (λ _. is_before v limit (get_or notes k d) ≡ true) [
+      | inl less ↦ before k d l less
+      | inr past ↦ get_behind (λ x. is_before v limit x ≡ true) notes n k (k - n) d (omega (arith, past)) (h.0 (k - n) d (omega arith) (omega (arith, past, m)))
+    ]
+
+    high : AllWithin (λ (x : Note). is_before v limit x ≡ false) notes (n + i) (length notes)
+    high k d l m =
+        let size = length-drop n notes in
+        get_behind (λ x. is_before v limit x ≡ false) notes n k (k - n) d (omega (arith, l)) (h.1 (k - n) d (omega (arith, l)) (omega (arith, l, m, size)))
 
 ---- A stable sort by value
 

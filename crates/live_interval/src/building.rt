@@ -24,7 +24,7 @@ pub fn needs(alloc: Global, flow: &Flow, trace: &Trace, live: &LiveSets) -> Resu
     let mut table = Table::new(alloc, room(flow, nodes))?;
     pass_needs(&mut table, flow, live, nodes)?;
     let Table { notes, .. } = table;
-    let rows = Rows::of(notes)?;
+    let rows = Rows::of(alloc, notes)?;
     Ok(Needs { rows })
 }
 
@@ -39,7 +39,7 @@ pub fn mentions(alloc: Global, flow: &Flow, trace: &Trace) -> Result<Mentions, M
     let mut table = Table::new(alloc, room(flow, nodes))?;
     pass_mentions(&mut table, flow, nodes)?;
     let Table { notes, .. } = table;
-    let rows = Rows::of(notes)?;
+    let rows = Rows::of(alloc, notes)?;
     Ok(Mentions { rows })
 }
 

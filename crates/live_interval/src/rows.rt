@@ -1,17 +1,24 @@
 //! For each value the positions at which something is said of it.
 
-ghost use Rattle.std.specs.Prelude.{◌≡◌, ℕ, ◌≤◌, length, IfOk, true, false, None};
+ghost use Rattle.std.specs.Prelude.{◌≡◌, ℕ, ◌<◌, ◌≤◌, length, IfOk, true, false, None};
+ghost use Rattle.std.specs.List.{AllWithin};
 ghost use Rattle.std.specs.List.Sorted.{IsPartitionPoint, IsNonDecreasingBy};
 ghost use Rattle.live_interval.specs.Asked.{IsRising, first_from, last_below};
 ghost use Rattle.live_interval.specs.Tables.{row_in, is_before};
 
 use crate::notes::{Note, Notes};
-use std::alloc::AllocError;
+use std::alloc::{AllocError, Global};
 
-/// Notes in order of values, and those of a value in order of positions: a value's row stands in one piece.
+/// How many notes of a row are passed one by one before the rest is halved: most rows have no more.
+const NEAR: usize = 4;
+
+/// Notes in order of values, and those of a value in order of positions: a value's row stands in one piece. Of the values
+/// with the same low bits, one has the place where its row begins in `firsts`: values of a trace mostly lie close together,
+/// so that most rows are found at once.
 #[derive(Drop)]
 pub(crate) struct Rows {
     notes: Vec<Note>,
+    firsts: Vec<u32>,
     ghost values_rise: { IsNonDecreasingBy (λ n. n.value) notes.items },
     ghost rows_rise: { (v : ℕ) → IsRising (row_in notes.items v) },
 }
@@ -19,12 +26,13 @@ pub(crate) struct Rows {
 impl Rows {
     /// The rows of notes, where a value's notes are in order of positions. Takes time in proportion to the notes times a
     /// logarithm.
-    pub(crate) fn of(notes: Notes) -> Result<Rows, AllocError>
+    pub(crate) fn of(alloc: Global, notes: Notes) -> Result<Rows, AllocError>
         requires rise { (v : ℕ) → IsRising (row_in notes v) }
         ensures { IfOk result (λ rows. (v : ℕ) → row_in rows.notes.items v ≡ row_in notes v) }
     {
         let notes = notes.by_value()?;
-        Ok(Rows { notes })
+        let firsts = firsts_of(alloc, notes.as_slice())?;
+        Ok(Rows { notes, firsts })
     }
 
     /// The first position of a value's row from a limit on.
@@ -51,7 +59,51 @@ impl Rows {
         ensures within { result ≤ length self.now.notes.items }
         ensures point { IsPartitionPoint (λ n. is_before value position n ≡ true) (λ n. is_before value position n ≡ false) self.now.notes.items result }
     {
-        self.notes
-            .partition_point(|note| note.is_before(value, position))
+        let first = self.first_of(value);
+        let near = first.saturating_add(NEAR).min(self.notes.len());
+        for at in first..near {
+            if !self.notes[at].is_before(value, position) {
+                return at;
+            }
+        }
+        near + self.notes[near..].partition_point(|note| note.is_before(value, position))
     }
+
+    // A place before which all notes are of lower values: where the value's row begins, if `firsts` has that, else 0.
+    fn first_of(&self, value: u32) -> usize
+        ensures { AllWithin (λ n. n.value < value) self.now.notes.items 0 result }
+    {
+        match self.firsts.get(slot_of(value, self.firsts.len())) {
+            Some(first) if self.is_first(*first as usize, value) => *first as usize,
+            _ => 0,
+        }
+    }
+
+    // Whether a value's row begins at a place.
+    fn is_first(&self, at: usize, value: u32) -> bool
+        ensures { result ≡ true → AllWithin (λ n. n.value < value) self.now.notes.items 0 at }
+    {
+        match self.notes.get(at) {
+            Some(note) if note.value == value => at == 0 || self.notes[at - 1].value < value,
+            _ => false,
+        }
+    }
+}
+
+// Where rows begin, by the low bits of their values.
+fn firsts_of(alloc: Global, notes: &[Note]) -> Result<Vec<u32>, AllocError> {
+    let count = notes.len().min(u32::MAX as usize);
+    let mut firsts = vec![in alloc; 0u32; count.next_power_of_two()]?;
+    for at in (0..count).rev() {
+        let slot = slot_of(notes[at].value, firsts.len());
+        if let Some(first) = firsts.get_mut(slot) {
+            *first = at as u32;
+        }
+    }
+    Ok(firsts)
+}
+
+// The low bits of a value, as one of so many slots, which are a power of two.
+fn slot_of(value: u32, slots: usize) -> usize {
+    value as usize & slots.saturating_sub(1)
 }

@@ -9,7 +9,7 @@ use Rattle.lir_core.specs.Sound.{IsSound}
 use Rattle.bottom_up.proofs.Traces.{bottom_sound}
 use Rattle.bottom_up.proofs.allocating.allocate.Goals as goal
 
-module _ (c : goal.After-drop-positions-inside-2) where
+module _ (c : goal.After-drop-positions-inside-3) where
   x : Case
   x = case_of c.args.t.now
 

@@ -8,7 +8,7 @@ use Rattle.linear_scan.specs.Inputs.{case_of, hint_of, lent, IsInput}
 use Rattle.linear_scan.proofs.Traces.{IsMade, made_linear, made_sound}
 use Rattle.linear_scan.proofs.allocating.allocate.Goals as goal
 
-module _ (c : goal.After-drop-positions-inside-2) where
+module _ (c : goal.After-drop-positions-inside-3) where
   x : Case
   x = case_of c.args.t.now
 
