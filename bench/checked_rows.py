@@ -126,7 +126,7 @@ class Writer:
         b, ss = self.selectors(x)
         if not ss:
             return '(Whole %s %s)' % (b, self.kind(x.type))
-        return "(Part' %s %s %s)" % (b, self.kind(x.type), self.row('Selector', ss))
+        return "(Part' b %s %s %s)" % (b, self.kind(x.type), self.row('Selector', ss))
 
     def row(self, name, xs):
         r = 'end_of-' + name
@@ -151,7 +151,7 @@ class Writer:
             first, ls = self.links(x.args[0])
             return first, ls + ['(Operate %s %s)' % (BINARY[x.name], self.e(x.args[1]))]
         if t is SetCons and x.elements:
-            return '(Literal 0)', ['(Element %s)' % self.e(a) if c is None else '(Elements %s %s)' % (self.e(a), self.e(c)) for a, c in x.elements]
+            return '(Literal 0)', ['(Element %s)' % self.e(a) if c is None else "(Elements' b %s b %s)" % (self.e(a), self.e(c)) for a, c in x.elements]
         return self.e(x), []
 
     def e(self, x):
@@ -162,7 +162,7 @@ class Writer:
             return '(Routine %d)' % x.proc
         if t is Guard and x.kind == 'ptr':
             y, rs = self.guards(x)
-            return '(Guard %s %s)' % (self.d(y), listed(str(r) for r in rs))
+            return "(Guard' b %s %s)" % (self.d(y), listed(str(r) for r in rs))
         if t in (VarRef, Index, Select, Guard):
             return '(Load %s)' % self.d(x)
         if t is Unary:
@@ -252,7 +252,7 @@ class Writer:
             return "(Repeat' %s %s)" % (body, self.c(x.cond))
         if t is For:
             head = '%s %s %s' % (self.d(x.var), self.c(x.first), self.c(x.limit))
-            return "(For' %s %s %s)" % (head, integer(x.step), self.body(x.stats))
+            return "(For' b %s %s %s)" % (head, integer(x.step), self.body(x.stats))
         if t is Case:
             head = self.c(x.x)
             return "(Case' %s %s)" % (head, self.row('CasePart', ['%s %s' % (self.labels(ls), self.body(b)) for ls, b in x.arms]))
@@ -300,8 +300,8 @@ use Rattle.ob_types.specs.declared.tree.Unary.TheVariants.{Negate, Complement, N
 use Rattle.ob_types.specs.declared.tree.Binary.TheVariants.{Add, Subtract, Multiply, Div, Mod, Union, Difference, Intersection, SymmetricDifference, Subset, Superset, Lsl, Asr, Ror}
 use Rattle.ob_types.specs.declared.tree.Relation.TheVariants.{Equal, Unequal, Less, LessEqual, Greater, GreaterEqual}
 use Rattle.ob_types.specs.declared.tree.Base.TheVariants.{Done, Global, Local, Parameter, Text}
-use Rattle.ob_types.specs.declared.tree.Expr.{Expr, Literal, Routine, Load, Guard, Unary', Chain', Compare', CompareTexts', In', IsPointer', IsParameter, Byte', Length, Call', Row_of-Link, end_of-Link, more_of-Link}
-use Rattle.ob_types.specs.declared.tree.Link.{Operate, And, Or, Element, Elements}
+use Rattle.ob_types.specs.declared.tree.Expr.{Expr, Literal, Routine, Load, Guard', Unary', Chain', Compare', CompareTexts', In', IsPointer', IsParameter, Byte', Length, Call', Row_of-Link, end_of-Link, more_of-Link}
+use Rattle.ob_types.specs.declared.tree.Link.{Operate, And, Or, Element, Elements'}
 use Rattle.ob_types.specs.declared.tree.Designator.{Whole, Part', end_of-Selector, more_of-Selector}
 use Rattle.ob_types.specs.declared.tree.Selector.{Index, Field, Dereference, Narrow}
 use Rattle.ob_types.specs.declared.tree.Call.{Direct', Indirect', end_of-Argument, more_of-Argument}

@@ -18,7 +18,7 @@ ghost use Rattle.check_selectors.specs.Stages.{IsStage, IsBegun};
 ghost use Rattle.check_selectors.specs.Behind.{index_behind, parens_behind_any};
 ghost use Rattle.check_expressions.specs.Steps.{IsValue, AreGivenIn, compared_with, added_one as judged_one_added, multiplied_one as judged_one_multiplied, number_in, indexed_one as judged_index, given_by, arguments_from};
 
-use crate::links::with_link;
+use crate::links::{with_elements, with_link};
 use crate::steps::{
     as_factor, as_value, char_literal, guard_name, int_literal, joined_factors, joined_terms,
 };
@@ -275,11 +275,7 @@ fn element_in<'a>(
         None => with_link(alloc, set, Link::Element(low.into_tree())),
         Some(range) => {
             let high = number(scope, alloc, &range.expression)?;
-            with_link(
-                alloc,
-                set,
-                Link::Elements(low.into_tree(), high.into_tree()),
-            )
+            with_elements(alloc, set, low, high)
         }
     }
 }

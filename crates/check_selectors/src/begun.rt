@@ -109,12 +109,12 @@ fn object_operand<'a>(
 
 /// As an operand.
 #[inline(always)]
-pub fn operand_of<'a>(scope: &Scope<'a>, x: Begun) -> Operand
-    ensures { (a : Judgement) → IsBegun scope.now x a → Stands scope.now result a }
+pub fn operand_of<'a>(scope: &Scope<'a>, alloc: Global, x: Begun) -> Result<Operand, CheckFault>
+    ensures { (a : Judgement) → IsBegun scope.now x a → Answers (Stands scope.now) (Keeps a) result }
 {
     match x {
-        Begun::Variable(part) => operand(scope, part),
-        Begun::Value(value) => value,
+        Begun::Variable(part) => operand(scope, alloc, part),
+        Begun::Value(value) => Ok(value),
     }
 }
 
@@ -148,7 +148,7 @@ fn variable_operand<'a>(
         result }
 {
     let x = variable_read(scope, alloc, v)?;
-    Ok(operand(scope, x))
+    operand(scope, alloc, x)
 }
 
 // What is no variable, as an operand.
@@ -165,7 +165,7 @@ fn other_operand<'a>(
         result }
 {
     let x = object_operand(scope, alloc, symbol, named)?;
-    Ok(operand_of(scope, x))
+    operand_of(scope, alloc, x)
 }
 
 // A name alone, as an operand.
@@ -201,7 +201,7 @@ pub fn finished<'a>(
 {
     match stage {
         Stage::Whole(named) => named_operand(scope, alloc, symbol, named),
-        Stage::Partly(part) => Ok(operand(scope, part)),
+        Stage::Partly(part) => operand(scope, alloc, part),
         Stage::Ended(x) => Ok(x),
     }
 }

@@ -138,7 +138,8 @@ pub fn called_last<'a>(
         Answers (IsStage scope.now)
         (call_behind scope.now.source.now (world_of scope.now) (place scope.now.source.now symbol) xs a) result }
 {
-    let y = applied(scope, alloc, symbol, operand_of(scope, x), given)?;
+    let procedure = operand_of(scope, alloc, x)?;
+    let y = applied(scope, alloc, symbol, procedure, given)?;
     Ok(Stage::Ended(y))
 }
 

@@ -13,4 +13,4 @@ pub use elements::{element, followed, target};
 pub use fields::field;
 pub use guards::{guarded, tested};
 pub use part::{Part, Reach, operand, place_of};
-pub use variables::{variable_read, whole_variable};
+pub use variables::{variable_read, whole_operand};

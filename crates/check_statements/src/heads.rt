@@ -80,7 +80,7 @@ pub fn for_head<'a>(
 {
     let named = scope.named(symbol)?;
     let x = expression(scope, alloc, from)?;
-    match control_variable(scope, alloc, named) {
+    match control_variable(scope, named) {
         None => Err(scope.source.fault(31, symbol)),
         Some(variable) => counted(scope, alloc, variable, x, from, to, by),
     }

@@ -274,7 +274,15 @@ fn for_loop<'a>(scope: &Scope<'a>, alloc: Global, tree: &ForStat) -> Result<Stmt
 {
     let head = for_head(scope, alloc, tree.variable, &tree.from, &tree.to, &tree.by)?;
     let body = statements(scope, alloc, &tree.body)?;
-    Ok(for_statement(head.variable, head.first, head.limit, head.step, body))
+    let made = for_statement(
+        alloc,
+        head.variable,
+        head.first,
+        head.limit,
+        head.step,
+        body,
+    )?;
+    Ok(made)
 }
 
 /// CASE: 31 unless it is on a number, a character, or the type of a variable.

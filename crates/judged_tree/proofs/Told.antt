@@ -1,6 +1,6 @@
 -- A module, what the judgement makes of it, and the checked program, as code holds it, that is the same. Its symbols and
 -- syntax were written by bench/judged_rows.py from its text.
-use Rattle.std.specs.Prelude.{◌≡◌, ℕ, [], ◌∷◌, true, false, Some, None, pos}
+use Rattle.std.specs.Prelude.{◌≡◌, ℕ, [], ◌∷◌, true, false, Some, None, pos, Box}
 use Rattle.std.proofs.Common.{refl}
 use Rattle.ob_symbol.specs.declared.symbol.Symbol.{Symbol}
 use Rattle.ob_symbol.specs.declared.symbol.Kind.{Kind}
@@ -40,8 +40,8 @@ abbrev two : Vec (Unit {0}) Heap → Vec (Unit {0}) Heap
 two v = record { ptr = v.ptr; len = 2; cap = 2; alloc = v.alloc; items = tt ∷ tt ∷ []; ok = (refl, omega arith); small = omega arith }
 
 -- types: nothing, INTEGER, R, P, CHAR, ARRAY 3 OF CHAR
-abbrev held : Vec (Unit {0}) Heap → Held
-held v = record {
+abbrev held : Box (Unit {0}) Heap → Vec (Unit {0}) Heap → Held
+held b v = record {
   types = record {
     kinds = TheTypeKind.Nothing ∷ TheTypeKind.Int ∷ TheTypeKind.Record 0 ∷ TheTypeKind.Pointer 0 ∷ TheTypeKind.Char ∷ TheTypeKind.Array (Some 3) 4 ∷ [];
     records = record { «module» = 0; base = None; level = 0; fields = record { name = 120 ∷ []; exported = false; type_number = 1 } ∷ []; cells = 1 } ∷ [];
@@ -61,7 +61,7 @@ held v = record {
     result = 0;
     locals = [];
     texts = (98 ∷ []) ∷ [];
-    body = Assign (Part' (TheBase.Global 0 0) TheTypeKind.Int (two v) (more_of-Selector (Dereference []) (more_of-Selector (Field 0 0) end_of-Selector))) (record { form = X.Literal 7; kind = TheTypeKind.Int })
+    body = Assign (Part' b (TheBase.Global 0 0) TheTypeKind.Int (two v) (more_of-Selector (Dereference []) (more_of-Selector (Field 0 0) end_of-Selector))) (record { form = X.Literal 7; kind = TheTypeKind.Int })
         ∷ CopyArray (Whole (TheBase.Global 0 1) (TheTypeKind.Array (Some 3) 4)) (Whole (TheBase.Text 0) (TheTypeKind.Text 1)) ∷ [];
     answer = None;
   } ∷ [];
@@ -69,5 +69,5 @@ held v = record {
 }
 
 -- it has the outline of that image
-pub held_is : (v : Vec (Unit {0}) Heap) → plain_program [] (held v) ≡ outlined_program image
-held_is v = refl
+pub held_is : (b : Box (Unit {0}) Heap) (v : Vec (Unit {0}) Heap) → plain_program [] (held b v) ≡ outlined_program image
+held_is b v = refl

@@ -6,8 +6,8 @@ use Rattle.ob_types.specs.Operators.{truth}
 use Rattle.ob_types.specs.declared.types.Field.{Field as FieldOf}
 use Rattle.ob_types.specs.declared.types.Formal.{Formal as FormalOf}
 use Rattle.ob_types.specs.declared.types.RecordType.{RecordType as RecordOf}
-use Rattle.ob_types.specs.declared.tree.Expr.{Expr, Literal, Routine, Load, Guard, Unary', Chain', Compare', CompareTexts', In', IsPointer', IsParameter, Byte', Length, Call', Row_of-Link, end_of-Link, more_of-Link}
-use Rattle.ob_types.specs.declared.tree.Link.{Link, Operate, And, Or, Element, Elements}
+use Rattle.ob_types.specs.declared.tree.Expr.{Expr, Literal, Routine, Load, Guard', Unary', Chain', Compare', CompareTexts', In', IsPointer', IsParameter, Byte', Length, Call', Row_of-Link, end_of-Link, more_of-Link}
+use Rattle.ob_types.specs.declared.tree.Link.{Link, Operate, And, Or, Element, Elements'}
 use Rattle.ob_types.specs.declared.tree.Base.{Base}
 use Rattle.ob_types.specs.declared.tree.Base.TheVariants as TheBase
 use Rattle.ob_types.specs.declared.tree.Designator.{Designator, Whole, Part', Row_of-Selector, end_of-Selector, more_of-Selector}
@@ -59,7 +59,7 @@ module _ (t : Table) (texts : List (List ℕ)) where
     plain_expr (Literal n) = I.Literal n
     plain_expr (Routine f) = I.Routine f
     plain_expr (Load d) = I.Load (plain_designator d)
-    plain_expr (Guard d tags) = guarded tags (I.Load (plain_designator d))
+    plain_expr (Guard' _ d tags) = guarded tags (I.Load (plain_designator d))
     plain_expr (Unary' operator _ x) = I.Apply operator (plain_expr x)
     plain_expr (Chain' _ x _ links) = plain_links links (plain_expr x)
     plain_expr (Compare' relation _ x _ y) = I.Compare relation (plain_expr x) (plain_expr y)
@@ -81,11 +81,11 @@ module _ (t : Table) (texts : List (List ℕ)) where
     plain_link (And y) = I.And (plain_expr y)
     plain_link (Or y) = I.Or (plain_expr y)
     plain_link (Element y) = I.Element (plain_expr y)
-    plain_link (Elements y z) = I.Elements (plain_expr y) (plain_expr z)
+    plain_link (Elements' _ y _ z) = I.Elements (plain_expr y) (plain_expr z)
 
     pub plain_designator : Designator → I.Designator
     plain_designator (Whole b kind) = I.of_type (plain_base b) (shape_of_kind t kind)
-    plain_designator (Part' b kind _ selectors) = I.of_type (plain_selectors selectors (plain_base b)) (shape_of_kind t kind)
+    plain_designator (Part' _ b kind _ selectors) = I.of_type (plain_selectors selectors (plain_base b)) (shape_of_kind t kind)
 
     -- a place and what one selector after the other leads to
     pub plain_selectors : {m : _} → Row_of-Selector m → I.Place → I.Place
@@ -136,7 +136,7 @@ module _ (t : Table) (texts : List (List ℕ)) where
     plain_statement (If' _ branches _ other) = I.If (plain_branches branches) (plain_statements other)
     plain_statement (While' _ branches) = I.While (plain_branches branches)
     plain_statement (Repeat' _ body x) = I.Repeat (plain_statements body) (plain_checked x)
-    plain_statement (For' d x y step _ body) = I.For (plain_designator d) (plain_checked x) (plain_checked y) step (plain_statements body)
+    plain_statement (For' _ d x y step _ body) = I.For (plain_designator d) (plain_checked x) (plain_checked y) step (plain_statements body)
     plain_statement (Case' x _ parts) = I.Case (plain_checked x) (plain_case_parts parts)
     plain_statement (CasePointer' x _ parts) = I.CasePointer (plain_checked x) (plain_type_parts parts)
     plain_statement (CaseParameter' d _ parts) = I.CaseParameter (plain_designator d) (plain_type_parts parts)

@@ -81,7 +81,7 @@ module _ (p : Program) (ok : IsFaithful p.types) (inside : IsInside p) (at : ℕ
 
   shape_at : (d : Designator) → shape_in (set p ok inside at) as_written (plain_designator p.types texts d) ≡ shape_of_kind p.types (kind_in d)
   shape_at (Whole b kind) = refl
-  shape_at (Part' b kind v row) = refl
+  shape_at (Part' _ b kind v row) = refl
 
   byte_at : (d : Designator) → is_byte (kind_in d) ≡ is_byte_shape (shape_in (set p ok inside at) as_written (plain_designator p.types texts d))
   byte_at d = byte_is p ok inside at (kind_in d) ∙ sym (ap is_byte_shape (shape_at d))
@@ -110,7 +110,7 @@ module _ (p : Program) (ok : IsFaithful p.types) (inside : IsInside p) (at : ℕ
 
   whole_at : (d : Designator) → begins_there (plain_designator p.types texts d) ≡ true → W.is_whole d ≡ true
   whole_at (Whole b kind) h = refl
-  whole_at (Part' b kind v row) h = none_behind row (plain_base p.types texts b) h
+  whole_at (Part' _ b kind v row) h = none_behind row (plain_base p.types texts b) h
 
   -- ---- simple statements
 
@@ -189,7 +189,7 @@ module _ (p : Program) (ok : IsFaithful p.types) (inside : IsInside p) (at : ℕ
     s_statement (If' v branches u other) h = and_both (W.fine_branches p at branches) (fine_branches (set p ok inside at) as_written (plain_branches p.types texts branches)) (W.fine_row p at other) (fine_all (set p ok inside at) as_written (plain_statements p.types texts other)) (s_branches branches) (s_row other) h
     s_statement (While' v branches) h = and_both (W.has_branch branches) (has_branch (plain_branches p.types texts branches)) (W.fine_branches p at branches) (fine_branches (set p ok inside at) as_written (plain_branches p.types texts branches)) (s_has branches) (s_branches branches) h
     s_statement (Repeat' v body x) h = and_both (W.fine_row p at body) (fine_all (set p ok inside at) as_written (plain_statements p.types texts body)) (W.gives_number (W.checked_form p at x)) (gives_number (x_image x)) (s_row body) (numbers x) h
-    s_statement (For' d x y step v body) h =
+    s_statement (For' _ d x y step v body) h =
         and_both (W.is_step step) (W.is_step step) (W.is_whole d && (holds_of (W.takes p W.is_full) (W.named p at d) && (W.gives_number (W.checked_form p at x) && (W.gives_number (W.checked_form p at y) && W.fine_row p at body)))) (begins_there (plain_designator p.types texts d) && (holds_of (takes (set p ok inside at) is_full) (d_image d) && (gives_number (x_image x) && (gives_number (x_image y) && fine_all (set p ok inside at) as_written (plain_statements p.types texts body))))) (λ i. i)
         (and_both (W.is_whole d) (begins_there (plain_designator p.types texts d)) (holds_of (W.takes p W.is_full) (W.named p at d) && (W.gives_number (W.checked_form p at x) && (W.gives_number (W.checked_form p at y) && W.fine_row p at body))) (holds_of (takes (set p ok inside at) is_full) (d_image d) && (gives_number (x_image x) && (gives_number (x_image y) && fine_all (set p ok inside at) as_written (plain_statements p.types texts body)))) (whole_at d)
         (and_both (holds_of (W.takes p W.is_full) (W.named p at d)) (holds_of (takes (set p ok inside at) is_full) (d_image d)) (W.gives_number (W.checked_form p at x) && (W.gives_number (W.checked_form p at y) && W.fine_row p at body)) (gives_number (x_image x) && (gives_number (x_image y) && fine_all (set p ok inside at) as_written (plain_statements p.types texts body)))

@@ -9,8 +9,8 @@ use Rattle.ob_types.specs.declared.tree.Binary.{Binary}
 use Rattle.ob_types.specs.declared.tree.Binary.TheVariants as TheBinary
 use Rattle.ob_types.specs.declared.tree.Unary.{Unary}
 use Rattle.ob_types.specs.declared.tree.Unary.TheVariants as TheUnary
-use Rattle.ob_types.specs.declared.tree.Expr.{Expr, Literal, Routine, Load, Guard, Unary', Chain', Compare', CompareTexts', In', IsPointer', IsParameter, Byte', Length, Call', Row_of-Link, end_of-Link, more_of-Link}
-use Rattle.ob_types.specs.declared.tree.Link.{Link, Operate, And, Or, Element, Elements}
+use Rattle.ob_types.specs.declared.tree.Expr.{Expr, Literal, Routine, Load, Guard', Unary', Chain', Compare', CompareTexts', In', IsPointer', IsParameter, Byte', Length, Call', Row_of-Link, end_of-Link, more_of-Link}
+use Rattle.ob_types.specs.declared.tree.Link.{Link, Operate, And, Or, Element, Elements'}
 use Rattle.ob_types.specs.declared.tree.Base.{Base}
 use Rattle.ob_types.specs.declared.tree.Base.TheVariants as TheBase
 use Rattle.ob_types.specs.declared.tree.Designator.{Designator, Whole, Part', Row_of-Selector, end_of-Selector, more_of-Selector}
@@ -182,11 +182,11 @@ module _ (p : Program) (ok : IsFaithful p.types) (inside : IsInside p) (at : ℕ
 
   pub written_length : (d : Designator) → length_of_kind (kind_in d) ≡ length_in (set p ok inside at) as_written (plain_designator p.types texts d)
   written_length (Whole b kind) = length_is p ok inside at kind
-  written_length (Part' b kind v row) = length_is p ok inside at kind
+  written_length (Part' _ b kind v row) = length_is p ok inside at kind
 
   pub written_record : (d : Designator) → record_of_kind (kind_in d) ≡ record_written (set p ok inside at) as_written (plain_designator p.types texts d)
   written_record (Whole b kind) = record_is p ok inside at kind
-  written_record (Part' b kind v row) = record_is p ok inside at kind
+  written_record (Part' _ b kind v row) = record_is p ok inside at kind
 
   s_text : (d : Designator) → Below Names (W.named p at d) (designated (set p ok inside at) as_written (plain_designator p.types texts d))
       → holds_of (is_text (length_in (set p ok inside at) as_written (plain_designator p.types texts d))) (designated (set p ok inside at) as_written (plain_designator p.types texts d)) ≡ true → holds_of (W.is_text p (length_of_kind (kind_in d))) (W.named p at d) ≡ true
@@ -331,7 +331,7 @@ module _ (p : Program) (ok : IsFaithful p.types) (inside : IsInside p) (at : ℕ
     s_expr (Literal n) = literal_is p.types n
     s_expr (Routine f) = s_one (callable p f) (is_some ((set p ok inside at).heading f)) (F.Exactly f) (Exactly f) (heading_callable (callable p f) (formals_shape (shapes_of p.types) (procedure_of p f).formals, shape (procedure_of p f).result)) (exactly_form f)
     s_expr (Load d) = below_with Names IsOf (W.named p at d) (designated (set p ok inside at) as_written (plain_designator p.types texts d)) (W.scalar_in p) (scalar_in (set p ok inside at)) (s_designator d) (scalar_named p ok inside at)
-    s_expr (Guard d tags) = s_guarded tags (with_some (W.named p at d) (W.scalar_in p)) (I.Load (plain_designator p.types texts d))
+    s_expr (Guard' _ d tags) = s_guarded tags (with_some (W.named p at d) (W.scalar_in p)) (I.Load (plain_designator p.types texts d))
         (below_with Names IsOf (W.named p at d) (designated (set p ok inside at) as_written (plain_designator p.types texts d)) (W.scalar_in p) (scalar_in (set p ok inside at)) (s_designator d) (scalar_named p ok inside at))
     s_expr (Unary' op v x) = s_one (W.gives_number (W.form p at x)) (gives_number (formed (plain_expr p.types texts x))) (W.unary_form op) (unary_form op) (s_number (W.form p at x) (formed (plain_expr p.types texts x)) (s_expr x)) (s_unary op)
     s_expr (Chain' v x u links) = s_links links (W.form p at x) (plain_expr p.types texts x) (s_expr x)
@@ -359,12 +359,12 @@ module _ (p : Program) (ok : IsFaithful p.types) (inside : IsInside p) (at : ℕ
     s_link (And y) o x h = s_two (W.gives_truth o) (gives_truth (formed x)) (W.gives_truth (W.form p at y)) (gives_truth (formed (plain_expr p.types texts y))) F.Truth Truth (s_truth o (formed x) h) (s_truth (W.form p at y) (formed (plain_expr p.types texts y)) (s_expr y)) truth_form
     s_link (Or y) o x h = s_two (W.gives_truth o) (gives_truth (formed x)) (W.gives_truth (W.form p at y)) (gives_truth (formed (plain_expr p.types texts y))) F.Truth Truth (s_truth o (formed x) h) (s_truth (W.form p at y) (formed (plain_expr p.types texts y)) (s_expr y)) truth_form
     s_link (Element y) o x h = s_two (W.gives_number o) (gives_number (formed x)) (W.gives_number (W.form p at y)) (gives_number (formed (plain_expr p.types texts y))) F.Number Number (s_number o (formed x) h) (s_number (W.form p at y) (formed (plain_expr p.types texts y)) (s_expr y)) number_form
-    s_link (Elements y z) o x h = below_provided IsOf (W.gives_number o) (gives_number (formed x)) (provided (W.gives_number (W.form p at y)) (provided (W.gives_number (W.form p at z)) (Some F.Number))) (provided (gives_number (formed (plain_expr p.types texts y))) (provided (gives_number (formed (plain_expr p.types texts z))) (Some Number))) (s_number o (formed x) h)
+    s_link (Elements' _ y _ z) o x h = below_provided IsOf (W.gives_number o) (gives_number (formed x)) (provided (W.gives_number (W.form p at y)) (provided (W.gives_number (W.form p at z)) (Some F.Number))) (provided (gives_number (formed (plain_expr p.types texts y))) (provided (gives_number (formed (plain_expr p.types texts z))) (Some Number))) (s_number o (formed x) h)
         (λ i. s_two (W.gives_number (W.form p at y)) (gives_number (formed (plain_expr p.types texts y))) (W.gives_number (W.form p at z)) (gives_number (formed (plain_expr p.types texts z))) F.Number Number (s_number (W.form p at y) (formed (plain_expr p.types texts y)) (s_expr y)) (s_number (W.form p at z) (formed (plain_expr p.types texts z)) (s_expr z)) number_form)
 
     pub s_designator : (d : Designator) → Below Names (W.named p at d) (designated (set p ok inside at) as_written (plain_designator p.types texts d))
     s_designator (Whole b kind) = below_with Names Names (W.base_named p at b) (place (plain_base p.types texts b)) (W.of_kind p kind) (of_shape (set p ok inside at) (shape_of_kind p.types kind)) (s_base b) (of_kind_is p ok inside at kind)
-    s_designator (Part' b kind v row) = below_with Names Names (W.selected_named p at row (W.base_named p at b)) (place (plain_selectors p.types texts row (plain_base p.types texts b))) (W.of_kind p kind) (of_shape (set p ok inside at) (shape_of_kind p.types kind)) (s_selectors row (W.base_named p at b) (plain_base p.types texts b) (s_base b)) (of_kind_is p ok inside at kind)
+    s_designator (Part' _ b kind v row) = below_with Names Names (W.selected_named p at row (W.base_named p at b)) (place (plain_selectors p.types texts row (plain_base p.types texts b))) (W.of_kind p kind) (of_shape (set p ok inside at) (shape_of_kind p.types kind)) (s_selectors row (W.base_named p at b) (plain_base p.types texts b) (s_base b)) (of_kind_is p ok inside at kind)
 
     s_selectors : {m : _} → (row : Row_of-Selector m) (o : Option W.Named) (q : I.Place) → Below Names o (place q) → Below Names (W.selected_named p at row o) (place (plain_selectors p.types texts row q))
     s_selectors end_of-Selector o q h = h

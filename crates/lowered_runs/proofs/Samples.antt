@@ -143,8 +143,8 @@ module _ (b : Box (Unit {0}) Heap) (v : Vec (Unit {0}) Heap) where
       result = 1;
       locals = [];
       texts = [];
-      body = Assign (Part' (Parameter 1) Int vec1 (more_of-Selector (Field 0 0) end_of-Selector)) (record {
-        form = Chain' b (Length (Whole (Parameter 0) (Array None 0))) vec1 (more_of-Link (Operate Add (Load (Part' (Parameter 0) Int vec1 (more_of-Selector (Index None 0 (Literal 1)) end_of-Selector)))) end_of-Link);
+      body = Assign (Part' b (Parameter 1) Int vec1 (more_of-Selector (Field 0 0) end_of-Selector)) (record {
+        form = Chain' b (Length (Whole (Parameter 0) (Array None 0))) vec1 (more_of-Link (Operate Add (Load (Part' b (Parameter 0) Int vec1 (more_of-Selector (Index None 0 (Literal 1)) end_of-Selector)))) end_of-Link);
         kind = Int;
       }) ∷ [];
       answer = None;
@@ -156,10 +156,10 @@ module _ (b : Box (Unit {0}) Heap) (v : Vec (Unit {0}) Heap) where
       result = 1;
       locals = [];
       texts = [];
-      body = Assign (Part' (Global 0 0) Int vec1 (more_of-Selector (Index (Some 3) 0 (Literal 1)) end_of-Selector)) (number 4)
+      body = Assign (Part' b (Global 0 0) Int vec1 (more_of-Selector (Index (Some 3) 0 (Literal 1)) end_of-Selector)) (number 4)
           ∷ Assign add (record { form = Routine 0; kind = ProcedureOf 0 })
           ∷ Invoke (Indirect' add vec2 (more_of-Argument (ByOpen (Whole (Global 0 0) (Array (Some 3) 0))) (more_of-Argument (ByRecord (Whole (Global 0 1) (Record 0))) end_of-Argument)))
-          ∷ OutInt (record { form = Load (Part' (Global 0 1) Int vec1 (more_of-Selector (Field 0 0) end_of-Selector)); kind = Int }) (number 0) ∷ [];
+          ∷ OutInt (record { form = Load (Part' b (Global 0 1) Int vec1 (more_of-Selector (Field 0 0) end_of-Selector)); kind = Int }) (number 0) ∷ [];
       answer = None;
     } ∷ [];
     imports_in = false;

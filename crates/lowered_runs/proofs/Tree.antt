@@ -19,8 +19,8 @@ use Rattle.ob_types.specs.WellFormed.{Named as Thing, Cells, Of, OpenOf, Dynamic
 use Rattle.ob_types.specs.declared.tree.Unary.{Unary}
 use Rattle.ob_types.specs.declared.tree.Unary.TheVariants.{Negate, Complement, Not, Abs, Odd}
 use Rattle.ob_types.specs.declared.tree.Binary.TheVariants.{Add, Subtract, Union, Difference}
-use Rattle.ob_types.specs.declared.tree.Expr.{Expr, Literal, Routine, Load, Guard, Unary', Chain', Compare', CompareTexts', In', IsPointer', IsParameter, Byte', Length, Call', Row_of-Link, end_of-Link, more_of-Link}
-use Rattle.ob_types.specs.declared.tree.Link.{Link, Operate, And, Or, Element, Elements}
+use Rattle.ob_types.specs.declared.tree.Expr.{Expr, Literal, Routine, Load, Guard', Unary', Chain', Compare', CompareTexts', In', IsPointer', IsParameter, Byte', Length, Call', Row_of-Link, end_of-Link, more_of-Link}
+use Rattle.ob_types.specs.declared.tree.Link.{Link, Operate, And, Or, Element, Elements'}
 use Rattle.ob_types.specs.declared.tree.Base.{Base}
 use Rattle.ob_types.specs.declared.tree.Base.TheVariants.{Done, Global, Local, Parameter, Text}
 use Rattle.ob_types.specs.declared.tree.Designator.{Designator, Whole as Variable, Part'}
@@ -190,7 +190,7 @@ module _ (w : Whole) (l : Level) (right : Right w) (apart : Apart l) (vars : Var
   -- a designator whose address may be made is read in the same way
   at_of_whole : (d : Designator) → Lends (lent_whole d) → Lends (lent_at d)
   at_of_whole (Variable b k) h x e = no e
-  at_of_whole (Part' b k _ row) h x e = right_lends (unselected (origin b) row) (lent_selectors (origin b) row) h x e
+  at_of_whole (Part' _ b k _ row) h x e = right_lends (unselected (origin b) row) (lent_selectors (origin b) row) h x e
 
   steady : Steady w l (Given w l)
   steady = steady_given w l
@@ -394,7 +394,7 @@ module _ (w : Whole) (l : Level) (right : Right w) (apart : Apart l) (vars : Var
       let z = with_is p good (WellFormed.base_named p l.proc b) (WellFormed.of_kind p kind) n is in
       let y = provided_is p (WellFormed.has_kind p kind z.0) (Some z.0) n z.2 in
       subst Legal (some_same z.0 n y.1) (legal_base b z.0 z.1)
-  legal_named (Part' b kind _ row) n is =
+  legal_named (Part' _ b kind _ row) n is =
       let z = with_is p good (WellFormed.selected_named p l.proc row (WellFormed.base_named p l.proc b)) (WellFormed.of_kind p kind) n is in
       let y = provided_is p (WellFormed.has_kind p kind z.0) (Some z.0) n z.2 in
       let base = selected_some row (WellFormed.base_named p l.proc b) z.0 z.1 in
@@ -477,7 +477,7 @@ module _ (w : Whole) (l : Level) (right : Right w) (apart : Apart l) (vars : Var
   -- the address of a whole variable is made where it is in memory
   own_lent : (d : Designator) → Lends (lent_whole d) → (x : ℕ) → whole_of d x ≡ true → l.in_register x ≡ false
   own_lent (Variable b k) lends x e = lends x e
-  own_lent (Part' b k _ row) lends x e = left_lends (unselected (origin b) row) (lent_selectors (origin b) row) lends x e
+  own_lent (Part' _ b k _ row) lends x e = left_lends (unselected (origin b) row) (lent_selectors (origin b) row) lends x e
 
   -- an extension has its base's cells
   extended_cells : (s r : ℕ) → extends p.types s r ≡ true → length (record_forms p.types r) ≤ length (record_forms p.types s)
@@ -570,7 +570,7 @@ module _ (w : Whole) (l : Level) (right : Right w) (apart : Apart l) (vars : Var
   linked_none (more_of-Link (And y) rest) k is = linked_none rest k is
   linked_none (more_of-Link (Or y) rest) k is = linked_none rest k is
   linked_none (more_of-Link (Element y) rest) k is = linked_none rest k is
-  linked_none (more_of-Link (Elements y z) rest) k is = linked_none rest k is
+  linked_none (more_of-Link (Elements' _ y _ z) rest) k is = linked_none rest k is
 
   linked_some : {m : _} (row : Row_of-Link m) (o : Option Form) (k : Form) → WellFormed.linked_form p l.proc row o ≡ Some k → (j : Form) × (o ≡ Some j)
   linked_some row None k is = absurd (linked_none row k is)
@@ -726,7 +726,7 @@ module _ (w : Whole) (l : Level) (right : Right w) (apart : Apart l) (vars : Var
         let z = with_is p good (WellFormed.base_named p l.proc b) (WellFormed.of_kind p kind) n is in
         let y = provided_is p (WellFormed.has_kind p kind z.0) (Some z.0) n z.2 in
         subst (λ n. Follows w l 0 fuel nothing (Given w l) (DesignatorIs w l (origin b) n) (base_of p calls runs b) (based p lay mine b)) (some_same z.0 n y.1) (base_is b z.0 z.1)
-    named_is (Part' b kind _ row) n is lends =
+    named_is (Part' _ b kind _ row) n is lends =
         let z = with_is p good (WellFormed.selected_named p l.proc row (WellFormed.base_named p l.proc b)) (WellFormed.of_kind p kind) n is in
         let y = provided_is p (WellFormed.has_kind p kind z.0) (Some z.0) n z.2 in
         let base = selected_some row (WellFormed.base_named p l.proc b) z.0 z.1 in
@@ -800,7 +800,7 @@ module _ (w : Whole) (l : Level) (right : Right w) (apart : Apart l) (vars : Var
     shows_of (Literal n) k is lends = shown (follows_literal w l n (literal_few n k is))
     shows_of (Routine g) k is lends = shown (follows_routine w l g (right.callable g (provided_is p (WellFormed.callable p g) (Some (Exactly g)) k is).0))
     shows_of (Load d) k is lends = shown (variable_value d k is (λ n e. named_is d n e lends))
-    shows_of (Guard d rs) k is lends =
+    shows_of (Guard' _ d rs) k is lends =
         let a = guarded_some rs (with_some (WellFormed.named p l.proc d) (WellFormed.scalar_in p)) k is in
         shown (follows_guards rs (with_some (WellFormed.named p l.proc d) (WellFormed.scalar_in p)) k (load (designated p calls runs d)) (lower_load (home_of (named p lay mine d) (small p lay mine d))) is (variable_value d a.0 a.1 (λ n e. named_is d n e lends)))
     shows_of (Unary' op _ x) k is lends =
@@ -884,7 +884,7 @@ module _ (w : Whole) (l : Level) (right : Right w) (apart : Apart l) (vars : Var
         let b = provided_is p (gives_number (WellFormed.form p l.proc y)) (Some Number) k a.1 in
         let z = number_form (WellFormed.form p l.proc y) b.0 in
         shown (follows_element w l steady q.value (shows_of y z.0 z.1 lends).value)
-    link_shows (Elements y z) o x low k is lends q means =
+    link_shows (Elements' _ y _ z) o x low k is lends q means =
         let a = provided_is p (gives_number o) (provided (gives_number (WellFormed.form p l.proc y)) (provided (gives_number (WellFormed.form p l.proc z)) (Some Number))) k is in
         let b = provided_is p (gives_number (WellFormed.form p l.proc y)) (provided (gives_number (WellFormed.form p l.proc z)) (Some Number)) k a.1 in
         let c = provided_is p (gives_number (WellFormed.form p l.proc z)) (Some Number) k b.1 in
@@ -978,7 +978,7 @@ module _ (w : Whole) (l : Level) (right : Right w) (apart : Apart l) (vars : Var
 
   own_register : (d : Designator) (n : Thing) → WellFormed.named p l.proc d ≡ Some n → (x : ℕ) → whole_of d x ≡ true → l.in_register x ≡ true → registers p lay mine (whole_of d) x ≡ true
   own_register (Variable b kind) n is x e reg = let z = with_is p good (WellFormed.base_named p l.proc b) (WellFormed.of_kind p kind) n is in own_base b z.0 z.1 x e reg
-  own_register (Part' b kind _ row) n is x e reg = let z = with_is p good (WellFormed.selected_named p l.proc row (WellFormed.base_named p l.proc b)) (WellFormed.of_kind p kind) n is in own_part row b z.0 z.1 x e reg
+  own_register (Part' _ b kind _ row) n is x e reg = let z = with_is p good (WellFormed.selected_named p l.proc row (WellFormed.base_named p l.proc b)) (WellFormed.of_kind p kind) n is in own_part row b z.0 z.1 x e reg
 
   masked_by : (mask : Mask) (d : Designator) (n : Thing) → WellFormed.named p l.proc d ≡ Some n → Covers mask (whole_of d) → (x : ℕ) → whole_of d x ≡ true → l.in_register x ≡ true → mask x ≡ true
   masked_by mask d n is c x e reg = c x (own_register d n is x e reg)
@@ -1087,7 +1087,7 @@ module _ (w : Whole) (l : Level) (right : Right w) (apart : Apart l) (vars : Var
       let z = with_is p good (WellFormed.base_named p l.proc b) (WellFormed.of_kind p kind) n is in
       let y = provided_is p (WellFormed.has_kind p kind z.0) (Some z.0) n z.2 in
       fixed_base b z.0 f z.1 (ap (WellFormed.scalar_in p) (some_same z.0 n y.1) ∙ scalar)
-  fixed_at (Part' b kind _ row) n f h is scalar =
+  fixed_at (Part' _ b kind _ row) n f h is scalar =
       let z = with_is p good (WellFormed.selected_named p l.proc row (WellFormed.base_named p l.proc b)) (WellFormed.of_kind p kind) n is in
       let y = provided_is p (WellFormed.has_kind p kind z.0) (Some z.0) n z.2 in
       fixed_part row b z.0 f h z.1 (ap (WellFormed.scalar_in p) (some_same z.0 n y.1) ∙ scalar)
@@ -1312,7 +1312,7 @@ module _ (w : Whole) (l : Level) (right : Right w) (apart : Apart l) (vars : Var
         (λ n le tags older. s_put p done Truth (Bits n) (done_formed p good l.forms tags) refl (omega (arith, le)))
         (follows_mask w l {less = nothing} (omega arith) (λ y e. refl) (only_named w l t.0 (named_is d t.0 t.2 (at_of_whole d lends)))))
     stmt_is mask (Invoke k) fine c lends = follows_mask w l {less = nothing} (omega arith) (λ y e. refl) (call_only k fine lends)
-    stmt_is mask (For' d x y step _ body) fine c lends =
+    stmt_is mask (For' _ d x y step _ body) fine c lends =
         let y0 = and_of (WellFormed.is_step step) (WellFormed.is_whole d && (holds_of (WellFormed.takes p WellFormed.is_full) (WellFormed.named p l.proc d) && (gives_number (WellFormed.checked_form p l.proc x) && (gives_number (WellFormed.checked_form p l.proc y) && WellFormed.fine_row p l.proc body)))) fine in
         let whole = and_of (WellFormed.is_whole d) (holds_of (WellFormed.takes p WellFormed.is_full) (WellFormed.named p l.proc d) && (gives_number (WellFormed.checked_form p l.proc x) && (gives_number (WellFormed.checked_form p l.proc y) && WellFormed.fine_row p l.proc body))) y0.1 in
         let y1 = and_of (holds_of (WellFormed.takes p WellFormed.is_full) (WellFormed.named p l.proc d)) (gives_number (WellFormed.checked_form p l.proc x) && (gives_number (WellFormed.checked_form p l.proc y) && WellFormed.fine_row p l.proc body)) whole.1 in

@@ -18,8 +18,8 @@ use Rattle.ob_types.specs.Layout.{kind_of, record_cells}
 use Rattle.ob_types.specs.declared.types.TypeKind.TheVariants.{Char}
 use Rattle.ob_types.specs.declared.types.TypeKind.TheVariants.{Bool as Boolean}
 use Rattle.ob_types.specs.declared.types.Formal.{Formal}
-use Rattle.ob_types.specs.declared.tree.Expr.{Expr, Literal, Routine, Load, Guard, Unary', Chain', Compare', CompareTexts', In', IsPointer', IsParameter, Byte', Length, Call', Row_of-Link, end_of-Link, more_of-Link}
-use Rattle.ob_types.specs.declared.tree.Link.{Link, Operate, Element, Elements}
+use Rattle.ob_types.specs.declared.tree.Expr.{Expr, Literal, Routine, Load, Guard', Unary', Chain', Compare', CompareTexts', In', IsPointer', IsParameter, Byte', Length, Call', Row_of-Link, end_of-Link, more_of-Link}
+use Rattle.ob_types.specs.declared.tree.Link.{Link, Operate, Element, Elements'}
 use Rattle.ob_types.specs.declared.tree.Link.{And as AndLink, Or as OrLink}
 use Rattle.ob_types.specs.declared.tree.Base.{Base}
 use Rattle.ob_types.specs.declared.tree.Base.TheVariants.{Done, Global, Local, Parameter, Text}
@@ -71,7 +71,7 @@ module _ (p : Program) (l : Layout) (here : Here) where
     g_expr (Literal n) = g_valued (c_const n) (omega arith)
     g_expr (Routine g) = g_valued (emitted _ _) (omega arith)
     g_expr (Load d) = g_valued (c_load (c_home_of (small p l here d) (c_named d))) (omega arith)
-    g_expr (Guard d rs) = g_valued (c_all_guarded rs (place d + 1 + 1) (c_load (c_home_of (small p l here d) (c_named d)))) (omega arith)
+    g_expr (Guard' _ d rs) = g_valued (c_all_guarded rs (place d + 1 + 1) (c_load (c_home_of (small p l here d) (c_named d)))) (omega arith)
     g_expr (Unary' op _ x) = g_one op (g_expr x) (omega arith)
     g_expr (Chain' _ x _ links) = g_linked links (in_expr x) (g_expr x)
     g_expr (Compare' r _ x _ y) = record {
@@ -95,11 +95,11 @@ module _ (p : Program) (l : Layout) (here : Here) where
     g_link (AndLink y) n q = g_tested (f_and q.test (g_expr y).test) (omega arith)
     g_link (OrLink y) n q = g_tested (f_or q.test (g_expr y).test) (omega arith)
     g_link (Element y) n q = g_valued (c_with_element q.value (g_expr y).value) (omega arith)
-    g_link (Elements y z) n q = g_valued (c_with_range q.value (g_expr y).value (g_expr z).value) (omega arith)
+    g_link (Elements' _ y _ z) n q = g_valued (c_with_range q.value (g_expr y).value (g_expr z).value) (omega arith)
 
     c_named : (d : Designator) → Costs (place d) (named p l here d)
     c_named (Whole b k) = at_most (c_based b) (omega arith)
-    c_named (Part' b k _ row) = at_most (c_selected row 1 (at_most (c_based b) (omega arith))) (omega arith)
+    c_named (Part' _ b k _ row) = at_most (c_selected row 1 (at_most (c_based b) (omega arith))) (omega arith)
 
     c_selected : {m : _} (row : Row_of-Selector m) (n : ℕ) {d : Low Named} → Costs (16 * n) d → Costs (16 * (n + in_selectors row)) (selected p l here row d)
     c_selected end_of-Selector n q = at_most q (omega arith)
@@ -243,7 +243,7 @@ module _ (p : Program) (l : Layout) (here : Here) where
     c_deed (If' _ parts _ other) = at_most (c_alternatives parts (assigned_all other) (c_deeds other)) (omega arith)
     c_deed (While' _ parts) = at_most (c_loop (16 * in_branches parts) _ (guarded_rounds p l here parts) (each_round parts)) (omega arith)
     c_deed (Repeat' _ body x) = at_most (c_repeat _ (c_deeds body) (c_test x)) (omega arith)
-    c_deed (For' d x y step _ body) =
+    c_deed (For' _ d x y step _ body) =
         at_most (c_for _ (bound p l here step) (c_assign (c_home d) (c_value x)) (c_value y) (c_load (c_home d))
         (seq (c_deeds body) (λ _. c_assign (c_home d) (c_binary Add (c_load (c_home d)) (c_const (unsigned step)))))) (omega arith)
     c_deed (Case' x _ parts) =

@@ -10,8 +10,8 @@ use Rattle.ob_types.specs.declared.types.TypeKind.TheVariants.{Char}
 use Rattle.ob_types.specs.declared.types.TypeKind.TheVariants.{Bool as Boolean}
 use Rattle.ob_types.specs.declared.types.Formal.{Formal}
 use Rattle.ob_types.specs.declared.tree.Binary.TheVariants.{Add, Subtract, Union, Difference}
-use Rattle.ob_types.specs.declared.tree.Expr.{Expr, Literal, Routine, Load, Guard, Unary', Chain', Compare', CompareTexts', In', IsPointer', IsParameter, Byte', Length, Call', Row_of-Link, end_of-Link, more_of-Link}
-use Rattle.ob_types.specs.declared.tree.Link.{Link, Operate, Element, Elements}
+use Rattle.ob_types.specs.declared.tree.Expr.{Expr, Literal, Routine, Load, Guard', Unary', Chain', Compare', CompareTexts', In', IsPointer', IsParameter, Byte', Length, Call', Row_of-Link, end_of-Link, more_of-Link}
+use Rattle.ob_types.specs.declared.tree.Link.{Link, Operate, Element, Elements'}
 use Rattle.ob_types.specs.declared.tree.Link.{And as AndLink, Or as OrLink}
 use Rattle.ob_types.specs.declared.tree.Base.{Base}
 use Rattle.ob_types.specs.declared.tree.Base.TheVariants.{Done, Global, Local, Parameter, Text}
@@ -139,7 +139,7 @@ module _ (args : ℕ) (p : Program) (l : Layout) (here : Here) (small_enough : N
     g_expr (Literal n) h = g_valued args (s_const args n)
     g_expr (Routine g) h = g_valued args (emitted args _ _ refl)
     g_expr (Load d) h = g_valued args (s_load args (s_home_of args (small p l here d) (s_named d (with_is (WellFormed.named p f d) (WellFormed.scalar_in p) h))))
-    g_expr (Guard d rs) h =
+    g_expr (Guard' _ d rs) h =
         let o = with_some (WellFormed.named p f d) (WellFormed.scalar_in p) in
         g_valued args (s_all_guarded rs (s_load args (s_home_of args (small p l here d) (s_named d (with_is (WellFormed.named p f d) (WellFormed.scalar_in p) (guarded_is p f rs o h))))))
     g_expr (Unary' op _ x) h = g_one args op (g_expr x (holds_is is_number (WellFormed.form p f x) (of_provided (gives_number (WellFormed.form p f x)) (Some (WellFormed.unary_form op)) h).0))
@@ -181,11 +181,11 @@ module _ (args : ℕ) (p : Program) (l : Layout) (here : Here) (small_enough : N
     g_link (AndLink y) o h q = g_tested args (f_and args q.test (g_expr y (condition_is p f y o h)).test)
     g_link (OrLink y) o h q = g_tested args (f_or args q.test (g_expr y (condition_is p f y o h)).test)
     g_link (Element y) o h q = g_valued args (s_with_element args q.value (g_expr y (element_is p f y o h)).value)
-    g_link (Elements y z) o h q = let r = elements_are p f y z o h in g_valued args (s_with_range args q.value (g_expr y r.0).value (g_expr z r.1).value)
+    g_link (Elements' b y c z) o h q = let r = elements_are p f b y c z o h in g_valued args (s_with_range args q.value (g_expr y r.0).value (g_expr z r.1).value)
 
     s_named : (d : Designator) → Nameable d → Plainly args (named p l here d)
     s_named (Whole b k) h = s_based b
-    s_named (Part' b k _ row) h = s_selected row (WellFormed.base_named p f b) (with_is (WellFormed.selected_named p f row (WellFormed.base_named p f b)) (WellFormed.of_kind p k) h) (s_based b)
+    s_named (Part' _ b k _ row) h = s_selected row (WellFormed.base_named p f b) (with_is (WellFormed.selected_named p f row (WellFormed.base_named p f b)) (WellFormed.of_kind p k) h) (s_based b)
 
     s_selected : {m : _} (row : Row_of-Selector m) (o : Option Thing) → Is (WellFormed.selected_named p f row o) → {d : Low Named} → Plainly args d → Plainly args (selected p l here row d)
     s_selected end_of-Selector o h q = q
@@ -332,7 +332,7 @@ module _ (args : ℕ) (p : Program) (l : Layout) (here : Here) (small_enough : N
     s_deed (If' _ parts _ other) h = let a = and_of (WellFormed.fine_branches p f parts) (WellFormed.fine_row p f other) h in s_alternatives parts a.0 (assigned_all other) (s_deeds other a.1)
     s_deed (While' _ parts) h = let a = and_of (WellFormed.has_branch parts) (WellFormed.fine_branches p f parts) h in s_loop args _ (guarded_rounds p l here parts) (each_round parts a.1)
     s_deed (Repeat' _ body x) h = let a = and_of (WellFormed.fine_row p f body) (gives_number (WellFormed.checked_form p f x)) h in s_repeat args _ (s_deeds body a.0) (f_test x (number_of x a.1))
-    s_deed (For' d x y step _ body) h =
+    s_deed (For' _ d x y step _ body) h =
         let place = holds_of (WellFormed.takes p WellFormed.is_full) (WellFormed.named p f d) in
         let number = gives_number (WellFormed.checked_form p f x) in
         let limit = gives_number (WellFormed.checked_form p f y) in

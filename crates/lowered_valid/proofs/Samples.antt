@@ -61,10 +61,10 @@ module _ (b : Box (Unit {0}) Heap) (v : Vec (Unit {0}) Heap) where
   within = record { form = Chain' b (Compare' Less b i b n) vec1 (more_of-Link (And (Compare' Less b i b (Length (Whole (Parameter 0) open_kind)))) end_of-Link); kind = Boolean }
 
   abbrev element : Designator
-  element = Part' (Parameter 0) Int vec1 (more_of-Selector (Index None 0 i) end_of-Selector)
+  element = Part' b (Parameter 0) Int vec1 (more_of-Selector (Index None 0 i) end_of-Selector)
 
   abbrev field : Designator
-  field = Part' (Parameter 3) Int vec1 (more_of-Selector (Field 0 0) end_of-Selector)
+  field = Part' b (Parameter 3) Int vec1 (more_of-Selector (Field 0 0) end_of-Selector)
 
   abbrev round : Stmt
   round = While' vec1 (more_of-Branch within vec2 (more_of-Stmt (Increase total (number (Load element))) (more_of-Stmt (Increase (Whole (Local 1) Int) (number (Literal 1))) end_of-Stmt)) end_of-Branch)

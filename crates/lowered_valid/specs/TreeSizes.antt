@@ -1,8 +1,8 @@
 -- The size of a tree: how many parts it has, each as often as it is lowered.
 use Rattle.std.specs.Prelude.{ℕ, suc, ◌+◌, ◌*◌, ◌≤◌, List, [], ◌∷◌, length, Option, Some, None}
 use Rattle.ob_types.specs.declared.program.Procedure.{Procedure}
-use Rattle.ob_types.specs.declared.tree.Expr.{Expr, Literal, Routine, Load, Guard, Unary', Chain', Compare', CompareTexts', In', IsPointer', IsParameter, Byte', Length, Call', Row_of-Link, end_of-Link, more_of-Link}
-use Rattle.ob_types.specs.declared.tree.Link.{Link, Operate, And, Or, Element, Elements}
+use Rattle.ob_types.specs.declared.tree.Expr.{Expr, Literal, Routine, Load, Guard', Unary', Chain', Compare', CompareTexts', In', IsPointer', IsParameter, Byte', Length, Call', Row_of-Link, end_of-Link, more_of-Link}
+use Rattle.ob_types.specs.declared.tree.Link.{Link, Operate, And, Or, Element, Elements'}
 use Rattle.ob_types.specs.declared.tree.Designator.{Designator, Whole, Part', Row_of-Selector, end_of-Selector, more_of-Selector}
 use Rattle.ob_types.specs.declared.tree.Selector.{Selector, Index, Field, Dereference, Narrow}
 use Rattle.ob_types.specs.declared.tree.Call.{Call, Direct', Indirect', Row_of-Argument, end_of-Argument, more_of-Argument}
@@ -16,7 +16,7 @@ abbrev mutual
   in_expr (Literal n) = 1
   in_expr (Routine g) = 1
   in_expr (Load d) = suc (in_designator d)
-  in_expr (Guard d rs) = suc (in_designator d + length rs)
+  in_expr (Guard' _ d rs) = suc (in_designator d + length rs)
   in_expr (Unary' op _ x) = suc (in_expr x)
   in_expr (Chain' _ x _ links) = in_expr x + in_links links
   in_expr (Compare' r _ x _ y) = suc (in_expr x + in_expr y)
@@ -37,11 +37,11 @@ abbrev mutual
   in_link (And y) = suc (in_expr y)
   in_link (Or y) = suc (in_expr y)
   in_link (Element y) = suc (in_expr y)
-  in_link (Elements y z) = suc (in_expr y + in_expr z)
+  in_link (Elements' _ y _ z) = suc (in_expr y + in_expr z)
 
   pub in_designator : Designator → ℕ
   in_designator (Whole b k) = 1
-  in_designator (Part' b k _ selectors) = suc (in_selectors selectors)
+  in_designator (Part' _ b k _ selectors) = suc (in_selectors selectors)
 
   pub in_selectors : {m : _} → Row_of-Selector m → ℕ
   in_selectors end_of-Selector = 0
@@ -91,7 +91,7 @@ abbrev mutual
   in_statement (If' _ parts _ other) = suc (in_branches parts + in_row other)
   in_statement (While' _ parts) = suc (in_branches parts)
   in_statement (Repeat' _ body x) = suc (in_row body + in_checked x)
-  in_statement (For' d x y step _ body) = suc (4 * in_designator d + (in_checked x + (in_checked y + in_row body)))
+  in_statement (For' _ d x y step _ body) = suc (4 * in_designator d + (in_checked x + (in_checked y + in_row body)))
   in_statement (Case' x _ parts) = suc (in_checked x + in_case_parts parts)
   in_statement (CasePointer' x _ parts) = suc (in_checked x + in_type_parts parts)
   in_statement (CaseParameter' d _ parts) = suc (in_designator d + in_type_parts parts)

@@ -1,8 +1,8 @@
 -- A relation between parts of programs that each small act keeps is kept by each construct, and so by every program.
 use Rattle.ob_types.specs.Layout.{cells, record_cells, field_place, extends}
 use Rattle.ob_types.specs.Meaning.{procedure_of, kind_in, length_of_kind, element_kind, record_of_kind, is_byte, base_of, value, linked, link, designated, selected, select, called, argument, arguments, effect, effects, branches, case_parts, type_parts, effects_of, answer, received, zeroed, within, invoked, at_most, bodies}
-use Rattle.ob_types.specs.declared.tree.Expr.{Expr, Literal, Routine, Load, Guard, Unary', Chain', Compare', CompareTexts', In', IsPointer', IsParameter, Byte', Length, Call', Row_of-Link, end_of-Link, more_of-Link}
-use Rattle.ob_types.specs.declared.tree.Link.{Link, Operate, And, Or, Element, Elements}
+use Rattle.ob_types.specs.declared.tree.Expr.{Expr, Literal, Routine, Load, Guard', Unary', Chain', Compare', CompareTexts', In', IsPointer', IsParameter, Byte', Length, Call', Row_of-Link, end_of-Link, more_of-Link}
+use Rattle.ob_types.specs.declared.tree.Link.{Link, Operate, And, Or, Element, Elements'}
 use Rattle.ob_types.specs.declared.tree.Base.{Base}
 use Rattle.ob_types.specs.declared.tree.Base.TheVariants.{Done, Global, Local, Parameter, Text}
 use Rattle.ob_types.specs.declared.tree.Designator.{Designator, Whole, Part', Row_of-Selector, end_of-Selector, more_of-Selector}
@@ -317,7 +317,7 @@ module _ (S : (A : Type 0) → Act A → Act A → Type 0) (fuel fuel' : ℕ)
       r_value (Literal n) = r_give (Bits n)
       r_value (Routine g) = r_give (Code g)
       r_value (Load d) = r_load (r_designated d)
-      r_value (Guard d rs) = r_guards here.procedure (extends p.types) rs (r_load (r_designated d))
+      r_value (Guard' _ d rs) = r_guards here.procedure (extends p.types) rs (r_load (r_designated d))
       r_value (Unary' op _ x) = r_one op (r_value x)
       r_value (Chain' _ x _ links) = r_linked _ links (r_value x)
       r_value (Compare' r _ x _ y) = r_compared r (r_value x) (r_value y)
@@ -338,11 +338,11 @@ module _ (S : (A : Type 0) → Act A → Act A → Type 0) (fuel fuel' : ℕ)
       r_link (And y) q = r_both q (r_value y)
       r_link (Or y) q = r_either q (r_value y)
       r_link (Element y) q = r_with here.procedure (extends p.types) q (r_value y)
-      r_link (Elements y z) q = r_with_range here.procedure (extends p.types) q (r_value y) (r_value z)
+      r_link (Elements' _ y _ z) q = r_with_range here.procedure (extends p.types) q (r_value y) (r_value z)
 
       pub r_designated : (d : Designator) → R (designated p calls here d) (designated p calls' here d)
       r_designated (Whole b kind) = r_base b
-      r_designated (Part' b kind _ selectors) = r_selected _ selectors (r_base b)
+      r_designated (Part' _ b kind _ selectors) = r_selected _ selectors (r_base b)
 
       r_selected : (m : _) (row : Row_of-Selector m) {d d' : Act Handed} → R d d' → R (selected p calls here row d) (selected p calls' here row d')
       r_selected m end_of-Selector q = q
@@ -388,7 +388,7 @@ module _ (S : (A : Type 0) → Act A → Act A → Type 0) (fuel fuel' : ℕ)
       r_effect (If' _ parts _ other) = r_otherwise (r_branches _ parts) (r_effects _ other)
       r_effect (While' _ parts) = r_repeat (r_branches _ parts)
       r_effect (Repeat' _ body x) = r_until (r_effects _ body) (r_test (r_value x.form))
-      r_effect (For' d x y step _ body) = r_for step (r_designated d) (r_value x.form) (r_value y.form) (r_effects _ body)
+      r_effect (For' _ d x y step _ body) = r_for step (r_designated d) (r_value x.form) (r_value y.form) (r_effects _ body)
       r_effect (Case' x _ parts) = r_case here.procedure (r_value x.form) (λ v. r_case_parts v _ parts)
       r_effect (CasePointer' x _ parts) = r_type_case (r_pointer_type (r_value x.form)) (λ t. r_type_parts t _ parts)
       r_effect (CaseParameter' d _ parts) = r_type_case (r_parameter_type (r_designated d)) (λ t. r_type_parts t _ parts)

@@ -15,7 +15,7 @@ use Rattle.ob_types.specs.declared.tree.Binary.TheVariants.{Add, Subtract, Multi
 use Rattle.ob_types.specs.declared.tree.Relation.TheVariants.{Equal, Unequal, Less, Greater}
 use Rattle.ob_types.specs.declared.tree.Base.TheVariants.{Global, Local, Parameter, Text}
 use Rattle.ob_types.specs.declared.tree.Expr.{Literal, Routine, Load, Unary', Chain', Compare', CompareTexts', In', IsParameter, Byte', Length, Call', end_of-Link, more_of-Link}
-use Rattle.ob_types.specs.declared.tree.Link.{Operate, And, Or, Element, Elements}
+use Rattle.ob_types.specs.declared.tree.Link.{Operate, And, Or, Element, Elements'}
 use Rattle.ob_types.specs.declared.tree.Designator.{Whole, Part', end_of-Selector, more_of-Selector}
 use Rattle.ob_types.specs.declared.tree.Selector.{Index, Field, Dereference, Narrow}
 use Rattle.ob_types.specs.declared.tree.Call.{Direct', Indirect', end_of-Argument, more_of-Argument}
@@ -46,7 +46,7 @@ vec7 v = record { ptr = v.ptr; len = 7; cap = 7; alloc = v.alloc; items = tt ∷
 
 -- MODULE V; IMPORT Out; VAR a: ARRAY 3 OF INTEGER; i: INTEGER; PROCEDURE Set(VAR x: INTEGER; n: INTEGER); BEGIN i := 0; x := n END Set; BEGIN i := 2; Set(a[i], 7); Out.Int(a[2], 0); Out.Int(a[0], 0); Set(a[i+3], 1) END V.
 abbrev varelement : Outside Program
-varelement b v = record { types = record { kinds = (Int ∷ (Array (Some 3) 0) ∷ Nothing ∷ []); records = []; signatures = [] }; modules = (record { name = []; objects = []; variables = (1 ∷ 0 ∷ []); body = 1 } ∷ []); procedures = (record { «module» = 0; line = 1; is_body = false; formals = (record { mode = Place; variable = true; type_number = 0 } ∷ record { mode = OfValue; variable = false; type_number = 0 } ∷ []); result = 2; locals = []; texts = []; body = ((Assign (Whole (Global 0 1) Int) (record { form = (Literal 0); kind = Int })) ∷ (Assign (Whole (Parameter 0) Int) (record { form = (Load (Whole (Local 0) Int)); kind = Int })) ∷ []); answer = None } ∷ record { «module» = 0; line = 1; is_body = true; formals = []; result = 2; locals = []; texts = []; body = ((Assign (Whole (Global 0 1) Int) (record { form = (Literal 2); kind = Int })) ∷ (Invoke (Direct' 0 (vec2 v) (more_of-Argument (ByPlace (Part' (Global 0 0) Int (vec1 v) (more_of-Selector (Index (Some 3) 0 (Load (Whole (Global 0 1) Int))) end_of-Selector))) (more_of-Argument (ByValue (Literal 7)) end_of-Argument)))) ∷ (OutInt (record { form = (Load (Part' (Global 0 0) Int (vec1 v) (more_of-Selector (Index (Some 3) 0 (Literal 2)) end_of-Selector))); kind = Int }) (record { form = (Literal 0); kind = Int })) ∷ (OutInt (record { form = (Load (Part' (Global 0 0) Int (vec1 v) (more_of-Selector (Index (Some 3) 0 (Literal 0)) end_of-Selector))); kind = Int }) (record { form = (Literal 0); kind = Int })) ∷ (Invoke (Direct' 0 (vec2 v) (more_of-Argument (ByPlace (Part' (Global 0 0) Int (vec1 v) (more_of-Selector (Index (Some 3) 0 (Chain' b (Load (Whole (Global 0 1) Int)) (vec1 v) (more_of-Link (Operate Add (Literal 3)) end_of-Link))) end_of-Selector))) (more_of-Argument (ByValue (Literal 1)) end_of-Argument)))) ∷ []); answer = None } ∷ []); imports_in = false }
+varelement b v = record { types = record { kinds = (Int ∷ (Array (Some 3) 0) ∷ Nothing ∷ []); records = []; signatures = [] }; modules = (record { name = []; objects = []; variables = (1 ∷ 0 ∷ []); body = 1 } ∷ []); procedures = (record { «module» = 0; line = 1; is_body = false; formals = (record { mode = Place; variable = true; type_number = 0 } ∷ record { mode = OfValue; variable = false; type_number = 0 } ∷ []); result = 2; locals = []; texts = []; body = ((Assign (Whole (Global 0 1) Int) (record { form = (Literal 0); kind = Int })) ∷ (Assign (Whole (Parameter 0) Int) (record { form = (Load (Whole (Local 0) Int)); kind = Int })) ∷ []); answer = None } ∷ record { «module» = 0; line = 1; is_body = true; formals = []; result = 2; locals = []; texts = []; body = ((Assign (Whole (Global 0 1) Int) (record { form = (Literal 2); kind = Int })) ∷ (Invoke (Direct' 0 (vec2 v) (more_of-Argument (ByPlace (Part' b (Global 0 0) Int (vec1 v) (more_of-Selector (Index (Some 3) 0 (Load (Whole (Global 0 1) Int))) end_of-Selector))) (more_of-Argument (ByValue (Literal 7)) end_of-Argument)))) ∷ (OutInt (record { form = (Load (Part' b (Global 0 0) Int (vec1 v) (more_of-Selector (Index (Some 3) 0 (Literal 2)) end_of-Selector))); kind = Int }) (record { form = (Literal 0); kind = Int })) ∷ (OutInt (record { form = (Load (Part' b (Global 0 0) Int (vec1 v) (more_of-Selector (Index (Some 3) 0 (Literal 0)) end_of-Selector))); kind = Int }) (record { form = (Literal 0); kind = Int })) ∷ (Invoke (Direct' 0 (vec2 v) (more_of-Argument (ByPlace (Part' b (Global 0 0) Int (vec1 v) (more_of-Selector (Index (Some 3) 0 (Chain' b (Load (Whole (Global 0 1) Int)) (vec1 v) (more_of-Link (Operate Add (Literal 3)) end_of-Link))) end_of-Selector))) (more_of-Argument (ByValue (Literal 1)) end_of-Argument)))) ∷ []); answer = None } ∷ []); imports_in = false }
 
 pub varelement_20 : (b : Box (Unit {0}) Heap) (v : Vec (Unit {0}) Heap) → meaning (varelement b v) [] 20 ≡ Trapped (Kind 1 1) (55 ∷ 48 ∷ [])
 unfolding digits
@@ -70,7 +70,7 @@ factorial_22 b v = refl
 
 -- MODULE X; IMPORT Out; TYPE P = RECORD x, y: INTEGER END; Q = RECORD (P) z: INTEGER END; VAR p: P; q: Q; BEGIN q.x := 1; q.y := 2; q.z := 3; p := q; Out.Int(p.x, 0); Out.Int(p.y, 0); Out.Int(q.z, 0) END X.
 abbrev extensioncopy : Outside Program
-extensioncopy b v = record { types = record { kinds = ((RecordKind 0) ∷ (RecordKind 1) ∷ Nothing ∷ Int ∷ []); records = (record { «module» = 0; base = None; level = 0; fields = (record { name = []; exported = false; type_number = 3 } ∷ record { name = []; exported = false; type_number = 3 } ∷ []); cells = 2 } ∷ record { «module» = 0; base = (Some 0); level = 1; fields = (record { name = []; exported = false; type_number = 3 } ∷ []); cells = 3 } ∷ []); signatures = [] }; modules = (record { name = []; objects = []; variables = (0 ∷ 1 ∷ []); body = 0 } ∷ []); procedures = (record { «module» = 0; line = 1; is_body = true; formals = []; result = 2; locals = []; texts = []; body = ((Assign (Part' (Global 0 1) Int (vec1 v) (more_of-Selector (Field 0 0) end_of-Selector)) (record { form = (Literal 1); kind = Int })) ∷ (Assign (Part' (Global 0 1) Int (vec1 v) (more_of-Selector (Field 0 1) end_of-Selector)) (record { form = (Literal 2); kind = Int })) ∷ (Assign (Part' (Global 0 1) Int (vec1 v) (more_of-Selector (Field 1 0) end_of-Selector)) (record { form = (Literal 3); kind = Int })) ∷ (CopyRecord (Whole (Global 0 0) (RecordKind 0)) (Whole (Global 0 1) (RecordKind 1))) ∷ (OutInt (record { form = (Load (Part' (Global 0 0) Int (vec1 v) (more_of-Selector (Field 0 0) end_of-Selector))); kind = Int }) (record { form = (Literal 0); kind = Int })) ∷ (OutInt (record { form = (Load (Part' (Global 0 0) Int (vec1 v) (more_of-Selector (Field 0 1) end_of-Selector))); kind = Int }) (record { form = (Literal 0); kind = Int })) ∷ (OutInt (record { form = (Load (Part' (Global 0 1) Int (vec1 v) (more_of-Selector (Field 1 0) end_of-Selector))); kind = Int }) (record { form = (Literal 0); kind = Int })) ∷ []); answer = None } ∷ []); imports_in = false }
+extensioncopy b v = record { types = record { kinds = ((RecordKind 0) ∷ (RecordKind 1) ∷ Nothing ∷ Int ∷ []); records = (record { «module» = 0; base = None; level = 0; fields = (record { name = []; exported = false; type_number = 3 } ∷ record { name = []; exported = false; type_number = 3 } ∷ []); cells = 2 } ∷ record { «module» = 0; base = (Some 0); level = 1; fields = (record { name = []; exported = false; type_number = 3 } ∷ []); cells = 3 } ∷ []); signatures = [] }; modules = (record { name = []; objects = []; variables = (0 ∷ 1 ∷ []); body = 0 } ∷ []); procedures = (record { «module» = 0; line = 1; is_body = true; formals = []; result = 2; locals = []; texts = []; body = ((Assign (Part' b (Global 0 1) Int (vec1 v) (more_of-Selector (Field 0 0) end_of-Selector)) (record { form = (Literal 1); kind = Int })) ∷ (Assign (Part' b (Global 0 1) Int (vec1 v) (more_of-Selector (Field 0 1) end_of-Selector)) (record { form = (Literal 2); kind = Int })) ∷ (Assign (Part' b (Global 0 1) Int (vec1 v) (more_of-Selector (Field 1 0) end_of-Selector)) (record { form = (Literal 3); kind = Int })) ∷ (CopyRecord (Whole (Global 0 0) (RecordKind 0)) (Whole (Global 0 1) (RecordKind 1))) ∷ (OutInt (record { form = (Load (Part' b (Global 0 0) Int (vec1 v) (more_of-Selector (Field 0 0) end_of-Selector))); kind = Int }) (record { form = (Literal 0); kind = Int })) ∷ (OutInt (record { form = (Load (Part' b (Global 0 0) Int (vec1 v) (more_of-Selector (Field 0 1) end_of-Selector))); kind = Int }) (record { form = (Literal 0); kind = Int })) ∷ (OutInt (record { form = (Load (Part' b (Global 0 1) Int (vec1 v) (more_of-Selector (Field 1 0) end_of-Selector))); kind = Int }) (record { form = (Literal 0); kind = Int })) ∷ []); answer = None } ∷ []); imports_in = false }
 
 pub extensioncopy_3 : (b : Box (Unit {0}) Heap) (v : Vec (Unit {0}) Heap) → meaning (extensioncopy b v) [] 3 ≡ Ended (49 ∷ 50 ∷ 51 ∷ [])
 unfolding digits
@@ -86,7 +86,7 @@ extensioncopy_5 b v = refl
 
 -- MODULE O; IMPORT Out; TYPE A = ARRAY 3 OF INTEGER; VAR m: ARRAY 2 OF A; i: INTEGER; PROCEDURE Sum(a: ARRAY OF INTEGER): INTEGER; VAR i, s: INTEGER; BEGIN s := 0; FOR i := 0 TO LEN(a) - 1 DO s := s + a[i] END RETURN s END Sum; PROCEDURE All(VAR b: ARRAY OF A): INTEGER; VAR i, s: INTEGER; BEGIN s := 0; FOR i := 0 TO LEN(b) - 1 DO s := s + Sum(b[i]) * (i + 1) END RETURN s END All; BEGIN FOR i := 0 TO 2 DO m[1][i] := i + 1; m[0, i] := 10 END; Out.Int(All(m), 0) END O.
 abbrev openarrays : Outside Program
-openarrays b v = record { types = record { kinds = (Int ∷ (Array (Some 3) 0) ∷ (Array (Some 2) 1) ∷ (Array None 0) ∷ (Array None 1) ∷ Nothing ∷ []); records = []; signatures = [] }; modules = (record { name = []; objects = []; variables = (2 ∷ 0 ∷ []); body = 2 } ∷ []); procedures = (record { «module» = 0; line = 1; is_body = false; formals = (record { mode = OfOpen; variable = false; type_number = 3 } ∷ []); result = 0; locals = (0 ∷ 0 ∷ []); texts = []; body = ((Assign (Whole (Local 1) Int) (record { form = (Literal 0); kind = Int })) ∷ (For' (Whole (Local 0) Int) (record { form = (Literal 0); kind = Int }) (record { form = (Chain' b (Length (Whole (Parameter 0) (Array None 0))) (vec1 v) (more_of-Link (Operate Subtract (Literal 1)) end_of-Link)); kind = Int }) (pos 1) (vec1 v) (more_of-Stmt (Assign (Whole (Local 1) Int) (record { form = (Chain' b (Load (Whole (Local 1) Int)) (vec1 v) (more_of-Link (Operate Add (Load (Part' (Parameter 0) Int (vec1 v) (more_of-Selector (Index None 0 (Load (Whole (Local 0) Int))) end_of-Selector)))) end_of-Link)); kind = Int })) end_of-Stmt)) ∷ []); answer = (Some (record { form = (Load (Whole (Local 1) Int)); kind = Int })) } ∷ record { «module» = 0; line = 1; is_body = false; formals = (record { mode = OfOpen; variable = true; type_number = 4 } ∷ []); result = 0; locals = (0 ∷ 0 ∷ []); texts = []; body = ((Assign (Whole (Local 1) Int) (record { form = (Literal 0); kind = Int })) ∷ (For' (Whole (Local 0) Int) (record { form = (Literal 0); kind = Int }) (record { form = (Chain' b (Length (Whole (Parameter 0) (Array None 1))) (vec1 v) (more_of-Link (Operate Subtract (Literal 1)) end_of-Link)); kind = Int }) (pos 1) (vec1 v) (more_of-Stmt (Assign (Whole (Local 1) Int) (record { form = (Chain' b (Load (Whole (Local 1) Int)) (vec1 v) (more_of-Link (Operate Add (Chain' b (Call' b (Direct' 0 (vec1 v) (more_of-Argument (ByOpen (Part' (Parameter 0) (Array (Some 3) 0) (vec1 v) (more_of-Selector (Index None 1 (Load (Whole (Local 0) Int))) end_of-Selector))) end_of-Argument))) (vec1 v) (more_of-Link (Operate Multiply (Chain' b (Load (Whole (Local 0) Int)) (vec1 v) (more_of-Link (Operate Add (Literal 1)) end_of-Link))) end_of-Link))) end_of-Link)); kind = Int })) end_of-Stmt)) ∷ []); answer = (Some (record { form = (Load (Whole (Local 1) Int)); kind = Int })) } ∷ record { «module» = 0; line = 1; is_body = true; formals = []; result = 5; locals = []; texts = []; body = ((For' (Whole (Global 0 1) Int) (record { form = (Literal 0); kind = Int }) (record { form = (Literal 2); kind = Int }) (pos 1) (vec2 v) (more_of-Stmt (Assign (Part' (Global 0 0) Int (vec2 v) (more_of-Selector (Index (Some 2) 1 (Literal 1)) (more_of-Selector (Index (Some 3) 0 (Load (Whole (Global 0 1) Int))) end_of-Selector))) (record { form = (Chain' b (Load (Whole (Global 0 1) Int)) (vec1 v) (more_of-Link (Operate Add (Literal 1)) end_of-Link)); kind = Int })) (more_of-Stmt (Assign (Part' (Global 0 0) Int (vec2 v) (more_of-Selector (Index (Some 2) 1 (Literal 0)) (more_of-Selector (Index (Some 3) 0 (Load (Whole (Global 0 1) Int))) end_of-Selector))) (record { form = (Literal 10); kind = Int })) end_of-Stmt))) ∷ (OutInt (record { form = (Call' b (Direct' 1 (vec1 v) (more_of-Argument (ByOpen (Whole (Global 0 0) (Array (Some 2) 1))) end_of-Argument))); kind = Int }) (record { form = (Literal 0); kind = Int })) ∷ []); answer = None } ∷ []); imports_in = false }
+openarrays b v = record { types = record { kinds = (Int ∷ (Array (Some 3) 0) ∷ (Array (Some 2) 1) ∷ (Array None 0) ∷ (Array None 1) ∷ Nothing ∷ []); records = []; signatures = [] }; modules = (record { name = []; objects = []; variables = (2 ∷ 0 ∷ []); body = 2 } ∷ []); procedures = (record { «module» = 0; line = 1; is_body = false; formals = (record { mode = OfOpen; variable = false; type_number = 3 } ∷ []); result = 0; locals = (0 ∷ 0 ∷ []); texts = []; body = ((Assign (Whole (Local 1) Int) (record { form = (Literal 0); kind = Int })) ∷ (For' b (Whole (Local 0) Int) (record { form = (Literal 0); kind = Int }) (record { form = (Chain' b (Length (Whole (Parameter 0) (Array None 0))) (vec1 v) (more_of-Link (Operate Subtract (Literal 1)) end_of-Link)); kind = Int }) (pos 1) (vec1 v) (more_of-Stmt (Assign (Whole (Local 1) Int) (record { form = (Chain' b (Load (Whole (Local 1) Int)) (vec1 v) (more_of-Link (Operate Add (Load (Part' b (Parameter 0) Int (vec1 v) (more_of-Selector (Index None 0 (Load (Whole (Local 0) Int))) end_of-Selector)))) end_of-Link)); kind = Int })) end_of-Stmt)) ∷ []); answer = (Some (record { form = (Load (Whole (Local 1) Int)); kind = Int })) } ∷ record { «module» = 0; line = 1; is_body = false; formals = (record { mode = OfOpen; variable = true; type_number = 4 } ∷ []); result = 0; locals = (0 ∷ 0 ∷ []); texts = []; body = ((Assign (Whole (Local 1) Int) (record { form = (Literal 0); kind = Int })) ∷ (For' b (Whole (Local 0) Int) (record { form = (Literal 0); kind = Int }) (record { form = (Chain' b (Length (Whole (Parameter 0) (Array None 1))) (vec1 v) (more_of-Link (Operate Subtract (Literal 1)) end_of-Link)); kind = Int }) (pos 1) (vec1 v) (more_of-Stmt (Assign (Whole (Local 1) Int) (record { form = (Chain' b (Load (Whole (Local 1) Int)) (vec1 v) (more_of-Link (Operate Add (Chain' b (Call' b (Direct' 0 (vec1 v) (more_of-Argument (ByOpen (Part' b (Parameter 0) (Array (Some 3) 0) (vec1 v) (more_of-Selector (Index None 1 (Load (Whole (Local 0) Int))) end_of-Selector))) end_of-Argument))) (vec1 v) (more_of-Link (Operate Multiply (Chain' b (Load (Whole (Local 0) Int)) (vec1 v) (more_of-Link (Operate Add (Literal 1)) end_of-Link))) end_of-Link))) end_of-Link)); kind = Int })) end_of-Stmt)) ∷ []); answer = (Some (record { form = (Load (Whole (Local 1) Int)); kind = Int })) } ∷ record { «module» = 0; line = 1; is_body = true; formals = []; result = 5; locals = []; texts = []; body = ((For' b (Whole (Global 0 1) Int) (record { form = (Literal 0); kind = Int }) (record { form = (Literal 2); kind = Int }) (pos 1) (vec2 v) (more_of-Stmt (Assign (Part' b (Global 0 0) Int (vec2 v) (more_of-Selector (Index (Some 2) 1 (Literal 1)) (more_of-Selector (Index (Some 3) 0 (Load (Whole (Global 0 1) Int))) end_of-Selector))) (record { form = (Chain' b (Load (Whole (Global 0 1) Int)) (vec1 v) (more_of-Link (Operate Add (Literal 1)) end_of-Link)); kind = Int })) (more_of-Stmt (Assign (Part' b (Global 0 0) Int (vec2 v) (more_of-Selector (Index (Some 2) 1 (Literal 0)) (more_of-Selector (Index (Some 3) 0 (Load (Whole (Global 0 1) Int))) end_of-Selector))) (record { form = (Literal 10); kind = Int })) end_of-Stmt))) ∷ (OutInt (record { form = (Call' b (Direct' 1 (vec1 v) (more_of-Argument (ByOpen (Whole (Global 0 0) (Array (Some 2) 1))) end_of-Argument))); kind = Int }) (record { form = (Literal 0); kind = Int })) ∷ []); answer = None } ∷ []); imports_in = false }
 
 pub openarrays_30 : (b : Box (Unit {0}) Heap) (v : Vec (Unit {0}) Heap) → meaning (openarrays b v) [] 30 ≡ Ended (52 ∷ 50 ∷ [])
 unfolding digits
@@ -94,7 +94,7 @@ openarrays_30 b v = refl
 
 -- MODULE F; IMPORT Out; VAR i: INTEGER; BEGIN FOR i := 6 TO 0 BY -2 DO Out.Int(i, 0) END; Out.Int(i, 0) END F.
 abbrev forby : Outside Program
-forby b v = record { types = record { kinds = (Int ∷ Nothing ∷ []); records = []; signatures = [] }; modules = (record { name = []; objects = []; variables = (0 ∷ []); body = 0 } ∷ []); procedures = (record { «module» = 0; line = 1; is_body = true; formals = []; result = 1; locals = []; texts = []; body = ((For' (Whole (Global 0 0) Int) (record { form = (Literal 6); kind = Int }) (record { form = (Literal 0); kind = Int }) (negsuc 1) (vec1 v) (more_of-Stmt (OutInt (record { form = (Load (Whole (Global 0 0) Int)); kind = Int }) (record { form = (Literal 0); kind = Int })) end_of-Stmt)) ∷ (OutInt (record { form = (Load (Whole (Global 0 0) Int)); kind = Int }) (record { form = (Literal 0); kind = Int })) ∷ []); answer = None } ∷ []); imports_in = false }
+forby b v = record { types = record { kinds = (Int ∷ Nothing ∷ []); records = []; signatures = [] }; modules = (record { name = []; objects = []; variables = (0 ∷ []); body = 0 } ∷ []); procedures = (record { «module» = 0; line = 1; is_body = true; formals = []; result = 1; locals = []; texts = []; body = ((For' b (Whole (Global 0 0) Int) (record { form = (Literal 6); kind = Int }) (record { form = (Literal 0); kind = Int }) (negsuc 1) (vec1 v) (more_of-Stmt (OutInt (record { form = (Load (Whole (Global 0 0) Int)); kind = Int }) (record { form = (Literal 0); kind = Int })) end_of-Stmt)) ∷ (OutInt (record { form = (Load (Whole (Global 0 0) Int)); kind = Int }) (record { form = (Literal 0); kind = Int })) ∷ []); answer = None } ∷ []); imports_in = false }
 
 pub forby_5 : (b : Box (Unit {0}) Heap) (v : Vec (Unit {0}) Heap) → meaning (forby b v) [] 5 ≡ Ended (54 ∷ 52 ∷ 50 ∷ 48 ∷ 45 ∷ 50 ∷ [])
 unfolding digits
@@ -110,7 +110,7 @@ forby_6 b v = refl
 
 -- MODULE F; IMPORT Out; VAR i, n: INTEGER; PROCEDURE L(): INTEGER; BEGIN RETURN n + i END L; BEGIN n := 2; FOR i := 1 TO L() DO n := 0; Out.Int(i, 0) END END F.
 abbrev forlimit : Outside Program
-forlimit b v = record { types = record { kinds = (Int ∷ Nothing ∷ []); records = []; signatures = [] }; modules = (record { name = []; objects = []; variables = (0 ∷ 0 ∷ []); body = 1 } ∷ []); procedures = (record { «module» = 0; line = 1; is_body = false; formals = []; result = 0; locals = []; texts = []; body = []; answer = (Some (record { form = (Chain' b (Load (Whole (Global 0 1) Int)) (vec1 v) (more_of-Link (Operate Add (Load (Whole (Global 0 0) Int))) end_of-Link)); kind = Int })) } ∷ record { «module» = 0; line = 1; is_body = true; formals = []; result = 1; locals = []; texts = []; body = ((Assign (Whole (Global 0 1) Int) (record { form = (Literal 2); kind = Int })) ∷ (For' (Whole (Global 0 0) Int) (record { form = (Literal 1); kind = Int }) (record { form = (Call' b (Direct' 0 (vec0 v) end_of-Argument)); kind = Int }) (pos 1) (vec2 v) (more_of-Stmt (Assign (Whole (Global 0 1) Int) (record { form = (Literal 0); kind = Int })) (more_of-Stmt (OutInt (record { form = (Load (Whole (Global 0 0) Int)); kind = Int }) (record { form = (Literal 0); kind = Int })) end_of-Stmt))) ∷ []); answer = None } ∷ []); imports_in = false }
+forlimit b v = record { types = record { kinds = (Int ∷ Nothing ∷ []); records = []; signatures = [] }; modules = (record { name = []; objects = []; variables = (0 ∷ 0 ∷ []); body = 1 } ∷ []); procedures = (record { «module» = 0; line = 1; is_body = false; formals = []; result = 0; locals = []; texts = []; body = []; answer = (Some (record { form = (Chain' b (Load (Whole (Global 0 1) Int)) (vec1 v) (more_of-Link (Operate Add (Load (Whole (Global 0 0) Int))) end_of-Link)); kind = Int })) } ∷ record { «module» = 0; line = 1; is_body = true; formals = []; result = 1; locals = []; texts = []; body = ((Assign (Whole (Global 0 1) Int) (record { form = (Literal 2); kind = Int })) ∷ (For' b (Whole (Global 0 0) Int) (record { form = (Literal 1); kind = Int }) (record { form = (Call' b (Direct' 0 (vec0 v) end_of-Argument)); kind = Int }) (pos 1) (vec2 v) (more_of-Stmt (Assign (Whole (Global 0 1) Int) (record { form = (Literal 0); kind = Int })) (more_of-Stmt (OutInt (record { form = (Load (Whole (Global 0 0) Int)); kind = Int }) (record { form = (Literal 0); kind = Int })) end_of-Stmt))) ∷ []); answer = None } ∷ []); imports_in = false }
 
 pub forlimit_10 : (b : Box (Unit {0}) Heap) (v : Vec (Unit {0}) Heap) → meaning (forlimit b v) [] 10 ≡ Ended (49 ∷ 50 ∷ 51 ∷ [])
 unfolding digits
@@ -118,7 +118,7 @@ forlimit_10 b v = refl
 
 -- MODULE T; IMPORT Out; VAR a: ARRAY 8 OF CHAR; b: ARRAY 2 OF CHAR; BEGIN IF a = b THEN Out.Char(''='') END; b[0] := ''x''; b[1] := ''y''; IF b > ''xx'' THEN Out.Char(''>'') END; IF b < ''xyz'' THEN Out.Char(''<'') END; IF ''ab'' # ''ab'' THEN Out.Char(''#'') END END T.
 abbrev texts : Outside Program
-texts b v = record { types = record { kinds = (Char ∷ (Array (Some 8) 0) ∷ (Array (Some 2) 0) ∷ Nothing ∷ []); records = []; signatures = [] }; modules = (record { name = []; objects = []; variables = (1 ∷ 2 ∷ []); body = 0 } ∷ []); procedures = (record { «module» = 0; line = 1; is_body = true; formals = []; result = 3; locals = []; texts = ((120 ∷ 120 ∷ []) ∷ (120 ∷ 121 ∷ 122 ∷ []) ∷ (97 ∷ 98 ∷ []) ∷ (97 ∷ 98 ∷ []) ∷ []); body = ((If' (vec1 v) (more_of-Branch (record { form = (CompareTexts' Equal b (Whole (Global 0 0) (Array (Some 8) 0)) b (Whole (Global 0 1) (Array (Some 2) 0))); kind = BoolKind }) (vec1 v) (more_of-Stmt (OutChar (record { form = (Literal 61); kind = Char })) end_of-Stmt) end_of-Branch) (vec0 v) end_of-Stmt) ∷ (Assign (Part' (Global 0 1) Char (vec1 v) (more_of-Selector (Index (Some 2) 0 (Literal 0)) end_of-Selector)) (record { form = (Literal 120); kind = Char })) ∷ (Assign (Part' (Global 0 1) Char (vec1 v) (more_of-Selector (Index (Some 2) 0 (Literal 1)) end_of-Selector)) (record { form = (Literal 121); kind = Char })) ∷ (If' (vec1 v) (more_of-Branch (record { form = (CompareTexts' Greater b (Whole (Global 0 1) (Array (Some 2) 0)) b (Whole (Text 0) (TextKind 2))); kind = BoolKind }) (vec1 v) (more_of-Stmt (OutChar (record { form = (Literal 62); kind = Char })) end_of-Stmt) end_of-Branch) (vec0 v) end_of-Stmt) ∷ (If' (vec1 v) (more_of-Branch (record { form = (CompareTexts' Less b (Whole (Global 0 1) (Array (Some 2) 0)) b (Whole (Text 1) (TextKind 3))); kind = BoolKind }) (vec1 v) (more_of-Stmt (OutChar (record { form = (Literal 60); kind = Char })) end_of-Stmt) end_of-Branch) (vec0 v) end_of-Stmt) ∷ (If' (vec1 v) (more_of-Branch (record { form = (CompareTexts' Unequal b (Whole (Text 2) (TextKind 2)) b (Whole (Text 3) (TextKind 2))); kind = BoolKind }) (vec1 v) (more_of-Stmt (OutChar (record { form = (Literal 35); kind = Char })) end_of-Stmt) end_of-Branch) (vec0 v) end_of-Stmt) ∷ []); answer = None } ∷ []); imports_in = false }
+texts b v = record { types = record { kinds = (Char ∷ (Array (Some 8) 0) ∷ (Array (Some 2) 0) ∷ Nothing ∷ []); records = []; signatures = [] }; modules = (record { name = []; objects = []; variables = (1 ∷ 2 ∷ []); body = 0 } ∷ []); procedures = (record { «module» = 0; line = 1; is_body = true; formals = []; result = 3; locals = []; texts = ((120 ∷ 120 ∷ []) ∷ (120 ∷ 121 ∷ 122 ∷ []) ∷ (97 ∷ 98 ∷ []) ∷ (97 ∷ 98 ∷ []) ∷ []); body = ((If' (vec1 v) (more_of-Branch (record { form = (CompareTexts' Equal b (Whole (Global 0 0) (Array (Some 8) 0)) b (Whole (Global 0 1) (Array (Some 2) 0))); kind = BoolKind }) (vec1 v) (more_of-Stmt (OutChar (record { form = (Literal 61); kind = Char })) end_of-Stmt) end_of-Branch) (vec0 v) end_of-Stmt) ∷ (Assign (Part' b (Global 0 1) Char (vec1 v) (more_of-Selector (Index (Some 2) 0 (Literal 0)) end_of-Selector)) (record { form = (Literal 120); kind = Char })) ∷ (Assign (Part' b (Global 0 1) Char (vec1 v) (more_of-Selector (Index (Some 2) 0 (Literal 1)) end_of-Selector)) (record { form = (Literal 121); kind = Char })) ∷ (If' (vec1 v) (more_of-Branch (record { form = (CompareTexts' Greater b (Whole (Global 0 1) (Array (Some 2) 0)) b (Whole (Text 0) (TextKind 2))); kind = BoolKind }) (vec1 v) (more_of-Stmt (OutChar (record { form = (Literal 62); kind = Char })) end_of-Stmt) end_of-Branch) (vec0 v) end_of-Stmt) ∷ (If' (vec1 v) (more_of-Branch (record { form = (CompareTexts' Less b (Whole (Global 0 1) (Array (Some 2) 0)) b (Whole (Text 1) (TextKind 3))); kind = BoolKind }) (vec1 v) (more_of-Stmt (OutChar (record { form = (Literal 60); kind = Char })) end_of-Stmt) end_of-Branch) (vec0 v) end_of-Stmt) ∷ (If' (vec1 v) (more_of-Branch (record { form = (CompareTexts' Unequal b (Whole (Text 2) (TextKind 2)) b (Whole (Text 3) (TextKind 2))); kind = BoolKind }) (vec1 v) (more_of-Stmt (OutChar (record { form = (Literal 35); kind = Char })) end_of-Stmt) end_of-Branch) (vec0 v) end_of-Stmt) ∷ []); answer = None } ∷ []); imports_in = false }
 
 pub texts_1 : (b : Box (Unit {0}) Heap) (v : Vec (Unit {0}) Heap) → meaning (texts b v) [] 1 ≡ Going (61 ∷ [])
 unfolding digits
@@ -150,7 +150,7 @@ texts_10 b v = refl
 
 -- MODULE T; IMPORT Out; TYPE B = RECORD x: INTEGER END; E = RECORD (B) y: INTEGER END; PE = POINTER TO E; VAR b: B; e: E; p: PE; PROCEDURE Kind(VAR r: B); BEGIN CASE r OF E: Out.Char(''E''); r.y := 5; r.x := 6 | B: Out.Char(''B'') END; IF r IS E THEN Out.Int(r(E).y, 0) END END Kind; PROCEDURE Pass(VAR r: B); BEGIN Kind(r) END Pass; BEGIN Kind(b); Kind(e); Pass(e); NEW(p); Pass(p^); Out.Int(p.x, 0); Pass(b) END T.
 abbrev tags : Outside Program
-tags b v = record { types = record { kinds = ((RecordKind 0) ∷ (RecordKind 1) ∷ (PointerKind 1) ∷ Nothing ∷ Int ∷ []); records = (record { «module» = 0; base = None; level = 0; fields = (record { name = []; exported = false; type_number = 4 } ∷ []); cells = 1 } ∷ record { «module» = 0; base = (Some 0); level = 1; fields = (record { name = []; exported = false; type_number = 4 } ∷ []); cells = 2 } ∷ []); signatures = [] }; modules = (record { name = []; objects = []; variables = (0 ∷ 1 ∷ 2 ∷ []); body = 2 } ∷ []); procedures = (record { «module» = 0; line = 1; is_body = false; formals = (record { mode = OfRecord; variable = true; type_number = 0 } ∷ []); result = 3; locals = []; texts = []; body = ((CaseParameter' (Whole (Parameter 0) (RecordKind 0)) (vec2 v) (more_of-TypePart 1 (vec3 v) (more_of-Stmt (OutChar (record { form = (Literal 69); kind = Char })) (more_of-Stmt (Assign (Part' (Parameter 0) Int (vec2 v) (more_of-Selector (Narrow 1) (more_of-Selector (Field 1 0) end_of-Selector))) (record { form = (Literal 5); kind = Int })) (more_of-Stmt (Assign (Part' (Parameter 0) Int (vec2 v) (more_of-Selector (Narrow 1) (more_of-Selector (Field 0 0) end_of-Selector))) (record { form = (Literal 6); kind = Int })) end_of-Stmt))) (more_of-TypePart 0 (vec1 v) (more_of-Stmt (OutChar (record { form = (Literal 66); kind = Char })) end_of-Stmt) end_of-TypePart))) ∷ (If' (vec1 v) (more_of-Branch (record { form = (IsParameter (Whole (Parameter 0) (RecordKind 0)) 1); kind = BoolKind }) (vec1 v) (more_of-Stmt (OutInt (record { form = (Load (Part' (Parameter 0) Int (vec2 v) (more_of-Selector (Narrow 1) (more_of-Selector (Field 1 0) end_of-Selector)))); kind = Int }) (record { form = (Literal 0); kind = Int })) end_of-Stmt) end_of-Branch) (vec0 v) end_of-Stmt) ∷ []); answer = None } ∷ record { «module» = 0; line = 1; is_body = false; formals = (record { mode = OfRecord; variable = true; type_number = 0 } ∷ []); result = 3; locals = []; texts = []; body = ((Invoke (Direct' 0 (vec1 v) (more_of-Argument (ByRecord (Whole (Parameter 0) (RecordKind 0))) end_of-Argument))) ∷ []); answer = None } ∷ record { «module» = 0; line = 1; is_body = true; formals = []; result = 3; locals = []; texts = []; body = ((Invoke (Direct' 0 (vec1 v) (more_of-Argument (ByRecord (Whole (Global 0 0) (RecordKind 0))) end_of-Argument))) ∷ (Invoke (Direct' 0 (vec1 v) (more_of-Argument (ByRecord (Whole (Global 0 1) (RecordKind 1))) end_of-Argument))) ∷ (Invoke (Direct' 1 (vec1 v) (more_of-Argument (ByRecord (Whole (Global 0 1) (RecordKind 1))) end_of-Argument))) ∷ (New (Whole (Global 0 2) (PointerKind 1))) ∷ (Invoke (Direct' 1 (vec1 v) (more_of-Argument (ByRecord (Part' (Global 0 2) (RecordKind 1) (vec1 v) (more_of-Selector (Dereference []) end_of-Selector))) end_of-Argument))) ∷ (OutInt (record { form = (Load (Part' (Global 0 2) Int (vec2 v) (more_of-Selector (Dereference []) (more_of-Selector (Field 0 0) end_of-Selector)))); kind = Int }) (record { form = (Literal 0); kind = Int })) ∷ (Invoke (Direct' 1 (vec1 v) (more_of-Argument (ByRecord (Whole (Global 0 0) (RecordKind 0))) end_of-Argument))) ∷ []); answer = None } ∷ []); imports_in = false }
+tags b v = record { types = record { kinds = ((RecordKind 0) ∷ (RecordKind 1) ∷ (PointerKind 1) ∷ Nothing ∷ Int ∷ []); records = (record { «module» = 0; base = None; level = 0; fields = (record { name = []; exported = false; type_number = 4 } ∷ []); cells = 1 } ∷ record { «module» = 0; base = (Some 0); level = 1; fields = (record { name = []; exported = false; type_number = 4 } ∷ []); cells = 2 } ∷ []); signatures = [] }; modules = (record { name = []; objects = []; variables = (0 ∷ 1 ∷ 2 ∷ []); body = 2 } ∷ []); procedures = (record { «module» = 0; line = 1; is_body = false; formals = (record { mode = OfRecord; variable = true; type_number = 0 } ∷ []); result = 3; locals = []; texts = []; body = ((CaseParameter' (Whole (Parameter 0) (RecordKind 0)) (vec2 v) (more_of-TypePart 1 (vec3 v) (more_of-Stmt (OutChar (record { form = (Literal 69); kind = Char })) (more_of-Stmt (Assign (Part' b (Parameter 0) Int (vec2 v) (more_of-Selector (Narrow 1) (more_of-Selector (Field 1 0) end_of-Selector))) (record { form = (Literal 5); kind = Int })) (more_of-Stmt (Assign (Part' b (Parameter 0) Int (vec2 v) (more_of-Selector (Narrow 1) (more_of-Selector (Field 0 0) end_of-Selector))) (record { form = (Literal 6); kind = Int })) end_of-Stmt))) (more_of-TypePart 0 (vec1 v) (more_of-Stmt (OutChar (record { form = (Literal 66); kind = Char })) end_of-Stmt) end_of-TypePart))) ∷ (If' (vec1 v) (more_of-Branch (record { form = (IsParameter (Whole (Parameter 0) (RecordKind 0)) 1); kind = BoolKind }) (vec1 v) (more_of-Stmt (OutInt (record { form = (Load (Part' b (Parameter 0) Int (vec2 v) (more_of-Selector (Narrow 1) (more_of-Selector (Field 1 0) end_of-Selector)))); kind = Int }) (record { form = (Literal 0); kind = Int })) end_of-Stmt) end_of-Branch) (vec0 v) end_of-Stmt) ∷ []); answer = None } ∷ record { «module» = 0; line = 1; is_body = false; formals = (record { mode = OfRecord; variable = true; type_number = 0 } ∷ []); result = 3; locals = []; texts = []; body = ((Invoke (Direct' 0 (vec1 v) (more_of-Argument (ByRecord (Whole (Parameter 0) (RecordKind 0))) end_of-Argument))) ∷ []); answer = None } ∷ record { «module» = 0; line = 1; is_body = true; formals = []; result = 3; locals = []; texts = []; body = ((Invoke (Direct' 0 (vec1 v) (more_of-Argument (ByRecord (Whole (Global 0 0) (RecordKind 0))) end_of-Argument))) ∷ (Invoke (Direct' 0 (vec1 v) (more_of-Argument (ByRecord (Whole (Global 0 1) (RecordKind 1))) end_of-Argument))) ∷ (Invoke (Direct' 1 (vec1 v) (more_of-Argument (ByRecord (Whole (Global 0 1) (RecordKind 1))) end_of-Argument))) ∷ (New (Whole (Global 0 2) (PointerKind 1))) ∷ (Invoke (Direct' 1 (vec1 v) (more_of-Argument (ByRecord (Part' b (Global 0 2) (RecordKind 1) (vec1 v) (more_of-Selector (Dereference []) end_of-Selector))) end_of-Argument))) ∷ (OutInt (record { form = (Load (Part' b (Global 0 2) Int (vec2 v) (more_of-Selector (Dereference []) (more_of-Selector (Field 0 0) end_of-Selector)))); kind = Int }) (record { form = (Literal 0); kind = Int })) ∷ (Invoke (Direct' 1 (vec1 v) (more_of-Argument (ByRecord (Whole (Global 0 0) (RecordKind 0))) end_of-Argument))) ∷ []); answer = None } ∷ []); imports_in = false }
 
 pub tags_20 : (b : Box (Unit {0}) Heap) (v : Vec (Unit {0}) Heap) → meaning (tags b v) [] 20 ≡ Ended (66 ∷ 69 ∷ 53 ∷ 69 ∷ 53 ∷ 69 ∷ 53 ∷ 54 ∷ 66 ∷ [])
 unfolding digits
@@ -158,7 +158,7 @@ tags_20 b v = refl
 
 -- MODULE T; TYPE B = RECORD x: INTEGER END; E = RECORD (B) y: INTEGER END; VAR b: B; PROCEDURE Kind(VAR r: B); BEGIN r(E).y := 5 END Kind; BEGIN Kind(b) END T.
 abbrev tagguard : Outside Program
-tagguard b v = record { types = record { kinds = ((RecordKind 0) ∷ (RecordKind 1) ∷ Nothing ∷ Int ∷ []); records = (record { «module» = 0; base = None; level = 0; fields = (record { name = []; exported = false; type_number = 3 } ∷ []); cells = 1 } ∷ record { «module» = 0; base = (Some 0); level = 1; fields = (record { name = []; exported = false; type_number = 3 } ∷ []); cells = 2 } ∷ []); signatures = [] }; modules = (record { name = []; objects = []; variables = (0 ∷ []); body = 1 } ∷ []); procedures = (record { «module» = 0; line = 1; is_body = false; formals = (record { mode = OfRecord; variable = true; type_number = 0 } ∷ []); result = 2; locals = []; texts = []; body = ((Assign (Part' (Parameter 0) Int (vec2 v) (more_of-Selector (Narrow 1) (more_of-Selector (Field 1 0) end_of-Selector))) (record { form = (Literal 5); kind = Int })) ∷ []); answer = None } ∷ record { «module» = 0; line = 1; is_body = true; formals = []; result = 2; locals = []; texts = []; body = ((Invoke (Direct' 0 (vec1 v) (more_of-Argument (ByRecord (Whole (Global 0 0) (RecordKind 0))) end_of-Argument))) ∷ []); answer = None } ∷ []); imports_in = false }
+tagguard b v = record { types = record { kinds = ((RecordKind 0) ∷ (RecordKind 1) ∷ Nothing ∷ Int ∷ []); records = (record { «module» = 0; base = None; level = 0; fields = (record { name = []; exported = false; type_number = 3 } ∷ []); cells = 1 } ∷ record { «module» = 0; base = (Some 0); level = 1; fields = (record { name = []; exported = false; type_number = 3 } ∷ []); cells = 2 } ∷ []); signatures = [] }; modules = (record { name = []; objects = []; variables = (0 ∷ []); body = 1 } ∷ []); procedures = (record { «module» = 0; line = 1; is_body = false; formals = (record { mode = OfRecord; variable = true; type_number = 0 } ∷ []); result = 2; locals = []; texts = []; body = ((Assign (Part' b (Parameter 0) Int (vec2 v) (more_of-Selector (Narrow 1) (more_of-Selector (Field 1 0) end_of-Selector))) (record { form = (Literal 5); kind = Int })) ∷ []); answer = None } ∷ record { «module» = 0; line = 1; is_body = true; formals = []; result = 2; locals = []; texts = []; body = ((Invoke (Direct' 0 (vec1 v) (more_of-Argument (ByRecord (Whole (Global 0 0) (RecordKind 0))) end_of-Argument))) ∷ []); answer = None } ∷ []); imports_in = false }
 
 pub tagguard_20 : (b : Box (Unit {0}) Heap) (v : Vec (Unit {0}) Heap) → meaning (tagguard b v) [] 20 ≡ Trapped (Kind 3 0) []
 unfolding digits
@@ -166,7 +166,7 @@ tagguard_20 b v = refl
 
 -- MODULE P; IMPORT Out; TYPE B = POINTER TO RB; RB = RECORD x: INTEGER END; E = POINTER TO RE; RE = RECORD (RB) y: INTEGER; next: B END; VAR p: B; e: E; PROCEDURE Show(q: B); BEGIN CASE q OF E: Out.Char(''E''); q.y := 3; Show(q.next) | B: Out.Char(''B'') END END Show; BEGIN Show(p); NEW(e); e.next := e; NEW(e.next); Show(e); p := e; Out.Int(p(E).y, 0); IF p = e THEN Out.Char(''!'') END; e := NIL; p := e.next END P.
 abbrev pointercase : Outside Program
-pointercase b v = record { types = record { kinds = ((RecordKind 0) ∷ (RecordKind 1) ∷ (PointerKind 0) ∷ (PointerKind 1) ∷ Nothing ∷ Int ∷ []); records = (record { «module» = 0; base = None; level = 0; fields = (record { name = []; exported = false; type_number = 5 } ∷ []); cells = 1 } ∷ record { «module» = 0; base = (Some 0); level = 1; fields = (record { name = []; exported = false; type_number = 5 } ∷ record { name = []; exported = false; type_number = 2 } ∷ []); cells = 3 } ∷ []); signatures = [] }; modules = (record { name = []; objects = []; variables = (2 ∷ 3 ∷ []); body = 1 } ∷ []); procedures = (record { «module» = 0; line = 1; is_body = false; formals = (record { mode = OfValue; variable = false; type_number = 2 } ∷ []); result = 4; locals = []; texts = []; body = ((CasePointer' (record { form = (Load (Whole (Local 0) (PointerKind 0))); kind = (PointerKind 0) }) (vec2 v) (more_of-TypePart 1 (vec3 v) (more_of-Stmt (OutChar (record { form = (Literal 69); kind = Char })) (more_of-Stmt (Assign (Part' (Local 0) Int (vec2 v) (more_of-Selector (Dereference (1 ∷ [])) (more_of-Selector (Field 1 0) end_of-Selector))) (record { form = (Literal 3); kind = Int })) (more_of-Stmt (Invoke (Direct' 0 (vec1 v) (more_of-Argument (ByValue (Load (Part' (Local 0) (PointerKind 0) (vec2 v) (more_of-Selector (Dereference (1 ∷ [])) (more_of-Selector (Field 1 1) end_of-Selector))))) end_of-Argument))) end_of-Stmt))) (more_of-TypePart 0 (vec1 v) (more_of-Stmt (OutChar (record { form = (Literal 66); kind = Char })) end_of-Stmt) end_of-TypePart))) ∷ []); answer = None } ∷ record { «module» = 0; line = 1; is_body = true; formals = []; result = 4; locals = []; texts = []; body = ((Invoke (Direct' 0 (vec1 v) (more_of-Argument (ByValue (Load (Whole (Global 0 0) (PointerKind 0)))) end_of-Argument))) ∷ (New (Whole (Global 0 1) (PointerKind 1))) ∷ (Assign (Part' (Global 0 1) (PointerKind 0) (vec2 v) (more_of-Selector (Dereference []) (more_of-Selector (Field 1 1) end_of-Selector))) (record { form = (Load (Whole (Global 0 1) (PointerKind 1))); kind = (PointerKind 1) })) ∷ (New (Part' (Global 0 1) (PointerKind 0) (vec2 v) (more_of-Selector (Dereference []) (more_of-Selector (Field 1 1) end_of-Selector)))) ∷ (Invoke (Direct' 0 (vec1 v) (more_of-Argument (ByValue (Load (Whole (Global 0 1) (PointerKind 1)))) end_of-Argument))) ∷ (Assign (Whole (Global 0 0) (PointerKind 0)) (record { form = (Load (Whole (Global 0 1) (PointerKind 1))); kind = (PointerKind 1) })) ∷ (OutInt (record { form = (Load (Part' (Global 0 0) Int (vec2 v) (more_of-Selector (Dereference (1 ∷ [])) (more_of-Selector (Field 1 0) end_of-Selector)))); kind = Int }) (record { form = (Literal 0); kind = Int })) ∷ (If' (vec1 v) (more_of-Branch (record { form = (Compare' Equal b (Load (Whole (Global 0 0) (PointerKind 0))) b (Load (Whole (Global 0 1) (PointerKind 1)))); kind = BoolKind }) (vec1 v) (more_of-Stmt (OutChar (record { form = (Literal 33); kind = Char })) end_of-Stmt) end_of-Branch) (vec0 v) end_of-Stmt) ∷ (Assign (Whole (Global 0 1) (PointerKind 1)) (record { form = (Literal 0); kind = Nil })) ∷ (Assign (Whole (Global 0 0) (PointerKind 0)) (record { form = (Load (Part' (Global 0 1) (PointerKind 0) (vec2 v) (more_of-Selector (Dereference []) (more_of-Selector (Field 1 1) end_of-Selector)))); kind = (PointerKind 0) })) ∷ []); answer = None } ∷ []); imports_in = false }
+pointercase b v = record { types = record { kinds = ((RecordKind 0) ∷ (RecordKind 1) ∷ (PointerKind 0) ∷ (PointerKind 1) ∷ Nothing ∷ Int ∷ []); records = (record { «module» = 0; base = None; level = 0; fields = (record { name = []; exported = false; type_number = 5 } ∷ []); cells = 1 } ∷ record { «module» = 0; base = (Some 0); level = 1; fields = (record { name = []; exported = false; type_number = 5 } ∷ record { name = []; exported = false; type_number = 2 } ∷ []); cells = 3 } ∷ []); signatures = [] }; modules = (record { name = []; objects = []; variables = (2 ∷ 3 ∷ []); body = 1 } ∷ []); procedures = (record { «module» = 0; line = 1; is_body = false; formals = (record { mode = OfValue; variable = false; type_number = 2 } ∷ []); result = 4; locals = []; texts = []; body = ((CasePointer' (record { form = (Load (Whole (Local 0) (PointerKind 0))); kind = (PointerKind 0) }) (vec2 v) (more_of-TypePart 1 (vec3 v) (more_of-Stmt (OutChar (record { form = (Literal 69); kind = Char })) (more_of-Stmt (Assign (Part' b (Local 0) Int (vec2 v) (more_of-Selector (Dereference (1 ∷ [])) (more_of-Selector (Field 1 0) end_of-Selector))) (record { form = (Literal 3); kind = Int })) (more_of-Stmt (Invoke (Direct' 0 (vec1 v) (more_of-Argument (ByValue (Load (Part' b (Local 0) (PointerKind 0) (vec2 v) (more_of-Selector (Dereference (1 ∷ [])) (more_of-Selector (Field 1 1) end_of-Selector))))) end_of-Argument))) end_of-Stmt))) (more_of-TypePart 0 (vec1 v) (more_of-Stmt (OutChar (record { form = (Literal 66); kind = Char })) end_of-Stmt) end_of-TypePart))) ∷ []); answer = None } ∷ record { «module» = 0; line = 1; is_body = true; formals = []; result = 4; locals = []; texts = []; body = ((Invoke (Direct' 0 (vec1 v) (more_of-Argument (ByValue (Load (Whole (Global 0 0) (PointerKind 0)))) end_of-Argument))) ∷ (New (Whole (Global 0 1) (PointerKind 1))) ∷ (Assign (Part' b (Global 0 1) (PointerKind 0) (vec2 v) (more_of-Selector (Dereference []) (more_of-Selector (Field 1 1) end_of-Selector))) (record { form = (Load (Whole (Global 0 1) (PointerKind 1))); kind = (PointerKind 1) })) ∷ (New (Part' b (Global 0 1) (PointerKind 0) (vec2 v) (more_of-Selector (Dereference []) (more_of-Selector (Field 1 1) end_of-Selector)))) ∷ (Invoke (Direct' 0 (vec1 v) (more_of-Argument (ByValue (Load (Whole (Global 0 1) (PointerKind 1)))) end_of-Argument))) ∷ (Assign (Whole (Global 0 0) (PointerKind 0)) (record { form = (Load (Whole (Global 0 1) (PointerKind 1))); kind = (PointerKind 1) })) ∷ (OutInt (record { form = (Load (Part' b (Global 0 0) Int (vec2 v) (more_of-Selector (Dereference (1 ∷ [])) (more_of-Selector (Field 1 0) end_of-Selector)))); kind = Int }) (record { form = (Literal 0); kind = Int })) ∷ (If' (vec1 v) (more_of-Branch (record { form = (Compare' Equal b (Load (Whole (Global 0 0) (PointerKind 0))) b (Load (Whole (Global 0 1) (PointerKind 1)))); kind = BoolKind }) (vec1 v) (more_of-Stmt (OutChar (record { form = (Literal 33); kind = Char })) end_of-Stmt) end_of-Branch) (vec0 v) end_of-Stmt) ∷ (Assign (Whole (Global 0 1) (PointerKind 1)) (record { form = (Literal 0); kind = Nil })) ∷ (Assign (Whole (Global 0 0) (PointerKind 0)) (record { form = (Load (Part' b (Global 0 1) (PointerKind 0) (vec2 v) (more_of-Selector (Dereference []) (more_of-Selector (Field 1 1) end_of-Selector)))); kind = (PointerKind 0) })) ∷ []); answer = None } ∷ []); imports_in = false }
 
 pub pointercase_20 : (b : Box (Unit {0}) Heap) (v : Vec (Unit {0}) Heap) → meaning (pointercase b v) [] 20 ≡ Trapped (Kind 2 1) (69 ∷ 66 ∷ 51 ∷ 33 ∷ [])
 unfolding digits
@@ -182,7 +182,7 @@ procvars_20 b v = refl
 
 -- MODULE S; IMPORT Out; VAR s: SET; i: INTEGER; BEGIN s := {1, 3..5, 7..6}; FOR i := 0 TO 0 DO INCL(s, 63); EXCL(s, 4) END; IF s - {63} = {1, 3, 5} THEN Out.Char(''a'') END; IF {1} <= s THEN Out.Char(''b'') END; IF ~(s >= {2}) THEN Out.Char(''c'') END; Out.Int(ORD(s), 0); s := {0..i, 64 - i * 0} END S.
 abbrev setcons : Outside Program
-setcons b v = record { types = record { kinds = (SetKind ∷ Int ∷ Nothing ∷ []); records = []; signatures = [] }; modules = (record { name = []; objects = []; variables = (0 ∷ 1 ∷ []); body = 0 } ∷ []); procedures = (record { «module» = 0; line = 1; is_body = true; formals = []; result = 2; locals = []; texts = []; body = ((Assign (Whole (Global 0 0) SetKind) (record { form = (Chain' b (Literal 0) (vec3 v) (more_of-Link (Element (Literal 1)) (more_of-Link (Elements (Literal 3) (Literal 5)) (more_of-Link (Elements (Literal 7) (Literal 6)) end_of-Link)))); kind = SetKind })) ∷ (For' (Whole (Global 0 1) Int) (record { form = (Literal 0); kind = Int }) (record { form = (Literal 0); kind = Int }) (pos 1) (vec2 v) (more_of-Stmt (Include (Whole (Global 0 0) SetKind) (record { form = (Literal 63); kind = Int })) (more_of-Stmt (Exclude (Whole (Global 0 0) SetKind) (record { form = (Literal 4); kind = Int })) end_of-Stmt))) ∷ (If' (vec1 v) (more_of-Branch (record { form = (Compare' Equal b (Chain' b (Load (Whole (Global 0 0) SetKind)) (vec1 v) (more_of-Link (Operate Difference (Chain' b (Literal 0) (vec1 v) (more_of-Link (Element (Literal 63)) end_of-Link))) end_of-Link)) b (Chain' b (Literal 0) (vec3 v) (more_of-Link (Element (Literal 1)) (more_of-Link (Element (Literal 3)) (more_of-Link (Element (Literal 5)) end_of-Link))))); kind = BoolKind }) (vec1 v) (more_of-Stmt (OutChar (record { form = (Literal 97); kind = Char })) end_of-Stmt) end_of-Branch) (vec0 v) end_of-Stmt) ∷ (If' (vec1 v) (more_of-Branch (record { form = (Chain' b (Literal 0) (vec2 v) (more_of-Link (Element (Literal 1)) (more_of-Link (Operate Subset (Load (Whole (Global 0 0) SetKind))) end_of-Link))); kind = BoolKind }) (vec1 v) (more_of-Stmt (OutChar (record { form = (Literal 98); kind = Char })) end_of-Stmt) end_of-Branch) (vec0 v) end_of-Stmt) ∷ (If' (vec1 v) (more_of-Branch (record { form = (Unary' Not b (Chain' b (Load (Whole (Global 0 0) SetKind)) (vec1 v) (more_of-Link (Operate Superset (Chain' b (Literal 0) (vec1 v) (more_of-Link (Element (Literal 2)) end_of-Link))) end_of-Link))); kind = BoolKind }) (vec1 v) (more_of-Stmt (OutChar (record { form = (Literal 99); kind = Char })) end_of-Stmt) end_of-Branch) (vec0 v) end_of-Stmt) ∷ (OutInt (record { form = (Load (Whole (Global 0 0) SetKind)); kind = Int }) (record { form = (Literal 0); kind = Int })) ∷ (Assign (Whole (Global 0 0) SetKind) (record { form = (Chain' b (Literal 0) (vec2 v) (more_of-Link (Elements (Literal 0) (Load (Whole (Global 0 1) Int))) (more_of-Link (Element (Chain' b (Literal 64) (vec1 v) (more_of-Link (Operate Subtract (Chain' b (Load (Whole (Global 0 1) Int)) (vec1 v) (more_of-Link (Operate Multiply (Literal 0)) end_of-Link))) end_of-Link))) end_of-Link))); kind = SetKind })) ∷ []); answer = None } ∷ []); imports_in = false }
+setcons b v = record { types = record { kinds = (SetKind ∷ Int ∷ Nothing ∷ []); records = []; signatures = [] }; modules = (record { name = []; objects = []; variables = (0 ∷ 1 ∷ []); body = 0 } ∷ []); procedures = (record { «module» = 0; line = 1; is_body = true; formals = []; result = 2; locals = []; texts = []; body = ((Assign (Whole (Global 0 0) SetKind) (record { form = (Chain' b (Literal 0) (vec3 v) (more_of-Link (Element (Literal 1)) (more_of-Link (Elements' b (Literal 3) b (Literal 5)) (more_of-Link (Elements' b (Literal 7) b (Literal 6)) end_of-Link)))); kind = SetKind })) ∷ (For' b (Whole (Global 0 1) Int) (record { form = (Literal 0); kind = Int }) (record { form = (Literal 0); kind = Int }) (pos 1) (vec2 v) (more_of-Stmt (Include (Whole (Global 0 0) SetKind) (record { form = (Literal 63); kind = Int })) (more_of-Stmt (Exclude (Whole (Global 0 0) SetKind) (record { form = (Literal 4); kind = Int })) end_of-Stmt))) ∷ (If' (vec1 v) (more_of-Branch (record { form = (Compare' Equal b (Chain' b (Load (Whole (Global 0 0) SetKind)) (vec1 v) (more_of-Link (Operate Difference (Chain' b (Literal 0) (vec1 v) (more_of-Link (Element (Literal 63)) end_of-Link))) end_of-Link)) b (Chain' b (Literal 0) (vec3 v) (more_of-Link (Element (Literal 1)) (more_of-Link (Element (Literal 3)) (more_of-Link (Element (Literal 5)) end_of-Link))))); kind = BoolKind }) (vec1 v) (more_of-Stmt (OutChar (record { form = (Literal 97); kind = Char })) end_of-Stmt) end_of-Branch) (vec0 v) end_of-Stmt) ∷ (If' (vec1 v) (more_of-Branch (record { form = (Chain' b (Literal 0) (vec2 v) (more_of-Link (Element (Literal 1)) (more_of-Link (Operate Subset (Load (Whole (Global 0 0) SetKind))) end_of-Link))); kind = BoolKind }) (vec1 v) (more_of-Stmt (OutChar (record { form = (Literal 98); kind = Char })) end_of-Stmt) end_of-Branch) (vec0 v) end_of-Stmt) ∷ (If' (vec1 v) (more_of-Branch (record { form = (Unary' Not b (Chain' b (Load (Whole (Global 0 0) SetKind)) (vec1 v) (more_of-Link (Operate Superset (Chain' b (Literal 0) (vec1 v) (more_of-Link (Element (Literal 2)) end_of-Link))) end_of-Link))); kind = BoolKind }) (vec1 v) (more_of-Stmt (OutChar (record { form = (Literal 99); kind = Char })) end_of-Stmt) end_of-Branch) (vec0 v) end_of-Stmt) ∷ (OutInt (record { form = (Load (Whole (Global 0 0) SetKind)); kind = Int }) (record { form = (Literal 0); kind = Int })) ∷ (Assign (Whole (Global 0 0) SetKind) (record { form = (Chain' b (Literal 0) (vec2 v) (more_of-Link (Elements' b (Literal 0) b (Load (Whole (Global 0 1) Int))) (more_of-Link (Element (Chain' b (Literal 64) (vec1 v) (more_of-Link (Operate Subtract (Chain' b (Load (Whole (Global 0 1) Int)) (vec1 v) (more_of-Link (Operate Multiply (Literal 0)) end_of-Link))) end_of-Link))) end_of-Link))); kind = SetKind })) ∷ []); answer = None } ∷ []); imports_in = false }
 
 pub setcons_3 : (b : Box (Unit {0}) Heap) (v : Vec (Unit {0}) Heap) → meaning (setcons b v) [] 3 ≡ Trapped (Kind 7 0) (97 ∷ 98 ∷ 99 ∷ 45 ∷ 57 ∷ 50 ∷ 50 ∷ 51 ∷ 51 ∷ 55 ∷ 50 ∷ 48 ∷ 51 ∷ 54 ∷ 56 ∷ 53 ∷ 52 ∷ 55 ∷ 55 ∷ 53 ∷ 55 ∷ 54 ∷ 54 ∷ [])
 unfolding digits
@@ -190,7 +190,7 @@ setcons_3 b v = refl
 
 -- MODULE O; IMPORT Out; VAR g: INTEGER; a: ARRAY 2 OF INTEGER; PROCEDURE F(): INTEGER; BEGIN g := g + 10 RETURN 1 END F; BEGIN g := 1; INC(g, F()); Out.Int(g, 0); a[g - 12] := F() + g; Out.Int(a[0], 0); IF (g = 0) & (1 DIV (g - g) = 1) OR (g # 0) THEN Out.Char(''k'') END; a[2] := 1 DIV 0 END O.
 abbrev order : Outside Program
-order b v = record { types = record { kinds = (Int ∷ (Array (Some 2) 0) ∷ Nothing ∷ []); records = []; signatures = [] }; modules = (record { name = []; objects = []; variables = (0 ∷ 1 ∷ []); body = 1 } ∷ []); procedures = (record { «module» = 0; line = 1; is_body = false; formals = []; result = 0; locals = []; texts = []; body = ((Assign (Whole (Global 0 0) Int) (record { form = (Chain' b (Load (Whole (Global 0 0) Int)) (vec1 v) (more_of-Link (Operate Add (Literal 10)) end_of-Link)); kind = Int })) ∷ []); answer = (Some (record { form = (Literal 1); kind = Int })) } ∷ record { «module» = 0; line = 1; is_body = true; formals = []; result = 2; locals = []; texts = []; body = ((Assign (Whole (Global 0 0) Int) (record { form = (Literal 1); kind = Int })) ∷ (Increase (Whole (Global 0 0) Int) (record { form = (Call' b (Direct' 0 (vec0 v) end_of-Argument)); kind = Int })) ∷ (OutInt (record { form = (Load (Whole (Global 0 0) Int)); kind = Int }) (record { form = (Literal 0); kind = Int })) ∷ (Assign (Part' (Global 0 1) Int (vec1 v) (more_of-Selector (Index (Some 2) 0 (Chain' b (Load (Whole (Global 0 0) Int)) (vec1 v) (more_of-Link (Operate Subtract (Literal 12)) end_of-Link))) end_of-Selector)) (record { form = (Chain' b (Call' b (Direct' 0 (vec0 v) end_of-Argument)) (vec1 v) (more_of-Link (Operate Add (Load (Whole (Global 0 0) Int))) end_of-Link)); kind = Int })) ∷ (OutInt (record { form = (Load (Part' (Global 0 1) Int (vec1 v) (more_of-Selector (Index (Some 2) 0 (Literal 0)) end_of-Selector))); kind = Int }) (record { form = (Literal 0); kind = Int })) ∷ (If' (vec1 v) (more_of-Branch (record { form = (Chain' b (Compare' Equal b (Load (Whole (Global 0 0) Int)) b (Literal 0)) (vec2 v) (more_of-Link (And (Compare' Equal b (Chain' b (Literal 1) (vec1 v) (more_of-Link (Operate Div (Chain' b (Load (Whole (Global 0 0) Int)) (vec1 v) (more_of-Link (Operate Subtract (Load (Whole (Global 0 0) Int))) end_of-Link))) end_of-Link)) b (Literal 1))) (more_of-Link (Or (Compare' Unequal b (Load (Whole (Global 0 0) Int)) b (Literal 0))) end_of-Link))); kind = BoolKind }) (vec1 v) (more_of-Stmt (OutChar (record { form = (Literal 107); kind = Char })) end_of-Stmt) end_of-Branch) (vec0 v) end_of-Stmt) ∷ (Assign (Part' (Global 0 1) Int (vec1 v) (more_of-Selector (Index (Some 2) 0 (Literal 2)) end_of-Selector)) (record { form = (Chain' b (Literal 1) (vec1 v) (more_of-Link (Operate Div (Literal 0)) end_of-Link)); kind = Int })) ∷ []); answer = None } ∷ []); imports_in = false }
+order b v = record { types = record { kinds = (Int ∷ (Array (Some 2) 0) ∷ Nothing ∷ []); records = []; signatures = [] }; modules = (record { name = []; objects = []; variables = (0 ∷ 1 ∷ []); body = 1 } ∷ []); procedures = (record { «module» = 0; line = 1; is_body = false; formals = []; result = 0; locals = []; texts = []; body = ((Assign (Whole (Global 0 0) Int) (record { form = (Chain' b (Load (Whole (Global 0 0) Int)) (vec1 v) (more_of-Link (Operate Add (Literal 10)) end_of-Link)); kind = Int })) ∷ []); answer = (Some (record { form = (Literal 1); kind = Int })) } ∷ record { «module» = 0; line = 1; is_body = true; formals = []; result = 2; locals = []; texts = []; body = ((Assign (Whole (Global 0 0) Int) (record { form = (Literal 1); kind = Int })) ∷ (Increase (Whole (Global 0 0) Int) (record { form = (Call' b (Direct' 0 (vec0 v) end_of-Argument)); kind = Int })) ∷ (OutInt (record { form = (Load (Whole (Global 0 0) Int)); kind = Int }) (record { form = (Literal 0); kind = Int })) ∷ (Assign (Part' b (Global 0 1) Int (vec1 v) (more_of-Selector (Index (Some 2) 0 (Chain' b (Load (Whole (Global 0 0) Int)) (vec1 v) (more_of-Link (Operate Subtract (Literal 12)) end_of-Link))) end_of-Selector)) (record { form = (Chain' b (Call' b (Direct' 0 (vec0 v) end_of-Argument)) (vec1 v) (more_of-Link (Operate Add (Load (Whole (Global 0 0) Int))) end_of-Link)); kind = Int })) ∷ (OutInt (record { form = (Load (Part' b (Global 0 1) Int (vec1 v) (more_of-Selector (Index (Some 2) 0 (Literal 0)) end_of-Selector))); kind = Int }) (record { form = (Literal 0); kind = Int })) ∷ (If' (vec1 v) (more_of-Branch (record { form = (Chain' b (Compare' Equal b (Load (Whole (Global 0 0) Int)) b (Literal 0)) (vec2 v) (more_of-Link (And (Compare' Equal b (Chain' b (Literal 1) (vec1 v) (more_of-Link (Operate Div (Chain' b (Load (Whole (Global 0 0) Int)) (vec1 v) (more_of-Link (Operate Subtract (Load (Whole (Global 0 0) Int))) end_of-Link))) end_of-Link)) b (Literal 1))) (more_of-Link (Or (Compare' Unequal b (Load (Whole (Global 0 0) Int)) b (Literal 0))) end_of-Link))); kind = BoolKind }) (vec1 v) (more_of-Stmt (OutChar (record { form = (Literal 107); kind = Char })) end_of-Stmt) end_of-Branch) (vec0 v) end_of-Stmt) ∷ (Assign (Part' b (Global 0 1) Int (vec1 v) (more_of-Selector (Index (Some 2) 0 (Literal 2)) end_of-Selector)) (record { form = (Chain' b (Literal 1) (vec1 v) (more_of-Link (Operate Div (Literal 0)) end_of-Link)); kind = Int })) ∷ []); answer = None } ∷ []); imports_in = false }
 
 pub order_20 : (b : Box (Unit {0}) Heap) (v : Vec (Unit {0}) Heap) → meaning (order b v) [] 20 ≡ Trapped (Kind 1 1) (49 ∷ 50 ∷ 50 ∷ 51 ∷ 107 ∷ [])
 unfolding digits
@@ -206,7 +206,7 @@ byteinc_3 b v = refl
 
 -- MODULE R; IMPORT Out; TYPE N = POINTER TO R; R = RECORD v: INTEGER; l, r: N END; VAR t: N; PROCEDURE Add(VAR t: N; v: INTEGER); BEGIN IF t = NIL THEN NEW(t); t.v := v ELSIF v < t.v THEN Add(t.l, v) ELSE Add(t.r, v) END END Add; PROCEDURE Walk(t: N); BEGIN IF t # NIL THEN Walk(t.l); Out.Int(t.v, 2); Walk(t.r) END END Walk; BEGIN Add(t, 5); Add(t, 2); Add(t, 8); Add(t, 6); Walk(t) END R.
 abbrev recdeep : Outside Program
-recdeep b v = record { types = record { kinds = ((RecordKind 0) ∷ (PointerKind 0) ∷ Int ∷ Nothing ∷ []); records = (record { «module» = 0; base = None; level = 0; fields = (record { name = []; exported = false; type_number = 2 } ∷ record { name = []; exported = false; type_number = 1 } ∷ record { name = []; exported = false; type_number = 1 } ∷ []); cells = 3 } ∷ []); signatures = [] }; modules = (record { name = []; objects = []; variables = (1 ∷ []); body = 2 } ∷ []); procedures = (record { «module» = 0; line = 1; is_body = false; formals = (record { mode = Place; variable = true; type_number = 1 } ∷ record { mode = OfValue; variable = false; type_number = 2 } ∷ []); result = 3; locals = []; texts = []; body = ((If' (vec2 v) (more_of-Branch (record { form = (Compare' Equal b (Load (Whole (Parameter 0) (PointerKind 0))) b (Literal 0)); kind = BoolKind }) (vec2 v) (more_of-Stmt (New (Whole (Parameter 0) (PointerKind 0))) (more_of-Stmt (Assign (Part' (Parameter 0) Int (vec2 v) (more_of-Selector (Dereference []) (more_of-Selector (Field 0 0) end_of-Selector))) (record { form = (Load (Whole (Local 0) Int)); kind = Int })) end_of-Stmt)) (more_of-Branch (record { form = (Compare' Less b (Load (Whole (Local 0) Int)) b (Load (Part' (Parameter 0) Int (vec2 v) (more_of-Selector (Dereference []) (more_of-Selector (Field 0 0) end_of-Selector))))); kind = BoolKind }) (vec1 v) (more_of-Stmt (Invoke (Direct' 0 (vec2 v) (more_of-Argument (ByPlace (Part' (Parameter 0) (PointerKind 0) (vec2 v) (more_of-Selector (Dereference []) (more_of-Selector (Field 0 1) end_of-Selector)))) (more_of-Argument (ByValue (Load (Whole (Local 0) Int))) end_of-Argument)))) end_of-Stmt) end_of-Branch)) (vec1 v) (more_of-Stmt (Invoke (Direct' 0 (vec2 v) (more_of-Argument (ByPlace (Part' (Parameter 0) (PointerKind 0) (vec2 v) (more_of-Selector (Dereference []) (more_of-Selector (Field 0 2) end_of-Selector)))) (more_of-Argument (ByValue (Load (Whole (Local 0) Int))) end_of-Argument)))) end_of-Stmt)) ∷ []); answer = None } ∷ record { «module» = 0; line = 1; is_body = false; formals = (record { mode = OfValue; variable = false; type_number = 1 } ∷ []); result = 3; locals = []; texts = []; body = ((If' (vec1 v) (more_of-Branch (record { form = (Compare' Unequal b (Load (Whole (Local 0) (PointerKind 0))) b (Literal 0)); kind = BoolKind }) (vec3 v) (more_of-Stmt (Invoke (Direct' 1 (vec1 v) (more_of-Argument (ByValue (Load (Part' (Local 0) (PointerKind 0) (vec2 v) (more_of-Selector (Dereference []) (more_of-Selector (Field 0 1) end_of-Selector))))) end_of-Argument))) (more_of-Stmt (OutInt (record { form = (Load (Part' (Local 0) Int (vec2 v) (more_of-Selector (Dereference []) (more_of-Selector (Field 0 0) end_of-Selector)))); kind = Int }) (record { form = (Literal 2); kind = Int })) (more_of-Stmt (Invoke (Direct' 1 (vec1 v) (more_of-Argument (ByValue (Load (Part' (Local 0) (PointerKind 0) (vec2 v) (more_of-Selector (Dereference []) (more_of-Selector (Field 0 2) end_of-Selector))))) end_of-Argument))) end_of-Stmt))) end_of-Branch) (vec0 v) end_of-Stmt) ∷ []); answer = None } ∷ record { «module» = 0; line = 1; is_body = true; formals = []; result = 3; locals = []; texts = []; body = ((Invoke (Direct' 0 (vec2 v) (more_of-Argument (ByPlace (Whole (Global 0 0) (PointerKind 0))) (more_of-Argument (ByValue (Literal 5)) end_of-Argument)))) ∷ (Invoke (Direct' 0 (vec2 v) (more_of-Argument (ByPlace (Whole (Global 0 0) (PointerKind 0))) (more_of-Argument (ByValue (Literal 2)) end_of-Argument)))) ∷ (Invoke (Direct' 0 (vec2 v) (more_of-Argument (ByPlace (Whole (Global 0 0) (PointerKind 0))) (more_of-Argument (ByValue (Literal 8)) end_of-Argument)))) ∷ (Invoke (Direct' 0 (vec2 v) (more_of-Argument (ByPlace (Whole (Global 0 0) (PointerKind 0))) (more_of-Argument (ByValue (Literal 6)) end_of-Argument)))) ∷ (Invoke (Direct' 1 (vec1 v) (more_of-Argument (ByValue (Load (Whole (Global 0 0) (PointerKind 0)))) end_of-Argument))) ∷ []); answer = None } ∷ []); imports_in = false }
+recdeep b v = record { types = record { kinds = ((RecordKind 0) ∷ (PointerKind 0) ∷ Int ∷ Nothing ∷ []); records = (record { «module» = 0; base = None; level = 0; fields = (record { name = []; exported = false; type_number = 2 } ∷ record { name = []; exported = false; type_number = 1 } ∷ record { name = []; exported = false; type_number = 1 } ∷ []); cells = 3 } ∷ []); signatures = [] }; modules = (record { name = []; objects = []; variables = (1 ∷ []); body = 2 } ∷ []); procedures = (record { «module» = 0; line = 1; is_body = false; formals = (record { mode = Place; variable = true; type_number = 1 } ∷ record { mode = OfValue; variable = false; type_number = 2 } ∷ []); result = 3; locals = []; texts = []; body = ((If' (vec2 v) (more_of-Branch (record { form = (Compare' Equal b (Load (Whole (Parameter 0) (PointerKind 0))) b (Literal 0)); kind = BoolKind }) (vec2 v) (more_of-Stmt (New (Whole (Parameter 0) (PointerKind 0))) (more_of-Stmt (Assign (Part' b (Parameter 0) Int (vec2 v) (more_of-Selector (Dereference []) (more_of-Selector (Field 0 0) end_of-Selector))) (record { form = (Load (Whole (Local 0) Int)); kind = Int })) end_of-Stmt)) (more_of-Branch (record { form = (Compare' Less b (Load (Whole (Local 0) Int)) b (Load (Part' b (Parameter 0) Int (vec2 v) (more_of-Selector (Dereference []) (more_of-Selector (Field 0 0) end_of-Selector))))); kind = BoolKind }) (vec1 v) (more_of-Stmt (Invoke (Direct' 0 (vec2 v) (more_of-Argument (ByPlace (Part' b (Parameter 0) (PointerKind 0) (vec2 v) (more_of-Selector (Dereference []) (more_of-Selector (Field 0 1) end_of-Selector)))) (more_of-Argument (ByValue (Load (Whole (Local 0) Int))) end_of-Argument)))) end_of-Stmt) end_of-Branch)) (vec1 v) (more_of-Stmt (Invoke (Direct' 0 (vec2 v) (more_of-Argument (ByPlace (Part' b (Parameter 0) (PointerKind 0) (vec2 v) (more_of-Selector (Dereference []) (more_of-Selector (Field 0 2) end_of-Selector)))) (more_of-Argument (ByValue (Load (Whole (Local 0) Int))) end_of-Argument)))) end_of-Stmt)) ∷ []); answer = None } ∷ record { «module» = 0; line = 1; is_body = false; formals = (record { mode = OfValue; variable = false; type_number = 1 } ∷ []); result = 3; locals = []; texts = []; body = ((If' (vec1 v) (more_of-Branch (record { form = (Compare' Unequal b (Load (Whole (Local 0) (PointerKind 0))) b (Literal 0)); kind = BoolKind }) (vec3 v) (more_of-Stmt (Invoke (Direct' 1 (vec1 v) (more_of-Argument (ByValue (Load (Part' b (Local 0) (PointerKind 0) (vec2 v) (more_of-Selector (Dereference []) (more_of-Selector (Field 0 1) end_of-Selector))))) end_of-Argument))) (more_of-Stmt (OutInt (record { form = (Load (Part' b (Local 0) Int (vec2 v) (more_of-Selector (Dereference []) (more_of-Selector (Field 0 0) end_of-Selector)))); kind = Int }) (record { form = (Literal 2); kind = Int })) (more_of-Stmt (Invoke (Direct' 1 (vec1 v) (more_of-Argument (ByValue (Load (Part' b (Local 0) (PointerKind 0) (vec2 v) (more_of-Selector (Dereference []) (more_of-Selector (Field 0 2) end_of-Selector))))) end_of-Argument))) end_of-Stmt))) end_of-Branch) (vec0 v) end_of-Stmt) ∷ []); answer = None } ∷ record { «module» = 0; line = 1; is_body = true; formals = []; result = 3; locals = []; texts = []; body = ((Invoke (Direct' 0 (vec2 v) (more_of-Argument (ByPlace (Whole (Global 0 0) (PointerKind 0))) (more_of-Argument (ByValue (Literal 5)) end_of-Argument)))) ∷ (Invoke (Direct' 0 (vec2 v) (more_of-Argument (ByPlace (Whole (Global 0 0) (PointerKind 0))) (more_of-Argument (ByValue (Literal 2)) end_of-Argument)))) ∷ (Invoke (Direct' 0 (vec2 v) (more_of-Argument (ByPlace (Whole (Global 0 0) (PointerKind 0))) (more_of-Argument (ByValue (Literal 8)) end_of-Argument)))) ∷ (Invoke (Direct' 0 (vec2 v) (more_of-Argument (ByPlace (Whole (Global 0 0) (PointerKind 0))) (more_of-Argument (ByValue (Literal 6)) end_of-Argument)))) ∷ (Invoke (Direct' 1 (vec1 v) (more_of-Argument (ByValue (Load (Whole (Global 0 0) (PointerKind 0)))) end_of-Argument))) ∷ []); answer = None } ∷ []); imports_in = false }
 
 pub recdeep_40 : (b : Box (Unit {0}) Heap) (v : Vec (Unit {0}) Heap) → meaning (recdeep b v) [] 40 ≡ Ended (32 ∷ 50 ∷ 32 ∷ 53 ∷ 32 ∷ 54 ∷ 32 ∷ 56 ∷ [])
 unfolding digits
@@ -214,7 +214,7 @@ recdeep_40 b v = refl
 
 -- MODULE Z; IMPORT Out; PROCEDURE P; VAR i: INTEGER; a: ARRAY 3 OF CHAR; BEGIN Out.Char(''p''); a[i] := ''q''; Out.String(a) END P; BEGIN Out.Char(''(''); P; Out.Char('')'') END Z.
 abbrev localzero : Outside Program
-localzero b v = record { types = record { kinds = (Char ∷ Nothing ∷ Int ∷ (Array (Some 3) 0) ∷ []); records = []; signatures = [] }; modules = (record { name = []; objects = []; variables = []; body = 1 } ∷ []); procedures = (record { «module» = 0; line = 1; is_body = false; formals = []; result = 1; locals = (2 ∷ 3 ∷ []); texts = []; body = ((OutChar (record { form = (Literal 112); kind = Char })) ∷ (Assign (Part' (Local 1) Char (vec1 v) (more_of-Selector (Index (Some 3) 0 (Load (Whole (Local 0) Int))) end_of-Selector)) (record { form = (Literal 113); kind = Char })) ∷ (OutString (Whole (Local 1) (Array (Some 3) 0))) ∷ []); answer = None } ∷ record { «module» = 0; line = 1; is_body = true; formals = []; result = 1; locals = []; texts = []; body = ((OutChar (record { form = (Literal 40); kind = Char })) ∷ (Invoke (Direct' 0 (vec0 v) end_of-Argument)) ∷ (OutChar (record { form = (Literal 41); kind = Char })) ∷ []); answer = None } ∷ []); imports_in = false }
+localzero b v = record { types = record { kinds = (Char ∷ Nothing ∷ Int ∷ (Array (Some 3) 0) ∷ []); records = []; signatures = [] }; modules = (record { name = []; objects = []; variables = []; body = 1 } ∷ []); procedures = (record { «module» = 0; line = 1; is_body = false; formals = []; result = 1; locals = (2 ∷ 3 ∷ []); texts = []; body = ((OutChar (record { form = (Literal 112); kind = Char })) ∷ (Assign (Part' b (Local 1) Char (vec1 v) (more_of-Selector (Index (Some 3) 0 (Load (Whole (Local 0) Int))) end_of-Selector)) (record { form = (Literal 113); kind = Char })) ∷ (OutString (Whole (Local 1) (Array (Some 3) 0))) ∷ []); answer = None } ∷ record { «module» = 0; line = 1; is_body = true; formals = []; result = 1; locals = []; texts = []; body = ((OutChar (record { form = (Literal 40); kind = Char })) ∷ (Invoke (Direct' 0 (vec0 v) end_of-Argument)) ∷ (OutChar (record { form = (Literal 41); kind = Char })) ∷ []); answer = None } ∷ []); imports_in = false }
 
 pub localzero_3 : (b : Box (Unit {0}) Heap) (v : Vec (Unit {0}) Heap) → meaning (localzero b v) [] 3 ≡ Going (40 ∷ [])
 unfolding digits
@@ -254,7 +254,7 @@ whileelsif_12 b v = refl
 
 -- MODULE C; IMPORT Out; VAR c: CHAR; i: INTEGER; BEGIN FOR i := 0 TO 2 DO c := CHR(i * 5 + ORD(''a'')); CASE c OF ''a'': Out.Char(''1'') | ''b''..''f'', ''z'': Out.Char(''2'') | ''k'': Out.Char(''3'') END END; c := CHR(-1 + i * 0) END C.
 abbrev cases : Outside Program
-cases b v = record { types = record { kinds = (Char ∷ Int ∷ Nothing ∷ []); records = []; signatures = [] }; modules = (record { name = []; objects = []; variables = (0 ∷ 1 ∷ []); body = 0 } ∷ []); procedures = (record { «module» = 0; line = 1; is_body = true; formals = []; result = 2; locals = []; texts = []; body = ((For' (Whole (Global 0 1) Int) (record { form = (Literal 0); kind = Int }) (record { form = (Literal 2); kind = Int }) (pos 1) (vec2 v) (more_of-Stmt (Assign (Whole (Global 0 0) Char) (record { form = (Byte' b (Chain' b (Load (Whole (Global 0 1) Int)) (vec2 v) (more_of-Link (Operate Multiply (Literal 5)) (more_of-Link (Operate Add (Literal 97)) end_of-Link)))); kind = Char })) (more_of-Stmt (Case' (record { form = (Load (Whole (Global 0 0) Char)); kind = Char }) (vec3 v) (more_of-CasePart (One (pos 97) ∷ []) (vec1 v) (more_of-Stmt (OutChar (record { form = (Literal 49); kind = Char })) end_of-Stmt) (more_of-CasePart (Range (pos 98) (pos 102) ∷ One (pos 122) ∷ []) (vec1 v) (more_of-Stmt (OutChar (record { form = (Literal 50); kind = Char })) end_of-Stmt) (more_of-CasePart (One (pos 107) ∷ []) (vec1 v) (more_of-Stmt (OutChar (record { form = (Literal 51); kind = Char })) end_of-Stmt) end_of-CasePart)))) end_of-Stmt))) ∷ (Assign (Whole (Global 0 0) Char) (record { form = (Byte' b (Chain' b (Unary' Negate b (Literal 1)) (vec1 v) (more_of-Link (Operate Add (Chain' b (Load (Whole (Global 0 1) Int)) (vec1 v) (more_of-Link (Operate Multiply (Literal 0)) end_of-Link))) end_of-Link))); kind = Char })) ∷ []); answer = None } ∷ []); imports_in = false }
+cases b v = record { types = record { kinds = (Char ∷ Int ∷ Nothing ∷ []); records = []; signatures = [] }; modules = (record { name = []; objects = []; variables = (0 ∷ 1 ∷ []); body = 0 } ∷ []); procedures = (record { «module» = 0; line = 1; is_body = true; formals = []; result = 2; locals = []; texts = []; body = ((For' b (Whole (Global 0 1) Int) (record { form = (Literal 0); kind = Int }) (record { form = (Literal 2); kind = Int }) (pos 1) (vec2 v) (more_of-Stmt (Assign (Whole (Global 0 0) Char) (record { form = (Byte' b (Chain' b (Load (Whole (Global 0 1) Int)) (vec2 v) (more_of-Link (Operate Multiply (Literal 5)) (more_of-Link (Operate Add (Literal 97)) end_of-Link)))); kind = Char })) (more_of-Stmt (Case' (record { form = (Load (Whole (Global 0 0) Char)); kind = Char }) (vec3 v) (more_of-CasePart (One (pos 97) ∷ []) (vec1 v) (more_of-Stmt (OutChar (record { form = (Literal 49); kind = Char })) end_of-Stmt) (more_of-CasePart (Range (pos 98) (pos 102) ∷ One (pos 122) ∷ []) (vec1 v) (more_of-Stmt (OutChar (record { form = (Literal 50); kind = Char })) end_of-Stmt) (more_of-CasePart (One (pos 107) ∷ []) (vec1 v) (more_of-Stmt (OutChar (record { form = (Literal 51); kind = Char })) end_of-Stmt) end_of-CasePart)))) end_of-Stmt))) ∷ (Assign (Whole (Global 0 0) Char) (record { form = (Byte' b (Chain' b (Unary' Negate b (Literal 1)) (vec1 v) (more_of-Link (Operate Add (Chain' b (Load (Whole (Global 0 1) Int)) (vec1 v) (more_of-Link (Operate Multiply (Literal 0)) end_of-Link))) end_of-Link))); kind = Char })) ∷ []); answer = None } ∷ []); imports_in = false }
 
 pub cases_5 : (b : Box (Unit {0}) Heap) (v : Vec (Unit {0}) Heap) → meaning (cases b v) [] 5 ≡ Trapped (Kind 11 0) (49 ∷ 50 ∷ 51 ∷ [])
 unfolding digits
@@ -278,7 +278,7 @@ evenodd_30 b v = refl
 
 -- MODULE V; IMPORT Out; TYPE R = RECORD a: INTEGER; n: RECORD b: ARRAY 2 OF CHAR END END; E = RECORD (R) e: INTEGER END; VAR r: R; e: E; PROCEDURE P(x: R; VAR y: R); BEGIN y.a := 9; Out.Int(x.a, 0); y.n.b := x.n.b; y := x END P; BEGIN e.a := 3; P(e, e); P(r, e); Out.Int(e.a, 0) END V.
 abbrev alias : Outside Program
-alias b v = record { types = record { kinds = ((RecordKind 0) ∷ (RecordKind 1) ∷ (RecordKind 2) ∷ Char ∷ Nothing ∷ Int ∷ (Array (Some 2) 3) ∷ []); records = (record { «module» = 0; base = None; level = 0; fields = (record { name = []; exported = false; type_number = 5 } ∷ record { name = []; exported = false; type_number = 1 } ∷ []); cells = 3 } ∷ record { «module» = 0; base = None; level = 0; fields = (record { name = []; exported = false; type_number = 6 } ∷ []); cells = 2 } ∷ record { «module» = 0; base = (Some 0); level = 1; fields = (record { name = []; exported = false; type_number = 5 } ∷ []); cells = 4 } ∷ []); signatures = [] }; modules = (record { name = []; objects = []; variables = (0 ∷ 2 ∷ []); body = 1 } ∷ []); procedures = (record { «module» = 0; line = 1; is_body = false; formals = (record { mode = Place; variable = false; type_number = 0 } ∷ record { mode = OfRecord; variable = true; type_number = 0 } ∷ []); result = 4; locals = []; texts = []; body = ((Assign (Part' (Parameter 1) Int (vec1 v) (more_of-Selector (Field 0 0) end_of-Selector)) (record { form = (Literal 9); kind = Int })) ∷ (OutInt (record { form = (Load (Part' (Parameter 0) Int (vec1 v) (more_of-Selector (Field 0 0) end_of-Selector))); kind = Int }) (record { form = (Literal 0); kind = Int })) ∷ (CopyArray (Part' (Parameter 1) (Array (Some 2) 3) (vec2 v) (more_of-Selector (Field 0 1) (more_of-Selector (Field 1 0) end_of-Selector))) (Part' (Parameter 0) (Array (Some 2) 3) (vec2 v) (more_of-Selector (Field 0 1) (more_of-Selector (Field 1 0) end_of-Selector)))) ∷ (CopyRecord (Whole (Parameter 1) (RecordKind 0)) (Whole (Parameter 0) (RecordKind 0))) ∷ []); answer = None } ∷ record { «module» = 0; line = 1; is_body = true; formals = []; result = 4; locals = []; texts = []; body = ((Assign (Part' (Global 0 1) Int (vec1 v) (more_of-Selector (Field 0 0) end_of-Selector)) (record { form = (Literal 3); kind = Int })) ∷ (Invoke (Direct' 0 (vec2 v) (more_of-Argument (ByPlace (Whole (Global 0 1) (RecordKind 2))) (more_of-Argument (ByRecord (Whole (Global 0 1) (RecordKind 2))) end_of-Argument)))) ∷ (Invoke (Direct' 0 (vec2 v) (more_of-Argument (ByPlace (Whole (Global 0 0) (RecordKind 0))) (more_of-Argument (ByRecord (Whole (Global 0 1) (RecordKind 2))) end_of-Argument)))) ∷ (OutInt (record { form = (Load (Part' (Global 0 1) Int (vec1 v) (more_of-Selector (Field 0 0) end_of-Selector))); kind = Int }) (record { form = (Literal 0); kind = Int })) ∷ []); answer = None } ∷ []); imports_in = false }
+alias b v = record { types = record { kinds = ((RecordKind 0) ∷ (RecordKind 1) ∷ (RecordKind 2) ∷ Char ∷ Nothing ∷ Int ∷ (Array (Some 2) 3) ∷ []); records = (record { «module» = 0; base = None; level = 0; fields = (record { name = []; exported = false; type_number = 5 } ∷ record { name = []; exported = false; type_number = 1 } ∷ []); cells = 3 } ∷ record { «module» = 0; base = None; level = 0; fields = (record { name = []; exported = false; type_number = 6 } ∷ []); cells = 2 } ∷ record { «module» = 0; base = (Some 0); level = 1; fields = (record { name = []; exported = false; type_number = 5 } ∷ []); cells = 4 } ∷ []); signatures = [] }; modules = (record { name = []; objects = []; variables = (0 ∷ 2 ∷ []); body = 1 } ∷ []); procedures = (record { «module» = 0; line = 1; is_body = false; formals = (record { mode = Place; variable = false; type_number = 0 } ∷ record { mode = OfRecord; variable = true; type_number = 0 } ∷ []); result = 4; locals = []; texts = []; body = ((Assign (Part' b (Parameter 1) Int (vec1 v) (more_of-Selector (Field 0 0) end_of-Selector)) (record { form = (Literal 9); kind = Int })) ∷ (OutInt (record { form = (Load (Part' b (Parameter 0) Int (vec1 v) (more_of-Selector (Field 0 0) end_of-Selector))); kind = Int }) (record { form = (Literal 0); kind = Int })) ∷ (CopyArray (Part' b (Parameter 1) (Array (Some 2) 3) (vec2 v) (more_of-Selector (Field 0 1) (more_of-Selector (Field 1 0) end_of-Selector))) (Part' b (Parameter 0) (Array (Some 2) 3) (vec2 v) (more_of-Selector (Field 0 1) (more_of-Selector (Field 1 0) end_of-Selector)))) ∷ (CopyRecord (Whole (Parameter 1) (RecordKind 0)) (Whole (Parameter 0) (RecordKind 0))) ∷ []); answer = None } ∷ record { «module» = 0; line = 1; is_body = true; formals = []; result = 4; locals = []; texts = []; body = ((Assign (Part' b (Global 0 1) Int (vec1 v) (more_of-Selector (Field 0 0) end_of-Selector)) (record { form = (Literal 3); kind = Int })) ∷ (Invoke (Direct' 0 (vec2 v) (more_of-Argument (ByPlace (Whole (Global 0 1) (RecordKind 2))) (more_of-Argument (ByRecord (Whole (Global 0 1) (RecordKind 2))) end_of-Argument)))) ∷ (Invoke (Direct' 0 (vec2 v) (more_of-Argument (ByPlace (Whole (Global 0 0) (RecordKind 0))) (more_of-Argument (ByRecord (Whole (Global 0 1) (RecordKind 2))) end_of-Argument)))) ∷ (OutInt (record { form = (Load (Part' b (Global 0 1) Int (vec1 v) (more_of-Selector (Field 0 0) end_of-Selector))); kind = Int }) (record { form = (Literal 0); kind = Int })) ∷ []); answer = None } ∷ []); imports_in = false }
 
 pub alias_20 : (b : Box (Unit {0}) Heap) (v : Vec (Unit {0}) Heap) → meaning (alias b v) [] 20 ≡ Ended (57 ∷ 48 ∷ 48 ∷ [])
 unfolding digits
@@ -286,7 +286,7 @@ alias_20 b v = refl
 
 -- MODULE Queens; IMPORT Out; VAR a: ARRAY 4 OF BOOLEAN; b, c: ARRAY 7 OF BOOLEAN; count: INTEGER; PROCEDURE Try(i: INTEGER); VAR j: INTEGER; BEGIN FOR j := 0 TO 3 DO IF ~a[j] & ~b[i + j] & ~c[i - j + 3] THEN a[j] := TRUE; b[i + j] := TRUE; c[i - j + 3] := TRUE; IF i < 3 THEN Try(i + 1) ELSE INC(count) END; a[j] := FALSE; b[i + j] := FALSE; c[i - j + 3] := FALSE END END END Try; BEGIN Try(0); Out.Int(count, 0); Out.Ln END Queens.
 abbrev queens4 : Outside Program
-queens4 b v = record { types = record { kinds = (BoolKind ∷ (Array (Some 4) 0) ∷ (Array (Some 7) 0) ∷ Int ∷ Nothing ∷ []); records = []; signatures = [] }; modules = (record { name = []; objects = []; variables = (1 ∷ 2 ∷ 2 ∷ 3 ∷ []); body = 1 } ∷ []); procedures = (record { «module» = 0; line = 1; is_body = false; formals = (record { mode = OfValue; variable = false; type_number = 3 } ∷ []); result = 4; locals = (3 ∷ []); texts = []; body = ((For' (Whole (Local 1) Int) (record { form = (Literal 0); kind = Int }) (record { form = (Literal 3); kind = Int }) (pos 1) (vec1 v) (more_of-Stmt (If' (vec1 v) (more_of-Branch (record { form = (Chain' b (Unary' Not b (Load (Part' (Global 0 0) BoolKind (vec1 v) (more_of-Selector (Index (Some 4) 0 (Load (Whole (Local 1) Int))) end_of-Selector)))) (vec2 v) (more_of-Link (And (Unary' Not b (Load (Part' (Global 0 1) BoolKind (vec1 v) (more_of-Selector (Index (Some 7) 0 (Chain' b (Load (Whole (Local 0) Int)) (vec1 v) (more_of-Link (Operate Add (Load (Whole (Local 1) Int))) end_of-Link))) end_of-Selector))))) (more_of-Link (And (Unary' Not b (Load (Part' (Global 0 2) BoolKind (vec1 v) (more_of-Selector (Index (Some 7) 0 (Chain' b (Load (Whole (Local 0) Int)) (vec2 v) (more_of-Link (Operate Subtract (Load (Whole (Local 1) Int))) (more_of-Link (Operate Add (Literal 3)) end_of-Link)))) end_of-Selector))))) end_of-Link))); kind = BoolKind }) (vec7 v) (more_of-Stmt (Assign (Part' (Global 0 0) BoolKind (vec1 v) (more_of-Selector (Index (Some 4) 0 (Load (Whole (Local 1) Int))) end_of-Selector)) (record { form = (Literal 1); kind = BoolKind })) (more_of-Stmt (Assign (Part' (Global 0 1) BoolKind (vec1 v) (more_of-Selector (Index (Some 7) 0 (Chain' b (Load (Whole (Local 0) Int)) (vec1 v) (more_of-Link (Operate Add (Load (Whole (Local 1) Int))) end_of-Link))) end_of-Selector)) (record { form = (Literal 1); kind = BoolKind })) (more_of-Stmt (Assign (Part' (Global 0 2) BoolKind (vec1 v) (more_of-Selector (Index (Some 7) 0 (Chain' b (Load (Whole (Local 0) Int)) (vec2 v) (more_of-Link (Operate Subtract (Load (Whole (Local 1) Int))) (more_of-Link (Operate Add (Literal 3)) end_of-Link)))) end_of-Selector)) (record { form = (Literal 1); kind = BoolKind })) (more_of-Stmt (If' (vec1 v) (more_of-Branch (record { form = (Compare' Less b (Load (Whole (Local 0) Int)) b (Literal 3)); kind = BoolKind }) (vec1 v) (more_of-Stmt (Invoke (Direct' 0 (vec1 v) (more_of-Argument (ByValue (Chain' b (Load (Whole (Local 0) Int)) (vec1 v) (more_of-Link (Operate Add (Literal 1)) end_of-Link))) end_of-Argument))) end_of-Stmt) end_of-Branch) (vec1 v) (more_of-Stmt (Increase (Whole (Global 0 3) Int) (record { form = (Literal 1); kind = Int })) end_of-Stmt)) (more_of-Stmt (Assign (Part' (Global 0 0) BoolKind (vec1 v) (more_of-Selector (Index (Some 4) 0 (Load (Whole (Local 1) Int))) end_of-Selector)) (record { form = (Literal 0); kind = BoolKind })) (more_of-Stmt (Assign (Part' (Global 0 1) BoolKind (vec1 v) (more_of-Selector (Index (Some 7) 0 (Chain' b (Load (Whole (Local 0) Int)) (vec1 v) (more_of-Link (Operate Add (Load (Whole (Local 1) Int))) end_of-Link))) end_of-Selector)) (record { form = (Literal 0); kind = BoolKind })) (more_of-Stmt (Assign (Part' (Global 0 2) BoolKind (vec1 v) (more_of-Selector (Index (Some 7) 0 (Chain' b (Load (Whole (Local 0) Int)) (vec2 v) (more_of-Link (Operate Subtract (Load (Whole (Local 1) Int))) (more_of-Link (Operate Add (Literal 3)) end_of-Link)))) end_of-Selector)) (record { form = (Literal 0); kind = BoolKind })) end_of-Stmt))))))) end_of-Branch) (vec0 v) end_of-Stmt) end_of-Stmt)) ∷ []); answer = None } ∷ record { «module» = 0; line = 1; is_body = true; formals = []; result = 4; locals = []; texts = []; body = ((Invoke (Direct' 0 (vec1 v) (more_of-Argument (ByValue (Literal 0)) end_of-Argument))) ∷ (OutInt (record { form = (Load (Whole (Global 0 3) Int)); kind = Int }) (record { form = (Literal 0); kind = Int })) ∷ OutLn ∷ []); answer = None } ∷ []); imports_in = false }
+queens4 b v = record { types = record { kinds = (BoolKind ∷ (Array (Some 4) 0) ∷ (Array (Some 7) 0) ∷ Int ∷ Nothing ∷ []); records = []; signatures = [] }; modules = (record { name = []; objects = []; variables = (1 ∷ 2 ∷ 2 ∷ 3 ∷ []); body = 1 } ∷ []); procedures = (record { «module» = 0; line = 1; is_body = false; formals = (record { mode = OfValue; variable = false; type_number = 3 } ∷ []); result = 4; locals = (3 ∷ []); texts = []; body = ((For' b (Whole (Local 1) Int) (record { form = (Literal 0); kind = Int }) (record { form = (Literal 3); kind = Int }) (pos 1) (vec1 v) (more_of-Stmt (If' (vec1 v) (more_of-Branch (record { form = (Chain' b (Unary' Not b (Load (Part' b (Global 0 0) BoolKind (vec1 v) (more_of-Selector (Index (Some 4) 0 (Load (Whole (Local 1) Int))) end_of-Selector)))) (vec2 v) (more_of-Link (And (Unary' Not b (Load (Part' b (Global 0 1) BoolKind (vec1 v) (more_of-Selector (Index (Some 7) 0 (Chain' b (Load (Whole (Local 0) Int)) (vec1 v) (more_of-Link (Operate Add (Load (Whole (Local 1) Int))) end_of-Link))) end_of-Selector))))) (more_of-Link (And (Unary' Not b (Load (Part' b (Global 0 2) BoolKind (vec1 v) (more_of-Selector (Index (Some 7) 0 (Chain' b (Load (Whole (Local 0) Int)) (vec2 v) (more_of-Link (Operate Subtract (Load (Whole (Local 1) Int))) (more_of-Link (Operate Add (Literal 3)) end_of-Link)))) end_of-Selector))))) end_of-Link))); kind = BoolKind }) (vec7 v) (more_of-Stmt (Assign (Part' b (Global 0 0) BoolKind (vec1 v) (more_of-Selector (Index (Some 4) 0 (Load (Whole (Local 1) Int))) end_of-Selector)) (record { form = (Literal 1); kind = BoolKind })) (more_of-Stmt (Assign (Part' b (Global 0 1) BoolKind (vec1 v) (more_of-Selector (Index (Some 7) 0 (Chain' b (Load (Whole (Local 0) Int)) (vec1 v) (more_of-Link (Operate Add (Load (Whole (Local 1) Int))) end_of-Link))) end_of-Selector)) (record { form = (Literal 1); kind = BoolKind })) (more_of-Stmt (Assign (Part' b (Global 0 2) BoolKind (vec1 v) (more_of-Selector (Index (Some 7) 0 (Chain' b (Load (Whole (Local 0) Int)) (vec2 v) (more_of-Link (Operate Subtract (Load (Whole (Local 1) Int))) (more_of-Link (Operate Add (Literal 3)) end_of-Link)))) end_of-Selector)) (record { form = (Literal 1); kind = BoolKind })) (more_of-Stmt (If' (vec1 v) (more_of-Branch (record { form = (Compare' Less b (Load (Whole (Local 0) Int)) b (Literal 3)); kind = BoolKind }) (vec1 v) (more_of-Stmt (Invoke (Direct' 0 (vec1 v) (more_of-Argument (ByValue (Chain' b (Load (Whole (Local 0) Int)) (vec1 v) (more_of-Link (Operate Add (Literal 1)) end_of-Link))) end_of-Argument))) end_of-Stmt) end_of-Branch) (vec1 v) (more_of-Stmt (Increase (Whole (Global 0 3) Int) (record { form = (Literal 1); kind = Int })) end_of-Stmt)) (more_of-Stmt (Assign (Part' b (Global 0 0) BoolKind (vec1 v) (more_of-Selector (Index (Some 4) 0 (Load (Whole (Local 1) Int))) end_of-Selector)) (record { form = (Literal 0); kind = BoolKind })) (more_of-Stmt (Assign (Part' b (Global 0 1) BoolKind (vec1 v) (more_of-Selector (Index (Some 7) 0 (Chain' b (Load (Whole (Local 0) Int)) (vec1 v) (more_of-Link (Operate Add (Load (Whole (Local 1) Int))) end_of-Link))) end_of-Selector)) (record { form = (Literal 0); kind = BoolKind })) (more_of-Stmt (Assign (Part' b (Global 0 2) BoolKind (vec1 v) (more_of-Selector (Index (Some 7) 0 (Chain' b (Load (Whole (Local 0) Int)) (vec2 v) (more_of-Link (Operate Subtract (Load (Whole (Local 1) Int))) (more_of-Link (Operate Add (Literal 3)) end_of-Link)))) end_of-Selector)) (record { form = (Literal 0); kind = BoolKind })) end_of-Stmt))))))) end_of-Branch) (vec0 v) end_of-Stmt) end_of-Stmt)) ∷ []); answer = None } ∷ record { «module» = 0; line = 1; is_body = true; formals = []; result = 4; locals = []; texts = []; body = ((Invoke (Direct' 0 (vec1 v) (more_of-Argument (ByValue (Literal 0)) end_of-Argument))) ∷ (OutInt (record { form = (Load (Whole (Global 0 3) Int)); kind = Int }) (record { form = (Literal 0); kind = Int })) ∷ OutLn ∷ []); answer = None } ∷ []); imports_in = false }
 
 pub queens4_2000 : (b : Box (Unit {0}) Heap) (v : Vec (Unit {0}) Heap) → meaning (queens4 b v) [] 2000 ≡ Ended (50 ∷ 10 ∷ [])
 unfolding digits
@@ -322,7 +322,7 @@ guardorder_1 b v = refl
 
 -- MODULE L; IMPORT Out; VAR i: INTEGER; s: SET; BEGIN FOR i := 1 TO 3 DO Out.Int(i, 0) END; Out.Char(''x''); s := {i .. 64, 1 DIV 0} END L.
 abbrev loopturns : Outside Program
-loopturns b v = record { types = record { kinds = (Int ∷ SetKind ∷ Nothing ∷ []); records = []; signatures = [] }; modules = (record { name = []; objects = []; variables = (0 ∷ 1 ∷ []); body = 0 } ∷ []); procedures = (record { «module» = 0; line = 1; is_body = true; formals = []; result = 2; locals = []; texts = []; body = ((For' (Whole (Global 0 0) Int) (record { form = (Literal 1); kind = Int }) (record { form = (Literal 3); kind = Int }) (pos 1) (vec1 v) (more_of-Stmt (OutInt (record { form = (Load (Whole (Global 0 0) Int)); kind = Int }) (record { form = (Literal 0); kind = Int })) end_of-Stmt)) ∷ (OutChar (record { form = (Literal 120); kind = Char })) ∷ (Assign (Whole (Global 0 1) SetKind) (record { form = (Chain' b (Literal 0) (vec2 v) (more_of-Link (Elements (Load (Whole (Global 0 0) Int)) (Literal 64)) (more_of-Link (Element (Chain' b (Literal 1) (vec1 v) (more_of-Link (Operate Div (Literal 0)) end_of-Link))) end_of-Link))); kind = SetKind })) ∷ []); answer = None } ∷ []); imports_in = false }
+loopturns b v = record { types = record { kinds = (Int ∷ SetKind ∷ Nothing ∷ []); records = []; signatures = [] }; modules = (record { name = []; objects = []; variables = (0 ∷ 1 ∷ []); body = 0 } ∷ []); procedures = (record { «module» = 0; line = 1; is_body = true; formals = []; result = 2; locals = []; texts = []; body = ((For' b (Whole (Global 0 0) Int) (record { form = (Literal 1); kind = Int }) (record { form = (Literal 3); kind = Int }) (pos 1) (vec1 v) (more_of-Stmt (OutInt (record { form = (Load (Whole (Global 0 0) Int)); kind = Int }) (record { form = (Literal 0); kind = Int })) end_of-Stmt)) ∷ (OutChar (record { form = (Literal 120); kind = Char })) ∷ (Assign (Whole (Global 0 1) SetKind) (record { form = (Chain' b (Literal 0) (vec2 v) (more_of-Link (Elements' b (Load (Whole (Global 0 0) Int)) b (Literal 64)) (more_of-Link (Element (Chain' b (Literal 1) (vec1 v) (more_of-Link (Operate Div (Literal 0)) end_of-Link))) end_of-Link))); kind = SetKind })) ∷ []); answer = None } ∷ []); imports_in = false }
 
 pub loopturns_4 : (b : Box (Unit {0}) Heap) (v : Vec (Unit {0}) Heap) → meaning (loopturns b v) [] 4 ≡ Trapped (Kind 7 0) (49 ∷ 50 ∷ 51 ∷ 120 ∷ [])
 unfolding digits
@@ -330,7 +330,7 @@ loopturns_4 b v = refl
 
 -- MODULE L; IMPORT Out; VAR i: INTEGER; BEGIN FOR i := 1 TO 3 DO Out.Int(i, 0) END; Out.Char(''x'') END L.
 abbrev loopturn : Outside Program
-loopturn b v = record { types = record { kinds = (Int ∷ Nothing ∷ []); records = []; signatures = [] }; modules = (record { name = []; objects = []; variables = (0 ∷ []); body = 0 } ∷ []); procedures = (record { «module» = 0; line = 1; is_body = true; formals = []; result = 1; locals = []; texts = []; body = ((For' (Whole (Global 0 0) Int) (record { form = (Literal 1); kind = Int }) (record { form = (Literal 3); kind = Int }) (pos 1) (vec1 v) (more_of-Stmt (OutInt (record { form = (Load (Whole (Global 0 0) Int)); kind = Int }) (record { form = (Literal 0); kind = Int })) end_of-Stmt)) ∷ (OutChar (record { form = (Literal 120); kind = Char })) ∷ []); answer = None } ∷ []); imports_in = false }
+loopturn b v = record { types = record { kinds = (Int ∷ Nothing ∷ []); records = []; signatures = [] }; modules = (record { name = []; objects = []; variables = (0 ∷ []); body = 0 } ∷ []); procedures = (record { «module» = 0; line = 1; is_body = true; formals = []; result = 1; locals = []; texts = []; body = ((For' b (Whole (Global 0 0) Int) (record { form = (Literal 1); kind = Int }) (record { form = (Literal 3); kind = Int }) (pos 1) (vec1 v) (more_of-Stmt (OutInt (record { form = (Load (Whole (Global 0 0) Int)); kind = Int }) (record { form = (Literal 0); kind = Int })) end_of-Stmt)) ∷ (OutChar (record { form = (Literal 120); kind = Char })) ∷ []); answer = None } ∷ []); imports_in = false }
 
 pub loopturn_3 : (b : Box (Unit {0}) Heap) (v : Vec (Unit {0}) Heap) → meaning (loopturn b v) [] 3 ≡ Going (49 ∷ 50 ∷ 51 ∷ [])
 unfolding digits
@@ -358,7 +358,7 @@ stringcall_20 b v = refl
 
 -- MODULE Z; TYPE R = RECORD END; VAR a: ARRAY 1048576, 1048576 OF R; PROCEDURE P; VAR b: ARRAY 1048576 OF R; BEGIN b[1048575] := a[0][1] END P; BEGIN P END Z.
 abbrev emptiest : Outside Program
-emptiest b v = record { types = record { kinds = ((RecordKind 0) ∷ (Array (Some 1048576) 0) ∷ (Array (Some 1048576) 1) ∷ Nothing ∷ []); records = (record { «module» = 0; base = None; level = 0; fields = []; cells = 0 } ∷ []); signatures = [] }; modules = (record { name = []; objects = []; variables = (2 ∷ []); body = 1 } ∷ []); procedures = (record { «module» = 0; line = 1; is_body = false; formals = []; result = 3; locals = (1 ∷ []); texts = []; body = ((CopyRecord (Part' (Local 0) (RecordKind 0) (vec1 v) (more_of-Selector (Index (Some 1048576) 0 (Literal 1048575)) end_of-Selector)) (Part' (Global 0 0) (RecordKind 0) (vec2 v) (more_of-Selector (Index (Some 1048576) 1 (Literal 0)) (more_of-Selector (Index (Some 1048576) 0 (Literal 1)) end_of-Selector)))) ∷ []); answer = None } ∷ record { «module» = 0; line = 1; is_body = true; formals = []; result = 3; locals = []; texts = []; body = ((Invoke (Direct' 0 (vec0 v) end_of-Argument)) ∷ []); answer = None } ∷ []); imports_in = false }
+emptiest b v = record { types = record { kinds = ((RecordKind 0) ∷ (Array (Some 1048576) 0) ∷ (Array (Some 1048576) 1) ∷ Nothing ∷ []); records = (record { «module» = 0; base = None; level = 0; fields = []; cells = 0 } ∷ []); signatures = [] }; modules = (record { name = []; objects = []; variables = (2 ∷ []); body = 1 } ∷ []); procedures = (record { «module» = 0; line = 1; is_body = false; formals = []; result = 3; locals = (1 ∷ []); texts = []; body = ((CopyRecord (Part' b (Local 0) (RecordKind 0) (vec1 v) (more_of-Selector (Index (Some 1048576) 0 (Literal 1048575)) end_of-Selector)) (Part' b (Global 0 0) (RecordKind 0) (vec2 v) (more_of-Selector (Index (Some 1048576) 1 (Literal 0)) (more_of-Selector (Index (Some 1048576) 0 (Literal 1)) end_of-Selector)))) ∷ []); answer = None } ∷ record { «module» = 0; line = 1; is_body = true; formals = []; result = 3; locals = []; texts = []; body = ((Invoke (Direct' 0 (vec0 v) end_of-Argument)) ∷ []); answer = None } ∷ []); imports_in = false }
 
 pub emptiest_3 : (b : Box (Unit {0}) Heap) (v : Vec (Unit {0}) Heap) → meaning (emptiest b v) [] 3 ≡ Ended []
 unfolding digits

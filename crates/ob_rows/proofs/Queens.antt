@@ -48,7 +48,7 @@ vec7 v = record { ptr = v.ptr; len = 7; cap = 7; alloc = v.alloc; items = tt ∷
 
 -- MODULE Queens; IMPORT Out; VAR a: ARRAY 8 OF BOOLEAN; b, c: ARRAY 15 OF BOOLEAN; count: INTEGER; PROCEDURE Try(i: INTEGER); VAR j: INTEGER; BEGIN FOR j := 0 TO 7 DO IF ~a[j] & ~b[i + j] & ~c[i - j + 7] THEN a[j] := TRUE; b[i + j] := TRUE; c[i - j + 7] := TRUE; IF i < 7 THEN Try(i + 1) ELSE INC(count) END; a[j] := FALSE; b[i + j] := FALSE; c[i - j + 7] := FALSE END END END Try; BEGIN Try(0); Out.Int(count, 0); Out.Ln END Queens.
 abbrev queens : Outside Program
-queens b v = record { types = record { kinds = (BoolKind ∷ (Array (Some 8) 0) ∷ (Array (Some 15) 0) ∷ Int ∷ Nothing ∷ []); records = []; signatures = [] }; modules = (record { name = []; objects = []; variables = (1 ∷ 2 ∷ 2 ∷ 3 ∷ []); body = 1 } ∷ []); procedures = (record { «module» = 0; line = 1; is_body = false; formals = (record { mode = OfValue; variable = false; type_number = 3 } ∷ []); result = 4; locals = (3 ∷ []); texts = []; body = ((For' (Whole (Local 1) Int) (record { form = (Literal 0); kind = Int }) (record { form = (Literal 7); kind = Int }) (pos 1) (vec1 v) (more_of-Stmt (If' (vec1 v) (more_of-Branch (record { form = (Chain' b (Unary' Not b (Load (Part' (Global 0 0) BoolKind (vec1 v) (more_of-Selector (Index (Some 8) 0 (Load (Whole (Local 1) Int))) end_of-Selector)))) (vec2 v) (more_of-Link (And (Unary' Not b (Load (Part' (Global 0 1) BoolKind (vec1 v) (more_of-Selector (Index (Some 15) 0 (Chain' b (Load (Whole (Local 0) Int)) (vec1 v) (more_of-Link (Operate Add (Load (Whole (Local 1) Int))) end_of-Link))) end_of-Selector))))) (more_of-Link (And (Unary' Not b (Load (Part' (Global 0 2) BoolKind (vec1 v) (more_of-Selector (Index (Some 15) 0 (Chain' b (Load (Whole (Local 0) Int)) (vec2 v) (more_of-Link (Operate Subtract (Load (Whole (Local 1) Int))) (more_of-Link (Operate Add (Literal 7)) end_of-Link)))) end_of-Selector))))) end_of-Link))); kind = BoolKind }) (vec7 v) (more_of-Stmt (Assign (Part' (Global 0 0) BoolKind (vec1 v) (more_of-Selector (Index (Some 8) 0 (Load (Whole (Local 1) Int))) end_of-Selector)) (record { form = (Literal 1); kind = BoolKind })) (more_of-Stmt (Assign (Part' (Global 0 1) BoolKind (vec1 v) (more_of-Selector (Index (Some 15) 0 (Chain' b (Load (Whole (Local 0) Int)) (vec1 v) (more_of-Link (Operate Add (Load (Whole (Local 1) Int))) end_of-Link))) end_of-Selector)) (record { form = (Literal 1); kind = BoolKind })) (more_of-Stmt (Assign (Part' (Global 0 2) BoolKind (vec1 v) (more_of-Selector (Index (Some 15) 0 (Chain' b (Load (Whole (Local 0) Int)) (vec2 v) (more_of-Link (Operate Subtract (Load (Whole (Local 1) Int))) (more_of-Link (Operate Add (Literal 7)) end_of-Link)))) end_of-Selector)) (record { form = (Literal 1); kind = BoolKind })) (more_of-Stmt (If' (vec1 v) (more_of-Branch (record { form = (Compare' Less b (Load (Whole (Local 0) Int)) b (Literal 7)); kind = BoolKind }) (vec1 v) (more_of-Stmt (Invoke (Direct' 0 (vec1 v) (more_of-Argument (ByValue (Chain' b (Load (Whole (Local 0) Int)) (vec1 v) (more_of-Link (Operate Add (Literal 1)) end_of-Link))) end_of-Argument))) end_of-Stmt) end_of-Branch) (vec1 v) (more_of-Stmt (Increase (Whole (Global 0 3) Int) (record { form = (Literal 1); kind = Int })) end_of-Stmt)) (more_of-Stmt (Assign (Part' (Global 0 0) BoolKind (vec1 v) (more_of-Selector (Index (Some 8) 0 (Load (Whole (Local 1) Int))) end_of-Selector)) (record { form = (Literal 0); kind = BoolKind })) (more_of-Stmt (Assign (Part' (Global 0 1) BoolKind (vec1 v) (more_of-Selector (Index (Some 15) 0 (Chain' b (Load (Whole (Local 0) Int)) (vec1 v) (more_of-Link (Operate Add (Load (Whole (Local 1) Int))) end_of-Link))) end_of-Selector)) (record { form = (Literal 0); kind = BoolKind })) (more_of-Stmt (Assign (Part' (Global 0 2) BoolKind (vec1 v) (more_of-Selector (Index (Some 15) 0 (Chain' b (Load (Whole (Local 0) Int)) (vec2 v) (more_of-Link (Operate Subtract (Load (Whole (Local 1) Int))) (more_of-Link (Operate Add (Literal 7)) end_of-Link)))) end_of-Selector)) (record { form = (Literal 0); kind = BoolKind })) end_of-Stmt))))))) end_of-Branch) (vec0 v) end_of-Stmt) end_of-Stmt)) ∷ []); answer = None } ∷ record { «module» = 0; line = 1; is_body = true; formals = []; result = 4; locals = []; texts = []; body = ((Invoke (Direct' 0 (vec1 v) (more_of-Argument (ByValue (Literal 0)) end_of-Argument))) ∷ (OutInt (record { form = (Load (Whole (Global 0 3) Int)); kind = Int }) (record { form = (Literal 0); kind = Int })) ∷ OutLn ∷ []); answer = None } ∷ []); imports_in = false }
+queens b v = record { types = record { kinds = (BoolKind ∷ (Array (Some 8) 0) ∷ (Array (Some 15) 0) ∷ Int ∷ Nothing ∷ []); records = []; signatures = [] }; modules = (record { name = []; objects = []; variables = (1 ∷ 2 ∷ 2 ∷ 3 ∷ []); body = 1 } ∷ []); procedures = (record { «module» = 0; line = 1; is_body = false; formals = (record { mode = OfValue; variable = false; type_number = 3 } ∷ []); result = 4; locals = (3 ∷ []); texts = []; body = ((For' b (Whole (Local 1) Int) (record { form = (Literal 0); kind = Int }) (record { form = (Literal 7); kind = Int }) (pos 1) (vec1 v) (more_of-Stmt (If' (vec1 v) (more_of-Branch (record { form = (Chain' b (Unary' Not b (Load (Part' b (Global 0 0) BoolKind (vec1 v) (more_of-Selector (Index (Some 8) 0 (Load (Whole (Local 1) Int))) end_of-Selector)))) (vec2 v) (more_of-Link (And (Unary' Not b (Load (Part' b (Global 0 1) BoolKind (vec1 v) (more_of-Selector (Index (Some 15) 0 (Chain' b (Load (Whole (Local 0) Int)) (vec1 v) (more_of-Link (Operate Add (Load (Whole (Local 1) Int))) end_of-Link))) end_of-Selector))))) (more_of-Link (And (Unary' Not b (Load (Part' b (Global 0 2) BoolKind (vec1 v) (more_of-Selector (Index (Some 15) 0 (Chain' b (Load (Whole (Local 0) Int)) (vec2 v) (more_of-Link (Operate Subtract (Load (Whole (Local 1) Int))) (more_of-Link (Operate Add (Literal 7)) end_of-Link)))) end_of-Selector))))) end_of-Link))); kind = BoolKind }) (vec7 v) (more_of-Stmt (Assign (Part' b (Global 0 0) BoolKind (vec1 v) (more_of-Selector (Index (Some 8) 0 (Load (Whole (Local 1) Int))) end_of-Selector)) (record { form = (Literal 1); kind = BoolKind })) (more_of-Stmt (Assign (Part' b (Global 0 1) BoolKind (vec1 v) (more_of-Selector (Index (Some 15) 0 (Chain' b (Load (Whole (Local 0) Int)) (vec1 v) (more_of-Link (Operate Add (Load (Whole (Local 1) Int))) end_of-Link))) end_of-Selector)) (record { form = (Literal 1); kind = BoolKind })) (more_of-Stmt (Assign (Part' b (Global 0 2) BoolKind (vec1 v) (more_of-Selector (Index (Some 15) 0 (Chain' b (Load (Whole (Local 0) Int)) (vec2 v) (more_of-Link (Operate Subtract (Load (Whole (Local 1) Int))) (more_of-Link (Operate Add (Literal 7)) end_of-Link)))) end_of-Selector)) (record { form = (Literal 1); kind = BoolKind })) (more_of-Stmt (If' (vec1 v) (more_of-Branch (record { form = (Compare' Less b (Load (Whole (Local 0) Int)) b (Literal 7)); kind = BoolKind }) (vec1 v) (more_of-Stmt (Invoke (Direct' 0 (vec1 v) (more_of-Argument (ByValue (Chain' b (Load (Whole (Local 0) Int)) (vec1 v) (more_of-Link (Operate Add (Literal 1)) end_of-Link))) end_of-Argument))) end_of-Stmt) end_of-Branch) (vec1 v) (more_of-Stmt (Increase (Whole (Global 0 3) Int) (record { form = (Literal 1); kind = Int })) end_of-Stmt)) (more_of-Stmt (Assign (Part' b (Global 0 0) BoolKind (vec1 v) (more_of-Selector (Index (Some 8) 0 (Load (Whole (Local 1) Int))) end_of-Selector)) (record { form = (Literal 0); kind = BoolKind })) (more_of-Stmt (Assign (Part' b (Global 0 1) BoolKind (vec1 v) (more_of-Selector (Index (Some 15) 0 (Chain' b (Load (Whole (Local 0) Int)) (vec1 v) (more_of-Link (Operate Add (Load (Whole (Local 1) Int))) end_of-Link))) end_of-Selector)) (record { form = (Literal 0); kind = BoolKind })) (more_of-Stmt (Assign (Part' b (Global 0 2) BoolKind (vec1 v) (more_of-Selector (Index (Some 15) 0 (Chain' b (Load (Whole (Local 0) Int)) (vec2 v) (more_of-Link (Operate Subtract (Load (Whole (Local 1) Int))) (more_of-Link (Operate Add (Literal 7)) end_of-Link)))) end_of-Selector)) (record { form = (Literal 0); kind = BoolKind })) end_of-Stmt))))))) end_of-Branch) (vec0 v) end_of-Stmt) end_of-Stmt)) ∷ []); answer = None } ∷ record { «module» = 0; line = 1; is_body = true; formals = []; result = 4; locals = []; texts = []; body = ((Invoke (Direct' 0 (vec1 v) (more_of-Argument (ByValue (Literal 0)) end_of-Argument))) ∷ (OutInt (record { form = (Load (Whole (Global 0 3) Int)); kind = Int }) (record { form = (Literal 0); kind = Int })) ∷ OutLn ∷ []); answer = None } ∷ []); imports_in = false }
 
 abbrev state : Store → ℕ → State Store
 state c turns = record { store = c; out = []; turns = turns }
@@ -88,7 +88,7 @@ module _ (b : Box (Unit {0}) Heap) (v : Vec (Unit {0}) Heap) (calls : Calls) (fu
   rounds f = while_so f (do
     j ← bits (fetch place)
     give (at_limit (pos 1) j 7)) (do
-      _ ← effects (queens b v) calls here fuel (more_of-Stmt (If' (vec1 v) (more_of-Branch (record { form = (Chain' b (Unary' Not b (Load (Part' (Global 0 0) BoolKind (vec1 v) (more_of-Selector (Index (Some 8) 0 (Load (Whole (Local 1) Int))) end_of-Selector)))) (vec2 v) (more_of-Link (And (Unary' Not b (Load (Part' (Global 0 1) BoolKind (vec1 v) (more_of-Selector (Index (Some 15) 0 (Chain' b (Load (Whole (Local 0) Int)) (vec1 v) (more_of-Link (Operate Add (Load (Whole (Local 1) Int))) end_of-Link))) end_of-Selector))))) (more_of-Link (And (Unary' Not b (Load (Part' (Global 0 2) BoolKind (vec1 v) (more_of-Selector (Index (Some 15) 0 (Chain' b (Load (Whole (Local 0) Int)) (vec2 v) (more_of-Link (Operate Subtract (Load (Whole (Local 1) Int))) (more_of-Link (Operate Add (Literal 7)) end_of-Link)))) end_of-Selector))))) end_of-Link))); kind = BoolKind }) (vec7 v) (more_of-Stmt (Assign (Part' (Global 0 0) BoolKind (vec1 v) (more_of-Selector (Index (Some 8) 0 (Load (Whole (Local 1) Int))) end_of-Selector)) (record { form = (Literal 1); kind = BoolKind })) (more_of-Stmt (Assign (Part' (Global 0 1) BoolKind (vec1 v) (more_of-Selector (Index (Some 15) 0 (Chain' b (Load (Whole (Local 0) Int)) (vec1 v) (more_of-Link (Operate Add (Load (Whole (Local 1) Int))) end_of-Link))) end_of-Selector)) (record { form = (Literal 1); kind = BoolKind })) (more_of-Stmt (Assign (Part' (Global 0 2) BoolKind (vec1 v) (more_of-Selector (Index (Some 15) 0 (Chain' b (Load (Whole (Local 0) Int)) (vec2 v) (more_of-Link (Operate Subtract (Load (Whole (Local 1) Int))) (more_of-Link (Operate Add (Literal 7)) end_of-Link)))) end_of-Selector)) (record { form = (Literal 1); kind = BoolKind })) (more_of-Stmt (If' (vec1 v) (more_of-Branch (record { form = (Compare' Less b (Load (Whole (Local 0) Int)) b (Literal 7)); kind = BoolKind }) (vec1 v) (more_of-Stmt (Invoke (Direct' 0 (vec1 v) (more_of-Argument (ByValue (Chain' b (Load (Whole (Local 0) Int)) (vec1 v) (more_of-Link (Operate Add (Literal 1)) end_of-Link))) end_of-Argument))) end_of-Stmt) end_of-Branch) (vec1 v) (more_of-Stmt (Increase (Whole (Global 0 3) Int) (record { form = (Literal 1); kind = Int })) end_of-Stmt)) (more_of-Stmt (Assign (Part' (Global 0 0) BoolKind (vec1 v) (more_of-Selector (Index (Some 8) 0 (Load (Whole (Local 1) Int))) end_of-Selector)) (record { form = (Literal 0); kind = BoolKind })) (more_of-Stmt (Assign (Part' (Global 0 1) BoolKind (vec1 v) (more_of-Selector (Index (Some 15) 0 (Chain' b (Load (Whole (Local 0) Int)) (vec1 v) (more_of-Link (Operate Add (Load (Whole (Local 1) Int))) end_of-Link))) end_of-Selector)) (record { form = (Literal 0); kind = BoolKind })) (more_of-Stmt (Assign (Part' (Global 0 2) BoolKind (vec1 v) (more_of-Selector (Index (Some 15) 0 (Chain' b (Load (Whole (Local 0) Int)) (vec2 v) (more_of-Link (Operate Subtract (Load (Whole (Local 1) Int))) (more_of-Link (Operate Add (Literal 7)) end_of-Link)))) end_of-Selector)) (record { form = (Literal 0); kind = BoolKind })) end_of-Stmt))))))) end_of-Branch) (vec0 v) end_of-Stmt) end_of-Stmt)
+      _ ← effects (queens b v) calls here fuel (more_of-Stmt (If' (vec1 v) (more_of-Branch (record { form = (Chain' b (Unary' Not b (Load (Part' b (Global 0 0) BoolKind (vec1 v) (more_of-Selector (Index (Some 8) 0 (Load (Whole (Local 1) Int))) end_of-Selector)))) (vec2 v) (more_of-Link (And (Unary' Not b (Load (Part' b (Global 0 1) BoolKind (vec1 v) (more_of-Selector (Index (Some 15) 0 (Chain' b (Load (Whole (Local 0) Int)) (vec1 v) (more_of-Link (Operate Add (Load (Whole (Local 1) Int))) end_of-Link))) end_of-Selector))))) (more_of-Link (And (Unary' Not b (Load (Part' b (Global 0 2) BoolKind (vec1 v) (more_of-Selector (Index (Some 15) 0 (Chain' b (Load (Whole (Local 0) Int)) (vec2 v) (more_of-Link (Operate Subtract (Load (Whole (Local 1) Int))) (more_of-Link (Operate Add (Literal 7)) end_of-Link)))) end_of-Selector))))) end_of-Link))); kind = BoolKind }) (vec7 v) (more_of-Stmt (Assign (Part' b (Global 0 0) BoolKind (vec1 v) (more_of-Selector (Index (Some 8) 0 (Load (Whole (Local 1) Int))) end_of-Selector)) (record { form = (Literal 1); kind = BoolKind })) (more_of-Stmt (Assign (Part' b (Global 0 1) BoolKind (vec1 v) (more_of-Selector (Index (Some 15) 0 (Chain' b (Load (Whole (Local 0) Int)) (vec1 v) (more_of-Link (Operate Add (Load (Whole (Local 1) Int))) end_of-Link))) end_of-Selector)) (record { form = (Literal 1); kind = BoolKind })) (more_of-Stmt (Assign (Part' b (Global 0 2) BoolKind (vec1 v) (more_of-Selector (Index (Some 15) 0 (Chain' b (Load (Whole (Local 0) Int)) (vec2 v) (more_of-Link (Operate Subtract (Load (Whole (Local 1) Int))) (more_of-Link (Operate Add (Literal 7)) end_of-Link)))) end_of-Selector)) (record { form = (Literal 1); kind = BoolKind })) (more_of-Stmt (If' (vec1 v) (more_of-Branch (record { form = (Compare' Less b (Load (Whole (Local 0) Int)) b (Literal 7)); kind = BoolKind }) (vec1 v) (more_of-Stmt (Invoke (Direct' 0 (vec1 v) (more_of-Argument (ByValue (Chain' b (Load (Whole (Local 0) Int)) (vec1 v) (more_of-Link (Operate Add (Literal 1)) end_of-Link))) end_of-Argument))) end_of-Stmt) end_of-Branch) (vec1 v) (more_of-Stmt (Increase (Whole (Global 0 3) Int) (record { form = (Literal 1); kind = Int })) end_of-Stmt)) (more_of-Stmt (Assign (Part' b (Global 0 0) BoolKind (vec1 v) (more_of-Selector (Index (Some 8) 0 (Load (Whole (Local 1) Int))) end_of-Selector)) (record { form = (Literal 0); kind = BoolKind })) (more_of-Stmt (Assign (Part' b (Global 0 1) BoolKind (vec1 v) (more_of-Selector (Index (Some 15) 0 (Chain' b (Load (Whole (Local 0) Int)) (vec1 v) (more_of-Link (Operate Add (Load (Whole (Local 1) Int))) end_of-Link))) end_of-Selector)) (record { form = (Literal 0); kind = BoolKind })) (more_of-Stmt (Assign (Part' b (Global 0 2) BoolKind (vec1 v) (more_of-Selector (Index (Some 15) 0 (Chain' b (Load (Whole (Local 0) Int)) (vec2 v) (more_of-Link (Operate Subtract (Load (Whole (Local 1) Int))) (more_of-Link (Operate Add (Literal 7)) end_of-Link)))) end_of-Selector)) (record { form = (Literal 0); kind = BoolKind })) end_of-Stmt))))))) end_of-Branch) (vec0 v) end_of-Stmt) end_of-Stmt)
       j ← bits (fetch place)
       put place (Bits (add64 j (unsigned (pos 1)))))
 

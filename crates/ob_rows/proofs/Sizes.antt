@@ -259,17 +259,17 @@ recursion_traps n turns b v e enough = rw (goes_too_deep (suc n) b v n [] turns 
 
 ---- MODULE H; VAR p: POINTER TO RECORD a: ARRAY 1023 OF INTEGER END; i: INTEGER; BEGIN FOR i := 1 TO n DO NEW(p) END END H
 
-abbrev objects : ℕ → Vec (Unit {0}) Heap → Program
-objects n v = record {
+abbrev objects : ℕ → Box (Unit {0}) Heap → Vec (Unit {0}) Heap → Program
+objects n b v = record {
   types = record { kinds = RecordKind 0 ∷ PointerKind 0 ∷ Int ∷ Nothing ∷ Array (Some 1023) 2 ∷ []; records = record { «module» = 0; base = None; level = 0; fields = record { name = []; exported = false; type_number = 4 } ∷ []; cells = 1023 } ∷ []; signatures = [] };
   modules = record { name = []; objects = []; variables = 1 ∷ 2 ∷ []; body = 0 } ∷ [];
-  procedures = record { «module» = 0; line = 1; is_body = true; formals = []; result = 3; locals = []; texts = []; body = For' (Whole (Global 0 1) Int) (record { form = Literal 1; kind = Int }) (record { form = Literal n; kind = Int }) (pos 1) (vec1 v) (more_of-Stmt (New (Whole (Global 0 0) (PointerKind 0))) end_of-Stmt) ∷ []; answer = None } ∷ [];
+  procedures = record { «module» = 0; line = 1; is_body = true; formals = []; result = 3; locals = []; texts = []; body = For' b (Whole (Global 0 1) Int) (record { form = Literal 1; kind = Int }) (record { form = Literal n; kind = Int }) (pos 1) (vec1 v) (more_of-Stmt (New (Whole (Global 0 0) (PointerKind 0))) end_of-Stmt) ∷ []; answer = None } ∷ [];
   imports_in = false;
 }
 
-module _ (n : ℕ) (v : Vec (Unit {0}) Heap) (calls : Calls) (fuel : ℕ) where
+module _ (n : ℕ) (b : Box (Unit {0}) Heap) (v : Vec (Unit {0}) Heap) (calls : Calls) (fuel : ℕ) where
   abbrev heap_p : Program
-  heap_p = objects n v
+  heap_p = objects n b v
 
   abbrev here : Here
   here = record { procedure = 0; frame = 0; arguments = [] }
@@ -351,14 +351,14 @@ module _ (n : ℕ) (v : Vec (Unit {0}) Heap) (calls : Calls) (fuel : ℕ) where
       ∙ loop_traps free (suc i) (Pointer (length hs)) (hs ++ object ∷ []) (tags ++ 0 ∷ []) f t (omega arith) (omega (arith, is)) small (omega (arith, full, o)) (omega (arith, deep)) (omega (arith, turns))
 
 -- 8,192 objects of 1,024 cells each fill the heap
-pub objects_end : (n turns : ℕ) (v : Vec (Unit {0}) Heap) → 0 < n → n ≤ 8192 → n < turns → meaning (objects n v) [] turns ≡ Ended []
-objects_end n turns v some few enough =
-    let r = loop_ends n v (at_most (objects n v) turns) turns n 1 (Bits 0) [] [] turns turns (omega arith) (omega arith) (omega (arith, few)) (omega (arith, few)) enough enough in
+pub objects_end : (n turns : ℕ) (b : Box (Unit {0}) Heap) (v : Vec (Unit {0}) Heap) → 0 < n → n ≤ 8192 → n < turns → meaning (objects n b v) [] turns ≡ Ended []
+objects_end n turns b v some few enough =
+    let r = loop_ends n b v (at_most (objects n b v) turns) turns n 1 (Bits 0) [] [] turns turns (omega arith) (omega arith) (omega (arith, few)) (omega (arith, few)) enough enough in
     rw r.1 (ap Ended r.2)
 
-pub objects_trap : (n turns : ℕ) (v : Vec (Unit {0}) Heap) → 8192 < n → n < 8388608 → 8192 < turns → meaning (objects n v) [] turns ≡ Trapped (Kind 10 0) []
-objects_trap n turns v many small enough =
-    rw (loop_traps n v (at_most (objects n v) turns) turns 8192 1 (Bits 0) [] [] turns turns (omega arith) (omega (arith, many)) small (omega arith) (omega (arith, enough)) (omega (arith, enough))) refl
+pub objects_trap : (n turns : ℕ) (b : Box (Unit {0}) Heap) (v : Vec (Unit {0}) Heap) → 8192 < n → n < 8388608 → 8192 < turns → meaning (objects n b v) [] turns ≡ Trapped (Kind 10 0) []
+objects_trap n turns b v many small enough =
+    rw (loop_traps n b v (at_most (objects n b v) turns) turns 8192 1 (Bits 0) [] [] turns turns (omega arith) (omega (arith, many)) small (omega arith) (omega (arith, enough)) (omega (arith, enough))) refl
 
 ---- They are well-formed
 
@@ -371,5 +371,5 @@ local_arrays_formed v = refl
 pub recursion_formed : (b : Box (Unit {0}) Heap) (v : Vec (Unit {0}) Heap) → well_formed (recursion 8193 b v) ≡ true
 recursion_formed b v = refl
 
-pub objects_formed : (v : Vec (Unit {0}) Heap) → well_formed (objects 8193 v) ≡ true
-objects_formed v = refl
+pub objects_formed : (b : Box (Unit {0}) Heap) (v : Vec (Unit {0}) Heap) → well_formed (objects 8193 b v) ≡ true
+objects_formed b v = refl

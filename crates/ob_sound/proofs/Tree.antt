@@ -11,8 +11,8 @@ use Rattle.ob_types.specs.Meaning.{procedure_of, globals_of, locals_of, texts_of
 use Rattle.ob_types.specs.declared.types.TypeKind.{TypeKind}
 use Rattle.ob_types.specs.declared.types.Formal.{Formal}
 use Rattle.ob_types.specs.declared.tree.Binary.TheVariants.{Add, Subtract, Union, Difference}
-use Rattle.ob_types.specs.declared.tree.Expr.{Expr, Literal, Routine, Load, Guard, Unary', Chain', Compare', CompareTexts', In', IsPointer', IsParameter, Byte', Length, Call', Row_of-Link, end_of-Link, more_of-Link}
-use Rattle.ob_types.specs.declared.tree.Link.{Link, Operate, And, Or, Element, Elements}
+use Rattle.ob_types.specs.declared.tree.Expr.{Expr, Literal, Routine, Load, Guard', Unary', Chain', Compare', CompareTexts', In', IsPointer', IsParameter, Byte', Length, Call', Row_of-Link, end_of-Link, more_of-Link}
+use Rattle.ob_types.specs.declared.tree.Link.{Link, Operate, And, Or, Element, Elements'}
 use Rattle.ob_types.specs.declared.tree.Base.{Base}
 use Rattle.ob_types.specs.declared.tree.Base.TheVariants.{Done, Global, Local, Parameter, Text}
 use Rattle.ob_types.specs.declared.tree.Designator.{Designator, Whole, Part', Row_of-Selector, end_of-Selector, more_of-Selector}
@@ -81,7 +81,7 @@ module _ (p : Program) where
           t_value (Literal n) = t_literal n
           t_value (Routine g) = m_provided p fine (WellFormed.callable p g) (Some (Exactly g)) (λ h. m_of p fine (Exactly g) (s_give p (Code g) (λ _ _. refl)))
           t_value (Load d) = m_load p fine (WellFormed.named p here.procedure d) (t_named d)
-          t_value (Guard d rs) = m_guards p fine here.procedure rs (with_some (WellFormed.named p here.procedure d) (WellFormed.scalar_in p)) (load (designated p calls here d)) (m_load p fine (WellFormed.named p here.procedure d) (t_named d))
+          t_value (Guard' _ d rs) = m_guards p fine here.procedure rs (with_some (WellFormed.named p here.procedure d) (WellFormed.scalar_in p)) (load (designated p calls here d)) (m_load p fine (WellFormed.named p here.procedure d) (t_named d))
           t_value (Unary' op _ x) = m_unary p fine op (WellFormed.form p here.procedure x) (t_value x)
           t_value (Chain' _ x _ links) = t_linked _ links (WellFormed.form p here.procedure x) (value p calls here x) (t_value x)
           t_value (Compare' r _ x _ y) = m_compared p fine r (WellFormed.form p here.procedure x) (WellFormed.form p here.procedure y) (t_value x) (t_value y)
@@ -102,11 +102,11 @@ module _ (p : Program) where
           t_link (And y) o x q = m_both p fine o (WellFormed.form p here.procedure y) q (t_value y)
           t_link (Or y) o x q = m_either p fine o (WellFormed.form p here.procedure y) q (t_value y)
           t_link (Element y) o x q = m_with p fine here.procedure o (WellFormed.form p here.procedure y) q (t_value y)
-          t_link (Elements y z) o x q = m_with_range p fine here.procedure o (WellFormed.form p here.procedure y) (WellFormed.form p here.procedure z) q (t_value y) (t_value z)
+          t_link (Elements' _ y _ z) o x q = m_with_range p fine here.procedure o (WellFormed.form p here.procedure y) (WellFormed.form p here.procedure z) q (t_value y) (t_value z)
 
           pub t_named : (d : Designator) → Points p fine fs tags (WellFormed.named p here.procedure d) (designated p calls here d)
           t_named (Whole b kind) = p_kind kind (WellFormed.base_named p here.procedure b) (t_base b)
-          t_named (Part' b kind _ selectors) = p_kind kind (WellFormed.selected_named p here.procedure selectors (WellFormed.base_named p here.procedure b)) (t_selected _ selectors (WellFormed.base_named p here.procedure b) (base_of p calls here b) (t_base b))
+          t_named (Part' _ b kind _ selectors) = p_kind kind (WellFormed.selected_named p here.procedure selectors (WellFormed.base_named p here.procedure b)) (t_selected _ selectors (WellFormed.base_named p here.procedure b) (base_of p calls here b) (t_base b))
 
           pub t_selected : (m : _) (row : Row_of-Selector m) (o : Option Named) (d : Act Handed) → Points p fine fs tags o d → Points p fine fs tags (WellFormed.selected_named p here.procedure row o) (selected p calls here row d)
           t_selected m end_of-Selector o d q = q
@@ -178,7 +178,7 @@ module _ (p : Program) where
             t_effect (If' _ parts _ other) = record { sound = λ h. let y = and_of (WellFormed.fine_branches p here.procedure parts) (WellFormed.fine_row p here.procedure other) h in s_otherwise p fine ((t_branches _ parts).sound y.0) ((t_effects _ other).sound y.1) }
             t_effect (While' _ parts) = record { sound = λ h. let y = and_of (has_branch parts) (WellFormed.fine_branches p here.procedure parts) h in s_repeat p fuel (branches p calls here fuel parts) ((t_branches _ parts).sound y.1) }
             t_effect (Repeat' _ body x) = d_until p fine fuel (WellFormed.fine_row p here.procedure body) (form_in x) (t_effects _ body) (t_checked x)
-            t_effect (For' d x y step _ body) = does_also p fine (is_step step) (does_also p fine (is_whole d) (d_for p fine fuel step (name_of d) (form_in x) (form_in y) (WellFormed.fine_row p here.procedure body) (t_named d) (t_checked x) (t_checked y) (t_effects _ body)))
+            t_effect (For' _ d x y step _ body) = does_also p fine (is_step step) (does_also p fine (is_whole d) (d_for p fine fuel step (name_of d) (form_in x) (form_in y) (WellFormed.fine_row p here.procedure body) (t_named d) (t_checked x) (t_checked y) (t_effects _ body)))
             t_effect (Case' x _ parts) = d_case p fine here.procedure (form_in x) (WellFormed.fine_case_parts p here.procedure parts) (t_checked x) (λ v. t_case_parts v _ parts)
             t_effect (CasePointer' x _ parts) = record { sound = λ h. let y = and_of (gives_pointer (form_in x)) (WellFormed.fine_type_parts p here.procedure parts) h in s_type_case p fine (s_pointer_type p fine (form_in x) y.0 (t_checked x)) (λ t. (t_type_parts t _ parts).sound y.1) }
             t_effect (CaseParameter' d _ parts) = record { sound = λ h. let y = and_of (holds_of (WellFormed.is_dynamic p) (name_of d)) (WellFormed.fine_type_parts p here.procedure parts) h in s_type_case p fine (s_parameter_type p fine (name_of d) y.0 (t_named d)) (λ t. (t_type_parts t _ parts).sound y.1) }

@@ -61,7 +61,7 @@ copied_3 b v = refl
 
 -- MODULE M; IMPORT Out; TYPE B = RECORD x: INTEGER END; E = RECORD (B) y: INTEGER END; VAR b: B; after: INTEGER; e: E; BEGIN e.x := 1; e.y := 2; b := e; Out.Int(b.x, 0); Out.Int(after, 0) END M.
 abbrev projected : Outside Program
-projected b v = record { types = record { kinds = ((RecordKind 0) ∷ (RecordKind 1) ∷ Int ∷ Nothing ∷ []); records = (record { «module» = 0; base = None; level = 0; fields = (record { name = []; exported = false; type_number = 2 } ∷ []); cells = 1 } ∷ record { «module» = 0; base = (Some 0); level = 1; fields = (record { name = []; exported = false; type_number = 2 } ∷ []); cells = 2 } ∷ []); signatures = [] }; modules = (record { name = []; objects = []; variables = (0 ∷ 2 ∷ 1 ∷ []); body = 0 } ∷ []); procedures = (record { «module» = 0; line = 1; is_body = true; formals = []; result = 3; locals = []; texts = []; body = ((Assign (Part' (Global 0 2) Int (vec1 v) (more_of-Selector (Field 0 0) end_of-Selector)) (record { form = (Literal 1); kind = Int })) ∷ (Assign (Part' (Global 0 2) Int (vec1 v) (more_of-Selector (Field 1 0) end_of-Selector)) (record { form = (Literal 2); kind = Int })) ∷ (CopyRecord (Whole (Global 0 0) (RecordKind 0)) (Whole (Global 0 2) (RecordKind 1))) ∷ (OutInt (record { form = (Load (Part' (Global 0 0) Int (vec1 v) (more_of-Selector (Field 0 0) end_of-Selector))); kind = Int }) (record { form = (Literal 0); kind = Int })) ∷ (OutInt (record { form = (Load (Whole (Global 0 1) Int)); kind = Int }) (record { form = (Literal 0); kind = Int })) ∷ []); answer = None } ∷ []); imports_in = false }
+projected b v = record { types = record { kinds = ((RecordKind 0) ∷ (RecordKind 1) ∷ Int ∷ Nothing ∷ []); records = (record { «module» = 0; base = None; level = 0; fields = (record { name = []; exported = false; type_number = 2 } ∷ []); cells = 1 } ∷ record { «module» = 0; base = (Some 0); level = 1; fields = (record { name = []; exported = false; type_number = 2 } ∷ []); cells = 2 } ∷ []); signatures = [] }; modules = (record { name = []; objects = []; variables = (0 ∷ 2 ∷ 1 ∷ []); body = 0 } ∷ []); procedures = (record { «module» = 0; line = 1; is_body = true; formals = []; result = 3; locals = []; texts = []; body = ((Assign (Part' b (Global 0 2) Int (vec1 v) (more_of-Selector (Field 0 0) end_of-Selector)) (record { form = (Literal 1); kind = Int })) ∷ (Assign (Part' b (Global 0 2) Int (vec1 v) (more_of-Selector (Field 1 0) end_of-Selector)) (record { form = (Literal 2); kind = Int })) ∷ (CopyRecord (Whole (Global 0 0) (RecordKind 0)) (Whole (Global 0 2) (RecordKind 1))) ∷ (OutInt (record { form = (Load (Part' b (Global 0 0) Int (vec1 v) (more_of-Selector (Field 0 0) end_of-Selector))); kind = Int }) (record { form = (Literal 0); kind = Int })) ∷ (OutInt (record { form = (Load (Whole (Global 0 1) Int)); kind = Int }) (record { form = (Literal 0); kind = Int })) ∷ []); answer = None } ∷ []); imports_in = false }
 
 pub projected_3 : (b : Box (Unit {0}) Heap) (v : Vec (Unit {0}) Heap) → meaning (projected b v) [] 3 ≡ Ended (49 ∷ 48 ∷ [])
 unfolding digits
@@ -73,7 +73,7 @@ projected_9 b v = refl
 
 -- MODULE M; IMPORT Out; VAR i, n: INTEGER; BEGIN n := 3; FOR i := 0 TO n DO n := 1; Out.Int(i, 0) END END M.
 abbrev limit : Outside Program
-limit b v = record { types = record { kinds = (Int ∷ Nothing ∷ []); records = []; signatures = [] }; modules = (record { name = []; objects = []; variables = (0 ∷ 0 ∷ []); body = 0 } ∷ []); procedures = (record { «module» = 0; line = 1; is_body = true; formals = []; result = 1; locals = []; texts = []; body = ((Assign (Whole (Global 0 1) Int) (record { form = (Literal 3); kind = Int })) ∷ (For' (Whole (Global 0 0) Int) (record { form = (Literal 0); kind = Int }) (record { form = (Load (Whole (Global 0 1) Int)); kind = Int }) (pos 1) (vec2 v) (more_of-Stmt (Assign (Whole (Global 0 1) Int) (record { form = (Literal 1); kind = Int })) (more_of-Stmt (OutInt (record { form = (Load (Whole (Global 0 0) Int)); kind = Int }) (record { form = (Literal 0); kind = Int })) end_of-Stmt))) ∷ []); answer = None } ∷ []); imports_in = false }
+limit b v = record { types = record { kinds = (Int ∷ Nothing ∷ []); records = []; signatures = [] }; modules = (record { name = []; objects = []; variables = (0 ∷ 0 ∷ []); body = 0 } ∷ []); procedures = (record { «module» = 0; line = 1; is_body = true; formals = []; result = 1; locals = []; texts = []; body = ((Assign (Whole (Global 0 1) Int) (record { form = (Literal 3); kind = Int })) ∷ (For' b (Whole (Global 0 0) Int) (record { form = (Literal 0); kind = Int }) (record { form = (Load (Whole (Global 0 1) Int)); kind = Int }) (pos 1) (vec2 v) (more_of-Stmt (Assign (Whole (Global 0 1) Int) (record { form = (Literal 1); kind = Int })) (more_of-Stmt (OutInt (record { form = (Load (Whole (Global 0 0) Int)); kind = Int }) (record { form = (Literal 0); kind = Int })) end_of-Stmt))) ∷ []); answer = None } ∷ []); imports_in = false }
 
 pub limit_7 : (b : Box (Unit {0}) Heap) (v : Vec (Unit {0}) Heap) → meaning (limit b v) [] 7 ≡ Ended (48 ∷ 49 ∷ 50 ∷ 51 ∷ [])
 unfolding digits

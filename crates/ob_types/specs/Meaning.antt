@@ -20,8 +20,8 @@ use Rattle.ob_types.specs.declared.types.Mode.TheVariants.{Place}
 use Rattle.ob_types.specs.declared.types.Mode.TheVariants.{Value as OfValue, Record as OfRecord, Open as OfOpen}
 use Rattle.ob_types.specs.declared.types.Formal.{Formal}
 use Rattle.ob_types.specs.declared.tree.Binary.TheVariants.{Add, Subtract, Union, Difference}
-use Rattle.ob_types.specs.declared.tree.Expr.{Expr, Literal, Routine, Load, Guard, Unary', Chain', Compare', CompareTexts', In', IsPointer', IsParameter, Byte', Length, Call', Row_of-Link, end_of-Link, more_of-Link}
-use Rattle.ob_types.specs.declared.tree.Link.{Link, Operate, And, Or, Element, Elements}
+use Rattle.ob_types.specs.declared.tree.Expr.{Expr, Literal, Routine, Load, Guard', Unary', Chain', Compare', CompareTexts', In', IsPointer', IsParameter, Byte', Length, Call', Row_of-Link, end_of-Link, more_of-Link}
+use Rattle.ob_types.specs.declared.tree.Link.{Link, Operate, And, Or, Element, Elements'}
 use Rattle.ob_types.specs.declared.tree.Base.{Base}
 use Rattle.ob_types.specs.declared.tree.Base.TheVariants.{Done, Global, Local, Parameter, Text}
 use Rattle.ob_types.specs.declared.tree.Designator.{Designator, Whole, Part', Row_of-Selector, end_of-Selector, more_of-Selector}
@@ -69,7 +69,7 @@ variable_of p area object variables v = At (record { area = area; object = objec
 -- the type that a designator has
 abbrev pub kind_in : Designator → TypeKind
 kind_in (Whole b k) = k
-kind_in (Part' b k _ row) = k
+kind_in (Part' _ b k _ row) = k
 
 -- the length of an array or a string, where the type has one: a string has a 0X behind its characters
 abbrev pub length_of_kind : TypeKind → Option ℕ
@@ -106,7 +106,7 @@ module _ (p : Program) (calls : Calls) (here : Here) where
     value (Literal n) = give (Bits n)
     value (Routine g) = give (Code g)
     value (Load d) = load (designated d)
-    value (Guard d rs) = all_guarded here.procedure (extends p.types) (load (designated d)) rs
+    value (Guard' _ d rs) = all_guarded here.procedure (extends p.types) (load (designated d)) rs
     value (Unary' op _ x) = one_operand op (value x)
     value (Chain' _ x _ links) = linked links (value x)
     value (Compare' r _ x _ y) = compared r (value x) (value y)
@@ -128,12 +128,12 @@ module _ (p : Program) (calls : Calls) (here : Here) where
     link (And y) x = both x (value y)
     link (Or y) x = either x (value y)
     link (Element y) x = with_element here.procedure x (value y)
-    link (Elements y z) x = with_range here.procedure x (value y) (value z)
+    link (Elements' _ y _ z) x = with_range here.procedure x (value y) (value z)
 
     -- what a designator names: its address, and what goes with it
     pub designated : Designator → Act Handed
     designated (Whole b k) = base_of b
-    designated (Part' b k _ selectors) = selected selectors (base_of b)
+    designated (Part' _ b k _ selectors) = selected selectors (base_of b)
 
     -- where the selectors lead to, one after the other
     pub selected : {m : _} → Row_of-Selector m → Act Handed → Act Handed
@@ -181,7 +181,7 @@ module _ (p : Program) (calls : Calls) (here : Here) where
       effect (If' _ parts _ other) = otherwise (branches parts) (effects other)
       effect (While' _ parts) = repeat fuel (branches parts)
       effect (Repeat' _ body x) = until_so fuel (effects body) (test (value x.form))
-      effect (For' d x y step _ body) = for fuel (designated d) (value x.form) (value y.form) step (effects body)
+      effect (For' _ d x y step _ body) = for fuel (designated d) (value x.form) (value y.form) step (effects body)
       effect (Case' x _ parts) = case here.procedure (value x.form) (λ v. case_parts v parts)
       effect (CasePointer' x _ parts) = type_case (pointer_type (value x.form)) (λ t. type_parts t parts)
       effect (CaseParameter' d _ parts) = type_case (parameter_type (designated d)) (λ t. type_parts t parts)

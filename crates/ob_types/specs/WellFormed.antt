@@ -21,8 +21,8 @@ use Rattle.ob_types.specs.declared.tree.Unary.{Unary}
 use Rattle.ob_types.specs.declared.tree.Unary.TheVariants.{Not, Odd}
 use Rattle.ob_types.specs.declared.tree.Relation.{Relation}
 use Rattle.ob_types.specs.declared.tree.Relation.TheVariants.{Equal, Unequal}
-use Rattle.ob_types.specs.declared.tree.Expr.{Expr, Literal, Routine, Load, Guard, Unary', Chain', Compare', CompareTexts', In', IsPointer', IsParameter, Byte', Length, Call', Row_of-Link, end_of-Link, more_of-Link}
-use Rattle.ob_types.specs.declared.tree.Link.{Link, Operate, And, Or, Element, Elements}
+use Rattle.ob_types.specs.declared.tree.Expr.{Expr, Literal, Routine, Load, Guard', Unary', Chain', Compare', CompareTexts', In', IsPointer', IsParameter, Byte', Length, Call', Row_of-Link, end_of-Link, more_of-Link}
+use Rattle.ob_types.specs.declared.tree.Link.{Link, Operate, And, Or, Element, Elements'}
 use Rattle.ob_types.specs.declared.tree.Base.{Base}
 use Rattle.ob_types.specs.declared.tree.Base.TheVariants.{Done, Global, Local, Parameter, Text}
 use Rattle.ob_types.specs.declared.tree.Designator.{Designator, Whole, Part', Row_of-Selector, end_of-Selector, more_of-Selector}
@@ -232,7 +232,7 @@ no_selector (more_of-Selector s rest) = false
 
 abbrev pub is_whole : Designator → Bool
 is_whole (Whole b k) = true
-is_whole (Part' b k _ selectors) = no_selector selectors
+is_whole (Part' _ b k _ selectors) = no_selector selectors
 
 abbrev pub no_answer : Option Checked → Bool
 no_answer None = true
@@ -434,7 +434,7 @@ module _ (p : Program) where
       form (Literal n) = literal n
       form (Routine g) = provided (callable g) (Some (Exactly g))
       form (Load d) = with_some (named d) scalar_in
-      form (Guard d rs) = guarded_form rs (with_some (named d) scalar_in)
+      form (Guard' _ d rs) = guarded_form rs (with_some (named d) scalar_in)
       form (Unary' op _ x) = provided (gives_number (form x)) (Some (unary_form op))
       form (Chain' _ x _ links) = linked_form links (form x)
       form (Compare' r _ x _ y) = with_some (form x) (λ a. with_some (form y) (λ b. provided (comparable r a b) (Some Truth)))
@@ -456,12 +456,12 @@ module _ (p : Program) where
       link_form (And y) o = provided (gives_truth o) (provided (gives_truth (form y)) (Some Truth))
       link_form (Or y) o = provided (gives_truth o) (provided (gives_truth (form y)) (Some Truth))
       link_form (Element y) o = provided (gives_number o) (provided (gives_number (form y)) (Some Number))
-      link_form (Elements y z) o = provided (gives_number o) (provided (gives_number (form y)) (provided (gives_number (form z)) (Some Number)))
+      link_form (Elements' _ y _ z) o = provided (gives_number o) (provided (gives_number (form y)) (provided (gives_number (form z)) (Some Number)))
 
       -- what a designator names, where it has the type that it says
       pub named : Designator → Option Named
       named (Whole b kind) = with_some (base_named b) (of_kind kind)
-      named (Part' b kind _ selectors) = with_some (selected_named selectors (base_named b)) (of_kind kind)
+      named (Part' _ b kind _ selectors) = with_some (selected_named selectors (base_named b)) (of_kind kind)
 
       -- behind one selector after the other
       pub selected_named : {m : _} → Row_of-Selector m → Option Named → Option Named
@@ -520,7 +520,7 @@ module _ (p : Program) where
       fine (If' _ parts _ other) = fine_branches parts && fine_row other
       fine (While' _ parts) = has_branch parts && fine_branches parts
       fine (Repeat' _ body x) = fine_row body && gives_number (checked_form x)
-      fine (For' d x y step _ body) = is_step step && (is_whole d && (holds_of (takes is_full) (named d) && (gives_number (checked_form x) && (gives_number (checked_form y) && fine_row body))))
+      fine (For' _ d x y step _ body) = is_step step && (is_whole d && (holds_of (takes is_full) (named d) && (gives_number (checked_form x) && (gives_number (checked_form y) && fine_row body))))
       fine (Case' x _ parts) = gives_number (checked_form x) && fine_case_parts parts
       fine (CasePointer' x _ parts) = gives_pointer (checked_form x) && fine_type_parts parts
       fine (CaseParameter' d _ parts) = holds_of is_dynamic (named d) && fine_type_parts parts

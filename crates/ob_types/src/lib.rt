@@ -12,7 +12,9 @@ mod tree;
 mod types;
 
 pub use program::{Constant, Entity, Module, Object, Procedure, Program};
-pub use statements::{Branch, CasePart, Checked, Label, Stmt, TypePart};
+pub use statements::{Branch, CasePart, Checked, ForLoop, Label, Stmt, TypePart};
 pub use table::Types;
-pub use tree::{Argument, Base, Binary, Call, Designator, Expr, Link, Relation, Selector, Unary};
+pub use tree::{
+    Access, Argument, Base, Binary, Call, Designator, Expr, Link, Relation, Selector, Unary,
+};
 pub use types::{Field, Formal, Mode, RecordType, Signature, TypeKind};

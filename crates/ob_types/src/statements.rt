@@ -52,6 +52,22 @@ pub struct TypePart {
     pub body: Vec<Stmt>,
 }
 
+/// A FOR statement; the step isn't 0.
+#[derive(Drop)]
+#[cycle(statements)]
+pub struct ForLoop {
+    /// The variable.
+    pub variable: Designator,
+    /// Its first value.
+    pub first: Checked,
+    /// The limit, which is evaluated once.
+    pub limit: Checked,
+    /// What is added to the variable after each turn.
+    pub step: i64,
+    /// What is done in each turn.
+    pub body: Vec<Stmt>,
+}
+
 /// A statement. A number that becomes a BYTE stands in `Byte`, but for INC and DEC, which test the new value.
 #[derive(Drop)]
 #[cycle(statements)]
@@ -92,14 +108,8 @@ pub enum Stmt {
     While(Vec<Branch>),
     /// REPEAT: the body, and the condition that ends it.
     Repeat(Vec<Stmt>, Checked),
-    /// FOR; the step isn't 0.
-    For {
-        variable: Designator,
-        first: Checked,
-        limit: Checked,
-        step: i64,
-        body: Vec<Stmt>,
-    },
+    /// FOR.
+    For(Box<ForLoop>),
     /// CASE on INTEGER or CHAR.
     Case(Checked, Vec<CasePart>),
     /// CASE on the dynamic type of a pointer's object.

@@ -77,7 +77,7 @@ pub enum Expr {
     /// The value of a scalar variable.
     Load(Designator),
     /// The value of a pointer variable, guarded by these record types one after the other.
-    Guard(Designator, Items<u32>),
+    Guard(Box<Designator>, Items<u32>),
     /// An operator and its operand.
     Unary(Unary, Box<Expr>),
     /// A value, and what is done to it by one link after the other.
@@ -113,7 +113,7 @@ pub enum Link {
     /// One more element of a set.
     Element(Expr),
     /// The elements from one to another.
-    Elements(Expr, Expr),
+    Elements(Box<Expr>, Box<Expr>),
 }
 
 /// A variable, a string as an array, or a part of one, with the type that it has.
@@ -122,8 +122,20 @@ pub enum Link {
 pub enum Designator {
     /// The variable as a whole.
     Whole(Base, TypeKind),
-    /// What the selectors lead to, one after the other, from the variable on. The type is that of the part.
-    Part(Base, TypeKind, Vec<Selector>),
+    /// A part of the variable.
+    Part(Box<Access>),
+}
+
+/// A variable with selectors.
+#[derive(Drop)]
+#[cycle(expressions)]
+pub struct Access {
+    /// The variable.
+    pub base: Base,
+    /// The type of the part.
+    pub kind: TypeKind,
+    /// The steps that lead to the part, one after the other, from the variable on.
+    pub selectors: Vec<Selector>,
 }
 
 /// Where a designator begins.

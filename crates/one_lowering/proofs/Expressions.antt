@@ -6,8 +6,8 @@ use Rattle.ob_types.specs.declared.types.Formal.{Formal}
 use Rattle.ob_types.specs.declared.types.Mode.{Mode}
 use Rattle.ob_types.specs.declared.types.Mode.TheVariants.{Place}
 use Rattle.ob_types.specs.declared.types.Mode.TheVariants.{Value as AsValue, Record as AsRecord, Open as AsOpen}
-use Rattle.ob_types.specs.declared.tree.Expr.{Expr, Literal, Routine, Load, Guard, Unary', Chain', Compare', CompareTexts', In', IsPointer', IsParameter, Byte', Length, Call', Row_of-Link, end_of-Link, more_of-Link}
-use Rattle.ob_types.specs.declared.tree.Link.{Link, Operate, Element, Elements}
+use Rattle.ob_types.specs.declared.tree.Expr.{Expr, Literal, Routine, Load, Guard', Unary', Chain', Compare', CompareTexts', In', IsPointer', IsParameter, Byte', Length, Call', Row_of-Link, end_of-Link, more_of-Link}
+use Rattle.ob_types.specs.declared.tree.Link.{Link, Operate, Element, Elements'}
 use Rattle.ob_types.specs.declared.tree.Link.{And as AndLink, Or as OrLink}
 use Rattle.ob_types.specs.declared.tree.Base.{Base}
 use Rattle.ob_types.specs.declared.tree.Base.TheVariants.{Done, Global, Local, Parameter, Text}
@@ -146,18 +146,18 @@ module _ (p : Program) (here : Here) (a : Asked) (answers : Answers p here a) (c
 
   pub length_same : (d : Designator) → length_of_kind (kind_in d) ≡ length_in (plain_designator p.types uses d)
   length_same (Whole b kind) = same_length p.types kind
-  length_same (Part' b kind _ row) = same_length p.types kind
+  length_same (Part' _ b kind _ row) = same_length p.types kind
 
   pub record_same : (d : Designator) → record_of_kind (kind_in d) ≡ record_in (plain_designator p.types uses d)
   record_same (Whole b kind) = same_record p.types kind
-  record_same (Part' b kind _ row) = same_record p.types kind
+  record_same (Part' _ b kind _ row) = same_record p.types kind
 
   mutual
     pub same_expr : (x : Expr) → Sensible x → expr p (in_cells p.types) here x ≡ low_expr a (plain_expr p.types uses x)
     same_expr (Literal n) h = refl
     same_expr (Routine g) h = refl
     same_expr (Load d) h = same_loaded d (same_named d (with_is (WellFormed.named p f d) (WellFormed.scalar_in p) h))
-    same_expr (Guard d rs) h =
+    same_expr (Guard' _ d rs) h =
         let o = with_some (WellFormed.named p f d) (WellFormed.scalar_in p) in
         same_guards rs (load (home_of (named p (in_cells p.types) here d) false)) (I.Load (plain_designator p.types uses d))
         (same_loaded d (same_named d (with_is (WellFormed.named p f d) (WellFormed.scalar_in p) (guarded_is p f rs o h))))
@@ -210,11 +210,11 @@ module _ (p : Program) (here : Here) (a : Asked) (answers : Answers p here a) (c
     same_link (AndLink y) o h x = ap (λ v. tested (fork_and x.test v.test)) (same_expr y (condition_is p f y o h))
     same_link (OrLink y) o h x = ap (λ v. tested (fork_or x.test v.test)) (same_expr y (condition_is p f y o h))
     same_link (Element y) o h x = ap (λ v. valued (with_element x.value v.value)) (same_expr y (element_is p f y o h))
-    same_link (Elements y z) o h x = let r = elements_are p f y z o h in ap₂ (λ u v. valued (with_range x.value u.value v.value)) (same_expr y r.0) (same_expr z r.1)
+    same_link (Elements' b y c z) o h x = let r = elements_are p f b y c z o h in ap₂ (λ u v. valued (with_range x.value u.value v.value)) (same_expr y r.0) (same_expr z r.1)
 
     pub same_named : (d : Designator) → Nameable d → named p (in_cells p.types) here d ≡ low_named a (plain_designator p.types uses d)
     same_named (Whole b k) h = same_base b (with_is (WellFormed.base_named p f b) (WellFormed.of_kind p k) h)
-    same_named (Part' b k _ row) h =
+    same_named (Part' _ b k _ row) h =
         let base = WellFormed.base_named p f b in
         let all = with_is (WellFormed.selected_named p f row base) (WellFormed.of_kind p k) h in
         same_selected row base (sound_base p f closed b) all (Lowered.based p (in_cells p.types) here b) (plain_base p.types uses b) (same_base b (selected_is p f row base all))

@@ -1,8 +1,8 @@
 -- Which variables a tree lends and assigns is told by its form.
 use Rattle.std.proofs.Common.{◌≡◌, ℕ, List, [], ◌∷◌, Bool, true, false, ◌||◌, Option, Some, None, refl, sym, ap, ap₂, ◌∙◌, slice_get}
 use Rattle.std.specs.Prelude.{option_map}
-use Rattle.ob_types.specs.declared.tree.Expr.{Expr, Literal, Routine, Load, Guard, Unary', Chain', Compare', CompareTexts', In', IsPointer', IsParameter, Byte', Length, Call', Row_of-Link, end_of-Link, more_of-Link}
-use Rattle.ob_types.specs.declared.tree.Link.{Link, Operate, And, Or, Element, Elements}
+use Rattle.ob_types.specs.declared.tree.Expr.{Expr, Literal, Routine, Load, Guard', Unary', Chain', Compare', CompareTexts', In', IsPointer', IsParameter, Byte', Length, Call', Row_of-Link, end_of-Link, more_of-Link}
+use Rattle.ob_types.specs.declared.tree.Link.{Link, Operate, And, Or, Element, Elements'}
 use Rattle.ob_types.specs.declared.tree.Base.{Base}
 use Rattle.ob_types.specs.declared.tree.Base.TheVariants as TheBase
 use Rattle.ob_types.specs.declared.tree.Designator.{Designator, Whole, Part', Row_of-Selector, end_of-Selector, more_of-Selector}
@@ -67,7 +67,7 @@ module _ (t : Table) (texts : List (List ℕ)) (v : ℕ) where
 
   pub same_itself : (d : Designator) → itself d v ≡ itself_in (plain_designator t texts d) v
   same_itself (Whole b k) = base_itself b
-  same_itself (Part' b k _ row) = unselected_same (origin b) row (plain_base t texts b) (base_itself b)
+  same_itself (Part' _ b k _ row) = unselected_same (origin b) row (plain_base t texts b) (base_itself b)
 
   -- ---- what is lent
 
@@ -80,7 +80,7 @@ module _ (t : Table) (texts : List (List ℕ)) (v : ℕ) where
     same_lent (Literal n) = refl
     same_lent (Routine g) = refl
     same_lent (Load d) = at_same d
-    same_lent (Guard d rs) = at_same d ∙ sym (guards_lend rs (I.Load (plain_designator t texts d)))
+    same_lent (Guard' _ d rs) = at_same d ∙ sym (guards_lend rs (I.Load (plain_designator t texts d)))
     same_lent (Unary' op _ x) = same_lent x
     same_lent (Chain' _ x _ links) = ap (λ b. b || lent_links links v) (same_lent x) ∙ links_same links (plain_expr t texts x)
     same_lent (Compare' r _ x _ y) = ap₂ (λ a b. a || b) (same_lent x) (same_lent y)
@@ -104,17 +104,17 @@ module _ (t : Table) (texts : List (List ℕ)) (v : ℕ) where
     link_same (And y) = same_lent y
     link_same (Or y) = same_lent y
     link_same (Element y) = same_lent y
-    link_same (Elements y z) = ap₂ (λ a b. a || b) (same_lent y) (same_lent z)
+    link_same (Elements' _ y _ z) = ap₂ (λ a b. a || b) (same_lent y) (same_lent z)
 
     at_same : (d : Designator) → lent_at d v ≡ lent_read (plain_designator t texts d) v
     at_same (Whole b k) = sym (base_lent b)
-    at_same (Part' b k _ row) =
+    at_same (Part' _ b k _ row) =
         ap (λ a. a || lent_selectors (origin b) row v) (sym (base_lent b))
         ∙ selectors_same row (origin b) (plain_base t texts b) (base_itself b)
 
     whole_same : (d : Designator) → lent_whole d v ≡ lent_named (plain_designator t texts d) v
     whole_same (Whole b k) = base_itself b ∙ sym (ap (λ a. itself_at (plain_base t texts b) v || a) (base_lent b) ∙ or_false (itself_at (plain_base t texts b) v))
-    whole_same (Part' b k _ row) =
+    whole_same (Part' _ b k _ row) =
         ap₂ (λ a c. a || c) (unselected_same (origin b) row (plain_base t texts b) (base_itself b))
         (ap (λ a. a || lent_selectors (origin b) row v) (sym (base_lent b)) ∙ selectors_same row (origin b) (plain_base t texts b) (base_itself b))
 
@@ -174,7 +174,7 @@ module _ (t : Table) (texts : List (List ℕ)) (v : ℕ) where
     by_same (If' _ parts _ other) = ap₂ (λ a b. a || b) (branches_same parts) (all_same other)
     by_same (While' _ parts) = branches_same parts
     by_same (Repeat' _ body x) = ap₂ (λ a b. a || b) (all_same body) (same_lent x.form)
-    by_same (For' d x y step _ body) = ap₂ (λ a b. a || b) (at_same d) (ap₂ (λ a b. a || b) (same_lent x.form) (ap₂ (λ a b. a || b) (same_lent y.form) (all_same body)))
+    by_same (For' _ d x y step _ body) = ap₂ (λ a b. a || b) (at_same d) (ap₂ (λ a b. a || b) (same_lent x.form) (ap₂ (λ a b. a || b) (same_lent y.form) (all_same body)))
     by_same (Case' x _ parts) = ap₂ (λ a b. a || b) (same_lent x.form) (case_parts_same parts)
     by_same (CasePointer' x _ parts) = ap₂ (λ a b. a || b) (same_lent x.form) (type_parts_same parts)
     by_same (CaseParameter' d _ parts) = ap₂ (λ a b. a || b) (whole_same d) (type_parts_same parts)
@@ -216,7 +216,7 @@ module _ (t : Table) (texts : List (List ℕ)) (v : ℕ) where
     assigned_same (If' _ parts _ other) = ap₂ (λ a b. a || b) (assigned_branches_same parts) (assigned_all_same other)
     assigned_same (While' _ parts) = assigned_branches_same parts
     assigned_same (Repeat' _ body x) = assigned_all_same body
-    assigned_same (For' d x y step _ body) = ap₂ (λ a b. a || b) (same_itself d) (assigned_all_same body)
+    assigned_same (For' _ d x y step _ body) = ap₂ (λ a b. a || b) (same_itself d) (assigned_all_same body)
     assigned_same (Case' x _ parts) = assigned_case_parts_same parts
     assigned_same (CasePointer' x _ parts) = assigned_type_parts_same parts
     assigned_same (CaseParameter' d _ parts) = assigned_type_parts_same parts

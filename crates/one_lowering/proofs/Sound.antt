@@ -172,6 +172,6 @@ module _ (p : Program) where
     sound_named (Whole b kind) d e =
         let h = has_type kind (WellFormed.base_named p f b) d e in
         (h.0, subst SoundIf h.1 (sound_base b))
-    sound_named (Part' b kind _ row) d e =
+    sound_named (Part' _ b kind _ row) d e =
         let h = has_type kind (WellFormed.selected_named p f row (WellFormed.base_named p f b)) d e in
         (h.0, subst SoundIf h.1 (sound_selected row (WellFormed.base_named p f b) (sound_base b)))

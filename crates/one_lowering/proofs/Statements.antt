@@ -66,7 +66,7 @@ module _ (p : Program) (here : Here) (a : Asked) (answers : Answers p here a) (c
 
   byte_same : (d : Designator) → is_byte (kind_in d) ≡ byte_in (plain_designator p.types texts d)
   byte_same (Whole b kind) = same_byte p.types kind
-  byte_same (Part' b kind _ row) = same_byte p.types kind
+  byte_same (Part' _ b kind _ row) = same_byte p.types kind
 
   number_of : (x : Checked) → gives_number (WellFormed.checked_form p f x) ≡ true → Checks x
   number_of x h = number_checked p f x h
@@ -119,7 +119,7 @@ module _ (p : Program) (here : Here) (a : Asked) (answers : Answers p here a) (c
     where
       elements_in : (d : Designator) → a.size (shape_element (shape_of_kind p.types (kind_in d))) ≡ a.size (element_in (plain_designator p.types texts d))
       elements_in (Whole b kind) = refl
-      elements_in (Part' b kind _ row) = refl
+      elements_in (Part' _ b kind _ row) = refl
 
   mutual
     same_deed : (s : Stmt) → WellFormed.fine p f s ≡ true → deed p (in_cells p.types) here s ≡ low_statement a (plain_statement p.types texts s)
@@ -175,7 +175,7 @@ module _ (p : Program) (here : Here) (a : Asked) (answers : Answers p here a) (c
         let inner = same_deeds body b.0 in
         let last = test_same x (number_of x b.1) in
         λ k. repeat (mask k) (inner k) (last k)
-    same_deed (For' d x y step _ body) h =
+    same_deed (For' _ d x y step _ body) h =
         let place = holds_of (WellFormed.takes p WellFormed.is_full) (WellFormed.named p f d) in
         let number = gives_number (WellFormed.checked_form p f x) in
         let limit = gives_number (WellFormed.checked_form p f y) in

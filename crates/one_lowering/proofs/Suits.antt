@@ -10,7 +10,7 @@ use Rattle.ob_types.specs.declared.tree.Binary.{Binary}
 use Rattle.ob_types.specs.declared.program.Program.{Program}
 use Rattle.ob_types.specs.declared.statements.Checked.{Checked}
 use Rattle.ob_types.specs.declared.tree.Expr.{Expr, Row_of-Link, end_of-Link, more_of-Link}
-use Rattle.ob_types.specs.declared.tree.Link.{Link, Operate, And, Or, Element, Elements}
+use Rattle.ob_types.specs.declared.tree.Link.{Link, Operate, And, Or, Element, Elements'}
 use Rattle.ob_types.specs.declared.tree.Designator.{Row_of-Selector, end_of-Selector, more_of-Selector}
 use Rattle.ob_types.specs.declared.tree.Selector.{Selector, Index, Field, Dereference, Narrow}
 use Rattle.ob_types.proofs.Tests.{no}
@@ -65,7 +65,7 @@ module _ (p : Program) (f : ℕ) where
   link_parts (And y) o h = truth_is o (of_provided (gives_truth o) (provided (gives_truth (WellFormed.form p f y)) (Some Truth)) h).0
   link_parts (Or y) o h = truth_is o (of_provided (gives_truth o) (provided (gives_truth (WellFormed.form p f y)) (Some Truth)) h).0
   link_parts (Element y) o h = number_is o (of_provided (gives_number o) (provided (gives_number (WellFormed.form p f y)) (Some Number)) h).0
-  link_parts (Elements y z) o h = number_is o (of_provided (gives_number o) (provided (gives_number (WellFormed.form p f y)) (provided (gives_number (WellFormed.form p f z)) (Some Number))) h).0
+  link_parts (Elements' _ y _ z) o h = number_is o (of_provided (gives_number o) (provided (gives_number (WellFormed.form p f y)) (provided (gives_number (WellFormed.form p f z)) (Some Number))) h).0
 
   pub linked_is : {m : _} (row : Row_of-Link m) (o : Option Form) → Is (WellFormed.linked_form p f row o) → Is o
   linked_is end_of-Link o h = h
@@ -80,8 +80,8 @@ module _ (p : Program) (f : ℕ) where
   pub element_is : (y : Expr) (o : Option Form) → Is (WellFormed.link_form p f (Element y) o) → Is (WellFormed.form p f y)
   element_is y o h = number_is (WellFormed.form p f y) (of_provided (gives_number (WellFormed.form p f y)) (Some Number) (of_provided (gives_number o) (provided (gives_number (WellFormed.form p f y)) (Some Number)) h).1).0
 
-  pub elements_are : (y z : Expr) (o : Option Form) → Is (WellFormed.link_form p f (Elements y z) o) → Is (WellFormed.form p f y) × Is (WellFormed.form p f z)
-  elements_are y z o h =
+  pub elements_are : (b : _) (y : Expr) (c : _) (z : Expr) (o : Option Form) → Is (WellFormed.link_form p f (Elements' b y c z) o) → Is (WellFormed.form p f y) × Is (WellFormed.form p f z)
+  elements_are b y c z o h =
       let last = provided (gives_number (WellFormed.form p f z)) (Some Number) in
       let a = of_provided (gives_number (WellFormed.form p f y)) last (of_provided (gives_number o) (provided (gives_number (WellFormed.form p f y)) last) h).1 in
       (number_is (WellFormed.form p f y) a.0, number_is (WellFormed.form p f z) (of_provided (gives_number (WellFormed.form p f z)) (Some Number) a.1).0)

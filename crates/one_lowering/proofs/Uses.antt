@@ -3,8 +3,8 @@
 use Rattle.std.proofs.Common.{◌≡◌, ℕ, zero, suc, ◌+◌, ◌<◌, ◌≤◌, List, [], ◌∷◌, ◌++◌, length, Bool, true, false, Option, Some, None, refl, sym, ap, ap₂, subst, ◌∙◌, slice_get, arith, ltb-true, ◌⊎◌, inl, inr}
 use Rattle.std.specs.Prelude.{nat_lt, option_map}
 use Rattle.std.proofs.lemmas.Bool.{lt-ltb}
-use Rattle.ob_types.specs.declared.tree.Expr.{Expr, Literal, Routine, Load, Guard, Unary', Chain', Compare', CompareTexts', In', IsPointer', IsParameter, Byte', Length, Call', Row_of-Link, end_of-Link, more_of-Link}
-use Rattle.ob_types.specs.declared.tree.Link.{Link, Operate, And, Or, Element, Elements}
+use Rattle.ob_types.specs.declared.tree.Expr.{Expr, Literal, Routine, Load, Guard', Unary', Chain', Compare', CompareTexts', In', IsPointer', IsParameter, Byte', Length, Call', Row_of-Link, end_of-Link, more_of-Link}
+use Rattle.ob_types.specs.declared.tree.Link.{Link, Operate, And, Or, Element, Elements'}
 use Rattle.ob_types.specs.declared.tree.Base.{Base}
 use Rattle.ob_types.specs.declared.tree.Base.TheVariants as TheBase
 use Rattle.ob_types.specs.declared.tree.Designator.{Designator, Whole, Part', Row_of-Selector, end_of-Selector, more_of-Selector}
@@ -117,7 +117,7 @@ module _ (t : Table) (many : ℕ) (texts : List (List ℕ)) (few : length texts 
     s_expr (Literal bits) h = refl
     s_expr (Routine f) h = refl
     s_expr (Load d) h = ap (λ u. I.Load u) (s_designator d h)
-    s_expr (Guard d rs) h =
+    s_expr (Guard' _ d rs) h =
         let own = subst (λ xs. AllBelow n xs) (guards_in rs (I.Load (plain_designator t uses d))) h in
         guards_same rs (I.Load (plain_designator t uses d)) (I.Load (plain_designator t texts d)) (ap (λ u. I.Load u) (s_designator d own))
     s_expr (Unary' operator _ x) h = ap (λ u. I.Apply operator u) (s_expr x h)
@@ -150,13 +150,13 @@ module _ (t : Table) (many : ℕ) (texts : List (List ℕ)) (few : length texts 
     s_link (And y) h = ap (λ u. I.And u) (s_expr y h)
     s_link (Or y) h = ap (λ u. I.Or u) (s_expr y h)
     s_link (Element y) h = ap (λ u. I.Element u) (s_expr y h)
-    s_link (Elements y z) h =
+    s_link (Elements' _ y _ z) h =
         let b = parts n (in_expr (plain_expr t uses y)) (in_expr (plain_expr t uses z)) h in
         ap₂ (λ u v. I.Elements u v) (s_expr y b.0) (s_expr z b.1)
 
     s_designator : (d : Designator) → AllBelow n (in_designator (plain_designator t uses d)) → erased_designator (plain_designator t uses d) ≡ erased_designator (plain_designator t texts d)
     s_designator (Whole b kind) h = ap (λ u. I.of_type u (shape_of_kind t kind)) (same_base b h)
-    s_designator (Part' b kind _ row) h =
+    s_designator (Part' _ b kind _ row) h =
         ap (λ u. I.of_type u (shape_of_kind t kind))
         (s_selectors row (plain_base t uses b) (plain_base t texts b) h (same_base b (selectors_front row (plain_base t uses b) h)))
 
@@ -226,7 +226,7 @@ module _ (t : Table) (many : ℕ) (texts : List (List ℕ)) (few : length texts 
     s_statement (Repeat' _ body x) h =
         let b = parts n (in_statements (plain_statements t uses body)) (its x) h in
         ap₂ (λ u v. I.Repeat u v) (s_statements body b.0) (s_checked x b.1)
-    s_statement (For' d x y step _ body) h =
+    s_statement (For' _ d x y step _ body) h =
         let b = parts n ((own d ++ its x) ++ its y) (in_statements (plain_statements t uses body)) h in
         let c = parts n (own d ++ its x) (its y) b.0 in
         let e = parts n (own d) (its x) c.0 in

@@ -4,7 +4,7 @@ ghost use Rattle.std.specs.Prelude.{◌≡◌, ◌||◌, ℕ, OnOk};
 ghost use Rattle.ssa_lowered.specs.Variables.{itself, origin, assigned};
 ghost use Rattle.ssa_assigned.specs.Assigned.{has, unselected_by, assigned_list, assigned_parts, assigned_cases, assigned_types};
 
-use ob_types::{Base, Branch, CasePart, Designator, Selector, Stmt, TypePart};
+use ob_types::{Access, Base, Branch, CasePart, Designator, ForLoop, Selector, Stmt, TypePart};
 use ssa_exprs::LowerFault;
 
 /// The variable that a designator is as a whole.
@@ -13,8 +13,9 @@ pub fn note_whole(d: &Designator, found: &mut Vec<u32>) -> Result<(), LowerFault
 {
     match d {
         Designator::Whole(base, _) => note_base(*base, found),
-        Designator::Part(base, _, selectors) => {
-            note_unselected(*base, selectors, found)?;
+        Designator::Part(inner) => {
+            let access: &Access = inner;
+            note_unselected(access.base, access.selectors.as_slice(), found)?;
             Ok(())
         }
     }
@@ -138,9 +139,10 @@ pub fn note(s: &Stmt, found: &mut Vec<u32>) -> Result<(), LowerFault>
             note_all(body, found)?;
             Ok(())
         }
-        Stmt::For { variable, body, .. } => {
-            note_whole(variable, found)?;
-            note_all(body, found)?;
+        Stmt::For(inner) => {
+            let for_loop: &ForLoop = inner;
+            note_whole(&for_loop.variable, found)?;
+            note_all(for_loop.body.as_slice(), found)?;
             Ok(())
         }
         Stmt::Case(_, parts) => {

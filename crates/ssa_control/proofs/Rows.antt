@@ -1,5 +1,5 @@
 -- What is said of a row of statements or parts is said of its list.
-use Rattle.std.proofs.Common.{◌≡◌, ℕ, suc, ℤ, List, [], ◌∷◌, ◌++◌, map, Vec, Global, false, refl, sym, ap, ap₂, ◌∙◌}
+use Rattle.std.proofs.Common.{◌≡◌, ℕ, suc, List, [], ◌∷◌, ◌++◌, map, Vec, Box, Global, false, refl, sym, ap, ap₂, ◌∙◌, subst}
 use mathlib.Core.Former.{Count}
 use Rattle.block_runs.specs.declared.end.End.TheVariants.{Jump, Trap}
 use Rattle.ob_types.specs.declared.program.Program.{Program}
@@ -9,6 +9,7 @@ use Rattle.ob_types.specs.declared.statements.Branch.{Branch}
 use Rattle.ob_types.specs.declared.statements.CasePart.{CasePart}
 use Rattle.ob_types.specs.declared.statements.Label.{Label}
 use Rattle.ob_types.specs.declared.statements.TypePart.{TypePart}
+use Rattle.ob_types.specs.declared.statements.ForLoop.{ForLoop}
 use Rattle.ob_types.specs.declared.statements.Stmt.{Stmt, If, If', While, While', Repeat, Repeat', For, For', Case, Case', CasePointer, CasePointer', CaseParameter, CaseParameter', Row_of-Stmt, end_of-Stmt, more_of-Stmt, items-the_row-Stmt, Row_of-Branch, end_of-Branch, more_of-Branch, items-the_row-Branch, Row_of-CasePart, end_of-CasePart, more_of-CasePart, items-the_row-CasePart, Row_of-TypePart, end_of-TypePart, more_of-TypePart, items-the_row-TypePart, items_hidden-the_row-Stmt-0, items_hidden-the_row-Branch-1, items_shown-the_row-Stmt-0, items_hidden-the_row-CasePart-2, items_hidden-the_row-TypePart-3}
 use Rattle.ssa_lowered.specs.Control.{choose, Round, loop, repeat, case, Rung}
 use Rattle.ssa_lowered.specs.Data.{in_cells}
@@ -53,7 +54,7 @@ type_parts_row m (more_of-TypePart r s body rest) = ap₂ either (assigned_row _
 abbrev body_of : Stmt → (n : Count) × Row_of-Stmt n
 body_of (If' _ parts _ other) = (_, other)
 body_of (Repeat' _ body x) = (_, body)
-body_of (For' d x y step _ body) = (_, body)
+body_of (For' _ d x y step _ body) = (_, body)
 body_of _ = (_, end_of-Stmt)
 
 abbrev parts_of : Stmt → (n : Count) × Row_of-Branch n
@@ -147,13 +148,22 @@ module _ (p : Program) (here : Here) where
       ap₂ (λ k d. repeat (registers_in p here k) d (expr_in p here x.form).test) (assigned_row r.0 r.1) (deeds_row r.0 r.1) ∙ ap (λ l. repeat_in p here l x) (items_hidden-the_row-Stmt-0 ss)
 
   module _ {u v w z : View} {a : ℕ} where
-    pub steps_count : (d : Designator) (x y : Checked) (step : ℤ) (ss : Vec Stmt Global) → Steps u v (assign (home_of (named_in p here d) false) (expr_in p here x.form).value) → Gives v w (expr_in p here y.form).value a → Steps w z (count_in p here d step ss.items a)
-        → Steps u z (deed_in p here (For d x y step ss))
-    steps_count d x y step ss first limit rest =
-        let r = body_of (For d x y step ss) in
-        let list_is = items_hidden-the_row-Stmt-0 ss in
+    -- FOR, by its loop
+    counts_held : (f : Box ForLoop Global) → Steps u v (assign (home_of (named_in p here f.value.variable) false) (expr_in p here f.value.first.form).value) → Gives v w (expr_in p here f.value.limit.form).value a
+        → Steps w z (count_in p here f.value.variable f.value.step f.value.body.items a) → Steps u z (deed_in p here (For f))
+    counts_held f first limit rest =
+        let d = f.value.variable in
+        let step = f.value.step in
+        let r = body_of (For f) in
+        let list_is = items_hidden-the_row-Stmt-0 f.value.body in
         steps_on first (steps_after (λ l. loop (registers_in p here (either (itself d) (assigned_all r.1))) (record { test = reached_in p here d l step; body = deeds p (in_cells p.types) here r.1 >>= λ _. advance_in p here d step } ∷ [])) limit (steps_as
         (ap₂ (λ k b. loop (registers_in p here (either (itself d) k)) (record { test = reached_in p here d a step; body = b >>= λ _. advance_in p here d step } ∷ [])) (assigned_row r.0 r.1 ∙ ap assigned_list list_is) (deeds_row r.0 r.1 ∙ ap (deeds_in p here) list_is)) rest))
+
+    pub steps_count : (f : Box ForLoop Global) (l : ForLoop) → l ≡ f.value → Steps u v (assign (home_of (named_in p here l.variable) false) (expr_in p here l.first.form).value) → Gives v w (expr_in p here l.limit.form).value a
+        → Steps w z (count_in p here l.variable l.step l.body.items a) → Steps u z (deed_in p here (For f))
+    steps_count f l is = subst (λ (k : ForLoop). Steps u v (assign (home_of (named_in p here k.variable) false) (expr_in p here k.first.form).value) → Gives v w (expr_in p here k.limit.form).value a
+        → Steps w z (count_in p here k.variable k.step k.body.items a) → Steps u z (deed_in p here (For f)))
+        (sym is) (counts_held f)
 
   module _ {u v w : View} {a : ℕ} where
     pub steps_case_on : (x : Checked) (ps : Vec CasePart Global) → Gives u v (expr_in p here x.form).value a → Steps v w (case_in p here ps.items a) → Steps u w (deed_in p here (Case x ps))

@@ -15,7 +15,7 @@ ghost use Rattle.ssa_control.specs.Frames.{Opens, Turns, Takes};
 use crate::joins::{of_body, of_branches, of_cases, of_count, of_guards, of_types};
 use crate::rungs::{self, Dynamic};
 use items::Items;
-use ob_types::{Binary, Branch, CasePart, Checked, Designator, Stmt, TypePart};
+use ob_types::{Binary, Branch, CasePart, Checked, Designator, ForLoop, Stmt, TypePart};
 use ssa_assigned::note_all;
 use ssa_exprs::{LowerFault, Making, Tables, cond, designated, half, second, value};
 use ssa_statements::{
@@ -66,16 +66,18 @@ fn statement(t: &Tables, b: &mut Making, s: &Stmt) -> Result<(), LowerFault>
         }
         Stmt::While(parts) => looped(t, b, parts),
         Stmt::Repeat(body, x) => repeated(t, b, body, x),
-        Stmt::For {
-            variable,
-            first,
-            limit,
-            step,
-            body,
-        } => {
-            assign(t, b, variable, first)?;
-            let last = value(t, b, &limit.form)?;
-            counted(t, b, body, variable, last, *step)
+        Stmt::For(inner) => {
+            let for_loop: &ForLoop = inner;
+            assign(t, b, &for_loop.variable, &for_loop.first)?;
+            let last = value(t, b, &for_loop.limit.form)?;
+            counted(
+                t,
+                b,
+                for_loop.body.as_slice(),
+                &for_loop.variable,
+                last,
+                for_loop.step,
+            )
         }
         Stmt::Case(x, parts) => {
             let v = value(t, b, &x.form)?;

@@ -5,7 +5,7 @@ use Rattle.block_runs.specs.declared.end.End.TheVariants.{Jump}
 use Rattle.ob_types.specs.declared.program.Program.{Program}
 use Rattle.ob_types.specs.declared.tree.Unary.{Unary}
 use Rattle.ob_types.specs.declared.tree.Unary.TheVariants.{Negate, Complement, Not, Abs, Odd}
-use Rattle.ob_types.specs.declared.tree.Expr.{Expr, Unary as UnaryOf, Literal, Routine, Load, Guard, Unary', Compare', CompareTexts', In', IsPointer', IsParameter, Byte', Length, Call', Chain, Chain', Row_of-Link, end_of-Link, more_of-Link, items-the_row-Link, items_hidden-the_row-Link-2}
+use Rattle.ob_types.specs.declared.tree.Expr.{Expr, Unary as UnaryOf, Literal, Routine, Load, Guard', Unary', Compare', CompareTexts', In', IsPointer', IsParameter, Byte', Length, Call', Chain, Chain', Row_of-Link, end_of-Link, more_of-Link, items-the_row-Link, items_hidden-the_row-Link-2}
 use Rattle.ob_types.specs.declared.tree.Link.{Link}
 use Rattle.ssa_lowered.specs.Data.{in_cells}
 use Rattle.ssa_lowered.specs.Pieces.{Low}
@@ -92,7 +92,7 @@ module _ (p : Program) (here : Here) where
   plain_test (Literal n) h = refl
   plain_test (Routine g) h = refl
   plain_test (Load d) h = refl
-  plain_test (Guard d rs) h = refl
+  plain_test (Guard' _ d rs) h = refl
   plain_test (Unary' Negate _ x) h = refl
   plain_test (Unary' Complement _ x) h = refl
   plain_test (Unary' Not _ x) h = absurd (cc)

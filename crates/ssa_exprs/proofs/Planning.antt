@@ -3,7 +3,7 @@ use Rattle.std.proofs.Common.{◌≡◌, ℕ, suc, List, [], ◌∷◌, ◌++◌
 use Rattle.std.proofs.lemmas.Option.{get_or_from_slice_get}
 use Rattle.ob_types.specs.declared.program.Program.{Program}
 use Rattle.ob_types.specs.declared.tree.Expr.{Expr}
-use Rattle.ob_types.specs.declared.tree.Link.{Link, Operate, And, Or, Element, Elements}
+use Rattle.ob_types.specs.declared.tree.Link.{Link, Operate, And, Or, Element, Elements'}
 use Rattle.ssa_lowered.specs.Control.{Lowers, Test, half, fork_value, tested}
 use Rattle.ssa_lowered.specs.Lowered.{Here}
 use Rattle.ssa_exprs.specs.declared.steps.Ways.{Ways}
@@ -23,7 +23,7 @@ plain_link p here (Operate op y) x f g = refl
 plain_link p here (And y) x f g = absurd (f y refl)
 plain_link p here (Or y) x f g = absurd (g y refl)
 plain_link p here (Element y) x f g = refl
-plain_link p here (Elements y z) x f g = refl
+plain_link p here (Elements' _ y _ z) x f g = refl
 
 pub same_link : (ks : List Link) (i : ℕ) (j k : Link) → j ≡ get_or ks i j → slice_get ks i ≡ Some k → j ≡ k
 same_link ks i j k is at = is ∙ get_or_from_slice_get ks i k j at

@@ -1,10 +1,9 @@
 -- What is said of a row of selectors or arguments is said of its list.
-use Rattle.std.proofs.Common.{◌≡◌, ℕ, Vec, Global, refl, ap, ◌∙◌}
+use Rattle.std.proofs.Common.{◌≡◌, ℕ, Vec, Box, Global, refl, ap, ◌∙◌}
 use mathlib.Core.Former.{Count}
-use Rattle.ob_types.specs.declared.types.TypeKind.{TypeKind}
-use Rattle.ob_types.specs.declared.tree.Base.{Base}
 use Rattle.ob_types.specs.declared.tree.Designator.{Designator, Part, Part', Row_of-Selector, end_of-Selector, more_of-Selector, items-the_row-Selector, items_hidden-the_row-Selector-1}
 use Rattle.ob_types.specs.declared.tree.Selector.{Selector}
+use Rattle.ob_types.specs.declared.tree.Access.{Access}
 use Rattle.ob_types.specs.declared.tree.Argument.{Argument}
 use Rattle.ob_types.specs.declared.tree.Call.{Call, Direct, Direct', Indirect, Indirect', Row_of-Argument, end_of-Argument, more_of-Argument, items-the_row-Argument, items_hidden-the_row-Argument-0}
 use Rattle.ob_types.specs.declared.program.Program.{Program}
@@ -36,17 +35,18 @@ module _ (p : Program) (here : Here) where
   arguments_row m (more_of-Argument a rest) = ap (λ r. also (argument_in p here a) r) (arguments_row _ rest)
 
   abbrev selectors_of : Designator → (n : Count) × Row_of-Selector n
-  selectors_of (Part' b k _ row) = (_, row)
+  selectors_of (Part' _ b k _ row) = (_, row)
   selectors_of _ = (_, end_of-Selector)
 
   abbrev arguments_of : Call → (n : Count) × Row_of-Argument n
   arguments_of (Direct' g _ row) = (_, row)
   arguments_of (Indirect' d _ row) = (_, row)
 
-  pub named_part : (b : Base) (k : TypeKind) (xs : Vec Selector Global) → named_in p here (Part b k xs) ≡ selected_in p here xs.items (based_in p here b)
-  named_part b k xs =
-      let r = selectors_of (Part b k xs) in
-      selected_row r.0 r.1 (based_in p here b) ∙ ap (λ ss. selected_in p here ss (based_in p here b)) (items_hidden-the_row-Selector-1 xs)
+  pub named_part : (a : Box Access Global) → named_in p here (Part a) ≡ selected_in p here a.value.selectors.items (based_in p here a.value.base)
+  named_part a =
+      let r = selectors_of (Part a) in
+      let first = based_in p here a.value.base in
+      selected_row r.0 r.1 first ∙ ap (λ ss. selected_in p here ss first) (items_hidden-the_row-Selector-1 a.value.selectors)
 
   pub called_direct : (g : ℕ) (xs : Vec Argument Global) → called_in p here (Direct g xs) ≡ call g (arguments_in p here xs.items)
   called_direct g xs =

@@ -2,7 +2,7 @@
 use Rattle.std.specs.Prelude.{◌≡◌, ℕ, suc, List, [], ◌∷◌, Some, None, slice_get}
 use Rattle.ob_types.specs.declared.program.Program.{Program}
 use Rattle.ob_types.specs.declared.tree.Expr.{Expr}
-use Rattle.ob_types.specs.declared.tree.Link.{Link, Operate, And, Or, Element, Elements}
+use Rattle.ob_types.specs.declared.tree.Link.{Link, Operate, And, Or, Element, Elements'}
 use Rattle.block_runs.specs.declared.end.End.TheVariants.{Nonzero}
 use Rattle.ssa_lowered.specs.Control.{Lowers, Test, half, flag}
 use Rattle.ssa_lowered.specs.Lowered.{Here}
@@ -20,7 +20,7 @@ operand_of (Operate op y) = y
 operand_of (And y) = y
 operand_of (Or y) = y
 operand_of (Element y) = y
-operand_of (Elements y z) = z
+operand_of (Elements' _ y _ z) = z
 
 -- an expression was lowered as it is wanted; the number is its value, where that is wanted
 abbrev pub Fulfils : Wanted → View → View → Lowers → ℕ → Type 0

@@ -25,7 +25,9 @@ use crate::named::{
 use crate::steps::{Step, Steps, Wanted, Ways, half, planned};
 use crate::tables::Tables;
 use block_runs::{Code, End};
-use ob_types::{Argument, Base, Call, Designator, Expr, Link, Relation, Selector, TypeKind, Unary};
+use ob_types::{
+    Access, Argument, Base, Call, Designator, Expr, Link, Relation, Selector, TypeKind, Unary,
+};
 
 /// The type that a designator has.
 pub fn kind_in(d: &Designator) -> TypeKind
@@ -33,7 +35,7 @@ pub fn kind_in(d: &Designator) -> TypeKind
 {
     match d {
         Designator::Whole(_, kind) => *kind,
-        Designator::Part(_, kind, _) => *kind,
+        Designator::Part(access) => access.kind,
     }
 }
 
@@ -130,9 +132,10 @@ pub fn named(t: &Tables, b: &mut Making, d: &Designator) -> Result<Named, LowerF
             let h = base(t, b, *at)?;
             Ok(h)
         }
-        Designator::Part(at, _, selectors) => {
-            let first = base(t, b, *at)?;
-            let h = selected(t, b, selectors, first)?;
+        Designator::Part(inner) => {
+            let access: &Access = inner;
+            let first = base(t, b, access.base)?;
+            let h = selected(t, b, access.selectors.as_slice(), first)?;
             Ok(h)
         }
     }
@@ -547,11 +550,11 @@ fn operand_cond(t: &Tables, b: &mut Making, link: &Link, ways: Ways) -> Result<(
     ensures { OnOk result ((p : Program) (here : Here) → Serves t.now p here → Tests b.old b.new (expr_in p here (operand_of link.now)).test ways.yes ways.no ways.next) }
 {
     match link {
-        Link::Operate(_, y)
-        | Link::And(y)
-        | Link::Or(y)
-        | Link::Element(y)
-        | Link::Elements(_, y) => {
+        Link::Operate(_, y) | Link::And(y) | Link::Or(y) | Link::Element(y) => {
+            cond(t, b, y, ways.yes, ways.no, ways.next)?;
+            Ok(())
+        }
+        Link::Elements(_, y) => {
             cond(t, b, y, ways.yes, ways.no, ways.next)?;
             Ok(())
         }

@@ -1,18 +1,19 @@
 -- What is said of a row of the tree is said of its list.
-use Rattle.std.proofs.Common.{◌≡◌, ℕ, ℤ, Vec, Box, Global, List, [], ◌∷◌, false, ◌||◌, refl, ap, ap₂, ◌∙◌, sym}
+use Rattle.std.proofs.Common.{◌≡◌, ℕ, Vec, Box, Global, List, [], ◌∷◌, false, ◌||◌, refl, ap, ap₂, ◌∙◌, sym}
 use mathlib.Core.Former.{Count}
-use Rattle.ob_types.specs.declared.types.TypeKind.{TypeKind}
 use Rattle.ob_types.specs.declared.tree.Base.{Base}
 use Rattle.ob_types.specs.declared.tree.Expr.{Expr, Chain, Chain', Row_of-Link, end_of-Link, more_of-Link, items-the_row-Link, items_hidden-the_row-Link-2}
 use Rattle.ob_types.specs.declared.tree.Link.{Link}
 use Rattle.ob_types.specs.declared.tree.Selector.{Selector, Index, Field, Dereference, Narrow}
 use Rattle.ob_types.specs.declared.tree.Designator.{Designator, Part, Part', Row_of-Selector, end_of-Selector, more_of-Selector, items-the_row-Selector, items_hidden-the_row-Selector-1}
+use Rattle.ob_types.specs.declared.tree.Access.{Access}
 use Rattle.ob_types.specs.declared.tree.Argument.{Argument}
 use Rattle.ob_types.specs.declared.tree.Call.{Call, Direct, Direct', Indirect, Indirect', Row_of-Argument, end_of-Argument, more_of-Argument, items-the_row-Argument, items_hidden-the_row-Argument-0}
 use Rattle.ob_types.specs.declared.statements.Checked.{Checked}
 use Rattle.ob_types.specs.declared.statements.Branch.{Branch}
 use Rattle.ob_types.specs.declared.statements.CasePart.{CasePart}
 use Rattle.ob_types.specs.declared.statements.TypePart.{TypePart}
+use Rattle.ob_types.specs.declared.statements.ForLoop.{ForLoop}
 use Rattle.ob_types.specs.declared.statements.Stmt.{Stmt, If, If', While, While', Repeat, Repeat', For, For', Case, Case', CasePointer, CasePointer', CaseParameter, CaseParameter', Row_of-Stmt, end_of-Stmt, more_of-Stmt, items-the_row-Stmt, Row_of-Branch, end_of-Branch, more_of-Branch, items-the_row-Branch, Row_of-CasePart, end_of-CasePart, more_of-CasePart, items-the_row-CasePart, Row_of-TypePart, end_of-TypePart, more_of-TypePart, items-the_row-TypePart, items_hidden-the_row-Stmt-0, items_hidden-the_row-Branch-1, items_shown-the_row-Stmt-0, items_hidden-the_row-CasePart-2, items_hidden-the_row-TypePart-3}
 use Rattle.ssa_assigned.specs.Assigned.{unselected_by}
 use Rattle.ssa_assigned.proofs.Noting.{or_assoc}
@@ -49,7 +50,7 @@ links_of (Chain' _ x _ row) = (_, row)
 links_of _ = (_, end_of-Link)
 
 abbrev selectors_of : Designator → (n : Count) × Row_of-Selector n
-selectors_of (Part' b k _ row) = (_, row)
+selectors_of (Part' _ b k _ row) = (_, row)
 selectors_of _ = (_, end_of-Selector)
 
 abbrev arguments_of : Call → (n : Count) × Row_of-Argument n
@@ -61,13 +62,13 @@ lent_chain e ks x =
     let r = links_of (Chain e ks) in
     ap (λ b. lent e.value x || b) (links_row r.0 r.1 x ∙ ap (λ l. lent_by_links l x) (items_hidden-the_row-Link-2 ks))
 
-pub read_part : (at : Base) (k : TypeKind) (ss : Vec Selector Global) (x : ℕ) → lent_at (Part at k ss) x ≡ lent_by_part at ss.items x
-read_part at k ss x = let r = selectors_of (Part at k ss) in selectors_row r.0 r.1 at x ∙ ap (λ l. lent_by_part at l x) (items_hidden-the_row-Selector-1 ss)
+pub read_part : (a : Box Access Global) (x : ℕ) → lent_at (Part a) x ≡ lent_by_part a.value.base a.value.selectors.items x
+read_part a x =
+    let r = selectors_of (Part a) in
+    selectors_row r.0 r.1 a.value.base x ∙ ap (λ l. lent_by_part a.value.base l x) (items_hidden-the_row-Selector-1 a.value.selectors)
 
-pub whole_part : (at : Base) (k : TypeKind) (ss : Vec Selector Global) (x : ℕ) → lent_whole (Part at k ss) x ≡ unselected_by (origin at) ss.items x || lent_by_part at ss.items x
-whole_part at k ss x =
-    let r = selectors_of (Part at k ss) in
-    ap₂ (λ a b. a || b) (unselected_part at k ss x) (selectors_row r.0 r.1 at x ∙ ap (λ l. lent_by_part at l x) (items_hidden-the_row-Selector-1 ss))
+pub whole_part : (a : Box Access Global) (x : ℕ) → lent_whole (Part a) x ≡ unselected_by (origin a.value.base) a.value.selectors.items x || lent_by_part a.value.base a.value.selectors.items x
+whole_part a x = ap₂ (λ b l. b || l) (unselected_part a x) (read_part a x)
 
 pub lent_direct : (g : ℕ) (args : Vec Argument Global) (x : ℕ) → lent_call (Direct g args) x ≡ lent_by_arguments args.items x
 lent_direct g args x = let r = arguments_of (Direct g args) in arguments_row r.0 r.1 x ∙ ap (λ l. lent_by_arguments l x) (items_hidden-the_row-Argument-0 args)
@@ -100,7 +101,7 @@ types_row m (more_of-TypePart r s body rest) x = ap₂ (λ a b. a || b) (stateme
 abbrev body_of : Stmt → (n : Count) × Row_of-Stmt n
 body_of (If' _ parts _ other) = (_, other)
 body_of (Repeat' _ body x) = (_, body)
-body_of (For' d x y step _ body) = (_, body)
+body_of (For' _ d x y step _ body) = (_, body)
 body_of _ = (_, end_of-Stmt)
 
 abbrev parts_of : Stmt → (n : Count) × Row_of-Branch n
@@ -129,8 +130,10 @@ lent_while ps x = let r = parts_of (While ps) in branches_row r.0 r.1 x ∙ ap (
 pub lent_repeat : (ss : Vec Stmt Global) (e : Checked) (x : ℕ) → lent_by (Repeat ss e) x ≡ lent_by_statements ss.items x || lent e.form x
 lent_repeat ss e x = let r = body_of (Repeat ss e) in ap (λ b. b || lent e.form x) (statements_row r.0 r.1 x ∙ ap (λ l. lent_by_statements l x) (items_hidden-the_row-Stmt-0 ss))
 
-pub lent_for : (d : Designator) (e f : Checked) (k : ℤ) (ss : Vec Stmt Global) (x : ℕ) → lent_by (For d e f k ss) x ≡ lent_at d x || (lent e.form x || (lent f.form x || lent_by_statements ss.items x))
-lent_for d e f k ss x = let r = body_of (For d e f k ss) in ap (λ b. lent_at d x || (lent e.form x || (lent f.form x || b))) (statements_row r.0 r.1 x ∙ ap (λ l. lent_by_statements l x) (items_hidden-the_row-Stmt-0 ss))
+pub lent_for : (f : Box ForLoop Global) (x : ℕ) → lent_by (For f) x ≡ lent_at f.value.variable x || (lent f.value.first.form x || (lent f.value.limit.form x || lent_by_statements f.value.body.items x))
+lent_for f x =
+    let r = body_of (For f) in
+    ap (λ b. lent_at f.value.variable x || (lent f.value.first.form x || (lent f.value.limit.form x || b))) (statements_row r.0 r.1 x ∙ ap (λ l. lent_by_statements l x) (items_hidden-the_row-Stmt-0 f.value.body))
 
 pub lent_case : (e : Checked) (ps : Vec CasePart Global) (x : ℕ) → lent_by (Case e ps) x ≡ lent e.form x || lent_by_cases ps.items x
 lent_case e ps x = let r = cases_of (Case e ps) in ap (λ b. lent e.form x || b) (cases_row r.0 r.1 x ∙ ap (λ l. lent_by_cases l x) (items_hidden-the_row-CasePart-2 ps))

@@ -5,7 +5,7 @@ ghost use Rattle.ssa_assigned.specs.Assigned.{has};
 ghost use Rattle.ssa_lowered.specs.Variables.{origin, lent, lent_link, lent_at, lent_whole, lent_by_first, lent_selector, lent_call, lent_as};
 ghost use Rattle.ssa_lent.specs.Lent.{lent_by_links, lent_by_selectors, lent_by_arguments, lent_by_part};
 
-use ob_types::{Argument, Base, Call, Designator, Expr, Link, Selector};
+use ob_types::{Access, Argument, Base, Call, Designator, Expr, Link, Selector};
 use ssa_assigned::{note_base, note_unselected};
 use ssa_exprs::LowerFault;
 
@@ -120,8 +120,9 @@ pub fn lend_read(d: &Designator, found: &mut Vec<u32>) -> Result<(), LowerFault>
 {
     match d {
         Designator::Whole(_, _) => Ok(()),
-        Designator::Part(base, _, selectors) => {
-            lend_part(*base, selectors, found)?;
+        Designator::Part(inner) => {
+            let access: &Access = inner;
+            lend_part(access.base, access.selectors.as_slice(), found)?;
             Ok(())
         }
     }
@@ -137,9 +138,11 @@ pub fn lend_whole(d: &Designator, found: &mut Vec<u32>) -> Result<(), LowerFault
             note_base(*base, found)?;
             Ok(())
         }
-        Designator::Part(base, _, selectors) => {
-            note_unselected(*base, selectors, found)?;
-            lend_part(*base, selectors, found)?;
+        Designator::Part(inner) => {
+            let access: &Access = inner;
+            let selectors = access.selectors.as_slice();
+            note_unselected(access.base, selectors, found)?;
+            lend_part(access.base, selectors, found)?;
             Ok(())
         }
     }

@@ -8,7 +8,7 @@ ghost use Rattle.ssa_lent.specs.Lent.{lent_by_statements, lent_by_parts, lent_by
 
 use crate::expressions::{lend, lend_call, lend_read, lend_whole};
 use items::Items;
-use ob_types::{Branch, CasePart, Checked, Designator, Procedure, Stmt, TypePart};
+use ob_types::{Branch, CasePart, Checked, Designator, ForLoop, Procedure, Stmt, TypePart};
 use ssa_exprs::LowerFault;
 use std::alloc::Global;
 
@@ -118,17 +118,12 @@ fn lend_statement(s: &Stmt, found: &mut Vec<u32>) -> Result<(), LowerFault>
             lend(&x.form, found)?;
             Ok(())
         }
-        Stmt::For {
-            variable,
-            first,
-            limit,
-            body,
-            ..
-        } => {
-            lend_read(variable, found)?;
-            lend(&first.form, found)?;
-            lend(&limit.form, found)?;
-            lend_all(body, found)?;
+        Stmt::For(inner) => {
+            let for_loop: &ForLoop = inner;
+            lend_read(&for_loop.variable, found)?;
+            lend(&for_loop.first.form, found)?;
+            lend(&for_loop.limit.form, found)?;
+            lend_all(for_loop.body.as_slice(), found)?;
             Ok(())
         }
         Stmt::Case(x, parts) => {

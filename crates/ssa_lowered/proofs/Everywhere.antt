@@ -15,8 +15,8 @@ use Rattle.ob_types.specs.declared.tree.Unary.TheVariants.{Negate, Complement, N
 use Rattle.ob_types.specs.declared.tree.Binary.{Binary}
 use Rattle.ob_types.specs.declared.tree.Binary.TheVariants.{Add, Subtract, Multiply, Div, Mod, Union, Difference, Intersection, SymmetricDifference, Subset, Superset, Lsl, Asr, Ror}
 use Rattle.ob_types.specs.declared.tree.Relation.{Relation}
-use Rattle.ob_types.specs.declared.tree.Expr.{Expr, Literal, Routine, Load, Guard, Unary', Chain', Compare', CompareTexts', In', IsPointer', IsParameter, Byte', Length, Call', Row_of-Link, end_of-Link, more_of-Link}
-use Rattle.ob_types.specs.declared.tree.Link.{Link, Operate, Element, Elements}
+use Rattle.ob_types.specs.declared.tree.Expr.{Expr, Literal, Routine, Load, Guard', Unary', Chain', Compare', CompareTexts', In', IsPointer', IsParameter, Byte', Length, Call', Row_of-Link, end_of-Link, more_of-Link}
+use Rattle.ob_types.specs.declared.tree.Link.{Link, Operate, Element, Elements'}
 use Rattle.ob_types.specs.declared.tree.Link.{And as AndLink, Or as OrLink}
 use Rattle.ob_types.specs.declared.tree.Base.{Base}
 use Rattle.ob_types.specs.declared.tree.Base.TheVariants.{Done, Global, Local, Parameter, Text}
@@ -287,7 +287,7 @@ module _ (S : (A : Type 0) → Low A → Type 0) (F : Test → Type 0)
       g_expr (Literal n) = g_valued (s_const n)
       g_expr (Routine g) = g_valued (emitted _ _)
       g_expr (Load d) = g_valued (s_load (s_home_of (small p l here d) (s_named d)))
-      g_expr (Guard d rs) = g_valued (s_all_guarded rs (s_load (s_home_of (small p l here d) (s_named d))))
+      g_expr (Guard' _ d rs) = g_valued (s_all_guarded rs (s_load (s_home_of (small p l here d) (s_named d))))
       g_expr (Unary' op _ x) = g_one op (g_expr x)
       g_expr (Chain' _ x _ links) = g_linked links (g_expr x)
       g_expr (Compare' r _ x _ y) = record { value = s_compared r (g_expr x).value (g_expr y).value; test = f_branch (condition r) (g_expr x).value (g_expr y).value }
@@ -308,11 +308,11 @@ module _ (S : (A : Type 0) → Low A → Type 0) (F : Test → Type 0)
       g_link (AndLink y) q = g_tested (ands _ _ q.test (g_expr y).test)
       g_link (OrLink y) q = g_tested (ors _ _ q.test (g_expr y).test)
       g_link (Element y) q = g_valued (s_with_element q.value (g_expr y).value)
-      g_link (Elements y z) q = g_valued (s_with_range q.value (g_expr y).value (g_expr z).value)
+      g_link (Elements' _ y _ z) q = g_valued (s_with_range q.value (g_expr y).value (g_expr z).value)
 
       s_named : (d : Designator) → S Named (named p l here d)
       s_named (Whole b k) = s_based b
-      s_named (Part' b k _ row) = s_selected row (s_based b)
+      s_named (Part' _ b k _ row) = s_selected row (s_based b)
 
       s_selected : {m : _} (row : Row_of-Selector m) {d : Low Named} → S Named d → S Named (selected p l here row d)
       s_selected end_of-Selector q = q
@@ -480,7 +480,7 @@ module _ (S : (A : Type 0) → Low A → Type 0) (F : Test → Type 0)
         s_deed (If' _ parts _ other) = s_alternatives parts (assigned_all other) (s_deeds other)
         s_deed (While' _ parts) = loops _ _ (each_round parts)
         s_deed (Repeat' _ body x) = repeats _ _ _ (s_deeds body) (f_test x)
-        s_deed (For' d x y step _ body) = s_for _ (bound p l here step) (s_assign (s_home p l here d) (s_value x)) (s_value y) (s_load (s_home p l here d)) (bind (s_deeds body) (λ _. s_assign (s_home p l here d) (s_binary Add (s_load (s_home p l here d)) (s_const (unsigned step)))))
+        s_deed (For' _ d x y step _ body) = s_for _ (bound p l here step) (s_assign (s_home p l here d) (s_value x)) (s_value y) (s_load (s_home p l here d)) (bind (s_deeds body) (λ _. s_assign (s_home p l here d) (s_binary Add (s_load (s_home p l here d)) (s_const (unsigned step)))))
         s_deed (Case' x _ parts) = s_case_of _ (label_tests p l here parts) (case_bodies p l here parts) (λ out args. Trap 6) (s_value x) (λ v. f_all_labels v (labels_of p l here parts)) (each_case_body parts)
         s_deed (CasePointer' x _ parts) = s_case_of _ (type_tests p l here parts is_pointer) (type_bodies p l here parts) (λ out args. Jump out args) (s_value x) (λ v. f_all_types is_pointer s_is_pointer v (records_of p l here parts)) (each_type_body parts)
         s_deed (CaseParameter' d _ parts) = s_case_of _ (type_tests p l here parts is_tag) (type_bodies p l here parts) (λ out args. Jump out args) (s_tag_of (s_named p l here d)) (λ v. f_all_types is_tag s_is_tag v (records_of p l here parts)) (each_type_body parts)

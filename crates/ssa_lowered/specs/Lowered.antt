@@ -11,8 +11,8 @@ use Rattle.ob_types.specs.declared.types.Formal.{Formal}
 use Rattle.ob_types.specs.declared.tree.Binary.TheVariants.{Add, Subtract, Union, Difference}
 use Rattle.ob_types.specs.declared.tree.Unary.{Unary}
 use Rattle.ob_types.specs.declared.tree.Unary.TheVariants.{Not}
-use Rattle.ob_types.specs.declared.tree.Expr.{Expr, Literal, Routine, Load, Guard, Unary', Chain', Compare', CompareTexts', In', IsPointer', IsParameter, Byte', Length, Call', Row_of-Link, end_of-Link, more_of-Link}
-use Rattle.ob_types.specs.declared.tree.Link.{Link, Operate, And, Or, Element, Elements}
+use Rattle.ob_types.specs.declared.tree.Expr.{Expr, Literal, Routine, Load, Guard', Unary', Chain', Compare', CompareTexts', In', IsPointer', IsParameter, Byte', Length, Call', Row_of-Link, end_of-Link, more_of-Link}
+use Rattle.ob_types.specs.declared.tree.Link.{Link, Operate, And, Or, Element, Elements'}
 use Rattle.ob_types.specs.declared.tree.Base.{Base}
 use Rattle.ob_types.specs.declared.tree.Base.TheVariants.{Done, Global, Local, Parameter, Text}
 use Rattle.ob_types.specs.declared.tree.Designator.{Designator, Whole, Part', Row_of-Selector, end_of-Selector, more_of-Selector}
@@ -101,7 +101,7 @@ module _ (p : Program) (l : Layout) (here : Here) where
     expr (Literal n) = valued (const n)
     expr (Routine g) = valued (routine g)
     expr (Load d) = valued (load (home_of (named d) (small d)))
-    expr (Guard d rs) = valued (all_guarded rs (load (home_of (named d) (small d))))
+    expr (Guard' _ d rs) = valued (all_guarded rs (load (home_of (named d) (small d))))
     expr (Unary' op _ x) = one_of op (expr x)
     expr (Chain' _ x _ links) = linked links (expr x)
     expr (Compare' r _ x _ y) = record { value = compared r (expr x).value (expr y).value; test = fork_branch (condition r) (expr x).value (expr y).value }
@@ -123,11 +123,11 @@ module _ (p : Program) (l : Layout) (here : Here) where
     link (And y) x = tested (fork_and x.test (expr y).test)
     link (Or y) x = tested (fork_or x.test (expr y).test)
     link (Element y) x = valued (with_element x.value (expr y).value)
-    link (Elements y z) x = valued (with_range x.value (expr y).value (expr z).value)
+    link (Elements' _ y _ z) x = valued (with_range x.value (expr y).value (expr z).value)
 
     pub named : Designator → Low Named
     named (Whole b k) = based b
-    named (Part' b k _ selectors) = selected selectors (based b)
+    named (Part' _ b k _ selectors) = selected selectors (based b)
 
     -- where the selectors lead to, one after the other
     pub selected : {m : _} → Row_of-Selector m → Low Named → Low Named
@@ -231,7 +231,7 @@ module _ (p : Program) (l : Layout) (here : Here) where
     deed (If' _ parts _ other) = alternatives parts (assigned_all other) (deeds other)
     deed (While' _ parts) = loop (registers (assigned_branches parts)) (guarded_rounds parts)
     deed (Repeat' _ body x) = repeat (registers (assigned_all body)) (deeds body) (test x)
-    deed (For' d x y step _ body) =
+    deed (For' _ d x y step _ body) =
         for (registers (either (itself d) (assigned_all body))) (bound step) (assign (home d) (value x)) (value y) (load (home d))
         (deeds body >>= λ _. assign (home d) (binary Add (load (home d)) (const (unsigned step))))
     deed (Case' x _ parts) = case_of (registers (assigned_case_parts parts)) (value x) (label_tests parts) (case_bodies parts) (λ out args. Trap 6)

@@ -10,8 +10,8 @@ use Rattle.ob_types.specs.declared.types.Mode.{Mode}
 use Rattle.ob_types.specs.declared.types.Mode.TheVariants.{Place}
 use Rattle.ob_types.specs.declared.types.Mode.TheVariants.{Value as OfValue, Record as OfRecord, Open as OfOpen}
 use Rattle.ob_types.specs.declared.types.Formal.{Formal}
-use Rattle.ob_types.specs.declared.tree.Expr.{Expr, Literal, Routine, Load, Guard, Unary', Chain', Compare', CompareTexts', In', IsPointer', IsParameter, Byte', Length, Call', Row_of-Link, end_of-Link, more_of-Link}
-use Rattle.ob_types.specs.declared.tree.Link.{Link, Operate, And, Or, Element, Elements}
+use Rattle.ob_types.specs.declared.tree.Expr.{Expr, Literal, Routine, Load, Guard', Unary', Chain', Compare', CompareTexts', In', IsPointer', IsParameter, Byte', Length, Call', Row_of-Link, end_of-Link, more_of-Link}
+use Rattle.ob_types.specs.declared.tree.Link.{Link, Operate, And, Or, Element, Elements'}
 use Rattle.ob_types.specs.declared.tree.Base.{Base}
 use Rattle.ob_types.specs.declared.tree.Base.TheVariants.{Local}
 use Rattle.ob_types.specs.declared.tree.Designator.{Designator, Whole, Part', Row_of-Selector, end_of-Selector, more_of-Selector}
@@ -45,7 +45,7 @@ unselected first (more_of-Selector s more) = none
 
 abbrev pub itself : Designator → Mask
 itself (Whole b k) = origin b
-itself (Part' b k _ selectors) = unselected (origin b) selectors
+itself (Part' _ b k _ selectors) = unselected (origin b) selectors
 
 ---- Whose addresses are made: of arrays and records, which are in memory anyway, and of scalars those that are VAR arguments and that of In.Char
 
@@ -59,7 +59,7 @@ abbrev mutual
   lent (Literal n) = none
   lent (Routine g) = none
   lent (Load d) = lent_at d
-  lent (Guard d rs) = lent_at d
+  lent (Guard' _ d rs) = lent_at d
   lent (Unary' op _ x) = lent x
   lent (Chain' _ x _ links) = either (lent x) (lent_links links)
   lent (Compare' r _ x _ y) = either (lent x) (lent y)
@@ -80,17 +80,17 @@ abbrev mutual
   lent_link (And y) = lent y
   lent_link (Or y) = lent y
   lent_link (Element y) = lent y
-  lent_link (Elements y z) = either (lent y) (lent z)
+  lent_link (Elements' _ y _ z) = either (lent y) (lent z)
 
   -- by a designator that is read or assigned
   pub lent_at : Designator → Mask
   lent_at (Whole b k) = none
-  lent_at (Part' b k _ selectors) = lent_selectors (origin b) selectors
+  lent_at (Part' _ b k _ selectors) = lent_selectors (origin b) selectors
 
   -- by one whose address is made
   pub lent_whole : Designator → Mask
   lent_whole (Whole b k) = origin b
-  lent_whole (Part' b k _ selectors) = either (unselected (origin b) selectors) (lent_selectors (origin b) selectors)
+  lent_whole (Part' _ b k _ selectors) = either (unselected (origin b) selectors) (lent_selectors (origin b) selectors)
 
   -- by the selectors of what begins at a variable: only the first is one of the variable itself
   pub lent_selectors : {m : _} → Mask → Row_of-Selector m → Mask
@@ -137,7 +137,7 @@ abbrev mutual
   lent_by (If' _ parts _ other) = either (lent_by_branches parts) (lent_by_all other)
   lent_by (While' _ parts) = lent_by_branches parts
   lent_by (Repeat' _ body x) = either (lent_by_all body) (lent x.form)
-  lent_by (For' d x y step _ body) = either (lent_at d) (either (lent x.form) (either (lent y.form) (lent_by_all body)))
+  lent_by (For' _ d x y step _ body) = either (lent_at d) (either (lent x.form) (either (lent y.form) (lent_by_all body)))
   lent_by (Case' x _ parts) = either (lent x.form) (lent_by_case_parts parts)
   lent_by (CasePointer' x _ parts) = either (lent x.form) (lent_by_type_parts parts)
   lent_by (CaseParameter' d _ parts) = either (lent_whole d) (lent_by_type_parts parts)
@@ -179,7 +179,7 @@ abbrev mutual
   assigned (If' _ parts _ other) = either (assigned_branches parts) (assigned_all other)
   assigned (While' _ parts) = assigned_branches parts
   assigned (Repeat' _ body x) = assigned_all body
-  assigned (For' d x y step _ body) = either (itself d) (assigned_all body)
+  assigned (For' _ d x y step _ body) = either (itself d) (assigned_all body)
   assigned (Case' x _ parts) = assigned_case_parts parts
   assigned (CasePointer' x _ parts) = assigned_type_parts parts
   assigned (CaseParameter' d _ parts) = assigned_type_parts parts

@@ -6,12 +6,13 @@ use Rattle.ob_types.specs.declared.tree.Unary.{Unary}
 use Rattle.ob_types.specs.declared.tree.Binary.{Binary}
 use Rattle.ob_types.specs.declared.tree.Relation.{Relation}
 use Rattle.ob_types.specs.declared.tree.Base.{Base}
-use Rattle.ob_types.specs.declared.tree.Expr.{Expr, Unary', Compare', CompareTexts', In', IsPointer', Byte', Call'}
+use Rattle.ob_types.specs.declared.tree.Expr.{Expr, Guard', Unary', Compare', CompareTexts', In', IsPointer', Byte', Call'}
 use Rattle.ob_types.specs.declared.tree.Expr.TheVariants as TheExpr
-use Rattle.ob_types.specs.declared.tree.Link.{Link}
+use Rattle.ob_types.specs.declared.tree.Link.{Link, Elements'}
 use Rattle.ob_types.specs.declared.tree.Link.TheVariants as TheLink
 use Rattle.ob_types.specs.declared.tree.Designator.{Designator}
 use Rattle.ob_types.specs.declared.tree.Designator.TheVariants as TheDesignator
+use Rattle.ob_types.specs.declared.tree.Access.{Access}
 use Rattle.ob_types.specs.declared.tree.Selector.{Selector}
 use Rattle.ob_types.specs.declared.tree.Selector.TheVariants as TheSelector
 use Rattle.ob_types.specs.declared.tree.Call.{Call}
@@ -26,7 +27,7 @@ use Rattle.judged_tree.specs.TypeShapes.{shape_of, shape_of_kind}
 use Rattle.judged_tree.specs.Plain.{plain_base, plain_expr, plain_designator, guarded}
 use Rattle.check_operands.proofs.trees.Rows.{chain_is, part_is, direct_is, indirect_is}
 use Rattle.check_procedures.specs.numbers.Numbering.{Numbering, LastsIn, Reading, Renewed, KeepsMeaning}
-use Rattle.check_procedures.specs.numbers.Readings.{each, pair, numbers, kinds, bases, expressions, links, designators, calls, arguments, ToElement, in_lead, selectors}
+use Rattle.check_procedures.specs.numbers.Readings.{each, pair, numbers, kinds, bases, expressions, links, designators, accesses, calls, arguments, ToElement, in_lead, selectors}
 use Rattle.check_procedures.proofs.numbers.Lists.{linked_by, links_are, in_linked, led_by, selectors_are, in_led, arguments_of, arguments_are, in_arguments_are}
 use Rattle.check_procedures.proofs.numbers.Keeping.{unused, within, joined, paired}
 
@@ -47,9 +48,9 @@ module _ (n : Numbering) where
   in_guards [] x = refl
   in_guards (r ∷ rs) x = in_guards rs (I.Guard x r)
 
-  pub guard : (d e : Designator) (tags tags' : List ℕ) (a b : Strings) → tags' ≡ tags → Goes designators d e a b → Goes expressions (TheExpr.Guard d tags) (TheExpr.Guard e tags') a b
-  guard d e tags tags' a b same h =
-      within n designators expressions (λ x. guarded tags (I.Load x)) (part d e a b) (TheExpr.Guard d tags) (TheExpr.Guard e tags')
+  pub guard : (p q : Box (Unit {0}) Global) (d e : Designator) (tags tags' : List ℕ) (a b : Strings) → tags' ≡ tags → Goes designators d e a b → Goes expressions (Guard' p d tags) (Guard' q e tags') a b
+  guard p q d e tags tags' a b same h =
+      within n designators expressions (λ x. guarded tags (I.Load x)) (part d e a b) (Guard' p d tags) (Guard' q e tags')
       (λ v all. refl) (λ v all. ap (λ rs. guarded rs (I.Load (plain_designator v all e))) same) (λ x. in_guards tags (I.Load x)) h
 
   pub unary : (o : Unary) (p q : Box (Unit {0}) Global) (x y : Expr) (a b : Strings) → Goes expressions x y a b → Goes expressions (Unary' o p x) (Unary' o q y) a b
@@ -111,9 +112,9 @@ module _ (n : Numbering) where
   pub element : (x y : Expr) (a b : Strings) → Goes expressions x y a b → Goes links (TheLink.Element x) (TheLink.Element y) a b
   element x y a b h = within n expressions links I.Element (part x y a b) (TheLink.Element x) (TheLink.Element y) (λ v all. refl) (λ v all. refl) (λ x. refl) h
 
-  pub elements : (x x' y y' : Expr) (a b c : Strings) → Goes expressions x x' a b → Goes expressions y y' b c → Goes links (TheLink.Elements x y) (TheLink.Elements x' y') a c
-  elements x x' y y' a b c g h =
-      joined n expressions expressions links I.Elements (part x x' a b) (part y y' b c) (TheLink.Elements x y) (TheLink.Elements x' y') refl (λ v all. refl) (λ v all. refl) (λ p q. refl) g h
+  pub elements : (p p' q q' : Box (Unit {0}) Global) (x x' y y' : Expr) (a b c : Strings) → Goes expressions x x' a b → Goes expressions y y' b c → Goes links (Elements' p x q y) (Elements' p' x' q' y') a c
+  elements p p' q q' x x' y y' a b c g h =
+      joined n expressions expressions links I.Elements (part x x' a b) (part y y' b c) (Elements' p x q y) (Elements' p' x' q' y') refl (λ v all. refl) (λ v all. refl) (λ u w. refl) g h
 
   -- ---- designators
 
@@ -121,14 +122,17 @@ module _ (n : Numbering) where
   whole x y j k a b g h =
       joined n bases kinds designators I.of_type (part x y a b) (part j k b b) (TheDesignator.Whole x j) (TheDesignator.Whole y k) refl (λ v all. refl) (λ v all. refl) (λ p s. sym (append-nil (in_place p))) g h
 
-  pub part_of : (x y : Base) (j k : TypeKind) (ss ts : Vec Selector Global) (a b c : Strings) → Goes bases x y a b → Goes (each selectors) ss.items ts.items b c → Goes kinds j k c c
-      → Goes designators (TheDesignator.Part x j ss) (TheDesignator.Part y k ts) a c
-  part_of x y j k ss ts a b c g h m =
-      joined n (pair bases (each selectors)) kinds designators (λ p s. I.of_type (led_by p.1 p.0) s) (part (x, ss.items) (y, ts.items) a c) (part j k c c) (TheDesignator.Part x j ss) (TheDesignator.Part y k ts) refl
-      (λ v all. part_is v all x j ss ∙ ap (λ d. I.of_type d (shape_of_kind v j)) (selectors_are v all ss.items (plain_base v all x)))
-      (λ v all. part_is v all y k ts ∙ ap (λ d. I.of_type d (shape_of_kind v k)) (selectors_are v all ts.items (plain_base v all y)))
+  pub reached : (x y : Access) (a b c : Strings) → Goes bases x.base y.base a b → Goes (each selectors) x.selectors.items y.selectors.items b c → Goes kinds x.kind y.kind c c
+      → Goes accesses x y a c
+  reached x y a b c g h m =
+      joined n (pair bases (each selectors)) kinds accesses (λ p s. I.of_type (led_by p.1 p.0) s) (part (x.base, x.selectors.items) (y.base, y.selectors.items) a c) (part x.kind y.kind c c) x y refl
+      (λ v all. ap (λ d. I.of_type d (shape_of_kind v x.kind)) (selectors_are v all x.selectors.items (plain_base v all x.base)))
+      (λ v all. ap (λ d. I.of_type d (shape_of_kind v y.kind)) (selectors_are v all y.selectors.items (plain_base v all y.base)))
       (λ p s. in_led p.1 p.0 ∙ sym (append-nil (in_place p.0 ++ flat_map in_lead p.1)))
-      (paired n bases (each selectors) (part x y a b) (part ss.items ts.items b c) refl g h) m
+      (paired n bases (each selectors) (part x.base y.base a b) (part x.selectors.items y.selectors.items b c) refl g h) m
+
+  pub part_of : (x y : Box Access Global) (a b : Strings) → Goes accesses x.value y.value a b → Goes designators (TheDesignator.Part x) (TheDesignator.Part y) a b
+  part_of x y a b h = within n accesses designators (λ d. d) (part x.value y.value a b) (TheDesignator.Part x) (TheDesignator.Part y) (λ v all. part_is v all x) (λ v all. part_is v all y) (λ d. refl) h
 
   pub index : (l : Option ℕ) (k j : ℕ) (x y : Expr) (a b : Strings) → ((v : Table) → LastsIn n.types v → shape_of v j ≡ shape_of n.types.types k) → Goes expressions x y a b
       → Goes selectors (TheSelector.Index l k x) (TheSelector.Index l j y) a b

@@ -1,5 +1,5 @@
 -- What becomes of statements, from what becomes of their parts.
-use Rattle.std.proofs.Common.{◌≡◌, ℤ, List, ◌++◌, Vec, Global, refl, sym, ap, ◌∙◌}
+use Rattle.std.proofs.Common.{◌≡◌, List, ◌++◌, Vec, Box, Global, refl, sym, ap, ◌∙◌}
 use Rattle.std.proofs.lemmas.List.{append-nil}
 use Rattle.ob_types.specs.Table.{Table}
 use Rattle.ob_types.specs.declared.types.TypeKind.{TypeKind}
@@ -10,6 +10,7 @@ use Rattle.ob_types.specs.declared.statements.Checked.{Checked}
 use Rattle.ob_types.specs.declared.statements.Branch.{Branch, out-Branch}
 use Rattle.ob_types.specs.declared.statements.CasePart.{CasePart}
 use Rattle.ob_types.specs.declared.statements.TypePart.{TypePart}
+use Rattle.ob_types.specs.declared.statements.ForLoop.{ForLoop, out-ForLoop}
 use Rattle.ob_types.specs.declared.statements.Stmt.{Stmt}
 use Rattle.ob_types.specs.declared.statements.Stmt.TheVariants as TheStmt
 use Rattle.ob_judge.specs.Texts.{Strings, in_expr, in_designator, in_statements}
@@ -17,7 +18,7 @@ use Rattle.ob_judge.specs.Image as I
 use Rattle.judged_tree.specs.Plain.{plain_designator, plain_checked, plain_statement, plain_body}
 use Rattle.check_statements.proofs.trees.Rows.{if_is, while_is, repeat_is, for_is, case_is, pointer_is, parameter_is}
 use Rattle.check_procedures.specs.numbers.Numbering.{Numbering, Reading, Renewed, KeepsMeaning}
-use Rattle.check_procedures.specs.numbers.Readings.{each, pair, kinds, expressions, designators, calls, checked, statements, bodies, branches, case_parts, type_parts}
+use Rattle.check_procedures.specs.numbers.Readings.{each, pair, kinds, expressions, designators, calls, checked, statements, bodies, loops, branches, case_parts, type_parts}
 use Rattle.check_procedures.proofs.numbers.Lists.{statements_of, statements_are, in_statements_are, branches_of, branches_are, in_branches_are, parts_of, case_parts_are, type_parts_are, in_parts_are}
 use Rattle.check_procedures.proofs.numbers.Keeping.{within, joined}
 
@@ -121,15 +122,20 @@ module _ (n : Numbering) where
       joined n bodies checked statements I.Repeat (part ss.items ts.items a b) (part x y b c) (TheStmt.Repeat ss x) (TheStmt.Repeat ts y) refl
       (λ v all. repeat_is v all ss x) (λ v all. repeat_is v all ts y) (λ p q. refl) g h
 
-  pub for_each : (d d' : Designator) (x x' y y' : Checked) (k j : ℤ) (ss ts : Vec Stmt Global) (made : Stmt) (a b c : Strings) → j ≡ k
-      → ((v : Table) (all : Strings) → plain_statement v all made ≡ I.For (plain_designator v all d') (plain_checked v all x') (plain_checked v all y') j (plain_body v all ts.items))
-      → Goes (pair (pair designators checked) checked) ((d, x), y) ((d', x'), y') a b → Goes bodies ss.items ts.items b c
-      → Goes statements (TheStmt.For d x y k ss) made a c
-  for_each d d' x x' y y' k j ss ts made a b c same is g h =
-      joined n (pair (pair designators checked) checked) bodies statements (λ p q. I.For p.0.0 p.0.1 p.1 k q) (part ((d, x), y) ((d', x'), y') a b) (part ss.items ts.items b c) (TheStmt.For d x y k ss) made refl
-      (λ v all. for_is v all d x y k ss)
-      (λ v all. is v all ∙ ap (λ i. I.For (plain_designator v all d') (plain_checked v all x') (plain_checked v all y') i (plain_body v all ts.items)) same)
+  -- FOR: its parts, and then the statement
+  pub loop_turns : (x y : ForLoop) (a b c : Strings) → (out-ForLoop y).step ≡ (out-ForLoop x).step
+      → Goes (pair (pair designators checked) checked) (((out-ForLoop x).variable, (out-ForLoop x).first), (out-ForLoop x).limit) (((out-ForLoop y).variable, (out-ForLoop y).first), (out-ForLoop y).limit) a b
+      → Goes bodies (out-ForLoop x).body.items (out-ForLoop y).body.items b c → Goes loops x y a c
+  loop_turns x y a b c same g h =
+      joined n (pair (pair designators checked) checked) bodies loops (λ p q. I.For p.0.0 p.0.1 p.1 (out-ForLoop x).step q)
+      (part (((out-ForLoop x).variable, (out-ForLoop x).first), (out-ForLoop x).limit) (((out-ForLoop y).variable, (out-ForLoop y).first), (out-ForLoop y).limit) a b)
+      (part (out-ForLoop x).body.items (out-ForLoop y).body.items b c) x y refl
+      (λ v all. refl)
+      (λ v all. ap (λ k. I.For (plain_designator v all (out-ForLoop y).variable) (plain_checked v all (out-ForLoop y).first) (plain_checked v all (out-ForLoop y).limit) k (plain_body v all (out-ForLoop y).body.items)) same)
       (λ p q. refl) g h
+
+  pub for_turns : (f g : Box ForLoop Global) (a b : Strings) → Goes loops f.value g.value a b → Goes statements (TheStmt.For f) (TheStmt.For g) a b
+  for_turns f g a b h = within n loops statements (λ s. s) (part f.value g.value a b) (TheStmt.For f) (TheStmt.For g) (λ v all. for_is v all f) (λ v all. for_is v all g) (λ s. refl) h
 
   pub case_value : (x y : Checked) (ps qs : Vec CasePart Global) (a b c : Strings) → Goes checked x y a b → Goes (each case_parts) ps.items qs.items b c
       → Goes statements (TheStmt.Case x ps) (TheStmt.Case y qs) a c

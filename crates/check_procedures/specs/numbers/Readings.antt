@@ -6,6 +6,7 @@ use Rattle.ob_types.specs.declared.tree.Base.{Base}
 use Rattle.ob_types.specs.declared.tree.Expr.{Expr}
 use Rattle.ob_types.specs.declared.tree.Link.{Link}
 use Rattle.ob_types.specs.declared.tree.Designator.{Designator}
+use Rattle.ob_types.specs.declared.tree.Access.{Access}
 use Rattle.ob_types.specs.declared.tree.Selector.{Selector, Index, Field, Dereference, Narrow}
 use Rattle.ob_types.specs.declared.tree.Call.{Call}
 use Rattle.ob_types.specs.declared.tree.Argument.{Argument}
@@ -13,6 +14,7 @@ use Rattle.ob_types.specs.declared.statements.Checked.{Checked}
 use Rattle.ob_types.specs.declared.statements.Branch.{Branch, out-Branch}
 use Rattle.ob_types.specs.declared.statements.CasePart.{CasePart, out-CasePart}
 use Rattle.ob_types.specs.declared.statements.TypePart.{TypePart, out-TypePart}
+use Rattle.ob_types.specs.declared.statements.ForLoop.{ForLoop, out-ForLoop}
 use Rattle.ob_types.specs.declared.statements.Stmt.{Stmt, Assign, CopyArray, CopyRecord, Increase, Decrease, Include, Exclude, If', While', Repeat', For', Case', CasePointer', CaseParameter'}
 use Rattle.ob_types.specs.Table.{Table}
 use Rattle.ob_judge.specs.Shapes.{Shape}
@@ -20,6 +22,7 @@ use Rattle.ob_judge.specs.Texts.{Strings, in_expr, in_link, in_designator, in_pl
 use Rattle.ob_judge.specs.Image as I
 use Rattle.judged_tree.specs.TypeShapes.{shape_of, shape_of_kind}
 use Rattle.judged_tree.specs.Plain.{plain_base, plain_expr, plain_link, plain_designator, plain_call, plain_argument, plain_checked, plain_statement, plain_body, guarded, pointer_at}
+use Rattle.check_operands.specs.trees.Lists.{access_image}
 use Rattle.check_procedures.specs.numbers.Numbering.{Reading}
 
 -- one after the other
@@ -51,6 +54,13 @@ links = record { image = plain_link; uses = in_link }
 
 abbrev pub designators : Reading Designator I.Designator
 designators = record { image = plain_designator; uses = in_designator }
+
+-- what a variable with selectors is
+abbrev pub access_of : Table → Strings → Access → I.Designator
+access_of t texts a = I.of_type (access_image t texts a) (shape_of_kind t a.kind)
+
+abbrev pub accesses : Reading Access I.Designator
+accesses = record { image = access_of; uses = in_designator }
 
 abbrev pub calls : Reading Call I.Call
 calls = record { image = plain_call; uses = in_call }
@@ -92,20 +102,16 @@ checked = record { image = plain_checked; uses = λ x. in_expr x.form }
 abbrev pub statements : Reading Stmt I.Statement
 statements = record { image = plain_statement; uses = in_statement }
 
--- whether a statement has statements in it, and isn't FOR
+-- whether a statement has statements in it
 abbrev pub is_compound : Stmt → Bool
 is_compound (If' _ branches _ other) = true
 is_compound (While' _ branches) = true
 is_compound (Repeat' _ body x) = true
+is_compound (For' _ d x y step _ body) = true
 is_compound (Case' x _ parts) = true
 is_compound (CasePointer' x _ parts) = true
 is_compound (CaseParameter' d _ parts) = true
 is_compound _ = false
-
--- whether this is FOR
-abbrev pub is_for : Stmt → Bool
-is_for (For' d x y step _ body) = true
-is_for _ = false
 
 -- whether it gives a variable a value
 abbrev pub is_update : Stmt → Bool
@@ -120,6 +126,14 @@ is_update _ = false
 
 abbrev pub bodies : Reading (List Stmt) I.Statements
 bodies = record { image = plain_body; uses = in_statements }
+
+-- what a FOR statement is
+abbrev pub loop_of : Table → Strings → ForLoop → I.Statement
+loop_of t texts l =
+    I.For (plain_designator t texts (out-ForLoop l).variable) (plain_checked t texts (out-ForLoop l).first) (plain_checked t texts (out-ForLoop l).limit) (out-ForLoop l).step (plain_body t texts (out-ForLoop l).body.items)
+
+abbrev pub loops : Reading ForLoop I.Statement
+loops = record { image = loop_of; uses = in_statement }
 
 -- the expression behind RETURN
 abbrev pub answers : Reading (Option Checked) (Option I.Checked)

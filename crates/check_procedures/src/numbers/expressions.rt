@@ -2,12 +2,12 @@
 
 ghost use Rattle.std.specs.Prelude.{◌≡◌, OnOk};
 ghost use Rattle.check_procedures.specs.numbers.Numbering.{KeepsMeaning, numbering_of};
-ghost use Rattle.check_procedures.specs.numbers.Readings.{each, expressions, links, designators, selectors, calls, arguments};
+ghost use Rattle.check_procedures.specs.numbers.Readings.{each, accesses, expressions, links, designators, selectors, calls, arguments};
 
 use crate::numbers::numbers::{renumbered_base, type_kind, type_number};
 use check_types::names::Scope;
 use items::Items;
-use ob_types::{Argument, Call, Designator, Expr, Link, Selector};
+use ob_types::{Access, Argument, Call, Designator, Expr, Link, Selector};
 use outside::Memory;
 use std::alloc::Global;
 
@@ -150,13 +150,28 @@ pub fn renumber_designator<'a>(
             *kind = type_kind(scope.types, *kind);
             Ok(())
         }
-        Designator::Part(base, kind, list) => {
-            *base = renumbered_base(scope, alloc, uses, *base)?;
-            *kind = type_kind(scope.types, *kind);
-            renumber_selectors(scope, alloc, uses, list)?;
+        Designator::Part(access) => {
+            renumber_access(scope, alloc, uses, access)?;
             Ok(())
         }
     }
+}
+
+/// A variable with selectors.
+#[cycle(expressions)]
+fn renumber_access<'a>(
+    scope: &Scope<'a>,
+    alloc: Global,
+    uses: &mut Items<Items<u8>>,
+    access: &mut Access,
+) -> Result<(), Memory>
+    ensures { OnOk result (KeepsMeaning accesses (numbering_of scope.now)
+        (record { tree = access.old; made = access.new; before = uses.old; after = uses.new })) }
+{
+    access.base = renumbered_base(scope, alloc, uses, access.base)?;
+    access.kind = type_kind(scope.types, access.kind);
+    renumber_selectors(scope, alloc, uses, &mut access.selectors)?;
+    Ok(())
 }
 
 /// Selectors, one after the other.

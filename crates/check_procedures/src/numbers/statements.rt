@@ -1,18 +1,16 @@
 //! Statements.
 
-ghost use Rattle.std.specs.Prelude.{◌≡◌, OnOk, IfOk, true, false};
+ghost use Rattle.std.specs.Prelude.{◌≡◌, OnOk, true, false};
 ghost use Rattle.check_procedures.specs.numbers.Numbering.{KeepsMeaning, numbering_of};
-ghost use Rattle.check_procedures.specs.numbers.Readings.{each, pair, designators, checked, statements, bodies, branches, case_parts, type_parts, is_compound, is_for, is_update};
+ghost use Rattle.check_procedures.specs.numbers.Readings.{each, pair, designators, checked, statements, bodies, loops, branches, case_parts, type_parts, is_compound, is_update};
 
 use crate::numbers::expressions::{renumber_call, renumber_designator, renumber_expression};
 use crate::numbers::numbers::type_kind;
-use check_statements::trees::for_statement;
 use check_types::names::Scope;
 use items::Items;
-use ob_types::{Branch, CasePart, Checked, Designator, Stmt, TypePart};
+use ob_types::{Branch, CasePart, Checked, Designator, ForLoop, Stmt, TypePart};
 use outside::Memory;
 use std::alloc::Global;
-use std::mem;
 
 /// A whole expression.
 pub fn renumber_checked<'a>(
@@ -100,37 +98,7 @@ pub fn renumber_statements<'a>(
     Ok(())
 }
 
-/// Whether a statement is FOR.
-fn is_for_statement(statement: &Stmt) -> bool
-    ensures { result ≡ is_for statement.now }
-{
-    match statement {
-        Stmt::If(_, _) => false,
-        Stmt::While(_) => false,
-        Stmt::Repeat(_, _) => false,
-        Stmt::For { .. } => true,
-        Stmt::Case(_, _) => false,
-        Stmt::CasePointer(_, _) => false,
-        Stmt::CaseParameter(_, _) => false,
-        Stmt::Assign(_, _) => false,
-        Stmt::CopyArray(_, _) => false,
-        Stmt::CopyRecord(_, _) => false,
-        Stmt::Increase(_, _) => false,
-        Stmt::Decrease(_, _) => false,
-        Stmt::Include(_, _) => false,
-        Stmt::Exclude(_, _) => false,
-        Stmt::New(_) => false,
-        Stmt::Assert(_) => false,
-        Stmt::OutChar(_) => false,
-        Stmt::OutInt(_, _) => false,
-        Stmt::OutString(_) => false,
-        Stmt::OutLn => false,
-        Stmt::InChar(_) => false,
-        Stmt::Call(_) => false,
-    }
-}
-
-/// Whether a statement has statements in it, and isn't FOR.
+/// Whether a statement has statements in it.
 fn has_statements(statement: &Stmt) -> bool
     ensures { result ≡ is_compound statement.now }
 {
@@ -138,7 +106,7 @@ fn has_statements(statement: &Stmt) -> bool
         Stmt::If(_, _) => true,
         Stmt::While(_) => true,
         Stmt::Repeat(_, _) => true,
-        Stmt::For { .. } => false,
+        Stmt::For(_) => true,
         Stmt::Case(_, _) => true,
         Stmt::CasePointer(_, _) => true,
         Stmt::CaseParameter(_, _) => true,
@@ -183,7 +151,7 @@ fn is_update_statement(statement: &Stmt) -> bool
         Stmt::If(_, _) => false,
         Stmt::While(_) => false,
         Stmt::Repeat(_, _) => false,
-        Stmt::For { .. } => false,
+        Stmt::For(_) => false,
         Stmt::Case(_, _) => false,
         Stmt::CasePointer(_, _) => false,
         Stmt::CaseParameter(_, _) => false,
@@ -240,7 +208,7 @@ fn renumber_update<'a>(
         Stmt::If(_, _) => Ok(()),
         Stmt::While(_) => Ok(()),
         Stmt::Repeat(_, _) => Ok(()),
-        Stmt::For { .. } => Ok(()),
+        Stmt::For(_) => Ok(()),
         Stmt::Case(_, _) => Ok(()),
         Stmt::CasePointer(_, _) => Ok(()),
         Stmt::CaseParameter(_, _) => Ok(()),
@@ -254,7 +222,7 @@ fn renumber_other<'a>(
     uses: &mut Items<Items<u8>>,
     statement: &mut Stmt,
 ) -> Result<(), Memory>
-    ensures { OnOk result (is_for statement.old ≡ false → is_compound statement.old ≡ false → is_update statement.old ≡ false
+    ensures { OnOk result (is_compound statement.old ≡ false → is_update statement.old ≡ false
         → KeepsMeaning statements (numbering_of scope.now)
         (record { tree = statement.old; made = statement.new; before = uses.old; after = uses.new })) }
 {
@@ -299,7 +267,7 @@ fn renumber_other<'a>(
         Stmt::If(_, _) => Ok(()),
         Stmt::While(_) => Ok(()),
         Stmt::Repeat(_, _) => Ok(()),
-        Stmt::For { .. } => Ok(()),
+        Stmt::For(_) => Ok(()),
         Stmt::Case(_, _) => Ok(()),
         Stmt::CasePointer(_, _) => Ok(()),
         Stmt::CaseParameter(_, _) => Ok(()),
@@ -313,7 +281,7 @@ fn renumber_simple<'a>(
     uses: &mut Items<Items<u8>>,
     statement: &mut Stmt,
 ) -> Result<(), Memory>
-    ensures { OnOk result (is_for statement.old ≡ false → is_compound statement.old ≡ false → KeepsMeaning statements (numbering_of scope.now)
+    ensures { OnOk result (is_compound statement.old ≡ false → KeepsMeaning statements (numbering_of scope.now)
         (record { tree = statement.old; made = statement.new; before = uses.old; after = uses.new })) }
 {
     if is_update_statement(statement) {
@@ -324,7 +292,7 @@ fn renumber_simple<'a>(
     Ok(())
 }
 
-/// A statement that has statements in it, and isn't FOR.
+/// A statement that has statements in it.
 #[cycle(statements)]
 fn renumber_compound<'a>(
     scope: &Scope<'a>,
@@ -350,7 +318,10 @@ fn renumber_compound<'a>(
             renumber_checked(scope, alloc, uses, x)?;
             Ok(())
         }
-        Stmt::For { .. } => Ok(()),
+        Stmt::For(for_loop) => {
+            renumber_loop(scope, alloc, uses, for_loop)?;
+            Ok(())
+        }
         Stmt::Case(x, list) => {
             renumber_checked(scope, alloc, uses, x)?;
             renumber_case_parts(scope, alloc, uses, list)?;
@@ -395,11 +366,6 @@ fn renumber_statement<'a>(
     ensures { OnOk result (KeepsMeaning statements (numbering_of scope.now)
         (record { tree = statement.old; made = statement.new; before = uses.old; after = uses.new })) }
 {
-    if is_for_statement(statement) {
-        let taken = mem::replace(statement, Stmt::OutLn);
-        *statement = renumbered_for(scope, alloc, uses, taken)?;
-        return Ok(());
-    }
     if has_statements(statement) {
         renumber_compound(scope, alloc, uses, statement)?;
         return Ok(());
@@ -408,31 +374,27 @@ fn renumber_statement<'a>(
     Ok(())
 }
 
-/// FOR.
+/// A FOR statement. Its step stays as it is.
 #[cycle(statements)]
-fn renumbered_for<'a>(
+fn renumber_loop<'a>(
     scope: &Scope<'a>,
     alloc: Global,
     uses: &mut Items<Items<u8>>,
-    statement: Stmt,
-) -> Result<Stmt, Memory>
-    ensures { IfOk result (λ made. is_for statement ≡ true → KeepsMeaning statements (numbering_of scope.now)
-        (record { tree = statement; made = made; before = uses.old; after = uses.new })) }
+    for_loop: &mut ForLoop,
+) -> Result<(), Memory>
+    ensures { OnOk result (KeepsMeaning loops (numbering_of scope.now)
+        (record { tree = for_loop.old; made = for_loop.new; before = uses.old; after = uses.new })) }
 {
-    match statement {
-        Stmt::For {
-            mut variable,
-            mut first,
-            mut limit,
-            step,
-            mut body,
-        } => {
-            renumber_head(scope, alloc, uses, &mut variable, &mut first, &mut limit)?;
-            renumber_statements(scope, alloc, uses, &mut body)?;
-            Ok(for_statement(variable, first, limit, step, body))
-        }
-        other => Ok(other),
-    }
+    renumber_head(
+        scope,
+        alloc,
+        uses,
+        &mut for_loop.variable,
+        &mut for_loop.first,
+        &mut for_loop.limit,
+    )?;
+    renumber_statements(scope, alloc, uses, &mut for_loop.body)?;
+    Ok(())
 }
 
 /// The branches of IF or WHILE.

@@ -29,9 +29,9 @@ fn indexed<'a>(
 {
     let read_only = x.usage.is_read_only();
     let Part { reach, .. } = x;
-    let array = place_of(scope, alloc, reach);
+    let array = place_of(scope, reach);
     let index = form(scope, i);
-    let at = array.index(length, element, index)?;
+    let at = array.index(alloc, length, element, index)?;
     Ok(Part {
         of: scope.types.entry(element),
         reach: Reach::Named(at),
@@ -85,8 +85,8 @@ pub fn followed<'a>(
 {
     let Part { reach, .. } = x;
     let at = match reach {
-        Reach::Named(place) => place.dereference(Items::new(alloc))?,
-        Reach::Guarded { place, tags, .. } => place.dereference(tags)?,
+        Reach::Named(place) => place.dereference(alloc, Items::new(alloc))?,
+        Reach::Guarded { place, tags, .. } => place.dereference(alloc, tags)?,
     };
     Ok(Part {
         of: TypeRef::Record(record_type),

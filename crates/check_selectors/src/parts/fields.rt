@@ -38,7 +38,7 @@ fn known<'a>(
 {
     let read_only = x.usage.is_read_only();
     let Part { reach, .. } = x;
-    let at = place_of(scope, alloc, reach).field(found.adder, found.number)?;
+    let at = place_of(scope, reach).field(alloc, found.adder, found.number)?;
     Ok(Part {
         of: found.of,
         reach: Reach::Named(at),

@@ -111,7 +111,7 @@ fn record_guard<'a>(
     ensures { JudgesPart scope.now x (guard_in scope.now (Record t) r) result }
 {
     let Part { reach, .. } = x;
-    let at = place_of(scope, alloc, reach).narrow(r)?;
+    let at = place_of(scope, reach).narrow(alloc, r)?;
     Ok(Part {
         of: TypeRef::Record(t),
         reach: Reach::Named(at),

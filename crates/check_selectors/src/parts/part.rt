@@ -1,9 +1,11 @@
 //! Variables and their parts.
 
 ghost use Rattle.std.specs.Prelude.{◌≡◌};
+ghost use Rattle.ob_judge.specs.Judged.{Keeps};
 ghost use Rattle.ob_judge.specs.Operands.{Operand as Judgement, place_of as place_from};
 ghost use Rattle.judged_tree.specs.Outline.{outlined_place};
 ghost use Rattle.check_operands.specs.trees.Lists.{place_image};
+ghost use Rattle.check_types.specs.steps.Answers.{Answers};
 ghost use Rattle.check_types.specs.names.Worlds.{table_of};
 ghost use Rattle.check_operands.specs.Operands.{texts_of, bases_of, Stands};
 ghost use Rattle.check_selectors.specs.parts.Parts.{IsPart, Reaches};
@@ -12,6 +14,7 @@ use check_operands::trees::{Place, Value};
 use check_operands::{Operand, Use, What};
 use check_types::TypeRef;
 use check_types::names::Scope;
+use check_types::steps::CheckFault;
 use items::Items;
 use ob_types::{Base, Expr};
 use std::alloc::Global;
@@ -38,26 +41,26 @@ pub struct Part {
 }
 
 /// As an operand.
-pub fn operand<'a>(scope: &Scope<'a>, x: Part) -> Operand
-    ensures { (a : Judgement) → IsPart scope.now x a → Stands scope.now result a }
+pub fn operand<'a>(scope: &Scope<'a>, alloc: Global, x: Part) -> Result<Operand, CheckFault>
+    ensures { (a : Judgement) → IsPart scope.now x a → Answers (Stands scope.now) (Keeps a) result }
 {
     let Part { of, reach, usage } = x;
     let what = match reach {
         Reach::Named(place) => What::Named(place),
-        Reach::Guarded { place, own, tags } => What::Valued(Value::new(Expr::Guard(
-            place.designator(scope.types.kind_of(own)),
-            tags,
-        ))),
+        Reach::Guarded { place, own, tags } => {
+            let pointer = Box::new(alloc, place.designator(scope.types.kind_of(own)))?;
+            What::Valued(Value::new(Expr::Guard(pointer, tags)))
+        }
     };
-    Operand { of, what, usage }
+    Ok(Operand { of, what, usage })
 }
 
 /// Where it stands; a value stands nowhere.
-pub fn place_of<'a>(scope: &Scope<'a>, alloc: Global, reach: Reach) -> Place
+pub fn place_of<'a>(scope: &Scope<'a>, reach: Reach) -> Place
     ensures { (a : Judgement) → Reaches scope.now reach a.what → place_image (table_of scope.now) (texts_of scope.now) result ≡ outlined_place (bases_of scope.now) (place_from a) }
 {
     match reach {
         Reach::Named(place) => place,
-        Reach::Guarded { .. } => Place::whole(alloc, Base::Done),
+        Reach::Guarded { .. } => Place::Whole(Base::Done),
     }
 }

@@ -9,11 +9,12 @@ ghost use Rattle.judged_tree.specs.Plain.{plain_base};
 ghost use Rattle.check_types.specs.steps.Answers.{Answers};
 ghost use Rattle.check_types.specs.names.Meaning.{place_of as place_meant, variable_of, home_of};
 ghost use Rattle.check_types.specs.names.Worlds.{table_of, strings_of, world_of};
+ghost use Rattle.check_operands.specs.Operands.{Stands, use_of};
 ghost use Rattle.check_selectors.specs.parts.Parts.{IsPart, narrowed_in};
 
 use crate::parts::part::{Part, Reach};
-use check_operands::Use;
 use check_operands::trees::Place;
+use check_operands::{Operand, Use, What};
 use check_types::names::{Home, Narrowing, Scope, Variable, VariablePlace};
 use check_types::steps::CheckFault;
 use items::Items;
@@ -53,18 +54,36 @@ fn is_tagged(home: Home) -> bool
     }
 }
 
-/// A variable as it is declared.
-pub fn whole_variable<'a>(scope: &Scope<'a>, alloc: Global, v: Variable) -> Part
+// What may be done with it.
+fn usage<'a>(scope: &Scope<'a>, v: Variable) -> Use
+    ensures { use_of result ≡ (judged_whole (world_of scope.now) (variable_of (table_of scope.now) (strings_of scope.now) v)).use_ }
+{
+    Use::Variable {
+        read_only: is_read_only(scope, v),
+        tagged: is_tagged(v.home),
+        narrowed: false,
+    }
+}
+
+// A variable as it is declared.
+fn whole_variable<'a>(scope: &Scope<'a>, v: Variable) -> Part
     ensures { IsPart scope.now result (judged_whole (world_of scope.now) (variable_of (table_of scope.now) (strings_of scope.now) v)) }
 {
     Part {
         of: v.of,
-        reach: Reach::Named(Place::whole(alloc, base(v.place))),
-        usage: Use::Variable {
-            read_only: is_read_only(scope, v),
-            tagged: is_tagged(v.home),
-            narrowed: false,
-        },
+        reach: Reach::Named(Place::Whole(base(v.place))),
+        usage: usage(scope, v),
+    }
+}
+
+/// A variable as it is declared, as an operand.
+pub fn whole_operand<'a>(scope: &Scope<'a>, v: Variable) -> Operand
+    ensures { Stands scope.now result (judged_whole (world_of scope.now) (variable_of (table_of scope.now) (strings_of scope.now) v)) }
+{
+    Operand {
+        of: v.of,
+        what: What::Named(Place::Whole(base(v.place))),
+        usage: usage(scope, v),
     }
 }
 
@@ -83,7 +102,7 @@ fn narrowed_pointer<'a>(
     Ok(Part {
         of: n.of,
         reach: Reach::Guarded {
-            place: Place::whole(alloc, base(v.place)),
+            place: Place::Whole(base(v.place)),
             own: v.of,
             tags,
         },
@@ -105,7 +124,7 @@ fn narrowed_record<'a>(
 ) -> Result<Part, CheckFault>
     ensures { Answers (IsPart scope.now) (narrowed_in scope.now v false n) result }
 {
-    let at = Place::whole(alloc, base(v.place)).narrow(n.tag)?;
+    let at = Place::Whole(base(v.place)).narrow(alloc, n.tag)?;
     Ok(Part {
         of: n.of,
         reach: Reach::Named(at),
@@ -123,7 +142,7 @@ pub fn variable_read<'a>(scope: &Scope<'a>, alloc: Global, v: Variable) -> Resul
     ensures { Answers (IsPart scope.now) (Keeps (judged_read scope.now.source.now (world_of scope.now) (variable_of (table_of scope.now) (strings_of scope.now) v))) result }
 {
     match scope.narrowing(v.place) {
-        None => Ok(whole_variable(scope, alloc, v)),
+        None => Ok(whole_variable(scope, v)),
         Some(n) => {
             if v.of.is_pointer() {
                 narrowed_pointer(scope, alloc, v, n)

@@ -1,5 +1,5 @@
 -- The lists of statements and parts that code makes, against the rows that trees have.
-use Rattle.std.proofs.Common.{◌≡◌, ℕ, ℤ, List, [], ◌∷◌, ◌++◌, Vec, Global, refl, sym, ap, ap₂, ◌∙◌}
+use Rattle.std.proofs.Common.{◌≡◌, ℕ, List, [], ◌∷◌, ◌++◌, Vec, Box, Global, refl, sym, ap, ap₂, ◌∙◌}
 use mathlib.Core.Former.{Count}
 use Rattle.ob_types.specs.Table.{Table}
 use Rattle.ob_types.specs.declared.tree.Designator.{Designator}
@@ -7,6 +7,7 @@ use Rattle.ob_types.specs.declared.statements.Checked.{Checked}
 use Rattle.ob_types.specs.declared.statements.Branch.{Branch, out-Branch}
 use Rattle.ob_types.specs.declared.statements.CasePart.{CasePart, out-CasePart}
 use Rattle.ob_types.specs.declared.statements.TypePart.{TypePart, out-TypePart}
+use Rattle.ob_types.specs.declared.statements.ForLoop.{ForLoop}
 use Rattle.ob_types.specs.declared.statements.Stmt.{Stmt, If, If', While, While', Repeat, Repeat', For, For', Case, Case', CasePointer, CasePointer', CaseParameter, CaseParameter', Row_of-Stmt, end_of-Stmt, more_of-Stmt, items-the_row-Stmt, Row_of-Branch, end_of-Branch, more_of-Branch, items-the_row-Branch, Row_of-CasePart, end_of-CasePart, more_of-CasePart, items-the_row-CasePart, Row_of-TypePart, end_of-TypePart, more_of-TypePart, items-the_row-TypePart, items_hidden-the_row-Stmt-0, items_hidden-the_row-Branch-1, items_shown-the_row-Stmt-0, items_hidden-the_row-CasePart-2, items_hidden-the_row-TypePart-3}
 use Rattle.ob_judge.specs.Image as I
 use Rattle.judged_tree.specs.Plain.{plain_designator, plain_checked, plain_statement, plain_statements, plain_branches, plain_case_parts, plain_type_parts, plain_body}
@@ -15,7 +16,7 @@ use Rattle.check_statements.specs.trees.Onto.{statements_onto, branches_onto, ca
 abbrev body_of : Stmt → (n : Count) × Row_of-Stmt n
 body_of (If' _ parts _ other) = (_, other)
 body_of (Repeat' _ body x) = (_, body)
-body_of (For' d x y step _ body) = (_, body)
+body_of (For' _ d x y step _ body) = (_, body)
 body_of _ = (_, end_of-Stmt)
 
 abbrev branches_of : Stmt → (n : Count) × Row_of-Branch n
@@ -65,9 +66,11 @@ module _ (t : Table) (texts : List (List ℕ)) where
   pub repeat_is : (ss : Vec Stmt Global) (x : Checked) → plain_statement t texts (Repeat ss x) ≡ I.Repeat (plain_body t texts ss.items) (plain_checked t texts x)
   repeat_is ss x = let r = body_of (Repeat ss x) in ap (λ b. I.Repeat b (plain_checked t texts x)) (body_row r.0 r.1 ∙ ap (plain_body t texts) (items_hidden-the_row-Stmt-0 ss))
 
-  pub for_is : (d : Designator) (x y : Checked) (k : ℤ) (ss : Vec Stmt Global) →
-      plain_statement t texts (For d x y k ss) ≡ I.For (plain_designator t texts d) (plain_checked t texts x) (plain_checked t texts y) k (plain_body t texts ss.items)
-  for_is d x y k ss = let r = body_of (For d x y k ss) in ap (I.For (plain_designator t texts d) (plain_checked t texts x) (plain_checked t texts y) k) (body_row r.0 r.1 ∙ ap (plain_body t texts) (items_hidden-the_row-Stmt-0 ss))
+  pub for_is : (f : Box ForLoop Global) →
+      plain_statement t texts (For f) ≡ I.For (plain_designator t texts f.value.variable) (plain_checked t texts f.value.first) (plain_checked t texts f.value.limit) f.value.step (plain_body t texts f.value.body.items)
+  for_is f =
+      let r = body_of (For f) in
+      ap (I.For (plain_designator t texts f.value.variable) (plain_checked t texts f.value.first) (plain_checked t texts f.value.limit) f.value.step) (body_row r.0 r.1 ∙ ap (plain_body t texts) (items_hidden-the_row-Stmt-0 f.value.body))
 
   pub case_is : (x : Checked) (ps : Vec CasePart Global) → plain_statement t texts (Case x ps) ≡ I.Case (plain_checked t texts x) (case_parts_onto t texts ps.items I.no_part)
   case_is x ps = let r = cases_of (Case x ps) in ap (I.Case (plain_checked t texts x)) (case_row r.0 r.1 ∙ ap (λ l. case_parts_onto t texts l I.no_part) (items_hidden-the_row-CasePart-2 ps))

@@ -17,7 +17,7 @@ use check_expressions::{designator, expression};
 use check_operands::calls::{may_assign, stored};
 use check_operands::symbols::expression_first;
 use check_operands::{Operand, designator as as_designator};
-use check_selectors::parts::{operand, whole_variable};
+use check_selectors::parts::whole_operand;
 use check_types::TypeRef;
 use check_types::names::{Named, Scope, Variable};
 use check_types::steps::CheckFault;
@@ -52,7 +52,7 @@ fn destination<'a>(
 {
     let named = scope.named(tree.name)?;
     match variable_alone(named, &tree.selectors) {
-        Some(variable) => Ok(operand(scope, whole_variable(scope, alloc, variable))),
+        Some(variable) => Ok(whole_operand(scope, variable)),
         None => designator(scope, alloc, tree),
     }
 }

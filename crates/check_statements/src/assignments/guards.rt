@@ -21,7 +21,7 @@ use check_expressions::expression;
 use check_operands::calls::{may_assign, stored};
 use check_operands::symbols::expression_first;
 use check_operands::{checked, designator};
-use check_selectors::parts::{operand, whole_variable};
+use check_selectors::parts::whole_operand;
 use check_types::TypeRef;
 use check_types::names::{Named, Scope};
 use check_types::steps::CheckFault;
@@ -66,17 +66,14 @@ pub fn number<'a>(
 }
 
 /// The variable of a FOR statement, if the name stands for one of type INTEGER.
-pub fn control_variable<'a>(scope: &Scope<'a>, alloc: Global, named: Named) -> Option<Designator>
+pub fn control_variable<'a>(scope: &Scope<'a>, named: Named) -> Option<Designator>
     ensures { option_map (plain_designator (table_of scope.now) (texts_of scope.now)) result
         ≡ option_map (outlined_designator (bases_of scope.now))
         (integer_variable scope.now.source.now (world_of scope.now) (object_of (table_of scope.now) (strings_of scope.now) named)) }
 {
     match named {
         Named::Variable(variable) => match variable.of {
-            TypeRef::Int => Some(designator(
-                scope,
-                operand(scope, whole_variable(scope, alloc, variable)),
-            )),
+            TypeRef::Int => Some(designator(scope, whole_operand(scope, variable))),
             _ => None,
         },
         _ => None,

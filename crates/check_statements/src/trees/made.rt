@@ -7,8 +7,8 @@ ghost use Rattle.judged_tree.specs.Plain.{plain_designator, plain_checked, plain
 ghost use Rattle.check_statements.specs.trees.Onto.{statements_onto, branches_onto, case_parts_onto, type_parts_onto};
 
 use items::Items;
-use ob_types::{Branch, CasePart, Checked, Designator, Label, Stmt, TypePart};
-use std::alloc::AllocError;
+use ob_types::{Branch, CasePart, Checked, Designator, ForLoop, Label, Stmt, TypePart};
+use std::alloc::{AllocError, Global};
 
 /// One more statement.
 pub fn with_statement(so_far: Vec<Stmt>, made: Stmt) -> Result<Vec<Stmt>, AllocError>
@@ -91,23 +91,28 @@ pub fn repeat_statement(body: Vec<Stmt>, condition: Checked) -> Stmt
 
 /// FOR.
 pub fn for_statement(
+    alloc: Global,
     variable: Designator,
     first: Checked,
     limit: Checked,
     step: i64,
     body: Vec<Stmt>,
-) -> Stmt
-    ensures { (t : Table) (texts : List (List ℕ)) → plain_statement t texts result
+) -> Result<Stmt, AllocError>
+    ensures { IfOk result (λ made. (t : Table) (texts : List (List ℕ)) → plain_statement t texts made
         ≡ I.For (plain_designator t texts variable) (plain_checked t texts first) (plain_checked t texts limit) step
-        (plain_body t texts body.items) }
+        (plain_body t texts body.items)) }
 {
-    Stmt::For {
-        variable,
-        first,
-        limit,
-        step,
-        body,
-    }
+    let whole = Box::new(
+        alloc,
+        ForLoop {
+            variable,
+            first,
+            limit,
+            step,
+            body,
+        },
+    )?;
+    Ok(Stmt::For(whole))
 }
 
 /// CASE on values.

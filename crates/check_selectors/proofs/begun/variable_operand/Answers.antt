@@ -4,4 +4,4 @@ use Rattle.check_operands.proofs.calls.Binding.{kept_on}
 use Rattle.check_selectors.proofs.begun.variable_operand.Goals as goal
 
 pub returns : goal.returns
-returns c = as_judged (kept_on _) (goes_on _ (λ a. Keeps a) c.in_ok-x.ensures (λ a h. record { by = c.operand.ensures a h }))
+returns c = as_judged (kept_on _) (goes_on _ (λ a. Keeps a) c.in_ok-x.ensures (λ a h. c.operand.ensures a h))

@@ -238,7 +238,7 @@ for_loop-returns-in_err-body t c = let s = c.args.scope.now in let p = s.source.
 pub for_loop-returns : goal.for_loop-returns
 for_loop-returns t c = let s = c.args.scope.now in
     let f : SFits w64 c.in_ok-head.head.step = search rules in
-    goes_on _ _ c.in_ok-head.ensures (λ h k. goes_on _ _ c.in_ok-body.ensures (λ b l. record { by = for_made s c.for_statement.result c.in_ok-head.head h c.in_ok-body.body b (to_z w64 (of_z w64 c.in_ok-head.head.step)) (to_z-of_z w64 c.in_ok-head.head.step f) k l c.for_statement.ensures }))
+    goes_on _ _ c.in_ok-head.ensures (λ h k. goes_on _ _ c.in_ok-body.ensures (λ b l. record { by = for_made s c.in_ok-made.made c.in_ok-head.head h c.in_ok-body.body b (to_z w64 (of_z w64 c.in_ok-head.head.step)) (to_z-of_z w64 c.in_ok-head.head.step f) k l c.in_ok-made.ensures }))
 
 pub for_loop-returns-in_err-head : goal.for_loop-returns-in_err-head
 for_loop-returns-in_err-head t c = exit _ c.from_residual.ensures.1 (stop _ _ c.in_err-head.ensures)

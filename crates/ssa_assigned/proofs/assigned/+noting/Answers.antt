@@ -1,4 +1,5 @@
 use Rattle.std.proofs.Common.{◌≡◌, ◌∙◌, ◌||◌, ap, ap₂, sym, refl}
+use Rattle.ob_types.specs.declared.statements.ForLoop.{ForLoop}
 use Rattle.ssa_lowered.specs.Variables.{assigned, itself}
 use Rattle.ssa_assigned.specs.Assigned.{has, assigned_list, assigned_parts, assigned_cases, assigned_types}
 use Rattle.ssa_assigned.proofs.Noting.{noted_more, noted_end, or_assoc}
@@ -66,10 +67,12 @@ note-returns-in_ok-note_all-in-Repeat t c = λ x.
 
 pub note-returns-in_ok-note_all-in-For : goal.note-returns-in_ok-note_all-in-For
 note-returns-in_ok-note_all-in-For t c = λ x.
-    let whole : assigned c.args.s.now x ≡ itself c.in-For.variable x || assigned_list c.in-For.body.items x = ap (λ s. assigned s x) c.in-For.is ∙ assigned_for c.in-For.variable c.in-For.first c.in-For.limit c.in-For.step c.in-For.body x in
+    let f = c.deref-for_loop.result.now in
+    let whole : assigned c.args.s.now x ≡ itself f.variable x || assigned_list f.body.items x =
+    ap (λ s. assigned s x) c.in-For.is ∙ assigned_for c.in-For.inner x ∙ ap (λ (l : ForLoop). itself l.variable x || assigned_list l.body.items x) (sym c.deref-for_loop.ensures) in
     c.in_ok-note_all-in-For.ensures x
-    ∙ ap₂ (λ a b. a || b) (c.in_ok-note_whole-in-For.ensures x) (ap (λ l. assigned_list l x) c.deref-in-For.ensures.value)
-    ∙ or_assoc (has c.args.found.now.items x) (itself c.in-For.variable x) (assigned_list c.in-For.body.items x) ∙ ap (λ b. has c.args.found.now.items x || b) (sym whole)
+    ∙ ap₂ (λ a b. a || b) (c.in_ok-note_whole-in-For.ensures x) (ap (λ l. assigned_list l x) c.as_slice.ensures.value)
+    ∙ or_assoc (has c.args.found.now.items x) (itself f.variable x) (assigned_list f.body.items x) ∙ ap (λ b. has c.args.found.now.items x || b) (sym whole)
 
 pub note-returns-in_ok-note_cases-in-Case : goal.note-returns-in_ok-note_cases-in-Case
 note-returns-in_ok-note_cases-in-Case t c = λ x.

@@ -106,10 +106,11 @@ statement-returns-in-Repeat t c = on_ok_weaker c.repeated.result (λ g p here s.
 
 pub statement-returns-in_ok-last-in-For : goal.statement-returns-in_ok-last-in-For
 statement-returns-in_ok-last-in-For t c =
-    let same : to_z w64 (of_z w64 c.in-For.step) ≡ c.in-For.step = search (rules, to_z-of_z) in
+    let turns = c.deref-for_loop.result.now in
+    let same : to_z w64 (of_z w64 turns.step) ≡ turns.step = search (rules, to_z-of_z) in
     on_ok_weaker c.counted.result (λ g p here s. steps_as (ap (deed_in p here) c.in-For.is)
-    (steps_count p here c.in-For.variable c.in-For.first c.in-For.limit c.in-For.step c.in-For.body (c.in_ok-assign-in-For.ensures p here s) (c.in_ok-last-in-For.ensures p here s)
-    (steps_as (ap₂ (λ k l. count_in p here c.in-For.variable k l c.in_ok-last-in-For.last) (sym same) (sym c.deref-in-For.ensures.value)) (g p here s)))) c.counted.ensures
+    (steps_count p here c.in-For.inner turns c.deref-for_loop.ensures (c.in_ok-assign-in-For.ensures p here s) (c.in_ok-last-in-For.ensures p here s)
+    (steps_as (ap₂ (λ k l. count_in p here turns.variable k l c.in_ok-last-in-For.last) (sym same) (sym c.as_slice.ensures.value)) (g p here s)))) c.counted.ensures
 
 pub statement-returns-in_ok-v-in-Case : goal.statement-returns-in_ok-v-in-Case
 statement-returns-in_ok-v-in-Case t c = on_ok_weaker c.case.result (λ g p here s. steps_as (ap (deed_in p here) c.in-Case.is)

@@ -1,5 +1,6 @@
 use Rattle.std.proofs.Common.{◌≡◌, [], ◌∷◌, ◌++◌, ◌+◌, ◌<◌, length, None, false, true, refl, sym, ap, ap₂, ◌∙◌, subst, arith, append_assoc}
 use Rattle.std.proofs.lemmas.Result.{IfOk-weaker}
+use Rattle.ob_types.specs.declared.tree.Access.{Access}
 use Rattle.ob_types.specs.Meaning.{kind_in, length_of_kind, record_of_kind}
 use Rattle.ssa_lowered.specs.Pieces.{emits, does}
 use Rattle.block_runs.specs.declared.code.Code.TheVariants.{Set, Global, GuardTag, Call, CallAt}
@@ -27,7 +28,10 @@ load-returns t c = λ p here s. c.in_ok-v.ensures _ _ (c.in_ok-h.ensures p here 
 
 pub named-returns-in_ok-h-in-Part : goal.named-returns-in_ok-h-in-Part
 named-returns-in_ok-h-in-Part t c = λ p here s.
-    gives_as (ap (named_in p here) c.in-Part.is ∙ named_part p here c.in-Part.at c.in-Part.field-1 c.in-Part.selectors ∙ ap (λ ss. selected_in p here ss (based_in p here c.in-Part.at)) (sym c.deref.ensures.value))
+    let a = c.deref-access.result.now in
+    gives_as (ap (named_in p here) c.in-Part.is ∙ named_part p here c.in-Part.inner
+    ∙ ap (λ (k : Access). selected_in p here k.selectors.items (based_in p here k.base)) (sym c.deref-access.ensures)
+    ∙ ap (λ ss. selected_in p here ss (based_in p here a.base)) (sym c.as_slice.ensures.value))
     (c.in_ok-h-in-Part.ensures p here s _ _ (c.in_ok-first-in-Part.ensures p here s))
 
 pub selected-loop-s-init : goal.selected-loop-s-init
@@ -128,10 +132,10 @@ pub value-returns-in-Load : goal.value-returns-in-Load
 value-returns-in-Load t c = IfOk-weaker c.load.result _ _ (λ v g p here s. gives_as (ap (λ e. (expr_in p here e).value) c.in-Load.is) (g p here s)) c.load.ensures
 
 pub value-returns-in-Guard : goal.value-returns-in-Guard
-value-returns-in-Guard t c = IfOk-weaker c.guarded.result _ _ (λ v g p here s. gives_as (ap (λ e. (expr_in p here e).value) c.in-Guard.is) (gives_as (ap (λ rs. guarded_in p here rs (load_in p here c.in-Guard.d)) (sym c.as_slice.ensures)) (g p here s))) c.guarded.ensures
+value-returns-in-Guard t c = IfOk-weaker c.guarded.result _ _ (λ v g p here s. gives_as (ap (λ e. (expr_in p here e).value) c.in-Guard.is) (gives_as (ap₂ (λ d rs. guarded_in p here rs (load_in p here d)) (sym c.deref.ensures) (sym c.as_slice.ensures)) (g p here s))) c.guarded.ensures
 
 pub value-returns-in_ok-a-in-Unary : goal.value-returns-in_ok-a-in-Unary
-value-returns-in_ok-a-in-Unary t c = IfOk-weaker c.one_operand.result _ _ (λ v g p here s. gives_as (ap (λ e. (expr_in p here e).value) c.in-Unary.is ∙ value_one c.in-Unary.op (expr_in p here c.in-Unary.x.value)) (gives_unary c.in-Unary.op (gives_as (ap (λ e. (expr_in p here e).value) (sym c.deref.ensures)) (c.in_ok-a-in-Unary.ensures p here s)) g)) c.one_operand.ensures
+value-returns-in_ok-a-in-Unary t c = IfOk-weaker c.one_operand.result _ _ (λ v g p here s. gives_as (ap (λ e. (expr_in p here e).value) c.in-Unary.is ∙ value_one c.in-Unary.op (expr_in p here c.in-Unary.x.value)) (gives_unary c.in-Unary.op (gives_as (ap (λ e. (expr_in p here e).value) (sym c.deref-in-Unary.ensures)) (c.in_ok-a-in-Unary.ensures p here s)) g)) c.one_operand.ensures
 
 pub value-returns-in-Chain : goal.value-returns-in-Chain
 value-returns-in-Chain t c = IfOk-weaker c.chain.result _ _ (λ v g p here s. gives_as (ap (λ (z : Lowers). z.value) (chain_is p here c.in-Chain.x c.in-Chain.links c.in-Chain.is c.deref-in-Chain-2.ensures c.deref-in-Chain.ensures.value)) (g p here s)) c.chain.ensures
@@ -253,7 +257,9 @@ applied-returns-in_ok-v-in-Element t c = λ p here s v x g.
 pub applied-returns-in_ok-v-in-Elements : goal.applied-returns-in_ok-v-in-Elements
 applied-returns-in_ok-v-in-Elements t c = λ p here s v x g.
     gives_as (ap (λ k. (link_in p here k x).value) c.in-Elements.is)
-    (gives_with_range (expr_in p here c.in-Elements.y).value (expr_in p here c.in-Elements.z).value g (gives_member (c.in_ok-c-in-Elements.ensures p here s) c.in_ok-act-in-Elements.ensures) (gives_member (c.in_ok-d-in-Elements.ensures p here s) c.in_ok-act-in-Elements-2.ensures) c.in_ok-bits-in-Elements.ensures c.in_ok-v-in-Elements.ensures)
+    (gives_with_range (expr_in p here c.in-Elements.y.value).value (expr_in p here c.in-Elements.z.value).value g
+    (gives_member (gives_as (ap (λ e. (expr_in p here e).value) (sym c.deref.ensures)) (c.in_ok-c-in-Elements.ensures p here s)) c.in_ok-act-in-Elements.ensures)
+    (gives_member (gives_as (ap (λ e. (expr_in p here e).value) (sym c.deref-in-Elements.ensures)) (c.in_ok-d-in-Elements.ensures p here s)) c.in_ok-act-in-Elements-2.ensures) c.in_ok-bits-in-Elements.ensures c.in_ok-v-in-Elements.ensures)
 
 pub cond-returns-then-is_plain : goal.cond-returns-then-is_plain
 cond-returns-then-is_plain t c = λ p here s. tests_as (plain_test p here c.args.e.now (sym c.if-is_plain.ensures)) (tests_to c.in_ok-fork.ensures (tests_value c.args.yes c.args.no c.args.next (c.in_ok-a.ensures p here s)))

@@ -1,4 +1,5 @@
 use Rattle.std.proofs.Common.{◌≡◌, ◌∙◌, ◌||◌, ap, ap₂, sym}
+use Rattle.ob_types.specs.declared.tree.Access.{Access}
 use Rattle.ssa_lowered.specs.Variables.{origin, lent, lent_at, lent_whole, lent_call}
 use Rattle.ssa_assigned.specs.Assigned.{has, unselected_by}
 use Rattle.ssa_assigned.proofs.Noting.{or_assoc}
@@ -28,13 +29,19 @@ lend_call-returns-in_ok-lend_arguments-in-Indirect t c = λ x.
 
 pub lend_read-returns-in_ok-lend_part-in-Part : goal.lend_read-returns-in_ok-lend_part-in-Part
 lend_read-returns-in_ok-lend_part-in-Part t c = λ x.
+    let a = c.deref-access.result.now in
+    let whole : lent_at c.args.d.now x ≡ lent_by_part a.base a.selectors.items x =
+    ap (λ d. lent_at d x) c.in-Part.is ∙ read_part c.in-Part.inner x ∙ ap (λ (k : Access). lent_by_part k.base k.selectors.items x) (sym c.deref-access.ensures) in
     c.in_ok-lend_part-in-Part.ensures x
-    ∙ ap (λ l. has c.args.found.now.items x || lent_by_part c.in-Part.base l x) c.deref.ensures.value
-    ∙ ap (λ b. has c.args.found.now.items x || b) (sym (ap (λ d. lent_at d x) c.in-Part.is ∙ read_part c.in-Part.base c.in-Part.field-1 c.in-Part.selectors x))
+    ∙ ap (λ l. has c.args.found.now.items x || lent_by_part a.base l x) c.as_slice.ensures.value
+    ∙ ap (λ b. has c.args.found.now.items x || b) (sym whole)
 
 pub lend_whole-returns-in_ok-lend_part-in-Part : goal.lend_whole-returns-in_ok-lend_part-in-Part
 lend_whole-returns-in_ok-lend_part-in-Part t c = λ x.
-    let whole : lent_whole c.args.d.now x ≡ unselected_by (origin c.in-Part.base) c.in-Part.selectors.items x || lent_by_part c.in-Part.base c.in-Part.selectors.items x = ap (λ d. lent_whole d x) c.in-Part.is ∙ whole_part c.in-Part.base c.in-Part.field-1 c.in-Part.selectors x in
+    let a = c.deref-access.result.now in
+    let whole : lent_whole c.args.d.now x ≡ unselected_by (origin a.base) a.selectors.items x || lent_by_part a.base a.selectors.items x =
+    ap (λ d. lent_whole d x) c.in-Part.is ∙ whole_part c.in-Part.inner x
+    ∙ ap (λ (k : Access). unselected_by (origin k.base) k.selectors.items x || lent_by_part k.base k.selectors.items x) (sym c.deref-access.ensures) in
     c.in_ok-lend_part-in-Part.ensures x
-    ∙ ap₂ (λ a b. a || b) (c.in_ok-note_unselected-in-Part.ensures x ∙ ap (λ l. has c.args.found.now.items x || unselected_by (origin c.in-Part.base) l x) c.deref.ensures.value) (ap (λ l. lent_by_part c.in-Part.base l x) c.deref-in-Part.ensures.value)
-    ∙ or_assoc (has c.args.found.now.items x) (unselected_by (origin c.in-Part.base) c.in-Part.selectors.items x) (lent_by_part c.in-Part.base c.in-Part.selectors.items x) ∙ ap (λ b. has c.args.found.now.items x || b) (sym whole)
+    ∙ ap₂ (λ p q. p || q) (c.in_ok-note_unselected-in-Part.ensures x ∙ ap (λ l. has c.args.found.now.items x || unselected_by (origin a.base) l x) c.as_slice-selectors.ensures.value) (ap (λ l. lent_by_part a.base l x) c.as_slice-selectors.ensures.value)
+    ∙ or_assoc (has c.args.found.now.items x) (unselected_by (origin a.base) a.selectors.items x) (lent_by_part a.base a.selectors.items x) ∙ ap (λ b. has c.args.found.now.items x || b) (sym whole)

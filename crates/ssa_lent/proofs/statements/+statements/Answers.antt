@@ -1,4 +1,5 @@
 use Rattle.std.proofs.Common.{◌≡◌, ◌∙◌, ◌||◌, ap, ap₂, sym}
+use Rattle.ob_types.specs.declared.statements.ForLoop.{ForLoop}
 use Rattle.ssa_lowered.specs.Variables.{lent, lent_at, lent_whole, lent_by}
 use Rattle.ssa_assigned.specs.Assigned.{has}
 use Rattle.ssa_assigned.proofs.Noting.{or_assoc}
@@ -27,14 +28,17 @@ lend_statement-returns-in_ok-lend-in-Repeat t c = λ z.
 
 pub lend_statement-returns-in_ok-lend_all-in-For : goal.lend_statement-returns-in_ok-lend_all-in-For
 lend_statement-returns-in_ok-lend_all-in-For t c = λ z.
-    let d = lent_at c.in-For.variable z in
-    let e = lent c.in-For.first.form z in
-    let f = lent c.in-For.limit.form z in
-    let body = lent_by_statements c.in-For.body.items z in
+    let turns = c.deref-for_loop.result.now in
+    let d = lent_at turns.variable z in
+    let e = lent turns.first.form z in
+    let f = lent turns.limit.form z in
+    let body = lent_by_statements turns.body.items z in
     let old = has c.args.found.now.items z in
-    let whole : lent_by c.args.s.now z ≡ d || (e || (f || body)) = ap (λ s. lent_by s z) c.in-For.is ∙ lent_for c.in-For.variable c.in-For.first c.in-For.limit c.in-For.step c.in-For.body z in
+    let whole : lent_by c.args.s.now z ≡ d || (e || (f || body)) =
+    ap (λ s. lent_by s z) c.in-For.is ∙ lent_for c.in-For.inner z
+    ∙ ap (λ (l : ForLoop). lent_at l.variable z || (lent l.first.form z || (lent l.limit.form z || lent_by_statements l.body.items z))) (sym c.deref-for_loop.ensures) in
     c.in_ok-lend_all-in-For.ensures z
-    ∙ ap₂ (λ a b. a || b) (c.in_ok-lend-in-For-2.ensures z ∙ ap (λ b. b || f) (c.in_ok-lend-in-For.ensures z ∙ ap (λ b. b || e) (c.in_ok-lend_read-in-For.ensures z))) (ap (λ l. lent_by_statements l z) c.deref-in-For.ensures.value)
+    ∙ ap₂ (λ a b. a || b) (c.in_ok-lend-in-For-2.ensures z ∙ ap (λ b. b || f) (c.in_ok-lend-in-For.ensures z ∙ ap (λ b. b || e) (c.in_ok-lend_read-in-For.ensures z))) (ap (λ l. lent_by_statements l z) c.as_slice.ensures.value)
     ∙ or_assoc ((old || d) || e) f body ∙ or_assoc (old || d) e (f || body) ∙ or_assoc old d (e || (f || body)) ∙ ap (λ b. old || b) (sym whole)
 
 pub lend_statement-returns-in_ok-lend_cases-in-Case : goal.lend_statement-returns-in_ok-lend_cases-in-Case

@@ -24,7 +24,7 @@ fold-returns-in_ok-x-in-Chain t c = λ t' texts.
     ∙ c.fold_links.ensures t' texts
 
 pub fold-returns-in-Guard : goal.fold-returns-in-Guard
-fold-returns-in-Guard t c = λ t' texts. ap (λ e. fold (plain_expr t' texts e)) c.in-Guard.is ∙ guarded_folds c.in-Guard.field-1 (Load (plain_designator t' texts c.in-Guard.field-0)) refl
+fold-returns-in-Guard t c = λ t' texts. ap (λ e. fold (plain_expr t' texts e)) c.in-Guard.is ∙ guarded_folds c.in-Guard.field-1 (Load (plain_designator t' texts c.in-Guard.field-0.value)) refl
 
 pub fold_links-returns-in_err-x : goal.fold_links-returns-in_err-x
 fold_links-returns-in_err-x t c = λ t' texts.

@@ -6,19 +6,29 @@ use Rattle.ob_types.specs.declared.tree.Selector.{Selector}
 use Rattle.ob_types.specs.declared.tree.Argument.{Argument}
 use Rattle.ob_types.specs.declared.tree.Call.TheVariants as TheCall
 use Rattle.ob_types.specs.declared.tree.Expr.TheVariants as TheExpr
+use Rattle.ob_types.specs.declared.tree.Designator.TheVariants as TheDesignator
+use Rattle.ob_types.specs.declared.tree.Designator as D
 use Rattle.ob_types.specs.declared.tree.Call as X
 use Rattle.ob_types.specs.declared.tree.Argument.TheBlock as Y
 use Rattle.ob_types.specs.declared.tree.Expr as Z
+use Rattle.ob_types.specs.declared.tree.Link as K
+use Rattle.ob_types.specs.declared.tree.Link.TheVariants as TheLink
 use Rattle.check_procedures.specs.numbers.Numbering.{numbering_of}
-use Rattle.check_procedures.specs.numbers.Readings.{each, kinds, bases, expressions, links, designators, selectors, calls, arguments}
+use Rattle.check_procedures.specs.numbers.Readings.{each, kinds, bases, expressions, links, designators, accesses, selectors, calls, arguments}
 use Rattle.check_procedures.proofs.numbers.Keeping.{at, next_turn, made_so}
 use Rattle.check_procedures.proofs.numbers.Leaves.{kind_kept}
-use Rattle.check_procedures.proofs.numbers.ExpressionParts.{guard, chain, compare, compare_texts, is_in, elements, part_of, direct, indirect}
+use Rattle.check_procedures.proofs.numbers.ExpressionParts.{guard, chain, compare, compare_texts, is_in, elements, reached, part_of, direct, indirect}
 use Rattle.check_procedures.proofs.numbers.expressions.+expressions.Goals as goal
 
 pub renumber_expression-returns-in_ok-renumber_designator-in-Guard : goal.renumber_expression-returns-in_ok-renumber_designator-in-Guard
+unfolding Z.out-Expr denote.Hole.Carrier.out
 renumber_expression-returns-in_ok-renumber_designator-in-Guard t c =
-    at (numbering_of c.args.scope.now) expressions _ _ _ _ _ c.in-Guard.is (guard (numbering_of c.args.scope.now) _ _ _ _ _ _ c.in-Guard._tags-is (at (numbering_of c.args.scope.now) designators _ _ _ _ _ (sym c.in-Guard.d-is) c.in_ok-renumber_designator-in-Guard.ensures))
+    let made = TheExpr.Guard (with_value c.in-Guard.d c.renumber_designator-in-Guard.new.d) c.in-Guard._tags in
+    made_so (numbering_of c.args.scope.now) expressions c.args.tree.now _ made c.args.uses.now c.renumber_designator-in-Guard.new.uses
+    (at (numbering_of c.args.scope.now) expressions c.args.tree.now (TheExpr.Guard c.in-Guard.d c.in-Guard._tags) made c.args.uses.now c.renumber_designator-in-Guard.new.uses c.in-Guard.is
+    (guard (numbering_of c.args.scope.now) _ _ _ _ _ _ _ _ refl
+    (at (numbering_of c.args.scope.now) designators c.in-Guard.d.value _ _ _ _ (search rules) c.in_ok-renumber_designator-in-Guard.ensures)))
+    (rw c.in-Guard.is)
 
 pub renumber_expression-returns-in_ok-renumber_links-in-Chain : goal.renumber_expression-returns-in_ok-renumber_links-in-Chain
 renumber_expression-returns-in_ok-renumber_links-in-Chain t c =
@@ -61,19 +71,29 @@ renumber_expression-returns-in_ok-renumber_expression-in-In-2 t c =
     (rw c.in-In.is)
 
 pub renumber_link-returns-in_ok-renumber_expression-in-Elements-2 : goal.renumber_link-returns-in_ok-renumber_expression-in-Elements-2
+unfolding K.out-Link denote.Hole.Carrier.out
 renumber_link-returns-in_ok-renumber_expression-in-Elements-2 t c =
-    at (numbering_of c.args.scope.now) links _ _ _ _ _ c.in-Elements.is
-    (elements (numbering_of c.args.scope.now) c.in-Elements.low c.renumber_expression-in-Elements.new.tree c.in-Elements.high c.renumber_expression-in-Elements-2.new.tree _ _ _
-    (at (numbering_of c.args.scope.now) expressions _ _ _ _ _ (sym c.in-Elements.low-is) c.in_ok-renumber_expression-in-Elements.ensures)
-    (at (numbering_of c.args.scope.now) expressions _ _ _ _ _ (sym c.in-Elements.high-is) c.in_ok-renumber_expression-in-Elements-2.ensures))
+    let made = TheLink.Elements (with_value c.in-Elements.low c.renumber_expression-in-Elements.new.tree) (with_value c.in-Elements.high c.renumber_expression-in-Elements-2.new.tree) in
+    made_so (numbering_of c.args.scope.now) links c.args.link.now _ made c.args.uses.now c.renumber_expression-in-Elements-2.new.uses
+    (at (numbering_of c.args.scope.now) links c.args.link.now (TheLink.Elements c.in-Elements.low c.in-Elements.high) made c.args.uses.now c.renumber_expression-in-Elements-2.new.uses c.in-Elements.is
+    (elements (numbering_of c.args.scope.now) _ _ _ _ _ _ _ _ _ _ _
+    (at (numbering_of c.args.scope.now) expressions c.in-Elements.low.value _ _ _ _ (search rules) c.in_ok-renumber_expression-in-Elements.ensures)
+    (at (numbering_of c.args.scope.now) expressions c.in-Elements.high.value _ _ _ _ (search rules) c.in_ok-renumber_expression-in-Elements-2.ensures)))
+    refl
 
-pub renumber_designator-returns-in_ok-renumber_selectors-in-Part : goal.renumber_designator-returns-in_ok-renumber_selectors-in-Part
-renumber_designator-returns-in_ok-renumber_selectors-in-Part t c =
-    at (numbering_of c.args.scope.now) designators _ _ _ _ _ c.in-Part.is
-    (part_of (numbering_of c.args.scope.now) c.in-Part.base c.in_ok-base-in-Part.field-0 c.in-Part.kind c.type_kind-in-Part.result c.in-Part.list c.renumber_selectors.new.list _ _ _
-    (at (numbering_of c.args.scope.now) bases _ _ _ _ _ (sym c.in-Part.base-is) c.in_ok-base-in-Part.ensures)
-    (at (numbering_of c.args.scope.now) (each selectors) _ _ _ _ _ (sym (ap (λ (v : Vec Selector Global). v.items) c.in-Part.list-is)) c.in_ok-renumber_selectors-in-Part.ensures)
-    (at (numbering_of c.args.scope.now) kinds _ _ _ _ _ (sym c.in-Part.kind-is) (kind_kept (numbering_of c.args.scope.now) _ _ _ c.type_kind-in-Part.ensures)))
+pub renumber_designator-returns-in_ok-renumber_access-in-Part : goal.renumber_designator-returns-in_ok-renumber_access-in-Part
+unfolding D.out-Designator denote.Hole.Carrier.out
+renumber_designator-returns-in_ok-renumber_access-in-Part t c =
+    let made = TheDesignator.Part (with_value c.in-Part.access c.renumber_access.new.access) in
+    made_so (numbering_of c.args.scope.now) designators c.args.d.now _ made c.args.uses.now c.renumber_access.new.uses
+    (at (numbering_of c.args.scope.now) designators c.args.d.now (TheDesignator.Part c.in-Part.access) made c.args.uses.now c.renumber_access.new.uses c.in-Part.is
+    (part_of (numbering_of c.args.scope.now) c.in-Part.access (with_value c.in-Part.access c.renumber_access.new.access) _ _
+    (at (numbering_of c.args.scope.now) accesses c.in-Part.access.value _ _ _ _ (search rules) c.in_ok-renumber_access-in-Part.ensures)))
+    (rw c.in-Part.is)
+
+pub renumber_access-returns : goal.renumber_access-returns
+renumber_access-returns t c =
+    reached (numbering_of c.args.scope.now) c.args.access.now _ _ _ _ c.in_ok-access.ensures c.in_ok-renumber_selectors.ensures (kind_kept (numbering_of c.args.scope.now) _ _ _ c.type_kind-access.ensures)
 
 pub renumber_call-returns-in_ok-renumber_arguments-in-Direct : goal.renumber_call-returns-in_ok-renumber_arguments-in-Direct
 unfolding X.out-Call Y.shape-the_row-Argument-0 Y.hidden-the_row-Argument-0 denote.Hole.Carrier.out

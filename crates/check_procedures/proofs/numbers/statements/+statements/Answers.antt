@@ -1,5 +1,5 @@
-use Rattle.std.proofs.lemmas.Int.{to_z-of_z}
-use Rattle.std.proofs.Common.{to_z, of_z, w64, ◌≡◌, ◌<◌, ◌≤◌, length, Vec, Global, sym, ap, arith, rules}
+use Rattle.std.proofs.Common.{◌<◌, ◌≤◌, length, Vec, Global, refl, sym, ap, arith, rules}
+use Rattle.std.specs.Box.{with_value}
 use Rattle.ob_types.specs.declared.statements.Branch.{Branch}
 use Rattle.ob_types.specs.declared.statements.CasePart.{CasePart}
 use Rattle.ob_types.specs.declared.statements.TypePart.{TypePart}
@@ -7,9 +7,9 @@ use Rattle.ob_types.specs.declared.statements.Stmt.{Stmt}
 use Rattle.ob_types.specs.declared.statements.Stmt.TheVariants as TheStmt
 use Rattle.ob_types.specs.declared.statements.Stmt as Z
 use Rattle.check_procedures.specs.numbers.Numbering.{numbering_of}
-use Rattle.check_procedures.specs.numbers.Readings.{each, designators, checked, statements, bodies, branches, case_parts, type_parts}
+use Rattle.check_procedures.specs.numbers.Readings.{each, designators, checked, statements, bodies, loops, branches, case_parts, type_parts}
 use Rattle.check_procedures.proofs.numbers.Keeping.{at, next_turn, all_items, made_so}
-use Rattle.check_procedures.proofs.numbers.StatementParts.{body, branch, if_holds, while_holds, repeat_until, for_each, case_value, case_pointer, case_parameter}
+use Rattle.check_procedures.proofs.numbers.StatementParts.{body, branch, if_holds, while_holds, repeat_until, loop_turns, for_turns, case_value, case_pointer, case_parameter}
 use Rattle.check_procedures.proofs.numbers.statements.+statements.Goals as goal
 
 pub renumber_compound-returns-in_ok-renumber_statements-in-If : goal.renumber_compound-returns-in_ok-renumber_statements-in-If
@@ -33,6 +33,16 @@ renumber_compound-returns-in_ok-renumber_checked-in-Repeat t c = λ _.
     at (numbering_of c.args.scope.now) statements _ _ _ _ _ c.in-Repeat.is (repeat_until (numbering_of c.args.scope.now) c.in-Repeat.body c.renumber_statements-in-Repeat.new.list c.in-Repeat.x c.renumber_checked.new.x _ _ _
     (at (numbering_of c.args.scope.now) bodies _ _ _ _ _ (sym (ap (λ (v : Vec Stmt Global). v.items) c.in-Repeat.body-is)) c.in_ok-renumber_statements-in-Repeat.ensures)
     (at (numbering_of c.args.scope.now) checked _ _ _ _ _ (sym c.in-Repeat.x-is) c.in_ok-renumber_checked-in-Repeat.ensures))
+
+pub renumber_compound-returns-in_ok-renumber_loop-in-For : goal.renumber_compound-returns-in_ok-renumber_loop-in-For
+unfolding Z.out-Stmt denote.Hole.Carrier.out
+renumber_compound-returns-in_ok-renumber_loop-in-For t c = λ _.
+    let made = TheStmt.For (with_value c.in-For.for_loop c.renumber_loop.new.for_loop) in
+    made_so (numbering_of c.args.scope.now) statements c.args.statement.now _ made c.args.uses.now c.renumber_loop.new.uses
+    (at (numbering_of c.args.scope.now) statements c.args.statement.now (TheStmt.For c.in-For.for_loop) made c.args.uses.now c.renumber_loop.new.uses c.in-For.is
+    (for_turns (numbering_of c.args.scope.now) c.in-For.for_loop (with_value c.in-For.for_loop c.renumber_loop.new.for_loop) _ _
+    (at (numbering_of c.args.scope.now) loops c.in-For.for_loop.value _ _ _ _ (search rules) c.in_ok-renumber_loop-in-For.ensures)))
+    (rw c.in-For.is)
 
 pub renumber_compound-returns-in_ok-renumber_case_parts-in-Case : goal.renumber_compound-returns-in_ok-renumber_case_parts-in-Case
 renumber_compound-returns-in_ok-renumber_case_parts-in-Case t c = λ _.
@@ -86,12 +96,8 @@ renumber_statements-returns t c =
     let done : length c.args.list.now.items ≤ c.loop-i.i = omega (arith, long, c.args.list.now.ok.0) in
     body (numbering_of c.args.scope.now) _ _ _ _ (all_items (numbering_of c.args.scope.now) statements c.args.list.now.items c.loop-i.list.items c.loop-i.i _ _ done (omega (arith, long, done)) c.loop-i.invariant.1)
 
-pub renumbered_for-returns-in_ok-renumber_statements-in-For : goal.renumbered_for-returns-in_ok-renumber_statements-in-For
-renumbered_for-returns-in_ok-renumber_statements-in-For t c = λ _.
-    let same : to_z w64 (of_z w64 c.in-For.step) ≡ c.in-For.step = search (rules, to_z-of_z) in
-    at (numbering_of c.args.scope.now) statements _ _ _ _ _ c.in-For.is
-    (for_each (numbering_of c.args.scope.now) c.in-For.variable c.renumber_head.new.variable c.in-For.first c.renumber_head.new.first c.in-For.limit c.renumber_head.new.limit c.in-For.step _ c.in-For.body c.renumber_statements.new.list _ _ _ _ same
-    c.for_statement.ensures c.in_ok-renumber_head-in-For.ensures c.in_ok-renumber_statements-in-For.ensures)
+pub renumber_loop-returns : goal.renumber_loop-returns
+renumber_loop-returns t c = loop_turns (numbering_of c.args.scope.now) c.args.for_loop.now _ _ _ _ refl c.in_ok-renumber_head.ensures c.in_ok-renumber_statements.ensures
 
 pub renumber_branch-returns : goal.renumber_branch-returns
 renumber_branch-returns t c = branch (numbering_of c.args.scope.now) c.args.branch.now _ _ _ _ c.in_ok-renumber_checked.ensures c.in_ok-renumber_statements.ensures

@@ -12,7 +12,7 @@ returns c =
     record {
       by = record {
         shape = refl;
-        reach = record { at = Narrow (place_of c.args.v.place) c.args.n.tag; is = refl; placed = c.in_ok-at.ensures (table_of s) (texts_of s) ∙ ap (λ d. Narrow d c.args.n.tag) (c.whole.ensures (table_of s) (texts_of s) ∙ c.base.ensures (table_of s) (texts_of s) ∙ placed_outlined (bases_of s) c.args.v.place) };
+        reach = record { at = Narrow (place_of c.args.v.place) c.args.n.tag; is = refl; placed = c.in_ok-at.ensures (table_of s) (texts_of s) ∙ ap (λ d. Narrow d c.args.n.tag) (c.base.ensures (table_of s) (texts_of s) ∙ placed_outlined (bases_of s) c.args.v.place) };
         usage = refl;
       };
     }

@@ -1,5 +1,4 @@
-use Rattle.std.proofs.Common.{◌≡◌, Bool, false, refl, sym, ap₂, ◌∙◌}
-use Rattle.ob_judge.specs.Operands.{AsVariable}
+use Rattle.std.proofs.Common.{refl, ◌∙◌}
 use Rattle.check_types.specs.names.Meaning.{place_of}
 use Rattle.check_types.specs.names.Worlds.{table_of}
 use Rattle.check_operands.specs.Operands.{texts_of, bases_of}
@@ -11,6 +10,6 @@ returns c =
     let s = c.args.scope.now in
     record {
       shape = refl;
-      reach = record { at = place_of c.args.v.place; is = refl; placed = c.whole.ensures (table_of s) (texts_of s) ∙ c.base.ensures (table_of s) (texts_of s) ∙ placed_outlined (bases_of s) c.args.v.place };
-      usage = ap₂ (λ (r : Bool) (t : Bool). AsVariable r t false) (sym c.is_read_only.ensures) (sym c.is_tagged.ensures);
+      reach = record { at = place_of c.args.v.place; is = refl; placed = c.base.ensures (table_of s) (texts_of s) ∙ placed_outlined (bases_of s) c.args.v.place };
+      usage = c.usage.ensures;
     }

@@ -7,7 +7,7 @@ use Rattle.check_statements.proofs.deeds.Deeds.{guarded_call, empty_result, link
 use Rattle.check_statements.proofs.deeds.calls.+invoked.Goals as goal
 
 pub returns-in-Guard : goal.returns-in-Guard
-returns-in-Guard t c = λ t' texts. sym (ap (λ e. option_map Invoke (call_by (plain_expr t' texts e))) c.in-Guard.is ∙ ap (option_map Invoke) (guarded_call c.in-Guard.field-1 (Load (plain_designator t' texts c.in-Guard.field-0)) refl))
+returns-in-Guard t c = λ t' texts. sym (ap (λ e. option_map Invoke (call_by (plain_expr t' texts e))) c.in-Guard.is ∙ ap (option_map Invoke) (guarded_call c.in-Guard.field-1 (Load (plain_designator t' texts c.in-Guard.field-0.value)) refl))
 
 pub returns-then-is_empty : goal.returns-then-is_empty
 returns-then-is_empty t c = λ t' texts.

@@ -7,7 +7,7 @@ use Rattle.check_statements.proofs.deeds.Deeds.{guarded_result, empty_result, li
 use Rattle.check_statements.proofs.deeds.calls.+is_call_tree.Goals as goal
 
 pub returns-in-Guard : goal.returns-in-Guard
-returns-in-Guard t c = λ t' texts. ap (λ e. is_result (plain_expr t' texts e)) c.in-Guard.is ∙ guarded_result c.in-Guard.field-1 (Load (plain_designator t' texts c.in-Guard.field-0)) refl
+returns-in-Guard t c = λ t' texts. ap (λ e. is_result (plain_expr t' texts e)) c.in-Guard.is ∙ guarded_result c.in-Guard.field-1 (Load (plain_designator t' texts c.in-Guard.field-0.value)) refl
 
 pub returns-then-is_empty : goal.returns-then-is_empty
 returns-then-is_empty t c = λ t' texts.
