@@ -6,10 +6,11 @@
 #
 # PROGRAM is the built program of crates/pass_times (`rt run` leaves it in that crate's out/), which makes the modules. Without other
 # words it compiles by linear scan, in Bi traces, with 16 registers. Times are the processors', the least of five runs. TRC is the
-# built program of crates/trc, which builds an image of the module's file, with four workers as without options. Beside it stand
+# built program of crates/trc, which builds an image of the module's file, by one worker and by four, as without options. Beside it stand
 # gcc -O0, tcc, fpc and fpc -O2, where they are installed: they get the module in C and Pascal (bench/others.py), and their programs
 # must write the same number. These times are the least that the processors used and the least that passed, of fifteen runs of
-# trc and of five of each other compiler.
+# trc and of five of each other compiler; the last columns say how often their times go into trc's by one worker, for an object file
+# and for a program that runs, as an image does.
 set -eu
 . "$(dirname "$0")/measure.sh"
 program=${1:-$(built pass_times)}
@@ -83,19 +84,21 @@ linked() {
     esac
 }
 
-# row NAME USED PASSED USED PASSED: a compiler's times for an object file and for a program, and what trc's are of the former
+# row NAME USED PASSED USED PASSED: a compiler's times for an object file and for a program, and what trc's passed time is of each
 row() {
-    awk -v n="$1" -v ou="$2" -v op="$3" -v pu="$4" -v pp="$5" -v u="${ours[0]}" -v p="${ours[1]}" \
-        'BEGIN { printf "%-10s %10.0f %10.0f %10.0f %10.0f %10.2f %10.2f\n", n, ou, op, pu, pp, u / ou, p / op }'
+    awk -v n="$1" -v ou="$2" -v op="$3" -v pu="$4" -v pp="$5" -v p="${ours[1]}" \
+        'BEGIN { printf "%-10s %10.0f %10.0f %10.0f %10.0f %10.2f %10.2f\n", n, ou, op, pu, pp, p / op, p / pp }'
 }
 
 for size in 400 1000; do
-    printf '\n%-10s %21s %21s %21s   for %d procedures\n' '' 'object file, ms' 'program, ms' 'trc by object file' "$size"
-    printf '%-10s %10s %10s %10s %10s %10s %10s\n' compiler used passed used passed used passed
+    printf '\n%-10s %21s %21s %21s   for %d procedures\n' '' 'object file, ms' 'program, ms' 'trc, passed, by' "$size"
+    printf '%-10s %10s %10s %10s %10s %10s %10s\n' compiler used passed used passed object program
     number=$("$program" all 7 "$size" | awk '$1 == "output" { print $2 }')
     "$program" text 7 "$size" >"$work/made.Mod"
-    ours=($(both 15 "$trc" build "$work/made.img" "$work/made.Mod"))
+    ours=($(both 15 "$trc" build "$work/made.img" "$work/made.Mod" --jobs 1))
     row trc "${ours[@]}" "${ours[@]}"
+    four=($(both 15 "$trc" build "$work/made.img" "$work/made.Mod"))
+    row trc-4 "${four[@]}" "${four[@]}"
     "$top/bench/others.py" c <"$work/made.Mod" >"$work/made.c"
     "$top/bench/others.py" pascal <"$work/made.Mod" >"$work/made.pas"
     for compiler in gcc tcc fpc fpc-O2; do

@@ -14,7 +14,6 @@ use Rattle.linked_flows.specs.Allocations.{Cut, steps_of, allocated}
 use Rattle.trace_build.specs.declared.builder.Builder.{Builder}
 use Rattle.trace_build.specs.Traces.{traces_in}
 use Rattle.link_blocks.specs.Fits.{numbers_fit}
-use Rattle.link_blocks.specs.Laid.{Fits}
 use Rattle.link_blocks.specs.Plans.{placed_in, plain}
 use Rattle.link_plan.specs.Linked.{AreCuts, AreSmall, IsAllocated, plans_of}
 use Rattle.alloc_choice.specs.declared.choice.Choice.{Choice}
@@ -24,7 +23,7 @@ use Rattle.boundary_resolve.specs.declared.placed.Placed.{Placed as Line}
 use Rattle.flow_allocation.specs.Allocations.{AllAllocations, AreAllocated, trace_count}
 use Rattle.flow_allocation.proofs.Counting.{counted}
 use Rattle.flow_allocation.proofs.Taking.{none_of, take_none, drop_none}
-use Rattle.back_end.specs.Images.{IsReady, AreCutsOf}
+use Rattle.back_end.specs.Images.{IsReady}
 use Rattle.back_end.specs.Batches.{IsPlanned, AllAllocated, AreMore}
 use Rattle.back_end.specs.declared.imaging.Planned.{Planned}
 use Rattle.back_end.specs.Numbers.{node_numbers}

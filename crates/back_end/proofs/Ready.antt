@@ -1,5 +1,5 @@
 -- What linking asks, from what allocation gives.
-use Rattle.std.proofs.Common.{◌≡◌, ℕ, zero, suc, true, ◌+◌, ◌<◌, ◌≤◌, ◌^◌, List, [], ◌∷◌, map, drop, length, sym, ◌∙◌, subst, arith, false}
+use Rattle.std.proofs.Common.{◌≡◌, ℕ, zero, suc, true, ◌+◌, ◌<◌, ◌^◌, List, [], ◌∷◌, map, drop, length, sym, subst, arith, false}
 use Rattle.std.specs.Prelude.{All}
 use Rattle.block_runs.specs.Blocks.{Operation, block_at}
 use Rattle.ssa_core.specs.declared.procedure.Proc.{Proc}
@@ -9,15 +9,13 @@ use Rattle.a64_select.specs.Selected.{selected}
 use Rattle.a64_select.proofs.FlowValid.{selected_valid}
 use Rattle.placed_code.specs.Claims.{IsNumber}
 use Rattle.linked_flows.specs.Allocations.{Cut}
-use Rattle.boundary_resolve.specs.declared.placed.Placed.{Placed as Line}
-use Rattle.lir_core.specs.declared.places.TraceOut.{TraceOut}
 use Rattle.link_blocks.specs.Laid.{Fits}
-use Rattle.link_plan.specs.Linked.{IsAllocated, AreCuts, AreSmall}
+use Rattle.link_plan.specs.Linked.{IsAllocated, AreSmall}
 use Rattle.alloc_choice.specs.declared.choice.Choice.{Choice}
-use Rattle.flow_allocation.specs.Allocations.{IsAllocation, AllAllocations, AreAllocated}
+use Rattle.flow_allocation.specs.Allocations.{IsAllocation, AllAllocations}
 use Rattle.modest_flows.specs.Modest.{IsModest}
 use Rattle.modest_flows.proofs.Fitting.{modest_fits}
-use Rattle.back_end.specs.Images.{IsReady, HasFewValues, AreCutsOf}
+use Rattle.back_end.specs.Images.{IsReady, HasFewValues}
 use Rattle.back_end.specs.Numbers.{node_numbers}
 use Rattle.back_end.proofs.Reading.{of_nodes, kinds_of}
 

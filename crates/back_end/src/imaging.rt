@@ -36,8 +36,11 @@ pub struct LinkedProcedures {
     pub traces: u32,
 }
 
-/// How many procedures each worker's share of a batch is made of. A batch goes through the passes as a whole, so what one pass makes of
-/// it is still near when the next one reads it; and the workers begin anew with each batch, so that it isn't to be small.
+/// How many procedures a batch of one worker has. A batch goes through the passes as a whole, so what one pass makes of it is still near
+/// when the next one reads it.
+const ALONE: usize = 16;
+
+/// How many procedures each worker's share of a batch has where there are several, which begin anew with each batch.
 const SHARE: usize = 64;
 
 /// The image of procedures by their numbers: each one's flow in the traces of the builder that is chosen, the first of these with
@@ -85,6 +88,18 @@ struct Planned {
     fit: bool,
 }
 
+// How many procedures a batch has.
+fn batch(jobs: u32) -> usize
+    requires { jobs ≤ 64 }
+    ensures { 0 < jobs → 0 < result }
+{
+    if jobs == 1 {
+        ALONE
+    } else {
+        SHARE * jobs as usize
+    }
+}
+
 // Takes procedures through the passes up to their plans, batch by batch.
 fn plan_all<G: Gate, R: Threads + Wait + Sync>(
     rt: &R,
@@ -101,7 +116,7 @@ fn plan_all<G: Gate, R: Threads + Wait + Sync>(
     ensures misfit { IfErr result (λ fault. fault ≡ Misfit → ⊥) }
 {
     let count = procedures.len();
-    let most = SHARE * choice.jobs as usize;
+    let most = batch(choice.jobs);
     let mut rest = procedures.into_vec().into_iter();
     let mut planned = Planned {
         plans: Vec::with_capacity(alloc, count)?,

@@ -3,14 +3,13 @@ use Rattle.std.specs.Prelude.{All}
 use Rattle.std.specs.Vec.Iter.{into_iter_items}
 use Rattle.lir_core.specs.Flows.{IsValidFlow}
 use Rattle.link_blocks.specs.Plans.{placed_in}
-use Rattle.trace_build.specs.Traces.{traces_in}
 use Rattle.back_end.specs.Batches.{AreMore}
 use Rattle.back_end.proofs.Batches.{begun, flows_valid, further, not_none, on_fault, over}
 use Rattle.back_end.proofs.imaging.plan_all.Goals as goal
 
 pub loop-init : goal.loop-init
 loop-init g c = record {
-  some = let jobs = c.requires.choice.some_jobs in omega (arith, jobs);
+  some = c.batch-most.ensures c.requires.choice.some_jobs;
   way = begun c.args.choice.now c.args.procedures _ c.len-count.result _ c.requires.choice.few c.requires.ready (c.into_iter-rest.ensures.rest ∙ c.into_vec.ensures) c.len-count.ensures (ap (map placed_in) c.in_ok-with_capacity.ensures.items) refl refl;
 }
 
