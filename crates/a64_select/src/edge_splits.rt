@@ -6,7 +6,7 @@ ghost use Rattle.block_runs.specs.Blocks.{successors};
 ghost use Rattle.block_runs.specs.Valid.{all_below};
 ghost use Rattle.a64_select.specs.Selected.{is_join, split_targets, redirected, behind, edge_node, new_nodes};
 
-use block_runs::End;
+use block_runs::{End, Numbers};
 use items::Items;
 use lir_core::Node;
 use ssa_core::Block;
@@ -35,14 +35,14 @@ fn edge_node(alloc: Global, blocks: &[Block], freq: u64, to: u32) -> Node
     ensures { result ≡ edge_node blocks.now freq to }
 {
     Node {
-        params: Items::new(alloc),
+        params: Numbers::new(alloc),
         lirs: Items::new(alloc),
         end: End::Jump {
             to,
-            args: Items::new(alloc),
+            args: Numbers::new(alloc),
         },
         freq: freq.min(blocks[to as usize].freq),
-        preds: Items::new(alloc),
+        preds: Numbers::new(alloc),
         enter: None,
     }
 }

@@ -10,7 +10,7 @@ ghost use Rattle.lir_core.specs.Flows.{code_nodes, preds_of, IsValidFlow};
 
 use crate::edge_splits::{behind, behind_end, edge_nodes, redirected};
 use crate::edges::{joins, set_preds};
-use block_runs::{Code, End};
+use block_runs::{Code, End, Numbers};
 use items::Items;
 use lir_core::{Flow, Lir, Node};
 use outside::Memory;
@@ -90,7 +90,7 @@ fn node_from(alloc: Global, joins: &[bool], next: u32, block: Block) -> Result<N
         lirs: lirs_from(alloc, ops)?,
         end: end_from(joins, next, end),
         freq,
-        preds: Items::new(alloc),
+        preds: Numbers::new(alloc),
         enter,
     })
 }

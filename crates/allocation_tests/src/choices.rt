@@ -1,7 +1,7 @@
 //! The results of a large flow.
 
 use alloc_choice::*;
-use lir_core::{Items, Leave, Lir, Node, Template, Uses};
+use lir_core::{Items, Leave, Lir, Node, Numbers, Template};
 use outside::{Memory, OpenGate};
 use std::alloc::{AllocError, Global};
 use std::sync::Wait;
@@ -15,11 +15,11 @@ const TESTS: u32 = 2000;
 
 fn node(alloc: Global, lirs: Vec<Lir>, end: Leave, preds: &[u32]) -> Result<Node, AllocError> {
     Ok(Node {
-        params: Items::new(alloc),
+        params: Numbers::new(alloc),
         lirs: Items::from_vec(lirs),
         end,
         freq: 1 << 20,
-        preds: Items::from_slice(alloc, preds)?,
+        preds: Numbers::from_slice(alloc, preds)?,
         enter: None,
     })
 }
@@ -28,7 +28,7 @@ fn node(alloc: Global, lirs: Vec<Lir>, end: Leave, preds: &[u32]) -> Result<Node
 fn test(alloc: Global, number: u32) -> Result<Node, AllocError> {
     let made = Lir {
         template: Template::Const(7),
-        uses: Uses::from_slice(alloc, &[])?,
+        uses: Numbers::from_slice(alloc, &[])?,
         def: Some(number),
         call: false,
     };
@@ -51,7 +51,7 @@ fn test(alloc: Global, number: u32) -> Result<Node, AllocError> {
 
 // A node on an edge.
 fn bare(alloc: Global, test: u32, to: u32) -> Result<Node, AllocError> {
-    let args = Items::new(alloc);
+    let args = Numbers::new(alloc);
     node(alloc, Vec::new(alloc), Leave::Jump { to, args }, &[test])
 }
 

@@ -1,7 +1,7 @@
 //! A loop whose parameters are swapped, with places given by hand; what is wanted is what another program says.
 
 use boundary_resolve::*;
-use lir_core::{Items, Leave, Lir, Node, Template, Uses};
+use lir_core::{Items, Leave, Lir, Node, Numbers, Template};
 use outside::Memory;
 use std::alloc::{AllocError, Global};
 use std::test::Fail;
@@ -14,11 +14,11 @@ fn node(
     preds: &[u32],
 ) -> Result<Node, AllocError> {
     Ok(Node {
-        params: Items::from_slice(alloc, params)?,
+        params: Numbers::from_slice(alloc, params)?,
         lirs: Items::from_vec(lirs),
         end,
         freq: 1,
-        preds: Items::from_slice(alloc, preds)?,
+        preds: Numbers::from_slice(alloc, preds)?,
         enter: None,
     })
 }
@@ -26,7 +26,7 @@ fn node(
 fn jump(alloc: Global, to: u32, args: &[u32]) -> Result<Leave, AllocError> {
     Ok(Leave::Jump {
         to,
-        args: Items::from_slice(alloc, args)?,
+        args: Numbers::from_slice(alloc, args)?,
     })
 }
 
@@ -34,7 +34,7 @@ fn jump(alloc: Global, to: u32, args: &[u32]) -> Result<Leave, AllocError> {
 fn sum(alloc: Global) -> Result<Lir, AllocError> {
     Ok(Lir {
         template: Template::Add,
-        uses: Uses::from_slice(alloc, &[2, 3])?,
+        uses: Numbers::from_slice(alloc, &[2, 3])?,
         def: Some(4),
         call: false,
     })
@@ -44,7 +44,7 @@ fn sum(alloc: Global) -> Result<Lir, AllocError> {
 fn call(alloc: Global) -> Result<Lir, AllocError> {
     Ok(Lir {
         template: Template::Call(1),
-        uses: Uses::from_slice(alloc, &[2])?,
+        uses: Numbers::from_slice(alloc, &[2])?,
         def: Some(5),
         call: true,
     })

@@ -1,7 +1,7 @@
 //! The plain result for a small flow; what is wanted is what another program gives.
 
 use global_live::live;
-use lir_core::{Flow, Items, Leave, Line, Lir, Node, Places, Template, Trace, Uses};
+use lir_core::{Flow, Items, Leave, Line, Lir, Node, Numbers, Places, Template, Trace};
 use outside::Memory;
 use std::alloc::{AllocError, Global};
 use std::test::Fail;
@@ -15,11 +15,11 @@ fn node(
     preds: &[u32],
 ) -> Result<Node, AllocError> {
     Ok(Node {
-        params: Items::from_slice(alloc, params)?,
+        params: Numbers::from_slice(alloc, params)?,
         lirs: Items::from_vec(lirs),
         end,
         freq: 1,
-        preds: Items::from_slice(alloc, preds)?,
+        preds: Numbers::from_slice(alloc, preds)?,
         enter: None,
     })
 }
@@ -27,7 +27,7 @@ fn node(
 fn jump(alloc: Global, to: u32, args: &[u32]) -> Result<Leave, AllocError> {
     Ok(Leave::Jump {
         to,
-        args: Items::from_slice(alloc, args)?,
+        args: Numbers::from_slice(alloc, args)?,
     })
 }
 
@@ -35,7 +35,7 @@ fn jump(alloc: Global, to: u32, args: &[u32]) -> Result<Leave, AllocError> {
 fn sum(alloc: Global) -> Result<Lir, AllocError> {
     Ok(Lir {
         template: Template::Add,
-        uses: Uses::from_slice(alloc, &[2, 3])?,
+        uses: Numbers::from_slice(alloc, &[2, 3])?,
         def: Some(4),
         call: false,
     })
@@ -45,7 +45,7 @@ fn sum(alloc: Global) -> Result<Lir, AllocError> {
 fn call(alloc: Global) -> Result<Lir, AllocError> {
     Ok(Lir {
         template: Template::Call(1),
-        uses: Uses::from_slice(alloc, &[2])?,
+        uses: Numbers::from_slice(alloc, &[2])?,
         def: Some(5),
         call: true,
     })

@@ -1,7 +1,7 @@
 //! Lines of a small flow.
 
 use alloc_choice::{Choice, Policy};
-use lir_core::{Flow, Items, Leave, Lir, Node, Template, Uses};
+use lir_core::{Flow, Items, Leave, Lir, Node, Numbers, Template};
 use outside::Memory;
 use std::alloc::Global;
 use std::test::Fail;
@@ -16,17 +16,17 @@ fn node(
     preds: &[u32],
 ) -> Result<Node, Memory> {
     Ok(Node {
-        params: Items::new(alloc),
+        params: Numbers::new(alloc),
         lirs: Items::from_vec(lirs),
         end,
         freq,
-        preds: Items::from_slice(alloc, preds)?,
+        preds: Numbers::from_slice(alloc, preds)?,
         enter: None,
     })
 }
 
 fn jump(alloc: Global, to: u32) -> Leave {
-    let args = Items::new(alloc);
+    let args = Numbers::new(alloc);
     Leave::Jump { to, args }
 }
 
@@ -34,7 +34,7 @@ fn jump(alloc: Global, to: u32) -> Leave {
 fn flow(alloc: Global) -> Result<Flow, Memory> {
     let made = Lir {
         template: Template::Const(7),
-        uses: Uses::from_slice(alloc, &[])?,
+        uses: Numbers::from_slice(alloc, &[])?,
         def: Some(0),
         call: false,
     };

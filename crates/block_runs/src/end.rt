@@ -1,6 +1,6 @@
 //! How blocks end.
 
-use items::Items;
+use crate::numbers::Numbers;
 
 /// How a block ends. Blocks and values go by their numbers in the procedure.
 #[derive(Drop)]
@@ -8,7 +8,7 @@ pub enum End {
     /// On to a block, whose parameters become the arguments, all at once.
     Jump {
         to: u32,
-        args: Items<u32>,
+        args: Numbers,
     },
     /// To `yes` where the condition, by its number in instructions, holds between a and b, else to `no`.
     Branch {

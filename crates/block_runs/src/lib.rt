@@ -8,8 +8,8 @@
 
 mod code;
 mod end;
-mod uses;
+mod numbers;
 
 pub use code::Code;
 pub use end::End;
-pub use uses::Uses;
+pub use numbers::Numbers;

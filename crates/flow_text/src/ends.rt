@@ -1,7 +1,7 @@
 //! Ends as words.
 
 use crate::words::{Words, push_numbers};
-use lir_core::{Items, Leave};
+use lir_core::{Leave, Numbers};
 use outside::Memory;
 use std::alloc::{AllocError, Global};
 
@@ -9,7 +9,7 @@ use std::alloc::{AllocError, Global};
 pub fn end_of(alloc: Global, words: &mut Words) -> Result<Leave, Memory> {
     if words.takes("jump") {
         let to = words.or_zero();
-        let args = Items::from_vec(words.numbers(alloc)?);
+        let args = Numbers::from_slice(alloc, words.numbers(alloc)?.as_slice())?;
         return Ok(Leave::Jump { to, args });
     }
     if words.takes("branch") {

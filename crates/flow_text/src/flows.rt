@@ -3,7 +3,7 @@
 use crate::codes::code_of;
 use crate::ends::end_of;
 use crate::words::Words;
-use lir_core::{Flow, Items, Lir, Node, Template, Uses};
+use lir_core::{Flow, Items, Lir, Node, Numbers, Template};
 use outside::Memory;
 use std::alloc::Global;
 
@@ -49,9 +49,9 @@ fn node(alloc: Global, words: &mut Words) -> Result<Node, Memory> {
     let freq = words.number().unwrap_or(0);
     let enter = words.optional();
     let _ = words.takes("params");
-    let params = Items::from_vec(words.numbers(alloc)?);
+    let params = Numbers::from_slice(alloc, words.numbers(alloc)?.as_slice())?;
     let _ = words.takes("preds");
-    let preds = Items::from_vec(words.numbers(alloc)?);
+    let preds = Numbers::from_slice(alloc, words.numbers(alloc)?.as_slice())?;
     let lirs = Items::from_vec(operations(alloc, words)?);
     let end = end_of(alloc, words)?;
     Ok(Node {
@@ -71,7 +71,7 @@ fn operations(alloc: Global, words: &mut Words) -> Result<Vec<Lir>, Memory> {
             break;
         };
         let def = words.optional();
-        let uses = Uses::from_slice(alloc, words.numbers(alloc)?.as_slice())?;
+        let uses = Numbers::from_slice(alloc, words.numbers(alloc)?.as_slice())?;
         lirs.push(Lir {
             template,
             uses,

@@ -2,7 +2,7 @@
 
 use flow_text::{Words, code_of, end_of};
 use outside::Memory;
-use ssa_core::{Block, Items, Op, Proc, Uses};
+use ssa_core::{Block, Items, Numbers, Op, Proc};
 use std::alloc::Global;
 
 /// The procedure of a line; what is missing is left out or 0, and an unknown operation is `Svc(0)`, which fits nowhere.
@@ -32,7 +32,7 @@ fn block(alloc: Global, words: &mut Words) -> Result<Block, Memory> {
     let freq = words.number().unwrap_or(0);
     let enter = words.optional();
     let _ = words.takes("params");
-    let params = Items::from_vec(words.numbers(alloc)?);
+    let params = Numbers::from_slice(alloc, words.numbers(alloc)?.as_slice())?;
     let ops = Items::from_vec(operations(alloc, words)?);
     let end = end_of(alloc, words)?;
     Ok(Block {
@@ -53,7 +53,7 @@ fn operations(alloc: Global, words: &mut Words) -> Result<Vec<Op>, Memory> {
         let name = words.word();
         let number = words.or_zero();
         let def = words.optional();
-        let uses = Uses::from_slice(alloc, words.numbers(alloc)?.as_slice())?;
+        let uses = Numbers::from_slice(alloc, words.numbers(alloc)?.as_slice())?;
         ops.push(Op {
             code: code_of(name, number as u64),
             uses,

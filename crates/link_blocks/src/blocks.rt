@@ -17,7 +17,7 @@ use boundary_resolve::Placed;
 use items::Items;
 use link_layout::Copy;
 use link_words::Registers;
-use lir_core::{Leave, Lir, Node, Template};
+use lir_core::{Leave, Lir, Node, Numbers, Template};
 use outside::Memory;
 use std::alloc::Global;
 
@@ -98,7 +98,7 @@ fn without_arguments(alloc: Global, end: &Leave) -> Leave
     match end {
         Leave::Jump { to, .. } => Leave::Jump {
             to: *to,
-            args: Items::new(alloc),
+            args: Numbers::new(alloc),
         },
         Leave::Branch {
             cond,

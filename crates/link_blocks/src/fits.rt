@@ -4,7 +4,7 @@ ghost use Rattle.std.specs.Prelude.{◌≡◌};
 ghost use Rattle.link_blocks.specs.Fits.{number_fits, numbers_fit, registers_fit, node_fits, lirs_fit, trap_fits, row_fits, rows_fit, register_in};
 
 use a64_instr::{Bits, Reg};
-use lir_core::{Flow, Items, Leave, Lir, Node, Template, TraceOut};
+use lir_core::{Flow, Leave, Lir, Node, RegisterList, Template, TraceOut};
 
 /// Whether an operation's number fits its instructions: 24 bits of addresses and distances, 12 bits of a level, an argument
 /// word up to the 25th, and 16 bits of a service.
@@ -62,7 +62,7 @@ pub fn registers_fit(outs: &[TraceOut]) -> bool
     outs.iter().all(|out| rows_fit(out.regs.as_slice()))
 }
 
-fn rows_fit(rows: &[Items<u8>]) -> bool
+fn rows_fit(rows: &[RegisterList]) -> bool
     ensures { result ≡ rows_fit rows.now }
 {
     rows.iter().all(|row| row_fits(row.as_slice()))

@@ -29,7 +29,7 @@ use boundary_resolve::Placed;
 use items::Items;
 use link_layout::{Copy, Ranks};
 use link_words::Frame;
-use lir_core::{Flow, Leave, Node, TraceOut};
+use lir_core::{Flow, Leave, Node, RegisterList, TraceOut};
 use outside::Memory;
 use std::alloc::{AllocError, Global};
 
@@ -132,7 +132,7 @@ fn lay_all(
     alloc: Global,
     laid: &mut Laid,
     nodes: &[Node],
-    rows: &[Items<u8>],
+    rows: &[RegisterList],
     lines: &[Placed],
     from: usize,
 ) -> Result<usize, Memory>

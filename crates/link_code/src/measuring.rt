@@ -18,7 +18,7 @@ use link_blocks::{Block, Cell, Plan};
 use link_layout::{
     LayoutFault, copies_width, end_width, operation_width, procedure_width, prologue_width,
 };
-use lir_core::Leave;
+use lir_core::{Leave, Numbers};
 use std::alloc::Global;
 
 /// The most words that an image has.
@@ -82,7 +82,7 @@ pub(crate) fn to_the_first(alloc: Global) -> Leave
 {
     Leave::Jump {
         to: 0,
-        args: Items::new(alloc),
+        args: Numbers::new(alloc),
     }
 }
 

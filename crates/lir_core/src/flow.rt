@@ -1,6 +1,6 @@
 //! Flows. Nodes and values go by their numbers in the flow, from 0 on.
 
-use block_runs::{Code, End, Uses};
+use block_runs::{Code, End, Numbers};
 use items::Items;
 
 /// An operation: what it does, the values that it reads, in order, the value that it makes, and whether it is a call, which
@@ -8,7 +8,7 @@ use items::Items;
 #[derive(Drop)]
 pub struct Lir {
     pub template: Code,
-    pub uses: Uses,
+    pub uses: Numbers,
     pub def: Option<u32>,
     pub call: bool,
 }
@@ -17,13 +17,13 @@ pub struct Lir {
 #[derive(Drop)]
 pub struct Node {
     /// The values that an edge into the node gives.
-    pub params: Items<u32>,
+    pub params: Numbers,
     pub lirs: Items<Lir>,
     pub end: End,
     /// How often it is taken to run, where the procedure's entry runs 2^20 times.
     pub freq: u64,
     /// The nodes from which an edge leads here, rising, each once.
-    pub preds: Items<u32>,
+    pub preds: Numbers,
     /// The node that enters the loop, where this is a loop's header.
     pub enter: Option<u32>,
 }

@@ -10,10 +10,12 @@ mod flow;
 mod laws;
 mod live_sets;
 mod places;
+mod registers;
 
-pub use block_runs::{Code as Template, End as Leave, Uses};
+pub use block_runs::{Code as Template, End as Leave, Numbers};
 pub use flow::{Flow, Lir, Node, Trace};
 pub use items::Items;
 pub use laws::walks_are_sound;
 pub use live_sets::LiveSets;
 pub use places::{Line, Move, Place, Places, TraceIn, TraceOut};
+pub use registers::RegisterList;

@@ -2,6 +2,7 @@
 
 use crate::flow::{Flow, Trace};
 use crate::live_sets::LiveSets;
+use crate::registers::RegisterList;
 use items::Items;
 
 /// Where a value stands: in a register, in the home that the value of that number has, or in a slot for an argument of a
@@ -52,7 +53,7 @@ pub struct TraceOut {
     pub starts: Items<Places>,
     pub ends: Items<Places>,
     pub lines: Items<Items<Line>>,
-    pub regs: Items<Items<u8>>,
+    pub regs: Items<RegisterList>,
 }
 
 /// What an allocator is given: a trace with its number, how many registers there are, 4 to 16, and the parent's node whose

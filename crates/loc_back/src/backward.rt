@@ -6,7 +6,7 @@ ghost use Rattle.lir_core.specs.Flows.{operation_of};
 use crate::front_items::FrontItems;
 use crate::marks::Marking;
 use crate::part::{BackPart, Stage};
-use lir_core::{Items, Leave, Line, Lir, Places, TraceIn, TraceOut};
+use lir_core::{Items, Leave, Line, Lir, Places, RegisterList, TraceIn, TraceOut};
 use outside::Memory;
 use std::alloc::{AllocError, Global};
 use std::mem::replace;
@@ -18,7 +18,7 @@ pub struct Backward {
     pub starts: FrontItems<Places>,
     pub ends: FrontItems<Places>,
     pub lines: FrontItems<Items<Line>>,
-    pub regs: FrontItems<Items<u8>>,
+    pub regs: FrontItems<RegisterList>,
     pub part: BackPart,
 }
 
@@ -179,7 +179,7 @@ impl Backward {
         self.starts.push_front(start)?;
         self.ends.push_front(end)?;
         self.lines.push_front(lines.into_items())?;
-        self.regs.push_front(named.into_items())?;
+        self.regs.push_front(RegisterList::from_slice(alloc, named.into_items().as_slice())?)?;
         Ok(())
     }
 

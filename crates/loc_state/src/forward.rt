@@ -8,7 +8,7 @@ ghost use Rattle.lir_core.specs.Flows.{operation_of};
 ghost use Rattle.lir_core.specs.Lines.{Room, end_reads};
 
 use crate::part::{Ended, Part, room_for};
-use lir_core::{Items, Leave, Line, Lir, Places, TraceOut};
+use lir_core::{Items, Leave, Line, Lir, Places, RegisterList, TraceOut};
 use outside::Memory;
 use std::alloc::Global;
 
@@ -18,7 +18,7 @@ pub struct Forward {
     pub starts: Items<Places>,
     pub ends: Items<Places>,
     pub lines: Items<Items<Line>>,
-    pub regs: Items<Items<u8>>,
+    pub regs: Items<RegisterList>,
     pub part: Part,
 }
 

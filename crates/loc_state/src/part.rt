@@ -8,7 +8,7 @@ ghost use Rattle.loc_state.specs.Homed.{inserted};
 use crate::arguments::{argument_moves, has, is_aimed, place_of};
 use crate::homes::Homes;
 use crate::registers::{Registers, register_of};
-use lir_core::{Items, Line, Lir, Places};
+use lir_core::{Items, Line, Lir, Places, RegisterList};
 use outside::Memory;
 use std::alloc::{AllocError, Global};
 use std::mem::replace;
@@ -21,7 +21,7 @@ pub struct Part {
     pub regs: Registers,
     pub homed: Homes,
     pub lines: Items<Line>,
-    pub named: Items<u8>,
+    pub named: RegisterList,
     pub since: usize,
 }
 
@@ -30,7 +30,7 @@ pub struct Part {
 pub(crate) struct Ended {
     pub(crate) start: Places,
     pub(crate) lines: Items<Line>,
-    pub(crate) named: Items<u8>,
+    pub(crate) named: RegisterList,
 }
 
 impl Part {
@@ -47,7 +47,7 @@ impl Part {
             homed: Homes::from_slice(alloc, start.homed.as_slice())?,
             start,
             lines: Items::new(alloc),
-            named: Items::new(alloc),
+            named: RegisterList::new(alloc),
             since: 0,
         })
     }
@@ -63,7 +63,7 @@ impl Part {
         Ok(Ended {
             start: replace(&mut self.start, start),
             lines: replace(&mut self.lines, Items::new(alloc)),
-            named: replace(&mut self.named, Items::new(alloc)),
+            named: replace(&mut self.named, RegisterList::new(alloc)),
         })
     }
 
@@ -77,14 +77,12 @@ impl Part {
         })
     }
 
-    /// Makes room for the lines of so many operations, and for the registers that they name.
+    /// Makes room for the lines of so many operations.
     pub(crate) fn make_room(&mut self, alloc: Global, operations: usize) -> Result<(), AllocError>
         ensures { OnOk result (self.new ≡ self.old) }
     {
         let lines = replace(&mut self.lines, Items::new(alloc));
         self.lines = with_room(lines, operations.saturating_add(operations / 4))?;
-        let named = replace(&mut self.named, Items::new(alloc));
-        self.named = with_room(named, operations.saturating_mul(3))?;
         Ok(())
     }
 

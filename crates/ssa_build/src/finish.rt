@@ -7,7 +7,7 @@ ghost use Rattle.ssa_exprs.specs.declared.making.Piece.{Piece as PieceThere};
 ghost use Rattle.ssa_exprs.specs.Making.{resolve, resolved, resolve_end};
 ghost use Rattle.ssa_build.specs.Blocks.{placed_at, finished, blocks_by};
 
-use block_runs::End;
+use block_runs::{End, Numbers};
 use items::Items;
 use outside::Memory;
 use ssa_core::{Block, Op};
@@ -18,7 +18,7 @@ use std::mem::replace;
 /// How a block begins.
 #[derive(Drop)]
 pub struct Head {
-    pub params: Items<u32>,
+    pub params: Numbers,
     pub freq: u64,
     pub enter: Option<u32>,
 }
@@ -145,10 +145,10 @@ fn add(alloc: Global, places: &[u32], blocks: &mut Blocks, piece: Piece) -> Resu
 }
 
 /// The first argument words, which are parameters of the first block.
-fn first_params(alloc: Global, words: u32) -> Result<Items<u32>, Memory>
+fn first_params(alloc: Global, words: u32) -> Result<Numbers, Memory>
     ensures { IfOk result (λ list. list ≡ numbers 0 (min words 4)) }
 {
-    let mut list = Items::new(alloc);
+    let mut list = Numbers::new(alloc);
     for i in 0..words.min(4) {
         list.push(i)?;
     }

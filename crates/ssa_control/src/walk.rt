@@ -14,7 +14,7 @@ ghost use Rattle.ssa_control.specs.Frames.{Opens, Turns, Takes};
 
 use crate::joins::{of_body, of_branches, of_cases, of_count, of_guards, of_types};
 use crate::rungs::{self, Dynamic};
-use items::Items;
+use block_runs::Numbers;
 use ob_types::{Binary, Branch, CasePart, Checked, Designator, ForLoop, Stmt, TypePart};
 use ssa_assigned::note_all;
 use ssa_exprs::{LowerFault, Making, Tables, cond, designated, half, second, value};
@@ -267,10 +267,10 @@ fn case_parts(
     t: &Tables,
     b: &mut Making,
     parts: &[CasePart],
-    leave: Option<Items<u32>>,
+    leave: Option<Numbers>,
     frame: &Frame,
     starts: &[u32],
-) -> Result<Option<Items<u32>>, LowerFault>
+) -> Result<Option<Numbers>, LowerFault>
     ensures { IfOk result (λ last. (p : Program) (here : Here) → Serves t.now p here →
         Takes b.old b.new frame.now leave last starts.now 0 (case_bodies_in p here parts.now)) }
 {
@@ -318,10 +318,10 @@ fn type_parts(
     t: &Tables,
     b: &mut Making,
     parts: &[TypePart],
-    leave: Option<Items<u32>>,
+    leave: Option<Numbers>,
     frame: &Frame,
     starts: &[u32],
-) -> Result<Option<Items<u32>>, LowerFault>
+) -> Result<Option<Numbers>, LowerFault>
     ensures { IfOk result (λ last. (p : Program) (here : Here) → Serves t.now p here →
         Takes b.old b.new frame.now leave last starts.now 0 (type_bodies_in p here parts.now)) }
 {

@@ -6,6 +6,6 @@
 
 mod procedure;
 
-pub use block_runs::{Code, End, Uses};
+pub use block_runs::{Code, End, Numbers};
 pub use items::Items;
 pub use procedure::{Block, Op, Proc};

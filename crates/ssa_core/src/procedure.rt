@@ -1,13 +1,13 @@
 //! Procedures. Blocks and values go by their numbers in the procedure, from 0 on.
 
-use block_runs::{Code, End, Uses};
+use block_runs::{Code, End, Numbers};
 use items::Items;
 
 /// An operation: what it does, the values that it reads, in order, and the value that it makes.
 #[derive(Drop)]
 pub struct Op {
     pub code: Code,
-    pub uses: Uses,
+    pub uses: Numbers,
     pub def: Option<u32>,
 }
 
@@ -15,7 +15,7 @@ pub struct Op {
 #[derive(Drop)]
 pub struct Block {
     /// The values that an edge into the block gives.
-    pub params: Items<u32>,
+    pub params: Numbers,
     pub ops: Items<Op>,
     pub end: End,
     /// How often it is taken to run, where the procedure's entry runs 2^20 times.

@@ -8,8 +8,7 @@ ghost use Rattle.ssa_exprs.specs.Changes.{changed, undone, rewound, numbered_fro
 ghost use Rattle.ssa_exprs.specs.Making.{View, Gives, asked, bound, closed};
 
 use crate::fault::LowerFault;
-use block_runs::{Code, End, Uses};
-use items::Items;
+use block_runs::{Code, End, Numbers};
 use ssa_core::Op;
 use std::alloc::Global;
 use std::marker::Model;
@@ -20,7 +19,7 @@ pub enum Piece {
     Adds(Op),
     Ends {
         end: End,
-        params: Items<u32>,
+        params: Numbers,
         freq: u64,
         enter: Option<u32>,
     },
@@ -100,7 +99,7 @@ impl Making {
             self.over = Some(VALUES);
             return Ok(v);
         }
-        let uses = Uses::from_slice(self.alloc, uses)?;
+        let uses = Numbers::from_slice(self.alloc, uses)?;
         self.made.push(Piece::Adds(Op {
             code,
             uses,
@@ -117,7 +116,7 @@ impl Making {
         if self.over.is_some() {
             return Ok(());
         }
-        let uses = Uses::from_slice(self.alloc, uses)?;
+        let uses = Numbers::from_slice(self.alloc, uses)?;
         self.made.push(Piece::Adds(Op {
             code,
             uses,
@@ -167,11 +166,11 @@ impl Making {
     }
 
     /// The values of variables, for a jump; none where a limit is passed.
-    pub fn picked(&self, vars: &[u32]) -> Result<Items<u32>, LowerFault>
+    pub fn picked(&self, vars: &[u32]) -> Result<Numbers, LowerFault>
         ensures { IfOk result (λ list. self.now.over ≡ None → list ≡ values_of self.now.known.env vars.now) }
     {
         if self.over.is_some() {
-            return Ok(Items::new(self.alloc));
+            return Ok(Numbers::new(self.alloc));
         }
         values(self.alloc, self.env.as_slice(), vars)
     }
@@ -290,17 +289,17 @@ impl Making {
     }
 
     /// No values.
-    pub fn none(&self) -> Items<u32>
+    pub fn none(&self) -> Numbers
         ensures { result ≡ [] }
     {
-        Items::new(self.alloc)
+        Numbers::new(self.alloc)
     }
 
     /// One value.
-    pub fn one(&self, v: u32) -> Result<Items<u32>, LowerFault>
+    pub fn one(&self, v: u32) -> Result<Numbers, LowerFault>
         ensures { IfOk result (λ list. list ≡ v ∷ []) }
     {
-        Ok(Items::from_slice(self.alloc, &[v])?)
+        Ok(Numbers::from_slice(self.alloc, &[v])?)
     }
 
     /// Where memory is taken from.
@@ -371,11 +370,11 @@ fn has_room(values: u32, count: usize) -> bool
 }
 
 /// The next so many values.
-fn numbered(alloc: Global, values: u32, count: usize) -> Result<Items<u32>, LowerFault>
+fn numbered(alloc: Global, values: u32, count: usize) -> Result<Numbers, LowerFault>
     requires { values + count < 4294967296 }
     ensures { IfOk result (λ list. list ≡ numbers values count) }
 {
-    let mut list = Items::new(alloc);
+    let mut list = Numbers::new(alloc);
     for i in 0..count {
         list.push(values + i as u32)?;
     }
@@ -437,10 +436,10 @@ fn take_back(env: &mut Vec<u32>, last: Undo)
 }
 
 /// The values of variables.
-fn values(alloc: Global, env: &[u32], vars: &[u32]) -> Result<Items<u32>, LowerFault>
+fn values(alloc: Global, env: &[u32], vars: &[u32]) -> Result<Numbers, LowerFault>
     ensures { IfOk result (λ list. list ≡ values_of env.now vars.now) }
 {
-    let mut list = Items::new(alloc);
+    let mut list = Numbers::new(alloc);
     for x in vars {
         list.push(value_in(env, *x))?;
     }

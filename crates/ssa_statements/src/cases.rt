@@ -14,8 +14,7 @@ ghost use Rattle.ssa_statements.specs.Cases.{Climbs, ends, Enters, Leaves};
 ghost use Rattle.ssa_statements.specs.Rungs.{label_in, choice_in, rungs_in};
 
 use crate::control::Frame;
-use block_runs::{Code, End};
-use items::Items;
+use block_runs::{Code, End, Numbers};
 use ob_types::Label;
 use ssa_exprs::{LowerFault, Making, Tables, half, is_pointer, is_tag};
 
@@ -197,7 +196,7 @@ fn bare_ladder(b: &mut Making, last: u64) -> Result<(), LowerFault>
 }
 
 /// How the block before a part ends.
-fn end_of(leave: Option<Items<u32>>, to: u32) -> End
+fn end_of(leave: Option<Numbers>, to: u32) -> End
     ensures { result ≡ ends leave to }
 {
     match leave {
@@ -209,7 +208,7 @@ fn end_of(leave: Option<Items<u32>>, to: u32) -> End
 /// The open block ends, and a part begins with the variables as they were at the choice.
 pub fn enter_part(
     b: &mut Making,
-    leave: Option<Items<u32>>,
+    leave: Option<Numbers>,
     frame: &Frame,
     start: u32,
 ) -> Result<(), LowerFault>
@@ -222,11 +221,7 @@ pub fn enter_part(
 }
 
 /// The open block ends, and the join of all parts begins.
-pub fn leave_parts(
-    b: &mut Making,
-    leave: Option<Items<u32>>,
-    frame: &Frame,
-) -> Result<(), LowerFault>
+pub fn leave_parts(b: &mut Making, leave: Option<Numbers>, frame: &Frame) -> Result<(), LowerFault>
     ensures { OnOk result (Leaves frame.now b.old b.new leave) }
 {
     b.back(frame.moment);

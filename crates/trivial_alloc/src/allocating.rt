@@ -9,7 +9,7 @@ ghost use Rattle.trivial_alloc.specs.Parts.{ArePushed};
 
 use crate::homed::{end, start};
 use crate::lines::Written;
-use lir_core::{Items, Line, Places, TraceIn, TraceOut};
+use lir_core::{Items, Line, Places, RegisterList, TraceIn, TraceOut};
 use outside::Memory;
 use std::alloc::Global;
 
@@ -51,7 +51,7 @@ struct Parts {
     starts: Vec<Places>,
     ends: Vec<Places>,
     lines: Vec<Items<Line>>,
-    regs: Vec<Items<u8>>,
+    regs: Vec<RegisterList>,
 }
 
 impl Parts {
@@ -65,7 +65,8 @@ impl Parts {
         self.starts.push(start(alloc, t, number, node)?)?;
         self.ends.push(end(alloc, t, &node.end)?)?;
         self.lines.push(Items::from_vec(lines))?;
-        self.regs.push(Items::from_vec(regs))?;
+        self.regs
+            .push(RegisterList::from_slice(alloc, regs.as_slice())?)?;
         Ok(())
     }
 }

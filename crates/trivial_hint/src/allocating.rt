@@ -6,7 +6,7 @@ ghost use Rattle.linear_scan.specs.Inputs.{case_of, hint_of, lent, IsInput};
 ghost use Rattle.trivial_hint.specs.Trivial.{trivial, trivial_start, IsTrivial};
 
 use crate::living::{all_live, live_homes, live_registers};
-use lir_core::{Items, Places, TraceIn, TraceOut};
+use lir_core::{Items, Places, RegisterList, TraceIn, TraceOut};
 use outside::Memory;
 use std::alloc::{AllocError, Global};
 
@@ -25,7 +25,7 @@ pub fn trivial(alloc: Global, t: &TraceIn, hint: Option<&Places>) -> Result<Trac
     out.starts.push(start(alloc, t, nodes[0], hint)?)?;
     out.ends.push(start(alloc, t, nodes[0], hint)?)?;
     out.lines.push(Items::new(alloc))?;
-    out.regs.push(Items::new(alloc))?;
+    out.regs.push(RegisterList::new(alloc))?;
     Ok(out)
 }
 
