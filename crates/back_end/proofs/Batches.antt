@@ -15,7 +15,7 @@ use Rattle.trace_build.specs.declared.builder.Builder.{Builder}
 use Rattle.trace_build.specs.Traces.{traces_in}
 use Rattle.link_blocks.specs.Fits.{numbers_fit}
 use Rattle.link_blocks.specs.Plans.{placed_in, plain}
-use Rattle.link_plan.specs.Linked.{AreCuts, AreSmall, IsAllocated, plans_of}
+use Rattle.link_plan.specs.Linked.{AllAllocated, AreCuts, AreSmall, IsAllocated, plans_of}
 use Rattle.alloc_choice.specs.declared.choice.Choice.{Choice}
 use Rattle.alloc_choice.specs.Choice.{IsFitChoice}
 use Rattle.lir_core.specs.declared.places.TraceOut.{TraceOut}
@@ -24,7 +24,7 @@ use Rattle.flow_allocation.specs.Allocations.{AllAllocations, AreAllocated, trac
 use Rattle.flow_allocation.proofs.Counting.{counted}
 use Rattle.flow_allocation.proofs.Taking.{none_of, take_none, drop_none}
 use Rattle.back_end.specs.Images.{IsReady}
-use Rattle.back_end.specs.Batches.{IsPlanned, AllAllocated, AreMore}
+use Rattle.back_end.specs.Batches.{IsPlanned, AreMore}
 use Rattle.back_end.specs.declared.imaging.Planned.{Planned}
 use Rattle.back_end.specs.Numbers.{node_numbers}
 use Rattle.back_end.proofs.Reading.{both, all_further}
@@ -113,7 +113,7 @@ module _ (choice : Choice) (fit : IsFitChoice choice) (done batch : List Proc) (
   there : HaveNumbers (map selected batch)
   there = subst HaveNumbers same numbers
 
-  can-link : AllAllocated choice made.cuts
+  can-link : AllAllocated choice.regs made.cuts
   can-link = all_allocated choice old.traces batch made.cuts ready there (sym made.flows_are ∙ same) made.each
 
   flows_are : map (λ c. c.flow) (before.cuts ++ made.cuts) ≡ map selected (done ++ batch)
@@ -156,15 +156,15 @@ module _ (choice : Choice) (fit : IsFitChoice choice) (done batch : List Proc) (
 
 module _ (choice : Choice) (fit : IsFitChoice choice) (flows : List Flow) (parts : List (List Line)) (outs : List (List TraceOut)) (old new : Planned) (traces : ℕ) (h : AreAllocated choice old.traces flows parts outs traces)
     (few : old.traces + traces ≤ 262144) (sum : new.traces ≡ old.traces + traces) where
-  are_cuts : AllAllocated choice h.cuts → AreCuts choice.regs flows parts outs h.cuts
+  are_cuts : AllAllocated choice.regs h.cuts → AreCuts choice.regs flows parts outs h.cuts
   are_cuts each = record { flows_are = h.flows_are; parts_are = h.parts_are; outs_are = h.outs_are; few = fit.few; each = each }
 
   abbrev Plans : Type 0
-  Plans = AllAllocated choice h.cuts → new.fit ≡ true
+  Plans = AllAllocated choice.regs h.cuts → new.fit ≡ true
       → (old.fit ≡ true) × (map placed_in new.plans.items ≡ map placed_in old.plans.items ++ plans_of h.cuts) × (list_all (λ f. numbers_fit f) flows ≡ true)
 
   abbrev Misfit : Type 0
-  Misfit = AllAllocated choice h.cuts → new.fit ≡ false → old.fit ≡ true → AreSmall h.cuts → ⊥
+  Misfit = AllAllocated choice.regs h.cuts → new.fit ≡ false → old.fit ≡ true → AreSmall h.cuts → ⊥
 
   with_plans : Plans → Misfit → AreMore choice flows old new
   with_plans plans misfit =

@@ -1,5 +1,5 @@
 -- Plans of procedures, batch by batch.
-use Rattle.std.specs.Prelude.{◌≡◌, ℕ, ◌+◌, ◌≤◌, List, ◌∷◌, ◌++◌, map, drop, All, true, false}
+use Rattle.std.specs.Prelude.{◌≡◌, ◌+◌, ◌≤◌, List, ◌++◌, map, All, true, false}
 use Rattle.std.specs.List.{list_all}
 use Rattle.ssa_core.specs.declared.procedure.Proc.{Proc}
 use Rattle.lir_core.specs.declared.flow.Flow.{Flow}
@@ -7,7 +7,7 @@ use Rattle.a64_select.specs.Selected.{selected}
 use Rattle.linked_flows.specs.Allocations.{Cut}
 use Rattle.link_blocks.specs.Fits.{numbers_fit}
 use Rattle.link_blocks.specs.Plans.{placed_in}
-use Rattle.link_plan.specs.Linked.{IsAllocated, ArePlans, AreSmall, plans_of}
+use Rattle.link_plan.specs.Linked.{AllAllocated, ArePlans, AreSmall, plans_of}
 use Rattle.alloc_choice.specs.declared.choice.Choice.{Choice}
 use Rattle.flow_allocation.specs.Allocations.{AllAllocations, trace_count}
 use Rattle.back_end.specs.Images.{AreCutsOf}
@@ -24,10 +24,6 @@ pub record IsPlanned (choice : Choice) (procs : List Proc) (planned : Planned) :
   pub plans : planned.fit ≡ true → ArePlans choice.regs (map placed_in planned.plans.items) cuts
   pub misfit : planned.fit ≡ false → AreSmall cuts → ⊥
 
--- results that linking can take
-abbrev pub AllAllocated : Choice → List Cut → Type 0
-AllAllocated choice cuts = (q : ℕ) (c : Cut) (rest : List Cut) → drop q cuts ≡ c ∷ rest → IsAllocated choice.regs c
-
 -- the plans of flows are added, where all before them fit and they do too, and their traces
 pub record AreMore (choice : Choice) (flows : List Flow) (old new : Planned) : Type 0 where
   pub cuts : List Cut
@@ -35,6 +31,6 @@ pub record AreMore (choice : Choice) (flows : List Flow) (old new : Planned) : T
   pub each : AllAllocations choice old.traces cuts
   pub few : new.traces ≤ 262144
   pub count : new.traces ≡ old.traces + trace_count cuts
-  pub plans : AllAllocated choice cuts → new.fit ≡ true
+  pub plans : AllAllocated choice.regs cuts → new.fit ≡ true
       → (old.fit ≡ true) × (map placed_in new.plans.items ≡ map placed_in old.plans.items ++ plans_of cuts) × (list_all (λ f. numbers_fit f) flows ≡ true)
-  pub misfit : AllAllocated choice cuts → new.fit ≡ false → old.fit ≡ true → AreSmall cuts → ⊥
+  pub misfit : AllAllocated choice.regs cuts → new.fit ≡ false → old.fit ≡ true → AreSmall cuts → ⊥

@@ -29,16 +29,17 @@ use std::sync::Wait;
 use std::thread::Threads;
 use std::vec::IntoIter;
 
-/// An image, and of how many traces its code is made.
+/// An image, of how many traces its code is made, and the plans of its procedures, which nothing needs any more.
 #[derive(Drop)]
 pub struct LinkedProcedures {
     pub image: Image,
     pub traces: u32,
+    pub plans: Items<Plan>,
 }
 
 /// How many procedures a batch of one worker has. A batch goes through the passes as a whole, so what one pass makes of it is still near
 /// when the next one reads it.
-const ALONE: usize = 16;
+const ALONE: usize = 4;
 
 /// How many procedures each worker's share of a batch has where there are several, which begin anew with each batch.
 const SHARE: usize = 64;
@@ -73,8 +74,12 @@ pub fn image_of<G: Gate, R: Threads + Wait + Sync>(
     if !fit {
         return Err(ImageFault::Misfit);
     }
-    match image_of_plans(alloc, plans, extra) {
-        Ok(image) => Ok(LinkedProcedures { image, traces }),
+    match image_of_plans(alloc, plans.as_slice(), extra) {
+        Ok(image) => Ok(LinkedProcedures {
+            image,
+            traces,
+            plans: Items::from_vec(plans),
+        }),
         Err(fault) => Err(fault_of(fault)),
     }
 }

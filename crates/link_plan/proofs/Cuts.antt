@@ -16,7 +16,7 @@ use Rattle.link_blocks.specs.Fits.{numbers_fit}
 use Rattle.link_blocks.specs.Plans.{plain}
 use Rattle.link_blocks.specs.Laid.{IsCutOf}
 use Rattle.link_code.specs.Parts.{IsWhole}
-use Rattle.link_plan.specs.Linked.{IsAllocated, AreCuts, greatest_frame}
+use Rattle.link_plan.specs.Linked.{AllAllocated, AreCuts, greatest_frame}
 use Rattle.link_plan.proofs.Low.{whole, proc_low, and_left, and_right}
 use Rattle.link_plan.proofs.InTable.{AllLow}
 
@@ -97,9 +97,6 @@ le_max : (a b : ℕ) → (a ≤ max a b) × (b ≤ max a b)
 le_max zero b = (omega arith, omega arith)
 le_max (suc a) zero = (omega arith, omega arith)
 le_max (suc a) (suc b) = let r = le_max a b in let l = r.0 in let m = r.1 in (omega (arith, l), omega (arith, m))
-
-abbrev pub AllAllocated : ℕ → List Cut → Type 0
-AllAllocated k cuts = (q : ℕ) (c : Cut) (rest : List Cut) → drop q cuts ≡ c ∷ rest → IsAllocated k c
 
 pub frames_fit : (cuts : List Cut) (q : ℕ) (c : Cut) (rest : List Cut) → drop q cuts ≡ c ∷ rest → frame_of (placed steps_of (allocated c)) ≤ greatest_frame (all_placed steps_of (all_allocated cuts))
 frames_fit [] zero c rest e = cc

@@ -43,13 +43,17 @@ pub record IsAllocated (k : ℕ) (c : Cut) : Type 0 where
   pub local_data : (c.flow.local_cells < 2 ^ 64) × (c.flow.local_bytes < 2 ^ 24)
   pub body : c.flow.counted ≡ false → c.flow.args ≡ 0
 
+-- results that linking can take
+abbrev pub AllAllocated : ℕ → List Cut → Type 0
+AllAllocated k cuts = (q : ℕ) (c : Cut) (rest : List Cut) → drop q cuts ≡ c ∷ rest → IsAllocated k c
+
 -- flows, their lines in code order and their results are those of cuts
 pub record AreCuts (k : ℕ) (flows : List Flow) (parts : List (List Line)) (outs : List (List TraceOut)) (cuts : List Cut) : Type 0 where
   pub flows_are : flows ≡ map (λ c. c.flow) cuts
   pub parts_are : parts ≡ map (λ c. placed_of c.flow c.traces c.outs) cuts
   pub outs_are : outs ≡ map (λ c. c.outs) cuts
   pub few : k ≤ 16
-  pub each : (q : ℕ) (c : Cut) (rest : List Cut) → drop q cuts ≡ c ∷ rest → IsAllocated k c
+  pub each : AllAllocated k cuts
 
 -- the plans of cuts
 abbrev pub plans_of : List Cut → List Placed
@@ -60,7 +64,7 @@ pub record ArePlans (k : ℕ) (plans : List Placed) (cuts : List Cut) : Type 0 w
   pub plans_are : plans ≡ plans_of cuts
   pub numbers : list_all (λ f. numbers_fit f) (map (λ c. c.flow) cuts) ≡ true
   pub few : k ≤ 16
-  pub each : (q : ℕ) (c : Cut) (rest : List Cut) → drop q cuts ≡ c ∷ rest → IsAllocated k c
+  pub each : AllAllocated k cuts
 
 -- numbers, registers and frames fit instructions
 abbrev pub AreSmall : List Cut → Type 0

@@ -58,7 +58,7 @@ pub fn link(
 {
     let mut plans = Vec::with_capacity(alloc, flows.len())?;
     add_plans(alloc, &mut plans, flows, parts, outs)?;
-    image_of_plans(alloc, plans, extra)
+    image_of_plans(alloc, plans.as_slice(), extra)
 }
 
 /// Adds the plans of flows, from each one's lines in code order and the results for its traces: `link` in parts, so that flows
@@ -92,19 +92,19 @@ pub fn add_plans(
 /// The image of plans, by the numbers of their flows. A flow whose calls aren't counted is the body of a module, and the bodies run
 /// in the order of their numbers. `Limit` comes exactly where the code is over 262,144 words, and `Misfit` never. Takes time in
 /// proportion to lines and words, and n log n for n homes.
-pub fn image_of_plans(alloc: Global, plans: Vec<Plan>, extra: Data) -> Result<Image, LinkFault>
+pub fn image_of_plans(alloc: Global, plans: &[Plan], extra: Data) -> Result<Image, LinkFault>
     requires { DataFits extra.flags extra.globals extra.constants }
-    ensures image { (k : ℕ) (cuts : List Cut) → ArePlans k (map placed_in plans.items) cuts
+    ensures image { (k : ℕ) (cuts : List Cut) → ArePlans k (map placed_in plans.now) cuts
         → IfOk result (λ image. image ≡ linked cuts extra.flags extra.globals extra.constants) }
     ensures form { IfOk result IsInForm }
-    ensures runs { (k : ℕ) (cuts : List Cut) (input : List ℕ) → ArePlans k (map placed_in plans.items) cuts → AreBytes extra.constants
+    ensures runs { (k : ℕ) (cuts : List Cut) (input : List ℕ) → ArePlans k (map placed_in plans.now) cuts → AreBytes extra.constants
         → ((i : ℕ) → get_or input i 0 < 2 ^ 64) → IfOk result (λ image. Runs image cuts extra.globals extra.constants input) }
-    ensures limit { IfErr result (λ fault. fault ≡ Limit → (k : ℕ) (cuts : List Cut) → ArePlans k (map placed_in plans.items) cuts
+    ensures limit { IfErr result (λ fault. fault ≡ Limit → (k : ℕ) (cuts : List Cut) → ArePlans k (map placed_in plans.now) cuts
         → 2 ^ 18 < length (all_words (all_placed steps_of (all_allocated cuts)))) }
     ensures misfit { IfErr result (λ fault. fault ≡ Misfit → ⊥) }
 {
-    let frame = greatest_frame(plans.as_slice());
-    let code = words_of(alloc, plans.as_slice())?;
+    let frame = greatest_frame(plans);
+    let code = words_of(alloc, plans)?;
     Ok(Image {
         version: 1,
         flags: extra.flags,

@@ -16,27 +16,56 @@ ghost use Rattle.trace_build.specs.Traces.{traces_in};
 use crate::data::program_data;
 use crate::fault::{ProgramFault, of_imaging, of_lowering, whole_limit};
 use back_end::{Choice, Image, image_of};
+use link_plan::Plan;
+use lir_core::Items;
 use ob_types::Program;
 use outside::Gate;
 use short_procedures::are_short;
 use ssa_build::{LoweredProgram, lower_with_tables};
 use std::alloc::Global;
+use std::mem::forget;
 use std::sync::Wait;
 use std::thread::Threads;
 
-/// A program's image, and how many procedures and traces it was made of, the modules' bodies among the procedures.
+/// A program's image, how many procedures and traces it was made of, the modules' bodies among the procedures, and the scaffold
+/// that it was made on.
 #[derive(Drop)]
 pub struct Compiled {
     pub image: Image,
     pub procedures: usize,
     pub traces: u32,
+    pub scaffold: Scaffold,
+}
+
+/// What an image was made from, and nothing reads any more: the program, and the plans of its procedures.
+#[derive(Drop)]
+pub struct Scaffold {
+    program: Program,
+    plans: Items<Plan>,
+}
+
+impl Compiled {
+    /// The image alone, without its scaffold, which is left standing: its memory goes back when the process ends. It is for a process
+    /// that ends soon, as to let the trees go piece by piece takes a fifteenth of a compilation; who compiles again and again lets the
+    /// whole value go instead.
+    pub fn into_image(self) -> Image
+        ensures { result ≡ self.image }
+    {
+        let Compiled {
+            image,
+            scaffold,
+            ..
+        } = self;
+        forget(scaffold);
+        image
+    }
 }
 
 /// The image of a well-formed program: its procedures, lowered, by the builder, the policy and the registers that are chosen,
 /// with its globals and constants. A program is refused by the first limit that it passes: one of lowering, or over 262,144
 /// traces (57), or over 262,144 words of code (54). A procedure of over 500,000,000 blocks and operations
 /// is refused by 54 at once. Takes the time of the passes; the workers of the choice share the traces, whose results, and so the
-/// image, are the same whatever they do. The program is let go once it is lowered. It may wait.
+/// image, are the same whatever they do. The program is handed back in the scaffold. It may wait.
 pub fn program_image<G: Gate, R: Threads + Wait + Sync>(
     rt: &R,
     alloc: Global,
@@ -68,13 +97,16 @@ pub fn program_image<G: Gate, R: Threads + Wait + Sync>(
         Ok(data) => data,
         Err(_) => return Err(ProgramFault::Memory),
     };
-    drop(program);
     let count = procedures.len();
     match image_of(rt, alloc, choice, procedures, data, gate) {
         Ok(linked) => Ok(Compiled {
             image: linked.image,
             procedures: count,
             traces: linked.traces,
+            scaffold: Scaffold {
+                program,
+                plans: linked.plans,
+            },
         }),
         Err(fault) => Err(of_imaging(fault)),
     }

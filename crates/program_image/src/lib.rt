@@ -13,5 +13,5 @@ mod tracing;
 
 pub use back_end::{Builder, Choice, Image, Policy};
 pub use fault::ProgramFault;
-pub use imaging::{Compiled, program_image};
+pub use imaging::{Compiled, Scaffold, program_image};
 pub use tracing::program_traces;

@@ -4,6 +4,7 @@ use Rattle.outside.specs.Files.{Held}
 use Rattle.outside.specs.Sink.{Account}
 use Rattle.fault_lines.specs.declared.places.Position.{Position}
 use Rattle.alloc_choice.specs.declared.choice.Choice.{Choice}
+use Rattle.image_form.specs.declared.image.Image.{Image}
 use Rattle.program_image.specs.declared.imaging.Compiled.{Compiled}
 use Rattle.source_image.specs.Images.{IsImageOfTexts, AreTracesOfTexts}
 use Rattle.source_image.specs.Refusals.{IsRefusal}
@@ -50,6 +51,12 @@ no_image choice texts next cause h = refused choice texts (TextsComeTo choice ne
 pub has_image : (choice : Choice) (texts : List (List ℕ)) (next : Compiled → Verdict → Type 0) (made : Compiled) (old new : Devices) (cause : Cause) → IsImageOfTexts choice texts made
     → Answers (next made) old new cause → Answers (TextsComeTo choice next texts) old new cause
 has_image choice texts next made old new cause is answers = mapped (next made) (TextsComeTo choice next texts) old new cause (λ v it. HaveImage made is it) answers
+
+-- texts have an image, which comes to something
+pub image_comes : (choice : Choice) (texts : List (List ℕ)) (comes : Image → Verdict → Type 0) (made : Compiled) (image : Image) (old new : Devices) (cause : Cause) → IsImageOfTexts choice texts made
+    → image ≡ made.image → Answers (comes image) old new cause → Answers (TextsComeTo choice (λ m. comes m.image) texts) old new cause
+image_comes choice texts comes made image old new cause is same answers =
+    has_image choice texts (λ m. comes m.image) made old new cause is (subst (λ i. Answers (comes i) old new cause) same answers)
 
 -- texts have no traces
 pub no_traces : (choice : Choice) (texts : List (List ℕ)) (cause : Cause) → IsRefusedAs choice texts cause

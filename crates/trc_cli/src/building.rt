@@ -36,7 +36,10 @@ fn build_texts<R: Threads + Wait + AllocGlobal + Sync, F: Files, G: Gate>(
     ensures rises { F.faults files.old ≤ F.faults files.new }
 {
     match compile(rt, choice, texts, gate) {
-        Ok(made) => Ending::of(write_image_file(rt.alloc(), name, &made.image, files)),
+        Ok(made) => {
+            let image = made.into_image();
+            Ending::of(write_image_file(rt.alloc(), name, &image, files))
+        }
         Err(ending) => ending,
     }
 }

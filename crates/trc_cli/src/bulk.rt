@@ -89,7 +89,13 @@ fn run_and_tell<O: Sink>(alloc: Global, made: Compiled, steps: u64, out: &mut O)
     let Ok(mut written) = MemSink::new(alloc, ROOM, ROOM, Vec::new(alloc)) else {
         return Cause::Memory;
     };
-    match run_on(alloc, made.image, Vec::new(alloc), steps, &mut written) {
+    match run_on(
+        alloc,
+        made.into_image(),
+        Vec::new(alloc),
+        steps,
+        &mut written,
+    ) {
         Cause::Done => tell(alloc, counts, written.bytes(), out),
         Cause::WriteFault { .. } => Cause::Memory,
         cause => cause,

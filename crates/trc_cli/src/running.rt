@@ -38,7 +38,7 @@ fn run_texts<R: Threads + Wait + AllocGlobal + Sync, I: Source, O: Sink, G: Gate
     ensures out_rises { (O.account out.old).faults ≤ (O.account out.new).faults }
 {
     match compile(rt, choice, texts, gate) {
-        Ok(made) => Ending::of(run_image(rt.alloc(), made.image, steps, input, out)),
+        Ok(made) => Ending::of(run_image(rt.alloc(), made.into_image(), steps, input, out)),
         Err(ending) => ending,
     }
 }

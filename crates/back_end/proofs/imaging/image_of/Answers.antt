@@ -1,4 +1,6 @@
-use Rattle.std.proofs.Common.{arith}
+use Rattle.std.proofs.Common.{map, sym, subst, arith}
+use Rattle.link_blocks.specs.Plans.{placed_in}
+use Rattle.link_plan.specs.Linked.{ArePlans}
 use Rattle.back_end.proofs.Ready.{all_small}
 use Rattle.back_end.proofs.imaging.image_of.Goals as goal
 
@@ -13,7 +15,7 @@ returns-in-Ok-clause-image g c =
     let p = c.in_ok-plans.ensures.planned in
     let few = p.few in
     let count = p.count in
-    let there = p.plans c.if-not-fit.false in
+    let there = subst (λ ps. ArePlans choice.regs (map placed_in ps) p.cuts) (sym c.as_slice.ensures.value) (p.plans c.if-not-fit.false) in
     record {
       cuts = p.cuts;
       are = p.are;
@@ -29,5 +31,5 @@ returns-in-Err-clause-code g c e =
     let p = c.in_ok-plans.ensures.planned in
     let few = p.few in
     let count = p.count in
-    let there = p.plans c.if-not-fit.false in
+    let there = subst (λ ps. ArePlans choice.regs (map placed_in ps) p.cuts) (sym c.as_slice.ensures.value) (p.plans c.if-not-fit.false) in
     (p.cuts, p.are, omega (arith, few, count), c.in-Err.ensures.limit (c.fault_of.ensures.code e) choice.regs p.cuts there)

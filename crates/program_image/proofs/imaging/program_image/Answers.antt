@@ -82,8 +82,8 @@ of_imaging-requires g c is =
     let p = c.args.program in
     c.in-Err-image_of.ensures.modest (subst (All HasFewValues) (sym c.in-Ok.ensures.ok) (few_values p c.in-Ok.ensures.within)) is
 
-pub returns-clause-limit : goal.returns-clause-limit
-returns-clause-limit g c =
+pub returns-in-Err-image_of-clause-limit : goal.returns-in-Err-image_of-clause-limit
+returns-in-Err-image_of-clause-limit g c =
     let choice = c.args.choice.now in
     let p = c.args.program in
     let told = c.in-Err-image_of.ensures in

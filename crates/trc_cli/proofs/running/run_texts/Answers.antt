@@ -1,10 +1,10 @@
 use Rattle.trc_answers.specs.Verdict.{ImageComesTo}
-use Rattle.trc_cli.proofs.Endings.{has_image, no_image}
+use Rattle.trc_cli.proofs.Endings.{image_comes, no_image}
 use Rattle.trc_cli.proofs.running.run_texts.Goals as goal
 
 pub returns-in-Ok-clause-answers : goal.returns-in-Ok-clause-answers
 returns-in-Ok-clause-answers g c = λ held faults.
-    rw c.of.ensures (has_image c.args.choice.now c.args.texts.now (λ made. ImageComesTo _ c.args.steps made.image) c.in-Ok.made _ _ _ c.in-Ok.ensures.image (c.run_image.ensures.answers held faults))
+    rw c.of.ensures (image_comes c.args.choice.now c.args.texts.now (ImageComesTo _ c.args.steps) c.in-Ok.made _ _ _ _ c.in-Ok.ensures.image c.into_image.ensures (c.run_image.ensures.answers held faults))
 
 pub returns-in-Err-clause-answers : goal.returns-in-Err-clause-answers
 returns-in-Err-clause-answers g c = λ held faults.
