@@ -10,7 +10,7 @@ use Rattle.lir_core.specs.Flows.{code_node, code_nodes, leads, IsPath, AreDiffer
 use Rattle.lir_core.specs.Spots.{in_register, placed}
 use Rattle.lir_core.specs.Lines.{end_reads, Room}
 use Rattle.lir_core.specs.Walks.{Walks}
-use Rattle.lir_core.specs.Sound.{IsSoundNode, IsSound, AreSoundLines, room_of}
+use Rattle.lir_core.specs.Sound.{IsSoundNode, IsSound, EndsRise, AreSoundLines, room_of}
 use Rattle.lir_core.proofs.Walking.{walked}
 use Rattle.global_live.specs.Reading.{HasLive}
 use Rattle.global_live.proofs.Lists.{has_back, has-filter, in_parts}
@@ -139,7 +139,8 @@ module _ (x : Case) (mention : ℕ → ℕ → Option ℕ) (valid : IsValidFlow 
     node_sound : Walks space b.ops b.last start lines named end → IsSoundNode space blocks n start lines named end
     unfolding at
     node_sound w = record {
-      row = (record { registers = k.start_size; single = k.start_single; rising = marked_rises homed b.before [] tt }, record { registers = k.end_size; single = k.end_single; rising = marked_rises homed b.after [] tt });
+      row = (record { registers = k.start_size; single = k.start_single }, record { registers = k.end_size; single = k.end_single });
+      rises = marked_rises homed b.before [] tt;
       starts = record {
         live = λ v l. start_placed v (live_lives x.flow x.rows valid live n node here v l);
         wanted = subst (λ bl. (v : ℕ) → has bl.params v ≡ true → IsWanted blocks bl bl.ops v → placed start v ≡ true) (sym at) (λ v h q. start_placed v (wanted_lives x.flow x.rows valid live n node here v q));
@@ -163,7 +164,7 @@ module _ (x : Case) (mention : ℕ → ℕ → Option ℕ) (valid : IsValidFlow 
   all_sound homed (n ∷ ns) t (s ∷ ss) [] rs (e ∷ es) w k = absurd w
   all_sound homed (n ∷ ns) t (s ∷ ss) (l ∷ ls) [] (e ∷ es) w k = absurd w
   all_sound homed (n ∷ ns) t (s ∷ ss) (l ∷ ls) (r ∷ rs) (e ∷ es) w k =
-      (by (slice_get x.flow.nodes n) t.0.1 w.0 k.0, all_sound homed ns t.1 ss ls rs es w.1 k.1)
+      ((by (slice_get x.flow.nodes n) t.0.1 w.0 k.0, marked_rises homed (at_end x.flow.values x.rows (slice_get x.flow.nodes n)) [] tt), all_sound homed ns t.1 ss ls rs es w.1 k.1)
     where
       by : (o : Option Node) → slice_get x.flow.nodes n ≡ Some t.0.0 → Walks space (section_of x.flow.values x.rows n (slice_get x.flow.nodes n)).ops (section_of x.flow.values x.rows n (slice_get x.flow.nodes n)).last (with_marks homed (at_start x.flow.values x.rows n (slice_get x.flow.nodes n)) s) l r (with_marks homed (at_end x.flow.values x.rows (slice_get x.flow.nodes n)) e) → IsKept x.regs (section_of x.flow.values x.rows n (slice_get x.flow.nodes n)) homed s.regs e.regs → IsSoundNode space blocks n (with_marks homed (at_start x.flow.values x.rows n (slice_get x.flow.nodes n)) s) l r (with_marks homed (at_end x.flow.values x.rows (slice_get x.flow.nodes n)) e)
       by o q w k =
@@ -172,7 +173,7 @@ module _ (x : Case) (mention : ℕ → ℕ → Option ℕ) (valid : IsValidFlow 
 
 ---- The result
 
-pub bottom_sound : (x : Case) (mention : ℕ → ℕ → Option ℕ) (ns : List ℕ) → IsInput x ns None → (number : ℕ) → IsSound x.regs x.flow (record { nodes = ns }) (result_of number (walked_back x mention ns))
+pub bottom_sound : (x : Case) (mention : ℕ → ℕ → Option ℕ) (ns : List ℕ) → IsInput x ns None → (number : ℕ) → IsSound x.regs x.flow (record { nodes = ns }) (result_of number (walked_back x mention ns)) × EndsRise (result_of number (walked_back x mention ns))
 bottom_sound x mention ns given number =
     let t = all_there x (λ v p. None) given.valid given.live given.enough ns given.trace.nodes in
     let b = along x mention 0 ns (started (homed_first x ns) x.regs) in
@@ -185,7 +186,7 @@ bottom_sound x mention ns given number =
     let k' = subst (λ hs. AllKept x.regs hs (sections x.flow x.rows ns) left.starts left.ends) (sym (homed_same b)) k in
     let s = all_sound x mention given.valid given.live given.enough left.part.homed ns t left.starts left.lines left.regs left.ends w k' in
     let r = whole (room_of x.regs x.flow) (code_nodes x.flow.nodes) ns c.starts c.lines c.regs c.ends s in
-    record { counts = r.counts; nodes = r.nodes }
+    (record { counts = r.counts; nodes = r.nodes }, r.rise)
   where
     homed_same : (b : Backward) → (left_node b).part.homed ≡ b.part.homed
     homed_same b = (Rattle.bottom_up.proofs.Nodes.left_same b.part.stage b).1

@@ -2,7 +2,7 @@
 
 ghost use Rattle.std.specs.Prelude.{◌≡◌, ◌≤◌, length, IfOk, OnOk, None, slice_get, get_or};
 ghost use Rattle.lir_core.specs.Lines.{end_reads};
-ghost use Rattle.lir_core.specs.Sound.{IsSound};
+ghost use Rattle.lir_core.specs.Sound.{IsSound, EndsRise};
 ghost use Rattle.live_interval.specs.Asked.{mention_told};
 ghost use Rattle.loc_back.specs.Steps.{in_part};
 ghost use Rattle.std.specs.Option.{option_map};
@@ -30,6 +30,7 @@ pub fn allocate(alloc: Global, t: &TraceIn) -> Result<TraceOut, Memory>
         → IfOk result (λ out. out ≡ bottom_up (case_of t.now) t.now.number t.now.trace.now.nodes) }
     ensures sound { IsInput (case_of t.now) t.now.trace.now.nodes None
         → IfOk result (IsSound t.now.regs t.now.flow.now t.now.trace.now) }
+    ensures rises { IsInput (case_of t.now) t.now.trace.now.nodes None → IfOk result EndsRise }
 {
     let positions = mentions(alloc, t.flow, t.trace)?;
     let homed = homed_first(alloc, t)?;

@@ -73,7 +73,7 @@ rows_of_sound k f traces outs all = record {
 }
   where
     start_row : (n : ℕ) (b : Bool) → has (all_nodes (lists_of traces)) n ≡ b → FewRegs (start_at traces outs n) × IsRising (start_at traces outs n).homed
-    start_row n true h = let r = (sound_in k f traces outs all n h).row.0 in let a = r.registers in let b = all.few.1 in (omega (arith, a, b), r.rising)
+    start_row n true h = let s = sound_in k f traces outs all n h in let a = s.row.0.registers in let b = all.few.1 in (omega (arith, a, b), s.rises)
     start_row n false h = subst (λ (q : Places). FewRegs q × IsRising q.homed) (sym (ap (places_at (λ o. o.starts) outs) (not_sitting traces 0 n h))) (omega arith, tt)
 
     end_row : (n : ℕ) (b : Bool) → has (all_nodes (lists_of traces)) n ≡ b → FewRegs (end_at traces outs n)

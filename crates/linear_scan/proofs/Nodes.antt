@@ -276,7 +276,8 @@ module _ (x : Case) (need : ℕ → ℕ → Option ℕ) (valid : IsValidFlow x.f
 
       pub node_sound : IsSoundNode room bls n t2.start t2.lines t2.named (places t2)
       node_sound = record {
-        row = (subst (IsRow x.regs) (sym same_start) (record { registers = r.registers; single = r.safe.single; rising = r.safe.rising }), record { registers = ended.0.stands.registers; single = ended.1.single; rising = ended.1.rising });
+        row = (subst (IsRow x.regs) (sym same_start) (record { registers = r.registers; single = r.safe.single }), record { registers = ended.0.stands.registers; single = ended.1.single });
+        rises = subst (λ q. IsRising q.homed) (sym same_start) r.safe.rising;
         starts = subst (IsStart bls n) (sym same_start) is_start;
         ends = is_end;
         lines_sound = subst (λ bl. AreSoundLines room bl.ops (end_reads bl.end) t2.start t2.lines t2.named (places t2)) (sym there) (walked room ops (end_reads node.end) t2.start t2.lines t2.named (places t2) (ends room ops (end_reads node.end) t2 ended.0));
@@ -288,6 +289,9 @@ module _ (x : Case) (need : ℕ → ℕ → Option ℕ) (valid : IsValidFlow x.f
 
       pub end_single : IsSingle t2.regs
       end_single = ended.1.single
+
+      pub end_rises : IsRising (places t2).homed
+      end_rises = ended.1.rising
 
       pub end_registers : length t2.regs ≡ x.regs
       end_registers = ended.0.stands.registers

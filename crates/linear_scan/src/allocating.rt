@@ -3,7 +3,7 @@
 ghost use Rattle.std.specs.Prelude.{◌≡◌, ℕ, [], ◌+◌, ◌<◌, ◌≤◌, length, Option, true, is_some, slice_get, IfOk, IfSome, OnOk};
 ghost use Rattle.std.specs.Option.{option_map};
 ghost use Rattle.lir_core.specs.Lines.{end_reads};
-ghost use Rattle.lir_core.specs.Sound.{IsSound};
+ghost use Rattle.lir_core.specs.Sound.{IsSound, EndsRise};
 ghost use Rattle.live_interval.specs.Asked.{need_told};
 ghost use Rattle.loc_state.specs.Steps.{in_part, places};
 ghost use Rattle.linear_scan.specs.Policy.{bring_all, drop_all};
@@ -30,6 +30,8 @@ pub fn allocate(alloc: Global, t: &TraceIn, hint: Option<&Places>) -> Result<Tra
         → IfOk result (λ out. out ≡ linear (case_of t.now) t.now.number t.now.trace.now.nodes (hint_of t.now.from (lent hint.entry))) }
     ensures sound { IsInput (case_of t.now) t.now.trace.now.nodes (hint_of t.now.from (lent hint.entry))
         → IfOk result (IsSound t.now.regs t.now.flow.now t.now.trace.now) }
+    ensures rises { IsInput (case_of t.now) t.now.trace.now.nodes (hint_of t.now.from (lent hint.entry))
+        → IfOk result EndsRise }
 {
     let nodes = t.trace.nodes.as_slice();
     let Some(head) = number_at(nodes, 0) else {

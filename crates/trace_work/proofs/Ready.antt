@@ -82,7 +82,7 @@ module _ (choice : Choice) (p : Plan) where
       let head = first_of (nodes_of p t) in
       let outs = finals_to choice p t in
       let e : parent_of bls p.traces t ≡ Some l = parent_is bls p.traces t (get_or p.parents t None) (is.parents.parent t lt) ∙ known in
-      let r = child_ready (case_of choice p) p.traces (case_is is) p.places is.places t l done enough lt final.sound in
+      let r = child_ready (case_of choice p) p.traces (case_is is) p.places is.places t l done enough lt final.sound final.rises in
       let same : done ≡ out_at outs l = final.is ∙ sym (final_at t l lower) in
       let h : hint ≡ head_hint bls (trace_at p.traces l) done head = given ∙ r.0 in
       record {

@@ -23,7 +23,7 @@ use Rattle.lir_core.specs.Flows.{operation_of, code_node, code_nodes, calls_mark
 use Rattle.lir_core.specs.Rows.{has_bit}
 use Rattle.lir_core.specs.Spots.{get, in_register, placed, IsRising, IsRow}
 use Rattle.lir_core.specs.Lines.{end_reads, slots_in, slots_of}
-use Rattle.lir_core.specs.Sound.{IsStart, IsEnd, IsSoundNode, IsSound, room_of, no_places, AreSoundLines}
+use Rattle.lir_core.specs.Sound.{IsStart, IsEnd, IsSoundNode, IsSound, EndsRise, room_of, no_places, AreSoundLines}
 use Rattle.lir_core.proofs.Walking.{walked}
 use Rattle.global_live.specs.Reading.{HasLive}
 use Rattle.global_live.proofs.Lists.{has_front, has_back, not_in_front, not_in_back, in_parts, has-filter, all_below_in}
@@ -82,7 +82,7 @@ placed_home : (k : ℕ) (homed : List ℕ) (v : ℕ) → placed (in_homes k home
 placed_home k homed v = ap (λ b. b || has homed v) (not_in_register k v)
 
 row : (k values : ℕ) (test : ℕ → Bool) → IsRow k (in_homes k (picked values test))
-row k values test = record { registers = length-replicate k None; single = λ r s v a b. absurd (no_register k r v a); rising = rising test 0 values }
+row k values test = record { registers = length-replicate k None; single = λ r s v a b. absurd (no_register k r v a) }
 
 ---- Lists
 
@@ -271,7 +271,7 @@ module _ (k : ℕ) (f : Flow) (live : List (List ℕ)) (valid : IsValidFlow f) (
         (λ v h. read_below n v (has_back (uses_of (map operation_of (node_at f n).lirs)) (end_uses (node_at f n).end) v h)) wanted ends_there end_there))
 
     pub sound_node : IsSoundNode (room_of k f) (code_nodes f.nodes) n (plain_start k f live n) (node_lines (node_at f n)) (node_regs (node_at f n)) (plain_end k f live n)
-    sound_node = record { row = (row k f.values (is_at_start live n (node_at f n)), row k f.values (is_at_end live (node_at f n).end)); starts = starts; ends = ends; lines_sound = sound_lines }
+    sound_node = record { row = (row k f.values (is_at_start live n (node_at f n)), row k f.values (is_at_end live (node_at f n).end)); rises = rising (is_at_start live n (node_at f n)) 0 f.values; starts = starts; ends = ends; lines_sound = sound_lines }
 
   pub sound : (t : Trace) (number : ℕ) → InFlow f t.nodes → IsSound k f t (plain_of k f live number t.nodes)
   sound t number inside = record {
@@ -287,6 +287,11 @@ module _ (k : ℕ) (f : Flow) (live : List (List ℕ)) (valid : IsValidFlow f) (
         (subst (λ l. IsSoundNode (room_of k f) (code_nodes f.nodes) n (plain_start k f live n) l (get_or (map (λ m. node_regs (node_at f m)) t.nodes) i []) (plain_end k f live n)) (sym c)
         (subst (λ r. IsSoundNode (room_of k f) (code_nodes f.nodes) n (plain_start k f live n) (node_lines (node_at f n)) r (plain_end k f live n)) (sym d) (sound_node n (inside i lt)))));
   }
+
+pub ends_rise : (k : ℕ) (f : Flow) (live : List (List ℕ)) (number : ℕ) (nodes : List ℕ) → EndsRise (plain_of k f live number nodes)
+ends_rise k f live number [] i = tt
+ends_rise k f live number (n ∷ ns) zero = rising (is_at_end live (node_at f n).end) 0 f.values
+ends_rise k f live number (n ∷ ns) (suc i) = ends_rise k f live number ns i
 
 pub in_flow : (f : Flow) (t : List ℕ) → list_all (λ n. nat_lt n (length (code_nodes f.nodes))) t ≡ true → InFlow f t
 in_flow f [] h i l = absurd (omega (arith, l))

@@ -3,7 +3,7 @@
 ghost use Rattle.std.specs.Prelude.{◌≡◌, ℕ, ◌<◌, ◌≤◌, length, IfOk, OnOk};
 ghost use Rattle.global_live.specs.Reading.{HasLive};
 ghost use Rattle.lir_core.specs.Flows.{IsValidFlow, IsTrace, code_nodes};
-ghost use Rattle.lir_core.specs.Sound.{IsSound};
+ghost use Rattle.lir_core.specs.Sound.{IsSound, EndsRise};
 ghost use Rattle.trivial_alloc.specs.Plain.{plain_of};
 ghost use Rattle.trivial_alloc.specs.Parts.{ArePushed};
 
@@ -20,6 +20,7 @@ pub fn plain(alloc: Global, t: &TraceIn) -> Result<TraceOut, Memory>
         → IfOk result (λ out. out ≡ plain_of t.now.regs t.now.flow.now t.now.live.now t.now.number t.now.trace.now.nodes) }
     ensures sound { IsValidFlow t.now.flow.now → HasLive t.now.flow.now t.now.live.now → IsTrace (code_nodes t.now.flow.now.nodes) t.now.trace.now.nodes → 4 ≤ t.now.regs
         → IfOk result (λ out. IsSound t.now.regs t.now.flow.now t.now.trace.now out) }
+    ensures rises { IsTrace (code_nodes t.now.flow.now.nodes) t.now.trace.now.nodes → IfOk result EndsRise }
 {
     let mut parts = Parts {
         starts: Vec::new(alloc),

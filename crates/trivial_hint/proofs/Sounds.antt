@@ -15,7 +15,7 @@ use Rattle.lir_core.specs.Flows.{code_node, code_nodes}
 use Rattle.lir_core.specs.Rows.{has_bit}
 use Rattle.lir_core.specs.Spots.{get, in_register, placed, IsRising, IsRow}
 use Rattle.lir_core.specs.Lines.{end_reads}
-use Rattle.lir_core.specs.Sound.{IsStart, IsEnd, AreSoundLines, IsSoundNode, IsSound, room_of}
+use Rattle.lir_core.specs.Sound.{IsStart, IsEnd, AreSoundLines, IsSoundNode, IsSound, EndsRise, room_of}
 use Rattle.global_live.proofs.Lists.{has-filter}
 use Rattle.live_interval.specs.Needs.{live_into}
 use Rattle.loc_state.specs.Registers.{register_of}
@@ -86,12 +86,14 @@ module _ (x : Case) (ns : List ℕ) (hint : Option Hint) (given : IsInput x ns h
   -- places that have all that is live and nothing else
   record HasAll (s : Places) : Type 0 where
     row : IsRow x.regs s
+    rises : IsRising s.homed
     covers : (v : ℕ) → Live bls v n → placed s v ≡ true
     only : (v : ℕ) → placed s v ≡ true → Live bls v n
 
   afresh : HasAll (trivial_start x n None)
   afresh = record {
-    row = record { registers = length-replicate {A = Option ℕ} x.regs None; single = λ r t v e f. absurd (get_none x.regs r v e); rising = filter_rises (has_bit x.rows n) (places_from 0 x.flow.values) (places_rise 0 x.flow.values) };
+    row = record { registers = length-replicate {A = Option ℕ} x.regs None; single = λ r t v e f. absurd (get_none x.regs r v e) };
+    rises = filter_rises (has_bit x.rows n) (places_from 0 x.flow.values) (places_rise 0 x.flow.values);
     covers = λ v l. in_home (trivial_start x n None) v (in_live_into (λ a b. None) x.flow x.rows given.valid given.live v n l);
     only = λ v h. by v (either (trivial_start x n None) v h);
   }
@@ -102,7 +104,8 @@ module _ (x : Case) (ns : List ℕ) (hint : Option Hint) (given : IsInput x ns h
 
   behind : (h : Hint) → FitsHead x.regs bls (n ∷ []) (Some h) → HasAll (trivial_start x n (Some h))
   behind h fit = record {
-    row = record { registers = length-map h.places.regs (if_live (has_bit x.rows n)) ∙ fit.row.registers; single = λ r t v e f. fit.row.single r t v (get_live (has_bit x.rows n) h.places.regs r v e).0 (get_live (has_bit x.rows n) h.places.regs t v f).0; rising = filter_rises (has_bit x.rows n) h.places.homed fit.row.rising };
+    row = record { registers = length-map h.places.regs (if_live (has_bit x.rows n)) ∙ fit.row.registers; single = λ r t v e f. fit.row.single r t v (get_live (has_bit x.rows n) h.places.regs r v e).0 (get_live (has_bit x.rows n) h.places.regs t v f).0 };
+    rises = filter_rises (has_bit x.rows n) h.places.homed fit.rises;
     covers = λ v l. stays v (either h.places v (fit.live v l)) (given.live.whole n v l);
     only = λ v e. given.live.exact n v (by v (either (trivial_start x n (Some h)) v e));
   }
@@ -118,6 +121,7 @@ module _ (x : Case) (ns : List ℕ) (hint : Option Hint) (given : IsInput x ns h
   node_sound : (s : Places) → HasAll s → IsSoundNode (room_of x.regs x.flow) bls n s [] [] s
   node_sound s h = record {
     row = (h.row, h.row);
+    rises = h.rises;
     starts = record { live = h.covers; wanted = subst (λ bl. (v : ℕ) → has bl.params v ≡ true → Rattle.block_runs.specs.Live.IsWanted bls bl bl.ops v → placed s v ≡ true) (sym here) (λ v p w. cc); only = λ v e. inl (h.only v e) };
     ends = record {
       read = subst (λ bl. (v : ℕ) → has (end_uses bl.end) v ≡ true → placed s v ≡ true) (sym here) (λ v e. h.covers v (Here n plain there refl e));
@@ -126,11 +130,11 @@ module _ (x : Case) (ns : List ℕ) (hint : Option Hint) (given : IsInput x ns h
     lines_sound = subst (λ bl. AreSoundLines (room_of x.regs x.flow) bl.ops (end_reads bl.end) s [] [] s) (sym here) (record { in_range = tt; named_below = tt; simulates = λ values content holds. record { done = refl; uses = refl; places = holds } });
   }
 
-  pub trivial_sound : (number : ℕ) → IsSound x.regs x.flow (record { nodes = ns }) (trivial x number ns hint)
-  trivial_sound number = subst (λ ms. IsSound x.regs x.flow (record { nodes = ms }) (trivial x number ms hint)) (sym is.one) (record {
+  pub trivial_sound : (number : ℕ) → IsSound x.regs x.flow (record { nodes = ns }) (trivial x number ns hint) × EndsRise (trivial x number ns hint)
+  trivial_sound number = subst (λ ms. IsSound x.regs x.flow (record { nodes = ms }) (trivial x number ms hint) × EndsRise (trivial x number ms hint)) (sym is.one) (record {
     counts = (refl, refl, refl, refl);
     nodes = λ i l. at i l;
-  })
+  }, rise)
     where
       s : Places
       s = trivial_start x n hint
@@ -145,6 +149,10 @@ module _ (x : Case) (ns : List ℕ) (hint : Option Hint) (given : IsInput x ns h
       at : (i : ℕ) → i < 1 → IsSoundNode (room_of x.regs x.flow) bls (get_or (n ∷ []) i 0) (get_or (trivial_start x n hint ∷ []) i Rattle.lir_core.specs.Sound.no_places) (get_or ([] ∷ []) i []) (get_or ([] ∷ []) i []) (get_or (trivial_start x n hint ∷ []) i Rattle.lir_core.specs.Sound.no_places)
       at zero l = node_sound (trivial_start x n hint) (good hint fits)
       at (suc i) l = absurd (omega (arith, l))
+
+      rise : (i : ℕ) → IsRising (get_or (trivial_start x n hint ∷ []) i Rattle.lir_core.specs.Sound.no_places).homed
+      rise zero = (good hint fits).rises
+      rise (suc i) = tt
 
 ---- The code's result
 

@@ -1,7 +1,7 @@
 //! The call.
 
 ghost use Rattle.std.specs.Prelude.{◌≡◌, [], IfOk};
-ghost use Rattle.lir_core.specs.Sound.{IsSound};
+ghost use Rattle.lir_core.specs.Sound.{IsSound, EndsRise};
 ghost use Rattle.linear_scan.specs.Inputs.{case_of, hint_of, lent, IsInput};
 ghost use Rattle.trivial_hint.specs.Trivial.{trivial, trivial_start, IsTrivial};
 
@@ -16,6 +16,8 @@ pub fn trivial(alloc: Global, t: &TraceIn, hint: Option<&Places>) -> Result<Trac
     ensures trivial { IfOk result (λ out. out ≡ trivial (case_of t.now) t.now.number t.now.trace.now.nodes (hint_of t.now.from (lent hint.entry))) }
     ensures sound { IsInput (case_of t.now) t.now.trace.now.nodes (hint_of t.now.from (lent hint.entry))
         → IsTrivial t.now.flow.now t.now.trace.now.nodes → IfOk result (IsSound t.now.regs t.now.flow.now t.now.trace.now) }
+    ensures rises { IsInput (case_of t.now) t.now.trace.now.nodes (hint_of t.now.from (lent hint.entry))
+        → IsTrivial t.now.flow.now t.now.trace.now.nodes → IfOk result EndsRise }
 {
     let nodes = t.trace.nodes.as_slice();
     let mut out = empty(alloc, t.number);

@@ -1,7 +1,7 @@
 use Rattle.std.proofs.Common.{ℕ, List, arith, subst, sym, ap, length, get_or, ◌<◌}
 use Rattle.lir_core.specs.declared.places.TraceOut.{TraceOut}
-use Rattle.lir_core.specs.Sound.{IsSound}
-use Rattle.trivial_alloc.proofs.Sounds.{sound, in_flow, parts_more, out_is}
+use Rattle.lir_core.specs.Sound.{IsSound, EndsRise}
+use Rattle.trivial_alloc.proofs.Sounds.{sound, ends_rise, in_flow, parts_more, out_is}
 use Rattle.trivial_alloc.proofs.allocating.plain.Goals as goal
 
 pub loop-number-preserved : goal.loop-number-preserved
@@ -25,3 +25,8 @@ returns-clause-sound c valid live trace few =
     let t = c.args.t.now in
     subst (λ (out : TraceOut). IsSound t.regs t.flow.now t.trace.now out) (sym (returns-clause-result_is c trace))
     (sound t.regs t.flow.now t.live.now valid live few t.trace.now t.number (in_flow t.flow.now t.trace.now.nodes trace.nodes))
+
+pub returns-clause-rises : goal.returns-clause-rises
+returns-clause-rises c trace =
+    let t = c.args.t.now in
+    subst EndsRise (sym (returns-clause-result_is c trace)) (ends_rise t.regs t.flow.now t.live.now t.number t.trace.now.nodes)

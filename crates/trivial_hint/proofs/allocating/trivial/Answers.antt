@@ -1,7 +1,7 @@
 use Rattle.std.proofs.Common.{◌≡◌, ◌<◌, [], ◌∷◌, length, get_or, sym, subst, arith}
 use Rattle.std.proofs.lemmas.Grind.{common_steps}
 use Rattle.lir_core.specs.declared.places.TraceOut.{TraceOut}
-use Rattle.lir_core.specs.Sound.{IsSound}
+use Rattle.lir_core.specs.Sound.{IsSound, EndsRise}
 use Rattle.linear_scan.specs.Inputs.{case_of, hint_of, lent}
 use Rattle.trivial_hint.specs.Trivial.{trivial_start, trivial}
 use Rattle.trivial_hint.proofs.Sounds.{made_is, trivial_sound}
@@ -22,4 +22,7 @@ returns-clause-trivial c = is c
 
 pub returns-clause-sound : goal.returns-clause-sound
 returns-clause-sound c given triv =
-    subst (IsSound c.args.t.now.regs c.args.t.now.flow.now c.args.t.now.trace.now) (sym (is c)) (trivial_sound (case_of c.args.t.now) c.args.t.now.trace.now.nodes (hint_of c.args.t.now.from (lent c.args.hint)) given triv c.args.t.now.number)
+    subst (IsSound c.args.t.now.regs c.args.t.now.flow.now c.args.t.now.trace.now) (sym (is c)) (trivial_sound (case_of c.args.t.now) c.args.t.now.trace.now.nodes (hint_of c.args.t.now.from (lent c.args.hint)) given triv c.args.t.now.number).0
+
+pub returns-clause-rises : goal.returns-clause-rises
+returns-clause-rises c given triv = subst EndsRise (sym (is c)) (trivial_sound (case_of c.args.t.now) c.args.t.now.trace.now.nodes (hint_of c.args.t.now.from (lent c.args.hint)) given triv c.args.t.now.number).1
