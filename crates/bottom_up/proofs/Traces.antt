@@ -11,15 +11,16 @@ use Rattle.lir_core.specs.Spots.{in_register, placed}
 use Rattle.lir_core.specs.Lines.{end_reads, Room}
 use Rattle.lir_core.specs.Walks.{Walks}
 use Rattle.lir_core.specs.Sound.{IsSoundNode, IsSound, EndsRise, AreSoundLines, room_of}
+use Rattle.lir_core.specs.Rows.{live_into}
 use Rattle.lir_core.proofs.Walking.{walked}
 use Rattle.global_live.specs.Reading.{HasLive}
 use Rattle.global_live.proofs.Lists.{has_back, has-filter, in_parts}
-use Rattle.live_interval.specs.Needs.{live_into, first_of}
+use Rattle.live_interval.specs.Needs.{first_of}
 use Rattle.loc_state.specs.Walked.{AllWalk}
 use Rattle.loc_state.proofs.Homing.{has_all_inserted}
 use Rattle.loc_state.proofs.Numbers.{either, in_reg, in_home}
 use Rattle.loc_back.specs.declared.backward.Backward.{Backward}
-use Rattle.loc_back.specs.Marks.{live_at, at_start, at_end, marked, with_marks, starts_marked, ends_marked}
+use Rattle.loc_back.specs.Marks.{at_start, at_end, marked, with_marks, starts_marked, ends_marked}
 use Rattle.loc_back.specs.Steps.{started, left_node, closed}
 use Rattle.loc_back.specs.Served.{Section, lives_from, Route, section_of, sections, tasks}
 use Rattle.loc_back.proofs.MarkedSets.{has_marked, marked_rises}
@@ -131,7 +132,7 @@ module _ (x : Case) (mention : ℕ → ℕ → Option ℕ) (valid : IsValidFlow 
         homes : has (marked homed b.before []) v ≡ true → Live blocks v n ⊎ (has node.params v ≡ true)
         homes q =
             let m = both (has b.before v) (has homed v) (sym (has_marked homed b.before [] v) ∙ q) in
-            ⊎_elim (λ l. inl (live.exact n v (Rattle.std.proofs.lemmas.Bool.and_parts (has (Rattle.run_laws.specs.Layers.places_from 0 x.flow.values) v) (Rattle.lir_core.specs.Rows.has_bit x.rows n v) (sym (has-filter (Rattle.lir_core.specs.Rows.has_bit x.rows n) (Rattle.run_laws.specs.Layers.places_from 0 x.flow.values) v) ∙ l)).1)) inr (in_parts (live_at x.flow.values x.rows n) node.params v m.0)
+            ⊎_elim (λ l. inl (live.exact n v (Rattle.std.proofs.lemmas.Bool.and_parts (has (Rattle.run_laws.specs.Layers.places_from 0 x.flow.values) v) (Rattle.lir_core.specs.Rows.has_bit x.rows n v) (sym (has-filter (Rattle.lir_core.specs.Rows.has_bit x.rows n) (Rattle.run_laws.specs.Layers.places_from 0 x.flow.values) v) ∙ l)).1)) inr (in_parts (live_into x.flow.values x.rows n) node.params v m.0)
 
     end_placed : (v : ℕ) → has b.after v ≡ true → placed end v ≡ true
     end_placed v h = placed_marked e.regs homed b.after v h (k.end_covers v h)

@@ -9,10 +9,10 @@ ghost use Rattle.lir_core.specs.Spots.{get};
 ghost use Rattle.bottom_up.specs.Policy.{is_empty, own_or_lowest, seated_at, with_use, with_arguments, with_first, before_call, register_in, call_one, take_one, take_all, made_in, operate, operate_all};
 
 use crate::choosing::victim;
-use lir_core::{Lir, Template};
+use lir_core::{Lir, Template, is_aimed};
 use live_interval::Mentions;
 use loc_back::Backward;
-use loc_state::{Registers, has_register, is_aimed, lowest_empty, register_of};
+use loc_state::{Registers, has_register, lowest_empty, register_of};
 use outside::Memory;
 use std::alloc::{AllocError, Global};
 

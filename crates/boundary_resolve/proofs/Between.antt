@@ -14,12 +14,11 @@ use Rattle.lir_core.specs.declared.flow.Node.{Node}
 use Rattle.lir_core.specs.declared.flow.Flow.{Flow}
 use Rattle.lir_core.specs.declared.flow.Trace.{Trace}
 use Rattle.lir_core.specs.declared.places.TraceOut.{TraceOut}
-use Rattle.lir_core.specs.Flows.{code_node, code_nodes, leads, preds_of}
+use Rattle.lir_core.specs.Flows.{code_node, code_nodes, leads, preds_of, no_node, node_at}
 use Rattle.lir_core.specs.Spots.{IsRising, IsRow, placed, in_register, argument_of, TakesOver}
 use Rattle.lir_core.specs.Sound.{IsStart, IsEnd, IsSoundNode, room_of, no_places}
 use Rattle.global_live.proofs.Lists.{has-append, has_front, has_one, times_of_out, all_below_in}
 use Rattle.global_live.proofs.Tables.{has-preds_of, at_block}
-use Rattle.trace_build.specs.Traces.{no_node, node_at}
 use Rattle.trace_build.specs.Parents.{trace_at}
 use Rattle.trace_build.specs.Cuts.{lists_of, all_nodes}
 use Rattle.parallel_move.specs.declared.step.Step.{Step}

@@ -11,8 +11,8 @@ use Rattle.lir_core.specs.declared.places.Places.{Places}
 use Rattle.lir_core.specs.declared.places.TraceOut.{TraceOut}
 use Rattle.lir_core.specs.Spots.{IsRising, argument_of}
 use Rattle.lir_core.specs.Lines.{AreDistinct}
+use Rattle.lir_core.specs.Flows.{node_at}
 use Rattle.global_live.proofs.Lists.{not_in_front, not_in_back}
-use Rattle.trace_build.specs.Traces.{node_at}
 use Rattle.trace_build.specs.Cuts.{lists_of, all_nodes}
 use Rattle.parallel_move.specs.declared.step.Step.{Step}
 use Rattle.parallel_move.specs.Order.{order_of}

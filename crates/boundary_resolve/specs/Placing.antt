@@ -9,7 +9,7 @@ use Rattle.lir_core.specs.declared.places.Line.{Line}
 use Rattle.lir_core.specs.declared.places.TraceOut.{TraceOut}
 use Rattle.lir_core.specs.Spots.{argument_of}
 use Rattle.lir_core.specs.Sound.{no_places}
-use Rattle.trace_build.specs.Traces.{node_at}
+use Rattle.lir_core.specs.Flows.{node_at}
 use Rattle.trace_build.specs.Cuts.{lists_of, all_nodes}
 use Rattle.parallel_move.specs.declared.step.Step.{Step}
 use Rattle.parallel_move.specs.Order.{order_of}

@@ -3,7 +3,7 @@
 ghost use Rattle.std.specs.Prelude.{◌≡◌, ℕ, ◌≤◌, ◌++◌, ◌∷◌, [], map, flat_map, length, None, IfOk, OnOk, slice_index_or};
 ghost use Rattle.run_laws.specs.Layers.{places_from};
 ghost use Rattle.lir_core.specs.Spots.{argument_of, IsRising};
-ghost use Rattle.trace_build.specs.Traces.{node_at};
+ghost use Rattle.lir_core.specs.Flows.{node_at};
 ghost use Rattle.parallel_move.specs.Order.{order_of};
 ghost use Rattle.boundary_resolve.specs.declared.placed.Placed.TheVariants.{Edge, Body};
 ghost use Rattle.boundary_resolve.specs.Moves.{edge_moves, entry_places, FewRegs};

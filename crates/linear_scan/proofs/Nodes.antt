@@ -13,13 +13,12 @@ use Rattle.block_runs.specs.Valid.{times}
 use Rattle.lir_core.specs.declared.flow.Lir.{Lir}
 use Rattle.lir_core.specs.declared.flow.Node.{Node}
 use Rattle.lir_core.specs.declared.places.Places.{Places}
-use Rattle.lir_core.specs.Flows.{operation_of, code_node, code_nodes, calls_marked, leads, IsValidFlow}
+use Rattle.lir_core.specs.Flows.{operation_of, code_node, code_nodes, calls_marked, leads, IsValidFlow, no_node}
 use Rattle.lir_core.specs.Spots.{get, placed, IsSingle, IsRising, IsRow}
 use Rattle.lir_core.specs.Lines.{end_reads, Room}
 use Rattle.lir_core.specs.Sound.{IsStart, IsEnd, IsSoundNode, AreSoundLines, room_of}
 use Rattle.lir_core.proofs.Walking.{walked}
 use Rattle.global_live.specs.Reading.{HasLive}
-use Rattle.global_live.specs.Search.{no_node}
 use Rattle.global_live.proofs.Lists.{not_in_front, not_in_back, times_of_in, times_of_out}
 use Rattle.live_interval.specs.Needs.{Position, at_start, at_operation, at_end, first_of, positions_of}
 use Rattle.live_interval.specs.Needs as needs

@@ -14,13 +14,13 @@ use Rattle.lir_core.specs.declared.places.Places.{Places}
 use Rattle.lir_core.specs.declared.places.Line.{Line}
 use Rattle.lir_core.specs.declared.places.TraceOut.{TraceOut}
 use Rattle.lir_core.specs.Flows.{code_nodes, leads, IsValidFlow, IsPath, IsTrace}
-use Rattle.lir_core.specs.Rows.{has_bit}
+use Rattle.lir_core.specs.Rows.{has_bit, live_into}
 use Rattle.lir_core.specs.Spots.{placed, IsSingle, IsRising}
 use Rattle.lir_core.specs.Lines.{Room}
 use Rattle.lir_core.specs.Sound.{IsSoundNode, IsSound, EndsRise, no_places, room_of}
 use Rattle.global_live.specs.Reading.{HasLive}
 use Rattle.global_live.proofs.Lists.{has-filter}
-use Rattle.live_interval.specs.Needs.{live_into, first_of, positions_of, next_need}
+use Rattle.live_interval.specs.Needs.{first_of, positions_of, next_need}
 use Rattle.loc_state.specs.declared.part.Part.{Part}
 use Rattle.loc_state.specs.declared.forward.Forward.{Forward}
 use Rattle.loc_state.specs.Steps.{places, begun, started, closed, in_part}

@@ -6,9 +6,8 @@ use Rattle.std.proofs.lemmas.List.{append-nil, take_more, drop_more, drop_all, t
 use Rattle.block_runs.specs.Live.{has}
 use Rattle.lir_core.specs.declared.flow.Trace.{Trace}
 use Rattle.lir_core.specs.declared.flow.Node.{Node}
-use Rattle.lir_core.specs.Flows.{code_node}
+use Rattle.lir_core.specs.Flows.{code_node, node_at}
 use Rattle.global_live.proofs.Lists.{has_front}
-use Rattle.trace_build.specs.Traces.{node_at}
 use Rattle.trace_build.specs.Parents.{trace_at, no_trace}
 use Rattle.trace_build.specs.Cuts.{lists_of, all_nodes, AllTraces}
 use Rattle.boundary_resolve.specs.declared.placed.Placed.{Placed}

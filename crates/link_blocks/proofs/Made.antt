@@ -6,9 +6,8 @@ use Rattle.block_runs.specs.Blocks.{CodeBlock, block_at}
 use Rattle.block_runs.specs.Live.{has}
 use Rattle.lir_core.specs.declared.flow.Flow.{Flow}
 use Rattle.lir_core.specs.declared.places.TraceOut.{TraceOut}
-use Rattle.lir_core.specs.Flows.{code_node, code_nodes}
+use Rattle.lir_core.specs.Flows.{code_node, code_nodes, node_at}
 use Rattle.lir_core.specs.Lines.{slots_of as slots_in_calls}
-use Rattle.trace_build.specs.Traces.{node_at}
 use Rattle.trace_build.specs.Cuts.{lists_of, all_nodes, AllTraces}
 use Rattle.boundary_resolve.specs.declared.placed.Placed.{Placed as Ahead}
 use Rattle.boundary_resolve.specs.Placing.{entry_steps, node_lines}

@@ -10,10 +10,9 @@ use Rattle.lir_core.specs.declared.places.Line.TheVariants.{Store, Load, Moves, 
 use Rattle.lir_core.specs.declared.places.Line.TheVariants.{Lir as Does}
 use Rattle.lir_core.specs.declared.places.TraceOut.{TraceOut}
 use Rattle.lir_core.specs.declared.flow.Trace.{Trace}
-use Rattle.lir_core.specs.Flows.{code_node, code_nodes}
+use Rattle.lir_core.specs.Flows.{code_node, code_nodes, node_at}
 use Rattle.lir_core.specs.Lines.{Room, LinesInRange}
 use Rattle.lir_core.specs.Sound.{room_of}
-use Rattle.trace_build.specs.Traces.{node_at}
 use Rattle.trace_build.specs.Parents.{trace_at}
 use Rattle.trace_build.specs.Cuts.{lists_of, all_nodes, AllTraces}
 use Rattle.parallel_move.specs.declared.step.Step.{Step}

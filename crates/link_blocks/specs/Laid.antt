@@ -1,11 +1,10 @@
 -- Blocks by number while a procedure's lines are read, and what a plan is made of.
 use Rattle.std.specs.Prelude.{◌≡◌, ◌≢◌, ℕ, ◌<◌, ◌≤◌, List, [], ◌∷◌, ◌++◌, map, length, get_or, flat_map, true, drop}
 use Rattle.block_runs.specs.Live.{has}
-use Rattle.lir_core.specs.Flows.{code_node}
+use Rattle.lir_core.specs.Flows.{code_node, node_at}
 use Rattle.lir_core.specs.declared.flow.Flow.{Flow}
 use Rattle.lir_core.specs.declared.flow.Node.{Node}
 use Rattle.lir_core.specs.declared.places.TraceOut.{TraceOut}
-use Rattle.trace_build.specs.Traces.{node_at}
 use Rattle.trace_build.specs.Cuts.{lists_of, all_nodes, AllTraces}
 use Rattle.boundary_resolve.specs.declared.placed.Placed.{Placed}
 use Rattle.boundary_resolve.specs.Placing.{placed_of, node_lines, registers_at}

@@ -3,8 +3,7 @@
 ghost use Rattle.std.specs.Prelude.{◌≡◌, ◌≢◌, ℕ, ◌+◌, ◌<◌, ◌++◌, ◌∷◌, List, length, map, drop, get_or, flat_map, true, OnOk, IfOk, IfErr};
 ghost use Rattle.placed_code.specs.Placed.{no_block};
 ghost use Rattle.std.specs.List.{list_all};
-ghost use Rattle.lir_core.specs.Flows.{code_node};
-ghost use Rattle.trace_build.specs.Traces.{node_at};
+ghost use Rattle.lir_core.specs.Flows.{code_node, node_at};
 ghost use Rattle.trace_build.specs.Cuts.{lists_of, all_nodes, AllTraces};
 ghost use Rattle.boundary_resolve.specs.Placing.{node_lines};
 ghost use Rattle.boundary_resolve.specs.Edges.{AreSound};

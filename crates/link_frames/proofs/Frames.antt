@@ -18,11 +18,10 @@ use Rattle.lir_core.specs.declared.places.Move.{Move}
 use Rattle.lir_core.specs.declared.places.Line.{Line}
 use Rattle.lir_core.specs.declared.places.Line.TheVariants.{Store, Load, Moves, Result, Target}
 use Rattle.lir_core.specs.declared.places.Line.TheVariants.{Lir as Does}
-use Rattle.lir_core.specs.Flows.{code_node, code_nodes}
+use Rattle.lir_core.specs.Flows.{code_node, code_nodes, node_at}
 use Rattle.lir_core.specs.Spots.{placed as holds, Spot, reg, home, out, target, saved, spot}
 use Rattle.lir_core.specs.Lines.{names, is_aimed, Room, InRange, MovesInRange, LinesInRange, slots_used, slots_in, slots_of}
 use Rattle.lir_core.specs.Sound.{room_of}
-use Rattle.trace_build.specs.Traces.{node_at}
 use Rattle.trace_build.specs.Cuts.{lists_of, AllTraces}
 use Rattle.boundary_resolve.specs.Moves.{entry_places, entry_argument}
 use Rattle.boundary_resolve.specs.Placing.{start_at, end_at, lines_at, registers_at, is_test, steps_between, steps_of_end, jump_steps, steps_from, test_steps, entry_steps}

@@ -1,5 +1,4 @@
 pub mod Halving
 pub mod Joining
-pub mod Passing
 pub mod Search
 pub mod Whole

@@ -1,30 +1,16 @@
 -- The positions of a trace, what each needs and mentions, and the first behind and the last before another.
-use Rattle.std.specs.Prelude.{◌≡◌, ℕ, suc, ◌+◌, ◌-◌, ◌<◌, ◌≤◌, ◌==◌, Bool, false, cond, List, [], ◌∷◌, ◌++◌, map, filter, take, drop, Option, Some, None, slice_get, option_to_list}
-use Rattle.run_laws.specs.Layers.{places_from}
+use Rattle.std.specs.Prelude.{ℕ, suc, ◌==◌, Bool, false, cond, List, [], ◌∷◌, ◌++◌, map, take, drop, Option, Some, None, slice_get, option_to_list}
 use Rattle.block_runs.specs.Blocks.{end_uses, successors}
 use Rattle.block_runs.specs.Live.{has}
 use Rattle.lir_core.specs.declared.flow.Lir.{Lir}
 use Rattle.lir_core.specs.declared.flow.Node.{Node}
 use Rattle.lir_core.specs.declared.flow.Flow.{Flow}
-use Rattle.lir_core.specs.Rows.{has_bit}
+use Rattle.lir_core.specs.Rows.{live_into}
 
 -- the values that a position needs, and those that it uses or makes
 pub record Position : Type 0 where
   pub needs : List ℕ
   pub mentions : List ℕ
-
--- of so many values those that are live into a node, by rows of bits
-abbrev pub live_into : ℕ → List (List ℕ) → ℕ → List ℕ
-live_into values rows n = filter (has_bit rows n) (places_from 0 values)
-
--- those of them from a number on
-abbrev pub live_from : ℕ → List (List ℕ) → ℕ → ℕ → List ℕ
-live_from values rows n from = filter (has_bit rows n) (places_from from (values - from))
-
--- the first of those from a number on, if there is one
-abbrev pub IsNextLive : ℕ → List (List ℕ) → ℕ → ℕ → Option ℕ → Type 0
-IsNextLive values rows n from None = live_from values rows n from ≡ []
-IsNextLive values rows n from (Some v) = (v < values) × (from ≤ v) × (live_from values rows n from ≡ v ∷ live_from values rows n (v + 1))
 
 abbrev pub is_next : Option ℕ → ℕ → Bool
 is_next None n = false

@@ -8,7 +8,6 @@
 
 mod asking;
 mod building;
-mod living;
 mod mentioning;
 mod needing;
 mod notes;
@@ -17,4 +16,3 @@ mod table;
 
 pub use asking::{Mentions, Needs};
 pub use building::{mentions, needs};
-pub use living::next_live;

@@ -2,7 +2,8 @@
 
 ghost use Rattle.std.specs.Prelude.{◌≡◌, ◌+◌, [], cond, map, Some, None, OnOk, slice_get};
 ghost use Rattle.block_runs.specs.Blocks.{successors};
-ghost use Rattle.live_interval.specs.Needs.{live_into, live_off, is_next, at_operation, at_end, in_node, positions_of};
+ghost use Rattle.lir_core.specs.Rows.{live_into};
+ghost use Rattle.live_interval.specs.Needs.{live_off, is_next, at_operation, at_end, in_node, positions_of};
 ghost use Rattle.live_interval.specs.Tables.{needed, passed, passed_all, noted_all, with_notes};
 
 use crate::table::Table;

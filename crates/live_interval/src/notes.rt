@@ -2,11 +2,10 @@
 
 ghost use Rattle.std.specs.Prelude.{◌≡◌, ℕ, [], IfOk, OnOk};
 ghost use Rattle.std.specs.List.Sorted.{IsNonDecreasingBy};
-ghost use Rattle.live_interval.specs.Needs.{live_into};
+ghost use Rattle.lir_core.specs.Rows.{live_into};
 ghost use Rattle.live_interval.specs.Tables.{noted, noted_all, row_in, is_before, position_of};
 
-use crate::living::next_live;
-use lir_core::LiveSets;
+use lir_core::{LiveSets, next_live};
 use std::alloc::{AllocError, Global};
 use std::marker::Model;
 

@@ -9,10 +9,10 @@ use Rattle.lir_core.specs.declared.flow.Node.{Node}
 use Rattle.lir_core.specs.declared.flow.Flow.{Flow}
 use Rattle.lir_core.specs.declared.places.Places.{Places}
 use Rattle.lir_core.specs.Lines.{end_reads}
-use Rattle.lir_core.specs.Rows.{has_bit}
+use Rattle.lir_core.specs.Rows.{has_bit, live_into}
 use Rattle.live_interval.specs.Needs.{first_of, last_mention}
 use Rattle.loc_back.specs.declared.backward.Backward.{Backward}
-use Rattle.loc_back.specs.Marks.{live_at, live_at_each, at_start, at_end, with_marks, starts_marked, ends_marked}
+use Rattle.loc_back.specs.Marks.{live_at_each, at_start, at_end, with_marks, starts_marked, ends_marked}
 use Rattle.loc_back.specs.Steps.{started, closed, in_part, before_node, left_node}
 use Rattle.linear_scan.specs.Linear.{Case, end_position, position_behind}
 use Rattle.bottom_up.specs.Policy.{take_all, operate_all}
@@ -22,7 +22,7 @@ use Rattle.alloc_choice.specs.Results.{case_with}
 use Rattle.one_image.proofs.Needs.{live_into_same, live_off_same, positions_same}
 
 module _ (rows others : List (List ℕ)) (e : has_bit rows ≡ has_bit others) where
-  live_at_same : (values n : ℕ) → live_at values rows n ≡ live_at values others n
+  live_at_same : (values n : ℕ) → live_into values rows n ≡ live_into values others n
   live_at_same values n = λ k. filter (e k n) (places_from 0 values)
 
   each_same : (values : ℕ) (ss : List ℕ) → live_at_each values rows ss ≡ live_at_each values others ss

@@ -13,7 +13,7 @@ use Rattle.lir_core.specs.declared.flow.Flow.{Flow}
 use Rattle.lir_core.specs.declared.flow.Trace.{Trace}
 use Rattle.lir_core.specs.declared.places.Places.{Places as LirPlaces}
 use Rattle.lir_core.specs.declared.places.TraceOut.{TraceOut}
-use Rattle.lir_core.specs.Flows.{code_node, code_nodes, leads, preds_of, IsTrace}
+use Rattle.lir_core.specs.Flows.{code_node, code_nodes, leads, preds_of, IsTrace, no_node}
 use Rattle.lir_core.specs.Rows.{NonePasses, IsLowest}
 use Rattle.lir_core.specs.Sound.{IsSound, EndsRise, no_places}
 use Rattle.global_live.proofs.Lists.{has-filter}
@@ -21,11 +21,11 @@ use Rattle.global_live.proofs.Tables.{has-preds_of, leads_there}
 use Rattle.trace_build.specs.Cuts.{lists_of, all_nodes, AllTraces}
 use Rattle.trace_build.specs.Parents.{trace_at, is_above, IsParent, AreParents}
 use Rattle.live_interval.specs.Needs.{first_of}
-use Rattle.live_interval.proofs.Passing.{none_from, one_from}
+use Rattle.lir_core.proofs.Passing.{none_from, one_from}
 use Rattle.linear_scan.specs.Linear.{Case, Hint}
 use Rattle.linear_scan.specs.Inputs.{IsFit, FitsHead, IsInput, hint_at}
 use Rattle.linear_scan.proofs.Traces.{ends_fit}
-use Rattle.trivial_alloc.specs.Plain.{index_of, no_node}
+use Rattle.trivial_alloc.specs.Plain.{index_of}
 use Rattle.trace_work.specs.declared.hints.Entering.{Entering}
 use Rattle.alloc_choice.specs.Results.{parent_of, entering, hint_from, out_at, hint_for, IsCase}
 use Rattle.trace_work.specs.Places.{placed_all, is_it, has_at, first_held, entering_by, hint_of_place, hint_by, if_row}

@@ -8,12 +8,11 @@ use Rattle.std.proofs.lemmas.List.{length-set, length-replicate, take_more}
 use Rattle.std.proofs.lemmas.Nat.Bits.{bit_at-zero}
 use Rattle.run_laws.specs.Layers.{places_from}
 use Rattle.block_runs.specs.Live.{has}
-use Rattle.lir_core.specs.Rows.{is_in, has_bit}
+use Rattle.lir_core.specs.Rows.{is_in, has_bit, live_into}
 use Rattle.global_live.specs.Rows.{with_value}
 use Rattle.global_live.proofs.Lists.{has-append, has-filter}
 use Rattle.global_live.proofs.Tables.{has_places}
 use Rattle.global_live.proofs.Bits.{value_in, value_beside}
-use Rattle.live_interval.specs.Needs.{live_into}
 use Rattle.trivial_alloc.specs.Plain.{picked}
 use Rattle.trivial_alloc.specs.Marks.{AreMarked, all_marked}
 

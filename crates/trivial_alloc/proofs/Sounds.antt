@@ -19,7 +19,7 @@ use Rattle.lir_core.specs.declared.places.TraceIn.{TraceIn}
 use Rattle.lir_core.specs.declared.places.Line.{Line}
 use Rattle.trivial_alloc.specs.declared.allocating.Parts.{Parts}
 use Rattle.trivial_alloc.specs.Parts.{ArePushed, AreParts}
-use Rattle.lir_core.specs.Flows.{operation_of, code_node, code_nodes, calls_marked, IsValidFlow}
+use Rattle.lir_core.specs.Flows.{operation_of, code_node, code_nodes, calls_marked, IsValidFlow, no_node, node_at}
 use Rattle.lir_core.specs.Rows.{has_bit}
 use Rattle.lir_core.specs.Spots.{get, in_register, placed, IsRising, IsRow}
 use Rattle.lir_core.specs.Lines.{end_reads, slots_in, slots_of}
@@ -28,7 +28,7 @@ use Rattle.lir_core.proofs.Walking.{walked}
 use Rattle.global_live.specs.Reading.{HasLive}
 use Rattle.global_live.proofs.Lists.{has_front, has_back, not_in_front, not_in_back, in_parts, has-filter, all_below_in}
 use Rattle.global_live.proofs.Tables.{at_block, has_places}
-use Rattle.trivial_alloc.specs.Plain.{no_node, node_at, picked, in_homes, is_at_start, is_at_end, plain_start, plain_end, node_lines, node_regs, plain_of, InFlow}
+use Rattle.trivial_alloc.specs.Plain.{picked, in_homes, is_at_start, is_at_end, plain_start, plain_end, node_lines, node_regs, plain_of, InFlow}
 use Rattle.trivial_alloc.proofs.Walked.{walks}
 use Rattle.trivial_alloc.proofs.Fitting.{parts, AreFit, all_fit, slots_at}
 
@@ -168,16 +168,16 @@ module _ (k : ℕ) (f : Flow) (live : List (List ℕ)) (valid : IsValidFlow f) (
   size : length (code_nodes f.nodes) ≡ length f.nodes
   size = length-map f.nodes code_node
 
-  block_is : (n : ℕ) → block_at (code_nodes f.nodes) n ≡ code_node (node_at f n)
+  block_is : (n : ℕ) → block_at (code_nodes f.nodes) n ≡ code_node (node_at f.nodes n)
   block_is n = blocks_at f.nodes n
 
   -- what a node reads or makes is one of the flow's values
-  read_below : (n v : ℕ) → has (block_reads (code_node (node_at f n))) v ≡ true → v < f.values
+  read_below : (n v : ℕ) → has (block_reads (code_node (node_at f.nodes n))) v ≡ true → v < f.values
   read_below n v h =
       let all : all_below f.values (block_reads (block_at (code_nodes f.nodes) n)) ≡ true = at_block (λ bl. all_below f.values (block_reads bl)) (code_nodes f.nodes) n valid.code.read_below refl in
       all_below_in f.values (block_reads (block_at (code_nodes f.nodes) n)) v all (ap (λ (b : CodeBlock). has (block_reads b) v) (block_is n) ∙ h)
 
-  made_below : (n v : ℕ) → n < length f.nodes → has (block_makes (code_node (node_at f n))) v ≡ true → v < f.values
+  made_below : (n v : ℕ) → n < length f.nodes → has (block_makes (code_node (node_at f.nodes n))) v ≡ true → v < f.values
   made_below n v l h = all_below_in f.values (made (code_nodes f.nodes)) v valid.code.made_below (made_in (code_nodes f.nodes) n v (omega (arith, l, size)) (ap (λ (b : CodeBlock). has (block_makes b) v) (block_is n) ∙ h))
 
   live_below : (v n : ℕ) → Live (code_nodes f.nodes) v n → v < f.values
@@ -188,109 +188,109 @@ module _ (k : ℕ) (f : Flow) (live : List (List ℕ)) (valid : IsValidFlow f) (
 
   module _ (n : ℕ) (there : n < length f.nodes) where
     node : Node
-    node = node_at f n
+    node = node_at f.nodes n
 
-    at_start : (v : ℕ) → v < f.values → is_at_start live n (node_at f n) v ≡ true → has (picked f.values (is_at_start live n (node_at f n))) v ≡ true
-    at_start v l h = is_picked f.values (is_at_start live n (node_at f n)) v l h
+    at_start : (v : ℕ) → v < f.values → is_at_start live n (node_at f.nodes n) v ≡ true → has (picked f.values (is_at_start live n (node_at f.nodes n))) v ≡ true
+    at_start v l h = is_picked f.values (is_at_start live n (node_at f.nodes n)) v l h
 
-    live_start : (v : ℕ) → Live (code_nodes f.nodes) v n → has (picked f.values (is_at_start live n (node_at f n))) v ≡ true
-    live_start v h = at_start v (live_below v n h) (or_front (has_bit live n v) (has (node_at f n).params v) (rows.whole n v h))
+    live_start : (v : ℕ) → Live (code_nodes f.nodes) v n → has (picked f.values (is_at_start live n (node_at f.nodes n))) v ≡ true
+    live_start v h = at_start v (live_below v n h) (or_front (has_bit live n v) (has (node_at f.nodes n).params v) (rows.whole n v h))
 
-    param_start : (v : ℕ) → has (node_at f n).params v ≡ true → has (picked f.values (is_at_start live n (node_at f n))) v ≡ true
-    param_start v h = at_start v (made_below n v there (has_front (node_at f n).params (defs_of (map operation_of (node_at f n).lirs)) v h)) (or_back (has_bit live n v) (has (node_at f n).params v) h)
+    param_start : (v : ℕ) → has (node_at f.nodes n).params v ≡ true → has (picked f.values (is_at_start live n (node_at f.nodes n))) v ≡ true
+    param_start v h = at_start v (made_below n v there (has_front (node_at f.nodes n).params (defs_of (map operation_of (node_at f.nodes n).lirs)) v h)) (or_back (has_bit live n v) (has (node_at f.nodes n).params v) h)
 
-    here : slice_get (code_nodes f.nodes) n ≡ Some (code_node (node_at f n))
+    here : slice_get (code_nodes f.nodes) n ≡ Some (code_node (node_at f.nodes n))
     here = slice_get-get_or (code_nodes f.nodes) n no_block (omega (arith, there, size)) ∙ ap Some (block_is n)
 
     -- what operations and the end read before they make it is there at the start
-    wanted : (v : ℕ) → reads (map operation_of (node_at f n).lirs) (node_at f n).end v ≡ true → has (picked f.values (is_at_start live n (node_at f n))) v ≡ true
-    wanted v h = at_param (has (node_at f n).params v) refl
+    wanted : (v : ℕ) → reads (map operation_of (node_at f.nodes n).lirs) (node_at f.nodes n).end v ≡ true → has (picked f.values (is_at_start live n (node_at f.nodes n))) v ≡ true
+    wanted v h = at_param (has (node_at f.nodes n).params v) refl
       where
-        at_param : (b : Bool) → has (node_at f n).params v ≡ b → has (picked f.values (is_at_start live n (node_at f n))) v ≡ true
+        at_param : (b : Bool) → has (node_at f.nodes n).params v ≡ b → has (picked f.values (is_at_start live n (node_at f.nodes n))) v ≡ true
         at_param true e = param_start v e
-        at_param false e = live_start v (Here n (code_node (node_at f n)) here e h)
+        at_param false e = live_start v (Here n (code_node (node_at f.nodes n)) here e h)
 
-    end_there : (v : ℕ) → has (end_uses (node_at f n).end) v ≡ true → (has (defs_of (map operation_of (node_at f n).lirs)) v || has (picked f.values (is_at_start live n (node_at f n))) v) ≡ true
-    end_there v h = at_def (has (defs_of (map operation_of (node_at f n).lirs)) v) refl
+    end_there : (v : ℕ) → has (end_uses (node_at f.nodes n).end) v ≡ true → (has (defs_of (map operation_of (node_at f.nodes n).lirs)) v || has (picked f.values (is_at_start live n (node_at f.nodes n))) v) ≡ true
+    end_there v h = at_def (has (defs_of (map operation_of (node_at f.nodes n).lirs)) v) refl
       where
-        at_def : (b : Bool) → has (defs_of (map operation_of (node_at f n).lirs)) v ≡ b → (b || has (picked f.values (is_at_start live n (node_at f n))) v) ≡ true
+        at_def : (b : Bool) → has (defs_of (map operation_of (node_at f.nodes n).lirs)) v ≡ b → (b || has (picked f.values (is_at_start live n (node_at f.nodes n))) v) ≡ true
         at_def true e = refl
-        at_def false e = wanted v (reads_at_end (map operation_of (node_at f n).lirs) (node_at f n).end v h e)
+        at_def false e = wanted v (reads_at_end (map operation_of (node_at f.nodes n).lirs) (node_at f.nodes n).end v h e)
 
     -- what is live behind the node is made there or there at its start
-    behind_there : (v to : ℕ) → has (successors (node_at f n).end) to ≡ true → Live (code_nodes f.nodes) v to → (has (defs_of (map operation_of (node_at f n).lirs)) v || has (picked f.values (is_at_start live n (node_at f n))) v) ≡ true
-    behind_there v to edge on = at_made (has (block_makes (code_node (node_at f n))) v) refl
+    behind_there : (v to : ℕ) → has (successors (node_at f.nodes n).end) to ≡ true → Live (code_nodes f.nodes) v to → (has (defs_of (map operation_of (node_at f.nodes n).lirs)) v || has (picked f.values (is_at_start live n (node_at f.nodes n))) v) ≡ true
+    behind_there v to edge on = at_made (has (block_makes (code_node (node_at f.nodes n))) v) refl
       where
-        at_made : (b : Bool) → has (block_makes (code_node (node_at f n))) v ≡ b → (has (defs_of (map operation_of (node_at f n).lirs)) v || has (picked f.values (is_at_start live n (node_at f n))) v) ≡ true
+        at_made : (b : Bool) → has (block_makes (code_node (node_at f.nodes n))) v ≡ b → (has (defs_of (map operation_of (node_at f.nodes n).lirs)) v || has (picked f.values (is_at_start live n (node_at f.nodes n))) v) ≡ true
         at_made true e = ⊎_elim
-            (λ p. or_back (has (defs_of (map operation_of (node_at f n).lirs)) v) (has (picked f.values (is_at_start live n (node_at f n))) v) (param_start v p))
-            (λ d. or_front (has (defs_of (map operation_of (node_at f n).lirs)) v) (has (picked f.values (is_at_start live n (node_at f n))) v) d)
-            (in_parts (node_at f n).params (defs_of (map operation_of (node_at f n).lirs)) v e)
-        at_made false e = or_back (has (defs_of (map operation_of (node_at f n).lirs)) v) (has (picked f.values (is_at_start live n (node_at f n))) v) (live_start v (Later n to (code_node (node_at f n)) here e edge on))
+            (λ p. or_back (has (defs_of (map operation_of (node_at f.nodes n).lirs)) v) (has (picked f.values (is_at_start live n (node_at f.nodes n))) v) (param_start v p))
+            (λ d. or_front (has (defs_of (map operation_of (node_at f.nodes n).lirs)) v) (has (picked f.values (is_at_start live n (node_at f.nodes n))) v) d)
+            (in_parts (node_at f.nodes n).params (defs_of (map operation_of (node_at f.nodes n).lirs)) v e)
+        at_made false e = or_back (has (defs_of (map operation_of (node_at f.nodes n).lirs)) v) (has (picked f.values (is_at_start live n (node_at f.nodes n))) v) (live_start v (Later n to (code_node (node_at f.nodes n)) here e edge on))
 
-    ends_there : (v : ℕ) → has (picked f.values (is_at_end live (node_at f n).end)) v ≡ true → (has (defs_of (map operation_of (node_at f n).lirs)) v || has (picked f.values (is_at_start live n (node_at f n))) v) ≡ true
+    ends_there : (v : ℕ) → has (picked f.values (is_at_end live (node_at f.nodes n).end)) v ≡ true → (has (defs_of (map operation_of (node_at f.nodes n).lirs)) v || has (picked f.values (is_at_start live n (node_at f.nodes n))) v) ≡ true
     ends_there v h =
-        let w = was_picked f.values (is_at_end live (node_at f n).end) v h in
-        ⊎_elim (λ a. let s = any_at (λ to. has_bit live to v) (successors (node_at f n).end) a in behind_there v s.0 s.1 (rows.exact s.0 v s.2)) (λ b. end_there v b) (or_cases (list_any (λ to. has_bit live to v) (successors (node_at f n).end)) (has (end_uses (node_at f n).end) v) w.1)
+        let w = was_picked f.values (is_at_end live (node_at f.nodes n).end) v h in
+        ⊎_elim (λ a. let s = any_at (λ to. has_bit live to v) (successors (node_at f.nodes n).end) a in behind_there v s.0 s.1 (rows.exact s.0 v s.2)) (λ b. end_there v b) (or_cases (list_any (λ to. has_bit live to v) (successors (node_at f.nodes n).end)) (has (end_uses (node_at f.nodes n).end) v) w.1)
 
     starts : IsStart (code_nodes f.nodes) n (plain_start k f live n)
     starts = record {
-      live = λ v h. placed_home k (picked f.values (is_at_start live n (node_at f n))) v ∙ live_start v h;
-      wanted = λ v p w. placed_home k (picked f.values (is_at_start live n (node_at f n))) v ∙ param_start v (sym (ap (λ (b : CodeBlock). has b.params v) (block_is n)) ∙ p);
+      live = λ v h. placed_home k (picked f.values (is_at_start live n (node_at f.nodes n))) v ∙ live_start v h;
+      wanted = λ v p w. placed_home k (picked f.values (is_at_start live n (node_at f.nodes n))) v ∙ param_start v (sym (ap (λ (b : CodeBlock). has b.params v) (block_is n)) ∙ p);
       only = λ v h.
-          let w = was_picked f.values (is_at_start live n (node_at f n)) v (sym (placed_home k (picked f.values (is_at_start live n (node_at f n))) v) ∙ h) in
-          ⊎_elim (λ a. inl (rows.exact n v a)) (λ b. inr (ap (λ (x : CodeBlock). has x.params v) (block_is n) ∙ b)) (or_cases (has_bit live n v) (has (node_at f n).params v) w.1);
+          let w = was_picked f.values (is_at_start live n (node_at f.nodes n)) v (sym (placed_home k (picked f.values (is_at_start live n (node_at f.nodes n))) v) ∙ h) in
+          ⊎_elim (λ a. inl (rows.exact n v a)) (λ b. inr (ap (λ (x : CodeBlock). has x.params v) (block_is n) ∙ b)) (or_cases (has_bit live n v) (has (node_at f.nodes n).params v) w.1);
     }
 
     ends : IsEnd (code_nodes f.nodes) n (plain_end k f live n)
     ends = record {
       read = λ v h.
-          let e : has (end_uses (node_at f n).end) v ≡ true = sym (ap (λ (b : CodeBlock). has (end_uses b.end) v) (block_is n)) ∙ h in
-          placed_home k (picked f.values (is_at_end live (node_at f n).end)) v
-          ∙ is_picked f.values (is_at_end live (node_at f n).end) v (read_below n v (has_back (uses_of (map operation_of (node_at f n).lirs)) (end_uses (node_at f n).end) v e)) (or_back (list_any (λ to. has_bit live to v) (successors (node_at f n).end)) (has (end_uses (node_at f n).end) v) e);
+          let e : has (end_uses (node_at f.nodes n).end) v ≡ true = sym (ap (λ (b : CodeBlock). has (end_uses b.end) v) (block_is n)) ∙ h in
+          placed_home k (picked f.values (is_at_end live (node_at f.nodes n).end)) v
+          ∙ is_picked f.values (is_at_end live (node_at f.nodes n).end) v (read_below n v (has_back (uses_of (map operation_of (node_at f.nodes n).lirs)) (end_uses (node_at f.nodes n).end) v e)) (or_back (list_any (λ to. has_bit live to v) (successors (node_at f.nodes n).end)) (has (end_uses (node_at f.nodes n).end) v) e);
       live = λ v h.
-          placed_home k (picked f.values (is_at_end live (node_at f n).end)) v
-          ∙ is_picked f.values (is_at_end live (node_at f n).end) v (live_below v h.0 h.2) (or_front (list_any (λ to. has_bit live to v) (successors (node_at f n).end)) (has (end_uses (node_at f n).end) v) (some_at (λ to. has_bit live to v) (successors (node_at f n).end) h.0 (sym (ap (λ (b : CodeBlock). has (successors b.end) h.0) (block_is n)) ∙ h.1) (rows.whole h.0 v h.2)));
+          placed_home k (picked f.values (is_at_end live (node_at f.nodes n).end)) v
+          ∙ is_picked f.values (is_at_end live (node_at f.nodes n).end) v (live_below v h.0 h.2) (or_front (list_any (λ to. has_bit live to v) (successors (node_at f.nodes n).end)) (has (end_uses (node_at f.nodes n).end) v) (some_at (λ to. has_bit live to v) (successors (node_at f.nodes n).end) h.0 (sym (ap (λ (b : CodeBlock). has (successors b.end) h.0) (block_is n)) ∙ h.1) (rows.whole h.0 v h.2)));
     }
 
-    fit : AreFit (room_of k f) f.args (node_at f n).lirs
+    fit : AreFit (room_of k f) f.args (node_at f.nodes n).lirs
     fit = record {
       calls = all_at calls_marked f.nodes n valid.calls there;
-      below = λ v h. read_below n v (has_front (uses_of (map operation_of (node_at f n).lirs)) (end_uses (node_at f n).end) v h);
-      defs_below = λ v h. made_below n v there (has_back (node_at f n).params (defs_of (map operation_of (node_at f n).lirs)) v h);
+      below = λ v h. read_below n v (has_front (uses_of (map operation_of (node_at f.nodes n).lirs)) (end_uses (node_at f.nodes n).end) v h);
+      defs_below = λ v h. made_below n v there (has_back (node_at f.nodes n).params (defs_of (map operation_of (node_at f.nodes n).lirs)) v h);
       operations = sym (ap (λ (b : CodeBlock). list_all (operation_fits f.args) b.ops) (block_is n)) ∙ at_block (λ bl. list_all (operation_fits f.args) bl.ops) (code_nodes f.nodes) n valid.code.operations refl;
       slots = subst (λ (b : CodeBlock). slots_in b.ops ≤ slots_of (code_nodes f.nodes)) (block_is n) (slots_at (code_nodes f.nodes) n (omega (arith, there, size)));
     }
 
-    sound_lines : AreSoundLines (room_of k f) (block_at (code_nodes f.nodes) n).ops (end_reads (block_at (code_nodes f.nodes) n).end) (plain_start k f live n) (node_lines (node_at f n)) (node_regs (node_at f n)) (plain_end k f live n)
+    sound_lines : AreSoundLines (room_of k f) (block_at (code_nodes f.nodes) n).ops (end_reads (block_at (code_nodes f.nodes) n).end) (plain_start k f live n) (node_lines (node_at f.nodes n)) (node_regs (node_at f.nodes n)) (plain_end k f live n)
     sound_lines =
-        subst (λ (b : CodeBlock). AreSoundLines (room_of k f) b.ops (end_reads b.end) (plain_start k f live n) (node_lines (node_at f n)) (node_regs (node_at f n)) (plain_end k f live n)) (sym (block_is n))
-        (walked (room_of k f) (map operation_of (node_at f n).lirs) (end_reads (node_at f n).end) (plain_start k f live n) (node_lines (node_at f n)) (node_regs (node_at f n)) (plain_end k f live n)
-        (walks (room_of k f) (map operation_of (node_at f n).lirs) few (node_at f n).lirs (node_at f n).end (picked f.values (is_at_start live n (node_at f n))) (picked f.values (is_at_end live (node_at f n).end)) refl
-        (all_fit (room_of k f) (map operation_of (node_at f n).lirs) few f.args (node_at f n).lirs fit)
-        (λ v h. read_below n v (has_back (uses_of (map operation_of (node_at f n).lirs)) (end_uses (node_at f n).end) v h)) wanted ends_there end_there))
+        subst (λ (b : CodeBlock). AreSoundLines (room_of k f) b.ops (end_reads b.end) (plain_start k f live n) (node_lines (node_at f.nodes n)) (node_regs (node_at f.nodes n)) (plain_end k f live n)) (sym (block_is n))
+        (walked (room_of k f) (map operation_of (node_at f.nodes n).lirs) (end_reads (node_at f.nodes n).end) (plain_start k f live n) (node_lines (node_at f.nodes n)) (node_regs (node_at f.nodes n)) (plain_end k f live n)
+        (walks (room_of k f) (map operation_of (node_at f.nodes n).lirs) few (node_at f.nodes n).lirs (node_at f.nodes n).end (picked f.values (is_at_start live n (node_at f.nodes n))) (picked f.values (is_at_end live (node_at f.nodes n).end)) refl
+        (all_fit (room_of k f) (map operation_of (node_at f.nodes n).lirs) few f.args (node_at f.nodes n).lirs fit)
+        (λ v h. read_below n v (has_back (uses_of (map operation_of (node_at f.nodes n).lirs)) (end_uses (node_at f.nodes n).end) v h)) wanted ends_there end_there))
 
-    pub sound_node : IsSoundNode (room_of k f) (code_nodes f.nodes) n (plain_start k f live n) (node_lines (node_at f n)) (node_regs (node_at f n)) (plain_end k f live n)
-    sound_node = record { row = (row k f.values (is_at_start live n (node_at f n)), row k f.values (is_at_end live (node_at f n).end)); rises = rising (is_at_start live n (node_at f n)) 0 f.values; starts = starts; ends = ends; lines_sound = sound_lines }
+    pub sound_node : IsSoundNode (room_of k f) (code_nodes f.nodes) n (plain_start k f live n) (node_lines (node_at f.nodes n)) (node_regs (node_at f.nodes n)) (plain_end k f live n)
+    sound_node = record { row = (row k f.values (is_at_start live n (node_at f.nodes n)), row k f.values (is_at_end live (node_at f.nodes n).end)); rises = rising (is_at_start live n (node_at f.nodes n)) 0 f.values; starts = starts; ends = ends; lines_sound = sound_lines }
 
   pub sound : (t : Trace) (number : ℕ) → InFlow f t.nodes → IsSound k f t (plain_of k f live number t.nodes)
   sound t number inside = record {
-    counts = (length-map t.nodes (plain_start k f live), length-map t.nodes (plain_end k f live), length-map t.nodes (λ n. node_lines (node_at f n)), length-map t.nodes (λ n. node_regs (node_at f n)));
+    counts = (length-map t.nodes (plain_start k f live), length-map t.nodes (plain_end k f live), length-map t.nodes (λ n. node_lines (node_at f.nodes n)), length-map t.nodes (λ n. node_regs (node_at f.nodes n)));
     nodes = λ i lt.
         let n = get_or t.nodes i 0 in
         let a = get_or-map (plain_start k f live) t.nodes i 0 no_places lt in
         let b = get_or-map (plain_end k f live) t.nodes i 0 no_places lt in
-        let c = get_or-map (λ m. node_lines (node_at f m)) t.nodes i 0 [] lt in
-        let d = get_or-map (λ m. node_regs (node_at f m)) t.nodes i 0 [] lt in
-        subst (λ s. IsSoundNode (room_of k f) (code_nodes f.nodes) n s (get_or (map (λ m. node_lines (node_at f m)) t.nodes) i []) (get_or (map (λ m. node_regs (node_at f m)) t.nodes) i []) (get_or (map (plain_end k f live) t.nodes) i no_places)) (sym a)
-        (subst (λ e. IsSoundNode (room_of k f) (code_nodes f.nodes) n (plain_start k f live n) (get_or (map (λ m. node_lines (node_at f m)) t.nodes) i []) (get_or (map (λ m. node_regs (node_at f m)) t.nodes) i []) e) (sym b)
-        (subst (λ l. IsSoundNode (room_of k f) (code_nodes f.nodes) n (plain_start k f live n) l (get_or (map (λ m. node_regs (node_at f m)) t.nodes) i []) (plain_end k f live n)) (sym c)
-        (subst (λ r. IsSoundNode (room_of k f) (code_nodes f.nodes) n (plain_start k f live n) (node_lines (node_at f n)) r (plain_end k f live n)) (sym d) (sound_node n (inside i lt)))));
+        let c = get_or-map (λ m. node_lines (node_at f.nodes m)) t.nodes i 0 [] lt in
+        let d = get_or-map (λ m. node_regs (node_at f.nodes m)) t.nodes i 0 [] lt in
+        subst (λ s. IsSoundNode (room_of k f) (code_nodes f.nodes) n s (get_or (map (λ m. node_lines (node_at f.nodes m)) t.nodes) i []) (get_or (map (λ m. node_regs (node_at f.nodes m)) t.nodes) i []) (get_or (map (plain_end k f live) t.nodes) i no_places)) (sym a)
+        (subst (λ e. IsSoundNode (room_of k f) (code_nodes f.nodes) n (plain_start k f live n) (get_or (map (λ m. node_lines (node_at f.nodes m)) t.nodes) i []) (get_or (map (λ m. node_regs (node_at f.nodes m)) t.nodes) i []) e) (sym b)
+        (subst (λ l. IsSoundNode (room_of k f) (code_nodes f.nodes) n (plain_start k f live n) l (get_or (map (λ m. node_regs (node_at f.nodes m)) t.nodes) i []) (plain_end k f live n)) (sym c)
+        (subst (λ r. IsSoundNode (room_of k f) (code_nodes f.nodes) n (plain_start k f live n) (node_lines (node_at f.nodes n)) r (plain_end k f live n)) (sym d) (sound_node n (inside i lt)))));
   }
 
 pub ends_rise : (k : ℕ) (f : Flow) (live : List (List ℕ)) (number : ℕ) (nodes : List ℕ) → EndsRise (plain_of k f live number nodes)
 ends_rise k f live number [] i = tt
-ends_rise k f live number (n ∷ ns) zero = rising (is_at_end live (node_at f n).end) 0 f.values
+ends_rise k f live number (n ∷ ns) zero = rising (is_at_end live (node_at f.nodes n).end) 0 f.values
 ends_rise k f live number (n ∷ ns) (suc i) = ends_rise k f live number ns i
 
 pub in_flow : (f : Flow) (t : List ℕ) → list_all (λ n. nat_lt n (length (code_nodes f.nodes))) t ≡ true → InFlow f t
@@ -304,8 +304,8 @@ pub parts_more : (t : TraceIn) (i n : ℕ) (before after : Parts) → AreParts t
 parts_more t i n before after a lt is p = record {
   starts = one (plain_start t.regs t.flow.now t.live.now) before.starts.items after.starts.items a.starts p.starts;
   ends = one (plain_end t.regs t.flow.now t.live.now) before.ends.items after.ends.items a.ends p.ends;
-  lines = one (λ m. node_lines (node_at t.flow.now m)) before.lines.items after.lines.items a.lines p.lines;
-  regs = one (λ m. node_regs (node_at t.flow.now m)) before.regs.items after.regs.items a.regs p.regs;
+  lines = one (λ m. node_lines (node_at t.flow.now.nodes m)) before.lines.items after.lines.items a.lines p.lines;
+  regs = one (λ m. node_regs (node_at t.flow.now.nodes m)) before.regs.items after.regs.items a.regs p.regs;
 }
   where
     one : {A : Type 0} (g : ℕ → A) (xs ys : List A) → xs ≡ map g (take i t.trace.now.nodes) → ys ≡ xs ++ g n ∷ [] → ys ≡ map g (take (i + 1) t.trace.now.nodes)
@@ -316,4 +316,4 @@ pub out_is : (t : TraceIn) (i : ℕ) (p : Parts) (starts ends : List Places) (li
 out_is t i p starts ends lines regs a le s e l r =
     let all : take i t.trace.now.nodes ≡ t.trace.now.nodes = take_all i t.trace.now.nodes le in
     ap₂ (λ (x y : List Places). let o : TraceOut = record { trace = t.number; starts = x; ends = y; lines = lines; regs = regs } in o) (s ∙ a.starts ∙ ap (map (plain_start t.regs t.flow.now t.live.now)) all) (e ∙ a.ends ∙ ap (map (plain_end t.regs t.flow.now t.live.now)) all)
-    ∙ ap₂ (λ (x : List (List Line)) (y : List (List ℕ)). let o : TraceOut = record { trace = t.number; starts = map (plain_start t.regs t.flow.now t.live.now) t.trace.now.nodes; ends = map (plain_end t.regs t.flow.now t.live.now) t.trace.now.nodes; lines = x; regs = y } in o) (l ∙ a.lines ∙ ap (map (λ m. node_lines (node_at t.flow.now m))) all) (r ∙ a.regs ∙ ap (map (λ m. node_regs (node_at t.flow.now m))) all)
+    ∙ ap₂ (λ (x : List (List Line)) (y : List (List ℕ)). let o : TraceOut = record { trace = t.number; starts = map (plain_start t.regs t.flow.now t.live.now) t.trace.now.nodes; ends = map (plain_end t.regs t.flow.now t.live.now) t.trace.now.nodes; lines = x; regs = y } in o) (l ∙ a.lines ∙ ap (map (λ m. node_lines (node_at t.flow.now.nodes m))) all) (r ∙ a.regs ∙ ap (map (λ m. node_regs (node_at t.flow.now.nodes m))) all)

@@ -17,9 +17,9 @@ use Rattle.lir_core.specs.declared.places.Line.TheVariants.{Lir as Does}
 use Rattle.lir_core.specs.Flows.{operation_of}
 use Rattle.lir_core.specs.Spots.{Spot, reg, home, out, target, saved, same, spot, source, get, view_of}
 use Rattle.parallel_move.proofs.Sequence.{same_is, same_self}
-use Rattle.lir_core.specs.Lines.{is_aimed, arguments, argument_spot, argument_spots, use_spots, one_def, names, def_spot, end_reads, IsFree, AreDistinct, Room, AllBelow}
+use Rattle.lir_core.specs.Lines.{is_aimed, arguments, argument_spot, argument_spots, use_spots, one_def, names, def_spot, end_reads, IsFree, AreDistinct, Room, AllBelow, argument_place}
 use Rattle.lir_core.specs.Walks.{Walker, kept, left, without, defined, perform, after, walk, Can, Taken, AllTaken, Passes, begin, Finishes, Walks}
-use Rattle.trivial_alloc.specs.Plain.{in_homes, index_of, load_of, with_load, loads, load_regs, argument_place, argument_moves, aiming, passing, call_lines, stores, def_regs, reading_lines, lir_lines, lir_regs, lirs_lines, lirs_regs}
+use Rattle.trivial_alloc.specs.Plain.{in_homes, index_of, load_of, with_load, loads, load_regs, argument_moves, aiming, passing, call_lines, stores, def_regs, reading_lines, lir_lines, lir_regs, lirs_lines, lirs_regs}
 
 ---- Walks in parts
 

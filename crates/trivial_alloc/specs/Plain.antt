@@ -5,29 +5,21 @@ use Rattle.std.specs.Prelude.{ℕ, zero, suc, ◌<◌, ◌==◌, ◌||◌, Bool,
 use Rattle.std.specs.List.{list_any}
 use Rattle.run_laws.specs.Layers.{places_from}
 use Rattle.block_runs.specs.declared.end.End.{End}
-use Rattle.block_runs.specs.declared.end.End.TheVariants.{Return}
 use Rattle.block_runs.specs.Blocks.{end_uses, successors}
 use Rattle.block_runs.specs.Live.{has}
 use Rattle.lir_core.specs.declared.flow.Lir.{Lir}
 use Rattle.lir_core.specs.declared.flow.Node.{Node}
 use Rattle.lir_core.specs.declared.flow.Flow.{Flow}
-use Rattle.lir_core.specs.declared.places.Place.{Place}
-use Rattle.lir_core.specs.declared.places.Place.TheVariants.{Reg, Home, Out}
+use Rattle.lir_core.specs.declared.places.Place.TheVariants.{Home}
 use Rattle.lir_core.specs.declared.places.Move.{Move}
 use Rattle.lir_core.specs.declared.places.Places.{Places}
 use Rattle.lir_core.specs.declared.places.Line.{Line}
 use Rattle.lir_core.specs.declared.places.Line.TheVariants.{Store, Load, Moves, Target}
 use Rattle.lir_core.specs.declared.places.Line.TheVariants.{Lir as Does}
 use Rattle.lir_core.specs.declared.places.TraceOut.{TraceOut}
+use Rattle.lir_core.specs.Flows.{node_at}
 use Rattle.lir_core.specs.Rows.{has_bit}
-use Rattle.lir_core.specs.Lines.{is_aimed, end_reads}
-
--- the node of a number; one that only returns where there is none
-abbrev pub no_node : Node
-no_node = record { params = []; lirs = []; end = Return None; freq = 0; preds = []; enter = None }
-
-abbrev pub node_at : Flow → ℕ → Node
-node_at f n = slice_index_or f.nodes n no_node
+use Rattle.lir_core.specs.Lines.{is_aimed, argument_place, end_reads}
 
 ---- Places
 
@@ -48,10 +40,10 @@ abbrev pub is_at_end : List (List ℕ) → End → ℕ → Bool
 is_at_end live end v = list_any (λ to. has_bit live to v) (successors end) || has (end_uses end) v
 
 abbrev pub plain_start : ℕ → Flow → List (List ℕ) → ℕ → Places
-plain_start k f live n = in_homes k (picked f.values (is_at_start live n (node_at f n)))
+plain_start k f live n = in_homes k (picked f.values (is_at_start live n (node_at f.nodes n)))
 
 abbrev pub plain_end : ℕ → Flow → List (List ℕ) → ℕ → Places
-plain_end k f live n = in_homes k (picked f.values (is_at_end live (node_at f n).end))
+plain_end k f live n = in_homes k (picked f.values (is_at_end live (node_at f.nodes n).end))
 
 ---- Loads
 
@@ -77,14 +69,6 @@ load_regs loaded [] = []
 load_regs loaded (v ∷ vs) = index_of loaded v ∷ load_regs (with_load loaded v) vs
 
 ---- Calls
-
--- where the i-th argument stands: X0 to X3, then slots
-abbrev pub argument_place : ℕ → Place
-argument_place zero = Reg 0
-argument_place (suc zero) = Reg 1
-argument_place (suc (suc zero)) = Reg 2
-argument_place (suc (suc (suc zero))) = Reg 3
-argument_place (suc (suc (suc (suc i)))) = Out i
 
 abbrev pub argument_moves : ℕ → List ℕ → List Move
 argument_moves i [] = []
@@ -143,8 +127,8 @@ plain_of k f live number nodes = record {
   trace = number;
   starts = map (plain_start k f live) nodes;
   ends = map (plain_end k f live) nodes;
-  lines = map (λ n. node_lines (node_at f n)) nodes;
-  regs = map (λ n. node_regs (node_at f n)) nodes;
+  lines = map (λ n. node_lines (node_at f.nodes n)) nodes;
+  regs = map (λ n. node_regs (node_at f.nodes n)) nodes;
 }
 
 -- nodes are the flow's

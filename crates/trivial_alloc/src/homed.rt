@@ -4,12 +4,11 @@ ghost use Rattle.std.specs.Prelude.{◌≡◌, ℕ, ◌∷◌, [], length, repli
 ghost use Rattle.std.specs.List.{list_any};
 ghost use Rattle.block_runs.specs.Blocks.{end_uses, successors};
 ghost use Rattle.block_runs.specs.Live.{has};
-ghost use Rattle.live_interval.specs.Needs.{live_into};
+ghost use Rattle.lir_core.specs.Rows.{live_into};
 ghost use Rattle.trivial_alloc.specs.Plain.{in_homes, picked, is_at_start, is_at_end};
 ghost use Rattle.trivial_alloc.specs.Marks.{AreMarked, all_marked};
 
-use lir_core::{Items, Leave, LiveSets, Node, Places, TraceIn};
-use live_interval::next_live;
+use lir_core::{Items, Leave, LiveSets, Node, Places, TraceIn, next_live};
 use smallvec::SmallVec;
 use std::alloc::{AllocError, Global};
 

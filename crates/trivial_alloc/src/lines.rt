@@ -2,10 +2,10 @@
 
 ghost use Rattle.std.specs.Prelude.{◌≡◌, ℕ, ◌++◌, ◌∷◌, [], drop, length, IfOk, OnOk};
 ghost use Rattle.block_runs.specs.Live.{has};
-ghost use Rattle.lir_core.specs.Lines.{is_aimed, end_reads};
-ghost use Rattle.trivial_alloc.specs.Plain.{index_of, with_load, load_of, loads, load_regs, argument_place, argument_moves, aiming, passing, call_lines, stores, def_regs, lir_lines, lir_regs, lirs_lines, lirs_regs, node_lines, node_regs};
+ghost use Rattle.lir_core.specs.Lines.{end_reads};
+ghost use Rattle.trivial_alloc.specs.Plain.{index_of, with_load, load_of, loads, load_regs, argument_moves, aiming, passing, call_lines, stores, def_regs, lir_lines, lir_regs, lirs_lines, lirs_regs, node_lines, node_regs};
 
-use lir_core::{Items, Leave, Line, Lir, Move, Node, Place, Template};
+use lir_core::{Items, Leave, Line, Lir, Move, Node, Place, argument_place, is_aimed};
 use outside::Memory;
 use std::alloc::{AllocError, Global};
 
@@ -160,25 +160,4 @@ fn argument_moves(alloc: Global, values: &[u32]) -> Result<Vec<Move>, Memory>
         })?;
     }
     Ok(moves)
-}
-
-fn argument_place(number: u32) -> Place
-    ensures { result ≡ argument_place number }
-{
-    match number {
-        0 => Place::Reg(0),
-        1 => Place::Reg(1),
-        2 => Place::Reg(2),
-        3 => Place::Reg(3),
-        _ => Place::Out(number - 4),
-    }
-}
-
-fn is_aimed(template: Template) -> bool
-    ensures { result ≡ is_aimed template }
-{
-    match template {
-        Template::CallAt => true,
-        _ => false,
-    }
 }

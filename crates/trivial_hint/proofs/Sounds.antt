@@ -12,12 +12,11 @@ use Rattle.lir_core.specs.declared.flow.Node.{Node}
 use Rattle.lir_core.specs.declared.places.Places.{Places}
 use Rattle.lir_core.specs.declared.places.TraceOut.{TraceOut}
 use Rattle.lir_core.specs.Flows.{code_node, code_nodes}
-use Rattle.lir_core.specs.Rows.{has_bit}
+use Rattle.lir_core.specs.Rows.{has_bit, live_into}
 use Rattle.lir_core.specs.Spots.{get, in_register, placed, IsRising, IsRow}
 use Rattle.lir_core.specs.Lines.{end_reads}
 use Rattle.lir_core.specs.Sound.{IsStart, IsEnd, AreSoundLines, IsSoundNode, IsSound, EndsRise, room_of}
 use Rattle.global_live.proofs.Lists.{has-filter}
-use Rattle.live_interval.specs.Needs.{live_into}
 use Rattle.loc_state.specs.Registers.{register_of}
 use Rattle.loc_state.proofs.Homing.{filter_rises}
 use Rattle.loc_state.proofs.Numbers.{register_at, in_register_at, either, in_reg, in_home}
@@ -131,10 +130,13 @@ module _ (x : Case) (ns : List ℕ) (hint : Option Hint) (given : IsInput x ns h
   }
 
   pub trivial_sound : (number : ℕ) → IsSound x.regs x.flow (record { nodes = ns }) (trivial x number ns hint) × EndsRise (trivial x number ns hint)
-  trivial_sound number = subst (λ ms. IsSound x.regs x.flow (record { nodes = ms }) (trivial x number ms hint) × EndsRise (trivial x number ms hint)) (sym is.one) (record {
-    counts = (refl, refl, refl, refl);
-    nodes = λ i l. at i l;
-  }, rise)
+  trivial_sound number = subst (λ ms. IsSound x.regs x.flow (record { nodes = ms }) (trivial x number ms hint) × EndsRise (trivial x number ms hint)) (sym is.one) (
+    record {
+      counts = (refl, refl, refl, refl);
+      nodes = λ i l. at i l;
+    },
+    rise,
+  )
     where
       s : Places
       s = trivial_start x n hint

@@ -5,8 +5,7 @@ use Rattle.lir_core.specs.declared.flow.Node.{Node}
 use Rattle.lir_core.specs.declared.flow.Flow.{Flow}
 use Rattle.lir_core.specs.declared.places.Places.{Places}
 use Rattle.lir_core.specs.declared.places.TraceOut.{TraceOut}
-use Rattle.lir_core.specs.Rows.{has_bit}
-use Rattle.live_interval.specs.Needs.{live_into}
+use Rattle.lir_core.specs.Rows.{has_bit, live_into}
 use Rattle.linear_scan.specs.Starts.{if_live}
 use Rattle.linear_scan.specs.Linear.{Case, Hint}
 

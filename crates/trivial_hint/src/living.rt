@@ -1,13 +1,11 @@
 //! What is live into a node.
 
 ghost use Rattle.std.specs.Prelude.{◌≡◌, ◌++◌, map, filter, IfOk, OnOk};
-ghost use Rattle.lir_core.specs.Rows.{has_bit};
-ghost use Rattle.live_interval.specs.Needs.{live_into};
+ghost use Rattle.lir_core.specs.Rows.{has_bit, live_into};
 ghost use Rattle.live_interval.specs.Tables.{one_if};
 ghost use Rattle.linear_scan.specs.Starts.{if_live};
 
-use lir_core::{Items, LiveSets};
-use live_interval::next_live;
+use lir_core::{Items, LiveSets, next_live};
 use std::alloc::{AllocError, Global};
 
 fn if_live(live: &LiveSets, node: u32, content: Option<u32>) -> Option<u32>

@@ -3,8 +3,7 @@ use Rattle.std.specs.Prelude.{IfOk}
 use Rattle.std.specs.List.{list_any}
 use Rattle.block_runs.specs.Blocks.{end_uses, successors}
 use Rattle.block_runs.specs.Live.{has}
-use Rattle.lir_core.specs.Rows.{has_bit}
-use Rattle.live_interval.specs.Needs.{live_into}
+use Rattle.lir_core.specs.Rows.{has_bit, live_into}
 use Rattle.trivial_alloc.specs.Plain.{in_homes}
 use Rattle.trivial_alloc.proofs.Marking.{picks_both, any_live}
 use Rattle.trivial_alloc.proofs.homed.end.Goals as goal

@@ -1,5 +1,5 @@
 use Rattle.std.proofs.Common.{◌≡◌, ◌++◌, ◌-◌}
-use Rattle.live_interval.specs.Needs.{live_from}
+use Rattle.lir_core.specs.Rows.{live_from}
 use Rattle.trivial_alloc.proofs.homed.list_marked.Given as goal
 
 abbrev pub invariant-loop-value : goal.invariant-loop-value

@@ -1,5 +1,5 @@
 use Rattle.std.proofs.Common.{◌-◌}
-use Rattle.live_interval.specs.Needs.{live_from}
+use Rattle.lir_core.specs.Rows.{live_from}
 use Rattle.trivial_alloc.proofs.Marking.{AreLeft}
 use Rattle.trivial_alloc.proofs.homed.mark_live.Given as goal
 

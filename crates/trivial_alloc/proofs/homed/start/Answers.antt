@@ -1,8 +1,7 @@
 use Rattle.std.proofs.Common.{ℕ, List, ◌≡◌, ◌+◌, ◌/◌, subst, rules, replicate, refl}
 use Rattle.std.specs.Prelude.{IfOk}
 use Rattle.block_runs.specs.Live.{has}
-use Rattle.lir_core.specs.Rows.{has_bit}
-use Rattle.live_interval.specs.Needs.{live_into}
+use Rattle.lir_core.specs.Rows.{has_bit, live_into}
 use Rattle.trivial_alloc.specs.Plain.{in_homes}
 use Rattle.trivial_alloc.specs.Marks.{AreMarked}
 use Rattle.trivial_alloc.proofs.Marking.{picks_both, live_has}

@@ -1,5 +1,5 @@
 use Rattle.std.proofs.Common.{◌≡◌, ◌-◌}
-use Rattle.live_interval.specs.Needs.{live_from}
+use Rattle.lir_core.specs.Rows.{live_from}
 use Rattle.live_interval.specs.Tables.{noted_all}
 use Rattle.live_interval.proofs.notes.Notes.note_live.Given as goal
 

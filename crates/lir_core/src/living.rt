@@ -1,8 +1,8 @@
 //! What is live into a node, value by value.
 
-ghost use Rattle.live_interval.specs.Needs.{IsNextLive};
+ghost use Rattle.lir_core.specs.Rows.{IsNextLive};
 
-use lir_core::LiveSets;
+use crate::live_sets::LiveSets;
 
 /// The lowest value from `from` on, of so many, that is live into a node. Takes no memory; to go through a row takes time
 /// in proportion to its words and its values.

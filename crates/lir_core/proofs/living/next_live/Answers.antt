@@ -1,7 +1,7 @@
 use Rattle.std.proofs.Common.{◌<◌, ◌^◌, arith}
 use Rattle.lir_core.specs.Rows.{has_bit}
-use Rattle.live_interval.proofs.Passing.{none_from, one_from, none_below}
-use Rattle.live_interval.proofs.living.next_live.Goals as goal
+use Rattle.lir_core.proofs.Passing.{none_from, one_from, none_below}
+use Rattle.lir_core.proofs.living.next_live.Goals as goal
 
 pub returns-in-Some : goal.returns-in-Some
 returns-in-Some c =
