@@ -19,7 +19,7 @@ use Rattle.link_plan.specs.Linked.{AllAllocated, AreCuts, AreSmall, IsAllocated,
 use Rattle.alloc_choice.specs.declared.choice.Choice.{Choice}
 use Rattle.alloc_choice.specs.Choice.{IsFitChoice}
 use Rattle.lir_core.specs.declared.places.TraceOut.{TraceOut}
-use Rattle.boundary_resolve.specs.declared.placed.Placed.{Placed as Line}
+use Rattle.boundary_resolve.specs.declared.code_line.CodeLine.{CodeLine}
 use Rattle.flow_allocation.specs.Allocations.{AllAllocations, AreAllocated, trace_count}
 use Rattle.flow_allocation.proofs.Counting.{counted}
 use Rattle.flow_allocation.proofs.Taking.{none_of, take_none, drop_none}
@@ -154,7 +154,7 @@ module _ (choice : Choice) (fit : IsFitChoice choice) (done batch : List Proc) (
 
 ---- What passes give
 
-module _ (choice : Choice) (fit : IsFitChoice choice) (flows : List Flow) (parts : List (List Line)) (outs : List (List TraceOut)) (old new : Planned) (traces : ℕ) (h : AreAllocated choice old.traces flows parts outs traces)
+module _ (choice : Choice) (fit : IsFitChoice choice) (flows : List Flow) (parts : List (List CodeLine)) (outs : List (List TraceOut)) (old new : Planned) (traces : ℕ) (h : AreAllocated choice old.traces flows parts outs traces)
     (few : old.traces + traces ≤ 262144) (sum : new.traces ≡ old.traces + traces) where
   are_cuts : AllAllocated choice.regs h.cuts → AreCuts choice.regs flows parts outs h.cuts
   are_cuts each = record { flows_are = h.flows_are; parts_are = h.parts_are; outs_are = h.outs_are; few = fit.few; each = each }

@@ -16,7 +16,7 @@ ghost use Rattle.link_plan.specs.Linked.{DataFits, AreCuts, ArePlans, AreSmall, 
 ghost use Rattle.link_plan.specs.declared.fault.LinkFault.TheVariants.{Limit, Misfit};
 
 use crate::fault::LinkFault;
-use boundary_resolve::Placed;
+use boundary_resolve::CodeLine;
 use image_form::{Bytes, Image, Words};
 use link_blocks::{Plan, PlanFault};
 use link_code::code_of;
@@ -41,7 +41,7 @@ pub struct Data {
 pub fn link(
     alloc: Global,
     flows: &[Flow],
-    parts: Vec<Vec<Placed>>,
+    parts: Vec<Vec<CodeLine>>,
     outs: Vec<Vec<TraceOut>>,
     extra: Data,
 ) -> Result<Image, LinkFault>
@@ -68,7 +68,7 @@ pub fn add_plans(
     alloc: Global,
     plans: &mut Vec<Plan>,
     flows: &[Flow],
-    parts: Vec<Vec<Placed>>,
+    parts: Vec<Vec<CodeLine>>,
     outs: Vec<Vec<TraceOut>>,
 ) -> Result<(), LinkFault>
     ensures plans { OnOk result ((k : ℕ) (cuts : List Cut) → AreCuts k flows.now (map (λ v. v.items) parts.items) (map (λ v. v.items) outs.items) cuts
@@ -118,7 +118,7 @@ pub fn image_of_plans(alloc: Global, plans: &[Plan], extra: Data) -> Result<Imag
 fn plan_of(
     alloc: Global,
     flow: &Flow,
-    lines: &[Placed],
+    lines: &[CodeLine],
     outs: &[TraceOut],
 ) -> Result<Plan, LinkFault>
     ensures plan { (k : ℕ) (c : Cut) → IsCutOf k flow.now lines.now outs.now c → IfOk result (λ plan. placed_in plan ≡ plain (placed steps_of (allocated c))) }
