@@ -50,9 +50,9 @@ behind-append before ps p h e i q there = by (cases_lt i (length ps))
     by (inl lt) = h i q (sym (in_front ps (p ∷ []) i lt) ∙ there)
     by (inr le) = let r = from_back ps (p ∷ []) i q there le in last r.0 r.2
 
-in-append : (builder : Builder) (fs gs : List Flow) → traces_in builder (fs ++ gs) ≡ traces_in builder fs + traces_in builder gs
-in-append builder [] gs = omega arith
-in-append builder (f ∷ fs) gs = let r = in-append builder fs gs in omega (arith, r)
+pub traces-append : (builder : Builder) (fs gs : List Flow) → traces_in builder (fs ++ gs) ≡ traces_in builder fs + traces_in builder gs
+traces-append builder [] gs = omega arith
+traces-append builder (f ∷ fs) gs = let r = traces-append builder fs gs in omega (arith, r)
 
 pub none : (builder : Builder) (before : ℕ) (flows : List Flow) → before ≤ 262144 → Made builder before flows 0 [] []
 none builder before flows few = record { entered = none_yet; flows_are = refl; plans_are = λ valid k x n. absurd (omega (arith, n)); numbered = tt; behind = λ k p there. cc; all = refl; count = refl; small = omega (arith, few) }
@@ -65,7 +65,7 @@ module _ (builder : Builder) (before : ℕ) (flows : List Flow) (i : ℕ) (flow 
   pub no_more : traces_in builder (take i flows) + length (traces_of builder flow.nodes) ≤ traces_in builder flows
   no_more =
       let whole : traces_in builder (take i flows ++ drop i flows) ≡ traces_in builder flows = ap (traces_in builder) (take-append-drop i flows) in
-      let parts = in-append builder (take i flows) (drop i flows) in
+      let parts = traces-append builder (take i flows) (drop i flows) in
       let head : traces_in builder (drop i flows) ≡ length (traces_of builder flow.nodes) + traces_in builder (drop (i + 1) flows) = ap (traces_in builder) (drop_more flows i flow lt ∙ ap (λ x. x ∷ drop (i + 1) flows) (sym item)) in
       omega (arith, whole, parts, head)
 
@@ -77,7 +77,7 @@ module _ (builder : Builder) (before : ℕ) (flows : List Flow) (i : ℕ) (flow 
         let count = made.count in
         let sum = total-append plans p in
         let ts : total plans' ≡ total (plans ++ p ∷ []) = ap total ps in
-        let one : traces_in builder (take (i + 1) flows) ≡ traces_in builder (take i flows) + traces_in builder (flow ∷ []) = ap (traces_in builder) next ∙ in-append builder (take i flows) (flow ∷ []) in
+        let one : traces_in builder (take (i + 1) flows) ≡ traces_in builder (take i flows) + traces_in builder (flow ∷ []) = ap (traces_in builder) next ∙ traces-append builder (take i flows) (flow ∷ []) in
         record {
           entered = subst (AreEntries plans') (sym es) (subst (λ xs. AreEntries xs (entries ++ entries_of (length plans) p)) (sym ps) (plan_more plans p entries made.entered ordered first));
           flows_are = ap flows_in ps ∙ map-append (λ (x : TracePlan). x.flow.now) plans (p ∷ []) ∙ ap₂ (λ xs x. xs ++ x ∷ []) made.flows_are flow_is ∙ sym next;
