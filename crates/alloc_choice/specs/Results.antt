@@ -11,7 +11,7 @@ use Rattle.lir_core.specs.Flows.{code_nodes, preds_of, IsValidFlow}
 use Rattle.global_live.specs.Reading.{HasLive}
 use Rattle.trace_build.specs.Cuts.{lists_of, AllTraces, IsPartition}
 use Rattle.trace_build.specs.Parents.{trace_at, is_above}
-use Rattle.live_interval.specs.Needs.{first_of}
+use Rattle.trace_needs.specs.Needs.{first_of}
 use Rattle.linear_scan.specs.Linear.{Case, Hint, linear}
 use Rattle.linear_scan.specs.Inputs.{hint_at}
 use Rattle.trivial_alloc.specs.Plain.{plain_of, index_of}

@@ -18,7 +18,7 @@ use Rattle.lir_core.specs.Sound.{room_of}
 use Rattle.lir_core.specs.Rows.{live_into}
 use Rattle.global_live.specs.Reading.{HasLive}
 use Rattle.global_live.proofs.Lists.{has_front, has_back, in_parts}
-use Rattle.live_interval.specs.Needs.{is_next, live_off, first_of}
+use Rattle.trace_needs.specs.Needs.{is_next, live_off, first_of}
 use Rattle.loc_state.specs.Registers.{register_of}
 use Rattle.loc_state.specs.Homed.{all_inserted}
 use Rattle.loc_state.proofs.Homing.{has_all_inserted}

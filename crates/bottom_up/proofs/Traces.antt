@@ -15,7 +15,7 @@ use Rattle.lir_core.specs.Rows.{live_into}
 use Rattle.lir_core.proofs.Walking.{walked}
 use Rattle.global_live.specs.Reading.{HasLive}
 use Rattle.global_live.proofs.Lists.{has_back, has-filter, in_parts}
-use Rattle.live_interval.specs.Needs.{first_of}
+use Rattle.trace_needs.specs.Needs.{first_of}
 use Rattle.loc_state.specs.Walked.{AllWalk}
 use Rattle.loc_state.proofs.Homing.{has_all_inserted}
 use Rattle.loc_state.proofs.Numbers.{either, in_reg, in_home}

@@ -20,8 +20,8 @@ use Rattle.lir_core.specs.Sound.{IsStart, IsEnd, IsSoundNode, AreSoundLines, roo
 use Rattle.lir_core.proofs.Walking.{walked}
 use Rattle.global_live.specs.Reading.{HasLive}
 use Rattle.global_live.proofs.Lists.{not_in_front, not_in_back, times_of_in, times_of_out}
-use Rattle.live_interval.specs.Needs.{Position, at_start, at_operation, at_end, first_of, positions_of}
-use Rattle.live_interval.specs.Needs as needs
+use Rattle.trace_needs.specs.Needs.{Position, at_start, at_operation, at_end, first_of, positions_of}
+use Rattle.trace_needs.specs.Needs as needs
 use Rattle.loc_state.specs.declared.part.Part.{Part}
 use Rattle.loc_state.specs.Registers.{lowest_empty}
 use Rattle.loc_state.specs.Steps.{places, begun, brought, dropped, keeps_all, keeps_one, called}

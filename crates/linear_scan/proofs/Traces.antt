@@ -20,7 +20,7 @@ use Rattle.lir_core.specs.Lines.{Room}
 use Rattle.lir_core.specs.Sound.{IsSoundNode, IsSound, EndsRise, no_places, room_of}
 use Rattle.global_live.specs.Reading.{HasLive}
 use Rattle.global_live.proofs.Lists.{has-filter}
-use Rattle.live_interval.specs.Needs.{first_of, positions_of, next_need}
+use Rattle.trace_needs.specs.Needs.{first_of, positions_of, next_need}
 use Rattle.loc_state.specs.declared.part.Part.{Part}
 use Rattle.loc_state.specs.declared.forward.Forward.{Forward}
 use Rattle.loc_state.specs.Steps.{places, begun, started, closed, in_part}

@@ -10,7 +10,7 @@ use Rattle.lir_core.specs.declared.flow.Flow.{Flow}
 use Rattle.lir_core.specs.declared.places.Places.{Places}
 use Rattle.lir_core.specs.Lines.{end_reads}
 use Rattle.lir_core.specs.Rows.{has_bit, live_into}
-use Rattle.live_interval.specs.Needs.{first_of, last_mention}
+use Rattle.trace_needs.specs.Needs.{first_of, last_mention}
 use Rattle.loc_back.specs.declared.backward.Backward.{Backward}
 use Rattle.loc_back.specs.Marks.{live_at_each, at_start, at_end, with_marks, starts_marked, ends_marked}
 use Rattle.loc_back.specs.Steps.{started, closed, in_part, before_node, left_node}

@@ -6,7 +6,7 @@ use Rattle.lir_core.specs.declared.flow.Node.{Node}
 use Rattle.lir_core.specs.declared.flow.Flow.{Flow}
 use Rattle.lir_core.specs.declared.places.Places.{Places}
 use Rattle.lir_core.specs.Rows.{has_bit}
-use Rattle.live_interval.specs.Needs.{first_of, next_need}
+use Rattle.trace_needs.specs.Needs.{first_of, next_need}
 use Rattle.loc_state.specs.declared.part.Part.{Part}
 use Rattle.loc_state.specs.declared.forward.Forward.{Forward}
 use Rattle.loc_state.specs.Steps.{places, started, closed, in_part}

@@ -10,7 +10,7 @@ use Rattle.lir_core.specs.declared.places.TraceOut.{TraceOut}
 use Rattle.lir_core.specs.Flows.{code_nodes, node_at}
 use Rattle.lir_core.specs.Rows.{has_bit}
 use Rattle.trace_build.specs.Parents.{trace_at}
-use Rattle.live_interval.specs.Needs.{first_of}
+use Rattle.trace_needs.specs.Needs.{first_of}
 use Rattle.linear_scan.specs.Linear.{Case, Hint}
 use Rattle.trivial_alloc.specs.Plain.{picked, in_homes, plain_start, plain_end, node_lines, node_regs, plain_of}
 use Rattle.alloc_choice.specs.declared.choice.Policy.{Policy}

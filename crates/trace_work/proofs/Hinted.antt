@@ -20,7 +20,7 @@ use Rattle.global_live.proofs.Lists.{has-filter}
 use Rattle.global_live.proofs.Tables.{has-preds_of, leads_there}
 use Rattle.trace_build.specs.Cuts.{lists_of, all_nodes, AllTraces}
 use Rattle.trace_build.specs.Parents.{trace_at, is_above, IsParent, AreParents}
-use Rattle.live_interval.specs.Needs.{first_of}
+use Rattle.trace_needs.specs.Needs.{first_of}
 use Rattle.lir_core.proofs.Passing.{none_from, one_from}
 use Rattle.linear_scan.specs.Linear.{Case, Hint}
 use Rattle.linear_scan.specs.Inputs.{IsFit, FitsHead, IsInput, hint_at}

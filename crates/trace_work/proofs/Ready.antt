@@ -6,7 +6,7 @@ use Rattle.lir_core.specs.declared.flow.Trace.{Trace}
 use Rattle.lir_core.specs.declared.places.TraceOut.{TraceOut}
 use Rattle.lir_core.specs.Flows.{code_nodes}
 use Rattle.trace_build.specs.Parents.{trace_at}
-use Rattle.live_interval.specs.Needs.{first_of}
+use Rattle.trace_needs.specs.Needs.{first_of}
 use Rattle.linear_scan.specs.Linear.{Case, Hint}
 use Rattle.linear_scan.specs.Inputs.{IsInput}
 use denote.Bor.{Bor}

@@ -8,7 +8,7 @@ use Rattle.trace_build.specs.declared.builder.Builder.{Builder}
 use Rattle.trace_build.specs.Traces.{traces_of}
 use Rattle.trace_build.specs.Cuts.{lists_of, AllTraces, IsPartition}
 use Rattle.trace_build.specs.Parents.{trace_at, AreBelow, AreParents}
-use Rattle.live_interval.specs.Needs.{first_of}
+use Rattle.trace_needs.specs.Needs.{first_of}
 use Rattle.linear_scan.specs.Linear.{Case, Hint}
 use Rattle.linear_scan.specs.Inputs.{IsInput}
 use Rattle.alloc_choice.specs.declared.choice.Choice.{Choice}

@@ -5,7 +5,7 @@ ghost use Rattle.lir_core.specs.Flows.{IsValidFlow};
 ghost use Rattle.pool_core.specs.Tree.{IsTree};
 ghost use Rattle.trace_build.specs.Parents.{trace_at};
 ghost use Rattle.trace_build.specs.Traces.{traces_in};
-ghost use Rattle.live_interval.specs.Needs.{first_of};
+ghost use Rattle.trace_needs.specs.Needs.{first_of};
 ghost use Rattle.linear_scan.specs.Inputs.{hint_of, lent};
 ghost use Rattle.alloc_choice.specs.Choice.{IsFitChoice};
 ghost use Rattle.trace_work.specs.Places.{hint_by, if_row};

@@ -1,6 +1,6 @@
 -- A value more of a list that is filtered.
 use Rattle.std.proofs.Common.{◌≡◌, ℕ, zero, suc, ◌+◌, ◌<◌, Bool, true, false, cond, List, [], ◌∷◌, ◌++◌, filter, length, drop, get_or, refl, ap, ◌∙◌, arith, append_assoc}
-use Rattle.live_interval.specs.Tables.{one_if}
+use Rattle.trace_needs.specs.Tables.{one_if}
 
 one_more : (p : ℕ → Bool) (x : ℕ) (xs values : List ℕ) → (values ++ one_if (p x) x) ++ filter p xs ≡ values ++ filter p (x ∷ xs)
 one_more p x xs values = append_assoc values (one_if (p x) x) (filter p xs) ∙ ap (λ t. values ++ t) (by (p x))

@@ -2,7 +2,7 @@
 
 ghost use Rattle.std.specs.Prelude.{◌≡◌, ◌++◌, map, filter, IfOk, OnOk};
 ghost use Rattle.lir_core.specs.Rows.{has_bit, live_into};
-ghost use Rattle.live_interval.specs.Tables.{one_if};
+ghost use Rattle.trace_needs.specs.Tables.{one_if};
 ghost use Rattle.linear_scan.specs.Starts.{if_live};
 
 use lir_core::{Items, LiveSets, next_live};

@@ -1,6 +1,6 @@
 use Rattle.std.proofs.Common.{◌≡◌, ℕ, List, Option, None, ◌∙◌, ap, ap₂, sym, subst}
 use Rattle.std.proofs.Math.Path.{fun_ext}
-use Rattle.live_interval.specs.Asked.{mention_told}
+use Rattle.trace_needs.specs.Asked.{mention_told}
 use Rattle.loc_back.specs.Steps.{started, closed}
 use Rattle.linear_scan.specs.Linear.{Case}
 use Rattle.linear_scan.specs.Inputs.{case_of, IsInput}

@@ -1,6 +1,6 @@
 use Rattle.std.proofs.Common.{◌≡◌, ℕ, List, Option, ◌∙◌, ap, ap₂, sym}
 use Rattle.std.specs.Prelude.{slice_get}
-use Rattle.live_interval.specs.Asked.{need_told}
+use Rattle.trace_needs.specs.Asked.{need_told}
 use Rattle.loc_state.specs.Steps.{started}
 use Rattle.linear_scan.specs.Policy.{drop_all}
 use Rattle.linear_scan.specs.Linear.{Case, Hint, first_start, along, result_of}
