@@ -14,8 +14,8 @@ use Rattle.trace_build.specs.Parents.{trace_at, is_above}
 use Rattle.trace_needs.specs.Needs.{first_of}
 use Rattle.linear_scan.specs.Linear.{Case, Hint, linear}
 use Rattle.linear_scan.specs.Inputs.{hint_at}
-use Rattle.trivial_alloc.specs.Plain.{plain_of, index_of}
-use Rattle.trivial_hint.specs.Trivial.{trivial}
+use Rattle.simple_policies.specs.plain.Plain.{plain_of, index_of}
+use Rattle.simple_policies.specs.trivial.Trivial.{trivial}
 use Rattle.bottom_up.specs.Bottom.{bottom_up}
 use Rattle.alloc_choice.specs.declared.choice.Policy.{Policy}
 use Rattle.alloc_choice.specs.declared.choice.Used.{Used}

@@ -9,9 +9,9 @@ ghost use Rattle.alloc_choice.specs.Results.{result_by};
 use crate::choice::{Choice, Used, policy_of};
 use lir_core::{Places, TraceIn, TraceOut};
 use outside::Memory;
+use simple_policies::plain::plain;
+use simple_policies::trivial::trivial;
 use std::alloc::Global;
-use trivial_alloc::plain;
-use trivial_hint::trivial;
 
 /// The result of a trace by the policy that is used for it: exactly the defined one, and sound whichever it is, for a
 /// valid flow, what is live in it, a trace, and a hint that is fit or none. The registers are those of `t`. Takes the time

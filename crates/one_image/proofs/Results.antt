@@ -12,7 +12,7 @@ use Rattle.lir_core.specs.Rows.{has_bit}
 use Rattle.trace_build.specs.Parents.{trace_at}
 use Rattle.trace_needs.specs.Needs.{first_of}
 use Rattle.linear_scan.specs.Linear.{Case, Hint}
-use Rattle.trivial_alloc.specs.Plain.{picked, in_homes, plain_start, plain_end, node_lines, node_regs, plain_of}
+use Rattle.simple_policies.specs.plain.Plain.{picked, in_homes, plain_start, plain_end, node_lines, node_regs, plain_of}
 use Rattle.alloc_choice.specs.declared.choice.Policy.{Policy}
 use Rattle.alloc_choice.specs.declared.choice.Used.{Used}
 use Rattle.alloc_choice.specs.declared.choice.Used.TheVariants.{Plain, Trivial, Linear, BottomUp}

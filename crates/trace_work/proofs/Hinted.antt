@@ -25,7 +25,7 @@ use Rattle.lir_core.proofs.Passing.{none_from, one_from}
 use Rattle.linear_scan.specs.Linear.{Case, Hint}
 use Rattle.linear_scan.specs.Inputs.{IsFit, FitsHead, IsInput, hint_at}
 use Rattle.linear_scan.proofs.Traces.{ends_fit}
-use Rattle.trivial_alloc.specs.Plain.{index_of}
+use Rattle.simple_policies.specs.plain.Plain.{index_of}
 use Rattle.trace_work.specs.declared.hints.Entering.{Entering}
 use Rattle.alloc_choice.specs.Results.{parent_of, entering, hint_from, out_at, hint_for, IsCase}
 use Rattle.trace_work.specs.Places.{placed_all, is_it, has_at, first_held, entering_by, hint_of_place, hint_by, if_row}
