@@ -35,8 +35,8 @@ use Rattle.linked_flows.specs.Allocations.{Cut, copies_of, steps_of, part_at, al
 use Rattle.linked_flows.proofs.Edges.{count}
 use Rattle.linked_flows.proofs.Nodes.{sound_node}
 use Rattle.link_blocks.proofs.Made.{blocks_of, one_block}
-use Rattle.link_frames.proofs.Lows.{SpotLow, CopiesLow, MovesLow, low_append, order_low, edge_low}
-use Rattle.link_frames.proofs.Lives.{start_low, argument_low, and_left, and_right}
+use Rattle.modest_flows.proofs.Lows.{SpotLow, CopiesLow, MovesLow, low_append, order_low, edge_low}
+use Rattle.modest_flows.proofs.Lives.{start_low, argument_low, and_left, and_right}
 
 ---- Numbers that rise below a number
 
