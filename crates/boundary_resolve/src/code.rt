@@ -10,8 +10,8 @@ ghost use Rattle.boundary_resolve.specs.Moves.{edge_moves, entry_places, FewRegs
 ghost use Rattle.boundary_resolve.specs.Placing.{start_at, end_at, lines_at, is_test, steps_of_end, jump_steps, steps_from, test_steps, entry_steps, node_lines};
 ghost use Rattle.boundary_resolve.specs.Codes.{OfCode};
 
-use crate::moves::{Before, moves_nothing, moves_to};
 use crate::code_line::CodeLine;
+use crate::moves::{Before, moves_nothing, moves_to};
 use crate::seats::Seat;
 use lir_core::{Flow, Items, Leave, Line, Places, TraceOut};
 use outside::Memory;

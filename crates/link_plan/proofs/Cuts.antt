@@ -15,7 +15,7 @@ use Rattle.linked_flows.specs.Allocations.{Cut, steps_of, allocated, all_allocat
 use Rattle.link_blocks.specs.Fits.{numbers_fit}
 use Rattle.link_blocks.specs.Plans.{plain}
 use Rattle.link_blocks.specs.Laid.{IsCutOf}
-use Rattle.link_code.specs.Parts.{IsWhole}
+use Rattle.link_plan.specs.Parts.{IsWhole}
 use Rattle.link_plan.specs.Linked.{AllAllocated, AreCuts, greatest_frame}
 use Rattle.link_plan.proofs.Low.{whole, proc_low, and_left, and_right}
 use Rattle.link_plan.proofs.InTable.{AllLow}

@@ -31,7 +31,7 @@ use Rattle.link_blocks.specs.Fits.{number_fits, lirs_fit, trap_fits, node_fits, 
 use Rattle.link_blocks.specs.Plans.{plain_end, plain_block, plain}
 use Rattle.link_blocks.proofs.Flat.{registers_drop, registers_last}
 use Rattle.link_blocks.proofs.Made.{blocks_of, one_block}
-use Rattle.link_code.specs.Parts.{LeadsBelow, IsWhole}
+use Rattle.link_plan.specs.Parts.{LeadsBelow, IsWhole}
 use Rattle.link_plan.specs.Linked.{IsAllocated}
 use Rattle.link_plan.proofs.Plain.{nth_plain}
 use Rattle.link_plan.proofs.InTable.{FrameLow, CellLow, CellsLow, BlockLow, ProcLow}

@@ -17,7 +17,7 @@ use Rattle.linked_flows.specs.Allocations.{Cut, steps_of, all_allocated, AreRead
 use Rattle.linked_flows.proofs.Run.{runs}
 use Rattle.link_blocks.specs.Fits.{numbers_fit}
 use Rattle.link_blocks.specs.Plans.{plain}
-use Rattle.link_code.specs.Parts.{IsWhole}
+use Rattle.link_plan.specs.Parts.{IsWhole}
 use Rattle.link_plan.specs.Linked.{DataFits, AreCuts, ArePlans, greatest_frame, linked, plans_of, Runs}
 use Rattle.link_plan.proofs.Plain.{words_are_plain}
 use Rattle.link_plan.proofs.InTable.{all_in_table}

@@ -10,16 +10,16 @@ ghost use Rattle.placed_code.specs.Layout.{all_words, code_of};
 ghost use Rattle.linked_flows.specs.Allocations.{Cut, steps_of, allocated, all_allocated};
 ghost use Rattle.link_blocks.specs.Fits.{numbers_fit};
 ghost use Rattle.link_blocks.specs.Laid.{IsCutOf, Fits};
-ghost use Rattle.link_code.specs.Parts.{IsWhole};
+ghost use Rattle.link_plan.specs.Parts.{IsWhole};
 ghost use Rattle.link_blocks.specs.Plans.{placed_in, plain};
 ghost use Rattle.link_plan.specs.Linked.{DataFits, AreCuts, ArePlans, AreSmall, greatest_frame, plans_of, Runs, linked};
 ghost use Rattle.link_plan.specs.declared.fault.LinkFault.TheVariants.{Limit, Misfit};
 
 use crate::fault::LinkFault;
+use crate::whole::code_of;
 use boundary_resolve::CodeLine;
 use image_form::{Bytes, Image, Words};
 use link_blocks::{Plan, PlanFault};
-use link_code::code_of;
 use link_layout::LayoutFault;
 use lir_core::{Flow, TraceOut};
 use std::alloc::Global;

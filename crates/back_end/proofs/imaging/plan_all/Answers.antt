@@ -3,7 +3,7 @@ use Rattle.std.specs.Prelude.{All}
 use Rattle.std.specs.Vec.Iter.{into_iter_items}
 use Rattle.lir_core.specs.Flows.{IsValidFlow}
 use Rattle.link_blocks.specs.Plans.{placed_in}
-use Rattle.link_code.proofs.Rows.{errs_with}
+use Rattle.link_plan.proofs.Rows.{errs_with}
 use Rattle.back_end.specs.Batches.{AreMore}
 use Rattle.back_end.proofs.Batches.{begun, flows_valid, further, not_none, over}
 use Rattle.back_end.proofs.imaging.plan_all.Goals as goal
