@@ -1,7 +1,7 @@
 -- The plain result for a trace: at the start and the end of each node every value that is wanted there is in its home, and no register
 -- has one. Each different value that an operation or an end reads is loaded, to X0, X1 and on in order; what is made is made in X0 and
 -- stored. The arguments of a call go from their homes to their places all at once, behind the target's address.
-use Rattle.std.specs.Prelude.{ℕ, zero, suc, ◌<◌, ◌==◌, ◌||◌, Bool, cond, List, [], ◌∷◌, ◌++◌, map, filter, length, drop, replicate, Option, Some, None, slice_index_or}
+use Rattle.std.specs.Prelude.{ℕ, suc, ◌<◌, ◌==◌, ◌||◌, Bool, cond, List, [], ◌∷◌, ◌++◌, map, filter, length, drop, replicate, Option, Some, None, slice_index_or}
 use Rattle.std.specs.List.{list_any}
 use Rattle.run_laws.specs.Layers.{places_from}
 use Rattle.block_runs.specs.declared.end.End.{End}
