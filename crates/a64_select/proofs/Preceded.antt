@@ -10,9 +10,9 @@ use Rattle.block_runs.specs.Live.{has}
 use Rattle.block_runs.specs.Valid.{all_below}
 use Rattle.lir_core.specs.declared.flow.Node.{Node}
 use Rattle.lir_core.specs.Lines.{AllBelow}
-use Rattle.lir_core.specs.Flows.{code_node, code_nodes, leads, preds_of, AreDifferent}
+use Rattle.lir_core.specs.Flows.{code_node, code_nodes, leads, preds_of, AreDifferent, no_node}
 use Rattle.a64_select.specs.Selected.{with_preds}
-use Rattle.a64_select.specs.Making.{different_targets, with_pred, no_node, preceded}
+use Rattle.a64_select.specs.Making.{different_targets, with_pred, preceded}
 use Rattle.a64_select.proofs.Preds.{preds_below, preds_more, different_different, different_below, has_different, all_below_each, all_at}
 
 pub length-preceded : (from : ℕ) (ts : List ℕ) (nodes : List Node) → length (preceded from ts nodes) ≡ length nodes

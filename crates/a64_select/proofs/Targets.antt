@@ -16,9 +16,8 @@ use Rattle.ssa_core.specs.Procedures.{code_block, code_blocks}
 use Rattle.lir_core.specs.declared.flow.Lir.{Lir}
 use Rattle.lir_core.specs.declared.flow.Node.{Node}
 use Rattle.lir_core.specs.Lines.{AllBelow}
-use Rattle.lir_core.specs.Flows.{code_node, code_nodes, preds_of, has_several}
+use Rattle.lir_core.specs.Flows.{code_node, code_nodes, preds_of, has_several, no_node}
 use Rattle.a64_select.specs.Selected.{joins_of, is_join, split_targets, redirected, behind, split_end, old_nodes, freq_at, edge_node, new_nodes}
-use Rattle.a64_select.specs.Making.{no_node}
 use Rattle.a64_select.proofs.Preds.{all_below_each}
 use Rattle.a64_select.specs.Carrying.{new_targets}
 use Rattle.a64_select.proofs.Splitting.{edge_block, old_blocks, split_by, split_code, split_targets_few}

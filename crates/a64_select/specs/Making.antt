@@ -1,11 +1,11 @@
 -- Steps of the code that makes a flow.
-use Rattle.std.specs.Prelude.{ℕ, suc, ◌==◌, List, [], ◌∷◌, ◌++◌, map, length, slice_set, Option, None, option_to_list, slice_index, slice_index_or, if◌then◌else◌}
+use Rattle.std.specs.Prelude.{ℕ, suc, ◌==◌, List, [], ◌∷◌, ◌++◌, map, length, slice_set, Option, option_to_list, slice_index, slice_index_or, if◌then◌else◌}
 use Rattle.block_runs.specs.declared.end.End.{End}
 use Rattle.block_runs.specs.declared.end.End.TheVariants.{Jump, Branch, Nonzero, Return, Trap}
 use Rattle.run_laws.specs.Layers.{places_from}
 use Rattle.block_runs.specs.Blocks.{CodeBlock}
 use Rattle.lir_core.specs.declared.flow.Node.{Node}
-use Rattle.lir_core.specs.Flows.{preds_of}
+use Rattle.lir_core.specs.Flows.{no_node, preds_of}
 
 -- the blocks to which an end leads, each once
 abbrev pub two_targets : ℕ → ℕ → List ℕ
@@ -26,9 +26,6 @@ counted (t ∷ ts) counts = counted ts (slice_set counts t (suc (slice_index cou
 -- one more predecessor of each of some nodes
 abbrev pub with_pred : ℕ → Node → Node
 with_pred from node = record node { preds = node.preds ++ from ∷ [] }
-
-abbrev pub no_node : Node
-no_node = record { params = []; lirs = []; end = Return None; freq = 0; preds = []; enter = None }
 
 abbrev pub preceded : ℕ → List ℕ → List Node → List Node
 preceded from [] nodes = nodes

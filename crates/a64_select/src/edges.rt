@@ -6,9 +6,9 @@ ghost use Rattle.block_runs.specs.Blocks.{successors};
 ghost use Rattle.block_runs.specs.Valid.{all_below};
 ghost use Rattle.ssa_core.specs.Procedures.{code_blocks};
 ghost use Rattle.lir_core.specs.Lines.{AllBelow};
-ghost use Rattle.lir_core.specs.Flows.{code_nodes, preds_of};
+ghost use Rattle.lir_core.specs.Flows.{code_nodes, preds_of, no_node};
 ghost use Rattle.a64_select.specs.Selected.{joins_of, with_preds};
-ghost use Rattle.a64_select.specs.Making.{two_targets, different_targets, targets_in, counted, preceded, counts_of, no_node};
+ghost use Rattle.a64_select.specs.Making.{two_targets, different_targets, targets_in, counted, preceded, counts_of};
 
 use block_runs::End;
 use lir_core::Node;

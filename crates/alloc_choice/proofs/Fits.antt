@@ -9,7 +9,7 @@ use Rattle.lir_core.specs.declared.flow.Flow.{Flow}
 use Rattle.lir_core.specs.Flows.{code_nodes}
 use Rattle.linear_scan.specs.Linear.{Case, Hint}
 use Rattle.linear_scan.specs.Inputs.{FitsHead, IsInput}
-use Rattle.trivial_hint.specs.Trivial.{IsTrivial}
+use Rattle.simple_policies.specs.trivial.Trivial.{IsTrivial}
 use Rattle.alloc_choice.specs.Choice.{is_jump, is_none, is_bare, is_trivial}
 
 none_is : {A : Type 0} → (xs : List A) → is_none xs ≡ true → xs ≡ []

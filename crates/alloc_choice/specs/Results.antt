@@ -1,5 +1,5 @@
 -- The results of a flow's traces, each with the hint of its parent's.
-use Rattle.std.specs.Prelude.{◌≡◌, ℕ, zero, suc, ◌+◌, ◌<◌, ◌≤◌, List, [], ◌∷◌, ◌++◌, filter, length, Option, Some, None, slice_index_or}
+use Rattle.std.specs.Prelude.{ℕ, zero, suc, ◌+◌, List, [], ◌∷◌, ◌++◌, filter, Option, Some, None, slice_index_or}
 use Rattle.std.specs.Option.{option_map}
 use Rattle.run_laws.specs.Layers.{places_from}
 use Rattle.block_runs.specs.Blocks.{CodeBlock}
@@ -8,15 +8,14 @@ use Rattle.lir_core.specs.declared.flow.Flow.{Flow}
 use Rattle.lir_core.specs.declared.flow.Trace.{Trace}
 use Rattle.lir_core.specs.declared.places.TraceOut.{TraceOut}
 use Rattle.lir_core.specs.Flows.{code_nodes, preds_of, IsValidFlow}
-use Rattle.lir_core.specs.Sound.{IsSound}
 use Rattle.global_live.specs.Reading.{HasLive}
 use Rattle.trace_build.specs.Cuts.{lists_of, AllTraces, IsPartition}
 use Rattle.trace_build.specs.Parents.{trace_at, is_above}
-use Rattle.live_interval.specs.Needs.{first_of}
+use Rattle.trace_needs.specs.Needs.{first_of}
 use Rattle.linear_scan.specs.Linear.{Case, Hint, linear}
 use Rattle.linear_scan.specs.Inputs.{hint_at}
-use Rattle.trivial_alloc.specs.Plain.{plain_of, index_of}
-use Rattle.trivial_hint.specs.Trivial.{trivial}
+use Rattle.simple_policies.specs.plain.Plain.{plain_of, index_of}
+use Rattle.simple_policies.specs.trivial.Trivial.{trivial}
 use Rattle.bottom_up.specs.Bottom.{bottom_up}
 use Rattle.alloc_choice.specs.declared.choice.Policy.{Policy}
 use Rattle.alloc_choice.specs.declared.choice.Used.{Used}
@@ -78,7 +77,3 @@ pub record IsCase (x : Case) (traces : List Trace) : Type 0 where
   pub live : HasLive x.flow x.rows
   pub paths : AllTraces x.flow (lists_of traces)
   pub partition : IsPartition x.flow (lists_of traces)
-
--- the results of the first n traces are sound
-abbrev pub AreSound : Case → List Trace → List TraceOut → ℕ → Type 0
-AreSound x traces outs n = (t : ℕ) → t < n → IsSound x.regs x.flow (trace_at traces t) (out_at outs t)

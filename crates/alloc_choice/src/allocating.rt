@@ -1,7 +1,7 @@
 //! The result of a trace.
 
 ghost use Rattle.std.specs.Prelude.{◌≡◌, ◌≤◌, length, IfOk, IfSome};
-ghost use Rattle.lir_core.specs.Sound.{IsSound};
+ghost use Rattle.lir_core.specs.Sound.{IsSound, EndsRise};
 ghost use Rattle.linear_scan.specs.Inputs.{case_of, hint_of, lent, IsInput};
 ghost use Rattle.alloc_choice.specs.Choice.{used};
 ghost use Rattle.alloc_choice.specs.Results.{result_by};
@@ -9,9 +9,9 @@ ghost use Rattle.alloc_choice.specs.Results.{result_by};
 use crate::choice::{Choice, Used, policy_of};
 use lir_core::{Places, TraceIn, TraceOut};
 use outside::Memory;
+use simple_policies::plain::plain;
+use simple_policies::trivial::trivial;
 use std::alloc::Global;
-use trivial_alloc::plain;
-use trivial_hint::trivial;
 
 /// The result of a trace by the policy that is used for it: exactly the defined one, and sound whichever it is, for a
 /// valid flow, what is live in it, a trace, and a hint that is fit or none. The registers are those of `t`. Takes the time
@@ -30,6 +30,8 @@ pub fn allocate_trace(
         (case_of t.now) t.now.number t.now.trace.now.nodes (hint_of t.now.from (lent hint.entry))) }
     ensures sound { IsInput (case_of t.now) t.now.trace.now.nodes (hint_of t.now.from (lent hint.entry))
         → IfOk result (IsSound t.now.regs t.now.flow.now t.now.trace.now) }
+    ensures rises { IsInput (case_of t.now) t.now.trace.now.nodes (hint_of t.now.from (lent hint.entry))
+        → IfOk result EndsRise }
 {
     match policy_of(choice, t.flow, t.trace) {
         Used::Plain => plain(alloc, t),

@@ -162,15 +162,15 @@ fn leaving(alloc: Global) -> Result<TraceOut, AllocError> {
     })
 }
 
-fn text(alloc: Global, placed: &[Placed]) -> Result<String, AllocError> {
+fn text(alloc: Global, placed: &[CodeLine]) -> Result<String, AllocError> {
     let mut text = String::new(alloc);
     for line in placed {
         match line {
-            Placed::Node(node) => write!(&mut text, "node {node}: ")?,
-            Placed::Body(Line::Lir(index)) => write!(&mut text, "lir {index}, ")?,
-            Placed::Body(_) => text.push_str("other, ")?,
-            Placed::Edge(step) => write!(&mut text, "{step:?}, ")?,
-            Placed::Leave(node) => write!(&mut text, "leave {node}; ")?,
+            CodeLine::Node(node) => write!(&mut text, "node {node}: ")?,
+            CodeLine::Body(Line::Lir(index)) => write!(&mut text, "lir {index}, ")?,
+            CodeLine::Body(_) => text.push_str("other, ")?,
+            CodeLine::Edge(step) => write!(&mut text, "{step:?}, ")?,
+            CodeLine::Leave(node) => write!(&mut text, "leave {node}; ")?,
         }
     }
     Ok(text)
@@ -182,7 +182,7 @@ fn trace(alloc: Global, nodes: &[u32]) -> Result<Trace, AllocError> {
     })
 }
 
-fn placed(alloc: Global) -> Result<Vec<Placed>, Memory> {
+fn placed(alloc: Global) -> Result<Vec<CodeLine>, Memory> {
     let flow = exchanging(alloc)?;
     let traces = [trace(alloc, &[0, 1, 2])?, trace(alloc, &[3])?];
     let outs = [looping(alloc)?, leaving(alloc)?];

@@ -3,9 +3,9 @@
 use global_live::live;
 use lir_core::{Flow, Items, Leave, Line, Lir, Node, Numbers, Places, Template, Trace};
 use outside::Memory;
+use simple_policies::plain::*;
 use std::alloc::{AllocError, Global};
 use std::test::Fail;
-use trivial_alloc::*;
 
 fn node(
     alloc: Global,

@@ -1,6 +1,6 @@
 -- One batch of procedures more.
 use Rattle.std.proofs.Common.{◌≡◌, ℕ, zero, suc, ◌+◌, ◌-◌, ◌<◌, ◌≤◌, true, false, Bool, List, [], ◌∷◌, ◌++◌, map, take, drop, length, refl, sym, ap, ap₂, ◌∙◌, subst, arith, append_assoc}
-use Rattle.std.specs.Prelude.{◌==◌, All, Result, Ok, Err, IfErr, IsErrAnd}
+use Rattle.std.specs.Prelude.{◌==◌, All}
 use Rattle.std.specs.List.{list_all}
 use Rattle.std.proofs.lemmas.List.{append-nil, map-append, take-append-drop, length-drop}
 use Rattle.std.proofs.lemmas.List.Folds.{list_all-append}
@@ -11,7 +11,6 @@ use Rattle.a64_select.specs.Selected.{selected}
 use Rattle.placed_code.specs.Placed.{Placed}
 use Rattle.placed_code.specs.Results.{placed}
 use Rattle.linked_flows.specs.Allocations.{Cut, steps_of, allocated}
-use Rattle.trace_build.specs.declared.builder.Builder.{Builder}
 use Rattle.trace_build.specs.Traces.{traces_in}
 use Rattle.link_blocks.specs.Fits.{numbers_fit}
 use Rattle.link_blocks.specs.Plans.{placed_in, plain}
@@ -19,7 +18,8 @@ use Rattle.link_plan.specs.Linked.{AllAllocated, AreCuts, AreSmall, IsAllocated,
 use Rattle.alloc_choice.specs.declared.choice.Choice.{Choice}
 use Rattle.alloc_choice.specs.Choice.{IsFitChoice}
 use Rattle.lir_core.specs.declared.places.TraceOut.{TraceOut}
-use Rattle.boundary_resolve.specs.declared.placed.Placed.{Placed as Line}
+use Rattle.boundary_resolve.specs.declared.code_line.CodeLine.{CodeLine}
+use Rattle.trace_work.proofs.Made.{traces-append}
 use Rattle.flow_allocation.specs.Allocations.{AllAllocations, AreAllocated, trace_count}
 use Rattle.flow_allocation.proofs.Counting.{counted}
 use Rattle.flow_allocation.proofs.Taking.{none_of, take_none, drop_none}
@@ -154,7 +154,7 @@ module _ (choice : Choice) (fit : IsFitChoice choice) (done batch : List Proc) (
 
 ---- What passes give
 
-module _ (choice : Choice) (fit : IsFitChoice choice) (flows : List Flow) (parts : List (List Line)) (outs : List (List TraceOut)) (old new : Planned) (traces : ℕ) (h : AreAllocated choice old.traces flows parts outs traces)
+module _ (choice : Choice) (fit : IsFitChoice choice) (flows : List Flow) (parts : List (List CodeLine)) (outs : List (List TraceOut)) (old new : Planned) (traces : ℕ) (h : AreAllocated choice old.traces flows parts outs traces)
     (few : old.traces + traces ≤ 262144) (sum : new.traces ≡ old.traces + traces) where
   are_cuts : AllAllocated choice.regs h.cuts → AreCuts choice.regs flows parts outs h.cuts
   are_cuts each = record { flows_are = h.flows_are; parts_are = h.parts_are; outs_are = h.outs_are; few = fit.few; each = each }
@@ -189,10 +189,6 @@ module _ (choice : Choice) (fit : IsFitChoice choice) (flows : List Flow) (parts
   passed was-unfit unfit = with_plans (λ each e. absurd (let z : false ≡ true = sym unfit ∙ e in cc)) (λ each e f small. (let z : false ≡ true = sym was-unfit ∙ f in cc))
 
 ---- Numbers of traces
-
-traces-append : (builder : Builder) (fs gs : List Flow) → traces_in builder (fs ++ gs) ≡ traces_in builder fs + traces_in builder gs
-traces-append builder [] gs = omega arith
-traces-append builder (f ∷ fs) gs = let r = traces-append builder fs gs in omega (arith, r)
 
 -- traces past the limit among the first procedures are past it among all
 pub over : (choice : Choice) (all done left : List Proc) (most : ℕ) (planned : Planned) (flows : List Flow) → IsPlanned choice done planned → done ++ left ≡ all → flows ≡ map selected (take most left)
@@ -330,11 +326,6 @@ all_rounds choice all left count i planned h le =
     let r = h.rounds in
     let none = none_of left (omega (arith, r, le)) in
     subst (λ ps. IsPlanned choice ps planned) (sym (append-nil h.done) ∙ ap (λ ps. h.done ++ ps) (sym none) ∙ h.split) h.planned
-
--- what holds of the fault, if there is one
-pub on_fault : {A E : Type 0} (P Q : E → Type 0) (r : Result A E) → IsErrAnd r P → ((fault : E) → P fault → Q fault) → IfErr r Q
-on_fault P Q (Ok x) is f = tt
-on_fault P Q (Err fault) is f = f fault is
 
 pub not_none : (n : ℕ) → false ≡ (n == 0) → n ≡ 0 → ⊥
 not_none zero e z = cc

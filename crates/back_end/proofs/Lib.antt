@@ -1,4 +1,3 @@
 pub mod Ready
 pub mod Reading
-pub mod Letting
 pub mod Batches

@@ -201,11 +201,7 @@ pub fn select_all(alloc: Global, procedures: Items<Proc>) -> Result<Vec<Flow>, I
     ensures numbers { IfOk result (λ flows. All (λ f. node_numbers f.nodes ≡ true) flows.items) }
     ensures memory { IfErr result (λ fault. fault ≡ OutOfMemory) }
 {
-    let mut flows = Vec::with_capacity(alloc, procedures.len())?;
-    for procedure in procedures.into_vec() {
-        let flow = select(alloc, procedure)?;
-        read_nodes(flow.nodes.as_slice());
-        flows.push(flow)?;
-    }
-    Ok(flows)
+    let count = procedures.len();
+    let mut rest = procedures.into_vec().into_iter();
+    select_next(alloc, &mut rest, count)
 }

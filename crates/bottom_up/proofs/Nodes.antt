@@ -15,9 +15,10 @@ use Rattle.lir_core.specs.Flows.{operation_of, code_node, code_nodes, calls_mark
 use Rattle.lir_core.specs.Lines.{end_reads, Room}
 use Rattle.lir_core.specs.Spots.{get, in_register, placed, IsSingle}
 use Rattle.lir_core.specs.Sound.{room_of}
+use Rattle.lir_core.specs.Rows.{live_into}
 use Rattle.global_live.specs.Reading.{HasLive}
 use Rattle.global_live.proofs.Lists.{has_front, has_back, in_parts}
-use Rattle.live_interval.specs.Needs.{is_next, live_into, live_off, first_of}
+use Rattle.trace_needs.specs.Needs.{is_next, live_off, first_of}
 use Rattle.loc_state.specs.Registers.{register_of}
 use Rattle.loc_state.specs.Homed.{all_inserted}
 use Rattle.loc_state.proofs.Homing.{has_all_inserted}
@@ -25,7 +26,7 @@ use Rattle.loc_state.proofs.Numbers.{numbers_same, test_same, or_rest, in_row, r
 use Rattle.loc_back.specs.declared.part.Stage.{Stage}
 use Rattle.loc_back.specs.declared.part.Stage.TheVariants.{Behind, End as AtEnd, Operation as Within, Done}
 use Rattle.loc_back.specs.declared.backward.Backward.{Backward}
-use Rattle.loc_back.specs.Marks.{live_at, live_at_each}
+use Rattle.loc_back.specs.Marks.{live_at_each}
 use Rattle.loc_back.specs.Steps.{passed, no_param, seated_new, seated_news, ended, in_part, left_node, before_node}
 use Rattle.loc_back.specs.Served.{Section, lives_from, Route, IsEntered, due, Simulates, CanEnter, walked, onward, section_of, sections}
 use Rattle.loc_back.proofs.Ending.{lives_last}
@@ -206,9 +207,9 @@ passed_home_used next params behind (Trap kind) v h = cc
 
 off_each : (values : ℕ) (rows : List (List ℕ)) (next : Option ℕ) (ss : List ℕ) (v : ℕ) → has (live_off values rows next ss) v ≡ true → has (live_at_each values rows ss) v ≡ true
 off_each values rows next [] v h = h
-off_each values rows next (s ∷ ss) v h = ⊎_elim (λ k. has_front (live_at values rows s) (live_at_each values rows ss) v (by (is_next next s) k)) (λ k. has_back (live_at values rows s) (live_at_each values rows ss) v (off_each values rows next ss v k)) (in_parts (cond (is_next next s) [] (live_into values rows s)) (live_off values rows next ss) v h)
+off_each values rows next (s ∷ ss) v h = ⊎_elim (λ k. has_front (live_into values rows s) (live_at_each values rows ss) v (by (is_next next s) k)) (λ k. has_back (live_into values rows s) (live_at_each values rows ss) v (off_each values rows next ss v k)) (in_parts (cond (is_next next s) [] (live_into values rows s)) (live_off values rows next ss) v h)
   where
-    by : (b : Bool) → has (cond b [] (live_into values rows s)) v ≡ true → has (live_at values rows s) v ≡ true
+    by : (b : Bool) → has (cond b [] (live_into values rows s)) v ≡ true → has (live_into values rows s) v ≡ true
     by true e = cc
     by false e = e
 

@@ -9,11 +9,11 @@ use Rattle.lir_core.specs.declared.flow.Lir.{Lir}
 use Rattle.lir_core.specs.declared.flow.Node.{Node}
 use Rattle.lir_core.specs.declared.flow.Flow.{Flow}
 use Rattle.lir_core.specs.Flows.{operation_of, code_node, code_nodes, IsValidFlow}
-use Rattle.lir_core.specs.Rows.{has_bit}
+use Rattle.lir_core.specs.Rows.{has_bit, live_into}
 use Rattle.global_live.specs.Reading.{HasLive}
 use Rattle.global_live.proofs.Lists.{has_front, has_back, in_parts, not_in_front, not_in_back, times-append, times_of_in, times_of_out, has-filter, all_below_in}
 use Rattle.global_live.proofs.Tables.{at_block}
-use Rattle.loc_back.specs.Marks.{live_at, live_at_each}
+use Rattle.loc_back.specs.Marks.{live_at_each}
 use Rattle.loc_back.specs.Served.{Section, lives, lives_from, section_of}
 use Rattle.loc_state.proofs.Numbers.{numbers_same, test_same, or_rest}
 use Rattle.linear_scan.proofs.Needs.{alive}
@@ -68,15 +68,15 @@ in_each values rows [] v h = cc
 in_each values rows (s ∷ ss) v h = ⊎_elim
     (λ k. (s, ap (λ b. cond b true (has ss s)) (test_same s), (Rattle.std.proofs.lemmas.Bool.and_parts (has (places_from 0 values) v) (has_bit rows s v) (sym (has-filter (has_bit rows s) (places_from 0 values) v) ∙ k)).1))
     (λ k. let m = in_each values rows ss v k in (m.0, or_rest (s == m.0) (has ss m.0) m.1, m.2))
-    (in_parts (live_at values rows s) (live_at_each values rows ss) v h)
+    (in_parts (live_into values rows s) (live_at_each values rows ss) v h)
 
-of_each : (values : ℕ) (rows : List (List ℕ)) (ss : List ℕ) (s v : ℕ) → has ss s ≡ true → has (live_at values rows s) v ≡ true → has (live_at_each values rows ss) v ≡ true
+of_each : (values : ℕ) (rows : List (List ℕ)) (ss : List ℕ) (s v : ℕ) → has ss s ≡ true → has (live_into values rows s) v ≡ true → has (live_at_each values rows ss) v ≡ true
 of_each values rows [] s v h e = cc
 of_each values rows (m ∷ ss) s v h e = by (m == s) refl h (λ k. of_each values rows ss s v k e)
   where
-    by : (b : Bool) → (m == s) ≡ b → cond b true (has ss s) ≡ true → (has ss s ≡ true → has (live_at_each values rows ss) v ≡ true) → has (live_at values rows m ++ live_at_each values rows ss) v ≡ true
-    by true q h on = has_front (live_at values rows m) (live_at_each values rows ss) v (ap (λ y. has (live_at values rows y) v) (numbers_same m s q) ∙ e)
-    by false q h on = has_back (live_at values rows m) (live_at_each values rows ss) v (on h)
+    by : (b : Bool) → (m == s) ≡ b → cond b true (has ss s) ≡ true → (has ss s ≡ true → has (live_at_each values rows ss) v ≡ true) → has (live_into values rows m ++ live_at_each values rows ss) v ≡ true
+    by true q h on = has_front (live_into values rows m) (live_at_each values rows ss) v (ap (λ y. has (live_into values rows y) v) (numbers_same m s q) ∙ e)
+    by false q h on = has_back (live_into values rows m) (live_at_each values rows ss) v (on h)
 
 ---- Made in one place
 
@@ -130,9 +130,9 @@ module _ (f : Flow) (rows : List (List ℕ)) (valid : IsValidFlow f) (live : Has
     pub starts : (v : ℕ) → lives_from sec 0 v ≡ true → has sec.before v ≡ true
     starts v h = by (has node.params v) refl
       where
-        by : (b : Bool) → has node.params v ≡ b → has (live_at f.values rows n ++ node.params) v ≡ true
-        by true e = has_back (live_at f.values rows n) node.params v e
-        by false e = has_front (live_at f.values rows n) node.params v (in_live_into no_need f rows valid live v n (lives_live v e h))
+        by : (b : Bool) → has node.params v ≡ b → has (live_into f.values rows n ++ node.params) v ≡ true
+        by true e = has_back (live_into f.values rows n) node.params v e
+        by false e = has_front (live_into f.values rows n) node.params v (in_live_into no_need f rows valid live v n (lives_live v e h))
 
     pub there : block_at bls n ≡ code_node node
     there = block_is no_need f rows valid live n node here

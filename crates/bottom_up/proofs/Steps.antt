@@ -5,7 +5,7 @@ use Rattle.std.proofs.Math.Path.{fun_ext}
 use Rattle.block_runs.specs.Live.{has}
 use Rattle.lir_core.specs.declared.flow.Lir.{Lir}
 use Rattle.lir_core.specs.declared.flow.Node.{Node}
-use Rattle.live_interval.specs.Needs.{first_of}
+use Rattle.trace_needs.specs.Needs.{first_of}
 use Rattle.loc_state.specs.Homed.{inserted, all_inserted}
 use Rattle.loc_state.proofs.Homing.{has_all_inserted}
 use Rattle.loc_back.specs.declared.part.BackPart.{BackPart}

@@ -10,16 +10,17 @@ use Rattle.lir_core.specs.Flows.{code_node, code_nodes, leads, IsPath, AreDiffer
 use Rattle.lir_core.specs.Spots.{in_register, placed}
 use Rattle.lir_core.specs.Lines.{end_reads, Room}
 use Rattle.lir_core.specs.Walks.{Walks}
-use Rattle.lir_core.specs.Sound.{IsSoundNode, IsSound, AreSoundLines, room_of}
+use Rattle.lir_core.specs.Sound.{IsSoundNode, IsSound, EndsRise, AreSoundLines, room_of}
+use Rattle.lir_core.specs.Rows.{live_into}
 use Rattle.lir_core.proofs.Walking.{walked}
 use Rattle.global_live.specs.Reading.{HasLive}
 use Rattle.global_live.proofs.Lists.{has_back, has-filter, in_parts}
-use Rattle.live_interval.specs.Needs.{live_into, first_of}
+use Rattle.trace_needs.specs.Needs.{first_of}
 use Rattle.loc_state.specs.Walked.{AllWalk}
 use Rattle.loc_state.proofs.Homing.{has_all_inserted}
 use Rattle.loc_state.proofs.Numbers.{either, in_reg, in_home}
 use Rattle.loc_back.specs.declared.backward.Backward.{Backward}
-use Rattle.loc_back.specs.Marks.{live_at, at_start, at_end, marked, with_marks, starts_marked, ends_marked}
+use Rattle.loc_back.specs.Marks.{at_start, at_end, marked, with_marks, starts_marked, ends_marked}
 use Rattle.loc_back.specs.Steps.{started, left_node, closed}
 use Rattle.loc_back.specs.Served.{Section, lives_from, Route, section_of, sections, tasks}
 use Rattle.loc_back.proofs.MarkedSets.{has_marked, marked_rises}
@@ -131,7 +132,7 @@ module _ (x : Case) (mention : ℕ → ℕ → Option ℕ) (valid : IsValidFlow 
         homes : has (marked homed b.before []) v ≡ true → Live blocks v n ⊎ (has node.params v ≡ true)
         homes q =
             let m = both (has b.before v) (has homed v) (sym (has_marked homed b.before [] v) ∙ q) in
-            ⊎_elim (λ l. inl (live.exact n v (Rattle.std.proofs.lemmas.Bool.and_parts (has (Rattle.run_laws.specs.Layers.places_from 0 x.flow.values) v) (Rattle.lir_core.specs.Rows.has_bit x.rows n v) (sym (has-filter (Rattle.lir_core.specs.Rows.has_bit x.rows n) (Rattle.run_laws.specs.Layers.places_from 0 x.flow.values) v) ∙ l)).1)) inr (in_parts (live_at x.flow.values x.rows n) node.params v m.0)
+            ⊎_elim (λ l. inl (live.exact n v (Rattle.std.proofs.lemmas.Bool.and_parts (has (Rattle.run_laws.specs.Layers.places_from 0 x.flow.values) v) (Rattle.lir_core.specs.Rows.has_bit x.rows n v) (sym (has-filter (Rattle.lir_core.specs.Rows.has_bit x.rows n) (Rattle.run_laws.specs.Layers.places_from 0 x.flow.values) v) ∙ l)).1)) inr (in_parts (live_into x.flow.values x.rows n) node.params v m.0)
 
     end_placed : (v : ℕ) → has b.after v ≡ true → placed end v ≡ true
     end_placed v h = placed_marked e.regs homed b.after v h (k.end_covers v h)
@@ -139,7 +140,8 @@ module _ (x : Case) (mention : ℕ → ℕ → Option ℕ) (valid : IsValidFlow 
     node_sound : Walks space b.ops b.last start lines named end → IsSoundNode space blocks n start lines named end
     unfolding at
     node_sound w = record {
-      row = (record { registers = k.start_size; single = k.start_single; rising = marked_rises homed b.before [] tt }, record { registers = k.end_size; single = k.end_single; rising = marked_rises homed b.after [] tt });
+      row = (record { registers = k.start_size; single = k.start_single }, record { registers = k.end_size; single = k.end_single });
+      rises = marked_rises homed b.before [] tt;
       starts = record {
         live = λ v l. start_placed v (live_lives x.flow x.rows valid live n node here v l);
         wanted = subst (λ bl. (v : ℕ) → has bl.params v ≡ true → IsWanted blocks bl bl.ops v → placed start v ≡ true) (sym at) (λ v h q. start_placed v (wanted_lives x.flow x.rows valid live n node here v q));
@@ -163,7 +165,7 @@ module _ (x : Case) (mention : ℕ → ℕ → Option ℕ) (valid : IsValidFlow 
   all_sound homed (n ∷ ns) t (s ∷ ss) [] rs (e ∷ es) w k = absurd w
   all_sound homed (n ∷ ns) t (s ∷ ss) (l ∷ ls) [] (e ∷ es) w k = absurd w
   all_sound homed (n ∷ ns) t (s ∷ ss) (l ∷ ls) (r ∷ rs) (e ∷ es) w k =
-      (by (slice_get x.flow.nodes n) t.0.1 w.0 k.0, all_sound homed ns t.1 ss ls rs es w.1 k.1)
+      ((by (slice_get x.flow.nodes n) t.0.1 w.0 k.0, marked_rises homed (at_end x.flow.values x.rows (slice_get x.flow.nodes n)) [] tt), all_sound homed ns t.1 ss ls rs es w.1 k.1)
     where
       by : (o : Option Node) → slice_get x.flow.nodes n ≡ Some t.0.0 → Walks space (section_of x.flow.values x.rows n (slice_get x.flow.nodes n)).ops (section_of x.flow.values x.rows n (slice_get x.flow.nodes n)).last (with_marks homed (at_start x.flow.values x.rows n (slice_get x.flow.nodes n)) s) l r (with_marks homed (at_end x.flow.values x.rows (slice_get x.flow.nodes n)) e) → IsKept x.regs (section_of x.flow.values x.rows n (slice_get x.flow.nodes n)) homed s.regs e.regs → IsSoundNode space blocks n (with_marks homed (at_start x.flow.values x.rows n (slice_get x.flow.nodes n)) s) l r (with_marks homed (at_end x.flow.values x.rows (slice_get x.flow.nodes n)) e)
       by o q w k =
@@ -172,7 +174,7 @@ module _ (x : Case) (mention : ℕ → ℕ → Option ℕ) (valid : IsValidFlow 
 
 ---- The result
 
-pub bottom_sound : (x : Case) (mention : ℕ → ℕ → Option ℕ) (ns : List ℕ) → IsInput x ns None → (number : ℕ) → IsSound x.regs x.flow (record { nodes = ns }) (result_of number (walked_back x mention ns))
+pub bottom_sound : (x : Case) (mention : ℕ → ℕ → Option ℕ) (ns : List ℕ) → IsInput x ns None → (number : ℕ) → IsSound x.regs x.flow (record { nodes = ns }) (result_of number (walked_back x mention ns)) × EndsRise (result_of number (walked_back x mention ns))
 bottom_sound x mention ns given number =
     let t = all_there x (λ v p. None) given.valid given.live given.enough ns given.trace.nodes in
     let b = along x mention 0 ns (started (homed_first x ns) x.regs) in
@@ -185,7 +187,7 @@ bottom_sound x mention ns given number =
     let k' = subst (λ hs. AllKept x.regs hs (sections x.flow x.rows ns) left.starts left.ends) (sym (homed_same b)) k in
     let s = all_sound x mention given.valid given.live given.enough left.part.homed ns t left.starts left.lines left.regs left.ends w k' in
     let r = whole (room_of x.regs x.flow) (code_nodes x.flow.nodes) ns c.starts c.lines c.regs c.ends s in
-    record { counts = r.counts; nodes = r.nodes }
+    (record { counts = r.counts; nodes = r.nodes }, r.rise)
   where
     homed_same : (b : Backward) → (left_node b).part.homed ≡ b.part.homed
     homed_same b = (Rattle.bottom_up.proofs.Nodes.left_same b.part.stage b).1

@@ -5,7 +5,8 @@ use Rattle.lir_core.specs.declared.flow.Node.{Node}
 use Rattle.lir_core.specs.declared.places.TraceOut.{TraceOut}
 use Rattle.lir_core.specs.Flows.{code_node}
 use Rattle.lir_core.specs.Lines.{end_reads}
-use Rattle.live_interval.specs.Needs.{live_into, first_of, positions_of, last_mention}
+use Rattle.lir_core.specs.Rows.{live_into}
+use Rattle.trace_needs.specs.Needs.{first_of, positions_of, last_mention}
 use Rattle.loc_back.specs.declared.backward.Backward.{Backward}
 use Rattle.loc_back.specs.Steps.{started, closed, in_part, before_node}
 use Rattle.linear_scan.specs.Linear.{Case, params_of, end_position, position_behind}

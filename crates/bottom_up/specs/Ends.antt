@@ -4,7 +4,7 @@ use Rattle.block_runs.specs.Blocks.{successors}
 use Rattle.block_runs.specs.declared.end.End.{End}
 use Rattle.block_runs.specs.declared.end.End.TheVariants.{Jump, Branch, Nonzero, Return, Trap}
 use Rattle.lir_core.specs.Spots.{get, in_register}
-use Rattle.live_interval.specs.Needs.{is_next, live_off}
+use Rattle.trace_needs.specs.Needs.{is_next, live_off}
 use Rattle.loc_state.specs.Registers.{register_of}
 use Rattle.loc_back.specs.Steps.{no_param, seated_new}
 use Rattle.bottom_up.specs.Policy.{is_empty}

@@ -2,8 +2,8 @@
 
 ghost use Rattle.std.specs.Prelude.{◌≡◌, ◌≤◌, length, IfOk, OnOk, None, slice_get, get_or};
 ghost use Rattle.lir_core.specs.Lines.{end_reads};
-ghost use Rattle.lir_core.specs.Sound.{IsSound};
-ghost use Rattle.live_interval.specs.Asked.{mention_told};
+ghost use Rattle.lir_core.specs.Sound.{IsSound, EndsRise};
+ghost use Rattle.trace_needs.specs.Asked.{mention_told};
 ghost use Rattle.loc_back.specs.Steps.{in_part};
 ghost use Rattle.std.specs.Option.{option_map};
 ghost use Rattle.linear_scan.specs.Linear.{Case, end_position, position_behind};
@@ -15,10 +15,10 @@ use crate::ends::{Following, passing};
 use crate::homing::{homed_first, node_at};
 use crate::policy::{behind, operate_all, take_all};
 use lir_core::{Flow, Leave, Node, TraceIn, TraceOut};
-use live_interval::{Mentions, mentions};
 use loc_back::Backward;
 use outside::Memory;
 use std::alloc::Global;
+use trace_needs::{Mentions, mentions};
 
 /// Bottom-up allocation of a trace: the defined result, which is sound, for a valid flow, what is live in it, and a trace. With 16
 /// registers at most it takes time in proportion to what `mentions` takes, to the trace's operations and uses, and to the
@@ -30,6 +30,7 @@ pub fn allocate(alloc: Global, t: &TraceIn) -> Result<TraceOut, Memory>
         → IfOk result (λ out. out ≡ bottom_up (case_of t.now) t.now.number t.now.trace.now.nodes) }
     ensures sound { IsInput (case_of t.now) t.now.trace.now.nodes None
         → IfOk result (IsSound t.now.regs t.now.flow.now t.now.trace.now) }
+    ensures rises { IsInput (case_of t.now) t.now.trace.now.nodes None → IfOk result EndsRise }
 {
     let positions = mentions(alloc, t.flow, t.trace)?;
     let homed = homed_first(alloc, t)?;

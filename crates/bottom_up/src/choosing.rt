@@ -1,11 +1,11 @@
 //! Which register is given up.
 
 ghost use Rattle.std.specs.Prelude.{◌≡◌, ◌≤◌, length};
-ghost use Rattle.live_interval.specs.Asked.{mention_told};
+ghost use Rattle.trace_needs.specs.Asked.{mention_told};
 ghost use Rattle.bottom_up.specs.Policy.{is_earlier, earlier, nearer, victim, before};
 
-use live_interval::Mentions;
 use loc_state::has;
+use trace_needs::Mentions;
 
 /// A register, and the last position before that mentions its value, if one does.
 #[derive(Clone, Copy)]

@@ -2,8 +2,9 @@
 
 ghost use Rattle.std.specs.Prelude.{◌≡◌, ◌≤◌, ◌++◌, [], ◌∷◌, length, map, None, IfOk, OnOk, slice_get};
 ghost use Rattle.lir_core.specs.Spots.{get};
+ghost use Rattle.lir_core.specs.Rows.{live_into};
 ghost use Rattle.block_runs.specs.Blocks.{successors};
-ghost use Rattle.live_interval.specs.Needs.{is_next, live_into, live_off};
+ghost use Rattle.trace_needs.specs.Needs.{is_next, live_off};
 ghost use Rattle.loc_back.specs.Steps.{no_param};
 ghost use Rattle.bottom_up.specs.Policy.{is_empty};
 ghost use Rattle.bottom_up.specs.Ends.{param_register, argument_register, given, without_register, not_given, given_at, passed_home, homed_at};

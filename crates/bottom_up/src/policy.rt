@@ -3,18 +3,18 @@
 ghost use Rattle.std.specs.Prelude.{◌≡◌, ◌+◌, ◌≤◌, length, drop, map, None, IfOk, OnOk};
 ghost use Rattle.block_runs.specs.Blocks.{Operation};
 ghost use Rattle.lir_core.specs.Flows.{operation_of};
-ghost use Rattle.live_interval.specs.Asked.{mention_told};
+ghost use Rattle.trace_needs.specs.Asked.{mention_told};
 ghost use Rattle.loc_back.specs.Steps.{in_part};
 ghost use Rattle.lir_core.specs.Spots.{get};
 ghost use Rattle.bottom_up.specs.Policy.{is_empty, own_or_lowest, seated_at, with_use, with_arguments, with_first, before_call, register_in, call_one, take_one, take_all, made_in, operate, operate_all};
 
 use crate::choosing::victim;
-use lir_core::{Lir, Template};
-use live_interval::Mentions;
+use lir_core::{Lir, Template, is_aimed};
 use loc_back::Backward;
-use loc_state::{Registers, has_register, is_aimed, lowest_empty, register_of};
+use loc_state::{Registers, has_register, lowest_empty, register_of};
 use outside::Memory;
 use std::alloc::{AllocError, Global};
+use trace_needs::Mentions;
 
 /// A number so far behind a position.
 pub(crate) fn behind(at: u32, count: usize) -> Result<u32, Memory>

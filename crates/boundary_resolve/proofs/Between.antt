@@ -14,12 +14,11 @@ use Rattle.lir_core.specs.declared.flow.Node.{Node}
 use Rattle.lir_core.specs.declared.flow.Flow.{Flow}
 use Rattle.lir_core.specs.declared.flow.Trace.{Trace}
 use Rattle.lir_core.specs.declared.places.TraceOut.{TraceOut}
-use Rattle.lir_core.specs.Flows.{code_node, code_nodes, leads, preds_of}
-use Rattle.lir_core.specs.Spots.{IsRow, placed, in_register, argument_of, TakesOver}
+use Rattle.lir_core.specs.Flows.{code_node, code_nodes, leads, preds_of, no_node, node_at}
+use Rattle.lir_core.specs.Spots.{IsRising, IsRow, placed, in_register, argument_of, TakesOver}
 use Rattle.lir_core.specs.Sound.{IsStart, IsEnd, IsSoundNode, room_of, no_places}
 use Rattle.global_live.proofs.Lists.{has-append, has_front, has_one, times_of_out, all_below_in}
 use Rattle.global_live.proofs.Tables.{has-preds_of, at_block}
-use Rattle.trace_build.specs.Traces.{no_node, node_at}
 use Rattle.trace_build.specs.Parents.{trace_at}
 use Rattle.trace_build.specs.Cuts.{lists_of, all_nodes}
 use Rattle.parallel_move.specs.declared.step.Step.{Step}
@@ -149,6 +148,7 @@ module _ (k : ℕ) (f : Flow) (traces : List Trace) (outs : List TraceOut) (all 
 
   pub record SoundAt (n : ℕ) : Type 0 where
     pub row : (IsRow k (start_at traces outs n)) × (IsRow k (end_at traces outs n))
+    pub rises : IsRising (start_at traces outs n).homed
     pub starts : IsStart (code_nodes f.nodes) n (start_at traces outs n)
     pub ends : IsEnd (code_nodes f.nodes) n (end_at traces outs n)
 
@@ -162,6 +162,7 @@ module _ (k : ℕ) (f : Flow) (traces : List Trace) (outs : List TraceOut) (all 
       let end_is : end_at traces outs n ≡ get_or (out_at outs s.trace).ends s.at no_places = ap (places_at (λ o. o.ends) outs) seat in
       record {
         row = (subst (IsRow k) (sym start_is) here.row.0, subst (IsRow k) (sym end_is) here.row.1);
+        rises = subst (λ q. IsRising q.homed) (sym start_is) here.rises;
         starts = subst (IsStart (code_nodes f.nodes) n) (sym start_is) (subst (λ m. IsStart (code_nodes f.nodes) m (get_or (out_at outs s.trace).starts s.at no_places)) s.node here.starts);
         ends = subst (IsEnd (code_nodes f.nodes) n) (sym end_is) (subst (λ m. IsEnd (code_nodes f.nodes) m (get_or (out_at outs s.trace).ends s.at no_places)) s.node here.ends);
       }
@@ -193,7 +194,7 @@ module _ (k : ℕ) (f : Flow) (traces : List Trace) (outs : List TraceOut) (all 
   crosses : (from to : ℕ) (args : List ℕ) → from < length f.nodes → to < length f.nodes → leads (code_nodes f.nodes) to from ≡ true
       → ((v : ℕ) → has (node_at f.nodes to).params v ≡ true → has (end_uses (block_at (code_nodes f.nodes) from).end) (argument_of (node_at f.nodes to).params args v) ≡ true)
       → TakesOver (end_at traces outs from) (start_at traces outs to) (argument_of (node_at f.nodes to).params args) (steps_source (steps_between traces outs from to (argument_of (node_at f.nodes to).params args)))
-  crosses from to args lf lt edge passes = takes_over (end_at traces outs from) (start_at traces outs to) (argument_of (node_at f.nodes to).params args) (record { placed_before = before; rising = (sound_at to lt).row.0.rising })
+  crosses from to args lf lt edge passes = takes_over (end_at traces outs from) (start_at traces outs to) (argument_of (node_at f.nodes to).params args) (record { placed_before = before; rising = (sound_at to lt).rises })
     where
       params : List ℕ
       params = (node_at f.nodes to).params
@@ -296,7 +297,7 @@ module _ (k : ℕ) (f : Flow) (traces : List Trace) (outs : List TraceOut) (all 
   ---- The entry
 
   from_entry : TakesOver (entry_places (length (node_at f.nodes 0).params)) (start_at traces outs 0) (entry_argument (node_at f.nodes 0).params) (steps_source (entry_steps f traces outs))
-  from_entry = takes_over (entry_places (length (node_at f.nodes 0).params)) (start_at traces outs 0) (entry_argument (node_at f.nodes 0).params) (record { placed_before = before; rising = (sound_at 0 some).row.0.rising })
+  from_entry = takes_over (entry_places (length (node_at f.nodes 0).params)) (start_at traces outs 0) (entry_argument (node_at f.nodes 0).params) (record { placed_before = before; rising = (sound_at 0 some).rises })
     where
       some : 0 < length f.nodes
       some = subst (λ n. 0 < n) size all.valid.code.begins

@@ -11,13 +11,13 @@ use Rattle.lir_core.specs.declared.places.Places.{Places}
 use Rattle.lir_core.specs.declared.places.TraceOut.{TraceOut}
 use Rattle.lir_core.specs.Spots.{IsRising, argument_of}
 use Rattle.lir_core.specs.Lines.{AreDistinct}
+use Rattle.lir_core.specs.Flows.{node_at}
 use Rattle.global_live.proofs.Lists.{not_in_front, not_in_back}
-use Rattle.trace_build.specs.Traces.{node_at}
 use Rattle.trace_build.specs.Cuts.{lists_of, all_nodes}
 use Rattle.parallel_move.specs.declared.step.Step.{Step}
 use Rattle.parallel_move.specs.Order.{order_of}
-use Rattle.boundary_resolve.specs.declared.placed.Placed.{Placed}
-use Rattle.boundary_resolve.specs.declared.placed.Placed.TheVariants.{Edge}
+use Rattle.boundary_resolve.specs.declared.code_line.CodeLine.{CodeLine}
+use Rattle.boundary_resolve.specs.declared.code_line.CodeLine.TheVariants.{Edge}
 use Rattle.boundary_resolve.specs.Moves.{edge_moves, entry_places, FewRegs}
 use Rattle.boundary_resolve.specs.Placing.{seats_from, seat_of, start_at, end_at, places_at, steps_between, is_test, steps_from, test_steps}
 use Rattle.boundary_resolve.specs.Edges.{AreSound}
@@ -25,14 +25,14 @@ use Rattle.boundary_resolve.specs.Codes.{AreRows}
 use Rattle.boundary_resolve.proofs.Crossing.{moves_distinct}
 use Rattle.boundary_resolve.proofs.Between.{not_seated, length-places, params_are, sound_in}
 
-pub edge_pushed : (from to : Places) (params args : List ℕ) (moves slice : List Move) (steps steps' : List Step) (old new : List Placed) → IsRising to.homed → moves ≡ edge_moves from to (argument_of params args) → slice ≡ moves → (AreDistinct slice → steps ≡ order_of slice) → steps' ≡ steps → new ≡ old ++ map Edge steps' → new ≡ old ++ map Edge (order_of (edge_moves from to (argument_of params args)))
+pub edge_pushed : (from to : Places) (params args : List ℕ) (moves slice : List Move) (steps steps' : List Step) (old new : List CodeLine) → IsRising to.homed → moves ≡ edge_moves from to (argument_of params args) → slice ≡ moves → (AreDistinct slice → steps ≡ order_of slice) → steps' ≡ steps → new ≡ old ++ map Edge steps' → new ≡ old ++ map Edge (order_of (edge_moves from to (argument_of params args)))
 edge_pushed from to params args moves slice steps steps' old new rising is same ordered again more =
     let all : slice ≡ edge_moves from to (argument_of params args) = same ∙ is in
     let d : AreDistinct slice = subst AreDistinct (sym all) (moves_distinct from to (argument_of params args) rising) in
     more ∙ ap (λ (x : List Step). old ++ map Edge x) (again ∙ ordered d ∙ ap order_of all)
 
 -- nothing moves on an edge
-pub edge_kept : (from to : Places) (params args : List ℕ) (moves : List Move) (old : List Placed) → moves ≡ edge_moves from to (argument_of params args) → order_of moves ≡ [] → old ≡ old ++ map Edge (order_of (edge_moves from to (argument_of params args)))
+pub edge_kept : (from to : Places) (params args : List ℕ) (moves : List Move) (old : List CodeLine) → moves ≡ edge_moves from to (argument_of params args) → order_of moves ≡ [] → old ≡ old ++ map Edge (order_of (edge_moves from to (argument_of params args)))
 edge_kept from to params args moves old is none = sym (append-nil old) ∙ ap (λ (x : List Step). old ++ map Edge x) (sym (sym (ap order_of is) ∙ none))
 
 -- the same edge
@@ -54,7 +54,7 @@ test_is f traces outs n p (q ∷ qs) e h t =
     let is : q ≡ p = cc in
     ap (λ ps. steps_from f traces outs ps n) (sym e) ∙ ap (λ x. cond (is_test (node_at f.nodes x).end) (steps_between traces outs x n (λ v. v)) []) is ∙ ap (λ b. cond b (steps_between traces outs p n (λ v. v)) []) t
 
-pub nodes_more : (F : ℕ → List Placed) (ns : List ℕ) (i n : ℕ) (all old new : List Placed) → i < length ns → n ≡ get_or ns i 0 → old ++ flat_map F (drop i ns) ≡ all → new ≡ old ++ F n → new ++ flat_map F (drop (i + 1) ns) ≡ all
+pub nodes_more : (F : ℕ → List CodeLine) (ns : List ℕ) (i n : ℕ) (all old new : List CodeLine) → i < length ns → n ≡ get_or ns i 0 → old ++ flat_map F (drop i ns) ≡ all → new ≡ old ++ F n → new ++ flat_map F (drop (i + 1) ns) ≡ all
 nodes_more F ns i n all old new lt is inv more =
     ap (λ x. x ++ flat_map F (drop (i + 1) ns)) more ∙ append_assoc old (F n) (flat_map F (drop (i + 1) ns))
     ∙ ap (λ x. old ++ x) (sym (ap (flat_map F) (drop_more ns i 0 lt ∙ ap (λ y. y ∷ drop (i + 1) ns) (sym is)))) ∙ inv
@@ -73,12 +73,12 @@ rows_of_sound k f traces outs all = record {
 }
   where
     start_row : (n : ℕ) (b : Bool) → has (all_nodes (lists_of traces)) n ≡ b → FewRegs (start_at traces outs n) × IsRising (start_at traces outs n).homed
-    start_row n true h = let r = (sound_in k f traces outs all n h).row.0 in let a = r.registers in let b = all.few.1 in (omega (arith, a, b), r.rising)
+    start_row n true h = let s = sound_in k f traces outs all n h in let a = s.row.0.registers in let b = all.few.1 in (omega (arith, a, b), s.rises)
     start_row n false h = subst (λ (q : Places). FewRegs q × IsRising q.homed) (sym (ap (places_at (λ o. o.starts) outs) (not_sitting traces 0 n h))) (omega arith, tt)
 
     end_row : (n : ℕ) (b : Bool) → has (all_nodes (lists_of traces)) n ≡ b → FewRegs (end_at traces outs n)
     end_row n true h = let r = (sound_in k f traces outs all n h).row.1 in let a = r.registers in let b = all.few.1 in omega (arith, a, b)
     end_row n false h = subst FewRegs (sym (ap (places_at (λ o. o.ends) outs) (not_sitting traces 0 n h))) (omega arith)
 
-pub all_placed : (F : ℕ → List Placed) (traces : List Trace) (i : ℕ) (placed all : List Placed) → placed ++ flat_map F (all_nodes (lists_of (drop i traces))) ≡ all → length traces ≤ i → placed ≡ all
+pub all_placed : (F : ℕ → List CodeLine) (traces : List Trace) (i : ℕ) (placed all : List CodeLine) → placed ++ flat_map F (all_nodes (lists_of (drop i traces))) ≡ all → length traces ≤ i → placed ≡ all
 all_placed F traces i placed all inv past = sym (append-nil placed) ∙ sym (ap (λ x. placed ++ flat_map F (all_nodes (lists_of x))) (drop_all i traces past)) ∙ inv

@@ -5,7 +5,7 @@ use Rattle.lir_core.specs.declared.flow.Trace.{Trace}
 use Rattle.lir_core.specs.declared.places.TraceOut.{TraceOut}
 use Rattle.lir_core.specs.Spots.{IsRising}
 use Rattle.lir_core.specs.Sound.{no_places}
-use Rattle.trace_build.specs.Traces.{node_at}
+use Rattle.lir_core.specs.Flows.{node_at}
 use Rattle.boundary_resolve.specs.declared.code.Code.{Code}
 use Rattle.boundary_resolve.specs.Moves.{FewRegs}
 use Rattle.boundary_resolve.specs.Placing.{seats_from, start_at, end_at}

@@ -5,10 +5,9 @@ use Rattle.block_runs.specs.declared.end.End.TheVariants.{Jump, Branch, Nonzero,
 use Rattle.lir_core.specs.declared.flow.Flow.{Flow}
 use Rattle.lir_core.specs.declared.flow.Trace.{Trace}
 use Rattle.lir_core.specs.declared.places.TraceOut.{TraceOut}
-use Rattle.lir_core.specs.Flows.{code_nodes, leads, IsValidFlow}
+use Rattle.lir_core.specs.Flows.{code_nodes, leads, IsValidFlow, node_at}
 use Rattle.lir_core.specs.Spots.{TakesOver, argument_of}
 use Rattle.lir_core.specs.Sound.{IsSound}
-use Rattle.trace_build.specs.Traces.{node_at}
 use Rattle.trace_build.specs.Parents.{trace_at}
 use Rattle.trace_build.specs.Cuts.{lists_of, IsPartition}
 use Rattle.parallel_move.specs.declared.step.Step.{Step}

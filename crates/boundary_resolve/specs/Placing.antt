@@ -9,13 +9,13 @@ use Rattle.lir_core.specs.declared.places.Line.{Line}
 use Rattle.lir_core.specs.declared.places.TraceOut.{TraceOut}
 use Rattle.lir_core.specs.Spots.{argument_of}
 use Rattle.lir_core.specs.Sound.{no_places}
-use Rattle.trace_build.specs.Traces.{node_at}
+use Rattle.lir_core.specs.Flows.{node_at}
 use Rattle.trace_build.specs.Cuts.{lists_of, all_nodes}
 use Rattle.parallel_move.specs.declared.step.Step.{Step}
 use Rattle.parallel_move.specs.Order.{order_of}
-use Rattle.boundary_resolve.specs.declared.placed.Placed.{Placed}
-use Rattle.boundary_resolve.specs.declared.placed.Placed.TheVariants.{Body, Edge, Leave}
-use Rattle.boundary_resolve.specs.declared.placed.Placed.TheVariants.{Node as Begins}
+use Rattle.boundary_resolve.specs.declared.code_line.CodeLine.{CodeLine}
+use Rattle.boundary_resolve.specs.declared.code_line.CodeLine.TheVariants.{Body, Edge, Leave}
+use Rattle.boundary_resolve.specs.declared.code_line.CodeLine.TheVariants.{Node as Begins}
 use Rattle.boundary_resolve.specs.declared.seats.Seat.{Seat}
 use Rattle.boundary_resolve.specs.Moves.{edge_moves, entry_places, entry_argument}
 
@@ -111,9 +111,9 @@ entry_steps f traces outs =
 
 ---- Lines in code order
 
-abbrev pub node_lines : Flow → List Trace → List TraceOut → ℕ → List Placed
+abbrev pub node_lines : Flow → List Trace → List TraceOut → ℕ → List CodeLine
 node_lines f traces outs n =
     Begins n ∷ map Edge (test_steps f traces outs n) ++ map Body (lines_at traces outs n) ++ map Edge (jump_steps f traces outs n) ++ Leave n ∷ []
 
-abbrev pub placed_of : Flow → List Trace → List TraceOut → List Placed
+abbrev pub placed_of : Flow → List Trace → List TraceOut → List CodeLine
 placed_of f traces outs = map Edge (entry_steps f traces outs) ++ flat_map (node_lines f traces outs) (all_nodes (lists_of traces))

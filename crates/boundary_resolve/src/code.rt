@@ -3,15 +3,15 @@
 ghost use Rattle.std.specs.Prelude.{◌≡◌, ℕ, ◌≤◌, ◌++◌, ◌∷◌, [], map, flat_map, length, None, IfOk, OnOk, slice_index_or};
 ghost use Rattle.run_laws.specs.Layers.{places_from};
 ghost use Rattle.lir_core.specs.Spots.{argument_of, IsRising};
-ghost use Rattle.trace_build.specs.Traces.{node_at};
+ghost use Rattle.lir_core.specs.Flows.{node_at};
 ghost use Rattle.parallel_move.specs.Order.{order_of};
-ghost use Rattle.boundary_resolve.specs.declared.placed.Placed.TheVariants.{Edge, Body};
+ghost use Rattle.boundary_resolve.specs.declared.code_line.CodeLine.TheVariants.{Edge, Body};
 ghost use Rattle.boundary_resolve.specs.Moves.{edge_moves, entry_places, FewRegs};
 ghost use Rattle.boundary_resolve.specs.Placing.{start_at, end_at, lines_at, is_test, steps_of_end, jump_steps, steps_from, test_steps, entry_steps, node_lines};
 ghost use Rattle.boundary_resolve.specs.Codes.{OfCode};
 
+use crate::code_line::CodeLine;
 use crate::moves::{Before, moves_nothing, moves_to};
-use crate::placed::Placed;
 use crate::seats::Seat;
 use lir_core::{Flow, Items, Leave, Line, Places, TraceOut};
 use outside::Memory;
@@ -30,7 +30,7 @@ pub(crate) struct Code<'a> {
 
 impl Code<'_> {
     /// The steps of the entry's edge.
-    pub(crate) fn push_entry(&self, alloc: Global, placed: &mut Vec<Placed>) -> Result<(), Memory>
+    pub(crate) fn push_entry(&self, alloc: Global, placed: &mut Vec<CodeLine>) -> Result<(), Memory>
         ensures { OfCode self.now (λ f traces outs. OnOk result (placed.new.items ≡ placed.old.items ++ map Edge (entry_steps f traces outs))) }
     {
         let params = self.params(0);
@@ -49,7 +49,7 @@ impl Code<'_> {
     pub(crate) fn push_nodes(
         &self,
         alloc: Global,
-        placed: &mut Vec<Placed>,
+        placed: &mut Vec<CodeLine>,
         nodes: &[u32],
     ) -> Result<(), Memory>
         ensures { OfCode self.now (λ f traces outs. OnOk result (placed.new.items ≡ placed.old.items ++ flat_map (node_lines f traces outs) nodes.now)) }
@@ -60,19 +60,19 @@ impl Code<'_> {
         Ok(())
     }
 
-    fn push_node(&self, alloc: Global, placed: &mut Vec<Placed>, node: u32) -> Result<(), Memory>
+    fn push_node(&self, alloc: Global, placed: &mut Vec<CodeLine>, node: u32) -> Result<(), Memory>
         ensures { OfCode self.now (λ f traces outs. OnOk result (placed.new.items ≡ placed.old.items ++ node_lines f traces outs node)) }
     {
-        placed.push(Placed::Node(node))?;
+        placed.push(CodeLine::Node(node))?;
         self.push_test(alloc, placed, node)?;
         push_lines(alloc, placed, self.lines(node))?;
         self.push_jump(alloc, placed, node)?;
-        placed.push(Placed::Leave(node))?;
+        placed.push(CodeLine::Leave(node))?;
         Ok(())
     }
 
     // The steps of the edge from a test into a node.
-    fn push_test(&self, alloc: Global, placed: &mut Vec<Placed>, node: u32) -> Result<(), Memory>
+    fn push_test(&self, alloc: Global, placed: &mut Vec<CodeLine>, node: u32) -> Result<(), Memory>
         ensures { OfCode self.now (λ f traces outs. OnOk result (placed.new.items ≡ placed.old.items ++ map Edge (test_steps f traces outs node))) }
     {
         match self.preds(node).first() {
@@ -89,7 +89,7 @@ impl Code<'_> {
     }
 
     // The steps of the edge of a node's jump.
-    fn push_jump(&self, alloc: Global, placed: &mut Vec<Placed>, node: u32) -> Result<(), Memory>
+    fn push_jump(&self, alloc: Global, placed: &mut Vec<CodeLine>, node: u32) -> Result<(), Memory>
         ensures { OfCode self.now (λ f traces outs. OnOk result (placed.new.items ≡ placed.old.items ++ map Edge (jump_steps f traces outs node))) }
     {
         let Some(leaving) = self.flow.nodes.as_slice().get(node as usize) else {
@@ -221,7 +221,7 @@ fn entry(alloc: Global, count: usize) -> Result<(Places, Vec<u32>), Memory>
 
 fn push_edge(
     alloc: Global,
-    placed: &mut Vec<Placed>,
+    placed: &mut Vec<CodeLine>,
     from: &Places,
     to: &Places,
     params: &[u32],
@@ -241,7 +241,7 @@ fn push_edge(
 #[inline(never)]
 fn push_moves(
     alloc: Global,
-    placed: &mut Vec<Placed>,
+    placed: &mut Vec<CodeLine>,
     from: &Places,
     to: &Places,
     params: &[u32],
@@ -261,20 +261,20 @@ fn push_moves(
     Ok(())
 }
 
-fn push_steps(placed: &mut Vec<Placed>, steps: &[Step]) -> Result<(), AllocError>
+fn push_steps(placed: &mut Vec<CodeLine>, steps: &[Step]) -> Result<(), AllocError>
     ensures { OnOk result (placed.new.items ≡ placed.old.items ++ map Edge steps.now) }
 {
     for step in steps {
-        placed.push(Placed::Edge(*step))?;
+        placed.push(CodeLine::Edge(*step))?;
     }
     Ok(())
 }
 
-fn push_lines(alloc: Global, placed: &mut Vec<Placed>, lines: &[Line]) -> Result<(), AllocError>
+fn push_lines(alloc: Global, placed: &mut Vec<CodeLine>, lines: &[Line]) -> Result<(), AllocError>
     ensures { OnOk result (placed.new.items ≡ placed.old.items ++ map Body lines.now) }
 {
     for line in lines {
-        placed.push(Placed::Body(copied(alloc, line)?))?;
+        placed.push(CodeLine::Body(copied(alloc, line)?))?;
     }
     Ok(())
 }

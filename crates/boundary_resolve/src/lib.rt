@@ -5,15 +5,15 @@
 #![tactic(auto)]
 
 mod code;
+mod code_line;
 mod laws;
 mod moves;
-mod placed;
 mod resolving;
 mod seats;
 
+pub use code_line::CodeLine;
 pub use laws::{edges_hold, moves_take_over, nodes_are_sound};
 pub use lir_core::{Flow, Line, Move, Place, Places, Trace, TraceOut};
 pub use moves::edge_moves;
 pub use parallel_move::Step;
-pub use placed::Placed;
 pub use resolving::resolve;

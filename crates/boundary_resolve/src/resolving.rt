@@ -5,7 +5,7 @@ ghost use Rattle.boundary_resolve.specs.Placing.{placed_of};
 ghost use Rattle.boundary_resolve.specs.Edges.{AreSound};
 
 use crate::code::Code;
-use crate::placed::Placed;
+use crate::code_line::CodeLine;
 use crate::seats::seats;
 use lir_core::{Flow, Items, Line, Places, Trace, TraceOut};
 use outside::Memory;
@@ -18,7 +18,7 @@ pub fn resolve(
     flow: &Flow,
     traces: &[Trace],
     outs: &[TraceOut],
-) -> Result<Vec<Placed>, Memory>
+) -> Result<Vec<CodeLine>, Memory>
     ensures { (k : ℕ) → AreSound k flow.now traces.now outs.now → IfOk result (λ placed. placed.items ≡ placed_of flow.now traces.now outs.now) }
 {
     let code = Code {

@@ -8,7 +8,7 @@ use Rattle.lir_core.specs.declared.flow.Flow.{Flow}
 use Rattle.lir_core.specs.declared.flow.Trace.{Trace}
 use Rattle.lir_core.specs.declared.places.TraceOut.{TraceOut}
 use Rattle.lir_core.specs.Sound.{IsSound}
-use Rattle.boundary_resolve.specs.declared.placed.Placed.{Placed as Line}
+use Rattle.boundary_resolve.specs.declared.code_line.CodeLine.{CodeLine}
 use Rattle.boundary_resolve.specs.Placing.{placed_of}
 use Rattle.boundary_resolve.specs.Edges.{AreSound}
 use Rattle.trace_build.specs.Parents.{trace_at}
@@ -19,7 +19,7 @@ use Rattle.trace_pool.specs.Ends.{AreFinal}
 use Rattle.alloc_choice.specs.declared.choice.Choice.{Choice}
 use Rattle.alloc_choice.specs.Choice.{IsFitChoice}
 use Rattle.alloc_choice.specs.Results.{no_out, results_to}
-use Rattle.trace_work.specs.declared.planning.Plan.{Plan}
+use Rattle.trace_work.specs.declared.planning.TracePlan.{TracePlan}
 use Rattle.trace_work.specs.declared.work.Entry.{Entry}
 use Rattle.trace_work.specs.Plans.{IsPlan, IsFinal, case_of, finals_to}
 use Rattle.trace_work.specs.Entries.{AreEntries, entry_of, parents_in}
@@ -31,7 +31,7 @@ use Rattle.flow_allocation.specs.Sharing.{shares, AreLines, HaveLines, AreShared
 
 ---- Sharing, flow by flow
 
-pub lines_more : (ps : List Plan) (os : List (List TraceOut)) (ls : List (List Line)) (p : Plan) (o : List TraceOut) (l : List Line) → HaveLines ps os ls → AreLines p o l → HaveLines (ps ++ p ∷ []) (os ++ o ∷ []) (ls ++ l ∷ [])
+pub lines_more : (ps : List TracePlan) (os : List (List TraceOut)) (ls : List (List CodeLine)) (p : TracePlan) (o : List TraceOut) (l : List CodeLine) → HaveLines ps os ls → AreLines p o l → HaveLines (ps ++ p ∷ []) (os ++ o ∷ []) (ls ++ l ∷ [])
 lines_more [] [] [] p o l h one = (one, tt)
 lines_more [] [] (x ∷ ls) p o l h one = absurd h
 lines_more [] (y ∷ os) ls p o l h one = absurd h
@@ -40,7 +40,7 @@ lines_more (q ∷ ps) (y ∷ os) [] p o l h one = absurd h
 lines_more (q ∷ ps) (y ∷ os) (x ∷ ls) p o l h one = (h.0, lines_more ps os ls p o l h.1 one)
 
 -- lines that are made of these traces and results
-pub lines_are : (p : Plan) (own : List TraceOut) (lines : List Line) (traces : List Trace) (outs : List TraceOut) → traces ≡ p.traces → outs ≡ own
+pub lines_are : (p : TracePlan) (own : List TraceOut) (lines : List CodeLine) (traces : List Trace) (outs : List TraceOut) → traces ≡ p.traces → outs ≡ own
     → ((k : ℕ) → AreSound k p.flow.now traces outs → lines ≡ placed_of p.flow.now traces outs) → AreLines p own lines
 lines_are p own lines traces outs t o made k sound =
     made k (subst (λ os. AreSound k p.flow.now traces os) (sym o) (subst (λ (ts : List Trace). AreSound k p.flow.now ts own) (sym t) sound))
@@ -49,7 +49,7 @@ lines_are p own lines traces outs t o made k sound =
 ---- Final results for each flow
 
 -- these stand behind each other, for each flow those of its traces
-abbrev AllFinal : Choice → List Plan → List TraceOut → Type 0
+abbrev AllFinal : Choice → List TracePlan → List TraceOut → Type 0
 AllFinal choice [] rest = Unit {0}
 AllFinal choice (p ∷ ps) rest = ((t : ℕ) → t < length p.traces → IsFinal choice p t (get_or rest t no_out)) × (length p.traces ≤ length rest) × AllFinal choice ps (drop (length p.traces) rest)
 
@@ -67,17 +67,17 @@ entry_within [] i e h = cc
 entry_within (x ∷ es) zero e h = omega arith
 entry_within (x ∷ es) (suc i) e h = let l = entry_within es i e h in omega (arith, l)
 
-module _ (choice : Choice) (plans : List Plan) (entries : List Entry) (outs : List TraceOut) (entered : AreEntries plans entries) (each : All (IsPlan choice.builder) plans)
+module _ (choice : Choice) (plans : List TracePlan) (entries : List Entry) (outs : List TraceOut) (entered : AreEntries plans entries) (each : All (IsPlan choice.builder) plans)
     (final : AreFinal (IsFinalOf choice plans entries) (parents_in entries) outs) where
-  is_plan : (i : ℕ) (p : Plan) → slice_get plans i ≡ Some p → IsPlan choice.builder p
+  is_plan : (i : ℕ) (p : TracePlan) → slice_get plans i ≡ Some p → IsPlan choice.builder p
   is_plan i p e = at plans i each e
     where
-      at : (ps : List Plan) (i : ℕ) → All (IsPlan choice.builder) ps → slice_get ps i ≡ Some p → IsPlan choice.builder p
+      at : (ps : List TracePlan) (i : ℕ) → All (IsPlan choice.builder) ps → slice_get ps i ≡ Some p → IsPlan choice.builder p
       at [] i h e = cc
       at (q ∷ ps) zero h e = let same : q ≡ p = cc in subst (IsPlan choice.builder) same (h 0 q (omega arith))
       at (q ∷ ps) (suc i) h e = at ps i (λ k x n. h (suc k) x (omega (arith, n))) e
 
-  trace_final : (i t : ℕ) (p : Plan) → slice_get plans i ≡ Some p → t < length p.traces → IsFinal choice p t (get_or outs (p.first + t) no_out)
+  trace_final : (i t : ℕ) (p : TracePlan) → slice_get plans i ≡ Some p → t < length p.traces → IsFinal choice p t (get_or outs (p.first + t) no_out)
   trace_final i t p there lt =
       let g = entered.all i p t there lt in
       let d = final.1 (p.first + t) (entry_within entries (p.first + t) (entry_of i p t) g) in
@@ -87,21 +87,21 @@ module _ (choice : Choice) (plans : List Plan) (entries : List Entry) (outs : Li
   count_is = final.0
 
   -- an entry past the last is none
-  room : (i t : ℕ) (p : Plan) → slice_get plans i ≡ Some p → t < length p.traces → p.first + t < length outs
+  room : (i t : ℕ) (p : TracePlan) → slice_get plans i ≡ Some p → t < length p.traces → p.first + t < length outs
   room i t p there lt =
       let g = entered.all i p t there lt in
       let e = count_is in
       let l = entry_within entries (p.first + t) (entry_of i p t) g in
       omega (arith, e, l)
 
-  fits : (i n : ℕ) (p : Plan) → slice_get plans i ≡ Some p → p.first ≡ n → n ≤ length outs → length p.traces ≤ length (drop n outs)
+  fits : (i n : ℕ) (p : TracePlan) → slice_get plans i ≡ Some p → p.first ≡ n → n ≤ length outs → length p.traces ≤ length (drop n outs)
   fits i n p there first le = by (length p.traces) refl
     where
       by : (k : ℕ) → length p.traces ≡ k → length p.traces ≤ length (drop n outs)
       by zero e = omega (arith, e)
       by (suc k) e = let r = room i k p there (omega (arith, e)) in let l = length-drop n outs in omega (arith, e, r, l, first)
 
-  all_final_from : (i n : ℕ) (ps : List Plan) → drop i plans ≡ ps → AreNumbered n ps → n ≤ length outs → AllFinal choice ps (drop n outs)
+  all_final_from : (i n : ℕ) (ps : List TracePlan) → drop i plans ≡ ps → AreNumbered n ps → n ≤ length outs → AllFinal choice ps (drop n outs)
   all_final_from i n [] e numbered le = tt
   all_final_from i n (p ∷ ps) e numbered le =
       let d = drop_head plans i p ps e in
@@ -118,11 +118,11 @@ module _ (choice : Choice) (plans : List Plan) (entries : List Entry) (outs : Li
 ---- Numbers through all flows
 
 -- the first trace of each has the number behind those before it
-abbrev AreCounted : ℕ → List Plan → Type 0
+abbrev AreCounted : ℕ → List TracePlan → Type 0
 AreCounted n [] = Unit {0}
 AreCounted n (p ∷ ps) = (p.number ≡ n) × AreCounted (n + length p.traces) ps
 
-are_counted : (before k n : ℕ) (ps : List Plan) → AreNumbered k ps → AreBehind before ps → n ≡ before + k → AreCounted n ps
+are_counted : (before k n : ℕ) (ps : List TracePlan) → AreNumbered k ps → AreBehind before ps → n ≡ before + k → AreCounted n ps
 are_counted before k n [] numbered behind e = tt
 are_counted before k n (p ∷ ps) numbered behind e =
     let b = behind 0 p refl in
@@ -132,10 +132,10 @@ are_counted before k n (p ∷ ps) numbered behind e =
 ---- Cuts
 
 module _ (choice : Choice) (fit : IsFitChoice choice) where
-  abbrev cut_of : Plan → List TraceOut → Cut
+  abbrev cut_of : TracePlan → List TraceOut → Cut
   cut_of p own = record { flow = p.flow.now; traces = p.traces; outs = own }
 
-  module _ (p : Plan) (is : IsPlan choice.builder p) (rest : List TraceOut) (final : (t : ℕ) → t < length p.traces → IsFinal choice p t (get_or rest t no_out)) (room : length p.traces ≤ length rest) where
+  module _ (p : TracePlan) (is : IsPlan choice.builder p) (rest : List TraceOut) (final : (t : ℕ) → t < length p.traces → IsFinal choice p t (get_or rest t no_out)) (room : length p.traces ≤ length rest) where
     abbrev own : List TraceOut
     own = take (length p.traces) rest
 
@@ -164,14 +164,14 @@ module _ (choice : Choice) (fit : IsFitChoice choice) where
       paths = is.paths;
     }
 
-  record Cuts (first : ℕ) (plans : List Plan) (outs : List (List TraceOut)) (parts : List (List Line)) : Type 0 where
+  record Cuts (first : ℕ) (plans : List TracePlan) (outs : List (List TraceOut)) (parts : List (List CodeLine)) : Type 0 where
     pub cuts : List Cut
     pub each : AllAllocations choice first cuts
     pub flows_are : flows_in plans ≡ map (λ c. c.flow) cuts
     pub outs_are : outs ≡ map (λ c. c.outs) cuts
     pub parts_are : parts ≡ map (λ c. placed_of c.flow c.traces c.outs) cuts
 
-  cuts_of : (first : ℕ) (plans : List Plan) (rest : List TraceOut) (parts : List (List Line)) → All (IsPlan choice.builder) plans → AreCounted first plans → AllFinal choice plans rest → HaveLines plans (shares plans rest) parts → Cuts first plans (shares plans rest) parts
+  cuts_of : (first : ℕ) (plans : List TracePlan) (rest : List TraceOut) (parts : List (List CodeLine)) → All (IsPlan choice.builder) plans → AreCounted first plans → AllFinal choice plans rest → HaveLines plans (shares plans rest) parts → Cuts first plans (shares plans rest) parts
   cuts_of first [] rest [] each numbered final lines = record { cuts = []; each = tt; flows_are = refl; outs_are = refl; parts_are = refl }
   cuts_of first [] rest (l ∷ ls) each numbered final lines = absurd lines
   cuts_of first (p ∷ ps) rest [] each numbered final lines = absurd lines
@@ -186,7 +186,7 @@ module _ (choice : Choice) (fit : IsFitChoice choice) where
         parts_are = ap₂ (λ x xs. x ∷ xs) (lines.0 choice.regs (sound p is rest final.0 final.1)) r.parts_are;
       }
 
-  pub allocated : (before : ℕ) (plans : List Plan) (entries : List Entry) (outs : List TraceOut) (shared : List (List TraceOut)) (parts : List (List Line)) (flows : List Flow) (traces : ℕ) → AreEntries plans entries → All (IsPlan choice.builder) plans
+  pub allocated : (before : ℕ) (plans : List TracePlan) (entries : List Entry) (outs : List TraceOut) (shared : List (List TraceOut)) (parts : List (List CodeLine)) (flows : List Flow) (traces : ℕ) → AreEntries plans entries → All (IsPlan choice.builder) plans
       → AreNumbered 0 plans → AreBehind before plans → flows_in plans ≡ flows → AreFinal (IsFinalOf choice plans entries) (parents_in entries) outs → AreShared plans outs parts shared → traces ≡ traces_in choice.builder flows → AreAllocated choice before flows parts shared traces
   allocated before plans entries outs shared parts flows traces entered each numbered behind are final h count =
       let r = cuts_of before plans outs parts each (are_counted before 0 before plans numbered behind (omega arith)) (all_final choice plans entries outs entered each final numbered) (subst (λ os. HaveLines plans os parts) h.outs_are h.parts_are) in

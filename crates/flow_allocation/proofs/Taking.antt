@@ -2,7 +2,7 @@
 use Rattle.std.proofs.Common.{◌≡◌, ℕ, zero, suc, ◌+◌, ◌-◌, ◌<◌, List, [], ◌∷◌, ◌++◌, length, map, take, drop, get_or, refl, sym, ap, ap₂, ◌∙◌, subst, arith, append_assoc}
 use Rattle.std.proofs.lemmas.List.{drop_more, map-append}
 use Rattle.lir_core.specs.declared.places.TraceOut.{TraceOut}
-use Rattle.trace_work.specs.declared.planning.Plan.{Plan}
+use Rattle.trace_work.specs.declared.planning.TracePlan.{TracePlan}
 use Rattle.flow_allocation.specs.Sharing.{shares}
 
 module _ {A : Type 0} where
@@ -66,7 +66,7 @@ items_more f xs ys x e = ap (map f) e ∙ map-append f xs (x ∷ [])
 
 ---- Shares
 
-pub share_more : (plans : List Plan) (i : ℕ) (p : Plan) (lt : i < length plans) (item : p ≡ get_or plans i p) (outs : List (List TraceOut)) (rest all : List TraceOut) (own rest' : List TraceOut) (outs' : List (List TraceOut))
+pub share_more : (plans : List TracePlan) (i : ℕ) (p : TracePlan) (lt : i < length plans) (item : p ≡ get_or plans i p) (outs : List (List TraceOut)) (rest all : List TraceOut) (own rest' : List TraceOut) (outs' : List (List TraceOut))
     → outs ++ shares (drop i plans) rest ≡ shares plans all → own ≡ take (length p.traces) rest → rest' ≡ drop (length p.traces) rest → outs' ≡ outs ++ own ∷ []
     → outs' ++ shares (drop (i + 1) plans) rest' ≡ shares plans all
 share_more plans i p lt item outs rest all own rest' outs' before o r new =

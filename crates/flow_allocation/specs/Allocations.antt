@@ -6,7 +6,7 @@ use Rattle.lir_core.specs.declared.places.TraceOut.{TraceOut}
 use Rattle.global_live.specs.Reading.{HasLive}
 use Rattle.trace_build.specs.Traces.{traces_of}
 use Rattle.trace_build.specs.Cuts.{lists_of, AllTraces}
-use Rattle.boundary_resolve.specs.declared.placed.Placed.{Placed as Line}
+use Rattle.boundary_resolve.specs.declared.code_line.CodeLine.{CodeLine}
 use Rattle.boundary_resolve.specs.Placing.{placed_of}
 use Rattle.boundary_resolve.specs.Edges.{AreSound}
 use Rattle.linked_flows.specs.Allocations.{Cut}
@@ -35,7 +35,7 @@ AllAllocations choice first [] = Unit {0}
 AllAllocations choice first (c ∷ cs) = IsAllocation choice first c × AllAllocations choice (first + length c.traces) cs
 
 -- the lines and results of flows are those of such cuts, behind so many traces, which have so many traces themselves
-pub record AreAllocated (choice : Choice) (before : ℕ) (flows : List Flow) (parts : List (List Line)) (outs : List (List TraceOut)) (traces : ℕ) : Type 0 where
+pub record AreAllocated (choice : Choice) (before : ℕ) (flows : List Flow) (parts : List (List CodeLine)) (outs : List (List TraceOut)) (traces : ℕ) : Type 0 where
   pub cuts : List Cut
   pub flows_are : flows ≡ map (λ c. c.flow) cuts
   pub parts_are : parts ≡ map (λ c. placed_of c.flow c.traces c.outs) cuts

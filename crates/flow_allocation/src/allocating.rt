@@ -9,7 +9,7 @@ ghost use Rattle.trace_work.specs.declared.fault.WorkFault.TheVariants.{Traces};
 ghost use Rattle.flow_allocation.specs.Allocations.{AreAllocated, items_of};
 ghost use Rattle.flow_allocation.specs.Sharing.{AreShared};
 
-use boundary_resolve::{Placed, resolve};
+use boundary_resolve::{CodeLine, resolve};
 use lir_core::{Flow, TraceOut};
 use outside::{Gate, Memory};
 use pool_core::Work;
@@ -18,13 +18,13 @@ use std::sync::Wait;
 use std::thread::Threads;
 use std::vec::IntoIter;
 use trace_pool::final_results;
-use trace_work::{Choice, Plan, TraceWork, WorkFault};
+use trace_work::{Choice, TracePlan, TraceWork, WorkFault};
 
 /// Flows with final results, by their numbers.
 #[derive(Drop)]
 pub struct AllocatedFlows {
     /// The lines of each flow in the order of its code.
-    pub parts: Vec<Vec<Placed>>,
+    pub parts: Vec<Vec<CodeLine>>,
     /// The results of each flow's traces.
     pub outs: Vec<Vec<TraceOut>>,
     /// How many traces these flows have.
@@ -64,12 +64,12 @@ pub fn allocate_flows<G: Gate, R: Threads + Wait + Sync>(
 /// What the flows have of all lines and results.
 #[derive(Drop)]
 struct Shared {
-    parts: Vec<Vec<Placed>>,
+    parts: Vec<Vec<CodeLine>>,
     outs: Vec<Vec<TraceOut>>,
 }
 
 // Gives each flow in turn the results of its traces, and makes its lines.
-fn share(alloc: Global, plans: &[Plan], outs: Vec<TraceOut>) -> Result<Shared, Memory>
+fn share(alloc: Global, plans: &[TracePlan], outs: Vec<TraceOut>) -> Result<Shared, Memory>
     ensures { IfOk result (λ shared. AreShared plans.now outs.items (items_of shared.parts) (items_of shared.outs)) }
 {
     let mut shared = Shared {

@@ -8,6 +8,6 @@
 mod allocating;
 
 pub use allocating::{AllocatedFlows, allocate_flows};
-pub use boundary_resolve::Placed;
+pub use boundary_resolve::CodeLine;
 pub use lir_core::{Flow, TraceOut};
 pub use trace_work::{Builder, Choice, Policy, WorkFault};

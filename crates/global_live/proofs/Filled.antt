@@ -13,10 +13,10 @@ use Rattle.block_runs.specs.Valid.{uses_of, block_reads}
 use Rattle.lir_core.specs.declared.flow.Lir.{Lir}
 use Rattle.lir_core.specs.declared.flow.Node.{Node}
 use Rattle.lir_core.specs.declared.flow.Flow.{Flow}
-use Rattle.lir_core.specs.Flows.{operation_of, code_node, code_nodes, leads, IsValidFlow}
+use Rattle.lir_core.specs.Flows.{operation_of, code_node, code_nodes, leads, IsValidFlow, no_node}
 use Rattle.lir_core.specs.Rows.{is_in, has_bit}
 use Rattle.global_live.specs.Reading.{HasLive}
-use Rattle.global_live.specs.Search.{Marks, marked, all_marked, operations_of, makes, reads_in, no_node, preds_at, IsKnown, HasRows, IsRight, IsFull, Grows, Reached, Reaches, IsFilled, Fills, Explores}
+use Rattle.global_live.specs.Search.{Marks, marked, all_marked, operations_of, makes, reads_in, preds_at, IsKnown, HasRows, IsRight, IsFull, Grows, Reached, Reaches, IsFilled, Fills, Explores}
 use Rattle.global_live.proofs.Lists.{has_head, has_last, has_one, has_front, has_back, not_in_front, not_in_back, in_parts, has_turned}
 use Rattle.global_live.proofs.Tables.{leads_there}
 use Rattle.global_live.proofs.Loops.{Exploring}

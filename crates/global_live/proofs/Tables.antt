@@ -12,8 +12,8 @@ use Rattle.block_runs.specs.Blocks.{CodeBlock, block_at, no_block, successors}
 use Rattle.block_runs.specs.Live.{has, block_makes}
 use Rattle.block_runs.specs.Valid.{made, times, block_reads, all_below}
 use Rattle.lir_core.specs.declared.flow.Flow.{Flow}
-use Rattle.lir_core.specs.Flows.{code_nodes, leads, preds_of, IsValidFlow}
-use Rattle.global_live.specs.Search.{made_in, makers_from, makes, no_node, IsKnown}
+use Rattle.lir_core.specs.Flows.{code_nodes, leads, preds_of, IsValidFlow, no_node}
+use Rattle.global_live.specs.Search.{made_in, makers_from, makes, IsKnown}
 use Rattle.global_live.proofs.Lists.{times-append, times_of_in, times_of_out, has-filter, all_below_in}
 
 pub made_in-append : (n : ℕ) (xs ys makers : List ℕ) → made_in n (xs ++ ys) makers ≡ made_in n ys (made_in n xs makers)

@@ -1,13 +1,11 @@
 -- The search from a value's reads against the edges.
-use Rattle.std.specs.Prelude.{◌≡◌, ℕ, suc, ◌<◌, ◌/◌, ◌==◌, Bool, true, false, not, ◌&&◌, nat_lt, cond, List, [], ◌∷◌, ◌++◌, length, slice_index, slice_index_or, slice_set, map, None}
-use Rattle.block_runs.specs.declared.end.End.TheVariants.{Return}
+use Rattle.std.specs.Prelude.{◌≡◌, ℕ, suc, ◌<◌, ◌/◌, ◌==◌, Bool, true, false, not, ◌&&◌, nat_lt, cond, List, [], ◌∷◌, ◌++◌, length, slice_index, slice_set, map}
 use Rattle.block_runs.specs.Blocks.{Operation, CodeBlock, block_at}
 use Rattle.block_runs.specs.Live.{has, block_makes, Live}
 use Rattle.block_runs.specs.Valid.{uses_of, block_reads}
 use Rattle.lir_core.specs.declared.flow.Lir.{Lir}
-use Rattle.lir_core.specs.declared.flow.Node.{Node}
 use Rattle.lir_core.specs.declared.flow.Flow.{Flow}
-use Rattle.lir_core.specs.Flows.{operation_of, code_nodes, leads}
+use Rattle.lir_core.specs.Flows.{node_at, operation_of, code_nodes, leads}
 use Rattle.lir_core.specs.Rows.{has_bit}
 use Rattle.global_live.specs.Rows.{row_at, is_new, with_bit}
 use Rattle.global_live.specs.declared.search.Search.{Search}
@@ -59,11 +57,8 @@ makes f n v = has (block_makes (block_at (code_nodes f.nodes) n)) v
 abbrev pub reads_in : Flow → ℕ → ℕ → Bool
 reads_in f n v = has (block_reads (block_at (code_nodes f.nodes) n)) v
 
-abbrev pub no_node : Node
-no_node = record { params = []; lirs = []; end = Return None; freq = 0; preds = []; enter = None }
-
 abbrev pub preds_at : Flow → ℕ → List ℕ
-preds_at f n = (slice_index_or f.nodes n no_node).preds
+preds_at f n = (node_at f.nodes n).preds
 
 -- what a valid flow and its table of makers come to
 pub record IsKnown (f : Flow) (makers : List ℕ) : Type 0 where

@@ -10,7 +10,7 @@ use Rattle.loc_state.specs.declared.part.Part.{Part}
 use Rattle.loc_state.specs.declared.forward.Forward.{Forward}
 use Rattle.loc_state.specs.Steps.{with_result, keeps_all, called, in_part}
 use Rattle.loc_state.proofs.Calling.{keeps_regs}
-use Rattle.live_interval.specs.Needs.{first_of}
+use Rattle.trace_needs.specs.Needs.{first_of}
 use Rattle.linear_scan.specs.Policy.{drop_all, needed_in, call_one}
 use Rattle.linear_scan.specs.Linear.{Case, behind, position_behind, along}
 use Rattle.linear_scan.proofs.Dropping.{drop_join}

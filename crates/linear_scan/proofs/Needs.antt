@@ -3,7 +3,7 @@ use Rattle.std.proofs.Common.{◌≡◌, ℕ, zero, suc, ◌+◌, Bool, true, fa
 use Rattle.std.specs.Prelude.{is_some, option_to_list}
 use Rattle.block_runs.specs.Live.{has}
 use Rattle.lir_core.specs.declared.flow.Lir.{Lir}
-use Rattle.live_interval.specs.Needs.{Position, at_operation, first_need, next_need}
+use Rattle.trace_needs.specs.Needs.{Position, at_operation, first_need, next_need}
 use Rattle.linear_scan.specs.Policy.{is_needed}
 
 -- from position p on, needs are those of these positions

@@ -13,16 +13,15 @@ use Rattle.block_runs.specs.Valid.{times}
 use Rattle.lir_core.specs.declared.flow.Lir.{Lir}
 use Rattle.lir_core.specs.declared.flow.Node.{Node}
 use Rattle.lir_core.specs.declared.places.Places.{Places}
-use Rattle.lir_core.specs.Flows.{operation_of, code_node, code_nodes, calls_marked, leads, IsValidFlow}
+use Rattle.lir_core.specs.Flows.{operation_of, code_node, code_nodes, calls_marked, leads, IsValidFlow, no_node}
 use Rattle.lir_core.specs.Spots.{get, placed, IsSingle, IsRising, IsRow}
 use Rattle.lir_core.specs.Lines.{end_reads, Room}
 use Rattle.lir_core.specs.Sound.{IsStart, IsEnd, IsSoundNode, AreSoundLines, room_of}
 use Rattle.lir_core.proofs.Walking.{walked}
 use Rattle.global_live.specs.Reading.{HasLive}
-use Rattle.global_live.specs.Search.{no_node}
 use Rattle.global_live.proofs.Lists.{not_in_front, not_in_back, times_of_in, times_of_out}
-use Rattle.live_interval.specs.Needs.{Position, at_start, at_operation, at_end, first_of, positions_of}
-use Rattle.live_interval.specs.Needs as needs
+use Rattle.trace_needs.specs.Needs.{Position, at_start, at_operation, at_end, first_of, positions_of}
+use Rattle.trace_needs.specs.Needs as needs
 use Rattle.loc_state.specs.declared.part.Part.{Part}
 use Rattle.loc_state.specs.Registers.{lowest_empty}
 use Rattle.loc_state.specs.Steps.{places, begun, brought, dropped, keeps_all, keeps_one, called}
@@ -276,7 +275,8 @@ module _ (x : Case) (need : ℕ → ℕ → Option ℕ) (valid : IsValidFlow x.f
 
       pub node_sound : IsSoundNode room bls n t2.start t2.lines t2.named (places t2)
       node_sound = record {
-        row = (subst (IsRow x.regs) (sym same_start) (record { registers = r.registers; single = r.safe.single; rising = r.safe.rising }), record { registers = ended.0.stands.registers; single = ended.1.single; rising = ended.1.rising });
+        row = (subst (IsRow x.regs) (sym same_start) (record { registers = r.registers; single = r.safe.single }), record { registers = ended.0.stands.registers; single = ended.1.single });
+        rises = subst (λ q. IsRising q.homed) (sym same_start) r.safe.rising;
         starts = subst (IsStart bls n) (sym same_start) is_start;
         ends = is_end;
         lines_sound = subst (λ bl. AreSoundLines room bl.ops (end_reads bl.end) t2.start t2.lines t2.named (places t2)) (sym there) (walked room ops (end_reads node.end) t2.start t2.lines t2.named (places t2) (ends room ops (end_reads node.end) t2 ended.0));
@@ -288,6 +288,9 @@ module _ (x : Case) (need : ℕ → ℕ → Option ℕ) (valid : IsValidFlow x.f
 
       pub end_single : IsSingle t2.regs
       end_single = ended.1.single
+
+      pub end_rises : IsRising (places t2).homed
+      end_rises = ended.1.rising
 
       pub end_registers : length t2.regs ≡ x.regs
       end_registers = ended.0.stands.registers

@@ -11,7 +11,7 @@ use Rattle.lir_core.specs.Flows.{operation_of}
 use Rattle.lir_core.specs.Spots.{get, in_register, placed, IsRising}
 use Rattle.lir_core.specs.Lines.{is_aimed, slots_used, Room}
 use Rattle.global_live.proofs.Lists.{not_in_back, has_front, has_back, has_one, times_of_in, times-append}
-use Rattle.live_interval.specs.Needs.{Position, at_operation}
+use Rattle.trace_needs.specs.Needs.{Position, at_operation}
 use Rattle.loc_state.specs.declared.part.Part.{Part}
 use Rattle.loc_state.specs.Registers.{register_of, lowest_empty}
 use Rattle.loc_state.specs.Steps.{places, evicted, defines, dropped, keeps_one, keeps_all, with_result, called}

@@ -14,13 +14,13 @@ use Rattle.lir_core.specs.declared.places.Places.{Places}
 use Rattle.lir_core.specs.declared.places.Line.{Line}
 use Rattle.lir_core.specs.declared.places.TraceOut.{TraceOut}
 use Rattle.lir_core.specs.Flows.{code_nodes, leads, IsValidFlow, IsPath, IsTrace}
-use Rattle.lir_core.specs.Rows.{has_bit}
-use Rattle.lir_core.specs.Spots.{placed, IsSingle}
+use Rattle.lir_core.specs.Rows.{has_bit, live_into}
+use Rattle.lir_core.specs.Spots.{placed, IsSingle, IsRising}
 use Rattle.lir_core.specs.Lines.{Room}
-use Rattle.lir_core.specs.Sound.{IsSoundNode, IsSound, no_places, room_of}
+use Rattle.lir_core.specs.Sound.{IsSoundNode, IsSound, EndsRise, no_places, room_of}
 use Rattle.global_live.specs.Reading.{HasLive}
 use Rattle.global_live.proofs.Lists.{has-filter}
-use Rattle.live_interval.specs.Needs.{live_into, first_of, positions_of, next_need}
+use Rattle.trace_needs.specs.Needs.{first_of, positions_of, next_need}
 use Rattle.loc_state.specs.declared.part.Part.{Part}
 use Rattle.loc_state.specs.declared.forward.Forward.{Forward}
 use Rattle.loc_state.specs.Steps.{places, begun, started, closed, in_part}
@@ -32,17 +32,18 @@ use Rattle.linear_scan.proofs.Needs.{Follows, follows_all}
 use Rattle.linear_scan.proofs.Operating.{dead}
 use Rattle.linear_scan.proofs.Wanted.{last_live, live_below, live_alive}
 use Rattle.linear_scan.proofs.Begins.{only_live_safe, homed_safe}
-use Rattle.linear_scan.proofs.Nodes.{AllThere, all_there, node_positions, node_follows, behind_follows, NextNeeded, live_is_needed, old_known, left_live, IsReady, ready, node_sound, same_part, end_covers, end_single, end_registers}
+use Rattle.linear_scan.proofs.Nodes.{AllThere, all_there, node_positions, node_follows, behind_follows, NextNeeded, live_is_needed, old_known, left_live, IsReady, ready, node_sound, same_part, end_covers, end_single, end_rises, end_registers}
 
 ---- Results node by node
 
 module _ (r : Room) (blocks : List CodeBlock) where
+  -- each node's part is sound, and the homed values of its end rise
   abbrev pub AllSound : List ℕ → List Places → List (List Line) → List (List ℕ) → List Places → Type 0
   AllSound [] [] [] [] [] = Unit {0}
-  AllSound (n ∷ ns) (s ∷ ss) (l ∷ ls) (g ∷ gs) (e ∷ es) = IsSoundNode r blocks n s l g e × AllSound ns ss ls gs es
+  AllSound (n ∷ ns) (s ∷ ss) (l ∷ ls) (g ∷ gs) (e ∷ es) = (IsSoundNode r blocks n s l g e × IsRising e.homed) × AllSound ns ss ls gs es
   AllSound _ _ _ _ _ = ⊥
 
-  sound_more : (ns : List ℕ) (ss : List Places) (ls : List (List Line)) (gs : List (List ℕ)) (es : List Places) (n : ℕ) (s : Places) (l : List Line) (g : List ℕ) (e : Places) → AllSound ns ss ls gs es → IsSoundNode r blocks n s l g e → AllSound (ns ++ n ∷ []) (ss ++ s ∷ []) (ls ++ l ∷ []) (gs ++ g ∷ []) (es ++ e ∷ [])
+  sound_more : (ns : List ℕ) (ss : List Places) (ls : List (List Line)) (gs : List (List ℕ)) (es : List Places) (n : ℕ) (s : Places) (l : List Line) (g : List ℕ) (e : Places) → AllSound ns ss ls gs es → IsSoundNode r blocks n s l g e × IsRising e.homed → AllSound (ns ++ n ∷ []) (ss ++ s ∷ []) (ls ++ l ∷ []) (gs ++ g ∷ []) (es ++ e ∷ [])
   sound_more [] [] [] [] [] n s l g e h w = (w, tt)
   sound_more (m ∷ ns) (s' ∷ ss) (l' ∷ ls) (g' ∷ gs) (e' ∷ es) n s l g e h w = (h.0, sound_more ns ss ls gs es n s l g e h.1 w)
   sound_more [] [] [] [] (y ∷ es) n s l g e h w = absurd h
@@ -58,16 +59,21 @@ module _ (r : Room) (blocks : List CodeBlock) where
   pub record IsWhole (ns : List ℕ) (ss : List Places) (ls : List (List Line)) (gs : List (List ℕ)) (es : List Places) : Type 0 where
     pub counts : (length ss ≡ length ns) × (length es ≡ length ns) × (length ls ≡ length ns) × (length gs ≡ length ns)
     pub nodes : (i : ℕ) → i < length ns → IsSoundNode r blocks (get_or ns i 0) (get_or ss i no_places) (get_or ls i []) (get_or gs i []) (get_or es i no_places)
+    pub rise : (i : ℕ) → IsRising (get_or es i no_places).homed
 
   pub whole : (ns : List ℕ) (ss : List Places) (ls : List (List Line)) (gs : List (List ℕ)) (es : List Places) → AllSound ns ss ls gs es → IsWhole ns ss ls gs es
-  whole [] [] [] [] [] h = record { counts = (refl, refl, refl, refl); nodes = λ i l. absurd (omega (arith, l)) }
+  whole [] [] [] [] [] h = record { counts = (refl, refl, refl, refl); nodes = λ i l. absurd (omega (arith, l)); rise = λ i. tt }
   whole (n ∷ ns) (s ∷ ss) (l ∷ ls) (g ∷ gs) (e ∷ es) h =
       let w = whole ns ss ls gs es h.1 in
-      record { counts = (ap suc w.counts.0, ap suc w.counts.1, ap suc w.counts.2, ap suc w.counts.3); nodes = at w.nodes }
+      record { counts = (ap suc w.counts.0, ap suc w.counts.1, ap suc w.counts.2, ap suc w.counts.3); nodes = at w.nodes; rise = rise_at w.rise }
     where
       at : ((i : ℕ) → i < length ns → IsSoundNode r blocks (get_or ns i 0) (get_or ss i no_places) (get_or ls i []) (get_or gs i []) (get_or es i no_places)) → (i : ℕ) → i < suc (length ns) → IsSoundNode r blocks (get_or (n ∷ ns) i 0) (get_or (s ∷ ss) i no_places) (get_or (l ∷ ls) i []) (get_or (g ∷ gs) i []) (get_or (e ∷ es) i no_places)
-      at on zero lt = h.0
+      at on zero lt = h.0.0
       at on (suc i) lt = on i (omega (arith, lt))
+
+      rise_at : ((i : ℕ) → IsRising (get_or es i no_places).homed) → (i : ℕ) → IsRising (get_or (e ∷ es) i no_places).homed
+      rise_at on zero = h.0.1
+      rise_at on (suc i) = on i
   whole [] [] [] [] (y ∷ es) h = absurd h
   whole [] [] [] (y ∷ gs) es h = absurd h
   whole [] [] (y ∷ ls) gs es h = absurd h
@@ -185,7 +191,7 @@ module _ (x : Case) (need : ℕ → ℕ → Option ℕ) (valid : IsValidFlow x.f
       let t : Part = in_node x need (drop_all need) p node (begun b.start) in
       let same : in_node x need (drop_all need) p node f.part ≡ t = ap (in_node x need (drop_all need) p node) b.is in
       let other : in_node x need (dead need) p node f.part ≡ in_node x need (dead need) p node (begun b.start) = ap (in_node x need (dead need) p node) b.is in
-      let sound = sound_more space blocks done f.starts f.lines f.regs f.ends n t.start t.lines t.named (places t) s (node_sound x need valid live four p n node ns b.here b.at b.next b.start b.good) in
+      let sound = sound_more space blocks done f.starts f.lines f.regs f.ends n t.start t.lines t.named (places t) s (node_sound x need valid live four p n node ns b.here b.at b.next b.start b.good, end_rises x need valid live four p n node ns b.here b.at b.next b.start b.good) in
       let fol' = behind_follows x need valid live four p node ns b.at in
       let begun' = next_begun (end_position p node + 1) node.end (places t) ns there.1 fol' (end_registers x need valid live four p n node ns b.here b.at b.next b.start b.good) (end_single x need valid live four p n node ns b.here b.at b.next b.start b.good) (λ m v e l. end_covers x need valid live four p n node ns b.here b.at b.next b.start b.good m v (first_leads n ns path m e) l) in
       let more = along_kept ns (end_position p node + 1) (done ++ n ∷ []) (go t) there.1 (rest_path n ns path) fol' sound begun' in
@@ -208,10 +214,10 @@ module _ (x : Case) (ns : List ℕ) (hint : Option Hint) (given : IsInput x ns h
   abbrev need : ℕ → ℕ → Option ℕ
   need = need_in x ns
 
-  pub swift_is_linear : (result_by x need (drop_all need) number ns hint ≡ linear x number ns hint) × IsSound x.regs x.flow (record { nodes = ns }) (result_by x need (drop_all need) number ns hint)
+  pub swift_is_linear : (result_by x need (drop_all need) number ns hint ≡ linear x number ns hint) × IsSound x.regs x.flow (record { nodes = ns }) (result_by x need (drop_all need) number ns hint) × EndsRise (result_by x need (drop_all need) number ns hint)
   swift_is_linear = by ns hint refl given.trace given.fit (follows_all (positions_of x.flow x.rows ns))
     where
-      by : (ms : List ℕ) (hint : Option Hint) → ms ≡ ns → IsTrace (code_nodes x.flow.nodes) ms → FitsHead x.regs (code_nodes x.flow.nodes) ms hint → Follows (need_in x ns) 0 (positions_of x.flow x.rows ns) → (result_by x (need_in x ns) (drop_all (need_in x ns)) number ms hint ≡ result_by x (need_in x ns) (λ p vs t. drop_dead (need_in x ns) p t) number ms hint) × IsSound x.regs x.flow (record { nodes = ms }) (result_by x (need_in x ns) (drop_all (need_in x ns)) number ms hint)
+      by : (ms : List ℕ) (hint : Option Hint) → ms ≡ ns → IsTrace (code_nodes x.flow.nodes) ms → FitsHead x.regs (code_nodes x.flow.nodes) ms hint → Follows (need_in x ns) 0 (positions_of x.flow x.rows ns) → (result_by x (need_in x ns) (drop_all (need_in x ns)) number ms hint ≡ result_by x (need_in x ns) (λ p vs t. drop_dead (need_in x ns) p t) number ms hint) × IsSound x.regs x.flow (record { nodes = ms }) (result_by x (need_in x ns) (drop_all (need_in x ns)) number ms hint) × EndsRise (result_by x (need_in x ns) (drop_all (need_in x ns)) number ms hint)
       by [] hint e trace fit fol = let l = trace.some in absurd (omega (arith, l))
       by (n ∷ ms) hint e trace fit fol =
           let need' = need_in x ns in
@@ -221,7 +227,7 @@ module _ (x : Case) (ns : List ℕ) (hint : Option Hint) (given : IsInput x ns h
           let k = along_kept x need' given.valid given.live given.enough (n ∷ ms) 0 [] f there trace.path fol' tt (first_begun x need' given.valid given.live given.enough n ms hint there fol' fit) in
           let g = along x need' (drop_all need') 0 (n ∷ ms) f in
           let w = whole (room_of x.regs x.flow) (code_nodes x.flow.nodes) (n ∷ ms) g.starts g.lines g.regs g.ends k.0 in
-          (ap (result_of number) k.1, record { counts = w.counts; nodes = w.nodes })
+          (ap (result_of number) k.1, record { counts = w.counts; nodes = w.nodes }, w.rise)
 
 ---- Hints
 
@@ -232,10 +238,10 @@ args_used (Nonzero a one other) v h = cc
 args_used (Return a) v h = cc
 args_used (Trap kind) v h = cc
 
-pub ends_fit : (k : ℕ) (f : Flow) (t : Trace) (o : TraceOut) → IsSound k f t o → (i head : ℕ) → i < length t.nodes → leads (code_nodes f.nodes) head (get_or t.nodes i 0) ≡ true → IsFit k (code_nodes f.nodes) head (hint_at t o i)
-ends_fit k f t o s i head lt e =
+pub ends_fit : (k : ℕ) (f : Flow) (t : Trace) (o : TraceOut) → IsSound k f t o → EndsRise o → (i head : ℕ) → i < length t.nodes → leads (code_nodes f.nodes) head (get_or t.nodes i 0) ≡ true → IsFit k (code_nodes f.nodes) head (hint_at t o i)
+ends_fit k f t o s rise i head lt e =
     let n = s.nodes i lt in
-    record { edge = e; row = n.row.1; live = λ v l. n.ends.live v (head, e, l); arguments = λ v h. n.ends.read v (args_used (block_at (code_nodes f.nodes) (get_or t.nodes i 0)).end v h) }
+    record { edge = e; row = n.row.1; rises = rise i; live = λ v l. n.ends.live v (head, e, l); arguments = λ v h. n.ends.read v (args_used (block_at (code_nodes f.nodes) (get_or t.nodes i 0)).end v h) }
 
 ---- The code's result
 
@@ -256,3 +262,6 @@ made_linear x number ns hint told head out m given = made_is x number ns hint to
 
 pub made_sound : (x : Case) (number : ℕ) (ns : List ℕ) (hint : Option Hint) (told : ℕ → ℕ → Option ℕ) (head : ℕ) (out : TraceOut) → IsMade x number ns hint told head out → IsInput x ns hint → IsSound x.regs x.flow (record { nodes = ns }) out
 made_sound x number ns hint told head out m given = subst (IsSound x.regs x.flow (record { nodes = ns })) (sym (made_is x number ns hint told head out m)) (swift_is_linear x ns hint given number).1
+
+pub made_rises : (x : Case) (number : ℕ) (ns : List ℕ) (hint : Option Hint) (told : ℕ → ℕ → Option ℕ) (head : ℕ) (out : TraceOut) → IsMade x number ns hint told head out → IsInput x ns hint → EndsRise out
+made_rises x number ns hint told head out m given = subst EndsRise (sym (made_is x number ns hint told head out m)) (swift_is_linear x ns hint given number).2

@@ -11,11 +11,11 @@ use Rattle.lir_core.specs.declared.flow.Lir.{Lir}
 use Rattle.lir_core.specs.declared.flow.Node.{Node}
 use Rattle.lir_core.specs.declared.flow.Flow.{Flow}
 use Rattle.lir_core.specs.Flows.{operation_of, code_node, code_nodes, IsValidFlow}
-use Rattle.lir_core.specs.Rows.{has_bit}
+use Rattle.lir_core.specs.Rows.{has_bit, live_into}
 use Rattle.global_live.specs.Reading.{HasLive}
 use Rattle.global_live.proofs.Lists.{has-append, has_front, has_back, has-filter, not_in_front, not_in_back, in_parts, all_below_in}
 use Rattle.global_live.proofs.Tables.{at_block, has_places}
-use Rattle.live_interval.specs.Needs.{Position, live_into, is_next, live_off, at_operation, at_end}
+use Rattle.trace_needs.specs.Needs.{Position, is_next, live_off, at_operation, at_end}
 use Rattle.loc_state.proofs.Numbers.{numbers_same, or_rest}
 use Rattle.linear_scan.specs.Policy.{is_needed}
 use Rattle.linear_scan.proofs.Needs.{Follows, follows_tail, uses_needed, later_needed, alive}

@@ -9,15 +9,16 @@ use Rattle.lir_core.specs.declared.places.TraceIn.{TraceIn}
 use Rattle.lir_core.specs.declared.places.TraceOut.{TraceOut}
 use Rattle.lir_core.specs.Flows.{code_nodes, leads, IsValidFlow, IsTrace}
 use Rattle.lir_core.specs.Sound.{no_places}
-use Rattle.lir_core.specs.Spots.{placed, IsRow}
+use Rattle.lir_core.specs.Spots.{placed, IsRising, IsRow}
 use Rattle.global_live.specs.Reading.{HasLive}
 use Rattle.linear_scan.specs.Starts.{arguments_of}
 use Rattle.linear_scan.specs.Linear.{Case, Hint}
 
--- an edge leads from the hint's node into a head, and the places are a row of k registers that has all that is live into the head, and each argument of the edge
+-- an edge leads from the hint's node into a head, and the places are a row of k registers, and homes that rise, that have all that is live into the head, and each argument of the edge
 pub record IsFit (k : ℕ) (bls : List CodeBlock) (head : ℕ) (h : Hint) : Type 0 where
   pub edge : leads bls head h.node ≡ true
   pub row : IsRow k h.places
+  pub rises : IsRising h.places.homed
   pub live : (v : ℕ) → Live bls v head → placed h.places v ≡ true
   pub arguments : (v : ℕ) → has (arguments_of (block_at bls h.node).end) v ≡ true → placed h.places v ≡ true
 

@@ -5,9 +5,9 @@ use Rattle.lir_core.specs.declared.flow.Flow.{Flow}
 use Rattle.lir_core.specs.declared.places.Places.{Places}
 use Rattle.lir_core.specs.declared.places.TraceOut.{TraceOut}
 use Rattle.lir_core.specs.Lines.{end_reads}
-use Rattle.lir_core.specs.Rows.{has_bit}
+use Rattle.lir_core.specs.Rows.{has_bit, live_into}
 use Rattle.block_runs.specs.declared.end.End.{End}
-use Rattle.live_interval.specs.Needs.{live_into, first_of, positions_of, next_need}
+use Rattle.trace_needs.specs.Needs.{first_of, positions_of, next_need}
 use Rattle.loc_state.specs.declared.part.Part.{Part}
 use Rattle.loc_state.specs.declared.forward.Forward.{Forward}
 use Rattle.loc_state.specs.Steps.{places, started, closed, in_part}

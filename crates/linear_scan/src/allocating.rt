@@ -3,8 +3,8 @@
 ghost use Rattle.std.specs.Prelude.{◌≡◌, ℕ, [], ◌+◌, ◌<◌, ◌≤◌, length, Option, true, is_some, slice_get, IfOk, IfSome, OnOk};
 ghost use Rattle.std.specs.Option.{option_map};
 ghost use Rattle.lir_core.specs.Lines.{end_reads};
-ghost use Rattle.lir_core.specs.Sound.{IsSound};
-ghost use Rattle.live_interval.specs.Asked.{need_told};
+ghost use Rattle.lir_core.specs.Sound.{IsSound, EndsRise};
+ghost use Rattle.trace_needs.specs.Asked.{need_told};
 ghost use Rattle.loc_state.specs.Steps.{in_part, places};
 ghost use Rattle.linear_scan.specs.Policy.{bring_all, drop_all};
 ghost use Rattle.linear_scan.specs.Starts.{arguments_of};
@@ -14,10 +14,10 @@ ghost use Rattle.linear_scan.specs.Inputs.{case_of, hint_of, lent, IsInput};
 use crate::policy::{bring_all, next, operate_all};
 use crate::starting::{Behind, Head, number_at, start_afresh, start_behind};
 use lir_core::{Flow, Items, Leave, Node, Places, TraceIn, TraceOut};
-use live_interval::{Needs, needs};
 use loc_state::Forward;
 use outside::Memory;
 use std::alloc::Global;
+use trace_needs::{Needs, needs};
 
 /// Linear scan over a trace: the defined result, which is sound, for a valid flow, what is live in it, a trace, and a hint
 /// that is fit or none. With 16 registers at most it takes time in proportion to what `needs` takes, to the trace's
@@ -30,6 +30,8 @@ pub fn allocate(alloc: Global, t: &TraceIn, hint: Option<&Places>) -> Result<Tra
         → IfOk result (λ out. out ≡ linear (case_of t.now) t.now.number t.now.trace.now.nodes (hint_of t.now.from (lent hint.entry))) }
     ensures sound { IsInput (case_of t.now) t.now.trace.now.nodes (hint_of t.now.from (lent hint.entry))
         → IfOk result (IsSound t.now.regs t.now.flow.now t.now.trace.now) }
+    ensures rises { IsInput (case_of t.now) t.now.trace.now.nodes (hint_of t.now.from (lent hint.entry))
+        → IfOk result EndsRise }
 {
     let nodes = t.trace.nodes.as_slice();
     let Some(head) = number_at(nodes, 0) else {

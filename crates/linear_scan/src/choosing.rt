@@ -1,11 +1,11 @@
 //! Which register is given up.
 
 ghost use Rattle.std.specs.Prelude.{◌≡◌, ◌<◌, ◌≤◌, length};
-ghost use Rattle.live_interval.specs.Asked.{need_told};
+ghost use Rattle.trace_needs.specs.Asked.{need_told};
 ghost use Rattle.linear_scan.specs.Policy.{is_later, later, farther, victim, from};
 
-use live_interval::Needs;
 use loc_state::has;
+use trace_needs::Needs;
 
 /// A register, and the next position that needs its value, if one does.
 #[derive(Clone, Copy)]

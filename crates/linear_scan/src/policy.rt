@@ -1,16 +1,16 @@
 //! The policy at an operation.
 
 ghost use Rattle.std.specs.Prelude.{◌≡◌, ◌+◌, ◌<◌, ◌≤◌, length, IfOk, OnOk, option_to_list};
-ghost use Rattle.live_interval.specs.Asked.{need_told};
+ghost use Rattle.trace_needs.specs.Asked.{need_told};
 ghost use Rattle.loc_state.specs.Steps.{in_part};
 ghost use Rattle.linear_scan.specs.Policy.{is_needed, bring_one, bring_all, drop_one, drop_all, define_one, needed_in, call_one, operate, operate_all};
 
 use crate::choosing::victim;
 use lir_core::Lir;
-use live_interval::Needs;
 use loc_state::{Forward, has_register, lowest_empty};
 use outside::Memory;
 use std::alloc::{AllocError, Global};
+use trace_needs::Needs;
 
 /// The number behind a position's.
 pub(crate) fn next(at: u32) -> Result<u32, Memory>

@@ -1,20 +1,19 @@
 //! Start places.
 
 ghost use Rattle.std.specs.Prelude.{◌≡◌, ◌<◌, ◌≤◌, [], length, map, filter, cond, Some, IfOk, IfSome, OnOk, slice_get};
-ghost use Rattle.lir_core.specs.Rows.{has_bit};
-ghost use Rattle.live_interval.specs.Needs.{live_into};
-ghost use Rattle.live_interval.specs.Asked.{need_told};
+ghost use Rattle.lir_core.specs.Rows.{has_bit, live_into};
+ghost use Rattle.trace_needs.specs.Asked.{need_told};
 ghost use Rattle.loc_state.specs.Homed.{inserted, all_inserted};
 ghost use Rattle.linear_scan.specs.Policy.{from};
 ghost use Rattle.linear_scan.specs.Starts.{if_live, hinted, param_reg, start_behind, start_afresh};
 ghost use Rattle.linear_scan.specs.Made.{lent_places};
 
 use crate::policy::is_needed;
-use lir_core::{Items, LiveSets, Places};
-use live_interval::{Needs, next_live};
+use lir_core::{Items, LiveSets, Places, next_live};
 use loc_state::{Homes, has_register, lowest_empty, register_of};
 use outside::Memory;
 use std::alloc::{AllocError, Global};
+use trace_needs::Needs;
 
 /// A node that is begun, and its parameters.
 #[derive(Clone, Copy)]

@@ -6,13 +6,12 @@ use Rattle.std.proofs.lemmas.List.{append-nil, take_more, drop_more, drop_all, t
 use Rattle.block_runs.specs.Live.{has}
 use Rattle.lir_core.specs.declared.flow.Trace.{Trace}
 use Rattle.lir_core.specs.declared.flow.Node.{Node}
-use Rattle.lir_core.specs.Flows.{code_node}
+use Rattle.lir_core.specs.Flows.{code_node, node_at}
 use Rattle.global_live.proofs.Lists.{has_front}
-use Rattle.trace_build.specs.Traces.{node_at}
 use Rattle.trace_build.specs.Parents.{trace_at, no_trace}
 use Rattle.trace_build.specs.Cuts.{lists_of, all_nodes, AllTraces}
-use Rattle.boundary_resolve.specs.declared.placed.Placed.{Placed}
-use Rattle.boundary_resolve.specs.declared.placed.Placed.TheVariants.{Node as Begins}
+use Rattle.boundary_resolve.specs.declared.code_line.CodeLine.{CodeLine}
+use Rattle.boundary_resolve.specs.declared.code_line.CodeLine.TheVariants.{Node as Begins}
 use Rattle.boundary_resolve.specs.Placing.{out_at, lines_at, registers_at, jump_steps, test_steps, node_lines}
 use Rattle.boundary_resolve.specs.Edges.{AreSound}
 use Rattle.linked_flows.specs.Allocations.{Cut}
@@ -39,14 +38,14 @@ earlier (x ∷ xs) n m e h = at_head (x == m) h (earlier xs n m e)
     at_head false h on = on h
 
 module _ (k : ℕ) (c : Cut) (sound : AreSound k c.flow c.traces c.outs) where
-  abbrev lines : ℕ → List Placed
+  abbrev lines : ℕ → List CodeLine
   lines n = node_lines c.flow c.traces c.outs n
 
   -- the lines of a node, as far as they are ahead
-  abbrev pub own : ℕ → List Placed → List Placed
+  abbrev pub own : ℕ → List CodeLine → List CodeLine
   own n rest = flat (test_steps c.flow c.traces c.outs n) (lines_at c.traces c.outs n) (jump_steps c.flow c.traces c.outs n) n rest
 
-  pub begins : (ns : List ℕ) (i : ℕ) (ahead tail : List Placed) → ahead ≡ flat_map lines (drop i ns) ++ tail → i < length ns → ahead ≡ Begins (get_or ns i 0) ∷ own (get_or ns i 0) (flat_map lines (drop (i + 1) ns) ++ tail)
+  pub begins : (ns : List ℕ) (i : ℕ) (ahead tail : List CodeLine) → ahead ≡ flat_map lines (drop i ns) ++ tail → i < length ns → ahead ≡ Begins (get_or ns i 0) ∷ own (get_or ns i 0) (flat_map lines (drop (i + 1) ns) ++ tail)
   begins ns i ahead tail e l =
       let n = get_or ns i 0 in
       e ∙ ap (λ (xs : List ℕ). flat_map lines xs ++ tail) (drop_more ns i 0 l) ∙ append_assoc (lines n) (flat_map lines (drop (i + 1) ns)) tail ∙ node_flat c n (flat_map lines (drop (i + 1) ns) ++ tail)
@@ -62,11 +61,11 @@ module _ (k : ℕ) (c : Cut) (sound : AreSound k c.flow c.traces c.outs) where
       by_test m false e h = step.others m (λ q. let wrong = eq-eqb n m (sym q) in cc) ∙ laid.blocks m (earlier before.order.items n m e h)
 
   -- reading a node's lines, where the nodes are these
-  abbrev pub StepOn : List Node → List Placed → List Placed → Laid → Laid → List ℕ → Type 0
+  abbrev pub StepOn : List Node → List CodeLine → List CodeLine → Laid → Laid → List ℕ → Type 0
   StepOn nodes here behind before after named =
-      (n : ℕ) (ls : List Placed) → here ≡ Begins n ∷ ls → n < length nodes → (behind ≡ behind_block (code_node (node_at nodes n)) ls) × Lays before after n (block_ahead (code_node (node_at nodes n)) named ls)
+      (n : ℕ) (ls : List CodeLine) → here ≡ Begins n ∷ ls → n < length nodes → (behind ≡ behind_block (code_node (node_at nodes n)) ls) × Lays before after n (block_ahead (code_node (node_at nodes n)) named ls)
 
-  pub read_more : (ns : List ℕ) (rows : List (List ℕ)) (i : ℕ) (from here behind tail : List Placed) (first before after : Laid) (named : List ℕ) → AreAhead c ns rows from tail → i < length rows → named ≡ get_or rows i []
+  pub read_more : (ns : List ℕ) (rows : List (List ℕ)) (i : ℕ) (from here behind tail : List CodeLine) (first before after : Laid) (named : List ℕ) → AreAhead c ns rows from tail → i < length rows → named ≡ get_or rows i []
       → HasRead c (take i ns) first before here (flat_map lines (drop i ns) ++ tail)
       → StepOn c.flow.nodes here behind before after named
       → HasRead c (take (i + 1) ns) first after behind (flat_map lines (drop (i + 1) ns) ++ tail)
@@ -85,7 +84,7 @@ module _ (k : ℕ) (c : Cut) (sound : AreSound k c.flow c.traces c.outs) where
         laid = laid_more before after n low read.laid lays;
       }
 
-  pub read_all : (ns : List ℕ) (i : ℕ) (ahead tail : List Placed) (first after : Laid) → length ns ≤ i → HasRead c (take i ns) first after ahead (flat_map lines (drop i ns) ++ tail) → HasRead c ns first after ahead tail
+  pub read_all : (ns : List ℕ) (i : ℕ) (ahead tail : List CodeLine) (first after : Laid) → length ns ≤ i → HasRead c (take i ns) first after ahead (flat_map lines (drop i ns) ++ tail) → HasRead c ns first after ahead tail
   read_all ns i ahead tail first after past read = record {
     lines = read.lines ∙ ap (λ (xs : List ℕ). flat_map lines xs ++ tail) (drop_all i ns past);
     order = read.order ∙ ap (λ (xs : List ℕ). first.order.items ++ xs) (take_all i ns past);
@@ -104,7 +103,7 @@ module _ (k : ℕ) (c : Cut) (sound : AreSound k c.flow c.traces c.outs) where
     traces_more t l = ap (λ (ts : List Trace). all_nodes (lists_of ts)) (drop_more c.traces t no_trace l)
 
     -- a trace's nodes are ahead, and behind them those of the others
-    pub trace_ahead : (t : ℕ) (ahead : List Placed) (rows : List (List ℕ)) → t < length c.traces → rows ≡ (out_at c.outs t).regs → ahead ≡ flat_map lines (all_nodes (lists_of (drop t c.traces)))
+    pub trace_ahead : (t : ℕ) (ahead : List CodeLine) (rows : List (List ℕ)) → t < length c.traces → rows ≡ (out_at c.outs t).regs → ahead ≡ flat_map lines (all_nodes (lists_of (drop t c.traces)))
         → AreAhead c (trace_at c.traces t).nodes rows ahead (flat_map lines (all_nodes (lists_of (drop (t + 1) c.traces))))
     trace_ahead t ahead rows l row e =
         let ns = (trace_at c.traces t).nodes in
@@ -116,7 +115,7 @@ module _ (k : ℕ) (c : Cut) (sound : AreSound k c.flow c.traces c.outs) where
           lines = e ∙ ap (flat_map lines) (traces_more t l) ∙ flat_map-append lines ns (all_nodes (lists_of (drop (t + 1) c.traces)));
         }
 
-    pub trace_read : (t : ℕ) (before after : Laid) (here behind : List Placed) → t < length c.traces → Reads c t before here
+    pub trace_read : (t : ℕ) (before after : Laid) (here behind : List CodeLine) → t < length c.traces → Reads c t before here
         → HasRead c (trace_at c.traces t).nodes before after behind (flat_map lines (all_nodes (lists_of (drop (t + 1) c.traces)))) → Reads c (t + 1) after behind
     trace_read t before after here behind l reads read =
         let ns = (trace_at c.traces t).nodes in

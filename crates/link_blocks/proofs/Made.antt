@@ -6,11 +6,10 @@ use Rattle.block_runs.specs.Blocks.{CodeBlock, block_at}
 use Rattle.block_runs.specs.Live.{has}
 use Rattle.lir_core.specs.declared.flow.Flow.{Flow}
 use Rattle.lir_core.specs.declared.places.TraceOut.{TraceOut}
-use Rattle.lir_core.specs.Flows.{code_node, code_nodes}
+use Rattle.lir_core.specs.Flows.{code_node, code_nodes, node_at}
 use Rattle.lir_core.specs.Lines.{slots_of as slots_in_calls}
-use Rattle.trace_build.specs.Traces.{node_at}
 use Rattle.trace_build.specs.Cuts.{lists_of, all_nodes, AllTraces}
-use Rattle.boundary_resolve.specs.declared.placed.Placed.{Placed as Ahead}
+use Rattle.boundary_resolve.specs.declared.code_line.CodeLine.{CodeLine}
 use Rattle.boundary_resolve.specs.Placing.{entry_steps, node_lines}
 use Rattle.boundary_resolve.specs.Edges.{AreSound}
 use Rattle.boundary_resolve.proofs.Between.{blocks_at}
@@ -88,7 +87,7 @@ pub record IsMade (c : Cut) (first : List Move) (order homes : List ℕ) (blocks
   pub homes_are : homes ≡ homes_of (copies_of (entry_steps c.flow c.traces c.outs)) (blocks_of c)
   pub order_is : order ≡ all_nodes (lists_of c.traces)
 
-pub is_made : (k : ℕ) (c : Cut) (f : Flow) (lines : List Ahead) (outs : List TraceOut) → IsCutOf k f lines outs c → (first copies : List Move) (laid : Laid) (blocks : List Made) (homes : List ℕ) (at : ℕ)
+pub is_made : (k : ℕ) (c : Cut) (f : Flow) (lines : List CodeLine) (outs : List TraceOut) → IsCutOf k f lines outs c → (first copies : List Move) (laid : Laid) (blocks : List Made) (homes : List ℕ) (at : ℕ)
     → map copy_of first ≡ edges_ahead lines → drop at lines ≡ behind_edges lines
     → (f.nodes ≡ c.flow.nodes → outs ≡ c.outs → AreSound k c.flow c.traces c.outs → AllTraces c.flow (lists_of c.traces) → AreAllDistinct lines → drop at lines ≡ flat_map (node_lines c.flow c.traces c.outs) (all_nodes (lists_of c.traces)) → (laid.order.items ≡ all_nodes (lists_of c.traces)) × AreLaid c laid)
     → map block_in blocks ≡ map block_in laid.blocks.items → map copy_of copies ≡ all_copies (map copy_of first) (map block_in blocks) → homes ≡ with_copies (map copy_of copies) [] → IsMade c first laid.order.items homes blocks

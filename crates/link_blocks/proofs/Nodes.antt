@@ -10,16 +10,15 @@ use Rattle.lir_core.specs.declared.places.Line.TheVariants.{Store, Load, Moves, 
 use Rattle.lir_core.specs.declared.places.Line.TheVariants.{Lir as Does}
 use Rattle.lir_core.specs.declared.places.TraceOut.{TraceOut}
 use Rattle.lir_core.specs.declared.flow.Trace.{Trace}
-use Rattle.lir_core.specs.Flows.{code_node, code_nodes}
+use Rattle.lir_core.specs.Flows.{code_node, code_nodes, node_at}
 use Rattle.lir_core.specs.Lines.{Room, LinesInRange}
 use Rattle.lir_core.specs.Sound.{room_of}
-use Rattle.trace_build.specs.Traces.{node_at}
 use Rattle.trace_build.specs.Parents.{trace_at}
 use Rattle.trace_build.specs.Cuts.{lists_of, all_nodes, AllTraces}
 use Rattle.parallel_move.specs.declared.step.Step.{Step}
-use Rattle.boundary_resolve.specs.declared.placed.Placed.{Placed}
-use Rattle.boundary_resolve.specs.declared.placed.Placed.TheVariants.{Body, Edge, Leave}
-use Rattle.boundary_resolve.specs.declared.placed.Placed.TheVariants.{Node as Begins}
+use Rattle.boundary_resolve.specs.declared.code_line.CodeLine.{CodeLine}
+use Rattle.boundary_resolve.specs.declared.code_line.CodeLine.TheVariants.{Body, Edge, Leave}
+use Rattle.boundary_resolve.specs.declared.code_line.CodeLine.TheVariants.{Node as Begins}
 use Rattle.boundary_resolve.specs.Placing.{out_at, start_at, end_at, lines_at, registers_at, registers_in, steps_of_end, jump_steps, test_steps, entry_steps, node_lines, placed_of}
 use Rattle.boundary_resolve.specs.Edges.{AreSound}
 use Rattle.boundary_resolve.proofs.Between.{blocks_at}
@@ -39,12 +38,12 @@ use Rattle.link_blocks.proofs.Counted.{none_beyond, no_lines}
 use Rattle.link_blocks.proofs.Seats.{has_at, seat_here}
 
 -- a node's lines begin with its mark
-pub node_flat : (c : Cut) (n : ℕ) (tail : List Placed) → node_lines c.flow c.traces c.outs n ++ tail ≡ Begins n ∷ flat (test_steps c.flow c.traces c.outs n) (lines_at c.traces c.outs n) (jump_steps c.flow c.traces c.outs n) n tail
+pub node_flat : (c : Cut) (n : ℕ) (tail : List CodeLine) → node_lines c.flow c.traces c.outs n ++ tail ≡ Begins n ∷ flat (test_steps c.flow c.traces c.outs n) (lines_at c.traces c.outs n) (jump_steps c.flow c.traces c.outs n) n tail
 node_flat c n tail =
     let test = map Edge (test_steps c.flow c.traces c.outs n) in
     let own = map Body (lines_at c.traces c.outs n) in
     let jump = map Edge (jump_steps c.flow c.traces c.outs n) in
-    ap (λ (ls : List Placed). Begins n ∷ ls)
+    ap (λ (ls : List CodeLine). Begins n ∷ ls)
     (append_assoc ((test ++ own) ++ jump) (Leave n ∷ []) tail ∙ append_assoc (test ++ own) jump (Leave n ∷ tail) ∙ append_assoc test own (jump ++ Leave n ∷ tail))
 
 -- a jump's steps stand before it, and other ends have none
@@ -74,7 +73,7 @@ module _ (k : ℕ) (c : Cut) (sound : AreSound k c.flow c.traces c.outs) where
         none = λ e. sym same ∙ no_lines _ _ _ _ _ _ _ s.lines_sound e;
       }
 
-  pub block_is : (n : ℕ) (tail : List Placed) → n < length c.flow.nodes
+  pub block_is : (n : ℕ) (tail : List CodeLine) → n < length c.flow.nodes
       → block_ahead (code_of n) (registers_at c.traces c.outs n) (flat (test_steps c.flow c.traces c.outs n) (lines_at c.traces c.outs n) (jump_steps c.flow c.traces c.outs n) n tail) ≡ wanted c n
   block_is n tail l =
       let r = ready n l in
@@ -83,7 +82,7 @@ module _ (k : ℕ) (c : Cut) (sound : AreSound k c.flow c.traces c.outs) where
       block_flat (code_of n) (registers_at c.traces c.outs n) test lines (jump_steps c.flow c.traces c.outs n) n tail r.registers r.over r.none
       ∙ ap (λ (ms : List Copy). let bl : Block = record { params = []; body = (wanted c n).body; copies = last_copies steps_of (copies_of test) (code_of n).ops lines ++ ms; end = (wanted c n).end; a = (wanted c n).a; b = (wanted c n).b } in bl) (sym (jump_left c n (node_at c.flow.nodes n).end))
 
-  pub behind_is : (n : ℕ) (tail : List Placed) → n < length c.flow.nodes
+  pub behind_is : (n : ℕ) (tail : List CodeLine) → n < length c.flow.nodes
       → behind_block (code_of n) (flat (test_steps c.flow c.traces c.outs n) (lines_at c.traces c.outs n) (jump_steps c.flow c.traces c.outs n) n tail) ≡ tail
   behind_is n tail l = let r = ready n l in behind_block_flat (code_of n) (test_steps c.flow c.traces c.outs n) (lines_at c.traces c.outs n) (jump_steps c.flow c.traces c.outs n) n tail r.over r.none
 
@@ -97,14 +96,14 @@ module _ (k : ℕ) (c : Cut) (sound : AreSound k c.flow c.traces c.outs) where
 
 ---- No two moves of a line have one destination
 
-abbrev AllDistinct : List Placed → Type 0
+abbrev AllDistinct : List CodeLine → Type 0
 AllDistinct [] = Unit {0}
 AllDistinct (Body l ∷ ls) = IsDistinct l × AllDistinct ls
 AllDistinct (Edge s ∷ ls) = AllDistinct ls
 AllDistinct (Begins n ∷ ls) = AllDistinct ls
 AllDistinct (Leave n ∷ ls) = AllDistinct ls
 
-each_distinct : (ls : List Placed) → AllDistinct ls → AreAllDistinct ls
+each_distinct : (ls : List CodeLine) → AllDistinct ls → AreAllDistinct ls
 each_distinct [] all zero line rest e = cc
 each_distinct [] all (suc at) line rest e = cc
 each_distinct (Body l ∷ ls) all zero line rest e = let same : l ≡ line = cc in subst IsDistinct same all.0
@@ -116,11 +115,11 @@ each_distinct (Begins n ∷ ls) all (suc at) line rest e = each_distinct ls all 
 each_distinct (Leave n ∷ ls) all zero line rest e = cc
 each_distinct (Leave n ∷ ls) all (suc at) line rest e = each_distinct ls all at line rest e
 
-distinct_edges : (ss : List Step) (ls : List Placed) → AllDistinct ls → AllDistinct (map Edge ss ++ ls)
+distinct_edges : (ss : List Step) (ls : List CodeLine) → AllDistinct ls → AllDistinct (map Edge ss ++ ls)
 distinct_edges [] ls all = all
 distinct_edges (s ∷ ss) ls all = distinct_edges ss ls all
 
-distinct_body : (room : Room) (lines : List Line) (ls : List Placed) → LinesInRange room lines → AllDistinct ls → AllDistinct (map Body lines ++ ls)
+distinct_body : (room : Room) (lines : List Line) (ls : List CodeLine) → LinesInRange room lines → AllDistinct ls → AllDistinct (map Body lines ++ ls)
 distinct_body room [] ls range all = all
 distinct_body room (Does i ∷ lines) ls range all = (tt, distinct_body room lines ls range.1 all)
 distinct_body room (Store r v ∷ lines) ls range all = (tt, distinct_body room lines ls range.1 all)

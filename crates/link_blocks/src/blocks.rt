@@ -13,7 +13,7 @@ ghost use Rattle.link_blocks.specs.Ahead.{block_ahead, behind_block, cells_ahead
 use crate::fits::register_in;
 use crate::plans::{Block, Cell};
 use crate::reading::{push_body, push_edges};
-use boundary_resolve::Placed;
+use boundary_resolve::CodeLine;
 use items::Items;
 use link_layout::Copy;
 use link_words::Registers;
@@ -26,7 +26,7 @@ pub(crate) fn block_of(
     alloc: Global,
     node: &Node,
     row: &[u8],
-    lines: &[Placed],
+    lines: &[CodeLine],
     from: usize,
 ) -> Result<(Block, usize), Memory>
     requires { node_fits node.now ≡ true }
@@ -56,7 +56,7 @@ pub(crate) fn block_of(
 }
 
 /// The line behind a line, or the end of all.
-fn next(lines: &[Placed], at: usize) -> usize
+fn next(lines: &[CodeLine], at: usize) -> usize
     ensures { drop result lines.now ≡ drop 1 (drop at lines.now) }
 {
     if at < lines.len() { at + 1 } else { at }

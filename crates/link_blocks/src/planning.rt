@@ -3,13 +3,12 @@
 ghost use Rattle.std.specs.Prelude.{◌≡◌, ◌≢◌, ℕ, ◌+◌, ◌<◌, ◌++◌, ◌∷◌, List, length, map, drop, get_or, flat_map, true, OnOk, IfOk, IfErr};
 ghost use Rattle.placed_code.specs.Placed.{no_block};
 ghost use Rattle.std.specs.List.{list_all};
-ghost use Rattle.lir_core.specs.Flows.{code_node};
-ghost use Rattle.trace_build.specs.Traces.{node_at};
+ghost use Rattle.lir_core.specs.Flows.{code_node, node_at};
 ghost use Rattle.trace_build.specs.Cuts.{lists_of, all_nodes, AllTraces};
 ghost use Rattle.boundary_resolve.specs.Placing.{node_lines};
 ghost use Rattle.boundary_resolve.specs.Edges.{AreSound};
-ghost use Rattle.boundary_resolve.specs.declared.placed.Placed.{Placed as Ahead};
-ghost use Rattle.boundary_resolve.specs.declared.placed.Placed.TheVariants.{Node as Begins};
+ghost use Rattle.boundary_resolve.specs.declared.code_line.CodeLine.{CodeLine};
+ghost use Rattle.boundary_resolve.specs.declared.code_line.CodeLine.TheVariants.{Node as Begins};
 ghost use Rattle.placed_code.specs.Results.{placed};
 ghost use Rattle.linked_flows.specs.Allocations.{Cut, steps_of, allocated};
 ghost use Rattle.link_layout.specs.Spots.{copy_of, cell_copies, block_copies, all_copies};
@@ -25,7 +24,7 @@ use crate::fits::{numbers_fit, registers_fit};
 use crate::plans::{Block, Cell, Plan};
 use crate::reading::push_edges;
 use a64_instr::Bits;
-use boundary_resolve::Placed;
+use boundary_resolve::CodeLine;
 use items::Items;
 use link_layout::{Copy, Ranks};
 use link_words::Frame;
@@ -42,7 +41,7 @@ impl Plan {
     pub fn of(
         alloc: Global,
         flow: &Flow,
-        lines: &[Placed],
+        lines: &[CodeLine],
         outs: &[TraceOut],
     ) -> Result<Plan, PlanFault>
         ensures plan { (k : ℕ) (c : Cut) → IsCutOf k flow.now lines.now outs.now c → IfOk result (λ plan. placed_in plan ≡ plain (placed steps_of (allocated c))) }
@@ -94,7 +93,7 @@ pub(crate) struct Laid {
 fn laid_out(
     alloc: Global,
     nodes: &[Node],
-    lines: &[Placed],
+    lines: &[CodeLine],
     from: usize,
     outs: &[TraceOut],
 ) -> Result<Laid, Memory>
@@ -133,12 +132,12 @@ fn lay_all(
     laid: &mut Laid,
     nodes: &[Node],
     rows: &[RegisterList],
-    lines: &[Placed],
+    lines: &[CodeLine],
     from: usize,
 ) -> Result<usize, Memory>
     requires { list_all (λ n. node_fits n) nodes.now ≡ true }
     ensures each { length laid.new.blocks.items ≡ length laid.old.blocks.items }
-    ensures read { (k : ℕ) (c : Cut) (ns : List ℕ) (tail : List Ahead) → nodes.now ≡ c.flow.nodes → AreSound k c.flow c.traces c.outs
+    ensures read { (k : ℕ) (c : Cut) (ns : List ℕ) (tail : List CodeLine) → nodes.now ≡ c.flow.nodes → AreSound k c.flow c.traces c.outs
         → AreAllDistinct lines.now → AreLaid c laid.old → AreAhead c ns rows.now (drop from lines.now) tail
         → IfOk result (λ at. HasRead c ns laid.old laid.new (drop at lines.now) tail) }
 {
@@ -155,16 +154,16 @@ fn lay(
     laid: &mut Laid,
     nodes: &[Node],
     named: &[u8],
-    lines: &[Placed],
+    lines: &[CodeLine],
     at: usize,
 ) -> Result<usize, Memory>
     requires { list_all (λ n. node_fits n) nodes.now ≡ true }
     ensures each { length laid.new.blocks.items ≡ length laid.old.blocks.items }
-    ensures read { (n : ℕ) (ls : List Ahead) → drop at lines.now ≡ Begins n ∷ ls → n < length nodes.now → AreAllDistinct lines.now
+    ensures read { (n : ℕ) (ls : List CodeLine) → drop at lines.now ≡ Begins n ∷ ls → n < length nodes.now → AreAllDistinct lines.now
         → IfOk result (λ behind. (drop behind lines.now ≡ behind_block (code_node (node_at nodes.now n)) ls)
         × Lays laid.old laid.new n (block_ahead (code_node (node_at nodes.now n)) named.now ls)) }
 {
-    let Some(Placed::Node(number)) = lines.get(at) else {
+    let Some(CodeLine::Node(number)) = lines.get(at) else {
         return Ok(at);
     };
     let Some(node) = nodes.get(*number as usize) else {

@@ -8,7 +8,7 @@ ghost use Rattle.linked_flows.specs.Allocations as linked;
 ghost use Rattle.link_layout.specs.Spots.{copy_of, spot_of};
 ghost use Rattle.link_blocks.specs.Ahead.{edges_ahead, behind_edges, copies_ahead, behind_copies, IsDistinct, AreAllDistinct};
 
-use boundary_resolve::{Placed, Step};
+use boundary_resolve::{CodeLine, Step};
 use link_layout::{Copy, Spot};
 use lir_core::{Line, Place};
 use outside::Memory;
@@ -18,7 +18,7 @@ use std::alloc::{AllocError, Global};
 /// The steps of an edge, from a line on, become copies; gives the line behind them.
 pub(crate) fn push_edges(
     copies: &mut Vec<Copy>,
-    lines: &[Placed],
+    lines: &[CodeLine],
     from: usize,
 ) -> Result<usize, AllocError>
     ensures copies { OnOk result (map copy_of copies.new.items ≡ map copy_of copies.old.items ++ edges_ahead (drop from lines.now)) }
@@ -26,7 +26,7 @@ pub(crate) fn push_edges(
 {
     for at in from..lines.len() {
         match &lines[at] {
-            Placed::Edge(step) => push_step(copies, *step)?,
+            CodeLine::Edge(step) => push_step(copies, *step)?,
             _ => return Ok(at),
         }
     }
@@ -38,7 +38,7 @@ pub(crate) fn push_edges(
 pub(crate) fn push_body(
     alloc: Global,
     copies: &mut Vec<Copy>,
-    lines: &[Placed],
+    lines: &[CodeLine],
     from: usize,
 ) -> Result<usize, Memory>
     ensures copies { AreAllDistinct lines.now → OnOk result (map copy_of copies.new.items ≡ map copy_of copies.old.items ++ copies_ahead (drop from lines.now)) }
@@ -46,8 +46,8 @@ pub(crate) fn push_body(
 {
     for at in from..lines.len() {
         match &lines[at] {
-            Placed::Body(Line::Lir(_)) => return Ok(at + 1),
-            Placed::Body(line) => push_line(alloc, copies, line)?,
+            CodeLine::Body(Line::Lir(_)) => return Ok(at + 1),
+            CodeLine::Body(line) => push_line(alloc, copies, line)?,
             _ => return Ok(at),
         }
     }

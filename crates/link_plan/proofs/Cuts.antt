@@ -6,7 +6,7 @@ use Rattle.std.specs.Option.{option_to_list}
 use Rattle.std.proofs.lemmas.List.{append-nil, drop_more, drop_all}
 use Rattle.lir_core.specs.declared.flow.Flow.{Flow}
 use Rattle.lir_core.specs.declared.places.TraceOut.{TraceOut}
-use Rattle.boundary_resolve.specs.declared.placed.Placed.{Placed as Line}
+use Rattle.boundary_resolve.specs.declared.code_line.CodeLine.{CodeLine}
 use Rattle.boundary_resolve.specs.Placing.{placed_of}
 use Rattle.placed_code.specs.Placed.{Placed, proc_of}
 use Rattle.placed_code.specs.Words.{frame_of}
@@ -15,13 +15,13 @@ use Rattle.linked_flows.specs.Allocations.{Cut, steps_of, allocated, all_allocat
 use Rattle.link_blocks.specs.Fits.{numbers_fit}
 use Rattle.link_blocks.specs.Plans.{plain}
 use Rattle.link_blocks.specs.Laid.{IsCutOf}
-use Rattle.link_code.specs.Parts.{IsWhole}
+use Rattle.link_plan.specs.Parts.{IsWhole}
 use Rattle.link_plan.specs.Linked.{AllAllocated, AreCuts, greatest_frame}
 use Rattle.link_plan.proofs.Low.{whole, proc_low, and_left, and_right}
 use Rattle.link_plan.proofs.InTable.{AllLow}
 
 -- the cut of a number
-pub record CutAt (k : ℕ) (f : Flow) (lines : List Line) (outs : List TraceOut) (cuts : List Cut) (i : ℕ) : Type 0 where
+pub record CutAt (k : ℕ) (f : Flow) (lines : List CodeLine) (outs : List TraceOut) (cuts : List Cut) (i : ℕ) : Type 0 where
   pub cut : Cut
   pub rest : List Cut
   pub drops : drop i cuts ≡ cut ∷ rest
@@ -42,7 +42,7 @@ map_length : {A : Type 0} (g : Cut → A) (cuts : List Cut) → length (map g cu
 map_length g [] = refl
 map_length g (c ∷ cuts) = ap suc (map_length g cuts)
 
-pub cut_at : (k : ℕ) (flows : List Flow) (parts : List (List Line)) (outs : List (List TraceOut)) (cuts : List Cut) → AreCuts k flows parts outs cuts → (i : ℕ) (f : Flow) (lines : List Line) (os : List TraceOut)
+pub cut_at : (k : ℕ) (flows : List Flow) (parts : List (List CodeLine)) (outs : List (List TraceOut)) (cuts : List Cut) → AreCuts k flows parts outs cuts → (i : ℕ) (f : Flow) (lines : List CodeLine) (os : List TraceOut)
     → i < length flows → f ≡ get_or flows i f → lines ≡ get_or parts i [] → os ≡ get_or outs i [] → CutAt k f lines os cuts i
 cut_at k flows parts outs cuts are i f lines os l ef el eo =
     let n = ap (λ (xs : List Flow). length xs) are.flows_are ∙ map_length (λ (c : Cut). c.flow) cuts in
@@ -56,7 +56,7 @@ cut_at k flows parts outs cuts are i f lines os l ef el eo =
       is = record {
         flow_is = mapped_at (λ (x : Cut). x.flow) cuts i c one.1 f f one.2 (ef ∙ ap (λ (xs : List Flow). get_or xs i f) are.flows_are);
         outs_are = mapped_at (λ (x : Cut). x.outs) cuts i c one.1 os [] one.2 (eo ∙ ap (λ (xs : List (List TraceOut)). get_or xs i []) are.outs_are);
-        lines_are = mapped_at (λ (x : Cut). placed_of x.flow x.traces x.outs) cuts i c one.1 lines [] one.2 (el ∙ ap (λ (xs : List (List Line)). get_or xs i []) are.parts_are);
+        lines_are = mapped_at (λ (x : Cut). placed_of x.flow x.traces x.outs) cuts i c one.1 lines [] one.2 (el ∙ ap (λ (xs : List (List CodeLine)). get_or xs i []) are.parts_are);
         sound = a.sound;
         paths = a.paths;
       };
@@ -81,14 +81,14 @@ plans_more cuts i c rest old new all pr d e is inv =
     ap₂ (λ (xs : List Placed) (cs : List Cut). xs ++ plain_all cs) e (drop_next cuts i c rest d)
     ∙ append_assoc old (pr ∷ []) (plain_all rest) ∙ ap (λ (p : Placed). old ++ p ∷ plain_all rest) is ∙ sym (ap (λ (cs : List Cut). old ++ plain_all cs) d) ∙ inv
 
-pub same_lengths : (k : ℕ) (flows : List Flow) (parts : List (List Line)) (outs : List (List TraceOut)) (cuts : List Cut) → AreCuts k flows parts outs cuts → (length parts ≡ length flows) × (length outs ≡ length flows)
+pub same_lengths : (k : ℕ) (flows : List Flow) (parts : List (List CodeLine)) (outs : List (List TraceOut)) (cuts : List Cut) → AreCuts k flows parts outs cuts → (length parts ≡ length flows) × (length outs ≡ length flows)
 same_lengths k flows parts outs cuts are =
     let n = ap (λ (xs : List Flow). length xs) are.flows_are ∙ map_length (λ (c : Cut). c.flow) cuts in (
-      ap (λ (xs : List (List Line)). length xs) are.parts_are ∙ map_length (λ (c : Cut). placed_of c.flow c.traces c.outs) cuts ∙ sym n,
+      ap (λ (xs : List (List CodeLine)). length xs) are.parts_are ∙ map_length (λ (c : Cut). placed_of c.flow c.traces c.outs) cuts ∙ sym n,
       ap (λ (xs : List (List TraceOut)). length xs) are.outs_are ∙ map_length (λ (c : Cut). c.outs) cuts ∙ sym n,
     )
 
-pub cuts_length : (k : ℕ) (flows : List Flow) (parts : List (List Line)) (outs : List (List TraceOut)) (cuts : List Cut) → AreCuts k flows parts outs cuts → length flows ≡ length cuts
+pub cuts_length : (k : ℕ) (flows : List Flow) (parts : List (List CodeLine)) (outs : List (List TraceOut)) (cuts : List Cut) → AreCuts k flows parts outs cuts → length flows ≡ length cuts
 cuts_length k flows parts outs cuts are = ap (λ (xs : List Flow). length xs) are.flows_are ∙ map_length (λ (c : Cut). c.flow) cuts
 
 ---- All cuts

@@ -29,7 +29,7 @@ use Rattle.placed_code.specs.Words.{Where, InReg, InSlot, slot_of, where_is, mov
 use Rattle.placed_code.specs.Layout.{cell_width, block_width, proc_width, front_width, Placing, placings, zero_first, own_words, cell_words, end_words, block_words, front_words, proc_words, start_words, all_words, entry, routines_at, procedures_at, place}
 use Rattle.placed_code.specs.Claims.{AllInRange}
 use Rattle.link_blocks.specs.Fits.{number_fits, trap_fits}
-use Rattle.link_code.specs.Parts.{cell_code, end_code, parts_code, block_code, front_code, proc_code}
+use Rattle.link_plan.specs.Parts.{cell_code, end_code, parts_code, block_code, front_code, proc_code}
 
 in_append : (xs ys : List Instr) → AllInRange xs → AllInRange ys → AllInRange (xs ++ ys)
 in_append [] ys f g = g

@@ -3,3 +3,9 @@ pub mod InTable
 pub mod Low
 pub mod Whole
 pub mod Cuts
+pub mod Rows
+pub mod Sizes
+pub mod Same
+pub mod Measures
+pub mod Appended
+pub mod Images

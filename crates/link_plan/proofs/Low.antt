@@ -12,9 +12,8 @@ use Rattle.global_live.proofs.Tables.{at_block}
 use Rattle.lir_core.specs.declared.flow.Lir.{Lir}
 use Rattle.lir_core.specs.declared.flow.Node.{Node}
 use Rattle.lir_core.specs.declared.places.Line.{Line}
-use Rattle.lir_core.specs.Flows.{operation_of, code_node, code_nodes}
+use Rattle.lir_core.specs.Flows.{operation_of, code_node, code_nodes, node_at, no_node}
 use Rattle.lir_core.specs.Lines.{names}
-use Rattle.trace_build.specs.Traces.{node_at, no_node}
 use Rattle.boundary_resolve.specs.Placing.{lines_at, registers_at}
 use Rattle.boundary_resolve.proofs.Between.{blocks_at}
 use Rattle.placed_code.specs.Placed.{Copy, Cell, Block, Placed, no_block, block_of}
@@ -32,7 +31,7 @@ use Rattle.link_blocks.specs.Fits.{number_fits, lirs_fit, trap_fits, node_fits, 
 use Rattle.link_blocks.specs.Plans.{plain_end, plain_block, plain}
 use Rattle.link_blocks.proofs.Flat.{registers_drop, registers_last}
 use Rattle.link_blocks.proofs.Made.{blocks_of, one_block}
-use Rattle.link_code.specs.Parts.{LeadsBelow, IsWhole}
+use Rattle.link_plan.specs.Parts.{LeadsBelow, IsWhole}
 use Rattle.link_plan.specs.Linked.{IsAllocated}
 use Rattle.link_plan.proofs.Plain.{nth_plain}
 use Rattle.link_plan.proofs.InTable.{FrameLow, CellLow, CellsLow, BlockLow, ProcLow}

@@ -14,7 +14,7 @@ use Rattle.placed_code.specs.Words.{where_is, move_between, copy_word, copies_wo
 use Rattle.placed_code.specs.Layout.{op_width, cell_width, jump_width, last_width, end_width, Placing, followed, placings, position, block_width, first_of, zero_first, front_width, proc_width, body_count, routines_at, procedures_at, entry, block_place, place, own_words, proc_words, start_words, all_words}
 use Rattle.placed_code.proofs.Parts.{length_map}
 use Rattle.link_blocks.specs.Plans.{plain_cell, plain_end, plain_block, plain}
-use Rattle.link_code.specs.Parts.{cell_code, end_code, parts_code, block_code, front_code, proc_code}
+use Rattle.link_plan.specs.Parts.{cell_code, end_code, parts_code, block_code, front_code, proc_code}
 
 module _ (pr : Placed) where
   where_plain : (p : Spot) → where_is (plain pr) p ≡ where_is pr p

@@ -9,7 +9,7 @@ use Rattle.image_form.specs.declared.image.Image.{Image}
 use Rattle.image_form.specs.Form.{IsInForm}
 use Rattle.lir_core.specs.declared.flow.Flow.{Flow}
 use Rattle.lir_core.specs.declared.places.TraceOut.{TraceOut}
-use Rattle.boundary_resolve.specs.declared.placed.Placed.{Placed as Line}
+use Rattle.boundary_resolve.specs.declared.code_line.CodeLine.{CodeLine}
 use Rattle.placed_code.specs.Placed.{Placed, proc_of}
 use Rattle.placed_code.specs.Layout.{all_words, code_of}
 use Rattle.placed_code.specs.Results.{all_placed}
@@ -17,7 +17,7 @@ use Rattle.linked_flows.specs.Allocations.{Cut, steps_of, all_allocated, AreRead
 use Rattle.linked_flows.proofs.Run.{runs}
 use Rattle.link_blocks.specs.Fits.{numbers_fit}
 use Rattle.link_blocks.specs.Plans.{plain}
-use Rattle.link_code.specs.Parts.{IsWhole}
+use Rattle.link_plan.specs.Parts.{IsWhole}
 use Rattle.link_plan.specs.Linked.{DataFits, AreCuts, ArePlans, greatest_frame, linked, plans_of, Runs}
 use Rattle.link_plan.proofs.Plain.{words_are_plain}
 use Rattle.link_plan.proofs.InTable.{all_in_table}
@@ -57,7 +57,7 @@ module _ (k : ℕ) (plans : List Placed) (cuts : List Cut) (are : ArePlans k pla
       ap₂ (λ (ws : List ℕ) (n : ℕ). let image : Image = record { version = 1; flags = flags; code = ws; globals = globals; constants = constants; frame = n } in image) (d ∙ code_is code c) (frame_is frame f)
 
 -- the plans that are added to none are those of the cuts
-pub are_plans : (k : ℕ) (flows : List Flow) (parts : List (List Line)) (outs : List (List TraceOut)) (plans before : List Placed) (cuts : List Cut) → AreCuts k flows parts outs cuts → before ≡ [] → plans ≡ before ++ plans_of cuts → list_all (λ f. numbers_fit f) flows ≡ true → ArePlans k plans cuts
+pub are_plans : (k : ℕ) (flows : List Flow) (parts : List (List CodeLine)) (outs : List (List TraceOut)) (plans before : List Placed) (cuts : List Cut) → AreCuts k flows parts outs cuts → before ≡ [] → plans ≡ before ++ plans_of cuts → list_all (λ f. numbers_fit f) flows ≡ true → ArePlans k plans cuts
 are_plans k flows parts outs plans before cuts are none added numbers = record {
   plans_are = added ∙ ap (λ (qs : List Placed). qs ++ plans_of cuts) none;
   numbers = sym (ap (λ (fs : List Flow). list_all (λ f. numbers_fit f) fs) are.flows_are) ∙ numbers;

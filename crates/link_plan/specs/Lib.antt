@@ -1,1 +1,4 @@
 pub mod Linked
+pub mod Parts
+pub mod Measured
+pub mod Written

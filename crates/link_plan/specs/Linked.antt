@@ -13,7 +13,7 @@ use Rattle.lir_core.specs.declared.flow.Flow.{Flow}
 use Rattle.lir_core.specs.declared.places.TraceOut.{TraceOut}
 use Rattle.lir_core.specs.Flows.{code_nodes}
 use Rattle.trace_build.specs.Cuts.{lists_of, AllTraces}
-use Rattle.boundary_resolve.specs.declared.placed.Placed.{Placed as Line}
+use Rattle.boundary_resolve.specs.declared.code_line.CodeLine.{CodeLine}
 use Rattle.boundary_resolve.specs.Placing.{placed_of}
 use Rattle.boundary_resolve.specs.Edges.{AreSound}
 use Rattle.placed_code.specs.Placed.{Placed}
@@ -48,7 +48,7 @@ abbrev pub AllAllocated : ℕ → List Cut → Type 0
 AllAllocated k cuts = (q : ℕ) (c : Cut) (rest : List Cut) → drop q cuts ≡ c ∷ rest → IsAllocated k c
 
 -- flows, their lines in code order and their results are those of cuts
-pub record AreCuts (k : ℕ) (flows : List Flow) (parts : List (List Line)) (outs : List (List TraceOut)) (cuts : List Cut) : Type 0 where
+pub record AreCuts (k : ℕ) (flows : List Flow) (parts : List (List CodeLine)) (outs : List (List TraceOut)) (cuts : List Cut) : Type 0 where
   pub flows_are : flows ≡ map (λ c. c.flow) cuts
   pub parts_are : parts ≡ map (λ c. placed_of c.flow c.traces c.outs) cuts
   pub outs_are : outs ≡ map (λ c. c.outs) cuts

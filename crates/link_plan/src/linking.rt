@@ -10,16 +10,16 @@ ghost use Rattle.placed_code.specs.Layout.{all_words, code_of};
 ghost use Rattle.linked_flows.specs.Allocations.{Cut, steps_of, allocated, all_allocated};
 ghost use Rattle.link_blocks.specs.Fits.{numbers_fit};
 ghost use Rattle.link_blocks.specs.Laid.{IsCutOf, Fits};
-ghost use Rattle.link_code.specs.Parts.{IsWhole};
+ghost use Rattle.link_plan.specs.Parts.{IsWhole};
 ghost use Rattle.link_blocks.specs.Plans.{placed_in, plain};
 ghost use Rattle.link_plan.specs.Linked.{DataFits, AreCuts, ArePlans, AreSmall, greatest_frame, plans_of, Runs, linked};
 ghost use Rattle.link_plan.specs.declared.fault.LinkFault.TheVariants.{Limit, Misfit};
 
 use crate::fault::LinkFault;
-use boundary_resolve::Placed;
+use crate::whole::code_of;
+use boundary_resolve::CodeLine;
 use image_form::{Bytes, Image, Words};
 use link_blocks::{Plan, PlanFault};
-use link_code::code_of;
 use link_layout::LayoutFault;
 use lir_core::{Flow, TraceOut};
 use std::alloc::Global;
@@ -41,7 +41,7 @@ pub struct Data {
 pub fn link(
     alloc: Global,
     flows: &[Flow],
-    parts: Vec<Vec<Placed>>,
+    parts: Vec<Vec<CodeLine>>,
     outs: Vec<Vec<TraceOut>>,
     extra: Data,
 ) -> Result<Image, LinkFault>
@@ -68,7 +68,7 @@ pub fn add_plans(
     alloc: Global,
     plans: &mut Vec<Plan>,
     flows: &[Flow],
-    parts: Vec<Vec<Placed>>,
+    parts: Vec<Vec<CodeLine>>,
     outs: Vec<Vec<TraceOut>>,
 ) -> Result<(), LinkFault>
     ensures plans { OnOk result ((k : ℕ) (cuts : List Cut) → AreCuts k flows.now (map (λ v. v.items) parts.items) (map (λ v. v.items) outs.items) cuts
@@ -118,7 +118,7 @@ pub fn image_of_plans(alloc: Global, plans: &[Plan], extra: Data) -> Result<Imag
 fn plan_of(
     alloc: Global,
     flow: &Flow,
-    lines: &[Placed],
+    lines: &[CodeLine],
     outs: &[TraceOut],
 ) -> Result<Plan, LinkFault>
     ensures plan { (k : ℕ) (c : Cut) → IsCutOf k flow.now lines.now outs.now c → IfOk result (λ plan. placed_in plan ≡ plain (placed steps_of (allocated c))) }

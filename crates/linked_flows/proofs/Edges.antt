@@ -10,11 +10,10 @@ use Rattle.lir_core.specs.declared.flow.Node.{Node}
 use Rattle.lir_core.specs.declared.flow.Flow.{Flow}
 use Rattle.lir_core.specs.declared.flow.Trace.{Trace}
 use Rattle.lir_core.specs.declared.places.TraceOut.{TraceOut}
-use Rattle.lir_core.specs.Flows.{code_nodes, leads, preds_of}
+use Rattle.lir_core.specs.Flows.{code_nodes, leads, preds_of, no_node, node_at}
 use Rattle.lir_core.specs.Spots.{TakesOver}
 use Rattle.global_live.proofs.Lists.{has_one}
 use Rattle.global_live.proofs.Tables.{has-preds_of}
-use Rattle.trace_build.specs.Traces.{no_node, node_at}
 use Rattle.parallel_move.specs.declared.step.Step.{Step}
 use Rattle.parallel_move.specs.Steps.{steps_source}
 use Rattle.boundary_resolve.specs.Placing.{start_at, end_at, is_test, steps_between, steps_from, test_steps, jump_steps}

@@ -14,11 +14,10 @@ use Rattle.lir_core.specs.declared.flow.Trace.{Trace}
 use Rattle.lir_core.specs.declared.places.Place.{Place}
 use Rattle.lir_core.specs.declared.places.Places.{Places}
 use Rattle.lir_core.specs.declared.places.TraceOut.{TraceOut}
-use Rattle.lir_core.specs.Flows.{code_nodes}
+use Rattle.lir_core.specs.Flows.{code_nodes, node_at}
 use Rattle.lir_core.specs.Spots.{Spot, reg, home, out, target, saved, get, view_of, placed, in_register, argument_of, Holds}
 use Rattle.global_live.proofs.Lists.{has_one}
 use Rattle.global_live.proofs.Tables.{at_block}
-use Rattle.trace_build.specs.Traces.{node_at}
 use Rattle.parallel_move.specs.declared.step.Step.{Step}
 use Rattle.parallel_move.specs.Order.{order_of}
 use Rattle.boundary_resolve.specs.Moves.{place_of, reg_moves, home_moves, stays_home, edge_moves}

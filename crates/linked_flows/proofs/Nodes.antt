@@ -7,11 +7,10 @@ use Rattle.block_runs.specs.Live.{has}
 use Rattle.lir_core.specs.declared.flow.Flow.{Flow}
 use Rattle.lir_core.specs.declared.flow.Trace.{Trace}
 use Rattle.lir_core.specs.declared.places.TraceOut.{TraceOut}
-use Rattle.lir_core.specs.Flows.{code_nodes}
+use Rattle.lir_core.specs.Flows.{code_nodes, node_at}
 use Rattle.lir_core.specs.Lines.{Room}
 use Rattle.lir_core.specs.Sound.{IsSoundNode, room_of, no_places}
 use Rattle.global_live.proofs.Lists.{has-append}
-use Rattle.trace_build.specs.Traces.{node_at}
 use Rattle.trace_build.specs.Cuts.{lists_of, all_nodes}
 use Rattle.boundary_resolve.specs.Moves.{entry_places, entry_argument, edge_moves}
 use Rattle.boundary_resolve.specs.Placing.{seats_from, seat_of, out_at, places_at, lines_in, registers_in, registers_at, start_at, end_at, lines_at, is_test, steps_between, steps_from, steps_of_end, test_steps, jump_steps, entry_steps}

@@ -9,9 +9,8 @@ use Rattle.std.proofs.lemmas.Bool.Decides.{nat_tests}
 use Rattle.block_runs.specs.Valid.{all_below}
 use Rattle.global_live.proofs.Lists.{all_below_in}
 use Rattle.global_live.proofs.Tables.{at_block}
-use Rattle.lir_core.specs.Flows.{code_nodes}
+use Rattle.lir_core.specs.Flows.{code_nodes, node_at}
 use Rattle.lir_core.specs.Sound.{IsSoundNode, room_of}
-use Rattle.trace_build.specs.Traces.{node_at}
 use Rattle.trace_build.specs.Cuts.{lists_of, all_nodes}
 use Rattle.boundary_resolve.proofs.Between.{blocks_at, sound_in}
 use Rattle.placed_code.specs.Claims.{Ordered}

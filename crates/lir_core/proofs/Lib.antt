@@ -1,3 +1,4 @@
 pub mod Lowest
+pub mod Passing
 pub mod Views
 pub mod Walking

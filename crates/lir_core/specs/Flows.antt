@@ -1,14 +1,22 @@
 -- Flows as code in blocks, and when a flow is valid.
-use Rattle.std.specs.Prelude.{◌≡◌, ℕ, ◌<◌, ◌≤◌, nat_lt, nat_le, List, [], ◌∷◌, map, length, filter, Bool, true, false, slice_get, Some}
+use Rattle.std.specs.Prelude.{◌≡◌, ℕ, ◌<◌, ◌≤◌, nat_lt, nat_le, List, [], ◌∷◌, map, length, filter, Bool, true, false, slice_get, slice_index_or, None, Some}
 use mathlib.Core.Bool.{beq}
 use Rattle.std.specs.List.{list_all}
 use Rattle.run_laws.specs.Layers.{places_from}
+use Rattle.block_runs.specs.declared.end.End.TheVariants.{Return}
 use Rattle.block_runs.specs.Blocks.{Operation, CodeBlock, Procedure, block_at, successors}
 use Rattle.block_runs.specs.Live.{has}
 use Rattle.block_runs.specs.Valid.{is_call, enter_below, IsValidCode}
 use Rattle.lir_core.specs.declared.flow.Lir.{Lir}
 use Rattle.lir_core.specs.declared.flow.Node.{Node}
 use Rattle.lir_core.specs.declared.flow.Flow.{Flow}
+
+-- the node of a number; one that only returns where there is none
+abbrev pub no_node : Node
+no_node = record { params = []; lirs = []; end = Return None; freq = 0; preds = []; enter = None }
+
+abbrev pub node_at : List Node → ℕ → Node
+node_at nodes n = slice_index_or nodes n no_node
 
 abbrev pub operation_of : Lir → Operation
 operation_of x = record { code = x.template; uses = x.uses; def = x.def }

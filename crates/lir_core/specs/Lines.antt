@@ -7,6 +7,8 @@ use Rattle.block_runs.specs.declared.end.End.TheVariants.{Jump, Branch, Nonzero,
 use Rattle.block_runs.specs.Blocks.{Operation, CodeBlock}
 use Rattle.block_runs.specs.Valid.{is_call}
 use Rattle.lir_core.specs.declared.places.Move.{Move}
+use Rattle.lir_core.specs.declared.places.Place.{Place}
+use Rattle.lir_core.specs.declared.places.Place.TheVariants.{Reg, Out}
 use Rattle.lir_core.specs.declared.places.Line.{Line}
 use Rattle.lir_core.specs.declared.places.Line.TheVariants.{Store, Load, Moves, Result, Target}
 use Rattle.lir_core.specs.declared.places.Line.TheVariants.{Lir as Does}
@@ -23,7 +25,15 @@ is_aimed _ = false
 abbrev pub arguments : Operation → List ℕ
 arguments op = cond (is_aimed op.code) (drop 1 op.uses) op.uses
 
--- where the i-th argument of a call stands: X0 to X3, then slots
+-- where a call takes its i-th argument: X0 to X3, then slots
+abbrev pub argument_place : ℕ → Place
+argument_place zero = Reg 0
+argument_place (suc zero) = Reg 1
+argument_place (suc (suc zero)) = Reg 2
+argument_place (suc (suc (suc zero))) = Reg 3
+argument_place (suc (suc (suc (suc i)))) = Out i
+
+-- and the spot
 abbrev pub argument_spot : ℕ → Spot
 argument_spot zero = reg 0
 argument_spot (suc zero) = reg 1

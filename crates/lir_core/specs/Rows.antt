@@ -1,5 +1,6 @@
 -- Sets of values as rows of bits.
-use Rattle.std.specs.Prelude.{◌≡◌, ℕ, ◌/◌, ◌%◌, ◌^◌, ◌==◌, ◌<◌, ◌≤◌, List, [], Bool, true, false, Option, Some, None, slice_index, slice_index_or}
+use Rattle.std.specs.Prelude.{◌≡◌, ℕ, ◌+◌, ◌-◌, ◌/◌, ◌%◌, ◌^◌, ◌==◌, ◌<◌, ◌≤◌, List, [], ◌∷◌, filter, Bool, true, false, Option, Some, None, slice_index, slice_index_or}
+use Rattle.run_laws.specs.Layers.{places_from}
 
 -- value v is in a row of words of 64 bits: bit v % 64 of word v / 64, where there is such a word
 abbrev pub is_in : List ℕ → ℕ → Bool
@@ -25,3 +26,18 @@ pub record IsLowest (p : ℕ → Bool) (from v : ℕ) : Type 0 where
 abbrev pub IsNext : (ℕ → Bool) → ℕ → Option ℕ → Type 0
 IsNext p from None = NonePasses p from (2 ^ 32)
 IsNext p from (Some v) = IsLowest p from v
+
+---- What is live into a node
+
+-- of so many values those that are live into a node, by rows of bits
+abbrev pub live_into : ℕ → List (List ℕ) → ℕ → List ℕ
+live_into values rows n = filter (has_bit rows n) (places_from 0 values)
+
+-- those of them from a number on
+abbrev pub live_from : ℕ → List (List ℕ) → ℕ → ℕ → List ℕ
+live_from values rows n from = filter (has_bit rows n) (places_from from (values - from))
+
+-- the first of those from a number on, if there is one
+abbrev pub IsNextLive : ℕ → List (List ℕ) → ℕ → ℕ → Option ℕ → Type 0
+IsNextLive values rows n from None = live_from values rows n from ≡ []
+IsNextLive values rows n from (Some v) = (v < values) × (from ≤ v) × (live_from values rows n from ≡ v ∷ live_from values rows n (v + 1))

@@ -12,7 +12,7 @@ use Rattle.lir_core.specs.declared.places.Line.TheVariants.{Store, Load, Moves, 
 use Rattle.lir_core.specs.declared.places.Line.TheVariants.{Lir as Does}
 use Rattle.lir_core.specs.declared.places.TraceOut.{TraceOut}
 use Rattle.lir_core.specs.Flows.{code_nodes}
-use Rattle.lir_core.specs.Spots.{Spot, reg, put, view_of, Holds, placed, IsRow}
+use Rattle.lir_core.specs.Spots.{Spot, reg, put, view_of, Holds, placed, IsRising, IsRow}
 use Rattle.lir_core.specs.Lines.{use_spots, names, def_spot, line_source, end_reads, Room, LinesInRange, AllBelow, slots_of}
 use Rattle.lir_core.specs.Walks.{kept}
 
@@ -83,9 +83,10 @@ pub record IsEnd (bls : List CodeBlock) (n : ℕ) (end : Places) : Type 0 where
   pub read : (v : ℕ) → has (end_uses (block_at bls n).end) v ≡ true → placed end v ≡ true
   pub live : (v : ℕ) → LiveBehind bls (block_at bls n) v → placed end v ≡ true
 
--- a node's part of a result
+-- a node's part of a result; no edge asks that the homed values of its end rise
 pub record IsSoundNode (room : Room) (bls : List CodeBlock) (n : ℕ) (start : Places) (lines : List Line) (named : List ℕ) (end : Places) : Type 0 where
   pub row : IsRow room.regs start × IsRow room.regs end
+  pub rises : IsRising start.homed
   pub starts : IsStart bls n start
   pub ends : IsEnd bls n end
   pub lines_sound : AreSoundLines room (block_at bls n).ops (end_reads (block_at bls n).end) start lines named end
@@ -102,3 +103,7 @@ pub record IsSound (k : ℕ) (f : Flow) (t : Trace) (o : TraceOut) : Type 0 wher
   pub counts : (length o.starts ≡ length t.nodes) × (length o.ends ≡ length t.nodes) × (length o.lines ≡ length t.nodes) × (length o.regs ≡ length t.nodes)
   pub nodes : (i : ℕ) → i < length t.nodes
       → IsSoundNode (room_of k f) (code_nodes f.nodes) (get_or t.nodes i 0) (get_or o.starts i no_places) (get_or o.lines i []) (get_or o.regs i []) (get_or o.ends i no_places)
+
+-- the homed values of each end rise, as of a hint they must
+abbrev pub EndsRise : TraceOut → Type 0
+EndsRise o = (i : ℕ) → IsRising (get_or o.ends i no_places).homed

@@ -78,7 +78,6 @@ IsRising (x ∷ (y ∷ ys)) = (x < y) × IsRising (y ∷ ys)
 pub record IsRow (k : ℕ) (q : Places) : Type 0 where
   pub registers : length q.regs ≡ k
   pub single : IsSingle q.regs
-  pub rising : IsRising q.homed
 
 -- places hold: each spot to which they give a value contains that value's number
 abbrev pub Holds : (ℕ → ℕ) → (Spot → Option ℕ) → (Spot → ℕ) → Type 0

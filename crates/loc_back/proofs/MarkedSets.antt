@@ -1,9 +1,6 @@
 -- Homes that are marked.
-use Rattle.std.proofs.Common.{◌≡◌, ℕ, suc, ◌+◌, ◌-◌, ◌<◌, Bool, true, false, cond, List, [], ◌∷◌, ◌++◌, filter, refl, sym, ap, ap₂, ◌∙◌, arith, ◌≤◌, zero, ◌⊎◌, inl, inr}
-use Rattle.std.proofs.lemmas.Bool.{cases_lt}
-use Rattle.lir_core.specs.Rows.{IsLowest}
+use Rattle.std.proofs.Common.{◌≡◌, ℕ, Bool, true, false, cond, List, [], ◌∷◌, ◌++◌, refl, sym, ap, ◌∙◌}
 use Rattle.std.specs.Prelude.{◌==◌}
-use Rattle.run_laws.specs.Layers.{places_from}
 use Rattle.block_runs.specs.Live.{has}
 use Rattle.lir_core.specs.declared.flow.Flow.{Flow}
 use Rattle.lir_core.specs.Spots.{IsRising}
@@ -17,44 +14,6 @@ marked_append homed (x ∷ xs) ys marks = marked_append homed xs ys (marked_one 
 
 pub marked_both : (homed xs ys marks : List ℕ) → marked homed ys (marked homed xs marks) ≡ marked homed (xs ++ (ys ++ [])) marks
 marked_both homed xs ys marks = sym (marked_append homed xs (ys ++ []) marks ∙ marked_append homed ys [] (marked homed xs marks))
-
----- What is live, in order
-
-none_on : (p : ℕ → Bool) (k from : ℕ) → ((v : ℕ) → from ≤ v → v < from + k → p v ≡ false) → filter p (places_from from k) ≡ []
-none_on p zero from h = refl
-none_on p (suc k) from h =
-    ap (λ b. cond b (from ∷ filter p (places_from (suc from) k)) (filter p (places_from (suc from) k))) (h from (omega arith) (omega arith))
-    ∙ none_on p k (suc from) (λ v l m. h v (omega (arith, l)) (omega (arith, m)))
-
-one_on : (p : ℕ → Bool) (k from v : ℕ) → from ≤ v → v < from + k → p v ≡ true → ((u : ℕ) → from ≤ u → u < v → p u ≡ false) → filter p (places_from from k) ≡ v ∷ filter p (places_from (v + 1) (from + k - (v + 1)))
-one_on p zero from v l m e h = absurd (omega (arith, l, m))
-one_on p (suc k) from v l m e h = by (cases_lt from v) (λ lt. one_on p k (suc from) v lt (omega (arith, m)) e (λ u a c. h u (omega (arith, a)) c))
-  where
-    here : v ≡ from → filter p (places_from from (suc k)) ≡ v ∷ filter p (places_from (v + 1) (from + suc k - (v + 1)))
-    here q =
-        let rest : k ≡ from + suc k - (v + 1) = omega (arith, q) in
-        let next : suc from ≡ v + 1 = omega (arith, q) in
-        ap (λ b. cond b (from ∷ filter p (places_from (suc from) k)) (filter p (places_from (suc from) k))) (ap p (sym q) ∙ e)
-        ∙ ap₂ (λ a c. a ∷ filter p (places_from c k)) (sym q) next ∙ ap (λ c. v ∷ filter p (places_from (v + 1) c)) rest
-
-    further : from < v → filter p (places_from (suc from) k) ≡ v ∷ filter p (places_from (v + 1) (suc from + k - (v + 1))) → filter p (places_from from (suc k)) ≡ v ∷ filter p (places_from (v + 1) (from + suc k - (v + 1)))
-    further lt on =
-        let same : suc from + k - (v + 1) ≡ from + suc k - (v + 1) = omega arith in
-        ap (λ b. cond b (from ∷ filter p (places_from (suc from) k)) (filter p (places_from (suc from) k))) (h from (omega arith) lt) ∙ on ∙ ap (λ c. v ∷ filter p (places_from (v + 1) c)) same
-
-    by : ◌⊎◌ (from < v) (v ≤ from) → (from < v → filter p (places_from (suc from) k) ≡ v ∷ filter p (places_from (v + 1) (suc from + k - (v + 1)))) → filter p (places_from from (suc k)) ≡ v ∷ filter p (places_from (v + 1) (from + suc k - (v + 1)))
-    by (inl lt) on = further lt (on lt)
-    by (inr le) on = here (omega (arith, l, le))
-
--- the first of n numbers from one on that passes a test, and where none does
-pub none_from : (p : ℕ → Bool) (n from : ℕ) → ((v : ℕ) → from ≤ v → v < n → p v ≡ false) → filter p (places_from from (n - from)) ≡ []
-none_from p n from h = none_on p (n - from) from (λ v l m. h v l (omega (arith, l, m)))
-
-pub one_from : (p : ℕ → Bool) (n from v : ℕ) → IsLowest p from v → v < n → filter p (places_from from (n - from)) ≡ v ∷ filter p (places_from (v + 1) (n - (v + 1)))
-one_from p n from v low lt =
-    let l = low.at_least in
-    let e : from + (n - from) - (v + 1) ≡ n - (v + 1) = omega (arith, l, lt) in
-    one_on p (n - from) from v l (omega (arith, l, lt)) low.passes low.none_before ∙ ap (λ c. v ∷ filter p (places_from (v + 1) c)) e
 
 -- what is marked is homed, and one of the values
 pub has_marked : (homed vs marks : List ℕ) (w : ℕ) → has (marked homed vs marks) w ≡ cond (cond (has vs w) (has homed w) false) true (has marks w)

@@ -1,34 +1,22 @@
 -- Which homes are marked: at a place the values that live there and are homed at the end of the walk.
-use Rattle.std.specs.Prelude.{◌≡◌, ℕ, ◌+◌, ◌-◌, ◌<◌, ◌≤◌, cond, List, [], ◌∷◌, ◌++◌, filter, Option, Some, None, slice_get}
-use Rattle.run_laws.specs.Layers.{places_from}
+use Rattle.std.specs.Prelude.{ℕ, cond, List, [], ◌∷◌, ◌++◌, Option, Some, None, slice_get}
 use Rattle.block_runs.specs.Blocks.{end_uses, successors}
 use Rattle.block_runs.specs.Live.{has}
 use Rattle.lir_core.specs.declared.flow.Node.{Node}
 use Rattle.lir_core.specs.declared.flow.Flow.{Flow}
 use Rattle.lir_core.specs.declared.places.Places.{Places}
-use Rattle.lir_core.specs.Rows.{has_bit}
+use Rattle.lir_core.specs.Rows.{live_into}
 use Rattle.loc_state.specs.Homed.{inserted}
 
--- of so many values those that are live into a node, by rows of bits
-abbrev pub live_at : ℕ → List (List ℕ) → ℕ → List ℕ
-live_at values rows n = filter (has_bit rows n) (places_from 0 values)
-
--- those from a number on, and the first of them, if there is one
-abbrev pub live_on : ℕ → List (List ℕ) → ℕ → ℕ → List ℕ
-live_on values rows n from = filter (has_bit rows n) (places_from from (values - from))
-
-abbrev pub IsFirstOn : ℕ → List (List ℕ) → ℕ → ℕ → Option ℕ → Type 0
-IsFirstOn values rows n from None = live_on values rows n from ≡ []
-IsFirstOn values rows n from (Some v) = (v < values) × (from ≤ v) × (live_on values rows n from ≡ v ∷ live_on values rows n (v + 1))
-
+-- what is live into each of some nodes
 abbrev pub live_at_each : ℕ → List (List ℕ) → List ℕ → List ℕ
 live_at_each values rows [] = []
-live_at_each values rows (s ∷ ss) = live_at values rows s ++ live_at_each values rows ss
+live_at_each values rows (s ∷ ss) = live_into values rows s ++ live_at_each values rows ss
 
 -- the values that live at a node's start, its parameters with them, and at its end: what is live into a node that follows, and what the end reads or passes on
 abbrev pub at_start : ℕ → List (List ℕ) → ℕ → Option Node → List ℕ
-at_start values rows n None = live_at values rows n
-at_start values rows n (Some node) = live_at values rows n ++ node.params
+at_start values rows n None = live_into values rows n
+at_start values rows n (Some node) = live_into values rows n ++ node.params
 
 abbrev pub at_end : ℕ → List (List ℕ) → Option Node → List ℕ
 at_end values rows None = []

@@ -3,10 +3,11 @@
 ghost use Rattle.std.specs.Prelude.{◌≡◌, [], ◌∷◌, IfOk, OnOk, slice_get};
 ghost use Rattle.std.specs.Option.{option_map};
 ghost use Rattle.block_runs.specs.Blocks.{end_uses, successors};
-ghost use Rattle.loc_back.specs.Marks.{IsFirstOn, live_at, live_at_each, at_start, at_end, marked_one, marked, starts_marked, ends_marked};
+ghost use Rattle.lir_core.specs.Rows.{live_into};
+ghost use Rattle.loc_back.specs.Marks.{live_at_each, at_start, at_end, marked_one, marked, starts_marked, ends_marked};
 
 use crate::front_items::FrontItems;
-use lir_core::{Flow, Leave, LiveSets, Node, Places};
+use lir_core::{Flow, Leave, LiveSets, Node, Places, next_live};
 use loc_state::Homes;
 use std::alloc::{AllocError, Global};
 
@@ -40,7 +41,7 @@ impl Marking<'_> {
 
     // What is live into a node.
     fn mark_live(&self, alloc: Global, marks: &mut Homes, node: u32) -> Result<(), AllocError>
-        ensures { OnOk result (marks.new ≡ marked self.now.homed.now (live_at self.now.flow.now.values self.now.live.now node) marks.old) }
+        ensures { OnOk result (marks.new ≡ marked self.now.homed.now (live_into self.now.flow.now.values self.now.live.now node) marks.old) }
     {
         let values = live_values(alloc, self.live, node, self.flow.values)?;
         self.mark_all(marks, values.as_slice())?;
@@ -162,25 +163,15 @@ pub fn live_values(
     node: u32,
     values: u32,
 ) -> Result<Vec<u32>, AllocError>
-    ensures { IfOk result (λ list. list.items ≡ live_at values live.now node) }
+    ensures { IfOk result (λ list. list.items ≡ live_into values live.now node) }
 {
     let mut list = Vec::new(alloc);
     let mut from = 0;
-    while let Some(value) = first_on(live, node, from, values) {
+    while let Some(value) = next_live(live, node, from, values) {
         list.push(value)?;
         from = value + 1;
     }
     Ok(list)
-}
-
-// The first of so many values from a number on that is live into a node.
-fn first_on(live: &LiveSets, node: u32, from: u32, values: u32) -> Option<u32>
-    ensures { IsFirstOn values live.now node from result }
-{
-    match live.next_live(node, from) {
-        Some(value) if value < values => Some(value),
-        _ => None,
-    }
 }
 
 fn with_homes(alloc: Global, q: Places, marks: &Homes) -> Result<Places, AllocError>

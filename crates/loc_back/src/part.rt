@@ -12,8 +12,8 @@ use crate::seating::{
 use crate::writing::{
     leave, load_again, move_result, name, name_all, open, reload_all, store_result,
 };
-use lir_core::{Items, Leave, Line, Lir};
-use loc_state::{Homes, Registers, argument_moves, is_aimed, place_of, register_of};
+use lir_core::{Items, Leave, Line, Lir, is_aimed};
+use loc_state::{Homes, Registers, argument_moves, place_of, register_of};
 use outside::Memory;
 use std::alloc::{AllocError, Global};
 

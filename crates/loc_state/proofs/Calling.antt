@@ -11,11 +11,11 @@ use Rattle.lir_core.specs.declared.places.Line.{Line}
 use Rattle.lir_core.specs.declared.places.Line.TheVariants.{Moves, Target}
 use Rattle.lir_core.specs.declared.places.Line.TheVariants.{Lir as Does}
 use Rattle.lir_core.specs.Spots.{Spot, reg, home, out, target, saved, same, spot, source, get, view_of, placed, in_register}
-use Rattle.lir_core.specs.Lines.{is_aimed, arguments, argument_spot, argument_spots, IsFree, AreDistinct, Room, InRange, AllBelow}
+use Rattle.lir_core.specs.Lines.{is_aimed, arguments, argument_spot, argument_spots, IsFree, AreDistinct, Room, InRange, AllBelow, argument_place}
 use Rattle.lir_core.specs.Walks.{Walker, Can, AllTaken, Taken, left, without, defined, perform, after, Below}
 use Rattle.loc_state.specs.declared.part.Part.{Part}
 use Rattle.loc_state.specs.Registers.{register_of}
-use Rattle.loc_state.specs.Lines.{place_of, argument_place, argument_moves, aims, moves, call_lines}
+use Rattle.loc_state.specs.Lines.{place_of, argument_moves, aims, moves, call_lines}
 use Rattle.loc_state.specs.Steps.{places, with_result, keeps_one, keeps_all, called_from, called}
 use Rattle.loc_state.specs.Steps as steps
 use Rattle.loc_state.specs.Walked.{Reaches, AreValues, Stands, Walked, IsAbsent, CanCall}

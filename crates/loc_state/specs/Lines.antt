@@ -1,26 +1,18 @@
 -- The lines before a call.
-use Rattle.std.specs.Prelude.{ℕ, zero, suc, cond, List, [], ◌∷◌, ◌++◌, Option}
+use Rattle.std.specs.Prelude.{ℕ, suc, cond, List, [], ◌∷◌, ◌++◌, Option}
 use Rattle.block_runs.specs.Blocks.{Operation}
 use Rattle.lir_core.specs.declared.places.Place.{Place}
-use Rattle.lir_core.specs.declared.places.Place.TheVariants.{Reg, Home, Out}
+use Rattle.lir_core.specs.declared.places.Place.TheVariants.{Reg, Home}
 use Rattle.lir_core.specs.declared.places.Move.{Move}
 use Rattle.lir_core.specs.declared.places.Line.{Line}
 use Rattle.lir_core.specs.declared.places.Line.TheVariants.{Moves, Target}
 use Rattle.lir_core.specs.Spots.{in_register}
-use Rattle.lir_core.specs.Lines.{is_aimed, arguments}
+use Rattle.lir_core.specs.Lines.{is_aimed, arguments, argument_place}
 use Rattle.loc_state.specs.Registers.{register_of}
 
 -- where a value is taken from: its register, else its home
 abbrev pub place_of : List (Option ℕ) → ℕ → Place
 place_of regs v = cond (in_register regs v) (Reg (register_of v regs)) (Home v)
-
--- where a call takes its i-th argument
-abbrev pub argument_place : ℕ → Place
-argument_place zero = Reg 0
-argument_place (suc zero) = Reg 1
-argument_place (suc (suc zero)) = Reg 2
-argument_place (suc (suc (suc zero))) = Reg 3
-argument_place (suc (suc (suc (suc i)))) = Out i
 
 abbrev pub argument_moves : (ℕ → Place) → ℕ → List ℕ → List Move
 argument_moves from i [] = []

@@ -2,11 +2,10 @@
 
 ghost use Rattle.std.specs.Prelude.{◌≡◌, ◌<◌, ◌≤◌, ◌^◌, length, IfOk, true};
 ghost use Rattle.block_runs.specs.Live.{has};
-ghost use Rattle.lir_core.specs.Lines.{is_aimed};
-ghost use Rattle.loc_state.specs.Lines.{place_of, argument_place, argument_moves};
+ghost use Rattle.loc_state.specs.Lines.{place_of, argument_moves};
 
 use crate::registers::{has_register, register_of};
-use lir_core::{Items, Move, Place, Template};
+use lir_core::{Items, Move, Place, argument_place};
 use outside::Memory;
 use std::alloc::Global;
 
@@ -22,16 +21,6 @@ pub fn has(numbers: &[u32], number: u32) -> bool
     false
 }
 
-/// Whether an operation calls the procedure whose address is its first use.
-pub fn is_aimed(template: Template) -> bool
-    ensures { result ≡ is_aimed template }
-{
-    match template {
-        Template::CallAt => true,
-        _ => false,
-    }
-}
-
 /// Where a value is taken from.
 pub fn place_of(regs: &[Option<u32>], value: u32) -> Place
     requires { length regs.now ≤ 16 }
@@ -41,19 +30,6 @@ pub fn place_of(regs: &[Option<u32>], value: u32) -> Place
         Place::Reg(register_of(regs, value))
     } else {
         Place::Home(value)
-    }
-}
-
-// Where a call takes an argument.
-fn argument_place(index: u32) -> Place
-    ensures { result ≡ argument_place index }
-{
-    match index {
-        0 => Place::Reg(0),
-        1 => Place::Reg(1),
-        2 => Place::Reg(2),
-        3 => Place::Reg(3),
-        _ => Place::Out(index - 4),
     }
 }
 

@@ -12,7 +12,7 @@ mod homes;
 mod part;
 mod registers;
 
-pub use arguments::{argument_moves, has, is_aimed, place_of};
+pub use arguments::{argument_moves, has, place_of};
 pub use forward::Forward;
 pub use homes::Homes;
 pub use part::Part;

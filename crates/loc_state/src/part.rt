@@ -5,10 +5,10 @@ ghost use Rattle.lir_core.specs.Flows.{operation_of};
 ghost use Rattle.lir_core.specs.Spots.{get};
 ghost use Rattle.loc_state.specs.Homed.{inserted};
 
-use crate::arguments::{argument_moves, has, is_aimed, place_of};
+use crate::arguments::{argument_moves, has, place_of};
 use crate::homes::Homes;
 use crate::registers::{Registers, register_of};
-use lir_core::{Items, Line, Lir, Places, RegisterList};
+use lir_core::{Items, Line, Lir, Places, RegisterList, is_aimed};
 use outside::Memory;
 use std::alloc::{AllocError, Global};
 use std::mem::replace;

@@ -19,8 +19,8 @@ use Rattle.boundary_resolve.specs.Edges.{AreSound}
 use Rattle.linked_flows.specs.Allocations.{Cut}
 use Rattle.link_blocks.specs.Fits.{number_fits, trap_fits, lirs_fit, node_fits, row_fits, rows_fit, registers_fit}
 use Rattle.link_blocks.specs.Laid.{Fits}
-use Rattle.link_frames.proofs.Frames.{frame_small}
-use Rattle.link_frames.proofs.Lives.{and_left, and_right}
+use Rattle.modest_flows.proofs.Frames.{frame_small}
+use Rattle.modest_flows.proofs.Lives.{and_left, and_right}
 use Rattle.modest_flows.specs.Modest.{IsModest}
 
 both : (a b : Bool) → a ≡ true → b ≡ true → (a && b) ≡ true

@@ -1,1 +1,4 @@
 pub mod Fitting
+pub mod Lows
+pub mod Lives
+pub mod Frames

@@ -1,7 +1,6 @@
 -- Bottom-up allocation by rows with the same bits.
 use Rattle.std.proofs.Common.{◌≡◌, ℕ, ◌+◌, List, [], ◌∷◌, ◌++◌, Option, Some, None, refl, ap, ◌∙◌}
 use Rattle.std.specs.Prelude.{filter, slice_get}
-use Rattle.run_laws.specs.Layers.{places_from}
 use Rattle.block_runs.specs.Blocks.{end_uses, successors}
 use Rattle.block_runs.specs.Live.{has}
 use Rattle.block_runs.specs.declared.end.End.{End}
@@ -10,9 +9,9 @@ use Rattle.lir_core.specs.declared.flow.Flow.{Flow}
 use Rattle.lir_core.specs.declared.places.Places.{Places}
 use Rattle.lir_core.specs.Lines.{end_reads}
 use Rattle.lir_core.specs.Rows.{has_bit}
-use Rattle.live_interval.specs.Needs.{first_of, last_mention}
+use Rattle.trace_needs.specs.Needs.{first_of, last_mention}
 use Rattle.loc_back.specs.declared.backward.Backward.{Backward}
-use Rattle.loc_back.specs.Marks.{live_at, live_at_each, at_start, at_end, with_marks, starts_marked, ends_marked}
+use Rattle.loc_back.specs.Marks.{live_at_each, at_start, at_end, with_marks, starts_marked, ends_marked}
 use Rattle.loc_back.specs.Steps.{started, closed, in_part, before_node, left_node}
 use Rattle.linear_scan.specs.Linear.{Case, end_position, position_behind}
 use Rattle.bottom_up.specs.Policy.{take_all, operate_all}
@@ -22,16 +21,13 @@ use Rattle.alloc_choice.specs.Results.{case_with}
 use Rattle.one_image.proofs.Needs.{live_into_same, live_off_same, positions_same}
 
 module _ (rows others : List (List ℕ)) (e : has_bit rows ≡ has_bit others) where
-  live_at_same : (values n : ℕ) → live_at values rows n ≡ live_at values others n
-  live_at_same values n = λ k. filter (e k n) (places_from 0 values)
-
   each_same : (values : ℕ) (ss : List ℕ) → live_at_each values rows ss ≡ live_at_each values others ss
   each_same values [] = refl
-  each_same values (s ∷ ss) = λ k. live_at_same values s k ++ each_same values ss k
+  each_same values (s ∷ ss) = λ k. live_into_same rows others e values s k ++ each_same values ss k
 
   at_start_same : (values n : ℕ) (node : Option Node) → at_start values rows n node ≡ at_start values others n node
-  at_start_same values n None = live_at_same values n
-  at_start_same values n (Some node) = λ k. live_at_same values n k ++ node.params
+  at_start_same values n None = live_into_same rows others e values n
+  at_start_same values n (Some node) = λ k. live_into_same rows others e values n k ++ node.params
 
   at_end_same : (values : ℕ) (node : Option Node) → at_end values rows node ≡ at_end values others node
   at_end_same values None = refl

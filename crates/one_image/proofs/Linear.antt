@@ -6,14 +6,14 @@ use Rattle.lir_core.specs.declared.flow.Node.{Node}
 use Rattle.lir_core.specs.declared.flow.Flow.{Flow}
 use Rattle.lir_core.specs.declared.places.Places.{Places}
 use Rattle.lir_core.specs.Rows.{has_bit}
-use Rattle.live_interval.specs.Needs.{first_of, next_need}
+use Rattle.trace_needs.specs.Needs.{first_of, next_need}
 use Rattle.loc_state.specs.declared.part.Part.{Part}
 use Rattle.loc_state.specs.declared.forward.Forward.{Forward}
 use Rattle.loc_state.specs.Steps.{places, started, closed, in_part}
 use Rattle.linear_scan.specs.Policy.{from, drop_dead}
 use Rattle.linear_scan.specs.Starts.{arguments_of, if_live, start_behind, start_afresh}
 use Rattle.linear_scan.specs.Linear.{Case, Hint, params_of, end_of, end_position, position_behind, result_of, first_start, next_start, in_node, behind, along, result_by, need_in, linear}
-use Rattle.trivial_hint.specs.Trivial.{trivial, trivial_start}
+use Rattle.simple_policies.specs.trivial.Trivial.{trivial, trivial_start}
 use Rattle.alloc_choice.specs.Results.{case_with}
 use Rattle.one_image.proofs.Needs.{live_into_same, positions_same}
 

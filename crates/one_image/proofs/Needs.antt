@@ -5,8 +5,8 @@ use Rattle.run_laws.specs.Layers.{places_from}
 use Rattle.block_runs.specs.Blocks.{end_uses, successors}
 use Rattle.lir_core.specs.declared.flow.Node.{Node}
 use Rattle.lir_core.specs.declared.flow.Flow.{Flow}
-use Rattle.lir_core.specs.Rows.{has_bit}
-use Rattle.live_interval.specs.Needs.{live_into, live_off, is_next, at_start, at_operation, at_end, in_node, first_of, positions_of}
+use Rattle.lir_core.specs.Rows.{has_bit, live_into}
+use Rattle.trace_needs.specs.Needs.{live_off, is_next, at_start, at_operation, at_end, in_node, first_of, positions_of}
 
 module _ (rows others : List (List ℕ)) (e : has_bit rows ≡ has_bit others) where
   pub live_into_same : (values n : ℕ) → live_into values rows n ≡ live_into values others n

@@ -7,12 +7,12 @@ use Rattle.block_runs.specs.Live.{has}
 use Rattle.lir_core.specs.declared.flow.Flow.{Flow}
 use Rattle.lir_core.specs.declared.flow.Trace.{Trace}
 use Rattle.lir_core.specs.declared.places.TraceOut.{TraceOut}
-use Rattle.lir_core.specs.Flows.{code_nodes}
+use Rattle.lir_core.specs.Flows.{code_nodes, node_at}
 use Rattle.lir_core.specs.Rows.{has_bit}
 use Rattle.trace_build.specs.Parents.{trace_at}
-use Rattle.live_interval.specs.Needs.{first_of}
+use Rattle.trace_needs.specs.Needs.{first_of}
 use Rattle.linear_scan.specs.Linear.{Case, Hint}
-use Rattle.trivial_alloc.specs.Plain.{node_at, picked, in_homes, plain_start, plain_end, node_lines, node_regs, plain_of}
+use Rattle.simple_policies.specs.plain.Plain.{picked, in_homes, plain_start, plain_end, node_lines, node_regs, plain_of}
 use Rattle.alloc_choice.specs.declared.choice.Policy.{Policy}
 use Rattle.alloc_choice.specs.declared.choice.Used.{Used}
 use Rattle.alloc_choice.specs.declared.choice.Used.TheVariants.{Plain, Trivial, Linear, BottomUp}
@@ -29,18 +29,18 @@ module _ (rows others : List (List ℕ)) (e : has_bit rows ≡ has_bit others) (
   other = case_with f others regs
 
   plain_start_same : plain_start regs f rows ≡ plain_start regs f others
-  plain_start_same = λ k n. in_homes regs (picked f.values (λ v. e k n v || has (node_at f n).params v))
+  plain_start_same = λ k n. in_homes regs (picked f.values (λ v. e k n v || has (node_at f.nodes n).params v))
 
   plain_end_same : plain_end regs f rows ≡ plain_end regs f others
-  plain_end_same = λ k n. in_homes regs (picked f.values (λ v. list_any (λ to. e k to v) (successors (node_at f n).end) || has (end_uses (node_at f n).end) v))
+  plain_end_same = λ k n. in_homes regs (picked f.values (λ v. list_any (λ to. e k to v) (successors (node_at f.nodes n).end) || has (end_uses (node_at f.nodes n).end) v))
 
   plain_same : (number : ℕ) (ns : List ℕ) → plain_of regs f rows number ns ≡ plain_of regs f others number ns
   plain_same number ns = λ k. record {
     trace = number;
     starts = map (plain_start_same k) ns;
     ends = map (plain_end_same k) ns;
-    lines = map (λ n. node_lines (node_at f n)) ns;
-    regs = map (λ n. node_regs (node_at f n)) ns;
+    lines = map (λ n. node_lines (node_at f.nodes n)) ns;
+    regs = map (λ n. node_regs (node_at f.nodes n)) ns;
   }
 
   by_same : (used : Used) (number : ℕ) (ns : List ℕ) (hint : Option Hint) → result_by used one number ns hint ≡ result_by used other number ns hint

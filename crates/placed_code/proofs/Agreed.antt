@@ -15,7 +15,7 @@ use Rattle.lir_core.specs.declared.places.Move.{Move}
 use Rattle.placed_code.specs.Placed.{Copy, Placed}
 use Rattle.placed_code.specs.Layout.{entry, all_words}
 use Rattle.placed_code.specs.Claims.{AllInRange, image_of, same_trap, sizes, code_places}
-use Rattle.placed_code.specs.Results.{Allocated, all_placed, procedures_of, IsSequence, AreSound, IsImageOf, same_reason, Agrees}
+use Rattle.placed_code.specs.Results.{Allocated, all_placed, procedures_of, IsSequence, AreSoundResults, IsImageOf, same_reason, Agrees}
 use Rattle.placed_code.proofs.Parts.{length_map, procedures_are}
 use Rattle.placed_code.proofs.Sounds.{orders, Begins, is_placement}
 use Rattle.placed_code.proofs.Whole.{agrees}
@@ -24,7 +24,7 @@ in_range : (is : List Instr) → AllInRange is → machine.AllInRange is
 in_range [] r = tt
 in_range (i ∷ is) r = (r.0, in_range is r.1)
 
-module _ (k frame : ℕ) (steps : List Move → List Copy) (rs : List Allocated) (flags globals : ℕ) (constants input : List ℕ) (few_regs : k ≤ 16) (sequence : IsSequence steps) (sound : AreSound k frame steps rs) (image : IsImageOf steps rs flags globals constants frame) (small : (i : ℕ) → get_or input i 0 < 2 ^ 64) where
+module _ (k frame : ℕ) (steps : List Move → List Copy) (rs : List Allocated) (flags globals : ℕ) (constants input : List ℕ) (few_regs : k ≤ 16) (sequence : IsSequence steps) (sound : AreSoundResults k frame steps rs) (image : IsImageOf steps rs flags globals constants frame) (small : (i : ℕ) → get_or input i 0 < 2 ^ 64) where
   abbrev ps : List Placed
   ps = all_placed steps rs
 

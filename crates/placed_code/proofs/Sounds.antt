@@ -25,7 +25,7 @@ use Rattle.placed_code.specs.Placed as placed_types
 use Rattle.placed_code.specs.Words.{frame_of}
 use Rattle.placed_code.specs.Layout.{all_words}
 use Rattle.placed_code.specs.Claims.{AllNamed, HomesFit, EndFits, Ordered, Lands}
-use Rattle.placed_code.specs.Results.{Part, Allocated, last_copies, last_named, left_by, placed_block, part_of, placed_blocks, placed, all_placed, IsSequence, carried_by, entry_places, IsSoundResult, AreSound}
+use Rattle.placed_code.specs.Results.{Part, Allocated, last_copies, last_named, left_by, placed_block, part_of, placed_blocks, placed, all_placed, IsSequence, carried_by, entry_places, IsSoundResult, AreSoundResults}
 use Rattle.placed_code.proofs.Steps.{params_of}
 use Rattle.placed_code.proofs.Relation.{Leaves}
 use Rattle.placed_code.proofs.Linking.{nth, get_of_drop, linked, Follows, ProcOk, Sound}
@@ -77,7 +77,7 @@ below_of n (x ∷ xs) v h l = by_test (x == v) refl (nat_lt x n) refl h l (below
     by_test true e true g h l on = let same = ⊎_elim (λ t. t.1) (λ f. let wrong = f.0 in cc) (eqb_tells x v) in let t = ltb-true x n g in subst (λ m. m < n) same t
     by_test false e true g h l on = on h l
 
-module _ (k frame : ℕ) (few_regs : k ≤ 16) (steps : List Move → List Copy) (sequence : IsSequence steps) (rs : List Allocated) (sound : AreSound k frame steps rs) where
+module _ (k frame : ℕ) (few_regs : k ≤ 16) (steps : List Move → List Copy) (sequence : IsSequence steps) (rs : List Allocated) (sound : AreSoundResults k frame steps rs) where
   abbrev pub ps : List Placed
   ps = all_placed steps rs
 

@@ -221,8 +221,8 @@ pub record IsSoundResult (k frame : ℕ) (steps : List Move → List Copy) (r : 
   pub edges : (b to : ℕ) → b < length r.flow.nodes → has (successors (block_at (code_nodes r.flow.nodes) b).end) to ≡ true
       → TakeOver (part_of r.parts b).end (part_of r.parts to).start (carried_by (block_at (code_nodes r.flow.nodes) b).end (block_at (code_nodes r.flow.nodes) to).params) (left_by (block_at (code_nodes r.flow.nodes) b).end (part_of r.parts b).leaving ++ (part_of r.parts to).into)
 
-abbrev pub AreSound : ℕ → ℕ → (List Move → List Copy) → List Allocated → Type 0
-AreSound k frame steps rs = (q : ℕ) (r : Allocated) (rest : List Allocated) → drop q rs ≡ r ∷ rest → IsSoundResult k frame steps r
+abbrev pub AreSoundResults : ℕ → ℕ → (List Move → List Copy) → List Allocated → Type 0
+AreSoundResults k frame steps rs = (q : ℕ) (r : Allocated) (rest : List Allocated) → drop q rs ≡ r ∷ rest → IsSoundResult k frame steps r
 
 ---- What the image of sound results does
 

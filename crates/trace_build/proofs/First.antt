@@ -6,9 +6,10 @@ use Rattle.std.proofs.lemmas.Bool.Decides.{nat_tests}
 use Rattle.block_runs.specs.Live.{has}
 use Rattle.run_laws.specs.Layers.{places_from}
 use Rattle.lir_core.specs.declared.flow.Node.{Node}
+use Rattle.lir_core.specs.Flows.{node_at}
 use Rattle.global_live.proofs.Lists.{has_head, has-filter}
 use Rattle.global_live.proofs.Tables.{has_places}
-use Rattle.trace_build.specs.Traces.{node_at, is_in, members, is_before, first_of, most_frequent, may_enter, unassigned}
+use Rattle.trace_build.specs.Traces.{is_in, members, is_before, first_of, most_frequent, may_enter, unassigned}
 use Rattle.trace_build.proofs.Sets.{in_range}
 
 antisymmetric : (fa fb a b : ℕ) → (nat_lt fb fa || (fa == fb && nat_le a b)) ≡ true → (nat_lt fa fb || (fb == fa && nat_le b a)) ≡ true → a ≡ b

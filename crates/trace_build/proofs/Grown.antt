@@ -3,11 +3,12 @@ use Rattle.std.proofs.Common.{◌≡◌, ℕ, zero, suc, Bool, true, List, [], �
 use Rattle.std.proofs.lemmas.List.{append-nil}
 use Rattle.block_runs.specs.Blocks.{successors}
 use Rattle.lir_core.specs.declared.flow.Node.{Node}
+use Rattle.lir_core.specs.Flows.{node_at}
 use Rattle.trace_build.specs.declared.builder.Builder.{Builder}
 use Rattle.trace_build.specs.declared.builder.Builder.TheVariants.{Uni, Bi}
 use Rattle.trace_build.specs.declared.growing.Direction.{Direction}
 use Rattle.trace_build.specs.declared.growing.Direction.TheVariants.{Up, Down}
-use Rattle.trace_build.specs.Traces.{node_at, is_in, without, without_all, size, unassigned, next_of, going_on, grown, above, below, trace_from}
+use Rattle.trace_build.specs.Traces.{is_in, without, without_all, size, unassigned, next_of, going_on, grown, above, below, trace_from}
 use Rattle.trace_build.proofs.Sets.{size-without, without_trace, AreDrawn}
 use Rattle.trace_build.proofs.First.{most_frequent_in, unassigned_in}
 

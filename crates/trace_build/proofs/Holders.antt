@@ -12,10 +12,9 @@ use Rattle.block_runs.specs.Live.{has}
 use Rattle.lir_core.specs.declared.flow.Node.{Node}
 use Rattle.lir_core.specs.declared.flow.Trace.{Trace}
 use Rattle.lir_core.specs.declared.flow.Flow.{Flow}
-use Rattle.lir_core.specs.Flows.{code_node, code_nodes, leads, IsValidFlow}
+use Rattle.lir_core.specs.Flows.{code_node, code_nodes, leads, IsValidFlow, no_node}
 use Rattle.global_live.proofs.Lists.{has_head, has_back, all_below_in}
 use Rattle.global_live.proofs.Tables.{at_block, leads_there, has-preds_of}
-use Rattle.trace_build.specs.Traces.{no_node}
 use Rattle.trace_build.specs.Parents.{trace_at, enters, is_above, AreBelow, IsParent, held, holders_from, if_below, lower, lowest_of, parent_at, parent_by}
 
 ---- Filling the table

@@ -11,13 +11,13 @@ use Rattle.block_runs.specs.Live.{has}
 use Rattle.block_runs.specs.Valid.{times}
 use Rattle.lir_core.specs.declared.flow.Node.{Node}
 use Rattle.lir_core.specs.declared.flow.Flow.{Flow}
-use Rattle.lir_core.specs.Flows.{code_node, code_nodes, leads, IsPath, IsTrace, IsValidFlow}
+use Rattle.lir_core.specs.Flows.{code_node, code_nodes, leads, IsPath, IsTrace, IsValidFlow, no_node, node_at}
 use Rattle.global_live.proofs.Lists.{has_head, has_back, times-append, times_of_in}
 use Rattle.global_live.proofs.Tables.{leads_there, has-preds_of}
 use Rattle.trace_build.specs.declared.builder.Builder.{Builder}
 use Rattle.trace_build.specs.declared.builder.Builder.TheVariants.{Uni, Bi}
 use Rattle.trace_build.specs.declared.growing.Direction.TheVariants.{Up, Down}
-use Rattle.trace_build.specs.Traces.{no_node, node_at, is_in, members, without, without_all, size, most_frequent, unassigned, next_of, going_on, grown, above, below, trace_from, if_any, traces_from, traces_of}
+use Rattle.trace_build.specs.Traces.{is_in, members, without, without_all, size, most_frequent, unassigned, next_of, going_on, grown, above, below, trace_from, if_any, traces_from, traces_of}
 use Rattle.trace_build.specs.Cuts.{all_nodes, AllTraces, IsPartition}
 use Rattle.trace_build.proofs.Sets.{in_range, size_falls, in_none, without_all-append, without_trace, times-reverse, reverse-first, AreDrawn, one, drawn_once, drawn-append, different, length-without_all}
 use Rattle.trace_build.proofs.First.{most_frequent_in, none_of, unassigned_in, has-members}

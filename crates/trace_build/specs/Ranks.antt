@@ -1,7 +1,8 @@
 -- The nodes in the order in which they are taken.
 use Rattle.std.specs.Prelude.{◌≡◌, ℕ, ◌+◌, ◌<◌, ◌≤◌, true, List, length, slice_index_or}
 use Rattle.lir_core.specs.declared.flow.Node.{Node}
-use Rattle.trace_build.specs.Traces.{node_at, is_before}
+use Rattle.lir_core.specs.Flows.{node_at}
+use Rattle.trace_build.specs.Traces.{is_before}
 use Rattle.trace_build.specs.declared.ranks.Rank.{Rank}
 
 abbrev pub no_rank : Rank

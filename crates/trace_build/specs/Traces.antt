@@ -1,21 +1,14 @@
 -- The traces of a flow (Eisl and others, 2016): as long as nodes are unassigned, the most frequent of them begins a trace, which grows along edges over unassigned nodes.
 use Rattle.std.specs.Prelude.{ℕ, zero, suc, ◌+◌, ◌==◌, nat_lt, nat_le, Bool, true, false, ◌&&◌, ◌||◌, cond, List, [], ◌∷◌, ◌++◌, length, fold, reverse, filter, count_by, replicate, slice_index_or, slice_set, Option, Some, None}
 use Rattle.run_laws.specs.Layers.{places_from}
-use Rattle.block_runs.specs.declared.end.End.TheVariants.{Return}
 use Rattle.block_runs.specs.Blocks.{successors}
 use Rattle.lir_core.specs.declared.flow.Node.{Node}
 use Rattle.lir_core.specs.declared.flow.Flow.{Flow}
+use Rattle.lir_core.specs.Flows.{node_at}
 use Rattle.trace_build.specs.declared.builder.Builder.{Builder}
 use Rattle.trace_build.specs.declared.builder.Builder.TheVariants.{Uni, Bi}
 use Rattle.trace_build.specs.declared.growing.Direction.{Direction}
 use Rattle.trace_build.specs.declared.growing.Direction.TheVariants.{Up, Down}
-
--- the node of a number; one that only returns where there is none
-abbrev pub no_node : Node
-no_node = record { params = []; lirs = []; end = Return None; freq = 0; preds = []; enter = None }
-
-abbrev pub node_at : List Node → ℕ → Node
-node_at nodes n = slice_index_or nodes n no_node
 
 ---- Sets of nodes, as for each node whether it is in the set
 

@@ -1,7 +1,8 @@
 //! Which node is taken first.
 
 ghost use Rattle.std.specs.Prelude.{◌≡◌, IfSome, Some, true};
-ghost use Rattle.trace_build.specs.Traces.{node_at, is_in, is_before, first_of, may_enter, unassigned, most_frequent};
+ghost use Rattle.lir_core.specs.Flows.{node_at};
+ghost use Rattle.trace_build.specs.Traces.{is_in, is_before, first_of, may_enter, unassigned, most_frequent};
 
 use lir_core::Node;
 

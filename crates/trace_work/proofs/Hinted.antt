@@ -13,19 +13,19 @@ use Rattle.lir_core.specs.declared.flow.Flow.{Flow}
 use Rattle.lir_core.specs.declared.flow.Trace.{Trace}
 use Rattle.lir_core.specs.declared.places.Places.{Places as LirPlaces}
 use Rattle.lir_core.specs.declared.places.TraceOut.{TraceOut}
-use Rattle.lir_core.specs.Flows.{code_node, code_nodes, leads, preds_of, IsTrace}
+use Rattle.lir_core.specs.Flows.{code_node, code_nodes, leads, preds_of, IsTrace, no_node}
 use Rattle.lir_core.specs.Rows.{NonePasses, IsLowest}
-use Rattle.lir_core.specs.Sound.{IsSound, no_places}
+use Rattle.lir_core.specs.Sound.{IsSound, EndsRise, no_places}
 use Rattle.global_live.proofs.Lists.{has-filter}
 use Rattle.global_live.proofs.Tables.{has-preds_of, leads_there}
 use Rattle.trace_build.specs.Cuts.{lists_of, all_nodes, AllTraces}
 use Rattle.trace_build.specs.Parents.{trace_at, is_above, IsParent, AreParents}
-use Rattle.live_interval.specs.Needs.{first_of}
-use Rattle.live_interval.proofs.Passing.{none_from, one_from}
+use Rattle.trace_needs.specs.Needs.{first_of}
+use Rattle.lir_core.proofs.Passing.{none_from, one_from}
 use Rattle.linear_scan.specs.Linear.{Case, Hint}
 use Rattle.linear_scan.specs.Inputs.{IsFit, FitsHead, IsInput, hint_at}
 use Rattle.linear_scan.proofs.Traces.{ends_fit}
-use Rattle.trivial_alloc.specs.Plain.{index_of, no_node}
+use Rattle.simple_policies.specs.plain.Plain.{index_of}
 use Rattle.trace_work.specs.declared.hints.Entering.{Entering}
 use Rattle.alloc_choice.specs.Results.{parent_of, entering, hint_from, out_at, hint_for, IsCase}
 use Rattle.trace_work.specs.Places.{placed_all, is_it, has_at, first_held, entering_by, hint_of_place, hint_by, if_row}
@@ -148,8 +148,8 @@ module _ (x : Case) (traces : List Trace) (case : IsCase x traces) (places : Lis
       below n h = let l = leads_there (code_nodes x.flow.nodes) head n (sym (has-preds_of (code_nodes x.flow.nodes) head n) ∙ h) in let m = length-map x.flow.nodes code_node in omega (arith, l, m)
 
   -- places that fit stay, and the hint is the defined one
-  found : (p head n : ℕ) (node : Node) (out : TraceOut) → slice_get x.flow.nodes head ≡ Some node → IsSound x.regs x.flow (trace_at traces p) out → entering (code_nodes x.flow.nodes) (trace_at traces p).nodes head ≡ Some n → (if_row x.regs (hint_of_place out (entering_by (slice_get x.flow.nodes head) places (trace_at traces p).nodes)) ≡ hint_from (code_nodes x.flow.nodes) (trace_at traces p) out head) × IsFit x.regs (code_nodes x.flow.nodes) head (hint_at (trace_at traces p) out (index_of (trace_at traces p).nodes n))
-  found p head n node out there sound e =
+  found : (p head n : ℕ) (node : Node) (out : TraceOut) → slice_get x.flow.nodes head ≡ Some node → IsSound x.regs x.flow (trace_at traces p) out → EndsRise out → entering (code_nodes x.flow.nodes) (trace_at traces p).nodes head ≡ Some n → (if_row x.regs (hint_of_place out (entering_by (slice_get x.flow.nodes head) places (trace_at traces p).nodes)) ≡ hint_from (code_nodes x.flow.nodes) (trace_at traces p) out head) × IsFit x.regs (code_nodes x.flow.nodes) head (hint_at (trace_at traces p) out (index_of (trace_at traces p).nodes n))
+  found p head n node out there sound rise e =
       let ns = (trace_at traces p).nodes in
       let q = first_passes (has ns) (preds_of (code_nodes x.flow.nodes) head) n e in
       let edge : leads (code_nodes x.flow.nodes) head n ≡ true = sym (has-preds_of (code_nodes x.flow.nodes) head n) ∙ q.1 in
@@ -158,7 +158,7 @@ module _ (x : Case) (traces : List Trace) (case : IsCase x traces) (places : Lis
       let r = right p n (omega (arith, lt, size)) q.0 in
       let i = get_or places n 0 in
       let at : get_or ns i 0 ≡ n = get_or_from_slice_get ns i n 0 r.0 in
-      let fit : IsFit x.regs (code_nodes x.flow.nodes) head (hint_at (trace_at traces p) out i) = ends_fit x.regs x.flow (trace_at traces p) out sound i head (within ns i n r.0) (ap (leads (code_nodes x.flow.nodes) head) at ∙ edge) in
+      let fit : IsFit x.regs (code_nodes x.flow.nodes) head (hint_at (trace_at traces p) out i) = ends_fit x.regs x.flow (trace_at traces p) out sound rise i head (within ns i n r.0) (ap (leads (code_nodes x.flow.nodes) head) at ∙ edge) in
       let same : hint_at (trace_at traces p) out i ≡ record { node = n; places = get_or out.ends i no_places } = ap (λ m. let h : Hint = record { node = m; places = get_or out.ends i no_places } in h) at in (
         ap (λ o. if_row x.regs (hint_of_place out o)) (entering_is p head node there ∙ ap (option_map (with_place places)) e)
             ∙ ap (λ b. cond b (Some (record { node = n; places = get_or out.ends i no_places })) None) (eq-eqb _ x.regs fit.row.registers)
@@ -177,10 +177,10 @@ module _ (x : Case) (traces : List Trace) (case : IsCase x traces) (places : Lis
   HintIs ns p out = (if_row x.regs (hint_by x.flow.nodes places (trace_at traces p) out (first_of ns)) ≡ head_hint (code_nodes x.flow.nodes) (trace_at traces p) out (first_of ns)) × FitsHead x.regs (code_nodes x.flow.nodes) ns (head_hint (code_nodes x.flow.nodes) (trace_at traces p) out (first_of ns))
 
   -- the hint that a sound result gives
-  hint_is : (ns : List ℕ) (p : ℕ) (out : TraceOut) → IsTrace (code_nodes x.flow.nodes) ns → IsSound x.regs x.flow (trace_at traces p) out → HintIs ns p out
+  hint_is : (ns : List ℕ) (p : ℕ) (out : TraceOut) → IsTrace (code_nodes x.flow.nodes) ns → IsSound x.regs x.flow (trace_at traces p) out → EndsRise out → HintIs ns p out
   unfolding HintIs
-  hint_is [] p out trace sound = (refl, tt)
-  hint_is (head ∷ rest) p out trace sound = by (entering (code_nodes x.flow.nodes) (trace_at traces p).nodes head) refl
+  hint_is [] p out trace sound rise = (refl, tt)
+  hint_is (head ∷ rest) p out trace sound rise = by (entering (code_nodes x.flow.nodes) (trace_at traces p).nodes head) refl
     where
       size : length (code_nodes x.flow.nodes) ≡ length x.flow.nodes
       size = length-map x.flow.nodes code_node
@@ -198,7 +198,7 @@ module _ (x : Case) (traces : List Trace) (case : IsCase x traces) (places : Lis
         subst (λ o. FitsHead x.regs (code_nodes x.flow.nodes) (head ∷ rest) (option_map (λ n. hint_at (trace_at traces p) out (index_of (trace_at traces p).nodes n)) o)) (sym e) tt,
       )
       by (Some n) e =
-          let r = found p head n (get_or x.flow.nodes head no_node) out there sound e in
+          let r = found p head n (get_or x.flow.nodes head no_node) out there sound rise e in
           (r.0, subst (λ o. FitsHead x.regs (code_nodes x.flow.nodes) (head ∷ rest) (option_map (λ n. hint_at (trace_at traces p) out (index_of (trace_at traces p).nodes n)) o)) (sym e) r.1)
 
   -- what is asked of a trace without a parent
@@ -210,11 +210,11 @@ module _ (x : Case) (traces : List Trace) (case : IsCase x traces) (places : Lis
       without (n ∷ ns) = tt
 
   -- what is asked of a trace and the hint that its parent's sound result gives
-  pub child_ready : (t p : ℕ) (out : TraceOut) → 4 ≤ x.regs → t < length traces → IsSound x.regs x.flow (trace_at traces p) out
+  pub child_ready : (t p : ℕ) (out : TraceOut) → 4 ≤ x.regs → t < length traces → IsSound x.regs x.flow (trace_at traces p) out → EndsRise out
       → (if_row x.regs (hint_by x.flow.nodes places (trace_at traces p) out (first_of (trace_at traces t).nodes)) ≡ head_hint (code_nodes x.flow.nodes) (trace_at traces p) out (first_of (trace_at traces t).nodes))
       × IsInput x (trace_at traces t).nodes (head_hint (code_nodes x.flow.nodes) (trace_at traces p) out (first_of (trace_at traces t).nodes))
   unfolding HintIs
-  child_ready t p out enough lt sound =
+  child_ready t p out enough lt sound rise =
       let trace = trace_of x.flow traces t case.paths lt in
-      let h = hint_is (trace_at traces t).nodes p out trace sound in
+      let h = hint_is (trace_at traces t).nodes p out trace sound rise in
       (h.0, record { valid = case.valid; live = case.live; trace = trace; enough = enough; fit = h.1 })

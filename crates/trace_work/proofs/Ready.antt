@@ -6,7 +6,7 @@ use Rattle.lir_core.specs.declared.flow.Trace.{Trace}
 use Rattle.lir_core.specs.declared.places.TraceOut.{TraceOut}
 use Rattle.lir_core.specs.Flows.{code_nodes}
 use Rattle.trace_build.specs.Parents.{trace_at}
-use Rattle.live_interval.specs.Needs.{first_of}
+use Rattle.trace_needs.specs.Needs.{first_of}
 use Rattle.linear_scan.specs.Linear.{Case, Hint}
 use Rattle.linear_scan.specs.Inputs.{IsInput}
 use denote.Bor.{Bor}
@@ -20,7 +20,7 @@ use Rattle.alloc_choice.specs.Choice.{IsFitChoice}
 use Rattle.alloc_choice.specs.declared.choice.Policy.{Policy}
 use Rattle.alloc_choice.specs.Choice.{used}
 use Rattle.alloc_choice.specs.Results.{parent_of, hint_for, result_by, result_at, results_to, no_out, out_at, IsCase}
-use Rattle.trace_work.specs.declared.planning.Plan.{Plan}
+use Rattle.trace_work.specs.declared.planning.TracePlan.{TracePlan}
 use Rattle.trace_work.specs.declared.work.Entry.{Entry}
 use Rattle.trace_work.specs.declared.work.TraceHint.{TraceHint}
 use Rattle.trace_work.specs.Places.{hint_by, if_row}
@@ -39,7 +39,7 @@ length-results_to p x first traces (suc n) =
     let r = length-results_to p x first traces n in
     omega (arith, e, r)
 
-module _ (choice : Choice) (p : Plan) where
+module _ (choice : Choice) (p : TracePlan) where
   pub length-finals : (n : ℕ) → length (finals_to choice p n) ≡ n
   length-finals n = length-results_to choice.policy (case_of choice p) p.number p.traces n
 
@@ -82,7 +82,7 @@ module _ (choice : Choice) (p : Plan) where
       let head = first_of (nodes_of p t) in
       let outs = finals_to choice p t in
       let e : parent_of bls p.traces t ≡ Some l = parent_is bls p.traces t (get_or p.parents t None) (is.parents.parent t lt) ∙ known in
-      let r = child_ready (case_of choice p) p.traces (case_is is) p.places is.places t l done enough lt final.sound in
+      let r = child_ready (case_of choice p) p.traces (case_is is) p.places is.places t l done enough lt final.sound final.rises in
       let same : done ≡ out_at outs l = final.is ∙ sym (final_at t l lower) in
       let h : hint ≡ head_hint bls (trace_at p.traces l) done head = given ∙ r.0 in
       record {
@@ -99,17 +99,17 @@ module _ (choice : Choice) (p : Plan) where
 
 ---- By numbers through all flows
 
-module _ (choice : Choice) (fit : IsFitChoice choice) (plans : List Plan) (entries : List Entry) (h : AreEntries plans entries) where
+module _ (choice : Choice) (fit : IsFitChoice choice) (plans : List TracePlan) (entries : List Entry) (h : AreEntries plans entries) where
   -- whatever entry and plan are found there, they are these
-  pub of_trace : (t : ℕ) (holds : Plan → ℕ → Type 0) (e : Entry) (p : Plan) → slice_get entries t ≡ Some e → slice_get plans e.flow ≡ Some p → holds p e.number → OfTrace plans entries t holds
+  pub of_trace : (t : ℕ) (holds : TracePlan → ℕ → Type 0) (e : Entry) (p : TracePlan) → slice_get entries t ≡ Some e → slice_get plans e.flow ≡ Some p → holds p e.number → OfTrace plans entries t holds
   of_trace t holds e p there of x e' p' there' of' =
       let same : e ≡ e' = let z : Some e ≡ Some e' = sym there ∙ there' in cc in
       let plan : p ≡ p' = let z : Some p ≡ Some p' = sym of ∙ ap (λ (y : Entry). slice_get plans y.flow) same ∙ of' in cc in
-      subst (λ (y : Plan). holds y e'.number) plan (subst (λ (y : Entry). holds p y.number) same x)
+      subst (λ (y : TracePlan). holds y e'.number) plan (subst (λ (y : Entry). holds p y.number) same x)
 
   -- the hint of a trace above which there is one, where that one's result is final
   pub hint_of_child : (t above : ℕ) (done : TraceOut) → get_elem? (parents_in entries) t ≡ some (Some above) → IsFinalOf choice plans entries above done
-      → (e : Entry) (p : Plan) → slice_get entries t ≡ Some e → slice_get plans e.flow ≡ Some p → (over : Entry) → slice_get entries above ≡ Some over
+      → (e : Entry) (p : TracePlan) → slice_get entries t ≡ Some e → slice_get plans e.flow ≡ Some p → (over : Entry) → slice_get entries above ≡ Some over
       → (hint : Option Hint) → hint ≡ if_row choice.regs (hint_by p.flow.now.nodes p.places (trace_at p.traces over.number) done (first_of (nodes_of p e.number)))
       → OfTrace plans entries t (λ q n. IsPlan choice.builder q → IsHint choice q n hint)
   hint_of_child t above done known final e p there of over over_there hint is =
@@ -118,7 +118,7 @@ module _ (choice : Choice) (fit : IsFitChoice choice) (plans : List Plan) (entri
       let plan : u.plan ≡ p = let z : Some u.plan ≡ Some p = sym u.of ∙ ap (λ (y : Entry). slice_get plans y.flow) same ∙ of in cc in
       let local : entry_of u.entry.flow u.plan u.local ≡ over = let z : Some (entry_of u.entry.flow u.plan u.local) ≡ Some over = sym u.over ∙ over_there in cc in
       let is_local : hint ≡ if_row choice.regs (hint_by u.plan.flow.now.nodes u.plan.places (trace_at u.plan.traces u.local) done (first_of (nodes_of u.plan u.entry.number))) =
-      is ∙ ap (λ (y : Plan). if_row choice.regs (hint_by y.flow.now.nodes y.places (trace_at y.traces over.number) done (first_of (nodes_of y e.number)))) (sym plan)
+      is ∙ ap (λ (y : TracePlan). if_row choice.regs (hint_by y.flow.now.nodes y.places (trace_at y.traces over.number) done (first_of (nodes_of y e.number)))) (sym plan)
       ∙ ap (λ (y : Entry). if_row choice.regs (hint_by u.plan.flow.now.nodes u.plan.places (trace_at u.plan.traces y.number) done (first_of (nodes_of u.plan e.number)))) (sym local)
       ∙ ap (λ (y : Entry). if_row choice.regs (hint_by u.plan.flow.now.nodes u.plan.places (trace_at u.plan.traces u.local) done (first_of (nodes_of u.plan y.number)))) (sym same)
       in
@@ -126,15 +126,15 @@ module _ (choice : Choice) (fit : IsFitChoice choice) (plans : List Plan) (entri
       (λ planned. child_hint choice u.plan u.entry.number u.local done hint planned fit.enough u.is.within u.is_local u.lower (final (entry_of u.entry.flow u.plan u.local) u.plan u.over u.of planned) is_local)
 
   -- and of one above which there is none
-  pub hint_of_root : (t : ℕ) (e : Entry) (p : Plan) → slice_get entries t ≡ Some e → slice_get plans e.flow ≡ Some p → e.parent ≡ None → IsPlan choice.builder p → IsHint choice p e.number None
+  pub hint_of_root : (t : ℕ) (e : Entry) (p : TracePlan) → slice_get entries t ≡ Some e → slice_get plans e.flow ≡ Some p → e.parent ≡ None → IsPlan choice.builder p → IsHint choice p e.number None
   hint_of_root t e p there of none planned = let i = (h.each t e there).of p of in root_hint choice p e.number planned fit.enough i.within (root p t e none i)
 
   -- with what a trace runs: no more registers than are chosen, and the hint that is defined
-  pub record RunsWith (p : Plan) (number : ℕ) (hint : Option TraceHint) : Type 0 where
+  pub record RunsWith (p : TracePlan) (number : ℕ) (hint : Option TraceHint) : Type 0 where
     pub row : HasRow choice.regs hint
     pub is : IsPlan choice.builder p → IsHint choice p number (plain_hint hint)
 
-  pub runs_with : (t : ℕ) (e : Entry) (p : Plan) → slice_get entries t ≡ Some e → slice_get plans e.flow ≡ Some p → (x : Option (Bor (Option TraceHint))) → FitsRun (parents_in entries) (λ b. IsHintOf choice plans entries t b.now) t x
+  pub runs_with : (t : ℕ) (e : Entry) (p : TracePlan) → slice_get entries t ≡ Some e → slice_get plans e.flow ≡ Some p → (x : Option (Bor (Option TraceHint))) → FitsRun (parents_in entries) (λ b. IsHintOf choice plans entries t b.now) t x
       → RunsWith p e.number (joined (lent x))
   runs_with t e p there of None fits = record { row = tt; is = hint_of_root t e p there of (no_parent entries (λ b. IsHintOf choice plans entries t b.now) t e fits there) }
   runs_with t e p there of (Some b) fits =
@@ -142,6 +142,6 @@ module _ (choice : Choice) (fit : IsFitChoice choice) (plans : List Plan) (entri
       record { row = h.0; is = h.1 e p there of }
 
   -- a result that is final for the plan is final for the trace
-  pub finally : {E : Type 0} → (t : ℕ) (e : Entry) (p : Plan) → slice_get entries t ≡ Some e → slice_get plans e.flow ≡ Some p → (r : Result TraceOut E) → (IsPlan choice.builder p → IfOk r (IsFinal choice p e.number)) → IfOk r (IsFinalOf choice plans entries t)
+  pub finally : {E : Type 0} → (t : ℕ) (e : Entry) (p : TracePlan) → slice_get entries t ≡ Some e → slice_get plans e.flow ≡ Some p → (r : Result TraceOut E) → (IsPlan choice.builder p → IfOk r (IsFinal choice p e.number)) → IfOk r (IsFinalOf choice plans entries t)
   finally t e p there of (Ok out) f = of_trace t (λ q n. IsPlan choice.builder q → IsFinal choice q n out) e p there of f
   finally t e p there of (Err err) f = tt

@@ -9,7 +9,7 @@ use Rattle.lir_core.specs.declared.flow.Trace.{Trace}
 use Rattle.global_live.proofs.Lists.{times-append, times_of_in, has_front, has_back}
 use Rattle.trace_build.specs.Cuts.{lists_of, all_nodes}
 use Rattle.trace_build.specs.Parents.{trace_at}
-use Rattle.trivial_alloc.specs.Plain.{index_of}
+use Rattle.simple_policies.specs.plain.Plain.{index_of}
 use Rattle.trace_work.specs.Places.{placed_in, placed_all}
 
 length-placed_in : (ns : List ℕ) (i : ℕ) (places : List ℕ) → length (placed_in i ns places) ≡ length places

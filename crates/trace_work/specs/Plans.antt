@@ -2,22 +2,22 @@
 use Rattle.std.specs.Prelude.{◌≡◌, ℕ, List, length, replicate, Option}
 use Rattle.lir_core.specs.declared.places.TraceOut.{TraceOut}
 use Rattle.lir_core.specs.Flows.{code_nodes, IsValidFlow}
-use Rattle.lir_core.specs.Sound.{IsSound}
+use Rattle.lir_core.specs.Sound.{IsSound, EndsRise}
 use Rattle.global_live.specs.Reading.{HasLive}
 use Rattle.trace_build.specs.declared.builder.Builder.{Builder}
 use Rattle.trace_build.specs.Traces.{traces_of}
 use Rattle.trace_build.specs.Cuts.{lists_of, AllTraces, IsPartition}
 use Rattle.trace_build.specs.Parents.{trace_at, AreBelow, AreParents}
-use Rattle.live_interval.specs.Needs.{first_of}
+use Rattle.trace_needs.specs.Needs.{first_of}
 use Rattle.linear_scan.specs.Linear.{Case, Hint}
 use Rattle.linear_scan.specs.Inputs.{IsInput}
 use Rattle.alloc_choice.specs.declared.choice.Choice.{Choice}
 use Rattle.alloc_choice.specs.Results.{case_with, hint_for, parent_of, result_at, results_to}
-use Rattle.trace_work.specs.declared.planning.Plan.{Plan}
+use Rattle.trace_work.specs.declared.planning.TracePlan.{TracePlan}
 use Rattle.trace_work.specs.Places.{placed_all}
 
 -- a valid flow, what is live in it, its traces by a builder, the trace above each, and where its nodes stand in these
-pub record IsPlan (builder : Builder) (p : Plan) : Type 0 where
+pub record IsPlan (builder : Builder) (p : TracePlan) : Type 0 where
   pub valid : IsValidFlow p.flow.now
   pub live : HasLive p.flow.now p.live
   pub cut : lists_of p.traces ≡ traces_of builder p.flow.now.nodes
@@ -27,33 +27,34 @@ pub record IsPlan (builder : Builder) (p : Plan) : Type 0 where
   pub places : p.places ≡ placed_all p.traces (replicate (length p.flow.now.nodes) 0)
 
 -- each trace has an entry for the trace above it, which is of a lower number
-abbrev pub IsOrdered : Plan → Type 0
+abbrev pub IsOrdered : TracePlan → Type 0
 IsOrdered p = (length p.parents ≡ length p.traces) × AreBelow p.parents
 
-abbrev pub case_of : Choice → Plan → Case
+abbrev pub case_of : Choice → TracePlan → Case
 case_of choice p = case_with p.flow.now p.live choice.regs
 
-abbrev pub nodes_of : Plan → ℕ → List ℕ
+abbrev pub nodes_of : TracePlan → ℕ → List ℕ
 nodes_of p t = (trace_at p.traces t).nodes
 
 -- the results of a plan's first n traces
-abbrev pub finals_to : Choice → Plan → ℕ → List TraceOut
+abbrev pub finals_to : Choice → TracePlan → ℕ → List TraceOut
 finals_to choice p n = results_to choice.policy (case_of choice p) p.number p.traces n
 
 -- the final result of a plan's trace
-abbrev pub final_of : Choice → Plan → ℕ → TraceOut
+abbrev pub final_of : Choice → TracePlan → ℕ → TraceOut
 final_of choice p t = result_at choice.policy (case_of choice p) p.number p.traces (finals_to choice p t) t
 
 -- the hint of a plan's trace, where there is one
-abbrev pub hint_to : Choice → Plan → ℕ → Option Hint
+abbrev pub hint_to : Choice → TracePlan → ℕ → Option Hint
 hint_to choice p t = hint_for (code_nodes p.flow.now.nodes) p.traces (finals_to choice p t) (first_of (nodes_of p t)) (parent_of (code_nodes p.flow.now.nodes) p.traces t)
 
--- the final result, which is sound
-pub record IsFinal (choice : Choice) (p : Plan) (t : ℕ) (out : TraceOut) : Type 0 where
+-- the final result, which is sound, and whose ends can be hints
+pub record IsFinal (choice : Choice) (p : TracePlan) (t : ℕ) (out : TraceOut) : Type 0 where
   pub is : out ≡ final_of choice p t
   pub sound : IsSound choice.regs p.flow.now (trace_at p.traces t) out
+  pub rises : EndsRise out
 
 -- the hint, with which the trace can be given places
-pub record IsHint (choice : Choice) (p : Plan) (t : ℕ) (hint : Option Hint) : Type 0 where
+pub record IsHint (choice : Choice) (p : TracePlan) (t : ℕ) (hint : Option Hint) : Type 0 where
   pub is : hint ≡ hint_to choice p t
   pub fits : IsInput (case_of choice p) (nodes_of p t) hint

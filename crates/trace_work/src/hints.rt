@@ -1,7 +1,7 @@
 //! The hint of a trace.
 
 ghost use Rattle.std.specs.Prelude.{◌≡◌, ◌<◌, length, slice_get, Some, IfSome};
-ghost use Rattle.live_interval.specs.Needs.{first_of};
+ghost use Rattle.trace_needs.specs.Needs.{first_of};
 ghost use Rattle.linear_scan.specs.Inputs.{lent};
 ghost use Rattle.trace_work.specs.Places.{has_at, first_held, entering_by, hint_of_place, hint_by, if_row};
 ghost use Rattle.trace_work.specs.Lent.{hints};

@@ -15,5 +15,5 @@ mod work;
 pub use alloc_choice::{Builder, Choice, Policy};
 pub use fault::WorkFault;
 pub use lir_core::{Flow, TraceOut};
-pub use planning::Plan;
+pub use planning::TracePlan;
 pub use work::TraceWork;

@@ -15,7 +15,7 @@ use trace_build::{Builder, build, parents};
 
 /// A flow in traces, and what their results are made from.
 #[derive(Drop)]
-pub struct Plan<'a> {
+pub struct TracePlan<'a> {
     pub flow: &'a Flow,
     pub live: LiveSets,
     pub traces: Items<Trace>,
@@ -37,7 +37,7 @@ pub(crate) fn plan_of<'a>(
     flow: &'a Flow,
     first: u32,
     number: u32,
-) -> Result<Plan<'a>, Memory>
+) -> Result<TracePlan<'a>, Memory>
     ensures plan { IsValidFlow flow.now → IfOk result (IsPlan builder) }
     ensures flow { IfOk result (λ plan. plan.flow.now ≡ flow.now) }
     ensures first { IfOk result (λ plan. plan.first ≡ first) }
@@ -49,7 +49,7 @@ pub(crate) fn plan_of<'a>(
     let traces = build(alloc, builder, flow)?;
     let parents = parents(alloc, flow, traces.as_slice())?;
     let places = places(alloc, flow.nodes.len(), traces.as_slice())?;
-    Ok(Plan {
+    Ok(TracePlan {
         flow,
         live,
         traces: Items::from_vec(traces),

@@ -5,7 +5,7 @@ ghost use Rattle.lir_core.specs.Flows.{IsValidFlow};
 ghost use Rattle.pool_core.specs.Tree.{IsTree};
 ghost use Rattle.trace_build.specs.Parents.{trace_at};
 ghost use Rattle.trace_build.specs.Traces.{traces_in};
-ghost use Rattle.live_interval.specs.Needs.{first_of};
+ghost use Rattle.trace_needs.specs.Needs.{first_of};
 ghost use Rattle.linear_scan.specs.Inputs.{hint_of, lent};
 ghost use Rattle.alloc_choice.specs.Choice.{IsFitChoice};
 ghost use Rattle.trace_work.specs.Places.{hint_by, if_row};
@@ -18,7 +18,7 @@ ghost use Rattle.trace_work.specs.declared.fault.WorkFault.TheVariants.{Traces};
 
 use crate::fault::WorkFault;
 use crate::hints::{Hint, head_of, hint_from};
-use crate::planning::{Plan, plan_of};
+use crate::planning::{TracePlan, plan_of};
 use alloc_choice::{Choice, allocate_trace};
 use items::Items;
 use lir_core::{Flow, Places, TraceIn, TraceOut};
@@ -52,7 +52,7 @@ pub struct TraceHint {
 #[derive(Drop)]
 pub struct TraceWork<'a> {
     pub choice: Choice,
-    pub plans: Vec<Plan<'a>>,
+    pub plans: Vec<TracePlan<'a>>,
     pub entries: Vec<Entry>,
     /// How many traces there are in the flows before these.
     pub before: u32,
@@ -105,7 +105,7 @@ impl<'a> TraceWork<'a> {
 }
 
 // Appends the entries of the plan at this place.
-fn put_entries(entries: &mut Vec<Entry>, flow: usize, plan: &Plan) -> Result<(), WorkFault>
+fn put_entries(entries: &mut Vec<Entry>, flow: usize, plan: &TracePlan) -> Result<(), WorkFault>
     requires few { length entries.old.items + length plan.now.traces ≤ 262144 }
     requires first { plan.now.first ≡ length entries.old.items }
     requires ordered { IsOrdered plan.now }
@@ -123,7 +123,7 @@ fn put_entries(entries: &mut Vec<Entry>, flow: usize, plan: &Plan) -> Result<(),
 }
 
 // The place of the trace above.
-fn above(plan: &Plan, number: usize) -> Option<u32>
+fn above(plan: &TracePlan, number: usize) -> Option<u32>
     requires few { plan.now.first + length plan.now.traces ≤ 262144 }
     requires number { number < length plan.now.traces }
     requires ordered { IsOrdered plan.now }
@@ -156,7 +156,7 @@ fn given<'b>(hint: Option<&'b Option<TraceHint>>) -> Option<&'b TraceHint>
 
 // The hint that the final result of a plan's trace gives to a trace below it.
 fn hint_between<'b>(
-    plan: &Plan,
+    plan: &TracePlan,
     above: usize,
     done: &'b TraceOut,
     below: usize,
@@ -184,7 +184,7 @@ fn hint_between<'b>(
 fn result(
     alloc: Global,
     choice: &Choice,
-    plan: &Plan,
+    plan: &TracePlan,
     entry: Entry,
     from: Option<u32>,
     hint: Option<&Places>,

@@ -1,6 +1,7 @@
 use Rattle.std.proofs.Common.{◌<◌, ◌∙◌, ap, arith, length}
 use Rattle.std.proofs.lemmas.List.{get_or_default}
-use Rattle.a64_select.specs.Making.{targets_in, different_targets, no_node}
+use Rattle.lir_core.specs.Flows.{no_node}
+use Rattle.a64_select.specs.Making.{targets_in, different_targets}
 use Rattle.a64_select.proofs.Preceded.{targets_below, preceded_next, preceded_done}
 use Rattle.a64_select.proofs.edges.set_preds.Goals as goal
 

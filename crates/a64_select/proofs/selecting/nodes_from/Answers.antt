@@ -4,10 +4,10 @@ use Rattle.std.specs.List.{list_all}
 use Rattle.block_runs.specs.Blocks.{successors}
 use Rattle.block_runs.specs.Valid.{all_below}
 use Rattle.lir_core.specs.declared.flow.Node.{Node}
+use Rattle.lir_core.specs.Flows.{no_node}
 use Rattle.ssa_core.specs.declared.procedure.Block.{Block}
 use Rattle.ssa_core.specs.Procedures.{code_blocks}
 use Rattle.a64_select.specs.Selected.{joins_of, old_nodes, new_nodes, split_nodes}
-use Rattle.a64_select.specs.Making.{no_node}
 use Rattle.a64_select.proofs.Targets.{nodes_lead, no_preds_old, few_nodes, length-joins_of}
 use Rattle.a64_select.proofs.selecting.nodes_from.Goals as goal
 

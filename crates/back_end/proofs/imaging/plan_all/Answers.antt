@@ -3,8 +3,9 @@ use Rattle.std.specs.Prelude.{All}
 use Rattle.std.specs.Vec.Iter.{into_iter_items}
 use Rattle.lir_core.specs.Flows.{IsValidFlow}
 use Rattle.link_blocks.specs.Plans.{placed_in}
+use Rattle.link_plan.proofs.Rows.{errs_with}
 use Rattle.back_end.specs.Batches.{AreMore}
-use Rattle.back_end.proofs.Batches.{begun, flows_valid, further, not_none, on_fault, over}
+use Rattle.back_end.proofs.Batches.{begun, flows_valid, further, not_none, over}
 use Rattle.back_end.proofs.imaging.plan_all.Goals as goal
 
 pub loop-init : goal.loop-init
@@ -17,7 +18,7 @@ pub returns-in_err-plan_more-clause-traces : goal.returns-in_err-plan_more-claus
 returns-in_err-plan_more-clause-traces g c =
     let choice = c.args.choice.now in
     let way = c.loop.invariant.way in
-    on_fault _ _ c.from_residual-in_err-plan_more.result c.from_residual-in_err-plan_more.ensures.1
+    errs_with _ _ c.from_residual-in_err-plan_more.result c.from_residual-in_err-plan_more.ensures.1
     (λ fault same e. over choice c.args.procedures way.done (into_iter_items c.loop.rest) _ c.loop.planned c.as_slice.result.now way.planned way.split (c.as_slice.ensures.value ∙ c.in_ok-flows.ensures.flows) (c.in_err-plan_more.ensures.traces (sym same ∙ e)))
 
 pub loop-preserved : goal.loop-preserved

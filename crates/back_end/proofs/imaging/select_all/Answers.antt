@@ -1,13 +1,16 @@
-use Rattle.std.proofs.Common.{◌∙◌, sym, ap}
-use Rattle.std.specs.Vec.Iter.{into_iter_items}
-use Rattle.back_end.specs.Numbers.{node_numbers}
-use Rattle.back_end.proofs.Letting.{first_ready, one_let}
+use Rattle.std.proofs.Common.{◌≡◌, List, map, take, sym, ap, ◌∙◌, subst, arith}
+use Rattle.std.specs.Prelude.{All, IfOk}
+use Rattle.std.proofs.lemmas.List.{take_all}
+use Rattle.ssa_core.specs.declared.procedure.Proc.{Proc}
+use Rattle.a64_select.specs.Selected.{selected}
+use Rattle.back_end.specs.Images.{IsReady}
 use Rattle.back_end.proofs.imaging.select_all.Goals as goal
 
-pub select-requires : goal.select-requires
-select-requires c = (first_ready c.args.procedures (into_iter_items c.loop-procedure.procedure-iterator) (into_iter_items c.next.new.self) c.loop-procedure.flows.items c.in-Some.procedure c.loop-procedure.invariant c.in-Some.ensures.steps.0).valid
+pub select_next-requires : goal.select_next-requires
+select_next-requires c = subst (All IsReady) (sym (c.into_iter-rest.ensures.rest ∙ c.into_vec.ensures)) c.requires
 
-pub loop-procedure-preserved : goal.loop-procedure-preserved
-loop-procedure-preserved c =
-    one_let c.args.procedures (into_iter_items c.loop-procedure.procedure-iterator) (into_iter_items c.next.new.self) c.loop-procedure.flows.items c.push.new.self.items c.in-Some.procedure c.in_ok-flow.flow c.loop-procedure.invariant
-    c.in-Some.ensures.steps.0 c.in_ok-flow.ensures.selected (ap node_numbers (sym c.as_slice.ensures) ∙ c.read_nodes.ensures) c.in_ok-push.ensures.items
+pub returns-clause-flows : goal.returns-clause-flows
+returns-clause-flows c =
+    subst (λ (ps : List Proc). IfOk c.select_next.result (λ flows. flows.items ≡ map selected ps))
+    (ap (take c.len-count.result) (c.into_iter-rest.ensures.rest ∙ c.into_vec.ensures) ∙ take_all c.len-count.result c.args.procedures (omega (arith, c.len-count.ensures)))
+    c.select_next.ensures.flows

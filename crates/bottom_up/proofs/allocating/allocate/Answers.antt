@@ -1,11 +1,11 @@
 use Rattle.std.proofs.Common.{◌≡◌, ℕ, List, Option, None, ◌∙◌, ap, ap₂, sym, subst}
 use Rattle.std.proofs.Math.Path.{fun_ext}
-use Rattle.live_interval.specs.Asked.{mention_told}
+use Rattle.trace_needs.specs.Asked.{mention_told}
 use Rattle.loc_back.specs.Steps.{started, closed}
 use Rattle.linear_scan.specs.Linear.{Case}
 use Rattle.linear_scan.specs.Inputs.{case_of, IsInput}
 use Rattle.bottom_up.specs.Bottom.{homed_first, along, walked_back, result_of, mention_in}
-use Rattle.lir_core.specs.Sound.{IsSound}
+use Rattle.lir_core.specs.Sound.{IsSound, EndsRise}
 use Rattle.bottom_up.proofs.Traces.{bottom_sound}
 use Rattle.bottom_up.proofs.allocating.allocate.Goals as goal
 
@@ -36,4 +36,8 @@ returns-clause-bottom_up c given = made c ∙ ap (λ m. result_of c.args.t.now.n
 
 pub returns-clause-sound : goal.returns-clause-sound
 unfolding x ns said
-returns-clause-sound c given = subst (IsSound (x c).regs (x c).flow (record { nodes = ns c })) (sym (made c)) (bottom_sound (x c) (said c) (ns c) given c.args.t.now.number)
+returns-clause-sound c given = subst (IsSound (x c).regs (x c).flow (record { nodes = ns c })) (sym (made c)) (bottom_sound (x c) (said c) (ns c) given c.args.t.now.number).0
+
+pub returns-clause-rises : goal.returns-clause-rises
+unfolding x ns said
+returns-clause-rises c given = subst EndsRise (sym (made c)) (bottom_sound (x c) (said c) (ns c) given c.args.t.now.number).1

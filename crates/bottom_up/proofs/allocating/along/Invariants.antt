@@ -1,5 +1,5 @@
 use Rattle.std.proofs.Common.{◌≡◌, ◌≤◌, drop, length, get_or}
-use Rattle.live_interval.specs.Asked.{mention_told}
+use Rattle.trace_needs.specs.Asked.{mention_told}
 use Rattle.linear_scan.specs.Inputs.{case_of}
 use Rattle.bottom_up.specs.Bottom.{along, starts_from}
 use Rattle.bottom_up.proofs.allocating.along.Given as goal

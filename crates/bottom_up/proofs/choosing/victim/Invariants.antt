@@ -1,5 +1,5 @@
 use Rattle.std.proofs.Common.{◌≡◌, drop, None}
-use Rattle.live_interval.specs.Asked.{mention_told}
+use Rattle.trace_needs.specs.Asked.{mention_told}
 use Rattle.bottom_up.specs.Policy.{before, earliest}
 use Rattle.bottom_up.proofs.choosing.victim.Given as goal
 

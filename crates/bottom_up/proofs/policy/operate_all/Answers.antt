@@ -1,7 +1,7 @@
 use Rattle.std.proofs.Common.{◌≡◌, ◌∙◌, ◌+◌, ◌-◌, ap, arith, Some, sym}
 use Rattle.std.specs.Prelude.{slice_get}
 use Rattle.std.proofs.lemmas.Option.{slice_get-get_or}
-use Rattle.live_interval.specs.Asked.{mention_told}
+use Rattle.trace_needs.specs.Asked.{mention_told}
 use Rattle.loc_back.specs.declared.part.BackPart.{BackPart}
 use Rattle.loc_back.specs.declared.backward.Backward.{Backward}
 use Rattle.bottom_up.specs.Policy.{operate}

@@ -1,5 +1,5 @@
 use Rattle.std.proofs.Common.{◌≡◌, ◌≤◌, ◌+◌, drop, length}
-use Rattle.live_interval.specs.Asked.{mention_told}
+use Rattle.trace_needs.specs.Asked.{mention_told}
 use Rattle.loc_back.specs.Steps.{in_part}
 use Rattle.bottom_up.specs.Policy.{operate_all}
 use Rattle.bottom_up.proofs.policy.operate_all.Given as goal

@@ -1,5 +1,5 @@
 use Rattle.std.proofs.Common.{◌≡◌, ◌++◌, drop, map}
-use Rattle.boundary_resolve.specs.declared.placed.Placed.TheVariants.{Body}
+use Rattle.boundary_resolve.specs.declared.code_line.CodeLine.TheVariants.{Body}
 use Rattle.boundary_resolve.proofs.code.push_lines.Given as goal
 
 abbrev pub invariant-loop-line : goal.invariant-loop-line

@@ -1,5 +1,5 @@
 use Rattle.std.proofs.Common.{◌≡◌, ◌++◌, drop, map}
-use Rattle.boundary_resolve.specs.declared.placed.Placed.TheVariants.{Edge}
+use Rattle.boundary_resolve.specs.declared.code_line.CodeLine.TheVariants.{Edge}
 use Rattle.boundary_resolve.proofs.code.push_steps.Given as goal
 
 abbrev pub invariant-loop-step : goal.invariant-loop-step

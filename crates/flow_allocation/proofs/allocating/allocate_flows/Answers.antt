@@ -2,7 +2,7 @@ use Rattle.std.proofs.Common.{◌≡◌, List, length, sym, ap, ◌∙◌, subst
 use Rattle.std.proofs.lemmas.List.{length-map}
 use Rattle.trace_build.specs.Traces.{traces_in}
 use Rattle.trace_pool.specs.Ends.{AreFinal}
-use Rattle.trace_work.specs.declared.planning.Plan.{Plan}
+use Rattle.trace_work.specs.declared.planning.TracePlan.{TracePlan}
 use Rattle.trace_work.specs.declared.work.Entry.{Entry}
 use Rattle.trace_work.specs.Entries.{parents_in}
 use Rattle.trace_work.specs.Finals.{IsFinalOf}
@@ -22,4 +22,4 @@ returns-clause-allocated g c valid =
     let final = subst (λ x. AreFinal (IsFinalOf x w.plans.items w.entries.items) (parents_in w.entries.items) outs) is.choice c.in_ok-outs.ensures in
     let count : c.count.result ≡ traces_in choice.builder c.args.flows.now = c.count.ensures ∙ length-map w.entries.items (λ (y : Entry). y.parent) ∙ is.count in
     allocated choice c.requires.fit c.args.before w.plans.items w.entries.items outs shared parts c.args.flows.now c.count.result w.entered (is.plans valid) is.numbered is.behind is.flows final
-    (subst (λ (ps : List Plan). AreShared ps outs parts shared) c.as_slice.ensures.value c.in_ok-shared.ensures) count
+    (subst (λ (ps : List TracePlan). AreShared ps outs parts shared) c.as_slice.ensures.value c.in_ok-shared.ensures) count

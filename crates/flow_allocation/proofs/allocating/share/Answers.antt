@@ -2,8 +2,8 @@ use Rattle.std.proofs.Common.{◌≡◌, ◌+◌, ◌∷◌, [], ◌++◌, List,
 use Rattle.std.specs.Vec.Iter.{into_iter_items}
 use Rattle.std.proofs.lemmas.List.{take_more}
 use Rattle.lir_core.specs.declared.places.TraceOut.{TraceOut}
-use Rattle.boundary_resolve.specs.declared.placed.Placed.{Placed as Line}
-use Rattle.trace_work.specs.declared.planning.Plan.{Plan}
+use Rattle.boundary_resolve.specs.declared.code_line.CodeLine.{CodeLine}
+use Rattle.trace_work.specs.declared.planning.TracePlan.{TracePlan}
 use Rattle.flow_allocation.specs.Allocations.{items_of}
 use Rattle.flow_allocation.specs.Sharing.{AreLines, HaveLines}
 use Rattle.flow_allocation.proofs.Taking.{items_more, share_more}
@@ -30,7 +30,7 @@ loop-plan-preserved c =
       outs = share_more plans i p lt c.plan-item.is outs rest (into_iter_items c.into_iter-rest.result) own (into_iter_items c.taken.new.rest) (items_of c.push-in-loop-plan.new.self) c.loop-plan.invariant.outs
           (c.in_ok-own.ensures.taken ∙ ap (λ n. take n rest) c.len.ensures) (c.in_ok-own.ensures.left ∙ ap (λ n. drop n rest) c.len.ensures) os;
       lines =
-          subst (λ (xs : List Plan). HaveLines xs (items_of c.push-in-loop-plan.new.self) (items_of c.push.new.self)) (sym next)
+          subst (λ (xs : List TracePlan). HaveLines xs (items_of c.push-in-loop-plan.new.self) (items_of c.push.new.self)) (sym next)
           (subst (λ (xs : List (List TraceOut)). HaveLines (take i plans ++ p ∷ []) xs (items_of c.push.new.self)) (sym os)
-          (subst (λ (xs : List (List Line)). HaveLines (take i plans ++ p ∷ []) (outs ++ own ∷ []) xs) (sym ps) all));
+          (subst (λ (xs : List (List CodeLine)). HaveLines (take i plans ++ p ∷ []) (outs ++ own ∷ []) xs) (sym ps) all));
     }

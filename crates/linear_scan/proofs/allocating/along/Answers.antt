@@ -1,6 +1,6 @@
 use Rattle.std.proofs.Common.{◌∙◌, ◌+◌, ap, get_or, refl}
 use Rattle.std.specs.Prelude.{is_some}
-use Rattle.live_interval.specs.Asked.{need_told}
+use Rattle.trace_needs.specs.Asked.{need_told}
 use Rattle.linear_scan.specs.Policy.{drop_all}
 use Rattle.linear_scan.specs.Inputs.{case_of}
 use Rattle.linear_scan.proofs.Lengths.{along_step, there_is}

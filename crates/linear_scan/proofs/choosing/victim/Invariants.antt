@@ -1,5 +1,5 @@
 use Rattle.std.proofs.Common.{◌≡◌, ◌<◌, length, drop, None}
-use Rattle.live_interval.specs.Asked.{need_told}
+use Rattle.trace_needs.specs.Asked.{need_told}
 use Rattle.linear_scan.specs.Policy.{from, reg_of, farthest}
 use Rattle.linear_scan.proofs.choosing.victim.Given as goal
 

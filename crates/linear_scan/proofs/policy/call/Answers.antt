@@ -1,5 +1,5 @@
 use Rattle.std.proofs.Common.{◌∙◌, ap, length}
-use Rattle.live_interval.specs.Asked.{need_told}
+use Rattle.trace_needs.specs.Asked.{need_told}
 use Rattle.lir_core.specs.Flows.{operation_of}
 use Rattle.linear_scan.specs.Policy.{needed_in}
 use Rattle.linear_scan.proofs.Lengths.{called_length, call_is}

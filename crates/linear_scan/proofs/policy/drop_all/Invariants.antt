@@ -1,5 +1,5 @@
 use Rattle.std.proofs.Common.{◌≡◌, length, drop}
-use Rattle.live_interval.specs.Asked.{need_told}
+use Rattle.trace_needs.specs.Asked.{need_told}
 use Rattle.loc_state.specs.Steps.{in_part}
 use Rattle.linear_scan.specs.Policy.{drop_all}
 use Rattle.linear_scan.proofs.policy.drop_all.Given as goal

@@ -1,5 +1,5 @@
 use Rattle.std.proofs.Common.{◌≡◌, ◌++◌, drop}
-use Rattle.live_interval.specs.Asked.{need_told}
+use Rattle.trace_needs.specs.Asked.{need_told}
 use Rattle.linear_scan.specs.Policy.{needed_in}
 use Rattle.linear_scan.proofs.policy.needed_in.Given as goal
 

@@ -1,5 +1,5 @@
 use Rattle.std.proofs.Common.{◌≡◌, ◌-◌, []}
-use Rattle.live_interval.specs.Needs.{live_from}
+use Rattle.lir_core.specs.Rows.{live_from}
 use Rattle.loc_state.specs.Homed.{all_inserted}
 use Rattle.linear_scan.proofs.starting.all_live.Given as goal
 

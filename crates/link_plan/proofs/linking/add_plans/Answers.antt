@@ -1,7 +1,7 @@
 use Rattle.std.proofs.Common.{rules, map, ap, sym, ◌∙◌, arith}
 use Rattle.std.specs.Vec.Iter.{into_iter_items}
 use Rattle.link_blocks.specs.Plans.{placed_in}
-use Rattle.link_code.proofs.Rows.{errs_with}
+use Rattle.link_plan.proofs.Rows.{errs_with}
 use Rattle.link_plan.proofs.Cuts.{cut_at, next_is, item_at, left_none, drop_next, same_lengths, fits_more, map_last, plans_more, plans_all, cuts_length}
 use Rattle.link_plan.proofs.linking.add_plans.Goals as goal
 

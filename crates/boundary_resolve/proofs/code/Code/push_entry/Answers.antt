@@ -4,7 +4,7 @@ use Rattle.run_laws.specs.Layers.{places_from}
 use Rattle.lir_core.specs.declared.places.Places.{Places}
 use Rattle.lir_core.specs.Spots.{IsRising}
 use Rattle.parallel_move.specs.declared.step.Step.{Step}
-use Rattle.boundary_resolve.specs.declared.placed.Placed.TheVariants.{Edge}
+use Rattle.boundary_resolve.specs.declared.code_line.CodeLine.TheVariants.{Edge}
 use Rattle.boundary_resolve.specs.Moves.{FewRegs, entry_places}
 use Rattle.boundary_resolve.proofs.Laid.{same_edge, entry_few}
 use Rattle.boundary_resolve.proofs.code.Code.push_entry.Goals as goal

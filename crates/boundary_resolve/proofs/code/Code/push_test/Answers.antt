@@ -3,7 +3,7 @@ use Rattle.std.proofs.lemmas.Result.{on_ok_weaker}
 use Rattle.lir_core.specs.declared.places.Places.{Places}
 use Rattle.lir_core.specs.Spots.{IsRising}
 use Rattle.parallel_move.specs.declared.step.Step.{Step}
-use Rattle.boundary_resolve.specs.declared.placed.Placed.TheVariants.{Edge}
+use Rattle.boundary_resolve.specs.declared.code_line.CodeLine.TheVariants.{Edge}
 use Rattle.boundary_resolve.specs.Moves.{FewRegs}
 use Rattle.boundary_resolve.proofs.Laid.{same_edge, test_is}
 use Rattle.boundary_resolve.proofs.code.Code.push_test.Goals as goal

@@ -1,5 +1,5 @@
 use Rattle.std.proofs.Common.{◌≡◌, length, drop}
-use Rattle.live_interval.specs.Asked.{need_told}
+use Rattle.trace_needs.specs.Asked.{need_told}
 use Rattle.linear_scan.specs.Policy.{from}
 use Rattle.linear_scan.specs.Starts.{with_params}
 use Rattle.linear_scan.specs.Made.{made}

@@ -1,3 +1,0 @@
-pub mod Lows
-pub mod Lives
-pub mod Frames

@@ -1,0 +1,163 @@
+-- Words appended part by part.
+use Rattle.std.proofs.Common.{◌≡◌, ℕ, zero, suc, ◌+◌, ◌<◌, ◌≤◌, ◌^◌, List, [], ◌∷◌, ◌++◌, map, length, drop, get_or, refl, arith, sym, ap, ap₂, ◌∙◌, subst}
+use Rattle.std.proofs.lemmas.List.{drop_more}
+use Rattle.run_laws.specs.Layers.{whole_width, spread}
+use Rattle.run_laws.proofs.Rows.{length-spread}
+use Rattle.a64_instr.specs.declared.instr.Instr.{Instr}
+use Rattle.a64_table.specs.Table.{word_of}
+use Rattle.block_runs.specs.declared.end.End.{End}
+use Rattle.block_runs.specs.declared.end.End.TheVariants.{Return, Jump, Branch, Nonzero, Trap}
+use Rattle.placed_code.specs.Placed.{Cell, Block, Placed, block_of, proc_of, no_procedure}
+use Rattle.placed_code.specs.Words.{copies_words, last_words}
+use Rattle.placed_code.specs.Layout.{cell_width, Placing, first_of, followed, placings, block_width, front_width, proc_width, proc_words, entry, place, routines_at, procedures_at}
+use Rattle.placed_code.proofs.Parts.{length_map}
+use Rattle.placed_code.proofs.Linking.{get_of_drop}
+use Rattle.link_words.specs.declared.frames.Frame.{Frame}
+use Rattle.link_words.specs.Frames.{frame_in, last_of, width_of_end}
+use Rattle.link_words.specs.Fields.{entry_in}
+use Rattle.link_layout.specs.Widths.{AreBlocks, ArePlaces, widths_of}
+use Rattle.link_blocks.specs.declared.plans.Plan.{Plan}
+use Rattle.link_blocks.specs.Plans.{block_in, placed_in}
+use Rattle.link_plan.specs.Parts.{entry_at, cell_code, parts_code, block_code, front_code, proc_code, IsWhole}
+use Rattle.link_plan.specs.Measured.{parts_width}
+use Rattle.link_plan.specs.Written.{AreReady, StandsAt}
+use Rattle.link_plan.proofs.Rows.{then, longer, row_more, before_and_behind}
+use Rattle.link_plan.proofs.Sizes.{cell_size, parts_size, block_size, front_size, proc_size, branch_within}
+use Rattle.link_plan.proofs.Same.{proc_is}
+use Rattle.link_plan.proofs.Measures.{frame_is}
+
+last_placed : (pr : Placed) (n : ℕ) (block : ℕ → ℕ) (k : ℕ) (end : End) (a b : ℕ) → last_of n block (frame_in pr) k end a b ≡ last_words n block pr k end a b
+last_placed pr n block k (Return x) a b = refl
+last_placed pr n block k (Jump to args) a b = refl
+last_placed pr n block k (Branch c x y one other) a b = refl
+last_placed pr n block k (Nonzero x one other) a b = refl
+last_placed pr n block k (Trap kind) a b = refl
+
+pub last_is : (plan : Plan) (n : ℕ) (block : ℕ → ℕ) (k : ℕ) (end : End) (a b : ℕ) → last_of n block plan.frame k end a b ≡ last_words n block (placed_in plan) k end a b
+last_is plan n block k end a b = ap (λ (f : Frame). last_of n block f k end a b) (sym (frame_is plan)) ∙ last_placed (placed_in plan) n block k end a b
+
+module _ (entry : ℕ → ℕ) (start : ℕ) (block : ℕ → ℕ) (plan : Plan) where
+  abbrev pr : Placed
+  pr = placed_in plan
+
+  abbrev row : ℕ → List Cell → List Instr
+  row k cells = spread (cell_code entry start pr) (cell_width pr) 0 k cells
+
+  -- how far a block's cells and the copies behind them reach
+  cells_end : (bl : Block) (w0 w1 : List ℕ) → w1 ≡ w0 ++ map word_of (row (length w0) bl.body) → length w1 ≡ length w0 + whole_width (cell_width pr) 0 bl.body
+  cells_end bl w0 w1 e = longer w0 w1 (row (length w0) bl.body) e ∙ ap (λ m. length w0 + m) (length-spread (cell_code entry start pr) (cell_width pr) (cell_size entry start block pr) 0 (length w0) bl.body)
+
+  pub end_near : (bl : Block) (n : ℕ) (w0 w1 w2 : List ℕ) → w1 ≡ w0 ++ map word_of (row (length w0) bl.body) → w2 ≡ w1 ++ map word_of (copies_words pr bl.copies) → length w0 + parts_width pr n bl ≤ 2 ^ 18 → length w2 + width_of_end n bl.end ≤ 2 ^ 18
+  end_near bl n w0 w1 w2 e f l =
+      let a = cells_end bl w0 w1 e in
+      let b = longer w1 w2 (copies_words pr bl.copies) f in
+      let c = branch_within n pr bl.end in
+      omega (arith, a, b, c, l)
+
+  pub parts_appended : (bl : Block) (n : ℕ) (w0 w1 w2 w3 : List ℕ) → w1 ≡ w0 ++ map word_of (row (length w0) bl.body) → w2 ≡ w1 ++ map word_of (copies_words pr bl.copies) → w3 ≡ w2 ++ map word_of (last_of n block plan.frame (length w2) bl.end bl.a bl.b)
+      → w3 ≡ w0 ++ map word_of (parts_code entry start block pr n (length w0) bl)
+  parts_appended bl n w0 w1 w2 w3 e f g =
+      let a = cells_end bl w0 w1 e in
+      let b = longer w1 w2 (copies_words pr bl.copies) f in
+      let k = length w0 + whole_width (cell_width pr) 0 bl.body + length (copies_words pr bl.copies) in
+      let at : length w2 ≡ k = omega (arith, a, b) in
+      let last = last_words n block pr k bl.end bl.a bl.b in
+      let g' : w3 ≡ w2 ++ map word_of last = g ∙ ap (λ (is : List Instr). w2 ++ map word_of is) (last_is plan n block (length w2) bl.end bl.a bl.b ∙ ap (λ m. last_words n block pr m bl.end bl.a bl.b) at) in
+      then (row (length w0) bl.body) (copies_words pr bl.copies ++ last) w0 w1 w3 e (then (copies_words pr bl.copies) last w1 w2 w3 f g')
+
+  -- one block more
+  pub block_more : (items order : List ℕ) (i next n : ℕ) (old new all : List ℕ) → items ≡ order → i < length items → n ≡ length pr.blocks → next ≡ first_of n (drop (i + 1) order)
+      → new ≡ old ++ map word_of (parts_code entry start block pr next (length old) (block_of pr (get_or items i 0)))
+      → old ++ map word_of (spread (block_code entry start block pr) (block_width pr) i (length old) (followed (length pr.blocks) (drop i order))) ≡ all
+      → new ++ map word_of (spread (block_code entry start block pr) (block_width pr) (i + 1) (length new) (followed (length pr.blocks) (drop (i + 1) order))) ≡ all
+  block_more items order i next n old new all same l many is e inv =
+      let l' : i < length order = subst (λ (xs : List ℕ). i < length xs) same l in
+      let at : Placing = record { number = get_or order i 0; next = first_of (length pr.blocks) (drop (i + 1) order) } in
+      let d : followed (length pr.blocks) (drop i order) ≡ at ∷ followed (length pr.blocks) (drop (i + 1) order) = ap (followed (length pr.blocks)) (drop_more order i 0 l') in
+      let e' : new ≡ old ++ map word_of (block_code entry start block pr i (length old) at) =
+      e ∙ ap₂ (λ m (xs : List ℕ). old ++ map word_of (parts_code entry start block pr m (length old) (block_of pr (get_or xs i 0)))) (is ∙ ap (λ m. first_of m (drop (i + 1) order)) many) same in
+      row_more (block_code entry start block pr) (block_width pr) (block_size entry start block pr) i (i + 1) at (followed (length pr.blocks) (drop (i + 1) order)) old new all (let z : i + 1 ≡ suc i = omega arith in z) e'
+      (sym (ap (λ (xs : List Placing). old ++ map word_of (spread (block_code entry start block pr) (block_width pr) i (length old) xs)) d) ∙ inv)
+
+  pub size_more : (items order : List ℕ) (i next n : ℕ) (old new : List ℕ) (all : ℕ) → items ≡ order → i < length items → n ≡ length pr.blocks → next ≡ first_of n (drop (i + 1) order)
+      → new ≡ old ++ map word_of (parts_code entry start block pr next (length old) (block_of pr (get_or items i 0)))
+      → length old + whole_width (block_width pr) i (followed (length pr.blocks) (drop i order)) ≡ all → length new + whole_width (block_width pr) (i + 1) (followed (length pr.blocks) (drop (i + 1) order)) ≡ all
+  size_more items order i next n old new all same l many is e inv =
+      let l' : i < length order = subst (λ (xs : List ℕ). i < length xs) same l in
+      let rest = followed (length pr.blocks) (drop (i + 1) order) in
+      let at : Placing = record { number = get_or order i 0; next = first_of (length pr.blocks) (drop (i + 1) order) } in
+      let d = ap (λ (xs : List ℕ). whole_width (block_width pr) i (followed (length pr.blocks) xs)) (drop_more order i 0 l') in
+      let z : i + 1 ≡ suc i = omega arith in
+      let m = ap (λ j. whole_width (block_width pr) j rest) z in
+      let w = longer old new (parts_code entry start block pr next (length old) (block_of pr (get_or items i 0))) e in
+      let s = parts_size entry start block pr next (length old) (block_of pr (get_or items i 0)) in
+      let t : parts_width pr next (block_of pr (get_or items i 0)) ≡ block_width pr i at =
+      ap₂ (λ q (xs : List ℕ). parts_width pr q (block_of pr (get_or xs i 0))) (is ∙ ap (λ q. first_of q (drop (i + 1) order)) many) same in
+      omega (arith, inv, d, m, w, s, t)
+
+  -- a block of the row is near
+  pub block_near : (items order : List ℕ) (i next n : ℕ) (old : List ℕ) (all : ℕ) → items ≡ order → i < length items → n ≡ length pr.blocks → next ≡ first_of n (drop (i + 1) order)
+      → length old + whole_width (block_width pr) i (followed (length pr.blocks) (drop i order)) ≡ all → all ≤ 2 ^ 18 → length old + parts_width pr next (block_of pr (get_or items i 0)) ≤ 2 ^ 18
+  block_near items order i next n old all same l many is inv few =
+      let l' : i < length order = subst (λ (xs : List ℕ). i < length xs) same l in
+      let rest = followed (length pr.blocks) (drop (i + 1) order) in
+      let at : Placing = record { number = get_or order i 0; next = first_of (length pr.blocks) (drop (i + 1) order) } in
+      let d = ap (λ (xs : List ℕ). whole_width (block_width pr) i (followed (length pr.blocks) xs)) (drop_more order i 0 l') in
+      let t : parts_width pr next (block_of pr (get_or items i 0)) ≡ block_width pr i at =
+      ap₂ (λ q (xs : List ℕ). parts_width pr q (block_of pr (get_or xs i 0))) (is ∙ ap (λ q. first_of q (drop (i + 1) order)) many) same in
+      omega (arith, inv, d, t, few)
+
+  -- a procedure's words
+  pub proc_appended : (w0 w1 w2 : List ℕ) → w1 ≡ w0 ++ map word_of (front_code block pr (length w0)) → w2 ≡ w1 ++ map word_of (spread (block_code entry start block pr) (block_width pr) 0 (length w1) (placings pr)) → w2 ≡ w0 ++ map word_of (proc_code entry start block (length w0) pr)
+  proc_appended w0 w1 w2 e f =
+      let at : length w1 ≡ length w0 + front_width pr = longer w0 w1 (front_code block pr (length w0)) e ∙ ap (λ m. length w0 + m) (front_size entry start block pr (length w0)) in
+      then (front_code block pr (length w0)) (spread (block_code entry start block pr) (block_width pr) 0 (length w0 + front_width pr) (placings pr)) w0 w1 w2 e
+      (f ∙ ap (λ m. w1 ++ map word_of (spread (block_code entry start block pr) (block_width pr) 0 m (placings pr))) at)
+
+  pub proc_long : (w0 w2 : List ℕ) → w2 ≡ w0 ++ map word_of (proc_code entry start block (length w0) pr) → length w2 ≡ length w0 + proc_width 0 pr
+  proc_long w0 w2 e = longer w0 w2 (proc_code entry start block (length w0) pr) e ∙ ap (λ m. length w0 + m) (proc_size entry start block pr (length w0) 0)
+
+-- a measured procedure's blocks in a row
+pub are_blocks : (ps : List Placed) (p place first : ℕ) (plan : Plan) (front : ℕ) (order widths : List ℕ) (count : ℕ) → proc_of ps p ≡ placed_in plan → entry ps p ≡ place → first ≡ place + front → front ≡ front_width (placed_in plan)
+    → order ≡ plan.order → widths ≡ widths_of (block_width (placed_in plan)) 0 (placings (placed_in plan)) → count ≡ length plan.blocks → AreBlocks ps p first order widths count
+are_blocks ps p place first plan front order widths count is here f g o w n =
+    let e : front_width (proc_of ps p) ≡ front_width (placed_in plan) = ap front_width is in
+    record {
+      begins = omega (arith, here, f, g, e);
+      order_is = ap (λ (q : Placed). q.order) is ∙ sym o;
+      widths_are = w ∙ ap (λ (q : Placed). widths_of (block_width q) 0 (placings q)) (sym is);
+      count_is = n ∙ sym (ap (λ (q : Placed). length q.blocks) is ∙ length_map block_in plan.blocks);
+    }
+
+pub placed_words : (ps : List Placed) (p : ℕ) (entries places : List ℕ) (routines : ℕ) (w0 w2 : List ℕ) (pr : Placed) → StandsAt ps p entries routines (length w0) pr → ArePlaces ps p places
+    → w2 ≡ w0 ++ map word_of (proc_code (entry_at entries) routines (entry_in places) (length w0) pr) → w2 ≡ w0 ++ map word_of (proc_words ps p (length w0) pr)
+placed_words ps p entries places routines w0 w2 pr at found e = e ∙ ap (λ (is : List Instr). w0 ++ map word_of is) (proc_is ps p entries places routines (length w0) pr at found)
+
+---- Procedures in a row
+
+pub place_is : (ps ys : List Placed) (i w from : ℕ) → drop i ps ≡ ys → w + whole_width proc_width i ys ≡ from + whole_width proc_width 0 ps → from ≡ procedures_at ps → entry ps i ≡ w
+place_is ps ys i w from d size here =
+    let all = before_and_behind proc_width 0 ps i in
+    let z : 0 + i ≡ i = omega arith in
+    let behind : whole_width proc_width (0 + i) (drop i ps) ≡ whole_width proc_width i ys = ap₂ (λ m (qs : List Placed). whole_width proc_width m qs) z d in
+    omega (arith, all, behind, size, here)
+
+drop_lt : {A : Type 0} (xs : List A) (n : ℕ) (x : A) (rest : List A) → drop n xs ≡ x ∷ rest → n < length xs
+drop_lt [] zero x rest e = cc
+drop_lt [] (suc n) x rest e = cc
+drop_lt (y ∷ ys) zero x rest e = omega arith
+drop_lt (y ∷ ys) (suc n) x rest e = let r = drop_lt ys n x rest e in omega (arith, r)
+
+pub stands_at : (ps rest : List Placed) (pr : Placed) (i w from : ℕ) (entries : List ℕ) (routines : ℕ) → drop i ps ≡ pr ∷ rest → w + whole_width proc_width i (pr ∷ rest) ≡ from + whole_width proc_width 0 ps → AreReady ps entries routines from → StandsAt ps i entries routines w pr
+stands_at ps rest pr i w from entries routines d size ready =
+    let is : proc_of ps i ≡ pr = get_of_drop ps i no_procedure pr rest d in
+    record {
+      proc = is;
+      here = place_is ps (pr ∷ rest) i w from d size ready.here;
+      entries_are = ready.entries_are;
+      routines_are = ready.routines_are;
+      whole = subst IsWhole is (ready.whole i (drop_lt ps i pr rest d));
+    }
+
+pub procs_size : (ps : List Placed) (j k : ℕ) (pr : Placed) → length (proc_words ps j k pr) ≡ proc_width j pr
+procs_size ps j k pr = proc_size (entry ps) (routines_at ps) (λ t. place ps j t 0) pr k j

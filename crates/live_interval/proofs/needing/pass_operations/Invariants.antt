@@ -1,7 +1,0 @@
-use Rattle.std.proofs.Common.{◌≡◌, drop, map}
-use Rattle.live_interval.specs.Needs.{at_operation}
-use Rattle.live_interval.specs.Tables.{needed, passed_all}
-use Rattle.live_interval.proofs.needing.pass_operations.Given as goal
-
-abbrev pub invariant-loop-lir : goal.invariant-loop-lir
-invariant-loop-lir l = passed_all needed (map at_operation (drop l.lir-index l.lirs)) l.table ≡ passed_all needed (map at_operation l.lirs) l.initial.table

@@ -1,0 +1,73 @@
+//! The plain result for a trace.
+
+ghost use Rattle.std.specs.Prelude.{◌≡◌, ℕ, ◌<◌, ◌≤◌, length, IfOk, OnOk};
+ghost use Rattle.global_live.specs.Reading.{HasLive};
+ghost use Rattle.lir_core.specs.Flows.{IsValidFlow, IsTrace, code_nodes};
+ghost use Rattle.lir_core.specs.Sound.{IsSound, EndsRise};
+ghost use Rattle.simple_policies.specs.plain.Plain.{plain_of};
+ghost use Rattle.simple_policies.specs.plain.Parts.{ArePushed};
+
+use crate::plain::homed::{end, start};
+use crate::plain::lines::Written;
+use lir_core::{Items, Line, Places, RegisterList, TraceIn, TraceOut};
+use outside::Memory;
+use std::alloc::Global;
+
+/// The plain result for a trace: every value is in its home between operations. Takes time in proportion to the trace's
+/// code, and for each of its nodes to the flow's values.
+pub fn plain(alloc: Global, t: &TraceIn) -> Result<TraceOut, Memory>
+    ensures result_is { IsTrace (code_nodes t.now.flow.now.nodes) t.now.trace.now.nodes
+        → IfOk result (λ out. out ≡ plain_of t.now.regs t.now.flow.now t.now.live.now t.now.number t.now.trace.now.nodes) }
+    ensures sound { IsValidFlow t.now.flow.now → HasLive t.now.flow.now t.now.live.now → IsTrace (code_nodes t.now.flow.now.nodes) t.now.trace.now.nodes → 4 ≤ t.now.regs
+        → IfOk result (λ out. IsSound t.now.regs t.now.flow.now t.now.trace.now out) }
+    ensures rises { IsTrace (code_nodes t.now.flow.now.nodes) t.now.trace.now.nodes → IfOk result EndsRise }
+{
+    let mut parts = Parts {
+        starts: Vec::new(alloc),
+        ends: Vec::new(alloc),
+        lines: Vec::new(alloc),
+        regs: Vec::new(alloc),
+    };
+    for number in t.trace.nodes.as_slice() {
+        parts.push(alloc, t, *number)?;
+    }
+    let Parts {
+        starts,
+        ends,
+        lines,
+        regs,
+    } = parts;
+    Ok(TraceOut {
+        trace: t.number,
+        starts: Items::from_vec(starts),
+        ends: Items::from_vec(ends),
+        lines: Items::from_vec(lines),
+        regs: Items::from_vec(regs),
+    })
+}
+
+/// What is written for the nodes so far.
+#[derive(Drop)]
+struct Parts {
+    starts: Vec<Places>,
+    ends: Vec<Places>,
+    lines: Vec<Items<Line>>,
+    regs: Vec<RegisterList>,
+}
+
+impl Parts {
+    fn push(&mut self, alloc: Global, t: &TraceIn, number: u32) -> Result<(), Memory>
+        ensures { number < length t.now.flow.now.nodes → OnOk result (ArePushed t.now number self.old self.new) }
+    {
+        let Some(node) = t.flow.nodes.as_slice().get(number as usize) else {
+            return Ok(());
+        };
+        let Written { lines, regs } = Written::of(alloc, node)?;
+        self.starts.push(start(alloc, t, number, node)?)?;
+        self.ends.push(end(alloc, t, &node.end)?)?;
+        self.lines.push(Items::from_vec(lines))?;
+        self.regs
+            .push(RegisterList::from_slice(alloc, regs.as_slice())?)?;
+        Ok(())
+    }
+}

@@ -1,0 +1,4 @@
+pub mod Halving
+pub mod Joining
+pub mod Search
+pub mod Whole

@@ -1,0 +1,7 @@
+use Rattle.std.proofs.Common.{◌≡◌, drop, map}
+use Rattle.trace_needs.specs.Needs.{at_operation}
+use Rattle.trace_needs.specs.Tables.{needed, passed_all}
+use Rattle.trace_needs.proofs.needing.pass_operations.Given as goal
+
+abbrev pub invariant-loop-lir : goal.invariant-loop-lir
+invariant-loop-lir l = passed_all needed (map at_operation (drop l.lir-index l.lirs)) l.table ≡ passed_all needed (map at_operation l.lirs) l.initial.table
