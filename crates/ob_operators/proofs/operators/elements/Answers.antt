@@ -4,7 +4,7 @@ use Rattle.std.proofs.lemmas.Bool.Decides.{nat_tests}
 use Rattle.wrapping_numbers.specs.Numbers.{sub64}
 use Rattle.wrapping_numbers.specs.Shifts.{lsr64}
 use Rattle.wrapping_numbers.proofs.Elements.{span_closed}
-use Rattle.check_expressions.proofs.folding.operators.elements.Goals as goal
+use Rattle.ob_operators.proofs.operators.elements.Goals as goal
 
 behind : (b : ℕ) → b < 64 → 63 - b ≡ sub64 63 b
 behind b l = omega (arith, l)
