@@ -9,7 +9,7 @@ use Rattle.ssa_core.specs.declared.procedure.Block.{Block}
 use Rattle.ssa_core.specs.declared.procedure.Proc.{Proc}
 use Rattle.ssa_core.specs.Procedures.{operation_of, code_blocks}
 use Rattle.ssa_core.specs.Validity.{most}
-use Rattle.short_procedures.specs.Sizes.{blocks_short, is_short}
+use Rattle.program_image.specs.Sizes.{blocks_short, is_short}
 
 -- how large the blocks from a number on are
 abbrev ahead : List Block → ℕ → ℕ

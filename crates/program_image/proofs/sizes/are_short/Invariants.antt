@@ -1,7 +1,7 @@
 use Rattle.std.proofs.Common.{◌≡◌, drop, length}
 use Rattle.std.specs.List.{list_all}
-use Rattle.short_procedures.specs.Sizes.{is_short}
-use Rattle.short_procedures.proofs.sizes.are_short.Given as goal
+use Rattle.program_image.specs.Sizes.{is_short}
+use Rattle.program_image.proofs.sizes.are_short.Given as goal
 
 abbrev pub invariant-loop-procedure : goal.invariant-loop-procedure
 invariant-loop-procedure l = record {

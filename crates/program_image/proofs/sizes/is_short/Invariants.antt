@@ -2,7 +2,7 @@ use Rattle.std.proofs.Common.{◌≡◌, ◌+◌, drop, length}
 use Rattle.block_runs.specs.Valid.{size_of}
 use Rattle.ssa_core.specs.Procedures.{code_blocks}
 use Rattle.ssa_core.specs.Validity.{most}
-use Rattle.short_procedures.proofs.sizes.is_short.Given as goal
+use Rattle.program_image.proofs.sizes.is_short.Given as goal
 
 -- what is left, and how large the blocks ahead are
 abbrev pub invariant-loop-block : goal.invariant-loop-block

@@ -1,8 +1,8 @@
-//! How large procedures are.
+//! Whether procedures are short enough to be valid. The count stops as soon as there are too many blocks and operations.
 
 ghost use Rattle.std.specs.Prelude.{◌≡◌};
 ghost use Rattle.std.specs.List.{list_all};
-ghost use Rattle.short_procedures.specs.Sizes.{is_short, blocks_short};
+ghost use Rattle.program_image.specs.Sizes.{is_short, blocks_short};
 
 use ssa_core::{Block, Proc};
 
