@@ -22,9 +22,9 @@ use Rattle.block_runs.specs.Compares.{compares}
 use Rattle.block_runs.specs.Effects.{char_bytes, Effect, Gives, Does, Calls, Begins, Fails, Faults, effect_of}
 use Rattle.block_runs.specs.Steps.{set_all, define, behind, at_block, rest_of, answered, resumed, first_frame, taken, freed, enter, goes_back, may_call, called, operate, leave, perform, moved_to, moved, char_at, compared, work_on, begin, step, block_system}
 use Rattle.block_runs.specs.Points.{least}
-use Rattle.ssa_laws.specs.Contents.{frame_with, enter_with, step_with, system_with, AgreeOn, AgreeAll, HasArguments, Agree}
-use Rattle.ssa_laws.specs.Contents.AgreeAll.{NoCall, OneMore}
-use Rattle.ssa_laws.specs.Contents.Agree.{BetweenBodies, AtEntry, InCall, InRoutine}
+use Rattle.lowered_valid.specs.Contents.{frame_with, enter_with, step_with, system_with, AgreeOn, AgreeAll, HasArguments, Agree}
+use Rattle.lowered_valid.specs.Contents.AgreeAll.{NoCall, OneMore}
+use Rattle.lowered_valid.specs.Contents.Agree.{BetweenBodies, AtEntry, InCall, InRoutine}
 
 ---- Lists of numbers
 

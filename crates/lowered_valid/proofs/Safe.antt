@@ -9,8 +9,8 @@ use Rattle.block_runs.specs.Live.Live.{Here, Later}
 use Rattle.ssa_core.specs.declared.procedure.Proc.{Proc}
 use Rattle.ssa_core.specs.Procedures.{procedure, procedures}
 use Rattle.ssa_core.specs.Validity.{IsValid}
-use Rattle.ssa_laws.specs.Contents.{IsBare}
-use Rattle.ssa_laws.proofs.Stepping.{IsSafe}
+use Rattle.lowered_valid.specs.Contents.{IsBare}
+use Rattle.lowered_valid.proofs.Stepping.{IsSafe}
 
 one_safe : (p : Proc) → IsValid p → IsBare p → IsSafe (procedure p)
 one_safe p valid bare = record {
