@@ -5,7 +5,7 @@ use Rattle.std.proofs.lemmas.List.{length-take}
 use Rattle.std.proofs.lemmas.Bool.{eqb-true}
 use Rattle.std.specs.Prelude.{if◌then◌else◌}
 use Rattle.ob_judge.specs.Scopes.{line_ends}
-use Rattle.fault_lines.specs.Places.{last_line}
+use Rattle.trc_answers.specs.Places.{last_line}
 
 pub ends_push : (w : List ℕ) (b : ℕ) → line_ends (w ++ b ∷ []) ≡ line_ends w + line_ends (b ∷ [])
 ends_push [] b = omega arith

@@ -1,7 +1,7 @@
 //! Names of rules and limits.
 
 ghost use Rattle.std.specs.Prelude.{◌≡◌};
-ghost use Rattle.fault_lines.specs.Names.{name_of_rule, name_of_limit};
+ghost use Rattle.trc_answers.specs.Names.{name_of_rule, name_of_limit};
 
 /// How a rule of the language is called, by its number; no bytes where no rule has the number.
 pub fn rule_name(number: u8) -> &'static [u8]

@@ -1,7 +1,7 @@
 use Rattle.std.proofs.Common.{arith, take}
 use Rattle.std.proofs.lemmas.Grind.{common_steps}
-use Rattle.fault_lines.proofs.LastLines.{lines_few, columns_few, behind_end, behind_other}
-use Rattle.fault_lines.proofs.places.position_of.Goals as goal
+use Rattle.trc_answers.proofs.LastLines.{lines_few, columns_few, behind_end, behind_other}
+use Rattle.trc_answers.proofs.places.position_of.Goals as goal
 
 pub overflow_add-place : goal.overflow_add-place
 overflow_add-place c = grind (arith, common_steps, lines_few (take c.min.result c.args.text.now) c.loop-byte.byte-index)

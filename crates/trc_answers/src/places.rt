@@ -2,7 +2,7 @@
 
 ghost use Rattle.std.specs.Prelude.{◌≡◌, suc, length, take};
 ghost use Rattle.ob_judge.specs.Scopes.{line_ends};
-ghost use Rattle.fault_lines.specs.Places.{last_line};
+ghost use Rattle.trc_answers.specs.Places.{last_line};
 
 /// A line and a column, each counted from 1.
 #[derive(Clone, Copy)]

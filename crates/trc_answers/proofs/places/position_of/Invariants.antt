@@ -1,7 +1,7 @@
 use Rattle.std.proofs.Common.{◌≡◌, suc, length, take}
 use Rattle.ob_judge.specs.Scopes.{line_ends}
-use Rattle.fault_lines.specs.Places.{last_line}
-use Rattle.fault_lines.proofs.places.position_of.Given as goal
+use Rattle.trc_answers.specs.Places.{last_line}
+use Rattle.trc_answers.proofs.places.position_of.Given as goal
 
 -- the bytes so far
 abbrev pub invariant-loop-byte : goal.invariant-loop-byte
