@@ -3,7 +3,6 @@
 //! It takes a number of turns. The first `enter`, or that of a chosen trace, is held until another worker is inside, or
 //! until the turns are over; `met` tells which. No clause speaks of it: that a second worker comes is for the system's
 //! threads to do. It is bounded by its turns, so it waits for nothing.
-#![tactic(auto)]
 
 use outside::Gate;
 use std::sync::atomic::{AtomicBool, AtomicU64, Ordering};
