@@ -2,7 +2,7 @@
 
 ghost use Rattle.std.specs.Prelude.{◌≡◌, ℕ, ◌+◌, ◌<◌, ◌≤◌, Option, Some, None, [], ◌∷◌, slice_index, OnOk, IfOk};
 ghost use Rattle.wrapping_numbers.specs.Numbers.{unsigned};
-ghost use Rattle.block_runs.specs.declared.end.End.TheVariants.{Jump, Nonzero};
+ghost use Rattle.block_runs.specs.declared.end.End.TheVariants.{Jump};
 ghost use Rattle.ob_types.specs.declared.program.Program.{Program};
 ghost use Rattle.ssa_lowered.specs.Control.{fork_branch};
 ghost use Rattle.ssa_lowered.specs.Lowered.{Here};
@@ -16,7 +16,7 @@ ghost use Rattle.ssa_statements.specs.Rungs.{label_in, choice_in, rungs_in};
 use crate::control::Frame;
 use block_runs::{Code, End, Numbers};
 use ob_types::Label;
-use ssa_exprs::{LowerFault, Making, Tables, half, is_pointer, is_tag};
+use ssa_exprs::{LowerFault, Making, Tables, fork, half, is_pointer, is_tag};
 
 /// What a part of CASE is chosen by.
 #[derive(Clone, Copy)]
@@ -77,14 +77,6 @@ fn related(
     Ok(())
 }
 
-/// The open block ends with a test of a value.
-fn decided(b: &mut Making, a: u32, yes: u32, no: u32, next: u64) -> Result<(), LowerFault>
-    ensures { OnOk result (b.new ≡ closed b.old (Nonzero a yes no) 0 next None) }
-{
-    b.close(End::Nonzero { a, yes, no }, 0, next, None)?;
-    Ok(())
-}
-
 /// Whether the value is one of a label's.
 fn labelled(
     b: &mut Making,
@@ -132,12 +124,12 @@ fn tested(
         }
         Choice::Pointer(r) => {
             let a = is_pointer(b, t.descriptor(*r), t.level(*r), v)?;
-            decided(b, a, yes, no, next)?;
+            fork(b, a, yes, no, next)?;
             Ok(())
         }
         Choice::Parameter(r) => {
             let a = is_tag(b, t.descriptor(*r), t.level(*r), v)?;
-            decided(b, a, yes, no, next)?;
+            fork(b, a, yes, no, next)?;
             Ok(())
         }
     }
