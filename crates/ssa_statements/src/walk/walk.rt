@@ -18,11 +18,11 @@ use crate::simple::{
     advance, alter, assert, assign, copy_array, copy_record, in_char, invoke, make, out_char,
     out_int, out_line, out_string, reached, step,
 };
-use crate::walk::joins::{of_body, of_branches, of_cases, of_count, of_guards, of_types};
+use crate::walk::joins::{of_body, of_branches, of_cases, of_types};
 use crate::walk::rungs::{self, Dynamic};
 use block_runs::Numbers;
 use ob_types::{Binary, Branch, CasePart, Checked, Designator, ForLoop, Stmt, TypePart};
-use ssa_assigned::note_all;
+use ssa_assigned::{note_all, note_whole};
 use ssa_exprs::{LowerFault, Making, Tables, cond, designated, half, second, value};
 
 /// Statements, one after the other.
@@ -157,7 +157,7 @@ fn alternative(
 fn looped(t: &Tables, b: &mut Making, parts: &[Branch]) -> Result<(), LowerFault>
     ensures { OnOk result ((p : Program) (here : Here) → Serves t.now p here → Steps b.old b.new (loop_in p here parts.now)) }
 {
-    let vars = of_guards(t, b, parts)?;
+    let vars = of_branches(t, b, parts, &[])?;
     let outside = b.freq();
     let header = head(b, vars.as_slice())?;
     let inside = b.freq();
@@ -198,7 +198,7 @@ fn turn(
 fn repeated(t: &Tables, b: &mut Making, body: &[Stmt], x: &Checked) -> Result<(), LowerFault>
     ensures { OnOk result ((p : Program) (here : Here) → Serves t.now p here → Steps b.old b.new (repeat_in p here body.now x.now)) }
 {
-    let vars = of_body(t, b, body)?;
+    let vars = of_body(t, b, body, &[])?;
     let outside = b.freq();
     let header = head(b, vars.as_slice())?;
     let inside = b.freq();
@@ -224,7 +224,9 @@ fn counted(
 ) -> Result<(), LowerFault>
     ensures { OnOk result ((p : Program) (here : Here) → Serves t.now p here → Steps b.old b.new (count_in p here variable.now step body.now last)) }
 {
-    let vars = of_count(t, b, variable, body)?;
+    let mut assigned = Vec::new(b.allocator());
+    note_whole(variable, &mut assigned)?;
+    let vars = of_body(t, b, body, assigned.as_slice())?;
     let outside = b.freq();
     let header = head(b, vars.as_slice())?;
     let moment = b.moment();

@@ -1,12 +1,7 @@
-use Rattle.std.proofs.Common.{◌≡◌, ◌∙◌, ◌||◌, Bool, true, false, refl, ap, sym}
+use Rattle.std.proofs.Common.{◌∙◌, ◌||◌, ap, sym}
 use Rattle.ssa_assigned.specs.Assigned.{has, assigned_parts}
+use Rattle.ssa_statements.proofs.walk.Joined.{or_turned}
 use Rattle.ssa_statements.proofs.walk.joins.of_branches.Goals as goal
-
-or_turned : (a b : Bool) → (a || b) ≡ (b || a)
-or_turned true true = refl
-or_turned true false = refl
-or_turned false true = refl
-or_turned false false = refl
 
 pub returns : goal.returns
 returns c = λ p here s rest mask r e env len. c.in_ok-list.ensures p here s mask

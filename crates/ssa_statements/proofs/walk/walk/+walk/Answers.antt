@@ -10,7 +10,7 @@ use Rattle.ob_types.specs.declared.statements.CasePart.{CasePart}
 use Rattle.ob_types.specs.declared.statements.TypePart.{TypePart}
 use Rattle.ssa_lowered.specs.Control.{half}
 use Rattle.ssa_lowered.specs.Pieces.{◌>>=◌, picked}
-use Rattle.ssa_lowered.specs.Variables.{either, itself}
+use Rattle.ssa_lowered.specs.Variables.{either, itself, none}
 use Rattle.ssa_exprs.specs.Changes.{chosen, values_of}
 use Rattle.ssa_exprs.specs.Making.{View, Known, asked, bound}
 use Rattle.ssa_exprs.proofs.Chains.{tests_at}
@@ -19,7 +19,7 @@ use Rattle.ssa_exprs.proofs.Forks.{tests_as}
 use Rattle.ssa_exprs.proofs.Parts.{gives_tag_of}
 use Rattle.ssa_assigned.specs.Assigned.{has, assigned_list, assigned_parts, assigned_cases, assigned_types}
 use Rattle.ssa_assigned.specs.Registers.{registers_in}
-use Rattle.ssa_assigned.proofs.Noting.{or_assoc}
+use Rattle.ssa_assigned.proofs.Noting.{or_assoc, or_false}
 use Rattle.ssa_statements.specs.declared.control.Frame.{Frame}
 use Rattle.ssa_statements.specs.Cases.{Climbs}
 use Rattle.ssa_statements.specs.Meeting.{Jumps, Heads, FinishesAll, reached_in, advance_in}
@@ -32,6 +32,7 @@ use Rattle.ssa_statements.specs.declared.walk.rungs.Dynamic.TheVariants.{Pointer
 use Rattle.ssa_statements.specs.walk.Frames.{Takes}
 use Rattle.ssa_statements.specs.walk.Lists.{deeds_in, alternatives_in, rounds_in, loop_in, repeat_in, count_in, case_in, types_in, case_bodies_in, type_bodies_in}
 use Rattle.ssa_statements.specs.walk.Rungs.{coded_cases, coded_types}
+use Rattle.ssa_statements.proofs.walk.Joined.{or_turned}
 use Rattle.ssa_statements.proofs.walk.Making.{doing_more, doing_end, steps_passed, opens_all, alternatives_step, turns_all, turning_more, headed_many, looped_all, one_round, repeated_all, takes_end, takes_next, case_all, below_cases, below_types, finishes_none}
 use Rattle.ssa_statements.proofs.walk.Rows.{deed_if, deed_while, deed_repeat, steps_count, steps_case_on, steps_case_pointer, steps_case_parameter}
 use Rattle.ssa_statements.proofs.walk.walk.+walk.Goals as goal
@@ -181,7 +182,7 @@ pub looped-returns : goal.looped-returns
 looped-returns t c = λ p here s.
     let all = c.args.parts.now in
     let mask = registers_in p here (assigned_parts all) in
-    let joined_by = c.in_ok-vars.ensures p here s in
+    let joined_by = c.in_ok-vars.ensures p here s none (assigned_parts all) (λ x. refl) (λ x. or_false (assigned_parts all x)) in
     let xs = c.in_ok-vars.vars.items in
     let heads = subst (λ l. Heads c.args.b.now c.head.new.b c.in_ok-header.header l) c.as_slice.ensures.value c.in_ok-header.ensures in
     let before = c.loop-i.invariant p here s mask (joined_by c.head.new.b.known.env (headed_many c.in_ok-header.header xs heads)) in
@@ -202,7 +203,7 @@ repeated-returns t c = λ p here s.
     let two = c.in_ok-no.ensures.given ∙ ap asked c.in_ok-yes.ensures.given in
     let xs = c.in_ok-vars.vars.items in
     let heads = subst (λ l. Heads c.args.b.now c.head.new.b c.in_ok-header.header l) c.as_slice.ensures.value c.in_ok-header.ensures in
-    repeated_all (registers_in p here (assigned_list c.args.body.now)) c.in_ok-header.header c.freq-outside.result c.freq-inside.result c.in_ok-yes.yes c.in_ok-no.no xs heads (c.in_ok-vars.ensures p here s c.args.b.now.known.env refl)
+    repeated_all (registers_in p here (assigned_list c.args.body.now)) c.in_ok-header.header c.freq-outside.result c.freq-inside.result c.in_ok-yes.yes c.in_ok-no.no xs heads (c.in_ok-vars.ensures p here s none (assigned_list c.args.body.now) (λ x. refl) (λ x. or_false (assigned_list c.args.body.now x)) c.args.b.now.known.env refl)
     c.freq-outside.ensures c.freq-inside.ensures (c.in_ok-statements.ensures p here s) c.in_ok-yes.ensures.number (c.in_ok-no.ensures.number ∙ ap (λ (v : View). v.labels) c.in_ok-yes.ensures.given)
     (tests_at two refl refl refl (c.in_ok-cond.ensures p here s))
     (subst (λ v. Jumps v c.jump.new.b c.in_ok-header.header xs c.freq-outside.result) c.in_ok-bind.ensures (subst (λ l. Jumps c.bind.new.self c.jump.new.b c.in_ok-header.header l c.freq-outside.result) c.as_slice-2.ensures.value c.in_ok-jump.ensures))
@@ -215,15 +216,17 @@ counted-returns t c = λ p here s.
     let body = c.args.body.now in
     let mask = registers_in p here (either (itself d) (assigned_list body)) in
     let xs = c.in_ok-vars.vars.items in
+    let joined_by = c.in_ok-vars.ensures p here s (itself d) (either (itself d) (assigned_list body))
+    (λ x. ap (λ l. has l x) c.as_slice.ensures.value ∙ c.in_ok-note_whole.ensures x ∙ ap (λ l. has l x || itself d x) c.new-assigned.ensures.items) (λ x. or_turned (assigned_list body x) (itself d x)) in
     let two = c.in_ok-no.ensures.given ∙ ap asked c.in_ok-yes.ensures.given in
-    let heads = subst (λ l. Heads c.args.b.now c.head.new.b c.in_ok-header.header l) c.as_slice.ensures.value c.in_ok-header.ensures in
+    let heads = subst (λ l. Heads c.args.b.now c.head.new.b c.in_ok-header.header l) c.as_slice-2.ensures.value c.in_ok-header.ensures in
     let test = tests_at two refl refl (ap (λ (v : View). v.freq) two) (tests_as (ap (reached_in p here d c.args.last) (sym same)) (c.in_ok-reached.ensures p here s)) in
     let done = steps_on (c.in_ok-statements.ensures p here s) (steps_as (ap (advance_in p here d) (sym same)) (c.in_ok-advance.ensures p here s)) in
     let turned = turns_all c.in_ok-header.header xs c.freq-outside.result c.in_ok-yes.yes c.in_ok-no.no c.head.new.b.freq c.moment-moment.result refl c.moment-moment.ensures
     c.in_ok-yes.ensures.number (c.in_ok-no.ensures.number ∙ ap (λ (v : View). v.labels) c.in_ok-yes.ensures.given) test (steps_from c.in_ok-bind.ensures done)
-    (subst (λ l. Jumps c.advance.new.b c.jump.new.b c.in_ok-header.header l c.freq-outside.result) c.as_slice-2.ensures.value c.in_ok-jump.ensures) (c.in_ok-bind-2.ensures ∙ ap (λ k. bound k c.in_ok-no.no) c.back.ensures) in
-    looped_all mask c.in_ok-header.header c.freq-outside.result xs _ heads (c.in_ok-vars.ensures p here s c.args.b.now.known.env refl) c.freq-outside.ensures
-    (one_round mask c.in_ok-header.header c.freq-outside.result xs (record { test = reached_in p here d c.args.last c.args.step; body = deeds_in p here body >>= λ _. advance_in p here d c.args.step }) turned (c.in_ok-vars.ensures p here s c.head.new.b.known.env (headed_many c.in_ok-header.header xs heads)))
+    (subst (λ l. Jumps c.advance.new.b c.jump.new.b c.in_ok-header.header l c.freq-outside.result) c.as_slice-3.ensures.value c.in_ok-jump.ensures) (c.in_ok-bind-2.ensures ∙ ap (λ k. bound k c.in_ok-no.no) c.back.ensures) in
+    looped_all mask c.in_ok-header.header c.freq-outside.result xs _ heads (joined_by c.args.b.now.known.env refl) c.freq-outside.ensures
+    (one_round mask c.in_ok-header.header c.freq-outside.result xs (record { test = reached_in p here d c.args.last c.args.step; body = deeds_in p here body >>= λ _. advance_in p here d c.args.step }) turned (joined_by c.head.new.b.known.env (headed_many c.in_ok-header.header xs heads)))
 
 pub case-returns : goal.case-returns
 case-returns t c = on_ok_weaker c.leave_parts.result (λ fin p here s.
