@@ -8,7 +8,7 @@
 //! places that the tables say (`constants`).
 #![tactic(auto)]
 
-mod constants;
+pub mod constants;
 mod fields;
 mod globals;
 mod laws;
