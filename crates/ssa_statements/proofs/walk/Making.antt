@@ -26,11 +26,12 @@ use Rattle.ssa_exprs.proofs.Changes.{undoes_none}
 use Rattle.ssa_assigned.specs.Assigned.{assigned_list, assigned_parts}
 use Rattle.ssa_assigned.specs.Registers.{registers_in}
 use Rattle.ssa_statements.specs.declared.control.Frame.{Frame}
-use Rattle.ssa_statements.specs.Cases.{as_ladder, AllBelow, Climbs, ends, entered, Enters, Leaves, Parts}
+use Rattle.ssa_statements.specs.Cases.{as_ladder, AllBelow, Climbs, OpensCase, ends, entered, Enters, Leaves, Parts}
 use Rattle.ssa_statements.specs.Meeting.{Jumps, Heads, Finishes, FinishesAll}
 use Rattle.ssa_statements.specs.Parts.{left, met, headed}
 use Rattle.ssa_statements.specs.Steps.{Steps, Rounds, deed_in}
 use Rattle.ssa_statements.specs.Rungs.{rungs_in}
+use Rattle.ssa_statements.specs.declared.cases.Opened.{Opened}
 use Rattle.ssa_statements.specs.declared.cases.Rung.{Rung as Coded}
 use Rattle.ssa_statements.proofs.Choose.{steps_choose}
 use Rattle.ssa_statements.proofs.Choosing.{same_rungs, steps_case}
@@ -213,18 +214,17 @@ numbers_at first (suc n) zero lt = omega arith
 numbers_at first (suc n) (suc i) lt = numbers_at (suc first) n i (omega (arith, lt)) ∙ omega arith
 
 -- CASE, from what the code made
-pub case_all : {v g u u1 w : View} {rungs : List Rung} {bodies : List Deed} (mask : Mask) (unmatched : ℕ → List ℕ → End) (f : Frame) (starts : List ℕ) (leave last by : Option (List ℕ)) (n often_last : ℕ)
-    → n ≡ length bodies → g ≡ record v { labels = suc (v.labels + n) } → starts ≡ numbers v.labels n
-    → f.out ≡ v.labels + n → f.vars.items ≡ chosen mask 0 v.known.env → f.moment ≡ length v.known.log → f.freq ≡ v.freq → often_last ≡ half v.freq
-    → Climbs g u often_last (λ i. slice_index starts i) rungs → AllBelow (length bodies) rungs → Takes u u1 f leave last starts 0 bodies → Leaves f u1 w last
+pub case_all : {v u u1 w : View} {xs : List ℕ} {n : ℕ} {rungs : List Rung} {bodies : List Deed} (mask : Mask) (unmatched : ℕ → List ℕ → End) (o : Opened) (leave last by : Option (List ℕ))
+    → n ≡ length bodies → OpensCase v u o xs n rungs → xs ≡ chosen mask 0 v.known.env
+    → AllBelow (length bodies) rungs → Takes u u1 o.frame leave last o.starts.items 0 bodies → Leaves o.frame u1 w last
     → (λ out. unmatched out (picked mask v.known.env)) ≡ ends by → (u.over ≡ None → leave ≡ by) → Steps v w (case mask rungs bodies unmatched)
-case_all {v} {g} {u} {u1} {w} {rungs} {bodies} mask unmatched f starts leave last by n often_last en eg es eo vars em ef eh x few taken fin ends_by same_end =
-    let at : (i : ℕ) → i < length bodies → slice_index starts i ≡ v.labels + i = λ i lt. ap (λ l. slice_index l i) es ∙ numbers_at v.labels n i (omega (arith, lt, en)) in
-    let g_is : g ≡ record v { labels = suc (v.labels + length bodies) } = eg ∙ ap (λ k. record v { labels = suc (v.labels + k) }) en in
-    let out_is : f.out ≡ v.labels + length bodies = eo ∙ ap (λ k. v.labels + k) en in
-    let climbs = climbs_as (length bodies) (λ i. slice_index starts i) (λ i. v.labels + i) rungs few (λ i lt. sym (at i lt)) (subst (λ k. Climbs k u (half v.freq) (λ i. slice_index starts i) rungs) g_is (subst (λ q. Climbs g u q (λ i. slice_index starts i) rungs) eh x)) in
+case_all {v} {u} {u1} {w} {xs} {n} {rungs} {bodies} mask unmatched o leave last by en x vars few taken fin ends_by same_end =
+    let starts = o.starts.items in
+    let at : (i : ℕ) → i < length bodies → slice_index starts i ≡ v.labels + i = λ i lt. ap (λ l. slice_index l i) x.starts ∙ numbers_at v.labels n i (omega (arith, lt, en)) in
+    let out_is : o.frame.out ≡ v.labels + length bodies = x.out ∙ ap (λ k. v.labels + k) en in
+    let climbs = climbs_as (length bodies) (λ i. slice_index starts i) (λ i. v.labels + i) rungs few (λ i lt. sym (at i lt)) (subst (λ k. Climbs (record v { labels = suc (v.labels + k) }) u (half v.freq) (λ i. slice_index starts i) rungs) en x.climbs) in
     let know : Undoes v.known u.known = undoes_same climbs.known in
-    let parts = taken.by v w mask v.labels vars em ef (λ j lt. (let e : 0 + j ≡ j = omega arith in ap (slice_index starts) e) ∙ at j lt) know fin in
+    let parts = taken.by v w mask v.labels (x.vars ∙ vars) x.moment x.freq (λ j lt. (let e : 0 + j ≡ j = omega arith in ap (slice_index starts) e) ∙ at j lt) know fin in
     steps_case v u w mask rungs bodies unmatched leave by climbs (subst (λ k. Parts v u w mask leave k v.labels bodies) out_is parts) few ends_by same_end
 
 module _ (p : Program) (here : Here) (v : ℕ) where

@@ -12,7 +12,7 @@ ghost use Rattle.ssa_statements.specs.walk.Lists.{deeds_in, alternatives_in, rou
 ghost use Rattle.ssa_statements.specs.walk.Lists.{repeat_in, count_in, case_in, types_in, case_bodies_in, type_bodies_in};
 ghost use Rattle.ssa_statements.specs.walk.Frames.{Opens, Turns, Takes};
 
-use crate::cases::{enter_part, freq_behind, label_at, labels, ladder, leave_parts};
+use crate::cases::{enter_part, freq_behind, label_at, leave_parts, open_parts};
 use crate::control::{Frame, finish, head, jump};
 use crate::simple::{
     advance, alter, assert, assign, copy_array, copy_record, in_char, invoke, make, out_char,
@@ -249,19 +249,10 @@ fn case(t: &Tables, b: &mut Making, parts: &[CasePart], v: u32) -> Result<(), Lo
 {
     let vars = of_cases(t, b, parts)?;
     let tests = rungs::of_cases(b.allocator(), parts)?;
-    let freq = b.freq();
-    let moment = b.moment();
-    let starts = labels(b, parts.len())?;
-    let out = b.label()?;
-    let frame = Frame {
-        out,
-        vars,
-        moment,
-        freq,
-    };
-    ladder(t, b, v, tests.as_slice(), starts.as_slice(), half(freq))?;
-    let leave = case_parts(t, b, parts, None, &frame, starts.as_slice())?;
-    leave_parts(b, leave, &frame)
+    let opened = open_parts(t, b, v, tests.as_slice(), parts.len(), vars)?;
+    let starts = opened.starts.as_slice();
+    let leave = case_parts(t, b, parts, None, &opened.frame, starts)?;
+    leave_parts(b, leave, &opened.frame)
 }
 
 /// The parts of CASE; the result is how the last one's block ends.
@@ -299,20 +290,11 @@ fn case_types(
 {
     let vars = of_types(t, b, parts)?;
     let tests = rungs::of_types(b.allocator(), kind, parts)?;
-    let freq = b.freq();
-    let moment = b.moment();
-    let starts = labels(b, parts.len())?;
-    let out = b.label()?;
-    let frame = Frame {
-        out,
-        vars,
-        moment,
-        freq,
-    };
-    ladder(t, b, v, tests.as_slice(), starts.as_slice(), half(freq))?;
-    let unmatched = b.picked(frame.vars.as_slice())?;
-    let leave = type_parts(t, b, parts, Some(unmatched), &frame, starts.as_slice())?;
-    leave_parts(b, leave, &frame)
+    let opened = open_parts(t, b, v, tests.as_slice(), parts.len(), vars)?;
+    let unmatched = b.picked(opened.frame.vars.as_slice())?;
+    let starts = opened.starts.as_slice();
+    let leave = type_parts(t, b, parts, Some(unmatched), &opened.frame, starts)?;
+    leave_parts(b, leave, &opened.frame)
 }
 
 /// The parts of CASE on types; the result is how the last one's block ends.

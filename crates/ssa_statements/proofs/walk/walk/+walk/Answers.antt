@@ -1,5 +1,5 @@
 use Rattle.std.proofs.Common.{rules, ◌≡◌, ℕ, ◌+◌, ◌||◌, drop, take, length, List, ◌∷◌, Some, None, to_z, of_z, w64, refl, sym, ap, ap₂, ◌∙◌, subst, arith}
-use Rattle.std.specs.Prelude.{slice_index, is_some}
+use Rattle.std.specs.Prelude.{is_some}
 use Rattle.std.proofs.lemmas.Int.{to_z-of_z}
 use Rattle.std.proofs.lemmas.List.{drop_more, length-drop, length-map}
 use Rattle.std.proofs.Math.Seq.{take-length}
@@ -8,7 +8,6 @@ use Rattle.std.proofs.lemmas.Result.{on_ok_weaker}
 use Rattle.block_runs.specs.declared.end.End.TheVariants.{Jump, Trap}
 use Rattle.ob_types.specs.declared.statements.CasePart.{CasePart}
 use Rattle.ob_types.specs.declared.statements.TypePart.{TypePart}
-use Rattle.ssa_lowered.specs.Control.{half}
 use Rattle.ssa_lowered.specs.Pieces.{◌>>=◌, picked}
 use Rattle.ssa_lowered.specs.Variables.{either, itself, none}
 use Rattle.ssa_exprs.specs.Changes.{chosen, values_of}
@@ -21,7 +20,7 @@ use Rattle.ssa_assigned.specs.Assigned.{has, assigned_list, assigned_parts, assi
 use Rattle.ssa_assigned.specs.Registers.{registers_in}
 use Rattle.ssa_assigned.proofs.Noting.{or_assoc, or_false}
 use Rattle.ssa_statements.specs.declared.control.Frame.{Frame}
-use Rattle.ssa_statements.specs.Cases.{Climbs}
+use Rattle.ssa_statements.specs.Cases.{OpensCase}
 use Rattle.ssa_statements.specs.Meeting.{Jumps, Heads, FinishesAll, reached_in, advance_in}
 use Rattle.ssa_statements.specs.Rungs.{rungs_in}
 use Rattle.ssa_statements.specs.Steps.{Steps, Rounds, deed_in}
@@ -233,15 +232,12 @@ case-returns t c = on_ok_weaker c.leave_parts.result (λ fin p here s.
     let all = c.args.parts.now in
     let v = c.args.b.now in
     let mask = registers_in p here (assigned_cases all) in
-    let frame : Frame = record { out = c.in_ok-out.out; vars = c.in_ok-vars.vars; moment = c.moment-moment.result; freq = c.freq-freq.result } in
+    let o = c.in_ok-opened.opened in
     let many = length-map all (λ x. deeds_in p here x.body.items) in
-    let climbs = subst (λ l. Climbs c.label.new.self c.ladder.new.b c.half.result (λ i. slice_index l i) (rungs_in p here c.args.v (coded_cases 0 all))) c.as_slice-2.ensures.value
-    (subst (λ l. Climbs c.label.new.self c.ladder.new.b c.half.result (λ i. slice_index c.as_slice-2.result.now i) (rungs_in p here c.args.v l)) (c.as_slice.ensures.value ∙ c.in_ok-tests.ensures) (c.in_ok-ladder.ensures p here s)) in
-    let taken = subst (λ l. Takes c.ladder.new.b c.case_parts.new.b frame None c.in_ok-leave.leave l 0 (case_bodies_in p here all)) c.as_slice-3.ensures.value (c.in_ok-leave.ensures p here s) in
-    case_all mask (λ out args. Trap 6) frame c.in_ok-starts.starts.items None c.in_ok-leave.leave None (length all) c.half.result (sym many)
-    (c.in_ok-out.ensures.given ∙ ap asked c.in_ok-starts.ensures.given) c.in_ok-starts.ensures.numbers (c.in_ok-out.ensures.number ∙ ap (λ (k : View). k.labels) c.in_ok-starts.ensures.given)
-    (c.in_ok-vars.ensures p here s v.known.env refl) c.moment-moment.ensures c.freq-freq.ensures (c.half.ensures ∙ ap half c.freq-freq.ensures)
-    climbs (below_cases p here c.args.v (length (case_bodies_in p here all)) 0 all (omega (arith, many))) taken fin refl (λ h. refl)) c.leave_parts.ensures
+    let opens = subst (λ l. OpensCase v c.open_parts.new.b o c.in_ok-vars.vars.items (length all) (rungs_in p here c.args.v l)) (c.as_slice.ensures.value ∙ c.in_ok-tests.ensures) (c.in_ok-opened.ensures p here s) in
+    let taken = subst (λ l. Takes c.open_parts.new.b c.case_parts.new.b o.frame None c.in_ok-leave.leave l 0 (case_bodies_in p here all)) c.as_slice-starts.ensures.value (c.in_ok-leave.ensures p here s) in
+    case_all mask (λ out args. Trap 6) o None c.in_ok-leave.leave None (sym many) opens (c.in_ok-vars.ensures p here s v.known.env refl)
+    (below_cases p here c.args.v (length (case_bodies_in p here all)) 0 all (omega (arith, many))) taken fin refl (λ h. refl)) c.leave_parts.ensures
 
 pub case_parts-loop-i-init : goal.case_parts-loop-i-init
 case_parts-loop-i-init t c = λ p here s last w d. d
@@ -259,19 +255,14 @@ case_types-returns t c = on_ok_weaker c.leave_parts.result (λ fin p here s.
     let all = c.args.parts.now in
     let v = c.args.b.now in
     let mask = registers_in p here (assigned_types all) in
-    let frame : Frame = record { out = c.in_ok-out.out; vars = c.in_ok-vars.vars; moment = c.moment-moment.result; freq = c.freq-freq.result } in
+    let o = c.in_ok-opened.opened in
     let many = length-map all (λ x. deeds_in p here x.body.items) in
-    let given_is = c.in_ok-out.ensures.given ∙ ap asked c.in_ok-starts.ensures.given in
     let vars = c.in_ok-vars.ensures p here s v.known.env refl in
-    let climbs = subst (λ l. Climbs c.label.new.self c.ladder.new.b c.half.result (λ i. slice_index l i) (rungs_in p here c.args.v (coded_types c.args.kind 0 all))) c.as_slice-2.ensures.value
-    (subst (λ l. Climbs c.label.new.self c.ladder.new.b c.half.result (λ i. slice_index c.as_slice-2.result.now i) (rungs_in p here c.args.v l)) (c.as_slice.ensures.value ∙ c.in_ok-tests.ensures) (c.in_ok-ladder.ensures p here s)) in
-    let taken = subst (λ l. Takes c.ladder.new.b c.type_parts.new.b frame (Some c.in_ok-unmatched.unmatched) c.in_ok-leave.leave l 0 (type_bodies_in p here all)) c.as_slice-4.ensures.value (c.in_ok-leave.ensures p here s) in
-    let know : c.ladder.new.b.known ≡ v.known = climbs.known ∙ ap (λ (k : View). k.known) given_is in
-    case_all mask (λ out args. Jump out args) frame c.in_ok-starts.starts.items (Some c.in_ok-unmatched.unmatched) c.in_ok-leave.leave (Some (picked mask v.known.env)) (length all) c.half.result (sym many)
-    given_is c.in_ok-starts.ensures.numbers (c.in_ok-out.ensures.number ∙ ap (λ (k : View). k.labels) c.in_ok-starts.ensures.given)
-    vars c.moment-moment.ensures c.freq-freq.ensures (c.half.ensures ∙ ap half c.freq-freq.ensures)
-    climbs (below_types p here c.args.v c.args.kind (length (type_bodies_in p here all)) 0 all (omega (arith, many))) taken fin refl
-    (λ h. ap Some (c.in_ok-unmatched.ensures h ∙ ap₂ (λ (k : Known) (l : List ℕ). values_of k.env l) know (c.as_slice-3.ensures.value ∙ vars) ∙ picked_is mask v.known.env))) c.leave_parts.ensures
+    let opens = subst (λ l. OpensCase v c.open_parts.new.b o c.in_ok-vars.vars.items (length all) (rungs_in p here c.args.v l)) (c.as_slice.ensures.value ∙ c.in_ok-tests.ensures) (c.in_ok-opened.ensures p here s) in
+    let taken = subst (λ l. Takes c.open_parts.new.b c.type_parts.new.b o.frame (Some c.in_ok-unmatched.unmatched) c.in_ok-leave.leave l 0 (type_bodies_in p here all)) c.as_slice-starts.ensures.value (c.in_ok-leave.ensures p here s) in
+    case_all mask (λ out args. Jump out args) o (Some c.in_ok-unmatched.unmatched) c.in_ok-leave.leave (Some (picked mask v.known.env)) (sym many) opens vars
+    (below_types p here c.args.v c.args.kind (length (type_bodies_in p here all)) 0 all (omega (arith, many))) taken fin refl
+    (λ h. ap Some (c.in_ok-unmatched.ensures h ∙ ap₂ (λ (k : Known) (l : List ℕ). values_of k.env l) opens.climbs.known (c.as_slice-2.ensures.value ∙ opens.vars ∙ vars) ∙ picked_is mask v.known.env))) c.leave_parts.ensures
 
 pub type_parts-loop-i-init : goal.type_parts-loop-i-init
 type_parts-loop-i-init t c = λ p here s last w d. d
