@@ -1,6 +1,6 @@
 //! Alone, nobody is met.
 
-use meet_gate::MeetGate;
+use memory_devices::MeetGate;
 use outside::Gate;
 use std::test::Fail;
 

@@ -1,7 +1,7 @@
 //! Places in a small text, and names.
 
-use fault_lines::{limit_name, position_of, rule_name};
 use std::test::Fail;
+use trc_answers::{limit_name, position_of, rule_name};
 
 #[test]
 fn places_count_lines_and_columns(rt: HostRuntime) -> Result<(), Fail> {

@@ -5,7 +5,5 @@
 //! What isn't evaluated counts for nothing: the right side of `&` behind FALSE may be anything.
 
 mod folding;
-mod operators;
-mod sets;
 
 pub use folding::fold;

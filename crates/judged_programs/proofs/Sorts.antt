@@ -1,5 +1,5 @@
 -- What types of a table are, by their shapes.
-use Rattle.std.proofs.Common.{◌≡◌, ℕ, List, [], ◌∷◌, map, true, false, ◌||◌, Some, None, refl, ap, sym, ◌∙◌}
+use Rattle.std.proofs.Common.{◌≡◌, ℕ, List, [], ◌∷◌, map, true, ◌||◌, Some, None, refl, ap, sym, ◌∙◌}
 use Rattle.ob_types.specs.declared.types.TypeKind.{TypeKind}
 use Rattle.ob_types.specs.declared.types.TypeKind.TheVariants as TheKind
 use Rattle.ob_types.specs.Layout.{kind_of}
@@ -9,7 +9,6 @@ use Rattle.ob_types.specs.Table.{Table}
 use Rattle.ob_types.proofs.Tests.{no, and_from}
 use Rattle.ob_judge.specs.Shapes.{Nothing}
 use Rattle.judged_tree.specs.TypeShapes.{shape_of}
-use Rattle.judged_tree.specs.Tables.{is_open}
 use Rattle.judged_well.specs.Standing.{is_whole, is_result}
 use Rattle.judged_well.specs.OfProgram.{IsFaithful}
 use Rattle.judged_well.proofs.Entries.{here, is_here}
@@ -55,12 +54,3 @@ module _ (t : Table) (ok : IsFaithful t) where
   pub variable_types : (ks : List ℕ) → Each (λ a. is_whole a ≡ true) (map (shape_of t) ks) → all (is_variable_type t) ks ≡ true
   variable_types [] h = refl
   variable_types (k ∷ ks) h = and_from (is_variable_type t k) (all (is_variable_type t) ks) (variable_type k h.0) (variable_types ks h.1)
-
-  closed_by : (k : ℕ) (kind : TypeKind) → is_whole (here t ok k kind) ≡ true → is_open kind ≡ false
-  closed_by k (TheKind.Array (Some n) e) h = refl
-  closed_by k (TheKind.Array None e) h = no h
-  closed_by k TheKind.Int h = refl
-  closed_by k _ h = refl
-
-  pub closed_type : (k : ℕ) → is_whole (shape_of t k) ≡ true → is_open (kind_of t k) ≡ false
-  closed_type k h = closed_by k (kind_of t k) (ap is_whole (sym (is_here t ok k)) ∙ h)

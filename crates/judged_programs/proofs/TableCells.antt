@@ -1,5 +1,5 @@
 -- Types of a program that the judgement gives have the cells that the judgement counted.
-use Rattle.std.proofs.Common.{◌≡◌, ℕ, zero, suc, ◌+◌, ◌*◌, ◌<◌, List, [], ◌∷◌, map, length, false, Option, Some, None, refl, ap, ap₂, sym, ◌∙◌, arith, sum}
+use Rattle.std.proofs.Common.{◌≡◌, ℕ, zero, suc, ◌+◌, ◌*◌, ◌<◌, List, [], ◌∷◌, map, length, Option, Some, None, refl, ap, ap₂, sym, ◌∙◌, arith, sum}
 use Rattle.std.specs.Prelude.{slice_get}
 use Rattle.std.proofs.lemmas.List.Sums.{sum_by-cons}
 use Rattle.ob_types.specs.declared.types.Field.{Field}
@@ -7,19 +7,16 @@ use Rattle.ob_types.specs.declared.types.TypeKind.{TypeKind}
 use Rattle.ob_types.specs.declared.types.TypeKind.TheVariants as TheKind
 use Rattle.ob_types.specs.declared.program.Program.{Program}
 use Rattle.ob_types.specs.Layout.{kind_of, record_of, types_of, base_cells, cells_by, cells_within, record_within, cells, record_cells}
-use Rattle.ob_types.proofs.Tests.{no, none_some, some_same}
+use Rattle.ob_types.proofs.Tests.{none_some, some_same}
 use Rattle.ob_judge.specs.Shapes.{Shape, Array, Record, Added}
 use Rattle.ob_judge.specs.Modules.{SoFar, base_in}
 use Rattle.judged_tree.specs.TypeShapes.{shape_of}
-use Rattle.judged_tree.specs.Tables.{is_open}
 use Rattle.judged_tree.specs.Plain.{plain_field}
-use Rattle.judged_well.specs.Standing.{is_whole}
 use Rattle.judged_well.specs.OfProgram.{IsFaithful}
 use Rattle.judged_well.proofs.Entries.{here, is_here}
 use Rattle.judged_programs.specs.LegalTable.{IsLegalTable, cells_with, record_count}
-use Rattle.judged_programs.proofs.Sorts.{closed_type}
 use Rattle.judged_programs.proofs.Ends.{IsEndOf}
-use Rattle.judged_programs.proofs.TableEnds.{IsRecordOf, record_at, record_there, behind_base, counts_same, field_before, legal_record}
+use Rattle.judged_programs.proofs.TableEnds.{IsRecordOf, record_at, record_there, behind_base, counts_same, legal_record}
 use Rattle.judged_programs.proofs.TableOrder.{ranks}
 use Rattle.judged_programs.specs.Ranked.{cells_of_all, counted, inherited}
 
@@ -35,12 +32,11 @@ module _ (p : Program) (c : SoFar) (end : IsEndOf p c) (ok : IsFaithful p.types)
 
   -- a kind, by the cells of its parts
   kind_counts : (k : ℕ) (of whole : ℕ → ℕ) (kind : TypeKind) → ((n e : ℕ) → kind ≡ TheKind.Array (Some n) e → Counts (of e) e) → ((r : ℕ) → kind ≡ TheKind.Record r → whole r ≡ record_count p.types r)
-      → is_open kind ≡ false → cells_by of whole kind ≡ cells_with (record_count p.types) (here p.types ok k kind)
-  kind_counts k of whole (TheKind.Array (Some n) e) f g h = ap (λ m. n * m) (f n e refl)
-  kind_counts k of whole (TheKind.Array None e) f g h = no (sym h)
-  kind_counts k of whole (TheKind.Record r) f g h = g r refl
-  kind_counts k of whole TheKind.Int f g h = refl
-  kind_counts k of whole _ f g h = refl
+      → cells_by of whole kind ≡ cells_with (record_count p.types) (here p.types ok k kind)
+  kind_counts k of whole (TheKind.Array (Some n) e) f g = ap (λ m. n * m) (f n e refl)
+  kind_counts k of whole (TheKind.Record r) f g = g r refl
+  kind_counts k of whole TheKind.Int f g = refl
+  kind_counts k of whole _ f g = refl
 
   -- fields, by the cells of each
   fields_count : (of : ℕ → ℕ) (fs : List Field) (xs : List Added) → map (plain_field p.types) fs ≡ xs → ((i k : ℕ) → slice_get (types_of fs) i ≡ Some k → Counts (of k) k) → sum (map of (types_of fs)) ≡ cells_of_all (record_count p.types) xs
@@ -77,13 +73,12 @@ module _ (p : Program) (c : SoFar) (end : IsEndOf p c) (ok : IsFaithful p.types)
           each b is ∙ counts_same p c end b ∙ ap (counted c.known.records) same
 
   mutual
-    cells_counted : (d k : ℕ) → (ranks p c end ok legal).of_kind k < d → is_open (kind_of p.types k) ≡ false → Counts (cells_within p.types d k) k
-    cells_counted zero k l closed = absurd (omega (arith, l))
-    cells_counted (suc d) k l closed =
+    cells_counted : (d k : ℕ) → (ranks p c end ok legal).of_kind k < d → Counts (cells_within p.types d k) k
+    cells_counted zero k l = absurd (omega (arith, l))
+    cells_counted (suc d) k l =
         kind_counts k (cells_within p.types d) (record_within p.types d) (kind_of p.types k)
-        (λ n e is. cells_counted d e (let s = (ranks p c end ok legal).element k n e is in omega (arith, s, l)) (closed_type p.types ok e (legal.array k n e is).element))
+        (λ n e is. cells_counted d e (let s = (ranks p c end ok legal).element k n e is in omega (arith, s, l)))
         (λ r is. record_counted d r (let s = (ranks p c end ok legal).whole k r is in omega (arith, s, l)) (legal.record_there k r is))
-        closed
         ∙ ap (cells_with (record_count p.types)) (sym (is_here p.types ok k))
 
     record_counted : (d r : ℕ) → (ranks p c end ok legal).of_record r < d → r < length p.types.records → record_within p.types d r ≡ record_count p.types r
@@ -93,12 +88,12 @@ module _ (p : Program) (c : SoFar) (end : IsEndOf p c) (ok : IsFaithful p.types)
         ap₂ (λ a b. a + b)
         (base_count r there (record_within p.types d) (λ b is. record_counted d b (let s = ((ranks p c end ok legal).base r b is).0 in omega (arith, s, l)) (record_there p c end b (behind_base p c end r b there is).upper (behind_base p c end r b there is).there)))
         (fields_count (cells_within p.types d) (record_of p.types r).fields y.layout.added (ap (λ z. z.fields) y.same)
-        (λ i k at. let f = field_before p c end r i k there at in cells_counted d k (let s = (ranks p c end ok legal).field r i k at in omega (arith, s, l)) (closed_type p.types ok k (ap is_whole (sym f.2) ∙ (f.1).0.whole)))
+        (λ i k at. cells_counted d k (let s = (ranks p c end ok legal).field r i k at in omega (arith, s, l)))
         ∙ all_same y.layout.added)
         ∙ sym (legal_record p c end r there).cells ∙ sym (ap (λ z. z.cells) y.same)
 
-  pub cells_are_counted : (k : ℕ) → k < length p.types.kinds → is_open (kind_of p.types k) ≡ false → cells p.types k ≡ cells_with (record_count p.types) (shape_of p.types k)
-  cells_are_counted k l closed = cells_counted (suc (length p.types.kinds + length p.types.records)) k (let s = (ranks p c end ok legal).kinds k l in omega (arith, s)) closed
+  pub cells_are_counted : (k : ℕ) → k < length p.types.kinds → cells p.types k ≡ cells_with (record_count p.types) (shape_of p.types k)
+  cells_are_counted k l = cells_counted (suc (length p.types.kinds + length p.types.records)) k (let s = (ranks p c end ok legal).kinds k l in omega (arith, s))
 
   pub record_cells_are : (r : ℕ) → r < length p.types.records → record_cells p.types r ≡ record_count p.types r
   record_cells_are r l = record_counted (suc (length p.types.kinds + length p.types.records)) r (let s = ((ranks p c end ok legal).records r l).0 in omega (arith, s)) l

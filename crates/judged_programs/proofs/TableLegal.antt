@@ -9,14 +9,14 @@ use Rattle.ob_types.specs.declared.types.Formal.{Formal}
 use Rattle.ob_types.specs.declared.types.Signature.{Signature}
 use Rattle.ob_types.specs.declared.program.Procedure.{Procedure as ProcedureOf}
 use Rattle.ob_types.specs.declared.program.Program.{Program}
-use Rattle.ob_types.specs.Layout.{kind_of, record_of, types_of, cells_by, cells_within, record_within, cells, record_cells}
+use Rattle.ob_types.specs.Layout.{kind_of, record_of, types_of, cells, record_cells}
 use Rattle.ob_types.specs.Forms.{all, all_below, if_base}
 use Rattle.ob_types.specs.LegalTypes.{most_cells, is_length, is_record_type, is_variable_type, is_result_type, is_scalar_kind, is_no_kind, kind_legal, type_legal, record_legal, formal_legal, signature_legal, types_legal, mode_fits}
 use Rattle.ob_types.specs.WellFormed.{words_of, argument_words, level_by, level_fine, cells_fine, counts_fine}
 use Rattle.ob_types.proofs.Tests.{none_some, and_from, below_from}
 use Rattle.ob_judge.specs.Parameters.{mode_of}
 use Rattle.ob_judge.specs.Modules.{SoFar, base_in}
-use Rattle.judged_tree.specs.Tables.{HasPartsBefore, is_before, is_open}
+use Rattle.judged_tree.specs.Tables.{HasPartsBefore, is_before}
 use Rattle.judged_tree.specs.Plain.{plain_formal}
 use Rattle.judged_well.specs.Standing.{is_whole, is_formal}
 use Rattle.judged_well.specs.OfProgram.{IsFaithful, AreFormals}
@@ -93,17 +93,13 @@ module _ (p : Program) (c : SoFar) (end : IsEndOf p c) (ok : IsFaithful p.types)
   kind_there_by k l _ is = refl
 
   cells_few_by : (k : ℕ) → k < length p.types.kinds → (kind : TypeKind) → kind_of p.types k ≡ kind → cells p.types k ≤ most_cells
-  cells_few_by k l (TheKind.Array (Some n) e) is = let a = cells_are_counted p c end ok legal k l (ap is_open is) in let b = (legal.array k n e is).few in omega (arith, a, b)
-  cells_few_by k l (TheKind.Array None e) is = let a = one k (ap (cells_by (cells_within p.types (length p.types.kinds + length p.types.records)) (record_within p.types (length p.types.kinds + length p.types.records))) is) in omega (arith, a)
-    where
-      one : (k : ℕ) → cells p.types k ≡ 1 → cells p.types k ≡ 1
-      one k h = h
+  cells_few_by k l (TheKind.Array (Some n) e) is = let a = cells_are_counted p c end ok legal k l in let b = (legal.array k n e is).few in omega (arith, a, b)
   cells_few_by k l (TheKind.Record r) is =
-      let a = cells_are_counted p c end ok legal k l (ap is_open is) ∙ ap (cells_with (record_count p.types)) (is_here p.types ok k ∙ ap (here p.types ok k) is) in
+      let a = cells_are_counted p c end ok legal k l ∙ ap (cells_with (record_count p.types)) (is_here p.types ok k ∙ ap (here p.types ok k) is) in
       let b = record_few r (legal.record_there k r is) in
       omega (arith, a, b)
-  cells_few_by k l TheKind.Int is = let a = cells_are_counted p c end ok legal k l (ap is_open is) ∙ ap (cells_with (record_count p.types)) (is_here p.types ok k ∙ ap (here p.types ok k) is) in omega (arith, a)
-  cells_few_by k l _ is = let a = cells_are_counted p c end ok legal k l (ap is_open is) ∙ ap (cells_with (record_count p.types)) (is_here p.types ok k ∙ ap (here p.types ok k) is) in omega (arith, a)
+  cells_few_by k l TheKind.Int is = let a = cells_are_counted p c end ok legal k l ∙ ap (cells_with (record_count p.types)) (is_here p.types ok k ∙ ap (here p.types ok k) is) in omega (arith, a)
+  cells_few_by k l _ is = let a = cells_are_counted p c end ok legal k l ∙ ap (cells_with (record_count p.types)) (is_here p.types ok k ∙ ap (here p.types ok k) is) in omega (arith, a)
 
   records_legal : (r : ℕ) → r < length p.types.records → record_legal p.types r ≡ true
   records_legal r l = and_from (nat_le (record_of p.types r).cells most_cells) (if_base (record_of p.types r).base (is_record_type p.types) && all (is_variable_type p.types) (types_of (record_of p.types r).fields))

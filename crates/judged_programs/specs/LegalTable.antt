@@ -17,7 +17,6 @@ use Rattle.judged_well.specs.Standing.{is_whole, is_formal, is_result}
 -- the cells of a shape, where record types have these
 abbrev pub cells_with : (ℕ → ℕ) → Shape → ℕ
 cells_with of (Array n a) = n * cells_with of a
-cells_with of (Open a) = 0
 cells_with of (Record r) = of r
 cells_with of a = 1
 

@@ -15,7 +15,7 @@ use Rattle.ob_types.proofs.Tests.{no, and_of, below}
 use Rattle.ob_types.proofs.Counting.{cells-array, cells-record}
 use Rattle.ob_judge.specs.Shapes.{Shape, Char, Text, Array, Open, Record, Pointer, Known, same, contains, line_of, record_extends, based_on, base_of, target_of, extends, cells, assignable}
 use Rattle.judged_tree.specs.TypeShapes.{kind_shape, shapes_of, shape_of}
-use Rattle.judged_tree.specs.Tables.{HasPartsBefore, IsFromTheFront, HasOneShapeEach, base_line, Knows, is_open, HasNoOpenElements}
+use Rattle.judged_tree.specs.Tables.{HasPartsBefore, IsFromTheFront, HasOneShapeEach, base_line, Knows}
 use Rattle.judged_tree.proofs.Numbers.{shape-of_kind, pointer_of, pointer-base}
 use Rattle.judged_tree.proofs.SameShapes.{same-self, same-is}
 
@@ -192,24 +192,23 @@ module _ (t : Table) where
 
         -- ---- cells
 
-        module _ (counted : IsCounted t) (closed : HasNoOpenElements t) where
+        module _ (counted : IsCounted t) where
           abbrev depth : ℕ
           depth = length t.kinds + length t.records
 
-          kind_cells : (k : ℕ) → k < length t.kinds → ((e : ℕ) → e < k → is_open (kind_of t e) ≡ false → cells_of_type t e ≡ cells known (shape_of t e))
-              → (kind : TypeKind) → kind_of t k ≡ kind → is_open kind ≡ false → cells_of_type t k ≡ cells known (here k kind)
-          kind_cells k l go (TheKind.Array (Some n) e) is h =
-              cells-array t fine k n e l is ∙ ap (λ m. n * m) (go e (counted.element k (Some n) e is) (closed.closed k (Some n) e is))
-          kind_cells k l go (TheKind.Array None e) is h = no (sym h)
-          kind_cells k l go (TheKind.Record r) is h =
+          kind_cells : (k : ℕ) → k < length t.kinds → ((e : ℕ) → e < k → cells_of_type t e ≡ cells known (shape_of t e))
+              → (kind : TypeKind) → kind_of t k ≡ kind → cells_of_type t k ≡ cells known (here k kind)
+          kind_cells k l go (TheKind.Array (Some n) e) is =
+              cells-array t fine k n e l is ∙ ap (λ m. n * m) (go e (counted.element k (Some n) e is))
+          kind_cells k l go (TheKind.Record r) is =
               let there = knows.record_there k r is in
               cells-record t fine k r l is ∙ sym (counted.records r there) ∙ sym (knows.cells r there)
-          kind_cells k l go _ is h = ap (λ kind. cells_by (cells_within t depth) (record_within t depth) kind) is
+          kind_cells k l go _ is = ap (λ kind. cells_by (cells_within t depth) (record_within t depth) kind) is
 
-          up_to : (n k : ℕ) → k < n → k < length t.kinds → is_open (kind_of t k) ≡ false → cells_of_type t k ≡ cells known (shape_of t k)
-          up_to zero k l h o = absurd (omega (arith, l))
-          up_to (suc n) k l h o =
-              kind_cells k h (λ e b p. up_to n e (omega (arith, b, l)) (omega (arith, b, h)) p) (kind_of t k) refl o ∙ ap (λ s. cells known s) (sym (is_here k h))
+          up_to : (n k : ℕ) → k < n → k < length t.kinds → cells_of_type t k ≡ cells known (shape_of t k)
+          up_to zero k l h = absurd (omega (arith, l))
+          up_to (suc n) k l h =
+              kind_cells k h (λ e b. up_to n e (omega (arith, b, l)) (omega (arith, b, h))) (kind_of t k) refl ∙ ap (λ s. cells known s) (sym (is_here k h))
 
-          pub cells-agree : (k : ℕ) → k < length t.kinds → is_open (kind_of t k) ≡ false → cells_of_type t k ≡ cells known (shape_of t k)
+          pub cells-agree : (k : ℕ) → k < length t.kinds → cells_of_type t k ≡ cells known (shape_of t k)
           cells-agree k = up_to (suc k) k (omega arith)

@@ -77,11 +77,3 @@ pub record Knows (known : Known) (t : Table) : Type 0 where
   pub base_there : (r b : ℕ) → r < length t.records → (record_of t r).base ≡ Some b → b < length t.records
   pub record_there : (k r : ℕ) → kind_of t k ≡ TheKind.Record r → r < length t.records
   pub target_there : (k r : ℕ) → kind_of t k ≡ TheKind.Pointer r → r < length t.records
-
-abbrev pub is_open : TypeKind → Bool
-is_open (TheKind.Array None e) = true
-is_open kind = false
-
--- no array has elements that are open arrays
-pub record HasNoOpenElements (t : Table) : Type 0 where
-  pub closed : (k : ℕ) (n : Option ℕ) (e : ℕ) → kind_of t k ≡ TheKind.Array n e → is_open (kind_of t e) ≡ false

@@ -1,9 +1,8 @@
 //! Where a table of types keeps what the checker keeps of it, what it says by number is what the judgement says of the
 //! numbers' shapes.
 
-ghost use Rattle.std.specs.Prelude.{◌≡◌, ◌<◌, ℕ, length, false};
+ghost use Rattle.std.specs.Prelude.{◌≡◌, ◌<◌, ℕ, length};
 ghost use Rattle.ob_types.specs.Table.{Table};
-ghost use Rattle.ob_types.specs.Layout.{kind_of};
 ghost use Rattle.ob_types.specs.Layout.{cells as cells_of_type};
 ghost use Rattle.ob_types.specs.Assignable.{same as same_type, extends as extends_type, assignable as may_assign};
 ghost use Rattle.ob_types.specs.Counted.{IsCounted, HasOneNumberEach};
@@ -11,7 +10,7 @@ ghost use Rattle.ob_types.specs.Forms.{types_fine};
 ghost use Rattle.std.specs.Prelude.{true};
 ghost use Rattle.ob_judge.specs.Shapes.{Known, same, extends, cells, assignable};
 ghost use Rattle.judged_tree.specs.TypeShapes.{shape_of};
-ghost use Rattle.judged_tree.specs.Tables.{IsFromTheFront, HasEachOnce, HasOneShapeEach, Knows, HasNoOpenElements, is_open};
+ghost use Rattle.judged_tree.specs.Tables.{IsFromTheFront, HasEachOnce, HasOneShapeEach, Knows};
 
 /// Where each entry names earlier ones and no two say the same, types that are the same have one number.
 pub fn each_has_one_number()
@@ -41,8 +40,8 @@ pub fn assignable_agrees()
         → (to from : ℕ) → to < length t.kinds → from < length t.kinds → may_assign t to from ≡ assignable known (shape_of t to) (shape_of t from) }
 {}
 
-/// A type that is no open array has as many cells as its shape.
+/// A type has as many cells as its shape.
 pub fn cells_agree()
-    ensures { (t : Table) (known : Known) → Knows known t → IsFromTheFront t → IsCounted t → HasNoOpenElements t
-        → (k : ℕ) → k < length t.kinds → is_open (kind_of t k) ≡ false → cells_of_type t k ≡ cells known (shape_of t k) }
+    ensures { (t : Table) (known : Known) → Knows known t → IsFromTheFront t → IsCounted t
+        → (k : ℕ) → k < length t.kinds → cells_of_type t k ≡ cells known (shape_of t k) }
 {}

@@ -12,7 +12,7 @@ use Rattle.ob_types.specs.declared.program.Procedure.{Procedure}
 use Rattle.ob_types.specs.declared.program.Program.{Program}
 use Rattle.ob_types.proofs.Tests.{no, and_of}
 use Rattle.ob_types.proofs.WellFormedParts.{Parts}
-use Rattle.ssa_laws.specs.Contents.{IsBare}
+use Rattle.lowered_valid.specs.Contents.{IsBare}
 use Rattle.ssa_lowered.specs.Data.{Layout}
 use Rattle.ssa_lowered.specs.Variables.{words_of}
 use Rattle.ssa_lowered.specs.Lowered.{proc_of}

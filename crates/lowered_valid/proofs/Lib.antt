@@ -19,3 +19,5 @@ mod Sizes
 pub mod Valid
 pub mod Modest
 mod Samples
+pub mod Stepping
+pub mod Safe

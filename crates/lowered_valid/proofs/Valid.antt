@@ -34,7 +34,7 @@ use Rattle.lowered_valid.proofs.FittingTree.{Numbers, whole_fits}
 use Rattle.lowered_valid.proofs.Bounds.{words_same, procedure_words}
 use Rattle.lowered_valid.proofs.Bounds.{numbers as small_numbers}
 use Rattle.lowered_valid.proofs.Once.{numbers_below, times_once}
-use Rattle.ssa_laws.specs.Contents.{IsBare}
+use Rattle.lowered_valid.specs.Contents.{IsBare}
 use Rattle.lowered_valid.specs.TreeSizes.{IsSmall}
 use Rattle.lowered_valid.proofs.Narrow.{cells_narrow}
 use Rattle.lowered_valid.proofs.Sizes.{short_all}

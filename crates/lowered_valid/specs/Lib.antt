@@ -1,3 +1,4 @@
 pub mod Claims
 pub mod TreeSizes
 pub mod Modest
+pub mod Contents

@@ -8,7 +8,7 @@ ghost use Rattle.ob_types.specs.WellFormed.{well_formed};
 ghost use Rattle.ob_types.specs.declared.program.Procedure.{Procedure};
 ghost use Rattle.ob_types.specs.declared.program.Program.{Program};
 ghost use Rattle.ssa_core.specs.Validity.{IsValid};
-ghost use Rattle.ssa_laws.specs.Contents.{IsBare};
+ghost use Rattle.lowered_valid.specs.Contents.{IsBare};
 ghost use Rattle.ssa_lowered.specs.Data.{Layout, in_cells, packed};
 ghost use Rattle.ssa_lowered.specs.Limits.{limit_of};
 ghost use Rattle.ssa_lowered.specs.Lowered.{lowered, lowered_by, proc_of};

@@ -111,7 +111,6 @@ cells_of (Some r) = r.cells
 -- the sum of its parts' cells
 abbrev pub cells : Known → Shape → ℕ
 cells known (Array n a) = n * cells known a
-cells known (Open a) = 0
 cells known (Record n) = cells_of (slice_get known.records n)
 cells known a = 1
 

@@ -6,6 +6,9 @@ ghost use Rattle.ob_syntax.specs.Leaves.{each, optional};
 ghost use Rattle.ob_syntax.specs.DeclarationText.{const_decl_text, consts_text, decls_text, procedure_decl_text, procedure_text, returned_text, type_decl_text, types_text, var_decl_text, vars_text};
 ghost use Rattle.parse_steps.specs.Parsing.{Gives};
 
+use crate::formals::maybe_formals;
+use crate::statements::maybe_body;
+use crate::types::type_tree;
 use ob_grammar::Terminal;
 use ob_grammar::Terminal::{Mark, Word};
 use ob_symbol::{Delimiter, Reserved};
@@ -14,9 +17,7 @@ use ob_syntax::declarations::{
 };
 use parse_expressions::expression;
 use parse_expressions::names::{identdef, idents};
-use parse_statements::maybe_body;
 use parse_steps::{ParseFault, Parser};
-use parse_types::{maybe_formals, type_tree};
 use std::alloc::Global;
 
 /// `[CONST ..] [TYPE ..] [VAR ..] {procedure ";"}`

@@ -6,11 +6,11 @@ ghost use Rattle.ob_syntax.specs.ModuleText.{import_text, imported_name_text, im
 ghost use Rattle.parse_steps.specs.Parsing.{Gives};
 
 use crate::declarations::decls;
+use crate::statements::maybe_body;
 use ob_grammar::Terminal;
 use ob_grammar::Terminal::{Mark, Word};
 use ob_symbol::{Delimiter, Reserved};
 use ob_syntax::modules::{Import, ImportedName, Imports, Module, NextImport};
-use parse_statements::maybe_body;
 use parse_steps::{ParseFault, Parser};
 use std::alloc::Global;
 

@@ -4,7 +4,7 @@ mod calls;
 mod seats;
 
 use crate::made::{Shape, made_tree};
-use meet_gate::MeetGate;
+use memory_devices::MeetGate;
 use outside::{Gate, Memory, OpenGate};
 use std::alloc::Global;
 use std::process::Abort;

@@ -8,7 +8,7 @@ use Rattle.ssa_exprs.specs.declared.tables.Tables.{Tables}
 use Rattle.ssa_tables.specs.Faults.{first_limit}
 use Rattle.ssa_tables.specs.Shared.{ServesAll}
 use Rattle.ssa_tables.proofs.Limits.{first_within, few_descriptors}
-use Rattle.ssa_constants.proofs.Counted.{constants_length, globals_length}
+use Rattle.ssa_tables.proofs.constants.Counted.{constants_length, globals_length}
 use Rattle.ssa_build.proofs.Within.{few_procedures, few_globals, few_constants}
 use Rattle.link_plan.specs.Linked.{DataFits}
 use Rattle.lowered_runs.specs.Claims.{data_bytes, constants_of}

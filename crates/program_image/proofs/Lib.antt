@@ -2,3 +2,4 @@ mod Ready
 mod Fitting
 mod Running
 mod Telling
+mod Counting

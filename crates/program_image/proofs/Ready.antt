@@ -16,7 +16,7 @@ use Rattle.ssa_lowered.specs.Lowered.{lowered}
 use Rattle.lowered_valid.specs.Claims.{IsShort, IsNarrow, CanBeLowered}
 use Rattle.lowered_valid.proofs.Valid.{valid_all, bare_all}
 use Rattle.lowered_valid.proofs.Modest.{all_few, all_small}
-use Rattle.short_procedures.specs.Sizes.{is_short}
+use Rattle.program_image.specs.Sizes.{is_short}
 use Rattle.link_plan.proofs.Low.{and_left, and_right}
 use Rattle.back_end.specs.Images.{IsReady, HasFewValues}
 use Rattle.program_image.specs.Limits.{HasLongProcedure}

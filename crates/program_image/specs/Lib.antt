@@ -1,3 +1,4 @@
 pub mod Images
 pub mod Limits
 pub mod Faults
+pub mod Sizes

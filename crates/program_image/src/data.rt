@@ -10,8 +10,8 @@ use back_end::Data;
 use image_form::Bytes;
 use ob_types::Program;
 use outside::Memory;
-use ssa_constants::program_constants;
 use ssa_exprs::Tables;
+use ssa_tables::program_constants;
 use std::alloc::Global;
 
 /// Where the globals start.

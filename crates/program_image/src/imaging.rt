@@ -15,12 +15,12 @@ ghost use Rattle.trace_build.specs.Traces.{traces_in};
 
 use crate::data::program_data;
 use crate::fault::{ProgramFault, of_imaging, of_lowering, whole_limit};
+use crate::sizes::are_short;
 use back_end::{Choice, Image, image_of};
 use link_plan::Plan;
 use lir_core::Items;
 use ob_types::Program;
 use outside::Gate;
-use short_procedures::are_short;
 use ssa_build::{LoweredProgram, lower_with_tables};
 use std::alloc::Global;
 use std::mem::forget;

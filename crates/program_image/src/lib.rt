@@ -9,6 +9,7 @@
 mod data;
 mod fault;
 mod imaging;
+mod sizes;
 mod tracing;
 
 pub use back_end::{Builder, Choice, Image, Policy};

@@ -10,9 +10,9 @@ ghost use Rattle.program_image.specs.Faults.{Tells};
 ghost use Rattle.program_image.specs.Limits.{most_traces};
 
 use crate::fault::{ProgramFault, of_lowering, whole_limit};
+use crate::sizes::are_short;
 use back_end::{Choice, select_all};
 use ob_types::Program;
-use short_procedures::are_short;
 use ssa_build::{LoweredProgram, lower_with_tables};
 use std::alloc::Global;
 use trace_report::trace_report;

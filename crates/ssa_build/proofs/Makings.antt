@@ -10,7 +10,7 @@ use Rattle.ssa_exprs.specs.Making.{View, Gives}
 use Rattle.ssa_exprs.proofs.Giving.{follows_bind, once_on, later_none, append_nil}
 use Rattle.ssa_exprs.specs.Making.{resolved}
 use Rattle.ssa_statements.specs.Steps.{Steps}
-use Rattle.ssa_control.specs.Lists.{deeds_in}
+use Rattle.ssa_statements.specs.walk.Lists.{deeds_in}
 use Rattle.ssa_build.specs.Makes.{Makes}
 
 pub makes_of : {A : Type 0} {v w : View} {m : Low A} {r : A} → Gives v w m r → Makes v w m r

@@ -12,8 +12,8 @@ ghost use Rattle.ssa_build.specs.Makes.{Makes};
 
 use crate::entry::{further, open, store_all, zero};
 use ob_types::{Checked, Procedure, Types};
-use ssa_control::statements;
 use ssa_exprs::{LowerFault, Making, Tables, value};
+use ssa_statements::statements;
 use ssa_tables::{Locals, is_structured};
 
 /// Whether there is an array or a record among some types.

@@ -23,6 +23,6 @@ pub use named::{
 pub use steps::half;
 pub use tables::Tables;
 pub use walk::{
-    Request, cond, kind_in, length_of_kind, load, named as designated, prepared, record_of_kind,
-    value,
+    Request, cond, fork, kind_in, length_of_kind, load, named as designated, prepared,
+    record_of_kind, value,
 };

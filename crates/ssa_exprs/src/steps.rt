@@ -54,13 +54,13 @@ pub type Steps = SmallVec<Step, 2>;
 
 /// What is wanted of a chain's first operand, and what is done behind it, the last step first.
 #[derive(Drop)]
-pub struct Plan {
+pub struct ChainSteps {
     pub first: Wanted,
     pub steps: Steps,
 }
 
 /// What has to be done for a chain of links, as it is wanted. Labels are given out from the last link to the first.
-pub fn planned(b: &mut Making, links: &[Link], wanted: Wanted) -> Result<Plan, LowerFault>
+pub fn planned(b: &mut Making, links: &[Link], wanted: Wanted) -> Result<ChainSteps, LowerFault>
     ensures { IfOk result (λ q. (p : Program) (here : Here) (x : Lowers) → Leads p here links.now q.steps.items q.first b.new x wanted b.old (linked_in p here links.now x)) }
 {
     let mut steps = SmallVec::new(b.allocator());
@@ -70,7 +70,7 @@ pub fn planned(b: &mut Making, links: &[Link], wanted: Wanted) -> Result<Plan, L
         i -= 1;
         first = before(b, &links[i], i, first, &mut steps)?;
     }
-    Ok(Plan { first, steps })
+    Ok(ChainSteps { first, steps })
 }
 
 /// What is wanted of what stands before a link, whose number is given.

@@ -610,7 +610,7 @@ fn is_plain(e: &Expr) -> bool
 }
 
 /// The open block ends with a test of a value.
-fn fork(b: &mut Making, a: u32, yes: u32, no: u32, next: u64) -> Result<(), LowerFault>
+pub fn fork(b: &mut Making, a: u32, yes: u32, no: u32, next: u64) -> Result<(), LowerFault>
     ensures { OnOk result (b.new ≡ closed b.old (Nonzero a yes no) 0 next None) }
 {
     b.close(End::Nonzero { a, yes, no }, 0, next, None)?;

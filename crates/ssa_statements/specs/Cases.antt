@@ -1,13 +1,14 @@
 -- CASE: its tests one after the other, and its parts.
-use Rattle.std.specs.Prelude.{◌≡◌, ℕ, suc, ◌+◌, ◌≤◌, ◌<◌, List, [], ◌∷◌, ◌++◌, length, Option, Some, None}
+use Rattle.std.specs.Prelude.{◌≡◌, ℕ, suc, ◌+◌, ◌≤◌, ◌<◌, List, [], ◌∷◌, ◌++◌, length, slice_index, Option, Some, None}
 use Rattle.block_runs.specs.declared.end.End.{End}
 use Rattle.block_runs.specs.declared.end.End.TheVariants.{Jump, Trap}
-use Rattle.ssa_lowered.specs.Pieces.{Cursor, Low, Mask, picked}
+use Rattle.ssa_lowered.specs.Pieces.{Cursor, Low, Mask, numbers, picked}
 use Rattle.ssa_lowered.specs.Statements.{Deed}
 use Rattle.ssa_lowered.specs.Control.{Rung, ladder, limbs, half, case}
 use Rattle.ssa_lowered.specs.Limits.{passed}
 use Rattle.ssa_exprs.specs.Changes.{Undoes, rewound, chosen, joined}
 use Rattle.ssa_exprs.specs.Making.{View, Fits, Follows, Once, all_bare, resolved, times, same, given, later, cursor_at, bound, closed}
+use Rattle.ssa_statements.specs.declared.cases.Opened.{Opened}
 use Rattle.ssa_statements.specs.declared.control.Frame.{Frame}
 use Rattle.ssa_statements.specs.Steps.{Steps}
 
@@ -22,6 +23,15 @@ pub record Climbs (v w : View) (last : ℕ) (labels : ℕ → ℕ) (rungs : List
   pub blind : (c : Cursor) (a b : ℕ → ℕ) → passed ((ladder last rungs c).pieces a) ≡ passed ((ladder last rungs c).pieces b)
   pub freq : w.freq ≡ last
   pub known : w.known ≡ v.known
+
+-- the tests of a CASE of so many parts were lowered, whose join has these variables as parameters
+pub record OpensCase (v w : View) (o : Opened) (xs : List ℕ) (n : ℕ) (rungs : List Rung) : Type 0 where
+  pub climbs : Climbs (record v { labels = suc (v.labels + n) }) w (half v.freq) (λ i. slice_index o.starts.items i) rungs
+  pub starts : o.starts.items ≡ numbers v.labels n
+  pub out : o.frame.out ≡ v.labels + n
+  pub vars : o.frame.vars.items ≡ xs
+  pub moment : o.frame.moment ≡ length v.known.log
+  pub freq : o.frame.freq ≡ v.freq
 
 -- the tests that are left: none, or these
 abbrev pub Climbing : (v w : View) (last : ℕ) → (ℕ → ℕ) → List Rung → Type 0

@@ -2,7 +2,7 @@
 
 ghost use Rattle.std.specs.Prelude.{◌≡◌, ℕ, ◌+◌, ◌<◌, ◌≤◌, Option, Some, None, [], ◌∷◌, slice_index, OnOk, IfOk};
 ghost use Rattle.wrapping_numbers.specs.Numbers.{unsigned};
-ghost use Rattle.block_runs.specs.declared.end.End.TheVariants.{Jump, Nonzero};
+ghost use Rattle.block_runs.specs.declared.end.End.TheVariants.{Jump};
 ghost use Rattle.ob_types.specs.declared.program.Program.{Program};
 ghost use Rattle.ssa_lowered.specs.Control.{fork_branch};
 ghost use Rattle.ssa_lowered.specs.Lowered.{Here};
@@ -10,13 +10,13 @@ ghost use Rattle.ssa_lowered.specs.Pieces.{give, numbers};
 ghost use Rattle.ssa_lowered.specs.Values.{const};
 ghost use Rattle.ssa_exprs.specs.Making.{Tests, asked, bound, closed};
 ghost use Rattle.ssa_exprs.specs.Tables.{Serves};
-ghost use Rattle.ssa_statements.specs.Cases.{Climbs, ends, Enters, Leaves};
+ghost use Rattle.ssa_statements.specs.Cases.{Climbs, OpensCase, ends, Enters, Leaves};
 ghost use Rattle.ssa_statements.specs.Rungs.{label_in, choice_in, rungs_in};
 
 use crate::control::Frame;
 use block_runs::{Code, End, Numbers};
 use ob_types::Label;
-use ssa_exprs::{LowerFault, Making, Tables, half, is_pointer, is_tag};
+use ssa_exprs::{LowerFault, Making, Tables, fork, half, is_pointer, is_tag};
 
 /// What a part of CASE is chosen by.
 #[derive(Clone, Copy)]
@@ -34,6 +34,13 @@ pub enum Choice {
 pub struct Rung {
     pub choice: Choice,
     pub part: usize,
+}
+
+/// A CASE whose tests are made: its choice, and the labels of its parts.
+#[derive(Drop)]
+pub struct Opened {
+    pub frame: Frame,
+    pub starts: Vec<u32>,
 }
 
 /// So many labels, one after the other.
@@ -74,14 +81,6 @@ fn related(
         next,
         None,
     )?;
-    Ok(())
-}
-
-/// The open block ends with a test of a value.
-fn decided(b: &mut Making, a: u32, yes: u32, no: u32, next: u64) -> Result<(), LowerFault>
-    ensures { OnOk result (b.new ≡ closed b.old (Nonzero a yes no) 0 next None) }
-{
-    b.close(End::Nonzero { a, yes, no }, 0, next, None)?;
     Ok(())
 }
 
@@ -132,12 +131,12 @@ fn tested(
         }
         Choice::Pointer(r) => {
             let a = is_pointer(b, t.descriptor(*r), t.level(*r), v)?;
-            decided(b, a, yes, no, next)?;
+            fork(b, a, yes, no, next)?;
             Ok(())
         }
         Choice::Parameter(r) => {
             let a = is_tag(b, t.descriptor(*r), t.level(*r), v)?;
-            decided(b, a, yes, no, next)?;
+            fork(b, a, yes, no, next)?;
             Ok(())
         }
     }
@@ -174,6 +173,32 @@ pub fn ladder(
         b.bind(no)?;
     }
     Ok(())
+}
+
+/// The tests of a CASE of so many parts are made, whose join has these variables as parameters; the block without a match is
+/// open.
+pub fn open_parts(
+    t: &Tables,
+    b: &mut Making,
+    v: u32,
+    tests: &[Rung],
+    count: usize,
+    vars: Vec<u32>,
+) -> Result<Opened, LowerFault>
+    ensures { IfOk result (λ o. (p : Program) (here : Here) → Serves t.now p here → OpensCase b.old b.new o vars.items count (rungs_in p here v tests.now)) }
+{
+    let freq = b.freq();
+    let moment = b.moment();
+    let starts = labels(b, count)?;
+    let out = b.label()?;
+    ladder(t, b, v, tests, starts.as_slice(), half(freq))?;
+    let frame = Frame {
+        out,
+        vars,
+        moment,
+        freq,
+    };
+    Ok(Opened { frame, starts })
 }
 
 /// How often the block behind a test or a guard runs, where so many of all are made: the last one leads to another block.

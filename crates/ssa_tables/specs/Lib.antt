@@ -5,3 +5,5 @@ pub mod Strings
 pub mod Shared
 pub mod Local
 pub mod Faults
+pub mod lent
+pub mod constants

@@ -4,11 +4,15 @@
 //! strings, the sizes of types and the offsets of fields. `enter` then puts in what belongs to one procedure, and `pass`
 //! goes on to the next one's strings; so nothing is copied from one procedure to the next. The tables are those that
 //! lowering asks for (`Serves`, in `ssa_exprs`). The limits of a program's and a procedure's data are found on the way.
+//! Variables whose addresses are made (`lent`) stand in memory. `program_constants` makes the bytes of the constants, at the
+//! places that the tables say (`constants`).
 #![tactic(auto)]
 
+pub mod constants;
 mod fields;
 mod globals;
 mod laws;
+mod lent;
 mod locals;
 mod places;
 mod procedure;
@@ -16,6 +20,7 @@ mod program;
 mod sizes;
 mod strings;
 
+pub use constants::{constants_are_counted, globals_are_counted, program_constants};
 pub use laws::well_formed_is_measured;
 pub use locals::{Locals, Variable, is_structured, words};
 pub use procedure::{enter, pass};

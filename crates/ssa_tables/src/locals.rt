@@ -11,12 +11,12 @@ ghost use Rattle.ssa_tables.specs.Measured.{HasSizes};
 ghost use Rattle.ssa_tables.specs.Places.{finish, size_by};
 ghost use Rattle.ssa_tables.specs.Local.{AreLocals, declared_in, pair_of, marked, place_in, ends_behind, placed_by, ends_by, structured_size, local_limit};
 
+use crate::lent::lend_in_body;
 use crate::places::{beyond, size_in};
 use items::Items;
 use ob_types::{Formal, Mode, Procedure, TypeKind, Types};
 use outside::Memory;
 use ssa_exprs::LowerFault;
-use ssa_lent::lend_in_body;
 use std::alloc::Global;
 
 /// A scalar value parameter, or a local variable.

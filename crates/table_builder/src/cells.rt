@@ -56,7 +56,6 @@ impl TableBuilder {
     {
         match self.table.entries[n as usize] {
             TypeRef::Record(r) => self.record_cells(r),
-            TypeRef::Open(_) => 0,
             _ => 1,
         }
     }

@@ -8,7 +8,7 @@ use Rattle.outside.specs.Files.{Held}
 use Rattle.trc_answers.specs.Verdict.{Verdict, Refuses, IsHeld}
 use Rattle.trc_answers.specs.Answers.{Devices, devices, Answers, LacksMemory}
 use Rattle.outside.specs.Sink.{Account}
-use Rattle.fault_lines.specs.declared.places.Position.{Position}
+use Rattle.trc_answers.specs.declared.places.Position.{Position}
 use Rattle.trc_answers.specs.Causes.{IsPlain, IsPlaced}
 use Rattle.trc_answers.specs.Reading.{IsRead, AreRead, AreTextsOf, IsReached, FilesComeTo, AreTooMany, LacksOne, HasALongOne, HaveTexts, Nothing, IsUnreadAt, IsMissing, IsTooLong, IsUnread, IsRefused, OneFailed, LackMemory}
 use Rattle.trc_answers.specs.Reading as reading

@@ -3,9 +3,9 @@ use Rattle.std.specs.Prelude.{ℕ, zero, suc, ◌+◌, ◌/◌, ◌%◌, List, [
 use Rattle.out_text.specs.Text.{shortest_text}
 use Rattle.outside.specs.Sink.{Account, TookAll, Faulted}
 use Rattle.ob_judge.specs.Scopes.{line_ends}
-use Rattle.fault_lines.specs.Places.{last_line}
-use Rattle.fault_lines.specs.Names.{name_of_rule, name_of_limit}
-use Rattle.fault_lines.specs.declared.places.Position.{Position}
+use Rattle.trc_answers.specs.Places.{last_line}
+use Rattle.trc_answers.specs.Names.{name_of_rule, name_of_limit}
+use Rattle.trc_answers.specs.declared.places.Position.{Position}
 use Rattle.a64_machine.specs.declared.answers.Step.{Step}
 use Rattle.a64_machine.specs.declared.answers.Step.TheVariants as step
 use Rattle.trc_answers.specs.declared.causes.Device.{Device}

@@ -3,8 +3,8 @@
 ghost use Rattle.std.specs.Prelude.{◌≡◌};
 ghost use Rattle.trc_answers.specs.Causes.{status_of};
 
+use crate::places::{Position, position_of};
 use a64_machine::Step;
-use fault_lines::{Position, position_of};
 
 /// A device of the outside.
 #[derive(Clone, Copy, Debug)]

@@ -6,8 +6,9 @@ ghost use Rattle.out_text.specs.Text.{shortest_text};
 ghost use Rattle.trc_answers.specs.Causes.{device_name, fault_line, hex, hex_digit, limit_line, line, line_of, name_at, source_line};
 
 use crate::causes::{Cause, Device};
+use crate::names::{limit_name, rule_name};
+use crate::places::Position;
 use a64_machine::Step;
-use fault_lines::{Position, limit_name, rule_name};
 use out_text::IntText;
 use outside::{Sink, WriteFault, write_all};
 

@@ -5,8 +5,9 @@
 #![tactic(auto)]
 
 pub use host_devices::{HostFiles, HostSink, HostSource};
-pub use meet_gate::MeetGate;
-pub use memory_devices::{CleanFiles, CleanSink, CleanSource, MemFiles, MemSink, MemSource};
+pub use memory_devices::{
+    CleanFiles, CleanSink, CleanSource, MeetGate, MemFiles, MemSink, MemSource,
+};
 pub use outside::{
     Failed, Files, Gate, GetFault, InFault, Memory, OpenGate, PutFault, Sink, Source, WriteFault,
     read_all, write_all,

@@ -2,7 +2,7 @@
 use Rattle.std.proofs.Common.{◌≡◌, ℕ, List, [], Option, refl, sym, ap, subst}
 use Rattle.outside.specs.Files.{Held}
 use Rattle.outside.specs.Sink.{Account}
-use Rattle.fault_lines.specs.declared.places.Position.{Position}
+use Rattle.trc_answers.specs.declared.places.Position.{Position}
 use Rattle.alloc_choice.specs.declared.choice.Choice.{Choice}
 use Rattle.image_form.specs.declared.image.Image.{Image}
 use Rattle.program_image.specs.declared.imaging.Compiled.{Compiled}

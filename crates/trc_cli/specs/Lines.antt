@@ -2,7 +2,7 @@
 use Rattle.std.specs.Prelude.{Option}
 use Rattle.outside.specs.Files.{Held}
 use Rattle.outside.specs.Sink.{Account}
-use Rattle.fault_lines.specs.declared.places.Position.{Position}
+use Rattle.trc_answers.specs.declared.places.Position.{Position}
 use Rattle.trc_words.specs.Asked.{Asked}
 use Rattle.trc_answers.specs.declared.causes.Cause.{Cause}
 use Rattle.trc_answers.specs.Causes.{IsPlaced, TookLine, line_of}

@@ -10,14 +10,13 @@ ghost use Rattle.trc_answers.specs.Causes.{IsAt, IsPlaced};
 ghost use Rattle.trc_answers.specs.declared.causes.Cause.TheVariants as cause;
 ghost use Rattle.trc_cli.specs.Commands.{IsRefusedAs, IsTextIn, cause_of_refusal};
 
-use fault_lines::position_of;
 use items::Items;
 use outside::Gate;
 use source_image::{Choice, Compiled, Refusal, source_image, source_traces};
 use std::alloc::{AllocGlobal, Global};
 use std::sync::Wait;
 use std::thread::Threads;
-use trc_answers::{Cause, Ending};
+use trc_answers::{Cause, Ending, position_of};
 
 // A rule is broken in the text of this number, at this byte.
 fn broken(texts: &[Items<u8>], index: usize, number: u8, at: u32) -> Ending

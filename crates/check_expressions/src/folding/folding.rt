@@ -6,8 +6,9 @@ ghost use Rattle.ob_judge.specs.Operands.{fold as value_of, fold_link as value_b
 ghost use Rattle.judged_tree.specs.Plain.{plain_expr, plain_link};
 ghost use Rattle.check_expressions.specs.folding.Links.{value_behind_each};
 
-use crate::folding::operators::{binary, holds, related, truth, unary};
-use crate::folding::sets::{as_byte, is_in, with_element, with_elements};
+use ob_operators::{
+    as_byte, binary, holds, is_in, related, truth, unary, with_element, with_elements,
+};
 use ob_types::{Expr, Link};
 
 /// The value of a constant expression: a number, a truth value, a character, a set or NIL by its 64 bits. None where it

@@ -5,7 +5,7 @@ use Rattle.ssa_lowered.specs.Lowered.{answer}
 use Rattle.ssa_lowered.specs.Variables.{zeroing, stored, opened, some_structured}
 use Rattle.ssa_exprs.proofs.Giving.{gives_as}
 use Rattle.ssa_statements.proofs.Joining.{steps_as}
-use Rattle.ssa_control.specs.Lists.{deeds_in}
+use Rattle.ssa_statements.specs.walk.Lists.{deeds_in}
 use Rattle.ssa_tables.specs.Local.{seen}
 use Rattle.ssa_build.proofs.Makings.{makes_whole}
 use Rattle.ssa_build.proofs.body.lower_body.Goals as goal

@@ -1,7 +1,7 @@
 use Rattle.std.proofs.Common.{codes, ◌++◌, subst, ◌∙◌}
 use Rattle.outside.specs.Sink.{TookAll}
 use Rattle.out_text.specs.Text.{shortest_text}
-use Rattle.fault_lines.specs.Names.{name_of_limit}
+use Rattle.trc_answers.specs.Names.{name_of_limit}
 use Rattle.trc_answers.specs.Causes.{line}
 use Rattle.trc_answers.proofs.Lines.{limit_parts}
 use Rattle.trc_answers.proofs.reporting.say_limit.Goals as goal

@@ -1,7 +1,7 @@
 use Rattle.std.proofs.Common.{codes, ◌++◌, subst}
 use Rattle.outside.specs.Sink.{TookAll}
 use Rattle.out_text.specs.Text.{shortest_text}
-use Rattle.fault_lines.specs.Names.{name_of_rule}
+use Rattle.trc_answers.specs.Names.{name_of_rule}
 use Rattle.trc_answers.specs.Causes.{line}
 use Rattle.trc_answers.proofs.Lines.{source_parts}
 use Rattle.trc_answers.proofs.reporting.say_source.Goals as goal

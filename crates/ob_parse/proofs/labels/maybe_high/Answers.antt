@@ -1,0 +1,12 @@
+-- Each right side, put together from its parts.
+use Rattle.parse_steps.proofs.Steps.{reads_then, reads_some, fails_then, fails_some, gives_err, left_out}
+use Rattle.ob_parse.proofs.labels.maybe_high.Goals as goal
+
+pub returns-in_err-label-in-Some : goal.returns-in_err-label-in-Some
+returns-in_err-label-in-Some c = gives_err _ c.from_residual.result c.from_residual.ensures.1 (fails_some c.in-Some.ensures.here (fails_then c.in-Some.ensures.read c.in_err-label-in-Some.ensures))
+
+pub returns-in-None : goal.returns-in-None
+returns-in-None c = left_out c.in-None.ensures.none c.in-None.ensures
+
+pub returns-in_ok-label-in-Some : goal.returns-in_ok-label-in-Some
+returns-in_ok-label-in-Some c = reads_some c.in-Some.ensures.here (reads_then c.in-Some.ensures.read c.in_ok-label-in-Some.ensures)

@@ -1,6 +1,0 @@
-use Rattle.std.proofs.Common.{◌∙◌, ◌||◌, ap, sym}
-use Rattle.ssa_assigned.specs.Assigned.{has, assigned_list}
-use Rattle.ssa_control.proofs.joins.of_body.Goals as goal
-
-pub returns : goal.returns
-returns c = λ p here s env len. c.in_ok-list.ensures p here s (assigned_list c.args.body.now) (λ x. c.in_ok-note_all.ensures x ∙ ap (λ l. has l x || assigned_list c.args.body.now x) c.new-found.ensures.items) env (len ∙ sym c.variables.ensures)

@@ -1,6 +1,0 @@
-use Rattle.std.proofs.Common.{◌∙◌, ◌||◌, ap, sym}
-use Rattle.ssa_assigned.specs.Assigned.{has, assigned_parts}
-use Rattle.ssa_control.proofs.joins.of_guards.Goals as goal
-
-pub returns : goal.returns
-returns c = λ p here s env len. c.in_ok-list.ensures p here s (assigned_parts c.args.parts.now) (λ x. c.in_ok-note_parts.ensures x ∙ ap (λ l. has l x || assigned_parts c.args.parts.now x) c.new-found.ensures.items) env (len ∙ sym c.variables.ensures)

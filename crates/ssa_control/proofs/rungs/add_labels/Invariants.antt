@@ -1,6 +1,0 @@
-use Rattle.std.proofs.Common.{◌≡◌, ◌++◌, drop}
-use Rattle.ssa_control.specs.Rungs.{coded_labels}
-use Rattle.ssa_control.proofs.rungs.add_labels.Given as goal
-
-abbrev pub invariant-loop-label : goal.invariant-loop-label
-invariant-loop-label l = l.list.items ++ coded_labels l.part (drop l.label-index l.labels) ≡ l.initial.list.items ++ coded_labels l.part l.labels

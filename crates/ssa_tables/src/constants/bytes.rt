@@ -1,0 +1,89 @@
+//! All constants.
+
+ghost use Rattle.std.specs.Prelude.{◌≡◌, ◌++◌, ◌<◌, ◌^◌, None, IfOk, OnOk};
+ghost use Rattle.std.specs.List.{flat_map};
+ghost use Rattle.ob_types.specs.Meaning.{texts_of};
+ghost use Rattle.ssa_lowered.specs.Constants.{constants as constants_there};
+ghost use Rattle.ssa_lowered.specs.Data.{in_cells};
+ghost use Rattle.ssa_tables.specs.Faults.{first_limit};
+ghost use Rattle.ssa_tables.specs.Shared.{ServesAll};
+ghost use Rattle.ssa_tables.specs.constants.Described.{all_described, all_texts, character_in_cell};
+
+use crate::constants::descriptors::push_descriptor;
+use items::Items;
+use ob_types::{Procedure, Program, Types};
+use outside::Memory;
+use ssa_exprs::Tables;
+use std::alloc::Global;
+
+/// The constants of a program, by its tables, where the globals start at an address.
+pub fn program_constants(
+    alloc: Global,
+    tables: &Tables,
+    program: &Program,
+    globals: u32,
+) -> Result<Vec<u8>, Memory>
+    requires tables { ServesAll tables.now program.now }
+    requires within { first_limit program.now ≡ None }
+    ensures { IfOk result (λ bytes. bytes.items ≡ constants_there program.now (in_cells program.now.types) globals) }
+{
+    let mut bytes = Vec::new(alloc);
+    let first = u64::from(globals) + u64::from(tables.descriptors);
+    push_descriptors(&mut bytes, &program.types, first)?;
+    push_procedures(&mut bytes, program.procedures.as_slice())?;
+    Ok(bytes)
+}
+
+/// Adds all descriptors. Over 2^32 of them are as if there were no memory.
+fn push_descriptors(bytes: &mut Vec<u8>, types: &Types, first: u64) -> Result<(), Memory>
+    requires { first < 2 ^ 62 }
+    ensures { OnOk result (bytes.new.items ≡ bytes.old.items ++ all_described types.now first) }
+{
+    let count = types.records().len();
+    if count > u32::MAX as usize {
+        return Err(Memory);
+    }
+    for r in 0..count {
+        push_descriptor(bytes, types, first, r as u32)?;
+    }
+    Ok(())
+}
+
+/// Adds the strings of all procedures.
+fn push_procedures(bytes: &mut Vec<u8>, procedures: &[Procedure]) -> Result<(), Memory>
+    ensures { OnOk result (bytes.new.items ≡ bytes.old.items ++ all_texts (texts_of procedures.now)) }
+{
+    for q in procedures {
+        push_texts(bytes, q.texts.as_slice())?;
+    }
+    Ok(())
+}
+
+/// Adds strings, each with its 0X.
+fn push_texts(bytes: &mut Vec<u8>, texts: &[Items<u8>]) -> Result<(), Memory>
+    ensures { OnOk result (bytes.new.items ≡ bytes.old.items ++ all_texts texts.now) }
+{
+    for text in texts {
+        push_characters(bytes, text.as_slice())?;
+        push_character(bytes, 0)?;
+    }
+    Ok(())
+}
+
+/// Adds characters.
+fn push_characters(bytes: &mut Vec<u8>, text: &[u8]) -> Result<(), Memory>
+    ensures { OnOk result (bytes.new.items ≡ bytes.old.items ++ flat_map character_in_cell text.now) }
+{
+    for c in text {
+        push_character(bytes, *c)?;
+    }
+    Ok(())
+}
+
+/// Adds a character, in eight bytes.
+fn push_character(bytes: &mut Vec<u8>, c: u8) -> Result<(), Memory>
+    ensures { OnOk result (bytes.new.items ≡ bytes.old.items ++ character_in_cell c) }
+{
+    bytes.extend_from_slice(&[c, 0, 0, 0, 0, 0, 0, 0])?;
+    Ok(())
+}
