@@ -1,9 +1,6 @@
 //! The program: it hands the host's files and streams to the command of its words, and ends with the status.
 #![tactic(auto)]
 
-#[cfg(test)]
-mod tests;
-
 use std::alloc::Global;
 use std::process::ExitCode;
 use trc_base::{HostFiles, HostSink, HostSource};

@@ -1,3 +1,0 @@
-//! What commands tell and write.
-
-mod commands;
