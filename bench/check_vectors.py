@@ -6,7 +6,7 @@
 Writes `stdin` and `stdout` into FOLDER (that crate's, if none is given): the small modules of bench/rows, those of bench/rows/whole, some
 examples, and changes of these last, of one symbol mostly; with TRIES and SEED only what so many other changes give, to be compared by
 hand. Prints how many verdicts there are of each rule. bench/other_compiler.py says where the other checker is; how lines are written
-is said in crates/check_vectors and crates/module_texts.
+is said in crates/check_vectors and crates/vector_texts.
 """
 import collections
 import os

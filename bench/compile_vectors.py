@@ -6,7 +6,7 @@
 Writes `stdin` and `stdout` into FOLDER (that crate's, if none is given): the modules of bench/rows, made modules, and programs at
 limits and beyond; those that have no image with one choice, the others with each policy, among them both builders and 4 to 16
 registers; and modules that have the whole language in them, by every choice. bench/other_compiler.py says where the other compiler is; how lines are written is said in crates/compile_vectors and
-crates/module_texts.
+crates/vector_texts.
 """
 import itertools
 import os

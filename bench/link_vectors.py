@@ -7,7 +7,7 @@
 Writes `stdin` and `stdout` into FOLDER (that crate's, if none is given): a hundred modules, of bench/rows and made ones,
 each linked without a choice and by linear scan, with 4 and 16 registers; bench/other_compiler.py says where the other
 compiler is. `bench` prints one module with so many procedures of a made one, for bench/link.sh. How lines are written
-is said in crates/link_vectors and crates/flow_text.
+is said in crates/link_vectors and crates/vector_texts.
 """
 import os
 import sys

@@ -5,7 +5,7 @@
 
 Writes `stdin` and `stdout` into FOLDER (that crate's, if none is given): legal modules of bench/rows, examples, and programs at limits
 and beyond; prints how often there is each operation and end, and which operations there aren't. bench/other_compiler.py says where
-the other compiler is; how lines are written is said in crates/lower_vectors and crates/module_texts.
+the other compiler is; how lines are written is said in crates/lower_vectors and crates/vector_texts.
 """
 import collections
 import os

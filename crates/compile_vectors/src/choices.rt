@@ -3,12 +3,12 @@
 ghost use Rattle.alloc_choice.specs.Choice.{IsFitChoice};
 
 use items::Items;
-use module_texts::{sum_of, texts_of};
 use outside::OpenGate;
 use source_image::{Builder, Choice, Image, Policy, source_image};
 use std::alloc::{AllocError, Global};
 use std::sync::Wait;
 use std::thread::Threads;
+use vector_texts::{sum_of, texts_of};
 
 /// How often the image of the last choice is made by each number of workers.
 const TIMES: u32 = 10;

@@ -1,7 +1,7 @@
 //! Compiles the modules of each line of its input, and prints what the texts come to: the image's sizes and a sum over its words,
 //! or why there is none.
 //!
-//! A line is a policy, a builder, a number of registers, and then the modules' texts (`module_texts`). The stored input are modules
+//! A line is a policy, a builder, a number of registers, and then the modules' texts (`vector_texts`). The stored input are modules
 //! that break each rule, programs that use the whole language, and programs beyond limits; what is wanted is what another compiler,
 //! written in Python from the rules alone, says of them (`bench/compile_vectors.py` makes both where it is).
 //!
@@ -16,7 +16,6 @@ ghost use Rattle.std.specs.Prelude.{IfSome};
 ghost use Rattle.alloc_choice.specs.Choice.{IsFitChoice};
 
 use choices::every_image;
-use module_texts::{sum_of, texts_of};
 use outside::OpenGate;
 use source_image::{Builder, Choice, Compiled, Policy, Refusal, source_image};
 use std::alloc::{AllocError, Global};
@@ -24,6 +23,7 @@ use std::io;
 use std::io::{BufRead, BufReader};
 use std::sync::Wait;
 use std::thread::Threads;
+use vector_texts::{sum_of, texts_of};
 
 /// A policy by its word.
 fn policy_named(word: &str) -> Option<Policy> {

@@ -12,7 +12,6 @@
 mod procs;
 mod selections;
 
-use flow_text::flow_of;
 use global_live::{LiveSets, live};
 use lir_core::Flow;
 use outside::Memory;
@@ -22,6 +21,7 @@ use std::alloc::{AllocError, Global};
 use std::io::{BufRead, BufReader};
 use std::{env, io};
 use trace_build::{Builder, Trace, build, parents};
+use vector_texts::flow_of;
 
 /// Adds numbers between commas, or `-` where there are none.
 pub(crate) fn push_list(text: &mut String, numbers: &[u32]) -> Result<(), AllocError> {

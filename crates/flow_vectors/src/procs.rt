@@ -1,9 +1,9 @@
 //! Procedures as words.
 
-use flow_text::{Words, code_of, end_of};
 use outside::Memory;
 use ssa_core::{Block, Items, Numbers, Op, Proc};
 use std::alloc::Global;
+use vector_texts::{Words, code_of, end_of};
 
 /// The procedure of a line; what is missing is left out or 0, and an unknown operation is `Svc(0)`, which fits nowhere.
 pub(crate) fn proc_of(alloc: Global, line: &str) -> Result<Proc, Memory> {

@@ -3,12 +3,12 @@
 use crate::procs::proc_of;
 use crate::push_list;
 use a64_select::select;
-use flow_text::{push_end, push_optional};
 use lir_core::{Flow, Node};
 use outside::Memory;
 use ssa_core::Proc;
 use ssa_valid::is_valid;
 use std::alloc::{AllocError, Global};
+use vector_texts::{push_end, push_optional};
 
 /// Adds a node: its frequency, the node that enters it, its parameters and predecessors, its operations' values, each as
 /// what it makes and what it reads, calls marked by `!`, and its end.

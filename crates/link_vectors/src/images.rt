@@ -3,11 +3,11 @@
 use crate::Module;
 use flow_allocation::{AllocatedFlows, Builder, Choice, Policy, WorkFault, allocate_flows};
 use link_plan::{Bytes, Data, Image, LinkFault, link};
-use module_texts::sum_of;
 use outside::{Memory, OpenGate};
 use std::alloc::{AllocError, Global};
 use std::sync::Wait;
 use std::thread::Threads;
+use vector_texts::sum_of;
 
 /// The image of a module, or why there is none.
 fn linked(

@@ -5,7 +5,7 @@
 //! (`bench/link_vectors.py` makes both where it is). Lines of the input:
 //!
 //! - `module FLAGS GLOBALS {BYTE}`: a module begins, with its constants;
-//! - `flow ..`: a procedure of it, as `flow_text` reads it;
+//! - `flow ..`: a procedure of it, as `vector_texts` reads it;
 //! - `link POLICY REGISTERS [words]`: prints its image: how many code words, the bytes of the greatest frame, of the globals
 //!   and of the constants, the flags, a sum of words and constants, and with `words` all code words.
 //!
@@ -16,7 +16,6 @@
 mod images;
 mod orders;
 
-use flow_text::{Words, flow_in};
 use images::{Runs, answer};
 use lir_core::{Flow, Items};
 use orders::ordered;
@@ -26,6 +25,7 @@ use std::io::{BufRead, BufReader};
 use std::sync::Wait;
 use std::thread::Threads;
 use std::{env, io};
+use vector_texts::{Words, flow_in};
 
 /// A module, as far as it is read.
 #[derive(Drop)]

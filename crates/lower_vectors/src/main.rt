@@ -1,11 +1,11 @@
 //! Lowers the modules of each line of its input, and prints the procedures that they become, or the limit that is passed first.
 //!
-//! A line is a name, which tells what it shows, and then the modules' texts (`module_texts`). Of a program it prints
+//! A line is a name, which tells what it shows, and then the modules' texts (`vector_texts`). Of a program it prints
 //! `procedures NUMBER` and a line for each procedure, with each number that it has:
 //!
 //!     proc VALUES ARGS (counted | body) CELLS BYTES {block FREQ ENTER params {V} {op NAME NUMBER DEF {V}} END}
 //!
-//! where ENTER and DEF are a number or `-`, NUMBER is 0 where the operation has none, and an end is as `flow_text` writes it. Of
+//! where ENTER and DEF are a number or `-`, NUMBER is 0 where the operation has none, and an end is as `vector_texts` writes it. Of
 //! the others it prints `limit NUMBER at INDEX`, or the fault of their texts. The stored input are modules that use the whole
 //! language, and some at limits and beyond; what is wanted is what another compiler, written in Python from the rules alone, makes
 //! of them (`bench/lower_vectors.py` makes both where it is).
@@ -13,7 +13,6 @@
 
 mod words;
 
-use module_texts::texts_of;
 use outside::Memory;
 use source_program::{SourceFault, source_program};
 use ssa_build::lower;
@@ -22,6 +21,7 @@ use ssa_exprs::LowerFault;
 use std::alloc::Global;
 use std::io;
 use std::io::{BufRead, BufReader};
+use vector_texts::texts_of;
 use words::procedure_line;
 
 /// The lines of procedures.

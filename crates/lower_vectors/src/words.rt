@@ -1,8 +1,8 @@
 //! Procedures as words.
 
-use flow_text::{name_of, push_end, push_numbers, push_optional};
 use ssa_core::{Block, Op, Proc};
 use std::alloc::{AllocError, Global};
+use vector_texts::{name_of, push_end, push_numbers, push_optional};
 
 /// Adds an operation: its name and number, the value that it makes, and those that it reads.
 fn push_op(text: &mut String, op: &Op) -> Result<(), AllocError> {

@@ -10,7 +10,6 @@
 ghost use Rattle.alloc_choice.specs.Choice.{IsFitChoice};
 
 use alloc_choice::{Choice, Policy, allocate_trace};
-use flow_text::{Words, flow_in};
 use global_live::live;
 use lir_core::{Flow, Line, Place, Places, TraceIn, TraceOut};
 use outside::{Memory, OpenGate};
@@ -22,6 +21,7 @@ use std::{env, io};
 use trace_build::{Builder, build};
 use trace_pool::final_results;
 use trace_work::{TraceWork, WorkFault};
+use vector_texts::{Words, flow_in};
 
 fn push_places(text: &mut String, q: &Places) -> Result<(), AllocError> {
     for content in q.regs.as_slice() {

@@ -1,8 +1,0 @@
-//! The text of a module has one reading.
-//!
-//! It has one list of symbols and one syntax, or there is one rule that it breaks first, at one byte, and never both.
-#![tactic(auto)]
-
-mod laws;
-
-pub use laws::texts_are_read_once;
