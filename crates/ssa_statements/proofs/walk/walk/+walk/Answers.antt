@@ -30,7 +30,6 @@ use Rattle.ssa_statements.proofs.Loops.{rounds_none}
 use Rattle.ssa_statements.specs.declared.walk.rungs.Dynamic.TheVariants.{Pointer, Parameter}
 use Rattle.ssa_statements.specs.walk.Frames.{Takes}
 use Rattle.ssa_statements.specs.walk.Lists.{deeds_in, alternatives_in, rounds_in, loop_in, repeat_in, count_in, case_in, types_in, case_bodies_in, type_bodies_in}
-use Rattle.ssa_statements.specs.walk.Rungs.{coded_cases, coded_types}
 use Rattle.ssa_statements.proofs.walk.Joined.{or_turned}
 use Rattle.ssa_statements.proofs.walk.Making.{doing_more, doing_end, steps_passed, opens_all, alternatives_step, turns_all, turning_more, headed_many, looped_all, one_round, repeated_all, takes_end, takes_next, case_all, below_cases, below_types, finishes_none}
 use Rattle.ssa_statements.proofs.walk.Rows.{deed_if, deed_while, deed_repeat, steps_count, steps_case_on, steps_case_pointer, steps_case_parameter}
