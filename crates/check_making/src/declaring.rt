@@ -13,8 +13,8 @@ use items::Items;
 use ob_syntax::names::Identdef;
 use std::alloc::{AllocError, Global};
 
-// The place of the innermost of some scopes.
-fn innermost(levels: &[Level]) -> usize
+/// The place of the innermost of some scopes.
+pub fn innermost(levels: &[Level]) -> usize
     requires { 0 < length levels.now }
     ensures { result ≡ length levels.now - 1 }
 {

@@ -19,6 +19,6 @@ mod standing;
 mod strings;
 mod typing;
 
-pub use declaring::{declare_in, offer};
+pub use declaring::{declare_in, innermost, offer};
 pub use making::{Declaring, Forward, Offered, Surroundings, TextPlace};
 pub use strings::next_number;

@@ -13,4 +13,4 @@ mod numbers;
 pub use building::Building;
 pub use entering::{Outer, enter, inside, leave};
 pub use naming::declare_procedure;
-pub use numbers::numbers_of;
+pub use numbers::variable_numbers;

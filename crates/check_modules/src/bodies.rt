@@ -1,17 +1,13 @@
 //! A module's body.
 
 ghost use Rattle.std.specs.Prelude.{◌≡◌, OnOk};
-ghost use Rattle.std.specs.Str.{bytes_eq};
 ghost use Rattle.ob_syntax.specs.Plain.{plain_module};
 ghost use Rattle.ob_judge.specs.Image.{Procedure as JudgedProcedure};
-ghost use Rattle.ob_judge.specs.Judged.{rule};
 ghost use Rattle.ob_judge.specs.Making.{Making};
 ghost use Rattle.ob_judge.specs.Modules.{SoFar};
-ghost use Rattle.ob_judge.specs.Scopes.{place, spelled};
 ghost use Rattle.judged_outlines.specs.Upright.{Upright};
 ghost use Rattle.check_procedures.specs.lines.Lines.{IsLineTable};
 ghost use Rattle.check_types.specs.steps.Answers.{Answers};
-ghost use Rattle.check_selectors.specs.standard.Made.{IsKept};
 ghost use Rattle.check_making.specs.Making.{Makes, IsSettled};
 ghost use Rattle.check_making.specs.scopes.Building.{StandsFor};
 ghost use Rattle.check_making.specs.scopes.Built.{BuildsAs, IsNumber};
@@ -19,6 +15,7 @@ ghost use Rattle.check_modules.specs.Parts.{completed_module, numbered_part};
 
 use check_making::scopes::Building;
 use check_making::{Declaring, Surroundings};
+use check_procedures::end_name;
 use check_procedures::lines::line_at;
 use check_procedures::numbers::renumbered;
 use check_statements::body_of;
@@ -27,17 +24,6 @@ use check_types::steps::CheckFault;
 use items::Items;
 use ob_syntax::modules::Module;
 use ob_types::Procedure;
-
-// Behind END stands the module's name.
-fn end_name(round: &Surroundings, name: u32, end: u32) -> Result<(), CheckFault>
-    ensures { Answers IsKept (rule 37 (place round.now.source.now end) (bytes_eq (spelled round.now.source.now end) (spelled round.now.source.now name))) result }
-{
-    if round.source.spelled(end) == round.source.spelled(name) {
-        Ok(())
-    } else {
-        Err(round.source.fault(37, end))
-    }
-}
 
 /// What a module's body is, where its declarations have been judged.
 pub fn completed(

@@ -22,23 +22,21 @@ ghost use Rattle.check_making.specs.Making.{Makes, IsSettled};
 ghost use Rattle.check_making.specs.parameters.Headings.{IsHeading};
 ghost use Rattle.check_making.specs.scopes.Building.{IsLater, StandsFor};
 ghost use Rattle.check_making.specs.scopes.InTurn.{UseInTurn};
-ghost use Rattle.check_making.specs.scopes.Numbers.{AreNumbersOf};
 ghost use Rattle.check_procedures.specs.Completing.{image_of, IsStill};
 
 use crate::lines::line_at;
 use crate::numbers::{Numbered, renumbered};
 use check_making::parameters::Heading;
-use check_making::scopes::numbers_of;
+use check_making::scopes::variable_numbers;
 use check_making::{Declaring, Surroundings};
 use check_statements::assignments::answer;
 use check_statements::body_of;
 use check_types::steps::CheckFault;
-use items::Items;
 use ob_syntax::declarations::Procedure as ProcedureTree;
 use ob_types::Procedure;
 
-// Behind END stands the procedure's name.
-fn end_name(round: &Surroundings, name: u32, end: u32) -> Result<(), CheckFault>
+/// Behind END stands this name again.
+pub fn end_name(round: &Surroundings, name: u32, end: u32) -> Result<(), CheckFault>
     ensures { Answers IsKept
         (rule 37 (place round.now.source.now end) (bytes_eq (spelled round.now.source.now end) (spelled round.now.source.now name))) result }
 {
@@ -46,18 +44,6 @@ fn end_name(round: &Surroundings, name: u32, end: u32) -> Result<(), CheckFault>
         Ok(())
     } else {
         Err(round.source.fault(37, end))
-    }
-}
-
-// The numbers of the types of its variables.
-fn local_numbers(state: &Declaring, round: &Surroundings) -> Result<Items<u32>, CheckFault>
-    requires { IsSettled round.now state.now }
-    ensures numbers { IfOk result (λ ns. AreNumbersOf state.now.types.table.entries.items ns state.now.variables.items) }
-    ensures memory { IfErr result (λ e. e ≡ CheckFault.Memory) }
-{
-    match numbers_of(round.alloc, &state.types, &state.variables) {
-        Ok(numbers) => Ok(numbers),
-        Err(_) => Err(CheckFault::Memory),
     }
 }
 
@@ -79,7 +65,7 @@ fn procedure_with(
     ensures in_turn { IfOk result (λ q. UseInTurn numbered.texts numbered.body numbered.answer → UseInTurn q.texts q.body q.answer) }
     ensures memory { IfErr result (λ e. e ≡ CheckFault.Memory) }
 {
-    let locals = local_numbers(state, round)?;
+    let locals = variable_numbers(state, round)?;
     Ok(Procedure {
         module: round.module_number,
         line,

@@ -14,5 +14,6 @@ pub mod numbers;
 mod opening;
 mod walk;
 
+pub use completing::end_name;
 pub use first_parts::before_procedures;
 pub use walk::procedure;

@@ -1,6 +1,6 @@
 //! Imports judged.
 
-ghost use Rattle.std.specs.Prelude.{◌≡◌, ◌||◌, ◌<◌, ◌-◌, length, OnOk};
+ghost use Rattle.std.specs.Prelude.{◌≡◌, ◌||◌, OnOk};
 ghost use Rattle.ob_syntax.specs.Plain.{plain_option, plain_imports};
 ghost use Rattle.ob_judge.specs.Modules.{import_part, origin as judged_origin, is_in as judged_in};
 ghost use Rattle.ob_judge.specs.Declarations.{each};
@@ -10,8 +10,8 @@ ghost use Rattle.check_making.specs.Parts.{Judges};
 ghost use Rattle.check_modules.specs.importing.Importing.{known_as, imports_part, more_imports};
 
 use crate::importing::finding::imported;
-use check_making::{Declaring, Surroundings, declare_in};
-use check_types::names::{Declared, Imported, Level, Named};
+use check_making::{Declaring, Surroundings, declare_in, innermost};
+use check_types::names::{Declared, Imported, Named};
 use check_types::steps::CheckFault;
 use ob_syntax::modules::{Import, Imports, NextImport};
 
@@ -40,14 +40,6 @@ fn either(a: bool, b: bool) -> bool
     ensures { result ≡ (a || b) }
 {
     a || b
-}
-
-// The place of the innermost of some scopes.
-fn innermost(levels: &[Level]) -> usize
-    requires { 0 < length levels.now }
-    ensures { result ≡ length levels.now - 1 }
-{
-    levels.len() - 1
 }
 
 // A module is known under this name.

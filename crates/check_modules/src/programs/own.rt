@@ -4,28 +4,15 @@ ghost use Rattle.std.specs.Prelude.{◌≡◌, map, IfOk, IfErr};
 ghost use Rattle.ob_judge.specs.Scopes.{spelled};
 ghost use Rattle.check_types.specs.TypeMeaning.{type_shape};
 ghost use Rattle.check_making.specs.Making.{table_of, strings_of, offered_of, IsSettled};
-ghost use Rattle.check_making.specs.scopes.Numbers.{AreNumbersOf};
 ghost use Rattle.check_modules.specs.programs.Entities.{AreTold};
 ghost use Rattle.check_modules.specs.programs.Modules.{IsModuleOf};
 
 use crate::programs::objects::objects_of;
-use check_making::scopes::numbers_of;
+use check_making::scopes::variable_numbers;
 use check_making::{Declaring, Surroundings};
 use check_types::steps::CheckFault;
 use items::Items;
 use ob_types::Module;
-
-// The types of a module's variables by their numbers.
-fn variables_of(state: &Declaring, round: &Surroundings) -> Result<Items<u32>, CheckFault>
-    requires { IsSettled round.now state.now }
-    ensures numbers { IfOk result (λ ns. AreNumbersOf state.now.types.table.entries.items ns state.now.variables.items) }
-    ensures memory { IfErr result (λ e. e ≡ CheckFault.Memory) }
-{
-    match numbers_of(round.alloc, &state.types, &state.variables) {
-        Ok(numbers) => Ok(numbers),
-        Err(_) => Err(CheckFault::Memory),
-    }
-}
 
 /// The module of this name, whose body has this number: its names and variables, once its declarations have been judged.
 pub fn module_with(
@@ -46,7 +33,7 @@ pub fn module_with(
 {
     let name = Items::from_slice(round.alloc, round.source.spelled(name))?;
     let objects = objects_of(round.alloc, &state.types, &state.places, &state.objects)?;
-    let variables = variables_of(state, round)?;
+    let variables = variable_numbers(state, round)?;
     Ok(Module {
         name,
         objects,

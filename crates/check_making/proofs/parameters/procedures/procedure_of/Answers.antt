@@ -18,3 +18,9 @@ returns-in-Ok-clause-legal c = λ x is listed result legal.
     let h = c.in-Ok.ensures in
     procedure_legal s c.procedure.new.self c.requires.settled.built h.built h.grows h.known c.args.heading x is c.number-outcome.result c.number-outcome.ensures.entry c.number-outcome.ensures.shape c.in-Ok.of h.shape h.entries h.signatures
     listed result legal
+
+pub returns-in-Ok-clause-shape : goal.returns-in-Ok-clause-shape
+returns-in-Ok-clause-shape c = λ x is. record {
+  shape_is = cc (is.listed.formals, is.result_is, c.number-outcome.ensures.shape, c.in-Ok.ensures.shape);
+  element = c.in-Ok.ensures.element;
+}
