@@ -1,7 +1,7 @@
 -- The first symbol of an expression, by the parts that code takes out of it.
 use Rattle.std.proofs.Common.{◌≡◌, ℕ, Box, Global, Option, Some, None, refl, ap, ◌∙◌}
 use Rattle.ob_syntax.specs.Syntax as S
-use Rattle.ob_syntax.specs.Plain.{plain_expression, plain_maybe_compared, plain_simple, plain_each_added, plain_term, plain_each_multiplied, plain_factor}
+use Rattle.ob_syntax.specs.Plain.{plain_expression, plain_maybe_compared, plain_simple, plain_term, plain_factor}
 use Rattle.ob_syntax.specs.declared.expressions.Expression.{Expression, out-Expression}
 use Rattle.ob_syntax.specs.declared.expressions.Compared.{Compared}
 use Rattle.ob_syntax.specs.declared.expressions.Simple.{Simple, out-Simple}

@@ -1,4 +1,4 @@
-use Rattle.std.proofs.Common.{◌≡◌, sym, ap, ◌∙◌}
+use Rattle.std.proofs.Common.{sym, ap, ◌∙◌}
 use Rattle.ob_syntax.specs.Plain.{plain_factor}
 use Rattle.ob_syntax.specs.declared.expressions.Set.{out-Set}
 use Rattle.ob_judge.specs.Symbols.{factor_first as first_of_factor}
