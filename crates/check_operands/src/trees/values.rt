@@ -27,9 +27,8 @@ pub fn linked(alloc: Global, x: Expr, link: Link) -> Result<Expr, AllocError>
 fn begun(alloc: Global, x: Expr, link: Link) -> Result<Expr, AllocError>
     ensures { IfOk result (λ e. (t : Table) (texts : List (List ℕ)) → plain_expr t texts e ≡ I.Linked (plain_expr t texts x) (plain_link t texts link)) }
 {
+    let links = vec![in alloc; link]?;
     let first = Box::new(alloc, x)?;
-    let mut links = Vec::with_capacity(alloc, 1)?;
-    links.push(link)?;
     Ok(Expr::Chain(first, links))
 }
 
