@@ -29,7 +29,7 @@ use Rattle.table_builder.specs.Entries.{IsNumbered, IsElement, is_whole, pointer
 use Rattle.table_builder.specs.Sound.{IsSound, IsNext, IsNewSignature}
 use Rattle.table_builder.specs.Index.{signature_parts, HasSignature, bit}
 use Rattle.table_builder.specs.Contents.{IsField, AreFields, IsRecordType, IsClosed, AreRecordTypes, IsBlank, base_in, AreElements, Contents, notes_of, IsConsistent}
-use Rattle.table_builder.specs.declared.numbers.Numbers.{Numbers}
+use Rattle.table_builder.specs.declared.numbers.TypeNumbers.{TypeNumbers}
 use Rattle.table_builder.proofs.Lists.{there, get_left, get_from, get_last}
 use Rattle.table_builder.proofs.Growth.{Extends, formals_mean, number_means}
 use Rattle.table_builder.proofs.Pushing.{extends_append, pointers-append, pushed, other_records}
@@ -357,7 +357,7 @@ procedure_shape t u old new g x at p q before =
 
 -- ---- notes
 
-pub notes_same : (s r : Numbers) → r ≡ record s { procedures = r.procedures; signatures = r.signatures } → r.procedures.items ≡ s.procedures.items → ((q : List ℕ) → at_bytes r.signatures q ≡ at_bytes s.signatures q) → notes_of r ≡ notes_of s
+pub notes_same : (s r : TypeNumbers) → r ≡ record s { procedures = r.procedures; signatures = r.signatures } → r.procedures.items ≡ s.procedures.items → ((q : List ℕ) → at_bytes r.signatures q ≡ at_bytes s.signatures q) → notes_of r ≡ notes_of s
 notes_same s r p q h = ap notes_of p ∙ ap₂ (λ (ps : List ℕ) (f : List ℕ → Option ℕ). record (notes_of s) { procedures = ps; signatures = f }) q (fun_ext h)
 
 -- ---- as many record types in both

@@ -11,7 +11,7 @@ use Rattle.check_types.specs.declared.table.Added.{Added}
 use Rattle.check_types.specs.declared.table.FieldEntry.{FieldEntry}
 use Rattle.check_types.specs.declared.table.Layout.{Layout}
 use Rattle.check_types.specs.declared.table.TypeTable.{TypeTable}
-use Rattle.table_builder.specs.declared.numbers.Numbers.{Numbers}
+use Rattle.table_builder.specs.declared.numbers.TypeNumbers.{TypeNumbers}
 use Rattle.table_builder.specs.Entries.{IsNumbered, IsElement, is_whole, HasWholeElements, pointers_of}
 use Rattle.table_builder.specs.Sound.{IsSound}
 use Rattle.table_builder.specs.Index.{Notes, IsIndex, IndexesSignatures}
@@ -59,7 +59,7 @@ pub record Contents : Type 0 where
   pub layouts : List Layout
   pub notes : Notes
 
-abbrev pub notes_of : Numbers → Notes
+abbrev pub notes_of : TypeNumbers → Notes
 notes_of s = record {
   records = s.records.items;
   pointers = s.pointers.items;
@@ -68,7 +68,7 @@ notes_of s = record {
   signatures = at_bytes s.signatures;
 }
 
-abbrev pub contents_of : TypeTable → Numbers → Contents
+abbrev pub contents_of : TypeTable → TypeNumbers → Contents
 contents_of t s = record { types = t.types; entries = t.entries.items; bases = t.bases.items; layouts = t.layouts.items; notes = notes_of s }
 
 -- a type's number is that of its entry, and each record, pointer and procedure type has one

@@ -17,7 +17,7 @@ use crate::blanks::{blank_layout, blank_record};
 use crate::entries::{
     push_entry, push_pointer, push_procedure, push_record, set_layout, set_target,
 };
-use crate::numbers::{Numbers, forget, note};
+use crate::numbers::{TypeNumbers, forget, note};
 use crate::parts::signature_parts;
 use crate::start::{empty_table, push_basics};
 use check_types::{Layout, TypeRef, TypeTable};
@@ -33,7 +33,7 @@ use std::alloc::Global;
 pub struct TableBuilder {
     pub alloc: Global,
     pub table: TypeTable,
-    pub numbers: Numbers,
+    pub numbers: TypeNumbers,
 }
 
 // The number behind these; without one there is no memory for another.
@@ -59,7 +59,7 @@ impl TableBuilder {
         Ok(TableBuilder {
             alloc,
             table,
-            numbers: Numbers::new(alloc),
+            numbers: TypeNumbers::new(alloc),
         })
     }
 

@@ -15,5 +15,6 @@ mod parts;
 mod records;
 mod start;
 
+pub use blanks::blank_layout;
 pub use builder::TableBuilder;
 pub use cells::{MOST_CELLS, capped};

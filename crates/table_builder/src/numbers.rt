@@ -14,7 +14,7 @@ use std::collections::BTreeMap;
 /// The numbers of types by what they are: of record, pointer and procedure types by their own numbers, of arrays by
 /// their element type and their length, where they have one. The basic types come first.
 #[derive(Drop)]
-pub struct Numbers {
+pub struct TypeNumbers {
     pub records: Vec<u32>,
     pub pointers: Vec<u32>,
     pub procedures: Vec<u32>,
@@ -54,12 +54,12 @@ pub fn forget(map: &mut BTreeMap<Vec<u32>, u32>, parts: &[u32])
     map.remove(parts);
 }
 
-impl Numbers {
+impl TypeNumbers {
     /// Nothing is noted.
-    pub fn new(alloc: Global) -> Numbers
+    pub fn new(alloc: Global) -> TypeNumbers
         ensures { notes_of result ≡ record { records = []; pointers = []; procedures = []; arrays = λ q. None; signatures = λ q. None } }
     {
-        Numbers {
+        TypeNumbers {
             records: Vec::new(alloc),
             pointers: Vec::new(alloc),
             procedures: Vec::new(alloc),

@@ -2,7 +2,7 @@ use Rattle.std.proofs.Common.{◌≡◌, refl, ap, ◌∙◌, sym, subst, length
 use Rattle.std.proofs.Math.Seq.{take-append_seam}
 use Rattle.table_builder.specs.Index.{Notes}
 use Rattle.table_builder.specs.Contents.{contents_of, notes_of, IsConsistent}
-use Rattle.table_builder.specs.declared.numbers.Numbers.{Numbers}
+use Rattle.table_builder.specs.declared.numbers.TypeNumbers.{TypeNumbers}
 use Rattle.table_builder.proofs.Indexing.{restored}
 use Rattle.table_builder.proofs.Built.{same_contents, known_pushed}
 use Rattle.table_builder.proofs.Calls.{signature_new, procedure_next, procedure_built, procedure_shape, notes_same, last_element}
@@ -56,5 +56,5 @@ returns-in-Err-clause-built c =
     let procedures : c.truncate.new.self.items ≡ b.notes.procedures =
     c.truncate.ensures.items ∙ ap (take c.in_ok-g.g) c.in_ok-note_procedure.ensures.procedures ∙ ap (λ n. take n (b.notes.procedures ++ c.in_ok-n.n ∷ [])) count ∙ take-append_seam b.notes.procedures (c.in_ok-n.n ∷ []) in
     same_contents b c.requires.built _ _ _ _ _ c.in-Err.ensures.same_types c.in-Err.ensures.same_entries (ap (λ bs. bs.items) c.in-Err.ensures.bases) (ap (λ ls. ls.items) c.in-Err.ensures.layouts)
-    (notes_same c.args.self.now.numbers _ (ap (λ (n : Numbers). record n { procedures = c.truncate.new.self; signatures = c.forget.new.map }) c.in_ok-note_procedure.ensures.others) procedures
+    (notes_same c.args.self.now.numbers _ (ap (λ (n : TypeNumbers). record n { procedures = c.truncate.new.self; signatures = c.forget.new.map }) c.in_ok-note_procedure.ensures.others) procedures
     (restored c.args.parts.now c.in_ok-g.g b.notes.signatures _ _ c.requires.new c.in_ok-note_procedure.ensures.signatures c.forget.ensures))
