@@ -1,7 +1,7 @@
 pub mod Plain
 pub mod InTable
 pub mod Low
-pub mod Whole
+pub mod Running
 pub mod Cuts
 pub mod Rows
 pub mod Sizes

@@ -2,7 +2,7 @@ use Rattle.std.proofs.Common.{◌≡◌, ◌≤◌, map, length, sym, subst, ◌
 use Rattle.placed_code.proofs.Parts.{length_map}
 use Rattle.link_blocks.specs.Plans.{placed_in}
 use Rattle.link_plan.proofs.Rows.{errs_with}
-use Rattle.link_plan.proofs.Whole.{plans_whole, over_is, image_is, image_runs, form_is}
+use Rattle.link_plan.proofs.Running.{plans_whole, over_is, image_is, image_runs, form_is}
 use Rattle.link_plan.proofs.linking.image_of_plans.Goals as goal
 
 pub returns-in_err-code-clause-limit : goal.returns-in_err-code-clause-limit

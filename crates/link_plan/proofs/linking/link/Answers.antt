@@ -1,7 +1,7 @@
 use Rattle.std.proofs.Common.{map, ap, sym, subst}
 use Rattle.link_blocks.specs.Plans.{placed_in}
 use Rattle.link_plan.specs.Linked.{ArePlans}
-use Rattle.link_plan.proofs.Whole.{are_plans, on_err}
+use Rattle.link_plan.proofs.Running.{are_plans, on_err}
 use Rattle.link_plan.proofs.linking.link.Goals as goal
 
 pub returns-clause-image : goal.returns-clause-image
