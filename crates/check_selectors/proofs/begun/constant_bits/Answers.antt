@@ -1,4 +1,4 @@
-use Rattle.std.proofs.Common.{◌≡◌, refl, ap}
+use Rattle.std.proofs.Common.{refl, ap}
 use Rattle.ob_judge.specs.Operands.{Valued}
 use Rattle.judged_tree.specs.Plain.{plain_expr}
 use Rattle.check_types.specs.names.Worlds.{table_of}

@@ -1,4 +1,4 @@
-use Rattle.std.proofs.Common.{◌≡◌, ◌&&◌, if◌then◌else◌, None, Some, sym, ap, ap₂, ◌∙◌}
+use Rattle.std.proofs.Common.{◌&&◌, if◌then◌else◌, None, Some, sym, ap, ap₂, ◌∙◌}
 use Rattle.ob_judge.specs.Shapes.{Shape, Record, is_pointer, extends, target_of}
 use Rattle.ob_judge.specs.Parts.{tested_tag}
 use Rattle.check_types.specs.Known.{known_of}

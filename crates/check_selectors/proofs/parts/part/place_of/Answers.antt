@@ -1,4 +1,4 @@
-use Rattle.std.proofs.Common.{◌≡◌, sym, ap, ◌∙◌, subst}
+use Rattle.std.proofs.Common.{sym, ap, ◌∙◌, subst}
 use Rattle.ob_judge.specs.Operands.{place_in}
 use Rattle.judged_tree.specs.Outline.{outlined_place}
 use Rattle.check_operands.specs.Operands.{bases_of}
