@@ -1,4 +1,4 @@
-use Rattle.std.proofs.Common.{◌≡◌, sym, ap, ◌∙◌, subst}
+use Rattle.std.proofs.Common.{sym, ap, ◌∙◌, subst}
 use Rattle.ob_judge.specs.Image as I
 use Rattle.ob_judge.specs.Operands as J
 use Rattle.judged_tree.specs.TypeShapes.{shape_of_kind}
