@@ -10,3 +10,8 @@ returns-in_err-part c = λ a h.
     let s = c.args.scope.now in
     exit _ c.from_residual-in_err-part.ensures.1
     (goes_on _ _ c.in_ok-t.ensures (λ t e. stop _ _ (as_judged (ap (guarded s.source.now (world_of s) (place s.source.now c.args.symbol) a) (sym e)) (c.in_err-part.ensures a h))))
+
+pub returns : goal.returns
+returns c = λ a h.
+    let s = c.args.scope.now in
+    goes_on _ _ c.in_ok-t.ensures (λ t e. goes_on _ _ (as_judged (ap (guarded s.source.now (world_of s) (place s.source.now c.args.symbol) a) (sym e)) (c.in_ok-part.ensures a h)) (λ y k. record { by = k }))

@@ -13,6 +13,8 @@ use Rattle.check_selectors.specs.standard.Made.{changed_by}
 use Rattle.check_selectors.proofs.standard.Kept.{kept_so, number_is, some_mapped, both_true}
 use Rattle.ob_types.specs.declared.tree.Unary.TheVariants as TheUnary
 use Rattle.ob_types.specs.declared.tree.Binary.TheVariants as TheBinary
+use Rattle.check_types.specs.declared.steps.fault.CheckFault.TheVariants.{Fault}
+use Rattle.check_selectors.proofs.standard.Refusing.{number_refused}
 use Rattle.check_selectors.proofs.standard.functions.odd.Goals as goal
 
 pub returns-in_ok-tree : goal.returns-in_ok-tree
@@ -20,3 +22,8 @@ returns-in_ok-tree c = λ a h.
     let s = c.args.scope.now in
     as_judged (ap (λ m. m >>= λ e. J.function (world_of s) Boolean (I.Apply TheUnary.Odd e.form)) (number_is (world_of s) a (ap is_number (sym h.operand.shape) ∙ c.is_number.ensures (table_of s) ∙ c.if-is_number.true)))
     (record { by = c.function.ensures s Boolean (I.Apply TheUnary.Odd (form a.operand)) refl (c.in_ok-tree.ensures (table_of s) (texts_of s) ∙ ap (I.Apply TheUnary.Odd) (c.form.ensures a.operand h.operand)) })
+
+pub returns-else-is_number : goal.returns-else-is_number
+returns-else-is_number c = λ a h.
+    let s = c.args.scope.now in
+    number_refused (world_of s) a _ (c.fault.ensures ∙ ap (Fault 31) h.at) (ap is_number (sym h.operand.shape) ∙ c.is_number.ensures (table_of s) ∙ c.if-is_number.false)

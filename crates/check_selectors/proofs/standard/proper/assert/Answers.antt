@@ -13,6 +13,8 @@ use Rattle.check_selectors.specs.standard.Made.{changed_by}
 use Rattle.check_selectors.proofs.standard.Kept.{kept_so, number_is, some_mapped, both_true}
 use Rattle.ob_types.specs.declared.tree.Unary.TheVariants as TheUnary
 use Rattle.ob_types.specs.declared.tree.Binary.TheVariants as TheBinary
+use Rattle.check_types.specs.declared.steps.fault.CheckFault.TheVariants.{Fault}
+use Rattle.check_operands.proofs.calls.Binding.{refused_by}
 use Rattle.check_selectors.proofs.standard.proper.assert.Goals as goal
 
 pub returns-in_ok-made : goal.returns-in_ok-made
@@ -20,3 +22,8 @@ returns-in_ok-made c = λ a h.
     let s = c.args.scope.now in
     kept 31 a.at _ (ap is_truth (sym h.operand.shape) ∙ c.is_truth.ensures (table_of s) ∙ c.if-is_truth.true)
     (record { by = c.in_ok-made.ensures s (I.Assert (checked a.operand)) (ap I.Assert (c.checked.ensures a.operand h.operand)) })
+
+pub returns-else-is_truth : goal.returns-else-is_truth
+returns-else-is_truth c = λ a h.
+    let s = c.args.scope.now in
+    refused_by 31 a.at _ (c.fault.ensures ∙ ap (Fault 31) h.at) (ap is_truth (sym h.operand.shape) ∙ c.is_truth.ensures (table_of s) ∙ c.if-is_truth.false)

@@ -13,6 +13,8 @@ use Rattle.check_selectors.specs.standard.Made.{changed_by}
 use Rattle.check_selectors.proofs.standard.Kept.{kept_so, number_is, char_only_is, changed_outlined}
 use Rattle.ob_types.specs.declared.tree.Unary.TheVariants as TheUnary
 use Rattle.ob_types.specs.declared.tree.Binary.TheVariants as TheBinary
+use Rattle.check_types.specs.declared.steps.fault.CheckFault.TheVariants.{Fault}
+use Rattle.check_selectors.proofs.standard.Refusing.{number_refused, number_kept}
 use Rattle.check_selectors.proofs.standard.proper.changed_by.Goals as goal
 
 pub returns-in_ok-made : goal.returns-in_ok-made
@@ -21,3 +23,16 @@ returns-in_ok-made c = λ a b h k.
     kept_so _ _ (c.in_ok-written.ensures a h)
     (as_judged (ap₂ (λ m n. m >>= λ _. n >>= λ x. J.proper (world_of s) (changed_by c.args.change (designator_of a.operand) x)) (number_is (world_of s) a (ap is_number (sym h.operand.shape) ∙ c.is_number.ensures (table_of s) ∙ c.if-not-is_number.false)) (number_is (world_of s) b (ap is_number (sym k.operand.shape) ∙ c.is_number-else-not-is_number.ensures (table_of s) ∙ c.if-not-is_number-2.false)))
     (record { by = c.in_ok-made.ensures s (changed_by c.args.change (designator_of a.operand) (checked b.operand)) (c.of.ensures (table_of s) (texts_of s) ∙ ap₂ (changed_by c.args.change) (c.designator-variable.ensures a.operand h.operand) (c.checked-by.ensures b.operand k.operand) ∙ changed_outlined (bases_of s) c.args.change (designator_of a.operand) (checked b.operand)) }))
+
+pub returns-then-not-is_number : goal.returns-then-not-is_number
+returns-then-not-is_number c = λ a b h k.
+    let s = c.args.scope.now in
+    kept_so _ _ (c.in_ok-written.ensures a h)
+    (number_refused (world_of s) a _ (c.fault.ensures ∙ ap (Fault 31) h.at) (ap is_number (sym h.operand.shape) ∙ c.is_number.ensures (table_of s) ∙ c.if-not-is_number.true))
+
+pub returns-then-not-is_number-2 : goal.returns-then-not-is_number-2
+returns-then-not-is_number-2 c = λ a b h k.
+    let s = c.args.scope.now in
+    kept_so _ _ (c.in_ok-written.ensures a h)
+    (number_kept (world_of s) a _ (ap is_number (sym h.operand.shape) ∙ c.is_number.ensures (table_of s) ∙ c.if-not-is_number.false)
+    (number_refused (world_of s) b _ (c.fault-then-not-is_number-2.ensures ∙ ap (Fault 31) k.at) (ap is_number (sym k.operand.shape) ∙ c.is_number-else-not-is_number.ensures (table_of s) ∙ c.if-not-is_number-2.true)))

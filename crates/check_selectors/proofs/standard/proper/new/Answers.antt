@@ -13,6 +13,9 @@ use Rattle.check_selectors.specs.standard.Made.{changed_by}
 use Rattle.check_selectors.proofs.standard.Kept.{kept_so, number_is, some_mapped, both_true}
 use Rattle.ob_types.specs.declared.tree.Unary.TheVariants as TheUnary
 use Rattle.ob_types.specs.declared.tree.Binary.TheVariants as TheBinary
+use Rattle.check_types.specs.declared.steps.fault.CheckFault.TheVariants.{Fault}
+use Rattle.check_operands.proofs.calls.Binding.{refused_by}
+use Rattle.check_selectors.proofs.parts.Reached.{refused}
 use Rattle.check_selectors.proofs.standard.proper.new.Goals as goal
 
 pub returns-in_ok-made-in-Some : goal.returns-in_ok-made-in-Some
@@ -22,3 +25,16 @@ returns-in_ok-made-in-Some c = λ a h.
     (there 31 a.at _ (ap (target_of (world_of s).known) (sym h.operand.shape) ∙ c.in-Some.ensures)
     (kept 31 a.at _ (ap not (c.is_narrowed.ensures a.operand h.operand.usage ∙ c.if-is_narrowed.false))
     (record { by = c.in_ok-made-in-Some.ensures s (I.New (designator_of a.operand)) (ap I.New (c.designator.ensures a.operand h.operand)) })))
+
+pub returns-in-None : goal.returns-in-None
+returns-in-None c = λ a h.
+    let s = c.args.scope.now in
+    kept_so _ _ (c.in_ok-written.ensures a h)
+    (refused 31 a.at _ (c.fault.ensures ∙ ap (Fault 31) h.at) (ap (target_of (world_of s).known) (sym h.operand.shape) ∙ c.in-None.ensures))
+
+pub returns-then-is_narrowed : goal.returns-then-is_narrowed
+returns-then-is_narrowed c = λ a h.
+    let s = c.args.scope.now in
+    kept_so _ _ (c.in_ok-written.ensures a h)
+    (there 31 a.at _ (ap (target_of (world_of s).known) (sym h.operand.shape) ∙ c.in-Some.ensures)
+    (refused_by 31 a.at _ (c.fault-then-is_narrowed.ensures ∙ ap (Fault 31) h.at) (ap not (c.is_narrowed.ensures a.operand h.operand.usage ∙ c.if-is_narrowed.true))))
