@@ -1,0 +1,12 @@
+pub mod Meeting
+pub mod Words
+pub mod Trees
+pub mod Designators
+pub mod Handed
+pub mod Standing
+pub mod Copies
+pub mod Extents
+pub mod Scalars
+pub mod Bodies
+pub mod Stood
+pub mod AtOnce

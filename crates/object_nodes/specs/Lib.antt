@@ -1,0 +1,5 @@
+pub mod Trees
+pub mod Nodes
+pub mod Named
+pub mod AtOnce
+pub mod Addresses
