@@ -2,6 +2,7 @@
 
 ghost use Rattle.std.specs.Prelude.{◌≡◌, ◌≤◌, length, IfOk, IfSome};
 ghost use Rattle.lir_core.specs.Sound.{IsSound, EndsRise};
+ghost use Rattle.walked_results.specs.Walked.{IsWalked};
 ghost use Rattle.linear_scan.specs.Inputs.{case_of, hint_of, lent, IsInput};
 ghost use Rattle.alloc_choice.specs.Choice.{used};
 ghost use Rattle.alloc_choice.specs.Results.{result_by};
@@ -13,9 +14,9 @@ use simple_policies::plain::plain;
 use simple_policies::trivial::trivial;
 use std::alloc::Global;
 
-/// The result of a trace by the policy that is used for it: exactly the defined one, and sound whichever it is, for a
-/// valid flow, what is live in it, a trace, and a hint that is fit or none. The registers are those of `t`. Takes the time
-/// of the allocator that is used.
+/// The result of a trace by the policy that is used for it: exactly the defined one, and whichever it is, the walk by names
+/// accepts it, and so it is sound, for a valid flow, what is live in it, a trace, and a hint that is fit or none. The
+/// registers are those of `t`. Takes the time of the allocator that is used.
 pub fn allocate_trace(
     alloc: Global,
     choice: &Choice,
@@ -28,6 +29,8 @@ pub fn allocate_trace(
     ensures result_is { IsInput (case_of t.now) t.now.trace.now.nodes (hint_of t.now.from (lent hint.entry))
         → IfOk result (λ out. out ≡ result_by (used choice.now.policy t.now.flow.now.nodes t.now.trace.now.nodes)
         (case_of t.now) t.now.number t.now.trace.now.nodes (hint_of t.now.from (lent hint.entry))) }
+    ensures walked { IsInput (case_of t.now) t.now.trace.now.nodes (hint_of t.now.from (lent hint.entry))
+        → IfOk result (IsWalked t.now.regs t.now.flow.now t.now.trace.now) }
     ensures sound { IsInput (case_of t.now) t.now.trace.now.nodes (hint_of t.now.from (lent hint.entry))
         → IfOk result (IsSound t.now.regs t.now.flow.now t.now.trace.now) }
     ensures rises { IsInput (case_of t.now) t.now.trace.now.nodes (hint_of t.now.from (lent hint.entry))

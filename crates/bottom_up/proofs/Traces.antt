@@ -10,9 +10,10 @@ use Rattle.lir_core.specs.Flows.{code_node, code_nodes, leads, IsPath, AreDiffer
 use Rattle.lir_core.specs.Spots.{in_register, placed}
 use Rattle.lir_core.specs.Lines.{end_reads, Room}
 use Rattle.lir_core.specs.Walks.{Walks}
-use Rattle.lir_core.specs.Sound.{IsSoundNode, IsSound, EndsRise, AreSoundLines, room_of}
+use Rattle.lir_core.specs.Sound.{EndsRise, room_of}
+use Rattle.walked_results.specs.Walked.{IsWalkedNode, IsWalked}
+use Rattle.walked_results.proofs.Nodes.{AllWalked, whole}
 use Rattle.lir_core.specs.Rows.{live_into}
-use Rattle.lir_core.proofs.Walking.{walked}
 use Rattle.global_live.specs.Reading.{HasLive}
 use Rattle.global_live.proofs.Lists.{has_back, has-filter, in_parts}
 use Rattle.trace_needs.specs.Needs.{first_of}
@@ -29,7 +30,6 @@ use Rattle.linear_scan.specs.Linear.{Case, position_behind}
 use Rattle.linear_scan.specs.Inputs.{IsInput}
 use Rattle.linear_scan.proofs.Nodes.{AllThere, all_there}
 use Rattle.linear_scan.proofs.Wanted.{at_node}
-use Rattle.linear_scan.proofs.Traces.{AllSound, whole}
 use Rattle.bottom_up.specs.Bottom.{made_by, made_along, live_first, homed_first, along, walked_back, result_of}
 use Rattle.bottom_up.proofs.Sections.{sec, used_after, live_after, live_lives, wanted_lives, lives_live, starts, there, not_here}
 use Rattle.bottom_up.proofs.Nodes.{IsKept, AllKept, AreBehind, node_more}
@@ -101,7 +101,7 @@ module _ (x : Case) (mention : ℕ → ℕ → Option ℕ) (valid : IsValidFlow 
         node_more x mention valid live four first n node here ns apart.0 edge (λ v l h. reach n v refl l h) (next_there ns t.1) (along x mention (position_behind p (slice_get x.flow.nodes n)) ns (started first x.regs))
         (along_kept ns (position_behind p (slice_get x.flow.nodes n)) t.1 (rest_path n ns path) apart.1 next) p
 
-  ---- Each node is sound
+  ---- The walk accepts each node
 
   module _ (homed : List ℕ) (n : ℕ) (node : Node) (here : slice_get x.flow.nodes n ≡ Some node) (s e : Places) (lines : List Line) (named : List ℕ) (k : IsKept x.regs (sec x.flow x.rows valid live n node here) homed s.regs e.regs) where
     abbrev b : Section
@@ -137,9 +137,9 @@ module _ (x : Case) (mention : ℕ → ℕ → Option ℕ) (valid : IsValidFlow 
     end_placed : (v : ℕ) → has b.after v ≡ true → placed end v ≡ true
     end_placed v h = placed_marked e.regs homed b.after v h (k.end_covers v h)
 
-    node_sound : Walks space b.ops b.last start lines named end → IsSoundNode space blocks n start lines named end
+    node_walked : Walks space b.ops b.last start lines named end → IsWalkedNode space blocks n start lines named end
     unfolding at
-    node_sound w = record {
+    node_walked w = record {
       row = (record { registers = k.start_size; single = k.start_single }, record { registers = k.end_size; single = k.end_single });
       rises = marked_rises homed b.before [] tt;
       starts = record {
@@ -151,31 +151,31 @@ module _ (x : Case) (mention : ℕ → ℕ → Option ℕ) (valid : IsValidFlow 
         read = subst (λ bl. (v : ℕ) → has (end_uses bl.end) v ≡ true → placed end v ≡ true) (sym at) (λ v h. end_placed v (used_after x.flow x.rows valid live n node here v h));
         live = subst (λ bl. (v : ℕ) → LiveBehind blocks bl v → placed end v ≡ true) (sym at) (λ v l. end_placed v (live_after x.flow x.rows valid live n node here v l));
       };
-      lines_sound = subst (λ bl. AreSoundLines space bl.ops (end_reads bl.end) start lines named end) (sym at) (walked space b.ops b.last start lines named end w);
+      walks = subst (λ bl. Walks space bl.ops (end_reads bl.end) start lines named end) (sym at) w;
     }
 
-  all_sound : (homed ns : List ℕ) → There ns → (ss : List Places) (ls : List (List Line)) (rs : List (List ℕ)) (es : List Places) → AllWalk space (tasks (sections x.flow x.rows ns)) (starts_marked x.flow x.rows homed ns ss) ls rs (ends_marked x.flow x.rows homed ns es) → AllKept x.regs homed (sections x.flow x.rows ns) ss es → AllSound space blocks ns (starts_marked x.flow x.rows homed ns ss) ls rs (ends_marked x.flow x.rows homed ns es)
-  all_sound homed [] t [] [] [] [] w k = tt
-  all_sound homed [] t [] [] (y ∷ rs) [] w k = absurd w
-  all_sound homed [] t [] (y ∷ ls) rs [] w k = absurd w
-  all_sound homed [] t [] ls rs (y ∷ es) w k = absurd k
-  all_sound homed [] t (y ∷ ss) ls rs es w k = absurd k
-  all_sound homed (n ∷ ns) t [] ls rs es w k = absurd k
-  all_sound homed (n ∷ ns) t (s ∷ ss) ls rs [] w k = absurd k
-  all_sound homed (n ∷ ns) t (s ∷ ss) [] rs (e ∷ es) w k = absurd w
-  all_sound homed (n ∷ ns) t (s ∷ ss) (l ∷ ls) [] (e ∷ es) w k = absurd w
-  all_sound homed (n ∷ ns) t (s ∷ ss) (l ∷ ls) (r ∷ rs) (e ∷ es) w k =
-      ((by (slice_get x.flow.nodes n) t.0.1 w.0 k.0, marked_rises homed (at_end x.flow.values x.rows (slice_get x.flow.nodes n)) [] tt), all_sound homed ns t.1 ss ls rs es w.1 k.1)
+  all_walked : (homed ns : List ℕ) → There ns → (ss : List Places) (ls : List (List Line)) (rs : List (List ℕ)) (es : List Places) → AllWalk space (tasks (sections x.flow x.rows ns)) (starts_marked x.flow x.rows homed ns ss) ls rs (ends_marked x.flow x.rows homed ns es) → AllKept x.regs homed (sections x.flow x.rows ns) ss es → AllWalked space blocks ns (starts_marked x.flow x.rows homed ns ss) ls rs (ends_marked x.flow x.rows homed ns es)
+  all_walked homed [] t [] [] [] [] w k = tt
+  all_walked homed [] t [] [] (y ∷ rs) [] w k = absurd w
+  all_walked homed [] t [] (y ∷ ls) rs [] w k = absurd w
+  all_walked homed [] t [] ls rs (y ∷ es) w k = absurd k
+  all_walked homed [] t (y ∷ ss) ls rs es w k = absurd k
+  all_walked homed (n ∷ ns) t [] ls rs es w k = absurd k
+  all_walked homed (n ∷ ns) t (s ∷ ss) ls rs [] w k = absurd k
+  all_walked homed (n ∷ ns) t (s ∷ ss) [] rs (e ∷ es) w k = absurd w
+  all_walked homed (n ∷ ns) t (s ∷ ss) (l ∷ ls) [] (e ∷ es) w k = absurd w
+  all_walked homed (n ∷ ns) t (s ∷ ss) (l ∷ ls) (r ∷ rs) (e ∷ es) w k =
+      ((by (slice_get x.flow.nodes n) t.0.1 w.0 k.0, marked_rises homed (at_end x.flow.values x.rows (slice_get x.flow.nodes n)) [] tt), all_walked homed ns t.1 ss ls rs es w.1 k.1)
     where
-      by : (o : Option Node) → slice_get x.flow.nodes n ≡ Some t.0.0 → Walks space (section_of x.flow.values x.rows n (slice_get x.flow.nodes n)).ops (section_of x.flow.values x.rows n (slice_get x.flow.nodes n)).last (with_marks homed (at_start x.flow.values x.rows n (slice_get x.flow.nodes n)) s) l r (with_marks homed (at_end x.flow.values x.rows (slice_get x.flow.nodes n)) e) → IsKept x.regs (section_of x.flow.values x.rows n (slice_get x.flow.nodes n)) homed s.regs e.regs → IsSoundNode space blocks n (with_marks homed (at_start x.flow.values x.rows n (slice_get x.flow.nodes n)) s) l r (with_marks homed (at_end x.flow.values x.rows (slice_get x.flow.nodes n)) e)
+      by : (o : Option Node) → slice_get x.flow.nodes n ≡ Some t.0.0 → Walks space (section_of x.flow.values x.rows n (slice_get x.flow.nodes n)).ops (section_of x.flow.values x.rows n (slice_get x.flow.nodes n)).last (with_marks homed (at_start x.flow.values x.rows n (slice_get x.flow.nodes n)) s) l r (with_marks homed (at_end x.flow.values x.rows (slice_get x.flow.nodes n)) e) → IsKept x.regs (section_of x.flow.values x.rows n (slice_get x.flow.nodes n)) homed s.regs e.regs → IsWalkedNode space blocks n (with_marks homed (at_start x.flow.values x.rows n (slice_get x.flow.nodes n)) s) l r (with_marks homed (at_end x.flow.values x.rows (slice_get x.flow.nodes n)) e)
       by o q w k =
-          subst (λ o. Walks space (section_of x.flow.values x.rows n o).ops (section_of x.flow.values x.rows n o).last (with_marks homed (at_start x.flow.values x.rows n o) s) l r (with_marks homed (at_end x.flow.values x.rows o) e) → IsKept x.regs (section_of x.flow.values x.rows n o) homed s.regs e.regs → IsSoundNode space blocks n (with_marks homed (at_start x.flow.values x.rows n o) s) l r (with_marks homed (at_end x.flow.values x.rows o) e)) (sym q)
-          (λ w k. node_sound homed n t.0.0 q s e l r k w) w k
+          subst (λ o. Walks space (section_of x.flow.values x.rows n o).ops (section_of x.flow.values x.rows n o).last (with_marks homed (at_start x.flow.values x.rows n o) s) l r (with_marks homed (at_end x.flow.values x.rows o) e) → IsKept x.regs (section_of x.flow.values x.rows n o) homed s.regs e.regs → IsWalkedNode space blocks n (with_marks homed (at_start x.flow.values x.rows n o) s) l r (with_marks homed (at_end x.flow.values x.rows o) e)) (sym q)
+          (λ w k. node_walked homed n t.0.0 q s e l r k w) w k
 
 ---- The result
 
-pub bottom_sound : (x : Case) (mention : ℕ → ℕ → Option ℕ) (ns : List ℕ) → IsInput x ns None → (number : ℕ) → IsSound x.regs x.flow (record { nodes = ns }) (result_of number (walked_back x mention ns)) × EndsRise (result_of number (walked_back x mention ns))
-bottom_sound x mention ns given number =
+pub bottom_walked : (x : Case) (mention : ℕ → ℕ → Option ℕ) (ns : List ℕ) → IsInput x ns None → (number : ℕ) → IsWalked x.regs x.flow (record { nodes = ns }) (result_of number (walked_back x mention ns)) × EndsRise (result_of number (walked_back x mention ns))
+bottom_walked x mention ns given number =
     let t = all_there x (λ v p. None) given.valid given.live given.enough ns given.trace.nodes in
     let b = along x mention 0 ns (started (homed_first x ns) x.regs) in
     let a = along_kept x mention given.valid given.live given.enough (homed_first x ns) ns 0 t given.trace.path given.trace.different reach in
@@ -185,7 +185,7 @@ bottom_sound x mention ns given number =
     let w = subst (λ bs. AllWalk (room_of x.regs x.flow) (tasks bs) c.starts c.lines c.regs c.ends) (sym a.sections_are) (closes_to route x.flow x.rows ns b (record { nodes = a.sections_are; starts = a.starts }) a.sim) in
     let k = subst (λ bs. AllKept x.regs b.part.homed bs left.starts left.ends) (sym a.sections_are) a.kept in
     let k' = subst (λ hs. AllKept x.regs hs (sections x.flow x.rows ns) left.starts left.ends) (sym (homed_same b)) k in
-    let s = all_sound x mention given.valid given.live given.enough left.part.homed ns t left.starts left.lines left.regs left.ends w k' in
+    let s = all_walked x mention given.valid given.live given.enough left.part.homed ns t left.starts left.lines left.regs left.ends w k' in
     let r = whole (room_of x.regs x.flow) (code_nodes x.flow.nodes) ns c.starts c.lines c.regs c.ends s in
     (record { counts = r.counts; nodes = r.nodes }, r.rise)
   where

@@ -3,6 +3,7 @@
 ghost use Rattle.std.specs.Prelude.{◌≡◌, ◌≤◌, length, IfOk, OnOk, None, slice_get, get_or};
 ghost use Rattle.lir_core.specs.Lines.{end_reads};
 ghost use Rattle.lir_core.specs.Sound.{IsSound, EndsRise};
+ghost use Rattle.walked_results.specs.Walked.{IsWalked};
 ghost use Rattle.trace_needs.specs.Asked.{mention_told};
 ghost use Rattle.loc_back.specs.Steps.{in_part};
 ghost use Rattle.std.specs.Option.{option_map};
@@ -20,14 +21,16 @@ use outside::Memory;
 use std::alloc::Global;
 use trace_needs::{Mentions, mentions};
 
-/// Bottom-up allocation of a trace: the defined result, which is sound, for a valid flow, what is live in it, and a trace. With 16
-/// registers at most it takes time in proportion to what `mentions` takes, to the trace's operations and uses, and to the
-/// values that are live at each node, each times a logarithm.
+/// Bottom-up allocation of a trace: the defined result, which the walk by names accepts, and so is sound, for a valid flow,
+/// what is live in it, and a trace. With 16 registers at most it takes time in proportion to what `mentions` takes, to the
+/// trace's operations and uses, and to the values that are live at each node, each times a logarithm.
 pub fn allocate(alloc: Global, t: &TraceIn) -> Result<TraceOut, Memory>
     requires enough { 4 ≤ t.now.regs }
     requires few { t.now.regs ≤ 16 }
     ensures bottom_up { IsInput (case_of t.now) t.now.trace.now.nodes None
         → IfOk result (λ out. out ≡ bottom_up (case_of t.now) t.now.number t.now.trace.now.nodes) }
+    ensures walked { IsInput (case_of t.now) t.now.trace.now.nodes None
+        → IfOk result (IsWalked t.now.regs t.now.flow.now t.now.trace.now) }
     ensures sound { IsInput (case_of t.now) t.now.trace.now.nodes None
         → IfOk result (IsSound t.now.regs t.now.flow.now t.now.trace.now) }
     ensures rises { IsInput (case_of t.now) t.now.trace.now.nodes None → IfOk result EndsRise }

@@ -7,9 +7,8 @@ use lib.ListN.{get_elem?}
 use Rattle.lir_core.specs.declared.flow.Flow.{Flow}
 use Rattle.lir_core.specs.declared.flow.Trace.{Trace}
 use Rattle.lir_core.specs.declared.places.TraceOut.{TraceOut}
-use Rattle.lir_core.specs.Sound.{IsSound}
 use Rattle.boundary_resolve.specs.declared.code_line.CodeLine.{CodeLine}
-use Rattle.boundary_resolve.specs.Placing.{placed_of}
+use Rattle.boundary_resolve.specs.Placing.{placed_of, out_at}
 use Rattle.boundary_resolve.specs.Edges.{AreSound}
 use Rattle.trace_build.specs.Parents.{trace_at}
 use Rattle.trace_build.specs.Traces.{traces_in}
@@ -21,6 +20,8 @@ use Rattle.alloc_choice.specs.Choice.{IsFitChoice}
 use Rattle.alloc_choice.specs.Results.{no_out, results_to}
 use Rattle.trace_work.specs.declared.planning.TracePlan.{TracePlan}
 use Rattle.trace_work.specs.declared.work.Entry.{Entry}
+use Rattle.walked_results.specs.Walked.{IsWalked}
+use Rattle.walked_results.proofs.Sounds.{result_sound}
 use Rattle.trace_work.specs.Plans.{IsPlan, IsFinal, case_of, finals_to}
 use Rattle.trace_work.specs.Entries.{AreEntries, entry_of, parents_in}
 use Rattle.trace_work.specs.Finals.{AreNumbered, AreBehind, flows_in, IsFinalOf}
@@ -145,13 +146,16 @@ module _ (choice : Choice) (fit : IsFitChoice choice) where
     own_at : (t : ℕ) → t < length p.traces → get_or own t no_out ≡ get_or rest t no_out
     own_at t lt = get_or-take (length p.traces) rest t no_out lt
 
+    walked : (t : ℕ) → t < length p.traces → IsWalked choice.regs p.flow.now (trace_at p.traces t) (out_at own t)
+    walked t lt = subst (λ x. IsWalked choice.regs p.flow.now (trace_at p.traces t) x) (sym (own_at t lt)) (final t lt).walked
+
     sound : AreSound choice.regs p.flow.now p.traces own
     sound = record {
       valid = is.valid;
       few = (fit.enough, fit.few);
       partition = is.partition;
       each = own_count;
-      sound = λ t lt. subst (λ x. IsSound choice.regs p.flow.now (trace_at p.traces t) x) (sym (own_at t lt)) (final t lt).sound;
+      sound = λ t lt. result_sound choice.regs p.flow.now (trace_at p.traces t) (out_at own t) (walked t lt);
     }
 
     allocation : (first : ℕ) → p.number ≡ first → IsAllocation choice first (cut_of p own)
@@ -161,6 +165,7 @@ module _ (choice : Choice) (fit : IsFitChoice choice) where
       traces = is.cut;
       results = are_finals choice p own (length p.traces) own_count (λ t lt. own_at t lt ∙ (final t lt).is) ∙ ap (λ n. results_to choice.policy (case_of choice p) n p.traces (length p.traces)) e;
       sound = sound;
+      walked = walked;
       paths = is.paths;
     }
 

@@ -16,8 +16,9 @@ use Rattle.lir_core.specs.declared.places.Places.{Places}
 use Rattle.lir_core.specs.Flows.{operation_of, code_node, code_nodes, calls_marked, leads, IsValidFlow, no_node}
 use Rattle.lir_core.specs.Spots.{get, placed, IsSingle, IsRising, IsRow}
 use Rattle.lir_core.specs.Lines.{end_reads, Room}
-use Rattle.lir_core.specs.Sound.{IsStart, IsEnd, IsSoundNode, AreSoundLines, room_of}
-use Rattle.lir_core.proofs.Walking.{walked}
+use Rattle.lir_core.specs.Walks.{Walks}
+use Rattle.lir_core.specs.Sound.{IsStart, IsEnd, room_of}
+use Rattle.walked_results.specs.Walked.{IsWalkedNode}
 use Rattle.global_live.specs.Reading.{HasLive}
 use Rattle.global_live.proofs.Lists.{not_in_front, not_in_back, times_of_in, times_of_out}
 use Rattle.trace_needs.specs.Needs.{Position, at_start, at_operation, at_end, first_of, positions_of}
@@ -273,13 +274,13 @@ module _ (x : Case) (need : ℕ → ℕ → Option ℕ) (valid : IsValidFlow x.f
         live = subst (λ bl. (v : ℕ) → LiveBehind bls bl v → placed (places t2) v ≡ true) (sym there) (λ v l. ended.1.covers v (is_behind need x.flow x.rows valid live n node here v l));
       }
 
-      pub node_sound : IsSoundNode room bls n t2.start t2.lines t2.named (places t2)
-      node_sound = record {
+      pub node_walked : IsWalkedNode room bls n t2.start t2.lines t2.named (places t2)
+      node_walked = record {
         row = (subst (IsRow x.regs) (sym same_start) (record { registers = r.registers; single = r.safe.single }), record { registers = ended.0.stands.registers; single = ended.1.single });
         rises = subst (λ q. IsRising q.homed) (sym same_start) r.safe.rising;
         starts = subst (IsStart bls n) (sym same_start) is_start;
         ends = is_end;
-        lines_sound = subst (λ bl. AreSoundLines room bl.ops (end_reads bl.end) t2.start t2.lines t2.named (places t2)) (sym there) (walked room ops (end_reads node.end) t2.start t2.lines t2.named (places t2) (ends room ops (end_reads node.end) t2 ended.0));
+        walks = subst (λ bl. Walks room bl.ops (end_reads bl.end) t2.start t2.lines t2.named (places t2)) (sym there) (ends room ops (end_reads node.end) t2 ended.0);
       }
 
       -- the end places have all that is live into a node to which an edge leads, in a row of registers

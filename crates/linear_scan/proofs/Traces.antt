@@ -1,5 +1,5 @@
 -- All nodes of a trace, one after the other.
-use Rattle.std.proofs.Common.{◌≡◌, ℕ, zero, suc, ◌+◌, ◌<◌, ◌≤◌, true, List, [], ◌∷◌, ◌++◌, length, get_or, replicate, Option, Some, None, refl, sym, ap, ap₂, ◌∙◌, subst, arith, append_assoc}
+use Rattle.std.proofs.Common.{◌≡◌, ℕ, ◌+◌, ◌<◌, ◌≤◌, true, List, [], ◌∷◌, ◌++◌, length, get_or, replicate, Option, Some, None, refl, sym, ap, ap₂, ◌∙◌, subst, arith, append_assoc}
 use Rattle.std.specs.Prelude.{slice_get}
 use Rattle.std.proofs.Math.Path.{fun_ext}
 use Rattle.std.proofs.lemmas.List.{length-map, length-replicate}
@@ -11,13 +11,14 @@ use Rattle.lir_core.specs.declared.flow.Node.{Node}
 use Rattle.lir_core.specs.declared.flow.Flow.{Flow}
 use Rattle.lir_core.specs.declared.flow.Trace.{Trace}
 use Rattle.lir_core.specs.declared.places.Places.{Places}
-use Rattle.lir_core.specs.declared.places.Line.{Line}
 use Rattle.lir_core.specs.declared.places.TraceOut.{TraceOut}
 use Rattle.lir_core.specs.Flows.{code_nodes, leads, IsValidFlow, IsPath, IsTrace}
 use Rattle.lir_core.specs.Rows.{has_bit, live_into}
-use Rattle.lir_core.specs.Spots.{placed, IsSingle, IsRising}
+use Rattle.lir_core.specs.Spots.{placed, IsSingle}
 use Rattle.lir_core.specs.Lines.{Room}
-use Rattle.lir_core.specs.Sound.{IsSoundNode, IsSound, EndsRise, no_places, room_of}
+use Rattle.lir_core.specs.Sound.{IsSound, EndsRise, room_of}
+use Rattle.walked_results.specs.Walked.{IsWalked}
+use Rattle.walked_results.proofs.Nodes.{AllWalked, walked_more, whole}
 use Rattle.global_live.specs.Reading.{HasLive}
 use Rattle.global_live.proofs.Lists.{has-filter}
 use Rattle.trace_needs.specs.Needs.{first_of, positions_of, next_need}
@@ -32,56 +33,7 @@ use Rattle.linear_scan.proofs.Needs.{Follows, follows_all}
 use Rattle.linear_scan.proofs.Operating.{dead}
 use Rattle.linear_scan.proofs.Wanted.{last_live, live_below, live_alive}
 use Rattle.linear_scan.proofs.Begins.{only_live_safe, homed_safe}
-use Rattle.linear_scan.proofs.Nodes.{AllThere, all_there, node_positions, node_follows, behind_follows, NextNeeded, live_is_needed, old_known, left_live, IsReady, ready, node_sound, same_part, end_covers, end_single, end_rises, end_registers}
-
----- Results node by node
-
-module _ (r : Room) (blocks : List CodeBlock) where
-  -- each node's part is sound, and the homed values of its end rise
-  abbrev pub AllSound : List ℕ → List Places → List (List Line) → List (List ℕ) → List Places → Type 0
-  AllSound [] [] [] [] [] = Unit {0}
-  AllSound (n ∷ ns) (s ∷ ss) (l ∷ ls) (g ∷ gs) (e ∷ es) = (IsSoundNode r blocks n s l g e × IsRising e.homed) × AllSound ns ss ls gs es
-  AllSound _ _ _ _ _ = ⊥
-
-  sound_more : (ns : List ℕ) (ss : List Places) (ls : List (List Line)) (gs : List (List ℕ)) (es : List Places) (n : ℕ) (s : Places) (l : List Line) (g : List ℕ) (e : Places) → AllSound ns ss ls gs es → IsSoundNode r blocks n s l g e × IsRising e.homed → AllSound (ns ++ n ∷ []) (ss ++ s ∷ []) (ls ++ l ∷ []) (gs ++ g ∷ []) (es ++ e ∷ [])
-  sound_more [] [] [] [] [] n s l g e h w = (w, tt)
-  sound_more (m ∷ ns) (s' ∷ ss) (l' ∷ ls) (g' ∷ gs) (e' ∷ es) n s l g e h w = (h.0, sound_more ns ss ls gs es n s l g e h.1 w)
-  sound_more [] [] [] [] (y ∷ es) n s l g e h w = absurd h
-  sound_more [] [] [] (y ∷ gs) es n s l g e h w = absurd h
-  sound_more [] [] (y ∷ ls) gs es n s l g e h w = absurd h
-  sound_more [] (y ∷ ss) ls gs es n s l g e h w = absurd h
-  sound_more (m ∷ ns) [] ls gs es n s l g e h w = absurd h
-  sound_more (m ∷ ns) (y ∷ ss) [] gs es n s l g e h w = absurd h
-  sound_more (m ∷ ns) (y ∷ ss) (z ∷ ls) [] es n s l g e h w = absurd h
-  sound_more (m ∷ ns) (y ∷ ss) (z ∷ ls) (g' ∷ gs) [] n s l g e h w = absurd h
-
-  -- as many entries of each list, each right
-  pub record IsWhole (ns : List ℕ) (ss : List Places) (ls : List (List Line)) (gs : List (List ℕ)) (es : List Places) : Type 0 where
-    pub counts : (length ss ≡ length ns) × (length es ≡ length ns) × (length ls ≡ length ns) × (length gs ≡ length ns)
-    pub nodes : (i : ℕ) → i < length ns → IsSoundNode r blocks (get_or ns i 0) (get_or ss i no_places) (get_or ls i []) (get_or gs i []) (get_or es i no_places)
-    pub rise : (i : ℕ) → IsRising (get_or es i no_places).homed
-
-  pub whole : (ns : List ℕ) (ss : List Places) (ls : List (List Line)) (gs : List (List ℕ)) (es : List Places) → AllSound ns ss ls gs es → IsWhole ns ss ls gs es
-  whole [] [] [] [] [] h = record { counts = (refl, refl, refl, refl); nodes = λ i l. absurd (omega (arith, l)); rise = λ i. tt }
-  whole (n ∷ ns) (s ∷ ss) (l ∷ ls) (g ∷ gs) (e ∷ es) h =
-      let w = whole ns ss ls gs es h.1 in
-      record { counts = (ap suc w.counts.0, ap suc w.counts.1, ap suc w.counts.2, ap suc w.counts.3); nodes = at w.nodes; rise = rise_at w.rise }
-    where
-      at : ((i : ℕ) → i < length ns → IsSoundNode r blocks (get_or ns i 0) (get_or ss i no_places) (get_or ls i []) (get_or gs i []) (get_or es i no_places)) → (i : ℕ) → i < suc (length ns) → IsSoundNode r blocks (get_or (n ∷ ns) i 0) (get_or (s ∷ ss) i no_places) (get_or (l ∷ ls) i []) (get_or (g ∷ gs) i []) (get_or (e ∷ es) i no_places)
-      at on zero lt = h.0.0
-      at on (suc i) lt = on i (omega (arith, lt))
-
-      rise_at : ((i : ℕ) → IsRising (get_or es i no_places).homed) → (i : ℕ) → IsRising (get_or (e ∷ es) i no_places).homed
-      rise_at on zero = h.0.1
-      rise_at on (suc i) = on i
-  whole [] [] [] [] (y ∷ es) h = absurd h
-  whole [] [] [] (y ∷ gs) es h = absurd h
-  whole [] [] (y ∷ ls) gs es h = absurd h
-  whole [] (y ∷ ss) ls gs es h = absurd h
-  whole (m ∷ ns) [] ls gs es h = absurd h
-  whole (m ∷ ns) (y ∷ ss) [] gs es h = absurd h
-  whole (m ∷ ns) (y ∷ ss) (z ∷ ls) [] es h = absurd h
-  whole (m ∷ ns) (y ∷ ss) (z ∷ ls) (g' ∷ gs) [] h = absurd h
+use Rattle.linear_scan.proofs.Nodes.{AllThere, all_there, node_positions, node_follows, behind_follows, NextNeeded, live_is_needed, old_known, left_live, IsReady, ready, node_walked, same_part, end_covers, end_single, end_rises, end_registers}
 
 module _ (x : Case) (need : ℕ → ℕ → Option ℕ) (valid : IsValidFlow x.flow) (live : HasLive x.flow x.rows) (four : 4 ≤ x.regs) where
   abbrev blocks : List CodeBlock
@@ -166,8 +118,8 @@ module _ (x : Case) (need : ℕ → ℕ → Option ℕ) (valid : IsValidFlow x.f
   AllBegun p [] t = Unit {0}
   AllBegun p (n ∷ ns) t = Begun p n ns t
 
-  abbrev SoundLists : List ℕ → Forward → Type 0
-  SoundLists ns f = AllSound space blocks ns f.starts f.lines f.regs f.ends
+  abbrev WalkedLists : List ℕ → Forward → Type 0
+  WalkedLists ns f = AllWalked space blocks ns f.starts f.lines f.regs f.ends
 
   -- where a node starts whose trace goes on
   next_begun : (p : ℕ) (end : End) (q : Places) (ns : List ℕ) (there : There ns) (fol : Follows need p (positions_of x.flow x.rows ns)) → length q.regs ≡ x.regs → IsSingle q.regs → ((m v : ℕ) → first_of ns ≡ Some m → Live blocks v m → placed q v ≡ true) → AllBegun p ns (begun (Rattle.loc_state.specs.Steps.start_of (next_start x need p end q (first_of ns))))
@@ -182,8 +134,8 @@ module _ (x : Case) (need : ℕ → ℕ → Option ℕ) (valid : IsValidFlow x.f
   rest_path n [] path = tt
   rest_path n (k ∷ ns) path = path.1
 
-  along_kept : (ns : List ℕ) (p : ℕ) (done : List ℕ) (f : Forward) → (there : There ns) → IsPath blocks ns → (fol : Follows need p (positions_of x.flow x.rows ns)) → SoundLists done f → AllBegun p ns f.part → SoundLists (done ++ ns) (along x need (drop_all need) p ns f) × (along x need (drop_all need) p ns f ≡ along x need (dead need) p ns f)
-  along_kept [] p done f there path fol s b = (subst (λ d. SoundLists d f) (sym (Rattle.loc_state.proofs.Numbers.append_nil done)) s, refl)
+  along_kept : (ns : List ℕ) (p : ℕ) (done : List ℕ) (f : Forward) → (there : There ns) → IsPath blocks ns → (fol : Follows need p (positions_of x.flow x.rows ns)) → WalkedLists done f → AllBegun p ns f.part → WalkedLists (done ++ ns) (along x need (drop_all need) p ns f) × (along x need (drop_all need) p ns f ≡ along x need (dead need) p ns f)
+  along_kept [] p done f there path fol s b = (subst (λ d. WalkedLists d f) (sym (Rattle.loc_state.proofs.Numbers.append_nil done)) s, refl)
   along_kept (n ∷ ns) p done f there path fol s b =
       let node = b.node in
       let next = first_of ns in
@@ -191,15 +143,15 @@ module _ (x : Case) (need : ℕ → ℕ → Option ℕ) (valid : IsValidFlow x.f
       let t : Part = in_node x need (drop_all need) p node (begun b.start) in
       let same : in_node x need (drop_all need) p node f.part ≡ t = ap (in_node x need (drop_all need) p node) b.is in
       let other : in_node x need (dead need) p node f.part ≡ in_node x need (dead need) p node (begun b.start) = ap (in_node x need (dead need) p node) b.is in
-      let sound = sound_more space blocks done f.starts f.lines f.regs f.ends n t.start t.lines t.named (places t) s (node_sound x need valid live four p n node ns b.here b.at b.next b.start b.good, end_rises x need valid live four p n node ns b.here b.at b.next b.start b.good) in
+      let walked = walked_more space blocks done f.starts f.lines f.regs f.ends n t.start t.lines t.named (places t) s (node_walked x need valid live four p n node ns b.here b.at b.next b.start b.good, end_rises x need valid live four p n node ns b.here b.at b.next b.start b.good) in
       let fol' = behind_follows x need valid live four p node ns b.at in
       let begun' = next_begun (end_position p node + 1) node.end (places t) ns there.1 fol' (end_registers x need valid live four p n node ns b.here b.at b.next b.start b.good) (end_single x need valid live four p n node ns b.here b.at b.next b.start b.good) (λ m v e l. end_covers x need valid live four p n node ns b.here b.at b.next b.start b.good m v (first_leads n ns path m e) l) in
-      let more = along_kept ns (end_position p node + 1) (done ++ n ∷ []) (go t) there.1 (rest_path n ns path) fol' sound begun' in
+      let more = along_kept ns (end_position p node + 1) (done ++ n ∷ []) (go t) there.1 (rest_path n ns path) fol' walked begun' in
       let equal : go t ≡ go (in_node x need (dead need) p node (begun b.start)) = ap go (same_part x need valid live four p n node ns b.here b.at b.next b.start b.good) in
       let P : (ℕ → List ℕ → Part → Part) → Option Node → Forward = λ d o. along x need d (position_behind p o) ns (behind x need d p o next f) in
       let swift : P (drop_all need) (slice_get x.flow.nodes n) ≡ along x need (drop_all need) (end_position p node + 1) ns (go t) = ap (P (drop_all need)) b.here ∙ ap (λ y. along x need (drop_all need) (end_position p node + 1) ns (go y)) same in
       let plain : P (dead need) (slice_get x.flow.nodes n) ≡ along x need (dead need) (end_position p node + 1) ns (go (in_node x need (dead need) p node (begun b.start))) = ap (P (dead need)) b.here ∙ ap (λ y. along x need (dead need) (end_position p node + 1) ns (go y)) other in (
-        subst (SoundLists (done ++ n ∷ ns)) (sym swift) (subst (λ d. SoundLists d (along x need (drop_all need) (end_position p node + 1) ns (go t))) (append_assoc done (n ∷ []) ns) more.0),
+        subst (WalkedLists (done ++ n ∷ ns)) (sym swift) (subst (λ d. WalkedLists d (along x need (drop_all need) (end_position p node + 1) ns (go t))) (append_assoc done (n ∷ []) ns) more.0),
         swift ∙ more.1 ∙ ap (along x need (dead need) (end_position p node + 1) ns) equal ∙ sym plain,
       )
 
@@ -214,10 +166,10 @@ module _ (x : Case) (ns : List ℕ) (hint : Option Hint) (given : IsInput x ns h
   abbrev need : ℕ → ℕ → Option ℕ
   need = need_in x ns
 
-  pub swift_is_linear : (result_by x need (drop_all need) number ns hint ≡ linear x number ns hint) × IsSound x.regs x.flow (record { nodes = ns }) (result_by x need (drop_all need) number ns hint) × EndsRise (result_by x need (drop_all need) number ns hint)
+  pub swift_is_linear : (result_by x need (drop_all need) number ns hint ≡ linear x number ns hint) × IsWalked x.regs x.flow (record { nodes = ns }) (result_by x need (drop_all need) number ns hint) × EndsRise (result_by x need (drop_all need) number ns hint)
   swift_is_linear = by ns hint refl given.trace given.fit (follows_all (positions_of x.flow x.rows ns))
     where
-      by : (ms : List ℕ) (hint : Option Hint) → ms ≡ ns → IsTrace (code_nodes x.flow.nodes) ms → FitsHead x.regs (code_nodes x.flow.nodes) ms hint → Follows (need_in x ns) 0 (positions_of x.flow x.rows ns) → (result_by x (need_in x ns) (drop_all (need_in x ns)) number ms hint ≡ result_by x (need_in x ns) (λ p vs t. drop_dead (need_in x ns) p t) number ms hint) × IsSound x.regs x.flow (record { nodes = ms }) (result_by x (need_in x ns) (drop_all (need_in x ns)) number ms hint) × EndsRise (result_by x (need_in x ns) (drop_all (need_in x ns)) number ms hint)
+      by : (ms : List ℕ) (hint : Option Hint) → ms ≡ ns → IsTrace (code_nodes x.flow.nodes) ms → FitsHead x.regs (code_nodes x.flow.nodes) ms hint → Follows (need_in x ns) 0 (positions_of x.flow x.rows ns) → (result_by x (need_in x ns) (drop_all (need_in x ns)) number ms hint ≡ result_by x (need_in x ns) (λ p vs t. drop_dead (need_in x ns) p t) number ms hint) × IsWalked x.regs x.flow (record { nodes = ms }) (result_by x (need_in x ns) (drop_all (need_in x ns)) number ms hint) × EndsRise (result_by x (need_in x ns) (drop_all (need_in x ns)) number ms hint)
       by [] hint e trace fit fol = let l = trace.some in absurd (omega (arith, l))
       by (n ∷ ms) hint e trace fit fol =
           let need' = need_in x ns in
@@ -260,8 +212,8 @@ made_is x number (n ∷ ns) hint told head out m =
 pub made_linear : (x : Case) (number : ℕ) (ns : List ℕ) (hint : Option Hint) (told : ℕ → ℕ → Option ℕ) (head : ℕ) (out : TraceOut) → IsMade x number ns hint told head out → IsInput x ns hint → out ≡ linear x number ns hint
 made_linear x number ns hint told head out m given = made_is x number ns hint told head out m ∙ (swift_is_linear x ns hint given number).0
 
-pub made_sound : (x : Case) (number : ℕ) (ns : List ℕ) (hint : Option Hint) (told : ℕ → ℕ → Option ℕ) (head : ℕ) (out : TraceOut) → IsMade x number ns hint told head out → IsInput x ns hint → IsSound x.regs x.flow (record { nodes = ns }) out
-made_sound x number ns hint told head out m given = subst (IsSound x.regs x.flow (record { nodes = ns })) (sym (made_is x number ns hint told head out m)) (swift_is_linear x ns hint given number).1
+pub made_walked : (x : Case) (number : ℕ) (ns : List ℕ) (hint : Option Hint) (told : ℕ → ℕ → Option ℕ) (head : ℕ) (out : TraceOut) → IsMade x number ns hint told head out → IsInput x ns hint → IsWalked x.regs x.flow (record { nodes = ns }) out
+made_walked x number ns hint told head out m given = subst (IsWalked x.regs x.flow (record { nodes = ns })) (sym (made_is x number ns hint told head out m)) (swift_is_linear x ns hint given number).1
 
 pub made_rises : (x : Case) (number : ℕ) (ns : List ℕ) (hint : Option Hint) (told : ℕ → ℕ → Option ℕ) (head : ℕ) (out : TraceOut) → IsMade x number ns hint told head out → IsInput x ns hint → EndsRise out
 made_rises x number ns hint told head out m given = subst EndsRise (sym (made_is x number ns hint told head out m)) (swift_is_linear x ns hint given number).2

@@ -4,6 +4,7 @@ ghost use Rattle.std.specs.Prelude.{◌≡◌, ℕ, [], ◌+◌, ◌<◌, ◌≤
 ghost use Rattle.std.specs.Option.{option_map};
 ghost use Rattle.lir_core.specs.Lines.{end_reads};
 ghost use Rattle.lir_core.specs.Sound.{IsSound, EndsRise};
+ghost use Rattle.walked_results.specs.Walked.{IsWalked};
 ghost use Rattle.trace_needs.specs.Asked.{need_told};
 ghost use Rattle.loc_state.specs.Steps.{in_part, places};
 ghost use Rattle.linear_scan.specs.Policy.{bring_all, drop_all};
@@ -19,7 +20,7 @@ use outside::Memory;
 use std::alloc::Global;
 use trace_needs::{Needs, needs};
 
-/// Linear scan over a trace: the defined result, which is sound, for a valid flow, what is live in it, a trace, and a hint
+/// Linear scan over a trace: the defined result, which the walk by names accepts, and so is sound, for a valid flow, what is live in it, a trace, and a hint
 /// that is fit or none. With 16 registers at most it takes time in proportion to what `needs` takes, to the trace's
 /// operations and uses, and to the homed values at each node, each times a logarithm.
 pub fn allocate(alloc: Global, t: &TraceIn, hint: Option<&Places>) -> Result<TraceOut, Memory>
@@ -28,6 +29,8 @@ pub fn allocate(alloc: Global, t: &TraceIn, hint: Option<&Places>) -> Result<Tra
     requires row { IfSome hint (λ q. length q.now.regs ≡ t.now.regs) }
     ensures linear { IsInput (case_of t.now) t.now.trace.now.nodes (hint_of t.now.from (lent hint.entry))
         → IfOk result (λ out. out ≡ linear (case_of t.now) t.now.number t.now.trace.now.nodes (hint_of t.now.from (lent hint.entry))) }
+    ensures walked { IsInput (case_of t.now) t.now.trace.now.nodes (hint_of t.now.from (lent hint.entry))
+        → IfOk result (IsWalked t.now.regs t.now.flow.now t.now.trace.now) }
     ensures sound { IsInput (case_of t.now) t.now.trace.now.nodes (hint_of t.now.from (lent hint.entry))
         → IfOk result (IsSound t.now.regs t.now.flow.now t.now.trace.now) }
     ensures rises { IsInput (case_of t.now) t.now.trace.now.nodes (hint_of t.now.from (lent hint.entry))

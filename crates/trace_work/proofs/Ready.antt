@@ -24,6 +24,7 @@ use Rattle.trace_work.specs.declared.planning.TracePlan.{TracePlan}
 use Rattle.trace_work.specs.declared.work.Entry.{Entry}
 use Rattle.trace_work.specs.declared.work.TraceHint.{TraceHint}
 use Rattle.trace_work.specs.Places.{hint_by, if_row}
+use Rattle.walked_results.proofs.Sounds.{result_sound}
 use Rattle.trace_work.specs.Plans.{IsPlan, IsFinal, IsHint, case_of, final_of, finals_to, hint_to, nodes_of}
 use Rattle.trace_work.specs.Entries.{entry_of, parents_in, AreEntries}
 use Rattle.trace_work.specs.Finals.{joined, plain_hint, HasRow, IsFinalOf, IsHintOf, OfTrace}
@@ -82,7 +83,7 @@ module _ (choice : Choice) (p : TracePlan) where
       let head = first_of (nodes_of p t) in
       let outs = finals_to choice p t in
       let e : parent_of bls p.traces t ≡ Some l = parent_is bls p.traces t (get_or p.parents t None) (is.parents.parent t lt) ∙ known in
-      let r = child_ready (case_of choice p) p.traces (case_is is) p.places is.places t l done enough lt final.sound final.rises in
+      let r = child_ready (case_of choice p) p.traces (case_is is) p.places is.places t l done enough lt (result_sound choice.regs p.flow.now (trace_at p.traces l) done final.walked) final.rises in
       let same : done ≡ out_at outs l = final.is ∙ sym (final_at t l lower) in
       let h : hint ≡ head_hint bls (trace_at p.traces l) done head = given ∙ r.0 in
       record {

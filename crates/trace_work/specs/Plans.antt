@@ -2,7 +2,8 @@
 use Rattle.std.specs.Prelude.{◌≡◌, ℕ, List, length, replicate, Option}
 use Rattle.lir_core.specs.declared.places.TraceOut.{TraceOut}
 use Rattle.lir_core.specs.Flows.{code_nodes, IsValidFlow}
-use Rattle.lir_core.specs.Sound.{IsSound, EndsRise}
+use Rattle.lir_core.specs.Sound.{EndsRise}
+use Rattle.walked_results.specs.Walked.{IsWalked}
 use Rattle.global_live.specs.Reading.{HasLive}
 use Rattle.trace_build.specs.declared.builder.Builder.{Builder}
 use Rattle.trace_build.specs.Traces.{traces_of}
@@ -48,10 +49,10 @@ final_of choice p t = result_at choice.policy (case_of choice p) p.number p.trac
 abbrev pub hint_to : Choice → TracePlan → ℕ → Option Hint
 hint_to choice p t = hint_for (code_nodes p.flow.now.nodes) p.traces (finals_to choice p t) (first_of (nodes_of p t)) (parent_of (code_nodes p.flow.now.nodes) p.traces t)
 
--- the final result, which is sound, and whose ends can be hints
+-- the final result, which the walk by names accepts, and whose ends can be hints
 pub record IsFinal (choice : Choice) (p : TracePlan) (t : ℕ) (out : TraceOut) : Type 0 where
   pub is : out ≡ final_of choice p t
-  pub sound : IsSound choice.regs p.flow.now (trace_at p.traces t) out
+  pub walked : IsWalked choice.regs p.flow.now (trace_at p.traces t) out
   pub rises : EndsRise out
 
 -- the hint, with which the trace can be given places

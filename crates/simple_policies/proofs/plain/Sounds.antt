@@ -1,4 +1,4 @@
--- The plain result is sound.
+-- The walk by names accepts the plain result.
 use Rattle.std.proofs.Common.{◌≡◌, ℕ, zero, suc, ◌+◌, ◌<◌, ◌≤◌, ◌⊎◌, inl, inr, ⊎_elim, Bool, true, false, ◌&&◌, ◌||◌, cond, List, [], ◌∷◌, ◌++◌, map, length, get_or, take, replicate, Some, None, refl, sym, ap, ap₂, ◌∙◌, subst, arith}
 use Rattle.std.specs.Prelude.{◌==◌, nat_lt, slice_get, filter, option_to_list}
 use Rattle.std.specs.List.{list_all, list_any}
@@ -23,8 +23,9 @@ use Rattle.lir_core.specs.Flows.{operation_of, code_node, code_nodes, calls_mark
 use Rattle.lir_core.specs.Rows.{has_bit}
 use Rattle.lir_core.specs.Spots.{get, in_register, placed, IsRising, IsRow}
 use Rattle.lir_core.specs.Lines.{end_reads, slots_in, slots_of}
-use Rattle.lir_core.specs.Sound.{IsStart, IsEnd, IsSoundNode, IsSound, EndsRise, room_of, no_places, AreSoundLines}
-use Rattle.lir_core.proofs.Walking.{walked}
+use Rattle.lir_core.specs.Walks.{Walks}
+use Rattle.lir_core.specs.Sound.{IsStart, IsEnd, EndsRise, room_of, no_places}
+use Rattle.walked_results.specs.Walked.{IsWalkedNode, IsWalked}
 use Rattle.global_live.specs.Reading.{HasLive}
 use Rattle.global_live.proofs.Lists.{has_front, has_back, not_in_front, not_in_back, in_parts, has-filter, all_below_in}
 use Rattle.global_live.proofs.Tables.{at_block, has_places}
@@ -262,19 +263,18 @@ module _ (k : ℕ) (f : Flow) (live : List (List ℕ)) (valid : IsValidFlow f) (
       slots = subst (λ (b : CodeBlock). slots_in b.ops ≤ slots_of (code_nodes f.nodes)) (block_is n) (slots_at (code_nodes f.nodes) n (omega (arith, there, size)));
     }
 
-    sound_lines : AreSoundLines (room_of k f) (block_at (code_nodes f.nodes) n).ops (end_reads (block_at (code_nodes f.nodes) n).end) (plain_start k f live n) (node_lines (node_at f.nodes n)) (node_regs (node_at f.nodes n)) (plain_end k f live n)
-    sound_lines =
-        subst (λ (b : CodeBlock). AreSoundLines (room_of k f) b.ops (end_reads b.end) (plain_start k f live n) (node_lines (node_at f.nodes n)) (node_regs (node_at f.nodes n)) (plain_end k f live n)) (sym (block_is n))
-        (walked (room_of k f) (map operation_of (node_at f.nodes n).lirs) (end_reads (node_at f.nodes n).end) (plain_start k f live n) (node_lines (node_at f.nodes n)) (node_regs (node_at f.nodes n)) (plain_end k f live n)
+    lines_walk : Walks (room_of k f) (block_at (code_nodes f.nodes) n).ops (end_reads (block_at (code_nodes f.nodes) n).end) (plain_start k f live n) (node_lines (node_at f.nodes n)) (node_regs (node_at f.nodes n)) (plain_end k f live n)
+    lines_walk =
+        subst (λ (b : CodeBlock). Walks (room_of k f) b.ops (end_reads b.end) (plain_start k f live n) (node_lines (node_at f.nodes n)) (node_regs (node_at f.nodes n)) (plain_end k f live n)) (sym (block_is n))
         (walks (room_of k f) (map operation_of (node_at f.nodes n).lirs) few (node_at f.nodes n).lirs (node_at f.nodes n).end (picked f.values (is_at_start live n (node_at f.nodes n))) (picked f.values (is_at_end live (node_at f.nodes n).end)) refl
         (all_fit (room_of k f) (map operation_of (node_at f.nodes n).lirs) few f.args (node_at f.nodes n).lirs fit)
-        (λ v h. read_below n v (has_back (uses_of (map operation_of (node_at f.nodes n).lirs)) (end_uses (node_at f.nodes n).end) v h)) wanted ends_there end_there))
+        (λ v h. read_below n v (has_back (uses_of (map operation_of (node_at f.nodes n).lirs)) (end_uses (node_at f.nodes n).end) v h)) wanted ends_there end_there)
 
-    pub sound_node : IsSoundNode (room_of k f) (code_nodes f.nodes) n (plain_start k f live n) (node_lines (node_at f.nodes n)) (node_regs (node_at f.nodes n)) (plain_end k f live n)
-    sound_node = record { row = (row k f.values (is_at_start live n (node_at f.nodes n)), row k f.values (is_at_end live (node_at f.nodes n).end)); rises = rising (is_at_start live n (node_at f.nodes n)) 0 f.values; starts = starts; ends = ends; lines_sound = sound_lines }
+    pub walked_node : IsWalkedNode (room_of k f) (code_nodes f.nodes) n (plain_start k f live n) (node_lines (node_at f.nodes n)) (node_regs (node_at f.nodes n)) (plain_end k f live n)
+    walked_node = record { row = (row k f.values (is_at_start live n (node_at f.nodes n)), row k f.values (is_at_end live (node_at f.nodes n).end)); rises = rising (is_at_start live n (node_at f.nodes n)) 0 f.values; starts = starts; ends = ends; walks = lines_walk }
 
-  pub sound : (t : Trace) (number : ℕ) → InFlow f t.nodes → IsSound k f t (plain_of k f live number t.nodes)
-  sound t number inside = record {
+  pub walked : (t : Trace) (number : ℕ) → InFlow f t.nodes → IsWalked k f t (plain_of k f live number t.nodes)
+  walked t number inside = record {
     counts = (length-map t.nodes (plain_start k f live), length-map t.nodes (plain_end k f live), length-map t.nodes (λ n. node_lines (node_at f.nodes n)), length-map t.nodes (λ n. node_regs (node_at f.nodes n)));
     nodes = λ i lt.
         let n = get_or t.nodes i 0 in
@@ -282,10 +282,10 @@ module _ (k : ℕ) (f : Flow) (live : List (List ℕ)) (valid : IsValidFlow f) (
         let b = get_or-map (plain_end k f live) t.nodes i 0 no_places lt in
         let c = get_or-map (λ m. node_lines (node_at f.nodes m)) t.nodes i 0 [] lt in
         let d = get_or-map (λ m. node_regs (node_at f.nodes m)) t.nodes i 0 [] lt in
-        subst (λ s. IsSoundNode (room_of k f) (code_nodes f.nodes) n s (get_or (map (λ m. node_lines (node_at f.nodes m)) t.nodes) i []) (get_or (map (λ m. node_regs (node_at f.nodes m)) t.nodes) i []) (get_or (map (plain_end k f live) t.nodes) i no_places)) (sym a)
-        (subst (λ e. IsSoundNode (room_of k f) (code_nodes f.nodes) n (plain_start k f live n) (get_or (map (λ m. node_lines (node_at f.nodes m)) t.nodes) i []) (get_or (map (λ m. node_regs (node_at f.nodes m)) t.nodes) i []) e) (sym b)
-        (subst (λ l. IsSoundNode (room_of k f) (code_nodes f.nodes) n (plain_start k f live n) l (get_or (map (λ m. node_regs (node_at f.nodes m)) t.nodes) i []) (plain_end k f live n)) (sym c)
-        (subst (λ r. IsSoundNode (room_of k f) (code_nodes f.nodes) n (plain_start k f live n) (node_lines (node_at f.nodes n)) r (plain_end k f live n)) (sym d) (sound_node n (inside i lt)))));
+        subst (λ s. IsWalkedNode (room_of k f) (code_nodes f.nodes) n s (get_or (map (λ m. node_lines (node_at f.nodes m)) t.nodes) i []) (get_or (map (λ m. node_regs (node_at f.nodes m)) t.nodes) i []) (get_or (map (plain_end k f live) t.nodes) i no_places)) (sym a)
+        (subst (λ e. IsWalkedNode (room_of k f) (code_nodes f.nodes) n (plain_start k f live n) (get_or (map (λ m. node_lines (node_at f.nodes m)) t.nodes) i []) (get_or (map (λ m. node_regs (node_at f.nodes m)) t.nodes) i []) e) (sym b)
+        (subst (λ l. IsWalkedNode (room_of k f) (code_nodes f.nodes) n (plain_start k f live n) l (get_or (map (λ m. node_regs (node_at f.nodes m)) t.nodes) i []) (plain_end k f live n)) (sym c)
+        (subst (λ r. IsWalkedNode (room_of k f) (code_nodes f.nodes) n (plain_start k f live n) (node_lines (node_at f.nodes n)) r (plain_end k f live n)) (sym d) (walked_node n (inside i lt)))));
   }
 
 pub ends_rise : (k : ℕ) (f : Flow) (live : List (List ℕ)) (number : ℕ) (nodes : List ℕ) → EndsRise (plain_of k f live number nodes)

@@ -1,4 +1,4 @@
--- Trivial results are sound.
+-- The walk by names accepts trivial results.
 use Rattle.std.proofs.Common.{◌≡◌, ◌≢◌, ℕ, zero, suc, ◌+◌, ◌<◌, ◌≤◌, Bool, true, false, ◌&&◌, cond, List, [], ◌∷◌, ◌++◌, map, filter, length, replicate, get_or, Option, Some, None, refl, sym, ap, ◌∙◌, subst, arith, ◌⊎◌, inl, inr}
 use Rattle.std.specs.Prelude.{slice_get}
 use Rattle.std.proofs.lemmas.List.{length-map, length-replicate}
@@ -15,7 +15,9 @@ use Rattle.lir_core.specs.Flows.{code_node, code_nodes}
 use Rattle.lir_core.specs.Rows.{has_bit, live_into}
 use Rattle.lir_core.specs.Spots.{get, in_register, placed, IsRising, IsRow}
 use Rattle.lir_core.specs.Lines.{end_reads}
-use Rattle.lir_core.specs.Sound.{IsStart, IsEnd, AreSoundLines, IsSoundNode, IsSound, EndsRise, room_of}
+use Rattle.lir_core.specs.Walks.{Walks}
+use Rattle.lir_core.specs.Sound.{IsStart, IsEnd, EndsRise, room_of}
+use Rattle.walked_results.specs.Walked.{IsWalkedNode, IsWalked}
 use Rattle.global_live.proofs.Lists.{has-filter}
 use Rattle.loc_state.specs.Registers.{register_of}
 use Rattle.loc_state.proofs.Homing.{filter_rises}
@@ -117,8 +119,8 @@ module _ (x : Case) (ns : List ℕ) (hint : Option Hint) (given : IsInput x ns h
       by v (inl e) = (get_live (has_bit x.rows n) h.places.regs (register_of v (map (if_live (has_bit x.rows n)) h.places.regs)) v (register_at (map (if_live (has_bit x.rows n)) h.places.regs) v e)).1
       by v (inr e) = (and_parts (has h.places.homed v) (has_bit x.rows n v) (sym (has-filter (has_bit x.rows n) h.places.homed v) ∙ e)).1
 
-  node_sound : (s : Places) → HasAll s → IsSoundNode (room_of x.regs x.flow) bls n s [] [] s
-  node_sound s h = record {
+  node_walked : (s : Places) → HasAll s → IsWalkedNode (room_of x.regs x.flow) bls n s [] [] s
+  node_walked s h = record {
     row = (h.row, h.row);
     rises = h.rises;
     starts = record { live = h.covers; wanted = subst (λ bl. (v : ℕ) → has bl.params v ≡ true → Rattle.block_runs.specs.Live.IsWanted bls bl bl.ops v → placed s v ≡ true) (sym here) (λ v p w. cc); only = λ v e. inl (h.only v e) };
@@ -126,11 +128,11 @@ module _ (x : Case) (ns : List ℕ) (hint : Option Hint) (given : IsInput x ns h
       read = subst (λ bl. (v : ℕ) → has (end_uses bl.end) v ≡ true → placed s v ≡ true) (sym here) (λ v e. h.covers v (Here n plain there refl e));
       live = subst (λ bl. (v : ℕ) → LiveBehind bls bl v → placed s v ≡ true) (sym here) (λ v l. h.covers v (Later n l.0 plain there refl l.1 l.2));
     };
-    lines_sound = subst (λ bl. AreSoundLines (room_of x.regs x.flow) bl.ops (end_reads bl.end) s [] [] s) (sym here) (record { in_range = tt; named_below = tt; simulates = λ values content holds. record { done = refl; uses = refl; places = holds } });
+    walks = subst (λ bl. Walks (room_of x.regs x.flow) bl.ops (end_reads bl.end) s [] [] s) (sym here) (record { passes = tt; finishes = record { done = refl; in_range = tt; uses = refl; places = λ p v e. e } });
   }
 
-  pub trivial_sound : (number : ℕ) → IsSound x.regs x.flow (record { nodes = ns }) (trivial x number ns hint) × EndsRise (trivial x number ns hint)
-  trivial_sound number = subst (λ ms. IsSound x.regs x.flow (record { nodes = ms }) (trivial x number ms hint) × EndsRise (trivial x number ms hint)) (sym is.one) (
+  pub trivial_walked : (number : ℕ) → IsWalked x.regs x.flow (record { nodes = ns }) (trivial x number ns hint) × EndsRise (trivial x number ns hint)
+  trivial_walked number = subst (λ ms. IsWalked x.regs x.flow (record { nodes = ms }) (trivial x number ms hint) × EndsRise (trivial x number ms hint)) (sym is.one) (
     record {
       counts = (refl, refl, refl, refl);
       nodes = λ i l. at i l;
@@ -148,8 +150,8 @@ module _ (x : Case) (ns : List ℕ) (hint : Option Hint) (given : IsInput x ns h
       fits : FitsHead x.regs bls (n ∷ []) hint
       fits = subst (λ ms. FitsHead x.regs bls ms hint) is.one given.fit
 
-      at : (i : ℕ) → i < 1 → IsSoundNode (room_of x.regs x.flow) bls (get_or (n ∷ []) i 0) (get_or (trivial_start x n hint ∷ []) i Rattle.lir_core.specs.Sound.no_places) (get_or ([] ∷ []) i []) (get_or ([] ∷ []) i []) (get_or (trivial_start x n hint ∷ []) i Rattle.lir_core.specs.Sound.no_places)
-      at zero l = node_sound (trivial_start x n hint) (good hint fits)
+      at : (i : ℕ) → i < 1 → IsWalkedNode (room_of x.regs x.flow) bls (get_or (n ∷ []) i 0) (get_or (trivial_start x n hint ∷ []) i Rattle.lir_core.specs.Sound.no_places) (get_or ([] ∷ []) i []) (get_or ([] ∷ []) i []) (get_or (trivial_start x n hint ∷ []) i Rattle.lir_core.specs.Sound.no_places)
+      at zero l = node_walked (trivial_start x n hint) (good hint fits)
       at (suc i) l = absurd (omega (arith, l))
 
       rise : (i : ℕ) → IsRising (get_or (trivial_start x n hint ∷ []) i Rattle.lir_core.specs.Sound.no_places).homed

@@ -4,6 +4,7 @@ ghost use Rattle.std.specs.Prelude.{◌≡◌, ℕ, ◌<◌, ◌≤◌, length, 
 ghost use Rattle.global_live.specs.Reading.{HasLive};
 ghost use Rattle.lir_core.specs.Flows.{IsValidFlow, IsTrace, code_nodes};
 ghost use Rattle.lir_core.specs.Sound.{IsSound, EndsRise};
+ghost use Rattle.walked_results.specs.Walked.{IsWalked};
 ghost use Rattle.simple_policies.specs.plain.Plain.{plain_of};
 ghost use Rattle.simple_policies.specs.plain.Parts.{ArePushed};
 
@@ -18,6 +19,8 @@ use std::alloc::Global;
 pub fn plain(alloc: Global, t: &TraceIn) -> Result<TraceOut, Memory>
     ensures result_is { IsTrace (code_nodes t.now.flow.now.nodes) t.now.trace.now.nodes
         → IfOk result (λ out. out ≡ plain_of t.now.regs t.now.flow.now t.now.live.now t.now.number t.now.trace.now.nodes) }
+    ensures walked { IsValidFlow t.now.flow.now → HasLive t.now.flow.now t.now.live.now → IsTrace (code_nodes t.now.flow.now.nodes) t.now.trace.now.nodes → 4 ≤ t.now.regs
+        → IfOk result (λ out. IsWalked t.now.regs t.now.flow.now t.now.trace.now out) }
     ensures sound { IsValidFlow t.now.flow.now → HasLive t.now.flow.now t.now.live.now → IsTrace (code_nodes t.now.flow.now.nodes) t.now.trace.now.nodes → 4 ≤ t.now.regs
         → IfOk result (λ out. IsSound t.now.regs t.now.flow.now t.now.trace.now out) }
     ensures rises { IsTrace (code_nodes t.now.flow.now.nodes) t.now.trace.now.nodes → IfOk result EndsRise }

@@ -2,6 +2,7 @@
 
 ghost use Rattle.std.specs.Prelude.{◌≡◌, [], IfOk};
 ghost use Rattle.lir_core.specs.Sound.{IsSound, EndsRise};
+ghost use Rattle.walked_results.specs.Walked.{IsWalked};
 ghost use Rattle.linear_scan.specs.Inputs.{case_of, hint_of, lent, IsInput};
 ghost use Rattle.simple_policies.specs.trivial.Trivial.{trivial, trivial_start, IsTrivial};
 
@@ -14,6 +15,8 @@ use std::alloc::{AllocError, Global};
 /// and homed values, or to the flow's values where there is no hint.
 pub fn trivial(alloc: Global, t: &TraceIn, hint: Option<&Places>) -> Result<TraceOut, Memory>
     ensures trivial { IfOk result (λ out. out ≡ trivial (case_of t.now) t.now.number t.now.trace.now.nodes (hint_of t.now.from (lent hint.entry))) }
+    ensures walked { IsInput (case_of t.now) t.now.trace.now.nodes (hint_of t.now.from (lent hint.entry))
+        → IsTrivial t.now.flow.now t.now.trace.now.nodes → IfOk result (IsWalked t.now.regs t.now.flow.now t.now.trace.now) }
     ensures sound { IsInput (case_of t.now) t.now.trace.now.nodes (hint_of t.now.from (lent hint.entry))
         → IsTrivial t.now.flow.now t.now.trace.now.nodes → IfOk result (IsSound t.now.regs t.now.flow.now t.now.trace.now) }
     ensures rises { IsInput (case_of t.now) t.now.trace.now.nodes (hint_of t.now.from (lent hint.entry))

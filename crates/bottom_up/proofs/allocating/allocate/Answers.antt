@@ -5,8 +5,10 @@ use Rattle.loc_back.specs.Steps.{started, closed}
 use Rattle.linear_scan.specs.Linear.{Case}
 use Rattle.linear_scan.specs.Inputs.{case_of, IsInput}
 use Rattle.bottom_up.specs.Bottom.{homed_first, along, walked_back, result_of, mention_in}
-use Rattle.lir_core.specs.Sound.{IsSound, EndsRise}
-use Rattle.bottom_up.proofs.Traces.{bottom_sound}
+use Rattle.lir_core.specs.Sound.{EndsRise}
+use Rattle.walked_results.specs.Walked.{IsWalked}
+use Rattle.walked_results.proofs.Sounds.{result_sound}
+use Rattle.bottom_up.proofs.Traces.{bottom_walked}
 use Rattle.bottom_up.proofs.allocating.allocate.Goals as goal
 
 module _ (c : goal.After-drop-positions-inside-3) where
@@ -34,10 +36,13 @@ pub returns-clause-bottom_up : goal.returns-clause-bottom_up
 unfolding x ns said
 returns-clause-bottom_up c given = made c ∙ ap (λ m. result_of c.args.t.now.number (walked_back (x c) m (ns c))) (same c given)
 
-pub returns-clause-sound : goal.returns-clause-sound
+pub returns-clause-walked : goal.returns-clause-walked
 unfolding x ns said
-returns-clause-sound c given = subst (IsSound (x c).regs (x c).flow (record { nodes = ns c })) (sym (made c)) (bottom_sound (x c) (said c) (ns c) given c.args.t.now.number).0
+returns-clause-walked c given = subst (IsWalked (x c).regs (x c).flow (record { nodes = ns c })) (sym (made c)) (bottom_walked (x c) (said c) (ns c) given c.args.t.now.number).0
+
+pub returns-clause-sound : goal.returns-clause-sound
+returns-clause-sound c given = result_sound _ _ _ _ (returns-clause-walked c given)
 
 pub returns-clause-rises : goal.returns-clause-rises
 unfolding x ns said
-returns-clause-rises c given = subst EndsRise (sym (made c)) (bottom_sound (x c) (said c) (ns c) given c.args.t.now.number).1
+returns-clause-rises c given = subst EndsRise (sym (made c)) (bottom_walked (x c) (said c) (ns c) given c.args.t.now.number).1

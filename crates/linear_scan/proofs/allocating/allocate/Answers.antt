@@ -2,10 +2,11 @@ use Rattle.std.proofs.Common.{◌≡◌, ℕ, List, Option, ◌∙◌, ap, ap₂
 use Rattle.std.specs.Prelude.{slice_get}
 use Rattle.trace_needs.specs.Asked.{need_told}
 use Rattle.loc_state.specs.Steps.{started}
+use Rattle.walked_results.proofs.Sounds.{result_sound}
 use Rattle.linear_scan.specs.Policy.{drop_all}
 use Rattle.linear_scan.specs.Linear.{Case, Hint, first_start, along, result_of}
 use Rattle.linear_scan.specs.Inputs.{case_of, hint_of, lent, IsInput}
-use Rattle.linear_scan.proofs.Traces.{IsMade, made_linear, made_sound, made_rises}
+use Rattle.linear_scan.proofs.Traces.{IsMade, made_linear, made_walked, made_rises}
 use Rattle.linear_scan.proofs.allocating.allocate.Goals as goal
 
 module _ (c : goal.After-drop-positions-inside-3) where
@@ -38,9 +39,12 @@ pub returns-clause-linear : goal.returns-clause-linear
 unfolding x ns hint told
 returns-clause-linear c given = made_linear (x c) c.args.t.now.number (ns c) (hint c) (told c) c.in-Some.head c.finish.result (made c given) given
 
-pub returns-clause-sound : goal.returns-clause-sound
+pub returns-clause-walked : goal.returns-clause-walked
 unfolding x ns hint told
-returns-clause-sound c given = made_sound (x c) c.args.t.now.number (ns c) (hint c) (told c) c.in-Some.head c.finish.result (made c given) given
+returns-clause-walked c given = made_walked (x c) c.args.t.now.number (ns c) (hint c) (told c) c.in-Some.head c.finish.result (made c given) given
+
+pub returns-clause-sound : goal.returns-clause-sound
+returns-clause-sound c given = result_sound _ _ _ _ (returns-clause-walked c given)
 
 pub returns-clause-rises : goal.returns-clause-rises
 unfolding x ns hint told

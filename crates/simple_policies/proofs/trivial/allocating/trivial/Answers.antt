@@ -1,10 +1,12 @@
 use Rattle.std.proofs.Common.{◌≡◌, ◌<◌, [], ◌∷◌, length, get_or, sym, subst, arith}
 use Rattle.std.proofs.lemmas.Grind.{common_steps}
 use Rattle.lir_core.specs.declared.places.TraceOut.{TraceOut}
-use Rattle.lir_core.specs.Sound.{IsSound, EndsRise}
+use Rattle.lir_core.specs.Sound.{EndsRise}
+use Rattle.walked_results.specs.Walked.{IsWalked}
+use Rattle.walked_results.proofs.Sounds.{result_sound}
 use Rattle.linear_scan.specs.Inputs.{case_of, hint_of, lent}
 use Rattle.simple_policies.specs.trivial.Trivial.{trivial_start, trivial}
-use Rattle.simple_policies.proofs.trivial.Sounds.{made_is, trivial_sound}
+use Rattle.simple_policies.proofs.trivial.Sounds.{made_is, trivial_walked}
 use Rattle.simple_policies.proofs.trivial.allocating.trivial.Goals as goal
 
 module _ (c : goal.In_ok-push-4) where
@@ -20,9 +22,12 @@ module _ (c : goal.In_ok-push-4) where
 pub returns-clause-trivial : goal.returns-clause-trivial
 returns-clause-trivial c = is c
 
+pub returns-clause-walked : goal.returns-clause-walked
+returns-clause-walked c given triv =
+    subst (IsWalked c.args.t.now.regs c.args.t.now.flow.now c.args.t.now.trace.now) (sym (is c)) (trivial_walked (case_of c.args.t.now) c.args.t.now.trace.now.nodes (hint_of c.args.t.now.from (lent c.args.hint)) given triv c.args.t.now.number).0
+
 pub returns-clause-sound : goal.returns-clause-sound
-returns-clause-sound c given triv =
-    subst (IsSound c.args.t.now.regs c.args.t.now.flow.now c.args.t.now.trace.now) (sym (is c)) (trivial_sound (case_of c.args.t.now) c.args.t.now.trace.now.nodes (hint_of c.args.t.now.from (lent c.args.hint)) given triv c.args.t.now.number).0
+returns-clause-sound c given triv = result_sound _ _ _ _ (returns-clause-walked c given triv)
 
 pub returns-clause-rises : goal.returns-clause-rises
-returns-clause-rises c given triv = subst EndsRise (sym (is c)) (trivial_sound (case_of c.args.t.now) c.args.t.now.trace.now.nodes (hint_of c.args.t.now.from (lent c.args.hint)) given triv c.args.t.now.number).1
+returns-clause-rises c given triv = subst EndsRise (sym (is c)) (trivial_walked (case_of c.args.t.now) c.args.t.now.trace.now.nodes (hint_of c.args.t.now.from (lent c.args.hint)) given triv c.args.t.now.number).1
