@@ -1,0 +1,22 @@
+//! What runs jobs.
+
+ghost use Rattle.std.specs.Prelude.{IfOk};
+
+use outside::Memory;
+use std::alloc::Global;
+
+/// Runs jobs, each by itself.
+pub trait Runner: Sync {
+    /// What a submitter asks for.
+    type Job: Send + Sync + Drop;
+
+    /// What comes of a job.
+    type Answer: Send + Drop;
+
+    /// A job's defined answer.
+    ghost is_answer: { Self → Self.Job → Self.Answer → Type 0 };
+
+    /// The job's defined answer; or there was no memory.
+    fn run(&self, alloc: Global, job: &Self::Job) -> Result<Self::Answer, Memory>
+        ensures { IfOk result (is_answer self.now job.now) };
+}
