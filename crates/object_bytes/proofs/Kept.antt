@@ -6,7 +6,9 @@ use Rattle.a64_memory.specs.Memory.{Area, covers, bytes_at, IsRising, IsOfBytes}
 use Rattle.a64_memory.proofs.Stores.{covers-with_bytes, rising-with_bytes, of_bytes-with_bytes, bytes_at-with_bytes_apart}
 use Rattle.a64_memory.proofs.Cells.{loaded8-stored8_same, loaded1-stored1_same, loaded8-stored8_apart, loaded8-stored1_apart, loaded1-stored8_apart, loaded1-stored1_apart, bytes_of_1, bytes_of_8}
 use Rattle.a64_memory.proofs.Blocks.{covers-part}
-use Rattle.object_bytes.specs.Layouts.{Spot, Sides, span}
+use Rattle.object_nodes.specs.Trees.{scalar_bytes}
+use Rattle.object_nodes.specs.Addresses.{Sides}
+use Rattle.object_bytes.specs.Layouts.{Spot}
 use Rattle.object_bytes.specs.Objects.{Cell, Number, Pointer, Routine, Tag, Objects, write, Placing, Means, Grows, load, store, limit, Clear, Kept, Spare, Zeros}
 
 -- stores by width
@@ -22,26 +24,26 @@ pub bytes_store : (b : Bool) (m : List Area) (p v : ℕ) → IsOfBytes m → IsO
 bytes_store true m p v r = of_bytes-with_bytes m p (v % 2 ^ 8 ∷ []) (bytes_of_1 v) r
 bytes_store false m p v r = of_bytes-with_bytes m p (to_le_bytes w64 v) (bytes_of_8 v) r
 
-pub load_same : (b : Bool) (m : List Area) (p v : ℕ) → covers m p (span b) ≡ true → v < limit b → load b (store b m p v) p ≡ v
+pub load_same : (b : Bool) (m : List Area) (p v : ℕ) → covers m p (scalar_bytes b) ≡ true → v < limit b → load b (store b m p v) p ≡ v
 load_same true m p v c lt = loaded1-stored1_same m p v c ∙ mod-eq_of_lt lt
 load_same false m p v c lt = loaded8-stored8_same m p v c lt
 
-pub load_apart : (b d : Bool) (m : List Area) (p v q : ℕ) → Sides q (span d) p (span b) → load d (store b m p v) q ≡ load d m q
+pub load_apart : (b d : Bool) (m : List Area) (p v q : ℕ) → Sides q (scalar_bytes d) p (scalar_bytes b) → load d (store b m p v) q ≡ load d m q
 load_apart true true m p v q c = loaded1-stored1_apart m p v q c
 load_apart true false m p v q c = loaded8-stored1_apart m p v q c
 load_apart false true m p v q c = loaded1-stored8_apart m p v q c
 load_apart false false m p v q c = loaded8-stored8_apart m p v q c
 
-pub bytes_apart : (b : Bool) (m : List Area) (p v q n : ℕ) → Sides q n p (span b) → bytes_at (store b m p v) q n ≡ bytes_at m q n
+pub bytes_apart : (b : Bool) (m : List Area) (p v q n : ℕ) → Sides q n p (scalar_bytes b) → bytes_at (store b m p v) q n ≡ bytes_at m q n
 bytes_apart true m p v q n c = bytes_at-with_bytes_apart m p (v % 2 ^ 8 ∷ []) q n c
 bytes_apart false m p v q n c = bytes_at-with_bytes_apart m p (to_le_bytes w64 v) q n c
 
 -- a load is of its bytes alone
-pub load_bytes : (b : Bool) (m t : List Area) (q r : ℕ) → bytes_at m q (span b) ≡ bytes_at t r (span b) → load b m q ≡ load b t r
+pub load_bytes : (b : Bool) (m t : List Area) (q r : ℕ) → bytes_at m q (scalar_bytes b) ≡ bytes_at t r (scalar_bytes b) → load b m q ≡ load b t r
 load_bytes true m t q r e = ap (λ l. get_or l 0 0) e
 load_bytes false m t q r e = ap (from_le_bytes w64) e
 
-pub load_zero : (b : Bool) (m : List Area) (q : ℕ) → bytes_at m q (span b) ≡ replicate (span b) 0 → load b m q ≡ 0
+pub load_zero : (b : Bool) (m : List Area) (q : ℕ) → bytes_at m q (scalar_bytes b) ≡ replicate (scalar_bytes b) 0 → load b m q ≡ 0
 load_zero true m q e = ap (λ l. get_or l 0 0) e
 load_zero false m q e = ap (from_le_bytes w64) e
 
@@ -72,7 +74,7 @@ sides_clear a l q n (inr h) = record { at = λ x c d s v. absurd (omega (arith, 
 pub clear_join : (a l q n k : ℕ) → Clear a l q n → Clear a l (q + n) k → Clear a l q (n + k)
 clear_join a l q n k h g = record { at = λ x c d s v. ⊎_elim (λ (lt : x < q + n). h.at x c d s lt) (λ (ge : q + n ≤ x). g.at x c d ge (omega (arith, v))) (cases_lt x (q + n)) }
 
-pub span_some : (b : Bool) → 0 < span b
+pub span_some : (b : Bool) → 0 < scalar_bytes b
 span_some true = omega arith
 span_some false = omega arith
 
@@ -89,10 +91,10 @@ pub grows_on : (p q r : Placing) → Grows p q → Grows q r → Grows p r
 grows_on p q r a b = record { place = λ k x h. b.place k x (a.place k x h); heap = λ k x h. b.heap k x (a.heap k x h); code = λ k x h. b.code k x (a.code k x h); descriptor = λ k x h. b.descriptor k x (a.descriptor k x h) }
 
 -- a scalar of an object lies in its bytes
-pub scalar_room : (o : Objects) (p : Placing) (m : List Area) (k a c : ℕ) (s : Spot) → Kept o p m → p.place k ≡ Some a → (o.form k).spot c ≡ Some s → covers m (a + s.at) (span s.small) ≡ true
+pub scalar_room : (o : Objects) (p : Placing) (m : List Area) (k a c : ℕ) (s : Spot) → Kept o p m → p.place k ≡ Some a → (o.form k).spot c ≡ Some s → covers m (a + s.at) (scalar_bytes s.small) ≡ true
 scalar_room o p m k a c s h at is =
     let g1 = (h.fine k a at).within c s is in
-    covers-part m a (o.form k).bytes (a + s.at) (span s.small) (h.room k a at) (omega arith) (omega (arith, g1))
+    covers-part m a (o.form k).bytes (a + s.at) (scalar_bytes s.small) (h.room k a at) (omega arith) (omega (arith, g1))
 
 one_place : {x y : ℕ} {w : Option ℕ} → w ≡ Some x → w ≡ Some y → x ≡ y
 one_place e f = cc
@@ -103,19 +105,19 @@ one_spot e f = cc
 -- another scalar, of this object or another, shares no byte with this one
 scalars_apart : (o : Objects) (p : Placing) (m : List Area) (k a c : ℕ) (s : Spot) (j b d : ℕ) (t : Spot) → Kept o p m
     → p.place k ≡ Some a → (o.form k).spot c ≡ Some s → p.place j ≡ Some b → (o.form j).spot d ≡ Some t
-    → (j ≢ k) ⊎ ((j ≡ k) × (d ≢ c)) → Sides (b + t.at) (span t.small) (a + s.at) (span s.small)
+    → (j ≢ k) ⊎ ((j ≡ k) × (d ≢ c)) → Sides (b + t.at) (scalar_bytes t.small) (a + s.at) (scalar_bytes s.small)
 scalars_apart o p m k a c s j b d t h at is bt js (inl ne) =
     let f = (h.fine k a at).within c s is in
     let g = (h.fine j b bt).within d t js in
-    clear_sides (b + t.at) (span t.small) (a + s.at) (span s.small) (span_some t.small) (span_some s.small)
-    (clear_within b (o.form j).bytes a (o.form k).bytes (b + t.at) (span t.small) (a + s.at) (span s.small) (h.apart j k b a ne bt at) (omega arith) (omega (arith, g)) (omega arith) (omega (arith, f)))
+    clear_sides (b + t.at) (scalar_bytes t.small) (a + s.at) (scalar_bytes s.small) (span_some t.small) (span_some s.small)
+    (clear_within b (o.form j).bytes a (o.form k).bytes (b + t.at) (scalar_bytes t.small) (a + s.at) (scalar_bytes s.small) (h.apart j k b a ne bt at) (omega arith) (omega (arith, g)) (omega arith) (omega (arith, f)))
 scalars_apart o p m k a c s j b d t h at is bt js (inr both) =
     let same = both.0 in
     let e : b ≡ a = one_place bt (ap p.place same ∙ at) in
     let js' : (o.form k).spot d ≡ Some t = ap (λ i. (o.form i).spot d) (sym same) ∙ js in
     beyond (h.fine k a at).apart e js'
   where
-    beyond : ((c d : ℕ) (s t : Spot) → c ≢ d → (o.form k).spot c ≡ Some s → (o.form k).spot d ≡ Some t → Sides s.at (span s.small) t.at (span t.small)) → b ≡ a → (o.form k).spot d ≡ Some t → Sides (b + t.at) (span t.small) (a + s.at) (span s.small)
+    beyond : ((c d : ℕ) (s t : Spot) → c ≢ d → (o.form k).spot c ≡ Some s → (o.form k).spot d ≡ Some t → Sides s.at (scalar_bytes s.small) t.at (scalar_bytes t.small)) → b ≡ a → (o.form k).spot d ≡ Some t → Sides (b + t.at) (scalar_bytes t.small) (a + s.at) (scalar_bytes s.small)
     beyond sides e js' = ⊎_elim (λ g. inl (omega (arith, g, e))) (λ g. inr (omega (arith, g, e))) (sides d c t s both.1 js' is)
 
 pub here_or_not : (j d k c : ℕ) → ((j ≡ k) × (d ≡ c)) ⊎ ((j ≢ k) ⊎ ((j ≡ k) × (d ≢ c)))
@@ -165,7 +167,7 @@ zeros_store o p m k a c s x q n h at is spare z = record {
   at = λ r i le fits some.
       let g = (h.fine k a at).within c s is in
       bytes_apart s.small m (a + s.at) x r i
-      (clear_sides r i (a + s.at) (span s.small) some (span_some s.small)
-      (clear_within q n a (o.form k).bytes r i (a + s.at) (span s.small) (clear_swap a (o.form k).bytes q n (spare.apart k a at)) le fits (omega arith) (omega (arith, g))))
+      (clear_sides r i (a + s.at) (scalar_bytes s.small) some (span_some s.small)
+      (clear_within q n a (o.form k).bytes r i (a + s.at) (scalar_bytes s.small) (clear_swap a (o.form k).bytes q n (spare.apart k a at)) le fits (omega arith) (omega (arith, g))))
       ∙ z.at r i le fits some;
 }

@@ -4,8 +4,6 @@ pub mod Kept
 pub mod Lives
 pub mod Blocks
 pub mod Typing
-pub mod Words
 pub mod Locals
-pub mod Nodes
 pub mod Starts
 pub mod Seen

@@ -3,7 +3,8 @@ use Rattle.std.proofs.Common.{◌≡◌, ◌≢◌, ℕ, ◌+◌, ◌<◌, ◌�
 use Rattle.std.proofs.lemmas.Bool.{cases_eq}
 use Rattle.a64_memory.specs.Memory.{Area, covers}
 use Rattle.a64_memory.proofs.Blocks.{covers-part}
-use Rattle.object_bytes.specs.Layouts.{Spot, Body, Fine, span}
+use Rattle.object_nodes.specs.Trees.{scalar_bytes}
+use Rattle.object_bytes.specs.Layouts.{Spot, Body, Fine}
 use Rattle.object_bytes.specs.Objects.{Cell, Number, Pointer, Routine, Tag, Objects, create, Placing, with_new, without, Means, Grows, load, Clear, Kept, Spare, Zeros}
 use Rattle.object_bytes.proofs.Kept.{clear_within, clear_swap, clear_join, means_grows, span_some, load_zero}
 
@@ -122,7 +123,7 @@ zeros_part m q n r i h le fits = record { at = λ x l a b c. h.at x l (omega (ar
 pub zero_scalar : (m : List Area) (a : ℕ) (f : Body) (c : ℕ) (s : Spot) → Fine f → Zeros m a f.bytes → f.spot c ≡ Some s → load s.small m (a + s.at) ≡ 0
 zero_scalar m a f c s good z is =
     let g = good.within c s is in
-    load_zero s.small m (a + s.at) (z.at (a + s.at) (span s.small) (omega arith) (omega (arith, g)) (span_some s.small))
+    load_zero s.small m (a + s.at) (z.at (a + s.at) (scalar_bytes s.small) (omega arith) (omega (arith, g)) (span_some s.small))
 
 -- an object that is gone
 gone : (w : ℕ → Option ℕ) (k j b : ℕ) → cond (nat_eq j k) None (w j) ≡ Some b → (j ≢ k) × (w j ≡ Some b)

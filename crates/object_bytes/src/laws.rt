@@ -2,29 +2,20 @@
 
 ghost use Rattle.std.specs.Prelude.{◌≡◌, ◌≢◌, ◌⊎◌, List, ℕ, ◌+◌, ◌*◌, ◌<◌, ◌≤◌, ◌^◌, length, Bool, true, false, Option, Some, None};
 ghost use Rattle.a64_memory.specs.Memory.{Area, covers, bytes_at, with_bytes, loaded1};
-ghost use Rattle.object_bytes.specs.Layouts.{Spot, Form, Body, body, Fine, Part, Rising, Sides, Shape, Array, Record, Row, Field, Extend, cells, row_cells, up, wide, bytes, row_end, row_form, form};
+ghost use Rattle.object_nodes.specs.Trees.{DataTree, Array, Record, FieldRow, Field, Extend, tree_cells, row_cells, round_up, wide, tree_bytes, row_end};
+ghost use Rattle.object_bytes.specs.Layouts.{Spot, Form, Body, body, Fine, Part, Rising, row_form, form};
 ghost use Rattle.object_bytes.specs.Objects.{Cell, Number, Objects, Placing, Kept, Spare, Means, load, limit, store, write, create, copied, with_new, without};
-ghost use Rattle.object_bytes.specs.Nodes.{Node, Begins};
 
 /// In both widths: the scalars of a type lie within its bytes, each apart from the others; an element is a part of its
-/// array, a field of its record, a base of its extension, each with the cells and the bytes of its own type. A type takes
-/// eight bytes a cell at most, and just so many where every scalar takes eight.
+/// array, a field of its record, a base of its extension, each with the cells and the bytes of its own type.
 pub fn layouts_fit()
-    ensures fine { (packed : Bool) (t : Shape) → Fine (body (form packed t)) }
-    ensures element { (packed : Bool) (n i : ℕ) (t : Shape) → i < n → Part (body (form packed (Array n t))) (i * cells t) (i * bytes packed t) (form packed t) }
-    ensures field { (packed : Bool) (r : Row) (t : Shape)
-        → Part (body (row_form packed (Field r t))) (row_cells r) (up (wide packed t) (row_end packed r)) (form packed t) }
-    ensures behind { (packed : Bool) (r : Row) (t : Shape) (c o : ℕ) (f : Form) → Part (body (row_form packed r)) c o f
+    ensures fine { (packed : Bool) (t : DataTree) → Fine (body (form packed t)) }
+    ensures element { (packed : Bool) (n i : ℕ) (t : DataTree) → i < n → Part (body (form packed (Array n t))) (i * tree_cells t) (i * tree_bytes packed t) (form packed t) }
+    ensures field { (packed : Bool) (r : FieldRow) (t : DataTree)
+        → Part (body (row_form packed (Field r t))) (row_cells r) (round_up (wide packed t) (row_end packed r)) (form packed t) }
+    ensures behind { (packed : Bool) (r : FieldRow) (t : DataTree) (c o : ℕ) (f : Form) → Part (body (row_form packed r)) c o f
         → Part (body (row_form packed (Field r t))) c o f }
-    ensures base { (packed : Bool) (r : Row) → Part (body (row_form packed (Extend r))) 0 0 (form packed (Record r)) }
-    ensures below { (packed : Bool) (t : Shape) → bytes packed t ≤ 8 * cells t }
-    ensures eight { (t : Shape) → bytes false t ≡ 8 * cells t }
-{}
-
-/// Two parts of one type's value from which a value of the same type may be copied are one part, or share no byte.
-pub fn parts_are_one_or_apart()
-    ensures { (packed : Bool) (t f s u : Shape) (o q : ℕ) → Node packed t o s → Node packed t q u → Begins f s → Begins f u
-        → (o ≡ q) ⊎ Sides o (bytes packed f) q (bytes packed f) }
+    ensures base { (packed : Bool) (r : FieldRow) → Part (body (row_form packed (Extend r))) 0 0 (form packed (Record r)) }
 {}
 
 /// A store of a cell's number at its address goes on holding the objects, with that cell written.

@@ -1,5 +1,5 @@
--- The copies of a well-formed procedure's body: both sides are nodes, one or apart, and all their cells are there.
-use Rattle.std.proofs.Common.{◌≡◌, ℕ, zero, suc, ◌+◌, ◌<◌, ◌≤◌, List, [], ◌∷◌, length, Bool, true, ◌&&◌, Option, Some, None, refl, arith}
+-- The copies of a well-formed procedure's body: both sides are nodes, and all their cells are there.
+use Rattle.std.proofs.Common.{◌≡◌, ℕ, zero, suc, ◌+◌, ◌<◌, ◌≤◌, List, [], ◌∷◌, length, Bool, true, ◌&&◌, Some, refl, arith}
 use Rattle.std.specs.Prelude.{slice_get, slice_index_or}
 use Rattle.ob_types.specs.Store.{Address, Store, Here, can_write}
 use Rattle.run_laws.specs.Turns.{State}
@@ -12,7 +12,7 @@ use Rattle.ob_types.specs.declared.program.Program.{Program}
 use Rattle.ob_types.specs.Forms.{Form, joined, types_fine, forms}
 use Rattle.ob_types.specs.WellFormed
 use Rattle.ob_types.specs.WellFormed.{Named, holds_of, is_writable, lengths_fit}
-use Rattle.ob_types.proofs.Tests.{and_of, no}
+use Rattle.ob_types.proofs.Tests.{and_of}
 use Rattle.ob_sound.proofs.Typed.{Sound, Typed}
 use Rattle.ob_sound.proofs.Handing.{AllTaken, CallsSound}
 use Rattle.ob_sound.proofs.Tree.{t_named}
@@ -30,10 +30,6 @@ some_at : (xs : List Form) (i : ℕ) → i < length xs → (f : Form) × (slice_
 some_at [] i lt = absurd (omega (arith, lt))
 some_at (x ∷ xs) zero lt = (x, refl)
 some_at (x ∷ xs) (suc i) lt = some_at xs i (omega (arith, lt))
-
-holds_both : (a b : Named → Bool) (o : Option Named) → holds_of (λ t. a t && b t) o ≡ true → holds_of b o ≡ true
-holds_both a b None h = no h
-holds_both a b (Some t) h = (and_of (a t) (b t) h).1
 
 module _ (p : Program) (packed : Bool) where
   -- a node's cells are there
@@ -67,7 +63,7 @@ module _ (p : Program) (packed : Bool) where
         let to = WellFormed.named p here.procedure d in let from = WellFormed.named p here.procedure e in
         let a = and_of (lengths_fit n m) (holds_of (WellFormed.may_copy p here.procedure element n) to && holds_of (WellFormed.array_of p element m) from) h in
         let b = and_of (holds_of (WellFormed.may_copy p here.procedure element n) to) (holds_of (WellFormed.array_of p element m) from) a.1 in
-        c_array p packed vs fine here.procedure n m element to from (holds_both is_writable (WellFormed.array_of p element n) to b.0) b.1
+        c_array p packed vs fine here.procedure n m element to from b.0 b.1
         (t_named p fine calls sound_calls here fs tags frame args d) (b_named p packed fine vs calls sound_calls here fs tags frame args own handed d)
         (t_named p fine calls sound_calls here fs tags frame args e) (b_named p packed fine vs calls sound_calls here fs tags frame args own handed e)
 
@@ -77,6 +73,6 @@ module _ (p : Program) (packed : Bool) where
         let r = record_of_kind (kind_in d) in
         let to = WellFormed.named p here.procedure d in let from = WellFormed.named p here.procedure e in
         let a = and_of (holds_of (λ t. is_writable t && WellFormed.has_record p r t) to) (holds_of (WellFormed.has_record p r) from) h in
-        c_record p packed vs fine r to from (holds_both is_writable (WellFormed.has_record p r) to a.0) a.1
+        c_record p packed vs fine r to from a.0 a.1
         (t_named p fine calls sound_calls here fs tags frame args d) (b_named p packed fine vs calls sound_calls here fs tags frame args own handed d)
         (t_named p fine calls sound_calls here fs tags frame args e) (b_named p packed fine vs calls sound_calls here fs tags frame args own handed e)

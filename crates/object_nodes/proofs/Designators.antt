@@ -1,5 +1,5 @@
 -- What a designator names is a node of its object's tree: construct by construct, over the meaning's combinators.
-use Rattle.std.proofs.Common.{◌≡◌, ℕ, zero, suc, ◌+◌, ◌*◌, ◌^◌, ◌<◌, List, [], ◌∷◌, ◌++◌, map, length, Bool, true, ◌&&◌, Option, Some, None, refl, sym, ap, ◌∙◌, subst, arith, inr, eqb-true}
+use Rattle.std.proofs.Common.{◌≡◌, ℕ, zero, suc, ◌+◌, ◌*◌, ◌^◌, ◌<◌, List, [], ◌∷◌, ◌++◌, map, Bool, true, ◌&&◌, Option, Some, None, refl, sym, ap, ◌∙◌, subst, arith, inr, eqb-true}
 use Rattle.std.specs.Prelude.{slice_get, slice_index_or, ◌==◌, nat_lt}
 use Rattle.run_laws.specs.Turns.{Ending, Gives, Fails, Spent, ◌>>=◌, give}
 use Rattle.ob_types.specs.Layout.{kind_of, record_of, types_of, field_place, extends}
@@ -7,12 +7,11 @@ use Rattle.ob_types.specs.Layout.{cells as cells_of}
 use Rattle.ob_types.specs.Store.{Cell, Bits, Pointer, Code, Area, Globals, Frames, Heap, Strings, Address, Store, Trap, Act, given, Handed, At, Sized, Tagged, Value, Span, past, address_in, span_in, tag_in, unless, object_in, tag_of, place, span}
 use Rattle.ob_types.specs.Operators.{inside}
 use Rattle.ob_types.specs.Expressions.{element_place, field_of, object_of, narrowed}
-use Rattle.ob_types.specs.Meaning.{texts_of}
 use Rattle.ob_types.specs.declared.types.TypeKind.{TypeKind}
 use Rattle.ob_types.specs.declared.types.TypeKind.TheVariants.{Char}
 use Rattle.ob_types.specs.declared.types.TypeKind.TheVariants.{Array as ArrayOf}
 use Rattle.ob_types.specs.declared.program.Program.{Program}
-use Rattle.ob_types.specs.Forms.{Form, Truth, Small, ToRecord, scalar_form, types_fine}
+use Rattle.ob_types.specs.Forms.{Form, Small, ToRecord, scalar_form, types_fine}
 use Rattle.ob_types.specs.LegalTypes.{is_record_type}
 use Rattle.ob_types.specs.WellFormed
 use Rattle.ob_types.specs.WellFormed.{Named, Cells, Of, OpenOf, Dynamic, Characters, Elementary, Letter, provided, holds_of, with_some, gives_number, is_writable, element_by, record_by, is_char, pointed}
@@ -59,7 +58,7 @@ module _ (p : Program) (packed : Bool) where
       by (ks ∷ vs) zero h = h
       by (ks ∷ vs) (suc o) h = by vs o h
 
-  pub node_push : (vs : List (List ℕ)) (own : List ℕ) (tags : List ℕ) (a : Address) (s : DataTree) → IsNode p packed vs tags a s → IsNode (vs ++ own ∷ []) tags a s
+  pub node_push : (vs : List (List ℕ)) (own : List ℕ) (tags : List ℕ) (a : Address) (s : DataTree) → IsNode p packed vs tags a s → IsNode p packed (vs ++ own ∷ []) tags a s
   node_push vs own tags a s h = (h.0, h.1, trees_push vs own tags a.area a.object h.0 a.cell h.1 s h.2)
 
   pub named_older : (vs : List (List ℕ)) (tags more : List ℕ) → Older tags more → (d : Named) (h : Handed) → NamesNode p packed vs tags d h → NamesNode p packed vs more d h

@@ -10,7 +10,7 @@ use Rattle.ob_types.specs.declared.types.TypeKind.TheVariants.{Bool as Boolean, 
 use Rattle.ob_types.proofs.Tests.{none_some, some_same}
 use Rattle.ssa_lowered.specs.Data.{Extent, beside, parts, full, base_extent, extent_by, extent_within, record_within, extent, record_extent, packed_offset, packed, room, room_of_all}
 use Rattle.ssa_lowered.specs.Data.{up as up_by}
-use Rattle.object_nodes.specs.Trees.{DataTree, Scalar, Array, Record, FieldRow, Empty, Field, Extend, tree_cells, row_cells, round_up, wide, row_wide, tree_bytes, row_end, base_row, with_fields, tree_by, tree_within, row_within, data_tree, record_row}
+use Rattle.object_nodes.specs.Trees.{DataTree, Record, FieldRow, Field, round_up, wide, row_wide, tree_bytes, row_end, base_row, with_fields, tree_by, tree_within, row_within, data_tree, record_row}
 use Rattle.object_nodes.specs.Nodes.{variable_start}
 use Rattle.object_nodes.proofs.Trees.{fields_before, byte_place, place_is}
 use Rattle.object_nodes.proofs.Words.{field_eight}

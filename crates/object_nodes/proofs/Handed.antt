@@ -232,16 +232,15 @@ module _ (p : Program) (packed : Bool) where
           s_bind p (b_argument a x parts.0) (λ t1 y e1 t. s_bind p (s_older p e1 (b_arguments _ rest xs parts.1)) (λ t2 ys e2 ts. s_give p (y ∷ ys) (λ t3 e3. (taken_node_older t1 t3 (older_trans t1 t2 t3 e2 e3) x.mode x.type_number y t, all_nodes_older t2 t3 e3 xs ys ts))))
 
   -- what was handed over is a node for the call that takes it too
-  module _ (fine : types_fine p.types ≡ true) where
-    pub taken_node_push : (vs : List (List ℕ)) (own : List ℕ) (tags : List ℕ) (m : Mode) (kind : ℕ) (h : Handed) → TakenNode p packed vs tags m kind h → TakenNode p packed (vs ++ own ∷ []) tags m kind h
-    taken_node_push vs own tags OfValue kind (Value c) t = tt
-    taken_node_push vs own tags Place kind (At a) t = node_push p packed vs own tags a (data_tree p.types kind) t
-    taken_node_push vs own tags OfRecord kind (Tagged a s) t = node_push p packed vs own tags a (Record (record_row p.types s)) t
-    taken_node_push vs own tags OfOpen kind (Sized a n) t = λ k is. node_push p packed vs own tags a (Array n (data_tree p.types k)) (t k is)
-    taken_node_push vs own tags _ kind _ t = absurd t
+  pub taken_node_push : (vs : List (List ℕ)) (own : List ℕ) (tags : List ℕ) (m : Mode) (kind : ℕ) (h : Handed) → TakenNode p packed vs tags m kind h → TakenNode p packed (vs ++ own ∷ []) tags m kind h
+  taken_node_push vs own tags OfValue kind (Value c) t = tt
+  taken_node_push vs own tags Place kind (At a) t = node_push p packed vs own tags a (data_tree p.types kind) t
+  taken_node_push vs own tags OfRecord kind (Tagged a s) t = node_push p packed vs own tags a (Record (record_row p.types s)) t
+  taken_node_push vs own tags OfOpen kind (Sized a n) t = λ k is. node_push p packed vs own tags a (Array n (data_tree p.types k)) (t k is)
+  taken_node_push vs own tags _ kind _ t = absurd t
 
-    pub all_nodes_push : (vs : List (List ℕ)) (own : List ℕ) (tags : List ℕ) (xs : List Formal) (hs : List Handed) → AllNodes p packed vs tags xs hs → AllNodes p packed (vs ++ own ∷ []) tags xs hs
-    all_nodes_push vs own tags [] [] t = tt
-    all_nodes_push vs own tags (x ∷ xs) (h ∷ hs) t = (taken_node_push vs own tags x.mode x.type_number h t.0, all_nodes_push vs own tags xs hs t.1)
-    all_nodes_push vs own tags [] (h ∷ hs) t = absurd t
-    all_nodes_push vs own tags (x ∷ xs) [] t = absurd t
+  pub all_nodes_push : (vs : List (List ℕ)) (own : List ℕ) (tags : List ℕ) (xs : List Formal) (hs : List Handed) → AllNodes p packed vs tags xs hs → AllNodes p packed (vs ++ own ∷ []) tags xs hs
+  all_nodes_push vs own tags [] [] t = tt
+  all_nodes_push vs own tags (x ∷ xs) (h ∷ hs) t = (taken_node_push vs own tags x.mode x.type_number h t.0, all_nodes_push vs own tags xs hs t.1)
+  all_nodes_push vs own tags [] (h ∷ hs) t = absurd t
+  all_nodes_push vs own tags (x ∷ xs) [] t = absurd t

@@ -8,5 +8,7 @@ pub mod Copies
 pub mod Extents
 pub mod Scalars
 pub mod Bodies
+pub mod WholeCopies
+pub mod Running
 pub mod Stood
 pub mod AtOnce

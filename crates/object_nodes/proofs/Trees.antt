@@ -150,8 +150,8 @@ module _ (t : Table) where
   past_kinds : (k : ℕ) → length t.kinds ≤ k → kind_of t k ≡ Nothing
   past_kinds k l = get_or_past t.kinds k Nothing l
 
-  past_records : (r : ℕ) → length t.records ≤ r → record_of t r ≡ record { «module» = 0; base = None; level = 0; fields = []; tree_cells = 0 }
-  past_records r l = get_or_past t.records r (record { «module» = 0; base = None; level = 0; fields = []; tree_cells = 0 }) l
+  past_records : (r : ℕ) → length t.records ≤ r → record_of t r ≡ record { «module» = 0; base = None; level = 0; fields = []; cells = 0 }
+  past_records r l = get_or_past t.records r (record { «module» = 0; base = None; level = 0; fields = []; cells = 0 }) l
 
   module _ (ok : types_fine t ≡ true) where
     fine_parts : (all_below (length t.kinds) (nests t (suc (length t.kinds + length t.records))) ≡ true) × (all_below (length t.records) (record_nests t (suc (length t.kinds + length t.records))) ≡ true)

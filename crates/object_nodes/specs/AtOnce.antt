@@ -1,7 +1,8 @@
 -- Copies of the meaning, all cells at once.
-use Rattle.std.specs.Prelude.{◌≡◌, ℕ, zero, suc, ◌+◌, ◌<◌, Option, Some, None}
-use Rattle.run_laws.specs.Turns.{State, Ending, Gives, after}
-use Rattle.ob_types.specs.Store.{Cell, Bits, Address, Store, Trap, objects, with_objects, cell_of, cell_put, past, spend_all}
+use Rattle.std.specs.Prelude.{◌≡◌, ℕ, zero, suc, ◌+◌, ◌*◌, ◌<◌, Option, Some, None, nat_le}
+use Rattle.run_laws.specs.Turns.{Gives, after, ◌>>=◌, spend}
+use Rattle.ob_types.specs.Store.{Cell, Bits, Address, Store, Act, Handed, objects, with_objects, cell_of, cell_put, past, unless, spend_all, place, span}
+use Rattle.ob_types.specs.Statements.{Deed}
 
 -- 0 where there is none
 abbrev pub cell_or_zero : Option Cell → Cell
@@ -20,8 +21,25 @@ with_copied zero to from s = s
 with_copied (suc n) to from s = with_cell (past to n) (held_cell (past from n) s) (with_copied n to from s)
 
 -- a turn for each of n cells, and then all of them at once
-abbrev pub copy_at_once : ℕ → Address → Address → State Store → Ending Store Trap (Unit {0})
+abbrev pub copy_at_once : ℕ → Address → Address → Deed
 copy_at_once n to from s = after (spend_all n s) (λ u t. Gives tt (record t { store = with_copied n to from s.store }))
+
+-- the meaning's copies of arrays and of records, with that for all their cells
+
+abbrev pub copy_array_at_once : ℕ → Act Handed → Option ℕ → Act Handed → Option ℕ → ℕ → Deed
+copy_array_at_once f d n e m cells = do
+  to ← span d n
+  from ← span e m
+  _ ← unless f 12 (nat_le from.length to.length)
+  _ ← spend
+  copy_at_once (from.length * cells) to.at from.at
+
+abbrev pub copy_record_at_once : Act Handed → Act Handed → ℕ → Deed
+copy_record_at_once d e cells = do
+  to ← place d
+  from ← place e
+  _ ← spend
+  copy_at_once cells to from
 
 -- n cells from an address on are there
 pub record CellsThere (n : ℕ) (a : Address) (s : Store) : Type 0 where

@@ -1,5 +1,6 @@
 pub mod Trees
 pub mod Nodes
 pub mod Named
+pub mod Running
 pub mod AtOnce
 pub mod Addresses

@@ -1,18 +1,29 @@
 //! Laws of trees, nodes and copies.
 
-ghost use Rattle.std.specs.Prelude.{◌≡◌, ◌⊎◌, ℕ, ◌+◌, ◌*◌, ◌/◌, ◌%◌, ◌<◌, ◌≤◌, Bool, List, Option, map, take, true, false, Some, slice_get};
+ghost use Rattle.std.specs.Prelude.{◌≡◌, ◌⊎◌, ◌∷◌, ◌++◌, [], ℕ, ◌+◌, ◌*◌, ◌/◌, ◌%◌, ◌<◌, ◌≤◌, Bool, List, Option, map, nat_lt, take, true, false, Some, slice_get};
 ghost use Rattle.run_laws.specs.Turns.{State};
 ghost use Rattle.ob_types.specs.Table.{Table};
-ghost use Rattle.ob_types.specs.Layout.{record_of, types_of, field_place, extends};
+ghost use Rattle.ob_types.specs.Layout.{record_of, types_of, field_place, record_cells, extends};
 ghost use Rattle.ob_types.specs.Layout.{cells as cells_of};
-ghost use Rattle.ob_types.specs.Forms.{forms, types_fine};
-ghost use Rattle.ob_types.specs.Store.{Address, Store, can_write};
+ghost use Rattle.ob_types.specs.Forms.{all, forms, types_fine};
+ghost use Rattle.ob_types.specs.Store.{Address, Handed, Here, Store, can_write};
 ghost use Rattle.ob_types.specs.Statements.{copy_cells};
+ghost use Rattle.ob_types.specs.Meaning.{arguments, at_most, designated, effect, element_kind, kind_in, length_of_kind, record_of_kind, start};
+ghost use Rattle.ob_types.specs.WellFormed.{Named, all_suit, well_formed};
+ghost use Rattle.ob_types.specs.WellFormed.{fine as statement_fine, named as named_by};
+ghost use Rattle.ob_types.specs.declared.program.Module.{Module};
+ghost use Rattle.ob_types.specs.declared.program.Program.{Program};
+ghost use Rattle.ob_types.specs.declared.statements.Stmt.{CopyArray, CopyRecord};
+ghost use Rattle.ob_types.specs.declared.tree.Call.{Row_of-Argument};
+ghost use Rattle.ob_types.specs.declared.tree.Designator.{Designator};
+ghost use Rattle.ob_types.specs.declared.types.Formal.{Formal};
 ghost use Rattle.ssa_lowered.specs.Data.{extent, record_extent, packed, packed_offset, room_of_all};
 ghost use Rattle.object_nodes.specs.Trees.{DataTree, Array, Record, tree_cells, tree_bytes, tree_forms, wide, round_up, data_tree, record_row};
 ghost use Rattle.object_nodes.specs.Nodes.{Node, Meet, LieApart, VariableNode, variable_start};
+ghost use Rattle.object_nodes.specs.Named.{AllNodes, NamesNode};
+ghost use Rattle.object_nodes.specs.Running.{GivesOnly, IsCall};
 ghost use Rattle.object_nodes.specs.Addresses.{Sides, StandFrom, AreRooted};
-ghost use Rattle.object_nodes.specs.AtOnce.{CellsThere, IsAhead, copy_at_once};
+ghost use Rattle.object_nodes.specs.AtOnce.{CellsThere, IsAhead, copy_array_at_once, copy_at_once, copy_record_at_once};
 
 /// Two nodes of one tree are nested or lie apart, on the same side in cells and in bytes. Two with one tree are one or lie apart, and so are
 /// two arrays whose elements have one tree, whatever their lengths. A node's byte goes by its cell, where it has cells.
@@ -81,9 +92,36 @@ pub fn nodes_stand_apart()
         → ((c ≡ d) × (x ≡ y)) ⊎ Sides x (n * tree_bytes packed e) y (m * tree_bytes packed e) }
 {}
 
-/// Cells that are there, copied so that none is written before it is read, are copied at once: all turns are spent, and then the
-/// destination's cells have what the source's had.
+/// In a call of a well-formed program what a designator names is a node of its object's tree, where it names anything, and so is what a call's
+/// arguments hand over; it is one for the call that takes it too. Each module's body begins as such a call.
+pub fn designators_name_nodes()
+    ensures named { (p : Program) (packed : Bool) → well_formed p ≡ true → (fine : types_fine p.types ≡ true) (vs : List (List ℕ)) (here : Here)
+        (fuel : ℕ) (s : State Store) → IsCall p packed fine vs here s.store → (d : Designator) (n : Named) → named_by p here.procedure d ≡ Some n
+        → GivesOnly (λ tags h. NamesNode p packed vs tags n h) (designated p (at_most p fuel) here d s) }
+    ensures handed { (p : Program) (packed : Bool) → well_formed p ≡ true → (fine : types_fine p.types ≡ true) (vs : List (List ℕ)) (here : Here)
+        (fuel : ℕ) (s : State Store) → IsCall p packed fine vs here s.store → (m : _) (row : Row_of-Argument m) (xs : List Formal)
+        → all_suit p here.procedure row xs ≡ true
+        → GivesOnly (λ tags hs. AllNodes p packed vs tags xs hs) (arguments p (at_most p fuel) here row s) }
+    ensures taken { (p : Program) (packed : Bool) (vs : List (List ℕ)) (own tags : List ℕ) (xs : List Formal) (hs : List Handed)
+        → AllNodes p packed vs tags xs hs → AllNodes p packed (vs ++ own ∷ []) tags xs hs }
+    ensures bodies { (p : Program) (packed : Bool) → well_formed p ≡ true → (fine : types_fine p.types ≡ true) (input : List ℕ)
+        → all (λ x. nat_lt x 256) input ≡ true → (i : ℕ) (m : Module) → slice_get p.modules i ≡ Some m
+        → IsCall p packed fine [] (record { procedure = m.body; frame = 0; arguments = [] }) (start p input) }
+{}
+
+/// Cells that are there, copied so that none is written before it is read, are copied at once: a turn for each is spent, and then the
+/// destination's have what the source's had. So it is with each copy of an array or a record in a call of a well-formed program.
 pub fn copies_are_at_once()
-    ensures { (n : ℕ) (to from : Address) (s : State Store) → CellsThere n to s.store → CellsThere n from s.store → can_write to.area ≡ true
+    ensures cells { (n : ℕ) (to from : Address) (s : State Store) → CellsThere n to s.store → CellsThere n from s.store → can_write to.area ≡ true
         → IsAhead n to from → copy_cells n to from s ≡ copy_at_once n to from s }
+    ensures arrays { (p : Program) (packed : Bool) → well_formed p ≡ true → (fine : types_fine p.types ≡ true) (vs : List (List ℕ)) (here : Here)
+        (fuel rounds : ℕ) (s : State Store) → IsCall p packed fine vs here s.store → (d e : Designator)
+        → statement_fine p here.procedure (CopyArray d e) ≡ true → effect p (at_most p fuel) here rounds (CopyArray d e) s
+        ≡ copy_array_at_once here.procedure (designated p (at_most p fuel) here d) (length_of_kind (kind_in d))
+        (designated p (at_most p fuel) here e) (length_of_kind (kind_in e)) (cells_of p.types (element_kind (kind_in d))) s }
+    ensures records { (p : Program) (packed : Bool) → well_formed p ≡ true → (fine : types_fine p.types ≡ true) (vs : List (List ℕ)) (here : Here)
+        (fuel rounds : ℕ) (s : State Store) → IsCall p packed fine vs here s.store → (d e : Designator)
+        → statement_fine p here.procedure (CopyRecord d e) ≡ true → effect p (at_most p fuel) here rounds (CopyRecord d e) s
+        ≡ copy_record_at_once (designated p (at_most p fuel) here d) (designated p (at_most p fuel) here e)
+        (record_cells p.types (record_of_kind (kind_in d))) s }
 {}

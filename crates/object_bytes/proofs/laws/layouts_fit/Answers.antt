@@ -1,7 +1,6 @@
 use Rattle.object_bytes.specs.Layouts.{form}
-use Rattle.object_bytes.proofs.Rising.{rising, bytes_below}
+use Rattle.object_bytes.proofs.Rising.{rising}
 use Rattle.object_bytes.proofs.Parts.{fine_form, element, last_field, other_field, base_part}
-use Rattle.object_bytes.proofs.Words.{eight_each}
 use Rattle.object_bytes.proofs.laws.layouts_fit.Goals as goal
 
 pub returns : goal.returns
@@ -11,6 +10,4 @@ returns c = record {
   field = λ packed r t. last_field packed r t;
   behind = λ packed r t c o f part. other_field packed r t c o f part;
   base = λ packed r. base_part packed r;
-  below = λ packed t. bytes_below packed t;
-  eight = λ t. eight_each t;
 }
