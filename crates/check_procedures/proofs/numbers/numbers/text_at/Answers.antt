@@ -16,15 +16,15 @@ pub returns-then-saturating_sub-scope-clause-there : goal.returns-then-saturatin
 returns-then-saturating_sub-scope-clause-there c =
     let s = c.args.scope.now in
     slice_get-get_or (texts_of s) c.args.number []
-        (there (map (between_quotes s.source.now.bytes) s.source.now.symbols) s.strings.now c.count-before.result c.args.number
-            (length-map s.source.now.symbols (between_quotes s.source.now.bytes) ∙ sym c.count-before.ensures)
-            (omega (arith, c.saturating_sub.ensures, c.if-saturating_sub-scope.true)))
+    (there (map (between_quotes s.source.now.bytes) s.source.now.symbols) s.strings.now c.count-before.result c.args.number
+    (length-map s.source.now.symbols (between_quotes s.source.now.bytes) ∙ sym c.count-before.ensures)
+    (omega (arith, c.saturating_sub.ensures, c.if-saturating_sub-scope.true)))
     ∙ ap Some (sym c.text.ensures)
 
 pub returns-else-saturating_sub-scope-clause-missing : goal.returns-else-saturating_sub-scope-clause-missing
 returns-else-saturating_sub-scope-clause-missing c =
     let s = c.args.scope.now in
     slice_get_past (texts_of s) c.args.number
-        (beyond (map (between_quotes s.source.now.bytes) s.source.now.symbols) s.strings.now c.count-before.result c.args.number
-            (length-map s.source.now.symbols (between_quotes s.source.now.bytes) ∙ sym c.count-before.ensures)
-            (omega (arith, c.saturating_sub.ensures, c.if-saturating_sub-scope.false)))
+    (beyond (map (between_quotes s.source.now.bytes) s.source.now.symbols) s.strings.now c.count-before.result c.args.number
+    (length-map s.source.now.symbols (between_quotes s.source.now.bytes) ∙ sym c.count-before.ensures)
+    (omega (arith, c.saturating_sub.ensures, c.if-saturating_sub-scope.false)))
