@@ -1,0 +1,4 @@
+//! Results of allocators in the form.
+
+mod reading;
+mod writing;
