@@ -1,12 +1,12 @@
 -- What is read, and read again.
-use Rattle.std.proofs.Common.{◌≡◌, ℕ, ◌<◌, ◌≤◌, List, length, Result, Ok, Err, refl, sym, ap, subst, ◌∙◌, arith, All, Vec, length-append}
+use Rattle.std.proofs.Common.{◌≡◌, ℕ, ◌≤◌, List, length, Result, Ok, Err, arith, All, Vec, length-append}
 use Rattle.std.specs.Prelude.{IfOk}
 use Rattle.std.specs.Global.{Global}
 use Rattle.lir_core.specs.declared.places.TraceOut.{TraceOut}
-use Rattle.plain_form.specs.Spelling.{list, IsNumber, Any, KeepsList}
+use Rattle.plain_form.specs.Spelling.{list, Any, KeepsList}
 use Rattle.plain_form.specs.results.Spelling.{result}
 use Rattle.plain_form.specs.results.Bounds.{TypedResult, IsNotable, FitsResult}
-use Rattle.plain_form.specs.Reading.{Broken, Gives, list_at}
+use Rattle.plain_form.specs.Reading.{list_at}
 use Rattle.plain_form.specs.results.Reading.{result_at}
 use Rattle.plain_form.specs.Formats.{IsBytes, IsFormat}
 use Rattle.plain_form.proofs.Formats.{list_format}
@@ -14,7 +14,6 @@ use Rattle.plain_form.proofs.Whole.{whole_takes, whole_again}
 use Rattle.plain_form.proofs.ResultFormats.{result_format}
 use Rattle.plain_form.proofs.ResultBounds.{results_fit}
 use Rattle.trace_notes.specs.declared.fault.NoteFault.{NoteFault}
-use Rattle.trace_notes.specs.declared.fault.NoteFault.TheVariants.{Fault, Limit, Memory}
 use Rattle.trace_notes.specs.Notes.{mark, most_bytes, notes, AreNotes, notes_in, Tells}
 
 results_format : (total : ℕ) → IsFormat (list result) (list_at (result_at total) total) AreNotes

@@ -1,5 +1,5 @@
 -- The bytes of notes, and what bytes are read as.
-use Rattle.std.specs.Prelude.{◌≡◌, ℕ, ◌<◌, List, ◌++◌, length, codes, Vec, Result, Ok, Err}
+use Rattle.std.specs.Prelude.{◌≡◌, ℕ, ◌<◌, List, ◌++◌, codes, Vec, Result, Ok, Err}
 use Rattle.std.specs.Global.{Global}
 use Rattle.lir_core.specs.declared.places.TraceOut.{TraceOut}
 use Rattle.plain_form.specs.declared.fault.FormRule.{FormRule}

@@ -1,4 +1,4 @@
-use Rattle.std.proofs.Common.{◌≡◌, ◌≤◌, length, rules, ap, arith}
+use Rattle.std.proofs.Common.{◌≡◌, length, rules, ap, arith}
 use Rattle.trace_notes.specs.Notes.{notes}
 use Rattle.trace_notes.proofs.Notes.{short_fits}
 use Rattle.trace_notes.proofs.writing.write_notes.Goals as goal
