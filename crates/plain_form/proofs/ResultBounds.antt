@@ -1,5 +1,6 @@
 -- From what types say, the conditions on registers and values, and a length, to what is read again.
 use Rattle.std.proofs.Common.{◌≡◌, ℕ, ◌+◌, ◌^◌, ◌<◌, ◌≤◌, List, [], ◌∷◌, ◌++◌, length, Option, Some, None, All, refl, arith, ap, ◌∙◌, length-append}
+use Rattle.std.specs.Prelude.{slice_index_or}
 use Rattle.std.specs.List.{flat_map, AllByRecursion}
 use Rattle.std.proofs.lemmas.List.Concat.{flat_map-cons}
 use Rattle.std.proofs.lemmas.List.Elements.{All-from_recursion, recursion_from_All}
@@ -124,3 +125,40 @@ result_fits o a b lt =
 -- results of which all registers and values are notable, and whose bytes are few enough, are read again
 pub results_fit : (os : List TraceOut) → KeepsList Any TypedResult os → All IsNotable os → length (list result os) < 2 ^ 32 → KeepsList IsNumber FitsResult os
 results_fit os a b lt = list_fits result TypedResult IsNotable FitsResult result_some result_fits os a (tt, b) lt
+
+---- What is read again can be written
+
+list_less : {X : Type 0} (A C : X → Type 0) → ((x : X) → A x → C x) → (xs : List X) → KeepsList IsNumber A xs → KeepsList Any C xs
+list_less A C less xs a = (tt, λ k d lt. less (slice_index_or xs k d) (a.1 k d lt))
+
+held_less : (o : Option ℕ) → FitsHeld o → KeepsHeld Any Any IsRegister IsHeld o
+held_less None h = tt
+held_less (Some v) h = h
+
+places_less : (q : Places) → FitsPlaces q → KeepsPlaces Any Any IsRegister IsHeld q
+places_less q h = (list_less FitsHeld (KeepsHeld Any Any IsRegister IsHeld) held_less q.regs h.0, list_less IsNumber Any (λ n k. tt) q.homed h.1)
+
+place_less : (p : Place) → FitsPlace p → KeepsPlace Any Any IsRegister IsHeld p
+place_less (Reg r) h = h
+place_less (Home v) h = tt
+place_less (Out s) h = tt
+
+move_less : (m : Move) → FitsMove m → KeepsMove Any Any IsRegister IsHeld m
+move_less m h = (place_less m.to h.0, place_less m.from h.1)
+
+line_less : (l : Line) → FitsLine l → KeepsLine Any Any IsRegister IsHeld l
+line_less (Lir i) h = tt
+line_less (Store r v) h = (h.0, tt)
+line_less (Load r v) h = (h.0, tt)
+line_less (Moves ms) h = list_less FitsMove (KeepsMove Any Any IsRegister IsHeld) move_less ms h
+line_less (Result r) h = h
+line_less (Target p) h = place_less p h
+
+pub fits_notable : (o : TraceOut) → FitsResult o → IsNotable o
+fits_notable o h = record {
+  trace = tt;
+  starts = list_less FitsPlaces (KeepsPlaces Any Any IsRegister IsHeld) places_less o.starts h.starts;
+  ends = list_less FitsPlaces (KeepsPlaces Any Any IsRegister IsHeld) places_less o.ends h.ends;
+  lines = list_less (KeepsList IsNumber FitsLine) (KeepsList Any (KeepsLine Any Any IsRegister IsHeld)) (list_less FitsLine (KeepsLine Any Any IsRegister IsHeld) line_less) o.lines h.lines;
+  regs = list_less (KeepsList IsNumber IsRegister) (KeepsList Any IsRegister) (list_less IsRegister IsRegister (λ r k. k)) o.regs h.regs;
+}

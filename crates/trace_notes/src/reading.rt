@@ -1,7 +1,8 @@
 //! From bytes to results.
 
-ghost use Rattle.std.specs.Prelude.{◌≡◌, ◌≤◌, List, length, IfOk, Ok};
+ghost use Rattle.std.specs.Prelude.{◌≡◌, ◌≤◌, List, length, All, IfOk, Ok};
 ghost use Rattle.lir_core.specs.declared.places.TraceOut.{TraceOut};
+ghost use Rattle.plain_form.specs.results.Bounds.{IsNotable};
 ghost use Rattle.trace_notes.specs.Notes.{AreNotes, notes, notes_in, most_bytes, Tells};
 
 use crate::fault::NoteFault;
@@ -24,8 +25,9 @@ fn results_in(alloc: Global, bytes: &[u8]) -> Result<Vec<TraceOut>, NoteFault>
 /// The results whose notes these bytes are. It takes time in proportion to their number.
 pub fn read_notes(alloc: Global, bytes: &[u8]) -> Result<Vec<TraceOut>, NoteFault>
     requires { length bytes.now ≤ most_bytes }
-    // What is read is written back as the same bytes.
+    // What is read is written back as the same bytes, and `write_notes` can be asked to.
     ensures found { IfOk result (λ outs. AreNotes outs.items × (bytes.now ≡ notes outs.items)) }
+    ensures notable { IfOk result (λ outs. All IsNotable outs.items) }
     // What has these bytes is read, unless memory runs out.
     ensures only { (outs : List TraceOut) → AreNotes outs → bytes.now ≡ notes outs → Tells result (Ok outs) }
     // A fault is the first one.

@@ -1,0 +1,11 @@
+pub mod Accepts
+pub mod Holds
+pub mod Lines
+pub mod Looping
+pub mod Passes
+pub mod Placing
+pub mod Rows
+pub mod Sounds
+pub mod Standing
+pub mod Stepping
+pub mod Verdicts

@@ -1,0 +1,3 @@
+pub mod Tables
+pub mod Lays
+pub mod First
