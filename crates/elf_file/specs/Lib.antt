@@ -1,0 +1,4 @@
+pub mod Native
+pub mod Placed
+pub mod Runtime
+pub mod Spelling
