@@ -1,8 +1,9 @@
 -- What is known behind one module more, and behind all.
-use Rattle.std.proofs.Common.{◌≡◌, ℕ, zero, suc, List, [], ◌∷◌, ◌++◌, length, take, Some, Ok, Err, refl, sym, ap, ap₂, subst, ◌∙◌, arith}
+use Rattle.std.proofs.Common.{◌≡◌, ◌≤◌, ℕ, zero, suc, List, [], ◌∷◌, ◌++◌, length, take, Some, Ok, Err, refl, sym, ap, ap₂, subst, ◌∙◌, arith}
 use Rattle.std.specs.Prelude.{slice_get}
 use Rattle.std.proofs.lemmas.List.{length-map, take_all}
 use Rattle.ob_types.proofs.Tests.{none_some, some_same}
+use Rattle.ob_types.specs.Meaning.{texts_of}
 use Rattle.ob_types.specs.declared.program.Program.{Program}
 use Rattle.ob_judge.specs.Judged.{Judged, Keeps, Breaks, ◌>>=◌}
 use Rattle.ob_judge.specs.Image as I
@@ -161,12 +162,15 @@ module _ (texts : List (List ℕ)) (s : Modules) (h : IsBehind texts (length tex
     same = is texts h.so_far h.stands (ends texts (length texts) s h).points;
   }
 
-  pub program_behind : ((texts : List (List ℕ)) (c : SoFar) → StandsForModules texts s c → AllUseInTurn p.procedures) → IsProgramOfTexts texts p
-  program_behind in_turn = record {
+  pub program_behind : ((texts : List (List ℕ)) (c : SoFar) → StandsForModules texts s c → AllUseInTurn p.procedures) → length (texts_of p.procedures) ≤ 4294967295 → IsProgramOfTexts texts p
+  unfolding program_is
+  program_behind in_turn few = record {
     modules = h.before;
     are_parsed = subst (λ ts. AreParsed ts h.before) (take_all (length texts) texts (omega arith)) h.are_parsed;
     program = program_is;
+    own_texts = refl;
     in_turn = in_turn texts h.so_far h.stands;
+    few_strings = few;
   }
 
 -- none

@@ -1,8 +1,9 @@
 -- What the texts of some modules come to: the program of the modules that they are read as, or the first rule that is broken.
-use Rattle.std.specs.Prelude.{◌≡◌, ◌<◌, ℕ, List, [], ◌∷◌, length, take, Some, slice_get}
+use Rattle.std.specs.Prelude.{◌≡◌, ◌<◌, ◌≤◌, ℕ, List, [], ◌∷◌, length, take, Some, slice_get}
 use Rattle.ob_symbol.specs.declared.symbol.Symbol.{Symbol}
 use Rattle.ob_syntax.specs.declared.modules.Module.{Module}
 use Rattle.ob_syntax.specs.Plain.{plain_module}
+use Rattle.ob_types.specs.Meaning.{texts_of}
 use Rattle.ob_types.specs.declared.program.Program.{Program}
 use Rattle.ob_judge.specs.Judged.{Judged, Keeps, Breaks, ◌>>=◌}
 use Rattle.ob_judge.specs.Modules.{SoFar, Parsed, no_modules, with_module}
@@ -39,12 +40,15 @@ accepted_after c (m ∷ ms) = with_module m.source m.tree c >>= λ d. accepted_a
 abbrev pub accepted : List Parsed → Judged SoFar
 accepted = accepted_after no_modules
 
--- the texts are read as modules, of which the judgement gives this program, whose procedures use their strings in turn
+-- the texts are read as modules, of which the judgement gives this program, whose constants stand in these texts; its procedures use
+-- their strings in turn, and all of these have numbers of 32 bits
 pub record IsProgramOfTexts (texts : List (List ℕ)) (p : Program) : Type 0 where
   pub modules : List Parsed
   pub are_parsed : AreParsed texts modules
   pub program : IsProgramOf modules p
+  pub own_texts : program.sources ≡ texts
   pub in_turn : AllUseInTurn p.procedures
+  pub few_strings : length (texts_of p.procedures) ≤ 4294967295
 
 -- a text breaks this rule at this byte, behind these modules: one of symbols or of the grammar, or one of the language
 pub data BreaksBehind (c : SoFar) (bytes : List ℕ) (number at : ℕ) : Type 0 where

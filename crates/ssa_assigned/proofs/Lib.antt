@@ -1,3 +1,4 @@
 pub mod Noting
 pub mod Rows
 pub mod Kept
+pub mod Suffixes

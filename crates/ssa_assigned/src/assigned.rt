@@ -5,10 +5,10 @@ ghost use Rattle.ssa_lowered.specs.Variables.{itself, origin, assigned};
 ghost use Rattle.ssa_assigned.specs.Assigned.{has, unselected_by, assigned_list, assigned_parts, assigned_cases, assigned_types};
 
 use ob_types::{Access, Base, Branch, CasePart, Designator, ForLoop, Selector, Stmt, TypePart};
-use ssa_exprs::LowerFault;
+use outside::Memory;
 
 /// The variable that a designator is as a whole.
-pub fn note_whole(d: &Designator, found: &mut Vec<u32>) -> Result<(), LowerFault>
+pub fn note_whole(d: &Designator, found: &mut Vec<u32>) -> Result<(), Memory>
     ensures { OnOk result ((x : ℕ) → has found.new.items x ≡ (has found.old.items x || itself d.now x)) }
 {
     match d {
@@ -26,7 +26,7 @@ pub fn note_unselected(
     base: Base,
     selectors: &[Selector],
     found: &mut Vec<u32>,
-) -> Result<(), LowerFault>
+) -> Result<(), Memory>
     ensures { OnOk result ((x : ℕ) → has found.new.items x ≡ (has found.old.items x || unselected_by (origin base) selectors.now x)) }
 {
     if selectors.is_empty() {
@@ -37,7 +37,7 @@ pub fn note_unselected(
 }
 
 /// A local variable at which a designator begins.
-pub fn note_base(base: Base, found: &mut Vec<u32>) -> Result<(), LowerFault>
+pub fn note_base(base: Base, found: &mut Vec<u32>) -> Result<(), Memory>
     ensures { OnOk result ((x : ℕ) → has found.new.items x ≡ (has found.old.items x || origin base x)) }
 {
     match base {
@@ -54,7 +54,7 @@ pub fn note_base(base: Base, found: &mut Vec<u32>) -> Result<(), LowerFault>
 
 /// The variables that statements assign.
 #[cycle(noting)]
-pub fn note_all(list: &[Stmt], found: &mut Vec<u32>) -> Result<(), LowerFault>
+pub fn note_all(list: &[Stmt], found: &mut Vec<u32>) -> Result<(), Memory>
     ensures { OnOk result ((x : ℕ) → has found.new.items x ≡ (has found.old.items x || assigned_list list.now x)) }
 {
     for s in list {
@@ -65,7 +65,7 @@ pub fn note_all(list: &[Stmt], found: &mut Vec<u32>) -> Result<(), LowerFault>
 
 /// Those that the parts of IF or WHILE assign.
 #[cycle(noting)]
-pub fn note_parts(parts: &[Branch], found: &mut Vec<u32>) -> Result<(), LowerFault>
+pub fn note_parts(parts: &[Branch], found: &mut Vec<u32>) -> Result<(), Memory>
     ensures { OnOk result ((x : ℕ) → has found.new.items x ≡ (has found.old.items x || assigned_parts parts.now x)) }
 {
     for part in parts {
@@ -76,7 +76,7 @@ pub fn note_parts(parts: &[Branch], found: &mut Vec<u32>) -> Result<(), LowerFau
 
 /// Those that the parts of CASE assign.
 #[cycle(noting)]
-pub fn note_cases(parts: &[CasePart], found: &mut Vec<u32>) -> Result<(), LowerFault>
+pub fn note_cases(parts: &[CasePart], found: &mut Vec<u32>) -> Result<(), Memory>
     ensures { OnOk result ((x : ℕ) → has found.new.items x ≡ (has found.old.items x || assigned_cases parts.now x)) }
 {
     for part in parts {
@@ -87,7 +87,7 @@ pub fn note_cases(parts: &[CasePart], found: &mut Vec<u32>) -> Result<(), LowerF
 
 /// Those that the parts of CASE on types assign.
 #[cycle(noting)]
-pub fn note_types(parts: &[TypePart], found: &mut Vec<u32>) -> Result<(), LowerFault>
+pub fn note_types(parts: &[TypePart], found: &mut Vec<u32>) -> Result<(), Memory>
     ensures { OnOk result ((x : ℕ) → has found.new.items x ≡ (has found.old.items x || assigned_types parts.now x)) }
 {
     for part in parts {
@@ -98,7 +98,7 @@ pub fn note_types(parts: &[TypePart], found: &mut Vec<u32>) -> Result<(), LowerF
 
 /// Those that a statement assigns.
 #[cycle(noting)]
-pub fn note(s: &Stmt, found: &mut Vec<u32>) -> Result<(), LowerFault>
+pub fn note(s: &Stmt, found: &mut Vec<u32>) -> Result<(), Memory>
     ensures { OnOk result ((x : ℕ) → has found.new.items x ≡ (has found.old.items x || assigned s.now x)) }
 {
     match s {

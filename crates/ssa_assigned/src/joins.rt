@@ -10,7 +10,8 @@ ghost use Rattle.ssa_exprs.specs.Tables.{Serves};
 ghost use Rattle.ssa_assigned.specs.Assigned.{has};
 ghost use Rattle.ssa_assigned.specs.Registers.{kept, registers_in};
 
-use ssa_exprs::{LowerFault, Tables};
+use outside::Memory;
+use ssa_exprs::Tables;
 use std::alloc::Global;
 
 /// Of the first so many variables those that are in registers and in a list, in order of declaration, each once.
@@ -19,7 +20,7 @@ pub fn registers(
     t: &Tables,
     count: usize,
     found: Vec<u32>,
-) -> Result<Vec<u32>, LowerFault>
+) -> Result<Vec<u32>, Memory>
     ensures { IfOk result (λ list. (p : Program) (here : Here) → Serves t.now p here → (mask : Mask) → ((x : ℕ) → has found.items x ≡ mask x) →
         (env : List ℕ) → length env ≡ count → list.items ≡ chosen (registers_in p here mask) 0 env) }
 {
@@ -31,12 +32,7 @@ pub fn registers(
 }
 
 /// Of the first so many variables those that are in registers.
-fn those_kept(
-    alloc: Global,
-    t: &Tables,
-    count: usize,
-    found: &[u32],
-) -> Result<Vec<u32>, LowerFault>
+fn those_kept(alloc: Global, t: &Tables, count: usize, found: &[u32]) -> Result<Vec<u32>, Memory>
     ensures { IfOk result (λ list. list.items ≡ filter (kept t.now count) found.now) }
 {
     let mut list = Vec::new(alloc);

@@ -11,8 +11,8 @@ use Rattle.ssa_core.specs.declared.procedure.Proc.{Proc}
 use Rattle.ssa_lowered.specs.Data.{Layout, in_cells}
 use Rattle.ssa_lowered.specs.Limits.{Limit, passed, or_else, at_procedure, passes, global_cells, constant_cells, limit_in, limits_from, limit_of}
 use Rattle.ssa_lowered.specs.Lowered.{made_of, proc_of, procs_from}
-use Rattle.ssa_exprs.specs.declared.fault.LowerFault.{LowerFault}
-use Rattle.ssa_exprs.specs.declared.fault.LowerFault.TheVariants as TheFault
+use Rattle.ssa_tables.specs.declared.fault.LowerFault.{LowerFault}
+use Rattle.ssa_tables.specs.declared.fault.LowerFault.TheVariants as TheFault
 use Rattle.ssa_tables.specs.Faults.{Tells, first_limit, last_limit}
 use Rattle.ssa_tables.specs.Local.{local_limit}
 

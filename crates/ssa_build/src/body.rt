@@ -12,7 +12,8 @@ ghost use Rattle.ssa_build.specs.Makes.{Makes};
 
 use crate::entry::{further, open, store_all, zero};
 use ob_types::{Checked, Procedure, Types};
-use ssa_exprs::{LowerFault, Making, Tables, value};
+use outside::Memory;
+use ssa_exprs::{Making, Tables, value};
 use ssa_statements::statements;
 use ssa_tables::{Locals, is_structured};
 
@@ -29,7 +30,7 @@ fn has_structured(types: &Types, list: &[u32]) -> bool
 }
 
 /// The expression behind RETURN.
-fn answer(t: &Tables, b: &mut Making, answer: &Option<Checked>) -> Result<Option<u32>, LowerFault>
+fn answer(t: &Tables, b: &mut Making, answer: &Option<Checked>) -> Result<Option<u32>, Memory>
     ensures { IfOk result (λ r. (p : Program) (here : Here) → Serves t.now p here → Gives b.old b.new (answer_there p (in_cells p.types) here answer.now) r) }
 {
     match answer {
@@ -49,7 +50,7 @@ pub fn lower_body(
     procedure: &Procedure,
     locals: &Locals,
     words: u32,
-) -> Result<Option<u32>, LowerFault>
+) -> Result<Option<u32>, Memory>
     ensures { IfOk result (λ r. InProgram t.now types.now procedure.now locals.now (λ p here. Makes b.old b.new (whole p (in_cells p.types) here words locals.now.structured) r)) }
 {
     let variables = locals.variables.as_slice();

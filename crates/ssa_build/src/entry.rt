@@ -10,7 +10,8 @@ ghost use Rattle.ssa_tables.specs.Local.{seen, site_of};
 
 use block_runs::Code;
 use ob_types::{Formal, Types};
-use ssa_exprs::{LowerFault, Making};
+use outside::Memory;
+use ssa_exprs::Making;
 use ssa_tables::{Variable, is_structured, words};
 
 /// The argument words of all parameters.
@@ -26,7 +27,7 @@ pub fn argument_words(formals: &[Formal]) -> u32
 }
 
 /// The argument words that are no parameters of the first block.
-pub fn further(b: &mut Making, words: u32) -> Result<(), LowerFault>
+pub fn further(b: &mut Making, words: u32) -> Result<(), Memory>
     ensures { OnOk result (Gives b.old b.new (further_there 4 (words - 4)) tt) }
 {
     for i in 4..words {
@@ -36,7 +37,7 @@ pub fn further(b: &mut Making, words: u32) -> Result<(), LowerFault>
 }
 
 /// Where there are arrays or records, so many bytes become zeros, behind so many from the end of the local data.
-pub fn zero(b: &mut Making, structured: bool, bytes: u32, zeroed: u32) -> Result<(), LowerFault>
+pub fn zero(b: &mut Making, structured: bool, bytes: u32, zeroed: u32) -> Result<(), Memory>
     ensures { OnOk result (Gives b.old b.new (zeroing structured bytes zeroed) tt) }
 {
     if structured {
@@ -48,7 +49,7 @@ pub fn zero(b: &mut Making, structured: bool, bytes: u32, zeroed: u32) -> Result
 }
 
 /// A variable's first value: its argument, or 0.
-fn first(b: &mut Making, word: Option<u32>) -> Result<u32, LowerFault>
+fn first(b: &mut Making, word: Option<u32>) -> Result<u32, Memory>
     ensures { IfOk result (λ u. Gives b.old b.new (first_value word) u) }
 {
     match word {
@@ -58,7 +59,7 @@ fn first(b: &mut Making, word: Option<u32>) -> Result<u32, LowerFault>
 }
 
 /// A scalar in memory gets its first value.
-fn store_first(b: &mut Making, types: &Types, bytes: u32, v: Variable) -> Result<(), LowerFault>
+fn store_first(b: &mut Making, types: &Types, bytes: u32, v: Variable) -> Result<(), Memory>
     ensures { OnOk result (Gives b.old b.new (store_first_there types.now (in_cells types.now) bytes (seen v) (site_of v.place)) tt) }
 {
     match v.place {
@@ -81,7 +82,7 @@ pub fn store_all(
     types: &Types,
     bytes: u32,
     variables: &[Variable],
-) -> Result<(), LowerFault>
+) -> Result<(), Memory>
     ensures { OnOk result (Gives b.old b.new (stored types.now (in_cells types.now) bytes (map seen variables.now)) tt) }
 {
     for v in variables {
@@ -91,7 +92,7 @@ pub fn store_all(
 }
 
 /// The first value of a variable in a register; one in memory has none.
-fn first_held(b: &mut Making, v: Variable) -> Result<u32, LowerFault>
+fn first_held(b: &mut Making, v: Variable) -> Result<u32, Memory>
     ensures { IfOk result (λ u. Gives b.old b.new (first_of v.word (site_of v.place)) u) }
 {
     match v.place {
@@ -101,7 +102,7 @@ fn first_held(b: &mut Making, v: Variable) -> Result<u32, LowerFault>
 }
 
 /// The first values of all variables.
-pub fn open(b: &mut Making, variables: &[Variable]) -> Result<Vec<u32>, LowerFault>
+pub fn open(b: &mut Making, variables: &[Variable]) -> Result<Vec<u32>, Memory>
     ensures { IfOk result (λ env. Gives b.old b.new (opened (map seen variables.now)) env.items) }
 {
     let mut env = Vec::new(b.allocator());

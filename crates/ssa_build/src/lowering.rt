@@ -12,8 +12,8 @@ use crate::procedure::lower_procedure;
 use items::Items;
 use ob_types::Program;
 use ssa_core::Proc;
-use ssa_exprs::{LowerFault, Tables};
-use ssa_tables::{check_constants, program_tables};
+use ssa_exprs::Tables;
+use ssa_tables::{LowerFault, check_constants, program_tables};
 use std::alloc::Global;
 
 /// The procedures of a program, and the tables by which they were made, which serve its constants too.

@@ -16,8 +16,8 @@ use block_runs::End;
 use ob_types::{Procedure, Program};
 use outside::Memory;
 use ssa_core::Proc;
-use ssa_exprs::{LowerFault, Making, Tables};
-use ssa_tables::{Locals, enter, pass};
+use ssa_exprs::{Making, Tables};
+use ssa_tables::{Locals, LowerFault, enter, pass};
 use std::alloc::Global;
 
 /// Procedure number f. The tables then stand before the next one.

@@ -4,7 +4,6 @@ use Rattle.block_runs.specs.declared.code.Code.TheVariants.{Const}
 use Rattle.ssa_lowered.specs.Pieces.{Made, Low, give, ◌>>=◌, emits, fetched, variable, Appends, Closes}
 use Rattle.ssa_lowered.specs.Pieces.{Piece as Placed}
 use Rattle.ssa_lowered.specs.Limits.{passed, too_many}
-use Rattle.ssa_exprs.specs.declared.fault.LowerFault.{LowerFault}
 use Rattle.ssa_exprs.specs.declared.making.Piece.{Piece}
 use Rattle.ssa_exprs.specs.Making.{View, bare, all_bare, resolve, resolved, Fits, later, cursor_at, Came, Follows, Once, Gives}
 
@@ -77,6 +76,16 @@ follows_over v n m r e = record {
   by = λ h place f op seen. absurd (cc);
 }
 
+-- and what was said to be made doesn't matter
+pub follows_any : {A B : Type 0} {v w : View} (n : ℕ) (m : (ℕ → ℕ) → Low A) (k : (ℕ → ℕ) → Low B) (r : (ℕ → ℕ) → A) (q : (ℕ → ℕ) → B) → v.over ≡ Some n → Follows v w m r → Follows v w k q
+follows_any {v = v} {w = w} n m k r q e x =
+    let over : (place : ℕ → ℕ) → Fits place w.bounds → (op : ℕ) (seen : List ℕ) → w.over ≡ Some n = λ place f op seen. x.limit place f op seen ∙ ap (λ o. later o (passed (m place (cursor_at v op seen)).pieces)) e in
+    record {
+      fits = x.fits;
+      limit = λ place f op seen. over place f op seen ∙ sym (ap (λ o. later o (passed (k place (cursor_at v op seen)).pieces)) e);
+      by = λ h place f op seen. absurd (let some = over place f op seen in cc);
+    }
+
 pub follows_bind : {A B : Type 0} {u v w : View} {m : (ℕ → ℕ) → Low A} {a : (ℕ → ℕ) → A} {b : (ℕ → ℕ) → B} (f : (ℕ → ℕ) → A → Low B) → Follows u v m a → Follows v w (λ place. f place (a place)) b → Follows u w (λ place. m place >>= f place) b
 follows_bind {A = A} {B = B} {u = u} {v = v} {w = w} {m = m} {a = a} {b = b} f x y =
     let same : v.over ≡ None → (place : ℕ → ℕ) → Fits place w.bounds → (op : ℕ) (seen : List ℕ) → f place (m place (cursor_at u op seen)).result (m place (cursor_at u op seen)).after ≡ f place (a place) (cursor_at v (m place (cursor_at u op seen)).after.op (m place (cursor_at u op seen)).after.seen) =
@@ -126,11 +135,11 @@ pub gives_at : {A : Type 0} {v w : View} {m n : Low A} {r : A} → ((op : ℕ) (
 gives_at e g = record { follows = follows_as (λ place op seen. e op seen) g.follows; once = g.once; freq = g.freq; known = g.known }
 
 -- where the last part answers for the whole
-pub gives_last : {A B : Type 0} {u v : View} {m : Low A} {a : A} (w : View) (r : Result B LowerFault) (f : A → Low B) → Gives u v m a → IfOk r (λ b. Gives v w (f a) b) → IfOk r (λ b. Gives u w (m >>= f) b)
+pub gives_last : {A B E : Type 0} {u v : View} {m : Low A} {a : A} (w : View) (r : Result B E) (f : A → Low B) → Gives u v m a → IfOk r (λ b. Gives v w (f a) b) → IfOk r (λ b. Gives u w (m >>= f) b)
 gives_last w (Ok b) f x y = gives_bind f x y
 gives_last w (Err e) f x y = tt
 
-pub gives_last_as : {A : Type 0} {m n : Low A} (v w : View) (r : Result A LowerFault) → n ≡ m → IfOk r (λ b. Gives v w m b) → IfOk r (λ b. Gives v w n b)
+pub gives_last_as : {A E : Type 0} {m n : Low A} (v w : View) (r : Result A E) → n ≡ m → IfOk r (λ b. Gives v w m b) → IfOk r (λ b. Gives v w n b)
 gives_last_as v w (Ok b) e g = gives_as e g
 gives_last_as v w (Err x) e g = tt
 
@@ -138,6 +147,6 @@ gives_last_as v w (Err x) e g = tt
 pub gives_variable : (v : View) (x u : ℕ) → slice_get v.known.env x ≡ Some u → Gives v v (variable x) u
 gives_variable v x u is = gives_at (λ op seen. ap (λ o. fetched o (cursor_at v op seen)) is) (gives_give v u)
 
-pub gives_no_variable : (v w : View) (x : ℕ) (r : Result ℕ LowerFault) → slice_get v.known.env x ≡ None → IfOk r (λ u. Gives v w (emits (Const 0) []) u) → IfOk r (λ u. Gives v w (variable x) u)
+pub gives_no_variable : {E : Type 0} (v w : View) (x : ℕ) (r : Result ℕ E) → slice_get v.known.env x ≡ None → IfOk r (λ u. Gives v w (emits (Const 0) []) u) → IfOk r (λ u. Gives v w (variable x) u)
 gives_no_variable v w x (Ok u) is g = gives_at (λ op seen. ap (λ o. fetched o (cursor_at v op seen)) is) g
 gives_no_variable v w x (Err e) is g = tt

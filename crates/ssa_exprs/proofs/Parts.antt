@@ -6,7 +6,6 @@ use Rattle.ob_types.specs.declared.tree.Relation.{Relation}
 use Rattle.block_runs.specs.declared.code.Code.TheVariants.{Bic, Set, Mul, MulAdd, Global, Local, IsPtr, IsTag, Below, NotNil, GuardTag, GuardPtr, Compare, Elem, Has, Bit, Span, Or, Byte, Call, CallAt, Load}
 use Rattle.ssa_lowered.specs.Pieces.{Low, give, ◌>>=◌, emits, does, variable}
 use Rattle.ssa_lowered.specs.Values.{const, condition, Named, At, Beside, Object, Held, address_in, address, second, length_in, bytes_in, data_at, local_at, element, field, dereferenced, narrowed, one_operand, two_operands, included, unary, binary, compared, texts_compared, guarded, member, contained, with_element, with_range, is_pointer, is_tag, tag_of, tag_in, as_byte, length_of, by_word, by_record, by_open, also, Request, call, call_at, with_result, home_in, home_of, load, Home, Register, Memory, current}
-use Rattle.ssa_exprs.specs.declared.fault.LowerFault.{LowerFault}
 use Rattle.ssa_exprs.specs.Making.{View, Gives}
 use Rattle.ssa_exprs.proofs.Giving.{gives_give, gives_bind, gives_as}
 use Rattle.ssa_exprs.specs.Named.{held_in}
@@ -19,7 +18,7 @@ some_one : {a b : ℕ} → Some a ≡ Some b → a ≡ b
 some_one {a} {b} e = ap held_or e
 
 -- where the last part's answer is the whole's
-pub last : {B : Type 0} (r : Result B LowerFault) {P Q : B → Type 0} → ((b : B) → P b → Q b) → IfOk r P → IfOk r Q
+pub last : {B E : Type 0} (r : Result B E) {P Q : B → Type 0} → ((b : B) → P b → Q b) → IfOk r P → IfOk r Q
 last (Ok b) f x = f b x
 last (Err e) f x = tt
 

@@ -6,7 +6,6 @@
 //! (`specs/Making.antt`), which layers above put together for statements.
 #![tactic(auto)]
 
-mod fault;
 mod lowering;
 mod making;
 mod named;
@@ -14,7 +13,6 @@ mod steps;
 mod tables;
 mod walk;
 
-pub use fault::LowerFault;
 pub use lowering::{Lowering, lower_cond, lower_value};
 pub use making::{Bound, Making, Piece, Undo};
 pub use named::{

@@ -7,8 +7,8 @@ ghost use Rattle.ssa_lowered.specs.Pieces.{emits, does, variable, numbers};
 ghost use Rattle.ssa_exprs.specs.Changes.{changed, undone, rewound, numbered_from, values_of, joined};
 ghost use Rattle.ssa_exprs.specs.Making.{View, Gives, asked, bound, closed};
 
-use crate::fault::LowerFault;
 use block_runs::{Code, End, Numbers};
+use outside::Memory;
 use ssa_core::Op;
 use std::alloc::Global;
 use std::marker::Model;
@@ -88,7 +88,7 @@ impl Model for Making {
 
 impl Making {
     /// An operation that makes a value, whose number is the result.
-    pub fn emit(&mut self, code: Code, uses: &[u32]) -> Result<u32, LowerFault>
+    pub fn emit(&mut self, code: Code, uses: &[u32]) -> Result<u32, Memory>
         ensures { IfOk result (λ v. Gives self.old self.new (emits code uses.now) v) }
     {
         let v = self.values;
@@ -110,7 +110,7 @@ impl Making {
     }
 
     /// An operation that makes none.
-    pub fn act(&mut self, code: Code, uses: &[u32]) -> Result<(), LowerFault>
+    pub fn act(&mut self, code: Code, uses: &[u32]) -> Result<(), Memory>
         ensures { OnOk result (Gives self.old self.new (does code uses.now) tt) }
     {
         if self.over.is_some() {
@@ -126,7 +126,7 @@ impl Making {
     }
 
     /// The value of a register variable; 0 where there is no such variable.
-    pub fn variable(&mut self, x: u32) -> Result<u32, LowerFault>
+    pub fn variable(&mut self, x: u32) -> Result<u32, Memory>
         ensures { IfOk result (λ v. Gives self.old self.new (variable x) v) }
     {
         if (x as usize) < self.env.len() {
@@ -137,7 +137,7 @@ impl Making {
     }
 
     /// A register variable gets a value; nothing is done where there is no such variable.
-    pub fn assign(&mut self, x: u32, v: u32) -> Result<(), LowerFault>
+    pub fn assign(&mut self, x: u32, v: u32) -> Result<(), Memory>
         ensures { OnOk result (self.new ≡ record self.old { known = changed self.old.known x v }) }
     {
         change(&mut self.env, &mut self.log, x, v)?;
@@ -166,7 +166,7 @@ impl Making {
     }
 
     /// The values of variables, for a jump; none where a limit is passed.
-    pub fn picked(&self, vars: &[u32]) -> Result<Numbers, LowerFault>
+    pub fn picked(&self, vars: &[u32]) -> Result<Numbers, Memory>
         ensures { IfOk result (λ list. self.now.over ≡ None → list ≡ values_of self.now.known.env vars.now) }
     {
         if self.over.is_some() {
@@ -182,7 +182,7 @@ impl Making {
         vars: &[u32],
         freq: u64,
         enter: Option<u32>,
-    ) -> Result<(), LowerFault>
+    ) -> Result<(), Memory>
         ensures { OnOk result (self.new ≡ joined self.old end vars.now freq enter) }
     {
         let first = self.values;
@@ -201,7 +201,7 @@ impl Making {
     }
 
     /// Takes room for the code of most procedures at once.
-    pub fn reserve(&mut self) -> Result<(), LowerFault>
+    pub fn reserve(&mut self) -> Result<(), Memory>
         ensures { OnOk result (self.new ≡ self.old) }
     {
         self.made.reserve(PIECES)?;
@@ -218,20 +218,20 @@ impl Making {
     }
 
     /// A label for a block that isn't begun yet.
-    pub fn label(&mut self) -> Result<u32, LowerFault>
+    pub fn label(&mut self) -> Result<u32, Memory>
         ensures given { OnOk result (self.new ≡ asked self.old) }
         ensures number { IfOk result (λ t. t ≡ self.old.labels) }
     {
         let label = self.labels;
         if label == u32::MAX {
-            return Err(LowerFault::Memory);
+            return Err(Memory);
         }
         self.labels = label + 1;
         Ok(label)
     }
 
     /// The label stands for the open block.
-    pub fn bind(&mut self, label: u32) -> Result<(), LowerFault>
+    pub fn bind(&mut self, label: u32) -> Result<(), Memory>
         ensures { OnOk result (self.new ≡ bound self.old label) }
     {
         let block = self.block;
@@ -246,7 +246,7 @@ impl Making {
         count: usize,
         freq: u64,
         enter: Option<u32>,
-    ) -> Result<(), LowerFault>
+    ) -> Result<(), Memory>
         ensures closed { OnOk result (self.new ≡ closed self.old end count freq enter) }
         ensures fits { OnOk result (self.new.over ≡ None → self.old.values + count < 4294967296) }
     {
@@ -296,7 +296,7 @@ impl Making {
     }
 
     /// One value.
-    pub fn one(&self, v: u32) -> Result<Numbers, LowerFault>
+    pub fn one(&self, v: u32) -> Result<Numbers, Memory>
         ensures { IfOk result (λ list. list ≡ v ∷ []) }
     {
         Ok(Numbers::from_slice(self.alloc, &[v])?)
@@ -370,7 +370,7 @@ fn has_room(values: u32, count: usize) -> bool
 }
 
 /// The next so many values.
-fn numbered(alloc: Global, values: u32, count: usize) -> Result<Numbers, LowerFault>
+fn numbered(alloc: Global, values: u32, count: usize) -> Result<Numbers, Memory>
     requires { values + count < 4294967296 }
     ensures { IfOk result (λ list. list ≡ numbers values count) }
 {
@@ -382,7 +382,7 @@ fn numbered(alloc: Global, values: u32, count: usize) -> Result<Numbers, LowerFa
 }
 
 /// A variable that is there gets a value.
-fn change(env: &mut Vec<u32>, log: &mut Vec<Undo>, x: u32, v: u32) -> Result<(), LowerFault>
+fn change(env: &mut Vec<u32>, log: &mut Vec<Undo>, x: u32, v: u32) -> Result<(), Memory>
     ensures { OnOk result (record { env = env.new.items; log = log.new.items } ≡ changed (record { env = env.old.items; log = log.old.items }) x v) }
 {
     let at = x as usize;
@@ -397,12 +397,7 @@ fn change(env: &mut Vec<u32>, log: &mut Vec<Undo>, x: u32, v: u32) -> Result<(),
 }
 
 /// Variables get the values from one on.
-fn renumber(
-    env: &mut Vec<u32>,
-    log: &mut Vec<Undo>,
-    vars: &[u32],
-    first: u32,
-) -> Result<(), LowerFault>
+fn renumber(env: &mut Vec<u32>, log: &mut Vec<Undo>, vars: &[u32], first: u32) -> Result<(), Memory>
     requires { first + length vars.now < 4294967296 }
     ensures { OnOk result (record { env = env.new.items; log = log.new.items } ≡ numbered_from (record { env = env.old.items; log = log.old.items }) vars.now first) }
 {
@@ -436,7 +431,7 @@ fn take_back(env: &mut Vec<u32>, last: Undo)
 }
 
 /// The values of variables.
-fn values(alloc: Global, env: &[u32], vars: &[u32]) -> Result<Numbers, LowerFault>
+fn values(alloc: Global, env: &[u32], vars: &[u32]) -> Result<Numbers, Memory>
     ensures { IfOk result (λ list. list ≡ values_of env.now vars.now) }
 {
     let mut list = Numbers::new(alloc);

@@ -8,10 +8,10 @@ ghost use Rattle.ssa_lowered.specs.Pieces.{Low, emits};
 ghost use Rattle.ssa_exprs.specs.Making.{View, Gives};
 ghost use Rattle.ssa_exprs.specs.Named.{named_of, held_in};
 
-use crate::fault::LowerFault;
 use crate::making::Making;
 use block_runs::Code;
 use ob_types::{Binary, Relation, Unary};
+use outside::Memory;
 
 /// What a designator names. Values go by their numbers.
 #[derive(Clone, Copy)]
@@ -27,7 +27,7 @@ pub enum Named {
 }
 
 /// The address so many bytes further.
-fn past(b: &mut Making, a: u32, n: u32) -> Result<u32, LowerFault>
+fn past(b: &mut Making, a: u32, n: u32) -> Result<u32, Memory>
     ensures { IfOk result (λ v. Gives b.old b.new (past a n) v) }
 {
     if n == 0 {
@@ -38,7 +38,7 @@ fn past(b: &mut Making, a: u32, n: u32) -> Result<u32, LowerFault>
 }
 
 // The address so many bytes into an object's record, which stands behind its tag.
-fn object_at(b: &mut Making, p: u32, n: u32) -> Result<u32, LowerFault>
+fn object_at(b: &mut Making, p: u32, n: u32) -> Result<u32, Memory>
     ensures { IfOk result (λ v. 8 + n < 4294967296 → Gives b.old b.new (emits (Plus (8 + n)) (p ∷ [])) v) }
 {
     if n < 4294967288 {
@@ -50,7 +50,7 @@ fn object_at(b: &mut Making, p: u32, n: u32) -> Result<u32, LowerFault>
 }
 
 /// The address so many bytes into what is named.
-pub fn address_in(b: &mut Making, h: Named, n: u32) -> Result<u32, LowerFault>
+pub fn address_in(b: &mut Making, h: Named, n: u32) -> Result<u32, Memory>
     ensures { IfOk result (λ v. 8 + n < 4294967296 → Gives b.old b.new (address_in (named_of h) n) v) }
 {
     match h {
@@ -62,7 +62,7 @@ pub fn address_in(b: &mut Making, h: Named, n: u32) -> Result<u32, LowerFault>
 }
 
 /// The length of an array or the tag of a record, where its type doesn't say.
-pub fn second(b: &mut Making, h: Named) -> Result<u32, LowerFault>
+pub fn second(b: &mut Making, h: Named) -> Result<u32, Memory>
     ensures { IfOk result (λ v. Gives b.old b.new (second (named_of h)) v) }
 {
     match h {
@@ -74,7 +74,7 @@ pub fn second(b: &mut Making, h: Named) -> Result<u32, LowerFault>
 }
 
 /// An array's length.
-pub fn length_in(b: &mut Making, n: Option<u64>, h: Named) -> Result<u32, LowerFault>
+pub fn length_in(b: &mut Making, n: Option<u64>, h: Named) -> Result<u32, Memory>
     ensures { IfOk result (λ v. Gives b.old b.new (length_in n (named_of h)) v) }
 {
     match n {
@@ -84,7 +84,7 @@ pub fn length_in(b: &mut Making, n: Option<u64>, h: Named) -> Result<u32, LowerF
 }
 
 /// The bytes of an array's elements.
-pub fn bytes_in(b: &mut Making, size: u64, n: Option<u64>, h: Named) -> Result<u32, LowerFault>
+pub fn bytes_in(b: &mut Making, size: u64, n: Option<u64>, h: Named) -> Result<u32, Memory>
     requires small { size < 4294967296 }
     requires few { IfSome n (λ n. n ≤ 4294967296) }
     ensures { IfOk result (λ v. Gives b.old b.new (bytes_in size n (named_of h)) v) }
@@ -96,7 +96,7 @@ pub fn bytes_in(b: &mut Making, size: u64, n: Option<u64>, h: Named) -> Result<u
 }
 
 // Of an open array.
-fn open_bytes(b: &mut Making, size: u64, h: Named) -> Result<u32, LowerFault>
+fn open_bytes(b: &mut Making, size: u64, h: Named) -> Result<u32, Memory>
     ensures { IfOk result (λ v. Gives b.old b.new (bytes_in size None (named_of h)) v) }
 {
     let length = second(b, h)?;
@@ -105,7 +105,7 @@ fn open_bytes(b: &mut Making, size: u64, h: Named) -> Result<u32, LowerFault>
 }
 
 /// The tag that goes with a record.
-pub fn tag_in(b: &mut Making, descriptor: u32, h: Named) -> Result<u32, LowerFault>
+pub fn tag_in(b: &mut Making, descriptor: u32, h: Named) -> Result<u32, Memory>
     ensures { IfOk result (λ v. Gives b.old b.new (tag_in descriptor (named_of h)) v) }
 {
     match h {
@@ -115,7 +115,7 @@ pub fn tag_in(b: &mut Making, descriptor: u32, h: Named) -> Result<u32, LowerFau
 }
 
 /// Whether a pointer's object is of a record type.
-pub fn is_pointer(b: &mut Making, descriptor: u32, level: u32, p: u32) -> Result<u32, LowerFault>
+pub fn is_pointer(b: &mut Making, descriptor: u32, level: u32, p: u32) -> Result<u32, Memory>
     ensures { IfOk result (λ v. Gives b.old b.new (is_pointer descriptor level p) v) }
 {
     let d = b.emit(Code::Global(descriptor), &[])?;
@@ -123,7 +123,7 @@ pub fn is_pointer(b: &mut Making, descriptor: u32, level: u32, p: u32) -> Result
 }
 
 /// Whether a tag is of a record type.
-pub fn is_tag(b: &mut Making, descriptor: u32, level: u32, t: u32) -> Result<u32, LowerFault>
+pub fn is_tag(b: &mut Making, descriptor: u32, level: u32, t: u32) -> Result<u32, Memory>
     ensures { IfOk result (λ v. Gives b.old b.new (is_tag descriptor level t) v) }
 {
     let d = b.emit(Code::Global(descriptor), &[])?;
@@ -131,7 +131,7 @@ pub fn is_tag(b: &mut Making, descriptor: u32, level: u32, t: u32) -> Result<u32
 }
 
 /// An operator of one operand.
-pub fn one_operand(b: &mut Making, op: Unary, x: u32) -> Result<u32, LowerFault>
+pub fn one_operand(b: &mut Making, op: Unary, x: u32) -> Result<u32, Memory>
     ensures { IfOk result (λ v. Gives b.old b.new (one_operand op x) v) }
 {
     let code = match op {
@@ -145,7 +145,7 @@ pub fn one_operand(b: &mut Making, op: Unary, x: u32) -> Result<u32, LowerFault>
 }
 
 /// Whether a set is in another.
-fn included(b: &mut Making, x: u32, y: u32) -> Result<u32, LowerFault>
+fn included(b: &mut Making, x: u32, y: u32) -> Result<u32, Memory>
     ensures { IfOk result (λ v. Gives b.old b.new (Rattle.ssa_lowered.specs.Values.included x y) v) }
 {
     let d = b.emit(Code::Bic, &[x, y])?;
@@ -154,7 +154,7 @@ fn included(b: &mut Making, x: u32, y: u32) -> Result<u32, LowerFault>
 }
 
 /// An operator of two operands.
-pub fn two_operands(b: &mut Making, op: Binary, x: u32, y: u32) -> Result<u32, LowerFault>
+pub fn two_operands(b: &mut Making, op: Binary, x: u32, y: u32) -> Result<u32, Memory>
     ensures { IfOk result (λ v. Gives b.old b.new (two_operands op x y) v) }
 {
     match op {
@@ -200,7 +200,7 @@ fn held(h: Named) -> Option<u32>
 }
 
 /// The value of a scalar variable.
-pub fn read(b: &mut Making, h: Named) -> Result<u32, LowerFault>
+pub fn read(b: &mut Making, h: Named) -> Result<u32, Memory>
     ensures { IfOk result (λ r. (v : View) (d : Low NamedThing) → Gives v b.old d (named_of h) → Gives v b.new (load (home_of d false)) r) }
 {
     match held(h) {
@@ -217,7 +217,7 @@ pub fn read(b: &mut Making, h: Named) -> Result<u32, LowerFault>
 }
 
 /// The pointer is tested to be of a record type.
-pub fn guard(b: &mut Making, descriptor: u32, level: u32, p: u32) -> Result<(), LowerFault>
+pub fn guard(b: &mut Making, descriptor: u32, level: u32, p: u32) -> Result<(), Memory>
     ensures { OnOk result ((v : View) (m : Low ℕ) → Gives v b.old m p → Gives v b.new (guarded m descriptor level) p) }
 {
     let d = b.emit(Code::Global(descriptor), &[])?;

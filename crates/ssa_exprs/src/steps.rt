@@ -10,9 +10,9 @@ ghost use Rattle.ssa_exprs.specs.Making.{View};
 ghost use Rattle.ssa_exprs.specs.Walk.{link_in, linked_in};
 ghost use Rattle.ssa_exprs.specs.Steps.{Leads};
 
-use crate::fault::LowerFault;
 use crate::making::Making;
 use ob_types::Link;
+use outside::Memory;
 use smallvec::SmallVec;
 
 /// The labels that a condition leads to, and how often the block behind it runs.
@@ -60,7 +60,7 @@ pub struct ChainSteps {
 }
 
 /// What has to be done for a chain of links, as it is wanted. Labels are given out from the last link to the first.
-pub fn planned(b: &mut Making, links: &[Link], wanted: Wanted) -> Result<ChainSteps, LowerFault>
+pub fn planned(b: &mut Making, links: &[Link], wanted: Wanted) -> Result<ChainSteps, Memory>
     ensures { IfOk result (λ q. (p : Program) (here : Here) (x : Lowers) → Leads p here links.now q.steps.items q.first b.new x wanted b.old (linked_in p here links.now x)) }
 {
     let mut steps = SmallVec::new(b.allocator());
@@ -80,7 +80,7 @@ fn before(
     i: usize,
     wanted: Wanted,
     steps: &mut Steps,
-) -> Result<Wanted, LowerFault>
+) -> Result<Wanted, Memory>
     ensures { IfOk result (λ first. (p : Program) (here : Here) (ks : List Link) (x y : Lowers) (last : Wanted) (v : View) → slice_get ks i ≡ Some link.now
         → Leads p here ks steps.old.items wanted b.old (link_in p here link.now x) last v y → Leads p here ks steps.new.items first b.new x last v y) }
 {
@@ -122,7 +122,7 @@ fn before(
 }
 
 /// Where what is made by a test is to lead: where its value is wanted, to labels that become it.
-fn as_condition(b: &mut Making, wanted: Wanted, steps: &mut Steps) -> Result<Ways, LowerFault>
+fn as_condition(b: &mut Making, wanted: Wanted, steps: &mut Steps) -> Result<Ways, Memory>
     ensures { IfOk result (λ ways. (p : Program) (here : Here) (ks : List Link) (t : Test) (y : Lowers) (last : Wanted) (v : View)
         → Leads p here ks steps.old.items wanted b.old (tested t) last v y → Leads p here ks steps.new.items (Wanted.Condition ways) b.new (tested t) last v y) }
 {
@@ -143,7 +143,7 @@ fn as_condition(b: &mut Making, wanted: Wanted, steps: &mut Steps) -> Result<Way
 }
 
 /// The value of what isn't a test is made in any case: where a condition is wanted, it is tested.
-fn as_value(wanted: Wanted, steps: &mut Steps) -> Result<(), LowerFault>
+fn as_value(wanted: Wanted, steps: &mut Steps) -> Result<(), Memory>
     ensures { OnOk result ((p : Program) (here : Here) (ks : List Link) (u v : View) (x y : Lowers) (last : Wanted) → x.test ≡ fork_value x.value
         → Leads p here ks steps.old.items wanted u x last v y → Leads p here ks steps.new.items Wanted.Value u x last v y) }
 {

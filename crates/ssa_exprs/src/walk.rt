@@ -16,7 +16,6 @@ ghost use Rattle.ssa_exprs.specs.Tables.{Serves, expr_in, named_in, based_in, pa
 ghost use Rattle.ssa_lowered.specs.Values.{data_at, local_at, as_byte, with_result};
 ghost use Rattle.ssa_lowered.specs.Values.{length_of as length_of_named};
 
-use crate::fault::LowerFault;
 use crate::making::Making;
 use crate::named::{
     Named, address_in, bytes_in, condition, guard, is_pointer, is_tag, length_in, one_operand,
@@ -28,6 +27,7 @@ use block_runs::{Code, End};
 use ob_types::{
     Access, Argument, Base, Call, Designator, Expr, Link, Relation, Selector, TypeKind, Unary,
 };
+use outside::Memory;
 
 /// The type that a designator has.
 pub fn kind_in(d: &Designator) -> TypeKind
@@ -55,7 +55,7 @@ pub fn length_of_kind(kind: TypeKind) -> Option<u64>
 }
 
 /// An address behind the start of the globals.
-fn data_at(b: &mut Making, n: u32) -> Result<Named, LowerFault>
+fn data_at(b: &mut Making, n: u32) -> Result<Named, Memory>
     ensures { IfOk result (λ h. Gives b.old b.new (data_at n) (named_of h)) }
 {
     let a = b.emit(Code::Global(n), &[])?;
@@ -63,7 +63,7 @@ fn data_at(b: &mut Making, n: u32) -> Result<Named, LowerFault>
 }
 
 /// An address before the end of the local data.
-fn local_at(b: &mut Making, n: u32) -> Result<Named, LowerFault>
+fn local_at(b: &mut Making, n: u32) -> Result<Named, Memory>
     ensures { IfOk result (λ h. Gives b.old b.new (local_at n) (named_of h)) }
 {
     let a = b.emit(Code::Local(n), &[])?;
@@ -71,7 +71,7 @@ fn local_at(b: &mut Making, n: u32) -> Result<Named, LowerFault>
 }
 
 /// What a parameter names.
-fn parameter(t: &Tables, b: &mut Making, k: u32) -> Result<Named, LowerFault>
+fn parameter(t: &Tables, b: &mut Making, k: u32) -> Result<Named, Memory>
     ensures { IfOk result (λ h. (p : Program) (here : Here) → Serves t.now p here → Gives b.old b.new (passed_in p here k) (named_of h)) }
 {
     let parameters = t.parameters.as_slice();
@@ -84,7 +84,7 @@ fn parameter(t: &Tables, b: &mut Making, k: u32) -> Result<Named, LowerFault>
 }
 
 /// A local variable.
-fn local(t: &Tables, b: &mut Making, x: u32) -> Result<Named, LowerFault>
+fn local(t: &Tables, b: &mut Making, x: u32) -> Result<Named, Memory>
     ensures { IfOk result (λ h. (p : Program) (here : Here) → Serves t.now p here → Gives b.old b.new (own_in p here x) (named_of h)) }
 {
     let locals = t.locals.as_slice();
@@ -100,7 +100,7 @@ fn local(t: &Tables, b: &mut Making, x: u32) -> Result<Named, LowerFault>
 }
 
 /// Where a designator begins.
-fn base(t: &Tables, b: &mut Making, at: Base) -> Result<Named, LowerFault>
+fn base(t: &Tables, b: &mut Making, at: Base) -> Result<Named, Memory>
     ensures { IfOk result (λ h. (p : Program) (here : Here) → Serves t.now p here → Gives b.old b.new (based_in p here at) (named_of h)) }
 {
     match at {
@@ -114,7 +114,7 @@ fn base(t: &Tables, b: &mut Making, at: Base) -> Result<Named, LowerFault>
 
 /// The value of a scalar variable that a designator names.
 #[cycle(walk)]
-pub fn load(t: &Tables, b: &mut Making, d: &Designator) -> Result<u32, LowerFault>
+pub fn load(t: &Tables, b: &mut Making, d: &Designator) -> Result<u32, Memory>
     ensures { IfOk result (λ v. (p : Program) (here : Here) → Serves t.now p here → Gives b.old b.new (load_in p here d.now) v) }
 {
     let h = named(t, b, d)?;
@@ -124,7 +124,7 @@ pub fn load(t: &Tables, b: &mut Making, d: &Designator) -> Result<u32, LowerFaul
 
 /// What a designator names.
 #[cycle(walk)]
-pub fn named(t: &Tables, b: &mut Making, d: &Designator) -> Result<Named, LowerFault>
+pub fn named(t: &Tables, b: &mut Making, d: &Designator) -> Result<Named, Memory>
     ensures { IfOk result (λ h. (p : Program) (here : Here) → Serves t.now p here → Gives b.old b.new (named_in p here d.now) (named_of h)) }
 {
     match d {
@@ -148,7 +148,7 @@ fn selected(
     b: &mut Making,
     selectors: &[Selector],
     first: Named,
-) -> Result<Named, LowerFault>
+) -> Result<Named, Memory>
     ensures { IfOk result (λ h. (p : Program) (here : Here) → Serves t.now p here → (v : View) (d : Low NamedThing)
         → Gives v b.old d (named_of first) → Gives v b.new (selected_in p here selectors.now d) (named_of h)) }
 {
@@ -161,7 +161,7 @@ fn selected(
 
 /// What a selector leads to.
 #[cycle(walk)]
-fn select(t: &Tables, b: &mut Making, s: &Selector, h: Named) -> Result<Named, LowerFault>
+fn select(t: &Tables, b: &mut Making, s: &Selector, h: Named) -> Result<Named, Memory>
     ensures { IfOk result (λ r. (p : Program) (here : Here) → Serves t.now p here → (v : View) (d : Low NamedThing)
         → Gives v b.old d (named_of h) → Gives v b.new (select_in p here s.now d) (named_of r)) }
 {
@@ -200,7 +200,7 @@ fn select(t: &Tables, b: &mut Making, s: &Selector, h: Named) -> Result<Named, L
 
 /// The value of an expression.
 #[cycle(walk)]
-pub fn value(t: &Tables, b: &mut Making, e: &Expr) -> Result<u32, LowerFault>
+pub fn value(t: &Tables, b: &mut Making, e: &Expr) -> Result<u32, Memory>
     ensures { IfOk result (λ v. (p : Program) (here : Here) → Serves t.now p here → Gives b.old b.new (expr_in p here e.now).value v) }
 {
     match e {
@@ -242,7 +242,7 @@ pub fn value(t: &Tables, b: &mut Making, e: &Expr) -> Result<u32, LowerFault>
 
 /// The value of a pointer variable, guarded by these record types one after the other.
 #[cycle(walk)]
-fn guarded(t: &Tables, b: &mut Making, d: &Designator, types: &[u32]) -> Result<u32, LowerFault>
+fn guarded(t: &Tables, b: &mut Making, d: &Designator, types: &[u32]) -> Result<u32, Memory>
     ensures { IfOk result (λ v. (p : Program) (here : Here) → Serves t.now p here → Gives b.old b.new (guarded_in p here types.now (load_in p here d.now)) v) }
 {
     let v = load(t, b, d)?;
@@ -258,7 +258,7 @@ fn compared_texts(
     r: Relation,
     d: &Designator,
     e: &Designator,
-) -> Result<u32, LowerFault>
+) -> Result<u32, Memory>
     ensures { IfOk result (λ v. (p : Program) (here : Here) → Serves t.now p here → Gives b.old b.new (texts_in p here r d.now e.now) v) }
 {
     let x = named(t, b, d)?;
@@ -275,7 +275,7 @@ fn compared_texts(
 
 /// A value that becomes a BYTE.
 #[cycle(walk)]
-fn tested_byte(t: &Tables, b: &mut Making, x: &Expr) -> Result<u32, LowerFault>
+fn tested_byte(t: &Tables, b: &mut Making, x: &Expr) -> Result<u32, Memory>
     ensures { IfOk result (λ v. (p : Program) (here : Here) → Serves t.now p here → Gives b.old b.new (as_byte (expr_in p here x.now).value) v) }
 {
     let v = value(t, b, x)?;
@@ -285,7 +285,7 @@ fn tested_byte(t: &Tables, b: &mut Making, x: &Expr) -> Result<u32, LowerFault>
 
 /// LEN.
 #[cycle(walk)]
-fn array_length(t: &Tables, b: &mut Making, d: &Designator) -> Result<u32, LowerFault>
+fn array_length(t: &Tables, b: &mut Making, d: &Designator) -> Result<u32, Memory>
     ensures { IfOk result (λ v. (p : Program) (here : Here) → Serves t.now p here
         → Gives b.old b.new (length_of_named (named_in p here d.now) (length_of_kind (kind_in d.now))) v) }
 {
@@ -297,7 +297,7 @@ fn array_length(t: &Tables, b: &mut Making, d: &Designator) -> Result<u32, Lower
 
 /// The result of a call.
 #[cycle(walk)]
-fn called(t: &Tables, b: &mut Making, c: &Call) -> Result<u32, LowerFault>
+fn called(t: &Tables, b: &mut Making, c: &Call) -> Result<u32, Memory>
     ensures { IfOk result (λ v. (p : Program) (here : Here) → Serves t.now p here → Gives b.old b.new (with_result (called_in p here c.now)) v) }
 {
     let r = prepared(t, b, c)?;
@@ -306,7 +306,7 @@ fn called(t: &Tables, b: &mut Making, c: &Call) -> Result<u32, LowerFault>
 }
 
 /// The pointer is tested to be of these record types, one after the other.
-fn guard_all(t: &Tables, b: &mut Making, types: &[u32], p: u32) -> Result<(), LowerFault>
+fn guard_all(t: &Tables, b: &mut Making, types: &[u32], p: u32) -> Result<(), Memory>
     ensures { OnOk result ((program : Program) (here : Here) → Serves t.now program here → (v : View) (m : Low ℕ) → Gives v b.old m p
         → Gives v b.new (guarded_in program here types.now m) p) }
 {
@@ -335,7 +335,7 @@ pub struct Request {
 
 /// A call, its arguments evaluated.
 #[cycle(walk)]
-pub fn prepared(t: &Tables, b: &mut Making, c: &Call) -> Result<Request, LowerFault>
+pub fn prepared(t: &Tables, b: &mut Making, c: &Call) -> Result<Request, Memory>
     ensures { IfOk result (λ r. (p : Program) (here : Here) → Serves t.now p here → Gives b.old b.new (called_in p here c.now) (record { code = r.code; words = r.words.items })) }
 {
     match c {
@@ -368,7 +368,7 @@ fn arguments(
     b: &mut Making,
     args: &[Argument],
     words: &mut Vec<u32>,
-) -> Result<(), LowerFault>
+) -> Result<(), Memory>
     ensures { OnOk result ((p : Program) (here : Here) → Serves t.now p here → Passed b.old b.new (arguments_in p here args.now) words.old.items words.new.items) }
 {
     for a in args {
@@ -379,12 +379,7 @@ fn arguments(
 
 /// The words of an argument: one or two.
 #[cycle(walk)]
-fn argument(
-    t: &Tables,
-    b: &mut Making,
-    a: &Argument,
-    words: &mut Vec<u32>,
-) -> Result<(), LowerFault>
+fn argument(t: &Tables, b: &mut Making, a: &Argument, words: &mut Vec<u32>) -> Result<(), Memory>
     ensures { OnOk result ((p : Program) (here : Here) → Serves t.now p here → Passed b.old b.new (argument_in p here a.now) words.old.items words.new.items) }
 {
     match a {
@@ -436,7 +431,7 @@ fn chain(
     links: &[Link],
     x: &Expr,
     wanted: Wanted,
-) -> Result<u32, LowerFault>
+) -> Result<u32, Memory>
     ensures { IfOk result (λ r. (p : Program) (here : Here) → Serves t.now p here → Fulfils wanted b.old b.new (linked_in p here links.now (expr_in p here x.now)) r) }
 {
     let plan = planned(b, links, wanted)?;
@@ -447,7 +442,7 @@ fn chain(
 
 /// An expression, as it is wanted; the result is its value, where that is wanted.
 #[cycle(walk)]
-fn as_wanted(t: &Tables, b: &mut Making, e: &Expr, wanted: Wanted) -> Result<u32, LowerFault>
+fn as_wanted(t: &Tables, b: &mut Making, e: &Expr, wanted: Wanted) -> Result<u32, Memory>
     ensures { IfOk result (λ r. (p : Program) (here : Here) → Serves t.now p here → Fulfils wanted b.old b.new (expr_in p here e.now) r) }
 {
     match wanted {
@@ -470,7 +465,7 @@ fn take_all(
     links: &[Link],
     steps: Steps,
     first: u32,
-) -> Result<u32, LowerFault>
+) -> Result<u32, Memory>
     ensures { IfOk result (λ r. (p : Program) (here : Here) → Serves t.now p here → AllTaken p here links.now steps.items b.old b.new first r) }
 {
     let mut steps = steps;
@@ -483,13 +478,13 @@ fn take_all(
 
 /// A step is taken, from one number to another.
 #[cycle(walk)]
-fn take(t: &Tables, b: &mut Making, links: &[Link], step: Step, a: u32) -> Result<u32, LowerFault>
+fn take(t: &Tables, b: &mut Making, links: &[Link], step: Step, a: u32) -> Result<u32, Memory>
     ensures { IfOk result (λ r. (p : Program) (here : Here) → Serves t.now p here → Taken p here links.now step b.old b.new a r) }
 {
     match step {
         Step::Apply(i) => {
             if i >= links.len() {
-                return Err(LowerFault::Memory);
+                return Err(Memory);
             }
             let r = applied(t, b, &links[i], a)?;
             Ok(r)
@@ -500,7 +495,7 @@ fn take(t: &Tables, b: &mut Making, links: &[Link], step: Step, a: u32) -> Resul
         }
         Step::Part { link, label, ways } => {
             if link >= links.len() {
-                return Err(LowerFault::Memory);
+                return Err(Memory);
             }
             b.bind(label)?;
             operand_cond(t, b, &links[link], ways)?;
@@ -515,7 +510,7 @@ fn take(t: &Tables, b: &mut Making, links: &[Link], step: Step, a: u32) -> Resul
 
 /// The value with one link more.
 #[cycle(walk)]
-fn applied(t: &Tables, b: &mut Making, link: &Link, a: u32) -> Result<u32, LowerFault>
+fn applied(t: &Tables, b: &mut Making, link: &Link, a: u32) -> Result<u32, Memory>
     ensures { IfOk result (λ r. (p : Program) (here : Here) → Serves t.now p here → (v : View) (x : Lowers) → Gives v b.old x.value a → Gives v b.new (link_in p here link.now x).value r) }
 {
     match link {
@@ -540,13 +535,13 @@ fn applied(t: &Tables, b: &mut Making, link: &Link, a: u32) -> Result<u32, Lower
             let v = b.emit(Code::Or, &[a, bits])?;
             Ok(v)
         }
-        _ => Err(LowerFault::Memory),
+        _ => Err(Memory),
     }
 }
 
 /// A link's last operand, as a condition.
 #[cycle(walk)]
-fn operand_cond(t: &Tables, b: &mut Making, link: &Link, ways: Ways) -> Result<(), LowerFault>
+fn operand_cond(t: &Tables, b: &mut Making, link: &Link, ways: Ways) -> Result<(), Memory>
     ensures { OnOk result ((p : Program) (here : Here) → Serves t.now p here → Tests b.old b.new (expr_in p here (operand_of link.now)).test ways.yes ways.no ways.next) }
 {
     match link {
@@ -570,7 +565,7 @@ pub fn cond(
     yes: u32,
     no: u32,
     next: u64,
-) -> Result<(), LowerFault>
+) -> Result<(), Memory>
     ensures { OnOk result ((p : Program) (here : Here) → Serves t.now p here → Tests b.old b.new (expr_in p here e.now).test yes no next) }
 {
     if is_plain(e) {
@@ -593,7 +588,7 @@ pub fn cond(
             branch(b, condition(*r), a, c, yes, no, next)?;
             Ok(())
         }
-        _ => Err(LowerFault::Memory),
+        _ => Err(Memory),
     }
 }
 
@@ -610,7 +605,7 @@ fn is_plain(e: &Expr) -> bool
 }
 
 /// The open block ends with a test of a value.
-pub fn fork(b: &mut Making, a: u32, yes: u32, no: u32, next: u64) -> Result<(), LowerFault>
+pub fn fork(b: &mut Making, a: u32, yes: u32, no: u32, next: u64) -> Result<(), Memory>
     ensures { OnOk result (b.new ≡ closed b.old (Nonzero a yes no) 0 next None) }
 {
     b.close(End::Nonzero { a, yes, no }, 0, next, None)?;
@@ -626,7 +621,7 @@ fn branch(
     yes: u32,
     no: u32,
     next: u64,
-) -> Result<(), LowerFault>
+) -> Result<(), Memory>
     ensures { OnOk result (b.new ≡ closed b.old (Branch cond x y yes no) 0 next None) }
 {
     b.close(
@@ -645,7 +640,7 @@ fn branch(
 }
 
 /// A condition's two ways become 1 and 0: behind the labels and the test.
-fn flagged(b: &mut Making, yes: u32, no: u32, freq: u64) -> Result<u32, LowerFault>
+fn flagged(b: &mut Making, yes: u32, no: u32, freq: u64) -> Result<u32, Memory>
     ensures { IfOk result (λ r. (v : View) (t : Test) → yes ≡ v.labels → no ≡ suc v.labels → freq ≡ v.freq
         → Tests (asked (asked v)) b.old t yes no (half v.freq) → Gives v b.new (flag t) r) }
 {

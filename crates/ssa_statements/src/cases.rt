@@ -16,7 +16,8 @@ ghost use Rattle.ssa_statements.specs.Rungs.{label_in, choice_in, rungs_in};
 use crate::control::Frame;
 use block_runs::{Code, End, Numbers};
 use ob_types::Label;
-use ssa_exprs::{LowerFault, Making, Tables, fork, half, is_pointer, is_tag};
+use outside::Memory;
+use ssa_exprs::{Making, Tables, fork, half, is_pointer, is_tag};
 
 /// What a part of CASE is chosen by.
 #[derive(Clone, Copy)]
@@ -44,7 +45,7 @@ pub struct Opened {
 }
 
 /// So many labels, one after the other.
-pub fn labels(b: &mut Making, count: usize) -> Result<Vec<u32>, LowerFault>
+pub fn labels(b: &mut Making, count: usize) -> Result<Vec<u32>, Memory>
     ensures given { OnOk result (b.new ≡ record b.old { labels = b.old.labels + count }) }
     ensures numbers { IfOk result (λ list. list.items ≡ numbers b.old.labels count) }
 {
@@ -65,7 +66,7 @@ fn related(
     yes: u32,
     no: u32,
     next: u64,
-) -> Result<(), LowerFault>
+) -> Result<(), Memory>
     ensures { OnOk result (Tests b.old b.new (fork_branch cond (give v) (const (unsigned n))) yes no next) }
 {
     let k = b.emit(Code::Const(n.cast_unsigned()), &[])?;
@@ -92,7 +93,7 @@ fn labelled(
     yes: u32,
     no: u32,
     next: u64,
-) -> Result<(), LowerFault>
+) -> Result<(), Memory>
     ensures { OnOk result ((p : Program) (here : Here) → Tests b.old b.new (label_in p here v label.now) yes no next) }
 {
     match label {
@@ -121,7 +122,7 @@ fn tested(
     yes: u32,
     no: u32,
     next: u64,
-) -> Result<(), LowerFault>
+) -> Result<(), Memory>
     ensures { OnOk result ((p : Program) (here : Here) → Serves t.now p here → Tests b.old b.new (choice_in p here v choice.now) yes no next) }
 {
     match choice {
@@ -157,7 +158,7 @@ pub fn ladder(
     rungs: &[Rung],
     starts: &[u32],
     last: u64,
-) -> Result<(), LowerFault>
+) -> Result<(), Memory>
     ensures { OnOk result ((p : Program) (here : Here) → Serves t.now p here → Climbs b.old b.new last (λ i. slice_index starts.now i) (rungs_in p here v rungs.now)) }
 {
     if rungs.len() == 0 {
@@ -184,7 +185,7 @@ pub fn open_parts(
     tests: &[Rung],
     count: usize,
     vars: Vec<u32>,
-) -> Result<Opened, LowerFault>
+) -> Result<Opened, Memory>
     ensures { IfOk result (λ o. (p : Program) (here : Here) → Serves t.now p here → OpensCase b.old b.new o vars.items count (rungs_in p here v tests.now)) }
 {
     let freq = b.freq();
@@ -210,7 +211,7 @@ pub fn freq_behind(made: usize, all: usize, inside: u64, last: u64) -> u64
 }
 
 /// Without tests the open block jumps to the one without a match.
-fn bare_ladder(b: &mut Making, last: u64) -> Result<(), LowerFault>
+fn bare_ladder(b: &mut Making, last: u64) -> Result<(), Memory>
     ensures { OnOk result (b.new ≡ bound (closed (asked b.old) (Jump b.old.labels []) 0 last None) b.old.labels) }
 {
     let to = b.label()?;
@@ -236,7 +237,7 @@ pub fn enter_part(
     leave: Option<Numbers>,
     frame: &Frame,
     start: u32,
-) -> Result<(), LowerFault>
+) -> Result<(), Memory>
     ensures { OnOk result (Enters frame.now b.old b.new leave start) }
 {
     b.close(end_of(leave, frame.out), 0, half(frame.freq), None)?;
@@ -246,7 +247,7 @@ pub fn enter_part(
 }
 
 /// The open block ends, and the join of all parts begins.
-pub fn leave_parts(b: &mut Making, leave: Option<Numbers>, frame: &Frame) -> Result<(), LowerFault>
+pub fn leave_parts(b: &mut Making, leave: Option<Numbers>, frame: &Frame) -> Result<(), Memory>
     ensures { OnOk result (Leaves frame.now b.old b.new leave) }
 {
     b.back(frame.moment);

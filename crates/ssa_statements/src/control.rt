@@ -6,7 +6,8 @@ ghost use Rattle.ssa_exprs.specs.Making.{View};
 ghost use Rattle.ssa_statements.specs.Meeting.{Jumps, Meets, Heads, FinishesAll};
 
 use block_runs::End;
-use ssa_exprs::{LowerFault, Making};
+use outside::Memory;
+use ssa_exprs::Making;
 
 /// A choice whose join is still to be made: the join's label, the variables that are its parameters, when it was begun, and how
 /// often it runs.
@@ -19,7 +20,7 @@ pub struct Frame {
 }
 
 /// The open block ends with a jump that gives the values of variables.
-pub fn jump(b: &mut Making, out: u32, vars: &[u32], freq: u64) -> Result<(), LowerFault>
+pub fn jump(b: &mut Making, out: u32, vars: &[u32], freq: u64) -> Result<(), Memory>
     ensures { OnOk result (Jumps b.old b.new out vars.now freq) }
 {
     let args = b.picked(vars)?;
@@ -28,13 +29,7 @@ pub fn jump(b: &mut Making, out: u32, vars: &[u32], freq: u64) -> Result<(), Low
 }
 
 /// It jumps to a join, which begins behind it with the variables as they were at a moment.
-pub fn meet(
-    b: &mut Making,
-    out: u32,
-    vars: &[u32],
-    moment: usize,
-    freq: u64,
-) -> Result<(), LowerFault>
+pub fn meet(b: &mut Making, out: u32, vars: &[u32], moment: usize, freq: u64) -> Result<(), Memory>
     ensures { OnOk result (Meets b.old b.new out vars.now moment freq) }
 {
     let args = b.picked(vars)?;
@@ -45,7 +40,7 @@ pub fn meet(
 }
 
 /// It jumps to a loop's header, which begins behind it; the result is the header's label.
-pub fn head(b: &mut Making, vars: &[u32]) -> Result<u32, LowerFault>
+pub fn head(b: &mut Making, vars: &[u32]) -> Result<u32, Memory>
     ensures { IfOk result (λ h. Heads b.old b.new h vars.now) }
 {
     let to = b.label()?;
@@ -69,7 +64,7 @@ fn often(freq: u64) -> u64
 }
 
 /// The joins of choices in each other are made, the innermost first.
-pub fn finish(b: &mut Making, frames: Vec<Frame>) -> Result<(), LowerFault>
+pub fn finish(b: &mut Making, frames: Vec<Frame>) -> Result<(), Memory>
     ensures { OnOk result (FinishesAll frames.items b.old b.new) }
 {
     let mut frames = frames;

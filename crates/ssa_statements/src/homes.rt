@@ -8,7 +8,8 @@ ghost use Rattle.ssa_statements.specs.Homes.{home_value};
 ghost use Rattle.ssa_statements.specs.Steps.{Steps};
 
 use block_runs::Code;
-use ssa_exprs::{LowerFault, Making, Named};
+use outside::Memory;
+use ssa_exprs::{Making, Named};
 
 /// Where a scalar variable is.
 #[derive(Clone, Copy)]
@@ -20,7 +21,7 @@ pub enum Home {
 }
 
 /// Where the scalar variable is that a designator names.
-pub fn home_at(b: &mut Making, h: Named) -> Result<Home, LowerFault>
+pub fn home_at(b: &mut Making, h: Named) -> Result<Home, Memory>
     ensures { IfOk result (λ r. Gives b.old b.new (home_in false (named_of h)) (home_value r)) }
 {
     match h {
@@ -35,7 +36,7 @@ pub fn home_at(b: &mut Making, h: Named) -> Result<Home, LowerFault>
 }
 
 /// The value of a variable.
-pub fn current(b: &mut Making, h: Home) -> Result<u32, LowerFault>
+pub fn current(b: &mut Making, h: Home) -> Result<u32, Memory>
     ensures { IfOk result (λ v. Gives b.old b.new (current (home_value h)) v) }
 {
     match h {
@@ -45,7 +46,7 @@ pub fn current(b: &mut Making, h: Home) -> Result<u32, LowerFault>
 }
 
 /// A variable gets a value.
-pub fn change(b: &mut Making, h: Home, v: u32) -> Result<(), LowerFault>
+pub fn change(b: &mut Making, h: Home, v: u32) -> Result<(), Memory>
     ensures { OnOk result (Steps b.old b.new (change (home_value h) v)) }
 {
     match h {

@@ -21,13 +21,14 @@ ghost use Rattle.ssa_statements.specs.Steps.{Steps, deed_in};
 use crate::homes::{Home, change, current, home_at};
 use block_runs::{Code, End};
 use ob_types::{Binary, Call, Checked, Designator, TypeKind};
+use outside::Memory;
 use ssa_exprs::{
-    LowerFault, Making, Named, Tables, address_in, bytes_in, designated, kind_in, length_in,
-    length_of_kind, prepared, record_of_kind, two_operands, value,
+    Making, Named, Tables, address_in, bytes_in, designated, kind_in, length_in, length_of_kind,
+    prepared, record_of_kind, two_operands, value,
 };
 
 /// Where the scalar variable is that a designator names.
-pub fn place(t: &Tables, b: &mut Making, d: &Designator) -> Result<Home, LowerFault>
+pub fn place(t: &Tables, b: &mut Making, d: &Designator) -> Result<Home, Memory>
     ensures { IfOk result (λ h. (p : Program) (here : Here) → Serves t.now p here → Gives b.old b.new (home_of (named_in p here d.now) false) (home_value h)) }
 {
     let h = designated(t, b, d)?;
@@ -36,7 +37,7 @@ pub fn place(t: &Tables, b: &mut Making, d: &Designator) -> Result<Home, LowerFa
 }
 
 /// `:=` of a scalar.
-pub fn assign(t: &Tables, b: &mut Making, d: &Designator, x: &Checked) -> Result<(), LowerFault>
+pub fn assign(t: &Tables, b: &mut Making, d: &Designator, x: &Checked) -> Result<(), Memory>
     ensures { OnOk result ((p : Program) (here : Here) → Serves t.now p here → Steps b.old b.new (deed_in p here (Assign d.now x.now))) }
 {
     let h = place(t, b, d)?;
@@ -52,7 +53,7 @@ pub fn step(
     op: Binary,
     d: &Designator,
     x: &Checked,
-) -> Result<(), LowerFault>
+) -> Result<(), Memory>
     ensures { OnOk result ((p : Program) (here : Here) → Serves t.now p here
         → Steps b.old b.new (change_number op (home_of (named_in p here d.now) false) (expr_in p here x.now.form).value
         (Rattle.ob_types.specs.Meaning.is_byte (Rattle.ob_types.specs.Meaning.kind_in d.now)))) }
@@ -67,7 +68,7 @@ pub fn step(
 }
 
 /// The new value of a BYTE is tested.
-fn test_byte(b: &mut Making, small: bool, w: u32) -> Result<(), LowerFault>
+fn test_byte(b: &mut Making, small: bool, w: u32) -> Result<(), Memory>
     ensures { OnOk result (Gives b.old b.new (if small then does Byte (w ∷ []) else skip) tt) }
 {
     if small {
@@ -90,7 +91,7 @@ pub fn alter(
     op: Binary,
     d: &Designator,
     x: &Checked,
-) -> Result<(), LowerFault>
+) -> Result<(), Memory>
     ensures { OnOk result ((p : Program) (here : Here) → Serves t.now p here
         → Steps b.old b.new (change_set op (home_of (named_in p here d.now) false) (expr_in p here x.now.form).value)) }
 {
@@ -105,7 +106,7 @@ pub fn alter(
 }
 
 /// NEW.
-pub fn make(t: &Tables, b: &mut Making, d: &Designator) -> Result<(), LowerFault>
+pub fn make(t: &Tables, b: &mut Making, d: &Designator) -> Result<(), Memory>
     ensures { OnOk result ((p : Program) (here : Here) → Serves t.now p here → Steps b.old b.new (deed_in p here (New d.now))) }
 {
     let r = record_of_kind(kind_in(d));
@@ -130,13 +131,7 @@ fn element_kind(kind: TypeKind) -> u32
 }
 
 /// The lengths are tested, where one isn't known.
-fn fit(
-    b: &mut Making,
-    n: Option<u64>,
-    to: Named,
-    m: Option<u64>,
-    from: Named,
-) -> Result<(), LowerFault>
+fn fit(b: &mut Making, n: Option<u64>, to: Named, m: Option<u64>, from: Named) -> Result<(), Memory>
     ensures { OnOk result (Gives b.old b.new (fits n (named_of to) m (named_of from)) tt) }
 {
     match (n, m) {
@@ -153,7 +148,7 @@ fn fit_lengths(
     to: Named,
     m: Option<u64>,
     from: Named,
-) -> Result<(), LowerFault>
+) -> Result<(), Memory>
     ensures { OnOk result (Gives b.old b.new (Rattle.ssa_statements.specs.Steps.tested n (named_of to) m (named_of from)) tt) }
 {
     let a = length_in(b, n, to)?;
@@ -163,12 +158,7 @@ fn fit_lengths(
 }
 
 /// `:=` of an array or a string.
-pub fn copy_array(
-    t: &Tables,
-    b: &mut Making,
-    d: &Designator,
-    e: &Designator,
-) -> Result<(), LowerFault>
+pub fn copy_array(t: &Tables, b: &mut Making, d: &Designator, e: &Designator) -> Result<(), Memory>
     ensures { OnOk result ((p : Program) (here : Here) → Serves t.now p here → Steps b.old b.new (deed_in p here (CopyArray d.now e.now))) }
 {
     let n = length_of_kind(kind_in(d));
@@ -185,12 +175,7 @@ pub fn copy_array(
 }
 
 /// `:=` of a record.
-pub fn copy_record(
-    t: &Tables,
-    b: &mut Making,
-    d: &Designator,
-    e: &Designator,
-) -> Result<(), LowerFault>
+pub fn copy_record(t: &Tables, b: &mut Making, d: &Designator, e: &Designator) -> Result<(), Memory>
     ensures { OnOk result ((p : Program) (here : Here) → Serves t.now p here → Steps b.old b.new (deed_in p here (CopyRecord d.now e.now))) }
 {
     let size = u64::from(t.record(record_of_kind(kind_in(d))));
@@ -204,7 +189,7 @@ pub fn copy_record(
 }
 
 /// ASSERT.
-pub fn assert(t: &Tables, b: &mut Making, x: &Checked) -> Result<(), LowerFault>
+pub fn assert(t: &Tables, b: &mut Making, x: &Checked) -> Result<(), Memory>
     ensures { OnOk result ((p : Program) (here : Here) → Serves t.now p here → Steps b.old b.new (deed_in p here (Assert x.now))) }
 {
     let a = value(t, b, &x.form)?;
@@ -213,7 +198,7 @@ pub fn assert(t: &Tables, b: &mut Making, x: &Checked) -> Result<(), LowerFault>
 }
 
 /// Out.Char.
-pub fn out_char(t: &Tables, b: &mut Making, x: &Checked) -> Result<(), LowerFault>
+pub fn out_char(t: &Tables, b: &mut Making, x: &Checked) -> Result<(), Memory>
     ensures { OnOk result ((p : Program) (here : Here) → Serves t.now p here → Steps b.old b.new (deed_in p here (OutChar x.now))) }
 {
     let a = value(t, b, &x.form)?;
@@ -222,7 +207,7 @@ pub fn out_char(t: &Tables, b: &mut Making, x: &Checked) -> Result<(), LowerFaul
 }
 
 /// Out.Ln.
-pub fn out_line(b: &mut Making) -> Result<(), LowerFault>
+pub fn out_line(b: &mut Making) -> Result<(), Memory>
     ensures { OnOk result ((p : Program) (here : Here) → Steps b.old b.new (deed_in p here Rattle.ob_types.specs.declared.statements.Stmt.OutLn)) }
 {
     let a = b.emit(Code::Const(10), &[])?;
@@ -231,7 +216,7 @@ pub fn out_line(b: &mut Making) -> Result<(), LowerFault>
 }
 
 /// Out.Int.
-pub fn out_int(t: &Tables, b: &mut Making, x: &Checked, n: &Checked) -> Result<(), LowerFault>
+pub fn out_int(t: &Tables, b: &mut Making, x: &Checked, n: &Checked) -> Result<(), Memory>
     ensures { OnOk result ((p : Program) (here : Here) → Serves t.now p here → Steps b.old b.new (deed_in p here (OutInt x.now n.now))) }
 {
     let a = value(t, b, &x.form)?;
@@ -241,7 +226,7 @@ pub fn out_int(t: &Tables, b: &mut Making, x: &Checked, n: &Checked) -> Result<(
 }
 
 /// Out.String.
-pub fn out_string(t: &Tables, b: &mut Making, d: &Designator) -> Result<(), LowerFault>
+pub fn out_string(t: &Tables, b: &mut Making, d: &Designator) -> Result<(), Memory>
     ensures { OnOk result ((p : Program) (here : Here) → Serves t.now p here → Steps b.old b.new (deed_in p here (OutString d.now))) }
 {
     let h = designated(t, b, d)?;
@@ -253,7 +238,7 @@ pub fn out_string(t: &Tables, b: &mut Making, d: &Designator) -> Result<(), Lowe
 }
 
 /// In.Char: whether there was a character goes to the start of the globals, then the character to the variable.
-pub fn in_char(t: &Tables, b: &mut Making, d: &Designator) -> Result<(), LowerFault>
+pub fn in_char(t: &Tables, b: &mut Making, d: &Designator) -> Result<(), Memory>
     ensures { OnOk result ((p : Program) (here : Here) → Serves t.now p here → Steps b.old b.new (deed_in p here (InChar d.now))) }
 {
     let h = designated(t, b, d)?;
@@ -269,7 +254,7 @@ pub fn in_char(t: &Tables, b: &mut Making, d: &Designator) -> Result<(), LowerFa
 }
 
 /// A call, whose result is dropped if there is one.
-pub fn invoke(t: &Tables, b: &mut Making, c: &Call) -> Result<(), LowerFault>
+pub fn invoke(t: &Tables, b: &mut Making, c: &Call) -> Result<(), Memory>
     ensures { OnOk result ((p : Program) (here : Here) → Serves t.now p here → Steps b.old b.new (deed_in p here (Invoke c.now))) }
 {
     let r = prepared(t, b, c)?;
@@ -286,7 +271,7 @@ pub fn reached(
     step: i64,
     yes: u32,
     no: u32,
-) -> Result<(), LowerFault>
+) -> Result<(), Memory>
     ensures { OnOk result ((p : Program) (here : Here) → Serves t.now p here → Tests b.old b.new (reached_in p here d.now last step) yes no b.old.freq) }
 {
     let freq = b.freq();
@@ -315,7 +300,7 @@ fn bound(step: i64) -> u8
 }
 
 /// FOR: the variable's step.
-pub fn advance(t: &Tables, b: &mut Making, d: &Designator, step: i64) -> Result<(), LowerFault>
+pub fn advance(t: &Tables, b: &mut Making, d: &Designator, step: i64) -> Result<(), Memory>
     ensures { OnOk result ((p : Program) (here : Here) → Serves t.now p here → Steps b.old b.new (advance_in p here d.now step)) }
 {
     let h = place(t, b, d)?;

@@ -6,8 +6,8 @@ use Rattle.ob_types.specs.Table.{Table}
 use Rattle.ob_types.specs.declared.program.Procedure.{Procedure}
 use Rattle.ob_types.specs.declared.program.Program.{Program}
 use Rattle.ssa_lowered.specs.Limits.{Limit, or_else, passes, global_cells, constant_cells}
-use Rattle.ssa_exprs.specs.declared.fault.LowerFault.{LowerFault}
-use Rattle.ssa_exprs.specs.declared.fault.LowerFault.TheVariants as TheFault
+use Rattle.ssa_tables.specs.declared.fault.LowerFault.{LowerFault}
+use Rattle.ssa_tables.specs.declared.fault.LowerFault.TheVariants as TheFault
 
 -- a fault of a limit tells of this one; want of memory tells nothing
 abbrev pub Tells : LowerFault → Option Limit → Type 0

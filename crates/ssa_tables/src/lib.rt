@@ -9,6 +9,7 @@
 #![tactic(auto)]
 
 pub mod constants;
+mod fault;
 mod fields;
 mod globals;
 mod laws;
@@ -21,6 +22,7 @@ mod sizes;
 mod strings;
 
 pub use constants::{constants_are_counted, globals_are_counted, program_constants};
+pub use fault::LowerFault;
 pub use laws::well_formed_is_measured;
 pub use locals::{Locals, Variable, is_structured, words};
 pub use procedure::{enter, pass};

@@ -11,12 +11,12 @@ ghost use Rattle.ssa_tables.specs.Measured.{HasSizes};
 ghost use Rattle.ssa_tables.specs.Places.{finish, size_by};
 ghost use Rattle.ssa_tables.specs.Local.{AreLocals, declared_in, pair_of, marked, place_in, ends_behind, placed_by, ends_by, structured_size, local_limit};
 
+use crate::fault::LowerFault;
 use crate::lent::lend_in_body;
 use crate::places::{beyond, size_in};
 use items::Items;
 use ob_types::{Formal, Mode, Procedure, TypeKind, Types};
 use outside::Memory;
-use ssa_exprs::LowerFault;
 use std::alloc::Global;
 
 /// A scalar value parameter, or a local variable.
@@ -229,10 +229,7 @@ fn placed(
     requires few { finish (λ v. size_by sizes.now v.type_number) 0 declared.now ≤ 8388608 }
     ensures { IfOk result (λ x. (p : Program) (f : ℕ) → p.types ≡ types.now → AreLocals x p f procedure.now) }
 {
-    let lent = match lend_in_body(alloc, procedure) {
-        Ok(lent) => lent,
-        Err(_) => return Err(Memory),
-    };
+    let lent = lend_in_body(alloc, procedure)?;
     let marks = marks(alloc, declared.len(), lent.as_slice())?;
     let structured = structured_finish(types, sizes, declared);
     let placed = place_all(alloc, types, sizes, marks.as_slice(), declared, structured)?;

@@ -11,11 +11,12 @@ ghost use Rattle.ssa_tables.specs.Measured.{IsMeasured};
 ghost use Rattle.ssa_tables.specs.Shared.{ServesFrom};
 ghost use Rattle.ssa_tables.specs.Local.{AreLocals, local_limit, distance, name_by, parameters_from};
 
+use crate::fault::LowerFault;
 use crate::locals::{Locals, local_data, words};
 use items::Items;
 use ob_types::{Formal, Mode, Procedure, Program};
 use outside::Memory;
-use ssa_exprs::{LowerFault, Named, Tables};
+use ssa_exprs::{Named, Tables};
 use std::alloc::Global;
 use std::mem::replace;
 

@@ -8,6 +8,7 @@ ghost use Rattle.ssa_tables.specs.Measured.{IsMeasured};
 ghost use Rattle.ssa_tables.specs.Places.{module_finish, size_by};
 ghost use Rattle.ssa_tables.specs.Shared.{ServesAll, ServesFrom};
 
+use crate::fault::LowerFault;
 use crate::fields::field_offsets;
 use crate::globals::{module_places, modules_end};
 use crate::places::beyond;
@@ -16,7 +17,7 @@ use crate::strings::string_places;
 use items::Items;
 use ob_types::Program;
 use outside::Memory;
-use ssa_exprs::{LowerFault, Tables};
+use ssa_exprs::Tables;
 use std::alloc::Global;
 
 /// The tables of a program, before its first procedure. It is refused, with limit 52, where it has over 4,096 procedures, and

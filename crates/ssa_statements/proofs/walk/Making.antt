@@ -21,7 +21,7 @@ use Rattle.ssa_exprs.specs.Making.{View, Tests, asked, bound, closed, cursor_at}
 use Rattle.ssa_exprs.specs.Tables.{expr_in}
 use Rattle.ssa_exprs.proofs.Chains.{tests_at}
 use Rattle.ssa_exprs.proofs.Changes.{undoes_on, undoes_same, rewound_is}
-use Rattle.ssa_exprs.proofs.Giving.{follows_as, follows_over, once_none}
+use Rattle.ssa_exprs.proofs.Giving.{follows_any, follows_as, follows_over, once_none}
 use Rattle.ssa_exprs.proofs.Changes.{undoes_none}
 use Rattle.ssa_assigned.specs.Assigned.{assigned_list, assigned_parts}
 use Rattle.ssa_assigned.specs.Registers.{registers_in}
@@ -56,6 +56,14 @@ passed_by v m (Some n) e h = steps_over v n m e
 pub steps_passed : (v : View) (m : Deed) → is_some v.over ≡ true → Steps v v m
 steps_passed v m h = passed_by v m v.over refl h
 
+-- where one is passed already, what is said to be made doesn't matter
+steps_any_by : {v w : View} (m n : Deed) (o : Option ℕ) → v.over ≡ o → is_some o ≡ true → Steps v w m → Steps v w n
+steps_any_by m n None e h x = absurd (cc)
+steps_any_by m n (Some k) e h x = record { follows = follows_any k (λ _. m) (λ _. n) (λ _. tt) (λ _. tt) e x.follows; once = x.once; undoes = x.undoes }
+
+pub steps_any : {v w : View} (m n : Deed) → is_some v.over ≡ true → Steps v w m → Steps v w n
+steps_any {v = v} m n h x = steps_any_by m n v.over refl h x
+
 ---- One statement after the other
 
 module _ (p : Program) (here : Here) where
@@ -81,16 +89,19 @@ pub opens_all : {v u u2 u3 w : View} {t : Test} {body : Deed} (f : Frame) (yes_t
     → freq ≡ v.freq → q ≡ half freq → f.moment ≡ length v.known.log → f.freq ≡ freq → yes_to ≡ v.labels → no_to ≡ suc v.labels → f.out ≡ suc (suc v.labels)
     → Tests (asked (asked (asked v))) u t yes_to no_to q → Steps (bound u yes_to) u2 body → Jumps u2 u3 f.out f.vars.items q → w ≡ bound (record u3 { known = rewound u3.known f.moment }) no_to
     → Opens v w f t body
-opens_all {v} {u} {u2} {u3} {w} {t} {body} f yes_to no_to freq q ef eq em eff ey en eo x y j ew = record {
-  by = λ mask other x5 z vars rest fin.
-      let q_is : q ≡ half v.freq = eq ∙ ap half ef in
-      let w_is : w ≡ bound (left v u2 (suc (suc v.labels)) j.args (half v.freq)) (suc v.labels) =
-      ew ∙ ap₂ bound (left_is v f.out f.vars.items f.moment q j em ∙ ap₂ (λ o k. left v u2 o j.args k) eo q_is) en in
-      let z_is : z ≡ met v x5 mask (suc (suc v.labels)) fin.args =
-      fin.is ∙ ap₂ (λ (m : ℕ) (xs : List ℕ). bound (joined (record x5 { known = rewound x5.known m }) (Jump f.out fin.args) xs f.freq None) f.out) em vars
-      ∙ ap₂ (λ (o k : ℕ). bound (joined (record x5 { known = rewound x5.known (length v.known.log) }) (Jump o fin.args) (chosen mask 0 v.known.env) k None) o) eo (eff ∙ ef) in
-      steps_to z_is (steps_choose v u u2 x5 t body other mask j.args fin.args (tests_at refl ey en q_is x) (steps_from (ap (bound u) ey) y) (λ h. j.picked h ∙ ap (values_of u2.known.env) vars) (steps_from w_is rest) (λ h. fin.picked h ∙ ap (values_of x5.known.env) vars));
-}
+opens_all {v} {u} {u2} {u3} {w} {t} {body} f yes_to no_to freq q ef eq em eff ey en eo x y j ew =
+    let q_is : q ≡ half v.freq = eq ∙ ap half ef in
+    let w_is : w ≡ bound (left v u2 (suc (suc v.labels)) j.args (half v.freq)) (suc v.labels) =
+    ew ∙ ap₂ bound (left_is v f.out f.vars.items f.moment q j em ∙ ap₂ (λ o k. left v u2 o j.args k) eo q_is) en in
+    let know : (left v u2 (suc (suc v.labels)) j.args (half v.freq)).known ≡ v.known = rewound_is (undoes_on (undoes_same x.known) y.undoes) in
+    record {
+      by = λ mask other x5 z vars rest fin.
+          let z_is : z ≡ met v x5 mask (suc (suc v.labels)) fin.args =
+          fin.is ∙ ap₂ (λ (m : ℕ) (xs : List ℕ). bound (joined (record x5 { known = rewound x5.known m }) (Jump f.out fin.args) xs f.freq None) f.out) em vars
+          ∙ ap₂ (λ (o k : ℕ). bound (joined (record x5 { known = rewound x5.known (length v.known.log) }) (Jump o fin.args) (chosen mask 0 v.known.env) k None) o) eo (eff ∙ ef) in
+          steps_to z_is (steps_choose v u u2 x5 t body other mask j.args fin.args (tests_at refl ey en q_is x) (steps_from (ap (bound u) ey) y) (λ h. j.picked h ∙ ap (values_of u2.known.env) vars) (steps_from w_is rest) (λ h. fin.picked h ∙ ap (values_of x5.known.env) vars));
+      known = ap (λ (k : View). k.known) w_is ∙ know;
+    }
 
 -- the branches that are left
 pub alternatives_step : (p : Program) (here : Here) (all : List Branch) (i : ℕ) (part : Branch) (other : List Stmt) (g : Deed) (f : Frame) {v u : View} (w z : View) (xs : List ℕ) → i < length all → part ≡ get_or all i part

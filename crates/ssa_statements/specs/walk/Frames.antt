@@ -13,6 +13,7 @@ use Rattle.ssa_statements.specs.Steps.{Steps, Rounds}
 -- a condition and what is done where it holds; once the other part and the join are made, the choice is
 pub record Opens (v w : View) (f : Frame) (t : Test) (body : Deed) : Type 0 where
   pub by : (mask : Mask) (other : Deed) (x z : View) → f.vars.items ≡ chosen mask 0 v.known.env → Steps w x other → Finishes f x z → Steps v z (choose mask t body other)
+  pub known : w.known ≡ v.known
 
 -- a guard of a loop with what is done where it holds; once the guards behind it are made, so is the loop from here on
 pub record Turns (v w : View) (header : ℕ) (xs : List ℕ) (next : ℕ) (r : Round) : Type 0 where

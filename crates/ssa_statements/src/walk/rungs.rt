@@ -5,7 +5,7 @@ ghost use Rattle.ssa_statements.specs.walk.Rungs.{coded_labels, coded_cases, cod
 
 use crate::cases::{Choice, Rung};
 use ob_types::{CasePart, Label, TypePart};
-use ssa_exprs::LowerFault;
+use outside::Memory;
 use std::alloc::Global;
 
 /// What a dynamic type is that of.
@@ -28,7 +28,7 @@ fn chosen_by(kind: Dynamic, r: u32) -> Choice
 }
 
 /// The tests of all parts of CASE.
-pub fn of_cases(alloc: Global, parts: &[CasePart]) -> Result<Vec<Rung>, LowerFault>
+pub fn of_cases(alloc: Global, parts: &[CasePart]) -> Result<Vec<Rung>, Memory>
     ensures { IfOk result (λ list. list.items ≡ coded_cases 0 parts.now) }
 {
     let mut list = Vec::new(alloc);
@@ -39,7 +39,7 @@ pub fn of_cases(alloc: Global, parts: &[CasePart]) -> Result<Vec<Rung>, LowerFau
 }
 
 /// The tests of a part, label by label.
-fn add_labels(labels: &[Label], part: usize, list: &mut Vec<Rung>) -> Result<(), LowerFault>
+fn add_labels(labels: &[Label], part: usize, list: &mut Vec<Rung>) -> Result<(), Memory>
     ensures { OnOk result (list.new.items ≡ list.old.items ++ coded_labels part labels.now) }
 {
     for label in labels {
@@ -52,7 +52,7 @@ fn add_labels(labels: &[Label], part: usize, list: &mut Vec<Rung>) -> Result<(),
 }
 
 /// The tests of all parts of CASE on types.
-pub fn of_types(alloc: Global, kind: Dynamic, parts: &[TypePart]) -> Result<Vec<Rung>, LowerFault>
+pub fn of_types(alloc: Global, kind: Dynamic, parts: &[TypePart]) -> Result<Vec<Rung>, Memory>
     ensures { IfOk result (λ list. list.items ≡ coded_types kind 0 parts.now) }
 {
     let mut list = Vec::new(alloc);

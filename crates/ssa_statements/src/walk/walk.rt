@@ -18,16 +18,17 @@ use crate::simple::{
     advance, alter, assert, assign, copy_array, copy_record, in_char, invoke, make, out_char,
     out_int, out_line, out_string, reached, step,
 };
-use crate::walk::joins::{of_body, of_branches, of_cases, of_types};
+use crate::walk::joins::{of_body, of_branches, of_cases, of_suffix, of_suffixes, of_types};
 use crate::walk::rungs::{self, Dynamic};
 use block_runs::Numbers;
 use ob_types::{Binary, Branch, CasePart, Checked, Designator, ForLoop, Stmt, TypePart};
-use ssa_assigned::{note_all, note_whole};
-use ssa_exprs::{LowerFault, Making, Tables, cond, designated, half, second, value};
+use outside::Memory;
+use ssa_assigned::note_whole;
+use ssa_exprs::{Making, Tables, cond, designated, half, second, value};
 
 /// Statements, one after the other.
 #[cycle(walk)]
-pub fn statements(t: &Tables, b: &mut Making, list: &[Stmt]) -> Result<(), LowerFault>
+pub fn statements(t: &Tables, b: &mut Making, list: &[Stmt]) -> Result<(), Memory>
     ensures { OnOk result ((p : Program) (here : Here) → Serves t.now p here → Steps b.old b.new (deeds_in p here list.now)) }
 {
     for s in list {
@@ -38,7 +39,7 @@ pub fn statements(t: &Tables, b: &mut Making, list: &[Stmt]) -> Result<(), Lower
 
 /// A statement. Where a limit is passed nothing is made any more.
 #[cycle(walk)]
-fn statement(t: &Tables, b: &mut Making, s: &Stmt) -> Result<(), LowerFault>
+fn statement(t: &Tables, b: &mut Making, s: &Stmt) -> Result<(), Memory>
     ensures { OnOk result ((p : Program) (here : Here) → Serves t.now p here → Steps b.old b.new (deed_in p here s.now)) }
 {
     if b.over().is_some() {
@@ -97,23 +98,25 @@ fn statement(t: &Tables, b: &mut Making, s: &Stmt) -> Result<(), LowerFault>
 }
 
 /// The branches of IF; what is left are the part behind them and their joins. The variables that this part assigns are
-/// parameters of the joins too.
+/// parameters of the joins too. Where a limit is passed the branches that are left are gone past.
 #[cycle(walk)]
 fn alternatives(
     t: &Tables,
     b: &mut Making,
     parts: &[Branch],
     other: &[Stmt],
-) -> Result<Vec<Frame>, LowerFault>
+) -> Result<Vec<Frame>, Memory>
     ensures { IfOk result (λ frames. (p : Program) (here : Here) → Serves t.now p here →
         (g : Deed) (w z : View) → Steps b.new w g → FinishesAll frames.items w z →
         Steps b.old z (alternatives_in p here parts.now other.now g)) }
 {
-    let mut assigned = Vec::new(b.allocator());
-    note_all(other, &mut assigned)?;
+    let all = of_suffixes(t, b, parts, other)?;
     let mut frames = Vec::new(b.allocator());
     for i in 0..parts.len() {
-        let vars = of_branches(t, b, &parts[i..], assigned.as_slice())?;
+        if b.over().is_some() {
+            return Ok(frames);
+        }
+        let vars = of_suffix(b.allocator(), &all, i)?;
         let frame = alternative(t, b, &parts[i], vars)?;
         frames.push(frame)?;
     }
@@ -122,12 +125,7 @@ fn alternatives(
 
 /// A branch of IF; what is left are the part where its condition doesn't hold and the join.
 #[cycle(walk)]
-fn alternative(
-    t: &Tables,
-    b: &mut Making,
-    part: &Branch,
-    vars: Vec<u32>,
-) -> Result<Frame, LowerFault>
+fn alternative(t: &Tables, b: &mut Making, part: &Branch, vars: Vec<u32>) -> Result<Frame, Memory>
     ensures opens { IfOk result (λ f. (p : Program) (here : Here) → Serves t.now p here →
         Opens b.old b.new f (expr_in p here part.now.condition.form).test (deeds_in p here part.now.body.items)) }
     ensures vars { IfOk result (λ f. f.vars.items ≡ vars.items) }
@@ -154,7 +152,7 @@ fn alternative(
 
 /// WHILE.
 #[cycle(walk)]
-fn looped(t: &Tables, b: &mut Making, parts: &[Branch]) -> Result<(), LowerFault>
+fn looped(t: &Tables, b: &mut Making, parts: &[Branch]) -> Result<(), Memory>
     ensures { OnOk result ((p : Program) (here : Here) → Serves t.now p here → Steps b.old b.new (loop_in p here parts.now)) }
 {
     let vars = of_branches(t, b, parts, &[])?;
@@ -177,7 +175,7 @@ fn turn(
     header: u32,
     vars: &[u32],
     next: u64,
-) -> Result<(), LowerFault>
+) -> Result<(), Memory>
     ensures { OnOk result ((p : Program) (here : Here) → Serves t.now p here → Turns b.old b.new header vars.now next (round_in p here part.now)) }
 {
     let freq = b.freq();
@@ -195,7 +193,7 @@ fn turn(
 
 /// REPEAT.
 #[cycle(walk)]
-fn repeated(t: &Tables, b: &mut Making, body: &[Stmt], x: &Checked) -> Result<(), LowerFault>
+fn repeated(t: &Tables, b: &mut Making, body: &[Stmt], x: &Checked) -> Result<(), Memory>
     ensures { OnOk result ((p : Program) (here : Here) → Serves t.now p here → Steps b.old b.new (repeat_in p here body.now x.now)) }
 {
     let vars = of_body(t, b, body, &[])?;
@@ -221,7 +219,7 @@ fn counted(
     variable: &Designator,
     last: u32,
     step: i64,
-) -> Result<(), LowerFault>
+) -> Result<(), Memory>
     ensures { OnOk result ((p : Program) (here : Here) → Serves t.now p here → Steps b.old b.new (count_in p here variable.now step body.now last)) }
 {
     let mut assigned = Vec::new(b.allocator());
@@ -244,7 +242,7 @@ fn counted(
 
 /// CASE on a value.
 #[cycle(walk)]
-fn case(t: &Tables, b: &mut Making, parts: &[CasePart], v: u32) -> Result<(), LowerFault>
+fn case(t: &Tables, b: &mut Making, parts: &[CasePart], v: u32) -> Result<(), Memory>
     ensures { OnOk result ((p : Program) (here : Here) → Serves t.now p here → Steps b.old b.new (case_in p here parts.now v)) }
 {
     let vars = of_cases(t, b, parts)?;
@@ -264,7 +262,7 @@ fn case_parts(
     leave: Option<Numbers>,
     frame: &Frame,
     starts: &[u32],
-) -> Result<Option<Numbers>, LowerFault>
+) -> Result<Option<Numbers>, Memory>
     ensures { IfOk result (λ last. (p : Program) (here : Here) → Serves t.now p here →
         Takes b.old b.new frame.now leave last starts.now 0 (case_bodies_in p here parts.now)) }
 {
@@ -285,7 +283,7 @@ fn case_types(
     parts: &[TypePart],
     v: u32,
     kind: Dynamic,
-) -> Result<(), LowerFault>
+) -> Result<(), Memory>
     ensures { OnOk result ((p : Program) (here : Here) → Serves t.now p here → Steps b.old b.new (types_in p here kind parts.now v)) }
 {
     let vars = of_types(t, b, parts)?;
@@ -306,7 +304,7 @@ fn type_parts(
     leave: Option<Numbers>,
     frame: &Frame,
     starts: &[u32],
-) -> Result<Option<Numbers>, LowerFault>
+) -> Result<Option<Numbers>, Memory>
     ensures { IfOk result (λ last. (p : Program) (here : Here) → Serves t.now p here →
         Takes b.old b.new frame.now leave last starts.now 0 (type_bodies_in p here parts.now)) }
 {

@@ -6,12 +6,12 @@ ghost use Rattle.ssa_lowered.specs.Variables.{origin, lent, lent_link, lent_at, 
 ghost use Rattle.ssa_tables.specs.lent.Lent.{lent_by_links, lent_by_selectors, lent_by_arguments, lent_by_part};
 
 use ob_types::{Access, Argument, Base, Call, Designator, Expr, Link, Selector};
+use outside::Memory;
 use ssa_assigned::{note_base, note_unselected};
-use ssa_exprs::LowerFault;
 
 /// By an expression.
 #[cycle(lending)]
-pub fn lend(e: &Expr, found: &mut Vec<u32>) -> Result<(), LowerFault>
+pub fn lend(e: &Expr, found: &mut Vec<u32>) -> Result<(), Memory>
     ensures { OnOk result ((x : ℕ) → has found.new.items x ≡ (has found.old.items x || lent e.now x)) }
 {
     match e {
@@ -74,7 +74,7 @@ pub fn lend(e: &Expr, found: &mut Vec<u32>) -> Result<(), LowerFault>
 
 /// By links, one after the other.
 #[cycle(lending)]
-fn lend_links(links: &[Link], found: &mut Vec<u32>) -> Result<(), LowerFault>
+fn lend_links(links: &[Link], found: &mut Vec<u32>) -> Result<(), Memory>
     ensures { OnOk result ((x : ℕ) → has found.new.items x ≡ (has found.old.items x || lent_by_links links.now x)) }
 {
     for k in links {
@@ -85,7 +85,7 @@ fn lend_links(links: &[Link], found: &mut Vec<u32>) -> Result<(), LowerFault>
 
 /// By a link's operands.
 #[cycle(lending)]
-fn lend_link(k: &Link, found: &mut Vec<u32>) -> Result<(), LowerFault>
+fn lend_link(k: &Link, found: &mut Vec<u32>) -> Result<(), Memory>
     ensures { OnOk result ((x : ℕ) → has found.new.items x ≡ (has found.old.items x || lent_link k.now x)) }
 {
     match k {
@@ -115,7 +115,7 @@ fn lend_link(k: &Link, found: &mut Vec<u32>) -> Result<(), LowerFault>
 
 /// By a designator that is read or assigned: a variable as a whole may stay in a register.
 #[cycle(lending)]
-pub fn lend_read(d: &Designator, found: &mut Vec<u32>) -> Result<(), LowerFault>
+pub fn lend_read(d: &Designator, found: &mut Vec<u32>) -> Result<(), Memory>
     ensures { OnOk result ((x : ℕ) → has found.new.items x ≡ (has found.old.items x || lent_at d.now x)) }
 {
     match d {
@@ -130,7 +130,7 @@ pub fn lend_read(d: &Designator, found: &mut Vec<u32>) -> Result<(), LowerFault>
 
 /// By a designator whose address is made.
 #[cycle(lending)]
-pub fn lend_whole(d: &Designator, found: &mut Vec<u32>) -> Result<(), LowerFault>
+pub fn lend_whole(d: &Designator, found: &mut Vec<u32>) -> Result<(), Memory>
     ensures { OnOk result ((x : ℕ) → has found.new.items x ≡ (has found.old.items x || lent_whole d.now x)) }
 {
     match d {
@@ -150,7 +150,7 @@ pub fn lend_whole(d: &Designator, found: &mut Vec<u32>) -> Result<(), LowerFault
 
 /// By the selectors that lead to a part of a variable.
 #[cycle(lending)]
-fn lend_part(base: Base, selectors: &[Selector], found: &mut Vec<u32>) -> Result<(), LowerFault>
+fn lend_part(base: Base, selectors: &[Selector], found: &mut Vec<u32>) -> Result<(), Memory>
     ensures { OnOk result ((x : ℕ) → has found.new.items x ≡ (has found.old.items x || lent_by_part base selectors.now x)) }
 {
     if selectors.len() > 0 {
@@ -161,7 +161,7 @@ fn lend_part(base: Base, selectors: &[Selector], found: &mut Vec<u32>) -> Result
 }
 
 /// The variable itself, but where the first selector reads it as a pointer.
-fn lend_first(base: Base, first: &Selector, found: &mut Vec<u32>) -> Result<(), LowerFault>
+fn lend_first(base: Base, first: &Selector, found: &mut Vec<u32>) -> Result<(), Memory>
     ensures { OnOk result ((x : ℕ) → has found.new.items x ≡ (has found.old.items x || lent_by_first (origin base) first.now x)) }
 {
     match first {
@@ -183,7 +183,7 @@ fn lend_first(base: Base, first: &Selector, found: &mut Vec<u32>) -> Result<(), 
 
 /// By the indices of selectors.
 #[cycle(lending)]
-fn lend_selectors(selectors: &[Selector], found: &mut Vec<u32>) -> Result<(), LowerFault>
+fn lend_selectors(selectors: &[Selector], found: &mut Vec<u32>) -> Result<(), Memory>
     ensures { OnOk result ((x : ℕ) → has found.new.items x ≡ (has found.old.items x || lent_by_selectors selectors.now x)) }
 {
     for s in selectors {
@@ -194,7 +194,7 @@ fn lend_selectors(selectors: &[Selector], found: &mut Vec<u32>) -> Result<(), Lo
 
 /// By the index of a selector.
 #[cycle(lending)]
-fn lend_selector(s: &Selector, found: &mut Vec<u32>) -> Result<(), LowerFault>
+fn lend_selector(s: &Selector, found: &mut Vec<u32>) -> Result<(), Memory>
     ensures { OnOk result ((x : ℕ) → has found.new.items x ≡ (has found.old.items x || lent_selector s.now x)) }
 {
     match s {
@@ -210,7 +210,7 @@ fn lend_selector(s: &Selector, found: &mut Vec<u32>) -> Result<(), LowerFault>
 
 /// By a call.
 #[cycle(lending)]
-pub fn lend_call(c: &Call, found: &mut Vec<u32>) -> Result<(), LowerFault>
+pub fn lend_call(c: &Call, found: &mut Vec<u32>) -> Result<(), Memory>
     ensures { OnOk result ((x : ℕ) → has found.new.items x ≡ (has found.old.items x || lent_call c.now x)) }
 {
     match c {
@@ -228,7 +228,7 @@ pub fn lend_call(c: &Call, found: &mut Vec<u32>) -> Result<(), LowerFault>
 
 /// By arguments, one after the other.
 #[cycle(lending)]
-fn lend_arguments(args: &[Argument], found: &mut Vec<u32>) -> Result<(), LowerFault>
+fn lend_arguments(args: &[Argument], found: &mut Vec<u32>) -> Result<(), Memory>
     ensures { OnOk result ((x : ℕ) → has found.new.items x ≡ (has found.old.items x || lent_by_arguments args.now x)) }
 {
     for a in args {
@@ -239,7 +239,7 @@ fn lend_arguments(args: &[Argument], found: &mut Vec<u32>) -> Result<(), LowerFa
 
 /// By an argument.
 #[cycle(lending)]
-fn lend_argument(a: &Argument, found: &mut Vec<u32>) -> Result<(), LowerFault>
+fn lend_argument(a: &Argument, found: &mut Vec<u32>) -> Result<(), Memory>
     ensures { OnOk result ((x : ℕ) → has found.new.items x ≡ (has found.old.items x || lent_as a.now x)) }
 {
     match a {

@@ -9,12 +9,12 @@ ghost use Rattle.ssa_tables.specs.lent.Lent.{lent_by_statements, lent_by_parts, 
 use crate::lent::expressions::{lend, lend_call, lend_read, lend_whole};
 use items::Items;
 use ob_types::{Branch, CasePart, Checked, Designator, ForLoop, Procedure, Stmt, TypePart};
-use ssa_exprs::LowerFault;
+use outside::Memory;
 use std::alloc::Global;
 
 /// By statements.
 #[cycle(statements)]
-pub fn lend_all(list: &[Stmt], found: &mut Vec<u32>) -> Result<(), LowerFault>
+pub fn lend_all(list: &[Stmt], found: &mut Vec<u32>) -> Result<(), Memory>
     ensures { OnOk result ((x : ℕ) → has found.new.items x ≡ (has found.old.items x || lent_by_statements list.now x)) }
 {
     for s in list {
@@ -25,7 +25,7 @@ pub fn lend_all(list: &[Stmt], found: &mut Vec<u32>) -> Result<(), LowerFault>
 
 /// By the parts of IF or WHILE.
 #[cycle(statements)]
-fn lend_parts(parts: &[Branch], found: &mut Vec<u32>) -> Result<(), LowerFault>
+fn lend_parts(parts: &[Branch], found: &mut Vec<u32>) -> Result<(), Memory>
     ensures { OnOk result ((x : ℕ) → has found.new.items x ≡ (has found.old.items x || lent_by_parts parts.now x)) }
 {
     for part in parts {
@@ -37,7 +37,7 @@ fn lend_parts(parts: &[Branch], found: &mut Vec<u32>) -> Result<(), LowerFault>
 
 /// By the parts of CASE.
 #[cycle(statements)]
-fn lend_cases(parts: &[CasePart], found: &mut Vec<u32>) -> Result<(), LowerFault>
+fn lend_cases(parts: &[CasePart], found: &mut Vec<u32>) -> Result<(), Memory>
     ensures { OnOk result ((x : ℕ) → has found.new.items x ≡ (has found.old.items x || lent_by_cases parts.now x)) }
 {
     for part in parts {
@@ -48,7 +48,7 @@ fn lend_cases(parts: &[CasePart], found: &mut Vec<u32>) -> Result<(), LowerFault
 
 /// By the parts of CASE on types.
 #[cycle(statements)]
-fn lend_types(parts: &[TypePart], found: &mut Vec<u32>) -> Result<(), LowerFault>
+fn lend_types(parts: &[TypePart], found: &mut Vec<u32>) -> Result<(), Memory>
     ensures { OnOk result ((x : ℕ) → has found.new.items x ≡ (has found.old.items x || lent_by_types parts.now x)) }
 {
     for part in parts {
@@ -58,11 +58,7 @@ fn lend_types(parts: &[TypePart], found: &mut Vec<u32>) -> Result<(), LowerFault
 }
 
 /// By a variable that is changed, and the value.
-fn lend_change(
-    variable: &Designator,
-    value: &Checked,
-    found: &mut Vec<u32>,
-) -> Result<(), LowerFault>
+fn lend_change(variable: &Designator, value: &Checked, found: &mut Vec<u32>) -> Result<(), Memory>
     ensures { OnOk result ((x : ℕ) → has found.new.items x ≡ (has found.old.items x || (lent_at variable.now x || lent value.now.form x))) }
 {
     lend_read(variable, found)?;
@@ -71,7 +67,7 @@ fn lend_change(
 }
 
 /// By what is copied, and where.
-fn lend_copy(to: &Designator, from: &Designator, found: &mut Vec<u32>) -> Result<(), LowerFault>
+fn lend_copy(to: &Designator, from: &Designator, found: &mut Vec<u32>) -> Result<(), Memory>
     ensures { OnOk result ((x : ℕ) → has found.new.items x ≡ (has found.old.items x || (lent_whole to.now x || lent_whole from.now x))) }
 {
     lend_whole(to, found)?;
@@ -81,7 +77,7 @@ fn lend_copy(to: &Designator, from: &Designator, found: &mut Vec<u32>) -> Result
 
 /// By a statement.
 #[cycle(statements)]
-fn lend_statement(s: &Stmt, found: &mut Vec<u32>) -> Result<(), LowerFault>
+fn lend_statement(s: &Stmt, found: &mut Vec<u32>) -> Result<(), Memory>
     ensures { OnOk result ((x : ℕ) → has found.new.items x ≡ (has found.old.items x || lent_by s.now x)) }
 {
     match s {
@@ -145,7 +141,7 @@ fn lend_statement(s: &Stmt, found: &mut Vec<u32>) -> Result<(), LowerFault>
 }
 
 /// By the expression behind RETURN.
-fn lend_answer(answer: &Option<Checked>, found: &mut Vec<u32>) -> Result<(), LowerFault>
+fn lend_answer(answer: &Option<Checked>, found: &mut Vec<u32>) -> Result<(), Memory>
     ensures { OnOk result ((x : ℕ) → has found.new.items x ≡ (has found.old.items x || lent_by_answer answer.now x)) }
 {
     match answer {
@@ -158,7 +154,7 @@ fn lend_answer(answer: &Option<Checked>, found: &mut Vec<u32>) -> Result<(), Low
 }
 
 /// The variables of a procedure whose addresses are made, with repetitions, in the order of the tree.
-pub fn lend_in_body(alloc: Global, procedure: &Procedure) -> Result<Items<u32>, LowerFault>
+pub fn lend_in_body(alloc: Global, procedure: &Procedure) -> Result<Items<u32>, Memory>
     ensures { IfOk result (λ list. (x : ℕ) → has list x ≡ lent_in_body procedure.now x) }
 {
     let mut found = Vec::new(alloc);

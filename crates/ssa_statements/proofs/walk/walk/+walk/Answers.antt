@@ -29,9 +29,10 @@ use Rattle.ssa_statements.proofs.Joining.{steps_as, steps_on, steps_from, steps_
 use Rattle.ssa_statements.proofs.Loops.{rounds_none}
 use Rattle.ssa_statements.specs.declared.walk.rungs.Dynamic.TheVariants.{Pointer, Parameter}
 use Rattle.ssa_statements.specs.walk.Frames.{Takes}
+use Rattle.ssa_statements.specs.walk.Joins.{AreJoined}
 use Rattle.ssa_statements.specs.walk.Lists.{deeds_in, alternatives_in, rounds_in, loop_in, repeat_in, count_in, case_in, types_in, case_bodies_in, type_bodies_in}
 use Rattle.ssa_statements.proofs.walk.Joined.{or_turned}
-use Rattle.ssa_statements.proofs.walk.Making.{doing_more, doing_end, steps_passed, opens_all, alternatives_step, turns_all, turning_more, headed_many, looped_all, one_round, repeated_all, takes_end, takes_next, case_all, below_cases, below_types, finishes_none}
+use Rattle.ssa_statements.proofs.walk.Making.{doing_more, doing_end, steps_any, steps_passed, opens_all, alternatives_step, turns_all, turning_more, headed_many, looped_all, one_round, repeated_all, takes_end, takes_next, case_all, below_cases, below_types, finishes_none}
 use Rattle.ssa_statements.proofs.walk.Rows.{deed_if, deed_while, deed_repeat, steps_count, steps_case_on, steps_case_pointer, steps_case_parameter}
 use Rattle.ssa_statements.proofs.walk.walk.+walk.Goals as goal
 
@@ -124,27 +125,37 @@ statement-returns-in_ok-v-in-CaseParameter t c = on_ok_weaker c.case_types-in-Ca
     (steps_case_parameter p here c.in-CaseParameter.d c.in-CaseParameter.parts (gives_tag_of (c.in_ok-h-in-CaseParameter.ensures p here s) c.in_ok-v-in-CaseParameter.ensures) (steps_as (ap (λ l. types_in p here Parameter l c.in_ok-v-in-CaseParameter.v) (sym c.deref-in-CaseParameter.ensures.value)) (g p here s)))) c.case_types-in-CaseParameter.ensures
 
 pub alternatives-loop-i-init : goal.alternatives-loop-i-init
-alternatives-loop-i-init t c = λ p here s g w z st f. steps_to (finishes_none c.new-frames.result.items c.new-frames.ensures.items f) st
+alternatives-loop-i-init t c = λ p here s. (refl, λ g w z st f. steps_to (finishes_none c.new-frames.result.items c.new-frames.ensures.items f) st)
 
 pub alternatives-loop-i-preserved : goal.alternatives-loop-i-preserved
-alternatives-loop-i-preserved t c = λ p here s g w z st f.
+alternatives-loop-i-preserved t c = λ p here s.
     let all = c.args.parts.now in
     let i = c.loop-i.i in
     let part = c.index-parts-i.result in
     let other = c.args.other.now in
     let more = drop (i + 1) all in
     let lt = c.loop-i-test.true in
-    let rest = finishes_split c.loop-i.frames.items c.in_ok-frame.frame w z (subst (λ l. FinishesAll l w z) c.in_ok-push.ensures.items f) in
+    let before = c.loop-i.invariant p here s in
+    let opens = c.in_ok-frame.ensures.opens p here s in
     let list_is : drop i all ≡ part ∷ more = drop_more all i part lt ∙ ap (λ k. k ∷ more) (sym c.index-parts-i.is) in
-    let others : (x : ℕ) → has c.as_slice.result.now x ≡ assigned_list other x = λ x. ap (λ l. has l x) c.as_slice.ensures.value ∙ c.in_ok-note_all.ensures x ∙ ap (λ l. has l x || assigned_list other x) c.new-assigned.ensures.items in
-    let joined_by = c.in_ok-vars.ensures p here s (assigned_list other) (either (assigned_list part.body.items) (either (assigned_parts more) (assigned_list other))) others
-    (λ x. ap (λ l. assigned_parts l x || assigned_list other x) (ap (λ n. take n (drop i all)) (sym (length-drop i all)) ∙ take-length (drop i all) ∙ list_is) ∙ or_assoc (assigned_list part.body.items x) (assigned_parts more x) (assigned_list other x)) in
-    c.loop-i.invariant p here s g rest.middle z
-    (alternatives_step p here all i part other g c.in_ok-frame.frame w rest.middle c.in_ok-vars.vars.items lt c.index-parts-i.is (c.in_ok-frame.ensures.opens p here s) c.in_ok-frame.ensures.vars joined_by st rest.first) rest.others
+    let mask = either (assigned_list part.body.items) (either (assigned_parts more) (assigned_list other)) in
+    let joined_by : AreJoined p here mask c.loop-i.b c.in_ok-vars.vars.items = λ env len.
+    c.in_ok-vars.ensures ∙ c.in_ok-all.ensures p here s i mask lt (λ x. ap (λ l. assigned_parts l x || assigned_list other x) list_is ∙ or_assoc (assigned_list part.body.items x) (assigned_parts more x) (assigned_list other x)) env (len ∙ before.0) in (
+      ap (λ (k : Known). length k.env) opens.known ∙ before.0,
+      λ g w z st f.
+          let rest = finishes_split c.loop-i.frames.items c.in_ok-frame.frame w z (subst (λ l. FinishesAll l w z) c.in_ok-push.ensures.items f) in
+          before.1 g rest.middle z
+          (alternatives_step p here all i part other g c.in_ok-frame.frame w rest.middle c.in_ok-vars.vars.items lt c.index-parts-i.is opens c.in_ok-frame.ensures.vars joined_by st rest.first) rest.others,
+    )
+
+pub alternatives-returns-then-is_some : goal.alternatives-returns-then-is_some
+alternatives-returns-then-is_some t c = λ p here s g w z st f.
+    (c.loop-i.invariant p here s).1 g w z
+    (steps_any g (alternatives_in p here (drop c.loop-i.i c.args.parts.now) c.args.other.now g) (sym (c.is_some.ensures ∙ ap is_some c.over.ensures) ∙ c.if-is_some.true) st) f
 
 pub alternatives-returns : goal.alternatives-returns
 alternatives-returns t c = λ p here s g w z st f.
-    c.loop-i.invariant p here s g w z (subst (λ l. Steps c.loop-i.b w (alternatives_in p here l c.args.other.now g)) (sym (drop_of_length-le c.args.parts.now c.loop-i-test.false)) st) f
+    (c.loop-i.invariant p here s).1 g w z (subst (λ l. Steps c.loop-i.b w (alternatives_in p here l c.args.other.now g)) (sym (drop_of_length-le c.args.parts.now c.loop-i-test.false)) st) f
 
 pub alternative-returns : goal.alternative-returns
 alternative-returns t c =

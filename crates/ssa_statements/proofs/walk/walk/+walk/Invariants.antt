@@ -17,7 +17,9 @@ abbrev pub invariant-statements-loop-s : goal.invariant-statements-loop-s
 invariant-statements-loop-s l = (p : Program) (here : Here) → Serves l.t p here → (w : View) → Doing p here (drop l.s-index l.list) l.b w → Doing p here l.list l.initial.b w
 
 abbrev pub invariant-alternatives-loop-i : goal.invariant-alternatives-loop-i
-invariant-alternatives-loop-i l = (p : Program) (here : Here) → Serves l.t p here → (g : Deed) (w z : View) → Steps l.b w (alternatives_in p here (drop l.i l.parts) l.other g) → FinishesAll l.frames.items w z → Steps l.initial.b z (alternatives_in p here l.parts l.other g)
+invariant-alternatives-loop-i l = (p : Program) (here : Here) → Serves l.t p here →
+    (length l.b.known.env ≡ length l.initial.b.known.env)
+    × ((g : Deed) (w z : View) → Steps l.b w (alternatives_in p here (drop l.i l.parts) l.other g) → FinishesAll l.frames.items w z → Steps l.initial.b z (alternatives_in p here l.parts l.other g))
 
 abbrev pub invariant-looped-loop-i : goal.invariant-looped-loop-i
 invariant-looped-loop-i l = (p : Program) (here : Here) → Serves l.t p here → (mask : Mask) → l.vars.items ≡ chosen mask 0 l.initial.b.known.env →
