@@ -1,19 +1,17 @@
 #!/usr/bin/env python3
-"""Makes the input of crates/check_vectors and the verdicts that are wanted, by another checker.
+"""The judgements on modules that are wanted of crates/module_vectors, by another checker.
 
-    bench/check_vectors.py [FOLDER [TRIES SEED]]
+    bench/check_vectors.py TRIES SEED
 
-Writes `stdin` and `stdout` into FOLDER (that crate's, if none is given): the small modules of bench/rows, those of bench/rows/whole, some
-examples, and changes of these last, of one symbol mostly; with TRIES and SEED only what so many other changes give, to be compared by
-hand. Prints how many verdicts there are of each rule. bench/other_compiler.py says where the other checker is; how lines are written
-is said in crates/check_vectors and crates/vector_texts.
+bench/module_vectors.py takes `vectors` from here: the small modules of bench/rows, those of bench/rows/whole, some examples, and
+changes of these last, of one symbol mostly. Called by itself this prints what so many other changes give, to be compared by hand,
+and how many verdicts there are of each rule. bench/other_compiler.py says where the other checker is.
 """
 import collections
-import os
 import random
 import sys
 
-from other_compiler import folder_of
+import other_compiler  # noqa: F401
 from module_texts import WHOLE, example, pieces_of, row_files, texts_line
 import check  # noqa: E402
 from scan import Fault, scan  # noqa: E402
@@ -350,21 +348,29 @@ def modules():
     return [(which, texts, *verdict(texts)) for which, texts in found]
 
 
-def main():
-    folder = folder_of('check_vectors')
-    tries, seed = map(int, sys.argv[2:] or (60000, 30))
-    random.seed(seed)
-    cases = [] if sys.argv[2:] else modules()
-    assert all(number == 0 for which, _, number, _ in cases if which == 'legal')
-    unchanged = len(cases)
-    cases += changes(tries, {} if sys.argv[2:] else WANTED)
-    with open(os.path.join(folder, 'stdin'), 'w') as out:
-        out.writelines(texts_line(which, texts) for which, texts, _, _ in cases)
-    with open(os.path.join(folder, 'stdout'), 'w') as out:
-        out.writelines(words + '\n' for _, _, _, words in cases)
-    print(unchanged, 'modules,', len(cases) - unchanged, 'changes')
+def told(cases):
+    """Says how many verdicts there are of each rule."""
     for number, count in sorted(collections.Counter(number for _, _, number, _ in cases).items()):
         print('rule %d:' % number if number else 'legal:', count, file=sys.stderr)
 
 
-main()
+def vectors():
+    """The lines of the stored run, and the lines that are wanted."""
+    random.seed(30)
+    cases = modules()
+    assert all(number == 0 for which, _, number, _ in cases if which == 'legal')
+    unchanged = len(cases)
+    cases += changes(60000, WANTED)
+    print(unchanged, 'modules,', len(cases) - unchanged, 'changes')
+    told(cases)
+    return [texts_line('check ' + which, texts) for which, texts, _, _ in cases], [words for _, _, _, words in cases]
+
+
+if __name__ == '__main__':
+    tries, seed = map(int, sys.argv[1:])
+    random.seed(seed)
+    found = list(changes(tries, {}))
+    for which, texts, _, words in found:
+        print(texts_line('check ' + which, texts), end='')
+        print(words)
+    told(found)

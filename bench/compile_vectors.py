@@ -1,24 +1,22 @@
 #!/usr/bin/env python3
-"""Makes the input of crates/compile_vectors and the answers that are wanted, by another compiler.
+"""The images of modules that are wanted of crates/module_vectors, by another compiler.
 
-    bench/compile_vectors.py [FOLDER]
-
-Writes `stdin` and `stdout` into FOLDER (that crate's, if none is given): the modules of bench/rows, made modules, and programs at
-limits and beyond; those that have no image with one choice, the others with each policy, among them both builders and 4 to 16
-registers; and modules that have the whole language in them, by every choice. bench/other_compiler.py says where the other compiler is; how lines are written is said in crates/compile_vectors and
-crates/vector_texts.
+bench/module_vectors.py takes `vectors` from here: the modules of bench/rows, made modules, and programs at limits and beyond; those
+that have no image with one choice, the others with each policy, among them both builders and 4 to 16 registers; and modules that
+have the whole language in them, by every choice. bench/other_compiler.py says where the other compiler is.
 """
 import itertools
-import os
 
-from other_compiler import folder_of, sum_of
+from other_compiler import sum_of, sum_of_places
 from module_texts import EXAMPLE_NAMES, WHOLE, example, pieces_of, rows, texts_line
 import backend  # noqa: E402
 import check  # noqa: E402
 import trc  # noqa: E402
 from scan import Fault  # noqa: E402
 from lower import Limit  # noqa: E402
+from stage import Stage  # noqa: E402
 
+STAGE = Stage('=12,15')  # images name their procedures
 CHOICES = ['linear bi 16', 'plain bi 4', 'bottomup uni 8', 'mixed bi 5']
 EVERY = list(itertools.product(['plain', 'linear', 'bottomup', 'mixed'], ['uni', 'bi'], [4, 8, 16]))
 
@@ -50,34 +48,34 @@ def answer(sources, choice):
         if len(source) > 1048576:
             return 'limit 55 at %d' % i
     try:
-        image = backend.compile_program(check.check_sources(sources), policy, builder, int(regs))
+        image = backend.compile_program(check.check_sources(sources), policy, builder, int(regs), STAGE)
     except Fault as fault:
         return 'fault %d in %d at %d' % (fault.number, fault.module, fault.at)
     except Limit as limit:
         return 'limit %d at %d' % (limit.number, limit.index)
-    return 'image %d frame %d globals %d constants %d flags %d sum %d' % (
-        len(image.code), image.frame, image.globals, len(image.constants), image.flags, sum_of(image))
+    return 'image %d frame %d globals %d constants %d flags %d sum %d places %d sum %d' % (
+        len(image.code), image.frame, image.globals, len(image.constants), image.flags, sum_of(image), len(image.places), sum_of_places(image))
 
 
 def every_image(texts):
     """The lines of all images of modules; none where they pass a limit."""
     program = check.check_sources(texts)
     try:
-        images = [backend.compile_program(program, *choice) for choice in EVERY]
+        images = [backend.compile_program(program, *choice, STAGE) for choice in EVERY]
     except Limit:
         return None
     heads = ['%s %s %d' % choice for choice in EVERY]
-    return 'images\n' + ''.join('%s words %d sum %d\n' % (head, len(image.code), sum_of(image)) for head, image in zip(heads, images))
+    return '\n'.join(['images'] + ['%s words %d sum %d' % (head, len(image.code), sum_of(image)) for head, image in zip(heads, images)])
 
 
-def main():
-    folder = folder_of('compile_vectors')
+def vectors():
+    """The lines of the stored run, and the lines that are wanted."""
     lines, answers = [], []
     pieces = [texts for _, texts in rows()] + [[trc.bulk_text(i, 2 + i % 4)] for i in range(1, 9)] + list(limits())
     for sources in pieces:
         for choice in CHOICES:
             lines.append(texts_line(choice, sources))
-            answers.append(answer(sources, choice) + '\n')
+            answers.append(answer(sources, choice))
             if not answers[-1].startswith('image'):
                 break
     for name, sources in list(pieces_of(WHOLE)) + [(names[-1], example(*names)) for names in EXAMPLE_NAMES]:
@@ -85,11 +83,5 @@ def main():
         if images:
             lines.append(texts_line('every ' + name, sources))
             answers.append(images)
-    with open(os.path.join(folder, 'stdin'), 'w') as out:
-        out.writelines(lines)
-    with open(os.path.join(folder, 'stdout'), 'w') as out:
-        out.writelines(answers)
     print(len(pieces), 'pieces,', len(lines), 'lines')
-
-
-main()
+    return lines, answers

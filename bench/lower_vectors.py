@@ -1,17 +1,13 @@
 #!/usr/bin/env python3
-"""Makes the input of crates/lower_vectors and the procedures that are wanted, by another compiler.
+"""The procedures of modules that are wanted of crates/module_vectors, by another compiler.
 
-    bench/lower_vectors.py [FOLDER]
-
-Writes `stdin` and `stdout` into FOLDER (that crate's, if none is given): legal modules of bench/rows, examples, and programs at limits
-and beyond; prints how often there is each operation and end, and which operations there aren't. bench/other_compiler.py says where
-the other compiler is; how lines are written is said in crates/lower_vectors and crates/vector_texts.
+bench/module_vectors.py takes `vectors` from here: legal modules of bench/rows, examples, and programs at limits and beyond; it prints
+how often there is each operation and end, and which operations there aren't. bench/other_compiler.py says where the other compiler is.
 """
 import collections
-import os
 import sys
 
-from other_compiler import folder_of, proc_line
+from other_compiler import proc_line
 from module_texts import EXAMPLE_NAMES, WHOLE, example, pieces_of, texts_line
 import check  # noqa: E402
 import lower  # noqa: E402
@@ -63,19 +59,13 @@ def answer(texts, counts):
     return ['procedures %d' % len(procs)] + [proc_line(p, *head) for p, head in zip(procs, heads)]
 
 
-def main():
-    folder = folder_of('lower_vectors')
+def vectors():
+    """The lines of the stored run, and the lines that are wanted."""
     lines, answers, counts = [], [], collections.Counter()
     for name, texts in cases():
-        lines.append(texts_line(name, texts))
+        lines.append(texts_line('lower ' + name, texts))
         answers += answer(texts, counts)
-    with open(os.path.join(folder, 'stdin'), 'w') as out:
-        out.writelines(lines)
-    with open(os.path.join(folder, 'stdout'), 'w') as out:
-        out.writelines(line + '\n' for line in answers)
     print(len(lines), 'programs,', sum(line.startswith('limit') for line in answers), 'beyond a limit')
     print(', '.join('%s %d' % found for found in counts.most_common()), file=sys.stderr)
     print('none of', ', '.join(sorted(set(ssa.CODES) - set(counts))), file=sys.stderr)
-
-
-main()
+    return lines, answers

@@ -48,9 +48,18 @@ def proc_line(proc, *head):
     return ' '.join(map(str, out))
 
 
-def sum_of(image):
-    """A sum over an image's words and constants."""
+def sum_of_numbers(numbers):
     total = 0xcbf29ce484222325
-    for x in list(image.code) + list(image.constants):
+    for x in numbers:
         total = ((total ^ x) * 0x100000001b3) % (1 << 64)
     return total
+
+
+def sum_of(image):
+    """A sum over an image's words and constants."""
+    return sum_of_numbers(list(image.code) + list(image.constants))
+
+
+def sum_of_places(image):
+    """A sum over the words, modules and lines of an image's places."""
+    return sum_of_numbers(x for place in image.places for x in place)

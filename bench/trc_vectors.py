@@ -4,16 +4,21 @@
     bench/trc_vectors.py [FOLDER]
 
 Writes `stdin` and `stdout` into FOLDER (that crate's, if none is given): worked programs, the modules of bench/rows with one choice
-of policy, traces and registers after another, made modules, commands with their options, files that aren't there, limits, and the
-bytes of the smallest image, cut off at each place and changed at each. bench/other_compiler.py says where the other compiler
-is; how lines are written is said in crates/trc_vectors.
+of policy, traces and registers after another, made modules, commands with their options, files that aren't there, limits, each trap
+in a procedure of an imported module, images that are built anew from those of version 1, and the bytes of the smallest image of each
+version, cut off at each place and changed at each. bench/other_compiler.py says where the other compiler is; how lines are written is
+said in crates/trc_vectors.
 """
 import itertools
 import os
 
 from other_compiler import folder_of
 from module_texts import pieces_of, row_files
+import image  # noqa: E402
 import trc  # noqa: E402
+
+# What the other compiler has: images of version 2, with cells of eight bytes and 4,000 values.
+STAGE = ['--stage', '=12,15']
 
 CHOICES = list(itertools.product(['plain', 'linear', 'bottomup', 'mixed'], ['bi', 'uni'], ['16', '4', '8']))
 
@@ -99,6 +104,80 @@ def commands():
         yield words.split(' '), text, b''
 
 
+TRAPS = '''MODULE T;
+TYPE A = RECORD END; B = RECORD (A) END; PA = POINTER TO A; PB = POINTER TO B; PX = POINTER TO RECORD x: INTEGER END;
+  PH = POINTER TO RECORD h: ARRAY 1048576 OF CHAR END;
+VAR i: INTEGER; y: BYTE; s: SET; a: ARRAY 3 OF INTEGER; t: ARRAY 3 OF CHAR;
+PROCEDURE Index*; BEGIN a[i + 3] := 1 END Index;
+PROCEDURE Nil*; VAR p: PX; BEGIN p := NIL; p.x := 1 END Nil;
+PROCEDURE Guard*; VAR p: PA; q: PB; BEGIN NEW(p); q := p(PB) END Guard;
+PROCEDURE Divisor*; BEGIN i := 7 DIV i END Divisor;
+PROCEDURE Assert*; BEGIN ASSERT(i # 0) END Assert;
+PROCEDURE Case*; BEGIN CASE i OF 1: END END Case;
+PROCEDURE Element*; BEGIN INCL(s, i + 64) END Element;
+PROCEDURE Depth*; BEGIN Depth END Depth;
+PROCEDURE Large; VAR c: ARRAY 1048576 OF CHAR; BEGIN Large END Large;
+PROCEDURE Local*; BEGIN Large END Local;
+PROCEDURE Heap*; VAR p: PH; BEGIN WHILE TRUE DO NEW(p) END END Heap;
+PROCEDURE Range*; BEGIN i := 256; y := i END Range;
+PROCEDURE Fill(VAR c: ARRAY OF CHAR); BEGIN c := "abc" END Fill;
+PROCEDURE Copy*; BEGIN Fill(t) END Copy;
+END T.
+'''
+
+
+def traps():
+    """Each trap in a procedure of an imported module, and two in bodies; one after another choice."""
+    names = ['Index', 'Nil', 'Guard', 'Divisor', 'Assert', 'Case', 'Element', 'Depth', 'Local', 'Heap', 'Range', 'Copy']
+    for name, (policy, traces, regs) in zip(names, CHOICES):
+        files = {'T.Mod': TRAPS.encode(), 'M.Mod': b'MODULE M; IMPORT T; BEGIN T.%s END M.' % name.encode()}
+        yield ['run', 'T.Mod', 'M.Mod', '--policy', policy, '--traces', traces, '--regs', regs], files, b''
+    for text in ('(* one\ntwo *)\nMODULE M;\nVAR i: INTEGER;\nBEGIN\n  CASE i OF 1: END\nEND M.',
+                 'MODULE M;\nVAR t: ARRAY 3 OF CHAR;\nPROCEDURE P(VAR c: ARRAY OF CHAR);\nBEGIN c := "abc" END P;\nBEGIN P(t) END M.',
+                 'MODULE M; IMPORT Out; BEGIN Out.Int(7 DIV 0, 0) END M.',
+                 'MODULE M;\nIMPORT Out;\nPROCEDURE D(n: INTEGER); BEGIN IF n > 1 THEN D(n - 1) END END D;\nBEGIN D(8193) END M.'):
+        yield run(text)
+    # what an image holds: the same trap told by exec
+    built = {'T.Mod': TRAPS.encode(), 'M.Mod': b'MODULE M; IMPORT T; BEGIN T.Divisor END M.'}
+    image = built_of(['build', 'A', 'T.Mod', 'M.Mod'], built)
+    yield ['exec', 'A'], {'A': image}, b''
+    yield ['exec', 'A'], {'A': first_of(image)}, b''
+    # the only place is behind the trap, and in a module that isn't there
+    yield ['exec', 'A'], {'A': with_places([0xD4200020, 0xD4000001], [(1, 0, 1)])}, b''
+    yield ['exec', 'A'], {'A': with_places([0xD4200020, 0xD4000001], [(0, 4294967295, 4294967295)])}, b''
+
+
+def built_of(words, files):
+    return bytes(trc.Run(STAGE + words, dict(files), b'').files[words[1]])
+
+
+def first_of(data):
+    """The image of these bytes, in version 1."""
+    i = image.read_image(data, (1, 2), True)
+    return image.write_image(image.Image(1, i.flags, i.code, i.globals, i.constants, i.frame))
+
+
+def with_places(code, places):
+    return image.write_image(image.Image(2, 0, code, 0, b'', 0, places))
+
+
+def anew():
+    """Images built anew from those of version 1, from others, in place, and from what isn't there."""
+    files = {'E.Mod': b'MODULE E; END E.', 'M.Mod': module('Out.Int(6*7, 0); Out.Ln').encode(), 'F.Mod': b'MODULE F; BEGIN x END F.'}
+    second = built_of(['build', 'A', 'M.Mod'], files)
+    first = first_of(second)
+    whole = dict(files, E1=first_of(built_of(['build', 'A', 'E.Mod'], files)), M1=first, M2=second, Cut=first[:-1], More=first + b'\0', None_=b'')
+    for words in ('build O E.Mod --from E1', 'build E1 E.Mod --from E1', 'build O M.Mod --from M1', 'build M1 M.Mod --from M1',
+                  'build O --from M1 M.Mod', 'build O M.Mod --from=M1', 'build O M.Mod --from M2', 'build O M.Mod --from E1',
+                  'build O M.Mod --from Cut', 'build O M.Mod --from More', 'build O M.Mod --from None_', 'build O M.Mod --from M.Mod',
+                  'build O M.Mod --from M1 --policy plain', 'build O M.Mod --from Gone', 'build O Gone.Mod --from Away', 'build O F.Mod --from M1',
+                  'build O F.Mod --from Gone', 'build O M.Mod --from', 'build O M.Mod --from M1 --from M1', 'run M.Mod --from M1', 'exec M1 --from M1',
+                  'build O E.Mod M.Mod --from Gone'):
+        yield words.split(' '), whole, b''
+    for n in list(range(32)) + list(range(32, len(first), 16)):
+        yield ['build', 'O', 'M.Mod', '--from', 'M1'], dict(files, M1=first[:n] + bytes([first[n] ^ 0x41]) + first[n + 1:]), b''
+
+
 def workers():
     """The same modules by one, three and sixty-four workers."""
     moves = ('MODULE S; IMPORT Out; PROCEDURE P; VAR a, b, t, i: INTEGER; BEGIN a := 1; b := 2; i := 0; '
@@ -115,14 +194,20 @@ def workers():
 
 
 def images():
-    """The smallest image, whole, cut off at each place, and changed at each; and some that read."""
-    whole = bytes(trc.Run(['build', 'A', 'M.Mod'], {'M.Mod': b'MODULE E; END E.'}, b'').files['A'])
-    cut = [whole[:n] for n in range(len(whole))] + [whole + b'\0']
-    changed = [whole[:n] + bytes([whole[n] ^ 0x41]) + whole[n + 1:] for n in range(len(whole))]
-    for image in [whole] + cut + changed:
-        yield ['exec', 'A', '--steps', '1000'], {'A': image}, b'xyz'
-    for steps in ('9', '8'):
-        yield ['exec', 'A', '--steps', steps], {'A': whole}, b''
+    """The smallest image, in each version whole, cut off at each place, and changed at each; and some that read."""
+    second = built_of(['build', 'A', 'M.Mod'], {'M.Mod': b'MODULE E; END E.'})
+    for whole in (first_of(second), second):
+        cut = [whole[:n] for n in range(len(whole))] + [whole + b'\0']
+        changed = [whole[:n] + bytes([whole[n] ^ 0x41]) + whole[n + 1:] for n in range(len(whole))]
+        for data in [whole] + cut + changed:
+            yield ['exec', 'A', '--steps', '1000'], {'A': data}, b'xyz'
+        for steps in ('9', '8'):
+            yield ['exec', 'A', '--steps', steps], {'A': whole}, b''
+    places = [(0, 0, 1), (20, 1, 2), (40, 2, 3)]
+    for other in ([], [(0, 0, 1), (0, 1, 2)], [(1, 0, 1), (0, 1, 2)], [(0, 0, 1), (47, 1, 2)], [(0, 0, 1), (46, 1, 2)], [(4294967295, 0, 1)], places):
+        i = image.read_image(second, (1, 2), True)
+        data = image.write_image(image.Image(2, i.flags, i.code, i.globals, i.constants, i.frame, other))
+        yield ['exec', 'A', '--steps', '1000'], {'A': data}, b''
 
 
 def stored():
@@ -151,7 +236,7 @@ def line(words, files, given):
 
 
 def answer(words, files, given):
-    call = trc.Run([] if words == [''] else words, dict(files), given)
+    call = trc.Run(STAGE + ([] if words == [''] else words), dict(files), given)
     told = written((call.err + '\n').encode()) if call.err else ''
     built = written(call.files[words[1]]) if words[0] == 'build' and len(words) > 1 and words[1] in call.files else ''
     return '%d %s | %s%s\n' % (call.status, written(bytes(call.out)), told, built)
@@ -159,7 +244,7 @@ def answer(words, files, given):
 
 def main():
     folder = folder_of('trc_vectors')
-    calls = [call for part in (worked, modules, commands, workers, images, stored, made) for call in part()]
+    calls = [call for part in (worked, modules, commands, traps, anew, workers, images, stored, made) for call in part()]
     with open(os.path.join(folder, 'stdin'), 'w') as out:
         out.writelines(line(*call) for call in calls)
     with open(os.path.join(folder, 'stdout'), 'w') as out:

@@ -10,3 +10,4 @@ pub mod Joining
 pub mod Fronts
 pub mod Beside
 pub mod Parts
+pub mod Sizes

@@ -7,9 +7,14 @@
 #![tactic(auto)]
 
 mod access;
+mod areas;
 mod chunk;
 mod chunks;
 mod region;
 
 pub use access::{load1, load8, store1, store8};
+pub use areas::{
+    DATA_BASE, FRAMES, FRAMES_BASE, HEAP_BASE, HEAP_WORDS, LOCAL_BASE, LOCAL_WORDS, MOST_CALLS,
+    heap_bytes, local_bytes,
+};
 pub use region::Region;

@@ -7,8 +7,8 @@ use Rattle.wrapping_numbers.specs.Sets.{bit_words, span_words, has_words}
 use Rattle.wrapping_numbers.specs.Division.{div_words, mod_words}
 use Rattle.block_runs.specs.Compares.{compares}
 use Rattle.a64_memory.specs.Memory.{Area, load1, load8, store1, store8}
-use Rattle.block_runs.specs.First.{data_base}
-use Rattle.block_runs.specs.Texts.{Text, Bytes, Outside, text_at}
+use Rattle.a64_memory.specs.Areas.{data_base}
+use Rattle.a64_memory.specs.Texts.{Text, Bytes, Outside, text_at}
 use Rattle.block_runs.specs.declared.code.Code.{Code}
 use Rattle.block_runs.specs.declared.code.Code.TheVariants.{Const, Global, Local, Plus, Arg, Load, Store, LoadByte, StoreByte, Add, Sub, And, Or, Eor, Bic, Lsl, Asr, Ror, Mul, MulAdd, Neg, Not, Abs, Max0, Odd, Set, Flip, Bit, Span, Has, Div, Mod, Below, Fits, Byte, Elem, NotNil, True, IsPtr, IsTag, GuardPtr, GuardTag, New, Call, CallAt, Copy, Zero, Compare, Svc}
 use Rattle.block_runs.specs.declared.code.Code.TheVariants.{Code as CodeOf}

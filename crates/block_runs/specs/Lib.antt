@@ -2,7 +2,6 @@ pub mod Blocks
 pub mod States
 pub mod First
 pub mod Compares
-pub mod Texts
 pub mod Effects
 pub mod Steps
 pub mod Points

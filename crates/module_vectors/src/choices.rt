@@ -3,12 +3,12 @@
 ghost use Rattle.alloc_choice.specs.Choice.{IsFitChoice};
 
 use items::Items;
-use outside::OpenGate;
+use outside::{Memory, OpenGate};
 use source_image::{Builder, Choice, Image, Policy, source_image};
-use std::alloc::{AllocError, Global};
+use std::alloc::Global;
 use std::sync::Wait;
 use std::thread::Threads;
-use vector_texts::{sum_of, texts_of};
+use vector_texts::sum_of;
 
 /// How often the image of the last choice is made by each number of workers.
 const TIMES: u32 = 10;
@@ -66,13 +66,13 @@ fn push_image<R: Threads + Wait + Sync>(
     one: &Choice,
     texts: &[Items<u8>],
     times: u32,
-) -> Result<(), AllocError>
+) -> Result<(), Memory>
     requires { IsFitChoice one.now }
 {
     let (policy, builder) = (name_of_policy(one.policy), name_of_builder(one.builder));
     write!(text, "\n{policy} {builder} {}", one.regs)?;
     let Ok(made) = source_image(rt, alloc, one, texts, &OpenGate) else {
-        return text.push_str(" no image");
+        return Ok(text.push_str(" no image")?);
     };
     let words = made.image.code.as_slice();
     let sum = sum_of(words, made.image.constants.as_slice());
@@ -86,13 +86,12 @@ fn push_image<R: Threads + Wait + Sync>(
     Ok(())
 }
 
-/// The lines of all images of a line's modules, behind a line that tells of them.
+/// The lines of all images of modules, behind a line that tells of them.
 pub(crate) fn every_image<R: Threads + Wait + Sync>(
     rt: &R,
     alloc: Global,
-    line: &str,
-) -> Result<String, AllocError> {
-    let texts = texts_of(alloc, line)?;
+    texts: &[Items<u8>],
+) -> Result<String, Memory> {
     let mut text = String::from_str(alloc, "images")?;
     for policy in [
         Policy::Plain,
@@ -110,7 +109,7 @@ pub(crate) fn every_image<R: Threads + Wait + Sync>(
                 };
                 let last = policy == Policy::Mixed && builder == Builder::Bi && regs == 16;
                 let times = if last { TIMES } else { 1 };
-                push_image(rt, alloc, &mut text, &one, texts.as_slice(), times)?;
+                push_image(rt, alloc, &mut text, &one, texts, times)?;
             }
         }
     }

@@ -1,5 +1,5 @@
 -- Texts in memory, as a service writes them.
-use Rattle.std.specs.Prelude.{ℕ, zero, suc, List, [], ◌∷◌, Option, Some, None}
+use Rattle.std.specs.Prelude.{ℕ, zero, suc, List, [], ◌∷◌, ◌++◌, Option, Some, None}
 use Rattle.wrapping_numbers.specs.Numbers.{add64}
 use Rattle.a64_memory.specs.Memory.{Area, load1}
 
@@ -11,6 +11,11 @@ pub data Text : Type 0 where
 abbrev pub before : ℕ → Text → Text
 before byte (Bytes bytes) = Bytes (byte ∷ bytes)
 before byte (Outside address) = Outside address
+
+-- bytes in front of a text
+abbrev pub after_bytes : List ℕ → Text → Text
+after_bytes front (Bytes bytes) = Bytes (front ++ bytes)
+after_bytes front (Outside address) = Outside address
 
 -- the text that begins with the byte at an address, where there is one and it isn't 0
 abbrev pub text_with : Option ℕ → ℕ → Text → Text
