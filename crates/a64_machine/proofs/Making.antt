@@ -22,7 +22,7 @@ made_by r s t x y all front e = subst (λ z. Made r s t z all front) e
 pub made_silently : (r : Step) (s t : State) (x : runs.Step State Trap) (all front : List ℕ → Type 0) → all [] → Told r s t x → Made r s t x all front
 made_silently answer.Going s t x all front none told = ([], told, none)
 made_silently answer.Ended s t x all front none told = (told.0, told.1, none)
-made_silently (answer.Trapped kind) s t x all front none told = (told.0, told.1, none)
+made_silently (answer.Trapped kind word) s t x all front none told = (told.0, told.1, none)
 made_silently (answer.Undefined word) s t x all front none told = (told.0, told.1, none)
 made_silently (answer.BadAddress address) s t x all front none told = (told.0, told.1, none)
 made_silently (answer.BadCall number) s t x all front none told = (told.0, told.1, none)

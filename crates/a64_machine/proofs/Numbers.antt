@@ -20,12 +20,14 @@ use Rattle.a64_table.specs.Table.{InRange}
 use Rattle.a64_table.specs.Decode.{decode_of}
 use Rattle.a64_table.proofs.Laws.{found}
 use Rattle.a64_machine.specs.State.{State, Trap, BadCall, read, read_or_sp, put}
-use Rattle.a64_machine.specs.Services.{Text, Bytes, Outside, text_at, service, writes, writes_text, takes_input}
+use Rattle.a64_memory.specs.Texts.{Text, Bytes, Outside, text_at}
+use Rattle.a64_machine.specs.Services.{service, writes, writes_text, takes_input}
 use Rattle.a64_machine.specs.Effects.{effect, gives, gives_or_sp, gives_flags, goes, calls, loads, stores}
 use Rattle.image_form.specs.declared.image.Image.{Image}
 use Rattle.image_form.specs.Form.{IsInForm}
 use Rattle.a64_machine.proofs.Regions.{first_memory-bytes}
-use Rattle.a64_machine.specs.Machine.{start, data_base, local_base, heap_base, fetch, fetched, decoded, step_of, system_of}
+use Rattle.a64_memory.specs.Areas.{data_base, local_base, heap_base}
+use Rattle.a64_machine.specs.Machine.{start, fetch, fetched, decoded, step_of, system_of}
 
 -- what a machine holds: numbers of 64 bits in registers and SP, bytes in memory, numbers in the input
 pub record Numbers (a : State) : Type 0 where

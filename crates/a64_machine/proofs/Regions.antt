@@ -8,15 +8,9 @@ use Rattle.image_form.specs.declared.image.Image.{Image}
 use Rattle.image_form.specs.Form.{IsInForm}
 use Rattle.a64_machine.proofs.Registers.{zeros_read}
 use Rattle.a64_memory.proofs.Parts.{HasArea}
-use Rattle.a64_machine.specs.Machine.{first_memory, zeroed, data_base, local_base, local_bytes, frames_base, frames_bytes, heap_base, heap_bytes}
-
-pub local_bytes-is : local_bytes ≡ 8388608
-unfolding local_bytes
-local_bytes-is = refl
-
-pub heap_bytes-is : heap_bytes ≡ 67108864
-unfolding heap_bytes
-heap_bytes-is = refl
+use Rattle.a64_memory.proofs.Sizes.{local_bytes-is, heap_bytes-is}
+use Rattle.a64_memory.specs.Areas.{zeroed, data_base, local_base, local_bytes, frames_base, frames_bytes, heap_base, heap_bytes}
+use Rattle.a64_machine.specs.Machine.{first_memory}
 
 pub first_memory-rises : (image : Image) → IsInForm image → IsRising 0 (first_memory image)
 first_memory-rises image form =

@@ -6,7 +6,7 @@ use Rattle.std.proofs.lemmas.List.{append-nil}
 use Rattle.wrapping_numbers.specs.Numbers.{add64}
 use Rattle.a64_memory.specs.Memory.{Area, load1}
 use Rattle.a64_memory.proofs.Parts.{HasArea, load_rest_byte}
-use Rattle.a64_machine.specs.Services.{Text, Bytes, Outside, before, after_bytes, text_with, text_at}
+use Rattle.a64_memory.specs.Texts.{Text, Bytes, Outside, before, after_bytes, text_with, text_at}
 
 -- nothing in front, and one byte more
 after_none : (text : Text) → text ≡ after_bytes [] text

@@ -1,40 +1,14 @@
 -- The machine: its state at the start, and its steps.
-use Rattle.std.specs.Prelude.{ℕ, ◌+◌, ◌*◌, ◌%◌, List, [], ◌∷◌, ◌++◌, replicate, ◌==◌, ◌&&◌, nat_le, Option, Some, None, slice_get, if◌then◌else◌}
+use Rattle.std.specs.Prelude.{ℕ, ◌+◌, ◌%◌, List, [], ◌∷◌, ◌++◌, replicate, ◌==◌, ◌&&◌, nat_le, Option, Some, None, slice_get, if◌then◌else◌}
 use Rattle.run_laws.specs.Runs.{Step, Traps, System}
 use Rattle.a64_numbers.specs.Conditions.{clear_flags}
 use Rattle.a64_memory.specs.Memory.{Area}
+use Rattle.a64_memory.specs.Areas.{data_base, local_base, frames_base, heap_base, local_bytes, heap_bytes, frames_bytes, most_calls, local_words, heap_words, zeroed}
 use Rattle.a64_instr.specs.declared.instr.Instr.{Instr}
 use Rattle.a64_table.specs.Decode.{decode_of}
 use Rattle.image_form.specs.declared.image.Image.{Image}
 use Rattle.a64_machine.specs.State.{State, Trap, Undefined, BadAddress, code_base, place_at, put}
 use Rattle.a64_machine.specs.Effects.{effect}
-
--- where the areas lie
-abbrev pub data_base : ℕ
-data_base = 0x10000000
-
-abbrev pub local_base : ℕ
-local_base = 0x20000000
-
-abbrev pub frames_base : ℕ
-frames_base = 0x40000000
-
-abbrev pub heap_base : ℕ
-heap_base = 0x80000000
-
--- how many bytes they have
-unfoldable pub local_bytes : ℕ
-local_bytes = 8388608
-
-abbrev pub frames_bytes : ℕ → ℕ
-frames_bytes frame = 8193 * frame
-
-unfoldable pub heap_bytes : ℕ
-heap_bytes = 67108864
-
--- so many bytes at an address, all of them 0
-abbrev pub zeroed : ℕ → ℕ → Area
-zeroed base bytes = record { base = base; bytes = replicate bytes 0 }
 
 -- globals with the constants behind them, local data, frames and heap
 abbrev pub first_memory : Image → List Area
@@ -45,7 +19,7 @@ first_memory image =
 -- X19 is at the local data, X20 has the calls that may still be open, X21 is at the heap, X22 and X23 have the heap's cells
 -- and the cells of local data that are left, X24 is at the globals; the others are 0
 abbrev pub first_registers : ℕ → ℕ
-first_registers = put (put (put (put (put (put (λ n. 0) 19 local_base) 20 8192) 21 heap_base) 22 8388608) 23 1048576) 24 data_base
+first_registers = put (put (put (put (put (put (λ n. 0) 19 local_base) 20 most_calls) 21 heap_base) 22 heap_words) 23 local_words) 24 data_base
 
 -- the state in which an image is loaded
 abbrev pub start : Image → List ℕ → State

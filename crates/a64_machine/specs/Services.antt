@@ -1,35 +1,10 @@
 -- What an SVC does, by its number.
-use Rattle.std.specs.Prelude.{ℕ, zero, suc, ◌-◌, ◌%◌, ◌^◌, List, [], ◌∷◌, ◌++◌, drop, ◌==◌, ◌||◌, Option, Some, None, slice_index_or, if◌then◌else◌}
+use Rattle.std.specs.Prelude.{ℕ, ◌-◌, ◌%◌, ◌^◌, List, [], ◌∷◌, drop, ◌==◌, ◌||◌, slice_index_or, if◌then◌else◌}
 use Rattle.out_text.specs.Text.{int_text}
 use Rattle.wrapping_numbers.specs.Numbers.{add64}
-use Rattle.a64_memory.specs.Memory.{Area, load1}
+use Rattle.a64_memory.specs.Texts.{Text, Bytes, Outside, text_at}
 use Rattle.run_laws.specs.Runs.{Step, Moves, Ends, Traps}
 use Rattle.a64_machine.specs.State.{State, Trap, BadAddress, BadCall, put}
-
--- a text in memory, or the first address of it that lies in no area
-pub data Text : Type 0 where
-  Bytes : List ℕ → Text
-  Outside : (address : ℕ) → Text
-
-abbrev pub before : ℕ → Text → Text
-before byte (Bytes bytes) = Bytes (byte ∷ bytes)
-before byte (Outside address) = Outside address
-
--- bytes in front of a text
-abbrev pub after_bytes : List ℕ → Text → Text
-after_bytes front (Bytes bytes) = Bytes (front ++ bytes)
-after_bytes front (Outside address) = Outside address
-
--- the text that begins with the byte at an address, where there is one and it isn't 0
-abbrev pub text_with : Option ℕ → ℕ → Text → Text
-text_with None address rest = Outside address
-text_with (Some zero) address rest = Bytes []
-text_with (Some (suc n)) address rest = before (suc n) rest
-
--- the bytes at an address, and so on by so many bytes, before the first 0 and at most so many of them
-abbrev pub text_at : List Area → ℕ → ℕ → ℕ → Text
-text_at memory by address zero = Bytes []
-text_at memory by address (suc most) = text_with (load1 memory address) address (text_at memory by (add64 address by) most)
 
 -- writes and goes on behind the instruction
 abbrev pub writes : State → List ℕ → Step State Trap

@@ -3,7 +3,7 @@ use Rattle.std.specs.Prelude.{◌≡◌, ℕ, List, [], drop, slice_index, Optio
 use Rattle.run_laws.specs.Runs as runs
 use Rattle.a64_instr.specs.declared.instr.Instr.{Instr}
 use Rattle.a64_instr.specs.declared.instr.Instr.TheVariants.{Svc}
-use Rattle.a64_machine.specs.State.{State, place_at}
+use Rattle.a64_machine.specs.State.{State}
 use Rattle.a64_machine.specs.State as why
 use Rattle.a64_machine.specs.declared.processor.Core.{Core}
 use Rattle.a64_machine.specs.declared.machine.Machine.{Machine}
@@ -33,7 +33,7 @@ state_of m = core_state m.core
 abbrev pub Told : Step → State → State → runs.Step State why.Trap → Type 0
 Told Going s t step = step ≡ runs.Moves [] t
 Told Ended s t step = (step ≡ runs.Ends) × (t ≡ s)
-Told (Trapped kind) s t step = (step ≡ runs.Traps (why.Broke kind (place_at s.pc))) × (t ≡ s)
+Told (Trapped kind word) s t step = (step ≡ runs.Traps (why.Broke kind word)) × (t ≡ s)
 Told (Undefined word) s t step = (step ≡ runs.Traps (why.Undefined word)) × (t ≡ s)
 Told (BadAddress address) s t step = (step ≡ runs.Traps (why.BadAddress address)) × (t ≡ s)
 Told (BadCall number) s t step = (step ≡ runs.Traps (why.BadCall number)) × (t ≡ s)

@@ -7,8 +7,8 @@ pub enum Step {
     Going,
     /// SVC 0: the program has ended.
     Ended,
-    /// BRK, with the kind of the trap.
-    Trapped(u16),
+    /// BRK, with the kind of the trap and the number of the code word.
+    Trapped { kind: u16, word: u32 },
     /// The fetched word isn't in the table.
     Undefined(u32),
     /// The address can't be fetched, loaded or stored.
@@ -26,8 +26,8 @@ pub enum Halt {
     Spent,
     /// SVC 0: the program has ended.
     Ended,
-    /// BRK, with the kind of the trap.
-    Trapped(u16),
+    /// BRK, with the kind of the trap and the number of the code word.
+    Trapped { kind: u16, word: u32 },
     /// A fetched word isn't in the table.
     Undefined(u32),
     /// An address can't be fetched, loaded or stored.

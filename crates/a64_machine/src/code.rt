@@ -1,7 +1,8 @@
 //! The code that a machine runs: its words, and the instructions that they stand for.
 
-ghost use Rattle.std.specs.Prelude.{◌≡◌, map, option_and_then, option_copied, IfOk};
+ghost use Rattle.std.specs.Prelude.{◌≡◌, ◌^◌, ◌<◌, ◌≤◌, map, length, option_and_then, option_copied, IfOk, IfSome};
 ghost use Rattle.a64_table.specs.Decode.{decode_of};
+ghost use Rattle.a64_machine.specs.State.{place_at};
 ghost use Rattle.a64_machine.specs.Machine.{fetch};
 ghost use Rattle.a64_machine.specs.View.{stop_of};
 
@@ -23,14 +24,14 @@ pub struct Code {
 }
 
 impl Model for Code {
-    ghost use Rattle.std.specs.Prelude.{◌≡◌, ℕ, List, map};
+    ghost use Rattle.std.specs.Prelude.{◌≡◌, ℕ, ◌^◌, ◌≤◌, List, map, length};
     ghost use Rattle.a64_table.specs.Decode.{decode_of};
 
     ghost Value = { List ℕ };
 
     ghost view = { λ c. c.words.items };
 
-    ghost invariant = { λ c. c.instructions.items ≡ map decode_of c.words.items };
+    ghost invariant = { λ c. (c.instructions.items ≡ map decode_of c.words.items) × (length c.words.items ≤ 2 ^ 32) };
 }
 
 /// The instructions that words stand for, one after the other.
@@ -47,6 +48,7 @@ fn decoded(alloc: Global, words: &[u32]) -> Result<Vec<Option<Instr>>, Memory>
 impl Code {
     /// The code with these words.
     pub fn of_words(alloc: Global, words: Vec<u32>) -> Result<Code, Memory>
+        requires { length words.items ≤ 2 ^ 32 }
         ensures { IfOk result (λ c. c ≡ words.items) }
     {
         let instructions = decoded(alloc, &words)?;
@@ -56,10 +58,12 @@ impl Code {
         })
     }
 
-    /// The instruction of the word at an address, where there is a word and it stands for one.
+    /// The instruction of the word at an address, where there is a word and it stands for one. There, the word has a
+    /// number of 32 bits.
     #[inline]
     pub fn instruction(&self, pc: u64) -> Option<&Instr>
-        ensures { option_copied result ≡ option_and_then decode_of (fetch self.now pc) }
+        ensures is { option_copied result ≡ option_and_then decode_of (fetch self.now pc) }
+        ensures place { IfSome result (λ _. place_at pc < 2 ^ 32) }
     {
         if pc < CODE_BASE || pc % 4 != 0 {
             return None;

@@ -1,9 +1,9 @@
 //! What each instruction does: a function for each group of them, with an arm for each row of the table.
 
-ghost use Rattle.std.specs.Prelude.{◌≡◌, None};
+ghost use Rattle.std.specs.Prelude.{◌≡◌, ◌^◌, ◌<◌, None};
 ghost use Rattle.wrapping_numbers.specs.Numbers.{add64};
 ghost use Rattle.a64_numbers.specs.Operands.{shifted};
-ghost use Rattle.a64_machine.specs.State.{read, read_or_sp};
+ghost use Rattle.a64_machine.specs.State.{place_at, read, read_or_sp};
 ghost use Rattle.a64_machine.specs.Effects.{effect};
 ghost use Rattle.a64_machine.specs.Groups.{group_of};
 ghost use Rattle.a64_machine.specs.View.{core_state, Told, service_number};
@@ -240,7 +240,8 @@ impl Core {
     /// Branches, calls, returns or traps.
     #[inline(always)]
     fn branches(&mut self, i: &Instr) -> Step
-        requires { group_of i.now ≡ Group.Branch }
+        requires group { group_of i.now ≡ Group.Branch }
+        requires place { place_at (core_state self.old).pc < 2 ^ 32 }
         ensures { Told result (core_state self.old) (core_state self.new) (effect i.now (core_state self.old)) }
     {
         match *i {
@@ -252,7 +253,10 @@ impl Core {
             Br { rn } => self.goes(self.read(rn)),
             Blr { rn } => self.calls(self.read(rn)),
             Ret { rn } => self.goes(self.read(rn)),
-            Brk { imm } => Step::Trapped(imm.get() as u16),
+            Brk { imm } => Step::Trapped {
+                kind: imm.get() as u16,
+                word: self.place(),
+            },
             _ => unreachable!(),
         }
     }
@@ -310,7 +314,8 @@ impl Core {
     /// Carries out an instruction that isn't an SVC.
     #[inline(always)]
     pub fn execute(&mut self, i: &Instr) -> Step
-        requires { service_number i.now ≡ None }
+        requires number { service_number i.now ≡ None }
+        requires place { place_at (core_state self.old).pc < 2 ^ 32 }
         ensures { Told result (core_state self.old) (core_state self.new) (effect i.now (core_state self.old)) }
     {
         match group_of(i) {

@@ -3,43 +3,16 @@
 ghost use Rattle.std.specs.Prelude.{◌≡◌, ◌+◌, ◌^◌, ◌<◌, ◌++◌, length, replicate, IfOk, slice_index};
 ghost use Rattle.image_form.specs.Form.{IsInForm};
 ghost use Rattle.a64_machine.specs.State.{put};
-ghost use Rattle.a64_machine.specs.Machine.{first_memory, data_base, first_registers, local_bytes, heap_bytes};
+ghost use Rattle.a64_memory.specs.Areas.{data_base};
+ghost use Rattle.a64_machine.specs.Machine.{first_memory, first_registers};
 
-use a64_memory::Region;
+use a64_memory::{
+    DATA_BASE, FRAMES, FRAMES_BASE, HEAP_BASE, HEAP_WORDS, LOCAL_BASE, LOCAL_WORDS, MOST_CALLS,
+    Region, heap_bytes, local_bytes,
+};
 use image_form::Image;
 use outside::Memory;
 use std::alloc::Global;
-
-/// Where the globals lie, with the constants behind them.
-pub const DATA_BASE: u64 = 0x1000_0000;
-
-/// Where local data lies.
-pub const LOCAL_BASE: u64 = 0x2000_0000;
-
-/// Where the frames lie.
-pub const FRAMES_BASE: u64 = 0x4000_0000;
-
-/// Where the heap lies.
-pub const HEAP_BASE: u64 = 0x8000_0000;
-
-/// How many frames there are.
-pub const FRAMES: u64 = 8193;
-
-/// The bytes of local data.
-#[tactic(auto, unfolding(crate::specs::Machine::local_bytes))]
-fn local_size() -> usize
-    ensures { result ≡ local_bytes }
-{
-    8_388_608
-}
-
-/// The bytes of the heap.
-#[tactic(auto, unfolding(crate::specs::Machine::heap_bytes))]
-fn heap_size() -> usize
-    ensures { result ≡ heap_bytes }
-{
-    67_108_864
-}
 
 /// The globals, which are zeros, with the constants behind them.
 fn data_region(alloc: Global, globals: usize, constants: &[u8]) -> Result<Region, Memory>
@@ -60,9 +33,9 @@ pub fn first_memory(alloc: Global, image: &Image) -> Result<Vec<Region>, Memory>
     ensures { IfOk result (λ v. v.items ≡ first_memory image.now) }
 {
     let data = data_region(alloc, image.globals as usize, image.constants.as_slice())?;
-    let local = Region::zeros(alloc, LOCAL_BASE, local_size())?;
-    let frames = Region::zeros(alloc, FRAMES_BASE, 8193 * image.frame as usize)?;
-    let heap = Region::zeros(alloc, HEAP_BASE, heap_size())?;
+    let local = Region::zeros(alloc, LOCAL_BASE, local_bytes() as usize)?;
+    let frames = Region::zeros(alloc, FRAMES_BASE, FRAMES as usize * image.frame as usize)?;
+    let heap = Region::zeros(alloc, HEAP_BASE, heap_bytes() as usize)?;
     let mut regions = Vec::with_capacity(alloc, 4)?;
     regions.push(data)?;
     regions.push(local)?;
@@ -85,10 +58,10 @@ pub fn first_registers() -> [u64; 31]
 {
     let mut registers = [0; 31];
     set(&mut registers, 19, LOCAL_BASE);
-    set(&mut registers, 20, FRAMES - 1);
+    set(&mut registers, 20, MOST_CALLS);
     set(&mut registers, 21, HEAP_BASE);
-    set(&mut registers, 22, 8_388_608);
-    set(&mut registers, 23, 1_048_576);
+    set(&mut registers, 22, HEAP_WORDS);
+    set(&mut registers, 23, LOCAL_WORDS);
     set(&mut registers, 24, DATA_BASE);
     registers
 }

@@ -1,10 +1,11 @@
 //! The machine whole: its code, and everything else.
 
-ghost use Rattle.std.specs.Prelude.{◌≡◌, ◌≤◌, [], IfOk};
+ghost use Rattle.std.specs.Prelude.{◌≡◌, ◌^◌, ◌<◌, ◌≤◌, [], IfOk};
 ghost use Rattle.outside.specs.Sink.{TookAll, TookFront, Faulted};
 ghost use Rattle.run_laws.specs.Runs.{run};
 ghost use Rattle.image_form.specs.Form.{IsInForm};
 ghost use Rattle.a64_numbers.specs.Conditions.{clear_flags};
+ghost use Rattle.a64_machine.specs.State.{place_at};
 ghost use Rattle.a64_machine.specs.Machine.{step_of, start};
 ghost use Rattle.a64_machine.specs.Effects.{effect};
 ghost use Rattle.a64_machine.specs.View.{core_state, code_of, state_of};
@@ -13,9 +14,10 @@ ghost use Rattle.a64_machine.specs.Answers.{Made, Ran};
 use crate::answers::{Halt, Step};
 use crate::code::{CODE_BASE, Code};
 use crate::execute::service_number;
-use crate::layout::{FRAMES, FRAMES_BASE, first_memory, first_registers};
+use crate::layout::{first_memory, first_registers};
 use crate::processor::Core;
 use a64_instr::Instr;
+use a64_memory::{FRAMES, FRAMES_BASE};
 use a64_numbers::Flags;
 use image_form::Image;
 use outside::{Memory, Sink};
@@ -32,6 +34,7 @@ impl Core {
     /// Carries out any instruction.
     #[inline(always)]
     fn carries_out<O: Sink>(&mut self, i: &Instr, out: &mut O) -> Step
+        requires { place_at (core_state self.old).pc < 2 ^ 32 }
         ensures made { Made result (core_state self.old) (core_state self.new) (effect i.now (core_state self.old))
             (TookAll (O.account out.old) (O.account out.new)) (TookFront (O.account out.old) (O.account out.new)) }
         ensures rises { (O.account out.old).faults ≤ (O.account out.new).faults }
@@ -80,6 +83,7 @@ impl Machine {
             globals: _globals,
             constants: _constants,
             frame: _frame,
+            places: _places,
         } = image;
         let code = Code::of_words(alloc, code.into_vec())?;
         Ok(Machine { code, core })
@@ -116,7 +120,7 @@ impl Machine {
             match machine.step(out) {
                 Step::Going => {}
                 Step::Ended => return Halt::Ended,
-                Step::Trapped(kind) => return Halt::Trapped(kind),
+                Step::Trapped { kind, word } => return Halt::Trapped { kind, word },
                 Step::Undefined(word) => return Halt::Undefined(word),
                 Step::BadAddress(address) => return Halt::BadAddress(address),
                 Step::BadCall(number) => return Halt::BadCall(number),

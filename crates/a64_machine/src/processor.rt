@@ -1,12 +1,13 @@
 //! Registers, flags, memory and input, and the ways in which an instruction changes them.
 
-ghost use Rattle.std.specs.Prelude.{◌≡◌, ◌*◌, ◌%◌, ◌^◌};
+ghost use Rattle.std.specs.Prelude.{◌≡◌, ◌*◌, ◌%◌, ◌^◌, ◌<◌};
 ghost use Rattle.a64_memory.specs.Memory.{load8, load1, store8, store1};
-ghost use Rattle.a64_machine.specs.State.{read, read_or_sp};
+ghost use Rattle.a64_machine.specs.State.{place_at, read, read_or_sp};
 ghost use Rattle.a64_machine.specs.Effects.{goes, calls, goes_if, gives, gives_or_sp, gives_flags, loads, stores};
 ghost use Rattle.a64_machine.specs.View.{core_state, Told};
 
 use crate::answers::Step;
+use crate::code::CODE_BASE;
 use a64_instr::Reg;
 use a64_memory::{Region, load1, load8, store1, store8};
 use a64_numbers::Flags;
@@ -45,6 +46,14 @@ impl Core {
     {
         let n = n.get() as usize;
         if n == 31 { self.sp } else { self.registers[n] }
+    }
+
+    /// The number of the code word that is fetched next.
+    pub fn place(&self) -> u32
+        requires { place_at (core_state self.now).pc < 2 ^ 32 }
+        ensures { result ≡ place_at (core_state self.now).pc }
+    {
+        (self.pc.saturating_sub(CODE_BASE) / 4) as u32
     }
 
     /// Goes to an address.

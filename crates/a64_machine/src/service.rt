@@ -2,7 +2,8 @@
 
 ghost use Rattle.std.specs.Prelude.{◌≡◌, ◌≤◌, ◌-◌, ◌^◌, drop, slice_index_or};
 ghost use Rattle.outside.specs.Sink.{TookAll, TookFront, Faulted};
-ghost use Rattle.a64_machine.specs.Services.{service, writes, writes_text, text_at, takes_input};
+ghost use Rattle.a64_memory.specs.Texts.{text_at};
+ghost use Rattle.a64_machine.specs.Services.{service, writes, writes_text, takes_input};
 ghost use Rattle.a64_machine.specs.View.{core_state, Told};
 ghost use Rattle.a64_machine.specs.Answers.{Made};
 

@@ -3,7 +3,7 @@
 ghost use Rattle.std.specs.Prelude.{◌≡◌, ◌+◌, ◌-◌, ◌≤◌, ◌<◌, [], length, take, None, IfSome, IfNone, OnOk, OnErr};
 ghost use Rattle.outside.specs.Sink.{TookAll, TookFront, Faulted};
 ghost use Rattle.wrapping_numbers.specs.Numbers.{add64};
-ghost use Rattle.a64_machine.specs.Services.{Bytes, text_at, before, after_bytes};
+ghost use Rattle.a64_memory.specs.Texts.{Bytes, text_at, before, after_bytes};
 ghost use Rattle.a64_machine.specs.Answers.{OfBytes, Lacks};
 
 use a64_memory::{Region, load1};

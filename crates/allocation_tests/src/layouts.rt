@@ -57,7 +57,7 @@ fn blocks_by_number(rt: HostRuntime) -> Result<(), Fail> {
 
 #[test]
 fn constants_take_one_to_four_words(rt: HostRuntime) -> Result<(), Fail> {
-    assert_eq!(rt; operation_width(Code::Const(0)), 1);
-    assert_eq!(rt; operation_width(Code::Const(0x1234_5678_9abc_def0)), 4);
+    assert_eq!(rt; operation_width(0, Code::Const(0)), 1);
+    assert_eq!(rt; operation_width(0, Code::Const(0x1234_5678_9abc_def0)), 4);
     Ok(())
 }

@@ -1,3 +1,4 @@
 pub mod Ready
 pub mod Reading
 pub mod Batches
+pub mod Naming

@@ -1,6 +1,6 @@
 //! The image of procedures.
 
-ghost use Rattle.std.specs.Prelude.{◌≡◌, true, ℕ, ◌+◌, ◌<◌, ◌≤◌, ◌^◌, List, map, take, drop, All, IfOk, OnOk, IfErr};
+ghost use Rattle.std.specs.Prelude.{◌≡◌, true, ℕ, ◌+◌, ◌<◌, ◌≤◌, ◌^◌, List, length, map, take, drop, All, IfOk, OnOk, IfErr};
 ghost use Rattle.std.specs.Vec.Iter.{into_iter_items};
 ghost use Rattle.a64_select.specs.Selected.{selected};
 ghost use Rattle.lir_core.specs.Flows.{IsValidFlow};
@@ -21,7 +21,7 @@ use a64_select::select;
 use flow_allocation::{AllocatedFlows, Choice, Flow, allocate_flows};
 use image_form::Image;
 use items::Items;
-use link_plan::{Data, LinkFault, Plan, add_plans, image_of_plans};
+use link_plan::{ImageData, LinkFault, Plan, add_plans, image_of_plans};
 use outside::Gate;
 use ssa_core::Proc;
 use std::alloc::Global;
@@ -44,7 +44,7 @@ const ALONE: usize = 4;
 /// How many procedures each worker's share of a batch has where there are several, which begin anew with each batch.
 const SHARE: usize = 64;
 
-/// The image of procedures by their numbers: each one's flow in the traces of the builder that is chosen, the first of these with
+/// The image of procedures by their numbers, each of which has a name: each one's flow in the traces of the builder that is chosen, the first of these with
 /// the number behind those of the procedures before it, each with the final result by the policy, in lines with the moves of
 /// edges, linked. The workers of the choice share the traces, and whatever they do the image is the same; a worker passes the gate
 /// before it begins a trace. `Traces` comes exactly where there are over 262,144 traces, `Code` where there are not and the code is over
@@ -55,13 +55,14 @@ pub fn image_of<G: Gate, R: Threads + Wait + Sync>(
     alloc: Global,
     choice: &Choice,
     procedures: Items<Proc>,
-    extra: Data,
+    extra: ImageData,
     gate: &G,
 ) -> Result<LinkedProcedures, ImageFault>
     requires ready { All IsReady procedures }
     requires choice { IsFitChoice choice.now }
-    requires extra { DataFits extra.flags extra.globals extra.constants }
-    ensures image { IfOk result (IsImageBy choice.now procedures extra.flags extra.globals extra.constants) }
+    requires extra { DataFits extra }
+    requires names { length extra.names ≡ length procedures }
+    ensures image { IfOk result (IsImageBy choice.now procedures extra) }
     ensures form { IfOk result (λ linked. IsInForm linked.image) }
     ensures traces { IfErr result (λ fault. fault ≡ Traces → 262144 < traces_in choice.now.builder (map selected procedures)) }
     ensures code { IfErr result (λ fault. fault ≡ Code

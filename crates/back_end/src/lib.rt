@@ -11,5 +11,5 @@ pub use fault::ImageFault;
 pub use flow_allocation::{Builder, Choice, Flow, Policy};
 pub use image_form::Image;
 pub use imaging::{LinkedProcedures, image_of, select_all};
-pub use link_plan::Data;
+pub use link_plan::{ImageData, ProcName};
 pub use ssa_core::Proc;

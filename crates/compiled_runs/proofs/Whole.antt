@@ -1,40 +1,44 @@
 -- From a program's procedures to its image.
-use Rattle.std.proofs.Common.{◌≡◌, ℕ, suc, List, [], ◌∷◌, map, length, refl, sym, ap, subst, ◌∙◌, arith}
+use Rattle.std.proofs.Common.{◌≡◌, ℕ, suc, List, [], ◌∷◌, map, length, Some, refl, sym, ap, subst, ◌∙◌, arith}
 use Rattle.std.specs.Prelude.{All, ◌≤◌, ◌^◌}
 use Rattle.run_laws.specs.Runs.{Keeps}
 use Rattle.run_laws.specs.Layers.{Through}
 use Rattle.run_laws.proofs.Lowering.{Keeps-down, Keeps-same}
 use Rattle.image_form.specs.declared.image.Image.{Image}
+use Rattle.image_form.specs.Places.{place_before}
 use Rattle.a64_table.specs.Table.{word_of}
 use Rattle.a64_machine.specs.Machine.{start, system}
+use Rattle.a64_machine.specs.State as why
 use Rattle.block_runs.specs.Blocks.{Procedure}
-use Rattle.block_runs.specs.States.{Stop, State}
-use Rattle.block_runs.specs.First.{first_state}
+use Rattle.block_runs.specs.States.{Stop, Kind, State}
 use Rattle.block_runs.specs.Points.{least, all_points}
 use Rattle.block_runs.specs.Steps.{block_system}
 use Rattle.ob_types.specs.Meaning.{meaning}
+use Rattle.ob_types.specs.Store.{Kind as Trapping}
+use Rattle.ob_types.specs.declared.program.Procedure.{Procedure as Source}
 use Rattle.ob_types.specs.declared.program.Program.{Program}
 use Rattle.ssa_core.specs.declared.procedure.Proc.{Proc}
 use Rattle.ssa_core.specs.Procedures.{procedure, procedures}
 use Rattle.ssa_core.specs.Validity.{IsValid}
-use Rattle.ssa_lowered.specs.Lowered.{lowered}
+use Rattle.ssa_lowered.specs.Data.{Layout, in_cells}
+use Rattle.ssa_lowered.specs.Lowered.{procs_from, lowered}
 use Rattle.lir_core.specs.declared.flow.Flow.{Flow}
 use Rattle.lir_core.specs.Flows.{procedure as flow_procedure, procedures as flow_procedures}
 use Rattle.a64_select.specs.Selected.{selected}
 use Rattle.a64_select.specs.Carrying.{flow_points, SameState}
 use Rattle.a64_select.proofs.Selection.{carries_out, fits}
 use Rattle.placed_code.specs.Placed.{Placed}
-use Rattle.placed_code.specs.Layout.{entry, all_words}
-use Rattle.placed_code.specs.Claims.{sizes, code_places}
-use Rattle.placed_code.specs.Claims.{same_trap as breaks}
-use Rattle.placed_code.specs.Results.{placed, procedures_of}
+use Rattle.placed_code.specs.Layout.{all_words}
+use Rattle.placed_code.specs.Claims.{code_places, breaks_as}
+use Rattle.placed_code.specs.Results.{placed, procedures_of, begins_with}
 use Rattle.linked_flows.specs.Allocations.{Cut, steps_of, allocated, all_allocated}
 use Rattle.link_plan.specs.Linked.{Runs}
 use Rattle.lowered_runs.specs.Words.{same_trap}
-use Rattle.lowered_runs.specs.Claims.{CanRun, code_of, data_bytes}
+use Rattle.lowered_runs.specs.Claims.{CanRun, code_of, constants_of}
 use Rattle.lowered_runs.proofs.Programs.{keeps_up}
-use Rattle.compiled_runs.specs.Compiled.{flows_of, placed_of, IsImageOf, CanRunAnywhere, same_break, Means}
+use Rattle.compiled_runs.specs.Compiled.{flows_of, placed_of, data_of, IsImageOf, CanRunAnywhere, place_of, same_break, Means}
 use Rattle.compiled_runs.proofs.Places.{are_code_places}
+use Rattle.compiled_runs.proofs.Telling.{told}
 use Rattle.compiled_runs.proofs.Traps.{by_reason, keeps_sense, keeps_reason, in_step_back}
 
 length_map : {A B : Type 0} (f : A → B) (xs : List A) → length (map f xs) ≡ length xs
@@ -60,13 +64,18 @@ flows_are : (cuts : List Cut) → procedures_of (all_allocated cuts) ≡ flow_pr
 flows_are [] = refl
 flows_are (c ∷ cuts) = ap (λ fs. flow_procedure c.flow ∷ fs) (flows_are cuts)
 
-module _ (p : Program) (cuts : List Cut) (flags : ℕ) (constants : List ℕ) (image : Image) (input : List ℕ)
-    (is : IsImageOf p cuts flags constants image) (runs : Runs image cuts (data_bytes p) constants input) (valid : All IsValid (lowered p)) (can : CanRunAnywhere p input constants) where
+-- each procedure is lowered to one
+pub lowered_each : (p : Program) (l : Layout) (f : ℕ) (qs : List Source) → length (procs_from p l f qs) ≡ length qs
+lowered_each p l f [] = refl
+lowered_each p l f (q ∷ qs) = ap suc (lowered_each p l (suc f) qs)
+
+module _ (p : Program) (cuts : List Cut) (image : Image) (input : List ℕ)
+    (is : IsImageOf p cuts image) (runs : Runs image cuts (data_of p) input) (valid : All IsValid (lowered p)) (can : CanRunAnywhere p input) where
   abbrev ps : List Placed
   ps = placed_of cuts
 
   abbrev first : State
-  first = first_state (data_bytes p) constants input
+  first = begins_with (data_of p) input
 
   few : length (all_words ps) ≤ 2 ^ 18
   few = let a = ap (λ (i : Image). length i.code) is.is in let b = is.form.code in let c = length_map word_of (all_words ps) in omega (arith, a, b, c)
@@ -81,11 +90,11 @@ module _ (p : Program) (cuts : List Cut) (flags : ℕ) (constants : List ℕ) (i
       let f = length_map (placed steps_of) (all_allocated cuts) in
       omega (arith, a, b, c, d, e, f)
 
-  able : CanRun p input constants (code_places ps)
+  able : CanRun p input (constants_of p) (code_places ps)
   able = can (code_places ps) (are_code_places ps (length (code_of p)) count few)
 
   procedures_keep : (n : ℕ) → Keeps (block_system (code_of p) (code_places ps)) (least (code_of p)) (all_points (code_of p)) same_trap first n (meaning p input n)
-  procedures_keep n = keeps_up p input (code_places ps) constants n able.fine able.numbers able.places able.globals able.room able.bytes able.stands
+  procedures_keep n = keeps_up p input (code_places ps) (constants_of p) n able.fine able.numbers able.places able.globals able.room able.bytes able.stands
 
   flows_same : flow_procedures (flows_of p) ≡ procedures_of (all_allocated cuts)
   flows_same = sym (flows_are cuts ∙ ap flow_procedures is.flows)
@@ -97,10 +106,21 @@ module _ (p : Program) (cuts : List Cut) (flags : ℕ) (constants : List ℕ) (i
   kept : (n : ℕ) → KeptBy (procedures_of (all_allocated cuts)) n
   kept n = subst (λ fs. KeptBy fs n) flows_same (flows_keep (lowered p) (code_places ps) valid first (record { same = refl; inside = tt }) n (meaning p input n) (procedures_keep n))
 
+  -- as many procedures are placed as the program has
+  each : length ps ≡ length p.procedures
+  each = let a = lowered_each p (in_cells p.types) 0 p.procedures in let b = length_map procedure (lowered p) in omega (arith, a, b, count)
+
+  -- the image's places tell the procedure of a BRK
+  breaks_in : (k f : ℕ) (trap : why.Trap) → breaks_as ps (Kind k f) trap → same_break p ps image (Trapping k f) trap
+  breaks_in k f (why.Broke m place) h = (h, subst (λ (i : Image). place_before i.places place ≡ Some (place_of p ps f)) (sym is.is) (told p ps f place each h.1 h.2 h.3))
+  breaks_in k f (why.Undefined word) h = absurd h
+  breaks_in k f (why.BadAddress address) h = absurd h
+  breaks_in k f (why.BadCall number) h = absurd h
+
   pub means : Means p cuts image input
   means =
       let fs = procedures_of (all_allocated cuts) in
       let y = block_system fs (code_places ps) in
-      in_step_back (breaks (entry ps) (sizes ps)) (same_break ps) (λ k f b h. h) (system image) (length image.code) (start image input) (meaning p input)
+      in_step_back (breaks_as ps) (same_break p ps image) breaks_in (system image) (length image.code) (start image input) (meaning p input)
       (λ n. keeps_sense y (least fs) (all_points fs) first n (meaning p input n) (kept n))
       (runs (λ n. by_reason (meaning p input n)) (λ n. keeps_reason y (least fs) (all_points fs) first n (meaning p input n) (kept n)))

@@ -5,7 +5,7 @@ use Rattle.std.specs.Int.{w32, from_le_bytes}
 use Rattle.std.proofs.Math.Seq.{take-add}
 use Rattle.std.proofs.lemmas.Bool.{cases_lt}
 use Rattle.std.proofs.lemmas.Grind.{flat_map-append}
-use Rattle.std.proofs.lemmas.List.{append-nil, length-take-le, length-drop, get_or-drop, get_or-take, get_or_past, drop-drop}
+use Rattle.std.proofs.lemmas.List.{append-nil, take-append-drop, length-take-le, length-drop, get_or-drop, get_or-take, get_or_past, drop-drop}
 use Rattle.std.proofs.lemmas.Nat.{le_bytes_4, from_le_bytes-to_le_bytes_4}
 use Rattle.image_file.specs.Spelling.{number, AreWords}
 use Rattle.image_file.specs.Rules.{field}
@@ -33,6 +33,11 @@ pub number_back : (bytes : List ℕ) (at : ℕ) → AreBytes bytes → at + 4 �
 number_back bytes at fits long =
     le_bytes_4 (take 4 (drop at bytes)) (field bytes at) (length-take-le 4 (drop at bytes) (omega (arith, length-drop at bytes))) (AreBytes-take 4 (drop at bytes) (AreBytes-drop at bytes fits)) refl
 
+-- so it stands there, before what follows
+pub number_then : (bytes : List ℕ) (at : ℕ) → AreBytes bytes → at + 4 ≤ length bytes → drop at bytes ≡ number (field bytes at) ++ drop (at + 4) bytes
+number_then bytes at fits long =
+    sym (take-append-drop 4 (drop at bytes)) ∙ ap (λ (xs : List ℕ). xs ++ drop 4 (drop at bytes)) (sym (number_back bytes at fits long)) ∙ ap (λ (xs : List ℕ). number (field bytes at) ++ xs) (drop-drop 4 at bytes)
+
 -- and has 32 bits
 pub number_below : (bytes : List ℕ) (at : ℕ) → AreBytes bytes → field bytes at < 2 ^ 32
 number_below bytes at fits =
@@ -40,15 +45,15 @@ number_below bytes at fits =
     omega (arith, four 0, four 1, four 2, four 3)
 
 -- one number more
-pub numbers_more : (bytes : List ℕ) (code : List ℕ) (i : ℕ) → AreBytes bytes → (32 + 4 * i) + 4 ≤ length bytes → flat_map number code ≡ take (4 * i) (drop 32 bytes)
-    → flat_map number (code ++ field bytes (32 + 4 * i) ∷ []) ≡ take (4 * (i + 1)) (drop 32 bytes)
-numbers_more bytes code i fits long so_far =
-    flat_map-append number code (field bytes (32 + 4 * i) ∷ [])
-    ∙ ap (λ (xs : List ℕ). flat_map number code ++ xs) (append-nil (number (field bytes (32 + 4 * i))) ∙ number_back bytes (32 + 4 * i) fits long)
-    ∙ ap (λ (xs : List ℕ). xs ++ take 4 (drop (32 + 4 * i) bytes)) so_far
-    ∙ ap (λ (xs : List ℕ). take (4 * i) (drop 32 bytes) ++ take 4 xs) (sym (drop-drop (4 * i) 32 bytes))
-    ∙ sym (take-add (4 * i) 4 (drop 32 bytes))
-    ∙ ap (λ (k : ℕ). take k (drop 32 bytes)) (omega arith)
+pub numbers_more : (bytes : List ℕ) (from : ℕ) (code : List ℕ) (i : ℕ) → AreBytes bytes → (from + 4 * i) + 4 ≤ length bytes → flat_map number code ≡ take (4 * i) (drop from bytes)
+    → flat_map number (code ++ field bytes (from + 4 * i) ∷ []) ≡ take (4 * (i + 1)) (drop from bytes)
+numbers_more bytes from code i fits long so_far =
+    flat_map-append number code (field bytes (from + 4 * i) ∷ [])
+    ∙ ap (λ (xs : List ℕ). flat_map number code ++ xs) (append-nil (number (field bytes (from + 4 * i))) ∙ number_back bytes (from + 4 * i) fits long)
+    ∙ ap (λ (xs : List ℕ). xs ++ take 4 (drop (from + 4 * i) bytes)) so_far
+    ∙ ap (λ (xs : List ℕ). take (4 * i) (drop from bytes) ++ take 4 xs) (sym (drop-drop (4 * i) from bytes))
+    ∙ sym (take-add (4 * i) 4 (drop from bytes))
+    ∙ ap (λ (k : ℕ). take k (drop from bytes)) (omega arith)
 
 pub words_more : (code : List ℕ) (word : ℕ) → AreWords code → word < 2 ^ 32 → AreWords (code ++ word ∷ [])
 words_more [] word are below = (below, tt)
@@ -73,3 +78,8 @@ words_are_same (x ∷ xs) (y ∷ ys) are also same =
 pub words_fit : (xs : List ℕ) → ((i : ℕ) → get_or xs i 0 < 2 ^ 32) → AreWords xs
 words_fit [] fits = tt
 words_fit (x ∷ xs) fits = (fits 0, words_fit xs (λ i. fits (suc i)))
+
+-- a number has four bytes
+pub length_of_words : (code : List ℕ) → length (flat_map number code) ≡ 4 * length code
+length_of_words [] = refl
+length_of_words (word ∷ code) = omega (arith, length_of_words code)

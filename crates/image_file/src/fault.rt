@@ -9,7 +9,7 @@ use thiserror::Error;
 /// Why bytes are no image.
 #[derive(Clone, Copy, Debug, Error)]
 pub enum ImageFault {
-    /// The first rule that they break, 60 to 64, and the place of the byte at which they do; a file that is too short
+    /// The first rule that they break, 60 to 64 or 66, and the place of the byte at which they do; a file that is too short
     /// breaks its rule at its length.
     #[error("not an image: {number} at {at}")]
     Fault { number: u8, at: u32 },

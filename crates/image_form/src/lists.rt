@@ -2,6 +2,7 @@
 
 ghost use Rattle.std.specs.Prelude.{◌≡◌, List, ℕ};
 
+use crate::image::ProcPlace;
 use std::marker::Model;
 
 /// Code words.
@@ -72,6 +73,45 @@ impl Bytes {
         ensures { result.items ≡ self }
     {
         let Bytes { items } = self;
+        items
+    }
+}
+
+/// Places of procedures.
+#[derive(Drop)]
+pub struct ProcPlaces {
+    items: Vec<ProcPlace>,
+}
+
+impl Model for ProcPlaces {
+    ghost use Rattle.std.specs.Prelude.{List};
+    ghost use Rattle.image_form.specs.declared.image.ProcPlace.{ProcPlace};
+
+    ghost Value = { List ProcPlace };
+
+    ghost view = { λ p. p.items.items };
+}
+
+impl ProcPlaces {
+    /// These places.
+    pub fn new(items: Vec<ProcPlace>) -> Self
+        ensures { result ≡ items.items }
+    {
+        ProcPlaces { items }
+    }
+
+    /// The places, lent.
+    pub fn as_slice(&self) -> &[ProcPlace]
+        ensures { result.now ≡ self.now }
+    {
+        self.items.as_slice()
+    }
+
+    /// The places, given back.
+    pub fn into_vec(self) -> Vec<ProcPlace>
+        ensures { result.items ≡ self }
+    {
+        let ProcPlaces { items } = self;
         items
     }
 }

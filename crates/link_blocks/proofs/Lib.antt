@@ -4,3 +4,4 @@ pub mod Seats
 pub mod Nodes
 pub mod Along
 pub mod Made
+pub mod Outs

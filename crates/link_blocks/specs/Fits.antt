@@ -10,6 +10,10 @@ use Rattle.lir_core.specs.declared.flow.Lir.{Lir}
 use Rattle.lir_core.specs.declared.flow.Node.{Node}
 use Rattle.lir_core.specs.declared.places.TraceOut.{TraceOut}
 
+-- a call has 24 argument words at most, four of them in registers
+abbrev pub most_outs : ℕ
+most_outs = 20
+
 -- a number of 24 bits, a level of 12, one of 25 argument words, or a service of 16 bits
 abbrev pub number_fits : Code → Bool
 number_fits (Global n) = nat_lt n 16777216

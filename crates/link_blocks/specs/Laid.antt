@@ -11,7 +11,7 @@ use Rattle.boundary_resolve.specs.Placing.{placed_of, node_lines, registers_at}
 use Rattle.boundary_resolve.specs.Edges.{AreSound}
 use Rattle.placed_code.specs.Placed.{no_block}
 use Rattle.placed_code.specs.Placed as place
-use Rattle.placed_code.specs.Words.{slots_of}
+use Rattle.placed_code.specs.Words.{slots_of, most_slots}
 use Rattle.placed_code.specs.Results.{placed, placed_block}
 use Rattle.linked_flows.specs.Allocations.{Cut, steps_of, part_at, allocated}
 use Rattle.link_blocks.specs.Fits.{numbers_fit, registers_fit}
@@ -31,7 +31,7 @@ pub record Fits (c : Cut) : Type 0 where
   pub numbers : numbers_fit c.flow ≡ true
   pub registers : registers_fit c.outs ≡ true
   pub local_bytes : c.flow.local_bytes < 16777216
-  pub slots : slots_of (placed steps_of (allocated c)) ≤ 4075
+  pub slots : slots_of (placed steps_of (allocated c)) ≤ most_slots
   pub nodes : length c.flow.nodes < 4294967296
 
 -- the block of a number

@@ -33,11 +33,14 @@ use outside::Memory;
 use std::alloc::{AllocError, Global};
 
 /// The most slots of a frame.
-const MOST_SLOTS: usize = 4_075;
+const MOST_SLOTS: usize = 8_192;
+
+/// The most slots for arguments of calls.
+const MOST_OUTS: usize = 20;
 
 impl Plan {
     /// The plan of a procedure from its lines in code order, and the results of its traces. `Misfit` comes where a number
-    /// or a register fits no instruction, or a frame has over 4,075 slots.
+    /// or a register fits no instruction, or a frame has over 8,192 slots.
     pub fn of(
         alloc: Global,
         flow: &Flow,
@@ -50,7 +53,10 @@ impl Plan {
     {
         let nodes = flow.nodes.as_slice();
         let slots = slots_of(nodes);
-        if nodes.len() >= 4_294_967_296 || flow.local_bytes >= 16_777_216 || slots >= MOST_SLOTS {
+        if nodes.len() >= 4_294_967_296 || flow.local_bytes >= 16_777_216 {
+            return Err(PlanFault::Misfit);
+        }
+        if slots > MOST_OUTS {
             return Err(PlanFault::Misfit);
         }
         if !numbers_fit(flow) || !registers_fit(outs) {

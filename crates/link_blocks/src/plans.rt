@@ -1,7 +1,8 @@
 //! Procedures in blocks of cells.
 
 ghost use Rattle.std.specs.Prelude.{◌≡◌, ◌+◌, ◌<◌, ◌≤◌, ◌^◌, IsTrue, length};
-ghost use Rattle.link_blocks.specs.Fits.{number_fits};
+ghost use Rattle.placed_code.specs.Words.{most_slots};
+ghost use Rattle.link_blocks.specs.Fits.{number_fits, most_outs};
 
 use a64_instr::Reg;
 use items::Items;
@@ -30,7 +31,7 @@ pub struct Block {
 }
 
 /// A procedure: its frame, the values with a home, the copies at its entry, its blocks by number, and their numbers in the
-/// order of their code. A frame has at most 4,075 slots, so that loads reach it and the argument words behind it.
+/// order of their code. A frame has at most 8,192 slots, as an image's may.
 #[derive(Drop)]
 pub struct Plan {
     pub frame: Frame,
@@ -39,7 +40,8 @@ pub struct Plan {
     pub blocks: Items<Block>,
     pub order: Items<u32>,
     ghost slots: { frame.slots ≡ frame.outs + (1 + length homes) },
-    ghost few_slots: { frame.slots ≤ 4075 },
+    ghost few_slots: { frame.slots ≤ most_slots },
+    ghost few_outs: { frame.outs ≤ most_outs },
     ghost few_bytes: { frame.bytes < 2 ^ 24 },
     ghost few_blocks: { length blocks < 2 ^ 32 },
 }

@@ -1,6 +1,6 @@
 -- Homes and ranks: the table, the list of all copies, and the words of copies.
 use Rattle.std.proofs.Common.{◌≡◌, ℕ, suc, ◌+◌, ◌<◌, Bool, true, false, cond, List, [], ◌∷◌, ◌++◌, length, drop, get_or, Option, Some, None, refl, arith, sym, ap, ap₂, ◌∙◌, length-append}
-use Rattle.std.specs.Prelude.{◌==◌, nat_lt, is_some}
+use Rattle.std.specs.Prelude.{◌==◌, nat_lt, if◌then◌else◌}
 use Rattle.std.specs.Ordering.{nat_cmp, is_eq}
 use Rattle.std.specs.Cmp.{nat_cmp_is}
 use Rattle.std.specs.declared.cmp.Ordering.TheVariants.{Less, Equal, Greater}
@@ -13,12 +13,13 @@ use Rattle.block_runs.specs.Live.{has}
 use Rattle.lir_core.specs.Spots.{Spot, reg, home, out, target, saved}
 use Rattle.loc_state.specs.Homed.{inserted}
 use Rattle.placed_code.specs.Placed.{Copy, Cell, Block, Placed}
-use Rattle.placed_code.specs.Words.{where_is, copy_word, copies_words, slot_of, move_between, Where, InReg, InSlot}
+use Rattle.placed_code.specs.Words.{where_is, copy_word, copies_words, slot_of, is_near, load_slot, store_slot, move_between, Where, InReg, InSlot}
 use Rattle.placed_code.specs.Layout.{position}
+use Rattle.placed_code.proofs.Slots.{load_size, store_size}
 use Rattle.placed_code.specs.Results.{insert, with_home, with_copies, with_cells, with_blocks, homes_of, rank_in}
 use Rattle.link_layout.specs.declared.copies.Room.{Room}
-use Rattle.link_layout.specs.declared.copies.Room.TheVariants.{Register, Slot, Nowhere}
-use Rattle.link_layout.specs.Spots.{cell_copies, block_copies, all_copies, room_of, width_between, widths_of_copies, IsFrameOf}
+use Rattle.link_layout.specs.declared.copies.Room.TheVariants.{Register, Near, Far, Nowhere}
+use Rattle.link_layout.specs.Spots.{cell_copies, block_copies, all_copies, slot_room, home_room, room_of, width_between, widths_of_copies, IsFrameOf}
 
 ---- One list of copies
 
@@ -96,31 +97,51 @@ ranks_more xs i j x before after h is l at puts v =
 abbrev room_at : Option Where → Room
 room_at None = Nowhere
 room_at (Some (InReg r)) = Register
-room_at (Some (InSlot s)) = Slot
+room_at (Some (InSlot j)) = slot_room j
+
+to_slot : (near : Bool) → (if near then 1 else 2) ≡ width_between (if near then Near else Far) Register
+to_slot true = refl
+to_slot false = refl
+
+from_slot : (near : Bool) → (if near then 1 else 2) ≡ width_between Register (if near then Near else Far)
+from_slot true = refl
+from_slot false = refl
+
+both_slots : (to from : Bool) → (if from then 1 else 2) + (if to then 1 else 2) ≡ width_between (if to then Near else Far) (if from then Near else Far)
+both_slots true true = refl
+both_slots true false = refl
+both_slots false true = refl
+both_slots false false = refl
+
+nowhere_from : (r : Room) → 0 ≡ width_between r Nowhere
+nowhere_from Register = refl
+nowhere_from Near = refl
+nowhere_from Far = refl
+nowhere_from Nowhere = refl
 
 words_between : (to from : Option Where) → length (move_between to from) ≡ width_between (room_at to) (room_at from)
 words_between None from = refl
 words_between (Some (InReg d)) None = refl
-words_between (Some (InSlot d)) None = refl
+words_between (Some (InSlot i)) None = nowhere_from (slot_room i)
 words_between (Some (InReg d)) (Some (InReg s)) = refl
-words_between (Some (InReg d)) (Some (InSlot s)) = refl
-words_between (Some (InSlot d)) (Some (InReg s)) = refl
-words_between (Some (InSlot d)) (Some (InSlot s)) = refl
+words_between (Some (InReg d)) (Some (InSlot j)) = load_size d j ∙ from_slot (is_near j)
+words_between (Some (InSlot i)) (Some (InReg s)) = store_size s i ∙ to_slot (is_near i)
+words_between (Some (InSlot i)) (Some (InSlot j)) = length-append (load_slot 17 j) (store_slot 17 i) ∙ ap₂ (λ m n. m + n) (load_size 17 j) (store_size 17 i) ∙ both_slots (is_near i) (is_near j)
 
 rooms_are : (homes : List ℕ) (outs : ℕ) (pr : Placed) → IsFrameOf homes outs pr → (p : Spot) → room_at (where_is pr p) ≡ room_of homes outs p
 rooms_are homes outs pr is (reg r) = at_test (nat_lt r 16)
   where
-    at_test : (b : Bool) → room_at (Rattle.std.specs.Prelude.if◌then◌else◌ b (Some (InReg r)) None) ≡ Rattle.std.specs.Prelude.if◌then◌else◌ b Register Nowhere
+    at_test : (b : Bool) → room_at (if b then Some (InReg r) else None) ≡ (if b then Register else Nowhere)
     at_test true = refl
     at_test false = refl
-rooms_are homes outs pr is (home v) = at_rank (pr.rank v) ∙ ap (λ (f : ℕ → Option ℕ). Rattle.link_layout.specs.Spots.slot_if (is_some (f v))) is.rank_is
+rooms_are homes outs pr is (home v) = at_rank (pr.rank v) ∙ ap₂ (λ (n : ℕ) (f : ℕ → Option ℕ). home_room n (f v)) is.outs_are is.rank_is
   where
-    at_rank : (o : Option ℕ) → room_at (slot_of pr.outs o) ≡ Rattle.link_layout.specs.Spots.slot_if (is_some o)
+    at_rank : (o : Option ℕ) → room_at (slot_of pr.outs o) ≡ home_room pr.outs o
     at_rank None = refl
     at_rank (Some j) = refl
-rooms_are homes outs pr is (out s) = at_test (nat_lt s pr.outs) ∙ ap (λ n. Rattle.link_layout.specs.Spots.slot_if (nat_lt s n)) is.outs_are
+rooms_are homes outs pr is (out s) = at_test (nat_lt s pr.outs) ∙ ap (λ n. if (nat_lt s n) then slot_room s else Nowhere) is.outs_are
   where
-    at_test : (b : Bool) → room_at (Rattle.std.specs.Prelude.if◌then◌else◌ b (Some (InSlot s)) None) ≡ Rattle.link_layout.specs.Spots.slot_if b
+    at_test : (b : Bool) → room_at (if b then Some (InSlot s) else None) ≡ (if b then slot_room s else Nowhere)
     at_test true = refl
     at_test false = refl
 rooms_are homes outs pr is target = refl

@@ -1,15 +1,16 @@
 -- Spots and copies as placed code has them, and what room they take.
-use Rattle.std.specs.Prelude.{◌≡◌, ℕ, ◌+◌, nat_lt, List, [], ◌∷◌, ◌++◌, Bool, is_some, if◌then◌else◌}
+use Rattle.std.specs.Prelude.{◌≡◌, ℕ, suc, ◌+◌, nat_lt, List, [], ◌∷◌, ◌++◌, Option, Some, None, if◌then◌else◌}
 use Rattle.lir_core.specs.Spots.{reg, home, out, target, saved}
 use Rattle.lir_core.specs.Spots as lir
 use Rattle.placed_code.specs.Placed.{Cell, Block, Placed}
 use Rattle.placed_code.specs.Placed as place
+use Rattle.placed_code.specs.Words.{is_near}
 use Rattle.placed_code.specs.Results.{rank_in}
 use Rattle.link_layout.specs.declared.copies.Spot.{Spot}
 use Rattle.link_layout.specs.declared.copies.Spot.TheVariants.{Reg, Home, Out, Target, Saved}
 use Rattle.link_layout.specs.declared.copies.Copy.{Copy}
 use Rattle.link_layout.specs.declared.copies.Room.{Room}
-use Rattle.link_layout.specs.declared.copies.Room.TheVariants.{Register, Slot, Nowhere}
+use Rattle.link_layout.specs.declared.copies.Room.TheVariants.{Register, Near, Far, Nowhere}
 
 abbrev pub spot_of : Spot → lir.Spot
 spot_of (Reg r) = reg r
@@ -41,25 +42,33 @@ all_copies first blocks = first ++ block_copies blocks
 
 ---- The room of a spot
 
-abbrev pub slot_if : Bool → Room
-slot_if b = if b then Slot else Nowhere
+abbrev pub slot_room : ℕ → Room
+slot_room j = if is_near j then Near else Far
+
+-- of a home by its rank, behind so many slots for arguments and the link
+abbrev pub home_room : ℕ → Option ℕ → Room
+home_room outs None = Nowhere
+home_room outs (Some j) = slot_room (outs + suc j)
 
 abbrev pub room_of : List ℕ → ℕ → lir.Spot → Room
 room_of homes outs (reg r) = if nat_lt r 16 then Register else Nowhere
-room_of homes outs (home v) = slot_if (is_some (rank_in homes v))
-room_of homes outs (out s) = slot_if (nat_lt s outs)
+room_of homes outs (home v) = home_room outs (rank_in homes v)
+room_of homes outs (out s) = if nat_lt s outs then slot_room s else Nowhere
 room_of homes outs target = Register
 room_of homes outs saved = Register
 
--- a word for each copy between two of them, but two between slots
+-- how many words reach a slot's room
+abbrev pub words_to : Room → ℕ
+words_to Near = 1
+words_to Far = 2
+words_to _ = 0
+
+-- a word between registers, and else as many as reach the slots
 abbrev pub width_between : Room → Room → ℕ
 width_between Nowhere _ = 0
-width_between Register Nowhere = 0
+width_between to Nowhere = 0
 width_between Register Register = 1
-width_between Register Slot = 1
-width_between Slot Nowhere = 0
-width_between Slot Register = 1
-width_between Slot Slot = 2
+width_between to from = words_to to + words_to from
 
 abbrev pub widths_of_copies : List ℕ → ℕ → List place.Copy → ℕ
 widths_of_copies homes outs [] = 0

@@ -1,14 +1,15 @@
 //! Copies between the spots of a frame, and how many words they have.
 
-ghost use Rattle.std.specs.Prelude.{◌≡◌, ℕ, ◌<◌, ◌≤◌, ◌+◌, ◌^◌, List, [], ◌∷◌, map, length, IfOk, IfErr};
+ghost use Rattle.std.specs.Prelude.{◌≡◌, ℕ, ◌<◌, ◌≤◌, ◌+◌, ◌^◌, List, [], ◌∷◌, map, length, Some, IfOk, IfErr};
 ghost use Rattle.placed_code.specs.Placed.{Placed};
 ghost use Rattle.placed_code.specs.Words.{copies_words};
-ghost use Rattle.link_layout.specs.Spots.{spot_of, copy_of, IsFrameOf, room_of, widths_of_copies, width_between};
+ghost use Rattle.link_layout.specs.Spots.{spot_of, copy_of, IsFrameOf, room_of, home_room, slot_room, words_to, widths_of_copies, width_between};
 ghost use Rattle.link_layout.specs.declared.fault.LayoutFault.TheVariants.{Limit, Memory};
 
 use crate::fault::LayoutFault;
 use crate::homes::Ranks;
 use crate::starting::behind;
+use link_words::is_near;
 
 /// Where a copy takes a number or puts it: a register, the home that the value of that number has, a slot for an argument of a
 /// call, X25, or X16.
@@ -28,11 +29,12 @@ pub struct Copy {
     pub from: Spot,
 }
 
-/// Whether a spot is a register, a slot, or neither.
+/// Whether a spot is a register, a slot that one word reaches, one that two words reach, or none of these.
 #[derive(Clone, Copy)]
 pub(crate) enum Room {
     Register,
-    Slot,
+    Near,
+    Far,
     Nowhere,
 }
 
@@ -76,7 +78,7 @@ fn sum_of_widths(homes: &Ranks, outs: u32, copies: &[Copy]) -> Result<u32, Layou
 /// How many words a copy has.
 fn copy_width(homes: &Ranks, outs: u32, copy: Copy) -> u32
     ensures width { result ≡ widths_of_copies homes.now outs (copy_of copy ∷ []) }
-    ensures most { result ≤ 2 }
+    ensures most { result ≤ 4 }
 {
     between(
         room_for(homes, outs, copy.to),
@@ -86,13 +88,25 @@ fn copy_width(homes: &Ranks, outs: u32, copy: Copy) -> u32
 
 fn between(to: Room, from: Room) -> u32
     ensures width { result ≡ width_between to from }
-    ensures most { result ≤ 2 }
+    ensures most { result ≤ 4 }
 {
     match (to, from) {
         (Room::Nowhere, _) => 0,
         (_, Room::Nowhere) => 0,
-        (Room::Slot, Room::Slot) => 2,
-        _ => 1,
+        (Room::Register, Room::Register) => 1,
+        _ => words_to(to) + words_to(from),
+    }
+}
+
+/// How many words reach a slot.
+fn words_to(room: Room) -> u32
+    ensures width { result ≡ words_to room }
+    ensures most { result ≤ 2 }
+{
+    match room {
+        Room::Near => 1,
+        Room::Far => 2,
+        _ => 0,
     }
 }
 
@@ -102,11 +116,26 @@ fn room_for(homes: &Ranks, outs: u32, spot: Spot) -> Room
     match spot {
         Spot::Reg(number) if number < 16 => Room::Register,
         Spot::Reg(_) => Room::Nowhere,
-        Spot::Home(value) if homes.rank(value).is_some() => Room::Slot,
-        Spot::Home(_) => Room::Nowhere,
-        Spot::Out(slot) if slot < outs => Room::Slot,
+        Spot::Home(value) => match homes.rank(value) {
+            Some(rank) => home_room(outs, rank),
+            None => Room::Nowhere,
+        },
+        Spot::Out(slot) if slot < outs => slot_room(slot as usize),
         Spot::Out(_) => Room::Nowhere,
         Spot::Target => Room::Register,
         Spot::Saved => Room::Register,
     }
+}
+
+/// The room of a home by its rank, behind so many slots for arguments and the link.
+fn home_room(outs: u32, rank: usize) -> Room
+    ensures { result ≡ home_room outs (Some rank) }
+{
+    slot_room((outs as usize + 1).saturating_add(rank))
+}
+
+fn slot_room(slot: usize) -> Room
+    ensures { result ≡ slot_room slot }
+{
+    if is_near(slot) { Room::Near } else { Room::Far }
 }

@@ -20,4 +20,4 @@ pub use frames::{end_width, epilogue_width, prologue_width};
 pub use homes::Ranks;
 pub use laws::homes_are_those_of_copies;
 pub use starting::entries;
-pub use widths::{copy_width, operation_width};
+pub use widths::operation_width;

@@ -1,18 +1,17 @@
-//! How many words operations and copies have.
+//! How many words operations have.
 
 ghost use Rattle.std.specs.Prelude.{◌≡◌, ◌≤◌, ◌+◌, [], ◌∷◌, map, length};
 ghost use Rattle.a64_numbers.specs.Moves.{given, constant_moves};
-ghost use Rattle.placed_code.specs.Words.{move, move_word};
+ghost use Rattle.placed_code.specs.Words.{load_slot, move_word};
 ghost use Rattle.placed_code.specs.Layout.{op_width};
-ghost use Rattle.link_words.specs.Frames.{where_of};
 
 use a64_numbers::{Move, constant_moves};
 use block_runs::Code;
-use link_words::Where;
+use link_words::is_near;
 
-/// How many words an operation has.
-pub fn operation_width(code: Code) -> u32
-    ensures { result ≡ op_width code }
+/// How many words an operation has, in a frame of so many slots.
+pub fn operation_width(slots: u32, code: Code) -> u32
+    ensures { result ≡ op_width slots code }
 {
     match code {
         Code::Const(number) => constant_width(number),
@@ -20,7 +19,7 @@ pub fn operation_width(code: Code) -> u32
         Code::Local(_) => 2,
         Code::Plus(_) => 2,
         Code::Code(_) => 2,
-        Code::Arg(_) => 1,
+        Code::Arg(word) => load_width(slots as usize + word.saturating_sub(4) as usize),
         Code::Load => 1,
         Code::Store => 1,
         Code::LoadByte => 1,
@@ -68,16 +67,11 @@ pub fn operation_width(code: Code) -> u32
     }
 }
 
-/// How many words a copy has.
-pub fn copy_width(to: Where, from: Where) -> u32
-    ensures { result ≡ length (move (where_of to) (where_of from)) }
+/// How many words load a register from a slot.
+fn load_width(slot: usize) -> u32
+    ensures { result ≡ length (load_slot 0 slot) }
 {
-    match (to, from) {
-        (Where::InReg(_), Where::InReg(_)) => 1,
-        (Where::InReg(_), Where::InSlot(_)) => 1,
-        (Where::InSlot(_), Where::InReg(_)) => 1,
-        (Where::InSlot(_), Where::InSlot(_)) => 2,
-    }
+    if is_near(slot) { 1 } else { 2 }
 }
 
 /// How many words make a number in a register, of which there are at most four.

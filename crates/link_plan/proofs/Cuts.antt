@@ -9,7 +9,7 @@ use Rattle.lir_core.specs.declared.places.TraceOut.{TraceOut}
 use Rattle.boundary_resolve.specs.declared.code_line.CodeLine.{CodeLine}
 use Rattle.boundary_resolve.specs.Placing.{placed_of}
 use Rattle.placed_code.specs.Placed.{Placed, proc_of}
-use Rattle.placed_code.specs.Words.{frame_of}
+use Rattle.placed_code.specs.Words.{frame_of, most_frame}
 use Rattle.placed_code.specs.Results.{placed, all_placed}
 use Rattle.linked_flows.specs.Allocations.{Cut, steps_of, allocated, all_allocated}
 use Rattle.link_blocks.specs.Fits.{numbers_fit}
@@ -107,7 +107,7 @@ frames_fit (d ∷ cuts) (suc q) c rest e =
     let m = (le_max (frame_of (placed steps_of (allocated d))) (greatest_frame (all_placed steps_of (all_allocated cuts)))).1 in
     omega (arith, r, m)
 
-pub all_low : (k : ℕ) → k ≤ 16 → (cuts : List Cut) → AllAllocated k cuts → list_all (λ f. numbers_fit f) (map (λ (c : Cut). c.flow) cuts) ≡ true → greatest_frame (all_placed steps_of (all_allocated cuts)) ≤ 32600
+pub all_low : (k : ℕ) → k ≤ 16 → (cuts : List Cut) → AllAllocated k cuts → list_all (λ f. numbers_fit f) (map (λ (c : Cut). c.flow) cuts) ≡ true → greatest_frame (all_placed steps_of (all_allocated cuts)) ≤ most_frame
     → AllLow (all_placed steps_of (all_allocated cuts))
 all_low k few [] each numbers fits = tt
 all_low k few (c ∷ cuts) each numbers fits =

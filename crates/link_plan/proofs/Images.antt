@@ -7,19 +7,13 @@ use Rattle.a64_table.specs.Table.{word_of}
 use Rattle.a64_runtime.specs.Routines.{routines}
 use Rattle.block_runs.specs.Blocks.{bodies, bodies_from}
 use Rattle.placed_code.specs.Placed.{Placed, procedures}
-use Rattle.placed_code.specs.Words.{depth_words, frame_words, local_words, frame_of}
 use Rattle.placed_code.specs.Layout.{proc_width, proc_words, start_words, body_count, procedures_at, all_words, entry}
 use Rattle.placed_code.proofs.Linking.{all_size}
+use Rattle.placed_code.proofs.Rising.{wide}
 use Rattle.link_plan.specs.Parts.{entry_at}
 use Rattle.link_plan.specs.Written.{EntriesAre}
 use Rattle.link_plan.proofs.Rows.{then, longer}
 use Rattle.link_plan.proofs.Same.{start_is}
-
--- a procedure has three words at least
-wide : (p : ℕ) (pr : Placed) → 3 ≤ proc_width p pr
-wide p pr =
-    let a = length-append (depth_words pr.counted) (frame_words (frame_of pr) pr.outs ++ local_words pr.cells pr.bytes) in
-    omega (arith, a)
 
 whole_wide : (j : ℕ) (ps : List Placed) → 3 * length ps ≤ whole_width proc_width j ps
 whole_wide j [] = omega arith
@@ -70,6 +64,9 @@ module _ (ps : List Placed) (entries : List ℕ) (w0 w1 w2 : List ℕ) (none : w
 
   pub all_near : (w3 : List ℕ) → length w3 ≡ length w2 + whole_width proc_width 0 ps → length (all_words ps) ≤ 2 ^ 18 → length w3 ≤ 2 ^ 18
   all_near w3 e l = let s = all_size ps in let n = procedures_next in omega (arith, s, n, l, e)
+
+  pub all_written : (w3 : List ℕ) → length w3 ≡ length w2 + whole_width proc_width 0 ps → length w3 ≡ length (all_words ps)
+  all_written w3 e = let s = all_size ps in let n = procedures_next in omega (arith, s, n, e)
 
   pub some_code : (w3 : List ℕ) → length w3 ≡ length w2 + whole_width proc_width 0 ps → 1 ≤ length w3
   some_code w3 e = let n = procedures_next in omega (arith, n, e)

@@ -13,7 +13,7 @@ use Rattle.a64_numbers.specs.Conditions.{opposite}
 use Rattle.a64_instr.specs.declared.instr.Cond.{Cond}
 use Rattle.a64_instr.specs.declared.instr.Cond.TheVariants as is
 use Rattle.a64_instr.specs.declared.instr.Instr.{Instr}
-use Rattle.a64_instr.specs.declared.instr.Instr.TheVariants.{Bl, Svc, AddImm, SubImm}
+use Rattle.a64_instr.specs.declared.instr.Instr.TheVariants.{Bl, Svc, AddImm, SubImm, Ldr, Str}
 use Rattle.a64_table.specs.Table.{Field, AllFit, InRange, row_of, cond_number}
 use Rattle.a64_table.specs.Decode.{cond_of}
 use Rattle.a64_machine.specs.State.{address_of}
@@ -25,7 +25,8 @@ use Rattle.block_runs.specs.declared.end.End.TheVariants.{Return, Jump, Branch, 
 use Rattle.block_runs.specs.Blocks.{bodies}
 use Rattle.lir_core.specs.Spots.{Spot, reg, home, out, target, saved}
 use Rattle.placed_code.specs.Placed.{Copy, Cell, Block, Placed, block_of, procedures, use_register, def_register}
-use Rattle.placed_code.specs.Words.{Where, InReg, InSlot, slot_of, where_is, move, move_between, copy_word, copies_words, slots_of, frame_of, move_word, op_words, depth_words, frame_words, count_words, taking, room_words, data_words, local_words, prologue, unframe_words, giving, unroom_words, undata_words, unlocal_words, undepth_words, epilogue, jump_words, turned, branch_words, nonzero_words, result_words, last_words}
+use Rattle.link_blocks.specs.Fits.{most_outs}
+use Rattle.placed_code.specs.Words.{Where, InReg, InSlot, slot_of, where_is, near_slots, is_near, page_slots, page_word, load_slot, store_slot, move, move_between, copy_word, copies_words, slots_of, frame_of, most_slots, move_word, op_words, depth_words, frame_words, count_words, taking, room_words, data_words, local_words, prologue, unframe_words, giving, unroom_words, undata_words, unlocal_words, undepth_words, epilogue, jump_words, turned, branch_words, nonzero_words, result_words, last_words}
 use Rattle.placed_code.specs.Layout.{cell_width, block_width, proc_width, front_width, Placing, placings, zero_first, own_words, cell_words, end_words, block_words, front_words, proc_words, start_words, all_words, entry, routines_at, procedures_at, place}
 use Rattle.placed_code.specs.Claims.{AllInRange}
 use Rattle.link_blocks.specs.Fits.{number_fits, trap_fits}
@@ -138,7 +139,7 @@ abbrev NumberLow : ℕ → Code → Type 0
 NumberLow slots (o.Global n) = n < 2 ^ 24
 NumberLow slots (o.Local n) = n < 2 ^ 24
 NumberLow slots (o.Plus n) = n < 2 ^ 24
-NumberLow slots (o.Arg n) = slots + (n - 4) < 2 ^ 12
+NumberLow slots (o.Arg n) = slots + (n - 4) < 2 ^ 21
 NumberLow slots (o.IsPtr j) = j < 2 ^ 12
 NumberLow slots (o.IsTag j) = j < 2 ^ 12
 NumberLow slots (o.GuardPtr j) = j < 2 ^ 12
@@ -146,7 +147,7 @@ NumberLow slots (o.GuardTag j) = j < 2 ^ 12
 NumberLow slots (o.Svc n) = n < 2 ^ 16
 NumberLow slots _ = Unit {0}
 
-number_low : (slots : ℕ) (code : Code) → slots ≤ 4075 → number_fits code ≡ true → NumberLow slots code
+number_low : (slots : ℕ) (code : Code) → slots ≤ most_slots → number_fits code ≡ true → NumberLow slots code
 number_low slots (o.Global n) few e = ltb-true n 16777216 e
 number_low slots (o.Local n) few e = ltb-true n 16777216 e
 number_low slots (o.Plus n) few e = ltb-true n 16777216 e
@@ -158,13 +159,35 @@ number_low slots (o.GuardTag j) few e = ltb-true j 4096 e
 number_low slots (o.Svc n) few e = ltb-true n 65536 e
 number_low slots code few e = tt
 
+---- Slots
+
+page_low : (j : ℕ) → j < 2 ^ 21 → j / page_slots < 2 ^ 12
+page_low j l = omega (arith, l)
+
+in_page : (j : ℕ) → j % page_slots < 2 ^ 12
+in_page j = omega arith
+
+load_in_table : (d j : ℕ) → d < 2 ^ 5 → j < 2 ^ 21 → AllInRange (load_slot d j)
+load_in_table d j l m = by_reach (is_near j) refl
+  where
+    by_reach : (b : Bool) → is_near j ≡ b → AllInRange (if b then (Ldr d 31 j ∷ []) else (page_word j ∷ Ldr d 26 (j % page_slots) ∷ []))
+    by_reach true e = ((l, (lit< tt, (ltb-true j near_slots e, tt))), tt)
+    by_reach false e = ((lit< tt, (lit< tt, (page_low j m, (lit< tt, tt)))), ((l, (lit< tt, (in_page j, tt))), tt))
+
+store_in_table : (s j : ℕ) → s < 2 ^ 5 → j < 2 ^ 21 → AllInRange (store_slot s j)
+store_in_table s j l m = by_reach (is_near j) refl
+  where
+    by_reach : (b : Bool) → is_near j ≡ b → AllInRange (if b then (Str s 31 j ∷ []) else (page_word j ∷ Str s 26 (j % page_slots) ∷ []))
+    by_reach true e = ((l, (lit< tt, (ltb-true j near_slots e, tt))), tt)
+    by_reach false e = ((lit< tt, (lit< tt, (page_low j m, (lit< tt, tt)))), ((l, (lit< tt, (in_page j, tt))), tt))
+
 op_in_table : (entry : ℕ → ℕ) (start slots k : ℕ) (code : Code) (a b c d : ℕ) → AreLow a b c d → NumberLow slots code → AllInRange (op_words entry start slots k code a b c d)
 op_in_table entry start slots k (o.Const n) a b c d r fit = constant_in_table d n r.d
 op_in_table entry start slots k (o.Global n) a b c d r fit = let n_low : n < 2 ^ 24 = fit in ((r.d, (lit< tt, (high n_low, (lit< tt, tt)))), ((r.d, (r.d, (low n, (lit< tt, tt)))), tt))
 op_in_table entry start slots k (o.Local n) a b c d r fit = let n_low : n < 2 ^ 24 = fit in ((r.d, (lit< tt, (high n_low, (lit< tt, tt)))), ((r.d, (r.d, (low n, (lit< tt, tt)))), tt))
 op_in_table entry start slots k (o.Plus n) a b c d r fit = let n_low : n < 2 ^ 24 = fit in ((r.d, (r.a, (high n_low, (lit< tt, tt)))), ((r.d, (r.d, (low n, (lit< tt, tt)))), tt))
 op_in_table entry start slots k (o.Code p) a b c d r fit = ((r.d, (half_low (address_of (entry p)) 0, (lit< tt, tt))), ((r.d, (half_low (address_of (entry p)) 1, (lit< tt, tt))), tt))
-op_in_table entry start slots k (o.Arg n) a b c d r fit = let n_low : slots + (n - 4) < 2 ^ 12 = fit in ((r.d, (lit< tt, (n_low, tt))), tt)
+op_in_table entry start slots k (o.Arg n) a b c d r fit = load_in_table d (slots + (n - 4)) r.d fit
 op_in_table entry start slots k o.Load a b c d r fit = ((r.d, (r.a, (lit< tt, tt))), tt)
 op_in_table entry start slots k o.Store a b c d r fit = ((r.b, (r.a, (lit< tt, tt))), tt)
 op_in_table entry start slots k o.LoadByte a b c d r fit = ((r.d, (r.a, (lit< tt, tt))), tt)
@@ -215,24 +238,25 @@ op_in_table entry start slots k (o.Svc n) a b c d r fit = let n_low : n < 2 ^ 16
 abbrev WhereLow : Option Where → Type 0
 WhereLow None = Unit {0}
 WhereLow (Some (InReg r)) = r < 2 ^ 5
-WhereLow (Some (InSlot j)) = j < 2 ^ 12
+WhereLow (Some (InSlot j)) = j < 2 ^ 21
 
 between_low : (to from : Option Where) → WhereLow to → WhereLow from → AllInRange (move_between to from)
 between_low None from l m = tt
 between_low (Some to) None l m = tt
 between_low (Some (InReg d)) (Some (InReg s)) l m = ((l, (lit< tt, (lit< tt, (m, (lit< tt, tt))))), tt)
-between_low (Some (InReg d)) (Some (InSlot j)) l m = ((l, (lit< tt, (m, tt))), tt)
-between_low (Some (InSlot j)) (Some (InReg s)) l m = ((m, (lit< tt, (l, tt))), tt)
-between_low (Some (InSlot j)) (Some (InSlot i)) l m = ((lit< tt, (lit< tt, (m, tt))), ((lit< tt, (lit< tt, (l, tt))), tt))
+between_low (Some (InReg d)) (Some (InSlot j)) l m = load_in_table d j l m
+between_low (Some (InSlot j)) (Some (InReg s)) l m = store_in_table s j m l
+between_low (Some (InSlot j)) (Some (InSlot i)) l m = in_append (load_slot 17 i) (store_slot 17 j) (load_in_table 17 i (lit< tt) m) (store_in_table 17 j (lit< tt) l)
 
--- a frame that loads reach
+-- a frame whose slots loads reach, and its link one word
 pub record FrameLow (pr : Placed) : Type 0 where
-  pub slots : slots_of pr ≤ 4075
+  pub slots : slots_of pr ≤ most_slots
+  pub outs : pr.outs ≤ most_outs
   pub ranks : (v j : ℕ) → pr.rank v ≡ Some j → j < pr.homes
   pub bytes : pr.bytes < 2 ^ 24
 
 module _ (pr : Placed) (f : FrameLow pr) where
-  few : pr.outs + (1 + pr.homes) ≤ 4075
+  few : pr.outs + (1 + pr.homes) ≤ most_slots
   few = f.slots
 
   where_low : (p : Spot) → WhereLow (where_is pr p)
@@ -261,7 +285,7 @@ module _ (pr : Placed) (f : FrameLow pr) where
   ---- Entries and ends
 
   outs_low : pr.outs < 2 ^ 12
-  outs_low = omega (arith, few)
+  outs_low = let l = f.outs in omega (arith, l)
 
   bytes_low : frame_of pr < 2 ^ 24
   bytes_low = omega (arith, few)

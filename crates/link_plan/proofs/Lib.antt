@@ -9,3 +9,4 @@ pub mod Same
 pub mod Measures
 pub mod Appended
 pub mod Images
+pub mod Forms

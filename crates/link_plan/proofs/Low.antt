@@ -17,7 +17,7 @@ use Rattle.lir_core.specs.Lines.{names}
 use Rattle.boundary_resolve.specs.Placing.{lines_at, registers_at}
 use Rattle.boundary_resolve.proofs.Between.{blocks_at}
 use Rattle.placed_code.specs.Placed.{Copy, Cell, Block, Placed, no_block, block_of}
-use Rattle.placed_code.specs.Words.{frame_of, slots_of}
+use Rattle.placed_code.specs.Words.{frame_of, slots_of, most_frame}
 use Rattle.placed_code.specs.Layout.{position}
 use Rattle.placed_code.specs.Claims.{AreRegisters, Ordered}
 use Rattle.placed_code.specs.Results.{placed, placed_block, cells_from, copies_before, lines_behind, last_named, homes_of}
@@ -31,6 +31,7 @@ use Rattle.link_blocks.specs.Fits.{number_fits, lirs_fit, trap_fits, node_fits, 
 use Rattle.link_blocks.specs.Plans.{plain_end, plain_block, plain}
 use Rattle.link_blocks.proofs.Flat.{registers_drop, registers_last}
 use Rattle.link_blocks.proofs.Made.{blocks_of, one_block}
+use Rattle.link_blocks.proofs.Outs.{slots_few}
 use Rattle.link_plan.specs.Parts.{LeadsBelow, IsWhole}
 use Rattle.link_plan.specs.Linked.{IsAllocated}
 use Rattle.link_plan.proofs.Plain.{nth_plain}
@@ -111,10 +112,11 @@ module _ (k : ℕ) (few : k ≤ 16) (c : Cut) (all : IsAllocated k c) where
         leads = λ b. subst (λ (x : Block). LeadsBelow (length (plain pr).blocks) x.end) (sym (nth_plain pr pr.blocks b)) (subst (λ m. LeadsBelow m (plain_end (block_of pr b).end)) (sym wide) (leads b));
       }
 
-  pub proc_low : numbers_fit c.flow ≡ true → frame_of pr ≤ 32600 → ProcLow pr
+  pub proc_low : numbers_fit c.flow ≡ true → frame_of pr ≤ most_frame → ProcLow pr
   proc_low numbers fits = record {
     frame = record {
       slots = omega (arith, fits);
+      outs = slots_few c.flow.args (code_nodes c.flow.nodes) all.sound.valid.code.operations;
       ranks = λ v j e. ranks_within (homes_of (allocated c).first (blocks_of c)) v j e;
       bytes = all.local_data.1;
     };

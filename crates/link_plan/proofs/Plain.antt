@@ -29,7 +29,7 @@ module _ (pr : Placed) where
   copies_plain (m ∷ ms) = ap₂ (λ (xs ys : List Instr). xs ++ ys) (ap₂ move_between (where_plain m.to) (where_plain m.from)) (copies_plain ms)
 
   cell_plain : (j : ℕ) (cell : Cell) → cell_width (plain pr) j (plain_cell cell) ≡ cell_width pr j cell
-  cell_plain j cell = ap (λ (ws : List Instr). length ws + op_width cell.op.code) (copies_plain cell.copies)
+  cell_plain j cell = ap (λ (ws : List Instr). length ws + op_width (slots_of pr) cell.op.code) (copies_plain cell.copies)
 
   cells_plain : (j : ℕ) (cells : List Cell) → whole_width (cell_width (plain pr)) j (map plain_cell cells) ≡ whole_width (cell_width pr) j cells
   cells_plain j [] = refl
@@ -138,7 +138,7 @@ module _ (ps : List Placed) where
   entry_plain : (q : ℕ) → entry (map plain ps) q ≡ entry ps q
   entry_plain q = ap₂ (λ m n. m + length routines + n) start_plain (before_all 0 ps q)
 
-  entries_plain : entry (map plain ps) ≡ entry ps
+  pub entries_plain : entry (map plain ps) ≡ entry ps
   entries_plain = λ i q. entry_plain q i
 
   place_plain : (p t : ℕ) → place (map plain ps) p t 0 ≡ place ps p t 0

@@ -1,54 +1,19 @@
 -- How many words the parts of placed procedures have, wherever they stand.
-use Rattle.std.proofs.Common.{◌≡◌, ℕ, suc, ◌+◌, ◌<◌, ◌≤◌, List, [], ◌∷◌, ◌++◌, map, length, Bool, true, false, Option, Some, None, refl, arith, sym, ap, ap₂, ◌∙◌, length-append}
-use Rattle.std.specs.Prelude.{if◌then◌else◌, ◌==◌}
+use Rattle.std.proofs.Common.{◌≡◌, ℕ, ◌+◌, ◌<◌, ◌≤◌, ◌++◌, length, arith, ap, ap₂, ◌∙◌, length-append}
 use Rattle.run_laws.specs.Layers.{whole_width, spread}
 use Rattle.run_laws.proofs.Rows.{length-spread}
-use Rattle.a64_numbers.specs.Moves.{constant_moves}
-use Rattle.a64_numbers.specs.declared.moves.Move.{Move}
-use Rattle.a64_instr.specs.declared.instr.Instr.{Instr}
-use Rattle.a64_table.specs.Decode.{cond_of}
 use Rattle.block_runs.specs.declared.code.Code.{Code}
-use Rattle.block_runs.specs.declared.code.Code.TheVariants.{Const}
 use Rattle.block_runs.specs.declared.end.End.{End}
 use Rattle.block_runs.specs.declared.end.End.TheVariants.{Return, Jump, Branch, Nonzero, Trap}
 use Rattle.placed_code.specs.Placed.{Cell, Block, Placed, block_of, use_register, def_register}
-use Rattle.placed_code.specs.Words.{copies_words, slots_of, move_word, op_words, result_words, nonzero_words, last_words, jump_words, turned, branch_words, prologue, epilogue, depth_words, frame_words, local_words, frame_of}
+use Rattle.placed_code.specs.Words.{copies_words, slots_of, last_words, jump_words, prologue}
 use Rattle.placed_code.specs.Layout.{op_width, cell_width, jump_width, last_width, end_width, Placing, placings, block_width, zero_first, front_width, proc_width, own_words}
 use Rattle.placed_code.proofs.Operations.{some_words as some_words_of}
+use Rattle.placed_code.proofs.Linking.{jump_size, op_size, last_size}
+use Rattle.placed_code.proofs.Rising.{wide}
 use Rattle.link_words.specs.Frames.{width_of_end}
 use Rattle.link_plan.specs.Parts.{cell_code, end_code, parts_code, block_code, front_code, proc_code}
 use Rattle.link_plan.specs.Measured.{parts_width}
-
-jump_size : (b : Bool) (k t : ℕ) → length (jump_words b k t) ≡ jump_width b
-jump_size true k t = refl
-jump_size false k t = refl
-
-length_map : (g : Move → Instr) (ms : List Move) → length (map g ms) ≡ length ms
-length_map g [] = refl
-length_map g (m ∷ ms) = ap suc (length_map g ms)
-
-op_size : (e : ℕ → ℕ) (start slots k : ℕ) (code : Code) (a b c d : ℕ) → length (op_words e start slots k code a b c d) ≡ op_width code
-op_size e start slots k (Const n) a b c d = length_map (move_word d) (constant_moves n) ∙ sym (length_map (move_word 0) (constant_moves n))
-op_size e start slots k code a b c d = refl
-
-branch_size : (b d : Bool) (k : ℕ) (c : _) (one other : ℕ) → length (branch_words b d k c one other) ≡ (if b then 1 else (1 + jump_width d))
-branch_size true d k c one other = refl
-branch_size false d k c one other = let s = jump_size d (suc k) other in omega (arith, s)
-
-nonzero_size : (b d : Bool) (k a one other : ℕ) → length (nonzero_words b d k a one other) ≡ (if b then 1 else (1 + jump_width d))
-nonzero_size true d k a one other = refl
-nonzero_size false d k a one other = let s = jump_size d (suc k) other in omega (arith, s)
-
-result_size : (x : Option ℕ) (a : ℕ) → length (result_words x a) ≡ length (result_words x 0)
-result_size None a = refl
-result_size (Some x) a = refl
-
-last_size : (n : ℕ) (g : ℕ → ℕ) (pr : Placed) (k : ℕ) (last : End) (a b : ℕ) → length (last_words n g pr k last a b) ≡ last_width n pr last
-last_size n g pr k (Return x) a b = length-append (result_words x a) (epilogue pr) ∙ ap (λ m. m + length (epilogue pr)) (result_size x a)
-last_size n g pr k (Jump to args) a b = jump_size (to == n) k (g to)
-last_size n g pr k (Branch c x y one other) a b = let s = branch_size (turned n one other) (other == n) (suc k) (cond_of c) (g one) (g other) in omega (arith, s)
-last_size n g pr k (Nonzero x one other) a b = nonzero_size (turned n one other) (other == n) k a (g one) (g other)
-last_size n g pr k (Trap kind) a b = refl
 
 -- a branch's words are the end's
 pub branch_within : (n : ℕ) (pr : Placed) (end : End) → width_of_end n end ≤ last_width n pr end
@@ -59,8 +24,8 @@ branch_within n pr (Nonzero x one other) = omega arith
 branch_within n pr (Trap kind) = omega arith
 
 -- an operation has a word
-pub some_word : (code : Code) → 0 < op_width code
-some_word code = some_words_of (λ p. 0) 0 0 0 code 0 0 0 0
+pub some_word : (slots : ℕ) (code : Code) → 0 < op_width slots code
+some_word slots code = some_words_of (λ p. 0) 0 slots 0 code 0 0 0 0
 
 module _ (entry : ℕ → ℕ) (start : ℕ) (block : ℕ → ℕ) (pr : Placed) where
   pub cell_size : (j k : ℕ) (cell : Cell) → length (cell_code entry start pr j k cell) ≡ cell_width pr j cell
@@ -94,6 +59,4 @@ module _ (entry : ℕ → ℕ) (start : ℕ) (block : ℕ → ℕ) (pr : Placed)
 
 -- a procedure has words
 pub some_words : (p : ℕ) (pr : Placed) → 0 < proc_width p pr
-some_words p pr =
-    let a = length-append (depth_words pr.counted) (frame_words (frame_of pr) pr.outs ++ local_words pr.cells pr.bytes) in
-    omega (arith, a)
+some_words p pr = let a = wide p pr in omega (arith, a)

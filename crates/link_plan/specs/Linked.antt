@@ -6,7 +6,6 @@ use Rattle.run_laws.specs.Layers.{Through}
 use Rattle.image_form.specs.declared.image.Image.{Image}
 use Rattle.a64_machine.specs.Machine.{start, system}
 use Rattle.block_runs.specs.Blocks.{Operation, block_at}
-use Rattle.block_runs.specs.First.{first_state}
 use Rattle.block_runs.specs.Steps.{block_system}
 use Rattle.block_runs.specs.Points.{least, all_points}
 use Rattle.lir_core.specs.declared.flow.Flow.{Flow}
@@ -16,23 +15,38 @@ use Rattle.trace_build.specs.Cuts.{lists_of, AllTraces}
 use Rattle.boundary_resolve.specs.declared.code_line.CodeLine.{CodeLine}
 use Rattle.boundary_resolve.specs.Placing.{placed_of}
 use Rattle.boundary_resolve.specs.Edges.{AreSound}
+use Rattle.placed_code.specs.declared.data.ProcName.{ProcName}
+use Rattle.placed_code.specs.declared.data.ImageData.{ImageData}
 use Rattle.placed_code.specs.Placed.{Placed}
 use Rattle.placed_code.specs.Words.{frame_of}
-use Rattle.placed_code.specs.Layout.{entry}
-use Rattle.placed_code.specs.Claims.{IsNumber, same_trap, image_of, code_places, sizes}
-use Rattle.placed_code.specs.Results.{all_placed, procedures_of, Reason, same_reason}
+use Rattle.placed_code.specs.Claims.{IsNumber, image_of, code_places, breaks_as}
+use Rattle.placed_code.specs.Results.{all_placed, procedures_of, Reason, same_reason, begins_with}
 use Rattle.linked_flows.specs.Allocations.{Cut, steps_of, all_allocated}
 use Rattle.link_blocks.specs.Fits.{numbers_fit}
 use Rattle.link_blocks.specs.Laid.{Fits}
 use Rattle.link_blocks.specs.Plans.{plain}
 
 -- what an image has besides its code is within its form
-pub record DataFits (flags globals : ℕ) (constants : List ℕ) : Type 0 where
-  pub one_flag : flags < 2
-  pub few_globals : globals ≤ 8388608
-  pub few_constants : length constants ≤ 2097152
-  pub whole_globals : globals % 8 ≡ 0
-  pub whole_constants : length constants % 8 ≡ 0
+pub record DataFits (extra : ImageData) : Type 0 where
+  pub one_flag : extra.flags < 2
+  pub few_globals : extra.globals ≤ 8388608
+  pub few_constants : length extra.constants ≤ 2097152
+  pub few_names : length extra.names ≤ 4096
+  pub whole_globals : extra.globals % 8 ≡ 0
+  pub whole_constants : length extra.constants % 8 ≡ 0
+
+-- where there are names, each of so many procedures has one
+abbrev pub NameAllOrNone : List ProcName → ℕ → Type 0
+NameAllOrNone names n = 0 < length names → length names ≡ n
+
+-- how many bytes a frame has at most in an image that names no procedure
+abbrev pub small_frame : ℕ
+small_frame = 32768
+
+-- no procedure is named, and the frame is past what such an image may have
+pub record IsUnnamedAndFar (extra : ImageData) (frame : ℕ) : Type 0 where
+  pub unnamed : extra.names ≡ []
+  pub far : small_frame < frame
 
 -- sound results over k registers for a flow's paths, which have each node once; numbers that can be made; and a module's body
 -- takes no arguments
@@ -74,17 +88,18 @@ abbrev pub greatest_frame : List Placed → ℕ
 greatest_frame [] = 0
 greatest_frame (p ∷ ps) = max (frame_of p) (greatest_frame ps)
 
+abbrev pub frame_of_cuts : List Cut → ℕ
+frame_of_cuts cuts = greatest_frame (all_placed steps_of (all_allocated cuts))
+
 -- the defined image, with the greatest of the frames
-abbrev pub linked : List Cut → (flags globals : ℕ) → List ℕ → Image
-linked cuts flags globals constants =
-    let ps = all_placed steps_of (all_allocated cuts) in
-    image_of ps flags globals constants (greatest_frame ps)
+abbrev pub linked : List Cut → ImageData → Image
+linked cuts extra = image_of (all_placed steps_of (all_allocated cuts)) extra (frame_of_cuts cuts)
 
 -- the machine that runs the image is in step with each meaning that the flows, taken with the image's code addresses, keep up with
-abbrev pub Runs : Image → List Cut → ℕ → List ℕ → List ℕ → Type 0
-Runs image cuts globals constants input =
+abbrev pub Runs : Image → List Cut → ImageData → List ℕ → Type 0
+Runs image cuts extra input =
     let ps = all_placed steps_of (all_allocated cuts) in
     let fs = procedures_of (all_allocated cuts) in
     (meaning : ℕ → Outcome Reason)
-    → ((n : ℕ) → Keeps (block_system fs (code_places ps)) (least fs) (all_points fs) same_reason (first_state globals constants input) n (meaning n))
-    → InStep (system image) (length image.code) (Through same_reason (same_trap (entry ps) (sizes ps))) (start image input) meaning
+    → ((n : ℕ) → Keeps (block_system fs (code_places ps)) (least fs) (all_points fs) same_reason (begins_with extra input) n (meaning n))
+    → InStep (system image) (length image.code) (Through same_reason (breaks_as ps)) (start image input) meaning

@@ -18,4 +18,5 @@ mod writing;
 pub use fault::LinkFault;
 pub use image_form::{Bytes, Image};
 pub use link_blocks::Plan;
-pub use linking::{Data, add_plans, image_of_plans, link};
+pub use linking::{add_plans, image_of_plans, link};
+pub use placed_code::{ImageData, ProcName};

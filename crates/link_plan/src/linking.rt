@@ -1,41 +1,41 @@
 //! The image of flows.
 
-ghost use Rattle.std.specs.Prelude.{◌≡◌, ◌++◌, ℕ, ◌<◌, ◌≤◌, ◌^◌, ◌%◌, List, length, get_or, map, true, IfOk, OnOk, IfErr};
+ghost use Rattle.std.specs.Prelude.{◌≡◌, ◌++◌, ℕ, ◌+◌, ◌<◌, ◌≤◌, ◌^◌, ◌%◌, List, length, get_or, map, [], true, false, IfOk, OnOk, IfErr};
 ghost use Rattle.std.specs.List.{list_all};
 ghost use Rattle.a64_memory.specs.Memory.{AreBytes};
 ghost use Rattle.image_form.specs.Form.{IsInForm};
 ghost use Rattle.placed_code.specs.Placed.{proc_of};
+ghost use Rattle.placed_code.specs.Words.{most_frame};
+ghost use Rattle.placed_code.specs.Claims.{places_of, version_of};
 ghost use Rattle.placed_code.specs.Results.{placed, all_placed};
 ghost use Rattle.placed_code.specs.Layout.{all_words, code_of};
 ghost use Rattle.linked_flows.specs.Allocations.{Cut, steps_of, allocated, all_allocated};
 ghost use Rattle.link_blocks.specs.Fits.{numbers_fit};
 ghost use Rattle.link_blocks.specs.Laid.{IsCutOf, Fits};
-ghost use Rattle.link_plan.specs.Parts.{IsWhole};
+ghost use Rattle.link_plan.specs.Parts.{IsWhole, entry_at};
+ghost use Rattle.link_plan.specs.Written.{EntriesAre};
 ghost use Rattle.link_blocks.specs.Plans.{placed_in, plain};
-ghost use Rattle.link_plan.specs.Linked.{DataFits, AreCuts, ArePlans, AreSmall, greatest_frame, plans_of, Runs, linked};
+ghost use Rattle.link_plan.specs.Linked.{DataFits, NameAllOrNone, small_frame, IsUnnamedAndFar, AreCuts, ArePlans, AreSmall, greatest_frame, frame_of_cuts, plans_of, Runs, linked};
 ghost use Rattle.link_plan.specs.declared.fault.LinkFault.TheVariants.{Limit, Misfit};
 
 use crate::fault::LinkFault;
-use crate::whole::code_of;
+use crate::whole::{CodeWords, code_of};
 use boundary_resolve::CodeLine;
-use image_form::{Bytes, Image, Words};
+use image_form::{Image, ProcPlace, ProcPlaces, Words};
 use link_blocks::{Plan, PlanFault};
 use link_layout::LayoutFault;
 use lir_core::{Flow, TraceOut};
-use std::alloc::Global;
+use placed_code::{ImageData, ProcName};
+use std::alloc::{AllocError, Global};
 
-/// What an image has besides its code: whether some module reads input (1, else 0), how many bytes the globals have, and the
-/// constants. Globals and constants are of whole cells of eight bytes, at most 8,388,608 and 2,097,152 bytes.
-#[derive(Drop)]
-pub struct Data {
-    pub flags: u32,
-    pub globals: u32,
-    pub constants: Bytes,
-}
+/// The bytes of the greatest frame in an image that names no procedure.
+const SMALL_FRAME: u32 = 32_768;
 
 /// The image of flows by their numbers, from each one's lines in code order and the results for its traces. A flow whose
-/// calls aren't counted is the body of a module, and the bodies run in the order of their numbers. `Limit` comes exactly
-/// where the code is over 262,144 words, `Misfit` for no sound results of flows whose numbers and frames are small enough.
+/// calls aren't counted is the body of a module, and the bodies run in the order of their numbers. The data names all flows, and
+/// the image has version 2, or none, and it has version 1. Globals and constants are of whole cells of eight bytes, at most
+/// 8,388,608 and 2,097,152 bytes. `Limit` comes exactly where the code is over 262,144 words, `Misfit` for no sound results of
+/// flows whose numbers and frames are small enough: 65,536 bytes of a frame in version 2, and 32,768 in version 1.
 /// Takes time in proportion to lines and words, and n log n for n homes. The lines and results of a flow are let go once they are
 /// read.
 pub fn link(
@@ -43,18 +43,19 @@ pub fn link(
     flows: &[Flow],
     parts: Vec<Vec<CodeLine>>,
     outs: Vec<Vec<TraceOut>>,
-    extra: Data,
+    extra: ImageData,
 ) -> Result<Image, LinkFault>
-    requires { DataFits extra.flags extra.globals extra.constants }
+    requires extra { DataFits extra }
+    requires names { NameAllOrNone extra.names (length flows.now) }
     ensures image { (k : ℕ) (cuts : List Cut) → AreCuts k flows.now (map (λ v. v.items) parts.items) (map (λ v. v.items) outs.items) cuts
-        → IfOk result (λ image. image ≡ linked cuts extra.flags extra.globals extra.constants) }
+        → IfOk result (λ image. image ≡ linked cuts extra) }
     ensures form { IfOk result IsInForm }
     ensures runs { (k : ℕ) (cuts : List Cut) (input : List ℕ) → AreCuts k flows.now (map (λ v. v.items) parts.items) (map (λ v. v.items) outs.items) cuts → AreBytes extra.constants
-        → ((i : ℕ) → get_or input i 0 < 2 ^ 64) → IfOk result (λ image. Runs image cuts extra.globals extra.constants input) }
+        → ((i : ℕ) → get_or input i 0 < 2 ^ 64) → IfOk result (λ image. Runs image cuts extra input) }
     ensures limit { IfErr result (λ fault. fault ≡ Limit → (k : ℕ) (cuts : List Cut) → AreCuts k flows.now (map (λ v. v.items) parts.items) (map (λ v. v.items) outs.items) cuts
         → 2 ^ 18 < length (all_words (all_placed steps_of (all_allocated cuts)))) }
     ensures misfit { IfErr result (λ fault. fault ≡ Misfit → (k : ℕ) (cuts : List Cut) → AreCuts k flows.now (map (λ v. v.items) parts.items) (map (λ v. v.items) outs.items) cuts
-        → AreSmall cuts → ⊥) }
+        → AreSmall cuts → IsUnnamedAndFar extra (frame_of_cuts cuts)) }
 {
     let mut plans = Vec::with_capacity(alloc, flows.len())?;
     add_plans(alloc, &mut plans, flows, parts, outs)?;
@@ -73,6 +74,7 @@ pub fn add_plans(
 ) -> Result<(), LinkFault>
     ensures plans { OnOk result ((k : ℕ) (cuts : List Cut) → AreCuts k flows.now (map (λ v. v.items) parts.items) (map (λ v. v.items) outs.items) cuts
         → map placed_in plans.new.items ≡ map placed_in plans.old.items ++ plans_of cuts) }
+    ensures count { OnOk result (length plans.new.items ≡ length plans.old.items + length flows.now) }
     ensures fits { OnOk result (list_all (λ f. numbers_fit f) flows.now ≡ true) }
     ensures limit { IfErr result (λ fault. fault ≡ Limit → ⊥) }
     ensures misfit { IfErr result (λ fault. fault ≡ Misfit → (k : ℕ) (cuts : List Cut) → AreCuts k flows.now (map (λ v. v.items) parts.items) (map (λ v. v.items) outs.items) cuts
@@ -90,29 +92,88 @@ pub fn add_plans(
 }
 
 /// The image of plans, by the numbers of their flows. A flow whose calls aren't counted is the body of a module, and the bodies run
-/// in the order of their numbers. `Limit` comes exactly where the code is over 262,144 words, and `Misfit` never. Takes time in
-/// proportion to lines and words, and n log n for n homes.
-pub fn image_of_plans(alloc: Global, plans: &[Plan], extra: Data) -> Result<Image, LinkFault>
-    requires { DataFits extra.flags extra.globals extra.constants }
+/// in the order of their numbers. The data names all plans, and the image has version 2, or none, and it has version 1. `Misfit` comes
+/// exactly where some frame is over 32,768 bytes in version 1, and else `Limit` exactly where the code is over 262,144 words. Takes
+/// time in proportion to lines and words, and n log n for n homes.
+pub fn image_of_plans(alloc: Global, plans: &[Plan], extra: ImageData) -> Result<Image, LinkFault>
+    requires extra { DataFits extra }
+    requires names { NameAllOrNone extra.names (length plans.now) }
     ensures image { (k : ℕ) (cuts : List Cut) → ArePlans k (map placed_in plans.now) cuts
-        → IfOk result (λ image. image ≡ linked cuts extra.flags extra.globals extra.constants) }
+        → IfOk result (λ image. image ≡ linked cuts extra) }
     ensures form { IfOk result IsInForm }
     ensures runs { (k : ℕ) (cuts : List Cut) (input : List ℕ) → ArePlans k (map placed_in plans.now) cuts → AreBytes extra.constants
-        → ((i : ℕ) → get_or input i 0 < 2 ^ 64) → IfOk result (λ image. Runs image cuts extra.globals extra.constants input) }
+        → ((i : ℕ) → get_or input i 0 < 2 ^ 64) → IfOk result (λ image. Runs image cuts extra input) }
     ensures limit { IfErr result (λ fault. fault ≡ Limit → (k : ℕ) (cuts : List Cut) → ArePlans k (map placed_in plans.now) cuts
         → 2 ^ 18 < length (all_words (all_placed steps_of (all_allocated cuts)))) }
-    ensures misfit { IfErr result (λ fault. fault ≡ Misfit → ⊥) }
+    ensures misfit { IfErr result (λ fault. fault ≡ Misfit → IsUnnamedAndFar extra (greatest_frame (map placed_in plans.now))) }
 {
+    let ImageData {
+        flags,
+        globals,
+        constants,
+        names,
+    } = extra;
+    let names = names.as_slice();
     let frame = greatest_frame(plans);
-    let code = words_of(alloc, plans)?;
+    if is_past(names, frame) {
+        return Err(LinkFault::Misfit);
+    }
+    let CodeWords { words, entries } = words_of(alloc, plans)?;
+    let places = places_of(alloc, entries.as_slice(), names)?;
     Ok(Image {
-        version: 1,
-        flags: extra.flags,
-        code: Words::new(code),
-        globals: extra.globals,
-        constants: extra.constants,
+        version: version_of(names),
+        flags,
+        code: Words::new(words),
+        globals,
+        constants,
         frame,
+        places: ProcPlaces::new(places),
     })
+}
+
+/// Whether a frame is past what an image has that names no procedure.
+fn is_past(names: &[ProcName], frame: u32) -> bool
+    ensures past { result ≡ true → (names.now ≡ []) × (small_frame < frame) }
+    ensures within { result ≡ false → names.now ≡ [] → frame ≤ small_frame }
+{
+    names.is_empty() && frame > SMALL_FRAME
+}
+
+/// The version of an image's form that has a place for each name.
+fn version_of(names: &[ProcName]) -> u32
+    ensures { result ≡ version_of names.now }
+{
+    if names.is_empty() { 1 } else { 2 }
+}
+
+/// Where named procedures begin, from where all of them do, and behind them where the last one ends.
+fn places_of(
+    alloc: Global,
+    entries: &[u32],
+    names: &[ProcName],
+) -> Result<Vec<ProcPlace>, AllocError>
+    ensures { IfOk result (λ places. places.items ≡ places_of (entry_at entries.now) 0 names.now) }
+{
+    let mut places = Vec::with_capacity(alloc, names.len())?;
+    for (number, name) in names.iter().enumerate() {
+        places.push(ProcPlace {
+            word: entry_at(entries, number),
+            module: name.module,
+            line: name.line,
+        })?;
+    }
+    Ok(places)
+}
+
+/// Where a procedure begins; those that aren't there begin behind all others.
+fn entry_at(entries: &[u32], procedure: usize) -> u32
+    ensures { result ≡ entry_at entries.now procedure }
+{
+    let last = entries.len().saturating_sub(1);
+    match entries.get(procedure.min(last)) {
+        Some(word) => *word,
+        None => 0,
+    }
 }
 
 fn plan_of(
@@ -136,7 +197,7 @@ fn plan_of(
 /// The bytes of the greatest frame.
 fn greatest_frame(plans: &[Plan]) -> u32
     ensures greatest { result ≡ greatest_frame (map placed_in plans.now) }
-    ensures most { result ≤ 32600 }
+    ensures most { result ≤ most_frame }
     ensures whole { result % 8 ≡ 0 }
 {
     let mut frame = 0;
@@ -148,10 +209,12 @@ fn greatest_frame(plans: &[Plan]) -> u32
     frame
 }
 
-/// The code words of plans.
-fn words_of(alloc: Global, plans: &[Plan]) -> Result<Vec<u32>, LinkFault>
-    ensures code { ((p : ℕ) → p < length plans.now → IsWhole (proc_of (map placed_in plans.now) p)) → IfOk result (λ code. code.items ≡ code_of (map placed_in plans.now)) }
-    ensures fits { IfOk result (λ code. (1 ≤ length code.items) × (length code.items ≤ 2 ^ 18)) }
+/// The code words of plans, and where each begins.
+fn words_of(alloc: Global, plans: &[Plan]) -> Result<CodeWords, LinkFault>
+    ensures code { ((p : ℕ) → p < length plans.now → IsWhole (proc_of (map placed_in plans.now) p)) → IfOk result (λ code. code.words.items ≡ code_of (map placed_in plans.now)) }
+    ensures size { IfOk result (λ code. length code.words.items ≡ length (all_words (map placed_in plans.now))) }
+    ensures entries { IfOk result (λ code. EntriesAre (map placed_in plans.now) code.entries.items) }
+    ensures fits { IfOk result (λ code. (1 ≤ length code.words.items) × (length code.words.items ≤ 2 ^ 18)) }
     ensures limit { IfErr result (λ fault. fault ≡ Limit → 2 ^ 18 < length (all_words (map placed_in plans.now))) }
     ensures misfit { IfErr result (λ fault. fault ≡ Misfit → ⊥) }
 {

@@ -158,5 +158,5 @@ fn cell_width(plan: &Plan, cell: &Cell) -> Result<u32, LayoutFault>
     ensures limit { IfErr result (λ fault. 2 ^ 18 < cell_width (placed_in plan.now) 0 (cell_in cell.now)) }
 {
     let copies = copies_width(&plan.homes, plan.frame.outs, cell.copies.as_slice())?;
-    add(copies, operation_width(cell.code))
+    add(copies, operation_width(plan.frame.slots, cell.code))
 }

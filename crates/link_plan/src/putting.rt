@@ -3,7 +3,7 @@
 ghost use Rattle.std.specs.Prelude.{◌≡◌, ℕ, ◌+◌, ◌-◌, ◌<◌, ◌≤◌, ◌^◌, ◌++◌, map, length, min, true, OnOk, IfSome, IfNone};
 ghost use Rattle.run_laws.specs.Layers.{whole_width, spread};
 ghost use Rattle.a64_table.specs.Table.{word_of};
-ghost use Rattle.placed_code.specs.Words.{where_is, copies_words, copy_word, op_words};
+ghost use Rattle.placed_code.specs.Words.{where_is, copies_words, copy_word, op_words, most_slots};
 ghost use Rattle.placed_code.specs.Layout.{cell_width};
 ghost use Rattle.link_words.specs.Fields.{InReach, entry_in};
 ghost use Rattle.link_words.specs.Frames.{WhereFits, where_of};
@@ -97,7 +97,7 @@ pub(crate) fn push_code(
 ) -> Result<(), Memory>
     requires procedures { InReach entries.procedures.now }
     requires routines { entries.routines < 2 ^ 17 }
-    requires slots { slots ≤ 4075 }
+    requires slots { slots ≤ most_slots }
     requires number { number_fits code ≡ true }
     requires near { length words.old.items < 2 ^ 18 }
     ensures { OnOk result (words.new.items ≡ words.old.items

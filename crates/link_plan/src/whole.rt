@@ -31,12 +31,21 @@ use std::alloc::{AllocError, Global};
 /// The most procedures of an image, each of which has a word.
 const MOST: usize = 262_144;
 
+/// The code words of procedures; where each of these begins, by number, and behind them where the last one ends.
+#[derive(Drop)]
+pub(crate) struct CodeWords {
+    pub(crate) words: Vec<u32>,
+    pub(crate) entries: Vec<u32>,
+}
+
 /// The code words of an image of procedures: a call of each body of a module and the end, the routines, and the procedures by
 /// number. `Limit` comes exactly where they are over 262,144. Takes time in proportion to the words, and n log n for n homes.
-pub(crate) fn code_of(alloc: Global, plans: &[Plan]) -> Result<Vec<u32>, LayoutFault>
-    ensures code { ((p : ℕ) → p < length plans.now → IsWhole (proc_of (map placed_in plans.now) p)) → IfOk result (λ code. code.items ≡ code_of (map placed_in plans.now)) }
-    ensures fits { IfOk result (λ code. length code.items ≤ 2 ^ 18) }
-    ensures some { IfOk result (λ code. 1 ≤ length code.items) }
+pub(crate) fn code_of(alloc: Global, plans: &[Plan]) -> Result<CodeWords, LayoutFault>
+    ensures code { ((p : ℕ) → p < length plans.now → IsWhole (proc_of (map placed_in plans.now) p)) → IfOk result (λ code. code.words.items ≡ code_of (map placed_in plans.now)) }
+    ensures size { IfOk result (λ code. length code.words.items ≡ length (all_words (map placed_in plans.now))) }
+    ensures entries { IfOk result (λ code. EntriesAre (map placed_in plans.now) code.entries.items) }
+    ensures fits { IfOk result (λ code. length code.words.items ≤ 2 ^ 18) }
+    ensures some { IfOk result (λ code. 1 ≤ length code.words.items) }
     ensures limit { IfErr result (λ fault. fault ≡ Limit → 2 ^ 18 < length (all_words (map placed_in plans.now))) }
 {
     if plans.len() > MOST {
@@ -54,7 +63,10 @@ pub(crate) fn code_of(alloc: Global, plans: &[Plan]) -> Result<Vec<u32>, LayoutF
     push_routines(&mut words)?;
     let measures = sizes.measures.as_slice();
     push_procedures(alloc, &mut words, entries, plans, measures)?;
-    Ok(words)
+    Ok(CodeWords {
+        words,
+        entries: found,
+    })
 }
 
 /// How many words the parts of each procedure have, and how many each has in all.

@@ -2,7 +2,8 @@
 
 use crate::Module;
 use flow_allocation::{AllocatedFlows, Builder, Choice, Policy, WorkFault, allocate_flows};
-use link_plan::{Bytes, Data, Image, LinkFault, link};
+use link_plan::{Bytes, Image, ImageData, LinkFault, ProcName, link};
+use lir_core::Items;
 use outside::{Memory, OpenGate};
 use std::alloc::{AllocError, Global};
 use std::sync::Wait;
@@ -16,18 +17,21 @@ fn linked(
     allocated: AllocatedFlows,
 ) -> Result<Result<Image, LinkFault>, Memory> {
     let constants = Vec::from_slice(alloc, module.constants.as_slice())?;
+    let count = module.flows.len();
     let fits = module.flags < 2 && module.globals <= 8_388_608 && constants.len() <= 2_097_152;
     let whole = module.globals % 8 == 0 && constants.len() % 8 == 0;
-    if !fits {
+    if !fits || count > 4096 {
         return Ok(Err(LinkFault::Misfit));
     }
     if !whole {
         return Ok(Err(LinkFault::Misfit));
     }
-    let data = Data {
+    let name = ProcName { module: 0, line: 1 };
+    let data = ImageData {
         flags: module.flags,
         globals: module.globals,
         constants: Bytes::new(constants),
+        names: Items::from_vec(vec![in alloc; name; count]?),
     };
     let AllocatedFlows { parts, outs, .. } = allocated;
     Ok(link(alloc, module.flows.as_slice(), parts, outs, data))

@@ -1,8 +1,9 @@
 //! Reads modules as flows, allocates, resolves and links them, and prints their images.
 //!
 //! The stored input are the flows that another compiler, written in Python from the rules alone, selects for a hundred
-//! modules; the images that it makes of them, under each policy and with 4 and 16 registers, are the stored output
-//! (`bench/link_vectors.py` makes both where it is). Lines of the input:
+//! modules, and those of a module that makes so many values more that its homes and arguments are near and far; the images
+//! that it makes of them, under each policy and with 4 and 16 registers, are the stored output (`bench/link_vectors.py` makes
+//! both where it is). Each flow has a name. Lines of the input:
 //!
 //! - `module FLAGS GLOBALS {BYTE}`: a module begins, with its constants;
 //! - `flow ..`: a procedure of it, as `vector_texts` reads it;

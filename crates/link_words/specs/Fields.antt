@@ -8,7 +8,7 @@ abbrev pub NumberFits : ℕ → Code → Type 0
 NumberFits slots (Global n) = n < 2 ^ 24
 NumberFits slots (Local n) = n < 2 ^ 24
 NumberFits slots (Plus n) = n < 2 ^ 24
-NumberFits slots (Arg n) = slots + (n - 4) < 2 ^ 12
+NumberFits slots (Arg n) = slots + (n - 4) < 2 ^ 21
 NumberFits slots (IsPtr j) = j < 2 ^ 12
 NumberFits slots (IsTag j) = j < 2 ^ 12
 NumberFits slots (GuardPtr j) = j < 2 ^ 12

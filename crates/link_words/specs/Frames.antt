@@ -35,10 +35,10 @@ taken = against 23 16 ∷ BCond 2 Hs ∷ Brk 9 ∷ SubReg 23 23 16 Lsl 0 ∷ []
 abbrev pub given_back : List Instr
 given_back = AddReg 23 23 16 Lsl 0 ∷ []
 
--- it is a register's number, or a slot that a load reaches
+-- it is a register's number, or a slot that loads reach
 abbrev pub WhereFits : Where → Type 0
 WhereFits (InReg r) = r < 2 ^ 5
-WhereFits (InSlot j) = j < 2 ^ 12
+WhereFits (InSlot j) = j < 2 ^ 21
 
 -- a register or a slot, as placed code has it
 abbrev pub where_of : Where → place.Where

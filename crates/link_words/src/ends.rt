@@ -14,6 +14,7 @@ use crate::frames::{Frame, push_epilogue};
 use crate::operations::{condition, entry_of};
 use crate::pushing::{push, push_all};
 use crate::shapes::*;
+use crate::slots::{push_load, push_store};
 use a64_instr::{Bits, Cond, Instr, Reg};
 use a64_numbers::opposite;
 use block_runs::End;
@@ -44,19 +45,22 @@ fn push_into(words: &mut Vec<u32>, to: Reg, from: Where) -> Result<(), Memory>
 {
     match from {
         Where::InReg(number) => push(words, moved(to, register(u32::from(number)))),
-        Where::InSlot(slot) => push(words, load(to, register(31), slot)),
+        Where::InSlot(slot) => push_load(words, to, slot),
     }
 }
 
 fn push_out(words: &mut Vec<u32>, to: u32, from: Where) -> Result<(), Memory>
-    requires to { to < 2 ^ 12 }
+    requires to { to < 2 ^ 21 }
     requires from { WhereFits from }
     ensures { OnOk result (words.new.items ≡ words.old.items ++ map word_of (move (place.InSlot to) (where_of from))) }
 {
-    let (sp, y) = (register(31), register(17));
+    let between = register(17);
     match from {
-        Where::InReg(number) => push(words, store(register(u32::from(number)), sp, to)),
-        Where::InSlot(slot) => push_all(words, &[load(y, sp, slot), store(y, sp, to)]),
+        Where::InReg(number) => push_store(words, register(u32::from(number)), to),
+        Where::InSlot(slot) => {
+            push_load(words, between, slot)?;
+            push_store(words, between, to)
+        }
     }
 }
 

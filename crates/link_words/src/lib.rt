@@ -10,8 +10,10 @@ mod laws;
 mod operations;
 mod pushing;
 mod shapes;
+mod slots;
 
 pub use ends::{Where, push_copy, push_end};
 pub use frames::{Frame, push_epilogue, push_prologue};
 pub use laws::words_are_placed;
 pub use operations::{Registers, push_operation};
+pub use slots::is_near;

@@ -11,6 +11,7 @@ ghost use Rattle.link_words.specs.Fields.{NumberFits, InReach, entry_in};
 
 use crate::pushing::{push, push_all, push_constant};
 use crate::shapes::*;
+use crate::slots::push_load;
 use a64_instr::{Bits, Cond, Instr, Reg, Shift};
 use a64_numbers::opposite;
 use block_runs::Code;
@@ -48,7 +49,7 @@ pub fn push_operation(
         Code::Local(n) => return push_difference(words, d, register(19), n),
         Code::Plus(n) => return push_sum(words, d, a, n),
         Code::Code(p) => return push_address(words, d, entry_of(entries, p)),
-        Code::Arg(n) => load(d, register(31), slots + n.saturating_sub(4)),
+        Code::Arg(n) => return push_load(words, d, slots + n.saturating_sub(4)),
         Code::Load => load(d, a, 0),
         Code::Store => store(b, a, 0),
         Code::LoadByte => load_byte(d, a),

@@ -13,6 +13,7 @@ use Rattle.lir_core.specs.Flows.{code_nodes, node_at}
 use Rattle.lir_core.specs.Sound.{IsSoundNode, room_of}
 use Rattle.trace_build.specs.Cuts.{lists_of, all_nodes}
 use Rattle.boundary_resolve.proofs.Between.{blocks_at, sound_in}
+use Rattle.placed_code.specs.declared.data.ImageData.{ImageData}
 use Rattle.placed_code.specs.Claims.{Ordered}
 use Rattle.placed_code.specs.Results.{Part, Allocated, no_part, part_of, placed, TakeOver, left_by, carried_by, entry_places, CopiesFit, IsSoundResult, IsImageOf, Agrees}
 use Rattle.placed_code.proofs.Parts.{length_blocks}
@@ -126,6 +127,6 @@ origin [] (suc q) r rest e = cc
 origin (c ∷ cs) zero r rest e = record { cut = c; rest = cs; drops = refl; is = cc }
 origin (c ∷ cs) (suc q) r rest e = let o = origin cs q r rest e in record { cut = o.cut; rest = o.rest; drops = o.drops; is = o.is }
 
-pub runs : (k frame : ℕ) (cuts : List Cut) (flags globals : ℕ) (constants input : List ℕ) → k ≤ 16 → AreReady k frame cuts → IsImageOf steps_of (all_allocated cuts) flags globals constants frame → ((i : ℕ) → get_or input i 0 < 2 ^ 64) → Agrees steps_of (all_allocated cuts) flags globals constants frame input
-runs k frame cuts flags globals constants input few ready image small =
-    agreed k frame steps_of (all_allocated cuts) flags globals constants input few sequence (λ q r rest e. let o = origin cuts q r rest e in subst (λ (x : Allocated). IsSoundResult k frame steps_of x) o.is (is_sound k frame few o.cut (ready q o.cut o.rest o.drops))) image small
+pub runs : (k frame : ℕ) (cuts : List Cut) (extra : ImageData) (input : List ℕ) → k ≤ 16 → AreReady k frame cuts → IsImageOf steps_of (all_allocated cuts) extra frame → ((i : ℕ) → get_or input i 0 < 2 ^ 64) → Agrees steps_of (all_allocated cuts) extra frame input
+runs k frame cuts extra input few ready image small =
+    agreed k frame steps_of (all_allocated cuts) extra input few sequence (λ q r rest e. let o = origin cuts q r rest e in subst (λ (x : Allocated). IsSoundResult k frame steps_of x) o.is (is_sound k frame few o.cut (ready q o.cut o.rest o.drops))) image small

@@ -27,11 +27,11 @@ use Rattle.ob_types.proofs.Tests.{no, none_some, some_same, and_of}
 use Rattle.ob_sound.proofs.Constructs.{with_is}
 use Rattle.ssa_lowered.specs.Pieces.{Mask}
 use Rattle.ssa_lowered.specs.Values.{At, Beside}
-use Rattle.block_runs.specs.First.{data_base}
+use Rattle.a64_memory.specs.Areas.{data_base, heap_word}
 use Rattle.ssa_lowered.specs.Data.{global_at, descriptor_at, within, text_at}
 use Rattle.ssa_lowered.specs.Variables.{Site, Variable, is_structured, some_structured, structured_room, scalars_lent, placed, value_parameters, words_by, words_of, none, Register}
 use Rattle.ssa_lowered.specs.Lowered.{Here, here_of, lent_in_body, zeroed_bytes, in_register, variable_of, by_mode}
-use Rattle.lowered_runs.specs.Words.{Whole, Level, sizes_of, heap_word, word_at, ValueIs, Apart}
+use Rattle.lowered_runs.specs.Words.{Whole, Level, sizes_of, word_at, ValueIs, Apart}
 use Rattle.lowered_runs.proofs.Stores.{some_none}
 use Rattle.lowered_runs.proofs.Homes.{AddressIs}
 use Rattle.lowered_runs.proofs.Designators.{NamedIs, SecondIs}

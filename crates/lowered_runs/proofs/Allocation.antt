@@ -7,8 +7,9 @@ use Rattle.a64_memory.specs.Memory.{covered, covers, stored8}
 use Rattle.a64_memory.specs.Memory.{Area as Region}
 use Rattle.a64_memory.proofs.Shapes.{covers-shapes}
 use Rattle.a64_memory.proofs.Cells.{rising-stored8, of_bytes-stored8, shapes-stored8}
+use Rattle.a64_memory.specs.Areas.{heap_word, heap_words}
 use Rattle.ob_types.specs.Store.{Cell, Bits, Pointer, Code, Area, Globals, Frames, Heap, Strings, Store, objects, cell_of}
-use Rattle.lowered_runs.specs.Words.{Whole, Level, Sizes, sizes_of, place, place_from, next, heap_word, heap_words, Thing, InCell, TagOf, Constant, word_at, word_of, There, Room, ValueIs, word, Held, Later}
+use Rattle.lowered_runs.specs.Words.{Whole, Level, Sizes, sizes_of, place, place_from, next, Thing, InCell, TagOf, Constant, word_at, word_of, There, Room, ValueIs, word, Held, Later}
 use Rattle.lowered_runs.proofs.Stores.{word_same, word_else, there_cell, there_tag, get_below, map_length}
 use Rattle.lowered_runs.proofs.Exprs.{place_there}
 

@@ -11,6 +11,7 @@ use Rattle.run_laws.specs.Turns.{State as At}
 use Rattle.run_laws.proofs.Reached.{pass_quiet, loosen}
 use Rattle.run_laws.proofs.Comes.{comes_bind, comes_trap}
 use Rattle.a64_memory.specs.Memory.{Area, shapes, covered}
+use Rattle.a64_memory.specs.Areas.{heap_word, local_word, local_words}
 use Rattle.wrapping_numbers.specs.Numbers.{add64}
 use Rattle.block_runs.specs.declared.end.End.{End}
 use Rattle.block_runs.specs.declared.end.End.TheVariants.{Return}
@@ -46,7 +47,7 @@ use Rattle.ssa_lowered.specs.Pieces.{Mask}
 use Rattle.ssa_lowered.specs.Lowered.{in_register, lent_in_body, Here, here_of, at_entry, entry, deeds_of, zeroed_bytes, made_of, proc_of}
 use Rattle.ssa_lowered.specs.Lowered.{answer as lower_answer}
 use Rattle.ssa_lowered.proofs.Stands.{proc_stands}
-use Rattle.lowered_runs.specs.Words.{same_trap, Whole, Level, Right, sizes_of, heap_word, local_word, local_words, ValueIs, Held, word}
+use Rattle.lowered_runs.specs.Words.{same_trap, Whole, Level, Right, sizes_of, ValueIs, Held, word}
 use Rattle.lowered_runs.proofs.Stores.{later_refl}
 use Rattle.lowered_runs.proofs.Values.{Same, put_here, put_else}
 use Rattle.lowered_runs.proofs.Standing.{Standing, stand_first, stand_rest, bulk, bulk_append, shared}

@@ -13,7 +13,7 @@ use Rattle.block_runs.specs.declared.code.Code.TheVariants.{Const, Global, Load,
 use Rattle.block_runs.specs.Blocks.{Operation, block_of, procedure_of}
 use Rattle.block_runs.specs.States.{Enters, Runs, Point, In, Fault}
 use Rattle.block_runs.specs.Effects.{code_at, given_at}
-use Rattle.block_runs.specs.First.{data_base}
+use Rattle.a64_memory.specs.Areas.{data_base}
 use Rattle.block_runs.specs.Effects.{Calls as Leads, Gives as Yields, Fails as Refuses}
 use Rattle.block_runs.specs.Steps.{set, behind, operate}
 use Rattle.block_runs.specs.Points.{least}

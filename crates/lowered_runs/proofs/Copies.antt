@@ -8,6 +8,7 @@ use Rattle.run_laws.specs.Turns.{State as At}
 use Rattle.run_laws.proofs.Reached.{pass_quiet, moment, loosen}
 use Rattle.run_laws.proofs.Comes.{comes_each, comes_spend}
 use Rattle.a64_memory.specs.Memory.{Area, covers, load1, load8, store1, store8, stored8}
+use Rattle.a64_memory.specs.Areas.{heap_words}
 use Rattle.wrapping_numbers.specs.Numbers.{add64, mul64}
 use Rattle.block_runs.specs.declared.code.Code.TheVariants.{Const, Mul, Copy, Fits}
 use Rattle.block_runs.specs.Effects.{Gives as Yields, Fails as Refuses}
@@ -32,7 +33,7 @@ use Rattle.ssa_lowered.specs.Values.{Named, const, length_in, bytes_in}
 use Rattle.ssa_lowered.specs.Values.{address_in as lower_address}
 use Rattle.ssa_lowered.specs.Statements.{fits}
 use Rattle.ssa_lowered.specs.Statements.{copy_array as lower_array, copy_record as lower_record}
-use Rattle.lowered_runs.specs.Words.{same_trap, Whole, Level, Right, Apart, next, heap_words, word, Held, Later}
+use Rattle.lowered_runs.specs.Words.{same_trap, Whole, Level, Right, Apart, next, word, Held, Later}
 use Rattle.ob_types.specs.WellFormed.{lengths_fit}
 use Rattle.lowered_runs.proofs.Stores.{later_refl, later_on, later_put, put_in, put_held, sizes_put, value_later}
 use Rattle.lowered_runs.proofs.Values.{put_here, off_refl}

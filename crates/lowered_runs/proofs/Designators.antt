@@ -4,7 +4,7 @@ use Rattle.std.specs.Prelude.{option_map}
 use Rattle.run_laws.specs.Turns.{give}
 use Rattle.a64_memory.specs.Memory.{Area}
 use Rattle.wrapping_numbers.specs.Numbers.{add64, sub64}
-use Rattle.block_runs.specs.First.{data_base}
+use Rattle.a64_memory.specs.Areas.{data_base, heap_word}
 use Rattle.block_runs.specs.declared.code.Code.TheVariants.{Global, Plus, Local}
 use Rattle.ob_types.specs.Layout.{kind_of, cells, record_cells, extends}
 use Rattle.ob_types.specs.Store.{Heap, Address, Handed, Sized, Tagged, Act, given, place, address_in}
@@ -16,7 +16,7 @@ use Rattle.ssa_lowered.specs.Pieces.{◌>>=◌ as ◌>>>◌, give as gives}
 use Rattle.ssa_lowered.specs.Values.{Named, At, Beside, Object, Held as InRegister, data_at, local_at, Register, Memory, home_in, home_of, address_in as lower_address}
 use Rattle.ssa_lowered.specs.Values.{past as lower_past}
 use Rattle.ssa_lowered.specs.Variables.{is_structured}
-use Rattle.lowered_runs.specs.Words.{Whole, Level, sizes_of, heap_word, ValueIs, Held, local}
+use Rattle.lowered_runs.specs.Words.{Whole, Level, sizes_of, ValueIs, Held, local}
 use Rattle.lowered_runs.proofs.Stores.{value_later}
 use Rattle.lowered_runs.proofs.Values.{put_here}
 use Rattle.lowered_runs.proofs.Follows.{Fact, And as Both, Steady, steady_and, Grows, grows_bind, grows_give, grows_emits, Follows, follows_bind, follows_give, follows_seen, follows_less, follows_result, follows_emits, follows_never, acts_give}

@@ -4,10 +4,11 @@ use Rattle.std.specs.Prelude.{sum, sum_by, option_map}
 use Rattle.std.proofs.lemmas.List.Sums.{sum_by-cons}
 use Rattle.a64_memory.specs.Memory.{shapes, IsRising, IsOfBytes}
 use Rattle.a64_memory.specs.Memory.{Area as Region}
+use Rattle.a64_memory.specs.Areas.{heap_word, local_word, local_words}
 use Rattle.block_runs.specs.States.{Frame}
 use Rattle.ob_types.specs.Forms.{Form}
 use Rattle.ob_types.specs.Store.{Cell, Bits, Pointer, Code, Area, Globals, Frames, Heap, Strings, Handed, Store, objects, cell_of}
-use Rattle.lowered_runs.specs.Words.{Whole, Level, Sizes, sizes_of, place, next, heap_word, local_word, local_words, Thing, InCell, TagOf, Constant, word_at, word_of, There, Room, ValueIs, word, Held, Later}
+use Rattle.lowered_runs.specs.Words.{Whole, Level, Sizes, sizes_of, place, next, Thing, InCell, TagOf, Constant, word_at, word_of, There, Room, ValueIs, word, Held, Later}
 use Rattle.lowered_runs.proofs.Stores.{there_cell, there_tag}
 use Rattle.lowered_runs.proofs.Exprs.{place_above}
 

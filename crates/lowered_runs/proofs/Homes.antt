@@ -9,6 +9,7 @@ use Rattle.run_laws.proofs.Reached.{loosen}
 use Rattle.a64_memory.specs.Memory.{covers, loaded8, stored8}
 use Rattle.a64_memory.specs.Memory.{Area as Region}
 use Rattle.a64_memory.proofs.Blocks.{covers-top}
+use Rattle.a64_memory.specs.Areas.{heap_words, heap_word}
 use Rattle.block_runs.specs.declared.code.Code.TheVariants.{Load, Store}
 use Rattle.block_runs.specs.Effects.{Gives as Yields, Does, given_at, stored}
 use Rattle.block_runs.specs.States.{Runs}
@@ -21,7 +22,7 @@ use Rattle.ob_sound.proofs.Typed.{written, input_stays}
 use Rattle.ssa_lowered.specs.Pieces.{Cursor, Low, Mask, fetched}
 use Rattle.ssa_lowered.specs.Values.{Home, Register, Memory, current, load as lower_load, change as lower_change}
 use Rattle.ssa_lowered.specs.Statements.{assign as lower_assign}
-use Rattle.lowered_runs.specs.Words.{Whole, Level, Right, place_from, next, heap_words, sizes_of, heap_word, InCell, word_at, ValueIs, word, Held, Later, local, Apart}
+use Rattle.lowered_runs.specs.Words.{Whole, Level, Right, place_from, next, sizes_of, InCell, word_at, ValueIs, word, Held, Later, local, Apart}
 use Rattle.lowered_runs.specs.Words.{place as place_of}
 use Rattle.lowered_runs.proofs.Stores.{some_same, some_none, later_refl, later_on, later_put, put_in, put_held, put_apart, put_there, sizes_put, covers_thing, there_cell}
 use Rattle.lowered_runs.proofs.Values.{put_here, under_at, under_set, size_set, set_else, off_refl}

@@ -6,7 +6,7 @@ use Rattle.run_laws.specs.Turns.{◌>>=◌, give}
 use Rattle.run_laws.specs.Turns.{State as Moment}
 use Rattle.a64_memory.specs.Memory.{Area}
 use Rattle.wrapping_numbers.specs.Numbers.{signed}
-use Rattle.block_runs.specs.First.{data_base}
+use Rattle.a64_memory.specs.Areas.{data_base}
 use Rattle.block_runs.specs.Compares.{compares}
 use Rattle.block_runs.specs.declared.code.Code.TheVariants.{Svc, Set, Global, Max0, Const, Store}
 use Rattle.block_runs.specs.Steps.{set}

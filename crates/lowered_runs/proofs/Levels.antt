@@ -2,7 +2,7 @@
 use Rattle.std.proofs.Common.{◌≡◌, ℕ, suc, ◌+◌, ◌*◌, ◌<◌, ◌⊎◌, List, length, take, true, false, slice_get, Some}
 use Rattle.std.specs.Prelude.{◌-◌, ◌==◌}
 use Rattle.wrapping_numbers.specs.Numbers.{sub64}
-use Rattle.block_runs.specs.First.{data_base}
+use Rattle.a64_memory.specs.Areas.{data_base}
 use Rattle.ob_types.specs.Layout.{kind_of, record_of, cells, cells_of_all, extends}
 use Rattle.ob_types.specs.Meaning.{procedure_of, locals_of, globals_of, texts_of}
 use Rattle.ob_types.specs.Store.{Globals, Strings, Handed}

@@ -13,9 +13,9 @@ use Rattle.ob_sound.proofs.Typed.{lt_of}
 use Rattle.ssa_core.specs.Procedures.{procedures}
 use Rattle.ssa_lowered.specs.Data.{Layout, in_cells, globals_room, room_of_all}
 use Rattle.ssa_lowered.specs.Lowered.{lowered, procs_from}
-use Rattle.lowered_runs.specs.Words.{Whole, Level, Right, Sizes, sizes_of, Thing, InCell, TagOf, Constant, word_of, There, Room, Held, Apart, data_word}
+use Rattle.lowered_runs.specs.Words.{Whole, Level, Right, Sizes, sizes_of, Thing, InCell, TagOf, Constant, word_of, There, Room, Held, Apart}
 use Rattle.ob_types.specs.WellFormed.{declarations_fine}
-use Rattle.block_runs.specs.First.{data_base}
+use Rattle.a64_memory.specs.Areas.{data_base, data_word}
 use Rattle.ob_types.specs.WellFormed.{is_empty}
 use Rattle.ssa_lowered.specs.Data.{descriptor_at, text_at, within}
 use Rattle.ob_types.specs.declared.types.RecordType.{RecordType}

@@ -7,6 +7,7 @@ use Rattle.run_laws.proofs.Reached.{pass_quiet, loosen}
 use Rattle.a64_memory.specs.Memory.{Area, shapes, covered, store8, stored8}
 use Rattle.a64_memory.proofs.Shapes.{covers-shapes}
 use Rattle.a64_memory.proofs.Cells.{rising-stored8, of_bytes-stored8, shapes-stored8}
+use Rattle.a64_memory.specs.Areas.{heap_word}
 use Rattle.wrapping_numbers.specs.Numbers.{sub64}
 use Rattle.block_runs.specs.declared.code.Code.{Code}
 use Rattle.block_runs.specs.declared.code.Code.TheVariants.{Arg, Const, Store}
@@ -28,7 +29,7 @@ use Rattle.ssa_lowered.specs.Values.{store}
 use Rattle.ssa_lowered.specs.Variables.{Variable, placed, further, first_value, store_first, first_of, opened}
 use Rattle.ssa_lowered.specs.Variables.{stored as stored_all}
 use Rattle.ssa_lowered.specs.Lowered.{Here, in_register}
-use Rattle.lowered_runs.specs.Words.{Whole, Level, sizes_of, heap_word, ValueIs, word}
+use Rattle.lowered_runs.specs.Words.{Whole, Level, sizes_of, ValueIs, word}
 use Rattle.lowered_runs.proofs.Stores.{word_same, word_else}
 use Rattle.lowered_runs.proofs.Values.{Under, Same, put_here, put_else, put_same}
 use Rattle.lowered_runs.proofs.Standing.{Standing, stand_first, stand_rest, bulk, bulk_append}

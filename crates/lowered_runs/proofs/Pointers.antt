@@ -7,7 +7,7 @@ use Rattle.run_laws.specs.Turns.{Ending, Gives, Fails, Spent, after, give, ◌>>
 use Rattle.run_laws.specs.Turns.{State as At}
 use Rattle.a64_memory.specs.Memory.{Area, store8}
 use Rattle.wrapping_numbers.specs.Numbers.{add64}
-use Rattle.block_runs.specs.First.{data_base}
+use Rattle.a64_memory.specs.Areas.{data_base, heap_word, heap_words}
 use Rattle.block_runs.specs.declared.code.Code.TheVariants.{Const, Global, NotNil, New}
 use Rattle.block_runs.specs.Effects.{Does}
 use Rattle.block_runs.specs.Effects.{Gives as Yields, Fails as Refuses, made as made_of}
@@ -24,7 +24,7 @@ use Rattle.ssa_lowered.specs.Pieces.{◌>>=◌ as ◌>>>◌}
 use Rattle.ssa_lowered.specs.Values.{Object, Home, const, dereferenced}
 use Rattle.ssa_lowered.specs.Values.{change as lower_change}
 use Rattle.ssa_lowered.specs.Statements.{new as lower_new}
-use Rattle.lowered_runs.specs.Words.{Whole, Level, Right, Apart, sizes_of, next, heap_word, heap_words, Held}
+use Rattle.lowered_runs.specs.Words.{Whole, Level, Right, Apart, sizes_of, next, Held}
 use Rattle.lowered_runs.specs.Words.{place as place_of}
 use Rattle.lowered_runs.proofs.Stores.{map_length}
 use Rattle.lowered_runs.proofs.Values.{put_here}

@@ -2,6 +2,7 @@
 use Rattle.lowered_runs.specs.Claims.{has_constants, ConstantsStand}
 use Rattle.std.proofs.Common.{◌≡◌, ℕ, zero, suc, ◌+◌, ◌<◌, ◌≤◌, List, [], ◌∷◌, ◌++◌, map, length, Bool, true, false, not, ◌&&◌, ◌||◌, refl, sym, ap, ◌∙◌, subst, arith, Option, Some, None}
 use Rattle.std.specs.Prelude.{slice_index_or, is_some, nat_lt}
+use Rattle.a64_memory.specs.Areas.{heap_word}
 use Rattle.run_laws.specs.Runs.{weigh}
 use Rattle.run_laws.specs.Layers.{places_from, points_of_all}
 use Rattle.run_laws.proofs.Comes.{comes_spend, comes_spent}
@@ -31,7 +32,7 @@ use Rattle.ssa_lowered.specs.Pieces.{Cursor}
 use Rattle.ssa_lowered.specs.Variables.{lent_by_list, lent_by_answer}
 use Rattle.ssa_lowered.specs.Lowered.{Here, here_of, lowered, made_of, proc_of}
 use Rattle.ssa_lowered.specs.Lowered.{answer as lower_answer}
-use Rattle.lowered_runs.specs.Words.{same_trap, Whole, Level, Right, heap_word}
+use Rattle.lowered_runs.specs.Words.{same_trap, Whole, Level, Right}
 use Rattle.lowered_runs.proofs.Standing.{shared}
 use Rattle.lowered_runs.proofs.Ready.{Position, system, frame_at}
 use Rattle.lowered_runs.proofs.Points.{whole_weight, one_within, procedure_at}

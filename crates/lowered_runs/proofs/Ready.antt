@@ -7,6 +7,7 @@ use Rattle.run_laws.specs.Turns.{State as At}
 use Rattle.run_laws.proofs.Reached.{Reached, loosen}
 use Rattle.run_laws.proofs.Comes.{Comes}
 use Rattle.a64_memory.specs.Memory.{Area}
+use Rattle.a64_memory.specs.Areas.{local_words, heap_words}
 use Rattle.block_runs.specs.States.{Frame, World, State, Runs, Stop, Point}
 use Rattle.block_runs.specs.Steps.{block_system}
 use Rattle.block_runs.specs.Points.{least}
@@ -14,7 +15,7 @@ use Rattle.ob_types.specs.Sense.{HasSense}
 use Rattle.ob_types.specs.Store.{Cell, Store, Trap, cell_of}
 use Rattle.ob_sound.proofs.Typed.{Typed}
 use Rattle.ssa_lowered.specs.Pieces.{Cursor}
-use Rattle.lowered_runs.specs.Words.{same_trap, Whole, Level, sizes_of, next, local_words, heap_words, ValueIs, Held, Later}
+use Rattle.lowered_runs.specs.Words.{same_trap, Whole, Level, sizes_of, next, ValueIs, Held, Later}
 use Rattle.lowered_runs.proofs.Values.{Under}
 
 -- the store's cells have the forms that their types say

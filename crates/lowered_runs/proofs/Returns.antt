@@ -7,6 +7,7 @@ use Rattle.run_laws.specs.Turns.{State as At}
 use Rattle.run_laws.proofs.Reached.{pass_quiet, loosen}
 use Rattle.run_laws.proofs.Comes.{comes_spend}
 use Rattle.a64_memory.specs.Memory.{Area}
+use Rattle.a64_memory.specs.Areas.{local_words}
 use Rattle.wrapping_numbers.specs.Numbers.{sub64}
 use Rattle.block_runs.specs.declared.end.End.TheVariants.{Return}
 use Rattle.block_runs.specs.Blocks.{Operation, block_of, procedure_of}
@@ -22,7 +23,7 @@ use Rattle.ob_types.specs.Store.{Store as Objects}
 use Rattle.ob_types.proofs.Tests.{no}
 use Rattle.ssa_core.specs.Procedures.{procedure}
 use Rattle.ssa_lowered.specs.Lowered.{here_of, proc_of}
-use Rattle.lowered_runs.specs.Words.{same_trap, Whole, Level, sizes_of, local_words, Held, Later}
+use Rattle.lowered_runs.specs.Words.{same_trap, Whole, Level, sizes_of, Held, Later}
 use Rattle.lowered_runs.proofs.Ready.{Position, system, world_of, frame_at, runs_at, Goes, Ready}
 use Rattle.lowered_runs.proofs.Forks.{Ends_at, end_step, end_pays}
 use Rattle.lowered_runs.proofs.Frames.{Activation, above, with_frame, without_frame, value_frames, sum_append, later_pop, still_pop, held_pop}

@@ -24,7 +24,7 @@ use Rattle.ob_types.specs.declared.types.TypeKind.TheVariants.{Bool as Boolean, 
 use Rattle.a64_memory.specs.Memory.{AreBytes}
 use Rattle.a64_memory.proofs.Cells.{no_bytes, bytes_of_8}
 use Rattle.a64_memory.proofs.Shapes.{append_bytes}
-use Rattle.block_runs.specs.First.{data_base}
+use Rattle.a64_memory.specs.Areas.{data_base}
 use Rattle.ssa_lowered.specs.Constants.{ancestor, address_of, descriptor_bytes}
 use Rattle.ssa_lowered.specs.Data.{in_cells}
 use Rattle.ssa_lowered.specs.Pieces.{numbers}

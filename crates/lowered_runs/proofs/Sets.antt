@@ -5,6 +5,7 @@ use Rattle.std.proofs.lemmas.Bool.{cases_eq}
 use Rattle.run_laws.specs.Turns.{Ending, Gives, Fails, Spent, after, give, ◌>>=◌}
 use Rattle.run_laws.specs.Turns.{State as At}
 use Rattle.a64_memory.specs.Memory.{Area}
+use Rattle.a64_memory.specs.Areas.{heap_word}
 use Rattle.wrapping_numbers.specs.Sets.{has, bit_words, span_words, has_words}
 use Rattle.wrapping_numbers.proofs.Bounds.{or64_lt}
 use Rattle.block_runs.specs.declared.code.Code.TheVariants.{Or, Set, Bit, Span, Has, Elem, Byte}
@@ -20,7 +21,7 @@ use Rattle.ssa_lowered.specs.Pieces.{Low, Mask, emits}
 use Rattle.ssa_lowered.specs.Pieces.{◌>>=◌ as ◌>>>◌}
 use Rattle.ssa_lowered.specs.Values.{condition, member}
 use Rattle.ssa_lowered.specs.Values.{compared as lower_compared, contained as lower_contained, with_element as lower_element, with_range as lower_range, as_byte as lower_byte}
-use Rattle.lowered_runs.specs.Words.{Whole, Level, Right, sizes_of, place, heap_word, TagOf, Thing, ValueIs, Held}
+use Rattle.lowered_runs.specs.Words.{Whole, Level, Right, sizes_of, place, TagOf, Thing, ValueIs, Held}
 use Rattle.lowered_runs.proofs.Stores.{some_same}
 use Rattle.lowered_runs.proofs.Ready.{Goes}
 use Rattle.lowered_runs.proofs.Numbers.{has_same, span_same, bit_same}

@@ -16,7 +16,8 @@ use Rattle.ob_types.specs.declared.types.RecordType.{RecordType}
 use Rattle.std.proofs.Math.Seq.{drop-append-add}
 use Rattle.std.proofs.lemmas.Nat.{from_le_bytes-to_le_bytes_8}
 use Rattle.a64_memory.proofs.Shapes.{covers-shapes, zero_bytes, append_bytes}
-use Rattle.block_runs.specs.First.{data_base, local_base, heap_base, local_bytes, heap_bytes, first_world, zeroed}
+use Rattle.a64_memory.specs.Areas.{data_base, local_base, heap_base, local_bytes, heap_bytes, zeroed, data_word, local_word, heap_word, local_words, heap_words}
+use Rattle.block_runs.specs.First.{first_world}
 use Rattle.block_runs.specs.First.{first_state}
 use Rattle.block_runs.specs.Points.{all_points}
 use Rattle.ob_types.specs.Layout.{cells_of_all}
@@ -28,7 +29,7 @@ use Rattle.ob_types.specs.declared.program.Program.{Program}
 use Rattle.ssa_core.specs.Procedures.{procedures}
 use Rattle.ssa_lowered.specs.Data.{in_cells, globals_room, descriptor_at, within}
 use Rattle.ssa_lowered.specs.Lowered.{lowered}
-use Rattle.lowered_runs.specs.Words.{Whole, Level, Sizes, sizes_of, sizes_in, data_word, local_word, heap_word, local_words, heap_words, Thing, InCell, TagOf, Constant, word_at, word_of, There, ValueIs, word, Held, AreInput}
+use Rattle.lowered_runs.specs.Words.{Whole, Level, Sizes, sizes_of, sizes_in, Thing, InCell, TagOf, Constant, word_at, word_of, There, ValueIs, word, Held, AreInput}
 use Rattle.lowered_runs.specs.Claims.{has_constants, ConstantsStand}
 use Rattle.lowered_runs.proofs.Stores.{there_cell}
 pub use Rattle.lowered_runs.proofs.Strings.{start_of}

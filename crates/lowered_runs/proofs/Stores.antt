@@ -6,9 +6,10 @@ use Rattle.a64_memory.specs.Memory.{covered, covers, stored8}
 use Rattle.a64_memory.specs.Memory.{Area as Region}
 use Rattle.a64_memory.proofs.Shapes.{covers-shapes}
 use Rattle.a64_memory.proofs.Cells.{loaded8-stored8_same, loaded8-stored8_apart, rising-stored8, of_bytes-stored8, shapes-stored8}
+use Rattle.a64_memory.specs.Areas.{heap_word, local_word, local_words}
 use Rattle.ob_types.specs.Store.{Cell, Bits, Pointer, Code, Area, Globals, Frames, Heap, Strings, Store, objects, with_objects, cell_of, cell_put, can_write}
 use Rattle.ob_sound.proofs.Typed.{written, tags_stay, input_stays, heap_stays}
-use Rattle.lowered_runs.specs.Words.{Whole, Level, Sizes, sizes_of, sizes_in, place, next, heap_word, local_word, local_words, Thing, InCell, TagOf, Constant, word_at, word_of, There, Room, ValueIs, word, Held, AreInput, Later}
+use Rattle.lowered_runs.specs.Words.{Whole, Level, Sizes, sizes_of, sizes_in, place, next, Thing, InCell, TagOf, Constant, word_at, word_of, There, Room, ValueIs, word, Held, AreInput, Later}
 
 pub some_same : {A : Type 0} {x y : A} {o : Option A} → o ≡ Some x → o ≡ Some y → x ≡ y
 some_same e f = cc

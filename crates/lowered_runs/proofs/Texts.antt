@@ -10,7 +10,7 @@ use Rattle.a64_memory.proofs.Stores.{length-bytes_at}
 use Rattle.a64_memory.proofs.Blocks.{covers-part, of_bytes-bytes_at}
 use Rattle.a64_memory.proofs.Copies.{loaded1_in_block}
 use Rattle.wrapping_numbers.specs.Numbers.{add64}
-use Rattle.block_runs.specs.Texts.{Bytes, text_at, text_with, before}
+use Rattle.a64_memory.specs.Texts.{Bytes, text_at, text_with, before}
 use Rattle.block_runs.specs.Effects.{Faults, written}
 use Rattle.block_runs.specs.declared.code.Code.TheVariants.{Const, Svc}
 use Rattle.ob_types.specs.Forms.{Small, repeated, types_fine}

@@ -6,7 +6,7 @@ use Rattle.run_laws.specs.Turns.{State as At}
 use Rattle.a64_memory.specs.Memory.{Area, covers, loaded8, load8}
 use Rattle.a64_memory.proofs.Blocks.{covers-top}
 use Rattle.wrapping_numbers.specs.Numbers.{add64}
-use Rattle.block_runs.specs.First.{data_base}
+use Rattle.a64_memory.specs.Areas.{data_base, heap_word}
 use Rattle.block_runs.specs.declared.code.Code.TheVariants.{Const, Global, Load, IsPtr, IsTag, GuardPtr, GuardTag}
 use Rattle.block_runs.specs.Effects.{Effect, given_at, level as level_of, unless as refuses_unless}
 use Rattle.block_runs.specs.Effects.{Gives as Yields, Fails as Refuses}
@@ -24,7 +24,7 @@ use Rattle.ssa_lowered.specs.Pieces.{Low, Mask, emits, does}
 use Rattle.ssa_lowered.specs.Pieces.{◌>>=◌ as ◌>>>◌, give as gives}
 use Rattle.ssa_lowered.specs.Values.{Named, Beside, Object, Held as InRegister, At as AtAddress, second, is_pointer, is_tag}
 use Rattle.ssa_lowered.specs.Values.{guarded as lower_guarded, narrowed as lower_narrowed, tag_of as lower_tag}
-use Rattle.lowered_runs.specs.Words.{Whole, Level, Right, sizes_of, heap_word, TagOf, Constant, ValueIs, word, Held}
+use Rattle.lowered_runs.specs.Words.{Whole, Level, Right, sizes_of, TagOf, Constant, ValueIs, word, Held}
 use Rattle.lowered_runs.proofs.Stores.{covers_thing, there_tag, value_later}
 use Rattle.lowered_runs.proofs.Values.{put_here}
 use Rattle.lowered_runs.proofs.Follows.{Fact, And as Both, Anything, Steady, steady_and, steady_fixed, Grows, grows_bind, grows_give, grows_emits, grows_does, Follows, follows_bind, follows_then, follows_found, follows_give, follows_seen, follows_known, follows_emits, follows_does, follows_never, Acts, acts_give, acts_trap, acts_senseless, effect_at}

@@ -10,6 +10,7 @@ use Rattle.run_laws.proofs.Reached.{pass_quiet, moment, loosen}
 use Rattle.run_laws.proofs.Comes.{comes_each}
 use Rattle.a64_memory.specs.Memory.{Area, shapes, covered, covers, store8, stored8}
 use Rattle.a64_memory.proofs.Shapes.{covers-shapes}
+use Rattle.a64_memory.specs.Areas.{heap_word}
 use Rattle.wrapping_numbers.specs.Numbers.{add64, sub64}
 use Rattle.block_runs.specs.declared.code.Code.TheVariants.{Const, Zero}
 use Rattle.block_runs.specs.declared.code.Code.TheVariants.{Local as LocalAt}
@@ -27,7 +28,7 @@ use Rattle.ssa_core.specs.declared.procedure.Op.{Op}
 use Rattle.ssa_lowered.specs.Pieces.{Cursor, emits}
 use Rattle.ssa_lowered.specs.Values.{const}
 use Rattle.ssa_lowered.specs.Variables.{zeroing}
-use Rattle.lowered_runs.specs.Words.{same_trap, Whole, Level, heap_word, word}
+use Rattle.lowered_runs.specs.Words.{same_trap, Whole, Level, word}
 use Rattle.lowered_runs.proofs.Stores.{word_same, word_else}
 use Rattle.lowered_runs.proofs.Values.{Same, put_here, put_else, put_same, same_on}
 use Rattle.lowered_runs.proofs.Standing.{Standing, bulk, shared}

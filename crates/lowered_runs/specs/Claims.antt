@@ -3,7 +3,8 @@ use Rattle.std.specs.Prelude.{◌≡◌, ℕ, ◌+◌, ◌≤◌, ◌||◌, List
 use Rattle.run_laws.specs.Runs.{Keeps}
 use Rattle.a64_memory.specs.Memory.{AreBytes}
 use Rattle.block_runs.specs.Blocks.{Procedure}
-use Rattle.block_runs.specs.First.{data_base, first_state}
+use Rattle.a64_memory.specs.Areas.{data_base}
+use Rattle.block_runs.specs.First.{first_state}
 use Rattle.block_runs.specs.Points.{least, all_points, AreCodePlaces}
 use Rattle.block_runs.specs.Steps.{block_system}
 use Rattle.ob_types.specs.Meaning.{texts_of, meaning}

@@ -2,6 +2,7 @@
 use Rattle.std.specs.Prelude.{◌≡◌, ◌≢◌, ◌⊎◌, ℕ, zero, suc, ◌+◌, ◌*◌, ◌^◌, ◌<◌, ◌≤◌, List, [], ◌∷◌, map, length, sum, sum_by, slice_get, slice_index, Bool, true, Option, Some, None, option_map, nat_lt}
 use Rattle.a64_memory.specs.Memory.{Shape, shapes, covered, loaded8, IsRising, IsOfBytes}
 use Rattle.a64_memory.specs.Memory.{Area as Region}
+use Rattle.a64_memory.specs.Areas.{heap_word, local_word, heap_words, local_words}
 use Rattle.block_runs.specs.Blocks.{Procedure}
 use Rattle.block_runs.specs.States.{Frame, State, Point, Stop}
 use Rattle.block_runs.specs.States.{Kind as Stopped}
@@ -21,23 +22,6 @@ use Rattle.ob_types.specs.Store.{Cell, Bits, Pointer, Code, Area, Globals, Frame
 abbrev pub same_trap : Trap → Stop → Type 0
 same_trap (Kind k f) (Stopped n p) = (k ≡ n) × (f ≡ p)
 same_trap _ _ = ⊥
-
--- where the globals, the local data and the heap begin, and where the latter two end: in words of eight bytes
-abbrev pub data_word : ℕ
-data_word = 0x2000000
-
-abbrev pub local_word : ℕ
-local_word = 0x4000000
-
-abbrev pub heap_word : ℕ
-heap_word = 0x10000000
-
--- how many words each of the latter two has
-abbrev pub local_words : ℕ
-local_words = 1048576
-
-abbrev pub heap_words : ℕ
-heap_words = 8388608
 
 -- what is the same all through a run: the checked program; the procedures that run; the addresses of their code; the first
 -- words of a global object and of a string; the address of a record type's descriptor; what the words of descriptors have; how many record

@@ -76,6 +76,9 @@ fn goes_on(core: &mut Core, word: u32) -> bool {
     let Some(i) = decode(word) else {
         return false;
     };
+    if core.pc > u64::from(u32::MAX) {
+        return false;
+    }
     match service_number(&i) {
         Some(_) => false,
         None => matches!(core.execute(&i), Step::Going),

@@ -2,7 +2,7 @@
 
 use crate::effects::byte_of;
 use a64_machine::Machine;
-use image_form::{Bytes, Image, Words};
+use image_form::{Bytes, Image, ProcPlaces, Words};
 use std::alloc::{AllocError, Global};
 use trc_base::{CleanSink, MemSink};
 
@@ -103,6 +103,7 @@ fn machine(
         globals,
         constants: Bytes::new(Vec::from_slice(alloc, constants)?),
         frame,
+        places: ProcPlaces::new(Vec::new(alloc)),
     };
     let input = Vec::from_slice(alloc, input)?;
     Ok(Some(Machine::load(alloc, image, input)?))

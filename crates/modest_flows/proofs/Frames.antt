@@ -5,13 +5,11 @@ use Rattle.std.specs.List.{list_all}
 use Rattle.std.proofs.lemmas.Bool.{ltb-true, eqb-true}
 use Rattle.std.proofs.lemmas.Bool.Decides.{nat_tests}
 use Rattle.run_laws.specs.Layers.{places_from}
-use Rattle.block_runs.specs.declared.code.Code.{Code}
-use Rattle.block_runs.specs.declared.code.Code.TheVariants as o
 use Rattle.block_runs.specs.declared.end.End.{End}
 use Rattle.block_runs.specs.declared.end.End.TheVariants.{Jump, Branch, Nonzero, Return, Trap}
 use Rattle.block_runs.specs.Blocks.{Operation, CodeBlock, block_at, successors, end_uses}
 use Rattle.block_runs.specs.Live.{has}
-use Rattle.block_runs.specs.Valid.{all_below, block_reads, uses_of, makes, acts, serves, fits, is_call, operation_fits}
+use Rattle.block_runs.specs.Valid.{all_below, block_reads, uses_of}
 use Rattle.global_live.proofs.Lists.{has_back, all_below_in}
 use Rattle.global_live.proofs.Tables.{at_block}
 use Rattle.lir_core.specs.declared.places.Move.{Move}
@@ -20,7 +18,7 @@ use Rattle.lir_core.specs.declared.places.Line.TheVariants.{Store, Load, Moves, 
 use Rattle.lir_core.specs.declared.places.Line.TheVariants.{Lir as Does}
 use Rattle.lir_core.specs.Flows.{code_node, code_nodes, node_at}
 use Rattle.lir_core.specs.Spots.{placed as holds, Spot, reg, home, out, target, saved, spot}
-use Rattle.lir_core.specs.Lines.{names, is_aimed, Room, InRange, MovesInRange, LinesInRange, slots_used, slots_in, slots_of}
+use Rattle.lir_core.specs.Lines.{names, Room, InRange, MovesInRange, LinesInRange}
 use Rattle.lir_core.specs.Sound.{room_of}
 use Rattle.trace_build.specs.Cuts.{lists_of, AllTraces}
 use Rattle.boundary_resolve.specs.Moves.{entry_places, entry_argument}
@@ -34,7 +32,10 @@ use Rattle.placed_code.proofs.Parts.{length_blocks}
 use Rattle.linked_flows.specs.Allocations.{Cut, copies_of, steps_of, part_at, allocated}
 use Rattle.linked_flows.proofs.Edges.{count}
 use Rattle.linked_flows.proofs.Nodes.{sound_node}
+use Rattle.link_blocks.specs.Fits.{most_outs}
 use Rattle.link_blocks.proofs.Made.{blocks_of, one_block}
+use Rattle.link_blocks.proofs.Outs.{slots_few}
+use Rattle.modest_flows.specs.Modest.{most_values}
 use Rattle.modest_flows.proofs.Lows.{SpotLow, CopiesLow, MovesLow, low_append, order_low, edge_low}
 use Rattle.modest_flows.proofs.Lives.{start_low, argument_low, and_left, and_right}
 
@@ -137,51 +138,6 @@ module _ (n : ℕ) where
   left_low (Return a) ms l = tt
   left_low (Trap kind) ms l = tt
 
----- Slots for arguments
-
-aimed_few : (uses : List ℕ) → length uses ≤ 25 → length (drop 1 uses) - 4 ≤ 20
-aimed_few [] l = omega arith
-aimed_few (x ∷ xs) l = omega (arith, l)
-
-acted : (n u : ℕ) (d : Bool) → n ≤ 24 → acts n u d ≡ true → u ≤ 24
-acted n u d l e = let q = eqb-true u n (and_left (u == n) (not d) e) in omega (arith, q, l)
-
-maked : (n u : ℕ) (d : Bool) → n ≤ 24 → makes n u d ≡ true → u ≤ 24
-maked n u d l e = let q = eqb-true u n (and_left (u == n) d e) in omega (arith, q, l)
-
-serves_few : (n u : ℕ) (d : Bool) → serves n u d ≡ true → u ≤ 24
-serves_few zero u d e = cc
-serves_few (suc zero) u d e = acted 1 u d (omega arith) e
-serves_few (suc (suc zero)) u d e = acted 2 u d (omega arith) e
-serves_few (suc (suc (suc zero))) u d e = acted 3 u d (omega arith) e
-serves_few (suc (suc (suc (suc zero)))) u d e = maked 0 u d (omega arith) e
-serves_few (suc (suc (suc (suc (suc n))))) u d e = cc
-
-le_true : (a b : ℕ) → nat_le a b ≡ true → a ≤ b
-le_true a b e = grind (arith, nat_tests)
-
-used_few : (args : ℕ) (code : Code) (uses : List ℕ) (d : Bool) → fits args code (length uses) d ≡ true → cond (is_call code) (length (cond (is_aimed code) (drop 1 uses) uses) - 4) 0 ≤ 20
-used_few args (o.Call p) uses d e = let l = le_true (length uses) 24 e in omega (arith, l)
-used_few args o.CallAt uses d e = aimed_few uses (le_true (length uses) 25 (and_right (nat_le 1 (length uses)) (nat_le (length uses) 25) e))
-used_few args o.Copy uses d e = let l = acted 3 (length uses) d (omega arith) e in omega (arith, l)
-used_few args o.Zero uses d e = let l = acted 2 (length uses) d (omega arith) e in omega (arith, l)
-used_few args o.Compare uses d e = let l = maked 4 (length uses) d (omega arith) e in omega (arith, l)
-used_few args (o.Svc n) uses d e = let l = serves_few n (length uses) d e in omega (arith, l)
-used_few args code uses d e = omega arith
-
-max_few : (a b n : ℕ) → a ≤ n → b ≤ n → max a b ≤ n
-max_few a b n l m = omega (arith, l, m)
-
-slots_in_few : (args : ℕ) (ops : List Operation) → list_all (operation_fits args) ops ≡ true → slots_in ops ≤ 20
-slots_in_few args [] e = omega arith
-slots_in_few args (op ∷ ops) e =
-    max_few (slots_used op) (slots_in ops) 20 (used_few args op.code op.uses (is_some op.def) (and_left (operation_fits args op) (list_all (operation_fits args) ops) e)) (slots_in_few args ops (and_right (operation_fits args op) (list_all (operation_fits args) ops) e))
-
-slots_few : (args : ℕ) (bls : List CodeBlock) → list_all (λ bl. list_all (operation_fits args) bl.ops) bls ≡ true → slots_of bls ≤ 20
-slots_few args [] e = omega arith
-slots_few args (bl ∷ bls) e =
-    max_few (slots_in bl.ops) (slots_of bls) 20 (slots_in_few args bl.ops (and_left (list_all (operation_fits args) bl.ops) (list_all (λ x. list_all (operation_fits args) x.ops) bls) e)) (slots_few args bls (and_right (list_all (operation_fits args) bl.ops) (list_all (λ x. list_all (operation_fits args) x.ops) bls) e))
-
 ---- Frames
 
 numbers_low : (i n a : ℕ) → has (places_from i n) a ≡ true → a < i + n
@@ -192,23 +148,23 @@ numbers_low i (suc n) a e = by_test (i == a) refl e (numbers_low (suc i) n a)
     by_test true q e on = let same = eqb-true i a q in omega (arith, same)
     by_test false q e on = let l = on e in omega (arith, l)
 
-module _ (k : ℕ) (c : Cut) (sound : AreSound k c.flow c.traces c.outs) (few : c.flow.values ≤ 4000) where
-  low : (n v : ℕ) → n < length c.flow.nodes → holds (start_at c.traces c.outs n) v ≡ true → v < 4000
+module _ (k : ℕ) (c : Cut) (sound : AreSound k c.flow c.traces c.outs) (few : c.flow.values ≤ most_values) where
+  low : (n v : ℕ) → n < length c.flow.nodes → holds (start_at c.traces c.outs n) v ≡ true → v < most_values
   low n v l e = let h = start_low k c sound n v l e in omega (arith, h, few)
 
-  from_low : (ps : List ℕ) (n : ℕ) → n < length c.flow.nodes → CopiesLow 4000 (copies_of (steps_from c.flow c.traces c.outs ps n))
+  from_low : (ps : List ℕ) (n : ℕ) → n < length c.flow.nodes → CopiesLow most_values (copies_of (steps_from c.flow c.traces c.outs ps n))
   from_low [] n l = tt
   from_low (p ∷ ps) n l = by_test (is_test (node_at c.flow.nodes p).end)
     where
-      by_test : (b : Bool) → CopiesLow 4000 (copies_of (cond b (steps_between c.traces c.outs p n (λ v. v)) []))
-      by_test true = edge_low 4000 (end_at c.traces c.outs p) (start_at c.traces c.outs n) (λ v. v) (λ v e. (low n v l e, low n v l e))
+      by_test : (b : Bool) → CopiesLow most_values (copies_of (cond b (steps_between c.traces c.outs p n (λ v. v)) []))
+      by_test true = edge_low most_values (end_at c.traces c.outs p) (start_at c.traces c.outs n) (λ v. v) (λ v e. (low n v l e, low n v l e))
       by_test false = tt
 
-  leaving_low : (n : ℕ) (end : End) → all_below (length c.flow.nodes) (successors end) ≡ true → all_below c.flow.values (end_uses end) ≡ true → CopiesLow 4000 (copies_of (steps_of_end c.flow c.traces c.outs n end))
+  leaving_low : (n : ℕ) (end : End) → all_below (length c.flow.nodes) (successors end) ≡ true → all_below c.flow.values (end_uses end) ≡ true → CopiesLow most_values (copies_of (steps_of_end c.flow c.traces c.outs n end))
   leaving_low n (Jump to args) t u =
       let there = ltb-true to (length c.flow.nodes) (and_left (nat_lt to (length c.flow.nodes)) true t) in
-      edge_low 4000 (end_at c.traces c.outs n) (start_at c.traces c.outs to) _
-      (λ v e. (low to v there e, argument_low 4000 (node_at c.flow.nodes to).params args v (λ a h. let x = all_below_in c.flow.values args a u h in omega (arith, x, few)) (low to v there e)))
+      edge_low most_values (end_at c.traces c.outs n) (start_at c.traces c.outs to) _
+      (λ v e. (low to v there e, argument_low most_values (node_at c.flow.nodes to).params args v (λ a h. let x = all_below_in c.flow.values args a u h in omega (arith, x, few)) (low to v there e)))
   leaving_low n (Branch q a b one other) t u = tt
   leaving_low n (Nonzero a one other) t u = tt
   leaving_low n (Return a) t u = tt
@@ -218,7 +174,7 @@ module _ (k : ℕ) (c : Cut) (sound : AreSound k c.flow c.traces c.outs) (few : 
   append_below [] ys m e = e
   append_below (x ∷ xs) ys m e = append_below xs ys m (and_right (nat_lt x m) (all_below m (xs ++ ys)) e)
 
-  block_low : (b : ℕ) → b < length c.flow.nodes → BlockLow 4000 (placed_block steps_of (code_node (node_at c.flow.nodes b)) (part_at c b))
+  block_low : (b : ℕ) → b < length c.flow.nodes → BlockLow most_values (placed_block steps_of (code_node (node_at c.flow.nodes b)) (part_at c b))
   block_low b l =
       let bls = code_nodes c.flow.nodes in
       let valid = sound.valid.code in
@@ -234,12 +190,12 @@ module _ (k : ℕ) (c : Cut) (sound : AreSound k c.flow c.traces c.outs) (few : 
       let into = from_low (node_at c.flow.nodes b).preds b l in
       let leaving = leaving_low b node.end targets reads in
       record {
-        cells = cells_low 4000 (room_of k c.flow) few (part_at c b).into node.ops (registers_at c.traces c.outs b) (lines_at c.traces c.outs b) into range;
-        last = low_append 4000 (last_copies steps_of (part_at c b).into node.ops (lines_at c.traces c.outs b)) (left_by node.end (part_at c b).leaving)
-            (last_low 4000 (room_of k c.flow) few (part_at c b).into node.ops (lines_at c.traces c.outs b) into range) (left_low 4000 node.end (part_at c b).leaving leaving);
+        cells = cells_low most_values (room_of k c.flow) few (part_at c b).into node.ops (registers_at c.traces c.outs b) (lines_at c.traces c.outs b) into range;
+        last = low_append most_values (last_copies steps_of (part_at c b).into node.ops (lines_at c.traces c.outs b)) (left_by node.end (part_at c b).leaving)
+            (last_low most_values (room_of k c.flow) few (part_at c b).into node.ops (lines_at c.traces c.outs b) into range) (left_low most_values node.end (part_at c b).leaving leaving);
       }
 
-  entry_low : CopiesLow 4000 (copies_of (entry_steps c.flow c.traces c.outs))
+  entry_low : CopiesLow most_values (copies_of (entry_steps c.flow c.traces c.outs))
   entry_low =
       let params = (node_at c.flow.nodes 0).params in
       let m = count k c.flow c.traces c.outs sound in
@@ -247,19 +203,19 @@ module _ (k : ℕ) (c : Cut) (sound : AreSound k c.flow c.traces c.outs) (few : 
       let there : 0 < length c.flow.nodes = omega (arith, m, b) in
       let four = sound.valid.code.first_params in
       let same = params_are k c.flow c.traces c.outs sound 0 in
-      edge_low 4000 (entry_places (length params)) (start_at c.traces c.outs 0) (entry_argument params)
-      (λ v e. (low 0 v there e, argument_low 4000 params (places_from 0 (length params)) v (λ a h. let x = numbers_low 0 (length params) a h in let z = min_four c.flow.args in omega (arith, x, four, same, z)) (low 0 v there e)))
+      edge_low most_values (entry_places (length params)) (start_at c.traces c.outs 0) (entry_argument params)
+      (λ v e. (low 0 v there e, argument_low most_values params (places_from 0 (length params)) v (λ a h. let x = numbers_low 0 (length params) a h in let z = min_four c.flow.args in omega (arith, x, four, same, z)) (low 0 v there e)))
     where
       min_four : (a : ℕ) → min 4 a ≤ 4
       min_four a = omega arith
 
-  pub frame_small : words.slots_of (placed steps_of (allocated c)) ≤ 4021
+  pub frame_small : words.slots_of (placed steps_of (allocated c)) ≤ most_outs + (1 + most_values)
   frame_small =
       let first = copies_of (entry_steps c.flow c.traces c.outs) in
       let m = count k c.flow c.traces c.outs sound in
       let n = length_blocks steps_of 0 (code_nodes c.flow.nodes) (allocated c).parts in
-      let rise = copies_rise 4000 first (with_blocks (blocks_of c) []) entry_low
-      (blocks_rise 4000 (blocks_of c) [] (λ b l. let l' : b < length c.flow.nodes = omega (arith, l, m, n) in subst (BlockLow 4000) (sym (one_block k c sound b l')) (block_low b l')) tt) in
-      let homes = rises_few 0 4000 (homes_of first (blocks_of c)) (omega arith) rise in
+      let rise = copies_rise most_values first (with_blocks (blocks_of c) []) entry_low
+      (blocks_rise most_values (blocks_of c) [] (λ b l. let l' : b < length c.flow.nodes = omega (arith, l, m, n) in subst (BlockLow most_values) (sym (one_block k c sound b l')) (block_low b l')) tt) in
+      let homes = rises_few 0 most_values (homes_of first (blocks_of c)) (omega arith) rise in
       let outs = slots_few c.flow.args (code_nodes c.flow.nodes) sound.valid.code.operations in
       omega (arith, homes, outs)

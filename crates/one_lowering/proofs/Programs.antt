@@ -7,7 +7,9 @@ use Rattle.ob_types.specs.Meaning.{procedure_of, no_procedure, texts_of}
 use Rattle.ob_types.specs.WellFormed.{well_formed}
 use Rattle.ob_types.specs.declared.program.Procedure.{Procedure}
 use Rattle.ob_types.specs.declared.program.Program.{Program}
+use Rattle.ob_types.specs.Table.{Table}
 use Rattle.ob_types.proofs.Tests.{none_some, some_same}
+use Rattle.ob_judge.specs.Image as I
 use Rattle.ssa_lowered.specs.Data.{in_cells, globals_room}
 use Rattle.ssa_lowered.specs.Pieces.{numbers}
 use Rattle.ssa_lowered.specs.Constants
@@ -15,7 +17,7 @@ use Rattle.ssa_lowered.specs.Constants.{base_by, ancestor, constants}
 use Rattle.ssa_lowered.specs.Limits.{passed, or_else, at_procedure, passes, limit_in, limits_from, limit_of}
 use Rattle.ssa_lowered.specs.Lowered.{proc_of, procs_from, lowered}
 use Rattle.judged_tree.specs.Plain.{plain_program, plain_procedure}
-use Rattle.one_lowering.specs.Forms.{HasClosedTypes, numbered, numbered_procedure, HaveOneForm, HaveOneLowering}
+use Rattle.one_lowering.specs.Forms.{HasClosedTypes, numbered, numbered_procedure, place_of, HaveOneForm, HaveOneLowering}
 use Rattle.one_lowering.proofs.Whole
 use Rattle.one_lowering.proofs.Whole.{Facts, facts_of, descriptor_bytes, all_globals, string_bytes, low_procedure, low_procedures, low_program, low_constants, strings, low_limit_in, low_limits_from, low_limit}
 use Rattle.one_lowering.proofs.Data.{facts, form_of, level_same, base_same, globals_same, descriptor_same, strings_same, records_many, module_cells}
@@ -115,12 +117,20 @@ module _ (p : Program) (well : well_formed p ≡ true) (sources : List (List ℕ
       (or_else (inside k)
       (passes 58 (nat_lt 262144 (16 * records k + sum_by (λ (cs : List ℕ). suc (length cs)) (texts k))))))
 
+-- where procedures stand is told by their forms
+places_told : (t : Table) (n : ℕ) (qs : List Procedure) → map (λ (image : I.Procedure). (image.module_number, image.line)) (map (plain_procedure t) (map (numbered_procedure n) qs)) ≡ map place_of qs
+places_told t n [] = refl
+places_told t n (q ∷ qs) = ap (λ xs. place_of q ∷ xs) (places_told t n qs)
+
 pub one_lowering : (p q : Program) → well_formed p ≡ true → well_formed q ≡ true → (h : HaveOneForm p q) → HasClosedTypes (plain_program h.sources (numbered p)) → HaveOneLowering p q
 one_lowering p q good well h closed =
     let closed_too = subst HasClosedTypes h.form closed in
     let same_facts : facts p good h.sources closed ≡ facts q well h.others closed_too = λ k. facts_of (h.form k) (h.texts k) in
     record {
       procedures = lowered_same p good h.sources closed ∙ ap₂ (λ image texts. low_program image texts) h.form h.texts ∙ sym (lowered_same q well h.others closed_too);
+      places = sym (places_told p.types (length (texts_of p.procedures)) p.procedures)
+          ∙ ap (λ (image : I.Program). map (λ (x : I.Procedure). (x.module_number, x.line)) image.procedures) h.form
+          ∙ places_told q.types (length (texts_of q.procedures)) q.procedures;
       globals = data_same p good h.sources closed ∙ ap (λ x. all_globals x) same_facts ∙ sym (data_same q well h.others closed_too);
       constants = λ base. constants_same p good h.sources closed base ∙ ap (λ x. low_constants x base) same_facts ∙ sym (constants_same q well h.others closed_too base);
       limit = limit_same p good h.sources closed ∙ ap₂ (λ image texts. low_limit image texts) h.form h.texts ∙ sym (limit_same q well h.others closed_too);

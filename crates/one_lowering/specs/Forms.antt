@@ -52,10 +52,15 @@ pub record HaveOneForm (p q : Program) : Type 0 where
   pub form : plain_program sources (numbered p) ≡ plain_program others (numbered q)
   pub texts : map (λ x. x.texts) p.procedures ≡ map (λ x. x.texts) q.procedures
 
--- two programs have the same procedures in blocks, the same bytes of variables and of constants, the same limit that is passed
--- first, if one is, and import In both or neither
+-- where a procedure stands in the texts: its module and its line
+abbrev pub place_of : Procedure → ℕ × ℕ
+place_of x = (x.«module», x.line)
+
+-- two programs have the same procedures in blocks, in the same modules and lines, the same bytes of variables and of constants, the
+-- same limit that is passed first, if one is, and import In both or neither
 pub record HaveOneLowering (p q : Program) : Type 0 where
   pub procedures : lowered p ≡ lowered q
+  pub places : map place_of p.procedures ≡ map place_of q.procedures
   pub globals : globals_room p (in_cells p.types) ≡ globals_room q (in_cells q.types)
   -- where the globals start at any address
   pub constants : (base : ℕ) → constants p (in_cells p.types) base ≡ constants q (in_cells q.types) base

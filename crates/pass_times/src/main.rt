@@ -7,7 +7,8 @@
 //! which makes traces, and `results`, which gives them places by the workers; `allocate`, which is both
 //! and the lines of edges; `link`. Behind these stand the words of the code, what the module writes, and the machine's
 //! steps. With `all` before these words the passes are called in one call, and the first line is `all`. With `text SEED SIZE` it
-//! writes the module's text; with `check` it reads a text from its input, and writes the first three lines for it.
+//! writes the module's text; with `check` it reads a text from its input, and writes the first three lines for it; with `lower`, the
+//! fourth too, also where a limit is passed.
 //!
 //! Its stored run has no words and tells no times: the words, the number and the steps of a made module by each policy.
 #![tactic(auto)]
@@ -31,7 +32,7 @@ use std::env;
 use std::rt::{Clock, CpuClock};
 use std::sync::Wait;
 use std::thread::Threads;
-use timing::{MOST_BYTES, time_all, time_check, time_passes};
+use timing::{MOST_BYTES, time_all, time_check, time_lowering, time_passes};
 use trc_base::{HostSink, HostSource, Sink, Source, read_all, write_all};
 use words::made_module;
 
@@ -102,14 +103,19 @@ fn write_text<O: Sink>(alloc: Global, words: &[String], out: &mut O) -> Result<(
     Ok(())
 }
 
+// The text on the input.
+fn read_text<I: Source>(alloc: Global, input: &mut I) -> Result<[Items<u8>; 1]> {
+    let text = read_all(alloc, input, MOST_BYTES)?;
+    Ok([Items::from_vec(text)])
+}
+
 // Times the checking of a text.
-fn time_text<R: Clock + CpuClock + Print, I: Source>(
+fn time_text<R: Clock + CpuClock + Print>(
     rt: &R,
     alloc: Global,
-    input: &mut I,
+    text: &[Items<u8>; 1],
 ) -> Result<()> {
-    let text = read_all(alloc, input, MOST_BYTES)?;
-    time_check(rt, alloc, &[Items::from_vec(text)])?;
+    time_check(rt, alloc, text)?;
     Ok(())
 }
 
@@ -139,7 +145,8 @@ fn main(rt: HostRuntime) -> Result<()> {
         return tell_calls(&rt, alloc, &mut out);
     };
     match first.as_str() {
-        "check" => time_text(&rt, alloc, &mut HostSource::new(&rt)),
+        "check" => time_text(&rt, alloc, &read_text(alloc, &mut HostSource::new(&rt))?),
+        "lower" => time_lowering(&rt, alloc, &read_text(alloc, &mut HostSource::new(&rt))?),
         "text" => write_text(alloc, &words[1..], &mut out),
         "all" => time_module(&rt, alloc, &words[1..], true, &mut out),
         _ => time_module(&rt, alloc, &words, false, &mut out),

@@ -8,13 +8,13 @@ ghost use Rattle.alloc_choice.specs.Choice.{IsFitChoice};
 use a64_select::select;
 use flow_allocation::{AllocatedFlows, Choice, Flow, TraceOut, WorkFault, allocate_flows};
 use items::Items;
-use link_plan::{Bytes, Data, Image, LinkFault, link};
+use link_plan::{Bytes, Image, ImageData, LinkFault, link};
 use ob_types::Program;
 use program_image::{Compiled, ProgramFault};
 use source_image::{Refusal, source_image};
 use ssa_build::{LoweredProgram, lower_with_tables};
 use ssa_core::Proc;
-use ssa_exprs::LowerFault;
+use ssa_tables::LowerFault;
 use ssa_valid::is_valid;
 use std::alloc::Global;
 use std::sync::Wait;
@@ -113,10 +113,11 @@ pub fn allocated<R: Threads + Wait + Sync>(
 pub fn linked(alloc: Global, flows: &[Flow], allocated: AllocatedFlows) -> Result<Image, LinkFault>
     ensures { IfOk result IsInForm }
 {
-    let none = Data {
+    let none = ImageData {
         flags: 0,
         globals: 0,
         constants: Bytes::new(Vec::new(alloc)),
+        names: Items::new(alloc),
     };
     let AllocatedFlows { parts, outs, .. } = allocated;
     link(alloc, flows, parts, outs, none)

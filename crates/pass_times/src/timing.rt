@@ -153,6 +153,19 @@ fn time_lower<R: Clock + CpuClock + Print>(
     Ok(made)
 }
 
+/// Told are what `time_check` tells, and lowering, which may pass a limit.
+pub fn time_lowering<R: Clock + CpuClock + Print>(
+    rt: &R,
+    alloc: Global,
+    texts: &[Items<u8>; 1],
+) -> Result<()> {
+    let program = time_check(rt, alloc, texts)?;
+    let start = Start::now(rt)?;
+    let _made = lowered(alloc, &program);
+    start.tell(rt, "lower")?;
+    Ok(())
+}
+
 // The flows of a module's text.
 fn time_front<R: Clock + CpuClock + Print>(
     rt: &R,

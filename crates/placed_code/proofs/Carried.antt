@@ -13,6 +13,7 @@ use Rattle.a64_numbers.proofs.Branches.{branch_26_reaches}
 use Rattle.a64_instr.specs.declared.instr.Instr.TheVariants.{Bl}
 use Rattle.a64_machine.specs.State.{State, address_of, put, place_at}
 use Rattle.a64_machine.specs.Effects.{effect, calls}
+use Rattle.a64_memory.specs.Areas.{frames_base, frames_bytes}
 use Rattle.a64_machine.specs.Machine.{step_of, system_of}
 use Rattle.a64_machine.proofs.Steps.{step-at, walks-one, place-address}
 use Rattle.a64_machine.proofs.Ways.{way_one}
@@ -92,7 +93,7 @@ module _ (l : Linked) (Begins : (p b : ℕ) → (ℕ → ℕ) → (Spot → ℕ)
       let next : j + 1 ≡ suc j = omega arith in
       let entering : Entering l Begins keeps_small p [] [] w after = record {
         stack = s.stack;
-        low = 0x40000000 + 8193 * l.frame;
+        low = frames_base + frames_bytes l.frame;
         ret = suc j;
         at = record {
           pc = refl;
@@ -110,8 +111,8 @@ module _ (l : Linked) (Begins : (p b : ℕ) → (ℕ → ℕ) → (Spot → ℕ)
         link = ap (λ (z : ℕ). add64 z 4) s.at.pc ∙ next_word j near ∙ ap address_of next;
         near = omega (arith, near);
         callers = (refl, refl, s.calls, s.cells, some_before l.bodies j p is);
-        room = subst (λ (b : Bool). 0x40000000 + (w.calls + (if b then 0 else 1)) * l.frame ≤ 0x40000000 + 8193 * l.frame) (sym st.uncounted)
-            (let c = s.calls in let n : w.calls + 1 ≡ 8193 = omega (arith, c) in subst (λ (j : ℕ). 0x40000000 + j * l.frame ≤ 0x40000000 + 8193 * l.frame) (sym n) (omega arith));
+        room = subst (λ (b : Bool). frames_base + (w.calls + (if b then 0 else 1)) * l.frame ≤ frames_base + frames_bytes l.frame) (sym st.uncounted)
+            (let c = s.calls in let n : w.calls + 1 ≡ 8193 = omega (arith, c) in subst (λ (j : ℕ). frames_base + j * l.frame ≤ frames_base + frames_bytes l.frame) (sym n) (omega arith));
         standing = s.standing;
       } in
       carry_way l Begins keeps_small opens (Begin j) j 1 a after (Enters p [] [] w) refl (way_one l.code j 0 a after (walks-one j st.stands a s.at.pc does)) (omega arith) (omega arith) entering
@@ -163,12 +164,12 @@ module _ (l : Linked) (Begins : (p b : ℕ) → (ℕ → ℕ) → (Spot → ℕ)
   abbrev pub Related : Flow → State → Type 0
   Related = Where (Safe (procedures l.procs) (code_place l)) (λ (a : State). Unit {0}) (Similar l Begins keeps_small)
 
-  pub carried : CarriesBy (block_system (procedures l.procs) (code_place l)) (system_of l.code) (least (procedures l.procs)) (λ q. 1) (words l Begins) Related (same_trap l.entry l.size)
-  carried = carries_where (block_system (procedures l.procs) (code_place l)) (system_of l.code) (least (procedures l.procs)) (λ q. 1) (words l Begins) (Safe (procedures l.procs) (code_place l)) (λ a. Unit {0}) (Similar l Begins keeps_small) (same_trap l.entry l.size)
+  pub carried : CarriesBy (block_system (procedures l.procs) (code_place l)) (system_of l.code) (least (procedures l.procs)) (λ q. 1) (words l Begins) Related (same_trap (length l.procs) l.entry l.size)
+  carried = carries_where (block_system (procedures l.procs) (code_place l)) (system_of l.code) (least (procedures l.procs)) (λ q. 1) (words l Begins) (Safe (procedures l.procs) (code_place l)) (λ a. Unit {0}) (Similar l Begins keeps_small) (same_trap (length l.procs) l.entry l.size)
       (safe_stays (procedures l.procs) (code_place l)) (record { step = λ s t w i e. tt }) (λ s a sim. each s a sim.0 sim.2)
 
   -- what the flows keep, the machine is in step with
   pub in_step_with : {U : Type 0} (all : List Point) (places : List ℕ) (before : U → Stop → Type 0) → Within places (flat_map (words l Begins) all) → (w : World) (a : State) → Safe (procedures l.procs) (code_place l) (Starts w) → Starting l Begins keeps_small w a → (meaning : ℕ → Outcome U)
-      → ((n : ℕ) → Keeps (block_system (procedures l.procs) (code_place l)) (least (procedures l.procs)) all before (Starts w) n (meaning n)) → InStep (system_of l.code) (length places) (Through before (same_trap l.entry l.size)) a meaning
+      → ((n : ℕ) → Keeps (block_system (procedures l.procs) (code_place l)) (least (procedures l.procs)) all before (Starts w) n (meaning n)) → InStep (system_of l.code) (length places) (Through before (same_trap (length l.procs) l.entry l.size)) a meaning
   in_step_with {U} all places before fits w a safe sim meaning keeps =
-      in_step_down (block_system (procedures l.procs) (code_place l)) (system_of l.code) (least (procedures l.procs)) (words l Begins) all places Related before (same_trap l.entry l.size) carried fits (Starts w) a (safe, tt, sim) meaning keeps
+      in_step_down (block_system (procedures l.procs) (code_place l)) (system_of l.code) (least (procedures l.procs)) (words l Begins) all places Related before (same_trap (length l.procs) l.entry l.size) carried fits (Starts w) a (safe, tt, sim) meaning keeps

@@ -14,7 +14,8 @@ use Rattle.placed_code.specs.Placed.{Copy, copied, all_copied, Placed}
 use Rattle.block_runs.specs.States.{World}
 use Rattle.placed_code.specs.Words.{Where, InReg, InSlot, slots_of, slot_of, where_is, move, move_between, copy_word, copies_words}
 use Rattle.placed_code.proofs.Stack.{held}
-use Rattle.placed_code.proofs.Copies.{at_where, Ok, same_where, At, Passed, move_does}
+use Rattle.placed_code.proofs.Slots.{At, Passed, passed_append}
+use Rattle.placed_code.proofs.Copies.{at_where, Ok, same_where, move_does}
 use Rattle.a64_machine.proofs.Numbers.{Numbers}
 use Rattle.placed_code.specs.Claims.{AllNamed, HomesFit, Named}
 
@@ -155,14 +156,6 @@ module _ (pr : Placed) (fits : HomesFit pr) where
       pub is : (p : Spot) → content pr stack low after.registers p ≡ c p
       pub outside : (q : ℕ) → (q ≡ low + 8 * pr.outs) ⊎ (low + 8 * slots_of pr ≤ q) → held stack q ≡ held s q
 
-    pub passed_append : (k m n : ℕ) (s t : Area) (a b c : State) → Passed code keeps_small frame low (slots_of pr) k m w s a b → Passed code keeps_small frame low (slots_of pr) (k + m) n w t b c → Passed code keeps_small frame low (slots_of pr) k (m + n) w t a c
-    passed_append k m n s t a b c one two =
-        let e : k + m + n ≡ k + (m + n) = omega arith in
-        record {
-          walk = subst (λ (ps : List ℕ). Walks code a ps [] c) (places_from-append k m n) (walks-append one.walk two.walk);
-          at = subst (λ (i : ℕ). At code keeps_small frame low (slots_of pr) i w t c) e two.at;
-        }
-
     pub copy_does : (k : ℕ) (s : Area) (a : State) (m : Copy) → Named pr m.to → Named pr m.from → StandAll code k (copy_word pr m) → At code keeps_small frame low (slots_of pr) k w s a → Copied k (length (copy_word pr m)) s a (copied m (content pr s low a.registers))
     copy_does k s a m to from stands at =
         let words : copy_word pr m ≡ move to.at from.at = ap₂ move_between to.is from.is in
@@ -211,7 +204,7 @@ module _ (pr : Placed) (fits : HomesFit pr) where
         record {
           after = two.after;
           stack = two.stack;
-          passed = subst (λ (i : ℕ). Passed code keeps_small frame low (slots_of pr) k i w two.stack a two.after) n (passed_append k (length (copy_word pr m)) (length (copies_words pr ms)) one.stack two.stack a one.after two.after one.passed two.passed);
+          passed = subst (λ (i : ℕ). Passed code keeps_small frame low (slots_of pr) k i w two.stack a two.after) n (passed_append code keeps_small frame low (slots_of pr) k (length (copy_word pr m)) (length (copies_words pr ms)) w one.stack two.stack a one.after two.after one.passed two.passed);
           is = λ p. two.is p ∙ ap (λ (c : Spot → ℕ). all_copied ms c p) same_content;
           outside = λ q o. two.outside q o ∙ one.outside q o;
         }

@@ -19,6 +19,7 @@ use Rattle.a64_instr.specs.declared.instr.Instr.{Instr}
 use Rattle.a64_instr.specs.declared.instr.Instr.TheVariants.{OrrReg, SubsReg, BCond, Cbz, Cbnz, Ret}
 use Rattle.a64_machine.specs.State.{State, address_of, put, read}
 use Rattle.a64_machine.specs.Effects.{effect, goes, goes_if}
+use Rattle.a64_memory.specs.Areas.{frames_base, frames_bytes}
 use Rattle.a64_machine.specs.Machine.{step_of}
 use Rattle.a64_machine.proofs.Registers.{read_is, put_other}
 use Rattle.a64_machine.proofs.Steps.{Stands, StandAll, stand_append}
@@ -36,7 +37,8 @@ use Rattle.block_runs.specs.Compares as flows
 use Rattle.placed_code.specs.Words.{Where, InReg, InSlot, where_is, slots_of, copies_words, result_words, last_words, turned, branch_words, nonzero_words, epilogue, jump_words, unframe_words, unlocal_words, undepth_words, frame_of}
 use Rattle.placed_code.specs.Claims.{HomesFit}
 use Rattle.placed_code.proofs.Stack.{held}
-use Rattle.placed_code.proofs.Copies.{Ok, usable_31, gives_does, register_copies, given as put_in}
+use Rattle.placed_code.proofs.Slots.{gives_does, given as put_in}
+use Rattle.placed_code.proofs.Copies.{Ok, usable_31, register_copies}
 use Rattle.placed_code.proofs.Contents.{from_where, content, reg_content, ok_of, Copied, copies_do}
 use Rattle.a64_machine.proofs.Ways.{Way, way_none, way_append, way_is, stops_behind}
 use Rattle.placed_code.proofs.Leading.{way_of, next_word, Here, leads, jump_does}
@@ -370,7 +372,7 @@ module _ (l : Linked) (Begins : (p b : ℕ) → (ℕ → ℕ) → (Spot → ℕ)
         let stop = breaks l.code keeps_small l.frame e.low slots w co.stack (k + copying) n co.after st co.passed.at in
         let mine = why.Broke n (k + copying) in
         let i = r.inside.from in let j = r.inside.to in let w' = r.width in
-        carry_stops l Begins keeps_small opens (In f.proc f.block f.at) f.proc k (copying + 1) n (k + copying) a (words_are (Trap n) r) i (omega (arith, j, w')) (stops_behind l.code k copying 1 a co.after mine (way_of l.code keeps_small l.frame e.low slots k copying w co.stack a co.after co.passed) stop)
+        carry_stops l Begins keeps_small opens (In f.proc f.block f.at) f.proc k (copying + 1) n (k + copying) a (words_are (Trap n) r) r.inside.known i (omega (arith, j, w')) (stops_behind l.code k copying 1 a co.after mine (way_of l.code keeps_small l.frame e.low slots k copying w co.stack a co.after co.passed) stop)
 
     ---- Return
 
@@ -457,7 +459,7 @@ module _ (l : Linked) (Begins : (p b : ℕ) → (ℕ → ℕ) → (Spot → ℕ)
         let last = callers.4 in
         let starting : Starting l Begins keeps_small w' R.after = record {
           stack = R.stack;
-          at = in_body l Begins keeps_small opens (0x40000000 + 8193 * l.frame) 0 (suc w.body) (suc w.body) (freed (procedure pr) w) R.stack R.after (subst (λ j. On (0x40000000 + 8193 * l.frame) 0 j (freed (procedure pr) w) R.stack R.after) callers.1 place);
+          at = in_body l Begins keeps_small opens (frames_base + frames_bytes l.frame) 0 (suc w.body) (suc w.body) (freed (procedure pr) w) R.stack R.after (subst (λ j. On (frames_base + frames_bytes l.frame) 0 j (freed (procedure pr) w) R.stack R.after) callers.1 place);
           calls = callers.2;
           cells = callers.3;
           few = last;

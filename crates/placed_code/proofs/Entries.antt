@@ -20,13 +20,14 @@ use Rattle.a64_instr.specs.declared.instr.Instr.{Instr}
 use Rattle.a64_instr.specs.declared.instr.Instr.TheVariants.{AddImm, SubImm, SubReg, SubsReg, BCond, Cbnz, Str, Brk}
 use Rattle.a64_machine.specs.State.{State, Broke, address_of, place_at, put}
 use Rattle.a64_machine.specs.Effects.{effect, gives, goes, goes_if}
+use Rattle.a64_memory.specs.Areas.{frames_base, frames_bytes}
 use Rattle.a64_machine.specs.Machine.{step_of}
 use Rattle.a64_machine.proofs.Registers.{put_same, put_other}
 use Rattle.a64_machine.proofs.Steps.{Stands, step-at, walks-one, walks-none, place-address, StandAll, stand_append}
 use Rattle.block_runs.specs.States.{World}
 use Rattle.placed_code.specs.Words.{move_word, depth_words, frame_words, count_words, taking, room_words, data_words, local_words}
 use Rattle.placed_code.proofs.Stack.{held, with_held, held_same, held_apart, Space, slot_lies}
-use Rattle.placed_code.proofs.Copies.{Fixed, fixed_put, stores_does, given, kept}
+use Rattle.placed_code.proofs.Slots.{Fixed, fixed_put, stores_does, given, kept}
 use Rattle.a64_machine.proofs.Ways.{Stops, stops_behind, stops_longer, Way, way_none, way_append, way_is}
 use Rattle.placed_code.proofs.Leading.{way_of, next_word, Here, leads, gives_any}
 use Rattle.a64_machine.proofs.Numbers.{Numbers}
@@ -149,7 +150,7 @@ module _ (code : List ℕ) (keeps_small : (a b : State) (w : List ℕ) → Numbe
     pub link : held stack (low' + 8 * linked) ≡ a.registers 30
     pub outside : (q : ℕ) → low' + 8 * slots ≤ q → held stack q ≡ held s q
 
-  pub frame_does : (slots linked low low' k : ℕ) (w : World) (s : Area) (a : State) → low' + 8 * slots ≡ low → linked < slots → 0x40000000 ≤ low' → low ≤ 0x40000000 + 8193 * frame → 8 * slots < 2 ^ 24 → StandAll code k (frame_words (8 * slots) linked) → On low 0 k w s a → Framed slots linked low low' k w s a
+  pub frame_does : (slots linked low low' k : ℕ) (w : World) (s : Area) (a : State) → low' + 8 * slots ≡ low → linked < slots → frames_base ≤ low' → low ≤ frames_base + frames_bytes frame → 8 * slots < 2 ^ 24 → StandAll code k (frame_words (8 * slots) linked) → On low 0 k w s a → Framed slots linked low low' k w s a
   frame_does slots linked low low' k w s a sum some bottom top small stands at =
       let few = at.space.small in
       let mid = low - 8 * slots / 2 ^ 12 * 2 ^ 12 in

@@ -19,7 +19,7 @@ use Rattle.a64_machine.proofs.Steps.{Stands, StandAll, stand_append}
 use Rattle.block_runs.specs.States.{World}
 use Rattle.placed_code.specs.Words.{unframe_words, count_words, giving, unroom_words, undata_words, unlocal_words, undepth_words}
 use Rattle.placed_code.proofs.Stack.{held, Space}
-use Rattle.placed_code.proofs.Copies.{Fixed, slot_loads, given}
+use Rattle.placed_code.proofs.Slots.{Fixed, slot_loads, given}
 use Rattle.a64_machine.proofs.Ways.{Way, way_none, way_append, way_is}
 use Rattle.placed_code.proofs.Leading.{next_word, Here, leads, gives_any}
 use Rattle.placed_code.proofs.Entries.{moved_sp, fixed_sp, counts_to}

@@ -18,7 +18,7 @@ use Rattle.a64_machine.proofs.Steps.{Stands, step-at, walks-one, StandAll}
 use Rattle.block_runs.specs.States.{World}
 use Rattle.placed_code.specs.Words.{jump_words}
 use Rattle.placed_code.proofs.Stack.{Memories, Space}
-use Rattle.placed_code.proofs.Copies.{Fixed, At, Passed, given}
+use Rattle.placed_code.proofs.Slots.{Fixed, At, Passed, given}
 use Rattle.a64_machine.proofs.Numbers.{Numbers}
 
 pub next_word : (k : ℕ) → k < 2 ^ 18 → add64 (address_of k) 4 ≡ address_of (k + 1)

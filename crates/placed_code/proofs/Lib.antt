@@ -1,5 +1,6 @@
 pub mod Rest
 pub mod Stack
+pub mod Slots
 pub mod Copies
 pub mod Contents
 pub mod Leading
@@ -20,6 +21,7 @@ pub mod Carried
 pub mod Rows
 pub mod Orders
 pub mod Linking
+pub mod Rising
 pub mod Whole
 pub mod Follows
 pub mod Homes

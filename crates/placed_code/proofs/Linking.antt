@@ -36,6 +36,7 @@ use Rattle.placed_code.proofs.Steps.{params_of}
 use Rattle.placed_code.proofs.Rest.{drop_next}
 use Rattle.placed_code.proofs.Rows.{nth_stands, width_before-le, width_before-whole, width_before-lt, LastIsWide}
 use Rattle.placed_code.proofs.Orders.{sum, sum_of, sum_listed, weigh_all}
+use Rattle.placed_code.proofs.Slots.{load_size}
 use Rattle.placed_code.proofs.Operations.{some_words}
 use Rattle.placed_code.proofs.Relation.{Linked, start, Reads, After, Enterable, BodyStands, Standing, Leaves, Ready, part_place, part_width, words}
 
@@ -100,7 +101,7 @@ drop_lt (y ∷ ys) (suc n) x rest e = let r = drop_lt ys n x rest e in omega (ar
 
 ---- Sizes
 
-jump_size : (b : Bool) (k t : ℕ) → length (jump_words b k t) ≡ jump_width b
+pub jump_size : (b : Bool) (k t : ℕ) → length (jump_words b k t) ≡ jump_width b
 jump_size true k t = refl
 jump_size false k t = refl
 
@@ -108,57 +109,10 @@ length_map : (g : Move → Instr) (ms : List Move) → length (map g ms) ≡ len
 length_map g [] = refl
 length_map g (m ∷ ms) = ap suc (length_map g ms)
 
-op_size : (e : ℕ → ℕ) (start slots k : ℕ) (code : Code) (a b c d : ℕ) → length (op_words e start slots k code a b c d) ≡ op_width code
+pub op_size : (e : ℕ → ℕ) (start slots k : ℕ) (code : Code) (a b c d : ℕ) → length (op_words e start slots k code a b c d) ≡ op_width slots code
 op_size e start slots k (kinds.Const n) a b c d = length_map (move_word d) (constant_moves n) ∙ sym (length_map (move_word 0) (constant_moves n))
-op_size e start slots k (kinds.Global n) a b c d = refl
-op_size e start slots k (kinds.Local n) a b c d = refl
-op_size e start slots k (kinds.Plus n) a b c d = refl
-op_size e start slots k (kinds.Code p) a b c d = refl
-op_size e start slots k (kinds.Arg i) a b c d = refl
-op_size e start slots k kinds.Load a b c d = refl
-op_size e start slots k kinds.Store a b c d = refl
-op_size e start slots k kinds.LoadByte a b c d = refl
-op_size e start slots k kinds.StoreByte a b c d = refl
-op_size e start slots k kinds.Add a b c d = refl
-op_size e start slots k kinds.Sub a b c d = refl
-op_size e start slots k kinds.And a b c d = refl
-op_size e start slots k kinds.Or a b c d = refl
-op_size e start slots k kinds.Eor a b c d = refl
-op_size e start slots k kinds.Bic a b c d = refl
-op_size e start slots k kinds.Lsl a b c d = refl
-op_size e start slots k kinds.Asr a b c d = refl
-op_size e start slots k kinds.Ror a b c d = refl
-op_size e start slots k kinds.Mul a b c d = refl
-op_size e start slots k kinds.MulAdd a b c d = refl
-op_size e start slots k kinds.Neg a b c d = refl
-op_size e start slots k kinds.Not a b c d = refl
-op_size e start slots k kinds.Abs a b c d = refl
-op_size e start slots k kinds.Max0 a b c d = refl
-op_size e start slots k kinds.Odd a b c d = refl
-op_size e start slots k (kinds.Set m) a b c d = refl
-op_size e start slots k kinds.Flip a b c d = refl
-op_size e start slots k kinds.Bit a b c d = refl
-op_size e start slots k kinds.Span a b c d = refl
-op_size e start slots k kinds.Has a b c d = refl
-op_size e start slots k kinds.Div a b c d = refl
-op_size e start slots k kinds.Mod a b c d = refl
-op_size e start slots k kinds.Below a b c d = refl
-op_size e start slots k kinds.Fits a b c d = refl
-op_size e start slots k kinds.Byte a b c d = refl
-op_size e start slots k kinds.Elem a b c d = refl
-op_size e start slots k kinds.NotNil a b c d = refl
-op_size e start slots k kinds.True a b c d = refl
-op_size e start slots k (kinds.IsPtr j) a b c d = refl
-op_size e start slots k (kinds.IsTag j) a b c d = refl
-op_size e start slots k (kinds.GuardPtr j) a b c d = refl
-op_size e start slots k (kinds.GuardTag j) a b c d = refl
-op_size e start slots k kinds.New a b c d = refl
-op_size e start slots k (kinds.Call p) a b c d = refl
-op_size e start slots k kinds.CallAt a b c d = refl
-op_size e start slots k kinds.Copy a b c d = refl
-op_size e start slots k kinds.Zero a b c d = refl
-op_size e start slots k kinds.Compare a b c d = refl
-op_size e start slots k (kinds.Svc n) a b c d = refl
+op_size e start slots k (kinds.Arg i) a b c d = load_size d (slots + (i - 4)) ∙ sym (load_size 0 (slots + (i - 4)))
+op_size e start slots k code a b c d = refl
 
 branch_size : (b d : Bool) (k : ℕ) (c : _) (one other : ℕ) → length (branch_words b d k c one other) ≡ (if b then 1 else (1 + jump_width d))
 branch_size true d k c one other = refl
@@ -172,7 +126,7 @@ result_size : (x : Option ℕ) (a : ℕ) → length (result_words x a) ≡ lengt
 result_size None a = refl
 result_size (Some x) a = refl
 
-last_size : (n : ℕ) (g : ℕ → ℕ) (pr : Placed) (k : ℕ) (last : End) (a b : ℕ) → length (last_words n g pr k last a b) ≡ last_width n pr last
+pub last_size : (n : ℕ) (g : ℕ → ℕ) (pr : Placed) (k : ℕ) (last : End) (a b : ℕ) → length (last_words n g pr k last a b) ≡ last_width n pr last
 last_size n g pr k (Return x) a b = length-append (result_words x a) (epilogue pr) ∙ ap (λ m. m + length (epilogue pr)) (result_size x a)
 last_size n g pr k (Jump to args) a b = jump_size (to == n) k (g to)
 last_size n g pr k (Branch c x y one other) a b = let s = branch_size (turned n one other) (other == n) (suc k) (cond_of c) (g one) (g other) in omega (arith, s)
@@ -431,6 +385,7 @@ module _ (ps : List Placed) where
             let pr = proc_of ps q in
             let h = st.low in
             record {
+              known = l;
               fits = ok.fits;
               low = let u = length-append (depth_words pr.counted) (frame_words (frame_of pr) pr.outs ++ local_words pr.cells pr.bytes) in let v = length-append (frame_words (frame_of pr) pr.outs) (local_words pr.cells pr.bytes) in omega (arith, h, u, v);
               falls = zero_first pr;
@@ -539,7 +494,7 @@ module _ (ps : List Placed) where
             let all' = before_all (cell_width pr) 0 bl.body (length bl.body) (none_left bl.body) in
             record {
               low = omega (arith, all, all', before_end);
-              inside = record { from = omega arith; to = omega (arith, ins, all, w_is) };
+              inside = record { known = l; from = omega arith; to = omega (arith, ins, all, w_is) };
               stands = subst (λ m. StandAll (code_of ps) m (end_words ps p pr fo m bl)) at here';
               width = w_is ∙ sym s ∙ s';
               named = f.0;
@@ -564,7 +519,7 @@ module _ (ps : List Placed) where
             let own = op_size (entry ps) (routines_at ps) (slots_of pr) (place ps p b i + length (copies_words pr cell.copies)) cell.op.code (use_register cell.named 0) (use_register cell.named 1) (use_register cell.named 2) (def_register cell.named cell.op) in
             record {
               low = omega (arith, h, bound, ins, w_is, some, own);
-              inside = record { from = omega arith; to = omega (arith, bound, ins, w_is) };
+              inside = record { known = l; from = omega arith; to = omega (arith, bound, ins, w_is) };
               stands = here.0;
               width = w_is ∙ sym (ap (λ m. length (copies_words pr cell.copies) + m) own);
               behind = omega (arith, n, w_is);

@@ -27,7 +27,7 @@ use Rattle.a64_machine.specs.State.{State, address_of, put, read, read_or_sp}
 use Rattle.a64_machine.specs.State as why
 use Rattle.a64_machine.specs.Effects.{effect, gives, stores, calls}
 use Rattle.a64_machine.specs.Services.{writes, writes_text, service}
-use Rattle.a64_machine.specs.Services as machine
+use Rattle.a64_memory.specs.Areas.{frames_base, frames_bytes}
 use Rattle.a64_machine.specs.Machine.{step_of}
 use Rattle.a64_machine.proofs.Registers.{put_same, put_other}
 use Rattle.a64_machine.proofs.Steps.{Walks, step-at, walks-one, walks-append, StandAll, stand_append}
@@ -39,7 +39,7 @@ use Rattle.block_runs.specs.Blocks.{Operation}
 use Rattle.block_runs.specs.Valid.{is_call}
 use Rattle.block_runs.specs.States.{Frame, World, Stop, Kind, Fault, Enters, Runs, Works, Work, CopyHead, ZeroHead, CompareHead, In, part}
 use Rattle.block_runs.specs.States.{State as Flow}
-use Rattle.block_runs.specs.Texts.{Text, Bytes, Outside, text_at}
+use Rattle.a64_memory.specs.Texts.{Text, Bytes, Outside, text_at}
 use Rattle.block_runs.specs.Effects as effects
 use Rattle.block_runs.specs.Effects.{char_bytes, Effect, Gives, Does, Calls, Fails, Faults, stored, made, written, code_at, effect_of}
 use Rattle.block_runs.specs.Steps.{define, behind}
@@ -52,7 +52,7 @@ use Rattle.placed_code.specs.Layout.{own_words}
 use Rattle.placed_code.proofs.Steps.{rest_of, params_of, may_call, called, operate}
 use Rattle.placed_code.proofs.Rest.{drop_next}
 use Rattle.placed_code.proofs.Stack.{held, Memories, store_flows, store_flows_byte, text_flows}
-use Rattle.placed_code.proofs.Copies.{Fixed, fixed_put}
+use Rattle.placed_code.proofs.Slots.{Fixed, fixed_put, some_load}
 use Rattle.placed_code.proofs.Contents.{from_where, content, reg_content, Copied, copies_do}
 use Rattle.placed_code.proofs.Leading.{way_of, next_word, Here, gives_any}
 use Rattle.placed_code.proofs.Words.{Kept, changed, skipped, Operand, reads, reads_sp, operand_on, Quiet, after, stop_after, against_does, unless_does, unless_stops}
@@ -133,55 +133,8 @@ length_map g (m ∷ ms) = ap suc (length_map g ms)
 -- each operation has a word
 pub some_words : (entry : ℕ → ℕ) (start slots k : ℕ) (code : Code) (a b c d : ℕ) → 0 < length (op_words entry start slots k code a b c d)
 some_words entry start slots k (kinds.Const n) a b c d = let h = some_moves n in let m = length_map (move_word d) (constant_moves n) in omega (arith, h, m)
-some_words entry start slots k (kinds.Global n) a b c d = omega arith
-some_words entry start slots k (kinds.Local n) a b c d = omega arith
-some_words entry start slots k (kinds.Plus n) a b c d = omega arith
-some_words entry start slots k (kinds.Code p) a b c d = omega arith
-some_words entry start slots k (kinds.Arg i) a b c d = omega arith
-some_words entry start slots k kinds.Load a b c d = omega arith
-some_words entry start slots k kinds.LoadByte a b c d = omega arith
-some_words entry start slots k kinds.Add a b c d = omega arith
-some_words entry start slots k kinds.Sub a b c d = omega arith
-some_words entry start slots k kinds.And a b c d = omega arith
-some_words entry start slots k kinds.Or a b c d = omega arith
-some_words entry start slots k kinds.Eor a b c d = omega arith
-some_words entry start slots k kinds.Bic a b c d = omega arith
-some_words entry start slots k kinds.Lsl a b c d = omega arith
-some_words entry start slots k kinds.Asr a b c d = omega arith
-some_words entry start slots k kinds.Ror a b c d = omega arith
-some_words entry start slots k kinds.Mul a b c d = omega arith
-some_words entry start slots k kinds.MulAdd a b c d = omega arith
-some_words entry start slots k kinds.Neg a b c d = omega arith
-some_words entry start slots k kinds.Not a b c d = omega arith
-some_words entry start slots k kinds.Abs a b c d = omega arith
-some_words entry start slots k kinds.Max0 a b c d = omega arith
-some_words entry start slots k kinds.Odd a b c d = omega arith
-some_words entry start slots k (kinds.Set m) a b c d = omega arith
-some_words entry start slots k kinds.Flip a b c d = omega arith
-some_words entry start slots k kinds.Bit a b c d = omega arith
-some_words entry start slots k kinds.Span a b c d = omega arith
-some_words entry start slots k kinds.Has a b c d = omega arith
-some_words entry start slots k kinds.Div a b c d = omega arith
-some_words entry start slots k kinds.Mod a b c d = omega arith
-some_words entry start slots k kinds.Below a b c d = omega arith
-some_words entry start slots k kinds.Fits a b c d = omega arith
-some_words entry start slots k kinds.Byte a b c d = omega arith
-some_words entry start slots k kinds.Elem a b c d = omega arith
-some_words entry start slots k kinds.NotNil a b c d = omega arith
-some_words entry start slots k kinds.True a b c d = omega arith
-some_words entry start slots k (kinds.IsPtr j) a b c d = omega arith
-some_words entry start slots k (kinds.IsTag j) a b c d = omega arith
-some_words entry start slots k (kinds.GuardPtr j) a b c d = omega arith
-some_words entry start slots k (kinds.GuardTag j) a b c d = omega arith
-some_words entry start slots k kinds.Store a b c d = omega arith
-some_words entry start slots k kinds.StoreByte a b c d = omega arith
-some_words entry start slots k kinds.New a b c d = omega arith
-some_words entry start slots k (kinds.Call p) a b c d = omega arith
-some_words entry start slots k kinds.CallAt a b c d = omega arith
-some_words entry start slots k kinds.Copy a b c d = omega arith
-some_words entry start slots k kinds.Zero a b c d = omega arith
-some_words entry start slots k kinds.Compare a b c d = omega arith
-some_words entry start slots k (kinds.Svc n) a b c d = omega arith
+some_words entry start slots k (kinds.Arg i) a b c d = some_load d (slots + (i - 4))
+some_words entry start slots k code a b c d = omega arith
 
 -- the i-th of the numbers that are read, from the spots in which they stand
 in_registers : (C : Spot → ℕ) (n : ℕ) (named xs : List ℕ) → map C (map reg (take n named)) ≡ xs → (i : ℕ) → i < length xs → C (reg (get_or named i 0)) ≡ get_or xs i 0
@@ -327,7 +280,7 @@ module _ (l : Linked) (Begins : (p b : ℕ) → (ℕ → ℕ) → (Spot → ℕ)
       stops : (n place : ℕ) → Stops l.code (k + copying) (length own) mid (why.Broke n place) → Goal (Traps (Kind n f.proc))
       stops n place s =
           let i = r.inside.from in let j = r.inside.to in let w' = r.width in
-          carry_stops l Begins keeps_small opens (In f.proc f.block f.at) f.proc k (copying + length own) n place a words_are i (omega (arith, j, w')) (stops_behind l.code k copying (length own) a mid (why.Broke n place) (way_of l.code keeps_small l.frame e.low slots k copying w co.stack a mid co.passed) s)
+          carry_stops l Begins keeps_small opens (In f.proc f.block f.at) f.proc k (copying + length own) n place a words_are r.inside.known i (omega (arith, j, w')) (stops_behind l.code k copying (length own) a mid (why.Broke n place) (way_of l.code keeps_small l.frame e.low slots k copying w co.stack a mid co.passed) s)
 
       in_register : (n x : ℕ) → n < 16 → all_copied copies here (reg n) ≡ x → mid.registers n ≡ x
       in_register n x small h = sym (reg_content pr co.stack e.low mid.registers n small) ∙ co.is (reg n) ∙ h
@@ -408,7 +361,7 @@ module _ (l : Linked) (Begins : (p b : ℕ) → (ℕ → ℕ) → (Spot → ℕ)
         near : l.place f.proc f.block (suc f.at) ≤ 2 ^ 18
         near = let b = st.0 in let z = back_is in omega (arith, b, z)
 
-        there_at : (wide : ℕ) → e.low + 8 * wide ≤ 0x40000000 + 8193 * l.frame → On e.low wide place w co.stack (gone place)
+        there_at : (wide : ℕ) → e.low + 8 * wide ≤ frames_base + frames_bytes l.frame → On e.low wide place w co.stack (gone place)
         there_at wide top = record {
           pc = refl;
           sp = co.passed.at.sp;
@@ -489,7 +442,7 @@ module _ (l : Linked) (Begins : (p b : ℕ) → (ℕ → ℕ) → (Spot → ℕ)
                 above_still,
                 callers_still,
               );
-              room = subst (λ (b : Bool). 0x40000000 + (w.calls + (if b then 0 else 1)) * l.frame ≤ e.low) (sym counted) (let z : w.calls + 0 ≡ w.calls = omega arith in subst (λ (j : ℕ). 0x40000000 + j * l.frame ≤ e.low) (sym z) e.room);
+              room = subst (λ (b : Bool). frames_base + (w.calls + (if b then 0 else 1)) * l.frame ≤ e.low) (sym counted) (let z : w.calls + 0 ≡ w.calls = omega arith in subst (λ (j : ℕ). frames_base + j * l.frame ≤ e.low) (sym z) e.room);
               standing = e.standing;
             } in
             carry_way l Begins keeps_small opens (In f.proc f.block f.at) k (copying + 1) a (gone place) (Enters q args (f ∷ fs) w) row_is way_there (omega arith) few entering
@@ -720,10 +673,10 @@ module _ (l : Linked) (Begins : (p b : ℕ) → (ℕ → ℕ) → (Spot → ℕ)
             let arg2 : m.registers 2 ≡ (get_or (map f.values us) 2 0) = argument_in (kinds.Svc 3) us v rest r refl 2 2 refl (lit< tt) (omega (arith, n)) in
             let eight : (get_or (map f.values us) 2 0) ≡ char_bytes = ⊎_elim (λ t. t.1) (λ f. let wrong = f.0 in cc) (eqb_tells (get_or (map f.values us) 2 0) char_bytes) in
             let arg3 : m.registers 2 ≡ 8 = arg2 ∙ eight in
-            let text : machine.text_at m.memory 8 (get_or (map f.values us) 0 0) (get_or (map f.values us) 1 0) ≡ machine.Bytes bytes = text_flows w.memory c.stack m.memory c.passed.at.memory 8 (get_or (map f.values us) 1 0) (get_or (map f.values us) 0 0) bytes i' in
+            let text : text_at m.memory 8 (get_or (map f.values us) 0 0) (get_or (map f.values us) 1 0) ≡ Bytes bytes = text_flows w.memory c.stack m.memory c.passed.at.memory 8 (get_or (map f.values us) 1 0) (get_or (map f.values us) 0 0) bytes i' in
             let does : service 3 m ≡ Moves bytes t =
-            ap (λ (n : ℕ). if n == 1 || n == 8 then writes_text m (machine.text_at m.memory n (m.registers 0) (m.registers 1)) else Traps (why.BadCall 3)) arg3
-            ∙ ap₂ (λ (n o : ℕ). writes_text m (machine.text_at m.memory 8 n o)) arg arg' ∙ ap (writes_text m) text in
+            ap (λ (n : ℕ). if n == 1 || n == 8 then writes_text m (text_at m.memory n (m.registers 0) (m.registers 1)) else Traps (why.BadCall 3)) arg3
+            ∙ ap₂ (λ (n o : ℕ). writes_text m (text_at m.memory 8 n o)) arg arg' ∙ ap (writes_text m) text in
             finishes f fs w a e copies (mk (kinds.Svc 3) us v) named cells rest few r 0 bytes w.memory w.next w.free w.input (one_done f fs w a e copies (mk (kinds.Svc 3) us v) named cells rest few r 0 bytes w.input t (i.Svc 3) refl (parts f fs w a e copies (mk (kinds.Svc 3) us v) named cells rest few r).1 does refl refl refl c.passed.at.input c.passed.at.fixed ((λ u. refl), rel.no_answer v 0 (content (proc_of l.procs f.proc) c.stack e.low t.registers) three.1))
 
         by_step : (b : Bool) → ((get_or (map f.values us) 2 0) == char_bytes) ≡ b → Safe (operate l.procs (mk (kinds.Svc 3) us v) f fs w (if b then written w (text_at w.memory char_bytes (get_or (map f.values us) 0 0) (get_or (map f.values us) 1 0)) else Faults 3)) → Came (operate l.procs (mk (kinds.Svc 3) us v) f fs w (if b then written w (text_at w.memory char_bytes (get_or (map f.values us) 0 0) (get_or (map f.values us) 1 0)) else Faults 3))

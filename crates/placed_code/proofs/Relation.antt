@@ -7,6 +7,7 @@ use Rattle.a64_memory.specs.Memory.{Area}
 use Rattle.a64_numbers.specs.Branches.{branch_field}
 use Rattle.a64_instr.specs.declared.instr.Instr.TheVariants.{Bl, Svc}
 use Rattle.a64_machine.specs.State.{State, address_of}
+use Rattle.a64_memory.specs.Areas.{frames_base, frames_bytes}
 use Rattle.a64_machine.specs.Machine.{step_of}
 use Rattle.a64_machine.proofs.Steps.{Stands, StandAll}
 use Rattle.a64_machine.proofs.Numbers.{Numbers}
@@ -27,7 +28,7 @@ use Rattle.placed_code.specs.Layout.{own_words}
 use Rattle.placed_code.specs.Claims.{AllNamed, HomesFit, EndFits, OpFits}
 use Rattle.placed_code.proofs.Steps.{rest_of, params_of}
 use Rattle.placed_code.proofs.Stack.{held}
-use Rattle.placed_code.proofs.Copies as on
+use Rattle.placed_code.proofs.Slots as on
 use Rattle.placed_code.proofs.Contents.{from_where, content}
 
 -- what the linker made: the code, the greatest frame, the modules' bodies in order, and which words belong to which point
@@ -128,7 +129,7 @@ After op d x c t = AfterBy (is_call op.code) op.def d x c t
 -- the arguments of a frame above the fourth stand at the end of its caller's frame
 pub record Above (frame : ℕ) (s : Area) (base : ℕ) (args : List ℕ) : Type 0 where
   pub held : (i : ℕ) → i + 4 < length args → held s (base + 8 * i) ≡ get_or args (i + 4) 0
-  pub room : base + 8 * (length args - 4) ≤ 0x40000000 + 8193 * frame
+  pub room : base + 8 * (length args - 4) ≤ frames_base + frames_bytes frame
 
 pub above_stays : (frame : ℕ) (s s' : Area) (base : ℕ) (args : List ℕ) → ((q : ℕ) → base ≤ q → held s' q ≡ held s q) → Above frame s base args → Above frame s' base args
 above_stays frame s s' base args same h = record { held = λ i l. same (base + 8 * i) (omega arith) ∙ h.held i l; room = h.room }
@@ -136,6 +137,7 @@ above_stays frame s s' base args same h = record { held = λ i l. same (base + 8
 -- Begins p b V c: with values V and these contents, block b of procedure p may begin
 module _ (l : Linked) (Begins : (p b : ℕ) → (ℕ → ℕ) → (Spot → ℕ) → Type 0) where
   pub record Enterable (q : ℕ) : Type 0 where
+    pub known : q < length l.procs
     pub fits : HomesFit (proc_of l.procs q)
     pub low : l.entry q < 2 ^ 18
     pub falls : Bool
@@ -160,8 +162,9 @@ module _ (l : Linked) (Begins : (p b : ℕ) → (ℕ → ℕ) → (Spot → ℕ)
   Leaves p (Nonzero x one other) a b V c = (c (reg a) ≡ V x) × Begins p one V c × Begins p other V c
   Leaves p (Trap kind) a b V c = Unit {0}
 
-  -- a point's words lie in its procedure's
+  -- a point's words lie in its procedure's, which is there
   pub record Inside (p b i : ℕ) : Type 0 where
+    pub known : p < length l.procs
     pub from : l.entry p ≤ l.place p b i
     pub to : l.place p b i + l.width p b i ≤ l.entry p + l.size p
 
@@ -210,9 +213,9 @@ module _ (l : Linked) (Begins : (p b : ℕ) → (ℕ → ℕ) → (Spot → ℕ)
 
   -- the callers' frames lie one above the other from low on; the innermost is gone back to at the word ret
   abbrev pub Callers : ℕ → Area → ℕ → ℕ → ℕ → ℕ → List Frame → Type 0
-  Callers body s low calls cells ret [] = (low ≡ 0x40000000 + 8193 * l.frame) × (ret ≡ suc body) × (calls ≡ 8192) × (cells ≡ 1048576) × (body < length l.bodies)
+  Callers body s low calls cells ret [] = (low ≡ frames_base + frames_bytes l.frame) × (ret ≡ suc body) × (calls ≡ 8192) × (cells ≡ 1048576) × (body < length l.bodies)
   Callers body s low calls cells ret (g ∷ gs) =
-      Waits s low ret g (rest_of l.procs g) × (0x40000000 + calls * l.frame ≤ low) × (low + 8 * slots_of (proc_of l.procs g.proc) ≤ 0x40000000 + 8193 * l.frame)
+      Waits s low ret g (rest_of l.procs g) × (frames_base + calls * l.frame ≤ low) × (low + 8 * slots_of (proc_of l.procs g.proc) ≤ frames_base + frames_bytes l.frame)
       × (link : ℕ) × (held s (low + 8 * (proc_of l.procs g.proc).outs) ≡ address_of link) × (link ≤ 2 ^ 18) × Above l.frame s (low + 8 * slots_of (proc_of l.procs g.proc)) g.args × Callers body s (low + 8 * slots_of (proc_of l.procs g.proc)) (calls + counts (proc_of l.procs g.proc)) (cells + (proc_of l.procs g.proc).cells) link gs
 
   -- the word that enters a module's body
@@ -235,7 +238,7 @@ module _ (l : Linked) (Begins : (p b : ℕ) → (ℕ → ℕ) → (Spot → ℕ)
   module _ (keeps_small : (a b : State) (w : List ℕ) → Numbers a → step_of l.code a ≡ Moves w b → Numbers b) where
     pub record Starting (w : World) (a : State) : Type 0 where
       pub stack : Area
-      pub at : on.At l.code keeps_small l.frame (0x40000000 + 8193 * l.frame) 0 w.body w stack a
+      pub at : on.At l.code keeps_small l.frame (frames_base + frames_bytes l.frame) 0 w.body w stack a
       pub calls : w.calls ≡ 8192
       pub cells : w.cells ≡ 1048576
       pub few : w.body ≤ length l.bodies
@@ -253,7 +256,7 @@ module _ (l : Linked) (Begins : (p b : ℕ) → (ℕ → ℕ) → (Spot → ℕ)
       pub link : a.registers 30 ≡ address_of ret
       pub near : ret ≤ 2 ^ 18
       pub callers : Callers w.body stack low w.calls w.cells ret fs
-      pub room : 0x40000000 + (w.calls + (if (proc_of l.procs p).counted then 0 else 1)) * l.frame ≤ low
+      pub room : frames_base + (w.calls + (if (proc_of l.procs p).counted then 0 else 1)) * l.frame ≤ low
       pub standing : Standing
 
     pub record Running (f : Frame) (fs : List Frame) (w : World) (a : State) : Type 0 where
@@ -268,7 +271,7 @@ module _ (l : Linked) (Begins : (p b : ℕ) → (ℕ → ℕ) → (Spot → ℕ)
       pub link : held stack (low + 8 * (proc_of l.procs f.proc).outs) ≡ address_of ret
       pub near : ret ≤ 2 ^ 18
       pub callers : Callers w.body stack (low + 8 * slots_of (proc_of l.procs f.proc)) (w.calls + counts (proc_of l.procs f.proc)) (w.cells + (proc_of l.procs f.proc).cells) ret fs
-      pub room : 0x40000000 + w.calls * l.frame ≤ low
+      pub room : frames_base + w.calls * l.frame ≤ low
       pub above : Above l.frame stack (low + 8 * slots_of (proc_of l.procs f.proc)) f.args
       pub standing : Standing
 
@@ -285,7 +288,7 @@ module _ (l : Linked) (Begins : (p b : ℕ) → (ℕ → ℕ) → (Spot → ℕ)
       pub link : held stack (low + 8 * (proc_of l.procs f.proc).outs) ≡ address_of ret
       pub near : ret ≤ 2 ^ 18
       pub callers : Callers w.body stack (low + 8 * slots_of (proc_of l.procs f.proc)) (w.calls + counts (proc_of l.procs f.proc)) (w.cells + (proc_of l.procs f.proc).cells) ret fs
-      pub room : 0x40000000 + w.calls * l.frame ≤ low
+      pub room : frames_base + w.calls * l.frame ≤ low
       pub above : Above l.frame stack (low + 8 * slots_of (proc_of l.procs f.proc)) f.args
       pub standing : Standing
 
@@ -346,6 +349,6 @@ module _ (l : Linked) (Begins : (p b : ℕ) → (ℕ → ℕ) → (Spot → ℕ)
   callers_cells body s (g ∷ gs) low calls cells ret h = let m = callers_cells body s gs (low + 8 * slots_of (proc_of l.procs g.proc)) (calls + counts (proc_of l.procs g.proc)) (cells + (proc_of l.procs g.proc).cells) h.3 h.7 in omega (arith, m)
 
   -- where they end
-  pub callers_top : (body : ℕ) (s : Area) (fs : List Frame) (low calls cells ret : ℕ) → Callers body s low calls cells ret fs → low ≤ 0x40000000 + 8193 * l.frame
+  pub callers_top : (body : ℕ) (s : Area) (fs : List Frame) (low calls cells ret : ℕ) → Callers body s low calls cells ret fs → low ≤ frames_base + frames_bytes l.frame
   callers_top body s [] low calls cells ret h = let e = h.0 in omega (arith, e)
   callers_top body s (g ∷ gs) low calls cells ret h = let e = h.2 in omega (arith, e)

@@ -4,6 +4,7 @@ use Rattle.run_laws.specs.Runs.{Step, Moves, Ends, Traps}
 use Rattle.run_laws.specs.Layers.{places_from}
 use Rattle.a64_memory.specs.Memory.{Area}
 use Rattle.a64_machine.specs.State.{State, address_of}
+use Rattle.a64_memory.specs.Areas.{frames_base}
 use Rattle.a64_machine.specs.Machine.{step_of}
 use Rattle.lir_core.specs.Spots.{Spot}
 use Rattle.placed_code.proofs.Steps.{rest_of, ops_of}
@@ -39,7 +40,7 @@ module _ (l : Linked) (Begins : (p b : ℕ) → (ℕ → ℕ) → (Spot → ℕ)
     pub link : held stack (low + 8 * (proc_of l.procs g.proc).outs) ≡ address_of ret
     pub near : ret ≤ 2 ^ 18
     pub callers : Callers l Begins w.body stack (low + 8 * slots_of (proc_of l.procs g.proc)) (w.calls + counts l Begins (proc_of l.procs g.proc)) (w.cells + (proc_of l.procs g.proc).cells) ret gs
-    pub room : 0x40000000 + w.calls * l.frame ≤ low
+    pub room : frames_base + w.calls * l.frame ≤ low
     pub above : Above l.frame stack (low + 8 * slots_of (proc_of l.procs g.proc)) g.args
     pub standing : Standing l Begins
 

@@ -33,7 +33,7 @@ use Rattle.block_runs.specs.States.{Frame, World, Work, CopyHead, CopyCell, Copy
 use Rattle.block_runs.specs.Steps.{resumed, moved_to, moved, char_at}
 use Rattle.placed_code.specs.Words.{slots_of}
 use Rattle.placed_code.proofs.Stack.{Memories, load_flows, load_flows_byte, store_flows, store_flows_byte}
-use Rattle.placed_code.proofs.Copies.{Plain, fixed_put}
+use Rattle.placed_code.proofs.Slots.{Plain, fixed_put}
 use Rattle.a64_machine.proofs.Ways.{Way, way_one, way_append}
 use Rattle.placed_code.proofs.Leading.{next_word, Here, leads}
 use Rattle.placed_code.proofs.Words.{changed, skipped}

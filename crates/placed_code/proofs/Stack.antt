@@ -4,8 +4,9 @@ use Rattle.std.specs.Int.{from_le_bytes, to_le_bytes}
 use Rattle.std.proofs.lemmas.Bool.Decides.{nat_tests}
 use Rattle.a64_memory.specs.Memory.{Area, lies, covers, bytes_at, written, with_bytes, loaded1, loaded8, stored1, stored8, load1, load8, store1, store8, IsRising}
 use Rattle.wrapping_numbers.specs.Numbers.{add64}
-use Rattle.a64_machine.specs.Services as machine
-use Rattle.block_runs.specs.Texts.{Text, Bytes, Outside, before, text_with, text_at}
+use Rattle.a64_memory.specs.Areas.{frames_base, frames_bytes}
+use Rattle.a64_memory.specs.Texts.{Text, Bytes, Outside, before, text_with, text_at}
+use Rattle.placed_code.specs.Words.{most_frame}
 use Rattle.a64_memory.proofs.Stores.{length-written, rising-with_bytes}
 use Rattle.a64_memory.proofs.Cells.{loaded8-stored8_same, loaded8-stored8_apart, rising-stored8}
 use Rattle.a64_memory.proofs.Beside.{covers_among, bytes_among, store_among, covers_beside, bytes_beside, store_beside, in_area, not_in_area}
@@ -123,31 +124,31 @@ module _ (m : List Area) (s : Area) (a : List Area) (ms : Memories m s a) where
       at false c e = cc
 
   -- a text that lies in the flows' memory is the same in the machine's
-  pub text_flows : (by most p : ℕ) (bytes : List ℕ) → text_at m by p most ≡ Bytes bytes → machine.text_at a by p most ≡ machine.Bytes bytes
-  text_flows by zero p bytes e = let same : [] ≡ bytes = cc in ap machine.Bytes same
+  pub text_flows : (by most p : ℕ) (bytes : List ℕ) → text_at m by p most ≡ Bytes bytes → text_at a by p most ≡ Bytes bytes
+  text_flows by zero p bytes e = let same : [] ≡ bytes = cc in ap Bytes same
   text_flows by (suc most) p bytes e = at (λ xs e. text_flows by most (add64 p by) xs e) (load1 m p) refl e
     where
       after : (t : Text) (n : ℕ) (bs : List ℕ) → before n t ≡ Bytes bs → (xs : List ℕ) × (t ≡ Bytes xs) × (n ∷ xs ≡ bs)
       after (Bytes xs) n bs e = (xs, refl, cc)
       after (Outside z) n bs e = cc
 
-      at : ((xs : List ℕ) → text_at m by (add64 p by) most ≡ Bytes xs → machine.text_at a by (add64 p by) most ≡ machine.Bytes xs) → (o : Option ℕ) → load1 m p ≡ o → text_with o p (text_at m by (add64 p by) most) ≡ Bytes bytes → machine.text_at a by p (suc most) ≡ machine.Bytes bytes
+      at : ((xs : List ℕ) → text_at m by (add64 p by) most ≡ Bytes xs → text_at a by (add64 p by) most ≡ Bytes xs) → (o : Option ℕ) → load1 m p ≡ o → text_with o p (text_at m by (add64 p by) most) ≡ Bytes bytes → text_at a by p (suc most) ≡ Bytes bytes
       at rest None i e = cc
       at rest (Some zero) i e =
           let same : [] ≡ bytes = cc in
-          ap (λ (o : Option ℕ). machine.text_with o p (machine.text_at a by (add64 p by) most)) (load_flows_byte p zero i) ∙ ap machine.Bytes same
+          ap (λ (o : Option ℕ). text_with o p (text_at a by (add64 p by) most)) (load_flows_byte p zero i) ∙ ap Bytes same
       at rest (Some (suc n)) i e =
           let r = after (text_at m by (add64 p by) most) (suc n) bytes e in
           let same = rest r.0 r.1 in
-          ap (λ (o : Option ℕ). machine.text_with o p (machine.text_at a by (add64 p by) most)) (load_flows_byte p (suc n) i) ∙ ap (machine.before (suc n)) same ∙ ap machine.Bytes r.2
+          ap (λ (o : Option ℕ). text_with o p (text_at a by (add64 p by) most)) (load_flows_byte p (suc n) i) ∙ ap (before (suc n)) same ∙ ap Bytes r.2
 
 -- the stack's place, and so many slots in it from an address on
 pub record Space (frame : ℕ) (s : Area) (low slots : ℕ) : Type 0 where
-  pub base : s.base ≡ 0x40000000
-  pub size : length s.bytes ≡ 8193 * frame
-  pub small : frame ≤ 32768
-  pub bottom : 0x40000000 ≤ low
-  pub top : low + 8 * slots ≤ 0x40000000 + 8193 * frame
+  pub base : s.base ≡ frames_base
+  pub size : length s.bytes ≡ frames_bytes frame
+  pub small : frame ≤ most_frame
+  pub bottom : frames_base ≤ low
+  pub top : low + 8 * slots ≤ frames_base + frames_bytes frame
 
 module _ (frame : ℕ) (s : Area) (low slots : ℕ) (sp : Space frame s low slots) where
   pub slot_lies : (j : ℕ) → j < slots → lies s (low + 8 * j) 8 ≡ true

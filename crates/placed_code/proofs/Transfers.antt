@@ -6,6 +6,7 @@ use Rattle.run_laws.specs.Runs.{Step, Moves, Traps, weigh}
 use Rattle.run_laws.specs.Layers.{CarriesStep, places_from}
 use Rattle.a64_memory.specs.Memory.{Area}
 use Rattle.a64_machine.specs.State.{State, address_of, put, place_at}
+use Rattle.a64_memory.specs.Areas.{frames_base, frames_bytes}
 use Rattle.a64_machine.specs.Machine.{step_of, system_of}
 use Rattle.lir_core.specs.Spots.{Spot}
 use Rattle.placed_code.proofs.Steps.{enter}
@@ -27,7 +28,7 @@ use Rattle.a64_machine.specs.State as why
 module _ (l : Linked) (Begins : (p b : ℕ) → (ℕ → ℕ) → (Spot → ℕ) → Type 0) (keeps_small : (a b : State) (w : List ℕ) → Numbers a → step_of l.code a ≡ Moves w b → Numbers b)
     (opens : (p b : ℕ) (V : ℕ → ℕ) (c : Spot → ℕ) → Begins p b V c → Ready l Begins p (block_of (proc_of l.procs p) b) b 0 (block_of (proc_of l.procs p) b).body V c) where
   abbrev pub Carry : Point → State → Step Flow Stop → Type 0
-  Carry p a step = CarriesStep (system_of l.code) (least (procedures l.procs)) (λ q. 1) (words l Begins) (Similar l Begins keeps_small) (same_trap l.entry l.size) p a step
+  Carry p a step = CarriesStep (system_of l.code) (least (procedures l.procs)) (λ q. 1) (words l Begins) (Similar l Begins keeps_small) (same_trap (length l.procs) l.entry l.size) p a step
 
   abbrev pub On : ℕ → ℕ → ℕ → World → Area → State → Type 0
   On low slots k w s a = Here l.code keeps_small l.frame low slots k w s a
@@ -43,10 +44,10 @@ module _ (l : Linked) (Begins : (p b : ℕ) → (ℕ → ℕ) → (Spot → ℕ)
         enough = omega (arith, z, few);
       }
 
-  pub carry_stops : (p : Point) (q k n kind place : ℕ) (a : State) → words l Begins p ≡ places_from k n → l.entry q ≤ k → k + n ≤ l.entry q + l.size q → Stops l.code k n a (why.Broke kind place) → Carry p a (Traps (Kind kind q))
-  carry_stops p q k n kind place a e from to s = (
+  pub carry_stops : (p : Point) (q k n kind place : ℕ) (a : State) → words l Begins p ≡ places_from k n → q < length l.procs → l.entry q ≤ k → k + n ≤ l.entry q + l.size q → Stops l.code k n a (why.Broke kind place) → Carry p a (Traps (Kind kind q))
+  carry_stops p q k n kind place a e known from to s = (
     why.Broke kind place,
-    (refl, let x = s.located.0 in omega (arith, from, x), let y = s.located.1 in omega (arith, to, y)),
+    (refl, known, let x = s.located.0 in omega (arith, from, x), let y = s.located.1 in omega (arith, to, y)),
     record {
       stop = s.after;
       passed = s.places;
@@ -68,7 +69,7 @@ module _ (l : Linked) (Begins : (p b : ℕ) → (ℕ → ℕ) → (Spot → ℕ)
     space = at.space;
   }
 
-  pub reshape : (low slots slots' k : ℕ) (w : World) (s : Area) (a : State) → low + 8 * slots' ≤ 0x40000000 + 8193 * l.frame → On low slots k w s a → On low slots' k w s a
+  pub reshape : (low slots slots' k : ℕ) (w : World) (s : Area) (a : State) → low + 8 * slots' ≤ frames_base + frames_bytes l.frame → On low slots k w s a → On low slots' k w s a
   reshape low slots slots' k w s a top at = record { pc = at.pc; sp = at.sp; memory = at.memory; fixed = at.fixed; input = at.input; small = at.small; space = record { base = at.space.base; size = at.space.size; small = at.space.small; bottom = at.space.bottom; top = top } }
 
   pub place_low : (p b : ℕ) (V : ℕ → ℕ) (c : Spot → ℕ) → Ready l Begins p (block_of (proc_of l.procs p) b) b 0 (block_of (proc_of l.procs p) b).body V c → l.place p b 0 < 2 ^ 18
@@ -81,7 +82,7 @@ module _ (l : Linked) (Begins : (p b : ℕ) → (ℕ → ℕ) → (Spot → ℕ)
   ---- Entry
 
   -- a frame more is within the bound
-  room_taken : (b : Bool) (calls F low : ℕ) → (b && calls == 0) ≡ false → 0x40000000 + (calls + (if b then 0 else 1)) * F ≤ low → 0x40000000 + (calls - (if b then 1 else 0)) * F + F ≤ low
+  room_taken : (b : Bool) (calls F low : ℕ) → (b && calls == 0) ≡ false → frames_base + (calls + (if b then 0 else 1)) * F ≤ low → frames_base + (calls - (if b then 1 else 0)) * F + F ≤ low
   room_taken true zero F low some room = cc
   room_taken true (suc c) F low some room =
       let e : (suc c + 0) * F ≡ c * F + F = omega arith in
@@ -152,13 +153,13 @@ module _ (l : Linked) (Begins : (p b : ℕ) → (ℕ → ℕ) → (Spot → ℕ)
       first : Depth l.code keeps_small l.frame pr.counted e.low k w e.stack a
       first = depth_does l.code keeps_small l.frame pr.counted e.low k w e.stack a some inner.0 e.at
 
-      room : 0x40000000 + w1.calls * l.frame + l.frame ≤ e.low
+      room : frames_base + w1.calls * l.frame + l.frame ≤ e.low
       room = room_taken pr.counted w.calls l.frame e.low some e.room
 
       sum : low' + 8 * slots_of pr ≡ e.low
       sum = let r = room in let f = e.enterable.frame in omega (arith, r, f)
 
-      high : e.low ≤ 0x40000000 + 8193 * l.frame
+      high : e.low ≤ frames_base + frames_bytes l.frame
       high = callers_top l Begins w.body e.stack fs e.low w.calls w.cells e.ret e.callers
 
       second : Framed l.code keeps_small l.frame (slots_of pr) pr.outs e.low low' (k + depth) w1 e.stack first.after
@@ -170,7 +171,7 @@ module _ (l : Linked) (Begins : (p b : ℕ) → (ℕ → ℕ) → (Spot → ℕ)
           let t = local_traps l.code keeps_small l.frame pr.cells pr.bytes low' (slots_of pr) (k + depth + 3) w1 second.stack second.after e.enterable.cells less innermost.1 second.at in
           let mine = why.Broke 9 t.0 in
           let stop : Stops l.code k (depth + (3 + local)) a mine = stops_behind l.code k depth (3 + local) a first.after mine first.way (stops_behind l.code (k + depth) 3 local first.after second.after mine second.way t.1) in
-          carry_stops (Entry p) p k all 9 t.0 a words_are (omega arith) (let i = e.enterable.inside in let j = e.enterable.width in omega (arith, i, j)) (stops_longer l.code k (length (prologue pr)) (copying + jumping) a mine (subst (λ n. Stops l.code k n a mine) (sym front) stop))
+          carry_stops (Entry p) p k all 9 t.0 a words_are e.enterable.known (omega arith) (let i = e.enterable.inside in let j = e.enterable.width in omega (arith, i, j)) (stops_longer l.code k (length (prologue pr)) (copying + jumping) a mine (subst (λ n. Stops l.code k n a mine) (sym front) stop))
 
       -- the body begins
       pub enters : nat_lt w.cells pr.cells ≡ false → Carry (Entry p) a (Moves [] (Runs (record { proc = p; block = 0; at = 0; values = first_values (procedure pr) args; args = args }) fs (taken (procedure pr) w)))
@@ -226,7 +227,7 @@ module _ (l : Linked) (Begins : (p b : ℕ) → (ℕ → ℕ) → (Spot → ℕ)
         let mine = why.Broke 8 (suc k) in
         let stop = depth_traps l.code keeps_small l.frame e.low k w e.stack a none st e.at in
         let more : 3 + (local + 3 + (copying + jumping)) ≡ all = (let f = front in omega (arith, f, d)) in
-        carry_stops (Entry p) p k all 8 (suc k) a words_are (omega arith) (let i = e.enterable.inside in let j = e.enterable.width in omega (arith, i, j)) (subst (λ n. Stops l.code k n a mine) more (stops_longer l.code k 3 (local + 3 + (copying + jumping)) a mine stop))
+        carry_stops (Entry p) p k all 8 (suc k) a words_are e.enterable.known (omega arith) (let i = e.enterable.inside in let j = e.enterable.width in omega (arith, i, j)) (subst (λ n. Stops l.code k n a mine) more (stops_longer l.code k 3 (local + 3 + (copying + jumping)) a mine stop))
 
     by_depth : (b : Bool) → (pr.counted && w.calls == 0) ≡ b
         → Carry (Entry p) a (if b then Traps (Kind 8 p) else (if nat_lt w.cells pr.cells then Traps (Kind 9 p) else Moves [] (Runs (record { proc = p; block = 0; at = 0; values = first_values (procedure pr) args; args = args }) fs (taken (procedure pr) w))))

@@ -27,7 +27,8 @@ use Rattle.a64_table.specs.Decode.{cond_of}
 use Rattle.a64_machine.specs.State.{State, Broke, address_of, put, read, read_or_sp}
 use Rattle.a64_machine.specs.Effects.{gives, gives_or_sp}
 use Rattle.a64_machine.specs.Effects as machine
-use Rattle.a64_machine.specs.Machine.{step_of, data_base}
+use Rattle.a64_memory.specs.Areas.{data_base}
+use Rattle.a64_machine.specs.Machine.{step_of}
 use Rattle.a64_machine.proofs.Registers.{put_same, read_is, read-put_other}
 use Rattle.a64_machine.proofs.Steps.{StandAll}
 use Rattle.a64_machine.proofs.Ways.{Stops, stops_longer}
@@ -37,12 +38,14 @@ use Rattle.block_runs.specs.declared.code.Code.TheVariants as f
 use Rattle.block_runs.specs.Compares as flows
 use Rattle.block_runs.specs.States.{World}
 use Rattle.block_runs.specs.Effects.{Effect, Gives, Does, Calls, Begins, Fails, Faults, given_at, unless, level, truth, effect}
-use Rattle.placed_code.specs.Words.{op_words, move_word, level_words, breaks_unless}
+use Rattle.placed_code.specs.Words.{load_slot, op_words, move_word, level_words, breaks_unless}
 use Rattle.placed_code.proofs.Conditions.{compares_is, not_al}
 use Rattle.placed_code.proofs.Stack.{held}
-use Rattle.placed_code.proofs.Copies.{Plain, slot_loads}
+use Rattle.placed_code.proofs.Slots.{Plain}
+use Rattle.placed_code.proofs.Slots as slot
+use Rattle.placed_code.proofs.Leading.{way_of}
 use Rattle.placed_code.proofs.Relation.{Above}
-use Rattle.placed_code.proofs.Words.{Free, free_self, free_16, free_17, changed, skipped, Operand, reads, reads_sp, operand_on, gives_is, On, Quiet, quiet_none, word, after, at_of, stop_after, against_does, zeros_does, unless_does, unless_stops, skips_nonzero, goes_on_zero, skips_zero, goes_on_nonzero, breaks, load_does, load_byte_does}
+use Rattle.placed_code.proofs.Words.{Free, free_self, free_16, free_17, free_26, changed, skipped, Operand, reads, reads_sp, operand_on, gives_is, On, Quiet, quiet_none, word, after, at_of, stop_after, against_does, zeros_does, unless_does, unless_stops, skips_nonzero, goes_on_zero, skips_zero, goes_on_nonzero, breaks, load_does, load_byte_does}
 
 -- operations that give a number to a register, or pass or fail, and nothing else
 abbrev pub is_value : Code → Bool
@@ -365,7 +368,7 @@ module _ (code : List ℕ) (keeps_small : (a b : State) (w : List ℕ) → Numbe
         in_list (y ∷ ys) zero x e = (omega arith, cc)
         in_list (y ∷ ys) (suc n) x e = let r = in_list ys n x e in let u = r.0 in (omega (arith, u), r.1)
 
-        by_arg : (o : Option ℕ) → slice_get args j ≡ o → Outcome true k 1 rd a (given_at j o Gives)
+        by_arg : (o : Option ℕ) → slice_get args j ≡ o → Outcome true k (length (load_slot rd (slots + (j - 4)))) rd a (given_at j o Gives)
         by_arg None e = tt
         by_arg (Some x) e =
             let r = in_list args j x e in
@@ -377,7 +380,17 @@ module _ (code : List ℕ) (keeps_small : (a b : State) (w : List ℕ) → Numbe
             let place : low + 8 * n ≡ low + 8 * slots + 8 * (j - 4) = omega arith in
             let index : j - 4 + 4 ≡ j = omega (arith, l) in
             let is : held s (low + 8 * n) ≡ x = ap (held s) place ∙ above.held (j - 4) (omega (arith, u, l)) ∙ ap (λ z. get_or args z 0) index ∙ r.1 in
-            gave_word k rd x a (i.Ldr rd 31 n) small st at (slot_loads code keeps_small frame low more k w s a rd n (omega (arith, u, l)) wide ∙ ap (gives a rd) is)
+            let r = slot.load_does code keeps_small frame low more k w s a rd n (inl (omega (arith, small))) (not_reg rd 31 small (lit< tt)) (omega (arith, u, l)) st wide in
+            let there = r.passed.at in
+            record {
+              after = r.after;
+              quiet = record {
+                way = way_of code keeps_small frame low more k (length (load_slot rd n)) w s a r.after r.passed;
+                at = record { pc = there.pc; sp = there.sp; memory = there.memory; fixed = there.fixed; input = there.input; small = there.small; space = at.space };
+                others = λ m kept. r.others m kept.1 (free_26 rd m kept);
+              };
+              there = r.there ∙ is;
+            }
 
     Load_does : (A B C : ℕ) → Operand ra A a → Carries f.Load A B C
     Load_does A B C o st = by_load (load8 w.memory A) refl

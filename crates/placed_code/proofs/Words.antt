@@ -23,14 +23,14 @@ use Rattle.block_runs.specs.States.{World}
 use Rattle.placed_code.specs.Words.{tests, breaks_unless}
 use Rattle.a64_runtime.specs.Routines.{against}
 use Rattle.placed_code.proofs.Stack.{load_flows, load_flows_byte}
-use Rattle.placed_code.proofs.Copies.{Plain, fixed_put}
+use Rattle.placed_code.proofs.Slots.{Plain, fixed_put}
 use Rattle.a64_machine.proofs.Ways.{Way, way_none, way_append, Stops, stops_behind}
 use Rattle.placed_code.proofs.Leading.{next_word, Here, leads}
 use Rattle.placed_code.proofs.Entries.{stops_here}
 use Rattle.a64_machine.proofs.Numbers.{Numbers}
 use Rattle.a64_machine.specs.State as why
 
--- what is kept by words that give register d, with X16 and X17 as scratch
+-- what is kept by words that give register d, with X16, X17 and X26 as scratch
 abbrev pub Kept : ℕ → ℕ → Type 0
 Kept d m = ((m < 16) ⊎ (m ≡ 25)) × (m ≡ d → ⊥)
 
@@ -46,6 +46,9 @@ free_16 d = λ m k e. ⊎_elim (λ l. omega (arith, l, e)) (λ l. omega (arith, 
 
 pub free_17 : (d : ℕ) → Free d 17
 free_17 d = λ m k e. ⊎_elim (λ l. omega (arith, l, e)) (λ l. omega (arith, l, e)) k.0
+
+pub free_26 : (d : ℕ) → Free d 26
+free_26 d = λ m k e. ⊎_elim (λ l. omega (arith, l, e)) (λ l. omega (arith, l, e)) k.0
 
 pub free_31 : (d : ℕ) → Free d 31
 free_31 d = λ m k e. ⊎_elim (λ l. omega (arith, l, e)) (λ l. omega (arith, l, e)) k.0

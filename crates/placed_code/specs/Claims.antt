@@ -1,9 +1,10 @@
 -- What a placement of procedures must be, and what its image then does.
-use Rattle.std.specs.Prelude.{◌≡◌, ℕ, ◌+◌, ◌<◌, ◌≤◌, ◌^◌, List, [], ◌∷◌, drop, length, get_or, true, Some}
+use Rattle.std.specs.Prelude.{◌≡◌, ℕ, suc, ◌+◌, ◌<◌, ◌≤◌, ◌^◌, List, [], ◌∷◌, drop, length, get_or, true, Some}
 use Rattle.run_laws.specs.Runs.{Walk, Traps}
 use Rattle.a64_instr.specs.declared.instr.Instr.{Instr}
 use Rattle.a64_table.specs.Table.{InRange}
 use Rattle.image_form.specs.declared.image.Image.{Image}
+use Rattle.image_form.specs.declared.image.ProcPlace.{ProcPlace}
 use Rattle.a64_machine.specs.State.{address_of}
 use Rattle.a64_machine.specs.State as machine
 use Rattle.block_runs.specs.declared.code.Code.{Code}
@@ -16,6 +17,8 @@ use Rattle.block_runs.specs.States.{State, Stop, Kind, Fault, Point}
 use Rattle.block_runs.specs.Steps.{step, block_system}
 use Rattle.lir_core.specs.Lines.{slots_used}
 use Rattle.lir_core.specs.Spots.{Spot}
+use Rattle.placed_code.specs.declared.data.ProcName.{ProcName}
+use Rattle.placed_code.specs.declared.data.ImageData.{ImageData}
 use Rattle.placed_code.specs.Placed.{Copy, Placed, proc_of}
 use Rattle.placed_code.specs.Words.{Where, where_is}
 use Rattle.placed_code.specs.Layout.{position, proc_width, entry, code_of}
@@ -76,21 +79,41 @@ AllInRange (i ∷ is) = InRange i × AllInRange is
 
 ---- What the image does
 
--- traps of a kind in a procedure, and BRK of the same kind in the words of that procedure
-abbrev pub same_trap : (ℕ → ℕ) → (ℕ → ℕ) → Stop → machine.Trap → Type 0
-same_trap entry size (Kind n p) (machine.Broke m place) = (n ≡ m) × (entry p ≤ place) × (place < entry p + size p)
-same_trap entry size (Kind n p) (machine.Undefined word) = ⊥
-same_trap entry size (Kind n p) (machine.BadAddress address) = ⊥
-same_trap entry size (Kind n p) (machine.BadCall number) = ⊥
-same_trap entry size (Fault at) mine = ⊥
+-- traps of a kind in one of so many procedures, and BRK of the same kind in the words of that procedure
+abbrev pub same_trap : ℕ → (ℕ → ℕ) → (ℕ → ℕ) → Stop → machine.Trap → Type 0
+same_trap count entry size (Kind n p) (machine.Broke m place) = (n ≡ m) × (p < count) × (entry p ≤ place) × (place < entry p + size p)
+same_trap count entry size (Kind n p) (machine.Undefined word) = ⊥
+same_trap count entry size (Kind n p) (machine.BadAddress address) = ⊥
+same_trap count entry size (Kind n p) (machine.BadCall number) = ⊥
+same_trap count entry size (Fault at) mine = ⊥
 
 -- no fault comes from this state on
 abbrev pub Safe : List Procedure → (ℕ → ℕ) → State → Type 0
 Safe ps code s = (qs : List Point) (w : List ℕ) (t : State) → Walk (block_system ps code) s qs w t → (at : ℕ) → step ps code t ≡ Traps (Fault at) → ⊥
 
+---- The image
+
+-- where named procedures begin, of which the first is number p, by the words of their entries
+abbrev pub places_of : (ℕ → ℕ) → ℕ → List ProcName → List ProcPlace
+places_of entry p [] = []
+places_of entry p (name ∷ names) = record { word = entry p; «module» = name.«module»; line = name.line } ∷ places_of entry (suc p) names
+
+-- version 1 has no places
+abbrev pub version_of : List ProcName → ℕ
+version_of [] = 1
+version_of (name ∷ names) = 2
+
 -- the image of placed procedures
-abbrev pub image_of : List Placed → (flags globals : ℕ) → List ℕ → ℕ → Image
-image_of ps flags globals constants frame = record { version = 1; flags = flags; code = code_of ps; globals = globals; constants = constants; frame = frame }
+abbrev pub image_of : List Placed → ImageData → ℕ → Image
+image_of ps extra frame = record {
+  version = version_of extra.names;
+  flags = extra.flags;
+  code = code_of ps;
+  globals = extra.globals;
+  constants = extra.constants;
+  frame = frame;
+  places = places_of (entry ps) 0 extra.names;
+}
 
 -- where the code of procedures lies, and how many words it has
 abbrev pub code_places : List Placed → ℕ → ℕ
@@ -98,3 +121,7 @@ code_places ps p = address_of (entry ps p)
 
 abbrev pub sizes : List Placed → ℕ → ℕ
 sizes ps p = proc_width p (proc_of ps p)
+
+-- a trap of the flows, and the image's
+abbrev pub breaks_as : List Placed → Stop → machine.Trap → Type 0
+breaks_as ps = same_trap (length ps) (entry ps) (sizes ps)

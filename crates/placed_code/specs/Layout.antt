@@ -16,11 +16,12 @@ use Rattle.placed_code.specs.Words.{copies_words, slots_of, op_words, result_wor
 
 ---- Widths, which depend on no place
 
-abbrev pub op_width : Code → ℕ
-op_width code = length (op_words (λ p. 0) 0 0 0 code 0 0 0 0)
+-- of an operation, where the frame has so many slots
+abbrev pub op_width : ℕ → Code → ℕ
+op_width slots code = length (op_words (λ p. 0) 0 slots 0 code 0 0 0 0)
 
 abbrev pub cell_width : Placed → ℕ → Cell → ℕ
-cell_width pr j cell = length (copies_words pr cell.copies) + op_width cell.op.code
+cell_width pr j cell = length (copies_words pr cell.copies) + op_width (slots_of pr) cell.op.code
 
 abbrev pub jump_width : Bool → ℕ
 jump_width falls = if falls then 0 else 1

@@ -5,7 +5,7 @@ use Rattle.run_laws.specs.Layers.{Through}
 use Rattle.a64_memory.specs.Memory.{AreBytes}
 use Rattle.image_form.specs.Form.{IsInForm}
 use Rattle.a64_machine.specs.Machine.{start, system}
-use Rattle.block_runs.specs.States.{Stop, Kind, Fault}
+use Rattle.block_runs.specs.States.{State, Stop, Kind, Fault}
 use Rattle.block_runs.specs.First.{first_state}
 use Rattle.block_runs.specs.Steps.{block_system}
 use Rattle.block_runs.specs.Points.{least, all_points}
@@ -24,10 +24,11 @@ use Rattle.lir_core.specs.Flows as flows
 use Rattle.lir_core.specs.Spots.{Spot, reg, home, out, target, saved, same, spot, source, view_of, Holds, argument_of}
 use Rattle.lir_core.specs.Lines.{names, Room, AreDistinct, slots_of}
 use Rattle.lir_core.specs.Sound.{IsSoundNode, room_of, no_places}
+use Rattle.placed_code.specs.declared.data.ImageData.{ImageData}
 use Rattle.placed_code.specs.Placed.{Copy, Cell, Block, Placed, all_copied}
 use Rattle.placed_code.specs.Words.{frame_of}
-use Rattle.placed_code.specs.Layout.{position, entry, all_words}
-use Rattle.placed_code.specs.Claims.{AllInRange, IsNumber, Ordered, same_trap, image_of, code_places, sizes}
+use Rattle.placed_code.specs.Layout.{position, all_words}
+use Rattle.placed_code.specs.Claims.{AllInRange, IsNumber, Ordered, image_of, code_places, breaks_as}
 
 -- what allocators and edges give for a node: where values stand before and behind it, its lines with the registers named for its
 -- operations and its end, the steps of the edge from a test before it, and the steps of its jump's edge behind it
@@ -236,17 +237,21 @@ same_reason s (Kind kind proc) = (s.kind ≡ kind) × (s.proc ≡ proc)
 same_reason s (Fault at) = ⊥
 
 -- an image of results: it is in form, its constants are bytes, and each of its words is one of the table
-pub record IsImageOf (steps : List Move → List Copy) (rs : List Allocated) (flags globals : ℕ) (constants : List ℕ) (frame : ℕ) : Type 0 where
-  pub form : IsInForm (image_of (all_placed steps rs) flags globals constants frame)
-  pub bytes : AreBytes constants
+pub record IsImageOf (steps : List Move → List Copy) (rs : List Allocated) (extra : ImageData) (frame : ℕ) : Type 0 where
+  pub form : IsInForm (image_of (all_placed steps rs) extra frame)
+  pub bytes : AreBytes extra.constants
   pub in_table : AllInRange (all_words (all_placed steps rs))
 
+-- the flows' state at the start, by the image's data
+abbrev pub begins_with : ImageData → List ℕ → State
+begins_with extra input = first_state extra.globals extra.constants input
+
 -- the machine that runs the image is in step with each meaning that the flows, taken with the image's code addresses, keep up with
-abbrev pub Agrees : (List Move → List Copy) → List Allocated → (flags globals : ℕ) → List ℕ → ℕ → List ℕ → Type 0
-Agrees steps rs flags globals constants frame input =
+abbrev pub Agrees : (List Move → List Copy) → List Allocated → ImageData → ℕ → List ℕ → Type 0
+Agrees steps rs extra frame input =
     let ps = all_placed steps rs in
     let fs = procedures_of rs in
-    let image = image_of ps flags globals constants frame in
+    let image = image_of ps extra frame in
     (meaning : ℕ → Outcome Reason)
-    → ((n : ℕ) → Keeps (block_system fs (code_places ps)) (least fs) (all_points fs) same_reason (first_state globals constants input) n (meaning n))
-    → InStep (system image) (length image.code) (Through same_reason (same_trap (entry ps) (sizes ps))) (start image input) meaning
+    → ((n : ℕ) → Keeps (block_system fs (code_places ps)) (least fs) (all_points fs) same_reason (begins_with extra input) n (meaning n))
+    → InStep (system image) (length image.code) (Through same_reason (breaks_as ps)) (start image input) meaning

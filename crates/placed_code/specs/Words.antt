@@ -39,11 +39,36 @@ where_is pr saved = Some (InReg 16)
 where_is pr (out s) = if nat_lt s pr.outs then Some (InSlot s) else None
 where_is pr target = Some (InReg 25)
 
+-- the field of one word reaches so many slots
+abbrev pub near_slots : ℕ
+near_slots = 2 ^ 12
+
+abbrev pub is_near : ℕ → Bool
+is_near j = nat_lt j near_slots
+
+-- how many words reach a slot
+abbrev pub reach : ℕ → ℕ
+reach j = if is_near j then 1 else 2
+
+-- so many slots have 4,096 bytes: for a far slot X26 becomes the place of those bytes of the frame among which the slot lies
+abbrev pub page_slots : ℕ
+page_slots = 512
+
+abbrev pub page_word : ℕ → Instr
+page_word j = i.AddImm 26 31 (j / page_slots) true
+
+-- register d from slot j, and slot j from register s
+abbrev pub load_slot : ℕ → ℕ → List Instr
+load_slot d j = if is_near j then (i.Ldr d 31 j ∷ []) else (page_word j ∷ i.Ldr d 26 (j % page_slots) ∷ [])
+
+abbrev pub store_slot : ℕ → ℕ → List Instr
+store_slot s j = if is_near j then (i.Str s 31 j ∷ []) else (page_word j ∷ i.Str s 26 (j % page_slots) ∷ [])
+
 abbrev pub move : Where → Where → List Instr
 move (InReg d) (InReg s) = i.OrrReg d 31 s Lsl 0 ∷ []
-move (InReg d) (InSlot j) = i.Ldr d 31 j ∷ []
-move (InSlot j) (InReg s) = i.Str s 31 j ∷ []
-move (InSlot j) (InSlot k) = i.Ldr 17 31 k ∷ i.Str 17 31 j ∷ []
+move (InReg d) (InSlot j) = load_slot d j
+move (InSlot j) (InReg s) = store_slot s j
+move (InSlot j) (InSlot k) = load_slot 17 k ++ store_slot 17 j
 
 abbrev pub move_between : Option Where → Option Where → List Instr
 move_between None _ = []
@@ -62,6 +87,13 @@ slots_of pr = pr.outs + (1 + pr.homes)
 
 abbrev pub frame_of : Placed → ℕ
 frame_of pr = 8 * slots_of pr
+
+-- how many slots a frame has at most, and how many bytes
+abbrev pub most_slots : ℕ
+most_slots = 8192
+
+abbrev pub most_frame : ℕ
+most_frame = 8 * most_slots
 
 ---- Operations
 
@@ -94,7 +126,7 @@ op_words entry start slots k (o.Global n) a b c d = i.AddImm d 24 (n / 2 ^ 12) t
 op_words entry start slots k (o.Local n) a b c d = i.SubImm d 19 (n / 2 ^ 12) true ∷ i.SubImm d d (n % 2 ^ 12) false ∷ []
 op_words entry start slots k (o.Plus n) a b c d = i.AddImm d a (n / 2 ^ 12) true ∷ i.AddImm d d (n % 2 ^ 12) false ∷ []
 op_words entry start slots k (o.Code p) a b c d = i.Movz d (half (address_of (entry p)) 0) 0 ∷ i.Movk d (half (address_of (entry p)) 1) 1 ∷ []
-op_words entry start slots k (o.Arg n) a b c d = i.Ldr d 31 (slots + (n - 4)) ∷ []
+op_words entry start slots k (o.Arg n) a b c d = load_slot d (slots + (n - 4))
 op_words entry start slots k o.Load a b c d = i.Ldr d a 0 ∷ []
 op_words entry start slots k o.Store a b c d = i.Str b a 0 ∷ []
 op_words entry start slots k o.LoadByte a b c d = i.Ldrb d a 0 ∷ []

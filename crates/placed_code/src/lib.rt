@@ -5,6 +5,8 @@
 //! image carries out the flows, taken with the image's own code addresses, whichever allocator made the results.
 #![tactic(auto)]
 
+mod data;
 mod laws;
 
+pub use data::{ImageData, ProcName};
 pub use laws::images_agree;

@@ -1,7 +1,7 @@
 -- A program's data fits the image.
-use Rattle.std.proofs.Common.{◌≡◌, ℕ, ◌+◌, ◌<◌, ◌≤◌, List, length, Bool, true, false, None, sym, subst, arith}
+use Rattle.std.proofs.Common.{◌≡◌, ℕ, ◌+◌, ◌<◌, ◌≤◌, List, length, Bool, true, false, None, sym, ap, ap₂, ◌∙◌, subst, arith}
 use Rattle.std.specs.Prelude.{if◌then◌else◌}
-use Rattle.block_runs.specs.First.{data_base}
+use Rattle.a64_memory.specs.Areas.{data_base}
 use Rattle.ob_types.specs.declared.program.Program.{Program}
 use Rattle.ssa_lowered.specs.Limits.{limit_of}
 use Rattle.ssa_exprs.specs.declared.tables.Tables.{Tables}
@@ -10,9 +10,16 @@ use Rattle.ssa_tables.specs.Shared.{ServesAll}
 use Rattle.ssa_tables.proofs.Limits.{first_within, few_descriptors}
 use Rattle.ssa_tables.proofs.constants.Counted.{constants_length, globals_length}
 use Rattle.ssa_build.proofs.Within.{few_procedures, few_globals, few_constants}
+use Rattle.ssa_core.specs.declared.procedure.Proc.{Proc}
+use Rattle.ssa_lowered.specs.Data.{in_cells}
+use Rattle.ssa_lowered.specs.Lowered.{lowered}
+use Rattle.placed_code.specs.declared.data.ProcName.{ProcName}
+use Rattle.placed_code.specs.declared.data.ImageData.{ImageData}
 use Rattle.link_plan.specs.Linked.{DataFits}
 use Rattle.lowered_runs.specs.Claims.{data_bytes, constants_of}
-use Rattle.program_image.specs.Images.{flags_of}
+use Rattle.compiled_runs.specs.Compiled.{flags_of, procedure_names, data_of}
+use Rattle.compiled_runs.proofs.Telling.{names_length}
+use Rattle.compiled_runs.proofs.Whole.{lowered_each}
 
 flag_small : (b : Bool) → (if b then 1 else 0) < 2
 flag_small true = omega arith
@@ -41,18 +48,28 @@ module _ (p : Program) (none : limit_of p ≡ None) where
   pub near : data_bytes p + length (constants_of p) ≤ 0x1000000
   near = let a = globals_few in let b = constants_few in omega (arith, a, b)
 
-  pub data_fits : DataFits (flags_of p) (data_bytes p) (constants_of p)
+  pub data_fits : DataFits (data_of p)
   data_fits = record {
     one_flag = flag_small p.imports_in;
     few_globals = globals_few;
     few_constants = constants_few;
+    few_names = let n = names_length p.procedures in let few = few_procedures p none in omega (arith, n, few);
     whole_globals = let a = globals_length p in omega (arith, a);
     whole_constants = let a = constants_length p data_base in omega (arith, a);
   }
 
+-- data is the program's by its parts
+pub data_is : (p : Program) (flags globals : ℕ) (constants : List ℕ) (names : List ProcName) → flags ≡ flags_of p → globals ≡ data_bytes p → constants ≡ constants_of p → names ≡ procedure_names p
+    → record { flags = flags; globals = globals; constants = constants; names = names } ≡ data_of p
+data_is p flags globals constants names f g c n =
+    ap₂ (λ x y. record { flags = x; globals = y; constants = constants; names = names }) f g
+    ∙ ap₂ (λ x y. record { flags = flags_of p; globals = data_bytes p; constants = x; names = y }) c n
+
 -- data that is the program's fits too
-pub data_fits_as : (p : Program) → limit_of p ≡ None → (flags globals : ℕ) (bytes : List ℕ) → flags ≡ flags_of p → globals ≡ data_bytes p → bytes ≡ constants_of p → DataFits flags globals bytes
-data_fits_as p none flags globals bytes a b c =
-    subst (λ n. DataFits n globals bytes) (sym a)
-    (subst (λ n. DataFits (flags_of p) n bytes) (sym b)
-    (subst (λ bs. DataFits (flags_of p) (data_bytes p) bs) (sym c) (data_fits p none)))
+pub data_fits_as : (p : Program) → limit_of p ≡ None → (extra : ImageData) → extra ≡ data_of p → DataFits extra
+data_fits_as p none extra is = subst DataFits (sym is) (data_fits p none)
+
+-- each procedure has a name
+pub all_named : (p : Program) (procs : List Proc) (extra : ImageData) → procs ≡ lowered p → extra ≡ data_of p → length extra.names ≡ length procs
+all_named p procs extra same is =
+    ap (λ (x : ImageData). length x.names) is ∙ names_length p.procedures ∙ sym (lowered_each p (in_cells p.types) 0 p.procedures) ∙ sym (ap (λ (xs : List Proc). length xs) same)

@@ -1,5 +1,5 @@
 mod Ready
 mod Fitting
-mod Running
-mod Telling
+pub mod Running
+pub mod Telling
 mod Counting

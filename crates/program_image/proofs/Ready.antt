@@ -19,15 +19,11 @@ use Rattle.lowered_valid.proofs.Modest.{all_few, all_small}
 use Rattle.program_image.specs.Sizes.{is_short}
 use Rattle.link_plan.proofs.Low.{and_left, and_right}
 use Rattle.back_end.specs.Images.{IsReady, HasFewValues}
-use Rattle.program_image.specs.Limits.{HasLongProcedure}
 
 ---- Short procedures
 
 is_within : (a b : ℕ) → nat_le a b ≡ true → a ≤ b
 is_within a b e = grind (arith, nat_tests, e)
-
-is_true : (a b : ℕ) → a ≤ b → nat_le a b ≡ true
-is_true a b l = grind (arith, nat_tests, l)
 
 abbrev all_short : List Proc → Bool
 all_short ps = list_all (λ p. is_short p) ps
@@ -37,19 +33,8 @@ are_all [] e k d l = absurd (omega (arith, l))
 are_all (p ∷ ps) e zero d l = is_within (size_of (code_blocks p.blocks)) most (and_left (is_short p) (all_short ps) e)
 are_all (p ∷ ps) e (suc k) d l = are_all ps (and_right (is_short p) (all_short ps) e) k d (omega (arith, l))
 
-both : (a b : Bool) → a ≡ true → b ≡ true → (a && b) ≡ true
-both true b e f = f
-both false b e f = cc
-
-all_are : (ps : List Proc) → All IsShort ps → all_short ps ≡ true
-all_are [] h = refl
-all_are (p ∷ ps) h = both (is_short p) (all_short ps) (is_true (size_of (code_blocks p.blocks)) most (h 0 p (omega arith))) (all_are ps (λ k d l. h (suc k) d (omega (arith, l))))
-
 pub are_short : (p : Program) (ps : List Proc) → ps ≡ lowered p → true ≡ all_short ps → All IsShort (lowered p)
 are_short p ps same e = are_all (lowered p) (sym (e ∙ ap all_short same))
-
-pub has_long : (p : Program) (ps : List Proc) → ps ≡ lowered p → false ≡ all_short ps → HasLongProcedure p
-has_long p ps same e short = absurd (let a : true ≡ false = sym (all_are (lowered p) short) ∙ sym (e ∙ ap all_short same) in cc)
 
 ---- All that is asked
 

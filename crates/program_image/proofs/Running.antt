@@ -8,7 +8,7 @@ use Rattle.image_form.specs.Form.{IsInForm}
 use Rattle.a64_memory.specs.Memory.{AreBytes}
 use Rattle.a64_memory.proofs.Cells.{no_bytes, more_bytes, bytes_of_8}
 use Rattle.a64_memory.proofs.Shapes.{zero_bytes, append_bytes}
-use Rattle.block_runs.specs.First.{data_base}
+use Rattle.a64_memory.specs.Areas.{data_base}
 use Rattle.ob_types.specs.Forms.{all}
 use Rattle.ob_types.specs.Meaning.{texts_of}
 use Rattle.ob_types.specs.WellFormed.{well_formed}
@@ -25,11 +25,12 @@ use Rattle.alloc_choice.specs.declared.choice.Choice.{Choice}
 use Rattle.back_end.specs.declared.imaging.LinkedProcedures.{LinkedProcedures}
 use Rattle.back_end.specs.Images.{IsImageBy}
 use Rattle.lowered_valid.specs.Claims.{IsShort}
-use Rattle.lowered_runs.specs.Claims.{data_bytes, constants_of}
+use Rattle.lowered_runs.specs.Claims.{constants_of}
 use Rattle.lowered_runs.specs.Words.{AreInput}
-use Rattle.compiled_runs.specs.Compiled.{CanRunAnywhere}
+use Rattle.placed_code.specs.declared.data.ImageData.{ImageData}
+use Rattle.compiled_runs.specs.Compiled.{data_of, CanRunAnywhere}
 use Rattle.compiled_runs.proofs.Whole.{means}
-use Rattle.program_image.specs.Images.{flags_of, IsProgramImage, DoesAsMeant}
+use Rattle.program_image.specs.Images.{IsProgramImage, DoesAsMeant}
 use Rattle.program_image.proofs.Ready.{valid}
 use Rattle.program_image.proofs.Fitting.{room, near}
 
@@ -79,34 +80,30 @@ input_small (x ∷ xs) e (suc i) = input_small xs (and_right (nat_lt x 256) (all
 ---- The image
 
 -- the same image, in the words of the program
-pub in_program : (choice : Choice) (p : Program) (procs : List Proc) (flags globals : ℕ) (bytes : List ℕ) (made : LinkedProcedures) → procs ≡ lowered p → flags ≡ flags_of p → globals ≡ data_bytes p → bytes ≡ constants_of p
-    → IsImageBy choice procs flags globals bytes made → IsImageBy choice (lowered p) (flags_of p) (data_bytes p) (constants_of p) made
-in_program choice p procs flags globals bytes made a b c d h =
-    subst (λ ps. IsImageBy choice ps (flags_of p) (data_bytes p) (constants_of p) made) a
-    (subst (λ n. IsImageBy choice procs n (data_bytes p) (constants_of p) made) b
-    (subst (λ n. IsImageBy choice procs flags n (constants_of p) made) c
-    (subst (λ bs. IsImageBy choice procs flags globals bs made) d h)))
+pub in_program : (choice : Choice) (p : Program) (procs : List Proc) (extra : ImageData) (made : LinkedProcedures) → procs ≡ lowered p → extra ≡ data_of p → IsImageBy choice procs extra made → IsImageBy choice (lowered p) (data_of p) made
+in_program choice p procs extra made a b h = subst (λ ps. IsImageBy choice ps (data_of p) made) a (subst (λ x. IsImageBy choice procs x made) b h)
 
-module _ (choice : Choice) (p : Program) (made : LinkedProcedures) (h : IsImageBy choice (lowered p) (flags_of p) (data_bytes p) (constants_of p) made) where
+module _ (p : Program) (fine : well_formed p ≡ true) (none : limit_of p ≡ None) where
+  pub can_run : (input : List ℕ) → AreInput input → CanRunAnywhere p input
+  can_run input numbers code places = record {
+    fine = fine;
+    numbers = numbers;
+    bytes = constants_small p fine;
+    places = places;
+    globals = (room p none).0;
+    room = (room p none).1;
+    stands = λ has. record { same = refl; near = near p none };
+  }
+
+module _ (choice : Choice) (p : Program) (made : LinkedProcedures) (h : IsImageBy choice (lowered p) (data_of p) made) where
   pub program_image_is : IsProgramImage choice p h.cuts made.image
   program_image_is = record { are = h.are; few = h.few; is = h.is }
 
   module _ (fine : well_formed p ≡ true) (none : limit_of p ≡ None) (short : All IsShort (lowered p)) (form : IsInForm made.image) where
-    can_run : (input : List ℕ) → AreInput input → CanRunAnywhere p input (constants_of p)
-    can_run input numbers code places = record {
-      fine = fine;
-      numbers = numbers;
-      bytes = constants_small p fine;
-      places = places;
-      globals = (room p none).0;
-      room = (room p none).1;
-      stands = λ has. record { same = refl; near = near p none };
-    }
-
     pub does_as_meant : DoesAsMeant p h.cuts made.image
     does_as_meant input numbers =
-        means p h.cuts (flags_of p) (constants_of p) made.image input
+        means p h.cuts made.image input
         (record { flows = h.are.flows; is = h.is; form = form })
         (h.runs input (constants_small p fine) (input_small input numbers))
         (valid p fine none short)
-        (can_run input numbers)
+        (can_run p fine none input numbers)

@@ -2,8 +2,8 @@
 use Rattle.std.proofs.Common.{◌≡◌, ◌<◌, ◌≤◌, ◌^◌, List, map, None, refl, subst, arith}
 use Rattle.ob_types.specs.declared.program.Program.{Program}
 use Rattle.ssa_core.specs.declared.procedure.Proc.{Proc}
-use Rattle.ssa_exprs.specs.declared.fault.LowerFault.{LowerFault}
-use Rattle.ssa_exprs.specs.declared.fault.LowerFault.TheVariants as low
+use Rattle.ssa_tables.specs.declared.fault.LowerFault.{LowerFault}
+use Rattle.ssa_tables.specs.declared.fault.LowerFault.TheVariants as low
 use Rattle.ssa_tables.specs.Faults.{Tells as TellsLowered}
 use Rattle.ssa_lowered.specs.Limits.{limit_of}
 use Rattle.ssa_lowered.specs.Lowered.{lowered}
@@ -16,12 +16,16 @@ use Rattle.back_end.specs.Images.{AreCutsOf, code_length}
 use Rattle.back_end.specs.declared.fault.ImageFault.{ImageFault}
 use Rattle.back_end.specs.declared.fault.ImageFault.TheVariants as back
 use Rattle.compiled_runs.specs.Compiled.{flows_of}
-use Rattle.program_image.specs.Faults.{Tells, of_lowering, of_imaging}
+use Rattle.program_image.specs.Faults.{Tells, TellsOfTraces, of_lowering, of_imaging}
 use Rattle.trace_build.specs.Traces.{traces_in}
-use Rattle.program_image.specs.Limits.{most_traces, IsPassedFirst, InLowering, ByTraces, ByWords}
+use Rattle.program_image.specs.Limits.{most_traces, IsPassedFirst, InLowering, ByTraces, BeforeCode, ByWords}
+
+pub lowering_tells_early : (choice : Choice) (p : Program) (fault : LowerFault) → TellsLowered fault (limit_of p) → TellsOfTraces choice p (of_lowering fault)
+lowering_tells_early choice p (low.Limit n i) h = InLowering (record { number = n; index = i }) h
+lowering_tells_early choice p low.Memory h = tt
 
 pub lowering_tells : (choice : Choice) (p : Program) (fault : LowerFault) → TellsLowered fault (limit_of p) → Tells choice p (of_lowering fault)
-lowering_tells choice p (low.Limit n i) h = InLowering (record { number = n; index = i }) h
+lowering_tells choice p (low.Limit n i) h = BeforeCode (record { number = n; index = i }) (InLowering (record { number = n; index = i }) h)
 lowering_tells choice p low.Memory h = tt
 
 module _ (choice : Choice) (p : Program) (none : limit_of p ≡ None) where
@@ -39,7 +43,7 @@ module _ (choice : Choice) (p : Program) (none : limit_of p ≡ None) where
   by_words h = let a = count_is h.0 h.1 in let b = h.2 in let c = h.3 in ByWords none (omega (arith, a, b)) (h.0, h.1, omega (arith, c))
 
   pub imaging_tells : (procs : List Proc) → procs ≡ lowered p → (fault : ImageFault) → (fault ≡ back.Traces → HasTraces procs) → (fault ≡ back.Code → HasWords procs) → Tells choice p (of_imaging fault)
-  imaging_tells procs same back.Traces traces words = ByTraces none (subst HasTraces same (traces refl))
+  imaging_tells procs same back.Traces traces words = BeforeCode (record { number = 57; index = 0 }) (ByTraces none (subst HasTraces same (traces refl)))
   imaging_tells procs same back.Code traces words = by_words (subst HasWords same (words refl))
   imaging_tells procs same back.Misfit traces words = tt
   imaging_tells procs same back.Memory traces words = tt

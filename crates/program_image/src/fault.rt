@@ -5,7 +5,7 @@ ghost use Rattle.back_end.specs.declared.fault.ImageFault.TheVariants.{Misfit};
 ghost use Rattle.program_image.specs.Faults.{of_lowering, of_imaging};
 
 use back_end::ImageFault;
-use ssa_exprs::LowerFault;
+use ssa_tables::LowerFault;
 use thiserror::Error;
 
 /// Why a program has no image.

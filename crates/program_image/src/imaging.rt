@@ -14,7 +14,7 @@ ghost use Rattle.program_image.specs.Limits.{most_traces};
 ghost use Rattle.trace_build.specs.Traces.{traces_in};
 
 use crate::data::program_data;
-use crate::fault::{ProgramFault, of_imaging, of_lowering, whole_limit};
+use crate::fault::{ProgramFault, of_imaging, of_lowering};
 use crate::sizes::are_short;
 use back_end::{Choice, Image, image_of};
 use link_plan::Plan;
@@ -63,8 +63,8 @@ impl Compiled {
 
 /// The image of a well-formed program: its procedures, lowered, by the builder, the policy and the registers that are chosen,
 /// with its globals and constants. A program is refused by the first limit that it passes: one of lowering, or over 262,144
-/// traces (57), or over 262,144 words of code (54). A procedure of over 500,000,000 blocks and operations
-/// is refused by 54 at once. Takes the time of the passes; the workers of the choice share the traces, whose results, and so the
+/// traces (57), or over 262,144 words of code (54). For a procedure of over 500,000,000 blocks and operations
+/// there is no memory. Takes the time of the passes; the workers of the choice share the traces, whose results, and so the
 /// image, are the same whatever they do. The program is handed back in the scaffold. It may wait.
 pub fn program_image<G: Gate, R: Threads + Wait + Sync>(
     rt: &R,
@@ -91,7 +91,7 @@ pub fn program_image<G: Gate, R: Threads + Wait + Sync>(
     };
     let LoweredProgram { procedures, tables } = made;
     if !are_short(procedures.as_slice()) {
-        return Err(whole_limit(54));
+        return Err(ProgramFault::Memory);
     }
     let data = match program_data(alloc, &tables, &program) {
         Ok(data) => data,

@@ -1,4 +1,5 @@
-//! Whether procedures are short enough to be valid. The count stops as soon as there are too many blocks and operations.
+//! Whether procedures are short enough to be valid: for longer ones there is no memory. The count stops as soon as there are too
+//! many blocks and operations.
 
 ghost use Rattle.std.specs.Prelude.{◌≡◌};
 ghost use Rattle.std.specs.List.{list_all};

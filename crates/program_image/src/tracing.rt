@@ -6,7 +6,7 @@ ghost use Rattle.ssa_lowered.specs.Limits.{limit_of};
 ghost use Rattle.compiled_runs.specs.Compiled.{flows_of};
 ghost use Rattle.trace_build.specs.Traces.{traces_in};
 ghost use Rattle.trace_report.specs.Reports.{IsReport};
-ghost use Rattle.program_image.specs.Faults.{Tells};
+ghost use Rattle.program_image.specs.Faults.{TellsOfTraces};
 ghost use Rattle.program_image.specs.Limits.{most_traces};
 
 use crate::fault::{ProgramFault, of_lowering, whole_limit};
@@ -21,7 +21,7 @@ use trace_report::trace_report;
 const MOST_TRACES: usize = 262_144;
 
 /// The lines that tell the traces of a well-formed program's procedures, by the builder and the policy that are chosen. A program
-/// is refused as it is for its image, but that its code is not made, and so not too long.
+/// is refused as it is for its image, but that its code is not made, and so never too long.
 pub fn program_traces(
     alloc: Global,
     choice: &Choice,
@@ -31,7 +31,7 @@ pub fn program_traces(
     ensures report { IfOk result (λ lines. IsReport choice.now 0 (flows_of program.now) lines.items) }
     ensures within { OnOk result (limit_of program.now ≡ None) }
     ensures few { OnOk result (traces_in choice.now.builder (flows_of program.now) ≤ most_traces) }
-    ensures limit { IfErr result (Tells choice.now program.now) }
+    ensures limit { IfErr result (TellsOfTraces choice.now program.now) }
 {
     let made = match lower_with_tables(alloc, program) {
         Ok(made) => made,
@@ -39,7 +39,7 @@ pub fn program_traces(
     };
     let LoweredProgram { procedures, .. } = made;
     if !are_short(procedures.as_slice()) {
-        return Err(whole_limit(54));
+        return Err(ProgramFault::Memory);
     }
     let Ok(flows) = select_all(alloc, procedures) else {
         return Err(ProgramFault::Memory);

@@ -1,12 +1,13 @@
 //! The image of a program's texts, and its traces.
 
-ghost use Rattle.std.specs.Prelude.{IfOk, IfErr};
-ghost use Rattle.image_form.specs.Form.{IsInForm};
+ghost use Rattle.std.specs.Prelude.{◌<◌, ◌^◌, IfOk, IfErr};
+ghost use Rattle.image_file.specs.Spelling.{AreWords, IsOfWords, numbers_of, place_numbers};
 ghost use Rattle.alloc_choice.specs.Choice.{IsFitChoice};
 ghost use Rattle.source_image.specs.Images.{IsImageOfTexts, AreTracesOfTexts};
-ghost use Rattle.source_image.specs.Refusals.{IsRefusal};
+ghost use Rattle.source_image.specs.Refusals.{IsRefusal, IsRefusalOfTraces};
 
 use crate::refusal::{Refusal, refused_program, refused_source};
+use image_form::{Image, ProcPlace};
 use items::Items;
 use outside::Gate;
 use program_image::{Choice, Compiled, program_image, program_traces};
@@ -28,7 +29,6 @@ pub fn source_image<G: Gate, R: Threads + Wait + Sync>(
 ) -> Result<Compiled, Refusal>
     requires { IsFitChoice choice.now }
     ensures image { IfOk result (IsImageOfTexts choice.now texts.now) }
-    ensures form { IfOk result (λ made. IsInForm made.image) }
     ensures refused { IfErr result (IsRefusal choice.now texts.now) }
 {
     let program = match source_program(alloc, texts) {
@@ -36,9 +36,48 @@ pub fn source_image<G: Gate, R: Threads + Wait + Sync>(
         Err(fault) => return Err(refused_source(fault)),
     };
     match program_image(rt, alloc, choice, program, gate) {
-        Ok(made) => Ok(made),
+        Ok(made) => {
+            of_words(&made.image);
+            Ok(made)
+        }
         Err(fault) => Err(refused_program(fault)),
     }
+}
+
+/// The code words of an image are words.
+fn code_of_words(code: &[u32])
+    ensures { AreWords code.now }
+{}
+
+/// A number of 32 bits is a word.
+fn number_of_word(number: u32)
+    ensures { number < 2 ^ 32 }
+{}
+
+/// The numbers of a place are words.
+fn place_of_words(place: ProcPlace)
+    ensures { AreWords (numbers_of place) }
+{
+    number_of_word(place.word);
+    number_of_word(place.module);
+    number_of_word(place.line);
+}
+
+/// The numbers of places are words.
+fn places_of_words(places: &[ProcPlace])
+    ensures { AreWords (place_numbers places.now) }
+{
+    for place in places {
+        place_of_words(*place);
+    }
+}
+
+/// What an image holds are words, as what is said of its file asks.
+fn of_words(image: &Image)
+    ensures { IsOfWords image.now }
+{
+    code_of_words(image.code.as_slice());
+    places_of_words(image.places.as_slice());
 }
 
 /// The lines that tell the traces of the modules with these texts, by the builder and the policy that are chosen.
@@ -50,7 +89,7 @@ pub fn source_traces(
     texts: &[Items<u8>],
 ) -> Result<Vec<u8>, Refusal>
     ensures lines { IfOk result (λ lines. AreTracesOfTexts choice.now texts.now lines.items) }
-    ensures refused { IfErr result (IsRefusal choice.now texts.now) }
+    ensures refused { IfErr result (IsRefusalOfTraces choice.now texts.now) }
 {
     let program = match source_program(alloc, texts) {
         Ok(program) => program,

@@ -1,1 +1,3 @@
+pub mod constants
 pub mod no_faults
+pub mod one_program

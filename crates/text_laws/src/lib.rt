@@ -2,20 +2,30 @@
 //!
 //! The text of a module has one reading (`one_reading`), and the texts of some modules come to one program or to one first
 //! fault (`one_fault`). A program has one image by a policy, a builder and a number of registers (`one_image`), the shapes that
-//! the judgement makes are closed (`judged_shapes`), and so texts have one image (`one_image_of_texts`). The machine that runs
-//! an image of texts never comes to a fault (`no_faults`).
+//! the judgement makes are closed (`judged_shapes`), and so texts have one lowering and one meaning (`one_program`), one image
+//! (`one_image_of_texts`), or one refusal (`one_refusal`). The machine that runs an image of texts never comes to a fault
+//! (`no_faults`). The values that the judgement finds of constant expressions are what they mean (`constants`).
 #![tactic(auto)]
 
+mod constants;
 mod judged_shapes;
-mod no_faults;
+pub mod no_faults;
 mod one_fault;
 mod one_image;
 mod one_image_of_texts;
+mod one_program;
 mod one_reading;
+mod one_refusal;
 
+pub use constants::constants_are_meant;
 pub use judged_shapes::{judged_images_have_closed_types, modules_have_one_lowering};
 pub use no_faults::images_never_fault;
 pub use one_fault::texts_have_one_first_fault;
 pub use one_image::{lowerings_have_one_image, programs_have_one_image};
 pub use one_image_of_texts::texts_have_one_image;
+pub use one_program::{texts_have_one_lowering, texts_have_one_meaning};
 pub use one_reading::texts_are_read_once;
+pub use one_refusal::{
+    images_exclude_refusals, texts_have_one_refusal, texts_have_one_refusal_of_traces,
+    texts_have_one_report, traces_exclude_refusals,
+};

@@ -1,5 +1,5 @@
 -- What the answers of a part are for the whole.
-use Rattle.std.proofs.Common.{◌≡◌, ℕ, suc, zero, ◌+◌, ◌<◌, ◌≤◌, Bool, true, false, List, [], ◌∷◌, length, Option, Some, None, Ok, Err, Vec, Global, ◌++◌, length-append, refl, sym, ap, ◌∙◌, subst, arith}
+use Rattle.std.proofs.Common.{◌≡◌, ℕ, suc, zero, ◌+◌, ◌<◌, ◌≤◌, Bool, true, false, List, [], ◌∷◌, length, Option, Some, None, Ok, Err, Vec, Global, ◌++◌, length-append, ◌⊎◌, inl, inr, refl, sym, ap, ◌∙◌, subst, arith}
 use Rattle.std.proofs.lemmas.List.{append-nil}
 use Rattle.outside.specs.Counts.{Rose}
 use Rattle.outside.specs.Files.{Held, ToldOfRead, ToldOfWrite}
@@ -11,20 +11,23 @@ use Rattle.outside.specs.declared.files.PutFault.{PutFault}
 use Rattle.outside.specs.declared.files.PutFault.TheVariants as put
 use Rattle.image_file.specs.Rules.{first_fault}
 use Rattle.image_file.specs.Rules.{Refuses as BreaksRule}
-use Rattle.image_file.specs.Spelling.{image_bytes}
+use Rattle.image_file.specs.Spelling.{image_bytes, in_version_one}
+use Rattle.image_file.specs.Differing.{DifferAt}
 use Rattle.image_file.specs.declared.fault.ImageFault.{ImageFault}
 use Rattle.image_file.specs.declared.fault.ImageFault.TheVariants.{Fault}
 use Rattle.image_file.specs.declared.fault.ImageFault.TheVariants as image_fault
 use Rattle.run_laws.specs.Runs.{Outcome}
+use Rattle.a64_memory.specs.Memory.{AreBytes}
 use Rattle.image_form.specs.declared.image.Image.{Image}
+use Rattle.image_form.specs.declared.image.ProcPlace.{ProcPlace}
 use Rattle.a64_machine.specs.State.{Trap}
 use Rattle.trc_answers.specs.Runs.{run_of, cause_of_fault}
-use Rattle.trc_answers.specs.Verdict.{Verdict, Refuses, Runs, Writes, Prints, FileComesTo, IsMissing, HasBytes, IsHeld, IsLeft, ImageComesTo, RunsAlone, RunsOnInput, HasTooMuch, BytesComeTo, AreTooMany, AreNoImage, Written}
-use Rattle.trc_answers.specs.Answers.{Devices, devices, Answers, AsItComes, FailsReading, FailsPrinting, FailsWriting, LacksMemory, InputStays, Failed, FilesHold, RunAnswers, Ran, RanIntoFault, HadNoRoom, PrintAnswers, Printed, PrintedAFront}
-use Rattle.trc_answers.specs.declared.causes.Device.{Device}
+use Rattle.trc_answers.specs.Verdict.{Verdict, Refuses, Runs, Writes, Prints, FileComesTo, IsMissing, HasTooMany, HasBytes, IsHeld, IsLeft, ImageComesTo, RunsAlone, RunsOnInput, HasTooMuch, BytesComeTo, AreNoImage, Written, Renews, AreTheSame, Differ}
+use Rattle.trc_answers.specs.Reading.{IsImageRead, NoBytes, IsImageUnread, IsNoFile, FailedOnce, HasNoMemory}
+use Rattle.trc_answers.specs.Answers.{Devices, devices, Answers, AsItComes, ReadsInput, FailsReadingFiles, FailsReadingInput, FailsPrinting, FailsWriting, LacksMemory, InputStays, FilesHold, RunAnswers, Ran, RanIntoFault, HadNoRoom, PrintAnswers, Printed, PrintedAFront}
 use Rattle.trc_answers.specs.declared.causes.Device.TheVariants.{Files, Input, Output}
 use Rattle.trc_answers.specs.declared.causes.Cause.{Cause}
-use Rattle.trc_answers.specs.declared.causes.Cause.TheVariants.{NoSuchFile, ReadFault, NotImage, InputTooLong, WriteFault, Done}
+use Rattle.trc_answers.specs.declared.causes.Cause.TheVariants.{NoSuchFile, ReadFault, OtherImage, NotImage, InputTooLong, WriteFault, Memory, Done}
 
 pub nothing : (out : Account) → TookNothing out out
 nothing out = record { taken = refl; amount = refl }
@@ -33,55 +36,67 @@ pub stays : (t : Devices) → InputStays t t
 stays t = record { left = refl; faults = refl }
 
 -- a command is refused, and nothing changed but the files' count of faults
-pub refuses : (comes : Verdict → Type 0) (held mid : Option Held) (m n : ℕ) (left : Option (List ℕ)) (k : ℕ) (out : Account) (cause : Cause)
-    → mid ≡ held → comes (Refuses cause) → Answers comes (devices held m left k out) (devices mid n left k out) cause
+pub refuses : (comes : Option (List ℕ) → Verdict → Type 0) (held mid : Option Held) (m n : ℕ) (left : Option (List ℕ)) (k : ℕ) (out : Account) (cause : Cause)
+    → mid ≡ held → comes left (Refuses cause) → Answers comes (devices held m left k out) (devices mid n left k out) cause
 refuses comes held mid m n left k out cause same it = AsItComes (Refuses cause) it refl (record { written = all_none out; files = same; input = λ e. record { left = refl; faults = refl } })
 
 -- the files failed while they were read
-pub files_failed : (comes : Verdict → Type 0) (held mid : Option Held) (m n : ℕ) (left : Option (List ℕ)) (k : ℕ) (out : Account)
+pub files_failed : (comes : Option (List ℕ) → Verdict → Type 0) (held mid : Option Held) (m n : ℕ) (left : Option (List ℕ)) (k : ℕ) (out : Account)
     → mid ≡ held → Rose m n → Answers comes (devices held m left k out) (devices mid n left k out) (ReadFault Files)
-files_failed comes held mid m n left k out same rose = FailsReading Files refl rose (record { output = nothing out; files = same })
+files_failed comes held mid m n left k out same rose = FailsReadingFiles refl rose (record { output = nothing out; files = same }) (record { left = refl; faults = refl })
 
 -- the input failed while it was read
-pub input_failed : (comes : Verdict → Type 0) (held : Option Held) (m : ℕ) (left left' : Option (List ℕ)) (k k' : ℕ) (out : Account)
-    → Rose k k' → Answers comes (devices held m left k out) (devices held m left' k' out) (ReadFault Input)
-input_failed comes held m left left' k k' out rose = FailsReading Input refl rose (record { output = nothing out; files = refl })
+pub input_failed : (comes : Option (List ℕ) → Verdict → Type 0) (held : Option Held) (m : ℕ) (left left' : Option (List ℕ)) (k k' : ℕ) (out : Account)
+    → ReadsInput comes → Rose k k' → Answers comes (devices held m left k out) (devices held m left' k' out) (ReadFault Input)
+input_failed comes held m left left' k k' out reads rose = FailsReadingInput reads refl rose (record { output = nothing out; files = refl })
+
+-- there was no memory, with the input as it was or not
+pub lacks : (comes : Option (List ℕ) → Verdict → Type 0) (held mid : Option Held) (m n : ℕ) (left : Option (List ℕ)) (k : ℕ) (out : Account) (cause : Cause)
+    → cause ≡ Memory → mid ≡ held → Answers comes (devices held m left k out) (devices mid n left k out) cause
+lacks comes held mid m n left k out cause is same = LacksMemory is (record { output = nothing out; files = same }) (inl (record { left = refl; faults = refl }))
+
+pub lacks_reading : (comes : Option (List ℕ) → Verdict → Type 0) (held : Option Held) (m : ℕ) (left left' : Option (List ℕ)) (k k' : ℕ) (out : Account)
+    → ReadsInput comes → Answers comes (devices held m left k out) (devices held m left' k' out) Memory
+lacks_reading comes held m left left' k k' out reads = LacksMemory refl (record { output = nothing out; files = refl }) (inr reads)
 
 -- from a run to the command
-pub runs : (comes : Verdict → Type 0) (reads : Bool) (outcome : Outcome Trap) (held : Option Held) (m : ℕ) (left left' : Option (List ℕ)) (k k' : ℕ) (a b : Account) (cause : Cause)
-    → comes (Runs reads outcome) → (reads ≡ false → InputStays (devices held m left k a) (devices held m left' k' b)) → RunAnswers outcome a b cause
+pub runs : (comes : Option (List ℕ) → Verdict → Type 0) (reads : Bool) (places : List ProcPlace) (outcome : Outcome Trap) (held : Option Held) (m : ℕ) (left left' : Option (List ℕ)) (k k' : ℕ) (a b : Account) (cause : Cause)
+    → comes left (Runs reads places outcome) → (reads ≡ false → InputStays (devices held m left k a) (devices held m left' k' b))
+    → InputStays (devices held m left k a) (devices held m left' k' b) ⊎ ReadsInput comes → RunAnswers places outcome a b cause
     → Answers comes (devices held m left k a) (devices held m left' k' b) cause
-runs comes reads outcome held m left left' k k' a b cause it still (Ran is took) = AsItComes (Runs reads outcome) it is (record { written = took; files = refl; input = still })
-runs comes reads outcome held m left left' k k' a b cause it still (RanIntoFault is took rose) = FailsPrinting (Runs reads outcome) it is (record { front = took; failed = rose; files = refl; input = still })
-runs comes reads outcome held m left left' k k' a b cause it still (HadNoRoom is took) = LacksMemory is (record { output = took; files = refl })
+runs comes reads places outcome held m left left' k k' a b cause it still either (Ran is took) = AsItComes (Runs reads places outcome) it is (record { written = took; files = refl; input = still })
+runs comes reads places outcome held m left left' k k' a b cause it still either (RanIntoFault is took rose) = FailsPrinting (Runs reads places outcome) it is (record { front = took; failed = rose; files = refl; input = still })
+runs comes reads places outcome held m left left' k k' a b cause it still either (HadNoRoom is took) = LacksMemory is (record { output = took; files = refl }) either
 
 -- from lines that are printed to the command
-pub prints : (comes : Verdict → Type 0) (lines : List ℕ) (held : Option Held) (m : ℕ) (left : Option (List ℕ)) (k : ℕ) (a b : Account) (cause : Cause)
-    → comes (Prints lines) → PrintAnswers lines a b cause → Answers comes (devices held m left k a) (devices held m left k b) cause
+pub prints : (comes : Option (List ℕ) → Verdict → Type 0) (lines : List ℕ) (held : Option Held) (m : ℕ) (left : Option (List ℕ)) (k : ℕ) (a b : Account) (cause : Cause)
+    → comes left (Prints lines) → PrintAnswers lines a b cause → Answers comes (devices held m left k a) (devices held m left k b) cause
 prints comes lines held m left k a b cause it (Printed is took) = AsItComes (Prints lines) it is (record { written = took; files = refl; input = λ e. record { left = refl; faults = refl } })
 prints comes lines held m left k a b cause it (PrintedAFront is took rose) = FailsPrinting (Prints lines) it is (record { front = took; failed = rose; files = refl; input = λ e. record { left = refl; faults = refl } })
 
 -- what a part comes to, the whole does
-pub mapped : (comes comes' : Verdict → Type 0) (old new : Devices) (cause : Cause) → ((v : Verdict) → comes v → comes' v) → Answers comes old new cause → Answers comes' old new cause
-mapped comes comes' old new cause f (AsItComes verdict it is done) = AsItComes verdict (f verdict it) is done
-mapped comes comes' old new cause f (FailsReading device is rose none) = FailsReading device is rose none
-mapped comes comes' old new cause f (FailsPrinting verdict it is cut) = FailsPrinting verdict (f verdict it) is cut
-mapped comes comes' old new cause f (FailsWriting name bytes it is rose took file still) = FailsWriting name bytes (f (Writes name bytes) it) is rose took file still
-mapped comes comes' old new cause f (LacksMemory is none) = LacksMemory is none
+reads_as : (comes comes' : Option (List ℕ) → Verdict → Type 0) → ((left : Option (List ℕ)) (v : Verdict) → comes left v → comes' left v) → ReadsInput comes → ReadsInput comes'
+reads_as comes comes' f r = record { verdict = r.verdict; comes = f None r.verdict r.comes; reads = r.reads }
+
+either_as : (comes comes' : Option (List ℕ) → Verdict → Type 0) (still : Type 0) → ((left : Option (List ℕ)) (v : Verdict) → comes left v → comes' left v) → still ⊎ ReadsInput comes → still ⊎ ReadsInput comes'
+either_as comes comes' still f (inl x) = inl x
+either_as comes comes' still f (inr r) = inr (reads_as comes comes' f r)
+
+pub mapped : (comes comes' : Option (List ℕ) → Verdict → Type 0) (old new : Devices) (cause : Cause) → ((left : Option (List ℕ)) (v : Verdict) → comes left v → comes' left v) → Answers comes old new cause → Answers comes' old new cause
+mapped comes comes' old new cause f (AsItComes verdict it is done) = AsItComes verdict (f old.left verdict it) is done
+mapped comes comes' old new cause f (FailsReadingFiles is rose none still) = FailsReadingFiles is rose none still
+mapped comes comes' old new cause f (FailsReadingInput reads is rose none) = FailsReadingInput (reads_as comes comes' f reads) is rose none
+mapped comes comes' old new cause f (FailsPrinting verdict it is cut) = FailsPrinting verdict (f old.left verdict it) is cut
+mapped comes comes' old new cause f (FailsWriting name bytes it is rose took file still) = FailsWriting name bytes (f old.left (Writes name bytes) it) is rose took file still
+mapped comes comes' old new cause f (LacksMemory is none either) = LacksMemory is none (either_as comes comes' (InputStays old new) f either)
 
 rose_later : (a b c : ℕ) → a ≤ b → Rose b c → Rose a c
 rose_later a b c l rose = omega (arith, l, rose)
 
-failed_later : (held : Option Held) (m n : ℕ) (left : Option (List ℕ)) (k : ℕ) (out : Account) (new : Devices) (device : Device) → m ≤ n
-    → Failed (devices held n left k out) new device → Failed (devices held m left k out) new device
-failed_later held m n left k out new Files l rose = rose_later m n new.files_faults l rose
-failed_later held m n left k out new Input l rose = rose
-failed_later held m n left k out new Output l rose = rose
-
 files_later : (held : Option Held) (m n : ℕ) (left : Option (List ℕ)) (k : ℕ) (out : Account) (new : Devices) (verdict : Verdict)
     → FilesHold (devices held n left k out) verdict new → FilesHold (devices held m left k out) verdict new
 files_later held m n left k out new (Refuses cause) h = h
-files_later held m n left k out new (Runs reads outcome) h = h
+files_later held m n left k out new (Runs reads places outcome) h = h
 files_later held m n left k out new (Writes name bytes) h = h
 files_later held m n left k out new (Prints lines) h = h
 
@@ -89,14 +104,20 @@ input_later : (held : Option Held) (m n : ℕ) (left : Option (List ℕ)) (k : �
     → InputStays (devices held n left k out) new → InputStays (devices held m left k out) new
 input_later held m n left k out new h = record { left = h.left; faults = h.faults }
 
+either_later : (held : Option Held) (m n : ℕ) (left : Option (List ℕ)) (k : ℕ) (out : Account) (new : Devices) (other : Type 0)
+    → InputStays (devices held n left k out) new ⊎ other → InputStays (devices held m left k out) new ⊎ other
+either_later held m n left k out new other (inl x) = inl (input_later held m n left k out new x)
+either_later held m n left k out new other (inr x) = inr x
+
 -- the files' count of faults was lower before
-pub later : (comes : Verdict → Type 0) (held : Option Held) (m n : ℕ) (left : Option (List ℕ)) (k : ℕ) (out : Account) (new : Devices) (cause : Cause) → m ≤ n
+pub later : (comes : Option (List ℕ) → Verdict → Type 0) (held : Option Held) (m n : ℕ) (left : Option (List ℕ)) (k : ℕ) (out : Account) (new : Devices) (cause : Cause) → m ≤ n
     → Answers comes (devices held n left k out) new cause → Answers comes (devices held m left k out) new cause
 later comes held m n left k out new cause l (AsItComes verdict it is done) = AsItComes verdict it is (record { written = done.written; files = files_later held m n left k out new verdict done.files; input = λ e. input_later held m n left k out new (done.input e) })
-later comes held m n left k out new cause l (FailsReading device is rose none) = FailsReading device is (failed_later held m n left k out new device l rose) (record { output = none.output; files = none.files })
+later comes held m n left k out new cause l (FailsReadingFiles is rose none still) = FailsReadingFiles is (rose_later m n new.files_faults l rose) (record { output = none.output; files = none.files }) (input_later held m n left k out new still)
+later comes held m n left k out new cause l (FailsReadingInput reads is rose none) = FailsReadingInput reads is rose (record { output = none.output; files = none.files })
 later comes held m n left k out new cause l (FailsPrinting verdict it is cut) = FailsPrinting verdict it is (record { front = cut.front; failed = cut.failed; files = cut.files; input = λ e. input_later held m n left k out new (cut.input e) })
 later comes held m n left k out new cause l (FailsWriting name bytes it is rose took file still) = FailsWriting name bytes it is (rose_later m n new.files_faults l rose) took file (input_later held m n left k out new still)
-later comes held m n left k out new cause l (LacksMemory is none) = LacksMemory is (record { output = none.output; files = none.files })
+later comes held m n left k out new cause l (LacksMemory is none either) = LacksMemory is (record { output = none.output; files = none.files }) (either_later held m n left k out new (ReadsInput comes) either)
 
 -- what is held under a name that was read
 pub held_bytes : (held : Option Held) (name : List ℕ) (most : ℕ) (bytes : Vec ℕ Global) → ToldOfRead held name most (Ok bytes) → IsHeld held name (Some bytes.items)
@@ -104,19 +125,33 @@ held_bytes None name most bytes r = tt
 held_bytes (Some h) name most bytes r = r
 
 -- where nothing is held under the name
-pub missing : (held : Option Held) (name : List ℕ) (most : ℕ) (next : List ℕ → Verdict → Type 0) → ToldOfRead held name most (Err get.NoSuchFile) → FileComesTo held name next (Refuses (NoSuchFile 0))
-missing None name most next r = IsMissing tt refl
-missing (Some h) name most next r = IsMissing r refl
+pub missing : (held : Option Held) (number : ℕ) (name : List ℕ) (most : ℕ) (next : List ℕ → Verdict → Type 0) → ToldOfRead held name most (Err get.NoSuchFile) → FileComesTo held number name next (Refuses (NoSuchFile number))
+missing None number name most next r = IsMissing tt refl
+missing (Some h) number name most next r = IsMissing r refl
 
 -- a file that was read, and what its bytes come to
-pub reads_file : (held mid : Option Held) (name : List ℕ) (most m n : ℕ) (left : Option (List ℕ)) (k : ℕ) (out : Account) (new : Devices) (cause : Cause) (bytes : Vec ℕ Global) (text : List ℕ) (next : List ℕ → Verdict → Type 0)
-    → mid ≡ held → ToldOfRead held name most (Ok bytes) → text ≡ bytes.items → m ≤ n → Answers (next text) (devices mid n left k out) new cause
-    → Answers (FileComesTo held name next) (devices held m left k out) new cause
-reads_file held mid name most m n left k out new cause bytes text next same r e l answers =
+pub reads_file : (held mid : Option Held) (number : ℕ) (name : List ℕ) (m n : ℕ) (left : Option (List ℕ)) (k : ℕ) (out : Account) (new : Devices) (cause : Cause) (bytes text : List ℕ) (next : Option (List ℕ) → List ℕ → Verdict → Type 0)
+    → mid ≡ held → IsImageRead held name bytes → text ≡ bytes → m ≤ n → Answers (λ l. next l text) (devices mid n left k out) new cause
+    → Answers (λ l. FileComesTo held number name (next l)) (devices held m left k out) new cause
+reads_file held mid number name m n left k out new cause bytes text next same r e l answers =
     later _ held m n left k out new cause l
-    (mapped (next text) (FileComesTo held name next) (devices held n left k out) new cause
-    (λ v it. HasBytes bytes.items (held_bytes held name most bytes r) (subst (λ b. next b v) e it))
-    (subst (λ h. Answers (next text) (devices h n left k out) new cause) same answers))
+    (mapped (λ l. next l text) (λ l. FileComesTo held number name (next l)) (devices held n left k out) new cause
+    (λ l v it. HasBytes bytes r.is r.within (subst (λ b. next l b v) e it))
+    (subst (λ h. Answers (λ l. next l text) (devices h n left k out) new cause) same answers))
+
+no_bytes : (held : Option Held) (number : ℕ) (name : List ℕ) (next : List ℕ → Verdict → Type 0) (v : Verdict) → FileComesTo held number name NoBytes v → FileComesTo held number name next v
+no_bytes held number name next v (IsMissing none e) = IsMissing none e
+no_bytes held number name next v (HasTooMany bytes is many e) = HasTooMany bytes is many e
+no_bytes held number name next v (HasBytes bytes is few none) = absurd none
+
+-- the file of an image wasn't read
+pub unread_image : (held mid : Option Held) (number : ℕ) (name : List ℕ) (m n : ℕ) (cause : Cause) (next : Option (List ℕ) → List ℕ → Verdict → Type 0) → mid ≡ held → IsImageUnread held number name m n cause
+    → (left : Option (List ℕ)) (k : ℕ) (out : Account) → Answers (λ l. FileComesTo held number name (next l)) (devices held m left k out) (devices mid n left k out) cause
+unread_image held mid number name m n cause next same (IsNoFile comes) left k out =
+    refuses (λ l. FileComesTo held number name (next l)) held mid m n left k out cause same (no_bytes held number name (next left) (Refuses cause) comes)
+unread_image held mid number name m n cause next same (FailedOnce rose e) left k out =
+    subst (Answers (λ l. FileComesTo held number name (next l)) (devices held m left k out) (devices mid n left k out)) (sym e) (files_failed (λ l. FileComesTo held number name (next l)) held mid m n left k out same rose)
+unread_image held mid number name m n cause next same (HasNoMemory e) left k out = lacks (λ l. FileComesTo held number name (next l)) held mid m n left k out cause e same
 
 list_of : (n : ℕ) → (bytes : List ℕ) × (length bytes ≡ n)
 list_of zero = ([], refl)
@@ -128,8 +163,8 @@ long_bytes None name most r = let some = list_of (suc most) in (some.0, tt, omeg
 long_bytes (Some h) name most r = r
 
 -- a file that is longer than an image may be is none
-pub long_image : (held : Option Held) (name : List ℕ) (left : Option (List ℕ)) (steps : ℕ) → ToldOfRead held name 16777216 (Err get.TooLong) → FileComesTo held name (BytesComeTo left steps) (Refuses (NotImage 65 16777216))
-long_image held name left steps r = let long = long_bytes held name 16777216 r in HasBytes long.0 long.1 (AreTooMany long.2 refl)
+pub long_image : (held : Option Held) (number : ℕ) (name : List ℕ) (next : List ℕ → Verdict → Type 0) → ToldOfRead held name 16777216 (Err get.TooLong) → FileComesTo held number name next (Refuses (NotImage 65 16777216))
+long_image held number name next r = let long = long_bytes held name 16777216 r in HasTooMany long.0 long.1 long.2 refl
 
 same_some : (xs ys : List ℕ) → Some xs ≡ Some ys → xs ≡ ys
 same_some xs ys e = cc
@@ -156,19 +191,31 @@ other_flag flags l h = omega (arith, l, h)
 
 -- an image that doesn't read the input was run
 pub runs_alone : (left : Option (List ℕ)) (steps : ℕ) (image : Image) (items : List ℕ) (k : ℕ) (a b : Account) (cause : Cause)
-    → image.flags ≡ 0 → items ≡ [] → RunAnswers (run_of image items steps) a b cause
-    → (held : Option Held) (faults : ℕ) → Answers (ImageComesTo left steps image) (devices held faults left k a) (devices held faults left k b) cause
+    → image.flags ≡ 0 → items ≡ [] → RunAnswers image.places (run_of image items steps) a b cause
+    → (held : Option Held) (faults : ℕ) → Answers (λ l. ImageComesTo l steps image) (devices held faults left k a) (devices held faults left k b) cause
 runs_alone left steps image items k a b cause flag none ran held faults =
-    runs (ImageComesTo left steps image) false (run_of image [] steps) held faults left left k k a b cause (RunsAlone flag refl) (λ e. record { left = refl; faults = refl })
-    (subst (λ i. RunAnswers (run_of image i steps) a b cause) none ran)
+    runs (λ l. ImageComesTo l steps image) false image.places (run_of image [] steps) held faults left left k k a b cause (RunsAlone flag refl) (λ e. record { left = refl; faults = refl })
+    (inl (record { left = refl; faults = refl }))
+    (subst (λ i. RunAnswers image.places (run_of image i steps) a b cause) none ran)
 
--- an image was run on the whole input
+-- an image whose flag says so reads the input
+pub image_reads : (steps : ℕ) (image : Image) → image.flags < 2 → (image.flags ≡ 0 → ⊥) → ReadsInput (λ l. ImageComesTo l steps image)
+image_reads steps image few flag = record {
+  verdict = Runs true image.places (run_of image [] steps);
+  comes = RunsOnInput [] (other_flag image.flags few flag) tt none_bytes (omega arith) refl;
+  reads = refl;
+}
+  where
+    none_bytes : AreBytes []
+    none_bytes i = omega arith
+
+-- it was run on the whole input
 pub runs_on_input : (left left' : Option (List ℕ)) (steps : ℕ) (image : Image) (items : List ℕ) (k k' : ℕ) (a b : Account) (cause : Cause)
-    → image.flags < 2 → (image.flags ≡ 0 → ⊥) → Gave left items left' → IsAtEnd left' → length items ≤ 1048576 → RunAnswers (run_of image items steps) a b cause
-    → (held : Option Held) (faults : ℕ) → Answers (ImageComesTo left steps image) (devices held faults left k a) (devices held faults left' k' b) cause
-runs_on_input left left' steps image items k k' a b cause few flag gave end size ran held faults =
-    runs (ImageComesTo left steps image) true (run_of image items steps) held faults left left' k k' a b cause
-    (RunsOnInput items (other_flag image.flags few flag) (whole_input left left' items gave end) size refl) (λ e. absurd (true_false e)) ran
+    → image.flags < 2 → (image.flags ≡ 0 → ⊥) → Gave left items left' → IsAtEnd left' → AreBytes items → length items ≤ 1048576 → RunAnswers image.places (run_of image items steps) a b cause
+    → (held : Option Held) (faults : ℕ) → Answers (λ l. ImageComesTo l steps image) (devices held faults left k a) (devices held faults left' k' b) cause
+runs_on_input left left' steps image items k k' a b cause few flag gave end are size ran held faults =
+    runs (λ l. ImageComesTo l steps image) true image.places (run_of image items steps) held faults left left' k k' a b cause
+    (RunsOnInput items (other_flag image.flags few flag) (whole_input left left' items gave end) are size refl) (λ e. absurd (true_false e)) (inr (image_reads steps image few flag)) ran
   where
     true_false : true ≡ false → ⊥
     true_false e = cc
@@ -176,7 +223,7 @@ runs_on_input left left' steps image items k k' a b cause few flag gave end size
 -- the input was too long for an image
 pub has_too_much : (left left' : Option (List ℕ)) (steps : ℕ) (image : Image) (k k' : ℕ) (out : Account)
     → image.flags < 2 → (image.flags ≡ 0 → ⊥) → GaveSome left left' (λ n. n ≡ 1048576 + 1)
-    → (held : Option Held) (faults : ℕ) → Answers (ImageComesTo left steps image) (devices held faults left k out) (devices held faults left' k' out) InputTooLong
+    → (held : Option Held) (faults : ℕ) → Answers (λ l. ImageComesTo l steps image) (devices held faults left k out) (devices held faults left' k' out) InputTooLong
 has_too_much left left' steps image k k' out few flag gave held faults =
     let long = long_input left left' 1048576 gave in
     AsItComes (Refuses InputTooLong) (HasTooMuch long.0 (other_flag image.flags few flag) long.1 long.2 refl) refl
@@ -187,19 +234,18 @@ has_too_much left left' steps image k k' out few flag gave held faults =
 
 -- bytes that are no image, or for which there is no memory
 pub no_image : (left : Option (List ℕ)) (steps : ℕ) (bytes : List ℕ) (e : ImageFault) (cause : Cause) (k : ℕ) (out : Account)
-    → cause ≡ cause_of_fault e → BreaksRule e (first_fault bytes) → length bytes ≤ 16777216
-    → (held : Option Held) (faults : ℕ) → Answers (BytesComeTo left steps bytes) (devices held faults left k out) (devices held faults left k out) cause
-no_image left steps bytes (Fault number at) cause k out is fault size held faults =
-    subst (Answers (BytesComeTo left steps bytes) (devices held faults left k out) (devices held faults left k out)) (sym is)
-    (refuses (BytesComeTo left steps bytes) held held faults faults left k out (NotImage number at) refl
-    (AreNoImage (record { number = number; at = at }) size fault refl))
-no_image left steps bytes image_fault.Memory cause k out is fault size held faults =
-    LacksMemory is (record { output = nothing out; files = refl })
+    → cause ≡ cause_of_fault e → BreaksRule e (first_fault bytes)
+    → (held : Option Held) (faults : ℕ) → Answers (λ l. BytesComeTo l steps bytes) (devices held faults left k out) (devices held faults left k out) cause
+no_image left steps bytes (Fault number at) cause k out is fault held faults =
+    subst (Answers (λ l. BytesComeTo l steps bytes) (devices held faults left k out) (devices held faults left k out)) (sym is)
+    (refuses (λ l. BytesComeTo l steps bytes) held held faults faults left k out (NotImage number at) refl
+    (AreNoImage (record { number = number; at = at }) fault refl))
+no_image left steps bytes image_fault.Memory cause k out is fault held faults = lacks (λ l. BytesComeTo l steps bytes) held held faults faults left k out cause is refl
 
 -- an image was written
 pub writes : (held held' : Option Held) (m n : ℕ) (name bytes : List ℕ) (image : Image)
     → ToldOfWrite held name bytes held' (Ok tt) → bytes ≡ image_bytes image
-    → (left : Option (List ℕ)) (k : ℕ) (out : Account) → Answers (Written name image) (devices held m left k out) (devices held' n left k out) Done
+    → (left : Option (List ℕ)) (k : ℕ) (out : Account) → Answers (λ _. Written name image) (devices held m left k out) (devices held' n left k out) Done
 writes held held' m n name bytes image tells same left k out =
     AsItComes (Writes name (image_bytes image)) refl refl
     (record { written = all_none out; files = subst (λ b. ToldOfWrite held name b held' (Ok tt)) same tells; input = λ e. record { left = refl; faults = refl } })
@@ -207,7 +253,16 @@ writes held held' m n name bytes image tells same left k out =
 -- the files failed while an image was written
 pub write_failed : (held held' : Option Held) (m n : ℕ) (name bytes : List ℕ) (image : Image) (e : PutFault)
     → e ≡ put.Failed → ToldOfWrite held name bytes held' (Err e) → bytes ≡ image_bytes image → Rose m n
-    → (left : Option (List ℕ)) (k : ℕ) (out : Account) → Answers (Written name image) (devices held m left k out) (devices held' n left k out) (WriteFault Files)
+    → (left : Option (List ℕ)) (k : ℕ) (out : Account) → Answers (λ _. Written name image) (devices held m left k out) (devices held' n left k out) (WriteFault Files)
 write_failed held held' m n name bytes image e is tells same rose left k out =
     FailsWriting name (image_bytes image) refl refl rose (nothing out)
     (subst (λ b. ToldOfWrite held name b held' (Err put.Failed)) same (subst (λ x. ToldOfWrite held name bytes held' (Err x)) is tells)) (record { left = refl; faults = refl })
+
+-- the image has these bytes in version 1, and what is written then
+pub renews : (name bytes : List ℕ) (image : Image) (old new : Devices) (cause : Cause) → bytes ≡ image_bytes (in_version_one image) → Answers (λ _. Written name image) old new cause → Answers (λ _. Renews name bytes image) old new cause
+renews name bytes image old new cause same answers = mapped (λ _. Written name image) (λ _. Renews name bytes image) old new cause (λ _ v it. AreTheSame same it) answers
+
+-- it has others
+pub differs : (held : Option Held) (m : ℕ) (name bytes : List ℕ) (image : Image) (at : ℕ) → DifferAt at bytes (image_bytes (in_version_one image))
+    → (left : Option (List ℕ)) (k : ℕ) (out : Account) → Answers (λ _. Renews name bytes image) (devices held m left k out) (devices held m left k out) (OtherImage at)
+differs held m name bytes image at differ left k out = refuses (λ _. Renews name bytes image) held held m m left k out (OtherImage at) refl (Differ at differ refl)

@@ -1,5 +1,5 @@
 -- Lines that are written in parts.
-use Rattle.std.proofs.Common.{◌≡◌, ℕ, List, [], ◌∷◌, ◌++◌, sym, ap, ◌∙◌, subst, append_assoc}
+use Rattle.std.proofs.Common.{◌≡◌, ℕ, List, [], ◌∷◌, ◌++◌, Result, Ok, Err, OnOk, sym, ap, ◌∙◌, subst, append_assoc}
 use Rattle.outside.specs.Sink.{Account, TookAll}
 use Rattle.outside.proofs.Taking.{all_on}
 use Rattle.trc_answers.specs.Causes.{line}
@@ -7,6 +7,15 @@ use Rattle.trc_answers.specs.Causes.{line}
 -- two parts that are taken one after the other, in a row that goes on
 joined : (a b c : Account) (front rest : List ℕ) → TookAll a b front → TookAll b c rest → TookAll a c (front ++ rest)
 joined a b c front rest h k = all_on a b c front rest h k
+
+-- a message and a number, and the rest
+pub two_parts : (a b c : Account) (message number rest : List ℕ) → TookAll a b (message ++ number) → TookAll b c rest → TookAll a c (message ++ (number ++ rest))
+two_parts a b c message number rest h k = subst (TookAll a c) (append_assoc message number rest) (joined a b c (message ++ number) rest h k)
+
+-- where a call that comes last goes well
+pub on_ok : {A B P Q : Type 0} (r : Result A B) → (P → Q) → OnOk r P → OnOk r Q
+on_ok (Ok a) f h = f h
+on_ok (Err b) f h = tt
 
 -- the line of a limit: four parts
 pub limit_parts : (a b c d e : Account) (message number blank name rest : List ℕ) → TookAll a b (message ++ number) → TookAll b c blank → TookAll c d name → TookAll d e rest

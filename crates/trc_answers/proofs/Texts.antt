@@ -6,7 +6,7 @@ use Rattle.std.specs.Borrow.{Bor}
 use Rattle.std.proofs.lemmas.List.{take_more, map-append}
 use Rattle.outside.specs.Files.{Held}
 use Rattle.trc_answers.specs.Verdict.{Verdict, Refuses, IsHeld}
-use Rattle.trc_answers.specs.Answers.{Devices, devices, Answers, LacksMemory}
+use Rattle.trc_answers.specs.Answers.{Devices, devices, Answers}
 use Rattle.outside.specs.Sink.{Account}
 use Rattle.trc_answers.specs.declared.places.Position.{Position}
 use Rattle.trc_answers.specs.Causes.{IsPlain, IsPlaced}
@@ -14,7 +14,7 @@ use Rattle.trc_answers.specs.Reading.{IsRead, AreRead, AreTextsOf, IsReached, Fi
 use Rattle.trc_answers.specs.Reading as reading
 use Rattle.trc_answers.specs.declared.causes.Cause.{Cause}
 use Rattle.trc_answers.specs.declared.causes.Cause.TheVariants.{Source}
-use Rattle.trc_answers.proofs.Answering.{refuses, files_failed, mapped, later, nothing}
+use Rattle.trc_answers.proofs.Answering.{refuses, files_failed, lacks, mapped, later}
 
 read_more : (held : Option Held) (names texts : List (List ℕ)) (name text : List ℕ) → AreRead held names texts → IsRead held name text → AreRead held (names ++ name ∷ []) (texts ++ text ∷ [])
 read_more held [] [] name text h one = (one, tt)
@@ -34,6 +34,16 @@ text_at held [] (t ∷ texts) number text h e = absurd h
 text_at held (n ∷ names) [] number text h e = absurd h
 text_at held (n ∷ names) (t ∷ texts) zero text h e = let same : t ≡ text = cc in (n, refl, subst (λ x. IsHeld held n (Some x)) same h.0.is)
 text_at held (n ∷ names) (t ∷ texts) (suc number) text h e = text_at held names texts number text h.1 e
+
+-- there are at most as many texts as names
+as_many : (held : Option Held) (names texts : List (List ℕ)) → AreRead held names texts → length texts ≡ length names
+as_many held [] [] h = refl
+as_many held [] (t ∷ texts) h = absurd h
+as_many held (n ∷ names) [] h = absurd h
+as_many held (n ∷ names) (t ∷ texts) h = ap suc (as_many held names texts h.1)
+
+pub few_texts : (held : Option Held) (names texts : List (List ℕ)) → AreTextsOf held names texts → length texts ≤ 64
+few_texts held names texts h = let many = as_many held names texts h.read in let few = h.few in omega (arith, many, few)
 
 -- one text more is read
 pub read_next : (held : Option Held) (names texts : List (List ℕ)) (number : ℕ) (name text : List ℕ) → take (number + 1) names ≡ take number names ++ name ∷ []
@@ -59,20 +69,20 @@ no_texts held names next v (HasALongOne number name text reached is long e) = Ha
 no_texts held names next v (HaveTexts texts are none) = absurd none
 
 -- the files weren't read
-pub unread : (held mid : Option Held) (names : List (List ℕ)) (m n : ℕ) (cause : Cause) (next : List (List ℕ) → Verdict → Type 0) → mid ≡ held → IsUnread held names m n cause
-    → (left : Option (List ℕ)) (k : ℕ) (out : Account) → Answers (FilesComeTo held names next) (devices held m left k out) (devices mid n left k out) cause
-unread held mid names m n cause next same (IsRefused comes) left k out = refuses (FilesComeTo held names next) held mid m n left k out cause same (no_texts held names next (Refuses cause) comes)
+pub unread : (held mid : Option Held) (names : List (List ℕ)) (m n : ℕ) (cause : Cause) (next : Option (List ℕ) → List (List ℕ) → Verdict → Type 0) → mid ≡ held → IsUnread held names m n cause
+    → (left : Option (List ℕ)) (k : ℕ) (out : Account) → Answers (λ l. FilesComeTo held names (next l)) (devices held m left k out) (devices mid n left k out) cause
+unread held mid names m n cause next same (IsRefused comes) left k out = refuses (λ l. FilesComeTo held names (next l)) held mid m n left k out cause same (no_texts held names (next left) (Refuses cause) comes)
 unread held mid names m n cause next same (OneFailed rose e) left k out =
-    subst (Answers (FilesComeTo held names next) (devices held m left k out) (devices mid n left k out)) (sym e) (files_failed (FilesComeTo held names next) held mid m n left k out same rose)
-unread held mid names m n cause next same (LackMemory e) left k out = LacksMemory e (record { output = nothing out; files = same })
+    subst (Answers (λ l. FilesComeTo held names (next l)) (devices held m left k out) (devices mid n left k out)) (sym e) (files_failed (λ l. FilesComeTo held names (next l)) held mid m n left k out same rose)
+unread held mid names m n cause next same (LackMemory e) left k out = lacks (λ l. FilesComeTo held names (next l)) held mid m n left k out cause e same
 
 -- the files were read, and what their texts come to
-pub reads_texts : (held mid : Option Held) (names texts : List (List ℕ)) (m n : ℕ) (next : List (List ℕ) → Verdict → Type 0) → mid ≡ held → AreTextsOf held names texts → m ≤ n
-    → (left : Option (List ℕ)) (k : ℕ) (out : Account) (new : Devices) (cause : Cause) → Answers (next texts) (devices mid n left k out) new cause → Answers (FilesComeTo held names next) (devices held m left k out) new cause
+pub reads_texts : (held mid : Option Held) (names texts : List (List ℕ)) (m n : ℕ) (next : Option (List ℕ) → List (List ℕ) → Verdict → Type 0) → mid ≡ held → AreTextsOf held names texts → m ≤ n
+    → (left : Option (List ℕ)) (k : ℕ) (out : Account) (new : Devices) (cause : Cause) → Answers (λ l. next l texts) (devices mid n left k out) new cause → Answers (λ l. FilesComeTo held names (next l)) (devices held m left k out) new cause
 reads_texts held mid names texts m n next same are l left k out new cause answers =
     later _ held m n left k out new cause l
-    (mapped (next texts) (FilesComeTo held names next) (devices held n left k out) new cause (λ v it. HaveTexts texts are it)
-    (subst (λ h. Answers (next texts) (devices h n left k out) new cause) same answers))
+    (mapped (λ x. next x texts) (λ x. FilesComeTo held names (next x)) (devices held n left k out) new cause (λ x v it. HaveTexts texts are it)
+    (subst (λ h. Answers (λ x. next x texts) (devices h n left k out) new cause) same answers))
 
 ---- Places
 

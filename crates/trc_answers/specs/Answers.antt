@@ -1,10 +1,11 @@
 -- What a command answers, given what it comes to when nothing fails.
-use Rattle.std.specs.Prelude.{◌≡◌, ℕ, List, false, Option, Ok, Err}
+use Rattle.std.specs.Prelude.{◌≡◌, ◌⊎◌, ℕ, List, true, false, Option, None, Ok, Err}
 use Rattle.outside.specs.Counts.{Rose}
 use Rattle.outside.specs.Files.{Held, ToldOfWrite}
 use Rattle.outside.specs.Sink.{Account, TookAll, TookFront, TookNothing, Faulted}
 use Rattle.outside.specs.declared.files.PutFault.TheVariants as put
 use Rattle.run_laws.specs.Runs.{Outcome, output}
+use Rattle.image_form.specs.declared.image.ProcPlace.{ProcPlace}
 use Rattle.a64_machine.specs.State.{Trap}
 use Rattle.trc_answers.specs.Runs.{cause_of_run}
 use Rattle.trc_answers.specs.Verdict.{Verdict, Writes, cause_of, written_by, reads_input}
@@ -58,21 +59,29 @@ pub record NothingWritten (old new : Devices) : Type 0 where
   pub output : TookNothing old.out new.out
   pub files : new.held ≡ old.held
 
--- the answer of a command: the cause to which it comes, with all done; a read fault of a device that failed; a write fault, of the
--- output or of the file that it writes, which may hold anything then; or want of memory
-pub data Answers (comes : Verdict → Type 0) (old new : Devices) (cause : Cause) : Type 0 where
-  AsItComes : (verdict : Verdict) → comes verdict → cause ≡ cause_of verdict → AllDone old verdict new → Answers comes old new cause
-  FailsReading : (device : Device) → cause ≡ ReadFault device → Failed old new device → NothingWritten old new → Answers comes old new cause
-  FailsPrinting : (verdict : Verdict) → comes verdict → cause ≡ WriteFault Output → CutOff old verdict new → Answers comes old new cause
-  FailsWriting : (name bytes : List ℕ) → comes (Writes name bytes) → cause ≡ WriteFault Files → Failed old new Files → TookNothing old.out new.out
-      → ToldOfWrite old.held name bytes new.held (Err put.Failed) → InputStays old new → Answers comes old new cause
-  LacksMemory : cause ≡ Memory → NothingWritten old new → Answers comes old new cause
+-- a command reads the input, by something to which it comes whatever is left of that
+pub record ReadsInput (comes_to : Option (List ℕ) → Verdict → Type 0) : Type 0 where
+  pub verdict : Verdict
+  pub comes : comes_to None verdict
+  pub reads : reads_input verdict ≡ true
 
--- the answer of a run with this outcome, between two accounts of the output
-pub data RunAnswers (outcome : Outcome Trap) (old new : Account) (cause : Cause) : Type 0 where
-  Ran : cause ≡ cause_of_run outcome → TookAll old new (output outcome) → RunAnswers outcome old new cause
-  RanIntoFault : cause ≡ WriteFault Output → TookFront old new (output outcome) → Faulted old new → RunAnswers outcome old new cause
-  HadNoRoom : cause ≡ Memory → TookNothing old new → RunAnswers outcome old new cause
+-- the answer of a command: the cause to which it comes, with all done; a read fault, of the files before the input is touched, or of
+-- the input where the command reads it; a write fault, of the output or of the file that it writes, which may hold anything then; or
+-- want of memory, with the input as it was unless the command reads it
+pub data Answers (comes : Option (List ℕ) → Verdict → Type 0) (old new : Devices) (cause : Cause) : Type 0 where
+  AsItComes : (verdict : Verdict) → comes old.left verdict → cause ≡ cause_of verdict → AllDone old verdict new → Answers comes old new cause
+  FailsReadingFiles : cause ≡ ReadFault Files → Failed old new Files → NothingWritten old new → InputStays old new → Answers comes old new cause
+  FailsReadingInput : ReadsInput comes → cause ≡ ReadFault Input → Failed old new Input → NothingWritten old new → Answers comes old new cause
+  FailsPrinting : (verdict : Verdict) → comes old.left verdict → cause ≡ WriteFault Output → CutOff old verdict new → Answers comes old new cause
+  FailsWriting : (name bytes : List ℕ) → comes old.left (Writes name bytes) → cause ≡ WriteFault Files → Failed old new Files → TookNothing old.out new.out
+      → ToldOfWrite old.held name bytes new.held (Err put.Failed) → InputStays old new → Answers comes old new cause
+  LacksMemory : cause ≡ Memory → NothingWritten old new → InputStays old new ⊎ ReadsInput comes → Answers comes old new cause
+
+-- the answer of a run with this outcome, of an image whose procedures are at these places, between two accounts of the output
+pub data RunAnswers (places : List ProcPlace) (outcome : Outcome Trap) (old new : Account) (cause : Cause) : Type 0 where
+  Ran : cause ≡ cause_of_run places outcome → TookAll old new (output outcome) → RunAnswers places outcome old new cause
+  RanIntoFault : cause ≡ WriteFault Output → TookFront old new (output outcome) → Faulted old new → RunAnswers places outcome old new cause
+  HadNoRoom : cause ≡ Memory → TookNothing old new → RunAnswers places outcome old new cause
 
 -- the answer of a command that only prints these lines
 pub data PrintAnswers (lines : List ℕ) (old new : Account) (cause : Cause) : Type 0 where

@@ -1,5 +1,5 @@
 -- The status of each cause, and the line that tells it.
-use Rattle.std.specs.Prelude.{ℕ, zero, suc, ◌+◌, ◌/◌, ◌%◌, List, [], ◌∷◌, ◌++◌, ◌⊎◌, ◌≡◌, length, take, codes, nat_lt, slice_index_or, if◌then◌else◌}
+use Rattle.std.specs.Prelude.{ℕ, zero, suc, ◌+◌, ◌/◌, ◌%◌, List, [], ◌∷◌, ◌++◌, ◌⊎◌, ◌≡◌, length, take, codes, nat_lt, slice_index_or, Option, Some, None, if◌then◌else◌}
 use Rattle.out_text.specs.Text.{shortest_text}
 use Rattle.outside.specs.Sink.{Account, TookAll, Faulted}
 use Rattle.ob_judge.specs.Scopes.{line_ends}
@@ -10,8 +10,9 @@ use Rattle.a64_machine.specs.declared.answers.Step.{Step}
 use Rattle.a64_machine.specs.declared.answers.Step.TheVariants as step
 use Rattle.trc_answers.specs.declared.causes.Device.{Device}
 use Rattle.trc_answers.specs.declared.causes.Device.TheVariants.{Files, Input, Output}
+use Rattle.trc_answers.specs.declared.causes.Spot.{Spot}
 use Rattle.trc_answers.specs.declared.causes.Cause.{Cause}
-use Rattle.trc_answers.specs.declared.causes.Cause.TheVariants.{Usage, NoSuchFile, ReadFault, Source, Limit, NotImage, InputTooLong, Trapped, MachineFault, Spent, WriteFault, Memory, Done}
+use Rattle.trc_answers.specs.declared.causes.Cause.TheVariants.{Usage, NoSuchFile, ReadFault, Source, Limit, OtherImage, NotImage, InputTooLong, Trapped, MachineFault, Spent, WriteFault, Memory, Done}
 
 abbrev pub status_of : Cause → ℕ
 status_of Usage = 1
@@ -19,9 +20,10 @@ status_of (NoSuchFile word) = 4
 status_of (ReadFault device) = 4
 status_of (Source number m at) = 2
 status_of (Limit number index) = 3
+status_of (OtherImage at) = 8
 status_of (NotImage number at) = 8
 status_of InputTooLong = 3
-status_of (Trapped kind) = 6
+status_of (Trapped kind spot) = 6
 status_of (MachineFault fault) = 9
 status_of Spent = 7
 status_of (WriteFault device) = 4
@@ -73,6 +75,15 @@ source_line name place number =
 abbrev pub limit_line : ℕ → ℕ → List ℕ
 limit_line number index = codes "trc: limit " ++ (shortest_text number ++ (codes " " ++ (name_of_limit number ++ line (codes " at ") (shortest_text index))))
 
+-- what stands behind a trap's kind: the module and the line of its procedure, where they are known
+abbrev pub spot_line : Option Spot → List ℕ
+spot_line None = 10 ∷ []
+spot_line (Some spot) = codes " in module " ++ (shortest_text spot.«module» ++ line (codes " line ") (shortest_text spot.line))
+
+-- the line of a trap
+abbrev pub trap_line : ℕ → Option Spot → List ℕ
+trap_line kind spot = codes "trc: trap " ++ (shortest_text kind ++ spot_line spot)
+
 -- the line of a cause, where the command reads the files of these names, and a rule is broken at this place; none where all was done
 abbrev pub line_of : List (List ℕ) → Position → Cause → List ℕ
 line_of names place Usage = line (codes "trc: usage") []
@@ -80,9 +91,10 @@ line_of names place (NoSuchFile word) = line (codes "trc: no file ") (name_at na
 line_of names place (ReadFault device) = line (codes "trc: read fault on ") (device_name device)
 line_of names place (Source number m at) = source_line (name_at names m) place number
 line_of names place (Limit number index) = limit_line number index
+line_of names place (OtherImage at) = line (codes "trc: other image at ") (shortest_text at)
 line_of names place (NotImage number at) = line (codes "trc: not an image: ") (shortest_text number ++ (codes " at " ++ shortest_text at))
 line_of names place InputTooLong = line (codes "trc: input too long") []
-line_of names place (Trapped kind) = line (codes "trc: trap ") (shortest_text kind)
+line_of names place (Trapped kind spot) = trap_line kind spot
 line_of names place (MachineFault fault) = fault_line fault
 line_of names place Spent = line (codes "trc: steps spent") []
 line_of names place (WriteFault device) = line (codes "trc: write fault on ") (device_name device)
@@ -102,11 +114,3 @@ IsPlaced IsText cause place = Unit {0}
 -- the error output took this line, or its count of faults rose
 abbrev pub TookLine : Account → Account → List ℕ → Type 0
 TookLine old new line = TookAll old new line ⊎ Faulted old new
-
--- a program ends with the status of a cause, and told its line
-pub record Finishes (status : ℕ) (old new : Account) : Type 0 where
-  pub names : List (List ℕ)
-  pub place : Position
-  pub cause : Cause
-  pub is : status ≡ status_of cause
-  pub told : TookLine old new (line_of names place cause)

@@ -2,7 +2,7 @@
 use Rattle.std.specs.Prelude.{◌≡◌, ◌≤◌, ◌<◌, ℕ, List, [], ◌∷◌, length, take, Option, Some, None, slice_get}
 use Rattle.outside.specs.Counts.{Rose}
 use Rattle.outside.specs.Files.{Held}
-use Rattle.trc_answers.specs.Verdict.{Verdict, Refuses, IsHeld}
+use Rattle.trc_answers.specs.Verdict.{Verdict, Refuses, IsHeld, FileComesTo, most_image}
 use Rattle.trc_answers.specs.declared.causes.Device.TheVariants.{Files}
 use Rattle.trc_answers.specs.declared.causes.Cause.{Cause}
 use Rattle.trc_answers.specs.declared.causes.Cause.TheVariants.{NoSuchFile, Limit, ReadFault, Memory}
@@ -57,6 +57,21 @@ pub data IsUnreadAt (held : Option Held) (number : ℕ) (name : List ℕ) (old n
   IsTooLong : (text : List ℕ) → IsHeld held name (Some text) → most_bytes < length text → cause ≡ Limit 55 number → IsUnreadAt held number name old new cause
   Failed : Rose old new → cause ≡ ReadFault Files → IsUnreadAt held number name old new cause
   LacksMemory : cause ≡ Memory → IsUnreadAt held number name old new cause
+
+-- the bytes of an image's file, which may be read
+pub record IsImageRead (held : Option Held) (name bytes : List ℕ) : Type 0 where
+  pub is : IsHeld held name (Some bytes)
+  pub within : length bytes ≤ most_image
+
+-- no bytes come to anything
+abbrev pub NoBytes : List ℕ → Verdict → Type 0
+NoBytes bytes verdict = ⊥
+
+-- why the file of an image isn't read, the one of this number
+pub data IsImageUnread (held : Option Held) (number : ℕ) (name : List ℕ) (old new : ℕ) (cause : Cause) : Type 0 where
+  IsNoFile : FileComesTo held number name NoBytes (Refuses cause) → IsImageUnread held number name old new cause
+  FailedOnce : Rose old new → cause ≡ ReadFault Files → IsImageUnread held number name old new cause
+  HasNoMemory : cause ≡ Memory → IsImageUnread held number name old new cause
 
 -- why files aren't read
 pub data IsUnread (held : Option Held) (names : List (List ℕ)) (old new : ℕ) (cause : Cause) : Type 0 where

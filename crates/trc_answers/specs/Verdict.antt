@@ -2,40 +2,43 @@
 use Rattle.std.specs.Prelude.{◌≡◌, ◌≤◌, ◌<◌, ℕ, List, [], length, Bool, true, false, Option, Some, None}
 use Rattle.outside.specs.Files.{Held}
 use Rattle.run_laws.specs.Runs.{Outcome, output}
+use Rattle.a64_memory.specs.Memory.{AreBytes}
 use Rattle.image_form.specs.declared.image.Image.{Image}
+use Rattle.image_form.specs.declared.image.ProcPlace.{ProcPlace}
 use Rattle.image_form.specs.Form.{IsInForm}
 use Rattle.image_file.specs.Rules.{Broken, first_fault}
-use Rattle.image_file.specs.Spelling.{image_bytes, AreWords}
+use Rattle.image_file.specs.Spelling.{image_bytes, in_version_one, IsOfWords}
+use Rattle.image_file.specs.Differing.{DifferAt}
 use Rattle.a64_machine.specs.State.{Trap}
 use Rattle.trc_answers.specs.Runs.{run_of, cause_of_run}
 use Rattle.trc_answers.specs.declared.causes.Cause.{Cause}
-use Rattle.trc_answers.specs.declared.causes.Cause.TheVariants.{NoSuchFile, NotImage, InputTooLong, Done}
+use Rattle.trc_answers.specs.declared.causes.Cause.TheVariants.{NoSuchFile, OtherImage, NotImage, InputTooLong, Done}
 
--- a command is refused for a cause, runs an image, writes a file, or prints lines
+-- a command is refused for a cause, runs an image whose procedures are at these places, writes a file, or prints lines
 pub data Verdict : Type 0 where
   Refuses : Cause → Verdict
-  Runs : (reads_input : Bool) → Outcome Trap → Verdict
+  Runs : (reads_input : Bool) (places : List ProcPlace) → Outcome Trap → Verdict
   Writes : (name bytes : List ℕ) → Verdict
   Prints : List ℕ → Verdict
 
 -- the cause that it answers
 abbrev pub cause_of : Verdict → Cause
 cause_of (Refuses cause) = cause
-cause_of (Runs reads outcome) = cause_of_run outcome
+cause_of (Runs reads places outcome) = cause_of_run places outcome
 cause_of (Writes name bytes) = Done
 cause_of (Prints lines) = Done
 
 -- what it writes on the output
 abbrev pub written_by : Verdict → List ℕ
 written_by (Refuses cause) = []
-written_by (Runs reads outcome) = output outcome
+written_by (Runs reads places outcome) = output outcome
 written_by (Writes name bytes) = []
 written_by (Prints lines) = lines
 
 -- whether it reads the input
 abbrev pub reads_input : Verdict → Bool
 reads_input (Refuses InputTooLong) = true
-reads_input (Runs reads outcome) = reads
+reads_input (Runs reads places outcome) = reads
 reads_input _ = false
 
 -- what the devices tell before a command: what files hold, and what is left of the input, each where it is told
@@ -56,28 +59,39 @@ abbrev pub IsLeft : Option (List ℕ) → List ℕ → Type 0
 IsLeft None input = Unit {0}
 IsLeft (Some left) input = left ≡ input
 
--- a file isn't there, or its bytes come to something
-pub data FileComesTo (held : Option Held) (name : List ℕ) (next : List ℕ → Verdict → Type 0) (verdict : Verdict) : Type 0 where
-  IsMissing : IsHeld held name None → verdict ≡ Refuses (NoSuchFile 0) → FileComesTo held name next verdict
-  HasBytes : (bytes : List ℕ) → IsHeld held name (Some bytes) → next bytes verdict → FileComesTo held name next verdict
+-- the most bytes of an image's file
+abbrev pub most_image : ℕ
+most_image = 16777216
+
+-- the file of an image, the one of this number among those that a command reads, isn't there, has too many bytes, or its bytes
+-- come to something
+pub data FileComesTo (held : Option Held) (number : ℕ) (name : List ℕ) (next : List ℕ → Verdict → Type 0) (verdict : Verdict) : Type 0 where
+  IsMissing : IsHeld held name None → verdict ≡ Refuses (NoSuchFile number) → FileComesTo held number name next verdict
+  HasTooMany : (bytes : List ℕ) → IsHeld held name (Some bytes) → most_image < length bytes
+      → verdict ≡ Refuses (NotImage 65 most_image) → FileComesTo held number name next verdict
+  HasBytes : (bytes : List ℕ) → IsHeld held name (Some bytes) → length bytes ≤ most_image → next bytes verdict → FileComesTo held number name next verdict
 
 -- an image is run, on the input where its flag says that it reads it
 pub data ImageComesTo (left : Option (List ℕ)) (steps : ℕ) (image : Image) (verdict : Verdict) : Type 0 where
-  RunsAlone : image.flags ≡ 0 → verdict ≡ Runs false (run_of image [] steps) → ImageComesTo left steps image verdict
-  RunsOnInput : (input : List ℕ) → image.flags ≡ 1 → IsLeft left input → length input ≤ 1048576
-      → verdict ≡ Runs true (run_of image input steps) → ImageComesTo left steps image verdict
+  RunsAlone : image.flags ≡ 0 → verdict ≡ Runs false image.places (run_of image [] steps) → ImageComesTo left steps image verdict
+  RunsOnInput : (input : List ℕ) → image.flags ≡ 1 → IsLeft left input → AreBytes input → length input ≤ 1048576
+      → verdict ≡ Runs true image.places (run_of image input steps) → ImageComesTo left steps image verdict
   HasTooMuch : (input : List ℕ) → image.flags ≡ 1 → IsLeft left input → 1048576 < length input
       → verdict ≡ Refuses InputTooLong → ImageComesTo left steps image verdict
 
--- bytes are too many for an image, break a rule of images, or are an image, which is run
+-- bytes break a rule of images, or are an image, which is run
 pub data BytesComeTo (left : Option (List ℕ)) (steps : ℕ) (bytes : List ℕ) (verdict : Verdict) : Type 0 where
-  AreTooMany : 16777216 < length bytes → verdict ≡ Refuses (NotImage 65 16777216) → BytesComeTo left steps bytes verdict
-  AreNoImage : (broken : Broken) → length bytes ≤ 16777216 → first_fault bytes ≡ Some broken
+  AreNoImage : (broken : Broken) → first_fault bytes ≡ Some broken
       → verdict ≡ Refuses (NotImage broken.number broken.at) → BytesComeTo left steps bytes verdict
-  AreAnImage : (image : Image) → length bytes ≤ 16777216 → IsInForm image → AreWords image.code → bytes ≡ image_bytes image
+  AreAnImage : (image : Image) → IsInForm image → IsOfWords image → bytes ≡ image_bytes image
       → ImageComesTo left steps image verdict
       → BytesComeTo left steps bytes verdict
 
 -- an image is written to the file of this name
 abbrev pub Written : List ℕ → Image → Verdict → Type 0
 Written name image verdict = verdict ≡ Writes name (image_bytes image)
+
+-- it is written where these bytes are its bytes in version 1; else the first difference is told
+pub data Renews (name bytes : List ℕ) (image : Image) (verdict : Verdict) : Type 0 where
+  AreTheSame : bytes ≡ image_bytes (in_version_one image) → Written name image verdict → Renews name bytes image verdict
+  Differ : (at : ℕ) → DifferAt at bytes (image_bytes (in_version_one image)) → verdict ≡ Refuses (OtherImage at) → Renews name bytes image verdict

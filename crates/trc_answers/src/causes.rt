@@ -14,25 +14,34 @@ pub enum Device {
     Output,
 }
 
+/// Where a procedure's text begins: its module by its place among the files, from 0, and the line of its heading.
+#[derive(Clone, Copy, Debug)]
+pub struct Spot {
+    pub module: u32,
+    pub line: u32,
+}
+
 /// Why a call ended, in the order in which the causes are tried; want of memory can come at any time.
 #[derive(Clone, Copy, Debug)]
 pub enum Cause {
     /// The words are no command.
     Usage,
     /// The file isn't there; the number is that of its name among the names that the command reads, from 0.
-    NoSuchFile { word: usize },
+    NoSuchFile { word: u32 },
     /// The device failed while it was read.
     ReadFault { device: Device },
     /// A rule of the language is broken: its number, 10 to 42, the module by its place among the files, from 0, and the byte.
-    Source { number: u8, module: usize, at: u32 },
+    Source { number: u8, module: u32, at: u32 },
     /// A limit is passed: its number, 50 to 59, and the module's or the procedure's where it is one of these, else 0.
-    Limit { number: u8, index: usize },
+    Limit { number: u8, index: u32 },
+    /// The file from which an image was to be built anew differs from that image in version 1, first at this byte.
+    OtherImage { at: u32 },
     /// The file is no image: the number of the first rule that it breaks, 60 to 65, and the place of the byte.
     NotImage { number: u8, at: u32 },
     /// The input has more than 1,048,576 bytes.
     InputTooLong,
-    /// The program stopped at a trap of this kind.
-    Trapped { kind: u16 },
+    /// The program stopped at a trap of this kind, in the procedure at this spot, where its image says where procedures are.
+    Trapped { kind: u16, spot: Option<Spot> },
     /// The machine came to what it can't do: an undefined word, a bad address or a bad call.
     MachineFault { fault: Step },
     /// All steps were made, and the program would go on.
@@ -81,6 +90,7 @@ pub fn status(cause: Cause) -> u8
         Cause::ReadFault { .. } => 4,
         Cause::Source { .. } => 2,
         Cause::Limit { .. } => 3,
+        Cause::OtherImage { .. } => 8,
         Cause::NotImage { .. } => 8,
         Cause::InputTooLong => 3,
         Cause::Trapped { .. } => 6,

@@ -14,10 +14,10 @@ mod reporting;
 mod running;
 mod writing;
 
-pub use causes::{Cause, Device, Ending, Outcome, status};
+pub use causes::{Cause, Device, Ending, Outcome, Spot, status};
 pub use names::{limit_name, rule_name};
 pub use places::{Position, position_of};
-pub use reading::read_texts;
+pub use reading::{read_image_file, read_texts};
 pub use reporting::report;
 pub use running::{exec, run_image, run_on};
-pub use writing::{print, write_image_file};
+pub use writing::{print, renew_image_file, write_image_file};

@@ -1,11 +1,11 @@
 //! The line that tells a cause.
 
-ghost use Rattle.std.specs.Prelude.{◌≡◌, ◌<◌, ◌≤◌, ◌++◌, codes, length, map, OnOk, OnErr};
+ghost use Rattle.std.specs.Prelude.{◌≡◌, ◌<◌, ◌≤◌, ◌++◌, Some, codes, length, map, OnOk, OnErr};
 ghost use Rattle.outside.specs.Sink.{TookAll, Faulted};
 ghost use Rattle.out_text.specs.Text.{shortest_text};
-ghost use Rattle.trc_answers.specs.Causes.{device_name, fault_line, hex, hex_digit, limit_line, line, line_of, name_at, source_line};
+ghost use Rattle.trc_answers.specs.Causes.{device_name, fault_line, hex, hex_digit, limit_line, line, line_of, name_at, source_line, spot_line, trap_line};
 
-use crate::causes::{Cause, Device};
+use crate::causes::{Cause, Device, Spot};
 use crate::names::{limit_name, rule_name};
 use crate::places::Position;
 use a64_machine::Step;
@@ -96,7 +96,7 @@ fn say_source<E: Sink>(
 }
 
 /// Writes the line of a limit that is passed.
-fn say_limit<E: Sink>(err: &mut E, number: u8, index: usize) -> Result<(), WriteFault>
+fn say_limit<E: Sink>(err: &mut E, number: u8, index: u32) -> Result<(), WriteFault>
     ensures all { OnOk result (TookAll (E.account err.old) (E.account err.new) (limit_line number index)) }
     ensures rises { (E.account err.old).faults ≤ (E.account err.new).faults }
     ensures failed { OnErr result (Faulted (E.account err.old) (E.account err.new)) }
@@ -104,8 +104,31 @@ fn say_limit<E: Sink>(err: &mut E, number: u8, index: usize) -> Result<(), Write
     put_number(err, b"trc: limit ", u64::from(number))?;
     write_all(err, b" ")?;
     write_all(err, limit_name(number))?;
-    say(err, b" at ", decimal(index as u64).as_slice())?;
+    say(err, b" at ", decimal(u64::from(index)).as_slice())?;
     Ok(())
+}
+
+/// Writes the line of a trap.
+fn say_trap<E: Sink>(err: &mut E, kind: u16, spot: Option<Spot>) -> Result<(), WriteFault>
+    ensures all { OnOk result (TookAll (E.account err.old) (E.account err.new) (trap_line kind spot)) }
+    ensures rises { (E.account err.old).faults ≤ (E.account err.new).faults }
+    ensures failed { OnErr result (Faulted (E.account err.old) (E.account err.new)) }
+{
+    put_number(err, b"trc: trap ", u64::from(kind))?;
+    match spot {
+        Some(spot) => say_spot(err, spot),
+        None => write_all(err, b"\n"),
+    }
+}
+
+/// Writes what stands behind a trap's kind.
+fn say_spot<E: Sink>(err: &mut E, spot: Spot) -> Result<(), WriteFault>
+    ensures all { OnOk result (TookAll (E.account err.old) (E.account err.new) (spot_line (Some spot))) }
+    ensures rises { (E.account err.old).faults ≤ (E.account err.new).faults }
+    ensures failed { OnErr result (Faulted (E.account err.old) (E.account err.new)) }
+{
+    put_number(err, b" in module ", u64::from(spot.module))?;
+    say(err, b" line ", decimal(u64::from(spot.line)).as_slice())
 }
 
 /// A hexadecimal digit, in lower case.
@@ -169,16 +192,17 @@ fn say_fault<E: Sink>(err: &mut E, fault: Step) -> Result<(), WriteFault>
             b"trc: bad call ",
             decimal(u64::from(number)).as_slice(),
         ),
-        Step::Going | Step::Ended | Step::Trapped(_) | Step::WriteFault => write_all(err, b""),
+        Step::Going | Step::Ended | Step::Trapped { .. } | Step::WriteFault => write_all(err, b""),
     }
 }
 
 /// A name by its number, or no bytes where there is none.
-fn name_at<'a>(names: &[&'a str], number: usize) -> &'a [u8]
+fn name_at<'a>(names: &[&'a str], number: u32) -> &'a [u8]
     ensures { result.now ≡ name_at (map (λ name. name.now) names.now) number }
 {
-    if number < names.len() {
-        names[number].as_bytes()
+    let at = number as usize;
+    if at < names.len() {
+        names[at].as_bytes()
     } else {
         b""
     }
@@ -203,9 +227,14 @@ pub fn report<E: Sink>(
             say_source(err, name_at(names, module), place, number)
         }
         Cause::Limit { number, index } => say_limit(err, number, index),
+        Cause::OtherImage { at } => say(
+            err,
+            b"trc: other image at ",
+            decimal(u64::from(at)).as_slice(),
+        ),
         Cause::NotImage { number, at } => say_no_image(err, number, at),
         Cause::InputTooLong => say(err, b"trc: input too long", b""),
-        Cause::Trapped { kind } => say(err, b"trc: trap ", decimal(u64::from(kind)).as_slice()),
+        Cause::Trapped { kind, spot } => say_trap(err, kind, spot),
         Cause::MachineFault { fault } => say_fault(err, fault),
         Cause::Spent => say(err, b"trc: steps spent", b""),
         Cause::WriteFault { device } => say(err, b"trc: write fault on ", name_of(device)),

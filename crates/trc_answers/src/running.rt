@@ -1,25 +1,37 @@
 //! An image is run, and what is read before it.
 
-ghost use Rattle.std.specs.Prelude.{◌≡◌, ◌≤◌, ℕ, Option, length};
+ghost use Rattle.std.specs.Prelude.{◌≡◌, ◌^◌, ◌≤◌, ℕ, Option};
 ghost use Rattle.outside.specs.Files.{Held};
+ghost use Rattle.a64_memory.specs.Memory.{AreBytes};
 ghost use Rattle.image_form.specs.Form.{IsInForm};
-ghost use Rattle.trc_answers.specs.Runs.{cause_of_fault, run_of};
+ghost use Rattle.image_form.specs.Places.{RiseBelow};
+ghost use Rattle.trc_answers.specs.Runs.{cause_of_fault, run_of, spot_at};
 ghost use Rattle.trc_answers.specs.Causes.{IsPlain};
 ghost use Rattle.trc_answers.specs.Verdict.{BytesComeTo, FileComesTo, ImageComesTo};
 ghost use Rattle.trc_answers.specs.Answers.{Answers, RunAnswers, devices};
 
-use crate::causes::{Cause, Device};
+use crate::causes::{Cause, Device, Spot};
+use crate::reading::read_image_file;
 use a64_machine::{Halt, Machine, Step};
 use image_file::{ImageFault, read_image};
-use image_form::Image;
-use outside::{Files, GetFault, InFault, Sink, Source, read_all};
+use image_form::{Image, ProcPlace, place_before};
+use outside::{Files, InFault, Sink, Source, read_all};
 use std::alloc::Global;
-
-/// The most bytes that a file of an image is read with.
-const MOST_IMAGE: u32 = 16_777_216;
 
 /// The most bytes that the input may have.
 const MOST_INPUT: usize = 1_048_576;
+
+/// The spot of the procedure in which a code word stands, by the places of an image.
+fn spot_at(places: &[ProcPlace], word: u32) -> Option<Spot>
+    requires { RiseBelow (2 ^ 32) 0 places.now }
+    ensures { result ≡ spot_at places.now word }
+{
+    let place = place_before(places, word)?;
+    Some(Spot {
+        module: place.module,
+        line: place.line,
+    })
+}
 
 /// Runs an image on an input, for at most so many steps.
 pub fn run_on<O: Sink>(
@@ -30,18 +42,23 @@ pub fn run_on<O: Sink>(
     out: &mut O,
 ) -> Cause
     requires { IsInForm image }
-    ensures answers { RunAnswers (run_of image input.items steps) (O.account out.old) (O.account out.new) result }
+    ensures answers { RunAnswers image.places (run_of image input.items steps) (O.account out.old) (O.account out.new) result }
     ensures plain { IsPlain result }
     ensures rises { (O.account out.old).faults ≤ (O.account out.new).faults }
 {
-    let machine = match Machine::load(alloc, image, input) {
-        Ok(machine) => machine,
-        Err(_) => return Cause::Memory,
+    let Ok(places) = Vec::from_slice(alloc, image.places.as_slice()) else {
+        return Cause::Memory;
+    };
+    let Ok(machine) = Machine::load(alloc, image, input) else {
+        return Cause::Memory;
     };
     match machine.run(steps, out) {
         Halt::Ended => Cause::Done,
         Halt::Spent => Cause::Spent,
-        Halt::Trapped(kind) => Cause::Trapped { kind },
+        Halt::Trapped { kind, word } => Cause::Trapped {
+            kind,
+            spot: spot_at(&places, word),
+        },
         Halt::Undefined(word) => Cause::MachineFault {
             fault: Step::Undefined(word),
         },
@@ -57,6 +74,11 @@ pub fn run_on<O: Sink>(
     }
 }
 
+/// The numbers of a list of bytes are bytes, as what is said of runs asks of an input.
+fn are_bytes(bytes: &[u8])
+    ensures { AreBytes bytes.now }
+{}
+
 /// Runs an image, on the input where the image reads it.
 pub fn run_image<I: Source, O: Sink>(
     alloc: Global,
@@ -67,7 +89,7 @@ pub fn run_image<I: Source, O: Sink>(
 ) -> Cause
     requires { IsInForm image }
     ensures answers { (held : Option Held) (faults : ℕ)
-        → Answers (ImageComesTo (I.left input.old) steps image)
+        → Answers (λ left. ImageComesTo left steps image)
         (devices held faults (I.left input.old) (I.faults input.old) (O.account out.old))
         (devices held faults (I.left input.new) (I.faults input.new) (O.account out.new)) result }
     ensures plain { IsPlain result }
@@ -78,7 +100,10 @@ pub fn run_image<I: Source, O: Sink>(
         return run_on(alloc, image, Vec::new(alloc), steps, out);
     }
     match read_all(alloc, input, MOST_INPUT) {
-        Ok(bytes) => run_on(alloc, image, bytes, steps, out),
+        Ok(bytes) => {
+            are_bytes(bytes.as_slice());
+            run_on(alloc, image, bytes, steps, out)
+        }
         Err(InFault::TooLong) => Cause::InputTooLong,
         Err(InFault::ReadFault) => Cause::ReadFault {
             device: Device::Input,
@@ -106,9 +131,8 @@ fn run_bytes<I: Source, O: Sink>(
     input: &mut I,
     out: &mut O,
 ) -> Cause
-    requires { length bytes.now ≤ 16777216 }
     ensures answers { (held : Option Held) (faults : ℕ)
-        → Answers (BytesComeTo (I.left input.old) steps bytes.now)
+        → Answers (λ left. BytesComeTo left steps bytes.now)
         (devices held faults (I.left input.old) (I.faults input.old) (O.account out.old))
         (devices held faults (I.left input.new) (I.faults input.new) (O.account out.new)) result }
     ensures plain { IsPlain result }
@@ -130,7 +154,7 @@ pub fn exec<F: Files, I: Source, O: Sink>(
     input: &mut I,
     out: &mut O,
 ) -> Cause
-    ensures answers { Answers (FileComesTo (F.held files.old) image.now (BytesComeTo (I.left input.old) steps))
+    ensures answers { Answers (λ left. FileComesTo (F.held files.old) 0 image.now (BytesComeTo left steps))
         (devices (F.held files.old) (F.faults files.old) (I.left input.old) (I.faults input.old) (O.account out.old))
         (devices (F.held files.new) (F.faults files.new) (I.left input.new) (I.faults input.new) (O.account out.new)) result }
     ensures plain { IsPlain result }
@@ -138,16 +162,8 @@ pub fn exec<F: Files, I: Source, O: Sink>(
     ensures input_rises { I.faults input.old ≤ I.faults input.new }
     ensures out_rises { (O.account out.old).faults ≤ (O.account out.new).faults }
 {
-    match files.read(alloc, image, MOST_IMAGE as usize) {
+    match read_image_file(alloc, 0, image, files) {
         Ok(bytes) => run_bytes(alloc, bytes.as_slice(), steps, input, out),
-        Err(GetFault::NoSuchFile) => Cause::NoSuchFile { word: 0 },
-        Err(GetFault::TooLong) => Cause::NotImage {
-            number: 65,
-            at: MOST_IMAGE,
-        },
-        Err(GetFault::Failed) => Cause::ReadFault {
-            device: Device::Files,
-        },
-        Err(GetFault::Memory) => Cause::Memory,
+        Err(cause) => cause,
     }
 }

@@ -4,11 +4,11 @@ ghost use Rattle.std.specs.Prelude.{◌≤◌, ℕ, List, Option};
 ghost use Rattle.outside.specs.Sink.{Account};
 ghost use Rattle.image_form.specs.Form.{IsInForm};
 ghost use Rattle.trc_answers.specs.Causes.{IsPlain};
-ghost use Rattle.trc_answers.specs.Verdict.{Written};
+ghost use Rattle.trc_answers.specs.Verdict.{Renews, Written};
 ghost use Rattle.trc_answers.specs.Answers.{Answers, PrintAnswers, devices};
 
 use crate::causes::{Cause, Device};
-use image_file::write_image;
+use image_file::{first_difference, write_image};
 use image_form::Image;
 use outside::{Files, PutFault, Sink, write_all};
 use std::alloc::Global;
@@ -17,7 +17,7 @@ use std::alloc::Global;
 pub fn write_image_file<F: Files>(alloc: Global, name: &str, image: &Image, files: &mut F) -> Cause
     requires { IsInForm image.now }
     ensures answers { (left : Option (List ℕ)) (faults : ℕ) (out : Account)
-        → Answers (Written name.now image.now) (devices (F.held files.old) (F.faults files.old) left faults out)
+        → Answers (λ _. Written name.now image.now) (devices (F.held files.old) (F.faults files.old) left faults out)
         (devices (F.held files.new) (F.faults files.new) left faults out) result }
     ensures plain { IsPlain result }
     ensures rises { F.faults files.old ≤ F.faults files.new }
@@ -31,6 +31,27 @@ pub fn write_image_file<F: Files>(alloc: Global, name: &str, image: &Image, file
             device: Device::Files,
         },
         Err(PutFault::Memory) => Cause::Memory,
+    }
+}
+
+/// Writes an image to the file of this name where these bytes, those of another file, are the image's in version 1.
+pub fn renew_image_file<F: Files>(
+    alloc: Global,
+    name: &str,
+    bytes: &[u8],
+    image: &Image,
+    files: &mut F,
+) -> Cause
+    requires { IsInForm image.now }
+    ensures answers { (left : Option (List ℕ)) (faults : ℕ) (out : Account)
+        → Answers (λ _. Renews name.now bytes.now image.now) (devices (F.held files.old) (F.faults files.old) left faults out)
+        (devices (F.held files.new) (F.faults files.new) left faults out) result }
+    ensures plain { IsPlain result }
+    ensures rises { F.faults files.old ≤ F.faults files.new }
+{
+    match first_difference(bytes, image) {
+        Some(at) => Cause::OtherImage { at },
+        None => write_image_file(alloc, name, image, files),
     }
 }
 

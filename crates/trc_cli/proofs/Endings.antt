@@ -1,5 +1,6 @@
 -- What compiling is for a command.
-use Rattle.std.proofs.Common.{◌≡◌, ℕ, List, [], Option, refl, sym, ap, subst}
+use Rattle.std.proofs.Common.{◌≡◌, ◌<◌, ℕ, zero, suc, List, [], ◌∷◌, length, Option, Some, None, refl, sym, ap, ◌∙◌, subst, arith}
+use Rattle.std.specs.Prelude.{slice_get}
 use Rattle.outside.specs.Files.{Held}
 use Rattle.outside.specs.Sink.{Account}
 use Rattle.trc_answers.specs.declared.places.Position.{Position}
@@ -7,69 +8,87 @@ use Rattle.alloc_choice.specs.declared.choice.Choice.{Choice}
 use Rattle.image_form.specs.declared.image.Image.{Image}
 use Rattle.program_image.specs.declared.imaging.Compiled.{Compiled}
 use Rattle.source_image.specs.Images.{IsImageOfTexts, AreTracesOfTexts}
-use Rattle.source_image.specs.Refusals.{IsRefusal}
+use Rattle.ob_types.specs.declared.program.Program.{Program}
+use Rattle.program_image.specs.declared.fault.ProgramFault.{ProgramFault}
+use Rattle.source_image.specs.Refusals.{IsRefusal, IsRefusalOf, IsRefusalOfTraces}
 use Rattle.source_image.specs.declared.refusal.Refusal.{Refusal}
 use Rattle.source_image.specs.declared.refusal.Refusal.TheVariants.{TooLong, Source, Limit, Memory}
 use Rattle.trc_answers.specs.declared.causes.Cause.{Cause}
 use Rattle.trc_answers.specs.declared.causes.Cause.TheVariants as cause
-use Rattle.trc_answers.specs.Causes.{IsPlaced, line_of}
+use Rattle.trc_answers.specs.declared.causes.Outcome.{Outcome}
+use Rattle.trc_answers.specs.Causes.{IsPlaced, line_of, status_of}
 use Rattle.trc_answers.specs.Causes.{TookLine}
-use Rattle.trc_answers.specs.Verdict.{Verdict, Refuses}
+use Rattle.trc_answers.specs.Verdict.{Verdict, Refuses, world}
 use Rattle.trc_answers.specs.Reading.{AreTextsOf}
-use Rattle.trc_answers.specs.Answers.{Devices, devices, Answers, LacksMemory, PrintAnswers}
-use Rattle.trc_answers.proofs.Answering.{nothing, refuses, mapped, prints}
+use Rattle.trc_answers.specs.Answers.{Devices, devices, Answers, PrintAnswers}
+use Rattle.trc_answers.proofs.Answering.{refuses, lacks, mapped, prints}
 use Rattle.trc_answers.proofs.Texts.{text_at, placed_as}
-use Rattle.trc_cli.specs.Commands.{cause_of_refusal, IsRefusedAs, AreRefused, TextsComeTo, HaveNoImage, HaveImage, TracesComeTo, HaveNoTraces, HaveTraces, IsTextIn, IsTextHeld, IsTextOf, names_read}
+use Rattle.trc_cli.specs.Commands.{cause_of_refusal, IsRefusedAs, AreRefused, TextsComeTo, HaveNoImage, HaveImage, TracesComeTo, HaveNoTraces, HaveTraces, IsTextIn, IsTextHeld, IsTextOf, NamesText, names_read, ComesTo, FaultsOnlyInExec, FilesUse, InputUse}
 use Rattle.trc_cli.specs.Lines.{IsTold}
-use Rattle.trc_words.specs.Asked.{Asked}
+use Rattle.trc_words.specs.Asked.{Asked, Run, Build, Exec, Traces, Bulk, Help}
+use Rattle.trc_cli.specs.Did.{Did}
+use Rattle.trc_cli.proofs.Sound.{faults_only_in_exec}
 
 -- a command that comes to what refused texts come to
-module _ (choice : Choice) (texts : List (List ℕ)) (comes : Verdict → Type 0) (of_refused : (v : Verdict) → AreRefused choice texts v → comes v) where
-  refused_as : (refusal : Refusal) → IsRefusal choice texts refusal → (refusal ≡ Memory → ⊥) → (cause : Cause) → cause ≡ cause_of_refusal refusal
+module _ (IsWhy : Refusal → Type 0) (comes : Option (List ℕ) → Verdict → Type 0) (of_refused : (left : Option (List ℕ)) (v : Verdict) → AreRefused IsWhy v → comes left v) where
+  refused_as : (refusal : Refusal) → IsWhy refusal → (refusal ≡ Memory → ⊥) → (cause : Cause) → cause ≡ cause_of_refusal refusal
       → (held : Option Held) (m : ℕ) (left : Option (List ℕ)) (k : ℕ) (out : Account) → Answers comes (devices held m left k out) (devices held m left k out) cause
   refused_as refusal is tells cause e held m left k out =
       refuses comes held held m m left k out cause refl
-      (of_refused (Refuses cause) (record { refusal = refusal; is = is; tells = tells; verdict_is = ap Refuses e }))
+      (of_refused left (Refuses cause) (record { refusal = refusal; is = is; tells = tells; verdict_is = ap Refuses e }))
 
-  refused_for : (refusal : Refusal) → IsRefusal choice texts refusal → (cause : Cause) → cause ≡ cause_of_refusal refusal
+  refused_for : (refusal : Refusal) → IsWhy refusal → (cause : Cause) → cause ≡ cause_of_refusal refusal
       → (held : Option Held) (m : ℕ) (left : Option (List ℕ)) (k : ℕ) (out : Account) → Answers comes (devices held m left k out) (devices held m left k out) cause
   refused_for (TooLong n) is cause e held m left k out = refused_as (TooLong n) is (λ x. let z : TooLong n ≡ Memory = x in cc) cause e held m left k out
   refused_for (Source n number at) is cause e held m left k out = refused_as (Source n number at) is (λ x. let z : Source n number at ≡ Memory = x in cc) cause e held m left k out
   refused_for (Limit number index) is cause e held m left k out = refused_as (Limit number index) is (λ x. let z : Limit number index ≡ Memory = x in cc) cause e held m left k out
-  refused_for Memory is cause e held m left k out = LacksMemory e (record { output = nothing out; files = refl })
+  refused_for Memory is cause e held m left k out = lacks comes held held m m left k out cause e refl
 
-  pub refused : (cause : Cause) → IsRefusedAs choice texts cause → (held : Option Held) (m : ℕ) (left : Option (List ℕ)) (k : ℕ) (out : Account)
+  pub refused : (cause : Cause) → IsRefusedAs IsWhy cause → (held : Option Held) (m : ℕ) (left : Option (List ℕ)) (k : ℕ) (out : Account)
       → Answers comes (devices held m left k out) (devices held m left k out) cause
   refused cause h = refused_for h.refusal h.is cause h.cause_is
 
 -- texts have no image
-pub no_image : (choice : Choice) (texts : List (List ℕ)) (next : Compiled → Verdict → Type 0) (cause : Cause) → IsRefusedAs choice texts cause
-    → (held : Option Held) (m : ℕ) (left : Option (List ℕ)) (k : ℕ) (out : Account) → Answers (TextsComeTo choice next texts) (devices held m left k out) (devices held m left k out) cause
-no_image choice texts next cause h = refused choice texts (TextsComeTo choice next texts) (λ v r. HaveNoImage r) cause h
+pub no_image : (choice : Choice) (texts : List (List ℕ)) (next : Option (List ℕ) → Compiled → Verdict → Type 0) (cause : Cause) → IsRefusedAs (IsRefusal choice texts) cause
+    → (held : Option Held) (m : ℕ) (left : Option (List ℕ)) (k : ℕ) (out : Account) → Answers (λ l. TextsComeTo choice (next l) texts) (devices held m left k out) (devices held m left k out) cause
+no_image choice texts next cause h = refused (IsRefusal choice texts) (λ l. TextsComeTo choice (next l) texts) (λ l v r. HaveNoImage r) cause h
 
 -- texts have an image, and it comes to something
-pub has_image : (choice : Choice) (texts : List (List ℕ)) (next : Compiled → Verdict → Type 0) (made : Compiled) (old new : Devices) (cause : Cause) → IsImageOfTexts choice texts made
-    → Answers (next made) old new cause → Answers (TextsComeTo choice next texts) old new cause
-has_image choice texts next made old new cause is answers = mapped (next made) (TextsComeTo choice next texts) old new cause (λ v it. HaveImage made is it) answers
+pub has_image : (choice : Choice) (texts : List (List ℕ)) (next : Option (List ℕ) → Compiled → Verdict → Type 0) (made : Compiled) (old new : Devices) (cause : Cause) → IsImageOfTexts choice texts made
+    → Answers (λ l. next l made) old new cause → Answers (λ l. TextsComeTo choice (next l) texts) old new cause
+has_image choice texts next made old new cause is answers = mapped (λ l. next l made) (λ l. TextsComeTo choice (next l) texts) old new cause (λ l v it. HaveImage made is it) answers
 
 -- texts have an image, which comes to something
-pub image_comes : (choice : Choice) (texts : List (List ℕ)) (comes : Image → Verdict → Type 0) (made : Compiled) (image : Image) (old new : Devices) (cause : Cause) → IsImageOfTexts choice texts made
-    → image ≡ made.image → Answers (comes image) old new cause → Answers (TextsComeTo choice (λ m. comes m.image) texts) old new cause
+pub image_comes : (choice : Choice) (texts : List (List ℕ)) (comes : Option (List ℕ) → Image → Verdict → Type 0) (made : Compiled) (image : Image) (old new : Devices) (cause : Cause) → IsImageOfTexts choice texts made
+    → image ≡ made.image → Answers (λ l. comes l image) old new cause → Answers (λ l. TextsComeTo choice (λ m. comes l m.image) texts) old new cause
 image_comes choice texts comes made image old new cause is same answers =
-    has_image choice texts (λ m. comes m.image) made old new cause is (subst (λ i. Answers (comes i) old new cause) same answers)
+    has_image choice texts (λ l m. comes l m.image) made old new cause is (subst (λ i. Answers (λ l. comes l i) old new cause) same answers)
 
 -- texts have no traces
-pub no_traces : (choice : Choice) (texts : List (List ℕ)) (cause : Cause) → IsRefusedAs choice texts cause
-    → (held : Option Held) (m : ℕ) (left : Option (List ℕ)) (k : ℕ) (out : Account) → Answers (TracesComeTo choice texts) (devices held m left k out) (devices held m left k out) cause
-no_traces choice texts cause h = refused choice texts (TracesComeTo choice texts) (λ v r. HaveNoTraces r) cause h
+pub no_traces : (choice : Choice) (texts : List (List ℕ)) (cause : Cause) → IsRefusedAs (IsRefusalOfTraces choice texts) cause
+    → (held : Option Held) (m : ℕ) (left : Option (List ℕ)) (k : ℕ) (out : Account) → Answers (λ _. TracesComeTo choice texts) (devices held m left k out) (devices held m left k out) cause
+no_traces choice texts cause h = refused (IsRefusalOfTraces choice texts) (λ _. TracesComeTo choice texts) (λ _ v r. HaveNoTraces r) cause h
 
 -- texts have traces, which are told
 pub has_traces : (choice : Choice) (texts : List (List ℕ)) (lines printed : List ℕ) (held : Option Held) (m : ℕ) (left : Option (List ℕ)) (k : ℕ) (a b : Account) (cause : Cause)
-    → AreTracesOfTexts choice texts lines → printed ≡ lines → PrintAnswers printed a b cause → Answers (TracesComeTo choice texts) (devices held m left k a) (devices held m left k b) cause
+    → AreTracesOfTexts choice texts lines → printed ≡ lines → PrintAnswers printed a b cause → Answers (λ _. TracesComeTo choice texts) (devices held m left k a) (devices held m left k b) cause
 has_traces choice texts lines printed held m left k a b cause are same answers =
-    prints (TracesComeTo choice texts) lines held m left k a b cause (HaveTraces lines are refl) (subst (λ ls. PrintAnswers ls a b cause) same answers)
+    prints (λ _. TracesComeTo choice texts) lines held m left k a b cause (HaveTraces lines are refl) (subst (λ ls. PrintAnswers ls a b cause) same answers)
 
 ---- Places
+
+there : {A : Type 0} (xs : List A) (n : ℕ) (x : A) → slice_get xs n ≡ Some x → n < length xs
+there [] zero x e = absurd (let z = e in cc)
+there [] (suc n) x e = absurd (let z = e in cc)
+there (y ∷ xs) zero x e = omega arith
+there (y ∷ xs) (suc n) x e = let l = there xs n x e in omega (arith, l)
+
+-- a refusal names one of the texts that are refused
+pub names_text : (texts : List (List ℕ)) (refusal : Refusal) (TellsOf : Program → ProgramFault → Type 0) → IsRefusalOf TellsOf texts refusal → NamesText texts refusal
+names_text texts (TooLong m) TellsOf h = there texts m h.bytes h.text
+names_text texts (Source m number at) TellsOf h = there texts m h.bytes h.text
+names_text texts (Limit number index) TellsOf h = tt
+names_text texts Memory TellsOf h = tt
 
 -- the place of a fault in texts is one in the texts that are held
 pub placed_held : (held : Option Held) (names texts : List (List ℕ)) (cause : Cause) (place : Position) → AreTextsOf held names texts
@@ -89,3 +108,53 @@ told_of_memory held asked a b place ended is line = told_plainly held asked a b 
 
 pub told_of_usage : (held : Option Held) (asked : Option Asked) (a b : Account) (place : Position) (ended : Cause) → ended ≡ cause.Usage → TookLine a b (line_of [] place ended) → IsTold held asked a b ended
 told_of_usage held asked a b place ended is line = told_plainly held asked a b place ended cause.Usage is tt refl line
+
+---- What was done
+
+untouched : (request : Option Asked) (t : Devices) → FilesUse request t t
+untouched None t = record { held = refl; faults = refl }
+untouched (Some (Run files choice steps)) t = tt
+untouched (Some (Build out files choice from)) t = tt
+untouched (Some (Exec image steps)) t = tt
+untouched (Some (Traces files choice)) t = tt
+untouched (Some (Bulk seed size choice steps)) t = record { held = refl; faults = refl }
+untouched (Some Help) t = record { held = refl; faults = refl }
+
+unread : (request : Option Asked) (t : Devices) → InputUse request t t
+unread None t = record { left = refl; faults = refl }
+unread (Some (Run files choice steps)) t = tt
+unread (Some (Build out files choice from)) t = record { left = refl; faults = refl }
+unread (Some (Exec image steps)) t = tt
+unread (Some (Traces files choice)) t = record { left = refl; faults = refl }
+unread (Some (Bulk seed size choice steps)) t = record { left = refl; faults = refl }
+unread (Some Help) t = record { left = refl; faults = refl }
+
+-- a command ended for a cause, which was told
+pub did_as : (request : Option Asked) (old new : Devices) (a b : Account) (outcome : Outcome) (ended : Cause) → outcome.cause ≡ ended → outcome.status ≡ status_of ended
+    → Answers (λ left. ComesTo (world old.held left) request) old new ended → InputUse request old new → FilesUse request old new → IsTold old.held request a b ended
+    → Did request old new a b outcome
+did_as request old new a b outcome ended is status answers input files told = record {
+  answers = subst (Answers (λ left. ComesTo (world old.held left) request) old new) (sym is) answers;
+  unread = input;
+  untouched = files;
+  no_fault = subst (FaultsOnlyInExec request) (sym is) (faults_only_in_exec request old new ended answers);
+  status = status ∙ ap status_of (sym is);
+  told = subst (IsTold old.held request a b) (sym is) told;
+}
+
+-- there was no memory, and no device was touched
+pub did_nothing : (request : Option Asked) (held : Option Held) (m : ℕ) (left : Option (List ℕ)) (k : ℕ) (out a b : Account) (outcome : Outcome) (ended : Cause)
+    → outcome.cause ≡ ended → ended ≡ cause.Memory → outcome.status ≡ status_of ended → IsTold held request a b ended
+    → Did request (devices held m left k out) (devices held m left k out) a b outcome
+did_nothing request held m left k out a b outcome ended is memory status told =
+    did_as request (devices held m left k out) (devices held m left k out) a b outcome ended is status (lacks (λ l. ComesTo (world held l) request) held held m m left k out ended memory refl)
+    (unread request (devices held m left k out)) (untouched request (devices held m left k out)) told
+
+-- the words ask for nothing
+pub refused_usage : (request : Option Asked) (held : Option Held) (m : ℕ) (left : Option (List ℕ)) (k : ℕ) (out a b : Account) (outcome : Outcome) (ended : Cause)
+    → request ≡ None → outcome.cause ≡ ended → ended ≡ cause.Usage → outcome.status ≡ status_of ended → IsTold held None a b ended
+    → Did request (devices held m left k out) (devices held m left k out) a b outcome
+refused_usage request held m left k out a b outcome ended none is usage status told =
+    subst (λ r. Did r (devices held m left k out) (devices held m left k out) a b outcome) (sym none)
+    (did_as None (devices held m left k out) (devices held m left k out) a b outcome ended is status (refuses (λ l. ComesTo (world held l) None) held held m m left k out ended refl (ap Refuses usage))
+    (unread None (devices held m left k out)) (untouched None (devices held m left k out)) told)

@@ -1,3 +1,7 @@
 mod Endings
+mod Same
+mod FilesOnce
+mod TextsOnce
 mod Once
+mod Sound
 mod Summaries

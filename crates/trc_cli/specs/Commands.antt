@@ -1,12 +1,12 @@
 -- What each command comes to when nothing fails.
-use Rattle.std.specs.Prelude.{◌≡◌, ℕ, List, [], ◌∷◌, ◌++◌, length, decimal, Option, Some, None, codes, slice_get}
+use Rattle.std.specs.Prelude.{◌≡◌, ◌<◌, ℕ, List, [], ◌∷◌, ◌++◌, length, decimal, Option, Some, None, codes, slice_get, option_to_list}
 use Rattle.outside.specs.Files.{Held}
 use Rattle.run_laws.specs.Runs.{Outcome, Ended}
 use Rattle.a64_machine.specs.State.{Trap}
 use Rattle.alloc_choice.specs.declared.choice.Choice.{Choice}
 use Rattle.program_image.specs.declared.imaging.Compiled.{Compiled}
 use Rattle.source_image.specs.Images.{IsImageOfTexts, AreTracesOfTexts}
-use Rattle.source_image.specs.Refusals.{IsRefusal}
+use Rattle.source_image.specs.Refusals.{IsRefusal, IsRefusalOfTraces}
 use Rattle.source_image.specs.declared.refusal.Refusal.{Refusal}
 use Rattle.source_image.specs.declared.refusal.Refusal.TheVariants.{TooLong, Source, Limit, Memory}
 use Rattle.bulk_text.specs.Bulk.{bulk_text}
@@ -16,7 +16,7 @@ use Rattle.trc_answers.specs.declared.causes.Cause.TheVariants as cause
 use Rattle.trc_answers.specs.Answers.{Devices, InputStays}
 use Rattle.trc_answers.specs.Reading.{FilesComeTo}
 use Rattle.trc_answers.specs.Runs.{run_of, cause_of_run}
-use Rattle.trc_answers.specs.Verdict.{Verdict, Refuses, Prints, World, IsHeld, FileComesTo, ImageComesTo, BytesComeTo, Written}
+use Rattle.trc_answers.specs.Verdict.{Verdict, Refuses, Prints, World, IsHeld, FileComesTo, ImageComesTo, BytesComeTo, Written, Renews}
 use Rattle.trc_cli.specs.declared.bulk.Counts.{Counts}
 
 ---- Texts
@@ -28,27 +28,33 @@ cause_of_refusal (Source m number at) = cause.Source number m at
 cause_of_refusal (Limit number index) = cause.Limit number index
 cause_of_refusal Memory = cause.Memory
 
--- texts are refused for this cause, want of memory among them
-pub record IsRefusedAs (choice : Choice) (texts : List (List ℕ)) (cause : Cause) : Type 0 where
+-- the module that a refusal names is one of these texts
+abbrev pub NamesText : List (List ℕ) → Refusal → Type 0
+NamesText texts (TooLong m) = m < length texts
+NamesText texts (Source m number at) = m < length texts
+NamesText texts refusal = Unit {0}
+
+-- texts are refused for this cause, want of memory among them, as this says why they are
+pub record IsRefusedAs (IsWhy : Refusal → Type 0) (cause : Cause) : Type 0 where
   pub refusal : Refusal
-  pub is : IsRefusal choice texts refusal
+  pub is : IsWhy refusal
   pub cause_is : cause ≡ cause_of_refusal refusal
 
 -- texts break a rule, or their program passes a limit
-pub record AreRefused (choice : Choice) (texts : List (List ℕ)) (verdict : Verdict) : Type 0 where
+pub record AreRefused (IsWhy : Refusal → Type 0) (verdict : Verdict) : Type 0 where
   pub refusal : Refusal
-  pub is : IsRefusal choice texts refusal
+  pub is : IsWhy refusal
   pub tells : refusal ≡ Memory → ⊥
   pub verdict_is : verdict ≡ Refuses (cause_of_refusal refusal)
 
 -- texts are refused, or their image comes to something
 pub data TextsComeTo (choice : Choice) (next : Compiled → Verdict → Type 0) (texts : List (List ℕ)) (verdict : Verdict) : Type 0 where
-  HaveNoImage : AreRefused choice texts verdict → TextsComeTo choice next texts verdict
+  HaveNoImage : AreRefused (IsRefusal choice texts) verdict → TextsComeTo choice next texts verdict
   HaveImage : (made : Compiled) → IsImageOfTexts choice texts made → next made verdict → TextsComeTo choice next texts verdict
 
--- texts are refused, or their traces are told
+-- texts are refused, but never for their code, or their traces are told
 pub data TracesComeTo (choice : Choice) (texts : List (List ℕ)) (verdict : Verdict) : Type 0 where
-  HaveNoTraces : AreRefused choice texts verdict → TracesComeTo choice texts verdict
+  HaveNoTraces : AreRefused (IsRefusalOfTraces choice texts) verdict → TracesComeTo choice texts verdict
   HaveTraces : (lines : List ℕ) → AreTracesOfTexts choice texts lines → verdict ≡ Prints lines → TracesComeTo choice texts verdict
 
 ---- Made modules
@@ -70,7 +76,7 @@ summary_of counts written = counts_text counts ++ (codes "output " ++ written)
 -- a run that ends is told; of any other there is the cause alone
 abbrev pub told_of_run : Compiled → Outcome Trap → Verdict
 told_of_run made (Ended written) = Prints (summary_of (counts_of made) written)
-told_of_run made outcome = Refuses (cause_of_run outcome)
+told_of_run made outcome = Refuses (cause_of_run made.image.places outcome)
 
 -- an image is run on no input, and what came of it is told
 abbrev pub SummaryComesTo : ℕ → Compiled → Verdict → Type 0
@@ -80,13 +86,18 @@ SummaryComesTo steps made verdict = verdict ≡ told_of_run made (run_of made.im
 
 -- the lines of help
 abbrev pub help_lines : List ℕ
-help_lines = codes "trc run|build|traces|exec|bulk|help" ++ (10 ∷ (codes "--policy --traces --regs --jobs --steps" ++ 10 ∷ []))
+help_lines = codes "trc run|build|traces|exec|bulk|help" ++ (10 ∷ (codes "--policy --traces --regs --jobs --steps --from" ++ 10 ∷ []))
+
+-- an image is built anew from that of an older file, which is the next that is read
+abbrev pub AnewComesTo : Option Held → Choice → (out from : List ℕ) (number : ℕ) → List (List ℕ) → Verdict → Type 0
+AnewComesTo held choice out from number texts = FileComesTo held number from (λ bytes. TextsComeTo choice (λ made. Renews out bytes made.image) texts)
 
 -- what each command comes to
 abbrev pub RequestComesTo : World → Asked → Verdict → Type 0
 RequestComesTo world (Run files choice steps) = FilesComeTo world.held files (TextsComeTo choice (λ made. ImageComesTo world.left steps made.image))
-RequestComesTo world (Build out files choice) = FilesComeTo world.held files (TextsComeTo choice (λ made. Written out made.image))
-RequestComesTo world (Exec image steps) = FileComesTo world.held image (BytesComeTo world.left steps)
+RequestComesTo world (Build out files choice None) = FilesComeTo world.held files (TextsComeTo choice (λ made. Written out made.image))
+RequestComesTo world (Build out files choice (Some from)) = FilesComeTo world.held files (AnewComesTo world.held choice out from (length files))
+RequestComesTo world (Exec image steps) = FileComesTo world.held 0 image (BytesComeTo world.left steps)
 RequestComesTo world (Traces files choice) = FilesComeTo world.held files (TracesComeTo choice)
 RequestComesTo world (Bulk seed size choice steps) = TextsComeTo choice (SummaryComesTo steps) (bulk_text seed size ∷ [])
 RequestComesTo world Help = λ verdict. verdict ≡ Prints help_lines
@@ -102,13 +113,35 @@ InputUse (Some (Run files choice steps)) old new = Unit {0}
 InputUse (Some (Exec image steps)) old new = Unit {0}
 InputUse other old new = InputStays old new
 
+-- the files are as they were
+pub record FilesStay (old new : Devices) : Type 0 where
+  pub held : new.held ≡ old.held
+  pub faults : new.files_faults ≡ old.files_faults
+
+-- words that ask for no files touch none
+abbrev pub FilesUse : Option Asked → Devices → Devices → Type 0
+FilesUse None old new = FilesStay old new
+FilesUse (Some (Bulk seed size choice steps)) old new = FilesStay old new
+FilesUse (Some Help) old new = FilesStay old new
+FilesUse other old new = Unit {0}
+
+-- the machine came to no fault
+abbrev pub IsNoMachineFault : Cause → Type 0
+IsNoMachineFault (cause.MachineFault fault) = ⊥
+IsNoMachineFault other = Unit {0}
+
+-- only the machine that runs an image of a file may come to one
+abbrev pub FaultsOnlyInExec : Option Asked → Cause → Type 0
+FaultsOnlyInExec (Some (Exec image steps)) cause = Unit {0}
+FaultsOnlyInExec other cause = IsNoMachineFault cause
+
 ---- Names and texts
 
 -- the names of the files that a command reads, in the order of reading
 abbrev pub names_read : Option Asked → List (List ℕ)
 names_read None = []
 names_read (Some (Run files choice steps)) = files
-names_read (Some (Build out files choice)) = files
+names_read (Some (Build out files choice from)) = files ++ option_to_list from
 names_read (Some (Exec image steps)) = image ∷ []
 names_read (Some (Traces files choice)) = files
 names_read (Some (Bulk seed size choice steps)) = []
@@ -124,5 +157,6 @@ IsTextHeld held names number text = (name : List ℕ) × (slice_get names number
 
 -- the text of the module of this number: the one that is made, or the one that is held
 abbrev pub IsTextOf : Option Held → Option Asked → ℕ → List ℕ → Type 0
+IsTextOf held (Some (Build out files choice from)) = IsTextHeld held files
 IsTextOf held (Some (Bulk seed size choice steps)) = IsTextIn (bulk_text seed size ∷ [])
 IsTextOf held asked = IsTextHeld held (names_read asked)

@@ -1,6 +1,5 @@
 -- When two verdicts come to the same, and when nothing failed.
-use Rattle.std.specs.Prelude.{◌≡◌, Option, Some, None}
-use Rattle.trc_words.specs.Asked.{Asked, Exec, Help}
+use Rattle.std.specs.Prelude.{◌≡◌}
 use Rattle.trc_answers.specs.declared.causes.Device.{Device}
 use Rattle.trc_answers.specs.Verdict.{Verdict, Writes, cause_of, written_by}
 use Rattle.trc_answers.specs.Answers.{Failed, Devices}
@@ -20,10 +19,3 @@ pub record Alike (a b : Verdict) : Type 0 where
 -- no count of faults rose
 pub record NoneFailed (old new : Devices) : Type 0 where
   pub none : (device : Device) → Failed old new device → ⊥
-
--- what is asked for compiles nothing
-abbrev pub CompilesNothing : Option Asked → Type 0
-CompilesNothing None = Unit {0}
-CompilesNothing (Some (Exec image steps)) = Unit {0}
-CompilesNothing (Some Help) = Unit {0}
-CompilesNothing asked = ⊥

@@ -11,7 +11,7 @@ ghost use Rattle.trc_answers.specs.Verdict.{Prints};
 ghost use Rattle.trc_cli.specs.Commands.{IsTextIn, SummaryComesTo, TextsComeTo, count_line, counts_of, counts_text, summary_of};
 ghost use Rattle.trc_cli.specs.declared.bulk.Counts.{Counts};
 
-use crate::compiling::compile;
+use crate::compiling::{Scaffolds, compile, image_alone};
 use bulk_text::bulk_text;
 use items::Items;
 use memory_devices::MemSink;
@@ -77,10 +77,16 @@ fn summary(alloc: Global, counts: Counts, written: &[u8]) -> Result<Vec<u8>, All
 }
 
 // Runs an image on no input, and tells what came of it where it ends.
-fn run_and_tell<O: Sink>(alloc: Global, made: Compiled, steps: u64, out: &mut O) -> Cause
+fn run_and_tell<O: Sink>(
+    alloc: Global,
+    made: Compiled,
+    steps: u64,
+    out: &mut O,
+    scaffolds: Scaffolds,
+) -> Cause
     requires { IsInForm made.image }
     ensures answers { (held : Option Held) (faults : ℕ) (left : Option (List ℕ)) (input_faults : ℕ)
-        → Answers (SummaryComesTo steps made) (devices held faults left input_faults (O.account out.old))
+        → Answers (λ _. SummaryComesTo steps made) (devices held faults left input_faults (O.account out.old))
         (devices held faults left input_faults (O.account out.new)) result }
     ensures plain { IsPlain result }
     ensures rises { (O.account out.old).faults ≤ (O.account out.new).faults }
@@ -91,7 +97,7 @@ fn run_and_tell<O: Sink>(alloc: Global, made: Compiled, steps: u64, out: &mut O)
     };
     match run_on(
         alloc,
-        made.into_image(),
+        image_alone(made, scaffolds),
         Vec::new(alloc),
         steps,
         &mut written,
@@ -105,7 +111,7 @@ fn run_and_tell<O: Sink>(alloc: Global, made: Compiled, steps: u64, out: &mut O)
 // Tells what came of a run that ended.
 fn tell<O: Sink>(alloc: Global, counts: Counts, written: &[u8], out: &mut O) -> Cause
     ensures answers { (held : Option Held) (faults : ℕ) (left : Option (List ℕ)) (input_faults : ℕ)
-        → Answers (λ verdict. verdict ≡ Prints (summary_of counts written.now)) (devices held faults left input_faults (O.account out.old))
+        → Answers (λ _ verdict. verdict ≡ Prints (summary_of counts written.now)) (devices held faults left input_faults (O.account out.old))
         (devices held faults left input_faults (O.account out.new)) result }
     ensures plain { IsPlain result }
     ensures rises { (O.account out.old).faults ≤ (O.account out.new).faults }
@@ -126,11 +132,12 @@ pub(crate) fn bulk<R: Threads + Wait + AllocGlobal + Sync, O: Sink, G: Gate>(
     steps: u64,
     out: &mut O,
     gate: &G,
+    scaffolds: Scaffolds,
 ) -> Ending
     requires some { 1 ≤ size }
     requires choice { IsFitChoice choice.now }
     ensures answers { (held : Option Held) (faults : ℕ) (left : Option (List ℕ)) (input_faults : ℕ)
-        → Answers (TextsComeTo choice.now (SummaryComesTo steps) (bulk_text seed size ∷ []))
+        → Answers (λ _. TextsComeTo choice.now (SummaryComesTo steps) (bulk_text seed size ∷ []))
         (devices held faults left input_faults (O.account out.old)) (devices held faults left input_faults (O.account out.new)) result.cause }
     ensures placed { IsPlaced (IsTextIn (bulk_text seed size ∷ [])) result.cause result.place }
     ensures rises { (O.account out.old).faults ≤ (O.account out.new).faults }
@@ -139,7 +146,7 @@ pub(crate) fn bulk<R: Threads + Wait + AllocGlobal + Sync, O: Sink, G: Gate>(
         return Ending::of(Cause::Memory);
     };
     match compile(rt, choice, &[Items::from_vec(text)], gate) {
-        Ok(made) => Ending::of(run_and_tell(rt.alloc(), made, steps, out)),
+        Ok(made) => Ending::of(run_and_tell(rt.alloc(), made, steps, out, scaffolds)),
         Err(ending) => ending,
     }
 }

@@ -1,15 +1,16 @@
 //! The commands.
 
-ghost use Rattle.std.specs.Prelude.{◌≡◌, ◌≤◌, Some, map, IfOk};
+ghost use Rattle.std.specs.Prelude.{◌≡◌, ◌≤◌, ◌++◌, Some, map, option_map, option_to_list, IfOk};
 ghost use Rattle.trc_words.specs.Fitting.{Fits};
 ghost use Rattle.trc_words.specs.Requests.{plain};
 ghost use Rattle.trc_answers.specs.Answers.{Answers, devices};
 ghost use Rattle.trc_answers.specs.Causes.{IsPlaced};
-ghost use Rattle.trc_cli.specs.Commands.{InputUse, IsTextOf, RequestComesTo, names_read};
+ghost use Rattle.trc_cli.specs.Commands.{FilesUse, InputUse, IsTextOf, RequestComesTo, names_read};
 ghost use Rattle.trc_answers.specs.Verdict.{world};
 
-use crate::building::build;
+use crate::building::build_from;
 use crate::bulk::bulk;
+use crate::compiling::Scaffolds;
 use crate::running::run;
 use crate::tracing::traces;
 use outside::{Files, Gate, Sink, Source};
@@ -21,7 +22,22 @@ use trc_words::Request;
 
 /// The lines of `help`.
 const HELP: &[u8] =
-    b"trc run|build|traces|exec|bulk|help\n--policy --traces --regs --jobs --steps\n";
+    b"trc run|build|traces|exec|bulk|help\n--policy --traces --regs --jobs --steps --from\n";
+
+/// Some names, and one more where there is one.
+fn names_with<'a>(
+    alloc: Global,
+    names: &[&'a str],
+    last: Option<&'a str>,
+) -> Result<Vec<&'a str>, AllocError>
+    ensures { IfOk result (λ all. map (λ name. name.now) all.items ≡ map (λ name. name.now) names.now ++ option_to_list (option_map (λ name. name.now) last.entry)) }
+{
+    let mut all = Vec::from_slice(alloc, names)?;
+    if let Some(name) = last {
+        all.extend_from_slice(&[name])?;
+    }
+    Ok(all)
+}
 
 /// The names of the files that a command reads, in the order of reading.
 pub(crate) fn names_of<'a>(alloc: Global, request: &Request<'a>) -> Result<Vec<&'a str>, AllocError>
@@ -29,7 +45,7 @@ pub(crate) fn names_of<'a>(alloc: Global, request: &Request<'a>) -> Result<Vec<&
 {
     match request {
         Request::Run { files, .. } => Vec::from_slice(alloc, files.as_slice()),
-        Request::Build { files, .. } => Vec::from_slice(alloc, files.as_slice()),
+        Request::Build { files, from, .. } => names_with(alloc, files.as_slice(), *from),
         Request::Traces { files, .. } => Vec::from_slice(alloc, files.as_slice()),
         Request::Exec { image, .. } => Vec::from_slice(alloc, &[*image]),
         Request::Bulk { .. } => Ok(Vec::new(alloc)),
@@ -44,12 +60,23 @@ pub(crate) fn perform<
     I: Source,
     O: Sink,
     G: Gate,
->(rt: &R, request: &Request<'_>, files: &mut F, input: &mut I, out: &mut O, gate: &G) -> Ending
+>(
+    rt: &R,
+    request: &Request<'_>,
+    files: &mut F,
+    input: &mut I,
+    out: &mut O,
+    gate: &G,
+    scaffolds: Scaffolds,
+) -> Ending
     requires { Fits (plain request.now) }
-    ensures answers { Answers (RequestComesTo (world (F.held files.old) (I.left input.old)) (plain request.now))
+    ensures answers { Answers (λ left. RequestComesTo (world (F.held files.old) left) (plain request.now))
         (devices (F.held files.old) (F.faults files.old) (I.left input.old) (I.faults input.old) (O.account out.old))
         (devices (F.held files.new) (F.faults files.new) (I.left input.new) (I.faults input.new) (O.account out.new)) result.cause }
     ensures unread { InputUse (Some (plain request.now))
+        (devices (F.held files.old) (F.faults files.old) (I.left input.old) (I.faults input.old) (O.account out.old))
+        (devices (F.held files.new) (F.faults files.new) (I.left input.new) (I.faults input.new) (O.account out.new)) }
+    ensures untouched { FilesUse (Some (plain request.now))
         (devices (F.held files.old) (F.faults files.old) (I.left input.old) (I.faults input.old) (O.account out.old))
         (devices (F.held files.new) (F.faults files.new) (I.left input.new) (I.faults input.new) (O.account out.new)) }
     ensures placed { IsPlaced (IsTextOf (F.held files.old) (Some (plain request.now))) result.cause result.place }
@@ -71,12 +98,23 @@ pub(crate) fn perform<
             input,
             out,
             gate,
+            scaffolds,
         ),
         Request::Build {
             out: name,
             files: names,
             choice,
-        } => build(rt, name, names.as_slice(), choice, files, gate),
+            from,
+        } => build_from(
+            rt,
+            name,
+            names.as_slice(),
+            *from,
+            choice,
+            files,
+            gate,
+            scaffolds,
+        ),
         Request::Exec { image, steps } => {
             Ending::of(exec(rt.alloc(), image, *steps, files, input, out))
         }
@@ -89,7 +127,7 @@ pub(crate) fn perform<
             size,
             choice,
             steps,
-        } => bulk(rt, *seed, *size, choice, *steps, out, gate),
+        } => bulk(rt, *seed, *size, choice, *steps, out, gate, scaffolds),
         Request::Help => Ending::of(print(out, HELP)),
     }
 }

@@ -1,72 +1,89 @@
 //! Texts are compiled, or the command ends.
 
-ghost use Rattle.std.specs.Prelude.{◌≡◌, ◌≤◌, ℕ, List, Some, slice_get, IfOk, IfErr};
-ghost use Rattle.image_form.specs.Form.{IsInForm};
-ghost use Rattle.alloc_choice.specs.declared.choice.Choice.{Choice};
+ghost use Rattle.std.specs.Prelude.{◌≡◌, ◌<◌, ◌≤◌, length, IfOk, IfErr};
 ghost use Rattle.alloc_choice.specs.Choice.{IsFitChoice};
 ghost use Rattle.source_image.specs.Images.{IsImageOfTexts, AreTracesOfTexts};
-ghost use Rattle.source_image.specs.Refusals.{IsRefusal};
-ghost use Rattle.trc_answers.specs.Causes.{IsAt, IsPlaced};
+ghost use Rattle.source_image.specs.Refusals.{IsRefusal, IsRefusalOfTraces};
+ghost use Rattle.trc_answers.specs.Causes.{IsPlaced};
 ghost use Rattle.trc_answers.specs.declared.causes.Cause.TheVariants as cause;
-ghost use Rattle.trc_cli.specs.Commands.{IsRefusedAs, IsTextIn, cause_of_refusal};
+ghost use Rattle.trc_cli.specs.Commands.{IsRefusedAs, IsTextIn, NamesText, cause_of_refusal};
 
 use items::Items;
 use outside::Gate;
-use source_image::{Choice, Compiled, Refusal, source_image, source_traces};
+use source_image::{Choice, Compiled, Image, Refusal, source_image, source_traces};
 use std::alloc::{AllocGlobal, Global};
 use std::sync::Wait;
 use std::thread::Threads;
 use trc_answers::{Cause, Ending, position_of};
 
+/// What becomes of what an image was made on.
+#[derive(Clone, Copy)]
+pub(crate) enum Scaffolds {
+    /// It is let go, piece by piece.
+    LetGo,
+    /// It is left standing, in a process that ends soon.
+    LeftStanding,
+}
+
+/// The image alone.
+pub(crate) fn image_alone(made: Compiled, scaffolds: Scaffolds) -> Image
+    ensures { result ≡ made.image }
+{
+    match scaffolds {
+        Scaffolds::LetGo => {
+            let Compiled { image, .. } = made;
+            image
+        }
+        Scaffolds::LeftStanding => made.into_image(),
+    }
+}
+
 // A rule is broken in the text of this number, at this byte.
 fn broken(texts: &[Items<u8>], index: usize, number: u8, at: u32) -> Ending
+    requires few { length texts.now ≤ 64 }
+    requires there { index < length texts.now }
     ensures cause { result.cause ≡ cause.Source number index at }
-    ensures placed { (text : List ℕ) → slice_get texts.now index ≡ Some text → IsAt text at result.place }
+    ensures placed { IsPlaced (IsTextIn texts.now) result.cause result.place }
 {
-    let text = match texts.get(index) {
-        Some(text) => text.as_slice(),
-        None => b"",
-    };
     Ending {
         cause: Cause::Source {
             number,
-            module: index,
+            module: index as u32,
             at,
         },
-        place: position_of(text, at as usize),
+        place: position_of(texts[index].as_slice(), at as usize),
     }
 }
 
 /// How a command ends that compiles these texts, of which there is no image, or no traces.
 pub(crate) fn refused(texts: &[Items<u8>], refusal: Refusal) -> Ending
+    requires few { length texts.now ≤ 64 }
+    requires named { NamesText texts.now refusal }
     ensures cause { result.cause ≡ cause_of_refusal refusal }
-    ensures placed { (choice : Choice) → IsRefusal choice texts.now refusal → IsPlaced (IsTextIn texts.now) result.cause result.place }
+    ensures placed { IsPlaced (IsTextIn texts.now) result.cause result.place }
 {
     match refusal {
         Refusal::TooLong { module } => Ending::of(Cause::Limit {
             number: 55,
-            index: module,
+            index: module as u32,
         }),
         Refusal::Source { module, number, at } => broken(texts, module, number, at),
-        Refusal::Limit { number, index } => Ending::of(Cause::Limit {
-            number,
-            index: index as usize,
-        }),
+        Refusal::Limit { number, index } => Ending::of(Cause::Limit { number, index }),
         Refusal::Memory => Ending::of(Cause::Memory),
     }
 }
 
-/// The image of texts by a choice.
+/// The image of texts by a choice, of which there are at most 64.
 pub(crate) fn compile<R: Threads + Wait + AllocGlobal + Sync, G: Gate>(
     rt: &R,
     choice: &Choice,
     texts: &[Items<u8>],
     gate: &G,
 ) -> Result<Compiled, Ending>
-    requires { IsFitChoice choice.now }
+    requires choice { IsFitChoice choice.now }
+    requires few { length texts.now ≤ 64 }
     ensures image { IfOk result (IsImageOfTexts choice.now texts.now) }
-    ensures form { IfOk result (λ made. IsInForm made.image) }
-    ensures refused { IfErr result (λ ending. IsRefusedAs choice.now texts.now ending.cause) }
+    ensures refused { IfErr result (λ ending. IsRefusedAs (IsRefusal choice.now texts.now) ending.cause) }
     ensures placed { IfErr result (λ ending. IsPlaced (IsTextIn texts.now) ending.cause ending.place) }
 {
     match source_image(rt, rt.alloc(), choice, texts, gate) {
@@ -75,14 +92,15 @@ pub(crate) fn compile<R: Threads + Wait + AllocGlobal + Sync, G: Gate>(
     }
 }
 
-/// The lines that tell the traces of texts by a choice.
+/// The lines that tell the traces of texts by a choice, of which there are at most 64.
 pub(crate) fn trace_lines(
     alloc: Global,
     choice: &Choice,
     texts: &[Items<u8>],
 ) -> Result<Vec<u8>, Ending>
+    requires { length texts.now ≤ 64 }
     ensures lines { IfOk result (λ lines. AreTracesOfTexts choice.now texts.now lines.items) }
-    ensures refused { IfErr result (λ ending. IsRefusedAs choice.now texts.now ending.cause) }
+    ensures refused { IfErr result (λ ending. IsRefusedAs (IsRefusalOfTraces choice.now texts.now) ending.cause) }
     ensures placed { IfErr result (λ ending. IsPlaced (IsTextIn texts.now) ending.cause ending.place) }
 {
     match source_traces(alloc, choice, texts) {

@@ -1,21 +1,48 @@
-//! What the answers of the top call come to.
+//! What the clauses of the top call come to.
 
 ghost use Rattle.std.specs.Prelude.{◌≡◌, ◌⊎◌, ℕ, List, Option, Some};
 ghost use Rattle.outside.specs.Files.{Held};
-ghost use Rattle.trc_words.specs.Asked.{Asked};
+ghost use Rattle.alloc_choice.specs.declared.choice.Choice.{Choice};
+ghost use Rattle.trc_words.specs.Asked.{Asked, Run, Build, Exec};
 ghost use Rattle.trc_answers.specs.declared.causes.Cause.{Cause};
-ghost use Rattle.trc_answers.specs.Verdict.{Verdict, cause_of, world};
+ghost use Rattle.trc_answers.specs.Verdict.{Verdict, Writes, cause_of, world};
 ghost use Rattle.trc_answers.specs.Answers.{AllDone, Answers, Devices};
 ghost use Rattle.trc_cli.specs.Commands.{ComesTo};
-ghost use Rattle.trc_cli.specs.Laws.{Alike, CompilesNothing, NoneFailed};
+ghost use Rattle.trc_cli.specs.Laws.{Alike, NoneFailed};
+
+use text_laws::{
+    images_exclude_refusals, texts_have_one_image, texts_have_one_refusal,
+    texts_have_one_refusal_of_traces, texts_have_one_report, traces_exclude_refusals,
+};
 
 /// Where no count of faults rises, the answer is a cause that the words come to, with all of it done, unless memory ran out. Where
-/// files and input tell what they hold, words that compile nothing come to one thing at most: to one cause, one output and one
-/// file that is written.
+/// files and input tell what they hold, words come to one thing at most: to one cause, one output and one file that is written. This
+/// follows from the laws of texts, which are cited as calls that do nothing.
 pub fn answers_are_verdicts()
     ensures quiet { (asked : Option Asked) (old new : Devices) (cause : Cause) → NoneFailed old new
-        → Answers (ComesTo (world old.held old.left) asked) old new cause
+        → Answers (λ left. ComesTo (world old.held left) asked) old new cause
         → ((cause ≡ Cause.Memory) ⊎ ((verdict : Verdict) × ComesTo (world old.held old.left) asked verdict × (cause ≡ cause_of verdict) × AllDone old verdict new)) }
-    ensures once { (held : Held) (left : List ℕ) (asked : Option Asked) (a b : Verdict) → CompilesNothing asked
+    ensures once { (held : Held) (left : List ℕ) (asked : Option Asked) (a b : Verdict)
         → ComesTo (world (Some held) (Some left)) asked a → ComesTo (world (Some held) (Some left)) asked b → Alike a b }
-{}
+{
+    texts_have_one_image();
+    texts_have_one_refusal();
+    texts_have_one_refusal_of_traces();
+    texts_have_one_report();
+    images_exclude_refusals();
+    traces_exclude_refusals();
+}
+
+/// `exec` of what `build` wrote is `run` of the same files, by any choice with the same policy, builder and number of registers: where
+/// these tell what they hold, and the file that was written still holds that.
+pub fn exec_of_built_is_run()
+    ensures { (held later : Held) (left : List ℕ) (out bytes : List ℕ) (files : List (List ℕ)) (from : Option (List ℕ)) (choice other : Choice) (steps : ℕ) (ran executed : Verdict)
+        → choice.policy ≡ other.policy → choice.builder ≡ other.builder → choice.regs ≡ other.regs
+        → ComesTo (world (Some held) (Some left)) (Some (Build out files choice from)) (Writes out bytes)
+        → ComesTo (world (Some held) (Some left)) (Some (Run files other steps)) ran
+        → later out ≡ Some bytes → ComesTo (world (Some later) (Some left)) (Some (Exec out steps)) executed
+        → Alike ran executed }
+{
+    texts_have_one_image();
+    images_exclude_refusals();
+}

@@ -1,6 +1,6 @@
 //! Modules are compiled, and their image is run.
 
-ghost use Rattle.std.specs.Prelude.{◌≡◌, ◌≤◌, ℕ, Option, map};
+ghost use Rattle.std.specs.Prelude.{◌≡◌, ◌≤◌, ℕ, Option, length, map};
 ghost use Rattle.alloc_choice.specs.Choice.{IsFitChoice};
 ghost use Rattle.outside.specs.Files.{Held};
 ghost use Rattle.trc_answers.specs.Answers.{Answers, devices};
@@ -9,7 +9,7 @@ ghost use Rattle.trc_answers.specs.Reading.{FilesComeTo};
 ghost use Rattle.trc_answers.specs.Verdict.{ImageComesTo};
 ghost use Rattle.trc_cli.specs.Commands.{IsTextHeld, IsTextIn, TextsComeTo};
 
-use crate::compiling::compile;
+use crate::compiling::{Scaffolds, compile, image_alone};
 use items::Items;
 use outside::{Files, Gate, Sink, Source};
 use source_image::Choice;
@@ -27,10 +27,12 @@ fn run_texts<R: Threads + Wait + AllocGlobal + Sync, I: Source, O: Sink, G: Gate
     input: &mut I,
     out: &mut O,
     gate: &G,
+    scaffolds: Scaffolds,
 ) -> Ending
-    requires { IsFitChoice choice.now }
+    requires choice { IsFitChoice choice.now }
+    requires few { length texts.now ≤ 64 }
     ensures answers { (held : Option Held) (faults : ℕ)
-        → Answers (TextsComeTo choice.now (λ made. ImageComesTo (I.left input.old) steps made.image) texts.now)
+        → Answers (λ left. TextsComeTo choice.now (λ made. ImageComesTo left steps made.image) texts.now)
         (devices held faults (I.left input.old) (I.faults input.old) (O.account out.old))
         (devices held faults (I.left input.new) (I.faults input.new) (O.account out.new)) result.cause }
     ensures placed { IsPlaced (IsTextIn texts.now) result.cause result.place }
@@ -38,7 +40,10 @@ fn run_texts<R: Threads + Wait + AllocGlobal + Sync, I: Source, O: Sink, G: Gate
     ensures out_rises { (O.account out.old).faults ≤ (O.account out.new).faults }
 {
     match compile(rt, choice, texts, gate) {
-        Ok(made) => Ending::of(run_image(rt.alloc(), made.into_image(), steps, input, out)),
+        Ok(made) => {
+            let image = image_alone(made, scaffolds);
+            Ending::of(run_image(rt.alloc(), image, steps, input, out))
+        }
         Err(ending) => ending,
     }
 }
@@ -53,10 +58,11 @@ pub(crate) fn run<R: Threads + Wait + AllocGlobal + Sync, F: Files, I: Source, O
     input: &mut I,
     out: &mut O,
     gate: &G,
+    scaffolds: Scaffolds,
 ) -> Ending
     requires { IsFitChoice choice.now }
-    ensures answers { Answers (FilesComeTo (F.held files.old) (map (λ name. name.now) names.now)
-        (TextsComeTo choice.now (λ made. ImageComesTo (I.left input.old) steps made.image)))
+    ensures answers { Answers (λ left. FilesComeTo (F.held files.old) (map (λ name. name.now) names.now)
+        (TextsComeTo choice.now (λ made. ImageComesTo left steps made.image)))
         (devices (F.held files.old) (F.faults files.old) (I.left input.old) (I.faults input.old) (O.account out.old))
         (devices (F.held files.new) (F.faults files.new) (I.left input.new) (I.faults input.new) (O.account out.new)) result.cause }
     ensures placed { IsPlaced (IsTextHeld (F.held files.old) (map (λ name. name.now) names.now)) result.cause result.place }
@@ -65,7 +71,16 @@ pub(crate) fn run<R: Threads + Wait + AllocGlobal + Sync, F: Files, I: Source, O
     ensures out_rises { (O.account out.old).faults ≤ (O.account out.new).faults }
 {
     match read_texts(rt.alloc(), names, files) {
-        Ok(texts) => run_texts(rt, texts.as_slice(), choice, steps, input, out, gate),
+        Ok(texts) => run_texts(
+            rt,
+            texts.as_slice(),
+            choice,
+            steps,
+            input,
+            out,
+            gate,
+            scaffolds,
+        ),
         Err(cause) => Ending::of(cause),
     }
 }

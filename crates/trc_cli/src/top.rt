@@ -7,10 +7,12 @@ ghost use Rattle.trc_words.specs.Requests.{plain};
 ghost use Rattle.trc_answers.specs.Causes.{status_of, line_of, TookLine};
 ghost use Rattle.trc_answers.specs.Verdict.{world};
 ghost use Rattle.trc_answers.specs.Answers.{Answers, devices};
-ghost use Rattle.trc_cli.specs.Commands.{ComesTo, InputUse, RequestComesTo};
+ghost use Rattle.trc_cli.specs.Commands.{ComesTo, FaultsOnlyInExec, FilesUse, InputUse};
+ghost use Rattle.trc_cli.specs.Did.{Did};
 ghost use Rattle.trc_cli.specs.Lines.{IsTold};
 
 use crate::commands::{names_of, perform};
+use crate::compiling::Scaffolds;
 use outside::{Files, Gate, Sink, Source};
 use std::alloc::AllocGlobal;
 use std::sync::Wait;
@@ -49,16 +51,13 @@ fn perform_and_tell<
     out: &mut O,
     err: &mut E,
     gate: &G,
+    scaffolds: Scaffolds,
 ) -> Outcome
     requires { Fits (plain request.now) }
-    ensures answers { Answers (RequestComesTo (world (F.held files.old) (I.left input.old)) (plain request.now))
+    ensures did { Did (Some (plain request.now))
         (devices (F.held files.old) (F.faults files.old) (I.left input.old) (I.faults input.old) (O.account out.old))
-        (devices (F.held files.new) (F.faults files.new) (I.left input.new) (I.faults input.new) (O.account out.new)) result.cause }
-    ensures unread { InputUse (Some (plain request.now))
-        (devices (F.held files.old) (F.faults files.old) (I.left input.old) (I.faults input.old) (O.account out.old))
-        (devices (F.held files.new) (F.faults files.new) (I.left input.new) (I.faults input.new) (O.account out.new)) }
-    ensures status { result.status ≡ status_of result.cause }
-    ensures told { IsTold (F.held files.old) (Some (plain request.now)) (E.account err.old) (E.account err.new) result.cause }
+        (devices (F.held files.new) (F.faults files.new) (I.left input.new) (I.faults input.new) (O.account out.new))
+        (E.account err.old) (E.account err.new) result }
     ensures files_rise { F.faults files.old ≤ F.faults files.new }
     ensures input_rises { I.faults input.old ≤ I.faults input.new }
     ensures out_rises { (O.account out.old).faults ≤ (O.account out.new).faults }
@@ -67,20 +66,56 @@ fn perform_and_tell<
     let Ok(names) = names_of(rt.alloc(), request) else {
         return finish(err, Ending::of(Cause::Memory), &[]);
     };
-    let ending = perform(rt, request, files, input, out, gate);
+    let ending = perform(rt, request, files, input, out, gate, scaffolds);
     finish(err, ending, names.as_slice())
+}
+
+/// Does what the words ask for, those behind the program's name, with what images were made on let go or left standing.
+pub(crate) fn call<
+    R: Threads + Wait + AllocGlobal + Sync,
+    F: Files,
+    I: Source,
+    O: Sink,
+    E: Sink,
+    G: Gate,
+>(
+    rt: &R,
+    words: &[String],
+    files: &mut F,
+    input: &mut I,
+    out: &mut O,
+    err: &mut E,
+    gate: &G,
+    scaffolds: Scaffolds,
+) -> Outcome
+    ensures did { Did (asked (map string_bytes words.now))
+        (devices (F.held files.old) (F.faults files.old) (I.left input.old) (I.faults input.old) (O.account out.old))
+        (devices (F.held files.new) (F.faults files.new) (I.left input.new) (I.faults input.new) (O.account out.new))
+        (E.account err.old) (E.account err.new) result }
+    ensures files_rise { F.faults files.old ≤ F.faults files.new }
+    ensures input_rises { I.faults input.old ≤ I.faults input.new }
+    ensures out_rises { (O.account out.old).faults ≤ (O.account out.new).faults }
+    ensures err_rises { (E.account err.old).faults ≤ (E.account err.new).faults }
+{
+    match read_words(rt.alloc(), words) {
+        Ok(request) => perform_and_tell(rt, &request, files, input, out, err, gate, scaffolds),
+        Err(WordsFault::Usage) => finish(err, Ending::of(Cause::Usage), &[]),
+        Err(WordsFault::Memory) => finish(err, Ending::of(Cause::Memory), &[]),
+    }
 }
 
 /// Does what the words ask for, those behind the program's name:
 ///
 /// - `run FILE {FILE}` compiles the modules and runs their image on `out`;
-/// - `build OUT FILE {FILE}` compiles the modules and writes the image to OUT;
+/// - `build OUT FILE {FILE}` compiles the modules and writes the image to OUT; with `--from IMAGE` only where the file IMAGE
+///   holds the same image in version 1;
 /// - `traces FILE {FILE}` tells the traces of the modules' procedures;
 /// - `exec IMAGE` runs the image that the file holds;
 /// - `bulk SEED SIZE` makes a module of SIZE procedures, compiles and runs it, and tells what came of it;
 /// - `help` tells the commands;
 ///
-/// with the options `--policy`, `--traces`, `--regs`, `--jobs` and `--steps`. One line is written to `err` for each cause but Done.
+/// with the options `--policy`, `--traces`, `--regs`, `--jobs` and `--steps`. One line is written to `err` for each cause but Done. All
+/// memory that was taken is let go.
 pub fn trc<R: Threads + Wait + AllocGlobal + Sync, F: Files, I: Source, O: Sink, E: Sink, G: Gate>(
     rt: &R,
     words: &[String],
@@ -90,12 +125,21 @@ pub fn trc<R: Threads + Wait + AllocGlobal + Sync, F: Files, I: Source, O: Sink,
     err: &mut E,
     gate: &G,
 ) -> Outcome
-    ensures answers { Answers (ComesTo (world (F.held files.old) (I.left input.old)) (asked (map string_bytes words.now)))
+    // a cause that the words come to, with all done; a fault of a device, which is named; or want of memory
+    ensures answers { Answers (λ left. ComesTo (world (F.held files.old) left) (asked (map string_bytes words.now)))
         (devices (F.held files.old) (F.faults files.old) (I.left input.old) (I.faults input.old) (O.account out.old))
         (devices (F.held files.new) (F.faults files.new) (I.left input.new) (I.faults input.new) (O.account out.new)) result.cause }
+
+    // which devices a command leaves alone, and which causes are never its own
     ensures unread { InputUse (asked (map string_bytes words.now))
         (devices (F.held files.old) (F.faults files.old) (I.left input.old) (I.faults input.old) (O.account out.old))
         (devices (F.held files.new) (F.faults files.new) (I.left input.new) (I.faults input.new) (O.account out.new)) }
+    ensures untouched { FilesUse (asked (map string_bytes words.now))
+        (devices (F.held files.old) (F.faults files.old) (I.left input.old) (I.faults input.old) (O.account out.old))
+        (devices (F.held files.new) (F.faults files.new) (I.left input.new) (I.faults input.new) (O.account out.new)) }
+    ensures no_fault { FaultsOnlyInExec (asked (map string_bytes words.now)) result.cause }
+
+    // the status and the line of the cause
     ensures status { result.status ≡ status_of result.cause }
     ensures told { IsTold (F.held files.old) (asked (map string_bytes words.now)) (E.account err.old) (E.account err.new) result.cause }
     ensures files_rise { F.faults files.old ≤ F.faults files.new }
@@ -103,9 +147,5 @@ pub fn trc<R: Threads + Wait + AllocGlobal + Sync, F: Files, I: Source, O: Sink,
     ensures out_rises { (O.account out.old).faults ≤ (O.account out.new).faults }
     ensures err_rises { (E.account err.old).faults ≤ (E.account err.new).faults }
 {
-    match read_words(rt.alloc(), words) {
-        Ok(request) => perform_and_tell(rt, &request, files, input, out, err, gate),
-        Err(WordsFault::Usage) => finish(err, Ending::of(Cause::Usage), &[]),
-        Err(WordsFault::Memory) => finish(err, Ending::of(Cause::Memory), &[]),
-    }
+    call(rt, words, files, input, out, err, gate, Scaffolds::LetGo)
 }

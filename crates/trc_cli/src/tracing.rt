@@ -1,6 +1,6 @@
 //! Modules are compiled as far as their traces, which are told.
 
-ghost use Rattle.std.specs.Prelude.{◌≡◌, ◌≤◌, ℕ, List, Option, map};
+ghost use Rattle.std.specs.Prelude.{◌≡◌, ◌≤◌, ℕ, List, Option, length, map};
 ghost use Rattle.outside.specs.Files.{Held};
 ghost use Rattle.trc_answers.specs.Answers.{Answers, devices};
 ghost use Rattle.trc_answers.specs.Causes.{IsPlaced};
@@ -16,8 +16,9 @@ use trc_answers::{Ending, print, read_texts};
 
 // Tells the traces of texts.
 fn trace_texts<O: Sink>(alloc: Global, texts: &[Items<u8>], choice: &Choice, out: &mut O) -> Ending
+    requires { length texts.now ≤ 64 }
     ensures answers { (held : Option Held) (faults : ℕ) (left : Option (List ℕ)) (input_faults : ℕ)
-        → Answers (TracesComeTo choice.now texts.now)
+        → Answers (λ _. TracesComeTo choice.now texts.now)
         (devices held faults left input_faults (O.account out.old))
         (devices held faults left input_faults (O.account out.new)) result.cause }
     ensures placed { IsPlaced (IsTextIn texts.now) result.cause result.place }
@@ -38,7 +39,7 @@ pub(crate) fn traces<F: Files, O: Sink>(
     out: &mut O,
 ) -> Ending
     ensures answers { (left : Option (List ℕ)) (input_faults : ℕ)
-        → Answers (FilesComeTo (F.held files.old) (map (λ name. name.now) names.now) (TracesComeTo choice.now))
+        → Answers (λ _. FilesComeTo (F.held files.old) (map (λ name. name.now) names.now) (TracesComeTo choice.now))
         (devices (F.held files.old) (F.faults files.old) left input_faults (O.account out.old))
         (devices (F.held files.new) (F.faults files.new) left input_faults (O.account out.new)) result.cause }
     ensures placed { IsPlaced (IsTextHeld (F.held files.old) (map (λ name. name.now) names.now)) result.cause result.place }

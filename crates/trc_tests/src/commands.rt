@@ -3,9 +3,7 @@
 
 ghost use Rattle.std.specs.Prelude.{◌<◌, ◌≤◌, length};
 
-use image_file::write_image;
-use image_form::{Bytes, Image, Words};
-use std::alloc::AllocGlobal;
+use std::alloc::{AllocError, AllocGlobal, Global};
 use std::process::Abort;
 use std::sync::Wait;
 use std::test::Fail;
@@ -233,7 +231,7 @@ fn words_and_files_are_refused(rt: HostRuntime) -> Result<(), Fail> {
     wants(&rt, &["exec", "Missing.Mod"], &mut files, b"", missing)?;
     let help = Wanted {
         status: 0,
-        out: "trc run|build|traces|exec|bulk|help\n--policy --traces --regs --jobs --steps\n",
+        out: "trc run|build|traces|exec|bulk|help\n--policy --traces --regs --jobs --steps --from\n",
         err: "",
     };
     wants(&rt, &["help"], &mut files, b"", help)
@@ -349,21 +347,28 @@ fn devices_fail(rt: HostRuntime) -> Result<(), Fail> {
     Ok(())
 }
 
+/// The bytes of an image without constants: the numbers of its header, its code words, and the numbers of its places.
+fn image_file(
+    alloc: Global,
+    header: &[u32],
+    words: &[u32],
+    places: &[u32],
+) -> Result<Vec<u8>, AllocError> {
+    let mut bytes = Vec::from_slice(alloc, b"TRC64IMG")?;
+    for numbers in [header, words, places] {
+        for number in numbers {
+            bytes.extend_from_slice(&number.to_le_bytes())?;
+        }
+    }
+    Ok(bytes)
+}
+
 /// Files with an image of these code words; it reads the input where the flag says so.
 fn with_words<R: AllocGlobal>(rt: &R, flags: u32, words: &[u32]) -> Result<MemFiles, Fail>
-    requires flags { flags < 2 }
-    requires some { 1 ≤ length words.now }
-    requires few { length words.now ≤ 262144 }
+    requires { length words.now ≤ 262144 }
 {
-    let image = Image {
-        version: 1,
-        flags,
-        code: Words::new(Vec::from_slice(rt.alloc(), words)?),
-        globals: 0,
-        constants: Bytes::new(Vec::new(rt.alloc())),
-        frame: 0,
-    };
-    let bytes = write_image(rt.alloc(), &image)?;
+    let header = [1, flags, words.len() as u32, 0, 0, 0];
+    let bytes = image_file(rt.alloc(), &header, words, &[])?;
     let mut files = MemFiles::new(rt.alloc(), Vec::new(rt.alloc()));
     files.put("A", bytes.as_slice())?;
     Ok(files)
@@ -452,20 +457,27 @@ const WORDS: [u32; 64] = [
     0xD2800140, 0xF90017E0, 0xF94017E0, 0xD4000021, 0xF94003FE, 0x914003FF, 0x9100C3FF, 0xD65F03C0,
 ];
 
+/// The file of that image.
+fn second_image(alloc: Global) -> Result<Vec<u8>, AllocError> {
+    image_file(
+        alloc,
+        &[2, 0, 64, 8, 0, 48, 1],
+        WORDS.as_slice(),
+        &[40, 0, 1],
+    )
+}
+
+/// The file of that image in version 1.
+fn first_image(alloc: Global) -> Result<Vec<u8>, AllocError> {
+    image_file(alloc, &[1, 0, 64, 8, 0, 48], WORDS.as_slice(), &[])
+}
+
 #[test]
 fn an_image_has_so_many_words_and_steps(rt: HostRuntime) -> Result<(), Fail> {
     let mut files = answer(&rt, Vec::new(rt.alloc()))?;
     let plain = ["build", "A", "M.Mod", "--policy", "plain"];
     wants(&rt, &plain, &mut files, b"", refused(0, ""))?;
-    let image = Image {
-        version: 1,
-        flags: 0,
-        code: Words::new(Vec::from_slice(rt.alloc(), WORDS.as_slice())?),
-        globals: 8,
-        constants: Bytes::new(Vec::new(rt.alloc())),
-        frame: 48,
-    };
-    let bytes = write_image(rt.alloc(), &image)?;
+    let bytes = second_image(rt.alloc())?;
     let built = files.read(rt.alloc(), "A", 1000)?;
     assert_eq!(rt; built.as_slice(), bytes.as_slice());
     for (steps, status, err) in [("26", 0, ""), ("25", 7, "trc: steps spent\n")] {
@@ -483,6 +495,136 @@ fn an_image_has_so_many_words_and_steps(rt: HostRuntime) -> Result<(), Fail> {
         )?;
     }
     Ok(())
+}
+
+/// Builds the module anew from the image in the file E, and looks at how the call ended and at what the file O holds.
+fn builds_anew<R: Threads + Wait + AllocGlobal + Sync + Abort>(
+    rt: &R,
+    from: &[u8],
+    wanted: Wanted<'_>,
+) -> Result<(), Fail> {
+    let mut files = answer(rt, Vec::new(rt.alloc()))?;
+    files.put("E", from)?;
+    files.put("O", b"before")?;
+    let plain = ["build", "O", "M.Mod", "--policy", "plain", "--from", "E"];
+    wants(rt, &plain, &mut files, b"", wanted)?;
+    let built = files.read(rt.alloc(), "O", 1000)?;
+    if wanted.status == 0 {
+        let second = second_image(rt.alloc())?;
+        assert_eq!(rt; built.as_slice(), second.as_slice());
+    } else {
+        assert_eq!(rt; built.as_slice(), b"before".as_slice());
+    }
+    Ok(())
+}
+
+#[test]
+fn images_of_version_1_are_built_anew(rt: HostRuntime) -> Result<(), Fail> {
+    let first = first_image(rt.alloc())?;
+    builds_anew(&rt, &first, refused(0, ""))?;
+    let second = second_image(rt.alloc())?;
+    let other = refused(8, "trc: other image at 8\n");
+    builds_anew(&rt, &second, other)?;
+    let last = refused(8, "trc: other image at 287\n");
+    builds_anew(&rt, &first[..first.len().saturating_sub(1)], last)?;
+    let mut longer = Vec::from_slice(rt.alloc(), &first)?;
+    longer.push(0)?;
+    let length = refused(8, "trc: other image at 288\n");
+    builds_anew(&rt, &longer, length)?;
+    let mut changed = Vec::from_slice(rt.alloc(), &first)?;
+    if let Some(byte) = changed.get_mut(287) {
+        *byte = 0;
+    }
+    builds_anew(&rt, &changed, last)?;
+    builds_anew(&rt, b"", refused(8, "trc: other image at 0\n"))
+}
+
+#[test]
+fn an_image_is_built_anew_in_its_place(rt: HostRuntime) -> Result<(), Fail> {
+    let mut files = answer(&rt, Vec::new(rt.alloc()))?;
+    let first = first_image(rt.alloc())?;
+    files.put("E", &first)?;
+    let plain = ["build", "E", "M.Mod", "--policy", "plain", "--from", "E"];
+    wants(&rt, &plain, &mut files, b"", refused(0, ""))?;
+    let second = second_image(rt.alloc())?;
+    let built = files.read(rt.alloc(), "E", 1000)?;
+    assert_eq!(rt; built.as_slice(), second.as_slice());
+    let other = refused(8, "trc: other image at 8\n");
+    wants(&rt, &plain, &mut files, b"", other)?;
+    let missing = refused(4, "trc: no file F\n");
+    let lacking = ["build", "O", "M.Mod", "--from", "F"];
+    wants(&rt, &lacking, &mut files, b"", missing)
+}
+
+// The image is read before the modules are compiled.
+#[test]
+fn a_long_image_is_told_before_a_fault(rt: HostRuntime) -> Result<(), Fail> {
+    let mut files = MemFiles::new(rt.alloc(), Vec::new(rt.alloc()));
+    files.put("M.Mod", b"MODULE M; BEGIN x END M.")?;
+    files.put("E", &vec![in rt.alloc(); 0u8; 16_777_216]?)?;
+    let words = ["build", "O", "M.Mod", "--from", "E"];
+    let unknown = refused(2, "trc: M.Mod:1:17: error 30 Unknown\n");
+    wants(&rt, &words, &mut files, b"", unknown)?;
+    files.put("E", &vec![in rt.alloc(); 0u8; 16_777_217]?)?;
+    let long = refused(8, "trc: not an image: 65 at 16777216\n");
+    wants(&rt, &words, &mut files, b"", long)?;
+    wants(&rt, &["exec", "E"], &mut files, b"", long)
+}
+
+/// A module with a procedure for each trap, each on a line of its own.
+const TRAPS: &str = "MODULE T;
+TYPE A = RECORD END; B = RECORD (A) END; PA = POINTER TO A; PB = POINTER TO B; PX = POINTER TO RECORD x: INTEGER END;
+  PH = POINTER TO RECORD h: ARRAY 1048576 OF CHAR END;
+VAR i: INTEGER; y: BYTE; s: SET; a: ARRAY 3 OF INTEGER; t: ARRAY 3 OF CHAR;
+PROCEDURE Index*; BEGIN a[i + 3] := 1 END Index;
+PROCEDURE Nil*; VAR p: PX; BEGIN p := NIL; p.x := 1 END Nil;
+PROCEDURE Guard*; VAR p: PA; q: PB; BEGIN NEW(p); q := p(PB) END Guard;
+PROCEDURE Divisor*; BEGIN i := 7 DIV i END Divisor;
+PROCEDURE Assert*; BEGIN ASSERT(i # 0) END Assert;
+PROCEDURE Case*; BEGIN CASE i OF 1: END END Case;
+PROCEDURE Element*; BEGIN INCL(s, i + 64) END Element;
+PROCEDURE Depth*; BEGIN Depth END Depth;
+PROCEDURE Large; VAR c: ARRAY 1048576 OF CHAR; BEGIN Large END Large;
+PROCEDURE Local*; BEGIN Large END Local;
+PROCEDURE Heap*; VAR p: PH; BEGIN WHILE TRUE DO NEW(p) END END Heap;
+PROCEDURE Range*; BEGIN i := 256; y := i END Range;
+PROCEDURE Fill(VAR c: ARRAY OF CHAR); BEGIN c := \"abc\" END Fill;
+PROCEDURE Copy*; BEGIN Fill(t) END Copy;
+END T.
+";
+
+/// Each trap: the procedure that is called, and the line that tells it.
+const TOLD: [(&str, &str); 12] = [
+    ("Index", "trc: trap 1 in module 0 line 5\n"),
+    ("Nil", "trc: trap 2 in module 0 line 6\n"),
+    ("Guard", "trc: trap 3 in module 0 line 7\n"),
+    ("Divisor", "trc: trap 4 in module 0 line 8\n"),
+    ("Assert", "trc: trap 5 in module 0 line 9\n"),
+    ("Case", "trc: trap 6 in module 0 line 10\n"),
+    ("Element", "trc: trap 7 in module 0 line 11\n"),
+    ("Depth", "trc: trap 8 in module 0 line 12\n"),
+    ("Local", "trc: trap 9 in module 0 line 13\n"),
+    ("Heap", "trc: trap 10 in module 0 line 15\n"),
+    ("Range", "trc: trap 11 in module 0 line 16\n"),
+    ("Copy", "trc: trap 12 in module 0 line 17\n"),
+];
+
+#[test]
+fn traps_name_their_procedures(rt: HostRuntime) -> Result<(), Fail> {
+    for (name, line) in TOLD {
+        let mut files = MemFiles::new(rt.alloc(), Vec::new(rt.alloc()));
+        files.put("T.Mod", TRAPS.as_bytes())?;
+        let text = format!(in rt.alloc(); "MODULE M; IMPORT T; BEGIN T.{name} END M.")?;
+        files.put("M.Mod", text.as_bytes())?;
+        let wanted = refused(6, line);
+        wants(&rt, &["run", "T.Mod", "M.Mod"], &mut files, b"", wanted)?;
+    }
+    is_refused(
+        &rt,
+        "Out.Int(7 DIV 0, 0)",
+        6,
+        "trc: trap 4 in module 0 line 1\n",
+    )
 }
 
 /// Two modules, the second of which imports the first, and one that writes what it mustn't.

@@ -129,7 +129,7 @@ build_fits rows =
     given_holds Any Fits (first_of (codes "OUT") rows) _ (λ _ _. tt) (λ out _.
     given_holds IsFull Fits (files_in rows) _ (files_hold rows) (λ files f.
     given_holds IsFitChoice Fits (choice_in rows) _ (choice_holds rows) (λ choice c.
-    some_holds Fits (Build out files choice) (f, c))))
+    some_holds Fits (Build out files choice (first_of (codes "from") rows)) (f, c))))
 
 exec_fits : (rows : List Row) → Holds Fits (exec_asked rows)
 exec_fits rows =

@@ -10,7 +10,7 @@ use Rattle.trc_words.specs.Options.{choice_in, given, steps_in, traces_choice_in
 
 pub data Asked : Type 0 where
   Run : (files : List (List ℕ)) (choice : Choice) (steps : ℕ) → Asked
-  Build : (out : List ℕ) (files : List (List ℕ)) (choice : Choice) → Asked
+  Build : (out : List ℕ) (files : List (List ℕ)) (choice : Choice) (from : Option (List ℕ)) → Asked
   Exec : (image : List ℕ) (steps : ℕ) → Asked
   Traces : (files : List (List ℕ)) (choice : Choice) → Asked
   Bulk : (seed size : ℕ) (choice : Choice) (steps : ℕ) → Asked
@@ -39,7 +39,7 @@ run_asked rows =
 abbrev pub build_asked : List Row → Option Asked
 build_asked rows =
     given (first_of (codes "OUT") rows) (λ out.
-    given (files_in rows) (λ files. given (choice_in rows) (λ choice. Some (Build out files choice))))
+    given (files_in rows) (λ files. given (choice_in rows) (λ choice. Some (Build out files choice (first_of (codes "from") rows)))))
 
 abbrev pub exec_asked : List Row → Option Asked
 exec_asked rows =

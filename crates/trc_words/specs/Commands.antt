@@ -43,9 +43,9 @@ with_run app = with_option (with_choice app) (codes "steps")
 abbrev pub run_command : App
 run_command = with_run (with_files (new_app (codes "run")))
 
--- build OUT FILE {FILE} [--policy NAME] [--traces NAME] [--regs N] [--jobs N]
+-- build OUT FILE {FILE} [--policy NAME] [--traces NAME] [--regs N] [--jobs N] [--from IMAGE]
 abbrev pub build_command : App
-build_command = with_choice (with_files (with_argument (new_app (codes "build")) (codes "OUT")))
+build_command = with_option (with_choice (with_files (with_argument (new_app (codes "build")) (codes "OUT")))) (codes "from")
 
 -- exec IMAGE [--steps N]
 abbrev pub exec_command : App

@@ -1,5 +1,5 @@
 -- A request, as what words ask for.
-use Rattle.std.specs.Prelude.{◌≡◌, ℕ, List, map, Option, Some, None, Result, Ok, Err}
+use Rattle.std.specs.Prelude.{◌≡◌, ℕ, List, map, option_map, Option, Some, None, Result, Ok, Err}
 use Rattle.std.specs.Borrow.{Bor}
 use Rattle.trc_words.specs.Asked.{Asked}
 use Rattle.trc_words.specs.Asked as asked
@@ -15,7 +15,7 @@ texts list = map (λ text. text.now) list
 -- what a request asks for
 abbrev pub plain : Request → Asked
 plain (Run files choice steps) = asked.Run (texts files.items) choice steps
-plain (Build out files choice) = asked.Build out.now (texts files.items) choice
+plain (Build out files choice from) = asked.Build out.now (texts files.items) choice (option_map (λ text. text.now) from)
 plain (Exec image steps) = asked.Exec image.now steps
 plain (Traces files choice) = asked.Traces (texts files.items) choice
 plain (Bulk seed size choice steps) = asked.Bulk seed size choice steps

@@ -22,11 +22,13 @@ pub enum Request<'a> {
         choice: Choice,
         steps: u64,
     },
-    /// Compile files, and write their image to the file `out`.
+    /// Compile files, and write their image to the file `out`. Where the file `from` is named, it has to hold the image that
+    /// the same files have in version 1.
     Build {
         out: &'a str,
         files: Vec<&'a str>,
         choice: Choice,
+        from: Option<&'a str>,
     },
     /// Run the image that a file holds.
     Exec {

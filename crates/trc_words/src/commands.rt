@@ -32,13 +32,14 @@ fn run_command<'a>(alloc: Global) -> Result<Command<'a>, AllocError>
     with_run(alloc, command)
 }
 
-/// `build OUT FILE {FILE}`, with the options of compiling
+/// `build OUT FILE {FILE} [--from IMAGE]`, with the options of compiling
 fn build_command<'a>(alloc: Global) -> Result<Command<'a>, AllocError>
     ensures { IfOk result (λ command. app_of command ≡ build_command) }
 {
     let command = with_argument(alloc, Command::new(alloc, "build"), "OUT")?;
     let command = with_files(alloc, command)?;
-    with_choice(alloc, command)
+    let command = with_choice(alloc, command)?;
+    with_option(alloc, command, "from")
 }
 
 /// `exec IMAGE [--steps N]`

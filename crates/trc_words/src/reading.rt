@@ -59,7 +59,12 @@ fn build_request<'a>(alloc: Global, matches: &ArgMatches<'a>) -> Result<Request<
     let out = value(matches, "OUT").ok_or(WordsFault::Usage)?;
     let files = files(alloc, matches)?;
     let choice = choice(matches).ok_or(WordsFault::Usage)?;
-    Ok(Request::Build { out, files, choice })
+    Ok(Request::Build {
+        out,
+        files,
+        choice,
+        from: value(matches, "from"),
+    })
 }
 
 /// What the matches of `exec` ask for.

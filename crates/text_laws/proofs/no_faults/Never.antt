@@ -1,5 +1,10 @@
 -- What a program means corresponds to no fault of the machine.
-use Rattle.std.proofs.Common.{◌≡◌, ℕ, List, length}
+use Rattle.std.proofs.Common.{◌≡◌, ◌<◌, ◌^◌, ℕ, zero, suc, List, [], ◌∷◌, length, Bool, true, false, ◌&&◌, refl, arith}
+use Rattle.std.specs.Prelude.{get_or, nat_lt}
+use Rattle.std.proofs.lemmas.Bool.{lt-ltb}
+use Rattle.a64_memory.specs.Memory.{AreBytes}
+use Rattle.ob_types.specs.Forms.{all}
+use Rattle.lowered_runs.specs.Words.{AreInput}
 use Rattle.run_laws.specs.Runs.{Trapped}
 use Rattle.run_laws.proofs.Agreement.{trap_never}
 use Rattle.image_form.specs.declared.image.Image.{Image}
@@ -12,23 +17,41 @@ use Rattle.linked_flows.specs.Allocations.{Cut}
 use Rattle.placed_code.specs.Placed.{Placed}
 use Rattle.compiled_runs.specs.Compiled.{Means, placed_of, same_break}
 use Rattle.trc_answers.specs.Runs.{run_of}
+use Rattle.alloc_choice.specs.declared.choice.Choice.{Choice}
+use Rattle.program_image.specs.declared.imaging.Compiled.{Compiled}
+use Rattle.source_image.specs.Images.{IsImageOfTexts}
 use Rattle.text_laws.specs.no_faults.Faults.{IsBreak}
 
-no_undefined : (ps : List Placed) (word : ℕ) (mine : store.Trap) → same_break ps mine (Undefined word) → ⊥
-no_undefined ps word (store.Kind kind procedure) h = h
-no_undefined ps word store.Senseless h = h
+-- bytes are an input
+both : (a b : Bool) → a ≡ true → b ≡ true → (a && b) ≡ true
+both true b e f = f
+both false b e f = e
 
-no_address : (ps : List Placed) (address : ℕ) (mine : store.Trap) → same_break ps mine (BadAddress address) → ⊥
-no_address ps address (store.Kind kind procedure) h = h
-no_address ps address store.Senseless h = h
+pub are_input : (bs : List ℕ) → AreBytes bs → AreInput bs
+are_input [] h = refl
+are_input (b ∷ bs) h = let first = h 0 in both (nat_lt b 256) (all (λ x. nat_lt x 256) bs) (lt-ltb b 256 (omega (arith, first))) (are_input bs (λ i. h (suc i)))
 
-no_call : (ps : List Placed) (number : ℕ) (mine : store.Trap) → same_break ps mine (BadCall number) → ⊥
-no_call ps number (store.Kind kind procedure) h = h
-no_call ps number store.Senseless h = h
+module _ (p : Program) (ps : List Placed) (image : Image) where
+  no_undefined : (word : ℕ) (mine : store.Trap) → same_break p ps image mine (Undefined word) → ⊥
+  no_undefined word (store.Kind kind procedure) h = h.0
+  no_undefined word store.Senseless h = h
+
+  no_address : (address : ℕ) (mine : store.Trap) → same_break p ps image mine (BadAddress address) → ⊥
+  no_address address (store.Kind kind procedure) h = h.0
+  no_address address store.Senseless h = h
+
+  no_call : (number : ℕ) (mine : store.Trap) → same_break p ps image mine (BadCall number) → ⊥
+  no_call number (store.Kind kind procedure) h = h.0
+  no_call number store.Senseless h = h
 
 module _ (p : Program) (cuts : List Cut) (image : Image) (input : List ℕ) (means : Means p cuts image input) (steps : ℕ) (out : List ℕ) where
   pub is_break : (trap : Trap) → run_of image input steps ≡ Trapped trap out → IsBreak trap
   is_break (Broke kind place) is = tt
-  is_break (Undefined word) is = trap_never (system image) (length image.code) (same_break (placed_of cuts)) (start image input) (meaning p input) means (Undefined word) (no_undefined (placed_of cuts) word) steps out is
-  is_break (BadAddress address) is = trap_never (system image) (length image.code) (same_break (placed_of cuts)) (start image input) (meaning p input) means (BadAddress address) (no_address (placed_of cuts) address) steps out is
-  is_break (BadCall number) is = trap_never (system image) (length image.code) (same_break (placed_of cuts)) (start image input) (meaning p input) means (BadCall number) (no_call (placed_of cuts) number) steps out is
+  is_break (Undefined word) is = trap_never (system image) (length image.code) (same_break p (placed_of cuts) image) (start image input) (meaning p input) means (Undefined word) (no_undefined p (placed_of cuts) image word) steps out is
+  is_break (BadAddress address) is = trap_never (system image) (length image.code) (same_break p (placed_of cuts) image) (start image input) (meaning p input) means (BadAddress address) (no_address p (placed_of cuts) image address) steps out is
+  is_break (BadCall number) is = trap_never (system image) (length image.code) (same_break p (placed_of cuts) image) (start image input) (meaning p input) means (BadCall number) (no_call p (placed_of cuts) image number) steps out is
+
+-- the machine that runs an image of texts comes to no fault
+pub image_never_faults : (choice : Choice) (texts : List (List ℕ)) (made : Compiled) (input : List ℕ) (steps : ℕ) (trap : Trap) (out : List ℕ)
+    → IsImageOfTexts choice texts made → AreBytes input → run_of made.image input steps ≡ Trapped trap out → IsBreak trap
+image_never_faults choice texts made input steps trap out is are e = is_break is.program is.cuts made.image input (is.means input (are_input input are)) steps out trap e

@@ -2,7 +2,6 @@
 use Rattle.std.proofs.Common.{◌≡◌, ℕ, ◌+◌, List, [], ◌∷◌, map, length, refl, sym, ap, subst, ◌∙◌}
 use Rattle.image_form.specs.declared.image.Image.{Image}
 use Rattle.ob_types.specs.declared.program.Program.{Program}
-use Rattle.lowered_runs.specs.Claims.{data_bytes, constants_of}
 use Rattle.lir_core.specs.declared.flow.Flow.{Flow}
 use Rattle.lir_core.specs.declared.flow.Trace.{Trace}
 use Rattle.global_live.specs.Reading.{HasLive}
@@ -13,7 +12,8 @@ use Rattle.alloc_choice.specs.Results.{case_with, results_to}
 use Rattle.linked_flows.specs.Allocations.{Cut}
 use Rattle.link_plan.specs.Linked.{linked}
 use Rattle.flow_allocation.specs.Allocations.{IsAllocation, AllAllocations}
-use Rattle.program_image.specs.Images.{IsProgramImage, flags_of}
+use Rattle.compiled_runs.specs.Compiled.{data_of}
+use Rattle.program_image.specs.Images.{IsProgramImage}
 use Rattle.text_laws.proofs.one_image.Bits.{same_bits}
 use Rattle.text_laws.proofs.one_image.Results.{results_same}
 
@@ -65,4 +65,4 @@ module _ (a b : Choice) (policy : a.policy ≡ b.policy) (builder : a.builder �
     one_list = cuts_same 0 cs ds (x.are.flows ∙ sym y.are.flows) x.are.each y.are.each
 
     pub one_image : i ≡ j
-    one_image = x.is ∙ (ap (λ c. linked c (flags_of p) (data_bytes p) (constants_of p)) one_list ∙ sym y.is)
+    one_image = x.is ∙ (ap (λ c. linked c (data_of p)) one_list ∙ sym y.is)

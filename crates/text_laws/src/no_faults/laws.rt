@@ -3,8 +3,8 @@
 ghost use Rattle.std.specs.Prelude.{◌≡◌, ℕ, List};
 ghost use Rattle.run_laws.specs.Runs.{Trapped};
 ghost use Rattle.a64_machine.specs.State.{Trap};
+ghost use Rattle.a64_memory.specs.Memory.{AreBytes};
 ghost use Rattle.alloc_choice.specs.declared.choice.Choice.{Choice};
-ghost use Rattle.lowered_runs.specs.Words.{AreInput};
 ghost use Rattle.program_image.specs.declared.imaging.Compiled.{Compiled};
 ghost use Rattle.source_image.specs.Images.{IsImageOfTexts};
 ghost use Rattle.trc_answers.specs.Runs.{run_of};
@@ -14,6 +14,6 @@ ghost use Rattle.text_laws.specs.no_faults.Faults.{IsBreak};
 /// that is a BRK.
 pub fn images_never_fault()
     ensures { (choice : Choice) (texts : List (List ℕ)) (made : Compiled) (input : List ℕ) (steps : ℕ) (trap : Trap) (out : List ℕ)
-        → IsImageOfTexts choice texts made → AreInput input
+        → IsImageOfTexts choice texts made → AreBytes input
         → run_of made.image input steps ≡ Trapped trap out → IsBreak trap }
 {}

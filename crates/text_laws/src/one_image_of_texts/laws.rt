@@ -5,9 +5,8 @@ ghost use Rattle.alloc_choice.specs.declared.choice.Choice.{Choice};
 ghost use Rattle.program_image.specs.declared.imaging.Compiled.{Compiled};
 ghost use Rattle.source_image.specs.Images.{IsImageOfTexts};
 
-use crate::judged_shapes::modules_have_one_lowering;
 use crate::one_image::lowerings_have_one_image;
-use crate::one_reading::texts_are_read_once;
+use crate::one_program::texts_have_one_lowering;
 
 /// By choices with the same policy, builder and number of registers texts have one image, made of as many procedures and traces:
 /// how many workers there are, and what the definitions leave open of the program that the texts are, changes neither. This
@@ -18,7 +17,6 @@ pub fn texts_have_one_image()
         → IsImageOfTexts a texts made → IsImageOfTexts b texts other
         → (made.image ≡ other.image) × (made.procedures ≡ other.procedures) × (made.traces ≡ other.traces) }
 {
-    texts_are_read_once();
-    modules_have_one_lowering();
+    texts_have_one_lowering();
     lowerings_have_one_image();
 }

@@ -1,6 +1,6 @@
 use Rattle.std.proofs.Common.{◌+◌, ap, ◌∙◌}
 use Rattle.a64_memory.specs.Memory.{Area, written}
-use Rattle.a64_machine.specs.Machine.{data_base}
+use Rattle.a64_memory.specs.Areas.{data_base}
 use Rattle.a64_machine.proofs.Regions.{constants_stored}
 use Rattle.a64_machine.proofs.layout.data_region.Goals as goal
 

@@ -1,6 +1,6 @@
 use Rattle.std.proofs.Common.{ℕ, ap, ◌∙◌}
 use Rattle.a64_machine.specs.State.{put}
-use Rattle.a64_machine.specs.Machine.{local_base, heap_base, data_base}
+use Rattle.a64_memory.specs.Areas.{local_base, heap_base, data_base}
 use Rattle.a64_machine.proofs.Registers.{zeros_read}
 use Rattle.a64_machine.proofs.layout.first_registers.Goals as goal
 

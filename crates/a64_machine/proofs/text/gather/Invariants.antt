@@ -1,5 +1,5 @@
 use Rattle.std.proofs.Common.{◌≡◌, ◌+◌, ◌-◌, ◌≤◌, length, take}
-use Rattle.a64_machine.specs.Services.{text_at, after_bytes}
+use Rattle.a64_memory.specs.Texts.{text_at, after_bytes}
 use Rattle.a64_machine.proofs.text.gather.Given as goal
 
 abbrev pub invariant-loop-count : goal.invariant-loop-count

@@ -1,5 +1,5 @@
 use Rattle.std.proofs.Common.{◌++◌, ◌∷◌, [], sym, ◌∙◌}
-use Rattle.a64_machine.specs.Services.{text_at}
+use Rattle.a64_memory.specs.Texts.{text_at}
 use Rattle.a64_machine.proofs.Texts.{seen_more}
 use Rattle.a64_machine.proofs.text.outside.Goals as goal
 

@@ -1,5 +1,5 @@
 use Rattle.std.proofs.Common.{List, ℕ, ◌-◌}
-use Rattle.a64_machine.specs.Services.{text_at}
+use Rattle.a64_memory.specs.Texts.{text_at}
 use Rattle.a64_machine.proofs.Texts.{Seen}
 use Rattle.a64_machine.proofs.text.outside.Given as goal
 

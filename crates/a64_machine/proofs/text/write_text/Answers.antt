@@ -1,7 +1,7 @@
 use Rattle.std.proofs.Common.{◌++◌, take, arith}
 use Rattle.outside.specs.Sink.{TookFront}
 use Rattle.outside.proofs.Taking.{all_on}
-use Rattle.a64_machine.specs.Services.{text_at}
+use Rattle.a64_memory.specs.Texts.{text_at}
 use Rattle.a64_machine.specs.Answers.{OfBytes}
 use Rattle.a64_machine.proofs.Texts.{seen_on, took_front, on_fault}
 use Rattle.a64_machine.proofs.text.write_text.Goals as goal

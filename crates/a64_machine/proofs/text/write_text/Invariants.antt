@@ -1,6 +1,6 @@
 use Rattle.std.proofs.Common.{List, ℕ, ◌≤◌}
 use Rattle.outside.specs.Sink.{TookAll}
-use Rattle.a64_machine.specs.Services.{text_at}
+use Rattle.a64_memory.specs.Texts.{text_at}
 use Rattle.a64_machine.proofs.Texts.{Seen}
 use Rattle.a64_machine.proofs.text.write_text.Given as goal
 

@@ -1,6 +1,7 @@
-use Rattle.std.proofs.Common.{map, sym, subst, arith}
+use Rattle.std.proofs.Common.{◌∙◌, map, length, ap, sym, subst, arith}
 use Rattle.link_blocks.specs.Plans.{placed_in}
-use Rattle.link_plan.specs.Linked.{ArePlans}
+use Rattle.link_plan.specs.Linked.{ArePlans, IsUnnamedAndFar, greatest_frame}
+use Rattle.back_end.proofs.Naming.{plan_for_each, named_or_near}
 use Rattle.back_end.proofs.Ready.{all_small}
 use Rattle.back_end.proofs.imaging.image_of.Goals as goal
 
@@ -33,3 +34,20 @@ returns-in-Err-clause-code g c e =
     let count = p.count in
     let there = subst (λ ps. ArePlans choice.regs (map placed_in ps) p.cuts) (sym c.as_slice.ensures.value) (p.plans c.if-not-fit.false) in
     (p.cuts, p.are, omega (arith, few, count), c.in-Err.ensures.limit (c.fault_of.ensures.code e) choice.regs p.cuts there)
+
+pub image_of_plans-requires-clause-names : goal.image_of_plans-requires-clause-names
+image_of_plans-requires-clause-names g c some =
+    let p = c.in_ok-plans.ensures.planned in
+    c.requires.names ∙ sym (plan_for_each c.args.choice.now c.args.procedures _ p c.if-not-fit.false) ∙ sym (ap length c.as_slice.ensures.value)
+
+pub returns-in-Err-clause-misfit : goal.returns-in-Err-clause-misfit
+returns-in-Err-clause-misfit g c e =
+    let p = c.in_ok-plans.ensures.planned in
+    let far = c.in-Err.ensures.misfit (c.fault_of.ensures.misfit e) in
+    absurd (named_or_near c.args.choice.now c.args.procedures _ c.args.extra p c.if-not-fit.false c.requires.names (subst (λ ps. IsUnnamedAndFar c.args.extra (greatest_frame (map placed_in ps))) c.as_slice.ensures.value far))
+
+pub returns-in-Err-clause-modest : goal.returns-in-Err-clause-modest
+returns-in-Err-clause-modest g c values e =
+    let p = c.in_ok-plans.ensures.planned in
+    let far = c.in-Err.ensures.misfit (c.fault_of.ensures.misfit e) in
+    named_or_near c.args.choice.now c.args.procedures _ c.args.extra p c.if-not-fit.false c.requires.names (subst (λ ps. IsUnnamedAndFar c.args.extra (greatest_frame (map placed_in ps))) c.as_slice.ensures.value far)

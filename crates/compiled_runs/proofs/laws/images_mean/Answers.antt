@@ -4,4 +4,4 @@ use Rattle.compiled_runs.proofs.Whole.{means}
 use Rattle.compiled_runs.proofs.laws.images_mean.Goals as goal
 
 pub returns : goal.returns
-returns c p cuts flags constants image input is runs lowers can = means p cuts flags constants image input is runs (valid_all p (in_cells p.types) lowers) can
+returns c p cuts image input is runs lowers can = means p cuts image input is runs (valid_all p (in_cells p.types) lowers) can

@@ -5,7 +5,7 @@ use Rattle.image_file.proofs.reading.code_of.Given as goal
 
 abbrev pub invariant-loop-i : goal.invariant-loop-i
 invariant-loop-i l = record {
-  spelled : flat_map number l.code.items ≡ take (4 * l.i) (drop 32 l.bytes);
+  spelled : flat_map number l.code.items ≡ take (4 * l.i) (drop l.from l.bytes);
   count : length l.code.items ≡ l.i;
   below : AreWords l.code.items;
 }

@@ -1,4 +1,4 @@
-use Rattle.std.proofs.Common.{rules, map, ap, sym, ◌∙◌, arith}
+use Rattle.std.proofs.Common.{rules, [], ◌∷◌, map, length, ap, sym, ◌∙◌, arith, length-append}
 use Rattle.std.specs.Vec.Iter.{into_iter_items}
 use Rattle.link_blocks.specs.Plans.{placed_in}
 use Rattle.link_plan.proofs.Rows.{errs_with}
@@ -45,6 +45,10 @@ loop-flow-preserved c =
     record {
       parts = sym (drop_next a.parts.items i c.in_ok-lines.lines (into_iter_items c.next.new.self) lines);
       outs = sym (drop_next a.outs.items i c.in_ok-results.results (into_iter_items c.next-in-loop-flow.new.self) results);
+      count =
+          let n = ap (λ ps. length ps) c.in_ok-push.ensures.items in
+          let m = length-append c.loop-flow.plans.items (c.in_ok-plan.plan ∷ []) in
+          omega (arith, n, m, c.loop-flow.invariant.count);
       fits = fits_more a.flows.now i c.flow-item.result _ c.loop-flow-test.true c.flow-item.is c.in_ok-plan.ensures.fits c.loop-flow.invariant.fits;
       plans = λ k cuts are.
           let at = cut_at k a.flows.now (map (λ v. v.items) a.parts.items) (map (λ v. v.items) a.outs.items) cuts are i c.flow-item.result c.as_slice.result.now c.as_slice-in-loop-flow.result.now c.loop-flow-test.true c.flow-item.is

@@ -1,5 +1,6 @@
 use Rattle.std.proofs.Common.{◌≡◌, ◌≤◌, ◌%◌, map, drop, length}
 use Rattle.link_blocks.specs.Plans.{placed_in}
+use Rattle.placed_code.specs.Words.{most_frame}
 use Rattle.link_plan.specs.Linked.{greatest_frame}
 use Rattle.link_plan.proofs.linking.greatest_frame.Given as goal
 
@@ -7,7 +8,7 @@ abbrev pub invariant-loop-i : goal.invariant-loop-i
 invariant-loop-i l = record {
   within : l.i ≤ length l.plans;
   greatest : l.frame ≡ greatest_frame (map placed_in (drop l.i l.plans));
-  most : l.frame ≤ 32600;
+  most : l.frame ≤ most_frame;
   whole : l.frame % 8 ≡ 0;
 }
 

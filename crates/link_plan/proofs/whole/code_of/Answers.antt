@@ -4,7 +4,7 @@ use Rattle.link_layout.specs.Widths.{AreWidths}
 use Rattle.link_blocks.specs.Plans.{placed_in}
 use Rattle.link_plan.specs.Written.{AreReady, EntriesAre}
 use Rattle.link_plan.proofs.Rows.{errs_with, err_so}
-use Rattle.link_plan.proofs.Images.{many, over_procedures, over_bodies, routines_near, start_near, procedures_next, procedures_near, all_near, some_code, all_appended}
+use Rattle.link_plan.proofs.Images.{many, over_procedures, over_bodies, routines_near, start_near, procedures_next, procedures_near, all_near, all_written, some_code, all_appended}
 use Rattle.link_plan.proofs.whole.code_of.Goals as goal
 
 pub returns-then-plans-gt-MOST-clause-limit : goal.returns-then-plans-gt-MOST-clause-limit
@@ -77,3 +77,8 @@ pub returns-clause-some : goal.returns-clause-some
 returns-clause-some c =
     let ps = map placed_in c.args.plans.now in
     some_code ps c.as_slice-2.result.now c.in_ok-words.words.items c.push_start.new.words.items c.push_routines.new.words.items c.in_ok-words.ensures c.in_ok-push_start.ensures c.in_ok-push_routines.ensures c.push_procedures.new.words.items c.in_ok-push_procedures.ensures.size
+
+pub returns-clause-size : goal.returns-clause-size
+returns-clause-size c =
+    let ps = map placed_in c.args.plans.now in
+    all_written ps c.as_slice-2.result.now c.in_ok-words.words.items c.push_start.new.words.items c.push_routines.new.words.items c.in_ok-words.ensures c.in_ok-push_start.ensures c.in_ok-push_routines.ensures c.push_procedures.new.words.items c.in_ok-push_procedures.ensures.size

@@ -3,5 +3,5 @@ use Rattle.linked_flows.proofs.laws.flows_run.Goals as goal
 
 pub returns : goal.returns
 returns c = record {
-  agrees = λ k frame cuts flags globals constants input few ready image small. runs k frame cuts flags globals constants input few ready image small;
+  agrees = λ k frame cuts extra input few ready image small. runs k frame cuts extra input few ready image small;
 }

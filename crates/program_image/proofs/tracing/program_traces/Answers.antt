@@ -11,10 +11,10 @@ use Rattle.back_end.proofs.Ready.{valid_flows}
 use Rattle.trace_build.specs.Traces.{traces_in}
 use Rattle.trace_report.specs.Reports.{IsReport}
 use Rattle.compiled_runs.specs.Compiled.{flows_of}
-use Rattle.program_image.specs.Faults.{Tells}
-use Rattle.program_image.specs.Limits.{ByLength, ByTraces}
-use Rattle.program_image.proofs.Ready.{are_short, has_long, ready}
-use Rattle.program_image.proofs.Telling.{lowering_tells}
+use Rattle.program_image.specs.Faults.{TellsOfTraces}
+use Rattle.program_image.specs.Limits.{ByTraces}
+use Rattle.program_image.proofs.Ready.{are_short, ready}
+use Rattle.program_image.proofs.Telling.{lowering_tells_early}
 use Rattle.program_image.proofs.tracing.program_traces.Goals as goal
 
 pub lower_with_tables-requires : goal.lower_with_tables-requires
@@ -24,15 +24,7 @@ pub returns-in-Err-clause-limit : goal.returns-in-Err-clause-limit
 returns-in-Err-clause-limit c =
     let choice = c.args.choice.now in
     let p = c.args.program.now in
-    subst (Tells choice p) (sym c.of_lowering.ensures) (lowering_tells choice p c.in-Err.fault c.in-Err.ensures.limit)
-
-pub returns-then-not-are_short-clause-limit : goal.returns-then-not-are_short-clause-limit
-returns-then-not-are_short-clause-limit c =
-    let choice = c.args.choice.now in
-    let p = c.args.program.now in
-    let same = c.as_slice.ensures ∙ c.in-Ok.ensures.ok in
-    let e : false ≡ c.are_short.result = let t = c.if-not-are_short.true in cc in
-    subst (Tells choice p) (sym c.whole_limit.ensures) (ByLength c.in-Ok.ensures.within (has_long p c.as_slice.result.now same (e ∙ c.are_short.ensures)))
+    subst (TellsOfTraces choice p) (sym c.of_lowering.ensures) (lowering_tells_early choice p c.in-Err.fault c.in-Err.ensures.limit)
 
 pub select_all-requires : goal.select_all-requires
 select_all-requires c =
@@ -50,7 +42,7 @@ returns-then-report-gt-MOST_TRACES-clause-limit c =
     let flows = c.as_slice-2.ensures.value ∙ c.in-Ok-select_all.ensures.flows ∙ ap (λ (ps : List Proc). map selected ps) c.in-Ok.ensures.ok in
     let count : c.in-Ok-trace_report.report.traces ≡ traces_in choice.builder (flows_of p) = c.in-Ok-trace_report.ensures.count ∙ ap (λ (fs : List Flow). traces_in choice.builder fs) flows in
     let over = c.if-report-gt-MOST_TRACES.true in
-    subst (Tells choice p) (sym c.whole_limit-then-report-gt-MOST_TRACES.ensures) (ByTraces c.in-Ok.ensures.within (omega (arith, over, count)))
+    subst (TellsOfTraces choice p) (sym c.whole_limit.ensures) (ByTraces c.in-Ok.ensures.within (omega (arith, over, count)))
 
 pub returns-clause-report : goal.returns-clause-report
 returns-clause-report c =

@@ -1,4 +1,4 @@
-use Rattle.std.proofs.Common.{codes, ◌++◌, subst, ◌∙◌}
+use Rattle.std.proofs.Common.{codes, ◌++◌, ap, subst, ◌∙◌}
 use Rattle.outside.specs.Sink.{TookAll}
 use Rattle.out_text.specs.Text.{shortest_text}
 use Rattle.trc_answers.specs.Names.{name_of_limit}
@@ -12,4 +12,4 @@ returns-clause-all g c =
     (subst (λ n. TookAll (g.E.Sink.account c.args.err.now) (g.E.Sink.account c.put_number.new.err) (codes "trc: limit " ++ shortest_text n)) c.from.ensures c.in_ok-put_number.ensures.all)
     c.in_ok-write_all.ensures.all
     (subst (TookAll (g.E.Sink.account c.write_all.new.sink) (g.E.Sink.account c.write_all-2.new.sink)) c.limit_name.ensures c.in_ok-write_all-2.ensures.all)
-    (subst (λ r. TookAll (g.E.Sink.account c.write_all-2.new.sink) (g.E.Sink.account c.say.new.err) (line (codes " at ") r)) (c.as_slice.ensures ∙ c.decimal.ensures) c.in_ok-say.ensures.all)
+    (subst (λ r. TookAll (g.E.Sink.account c.write_all-2.new.sink) (g.E.Sink.account c.say.new.err) (line (codes " at ") r)) (c.as_slice.ensures ∙ c.decimal.ensures ∙ ap shortest_text c.from-2.ensures) c.in_ok-say.ensures.all)

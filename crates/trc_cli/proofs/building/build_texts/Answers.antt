@@ -4,8 +4,8 @@ use Rattle.trc_cli.proofs.building.build_texts.Goals as goal
 
 pub returns-in-Ok-clause-answers : goal.returns-in-Ok-clause-answers
 returns-in-Ok-clause-answers g c = λ left faults out.
-    rw c.of.ensures (image_comes c.args.choice.now c.args.texts.now (Written c.args.name.now) c.in-Ok.made _ _ _ _ c.in-Ok.ensures.image c.into_image-image.ensures (c.write_image_file.ensures.answers left faults out))
+    rw c.of.ensures (image_comes c.args.choice.now c.args.texts.now (λ _. Written c.args.name.now) c.in-Ok.made _ _ _ _ c.in-Ok.ensures.image c.image_alone-image.ensures (c.write_image_file.ensures.answers left faults out))
 
 pub returns-in-Err-clause-answers : goal.returns-in-Err-clause-answers
 returns-in-Err-clause-answers g c = λ left faults out.
-    no_image c.args.choice.now c.args.texts.now (λ made. Written c.args.name.now made.image) _ c.in-Err.ensures.refused _ _ left faults out
+    no_image c.args.choice.now c.args.texts.now (λ _ made. Written c.args.name.now made.image) _ c.in-Err.ensures.refused _ _ left faults out

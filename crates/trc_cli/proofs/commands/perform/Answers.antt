@@ -7,7 +7,7 @@ pub returns-in-Run-clause-answers : goal.returns-in-Run-clause-answers
 returns-in-Run-clause-answers g c = rw (c.in-Run.is, ← c.as_slice.ensures.value) c.run.ensures.answers
 
 pub returns-in-Build-clause-answers : goal.returns-in-Build-clause-answers
-returns-in-Build-clause-answers g c = rw (c.in-Build.is, ← c.as_slice-in-Build.ensures.value) (c.build.ensures.answers _ _ _)
+returns-in-Build-clause-answers g c = rw (c.in-Build.is, ← c.as_slice-in-Build.ensures.value) (c.build_from.ensures.answers _ _ _)
 
 pub returns-in-Exec-clause-answers : goal.returns-in-Exec-clause-answers
 returns-in-Exec-clause-answers g c = rw (c.in-Exec.is, c.of.ensures) c.exec.ensures.answers

@@ -5,4 +5,11 @@ pub returns-clause-quiet : goal.returns-clause-quiet
 returns-clause-quiet c = quiet
 
 pub returns-clause-once : goal.returns-clause-once
-returns-clause-once c = once
+returns-clause-once c = λ held left asked a b h k. once (record {
+  image = c.texts_have_one_image.ensures;
+  refusal = c.texts_have_one_refusal.ensures;
+  of_traces = c.texts_have_one_refusal_of_traces.ensures;
+  excluded = c.images_exclude_refusals.ensures;
+  traces_excluded = c.traces_exclude_refusals.ensures;
+  report = c.texts_have_one_report.ensures;
+}) held left a b asked h k

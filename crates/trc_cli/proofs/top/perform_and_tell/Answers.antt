@@ -1,8 +1,18 @@
-use Rattle.trc_cli.proofs.Endings.{told_of_memory}
+use Rattle.std.proofs.Common.{ℕ, List, map, Some, ap, ◌∙◌, subst}
+use Rattle.std.specs.Borrow.{Bor}
+use Rattle.trc_words.specs.Requests.{plain}
+use Rattle.trc_answers.specs.Causes.{TookLine, line_of}
+use Rattle.trc_cli.proofs.Endings.{did_as, did_nothing, told_of_memory}
 use Rattle.trc_cli.proofs.top.perform_and_tell.Goals as goal
 
-pub returns-in_default-clause-told : goal.returns-in_default-clause-told
-returns-in_default-clause-told g c = rw c.finish.ensures.cause (told_of_memory _ _ _ _ c.of.result.place c.of.result.cause c.of.ensures c.finish.ensures.told)
+pub returns-in_default-clause-did : goal.returns-in_default-clause-did
+returns-in_default-clause-did g c =
+    did_nothing (Some (plain c.args.request.now)) _ _ _ _ _ _ _ c.finish.result c.of.result.cause c.finish.ensures.cause c.of.ensures c.finish.ensures.status
+    (told_of_memory _ _ _ _ c.of.result.place c.of.result.cause c.of.ensures c.finish.ensures.told)
 
-pub returns-clause-answers : goal.returns-clause-answers
-returns-clause-answers g c = rw c.finish-2.ensures.cause c.perform-ending.ensures.answers
+pub returns-clause-did : goal.returns-clause-did
+returns-clause-did g c =
+    let told = subst (λ (names : List (List ℕ)). TookLine (g.E.Sink.account c.args.err.now) (g.E.Sink.account c.finish-2.new.err) (line_of names c.perform-ending.result.place c.perform-ending.result.cause))
+    (ap (λ (names : List (Bor (List ℕ))). map (λ name. name.now) names) c.as_slice.ensures.value ∙ c.in-Ok.ensures) c.finish-2.ensures.told in
+    did_as (Some (plain c.args.request.now)) _ _ _ _ c.finish-2.result c.perform-ending.result.cause c.finish-2.ensures.cause c.finish-2.ensures.status c.perform-ending.ensures.answers
+    c.perform-ending.ensures.unread c.perform-ending.ensures.untouched (record { place = c.perform-ending.result.place; placed = c.perform-ending.ensures.placed; told = told })

@@ -1,7 +1,6 @@
 use Rattle.std.proofs.Common.{[], ◌++◌, ◌∙◌, sym, ap, arith}
 use Rattle.run_laws.specs.Runs.{run, output}
 use Rattle.outside.proofs.Taking.{all_on}
-use Rattle.a64_machine.specs.State.{place_at}
 use Rattle.a64_machine.specs.Machine.{step_of}
 use Rattle.a64_machine.specs.View.{code_of, state_of}
 use Rattle.a64_machine.proofs.Running.{runs_more, runs_end, runs_trap, runs_writes, took_none_more, took_part}
@@ -25,7 +24,7 @@ returns-in-Trapped-clause-ran g c =
     let k = c.loop-n.invariant in
     let here = ap (λ code. step_of code s) (sym k.1) in
     let made = c.in-Trapped.ensures.made in
-    (place_at s.pc, k.0, runs_trap f whole c.args.steps c.loop-n._n s k.0 k.2 _ c.loop-n-test.true (here ∙ made.0), took_none_more _ _ _ k.0 k.3 made.2)
+    (k.0, runs_trap f whole c.args.steps c.loop-n._n s k.0 k.2 _ c.loop-n-test.true (here ∙ made.0), took_none_more _ _ _ k.0 k.3 made.2)
 
 pub returns-in-Undefined-clause-ran : goal.returns-in-Undefined-clause-ran
 returns-in-Undefined-clause-ran g c =

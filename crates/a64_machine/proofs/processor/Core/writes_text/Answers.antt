@@ -1,6 +1,7 @@
 use Rattle.std.proofs.Common.{refl, sym, ap, ◌∙◌}
 use Rattle.wrapping_numbers.specs.Numbers.{add64}
-use Rattle.a64_machine.specs.Services.{text_at, writes_text}
+use Rattle.a64_memory.specs.Texts.{text_at}
+use Rattle.a64_machine.specs.Services.{writes_text}
 use Rattle.a64_machine.specs.View.{core_state}
 use Rattle.a64_machine.proofs.processor.Core.writes_text.Goals as goal
 

@@ -1,4 +1,5 @@
 use Rattle.std.proofs.Common.{◌≡◌, ℕ, ◌+◌, ◌<◌, ◌≤◌, List, [], ◌++◌, map, length, ◌∙◌, ap, ap₂, sym, arith, refl}
+use Rattle.lir_core.specs.declared.flow.Flow.{Flow}
 use Rattle.lir_core.specs.Flows.{code_nodes}
 use Rattle.lir_core.specs.Lines.{slots_of}
 use Rattle.placed_code.specs.Results.{with_copies}
@@ -7,7 +8,16 @@ use Rattle.link_layout.specs.Spots.{copy_of, all_copies}
 use Rattle.link_blocks.specs.Plans.{block_in}
 use Rattle.link_blocks.specs.Ahead.{edges_ahead}
 use Rattle.link_blocks.proofs.Made.{is_made, slots_made, plan_is}
+use Rattle.link_blocks.proofs.Outs.{slots_few}
 use Rattle.link_blocks.proofs.plans.Plan.of.Goals as goal
+
+-- a flow's calls have few slots for arguments, since it is valid
+pub returns-then-slots-gt-MOST_OUTS-clause-misfit : goal.returns-then-slots-gt-MOST_OUTS-clause-misfit
+returns-then-slots-gt-MOST_OUTS-clause-misfit c refused k c' is fits =
+    let nodes = c.as_slice-nodes.ensures ∙ ap (λ (f : Flow). f.nodes) is.flow_is in
+    let slots = c.slots_of-slots.ensures ∙ ap (λ ns. slots_of (code_nodes ns)) nodes in
+    let few = slots_few c'.flow.args (code_nodes c'.flow.nodes) is.sound.valid.code.operations in
+    omega (arith, slots, few, c.if-slots-gt-MOST_OUTS.true)
 
 pub returns-then-count-slots-ge-MOST_SLOTS-clause-misfit : goal.returns-then-count-slots-ge-MOST_SLOTS-clause-misfit
 returns-then-count-slots-ge-MOST_SLOTS-clause-misfit c refused k c' is fits =
@@ -26,6 +36,7 @@ pub invariant_of-result : goal.invariant_of-result
 invariant_of-result c = record {
   slots = omega (arith, c.count-2.ensures);
   few_slots = omega (arith, c.count.ensures, c.count-2.ensures, c.if-count-slots-ge-MOST_SLOTS.false);
+  few_outs = omega arith;
   few_bytes = omega arith;
   few_blocks =
       let one = ap length c.from_vec-2.ensures in

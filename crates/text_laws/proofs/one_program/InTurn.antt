@@ -18,32 +18,6 @@ use Rattle.one_lowering.specs.Forms.{tally, numbered_procedure}
 use Rattle.one_lowering.specs.Order.{UsesInOrder}
 use Rattle.one_lowering.proofs.Uses.{tally_length}
 
--- ---- how many strings there are
-
-second_none : (a b : Option Limit) → or_else a b ≡ None → b ≡ None
-second_none None b h = h
-second_none (Some l) b h = absurd (let e = h in cc)
-
-not_over : (n : ℕ) (over : Bool) → passes n over ≡ None → over ≡ false
-not_over n true h = absurd (let e = h in cc)
-not_over n false h = refl
-
-no_more_than : (xs : List (List ℕ)) → length xs ≤ sum_by (λ ys. suc (length ys)) xs
-no_more_than [] = omega arith
-no_more_than (y ∷ ys) = let l = no_more_than ys in let e = sum_by-cons (λ (xs : List ℕ). suc (length xs)) y ys in omega (arith, l, e)
-
-few_strings : (p : Program) → limit_of p ≡ None → length (texts_of p.procedures) ≤ 262144
-few_strings p within =
-    let procedures : Option Limit = passes 52 (nat_lt 4096 (length p.procedures)) in
-    let globals : Option Limit = passes 53 (nat_lt 1048576 (global_cells p)) in
-    let each : Option Limit = limits_from p (in_cells p.types) 0 p.procedures in
-    let constants : Option Limit = passes 58 (nat_lt 262144 (constant_cells p)) in
-    let behind = second_none globals (or_else each constants) (second_none procedures (or_else globals (or_else each constants)) within) in
-    let over = not_over 58 (nat_lt 262144 (constant_cells p)) (second_none each constants behind) in
-    let most : constant_cells p ≤ 262144 = ltb-false 262144 (constant_cells p) over in
-    let l = no_more_than (texts_of p.procedures) in
-    omega (arith, most, l)
-
 -- ---- the order of uses
 
 front_of_tally : (n m i : ℕ) → n ≤ m → take n (tally i m) ≡ tally i n
@@ -63,7 +37,5 @@ module _ (t : Table) (many : ℕ) (few : many ≤ 4294967295) where
       ((h.each 0 q refl).each t (tally 0 many) (omega (arith, long, own)) (omega (arith, long, few)) ∙ front_of_tally (length q.texts) many 0 own)
       (in_order_each qs (record { each = λ f r at. h.each (suc f) r at }) (omega (arith, e, l)))
 
-pub in_order : (p : Program) → limit_of p ≡ None → AllUseInTurn p.procedures → UsesInOrder p
-in_order p within h =
-    let few = few_strings p within in
-    record { each = in_order_each p.types (length (texts_of p.procedures)) (omega (arith, few)) p.procedures h (omega arith) }
+pub in_order : (p : Program) → length (texts_of p.procedures) ≤ 4294967295 → AllUseInTurn p.procedures → UsesInOrder p
+in_order p few h = record { each = in_order_each p.types (length (texts_of p.procedures)) few p.procedures h (omega arith) }

@@ -1,0 +1,4 @@
+mod Reading
+mod InTurn
+mod Keeping
+mod Alike

@@ -1,0 +1,3 @@
+mod Passed
+mod Reports
+mod Refused

@@ -1,0 +1,11 @@
+use Rattle.std.proofs.Common.{◌≡◌, ap}
+use Rattle.ssa_lowered.specs.Limits.{Limit}
+use Rattle.program_image.specs.Faults.{Tells}
+use Rattle.text_laws.proofs.one_refusal.Passed.{first_once}
+use Rattle.text_laws.proofs.one_refusal.Refused.{refused_once}
+use Rattle.text_laws.proofs.one_refusal.laws.texts_have_one_refusal.Goals as goal
+
+pub returns : goal.returns
+returns c = λ a b texts r s policy builder regs.
+    refused_once c.texts_have_one_first_fault.ensures.fault c.texts_have_one_first_fault.ensures.apart c.texts_have_one_lowering.ensures (Tells a) (Tells b)
+    (λ p q one n i m j x y. let same = first_once a b builder p q one (record { number = n; index = i }) (record { number = m; index = j }) x y in (ap (λ (l : Limit). l.number) same, ap (λ (l : Limit). l.index) same)) texts r s

@@ -1,0 +1,122 @@
+-- What compiled modules answer is no fault of the machine.
+use Rattle.std.proofs.Common.{◌≡◌, ◌<◌, ℕ, List, [], ◌∷◌, length, Option, Some, None, refl, sym, subst, arith}
+use Rattle.outside.specs.Files.{Held}
+use Rattle.a64_memory.specs.Memory.{AreBytes}
+use Rattle.image_form.specs.declared.image.Image.{Image}
+use Rattle.image_form.specs.declared.image.ProcPlace.{ProcPlace}
+use Rattle.run_laws.specs.Runs.{Outcome, Ended, Trapped, Going}
+use Rattle.a64_machine.specs.State.{Trap, Broke, Undefined, BadAddress, BadCall}
+use Rattle.alloc_choice.specs.declared.choice.Choice.{Choice}
+use Rattle.program_image.specs.declared.imaging.Compiled.{Compiled}
+use Rattle.source_image.specs.Images.{IsImageOfTexts}
+use Rattle.source_image.specs.declared.refusal.Refusal.{Refusal}
+use Rattle.source_image.specs.declared.refusal.Refusal.TheVariants as refusal
+use Rattle.text_laws.specs.no_faults.Faults.{IsBreak}
+use Rattle.text_laws.proofs.no_faults.Never.{image_never_faults}
+use Rattle.bulk_text.specs.Bulk.{bulk_text}
+use Rattle.trc_words.specs.Asked.{Asked, Run, Build, Exec, Traces, Bulk, Help}
+use Rattle.trc_answers.specs.declared.causes.Cause.{Cause}
+use Rattle.trc_answers.specs.declared.causes.Device.{Device}
+use Rattle.trc_answers.specs.declared.causes.Cause.TheVariants as cause
+use Rattle.trc_answers.specs.Reading.{FilesComeTo, AreTooMany, LacksOne, HasALongOne, HaveTexts}
+use Rattle.trc_answers.specs.Runs.{run_of, cause_of_trap, cause_of_run}
+use Rattle.trc_answers.specs.Verdict.{Verdict, Refuses, Runs, Writes, Prints, cause_of, FileComesTo, IsMissing, HasTooMany, HasBytes, ImageComesTo, RunsAlone, RunsOnInput, HasTooMuch, Renews, AreTheSame, Differ, world}
+use Rattle.trc_answers.specs.Answers.{Devices, Answers, AsItComes, FailsReadingFiles, FailsReadingInput, FailsPrinting, FailsWriting, LacksMemory}
+use Rattle.trc_cli.specs.Commands.{ComesTo, RequestComesTo, IsNoMachineFault, FaultsOnlyInExec, cause_of_refusal, TextsComeTo, HaveNoImage, HaveImage, TracesComeTo, HaveNoTraces, HaveTraces, told_of_run}
+
+-- the cause of a verdict is none
+abbrev Sound : Verdict → Type 0
+Sound verdict = IsNoMachineFault (cause_of verdict)
+
+as_sound : (v w : Verdict) → v ≡ w → Sound w → Sound v
+as_sound v w e h = subst Sound (sym e) h
+
+refusals : (r : Refusal) → IsNoMachineFault (cause_of_refusal r)
+refusals (refusal.TooLong m) = tt
+refusals (refusal.Source m number at) = tt
+refusals (refusal.Limit number index) = tt
+refusals refusal.Memory = tt
+
+breaks : (places : List ProcPlace) (trap : Trap) → IsBreak trap → IsNoMachineFault (cause_of_trap places trap)
+breaks places (Broke kind word) h = tt
+breaks places (Undefined word) h = absurd h
+breaks places (BadAddress address) h = absurd h
+breaks places (BadCall number) h = absurd h
+
+-- of an image of texts no run comes to one
+run_sound : (choice : Choice) (texts : List (List ℕ)) (made : Compiled) (input : List ℕ) (steps : ℕ) → IsImageOfTexts choice texts made → AreBytes input
+    → (outcome : Outcome Trap) → run_of made.image input steps ≡ outcome → IsNoMachineFault (cause_of_run made.image.places outcome)
+run_sound choice texts made input steps is are (Ended out) e = tt
+run_sound choice texts made input steps is are (Trapped trap out) e = breaks made.image.places trap (image_never_faults choice texts made input steps trap out is are e)
+run_sound choice texts made input steps is are (Going out) e = tt
+
+no_bytes : AreBytes []
+no_bytes i = omega arith
+
+image_sound : (choice : Choice) (texts : List (List ℕ)) (made : Compiled) (left : Option (List ℕ)) (steps : ℕ) (v : Verdict) → IsImageOfTexts choice texts made → ImageComesTo left steps made.image v → Sound v
+image_sound choice texts made left steps v is (RunsAlone flag e) = as_sound v _ e (run_sound choice texts made [] steps is no_bytes (run_of made.image [] steps) refl)
+image_sound choice texts made left steps v is (RunsOnInput input flag there are few e) = as_sound v _ e (run_sound choice texts made input steps is are (run_of made.image input steps) refl)
+image_sound choice texts made left steps v is (HasTooMuch input flag there many e) = as_sound v _ e tt
+
+told_sound : (choice : Choice) (texts : List (List ℕ)) (made : Compiled) (steps : ℕ) → IsImageOfTexts choice texts made → (outcome : Outcome Trap) → run_of made.image [] steps ≡ outcome → Sound (told_of_run made outcome)
+told_sound choice texts made steps is (Ended out) e = tt
+told_sound choice texts made steps is (Trapped trap out) e = run_sound choice texts made [] steps is no_bytes (Trapped trap out) e
+told_sound choice texts made steps is (Going out) e = tt
+
+texts_sound : (choice : Choice) (texts : List (List ℕ)) (next : Compiled → Verdict → Type 0) (v : Verdict) → ((made : Compiled) → IsImageOfTexts choice texts made → next made v → Sound v) → TextsComeTo choice next texts v → Sound v
+texts_sound choice texts next v f (HaveNoImage r) = as_sound v _ r.verdict_is (refusals r.refusal)
+texts_sound choice texts next v f (HaveImage made is h) = f made is h
+
+traces_sound : (choice : Choice) (texts : List (List ℕ)) (v : Verdict) → TracesComeTo choice texts v → Sound v
+traces_sound choice texts v (HaveNoTraces r) = as_sound v _ r.verdict_is (refusals r.refusal)
+traces_sound choice texts v (HaveTraces lines are e) = as_sound v _ e tt
+
+files_sound : (held : Option Held) (names : List (List ℕ)) (next : List (List ℕ) → Verdict → Type 0) (v : Verdict) → ((texts : List (List ℕ)) → next texts v → Sound v) → FilesComeTo held names next v → Sound v
+files_sound held names next v f (AreTooMany many e) = as_sound v _ e tt
+files_sound held names next v f (LacksOne number name reached none e) = as_sound v _ e tt
+files_sound held names next v f (HasALongOne number name text reached is long e) = as_sound v _ e tt
+files_sound held names next v f (HaveTexts texts are h) = f texts h
+
+file_sound : (held : Option Held) (number : ℕ) (name : List ℕ) (next : List ℕ → Verdict → Type 0) (v : Verdict) → ((bytes : List ℕ) → next bytes v → Sound v) → FileComesTo held number name next v → Sound v
+file_sound held number name next v f (IsMissing none e) = as_sound v _ e tt
+file_sound held number name next v f (HasTooMany bytes is many e) = as_sound v _ e tt
+file_sound held number name next v f (HasBytes bytes is few h) = f bytes h
+
+renews_sound : (name bytes : List ℕ) (image : Image) (v : Verdict) → Renews name bytes image v → Sound v
+renews_sound name bytes image v (AreTheSame same e) = as_sound v _ e tt
+renews_sound name bytes image v (Differ at d e) = as_sound v _ e tt
+
+-- so words that ask for anything but the run of an image of a file don't
+comes_sound : (held : Option Held) (left : Option (List ℕ)) (asked : Option Asked) (v : Verdict) → ComesTo (world held left) asked v → FaultsOnlyInExec asked (cause_of v)
+comes_sound held left None v h = as_sound v _ h tt
+comes_sound held left (Some (Run files choice steps)) v h =
+    files_sound held files _ v (λ texts. texts_sound choice texts _ v (λ made is. image_sound choice texts made left steps v is)) h
+comes_sound held left (Some (Build out files choice None)) v h = files_sound held files _ v (λ texts. texts_sound choice texts _ v (λ made is e. as_sound v _ e tt)) h
+comes_sound held left (Some (Build out files choice (Some from))) v h =
+    files_sound held files _ v (λ texts. file_sound held (length files) from _ v (λ bytes. texts_sound choice texts _ v (λ made is. renews_sound out bytes made.image v))) h
+comes_sound held left (Some (Exec image steps)) v h = tt
+comes_sound held left (Some (Traces files choice)) v h = files_sound held files _ v (λ texts. traces_sound choice texts v) h
+comes_sound held left (Some (Bulk seed size choice steps)) v h =
+    texts_sound choice (bulk_text seed size ∷ []) _ v (λ made is e. as_sound v _ e (told_sound choice (bulk_text seed size ∷ []) made steps is (run_of made.image [] steps) refl)) h
+comes_sound held left (Some Help) v h = as_sound v _ h tt
+
+as_cause : (asked : Option Asked) (c d : Cause) → c ≡ d → FaultsOnlyInExec asked d → FaultsOnlyInExec asked c
+as_cause asked c d e h = subst (FaultsOnlyInExec asked) (sym e) h
+
+-- other causes are none
+other_cause : (asked : Option Asked) (c : Cause) → IsNoMachineFault c → FaultsOnlyInExec asked c
+other_cause None c h = h
+other_cause (Some (Run files choice steps)) c h = h
+other_cause (Some (Build out files choice from)) c h = h
+other_cause (Some (Exec image steps)) c h = tt
+other_cause (Some (Traces files choice)) c h = h
+other_cause (Some (Bulk seed size choice steps)) c h = h
+other_cause (Some Help) c h = h
+
+pub faults_only_in_exec : (asked : Option Asked) (old new : Devices) (c : Cause) → Answers (λ left. ComesTo (world old.held left) asked) old new c → FaultsOnlyInExec asked c
+faults_only_in_exec asked old new c (AsItComes v it is done) = as_cause asked c (cause_of v) is (comes_sound old.held old.left asked v it)
+faults_only_in_exec asked old new c (FailsReadingFiles is rose nothing still) = as_cause asked c _ is (other_cause asked _ tt)
+faults_only_in_exec asked old new c (FailsReadingInput reads is rose nothing) = as_cause asked c _ is (other_cause asked _ tt)
+faults_only_in_exec asked old new c (FailsPrinting v it is cut) = as_cause asked c _ is (other_cause asked _ tt)
+faults_only_in_exec asked old new c (FailsWriting name bytes it is rose took file still) = as_cause asked c _ is (other_cause asked _ tt)
+faults_only_in_exec asked old new c (LacksMemory is nothing either) = as_cause asked c _ is (other_cause asked _ tt)

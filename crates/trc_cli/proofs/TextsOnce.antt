@@ -1,0 +1,58 @@
+-- Texts come to one thing, by the laws of texts.
+use Rattle.std.proofs.Common.{◌≡◌, ℕ, List, [], length, refl, sym, ap, ap₂, ◌∙◌, subst}
+use Rattle.image_form.specs.declared.image.Image.{Image}
+use Rattle.run_laws.specs.Runs.{Outcome, Ended, Trapped, Going}
+use Rattle.a64_machine.specs.State.{Trap}
+use Rattle.alloc_choice.specs.declared.choice.Choice.{Choice}
+use Rattle.program_image.specs.declared.imaging.Compiled.{Compiled}
+use Rattle.source_image.specs.Images.{IsImageOfTexts, AreTracesOfTexts}
+use Rattle.source_image.specs.Refusals.{IsRefusal, IsRefusalOfTraces}
+use Rattle.source_image.specs.declared.refusal.Refusal.{Refusal}
+use Rattle.source_image.specs.declared.refusal.Refusal.TheVariants.{Memory}
+use Rattle.trc_answers.specs.Runs.{run_of, cause_of_run}
+use Rattle.trc_answers.specs.Verdict.{Verdict, Refuses, Prints}
+use Rattle.trc_cli.specs.declared.bulk.Counts.{Counts}
+use Rattle.trc_cli.specs.Commands.{cause_of_refusal, AreRefused, TextsComeTo, HaveNoImage, HaveImage, TracesComeTo, HaveNoTraces, HaveTraces, counts_of, summary_of, told_of_run}
+use Rattle.trc_cli.specs.Laws.{Alike}
+use Rattle.trc_cli.proofs.Same.{two}
+
+-- what the laws say
+pub record Laws : Type 0 where
+  pub image : (a b : Choice) (texts : List (List ℕ)) (made other : Compiled) → a.policy ≡ b.policy → a.builder ≡ b.builder → a.regs ≡ b.regs
+      → IsImageOfTexts a texts made → IsImageOfTexts b texts other → (made.image ≡ other.image) × (made.procedures ≡ other.procedures) × (made.traces ≡ other.traces)
+  pub refusal : (a b : Choice) (texts : List (List ℕ)) (r s : Refusal) → a.policy ≡ b.policy → a.builder ≡ b.builder → a.regs ≡ b.regs
+      → IsRefusal a texts r → IsRefusal b texts s → ¬ (r ≡ Memory) → ¬ (s ≡ Memory) → r ≡ s
+  pub of_traces : (a b : Choice) (texts : List (List ℕ)) (r s : Refusal) → a.builder ≡ b.builder
+      → IsRefusalOfTraces a texts r → IsRefusalOfTraces b texts s → ¬ (r ≡ Memory) → ¬ (s ≡ Memory) → r ≡ s
+  pub excluded : (a b : Choice) (texts : List (List ℕ)) (made : Compiled) (r : Refusal) → a.policy ≡ b.policy → a.builder ≡ b.builder → a.regs ≡ b.regs
+      → IsImageOfTexts a texts made → IsRefusal b texts r → r ≡ Memory
+  pub traces_excluded : (a b : Choice) (texts : List (List ℕ)) (lines : List ℕ) (r : Refusal) → a.builder ≡ b.builder
+      → AreTracesOfTexts a texts lines → IsRefusalOfTraces b texts r → r ≡ Memory
+  pub report : (a b : Choice) (texts : List (List ℕ)) (lines others : List ℕ) → a.policy ≡ b.policy → a.builder ≡ b.builder
+      → AreTracesOfTexts a texts lines → AreTracesOfTexts b texts others → lines ≡ others
+
+module _ (laws : Laws) where
+  module _ (a b : Choice) (policy : a.policy ≡ b.policy) (builder : a.builder ≡ b.builder) (regs : a.regs ≡ b.regs) (texts : List (List ℕ)) (next other_next : Compiled → Verdict → Type 0) (v w : Verdict) where
+    pub texts_once : ((made other : Compiled) → IsImageOfTexts a texts made → IsImageOfTexts b texts other → next made v → other_next other w → Alike v w)
+        → TextsComeTo a next texts v → TextsComeTo b other_next texts w → Alike v w
+    texts_once f (HaveImage made is h) (HaveImage other also k) = f made other is also h k
+    texts_once f (HaveImage made is h) (HaveNoImage r) = absurd (r.tells (laws.excluded a b texts made r.refusal policy builder regs is r.is))
+    texts_once f (HaveNoImage r) (HaveImage other also k) = absurd (r.tells (laws.excluded b a texts other r.refusal (sym policy) (sym builder) (sym regs) also r.is))
+    texts_once f (HaveNoImage r) (HaveNoImage s) = two v w _ _ (ap (λ k. Refuses (cause_of_refusal k)) (laws.refusal a b texts r.refusal s.refusal policy builder regs r.is s.is r.tells s.tells)) r.verdict_is s.verdict_is
+
+  pub traces_once : (choice : Choice) (texts : List (List ℕ)) (v w : Verdict) → TracesComeTo choice texts v → TracesComeTo choice texts w → Alike v w
+  traces_once choice texts v w (HaveTraces lines are e) (HaveTraces others also f) = two v w _ _ (ap Prints (laws.report choice choice texts lines others refl refl are also)) e f
+  traces_once choice texts v w (HaveTraces lines are e) (HaveNoTraces r) = absurd (r.tells (laws.traces_excluded choice choice texts lines r.refusal refl are r.is))
+  traces_once choice texts v w (HaveNoTraces r) (HaveTraces others also f) = absurd (r.tells (laws.traces_excluded choice choice texts others r.refusal refl also r.is))
+  traces_once choice texts v w (HaveNoTraces r) (HaveNoTraces s) = two v w _ _ (ap (λ k. Refuses (cause_of_refusal k)) (laws.of_traces choice choice texts r.refusal s.refusal refl r.is s.is r.tells s.tells)) r.verdict_is s.verdict_is
+
+told_as : (made other : Compiled) (outcome : Outcome Trap) → counts_of made ≡ counts_of other → made.image.places ≡ other.image.places → told_of_run made outcome ≡ told_of_run other outcome
+told_as made other (Ended written) e same = ap (λ (n : Counts). Prints (summary_of n written)) e
+told_as made other (Trapped trap written) e same = ap (λ ps. Refuses (cause_of_run ps (Trapped trap written))) same
+told_as made other (Going written) e same = refl
+
+-- what is told of a run depends on the image and its counts alone
+pub told_same : (steps : ℕ) (made other : Compiled) → (made.image ≡ other.image) × (made.procedures ≡ other.procedures) × (made.traces ≡ other.traces) → told_of_run made (run_of made.image [] steps) ≡ told_of_run other (run_of other.image [] steps)
+told_same steps made other h =
+    ap (λ (i : Image). told_of_run made (run_of i [] steps)) h.0
+    ∙ told_as made other (run_of other.image [] steps) (λ k. record { procedures = h.1 k; traces = h.2 k; words = length (h.0 k).code }) (ap (λ (i : Image). i.places) h.0)
