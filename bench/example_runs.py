@@ -18,6 +18,9 @@ import trc  # noqa: E402
 
 CRATE = os.path.join(TOP, 'crates', 'trc_examples')
 
+# What the other compiler has: images of version 2, with cells of eight bytes and 4,000 values.
+STAGE = ['--stage', '=12,15']
+
 
 def calls():
     """The calls that main.rt lists: words and input."""
@@ -32,7 +35,7 @@ def files():
 
 def made(words, given):
     """What a call comes to: its status, its output, its line."""
-    run = trc.Run(words, files(), given.encode())
+    run = trc.Run(STAGE + words, files(), given.encode())
     return run.status, bytes(run.out).decode(), run.err and run.err + '\n'
 
 
