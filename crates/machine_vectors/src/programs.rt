@@ -1,7 +1,7 @@
 //! Programs of a few words, and what they come to.
 
 use crate::effects::byte_of;
-use a64_machine::Machine;
+use a64_machine::{Halt, Machine};
 use image_form::{Bytes, Image, ProcPlaces, Words};
 use std::alloc::{AllocError, Global};
 use trc_base::{CleanSink, MemSink};
@@ -194,7 +194,7 @@ pub fn compare(rt: &(impl Print + AllocGlobal), text: &str) -> anyhow::Result<bo
     Ok(all)
 }
 
-/// Whether the program of the line halts as the line says, having written what it says.
+/// Whether the program of the line halts as the line says, having written what it says. Lines say no word of a trap.
 fn agrees(alloc: Global, line: &str) -> anyhow::Result<bool> {
     let Some((words, answer)) = line.split_once(" -> ") else {
         return Ok(false);
@@ -209,8 +209,10 @@ fn agrees(alloc: Global, line: &str) -> anyhow::Result<bool> {
         return Ok(false);
     };
     let mut out = MemSink::new(alloc, 4096, 4096, Vec::new(alloc))?;
-    let halt = machine.run(2000, &mut out);
-    let halt = format!(in alloc; "{halt:?}")?;
+    let halt = match machine.run(2000, &mut out) {
+        Halt::Trapped { kind, .. } => format!(in alloc; "Trapped({kind})")?,
+        halt => format!(in alloc; "{halt:?}")?,
+    };
     Ok(halt.as_str() == wanted && is_written(out.bytes(), output))
 }
 
