@@ -1,0 +1,4 @@
+pub mod Stacks
+pub mod Tasks
+pub mod Weights
+pub mod Framed
