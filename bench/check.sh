@@ -1,6 +1,7 @@
 #!/bin/bash
 # Time of checking against size, in doublings: declarations, one long expression, names of one scope, fields of one record, labels of
-# one CASE, and procedures.
+# one CASE, procedures; and what small texts may repeat: one record with as many extensions as fields, an array of so many dimensions, a
+# string constant that is used again and again.
 #
 #     bench/check.sh [PROGRAM]
 #
@@ -32,6 +33,13 @@ make() {
             } else if (kind == "labels") {
                 print "VAR a: INTEGER; BEGIN CASE a OF 0:"; for (i = 1; i < n; i++) printf "| %d:\n", i * 7919 % n
                 print "END"
+            } else if (kind == "extensions") {
+                printf "TYPE R = RECORD "; names("f"); print ": INTEGER END;"; for (i = 0; i < n; i++) printf "E%d = RECORD (R) END;\n", i
+            } else if (kind == "dimensions") {
+                printf "VAR a: ARRAY 1"; for (i = 1; i < n; i++) printf ", 1"; print " OF CHAR;"
+            } else if (kind == "strings") {
+                printf "CONST s = \""; for (i = 0; i < n; i++) printf "x"; printf "\"; VAR a: ARRAY %d OF CHAR; BEGIN\n", n + 1
+                for (i = 0; i < n / 12; i++) print "a := s;"
             }
             print "END M."
         }'
@@ -48,7 +56,7 @@ checked() {
 }
 
 printf '%-14s %8s %9s %10s %10s %10s %10s %8s\n' module size bytes 'scan, ms' 'parse, ms' 'check, ms' 'us each' growth
-for kind in declarations expression names fields labels procedures; do
+for kind in declarations expression names fields labels extensions dimensions strings procedures; do
     sizes='1250 2500 5000 10000 20000'
     [ "$kind" = procedures ] && sizes='125 250 500 1000'
     last=

@@ -19,7 +19,7 @@ bench/other_compiler.py says where the other compiler is; without it nothing is 
 import re
 import sys
 
-from row_texts import integer, letters, listed, some, truth
+from row_texts import extent_of, integer, letters, listed, some, truth
 from tree import *
 from check import check_sources
 from meaning import meaning, Ended, Trapped, deep
@@ -273,7 +273,8 @@ class Writer:
 
     def record(self, r):
         fields = listed('record { name = []; exported = %s; type_number = %d }' % (truth(f.exported), self.number(f.type)) for f in r.own)
-        return 'record { «module» = %d; base = %s; level = %d; fields = %s; cells = %d }' % (r.module, some(None if r.base is None else r.base.number), r.level, fields, r.ncells)
+        return 'record { «module» = %d; base = %s; level = %d; fields = %s; cells = %d; extent = %s }' % (
+            r.module, some(None if r.base is None else r.base.number), r.level, fields, r.ncells, extent_of(self.p, r))
 
     def program(self):
         modules = listed('record { name = []; objects = []; variables = %s; body = %d }' % (listed(str(self.number(v.type)) for v in m.vars), m.body) for m in self.p.modules)
@@ -370,7 +371,7 @@ def means(rows):
 def formed(rows):
     for (name, *_), source in rows_of(rows):
         yield declared(name, source, program_of(source)[1])
-        yield 'pub %s_formed : %s → well_formed (%s b v) ≡ true\n%s_formed b v = refl\n' % (name, ARGUMENTS, name, name)
+        yield 'pub %s_formed : %s → well_formed (%s b v) ≡ true\nunfolding data_tree record_row\n%s_formed b v = refl\n' % (name, ARGUMENTS, name, name)
 
 
 def spoiled(rows, spoils):
@@ -383,7 +384,7 @@ def spoiled(rows, spoils):
             assert old in text, (name, old, text)
             text = text.replace(old, new, 1)
         yield declared(name, sources[row], text)
-        yield 'pub %s_not : %s → well_formed (%s b v) ≡ false\n%s_not b v = refl\n' % (name, ARGUMENTS, name, name)
+        yield 'pub %s_not : %s → well_formed (%s b v) ≡ false\nunfolding data_tree record_row\n%s_not b v = refl\n' % (name, ARGUMENTS, name, name)
         if run:
             out = listed(run[1].split(',')) if len(run) > 1 else '[]'
             yield 'pub %s_run : %s → meaning (%s b v) [] %s ≡ Trapped Senseless %s\nunfolding digits\n%s_run b v = refl\n' % (

@@ -9,7 +9,7 @@ Symbols that the judgement never reads are numbered 0 in the trees."""
 import re
 import sys
 
-from row_texts import integer, letters, listed, some, truth
+from row_texts import extent_of, integer, letters, listed, some, truth
 import check as C
 import parse as P
 import tree as T
@@ -456,7 +456,8 @@ class Checked:
 
     def record(self, r):
         fields = listed('record { name = %s; exported = %s; shape = %s }' % (letters(f.name), truth(f.exported), self.shape(f.type)) for f in r.own)
-        return 'record { module_number = %d; base = %s; level = %d; fields = %s; cells = %d }' % (r.module, some(None if r.base is None else r.base.number), r.level, fields, r.ncells)
+        return 'record { module_number = %d; base = %s; level = %d; fields = %s; cells = %d; extent = %s }' % (
+            r.module, some(None if r.base is None else r.base.number), r.level, fields, r.ncells, extent_of(self.p, r))
 
     def program(self):
         return 'record { records = %s; pointers = %s; modules = %s; procedures = %s; imports_in = %s }' % (

@@ -85,17 +85,21 @@ def proc(p):
     return '(proc %s %d %d %s %d %d)' % (listed(block(b) for b in p.blocks), p.values, p.args, truth(p.counted), p.local_cells, p.local_bytes)
 
 
+# what a row has to see into
+SEEN = {'lowered': '', 'lowered_packed': 'unfolding data_tree record_row fields_before\n'}
+
+
 def lowered(rows, stage, word, layout):
     for (name, *_), source in rows_of(rows):
         p, text = program_of(source)
         low = deep(lambda: lower.lower(p, stage))
         yield declared(name, source, text)
         yield 'abbrev %s_procs : List Proc\n%s_procs = %s\n' % (name, name, listed(proc(q) for q in low.procs))
-        yield 'pub %s_low : %s → %s (%s b v) ≡ %s_procs\n%s_low b v = refl\n' % (name, ARGUMENTS, word, name, name, name)
+        yield 'pub %s_low : %s → %s (%s b v) ≡ %s_procs\n%s%s_low b v = refl\n' % (name, ARGUMENTS, word, name, name, SEEN[word], name)
         constants = low.layout.constants()
         if 0 < len(constants) <= 640:
-            yield 'pub %s_constants : %s → constants (%s b v) (%s (%s b v).types) %d ≡ %s\n%s_constants b v = refl\n' % (
-                name, ARGUMENTS, name, layout, name, GLOBALS, numbers(constants), name)
+            yield 'pub %s_constants : %s → constants (%s b v) (%s (%s b v).types) %d ≡ %s\n%s%s_constants b v = refl\n' % (
+                name, ARGUMENTS, name, layout, name, GLOBALS, numbers(constants), SEEN[word], name)
 
 
 def in_runs(xs):

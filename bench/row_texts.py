@@ -1,5 +1,6 @@
 """What the scripts that write rows share: values as definitions write them, and, by `other_compiler`, what they are held against."""
 import other_compiler  # noqa: F401 (its folder on the path)
+from lower import Layout
 
 
 def some(x):
@@ -17,6 +18,12 @@ def letters(text):
 
 def truth(b):
     return 'true' if b else 'false'
+
+
+def extent_of(program, record):
+    """What a record type takes where small scalars take a byte."""
+    layout = Layout(program, 13)
+    return 'record { bytes = %d; wide = %s }' % (layout.bytes(record), truth(layout.align(record) == 8))
 
 
 def integer(n):

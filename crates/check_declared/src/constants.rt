@@ -12,10 +12,11 @@ ghost use Rattle.check_declared.specs.Constants.{text_in, consts_part, constant_
 use crate::string_places::string_place;
 use check_expressions::constants::{ConstantValue, constant};
 use check_making::{Declaring, Surroundings};
-use check_operands::text;
+use check_operands::characters_of;
 use check_types::names::{Constant, Named};
 use check_types::steps::CheckFault;
 use ob_syntax::declarations::ConstDecl;
+use ob_types::Characters;
 
 // A constant as its name keeps it: the characters of a string are among those of the state.
 fn keep(
@@ -34,23 +35,20 @@ fn keep(
     match value {
         ConstantValue::Bits(basic, bits) => Ok(Constant::Bits(basic, bits)),
         ConstantValue::Chars(n) => {
-            let characters = characters_of(state, round, n)?;
+            let characters = characters_in(state, round, n)?;
             let place = string_place(state, round, n);
-            state.string(round, &characters, place)
+            state.string(round, characters, place)
         }
     }
 }
 
-// The characters of a string by its number, copied.
-fn characters_of(state: &Declaring, round: &Surroundings, n: u32) -> Result<Vec<u8>, CheckFault>
-    ensures characters { IfOk result (λ v. v.items ≡ text_in round.now state.now n) }
+// The characters of a string by its number.
+fn characters_in(state: &Declaring, round: &Surroundings, n: u32) -> Result<Characters, CheckFault>
+    ensures characters { IfOk result (λ s. s ≡ text_in round.now state.now n) }
     ensures memory { IfErr result (λ e. e ≡ CheckFault.Memory) }
 {
     let scope = state.scope(round);
-    match Vec::from_slice(round.alloc, text(&scope, n)) {
-        Ok(characters) => Ok(characters),
-        Err(_) => Err(CheckFault::Memory),
-    }
+    Ok(characters_of(&scope, round.alloc, n)?)
 }
 
 /// A constant is declared.

@@ -4,5 +4,4 @@ pub mod LayoutsSoFar
 pub mod FieldLists
 pub mod WholeRecords
 pub mod PointerParts
-pub mod Copies
 pub mod LegalArrays

@@ -9,7 +9,7 @@ ghost use Rattle.check_making.specs.Parts.{IsNextModule};
 
 use crate::making::{Declaring, Surroundings, TextPlace};
 use check_types::names::Level;
-use items::Items;
+use ob_types::Characters;
 use outside::Memory;
 use std::collections::BTreeMap;
 use table_builder::TableBuilder;
@@ -20,7 +20,7 @@ impl Declaring {
     pub fn begin(
         round: &Surroundings,
         types: TableBuilder,
-        strings: Vec<Items<u8>>,
+        strings: Vec<Characters>,
         places: Vec<TextPlace>,
         imports_in: bool,
     ) -> Result<Declaring, Memory>

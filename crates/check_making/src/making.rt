@@ -4,6 +4,7 @@ use check_types::TypeRef;
 use check_types::names::{Declared, KnownModule, Level};
 use check_types::steps::Source;
 use items::Items;
+use ob_types::Characters;
 use std::alloc::Global;
 use std::collections::BTreeMap;
 use table_builder::TableBuilder;
@@ -50,7 +51,7 @@ pub struct Offered {
 pub struct Declaring {
     pub imports_in: bool,
     pub types: TableBuilder,
-    pub strings: Vec<Items<u8>>,
+    pub strings: Vec<Characters>,
     pub places: Vec<TextPlace>,
     pub levels: Vec<Level>,
     pub procedure: Option<u32>,

@@ -10,7 +10,7 @@ ghost use Rattle.check_making.specs.Making.{table_of, strings_of, characters_at,
 use crate::making::{Declaring, Surroundings, TextPlace};
 use check_types::names::{Constant, Named};
 use check_types::steps::CheckFault;
-use items::Items;
+use ob_types::Characters;
 
 /// The number behind so many; without one there is no memory for another.
 pub fn next_number<T>(items: &[T]) -> Result<u32, CheckFault>
@@ -28,21 +28,20 @@ impl Declaring {
     pub fn string(
         &mut self,
         round: &Surroundings,
-        characters: &[u8],
+        characters: Characters,
         place: TextPlace,
     ) -> Result<Constant, CheckFault>
         requires settled { IsSettled round.now self.old }
-        requires place { characters_at round.now.texts.now place ≡ characters.now }
+        requires place { characters_at round.now.texts.now place ≡ characters }
         ensures settled { OnOk result (IsSettled round.now self.new) }
         ensures makes { OnOk result ((m : Making) → Makes round.now self.old m → Makes round.now self.new m) }
         ensures stays { IfOk result (λ c. NamedStays self.new.types.table (strings_of self.new) (Named.Constant c)) }
-        ensures means { IfOk result (λ c. constant_of (table_of self.new) (strings_of self.new) c ≡ Chars characters.now) }
+        ensures means { IfOk result (λ c. constant_of (table_of self.new) (strings_of self.new) c ≡ Chars characters) }
         ensures types { self.new.types ≡ self.old.types }
         ensures memory { IfErr result (λ e. e ≡ CheckFault.Memory) }
     {
         let n = next_number(&self.strings)?;
-        let string = Items::from_slice(round.alloc, characters)?;
-        self.strings.push(string)?;
+        self.strings.push(characters)?;
         self.places.push(place)?;
         Ok(Constant::Chars(n))
     }

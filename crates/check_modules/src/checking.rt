@@ -23,7 +23,7 @@ use check_types::names::KnownModule;
 use check_types::steps::{CheckFault, Source};
 use items::Items;
 use ob_syntax::modules::Module;
-use ob_types::Module as ModuleOf;
+use ob_types::{Characters, Module as ModuleOf};
 use std::alloc::Global;
 use table_builder::TableBuilder;
 
@@ -31,7 +31,7 @@ use table_builder::TableBuilder;
 fn begun(
     round: &Surroundings,
     types: TableBuilder,
-    strings: Vec<Items<u8>>,
+    strings: Vec<Characters>,
     places: Vec<TextPlace>,
     imports_in: bool,
 ) -> Result<Declaring, CheckFault>

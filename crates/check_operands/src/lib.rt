@@ -15,5 +15,5 @@ mod usage;
 mod values;
 
 pub use operand::{Operand, Use, What};
-pub use texts::{constant_text, literal_text, text};
+pub use texts::{characters_of, constant_text, literal_text, text};
 pub use values::{checked, designator, form};

@@ -7,6 +7,8 @@ ghost use Rattle.check_operands.specs.Operands.{texts_of};
 
 use check_types::names::Scope;
 use check_types::steps::CheckFault;
+use ob_types::Characters;
+use std::alloc::{AllocError, Global};
 
 /// The number of a literal's characters.
 pub fn literal_text<'a>(scope: &Scope<'a>, i: u32) -> u32
@@ -53,6 +55,33 @@ pub fn text<'a>(scope: &Scope<'a>, n: u32) -> &'a [u8]
             Some(string) => string.as_slice(),
             None => &[],
         }
+    }
+}
+
+// The characters of a string constant.
+fn constant_characters(
+    alloc: Global,
+    strings: &[Characters],
+    k: usize,
+) -> Result<Characters, AllocError>
+    ensures { IfOk result (λ s. s ≡ slice_index_or strings.now k []) }
+{
+    match strings.get(k) {
+        Some(string) => string.again(),
+        None => Characters::from_slice(alloc, &[]),
+    }
+}
+
+/// The characters of a number, which all uses of a constant have in common.
+pub fn characters_of<'a>(scope: &Scope<'a>, alloc: Global, n: u32) -> Result<Characters, AllocError>
+    ensures { IfOk result (λ s. s ≡ slice_index_or (texts_of scope.now) n []) }
+{
+    let before = scope.source.count();
+    let number = n as usize;
+    if number > before {
+        constant_characters(alloc, scope.strings, number - before - 1)
+    } else {
+        Characters::from_slice(alloc, text(scope, n))
     }
 }
 

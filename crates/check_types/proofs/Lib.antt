@@ -1,2 +1,3 @@
 pub mod SameShapes
 pub mod Rounds
+pub mod Copies

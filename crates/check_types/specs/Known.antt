@@ -3,8 +3,8 @@ use Rattle.std.specs.Prelude.{map, option_map}
 use Rattle.ob_types.specs.Table.{Table}
 use Rattle.ob_judge.specs.Shapes.{Known}
 use Rattle.ob_judge.specs.Shapes.{Field as FieldOf, Layout as LayoutOf, Added as AddedOf}
-use Rattle.check_types.specs.steps.Maps.{at_bytes}
-use Rattle.check_types.specs.declared.table.FieldEntry.{FieldEntry}
+use Rattle.check_types.specs.Fields.{at_fields}
+use Rattle.check_types.specs.declared.fields.FieldEntry.{FieldEntry}
 use Rattle.check_types.specs.declared.table.Added.{Added}
 use Rattle.check_types.specs.declared.table.Layout.{Layout}
 use Rattle.check_types.specs.declared.table.TypeTable.{TypeTable}
@@ -21,8 +21,9 @@ layout_of t l = record {
   module_number = l.module_number;
   line = l.line.items;
   added = map (added_of t) l.added.items;
-  fields = λ q. option_map (field_of t) (at_bytes l.fields q);
+  fields = λ q. option_map (field_of t) (at_fields l.fields q);
   cells = l.cells;
+  extent = l.extent;
 }
 
 abbrev pub known_of : TypeTable → Known

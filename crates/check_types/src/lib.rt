@@ -6,6 +6,7 @@
 //! test: sameness, extension, assignability, what may name what, and the tables of operators.
 #![tactic(auto)]
 
+mod fields;
 mod kinds;
 pub mod names;
 mod operators;
@@ -15,5 +16,6 @@ mod table;
 mod tests_of_types;
 mod types;
 
-pub use table::{Added, FieldEntry, Layout, TypeTable};
+pub use fields::{FieldEntry, Fields};
+pub use table::{Added, Layout, TypeTable};
 pub use types::TypeRef;

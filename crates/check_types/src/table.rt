@@ -3,22 +3,11 @@
 ghost use Rattle.std.specs.Prelude.{◌≡◌, []};
 ghost use Rattle.check_types.specs.TableFacts.{IsMeant, IsApart};
 
+use crate::fields::Fields;
 use crate::types::TypeRef;
 use items::Items;
-use ob_types::Types;
+use ob_types::{Extent, Types};
 use std::alloc::Global;
-use std::collections::BTreeMap;
-
-/// A field by its name: the record type that adds it and its place among those that this one adds, its type, and
-/// whether it is exported, and by which module.
-#[derive(Clone, Copy)]
-pub struct FieldEntry {
-    pub adder: u32,
-    pub number: u32,
-    pub of: TypeRef,
-    pub exported: bool,
-    pub owner: u32,
-}
 
 /// A field that a record type adds.
 #[derive(Drop)]
@@ -28,15 +17,16 @@ pub struct Added {
     pub of: TypeRef,
 }
 
-/// A record type: the module that declares it, itself and its bases by their numbers, the fields that it adds, and all
-/// its fields by their names.
+/// A record type: the module that declares it, itself and its bases by their numbers, the fields that it adds, all its
+/// fields by their names, and what it takes in cells and in bytes.
 #[derive(Drop)]
 pub struct Layout {
     pub module_number: u32,
     pub line: Vec<u32>,
     pub added: Vec<Added>,
-    pub fields: BTreeMap<Vec<u8>, FieldEntry>,
+    pub fields: Fields,
     pub cells: u64,
+    pub extent: Extent,
 }
 
 /// The types by number, as the program has them and as the checker works with them; the record types by number, and of

@@ -10,8 +10,7 @@ ghost use Rattle.eval_layouts.specs.First.{string_of};
 
 use crate::rows::added_cells;
 use eval_store::{Cell, Object, Objects};
-use items::Items;
-use ob_types::Program;
+use ob_types::{Characters, Program};
 use outside::Memory;
 use std::alloc::Global;
 
@@ -51,7 +50,7 @@ fn string(alloc: Global, text: &[u8]) -> Result<Object, Memory>
 }
 
 /// Strings behind those that are there.
-fn push_strings(alloc: Global, all: &mut Objects, texts: &[Items<u8>]) -> Result<(), Memory>
+fn push_strings(alloc: Global, all: &mut Objects, texts: &[Characters]) -> Result<(), Memory>
     ensures { OnOk result (all.new ≡ all.old ++ map string_of texts.now) }
 {
     for text in texts {

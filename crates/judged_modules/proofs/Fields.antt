@@ -4,7 +4,8 @@ use Rattle.std.specs.Prelude.{slice_get, slice_set, nat_eq, if◌then◌else◌,
 use Rattle.std.specs.Str.{bytes_eq}
 use Rattle.ob_types.proofs.Tests.{none_some, some_same, less_or_past}
 use Rattle.ob_syntax.specs.declared.names.Identdef.{Identdef}
-use Rattle.ob_judge.specs.Shapes.{Shape, Added, Layout, contains, cells}
+use Rattle.ob_types.specs.Trees.{with_part}
+use Rattle.ob_judge.specs.Shapes.{Shape, Added, Layout, contains, cells, extent}
 use Rattle.ob_judge.specs.Shapes.{Field as FieldOf}
 use Rattle.ob_judge.specs.Scopes.{World, Source, spelled}
 use Rattle.ob_judge.specs.Making.{Making, no_layout}
@@ -73,6 +74,7 @@ module _ (w : Final) where
       added = g.added ++ new x a ∷ [];
       fields = add_field p (spelled p x.name) (field n v x a g) g.fields;
       cells = g.cells + cells v.known a;
+      extent = with_part g.extent (extent v.known a);
     }
 
     pub adding_fields : (n : ℕ) (v : World) (a : Shape) → IsGood w a → (xs : List Identdef) (g : Layout) (s : Making) → Adding n g s → Adding n (add_fields p n v a xs g) s

@@ -3,6 +3,7 @@ use Rattle.std.proofs.Common.{◌≡◌, ℕ, suc, ◌<◌, ◌≤◌, List, [],
 use Rattle.std.specs.Prelude.{slice_get, slice_set, is_none, nat_le}
 use Rattle.ob_syntax.specs.Syntax as S
 use Rattle.ob_syntax.specs.declared.names.Identdef.{Identdef}
+use Rattle.ob_types.specs.Trees.{rounded_extent}
 use Rattle.ob_judge.specs.Judged.{Judged, Keeps, Breaks, ◌>>=◌, rule, some}
 use Rattle.ob_judge.specs.Shapes.{Shape, Record, Pointer, Procedure, Layout}
 use Rattle.ob_judge.specs.Scopes.{Source, place, spelled, World}
@@ -303,8 +304,8 @@ module _ (p : Source) where
         (and_then (i_fields n first (record (b.0) { added = [] }) (record (b.1) { standing = [] })) (λ g k. weaken (i_more n more g.0 g.1) (λ q l. (follows (record (b.1) { standing = [] }) g.1 q.1 k.0 l.0, l.1 ∙ k.1))))) (λ g k.
         and_then (i_look (rule 35 (place p i) (nat_le (g.0).cells limit)) g.1) (λ u l.
         let whole = follows (with_record s) b.1 u.1 h.0 (follows b.1 g.1 u.1 k.0 l) in
-        keeps (InTo s) (Record n, with_known (λ k. record k { records = slice_set k.records n (record (g.0) { module_number = u.1.world.module_number; line = n ∷ (g.0).line }) }) u.1)
-        (record_set s u.1 (record (g.0) { module_number = u.1.world.module_number; line = n ∷ (g.0).line }) (g.0).line refl
+        keeps (InTo s) (Record n, with_known (λ k. record k { records = slice_set k.records n (record (g.0) { module_number = u.1.world.module_number; line = n ∷ (g.0).line; extent = rounded_extent (g.0).extent }) }) u.1)
+        (record_set s u.1 (record (g.0) { module_number = u.1.world.module_number; line = n ∷ (g.0).line; extent = rounded_extent (g.0).extent }) (g.0).line refl
         (subst (IsBaseLine (records_of u.1)) (sym k.1) (base_line_later (records_of (with_record s)) (records_of u.1) (b.0).line whole.grown.records h.1)) whole))))
     i_type (S.Pointer i j base) s = and_then (i_pointed s base (type_part p base) (forward_name p (with_pointer s) base) (i_type base (with_pointer s))) (λ r h. keeps (InTo s) (Pointer (length (bases_of s)), r.1) h)
     i_type (S.Procedure i formals) s = i_next (i_aside (formal_part p false formals) s) (λ r. keeps (InTo r.1) (Procedure ((r.0).0).formals (r.0).1, r.1) (still r.1))

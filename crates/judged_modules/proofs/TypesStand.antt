@@ -6,6 +6,7 @@ use Rattle.ob_types.proofs.Tests.{no, none_some, some_same, and_of, and_from}
 use Rattle.ob_syntax.specs.Syntax as S
 use Rattle.ob_syntax.specs.declared.names.Identdef.{Identdef}
 use Rattle.ob_syntax.specs.declared.types.Base.{Base}
+use Rattle.ob_types.specs.Trees.{rounded_extent}
 use Rattle.ob_judge.specs.Judged.{Judged, rule, some}
 use Rattle.ob_judge.specs.Shapes.{Shape, Array, Record, Pointer, Procedure, Layout, contains, line_of, cells}
 use Rattle.ob_judge.specs.Scopes.{World, Source, place, spelled}
@@ -215,7 +216,7 @@ module _ (w : Final) where
           and_then (k_among (λ g t. Adding w n g t) (fields_part p n first (record (b.0) { added = [] }) >>> λ g. more_part p n more g) b.1 (λ a t k. k)
           (k_next w (k_fields n first (record (b.0) { added = [] }) (record (b.1) { standing = [] }) (λ before. before)) (λ g. k_more n more g.0 g.1 (λ before. before.1)))) (λ g hg.
           and_then (k_pass w {Before = Unit {0}} (rule 35 (place p i) (nat_le (g.0).cells limit)) g.1) (λ u hu.
-          let l : Layout = record (g.0) { module_number = (u.1).world.module_number; line = n ∷ (g.0).line } in
+          let l : Layout = record (g.0) { module_number = (u.1).world.module_number; line = n ∷ (g.0).line; extent = rounded_extent (g.0).extent } in
           keeps (Stays _ (λ a t. IsGood w a) s) (Record n, with_known (λ k. record k { records = slice_set k.records n l }) u.1) (k_complete s b.1 g.1 u.1 b.0 g.0 l hb.grown hg.grown hu.grown (λ before. hb.sound before) (λ based. hg.sound based) (hu.sound tt) refl refl (λ q. refl))))))) (λ r h. record { grown = (h.0).grown; sound = (h.1).sound })
       k_type (S.Pointer i j base) s = and_then (k_pointed s base (type_part p base) (forward_name p (with_pointer s) base) (i_type p base (with_pointer s)) (k_type base (with_pointer s))) (λ r h.
           keeps (Ok w _ (λ a t. IsGood w a) s) (Pointer (length (bases_of s)), r.1) (record {

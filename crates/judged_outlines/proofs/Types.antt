@@ -6,8 +6,9 @@ use Rattle.ob_types.proofs.Tests.{none_some, some_same}
 use Rattle.ob_syntax.specs.Syntax as S
 use Rattle.ob_syntax.specs.declared.names.Identdef.{Identdef}
 use Rattle.ob_syntax.specs.declared.types.Base.{Base}
+use Rattle.ob_types.specs.Trees.{with_part, rounded_extent}
 use Rattle.ob_judge.specs.Judged.{Judged, rule, some}
-use Rattle.ob_judge.specs.Shapes.{Shape, Array, Record, Pointer, Procedure, Layout, cells}
+use Rattle.ob_judge.specs.Shapes.{Shape, Array, Record, Pointer, Procedure, Layout, cells, extent}
 use Rattle.ob_judge.specs.Shapes.{Field as FieldOf}
 use Rattle.ob_judge.specs.Scopes.{World, Source, place, spelled}
 use Rattle.ob_judge.specs.Names.{member_symbol}
@@ -86,6 +87,7 @@ module _ (p : Source) where
     added = g.added ++ record { name = spelled p x.name; exported = is_some x.star; shape = a } ∷ [];
     fields = add_field p (spelled p x.name) (record { adder = r; number = length g.added; shape = a; exported = is_some x.star; owner = v.module_number }) g.fields;
     cells = g.cells + cells v.known a;
+    extent = with_part g.extent (extent v.known a);
   }) (added n (spelled p x.name) (record { adder = r; number = length g.added; shape = a; exported = is_some x.star; owner = v.module_number }) g.fields h k)
 
   among_within : {A : Type 0} (Q : A → Making → Type 0) (m : Part A) (s : Making) → ((a : A) (t : Making) → Q a t → Q a (record t { standing = s.standing }))
@@ -139,7 +141,7 @@ module _ (p : Source) where
         d_next (among_within LayoutAmong (fields_part p n first (record (b.0) { added = [] }) >>> λ g. more_part p n more g) b.1 (λ a t k. k)
         (d_next (d_fields n first (record (b.0) { added = [] }) (record (b.1) { standing = [] }) hb.among hb.gives) (λ g hg. d_more n more g.0 g.1 hg.among hg.gives))) (λ g hg.
         d_next (d_pass (rule 35 (place p i) (nat_le (g.0).cells limit)) g.1 hg.among) (λ u hu.
-        let l : Layout = record (g.0) { module_number = (u.1).world.module_number; line = n ∷ (g.0).line } in
+        let l : Layout = record (g.0) { module_number = (u.1).world.module_number; line = n ∷ (g.0).line; extent = rounded_extent (g.0).extent } in
         keeps (LeavesAmong ShapeAmong u.1) (Record n, with_known (λ k. record k { records = slice_set k.records n l }) u.1) (record {
           more = omega arith;
           among = among_set_record u.1 n l (fields_later (pointer_count g.1) (pointer_count u.1) hu.more g.0 hg.gives) hu.among;

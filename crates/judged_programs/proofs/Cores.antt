@@ -1,15 +1,17 @@
--- The record type that a type has by value, and the cells of types, while record types are added and completed.
+-- The record type that a type has by value, and the cells and bytes of types, while record types are added and completed.
 use Rattle.std.proofs.Common.{◌≡◌, ℕ, ◌+◌, ◌*◌, List, [], ◌∷◌, ◌++◌, refl, ap, sym, ◌∙◌, arith}
 use Rattle.std.specs.Prelude.{slice_get}
-use Rattle.ob_judge.specs.Shapes.{Shape, Array, Record, Added, Layout, Known, cells_of, cells}
+use Rattle.ob_types.specs.Trees.{in_a_row, with_part}
+use Rattle.ob_types.specs.declared.types.Extent.{Extent}
+use Rattle.ob_judge.specs.Shapes.{Shape, Array, Record, Added, Layout, Known, cells_of, cells, extent_in, extent}
 use Rattle.judged_modules.specs.Agrees.{records_of}
 use Rattle.judged_modules.proofs.Lists.{get_within}
 use Rattle.judged_modules.proofs.Growing.{Grows}
 use Rattle.judged_modules.specs.Lines.{AllLines, IsLine, unknown, root, behind}
-use Rattle.judged_programs.specs.LegalTable.{cells_with}
+use Rattle.judged_programs.specs.LegalTable.{cells_with, extent_with}
 use Rattle.judged_programs.specs.Complete.{IsComplete, HasCore, IsKnown, CompleteStay}
 use Rattle.ob_judge.specs.Making.{Making}
-use Rattle.judged_programs.specs.Ranked.{cells_of_all, counted, inherited}
+use Rattle.judged_programs.specs.Ranked.{cells_of_all, counted, inherited, measured, with_all, extended}
 
 pub complete_later : (records more : List Layout) → CompleteStay records more → (r : ℕ) → IsComplete records r → IsComplete more r
 complete_later records more later r h = record { layout = h.layout; there = later r h ∙ h.there; ended = h.ended }
@@ -38,6 +40,21 @@ cells_of_more of (x ∷ xs) y =
     let e : cells_with of x.shape + (cells_of_all of xs + cells_with of y.shape) ≡ cells_with of x.shape + cells_of_all of xs + cells_with of y.shape = omega arith in
     ap (λ c. cells_with of x.shape + c) h ∙ e
 
+-- ---- bytes
+
+pub extents_are : (known : Known) (a : Shape) → extent known a ≡ extent_with (measured known.records) a
+extents_are known (Array n a) = ap (in_a_row n) (extents_are known a)
+extents_are known a = refl
+
+pub extents_same : (records more : List Layout) → CompleteStay records more → (a : Shape) → HasCore records a → extent_with (measured more) a ≡ extent_with (measured records) a
+extents_same records more later (Array n a) h = ap (in_a_row n) (extents_same records more later a h)
+extents_same records more later (Record r) h = ap extent_in (later r (h r refl))
+extents_same records more later a h = refl
+
+pub with_one_more : (of : ℕ → Extent) (xs : List Added) (y : Added) (e : Extent) → with_all of e (xs ++ y ∷ []) ≡ with_part (with_all of e xs) (extent_with of y.shape)
+with_one_more of [] y e = refl
+with_one_more of (x ∷ xs) y e = with_one_more of xs y (with_part e (extent_with of x.shape))
+
 -- ---- the lines of record types
 
 pub head_same : (x y : ℕ) (xs ys : List ℕ) → x ∷ xs ≡ y ∷ ys → (x ≡ y) × (xs ≡ ys)
@@ -65,3 +82,11 @@ inherited_same records more later all r line is = by line refl
     by [] e = refl
     by (x ∷ []) e = refl
     by (x ∷ b ∷ zs) e = ap cells_of (later b (base_complete records all r line is x b zs e))
+
+pub extended_same : (records more : List Layout) → CompleteStay records more → AllLines records → (r : ℕ) (line : List ℕ) → IsLine records r line → extended more line ≡ extended records line
+extended_same records more later all r line is = by line refl
+  where
+    by : (zs : List ℕ) → line ≡ zs → extended more zs ≡ extended records zs
+    by [] e = refl
+    by (x ∷ []) e = refl
+    by (x ∷ b ∷ zs) e = ap extent_in (later b (base_complete records all r line is x b zs e))

@@ -12,6 +12,7 @@ pub mod Weights
 pub mod TableEnds
 pub mod TableOrder
 pub mod TableCells
+pub mod TableExtents
 pub mod TableLegal
 pub mod SeveralModules
 pub mod Faithful

@@ -2,7 +2,9 @@
 use Rattle.std.proofs.Common.{◌≡◌, ℕ, suc, ◌+◌, ◌<◌, ◌≤◌, List, [], ◌∷◌, ◌++◌, length, Bool, true, false, ◌==◌, Some, refl, ap, ap₂, sym, ◌∙◌, subst, arith, eqb-true, eq-eqb, inl, inr}
 use Rattle.std.specs.Prelude.{slice_get, slice_set, if◌then◌else◌}
 use Rattle.ob_types.proofs.Tests.{some_same, less_or_past}
-use Rattle.ob_judge.specs.Shapes.{Shape, Added, Layout}
+use Rattle.ob_types.specs.Trees.{with_part, rounded_extent}
+use Rattle.ob_types.specs.declared.types.Extent.{Extent}
+use Rattle.ob_judge.specs.Shapes.{Shape, Added, Layout, extent_in}
 use Rattle.ob_judge.specs.Making.{no_layout}
 use Rattle.ob_judge.specs.Types.{limit}
 use Rattle.judged_modules.proofs.Lists.{get_append, get_last, get_within, set_other, set_here, append_length}
@@ -11,12 +13,18 @@ use Rattle.judged_modules.proofs.Lines.{decided}
 use Rattle.judged_modules.specs.Lists.{Each}
 use Rattle.judged_modules.proofs.TypesGrow.{each_map}
 use Rattle.judged_programs.specs.Complete.{IsComplete, IsKnown, CompleteStay}
-use Rattle.judged_programs.proofs.Cores.{known_later, cells_same, inherited_same, line_head, base_complete}
-use Rattle.judged_programs.specs.Ranked.{IsBefore, IsLegalRecord, IsRanked, cells_of_all, counted, inherited, IsBase, no_base, some_base, IsAdding}
+use Rattle.judged_programs.specs.LegalTable.{extent_with}
+use Rattle.judged_programs.proofs.Cores.{known_later, cells_same, inherited_same, extents_same, extended_same, line_head, base_complete}
+use Rattle.judged_programs.specs.Ranked.{IsBefore, IsLegalRecord, IsRanked, cells_of_all, counted, inherited, measured, with_all, extended, IsBase, no_base, some_base, IsAdding}
 
 cells_all_same : (records more : List Layout) → CompleteStay records more → (rank : ℕ → ℕ) (r : ℕ) (xs : List Added) → Each (IsBefore records rank r) xs → cells_of_all (counted more) xs ≡ cells_of_all (counted records) xs
 cells_all_same records more later rank r [] h = refl
 cells_all_same records more later rank r (x ∷ xs) h = ap₂ (λ a b. a + b) (cells_same records more later x.shape (h.0).0.core_there) (cells_all_same records more later rank r xs h.1)
+
+all_same : (records more : List Layout) → CompleteStay records more → (rank : ℕ → ℕ) (r : ℕ) (xs : List Added) → Each (IsBefore records rank r) xs → (e f : Extent) → e ≡ f → with_all (measured more) e xs ≡ with_all (measured records) f xs
+all_same records more later rank r [] h e f is = is
+all_same records more later rank r (x ∷ xs) h e f is =
+    all_same records more later rank r xs h.1 (with_part e (extent_with (measured more) x.shape)) (with_part f (extent_with (measured records) x.shape)) (ap₂ with_part is (extents_same records more later x.shape (h.0).0.core_there))
 
 -- what is legal stays so, where complete record types and their ranks stay
 pub legal_later : (records more : List Layout) (rank after : ℕ → ℕ) (clock until r : ℕ) (l : Layout) → CompleteStay records more → ((k : ℕ) → IsComplete records k → after k ≡ rank k) → after r ≡ rank r → clock ≤ until
@@ -28,6 +36,7 @@ legal_later records more rank after clock until r l later ranks mine longer all 
   added = each_map (IsBefore records rank r) (IsBefore more after r) l.added (λ x k. (known_later records more later x.shape k.0, λ c is. let b = k.1 c is in let e = ranks c (k.0.core_there c is) in omega (arith, b, e, mine))) h.added;
   base = λ x b more e. let k = h.base x b more e in let i = ranks b (base_complete records all r l.line line x b more e) in omega (arith, k, i, mine);
   cells = h.cells ∙ sym (ap₂ (λ a b. a + b) (inherited_same records more later all r l.line line) (cells_all_same records more later rank r l.added h.added));
+  extent = h.extent ∙ sym (ap rounded_extent (all_same records more later rank r l.added h.added (extended more l.line) (extended records l.line) (extended_same records more later all r l.line line)));
 }
 
 -- one more record type, of which nothing is known
@@ -39,6 +48,7 @@ blank_legal records rank clock r l e = subst (λ x. IsLegalRecord records rank c
   added = tt;
   base = λ x b more i. absurd (let z = i in cc);
   cells = refl;
+  extent = refl;
 })
 
 is_last : (r n : ℕ) → n ≤ r → r < suc n → r ≡ n
@@ -73,18 +83,24 @@ set_later records n l empty r h = set_other records n r l (λ e. apart e)
     apart e = h.ended (sym (ap (λ x. x.line) (some_same no_layout h.layout (sym empty ∙ ap (slice_get records) (sym e) ∙ h.there))))
 
 pub base_later : (records more : List Layout) → CompleteStay records more → (b : Layout) → IsBase records b → IsBase more b
-base_later records more later b (no_base i j) = no_base i j
-base_later records more later b (some_base r l at some i j k) = some_base r l (later r (record { layout = l; there = at; ended = some }) ∙ at) some i j k
+base_later records more later b (no_base i j e) = no_base i j e
+base_later records more later b (some_base r l at some i j e k) = some_base r l (later r (record { layout = l; there = at; ended = some }) ∙ at) some i j e k
 
 known_all_same : (records more : List Layout) → CompleteStay records more → (xs : List Added) → Each (λ x. IsKnown records x.shape) xs → cells_of_all (counted more) xs ≡ cells_of_all (counted records) xs
 known_all_same records more later [] h = refl
 known_all_same records more later (x ∷ xs) h = ap₂ (λ a b. a + b) (cells_same records more later x.shape (h.0).core_there) (known_all_same records more later xs h.1)
+
+known_all : (records more : List Layout) → CompleteStay records more → (xs : List Added) → Each (λ x. IsKnown records x.shape) xs → (e f : Extent) → e ≡ f → with_all (measured more) e xs ≡ with_all (measured records) f xs
+known_all records more later [] h e f is = is
+known_all records more later (x ∷ xs) h e f is =
+    known_all records more later xs h.1 (with_part e (extent_with (measured more) x.shape)) (with_part f (extent_with (measured records) x.shape)) (ap₂ with_part is (extents_same records more later x.shape (h.0).core_there))
 
 pub adding_later : (records more : List Layout) → CompleteStay records more → (b g : Layout) → IsAdding records b g → IsAdding more b g
 adding_later records more later b g h = record {
   line = h.line;
   added = each_map (λ x. IsKnown records x.shape) (λ x. IsKnown more x.shape) g.added (λ x k. known_later records more later x.shape k) h.added;
   cells = h.cells ∙ sym (ap (λ c. b.cells + c) (known_all_same records more later g.added h.added));
+  extent = h.extent ∙ sym (known_all records more later g.added h.added b.extent b.extent refl);
 }
 
 module _ (records : List Layout) (n : ℕ) (empty : slice_get records n ≡ Some no_layout) (all : AllLines records) (h : IsRanked records) where
@@ -108,8 +124,8 @@ module _ (records : List Layout) (n : ℕ) (empty : slice_get records n ≡ Some
   rank_of_complete : (r : ℕ) → IsComplete records r → h.rank r < h.clock
   rank_of_complete r k = (h.each r k.layout k.there).before k.ended
 
-  pub ranked_set : (b g l : Layout) → IsBase records b → IsAdding records b g → l.line ≡ n ∷ g.line → l.added ≡ g.added → l.cells ≡ g.cells → l.cells ≤ limit → IsRanked (slice_set records n l)
-  ranked_set b g l base adding line added cells few = record {
+  pub ranked_set : (b g l : Layout) → IsBase records b → IsAdding records b g → l.line ≡ n ∷ g.line → l.added ≡ g.added → l.cells ≡ g.cells → l.extent ≡ rounded_extent g.extent → l.cells ≤ limit → IsRanked (slice_set records n l)
+  ranked_set b g l base adding line added cells extent few = record {
     rank = after;
     clock = suc h.clock;
     each = λ r m at. elim (decided r n) as (λ _. IsLegalRecord (slice_set records n l) after (suc h.clock) r m) [
@@ -133,15 +149,15 @@ module _ (records : List Layout) (n : ℕ) (empty : slice_get records n ≡ Some
       whole = line ∙ ap (λ xs. n ∷ xs) adding.line
 
       short_of : IsBase records b → length b.line ≤ 15
-      short_of (no_base i j) = let e = ap length i in omega (arith, e)
-      short_of (some_base r m at some i j k) = let e = ap length i in omega (arith, e, k)
+      short_of (no_base i j u) = let e = ap length i in omega (arith, e)
+      short_of (some_base r m at some i j u k) = let e = ap length i in omega (arith, e, k)
 
       same_tail : (x y : ℕ) (xs ys : List ℕ) → x ∷ xs ≡ y ∷ ys → xs ≡ ys
       same_tail x y xs ys e = cc
 
       base_rank : IsBase records b → (x c : ℕ) (more : List ℕ) → l.line ≡ x ∷ c ∷ more → after c < after n
-      base_rank (no_base i j) x c more e = absurd (let z = sym i ∙ same_tail n x b.line (c ∷ more) (sym whole ∙ e) in cc)
-      base_rank (some_base r m at some i j k) x c more e =
+      base_rank (no_base i j u) x c more e = absurd (let z = sym i ∙ same_tail n x b.line (c ∷ more) (sym whole ∙ e) in cc)
+      base_rank (some_base r m at some i j u k) x c more e =
           let it = same_tail n x b.line (c ∷ more) (sym whole ∙ e) in
           let same : c ≡ r = line_head records r m.line (all r m at) c more (sym i ∙ it) in
           let complete : IsComplete records c = record { layout = m; there = ap (slice_get records) same ∙ at; ended = some } in
@@ -149,13 +165,22 @@ module _ (records : List Layout) (n : ℕ) (empty : slice_get records n ≡ Some
           omega (arith, a, o, l)
 
       base_cells : IsBase records b → (zs : List ℕ) → b.line ≡ zs → b.cells ≡ inherited (slice_set records n l) (n ∷ zs)
-      base_cells (no_base i j) [] e = j
-      base_cells (no_base i j) (z ∷ zs) e = absurd (let y = sym i ∙ e in cc)
-      base_cells (some_base r m at some i j k) [] e = absurd (some (sym i ∙ e))
-      base_cells (some_base r m at some i j k) (z ∷ zs) e =
+      base_cells (no_base i j u) [] e = j
+      base_cells (no_base i j u) (z ∷ zs) e = absurd (let y = sym i ∙ e in cc)
+      base_cells (some_base r m at some i j u k) [] e = absurd (some (sym i ∙ e))
+      base_cells (some_base r m at some i j u k) (z ∷ zs) e =
           let same : z ≡ r = line_head records r m.line (all r m at) z zs (sym i ∙ e) in
           let complete : IsComplete records z = record { layout = m; there = ap (slice_get records) same ∙ at; ended = some } in
           j ∙ sym (ap Rattle.ob_judge.specs.Shapes.cells_of (later z complete ∙ complete.there))
+
+      base_extent : IsBase records b → (zs : List ℕ) → b.line ≡ zs → b.extent ≡ extended (slice_set records n l) (n ∷ zs)
+      base_extent (no_base i j u) [] e = u
+      base_extent (no_base i j u) (z ∷ zs) e = absurd (let y = sym i ∙ e in cc)
+      base_extent (some_base r m at some i j u k) [] e = absurd (some (sym i ∙ e))
+      base_extent (some_base r m at some i j u k) (z ∷ zs) e =
+          let same : z ≡ r = line_head records r m.line (all r m at) z zs (sym i ∙ e) in
+          let complete : IsComplete records z = record { layout = m; there = ap (slice_get records) same ∙ at; ended = some } in
+          u ∙ sym (ap extent_in (later z complete ∙ complete.there))
 
       new : IsLegalRecord (slice_set records n l) after (suc h.clock) n l
       new = record {
@@ -169,4 +194,5 @@ module _ (records : List Layout) (n : ℕ) (empty : slice_get records n ≡ Some
         )) adding.added);
         base = base_rank base;
         cells = cells ∙ now.cells ∙ ap₂ (λ x y. x + y) (base_cells base b.line refl ∙ ap (inherited (slice_set records n l)) (sym whole)) (ap (cells_of_all (counted (slice_set records n l))) (sym added));
+        extent = extent ∙ ap rounded_extent (now.extent ∙ ap₂ (λ e xs. with_all (measured (slice_set records n l)) e xs) (base_extent base b.line refl ∙ ap (extended (slice_set records n l)) (sym whole)) (sym added));
       }

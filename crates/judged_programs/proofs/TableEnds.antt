@@ -1,13 +1,13 @@
 -- The record types of a program that the judgement gives, beside what the judgement has made of them at its end.
-use Rattle.std.proofs.Common.{◌≡◌, ℕ, zero, suc, ◌<◌, List, [], ◌∷◌, map, length, Some, None, refl, ap, sym, ◌∙◌, arith, inl, inr}
+use Rattle.std.proofs.Common.{◌≡◌, ℕ, zero, suc, ◌<◌, List, [], ◌∷◌, map, length, Some, refl, ap, sym, ◌∙◌, arith, inl, inr}
 use Rattle.std.specs.Prelude.{slice_get, slice_index_or, option_map}
 use Rattle.std.proofs.lemmas.List.{get_or_past}
 use Rattle.ob_types.specs.declared.types.Field.{Field}
 use Rattle.ob_types.specs.declared.types.RecordType.{RecordType as RecordOf}
 use Rattle.ob_types.specs.declared.program.Program.{Program}
-use Rattle.ob_types.specs.Layout.{record_of, types_of}
+use Rattle.ob_types.specs.Layout.{record_of, no_record_type, types_of}
 use Rattle.ob_types.proofs.Tests.{none_some, some_same, less_or_past}
-use Rattle.ob_judge.specs.Shapes.{Added, Layout, cells_of}
+use Rattle.ob_judge.specs.Shapes.{Added, Layout, cells_of, extent_in}
 use Rattle.ob_judge.specs.Image.{RecordType}
 use Rattle.ob_judge.specs.Modules.{SoFar, record_form, base_in}
 use Rattle.judged_tree.specs.TypeShapes.{shape_of}
@@ -15,10 +15,10 @@ use Rattle.judged_tree.specs.Plain.{plain_field, plain_record}
 use Rattle.judged_modules.proofs.Lists.{get_within}
 use Rattle.judged_modules.specs.Lines.{IsLine, unknown, root, behind}
 use Rattle.judged_modules.proofs.Agreement.{map_get, from_map, two_maps, index_at}
-use Rattle.judged_programs.specs.LegalTable.{record_count}
+use Rattle.judged_programs.specs.LegalTable.{record_count, said_extent}
 use Rattle.judged_programs.proofs.Cores.{head_same, line_head}
 use Rattle.judged_programs.proofs.Ends.{IsEndOf, each_at}
-use Rattle.judged_programs.specs.Ranked.{IsBefore, IsLegalRecord, counted}
+use Rattle.judged_programs.specs.Ranked.{IsBefore, IsLegalRecord, counted, measured}
 
 module _ (p : Program) (c : SoFar) (end : IsEndOf p c) where
   abbrev records : List Layout
@@ -94,7 +94,7 @@ module _ (p : Program) (c : SoFar) (end : IsEndOf p c) where
 
   -- ---- cells
 
-  cells_in : (xs : List RecordOf) (ls : List Layout) (r : ℕ) → map (plain_record p.types) xs ≡ map record_form ls → (slice_index_or xs r (record { «module» = 0; base = None; level = 0; fields = []; cells = 0 })).cells ≡ cells_of (slice_get ls r)
+  cells_in : (xs : List RecordOf) (ls : List Layout) (r : ℕ) → map (plain_record p.types) xs ≡ map record_form ls → (slice_index_or xs r no_record_type).cells ≡ cells_of (slice_get ls r)
   cells_in [] [] r h = refl
   cells_in [] (l ∷ ls) r h = absurd (let z = h in cc)
   cells_in (x ∷ xs) [] r h = absurd (let z = h in cc)
@@ -110,6 +110,24 @@ module _ (p : Program) (c : SoFar) (end : IsEndOf p c) where
   -- the table counts the cells that the judgement counted
   pub counts_same : (r : ℕ) → record_count p.types r ≡ counted records r
   counts_same r = cells_in p.types.records records r end.records
+
+  -- and the bytes
+
+  extents_in : (xs : List RecordOf) (ls : List Layout) (r : ℕ) → map (plain_record p.types) xs ≡ map record_form ls → (slice_index_or xs r no_record_type).extent ≡ extent_in (slice_get ls r)
+  extents_in [] [] r h = refl
+  extents_in [] (l ∷ ls) r h = absurd (let z = h in cc)
+  extents_in (x ∷ xs) [] r h = absurd (let z = h in cc)
+  extents_in (x ∷ xs) (l ∷ ls) zero h = ap (λ z. z.extent) (first (plain_record p.types x) (record_form l) (map (plain_record p.types) xs) (map record_form ls) h)
+    where
+      first : (a b : RecordType) (as' bs : List RecordType) → a ∷ as' ≡ b ∷ bs → a ≡ b
+      first a b as' bs e = cc
+  extents_in (x ∷ xs) (l ∷ ls) (suc r) h = extents_in xs ls r (rest (plain_record p.types x) (record_form l) (map (plain_record p.types) xs) (map record_form ls) h)
+    where
+      rest : (a b : RecordType) (as' bs : List RecordType) → a ∷ as' ≡ b ∷ bs → as' ≡ bs
+      rest a b as' bs e = cc
+
+  pub extents_same : (r : ℕ) → said_extent p.types r ≡ measured records r
+  extents_same r = extents_in p.types.records records r end.records
 
   -- ---- fields
 

@@ -11,8 +11,10 @@ use Rattle.ob_types.specs.declared.program.Procedure.{Procedure as ProcedureOf}
 use Rattle.ob_types.specs.declared.program.Program.{Program}
 use Rattle.ob_types.specs.Layout.{kind_of, record_of, types_of, cells, record_cells}
 use Rattle.ob_types.specs.Forms.{all, all_below, if_base}
+use Rattle.ob_types.specs.Trees.{same_extent, record_extent}
+use Rattle.ob_types.proofs.DataTrees.{same_extent_from}
 use Rattle.ob_types.specs.LegalTypes.{most_cells, is_length, is_record_type, is_variable_type, is_result_type, is_scalar_kind, is_no_kind, kind_legal, type_legal, record_legal, formal_legal, signature_legal, types_legal, mode_fits}
-use Rattle.ob_types.specs.WellFormed.{words_of, argument_words, level_by, level_fine, cells_fine, counts_fine}
+use Rattle.ob_types.specs.WellFormed.{words_of, argument_words, level_by, level_fine, sizes_fine, counts_fine}
 use Rattle.ob_types.proofs.Tests.{none_some, and_from, below_from}
 use Rattle.ob_judge.specs.Parameters.{mode_of}
 use Rattle.ob_judge.specs.Modules.{SoFar, base_in}
@@ -29,6 +31,7 @@ use Rattle.judged_programs.proofs.Ends.{IsEndOf, all_from, image_at}
 use Rattle.judged_programs.proofs.TableEnds.{record_at, record_there, behind_base, field_before, legal_record}
 use Rattle.judged_programs.proofs.TableOrder.{level_behind}
 use Rattle.judged_programs.proofs.TableCells.{cells_are_counted, record_cells_are}
+use Rattle.judged_programs.proofs.TableExtents.{record_extents_are}
 use Rattle.judged_programs.specs.Tidy.{words_in}
 
 is_less : (a b : ℕ) → a < b → nat_lt a b ≡ true
@@ -59,10 +62,12 @@ module _ (p : Program) (c : SoFar) (end : IsEndOf p c) (ok : IsFaithful p.types)
   words_same (x ∷ xs) = sum_by-cons (λ (y : Formal). words_of y.mode) x xs ∙ ap (λ n. words_of x.mode + n) (words_same xs)
 
   pub counts_are_fine : counts_fine p ≡ true
-  counts_are_fine = and_from (all_below (length p.types.records) (level_fine p) && all_below (length p.types.records) (cells_fine p)) (all (λ g. nat_le (argument_words g.formals) 24) p.types.signatures && all (λ q. nat_le (argument_words q.formals) 24) p.procedures)
-      (and_from (all_below (length p.types.records) (level_fine p)) (all_below (length p.types.records) (cells_fine p))
+  counts_are_fine = and_from (all_below (length p.types.records) (level_fine p) && all_below (length p.types.records) (sizes_fine p)) (all (λ g. nat_le (argument_words g.formals) 24) p.types.signatures && all (λ q. nat_le (argument_words q.formals) 24) p.procedures)
+      (and_from (all_below (length p.types.records) (level_fine p)) (all_below (length p.types.records) (sizes_fine p))
       (below_from (length p.types.records) (level_fine p) levels_fine)
-      (below_from (length p.types.records) (cells_fine p) (λ r l. eq-eqb (record_of p.types r).cells (record_cells p.types r) (sym (record_cells_are p c end ok legal r l)))))
+      (below_from (length p.types.records) (sizes_fine p) (λ r l. and_from ((record_of p.types r).cells == record_cells p.types r) (same_extent (record_of p.types r).extent (record_extent p.types r))
+      (eq-eqb (record_of p.types r).cells (record_cells p.types r) (sym (record_cells_are p c end ok legal r l)))
+      (same_extent_from (record_of p.types r).extent (record_extent p.types r) (sym (record_extents_are p c end ok legal r l))))))
       (and_from (all (λ g. nat_le (argument_words g.formals) 24) p.types.signatures) (all (λ q. nat_le (argument_words q.formals) 24) p.procedures)
       (all_from (λ g. nat_le (argument_words g.formals) 24) p.types.signatures (λ g x at. is_most (argument_words x.formals) 24 (legal.signature g x at).words))
       (all_from (λ q. nat_le (argument_words q.formals) 24) p.procedures (λ f r at. is_most (argument_words r.formals) 24 (few f r at))))

@@ -1,13 +1,14 @@
 -- Types judged are known, and record types are completed one after the other.
-use Rattle.std.proofs.Common.{◌≡◌, ℕ, suc, ◌+◌, ◌<◌, ◌≤◌, List, [], ◌∷◌, ◌++◌, length, true, false, Option, Some, None, refl, ap, sym, ◌∙◌, subst, arith, inl, inr}
+use Rattle.std.proofs.Common.{◌≡◌, ℕ, suc, ◌+◌, ◌<◌, ◌≤◌, List, [], ◌∷◌, ◌++◌, length, true, false, Option, Some, None, refl, ap, ap₂, sym, ◌∙◌, subst, arith, inl, inr}
 use Rattle.std.proofs.lemmas.Bool.Decides.{nat_tests}
 use Rattle.std.specs.Prelude.{slice_get, slice_set, nat_le, is_none, is_some}
 use Rattle.ob_types.proofs.Tests.{none_some, some_same, less_or_past}
 use Rattle.ob_syntax.specs.Syntax as S
 use Rattle.ob_syntax.specs.declared.names.Identdef.{Identdef}
 use Rattle.ob_syntax.specs.declared.types.Base.{Base}
+use Rattle.ob_types.specs.Trees.{with_part, rounded_extent}
 use Rattle.ob_judge.specs.Judged.{Judged, rule, some}
-use Rattle.ob_judge.specs.Shapes.{Shape, Array, Record, Pointer, Procedure, Added, Layout, cells}
+use Rattle.ob_judge.specs.Shapes.{Shape, Array, Record, Pointer, Procedure, Added, Layout, cells, extent}
 use Rattle.ob_judge.specs.Scopes.{World, Source, place, spelled}
 use Rattle.ob_judge.specs.Names.{member_symbol}
 use Rattle.ob_judge.specs.Making.{Making, Part, ◌>>>◌, here, with_known, no_layout, set_base, later, aside}
@@ -23,11 +24,11 @@ use Rattle.judged_modules.specs.Lists.{Each}
 use Rattle.judged_modules.proofs.TypesGrow.{each_append, GrowsIn, InTo, with_record, with_pointer, pointer_set, pointer_waits, i_type}
 use Rattle.judged_modules.proofs.Parameters.{look_as}
 use Rattle.judged_programs.specs.Complete.{core, IsComplete, IsKnown}
-use Rattle.judged_programs.proofs.Cores.{grown_later, cells_are, cells_of_more}
-use Rattle.judged_programs.specs.LegalTable.{cells_with}
+use Rattle.judged_programs.proofs.Cores.{grown_later, cells_are, cells_of_more, extents_are, with_one_more}
+use Rattle.judged_programs.specs.LegalTable.{cells_with, extent_with}
 use Rattle.judged_programs.proofs.Ranking.{blank_later, ranked_with_record, set_later, base_later, adding_later, ranked_set}
 use Rattle.judged_programs.proofs.Tidy.{Stays, Any, s_next, s_look, s_pass, s_give, s_stand, object_later, names_later, known_type}
-use Rattle.judged_programs.specs.Ranked.{cells_of_all, counted, IsBase, no_base, some_base, IsAdding}
+use Rattle.judged_programs.specs.Ranked.{cells_of_all, counted, measured, with_all, IsBase, no_base, some_base, IsAdding}
 use Rattle.judged_programs.specs.Tidy.{Tidy}
 
 -- ---- what is known of types
@@ -74,19 +75,19 @@ there_with_base s n r l h m k at = elim (decided m n) as (λ _. k < length (reco
 ]
 
 base_line_of : (records : List Layout) (b : Layout) → IsBase records b → IsBaseLine records b.line
-base_line_of records b (no_base i j) = alone i
-base_line_of records b (some_base r l at some i j k) = based r l at some i
+base_line_of records b (no_base i j u) = alone i
+base_line_of records b (some_base r l at some i j u k) = based r l at some i
 
-pub tidy_set_record : (from : ℕ) (s : Making) (n : ℕ) (b g l : Layout) → slice_get (records_of s) n ≡ Some no_layout → IsBase (records_of s) b → IsAdding (records_of s) b g → l.line ≡ n ∷ g.line → l.added ≡ g.added → l.cells ≡ g.cells → l.cells ≤ limit
+pub tidy_set_record : (from : ℕ) (s : Making) (n : ℕ) (b g l : Layout) → slice_get (records_of s) n ≡ Some no_layout → IsBase (records_of s) b → IsAdding (records_of s) b g → l.line ≡ n ∷ g.line → l.added ≡ g.added → l.cells ≡ g.cells → l.extent ≡ rounded_extent g.extent → l.cells ≤ limit
     → Tidy from s → Tidy from (with_known (λ k. record k { records = slice_set k.records n l }) s)
-tidy_set_record from s n b g l empty base adding line added cells few h =
+tidy_set_record from s n b g l empty base adding line added cells extent few h =
     let later_ = set_later (records_of s) n l empty in
     record {
       nested = h.nested;
       names = names_later (records_of s) (slice_set (records_of s) n l) later_ s.world.levels h.names;
       members = λ k m at q x is. object_later (records_of s) (slice_set (records_of s) n l) later_ x.object (h.members k m at q x is);
       lines = lines_set (records_of s) n g.line l empty line h.lines (subst (IsBaseLine (records_of s)) (sym adding.line) (base_line_of (records_of s) b base));
-      ranked = ranked_set (records_of s) n empty h.lines h.ranked b g l base adding line added cells few;
+      ranked = ranked_set (records_of s) n empty h.lines h.ranked b g l base adding line added cells extent few;
       targets = λ k r at. let less = h.targets k r at in let e = set_length (records_of s) n l in omega (arith, less, e);
       whole = h.whole;
       legal = h.legal;
@@ -112,10 +113,10 @@ module _ (from : ℕ) (p : Source) where
   base_known : (records : List Layout) (r : ℕ) → IsComplete records r → (length (layout_of (slice_get records r)).line ≤ 15) → IsBase records (layout_of (slice_get records r))
   base_known records r h few =
       let is : layout_of (slice_get records r) ≡ h.layout = ap layout_of h.there in
-      some_base r h.layout h.there h.ended (ap (λ l. l.line) is) (ap (λ l. l.cells) is) (let e = ap (λ l. length l.line) is in omega (arith, few, e))
+      some_base r h.layout h.there h.ended (ap (λ l. l.line) is) (ap (λ l. l.cells) is) (ap (λ l. l.extent) is) (let e = ap (λ l. length l.line) is in omega (arith, few, e))
 
   pub base_is : (b : Option Base) (s : Making) → Tidy from s → Gives (IsBase (records_of s)) (base_layout p b s.world)
-  base_is None s tidy = keeps (IsBase (records_of s)) no_layout (no_base refl refl)
+  base_is None s tidy = keeps (IsBase (records_of s)) no_layout (no_base refl refl refl)
   base_is (Some b) s tidy = and_then (known_type p from s tidy 42 (b.name).name (member_symbol p s.world (b.name).member)) (λ a h. by_some 42 (place p (b.name).name) (record_only a) (λ r is.
       by_rule 42 (place p (b.name).name) (nat_le (length (layout_of (slice_get (records_of s) r)).line) 15) (λ ok.
       keeps (IsBase (records_of s)) (layout_of (slice_get (records_of s) r)) (base_known (records_of s) r (h.core_there r (ap core (only_record a r is))) (grind (arith, nat_tests, ok))))))
@@ -133,10 +134,10 @@ module _ (from : ℕ) (p : Source) where
   }))
 
   pub adding_self : (records : List Layout) (b : Layout) → IsAdding records b (record b { added = [] })
-  adding_self records b = record { line = refl; added = tt; cells = omega arith }
+  adding_self records b = record { line = refl; added = tt; cells = omega arith; extent = refl }
 
-  one_field : (v : World) (a : Shape) (b g h : Layout) (y : Added) → IsKnown v.known.records a → IsAdding v.known.records b g → h.line ≡ g.line → h.added ≡ g.added ++ y ∷ [] → y.shape ≡ a → h.cells ≡ g.cells + cells v.known a → IsAdding v.known.records b h
-  one_field v a b g h y known adding line added shape count = record {
+  one_field : (v : World) (a : Shape) (b g h : Layout) (y : Added) → IsKnown v.known.records a → IsAdding v.known.records b g → h.line ≡ g.line → h.added ≡ g.added ++ y ∷ [] → y.shape ≡ a → h.cells ≡ g.cells + cells v.known a → h.extent ≡ with_part g.extent (extent v.known a) → IsAdding v.known.records b h
+  one_field v a b g h y known adding line added shape count takes = record {
     line = line ∙ adding.line;
     added = subst (Each (λ x. IsKnown v.known.records x.shape)) (sym added) (each_append (λ x. IsKnown v.known.records x.shape) g.added (y ∷ []) adding.added (subst (IsKnown v.known.records) (sym shape) known, tt));
     cells =
@@ -144,6 +145,10 @@ module _ (from : ℕ) (p : Source) where
         let mine = cells_are v.known a ∙ ap (cells_with (counted v.known.records)) (sym shape) in
         let was = adding.cells in
         omega (arith, count, all, mine, was);
+    extent =
+        takes
+        ∙ ap₂ with_part adding.extent (extents_are v.known a ∙ ap (extent_with (measured v.known.records)) (sym shape))
+        ∙ sym (ap (with_all (measured v.known.records) b.extent) added ∙ with_one_more (measured v.known.records) g.added y b.extent);
   }
 
   pub adding_fields : (n : ℕ) (v : World) (a : Shape) (b : Layout) → IsKnown v.known.records a → (xs : List Identdef) (g : Layout) → IsAdding v.known.records b g → IsAdding v.known.records b (add_fields p n v a xs g)
@@ -154,7 +159,8 @@ module _ (from : ℕ) (p : Source) where
     added = g.added ++ record { name = spelled p x.name; exported = is_some x.star; shape = a } ∷ [];
     fields = add_field p (spelled p x.name) (record { adder = n; number = length g.added; shape = a; exported = is_some x.star; owner = v.module_number }) g.fields;
     cells = g.cells + cells v.known a;
-  }) (record { name = spelled p x.name; exported = is_some x.star; shape = a }) known h refl refl refl refl)
+    extent = with_part g.extent (extent v.known a);
+  }) (record { name = spelled p x.name; exported = is_some x.star; shape = a }) known h refl refl refl refl refl)
 
   -- ---- pointer types
 
@@ -206,9 +212,9 @@ module _ (from : ℕ) (p : Source) where
   k_complete : {Before : Type 0} (s b g u : Making) (base h l : Layout) → Stays from Before (λ x t. IsBase (records_of t) x) (with_record s) (base, b)
       → Stays from (IsAdding (records_of b) base (record base { added = [] })) (λ x t. IsAdding (records_of t) base x) b (h, g)
       → u ≡ g → nat_le h.cells limit ≡ true
-      → l.line ≡ length (records_of s) ∷ h.line → l.added ≡ h.added → l.cells ≡ h.cells
+      → l.line ≡ length (records_of s) ∷ h.line → l.added ≡ h.added → l.cells ≡ h.cells → l.extent ≡ rounded_extent h.extent
       → Leaves Before (λ a t. IsKnown (records_of t) a) s (Record (length (records_of s)), with_known (λ k. record k { records = slice_set k.records (length (records_of s)) l }) u)
-  k_complete s b g u base h l hb hg same ok line added count =
+  k_complete s b g u base h l hb hg same ok line added count takes =
       let n = length (records_of s) in
       let whole = subst (Grows (with_record s)) (sym same) (onward (with_record s) b g hb.grown hg.grown) in
       let less : n < length (records_of (with_record s)) = (let e = more_is (records_of s) no_layout in omega (arith, e)) in
@@ -219,7 +225,7 @@ module _ (from : ℕ) (p : Source) where
             let first = hb.tidy before (tidy_with_record from s tidy) in
             let second = hg.tidy (adding_self (records_of b) base) first.0 in
             let behind = base_later (records_of b) (records_of u) (grown_later b u (subst (Grows b) (sym same) hg.grown)) base first.1 in (
-              tidy_set_record from u n base h l empty behind (subst (λ x. IsAdding (records_of x) base h) (sym same) second.1) line added count (grind (arith, nat_tests, ok, count)) (subst (Tidy from) (sym same) second.0),
+              tidy_set_record from u n base h l empty behind (subst (λ x. IsAdding (records_of x) base h) (sym same) second.1) line added count takes (grind (arith, nat_tests, ok, count)) (subst (Tidy from) (sym same) second.0),
               known_record (records_of u) n l h.line empty line,
             );
       }
@@ -245,8 +251,8 @@ module _ (from : ℕ) (p : Source) where
         and_then (s_among (λ x t. IsAdding (records_of t) b.0 x) (fields_part p n first (record (b.0) { added = [] }) >>> λ g. more_part p n more g) b.1 (λ a t k. k)
         (s_next (s_fields n b.0 first (record (b.0) { added = [] }) (record (b.1) { standing = [] }) (λ before. before)) (λ g. s_more n b.0 more g.0 g.1 (λ before. before.1)))) (λ g hg.
         and_then (look_as (rule 35 (place p i) (nat_le (g.0).cells limit)) g.1) (λ u hu.
-        let l : Layout = record (g.0) { module_number = (u.1).world.module_number; line = n ∷ (g.0).line } in
-        keeps (Leaves _ (λ a t. IsKnown (records_of t) a) s) (Record n, with_known (λ k. record k { records = slice_set k.records n l }) u.1) (k_complete s b.1 g.1 u.1 b.0 g.0 l hb hg hu.0 (ruled_last 35 (place p i) (nat_le (g.0).cells limit) u.0 hu.1) refl refl refl)))))) (λ r h. record { grown = (h.0).grown; depth = (h.1).depth; tidy = (h.1).tidy })
+        let l : Layout = record (g.0) { module_number = (u.1).world.module_number; line = n ∷ (g.0).line; extent = rounded_extent (g.0).extent } in
+        keeps (Leaves _ (λ a t. IsKnown (records_of t) a) s) (Record n, with_known (λ k. record k { records = slice_set k.records n l }) u.1) (k_complete s b.1 g.1 u.1 b.0 g.0 l hb hg hu.0 (ruled_last 35 (place p i) (nat_le (g.0).cells limit) u.0 hu.1) refl refl refl refl)))))) (λ r h. record { grown = (h.0).grown; depth = (h.1).depth; tidy = (h.1).tidy })
     s_type (S.Pointer i j base) s = and_then (s_pointed s base (type_part p base) (forward_name p (with_pointer s) base) (i_type p base (with_pointer s)) (s_type base (with_pointer s))) (λ r h.
         keeps (Stays from _ (λ a t. IsKnown (records_of t) a) s) (Pointer (length (bases_of s)), r.1) (record { grown = h.grown; depth = h.depth; tidy = λ before tidy. ((h.tidy before tidy).0, known_pointer (records_of r.1) (length (bases_of s))) }))
     s_type (S.Procedure i formals) s = and_then (s_aside (formal_part p false formals) s) (λ r h.

@@ -1,14 +1,16 @@
 -- What the maker of a table of types promises of it. Of types that variables, fields and parameters have, the judgement
 -- tells that they are legal; this is for all that stands in the table.
-use Rattle.std.specs.Prelude.{◌≡◌, ◌<◌, ◌≤◌, ◌*◌, ℕ, length, true, Some, None, slice_get}
+use Rattle.std.specs.Prelude.{◌≡◌, ◌<◌, ◌≤◌, ◌*◌, ℕ, length, true, false, Some, None, slice_get}
 use Rattle.ob_types.specs.declared.types.TypeKind.TheVariants as TheKind
+use Rattle.ob_types.specs.Trees.{in_a_row}
+use Rattle.ob_types.specs.declared.types.Extent.{Extent}
 use Rattle.ob_types.specs.declared.types.Formal.{Formal}
 use Rattle.ob_types.specs.declared.types.Signature.{Signature}
 use Rattle.ob_types.specs.Layout.{kind_of, record_of}
 use Rattle.ob_types.specs.LegalTypes.{most_cells, is_length}
 use Rattle.ob_types.specs.WellFormed.{argument_words}
 use Rattle.ob_types.specs.Table.{Table}
-use Rattle.ob_judge.specs.Shapes.{Shape, Array, Open, Record}
+use Rattle.ob_judge.specs.Shapes.{Shape, Boolean, Char, Byte, Array, Record}
 use Rattle.ob_judge.specs.Parameters.{mode_of}
 use Rattle.judged_tree.specs.TypeShapes.{shape_of}
 use Rattle.judged_tree.specs.Tables.{IsFromTheFront, HasEachOnce, same_signatures}
@@ -20,10 +22,23 @@ cells_with of (Array n a) = n * cells_with of a
 cells_with of (Record r) = of r
 cells_with of a = 1
 
+-- what a value of a shape takes in memory, where record types take this
+abbrev pub extent_with : (ℕ → Extent) → Shape → Extent
+extent_with of (Array n a) = in_a_row n (extent_with of a)
+extent_with of (Record r) = of r
+extent_with of Char = record { bytes = 1; wide = false }
+extent_with of Byte = record { bytes = 1; wide = false }
+extent_with of Boolean = record { bytes = 1; wide = false }
+extent_with of a = record { bytes = 8; wide = true }
+
 module _ (t : Table) where
   -- the cells of a record type, as the table says
   abbrev pub record_count : ℕ → ℕ
   record_count r = (record_of t r).cells
+
+  -- and the bytes
+  abbrev pub said_extent : ℕ → Extent
+  said_extent r = (record_of t r).extent
 
   -- an array of known length: as long as is allowed, of elements of a type that variables may have, and of no more cells
   -- than a type may have

@@ -2,6 +2,7 @@
 //! pointer types.
 
 ghost use Rattle.std.specs.Prelude.{◌≡◌, ◌<◌, ◌≤◌, ◌∷◌, [], ℕ, List, Option, Some, length, slice_get};
+ghost use Rattle.ob_types.specs.Trees.{rounded_extent};
 ghost use Rattle.ob_syntax.specs.Syntax.{MaybeFields, NextFields};
 ghost use Rattle.ob_syntax.specs.declared.types.Base.{Base};
 ghost use Rattle.ob_judge.specs.Judged.{Keeps};
@@ -40,7 +41,8 @@ pub fn more_fields_stay_tidy()
 pub fn completed_records_stay_tidy()
     ensures { (from : ℕ) (s t : Making) (n : ℕ) (b g l : Layout) → set_record n l s ≡ Keeps (tt, t)
         → slice_get (records_of s) n ≡ Some no_layout → IsBase (records_of s) b → IsAdding (records_of s) b g
-        → l.line ≡ n ∷ g.line → l.added ≡ g.added → l.cells ≡ g.cells → l.cells ≤ limit → Tidy from s → Tidy from t }
+        → l.line ≡ n ∷ g.line → l.added ≡ g.added → l.cells ≡ g.cells → l.extent ≡ rounded_extent g.extent → l.cells ≤ limit
+        → Tidy from s → Tidy from t }
 {}
 
 /// A pointer type leaves all tidy,

@@ -206,7 +206,7 @@ module _ (t : Table) where
   plain_field f = record { name = f.name; exported = f.exported; shape = shape_of t f.type_number }
 
   abbrev pub plain_record : RecordOf → I.RecordType
-  plain_record r = record { module_number = r.«module»; base = r.base; level = r.level; fields = map plain_field r.fields; cells = r.cells }
+  plain_record r = record { module_number = r.«module»; base = r.base; level = r.level; fields = map plain_field r.fields; cells = r.cells; extent = r.extent }
 
 -- the whole program, its modules' texts having these bytes
 abbrev pub plain_program : (sources : List (List ℕ)) → Program → I.Program

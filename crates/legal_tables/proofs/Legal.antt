@@ -6,7 +6,7 @@ use Rattle.std.proofs.lemmas.Option.{slice_get_within}
 use Rattle.ob_types.specs.declared.types.RecordType.{RecordType}
 use Rattle.ob_types.specs.declared.types.Signature.{Signature}
 use Rattle.ob_types.specs.declared.types.TypeKind.TheVariants as TheKind
-use Rattle.ob_types.specs.Layout.{kind_of}
+use Rattle.ob_types.specs.Layout.{kind_of, no_record_type}
 use Rattle.ob_types.specs.Table.{Table}
 use Rattle.ob_types.proofs.Tests.{less_or_past}
 use Rattle.ob_judge.specs.Shapes.{Shape, Array, Integer, cells_of}
@@ -61,7 +61,7 @@ record_by bases _ r h = absurd (let z = h in cc)
 -- ---- the cells of record types
 
 counts_by : (t : Table) (es : List TypeRef) (xs : List RecordType) (ls : List Layout) → AreRecordTypes es xs ls → (r : ℕ)
-    → (slice_index_or xs r (record { «module» = 0; base = None; level = 0; fields = []; cells = 0 })).cells ≡ cells_of (slice_get (map (layout_of t) ls) r)
+    → (slice_index_or xs r no_record_type).cells ≡ cells_of (slice_get (map (layout_of t) ls) r)
 counts_by t es [] [] h r = refl
 counts_by t es (x ∷ xs) (l ∷ ls) h zero = (h.0).cells
 counts_by t es (x ∷ xs) (l ∷ ls) h (suc r) = counts_by t es xs ls h.2 r

@@ -1,13 +1,13 @@
 -- Descriptors tell extensions: the cell at a record type's level is the address of that type's descriptor just in the descriptors of what extends it.
-use Rattle.std.proofs.Common.{◌≡◌, ℕ, zero, suc, ◌+◌, ◌*◌, ◌<◌, ◌≤◌, ◌⊎◌, ⊎_elim, inl, inr, [], length, Bool, true, false, ◌&&◌, ◌||◌, refl, sym, ap, ◌∙◌, subst, arith, Option, Some, None, eq-eqb, ne_eqb, eqb-true, leb-true, ltb-true}
+use Rattle.std.proofs.Common.{◌≡◌, ℕ, zero, suc, ◌+◌, ◌*◌, ◌<◌, ◌≤◌, ◌⊎◌, ⊎_elim, inl, inr, length, Bool, true, false, ◌&&◌, ◌||◌, refl, sym, ap, ◌∙◌, subst, arith, Option, Some, None, eq-eqb, ne_eqb, eqb-true, leb-true, ltb-true}
 use Rattle.std.specs.Prelude.{◌==◌, nat_le, if◌then◌else◌}
 use Rattle.std.proofs.lemmas.Bool.{cases_lt}
 use Rattle.std.proofs.lemmas.List.{get_or_past}
 use Rattle.ob_types.specs.Forms.{all, all_below, if_base}
-use Rattle.ob_types.specs.Layout.{record_of, types_of, or_base, extends_within, extends}
+use Rattle.ob_types.specs.Layout.{record_of, types_of, or_base, extends_within, extends, no_record_type}
 use Rattle.ob_types.specs.LegalTypes.{most_cells, type_legal, record_legal, signature_legal, is_record_type, is_variable_type, types_legal}
 use Rattle.ob_types.specs.Table.{Table}
-use Rattle.ob_types.specs.WellFormed.{argument_words, counts_fine, level_by, level_fine, cells_fine, variables_fine, bodies_in_order, declarations_fine}
+use Rattle.ob_types.specs.WellFormed.{argument_words, counts_fine, level_by, level_fine, sizes_fine, variables_fine, bodies_in_order, declarations_fine}
 use Rattle.ob_types.specs.declared.program.Program.{Program}
 use Rattle.ob_types.proofs.Tests.{and_of, below, no, none_some, some_same}
 use Rattle.ssa_lowered.specs.Data.{Layout, in_cells, descriptor_at}
@@ -47,7 +47,7 @@ module _ (p : Program) (declared : declarations_fine p ≡ true) where
   records_legal = (and_of (all_below many (record_legal t)) (all (signature_legal t) t.signatures) (and_of (all_below (length t.kinds) (type_legal t)) (all_below many (record_legal t) && all (signature_legal t) t.signatures) legal.0).1).0
 
   levels_fine : all_below many (level_fine p) ≡ true
-  levels_fine = (and_of (all_below many (level_fine p)) (all_below many (cells_fine p)) (and_of (all_below many (level_fine p) && all_below many (cells_fine p)) (all (λ g. nat_le (argument_words g.formals) 24) t.signatures && all (λ q. nat_le (argument_words q.formals) 24) p.procedures) legal.1).0).0
+  levels_fine = (and_of (all_below many (level_fine p)) (all_below many (sizes_fine p)) (and_of (all_below many (level_fine p) && all_below many (sizes_fine p)) (all (λ g. nat_le (argument_words g.formals) 24) t.signatures && all (λ q. nat_le (argument_words q.formals) 24) p.procedures) legal.1).0).0
 
   base_there : (r a : ℕ) → r < many → (record_of t r).base ≡ Some a → a < many
   base_there r a lt is =
@@ -73,7 +73,7 @@ module _ (p : Program) (declared : declarations_fine p ≡ true) where
   extends_there s r lt h = ⊎_elim (λ (less : s < many). less) (λ (past : many ≤ s). by past (extends_past (length t.records) past h)) (cases_lt s many)
     where
       none : (s : ℕ) → many ≤ s → (record_of t s).base ≡ None
-      none s past = ap (λ x. x.base) (get_or_past t.records s (record { «module» = 0; base = None; level = 0; fields = []; cells = 0 }) past)
+      none s past = ap (λ x. x.base) (get_or_past t.records s no_record_type past)
 
       some_none : {a : ℕ} → None ≡ Some a → ⊥
       some_none e = cc

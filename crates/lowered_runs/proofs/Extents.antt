@@ -1,15 +1,16 @@
 -- No type and no record type has more cells than types may have.
-use Rattle.std.proofs.Common.{◌≡◌, ℕ, ◌+◌, ◌≤◌, ⊎_elim, None, [], map, length, sym, ap, ◌∙◌, arith, true, ◌&&◌, eqb-true, leb-true, ltb-true}
+use Rattle.std.proofs.Common.{◌≡◌, ℕ, ◌+◌, ◌≤◌, ⊎_elim, map, length, sym, ap, ◌∙◌, arith, true, ◌&&◌, leb-true, ltb-true}
 use Rattle.std.specs.Prelude.{◌<◌, nat_le, sum}
 use Rattle.std.proofs.lemmas.Bool.{cases_lt}
 use Rattle.std.proofs.lemmas.List.{get_or_past}
 use Rattle.ob_types.specs.Forms.{all, all_below, if_base}
-use Rattle.ob_types.specs.Layout.{kind_of, record_of, types_of, cells, record_cells, cells_by, cells_within, record_within, base_cells}
+use Rattle.ob_types.specs.Layout.{kind_of, record_of, types_of, cells, record_cells, cells_by, cells_within, record_within, base_cells, no_record_type}
 use Rattle.ob_types.specs.LegalTypes.{kind_legal, type_legal, record_legal, signature_legal, is_record_type, is_variable_type, types_legal, most_cells}
-use Rattle.ob_types.specs.WellFormed.{argument_words, counts_fine, level_fine, cells_fine, variables_fine, bodies_in_order, declarations_fine}
+use Rattle.ob_types.specs.WellFormed.{argument_words, counts_fine, level_fine, sizes_fine, variables_fine, bodies_in_order, declarations_fine}
 use Rattle.ob_types.specs.declared.program.Program.{Program}
 use Rattle.ob_types.specs.declared.types.TypeKind.TheVariants.{Nothing}
 use Rattle.ob_types.specs.declared.types.TypeKind.TheVariants.{Record as RecordOf, Pointer as PointerTo}
+use Rattle.ob_types.proofs.WellFormedParts.{said}
 use Rattle.ob_types.proofs.Tests.{and_of, below}
 
 module _ (p : Program) (declared : declarations_fine p ≡ true) where
@@ -34,12 +35,12 @@ module _ (p : Program) (declared : declarations_fine p ≡ true) where
       let all_records = and_of (all_below (length p.types.records) (record_legal p.types)) (all (signature_legal p.types) p.types.signatures) all_types.1 in
       let one = below (length p.types.records) (record_legal p.types) all_records.0 r lt in
       let few = leb-true (record_of p.types r).cells most_cells (and_of (nat_le (record_of p.types r).cells most_cells) (if_base (record_of p.types r).base (is_record_type p.types) && all (is_variable_type p.types) (types_of (record_of p.types r).fields)) one).0 in
-      let counts = and_of (all_below (length p.types.records) (level_fine p) && all_below (length p.types.records) (cells_fine p)) (all (λ g. nat_le (argument_words g.formals) 24) p.types.signatures && all (λ q. nat_le (argument_words q.formals) 24) p.procedures) legal.1 in
-      let sizes = and_of (all_below (length p.types.records) (level_fine p)) (all_below (length p.types.records) (cells_fine p)) counts.0 in
-      let same = eqb-true (record_of p.types r).cells (record_cells p.types r) (below (length p.types.records) (cells_fine p) sizes.1 r lt) in
+      let counts = and_of (all_below (length p.types.records) (level_fine p) && all_below (length p.types.records) (sizes_fine p)) (all (λ g. nat_le (argument_words g.formals) 24) p.types.signatures && all (λ q. nat_le (argument_words q.formals) 24) p.procedures) legal.1 in
+      let sizes = and_of (all_below (length p.types.records) (level_fine p)) (all_below (length p.types.records) (sizes_fine p)) counts.0 in
+      let same = (said p r (below (length p.types.records) (sizes_fine p) sizes.1 r lt)).0 in
       omega (arith, few, same))
       (λ (ge : length p.types.records ≤ r).
-      let e = ap (λ (x : _). base_cells x.base (record_within p.types (length p.types.kinds + length p.types.records)) + sum (map (cells_within p.types (length p.types.kinds + length p.types.records)) (types_of x.fields))) (get_or_past p.types.records r (record { «module» = 0; base = None; level = 0; fields = []; cells = 0 }) ge) in
+      let e = ap (λ (x : _). base_cells x.base (record_within p.types (length p.types.kinds + length p.types.records)) + sum (map (cells_within p.types (length p.types.kinds + length p.types.records)) (types_of x.fields))) (get_or_past p.types.records r no_record_type ge) in
       omega (arith, e))
       (cases_lt r (length p.types.records))
 

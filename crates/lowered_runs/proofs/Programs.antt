@@ -47,7 +47,7 @@ use Rattle.ob_types.specs.LegalTypes.{is_no_kind, formal_legal}
 use Rattle.ob_types.specs.WellFormed.{no_answer}
 use Rattle.ob_types.proofs.WellFormedParts.{parts_of}
 use Rattle.lowered_runs.proofs.BodiesInOrder.{bodies_in_modules}
-use Rattle.lowered_runs.proofs.Procedures.{each_of, coded_at, calling_all}
+use Rattle.lowered_runs.proofs.Procedures.{coded_at, calling_all}
 use Rattle.lowered_runs.proofs.Stores.{later_refl}
 use Rattle.lowered_runs.proofs.Standing.{Standing, stand_first, bulk, bulk_append, shared}
 use Rattle.lowered_runs.proofs.Ready.{position, system, world_of, runs_at, Typing, Goes, Came_to, Ready}

@@ -4,6 +4,7 @@ use Rattle.std.specs.Prelude.{flat_map, Vec, Box}
 use Rattle.std.specs.Int.{to_le_bytes, w64}
 use Rattle.std.specs.Fmt.{digits}
 use Rattle.std.specs.declared.alloc.Global.{Global as Heap}
+use Rattle.ob_types.specs.Trees.{data_tree, record_row}
 use Rattle.ob_types.specs.declared.program.Program.{Program}
 use Rattle.ob_types.specs.declared.statements.Stmt.{Assign, Increase, OutInt, If', end_of-Stmt, more_of-Stmt, end_of-Branch, more_of-Branch}
 use Rattle.ob_types.specs.declared.statements.Stmt.{Call as Invoke}
@@ -131,7 +132,7 @@ module _ (b : Box (Unit {0}) Heap) (v : Vec (Unit {0}) Heap) where
   handing = record {
     types = record {
       kinds = Int ∷ Nothing ∷ Array (Some 3) 0 ∷ Record 0 ∷ ProcedureOf 0 ∷ Array None 0 ∷ [];
-      records = record { «module» = 0; base = None; level = 0; fields = record { name = 115 ∷ []; exported = false; type_number = 0 } ∷ []; cells = 1 } ∷ [];
+      records = record { «module» = 0; base = None; level = 0; fields = record { name = 115 ∷ []; exported = false; type_number = 0 } ∷ []; cells = 1; extent = record { bytes = 8; wide = true } } ∷ [];
       signatures = record { formals = handed; result = 1 } ∷ [];
     };
     modules = record { name = 77 ∷ []; objects = []; variables = 2 ∷ 3 ∷ 4 ∷ []; body = 1 } ∷ [];
@@ -169,6 +170,7 @@ module _ (b : Box (Unit {0}) Heap) (v : Vec (Unit {0}) Heap) where
   handing_bytes = each_bytes (descriptor_bytes handing (in_cells handing.types) data_base) (λ r. each_bytes (λ j. to_le_bytes w64 (address_of handing (in_cells handing.types) data_base (ancestor handing.types j r))) (λ j. bytes_of_8 (address_of handing (in_cells handing.types) data_base (ancestor handing.types j r))) (numbers 0 16)) (numbers 0 1)
 
   handing_runs : CanRun handing [] (constants_of handing) (λ g. suc g)
+  unfolding data_tree record_row
   handing_runs = record {
     fine = refl;
     numbers = refl;

@@ -1,14 +1,14 @@
 -- Numbers of a well-formed program within its limits are small enough for operations: levels, fields, local data, globals, argument words.
-use Rattle.std.proofs.Common.{◌≡◌, ⊎_elim, ℕ, zero, suc, ◌+◌, ◌*◌, ◌<◌, ◌≤◌, List, [], ◌∷◌, map, take, length, sum, Bool, true, false, not, cond, ◌&&◌, None, refl, sym, ap, arith}
+use Rattle.std.proofs.Common.{◌≡◌, ⊎_elim, ℕ, zero, suc, ◌+◌, ◌*◌, ◌<◌, ◌≤◌, List, [], ◌∷◌, map, take, length, sum, Bool, true, false, not, cond, ◌&&◌, refl, sym, ap, arith}
 use Rattle.std.specs.Prelude.{if◌then◌else◌, nat_le, ◌==◌, slice_index_or, sum_by}
-use Rattle.std.proofs.lemmas.Bool.{leb-true, eqb-true, cases_lt}
+use Rattle.std.proofs.lemmas.Bool.{leb-true, cases_lt}
 use Rattle.std.proofs.lemmas.List.{get_or_past}
 use Rattle.std.proofs.lemmas.List.Sums.{sum_by-cons}
 use Rattle.ob_types.specs.Forms.{all, all_below, if_base, nests, record_nests, rooted}
-use Rattle.ob_types.specs.Layout.{kind_of, record_of, signature_of, types_of, base_cells, cells_by, cells_within, record_within, cells, cells_of_all, record_cells, field_place}
+use Rattle.ob_types.specs.Layout.{no_record_type, kind_of, record_of, signature_of, types_of, base_cells, cells_by, cells_within, record_within, cells, cells_of_all, record_cells, field_place}
 use Rattle.ob_types.specs.LegalTypes.{type_legal, record_legal, signature_legal, is_variable_type, is_record_type, most_cells}
 use Rattle.ob_types.specs.Meaning.{procedure_of, no_procedure, locals_of}
-use Rattle.ob_types.specs.WellFormed.{argument_words, level_fine, level_by, cells_fine}
+use Rattle.ob_types.specs.WellFormed.{argument_words, level_fine, level_by, sizes_fine}
 use Rattle.ob_types.specs.WellFormed
 use Rattle.ob_types.specs.declared.types.Formal.{Formal}
 use Rattle.ob_types.specs.declared.types.Mode.{Mode}
@@ -24,7 +24,7 @@ use Rattle.ob_types.specs.declared.program.Procedure.{Procedure}
 use Rattle.ob_types.specs.declared.program.Program.{Program}
 use Rattle.ob_types.proofs.Counting.{record_stays}
 use Rattle.ob_types.proofs.Tests.{no, and_of, below}
-use Rattle.ob_types.proofs.WellFormedParts.{Parts}
+use Rattle.ob_types.proofs.WellFormedParts.{Parts, said}
 use Rattle.ssa_lowered.specs.Data.{Layout, room, room_of_all, global_at}
 use Rattle.ssa_lowered.specs.Limits.{global_cells}
 use Rattle.ssa_lowered.specs.Pieces.{Mask, rest}
@@ -71,10 +71,10 @@ module _ (p : Program) (parts : Parts p) where
   abbrev few_words : List Formal → Bool
   few_words formals = nat_le (argument_words formals) 24
 
-  counted : (all_below (length p.types.records) (level_fine p) ≡ true) × (all_below (length p.types.records) (cells_fine p) ≡ true) × (all (λ (g : Signature). few_words g.formals) p.types.signatures ≡ true) × (all (λ (q : Procedure). few_words q.formals) p.procedures ≡ true)
+  counted : (all_below (length p.types.records) (level_fine p) ≡ true) × (all_below (length p.types.records) (sizes_fine p) ≡ true) × (all (λ (g : Signature). few_words g.formals) p.types.signatures ≡ true) × (all (λ (q : Procedure). few_words q.formals) p.procedures ≡ true)
   counted =
       let levels = all_below (length p.types.records) (level_fine p) in
-      let sizes = all_below (length p.types.records) (cells_fine p) in
+      let sizes = all_below (length p.types.records) (sizes_fine p) in
       let signatures = all (λ (g : Signature). few_words g.formals) p.types.signatures in
       let procedures = all (λ (q : Procedure). few_words q.formals) p.procedures in
       let a = and_of (levels && sizes) (signatures && procedures) parts.counts in
@@ -90,11 +90,8 @@ module _ (p : Program) (parts : Parts p) where
 
   ---- Record types
 
-  abbrev no_record : RecordType
-  no_record = record { «module» = 0; base = None; level = 0; fields = []; cells = 0 }
-
-  outside : (r : ℕ) → length p.types.records ≤ r → record_of p.types r ≡ no_record
-  outside r l = get_or_past p.types.records r no_record l
+  outside : (r : ℕ) → length p.types.records ≤ r → record_of p.types r ≡ no_record_type
+  outside r l = get_or_past p.types.records r no_record_type l
 
   pub level_few : (r : ℕ) → (record_of p.types r).level < 16
   level_few r = ⊎_elim
@@ -122,7 +119,7 @@ module _ (p : Program) (parts : Parts p) where
       let rest = all (signature_legal p.types) p.types.signatures in
       let legal = below (length p.types.records) (record_legal p.types) (and_of records rest (and_of types (records && rest) parts.legal).1).0 r l in
       let few = leb-true (record_of p.types r).cells most_cells (and_of (nat_le (record_of p.types r).cells most_cells) (if_base (record_of p.types r).base (is_record_type p.types) && all (is_variable_type p.types) (types_of (record_of p.types r).fields)) legal).0 in
-      let same = eqb-true (record_of p.types r).cells (record_cells p.types r) (below (length p.types.records) (cells_fine p) counted.1 r l) in
+      let same = (said p r (below (length p.types.records) (sizes_fine p) counted.1 r l)).0 in
       omega (arith, few, same)
 
   field_few : (r k : ℕ) → field_place p.types r k ≤ most_cells

@@ -7,6 +7,7 @@ use Rattle.std.proofs.lemmas.List.Elements.{All-cons, All-nil}
 use Rattle.ssa_core.specs.declared.procedure.Proc.{Proc}
 use Rattle.ssa_lowered.specs.Data.{Layout, in_cells, packed}
 use Rattle.ssa_lowered.specs.Lowered.{proc_of, lowered_by}
+use Rattle.ob_types.specs.Trees.{data_tree, record_row, fields_before}
 use Rattle.ob_types.specs.Meaning.{procedure_of}
 use Rattle.ob_types.specs.declared.program.Program.{Program}
 use Rattle.ob_types.specs.declared.statements.Stmt.{Stmt, Assign, Increase, OutInt, While', end_of-Stmt, more_of-Stmt, end_of-Branch, more_of-Branch}
@@ -77,7 +78,7 @@ module _ (b : Box (Unit {0}) Heap) (v : Vec (Unit {0}) Heap) where
   sample = record {
     types = record {
       kinds = Int ∷ open_kind ∷ RecordOf 0 ∷ Array (Some 3) 0 ∷ Boolean ∷ Nothing ∷ [];
-      records = record { «module» = 0; base = None; level = 0; fields = record { name = 110 ∷ []; exported = false; type_number = 0 } ∷ []; cells = 1 } ∷ [];
+      records = record { «module» = 0; base = None; level = 0; fields = record { name = 110 ∷ []; exported = false; type_number = 0 } ∷ []; cells = 1; extent = record { bytes = 8; wide = true } } ∷ [];
       signatures = [];
     };
     modules = record { name = 77 ∷ []; objects = []; variables = 0 ∷ 3 ∷ 2 ∷ []; body = 1 } ∷ [];
@@ -114,12 +115,14 @@ module _ (b : Box (Unit {0}) Heap) (v : Vec (Unit {0}) Heap) where
     all_short a b = All-cons IsShort (at 0) (at 1 ∷ []) a (All-cons IsShort (at 1) [] b (All-nil IsShort))
 
   in_cells_lowers : CanBeLowered (in_cells sample.types) sample
+  unfolding data_tree record_row
   in_cells_lowers = record {
     within = record { narrow = cells_narrow sample.types; fine = refl; limits = refl };
     short = all_short (in_cells sample.types) (leb-true _ _ refl) (leb-true _ _ refl);
   }
 
   packed_lowers : CanBeLowered (packed sample.types) sample
+  unfolding data_tree record_row fields_before
   packed_lowers = record {
     within = record { narrow = packed_narrow sample.types; fine = refl; limits = refl };
     short = all_short (packed sample.types) (leb-true _ _ refl) (leb-true _ _ refl);

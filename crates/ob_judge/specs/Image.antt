@@ -6,6 +6,7 @@ use Rattle.ob_types.specs.declared.tree.Unary.{Unary}
 use Rattle.ob_types.specs.declared.tree.Binary.{Binary}
 use Rattle.ob_types.specs.declared.tree.Relation.{Relation}
 use Rattle.ob_types.specs.declared.statements.Label.{Label}
+use Rattle.ob_types.specs.declared.types.Extent.{Extent}
 use Rattle.ob_types.specs.declared.types.Mode.{Mode}
 use Rattle.ob_judge.specs.Shapes.{Shape, Added}
 
@@ -154,6 +155,7 @@ pub record RecordType : Type 0 where
   pub level : ℕ
   pub fields : List Added
   pub cells : ℕ
+  pub extent : Extent
 
 -- all checked modules; of each pointer type the record type that it points to; whether some module imports In
 pub record Program : Type 0 where

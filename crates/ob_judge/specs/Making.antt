@@ -2,6 +2,7 @@
 use Rattle.std.specs.Prelude.{ℕ, List, [], ◌∷◌, ◌++◌, length, Bool, true, false, ◌||◌, Option, Some, None, slice_set}
 use Rattle.std.specs.Str.{bytes_eq}
 use Rattle.ob_judge.specs.Judged.{Judged, Keeps, ◌>>=◌}
+use Rattle.ob_types.specs.Trees.{no_extent}
 use Rattle.ob_judge.specs.Shapes.{Shape, Nothing, Field, Layout, Known}
 use Rattle.ob_judge.specs.Image.{Place, Global, no_statement, Declared, Entity, OfConstant, OfType, OfVariable, OfProcedure, Procedure}
 use Rattle.ob_judge.specs.Scopes.{Object, AConstant, AType, AVariable, AProcedure, Entry, World, no_names, declare}
@@ -106,7 +107,7 @@ abbrev pub no_fields : List ℕ → Option Field
 no_fields q = None
 
 abbrev pub no_layout : Layout
-no_layout = record { module_number = 0; line = []; added = []; fields = no_fields; cells = 0 }
+no_layout = record { module_number = 0; line = []; added = []; fields = no_fields; cells = 0; extent = no_extent }
 
 -- a record or pointer type takes the next number where its word stands
 abbrev pub new_record : Part ℕ

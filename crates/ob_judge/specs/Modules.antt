@@ -144,6 +144,7 @@ record_form l = record {
   level = length l.line - 1;
   fields = l.added;
   cells = l.cells;
+  extent = l.extent;
 }
 
 abbrev pub program_of : SoFar → Program

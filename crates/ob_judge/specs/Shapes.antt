@@ -1,6 +1,8 @@
 -- What types are (Oberon-07 report, sections 6 and 9.1). Array and procedure types are the same where they are built
 -- the same; record and pointer types are numbered over all modules by the place of their word.
 use Rattle.std.specs.Prelude.{ℕ, ◌*◌, List, [], ◌∷◌, Bool, true, false, ◌&&◌, ◌||◌, nat_eq, nat_lt, Option, Some, None, slice_get}
+use Rattle.ob_types.specs.Trees.{no_extent, in_a_row}
+use Rattle.ob_types.specs.declared.types.Extent.{Extent}
 
 mutual
   pub data Shape : Type 0 where
@@ -60,13 +62,14 @@ pub record Added : Type 0 where
   pub shape : Shape
 
 -- a record type: the module that declares it, itself and its bases by their numbers, the fields that it adds, what a
--- name stands for among its fields and those of its bases, and the cells of all
+-- name stands for among its fields and those of its bases, the cells of all, and the bytes where small scalars take one
 pub record Layout : Type 0 where
   pub module_number : ℕ
   pub line : List ℕ
   pub added : List Added
   pub fields : List ℕ → Option Field
   pub cells : ℕ
+  pub extent : Extent
 
 -- the record types by number, and of each pointer type the record type that it points to
 pub record Known : Type 0 where
@@ -113,6 +116,19 @@ abbrev pub cells : Known → Shape → ℕ
 cells known (Array n a) = n * cells known a
 cells known (Record n) = cells_of (slice_get known.records n)
 cells known a = 1
+
+abbrev pub extent_in : Option Layout → Extent
+extent_in None = no_extent
+extent_in (Some r) = r.extent
+
+-- what a value takes in memory: a CHAR, a BYTE and a BOOLEAN one byte, every other scalar eight
+abbrev pub extent : Known → Shape → Extent
+extent known (Array n a) = in_a_row n (extent known a)
+extent known (Record n) = extent_in (slice_get known.records n)
+extent known Char = record { bytes = 1; wide = false }
+extent known Byte = record { bytes = 1; wide = false }
+extent known Boolean = record { bytes = 1; wide = false }
+extent known a = record { bytes = 8; wide = true }
 
 abbrev pub is_number : Shape → Bool
 is_number Integer = true

@@ -1,11 +1,12 @@
 -- Types judged (Oberon-07 report, section 6): each part when it has been walked, and the whole after its parts.
 use Rattle.std.specs.Prelude.{ℕ, ◌+◌, List, [], ◌∷◌, ◌++◌, length, Bool, false, ◌&&◌, if◌then◌else◌, nat_lt, nat_le, Option, Some, None, is_some, is_none, slice_get, ℤ, pos, negsuc}
 use Rattle.std.specs.Str.{bytes_eq}
+use Rattle.ob_types.specs.Trees.{with_part, rounded_extent}
 use Rattle.ob_syntax.specs.Syntax as S
 use Rattle.ob_syntax.specs.declared.names.Identdef.{Identdef}
 use Rattle.ob_syntax.specs.declared.types.Base.{Base}
 use Rattle.ob_judge.specs.Judged.{Judged, Keeps, ◌>>=◌, ◌>>◌, rule, some}
-use Rattle.ob_judge.specs.Shapes.{Shape, Array, Record, Pointer, Procedure, Field, Layout, cells}
+use Rattle.ob_judge.specs.Shapes.{Shape, Array, Record, Pointer, Procedure, Field, Layout, cells, extent}
 use Rattle.ob_judge.specs.Scopes.{Object, AType, World, Source, look_up, place, spelled}
 use Rattle.ob_judge.specs.Symbols.{expression_first}
 use Rattle.ob_judge.specs.Expressions.{constant}
@@ -95,6 +96,7 @@ module _ (p : Source) where
     added = g.added ++ record { name = spelled p x.name; exported = is_some x.star; shape = s } ∷ [];
     fields = add_field (spelled p x.name) (record { adder = r; number = length g.added; shape = s; exported = is_some x.star; owner = w.module_number }) g.fields;
     cells = g.cells + cells w.known s;
+    extent = with_part g.extent (extent w.known s);
   })
 
   -- a part among the names of a record's own fields
@@ -124,7 +126,7 @@ module _ (p : Source) where
         among_fields (fields_part n first (record b { added = [] }) >>> λ g. more_part n more g) >>> λ h.
         here (λ w. rule 35 (place p i) (nat_le h.cells limit)) >>> λ _.
         ask (λ s. s.world.module_number) >>> λ m.
-        set_record n (record h { module_number = m; line = n ∷ h.line }) >>> λ _. give (Record n)
+        set_record n (record h { module_number = m; line = n ∷ h.line; extent = rounded_extent h.extent }) >>> λ _. give (Record n)
     type_part (S.Pointer i j base) = new_pointer >>> λ n. pointed n base (type_part base) >>> λ _. give (Pointer n)
     type_part (S.Procedure i formals) = aside (formal_part p false formals) >>> λ r. give (Procedure r.0.formals r.1)
 

@@ -51,7 +51,7 @@ choice_others_3_0 = record { source = record { bytes = (77 ∷ 79 ∷ 68 ∷ 85 
 abbrev choice_others_3_1 : Parsed
 choice_others_3_1 = record { source = record { bytes = (77 ∷ 79 ∷ 68 ∷ 85 ∷ 76 ∷ 69 ∷ 32 ∷ 77 ∷ 59 ∷ 32 ∷ 73 ∷ 77 ∷ 80 ∷ 79 ∷ 82 ∷ 84 ∷ 32 ∷ 65 ∷ 59 ∷ 32 ∷ 80 ∷ 82 ∷ 79 ∷ 67 ∷ 69 ∷ 68 ∷ 85 ∷ 82 ∷ 69 ∷ 32 ∷ 86 ∷ 40 ∷ 86 ∷ 65 ∷ 82 ∷ 32 ∷ 105 ∷ 58 ∷ 32 ∷ 73 ∷ 78 ∷ 84 ∷ 69 ∷ 71 ∷ 69 ∷ 82 ∷ 41 ∷ 59 ∷ 32 ∷ 69 ∷ 78 ∷ 68 ∷ 32 ∷ 86 ∷ 59 ∷ 32 ∷ 66 ∷ 69 ∷ 71 ∷ 73 ∷ 78 ∷ 32 ∷ 86 ∷ 40 ∷ 65 ∷ 46 ∷ 112 ∷ 46 ∷ 120 ∷ 41 ∷ 59 ∷ 32 ∷ 65 ∷ 46 ∷ 112 ∷ 94 ∷ 32 ∷ 58 ∷ 61 ∷ 32 ∷ 65 ∷ 46 ∷ 114 ∷ 32 ∷ 69 ∷ 78 ∷ 68 ∷ 32 ∷ 77 ∷ 46 ∷ []); symbols = (symbol (Ident) 0 6 ∷ symbol (Ident) 7 8 ∷ symbol (Ident) 8 9 ∷ symbol (Ident) 10 16 ∷ symbol (Ident) 17 18 ∷ symbol (Ident) 18 19 ∷ symbol (Ident) 20 29 ∷ symbol (Ident) 30 31 ∷ symbol (Ident) 31 32 ∷ symbol (Ident) 32 35 ∷ symbol (Ident) 36 37 ∷ symbol (Ident) 37 38 ∷ symbol (Ident) 39 46 ∷ symbol (Ident) 46 47 ∷ symbol (Ident) 47 48 ∷ symbol (Ident) 49 52 ∷ symbol (Ident) 53 54 ∷ symbol (Ident) 54 55 ∷ symbol (Ident) 56 61 ∷ symbol (Ident) 62 63 ∷ symbol (Ident) 63 64 ∷ symbol (Ident) 64 65 ∷ symbol (Ident) 65 66 ∷ symbol (Ident) 66 67 ∷ symbol (Ident) 67 68 ∷ symbol (Ident) 68 69 ∷ symbol (Ident) 69 70 ∷ symbol (Ident) 70 71 ∷ symbol (Ident) 72 73 ∷ symbol (Ident) 73 74 ∷ symbol (Ident) 74 75 ∷ symbol (Ident) 75 76 ∷ symbol (Ident) 77 79 ∷ symbol (Ident) 80 81 ∷ symbol (Ident) 81 82 ∷ symbol (Ident) 82 83 ∷ symbol (Ident) 84 87 ∷ symbol (Ident) 88 89 ∷ symbol (Ident) 89 90 ∷ []) }; tree = record { module_word = 0; name = 1; semicolon = 0; imports = Some (record { import_word = 0; first = (record { name = 4; of = None }); more = []; semicolon = 0 }); decls = (S.decls None None None (S.procedure 0 (record { name = 7; star = None }) (Some (record { left_paren = 0; sections = Some (record { first = (record { var_word = Some 0; first = 10; more = []; colon = 0; open_array = None; of = (record { name = 12; member = None }) }); more = [] }); right_paren = 0; result = None })) 0 (S.decls None None None S.no_procedure) None None 15 16 0 S.no_procedure)); body = (Some (record { begin_word = 0; stats = (S.stats (S.AssignOrCall (record { name = 19; selectors = (S.selected (S.Parens 0 (S.expressions (S.only (S.simple None (S.term (S.Designated 21 (S.selected (S.Field 0 23) (S.selected (S.Field 0 25) S.no_selector))) S.no_factor) S.no_term)) S.no_expression) 0) S.no_selector) }) None) (S.next_stat 0 (S.AssignOrCall (record { name = 28; selectors = (S.selected (S.Field 0 30) (S.selected (S.Arrow 0) S.no_selector)) }) (Some (record { becomes = 0; value = (S.only (S.simple None (S.term (S.Designated 33 (S.selected (S.Field 0 35) S.no_selector)) S.no_factor) S.no_term)) }))) S.no_stat)) })); end_word = 0; end_name = 37; period = 0 } }
 
-pub choice_others_3 : checked (choice_others_3_0 ∷ choice_others_3_1 ∷ []) ≡ Legal (record { records = (record { module_number = 0; base = None; level = 0; fields = (record { name = (120 ∷ []); exported = true; shape = H.Integer } ∷ []); cells = 1 } ∷ []); pointers = (Some 0 ∷ []); modules = (record { name = (65 ∷ []); objects = (record { name = (82 ∷ []); exported = true; entity = I.OfType (H.Record 0) } ∷ record { name = (112 ∷ []); exported = true; entity = I.OfVariable 0 } ∷ record { name = (114 ∷ []); exported = true; entity = I.OfVariable 1 } ∷ record { name = (97 ∷ []); exported = true; entity = I.OfVariable 2 } ∷ []); variables = ((H.Pointer 0) ∷ (H.Record 0) ∷ (H.Array 2 (H.Record 0)) ∷ []); body = 0 } ∷ record { name = (77 ∷ []); objects = (record { name = (86 ∷ []); exported = false; entity = I.OfProcedure 1 } ∷ []); variables = []; body = 2 } ∷ []); procedures = (record { module_number = 0; line = 1; is_body = true; formals = []; result = H.Nothing; locals = []; texts = []; body = I.no_statement; answer = None } ∷ record { module_number = 1; line = 1; is_body = false; formals = (record { mode = TheMode.Place; variable = true; shape = H.Integer } ∷ []); result = H.Nothing; locals = []; texts = []; body = I.no_statement; answer = None } ∷ record { module_number = 1; line = 1; is_body = true; formals = []; result = H.Nothing; locals = []; texts = []; body = (I.next_statement (I.Invoke (I.Direct 1 (I.next_argument (I.ByPlace (I.of_type (I.Field (I.Dereference (I.Load (I.of_type (I.Global 0 0) (H.Pointer 0)))) 0 0) H.Integer)) I.no_argument))) (I.next_statement (I.CopyRecord (I.of_type (I.Dereference (I.Load (I.of_type (I.Global 0 0) (H.Pointer 0)))) (H.Record 0)) (I.of_type (I.Global 0 1) (H.Record 0))) I.no_statement)); answer = None } ∷ []); imports_in = false })
+pub choice_others_3 : checked (choice_others_3_0 ∷ choice_others_3_1 ∷ []) ≡ Legal (record { records = (record { module_number = 0; base = None; level = 0; fields = (record { name = (120 ∷ []); exported = true; shape = H.Integer } ∷ []); cells = 1; extent = record { bytes = 8; wide = true } } ∷ []); pointers = (Some 0 ∷ []); modules = (record { name = (65 ∷ []); objects = (record { name = (82 ∷ []); exported = true; entity = I.OfType (H.Record 0) } ∷ record { name = (112 ∷ []); exported = true; entity = I.OfVariable 0 } ∷ record { name = (114 ∷ []); exported = true; entity = I.OfVariable 1 } ∷ record { name = (97 ∷ []); exported = true; entity = I.OfVariable 2 } ∷ []); variables = ((H.Pointer 0) ∷ (H.Record 0) ∷ (H.Array 2 (H.Record 0)) ∷ []); body = 0 } ∷ record { name = (77 ∷ []); objects = (record { name = (86 ∷ []); exported = false; entity = I.OfProcedure 1 } ∷ []); variables = []; body = 2 } ∷ []); procedures = (record { module_number = 0; line = 1; is_body = true; formals = []; result = H.Nothing; locals = []; texts = []; body = I.no_statement; answer = None } ∷ record { module_number = 1; line = 1; is_body = false; formals = (record { mode = TheMode.Place; variable = true; shape = H.Integer } ∷ []); result = H.Nothing; locals = []; texts = []; body = I.no_statement; answer = None } ∷ record { module_number = 1; line = 1; is_body = true; formals = []; result = H.Nothing; locals = []; texts = []; body = (I.next_statement (I.Invoke (I.Direct 1 (I.next_argument (I.ByPlace (I.of_type (I.Field (I.Dereference (I.Load (I.of_type (I.Global 0 0) (H.Pointer 0)))) 0 0) H.Integer)) I.no_argument))) (I.next_statement (I.CopyRecord (I.of_type (I.Dereference (I.Load (I.of_type (I.Global 0 0) (H.Pointer 0)))) (H.Record 0)) (I.of_type (I.Global 0 1) (H.Record 0))) I.no_statement)); answer = None } ∷ []); imports_in = false })
 choice_others_3 = refl
 
 -- MODULE M; TYPE R = RECORD x: INTEGER END; E = RECORD (R) y: INTEGER END; P = POINTER TO R; Q = POINTER TO E; VAR p: P; q: Q; BEGIN CASE p OF Q, Q: END END M.
@@ -72,7 +72,7 @@ choice_type_labels_2 = refl
 abbrev choice_type_labels_3_0 : Parsed
 choice_type_labels_3_0 = record { source = record { bytes = (77 ∷ 79 ∷ 68 ∷ 85 ∷ 76 ∷ 69 ∷ 32 ∷ 77 ∷ 59 ∷ 32 ∷ 84 ∷ 89 ∷ 80 ∷ 69 ∷ 32 ∷ 82 ∷ 32 ∷ 61 ∷ 32 ∷ 82 ∷ 69 ∷ 67 ∷ 79 ∷ 82 ∷ 68 ∷ 32 ∷ 120 ∷ 58 ∷ 32 ∷ 73 ∷ 78 ∷ 84 ∷ 69 ∷ 71 ∷ 69 ∷ 82 ∷ 32 ∷ 69 ∷ 78 ∷ 68 ∷ 59 ∷ 32 ∷ 69 ∷ 32 ∷ 61 ∷ 32 ∷ 82 ∷ 69 ∷ 67 ∷ 79 ∷ 82 ∷ 68 ∷ 32 ∷ 40 ∷ 82 ∷ 41 ∷ 32 ∷ 121 ∷ 58 ∷ 32 ∷ 73 ∷ 78 ∷ 84 ∷ 69 ∷ 71 ∷ 69 ∷ 82 ∷ 32 ∷ 69 ∷ 78 ∷ 68 ∷ 59 ∷ 32 ∷ 80 ∷ 32 ∷ 61 ∷ 32 ∷ 80 ∷ 79 ∷ 73 ∷ 78 ∷ 84 ∷ 69 ∷ 82 ∷ 32 ∷ 84 ∷ 79 ∷ 32 ∷ 82 ∷ 59 ∷ 32 ∷ 81 ∷ 32 ∷ 61 ∷ 32 ∷ 80 ∷ 79 ∷ 73 ∷ 78 ∷ 84 ∷ 69 ∷ 82 ∷ 32 ∷ 84 ∷ 79 ∷ 32 ∷ 69 ∷ 59 ∷ 32 ∷ 86 ∷ 65 ∷ 82 ∷ 32 ∷ 112 ∷ 58 ∷ 32 ∷ 80 ∷ 59 ∷ 32 ∷ 113 ∷ 58 ∷ 32 ∷ 81 ∷ 59 ∷ 32 ∷ 66 ∷ 69 ∷ 71 ∷ 73 ∷ 78 ∷ 32 ∷ 67 ∷ 65 ∷ 83 ∷ 69 ∷ 32 ∷ 112 ∷ 32 ∷ 79 ∷ 70 ∷ 32 ∷ 80 ∷ 58 ∷ 32 ∷ 124 ∷ 32 ∷ 81 ∷ 58 ∷ 32 ∷ 69 ∷ 78 ∷ 68 ∷ 32 ∷ 69 ∷ 78 ∷ 68 ∷ 32 ∷ 77 ∷ 46 ∷ []); symbols = (symbol (Ident) 0 6 ∷ symbol (Ident) 7 8 ∷ symbol (Ident) 8 9 ∷ symbol (Ident) 10 14 ∷ symbol (Ident) 15 16 ∷ symbol (Ident) 17 18 ∷ symbol (Ident) 19 25 ∷ symbol (Ident) 26 27 ∷ symbol (Ident) 27 28 ∷ symbol (Ident) 29 36 ∷ symbol (Ident) 37 40 ∷ symbol (Ident) 40 41 ∷ symbol (Ident) 42 43 ∷ symbol (Ident) 44 45 ∷ symbol (Ident) 46 52 ∷ symbol (Ident) 53 54 ∷ symbol (Ident) 54 55 ∷ symbol (Ident) 55 56 ∷ symbol (Ident) 57 58 ∷ symbol (Ident) 58 59 ∷ symbol (Ident) 60 67 ∷ symbol (Ident) 68 71 ∷ symbol (Ident) 71 72 ∷ symbol (Ident) 73 74 ∷ symbol (Ident) 75 76 ∷ symbol (Ident) 77 84 ∷ symbol (Ident) 85 87 ∷ symbol (Ident) 88 89 ∷ symbol (Ident) 89 90 ∷ symbol (Ident) 91 92 ∷ symbol (Ident) 93 94 ∷ symbol (Ident) 95 102 ∷ symbol (Ident) 103 105 ∷ symbol (Ident) 106 107 ∷ symbol (Ident) 107 108 ∷ symbol (Ident) 109 112 ∷ symbol (Ident) 113 114 ∷ symbol (Ident) 114 115 ∷ symbol (Ident) 116 117 ∷ symbol (Ident) 117 118 ∷ symbol (Ident) 119 120 ∷ symbol (Ident) 120 121 ∷ symbol (Ident) 122 123 ∷ symbol (Ident) 123 124 ∷ symbol (Ident) 125 130 ∷ symbol (Ident) 131 135 ∷ symbol (Ident) 136 137 ∷ symbol (Ident) 138 140 ∷ symbol (Ident) 141 142 ∷ symbol (Ident) 142 143 ∷ symbol (Ident) 144 145 ∷ symbol (Ident) 146 147 ∷ symbol (Ident) 147 148 ∷ symbol (Ident) 149 152 ∷ symbol (Ident) 153 156 ∷ symbol (Ident) 157 158 ∷ symbol (Ident) 158 159 ∷ []) }; tree = record { module_word = 0; name = 1; semicolon = 0; imports = None; decls = (S.decls None (Some (record { type_word = 0; each = (record { name = (record { name = 4; star = None }); equal = 0; is = (S.Record 6 None (S.fields (record { first = (record { name = 7; star = None }); more = [] }) 0 (S.Named (record { name = 9; member = None }))) S.no_more_fields 0); semicolon = 0 } ∷ record { name = (record { name = 12; star = None }); equal = 0; is = (S.Record 14 (Some (record { left_paren = 0; name = (record { name = 16; member = None }); right_paren = 0 })) (S.fields (record { first = (record { name = 18; star = None }); more = [] }) 0 (S.Named (record { name = 20; member = None }))) S.no_more_fields 0); semicolon = 0 } ∷ record { name = (record { name = 23; star = None }); equal = 0; is = (S.Pointer 25 0 (S.Named (record { name = 27; member = None }))); semicolon = 0 } ∷ record { name = (record { name = 29; star = None }); equal = 0; is = (S.Pointer 31 0 (S.Named (record { name = 33; member = None }))); semicolon = 0 } ∷ []) })) (Some (record { var_word = 0; each = (record { names = (record { first = (record { name = 36; star = None }); more = [] }); colon = 0; of = (S.Named (record { name = 38; member = None })); semicolon = 0 } ∷ record { names = (record { first = (record { name = 40; star = None }); more = [] }); colon = 0; of = (S.Named (record { name = 42; member = None })); semicolon = 0 } ∷ []) })) S.no_procedure); body = (Some (record { begin_word = 0; stats = (S.stats (S.Case 0 (S.only (S.simple None (S.term (S.Designated 46 S.no_selector) S.no_factor) S.no_term)) 0 (S.one_case (record { low = TheLabel.Named (record { name = 48; member = None }); high = None }) [] 0 (S.stats S.Empty S.no_stat)) (S.next_case 0 (S.one_case (record { low = TheLabel.Named (record { name = 51; member = None }); high = None }) [] 0 (S.stats S.Empty S.no_stat)) S.no_next_case) 0) S.no_stat) })); end_word = 0; end_name = 55; period = 0 } }
 
-pub choice_type_labels_3 : checked (choice_type_labels_3_0 ∷ []) ≡ Legal (record { records = (record { module_number = 0; base = None; level = 0; fields = (record { name = (120 ∷ []); exported = false; shape = H.Integer } ∷ []); cells = 1 } ∷ record { module_number = 0; base = (Some 0); level = 1; fields = (record { name = (121 ∷ []); exported = false; shape = H.Integer } ∷ []); cells = 2 } ∷ []); pointers = (Some 0 ∷ Some 1 ∷ []); modules = (record { name = (77 ∷ []); objects = (record { name = (82 ∷ []); exported = false; entity = I.OfType (H.Record 0) } ∷ record { name = (69 ∷ []); exported = false; entity = I.OfType (H.Record 1) } ∷ record { name = (80 ∷ []); exported = false; entity = I.OfType (H.Pointer 0) } ∷ record { name = (81 ∷ []); exported = false; entity = I.OfType (H.Pointer 1) } ∷ record { name = (112 ∷ []); exported = false; entity = I.OfVariable 0 } ∷ record { name = (113 ∷ []); exported = false; entity = I.OfVariable 1 } ∷ []); variables = ((H.Pointer 0) ∷ (H.Pointer 1) ∷ []); body = 0 } ∷ []); procedures = (record { module_number = 0; line = 1; is_body = true; formals = []; result = H.Nothing; locals = []; texts = []; body = (I.next_statement (I.CasePointer (record { form = (I.Load (I.of_type (I.Global 0 0) (H.Pointer 0))); shape = (H.Pointer 0) }) (I.next_part (I.Extends 0) I.no_statement (I.next_part (I.Extends 1) I.no_statement I.no_part))) I.no_statement); answer = None } ∷ []); imports_in = false })
+pub choice_type_labels_3 : checked (choice_type_labels_3_0 ∷ []) ≡ Legal (record { records = (record { module_number = 0; base = None; level = 0; fields = (record { name = (120 ∷ []); exported = false; shape = H.Integer } ∷ []); cells = 1; extent = record { bytes = 8; wide = true } } ∷ record { module_number = 0; base = (Some 0); level = 1; fields = (record { name = (121 ∷ []); exported = false; shape = H.Integer } ∷ []); cells = 2; extent = record { bytes = 16; wide = true } } ∷ []); pointers = (Some 0 ∷ Some 1 ∷ []); modules = (record { name = (77 ∷ []); objects = (record { name = (82 ∷ []); exported = false; entity = I.OfType (H.Record 0) } ∷ record { name = (69 ∷ []); exported = false; entity = I.OfType (H.Record 1) } ∷ record { name = (80 ∷ []); exported = false; entity = I.OfType (H.Pointer 0) } ∷ record { name = (81 ∷ []); exported = false; entity = I.OfType (H.Pointer 1) } ∷ record { name = (112 ∷ []); exported = false; entity = I.OfVariable 0 } ∷ record { name = (113 ∷ []); exported = false; entity = I.OfVariable 1 } ∷ []); variables = ((H.Pointer 0) ∷ (H.Pointer 1) ∷ []); body = 0 } ∷ []); procedures = (record { module_number = 0; line = 1; is_body = true; formals = []; result = H.Nothing; locals = []; texts = []; body = (I.next_statement (I.CasePointer (record { form = (I.Load (I.of_type (I.Global 0 0) (H.Pointer 0))); shape = (H.Pointer 0) }) (I.next_part (I.Extends 0) I.no_statement (I.next_part (I.Extends 1) I.no_statement I.no_part))) I.no_statement); answer = None } ∷ []); imports_in = false })
 choice_type_labels_3 = refl
 
 -- MODULE M; TYPE R = RECORD x: INTEGER END; E = RECORD (R) y: INTEGER END; P = POINTER TO R; Q = POINTER TO E; VAR p: P; q: Q; PROCEDURE V(VAR q: Q); END V; BEGIN CASE p OF Q: V(p) END END M.
@@ -93,21 +93,21 @@ choice_narrowed_2 = refl
 abbrev choice_narrowed_3_0 : Parsed
 choice_narrowed_3_0 = record { source = record { bytes = (77 ∷ 79 ∷ 68 ∷ 85 ∷ 76 ∷ 69 ∷ 32 ∷ 77 ∷ 59 ∷ 32 ∷ 84 ∷ 89 ∷ 80 ∷ 69 ∷ 32 ∷ 82 ∷ 32 ∷ 61 ∷ 32 ∷ 82 ∷ 69 ∷ 67 ∷ 79 ∷ 82 ∷ 68 ∷ 32 ∷ 120 ∷ 58 ∷ 32 ∷ 73 ∷ 78 ∷ 84 ∷ 69 ∷ 71 ∷ 69 ∷ 82 ∷ 32 ∷ 69 ∷ 78 ∷ 68 ∷ 59 ∷ 32 ∷ 69 ∷ 32 ∷ 61 ∷ 32 ∷ 82 ∷ 69 ∷ 67 ∷ 79 ∷ 82 ∷ 68 ∷ 32 ∷ 40 ∷ 82 ∷ 41 ∷ 32 ∷ 121 ∷ 58 ∷ 32 ∷ 73 ∷ 78 ∷ 84 ∷ 69 ∷ 71 ∷ 69 ∷ 82 ∷ 32 ∷ 69 ∷ 78 ∷ 68 ∷ 59 ∷ 32 ∷ 80 ∷ 32 ∷ 61 ∷ 32 ∷ 80 ∷ 79 ∷ 73 ∷ 78 ∷ 84 ∷ 69 ∷ 82 ∷ 32 ∷ 84 ∷ 79 ∷ 32 ∷ 82 ∷ 59 ∷ 32 ∷ 81 ∷ 32 ∷ 61 ∷ 32 ∷ 80 ∷ 79 ∷ 73 ∷ 78 ∷ 84 ∷ 69 ∷ 82 ∷ 32 ∷ 84 ∷ 79 ∷ 32 ∷ 69 ∷ 59 ∷ 32 ∷ 86 ∷ 65 ∷ 82 ∷ 32 ∷ 112 ∷ 58 ∷ 32 ∷ 80 ∷ 59 ∷ 32 ∷ 113 ∷ 58 ∷ 32 ∷ 81 ∷ 59 ∷ 32 ∷ 80 ∷ 82 ∷ 79 ∷ 67 ∷ 69 ∷ 68 ∷ 85 ∷ 82 ∷ 69 ∷ 32 ∷ 85 ∷ 40 ∷ 86 ∷ 65 ∷ 82 ∷ 32 ∷ 114 ∷ 58 ∷ 32 ∷ 82 ∷ 41 ∷ 59 ∷ 32 ∷ 80 ∷ 82 ∷ 79 ∷ 67 ∷ 69 ∷ 68 ∷ 85 ∷ 82 ∷ 69 ∷ 32 ∷ 86 ∷ 40 ∷ 86 ∷ 65 ∷ 82 ∷ 32 ∷ 101 ∷ 58 ∷ 32 ∷ 69 ∷ 41 ∷ 59 ∷ 32 ∷ 69 ∷ 78 ∷ 68 ∷ 32 ∷ 86 ∷ 59 ∷ 32 ∷ 66 ∷ 69 ∷ 71 ∷ 73 ∷ 78 ∷ 32 ∷ 67 ∷ 65 ∷ 83 ∷ 69 ∷ 32 ∷ 114 ∷ 32 ∷ 79 ∷ 70 ∷ 32 ∷ 69 ∷ 58 ∷ 32 ∷ 86 ∷ 40 ∷ 114 ∷ 40 ∷ 69 ∷ 41 ∷ 41 ∷ 59 ∷ 32 ∷ 114 ∷ 46 ∷ 121 ∷ 32 ∷ 58 ∷ 61 ∷ 32 ∷ 49 ∷ 32 ∷ 69 ∷ 78 ∷ 68 ∷ 32 ∷ 69 ∷ 78 ∷ 68 ∷ 32 ∷ 85 ∷ 59 ∷ 32 ∷ 69 ∷ 78 ∷ 68 ∷ 32 ∷ 77 ∷ 46 ∷ []); symbols = (symbol (Ident) 0 6 ∷ symbol (Ident) 7 8 ∷ symbol (Ident) 8 9 ∷ symbol (Ident) 10 14 ∷ symbol (Ident) 15 16 ∷ symbol (Ident) 17 18 ∷ symbol (Ident) 19 25 ∷ symbol (Ident) 26 27 ∷ symbol (Ident) 27 28 ∷ symbol (Ident) 29 36 ∷ symbol (Ident) 37 40 ∷ symbol (Ident) 40 41 ∷ symbol (Ident) 42 43 ∷ symbol (Ident) 44 45 ∷ symbol (Ident) 46 52 ∷ symbol (Ident) 53 54 ∷ symbol (Ident) 54 55 ∷ symbol (Ident) 55 56 ∷ symbol (Ident) 57 58 ∷ symbol (Ident) 58 59 ∷ symbol (Ident) 60 67 ∷ symbol (Ident) 68 71 ∷ symbol (Ident) 71 72 ∷ symbol (Ident) 73 74 ∷ symbol (Ident) 75 76 ∷ symbol (Ident) 77 84 ∷ symbol (Ident) 85 87 ∷ symbol (Ident) 88 89 ∷ symbol (Ident) 89 90 ∷ symbol (Ident) 91 92 ∷ symbol (Ident) 93 94 ∷ symbol (Ident) 95 102 ∷ symbol (Ident) 103 105 ∷ symbol (Ident) 106 107 ∷ symbol (Ident) 107 108 ∷ symbol (Ident) 109 112 ∷ symbol (Ident) 113 114 ∷ symbol (Ident) 114 115 ∷ symbol (Ident) 116 117 ∷ symbol (Ident) 117 118 ∷ symbol (Ident) 119 120 ∷ symbol (Ident) 120 121 ∷ symbol (Ident) 122 123 ∷ symbol (Ident) 123 124 ∷ symbol (Ident) 125 134 ∷ symbol (Ident) 135 136 ∷ symbol (Ident) 136 137 ∷ symbol (Ident) 137 140 ∷ symbol (Ident) 141 142 ∷ symbol (Ident) 142 143 ∷ symbol (Ident) 144 145 ∷ symbol (Ident) 145 146 ∷ symbol (Ident) 146 147 ∷ symbol (Ident) 148 157 ∷ symbol (Ident) 158 159 ∷ symbol (Ident) 159 160 ∷ symbol (Ident) 160 163 ∷ symbol (Ident) 164 165 ∷ symbol (Ident) 165 166 ∷ symbol (Ident) 167 168 ∷ symbol (Ident) 168 169 ∷ symbol (Ident) 169 170 ∷ symbol (Ident) 171 174 ∷ symbol (Ident) 175 176 ∷ symbol (Ident) 176 177 ∷ symbol (Ident) 178 183 ∷ symbol (Ident) 184 188 ∷ symbol (Ident) 189 190 ∷ symbol (Ident) 191 193 ∷ symbol (Ident) 194 195 ∷ symbol (Ident) 195 196 ∷ symbol (Ident) 197 198 ∷ symbol (Ident) 198 199 ∷ symbol (Ident) 199 200 ∷ symbol (Ident) 200 201 ∷ symbol (Ident) 201 202 ∷ symbol (Ident) 202 203 ∷ symbol (Ident) 203 204 ∷ symbol (Ident) 204 205 ∷ symbol (Ident) 206 207 ∷ symbol (Ident) 207 208 ∷ symbol (Ident) 208 209 ∷ symbol (Ident) 210 212 ∷ symbol (Int (pos 1)) 213 214 ∷ symbol (Ident) 215 218 ∷ symbol (Ident) 219 222 ∷ symbol (Ident) 223 224 ∷ symbol (Ident) 224 225 ∷ symbol (Ident) 226 229 ∷ symbol (Ident) 230 231 ∷ symbol (Ident) 231 232 ∷ []) }; tree = record { module_word = 0; name = 1; semicolon = 0; imports = None; decls = (S.decls None (Some (record { type_word = 0; each = (record { name = (record { name = 4; star = None }); equal = 0; is = (S.Record 6 None (S.fields (record { first = (record { name = 7; star = None }); more = [] }) 0 (S.Named (record { name = 9; member = None }))) S.no_more_fields 0); semicolon = 0 } ∷ record { name = (record { name = 12; star = None }); equal = 0; is = (S.Record 14 (Some (record { left_paren = 0; name = (record { name = 16; member = None }); right_paren = 0 })) (S.fields (record { first = (record { name = 18; star = None }); more = [] }) 0 (S.Named (record { name = 20; member = None }))) S.no_more_fields 0); semicolon = 0 } ∷ record { name = (record { name = 23; star = None }); equal = 0; is = (S.Pointer 25 0 (S.Named (record { name = 27; member = None }))); semicolon = 0 } ∷ record { name = (record { name = 29; star = None }); equal = 0; is = (S.Pointer 31 0 (S.Named (record { name = 33; member = None }))); semicolon = 0 } ∷ []) })) (Some (record { var_word = 0; each = (record { names = (record { first = (record { name = 36; star = None }); more = [] }); colon = 0; of = (S.Named (record { name = 38; member = None })); semicolon = 0 } ∷ record { names = (record { first = (record { name = 40; star = None }); more = [] }); colon = 0; of = (S.Named (record { name = 42; member = None })); semicolon = 0 } ∷ []) })) (S.procedure 0 (record { name = 45; star = None }) (Some (record { left_paren = 0; sections = Some (record { first = (record { var_word = Some 0; first = 48; more = []; colon = 0; open_array = None; of = (record { name = 50; member = None }) }); more = [] }); right_paren = 0; result = None })) 0 (S.decls None None None (S.procedure 0 (record { name = 54; star = None }) (Some (record { left_paren = 0; sections = Some (record { first = (record { var_word = Some 0; first = 57; more = []; colon = 0; open_array = None; of = (record { name = 59; member = None }) }); more = [] }); right_paren = 0; result = None })) 0 (S.decls None None None S.no_procedure) None None 62 63 0 S.no_procedure)) (Some (record { begin_word = 0; stats = (S.stats (S.Case 0 (S.only (S.simple None (S.term (S.Designated 67 S.no_selector) S.no_factor) S.no_term)) 0 (S.one_case (record { low = TheLabel.Named (record { name = 69; member = None }); high = None }) [] 0 (S.stats (S.AssignOrCall (record { name = 71; selectors = (S.selected (S.Parens 0 (S.expressions (S.only (S.simple None (S.term (S.Designated 73 (S.selected (S.Parens 0 (S.expressions (S.only (S.simple None (S.term (S.Designated 75 S.no_selector) S.no_factor) S.no_term)) S.no_expression) 0) S.no_selector)) S.no_factor) S.no_term)) S.no_expression) 0) S.no_selector) }) None) (S.next_stat 0 (S.AssignOrCall (record { name = 79; selectors = (S.selected (S.Field 0 81) S.no_selector) }) (Some (record { becomes = 0; value = (S.only (S.simple None (S.term (S.Int 83) S.no_factor) S.no_term)) }))) S.no_stat))) S.no_next_case 0) S.no_stat) })) None 85 86 0 S.no_procedure)); body = None; end_word = 0; end_name = 89; period = 0 } }
 
-pub choice_narrowed_3 : checked (choice_narrowed_3_0 ∷ []) ≡ Legal (record { records = (record { module_number = 0; base = None; level = 0; fields = (record { name = (120 ∷ []); exported = false; shape = H.Integer } ∷ []); cells = 1 } ∷ record { module_number = 0; base = (Some 0); level = 1; fields = (record { name = (121 ∷ []); exported = false; shape = H.Integer } ∷ []); cells = 2 } ∷ []); pointers = (Some 0 ∷ Some 1 ∷ []); modules = (record { name = (77 ∷ []); objects = (record { name = (82 ∷ []); exported = false; entity = I.OfType (H.Record 0) } ∷ record { name = (69 ∷ []); exported = false; entity = I.OfType (H.Record 1) } ∷ record { name = (80 ∷ []); exported = false; entity = I.OfType (H.Pointer 0) } ∷ record { name = (81 ∷ []); exported = false; entity = I.OfType (H.Pointer 1) } ∷ record { name = (112 ∷ []); exported = false; entity = I.OfVariable 0 } ∷ record { name = (113 ∷ []); exported = false; entity = I.OfVariable 1 } ∷ record { name = (85 ∷ []); exported = false; entity = I.OfProcedure 0 } ∷ []); variables = ((H.Pointer 0) ∷ (H.Pointer 1) ∷ []); body = 2 } ∷ []); procedures = (record { module_number = 0; line = 1; is_body = false; formals = (record { mode = TheMode.Record; variable = true; shape = (H.Record 0) } ∷ []); result = H.Nothing; locals = []; texts = []; body = (I.next_statement (I.CaseParameter (I.of_type (I.Parameter 0) (H.Record 0)) (I.next_part (I.Extends 1) (I.next_statement (I.Invoke (I.Direct 1 (I.next_argument (I.ByRecord (I.of_type (I.Narrow (I.Narrow (I.Parameter 0) 1) 1) (H.Record 1))) I.no_argument))) (I.next_statement (I.Assign (I.of_type (I.Field (I.Narrow (I.Parameter 0) 1) 1 0) H.Integer) (record { form = (I.Literal 1); shape = H.Integer })) I.no_statement)) I.no_part)) I.no_statement); answer = None } ∷ record { module_number = 0; line = 1; is_body = false; formals = (record { mode = TheMode.Record; variable = true; shape = (H.Record 1) } ∷ []); result = H.Nothing; locals = []; texts = []; body = I.no_statement; answer = None } ∷ record { module_number = 0; line = 1; is_body = true; formals = []; result = H.Nothing; locals = []; texts = []; body = I.no_statement; answer = None } ∷ []); imports_in = false })
+pub choice_narrowed_3 : checked (choice_narrowed_3_0 ∷ []) ≡ Legal (record { records = (record { module_number = 0; base = None; level = 0; fields = (record { name = (120 ∷ []); exported = false; shape = H.Integer } ∷ []); cells = 1; extent = record { bytes = 8; wide = true } } ∷ record { module_number = 0; base = (Some 0); level = 1; fields = (record { name = (121 ∷ []); exported = false; shape = H.Integer } ∷ []); cells = 2; extent = record { bytes = 16; wide = true } } ∷ []); pointers = (Some 0 ∷ Some 1 ∷ []); modules = (record { name = (77 ∷ []); objects = (record { name = (82 ∷ []); exported = false; entity = I.OfType (H.Record 0) } ∷ record { name = (69 ∷ []); exported = false; entity = I.OfType (H.Record 1) } ∷ record { name = (80 ∷ []); exported = false; entity = I.OfType (H.Pointer 0) } ∷ record { name = (81 ∷ []); exported = false; entity = I.OfType (H.Pointer 1) } ∷ record { name = (112 ∷ []); exported = false; entity = I.OfVariable 0 } ∷ record { name = (113 ∷ []); exported = false; entity = I.OfVariable 1 } ∷ record { name = (85 ∷ []); exported = false; entity = I.OfProcedure 0 } ∷ []); variables = ((H.Pointer 0) ∷ (H.Pointer 1) ∷ []); body = 2 } ∷ []); procedures = (record { module_number = 0; line = 1; is_body = false; formals = (record { mode = TheMode.Record; variable = true; shape = (H.Record 0) } ∷ []); result = H.Nothing; locals = []; texts = []; body = (I.next_statement (I.CaseParameter (I.of_type (I.Parameter 0) (H.Record 0)) (I.next_part (I.Extends 1) (I.next_statement (I.Invoke (I.Direct 1 (I.next_argument (I.ByRecord (I.of_type (I.Narrow (I.Narrow (I.Parameter 0) 1) 1) (H.Record 1))) I.no_argument))) (I.next_statement (I.Assign (I.of_type (I.Field (I.Narrow (I.Parameter 0) 1) 1 0) H.Integer) (record { form = (I.Literal 1); shape = H.Integer })) I.no_statement)) I.no_part)) I.no_statement); answer = None } ∷ record { module_number = 0; line = 1; is_body = false; formals = (record { mode = TheMode.Record; variable = true; shape = (H.Record 1) } ∷ []); result = H.Nothing; locals = []; texts = []; body = I.no_statement; answer = None } ∷ record { module_number = 0; line = 1; is_body = true; formals = []; result = H.Nothing; locals = []; texts = []; body = I.no_statement; answer = None } ∷ []); imports_in = false })
 choice_narrowed_3 = refl
 
 -- MODULE M; TYPE R = RECORD x: INTEGER END; E = RECORD (R) y: INTEGER END; P = POINTER TO R; Q = POINTER TO E; VAR p: P; q: Q; BEGIN CASE p OF Q: p := q; p.y := 2; CASE p OF Q: p.y := 3 END END END M.
 abbrev choice_narrowed_4_0 : Parsed
 choice_narrowed_4_0 = record { source = record { bytes = (77 ∷ 79 ∷ 68 ∷ 85 ∷ 76 ∷ 69 ∷ 32 ∷ 77 ∷ 59 ∷ 32 ∷ 84 ∷ 89 ∷ 80 ∷ 69 ∷ 32 ∷ 82 ∷ 32 ∷ 61 ∷ 32 ∷ 82 ∷ 69 ∷ 67 ∷ 79 ∷ 82 ∷ 68 ∷ 32 ∷ 120 ∷ 58 ∷ 32 ∷ 73 ∷ 78 ∷ 84 ∷ 69 ∷ 71 ∷ 69 ∷ 82 ∷ 32 ∷ 69 ∷ 78 ∷ 68 ∷ 59 ∷ 32 ∷ 69 ∷ 32 ∷ 61 ∷ 32 ∷ 82 ∷ 69 ∷ 67 ∷ 79 ∷ 82 ∷ 68 ∷ 32 ∷ 40 ∷ 82 ∷ 41 ∷ 32 ∷ 121 ∷ 58 ∷ 32 ∷ 73 ∷ 78 ∷ 84 ∷ 69 ∷ 71 ∷ 69 ∷ 82 ∷ 32 ∷ 69 ∷ 78 ∷ 68 ∷ 59 ∷ 32 ∷ 80 ∷ 32 ∷ 61 ∷ 32 ∷ 80 ∷ 79 ∷ 73 ∷ 78 ∷ 84 ∷ 69 ∷ 82 ∷ 32 ∷ 84 ∷ 79 ∷ 32 ∷ 82 ∷ 59 ∷ 32 ∷ 81 ∷ 32 ∷ 61 ∷ 32 ∷ 80 ∷ 79 ∷ 73 ∷ 78 ∷ 84 ∷ 69 ∷ 82 ∷ 32 ∷ 84 ∷ 79 ∷ 32 ∷ 69 ∷ 59 ∷ 32 ∷ 86 ∷ 65 ∷ 82 ∷ 32 ∷ 112 ∷ 58 ∷ 32 ∷ 80 ∷ 59 ∷ 32 ∷ 113 ∷ 58 ∷ 32 ∷ 81 ∷ 59 ∷ 32 ∷ 66 ∷ 69 ∷ 71 ∷ 73 ∷ 78 ∷ 32 ∷ 67 ∷ 65 ∷ 83 ∷ 69 ∷ 32 ∷ 112 ∷ 32 ∷ 79 ∷ 70 ∷ 32 ∷ 81 ∷ 58 ∷ 32 ∷ 112 ∷ 32 ∷ 58 ∷ 61 ∷ 32 ∷ 113 ∷ 59 ∷ 32 ∷ 112 ∷ 46 ∷ 121 ∷ 32 ∷ 58 ∷ 61 ∷ 32 ∷ 50 ∷ 59 ∷ 32 ∷ 67 ∷ 65 ∷ 83 ∷ 69 ∷ 32 ∷ 112 ∷ 32 ∷ 79 ∷ 70 ∷ 32 ∷ 81 ∷ 58 ∷ 32 ∷ 112 ∷ 46 ∷ 121 ∷ 32 ∷ 58 ∷ 61 ∷ 32 ∷ 51 ∷ 32 ∷ 69 ∷ 78 ∷ 68 ∷ 32 ∷ 69 ∷ 78 ∷ 68 ∷ 32 ∷ 69 ∷ 78 ∷ 68 ∷ 32 ∷ 77 ∷ 46 ∷ []); symbols = (symbol (Ident) 0 6 ∷ symbol (Ident) 7 8 ∷ symbol (Ident) 8 9 ∷ symbol (Ident) 10 14 ∷ symbol (Ident) 15 16 ∷ symbol (Ident) 17 18 ∷ symbol (Ident) 19 25 ∷ symbol (Ident) 26 27 ∷ symbol (Ident) 27 28 ∷ symbol (Ident) 29 36 ∷ symbol (Ident) 37 40 ∷ symbol (Ident) 40 41 ∷ symbol (Ident) 42 43 ∷ symbol (Ident) 44 45 ∷ symbol (Ident) 46 52 ∷ symbol (Ident) 53 54 ∷ symbol (Ident) 54 55 ∷ symbol (Ident) 55 56 ∷ symbol (Ident) 57 58 ∷ symbol (Ident) 58 59 ∷ symbol (Ident) 60 67 ∷ symbol (Ident) 68 71 ∷ symbol (Ident) 71 72 ∷ symbol (Ident) 73 74 ∷ symbol (Ident) 75 76 ∷ symbol (Ident) 77 84 ∷ symbol (Ident) 85 87 ∷ symbol (Ident) 88 89 ∷ symbol (Ident) 89 90 ∷ symbol (Ident) 91 92 ∷ symbol (Ident) 93 94 ∷ symbol (Ident) 95 102 ∷ symbol (Ident) 103 105 ∷ symbol (Ident) 106 107 ∷ symbol (Ident) 107 108 ∷ symbol (Ident) 109 112 ∷ symbol (Ident) 113 114 ∷ symbol (Ident) 114 115 ∷ symbol (Ident) 116 117 ∷ symbol (Ident) 117 118 ∷ symbol (Ident) 119 120 ∷ symbol (Ident) 120 121 ∷ symbol (Ident) 122 123 ∷ symbol (Ident) 123 124 ∷ symbol (Ident) 125 130 ∷ symbol (Ident) 131 135 ∷ symbol (Ident) 136 137 ∷ symbol (Ident) 138 140 ∷ symbol (Ident) 141 142 ∷ symbol (Ident) 142 143 ∷ symbol (Ident) 144 145 ∷ symbol (Ident) 146 148 ∷ symbol (Ident) 149 150 ∷ symbol (Ident) 150 151 ∷ symbol (Ident) 152 153 ∷ symbol (Ident) 153 154 ∷ symbol (Ident) 154 155 ∷ symbol (Ident) 156 158 ∷ symbol (Int (pos 2)) 159 160 ∷ symbol (Ident) 160 161 ∷ symbol (Ident) 162 166 ∷ symbol (Ident) 167 168 ∷ symbol (Ident) 169 171 ∷ symbol (Ident) 172 173 ∷ symbol (Ident) 173 174 ∷ symbol (Ident) 175 176 ∷ symbol (Ident) 176 177 ∷ symbol (Ident) 177 178 ∷ symbol (Ident) 179 181 ∷ symbol (Int (pos 3)) 182 183 ∷ symbol (Ident) 184 187 ∷ symbol (Ident) 188 191 ∷ symbol (Ident) 192 195 ∷ symbol (Ident) 196 197 ∷ symbol (Ident) 197 198 ∷ []) }; tree = record { module_word = 0; name = 1; semicolon = 0; imports = None; decls = (S.decls None (Some (record { type_word = 0; each = (record { name = (record { name = 4; star = None }); equal = 0; is = (S.Record 6 None (S.fields (record { first = (record { name = 7; star = None }); more = [] }) 0 (S.Named (record { name = 9; member = None }))) S.no_more_fields 0); semicolon = 0 } ∷ record { name = (record { name = 12; star = None }); equal = 0; is = (S.Record 14 (Some (record { left_paren = 0; name = (record { name = 16; member = None }); right_paren = 0 })) (S.fields (record { first = (record { name = 18; star = None }); more = [] }) 0 (S.Named (record { name = 20; member = None }))) S.no_more_fields 0); semicolon = 0 } ∷ record { name = (record { name = 23; star = None }); equal = 0; is = (S.Pointer 25 0 (S.Named (record { name = 27; member = None }))); semicolon = 0 } ∷ record { name = (record { name = 29; star = None }); equal = 0; is = (S.Pointer 31 0 (S.Named (record { name = 33; member = None }))); semicolon = 0 } ∷ []) })) (Some (record { var_word = 0; each = (record { names = (record { first = (record { name = 36; star = None }); more = [] }); colon = 0; of = (S.Named (record { name = 38; member = None })); semicolon = 0 } ∷ record { names = (record { first = (record { name = 40; star = None }); more = [] }); colon = 0; of = (S.Named (record { name = 42; member = None })); semicolon = 0 } ∷ []) })) S.no_procedure); body = (Some (record { begin_word = 0; stats = (S.stats (S.Case 0 (S.only (S.simple None (S.term (S.Designated 46 S.no_selector) S.no_factor) S.no_term)) 0 (S.one_case (record { low = TheLabel.Named (record { name = 48; member = None }); high = None }) [] 0 (S.stats (S.AssignOrCall (record { name = 50; selectors = S.no_selector }) (Some (record { becomes = 0; value = (S.only (S.simple None (S.term (S.Designated 52 S.no_selector) S.no_factor) S.no_term)) }))) (S.next_stat 0 (S.AssignOrCall (record { name = 54; selectors = (S.selected (S.Field 0 56) S.no_selector) }) (Some (record { becomes = 0; value = (S.only (S.simple None (S.term (S.Int 58) S.no_factor) S.no_term)) }))) (S.next_stat 0 (S.Case 0 (S.only (S.simple None (S.term (S.Designated 61 S.no_selector) S.no_factor) S.no_term)) 0 (S.one_case (record { low = TheLabel.Named (record { name = 63; member = None }); high = None }) [] 0 (S.stats (S.AssignOrCall (record { name = 65; selectors = (S.selected (S.Field 0 67) S.no_selector) }) (Some (record { becomes = 0; value = (S.only (S.simple None (S.term (S.Int 69) S.no_factor) S.no_term)) }))) S.no_stat)) S.no_next_case 0) S.no_stat)))) S.no_next_case 0) S.no_stat) })); end_word = 0; end_name = 73; period = 0 } }
 
-pub choice_narrowed_4 : checked (choice_narrowed_4_0 ∷ []) ≡ Legal (record { records = (record { module_number = 0; base = None; level = 0; fields = (record { name = (120 ∷ []); exported = false; shape = H.Integer } ∷ []); cells = 1 } ∷ record { module_number = 0; base = (Some 0); level = 1; fields = (record { name = (121 ∷ []); exported = false; shape = H.Integer } ∷ []); cells = 2 } ∷ []); pointers = (Some 0 ∷ Some 1 ∷ []); modules = (record { name = (77 ∷ []); objects = (record { name = (82 ∷ []); exported = false; entity = I.OfType (H.Record 0) } ∷ record { name = (69 ∷ []); exported = false; entity = I.OfType (H.Record 1) } ∷ record { name = (80 ∷ []); exported = false; entity = I.OfType (H.Pointer 0) } ∷ record { name = (81 ∷ []); exported = false; entity = I.OfType (H.Pointer 1) } ∷ record { name = (112 ∷ []); exported = false; entity = I.OfVariable 0 } ∷ record { name = (113 ∷ []); exported = false; entity = I.OfVariable 1 } ∷ []); variables = ((H.Pointer 0) ∷ (H.Pointer 1) ∷ []); body = 0 } ∷ []); procedures = (record { module_number = 0; line = 1; is_body = true; formals = []; result = H.Nothing; locals = []; texts = []; body = (I.next_statement (I.CasePointer (record { form = (I.Load (I.of_type (I.Global 0 0) (H.Pointer 0))); shape = (H.Pointer 0) }) (I.next_part (I.Extends 1) (I.next_statement (I.Assign (I.of_type (I.Global 0 0) (H.Pointer 0)) (record { form = (I.Load (I.of_type (I.Global 0 1) (H.Pointer 1))); shape = (H.Pointer 1) })) (I.next_statement (I.Assign (I.of_type (I.Field (I.Dereference (I.Guard (I.Load (I.of_type (I.Global 0 0) (H.Pointer 0))) 1)) 1 0) H.Integer) (record { form = (I.Literal 2); shape = H.Integer })) (I.next_statement (I.CasePointer (record { form = (I.Guard (I.Load (I.of_type (I.Global 0 0) (H.Pointer 0))) 1); shape = (H.Pointer 1) }) (I.next_part (I.Extends 1) (I.next_statement (I.Assign (I.of_type (I.Field (I.Dereference (I.Guard (I.Load (I.of_type (I.Global 0 0) (H.Pointer 0))) 1)) 1 0) H.Integer) (record { form = (I.Literal 3); shape = H.Integer })) I.no_statement) I.no_part)) I.no_statement))) I.no_part)) I.no_statement); answer = None } ∷ []); imports_in = false })
+pub choice_narrowed_4 : checked (choice_narrowed_4_0 ∷ []) ≡ Legal (record { records = (record { module_number = 0; base = None; level = 0; fields = (record { name = (120 ∷ []); exported = false; shape = H.Integer } ∷ []); cells = 1; extent = record { bytes = 8; wide = true } } ∷ record { module_number = 0; base = (Some 0); level = 1; fields = (record { name = (121 ∷ []); exported = false; shape = H.Integer } ∷ []); cells = 2; extent = record { bytes = 16; wide = true } } ∷ []); pointers = (Some 0 ∷ Some 1 ∷ []); modules = (record { name = (77 ∷ []); objects = (record { name = (82 ∷ []); exported = false; entity = I.OfType (H.Record 0) } ∷ record { name = (69 ∷ []); exported = false; entity = I.OfType (H.Record 1) } ∷ record { name = (80 ∷ []); exported = false; entity = I.OfType (H.Pointer 0) } ∷ record { name = (81 ∷ []); exported = false; entity = I.OfType (H.Pointer 1) } ∷ record { name = (112 ∷ []); exported = false; entity = I.OfVariable 0 } ∷ record { name = (113 ∷ []); exported = false; entity = I.OfVariable 1 } ∷ []); variables = ((H.Pointer 0) ∷ (H.Pointer 1) ∷ []); body = 0 } ∷ []); procedures = (record { module_number = 0; line = 1; is_body = true; formals = []; result = H.Nothing; locals = []; texts = []; body = (I.next_statement (I.CasePointer (record { form = (I.Load (I.of_type (I.Global 0 0) (H.Pointer 0))); shape = (H.Pointer 0) }) (I.next_part (I.Extends 1) (I.next_statement (I.Assign (I.of_type (I.Global 0 0) (H.Pointer 0)) (record { form = (I.Load (I.of_type (I.Global 0 1) (H.Pointer 1))); shape = (H.Pointer 1) })) (I.next_statement (I.Assign (I.of_type (I.Field (I.Dereference (I.Guard (I.Load (I.of_type (I.Global 0 0) (H.Pointer 0))) 1)) 1 0) H.Integer) (record { form = (I.Literal 2); shape = H.Integer })) (I.next_statement (I.CasePointer (record { form = (I.Guard (I.Load (I.of_type (I.Global 0 0) (H.Pointer 0))) 1); shape = (H.Pointer 1) }) (I.next_part (I.Extends 1) (I.next_statement (I.Assign (I.of_type (I.Field (I.Dereference (I.Guard (I.Load (I.of_type (I.Global 0 0) (H.Pointer 0))) 1)) 1 0) H.Integer) (record { form = (I.Literal 3); shape = H.Integer })) I.no_statement) I.no_part)) I.no_statement))) I.no_part)) I.no_statement); answer = None } ∷ []); imports_in = false })
 choice_narrowed_4 = refl
 
 -- MODULE M; TYPE R = RECORD n: POINTER TO R END; END M.
 abbrev choice_forward_1_0 : Parsed
 choice_forward_1_0 = record { source = record { bytes = (77 ∷ 79 ∷ 68 ∷ 85 ∷ 76 ∷ 69 ∷ 32 ∷ 77 ∷ 59 ∷ 32 ∷ 84 ∷ 89 ∷ 80 ∷ 69 ∷ 32 ∷ 82 ∷ 32 ∷ 61 ∷ 32 ∷ 82 ∷ 69 ∷ 67 ∷ 79 ∷ 82 ∷ 68 ∷ 32 ∷ 110 ∷ 58 ∷ 32 ∷ 80 ∷ 79 ∷ 73 ∷ 78 ∷ 84 ∷ 69 ∷ 82 ∷ 32 ∷ 84 ∷ 79 ∷ 32 ∷ 82 ∷ 32 ∷ 69 ∷ 78 ∷ 68 ∷ 59 ∷ 32 ∷ 69 ∷ 78 ∷ 68 ∷ 32 ∷ 77 ∷ 46 ∷ []); symbols = (symbol (Ident) 0 6 ∷ symbol (Ident) 7 8 ∷ symbol (Ident) 8 9 ∷ symbol (Ident) 10 14 ∷ symbol (Ident) 15 16 ∷ symbol (Ident) 17 18 ∷ symbol (Ident) 19 25 ∷ symbol (Ident) 26 27 ∷ symbol (Ident) 27 28 ∷ symbol (Ident) 29 36 ∷ symbol (Ident) 37 39 ∷ symbol (Ident) 40 41 ∷ symbol (Ident) 42 45 ∷ symbol (Ident) 45 46 ∷ symbol (Ident) 47 50 ∷ symbol (Ident) 51 52 ∷ symbol (Ident) 52 53 ∷ []) }; tree = record { module_word = 0; name = 1; semicolon = 0; imports = None; decls = (S.decls None (Some (record { type_word = 0; each = (record { name = (record { name = 4; star = None }); equal = 0; is = (S.Record 6 None (S.fields (record { first = (record { name = 7; star = None }); more = [] }) 0 (S.Pointer 9 0 (S.Named (record { name = 11; member = None })))) S.no_more_fields 0); semicolon = 0 } ∷ []) })) None S.no_procedure); body = None; end_word = 0; end_name = 15; period = 0 } }
 
-pub choice_forward_1 : checked (choice_forward_1_0 ∷ []) ≡ Legal (record { records = (record { module_number = 0; base = None; level = 0; fields = (record { name = (110 ∷ []); exported = false; shape = (H.Pointer 0) } ∷ []); cells = 1 } ∷ []); pointers = (Some 0 ∷ []); modules = (record { name = (77 ∷ []); objects = (record { name = (82 ∷ []); exported = false; entity = I.OfType (H.Record 0) } ∷ []); variables = []; body = 0 } ∷ []); procedures = (record { module_number = 0; line = 1; is_body = true; formals = []; result = H.Nothing; locals = []; texts = []; body = I.no_statement; answer = None } ∷ []); imports_in = false })
+pub choice_forward_1 : checked (choice_forward_1_0 ∷ []) ≡ Legal (record { records = (record { module_number = 0; base = None; level = 0; fields = (record { name = (110 ∷ []); exported = false; shape = (H.Pointer 0) } ∷ []); cells = 1; extent = record { bytes = 8; wide = true } } ∷ []); pointers = (Some 0 ∷ []); modules = (record { name = (77 ∷ []); objects = (record { name = (82 ∷ []); exported = false; entity = I.OfType (H.Record 0) } ∷ []); variables = []; body = 0 } ∷ []); procedures = (record { module_number = 0; line = 1; is_body = true; formals = []; result = H.Nothing; locals = []; texts = []; body = I.no_statement; answer = None } ∷ []); imports_in = false })
 choice_forward_1 = refl
 
 -- MODULE M; TYPE L = POINTER TO RECORD n: L END; END M.
@@ -149,7 +149,7 @@ choice_guard_2 = refl
 abbrev choice_guard_3_0 : Parsed
 choice_guard_3_0 = record { source = record { bytes = (77 ∷ 79 ∷ 68 ∷ 85 ∷ 76 ∷ 69 ∷ 32 ∷ 77 ∷ 59 ∷ 32 ∷ 84 ∷ 89 ∷ 80 ∷ 69 ∷ 32 ∷ 82 ∷ 32 ∷ 61 ∷ 32 ∷ 82 ∷ 69 ∷ 67 ∷ 79 ∷ 82 ∷ 68 ∷ 32 ∷ 120 ∷ 58 ∷ 32 ∷ 73 ∷ 78 ∷ 84 ∷ 69 ∷ 71 ∷ 69 ∷ 82 ∷ 32 ∷ 69 ∷ 78 ∷ 68 ∷ 59 ∷ 32 ∷ 69 ∷ 32 ∷ 61 ∷ 32 ∷ 82 ∷ 69 ∷ 67 ∷ 79 ∷ 82 ∷ 68 ∷ 32 ∷ 40 ∷ 82 ∷ 41 ∷ 32 ∷ 121 ∷ 58 ∷ 32 ∷ 73 ∷ 78 ∷ 84 ∷ 69 ∷ 71 ∷ 69 ∷ 82 ∷ 32 ∷ 69 ∷ 78 ∷ 68 ∷ 59 ∷ 32 ∷ 80 ∷ 32 ∷ 61 ∷ 32 ∷ 80 ∷ 79 ∷ 73 ∷ 78 ∷ 84 ∷ 69 ∷ 82 ∷ 32 ∷ 84 ∷ 79 ∷ 32 ∷ 82 ∷ 59 ∷ 32 ∷ 81 ∷ 32 ∷ 61 ∷ 32 ∷ 80 ∷ 79 ∷ 73 ∷ 78 ∷ 84 ∷ 69 ∷ 82 ∷ 32 ∷ 84 ∷ 79 ∷ 32 ∷ 69 ∷ 59 ∷ 32 ∷ 86 ∷ 65 ∷ 82 ∷ 32 ∷ 112 ∷ 58 ∷ 32 ∷ 80 ∷ 59 ∷ 32 ∷ 113 ∷ 58 ∷ 32 ∷ 81 ∷ 59 ∷ 32 ∷ 80 ∷ 82 ∷ 79 ∷ 67 ∷ 69 ∷ 68 ∷ 85 ∷ 82 ∷ 69 ∷ 32 ∷ 85 ∷ 40 ∷ 86 ∷ 65 ∷ 82 ∷ 32 ∷ 114 ∷ 58 ∷ 32 ∷ 82 ∷ 59 ∷ 32 ∷ 101 ∷ 58 ∷ 32 ∷ 69 ∷ 41 ∷ 59 ∷ 32 ∷ 66 ∷ 69 ∷ 71 ∷ 73 ∷ 78 ∷ 32 ∷ 114 ∷ 40 ∷ 69 ∷ 41 ∷ 32 ∷ 58 ∷ 61 ∷ 32 ∷ 101 ∷ 59 ∷ 32 ∷ 114 ∷ 40 ∷ 69 ∷ 41 ∷ 46 ∷ 121 ∷ 32 ∷ 58 ∷ 61 ∷ 32 ∷ 49 ∷ 32 ∷ 69 ∷ 78 ∷ 68 ∷ 32 ∷ 85 ∷ 59 ∷ 32 ∷ 69 ∷ 78 ∷ 68 ∷ 32 ∷ 77 ∷ 46 ∷ []); symbols = (symbol (Ident) 0 6 ∷ symbol (Ident) 7 8 ∷ symbol (Ident) 8 9 ∷ symbol (Ident) 10 14 ∷ symbol (Ident) 15 16 ∷ symbol (Ident) 17 18 ∷ symbol (Ident) 19 25 ∷ symbol (Ident) 26 27 ∷ symbol (Ident) 27 28 ∷ symbol (Ident) 29 36 ∷ symbol (Ident) 37 40 ∷ symbol (Ident) 40 41 ∷ symbol (Ident) 42 43 ∷ symbol (Ident) 44 45 ∷ symbol (Ident) 46 52 ∷ symbol (Ident) 53 54 ∷ symbol (Ident) 54 55 ∷ symbol (Ident) 55 56 ∷ symbol (Ident) 57 58 ∷ symbol (Ident) 58 59 ∷ symbol (Ident) 60 67 ∷ symbol (Ident) 68 71 ∷ symbol (Ident) 71 72 ∷ symbol (Ident) 73 74 ∷ symbol (Ident) 75 76 ∷ symbol (Ident) 77 84 ∷ symbol (Ident) 85 87 ∷ symbol (Ident) 88 89 ∷ symbol (Ident) 89 90 ∷ symbol (Ident) 91 92 ∷ symbol (Ident) 93 94 ∷ symbol (Ident) 95 102 ∷ symbol (Ident) 103 105 ∷ symbol (Ident) 106 107 ∷ symbol (Ident) 107 108 ∷ symbol (Ident) 109 112 ∷ symbol (Ident) 113 114 ∷ symbol (Ident) 114 115 ∷ symbol (Ident) 116 117 ∷ symbol (Ident) 117 118 ∷ symbol (Ident) 119 120 ∷ symbol (Ident) 120 121 ∷ symbol (Ident) 122 123 ∷ symbol (Ident) 123 124 ∷ symbol (Ident) 125 134 ∷ symbol (Ident) 135 136 ∷ symbol (Ident) 136 137 ∷ symbol (Ident) 137 140 ∷ symbol (Ident) 141 142 ∷ symbol (Ident) 142 143 ∷ symbol (Ident) 144 145 ∷ symbol (Ident) 145 146 ∷ symbol (Ident) 147 148 ∷ symbol (Ident) 148 149 ∷ symbol (Ident) 150 151 ∷ symbol (Ident) 151 152 ∷ symbol (Ident) 152 153 ∷ symbol (Ident) 154 159 ∷ symbol (Ident) 160 161 ∷ symbol (Ident) 161 162 ∷ symbol (Ident) 162 163 ∷ symbol (Ident) 163 164 ∷ symbol (Ident) 165 167 ∷ symbol (Ident) 168 169 ∷ symbol (Ident) 169 170 ∷ symbol (Ident) 171 172 ∷ symbol (Ident) 172 173 ∷ symbol (Ident) 173 174 ∷ symbol (Ident) 174 175 ∷ symbol (Ident) 175 176 ∷ symbol (Ident) 176 177 ∷ symbol (Ident) 178 180 ∷ symbol (Int (pos 1)) 181 182 ∷ symbol (Ident) 183 186 ∷ symbol (Ident) 187 188 ∷ symbol (Ident) 188 189 ∷ symbol (Ident) 190 193 ∷ symbol (Ident) 194 195 ∷ symbol (Ident) 195 196 ∷ []) }; tree = record { module_word = 0; name = 1; semicolon = 0; imports = None; decls = (S.decls None (Some (record { type_word = 0; each = (record { name = (record { name = 4; star = None }); equal = 0; is = (S.Record 6 None (S.fields (record { first = (record { name = 7; star = None }); more = [] }) 0 (S.Named (record { name = 9; member = None }))) S.no_more_fields 0); semicolon = 0 } ∷ record { name = (record { name = 12; star = None }); equal = 0; is = (S.Record 14 (Some (record { left_paren = 0; name = (record { name = 16; member = None }); right_paren = 0 })) (S.fields (record { first = (record { name = 18; star = None }); more = [] }) 0 (S.Named (record { name = 20; member = None }))) S.no_more_fields 0); semicolon = 0 } ∷ record { name = (record { name = 23; star = None }); equal = 0; is = (S.Pointer 25 0 (S.Named (record { name = 27; member = None }))); semicolon = 0 } ∷ record { name = (record { name = 29; star = None }); equal = 0; is = (S.Pointer 31 0 (S.Named (record { name = 33; member = None }))); semicolon = 0 } ∷ []) })) (Some (record { var_word = 0; each = (record { names = (record { first = (record { name = 36; star = None }); more = [] }); colon = 0; of = (S.Named (record { name = 38; member = None })); semicolon = 0 } ∷ record { names = (record { first = (record { name = 40; star = None }); more = [] }); colon = 0; of = (S.Named (record { name = 42; member = None })); semicolon = 0 } ∷ []) })) (S.procedure 0 (record { name = 45; star = None }) (Some (record { left_paren = 0; sections = Some (record { first = (record { var_word = Some 0; first = 48; more = []; colon = 0; open_array = None; of = (record { name = 50; member = None }) }); more = (record { semicolon = 0; section = (record { var_word = None; first = 52; more = []; colon = 0; open_array = None; of = (record { name = 54; member = None }) }) } ∷ []) }); right_paren = 0; result = None })) 0 (S.decls None None None S.no_procedure) (Some (record { begin_word = 0; stats = (S.stats (S.AssignOrCall (record { name = 58; selectors = (S.selected (S.Parens 0 (S.expressions (S.only (S.simple None (S.term (S.Designated 60 S.no_selector) S.no_factor) S.no_term)) S.no_expression) 0) S.no_selector) }) (Some (record { becomes = 0; value = (S.only (S.simple None (S.term (S.Designated 63 S.no_selector) S.no_factor) S.no_term)) }))) (S.next_stat 0 (S.AssignOrCall (record { name = 65; selectors = (S.selected (S.Parens 0 (S.expressions (S.only (S.simple None (S.term (S.Designated 67 S.no_selector) S.no_factor) S.no_term)) S.no_expression) 0) (S.selected (S.Field 0 70) S.no_selector)) }) (Some (record { becomes = 0; value = (S.only (S.simple None (S.term (S.Int 72) S.no_factor) S.no_term)) }))) S.no_stat)) })) None 73 74 0 S.no_procedure)); body = None; end_word = 0; end_name = 77; period = 0 } }
 
-pub choice_guard_3 : checked (choice_guard_3_0 ∷ []) ≡ Legal (record { records = (record { module_number = 0; base = None; level = 0; fields = (record { name = (120 ∷ []); exported = false; shape = H.Integer } ∷ []); cells = 1 } ∷ record { module_number = 0; base = (Some 0); level = 1; fields = (record { name = (121 ∷ []); exported = false; shape = H.Integer } ∷ []); cells = 2 } ∷ []); pointers = (Some 0 ∷ Some 1 ∷ []); modules = (record { name = (77 ∷ []); objects = (record { name = (82 ∷ []); exported = false; entity = I.OfType (H.Record 0) } ∷ record { name = (69 ∷ []); exported = false; entity = I.OfType (H.Record 1) } ∷ record { name = (80 ∷ []); exported = false; entity = I.OfType (H.Pointer 0) } ∷ record { name = (81 ∷ []); exported = false; entity = I.OfType (H.Pointer 1) } ∷ record { name = (112 ∷ []); exported = false; entity = I.OfVariable 0 } ∷ record { name = (113 ∷ []); exported = false; entity = I.OfVariable 1 } ∷ record { name = (85 ∷ []); exported = false; entity = I.OfProcedure 0 } ∷ []); variables = ((H.Pointer 0) ∷ (H.Pointer 1) ∷ []); body = 1 } ∷ []); procedures = (record { module_number = 0; line = 1; is_body = false; formals = (record { mode = TheMode.Record; variable = true; shape = (H.Record 0) } ∷ record { mode = TheMode.Place; variable = false; shape = (H.Record 1) } ∷ []); result = H.Nothing; locals = []; texts = []; body = (I.next_statement (I.CopyRecord (I.of_type (I.Narrow (I.Parameter 0) 1) (H.Record 1)) (I.of_type (I.Parameter 1) (H.Record 1))) (I.next_statement (I.Assign (I.of_type (I.Field (I.Narrow (I.Parameter 0) 1) 1 0) H.Integer) (record { form = (I.Literal 1); shape = H.Integer })) I.no_statement)); answer = None } ∷ record { module_number = 0; line = 1; is_body = true; formals = []; result = H.Nothing; locals = []; texts = []; body = I.no_statement; answer = None } ∷ []); imports_in = false })
+pub choice_guard_3 : checked (choice_guard_3_0 ∷ []) ≡ Legal (record { records = (record { module_number = 0; base = None; level = 0; fields = (record { name = (120 ∷ []); exported = false; shape = H.Integer } ∷ []); cells = 1; extent = record { bytes = 8; wide = true } } ∷ record { module_number = 0; base = (Some 0); level = 1; fields = (record { name = (121 ∷ []); exported = false; shape = H.Integer } ∷ []); cells = 2; extent = record { bytes = 16; wide = true } } ∷ []); pointers = (Some 0 ∷ Some 1 ∷ []); modules = (record { name = (77 ∷ []); objects = (record { name = (82 ∷ []); exported = false; entity = I.OfType (H.Record 0) } ∷ record { name = (69 ∷ []); exported = false; entity = I.OfType (H.Record 1) } ∷ record { name = (80 ∷ []); exported = false; entity = I.OfType (H.Pointer 0) } ∷ record { name = (81 ∷ []); exported = false; entity = I.OfType (H.Pointer 1) } ∷ record { name = (112 ∷ []); exported = false; entity = I.OfVariable 0 } ∷ record { name = (113 ∷ []); exported = false; entity = I.OfVariable 1 } ∷ record { name = (85 ∷ []); exported = false; entity = I.OfProcedure 0 } ∷ []); variables = ((H.Pointer 0) ∷ (H.Pointer 1) ∷ []); body = 1 } ∷ []); procedures = (record { module_number = 0; line = 1; is_body = false; formals = (record { mode = TheMode.Record; variable = true; shape = (H.Record 0) } ∷ record { mode = TheMode.Place; variable = false; shape = (H.Record 1) } ∷ []); result = H.Nothing; locals = []; texts = []; body = (I.next_statement (I.CopyRecord (I.of_type (I.Narrow (I.Parameter 0) 1) (H.Record 1)) (I.of_type (I.Parameter 1) (H.Record 1))) (I.next_statement (I.Assign (I.of_type (I.Field (I.Narrow (I.Parameter 0) 1) 1 0) H.Integer) (record { form = (I.Literal 1); shape = H.Integer })) I.no_statement)); answer = None } ∷ record { module_number = 0; line = 1; is_body = true; formals = []; result = H.Nothing; locals = []; texts = []; body = I.no_statement; answer = None } ∷ []); imports_in = false })
 choice_guard_3 = refl
 
 -- MODULE M; VAR b: BOOLEAN; BEGIN b := NIL = NIL END M.
@@ -559,7 +559,7 @@ choice_places_4 = refl
 abbrev choice_places_5_0 : Parsed
 choice_places_5_0 = record { source = record { bytes = (77 ∷ 79 ∷ 68 ∷ 85 ∷ 76 ∷ 69 ∷ 32 ∷ 77 ∷ 59 ∷ 32 ∷ 84 ∷ 89 ∷ 80 ∷ 69 ∷ 32 ∷ 84 ∷ 32 ∷ 61 ∷ 32 ∷ 65 ∷ 82 ∷ 82 ∷ 65 ∷ 89 ∷ 32 ∷ 49 ∷ 48 ∷ 52 ∷ 56 ∷ 53 ∷ 55 ∷ 54 ∷ 44 ∷ 32 ∷ 49 ∷ 48 ∷ 52 ∷ 56 ∷ 53 ∷ 55 ∷ 54 ∷ 32 ∷ 79 ∷ 70 ∷ 32 ∷ 82 ∷ 69 ∷ 67 ∷ 79 ∷ 82 ∷ 68 ∷ 32 ∷ 69 ∷ 78 ∷ 68 ∷ 59 ∷ 32 ∷ 69 ∷ 78 ∷ 68 ∷ 32 ∷ 77 ∷ 46 ∷ []); symbols = (symbol (Ident) 0 6 ∷ symbol (Ident) 7 8 ∷ symbol (Ident) 8 9 ∷ symbol (Ident) 10 14 ∷ symbol (Ident) 15 16 ∷ symbol (Ident) 17 18 ∷ symbol (Ident) 19 24 ∷ symbol (Int (pos 1048576)) 25 32 ∷ symbol (Ident) 32 33 ∷ symbol (Int (pos 1048576)) 34 41 ∷ symbol (Ident) 42 44 ∷ symbol (Ident) 45 51 ∷ symbol (Ident) 52 55 ∷ symbol (Ident) 55 56 ∷ symbol (Ident) 57 60 ∷ symbol (Ident) 61 62 ∷ symbol (Ident) 62 63 ∷ []) }; tree = record { module_word = 0; name = 1; semicolon = 0; imports = None; decls = (S.decls None (Some (record { type_word = 0; each = (record { name = (record { name = 4; star = None }); equal = 0; is = (S.Array 6 (S.only (S.simple None (S.term (S.Int 7) S.no_factor) S.no_term)) (S.next_expression 0 (S.only (S.simple None (S.term (S.Int 9) S.no_factor) S.no_term)) S.no_expression) 0 (S.Record 11 None S.no_fields S.no_more_fields 0)); semicolon = 0 } ∷ []) })) None S.no_procedure); body = None; end_word = 0; end_name = 15; period = 0 } }
 
-pub choice_places_5 : checked (choice_places_5_0 ∷ []) ≡ Legal (record { records = (record { module_number = 0; base = None; level = 0; fields = []; cells = 0 } ∷ []); pointers = []; modules = (record { name = (77 ∷ []); objects = (record { name = (84 ∷ []); exported = false; entity = I.OfType (H.Array 1048576 (H.Array 1048576 (H.Record 0))) } ∷ []); variables = []; body = 0 } ∷ []); procedures = (record { module_number = 0; line = 1; is_body = true; formals = []; result = H.Nothing; locals = []; texts = []; body = I.no_statement; answer = None } ∷ []); imports_in = false })
+pub choice_places_5 : checked (choice_places_5_0 ∷ []) ≡ Legal (record { records = (record { module_number = 0; base = None; level = 0; fields = []; cells = 0; extent = record { bytes = 0; wide = false } } ∷ []); pointers = []; modules = (record { name = (77 ∷ []); objects = (record { name = (84 ∷ []); exported = false; entity = I.OfType (H.Array 1048576 (H.Array 1048576 (H.Record 0))) } ∷ []); variables = []; body = 0 } ∷ []); procedures = (record { module_number = 0; line = 1; is_body = true; formals = []; result = H.Nothing; locals = []; texts = []; body = I.no_statement; answer = None } ∷ []); imports_in = false })
 choice_places_5 = refl
 
 -- MODULE M; IMPORT Out; VAR x: Out.T; END M.

@@ -48,14 +48,14 @@ legal_3 = refl
 abbrev legal_4_0 : Parsed
 legal_4_0 = record { source = record { bytes = (77 ∷ 79 ∷ 68 ∷ 85 ∷ 76 ∷ 69 ∷ 32 ∷ 77 ∷ 59 ∷ 32 ∷ 84 ∷ 89 ∷ 80 ∷ 69 ∷ 32 ∷ 82 ∷ 32 ∷ 61 ∷ 32 ∷ 82 ∷ 69 ∷ 67 ∷ 79 ∷ 82 ∷ 68 ∷ 32 ∷ 120 ∷ 58 ∷ 32 ∷ 73 ∷ 78 ∷ 84 ∷ 69 ∷ 71 ∷ 69 ∷ 82 ∷ 59 ∷ 32 ∷ 121 ∷ 42 ∷ 58 ∷ 32 ∷ 67 ∷ 72 ∷ 65 ∷ 82 ∷ 32 ∷ 69 ∷ 78 ∷ 68 ∷ 59 ∷ 32 ∷ 86 ∷ 65 ∷ 82 ∷ 32 ∷ 114 ∷ 58 ∷ 32 ∷ 82 ∷ 59 ∷ 32 ∷ 66 ∷ 69 ∷ 71 ∷ 73 ∷ 78 ∷ 32 ∷ 114 ∷ 32 ∷ 58 ∷ 61 ∷ 32 ∷ 40 ∷ 114 ∷ 41 ∷ 32 ∷ 69 ∷ 78 ∷ 68 ∷ 32 ∷ 77 ∷ 46 ∷ []); symbols = (symbol (Ident) 0 6 ∷ symbol (Ident) 7 8 ∷ symbol (Ident) 8 9 ∷ symbol (Ident) 10 14 ∷ symbol (Ident) 15 16 ∷ symbol (Ident) 17 18 ∷ symbol (Ident) 19 25 ∷ symbol (Ident) 26 27 ∷ symbol (Ident) 27 28 ∷ symbol (Ident) 29 36 ∷ symbol (Ident) 36 37 ∷ symbol (Ident) 38 39 ∷ symbol (Ident) 39 40 ∷ symbol (Ident) 40 41 ∷ symbol (Ident) 42 46 ∷ symbol (Ident) 47 50 ∷ symbol (Ident) 50 51 ∷ symbol (Ident) 52 55 ∷ symbol (Ident) 56 57 ∷ symbol (Ident) 57 58 ∷ symbol (Ident) 59 60 ∷ symbol (Ident) 60 61 ∷ symbol (Ident) 62 67 ∷ symbol (Ident) 68 69 ∷ symbol (Ident) 70 72 ∷ symbol (Ident) 73 74 ∷ symbol (Ident) 74 75 ∷ symbol (Ident) 75 76 ∷ symbol (Ident) 77 80 ∷ symbol (Ident) 81 82 ∷ symbol (Ident) 82 83 ∷ []) }; tree = record { module_word = 0; name = 1; semicolon = 0; imports = None; decls = (S.decls None (Some (record { type_word = 0; each = (record { name = (record { name = 4; star = None }); equal = 0; is = (S.Record 6 None (S.fields (record { first = (record { name = 7; star = None }); more = [] }) 0 (S.Named (record { name = 9; member = None }))) (S.next_fields 0 (S.fields (record { first = (record { name = 11; star = Some 0 }); more = [] }) 0 (S.Named (record { name = 14; member = None }))) S.no_more_fields) 0); semicolon = 0 } ∷ []) })) (Some (record { var_word = 0; each = (record { names = (record { first = (record { name = 18; star = None }); more = [] }); colon = 0; of = (S.Named (record { name = 20; member = None })); semicolon = 0 } ∷ []) })) S.no_procedure); body = (Some (record { begin_word = 0; stats = (S.stats (S.AssignOrCall (record { name = 23; selectors = S.no_selector }) (Some (record { becomes = 0; value = (S.only (S.simple None (S.term (S.Paren 25 (S.only (S.simple None (S.term (S.Designated 26 S.no_selector) S.no_factor) S.no_term)) 0) S.no_factor) S.no_term)) }))) S.no_stat) })); end_word = 0; end_name = 29; period = 0 } }
 
-pub legal_4 : checked (legal_4_0 ∷ []) ≡ Legal (record { records = (record { module_number = 0; base = None; level = 0; fields = (record { name = (120 ∷ []); exported = false; shape = H.Integer } ∷ record { name = (121 ∷ []); exported = true; shape = H.Char } ∷ []); cells = 2 } ∷ []); pointers = []; modules = (record { name = (77 ∷ []); objects = (record { name = (82 ∷ []); exported = false; entity = I.OfType (H.Record 0) } ∷ record { name = (114 ∷ []); exported = false; entity = I.OfVariable 0 } ∷ []); variables = ((H.Record 0) ∷ []); body = 0 } ∷ []); procedures = (record { module_number = 0; line = 1; is_body = true; formals = []; result = H.Nothing; locals = []; texts = []; body = (I.next_statement (I.CopyRecord (I.of_type (I.Global 0 0) (H.Record 0)) (I.of_type (I.Global 0 0) (H.Record 0))) I.no_statement); answer = None } ∷ []); imports_in = false })
+pub legal_4 : checked (legal_4_0 ∷ []) ≡ Legal (record { records = (record { module_number = 0; base = None; level = 0; fields = (record { name = (120 ∷ []); exported = false; shape = H.Integer } ∷ record { name = (121 ∷ []); exported = true; shape = H.Char } ∷ []); cells = 2; extent = record { bytes = 16; wide = true } } ∷ []); pointers = []; modules = (record { name = (77 ∷ []); objects = (record { name = (82 ∷ []); exported = false; entity = I.OfType (H.Record 0) } ∷ record { name = (114 ∷ []); exported = false; entity = I.OfVariable 0 } ∷ []); variables = ((H.Record 0) ∷ []); body = 0 } ∷ []); procedures = (record { module_number = 0; line = 1; is_body = true; formals = []; result = H.Nothing; locals = []; texts = []; body = (I.next_statement (I.CopyRecord (I.of_type (I.Global 0 0) (H.Record 0)) (I.of_type (I.Global 0 0) (H.Record 0))) I.no_statement); answer = None } ∷ []); imports_in = false })
 legal_4 = refl
 
 -- MODULE M; TYPE R = RECORD x: INTEGER; y*: CHAR END; P = POINTER TO R; VAR p: P; BEGIN p := (p) END M.
 abbrev legal_5_0 : Parsed
 legal_5_0 = record { source = record { bytes = (77 ∷ 79 ∷ 68 ∷ 85 ∷ 76 ∷ 69 ∷ 32 ∷ 77 ∷ 59 ∷ 32 ∷ 84 ∷ 89 ∷ 80 ∷ 69 ∷ 32 ∷ 82 ∷ 32 ∷ 61 ∷ 32 ∷ 82 ∷ 69 ∷ 67 ∷ 79 ∷ 82 ∷ 68 ∷ 32 ∷ 120 ∷ 58 ∷ 32 ∷ 73 ∷ 78 ∷ 84 ∷ 69 ∷ 71 ∷ 69 ∷ 82 ∷ 59 ∷ 32 ∷ 121 ∷ 42 ∷ 58 ∷ 32 ∷ 67 ∷ 72 ∷ 65 ∷ 82 ∷ 32 ∷ 69 ∷ 78 ∷ 68 ∷ 59 ∷ 32 ∷ 80 ∷ 32 ∷ 61 ∷ 32 ∷ 80 ∷ 79 ∷ 73 ∷ 78 ∷ 84 ∷ 69 ∷ 82 ∷ 32 ∷ 84 ∷ 79 ∷ 32 ∷ 82 ∷ 59 ∷ 32 ∷ 86 ∷ 65 ∷ 82 ∷ 32 ∷ 112 ∷ 58 ∷ 32 ∷ 80 ∷ 59 ∷ 32 ∷ 66 ∷ 69 ∷ 71 ∷ 73 ∷ 78 ∷ 32 ∷ 112 ∷ 32 ∷ 58 ∷ 61 ∷ 32 ∷ 40 ∷ 112 ∷ 41 ∷ 32 ∷ 69 ∷ 78 ∷ 68 ∷ 32 ∷ 77 ∷ 46 ∷ []); symbols = (symbol (Ident) 0 6 ∷ symbol (Ident) 7 8 ∷ symbol (Ident) 8 9 ∷ symbol (Ident) 10 14 ∷ symbol (Ident) 15 16 ∷ symbol (Ident) 17 18 ∷ symbol (Ident) 19 25 ∷ symbol (Ident) 26 27 ∷ symbol (Ident) 27 28 ∷ symbol (Ident) 29 36 ∷ symbol (Ident) 36 37 ∷ symbol (Ident) 38 39 ∷ symbol (Ident) 39 40 ∷ symbol (Ident) 40 41 ∷ symbol (Ident) 42 46 ∷ symbol (Ident) 47 50 ∷ symbol (Ident) 50 51 ∷ symbol (Ident) 52 53 ∷ symbol (Ident) 54 55 ∷ symbol (Ident) 56 63 ∷ symbol (Ident) 64 66 ∷ symbol (Ident) 67 68 ∷ symbol (Ident) 68 69 ∷ symbol (Ident) 70 73 ∷ symbol (Ident) 74 75 ∷ symbol (Ident) 75 76 ∷ symbol (Ident) 77 78 ∷ symbol (Ident) 78 79 ∷ symbol (Ident) 80 85 ∷ symbol (Ident) 86 87 ∷ symbol (Ident) 88 90 ∷ symbol (Ident) 91 92 ∷ symbol (Ident) 92 93 ∷ symbol (Ident) 93 94 ∷ symbol (Ident) 95 98 ∷ symbol (Ident) 99 100 ∷ symbol (Ident) 100 101 ∷ []) }; tree = record { module_word = 0; name = 1; semicolon = 0; imports = None; decls = (S.decls None (Some (record { type_word = 0; each = (record { name = (record { name = 4; star = None }); equal = 0; is = (S.Record 6 None (S.fields (record { first = (record { name = 7; star = None }); more = [] }) 0 (S.Named (record { name = 9; member = None }))) (S.next_fields 0 (S.fields (record { first = (record { name = 11; star = Some 0 }); more = [] }) 0 (S.Named (record { name = 14; member = None }))) S.no_more_fields) 0); semicolon = 0 } ∷ record { name = (record { name = 17; star = None }); equal = 0; is = (S.Pointer 19 0 (S.Named (record { name = 21; member = None }))); semicolon = 0 } ∷ []) })) (Some (record { var_word = 0; each = (record { names = (record { first = (record { name = 24; star = None }); more = [] }); colon = 0; of = (S.Named (record { name = 26; member = None })); semicolon = 0 } ∷ []) })) S.no_procedure); body = (Some (record { begin_word = 0; stats = (S.stats (S.AssignOrCall (record { name = 29; selectors = S.no_selector }) (Some (record { becomes = 0; value = (S.only (S.simple None (S.term (S.Paren 31 (S.only (S.simple None (S.term (S.Designated 32 S.no_selector) S.no_factor) S.no_term)) 0) S.no_factor) S.no_term)) }))) S.no_stat) })); end_word = 0; end_name = 35; period = 0 } }
 
-pub legal_5 : checked (legal_5_0 ∷ []) ≡ Legal (record { records = (record { module_number = 0; base = None; level = 0; fields = (record { name = (120 ∷ []); exported = false; shape = H.Integer } ∷ record { name = (121 ∷ []); exported = true; shape = H.Char } ∷ []); cells = 2 } ∷ []); pointers = (Some 0 ∷ []); modules = (record { name = (77 ∷ []); objects = (record { name = (82 ∷ []); exported = false; entity = I.OfType (H.Record 0) } ∷ record { name = (80 ∷ []); exported = false; entity = I.OfType (H.Pointer 0) } ∷ record { name = (112 ∷ []); exported = false; entity = I.OfVariable 0 } ∷ []); variables = ((H.Pointer 0) ∷ []); body = 0 } ∷ []); procedures = (record { module_number = 0; line = 1; is_body = true; formals = []; result = H.Nothing; locals = []; texts = []; body = (I.next_statement (I.Assign (I.of_type (I.Global 0 0) (H.Pointer 0)) (record { form = (I.Load (I.of_type (I.Global 0 0) (H.Pointer 0))); shape = (H.Pointer 0) })) I.no_statement); answer = None } ∷ []); imports_in = false })
+pub legal_5 : checked (legal_5_0 ∷ []) ≡ Legal (record { records = (record { module_number = 0; base = None; level = 0; fields = (record { name = (120 ∷ []); exported = false; shape = H.Integer } ∷ record { name = (121 ∷ []); exported = true; shape = H.Char } ∷ []); cells = 2; extent = record { bytes = 16; wide = true } } ∷ []); pointers = (Some 0 ∷ []); modules = (record { name = (77 ∷ []); objects = (record { name = (82 ∷ []); exported = false; entity = I.OfType (H.Record 0) } ∷ record { name = (80 ∷ []); exported = false; entity = I.OfType (H.Pointer 0) } ∷ record { name = (112 ∷ []); exported = false; entity = I.OfVariable 0 } ∷ []); variables = ((H.Pointer 0) ∷ []); body = 0 } ∷ []); procedures = (record { module_number = 0; line = 1; is_body = true; formals = []; result = H.Nothing; locals = []; texts = []; body = (I.next_statement (I.Assign (I.of_type (I.Global 0 0) (H.Pointer 0)) (record { form = (I.Load (I.of_type (I.Global 0 0) (H.Pointer 0))); shape = (H.Pointer 0) })) I.no_statement); answer = None } ∷ []); imports_in = false })
 legal_5 = refl
 
 -- MODULE M; VAR i: INTEGER; y: BYTE; BEGIN i := 1 - (+y) END M.
@@ -90,28 +90,28 @@ legal_9 = refl
 abbrev legal_10_0 : Parsed
 legal_10_0 = record { source = record { bytes = (77 ∷ 79 ∷ 68 ∷ 85 ∷ 76 ∷ 69 ∷ 32 ∷ 77 ∷ 59 ∷ 32 ∷ 84 ∷ 89 ∷ 80 ∷ 69 ∷ 32 ∷ 82 ∷ 32 ∷ 61 ∷ 32 ∷ 82 ∷ 69 ∷ 67 ∷ 79 ∷ 82 ∷ 68 ∷ 32 ∷ 120 ∷ 58 ∷ 32 ∷ 73 ∷ 78 ∷ 84 ∷ 69 ∷ 71 ∷ 69 ∷ 82 ∷ 59 ∷ 32 ∷ 121 ∷ 42 ∷ 58 ∷ 32 ∷ 67 ∷ 72 ∷ 65 ∷ 82 ∷ 32 ∷ 69 ∷ 78 ∷ 68 ∷ 59 ∷ 32 ∷ 80 ∷ 32 ∷ 61 ∷ 32 ∷ 80 ∷ 79 ∷ 73 ∷ 78 ∷ 84 ∷ 69 ∷ 82 ∷ 32 ∷ 84 ∷ 79 ∷ 32 ∷ 82 ∷ 59 ∷ 32 ∷ 86 ∷ 65 ∷ 82 ∷ 32 ∷ 114 ∷ 58 ∷ 32 ∷ 82 ∷ 59 ∷ 32 ∷ 112 ∷ 58 ∷ 32 ∷ 80 ∷ 59 ∷ 32 ∷ 66 ∷ 69 ∷ 71 ∷ 73 ∷ 78 ∷ 32 ∷ 114 ∷ 32 ∷ 58 ∷ 61 ∷ 32 ∷ 112 ∷ 94 ∷ 32 ∷ 69 ∷ 78 ∷ 68 ∷ 32 ∷ 77 ∷ 46 ∷ []); symbols = (symbol (Ident) 0 6 ∷ symbol (Ident) 7 8 ∷ symbol (Ident) 8 9 ∷ symbol (Ident) 10 14 ∷ symbol (Ident) 15 16 ∷ symbol (Ident) 17 18 ∷ symbol (Ident) 19 25 ∷ symbol (Ident) 26 27 ∷ symbol (Ident) 27 28 ∷ symbol (Ident) 29 36 ∷ symbol (Ident) 36 37 ∷ symbol (Ident) 38 39 ∷ symbol (Ident) 39 40 ∷ symbol (Ident) 40 41 ∷ symbol (Ident) 42 46 ∷ symbol (Ident) 47 50 ∷ symbol (Ident) 50 51 ∷ symbol (Ident) 52 53 ∷ symbol (Ident) 54 55 ∷ symbol (Ident) 56 63 ∷ symbol (Ident) 64 66 ∷ symbol (Ident) 67 68 ∷ symbol (Ident) 68 69 ∷ symbol (Ident) 70 73 ∷ symbol (Ident) 74 75 ∷ symbol (Ident) 75 76 ∷ symbol (Ident) 77 78 ∷ symbol (Ident) 78 79 ∷ symbol (Ident) 80 81 ∷ symbol (Ident) 81 82 ∷ symbol (Ident) 83 84 ∷ symbol (Ident) 84 85 ∷ symbol (Ident) 86 91 ∷ symbol (Ident) 92 93 ∷ symbol (Ident) 94 96 ∷ symbol (Ident) 97 98 ∷ symbol (Ident) 98 99 ∷ symbol (Ident) 100 103 ∷ symbol (Ident) 104 105 ∷ symbol (Ident) 105 106 ∷ []) }; tree = record { module_word = 0; name = 1; semicolon = 0; imports = None; decls = (S.decls None (Some (record { type_word = 0; each = (record { name = (record { name = 4; star = None }); equal = 0; is = (S.Record 6 None (S.fields (record { first = (record { name = 7; star = None }); more = [] }) 0 (S.Named (record { name = 9; member = None }))) (S.next_fields 0 (S.fields (record { first = (record { name = 11; star = Some 0 }); more = [] }) 0 (S.Named (record { name = 14; member = None }))) S.no_more_fields) 0); semicolon = 0 } ∷ record { name = (record { name = 17; star = None }); equal = 0; is = (S.Pointer 19 0 (S.Named (record { name = 21; member = None }))); semicolon = 0 } ∷ []) })) (Some (record { var_word = 0; each = (record { names = (record { first = (record { name = 24; star = None }); more = [] }); colon = 0; of = (S.Named (record { name = 26; member = None })); semicolon = 0 } ∷ record { names = (record { first = (record { name = 28; star = None }); more = [] }); colon = 0; of = (S.Named (record { name = 30; member = None })); semicolon = 0 } ∷ []) })) S.no_procedure); body = (Some (record { begin_word = 0; stats = (S.stats (S.AssignOrCall (record { name = 33; selectors = S.no_selector }) (Some (record { becomes = 0; value = (S.only (S.simple None (S.term (S.Designated 35 (S.selected (S.Arrow 0) S.no_selector)) S.no_factor) S.no_term)) }))) S.no_stat) })); end_word = 0; end_name = 38; period = 0 } }
 
-pub legal_10 : checked (legal_10_0 ∷ []) ≡ Legal (record { records = (record { module_number = 0; base = None; level = 0; fields = (record { name = (120 ∷ []); exported = false; shape = H.Integer } ∷ record { name = (121 ∷ []); exported = true; shape = H.Char } ∷ []); cells = 2 } ∷ []); pointers = (Some 0 ∷ []); modules = (record { name = (77 ∷ []); objects = (record { name = (82 ∷ []); exported = false; entity = I.OfType (H.Record 0) } ∷ record { name = (80 ∷ []); exported = false; entity = I.OfType (H.Pointer 0) } ∷ record { name = (114 ∷ []); exported = false; entity = I.OfVariable 0 } ∷ record { name = (112 ∷ []); exported = false; entity = I.OfVariable 1 } ∷ []); variables = ((H.Record 0) ∷ (H.Pointer 0) ∷ []); body = 0 } ∷ []); procedures = (record { module_number = 0; line = 1; is_body = true; formals = []; result = H.Nothing; locals = []; texts = []; body = (I.next_statement (I.CopyRecord (I.of_type (I.Global 0 0) (H.Record 0)) (I.of_type (I.Dereference (I.Load (I.of_type (I.Global 0 1) (H.Pointer 0)))) (H.Record 0))) I.no_statement); answer = None } ∷ []); imports_in = false })
+pub legal_10 : checked (legal_10_0 ∷ []) ≡ Legal (record { records = (record { module_number = 0; base = None; level = 0; fields = (record { name = (120 ∷ []); exported = false; shape = H.Integer } ∷ record { name = (121 ∷ []); exported = true; shape = H.Char } ∷ []); cells = 2; extent = record { bytes = 16; wide = true } } ∷ []); pointers = (Some 0 ∷ []); modules = (record { name = (77 ∷ []); objects = (record { name = (82 ∷ []); exported = false; entity = I.OfType (H.Record 0) } ∷ record { name = (80 ∷ []); exported = false; entity = I.OfType (H.Pointer 0) } ∷ record { name = (114 ∷ []); exported = false; entity = I.OfVariable 0 } ∷ record { name = (112 ∷ []); exported = false; entity = I.OfVariable 1 } ∷ []); variables = ((H.Record 0) ∷ (H.Pointer 0) ∷ []); body = 0 } ∷ []); procedures = (record { module_number = 0; line = 1; is_body = true; formals = []; result = H.Nothing; locals = []; texts = []; body = (I.next_statement (I.CopyRecord (I.of_type (I.Global 0 0) (H.Record 0)) (I.of_type (I.Dereference (I.Load (I.of_type (I.Global 0 1) (H.Pointer 0)))) (H.Record 0))) I.no_statement); answer = None } ∷ []); imports_in = false })
 legal_10 = refl
 
 -- MODULE M; TYPE R = RECORD x: INTEGER; y*: CHAR END; E = RECORD (R) z: SET END; VAR r: R; e: E; BEGIN r := e END M.
 abbrev legal_11_0 : Parsed
 legal_11_0 = record { source = record { bytes = (77 ∷ 79 ∷ 68 ∷ 85 ∷ 76 ∷ 69 ∷ 32 ∷ 77 ∷ 59 ∷ 32 ∷ 84 ∷ 89 ∷ 80 ∷ 69 ∷ 32 ∷ 82 ∷ 32 ∷ 61 ∷ 32 ∷ 82 ∷ 69 ∷ 67 ∷ 79 ∷ 82 ∷ 68 ∷ 32 ∷ 120 ∷ 58 ∷ 32 ∷ 73 ∷ 78 ∷ 84 ∷ 69 ∷ 71 ∷ 69 ∷ 82 ∷ 59 ∷ 32 ∷ 121 ∷ 42 ∷ 58 ∷ 32 ∷ 67 ∷ 72 ∷ 65 ∷ 82 ∷ 32 ∷ 69 ∷ 78 ∷ 68 ∷ 59 ∷ 32 ∷ 69 ∷ 32 ∷ 61 ∷ 32 ∷ 82 ∷ 69 ∷ 67 ∷ 79 ∷ 82 ∷ 68 ∷ 32 ∷ 40 ∷ 82 ∷ 41 ∷ 32 ∷ 122 ∷ 58 ∷ 32 ∷ 83 ∷ 69 ∷ 84 ∷ 32 ∷ 69 ∷ 78 ∷ 68 ∷ 59 ∷ 32 ∷ 86 ∷ 65 ∷ 82 ∷ 32 ∷ 114 ∷ 58 ∷ 32 ∷ 82 ∷ 59 ∷ 32 ∷ 101 ∷ 58 ∷ 32 ∷ 69 ∷ 59 ∷ 32 ∷ 66 ∷ 69 ∷ 71 ∷ 73 ∷ 78 ∷ 32 ∷ 114 ∷ 32 ∷ 58 ∷ 61 ∷ 32 ∷ 101 ∷ 32 ∷ 69 ∷ 78 ∷ 68 ∷ 32 ∷ 77 ∷ 46 ∷ []); symbols = (symbol (Ident) 0 6 ∷ symbol (Ident) 7 8 ∷ symbol (Ident) 8 9 ∷ symbol (Ident) 10 14 ∷ symbol (Ident) 15 16 ∷ symbol (Ident) 17 18 ∷ symbol (Ident) 19 25 ∷ symbol (Ident) 26 27 ∷ symbol (Ident) 27 28 ∷ symbol (Ident) 29 36 ∷ symbol (Ident) 36 37 ∷ symbol (Ident) 38 39 ∷ symbol (Ident) 39 40 ∷ symbol (Ident) 40 41 ∷ symbol (Ident) 42 46 ∷ symbol (Ident) 47 50 ∷ symbol (Ident) 50 51 ∷ symbol (Ident) 52 53 ∷ symbol (Ident) 54 55 ∷ symbol (Ident) 56 62 ∷ symbol (Ident) 63 64 ∷ symbol (Ident) 64 65 ∷ symbol (Ident) 65 66 ∷ symbol (Ident) 67 68 ∷ symbol (Ident) 68 69 ∷ symbol (Ident) 70 73 ∷ symbol (Ident) 74 77 ∷ symbol (Ident) 77 78 ∷ symbol (Ident) 79 82 ∷ symbol (Ident) 83 84 ∷ symbol (Ident) 84 85 ∷ symbol (Ident) 86 87 ∷ symbol (Ident) 87 88 ∷ symbol (Ident) 89 90 ∷ symbol (Ident) 90 91 ∷ symbol (Ident) 92 93 ∷ symbol (Ident) 93 94 ∷ symbol (Ident) 95 100 ∷ symbol (Ident) 101 102 ∷ symbol (Ident) 103 105 ∷ symbol (Ident) 106 107 ∷ symbol (Ident) 108 111 ∷ symbol (Ident) 112 113 ∷ symbol (Ident) 113 114 ∷ []) }; tree = record { module_word = 0; name = 1; semicolon = 0; imports = None; decls = (S.decls None (Some (record { type_word = 0; each = (record { name = (record { name = 4; star = None }); equal = 0; is = (S.Record 6 None (S.fields (record { first = (record { name = 7; star = None }); more = [] }) 0 (S.Named (record { name = 9; member = None }))) (S.next_fields 0 (S.fields (record { first = (record { name = 11; star = Some 0 }); more = [] }) 0 (S.Named (record { name = 14; member = None }))) S.no_more_fields) 0); semicolon = 0 } ∷ record { name = (record { name = 17; star = None }); equal = 0; is = (S.Record 19 (Some (record { left_paren = 0; name = (record { name = 21; member = None }); right_paren = 0 })) (S.fields (record { first = (record { name = 23; star = None }); more = [] }) 0 (S.Named (record { name = 25; member = None }))) S.no_more_fields 0); semicolon = 0 } ∷ []) })) (Some (record { var_word = 0; each = (record { names = (record { first = (record { name = 29; star = None }); more = [] }); colon = 0; of = (S.Named (record { name = 31; member = None })); semicolon = 0 } ∷ record { names = (record { first = (record { name = 33; star = None }); more = [] }); colon = 0; of = (S.Named (record { name = 35; member = None })); semicolon = 0 } ∷ []) })) S.no_procedure); body = (Some (record { begin_word = 0; stats = (S.stats (S.AssignOrCall (record { name = 38; selectors = S.no_selector }) (Some (record { becomes = 0; value = (S.only (S.simple None (S.term (S.Designated 40 S.no_selector) S.no_factor) S.no_term)) }))) S.no_stat) })); end_word = 0; end_name = 42; period = 0 } }
 
-pub legal_11 : checked (legal_11_0 ∷ []) ≡ Legal (record { records = (record { module_number = 0; base = None; level = 0; fields = (record { name = (120 ∷ []); exported = false; shape = H.Integer } ∷ record { name = (121 ∷ []); exported = true; shape = H.Char } ∷ []); cells = 2 } ∷ record { module_number = 0; base = (Some 0); level = 1; fields = (record { name = (122 ∷ []); exported = false; shape = H.Set } ∷ []); cells = 3 } ∷ []); pointers = []; modules = (record { name = (77 ∷ []); objects = (record { name = (82 ∷ []); exported = false; entity = I.OfType (H.Record 0) } ∷ record { name = (69 ∷ []); exported = false; entity = I.OfType (H.Record 1) } ∷ record { name = (114 ∷ []); exported = false; entity = I.OfVariable 0 } ∷ record { name = (101 ∷ []); exported = false; entity = I.OfVariable 1 } ∷ []); variables = ((H.Record 0) ∷ (H.Record 1) ∷ []); body = 0 } ∷ []); procedures = (record { module_number = 0; line = 1; is_body = true; formals = []; result = H.Nothing; locals = []; texts = []; body = (I.next_statement (I.CopyRecord (I.of_type (I.Global 0 0) (H.Record 0)) (I.of_type (I.Global 0 1) (H.Record 1))) I.no_statement); answer = None } ∷ []); imports_in = false })
+pub legal_11 : checked (legal_11_0 ∷ []) ≡ Legal (record { records = (record { module_number = 0; base = None; level = 0; fields = (record { name = (120 ∷ []); exported = false; shape = H.Integer } ∷ record { name = (121 ∷ []); exported = true; shape = H.Char } ∷ []); cells = 2; extent = record { bytes = 16; wide = true } } ∷ record { module_number = 0; base = (Some 0); level = 1; fields = (record { name = (122 ∷ []); exported = false; shape = H.Set } ∷ []); cells = 3; extent = record { bytes = 24; wide = true } } ∷ []); pointers = []; modules = (record { name = (77 ∷ []); objects = (record { name = (82 ∷ []); exported = false; entity = I.OfType (H.Record 0) } ∷ record { name = (69 ∷ []); exported = false; entity = I.OfType (H.Record 1) } ∷ record { name = (114 ∷ []); exported = false; entity = I.OfVariable 0 } ∷ record { name = (101 ∷ []); exported = false; entity = I.OfVariable 1 } ∷ []); variables = ((H.Record 0) ∷ (H.Record 1) ∷ []); body = 0 } ∷ []); procedures = (record { module_number = 0; line = 1; is_body = true; formals = []; result = H.Nothing; locals = []; texts = []; body = (I.next_statement (I.CopyRecord (I.of_type (I.Global 0 0) (H.Record 0)) (I.of_type (I.Global 0 1) (H.Record 1))) I.no_statement); answer = None } ∷ []); imports_in = false })
 legal_11 = refl
 
 -- MODULE M; TYPE R = RECORD x: INTEGER; y*: CHAR END; E = RECORD (R) z: SET END; P = POINTER TO R; Q = POINTER TO E; VAR p: P; q: Q; BEGIN p := q END M.
 abbrev legal_12_0 : Parsed
 legal_12_0 = record { source = record { bytes = (77 ∷ 79 ∷ 68 ∷ 85 ∷ 76 ∷ 69 ∷ 32 ∷ 77 ∷ 59 ∷ 32 ∷ 84 ∷ 89 ∷ 80 ∷ 69 ∷ 32 ∷ 82 ∷ 32 ∷ 61 ∷ 32 ∷ 82 ∷ 69 ∷ 67 ∷ 79 ∷ 82 ∷ 68 ∷ 32 ∷ 120 ∷ 58 ∷ 32 ∷ 73 ∷ 78 ∷ 84 ∷ 69 ∷ 71 ∷ 69 ∷ 82 ∷ 59 ∷ 32 ∷ 121 ∷ 42 ∷ 58 ∷ 32 ∷ 67 ∷ 72 ∷ 65 ∷ 82 ∷ 32 ∷ 69 ∷ 78 ∷ 68 ∷ 59 ∷ 32 ∷ 69 ∷ 32 ∷ 61 ∷ 32 ∷ 82 ∷ 69 ∷ 67 ∷ 79 ∷ 82 ∷ 68 ∷ 32 ∷ 40 ∷ 82 ∷ 41 ∷ 32 ∷ 122 ∷ 58 ∷ 32 ∷ 83 ∷ 69 ∷ 84 ∷ 32 ∷ 69 ∷ 78 ∷ 68 ∷ 59 ∷ 32 ∷ 80 ∷ 32 ∷ 61 ∷ 32 ∷ 80 ∷ 79 ∷ 73 ∷ 78 ∷ 84 ∷ 69 ∷ 82 ∷ 32 ∷ 84 ∷ 79 ∷ 32 ∷ 82 ∷ 59 ∷ 32 ∷ 81 ∷ 32 ∷ 61 ∷ 32 ∷ 80 ∷ 79 ∷ 73 ∷ 78 ∷ 84 ∷ 69 ∷ 82 ∷ 32 ∷ 84 ∷ 79 ∷ 32 ∷ 69 ∷ 59 ∷ 32 ∷ 86 ∷ 65 ∷ 82 ∷ 32 ∷ 112 ∷ 58 ∷ 32 ∷ 80 ∷ 59 ∷ 32 ∷ 113 ∷ 58 ∷ 32 ∷ 81 ∷ 59 ∷ 32 ∷ 66 ∷ 69 ∷ 71 ∷ 73 ∷ 78 ∷ 32 ∷ 112 ∷ 32 ∷ 58 ∷ 61 ∷ 32 ∷ 113 ∷ 32 ∷ 69 ∷ 78 ∷ 68 ∷ 32 ∷ 77 ∷ 46 ∷ []); symbols = (symbol (Ident) 0 6 ∷ symbol (Ident) 7 8 ∷ symbol (Ident) 8 9 ∷ symbol (Ident) 10 14 ∷ symbol (Ident) 15 16 ∷ symbol (Ident) 17 18 ∷ symbol (Ident) 19 25 ∷ symbol (Ident) 26 27 ∷ symbol (Ident) 27 28 ∷ symbol (Ident) 29 36 ∷ symbol (Ident) 36 37 ∷ symbol (Ident) 38 39 ∷ symbol (Ident) 39 40 ∷ symbol (Ident) 40 41 ∷ symbol (Ident) 42 46 ∷ symbol (Ident) 47 50 ∷ symbol (Ident) 50 51 ∷ symbol (Ident) 52 53 ∷ symbol (Ident) 54 55 ∷ symbol (Ident) 56 62 ∷ symbol (Ident) 63 64 ∷ symbol (Ident) 64 65 ∷ symbol (Ident) 65 66 ∷ symbol (Ident) 67 68 ∷ symbol (Ident) 68 69 ∷ symbol (Ident) 70 73 ∷ symbol (Ident) 74 77 ∷ symbol (Ident) 77 78 ∷ symbol (Ident) 79 80 ∷ symbol (Ident) 81 82 ∷ symbol (Ident) 83 90 ∷ symbol (Ident) 91 93 ∷ symbol (Ident) 94 95 ∷ symbol (Ident) 95 96 ∷ symbol (Ident) 97 98 ∷ symbol (Ident) 99 100 ∷ symbol (Ident) 101 108 ∷ symbol (Ident) 109 111 ∷ symbol (Ident) 112 113 ∷ symbol (Ident) 113 114 ∷ symbol (Ident) 115 118 ∷ symbol (Ident) 119 120 ∷ symbol (Ident) 120 121 ∷ symbol (Ident) 122 123 ∷ symbol (Ident) 123 124 ∷ symbol (Ident) 125 126 ∷ symbol (Ident) 126 127 ∷ symbol (Ident) 128 129 ∷ symbol (Ident) 129 130 ∷ symbol (Ident) 131 136 ∷ symbol (Ident) 137 138 ∷ symbol (Ident) 139 141 ∷ symbol (Ident) 142 143 ∷ symbol (Ident) 144 147 ∷ symbol (Ident) 148 149 ∷ symbol (Ident) 149 150 ∷ []) }; tree = record { module_word = 0; name = 1; semicolon = 0; imports = None; decls = (S.decls None (Some (record { type_word = 0; each = (record { name = (record { name = 4; star = None }); equal = 0; is = (S.Record 6 None (S.fields (record { first = (record { name = 7; star = None }); more = [] }) 0 (S.Named (record { name = 9; member = None }))) (S.next_fields 0 (S.fields (record { first = (record { name = 11; star = Some 0 }); more = [] }) 0 (S.Named (record { name = 14; member = None }))) S.no_more_fields) 0); semicolon = 0 } ∷ record { name = (record { name = 17; star = None }); equal = 0; is = (S.Record 19 (Some (record { left_paren = 0; name = (record { name = 21; member = None }); right_paren = 0 })) (S.fields (record { first = (record { name = 23; star = None }); more = [] }) 0 (S.Named (record { name = 25; member = None }))) S.no_more_fields 0); semicolon = 0 } ∷ record { name = (record { name = 28; star = None }); equal = 0; is = (S.Pointer 30 0 (S.Named (record { name = 32; member = None }))); semicolon = 0 } ∷ record { name = (record { name = 34; star = None }); equal = 0; is = (S.Pointer 36 0 (S.Named (record { name = 38; member = None }))); semicolon = 0 } ∷ []) })) (Some (record { var_word = 0; each = (record { names = (record { first = (record { name = 41; star = None }); more = [] }); colon = 0; of = (S.Named (record { name = 43; member = None })); semicolon = 0 } ∷ record { names = (record { first = (record { name = 45; star = None }); more = [] }); colon = 0; of = (S.Named (record { name = 47; member = None })); semicolon = 0 } ∷ []) })) S.no_procedure); body = (Some (record { begin_word = 0; stats = (S.stats (S.AssignOrCall (record { name = 50; selectors = S.no_selector }) (Some (record { becomes = 0; value = (S.only (S.simple None (S.term (S.Designated 52 S.no_selector) S.no_factor) S.no_term)) }))) S.no_stat) })); end_word = 0; end_name = 54; period = 0 } }
 
-pub legal_12 : checked (legal_12_0 ∷ []) ≡ Legal (record { records = (record { module_number = 0; base = None; level = 0; fields = (record { name = (120 ∷ []); exported = false; shape = H.Integer } ∷ record { name = (121 ∷ []); exported = true; shape = H.Char } ∷ []); cells = 2 } ∷ record { module_number = 0; base = (Some 0); level = 1; fields = (record { name = (122 ∷ []); exported = false; shape = H.Set } ∷ []); cells = 3 } ∷ []); pointers = (Some 0 ∷ Some 1 ∷ []); modules = (record { name = (77 ∷ []); objects = (record { name = (82 ∷ []); exported = false; entity = I.OfType (H.Record 0) } ∷ record { name = (69 ∷ []); exported = false; entity = I.OfType (H.Record 1) } ∷ record { name = (80 ∷ []); exported = false; entity = I.OfType (H.Pointer 0) } ∷ record { name = (81 ∷ []); exported = false; entity = I.OfType (H.Pointer 1) } ∷ record { name = (112 ∷ []); exported = false; entity = I.OfVariable 0 } ∷ record { name = (113 ∷ []); exported = false; entity = I.OfVariable 1 } ∷ []); variables = ((H.Pointer 0) ∷ (H.Pointer 1) ∷ []); body = 0 } ∷ []); procedures = (record { module_number = 0; line = 1; is_body = true; formals = []; result = H.Nothing; locals = []; texts = []; body = (I.next_statement (I.Assign (I.of_type (I.Global 0 0) (H.Pointer 0)) (record { form = (I.Load (I.of_type (I.Global 0 1) (H.Pointer 1))); shape = (H.Pointer 1) })) I.no_statement); answer = None } ∷ []); imports_in = false })
+pub legal_12 : checked (legal_12_0 ∷ []) ≡ Legal (record { records = (record { module_number = 0; base = None; level = 0; fields = (record { name = (120 ∷ []); exported = false; shape = H.Integer } ∷ record { name = (121 ∷ []); exported = true; shape = H.Char } ∷ []); cells = 2; extent = record { bytes = 16; wide = true } } ∷ record { module_number = 0; base = (Some 0); level = 1; fields = (record { name = (122 ∷ []); exported = false; shape = H.Set } ∷ []); cells = 3; extent = record { bytes = 24; wide = true } } ∷ []); pointers = (Some 0 ∷ Some 1 ∷ []); modules = (record { name = (77 ∷ []); objects = (record { name = (82 ∷ []); exported = false; entity = I.OfType (H.Record 0) } ∷ record { name = (69 ∷ []); exported = false; entity = I.OfType (H.Record 1) } ∷ record { name = (80 ∷ []); exported = false; entity = I.OfType (H.Pointer 0) } ∷ record { name = (81 ∷ []); exported = false; entity = I.OfType (H.Pointer 1) } ∷ record { name = (112 ∷ []); exported = false; entity = I.OfVariable 0 } ∷ record { name = (113 ∷ []); exported = false; entity = I.OfVariable 1 } ∷ []); variables = ((H.Pointer 0) ∷ (H.Pointer 1) ∷ []); body = 0 } ∷ []); procedures = (record { module_number = 0; line = 1; is_body = true; formals = []; result = H.Nothing; locals = []; texts = []; body = (I.next_statement (I.Assign (I.of_type (I.Global 0 0) (H.Pointer 0)) (record { form = (I.Load (I.of_type (I.Global 0 1) (H.Pointer 1))); shape = (H.Pointer 1) })) I.no_statement); answer = None } ∷ []); imports_in = false })
 legal_12 = refl
 
 -- MODULE M; TYPE R = RECORD x: INTEGER; y*: CHAR END; E = RECORD (R) z: SET END; Q = POINTER TO E; VAR e: E; q: Q; BEGIN e := q^ END M.
 abbrev legal_13_0 : Parsed
 legal_13_0 = record { source = record { bytes = (77 ∷ 79 ∷ 68 ∷ 85 ∷ 76 ∷ 69 ∷ 32 ∷ 77 ∷ 59 ∷ 32 ∷ 84 ∷ 89 ∷ 80 ∷ 69 ∷ 32 ∷ 82 ∷ 32 ∷ 61 ∷ 32 ∷ 82 ∷ 69 ∷ 67 ∷ 79 ∷ 82 ∷ 68 ∷ 32 ∷ 120 ∷ 58 ∷ 32 ∷ 73 ∷ 78 ∷ 84 ∷ 69 ∷ 71 ∷ 69 ∷ 82 ∷ 59 ∷ 32 ∷ 121 ∷ 42 ∷ 58 ∷ 32 ∷ 67 ∷ 72 ∷ 65 ∷ 82 ∷ 32 ∷ 69 ∷ 78 ∷ 68 ∷ 59 ∷ 32 ∷ 69 ∷ 32 ∷ 61 ∷ 32 ∷ 82 ∷ 69 ∷ 67 ∷ 79 ∷ 82 ∷ 68 ∷ 32 ∷ 40 ∷ 82 ∷ 41 ∷ 32 ∷ 122 ∷ 58 ∷ 32 ∷ 83 ∷ 69 ∷ 84 ∷ 32 ∷ 69 ∷ 78 ∷ 68 ∷ 59 ∷ 32 ∷ 81 ∷ 32 ∷ 61 ∷ 32 ∷ 80 ∷ 79 ∷ 73 ∷ 78 ∷ 84 ∷ 69 ∷ 82 ∷ 32 ∷ 84 ∷ 79 ∷ 32 ∷ 69 ∷ 59 ∷ 32 ∷ 86 ∷ 65 ∷ 82 ∷ 32 ∷ 101 ∷ 58 ∷ 32 ∷ 69 ∷ 59 ∷ 32 ∷ 113 ∷ 58 ∷ 32 ∷ 81 ∷ 59 ∷ 32 ∷ 66 ∷ 69 ∷ 71 ∷ 73 ∷ 78 ∷ 32 ∷ 101 ∷ 32 ∷ 58 ∷ 61 ∷ 32 ∷ 113 ∷ 94 ∷ 32 ∷ 69 ∷ 78 ∷ 68 ∷ 32 ∷ 77 ∷ 46 ∷ []); symbols = (symbol (Ident) 0 6 ∷ symbol (Ident) 7 8 ∷ symbol (Ident) 8 9 ∷ symbol (Ident) 10 14 ∷ symbol (Ident) 15 16 ∷ symbol (Ident) 17 18 ∷ symbol (Ident) 19 25 ∷ symbol (Ident) 26 27 ∷ symbol (Ident) 27 28 ∷ symbol (Ident) 29 36 ∷ symbol (Ident) 36 37 ∷ symbol (Ident) 38 39 ∷ symbol (Ident) 39 40 ∷ symbol (Ident) 40 41 ∷ symbol (Ident) 42 46 ∷ symbol (Ident) 47 50 ∷ symbol (Ident) 50 51 ∷ symbol (Ident) 52 53 ∷ symbol (Ident) 54 55 ∷ symbol (Ident) 56 62 ∷ symbol (Ident) 63 64 ∷ symbol (Ident) 64 65 ∷ symbol (Ident) 65 66 ∷ symbol (Ident) 67 68 ∷ symbol (Ident) 68 69 ∷ symbol (Ident) 70 73 ∷ symbol (Ident) 74 77 ∷ symbol (Ident) 77 78 ∷ symbol (Ident) 79 80 ∷ symbol (Ident) 81 82 ∷ symbol (Ident) 83 90 ∷ symbol (Ident) 91 93 ∷ symbol (Ident) 94 95 ∷ symbol (Ident) 95 96 ∷ symbol (Ident) 97 100 ∷ symbol (Ident) 101 102 ∷ symbol (Ident) 102 103 ∷ symbol (Ident) 104 105 ∷ symbol (Ident) 105 106 ∷ symbol (Ident) 107 108 ∷ symbol (Ident) 108 109 ∷ symbol (Ident) 110 111 ∷ symbol (Ident) 111 112 ∷ symbol (Ident) 113 118 ∷ symbol (Ident) 119 120 ∷ symbol (Ident) 121 123 ∷ symbol (Ident) 124 125 ∷ symbol (Ident) 125 126 ∷ symbol (Ident) 127 130 ∷ symbol (Ident) 131 132 ∷ symbol (Ident) 132 133 ∷ []) }; tree = record { module_word = 0; name = 1; semicolon = 0; imports = None; decls = (S.decls None (Some (record { type_word = 0; each = (record { name = (record { name = 4; star = None }); equal = 0; is = (S.Record 6 None (S.fields (record { first = (record { name = 7; star = None }); more = [] }) 0 (S.Named (record { name = 9; member = None }))) (S.next_fields 0 (S.fields (record { first = (record { name = 11; star = Some 0 }); more = [] }) 0 (S.Named (record { name = 14; member = None }))) S.no_more_fields) 0); semicolon = 0 } ∷ record { name = (record { name = 17; star = None }); equal = 0; is = (S.Record 19 (Some (record { left_paren = 0; name = (record { name = 21; member = None }); right_paren = 0 })) (S.fields (record { first = (record { name = 23; star = None }); more = [] }) 0 (S.Named (record { name = 25; member = None }))) S.no_more_fields 0); semicolon = 0 } ∷ record { name = (record { name = 28; star = None }); equal = 0; is = (S.Pointer 30 0 (S.Named (record { name = 32; member = None }))); semicolon = 0 } ∷ []) })) (Some (record { var_word = 0; each = (record { names = (record { first = (record { name = 35; star = None }); more = [] }); colon = 0; of = (S.Named (record { name = 37; member = None })); semicolon = 0 } ∷ record { names = (record { first = (record { name = 39; star = None }); more = [] }); colon = 0; of = (S.Named (record { name = 41; member = None })); semicolon = 0 } ∷ []) })) S.no_procedure); body = (Some (record { begin_word = 0; stats = (S.stats (S.AssignOrCall (record { name = 44; selectors = S.no_selector }) (Some (record { becomes = 0; value = (S.only (S.simple None (S.term (S.Designated 46 (S.selected (S.Arrow 0) S.no_selector)) S.no_factor) S.no_term)) }))) S.no_stat) })); end_word = 0; end_name = 49; period = 0 } }
 
-pub legal_13 : checked (legal_13_0 ∷ []) ≡ Legal (record { records = (record { module_number = 0; base = None; level = 0; fields = (record { name = (120 ∷ []); exported = false; shape = H.Integer } ∷ record { name = (121 ∷ []); exported = true; shape = H.Char } ∷ []); cells = 2 } ∷ record { module_number = 0; base = (Some 0); level = 1; fields = (record { name = (122 ∷ []); exported = false; shape = H.Set } ∷ []); cells = 3 } ∷ []); pointers = (Some 1 ∷ []); modules = (record { name = (77 ∷ []); objects = (record { name = (82 ∷ []); exported = false; entity = I.OfType (H.Record 0) } ∷ record { name = (69 ∷ []); exported = false; entity = I.OfType (H.Record 1) } ∷ record { name = (81 ∷ []); exported = false; entity = I.OfType (H.Pointer 0) } ∷ record { name = (101 ∷ []); exported = false; entity = I.OfVariable 0 } ∷ record { name = (113 ∷ []); exported = false; entity = I.OfVariable 1 } ∷ []); variables = ((H.Record 1) ∷ (H.Pointer 0) ∷ []); body = 0 } ∷ []); procedures = (record { module_number = 0; line = 1; is_body = true; formals = []; result = H.Nothing; locals = []; texts = []; body = (I.next_statement (I.CopyRecord (I.of_type (I.Global 0 0) (H.Record 1)) (I.of_type (I.Dereference (I.Load (I.of_type (I.Global 0 1) (H.Pointer 0)))) (H.Record 1))) I.no_statement); answer = None } ∷ []); imports_in = false })
+pub legal_13 : checked (legal_13_0 ∷ []) ≡ Legal (record { records = (record { module_number = 0; base = None; level = 0; fields = (record { name = (120 ∷ []); exported = false; shape = H.Integer } ∷ record { name = (121 ∷ []); exported = true; shape = H.Char } ∷ []); cells = 2; extent = record { bytes = 16; wide = true } } ∷ record { module_number = 0; base = (Some 0); level = 1; fields = (record { name = (122 ∷ []); exported = false; shape = H.Set } ∷ []); cells = 3; extent = record { bytes = 24; wide = true } } ∷ []); pointers = (Some 1 ∷ []); modules = (record { name = (77 ∷ []); objects = (record { name = (82 ∷ []); exported = false; entity = I.OfType (H.Record 0) } ∷ record { name = (69 ∷ []); exported = false; entity = I.OfType (H.Record 1) } ∷ record { name = (81 ∷ []); exported = false; entity = I.OfType (H.Pointer 0) } ∷ record { name = (101 ∷ []); exported = false; entity = I.OfVariable 0 } ∷ record { name = (113 ∷ []); exported = false; entity = I.OfVariable 1 } ∷ []); variables = ((H.Record 1) ∷ (H.Pointer 0) ∷ []); body = 0 } ∷ []); procedures = (record { module_number = 0; line = 1; is_body = true; formals = []; result = H.Nothing; locals = []; texts = []; body = (I.next_statement (I.CopyRecord (I.of_type (I.Global 0 0) (H.Record 1)) (I.of_type (I.Dereference (I.Load (I.of_type (I.Global 0 1) (H.Pointer 0)))) (H.Record 1))) I.no_statement); answer = None } ∷ []); imports_in = false })
 legal_13 = refl
 
 -- MODULE M; VAR i: INTEGER; y: BYTE; BEGIN y := 1; y := i; i := y END M.
@@ -265,21 +265,21 @@ legal_34 = refl
 abbrev legal_35_0 : Parsed
 legal_35_0 = record { source = record { bytes = (77 ∷ 79 ∷ 68 ∷ 85 ∷ 76 ∷ 69 ∷ 32 ∷ 77 ∷ 59 ∷ 32 ∷ 84 ∷ 89 ∷ 80 ∷ 69 ∷ 32 ∷ 82 ∷ 32 ∷ 61 ∷ 32 ∷ 82 ∷ 69 ∷ 67 ∷ 79 ∷ 82 ∷ 68 ∷ 32 ∷ 120 ∷ 58 ∷ 32 ∷ 73 ∷ 78 ∷ 84 ∷ 69 ∷ 71 ∷ 69 ∷ 82 ∷ 59 ∷ 32 ∷ 121 ∷ 42 ∷ 58 ∷ 32 ∷ 67 ∷ 72 ∷ 65 ∷ 82 ∷ 32 ∷ 69 ∷ 78 ∷ 68 ∷ 59 ∷ 32 ∷ 69 ∷ 32 ∷ 61 ∷ 32 ∷ 82 ∷ 69 ∷ 67 ∷ 79 ∷ 82 ∷ 68 ∷ 32 ∷ 40 ∷ 82 ∷ 41 ∷ 32 ∷ 122 ∷ 58 ∷ 32 ∷ 83 ∷ 69 ∷ 84 ∷ 32 ∷ 69 ∷ 78 ∷ 68 ∷ 59 ∷ 32 ∷ 86 ∷ 65 ∷ 82 ∷ 32 ∷ 101 ∷ 58 ∷ 32 ∷ 69 ∷ 59 ∷ 32 ∷ 109 ∷ 58 ∷ 32 ∷ 65 ∷ 82 ∷ 82 ∷ 65 ∷ 89 ∷ 32 ∷ 50 ∷ 44 ∷ 32 ∷ 51 ∷ 32 ∷ 79 ∷ 70 ∷ 32 ∷ 73 ∷ 78 ∷ 84 ∷ 69 ∷ 71 ∷ 69 ∷ 82 ∷ 59 ∷ 32 ∷ 80 ∷ 82 ∷ 79 ∷ 67 ∷ 69 ∷ 68 ∷ 85 ∷ 82 ∷ 69 ∷ 32 ∷ 86 ∷ 40 ∷ 86 ∷ 65 ∷ 82 ∷ 32 ∷ 120 ∷ 58 ∷ 32 ∷ 73 ∷ 78 ∷ 84 ∷ 69 ∷ 71 ∷ 69 ∷ 82 ∷ 59 ∷ 32 ∷ 86 ∷ 65 ∷ 82 ∷ 32 ∷ 114 ∷ 58 ∷ 32 ∷ 82 ∷ 41 ∷ 59 ∷ 32 ∷ 69 ∷ 78 ∷ 68 ∷ 32 ∷ 86 ∷ 59 ∷ 32 ∷ 66 ∷ 69 ∷ 71 ∷ 73 ∷ 78 ∷ 32 ∷ 86 ∷ 40 ∷ 109 ∷ 91 ∷ 49 ∷ 44 ∷ 32 ∷ 50 ∷ 93 ∷ 44 ∷ 32 ∷ 101 ∷ 41 ∷ 32 ∷ 69 ∷ 78 ∷ 68 ∷ 32 ∷ 77 ∷ 46 ∷ []); symbols = (symbol (Ident) 0 6 ∷ symbol (Ident) 7 8 ∷ symbol (Ident) 8 9 ∷ symbol (Ident) 10 14 ∷ symbol (Ident) 15 16 ∷ symbol (Ident) 17 18 ∷ symbol (Ident) 19 25 ∷ symbol (Ident) 26 27 ∷ symbol (Ident) 27 28 ∷ symbol (Ident) 29 36 ∷ symbol (Ident) 36 37 ∷ symbol (Ident) 38 39 ∷ symbol (Ident) 39 40 ∷ symbol (Ident) 40 41 ∷ symbol (Ident) 42 46 ∷ symbol (Ident) 47 50 ∷ symbol (Ident) 50 51 ∷ symbol (Ident) 52 53 ∷ symbol (Ident) 54 55 ∷ symbol (Ident) 56 62 ∷ symbol (Ident) 63 64 ∷ symbol (Ident) 64 65 ∷ symbol (Ident) 65 66 ∷ symbol (Ident) 67 68 ∷ symbol (Ident) 68 69 ∷ symbol (Ident) 70 73 ∷ symbol (Ident) 74 77 ∷ symbol (Ident) 77 78 ∷ symbol (Ident) 79 82 ∷ symbol (Ident) 83 84 ∷ symbol (Ident) 84 85 ∷ symbol (Ident) 86 87 ∷ symbol (Ident) 87 88 ∷ symbol (Ident) 89 90 ∷ symbol (Ident) 90 91 ∷ symbol (Ident) 92 97 ∷ symbol (Int (pos 2)) 98 99 ∷ symbol (Ident) 99 100 ∷ symbol (Int (pos 3)) 101 102 ∷ symbol (Ident) 103 105 ∷ symbol (Ident) 106 113 ∷ symbol (Ident) 113 114 ∷ symbol (Ident) 115 124 ∷ symbol (Ident) 125 126 ∷ symbol (Ident) 126 127 ∷ symbol (Ident) 127 130 ∷ symbol (Ident) 131 132 ∷ symbol (Ident) 132 133 ∷ symbol (Ident) 134 141 ∷ symbol (Ident) 141 142 ∷ symbol (Ident) 143 146 ∷ symbol (Ident) 147 148 ∷ symbol (Ident) 148 149 ∷ symbol (Ident) 150 151 ∷ symbol (Ident) 151 152 ∷ symbol (Ident) 152 153 ∷ symbol (Ident) 154 157 ∷ symbol (Ident) 158 159 ∷ symbol (Ident) 159 160 ∷ symbol (Ident) 161 166 ∷ symbol (Ident) 167 168 ∷ symbol (Ident) 168 169 ∷ symbol (Ident) 169 170 ∷ symbol (Ident) 170 171 ∷ symbol (Int (pos 1)) 171 172 ∷ symbol (Ident) 172 173 ∷ symbol (Int (pos 2)) 174 175 ∷ symbol (Ident) 175 176 ∷ symbol (Ident) 176 177 ∷ symbol (Ident) 178 179 ∷ symbol (Ident) 179 180 ∷ symbol (Ident) 181 184 ∷ symbol (Ident) 185 186 ∷ symbol (Ident) 186 187 ∷ []) }; tree = record { module_word = 0; name = 1; semicolon = 0; imports = None; decls = (S.decls None (Some (record { type_word = 0; each = (record { name = (record { name = 4; star = None }); equal = 0; is = (S.Record 6 None (S.fields (record { first = (record { name = 7; star = None }); more = [] }) 0 (S.Named (record { name = 9; member = None }))) (S.next_fields 0 (S.fields (record { first = (record { name = 11; star = Some 0 }); more = [] }) 0 (S.Named (record { name = 14; member = None }))) S.no_more_fields) 0); semicolon = 0 } ∷ record { name = (record { name = 17; star = None }); equal = 0; is = (S.Record 19 (Some (record { left_paren = 0; name = (record { name = 21; member = None }); right_paren = 0 })) (S.fields (record { first = (record { name = 23; star = None }); more = [] }) 0 (S.Named (record { name = 25; member = None }))) S.no_more_fields 0); semicolon = 0 } ∷ []) })) (Some (record { var_word = 0; each = (record { names = (record { first = (record { name = 29; star = None }); more = [] }); colon = 0; of = (S.Named (record { name = 31; member = None })); semicolon = 0 } ∷ record { names = (record { first = (record { name = 33; star = None }); more = [] }); colon = 0; of = (S.Array 35 (S.only (S.simple None (S.term (S.Int 36) S.no_factor) S.no_term)) (S.next_expression 0 (S.only (S.simple None (S.term (S.Int 38) S.no_factor) S.no_term)) S.no_expression) 0 (S.Named (record { name = 40; member = None }))); semicolon = 0 } ∷ []) })) (S.procedure 0 (record { name = 43; star = None }) (Some (record { left_paren = 0; sections = Some (record { first = (record { var_word = Some 0; first = 46; more = []; colon = 0; open_array = None; of = (record { name = 48; member = None }) }); more = (record { semicolon = 0; section = (record { var_word = Some 0; first = 51; more = []; colon = 0; open_array = None; of = (record { name = 53; member = None }) }) } ∷ []) }); right_paren = 0; result = None })) 0 (S.decls None None None S.no_procedure) None None 56 57 0 S.no_procedure)); body = (Some (record { begin_word = 0; stats = (S.stats (S.AssignOrCall (record { name = 60; selectors = (S.selected (S.Parens 0 (S.expressions (S.only (S.simple None (S.term (S.Designated 62 (S.selected (S.Index 0 (S.expressions (S.only (S.simple None (S.term (S.Int 64) S.no_factor) S.no_term)) (S.next_expression 0 (S.only (S.simple None (S.term (S.Int 66) S.no_factor) S.no_term)) S.no_expression)) 0) S.no_selector)) S.no_factor) S.no_term)) (S.next_expression 0 (S.only (S.simple None (S.term (S.Designated 69 S.no_selector) S.no_factor) S.no_term)) S.no_expression)) 0) S.no_selector) }) None) S.no_stat) })); end_word = 0; end_name = 72; period = 0 } }
 
-pub legal_35 : checked (legal_35_0 ∷ []) ≡ Legal (record { records = (record { module_number = 0; base = None; level = 0; fields = (record { name = (120 ∷ []); exported = false; shape = H.Integer } ∷ record { name = (121 ∷ []); exported = true; shape = H.Char } ∷ []); cells = 2 } ∷ record { module_number = 0; base = (Some 0); level = 1; fields = (record { name = (122 ∷ []); exported = false; shape = H.Set } ∷ []); cells = 3 } ∷ []); pointers = []; modules = (record { name = (77 ∷ []); objects = (record { name = (82 ∷ []); exported = false; entity = I.OfType (H.Record 0) } ∷ record { name = (69 ∷ []); exported = false; entity = I.OfType (H.Record 1) } ∷ record { name = (101 ∷ []); exported = false; entity = I.OfVariable 0 } ∷ record { name = (109 ∷ []); exported = false; entity = I.OfVariable 1 } ∷ record { name = (86 ∷ []); exported = false; entity = I.OfProcedure 0 } ∷ []); variables = ((H.Record 1) ∷ (H.Array 2 (H.Array 3 H.Integer)) ∷ []); body = 1 } ∷ []); procedures = (record { module_number = 0; line = 1; is_body = false; formals = (record { mode = TheMode.Place; variable = true; shape = H.Integer } ∷ record { mode = TheMode.Record; variable = true; shape = (H.Record 0) } ∷ []); result = H.Nothing; locals = []; texts = []; body = I.no_statement; answer = None } ∷ record { module_number = 0; line = 1; is_body = true; formals = []; result = H.Nothing; locals = []; texts = []; body = (I.next_statement (I.Invoke (I.Direct 0 (I.next_argument (I.ByPlace (I.of_type (I.Index (I.Index (I.Global 0 1) (Some 2) (H.Array 3 H.Integer) (I.Literal 1)) (Some 3) H.Integer (I.Literal 2)) H.Integer)) (I.next_argument (I.ByRecord (I.of_type (I.Global 0 0) (H.Record 1))) I.no_argument)))) I.no_statement); answer = None } ∷ []); imports_in = false })
+pub legal_35 : checked (legal_35_0 ∷ []) ≡ Legal (record { records = (record { module_number = 0; base = None; level = 0; fields = (record { name = (120 ∷ []); exported = false; shape = H.Integer } ∷ record { name = (121 ∷ []); exported = true; shape = H.Char } ∷ []); cells = 2; extent = record { bytes = 16; wide = true } } ∷ record { module_number = 0; base = (Some 0); level = 1; fields = (record { name = (122 ∷ []); exported = false; shape = H.Set } ∷ []); cells = 3; extent = record { bytes = 24; wide = true } } ∷ []); pointers = []; modules = (record { name = (77 ∷ []); objects = (record { name = (82 ∷ []); exported = false; entity = I.OfType (H.Record 0) } ∷ record { name = (69 ∷ []); exported = false; entity = I.OfType (H.Record 1) } ∷ record { name = (101 ∷ []); exported = false; entity = I.OfVariable 0 } ∷ record { name = (109 ∷ []); exported = false; entity = I.OfVariable 1 } ∷ record { name = (86 ∷ []); exported = false; entity = I.OfProcedure 0 } ∷ []); variables = ((H.Record 1) ∷ (H.Array 2 (H.Array 3 H.Integer)) ∷ []); body = 1 } ∷ []); procedures = (record { module_number = 0; line = 1; is_body = false; formals = (record { mode = TheMode.Place; variable = true; shape = H.Integer } ∷ record { mode = TheMode.Record; variable = true; shape = (H.Record 0) } ∷ []); result = H.Nothing; locals = []; texts = []; body = I.no_statement; answer = None } ∷ record { module_number = 0; line = 1; is_body = true; formals = []; result = H.Nothing; locals = []; texts = []; body = (I.next_statement (I.Invoke (I.Direct 0 (I.next_argument (I.ByPlace (I.of_type (I.Index (I.Index (I.Global 0 1) (Some 2) (H.Array 3 H.Integer) (I.Literal 1)) (Some 3) H.Integer (I.Literal 2)) H.Integer)) (I.next_argument (I.ByRecord (I.of_type (I.Global 0 0) (H.Record 1))) I.no_argument)))) I.no_statement); answer = None } ∷ []); imports_in = false })
 legal_35 = refl
 
 -- MODULE M; TYPE R = RECORD x: INTEGER; y*: CHAR END; P = POINTER TO R; VAR i: INTEGER; p: P; PROCEDURE V(VAR x: INTEGER; VAR r: R); END V; BEGIN V(i, p^) END M.
 abbrev legal_36_0 : Parsed
 legal_36_0 = record { source = record { bytes = (77 ∷ 79 ∷ 68 ∷ 85 ∷ 76 ∷ 69 ∷ 32 ∷ 77 ∷ 59 ∷ 32 ∷ 84 ∷ 89 ∷ 80 ∷ 69 ∷ 32 ∷ 82 ∷ 32 ∷ 61 ∷ 32 ∷ 82 ∷ 69 ∷ 67 ∷ 79 ∷ 82 ∷ 68 ∷ 32 ∷ 120 ∷ 58 ∷ 32 ∷ 73 ∷ 78 ∷ 84 ∷ 69 ∷ 71 ∷ 69 ∷ 82 ∷ 59 ∷ 32 ∷ 121 ∷ 42 ∷ 58 ∷ 32 ∷ 67 ∷ 72 ∷ 65 ∷ 82 ∷ 32 ∷ 69 ∷ 78 ∷ 68 ∷ 59 ∷ 32 ∷ 80 ∷ 32 ∷ 61 ∷ 32 ∷ 80 ∷ 79 ∷ 73 ∷ 78 ∷ 84 ∷ 69 ∷ 82 ∷ 32 ∷ 84 ∷ 79 ∷ 32 ∷ 82 ∷ 59 ∷ 32 ∷ 86 ∷ 65 ∷ 82 ∷ 32 ∷ 105 ∷ 58 ∷ 32 ∷ 73 ∷ 78 ∷ 84 ∷ 69 ∷ 71 ∷ 69 ∷ 82 ∷ 59 ∷ 32 ∷ 112 ∷ 58 ∷ 32 ∷ 80 ∷ 59 ∷ 32 ∷ 80 ∷ 82 ∷ 79 ∷ 67 ∷ 69 ∷ 68 ∷ 85 ∷ 82 ∷ 69 ∷ 32 ∷ 86 ∷ 40 ∷ 86 ∷ 65 ∷ 82 ∷ 32 ∷ 120 ∷ 58 ∷ 32 ∷ 73 ∷ 78 ∷ 84 ∷ 69 ∷ 71 ∷ 69 ∷ 82 ∷ 59 ∷ 32 ∷ 86 ∷ 65 ∷ 82 ∷ 32 ∷ 114 ∷ 58 ∷ 32 ∷ 82 ∷ 41 ∷ 59 ∷ 32 ∷ 69 ∷ 78 ∷ 68 ∷ 32 ∷ 86 ∷ 59 ∷ 32 ∷ 66 ∷ 69 ∷ 71 ∷ 73 ∷ 78 ∷ 32 ∷ 86 ∷ 40 ∷ 105 ∷ 44 ∷ 32 ∷ 112 ∷ 94 ∷ 41 ∷ 32 ∷ 69 ∷ 78 ∷ 68 ∷ 32 ∷ 77 ∷ 46 ∷ []); symbols = (symbol (Ident) 0 6 ∷ symbol (Ident) 7 8 ∷ symbol (Ident) 8 9 ∷ symbol (Ident) 10 14 ∷ symbol (Ident) 15 16 ∷ symbol (Ident) 17 18 ∷ symbol (Ident) 19 25 ∷ symbol (Ident) 26 27 ∷ symbol (Ident) 27 28 ∷ symbol (Ident) 29 36 ∷ symbol (Ident) 36 37 ∷ symbol (Ident) 38 39 ∷ symbol (Ident) 39 40 ∷ symbol (Ident) 40 41 ∷ symbol (Ident) 42 46 ∷ symbol (Ident) 47 50 ∷ symbol (Ident) 50 51 ∷ symbol (Ident) 52 53 ∷ symbol (Ident) 54 55 ∷ symbol (Ident) 56 63 ∷ symbol (Ident) 64 66 ∷ symbol (Ident) 67 68 ∷ symbol (Ident) 68 69 ∷ symbol (Ident) 70 73 ∷ symbol (Ident) 74 75 ∷ symbol (Ident) 75 76 ∷ symbol (Ident) 77 84 ∷ symbol (Ident) 84 85 ∷ symbol (Ident) 86 87 ∷ symbol (Ident) 87 88 ∷ symbol (Ident) 89 90 ∷ symbol (Ident) 90 91 ∷ symbol (Ident) 92 101 ∷ symbol (Ident) 102 103 ∷ symbol (Ident) 103 104 ∷ symbol (Ident) 104 107 ∷ symbol (Ident) 108 109 ∷ symbol (Ident) 109 110 ∷ symbol (Ident) 111 118 ∷ symbol (Ident) 118 119 ∷ symbol (Ident) 120 123 ∷ symbol (Ident) 124 125 ∷ symbol (Ident) 125 126 ∷ symbol (Ident) 127 128 ∷ symbol (Ident) 128 129 ∷ symbol (Ident) 129 130 ∷ symbol (Ident) 131 134 ∷ symbol (Ident) 135 136 ∷ symbol (Ident) 136 137 ∷ symbol (Ident) 138 143 ∷ symbol (Ident) 144 145 ∷ symbol (Ident) 145 146 ∷ symbol (Ident) 146 147 ∷ symbol (Ident) 147 148 ∷ symbol (Ident) 149 150 ∷ symbol (Ident) 150 151 ∷ symbol (Ident) 151 152 ∷ symbol (Ident) 153 156 ∷ symbol (Ident) 157 158 ∷ symbol (Ident) 158 159 ∷ []) }; tree = record { module_word = 0; name = 1; semicolon = 0; imports = None; decls = (S.decls None (Some (record { type_word = 0; each = (record { name = (record { name = 4; star = None }); equal = 0; is = (S.Record 6 None (S.fields (record { first = (record { name = 7; star = None }); more = [] }) 0 (S.Named (record { name = 9; member = None }))) (S.next_fields 0 (S.fields (record { first = (record { name = 11; star = Some 0 }); more = [] }) 0 (S.Named (record { name = 14; member = None }))) S.no_more_fields) 0); semicolon = 0 } ∷ record { name = (record { name = 17; star = None }); equal = 0; is = (S.Pointer 19 0 (S.Named (record { name = 21; member = None }))); semicolon = 0 } ∷ []) })) (Some (record { var_word = 0; each = (record { names = (record { first = (record { name = 24; star = None }); more = [] }); colon = 0; of = (S.Named (record { name = 26; member = None })); semicolon = 0 } ∷ record { names = (record { first = (record { name = 28; star = None }); more = [] }); colon = 0; of = (S.Named (record { name = 30; member = None })); semicolon = 0 } ∷ []) })) (S.procedure 0 (record { name = 33; star = None }) (Some (record { left_paren = 0; sections = Some (record { first = (record { var_word = Some 0; first = 36; more = []; colon = 0; open_array = None; of = (record { name = 38; member = None }) }); more = (record { semicolon = 0; section = (record { var_word = Some 0; first = 41; more = []; colon = 0; open_array = None; of = (record { name = 43; member = None }) }) } ∷ []) }); right_paren = 0; result = None })) 0 (S.decls None None None S.no_procedure) None None 46 47 0 S.no_procedure)); body = (Some (record { begin_word = 0; stats = (S.stats (S.AssignOrCall (record { name = 50; selectors = (S.selected (S.Parens 0 (S.expressions (S.only (S.simple None (S.term (S.Designated 52 S.no_selector) S.no_factor) S.no_term)) (S.next_expression 0 (S.only (S.simple None (S.term (S.Designated 54 (S.selected (S.Arrow 0) S.no_selector)) S.no_factor) S.no_term)) S.no_expression)) 0) S.no_selector) }) None) S.no_stat) })); end_word = 0; end_name = 58; period = 0 } }
 
-pub legal_36 : checked (legal_36_0 ∷ []) ≡ Legal (record { records = (record { module_number = 0; base = None; level = 0; fields = (record { name = (120 ∷ []); exported = false; shape = H.Integer } ∷ record { name = (121 ∷ []); exported = true; shape = H.Char } ∷ []); cells = 2 } ∷ []); pointers = (Some 0 ∷ []); modules = (record { name = (77 ∷ []); objects = (record { name = (82 ∷ []); exported = false; entity = I.OfType (H.Record 0) } ∷ record { name = (80 ∷ []); exported = false; entity = I.OfType (H.Pointer 0) } ∷ record { name = (105 ∷ []); exported = false; entity = I.OfVariable 0 } ∷ record { name = (112 ∷ []); exported = false; entity = I.OfVariable 1 } ∷ record { name = (86 ∷ []); exported = false; entity = I.OfProcedure 0 } ∷ []); variables = (H.Integer ∷ (H.Pointer 0) ∷ []); body = 1 } ∷ []); procedures = (record { module_number = 0; line = 1; is_body = false; formals = (record { mode = TheMode.Place; variable = true; shape = H.Integer } ∷ record { mode = TheMode.Record; variable = true; shape = (H.Record 0) } ∷ []); result = H.Nothing; locals = []; texts = []; body = I.no_statement; answer = None } ∷ record { module_number = 0; line = 1; is_body = true; formals = []; result = H.Nothing; locals = []; texts = []; body = (I.next_statement (I.Invoke (I.Direct 0 (I.next_argument (I.ByPlace (I.of_type (I.Global 0 0) H.Integer)) (I.next_argument (I.ByRecord (I.of_type (I.Dereference (I.Load (I.of_type (I.Global 0 1) (H.Pointer 0)))) (H.Record 0))) I.no_argument)))) I.no_statement); answer = None } ∷ []); imports_in = false })
+pub legal_36 : checked (legal_36_0 ∷ []) ≡ Legal (record { records = (record { module_number = 0; base = None; level = 0; fields = (record { name = (120 ∷ []); exported = false; shape = H.Integer } ∷ record { name = (121 ∷ []); exported = true; shape = H.Char } ∷ []); cells = 2; extent = record { bytes = 16; wide = true } } ∷ []); pointers = (Some 0 ∷ []); modules = (record { name = (77 ∷ []); objects = (record { name = (82 ∷ []); exported = false; entity = I.OfType (H.Record 0) } ∷ record { name = (80 ∷ []); exported = false; entity = I.OfType (H.Pointer 0) } ∷ record { name = (105 ∷ []); exported = false; entity = I.OfVariable 0 } ∷ record { name = (112 ∷ []); exported = false; entity = I.OfVariable 1 } ∷ record { name = (86 ∷ []); exported = false; entity = I.OfProcedure 0 } ∷ []); variables = (H.Integer ∷ (H.Pointer 0) ∷ []); body = 1 } ∷ []); procedures = (record { module_number = 0; line = 1; is_body = false; formals = (record { mode = TheMode.Place; variable = true; shape = H.Integer } ∷ record { mode = TheMode.Record; variable = true; shape = (H.Record 0) } ∷ []); result = H.Nothing; locals = []; texts = []; body = I.no_statement; answer = None } ∷ record { module_number = 0; line = 1; is_body = true; formals = []; result = H.Nothing; locals = []; texts = []; body = (I.next_statement (I.Invoke (I.Direct 0 (I.next_argument (I.ByPlace (I.of_type (I.Global 0 0) H.Integer)) (I.next_argument (I.ByRecord (I.of_type (I.Dereference (I.Load (I.of_type (I.Global 0 1) (H.Pointer 0)))) (H.Record 0))) I.no_argument)))) I.no_statement); answer = None } ∷ []); imports_in = false })
 legal_36 = refl
 
 -- MODULE M; TYPE R = RECORD x: INTEGER; y*: CHAR END; E = RECORD (R) z: SET END; P = POINTER TO R; Q = POINTER TO E; VAR p: P; q: Q; PROCEDURE V(VAR x: INTEGER; VAR r: R); END V; BEGIN V(p.x, q^) END M.
 abbrev legal_37_0 : Parsed
 legal_37_0 = record { source = record { bytes = (77 ∷ 79 ∷ 68 ∷ 85 ∷ 76 ∷ 69 ∷ 32 ∷ 77 ∷ 59 ∷ 32 ∷ 84 ∷ 89 ∷ 80 ∷ 69 ∷ 32 ∷ 82 ∷ 32 ∷ 61 ∷ 32 ∷ 82 ∷ 69 ∷ 67 ∷ 79 ∷ 82 ∷ 68 ∷ 32 ∷ 120 ∷ 58 ∷ 32 ∷ 73 ∷ 78 ∷ 84 ∷ 69 ∷ 71 ∷ 69 ∷ 82 ∷ 59 ∷ 32 ∷ 121 ∷ 42 ∷ 58 ∷ 32 ∷ 67 ∷ 72 ∷ 65 ∷ 82 ∷ 32 ∷ 69 ∷ 78 ∷ 68 ∷ 59 ∷ 32 ∷ 69 ∷ 32 ∷ 61 ∷ 32 ∷ 82 ∷ 69 ∷ 67 ∷ 79 ∷ 82 ∷ 68 ∷ 32 ∷ 40 ∷ 82 ∷ 41 ∷ 32 ∷ 122 ∷ 58 ∷ 32 ∷ 83 ∷ 69 ∷ 84 ∷ 32 ∷ 69 ∷ 78 ∷ 68 ∷ 59 ∷ 32 ∷ 80 ∷ 32 ∷ 61 ∷ 32 ∷ 80 ∷ 79 ∷ 73 ∷ 78 ∷ 84 ∷ 69 ∷ 82 ∷ 32 ∷ 84 ∷ 79 ∷ 32 ∷ 82 ∷ 59 ∷ 32 ∷ 81 ∷ 32 ∷ 61 ∷ 32 ∷ 80 ∷ 79 ∷ 73 ∷ 78 ∷ 84 ∷ 69 ∷ 82 ∷ 32 ∷ 84 ∷ 79 ∷ 32 ∷ 69 ∷ 59 ∷ 32 ∷ 86 ∷ 65 ∷ 82 ∷ 32 ∷ 112 ∷ 58 ∷ 32 ∷ 80 ∷ 59 ∷ 32 ∷ 113 ∷ 58 ∷ 32 ∷ 81 ∷ 59 ∷ 32 ∷ 80 ∷ 82 ∷ 79 ∷ 67 ∷ 69 ∷ 68 ∷ 85 ∷ 82 ∷ 69 ∷ 32 ∷ 86 ∷ 40 ∷ 86 ∷ 65 ∷ 82 ∷ 32 ∷ 120 ∷ 58 ∷ 32 ∷ 73 ∷ 78 ∷ 84 ∷ 69 ∷ 71 ∷ 69 ∷ 82 ∷ 59 ∷ 32 ∷ 86 ∷ 65 ∷ 82 ∷ 32 ∷ 114 ∷ 58 ∷ 32 ∷ 82 ∷ 41 ∷ 59 ∷ 32 ∷ 69 ∷ 78 ∷ 68 ∷ 32 ∷ 86 ∷ 59 ∷ 32 ∷ 66 ∷ 69 ∷ 71 ∷ 73 ∷ 78 ∷ 32 ∷ 86 ∷ 40 ∷ 112 ∷ 46 ∷ 120 ∷ 44 ∷ 32 ∷ 113 ∷ 94 ∷ 41 ∷ 32 ∷ 69 ∷ 78 ∷ 68 ∷ 32 ∷ 77 ∷ 46 ∷ []); symbols = (symbol (Ident) 0 6 ∷ symbol (Ident) 7 8 ∷ symbol (Ident) 8 9 ∷ symbol (Ident) 10 14 ∷ symbol (Ident) 15 16 ∷ symbol (Ident) 17 18 ∷ symbol (Ident) 19 25 ∷ symbol (Ident) 26 27 ∷ symbol (Ident) 27 28 ∷ symbol (Ident) 29 36 ∷ symbol (Ident) 36 37 ∷ symbol (Ident) 38 39 ∷ symbol (Ident) 39 40 ∷ symbol (Ident) 40 41 ∷ symbol (Ident) 42 46 ∷ symbol (Ident) 47 50 ∷ symbol (Ident) 50 51 ∷ symbol (Ident) 52 53 ∷ symbol (Ident) 54 55 ∷ symbol (Ident) 56 62 ∷ symbol (Ident) 63 64 ∷ symbol (Ident) 64 65 ∷ symbol (Ident) 65 66 ∷ symbol (Ident) 67 68 ∷ symbol (Ident) 68 69 ∷ symbol (Ident) 70 73 ∷ symbol (Ident) 74 77 ∷ symbol (Ident) 77 78 ∷ symbol (Ident) 79 80 ∷ symbol (Ident) 81 82 ∷ symbol (Ident) 83 90 ∷ symbol (Ident) 91 93 ∷ symbol (Ident) 94 95 ∷ symbol (Ident) 95 96 ∷ symbol (Ident) 97 98 ∷ symbol (Ident) 99 100 ∷ symbol (Ident) 101 108 ∷ symbol (Ident) 109 111 ∷ symbol (Ident) 112 113 ∷ symbol (Ident) 113 114 ∷ symbol (Ident) 115 118 ∷ symbol (Ident) 119 120 ∷ symbol (Ident) 120 121 ∷ symbol (Ident) 122 123 ∷ symbol (Ident) 123 124 ∷ symbol (Ident) 125 126 ∷ symbol (Ident) 126 127 ∷ symbol (Ident) 128 129 ∷ symbol (Ident) 129 130 ∷ symbol (Ident) 131 140 ∷ symbol (Ident) 141 142 ∷ symbol (Ident) 142 143 ∷ symbol (Ident) 143 146 ∷ symbol (Ident) 147 148 ∷ symbol (Ident) 148 149 ∷ symbol (Ident) 150 157 ∷ symbol (Ident) 157 158 ∷ symbol (Ident) 159 162 ∷ symbol (Ident) 163 164 ∷ symbol (Ident) 164 165 ∷ symbol (Ident) 166 167 ∷ symbol (Ident) 167 168 ∷ symbol (Ident) 168 169 ∷ symbol (Ident) 170 173 ∷ symbol (Ident) 174 175 ∷ symbol (Ident) 175 176 ∷ symbol (Ident) 177 182 ∷ symbol (Ident) 183 184 ∷ symbol (Ident) 184 185 ∷ symbol (Ident) 185 186 ∷ symbol (Ident) 186 187 ∷ symbol (Ident) 187 188 ∷ symbol (Ident) 188 189 ∷ symbol (Ident) 190 191 ∷ symbol (Ident) 191 192 ∷ symbol (Ident) 192 193 ∷ symbol (Ident) 194 197 ∷ symbol (Ident) 198 199 ∷ symbol (Ident) 199 200 ∷ []) }; tree = record { module_word = 0; name = 1; semicolon = 0; imports = None; decls = (S.decls None (Some (record { type_word = 0; each = (record { name = (record { name = 4; star = None }); equal = 0; is = (S.Record 6 None (S.fields (record { first = (record { name = 7; star = None }); more = [] }) 0 (S.Named (record { name = 9; member = None }))) (S.next_fields 0 (S.fields (record { first = (record { name = 11; star = Some 0 }); more = [] }) 0 (S.Named (record { name = 14; member = None }))) S.no_more_fields) 0); semicolon = 0 } ∷ record { name = (record { name = 17; star = None }); equal = 0; is = (S.Record 19 (Some (record { left_paren = 0; name = (record { name = 21; member = None }); right_paren = 0 })) (S.fields (record { first = (record { name = 23; star = None }); more = [] }) 0 (S.Named (record { name = 25; member = None }))) S.no_more_fields 0); semicolon = 0 } ∷ record { name = (record { name = 28; star = None }); equal = 0; is = (S.Pointer 30 0 (S.Named (record { name = 32; member = None }))); semicolon = 0 } ∷ record { name = (record { name = 34; star = None }); equal = 0; is = (S.Pointer 36 0 (S.Named (record { name = 38; member = None }))); semicolon = 0 } ∷ []) })) (Some (record { var_word = 0; each = (record { names = (record { first = (record { name = 41; star = None }); more = [] }); colon = 0; of = (S.Named (record { name = 43; member = None })); semicolon = 0 } ∷ record { names = (record { first = (record { name = 45; star = None }); more = [] }); colon = 0; of = (S.Named (record { name = 47; member = None })); semicolon = 0 } ∷ []) })) (S.procedure 0 (record { name = 50; star = None }) (Some (record { left_paren = 0; sections = Some (record { first = (record { var_word = Some 0; first = 53; more = []; colon = 0; open_array = None; of = (record { name = 55; member = None }) }); more = (record { semicolon = 0; section = (record { var_word = Some 0; first = 58; more = []; colon = 0; open_array = None; of = (record { name = 60; member = None }) }) } ∷ []) }); right_paren = 0; result = None })) 0 (S.decls None None None S.no_procedure) None None 63 64 0 S.no_procedure)); body = (Some (record { begin_word = 0; stats = (S.stats (S.AssignOrCall (record { name = 67; selectors = (S.selected (S.Parens 0 (S.expressions (S.only (S.simple None (S.term (S.Designated 69 (S.selected (S.Field 0 71) S.no_selector)) S.no_factor) S.no_term)) (S.next_expression 0 (S.only (S.simple None (S.term (S.Designated 73 (S.selected (S.Arrow 0) S.no_selector)) S.no_factor) S.no_term)) S.no_expression)) 0) S.no_selector) }) None) S.no_stat) })); end_word = 0; end_name = 77; period = 0 } }
 
-pub legal_37 : checked (legal_37_0 ∷ []) ≡ Legal (record { records = (record { module_number = 0; base = None; level = 0; fields = (record { name = (120 ∷ []); exported = false; shape = H.Integer } ∷ record { name = (121 ∷ []); exported = true; shape = H.Char } ∷ []); cells = 2 } ∷ record { module_number = 0; base = (Some 0); level = 1; fields = (record { name = (122 ∷ []); exported = false; shape = H.Set } ∷ []); cells = 3 } ∷ []); pointers = (Some 0 ∷ Some 1 ∷ []); modules = (record { name = (77 ∷ []); objects = (record { name = (82 ∷ []); exported = false; entity = I.OfType (H.Record 0) } ∷ record { name = (69 ∷ []); exported = false; entity = I.OfType (H.Record 1) } ∷ record { name = (80 ∷ []); exported = false; entity = I.OfType (H.Pointer 0) } ∷ record { name = (81 ∷ []); exported = false; entity = I.OfType (H.Pointer 1) } ∷ record { name = (112 ∷ []); exported = false; entity = I.OfVariable 0 } ∷ record { name = (113 ∷ []); exported = false; entity = I.OfVariable 1 } ∷ record { name = (86 ∷ []); exported = false; entity = I.OfProcedure 0 } ∷ []); variables = ((H.Pointer 0) ∷ (H.Pointer 1) ∷ []); body = 1 } ∷ []); procedures = (record { module_number = 0; line = 1; is_body = false; formals = (record { mode = TheMode.Place; variable = true; shape = H.Integer } ∷ record { mode = TheMode.Record; variable = true; shape = (H.Record 0) } ∷ []); result = H.Nothing; locals = []; texts = []; body = I.no_statement; answer = None } ∷ record { module_number = 0; line = 1; is_body = true; formals = []; result = H.Nothing; locals = []; texts = []; body = (I.next_statement (I.Invoke (I.Direct 0 (I.next_argument (I.ByPlace (I.of_type (I.Field (I.Dereference (I.Load (I.of_type (I.Global 0 0) (H.Pointer 0)))) 0 0) H.Integer)) (I.next_argument (I.ByRecord (I.of_type (I.Dereference (I.Load (I.of_type (I.Global 0 1) (H.Pointer 1)))) (H.Record 1))) I.no_argument)))) I.no_statement); answer = None } ∷ []); imports_in = false })
+pub legal_37 : checked (legal_37_0 ∷ []) ≡ Legal (record { records = (record { module_number = 0; base = None; level = 0; fields = (record { name = (120 ∷ []); exported = false; shape = H.Integer } ∷ record { name = (121 ∷ []); exported = true; shape = H.Char } ∷ []); cells = 2; extent = record { bytes = 16; wide = true } } ∷ record { module_number = 0; base = (Some 0); level = 1; fields = (record { name = (122 ∷ []); exported = false; shape = H.Set } ∷ []); cells = 3; extent = record { bytes = 24; wide = true } } ∷ []); pointers = (Some 0 ∷ Some 1 ∷ []); modules = (record { name = (77 ∷ []); objects = (record { name = (82 ∷ []); exported = false; entity = I.OfType (H.Record 0) } ∷ record { name = (69 ∷ []); exported = false; entity = I.OfType (H.Record 1) } ∷ record { name = (80 ∷ []); exported = false; entity = I.OfType (H.Pointer 0) } ∷ record { name = (81 ∷ []); exported = false; entity = I.OfType (H.Pointer 1) } ∷ record { name = (112 ∷ []); exported = false; entity = I.OfVariable 0 } ∷ record { name = (113 ∷ []); exported = false; entity = I.OfVariable 1 } ∷ record { name = (86 ∷ []); exported = false; entity = I.OfProcedure 0 } ∷ []); variables = ((H.Pointer 0) ∷ (H.Pointer 1) ∷ []); body = 1 } ∷ []); procedures = (record { module_number = 0; line = 1; is_body = false; formals = (record { mode = TheMode.Place; variable = true; shape = H.Integer } ∷ record { mode = TheMode.Record; variable = true; shape = (H.Record 0) } ∷ []); result = H.Nothing; locals = []; texts = []; body = I.no_statement; answer = None } ∷ record { module_number = 0; line = 1; is_body = true; formals = []; result = H.Nothing; locals = []; texts = []; body = (I.next_statement (I.Invoke (I.Direct 0 (I.next_argument (I.ByPlace (I.of_type (I.Field (I.Dereference (I.Load (I.of_type (I.Global 0 0) (H.Pointer 0)))) 0 0) H.Integer)) (I.next_argument (I.ByRecord (I.of_type (I.Dereference (I.Load (I.of_type (I.Global 0 1) (H.Pointer 1)))) (H.Record 1))) I.no_argument)))) I.no_statement); answer = None } ∷ []); imports_in = false })
 legal_37 = refl
 
 -- MODULE M; VAR a: ARRAY 3 OF INTEGER; t: ARRAY 8 OF CHAR; PROCEDURE O(x: ARRAY OF CHAR; VAR z: ARRAY OF INTEGER); END O; BEGIN O(t, a) END M.
@@ -314,14 +314,14 @@ legal_41 = refl
 abbrev legal_42_0 : Parsed
 legal_42_0 = record { source = record { bytes = (77 ∷ 79 ∷ 68 ∷ 85 ∷ 76 ∷ 69 ∷ 32 ∷ 77 ∷ 59 ∷ 32 ∷ 84 ∷ 89 ∷ 80 ∷ 69 ∷ 32 ∷ 82 ∷ 32 ∷ 61 ∷ 32 ∷ 82 ∷ 69 ∷ 67 ∷ 79 ∷ 82 ∷ 68 ∷ 32 ∷ 120 ∷ 58 ∷ 32 ∷ 73 ∷ 78 ∷ 84 ∷ 69 ∷ 71 ∷ 69 ∷ 82 ∷ 59 ∷ 32 ∷ 121 ∷ 42 ∷ 58 ∷ 32 ∷ 67 ∷ 72 ∷ 65 ∷ 82 ∷ 32 ∷ 69 ∷ 78 ∷ 68 ∷ 59 ∷ 32 ∷ 69 ∷ 32 ∷ 61 ∷ 32 ∷ 82 ∷ 69 ∷ 67 ∷ 79 ∷ 82 ∷ 68 ∷ 32 ∷ 40 ∷ 82 ∷ 41 ∷ 32 ∷ 122 ∷ 58 ∷ 32 ∷ 83 ∷ 69 ∷ 84 ∷ 32 ∷ 69 ∷ 78 ∷ 68 ∷ 59 ∷ 32 ∷ 86 ∷ 65 ∷ 82 ∷ 32 ∷ 101 ∷ 58 ∷ 32 ∷ 69 ∷ 59 ∷ 32 ∷ 97 ∷ 58 ∷ 32 ∷ 65 ∷ 82 ∷ 82 ∷ 65 ∷ 89 ∷ 32 ∷ 51 ∷ 32 ∷ 79 ∷ 70 ∷ 32 ∷ 73 ∷ 78 ∷ 84 ∷ 69 ∷ 71 ∷ 69 ∷ 82 ∷ 59 ∷ 32 ∷ 80 ∷ 82 ∷ 79 ∷ 67 ∷ 69 ∷ 68 ∷ 85 ∷ 82 ∷ 69 ∷ 32 ∷ 87 ∷ 40 ∷ 114 ∷ 58 ∷ 32 ∷ 82 ∷ 59 ∷ 32 ∷ 97 ∷ 58 ∷ 32 ∷ 65 ∷ 82 ∷ 82 ∷ 65 ∷ 89 ∷ 32 ∷ 79 ∷ 70 ∷ 32 ∷ 73 ∷ 78 ∷ 84 ∷ 69 ∷ 71 ∷ 69 ∷ 82 ∷ 41 ∷ 59 ∷ 32 ∷ 69 ∷ 78 ∷ 68 ∷ 32 ∷ 87 ∷ 59 ∷ 32 ∷ 66 ∷ 69 ∷ 71 ∷ 73 ∷ 78 ∷ 32 ∷ 87 ∷ 40 ∷ 101 ∷ 44 ∷ 32 ∷ 97 ∷ 41 ∷ 32 ∷ 69 ∷ 78 ∷ 68 ∷ 32 ∷ 77 ∷ 46 ∷ []); symbols = (symbol (Ident) 0 6 ∷ symbol (Ident) 7 8 ∷ symbol (Ident) 8 9 ∷ symbol (Ident) 10 14 ∷ symbol (Ident) 15 16 ∷ symbol (Ident) 17 18 ∷ symbol (Ident) 19 25 ∷ symbol (Ident) 26 27 ∷ symbol (Ident) 27 28 ∷ symbol (Ident) 29 36 ∷ symbol (Ident) 36 37 ∷ symbol (Ident) 38 39 ∷ symbol (Ident) 39 40 ∷ symbol (Ident) 40 41 ∷ symbol (Ident) 42 46 ∷ symbol (Ident) 47 50 ∷ symbol (Ident) 50 51 ∷ symbol (Ident) 52 53 ∷ symbol (Ident) 54 55 ∷ symbol (Ident) 56 62 ∷ symbol (Ident) 63 64 ∷ symbol (Ident) 64 65 ∷ symbol (Ident) 65 66 ∷ symbol (Ident) 67 68 ∷ symbol (Ident) 68 69 ∷ symbol (Ident) 70 73 ∷ symbol (Ident) 74 77 ∷ symbol (Ident) 77 78 ∷ symbol (Ident) 79 82 ∷ symbol (Ident) 83 84 ∷ symbol (Ident) 84 85 ∷ symbol (Ident) 86 87 ∷ symbol (Ident) 87 88 ∷ symbol (Ident) 89 90 ∷ symbol (Ident) 90 91 ∷ symbol (Ident) 92 97 ∷ symbol (Int (pos 3)) 98 99 ∷ symbol (Ident) 100 102 ∷ symbol (Ident) 103 110 ∷ symbol (Ident) 110 111 ∷ symbol (Ident) 112 121 ∷ symbol (Ident) 122 123 ∷ symbol (Ident) 123 124 ∷ symbol (Ident) 124 125 ∷ symbol (Ident) 125 126 ∷ symbol (Ident) 127 128 ∷ symbol (Ident) 128 129 ∷ symbol (Ident) 130 131 ∷ symbol (Ident) 131 132 ∷ symbol (Ident) 133 138 ∷ symbol (Ident) 139 141 ∷ symbol (Ident) 142 149 ∷ symbol (Ident) 149 150 ∷ symbol (Ident) 150 151 ∷ symbol (Ident) 152 155 ∷ symbol (Ident) 156 157 ∷ symbol (Ident) 157 158 ∷ symbol (Ident) 159 164 ∷ symbol (Ident) 165 166 ∷ symbol (Ident) 166 167 ∷ symbol (Ident) 167 168 ∷ symbol (Ident) 168 169 ∷ symbol (Ident) 170 171 ∷ symbol (Ident) 171 172 ∷ symbol (Ident) 173 176 ∷ symbol (Ident) 177 178 ∷ symbol (Ident) 178 179 ∷ []) }; tree = record { module_word = 0; name = 1; semicolon = 0; imports = None; decls = (S.decls None (Some (record { type_word = 0; each = (record { name = (record { name = 4; star = None }); equal = 0; is = (S.Record 6 None (S.fields (record { first = (record { name = 7; star = None }); more = [] }) 0 (S.Named (record { name = 9; member = None }))) (S.next_fields 0 (S.fields (record { first = (record { name = 11; star = Some 0 }); more = [] }) 0 (S.Named (record { name = 14; member = None }))) S.no_more_fields) 0); semicolon = 0 } ∷ record { name = (record { name = 17; star = None }); equal = 0; is = (S.Record 19 (Some (record { left_paren = 0; name = (record { name = 21; member = None }); right_paren = 0 })) (S.fields (record { first = (record { name = 23; star = None }); more = [] }) 0 (S.Named (record { name = 25; member = None }))) S.no_more_fields 0); semicolon = 0 } ∷ []) })) (Some (record { var_word = 0; each = (record { names = (record { first = (record { name = 29; star = None }); more = [] }); colon = 0; of = (S.Named (record { name = 31; member = None })); semicolon = 0 } ∷ record { names = (record { first = (record { name = 33; star = None }); more = [] }); colon = 0; of = (S.Array 35 (S.only (S.simple None (S.term (S.Int 36) S.no_factor) S.no_term)) S.no_expression 0 (S.Named (record { name = 38; member = None }))); semicolon = 0 } ∷ []) })) (S.procedure 0 (record { name = 41; star = None }) (Some (record { left_paren = 0; sections = Some (record { first = (record { var_word = None; first = 43; more = []; colon = 0; open_array = None; of = (record { name = 45; member = None }) }); more = (record { semicolon = 0; section = (record { var_word = None; first = 47; more = []; colon = 0; open_array = Some (record { array_word = 0; of_word = 0 }); of = (record { name = 51; member = None }) }) } ∷ []) }); right_paren = 0; result = None })) 0 (S.decls None None None S.no_procedure) None None 54 55 0 S.no_procedure)); body = (Some (record { begin_word = 0; stats = (S.stats (S.AssignOrCall (record { name = 58; selectors = (S.selected (S.Parens 0 (S.expressions (S.only (S.simple None (S.term (S.Designated 60 S.no_selector) S.no_factor) S.no_term)) (S.next_expression 0 (S.only (S.simple None (S.term (S.Designated 62 S.no_selector) S.no_factor) S.no_term)) S.no_expression)) 0) S.no_selector) }) None) S.no_stat) })); end_word = 0; end_name = 65; period = 0 } }
 
-pub legal_42 : checked (legal_42_0 ∷ []) ≡ Legal (record { records = (record { module_number = 0; base = None; level = 0; fields = (record { name = (120 ∷ []); exported = false; shape = H.Integer } ∷ record { name = (121 ∷ []); exported = true; shape = H.Char } ∷ []); cells = 2 } ∷ record { module_number = 0; base = (Some 0); level = 1; fields = (record { name = (122 ∷ []); exported = false; shape = H.Set } ∷ []); cells = 3 } ∷ []); pointers = []; modules = (record { name = (77 ∷ []); objects = (record { name = (82 ∷ []); exported = false; entity = I.OfType (H.Record 0) } ∷ record { name = (69 ∷ []); exported = false; entity = I.OfType (H.Record 1) } ∷ record { name = (101 ∷ []); exported = false; entity = I.OfVariable 0 } ∷ record { name = (97 ∷ []); exported = false; entity = I.OfVariable 1 } ∷ record { name = (87 ∷ []); exported = false; entity = I.OfProcedure 0 } ∷ []); variables = ((H.Record 1) ∷ (H.Array 3 H.Integer) ∷ []); body = 1 } ∷ []); procedures = (record { module_number = 0; line = 1; is_body = false; formals = (record { mode = TheMode.Place; variable = false; shape = (H.Record 0) } ∷ record { mode = TheMode.Open; variable = false; shape = (H.Open H.Integer) } ∷ []); result = H.Nothing; locals = []; texts = []; body = I.no_statement; answer = None } ∷ record { module_number = 0; line = 1; is_body = true; formals = []; result = H.Nothing; locals = []; texts = []; body = (I.next_statement (I.Invoke (I.Direct 0 (I.next_argument (I.ByPlace (I.of_type (I.Global 0 0) (H.Record 1))) (I.next_argument (I.ByOpen (I.of_type (I.Global 0 1) (H.Array 3 H.Integer))) I.no_argument)))) I.no_statement); answer = None } ∷ []); imports_in = false })
+pub legal_42 : checked (legal_42_0 ∷ []) ≡ Legal (record { records = (record { module_number = 0; base = None; level = 0; fields = (record { name = (120 ∷ []); exported = false; shape = H.Integer } ∷ record { name = (121 ∷ []); exported = true; shape = H.Char } ∷ []); cells = 2; extent = record { bytes = 16; wide = true } } ∷ record { module_number = 0; base = (Some 0); level = 1; fields = (record { name = (122 ∷ []); exported = false; shape = H.Set } ∷ []); cells = 3; extent = record { bytes = 24; wide = true } } ∷ []); pointers = []; modules = (record { name = (77 ∷ []); objects = (record { name = (82 ∷ []); exported = false; entity = I.OfType (H.Record 0) } ∷ record { name = (69 ∷ []); exported = false; entity = I.OfType (H.Record 1) } ∷ record { name = (101 ∷ []); exported = false; entity = I.OfVariable 0 } ∷ record { name = (97 ∷ []); exported = false; entity = I.OfVariable 1 } ∷ record { name = (87 ∷ []); exported = false; entity = I.OfProcedure 0 } ∷ []); variables = ((H.Record 1) ∷ (H.Array 3 H.Integer) ∷ []); body = 1 } ∷ []); procedures = (record { module_number = 0; line = 1; is_body = false; formals = (record { mode = TheMode.Place; variable = false; shape = (H.Record 0) } ∷ record { mode = TheMode.Open; variable = false; shape = (H.Open H.Integer) } ∷ []); result = H.Nothing; locals = []; texts = []; body = I.no_statement; answer = None } ∷ record { module_number = 0; line = 1; is_body = true; formals = []; result = H.Nothing; locals = []; texts = []; body = (I.next_statement (I.Invoke (I.Direct 0 (I.next_argument (I.ByPlace (I.of_type (I.Global 0 0) (H.Record 1))) (I.next_argument (I.ByOpen (I.of_type (I.Global 0 1) (H.Array 3 H.Integer))) I.no_argument)))) I.no_statement); answer = None } ∷ []); imports_in = false })
 legal_42 = refl
 
 -- MODULE M; TYPE R = RECORD x: INTEGER; y*: CHAR END; P = POINTER TO R; VAR p: P; m: ARRAY 2, 3 OF INTEGER; PROCEDURE W(r: R; a: ARRAY OF INTEGER); END W; BEGIN W(p^, m[0]) END M.
 abbrev legal_43_0 : Parsed
 legal_43_0 = record { source = record { bytes = (77 ∷ 79 ∷ 68 ∷ 85 ∷ 76 ∷ 69 ∷ 32 ∷ 77 ∷ 59 ∷ 32 ∷ 84 ∷ 89 ∷ 80 ∷ 69 ∷ 32 ∷ 82 ∷ 32 ∷ 61 ∷ 32 ∷ 82 ∷ 69 ∷ 67 ∷ 79 ∷ 82 ∷ 68 ∷ 32 ∷ 120 ∷ 58 ∷ 32 ∷ 73 ∷ 78 ∷ 84 ∷ 69 ∷ 71 ∷ 69 ∷ 82 ∷ 59 ∷ 32 ∷ 121 ∷ 42 ∷ 58 ∷ 32 ∷ 67 ∷ 72 ∷ 65 ∷ 82 ∷ 32 ∷ 69 ∷ 78 ∷ 68 ∷ 59 ∷ 32 ∷ 80 ∷ 32 ∷ 61 ∷ 32 ∷ 80 ∷ 79 ∷ 73 ∷ 78 ∷ 84 ∷ 69 ∷ 82 ∷ 32 ∷ 84 ∷ 79 ∷ 32 ∷ 82 ∷ 59 ∷ 32 ∷ 86 ∷ 65 ∷ 82 ∷ 32 ∷ 112 ∷ 58 ∷ 32 ∷ 80 ∷ 59 ∷ 32 ∷ 109 ∷ 58 ∷ 32 ∷ 65 ∷ 82 ∷ 82 ∷ 65 ∷ 89 ∷ 32 ∷ 50 ∷ 44 ∷ 32 ∷ 51 ∷ 32 ∷ 79 ∷ 70 ∷ 32 ∷ 73 ∷ 78 ∷ 84 ∷ 69 ∷ 71 ∷ 69 ∷ 82 ∷ 59 ∷ 32 ∷ 80 ∷ 82 ∷ 79 ∷ 67 ∷ 69 ∷ 68 ∷ 85 ∷ 82 ∷ 69 ∷ 32 ∷ 87 ∷ 40 ∷ 114 ∷ 58 ∷ 32 ∷ 82 ∷ 59 ∷ 32 ∷ 97 ∷ 58 ∷ 32 ∷ 65 ∷ 82 ∷ 82 ∷ 65 ∷ 89 ∷ 32 ∷ 79 ∷ 70 ∷ 32 ∷ 73 ∷ 78 ∷ 84 ∷ 69 ∷ 71 ∷ 69 ∷ 82 ∷ 41 ∷ 59 ∷ 32 ∷ 69 ∷ 78 ∷ 68 ∷ 32 ∷ 87 ∷ 59 ∷ 32 ∷ 66 ∷ 69 ∷ 71 ∷ 73 ∷ 78 ∷ 32 ∷ 87 ∷ 40 ∷ 112 ∷ 94 ∷ 44 ∷ 32 ∷ 109 ∷ 91 ∷ 48 ∷ 93 ∷ 41 ∷ 32 ∷ 69 ∷ 78 ∷ 68 ∷ 32 ∷ 77 ∷ 46 ∷ []); symbols = (symbol (Ident) 0 6 ∷ symbol (Ident) 7 8 ∷ symbol (Ident) 8 9 ∷ symbol (Ident) 10 14 ∷ symbol (Ident) 15 16 ∷ symbol (Ident) 17 18 ∷ symbol (Ident) 19 25 ∷ symbol (Ident) 26 27 ∷ symbol (Ident) 27 28 ∷ symbol (Ident) 29 36 ∷ symbol (Ident) 36 37 ∷ symbol (Ident) 38 39 ∷ symbol (Ident) 39 40 ∷ symbol (Ident) 40 41 ∷ symbol (Ident) 42 46 ∷ symbol (Ident) 47 50 ∷ symbol (Ident) 50 51 ∷ symbol (Ident) 52 53 ∷ symbol (Ident) 54 55 ∷ symbol (Ident) 56 63 ∷ symbol (Ident) 64 66 ∷ symbol (Ident) 67 68 ∷ symbol (Ident) 68 69 ∷ symbol (Ident) 70 73 ∷ symbol (Ident) 74 75 ∷ symbol (Ident) 75 76 ∷ symbol (Ident) 77 78 ∷ symbol (Ident) 78 79 ∷ symbol (Ident) 80 81 ∷ symbol (Ident) 81 82 ∷ symbol (Ident) 83 88 ∷ symbol (Int (pos 2)) 89 90 ∷ symbol (Ident) 90 91 ∷ symbol (Int (pos 3)) 92 93 ∷ symbol (Ident) 94 96 ∷ symbol (Ident) 97 104 ∷ symbol (Ident) 104 105 ∷ symbol (Ident) 106 115 ∷ symbol (Ident) 116 117 ∷ symbol (Ident) 117 118 ∷ symbol (Ident) 118 119 ∷ symbol (Ident) 119 120 ∷ symbol (Ident) 121 122 ∷ symbol (Ident) 122 123 ∷ symbol (Ident) 124 125 ∷ symbol (Ident) 125 126 ∷ symbol (Ident) 127 132 ∷ symbol (Ident) 133 135 ∷ symbol (Ident) 136 143 ∷ symbol (Ident) 143 144 ∷ symbol (Ident) 144 145 ∷ symbol (Ident) 146 149 ∷ symbol (Ident) 150 151 ∷ symbol (Ident) 151 152 ∷ symbol (Ident) 153 158 ∷ symbol (Ident) 159 160 ∷ symbol (Ident) 160 161 ∷ symbol (Ident) 161 162 ∷ symbol (Ident) 162 163 ∷ symbol (Ident) 163 164 ∷ symbol (Ident) 165 166 ∷ symbol (Ident) 166 167 ∷ symbol (Int (pos 0)) 167 168 ∷ symbol (Ident) 168 169 ∷ symbol (Ident) 169 170 ∷ symbol (Ident) 171 174 ∷ symbol (Ident) 175 176 ∷ symbol (Ident) 176 177 ∷ []) }; tree = record { module_word = 0; name = 1; semicolon = 0; imports = None; decls = (S.decls None (Some (record { type_word = 0; each = (record { name = (record { name = 4; star = None }); equal = 0; is = (S.Record 6 None (S.fields (record { first = (record { name = 7; star = None }); more = [] }) 0 (S.Named (record { name = 9; member = None }))) (S.next_fields 0 (S.fields (record { first = (record { name = 11; star = Some 0 }); more = [] }) 0 (S.Named (record { name = 14; member = None }))) S.no_more_fields) 0); semicolon = 0 } ∷ record { name = (record { name = 17; star = None }); equal = 0; is = (S.Pointer 19 0 (S.Named (record { name = 21; member = None }))); semicolon = 0 } ∷ []) })) (Some (record { var_word = 0; each = (record { names = (record { first = (record { name = 24; star = None }); more = [] }); colon = 0; of = (S.Named (record { name = 26; member = None })); semicolon = 0 } ∷ record { names = (record { first = (record { name = 28; star = None }); more = [] }); colon = 0; of = (S.Array 30 (S.only (S.simple None (S.term (S.Int 31) S.no_factor) S.no_term)) (S.next_expression 0 (S.only (S.simple None (S.term (S.Int 33) S.no_factor) S.no_term)) S.no_expression) 0 (S.Named (record { name = 35; member = None }))); semicolon = 0 } ∷ []) })) (S.procedure 0 (record { name = 38; star = None }) (Some (record { left_paren = 0; sections = Some (record { first = (record { var_word = None; first = 40; more = []; colon = 0; open_array = None; of = (record { name = 42; member = None }) }); more = (record { semicolon = 0; section = (record { var_word = None; first = 44; more = []; colon = 0; open_array = Some (record { array_word = 0; of_word = 0 }); of = (record { name = 48; member = None }) }) } ∷ []) }); right_paren = 0; result = None })) 0 (S.decls None None None S.no_procedure) None None 51 52 0 S.no_procedure)); body = (Some (record { begin_word = 0; stats = (S.stats (S.AssignOrCall (record { name = 55; selectors = (S.selected (S.Parens 0 (S.expressions (S.only (S.simple None (S.term (S.Designated 57 (S.selected (S.Arrow 0) S.no_selector)) S.no_factor) S.no_term)) (S.next_expression 0 (S.only (S.simple None (S.term (S.Designated 60 (S.selected (S.Index 0 (S.expressions (S.only (S.simple None (S.term (S.Int 62) S.no_factor) S.no_term)) S.no_expression) 0) S.no_selector)) S.no_factor) S.no_term)) S.no_expression)) 0) S.no_selector) }) None) S.no_stat) })); end_word = 0; end_name = 66; period = 0 } }
 
-pub legal_43 : checked (legal_43_0 ∷ []) ≡ Legal (record { records = (record { module_number = 0; base = None; level = 0; fields = (record { name = (120 ∷ []); exported = false; shape = H.Integer } ∷ record { name = (121 ∷ []); exported = true; shape = H.Char } ∷ []); cells = 2 } ∷ []); pointers = (Some 0 ∷ []); modules = (record { name = (77 ∷ []); objects = (record { name = (82 ∷ []); exported = false; entity = I.OfType (H.Record 0) } ∷ record { name = (80 ∷ []); exported = false; entity = I.OfType (H.Pointer 0) } ∷ record { name = (112 ∷ []); exported = false; entity = I.OfVariable 0 } ∷ record { name = (109 ∷ []); exported = false; entity = I.OfVariable 1 } ∷ record { name = (87 ∷ []); exported = false; entity = I.OfProcedure 0 } ∷ []); variables = ((H.Pointer 0) ∷ (H.Array 2 (H.Array 3 H.Integer)) ∷ []); body = 1 } ∷ []); procedures = (record { module_number = 0; line = 1; is_body = false; formals = (record { mode = TheMode.Place; variable = false; shape = (H.Record 0) } ∷ record { mode = TheMode.Open; variable = false; shape = (H.Open H.Integer) } ∷ []); result = H.Nothing; locals = []; texts = []; body = I.no_statement; answer = None } ∷ record { module_number = 0; line = 1; is_body = true; formals = []; result = H.Nothing; locals = []; texts = []; body = (I.next_statement (I.Invoke (I.Direct 0 (I.next_argument (I.ByPlace (I.of_type (I.Dereference (I.Load (I.of_type (I.Global 0 0) (H.Pointer 0)))) (H.Record 0))) (I.next_argument (I.ByOpen (I.of_type (I.Index (I.Global 0 1) (Some 2) (H.Array 3 H.Integer) (I.Literal 0)) (H.Array 3 H.Integer))) I.no_argument)))) I.no_statement); answer = None } ∷ []); imports_in = false })
+pub legal_43 : checked (legal_43_0 ∷ []) ≡ Legal (record { records = (record { module_number = 0; base = None; level = 0; fields = (record { name = (120 ∷ []); exported = false; shape = H.Integer } ∷ record { name = (121 ∷ []); exported = true; shape = H.Char } ∷ []); cells = 2; extent = record { bytes = 16; wide = true } } ∷ []); pointers = (Some 0 ∷ []); modules = (record { name = (77 ∷ []); objects = (record { name = (82 ∷ []); exported = false; entity = I.OfType (H.Record 0) } ∷ record { name = (80 ∷ []); exported = false; entity = I.OfType (H.Pointer 0) } ∷ record { name = (112 ∷ []); exported = false; entity = I.OfVariable 0 } ∷ record { name = (109 ∷ []); exported = false; entity = I.OfVariable 1 } ∷ record { name = (87 ∷ []); exported = false; entity = I.OfProcedure 0 } ∷ []); variables = ((H.Pointer 0) ∷ (H.Array 2 (H.Array 3 H.Integer)) ∷ []); body = 1 } ∷ []); procedures = (record { module_number = 0; line = 1; is_body = false; formals = (record { mode = TheMode.Place; variable = false; shape = (H.Record 0) } ∷ record { mode = TheMode.Open; variable = false; shape = (H.Open H.Integer) } ∷ []); result = H.Nothing; locals = []; texts = []; body = I.no_statement; answer = None } ∷ record { module_number = 0; line = 1; is_body = true; formals = []; result = H.Nothing; locals = []; texts = []; body = (I.next_statement (I.Invoke (I.Direct 0 (I.next_argument (I.ByPlace (I.of_type (I.Dereference (I.Load (I.of_type (I.Global 0 0) (H.Pointer 0)))) (H.Record 0))) (I.next_argument (I.ByOpen (I.of_type (I.Index (I.Global 0 1) (Some 2) (H.Array 3 H.Integer) (I.Literal 0)) (H.Array 3 H.Integer))) I.no_argument)))) I.no_statement); answer = None } ∷ []); imports_in = false })
 legal_43 = refl
 
 -- MODULE M; VAR i: INTEGER; t: ARRAY 8 OF CHAR; m: ARRAY 2, 3 OF INTEGER; BEGIN i := LEN(t) + LEN(m) + LEN(m[1]) END M.
@@ -363,7 +363,7 @@ legal_48 = refl
 abbrev legal_49_0 : Parsed
 legal_49_0 = record { source = record { bytes = (77 ∷ 79 ∷ 68 ∷ 85 ∷ 76 ∷ 69 ∷ 32 ∷ 77 ∷ 59 ∷ 32 ∷ 84 ∷ 89 ∷ 80 ∷ 69 ∷ 32 ∷ 82 ∷ 32 ∷ 61 ∷ 32 ∷ 82 ∷ 69 ∷ 67 ∷ 79 ∷ 82 ∷ 68 ∷ 32 ∷ 120 ∷ 58 ∷ 32 ∷ 73 ∷ 78 ∷ 84 ∷ 69 ∷ 71 ∷ 69 ∷ 82 ∷ 59 ∷ 32 ∷ 121 ∷ 42 ∷ 58 ∷ 32 ∷ 67 ∷ 72 ∷ 65 ∷ 82 ∷ 32 ∷ 69 ∷ 78 ∷ 68 ∷ 59 ∷ 32 ∷ 69 ∷ 32 ∷ 61 ∷ 32 ∷ 82 ∷ 69 ∷ 67 ∷ 79 ∷ 82 ∷ 68 ∷ 32 ∷ 40 ∷ 82 ∷ 41 ∷ 32 ∷ 122 ∷ 58 ∷ 32 ∷ 83 ∷ 69 ∷ 84 ∷ 32 ∷ 69 ∷ 78 ∷ 68 ∷ 59 ∷ 32 ∷ 80 ∷ 32 ∷ 61 ∷ 32 ∷ 80 ∷ 79 ∷ 73 ∷ 78 ∷ 84 ∷ 69 ∷ 82 ∷ 32 ∷ 84 ∷ 79 ∷ 32 ∷ 82 ∷ 59 ∷ 32 ∷ 81 ∷ 32 ∷ 61 ∷ 32 ∷ 80 ∷ 79 ∷ 73 ∷ 78 ∷ 84 ∷ 69 ∷ 82 ∷ 32 ∷ 84 ∷ 79 ∷ 32 ∷ 69 ∷ 59 ∷ 32 ∷ 86 ∷ 65 ∷ 82 ∷ 32 ∷ 112 ∷ 58 ∷ 32 ∷ 80 ∷ 59 ∷ 32 ∷ 113 ∷ 58 ∷ 32 ∷ 81 ∷ 59 ∷ 32 ∷ 66 ∷ 69 ∷ 71 ∷ 73 ∷ 78 ∷ 32 ∷ 78 ∷ 69 ∷ 87 ∷ 40 ∷ 112 ∷ 41 ∷ 59 ∷ 32 ∷ 78 ∷ 69 ∷ 87 ∷ 40 ∷ 113 ∷ 41 ∷ 32 ∷ 69 ∷ 78 ∷ 68 ∷ 32 ∷ 77 ∷ 46 ∷ []); symbols = (symbol (Ident) 0 6 ∷ symbol (Ident) 7 8 ∷ symbol (Ident) 8 9 ∷ symbol (Ident) 10 14 ∷ symbol (Ident) 15 16 ∷ symbol (Ident) 17 18 ∷ symbol (Ident) 19 25 ∷ symbol (Ident) 26 27 ∷ symbol (Ident) 27 28 ∷ symbol (Ident) 29 36 ∷ symbol (Ident) 36 37 ∷ symbol (Ident) 38 39 ∷ symbol (Ident) 39 40 ∷ symbol (Ident) 40 41 ∷ symbol (Ident) 42 46 ∷ symbol (Ident) 47 50 ∷ symbol (Ident) 50 51 ∷ symbol (Ident) 52 53 ∷ symbol (Ident) 54 55 ∷ symbol (Ident) 56 62 ∷ symbol (Ident) 63 64 ∷ symbol (Ident) 64 65 ∷ symbol (Ident) 65 66 ∷ symbol (Ident) 67 68 ∷ symbol (Ident) 68 69 ∷ symbol (Ident) 70 73 ∷ symbol (Ident) 74 77 ∷ symbol (Ident) 77 78 ∷ symbol (Ident) 79 80 ∷ symbol (Ident) 81 82 ∷ symbol (Ident) 83 90 ∷ symbol (Ident) 91 93 ∷ symbol (Ident) 94 95 ∷ symbol (Ident) 95 96 ∷ symbol (Ident) 97 98 ∷ symbol (Ident) 99 100 ∷ symbol (Ident) 101 108 ∷ symbol (Ident) 109 111 ∷ symbol (Ident) 112 113 ∷ symbol (Ident) 113 114 ∷ symbol (Ident) 115 118 ∷ symbol (Ident) 119 120 ∷ symbol (Ident) 120 121 ∷ symbol (Ident) 122 123 ∷ symbol (Ident) 123 124 ∷ symbol (Ident) 125 126 ∷ symbol (Ident) 126 127 ∷ symbol (Ident) 128 129 ∷ symbol (Ident) 129 130 ∷ symbol (Ident) 131 136 ∷ symbol (Ident) 137 140 ∷ symbol (Ident) 140 141 ∷ symbol (Ident) 141 142 ∷ symbol (Ident) 142 143 ∷ symbol (Ident) 143 144 ∷ symbol (Ident) 145 148 ∷ symbol (Ident) 148 149 ∷ symbol (Ident) 149 150 ∷ symbol (Ident) 150 151 ∷ symbol (Ident) 152 155 ∷ symbol (Ident) 156 157 ∷ symbol (Ident) 157 158 ∷ []) }; tree = record { module_word = 0; name = 1; semicolon = 0; imports = None; decls = (S.decls None (Some (record { type_word = 0; each = (record { name = (record { name = 4; star = None }); equal = 0; is = (S.Record 6 None (S.fields (record { first = (record { name = 7; star = None }); more = [] }) 0 (S.Named (record { name = 9; member = None }))) (S.next_fields 0 (S.fields (record { first = (record { name = 11; star = Some 0 }); more = [] }) 0 (S.Named (record { name = 14; member = None }))) S.no_more_fields) 0); semicolon = 0 } ∷ record { name = (record { name = 17; star = None }); equal = 0; is = (S.Record 19 (Some (record { left_paren = 0; name = (record { name = 21; member = None }); right_paren = 0 })) (S.fields (record { first = (record { name = 23; star = None }); more = [] }) 0 (S.Named (record { name = 25; member = None }))) S.no_more_fields 0); semicolon = 0 } ∷ record { name = (record { name = 28; star = None }); equal = 0; is = (S.Pointer 30 0 (S.Named (record { name = 32; member = None }))); semicolon = 0 } ∷ record { name = (record { name = 34; star = None }); equal = 0; is = (S.Pointer 36 0 (S.Named (record { name = 38; member = None }))); semicolon = 0 } ∷ []) })) (Some (record { var_word = 0; each = (record { names = (record { first = (record { name = 41; star = None }); more = [] }); colon = 0; of = (S.Named (record { name = 43; member = None })); semicolon = 0 } ∷ record { names = (record { first = (record { name = 45; star = None }); more = [] }); colon = 0; of = (S.Named (record { name = 47; member = None })); semicolon = 0 } ∷ []) })) S.no_procedure); body = (Some (record { begin_word = 0; stats = (S.stats (S.AssignOrCall (record { name = 50; selectors = (S.selected (S.Parens 0 (S.expressions (S.only (S.simple None (S.term (S.Designated 52 S.no_selector) S.no_factor) S.no_term)) S.no_expression) 0) S.no_selector) }) None) (S.next_stat 0 (S.AssignOrCall (record { name = 55; selectors = (S.selected (S.Parens 0 (S.expressions (S.only (S.simple None (S.term (S.Designated 57 S.no_selector) S.no_factor) S.no_term)) S.no_expression) 0) S.no_selector) }) None) S.no_stat)) })); end_word = 0; end_name = 60; period = 0 } }
 
-pub legal_49 : checked (legal_49_0 ∷ []) ≡ Legal (record { records = (record { module_number = 0; base = None; level = 0; fields = (record { name = (120 ∷ []); exported = false; shape = H.Integer } ∷ record { name = (121 ∷ []); exported = true; shape = H.Char } ∷ []); cells = 2 } ∷ record { module_number = 0; base = (Some 0); level = 1; fields = (record { name = (122 ∷ []); exported = false; shape = H.Set } ∷ []); cells = 3 } ∷ []); pointers = (Some 0 ∷ Some 1 ∷ []); modules = (record { name = (77 ∷ []); objects = (record { name = (82 ∷ []); exported = false; entity = I.OfType (H.Record 0) } ∷ record { name = (69 ∷ []); exported = false; entity = I.OfType (H.Record 1) } ∷ record { name = (80 ∷ []); exported = false; entity = I.OfType (H.Pointer 0) } ∷ record { name = (81 ∷ []); exported = false; entity = I.OfType (H.Pointer 1) } ∷ record { name = (112 ∷ []); exported = false; entity = I.OfVariable 0 } ∷ record { name = (113 ∷ []); exported = false; entity = I.OfVariable 1 } ∷ []); variables = ((H.Pointer 0) ∷ (H.Pointer 1) ∷ []); body = 0 } ∷ []); procedures = (record { module_number = 0; line = 1; is_body = true; formals = []; result = H.Nothing; locals = []; texts = []; body = (I.next_statement (I.New (I.of_type (I.Global 0 0) (H.Pointer 0))) (I.next_statement (I.New (I.of_type (I.Global 0 1) (H.Pointer 1))) I.no_statement)); answer = None } ∷ []); imports_in = false })
+pub legal_49 : checked (legal_49_0 ∷ []) ≡ Legal (record { records = (record { module_number = 0; base = None; level = 0; fields = (record { name = (120 ∷ []); exported = false; shape = H.Integer } ∷ record { name = (121 ∷ []); exported = true; shape = H.Char } ∷ []); cells = 2; extent = record { bytes = 16; wide = true } } ∷ record { module_number = 0; base = (Some 0); level = 1; fields = (record { name = (122 ∷ []); exported = false; shape = H.Set } ∷ []); cells = 3; extent = record { bytes = 24; wide = true } } ∷ []); pointers = (Some 0 ∷ Some 1 ∷ []); modules = (record { name = (77 ∷ []); objects = (record { name = (82 ∷ []); exported = false; entity = I.OfType (H.Record 0) } ∷ record { name = (69 ∷ []); exported = false; entity = I.OfType (H.Record 1) } ∷ record { name = (80 ∷ []); exported = false; entity = I.OfType (H.Pointer 0) } ∷ record { name = (81 ∷ []); exported = false; entity = I.OfType (H.Pointer 1) } ∷ record { name = (112 ∷ []); exported = false; entity = I.OfVariable 0 } ∷ record { name = (113 ∷ []); exported = false; entity = I.OfVariable 1 } ∷ []); variables = ((H.Pointer 0) ∷ (H.Pointer 1) ∷ []); body = 0 } ∷ []); procedures = (record { module_number = 0; line = 1; is_body = true; formals = []; result = H.Nothing; locals = []; texts = []; body = (I.next_statement (I.New (I.of_type (I.Global 0 0) (H.Pointer 0))) (I.next_statement (I.New (I.of_type (I.Global 0 1) (H.Pointer 1))) I.no_statement)); answer = None } ∷ []); imports_in = false })
 legal_49 = refl
 
 -- MODULE M; IMPORT Out; VAR i: INTEGER; c: CHAR; y: BYTE; t: ARRAY 8 OF CHAR; BEGIN Out.Char(''a''); Out.Char(c); Out.Int(y, i); Out.String(t); Out.String(''xyz''); Out.Ln; Out.Ln() END M.
@@ -412,14 +412,14 @@ legal_55 = refl
 abbrev legal_56_0 : Parsed
 legal_56_0 = record { source = record { bytes = (77 ∷ 79 ∷ 68 ∷ 85 ∷ 76 ∷ 69 ∷ 32 ∷ 77 ∷ 59 ∷ 32 ∷ 84 ∷ 89 ∷ 80 ∷ 69 ∷ 32 ∷ 82 ∷ 32 ∷ 61 ∷ 32 ∷ 82 ∷ 69 ∷ 67 ∷ 79 ∷ 82 ∷ 68 ∷ 32 ∷ 120 ∷ 58 ∷ 32 ∷ 73 ∷ 78 ∷ 84 ∷ 69 ∷ 71 ∷ 69 ∷ 82 ∷ 59 ∷ 32 ∷ 121 ∷ 42 ∷ 58 ∷ 32 ∷ 67 ∷ 72 ∷ 65 ∷ 82 ∷ 32 ∷ 69 ∷ 78 ∷ 68 ∷ 59 ∷ 32 ∷ 69 ∷ 32 ∷ 61 ∷ 32 ∷ 82 ∷ 69 ∷ 67 ∷ 79 ∷ 82 ∷ 68 ∷ 32 ∷ 40 ∷ 82 ∷ 41 ∷ 32 ∷ 122 ∷ 58 ∷ 32 ∷ 83 ∷ 69 ∷ 84 ∷ 32 ∷ 69 ∷ 78 ∷ 68 ∷ 59 ∷ 32 ∷ 80 ∷ 32 ∷ 61 ∷ 32 ∷ 80 ∷ 79 ∷ 73 ∷ 78 ∷ 84 ∷ 69 ∷ 82 ∷ 32 ∷ 84 ∷ 79 ∷ 32 ∷ 82 ∷ 59 ∷ 32 ∷ 81 ∷ 32 ∷ 61 ∷ 32 ∷ 80 ∷ 79 ∷ 73 ∷ 78 ∷ 84 ∷ 69 ∷ 82 ∷ 32 ∷ 84 ∷ 79 ∷ 32 ∷ 69 ∷ 59 ∷ 32 ∷ 86 ∷ 65 ∷ 82 ∷ 32 ∷ 98 ∷ 58 ∷ 32 ∷ 66 ∷ 79 ∷ 79 ∷ 76 ∷ 69 ∷ 65 ∷ 78 ∷ 59 ∷ 32 ∷ 112 ∷ 58 ∷ 32 ∷ 80 ∷ 59 ∷ 32 ∷ 113 ∷ 58 ∷ 32 ∷ 81 ∷ 59 ∷ 32 ∷ 66 ∷ 69 ∷ 71 ∷ 73 ∷ 78 ∷ 32 ∷ 98 ∷ 32 ∷ 58 ∷ 61 ∷ 32 ∷ 112 ∷ 32 ∷ 61 ∷ 32 ∷ 78 ∷ 73 ∷ 76 ∷ 59 ∷ 32 ∷ 98 ∷ 32 ∷ 58 ∷ 61 ∷ 32 ∷ 78 ∷ 73 ∷ 76 ∷ 32 ∷ 35 ∷ 32 ∷ 113 ∷ 59 ∷ 32 ∷ 98 ∷ 32 ∷ 58 ∷ 61 ∷ 32 ∷ 112 ∷ 32 ∷ 61 ∷ 32 ∷ 113 ∷ 59 ∷ 32 ∷ 98 ∷ 32 ∷ 58 ∷ 61 ∷ 32 ∷ 113 ∷ 32 ∷ 35 ∷ 32 ∷ 112 ∷ 32 ∷ 69 ∷ 78 ∷ 68 ∷ 32 ∷ 77 ∷ 46 ∷ []); symbols = (symbol (Ident) 0 6 ∷ symbol (Ident) 7 8 ∷ symbol (Ident) 8 9 ∷ symbol (Ident) 10 14 ∷ symbol (Ident) 15 16 ∷ symbol (Ident) 17 18 ∷ symbol (Ident) 19 25 ∷ symbol (Ident) 26 27 ∷ symbol (Ident) 27 28 ∷ symbol (Ident) 29 36 ∷ symbol (Ident) 36 37 ∷ symbol (Ident) 38 39 ∷ symbol (Ident) 39 40 ∷ symbol (Ident) 40 41 ∷ symbol (Ident) 42 46 ∷ symbol (Ident) 47 50 ∷ symbol (Ident) 50 51 ∷ symbol (Ident) 52 53 ∷ symbol (Ident) 54 55 ∷ symbol (Ident) 56 62 ∷ symbol (Ident) 63 64 ∷ symbol (Ident) 64 65 ∷ symbol (Ident) 65 66 ∷ symbol (Ident) 67 68 ∷ symbol (Ident) 68 69 ∷ symbol (Ident) 70 73 ∷ symbol (Ident) 74 77 ∷ symbol (Ident) 77 78 ∷ symbol (Ident) 79 80 ∷ symbol (Ident) 81 82 ∷ symbol (Ident) 83 90 ∷ symbol (Ident) 91 93 ∷ symbol (Ident) 94 95 ∷ symbol (Ident) 95 96 ∷ symbol (Ident) 97 98 ∷ symbol (Ident) 99 100 ∷ symbol (Ident) 101 108 ∷ symbol (Ident) 109 111 ∷ symbol (Ident) 112 113 ∷ symbol (Ident) 113 114 ∷ symbol (Ident) 115 118 ∷ symbol (Ident) 119 120 ∷ symbol (Ident) 120 121 ∷ symbol (Ident) 122 129 ∷ symbol (Ident) 129 130 ∷ symbol (Ident) 131 132 ∷ symbol (Ident) 132 133 ∷ symbol (Ident) 134 135 ∷ symbol (Ident) 135 136 ∷ symbol (Ident) 137 138 ∷ symbol (Ident) 138 139 ∷ symbol (Ident) 140 141 ∷ symbol (Ident) 141 142 ∷ symbol (Ident) 143 148 ∷ symbol (Ident) 149 150 ∷ symbol (Ident) 151 153 ∷ symbol (Ident) 154 155 ∷ symbol (Ident) 156 157 ∷ symbol (Ident) 158 161 ∷ symbol (Ident) 161 162 ∷ symbol (Ident) 163 164 ∷ symbol (Ident) 165 167 ∷ symbol (Ident) 168 171 ∷ symbol (Ident) 172 173 ∷ symbol (Ident) 174 175 ∷ symbol (Ident) 175 176 ∷ symbol (Ident) 177 178 ∷ symbol (Ident) 179 181 ∷ symbol (Ident) 182 183 ∷ symbol (Ident) 184 185 ∷ symbol (Ident) 186 187 ∷ symbol (Ident) 187 188 ∷ symbol (Ident) 189 190 ∷ symbol (Ident) 191 193 ∷ symbol (Ident) 194 195 ∷ symbol (Ident) 196 197 ∷ symbol (Ident) 198 199 ∷ symbol (Ident) 200 203 ∷ symbol (Ident) 204 205 ∷ symbol (Ident) 205 206 ∷ []) }; tree = record { module_word = 0; name = 1; semicolon = 0; imports = None; decls = (S.decls None (Some (record { type_word = 0; each = (record { name = (record { name = 4; star = None }); equal = 0; is = (S.Record 6 None (S.fields (record { first = (record { name = 7; star = None }); more = [] }) 0 (S.Named (record { name = 9; member = None }))) (S.next_fields 0 (S.fields (record { first = (record { name = 11; star = Some 0 }); more = [] }) 0 (S.Named (record { name = 14; member = None }))) S.no_more_fields) 0); semicolon = 0 } ∷ record { name = (record { name = 17; star = None }); equal = 0; is = (S.Record 19 (Some (record { left_paren = 0; name = (record { name = 21; member = None }); right_paren = 0 })) (S.fields (record { first = (record { name = 23; star = None }); more = [] }) 0 (S.Named (record { name = 25; member = None }))) S.no_more_fields 0); semicolon = 0 } ∷ record { name = (record { name = 28; star = None }); equal = 0; is = (S.Pointer 30 0 (S.Named (record { name = 32; member = None }))); semicolon = 0 } ∷ record { name = (record { name = 34; star = None }); equal = 0; is = (S.Pointer 36 0 (S.Named (record { name = 38; member = None }))); semicolon = 0 } ∷ []) })) (Some (record { var_word = 0; each = (record { names = (record { first = (record { name = 41; star = None }); more = [] }); colon = 0; of = (S.Named (record { name = 43; member = None })); semicolon = 0 } ∷ record { names = (record { first = (record { name = 45; star = None }); more = [] }); colon = 0; of = (S.Named (record { name = 47; member = None })); semicolon = 0 } ∷ record { names = (record { first = (record { name = 49; star = None }); more = [] }); colon = 0; of = (S.Named (record { name = 51; member = None })); semicolon = 0 } ∷ []) })) S.no_procedure); body = (Some (record { begin_word = 0; stats = (S.stats (S.AssignOrCall (record { name = 54; selectors = S.no_selector }) (Some (record { becomes = 0; value = (S.compared (S.simple None (S.term (S.Designated 56 S.no_selector) S.no_factor) S.no_term) (TheRelation.Equal 57) (S.simple None (S.term (S.Nil 58) S.no_factor) S.no_term)) }))) (S.next_stat 0 (S.AssignOrCall (record { name = 60; selectors = S.no_selector }) (Some (record { becomes = 0; value = (S.compared (S.simple None (S.term (S.Nil 62) S.no_factor) S.no_term) (TheRelation.NotEqual 63) (S.simple None (S.term (S.Designated 64 S.no_selector) S.no_factor) S.no_term)) }))) (S.next_stat 0 (S.AssignOrCall (record { name = 66; selectors = S.no_selector }) (Some (record { becomes = 0; value = (S.compared (S.simple None (S.term (S.Designated 68 S.no_selector) S.no_factor) S.no_term) (TheRelation.Equal 69) (S.simple None (S.term (S.Designated 70 S.no_selector) S.no_factor) S.no_term)) }))) (S.next_stat 0 (S.AssignOrCall (record { name = 72; selectors = S.no_selector }) (Some (record { becomes = 0; value = (S.compared (S.simple None (S.term (S.Designated 74 S.no_selector) S.no_factor) S.no_term) (TheRelation.NotEqual 75) (S.simple None (S.term (S.Designated 76 S.no_selector) S.no_factor) S.no_term)) }))) S.no_stat)))) })); end_word = 0; end_name = 78; period = 0 } }
 
-pub legal_56 : checked (legal_56_0 ∷ []) ≡ Legal (record { records = (record { module_number = 0; base = None; level = 0; fields = (record { name = (120 ∷ []); exported = false; shape = H.Integer } ∷ record { name = (121 ∷ []); exported = true; shape = H.Char } ∷ []); cells = 2 } ∷ record { module_number = 0; base = (Some 0); level = 1; fields = (record { name = (122 ∷ []); exported = false; shape = H.Set } ∷ []); cells = 3 } ∷ []); pointers = (Some 0 ∷ Some 1 ∷ []); modules = (record { name = (77 ∷ []); objects = (record { name = (82 ∷ []); exported = false; entity = I.OfType (H.Record 0) } ∷ record { name = (69 ∷ []); exported = false; entity = I.OfType (H.Record 1) } ∷ record { name = (80 ∷ []); exported = false; entity = I.OfType (H.Pointer 0) } ∷ record { name = (81 ∷ []); exported = false; entity = I.OfType (H.Pointer 1) } ∷ record { name = (98 ∷ []); exported = false; entity = I.OfVariable 0 } ∷ record { name = (112 ∷ []); exported = false; entity = I.OfVariable 1 } ∷ record { name = (113 ∷ []); exported = false; entity = I.OfVariable 2 } ∷ []); variables = (H.Boolean ∷ (H.Pointer 0) ∷ (H.Pointer 1) ∷ []); body = 0 } ∷ []); procedures = (record { module_number = 0; line = 1; is_body = true; formals = []; result = H.Nothing; locals = []; texts = []; body = (I.next_statement (I.Assign (I.of_type (I.Global 0 0) H.Boolean) (record { form = (I.Compare TheComparison.Equal (I.Load (I.of_type (I.Global 0 1) (H.Pointer 0))) (I.Literal 0)); shape = H.Boolean })) (I.next_statement (I.Assign (I.of_type (I.Global 0 0) H.Boolean) (record { form = (I.Compare TheComparison.Unequal (I.Literal 0) (I.Load (I.of_type (I.Global 0 2) (H.Pointer 1)))); shape = H.Boolean })) (I.next_statement (I.Assign (I.of_type (I.Global 0 0) H.Boolean) (record { form = (I.Compare TheComparison.Equal (I.Load (I.of_type (I.Global 0 1) (H.Pointer 0))) (I.Load (I.of_type (I.Global 0 2) (H.Pointer 1)))); shape = H.Boolean })) (I.next_statement (I.Assign (I.of_type (I.Global 0 0) H.Boolean) (record { form = (I.Compare TheComparison.Unequal (I.Load (I.of_type (I.Global 0 2) (H.Pointer 1))) (I.Load (I.of_type (I.Global 0 1) (H.Pointer 0)))); shape = H.Boolean })) I.no_statement)))); answer = None } ∷ []); imports_in = false })
+pub legal_56 : checked (legal_56_0 ∷ []) ≡ Legal (record { records = (record { module_number = 0; base = None; level = 0; fields = (record { name = (120 ∷ []); exported = false; shape = H.Integer } ∷ record { name = (121 ∷ []); exported = true; shape = H.Char } ∷ []); cells = 2; extent = record { bytes = 16; wide = true } } ∷ record { module_number = 0; base = (Some 0); level = 1; fields = (record { name = (122 ∷ []); exported = false; shape = H.Set } ∷ []); cells = 3; extent = record { bytes = 24; wide = true } } ∷ []); pointers = (Some 0 ∷ Some 1 ∷ []); modules = (record { name = (77 ∷ []); objects = (record { name = (82 ∷ []); exported = false; entity = I.OfType (H.Record 0) } ∷ record { name = (69 ∷ []); exported = false; entity = I.OfType (H.Record 1) } ∷ record { name = (80 ∷ []); exported = false; entity = I.OfType (H.Pointer 0) } ∷ record { name = (81 ∷ []); exported = false; entity = I.OfType (H.Pointer 1) } ∷ record { name = (98 ∷ []); exported = false; entity = I.OfVariable 0 } ∷ record { name = (112 ∷ []); exported = false; entity = I.OfVariable 1 } ∷ record { name = (113 ∷ []); exported = false; entity = I.OfVariable 2 } ∷ []); variables = (H.Boolean ∷ (H.Pointer 0) ∷ (H.Pointer 1) ∷ []); body = 0 } ∷ []); procedures = (record { module_number = 0; line = 1; is_body = true; formals = []; result = H.Nothing; locals = []; texts = []; body = (I.next_statement (I.Assign (I.of_type (I.Global 0 0) H.Boolean) (record { form = (I.Compare TheComparison.Equal (I.Load (I.of_type (I.Global 0 1) (H.Pointer 0))) (I.Literal 0)); shape = H.Boolean })) (I.next_statement (I.Assign (I.of_type (I.Global 0 0) H.Boolean) (record { form = (I.Compare TheComparison.Unequal (I.Literal 0) (I.Load (I.of_type (I.Global 0 2) (H.Pointer 1)))); shape = H.Boolean })) (I.next_statement (I.Assign (I.of_type (I.Global 0 0) H.Boolean) (record { form = (I.Compare TheComparison.Equal (I.Load (I.of_type (I.Global 0 1) (H.Pointer 0))) (I.Load (I.of_type (I.Global 0 2) (H.Pointer 1)))); shape = H.Boolean })) (I.next_statement (I.Assign (I.of_type (I.Global 0 0) H.Boolean) (record { form = (I.Compare TheComparison.Unequal (I.Load (I.of_type (I.Global 0 2) (H.Pointer 1))) (I.Load (I.of_type (I.Global 0 1) (H.Pointer 0)))); shape = H.Boolean })) I.no_statement)))); answer = None } ∷ []); imports_in = false })
 legal_56 = refl
 
 -- MODULE M; TYPE R = RECORD x: INTEGER; y*: CHAR END; E = RECORD (R) z: SET END; P = POINTER TO R; Q = POINTER TO E; VAR b: BOOLEAN; y: BYTE; p: P; q: Q; BEGIN b := p IS Q; q := p(Q); b := p(Q) # q; p(Q).z := {}; p.x := q.x; q.y := ''c'' END M.
 abbrev legal_57_0 : Parsed
 legal_57_0 = record { source = record { bytes = (77 ∷ 79 ∷ 68 ∷ 85 ∷ 76 ∷ 69 ∷ 32 ∷ 77 ∷ 59 ∷ 32 ∷ 84 ∷ 89 ∷ 80 ∷ 69 ∷ 32 ∷ 82 ∷ 32 ∷ 61 ∷ 32 ∷ 82 ∷ 69 ∷ 67 ∷ 79 ∷ 82 ∷ 68 ∷ 32 ∷ 120 ∷ 58 ∷ 32 ∷ 73 ∷ 78 ∷ 84 ∷ 69 ∷ 71 ∷ 69 ∷ 82 ∷ 59 ∷ 32 ∷ 121 ∷ 42 ∷ 58 ∷ 32 ∷ 67 ∷ 72 ∷ 65 ∷ 82 ∷ 32 ∷ 69 ∷ 78 ∷ 68 ∷ 59 ∷ 32 ∷ 69 ∷ 32 ∷ 61 ∷ 32 ∷ 82 ∷ 69 ∷ 67 ∷ 79 ∷ 82 ∷ 68 ∷ 32 ∷ 40 ∷ 82 ∷ 41 ∷ 32 ∷ 122 ∷ 58 ∷ 32 ∷ 83 ∷ 69 ∷ 84 ∷ 32 ∷ 69 ∷ 78 ∷ 68 ∷ 59 ∷ 32 ∷ 80 ∷ 32 ∷ 61 ∷ 32 ∷ 80 ∷ 79 ∷ 73 ∷ 78 ∷ 84 ∷ 69 ∷ 82 ∷ 32 ∷ 84 ∷ 79 ∷ 32 ∷ 82 ∷ 59 ∷ 32 ∷ 81 ∷ 32 ∷ 61 ∷ 32 ∷ 80 ∷ 79 ∷ 73 ∷ 78 ∷ 84 ∷ 69 ∷ 82 ∷ 32 ∷ 84 ∷ 79 ∷ 32 ∷ 69 ∷ 59 ∷ 32 ∷ 86 ∷ 65 ∷ 82 ∷ 32 ∷ 98 ∷ 58 ∷ 32 ∷ 66 ∷ 79 ∷ 79 ∷ 76 ∷ 69 ∷ 65 ∷ 78 ∷ 59 ∷ 32 ∷ 121 ∷ 58 ∷ 32 ∷ 66 ∷ 89 ∷ 84 ∷ 69 ∷ 59 ∷ 32 ∷ 112 ∷ 58 ∷ 32 ∷ 80 ∷ 59 ∷ 32 ∷ 113 ∷ 58 ∷ 32 ∷ 81 ∷ 59 ∷ 32 ∷ 66 ∷ 69 ∷ 71 ∷ 73 ∷ 78 ∷ 32 ∷ 98 ∷ 32 ∷ 58 ∷ 61 ∷ 32 ∷ 112 ∷ 32 ∷ 73 ∷ 83 ∷ 32 ∷ 81 ∷ 59 ∷ 32 ∷ 113 ∷ 32 ∷ 58 ∷ 61 ∷ 32 ∷ 112 ∷ 40 ∷ 81 ∷ 41 ∷ 59 ∷ 32 ∷ 98 ∷ 32 ∷ 58 ∷ 61 ∷ 32 ∷ 112 ∷ 40 ∷ 81 ∷ 41 ∷ 32 ∷ 35 ∷ 32 ∷ 113 ∷ 59 ∷ 32 ∷ 112 ∷ 40 ∷ 81 ∷ 41 ∷ 46 ∷ 122 ∷ 32 ∷ 58 ∷ 61 ∷ 32 ∷ 123 ∷ 125 ∷ 59 ∷ 32 ∷ 112 ∷ 46 ∷ 120 ∷ 32 ∷ 58 ∷ 61 ∷ 32 ∷ 113 ∷ 46 ∷ 120 ∷ 59 ∷ 32 ∷ 113 ∷ 46 ∷ 121 ∷ 32 ∷ 58 ∷ 61 ∷ 32 ∷ 34 ∷ 99 ∷ 34 ∷ 32 ∷ 69 ∷ 78 ∷ 68 ∷ 32 ∷ 77 ∷ 46 ∷ []); symbols = (symbol (Ident) 0 6 ∷ symbol (Ident) 7 8 ∷ symbol (Ident) 8 9 ∷ symbol (Ident) 10 14 ∷ symbol (Ident) 15 16 ∷ symbol (Ident) 17 18 ∷ symbol (Ident) 19 25 ∷ symbol (Ident) 26 27 ∷ symbol (Ident) 27 28 ∷ symbol (Ident) 29 36 ∷ symbol (Ident) 36 37 ∷ symbol (Ident) 38 39 ∷ symbol (Ident) 39 40 ∷ symbol (Ident) 40 41 ∷ symbol (Ident) 42 46 ∷ symbol (Ident) 47 50 ∷ symbol (Ident) 50 51 ∷ symbol (Ident) 52 53 ∷ symbol (Ident) 54 55 ∷ symbol (Ident) 56 62 ∷ symbol (Ident) 63 64 ∷ symbol (Ident) 64 65 ∷ symbol (Ident) 65 66 ∷ symbol (Ident) 67 68 ∷ symbol (Ident) 68 69 ∷ symbol (Ident) 70 73 ∷ symbol (Ident) 74 77 ∷ symbol (Ident) 77 78 ∷ symbol (Ident) 79 80 ∷ symbol (Ident) 81 82 ∷ symbol (Ident) 83 90 ∷ symbol (Ident) 91 93 ∷ symbol (Ident) 94 95 ∷ symbol (Ident) 95 96 ∷ symbol (Ident) 97 98 ∷ symbol (Ident) 99 100 ∷ symbol (Ident) 101 108 ∷ symbol (Ident) 109 111 ∷ symbol (Ident) 112 113 ∷ symbol (Ident) 113 114 ∷ symbol (Ident) 115 118 ∷ symbol (Ident) 119 120 ∷ symbol (Ident) 120 121 ∷ symbol (Ident) 122 129 ∷ symbol (Ident) 129 130 ∷ symbol (Ident) 131 132 ∷ symbol (Ident) 132 133 ∷ symbol (Ident) 134 138 ∷ symbol (Ident) 138 139 ∷ symbol (Ident) 140 141 ∷ symbol (Ident) 141 142 ∷ symbol (Ident) 143 144 ∷ symbol (Ident) 144 145 ∷ symbol (Ident) 146 147 ∷ symbol (Ident) 147 148 ∷ symbol (Ident) 149 150 ∷ symbol (Ident) 150 151 ∷ symbol (Ident) 152 157 ∷ symbol (Ident) 158 159 ∷ symbol (Ident) 160 162 ∷ symbol (Ident) 163 164 ∷ symbol (Ident) 165 167 ∷ symbol (Ident) 168 169 ∷ symbol (Ident) 169 170 ∷ symbol (Ident) 171 172 ∷ symbol (Ident) 173 175 ∷ symbol (Ident) 176 177 ∷ symbol (Ident) 177 178 ∷ symbol (Ident) 178 179 ∷ symbol (Ident) 179 180 ∷ symbol (Ident) 180 181 ∷ symbol (Ident) 182 183 ∷ symbol (Ident) 184 186 ∷ symbol (Ident) 187 188 ∷ symbol (Ident) 188 189 ∷ symbol (Ident) 189 190 ∷ symbol (Ident) 190 191 ∷ symbol (Ident) 192 193 ∷ symbol (Ident) 194 195 ∷ symbol (Ident) 195 196 ∷ symbol (Ident) 197 198 ∷ symbol (Ident) 198 199 ∷ symbol (Ident) 199 200 ∷ symbol (Ident) 200 201 ∷ symbol (Ident) 201 202 ∷ symbol (Ident) 202 203 ∷ symbol (Ident) 204 206 ∷ symbol (Ident) 207 208 ∷ symbol (Ident) 208 209 ∷ symbol (Ident) 209 210 ∷ symbol (Ident) 211 212 ∷ symbol (Ident) 212 213 ∷ symbol (Ident) 213 214 ∷ symbol (Ident) 215 217 ∷ symbol (Ident) 218 219 ∷ symbol (Ident) 219 220 ∷ symbol (Ident) 220 221 ∷ symbol (Ident) 221 222 ∷ symbol (Ident) 223 224 ∷ symbol (Ident) 224 225 ∷ symbol (Ident) 225 226 ∷ symbol (Ident) 227 229 ∷ symbol (TheKind.Text) 230 233 ∷ symbol (Ident) 234 237 ∷ symbol (Ident) 238 239 ∷ symbol (Ident) 239 240 ∷ []) }; tree = record { module_word = 0; name = 1; semicolon = 0; imports = None; decls = (S.decls None (Some (record { type_word = 0; each = (record { name = (record { name = 4; star = None }); equal = 0; is = (S.Record 6 None (S.fields (record { first = (record { name = 7; star = None }); more = [] }) 0 (S.Named (record { name = 9; member = None }))) (S.next_fields 0 (S.fields (record { first = (record { name = 11; star = Some 0 }); more = [] }) 0 (S.Named (record { name = 14; member = None }))) S.no_more_fields) 0); semicolon = 0 } ∷ record { name = (record { name = 17; star = None }); equal = 0; is = (S.Record 19 (Some (record { left_paren = 0; name = (record { name = 21; member = None }); right_paren = 0 })) (S.fields (record { first = (record { name = 23; star = None }); more = [] }) 0 (S.Named (record { name = 25; member = None }))) S.no_more_fields 0); semicolon = 0 } ∷ record { name = (record { name = 28; star = None }); equal = 0; is = (S.Pointer 30 0 (S.Named (record { name = 32; member = None }))); semicolon = 0 } ∷ record { name = (record { name = 34; star = None }); equal = 0; is = (S.Pointer 36 0 (S.Named (record { name = 38; member = None }))); semicolon = 0 } ∷ []) })) (Some (record { var_word = 0; each = (record { names = (record { first = (record { name = 41; star = None }); more = [] }); colon = 0; of = (S.Named (record { name = 43; member = None })); semicolon = 0 } ∷ record { names = (record { first = (record { name = 45; star = None }); more = [] }); colon = 0; of = (S.Named (record { name = 47; member = None })); semicolon = 0 } ∷ record { names = (record { first = (record { name = 49; star = None }); more = [] }); colon = 0; of = (S.Named (record { name = 51; member = None })); semicolon = 0 } ∷ record { names = (record { first = (record { name = 53; star = None }); more = [] }); colon = 0; of = (S.Named (record { name = 55; member = None })); semicolon = 0 } ∷ []) })) S.no_procedure); body = (Some (record { begin_word = 0; stats = (S.stats (S.AssignOrCall (record { name = 58; selectors = S.no_selector }) (Some (record { becomes = 0; value = (S.compared (S.simple None (S.term (S.Designated 60 S.no_selector) S.no_factor) S.no_term) (TheRelation.Is 61) (S.simple None (S.term (S.Designated 62 S.no_selector) S.no_factor) S.no_term)) }))) (S.next_stat 0 (S.AssignOrCall (record { name = 64; selectors = S.no_selector }) (Some (record { becomes = 0; value = (S.only (S.simple None (S.term (S.Designated 66 (S.selected (S.Parens 0 (S.expressions (S.only (S.simple None (S.term (S.Designated 68 S.no_selector) S.no_factor) S.no_term)) S.no_expression) 0) S.no_selector)) S.no_factor) S.no_term)) }))) (S.next_stat 0 (S.AssignOrCall (record { name = 71; selectors = S.no_selector }) (Some (record { becomes = 0; value = (S.compared (S.simple None (S.term (S.Designated 73 (S.selected (S.Parens 0 (S.expressions (S.only (S.simple None (S.term (S.Designated 75 S.no_selector) S.no_factor) S.no_term)) S.no_expression) 0) S.no_selector)) S.no_factor) S.no_term) (TheRelation.NotEqual 77) (S.simple None (S.term (S.Designated 78 S.no_selector) S.no_factor) S.no_term)) }))) (S.next_stat 0 (S.AssignOrCall (record { name = 80; selectors = (S.selected (S.Parens 0 (S.expressions (S.only (S.simple None (S.term (S.Designated 82 S.no_selector) S.no_factor) S.no_term)) S.no_expression) 0) (S.selected (S.Field 0 85) S.no_selector)) }) (Some (record { becomes = 0; value = (S.only (S.simple None (S.term (S.EmptySet 87 0) S.no_factor) S.no_term)) }))) (S.next_stat 0 (S.AssignOrCall (record { name = 90; selectors = (S.selected (S.Field 0 92) S.no_selector) }) (Some (record { becomes = 0; value = (S.only (S.simple None (S.term (S.Designated 94 (S.selected (S.Field 0 96) S.no_selector)) S.no_factor) S.no_term)) }))) (S.next_stat 0 (S.AssignOrCall (record { name = 98; selectors = (S.selected (S.Field 0 100) S.no_selector) }) (Some (record { becomes = 0; value = (S.only (S.simple None (S.term (S.Text 102) S.no_factor) S.no_term)) }))) S.no_stat)))))) })); end_word = 0; end_name = 104; period = 0 } }
 
-pub legal_57 : checked (legal_57_0 ∷ []) ≡ Legal (record { records = (record { module_number = 0; base = None; level = 0; fields = (record { name = (120 ∷ []); exported = false; shape = H.Integer } ∷ record { name = (121 ∷ []); exported = true; shape = H.Char } ∷ []); cells = 2 } ∷ record { module_number = 0; base = (Some 0); level = 1; fields = (record { name = (122 ∷ []); exported = false; shape = H.Set } ∷ []); cells = 3 } ∷ []); pointers = (Some 0 ∷ Some 1 ∷ []); modules = (record { name = (77 ∷ []); objects = (record { name = (82 ∷ []); exported = false; entity = I.OfType (H.Record 0) } ∷ record { name = (69 ∷ []); exported = false; entity = I.OfType (H.Record 1) } ∷ record { name = (80 ∷ []); exported = false; entity = I.OfType (H.Pointer 0) } ∷ record { name = (81 ∷ []); exported = false; entity = I.OfType (H.Pointer 1) } ∷ record { name = (98 ∷ []); exported = false; entity = I.OfVariable 0 } ∷ record { name = (121 ∷ []); exported = false; entity = I.OfVariable 1 } ∷ record { name = (112 ∷ []); exported = false; entity = I.OfVariable 2 } ∷ record { name = (113 ∷ []); exported = false; entity = I.OfVariable 3 } ∷ []); variables = (H.Boolean ∷ H.Byte ∷ (H.Pointer 0) ∷ (H.Pointer 1) ∷ []); body = 0 } ∷ []); procedures = (record { module_number = 0; line = 1; is_body = true; formals = []; result = H.Nothing; locals = []; texts = []; body = (I.next_statement (I.Assign (I.of_type (I.Global 0 0) H.Boolean) (record { form = (I.IsPointer (I.Load (I.of_type (I.Global 0 2) (H.Pointer 0))) 1); shape = H.Boolean })) (I.next_statement (I.Assign (I.of_type (I.Global 0 3) (H.Pointer 1)) (record { form = (I.Guard (I.Load (I.of_type (I.Global 0 2) (H.Pointer 0))) 1); shape = (H.Pointer 1) })) (I.next_statement (I.Assign (I.of_type (I.Global 0 0) H.Boolean) (record { form = (I.Compare TheComparison.Unequal (I.Guard (I.Load (I.of_type (I.Global 0 2) (H.Pointer 0))) 1) (I.Load (I.of_type (I.Global 0 3) (H.Pointer 1)))); shape = H.Boolean })) (I.next_statement (I.Assign (I.of_type (I.Field (I.Dereference (I.Guard (I.Load (I.of_type (I.Global 0 2) (H.Pointer 0))) 1)) 1 0) H.Set) (record { form = (I.Literal 0); shape = H.Set })) (I.next_statement (I.Assign (I.of_type (I.Field (I.Dereference (I.Load (I.of_type (I.Global 0 2) (H.Pointer 0)))) 0 0) H.Integer) (record { form = (I.Load (I.of_type (I.Field (I.Dereference (I.Load (I.of_type (I.Global 0 3) (H.Pointer 1)))) 0 0) H.Integer)); shape = H.Integer })) (I.next_statement (I.Assign (I.of_type (I.Field (I.Dereference (I.Load (I.of_type (I.Global 0 3) (H.Pointer 1)))) 0 1) H.Char) (record { form = (I.Literal 99); shape = H.Char })) I.no_statement)))))); answer = None } ∷ []); imports_in = false })
+pub legal_57 : checked (legal_57_0 ∷ []) ≡ Legal (record { records = (record { module_number = 0; base = None; level = 0; fields = (record { name = (120 ∷ []); exported = false; shape = H.Integer } ∷ record { name = (121 ∷ []); exported = true; shape = H.Char } ∷ []); cells = 2; extent = record { bytes = 16; wide = true } } ∷ record { module_number = 0; base = (Some 0); level = 1; fields = (record { name = (122 ∷ []); exported = false; shape = H.Set } ∷ []); cells = 3; extent = record { bytes = 24; wide = true } } ∷ []); pointers = (Some 0 ∷ Some 1 ∷ []); modules = (record { name = (77 ∷ []); objects = (record { name = (82 ∷ []); exported = false; entity = I.OfType (H.Record 0) } ∷ record { name = (69 ∷ []); exported = false; entity = I.OfType (H.Record 1) } ∷ record { name = (80 ∷ []); exported = false; entity = I.OfType (H.Pointer 0) } ∷ record { name = (81 ∷ []); exported = false; entity = I.OfType (H.Pointer 1) } ∷ record { name = (98 ∷ []); exported = false; entity = I.OfVariable 0 } ∷ record { name = (121 ∷ []); exported = false; entity = I.OfVariable 1 } ∷ record { name = (112 ∷ []); exported = false; entity = I.OfVariable 2 } ∷ record { name = (113 ∷ []); exported = false; entity = I.OfVariable 3 } ∷ []); variables = (H.Boolean ∷ H.Byte ∷ (H.Pointer 0) ∷ (H.Pointer 1) ∷ []); body = 0 } ∷ []); procedures = (record { module_number = 0; line = 1; is_body = true; formals = []; result = H.Nothing; locals = []; texts = []; body = (I.next_statement (I.Assign (I.of_type (I.Global 0 0) H.Boolean) (record { form = (I.IsPointer (I.Load (I.of_type (I.Global 0 2) (H.Pointer 0))) 1); shape = H.Boolean })) (I.next_statement (I.Assign (I.of_type (I.Global 0 3) (H.Pointer 1)) (record { form = (I.Guard (I.Load (I.of_type (I.Global 0 2) (H.Pointer 0))) 1); shape = (H.Pointer 1) })) (I.next_statement (I.Assign (I.of_type (I.Global 0 0) H.Boolean) (record { form = (I.Compare TheComparison.Unequal (I.Guard (I.Load (I.of_type (I.Global 0 2) (H.Pointer 0))) 1) (I.Load (I.of_type (I.Global 0 3) (H.Pointer 1)))); shape = H.Boolean })) (I.next_statement (I.Assign (I.of_type (I.Field (I.Dereference (I.Guard (I.Load (I.of_type (I.Global 0 2) (H.Pointer 0))) 1)) 1 0) H.Set) (record { form = (I.Literal 0); shape = H.Set })) (I.next_statement (I.Assign (I.of_type (I.Field (I.Dereference (I.Load (I.of_type (I.Global 0 2) (H.Pointer 0)))) 0 0) H.Integer) (record { form = (I.Load (I.of_type (I.Field (I.Dereference (I.Load (I.of_type (I.Global 0 3) (H.Pointer 1)))) 0 0) H.Integer)); shape = H.Integer })) (I.next_statement (I.Assign (I.of_type (I.Field (I.Dereference (I.Load (I.of_type (I.Global 0 3) (H.Pointer 1)))) 0 1) H.Char) (record { form = (I.Literal 99); shape = H.Char })) I.no_statement)))))); answer = None } ∷ []); imports_in = false })
 legal_57 = refl
 
 -- MODULE M; VAR i: INTEGER; b: BOOLEAN; BEGIN IF b THEN i := 1 ELSIF i = 2 THEN ELSIF b THEN i := 2 ELSE i := 3 END END M.
@@ -503,7 +503,7 @@ scope_1 = refl
 abbrev scope_2_0 : Parsed
 scope_2_0 = record { source = record { bytes = (77 ∷ 79 ∷ 68 ∷ 85 ∷ 76 ∷ 69 ∷ 32 ∷ 77 ∷ 59 ∷ 32 ∷ 84 ∷ 89 ∷ 80 ∷ 69 ∷ 32 ∷ 76 ∷ 32 ∷ 61 ∷ 32 ∷ 80 ∷ 79 ∷ 73 ∷ 78 ∷ 84 ∷ 69 ∷ 82 ∷ 32 ∷ 84 ∷ 79 ∷ 32 ∷ 82 ∷ 59 ∷ 32 ∷ 82 ∷ 32 ∷ 61 ∷ 32 ∷ 82 ∷ 69 ∷ 67 ∷ 79 ∷ 82 ∷ 68 ∷ 32 ∷ 110 ∷ 58 ∷ 32 ∷ 76 ∷ 59 ∷ 32 ∷ 109 ∷ 58 ∷ 32 ∷ 80 ∷ 79 ∷ 73 ∷ 78 ∷ 84 ∷ 69 ∷ 82 ∷ 32 ∷ 84 ∷ 79 ∷ 32 ∷ 82 ∷ 32 ∷ 69 ∷ 78 ∷ 68 ∷ 59 ∷ 32 ∷ 86 ∷ 65 ∷ 82 ∷ 32 ∷ 108 ∷ 58 ∷ 32 ∷ 76 ∷ 59 ∷ 32 ∷ 66 ∷ 69 ∷ 71 ∷ 73 ∷ 78 ∷ 32 ∷ 78 ∷ 69 ∷ 87 ∷ 40 ∷ 108 ∷ 46 ∷ 110 ∷ 41 ∷ 59 ∷ 32 ∷ 78 ∷ 69 ∷ 87 ∷ 40 ∷ 108 ∷ 46 ∷ 109 ∷ 41 ∷ 59 ∷ 32 ∷ 108 ∷ 46 ∷ 109 ∷ 46 ∷ 110 ∷ 32 ∷ 58 ∷ 61 ∷ 32 ∷ 108 ∷ 59 ∷ 32 ∷ 108 ∷ 46 ∷ 110 ∷ 32 ∷ 58 ∷ 61 ∷ 32 ∷ 108 ∷ 32 ∷ 69 ∷ 78 ∷ 68 ∷ 32 ∷ 77 ∷ 46 ∷ []); symbols = (symbol (Ident) 0 6 ∷ symbol (Ident) 7 8 ∷ symbol (Ident) 8 9 ∷ symbol (Ident) 10 14 ∷ symbol (Ident) 15 16 ∷ symbol (Ident) 17 18 ∷ symbol (Ident) 19 26 ∷ symbol (Ident) 27 29 ∷ symbol (Ident) 30 31 ∷ symbol (Ident) 31 32 ∷ symbol (Ident) 33 34 ∷ symbol (Ident) 35 36 ∷ symbol (Ident) 37 43 ∷ symbol (Ident) 44 45 ∷ symbol (Ident) 45 46 ∷ symbol (Ident) 47 48 ∷ symbol (Ident) 48 49 ∷ symbol (Ident) 50 51 ∷ symbol (Ident) 51 52 ∷ symbol (Ident) 53 60 ∷ symbol (Ident) 61 63 ∷ symbol (Ident) 64 65 ∷ symbol (Ident) 66 69 ∷ symbol (Ident) 69 70 ∷ symbol (Ident) 71 74 ∷ symbol (Ident) 75 76 ∷ symbol (Ident) 76 77 ∷ symbol (Ident) 78 79 ∷ symbol (Ident) 79 80 ∷ symbol (Ident) 81 86 ∷ symbol (Ident) 87 90 ∷ symbol (Ident) 90 91 ∷ symbol (Ident) 91 92 ∷ symbol (Ident) 92 93 ∷ symbol (Ident) 93 94 ∷ symbol (Ident) 94 95 ∷ symbol (Ident) 95 96 ∷ symbol (Ident) 97 100 ∷ symbol (Ident) 100 101 ∷ symbol (Ident) 101 102 ∷ symbol (Ident) 102 103 ∷ symbol (Ident) 103 104 ∷ symbol (Ident) 104 105 ∷ symbol (Ident) 105 106 ∷ symbol (Ident) 107 108 ∷ symbol (Ident) 108 109 ∷ symbol (Ident) 109 110 ∷ symbol (Ident) 110 111 ∷ symbol (Ident) 111 112 ∷ symbol (Ident) 113 115 ∷ symbol (Ident) 116 117 ∷ symbol (Ident) 117 118 ∷ symbol (Ident) 119 120 ∷ symbol (Ident) 120 121 ∷ symbol (Ident) 121 122 ∷ symbol (Ident) 123 125 ∷ symbol (Ident) 126 127 ∷ symbol (Ident) 128 131 ∷ symbol (Ident) 132 133 ∷ symbol (Ident) 133 134 ∷ []) }; tree = record { module_word = 0; name = 1; semicolon = 0; imports = None; decls = (S.decls None (Some (record { type_word = 0; each = (record { name = (record { name = 4; star = None }); equal = 0; is = (S.Pointer 6 0 (S.Named (record { name = 8; member = None }))); semicolon = 0 } ∷ record { name = (record { name = 10; star = None }); equal = 0; is = (S.Record 12 None (S.fields (record { first = (record { name = 13; star = None }); more = [] }) 0 (S.Named (record { name = 15; member = None }))) (S.next_fields 0 (S.fields (record { first = (record { name = 17; star = None }); more = [] }) 0 (S.Pointer 19 0 (S.Named (record { name = 21; member = None })))) S.no_more_fields) 0); semicolon = 0 } ∷ []) })) (Some (record { var_word = 0; each = (record { names = (record { first = (record { name = 25; star = None }); more = [] }); colon = 0; of = (S.Named (record { name = 27; member = None })); semicolon = 0 } ∷ []) })) S.no_procedure); body = (Some (record { begin_word = 0; stats = (S.stats (S.AssignOrCall (record { name = 30; selectors = (S.selected (S.Parens 0 (S.expressions (S.only (S.simple None (S.term (S.Designated 32 (S.selected (S.Field 0 34) S.no_selector)) S.no_factor) S.no_term)) S.no_expression) 0) S.no_selector) }) None) (S.next_stat 0 (S.AssignOrCall (record { name = 37; selectors = (S.selected (S.Parens 0 (S.expressions (S.only (S.simple None (S.term (S.Designated 39 (S.selected (S.Field 0 41) S.no_selector)) S.no_factor) S.no_term)) S.no_expression) 0) S.no_selector) }) None) (S.next_stat 0 (S.AssignOrCall (record { name = 44; selectors = (S.selected (S.Field 0 46) (S.selected (S.Field 0 48) S.no_selector)) }) (Some (record { becomes = 0; value = (S.only (S.simple None (S.term (S.Designated 50 S.no_selector) S.no_factor) S.no_term)) }))) (S.next_stat 0 (S.AssignOrCall (record { name = 52; selectors = (S.selected (S.Field 0 54) S.no_selector) }) (Some (record { becomes = 0; value = (S.only (S.simple None (S.term (S.Designated 56 S.no_selector) S.no_factor) S.no_term)) }))) S.no_stat)))) })); end_word = 0; end_name = 58; period = 0 } }
 
-pub scope_2 : checked (scope_2_0 ∷ []) ≡ Legal (record { records = (record { module_number = 0; base = None; level = 0; fields = (record { name = (110 ∷ []); exported = false; shape = (H.Pointer 0) } ∷ record { name = (109 ∷ []); exported = false; shape = (H.Pointer 1) } ∷ []); cells = 2 } ∷ []); pointers = (Some 0 ∷ Some 0 ∷ []); modules = (record { name = (77 ∷ []); objects = (record { name = (76 ∷ []); exported = false; entity = I.OfType (H.Pointer 0) } ∷ record { name = (82 ∷ []); exported = false; entity = I.OfType (H.Record 0) } ∷ record { name = (108 ∷ []); exported = false; entity = I.OfVariable 0 } ∷ []); variables = ((H.Pointer 0) ∷ []); body = 0 } ∷ []); procedures = (record { module_number = 0; line = 1; is_body = true; formals = []; result = H.Nothing; locals = []; texts = []; body = (I.next_statement (I.New (I.of_type (I.Field (I.Dereference (I.Load (I.of_type (I.Global 0 0) (H.Pointer 0)))) 0 0) (H.Pointer 0))) (I.next_statement (I.New (I.of_type (I.Field (I.Dereference (I.Load (I.of_type (I.Global 0 0) (H.Pointer 0)))) 0 1) (H.Pointer 1))) (I.next_statement (I.Assign (I.of_type (I.Field (I.Dereference (I.Load (I.of_type (I.Field (I.Dereference (I.Load (I.of_type (I.Global 0 0) (H.Pointer 0)))) 0 1) (H.Pointer 1)))) 0 0) (H.Pointer 0)) (record { form = (I.Load (I.of_type (I.Global 0 0) (H.Pointer 0))); shape = (H.Pointer 0) })) (I.next_statement (I.Assign (I.of_type (I.Field (I.Dereference (I.Load (I.of_type (I.Global 0 0) (H.Pointer 0)))) 0 0) (H.Pointer 0)) (record { form = (I.Load (I.of_type (I.Global 0 0) (H.Pointer 0))); shape = (H.Pointer 0) })) I.no_statement)))); answer = None } ∷ []); imports_in = false })
+pub scope_2 : checked (scope_2_0 ∷ []) ≡ Legal (record { records = (record { module_number = 0; base = None; level = 0; fields = (record { name = (110 ∷ []); exported = false; shape = (H.Pointer 0) } ∷ record { name = (109 ∷ []); exported = false; shape = (H.Pointer 1) } ∷ []); cells = 2; extent = record { bytes = 16; wide = true } } ∷ []); pointers = (Some 0 ∷ Some 0 ∷ []); modules = (record { name = (77 ∷ []); objects = (record { name = (76 ∷ []); exported = false; entity = I.OfType (H.Pointer 0) } ∷ record { name = (82 ∷ []); exported = false; entity = I.OfType (H.Record 0) } ∷ record { name = (108 ∷ []); exported = false; entity = I.OfVariable 0 } ∷ []); variables = ((H.Pointer 0) ∷ []); body = 0 } ∷ []); procedures = (record { module_number = 0; line = 1; is_body = true; formals = []; result = H.Nothing; locals = []; texts = []; body = (I.next_statement (I.New (I.of_type (I.Field (I.Dereference (I.Load (I.of_type (I.Global 0 0) (H.Pointer 0)))) 0 0) (H.Pointer 0))) (I.next_statement (I.New (I.of_type (I.Field (I.Dereference (I.Load (I.of_type (I.Global 0 0) (H.Pointer 0)))) 0 1) (H.Pointer 1))) (I.next_statement (I.Assign (I.of_type (I.Field (I.Dereference (I.Load (I.of_type (I.Field (I.Dereference (I.Load (I.of_type (I.Global 0 0) (H.Pointer 0)))) 0 1) (H.Pointer 1)))) 0 0) (H.Pointer 0)) (record { form = (I.Load (I.of_type (I.Global 0 0) (H.Pointer 0))); shape = (H.Pointer 0) })) (I.next_statement (I.Assign (I.of_type (I.Field (I.Dereference (I.Load (I.of_type (I.Global 0 0) (H.Pointer 0)))) 0 0) (H.Pointer 0)) (record { form = (I.Load (I.of_type (I.Global 0 0) (H.Pointer 0))); shape = (H.Pointer 0) })) I.no_statement)))); answer = None } ∷ []); imports_in = false })
 scope_2 = refl
 
 -- MODULE M; PROCEDURE P(n: INTEGER): INTEGER; VAR r: INTEGER; BEGIN IF n > 0 THEN r := P(n - 1) END RETURN r + n END P; END M.
@@ -517,7 +517,7 @@ scope_3 = refl
 abbrev scope_4_0 : Parsed
 scope_4_0 = record { source = record { bytes = (77 ∷ 79 ∷ 68 ∷ 85 ∷ 76 ∷ 69 ∷ 32 ∷ 77 ∷ 59 ∷ 32 ∷ 84 ∷ 89 ∷ 80 ∷ 69 ∷ 32 ∷ 84 ∷ 32 ∷ 61 ∷ 32 ∷ 82 ∷ 69 ∷ 67 ∷ 79 ∷ 82 ∷ 68 ∷ 32 ∷ 97 ∷ 44 ∷ 32 ∷ 98 ∷ 58 ∷ 32 ∷ 73 ∷ 78 ∷ 84 ∷ 69 ∷ 71 ∷ 69 ∷ 82 ∷ 59 ∷ 32 ∷ 99 ∷ 58 ∷ 32 ∷ 65 ∷ 82 ∷ 82 ∷ 65 ∷ 89 ∷ 32 ∷ 50 ∷ 32 ∷ 79 ∷ 70 ∷ 32 ∷ 82 ∷ 69 ∷ 67 ∷ 79 ∷ 82 ∷ 68 ∷ 32 ∷ 100 ∷ 58 ∷ 32 ∷ 67 ∷ 72 ∷ 65 ∷ 82 ∷ 32 ∷ 69 ∷ 78 ∷ 68 ∷ 32 ∷ 69 ∷ 78 ∷ 68 ∷ 59 ∷ 32 ∷ 86 ∷ 65 ∷ 82 ∷ 32 ∷ 120 ∷ 44 ∷ 32 ∷ 121 ∷ 58 ∷ 32 ∷ 84 ∷ 59 ∷ 32 ∷ 66 ∷ 69 ∷ 71 ∷ 73 ∷ 78 ∷ 32 ∷ 120 ∷ 46 ∷ 99 ∷ 91 ∷ 49 ∷ 93 ∷ 46 ∷ 100 ∷ 32 ∷ 58 ∷ 61 ∷ 32 ∷ 34 ∷ 97 ∷ 34 ∷ 59 ∷ 32 ∷ 120 ∷ 32 ∷ 58 ∷ 61 ∷ 32 ∷ 121 ∷ 32 ∷ 69 ∷ 78 ∷ 68 ∷ 32 ∷ 77 ∷ 46 ∷ []); symbols = (symbol (Ident) 0 6 ∷ symbol (Ident) 7 8 ∷ symbol (Ident) 8 9 ∷ symbol (Ident) 10 14 ∷ symbol (Ident) 15 16 ∷ symbol (Ident) 17 18 ∷ symbol (Ident) 19 25 ∷ symbol (Ident) 26 27 ∷ symbol (Ident) 27 28 ∷ symbol (Ident) 29 30 ∷ symbol (Ident) 30 31 ∷ symbol (Ident) 32 39 ∷ symbol (Ident) 39 40 ∷ symbol (Ident) 41 42 ∷ symbol (Ident) 42 43 ∷ symbol (Ident) 44 49 ∷ symbol (Int (pos 2)) 50 51 ∷ symbol (Ident) 52 54 ∷ symbol (Ident) 55 61 ∷ symbol (Ident) 62 63 ∷ symbol (Ident) 63 64 ∷ symbol (Ident) 65 69 ∷ symbol (Ident) 70 73 ∷ symbol (Ident) 74 77 ∷ symbol (Ident) 77 78 ∷ symbol (Ident) 79 82 ∷ symbol (Ident) 83 84 ∷ symbol (Ident) 84 85 ∷ symbol (Ident) 86 87 ∷ symbol (Ident) 87 88 ∷ symbol (Ident) 89 90 ∷ symbol (Ident) 90 91 ∷ symbol (Ident) 92 97 ∷ symbol (Ident) 98 99 ∷ symbol (Ident) 99 100 ∷ symbol (Ident) 100 101 ∷ symbol (Ident) 101 102 ∷ symbol (Int (pos 1)) 102 103 ∷ symbol (Ident) 103 104 ∷ symbol (Ident) 104 105 ∷ symbol (Ident) 105 106 ∷ symbol (Ident) 107 109 ∷ symbol (TheKind.Text) 110 113 ∷ symbol (Ident) 113 114 ∷ symbol (Ident) 115 116 ∷ symbol (Ident) 117 119 ∷ symbol (Ident) 120 121 ∷ symbol (Ident) 122 125 ∷ symbol (Ident) 126 127 ∷ symbol (Ident) 127 128 ∷ []) }; tree = record { module_word = 0; name = 1; semicolon = 0; imports = None; decls = (S.decls None (Some (record { type_word = 0; each = (record { name = (record { name = 4; star = None }); equal = 0; is = (S.Record 6 None (S.fields (record { first = (record { name = 7; star = None }); more = (record { comma = 0; name = (record { name = 9; star = None }) } ∷ []) }) 0 (S.Named (record { name = 11; member = None }))) (S.next_fields 0 (S.fields (record { first = (record { name = 13; star = None }); more = [] }) 0 (S.Array 15 (S.only (S.simple None (S.term (S.Int 16) S.no_factor) S.no_term)) S.no_expression 0 (S.Record 18 None (S.fields (record { first = (record { name = 19; star = None }); more = [] }) 0 (S.Named (record { name = 21; member = None }))) S.no_more_fields 0))) S.no_more_fields) 0); semicolon = 0 } ∷ []) })) (Some (record { var_word = 0; each = (record { names = (record { first = (record { name = 26; star = None }); more = (record { comma = 0; name = (record { name = 28; star = None }) } ∷ []) }); colon = 0; of = (S.Named (record { name = 30; member = None })); semicolon = 0 } ∷ []) })) S.no_procedure); body = (Some (record { begin_word = 0; stats = (S.stats (S.AssignOrCall (record { name = 33; selectors = (S.selected (S.Field 0 35) (S.selected (S.Index 0 (S.expressions (S.only (S.simple None (S.term (S.Int 37) S.no_factor) S.no_term)) S.no_expression) 0) (S.selected (S.Field 0 40) S.no_selector))) }) (Some (record { becomes = 0; value = (S.only (S.simple None (S.term (S.Text 42) S.no_factor) S.no_term)) }))) (S.next_stat 0 (S.AssignOrCall (record { name = 44; selectors = S.no_selector }) (Some (record { becomes = 0; value = (S.only (S.simple None (S.term (S.Designated 46 S.no_selector) S.no_factor) S.no_term)) }))) S.no_stat)) })); end_word = 0; end_name = 48; period = 0 } }
 
-pub scope_4 : checked (scope_4_0 ∷ []) ≡ Legal (record { records = (record { module_number = 0; base = None; level = 0; fields = (record { name = (97 ∷ []); exported = false; shape = H.Integer } ∷ record { name = (98 ∷ []); exported = false; shape = H.Integer } ∷ record { name = (99 ∷ []); exported = false; shape = (H.Array 2 (H.Record 1)) } ∷ []); cells = 4 } ∷ record { module_number = 0; base = None; level = 0; fields = (record { name = (100 ∷ []); exported = false; shape = H.Char } ∷ []); cells = 1 } ∷ []); pointers = []; modules = (record { name = (77 ∷ []); objects = (record { name = (84 ∷ []); exported = false; entity = I.OfType (H.Record 0) } ∷ record { name = (120 ∷ []); exported = false; entity = I.OfVariable 0 } ∷ record { name = (121 ∷ []); exported = false; entity = I.OfVariable 1 } ∷ []); variables = ((H.Record 0) ∷ (H.Record 0) ∷ []); body = 0 } ∷ []); procedures = (record { module_number = 0; line = 1; is_body = true; formals = []; result = H.Nothing; locals = []; texts = []; body = (I.next_statement (I.Assign (I.of_type (I.Field (I.Index (I.Field (I.Global 0 0) 0 2) (Some 2) (H.Record 1) (I.Literal 1)) 1 0) H.Char) (record { form = (I.Literal 97); shape = H.Char })) (I.next_statement (I.CopyRecord (I.of_type (I.Global 0 0) (H.Record 0)) (I.of_type (I.Global 0 1) (H.Record 0))) I.no_statement)); answer = None } ∷ []); imports_in = false })
+pub scope_4 : checked (scope_4_0 ∷ []) ≡ Legal (record { records = (record { module_number = 0; base = None; level = 0; fields = (record { name = (97 ∷ []); exported = false; shape = H.Integer } ∷ record { name = (98 ∷ []); exported = false; shape = H.Integer } ∷ record { name = (99 ∷ []); exported = false; shape = (H.Array 2 (H.Record 1)) } ∷ []); cells = 4; extent = record { bytes = 24; wide = true } } ∷ record { module_number = 0; base = None; level = 0; fields = (record { name = (100 ∷ []); exported = false; shape = H.Char } ∷ []); cells = 1; extent = record { bytes = 1; wide = false } } ∷ []); pointers = []; modules = (record { name = (77 ∷ []); objects = (record { name = (84 ∷ []); exported = false; entity = I.OfType (H.Record 0) } ∷ record { name = (120 ∷ []); exported = false; entity = I.OfVariable 0 } ∷ record { name = (121 ∷ []); exported = false; entity = I.OfVariable 1 } ∷ []); variables = ((H.Record 0) ∷ (H.Record 0) ∷ []); body = 0 } ∷ []); procedures = (record { module_number = 0; line = 1; is_body = true; formals = []; result = H.Nothing; locals = []; texts = []; body = (I.next_statement (I.Assign (I.of_type (I.Field (I.Index (I.Field (I.Global 0 0) 0 2) (Some 2) (H.Record 1) (I.Literal 1)) 1 0) H.Char) (record { form = (I.Literal 97); shape = H.Char })) (I.next_statement (I.CopyRecord (I.of_type (I.Global 0 0) (H.Record 0)) (I.of_type (I.Global 0 1) (H.Record 0))) I.no_statement)); answer = None } ∷ []); imports_in = false })
 scope_4 = refl
 
 -- MODULE M; VAR i: INTEGER; PROCEDURE P(i: CHAR; VAR j: CHAR); VAR k: CHAR; BEGIN k := i; j := k; i := j END P; BEGIN i := 1 END M.
@@ -538,7 +538,7 @@ scope_6 = refl
 abbrev scope_7_0 : Parsed
 scope_7_0 = record { source = record { bytes = (77 ∷ 79 ∷ 68 ∷ 85 ∷ 76 ∷ 69 ∷ 32 ∷ 77 ∷ 59 ∷ 32 ∷ 67 ∷ 79 ∷ 78 ∷ 83 ∷ 84 ∷ 32 ∷ 97 ∷ 32 ∷ 61 ∷ 32 ∷ 51 ∷ 59 ∷ 32 ∷ 98 ∷ 32 ∷ 61 ∷ 32 ∷ 97 ∷ 32 ∷ 42 ∷ 32 ∷ 97 ∷ 32 ∷ 43 ∷ 32 ∷ 49 ∷ 59 ∷ 32 ∷ 115 ∷ 32 ∷ 61 ∷ 32 ∷ 34 ∷ 104 ∷ 101 ∷ 108 ∷ 108 ∷ 111 ∷ 34 ∷ 59 ∷ 32 ∷ 116 ∷ 32 ∷ 61 ∷ 32 ∷ 115 ∷ 59 ∷ 32 ∷ 99 ∷ 32 ∷ 61 ∷ 32 ∷ 34 ∷ 120 ∷ 34 ∷ 59 ∷ 32 ∷ 100 ∷ 32 ∷ 61 ∷ 32 ∷ 123 ∷ 49 ∷ 44 ∷ 32 ∷ 97 ∷ 46 ∷ 46 ∷ 53 ∷ 125 ∷ 59 ∷ 32 ∷ 101 ∷ 32 ∷ 61 ∷ 32 ∷ 79 ∷ 82 ∷ 68 ∷ 40 ∷ 99 ∷ 41 ∷ 59 ∷ 32 ∷ 102 ∷ 32 ∷ 61 ∷ 32 ∷ 67 ∷ 72 ∷ 82 ∷ 40 ∷ 101 ∷ 32 ∷ 43 ∷ 32 ∷ 49 ∷ 41 ∷ 59 ∷ 32 ∷ 103 ∷ 32 ∷ 61 ∷ 32 ∷ 126 ∷ 40 ∷ 97 ∷ 32 ∷ 61 ∷ 32 ∷ 98 ∷ 41 ∷ 59 ∷ 32 ∷ 104 ∷ 32 ∷ 61 ∷ 32 ∷ 45 ∷ 97 ∷ 32 ∷ 68 ∷ 73 ∷ 86 ∷ 32 ∷ 50 ∷ 59 ∷ 32 ∷ 110 ∷ 32 ∷ 61 ∷ 32 ∷ 78 ∷ 73 ∷ 76 ∷ 59 ∷ 32 ∷ 86 ∷ 65 ∷ 82 ∷ 32 ∷ 105 ∷ 58 ∷ 32 ∷ 73 ∷ 78 ∷ 84 ∷ 69 ∷ 71 ∷ 69 ∷ 82 ∷ 59 ∷ 32 ∷ 113 ∷ 58 ∷ 32 ∷ 67 ∷ 72 ∷ 65 ∷ 82 ∷ 59 ∷ 32 ∷ 120 ∷ 58 ∷ 32 ∷ 83 ∷ 69 ∷ 84 ∷ 59 ∷ 32 ∷ 122 ∷ 58 ∷ 32 ∷ 66 ∷ 79 ∷ 79 ∷ 76 ∷ 69 ∷ 65 ∷ 78 ∷ 59 ∷ 32 ∷ 119 ∷ 58 ∷ 32 ∷ 65 ∷ 82 ∷ 82 ∷ 65 ∷ 89 ∷ 32 ∷ 57 ∷ 32 ∷ 79 ∷ 70 ∷ 32 ∷ 67 ∷ 72 ∷ 65 ∷ 82 ∷ 59 ∷ 32 ∷ 112 ∷ 58 ∷ 32 ∷ 80 ∷ 79 ∷ 73 ∷ 78 ∷ 84 ∷ 69 ∷ 82 ∷ 32 ∷ 84 ∷ 79 ∷ 32 ∷ 82 ∷ 69 ∷ 67 ∷ 79 ∷ 82 ∷ 68 ∷ 32 ∷ 69 ∷ 78 ∷ 68 ∷ 59 ∷ 32 ∷ 66 ∷ 69 ∷ 71 ∷ 73 ∷ 78 ∷ 32 ∷ 105 ∷ 32 ∷ 58 ∷ 61 ∷ 32 ∷ 98 ∷ 59 ∷ 32 ∷ 113 ∷ 32 ∷ 58 ∷ 61 ∷ 32 ∷ 99 ∷ 59 ∷ 32 ∷ 113 ∷ 32 ∷ 58 ∷ 61 ∷ 32 ∷ 102 ∷ 59 ∷ 32 ∷ 120 ∷ 32 ∷ 58 ∷ 61 ∷ 32 ∷ 100 ∷ 59 ∷ 32 ∷ 122 ∷ 32 ∷ 58 ∷ 61 ∷ 32 ∷ 103 ∷ 59 ∷ 32 ∷ 105 ∷ 32 ∷ 58 ∷ 61 ∷ 32 ∷ 104 ∷ 59 ∷ 32 ∷ 119 ∷ 32 ∷ 58 ∷ 61 ∷ 32 ∷ 115 ∷ 59 ∷ 32 ∷ 119 ∷ 32 ∷ 58 ∷ 61 ∷ 32 ∷ 116 ∷ 59 ∷ 32 ∷ 112 ∷ 32 ∷ 58 ∷ 61 ∷ 32 ∷ 110 ∷ 59 ∷ 32 ∷ 119 ∷ 32 ∷ 58 ∷ 61 ∷ 32 ∷ 99 ∷ 32 ∷ 69 ∷ 78 ∷ 68 ∷ 32 ∷ 77 ∷ 46 ∷ []); symbols = (symbol (Ident) 0 6 ∷ symbol (Ident) 7 8 ∷ symbol (Ident) 8 9 ∷ symbol (Ident) 10 15 ∷ symbol (Ident) 16 17 ∷ symbol (Ident) 18 19 ∷ symbol (Int (pos 3)) 20 21 ∷ symbol (Ident) 21 22 ∷ symbol (Ident) 23 24 ∷ symbol (Ident) 25 26 ∷ symbol (Ident) 27 28 ∷ symbol (Ident) 29 30 ∷ symbol (Ident) 31 32 ∷ symbol (Ident) 33 34 ∷ symbol (Int (pos 1)) 35 36 ∷ symbol (Ident) 36 37 ∷ symbol (Ident) 38 39 ∷ symbol (Ident) 40 41 ∷ symbol (TheKind.Text) 42 49 ∷ symbol (Ident) 49 50 ∷ symbol (Ident) 51 52 ∷ symbol (Ident) 53 54 ∷ symbol (Ident) 55 56 ∷ symbol (Ident) 56 57 ∷ symbol (Ident) 58 59 ∷ symbol (Ident) 60 61 ∷ symbol (TheKind.Text) 62 65 ∷ symbol (Ident) 65 66 ∷ symbol (Ident) 67 68 ∷ symbol (Ident) 69 70 ∷ symbol (Ident) 71 72 ∷ symbol (Int (pos 1)) 72 73 ∷ symbol (Ident) 73 74 ∷ symbol (Ident) 75 76 ∷ symbol (Ident) 76 78 ∷ symbol (Int (pos 5)) 78 79 ∷ symbol (Ident) 79 80 ∷ symbol (Ident) 80 81 ∷ symbol (Ident) 82 83 ∷ symbol (Ident) 84 85 ∷ symbol (Ident) 86 89 ∷ symbol (Ident) 89 90 ∷ symbol (Ident) 90 91 ∷ symbol (Ident) 91 92 ∷ symbol (Ident) 92 93 ∷ symbol (Ident) 94 95 ∷ symbol (Ident) 96 97 ∷ symbol (Ident) 98 101 ∷ symbol (Ident) 101 102 ∷ symbol (Ident) 102 103 ∷ symbol (Ident) 104 105 ∷ symbol (Int (pos 1)) 106 107 ∷ symbol (Ident) 107 108 ∷ symbol (Ident) 108 109 ∷ symbol (Ident) 110 111 ∷ symbol (Ident) 112 113 ∷ symbol (Ident) 114 115 ∷ symbol (Ident) 115 116 ∷ symbol (Ident) 116 117 ∷ symbol (Ident) 118 119 ∷ symbol (Ident) 120 121 ∷ symbol (Ident) 121 122 ∷ symbol (Ident) 122 123 ∷ symbol (Ident) 124 125 ∷ symbol (Ident) 126 127 ∷ symbol (Ident) 128 129 ∷ symbol (Ident) 129 130 ∷ symbol (Ident) 131 134 ∷ symbol (Int (pos 2)) 135 136 ∷ symbol (Ident) 136 137 ∷ symbol (Ident) 138 139 ∷ symbol (Ident) 140 141 ∷ symbol (Ident) 142 145 ∷ symbol (Ident) 145 146 ∷ symbol (Ident) 147 150 ∷ symbol (Ident) 151 152 ∷ symbol (Ident) 152 153 ∷ symbol (Ident) 154 161 ∷ symbol (Ident) 161 162 ∷ symbol (Ident) 163 164 ∷ symbol (Ident) 164 165 ∷ symbol (Ident) 166 170 ∷ symbol (Ident) 170 171 ∷ symbol (Ident) 172 173 ∷ symbol (Ident) 173 174 ∷ symbol (Ident) 175 178 ∷ symbol (Ident) 178 179 ∷ symbol (Ident) 180 181 ∷ symbol (Ident) 181 182 ∷ symbol (Ident) 183 190 ∷ symbol (Ident) 190 191 ∷ symbol (Ident) 192 193 ∷ symbol (Ident) 193 194 ∷ symbol (Ident) 195 200 ∷ symbol (Int (pos 9)) 201 202 ∷ symbol (Ident) 203 205 ∷ symbol (Ident) 206 210 ∷ symbol (Ident) 210 211 ∷ symbol (Ident) 212 213 ∷ symbol (Ident) 213 214 ∷ symbol (Ident) 215 222 ∷ symbol (Ident) 223 225 ∷ symbol (Ident) 226 232 ∷ symbol (Ident) 233 236 ∷ symbol (Ident) 236 237 ∷ symbol (Ident) 238 243 ∷ symbol (Ident) 244 245 ∷ symbol (Ident) 246 248 ∷ symbol (Ident) 249 250 ∷ symbol (Ident) 250 251 ∷ symbol (Ident) 252 253 ∷ symbol (Ident) 254 256 ∷ symbol (Ident) 257 258 ∷ symbol (Ident) 258 259 ∷ symbol (Ident) 260 261 ∷ symbol (Ident) 262 264 ∷ symbol (Ident) 265 266 ∷ symbol (Ident) 266 267 ∷ symbol (Ident) 268 269 ∷ symbol (Ident) 270 272 ∷ symbol (Ident) 273 274 ∷ symbol (Ident) 274 275 ∷ symbol (Ident) 276 277 ∷ symbol (Ident) 278 280 ∷ symbol (Ident) 281 282 ∷ symbol (Ident) 282 283 ∷ symbol (Ident) 284 285 ∷ symbol (Ident) 286 288 ∷ symbol (Ident) 289 290 ∷ symbol (Ident) 290 291 ∷ symbol (Ident) 292 293 ∷ symbol (Ident) 294 296 ∷ symbol (Ident) 297 298 ∷ symbol (Ident) 298 299 ∷ symbol (Ident) 300 301 ∷ symbol (Ident) 302 304 ∷ symbol (Ident) 305 306 ∷ symbol (Ident) 306 307 ∷ symbol (Ident) 308 309 ∷ symbol (Ident) 310 312 ∷ symbol (Ident) 313 314 ∷ symbol (Ident) 314 315 ∷ symbol (Ident) 316 317 ∷ symbol (Ident) 318 320 ∷ symbol (Ident) 321 322 ∷ symbol (Ident) 323 326 ∷ symbol (Ident) 327 328 ∷ symbol (Ident) 328 329 ∷ []) }; tree = record { module_word = 0; name = 1; semicolon = 0; imports = None; decls = (S.decls (Some (record { const_word = 0; each = (record { name = (record { name = 4; star = None }); equal = 0; value = (S.only (S.simple None (S.term (S.Int 6) S.no_factor) S.no_term)); semicolon = 0 } ∷ record { name = (record { name = 8; star = None }); equal = 0; value = (S.only (S.simple None (S.term (S.Designated 10 S.no_selector) (S.multiplied (TheMulOperator.Times 11) (S.Designated 12 S.no_selector) S.no_factor)) (S.added (TheAddOperator.Plus 13) (S.term (S.Int 14) S.no_factor) S.no_term))); semicolon = 0 } ∷ record { name = (record { name = 16; star = None }); equal = 0; value = (S.only (S.simple None (S.term (S.Text 18) S.no_factor) S.no_term)); semicolon = 0 } ∷ record { name = (record { name = 20; star = None }); equal = 0; value = (S.only (S.simple None (S.term (S.Designated 22 S.no_selector) S.no_factor) S.no_term)); semicolon = 0 } ∷ record { name = (record { name = 24; star = None }); equal = 0; value = (S.only (S.simple None (S.term (S.Text 26) S.no_factor) S.no_term)); semicolon = 0 } ∷ record { name = (record { name = 28; star = None }); equal = 0; value = (S.only (S.simple None (S.term (S.Set 30 (S.one (S.only (S.simple None (S.term (S.Int 31) S.no_factor) S.no_term))) (S.next_element 0 (S.range (S.only (S.simple None (S.term (S.Designated 33 S.no_selector) S.no_factor) S.no_term)) 0 (S.only (S.simple None (S.term (S.Int 35) S.no_factor) S.no_term))) S.no_element) 0) S.no_factor) S.no_term)); semicolon = 0 } ∷ record { name = (record { name = 38; star = None }); equal = 0; value = (S.only (S.simple None (S.term (S.Designated 40 (S.selected (S.Parens 0 (S.expressions (S.only (S.simple None (S.term (S.Designated 42 S.no_selector) S.no_factor) S.no_term)) S.no_expression) 0) S.no_selector)) S.no_factor) S.no_term)); semicolon = 0 } ∷ record { name = (record { name = 45; star = None }); equal = 0; value = (S.only (S.simple None (S.term (S.Designated 47 (S.selected (S.Parens 0 (S.expressions (S.only (S.simple None (S.term (S.Designated 49 S.no_selector) S.no_factor) (S.added (TheAddOperator.Plus 50) (S.term (S.Int 51) S.no_factor) S.no_term))) S.no_expression) 0) S.no_selector)) S.no_factor) S.no_term)); semicolon = 0 } ∷ record { name = (record { name = 54; star = None }); equal = 0; value = (S.only (S.simple None (S.term (S.Not 56 (S.Paren 57 (S.compared (S.simple None (S.term (S.Designated 58 S.no_selector) S.no_factor) S.no_term) (TheRelation.Equal 59) (S.simple None (S.term (S.Designated 60 S.no_selector) S.no_factor) S.no_term)) 0)) S.no_factor) S.no_term)); semicolon = 0 } ∷ record { name = (record { name = 63; star = None }); equal = 0; value = (S.only (S.simple (Some (TheSign.Minus 65)) (S.term (S.Designated 66 S.no_selector) (S.multiplied (TheMulOperator.Div 67) (S.Int 68) S.no_factor)) S.no_term)); semicolon = 0 } ∷ record { name = (record { name = 70; star = None }); equal = 0; value = (S.only (S.simple None (S.term (S.Nil 72) S.no_factor) S.no_term)); semicolon = 0 } ∷ []) })) None (Some (record { var_word = 0; each = (record { names = (record { first = (record { name = 75; star = None }); more = [] }); colon = 0; of = (S.Named (record { name = 77; member = None })); semicolon = 0 } ∷ record { names = (record { first = (record { name = 79; star = None }); more = [] }); colon = 0; of = (S.Named (record { name = 81; member = None })); semicolon = 0 } ∷ record { names = (record { first = (record { name = 83; star = None }); more = [] }); colon = 0; of = (S.Named (record { name = 85; member = None })); semicolon = 0 } ∷ record { names = (record { first = (record { name = 87; star = None }); more = [] }); colon = 0; of = (S.Named (record { name = 89; member = None })); semicolon = 0 } ∷ record { names = (record { first = (record { name = 91; star = None }); more = [] }); colon = 0; of = (S.Array 93 (S.only (S.simple None (S.term (S.Int 94) S.no_factor) S.no_term)) S.no_expression 0 (S.Named (record { name = 96; member = None }))); semicolon = 0 } ∷ record { names = (record { first = (record { name = 98; star = None }); more = [] }); colon = 0; of = (S.Pointer 100 0 (S.Record 102 None S.no_fields S.no_more_fields 0)); semicolon = 0 } ∷ []) })) S.no_procedure); body = (Some (record { begin_word = 0; stats = (S.stats (S.AssignOrCall (record { name = 106; selectors = S.no_selector }) (Some (record { becomes = 0; value = (S.only (S.simple None (S.term (S.Designated 108 S.no_selector) S.no_factor) S.no_term)) }))) (S.next_stat 0 (S.AssignOrCall (record { name = 110; selectors = S.no_selector }) (Some (record { becomes = 0; value = (S.only (S.simple None (S.term (S.Designated 112 S.no_selector) S.no_factor) S.no_term)) }))) (S.next_stat 0 (S.AssignOrCall (record { name = 114; selectors = S.no_selector }) (Some (record { becomes = 0; value = (S.only (S.simple None (S.term (S.Designated 116 S.no_selector) S.no_factor) S.no_term)) }))) (S.next_stat 0 (S.AssignOrCall (record { name = 118; selectors = S.no_selector }) (Some (record { becomes = 0; value = (S.only (S.simple None (S.term (S.Designated 120 S.no_selector) S.no_factor) S.no_term)) }))) (S.next_stat 0 (S.AssignOrCall (record { name = 122; selectors = S.no_selector }) (Some (record { becomes = 0; value = (S.only (S.simple None (S.term (S.Designated 124 S.no_selector) S.no_factor) S.no_term)) }))) (S.next_stat 0 (S.AssignOrCall (record { name = 126; selectors = S.no_selector }) (Some (record { becomes = 0; value = (S.only (S.simple None (S.term (S.Designated 128 S.no_selector) S.no_factor) S.no_term)) }))) (S.next_stat 0 (S.AssignOrCall (record { name = 130; selectors = S.no_selector }) (Some (record { becomes = 0; value = (S.only (S.simple None (S.term (S.Designated 132 S.no_selector) S.no_factor) S.no_term)) }))) (S.next_stat 0 (S.AssignOrCall (record { name = 134; selectors = S.no_selector }) (Some (record { becomes = 0; value = (S.only (S.simple None (S.term (S.Designated 136 S.no_selector) S.no_factor) S.no_term)) }))) (S.next_stat 0 (S.AssignOrCall (record { name = 138; selectors = S.no_selector }) (Some (record { becomes = 0; value = (S.only (S.simple None (S.term (S.Designated 140 S.no_selector) S.no_factor) S.no_term)) }))) (S.next_stat 0 (S.AssignOrCall (record { name = 142; selectors = S.no_selector }) (Some (record { becomes = 0; value = (S.only (S.simple None (S.term (S.Designated 144 S.no_selector) S.no_factor) S.no_term)) }))) S.no_stat)))))))))) })); end_word = 0; end_name = 146; period = 0 } }
 
-pub scope_7 : checked (scope_7_0 ∷ []) ≡ Legal (record { records = (record { module_number = 0; base = None; level = 0; fields = []; cells = 0 } ∷ []); pointers = (Some 0 ∷ []); modules = (record { name = (77 ∷ []); objects = (record { name = (97 ∷ []); exported = false; entity = I.OfConstant (I.Bits H.Integer 3) } ∷ record { name = (98 ∷ []); exported = false; entity = I.OfConstant (I.Bits H.Integer 10) } ∷ record { name = (115 ∷ []); exported = false; entity = I.OfConstant (I.Chars (104 ∷ 101 ∷ 108 ∷ 108 ∷ 111 ∷ [])) } ∷ record { name = (116 ∷ []); exported = false; entity = I.OfConstant (I.Chars (104 ∷ 101 ∷ 108 ∷ 108 ∷ 111 ∷ [])) } ∷ record { name = (99 ∷ []); exported = false; entity = I.OfConstant (I.Chars (120 ∷ [])) } ∷ record { name = (100 ∷ []); exported = false; entity = I.OfConstant (I.Bits H.Set 58) } ∷ record { name = (101 ∷ []); exported = false; entity = I.OfConstant (I.Bits H.Integer 120) } ∷ record { name = (102 ∷ []); exported = false; entity = I.OfConstant (I.Bits H.Char 121) } ∷ record { name = (103 ∷ []); exported = false; entity = I.OfConstant (I.Bits H.Boolean 1) } ∷ record { name = (104 ∷ []); exported = false; entity = I.OfConstant (I.Bits H.Integer 18446744073709551615) } ∷ record { name = (110 ∷ []); exported = false; entity = I.OfConstant (I.Bits H.Nil 0) } ∷ record { name = (105 ∷ []); exported = false; entity = I.OfVariable 0 } ∷ record { name = (113 ∷ []); exported = false; entity = I.OfVariable 1 } ∷ record { name = (120 ∷ []); exported = false; entity = I.OfVariable 2 } ∷ record { name = (122 ∷ []); exported = false; entity = I.OfVariable 3 } ∷ record { name = (119 ∷ []); exported = false; entity = I.OfVariable 4 } ∷ record { name = (112 ∷ []); exported = false; entity = I.OfVariable 5 } ∷ []); variables = (H.Integer ∷ H.Char ∷ H.Set ∷ H.Boolean ∷ (H.Array 9 H.Char) ∷ (H.Pointer 0) ∷ []); body = 0 } ∷ []); procedures = (record { module_number = 0; line = 1; is_body = true; formals = []; result = H.Nothing; locals = []; texts = ((104 ∷ 101 ∷ 108 ∷ 108 ∷ 111 ∷ []) ∷ (104 ∷ 101 ∷ 108 ∷ 108 ∷ 111 ∷ []) ∷ (120 ∷ []) ∷ []); body = (I.next_statement (I.Assign (I.of_type (I.Global 0 0) H.Integer) (record { form = (I.Literal 10); shape = H.Integer })) (I.next_statement (I.Assign (I.of_type (I.Global 0 1) H.Char) (record { form = (I.Literal 120); shape = H.Char })) (I.next_statement (I.Assign (I.of_type (I.Global 0 1) H.Char) (record { form = (I.Literal 121); shape = H.Char })) (I.next_statement (I.Assign (I.of_type (I.Global 0 2) H.Set) (record { form = (I.Literal 58); shape = H.Set })) (I.next_statement (I.Assign (I.of_type (I.Global 0 3) H.Boolean) (record { form = (I.Literal 1); shape = H.Boolean })) (I.next_statement (I.Assign (I.of_type (I.Global 0 0) H.Integer) (record { form = (I.Literal 18446744073709551615); shape = H.Integer })) (I.next_statement (I.CopyArray (I.of_type (I.Global 0 4) (H.Array 9 H.Char)) (I.of_type (I.Text (104 ∷ 101 ∷ 108 ∷ 108 ∷ 111 ∷ [])) (H.Text 5))) (I.next_statement (I.CopyArray (I.of_type (I.Global 0 4) (H.Array 9 H.Char)) (I.of_type (I.Text (104 ∷ 101 ∷ 108 ∷ 108 ∷ 111 ∷ [])) (H.Text 5))) (I.next_statement (I.Assign (I.of_type (I.Global 0 5) (H.Pointer 0)) (record { form = (I.Literal 0); shape = H.Nil })) (I.next_statement (I.CopyArray (I.of_type (I.Global 0 4) (H.Array 9 H.Char)) (I.of_type (I.Text (120 ∷ [])) (H.Text 1))) I.no_statement)))))))))); answer = None } ∷ []); imports_in = false })
+pub scope_7 : checked (scope_7_0 ∷ []) ≡ Legal (record { records = (record { module_number = 0; base = None; level = 0; fields = []; cells = 0; extent = record { bytes = 0; wide = false } } ∷ []); pointers = (Some 0 ∷ []); modules = (record { name = (77 ∷ []); objects = (record { name = (97 ∷ []); exported = false; entity = I.OfConstant (I.Bits H.Integer 3) } ∷ record { name = (98 ∷ []); exported = false; entity = I.OfConstant (I.Bits H.Integer 10) } ∷ record { name = (115 ∷ []); exported = false; entity = I.OfConstant (I.Chars (104 ∷ 101 ∷ 108 ∷ 108 ∷ 111 ∷ [])) } ∷ record { name = (116 ∷ []); exported = false; entity = I.OfConstant (I.Chars (104 ∷ 101 ∷ 108 ∷ 108 ∷ 111 ∷ [])) } ∷ record { name = (99 ∷ []); exported = false; entity = I.OfConstant (I.Chars (120 ∷ [])) } ∷ record { name = (100 ∷ []); exported = false; entity = I.OfConstant (I.Bits H.Set 58) } ∷ record { name = (101 ∷ []); exported = false; entity = I.OfConstant (I.Bits H.Integer 120) } ∷ record { name = (102 ∷ []); exported = false; entity = I.OfConstant (I.Bits H.Char 121) } ∷ record { name = (103 ∷ []); exported = false; entity = I.OfConstant (I.Bits H.Boolean 1) } ∷ record { name = (104 ∷ []); exported = false; entity = I.OfConstant (I.Bits H.Integer 18446744073709551615) } ∷ record { name = (110 ∷ []); exported = false; entity = I.OfConstant (I.Bits H.Nil 0) } ∷ record { name = (105 ∷ []); exported = false; entity = I.OfVariable 0 } ∷ record { name = (113 ∷ []); exported = false; entity = I.OfVariable 1 } ∷ record { name = (120 ∷ []); exported = false; entity = I.OfVariable 2 } ∷ record { name = (122 ∷ []); exported = false; entity = I.OfVariable 3 } ∷ record { name = (119 ∷ []); exported = false; entity = I.OfVariable 4 } ∷ record { name = (112 ∷ []); exported = false; entity = I.OfVariable 5 } ∷ []); variables = (H.Integer ∷ H.Char ∷ H.Set ∷ H.Boolean ∷ (H.Array 9 H.Char) ∷ (H.Pointer 0) ∷ []); body = 0 } ∷ []); procedures = (record { module_number = 0; line = 1; is_body = true; formals = []; result = H.Nothing; locals = []; texts = ((104 ∷ 101 ∷ 108 ∷ 108 ∷ 111 ∷ []) ∷ (104 ∷ 101 ∷ 108 ∷ 108 ∷ 111 ∷ []) ∷ (120 ∷ []) ∷ []); body = (I.next_statement (I.Assign (I.of_type (I.Global 0 0) H.Integer) (record { form = (I.Literal 10); shape = H.Integer })) (I.next_statement (I.Assign (I.of_type (I.Global 0 1) H.Char) (record { form = (I.Literal 120); shape = H.Char })) (I.next_statement (I.Assign (I.of_type (I.Global 0 1) H.Char) (record { form = (I.Literal 121); shape = H.Char })) (I.next_statement (I.Assign (I.of_type (I.Global 0 2) H.Set) (record { form = (I.Literal 58); shape = H.Set })) (I.next_statement (I.Assign (I.of_type (I.Global 0 3) H.Boolean) (record { form = (I.Literal 1); shape = H.Boolean })) (I.next_statement (I.Assign (I.of_type (I.Global 0 0) H.Integer) (record { form = (I.Literal 18446744073709551615); shape = H.Integer })) (I.next_statement (I.CopyArray (I.of_type (I.Global 0 4) (H.Array 9 H.Char)) (I.of_type (I.Text (104 ∷ 101 ∷ 108 ∷ 108 ∷ 111 ∷ [])) (H.Text 5))) (I.next_statement (I.CopyArray (I.of_type (I.Global 0 4) (H.Array 9 H.Char)) (I.of_type (I.Text (104 ∷ 101 ∷ 108 ∷ 108 ∷ 111 ∷ [])) (H.Text 5))) (I.next_statement (I.Assign (I.of_type (I.Global 0 5) (H.Pointer 0)) (record { form = (I.Literal 0); shape = H.Nil })) (I.next_statement (I.CopyArray (I.of_type (I.Global 0 4) (H.Array 9 H.Char)) (I.of_type (I.Text (120 ∷ [])) (H.Text 1))) I.no_statement)))))))))); answer = None } ∷ []); imports_in = false })
 scope_7 = refl
 
 -- MODULE M; TYPE A = ARRAY 3 OF CHAR; VAR a: ARRAY 3 OF CHAR; b: A; c: ARRAY 2 OF A; d: ARRAY 2, 3 OF CHAR; BEGIN a := b; c := d; d[0] := c[1]; a := d[1] END M.
@@ -587,7 +587,7 @@ scope_13 = refl
 abbrev scope_14_0 : Parsed
 scope_14_0 = record { source = record { bytes = (77 ∷ 79 ∷ 68 ∷ 85 ∷ 76 ∷ 69 ∷ 32 ∷ 77 ∷ 59 ∷ 32 ∷ 84 ∷ 89 ∷ 80 ∷ 69 ∷ 32 ∷ 82 ∷ 32 ∷ 61 ∷ 32 ∷ 82 ∷ 69 ∷ 67 ∷ 79 ∷ 82 ∷ 68 ∷ 32 ∷ 120 ∷ 58 ∷ 32 ∷ 73 ∷ 78 ∷ 84 ∷ 69 ∷ 71 ∷ 69 ∷ 82 ∷ 32 ∷ 69 ∷ 78 ∷ 68 ∷ 59 ∷ 32 ∷ 69 ∷ 32 ∷ 61 ∷ 32 ∷ 82 ∷ 69 ∷ 67 ∷ 79 ∷ 82 ∷ 68 ∷ 32 ∷ 40 ∷ 82 ∷ 41 ∷ 32 ∷ 120 ∷ 50 ∷ 58 ∷ 32 ∷ 73 ∷ 78 ∷ 84 ∷ 69 ∷ 71 ∷ 69 ∷ 82 ∷ 32 ∷ 69 ∷ 78 ∷ 68 ∷ 59 ∷ 32 ∷ 86 ∷ 65 ∷ 82 ∷ 32 ∷ 101 ∷ 58 ∷ 32 ∷ 69 ∷ 59 ∷ 32 ∷ 80 ∷ 82 ∷ 79 ∷ 67 ∷ 69 ∷ 68 ∷ 85 ∷ 82 ∷ 69 ∷ 32 ∷ 80 ∷ 40 ∷ 86 ∷ 65 ∷ 82 ∷ 32 ∷ 114 ∷ 58 ∷ 32 ∷ 82 ∷ 41 ∷ 59 ∷ 32 ∷ 66 ∷ 69 ∷ 71 ∷ 73 ∷ 78 ∷ 32 ∷ 73 ∷ 70 ∷ 32 ∷ 114 ∷ 32 ∷ 73 ∷ 83 ∷ 32 ∷ 69 ∷ 32 ∷ 84 ∷ 72 ∷ 69 ∷ 78 ∷ 32 ∷ 114 ∷ 40 ∷ 69 ∷ 41 ∷ 46 ∷ 120 ∷ 50 ∷ 32 ∷ 58 ∷ 61 ∷ 32 ∷ 114 ∷ 46 ∷ 120 ∷ 59 ∷ 32 ∷ 80 ∷ 40 ∷ 114 ∷ 40 ∷ 69 ∷ 41 ∷ 41 ∷ 32 ∷ 69 ∷ 78 ∷ 68 ∷ 32 ∷ 69 ∷ 78 ∷ 68 ∷ 32 ∷ 80 ∷ 59 ∷ 32 ∷ 66 ∷ 69 ∷ 71 ∷ 73 ∷ 78 ∷ 32 ∷ 80 ∷ 40 ∷ 101 ∷ 41 ∷ 32 ∷ 69 ∷ 78 ∷ 68 ∷ 32 ∷ 77 ∷ 46 ∷ []); symbols = (symbol (Ident) 0 6 ∷ symbol (Ident) 7 8 ∷ symbol (Ident) 8 9 ∷ symbol (Ident) 10 14 ∷ symbol (Ident) 15 16 ∷ symbol (Ident) 17 18 ∷ symbol (Ident) 19 25 ∷ symbol (Ident) 26 27 ∷ symbol (Ident) 27 28 ∷ symbol (Ident) 29 36 ∷ symbol (Ident) 37 40 ∷ symbol (Ident) 40 41 ∷ symbol (Ident) 42 43 ∷ symbol (Ident) 44 45 ∷ symbol (Ident) 46 52 ∷ symbol (Ident) 53 54 ∷ symbol (Ident) 54 55 ∷ symbol (Ident) 55 56 ∷ symbol (Ident) 57 59 ∷ symbol (Ident) 59 60 ∷ symbol (Ident) 61 68 ∷ symbol (Ident) 69 72 ∷ symbol (Ident) 72 73 ∷ symbol (Ident) 74 77 ∷ symbol (Ident) 78 79 ∷ symbol (Ident) 79 80 ∷ symbol (Ident) 81 82 ∷ symbol (Ident) 82 83 ∷ symbol (Ident) 84 93 ∷ symbol (Ident) 94 95 ∷ symbol (Ident) 95 96 ∷ symbol (Ident) 96 99 ∷ symbol (Ident) 100 101 ∷ symbol (Ident) 101 102 ∷ symbol (Ident) 103 104 ∷ symbol (Ident) 104 105 ∷ symbol (Ident) 105 106 ∷ symbol (Ident) 107 112 ∷ symbol (Ident) 113 115 ∷ symbol (Ident) 116 117 ∷ symbol (Ident) 118 120 ∷ symbol (Ident) 121 122 ∷ symbol (Ident) 123 127 ∷ symbol (Ident) 128 129 ∷ symbol (Ident) 129 130 ∷ symbol (Ident) 130 131 ∷ symbol (Ident) 131 132 ∷ symbol (Ident) 132 133 ∷ symbol (Ident) 133 135 ∷ symbol (Ident) 136 138 ∷ symbol (Ident) 139 140 ∷ symbol (Ident) 140 141 ∷ symbol (Ident) 141 142 ∷ symbol (Ident) 142 143 ∷ symbol (Ident) 144 145 ∷ symbol (Ident) 145 146 ∷ symbol (Ident) 146 147 ∷ symbol (Ident) 147 148 ∷ symbol (Ident) 148 149 ∷ symbol (Ident) 149 150 ∷ symbol (Ident) 150 151 ∷ symbol (Ident) 152 155 ∷ symbol (Ident) 156 159 ∷ symbol (Ident) 160 161 ∷ symbol (Ident) 161 162 ∷ symbol (Ident) 163 168 ∷ symbol (Ident) 169 170 ∷ symbol (Ident) 170 171 ∷ symbol (Ident) 171 172 ∷ symbol (Ident) 172 173 ∷ symbol (Ident) 174 177 ∷ symbol (Ident) 178 179 ∷ symbol (Ident) 179 180 ∷ []) }; tree = record { module_word = 0; name = 1; semicolon = 0; imports = None; decls = (S.decls None (Some (record { type_word = 0; each = (record { name = (record { name = 4; star = None }); equal = 0; is = (S.Record 6 None (S.fields (record { first = (record { name = 7; star = None }); more = [] }) 0 (S.Named (record { name = 9; member = None }))) S.no_more_fields 0); semicolon = 0 } ∷ record { name = (record { name = 12; star = None }); equal = 0; is = (S.Record 14 (Some (record { left_paren = 0; name = (record { name = 16; member = None }); right_paren = 0 })) (S.fields (record { first = (record { name = 18; star = None }); more = [] }) 0 (S.Named (record { name = 20; member = None }))) S.no_more_fields 0); semicolon = 0 } ∷ []) })) (Some (record { var_word = 0; each = (record { names = (record { first = (record { name = 24; star = None }); more = [] }); colon = 0; of = (S.Named (record { name = 26; member = None })); semicolon = 0 } ∷ []) })) (S.procedure 0 (record { name = 29; star = None }) (Some (record { left_paren = 0; sections = Some (record { first = (record { var_word = Some 0; first = 32; more = []; colon = 0; open_array = None; of = (record { name = 34; member = None }) }); more = [] }); right_paren = 0; result = None })) 0 (S.decls None None None S.no_procedure) (Some (record { begin_word = 0; stats = (S.stats (S.If 0 (S.compared (S.simple None (S.term (S.Designated 39 S.no_selector) S.no_factor) S.no_term) (TheRelation.Is 40) (S.simple None (S.term (S.Designated 41 S.no_selector) S.no_factor) S.no_term)) 0 (S.stats (S.AssignOrCall (record { name = 43; selectors = (S.selected (S.Parens 0 (S.expressions (S.only (S.simple None (S.term (S.Designated 45 S.no_selector) S.no_factor) S.no_term)) S.no_expression) 0) (S.selected (S.Field 0 48) S.no_selector)) }) (Some (record { becomes = 0; value = (S.only (S.simple None (S.term (S.Designated 50 (S.selected (S.Field 0 52) S.no_selector)) S.no_factor) S.no_term)) }))) (S.next_stat 0 (S.AssignOrCall (record { name = 54; selectors = (S.selected (S.Parens 0 (S.expressions (S.only (S.simple None (S.term (S.Designated 56 (S.selected (S.Parens 0 (S.expressions (S.only (S.simple None (S.term (S.Designated 58 S.no_selector) S.no_factor) S.no_term)) S.no_expression) 0) S.no_selector)) S.no_factor) S.no_term)) S.no_expression) 0) S.no_selector) }) None) S.no_stat)) S.no_elsif S.no_else 0) S.no_stat) })) None 62 63 0 S.no_procedure)); body = (Some (record { begin_word = 0; stats = (S.stats (S.AssignOrCall (record { name = 66; selectors = (S.selected (S.Parens 0 (S.expressions (S.only (S.simple None (S.term (S.Designated 68 S.no_selector) S.no_factor) S.no_term)) S.no_expression) 0) S.no_selector) }) None) S.no_stat) })); end_word = 0; end_name = 71; period = 0 } }
 
-pub scope_14 : checked (scope_14_0 ∷ []) ≡ Legal (record { records = (record { module_number = 0; base = None; level = 0; fields = (record { name = (120 ∷ []); exported = false; shape = H.Integer } ∷ []); cells = 1 } ∷ record { module_number = 0; base = (Some 0); level = 1; fields = (record { name = (120 ∷ 50 ∷ []); exported = false; shape = H.Integer } ∷ []); cells = 2 } ∷ []); pointers = []; modules = (record { name = (77 ∷ []); objects = (record { name = (82 ∷ []); exported = false; entity = I.OfType (H.Record 0) } ∷ record { name = (69 ∷ []); exported = false; entity = I.OfType (H.Record 1) } ∷ record { name = (101 ∷ []); exported = false; entity = I.OfVariable 0 } ∷ record { name = (80 ∷ []); exported = false; entity = I.OfProcedure 0 } ∷ []); variables = ((H.Record 1) ∷ []); body = 1 } ∷ []); procedures = (record { module_number = 0; line = 1; is_body = false; formals = (record { mode = TheMode.Record; variable = true; shape = (H.Record 0) } ∷ []); result = H.Nothing; locals = []; texts = []; body = (I.next_statement (I.If (I.next_branch (record { form = (I.IsParameter (I.of_type (I.Parameter 0) (H.Record 0)) 1); shape = H.Boolean }) (I.next_statement (I.Assign (I.of_type (I.Field (I.Narrow (I.Parameter 0) 1) 1 0) H.Integer) (record { form = (I.Load (I.of_type (I.Field (I.Parameter 0) 0 0) H.Integer)); shape = H.Integer })) (I.next_statement (I.Invoke (I.Direct 0 (I.next_argument (I.ByRecord (I.of_type (I.Narrow (I.Parameter 0) 1) (H.Record 1))) I.no_argument))) I.no_statement)) I.no_branch) I.no_statement) I.no_statement); answer = None } ∷ record { module_number = 0; line = 1; is_body = true; formals = []; result = H.Nothing; locals = []; texts = []; body = (I.next_statement (I.Invoke (I.Direct 0 (I.next_argument (I.ByRecord (I.of_type (I.Global 0 0) (H.Record 1))) I.no_argument))) I.no_statement); answer = None } ∷ []); imports_in = false })
+pub scope_14 : checked (scope_14_0 ∷ []) ≡ Legal (record { records = (record { module_number = 0; base = None; level = 0; fields = (record { name = (120 ∷ []); exported = false; shape = H.Integer } ∷ []); cells = 1; extent = record { bytes = 8; wide = true } } ∷ record { module_number = 0; base = (Some 0); level = 1; fields = (record { name = (120 ∷ 50 ∷ []); exported = false; shape = H.Integer } ∷ []); cells = 2; extent = record { bytes = 16; wide = true } } ∷ []); pointers = []; modules = (record { name = (77 ∷ []); objects = (record { name = (82 ∷ []); exported = false; entity = I.OfType (H.Record 0) } ∷ record { name = (69 ∷ []); exported = false; entity = I.OfType (H.Record 1) } ∷ record { name = (101 ∷ []); exported = false; entity = I.OfVariable 0 } ∷ record { name = (80 ∷ []); exported = false; entity = I.OfProcedure 0 } ∷ []); variables = ((H.Record 1) ∷ []); body = 1 } ∷ []); procedures = (record { module_number = 0; line = 1; is_body = false; formals = (record { mode = TheMode.Record; variable = true; shape = (H.Record 0) } ∷ []); result = H.Nothing; locals = []; texts = []; body = (I.next_statement (I.If (I.next_branch (record { form = (I.IsParameter (I.of_type (I.Parameter 0) (H.Record 0)) 1); shape = H.Boolean }) (I.next_statement (I.Assign (I.of_type (I.Field (I.Narrow (I.Parameter 0) 1) 1 0) H.Integer) (record { form = (I.Load (I.of_type (I.Field (I.Parameter 0) 0 0) H.Integer)); shape = H.Integer })) (I.next_statement (I.Invoke (I.Direct 0 (I.next_argument (I.ByRecord (I.of_type (I.Narrow (I.Parameter 0) 1) (H.Record 1))) I.no_argument))) I.no_statement)) I.no_branch) I.no_statement) I.no_statement); answer = None } ∷ record { module_number = 0; line = 1; is_body = true; formals = []; result = H.Nothing; locals = []; texts = []; body = (I.next_statement (I.Invoke (I.Direct 0 (I.next_argument (I.ByRecord (I.of_type (I.Global 0 0) (H.Record 1))) I.no_argument))) I.no_statement); answer = None } ∷ []); imports_in = false })
 scope_14 = refl
 
 -- MODULE M; CONST a = 1; PROCEDURE P; CONST b = a; a = 2; BEGIN END P; END M.
@@ -615,7 +615,7 @@ scope_17 = refl
 abbrev scope_18_0 : Parsed
 scope_18_0 = record { source = record { bytes = (77 ∷ 79 ∷ 68 ∷ 85 ∷ 76 ∷ 69 ∷ 32 ∷ 77 ∷ 59 ∷ 32 ∷ 84 ∷ 89 ∷ 80 ∷ 69 ∷ 32 ∷ 84 ∷ 32 ∷ 61 ∷ 32 ∷ 80 ∷ 79 ∷ 73 ∷ 78 ∷ 84 ∷ 69 ∷ 82 ∷ 32 ∷ 84 ∷ 79 ∷ 32 ∷ 82 ∷ 69 ∷ 67 ∷ 79 ∷ 82 ∷ 68 ∷ 32 ∷ 102 ∷ 58 ∷ 32 ∷ 80 ∷ 82 ∷ 79 ∷ 67 ∷ 69 ∷ 68 ∷ 85 ∷ 82 ∷ 69 ∷ 32 ∷ 40 ∷ 116 ∷ 58 ∷ 32 ∷ 73 ∷ 78 ∷ 84 ∷ 69 ∷ 71 ∷ 69 ∷ 82 ∷ 41 ∷ 32 ∷ 69 ∷ 78 ∷ 68 ∷ 59 ∷ 32 ∷ 86 ∷ 65 ∷ 82 ∷ 32 ∷ 116 ∷ 58 ∷ 32 ∷ 84 ∷ 59 ∷ 32 ∷ 80 ∷ 82 ∷ 79 ∷ 67 ∷ 69 ∷ 68 ∷ 85 ∷ 82 ∷ 69 ∷ 32 ∷ 80 ∷ 40 ∷ 105 ∷ 58 ∷ 32 ∷ 73 ∷ 78 ∷ 84 ∷ 69 ∷ 71 ∷ 69 ∷ 82 ∷ 41 ∷ 59 ∷ 32 ∷ 69 ∷ 78 ∷ 68 ∷ 32 ∷ 80 ∷ 59 ∷ 32 ∷ 66 ∷ 69 ∷ 71 ∷ 73 ∷ 78 ∷ 32 ∷ 116 ∷ 46 ∷ 102 ∷ 32 ∷ 58 ∷ 61 ∷ 32 ∷ 80 ∷ 59 ∷ 32 ∷ 116 ∷ 46 ∷ 102 ∷ 40 ∷ 51 ∷ 41 ∷ 32 ∷ 69 ∷ 78 ∷ 68 ∷ 32 ∷ 77 ∷ 46 ∷ []); symbols = (symbol (Ident) 0 6 ∷ symbol (Ident) 7 8 ∷ symbol (Ident) 8 9 ∷ symbol (Ident) 10 14 ∷ symbol (Ident) 15 16 ∷ symbol (Ident) 17 18 ∷ symbol (Ident) 19 26 ∷ symbol (Ident) 27 29 ∷ symbol (Ident) 30 36 ∷ symbol (Ident) 37 38 ∷ symbol (Ident) 38 39 ∷ symbol (Ident) 40 49 ∷ symbol (Ident) 50 51 ∷ symbol (Ident) 51 52 ∷ symbol (Ident) 52 53 ∷ symbol (Ident) 54 61 ∷ symbol (Ident) 61 62 ∷ symbol (Ident) 63 66 ∷ symbol (Ident) 66 67 ∷ symbol (Ident) 68 71 ∷ symbol (Ident) 72 73 ∷ symbol (Ident) 73 74 ∷ symbol (Ident) 75 76 ∷ symbol (Ident) 76 77 ∷ symbol (Ident) 78 87 ∷ symbol (Ident) 88 89 ∷ symbol (Ident) 89 90 ∷ symbol (Ident) 90 91 ∷ symbol (Ident) 91 92 ∷ symbol (Ident) 93 100 ∷ symbol (Ident) 100 101 ∷ symbol (Ident) 101 102 ∷ symbol (Ident) 103 106 ∷ symbol (Ident) 107 108 ∷ symbol (Ident) 108 109 ∷ symbol (Ident) 110 115 ∷ symbol (Ident) 116 117 ∷ symbol (Ident) 117 118 ∷ symbol (Ident) 118 119 ∷ symbol (Ident) 120 122 ∷ symbol (Ident) 123 124 ∷ symbol (Ident) 124 125 ∷ symbol (Ident) 126 127 ∷ symbol (Ident) 127 128 ∷ symbol (Ident) 128 129 ∷ symbol (Ident) 129 130 ∷ symbol (Int (pos 3)) 130 131 ∷ symbol (Ident) 131 132 ∷ symbol (Ident) 133 136 ∷ symbol (Ident) 137 138 ∷ symbol (Ident) 138 139 ∷ []) }; tree = record { module_word = 0; name = 1; semicolon = 0; imports = None; decls = (S.decls None (Some (record { type_word = 0; each = (record { name = (record { name = 4; star = None }); equal = 0; is = (S.Pointer 6 0 (S.Record 8 None (S.fields (record { first = (record { name = 9; star = None }); more = [] }) 0 (S.Procedure 11 (Some (record { left_paren = 0; sections = Some (record { first = (record { var_word = None; first = 13; more = []; colon = 0; open_array = None; of = (record { name = 15; member = None }) }); more = [] }); right_paren = 0; result = None })))) S.no_more_fields 0)); semicolon = 0 } ∷ []) })) (Some (record { var_word = 0; each = (record { names = (record { first = (record { name = 20; star = None }); more = [] }); colon = 0; of = (S.Named (record { name = 22; member = None })); semicolon = 0 } ∷ []) })) (S.procedure 0 (record { name = 25; star = None }) (Some (record { left_paren = 0; sections = Some (record { first = (record { var_word = None; first = 27; more = []; colon = 0; open_array = None; of = (record { name = 29; member = None }) }); more = [] }); right_paren = 0; result = None })) 0 (S.decls None None None S.no_procedure) None None 32 33 0 S.no_procedure)); body = (Some (record { begin_word = 0; stats = (S.stats (S.AssignOrCall (record { name = 36; selectors = (S.selected (S.Field 0 38) S.no_selector) }) (Some (record { becomes = 0; value = (S.only (S.simple None (S.term (S.Designated 40 S.no_selector) S.no_factor) S.no_term)) }))) (S.next_stat 0 (S.AssignOrCall (record { name = 42; selectors = (S.selected (S.Field 0 44) (S.selected (S.Parens 0 (S.expressions (S.only (S.simple None (S.term (S.Int 46) S.no_factor) S.no_term)) S.no_expression) 0) S.no_selector)) }) None) S.no_stat)) })); end_word = 0; end_name = 49; period = 0 } }
 
-pub scope_18 : checked (scope_18_0 ∷ []) ≡ Legal (record { records = (record { module_number = 0; base = None; level = 0; fields = (record { name = (102 ∷ []); exported = false; shape = (H.Procedure (H.one false H.Integer H.none) H.Nothing) } ∷ []); cells = 1 } ∷ []); pointers = (Some 0 ∷ []); modules = (record { name = (77 ∷ []); objects = (record { name = (84 ∷ []); exported = false; entity = I.OfType (H.Pointer 0) } ∷ record { name = (116 ∷ []); exported = false; entity = I.OfVariable 0 } ∷ record { name = (80 ∷ []); exported = false; entity = I.OfProcedure 0 } ∷ []); variables = ((H.Pointer 0) ∷ []); body = 1 } ∷ []); procedures = (record { module_number = 0; line = 1; is_body = false; formals = (record { mode = TheMode.Value; variable = false; shape = H.Integer } ∷ []); result = H.Nothing; locals = []; texts = []; body = I.no_statement; answer = None } ∷ record { module_number = 0; line = 1; is_body = true; formals = []; result = H.Nothing; locals = []; texts = []; body = (I.next_statement (I.Assign (I.of_type (I.Field (I.Dereference (I.Load (I.of_type (I.Global 0 0) (H.Pointer 0)))) 0 0) (H.Procedure (H.one false H.Integer H.none) H.Nothing)) (record { form = (I.Routine 0); shape = (H.Procedure (H.one false H.Integer H.none) H.Nothing) })) (I.next_statement (I.Invoke (I.Indirect (I.of_type (I.Field (I.Dereference (I.Load (I.of_type (I.Global 0 0) (H.Pointer 0)))) 0 0) (H.Procedure (H.one false H.Integer H.none) H.Nothing)) (I.next_argument (I.ByValue (I.Literal 3)) I.no_argument))) I.no_statement)); answer = None } ∷ []); imports_in = false })
+pub scope_18 : checked (scope_18_0 ∷ []) ≡ Legal (record { records = (record { module_number = 0; base = None; level = 0; fields = (record { name = (102 ∷ []); exported = false; shape = (H.Procedure (H.one false H.Integer H.none) H.Nothing) } ∷ []); cells = 1; extent = record { bytes = 8; wide = true } } ∷ []); pointers = (Some 0 ∷ []); modules = (record { name = (77 ∷ []); objects = (record { name = (84 ∷ []); exported = false; entity = I.OfType (H.Pointer 0) } ∷ record { name = (116 ∷ []); exported = false; entity = I.OfVariable 0 } ∷ record { name = (80 ∷ []); exported = false; entity = I.OfProcedure 0 } ∷ []); variables = ((H.Pointer 0) ∷ []); body = 1 } ∷ []); procedures = (record { module_number = 0; line = 1; is_body = false; formals = (record { mode = TheMode.Value; variable = false; shape = H.Integer } ∷ []); result = H.Nothing; locals = []; texts = []; body = I.no_statement; answer = None } ∷ record { module_number = 0; line = 1; is_body = true; formals = []; result = H.Nothing; locals = []; texts = []; body = (I.next_statement (I.Assign (I.of_type (I.Field (I.Dereference (I.Load (I.of_type (I.Global 0 0) (H.Pointer 0)))) 0 0) (H.Procedure (H.one false H.Integer H.none) H.Nothing)) (record { form = (I.Routine 0); shape = (H.Procedure (H.one false H.Integer H.none) H.Nothing) })) (I.next_statement (I.Invoke (I.Indirect (I.of_type (I.Field (I.Dereference (I.Load (I.of_type (I.Global 0 0) (H.Pointer 0)))) 0 0) (H.Procedure (H.one false H.Integer H.none) H.Nothing)) (I.next_argument (I.ByValue (I.Literal 3)) I.no_argument))) I.no_statement)); answer = None } ∷ []); imports_in = false })
 scope_18 = refl
 
 -- MODULE M; TYPE R = RECORD (R) END; END M.
@@ -640,7 +640,7 @@ modules_1_0 = record { source = record { bytes = (77 ∷ 79 ∷ 68 ∷ 85 ∷ 76
 abbrev modules_1_1 : Parsed
 modules_1_1 = record { source = record { bytes = (77 ∷ 79 ∷ 68 ∷ 85 ∷ 76 ∷ 69 ∷ 32 ∷ 77 ∷ 59 ∷ 32 ∷ 73 ∷ 77 ∷ 80 ∷ 79 ∷ 82 ∷ 84 ∷ 32 ∷ 65 ∷ 44 ∷ 32 ∷ 79 ∷ 117 ∷ 116 ∷ 59 ∷ 32 ∷ 86 ∷ 65 ∷ 82 ∷ 32 ∷ 105 ∷ 58 ∷ 32 ∷ 73 ∷ 78 ∷ 84 ∷ 69 ∷ 71 ∷ 69 ∷ 82 ∷ 59 ∷ 32 ∷ 114 ∷ 58 ∷ 32 ∷ 65 ∷ 46 ∷ 82 ∷ 59 ∷ 32 ∷ 112 ∷ 58 ∷ 32 ∷ 65 ∷ 46 ∷ 80 ∷ 59 ∷ 32 ∷ 66 ∷ 69 ∷ 71 ∷ 73 ∷ 78 ∷ 32 ∷ 105 ∷ 32 ∷ 58 ∷ 61 ∷ 32 ∷ 65 ∷ 46 ∷ 118 ∷ 32 ∷ 43 ∷ 32 ∷ 65 ∷ 46 ∷ 99 ∷ 32 ∷ 43 ∷ 32 ∷ 65 ∷ 46 ∷ 97 ∷ 91 ∷ 49 ∷ 93 ∷ 59 ∷ 32 ∷ 114 ∷ 32 ∷ 58 ∷ 61 ∷ 32 ∷ 65 ∷ 46 ∷ 114 ∷ 59 ∷ 32 ∷ 112 ∷ 32 ∷ 58 ∷ 61 ∷ 32 ∷ 65 ∷ 46 ∷ 112 ∷ 59 ∷ 32 ∷ 78 ∷ 69 ∷ 87 ∷ 40 ∷ 112 ∷ 41 ∷ 59 ∷ 32 ∷ 112 ∷ 46 ∷ 120 ∷ 32 ∷ 58 ∷ 61 ∷ 32 ∷ 65 ∷ 46 ∷ 114 ∷ 46 ∷ 120 ∷ 59 ∷ 32 ∷ 65 ∷ 46 ∷ 112 ∷ 46 ∷ 120 ∷ 32 ∷ 58 ∷ 61 ∷ 32 ∷ 51 ∷ 59 ∷ 32 ∷ 65 ∷ 46 ∷ 78 ∷ 59 ∷ 32 ∷ 65 ∷ 46 ∷ 102 ∷ 59 ∷ 32 ∷ 79 ∷ 117 ∷ 116 ∷ 46 ∷ 73 ∷ 110 ∷ 116 ∷ 40 ∷ 65 ∷ 46 ∷ 118 ∷ 44 ∷ 32 ∷ 48 ∷ 41 ∷ 32 ∷ 69 ∷ 78 ∷ 68 ∷ 32 ∷ 77 ∷ 46 ∷ []); symbols = (symbol (Ident) 0 6 ∷ symbol (Ident) 7 8 ∷ symbol (Ident) 8 9 ∷ symbol (Ident) 10 16 ∷ symbol (Ident) 17 18 ∷ symbol (Ident) 18 19 ∷ symbol (Ident) 20 23 ∷ symbol (Ident) 23 24 ∷ symbol (Ident) 25 28 ∷ symbol (Ident) 29 30 ∷ symbol (Ident) 30 31 ∷ symbol (Ident) 32 39 ∷ symbol (Ident) 39 40 ∷ symbol (Ident) 41 42 ∷ symbol (Ident) 42 43 ∷ symbol (Ident) 44 45 ∷ symbol (Ident) 45 46 ∷ symbol (Ident) 46 47 ∷ symbol (Ident) 47 48 ∷ symbol (Ident) 49 50 ∷ symbol (Ident) 50 51 ∷ symbol (Ident) 52 53 ∷ symbol (Ident) 53 54 ∷ symbol (Ident) 54 55 ∷ symbol (Ident) 55 56 ∷ symbol (Ident) 57 62 ∷ symbol (Ident) 63 64 ∷ symbol (Ident) 65 67 ∷ symbol (Ident) 68 69 ∷ symbol (Ident) 69 70 ∷ symbol (Ident) 70 71 ∷ symbol (Ident) 72 73 ∷ symbol (Ident) 74 75 ∷ symbol (Ident) 75 76 ∷ symbol (Ident) 76 77 ∷ symbol (Ident) 78 79 ∷ symbol (Ident) 80 81 ∷ symbol (Ident) 81 82 ∷ symbol (Ident) 82 83 ∷ symbol (Ident) 83 84 ∷ symbol (Int (pos 1)) 84 85 ∷ symbol (Ident) 85 86 ∷ symbol (Ident) 86 87 ∷ symbol (Ident) 88 89 ∷ symbol (Ident) 90 92 ∷ symbol (Ident) 93 94 ∷ symbol (Ident) 94 95 ∷ symbol (Ident) 95 96 ∷ symbol (Ident) 96 97 ∷ symbol (Ident) 98 99 ∷ symbol (Ident) 100 102 ∷ symbol (Ident) 103 104 ∷ symbol (Ident) 104 105 ∷ symbol (Ident) 105 106 ∷ symbol (Ident) 106 107 ∷ symbol (Ident) 108 111 ∷ symbol (Ident) 111 112 ∷ symbol (Ident) 112 113 ∷ symbol (Ident) 113 114 ∷ symbol (Ident) 114 115 ∷ symbol (Ident) 116 117 ∷ symbol (Ident) 117 118 ∷ symbol (Ident) 118 119 ∷ symbol (Ident) 120 122 ∷ symbol (Ident) 123 124 ∷ symbol (Ident) 124 125 ∷ symbol (Ident) 125 126 ∷ symbol (Ident) 126 127 ∷ symbol (Ident) 127 128 ∷ symbol (Ident) 128 129 ∷ symbol (Ident) 130 131 ∷ symbol (Ident) 131 132 ∷ symbol (Ident) 132 133 ∷ symbol (Ident) 133 134 ∷ symbol (Ident) 134 135 ∷ symbol (Ident) 136 138 ∷ symbol (Int (pos 3)) 139 140 ∷ symbol (Ident) 140 141 ∷ symbol (Ident) 142 143 ∷ symbol (Ident) 143 144 ∷ symbol (Ident) 144 145 ∷ symbol (Ident) 145 146 ∷ symbol (Ident) 147 148 ∷ symbol (Ident) 148 149 ∷ symbol (Ident) 149 150 ∷ symbol (Ident) 150 151 ∷ symbol (Ident) 152 155 ∷ symbol (Ident) 155 156 ∷ symbol (Ident) 156 159 ∷ symbol (Ident) 159 160 ∷ symbol (Ident) 160 161 ∷ symbol (Ident) 161 162 ∷ symbol (Ident) 162 163 ∷ symbol (Ident) 163 164 ∷ symbol (Int (pos 0)) 165 166 ∷ symbol (Ident) 166 167 ∷ symbol (Ident) 168 171 ∷ symbol (Ident) 172 173 ∷ symbol (Ident) 173 174 ∷ []) }; tree = record { module_word = 0; name = 1; semicolon = 0; imports = Some (record { import_word = 0; first = (record { name = 4; of = None }); more = (record { comma = 0; import = (record { name = 6; of = None }) } ∷ []); semicolon = 0 }); decls = (S.decls None None (Some (record { var_word = 0; each = (record { names = (record { first = (record { name = 9; star = None }); more = [] }); colon = 0; of = (S.Named (record { name = 11; member = None })); semicolon = 0 } ∷ record { names = (record { first = (record { name = 13; star = None }); more = [] }); colon = 0; of = (S.Named (record { name = 15; member = Some (record { period = 0; name = 17 }) })); semicolon = 0 } ∷ record { names = (record { first = (record { name = 19; star = None }); more = [] }); colon = 0; of = (S.Named (record { name = 21; member = Some (record { period = 0; name = 23 }) })); semicolon = 0 } ∷ []) })) S.no_procedure); body = (Some (record { begin_word = 0; stats = (S.stats (S.AssignOrCall (record { name = 26; selectors = S.no_selector }) (Some (record { becomes = 0; value = (S.only (S.simple None (S.term (S.Designated 28 (S.selected (S.Field 0 30) S.no_selector)) S.no_factor) (S.added (TheAddOperator.Plus 31) (S.term (S.Designated 32 (S.selected (S.Field 0 34) S.no_selector)) S.no_factor) (S.added (TheAddOperator.Plus 35) (S.term (S.Designated 36 (S.selected (S.Field 0 38) (S.selected (S.Index 0 (S.expressions (S.only (S.simple None (S.term (S.Int 40) S.no_factor) S.no_term)) S.no_expression) 0) S.no_selector))) S.no_factor) S.no_term)))) }))) (S.next_stat 0 (S.AssignOrCall (record { name = 43; selectors = S.no_selector }) (Some (record { becomes = 0; value = (S.only (S.simple None (S.term (S.Designated 45 (S.selected (S.Field 0 47) S.no_selector)) S.no_factor) S.no_term)) }))) (S.next_stat 0 (S.AssignOrCall (record { name = 49; selectors = S.no_selector }) (Some (record { becomes = 0; value = (S.only (S.simple None (S.term (S.Designated 51 (S.selected (S.Field 0 53) S.no_selector)) S.no_factor) S.no_term)) }))) (S.next_stat 0 (S.AssignOrCall (record { name = 55; selectors = (S.selected (S.Parens 0 (S.expressions (S.only (S.simple None (S.term (S.Designated 57 S.no_selector) S.no_factor) S.no_term)) S.no_expression) 0) S.no_selector) }) None) (S.next_stat 0 (S.AssignOrCall (record { name = 60; selectors = (S.selected (S.Field 0 62) S.no_selector) }) (Some (record { becomes = 0; value = (S.only (S.simple None (S.term (S.Designated 64 (S.selected (S.Field 0 66) (S.selected (S.Field 0 68) S.no_selector))) S.no_factor) S.no_term)) }))) (S.next_stat 0 (S.AssignOrCall (record { name = 70; selectors = (S.selected (S.Field 0 72) (S.selected (S.Field 0 74) S.no_selector)) }) (Some (record { becomes = 0; value = (S.only (S.simple None (S.term (S.Int 76) S.no_factor) S.no_term)) }))) (S.next_stat 0 (S.AssignOrCall (record { name = 78; selectors = (S.selected (S.Field 0 80) S.no_selector) }) None) (S.next_stat 0 (S.AssignOrCall (record { name = 82; selectors = (S.selected (S.Field 0 84) S.no_selector) }) None) (S.next_stat 0 (S.AssignOrCall (record { name = 86; selectors = (S.selected (S.Field 0 88) (S.selected (S.Parens 0 (S.expressions (S.only (S.simple None (S.term (S.Designated 90 (S.selected (S.Field 0 92) S.no_selector)) S.no_factor) S.no_term)) (S.next_expression 0 (S.only (S.simple None (S.term (S.Int 94) S.no_factor) S.no_term)) S.no_expression)) 0) S.no_selector)) }) None) S.no_stat))))))))) })); end_word = 0; end_name = 97; period = 0 } }
 
-pub modules_1 : checked (modules_1_0 ∷ modules_1_1 ∷ []) ≡ Legal (record { records = (record { module_number = 0; base = None; level = 0; fields = (record { name = (120 ∷ []); exported = true; shape = H.Integer } ∷ record { name = (104 ∷ []); exported = false; shape = H.Integer } ∷ []); cells = 2 } ∷ record { module_number = 0; base = None; level = 0; fields = []; cells = 0 } ∷ []); pointers = (Some 0 ∷ []); modules = (record { name = (65 ∷ []); objects = (record { name = (99 ∷ []); exported = true; entity = I.OfConstant (I.Bits H.Integer 3) } ∷ record { name = (100 ∷ []); exported = false; entity = I.OfConstant (I.Bits H.Integer 4) } ∷ record { name = (82 ∷ []); exported = true; entity = I.OfType (H.Record 0) } ∷ record { name = (80 ∷ []); exported = true; entity = I.OfType (H.Pointer 0) } ∷ record { name = (72 ∷ []); exported = false; entity = I.OfType (H.Record 1) } ∷ record { name = (118 ∷ []); exported = true; entity = I.OfVariable 0 } ∷ record { name = (114 ∷ []); exported = true; entity = I.OfVariable 1 } ∷ record { name = (112 ∷ []); exported = true; entity = I.OfVariable 2 } ∷ record { name = (97 ∷ []); exported = true; entity = I.OfVariable 3 } ∷ record { name = (119 ∷ []); exported = false; entity = I.OfVariable 4 } ∷ record { name = (102 ∷ []); exported = true; entity = I.OfVariable 5 } ∷ record { name = (78 ∷ []); exported = true; entity = I.OfProcedure 0 } ∷ record { name = (76 ∷ []); exported = false; entity = I.OfProcedure 1 } ∷ []); variables = (H.Integer ∷ (H.Record 0) ∷ (H.Pointer 0) ∷ (H.Array 2 H.Integer) ∷ H.Integer ∷ (H.Procedure H.none H.Nothing) ∷ []); body = 2 } ∷ record { name = (77 ∷ []); objects = (record { name = (105 ∷ []); exported = false; entity = I.OfVariable 0 } ∷ record { name = (114 ∷ []); exported = false; entity = I.OfVariable 1 } ∷ record { name = (112 ∷ []); exported = false; entity = I.OfVariable 2 } ∷ []); variables = (H.Integer ∷ (H.Record 0) ∷ (H.Pointer 0) ∷ []); body = 3 } ∷ []); procedures = (record { module_number = 0; line = 1; is_body = false; formals = []; result = H.Nothing; locals = []; texts = []; body = I.no_statement; answer = None } ∷ record { module_number = 0; line = 1; is_body = false; formals = []; result = H.Nothing; locals = []; texts = []; body = I.no_statement; answer = None } ∷ record { module_number = 0; line = 1; is_body = true; formals = []; result = H.Nothing; locals = []; texts = []; body = I.no_statement; answer = None } ∷ record { module_number = 1; line = 1; is_body = true; formals = []; result = H.Nothing; locals = []; texts = []; body = (I.next_statement (I.Assign (I.of_type (I.Global 1 0) H.Integer) (record { form = (I.Linked (I.Linked (I.Load (I.of_type (I.Global 0 0) H.Integer)) (I.Operate TheBinary.Add (I.Literal 3))) (I.Operate TheBinary.Add (I.Load (I.of_type (I.Index (I.Global 0 3) (Some 2) H.Integer (I.Literal 1)) H.Integer)))); shape = H.Integer })) (I.next_statement (I.CopyRecord (I.of_type (I.Global 1 1) (H.Record 0)) (I.of_type (I.Global 0 1) (H.Record 0))) (I.next_statement (I.Assign (I.of_type (I.Global 1 2) (H.Pointer 0)) (record { form = (I.Load (I.of_type (I.Global 0 2) (H.Pointer 0))); shape = (H.Pointer 0) })) (I.next_statement (I.New (I.of_type (I.Global 1 2) (H.Pointer 0))) (I.next_statement (I.Assign (I.of_type (I.Field (I.Dereference (I.Load (I.of_type (I.Global 1 2) (H.Pointer 0)))) 0 0) H.Integer) (record { form = (I.Load (I.of_type (I.Field (I.Global 0 1) 0 0) H.Integer)); shape = H.Integer })) (I.next_statement (I.Assign (I.of_type (I.Field (I.Dereference (I.Load (I.of_type (I.Global 0 2) (H.Pointer 0)))) 0 0) H.Integer) (record { form = (I.Literal 3); shape = H.Integer })) (I.next_statement (I.Invoke (I.Direct 0 I.no_argument)) (I.next_statement (I.Invoke (I.Indirect (I.of_type (I.Global 0 5) (H.Procedure H.none H.Nothing)) I.no_argument)) (I.next_statement (I.OutInt (record { form = (I.Load (I.of_type (I.Global 0 0) H.Integer)); shape = H.Integer }) (record { form = (I.Literal 0); shape = H.Integer })) I.no_statement))))))))); answer = None } ∷ []); imports_in = false })
+pub modules_1 : checked (modules_1_0 ∷ modules_1_1 ∷ []) ≡ Legal (record { records = (record { module_number = 0; base = None; level = 0; fields = (record { name = (120 ∷ []); exported = true; shape = H.Integer } ∷ record { name = (104 ∷ []); exported = false; shape = H.Integer } ∷ []); cells = 2; extent = record { bytes = 16; wide = true } } ∷ record { module_number = 0; base = None; level = 0; fields = []; cells = 0; extent = record { bytes = 0; wide = false } } ∷ []); pointers = (Some 0 ∷ []); modules = (record { name = (65 ∷ []); objects = (record { name = (99 ∷ []); exported = true; entity = I.OfConstant (I.Bits H.Integer 3) } ∷ record { name = (100 ∷ []); exported = false; entity = I.OfConstant (I.Bits H.Integer 4) } ∷ record { name = (82 ∷ []); exported = true; entity = I.OfType (H.Record 0) } ∷ record { name = (80 ∷ []); exported = true; entity = I.OfType (H.Pointer 0) } ∷ record { name = (72 ∷ []); exported = false; entity = I.OfType (H.Record 1) } ∷ record { name = (118 ∷ []); exported = true; entity = I.OfVariable 0 } ∷ record { name = (114 ∷ []); exported = true; entity = I.OfVariable 1 } ∷ record { name = (112 ∷ []); exported = true; entity = I.OfVariable 2 } ∷ record { name = (97 ∷ []); exported = true; entity = I.OfVariable 3 } ∷ record { name = (119 ∷ []); exported = false; entity = I.OfVariable 4 } ∷ record { name = (102 ∷ []); exported = true; entity = I.OfVariable 5 } ∷ record { name = (78 ∷ []); exported = true; entity = I.OfProcedure 0 } ∷ record { name = (76 ∷ []); exported = false; entity = I.OfProcedure 1 } ∷ []); variables = (H.Integer ∷ (H.Record 0) ∷ (H.Pointer 0) ∷ (H.Array 2 H.Integer) ∷ H.Integer ∷ (H.Procedure H.none H.Nothing) ∷ []); body = 2 } ∷ record { name = (77 ∷ []); objects = (record { name = (105 ∷ []); exported = false; entity = I.OfVariable 0 } ∷ record { name = (114 ∷ []); exported = false; entity = I.OfVariable 1 } ∷ record { name = (112 ∷ []); exported = false; entity = I.OfVariable 2 } ∷ []); variables = (H.Integer ∷ (H.Record 0) ∷ (H.Pointer 0) ∷ []); body = 3 } ∷ []); procedures = (record { module_number = 0; line = 1; is_body = false; formals = []; result = H.Nothing; locals = []; texts = []; body = I.no_statement; answer = None } ∷ record { module_number = 0; line = 1; is_body = false; formals = []; result = H.Nothing; locals = []; texts = []; body = I.no_statement; answer = None } ∷ record { module_number = 0; line = 1; is_body = true; formals = []; result = H.Nothing; locals = []; texts = []; body = I.no_statement; answer = None } ∷ record { module_number = 1; line = 1; is_body = true; formals = []; result = H.Nothing; locals = []; texts = []; body = (I.next_statement (I.Assign (I.of_type (I.Global 1 0) H.Integer) (record { form = (I.Linked (I.Linked (I.Load (I.of_type (I.Global 0 0) H.Integer)) (I.Operate TheBinary.Add (I.Literal 3))) (I.Operate TheBinary.Add (I.Load (I.of_type (I.Index (I.Global 0 3) (Some 2) H.Integer (I.Literal 1)) H.Integer)))); shape = H.Integer })) (I.next_statement (I.CopyRecord (I.of_type (I.Global 1 1) (H.Record 0)) (I.of_type (I.Global 0 1) (H.Record 0))) (I.next_statement (I.Assign (I.of_type (I.Global 1 2) (H.Pointer 0)) (record { form = (I.Load (I.of_type (I.Global 0 2) (H.Pointer 0))); shape = (H.Pointer 0) })) (I.next_statement (I.New (I.of_type (I.Global 1 2) (H.Pointer 0))) (I.next_statement (I.Assign (I.of_type (I.Field (I.Dereference (I.Load (I.of_type (I.Global 1 2) (H.Pointer 0)))) 0 0) H.Integer) (record { form = (I.Load (I.of_type (I.Field (I.Global 0 1) 0 0) H.Integer)); shape = H.Integer })) (I.next_statement (I.Assign (I.of_type (I.Field (I.Dereference (I.Load (I.of_type (I.Global 0 2) (H.Pointer 0)))) 0 0) H.Integer) (record { form = (I.Literal 3); shape = H.Integer })) (I.next_statement (I.Invoke (I.Direct 0 I.no_argument)) (I.next_statement (I.Invoke (I.Indirect (I.of_type (I.Global 0 5) (H.Procedure H.none H.Nothing)) I.no_argument)) (I.next_statement (I.OutInt (record { form = (I.Load (I.of_type (I.Global 0 0) H.Integer)); shape = H.Integer }) (record { form = (I.Literal 0); shape = H.Integer })) I.no_statement))))))))); answer = None } ∷ []); imports_in = false })
 modules_1 = refl
 
 -- MODULE A; CONST c* = 3; d = 4; TYPE R* = RECORD x*: INTEGER; h: INTEGER END; P* = POINTER TO R; H = RECORD END; VAR v*: INTEGER; r*: R; p*: P; a*: ARRAY 2 OF INTEGER; w: INTEGER; f*: PROCEDURE; PROCEDURE N*; END N; PROCEDURE L; END L; END A.
@@ -651,7 +651,7 @@ modules_2_0 = record { source = record { bytes = (77 ∷ 79 ∷ 68 ∷ 85 ∷ 76
 abbrev modules_2_1 : Parsed
 modules_2_1 = record { source = record { bytes = (77 ∷ 79 ∷ 68 ∷ 85 ∷ 76 ∷ 69 ∷ 32 ∷ 77 ∷ 59 ∷ 32 ∷ 73 ∷ 77 ∷ 80 ∷ 79 ∷ 82 ∷ 84 ∷ 32 ∷ 66 ∷ 32 ∷ 58 ∷ 61 ∷ 32 ∷ 65 ∷ 44 ∷ 32 ∷ 67 ∷ 32 ∷ 58 ∷ 61 ∷ 32 ∷ 65 ∷ 59 ∷ 32 ∷ 86 ∷ 65 ∷ 82 ∷ 32 ∷ 114 ∷ 58 ∷ 32 ∷ 66 ∷ 46 ∷ 82 ∷ 59 ∷ 32 ∷ 66 ∷ 69 ∷ 71 ∷ 73 ∷ 78 ∷ 32 ∷ 114 ∷ 32 ∷ 58 ∷ 61 ∷ 32 ∷ 67 ∷ 46 ∷ 114 ∷ 32 ∷ 69 ∷ 78 ∷ 68 ∷ 32 ∷ 77 ∷ 46 ∷ []); symbols = (symbol (Ident) 0 6 ∷ symbol (Ident) 7 8 ∷ symbol (Ident) 8 9 ∷ symbol (Ident) 10 16 ∷ symbol (Ident) 17 18 ∷ symbol (Ident) 19 21 ∷ symbol (Ident) 22 23 ∷ symbol (Ident) 23 24 ∷ symbol (Ident) 25 26 ∷ symbol (Ident) 27 29 ∷ symbol (Ident) 30 31 ∷ symbol (Ident) 31 32 ∷ symbol (Ident) 33 36 ∷ symbol (Ident) 37 38 ∷ symbol (Ident) 38 39 ∷ symbol (Ident) 40 41 ∷ symbol (Ident) 41 42 ∷ symbol (Ident) 42 43 ∷ symbol (Ident) 43 44 ∷ symbol (Ident) 45 50 ∷ symbol (Ident) 51 52 ∷ symbol (Ident) 53 55 ∷ symbol (Ident) 56 57 ∷ symbol (Ident) 57 58 ∷ symbol (Ident) 58 59 ∷ symbol (Ident) 60 63 ∷ symbol (Ident) 64 65 ∷ symbol (Ident) 65 66 ∷ []) }; tree = record { module_word = 0; name = 1; semicolon = 0; imports = Some (record { import_word = 0; first = (record { name = 4; of = Some (record { becomes = 0; name = 6 }) }); more = (record { comma = 0; import = (record { name = 8; of = Some (record { becomes = 0; name = 10 }) }) } ∷ []); semicolon = 0 }); decls = (S.decls None None (Some (record { var_word = 0; each = (record { names = (record { first = (record { name = 13; star = None }); more = [] }); colon = 0; of = (S.Named (record { name = 15; member = Some (record { period = 0; name = 17 }) })); semicolon = 0 } ∷ []) })) S.no_procedure); body = (Some (record { begin_word = 0; stats = (S.stats (S.AssignOrCall (record { name = 20; selectors = S.no_selector }) (Some (record { becomes = 0; value = (S.only (S.simple None (S.term (S.Designated 22 (S.selected (S.Field 0 24) S.no_selector)) S.no_factor) S.no_term)) }))) S.no_stat) })); end_word = 0; end_name = 26; period = 0 } }
 
-pub modules_2 : checked (modules_2_0 ∷ modules_2_1 ∷ []) ≡ Legal (record { records = (record { module_number = 0; base = None; level = 0; fields = (record { name = (120 ∷ []); exported = true; shape = H.Integer } ∷ record { name = (104 ∷ []); exported = false; shape = H.Integer } ∷ []); cells = 2 } ∷ record { module_number = 0; base = None; level = 0; fields = []; cells = 0 } ∷ []); pointers = (Some 0 ∷ []); modules = (record { name = (65 ∷ []); objects = (record { name = (99 ∷ []); exported = true; entity = I.OfConstant (I.Bits H.Integer 3) } ∷ record { name = (100 ∷ []); exported = false; entity = I.OfConstant (I.Bits H.Integer 4) } ∷ record { name = (82 ∷ []); exported = true; entity = I.OfType (H.Record 0) } ∷ record { name = (80 ∷ []); exported = true; entity = I.OfType (H.Pointer 0) } ∷ record { name = (72 ∷ []); exported = false; entity = I.OfType (H.Record 1) } ∷ record { name = (118 ∷ []); exported = true; entity = I.OfVariable 0 } ∷ record { name = (114 ∷ []); exported = true; entity = I.OfVariable 1 } ∷ record { name = (112 ∷ []); exported = true; entity = I.OfVariable 2 } ∷ record { name = (97 ∷ []); exported = true; entity = I.OfVariable 3 } ∷ record { name = (119 ∷ []); exported = false; entity = I.OfVariable 4 } ∷ record { name = (102 ∷ []); exported = true; entity = I.OfVariable 5 } ∷ record { name = (78 ∷ []); exported = true; entity = I.OfProcedure 0 } ∷ record { name = (76 ∷ []); exported = false; entity = I.OfProcedure 1 } ∷ []); variables = (H.Integer ∷ (H.Record 0) ∷ (H.Pointer 0) ∷ (H.Array 2 H.Integer) ∷ H.Integer ∷ (H.Procedure H.none H.Nothing) ∷ []); body = 2 } ∷ record { name = (77 ∷ []); objects = (record { name = (114 ∷ []); exported = false; entity = I.OfVariable 0 } ∷ []); variables = ((H.Record 0) ∷ []); body = 3 } ∷ []); procedures = (record { module_number = 0; line = 1; is_body = false; formals = []; result = H.Nothing; locals = []; texts = []; body = I.no_statement; answer = None } ∷ record { module_number = 0; line = 1; is_body = false; formals = []; result = H.Nothing; locals = []; texts = []; body = I.no_statement; answer = None } ∷ record { module_number = 0; line = 1; is_body = true; formals = []; result = H.Nothing; locals = []; texts = []; body = I.no_statement; answer = None } ∷ record { module_number = 1; line = 1; is_body = true; formals = []; result = H.Nothing; locals = []; texts = []; body = (I.next_statement (I.CopyRecord (I.of_type (I.Global 1 0) (H.Record 0)) (I.of_type (I.Global 0 1) (H.Record 0))) I.no_statement); answer = None } ∷ []); imports_in = false })
+pub modules_2 : checked (modules_2_0 ∷ modules_2_1 ∷ []) ≡ Legal (record { records = (record { module_number = 0; base = None; level = 0; fields = (record { name = (120 ∷ []); exported = true; shape = H.Integer } ∷ record { name = (104 ∷ []); exported = false; shape = H.Integer } ∷ []); cells = 2; extent = record { bytes = 16; wide = true } } ∷ record { module_number = 0; base = None; level = 0; fields = []; cells = 0; extent = record { bytes = 0; wide = false } } ∷ []); pointers = (Some 0 ∷ []); modules = (record { name = (65 ∷ []); objects = (record { name = (99 ∷ []); exported = true; entity = I.OfConstant (I.Bits H.Integer 3) } ∷ record { name = (100 ∷ []); exported = false; entity = I.OfConstant (I.Bits H.Integer 4) } ∷ record { name = (82 ∷ []); exported = true; entity = I.OfType (H.Record 0) } ∷ record { name = (80 ∷ []); exported = true; entity = I.OfType (H.Pointer 0) } ∷ record { name = (72 ∷ []); exported = false; entity = I.OfType (H.Record 1) } ∷ record { name = (118 ∷ []); exported = true; entity = I.OfVariable 0 } ∷ record { name = (114 ∷ []); exported = true; entity = I.OfVariable 1 } ∷ record { name = (112 ∷ []); exported = true; entity = I.OfVariable 2 } ∷ record { name = (97 ∷ []); exported = true; entity = I.OfVariable 3 } ∷ record { name = (119 ∷ []); exported = false; entity = I.OfVariable 4 } ∷ record { name = (102 ∷ []); exported = true; entity = I.OfVariable 5 } ∷ record { name = (78 ∷ []); exported = true; entity = I.OfProcedure 0 } ∷ record { name = (76 ∷ []); exported = false; entity = I.OfProcedure 1 } ∷ []); variables = (H.Integer ∷ (H.Record 0) ∷ (H.Pointer 0) ∷ (H.Array 2 H.Integer) ∷ H.Integer ∷ (H.Procedure H.none H.Nothing) ∷ []); body = 2 } ∷ record { name = (77 ∷ []); objects = (record { name = (114 ∷ []); exported = false; entity = I.OfVariable 0 } ∷ []); variables = ((H.Record 0) ∷ []); body = 3 } ∷ []); procedures = (record { module_number = 0; line = 1; is_body = false; formals = []; result = H.Nothing; locals = []; texts = []; body = I.no_statement; answer = None } ∷ record { module_number = 0; line = 1; is_body = false; formals = []; result = H.Nothing; locals = []; texts = []; body = I.no_statement; answer = None } ∷ record { module_number = 0; line = 1; is_body = true; formals = []; result = H.Nothing; locals = []; texts = []; body = I.no_statement; answer = None } ∷ record { module_number = 1; line = 1; is_body = true; formals = []; result = H.Nothing; locals = []; texts = []; body = (I.next_statement (I.CopyRecord (I.of_type (I.Global 1 0) (H.Record 0)) (I.of_type (I.Global 0 1) (H.Record 0))) I.no_statement); answer = None } ∷ []); imports_in = false })
 modules_2 = refl
 
 -- MODULE A; TYPE P* = POINTER TO R; R = RECORD x*: INTEGER END; VAR p*: P; END A.
@@ -729,3 +729,24 @@ modules_10_0 = record { source = record { bytes = (77 ∷ 79 ∷ 68 ∷ 85 ∷ 7
 
 pub modules_10 : checked (modules_10_0 ∷ []) ≡ Legal (record { records = []; pointers = []; modules = (record { name = (77 ∷ []); objects = (record { name = (99 ∷ []); exported = false; entity = I.OfConstant (I.Bits H.Integer 1) } ∷ record { name = (80 ∷ []); exported = true; entity = I.OfProcedure 0 } ∷ []); variables = []; body = 2 } ∷ []); procedures = (record { module_number = 0; line = 1; is_body = false; formals = []; result = H.Nothing; locals = []; texts = []; body = (I.next_statement (I.Invoke (I.Direct 1 I.no_argument)) I.no_statement); answer = None } ∷ record { module_number = 0; line = 1; is_body = false; formals = []; result = H.Nothing; locals = []; texts = []; body = I.no_statement; answer = None } ∷ record { module_number = 0; line = 1; is_body = true; formals = []; result = H.Nothing; locals = []; texts = []; body = (I.next_statement (I.Invoke (I.Direct 0 I.no_argument)) (I.next_statement I.OutLn I.no_statement)); answer = None } ∷ []); imports_in = false })
 modules_10 = refl
+
+-- MODULE M; TYPE R = RECORD c: CHAR; i: INTEGER; d: CHAR END; E = RECORD (R) e: CHAR END; P = POINTER TO E; VAR a: ARRAY 9 OF CHAR; r: R; p: P; END M.
+abbrev layouts_1_0 : Parsed
+layouts_1_0 = record { source = record { bytes = (77 ∷ 79 ∷ 68 ∷ 85 ∷ 76 ∷ 69 ∷ 32 ∷ 77 ∷ 59 ∷ 32 ∷ 84 ∷ 89 ∷ 80 ∷ 69 ∷ 32 ∷ 82 ∷ 32 ∷ 61 ∷ 32 ∷ 82 ∷ 69 ∷ 67 ∷ 79 ∷ 82 ∷ 68 ∷ 32 ∷ 99 ∷ 58 ∷ 32 ∷ 67 ∷ 72 ∷ 65 ∷ 82 ∷ 59 ∷ 32 ∷ 105 ∷ 58 ∷ 32 ∷ 73 ∷ 78 ∷ 84 ∷ 69 ∷ 71 ∷ 69 ∷ 82 ∷ 59 ∷ 32 ∷ 100 ∷ 58 ∷ 32 ∷ 67 ∷ 72 ∷ 65 ∷ 82 ∷ 32 ∷ 69 ∷ 78 ∷ 68 ∷ 59 ∷ 32 ∷ 69 ∷ 32 ∷ 61 ∷ 32 ∷ 82 ∷ 69 ∷ 67 ∷ 79 ∷ 82 ∷ 68 ∷ 32 ∷ 40 ∷ 82 ∷ 41 ∷ 32 ∷ 101 ∷ 58 ∷ 32 ∷ 67 ∷ 72 ∷ 65 ∷ 82 ∷ 32 ∷ 69 ∷ 78 ∷ 68 ∷ 59 ∷ 32 ∷ 80 ∷ 32 ∷ 61 ∷ 32 ∷ 80 ∷ 79 ∷ 73 ∷ 78 ∷ 84 ∷ 69 ∷ 82 ∷ 32 ∷ 84 ∷ 79 ∷ 32 ∷ 69 ∷ 59 ∷ 32 ∷ 86 ∷ 65 ∷ 82 ∷ 32 ∷ 97 ∷ 58 ∷ 32 ∷ 65 ∷ 82 ∷ 82 ∷ 65 ∷ 89 ∷ 32 ∷ 57 ∷ 32 ∷ 79 ∷ 70 ∷ 32 ∷ 67 ∷ 72 ∷ 65 ∷ 82 ∷ 59 ∷ 32 ∷ 114 ∷ 58 ∷ 32 ∷ 82 ∷ 59 ∷ 32 ∷ 112 ∷ 58 ∷ 32 ∷ 80 ∷ 59 ∷ 32 ∷ 69 ∷ 78 ∷ 68 ∷ 32 ∷ 77 ∷ 46 ∷ []); symbols = (symbol (Ident) 0 6 ∷ symbol (Ident) 7 8 ∷ symbol (Ident) 8 9 ∷ symbol (Ident) 10 14 ∷ symbol (Ident) 15 16 ∷ symbol (Ident) 17 18 ∷ symbol (Ident) 19 25 ∷ symbol (Ident) 26 27 ∷ symbol (Ident) 27 28 ∷ symbol (Ident) 29 33 ∷ symbol (Ident) 33 34 ∷ symbol (Ident) 35 36 ∷ symbol (Ident) 36 37 ∷ symbol (Ident) 38 45 ∷ symbol (Ident) 45 46 ∷ symbol (Ident) 47 48 ∷ symbol (Ident) 48 49 ∷ symbol (Ident) 50 54 ∷ symbol (Ident) 55 58 ∷ symbol (Ident) 58 59 ∷ symbol (Ident) 60 61 ∷ symbol (Ident) 62 63 ∷ symbol (Ident) 64 70 ∷ symbol (Ident) 71 72 ∷ symbol (Ident) 72 73 ∷ symbol (Ident) 73 74 ∷ symbol (Ident) 75 76 ∷ symbol (Ident) 76 77 ∷ symbol (Ident) 78 82 ∷ symbol (Ident) 83 86 ∷ symbol (Ident) 86 87 ∷ symbol (Ident) 88 89 ∷ symbol (Ident) 90 91 ∷ symbol (Ident) 92 99 ∷ symbol (Ident) 100 102 ∷ symbol (Ident) 103 104 ∷ symbol (Ident) 104 105 ∷ symbol (Ident) 106 109 ∷ symbol (Ident) 110 111 ∷ symbol (Ident) 111 112 ∷ symbol (Ident) 113 118 ∷ symbol (Int (pos 9)) 119 120 ∷ symbol (Ident) 121 123 ∷ symbol (Ident) 124 128 ∷ symbol (Ident) 128 129 ∷ symbol (Ident) 130 131 ∷ symbol (Ident) 131 132 ∷ symbol (Ident) 133 134 ∷ symbol (Ident) 134 135 ∷ symbol (Ident) 136 137 ∷ symbol (Ident) 137 138 ∷ symbol (Ident) 139 140 ∷ symbol (Ident) 140 141 ∷ symbol (Ident) 142 145 ∷ symbol (Ident) 146 147 ∷ symbol (Ident) 147 148 ∷ []) }; tree = record { module_word = 0; name = 1; semicolon = 0; imports = None; decls = (S.decls None (Some (record { type_word = 0; each = (record { name = (record { name = 4; star = None }); equal = 0; is = (S.Record 6 None (S.fields (record { first = (record { name = 7; star = None }); more = [] }) 0 (S.Named (record { name = 9; member = None }))) (S.next_fields 0 (S.fields (record { first = (record { name = 11; star = None }); more = [] }) 0 (S.Named (record { name = 13; member = None }))) (S.next_fields 0 (S.fields (record { first = (record { name = 15; star = None }); more = [] }) 0 (S.Named (record { name = 17; member = None }))) S.no_more_fields)) 0); semicolon = 0 } ∷ record { name = (record { name = 20; star = None }); equal = 0; is = (S.Record 22 (Some (record { left_paren = 0; name = (record { name = 24; member = None }); right_paren = 0 })) (S.fields (record { first = (record { name = 26; star = None }); more = [] }) 0 (S.Named (record { name = 28; member = None }))) S.no_more_fields 0); semicolon = 0 } ∷ record { name = (record { name = 31; star = None }); equal = 0; is = (S.Pointer 33 0 (S.Named (record { name = 35; member = None }))); semicolon = 0 } ∷ []) })) (Some (record { var_word = 0; each = (record { names = (record { first = (record { name = 38; star = None }); more = [] }); colon = 0; of = (S.Array 40 (S.only (S.simple None (S.term (S.Int 41) S.no_factor) S.no_term)) S.no_expression 0 (S.Named (record { name = 43; member = None }))); semicolon = 0 } ∷ record { names = (record { first = (record { name = 45; star = None }); more = [] }); colon = 0; of = (S.Named (record { name = 47; member = None })); semicolon = 0 } ∷ record { names = (record { first = (record { name = 49; star = None }); more = [] }); colon = 0; of = (S.Named (record { name = 51; member = None })); semicolon = 0 } ∷ []) })) S.no_procedure); body = None; end_word = 0; end_name = 54; period = 0 } }
+
+pub layouts_1 : checked (layouts_1_0 ∷ []) ≡ Legal (record { records = (record { module_number = 0; base = None; level = 0; fields = (record { name = (99 ∷ []); exported = false; shape = H.Char } ∷ record { name = (105 ∷ []); exported = false; shape = H.Integer } ∷ record { name = (100 ∷ []); exported = false; shape = H.Char } ∷ []); cells = 3; extent = record { bytes = 24; wide = true } } ∷ record { module_number = 0; base = (Some 0); level = 1; fields = (record { name = (101 ∷ []); exported = false; shape = H.Char } ∷ []); cells = 4; extent = record { bytes = 32; wide = true } } ∷ []); pointers = (Some 1 ∷ []); modules = (record { name = (77 ∷ []); objects = (record { name = (82 ∷ []); exported = false; entity = I.OfType (H.Record 0) } ∷ record { name = (69 ∷ []); exported = false; entity = I.OfType (H.Record 1) } ∷ record { name = (80 ∷ []); exported = false; entity = I.OfType (H.Pointer 0) } ∷ record { name = (97 ∷ []); exported = false; entity = I.OfVariable 0 } ∷ record { name = (114 ∷ []); exported = false; entity = I.OfVariable 1 } ∷ record { name = (112 ∷ []); exported = false; entity = I.OfVariable 2 } ∷ []); variables = ((H.Array 9 H.Char) ∷ (H.Record 0) ∷ (H.Pointer 0) ∷ []); body = 0 } ∷ []); procedures = (record { module_number = 0; line = 1; is_body = true; formals = []; result = H.Nothing; locals = []; texts = []; body = I.no_statement; answer = None } ∷ []); imports_in = false })
+layouts_1 = refl
+
+-- MODULE M; VAR a: ARRAY 3 OF RECORD b: BOOLEAN; c: CHAR END; END M.
+abbrev layouts_2_0 : Parsed
+layouts_2_0 = record { source = record { bytes = (77 ∷ 79 ∷ 68 ∷ 85 ∷ 76 ∷ 69 ∷ 32 ∷ 77 ∷ 59 ∷ 32 ∷ 86 ∷ 65 ∷ 82 ∷ 32 ∷ 97 ∷ 58 ∷ 32 ∷ 65 ∷ 82 ∷ 82 ∷ 65 ∷ 89 ∷ 32 ∷ 51 ∷ 32 ∷ 79 ∷ 70 ∷ 32 ∷ 82 ∷ 69 ∷ 67 ∷ 79 ∷ 82 ∷ 68 ∷ 32 ∷ 98 ∷ 58 ∷ 32 ∷ 66 ∷ 79 ∷ 79 ∷ 76 ∷ 69 ∷ 65 ∷ 78 ∷ 59 ∷ 32 ∷ 99 ∷ 58 ∷ 32 ∷ 67 ∷ 72 ∷ 65 ∷ 82 ∷ 32 ∷ 69 ∷ 78 ∷ 68 ∷ 59 ∷ 32 ∷ 69 ∷ 78 ∷ 68 ∷ 32 ∷ 77 ∷ 46 ∷ []); symbols = (symbol (Ident) 0 6 ∷ symbol (Ident) 7 8 ∷ symbol (Ident) 8 9 ∷ symbol (Ident) 10 13 ∷ symbol (Ident) 14 15 ∷ symbol (Ident) 15 16 ∷ symbol (Ident) 17 22 ∷ symbol (Int (pos 3)) 23 24 ∷ symbol (Ident) 25 27 ∷ symbol (Ident) 28 34 ∷ symbol (Ident) 35 36 ∷ symbol (Ident) 36 37 ∷ symbol (Ident) 38 45 ∷ symbol (Ident) 45 46 ∷ symbol (Ident) 47 48 ∷ symbol (Ident) 48 49 ∷ symbol (Ident) 50 54 ∷ symbol (Ident) 55 58 ∷ symbol (Ident) 58 59 ∷ symbol (Ident) 60 63 ∷ symbol (Ident) 64 65 ∷ symbol (Ident) 65 66 ∷ []) }; tree = record { module_word = 0; name = 1; semicolon = 0; imports = None; decls = (S.decls None None (Some (record { var_word = 0; each = (record { names = (record { first = (record { name = 4; star = None }); more = [] }); colon = 0; of = (S.Array 6 (S.only (S.simple None (S.term (S.Int 7) S.no_factor) S.no_term)) S.no_expression 0 (S.Record 9 None (S.fields (record { first = (record { name = 10; star = None }); more = [] }) 0 (S.Named (record { name = 12; member = None }))) (S.next_fields 0 (S.fields (record { first = (record { name = 14; star = None }); more = [] }) 0 (S.Named (record { name = 16; member = None }))) S.no_more_fields) 0)); semicolon = 0 } ∷ []) })) S.no_procedure); body = None; end_word = 0; end_name = 20; period = 0 } }
+
+pub layouts_2 : checked (layouts_2_0 ∷ []) ≡ Legal (record { records = (record { module_number = 0; base = None; level = 0; fields = (record { name = (98 ∷ []); exported = false; shape = H.Boolean } ∷ record { name = (99 ∷ []); exported = false; shape = H.Char } ∷ []); cells = 2; extent = record { bytes = 2; wide = false } } ∷ []); pointers = []; modules = (record { name = (77 ∷ []); objects = (record { name = (97 ∷ []); exported = false; entity = I.OfVariable 0 } ∷ []); variables = ((H.Array 3 (H.Record 0)) ∷ []); body = 0 } ∷ []); procedures = (record { module_number = 0; line = 1; is_body = true; formals = []; result = H.Nothing; locals = []; texts = []; body = I.no_statement; answer = None } ∷ []); imports_in = false })
+layouts_2 = refl
+
+-- MODULE M; TYPE T = RECORD x, y, z: BYTE END; VAR a: ARRAY 2, 5 OF T; r: RECORD t: ARRAY 2, 5 OF T; i: INTEGER; n: RECORD t: T END END; END M.
+abbrev layouts_3_0 : Parsed
+layouts_3_0 = record { source = record { bytes = (77 ∷ 79 ∷ 68 ∷ 85 ∷ 76 ∷ 69 ∷ 32 ∷ 77 ∷ 59 ∷ 32 ∷ 84 ∷ 89 ∷ 80 ∷ 69 ∷ 32 ∷ 84 ∷ 32 ∷ 61 ∷ 32 ∷ 82 ∷ 69 ∷ 67 ∷ 79 ∷ 82 ∷ 68 ∷ 32 ∷ 120 ∷ 44 ∷ 32 ∷ 121 ∷ 44 ∷ 32 ∷ 122 ∷ 58 ∷ 32 ∷ 66 ∷ 89 ∷ 84 ∷ 69 ∷ 32 ∷ 69 ∷ 78 ∷ 68 ∷ 59 ∷ 32 ∷ 86 ∷ 65 ∷ 82 ∷ 32 ∷ 97 ∷ 58 ∷ 32 ∷ 65 ∷ 82 ∷ 82 ∷ 65 ∷ 89 ∷ 32 ∷ 50 ∷ 44 ∷ 32 ∷ 53 ∷ 32 ∷ 79 ∷ 70 ∷ 32 ∷ 84 ∷ 59 ∷ 32 ∷ 114 ∷ 58 ∷ 32 ∷ 82 ∷ 69 ∷ 67 ∷ 79 ∷ 82 ∷ 68 ∷ 32 ∷ 116 ∷ 58 ∷ 32 ∷ 65 ∷ 82 ∷ 82 ∷ 65 ∷ 89 ∷ 32 ∷ 50 ∷ 44 ∷ 32 ∷ 53 ∷ 32 ∷ 79 ∷ 70 ∷ 32 ∷ 84 ∷ 59 ∷ 32 ∷ 105 ∷ 58 ∷ 32 ∷ 73 ∷ 78 ∷ 84 ∷ 69 ∷ 71 ∷ 69 ∷ 82 ∷ 59 ∷ 32 ∷ 110 ∷ 58 ∷ 32 ∷ 82 ∷ 69 ∷ 67 ∷ 79 ∷ 82 ∷ 68 ∷ 32 ∷ 116 ∷ 58 ∷ 32 ∷ 84 ∷ 32 ∷ 69 ∷ 78 ∷ 68 ∷ 32 ∷ 69 ∷ 78 ∷ 68 ∷ 59 ∷ 32 ∷ 69 ∷ 78 ∷ 68 ∷ 32 ∷ 77 ∷ 46 ∷ []); symbols = (symbol (Ident) 0 6 ∷ symbol (Ident) 7 8 ∷ symbol (Ident) 8 9 ∷ symbol (Ident) 10 14 ∷ symbol (Ident) 15 16 ∷ symbol (Ident) 17 18 ∷ symbol (Ident) 19 25 ∷ symbol (Ident) 26 27 ∷ symbol (Ident) 27 28 ∷ symbol (Ident) 29 30 ∷ symbol (Ident) 30 31 ∷ symbol (Ident) 32 33 ∷ symbol (Ident) 33 34 ∷ symbol (Ident) 35 39 ∷ symbol (Ident) 40 43 ∷ symbol (Ident) 43 44 ∷ symbol (Ident) 45 48 ∷ symbol (Ident) 49 50 ∷ symbol (Ident) 50 51 ∷ symbol (Ident) 52 57 ∷ symbol (Int (pos 2)) 58 59 ∷ symbol (Ident) 59 60 ∷ symbol (Int (pos 5)) 61 62 ∷ symbol (Ident) 63 65 ∷ symbol (Ident) 66 67 ∷ symbol (Ident) 67 68 ∷ symbol (Ident) 69 70 ∷ symbol (Ident) 70 71 ∷ symbol (Ident) 72 78 ∷ symbol (Ident) 79 80 ∷ symbol (Ident) 80 81 ∷ symbol (Ident) 82 87 ∷ symbol (Int (pos 2)) 88 89 ∷ symbol (Ident) 89 90 ∷ symbol (Int (pos 5)) 91 92 ∷ symbol (Ident) 93 95 ∷ symbol (Ident) 96 97 ∷ symbol (Ident) 97 98 ∷ symbol (Ident) 99 100 ∷ symbol (Ident) 100 101 ∷ symbol (Ident) 102 109 ∷ symbol (Ident) 109 110 ∷ symbol (Ident) 111 112 ∷ symbol (Ident) 112 113 ∷ symbol (Ident) 114 120 ∷ symbol (Ident) 121 122 ∷ symbol (Ident) 122 123 ∷ symbol (Ident) 124 125 ∷ symbol (Ident) 126 129 ∷ symbol (Ident) 130 133 ∷ symbol (Ident) 133 134 ∷ symbol (Ident) 135 138 ∷ symbol (Ident) 139 140 ∷ symbol (Ident) 140 141 ∷ []) }; tree = record { module_word = 0; name = 1; semicolon = 0; imports = None; decls = (S.decls None (Some (record { type_word = 0; each = (record { name = (record { name = 4; star = None }); equal = 0; is = (S.Record 6 None (S.fields (record { first = (record { name = 7; star = None }); more = (record { comma = 0; name = (record { name = 9; star = None }) } ∷ record { comma = 0; name = (record { name = 11; star = None }) } ∷ []) }) 0 (S.Named (record { name = 13; member = None }))) S.no_more_fields 0); semicolon = 0 } ∷ []) })) (Some (record { var_word = 0; each = (record { names = (record { first = (record { name = 17; star = None }); more = [] }); colon = 0; of = (S.Array 19 (S.only (S.simple None (S.term (S.Int 20) S.no_factor) S.no_term)) (S.next_expression 0 (S.only (S.simple None (S.term (S.Int 22) S.no_factor) S.no_term)) S.no_expression) 0 (S.Named (record { name = 24; member = None }))); semicolon = 0 } ∷ record { names = (record { first = (record { name = 26; star = None }); more = [] }); colon = 0; of = (S.Record 28 None (S.fields (record { first = (record { name = 29; star = None }); more = [] }) 0 (S.Array 31 (S.only (S.simple None (S.term (S.Int 32) S.no_factor) S.no_term)) (S.next_expression 0 (S.only (S.simple None (S.term (S.Int 34) S.no_factor) S.no_term)) S.no_expression) 0 (S.Named (record { name = 36; member = None })))) (S.next_fields 0 (S.fields (record { first = (record { name = 38; star = None }); more = [] }) 0 (S.Named (record { name = 40; member = None }))) (S.next_fields 0 (S.fields (record { first = (record { name = 42; star = None }); more = [] }) 0 (S.Record 44 None (S.fields (record { first = (record { name = 45; star = None }); more = [] }) 0 (S.Named (record { name = 47; member = None }))) S.no_more_fields 0)) S.no_more_fields)) 0); semicolon = 0 } ∷ []) })) S.no_procedure); body = None; end_word = 0; end_name = 52; period = 0 } }
+
+pub layouts_3 : checked (layouts_3_0 ∷ []) ≡ Legal (record { records = (record { module_number = 0; base = None; level = 0; fields = (record { name = (120 ∷ []); exported = false; shape = H.Byte } ∷ record { name = (121 ∷ []); exported = false; shape = H.Byte } ∷ record { name = (122 ∷ []); exported = false; shape = H.Byte } ∷ []); cells = 3; extent = record { bytes = 3; wide = false } } ∷ record { module_number = 0; base = None; level = 0; fields = (record { name = (116 ∷ []); exported = false; shape = (H.Array 2 (H.Array 5 (H.Record 0))) } ∷ record { name = (105 ∷ []); exported = false; shape = H.Integer } ∷ record { name = (110 ∷ []); exported = false; shape = (H.Record 2) } ∷ []); cells = 34; extent = record { bytes = 48; wide = true } } ∷ record { module_number = 0; base = None; level = 0; fields = (record { name = (116 ∷ []); exported = false; shape = (H.Record 0) } ∷ []); cells = 3; extent = record { bytes = 3; wide = false } } ∷ []); pointers = []; modules = (record { name = (77 ∷ []); objects = (record { name = (84 ∷ []); exported = false; entity = I.OfType (H.Record 0) } ∷ record { name = (97 ∷ []); exported = false; entity = I.OfVariable 0 } ∷ record { name = (114 ∷ []); exported = false; entity = I.OfVariable 1 } ∷ []); variables = ((H.Array 2 (H.Array 5 (H.Record 0))) ∷ (H.Record 1) ∷ []); body = 0 } ∷ []); procedures = (record { module_number = 0; line = 1; is_body = true; formals = []; result = H.Nothing; locals = []; texts = []; body = I.no_statement; answer = None } ∷ []); imports_in = false })
+layouts_3 = refl

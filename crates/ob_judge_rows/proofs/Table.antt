@@ -162,7 +162,7 @@ echo = refl
 abbrev guards_0 : Parsed
 guards_0 = record { source = record { bytes = (77 ∷ 79 ∷ 68 ∷ 85 ∷ 76 ∷ 69 ∷ 32 ∷ 71 ∷ 59 ∷ 32 ∷ 84 ∷ 89 ∷ 80 ∷ 69 ∷ 32 ∷ 66 ∷ 32 ∷ 61 ∷ 32 ∷ 82 ∷ 69 ∷ 67 ∷ 79 ∷ 82 ∷ 68 ∷ 32 ∷ 69 ∷ 78 ∷ 68 ∷ 59 ∷ 32 ∷ 69 ∷ 32 ∷ 61 ∷ 32 ∷ 82 ∷ 69 ∷ 67 ∷ 79 ∷ 82 ∷ 68 ∷ 32 ∷ 40 ∷ 66 ∷ 41 ∷ 32 ∷ 120 ∷ 58 ∷ 32 ∷ 73 ∷ 78 ∷ 84 ∷ 69 ∷ 71 ∷ 69 ∷ 82 ∷ 32 ∷ 69 ∷ 78 ∷ 68 ∷ 59 ∷ 32 ∷ 70 ∷ 32 ∷ 61 ∷ 32 ∷ 82 ∷ 69 ∷ 67 ∷ 79 ∷ 82 ∷ 68 ∷ 32 ∷ 40 ∷ 69 ∷ 41 ∷ 32 ∷ 69 ∷ 78 ∷ 68 ∷ 59 ∷ 32 ∷ 80 ∷ 66 ∷ 32 ∷ 61 ∷ 32 ∷ 80 ∷ 79 ∷ 73 ∷ 78 ∷ 84 ∷ 69 ∷ 82 ∷ 32 ∷ 84 ∷ 79 ∷ 32 ∷ 66 ∷ 59 ∷ 32 ∷ 80 ∷ 69 ∷ 32 ∷ 61 ∷ 32 ∷ 80 ∷ 79 ∷ 73 ∷ 78 ∷ 84 ∷ 69 ∷ 82 ∷ 32 ∷ 84 ∷ 79 ∷ 32 ∷ 69 ∷ 59 ∷ 32 ∷ 80 ∷ 70 ∷ 32 ∷ 61 ∷ 32 ∷ 80 ∷ 79 ∷ 73 ∷ 78 ∷ 84 ∷ 69 ∷ 82 ∷ 32 ∷ 84 ∷ 79 ∷ 32 ∷ 70 ∷ 59 ∷ 32 ∷ 86 ∷ 65 ∷ 82 ∷ 32 ∷ 112 ∷ 58 ∷ 32 ∷ 80 ∷ 66 ∷ 59 ∷ 32 ∷ 101 ∷ 58 ∷ 32 ∷ 80 ∷ 69 ∷ 59 ∷ 32 ∷ 102 ∷ 58 ∷ 32 ∷ 80 ∷ 70 ∷ 59 ∷ 32 ∷ 66 ∷ 69 ∷ 71 ∷ 73 ∷ 78 ∷ 32 ∷ 78 ∷ 69 ∷ 87 ∷ 40 ∷ 101 ∷ 41 ∷ 59 ∷ 32 ∷ 112 ∷ 32 ∷ 58 ∷ 61 ∷ 32 ∷ 101 ∷ 59 ∷ 32 ∷ 101 ∷ 32 ∷ 58 ∷ 61 ∷ 32 ∷ 112 ∷ 40 ∷ 80 ∷ 69 ∷ 41 ∷ 59 ∷ 32 ∷ 78 ∷ 69 ∷ 87 ∷ 40 ∷ 102 ∷ 41 ∷ 59 ∷ 32 ∷ 112 ∷ 32 ∷ 58 ∷ 61 ∷ 32 ∷ 102 ∷ 59 ∷ 32 ∷ 65 ∷ 83 ∷ 83 ∷ 69 ∷ 82 ∷ 84 ∷ 40 ∷ 126 ∷ 40 ∷ 112 ∷ 32 ∷ 73 ∷ 83 ∷ 32 ∷ 80 ∷ 69 ∷ 41 ∷ 41 ∷ 32 ∷ 69 ∷ 78 ∷ 68 ∷ 32 ∷ 71 ∷ 46 ∷ []); symbols = (symbol (Ident) 0 6 ∷ symbol (Ident) 7 8 ∷ symbol (Ident) 8 9 ∷ symbol (Ident) 10 14 ∷ symbol (Ident) 15 16 ∷ symbol (Ident) 17 18 ∷ symbol (Ident) 19 25 ∷ symbol (Ident) 26 29 ∷ symbol (Ident) 29 30 ∷ symbol (Ident) 31 32 ∷ symbol (Ident) 33 34 ∷ symbol (Ident) 35 41 ∷ symbol (Ident) 42 43 ∷ symbol (Ident) 43 44 ∷ symbol (Ident) 44 45 ∷ symbol (Ident) 46 47 ∷ symbol (Ident) 47 48 ∷ symbol (Ident) 49 56 ∷ symbol (Ident) 57 60 ∷ symbol (Ident) 60 61 ∷ symbol (Ident) 62 63 ∷ symbol (Ident) 64 65 ∷ symbol (Ident) 66 72 ∷ symbol (Ident) 73 74 ∷ symbol (Ident) 74 75 ∷ symbol (Ident) 75 76 ∷ symbol (Ident) 77 80 ∷ symbol (Ident) 80 81 ∷ symbol (Ident) 82 84 ∷ symbol (Ident) 85 86 ∷ symbol (Ident) 87 94 ∷ symbol (Ident) 95 97 ∷ symbol (Ident) 98 99 ∷ symbol (Ident) 99 100 ∷ symbol (Ident) 101 103 ∷ symbol (Ident) 104 105 ∷ symbol (Ident) 106 113 ∷ symbol (Ident) 114 116 ∷ symbol (Ident) 117 118 ∷ symbol (Ident) 118 119 ∷ symbol (Ident) 120 122 ∷ symbol (Ident) 123 124 ∷ symbol (Ident) 125 132 ∷ symbol (Ident) 133 135 ∷ symbol (Ident) 136 137 ∷ symbol (Ident) 137 138 ∷ symbol (Ident) 139 142 ∷ symbol (Ident) 143 144 ∷ symbol (Ident) 144 145 ∷ symbol (Ident) 146 148 ∷ symbol (Ident) 148 149 ∷ symbol (Ident) 150 151 ∷ symbol (Ident) 151 152 ∷ symbol (Ident) 153 155 ∷ symbol (Ident) 155 156 ∷ symbol (Ident) 157 158 ∷ symbol (Ident) 158 159 ∷ symbol (Ident) 160 162 ∷ symbol (Ident) 162 163 ∷ symbol (Ident) 164 169 ∷ symbol (Ident) 170 173 ∷ symbol (Ident) 173 174 ∷ symbol (Ident) 174 175 ∷ symbol (Ident) 175 176 ∷ symbol (Ident) 176 177 ∷ symbol (Ident) 178 179 ∷ symbol (Ident) 180 182 ∷ symbol (Ident) 183 184 ∷ symbol (Ident) 184 185 ∷ symbol (Ident) 186 187 ∷ symbol (Ident) 188 190 ∷ symbol (Ident) 191 192 ∷ symbol (Ident) 192 193 ∷ symbol (Ident) 193 195 ∷ symbol (Ident) 195 196 ∷ symbol (Ident) 196 197 ∷ symbol (Ident) 198 201 ∷ symbol (Ident) 201 202 ∷ symbol (Ident) 202 203 ∷ symbol (Ident) 203 204 ∷ symbol (Ident) 204 205 ∷ symbol (Ident) 206 207 ∷ symbol (Ident) 208 210 ∷ symbol (Ident) 211 212 ∷ symbol (Ident) 212 213 ∷ symbol (Ident) 214 220 ∷ symbol (Ident) 220 221 ∷ symbol (Ident) 221 222 ∷ symbol (Ident) 222 223 ∷ symbol (Ident) 223 224 ∷ symbol (Ident) 225 227 ∷ symbol (Ident) 228 230 ∷ symbol (Ident) 230 231 ∷ symbol (Ident) 231 232 ∷ symbol (Ident) 233 236 ∷ symbol (Ident) 237 238 ∷ symbol (Ident) 238 239 ∷ []) }; tree = record { module_word = 0; name = 1; semicolon = 0; imports = None; decls = (S.decls None (Some (record { type_word = 0; each = (record { name = (record { name = 4; star = None }); equal = 0; is = (S.Record 6 None S.no_fields S.no_more_fields 0); semicolon = 0 } ∷ record { name = (record { name = 9; star = None }); equal = 0; is = (S.Record 11 (Some (record { left_paren = 0; name = (record { name = 13; member = None }); right_paren = 0 })) (S.fields (record { first = (record { name = 15; star = None }); more = [] }) 0 (S.Named (record { name = 17; member = None }))) S.no_more_fields 0); semicolon = 0 } ∷ record { name = (record { name = 20; star = None }); equal = 0; is = (S.Record 22 (Some (record { left_paren = 0; name = (record { name = 24; member = None }); right_paren = 0 })) S.no_fields S.no_more_fields 0); semicolon = 0 } ∷ record { name = (record { name = 28; star = None }); equal = 0; is = (S.Pointer 30 0 (S.Named (record { name = 32; member = None }))); semicolon = 0 } ∷ record { name = (record { name = 34; star = None }); equal = 0; is = (S.Pointer 36 0 (S.Named (record { name = 38; member = None }))); semicolon = 0 } ∷ record { name = (record { name = 40; star = None }); equal = 0; is = (S.Pointer 42 0 (S.Named (record { name = 44; member = None }))); semicolon = 0 } ∷ []) })) (Some (record { var_word = 0; each = (record { names = (record { first = (record { name = 47; star = None }); more = [] }); colon = 0; of = (S.Named (record { name = 49; member = None })); semicolon = 0 } ∷ record { names = (record { first = (record { name = 51; star = None }); more = [] }); colon = 0; of = (S.Named (record { name = 53; member = None })); semicolon = 0 } ∷ record { names = (record { first = (record { name = 55; star = None }); more = [] }); colon = 0; of = (S.Named (record { name = 57; member = None })); semicolon = 0 } ∷ []) })) S.no_procedure); body = (Some (record { begin_word = 0; stats = (S.stats (S.AssignOrCall (record { name = 60; selectors = (S.selected (S.Parens 0 (S.expressions (S.only (S.simple None (S.term (S.Designated 62 S.no_selector) S.no_factor) S.no_term)) S.no_expression) 0) S.no_selector) }) None) (S.next_stat 0 (S.AssignOrCall (record { name = 65; selectors = S.no_selector }) (Some (record { becomes = 0; value = (S.only (S.simple None (S.term (S.Designated 67 S.no_selector) S.no_factor) S.no_term)) }))) (S.next_stat 0 (S.AssignOrCall (record { name = 69; selectors = S.no_selector }) (Some (record { becomes = 0; value = (S.only (S.simple None (S.term (S.Designated 71 (S.selected (S.Parens 0 (S.expressions (S.only (S.simple None (S.term (S.Designated 73 S.no_selector) S.no_factor) S.no_term)) S.no_expression) 0) S.no_selector)) S.no_factor) S.no_term)) }))) (S.next_stat 0 (S.AssignOrCall (record { name = 76; selectors = (S.selected (S.Parens 0 (S.expressions (S.only (S.simple None (S.term (S.Designated 78 S.no_selector) S.no_factor) S.no_term)) S.no_expression) 0) S.no_selector) }) None) (S.next_stat 0 (S.AssignOrCall (record { name = 81; selectors = S.no_selector }) (Some (record { becomes = 0; value = (S.only (S.simple None (S.term (S.Designated 83 S.no_selector) S.no_factor) S.no_term)) }))) (S.next_stat 0 (S.AssignOrCall (record { name = 85; selectors = (S.selected (S.Parens 0 (S.expressions (S.only (S.simple None (S.term (S.Not 87 (S.Paren 88 (S.compared (S.simple None (S.term (S.Designated 89 S.no_selector) S.no_factor) S.no_term) (TheRelation.Is 90) (S.simple None (S.term (S.Designated 91 S.no_selector) S.no_factor) S.no_term)) 0)) S.no_factor) S.no_term)) S.no_expression) 0) S.no_selector) }) None) S.no_stat)))))) })); end_word = 0; end_name = 95; period = 0 } }
 
-pub guards : checked (guards_0 ∷ []) ≡ Legal (record { records = (record { module_number = 0; base = None; level = 0; fields = []; cells = 0 } ∷ record { module_number = 0; base = (Some 0); level = 1; fields = (record { name = (120 ∷ []); exported = false; shape = H.Integer } ∷ []); cells = 1 } ∷ record { module_number = 0; base = (Some 1); level = 2; fields = []; cells = 1 } ∷ []); pointers = (Some 0 ∷ Some 1 ∷ Some 2 ∷ []); modules = (record { name = (71 ∷ []); objects = (record { name = (66 ∷ []); exported = false; entity = I.OfType (H.Record 0) } ∷ record { name = (69 ∷ []); exported = false; entity = I.OfType (H.Record 1) } ∷ record { name = (70 ∷ []); exported = false; entity = I.OfType (H.Record 2) } ∷ record { name = (80 ∷ 66 ∷ []); exported = false; entity = I.OfType (H.Pointer 0) } ∷ record { name = (80 ∷ 69 ∷ []); exported = false; entity = I.OfType (H.Pointer 1) } ∷ record { name = (80 ∷ 70 ∷ []); exported = false; entity = I.OfType (H.Pointer 2) } ∷ record { name = (112 ∷ []); exported = false; entity = I.OfVariable 0 } ∷ record { name = (101 ∷ []); exported = false; entity = I.OfVariable 1 } ∷ record { name = (102 ∷ []); exported = false; entity = I.OfVariable 2 } ∷ []); variables = ((H.Pointer 0) ∷ (H.Pointer 1) ∷ (H.Pointer 2) ∷ []); body = 0 } ∷ []); procedures = (record { module_number = 0; line = 1; is_body = true; formals = []; result = H.Nothing; locals = []; texts = []; body = (I.next_statement (I.New (I.of_type (I.Global 0 1) (H.Pointer 1))) (I.next_statement (I.Assign (I.of_type (I.Global 0 0) (H.Pointer 0)) (record { form = (I.Load (I.of_type (I.Global 0 1) (H.Pointer 1))); shape = (H.Pointer 1) })) (I.next_statement (I.Assign (I.of_type (I.Global 0 1) (H.Pointer 1)) (record { form = (I.Guard (I.Load (I.of_type (I.Global 0 0) (H.Pointer 0))) 1); shape = (H.Pointer 1) })) (I.next_statement (I.New (I.of_type (I.Global 0 2) (H.Pointer 2))) (I.next_statement (I.Assign (I.of_type (I.Global 0 0) (H.Pointer 0)) (record { form = (I.Load (I.of_type (I.Global 0 2) (H.Pointer 2))); shape = (H.Pointer 2) })) (I.next_statement (I.Assert (record { form = (I.Apply TheUnary.Not (I.IsPointer (I.Load (I.of_type (I.Global 0 0) (H.Pointer 0))) 1)); shape = H.Boolean })) I.no_statement)))))); answer = None } ∷ []); imports_in = false })
+pub guards : checked (guards_0 ∷ []) ≡ Legal (record { records = (record { module_number = 0; base = None; level = 0; fields = []; cells = 0; extent = record { bytes = 0; wide = false } } ∷ record { module_number = 0; base = (Some 0); level = 1; fields = (record { name = (120 ∷ []); exported = false; shape = H.Integer } ∷ []); cells = 1; extent = record { bytes = 8; wide = true } } ∷ record { module_number = 0; base = (Some 1); level = 2; fields = []; cells = 1; extent = record { bytes = 8; wide = true } } ∷ []); pointers = (Some 0 ∷ Some 1 ∷ Some 2 ∷ []); modules = (record { name = (71 ∷ []); objects = (record { name = (66 ∷ []); exported = false; entity = I.OfType (H.Record 0) } ∷ record { name = (69 ∷ []); exported = false; entity = I.OfType (H.Record 1) } ∷ record { name = (70 ∷ []); exported = false; entity = I.OfType (H.Record 2) } ∷ record { name = (80 ∷ 66 ∷ []); exported = false; entity = I.OfType (H.Pointer 0) } ∷ record { name = (80 ∷ 69 ∷ []); exported = false; entity = I.OfType (H.Pointer 1) } ∷ record { name = (80 ∷ 70 ∷ []); exported = false; entity = I.OfType (H.Pointer 2) } ∷ record { name = (112 ∷ []); exported = false; entity = I.OfVariable 0 } ∷ record { name = (101 ∷ []); exported = false; entity = I.OfVariable 1 } ∷ record { name = (102 ∷ []); exported = false; entity = I.OfVariable 2 } ∷ []); variables = ((H.Pointer 0) ∷ (H.Pointer 1) ∷ (H.Pointer 2) ∷ []); body = 0 } ∷ []); procedures = (record { module_number = 0; line = 1; is_body = true; formals = []; result = H.Nothing; locals = []; texts = []; body = (I.next_statement (I.New (I.of_type (I.Global 0 1) (H.Pointer 1))) (I.next_statement (I.Assign (I.of_type (I.Global 0 0) (H.Pointer 0)) (record { form = (I.Load (I.of_type (I.Global 0 1) (H.Pointer 1))); shape = (H.Pointer 1) })) (I.next_statement (I.Assign (I.of_type (I.Global 0 1) (H.Pointer 1)) (record { form = (I.Guard (I.Load (I.of_type (I.Global 0 0) (H.Pointer 0))) 1); shape = (H.Pointer 1) })) (I.next_statement (I.New (I.of_type (I.Global 0 2) (H.Pointer 2))) (I.next_statement (I.Assign (I.of_type (I.Global 0 0) (H.Pointer 0)) (record { form = (I.Load (I.of_type (I.Global 0 2) (H.Pointer 2))); shape = (H.Pointer 2) })) (I.next_statement (I.Assert (record { form = (I.Apply TheUnary.Not (I.IsPointer (I.Load (I.of_type (I.Global 0 0) (H.Pointer 0))) 1)); shape = H.Boolean })) I.no_statement)))))); answer = None } ∷ []); imports_in = false })
 guards = refl
 
 -- MODULE T; IMPORT Out; CONST s = ''abc''; VAR a: ARRAY 8 OF CHAR; b: BOOLEAN; PROCEDURE P(s: ARRAY OF CHAR): BOOLEAN; BEGIN a := s RETURN s = ''q1'' END P; PROCEDURE Q(): BOOLEAN; RETURN (''one'' < ''two'') & P(''three'') END Q; BEGIN a := s; Out.String(''xy''); IF ''ab'' < a THEN a := ''if'' ELSIF P(''elsif'') THEN ELSE a := ''else'' END; REPEAT a := ''until'' UNTIL a = ''last'' END T.

@@ -336,7 +336,7 @@ bad_label_21 = refl
 abbrev bad_label_22_0 : Parsed
 bad_label_22_0 = record { source = record { bytes = (77 ∷ 79 ∷ 68 ∷ 85 ∷ 76 ∷ 69 ∷ 32 ∷ 77 ∷ 59 ∷ 32 ∷ 84 ∷ 89 ∷ 80 ∷ 69 ∷ 32 ∷ 82 ∷ 32 ∷ 61 ∷ 32 ∷ 82 ∷ 69 ∷ 67 ∷ 79 ∷ 82 ∷ 68 ∷ 32 ∷ 120 ∷ 58 ∷ 32 ∷ 73 ∷ 78 ∷ 84 ∷ 69 ∷ 71 ∷ 69 ∷ 82 ∷ 59 ∷ 32 ∷ 121 ∷ 42 ∷ 58 ∷ 32 ∷ 67 ∷ 72 ∷ 65 ∷ 82 ∷ 32 ∷ 69 ∷ 78 ∷ 68 ∷ 59 ∷ 32 ∷ 69 ∷ 32 ∷ 61 ∷ 32 ∷ 82 ∷ 69 ∷ 67 ∷ 79 ∷ 82 ∷ 68 ∷ 32 ∷ 40 ∷ 82 ∷ 41 ∷ 32 ∷ 122 ∷ 58 ∷ 32 ∷ 83 ∷ 69 ∷ 84 ∷ 32 ∷ 69 ∷ 78 ∷ 68 ∷ 59 ∷ 32 ∷ 80 ∷ 32 ∷ 61 ∷ 32 ∷ 80 ∷ 79 ∷ 73 ∷ 78 ∷ 84 ∷ 69 ∷ 82 ∷ 32 ∷ 84 ∷ 79 ∷ 32 ∷ 82 ∷ 59 ∷ 32 ∷ 81 ∷ 32 ∷ 61 ∷ 32 ∷ 80 ∷ 79 ∷ 73 ∷ 78 ∷ 84 ∷ 69 ∷ 82 ∷ 32 ∷ 84 ∷ 79 ∷ 32 ∷ 69 ∷ 59 ∷ 32 ∷ 86 ∷ 65 ∷ 82 ∷ 32 ∷ 112 ∷ 58 ∷ 32 ∷ 80 ∷ 59 ∷ 32 ∷ 66 ∷ 69 ∷ 71 ∷ 73 ∷ 78 ∷ 32 ∷ 67 ∷ 65 ∷ 83 ∷ 69 ∷ 32 ∷ 112 ∷ 32 ∷ 79 ∷ 70 ∷ 32 ∷ 80 ∷ 58 ∷ 32 ∷ 124 ∷ 32 ∷ 80 ∷ 58 ∷ 32 ∷ 124 ∷ 32 ∷ 81 ∷ 58 ∷ 32 ∷ 69 ∷ 78 ∷ 68 ∷ 32 ∷ 69 ∷ 78 ∷ 68 ∷ 32 ∷ 77 ∷ 46 ∷ []); symbols = (symbol (Ident) 0 6 ∷ symbol (Ident) 7 8 ∷ symbol (Ident) 8 9 ∷ symbol (Ident) 10 14 ∷ symbol (Ident) 15 16 ∷ symbol (Ident) 17 18 ∷ symbol (Ident) 19 25 ∷ symbol (Ident) 26 27 ∷ symbol (Ident) 27 28 ∷ symbol (Ident) 29 36 ∷ symbol (Ident) 36 37 ∷ symbol (Ident) 38 39 ∷ symbol (Ident) 39 40 ∷ symbol (Ident) 40 41 ∷ symbol (Ident) 42 46 ∷ symbol (Ident) 47 50 ∷ symbol (Ident) 50 51 ∷ symbol (Ident) 52 53 ∷ symbol (Ident) 54 55 ∷ symbol (Ident) 56 62 ∷ symbol (Ident) 63 64 ∷ symbol (Ident) 64 65 ∷ symbol (Ident) 65 66 ∷ symbol (Ident) 67 68 ∷ symbol (Ident) 68 69 ∷ symbol (Ident) 70 73 ∷ symbol (Ident) 74 77 ∷ symbol (Ident) 77 78 ∷ symbol (Ident) 79 80 ∷ symbol (Ident) 81 82 ∷ symbol (Ident) 83 90 ∷ symbol (Ident) 91 93 ∷ symbol (Ident) 94 95 ∷ symbol (Ident) 95 96 ∷ symbol (Ident) 97 98 ∷ symbol (Ident) 99 100 ∷ symbol (Ident) 101 108 ∷ symbol (Ident) 109 111 ∷ symbol (Ident) 112 113 ∷ symbol (Ident) 113 114 ∷ symbol (Ident) 115 118 ∷ symbol (Ident) 119 120 ∷ symbol (Ident) 120 121 ∷ symbol (Ident) 122 123 ∷ symbol (Ident) 123 124 ∷ symbol (Ident) 125 130 ∷ symbol (Ident) 131 135 ∷ symbol (Ident) 136 137 ∷ symbol (Ident) 138 140 ∷ symbol (Ident) 141 142 ∷ symbol (Ident) 142 143 ∷ symbol (Ident) 144 145 ∷ symbol (Ident) 146 147 ∷ symbol (Ident) 147 148 ∷ symbol (Ident) 149 150 ∷ symbol (Ident) 151 152 ∷ symbol (Ident) 152 153 ∷ symbol (Ident) 154 157 ∷ symbol (Ident) 158 161 ∷ symbol (Ident) 162 163 ∷ symbol (Ident) 163 164 ∷ []) }; tree = record { module_word = 0; name = 1; semicolon = 0; imports = None; decls = (S.decls None (Some (record { type_word = 0; each = (record { name = (record { name = 4; star = None }); equal = 0; is = (S.Record 6 None (S.fields (record { first = (record { name = 7; star = None }); more = [] }) 0 (S.Named (record { name = 9; member = None }))) (S.next_fields 0 (S.fields (record { first = (record { name = 11; star = Some 0 }); more = [] }) 0 (S.Named (record { name = 14; member = None }))) S.no_more_fields) 0); semicolon = 0 } ∷ record { name = (record { name = 17; star = None }); equal = 0; is = (S.Record 19 (Some (record { left_paren = 0; name = (record { name = 21; member = None }); right_paren = 0 })) (S.fields (record { first = (record { name = 23; star = None }); more = [] }) 0 (S.Named (record { name = 25; member = None }))) S.no_more_fields 0); semicolon = 0 } ∷ record { name = (record { name = 28; star = None }); equal = 0; is = (S.Pointer 30 0 (S.Named (record { name = 32; member = None }))); semicolon = 0 } ∷ record { name = (record { name = 34; star = None }); equal = 0; is = (S.Pointer 36 0 (S.Named (record { name = 38; member = None }))); semicolon = 0 } ∷ []) })) (Some (record { var_word = 0; each = (record { names = (record { first = (record { name = 41; star = None }); more = [] }); colon = 0; of = (S.Named (record { name = 43; member = None })); semicolon = 0 } ∷ []) })) S.no_procedure); body = (Some (record { begin_word = 0; stats = (S.stats (S.Case 0 (S.only (S.simple None (S.term (S.Designated 47 S.no_selector) S.no_factor) S.no_term)) 0 (S.one_case (record { low = TheLabel.Named (record { name = 49; member = None }); high = None }) [] 0 (S.stats S.Empty S.no_stat)) (S.next_case 0 (S.one_case (record { low = TheLabel.Named (record { name = 52; member = None }); high = None }) [] 0 (S.stats S.Empty S.no_stat)) (S.next_case 0 (S.one_case (record { low = TheLabel.Named (record { name = 55; member = None }); high = None }) [] 0 (S.stats S.Empty S.no_stat)) S.no_next_case)) 0) S.no_stat) })); end_word = 0; end_name = 59; period = 0 } }
 
-pub bad_label_22 : checked (bad_label_22_0 ∷ []) ≡ Legal (record { records = (record { module_number = 0; base = None; level = 0; fields = (record { name = (120 ∷ []); exported = false; shape = H.Integer } ∷ record { name = (121 ∷ []); exported = true; shape = H.Char } ∷ []); cells = 2 } ∷ record { module_number = 0; base = (Some 0); level = 1; fields = (record { name = (122 ∷ []); exported = false; shape = H.Set } ∷ []); cells = 3 } ∷ []); pointers = (Some 0 ∷ Some 1 ∷ []); modules = (record { name = (77 ∷ []); objects = (record { name = (82 ∷ []); exported = false; entity = I.OfType (H.Record 0) } ∷ record { name = (69 ∷ []); exported = false; entity = I.OfType (H.Record 1) } ∷ record { name = (80 ∷ []); exported = false; entity = I.OfType (H.Pointer 0) } ∷ record { name = (81 ∷ []); exported = false; entity = I.OfType (H.Pointer 1) } ∷ record { name = (112 ∷ []); exported = false; entity = I.OfVariable 0 } ∷ []); variables = ((H.Pointer 0) ∷ []); body = 0 } ∷ []); procedures = (record { module_number = 0; line = 1; is_body = true; formals = []; result = H.Nothing; locals = []; texts = []; body = (I.next_statement (I.CasePointer (record { form = (I.Load (I.of_type (I.Global 0 0) (H.Pointer 0))); shape = (H.Pointer 0) }) (I.next_part (I.Extends 0) I.no_statement (I.next_part (I.Extends 0) I.no_statement (I.next_part (I.Extends 1) I.no_statement I.no_part)))) I.no_statement); answer = None } ∷ []); imports_in = false })
+pub bad_label_22 : checked (bad_label_22_0 ∷ []) ≡ Legal (record { records = (record { module_number = 0; base = None; level = 0; fields = (record { name = (120 ∷ []); exported = false; shape = H.Integer } ∷ record { name = (121 ∷ []); exported = true; shape = H.Char } ∷ []); cells = 2; extent = record { bytes = 16; wide = true } } ∷ record { module_number = 0; base = (Some 0); level = 1; fields = (record { name = (122 ∷ []); exported = false; shape = H.Set } ∷ []); cells = 3; extent = record { bytes = 24; wide = true } } ∷ []); pointers = (Some 0 ∷ Some 1 ∷ []); modules = (record { name = (77 ∷ []); objects = (record { name = (82 ∷ []); exported = false; entity = I.OfType (H.Record 0) } ∷ record { name = (69 ∷ []); exported = false; entity = I.OfType (H.Record 1) } ∷ record { name = (80 ∷ []); exported = false; entity = I.OfType (H.Pointer 0) } ∷ record { name = (81 ∷ []); exported = false; entity = I.OfType (H.Pointer 1) } ∷ record { name = (112 ∷ []); exported = false; entity = I.OfVariable 0 } ∷ []); variables = ((H.Pointer 0) ∷ []); body = 0 } ∷ []); procedures = (record { module_number = 0; line = 1; is_body = true; formals = []; result = H.Nothing; locals = []; texts = []; body = (I.next_statement (I.CasePointer (record { form = (I.Load (I.of_type (I.Global 0 0) (H.Pointer 0))); shape = (H.Pointer 0) }) (I.next_part (I.Extends 0) I.no_statement (I.next_part (I.Extends 0) I.no_statement (I.next_part (I.Extends 1) I.no_statement I.no_part)))) I.no_statement); answer = None } ∷ []); imports_in = false })
 bad_label_22 = refl
 
 -- MODULE M; TYPE R = RECORD x: INTEGER; y*: CHAR END; P = POINTER TO R; VAR p: P; BEGIN CASE p OF INTEGER: END END M.
@@ -721,14 +721,14 @@ bad_parameter_44 = refl
 abbrev bad_parameter_45_0 : Parsed
 bad_parameter_45_0 = record { source = record { bytes = (77 ∷ 79 ∷ 68 ∷ 85 ∷ 76 ∷ 69 ∷ 32 ∷ 77 ∷ 59 ∷ 32 ∷ 84 ∷ 89 ∷ 80 ∷ 69 ∷ 32 ∷ 82 ∷ 32 ∷ 61 ∷ 32 ∷ 82 ∷ 69 ∷ 67 ∷ 79 ∷ 82 ∷ 68 ∷ 32 ∷ 69 ∷ 78 ∷ 68 ∷ 59 ∷ 32 ∷ 70 ∷ 32 ∷ 61 ∷ 32 ∷ 80 ∷ 82 ∷ 79 ∷ 67 ∷ 69 ∷ 68 ∷ 85 ∷ 82 ∷ 69 ∷ 32 ∷ 40 ∷ 86 ∷ 65 ∷ 82 ∷ 32 ∷ 97 ∷ 44 ∷ 32 ∷ 98 ∷ 44 ∷ 32 ∷ 99 ∷ 44 ∷ 32 ∷ 100 ∷ 44 ∷ 32 ∷ 101 ∷ 44 ∷ 32 ∷ 102 ∷ 44 ∷ 32 ∷ 103 ∷ 44 ∷ 32 ∷ 104 ∷ 44 ∷ 32 ∷ 105 ∷ 44 ∷ 32 ∷ 106 ∷ 44 ∷ 32 ∷ 107 ∷ 44 ∷ 32 ∷ 108 ∷ 58 ∷ 32 ∷ 82 ∷ 41 ∷ 59 ∷ 32 ∷ 69 ∷ 78 ∷ 68 ∷ 32 ∷ 77 ∷ 46 ∷ []); symbols = (symbol (Ident) 0 6 ∷ symbol (Ident) 7 8 ∷ symbol (Ident) 8 9 ∷ symbol (Ident) 10 14 ∷ symbol (Ident) 15 16 ∷ symbol (Ident) 17 18 ∷ symbol (Ident) 19 25 ∷ symbol (Ident) 26 29 ∷ symbol (Ident) 29 30 ∷ symbol (Ident) 31 32 ∷ symbol (Ident) 33 34 ∷ symbol (Ident) 35 44 ∷ symbol (Ident) 45 46 ∷ symbol (Ident) 46 49 ∷ symbol (Ident) 50 51 ∷ symbol (Ident) 51 52 ∷ symbol (Ident) 53 54 ∷ symbol (Ident) 54 55 ∷ symbol (Ident) 56 57 ∷ symbol (Ident) 57 58 ∷ symbol (Ident) 59 60 ∷ symbol (Ident) 60 61 ∷ symbol (Ident) 62 63 ∷ symbol (Ident) 63 64 ∷ symbol (Ident) 65 66 ∷ symbol (Ident) 66 67 ∷ symbol (Ident) 68 69 ∷ symbol (Ident) 69 70 ∷ symbol (Ident) 71 72 ∷ symbol (Ident) 72 73 ∷ symbol (Ident) 74 75 ∷ symbol (Ident) 75 76 ∷ symbol (Ident) 77 78 ∷ symbol (Ident) 78 79 ∷ symbol (Ident) 80 81 ∷ symbol (Ident) 81 82 ∷ symbol (Ident) 83 84 ∷ symbol (Ident) 84 85 ∷ symbol (Ident) 86 87 ∷ symbol (Ident) 87 88 ∷ symbol (Ident) 88 89 ∷ symbol (Ident) 90 93 ∷ symbol (Ident) 94 95 ∷ symbol (Ident) 95 96 ∷ []) }; tree = record { module_word = 0; name = 1; semicolon = 0; imports = None; decls = (S.decls None (Some (record { type_word = 0; each = (record { name = (record { name = 4; star = None }); equal = 0; is = (S.Record 6 None S.no_fields S.no_more_fields 0); semicolon = 0 } ∷ record { name = (record { name = 9; star = None }); equal = 0; is = (S.Procedure 11 (Some (record { left_paren = 0; sections = Some (record { first = (record { var_word = Some 0; first = 14; more = (record { comma = 0; name = 16 } ∷ record { comma = 0; name = 18 } ∷ record { comma = 0; name = 20 } ∷ record { comma = 0; name = 22 } ∷ record { comma = 0; name = 24 } ∷ record { comma = 0; name = 26 } ∷ record { comma = 0; name = 28 } ∷ record { comma = 0; name = 30 } ∷ record { comma = 0; name = 32 } ∷ record { comma = 0; name = 34 } ∷ record { comma = 0; name = 36 } ∷ []); colon = 0; open_array = None; of = (record { name = 38; member = None }) }); more = [] }); right_paren = 0; result = None }))); semicolon = 0 } ∷ []) })) None S.no_procedure); body = None; end_word = 0; end_name = 42; period = 0 } }
 
-pub bad_parameter_45 : checked (bad_parameter_45_0 ∷ []) ≡ Legal (record { records = (record { module_number = 0; base = None; level = 0; fields = []; cells = 0 } ∷ []); pointers = []; modules = (record { name = (77 ∷ []); objects = (record { name = (82 ∷ []); exported = false; entity = I.OfType (H.Record 0) } ∷ record { name = (70 ∷ []); exported = false; entity = I.OfType (H.Procedure (H.one true (H.Record 0) (H.one true (H.Record 0) (H.one true (H.Record 0) (H.one true (H.Record 0) (H.one true (H.Record 0) (H.one true (H.Record 0) (H.one true (H.Record 0) (H.one true (H.Record 0) (H.one true (H.Record 0) (H.one true (H.Record 0) (H.one true (H.Record 0) (H.one true (H.Record 0) H.none)))))))))))) H.Nothing) } ∷ []); variables = []; body = 0 } ∷ []); procedures = (record { module_number = 0; line = 1; is_body = true; formals = []; result = H.Nothing; locals = []; texts = []; body = I.no_statement; answer = None } ∷ []); imports_in = false })
+pub bad_parameter_45 : checked (bad_parameter_45_0 ∷ []) ≡ Legal (record { records = (record { module_number = 0; base = None; level = 0; fields = []; cells = 0; extent = record { bytes = 0; wide = false } } ∷ []); pointers = []; modules = (record { name = (77 ∷ []); objects = (record { name = (82 ∷ []); exported = false; entity = I.OfType (H.Record 0) } ∷ record { name = (70 ∷ []); exported = false; entity = I.OfType (H.Procedure (H.one true (H.Record 0) (H.one true (H.Record 0) (H.one true (H.Record 0) (H.one true (H.Record 0) (H.one true (H.Record 0) (H.one true (H.Record 0) (H.one true (H.Record 0) (H.one true (H.Record 0) (H.one true (H.Record 0) (H.one true (H.Record 0) (H.one true (H.Record 0) (H.one true (H.Record 0) H.none)))))))))))) H.Nothing) } ∷ []); variables = []; body = 0 } ∷ []); procedures = (record { module_number = 0; line = 1; is_body = true; formals = []; result = H.Nothing; locals = []; texts = []; body = I.no_statement; answer = None } ∷ []); imports_in = false })
 bad_parameter_45 = refl
 
 -- MODULE M; TYPE R = RECORD END; F = PROCEDURE (a, b, c, d, e, f, g, h, i, j, k, l, m: R); END M.
 abbrev bad_parameter_46_0 : Parsed
 bad_parameter_46_0 = record { source = record { bytes = (77 ∷ 79 ∷ 68 ∷ 85 ∷ 76 ∷ 69 ∷ 32 ∷ 77 ∷ 59 ∷ 32 ∷ 84 ∷ 89 ∷ 80 ∷ 69 ∷ 32 ∷ 82 ∷ 32 ∷ 61 ∷ 32 ∷ 82 ∷ 69 ∷ 67 ∷ 79 ∷ 82 ∷ 68 ∷ 32 ∷ 69 ∷ 78 ∷ 68 ∷ 59 ∷ 32 ∷ 70 ∷ 32 ∷ 61 ∷ 32 ∷ 80 ∷ 82 ∷ 79 ∷ 67 ∷ 69 ∷ 68 ∷ 85 ∷ 82 ∷ 69 ∷ 32 ∷ 40 ∷ 97 ∷ 44 ∷ 32 ∷ 98 ∷ 44 ∷ 32 ∷ 99 ∷ 44 ∷ 32 ∷ 100 ∷ 44 ∷ 32 ∷ 101 ∷ 44 ∷ 32 ∷ 102 ∷ 44 ∷ 32 ∷ 103 ∷ 44 ∷ 32 ∷ 104 ∷ 44 ∷ 32 ∷ 105 ∷ 44 ∷ 32 ∷ 106 ∷ 44 ∷ 32 ∷ 107 ∷ 44 ∷ 32 ∷ 108 ∷ 44 ∷ 32 ∷ 109 ∷ 58 ∷ 32 ∷ 82 ∷ 41 ∷ 59 ∷ 32 ∷ 69 ∷ 78 ∷ 68 ∷ 32 ∷ 77 ∷ 46 ∷ []); symbols = (symbol (Ident) 0 6 ∷ symbol (Ident) 7 8 ∷ symbol (Ident) 8 9 ∷ symbol (Ident) 10 14 ∷ symbol (Ident) 15 16 ∷ symbol (Ident) 17 18 ∷ symbol (Ident) 19 25 ∷ symbol (Ident) 26 29 ∷ symbol (Ident) 29 30 ∷ symbol (Ident) 31 32 ∷ symbol (Ident) 33 34 ∷ symbol (Ident) 35 44 ∷ symbol (Ident) 45 46 ∷ symbol (Ident) 46 47 ∷ symbol (Ident) 47 48 ∷ symbol (Ident) 49 50 ∷ symbol (Ident) 50 51 ∷ symbol (Ident) 52 53 ∷ symbol (Ident) 53 54 ∷ symbol (Ident) 55 56 ∷ symbol (Ident) 56 57 ∷ symbol (Ident) 58 59 ∷ symbol (Ident) 59 60 ∷ symbol (Ident) 61 62 ∷ symbol (Ident) 62 63 ∷ symbol (Ident) 64 65 ∷ symbol (Ident) 65 66 ∷ symbol (Ident) 67 68 ∷ symbol (Ident) 68 69 ∷ symbol (Ident) 70 71 ∷ symbol (Ident) 71 72 ∷ symbol (Ident) 73 74 ∷ symbol (Ident) 74 75 ∷ symbol (Ident) 76 77 ∷ symbol (Ident) 77 78 ∷ symbol (Ident) 79 80 ∷ symbol (Ident) 80 81 ∷ symbol (Ident) 82 83 ∷ symbol (Ident) 83 84 ∷ symbol (Ident) 85 86 ∷ symbol (Ident) 86 87 ∷ symbol (Ident) 87 88 ∷ symbol (Ident) 89 92 ∷ symbol (Ident) 93 94 ∷ symbol (Ident) 94 95 ∷ []) }; tree = record { module_word = 0; name = 1; semicolon = 0; imports = None; decls = (S.decls None (Some (record { type_word = 0; each = (record { name = (record { name = 4; star = None }); equal = 0; is = (S.Record 6 None S.no_fields S.no_more_fields 0); semicolon = 0 } ∷ record { name = (record { name = 9; star = None }); equal = 0; is = (S.Procedure 11 (Some (record { left_paren = 0; sections = Some (record { first = (record { var_word = None; first = 13; more = (record { comma = 0; name = 15 } ∷ record { comma = 0; name = 17 } ∷ record { comma = 0; name = 19 } ∷ record { comma = 0; name = 21 } ∷ record { comma = 0; name = 23 } ∷ record { comma = 0; name = 25 } ∷ record { comma = 0; name = 27 } ∷ record { comma = 0; name = 29 } ∷ record { comma = 0; name = 31 } ∷ record { comma = 0; name = 33 } ∷ record { comma = 0; name = 35 } ∷ record { comma = 0; name = 37 } ∷ []); colon = 0; open_array = None; of = (record { name = 39; member = None }) }); more = [] }); right_paren = 0; result = None }))); semicolon = 0 } ∷ []) })) None S.no_procedure); body = None; end_word = 0; end_name = 43; period = 0 } }
 
-pub bad_parameter_46 : checked (bad_parameter_46_0 ∷ []) ≡ Legal (record { records = (record { module_number = 0; base = None; level = 0; fields = []; cells = 0 } ∷ []); pointers = []; modules = (record { name = (77 ∷ []); objects = (record { name = (82 ∷ []); exported = false; entity = I.OfType (H.Record 0) } ∷ record { name = (70 ∷ []); exported = false; entity = I.OfType (H.Procedure (H.one false (H.Record 0) (H.one false (H.Record 0) (H.one false (H.Record 0) (H.one false (H.Record 0) (H.one false (H.Record 0) (H.one false (H.Record 0) (H.one false (H.Record 0) (H.one false (H.Record 0) (H.one false (H.Record 0) (H.one false (H.Record 0) (H.one false (H.Record 0) (H.one false (H.Record 0) (H.one false (H.Record 0) H.none))))))))))))) H.Nothing) } ∷ []); variables = []; body = 0 } ∷ []); procedures = (record { module_number = 0; line = 1; is_body = true; formals = []; result = H.Nothing; locals = []; texts = []; body = I.no_statement; answer = None } ∷ []); imports_in = false })
+pub bad_parameter_46 : checked (bad_parameter_46_0 ∷ []) ≡ Legal (record { records = (record { module_number = 0; base = None; level = 0; fields = []; cells = 0; extent = record { bytes = 0; wide = false } } ∷ []); pointers = []; modules = (record { name = (77 ∷ []); objects = (record { name = (82 ∷ []); exported = false; entity = I.OfType (H.Record 0) } ∷ record { name = (70 ∷ []); exported = false; entity = I.OfType (H.Procedure (H.one false (H.Record 0) (H.one false (H.Record 0) (H.one false (H.Record 0) (H.one false (H.Record 0) (H.one false (H.Record 0) (H.one false (H.Record 0) (H.one false (H.Record 0) (H.one false (H.Record 0) (H.one false (H.Record 0) (H.one false (H.Record 0) (H.one false (H.Record 0) (H.one false (H.Record 0) (H.one false (H.Record 0) H.none))))))))))))) H.Nothing) } ∷ []); variables = []; body = 0 } ∷ []); procedures = (record { module_number = 0; line = 1; is_body = true; formals = []; result = H.Nothing; locals = []; texts = []; body = I.no_statement; answer = None } ∷ []); imports_in = false })
 bad_parameter_46 = refl
 
 -- MODULE M; PROCEDURE P(): INTEGER; END P; END M.
@@ -805,7 +805,7 @@ bad_extension_4 = refl
 abbrev bad_extension_5_0 : Parsed
 bad_extension_5_0 = record { source = record { bytes = (77 ∷ 79 ∷ 68 ∷ 85 ∷ 76 ∷ 69 ∷ 32 ∷ 77 ∷ 59 ∷ 32 ∷ 84 ∷ 89 ∷ 80 ∷ 69 ∷ 32 ∷ 82 ∷ 48 ∷ 32 ∷ 61 ∷ 32 ∷ 82 ∷ 69 ∷ 67 ∷ 79 ∷ 82 ∷ 68 ∷ 32 ∷ 69 ∷ 78 ∷ 68 ∷ 59 ∷ 32 ∷ 82 ∷ 49 ∷ 32 ∷ 61 ∷ 32 ∷ 82 ∷ 69 ∷ 67 ∷ 79 ∷ 82 ∷ 68 ∷ 32 ∷ 40 ∷ 82 ∷ 48 ∷ 41 ∷ 32 ∷ 69 ∷ 78 ∷ 68 ∷ 59 ∷ 32 ∷ 82 ∷ 50 ∷ 32 ∷ 61 ∷ 32 ∷ 82 ∷ 69 ∷ 67 ∷ 79 ∷ 82 ∷ 68 ∷ 32 ∷ 40 ∷ 82 ∷ 49 ∷ 41 ∷ 32 ∷ 69 ∷ 78 ∷ 68 ∷ 59 ∷ 32 ∷ 82 ∷ 51 ∷ 32 ∷ 61 ∷ 32 ∷ 82 ∷ 69 ∷ 67 ∷ 79 ∷ 82 ∷ 68 ∷ 32 ∷ 40 ∷ 82 ∷ 50 ∷ 41 ∷ 32 ∷ 69 ∷ 78 ∷ 68 ∷ 59 ∷ 32 ∷ 82 ∷ 52 ∷ 32 ∷ 61 ∷ 32 ∷ 82 ∷ 69 ∷ 67 ∷ 79 ∷ 82 ∷ 68 ∷ 32 ∷ 40 ∷ 82 ∷ 51 ∷ 41 ∷ 32 ∷ 69 ∷ 78 ∷ 68 ∷ 59 ∷ 32 ∷ 82 ∷ 53 ∷ 32 ∷ 61 ∷ 32 ∷ 82 ∷ 69 ∷ 67 ∷ 79 ∷ 82 ∷ 68 ∷ 32 ∷ 40 ∷ 82 ∷ 52 ∷ 41 ∷ 32 ∷ 69 ∷ 78 ∷ 68 ∷ 59 ∷ 32 ∷ 82 ∷ 54 ∷ 32 ∷ 61 ∷ 32 ∷ 82 ∷ 69 ∷ 67 ∷ 79 ∷ 82 ∷ 68 ∷ 32 ∷ 40 ∷ 82 ∷ 53 ∷ 41 ∷ 32 ∷ 69 ∷ 78 ∷ 68 ∷ 59 ∷ 32 ∷ 82 ∷ 55 ∷ 32 ∷ 61 ∷ 32 ∷ 82 ∷ 69 ∷ 67 ∷ 79 ∷ 82 ∷ 68 ∷ 32 ∷ 40 ∷ 82 ∷ 54 ∷ 41 ∷ 32 ∷ 69 ∷ 78 ∷ 68 ∷ 59 ∷ 32 ∷ 82 ∷ 56 ∷ 32 ∷ 61 ∷ 32 ∷ 82 ∷ 69 ∷ 67 ∷ 79 ∷ 82 ∷ 68 ∷ 32 ∷ 40 ∷ 82 ∷ 55 ∷ 41 ∷ 32 ∷ 69 ∷ 78 ∷ 68 ∷ 59 ∷ 32 ∷ 82 ∷ 57 ∷ 32 ∷ 61 ∷ 32 ∷ 82 ∷ 69 ∷ 67 ∷ 79 ∷ 82 ∷ 68 ∷ 32 ∷ 40 ∷ 82 ∷ 56 ∷ 41 ∷ 32 ∷ 69 ∷ 78 ∷ 68 ∷ 59 ∷ 32 ∷ 82 ∷ 49 ∷ 48 ∷ 32 ∷ 61 ∷ 32 ∷ 82 ∷ 69 ∷ 67 ∷ 79 ∷ 82 ∷ 68 ∷ 32 ∷ 40 ∷ 82 ∷ 57 ∷ 41 ∷ 32 ∷ 69 ∷ 78 ∷ 68 ∷ 59 ∷ 32 ∷ 82 ∷ 49 ∷ 49 ∷ 32 ∷ 61 ∷ 32 ∷ 82 ∷ 69 ∷ 67 ∷ 79 ∷ 82 ∷ 68 ∷ 32 ∷ 40 ∷ 82 ∷ 49 ∷ 48 ∷ 41 ∷ 32 ∷ 69 ∷ 78 ∷ 68 ∷ 59 ∷ 32 ∷ 82 ∷ 49 ∷ 50 ∷ 32 ∷ 61 ∷ 32 ∷ 82 ∷ 69 ∷ 67 ∷ 79 ∷ 82 ∷ 68 ∷ 32 ∷ 40 ∷ 82 ∷ 49 ∷ 49 ∷ 41 ∷ 32 ∷ 69 ∷ 78 ∷ 68 ∷ 59 ∷ 32 ∷ 82 ∷ 49 ∷ 51 ∷ 32 ∷ 61 ∷ 32 ∷ 82 ∷ 69 ∷ 67 ∷ 79 ∷ 82 ∷ 68 ∷ 32 ∷ 40 ∷ 82 ∷ 49 ∷ 50 ∷ 41 ∷ 32 ∷ 69 ∷ 78 ∷ 68 ∷ 59 ∷ 32 ∷ 82 ∷ 49 ∷ 52 ∷ 32 ∷ 61 ∷ 32 ∷ 82 ∷ 69 ∷ 67 ∷ 79 ∷ 82 ∷ 68 ∷ 32 ∷ 40 ∷ 82 ∷ 49 ∷ 51 ∷ 41 ∷ 32 ∷ 69 ∷ 78 ∷ 68 ∷ 59 ∷ 32 ∷ 82 ∷ 49 ∷ 53 ∷ 32 ∷ 61 ∷ 32 ∷ 82 ∷ 69 ∷ 67 ∷ 79 ∷ 82 ∷ 68 ∷ 32 ∷ 40 ∷ 82 ∷ 49 ∷ 52 ∷ 41 ∷ 32 ∷ 69 ∷ 78 ∷ 68 ∷ 59 ∷ 32 ∷ 69 ∷ 78 ∷ 68 ∷ 32 ∷ 77 ∷ 46 ∷ []); symbols = (symbol (Ident) 0 6 ∷ symbol (Ident) 7 8 ∷ symbol (Ident) 8 9 ∷ symbol (Ident) 10 14 ∷ symbol (Ident) 15 17 ∷ symbol (Ident) 18 19 ∷ symbol (Ident) 20 26 ∷ symbol (Ident) 27 30 ∷ symbol (Ident) 30 31 ∷ symbol (Ident) 32 34 ∷ symbol (Ident) 35 36 ∷ symbol (Ident) 37 43 ∷ symbol (Ident) 44 45 ∷ symbol (Ident) 45 47 ∷ symbol (Ident) 47 48 ∷ symbol (Ident) 49 52 ∷ symbol (Ident) 52 53 ∷ symbol (Ident) 54 56 ∷ symbol (Ident) 57 58 ∷ symbol (Ident) 59 65 ∷ symbol (Ident) 66 67 ∷ symbol (Ident) 67 69 ∷ symbol (Ident) 69 70 ∷ symbol (Ident) 71 74 ∷ symbol (Ident) 74 75 ∷ symbol (Ident) 76 78 ∷ symbol (Ident) 79 80 ∷ symbol (Ident) 81 87 ∷ symbol (Ident) 88 89 ∷ symbol (Ident) 89 91 ∷ symbol (Ident) 91 92 ∷ symbol (Ident) 93 96 ∷ symbol (Ident) 96 97 ∷ symbol (Ident) 98 100 ∷ symbol (Ident) 101 102 ∷ symbol (Ident) 103 109 ∷ symbol (Ident) 110 111 ∷ symbol (Ident) 111 113 ∷ symbol (Ident) 113 114 ∷ symbol (Ident) 115 118 ∷ symbol (Ident) 118 119 ∷ symbol (Ident) 120 122 ∷ symbol (Ident) 123 124 ∷ symbol (Ident) 125 131 ∷ symbol (Ident) 132 133 ∷ symbol (Ident) 133 135 ∷ symbol (Ident) 135 136 ∷ symbol (Ident) 137 140 ∷ symbol (Ident) 140 141 ∷ symbol (Ident) 142 144 ∷ symbol (Ident) 145 146 ∷ symbol (Ident) 147 153 ∷ symbol (Ident) 154 155 ∷ symbol (Ident) 155 157 ∷ symbol (Ident) 157 158 ∷ symbol (Ident) 159 162 ∷ symbol (Ident) 162 163 ∷ symbol (Ident) 164 166 ∷ symbol (Ident) 167 168 ∷ symbol (Ident) 169 175 ∷ symbol (Ident) 176 177 ∷ symbol (Ident) 177 179 ∷ symbol (Ident) 179 180 ∷ symbol (Ident) 181 184 ∷ symbol (Ident) 184 185 ∷ symbol (Ident) 186 188 ∷ symbol (Ident) 189 190 ∷ symbol (Ident) 191 197 ∷ symbol (Ident) 198 199 ∷ symbol (Ident) 199 201 ∷ symbol (Ident) 201 202 ∷ symbol (Ident) 203 206 ∷ symbol (Ident) 206 207 ∷ symbol (Ident) 208 210 ∷ symbol (Ident) 211 212 ∷ symbol (Ident) 213 219 ∷ symbol (Ident) 220 221 ∷ symbol (Ident) 221 223 ∷ symbol (Ident) 223 224 ∷ symbol (Ident) 225 228 ∷ symbol (Ident) 228 229 ∷ symbol (Ident) 230 233 ∷ symbol (Ident) 234 235 ∷ symbol (Ident) 236 242 ∷ symbol (Ident) 243 244 ∷ symbol (Ident) 244 246 ∷ symbol (Ident) 246 247 ∷ symbol (Ident) 248 251 ∷ symbol (Ident) 251 252 ∷ symbol (Ident) 253 256 ∷ symbol (Ident) 257 258 ∷ symbol (Ident) 259 265 ∷ symbol (Ident) 266 267 ∷ symbol (Ident) 267 270 ∷ symbol (Ident) 270 271 ∷ symbol (Ident) 272 275 ∷ symbol (Ident) 275 276 ∷ symbol (Ident) 277 280 ∷ symbol (Ident) 281 282 ∷ symbol (Ident) 283 289 ∷ symbol (Ident) 290 291 ∷ symbol (Ident) 291 294 ∷ symbol (Ident) 294 295 ∷ symbol (Ident) 296 299 ∷ symbol (Ident) 299 300 ∷ symbol (Ident) 301 304 ∷ symbol (Ident) 305 306 ∷ symbol (Ident) 307 313 ∷ symbol (Ident) 314 315 ∷ symbol (Ident) 315 318 ∷ symbol (Ident) 318 319 ∷ symbol (Ident) 320 323 ∷ symbol (Ident) 323 324 ∷ symbol (Ident) 325 328 ∷ symbol (Ident) 329 330 ∷ symbol (Ident) 331 337 ∷ symbol (Ident) 338 339 ∷ symbol (Ident) 339 342 ∷ symbol (Ident) 342 343 ∷ symbol (Ident) 344 347 ∷ symbol (Ident) 347 348 ∷ symbol (Ident) 349 352 ∷ symbol (Ident) 353 354 ∷ symbol (Ident) 355 361 ∷ symbol (Ident) 362 363 ∷ symbol (Ident) 363 366 ∷ symbol (Ident) 366 367 ∷ symbol (Ident) 368 371 ∷ symbol (Ident) 371 372 ∷ symbol (Ident) 373 376 ∷ symbol (Ident) 377 378 ∷ symbol (Ident) 378 379 ∷ []) }; tree = record { module_word = 0; name = 1; semicolon = 0; imports = None; decls = (S.decls None (Some (record { type_word = 0; each = (record { name = (record { name = 4; star = None }); equal = 0; is = (S.Record 6 None S.no_fields S.no_more_fields 0); semicolon = 0 } ∷ record { name = (record { name = 9; star = None }); equal = 0; is = (S.Record 11 (Some (record { left_paren = 0; name = (record { name = 13; member = None }); right_paren = 0 })) S.no_fields S.no_more_fields 0); semicolon = 0 } ∷ record { name = (record { name = 17; star = None }); equal = 0; is = (S.Record 19 (Some (record { left_paren = 0; name = (record { name = 21; member = None }); right_paren = 0 })) S.no_fields S.no_more_fields 0); semicolon = 0 } ∷ record { name = (record { name = 25; star = None }); equal = 0; is = (S.Record 27 (Some (record { left_paren = 0; name = (record { name = 29; member = None }); right_paren = 0 })) S.no_fields S.no_more_fields 0); semicolon = 0 } ∷ record { name = (record { name = 33; star = None }); equal = 0; is = (S.Record 35 (Some (record { left_paren = 0; name = (record { name = 37; member = None }); right_paren = 0 })) S.no_fields S.no_more_fields 0); semicolon = 0 } ∷ record { name = (record { name = 41; star = None }); equal = 0; is = (S.Record 43 (Some (record { left_paren = 0; name = (record { name = 45; member = None }); right_paren = 0 })) S.no_fields S.no_more_fields 0); semicolon = 0 } ∷ record { name = (record { name = 49; star = None }); equal = 0; is = (S.Record 51 (Some (record { left_paren = 0; name = (record { name = 53; member = None }); right_paren = 0 })) S.no_fields S.no_more_fields 0); semicolon = 0 } ∷ record { name = (record { name = 57; star = None }); equal = 0; is = (S.Record 59 (Some (record { left_paren = 0; name = (record { name = 61; member = None }); right_paren = 0 })) S.no_fields S.no_more_fields 0); semicolon = 0 } ∷ record { name = (record { name = 65; star = None }); equal = 0; is = (S.Record 67 (Some (record { left_paren = 0; name = (record { name = 69; member = None }); right_paren = 0 })) S.no_fields S.no_more_fields 0); semicolon = 0 } ∷ record { name = (record { name = 73; star = None }); equal = 0; is = (S.Record 75 (Some (record { left_paren = 0; name = (record { name = 77; member = None }); right_paren = 0 })) S.no_fields S.no_more_fields 0); semicolon = 0 } ∷ record { name = (record { name = 81; star = None }); equal = 0; is = (S.Record 83 (Some (record { left_paren = 0; name = (record { name = 85; member = None }); right_paren = 0 })) S.no_fields S.no_more_fields 0); semicolon = 0 } ∷ record { name = (record { name = 89; star = None }); equal = 0; is = (S.Record 91 (Some (record { left_paren = 0; name = (record { name = 93; member = None }); right_paren = 0 })) S.no_fields S.no_more_fields 0); semicolon = 0 } ∷ record { name = (record { name = 97; star = None }); equal = 0; is = (S.Record 99 (Some (record { left_paren = 0; name = (record { name = 101; member = None }); right_paren = 0 })) S.no_fields S.no_more_fields 0); semicolon = 0 } ∷ record { name = (record { name = 105; star = None }); equal = 0; is = (S.Record 107 (Some (record { left_paren = 0; name = (record { name = 109; member = None }); right_paren = 0 })) S.no_fields S.no_more_fields 0); semicolon = 0 } ∷ record { name = (record { name = 113; star = None }); equal = 0; is = (S.Record 115 (Some (record { left_paren = 0; name = (record { name = 117; member = None }); right_paren = 0 })) S.no_fields S.no_more_fields 0); semicolon = 0 } ∷ record { name = (record { name = 121; star = None }); equal = 0; is = (S.Record 123 (Some (record { left_paren = 0; name = (record { name = 125; member = None }); right_paren = 0 })) S.no_fields S.no_more_fields 0); semicolon = 0 } ∷ []) })) None S.no_procedure); body = None; end_word = 0; end_name = 130; period = 0 } }
 
-pub bad_extension_5 : checked (bad_extension_5_0 ∷ []) ≡ Legal (record { records = (record { module_number = 0; base = None; level = 0; fields = []; cells = 0 } ∷ record { module_number = 0; base = (Some 0); level = 1; fields = []; cells = 0 } ∷ record { module_number = 0; base = (Some 1); level = 2; fields = []; cells = 0 } ∷ record { module_number = 0; base = (Some 2); level = 3; fields = []; cells = 0 } ∷ record { module_number = 0; base = (Some 3); level = 4; fields = []; cells = 0 } ∷ record { module_number = 0; base = (Some 4); level = 5; fields = []; cells = 0 } ∷ record { module_number = 0; base = (Some 5); level = 6; fields = []; cells = 0 } ∷ record { module_number = 0; base = (Some 6); level = 7; fields = []; cells = 0 } ∷ record { module_number = 0; base = (Some 7); level = 8; fields = []; cells = 0 } ∷ record { module_number = 0; base = (Some 8); level = 9; fields = []; cells = 0 } ∷ record { module_number = 0; base = (Some 9); level = 10; fields = []; cells = 0 } ∷ record { module_number = 0; base = (Some 10); level = 11; fields = []; cells = 0 } ∷ record { module_number = 0; base = (Some 11); level = 12; fields = []; cells = 0 } ∷ record { module_number = 0; base = (Some 12); level = 13; fields = []; cells = 0 } ∷ record { module_number = 0; base = (Some 13); level = 14; fields = []; cells = 0 } ∷ record { module_number = 0; base = (Some 14); level = 15; fields = []; cells = 0 } ∷ []); pointers = []; modules = (record { name = (77 ∷ []); objects = (record { name = (82 ∷ 48 ∷ []); exported = false; entity = I.OfType (H.Record 0) } ∷ record { name = (82 ∷ 49 ∷ []); exported = false; entity = I.OfType (H.Record 1) } ∷ record { name = (82 ∷ 50 ∷ []); exported = false; entity = I.OfType (H.Record 2) } ∷ record { name = (82 ∷ 51 ∷ []); exported = false; entity = I.OfType (H.Record 3) } ∷ record { name = (82 ∷ 52 ∷ []); exported = false; entity = I.OfType (H.Record 4) } ∷ record { name = (82 ∷ 53 ∷ []); exported = false; entity = I.OfType (H.Record 5) } ∷ record { name = (82 ∷ 54 ∷ []); exported = false; entity = I.OfType (H.Record 6) } ∷ record { name = (82 ∷ 55 ∷ []); exported = false; entity = I.OfType (H.Record 7) } ∷ record { name = (82 ∷ 56 ∷ []); exported = false; entity = I.OfType (H.Record 8) } ∷ record { name = (82 ∷ 57 ∷ []); exported = false; entity = I.OfType (H.Record 9) } ∷ record { name = (82 ∷ 49 ∷ 48 ∷ []); exported = false; entity = I.OfType (H.Record 10) } ∷ record { name = (82 ∷ 49 ∷ 49 ∷ []); exported = false; entity = I.OfType (H.Record 11) } ∷ record { name = (82 ∷ 49 ∷ 50 ∷ []); exported = false; entity = I.OfType (H.Record 12) } ∷ record { name = (82 ∷ 49 ∷ 51 ∷ []); exported = false; entity = I.OfType (H.Record 13) } ∷ record { name = (82 ∷ 49 ∷ 52 ∷ []); exported = false; entity = I.OfType (H.Record 14) } ∷ record { name = (82 ∷ 49 ∷ 53 ∷ []); exported = false; entity = I.OfType (H.Record 15) } ∷ []); variables = []; body = 0 } ∷ []); procedures = (record { module_number = 0; line = 1; is_body = true; formals = []; result = H.Nothing; locals = []; texts = []; body = I.no_statement; answer = None } ∷ []); imports_in = false })
+pub bad_extension_5 : checked (bad_extension_5_0 ∷ []) ≡ Legal (record { records = (record { module_number = 0; base = None; level = 0; fields = []; cells = 0; extent = record { bytes = 0; wide = false } } ∷ record { module_number = 0; base = (Some 0); level = 1; fields = []; cells = 0; extent = record { bytes = 0; wide = false } } ∷ record { module_number = 0; base = (Some 1); level = 2; fields = []; cells = 0; extent = record { bytes = 0; wide = false } } ∷ record { module_number = 0; base = (Some 2); level = 3; fields = []; cells = 0; extent = record { bytes = 0; wide = false } } ∷ record { module_number = 0; base = (Some 3); level = 4; fields = []; cells = 0; extent = record { bytes = 0; wide = false } } ∷ record { module_number = 0; base = (Some 4); level = 5; fields = []; cells = 0; extent = record { bytes = 0; wide = false } } ∷ record { module_number = 0; base = (Some 5); level = 6; fields = []; cells = 0; extent = record { bytes = 0; wide = false } } ∷ record { module_number = 0; base = (Some 6); level = 7; fields = []; cells = 0; extent = record { bytes = 0; wide = false } } ∷ record { module_number = 0; base = (Some 7); level = 8; fields = []; cells = 0; extent = record { bytes = 0; wide = false } } ∷ record { module_number = 0; base = (Some 8); level = 9; fields = []; cells = 0; extent = record { bytes = 0; wide = false } } ∷ record { module_number = 0; base = (Some 9); level = 10; fields = []; cells = 0; extent = record { bytes = 0; wide = false } } ∷ record { module_number = 0; base = (Some 10); level = 11; fields = []; cells = 0; extent = record { bytes = 0; wide = false } } ∷ record { module_number = 0; base = (Some 11); level = 12; fields = []; cells = 0; extent = record { bytes = 0; wide = false } } ∷ record { module_number = 0; base = (Some 12); level = 13; fields = []; cells = 0; extent = record { bytes = 0; wide = false } } ∷ record { module_number = 0; base = (Some 13); level = 14; fields = []; cells = 0; extent = record { bytes = 0; wide = false } } ∷ record { module_number = 0; base = (Some 14); level = 15; fields = []; cells = 0; extent = record { bytes = 0; wide = false } } ∷ []); pointers = []; modules = (record { name = (77 ∷ []); objects = (record { name = (82 ∷ 48 ∷ []); exported = false; entity = I.OfType (H.Record 0) } ∷ record { name = (82 ∷ 49 ∷ []); exported = false; entity = I.OfType (H.Record 1) } ∷ record { name = (82 ∷ 50 ∷ []); exported = false; entity = I.OfType (H.Record 2) } ∷ record { name = (82 ∷ 51 ∷ []); exported = false; entity = I.OfType (H.Record 3) } ∷ record { name = (82 ∷ 52 ∷ []); exported = false; entity = I.OfType (H.Record 4) } ∷ record { name = (82 ∷ 53 ∷ []); exported = false; entity = I.OfType (H.Record 5) } ∷ record { name = (82 ∷ 54 ∷ []); exported = false; entity = I.OfType (H.Record 6) } ∷ record { name = (82 ∷ 55 ∷ []); exported = false; entity = I.OfType (H.Record 7) } ∷ record { name = (82 ∷ 56 ∷ []); exported = false; entity = I.OfType (H.Record 8) } ∷ record { name = (82 ∷ 57 ∷ []); exported = false; entity = I.OfType (H.Record 9) } ∷ record { name = (82 ∷ 49 ∷ 48 ∷ []); exported = false; entity = I.OfType (H.Record 10) } ∷ record { name = (82 ∷ 49 ∷ 49 ∷ []); exported = false; entity = I.OfType (H.Record 11) } ∷ record { name = (82 ∷ 49 ∷ 50 ∷ []); exported = false; entity = I.OfType (H.Record 12) } ∷ record { name = (82 ∷ 49 ∷ 51 ∷ []); exported = false; entity = I.OfType (H.Record 13) } ∷ record { name = (82 ∷ 49 ∷ 52 ∷ []); exported = false; entity = I.OfType (H.Record 14) } ∷ record { name = (82 ∷ 49 ∷ 53 ∷ []); exported = false; entity = I.OfType (H.Record 15) } ∷ []); variables = []; body = 0 } ∷ []); procedures = (record { module_number = 0; line = 1; is_body = true; formals = []; result = H.Nothing; locals = []; texts = []; body = I.no_statement; answer = None } ∷ []); imports_in = false })
 bad_extension_5 = refl
 
 -- MODULE A; CONST c* = 3; d = 4; TYPE R* = RECORD x*: INTEGER; h: INTEGER END; P* = POINTER TO R; H = RECORD END; VAR v*: INTEGER; r*: R; p*: P; a*: ARRAY 2 OF INTEGER; w: INTEGER; f*: PROCEDURE; PROCEDURE N*; END N; PROCEDURE L; END L; END A.

@@ -70,7 +70,7 @@ factorial_22 b v = refl
 
 -- MODULE X; IMPORT Out; TYPE P = RECORD x, y: INTEGER END; Q = RECORD (P) z: INTEGER END; VAR p: P; q: Q; BEGIN q.x := 1; q.y := 2; q.z := 3; p := q; Out.Int(p.x, 0); Out.Int(p.y, 0); Out.Int(q.z, 0) END X.
 abbrev extensioncopy : Outside Program
-extensioncopy b v = record { types = record { kinds = ((RecordKind 0) ∷ (RecordKind 1) ∷ Nothing ∷ Int ∷ []); records = (record { «module» = 0; base = None; level = 0; fields = (record { name = []; exported = false; type_number = 3 } ∷ record { name = []; exported = false; type_number = 3 } ∷ []); cells = 2 } ∷ record { «module» = 0; base = (Some 0); level = 1; fields = (record { name = []; exported = false; type_number = 3 } ∷ []); cells = 3 } ∷ []); signatures = [] }; modules = (record { name = []; objects = []; variables = (0 ∷ 1 ∷ []); body = 0 } ∷ []); procedures = (record { «module» = 0; line = 1; is_body = true; formals = []; result = 2; locals = []; texts = []; body = ((Assign (Part' b (Global 0 1) Int (vec1 v) (more_of-Selector (Field 0 0) end_of-Selector)) (record { form = (Literal 1); kind = Int })) ∷ (Assign (Part' b (Global 0 1) Int (vec1 v) (more_of-Selector (Field 0 1) end_of-Selector)) (record { form = (Literal 2); kind = Int })) ∷ (Assign (Part' b (Global 0 1) Int (vec1 v) (more_of-Selector (Field 1 0) end_of-Selector)) (record { form = (Literal 3); kind = Int })) ∷ (CopyRecord (Whole (Global 0 0) (RecordKind 0)) (Whole (Global 0 1) (RecordKind 1))) ∷ (OutInt (record { form = (Load (Part' b (Global 0 0) Int (vec1 v) (more_of-Selector (Field 0 0) end_of-Selector))); kind = Int }) (record { form = (Literal 0); kind = Int })) ∷ (OutInt (record { form = (Load (Part' b (Global 0 0) Int (vec1 v) (more_of-Selector (Field 0 1) end_of-Selector))); kind = Int }) (record { form = (Literal 0); kind = Int })) ∷ (OutInt (record { form = (Load (Part' b (Global 0 1) Int (vec1 v) (more_of-Selector (Field 1 0) end_of-Selector))); kind = Int }) (record { form = (Literal 0); kind = Int })) ∷ []); answer = None } ∷ []); imports_in = false }
+extensioncopy b v = record { types = record { kinds = ((RecordKind 0) ∷ (RecordKind 1) ∷ Nothing ∷ Int ∷ []); records = (record { «module» = 0; base = None; level = 0; fields = (record { name = []; exported = false; type_number = 3 } ∷ record { name = []; exported = false; type_number = 3 } ∷ []); cells = 2; extent = record { bytes = 16; wide = true } } ∷ record { «module» = 0; base = (Some 0); level = 1; fields = (record { name = []; exported = false; type_number = 3 } ∷ []); cells = 3; extent = record { bytes = 24; wide = true } } ∷ []); signatures = [] }; modules = (record { name = []; objects = []; variables = (0 ∷ 1 ∷ []); body = 0 } ∷ []); procedures = (record { «module» = 0; line = 1; is_body = true; formals = []; result = 2; locals = []; texts = []; body = ((Assign (Part' b (Global 0 1) Int (vec1 v) (more_of-Selector (Field 0 0) end_of-Selector)) (record { form = (Literal 1); kind = Int })) ∷ (Assign (Part' b (Global 0 1) Int (vec1 v) (more_of-Selector (Field 0 1) end_of-Selector)) (record { form = (Literal 2); kind = Int })) ∷ (Assign (Part' b (Global 0 1) Int (vec1 v) (more_of-Selector (Field 1 0) end_of-Selector)) (record { form = (Literal 3); kind = Int })) ∷ (CopyRecord (Whole (Global 0 0) (RecordKind 0)) (Whole (Global 0 1) (RecordKind 1))) ∷ (OutInt (record { form = (Load (Part' b (Global 0 0) Int (vec1 v) (more_of-Selector (Field 0 0) end_of-Selector))); kind = Int }) (record { form = (Literal 0); kind = Int })) ∷ (OutInt (record { form = (Load (Part' b (Global 0 0) Int (vec1 v) (more_of-Selector (Field 0 1) end_of-Selector))); kind = Int }) (record { form = (Literal 0); kind = Int })) ∷ (OutInt (record { form = (Load (Part' b (Global 0 1) Int (vec1 v) (more_of-Selector (Field 1 0) end_of-Selector))); kind = Int }) (record { form = (Literal 0); kind = Int })) ∷ []); answer = None } ∷ []); imports_in = false }
 
 pub extensioncopy_3 : (b : Box (Unit {0}) Heap) (v : Vec (Unit {0}) Heap) → meaning (extensioncopy b v) [] 3 ≡ Ended (49 ∷ 50 ∷ 51 ∷ [])
 unfolding digits
@@ -150,7 +150,7 @@ texts_10 b v = refl
 
 -- MODULE T; IMPORT Out; TYPE B = RECORD x: INTEGER END; E = RECORD (B) y: INTEGER END; PE = POINTER TO E; VAR b: B; e: E; p: PE; PROCEDURE Kind(VAR r: B); BEGIN CASE r OF E: Out.Char(''E''); r.y := 5; r.x := 6 | B: Out.Char(''B'') END; IF r IS E THEN Out.Int(r(E).y, 0) END END Kind; PROCEDURE Pass(VAR r: B); BEGIN Kind(r) END Pass; BEGIN Kind(b); Kind(e); Pass(e); NEW(p); Pass(p^); Out.Int(p.x, 0); Pass(b) END T.
 abbrev tags : Outside Program
-tags b v = record { types = record { kinds = ((RecordKind 0) ∷ (RecordKind 1) ∷ (PointerKind 1) ∷ Nothing ∷ Int ∷ []); records = (record { «module» = 0; base = None; level = 0; fields = (record { name = []; exported = false; type_number = 4 } ∷ []); cells = 1 } ∷ record { «module» = 0; base = (Some 0); level = 1; fields = (record { name = []; exported = false; type_number = 4 } ∷ []); cells = 2 } ∷ []); signatures = [] }; modules = (record { name = []; objects = []; variables = (0 ∷ 1 ∷ 2 ∷ []); body = 2 } ∷ []); procedures = (record { «module» = 0; line = 1; is_body = false; formals = (record { mode = OfRecord; variable = true; type_number = 0 } ∷ []); result = 3; locals = []; texts = []; body = ((CaseParameter' (Whole (Parameter 0) (RecordKind 0)) (vec2 v) (more_of-TypePart 1 (vec3 v) (more_of-Stmt (OutChar (record { form = (Literal 69); kind = Char })) (more_of-Stmt (Assign (Part' b (Parameter 0) Int (vec2 v) (more_of-Selector (Narrow 1) (more_of-Selector (Field 1 0) end_of-Selector))) (record { form = (Literal 5); kind = Int })) (more_of-Stmt (Assign (Part' b (Parameter 0) Int (vec2 v) (more_of-Selector (Narrow 1) (more_of-Selector (Field 0 0) end_of-Selector))) (record { form = (Literal 6); kind = Int })) end_of-Stmt))) (more_of-TypePart 0 (vec1 v) (more_of-Stmt (OutChar (record { form = (Literal 66); kind = Char })) end_of-Stmt) end_of-TypePart))) ∷ (If' (vec1 v) (more_of-Branch (record { form = (IsParameter (Whole (Parameter 0) (RecordKind 0)) 1); kind = BoolKind }) (vec1 v) (more_of-Stmt (OutInt (record { form = (Load (Part' b (Parameter 0) Int (vec2 v) (more_of-Selector (Narrow 1) (more_of-Selector (Field 1 0) end_of-Selector)))); kind = Int }) (record { form = (Literal 0); kind = Int })) end_of-Stmt) end_of-Branch) (vec0 v) end_of-Stmt) ∷ []); answer = None } ∷ record { «module» = 0; line = 1; is_body = false; formals = (record { mode = OfRecord; variable = true; type_number = 0 } ∷ []); result = 3; locals = []; texts = []; body = ((Invoke (Direct' 0 (vec1 v) (more_of-Argument (ByRecord (Whole (Parameter 0) (RecordKind 0))) end_of-Argument))) ∷ []); answer = None } ∷ record { «module» = 0; line = 1; is_body = true; formals = []; result = 3; locals = []; texts = []; body = ((Invoke (Direct' 0 (vec1 v) (more_of-Argument (ByRecord (Whole (Global 0 0) (RecordKind 0))) end_of-Argument))) ∷ (Invoke (Direct' 0 (vec1 v) (more_of-Argument (ByRecord (Whole (Global 0 1) (RecordKind 1))) end_of-Argument))) ∷ (Invoke (Direct' 1 (vec1 v) (more_of-Argument (ByRecord (Whole (Global 0 1) (RecordKind 1))) end_of-Argument))) ∷ (New (Whole (Global 0 2) (PointerKind 1))) ∷ (Invoke (Direct' 1 (vec1 v) (more_of-Argument (ByRecord (Part' b (Global 0 2) (RecordKind 1) (vec1 v) (more_of-Selector (Dereference []) end_of-Selector))) end_of-Argument))) ∷ (OutInt (record { form = (Load (Part' b (Global 0 2) Int (vec2 v) (more_of-Selector (Dereference []) (more_of-Selector (Field 0 0) end_of-Selector)))); kind = Int }) (record { form = (Literal 0); kind = Int })) ∷ (Invoke (Direct' 1 (vec1 v) (more_of-Argument (ByRecord (Whole (Global 0 0) (RecordKind 0))) end_of-Argument))) ∷ []); answer = None } ∷ []); imports_in = false }
+tags b v = record { types = record { kinds = ((RecordKind 0) ∷ (RecordKind 1) ∷ (PointerKind 1) ∷ Nothing ∷ Int ∷ []); records = (record { «module» = 0; base = None; level = 0; fields = (record { name = []; exported = false; type_number = 4 } ∷ []); cells = 1; extent = record { bytes = 8; wide = true } } ∷ record { «module» = 0; base = (Some 0); level = 1; fields = (record { name = []; exported = false; type_number = 4 } ∷ []); cells = 2; extent = record { bytes = 16; wide = true } } ∷ []); signatures = [] }; modules = (record { name = []; objects = []; variables = (0 ∷ 1 ∷ 2 ∷ []); body = 2 } ∷ []); procedures = (record { «module» = 0; line = 1; is_body = false; formals = (record { mode = OfRecord; variable = true; type_number = 0 } ∷ []); result = 3; locals = []; texts = []; body = ((CaseParameter' (Whole (Parameter 0) (RecordKind 0)) (vec2 v) (more_of-TypePart 1 (vec3 v) (more_of-Stmt (OutChar (record { form = (Literal 69); kind = Char })) (more_of-Stmt (Assign (Part' b (Parameter 0) Int (vec2 v) (more_of-Selector (Narrow 1) (more_of-Selector (Field 1 0) end_of-Selector))) (record { form = (Literal 5); kind = Int })) (more_of-Stmt (Assign (Part' b (Parameter 0) Int (vec2 v) (more_of-Selector (Narrow 1) (more_of-Selector (Field 0 0) end_of-Selector))) (record { form = (Literal 6); kind = Int })) end_of-Stmt))) (more_of-TypePart 0 (vec1 v) (more_of-Stmt (OutChar (record { form = (Literal 66); kind = Char })) end_of-Stmt) end_of-TypePart))) ∷ (If' (vec1 v) (more_of-Branch (record { form = (IsParameter (Whole (Parameter 0) (RecordKind 0)) 1); kind = BoolKind }) (vec1 v) (more_of-Stmt (OutInt (record { form = (Load (Part' b (Parameter 0) Int (vec2 v) (more_of-Selector (Narrow 1) (more_of-Selector (Field 1 0) end_of-Selector)))); kind = Int }) (record { form = (Literal 0); kind = Int })) end_of-Stmt) end_of-Branch) (vec0 v) end_of-Stmt) ∷ []); answer = None } ∷ record { «module» = 0; line = 1; is_body = false; formals = (record { mode = OfRecord; variable = true; type_number = 0 } ∷ []); result = 3; locals = []; texts = []; body = ((Invoke (Direct' 0 (vec1 v) (more_of-Argument (ByRecord (Whole (Parameter 0) (RecordKind 0))) end_of-Argument))) ∷ []); answer = None } ∷ record { «module» = 0; line = 1; is_body = true; formals = []; result = 3; locals = []; texts = []; body = ((Invoke (Direct' 0 (vec1 v) (more_of-Argument (ByRecord (Whole (Global 0 0) (RecordKind 0))) end_of-Argument))) ∷ (Invoke (Direct' 0 (vec1 v) (more_of-Argument (ByRecord (Whole (Global 0 1) (RecordKind 1))) end_of-Argument))) ∷ (Invoke (Direct' 1 (vec1 v) (more_of-Argument (ByRecord (Whole (Global 0 1) (RecordKind 1))) end_of-Argument))) ∷ (New (Whole (Global 0 2) (PointerKind 1))) ∷ (Invoke (Direct' 1 (vec1 v) (more_of-Argument (ByRecord (Part' b (Global 0 2) (RecordKind 1) (vec1 v) (more_of-Selector (Dereference []) end_of-Selector))) end_of-Argument))) ∷ (OutInt (record { form = (Load (Part' b (Global 0 2) Int (vec2 v) (more_of-Selector (Dereference []) (more_of-Selector (Field 0 0) end_of-Selector)))); kind = Int }) (record { form = (Literal 0); kind = Int })) ∷ (Invoke (Direct' 1 (vec1 v) (more_of-Argument (ByRecord (Whole (Global 0 0) (RecordKind 0))) end_of-Argument))) ∷ []); answer = None } ∷ []); imports_in = false }
 
 pub tags_20 : (b : Box (Unit {0}) Heap) (v : Vec (Unit {0}) Heap) → meaning (tags b v) [] 20 ≡ Ended (66 ∷ 69 ∷ 53 ∷ 69 ∷ 53 ∷ 69 ∷ 53 ∷ 54 ∷ 66 ∷ [])
 unfolding digits
@@ -158,7 +158,7 @@ tags_20 b v = refl
 
 -- MODULE T; TYPE B = RECORD x: INTEGER END; E = RECORD (B) y: INTEGER END; VAR b: B; PROCEDURE Kind(VAR r: B); BEGIN r(E).y := 5 END Kind; BEGIN Kind(b) END T.
 abbrev tagguard : Outside Program
-tagguard b v = record { types = record { kinds = ((RecordKind 0) ∷ (RecordKind 1) ∷ Nothing ∷ Int ∷ []); records = (record { «module» = 0; base = None; level = 0; fields = (record { name = []; exported = false; type_number = 3 } ∷ []); cells = 1 } ∷ record { «module» = 0; base = (Some 0); level = 1; fields = (record { name = []; exported = false; type_number = 3 } ∷ []); cells = 2 } ∷ []); signatures = [] }; modules = (record { name = []; objects = []; variables = (0 ∷ []); body = 1 } ∷ []); procedures = (record { «module» = 0; line = 1; is_body = false; formals = (record { mode = OfRecord; variable = true; type_number = 0 } ∷ []); result = 2; locals = []; texts = []; body = ((Assign (Part' b (Parameter 0) Int (vec2 v) (more_of-Selector (Narrow 1) (more_of-Selector (Field 1 0) end_of-Selector))) (record { form = (Literal 5); kind = Int })) ∷ []); answer = None } ∷ record { «module» = 0; line = 1; is_body = true; formals = []; result = 2; locals = []; texts = []; body = ((Invoke (Direct' 0 (vec1 v) (more_of-Argument (ByRecord (Whole (Global 0 0) (RecordKind 0))) end_of-Argument))) ∷ []); answer = None } ∷ []); imports_in = false }
+tagguard b v = record { types = record { kinds = ((RecordKind 0) ∷ (RecordKind 1) ∷ Nothing ∷ Int ∷ []); records = (record { «module» = 0; base = None; level = 0; fields = (record { name = []; exported = false; type_number = 3 } ∷ []); cells = 1; extent = record { bytes = 8; wide = true } } ∷ record { «module» = 0; base = (Some 0); level = 1; fields = (record { name = []; exported = false; type_number = 3 } ∷ []); cells = 2; extent = record { bytes = 16; wide = true } } ∷ []); signatures = [] }; modules = (record { name = []; objects = []; variables = (0 ∷ []); body = 1 } ∷ []); procedures = (record { «module» = 0; line = 1; is_body = false; formals = (record { mode = OfRecord; variable = true; type_number = 0 } ∷ []); result = 2; locals = []; texts = []; body = ((Assign (Part' b (Parameter 0) Int (vec2 v) (more_of-Selector (Narrow 1) (more_of-Selector (Field 1 0) end_of-Selector))) (record { form = (Literal 5); kind = Int })) ∷ []); answer = None } ∷ record { «module» = 0; line = 1; is_body = true; formals = []; result = 2; locals = []; texts = []; body = ((Invoke (Direct' 0 (vec1 v) (more_of-Argument (ByRecord (Whole (Global 0 0) (RecordKind 0))) end_of-Argument))) ∷ []); answer = None } ∷ []); imports_in = false }
 
 pub tagguard_20 : (b : Box (Unit {0}) Heap) (v : Vec (Unit {0}) Heap) → meaning (tagguard b v) [] 20 ≡ Trapped (Kind 3 0) []
 unfolding digits
@@ -166,7 +166,7 @@ tagguard_20 b v = refl
 
 -- MODULE P; IMPORT Out; TYPE B = POINTER TO RB; RB = RECORD x: INTEGER END; E = POINTER TO RE; RE = RECORD (RB) y: INTEGER; next: B END; VAR p: B; e: E; PROCEDURE Show(q: B); BEGIN CASE q OF E: Out.Char(''E''); q.y := 3; Show(q.next) | B: Out.Char(''B'') END END Show; BEGIN Show(p); NEW(e); e.next := e; NEW(e.next); Show(e); p := e; Out.Int(p(E).y, 0); IF p = e THEN Out.Char(''!'') END; e := NIL; p := e.next END P.
 abbrev pointercase : Outside Program
-pointercase b v = record { types = record { kinds = ((RecordKind 0) ∷ (RecordKind 1) ∷ (PointerKind 0) ∷ (PointerKind 1) ∷ Nothing ∷ Int ∷ []); records = (record { «module» = 0; base = None; level = 0; fields = (record { name = []; exported = false; type_number = 5 } ∷ []); cells = 1 } ∷ record { «module» = 0; base = (Some 0); level = 1; fields = (record { name = []; exported = false; type_number = 5 } ∷ record { name = []; exported = false; type_number = 2 } ∷ []); cells = 3 } ∷ []); signatures = [] }; modules = (record { name = []; objects = []; variables = (2 ∷ 3 ∷ []); body = 1 } ∷ []); procedures = (record { «module» = 0; line = 1; is_body = false; formals = (record { mode = OfValue; variable = false; type_number = 2 } ∷ []); result = 4; locals = []; texts = []; body = ((CasePointer' (record { form = (Load (Whole (Local 0) (PointerKind 0))); kind = (PointerKind 0) }) (vec2 v) (more_of-TypePart 1 (vec3 v) (more_of-Stmt (OutChar (record { form = (Literal 69); kind = Char })) (more_of-Stmt (Assign (Part' b (Local 0) Int (vec2 v) (more_of-Selector (Dereference (1 ∷ [])) (more_of-Selector (Field 1 0) end_of-Selector))) (record { form = (Literal 3); kind = Int })) (more_of-Stmt (Invoke (Direct' 0 (vec1 v) (more_of-Argument (ByValue (Load (Part' b (Local 0) (PointerKind 0) (vec2 v) (more_of-Selector (Dereference (1 ∷ [])) (more_of-Selector (Field 1 1) end_of-Selector))))) end_of-Argument))) end_of-Stmt))) (more_of-TypePart 0 (vec1 v) (more_of-Stmt (OutChar (record { form = (Literal 66); kind = Char })) end_of-Stmt) end_of-TypePart))) ∷ []); answer = None } ∷ record { «module» = 0; line = 1; is_body = true; formals = []; result = 4; locals = []; texts = []; body = ((Invoke (Direct' 0 (vec1 v) (more_of-Argument (ByValue (Load (Whole (Global 0 0) (PointerKind 0)))) end_of-Argument))) ∷ (New (Whole (Global 0 1) (PointerKind 1))) ∷ (Assign (Part' b (Global 0 1) (PointerKind 0) (vec2 v) (more_of-Selector (Dereference []) (more_of-Selector (Field 1 1) end_of-Selector))) (record { form = (Load (Whole (Global 0 1) (PointerKind 1))); kind = (PointerKind 1) })) ∷ (New (Part' b (Global 0 1) (PointerKind 0) (vec2 v) (more_of-Selector (Dereference []) (more_of-Selector (Field 1 1) end_of-Selector)))) ∷ (Invoke (Direct' 0 (vec1 v) (more_of-Argument (ByValue (Load (Whole (Global 0 1) (PointerKind 1)))) end_of-Argument))) ∷ (Assign (Whole (Global 0 0) (PointerKind 0)) (record { form = (Load (Whole (Global 0 1) (PointerKind 1))); kind = (PointerKind 1) })) ∷ (OutInt (record { form = (Load (Part' b (Global 0 0) Int (vec2 v) (more_of-Selector (Dereference (1 ∷ [])) (more_of-Selector (Field 1 0) end_of-Selector)))); kind = Int }) (record { form = (Literal 0); kind = Int })) ∷ (If' (vec1 v) (more_of-Branch (record { form = (Compare' Equal b (Load (Whole (Global 0 0) (PointerKind 0))) b (Load (Whole (Global 0 1) (PointerKind 1)))); kind = BoolKind }) (vec1 v) (more_of-Stmt (OutChar (record { form = (Literal 33); kind = Char })) end_of-Stmt) end_of-Branch) (vec0 v) end_of-Stmt) ∷ (Assign (Whole (Global 0 1) (PointerKind 1)) (record { form = (Literal 0); kind = Nil })) ∷ (Assign (Whole (Global 0 0) (PointerKind 0)) (record { form = (Load (Part' b (Global 0 1) (PointerKind 0) (vec2 v) (more_of-Selector (Dereference []) (more_of-Selector (Field 1 1) end_of-Selector)))); kind = (PointerKind 0) })) ∷ []); answer = None } ∷ []); imports_in = false }
+pointercase b v = record { types = record { kinds = ((RecordKind 0) ∷ (RecordKind 1) ∷ (PointerKind 0) ∷ (PointerKind 1) ∷ Nothing ∷ Int ∷ []); records = (record { «module» = 0; base = None; level = 0; fields = (record { name = []; exported = false; type_number = 5 } ∷ []); cells = 1; extent = record { bytes = 8; wide = true } } ∷ record { «module» = 0; base = (Some 0); level = 1; fields = (record { name = []; exported = false; type_number = 5 } ∷ record { name = []; exported = false; type_number = 2 } ∷ []); cells = 3; extent = record { bytes = 24; wide = true } } ∷ []); signatures = [] }; modules = (record { name = []; objects = []; variables = (2 ∷ 3 ∷ []); body = 1 } ∷ []); procedures = (record { «module» = 0; line = 1; is_body = false; formals = (record { mode = OfValue; variable = false; type_number = 2 } ∷ []); result = 4; locals = []; texts = []; body = ((CasePointer' (record { form = (Load (Whole (Local 0) (PointerKind 0))); kind = (PointerKind 0) }) (vec2 v) (more_of-TypePart 1 (vec3 v) (more_of-Stmt (OutChar (record { form = (Literal 69); kind = Char })) (more_of-Stmt (Assign (Part' b (Local 0) Int (vec2 v) (more_of-Selector (Dereference (1 ∷ [])) (more_of-Selector (Field 1 0) end_of-Selector))) (record { form = (Literal 3); kind = Int })) (more_of-Stmt (Invoke (Direct' 0 (vec1 v) (more_of-Argument (ByValue (Load (Part' b (Local 0) (PointerKind 0) (vec2 v) (more_of-Selector (Dereference (1 ∷ [])) (more_of-Selector (Field 1 1) end_of-Selector))))) end_of-Argument))) end_of-Stmt))) (more_of-TypePart 0 (vec1 v) (more_of-Stmt (OutChar (record { form = (Literal 66); kind = Char })) end_of-Stmt) end_of-TypePart))) ∷ []); answer = None } ∷ record { «module» = 0; line = 1; is_body = true; formals = []; result = 4; locals = []; texts = []; body = ((Invoke (Direct' 0 (vec1 v) (more_of-Argument (ByValue (Load (Whole (Global 0 0) (PointerKind 0)))) end_of-Argument))) ∷ (New (Whole (Global 0 1) (PointerKind 1))) ∷ (Assign (Part' b (Global 0 1) (PointerKind 0) (vec2 v) (more_of-Selector (Dereference []) (more_of-Selector (Field 1 1) end_of-Selector))) (record { form = (Load (Whole (Global 0 1) (PointerKind 1))); kind = (PointerKind 1) })) ∷ (New (Part' b (Global 0 1) (PointerKind 0) (vec2 v) (more_of-Selector (Dereference []) (more_of-Selector (Field 1 1) end_of-Selector)))) ∷ (Invoke (Direct' 0 (vec1 v) (more_of-Argument (ByValue (Load (Whole (Global 0 1) (PointerKind 1)))) end_of-Argument))) ∷ (Assign (Whole (Global 0 0) (PointerKind 0)) (record { form = (Load (Whole (Global 0 1) (PointerKind 1))); kind = (PointerKind 1) })) ∷ (OutInt (record { form = (Load (Part' b (Global 0 0) Int (vec2 v) (more_of-Selector (Dereference (1 ∷ [])) (more_of-Selector (Field 1 0) end_of-Selector)))); kind = Int }) (record { form = (Literal 0); kind = Int })) ∷ (If' (vec1 v) (more_of-Branch (record { form = (Compare' Equal b (Load (Whole (Global 0 0) (PointerKind 0))) b (Load (Whole (Global 0 1) (PointerKind 1)))); kind = BoolKind }) (vec1 v) (more_of-Stmt (OutChar (record { form = (Literal 33); kind = Char })) end_of-Stmt) end_of-Branch) (vec0 v) end_of-Stmt) ∷ (Assign (Whole (Global 0 1) (PointerKind 1)) (record { form = (Literal 0); kind = Nil })) ∷ (Assign (Whole (Global 0 0) (PointerKind 0)) (record { form = (Load (Part' b (Global 0 1) (PointerKind 0) (vec2 v) (more_of-Selector (Dereference []) (more_of-Selector (Field 1 1) end_of-Selector)))); kind = (PointerKind 0) })) ∷ []); answer = None } ∷ []); imports_in = false }
 
 pub pointercase_20 : (b : Box (Unit {0}) Heap) (v : Vec (Unit {0}) Heap) → meaning (pointercase b v) [] 20 ≡ Trapped (Kind 2 1) (69 ∷ 66 ∷ 51 ∷ 33 ∷ [])
 unfolding digits
@@ -206,7 +206,7 @@ byteinc_3 b v = refl
 
 -- MODULE R; IMPORT Out; TYPE N = POINTER TO R; R = RECORD v: INTEGER; l, r: N END; VAR t: N; PROCEDURE Add(VAR t: N; v: INTEGER); BEGIN IF t = NIL THEN NEW(t); t.v := v ELSIF v < t.v THEN Add(t.l, v) ELSE Add(t.r, v) END END Add; PROCEDURE Walk(t: N); BEGIN IF t # NIL THEN Walk(t.l); Out.Int(t.v, 2); Walk(t.r) END END Walk; BEGIN Add(t, 5); Add(t, 2); Add(t, 8); Add(t, 6); Walk(t) END R.
 abbrev recdeep : Outside Program
-recdeep b v = record { types = record { kinds = ((RecordKind 0) ∷ (PointerKind 0) ∷ Int ∷ Nothing ∷ []); records = (record { «module» = 0; base = None; level = 0; fields = (record { name = []; exported = false; type_number = 2 } ∷ record { name = []; exported = false; type_number = 1 } ∷ record { name = []; exported = false; type_number = 1 } ∷ []); cells = 3 } ∷ []); signatures = [] }; modules = (record { name = []; objects = []; variables = (1 ∷ []); body = 2 } ∷ []); procedures = (record { «module» = 0; line = 1; is_body = false; formals = (record { mode = Place; variable = true; type_number = 1 } ∷ record { mode = OfValue; variable = false; type_number = 2 } ∷ []); result = 3; locals = []; texts = []; body = ((If' (vec2 v) (more_of-Branch (record { form = (Compare' Equal b (Load (Whole (Parameter 0) (PointerKind 0))) b (Literal 0)); kind = BoolKind }) (vec2 v) (more_of-Stmt (New (Whole (Parameter 0) (PointerKind 0))) (more_of-Stmt (Assign (Part' b (Parameter 0) Int (vec2 v) (more_of-Selector (Dereference []) (more_of-Selector (Field 0 0) end_of-Selector))) (record { form = (Load (Whole (Local 0) Int)); kind = Int })) end_of-Stmt)) (more_of-Branch (record { form = (Compare' Less b (Load (Whole (Local 0) Int)) b (Load (Part' b (Parameter 0) Int (vec2 v) (more_of-Selector (Dereference []) (more_of-Selector (Field 0 0) end_of-Selector))))); kind = BoolKind }) (vec1 v) (more_of-Stmt (Invoke (Direct' 0 (vec2 v) (more_of-Argument (ByPlace (Part' b (Parameter 0) (PointerKind 0) (vec2 v) (more_of-Selector (Dereference []) (more_of-Selector (Field 0 1) end_of-Selector)))) (more_of-Argument (ByValue (Load (Whole (Local 0) Int))) end_of-Argument)))) end_of-Stmt) end_of-Branch)) (vec1 v) (more_of-Stmt (Invoke (Direct' 0 (vec2 v) (more_of-Argument (ByPlace (Part' b (Parameter 0) (PointerKind 0) (vec2 v) (more_of-Selector (Dereference []) (more_of-Selector (Field 0 2) end_of-Selector)))) (more_of-Argument (ByValue (Load (Whole (Local 0) Int))) end_of-Argument)))) end_of-Stmt)) ∷ []); answer = None } ∷ record { «module» = 0; line = 1; is_body = false; formals = (record { mode = OfValue; variable = false; type_number = 1 } ∷ []); result = 3; locals = []; texts = []; body = ((If' (vec1 v) (more_of-Branch (record { form = (Compare' Unequal b (Load (Whole (Local 0) (PointerKind 0))) b (Literal 0)); kind = BoolKind }) (vec3 v) (more_of-Stmt (Invoke (Direct' 1 (vec1 v) (more_of-Argument (ByValue (Load (Part' b (Local 0) (PointerKind 0) (vec2 v) (more_of-Selector (Dereference []) (more_of-Selector (Field 0 1) end_of-Selector))))) end_of-Argument))) (more_of-Stmt (OutInt (record { form = (Load (Part' b (Local 0) Int (vec2 v) (more_of-Selector (Dereference []) (more_of-Selector (Field 0 0) end_of-Selector)))); kind = Int }) (record { form = (Literal 2); kind = Int })) (more_of-Stmt (Invoke (Direct' 1 (vec1 v) (more_of-Argument (ByValue (Load (Part' b (Local 0) (PointerKind 0) (vec2 v) (more_of-Selector (Dereference []) (more_of-Selector (Field 0 2) end_of-Selector))))) end_of-Argument))) end_of-Stmt))) end_of-Branch) (vec0 v) end_of-Stmt) ∷ []); answer = None } ∷ record { «module» = 0; line = 1; is_body = true; formals = []; result = 3; locals = []; texts = []; body = ((Invoke (Direct' 0 (vec2 v) (more_of-Argument (ByPlace (Whole (Global 0 0) (PointerKind 0))) (more_of-Argument (ByValue (Literal 5)) end_of-Argument)))) ∷ (Invoke (Direct' 0 (vec2 v) (more_of-Argument (ByPlace (Whole (Global 0 0) (PointerKind 0))) (more_of-Argument (ByValue (Literal 2)) end_of-Argument)))) ∷ (Invoke (Direct' 0 (vec2 v) (more_of-Argument (ByPlace (Whole (Global 0 0) (PointerKind 0))) (more_of-Argument (ByValue (Literal 8)) end_of-Argument)))) ∷ (Invoke (Direct' 0 (vec2 v) (more_of-Argument (ByPlace (Whole (Global 0 0) (PointerKind 0))) (more_of-Argument (ByValue (Literal 6)) end_of-Argument)))) ∷ (Invoke (Direct' 1 (vec1 v) (more_of-Argument (ByValue (Load (Whole (Global 0 0) (PointerKind 0)))) end_of-Argument))) ∷ []); answer = None } ∷ []); imports_in = false }
+recdeep b v = record { types = record { kinds = ((RecordKind 0) ∷ (PointerKind 0) ∷ Int ∷ Nothing ∷ []); records = (record { «module» = 0; base = None; level = 0; fields = (record { name = []; exported = false; type_number = 2 } ∷ record { name = []; exported = false; type_number = 1 } ∷ record { name = []; exported = false; type_number = 1 } ∷ []); cells = 3; extent = record { bytes = 24; wide = true } } ∷ []); signatures = [] }; modules = (record { name = []; objects = []; variables = (1 ∷ []); body = 2 } ∷ []); procedures = (record { «module» = 0; line = 1; is_body = false; formals = (record { mode = Place; variable = true; type_number = 1 } ∷ record { mode = OfValue; variable = false; type_number = 2 } ∷ []); result = 3; locals = []; texts = []; body = ((If' (vec2 v) (more_of-Branch (record { form = (Compare' Equal b (Load (Whole (Parameter 0) (PointerKind 0))) b (Literal 0)); kind = BoolKind }) (vec2 v) (more_of-Stmt (New (Whole (Parameter 0) (PointerKind 0))) (more_of-Stmt (Assign (Part' b (Parameter 0) Int (vec2 v) (more_of-Selector (Dereference []) (more_of-Selector (Field 0 0) end_of-Selector))) (record { form = (Load (Whole (Local 0) Int)); kind = Int })) end_of-Stmt)) (more_of-Branch (record { form = (Compare' Less b (Load (Whole (Local 0) Int)) b (Load (Part' b (Parameter 0) Int (vec2 v) (more_of-Selector (Dereference []) (more_of-Selector (Field 0 0) end_of-Selector))))); kind = BoolKind }) (vec1 v) (more_of-Stmt (Invoke (Direct' 0 (vec2 v) (more_of-Argument (ByPlace (Part' b (Parameter 0) (PointerKind 0) (vec2 v) (more_of-Selector (Dereference []) (more_of-Selector (Field 0 1) end_of-Selector)))) (more_of-Argument (ByValue (Load (Whole (Local 0) Int))) end_of-Argument)))) end_of-Stmt) end_of-Branch)) (vec1 v) (more_of-Stmt (Invoke (Direct' 0 (vec2 v) (more_of-Argument (ByPlace (Part' b (Parameter 0) (PointerKind 0) (vec2 v) (more_of-Selector (Dereference []) (more_of-Selector (Field 0 2) end_of-Selector)))) (more_of-Argument (ByValue (Load (Whole (Local 0) Int))) end_of-Argument)))) end_of-Stmt)) ∷ []); answer = None } ∷ record { «module» = 0; line = 1; is_body = false; formals = (record { mode = OfValue; variable = false; type_number = 1 } ∷ []); result = 3; locals = []; texts = []; body = ((If' (vec1 v) (more_of-Branch (record { form = (Compare' Unequal b (Load (Whole (Local 0) (PointerKind 0))) b (Literal 0)); kind = BoolKind }) (vec3 v) (more_of-Stmt (Invoke (Direct' 1 (vec1 v) (more_of-Argument (ByValue (Load (Part' b (Local 0) (PointerKind 0) (vec2 v) (more_of-Selector (Dereference []) (more_of-Selector (Field 0 1) end_of-Selector))))) end_of-Argument))) (more_of-Stmt (OutInt (record { form = (Load (Part' b (Local 0) Int (vec2 v) (more_of-Selector (Dereference []) (more_of-Selector (Field 0 0) end_of-Selector)))); kind = Int }) (record { form = (Literal 2); kind = Int })) (more_of-Stmt (Invoke (Direct' 1 (vec1 v) (more_of-Argument (ByValue (Load (Part' b (Local 0) (PointerKind 0) (vec2 v) (more_of-Selector (Dereference []) (more_of-Selector (Field 0 2) end_of-Selector))))) end_of-Argument))) end_of-Stmt))) end_of-Branch) (vec0 v) end_of-Stmt) ∷ []); answer = None } ∷ record { «module» = 0; line = 1; is_body = true; formals = []; result = 3; locals = []; texts = []; body = ((Invoke (Direct' 0 (vec2 v) (more_of-Argument (ByPlace (Whole (Global 0 0) (PointerKind 0))) (more_of-Argument (ByValue (Literal 5)) end_of-Argument)))) ∷ (Invoke (Direct' 0 (vec2 v) (more_of-Argument (ByPlace (Whole (Global 0 0) (PointerKind 0))) (more_of-Argument (ByValue (Literal 2)) end_of-Argument)))) ∷ (Invoke (Direct' 0 (vec2 v) (more_of-Argument (ByPlace (Whole (Global 0 0) (PointerKind 0))) (more_of-Argument (ByValue (Literal 8)) end_of-Argument)))) ∷ (Invoke (Direct' 0 (vec2 v) (more_of-Argument (ByPlace (Whole (Global 0 0) (PointerKind 0))) (more_of-Argument (ByValue (Literal 6)) end_of-Argument)))) ∷ (Invoke (Direct' 1 (vec1 v) (more_of-Argument (ByValue (Load (Whole (Global 0 0) (PointerKind 0)))) end_of-Argument))) ∷ []); answer = None } ∷ []); imports_in = false }
 
 pub recdeep_40 : (b : Box (Unit {0}) Heap) (v : Vec (Unit {0}) Heap) → meaning (recdeep b v) [] 40 ≡ Ended (32 ∷ 50 ∷ 32 ∷ 53 ∷ 32 ∷ 54 ∷ 32 ∷ 56 ∷ [])
 unfolding digits
@@ -278,7 +278,7 @@ evenodd_30 b v = refl
 
 -- MODULE V; IMPORT Out; TYPE R = RECORD a: INTEGER; n: RECORD b: ARRAY 2 OF CHAR END END; E = RECORD (R) e: INTEGER END; VAR r: R; e: E; PROCEDURE P(x: R; VAR y: R); BEGIN y.a := 9; Out.Int(x.a, 0); y.n.b := x.n.b; y := x END P; BEGIN e.a := 3; P(e, e); P(r, e); Out.Int(e.a, 0) END V.
 abbrev alias : Outside Program
-alias b v = record { types = record { kinds = ((RecordKind 0) ∷ (RecordKind 1) ∷ (RecordKind 2) ∷ Char ∷ Nothing ∷ Int ∷ (Array (Some 2) 3) ∷ []); records = (record { «module» = 0; base = None; level = 0; fields = (record { name = []; exported = false; type_number = 5 } ∷ record { name = []; exported = false; type_number = 1 } ∷ []); cells = 3 } ∷ record { «module» = 0; base = None; level = 0; fields = (record { name = []; exported = false; type_number = 6 } ∷ []); cells = 2 } ∷ record { «module» = 0; base = (Some 0); level = 1; fields = (record { name = []; exported = false; type_number = 5 } ∷ []); cells = 4 } ∷ []); signatures = [] }; modules = (record { name = []; objects = []; variables = (0 ∷ 2 ∷ []); body = 1 } ∷ []); procedures = (record { «module» = 0; line = 1; is_body = false; formals = (record { mode = Place; variable = false; type_number = 0 } ∷ record { mode = OfRecord; variable = true; type_number = 0 } ∷ []); result = 4; locals = []; texts = []; body = ((Assign (Part' b (Parameter 1) Int (vec1 v) (more_of-Selector (Field 0 0) end_of-Selector)) (record { form = (Literal 9); kind = Int })) ∷ (OutInt (record { form = (Load (Part' b (Parameter 0) Int (vec1 v) (more_of-Selector (Field 0 0) end_of-Selector))); kind = Int }) (record { form = (Literal 0); kind = Int })) ∷ (CopyArray (Part' b (Parameter 1) (Array (Some 2) 3) (vec2 v) (more_of-Selector (Field 0 1) (more_of-Selector (Field 1 0) end_of-Selector))) (Part' b (Parameter 0) (Array (Some 2) 3) (vec2 v) (more_of-Selector (Field 0 1) (more_of-Selector (Field 1 0) end_of-Selector)))) ∷ (CopyRecord (Whole (Parameter 1) (RecordKind 0)) (Whole (Parameter 0) (RecordKind 0))) ∷ []); answer = None } ∷ record { «module» = 0; line = 1; is_body = true; formals = []; result = 4; locals = []; texts = []; body = ((Assign (Part' b (Global 0 1) Int (vec1 v) (more_of-Selector (Field 0 0) end_of-Selector)) (record { form = (Literal 3); kind = Int })) ∷ (Invoke (Direct' 0 (vec2 v) (more_of-Argument (ByPlace (Whole (Global 0 1) (RecordKind 2))) (more_of-Argument (ByRecord (Whole (Global 0 1) (RecordKind 2))) end_of-Argument)))) ∷ (Invoke (Direct' 0 (vec2 v) (more_of-Argument (ByPlace (Whole (Global 0 0) (RecordKind 0))) (more_of-Argument (ByRecord (Whole (Global 0 1) (RecordKind 2))) end_of-Argument)))) ∷ (OutInt (record { form = (Load (Part' b (Global 0 1) Int (vec1 v) (more_of-Selector (Field 0 0) end_of-Selector))); kind = Int }) (record { form = (Literal 0); kind = Int })) ∷ []); answer = None } ∷ []); imports_in = false }
+alias b v = record { types = record { kinds = ((RecordKind 0) ∷ (RecordKind 1) ∷ (RecordKind 2) ∷ Char ∷ Nothing ∷ Int ∷ (Array (Some 2) 3) ∷ []); records = (record { «module» = 0; base = None; level = 0; fields = (record { name = []; exported = false; type_number = 5 } ∷ record { name = []; exported = false; type_number = 1 } ∷ []); cells = 3; extent = record { bytes = 16; wide = true } } ∷ record { «module» = 0; base = None; level = 0; fields = (record { name = []; exported = false; type_number = 6 } ∷ []); cells = 2; extent = record { bytes = 2; wide = false } } ∷ record { «module» = 0; base = (Some 0); level = 1; fields = (record { name = []; exported = false; type_number = 5 } ∷ []); cells = 4; extent = record { bytes = 24; wide = true } } ∷ []); signatures = [] }; modules = (record { name = []; objects = []; variables = (0 ∷ 2 ∷ []); body = 1 } ∷ []); procedures = (record { «module» = 0; line = 1; is_body = false; formals = (record { mode = Place; variable = false; type_number = 0 } ∷ record { mode = OfRecord; variable = true; type_number = 0 } ∷ []); result = 4; locals = []; texts = []; body = ((Assign (Part' b (Parameter 1) Int (vec1 v) (more_of-Selector (Field 0 0) end_of-Selector)) (record { form = (Literal 9); kind = Int })) ∷ (OutInt (record { form = (Load (Part' b (Parameter 0) Int (vec1 v) (more_of-Selector (Field 0 0) end_of-Selector))); kind = Int }) (record { form = (Literal 0); kind = Int })) ∷ (CopyArray (Part' b (Parameter 1) (Array (Some 2) 3) (vec2 v) (more_of-Selector (Field 0 1) (more_of-Selector (Field 1 0) end_of-Selector))) (Part' b (Parameter 0) (Array (Some 2) 3) (vec2 v) (more_of-Selector (Field 0 1) (more_of-Selector (Field 1 0) end_of-Selector)))) ∷ (CopyRecord (Whole (Parameter 1) (RecordKind 0)) (Whole (Parameter 0) (RecordKind 0))) ∷ []); answer = None } ∷ record { «module» = 0; line = 1; is_body = true; formals = []; result = 4; locals = []; texts = []; body = ((Assign (Part' b (Global 0 1) Int (vec1 v) (more_of-Selector (Field 0 0) end_of-Selector)) (record { form = (Literal 3); kind = Int })) ∷ (Invoke (Direct' 0 (vec2 v) (more_of-Argument (ByPlace (Whole (Global 0 1) (RecordKind 2))) (more_of-Argument (ByRecord (Whole (Global 0 1) (RecordKind 2))) end_of-Argument)))) ∷ (Invoke (Direct' 0 (vec2 v) (more_of-Argument (ByPlace (Whole (Global 0 0) (RecordKind 0))) (more_of-Argument (ByRecord (Whole (Global 0 1) (RecordKind 2))) end_of-Argument)))) ∷ (OutInt (record { form = (Load (Part' b (Global 0 1) Int (vec1 v) (more_of-Selector (Field 0 0) end_of-Selector))); kind = Int }) (record { form = (Literal 0); kind = Int })) ∷ []); answer = None } ∷ []); imports_in = false }
 
 pub alias_20 : (b : Box (Unit {0}) Heap) (v : Vec (Unit {0}) Heap) → meaning (alias b v) [] 20 ≡ Ended (57 ∷ 48 ∷ 48 ∷ [])
 unfolding digits
@@ -358,7 +358,7 @@ stringcall_20 b v = refl
 
 -- MODULE Z; TYPE R = RECORD END; VAR a: ARRAY 1048576, 1048576 OF R; PROCEDURE P; VAR b: ARRAY 1048576 OF R; BEGIN b[1048575] := a[0][1] END P; BEGIN P END Z.
 abbrev emptiest : Outside Program
-emptiest b v = record { types = record { kinds = ((RecordKind 0) ∷ (Array (Some 1048576) 0) ∷ (Array (Some 1048576) 1) ∷ Nothing ∷ []); records = (record { «module» = 0; base = None; level = 0; fields = []; cells = 0 } ∷ []); signatures = [] }; modules = (record { name = []; objects = []; variables = (2 ∷ []); body = 1 } ∷ []); procedures = (record { «module» = 0; line = 1; is_body = false; formals = []; result = 3; locals = (1 ∷ []); texts = []; body = ((CopyRecord (Part' b (Local 0) (RecordKind 0) (vec1 v) (more_of-Selector (Index (Some 1048576) 0 (Literal 1048575)) end_of-Selector)) (Part' b (Global 0 0) (RecordKind 0) (vec2 v) (more_of-Selector (Index (Some 1048576) 1 (Literal 0)) (more_of-Selector (Index (Some 1048576) 0 (Literal 1)) end_of-Selector)))) ∷ []); answer = None } ∷ record { «module» = 0; line = 1; is_body = true; formals = []; result = 3; locals = []; texts = []; body = ((Invoke (Direct' 0 (vec0 v) end_of-Argument)) ∷ []); answer = None } ∷ []); imports_in = false }
+emptiest b v = record { types = record { kinds = ((RecordKind 0) ∷ (Array (Some 1048576) 0) ∷ (Array (Some 1048576) 1) ∷ Nothing ∷ []); records = (record { «module» = 0; base = None; level = 0; fields = []; cells = 0; extent = record { bytes = 0; wide = false } } ∷ []); signatures = [] }; modules = (record { name = []; objects = []; variables = (2 ∷ []); body = 1 } ∷ []); procedures = (record { «module» = 0; line = 1; is_body = false; formals = []; result = 3; locals = (1 ∷ []); texts = []; body = ((CopyRecord (Part' b (Local 0) (RecordKind 0) (vec1 v) (more_of-Selector (Index (Some 1048576) 0 (Literal 1048575)) end_of-Selector)) (Part' b (Global 0 0) (RecordKind 0) (vec2 v) (more_of-Selector (Index (Some 1048576) 1 (Literal 0)) (more_of-Selector (Index (Some 1048576) 0 (Literal 1)) end_of-Selector)))) ∷ []); answer = None } ∷ record { «module» = 0; line = 1; is_body = true; formals = []; result = 3; locals = []; texts = []; body = ((Invoke (Direct' 0 (vec0 v) end_of-Argument)) ∷ []); answer = None } ∷ []); imports_in = false }
 
 pub emptiest_3 : (b : Box (Unit {0}) Heap) (v : Vec (Unit {0}) Heap) → meaning (emptiest b v) [] 3 ≡ Ended []
 unfolding digits

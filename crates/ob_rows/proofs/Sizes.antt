@@ -10,6 +10,7 @@ use Rattle.run_laws.specs.Runs.{Ended, Trapped, Going}
 use Rattle.run_laws.specs.Turns.{State, Ending, Gives, Fails, Spent, after, ◌>>=◌, give, each_so, while_so, outcome}
 use Rattle.wrapping_numbers.specs.Numbers.{signed, unsigned, add64, sub64}
 use Rattle.wrapping_numbers.proofs.Wrapping.{signed_low}
+use Rattle.ob_types.specs.Trees.{data_tree, record_row}
 use Rattle.ob_types.specs.Layout.{cells_of_all}
 use Rattle.ob_types.specs.Store.{Cell, Bits, Pointer, Globals, Address, Store, Trap, Kind, Here, Value, bits, fetch, put}
 use Rattle.ob_types.specs.Expressions.{Calls}
@@ -261,7 +262,7 @@ recursion_traps n turns b v e enough = rw (goes_too_deep (suc n) b v n [] turns 
 
 abbrev objects : ℕ → Box (Unit {0}) Heap → Vec (Unit {0}) Heap → Program
 objects n b v = record {
-  types = record { kinds = RecordKind 0 ∷ PointerKind 0 ∷ Int ∷ Nothing ∷ Array (Some 1023) 2 ∷ []; records = record { «module» = 0; base = None; level = 0; fields = record { name = []; exported = false; type_number = 4 } ∷ []; cells = 1023 } ∷ []; signatures = [] };
+  types = record { kinds = RecordKind 0 ∷ PointerKind 0 ∷ Int ∷ Nothing ∷ Array (Some 1023) 2 ∷ []; records = record { «module» = 0; base = None; level = 0; fields = record { name = []; exported = false; type_number = 4 } ∷ []; cells = 1023; extent = record { bytes = 8184; wide = true } } ∷ []; signatures = [] };
   modules = record { name = []; objects = []; variables = 1 ∷ 2 ∷ []; body = 0 } ∷ [];
   procedures = record { «module» = 0; line = 1; is_body = true; formals = []; result = 3; locals = []; texts = []; body = For' b (Whole (Global 0 1) Int) (record { form = Literal 1; kind = Int }) (record { form = Literal n; kind = Int }) (pos 1) (vec1 v) (more_of-Stmt (New (Whole (Global 0 0) (PointerKind 0))) end_of-Stmt) ∷ []; answer = None } ∷ [];
   imports_in = false;
@@ -372,4 +373,5 @@ pub recursion_formed : (b : Box (Unit {0}) Heap) (v : Vec (Unit {0}) Heap) → w
 recursion_formed b v = refl
 
 pub objects_formed : (b : Box (Unit {0}) Heap) (v : Vec (Unit {0}) Heap) → well_formed (objects 8193 b v) ≡ true
+unfolding data_tree record_row
 objects_formed b v = refl

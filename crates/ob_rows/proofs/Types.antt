@@ -24,9 +24,9 @@ table = record {
   kinds = Int ∷ BoolKind ∷ Char ∷ Byte ∷ SetKind ∷ Nil ∷ Nothing ∷ Array (Some 3) 0 ∷ Array (Some 3) 0 ∷ Array None 0 ∷ Array (Some 4) 2 ∷ Array None 2
       ∷ RecordKind 0 ∷ RecordKind 1 ∷ PointerKind 0 ∷ PointerKind 1 ∷ ProcedureKind 0 ∷ ProcedureKind 1 ∷ ProcedureKind 2 ∷ TextKind 1 ∷ TextKind 3 ∷ TextKind 4
       ∷ Array (Some 2) 7 ∷ PointerKind 0 ∷ Array (Some 9) 25 ∷ RecordKind 2 ∷ [];
-  records = record { «module» = 0; base = None; level = 0; fields = field 0 ∷ field 7 ∷ []; cells = 4 }
-      ∷ record { «module» = 0; base = Some 0; level = 1; fields = field 2 ∷ []; cells = 5 }
-      ∷ record { «module» = 0; base = None; level = 0; fields = []; cells = 0 } ∷ [];
+  records = record { «module» = 0; base = None; level = 0; fields = field 0 ∷ field 7 ∷ []; cells = 4; extent = record { bytes = 32; wide = true } }
+      ∷ record { «module» = 0; base = Some 0; level = 1; fields = field 2 ∷ []; cells = 5; extent = record { bytes = 40; wide = true } }
+      ∷ record { «module» = 0; base = None; level = 0; fields = []; cells = 0; extent = record { bytes = 0; wide = false } } ∷ [];
   signatures = record { formals = record { mode = OfValue; variable = false; type_number = 0 } ∷ []; result = 6 }
       ∷ record { formals = record { mode = OfValue; variable = false; type_number = 0 } ∷ []; result = 6 }
       ∷ record { formals = record { mode = Place; variable = true; type_number = 0 } ∷ []; result = 6 } ∷ [];
@@ -65,7 +65,7 @@ not_assignable_are = refl
 -- what the calls ask of a table can be met: INTEGER, ARRAY 3 OF INTEGER, and a record of it
 
 abbrev counted : Table
-counted = record { kinds = Int ∷ Array (Some 3) 0 ∷ RecordKind 0 ∷ []; records = record { «module» = 0; base = None; level = 0; fields = field 1 ∷ []; cells = 3 } ∷ []; signatures = [] }
+counted = record { kinds = Int ∷ Array (Some 3) 0 ∷ RecordKind 0 ∷ []; records = record { «module» = 0; base = None; level = 0; fields = field 1 ∷ []; cells = 3; extent = record { bytes = 24; wide = true } } ∷ []; signatures = [] }
 
 pub is_counted : IsCounted counted
 is_counted = record {

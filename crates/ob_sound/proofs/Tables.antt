@@ -3,7 +3,7 @@ use Rattle.std.proofs.Common.{◌≡◌, ℕ, zero, suc, ◌+◌, ◌*◌, ◌<�
 use Rattle.std.specs.Prelude.{slice_get, ◌==◌}
 use Rattle.std.proofs.lemmas.List.{get_or_past, length-append}
 use Rattle.std.proofs.lemmas.List.Sums.{sum_by-cons}
-use Rattle.ob_types.specs.Layout.{kind_of, record_of, types_of, base_cells, or_base, cells_by, cells_within, record_within, cells, cells_of_all, record_cells, field_place, extends_within, extends}
+use Rattle.ob_types.specs.Layout.{kind_of, record_of, types_of, base_cells, or_base, cells_by, cells_within, record_within, cells, cells_of_all, record_cells, field_place, extends_within, extends, no_record_type}
 use Rattle.ob_types.specs.declared.types.TypeKind.{TypeKind}
 use Rattle.ob_types.specs.declared.types.TypeKind.TheVariants.{Int, Char, Byte, Array, Nothing}
 use Rattle.ob_types.specs.declared.types.TypeKind.TheVariants.{Bool as Boolean, Set as SetOf, Record as RecordOf, Pointer as PointerTo, Procedure as ProcedureOf}
@@ -171,8 +171,8 @@ module _ (t : Table) where
   past_kinds : (k : ℕ) → length t.kinds ≤ k → kind_of t k ≡ Nothing
   past_kinds k l = get_or_past t.kinds k Nothing l
 
-  past_records : (r : ℕ) → length t.records ≤ r → record_of t r ≡ record { «module» = 0; base = None; level = 0; fields = []; cells = 0 }
-  past_records r l = get_or_past t.records r (record { «module» = 0; base = None; level = 0; fields = []; cells = 0 }) l
+  past_records : (r : ℕ) → length t.records ≤ r → record_of t r ≡ no_record_type
+  past_records r l = get_or_past t.records r no_record_type l
 
   module _ (ok : types_fine t ≡ true) where
     fine_parts : (all_below (length t.kinds) (nests t (suc (length t.kinds + length t.records))) ≡ true) × (all_below (length t.records) (record_nests t (suc (length t.kinds + length t.records))) ≡ true) × (all_below (length t.records) (rooted t (suc (length t.records))) ≡ true)

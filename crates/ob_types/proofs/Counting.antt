@@ -57,17 +57,23 @@ module _ (t : Table) where
         ap (λ kind. cells_by (cells_within t depth) (record_within t depth) kind) is
         ∙ record_stays depth r (subst (λ kind. nests_by (nests t depth) (record_nests t depth) kind ≡ true) is (nest k l))
 
-  -- one more length of nested arrays is counted
-  pub counted-array : IsCounted t → (count at n e whole : ℕ) → at < length t.kinds → kind_of t at ≡ Array (Some n) e → (count * cells t at) % 2 ^ 64 ≡ whole % 2 ^ 64 → (count * n % 2 ^ 64 * cells t e) % 2 ^ 64 ≡ whole % 2 ^ 64
-  counted-array counted count at n e whole l is h =
-      mul-mod_first (count * n) (cells t e) (2 ^ 64)
-      ∙ ap (λ m. m % 2 ^ 64) (regrouped count n (cells t e) ∙ ap (λ m. count * m) (sym (cells-array counted.fine at n e l is)))
+  -- one more length of nested arrays is counted, of cells or of bytes
+  pub product_on : (count n here inner whole : ℕ) → here ≡ n * inner → (count * here) % 2 ^ 64 ≡ whole % 2 ^ 64 → (count * n % 2 ^ 64 * inner) % 2 ^ 64 ≡ whole % 2 ^ 64
+  product_on count n here inner whole is h =
+      mul-mod_first (count * n) inner (2 ^ 64)
+      ∙ ap (λ m. m % 2 ^ 64) (regrouped count n inner ∙ ap (λ m. count * m) (sym is))
       ∙ h
     where
       regrouped : (a b c : ℕ) → a * b * c ≡ a * (b * c)
       regrouped a b c = grind arith
 
+  pub counted-array : IsCounted t → (count at n e whole : ℕ) → at < length t.kinds → kind_of t at ≡ Array (Some n) e → (count * cells t at) % 2 ^ 64 ≡ whole % 2 ^ 64 → (count * n % 2 ^ 64 * cells t e) % 2 ^ 64 ≡ whole % 2 ^ 64
+  counted-array counted count at n e whole l is h = product_on count n (cells t at) (cells t e) whole (cells-array counted.fine at n e l is) h
+
   -- all of them are
+  pub whole_is : (n w : ℕ) → n ≡ w % 2 ^ 64 → w < 2 ^ 64 → n ≡ w
+  whole_is n w is few = omega (arith, is, few)
+
   pub counted-whole : IsCounted t → (k n : ℕ) → k < length t.kinds → n ≡ cells t k % 2 ^ 64 → n ≡ cells t k
   counted-whole counted k n l is = let few = counted.few k l in omega (arith, is, few)
 

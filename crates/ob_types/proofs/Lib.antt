@@ -4,3 +4,5 @@ pub mod Growing
 mod Told
 mod Depth
 pub mod WellFormedParts
+pub mod DataTrees
+pub mod TreeBytes

@@ -49,7 +49,7 @@ second_0 b v = refl
 
 -- MODULE M; TYPE R = RECORD x, y: INTEGER END; VAR a, b: R; BEGIN a := b END M.
 abbrev copied : Outside Program
-copied b v = record { types = record { kinds = ((RecordKind 0) ∷ Nothing ∷ Int ∷ []); records = (record { «module» = 0; base = None; level = 0; fields = (record { name = []; exported = false; type_number = 2 } ∷ record { name = []; exported = false; type_number = 2 } ∷ []); cells = 2 } ∷ []); signatures = [] }; modules = (record { name = []; objects = []; variables = (0 ∷ 0 ∷ []); body = 0 } ∷ []); procedures = (record { «module» = 0; line = 1; is_body = true; formals = []; result = 1; locals = []; texts = []; body = ((CopyRecord (Whole (Global 0 0) (RecordKind 0)) (Whole (Global 0 1) (RecordKind 0))) ∷ []); answer = None } ∷ []); imports_in = false }
+copied b v = record { types = record { kinds = ((RecordKind 0) ∷ Nothing ∷ Int ∷ []); records = (record { «module» = 0; base = None; level = 0; fields = (record { name = []; exported = false; type_number = 2 } ∷ record { name = []; exported = false; type_number = 2 } ∷ []); cells = 2; extent = record { bytes = 16; wide = true } } ∷ []); signatures = [] }; modules = (record { name = []; objects = []; variables = (0 ∷ 0 ∷ []); body = 0 } ∷ []); procedures = (record { «module» = 0; line = 1; is_body = true; formals = []; result = 1; locals = []; texts = []; body = ((CopyRecord (Whole (Global 0 0) (RecordKind 0)) (Whole (Global 0 1) (RecordKind 0))) ∷ []); answer = None } ∷ []); imports_in = false }
 
 pub copied_2 : (b : Box (Unit {0}) Heap) (v : Vec (Unit {0}) Heap) → meaning (copied b v) [] 2 ≡ Going []
 unfolding digits
@@ -61,7 +61,7 @@ copied_3 b v = refl
 
 -- MODULE M; IMPORT Out; TYPE B = RECORD x: INTEGER END; E = RECORD (B) y: INTEGER END; VAR b: B; after: INTEGER; e: E; BEGIN e.x := 1; e.y := 2; b := e; Out.Int(b.x, 0); Out.Int(after, 0) END M.
 abbrev projected : Outside Program
-projected b v = record { types = record { kinds = ((RecordKind 0) ∷ (RecordKind 1) ∷ Int ∷ Nothing ∷ []); records = (record { «module» = 0; base = None; level = 0; fields = (record { name = []; exported = false; type_number = 2 } ∷ []); cells = 1 } ∷ record { «module» = 0; base = (Some 0); level = 1; fields = (record { name = []; exported = false; type_number = 2 } ∷ []); cells = 2 } ∷ []); signatures = [] }; modules = (record { name = []; objects = []; variables = (0 ∷ 2 ∷ 1 ∷ []); body = 0 } ∷ []); procedures = (record { «module» = 0; line = 1; is_body = true; formals = []; result = 3; locals = []; texts = []; body = ((Assign (Part' b (Global 0 2) Int (vec1 v) (more_of-Selector (Field 0 0) end_of-Selector)) (record { form = (Literal 1); kind = Int })) ∷ (Assign (Part' b (Global 0 2) Int (vec1 v) (more_of-Selector (Field 1 0) end_of-Selector)) (record { form = (Literal 2); kind = Int })) ∷ (CopyRecord (Whole (Global 0 0) (RecordKind 0)) (Whole (Global 0 2) (RecordKind 1))) ∷ (OutInt (record { form = (Load (Part' b (Global 0 0) Int (vec1 v) (more_of-Selector (Field 0 0) end_of-Selector))); kind = Int }) (record { form = (Literal 0); kind = Int })) ∷ (OutInt (record { form = (Load (Whole (Global 0 1) Int)); kind = Int }) (record { form = (Literal 0); kind = Int })) ∷ []); answer = None } ∷ []); imports_in = false }
+projected b v = record { types = record { kinds = ((RecordKind 0) ∷ (RecordKind 1) ∷ Int ∷ Nothing ∷ []); records = (record { «module» = 0; base = None; level = 0; fields = (record { name = []; exported = false; type_number = 2 } ∷ []); cells = 1; extent = record { bytes = 8; wide = true } } ∷ record { «module» = 0; base = (Some 0); level = 1; fields = (record { name = []; exported = false; type_number = 2 } ∷ []); cells = 2; extent = record { bytes = 16; wide = true } } ∷ []); signatures = [] }; modules = (record { name = []; objects = []; variables = (0 ∷ 2 ∷ 1 ∷ []); body = 0 } ∷ []); procedures = (record { «module» = 0; line = 1; is_body = true; formals = []; result = 3; locals = []; texts = []; body = ((Assign (Part' b (Global 0 2) Int (vec1 v) (more_of-Selector (Field 0 0) end_of-Selector)) (record { form = (Literal 1); kind = Int })) ∷ (Assign (Part' b (Global 0 2) Int (vec1 v) (more_of-Selector (Field 1 0) end_of-Selector)) (record { form = (Literal 2); kind = Int })) ∷ (CopyRecord (Whole (Global 0 0) (RecordKind 0)) (Whole (Global 0 2) (RecordKind 1))) ∷ (OutInt (record { form = (Load (Part' b (Global 0 0) Int (vec1 v) (more_of-Selector (Field 0 0) end_of-Selector))); kind = Int }) (record { form = (Literal 0); kind = Int })) ∷ (OutInt (record { form = (Load (Whole (Global 0 1) Int)); kind = Int }) (record { form = (Literal 0); kind = Int })) ∷ []); answer = None } ∷ []); imports_in = false }
 
 pub projected_3 : (b : Box (Unit {0}) Heap) (v : Vec (Unit {0}) Heap) → meaning (projected b v) [] 3 ≡ Ended (49 ∷ 48 ∷ [])
 unfolding digits

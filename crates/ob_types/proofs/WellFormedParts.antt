@@ -5,12 +5,15 @@ use Rattle.std.specs.Int.{w64}
 use Rattle.std.specs.Prelude.{ℤ, pos, negsuc, not, nat_lt, ◌==◌, int_le, int_lt, FitsSigned}
 use Rattle.std.specs.Ordering.{int_eq}
 use Rattle.wrapping_numbers.specs.Numbers.{signed, unsigned}
+use Rattle.ob_types.specs.Layout.{record_of, record_cells}
+use Rattle.ob_types.specs.Trees.{same_extent, record_extent}
 use Rattle.ob_types.specs.Meaning.{texts_of}
 use Rattle.ob_types.specs.Forms.{all, all_below, types_fine}
 use Rattle.ob_types.specs.LegalTypes.{types_legal}
-use Rattle.ob_types.specs.WellFormed.{is_integer, is_step, are_equal, bodies_among, well_formed, procedure_fine, module_fine, bodies_in_order, variables_fine, counts_fine, declarations_fine}
+use Rattle.ob_types.specs.WellFormed.{is_integer, is_step, are_equal, bodies_among, well_formed, procedure_fine, module_fine, bodies_in_order, variables_fine, sizes_fine, counts_fine, declarations_fine}
 use Rattle.ob_types.specs.declared.program.Program.{Program}
 use Rattle.ob_types.proofs.Tests.{no, and_of, below}
+use Rattle.ob_types.proofs.DataTrees.{same_extent_is}
 
 pub record Parts (p : Program) : Type 0 where
   pub table : types_fine p.types ≡ true
@@ -49,6 +52,12 @@ parts_of p h =
       modules = g.0;
       procedures = below (length p.procedures) (procedure_fine p) g.1;
     }
+
+-- a record type has the cells and takes the bytes that it says
+pub said : (p : Program) (r : ℕ) → sizes_fine p r ≡ true → ((record_of p.types r).cells ≡ record_cells p.types r) × ((record_of p.types r).extent ≡ record_extent p.types r)
+said p r h =
+    let y = and_of ((record_of p.types r).cells == record_cells p.types r) (same_extent (record_of p.types r).extent (record_extent p.types r)) h in
+    (eqb-true (record_of p.types r).cells (record_cells p.types r) y.0, same_extent_is (record_of p.types r).extent (record_extent p.types r) y.1)
 
 -- a number that an INTEGER may have is one of 64 bits, and is read back
 pub integer_fits : (z : ℤ) → is_integer z ≡ true → FitsSigned w64 z

@@ -2,6 +2,7 @@
 use Rattle.std.specs.Prelude.{◌≡◌, ◌<◌, ◌^◌, ℕ, length, true, Option, Some, slice_get}
 use Rattle.ob_types.specs.Table.{Table}
 use Rattle.ob_types.specs.Layout.{kind_of, record_of, types_of, cells, record_cells}
+use Rattle.ob_types.specs.Trees.{record_extent, bytes}
 use Rattle.ob_types.specs.Assignable.{same}
 use Rattle.ob_types.specs.Forms.{types_fine}
 use Rattle.ob_types.specs.declared.types.TypeKind.TheVariants.{Array}
@@ -15,6 +16,11 @@ pub record IsCounted (t : Table) : Type 0 where
   pub records : (r : ℕ) → r < length t.records → (record_of t r).cells ≡ record_cells t r
   -- they are few enough to be counted
   pub few : (k : ℕ) → k < length t.kinds → cells t k < 2 ^ 64
+
+-- record types take the bytes that they say, and no type takes more than can be counted
+pub record IsLaidOut (t : Table) : Type 0 where
+  pub records : (r : ℕ) → r < length t.records → (record_of t r).extent ≡ record_extent t r
+  pub few : (k : ℕ) → k < length t.kinds → bytes t k < 2 ^ 64
 
 -- types that are the same have one number
 pub record HasOneNumberEach (t : Table) : Type 0 where

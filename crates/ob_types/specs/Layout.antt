@@ -27,12 +27,16 @@ cells_by cells whole _ = 1
 abbrev pub types_of : List Field → List ℕ
 types_of fields = map (λ f. f.type_number) fields
 
+-- what stands for a record type that isn't there
+abbrev pub no_record_type : RecordType
+no_record_type = record { «module» = 0; base = None; level = 0; fields = []; cells = 0; extent = record { bytes = 0; wide = false } }
+
 module _ (t : Table) where
   abbrev pub kind_of : ℕ → TypeKind
   kind_of k = slice_index_or t.kinds k Nothing
 
   abbrev pub record_of : ℕ → RecordType
-  record_of r = slice_index_or t.records r (record { «module» = 0; base = None; level = 0; fields = []; cells = 0 })
+  record_of r = slice_index_or t.records r no_record_type
 
   abbrev pub signature_of : ℕ → Signature
   signature_of g = slice_index_or t.signatures g (record { formals = []; result = 0 })

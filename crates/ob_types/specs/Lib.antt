@@ -8,6 +8,7 @@ pub mod Statements
 pub mod Meaning
 pub mod Sense
 pub mod Forms
+pub mod Trees
 pub mod LegalTypes
 pub mod WellFormed
 pub mod Ranks

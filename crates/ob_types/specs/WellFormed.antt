@@ -6,6 +6,7 @@ use Rattle.std.specs.Prelude.{ℕ, zero, suc, ◌^◌, List, [], ◌∷◌, map,
 use Rattle.std.specs.Ordering.{int_eq}
 use Rattle.wrapping_numbers.specs.Numbers.{signed}
 use Rattle.ob_types.specs.Layout.{kind_of, record_of, signature_of, types_of, record_cells, extends}
+use Rattle.ob_types.specs.Trees.{same_extent, record_extent}
 use Rattle.ob_types.specs.Assignable.{same_formals, same_length}
 use Rattle.ob_types.specs.Meaning.{procedure_of, globals_of, locals_of, texts_of, text_number, kind_in, length_of_kind, element_kind, record_of_kind, is_byte}
 use Rattle.ob_types.specs.declared.types.TypeKind.{TypeKind}
@@ -563,8 +564,8 @@ module _ (p : Program) where
   abbrev pub variables_fine : Bool
   variables_fine = all (λ m. all (is_variable_type p.types) m.variables) p.modules && all (λ q. all (is_variable_type p.types) q.locals && is_result_type p.types q.result) p.procedures
 
-  -- what is counted: a record type's level is one more than its base's, at most 15; it has the cells that it says; no parameters take over 24
-  -- argument words
+  -- what is counted: a record type's level is one more than its base's, at most 15; it has the cells and takes the bytes that it says; no
+  -- parameters take over 24 argument words
   abbrev pub level_by : Option ℕ → ℕ
   level_by None = 0
   level_by (Some b) = suc (record_of p.types b).level
@@ -572,11 +573,11 @@ module _ (p : Program) where
   abbrev pub level_fine : ℕ → Bool
   level_fine r = (record_of p.types r).level == level_by (record_of p.types r).base && nat_le (record_of p.types r).level 15
 
-  abbrev pub cells_fine : ℕ → Bool
-  cells_fine r = (record_of p.types r).cells == record_cells p.types r
+  abbrev pub sizes_fine : ℕ → Bool
+  sizes_fine r = (record_of p.types r).cells == record_cells p.types r && same_extent (record_of p.types r).extent (record_extent p.types r)
 
   abbrev pub counts_fine : Bool
-  counts_fine = (all_below (length p.types.records) level_fine && all_below (length p.types.records) cells_fine) && (all (λ g. nat_le (argument_words g.formals) 24) p.types.signatures && all (λ q. nat_le (argument_words q.formals) 24) p.procedures)
+  counts_fine = (all_below (length p.types.records) level_fine && all_below (length p.types.records) sizes_fine) && (all (λ g. nat_le (argument_words g.formals) 24) p.types.signatures && all (λ q. nat_le (argument_words q.formals) 24) p.procedures)
 
   -- all that isn't a procedure or a module's body
   abbrev pub declarations_fine : Bool

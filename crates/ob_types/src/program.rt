@@ -1,5 +1,6 @@
 //! A checked program: modules and procedures.
 
+use crate::characters::Characters;
 use crate::statements::{Checked, Stmt};
 use crate::table::Types;
 use crate::types::Formal;
@@ -76,7 +77,7 @@ pub struct Procedure {
     /// The types of its local variables, in order.
     pub locals: Items<u32>,
     /// The characters of each use of a string as an array, without the 0X behind them, in the order of the source.
-    pub texts: Items<Items<u8>>,
+    pub texts: Items<Characters>,
     /// What it does.
     pub body: Items<Stmt>,
     /// The expression behind RETURN.

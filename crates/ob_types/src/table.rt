@@ -1,8 +1,11 @@
 //! The table in which each type has a number.
 
+ghost use Rattle.ob_types.specs.Forms.{form_or_zero, scalar_form};
+ghost use Rattle.std.specs.Prelude.{◌≡◌, false};
 ghost use Rattle.ob_types.specs.Table.{Table};
+ghost use Rattle.ob_types.specs.Trees.{Scalar, tree_extent};
 
-use crate::types::{RecordType, Signature, TypeKind};
+use crate::types::{Extent, RecordType, Signature, TypeKind};
 use outside::Memory;
 use std::alloc::Global;
 use std::marker::Model;
@@ -22,12 +25,39 @@ impl Model for Types {
     ghost view = { λ t. record { kinds = t.kinds.items; records = t.records.items; signatures = t.signatures.items } };
 }
 
+// What a scalar takes in memory.
+fn scalar_extent(kind: TypeKind) -> Extent
+    ensures { result ≡ tree_extent (Scalar (form_or_zero (scalar_form kind))) }
+{
+    match kind {
+        TypeKind::Bool => small_extent(),
+        TypeKind::Char => small_extent(),
+        TypeKind::Byte => small_extent(),
+        _ => Extent {
+            bytes: 8,
+            wide: true,
+        },
+    }
+}
+
+// What fits a byte takes one.
+fn small_extent() -> Extent
+    ensures { result ≡ record { bytes = 1; wide = false } }
+{
+    Extent {
+        bytes: 1,
+        wide: false,
+    }
+}
+
 impl Types {
     ghost use Rattle.std.specs.Prelude.{◌≡◌, ℕ, ◌+◌, ◌<◌, ◌^◌, [], ◌∷◌, ◌++◌, length, take, slice_set, OnOk, OnErr, IfSome, IfNone};
     ghost use Rattle.ob_types.specs.Layout.{kind_of, record_of};
     ghost use Rattle.ob_types.specs.Layout.{cells as cells_of, extends as extends_record};
     ghost use Rattle.ob_types.specs.Assignable.{same as same_type, extends as extends_type, assignable as may_assign, is_char as is_of_chars};
-    ghost use Rattle.ob_types.specs.Counted.{IsCounted, HasOneNumberEach};
+    ghost use Rattle.ob_types.specs.Trees.{data_tree};
+    ghost use Rattle.ob_types.specs.Trees.{bytes as bytes_of, align as align_of};
+    ghost use Rattle.ob_types.specs.Counted.{IsCounted, IsLaidOut, HasOneNumberEach};
 
     /// No types; takes no memory.
     pub fn new(alloc: Global) -> Types
@@ -136,6 +166,66 @@ impl Types {
             at = element;
         }
         count.wrapping_mul(self.own_cells(at))
+    }
+
+    /// How many bytes a variable of a type takes where a CHAR, a BYTE and a BOOLEAN take one and every other scalar
+    /// eight. A field or an element begins at a multiple of its type's alignment, a record's bytes are rounded up to its
+    /// own, and what an extension adds stands behind its base's bytes. Of types of known length.
+    pub fn bytes(&self, t: u32) -> u64
+        requires known { t < length self.now.kinds }
+        requires counted { IsCounted self.now }
+        requires laid_out { IsLaidOut self.now }
+        ensures { result ≡ bytes_of self.now t }
+    {
+        let mut count: u64 = 1;
+        let mut at = t;
+        while let Some((length, element)) = self.array_at(at) {
+            count = count.wrapping_mul(u64::from(length));
+            at = element;
+        }
+        count.wrapping_mul(u64::from(self.own_extent(at).bytes))
+    }
+
+    /// Of what the beginning of a variable of a type is a multiple, in bytes: 8 where it has a part of eight bytes,
+    /// else 1.
+    pub fn align(&self, t: u32) -> u64
+        requires known { t < length self.now.kinds }
+        requires counted { IsCounted self.now }
+        requires laid_out { IsLaidOut self.now }
+        ensures { result ≡ align_of self.now t }
+    {
+        let mut at = t;
+        while let Some((_, element)) = self.array_at(at) {
+            at = element;
+        }
+        if self.own_extent(at).wide { 8 } else { 1 }
+    }
+
+    // What a type that is no array of known length takes in memory.
+    fn own_extent(&self, t: u32) -> Extent
+        requires known { t < length self.now.kinds }
+        requires counted { IsCounted self.now }
+        requires laid_out { IsLaidOut self.now }
+        requires single { (n e : ℕ) → kind_of self.now t ≡ TypeKind.Array (Some n) e → ⊥ }
+        ensures { result ≡ tree_extent (data_tree self.now t) }
+    {
+        match self.kind(t) {
+            TypeKind::Record(r) => self.said_extent(r),
+            kind => scalar_extent(kind),
+        }
+    }
+
+    // What a record type says that it takes.
+    fn said_extent(&self, r: u32) -> Extent
+        ensures { result ≡ (record_of self.now r).extent }
+    {
+        match self.records.as_slice().get(r as usize) {
+            Some(found) => found.extent,
+            None => Extent {
+                bytes: 0,
+                wide: false,
+            },
+        }
     }
 
     // The length and the element type of an array of known length.

@@ -42,6 +42,15 @@ pub struct Field {
     pub type_number: u32,
 }
 
+/// What a value takes in memory where a CHAR, a BYTE and a BOOLEAN take one byte and every other scalar eight.
+#[derive(Clone, Copy)]
+pub struct Extent {
+    /// Its bytes. A record's are rounded up, so that another one may stand right behind it.
+    pub bytes: u32,
+    /// Whether it has a part of eight bytes, and so begins at a multiple of 8.
+    pub wide: bool,
+}
+
 /// A record type. These are numbered over all modules by the place of the word RECORD.
 #[derive(Drop)]
 pub struct RecordType {
@@ -55,6 +64,8 @@ pub struct RecordType {
     pub fields: Items<Field>,
     /// How many cells a variable of it has.
     pub cells: u32,
+    /// The bytes that a variable of it takes, where small scalars take one.
+    pub extent: Extent,
 }
 
 /// How a parameter is handed over.

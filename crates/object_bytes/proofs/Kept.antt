@@ -6,7 +6,7 @@ use Rattle.a64_memory.specs.Memory.{Area, covers, bytes_at, IsRising, IsOfBytes}
 use Rattle.a64_memory.proofs.Stores.{covers-with_bytes, rising-with_bytes, of_bytes-with_bytes, bytes_at-with_bytes_apart}
 use Rattle.a64_memory.proofs.Cells.{loaded8-stored8_same, loaded1-stored1_same, loaded8-stored8_apart, loaded8-stored1_apart, loaded1-stored8_apart, loaded1-stored1_apart, bytes_of_1, bytes_of_8}
 use Rattle.a64_memory.proofs.Blocks.{covers-part}
-use Rattle.object_nodes.specs.Trees.{scalar_bytes}
+use Rattle.ob_types.specs.Trees.{scalar_bytes}
 use Rattle.object_nodes.specs.Addresses.{Sides}
 use Rattle.object_bytes.specs.Layouts.{Spot}
 use Rattle.object_bytes.specs.Objects.{Cell, Number, Pointer, Routine, Tag, Objects, write, Placing, Means, Grows, load, store, limit, Clear, Kept, Spare, Zeros}

@@ -3,7 +3,7 @@ use Rattle.std.proofs.Common.{◌≡◌, ◌≢◌, ℕ, ◌+◌, ◌<◌, ◌�
 use Rattle.std.proofs.lemmas.Bool.{cases_eq}
 use Rattle.a64_memory.specs.Memory.{Area, covers}
 use Rattle.a64_memory.proofs.Blocks.{covers-part}
-use Rattle.object_nodes.specs.Trees.{scalar_bytes}
+use Rattle.ob_types.specs.Trees.{scalar_bytes}
 use Rattle.object_bytes.specs.Layouts.{Spot, Body, Fine}
 use Rattle.object_bytes.specs.Objects.{Cell, Number, Pointer, Routine, Tag, Objects, create, Placing, with_new, without, Means, Grows, load, Clear, Kept, Spare, Zeros}
 use Rattle.object_bytes.proofs.Kept.{clear_within, clear_swap, clear_join, means_grows, span_some, load_zero}

@@ -2,7 +2,7 @@
 
 ghost use Rattle.std.specs.Prelude.{◌≡◌, ◌≢◌, ◌⊎◌, List, ℕ, ◌+◌, ◌*◌, ◌<◌, ◌≤◌, ◌^◌, length, Bool, true, false, Option, Some, None};
 ghost use Rattle.a64_memory.specs.Memory.{Area, covers, bytes_at, with_bytes, loaded1};
-ghost use Rattle.object_nodes.specs.Trees.{DataTree, Array, Record, FieldRow, Field, Extend, tree_cells, row_cells, round_up, wide, tree_bytes, row_end};
+ghost use Rattle.ob_types.specs.Trees.{DataTree, Array, Record, FieldRow, Field, Extend, tree_cells, row_cells, round_up, wide, tree_bytes, row_end};
 ghost use Rattle.object_bytes.specs.Layouts.{Spot, Form, Body, body, Fine, Part, Rising, row_form, form};
 ghost use Rattle.object_bytes.specs.Objects.{Cell, Number, Objects, Placing, Kept, Spare, Means, load, limit, store, write, create, copied, with_new, without};
 

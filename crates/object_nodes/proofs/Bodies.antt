@@ -16,7 +16,7 @@ use Rattle.ob_types.proofs.Tests.{and_of}
 use Rattle.ob_sound.proofs.Typed.{Sound, Typed}
 use Rattle.ob_sound.proofs.Handing.{AllTaken, CallsSound}
 use Rattle.ob_sound.proofs.Tree.{t_named}
-use Rattle.object_nodes.specs.Trees.{DataTree, tree_cells, tree_forms}
+use Rattle.ob_types.specs.Trees.{DataTree, tree_cells, tree_forms}
 use Rattle.object_nodes.specs.AtOnce.{CellsThere, copy_at_once}
 use Rattle.object_nodes.proofs.AtOnce.{at_once}
 use Rattle.object_nodes.proofs.Trees.{cells_forms}

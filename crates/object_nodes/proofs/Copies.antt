@@ -10,7 +10,7 @@ use Rattle.ob_types.specs.WellFormed.{Named, holds_of, is_writable}
 use Rattle.ob_types.proofs.Tests.{and_of}
 use Rattle.ob_sound.proofs.Typed.{Sound, older_trans, s_bind, s_give, s_older, s_unless}
 use Rattle.ob_sound.proofs.Constructs.{Points, holds_is, s_record}
-use Rattle.object_nodes.specs.Trees.{DataTree, Array, Record, tree_cells, data_tree, record_row}
+use Rattle.ob_types.specs.Trees.{DataTree, Array, Record, tree_cells, data_tree, record_row}
 use Rattle.object_nodes.specs.AtOnce.{IsAhead}
 use Rattle.object_nodes.specs.Nodes.{LieApart, VariableNode}
 use Rattle.object_nodes.proofs.Meeting.{tree_levels, same_levels, variables_meet}

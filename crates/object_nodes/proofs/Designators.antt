@@ -20,11 +20,12 @@ use Rattle.ob_sound.proofs.Tables.{extends_trans}
 use Rattle.ob_sound.proofs.Numbers.{inside_lt}
 use Rattle.ob_sound.proofs.Typed.{Fits, Good, HasForm, Names, Older, Sound, Spanned, element_is, older_trans, provided_is, s_bind, s_give, s_given, s_older, s_tag_of, s_trap, s_unless, s_weaker}
 use Rattle.ob_sound.proofs.Constructs.{Means, Points, holds_is, n_bits, pointed_is, record_is, s_span, with_is}
-use Rattle.object_nodes.specs.Trees.{DataTree, Scalar, Array, Record, tree_cells, tree_bytes, data_tree, record_row}
+use Rattle.ob_types.specs.Trees.{DataTree, Scalar, Array, Record, tree_cells, tree_bytes, data_tree, record_row}
 use Rattle.object_nodes.specs.Nodes.{Node, VariableNode}
 use Rattle.object_nodes.specs.Named.{heap_trees, object_trees, IsNode, NamesNode}
 use Rattle.object_nodes.proofs.Meeting.{node_self, variable_node}
-use Rattle.object_nodes.proofs.Trees.{cells_are, array_data_tree, record_data_tree, scalar_data_tree, byte_place, field_node, base_node}
+use Rattle.ob_types.proofs.DataTrees.{cells_are, array_data_tree, record_data_tree, scalar_data_tree}
+use Rattle.object_nodes.proofs.Trees.{byte_place, field_node, base_node}
 
 module _ (p : Program) (packed : Bool) where
   pub trees_older : (vs : List (List ℕ)) (tags more : List ℕ) → Older tags more → (area : Area) (o v c b : ℕ) (s : DataTree) → VariableNode packed (object_trees p vs tags area o) v c b s → VariableNode packed (object_trees p vs more area o) v c b s

@@ -29,10 +29,10 @@ use Rattle.ob_sound.proofs.Typed.{Any, Older, Sound, older_trans, s_bind, s_give
 use Rattle.ob_sound.proofs.Constructs.{Points, holds_is, m_guards, m_load, or_split, record_is, with_is}
 use Rattle.ob_sound.proofs.Handing.{AllTaken, CallsSound, open_parts}
 use Rattle.ob_sound.proofs.Tree.{t_base, t_named, t_select, t_value}
-use Rattle.object_nodes.specs.Trees.{Scalar, Array, Record, data_tree, record_row}
+use Rattle.ob_types.specs.Trees.{Scalar, Array, Record, data_tree, record_row}
 use Rattle.object_nodes.specs.Nodes.{Node, VariableNode}
 use Rattle.object_nodes.proofs.Meeting.{node_self}
-use Rattle.object_nodes.proofs.Trees.{cells_are, record_data_tree}
+use Rattle.ob_types.proofs.DataTrees.{cells_are, record_data_tree}
 use Rattle.object_nodes.specs.Named.{global_trees, string_trees, IsNode, NamesNode, TakenNode, AllNodes}
 use Rattle.object_nodes.proofs.Designators.{GivesNode, Both, node_older, named_older, n_both, n_field, n_index, n_narrowed, n_object, n_of, n_provided, n_some, node_push, record_node, s_address, s_spanned, element_tree, element_trees}
 

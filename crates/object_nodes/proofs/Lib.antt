@@ -1,5 +1,4 @@
 pub mod Meeting
-pub mod Words
 pub mod Trees
 pub mod Designators
 pub mod Handed

@@ -1,12 +1,9 @@
 -- Two nodes of one tree: one is a node of the other, or they lie apart.
-use Rattle.std.proofs.Common.{◌≡◌, ℕ, zero, suc, ◌+◌, ◌*◌, ◌<◌, ◌≤◌, ◌⊎◌, ⊎_elim, inl, inr, List, [], ◌∷◌, Bool, true, false, ◌&&◌, refl, sym, ap, ◌∙◌, subst, arith}
+use Rattle.std.proofs.Common.{◌≡◌, ℕ, zero, suc, ◌+◌, ◌*◌, ◌<◌, ◌≤◌, ◌⊎◌, ⊎_elim, inl, inr, List, [], ◌∷◌, Bool, true, false, refl, sym, ap, ◌∙◌, subst, arith}
 use Rattle.std.proofs.lemmas.Bool.{cases_lt}
-use Rattle.object_nodes.specs.Trees.{DataTree, Scalar, Array, Record, FieldRow, Empty, Field, Extend, tree_cells, row_cells, fits_byte, scalar_bytes, round_up, wide, row_wide, tree_bytes, row_end}
+use Rattle.ob_types.specs.Trees.{DataTree, Scalar, Array, Record, FieldRow, Empty, Field, Extend, tree_cells, row_cells, round_up, wide, row_wide, tree_bytes, row_end}
+use Rattle.ob_types.proofs.TreeBytes.{up_above, row_few}
 use Rattle.object_nodes.specs.Nodes.{Node, InFields, LieApart, Meet, VariableNode, variable_start}
-
-pub up_above : (b : Bool) (n : ℕ) → n ≤ round_up b n
-up_above true n = omega arith
-up_above false n = omega arith
 
 abbrev mutual
   pub tree_levels : DataTree → ℕ
@@ -235,54 +232,6 @@ module _ (packed : Bool) where
   variables_apart (k ∷ ks) (suc v) c o s zero d q u a b lt = absurd (omega (arith, lt))
   variables_apart (k ∷ ks) (suc v) c o s (suc w) d q u a b lt = let x = variables_apart ks v a.0 o s w b.0 q u a.1 b.1 (omega (arith, lt)) in omega (arith, x)
 
-  -- a tree has no bytes where it has no cells, and else one a cell at least, eight at most
-  few_up : (b : Bool) (n m : ℕ) → n ≤ 8 * m → round_up b n ≤ 8 * m
-  few_up true n m le = omega (arith, le)
-  few_up false n m le = le
-
-  wide_up : (a b : Bool) (n m k x : ℕ) → n ≤ 8 * m → x ≤ 8 * k → round_up a n + x ≤ 8 * (m + k)
-  wide_up a b n m k x le lt = let z = few_up a n m le in omega (arith, z, lt)
-
-  times_few : (n a b : ℕ) → a ≤ 8 * b → n * a ≤ 8 * (n * b)
-  times_few zero a b le = omega arith
-  times_few (suc n) a b le = let z = times_few n a b le in
-      let x : suc n * a ≡ a + n * a = omega arith in let y : suc n * b ≡ b + n * b = omega arith in omega (arith, z, le, x, y)
-
-  times_many : (n a b : ℕ) → a ≤ b → n * a ≤ n * b
-  times_many zero a b le = omega arith
-  times_many (suc n) a b le = let z = times_many n a b le in
-      let x : suc n * a ≡ a + n * a = omega arith in let y : suc n * b ≡ b + n * b = omega arith in omega (arith, z, le, x, y)
-
-  scalar_few : (b : Bool) → scalar_bytes b ≤ 8 * 1
-  scalar_few true = omega arith
-  scalar_few false = omega arith
-
-  scalar_many : (b : Bool) → 1 ≤ scalar_bytes b
-  scalar_many true = omega arith
-  scalar_many false = omega arith
-
-  mutual
-    pub bytes_few : (s : DataTree) → tree_bytes packed s ≤ 8 * tree_cells s
-    bytes_few (Scalar f) = scalar_few (packed && fits_byte f)
-    bytes_few (Array n t) = times_few n (tree_bytes packed t) (tree_cells t) (bytes_few t)
-    bytes_few (Record r) = few_up (row_wide packed r) (row_end packed r) (row_cells r) (row_few r)
-
-    row_few : (r : FieldRow) → row_end packed r ≤ 8 * row_cells r
-    row_few Empty = omega arith
-    row_few (Field r t) = wide_up (wide packed t) (wide packed t) (row_end packed r) (row_cells r) (tree_cells t) (tree_bytes packed t) (row_few r) (bytes_few t)
-    row_few (Extend r) = few_up (row_wide packed r) (row_end packed r) (row_cells r) (row_few r)
-
-  mutual
-    pub bytes_many : (s : DataTree) → tree_cells s ≤ tree_bytes packed s
-    bytes_many (Scalar f) = scalar_many (packed && fits_byte f)
-    bytes_many (Array n t) = times_many n (tree_cells t) (tree_bytes packed t) (bytes_many t)
-    bytes_many (Record r) = let z = row_many r in let u = up_above (row_wide packed r) (row_end packed r) in omega (arith, z, u)
-
-    row_many : (r : FieldRow) → row_cells r ≤ row_end packed r
-    row_many Empty = omega arith
-    row_many (Field r t) = let z = row_many r in let u = up_above (wide packed t) (row_end packed r) in let y = bytes_many t in omega (arith, z, u, y)
-    row_many (Extend r) = let z = row_many r in let u = up_above (row_wide packed r) (row_end packed r) in omega (arith, z, u)
-
   -- a node's byte goes by its cell, where it has cells
 
   up_zero : (b : Bool) (n : ℕ) → n ≡ 0 → round_up b n ≡ 0
@@ -310,7 +259,7 @@ module _ (packed : Bool) where
     inside_first Empty c o s h e lt = absurd h
     inside_first (Field r t) c o s (inl h) e lt = inside_first r c o s h e lt
     inside_first (Field r t) c o s (inr h) e lt =
-        let y = h.3 in let f = row_few r in
+        let y = h.3 in let f = row_few packed r in
         let z = first_byte t h.0 h.1 s h.2 (omega (arith, y, e)) lt in
         let u = up_zero (wide packed t) (row_end packed r) (omega (arith, y, e, f)) in
         let x = h.4 in omega (arith, x, u, z)

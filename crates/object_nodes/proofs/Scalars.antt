@@ -3,7 +3,7 @@ use Rattle.std.proofs.Common.{◌≡◌, ◌≢◌, ℕ, zero, suc, ◌+◌, ◌
 use Rattle.std.specs.Prelude.{slice_get}
 use Rattle.ob_types.specs.Forms.{Form, repeated}
 use Rattle.ob_types.proofs.Tests.{none_some, some_same}
-use Rattle.object_nodes.specs.Trees.{DataTree, Scalar, Array, Record, FieldRow, Empty, Field, Extend, tree_cells, tree_forms, row_forms, round_up, wide, tree_bytes, row_end}
+use Rattle.ob_types.specs.Trees.{DataTree, Scalar, Array, Record, FieldRow, Empty, Field, Extend, tree_cells, tree_forms, row_forms, round_up, wide, tree_bytes, row_end}
 use Rattle.std.proofs.lemmas.Bool.{cases_lt}
 use Rattle.object_nodes.specs.Nodes.{Node, InFields, Nested, Meet, LieApart}
 use Rattle.object_nodes.proofs.Meeting.{node_self, nodes_meet, same_levels, times_below}

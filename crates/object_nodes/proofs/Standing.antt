@@ -8,7 +8,7 @@ use Rattle.ob_types.specs.declared.program.Program.{Program}
 use Rattle.ob_types.specs.Forms.{Form, Small, repeated, joined, forms}
 use Rattle.ob_sound.proofs.Tables.{get_left, get_right, get_repeated}
 use Rattle.ob_sound.proofs.Typed.{Stands, form_at, global_forms, string_forms, object_forms}
-use Rattle.object_nodes.specs.Trees.{DataTree, Scalar, Array, Record, FieldRow, Empty, Field, Extend, tree_forms, row_forms, data_tree, record_row}
+use Rattle.ob_types.specs.Trees.{DataTree, Scalar, Array, Record, FieldRow, Empty, Field, Extend, tree_forms, row_forms, data_tree, record_row}
 use Rattle.object_nodes.specs.Nodes.{Node, InFields, VariableNode}
 use Rattle.object_nodes.proofs.Trees.{cells_forms, row_cells_forms, forms_are, record_forms_are}
 use Rattle.object_nodes.specs.Named.{object_trees, global_trees, string_trees, heap_trees, IsNode}

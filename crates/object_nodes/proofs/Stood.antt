@@ -3,10 +3,11 @@ use Rattle.std.proofs.Common.{◌≡◌, ℕ, zero, suc, ◌+◌, ◌%◌, ◌^�
 use Rattle.std.specs.Prelude.{slice_get}
 use Rattle.ob_types.specs.Forms.{Form}
 use Rattle.ob_types.proofs.Tests.{none_some, some_same}
-use Rattle.object_nodes.specs.Trees.{DataTree, Scalar, tree_cells, tree_forms, tree_bytes}
+use Rattle.ob_types.specs.Trees.{DataTree, Scalar, tree_cells, tree_forms, tree_bytes}
 use Rattle.object_nodes.specs.Nodes.{Node, LieApart, VariableNode}
 use Rattle.object_nodes.specs.Addresses.{shifted, Sides, StandFrom, AreRooted}
-use Rattle.object_nodes.proofs.Meeting.{tree_levels, node_node, node_bytes, bytes_many, variable_node, same_levels, variables_meet}
+use Rattle.ob_types.proofs.TreeBytes.{bytes_many}
+use Rattle.object_nodes.proofs.Meeting.{tree_levels, node_node, node_bytes, variable_node, same_levels, variables_meet}
 use Rattle.object_nodes.proofs.Trees.{cells_forms}
 use Rattle.object_nodes.proofs.Scalars.{scalar_node}
 

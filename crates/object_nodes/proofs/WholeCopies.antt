@@ -15,11 +15,11 @@ use Rattle.ob_types.specs.Forms.{Form, joined, types_fine, forms}
 use Rattle.ob_types.specs.WellFormed
 use Rattle.ob_sound.proofs.Typed.{Good, Typed, older_refl}
 use Rattle.ob_sound.proofs.Handing.{AllTaken, CallsSound}
-use Rattle.object_nodes.specs.Trees.{Array, Record, tree_cells, data_tree, record_row}
+use Rattle.ob_types.specs.Trees.{Array, Record, tree_cells, data_tree, record_row}
 use Rattle.object_nodes.specs.AtOnce.{copy_at_once, copy_array_at_once, copy_record_at_once}
 use Rattle.object_nodes.specs.Named.{AllNodes}
 use Rattle.object_nodes.proofs.Meeting.{times_below}
-use Rattle.object_nodes.proofs.Trees.{cells_are, record_cells_are}
+use Rattle.ob_types.proofs.DataTrees.{cells_are, record_cells_are}
 use Rattle.object_nodes.proofs.Copies.{ArraysMeet, RecordsMeet, array_ends, record_ends}
 use Rattle.object_nodes.proofs.Bodies.{node_copy, array_copies, record_copies}
 

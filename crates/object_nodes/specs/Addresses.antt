@@ -1,7 +1,7 @@
 -- Where nodes are in memory: the byte of each scalar is its object's spot of it, and addresses are added as registers add them.
 use Rattle.std.specs.Prelude.{◌≡◌, ℕ, ◌+◌, ◌%◌, ◌^◌, ◌<◌, ◌≤◌, ◌⊎◌, List, Bool, Option, Some, None, slice_get}
 use Rattle.ob_types.specs.Forms.{Form}
-use Rattle.object_nodes.specs.Trees.{DataTree, Scalar, tree_bytes}
+use Rattle.ob_types.specs.Trees.{DataTree, Scalar, tree_bytes}
 use Rattle.object_nodes.specs.Nodes.{Node, VariableNode}
 
 -- so many bytes on, where there is a byte

@@ -10,7 +10,7 @@ use Rattle.ob_types.specs.declared.types.Mode.TheVariants.{Value as OfValue, Rec
 use Rattle.ob_types.specs.declared.program.Program.{Program}
 use Rattle.ob_types.specs.Forms.{Truth, Small}
 use Rattle.ob_types.specs.WellFormed.{Named, Cells, Of, OpenOf, Dynamic, Characters, open_element}
-use Rattle.object_nodes.specs.Trees.{DataTree, Scalar, Array, Record, data_tree, record_row}
+use Rattle.ob_types.specs.Trees.{DataTree, Scalar, Array, Record, data_tree, record_row}
 use Rattle.object_nodes.specs.Nodes.{VariableNode}
 
 module _ (p : Program) where

@@ -1,6 +1,6 @@
 -- The parts of a value that designators can name: nodes of its type's tree, which are its elements, its fields and the base parts of its records, each so many cells and so many bytes on.
 use Rattle.std.specs.Prelude.{◌≡◌, ℕ, zero, suc, ◌+◌, ◌*◌, ◌<◌, ◌≤◌, ◌⊎◌, List, [], ◌∷◌, Bool, true}
-use Rattle.object_nodes.specs.Trees.{DataTree, Scalar, Array, Record, FieldRow, Empty, Field, Extend, tree_cells, row_cells, round_up, wide, tree_bytes, row_end}
+use Rattle.ob_types.specs.Trees.{DataTree, Scalar, Array, Record, FieldRow, Empty, Field, Extend, tree_cells, row_cells, round_up, wide, tree_bytes, row_end}
 
 module _ (packed : Bool) where
   abbrev mutual

@@ -1,9 +1,9 @@
 //! Laws of trees, nodes and copies.
 
-ghost use Rattle.std.specs.Prelude.{◌≡◌, ◌⊎◌, ◌∷◌, ◌++◌, [], ℕ, ◌+◌, ◌*◌, ◌/◌, ◌%◌, ◌<◌, ◌≤◌, Bool, List, Option, map, nat_lt, take, true, false, Some, slice_get};
+ghost use Rattle.std.specs.Prelude.{◌≡◌, ◌⊎◌, ◌∷◌, ◌++◌, [], ℕ, ◌+◌, ◌*◌, ◌/◌, ◌%◌, ◌<◌, ◌≤◌, Bool, List, Option, map, nat_lt, sum, take, true, false, Some, slice_get};
 ghost use Rattle.run_laws.specs.Turns.{State};
 ghost use Rattle.ob_types.specs.Table.{Table};
-ghost use Rattle.ob_types.specs.Layout.{record_of, types_of, field_place, record_cells, extends};
+ghost use Rattle.ob_types.specs.Layout.{kind_of, record_of, types_of, field_place, record_cells, extends};
 ghost use Rattle.ob_types.specs.Layout.{cells as cells_of};
 ghost use Rattle.ob_types.specs.Forms.{all, forms, types_fine};
 ghost use Rattle.ob_types.specs.Store.{Address, Handed, Here, Store, can_write};
@@ -17,8 +17,9 @@ ghost use Rattle.ob_types.specs.declared.statements.Stmt.{CopyArray, CopyRecord}
 ghost use Rattle.ob_types.specs.declared.tree.Call.{Row_of-Argument};
 ghost use Rattle.ob_types.specs.declared.tree.Designator.{Designator};
 ghost use Rattle.ob_types.specs.declared.types.Formal.{Formal};
-ghost use Rattle.ssa_lowered.specs.Data.{extent, record_extent, packed, packed_offset, room_of_all};
-ghost use Rattle.object_nodes.specs.Trees.{DataTree, Array, Record, tree_cells, tree_bytes, tree_forms, wide, round_up, data_tree, record_row};
+ghost use Rattle.ob_types.specs.declared.types.TypeKind.TheVariants.{Array as ArrayOf, Record as RecordOf};
+ghost use Rattle.ob_types.specs.Trees.{DataTree, Array, Record, tree_cells, tree_bytes, tree_forms, wide, round_up, data_tree, record_row, record_extent, field_offset};
+ghost use Rattle.ob_types.specs.Trees.{bytes as bytes_of};
 ghost use Rattle.object_nodes.specs.Nodes.{Node, Meet, LieApart, VariableNode, variable_start};
 ghost use Rattle.object_nodes.specs.Named.{AllNodes, NamesNode};
 ghost use Rattle.object_nodes.specs.Running.{GivesOnly, IsCall};
@@ -68,15 +69,25 @@ pub fn variables_meet()
 pub fn trees_are_types()
     ensures forms { (t : Table) (k : ℕ) → forms t k ≡ tree_forms (data_tree t k) }
     ensures cells { (t : Table) (k : ℕ) → cells_of t k ≡ tree_cells (data_tree t k) }
-    ensures bytes { (t : Table) (k : ℕ) → (extent t k).size ≡ tree_bytes true (data_tree t k) }
-    ensures record_bytes { (t : Table) (r : ℕ) → (record_extent t r).size ≡ tree_bytes true (Record (record_row t r)) }
     ensures field { (t : Table) (r n k : ℕ) → types_fine t ≡ true → slice_get (types_of (record_of t r).fields) n ≡ Some k
-        → Node true (Record (record_row t r)) (field_place t r n) (packed_offset t r n) (data_tree t k) }
+        → Node true (Record (record_row t r)) (field_place t r n) (field_offset t r n) (data_tree t k) }
     ensures field_by_cells { (t : Table) (r n k : ℕ) → types_fine t ≡ true → slice_get (types_of (record_of t r).fields) n ≡ Some k
         → Node false (Record (record_row t r)) (field_place t r n) (8 * field_place t r n) (data_tree t k) }
     ensures base { (packed : Bool) (t : Table) (s r : ℕ) → types_fine t ≡ true → extends t s r ≡ true
         → Node packed (Record (record_row t s)) 0 0 (Record (record_row t r)) }
-    ensures variables { (t : Table) (ks : List ℕ) (v : ℕ) → variable_start true (map (data_tree t) ks) v ≡ room_of_all (packed t) (take v ks) }
+    ensures variables { (t : Table) (ks : List ℕ) (v : ℕ) → variable_start true (map (data_tree t) ks) v ≡ sum (map (λ k. round_up true (bytes_of t k)) (take v ks)) }
+{}
+
+/// Of the bytes of a type: an array takes its element's as often as it is long, a record type what it says. A cell takes eight bytes at most, also
+/// where the bytes are rounded up; there are none exactly where there are no cells, and no more words and single bytes than cells.
+pub fn types_take_bytes()
+    ensures array { (t : Table) (k n e : ℕ) → types_fine t ≡ true → kind_of t k ≡ ArrayOf (Some n) e → bytes_of t k ≡ n * bytes_of t e }
+    ensures whole { (t : Table) (k r : ℕ) → types_fine t ≡ true → kind_of t k ≡ RecordOf r → bytes_of t k ≡ (record_extent t r).bytes }
+    ensures few { (t : Table) (k : ℕ) → bytes_of t k ≤ 8 * cells_of t k }
+    ensures rounded { (t : Table) (k : ℕ) → round_up true (bytes_of t k) ≤ 8 * cells_of t k }
+    ensures none { (t : Table) (k : ℕ) → bytes_of t k ≡ 0 → cells_of t k ≡ 0 }
+    ensures some { (t : Table) (k : ℕ) → cells_of t k ≡ 0 → bytes_of t k ≡ 0 }
+    ensures moved { (t : Table) (k : ℕ) → bytes_of t k / 8 + bytes_of t k % 8 ≤ cells_of t k }
 {}
 
 /// Of two nodes with cells of one object, which have one tree or are arrays whose elements have one tree, both are at one address, or they

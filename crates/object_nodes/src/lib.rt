@@ -11,5 +11,5 @@ mod laws;
 
 pub use laws::{
     copies_are_at_once, designators_name_nodes, nodes_meet, nodes_stand_apart, trees_are_types,
-    trees_take_bytes, variables_meet,
+    trees_take_bytes, types_take_bytes, variables_meet,
 };

@@ -1,10 +1,10 @@
 -- Where a program's data stand is told by its form.
-use Rattle.std.proofs.Common.{◌≡◌, ℕ, zero, suc, ◌+◌, ◌*◌, List, [], ◌∷◌, ◌++◌, map, take, length, sum, true, Some, None, refl, sym, ap, ap₂, subst, ◌∙◌, slice_get}
+use Rattle.std.proofs.Common.{◌≡◌, ℕ, zero, suc, ◌+◌, ◌*◌, List, [], ◌∷◌, ◌++◌, map, take, length, sum, true, Some, refl, sym, ap, ap₂, subst, ◌∙◌, slice_get}
 use Rattle.std.specs.Prelude.{slice_index_or, sum_by, flat_map, filter}
 use Rattle.std.proofs.lemmas.List.{length-map}
 use Rattle.std.proofs.lemmas.List.Sums.{sum_by-cons}
 use Rattle.ob_types.specs.Forms.{all}
-use Rattle.ob_types.specs.Layout.{record_of, types_of, base_cells, cells, cells_of_all, record_cells, field_place}
+use Rattle.ob_types.specs.Layout.{record_of, types_of, base_cells, cells, cells_of_all, record_cells, field_place, no_record_type}
 use Rattle.ob_types.specs.Meaning.{procedure_of, no_procedure, globals_of, locals_of, texts_of, text_number, is_value}
 use Rattle.ob_types.specs.WellFormed.{well_formed}
 use Rattle.ob_types.specs.declared.types.Field.{Field}
@@ -58,7 +58,7 @@ module _ (p : Program) (well : well_formed p ≡ true) (sources : List (List ℕ
   -- ---- record types
 
   record_same : (r : ℕ) → record_at facts r ≡ plain_record p.types (record_of p.types r)
-  record_same r = index_map (plain_record p.types) p.types.records r (record { «module» = 0; base = None; level = 0; fields = []; cells = 0 })
+  record_same r = index_map (plain_record p.types) p.types.records r no_record_type
 
   pub level_same : (r : ℕ) → (record_of p.types r).level ≡ (record_at facts r).level
   level_same r = sym (ap (λ y. y.level) (record_same r))

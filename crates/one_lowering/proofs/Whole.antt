@@ -2,6 +2,7 @@
 use Rattle.std.specs.Prelude.{ℕ, zero, suc, ◌+◌, ◌-◌, ◌*◌, ◌==◌, ◌&&◌, List, [], ◌∷◌, ◌++◌, map, take, length, sum, sum_by, flat_map, filter, replicate, nat_lt, Bool, true, false, not, cond, Option, Some, None, slice_get, slice_index_or, if◌then◌else◌}
 use Rattle.std.specs.Int.{to_le_bytes, w64}
 use Rattle.std.specs.List.{list_any}
+use Rattle.ob_types.specs.Trees.{no_extent}
 use Rattle.ob_types.specs.Layout.{base_cells}
 use Rattle.ob_types.specs.Meaning.{is_value}
 use Rattle.block_runs.specs.declared.end.End.TheVariants.{Return}
@@ -27,7 +28,7 @@ pub record Facts : Type 0 where
   pub texts : List (List (List ℕ))
 
 abbrev pub blank : I.RecordType
-blank = record { module_number = 0; base = None; level = 0; fields = []; cells = 0 }
+blank = record { module_number = 0; base = None; level = 0; fields = []; cells = 0; extent = no_extent }
 
 abbrev pub no_module : I.Module
 no_module = record { name = []; objects = []; variables = []; body = 0 }

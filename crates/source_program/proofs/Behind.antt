@@ -6,7 +6,6 @@ use Rattle.ob_types.proofs.Tests.{none_some, some_same}
 use Rattle.ob_types.specs.Meaning.{texts_of}
 use Rattle.ob_types.specs.declared.program.Program.{Program}
 use Rattle.ob_judge.specs.Judged.{Judged, Keeps, Breaks, ◌>>=◌}
-use Rattle.ob_judge.specs.Image as I
 use Rattle.ob_judge.specs.Modules.{SoFar, Parsed, Legal, no_modules, program_of, judged_after, checked_after, checked, with_module}
 use Rattle.judged_tree.specs.Plain.{plain_program}
 use Rattle.judged_tree.specs.Outline.{outlined_program}
@@ -28,7 +27,7 @@ use Rattle.check_modules.specs.declared.programs.modules.Modules.{Modules}
 use Rattle.check_modules.specs.programs.Modules.{HasSettledModules, StandsForModules}
 use Rattle.check_modules.specs.Ended.{HasSoFar}
 use Rattle.check_making.specs.scopes.InTurn.{AllUseInTurn}
-use Rattle.source_program.specs.Texts.{IsParsed, AreParsed, accepted_after, accepted, InText, InModule, IsProgramOfTexts, IsSourceFault}
+use Rattle.source_program.specs.Texts.{IsParsed, AreParsed, accepted_after, InText, InModule, IsProgramOfTexts, IsSourceFault}
 use Rattle.source_program.specs.Faults.{read_fault, judged_fault}
 use Rattle.source_program.specs.Behind.{IsBehind}
 

@@ -1,6 +1,6 @@
 -- A text that was read is one that the judgement may look at.
 use Rattle.std.proofs.Common.{◌≡◌, ◌<◌, ℕ, zero, suc, List, [], ◌∷◌, true, nat_lt, refl, subst, arith}
-use Rattle.std.specs.Prelude.{All, slice_index_or, get_or, slice_get}
+use Rattle.std.specs.Prelude.{All, slice_index_or, get_or}
 use Rattle.ob_types.specs.Forms.{all}
 use Rattle.std.proofs.lemmas.Bool.{lt-ltb}
 use Rattle.std.proofs.lemmas.Option.{get_or_from_slice_get}

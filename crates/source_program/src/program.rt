@@ -1,7 +1,7 @@
 //! All modules.
 
 ghost use Rattle.std.specs.Prelude.{◌≡◌, ◌≤◌, true, length, IsTrue, IfOk, IfErr};
-ghost use Rattle.ob_types.specs.Counted.{IsCounted, HasOneNumberEach};
+ghost use Rattle.ob_types.specs.Counted.{IsCounted, IsLaidOut, HasOneNumberEach};
 ghost use Rattle.ob_types.specs.Meaning.{texts_of};
 ghost use Rattle.ob_types.specs.WellFormed.{well_formed};
 ghost use Rattle.source_program.specs.Behind.{IsBehind};
@@ -45,11 +45,12 @@ fn have_numbers(procedures: &[Procedure]) -> bool
 }
 
 /// The program of modules with these texts, each text read and judged before the next is begun; or the first fault. For over 2^32
-/// strings there is no memory. The calls of its table of types that ask for counted types, each with one number, may be made.
+/// strings there is no memory. The calls of its table of types that ask for counted types that are laid out, each with one number, may be made.
 pub fn source_program(alloc: Global, texts: &[Items<u8>]) -> Result<Program, SourceFault>
     ensures program { IfOk result (λ p. IsProgramOfTexts texts.now p) }
     ensures well_formed { IfOk result (λ p. well_formed p ≡ true) }
     ensures counted { IfOk result (λ p. IsCounted p.types) }
+    ensures laid_out { IfOk result (λ p. IsLaidOut p.types) }
     ensures one_number { IfOk result (λ p. HasOneNumberEach p.types) }
     ensures fault { IfErr result (λ e. IsSourceFault texts.now e) }
 {

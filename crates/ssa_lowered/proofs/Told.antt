@@ -62,7 +62,7 @@ telling_low b v = refl
 
 -- MODULE O; IMPORT Out; TYPE A = RECORD n: INTEGER END; B = RECORD (A) c: CHAR END; P = POINTER TO A; Q = POINTER TO B; VAR p: P; q: Q; t: ARRAY 4 OF CHAR; PROCEDURE S(x: ARRAY OF CHAR; VAR r: A); BEGIN Out.String(x); Out.String(''in''); r.n := LEN(x) END S; BEGIN NEW(q); p := q; p(Q).c := ''a''; t := ''out''; S(t, p^); S(''x'', q^) END O.
 abbrev objects : Outside Program
-objects b v = record { types = record { kinds = ((RecordKind 0) ∷ (RecordKind 1) ∷ (PointerKind 0) ∷ (PointerKind 1) ∷ Char ∷ (Array (Some 4) 4) ∷ (Array None 4) ∷ Nothing ∷ Int ∷ []); records = (record { «module» = 0; base = None; level = 0; fields = (record { name = []; exported = false; type_number = 8 } ∷ []); cells = 1 } ∷ record { «module» = 0; base = (Some 0); level = 1; fields = (record { name = []; exported = false; type_number = 4 } ∷ []); cells = 2 } ∷ []); signatures = [] }; modules = (record { name = []; objects = []; variables = (2 ∷ 3 ∷ 5 ∷ []); body = 1 } ∷ []); procedures = (record { «module» = 0; line = 1; is_body = false; formals = (record { mode = OfOpen; variable = false; type_number = 6 } ∷ record { mode = OfRecord; variable = true; type_number = 0 } ∷ []); result = 7; locals = []; texts = ((105 ∷ 110 ∷ []) ∷ []); body = ((OutString (Whole (Parameter 0) (Array None 4))) ∷ (OutString (Whole (Text 0) (TextKind 2))) ∷ (Assign (Part' b (Parameter 1) Int (vec1 v) (more_of-Selector (Field 0 0) end_of-Selector)) (record { form = (Length (Whole (Parameter 0) (Array None 4))); kind = Int })) ∷ []); answer = None } ∷ record { «module» = 0; line = 1; is_body = true; formals = []; result = 7; locals = []; texts = ((111 ∷ 117 ∷ 116 ∷ []) ∷ (120 ∷ []) ∷ []); body = ((New (Whole (Global 0 1) (PointerKind 1))) ∷ (Assign (Whole (Global 0 0) (PointerKind 0)) (record { form = (Load (Whole (Global 0 1) (PointerKind 1))); kind = (PointerKind 1) })) ∷ (Assign (Part' b (Global 0 0) Char (vec2 v) (more_of-Selector (Dereference (1 ∷ [])) (more_of-Selector (Field 1 0) end_of-Selector))) (record { form = (Literal 97); kind = Char })) ∷ (CopyArray (Whole (Global 0 2) (Array (Some 4) 4)) (Whole (Text 0) (TextKind 3))) ∷ (Invoke (Direct' 0 (vec2 v) (more_of-Argument (ByOpen (Whole (Global 0 2) (Array (Some 4) 4))) (more_of-Argument (ByRecord (Part' b (Global 0 0) (RecordKind 0) (vec1 v) (more_of-Selector (Dereference []) end_of-Selector))) end_of-Argument)))) ∷ (Invoke (Direct' 0 (vec2 v) (more_of-Argument (ByOpen (Whole (Text 1) (TextKind 1))) (more_of-Argument (ByRecord (Part' b (Global 0 1) (RecordKind 1) (vec1 v) (more_of-Selector (Dereference []) end_of-Selector))) end_of-Argument)))) ∷ []); answer = None } ∷ []); imports_in = false }
+objects b v = record { types = record { kinds = ((RecordKind 0) ∷ (RecordKind 1) ∷ (PointerKind 0) ∷ (PointerKind 1) ∷ Char ∷ (Array (Some 4) 4) ∷ (Array None 4) ∷ Nothing ∷ Int ∷ []); records = (record { «module» = 0; base = None; level = 0; fields = (record { name = []; exported = false; type_number = 8 } ∷ []); cells = 1; extent = record { bytes = 8; wide = true } } ∷ record { «module» = 0; base = (Some 0); level = 1; fields = (record { name = []; exported = false; type_number = 4 } ∷ []); cells = 2; extent = record { bytes = 16; wide = true } } ∷ []); signatures = [] }; modules = (record { name = []; objects = []; variables = (2 ∷ 3 ∷ 5 ∷ []); body = 1 } ∷ []); procedures = (record { «module» = 0; line = 1; is_body = false; formals = (record { mode = OfOpen; variable = false; type_number = 6 } ∷ record { mode = OfRecord; variable = true; type_number = 0 } ∷ []); result = 7; locals = []; texts = ((105 ∷ 110 ∷ []) ∷ []); body = ((OutString (Whole (Parameter 0) (Array None 4))) ∷ (OutString (Whole (Text 0) (TextKind 2))) ∷ (Assign (Part' b (Parameter 1) Int (vec1 v) (more_of-Selector (Field 0 0) end_of-Selector)) (record { form = (Length (Whole (Parameter 0) (Array None 4))); kind = Int })) ∷ []); answer = None } ∷ record { «module» = 0; line = 1; is_body = true; formals = []; result = 7; locals = []; texts = ((111 ∷ 117 ∷ 116 ∷ []) ∷ (120 ∷ []) ∷ []); body = ((New (Whole (Global 0 1) (PointerKind 1))) ∷ (Assign (Whole (Global 0 0) (PointerKind 0)) (record { form = (Load (Whole (Global 0 1) (PointerKind 1))); kind = (PointerKind 1) })) ∷ (Assign (Part' b (Global 0 0) Char (vec2 v) (more_of-Selector (Dereference (1 ∷ [])) (more_of-Selector (Field 1 0) end_of-Selector))) (record { form = (Literal 97); kind = Char })) ∷ (CopyArray (Whole (Global 0 2) (Array (Some 4) 4)) (Whole (Text 0) (TextKind 3))) ∷ (Invoke (Direct' 0 (vec2 v) (more_of-Argument (ByOpen (Whole (Global 0 2) (Array (Some 4) 4))) (more_of-Argument (ByRecord (Part' b (Global 0 0) (RecordKind 0) (vec1 v) (more_of-Selector (Dereference []) end_of-Selector))) end_of-Argument)))) ∷ (Invoke (Direct' 0 (vec2 v) (more_of-Argument (ByOpen (Whole (Text 1) (TextKind 1))) (more_of-Argument (ByRecord (Part' b (Global 0 1) (RecordKind 1) (vec1 v) (more_of-Selector (Dereference []) end_of-Selector))) end_of-Argument)))) ∷ []); answer = None } ∷ []); imports_in = false }
 
 abbrev objects_procs : List Proc
 objects_procs = ((proc ((block (0 ∷ 1 ∷ 2 ∷ 3 ∷ []) ((op (ConstOp 8) [] (Some 4)) ∷ (op (SvcOp 3) (0 ∷ 1 ∷ 4 ∷ []) None) ∷ (op (GlobalOp 312) [] (Some 5)) ∷ (op (ConstOp 3) [] (Some 6)) ∷ (op (ConstOp 8) [] (Some 7)) ∷ (op (SvcOp 3) (5 ∷ 6 ∷ 7 ∷ []) None) ∷ (op StoreOp (2 ∷ 1 ∷ []) None) ∷ []) (Return None) 1048576 None) ∷ []) 8 4 true 0 0) ∷ (proc ((block [] ((op (GlobalOp 16) [] (Some 0)) ∷ (op (ConstOp 3) [] (Some 1)) ∷ (op (ConstOp 24) [] (Some 2)) ∷ (op (GlobalOp 184) [] (Some 3)) ∷ (op NewOp (1 ∷ 2 ∷ 3 ∷ []) (Some 4)) ∷ (op StoreOp (0 ∷ 4 ∷ []) None) ∷ (op (GlobalOp 8) [] (Some 5)) ∷ (op (GlobalOp 16) [] (Some 6)) ∷ (op LoadOp (6 ∷ []) (Some 7)) ∷ (op StoreOp (5 ∷ 7 ∷ []) None) ∷ (op (GlobalOp 8) [] (Some 8)) ∷ (op LoadOp (8 ∷ []) (Some 9)) ∷ (op (GlobalOp 184) [] (Some 10)) ∷ (op (GuardPtrOp 1) (9 ∷ 10 ∷ []) None) ∷ (op NotNilOp (9 ∷ []) None) ∷ (op (PlusOp 16) (9 ∷ []) (Some 11)) ∷ (op (ConstOp 97) [] (Some 12)) ∷ (op StoreOp (11 ∷ 12 ∷ []) None) ∷ (op (GlobalOp 24) [] (Some 13)) ∷ (op (GlobalOp 336) [] (Some 14)) ∷ (op (ConstOp 32) [] (Some 15)) ∷ (op CopyOp (13 ∷ 14 ∷ 15 ∷ []) None) ∷ (op (GlobalOp 24) [] (Some 16)) ∷ (op (ConstOp 4) [] (Some 17)) ∷ (op (GlobalOp 8) [] (Some 18)) ∷ (op LoadOp (18 ∷ []) (Some 19)) ∷ (op NotNilOp (19 ∷ []) None) ∷ (op (PlusOp 8) (19 ∷ []) (Some 20)) ∷ (op LoadOp (19 ∷ []) (Some 21)) ∷ (op (CallOp 0) (16 ∷ 17 ∷ 20 ∷ 21 ∷ []) None) ∷ (op (GlobalOp 368) [] (Some 22)) ∷ (op (ConstOp 2) [] (Some 23)) ∷ (op (GlobalOp 16) [] (Some 24)) ∷ (op LoadOp (24 ∷ []) (Some 25)) ∷ (op NotNilOp (25 ∷ []) None) ∷ (op (PlusOp 8) (25 ∷ []) (Some 26)) ∷ (op LoadOp (25 ∷ []) (Some 27)) ∷ (op (CallOp 0) (22 ∷ 23 ∷ 26 ∷ 27 ∷ []) None) ∷ []) (Return None) 1048576 None) ∷ []) 28 0 false 0 0) ∷ [])

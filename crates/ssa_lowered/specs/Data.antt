@@ -1,11 +1,11 @@
 -- Where data stands: a layout of types, and with it the addresses of variables, descriptors and strings, in bytes behind the start of the globals.
-use Rattle.std.specs.Prelude.{ℕ, zero, suc, ◌+◌, ◌-◌, ◌*◌, ◌/◌, min, max, if◌then◌else◌, List, [], ◌∷◌, map, take, length, sum, sum_by, Bool, true, false, Option, Some, None, slice_index}
-use Rattle.ob_types.specs.Layout.{kind_of, record_of, types_of, cells, record_cells, field_place}
+use Rattle.std.specs.Prelude.{ℕ, suc, ◌+◌, ◌*◌, ◌/◌, min, List, map, take, length, sum, sum_by, Bool, false}
+use Rattle.ob_types.specs.Forms.{scalar_form, form_or_zero}
+use Rattle.ob_types.specs.Layout.{cells, record_cells, field_place}
+use Rattle.ob_types.specs.Trees.{fits_byte, record_extent, field_offset, bytes}
 use Rattle.ob_types.specs.Meaning.{globals_of, texts_of}
 use Rattle.ob_types.specs.Table.{Table}
 use Rattle.ob_types.specs.declared.types.TypeKind.{TypeKind}
-use Rattle.ob_types.specs.declared.types.TypeKind.TheVariants.{Char, Byte, Array}
-use Rattle.ob_types.specs.declared.types.TypeKind.TheVariants.{Bool as Boolean, Record as RecordOf}
 use Rattle.ob_types.specs.declared.program.Program.{Program}
 
 -- a layout: the bytes of a type and of a record type, where a field stands in its record, which scalars take one byte and not eight, and the
@@ -67,72 +67,14 @@ within n = min n 16777215
 
 ---- The packed layout: a CHAR, BYTE or BOOLEAN takes one byte.
 
-abbrev pub is_byte : TypeKind → Bool
-is_byte Char = true
-is_byte Byte = true
-is_byte Boolean = true
-is_byte _ = false
+abbrev pub takes_a_byte : TypeKind → Bool
+takes_a_byte kind = fits_byte (form_or_zero (scalar_form kind))
 
--- bytes, and of what an address must be a multiple
-pub record Extent : Type 0 where
-  pub size : ℕ
-  pub align : ℕ
-
--- the next multiple
-abbrev pub up : ℕ → ℕ → ℕ
-up align n = (n + (align - 1)) / align * align
-
-abbrev pub nothing : Extent
-nothing = record { size = 0; align = 1 }
-
--- one more part, behind those before it
-abbrev pub beside : Extent → Extent → Extent
-beside x y = record { size = up y.align x.size + y.size; align = max x.align y.align }
-
-abbrev pub parts : (ℕ → Extent) → Extent → List ℕ → Extent
-parts extent x [] = x
-parts extent x (k ∷ ks) = parts extent (beside x (extent k)) ks
-
--- so that another one may stand right behind it
-abbrev pub full : Extent → Extent
-full x = record { size = up x.align x.size; align = x.align }
-
-abbrev pub base_extent : Option ℕ → (ℕ → Extent) → Extent
-base_extent None extent = nothing
-base_extent (Some b) extent = extent b
-
-abbrev pub extent_by : (ℕ → Extent) → (ℕ → Extent) → TypeKind → Extent
-extent_by extent whole (Array (Some n) k) = record { size = n * (extent k).size; align = (extent k).align }
-extent_by extent whole (RecordOf r) = whole r
-extent_by extent whole k = if is_byte k then record { size = 1; align = 1 } else record { size = 8; align = 8 }
-
-module _ (t : Table) where
-  -- of a type and of a record type that have parts nested at most so deep
-  abbrev mutual
-    pub extent_within : ℕ → ℕ → Extent
-    extent_within zero k = nothing
-    extent_within (suc depth) k = extent_by (extent_within depth) (record_within depth) (kind_of t k)
-
-    pub record_within : ℕ → ℕ → Extent
-    record_within zero r = nothing
-    record_within (suc depth) r = full (parts (extent_within depth) (base_extent (record_of t r).base (record_within depth)) (types_of (record_of t r).fields))
-
-  -- no type is nested deeper than there are types
-  abbrev pub extent : ℕ → Extent
-  extent k = extent_within (suc (length t.kinds + length t.records)) k
-
-  abbrev pub record_extent : ℕ → Extent
-  record_extent r = record_within (suc (length t.kinds + length t.records)) r
-
-  -- behind the base and the fields before it
-  abbrev pub packed_offset : ℕ → ℕ → ℕ
-  packed_offset r field = up (extent (slice_index (types_of (record_of t r).fields) field)).align (parts extent (base_extent (record_of t r).base record_extent) (take field (types_of (record_of t r).fields))).size
-
-  abbrev pub packed : Layout
-  packed = record {
-    bytes = λ k. (extent k).size;
-    record_bytes = λ r. (record_extent r).size;
-    offset = packed_offset;
-    is_small = is_byte;
-    character = 1;
-  }
+abbrev pub packed : Table → Layout
+packed t = record {
+  bytes = λ k. bytes t k;
+  record_bytes = λ r. (record_extent t r).bytes;
+  offset = λ r field. field_offset t r field;
+  is_small = takes_a_byte;
+  character = 1;
+}

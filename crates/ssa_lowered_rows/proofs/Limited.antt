@@ -137,14 +137,14 @@ procedures_just_limit b v = refl
 
 -- MODULE M; IMPORT Out; TYPE R = RECORD END; S = RECORD (R) END; BEGIN Out.String(''abc''); Out.String(''[262107*x]'') END M.
 abbrev constants_just : Outside Program
-constants_just b v = record { types = record { kinds = ((RecordKind 0) ∷ ((RecordKind 1) ∷ (Nothing ∷ []))); records = (record { «module» = 0; base = None; level = 0; fields = []; cells = 0 } ∷ (record { «module» = 0; base = (Some 0); level = 1; fields = []; cells = 0 } ∷ [])); signatures = [] }; modules = (record { name = []; objects = []; variables = []; body = 0 } ∷ []); procedures = (record { «module» = 0; line = 1; is_body = true; formals = []; result = 2; locals = []; texts = ((97 ∷ (98 ∷ (99 ∷ []))) ∷ ((replicate 262107 120 ++ []) ∷ [])); body = ((OutString (Whole (Text 0) (TextKind 3))) ∷ ((OutString (Whole (Text 1) (TextKind 262107))) ∷ [])); answer = None } ∷ []); imports_in = false }
+constants_just b v = record { types = record { kinds = ((RecordKind 0) ∷ ((RecordKind 1) ∷ (Nothing ∷ []))); records = (record { «module» = 0; base = None; level = 0; fields = []; cells = 0; extent = record { bytes = 0; wide = false } } ∷ (record { «module» = 0; base = (Some 0); level = 1; fields = []; cells = 0; extent = record { bytes = 0; wide = false } } ∷ [])); signatures = [] }; modules = (record { name = []; objects = []; variables = []; body = 0 } ∷ []); procedures = (record { «module» = 0; line = 1; is_body = true; formals = []; result = 2; locals = []; texts = ((97 ∷ (98 ∷ (99 ∷ []))) ∷ ((replicate 262107 120 ++ []) ∷ [])); body = ((OutString (Whole (Text 0) (TextKind 3))) ∷ ((OutString (Whole (Text 1) (TextKind 262107))) ∷ [])); answer = None } ∷ []); imports_in = false }
 
 pub constants_just_limit : (b : Box (Unit {0}) Heap) (v : Vec (Unit {0}) Heap) → limit_of (constants_just b v) ≡ None
 constants_just_limit b v = refl
 
 -- MODULE M; IMPORT Out; TYPE R = RECORD END; S = RECORD (R) END; BEGIN Out.String(''abc''); Out.String(''[262108*x]'') END M.
 abbrev constants_over : Outside Program
-constants_over b v = record { types = record { kinds = ((RecordKind 0) ∷ ((RecordKind 1) ∷ (Nothing ∷ []))); records = (record { «module» = 0; base = None; level = 0; fields = []; cells = 0 } ∷ (record { «module» = 0; base = (Some 0); level = 1; fields = []; cells = 0 } ∷ [])); signatures = [] }; modules = (record { name = []; objects = []; variables = []; body = 0 } ∷ []); procedures = (record { «module» = 0; line = 1; is_body = true; formals = []; result = 2; locals = []; texts = ((97 ∷ (98 ∷ (99 ∷ []))) ∷ ((replicate 262108 120 ++ []) ∷ [])); body = ((OutString (Whole (Text 0) (TextKind 3))) ∷ ((OutString (Whole (Text 1) (TextKind 262108))) ∷ [])); answer = None } ∷ []); imports_in = false }
+constants_over b v = record { types = record { kinds = ((RecordKind 0) ∷ ((RecordKind 1) ∷ (Nothing ∷ []))); records = (record { «module» = 0; base = None; level = 0; fields = []; cells = 0; extent = record { bytes = 0; wide = false } } ∷ (record { «module» = 0; base = (Some 0); level = 1; fields = []; cells = 0; extent = record { bytes = 0; wide = false } } ∷ [])); signatures = [] }; modules = (record { name = []; objects = []; variables = []; body = 0 } ∷ []); procedures = (record { «module» = 0; line = 1; is_body = true; formals = []; result = 2; locals = []; texts = ((97 ∷ (98 ∷ (99 ∷ []))) ∷ ((replicate 262108 120 ++ []) ∷ [])); body = ((OutString (Whole (Text 0) (TextKind 3))) ∷ ((OutString (Whole (Text 1) (TextKind 262108))) ∷ [])); answer = None } ∷ []); imports_in = false }
 
 pub constants_over_limit : (b : Box (Unit {0}) Heap) (v : Vec (Unit {0}) Heap) → limit_of (constants_over b v) ≡ Some (record { number = 58; index = 0 })
 constants_over_limit b v = refl

@@ -94,7 +94,7 @@ words_six_constants b v = refl
 
 -- MODULE M; TYPE R = RECORD a: INTEGER; b: ARRAY 3 OF INTEGER END; S = RECORD (R) c: CHAR; r: R END; T = RECORD (S) p: POINTER TO S END; P = POINTER TO R; Q = POINTER TO T; VAR p: P; q: Q; r: R; s: S; PROCEDURE F(VAR x: R); BEGIN IF x IS S THEN x(S).c := ''a''; x(S).r.b[2] := x.a END; IF x IS T THEN NEW(x(T).p); x(T).p.c := ''z''; F(x(T).p.r); F(x(T).p^); F(x); F(x(S)) END END F; PROCEDURE G(x: S; y: R): INTEGER; BEGIN RETURN x.r.b[y.a] END G; BEGIN NEW(p); NEW(q); p := q; p.b[1] := 5; q.r.b[0] := 3; r := p^; s := q^; p^ := r; F(r); F(s); F(p^); F(q^); F(q.r); F(s.r); r.a := G(s, r); r.a := G(q^, p^); q(Q).c := ''b''; IF p(Q).c > ''a'' THEN p := NIL END; r := s.r END M.
 abbrev records : Outside Program
-records b v = record { types = record { kinds = ((RecordKind 0) ∷ (RecordKind 1) ∷ (RecordKind 2) ∷ (PointerKind 0) ∷ (PointerKind 2) ∷ Int ∷ Nothing ∷ (Array (Some 3) 5) ∷ Char ∷ (PointerKind 1) ∷ []); records = (record { «module» = 0; base = None; level = 0; fields = (record { name = []; exported = false; type_number = 5 } ∷ record { name = []; exported = false; type_number = 7 } ∷ []); cells = 4 } ∷ record { «module» = 0; base = (Some 0); level = 1; fields = (record { name = []; exported = false; type_number = 8 } ∷ record { name = []; exported = false; type_number = 0 } ∷ []); cells = 9 } ∷ record { «module» = 0; base = (Some 1); level = 2; fields = (record { name = []; exported = false; type_number = 9 } ∷ []); cells = 10 } ∷ []); signatures = [] }; modules = (record { name = []; objects = []; variables = (3 ∷ 4 ∷ 0 ∷ 1 ∷ []); body = 2 } ∷ []); procedures = (record { «module» = 0; line = 1; is_body = false; formals = (record { mode = OfRecord; variable = true; type_number = 0 } ∷ []); result = 6; locals = []; texts = []; body = ((If' (vec1 v) (more_of-Branch (record { form = (IsParameter (Whole (Parameter 0) (RecordKind 0)) 1); kind = BoolKind }) (vec2 v) (more_of-Stmt (Assign (Part' b (Parameter 0) Char (vec2 v) (more_of-Selector (Narrow 1) (more_of-Selector (Field 1 0) end_of-Selector))) (record { form = (Literal 97); kind = Char })) (more_of-Stmt (Assign (Part' b (Parameter 0) Int (vec4 v) (more_of-Selector (Narrow 1) (more_of-Selector (Field 1 1) (more_of-Selector (Field 0 1) (more_of-Selector (Index (Some 3) 5 (Literal 2)) end_of-Selector))))) (record { form = (Load (Part' b (Parameter 0) Int (vec1 v) (more_of-Selector (Field 0 0) end_of-Selector))); kind = Int })) end_of-Stmt)) end_of-Branch) (vec0 v) end_of-Stmt) ∷ (If' (vec1 v) (more_of-Branch (record { form = (IsParameter (Whole (Parameter 0) (RecordKind 0)) 2); kind = BoolKind }) (vec6 v) (more_of-Stmt (New (Part' b (Parameter 0) (PointerKind 1) (vec2 v) (more_of-Selector (Narrow 2) (more_of-Selector (Field 2 0) end_of-Selector)))) (more_of-Stmt (Assign (Part' b (Parameter 0) Char (vec4 v) (more_of-Selector (Narrow 2) (more_of-Selector (Field 2 0) (more_of-Selector (Dereference []) (more_of-Selector (Field 1 0) end_of-Selector))))) (record { form = (Literal 122); kind = Char })) (more_of-Stmt (Invoke (Direct' 0 (vec1 v) (more_of-Argument (ByRecord (Part' b (Parameter 0) (RecordKind 0) (vec4 v) (more_of-Selector (Narrow 2) (more_of-Selector (Field 2 0) (more_of-Selector (Dereference []) (more_of-Selector (Field 1 1) end_of-Selector)))))) end_of-Argument))) (more_of-Stmt (Invoke (Direct' 0 (vec1 v) (more_of-Argument (ByRecord (Part' b (Parameter 0) (RecordKind 1) (vec3 v) (more_of-Selector (Narrow 2) (more_of-Selector (Field 2 0) (more_of-Selector (Dereference []) end_of-Selector))))) end_of-Argument))) (more_of-Stmt (Invoke (Direct' 0 (vec1 v) (more_of-Argument (ByRecord (Whole (Parameter 0) (RecordKind 0))) end_of-Argument))) (more_of-Stmt (Invoke (Direct' 0 (vec1 v) (more_of-Argument (ByRecord (Part' b (Parameter 0) (RecordKind 1) (vec1 v) (more_of-Selector (Narrow 1) end_of-Selector))) end_of-Argument))) end_of-Stmt)))))) end_of-Branch) (vec0 v) end_of-Stmt) ∷ []); answer = None } ∷ record { «module» = 0; line = 1; is_body = false; formals = (record { mode = Place; variable = false; type_number = 1 } ∷ record { mode = Place; variable = false; type_number = 0 } ∷ []); result = 5; locals = []; texts = []; body = []; answer = (Some (record { form = (Load (Part' b (Parameter 0) Int (vec3 v) (more_of-Selector (Field 1 1) (more_of-Selector (Field 0 1) (more_of-Selector (Index (Some 3) 5 (Load (Part' b (Parameter 1) Int (vec1 v) (more_of-Selector (Field 0 0) end_of-Selector)))) end_of-Selector))))); kind = Int })) } ∷ record { «module» = 0; line = 1; is_body = true; formals = []; result = 6; locals = []; texts = []; body = ((New (Whole (Global 0 0) (PointerKind 0))) ∷ (New (Whole (Global 0 1) (PointerKind 2))) ∷ (Assign (Whole (Global 0 0) (PointerKind 0)) (record { form = (Load (Whole (Global 0 1) (PointerKind 2))); kind = (PointerKind 2) })) ∷ (Assign (Part' b (Global 0 0) Int (vec3 v) (more_of-Selector (Dereference []) (more_of-Selector (Field 0 1) (more_of-Selector (Index (Some 3) 5 (Literal 1)) end_of-Selector)))) (record { form = (Literal 5); kind = Int })) ∷ (Assign (Part' b (Global 0 1) Int (vec4 v) (more_of-Selector (Dereference []) (more_of-Selector (Field 1 1) (more_of-Selector (Field 0 1) (more_of-Selector (Index (Some 3) 5 (Literal 0)) end_of-Selector))))) (record { form = (Literal 3); kind = Int })) ∷ (CopyRecord (Whole (Global 0 2) (RecordKind 0)) (Part' b (Global 0 0) (RecordKind 0) (vec1 v) (more_of-Selector (Dereference []) end_of-Selector))) ∷ (CopyRecord (Whole (Global 0 3) (RecordKind 1)) (Part' b (Global 0 1) (RecordKind 2) (vec1 v) (more_of-Selector (Dereference []) end_of-Selector))) ∷ (CopyRecord (Part' b (Global 0 0) (RecordKind 0) (vec1 v) (more_of-Selector (Dereference []) end_of-Selector)) (Whole (Global 0 2) (RecordKind 0))) ∷ (Invoke (Direct' 0 (vec1 v) (more_of-Argument (ByRecord (Whole (Global 0 2) (RecordKind 0))) end_of-Argument))) ∷ (Invoke (Direct' 0 (vec1 v) (more_of-Argument (ByRecord (Whole (Global 0 3) (RecordKind 1))) end_of-Argument))) ∷ (Invoke (Direct' 0 (vec1 v) (more_of-Argument (ByRecord (Part' b (Global 0 0) (RecordKind 0) (vec1 v) (more_of-Selector (Dereference []) end_of-Selector))) end_of-Argument))) ∷ (Invoke (Direct' 0 (vec1 v) (more_of-Argument (ByRecord (Part' b (Global 0 1) (RecordKind 2) (vec1 v) (more_of-Selector (Dereference []) end_of-Selector))) end_of-Argument))) ∷ (Invoke (Direct' 0 (vec1 v) (more_of-Argument (ByRecord (Part' b (Global 0 1) (RecordKind 0) (vec2 v) (more_of-Selector (Dereference []) (more_of-Selector (Field 1 1) end_of-Selector)))) end_of-Argument))) ∷ (Invoke (Direct' 0 (vec1 v) (more_of-Argument (ByRecord (Part' b (Global 0 3) (RecordKind 0) (vec1 v) (more_of-Selector (Field 1 1) end_of-Selector))) end_of-Argument))) ∷ (Assign (Part' b (Global 0 2) Int (vec1 v) (more_of-Selector (Field 0 0) end_of-Selector)) (record { form = (Call' b (Direct' 1 (vec2 v) (more_of-Argument (ByPlace (Whole (Global 0 3) (RecordKind 1))) (more_of-Argument (ByPlace (Whole (Global 0 2) (RecordKind 0))) end_of-Argument)))); kind = Int })) ∷ (Assign (Part' b (Global 0 2) Int (vec1 v) (more_of-Selector (Field 0 0) end_of-Selector)) (record { form = (Call' b (Direct' 1 (vec2 v) (more_of-Argument (ByPlace (Part' b (Global 0 1) (RecordKind 2) (vec1 v) (more_of-Selector (Dereference []) end_of-Selector))) (more_of-Argument (ByPlace (Part' b (Global 0 0) (RecordKind 0) (vec1 v) (more_of-Selector (Dereference []) end_of-Selector))) end_of-Argument)))); kind = Int })) ∷ (Assign (Part' b (Global 0 1) Char (vec2 v) (more_of-Selector (Dereference (2 ∷ [])) (more_of-Selector (Field 1 0) end_of-Selector))) (record { form = (Literal 98); kind = Char })) ∷ (If' (vec1 v) (more_of-Branch (record { form = (Compare' Greater b (Load (Part' b (Global 0 0) Char (vec2 v) (more_of-Selector (Dereference (2 ∷ [])) (more_of-Selector (Field 1 0) end_of-Selector)))) b (Literal 97)); kind = BoolKind }) (vec1 v) (more_of-Stmt (Assign (Whole (Global 0 0) (PointerKind 0)) (record { form = (Literal 0); kind = Nil })) end_of-Stmt) end_of-Branch) (vec0 v) end_of-Stmt) ∷ (CopyRecord (Whole (Global 0 2) (RecordKind 0)) (Part' b (Global 0 3) (RecordKind 0) (vec1 v) (more_of-Selector (Field 1 1) end_of-Selector))) ∷ []); answer = None } ∷ []); imports_in = false }
+records b v = record { types = record { kinds = ((RecordKind 0) ∷ (RecordKind 1) ∷ (RecordKind 2) ∷ (PointerKind 0) ∷ (PointerKind 2) ∷ Int ∷ Nothing ∷ (Array (Some 3) 5) ∷ Char ∷ (PointerKind 1) ∷ []); records = (record { «module» = 0; base = None; level = 0; fields = (record { name = []; exported = false; type_number = 5 } ∷ record { name = []; exported = false; type_number = 7 } ∷ []); cells = 4; extent = record { bytes = 32; wide = true } } ∷ record { «module» = 0; base = (Some 0); level = 1; fields = (record { name = []; exported = false; type_number = 8 } ∷ record { name = []; exported = false; type_number = 0 } ∷ []); cells = 9; extent = record { bytes = 72; wide = true } } ∷ record { «module» = 0; base = (Some 1); level = 2; fields = (record { name = []; exported = false; type_number = 9 } ∷ []); cells = 10; extent = record { bytes = 80; wide = true } } ∷ []); signatures = [] }; modules = (record { name = []; objects = []; variables = (3 ∷ 4 ∷ 0 ∷ 1 ∷ []); body = 2 } ∷ []); procedures = (record { «module» = 0; line = 1; is_body = false; formals = (record { mode = OfRecord; variable = true; type_number = 0 } ∷ []); result = 6; locals = []; texts = []; body = ((If' (vec1 v) (more_of-Branch (record { form = (IsParameter (Whole (Parameter 0) (RecordKind 0)) 1); kind = BoolKind }) (vec2 v) (more_of-Stmt (Assign (Part' b (Parameter 0) Char (vec2 v) (more_of-Selector (Narrow 1) (more_of-Selector (Field 1 0) end_of-Selector))) (record { form = (Literal 97); kind = Char })) (more_of-Stmt (Assign (Part' b (Parameter 0) Int (vec4 v) (more_of-Selector (Narrow 1) (more_of-Selector (Field 1 1) (more_of-Selector (Field 0 1) (more_of-Selector (Index (Some 3) 5 (Literal 2)) end_of-Selector))))) (record { form = (Load (Part' b (Parameter 0) Int (vec1 v) (more_of-Selector (Field 0 0) end_of-Selector))); kind = Int })) end_of-Stmt)) end_of-Branch) (vec0 v) end_of-Stmt) ∷ (If' (vec1 v) (more_of-Branch (record { form = (IsParameter (Whole (Parameter 0) (RecordKind 0)) 2); kind = BoolKind }) (vec6 v) (more_of-Stmt (New (Part' b (Parameter 0) (PointerKind 1) (vec2 v) (more_of-Selector (Narrow 2) (more_of-Selector (Field 2 0) end_of-Selector)))) (more_of-Stmt (Assign (Part' b (Parameter 0) Char (vec4 v) (more_of-Selector (Narrow 2) (more_of-Selector (Field 2 0) (more_of-Selector (Dereference []) (more_of-Selector (Field 1 0) end_of-Selector))))) (record { form = (Literal 122); kind = Char })) (more_of-Stmt (Invoke (Direct' 0 (vec1 v) (more_of-Argument (ByRecord (Part' b (Parameter 0) (RecordKind 0) (vec4 v) (more_of-Selector (Narrow 2) (more_of-Selector (Field 2 0) (more_of-Selector (Dereference []) (more_of-Selector (Field 1 1) end_of-Selector)))))) end_of-Argument))) (more_of-Stmt (Invoke (Direct' 0 (vec1 v) (more_of-Argument (ByRecord (Part' b (Parameter 0) (RecordKind 1) (vec3 v) (more_of-Selector (Narrow 2) (more_of-Selector (Field 2 0) (more_of-Selector (Dereference []) end_of-Selector))))) end_of-Argument))) (more_of-Stmt (Invoke (Direct' 0 (vec1 v) (more_of-Argument (ByRecord (Whole (Parameter 0) (RecordKind 0))) end_of-Argument))) (more_of-Stmt (Invoke (Direct' 0 (vec1 v) (more_of-Argument (ByRecord (Part' b (Parameter 0) (RecordKind 1) (vec1 v) (more_of-Selector (Narrow 1) end_of-Selector))) end_of-Argument))) end_of-Stmt)))))) end_of-Branch) (vec0 v) end_of-Stmt) ∷ []); answer = None } ∷ record { «module» = 0; line = 1; is_body = false; formals = (record { mode = Place; variable = false; type_number = 1 } ∷ record { mode = Place; variable = false; type_number = 0 } ∷ []); result = 5; locals = []; texts = []; body = []; answer = (Some (record { form = (Load (Part' b (Parameter 0) Int (vec3 v) (more_of-Selector (Field 1 1) (more_of-Selector (Field 0 1) (more_of-Selector (Index (Some 3) 5 (Load (Part' b (Parameter 1) Int (vec1 v) (more_of-Selector (Field 0 0) end_of-Selector)))) end_of-Selector))))); kind = Int })) } ∷ record { «module» = 0; line = 1; is_body = true; formals = []; result = 6; locals = []; texts = []; body = ((New (Whole (Global 0 0) (PointerKind 0))) ∷ (New (Whole (Global 0 1) (PointerKind 2))) ∷ (Assign (Whole (Global 0 0) (PointerKind 0)) (record { form = (Load (Whole (Global 0 1) (PointerKind 2))); kind = (PointerKind 2) })) ∷ (Assign (Part' b (Global 0 0) Int (vec3 v) (more_of-Selector (Dereference []) (more_of-Selector (Field 0 1) (more_of-Selector (Index (Some 3) 5 (Literal 1)) end_of-Selector)))) (record { form = (Literal 5); kind = Int })) ∷ (Assign (Part' b (Global 0 1) Int (vec4 v) (more_of-Selector (Dereference []) (more_of-Selector (Field 1 1) (more_of-Selector (Field 0 1) (more_of-Selector (Index (Some 3) 5 (Literal 0)) end_of-Selector))))) (record { form = (Literal 3); kind = Int })) ∷ (CopyRecord (Whole (Global 0 2) (RecordKind 0)) (Part' b (Global 0 0) (RecordKind 0) (vec1 v) (more_of-Selector (Dereference []) end_of-Selector))) ∷ (CopyRecord (Whole (Global 0 3) (RecordKind 1)) (Part' b (Global 0 1) (RecordKind 2) (vec1 v) (more_of-Selector (Dereference []) end_of-Selector))) ∷ (CopyRecord (Part' b (Global 0 0) (RecordKind 0) (vec1 v) (more_of-Selector (Dereference []) end_of-Selector)) (Whole (Global 0 2) (RecordKind 0))) ∷ (Invoke (Direct' 0 (vec1 v) (more_of-Argument (ByRecord (Whole (Global 0 2) (RecordKind 0))) end_of-Argument))) ∷ (Invoke (Direct' 0 (vec1 v) (more_of-Argument (ByRecord (Whole (Global 0 3) (RecordKind 1))) end_of-Argument))) ∷ (Invoke (Direct' 0 (vec1 v) (more_of-Argument (ByRecord (Part' b (Global 0 0) (RecordKind 0) (vec1 v) (more_of-Selector (Dereference []) end_of-Selector))) end_of-Argument))) ∷ (Invoke (Direct' 0 (vec1 v) (more_of-Argument (ByRecord (Part' b (Global 0 1) (RecordKind 2) (vec1 v) (more_of-Selector (Dereference []) end_of-Selector))) end_of-Argument))) ∷ (Invoke (Direct' 0 (vec1 v) (more_of-Argument (ByRecord (Part' b (Global 0 1) (RecordKind 0) (vec2 v) (more_of-Selector (Dereference []) (more_of-Selector (Field 1 1) end_of-Selector)))) end_of-Argument))) ∷ (Invoke (Direct' 0 (vec1 v) (more_of-Argument (ByRecord (Part' b (Global 0 3) (RecordKind 0) (vec1 v) (more_of-Selector (Field 1 1) end_of-Selector))) end_of-Argument))) ∷ (Assign (Part' b (Global 0 2) Int (vec1 v) (more_of-Selector (Field 0 0) end_of-Selector)) (record { form = (Call' b (Direct' 1 (vec2 v) (more_of-Argument (ByPlace (Whole (Global 0 3) (RecordKind 1))) (more_of-Argument (ByPlace (Whole (Global 0 2) (RecordKind 0))) end_of-Argument)))); kind = Int })) ∷ (Assign (Part' b (Global 0 2) Int (vec1 v) (more_of-Selector (Field 0 0) end_of-Selector)) (record { form = (Call' b (Direct' 1 (vec2 v) (more_of-Argument (ByPlace (Part' b (Global 0 1) (RecordKind 2) (vec1 v) (more_of-Selector (Dereference []) end_of-Selector))) (more_of-Argument (ByPlace (Part' b (Global 0 0) (RecordKind 0) (vec1 v) (more_of-Selector (Dereference []) end_of-Selector))) end_of-Argument)))); kind = Int })) ∷ (Assign (Part' b (Global 0 1) Char (vec2 v) (more_of-Selector (Dereference (2 ∷ [])) (more_of-Selector (Field 1 0) end_of-Selector))) (record { form = (Literal 98); kind = Char })) ∷ (If' (vec1 v) (more_of-Branch (record { form = (Compare' Greater b (Load (Part' b (Global 0 0) Char (vec2 v) (more_of-Selector (Dereference (2 ∷ [])) (more_of-Selector (Field 1 0) end_of-Selector)))) b (Literal 97)); kind = BoolKind }) (vec1 v) (more_of-Stmt (Assign (Whole (Global 0 0) (PointerKind 0)) (record { form = (Literal 0); kind = Nil })) end_of-Stmt) end_of-Branch) (vec0 v) end_of-Stmt) ∷ (CopyRecord (Whole (Global 0 2) (RecordKind 0)) (Part' b (Global 0 3) (RecordKind 0) (vec1 v) (more_of-Selector (Field 1 1) end_of-Selector))) ∷ []); answer = None } ∷ []); imports_in = false }
 
 abbrev records_procs : List Proc
 records_procs = ((proc ((block (0 ∷ 1 ∷ []) ((op (GlobalOp 256) [] (Some 2)) ∷ (op (IsTagOp 1) (1 ∷ 2 ∷ []) (Some 3)) ∷ []) (Nonzero 3 1 2) 1048576 None) ∷ (block [] ((op (GlobalOp 256) [] (Some 4)) ∷ (op (GuardTagOp 1) (1 ∷ 4 ∷ []) None) ∷ (op (PlusOp 32) (0 ∷ []) (Some 5)) ∷ (op (ConstOp 97) [] (Some 6)) ∷ (op StoreOp (5 ∷ 6 ∷ []) None) ∷ (op (GlobalOp 256) [] (Some 7)) ∷ (op (GuardTagOp 1) (1 ∷ 7 ∷ []) None) ∷ (op (PlusOp 40) (0 ∷ []) (Some 8)) ∷ (op (PlusOp 8) (8 ∷ []) (Some 9)) ∷ (op (ConstOp 2) [] (Some 10)) ∷ (op (ConstOp 3) [] (Some 11)) ∷ (op BelowOp (10 ∷ 11 ∷ []) None) ∷ (op (ConstOp 8) [] (Some 12)) ∷ (op MulAddOp (10 ∷ 12 ∷ 9 ∷ []) (Some 13)) ∷ (op LoadOp (0 ∷ []) (Some 14)) ∷ (op StoreOp (13 ∷ 14 ∷ []) None) ∷ []) (Jump 3 []) 524288 None) ∷ (block [] [] (Jump 3 []) 524288 None) ∷ (block [] ((op (GlobalOp 384) [] (Some 15)) ∷ (op (IsTagOp 2) (1 ∷ 15 ∷ []) (Some 16)) ∷ []) (Nonzero 16 4 5) 1048576 None) ∷ (block [] ((op (GlobalOp 384) [] (Some 17)) ∷ (op (GuardTagOp 2) (1 ∷ 17 ∷ []) None) ∷ (op (PlusOp 72) (0 ∷ []) (Some 18)) ∷ (op (ConstOp 10) [] (Some 19)) ∷ (op (ConstOp 80) [] (Some 20)) ∷ (op (GlobalOp 256) [] (Some 21)) ∷ (op NewOp (19 ∷ 20 ∷ 21 ∷ []) (Some 22)) ∷ (op StoreOp (18 ∷ 22 ∷ []) None) ∷ (op (GlobalOp 384) [] (Some 23)) ∷ (op (GuardTagOp 2) (1 ∷ 23 ∷ []) None) ∷ (op (PlusOp 72) (0 ∷ []) (Some 24)) ∷ (op LoadOp (24 ∷ []) (Some 25)) ∷ (op NotNilOp (25 ∷ []) None) ∷ (op (PlusOp 40) (25 ∷ []) (Some 26)) ∷ (op (ConstOp 122) [] (Some 27)) ∷ (op StoreOp (26 ∷ 27 ∷ []) None) ∷ (op (GlobalOp 384) [] (Some 28)) ∷ (op (GuardTagOp 2) (1 ∷ 28 ∷ []) None) ∷ (op (PlusOp 72) (0 ∷ []) (Some 29)) ∷ (op LoadOp (29 ∷ []) (Some 30)) ∷ (op NotNilOp (30 ∷ []) None) ∷ (op (PlusOp 48) (30 ∷ []) (Some 31)) ∷ (op (GlobalOp 128) [] (Some 32)) ∷ (op (CallOp 0) (31 ∷ 32 ∷ []) None) ∷ (op (GlobalOp 384) [] (Some 33)) ∷ (op (GuardTagOp 2) (1 ∷ 33 ∷ []) None) ∷ (op (PlusOp 72) (0 ∷ []) (Some 34)) ∷ (op LoadOp (34 ∷ []) (Some 35)) ∷ (op NotNilOp (35 ∷ []) None) ∷ (op (PlusOp 8) (35 ∷ []) (Some 36)) ∷ (op LoadOp (35 ∷ []) (Some 37)) ∷ (op (CallOp 0) (36 ∷ 37 ∷ []) None) ∷ (op (CallOp 0) (0 ∷ 1 ∷ []) None) ∷ (op (GlobalOp 256) [] (Some 38)) ∷ (op (GuardTagOp 1) (1 ∷ 38 ∷ []) None) ∷ (op (CallOp 0) (0 ∷ 1 ∷ []) None) ∷ []) (Jump 6 []) 524288 None) ∷ (block [] [] (Jump 6 []) 524288 None) ∷ (block [] [] (Return None) 1048576 None) ∷ []) 39 2 true 0 0) ∷ (proc ((block (0 ∷ 1 ∷ []) ((op (PlusOp 40) (0 ∷ []) (Some 2)) ∷ (op (PlusOp 8) (2 ∷ []) (Some 3)) ∷ (op LoadOp (1 ∷ []) (Some 4)) ∷ (op (ConstOp 3) [] (Some 5)) ∷ (op BelowOp (4 ∷ 5 ∷ []) None) ∷ (op (ConstOp 8) [] (Some 6)) ∷ (op MulAddOp (4 ∷ 6 ∷ 3 ∷ []) (Some 7)) ∷ (op LoadOp (7 ∷ []) (Some 8)) ∷ []) (Return (Some 8)) 1048576 None) ∷ []) 9 2 true 0 0) ∷ (proc ((block [] ((op (GlobalOp 8) [] (Some 0)) ∷ (op (ConstOp 5) [] (Some 1)) ∷ (op (ConstOp 40) [] (Some 2)) ∷ (op (GlobalOp 128) [] (Some 3)) ∷ (op NewOp (1 ∷ 2 ∷ 3 ∷ []) (Some 4)) ∷ (op StoreOp (0 ∷ 4 ∷ []) None) ∷ (op (GlobalOp 16) [] (Some 5)) ∷ (op (ConstOp 11) [] (Some 6)) ∷ (op (ConstOp 88) [] (Some 7)) ∷ (op (GlobalOp 384) [] (Some 8)) ∷ (op NewOp (6 ∷ 7 ∷ 8 ∷ []) (Some 9)) ∷ (op StoreOp (5 ∷ 9 ∷ []) None) ∷ (op (GlobalOp 8) [] (Some 10)) ∷ (op (GlobalOp 16) [] (Some 11)) ∷ (op LoadOp (11 ∷ []) (Some 12)) ∷ (op StoreOp (10 ∷ 12 ∷ []) None) ∷ (op (GlobalOp 8) [] (Some 13)) ∷ (op LoadOp (13 ∷ []) (Some 14)) ∷ (op NotNilOp (14 ∷ []) None) ∷ (op (PlusOp 16) (14 ∷ []) (Some 15)) ∷ (op (ConstOp 1) [] (Some 16)) ∷ (op (ConstOp 3) [] (Some 17)) ∷ (op BelowOp (16 ∷ 17 ∷ []) None) ∷ (op (ConstOp 8) [] (Some 18)) ∷ (op MulAddOp (16 ∷ 18 ∷ 15 ∷ []) (Some 19)) ∷ (op (ConstOp 5) [] (Some 20)) ∷ (op StoreOp (19 ∷ 20 ∷ []) None) ∷ (op (GlobalOp 16) [] (Some 21)) ∷ (op LoadOp (21 ∷ []) (Some 22)) ∷ (op NotNilOp (22 ∷ []) None) ∷ (op (PlusOp 48) (22 ∷ []) (Some 23)) ∷ (op (PlusOp 8) (23 ∷ []) (Some 24)) ∷ (op (ConstOp 0) [] (Some 25)) ∷ (op (ConstOp 3) [] (Some 26)) ∷ (op BelowOp (25 ∷ 26 ∷ []) None) ∷ (op (ConstOp 8) [] (Some 27)) ∷ (op MulAddOp (25 ∷ 27 ∷ 24 ∷ []) (Some 28)) ∷ (op (ConstOp 3) [] (Some 29)) ∷ (op StoreOp (28 ∷ 29 ∷ []) None) ∷ (op (GlobalOp 24) [] (Some 30)) ∷ (op (GlobalOp 8) [] (Some 31)) ∷ (op LoadOp (31 ∷ []) (Some 32)) ∷ (op NotNilOp (32 ∷ []) None) ∷ (op (PlusOp 8) (32 ∷ []) (Some 33)) ∷ (op (ConstOp 32) [] (Some 34)) ∷ (op CopyOp (30 ∷ 33 ∷ 34 ∷ []) None) ∷ (op (GlobalOp 56) [] (Some 35)) ∷ (op (GlobalOp 16) [] (Some 36)) ∷ (op LoadOp (36 ∷ []) (Some 37)) ∷ (op NotNilOp (37 ∷ []) None) ∷ (op (PlusOp 8) (37 ∷ []) (Some 38)) ∷ (op (ConstOp 72) [] (Some 39)) ∷ (op CopyOp (35 ∷ 38 ∷ 39 ∷ []) None) ∷ (op (GlobalOp 8) [] (Some 40)) ∷ (op LoadOp (40 ∷ []) (Some 41)) ∷ (op NotNilOp (41 ∷ []) None) ∷ (op (PlusOp 8) (41 ∷ []) (Some 42)) ∷ (op (GlobalOp 24) [] (Some 43)) ∷ (op (ConstOp 32) [] (Some 44)) ∷ (op CopyOp (42 ∷ 43 ∷ 44 ∷ []) None) ∷ (op (GlobalOp 24) [] (Some 45)) ∷ (op (GlobalOp 128) [] (Some 46)) ∷ (op (CallOp 0) (45 ∷ 46 ∷ []) None) ∷ (op (GlobalOp 56) [] (Some 47)) ∷ (op (GlobalOp 256) [] (Some 48)) ∷ (op (CallOp 0) (47 ∷ 48 ∷ []) None) ∷ (op (GlobalOp 8) [] (Some 49)) ∷ (op LoadOp (49 ∷ []) (Some 50)) ∷ (op NotNilOp (50 ∷ []) None) ∷ (op (PlusOp 8) (50 ∷ []) (Some 51)) ∷ (op LoadOp (50 ∷ []) (Some 52)) ∷ (op (CallOp 0) (51 ∷ 52 ∷ []) None) ∷ (op (GlobalOp 16) [] (Some 53)) ∷ (op LoadOp (53 ∷ []) (Some 54)) ∷ (op NotNilOp (54 ∷ []) None) ∷ (op (PlusOp 8) (54 ∷ []) (Some 55)) ∷ (op LoadOp (54 ∷ []) (Some 56)) ∷ (op (CallOp 0) (55 ∷ 56 ∷ []) None) ∷ (op (GlobalOp 16) [] (Some 57)) ∷ (op LoadOp (57 ∷ []) (Some 58)) ∷ (op NotNilOp (58 ∷ []) None) ∷ (op (PlusOp 48) (58 ∷ []) (Some 59)) ∷ (op (GlobalOp 128) [] (Some 60)) ∷ (op (CallOp 0) (59 ∷ 60 ∷ []) None) ∷ (op (GlobalOp 56) [] (Some 61)) ∷ (op (PlusOp 40) (61 ∷ []) (Some 62)) ∷ (op (GlobalOp 128) [] (Some 63)) ∷ (op (CallOp 0) (62 ∷ 63 ∷ []) None) ∷ (op (GlobalOp 24) [] (Some 64)) ∷ (op (GlobalOp 56) [] (Some 65)) ∷ (op (GlobalOp 24) [] (Some 66)) ∷ (op (CallOp 1) (65 ∷ 66 ∷ []) (Some 67)) ∷ (op StoreOp (64 ∷ 67 ∷ []) None) ∷ (op (GlobalOp 24) [] (Some 68)) ∷ (op (GlobalOp 16) [] (Some 69)) ∷ (op LoadOp (69 ∷ []) (Some 70)) ∷ (op NotNilOp (70 ∷ []) None) ∷ (op (PlusOp 8) (70 ∷ []) (Some 71)) ∷ (op (GlobalOp 8) [] (Some 72)) ∷ (op LoadOp (72 ∷ []) (Some 73)) ∷ (op NotNilOp (73 ∷ []) None) ∷ (op (PlusOp 8) (73 ∷ []) (Some 74)) ∷ (op (CallOp 1) (71 ∷ 74 ∷ []) (Some 75)) ∷ (op StoreOp (68 ∷ 75 ∷ []) None) ∷ (op (GlobalOp 16) [] (Some 76)) ∷ (op LoadOp (76 ∷ []) (Some 77)) ∷ (op (GlobalOp 384) [] (Some 78)) ∷ (op (GuardPtrOp 2) (77 ∷ 78 ∷ []) None) ∷ (op NotNilOp (77 ∷ []) None) ∷ (op (PlusOp 40) (77 ∷ []) (Some 79)) ∷ (op (ConstOp 98) [] (Some 80)) ∷ (op StoreOp (79 ∷ 80 ∷ []) None) ∷ (op (GlobalOp 8) [] (Some 81)) ∷ (op LoadOp (81 ∷ []) (Some 82)) ∷ (op (GlobalOp 384) [] (Some 83)) ∷ (op (GuardPtrOp 2) (82 ∷ 83 ∷ []) None) ∷ (op NotNilOp (82 ∷ []) None) ∷ (op (PlusOp 40) (82 ∷ []) (Some 84)) ∷ (op LoadOp (84 ∷ []) (Some 85)) ∷ (op (ConstOp 97) [] (Some 86)) ∷ []) (Branch 12 85 86 1 2) 1048576 None) ∷ (block [] ((op (GlobalOp 8) [] (Some 87)) ∷ (op (ConstOp 0) [] (Some 88)) ∷ (op StoreOp (87 ∷ 88 ∷ []) None) ∷ []) (Jump 3 []) 524288 None) ∷ (block [] [] (Jump 3 []) 524288 None) ∷ (block [] ((op (GlobalOp 24) [] (Some 89)) ∷ (op (GlobalOp 56) [] (Some 90)) ∷ (op (PlusOp 40) (90 ∷ []) (Some 91)) ∷ (op (ConstOp 32) [] (Some 92)) ∷ (op CopyOp (89 ∷ 91 ∷ 92 ∷ []) None) ∷ []) (Return None) 1048576 None) ∷ []) 93 0 false 0 0) ∷ [])
@@ -107,7 +107,7 @@ records_constants b v = refl
 
 -- MODULE M; CONST lo = -3; hi = -1; TYPE A = RECORD x: INTEGER END; B = RECORD (A) y: INTEGER END; C = RECORD (B) z: INTEGER END; PA = POINTER TO A; PB = POINTER TO B; PC = POINTER TO C; VAR g: INTEGER; c: CHAR; p: PA; PROCEDURE F(VAR a: A; n: INTEGER): INTEGER; VAR m, k: INTEGER; BEGIN m := n; CASE n OF 1: m := 2 | 2..5, 7: k := m; m := k + 1 | 9, 11..12, lo..hi: CASE k OF 0: k := 1 END END; CASE a OF C: m := a.z | B: m := a.y; CASE a OF C: k := a.z END END; RETURN m + k END F; PROCEDURE H(q: PA): INTEGER; VAR m: INTEGER; BEGIN CASE q OF PC: m := q.z; q := NIL | PB: m := q.y | PA: m := q.x END; RETURN m END H; BEGIN CASE c OF ''a''..''z'': g := 1 | ''0'', 0X: g := 2 END; NEW(p); CASE p OF PB: g := p.y END; g := F(p^, 3) + H(p); CASE p OF END END M.
 abbrev cases : Outside Program
-cases b v = record { types = record { kinds = ((RecordKind 0) ∷ (RecordKind 1) ∷ (RecordKind 2) ∷ Int ∷ Char ∷ (PointerKind 0) ∷ Nothing ∷ []); records = (record { «module» = 0; base = None; level = 0; fields = (record { name = []; exported = false; type_number = 3 } ∷ []); cells = 1 } ∷ record { «module» = 0; base = (Some 0); level = 1; fields = (record { name = []; exported = false; type_number = 3 } ∷ []); cells = 2 } ∷ record { «module» = 0; base = (Some 1); level = 2; fields = (record { name = []; exported = false; type_number = 3 } ∷ []); cells = 3 } ∷ []); signatures = [] }; modules = (record { name = []; objects = []; variables = (3 ∷ 4 ∷ 5 ∷ []); body = 2 } ∷ []); procedures = (record { «module» = 0; line = 1; is_body = false; formals = (record { mode = OfRecord; variable = true; type_number = 0 } ∷ record { mode = OfValue; variable = false; type_number = 3 } ∷ []); result = 3; locals = (3 ∷ 3 ∷ []); texts = []; body = ((Assign (Whole (Local 1) Int) (record { form = (Load (Whole (Local 0) Int)); kind = Int })) ∷ (Case' (record { form = (Load (Whole (Local 0) Int)); kind = Int }) (vec3 v) (more_of-CasePart (One (pos 1) ∷ []) (vec1 v) (more_of-Stmt (Assign (Whole (Local 1) Int) (record { form = (Literal 2); kind = Int })) end_of-Stmt) (more_of-CasePart (Range (pos 2) (pos 5) ∷ One (pos 7) ∷ []) (vec2 v) (more_of-Stmt (Assign (Whole (Local 2) Int) (record { form = (Load (Whole (Local 1) Int)); kind = Int })) (more_of-Stmt (Assign (Whole (Local 1) Int) (record { form = (Chain' b (Load (Whole (Local 2) Int)) (vec1 v) (more_of-Link (Operate Add (Literal 1)) end_of-Link)); kind = Int })) end_of-Stmt)) (more_of-CasePart (One (pos 9) ∷ Range (pos 11) (pos 12) ∷ Range (negsuc 2) (negsuc 0) ∷ []) (vec1 v) (more_of-Stmt (Case' (record { form = (Load (Whole (Local 2) Int)); kind = Int }) (vec1 v) (more_of-CasePart (One (pos 0) ∷ []) (vec1 v) (more_of-Stmt (Assign (Whole (Local 2) Int) (record { form = (Literal 1); kind = Int })) end_of-Stmt) end_of-CasePart)) end_of-Stmt) end_of-CasePart)))) ∷ (CaseParameter' (Whole (Parameter 0) (RecordKind 0)) (vec2 v) (more_of-TypePart 2 (vec1 v) (more_of-Stmt (Assign (Whole (Local 1) Int) (record { form = (Load (Part' b (Parameter 0) Int (vec2 v) (more_of-Selector (Narrow 2) (more_of-Selector (Field 2 0) end_of-Selector)))); kind = Int })) end_of-Stmt) (more_of-TypePart 1 (vec2 v) (more_of-Stmt (Assign (Whole (Local 1) Int) (record { form = (Load (Part' b (Parameter 0) Int (vec2 v) (more_of-Selector (Narrow 1) (more_of-Selector (Field 1 0) end_of-Selector)))); kind = Int })) (more_of-Stmt (CaseParameter' (Part' b (Parameter 0) (RecordKind 1) (vec1 v) (more_of-Selector (Narrow 1) end_of-Selector)) (vec1 v) (more_of-TypePart 2 (vec1 v) (more_of-Stmt (Assign (Whole (Local 2) Int) (record { form = (Load (Part' b (Parameter 0) Int (vec2 v) (more_of-Selector (Narrow 2) (more_of-Selector (Field 2 0) end_of-Selector)))); kind = Int })) end_of-Stmt) end_of-TypePart)) end_of-Stmt)) end_of-TypePart))) ∷ []); answer = (Some (record { form = (Chain' b (Load (Whole (Local 1) Int)) (vec1 v) (more_of-Link (Operate Add (Load (Whole (Local 2) Int))) end_of-Link)); kind = Int })) } ∷ record { «module» = 0; line = 1; is_body = false; formals = (record { mode = OfValue; variable = false; type_number = 5 } ∷ []); result = 3; locals = (3 ∷ []); texts = []; body = ((CasePointer' (record { form = (Load (Whole (Local 0) (PointerKind 0))); kind = (PointerKind 0) }) (vec3 v) (more_of-TypePart 2 (vec2 v) (more_of-Stmt (Assign (Whole (Local 1) Int) (record { form = (Load (Part' b (Local 0) Int (vec2 v) (more_of-Selector (Dereference (2 ∷ [])) (more_of-Selector (Field 2 0) end_of-Selector)))); kind = Int })) (more_of-Stmt (Assign (Whole (Local 0) (PointerKind 0)) (record { form = (Literal 0); kind = Nil })) end_of-Stmt)) (more_of-TypePart 1 (vec1 v) (more_of-Stmt (Assign (Whole (Local 1) Int) (record { form = (Load (Part' b (Local 0) Int (vec2 v) (more_of-Selector (Dereference (1 ∷ [])) (more_of-Selector (Field 1 0) end_of-Selector)))); kind = Int })) end_of-Stmt) (more_of-TypePart 0 (vec1 v) (more_of-Stmt (Assign (Whole (Local 1) Int) (record { form = (Load (Part' b (Local 0) Int (vec2 v) (more_of-Selector (Dereference (0 ∷ [])) (more_of-Selector (Field 0 0) end_of-Selector)))); kind = Int })) end_of-Stmt) end_of-TypePart)))) ∷ []); answer = (Some (record { form = (Load (Whole (Local 1) Int)); kind = Int })) } ∷ record { «module» = 0; line = 1; is_body = true; formals = []; result = 6; locals = []; texts = []; body = ((Case' (record { form = (Load (Whole (Global 0 1) Char)); kind = Char }) (vec2 v) (more_of-CasePart (Range (pos 97) (pos 122) ∷ []) (vec1 v) (more_of-Stmt (Assign (Whole (Global 0 0) Int) (record { form = (Literal 1); kind = Int })) end_of-Stmt) (more_of-CasePart (One (pos 48) ∷ One (pos 0) ∷ []) (vec1 v) (more_of-Stmt (Assign (Whole (Global 0 0) Int) (record { form = (Literal 2); kind = Int })) end_of-Stmt) end_of-CasePart))) ∷ (New (Whole (Global 0 2) (PointerKind 0))) ∷ (CasePointer' (record { form = (Load (Whole (Global 0 2) (PointerKind 0))); kind = (PointerKind 0) }) (vec1 v) (more_of-TypePart 1 (vec1 v) (more_of-Stmt (Assign (Whole (Global 0 0) Int) (record { form = (Load (Part' b (Global 0 2) Int (vec2 v) (more_of-Selector (Dereference (1 ∷ [])) (more_of-Selector (Field 1 0) end_of-Selector)))); kind = Int })) end_of-Stmt) end_of-TypePart)) ∷ (Assign (Whole (Global 0 0) Int) (record { form = (Chain' b (Call' b (Direct' 0 (vec2 v) (more_of-Argument (ByRecord (Part' b (Global 0 2) (RecordKind 0) (vec1 v) (more_of-Selector (Dereference []) end_of-Selector))) (more_of-Argument (ByValue (Literal 3)) end_of-Argument)))) (vec1 v) (more_of-Link (Operate Add (Call' b (Direct' 1 (vec1 v) (more_of-Argument (ByValue (Load (Whole (Global 0 2) (PointerKind 0)))) end_of-Argument)))) end_of-Link)); kind = Int })) ∷ (CasePointer' (record { form = (Load (Whole (Global 0 2) (PointerKind 0))); kind = (PointerKind 0) }) (vec0 v) end_of-TypePart) ∷ []); answer = None } ∷ []); imports_in = false }
+cases b v = record { types = record { kinds = ((RecordKind 0) ∷ (RecordKind 1) ∷ (RecordKind 2) ∷ Int ∷ Char ∷ (PointerKind 0) ∷ Nothing ∷ []); records = (record { «module» = 0; base = None; level = 0; fields = (record { name = []; exported = false; type_number = 3 } ∷ []); cells = 1; extent = record { bytes = 8; wide = true } } ∷ record { «module» = 0; base = (Some 0); level = 1; fields = (record { name = []; exported = false; type_number = 3 } ∷ []); cells = 2; extent = record { bytes = 16; wide = true } } ∷ record { «module» = 0; base = (Some 1); level = 2; fields = (record { name = []; exported = false; type_number = 3 } ∷ []); cells = 3; extent = record { bytes = 24; wide = true } } ∷ []); signatures = [] }; modules = (record { name = []; objects = []; variables = (3 ∷ 4 ∷ 5 ∷ []); body = 2 } ∷ []); procedures = (record { «module» = 0; line = 1; is_body = false; formals = (record { mode = OfRecord; variable = true; type_number = 0 } ∷ record { mode = OfValue; variable = false; type_number = 3 } ∷ []); result = 3; locals = (3 ∷ 3 ∷ []); texts = []; body = ((Assign (Whole (Local 1) Int) (record { form = (Load (Whole (Local 0) Int)); kind = Int })) ∷ (Case' (record { form = (Load (Whole (Local 0) Int)); kind = Int }) (vec3 v) (more_of-CasePart (One (pos 1) ∷ []) (vec1 v) (more_of-Stmt (Assign (Whole (Local 1) Int) (record { form = (Literal 2); kind = Int })) end_of-Stmt) (more_of-CasePart (Range (pos 2) (pos 5) ∷ One (pos 7) ∷ []) (vec2 v) (more_of-Stmt (Assign (Whole (Local 2) Int) (record { form = (Load (Whole (Local 1) Int)); kind = Int })) (more_of-Stmt (Assign (Whole (Local 1) Int) (record { form = (Chain' b (Load (Whole (Local 2) Int)) (vec1 v) (more_of-Link (Operate Add (Literal 1)) end_of-Link)); kind = Int })) end_of-Stmt)) (more_of-CasePart (One (pos 9) ∷ Range (pos 11) (pos 12) ∷ Range (negsuc 2) (negsuc 0) ∷ []) (vec1 v) (more_of-Stmt (Case' (record { form = (Load (Whole (Local 2) Int)); kind = Int }) (vec1 v) (more_of-CasePart (One (pos 0) ∷ []) (vec1 v) (more_of-Stmt (Assign (Whole (Local 2) Int) (record { form = (Literal 1); kind = Int })) end_of-Stmt) end_of-CasePart)) end_of-Stmt) end_of-CasePart)))) ∷ (CaseParameter' (Whole (Parameter 0) (RecordKind 0)) (vec2 v) (more_of-TypePart 2 (vec1 v) (more_of-Stmt (Assign (Whole (Local 1) Int) (record { form = (Load (Part' b (Parameter 0) Int (vec2 v) (more_of-Selector (Narrow 2) (more_of-Selector (Field 2 0) end_of-Selector)))); kind = Int })) end_of-Stmt) (more_of-TypePart 1 (vec2 v) (more_of-Stmt (Assign (Whole (Local 1) Int) (record { form = (Load (Part' b (Parameter 0) Int (vec2 v) (more_of-Selector (Narrow 1) (more_of-Selector (Field 1 0) end_of-Selector)))); kind = Int })) (more_of-Stmt (CaseParameter' (Part' b (Parameter 0) (RecordKind 1) (vec1 v) (more_of-Selector (Narrow 1) end_of-Selector)) (vec1 v) (more_of-TypePart 2 (vec1 v) (more_of-Stmt (Assign (Whole (Local 2) Int) (record { form = (Load (Part' b (Parameter 0) Int (vec2 v) (more_of-Selector (Narrow 2) (more_of-Selector (Field 2 0) end_of-Selector)))); kind = Int })) end_of-Stmt) end_of-TypePart)) end_of-Stmt)) end_of-TypePart))) ∷ []); answer = (Some (record { form = (Chain' b (Load (Whole (Local 1) Int)) (vec1 v) (more_of-Link (Operate Add (Load (Whole (Local 2) Int))) end_of-Link)); kind = Int })) } ∷ record { «module» = 0; line = 1; is_body = false; formals = (record { mode = OfValue; variable = false; type_number = 5 } ∷ []); result = 3; locals = (3 ∷ []); texts = []; body = ((CasePointer' (record { form = (Load (Whole (Local 0) (PointerKind 0))); kind = (PointerKind 0) }) (vec3 v) (more_of-TypePart 2 (vec2 v) (more_of-Stmt (Assign (Whole (Local 1) Int) (record { form = (Load (Part' b (Local 0) Int (vec2 v) (more_of-Selector (Dereference (2 ∷ [])) (more_of-Selector (Field 2 0) end_of-Selector)))); kind = Int })) (more_of-Stmt (Assign (Whole (Local 0) (PointerKind 0)) (record { form = (Literal 0); kind = Nil })) end_of-Stmt)) (more_of-TypePart 1 (vec1 v) (more_of-Stmt (Assign (Whole (Local 1) Int) (record { form = (Load (Part' b (Local 0) Int (vec2 v) (more_of-Selector (Dereference (1 ∷ [])) (more_of-Selector (Field 1 0) end_of-Selector)))); kind = Int })) end_of-Stmt) (more_of-TypePart 0 (vec1 v) (more_of-Stmt (Assign (Whole (Local 1) Int) (record { form = (Load (Part' b (Local 0) Int (vec2 v) (more_of-Selector (Dereference (0 ∷ [])) (more_of-Selector (Field 0 0) end_of-Selector)))); kind = Int })) end_of-Stmt) end_of-TypePart)))) ∷ []); answer = (Some (record { form = (Load (Whole (Local 1) Int)); kind = Int })) } ∷ record { «module» = 0; line = 1; is_body = true; formals = []; result = 6; locals = []; texts = []; body = ((Case' (record { form = (Load (Whole (Global 0 1) Char)); kind = Char }) (vec2 v) (more_of-CasePart (Range (pos 97) (pos 122) ∷ []) (vec1 v) (more_of-Stmt (Assign (Whole (Global 0 0) Int) (record { form = (Literal 1); kind = Int })) end_of-Stmt) (more_of-CasePart (One (pos 48) ∷ One (pos 0) ∷ []) (vec1 v) (more_of-Stmt (Assign (Whole (Global 0 0) Int) (record { form = (Literal 2); kind = Int })) end_of-Stmt) end_of-CasePart))) ∷ (New (Whole (Global 0 2) (PointerKind 0))) ∷ (CasePointer' (record { form = (Load (Whole (Global 0 2) (PointerKind 0))); kind = (PointerKind 0) }) (vec1 v) (more_of-TypePart 1 (vec1 v) (more_of-Stmt (Assign (Whole (Global 0 0) Int) (record { form = (Load (Part' b (Global 0 2) Int (vec2 v) (more_of-Selector (Dereference (1 ∷ [])) (more_of-Selector (Field 1 0) end_of-Selector)))); kind = Int })) end_of-Stmt) end_of-TypePart)) ∷ (Assign (Whole (Global 0 0) Int) (record { form = (Chain' b (Call' b (Direct' 0 (vec2 v) (more_of-Argument (ByRecord (Part' b (Global 0 2) (RecordKind 0) (vec1 v) (more_of-Selector (Dereference []) end_of-Selector))) (more_of-Argument (ByValue (Literal 3)) end_of-Argument)))) (vec1 v) (more_of-Link (Operate Add (Call' b (Direct' 1 (vec1 v) (more_of-Argument (ByValue (Load (Whole (Global 0 2) (PointerKind 0)))) end_of-Argument)))) end_of-Link)); kind = Int })) ∷ (CasePointer' (record { form = (Load (Whole (Global 0 2) (PointerKind 0))); kind = (PointerKind 0) }) (vec0 v) end_of-TypePart) ∷ []); answer = None } ∷ []); imports_in = false }
 
 abbrev cases_procs : List Proc
 cases_procs = ((proc ((block (0 ∷ 1 ∷ 2 ∷ []) ((op (ConstOp 0) [] (Some 3)) ∷ (op (ConstOp 0) [] (Some 4)) ∷ (op (ConstOp 1) [] (Some 5)) ∷ []) (Branch 0 2 5 10 1) 1048576 None) ∷ (block [] ((op (ConstOp 2) [] (Some 6)) ∷ []) (Branch 10 2 6 2 3) 1048576 None) ∷ (block [] ((op (ConstOp 5) [] (Some 7)) ∷ []) (Branch 13 2 7 11 3) 1048576 None) ∷ (block [] ((op (ConstOp 7) [] (Some 8)) ∷ []) (Branch 0 2 8 11 4) 1048576 None) ∷ (block [] ((op (ConstOp 9) [] (Some 9)) ∷ []) (Branch 0 2 9 12 5) 1048576 None) ∷ (block [] ((op (ConstOp 11) [] (Some 10)) ∷ []) (Branch 10 2 10 6 7) 1048576 None) ∷ (block [] ((op (ConstOp 12) [] (Some 11)) ∷ []) (Branch 13 2 11 12 7) 1048576 None) ∷ (block [] ((op (ConstOp 18446744073709551613) [] (Some 12)) ∷ []) (Branch 10 2 12 8 9) 1048576 None) ∷ (block [] ((op (ConstOp 18446744073709551615) [] (Some 13)) ∷ []) (Branch 13 2 13 12 9) 1048576 None) ∷ (block [] [] (Trap 6) 524288 None) ∷ (block [] ((op (ConstOp 2) [] (Some 14)) ∷ []) (Jump 16 (14 ∷ 4 ∷ [])) 524288 None) ∷ (block [] ((op (ConstOp 1) [] (Some 15)) ∷ (op AddOp (2 ∷ 15 ∷ []) (Some 16)) ∷ []) (Jump 16 (16 ∷ 2 ∷ [])) 524288 None) ∷ (block [] ((op (ConstOp 0) [] (Some 17)) ∷ []) (Branch 0 4 17 14 13) 524288 None) ∷ (block [] [] (Trap 6) 262144 None) ∷ (block [] ((op (ConstOp 1) [] (Some 18)) ∷ []) (Jump 15 (18 ∷ [])) 262144 None) ∷ (block (19 ∷ []) [] (Jump 16 (2 ∷ 19 ∷ [])) 524288 None) ∷ (block (20 ∷ 21 ∷ []) ((op (GlobalOp 288) [] (Some 22)) ∷ (op (IsTagOp 2) (1 ∷ 22 ∷ []) (Some 23)) ∷ []) (Nonzero 23 19 17) 1048576 None) ∷ (block [] ((op (GlobalOp 160) [] (Some 24)) ∷ (op (IsTagOp 1) (1 ∷ 24 ∷ []) (Some 25)) ∷ []) (Nonzero 25 20 18) 1048576 None) ∷ (block [] [] (Jump 24 (20 ∷ 21 ∷ [])) 524288 None) ∷ (block [] ((op (GlobalOp 288) [] (Some 26)) ∷ (op (GuardTagOp 2) (1 ∷ 26 ∷ []) None) ∷ (op (PlusOp 16) (0 ∷ []) (Some 27)) ∷ (op LoadOp (27 ∷ []) (Some 28)) ∷ []) (Jump 24 (28 ∷ 21 ∷ [])) 524288 None) ∷ (block [] ((op (GlobalOp 160) [] (Some 29)) ∷ (op (GuardTagOp 1) (1 ∷ 29 ∷ []) None) ∷ (op (PlusOp 8) (0 ∷ []) (Some 30)) ∷ (op LoadOp (30 ∷ []) (Some 31)) ∷ (op (GlobalOp 160) [] (Some 32)) ∷ (op (GuardTagOp 1) (1 ∷ 32 ∷ []) None) ∷ (op (GlobalOp 288) [] (Some 33)) ∷ (op (IsTagOp 2) (1 ∷ 33 ∷ []) (Some 34)) ∷ []) (Nonzero 34 22 21) 524288 None) ∷ (block [] [] (Jump 23 (21 ∷ [])) 262144 None) ∷ (block [] ((op (GlobalOp 288) [] (Some 35)) ∷ (op (GuardTagOp 2) (1 ∷ 35 ∷ []) None) ∷ (op (PlusOp 16) (0 ∷ []) (Some 36)) ∷ (op LoadOp (36 ∷ []) (Some 37)) ∷ []) (Jump 23 (37 ∷ [])) 262144 None) ∷ (block (38 ∷ []) [] (Jump 24 (31 ∷ 38 ∷ [])) 524288 None) ∷ (block (39 ∷ 40 ∷ []) ((op AddOp (39 ∷ 40 ∷ []) (Some 41)) ∷ []) (Return (Some 41)) 1048576 None) ∷ []) 42 3 true 3 0) ∷ (proc ((block (0 ∷ []) ((op (ConstOp 0) [] (Some 1)) ∷ (op (GlobalOp 288) [] (Some 2)) ∷ (op (IsPtrOp 2) (0 ∷ 2 ∷ []) (Some 3)) ∷ []) (Nonzero 3 4 1) 1048576 None) ∷ (block [] ((op (GlobalOp 160) [] (Some 4)) ∷ (op (IsPtrOp 1) (0 ∷ 4 ∷ []) (Some 5)) ∷ []) (Nonzero 5 5 2) 1048576 None) ∷ (block [] ((op (GlobalOp 32) [] (Some 6)) ∷ (op (IsPtrOp 0) (0 ∷ 6 ∷ []) (Some 7)) ∷ []) (Nonzero 7 6 3) 1048576 None) ∷ (block [] [] (Jump 7 (0 ∷ 1 ∷ [])) 524288 None) ∷ (block [] ((op (GlobalOp 288) [] (Some 8)) ∷ (op (GuardPtrOp 2) (0 ∷ 8 ∷ []) None) ∷ (op NotNilOp (0 ∷ []) None) ∷ (op (PlusOp 24) (0 ∷ []) (Some 9)) ∷ (op LoadOp (9 ∷ []) (Some 10)) ∷ (op (ConstOp 0) [] (Some 11)) ∷ []) (Jump 7 (11 ∷ 10 ∷ [])) 524288 None) ∷ (block [] ((op (GlobalOp 160) [] (Some 12)) ∷ (op (GuardPtrOp 1) (0 ∷ 12 ∷ []) None) ∷ (op NotNilOp (0 ∷ []) None) ∷ (op (PlusOp 16) (0 ∷ []) (Some 13)) ∷ (op LoadOp (13 ∷ []) (Some 14)) ∷ []) (Jump 7 (0 ∷ 14 ∷ [])) 524288 None) ∷ (block [] ((op (GlobalOp 32) [] (Some 15)) ∷ (op (GuardPtrOp 0) (0 ∷ 15 ∷ []) None) ∷ (op NotNilOp (0 ∷ []) None) ∷ (op (PlusOp 8) (0 ∷ []) (Some 16)) ∷ (op LoadOp (16 ∷ []) (Some 17)) ∷ []) (Jump 7 (0 ∷ 17 ∷ [])) 524288 None) ∷ (block (18 ∷ 19 ∷ []) [] (Return (Some 19)) 1048576 None) ∷ []) 20 1 true 2 0) ∷ (proc ((block [] ((op (GlobalOp 16) [] (Some 0)) ∷ (op LoadOp (0 ∷ []) (Some 1)) ∷ (op (ConstOp 97) [] (Some 2)) ∷ []) (Branch 10 1 2 1 2) 1048576 None) ∷ (block [] ((op (ConstOp 122) [] (Some 3)) ∷ []) (Branch 13 1 3 5 2) 1048576 None) ∷ (block [] ((op (ConstOp 48) [] (Some 4)) ∷ []) (Branch 0 1 4 6 3) 1048576 None) ∷ (block [] ((op (ConstOp 0) [] (Some 5)) ∷ []) (Branch 0 1 5 6 4) 1048576 None) ∷ (block [] [] (Trap 6) 524288 None) ∷ (block [] ((op (GlobalOp 8) [] (Some 6)) ∷ (op (ConstOp 1) [] (Some 7)) ∷ (op StoreOp (6 ∷ 7 ∷ []) None) ∷ []) (Jump 7 []) 524288 None) ∷ (block [] ((op (GlobalOp 8) [] (Some 8)) ∷ (op (ConstOp 2) [] (Some 9)) ∷ (op StoreOp (8 ∷ 9 ∷ []) None) ∷ []) (Jump 7 []) 524288 None) ∷ (block [] ((op (GlobalOp 24) [] (Some 10)) ∷ (op (ConstOp 2) [] (Some 11)) ∷ (op (ConstOp 16) [] (Some 12)) ∷ (op (GlobalOp 32) [] (Some 13)) ∷ (op NewOp (11 ∷ 12 ∷ 13 ∷ []) (Some 14)) ∷ (op StoreOp (10 ∷ 14 ∷ []) None) ∷ (op (GlobalOp 24) [] (Some 15)) ∷ (op LoadOp (15 ∷ []) (Some 16)) ∷ (op (GlobalOp 160) [] (Some 17)) ∷ (op (IsPtrOp 1) (16 ∷ 17 ∷ []) (Some 18)) ∷ []) (Nonzero 18 9 8) 1048576 None) ∷ (block [] [] (Jump 10 []) 524288 None) ∷ (block [] ((op (GlobalOp 8) [] (Some 19)) ∷ (op (GlobalOp 24) [] (Some 20)) ∷ (op LoadOp (20 ∷ []) (Some 21)) ∷ (op (GlobalOp 160) [] (Some 22)) ∷ (op (GuardPtrOp 1) (21 ∷ 22 ∷ []) None) ∷ (op NotNilOp (21 ∷ []) None) ∷ (op (PlusOp 16) (21 ∷ []) (Some 23)) ∷ (op LoadOp (23 ∷ []) (Some 24)) ∷ (op StoreOp (19 ∷ 24 ∷ []) None) ∷ []) (Jump 10 []) 524288 None) ∷ (block [] ((op (GlobalOp 8) [] (Some 25)) ∷ (op (GlobalOp 24) [] (Some 26)) ∷ (op LoadOp (26 ∷ []) (Some 27)) ∷ (op NotNilOp (27 ∷ []) None) ∷ (op (PlusOp 8) (27 ∷ []) (Some 28)) ∷ (op LoadOp (27 ∷ []) (Some 29)) ∷ (op (ConstOp 3) [] (Some 30)) ∷ (op (CallOp 0) (28 ∷ 29 ∷ 30 ∷ []) (Some 31)) ∷ (op (GlobalOp 24) [] (Some 32)) ∷ (op LoadOp (32 ∷ []) (Some 33)) ∷ (op (CallOp 1) (33 ∷ []) (Some 34)) ∷ (op AddOp (31 ∷ 34 ∷ []) (Some 35)) ∷ (op StoreOp (25 ∷ 35 ∷ []) None) ∷ (op (GlobalOp 24) [] (Some 36)) ∷ (op LoadOp (36 ∷ []) (Some 37)) ∷ []) (Jump 11 []) 1048576 None) ∷ (block [] [] (Jump 12 []) 524288 None) ∷ (block [] [] (Return None) 1048576 None) ∷ []) 38 0 false 0 0) ∷ [])
@@ -176,7 +176,7 @@ procvars_constants b v = refl
 
 -- MODULE M0; VAR a*: INTEGER; r*: RECORD x*: INTEGER; s*: ARRAY 4 OF CHAR END; PROCEDURE P*(n: INTEGER); BEGIN a := n; r.s := ''abc'' END P; BEGIN P(3) END M0. === MODULE M1; IMPORT M0, X := Out; VAR b: INTEGER; q: PROCEDURE (n: INTEGER); BEGIN q := M0.P; q(M0.a); b := M0.r.x + LEN(M0.r.s); X.String(M0.r.s); X.String(''ok'') END M1.
 abbrev units : Outside Program
-units b v = record { types = record { kinds = ((RecordKind 0) ∷ Int ∷ Nothing ∷ (ProcedureKind 0) ∷ Char ∷ (Array (Some 4) 4) ∷ []); records = (record { «module» = 0; base = None; level = 0; fields = (record { name = []; exported = true; type_number = 1 } ∷ record { name = []; exported = true; type_number = 5 } ∷ []); cells = 5 } ∷ []); signatures = (record { formals = (record { mode = OfValue; variable = false; type_number = 1 } ∷ []); result = 2 } ∷ []) }; modules = (record { name = []; objects = []; variables = (1 ∷ 0 ∷ []); body = 1 } ∷ record { name = []; objects = []; variables = (1 ∷ 3 ∷ []); body = 2 } ∷ []); procedures = (record { «module» = 0; line = 1; is_body = false; formals = (record { mode = OfValue; variable = false; type_number = 1 } ∷ []); result = 2; locals = []; texts = ((97 ∷ 98 ∷ 99 ∷ []) ∷ []); body = ((Assign (Whole (Global 0 0) Int) (record { form = (Load (Whole (Local 0) Int)); kind = Int })) ∷ (CopyArray (Part' b (Global 0 1) (Array (Some 4) 4) (vec1 v) (more_of-Selector (Field 0 1) end_of-Selector)) (Whole (Text 0) (TextKind 3))) ∷ []); answer = None } ∷ record { «module» = 0; line = 1; is_body = true; formals = []; result = 2; locals = []; texts = []; body = ((Invoke (Direct' 0 (vec1 v) (more_of-Argument (ByValue (Literal 3)) end_of-Argument))) ∷ []); answer = None } ∷ record { «module» = 1; line = 1; is_body = true; formals = []; result = 2; locals = []; texts = ((111 ∷ 107 ∷ []) ∷ []); body = ((Assign (Whole (Global 1 1) (ProcedureKind 0)) (record { form = (Routine 0); kind = (ProcedureKind 0) })) ∷ (Invoke (Indirect' (Whole (Global 1 1) (ProcedureKind 0)) (vec1 v) (more_of-Argument (ByValue (Load (Whole (Global 0 0) Int))) end_of-Argument))) ∷ (Assign (Whole (Global 1 0) Int) (record { form = (Chain' b (Load (Part' b (Global 0 1) Int (vec1 v) (more_of-Selector (Field 0 0) end_of-Selector))) (vec1 v) (more_of-Link (Operate Add (Length (Part' b (Global 0 1) (Array (Some 4) 4) (vec1 v) (more_of-Selector (Field 0 1) end_of-Selector)))) end_of-Link)); kind = Int })) ∷ (OutString (Part' b (Global 0 1) (Array (Some 4) 4) (vec1 v) (more_of-Selector (Field 0 1) end_of-Selector))) ∷ (OutString (Whole (Text 0) (TextKind 2))) ∷ []); answer = None } ∷ []); imports_in = false }
+units b v = record { types = record { kinds = ((RecordKind 0) ∷ Int ∷ Nothing ∷ (ProcedureKind 0) ∷ Char ∷ (Array (Some 4) 4) ∷ []); records = (record { «module» = 0; base = None; level = 0; fields = (record { name = []; exported = true; type_number = 1 } ∷ record { name = []; exported = true; type_number = 5 } ∷ []); cells = 5; extent = record { bytes = 16; wide = true } } ∷ []); signatures = (record { formals = (record { mode = OfValue; variable = false; type_number = 1 } ∷ []); result = 2 } ∷ []) }; modules = (record { name = []; objects = []; variables = (1 ∷ 0 ∷ []); body = 1 } ∷ record { name = []; objects = []; variables = (1 ∷ 3 ∷ []); body = 2 } ∷ []); procedures = (record { «module» = 0; line = 1; is_body = false; formals = (record { mode = OfValue; variable = false; type_number = 1 } ∷ []); result = 2; locals = []; texts = ((97 ∷ 98 ∷ 99 ∷ []) ∷ []); body = ((Assign (Whole (Global 0 0) Int) (record { form = (Load (Whole (Local 0) Int)); kind = Int })) ∷ (CopyArray (Part' b (Global 0 1) (Array (Some 4) 4) (vec1 v) (more_of-Selector (Field 0 1) end_of-Selector)) (Whole (Text 0) (TextKind 3))) ∷ []); answer = None } ∷ record { «module» = 0; line = 1; is_body = true; formals = []; result = 2; locals = []; texts = []; body = ((Invoke (Direct' 0 (vec1 v) (more_of-Argument (ByValue (Literal 3)) end_of-Argument))) ∷ []); answer = None } ∷ record { «module» = 1; line = 1; is_body = true; formals = []; result = 2; locals = []; texts = ((111 ∷ 107 ∷ []) ∷ []); body = ((Assign (Whole (Global 1 1) (ProcedureKind 0)) (record { form = (Routine 0); kind = (ProcedureKind 0) })) ∷ (Invoke (Indirect' (Whole (Global 1 1) (ProcedureKind 0)) (vec1 v) (more_of-Argument (ByValue (Load (Whole (Global 0 0) Int))) end_of-Argument))) ∷ (Assign (Whole (Global 1 0) Int) (record { form = (Chain' b (Load (Part' b (Global 0 1) Int (vec1 v) (more_of-Selector (Field 0 0) end_of-Selector))) (vec1 v) (more_of-Link (Operate Add (Length (Part' b (Global 0 1) (Array (Some 4) 4) (vec1 v) (more_of-Selector (Field 0 1) end_of-Selector)))) end_of-Link)); kind = Int })) ∷ (OutString (Part' b (Global 0 1) (Array (Some 4) 4) (vec1 v) (more_of-Selector (Field 0 1) end_of-Selector))) ∷ (OutString (Whole (Text 0) (TextKind 2))) ∷ []); answer = None } ∷ []); imports_in = false }
 
 abbrev units_procs : List Proc
 units_procs = ((proc ((block (0 ∷ []) ((op (GlobalOp 8) [] (Some 1)) ∷ (op StoreOp (1 ∷ 0 ∷ []) None) ∷ (op (GlobalOp 16) [] (Some 2)) ∷ (op (PlusOp 8) (2 ∷ []) (Some 3)) ∷ (op (GlobalOp 200) [] (Some 4)) ∷ (op (ConstOp 32) [] (Some 5)) ∷ (op CopyOp (3 ∷ 4 ∷ 5 ∷ []) None) ∷ []) (Return None) 1048576 None) ∷ []) 6 1 true 1 0) ∷ (proc ((block [] ((op (ConstOp 3) [] (Some 0)) ∷ (op (CallOp 0) (0 ∷ []) None) ∷ []) (Return None) 1048576 None) ∷ []) 1 0 false 0 0) ∷ (proc ((block [] ((op (GlobalOp 64) [] (Some 0)) ∷ (op (CodeOp 0) [] (Some 1)) ∷ (op StoreOp (0 ∷ 1 ∷ []) None) ∷ (op (GlobalOp 64) [] (Some 2)) ∷ (op LoadOp (2 ∷ []) (Some 3)) ∷ (op (GlobalOp 8) [] (Some 4)) ∷ (op LoadOp (4 ∷ []) (Some 5)) ∷ (op NotNilOp (3 ∷ []) None) ∷ (op CallAtOp (3 ∷ 5 ∷ []) None) ∷ (op (GlobalOp 56) [] (Some 6)) ∷ (op (GlobalOp 16) [] (Some 7)) ∷ (op LoadOp (7 ∷ []) (Some 8)) ∷ (op (GlobalOp 16) [] (Some 9)) ∷ (op (PlusOp 8) (9 ∷ []) (Some 10)) ∷ (op (ConstOp 4) [] (Some 11)) ∷ (op AddOp (8 ∷ 11 ∷ []) (Some 12)) ∷ (op StoreOp (6 ∷ 12 ∷ []) None) ∷ (op (GlobalOp 16) [] (Some 13)) ∷ (op (PlusOp 8) (13 ∷ []) (Some 14)) ∷ (op (ConstOp 4) [] (Some 15)) ∷ (op (ConstOp 8) [] (Some 16)) ∷ (op (SvcOp 3) (14 ∷ 15 ∷ 16 ∷ []) None) ∷ (op (GlobalOp 232) [] (Some 17)) ∷ (op (ConstOp 3) [] (Some 18)) ∷ (op (ConstOp 8) [] (Some 19)) ∷ (op (SvcOp 3) (17 ∷ 18 ∷ 19 ∷ []) None) ∷ []) (Return None) 1048576 None) ∷ []) 20 0 false 0 0) ∷ [])
@@ -219,7 +219,7 @@ deep_low b v = refl
 
 -- MODULE M; TYPE R = RECORD x: INTEGER END; P = POINTER TO R; VAR g: INTEGER; PROCEDURE Q(n: INTEGER; b: BYTE): P; VAR p, q, r: P; s, t: SET; BEGIN IF n > 0 THEN NEW(p); INCL(s, n) ELSE q := p; EXCL(t, 1) END; WHILE n > 0 DO NEW(q); DEC(n); p := q; INC(b) END; REPEAT NEW(r); INCL(s, 2) UNTIL r # NIL; CASE n OF 1: NEW(p) | 2: EXCL(s, n) END; CASE p OF P: NEW(q) END; IF 3 IN s + t THEN g := b END; RETURN r END Q; BEGIN IF Q(1, 2) = NIL THEN g := 1 END END M.
 abbrev registers_in_parts : Outside Program
-registers_in_parts b v = record { types = record { kinds = ((RecordKind 0) ∷ Int ∷ ByteKind ∷ (PointerKind 0) ∷ SetKind ∷ Nothing ∷ []); records = (record { «module» = 0; base = None; level = 0; fields = (record { name = []; exported = false; type_number = 1 } ∷ []); cells = 1 } ∷ []); signatures = [] }; modules = (record { name = []; objects = []; variables = (1 ∷ []); body = 1 } ∷ []); procedures = (record { «module» = 0; line = 1; is_body = false; formals = (record { mode = OfValue; variable = false; type_number = 1 } ∷ record { mode = OfValue; variable = false; type_number = 2 } ∷ []); result = 3; locals = (3 ∷ 3 ∷ 3 ∷ 4 ∷ 4 ∷ []); texts = []; body = ((If' (vec1 v) (more_of-Branch (record { form = (Compare' Greater b (Load (Whole (Local 0) Int)) b (Literal 0)); kind = BoolKind }) (vec2 v) (more_of-Stmt (New (Whole (Local 2) (PointerKind 0))) (more_of-Stmt (Include (Whole (Local 5) SetKind) (record { form = (Load (Whole (Local 0) Int)); kind = Int })) end_of-Stmt)) end_of-Branch) (vec2 v) (more_of-Stmt (Assign (Whole (Local 3) (PointerKind 0)) (record { form = (Load (Whole (Local 2) (PointerKind 0))); kind = (PointerKind 0) })) (more_of-Stmt (Exclude (Whole (Local 6) SetKind) (record { form = (Literal 1); kind = Int })) end_of-Stmt))) ∷ (While' (vec1 v) (more_of-Branch (record { form = (Compare' Greater b (Load (Whole (Local 0) Int)) b (Literal 0)); kind = BoolKind }) (vec4 v) (more_of-Stmt (New (Whole (Local 3) (PointerKind 0))) (more_of-Stmt (Decrease (Whole (Local 0) Int) (record { form = (Literal 1); kind = Int })) (more_of-Stmt (Assign (Whole (Local 2) (PointerKind 0)) (record { form = (Load (Whole (Local 3) (PointerKind 0))); kind = (PointerKind 0) })) (more_of-Stmt (Increase (Whole (Local 1) ByteKind) (record { form = (Literal 1); kind = Int })) end_of-Stmt)))) end_of-Branch)) ∷ (Repeat' (vec2 v) (more_of-Stmt (New (Whole (Local 4) (PointerKind 0))) (more_of-Stmt (Include (Whole (Local 5) SetKind) (record { form = (Literal 2); kind = Int })) end_of-Stmt)) (record { form = (Compare' Unequal b (Load (Whole (Local 4) (PointerKind 0))) b (Literal 0)); kind = BoolKind })) ∷ (Case' (record { form = (Load (Whole (Local 0) Int)); kind = Int }) (vec2 v) (more_of-CasePart (One (pos 1) ∷ []) (vec1 v) (more_of-Stmt (New (Whole (Local 2) (PointerKind 0))) end_of-Stmt) (more_of-CasePart (One (pos 2) ∷ []) (vec1 v) (more_of-Stmt (Exclude (Whole (Local 5) SetKind) (record { form = (Load (Whole (Local 0) Int)); kind = Int })) end_of-Stmt) end_of-CasePart))) ∷ (CasePointer' (record { form = (Load (Whole (Local 2) (PointerKind 0))); kind = (PointerKind 0) }) (vec1 v) (more_of-TypePart 0 (vec1 v) (more_of-Stmt (New (Whole (Local 3) (PointerKind 0))) end_of-Stmt) end_of-TypePart)) ∷ (If' (vec1 v) (more_of-Branch (record { form = (In' b (Literal 3) b (Chain' b (Load (Whole (Local 5) SetKind)) (vec1 v) (more_of-Link (Operate Union (Load (Whole (Local 6) SetKind))) end_of-Link))); kind = BoolKind }) (vec1 v) (more_of-Stmt (Assign (Whole (Global 0 0) Int) (record { form = (Load (Whole (Local 1) ByteKind)); kind = ByteKind })) end_of-Stmt) end_of-Branch) (vec0 v) end_of-Stmt) ∷ []); answer = (Some (record { form = (Load (Whole (Local 4) (PointerKind 0))); kind = (PointerKind 0) })) } ∷ record { «module» = 0; line = 1; is_body = true; formals = []; result = 5; locals = []; texts = []; body = ((If' (vec1 v) (more_of-Branch (record { form = (Compare' Equal b (Call' b (Direct' 0 (vec2 v) (more_of-Argument (ByValue (Literal 1)) (more_of-Argument (ByValue (Byte' b (Literal 2))) end_of-Argument)))) b (Literal 0)); kind = BoolKind }) (vec1 v) (more_of-Stmt (Assign (Whole (Global 0 0) Int) (record { form = (Literal 1); kind = Int })) end_of-Stmt) end_of-Branch) (vec0 v) end_of-Stmt) ∷ []); answer = None } ∷ []); imports_in = false }
+registers_in_parts b v = record { types = record { kinds = ((RecordKind 0) ∷ Int ∷ ByteKind ∷ (PointerKind 0) ∷ SetKind ∷ Nothing ∷ []); records = (record { «module» = 0; base = None; level = 0; fields = (record { name = []; exported = false; type_number = 1 } ∷ []); cells = 1; extent = record { bytes = 8; wide = true } } ∷ []); signatures = [] }; modules = (record { name = []; objects = []; variables = (1 ∷ []); body = 1 } ∷ []); procedures = (record { «module» = 0; line = 1; is_body = false; formals = (record { mode = OfValue; variable = false; type_number = 1 } ∷ record { mode = OfValue; variable = false; type_number = 2 } ∷ []); result = 3; locals = (3 ∷ 3 ∷ 3 ∷ 4 ∷ 4 ∷ []); texts = []; body = ((If' (vec1 v) (more_of-Branch (record { form = (Compare' Greater b (Load (Whole (Local 0) Int)) b (Literal 0)); kind = BoolKind }) (vec2 v) (more_of-Stmt (New (Whole (Local 2) (PointerKind 0))) (more_of-Stmt (Include (Whole (Local 5) SetKind) (record { form = (Load (Whole (Local 0) Int)); kind = Int })) end_of-Stmt)) end_of-Branch) (vec2 v) (more_of-Stmt (Assign (Whole (Local 3) (PointerKind 0)) (record { form = (Load (Whole (Local 2) (PointerKind 0))); kind = (PointerKind 0) })) (more_of-Stmt (Exclude (Whole (Local 6) SetKind) (record { form = (Literal 1); kind = Int })) end_of-Stmt))) ∷ (While' (vec1 v) (more_of-Branch (record { form = (Compare' Greater b (Load (Whole (Local 0) Int)) b (Literal 0)); kind = BoolKind }) (vec4 v) (more_of-Stmt (New (Whole (Local 3) (PointerKind 0))) (more_of-Stmt (Decrease (Whole (Local 0) Int) (record { form = (Literal 1); kind = Int })) (more_of-Stmt (Assign (Whole (Local 2) (PointerKind 0)) (record { form = (Load (Whole (Local 3) (PointerKind 0))); kind = (PointerKind 0) })) (more_of-Stmt (Increase (Whole (Local 1) ByteKind) (record { form = (Literal 1); kind = Int })) end_of-Stmt)))) end_of-Branch)) ∷ (Repeat' (vec2 v) (more_of-Stmt (New (Whole (Local 4) (PointerKind 0))) (more_of-Stmt (Include (Whole (Local 5) SetKind) (record { form = (Literal 2); kind = Int })) end_of-Stmt)) (record { form = (Compare' Unequal b (Load (Whole (Local 4) (PointerKind 0))) b (Literal 0)); kind = BoolKind })) ∷ (Case' (record { form = (Load (Whole (Local 0) Int)); kind = Int }) (vec2 v) (more_of-CasePart (One (pos 1) ∷ []) (vec1 v) (more_of-Stmt (New (Whole (Local 2) (PointerKind 0))) end_of-Stmt) (more_of-CasePart (One (pos 2) ∷ []) (vec1 v) (more_of-Stmt (Exclude (Whole (Local 5) SetKind) (record { form = (Load (Whole (Local 0) Int)); kind = Int })) end_of-Stmt) end_of-CasePart))) ∷ (CasePointer' (record { form = (Load (Whole (Local 2) (PointerKind 0))); kind = (PointerKind 0) }) (vec1 v) (more_of-TypePart 0 (vec1 v) (more_of-Stmt (New (Whole (Local 3) (PointerKind 0))) end_of-Stmt) end_of-TypePart)) ∷ (If' (vec1 v) (more_of-Branch (record { form = (In' b (Literal 3) b (Chain' b (Load (Whole (Local 5) SetKind)) (vec1 v) (more_of-Link (Operate Union (Load (Whole (Local 6) SetKind))) end_of-Link))); kind = BoolKind }) (vec1 v) (more_of-Stmt (Assign (Whole (Global 0 0) Int) (record { form = (Load (Whole (Local 1) ByteKind)); kind = ByteKind })) end_of-Stmt) end_of-Branch) (vec0 v) end_of-Stmt) ∷ []); answer = (Some (record { form = (Load (Whole (Local 4) (PointerKind 0))); kind = (PointerKind 0) })) } ∷ record { «module» = 0; line = 1; is_body = true; formals = []; result = 5; locals = []; texts = []; body = ((If' (vec1 v) (more_of-Branch (record { form = (Compare' Equal b (Call' b (Direct' 0 (vec2 v) (more_of-Argument (ByValue (Literal 1)) (more_of-Argument (ByValue (Byte' b (Literal 2))) end_of-Argument)))) b (Literal 0)); kind = BoolKind }) (vec1 v) (more_of-Stmt (Assign (Whole (Global 0 0) Int) (record { form = (Literal 1); kind = Int })) end_of-Stmt) end_of-Branch) (vec0 v) end_of-Stmt) ∷ []); answer = None } ∷ []); imports_in = false }
 
 abbrev registers_in_parts_procs : List Proc
 registers_in_parts_procs = ((proc ((block (0 ∷ 1 ∷ []) ((op (ConstOp 0) [] (Some 2)) ∷ (op (ConstOp 0) [] (Some 3)) ∷ (op (ConstOp 0) [] (Some 4)) ∷ (op (ConstOp 0) [] (Some 5)) ∷ (op (ConstOp 0) [] (Some 6)) ∷ (op (ConstOp 0) [] (Some 7)) ∷ []) (Branch 12 0 7 1 2) 1048576 None) ∷ (block [] ((op (ConstOp 2) [] (Some 8)) ∷ (op (ConstOp 16) [] (Some 9)) ∷ (op (GlobalOp 16) [] (Some 10)) ∷ (op NewOp (8 ∷ 9 ∷ 10 ∷ []) (Some 11)) ∷ (op ElemOp (0 ∷ []) None) ∷ (op BitOp (0 ∷ []) (Some 12)) ∷ (op OrOp (5 ∷ 12 ∷ []) (Some 13)) ∷ []) (Jump 3 (11 ∷ 3 ∷ 13 ∷ 6 ∷ [])) 524288 None) ∷ (block [] ((op (ConstOp 1) [] (Some 14)) ∷ (op ElemOp (14 ∷ []) None) ∷ (op BitOp (14 ∷ []) (Some 15)) ∷ (op BicOp (6 ∷ 15 ∷ []) (Some 16)) ∷ []) (Jump 3 (2 ∷ 2 ∷ 5 ∷ 16 ∷ [])) 524288 None) ∷ (block (17 ∷ 18 ∷ 19 ∷ 20 ∷ []) [] (Jump 4 (0 ∷ 1 ∷ 17 ∷ 18 ∷ [])) 1048576 None) ∷ (block (21 ∷ 22 ∷ 23 ∷ 24 ∷ []) ((op (ConstOp 0) [] (Some 25)) ∷ []) (Branch 12 21 25 5 6) 8388608 (Some 3)) ∷ (block [] ((op (ConstOp 2) [] (Some 26)) ∷ (op (ConstOp 16) [] (Some 27)) ∷ (op (GlobalOp 16) [] (Some 28)) ∷ (op NewOp (26 ∷ 27 ∷ 28 ∷ []) (Some 29)) ∷ (op (ConstOp 1) [] (Some 30)) ∷ (op SubOp (21 ∷ 30 ∷ []) (Some 31)) ∷ (op (ConstOp 1) [] (Some 32)) ∷ (op AddOp (22 ∷ 32 ∷ []) (Some 33)) ∷ (op ByteOp (33 ∷ []) None) ∷ []) (Jump 4 (31 ∷ 33 ∷ 29 ∷ 29 ∷ [])) 8388608 None) ∷ (block [] [] (Jump 7 (4 ∷ 19 ∷ [])) 1048576 None) ∷ (block (34 ∷ 35 ∷ []) ((op (ConstOp 2) [] (Some 36)) ∷ (op (ConstOp 16) [] (Some 37)) ∷ (op (GlobalOp 16) [] (Some 38)) ∷ (op NewOp (36 ∷ 37 ∷ 38 ∷ []) (Some 39)) ∷ (op (ConstOp 2) [] (Some 40)) ∷ (op ElemOp (40 ∷ []) None) ∷ (op BitOp (40 ∷ []) (Some 41)) ∷ (op OrOp (35 ∷ 41 ∷ []) (Some 42)) ∷ (op (ConstOp 0) [] (Some 43)) ∷ []) (Branch 1 39 43 9 8) 8388608 (Some 6)) ∷ (block [] [] (Jump 7 (39 ∷ 42 ∷ [])) 8388608 None) ∷ (block [] ((op (ConstOp 1) [] (Some 44)) ∷ []) (Branch 0 21 44 12 10) 1048576 None) ∷ (block [] ((op (ConstOp 2) [] (Some 45)) ∷ []) (Branch 0 21 45 13 11) 1048576 None) ∷ (block [] [] (Trap 6) 524288 None) ∷ (block [] ((op (ConstOp 2) [] (Some 46)) ∷ (op (ConstOp 16) [] (Some 47)) ∷ (op (GlobalOp 16) [] (Some 48)) ∷ (op NewOp (46 ∷ 47 ∷ 48 ∷ []) (Some 49)) ∷ []) (Jump 14 (49 ∷ 42 ∷ [])) 524288 None) ∷ (block [] ((op ElemOp (21 ∷ []) None) ∷ (op BitOp (21 ∷ []) (Some 50)) ∷ (op BicOp (42 ∷ 50 ∷ []) (Some 51)) ∷ []) (Jump 14 (23 ∷ 51 ∷ [])) 524288 None) ∷ (block (52 ∷ 53 ∷ []) ((op (GlobalOp 16) [] (Some 54)) ∷ (op (IsPtrOp 0) (52 ∷ 54 ∷ []) (Some 55)) ∷ []) (Nonzero 55 16 15) 1048576 None) ∷ (block [] [] (Jump 17 (24 ∷ [])) 524288 None) ∷ (block [] ((op (ConstOp 2) [] (Some 56)) ∷ (op (ConstOp 16) [] (Some 57)) ∷ (op (GlobalOp 16) [] (Some 58)) ∷ (op NewOp (56 ∷ 57 ∷ 58 ∷ []) (Some 59)) ∷ []) (Jump 17 (59 ∷ [])) 524288 None) ∷ (block (60 ∷ []) ((op (ConstOp 3) [] (Some 61)) ∷ (op ElemOp (61 ∷ []) None) ∷ (op OrOp (53 ∷ 20 ∷ []) (Some 62)) ∷ (op HasOp (61 ∷ 62 ∷ []) (Some 63)) ∷ []) (Nonzero 63 18 19) 1048576 None) ∷ (block [] ((op (GlobalOp 8) [] (Some 64)) ∷ (op StoreOp (64 ∷ 22 ∷ []) None) ∷ []) (Jump 20 []) 524288 None) ∷ (block [] [] (Jump 20 []) 524288 None) ∷ (block [] [] (Return (Some 39)) 1048576 None) ∷ []) 65 2 true 7 0) ∷ (proc ((block [] ((op (ConstOp 1) [] (Some 0)) ∷ (op (ConstOp 2) [] (Some 1)) ∷ (op ByteOp (1 ∷ []) None) ∷ (op (CallOp 0) (0 ∷ 1 ∷ []) (Some 2)) ∷ (op (ConstOp 0) [] (Some 3)) ∷ []) (Branch 0 2 3 1 2) 1048576 None) ∷ (block [] ((op (GlobalOp 8) [] (Some 4)) ∷ (op (ConstOp 1) [] (Some 5)) ∷ (op StoreOp (4 ∷ 5 ∷ []) None) ∷ []) (Jump 3 []) 524288 None) ∷ (block [] [] (Jump 3 []) 524288 None) ∷ (block [] [] (Return None) 1048576 None) ∷ []) 6 0 false 0 0) ∷ [])
@@ -232,7 +232,7 @@ registers_in_parts_constants b v = refl
 
 -- MODULE M; TYPE E = RECORD END; VAR g: INTEGER; PROCEDURE P(a: INTEGER); VAR e, f: E; x: INTEGER; BEGIN e := f; x := a; g := x END P; PROCEDURE Q(VAR e: E); BEGIN g := g + 1 END Q; PROCEDURE R; VAR e: E; BEGIN Q(e) END R; BEGIN P(3); R END M.
 abbrev empty_record : Outside Program
-empty_record b v = record { types = record { kinds = ((RecordKind 0) ∷ Int ∷ Nothing ∷ []); records = (record { «module» = 0; base = None; level = 0; fields = []; cells = 0 } ∷ []); signatures = [] }; modules = (record { name = []; objects = []; variables = (1 ∷ []); body = 3 } ∷ []); procedures = (record { «module» = 0; line = 1; is_body = false; formals = (record { mode = OfValue; variable = false; type_number = 1 } ∷ []); result = 2; locals = (0 ∷ 0 ∷ 1 ∷ []); texts = []; body = ((CopyRecord (Whole (Local 1) (RecordKind 0)) (Whole (Local 2) (RecordKind 0))) ∷ (Assign (Whole (Local 3) Int) (record { form = (Load (Whole (Local 0) Int)); kind = Int })) ∷ (Assign (Whole (Global 0 0) Int) (record { form = (Load (Whole (Local 3) Int)); kind = Int })) ∷ []); answer = None } ∷ record { «module» = 0; line = 1; is_body = false; formals = (record { mode = OfRecord; variable = true; type_number = 0 } ∷ []); result = 2; locals = []; texts = []; body = ((Assign (Whole (Global 0 0) Int) (record { form = (Chain' b (Load (Whole (Global 0 0) Int)) (vec1 v) (more_of-Link (Operate Add (Literal 1)) end_of-Link)); kind = Int })) ∷ []); answer = None } ∷ record { «module» = 0; line = 1; is_body = false; formals = []; result = 2; locals = (0 ∷ []); texts = []; body = ((Invoke (Direct' 1 (vec1 v) (more_of-Argument (ByRecord (Whole (Local 0) (RecordKind 0))) end_of-Argument))) ∷ []); answer = None } ∷ record { «module» = 0; line = 1; is_body = true; formals = []; result = 2; locals = []; texts = []; body = ((Invoke (Direct' 0 (vec1 v) (more_of-Argument (ByValue (Literal 3)) end_of-Argument))) ∷ (Invoke (Direct' 2 (vec0 v) end_of-Argument)) ∷ []); answer = None } ∷ []); imports_in = false }
+empty_record b v = record { types = record { kinds = ((RecordKind 0) ∷ Int ∷ Nothing ∷ []); records = (record { «module» = 0; base = None; level = 0; fields = []; cells = 0; extent = record { bytes = 0; wide = false } } ∷ []); signatures = [] }; modules = (record { name = []; objects = []; variables = (1 ∷ []); body = 3 } ∷ []); procedures = (record { «module» = 0; line = 1; is_body = false; formals = (record { mode = OfValue; variable = false; type_number = 1 } ∷ []); result = 2; locals = (0 ∷ 0 ∷ 1 ∷ []); texts = []; body = ((CopyRecord (Whole (Local 1) (RecordKind 0)) (Whole (Local 2) (RecordKind 0))) ∷ (Assign (Whole (Local 3) Int) (record { form = (Load (Whole (Local 0) Int)); kind = Int })) ∷ (Assign (Whole (Global 0 0) Int) (record { form = (Load (Whole (Local 3) Int)); kind = Int })) ∷ []); answer = None } ∷ record { «module» = 0; line = 1; is_body = false; formals = (record { mode = OfRecord; variable = true; type_number = 0 } ∷ []); result = 2; locals = []; texts = []; body = ((Assign (Whole (Global 0 0) Int) (record { form = (Chain' b (Load (Whole (Global 0 0) Int)) (vec1 v) (more_of-Link (Operate Add (Literal 1)) end_of-Link)); kind = Int })) ∷ []); answer = None } ∷ record { «module» = 0; line = 1; is_body = false; formals = []; result = 2; locals = (0 ∷ []); texts = []; body = ((Invoke (Direct' 1 (vec1 v) (more_of-Argument (ByRecord (Whole (Local 0) (RecordKind 0))) end_of-Argument))) ∷ []); answer = None } ∷ record { «module» = 0; line = 1; is_body = true; formals = []; result = 2; locals = []; texts = []; body = ((Invoke (Direct' 0 (vec1 v) (more_of-Argument (ByValue (Literal 3)) end_of-Argument))) ∷ (Invoke (Direct' 2 (vec0 v) end_of-Argument)) ∷ []); answer = None } ∷ []); imports_in = false }
 
 abbrev empty_record_procs : List Proc
 empty_record_procs = ((proc ((block (0 ∷ []) ((op (LocalOp 0) [] (Some 1)) ∷ (op (ConstOp 0) [] (Some 2)) ∷ (op ZeroOp (1 ∷ 2 ∷ []) None) ∷ (op (ConstOp 0) [] (Some 3)) ∷ (op (LocalOp 0) [] (Some 4)) ∷ (op (LocalOp 0) [] (Some 5)) ∷ (op (ConstOp 0) [] (Some 6)) ∷ (op CopyOp (4 ∷ 5 ∷ 6 ∷ []) None) ∷ (op (GlobalOp 8) [] (Some 7)) ∷ (op StoreOp (7 ∷ 0 ∷ []) None) ∷ []) (Return None) 1048576 None) ∷ []) 8 1 true 2 0) ∷ (proc ((block (0 ∷ 1 ∷ []) ((op (GlobalOp 8) [] (Some 2)) ∷ (op (GlobalOp 8) [] (Some 3)) ∷ (op LoadOp (3 ∷ []) (Some 4)) ∷ (op (ConstOp 1) [] (Some 5)) ∷ (op AddOp (4 ∷ 5 ∷ []) (Some 6)) ∷ (op StoreOp (2 ∷ 6 ∷ []) None) ∷ []) (Return None) 1048576 None) ∷ []) 7 2 true 0 0) ∷ (proc ((block [] ((op (LocalOp 0) [] (Some 0)) ∷ (op (ConstOp 0) [] (Some 1)) ∷ (op ZeroOp (0 ∷ 1 ∷ []) None) ∷ (op (LocalOp 0) [] (Some 2)) ∷ (op (GlobalOp 16) [] (Some 3)) ∷ (op (CallOp 1) (2 ∷ 3 ∷ []) None) ∷ []) (Return None) 1048576 None) ∷ []) 4 0 true 0 0) ∷ (proc ((block [] ((op (ConstOp 3) [] (Some 0)) ∷ (op (CallOp 0) (0 ∷ []) None) ∷ (op (CallOp 2) [] None) ∷ []) (Return None) 1048576 None) ∷ []) 1 0 false 0 0) ∷ [])
@@ -268,7 +268,7 @@ chains_constants b v = refl
 
 -- MODULE M; TYPE A = RECORD n: INTEGER; c: CHAR END; PA = POINTER TO A; B = RECORD (A) m: PA; d: CHAR END; PB = POINTER TO B; C = RECORD (B) k: ARRAY 3 OF PA END; PC = POINTER TO C; VAR p: PA; i: INTEGER; a: ARRAY 2 OF PA; PROCEDURE P(VAR r: A; q: PA): INTEGER; VAR l: PA; BEGIN l := q; l.n := 1; l(PB).m := l; l(PC).k[i](PB).m.n := l(PB)(PC).n; r(B).m := q(PB); r(B)(C).k[1] := NIL; IF l IS PC THEN l := l(PC).k[2] END; CASE l OF PC: l.k[0] := l | PB: l.m.c := ''x'' END; CASE r OF C: r.d := ''y'' | A: r.n := 4 END; RETURN l.n + r.n END P; BEGIN NEW(p); NEW(a[i]); a[1].n := P(a[0]^, p); p(PB).m(PB).m.n := 7 END M.
 abbrev guarded : Outside Program
-guarded b v = record { types = record { kinds = ((RecordKind 0) ∷ (RecordKind 1) ∷ (RecordKind 2) ∷ (PointerKind 0) ∷ Int ∷ (Array (Some 2) 3) ∷ Nothing ∷ Char ∷ (Array (Some 3) 3) ∷ []); records = (record { «module» = 0; base = None; level = 0; fields = (record { name = []; exported = false; type_number = 4 } ∷ record { name = []; exported = false; type_number = 7 } ∷ []); cells = 2 } ∷ record { «module» = 0; base = (Some 0); level = 1; fields = (record { name = []; exported = false; type_number = 3 } ∷ record { name = []; exported = false; type_number = 7 } ∷ []); cells = 4 } ∷ record { «module» = 0; base = (Some 1); level = 2; fields = (record { name = []; exported = false; type_number = 8 } ∷ []); cells = 7 } ∷ []); signatures = [] }; modules = (record { name = []; objects = []; variables = (3 ∷ 4 ∷ 5 ∷ []); body = 1 } ∷ []); procedures = (record { «module» = 0; line = 1; is_body = false; formals = (record { mode = OfRecord; variable = true; type_number = 0 } ∷ record { mode = OfValue; variable = false; type_number = 3 } ∷ []); result = 4; locals = (3 ∷ []); texts = []; body = ((Assign (Whole (Local 1) (PointerKind 0)) (record { form = (Load (Whole (Local 0) (PointerKind 0))); kind = (PointerKind 0) })) ∷ (Assign (Part' b (Local 1) Int (vec2 v) (more_of-Selector (Dereference []) (more_of-Selector (Field 0 0) end_of-Selector))) (record { form = (Literal 1); kind = Int })) ∷ (Assign (Part' b (Local 1) (PointerKind 0) (vec2 v) (more_of-Selector (Dereference (1 ∷ [])) (more_of-Selector (Field 1 0) end_of-Selector))) (record { form = (Load (Whole (Local 1) (PointerKind 0))); kind = (PointerKind 0) })) ∷ (Assign (Part' b (Local 1) Int (vec7 v) (more_of-Selector (Dereference (2 ∷ [])) (more_of-Selector (Field 2 0) (more_of-Selector (Index (Some 3) 3 (Load (Whole (Global 0 1) Int))) (more_of-Selector (Dereference (1 ∷ [])) (more_of-Selector (Field 1 0) (more_of-Selector (Dereference []) (more_of-Selector (Field 0 0) end_of-Selector)))))))) (record { form = (Load (Part' b (Local 1) Int (vec2 v) (more_of-Selector (Dereference (1 ∷ 2 ∷ [])) (more_of-Selector (Field 0 0) end_of-Selector)))); kind = Int })) ∷ (Assign (Part' b (Parameter 0) (PointerKind 0) (vec2 v) (more_of-Selector (Narrow 1) (more_of-Selector (Field 1 0) end_of-Selector))) (record { form = (Guard' b (Whole (Local 0) (PointerKind 0)) (1 ∷ [])); kind = (PointerKind 1) })) ∷ (Assign (Part' b (Parameter 0) (PointerKind 0) (vec4 v) (more_of-Selector (Narrow 1) (more_of-Selector (Narrow 2) (more_of-Selector (Field 2 0) (more_of-Selector (Index (Some 3) 3 (Literal 1)) end_of-Selector))))) (record { form = (Literal 0); kind = Nil })) ∷ (If' (vec1 v) (more_of-Branch (record { form = (IsPointer' b (Load (Whole (Local 1) (PointerKind 0))) 2); kind = BoolKind }) (vec1 v) (more_of-Stmt (Assign (Whole (Local 1) (PointerKind 0)) (record { form = (Load (Part' b (Local 1) (PointerKind 0) (vec3 v) (more_of-Selector (Dereference (2 ∷ [])) (more_of-Selector (Field 2 0) (more_of-Selector (Index (Some 3) 3 (Literal 2)) end_of-Selector))))); kind = (PointerKind 0) })) end_of-Stmt) end_of-Branch) (vec0 v) end_of-Stmt) ∷ (CasePointer' (record { form = (Load (Whole (Local 1) (PointerKind 0))); kind = (PointerKind 0) }) (vec2 v) (more_of-TypePart 2 (vec1 v) (more_of-Stmt (Assign (Part' b (Local 1) (PointerKind 0) (vec3 v) (more_of-Selector (Dereference (2 ∷ [])) (more_of-Selector (Field 2 0) (more_of-Selector (Index (Some 3) 3 (Literal 0)) end_of-Selector)))) (record { form = (Guard' b (Whole (Local 1) (PointerKind 0)) (2 ∷ [])); kind = (PointerKind 2) })) end_of-Stmt) (more_of-TypePart 1 (vec1 v) (more_of-Stmt (Assign (Part' b (Local 1) Char (vec4 v) (more_of-Selector (Dereference (1 ∷ [])) (more_of-Selector (Field 1 0) (more_of-Selector (Dereference []) (more_of-Selector (Field 0 1) end_of-Selector))))) (record { form = (Literal 120); kind = Char })) end_of-Stmt) end_of-TypePart))) ∷ (CaseParameter' (Whole (Parameter 0) (RecordKind 0)) (vec2 v) (more_of-TypePart 2 (vec1 v) (more_of-Stmt (Assign (Part' b (Parameter 0) Char (vec2 v) (more_of-Selector (Narrow 2) (more_of-Selector (Field 1 1) end_of-Selector))) (record { form = (Literal 121); kind = Char })) end_of-Stmt) (more_of-TypePart 0 (vec1 v) (more_of-Stmt (Assign (Part' b (Parameter 0) Int (vec2 v) (more_of-Selector (Narrow 0) (more_of-Selector (Field 0 0) end_of-Selector))) (record { form = (Literal 4); kind = Int })) end_of-Stmt) end_of-TypePart))) ∷ []); answer = (Some (record { form = (Chain' b (Load (Part' b (Local 1) Int (vec2 v) (more_of-Selector (Dereference []) (more_of-Selector (Field 0 0) end_of-Selector)))) (vec1 v) (more_of-Link (Operate Add (Load (Part' b (Parameter 0) Int (vec1 v) (more_of-Selector (Field 0 0) end_of-Selector)))) end_of-Link)); kind = Int })) } ∷ record { «module» = 0; line = 1; is_body = true; formals = []; result = 6; locals = []; texts = []; body = ((New (Whole (Global 0 0) (PointerKind 0))) ∷ (New (Part' b (Global 0 2) (PointerKind 0) (vec1 v) (more_of-Selector (Index (Some 2) 3 (Load (Whole (Global 0 1) Int))) end_of-Selector))) ∷ (Assign (Part' b (Global 0 2) Int (vec3 v) (more_of-Selector (Index (Some 2) 3 (Literal 1)) (more_of-Selector (Dereference []) (more_of-Selector (Field 0 0) end_of-Selector)))) (record { form = (Call' b (Direct' 0 (vec2 v) (more_of-Argument (ByRecord (Part' b (Global 0 2) (RecordKind 0) (vec2 v) (more_of-Selector (Index (Some 2) 3 (Literal 0)) (more_of-Selector (Dereference []) end_of-Selector)))) (more_of-Argument (ByValue (Load (Whole (Global 0 0) (PointerKind 0)))) end_of-Argument)))); kind = Int })) ∷ (Assign (Part' b (Global 0 0) Int (vec6 v) (more_of-Selector (Dereference (1 ∷ [])) (more_of-Selector (Field 1 0) (more_of-Selector (Dereference (1 ∷ [])) (more_of-Selector (Field 1 0) (more_of-Selector (Dereference []) (more_of-Selector (Field 0 0) end_of-Selector))))))) (record { form = (Literal 7); kind = Int })) ∷ []); answer = None } ∷ []); imports_in = false }
+guarded b v = record { types = record { kinds = ((RecordKind 0) ∷ (RecordKind 1) ∷ (RecordKind 2) ∷ (PointerKind 0) ∷ Int ∷ (Array (Some 2) 3) ∷ Nothing ∷ Char ∷ (Array (Some 3) 3) ∷ []); records = (record { «module» = 0; base = None; level = 0; fields = (record { name = []; exported = false; type_number = 4 } ∷ record { name = []; exported = false; type_number = 7 } ∷ []); cells = 2; extent = record { bytes = 16; wide = true } } ∷ record { «module» = 0; base = (Some 0); level = 1; fields = (record { name = []; exported = false; type_number = 3 } ∷ record { name = []; exported = false; type_number = 7 } ∷ []); cells = 4; extent = record { bytes = 32; wide = true } } ∷ record { «module» = 0; base = (Some 1); level = 2; fields = (record { name = []; exported = false; type_number = 8 } ∷ []); cells = 7; extent = record { bytes = 56; wide = true } } ∷ []); signatures = [] }; modules = (record { name = []; objects = []; variables = (3 ∷ 4 ∷ 5 ∷ []); body = 1 } ∷ []); procedures = (record { «module» = 0; line = 1; is_body = false; formals = (record { mode = OfRecord; variable = true; type_number = 0 } ∷ record { mode = OfValue; variable = false; type_number = 3 } ∷ []); result = 4; locals = (3 ∷ []); texts = []; body = ((Assign (Whole (Local 1) (PointerKind 0)) (record { form = (Load (Whole (Local 0) (PointerKind 0))); kind = (PointerKind 0) })) ∷ (Assign (Part' b (Local 1) Int (vec2 v) (more_of-Selector (Dereference []) (more_of-Selector (Field 0 0) end_of-Selector))) (record { form = (Literal 1); kind = Int })) ∷ (Assign (Part' b (Local 1) (PointerKind 0) (vec2 v) (more_of-Selector (Dereference (1 ∷ [])) (more_of-Selector (Field 1 0) end_of-Selector))) (record { form = (Load (Whole (Local 1) (PointerKind 0))); kind = (PointerKind 0) })) ∷ (Assign (Part' b (Local 1) Int (vec7 v) (more_of-Selector (Dereference (2 ∷ [])) (more_of-Selector (Field 2 0) (more_of-Selector (Index (Some 3) 3 (Load (Whole (Global 0 1) Int))) (more_of-Selector (Dereference (1 ∷ [])) (more_of-Selector (Field 1 0) (more_of-Selector (Dereference []) (more_of-Selector (Field 0 0) end_of-Selector)))))))) (record { form = (Load (Part' b (Local 1) Int (vec2 v) (more_of-Selector (Dereference (1 ∷ 2 ∷ [])) (more_of-Selector (Field 0 0) end_of-Selector)))); kind = Int })) ∷ (Assign (Part' b (Parameter 0) (PointerKind 0) (vec2 v) (more_of-Selector (Narrow 1) (more_of-Selector (Field 1 0) end_of-Selector))) (record { form = (Guard' b (Whole (Local 0) (PointerKind 0)) (1 ∷ [])); kind = (PointerKind 1) })) ∷ (Assign (Part' b (Parameter 0) (PointerKind 0) (vec4 v) (more_of-Selector (Narrow 1) (more_of-Selector (Narrow 2) (more_of-Selector (Field 2 0) (more_of-Selector (Index (Some 3) 3 (Literal 1)) end_of-Selector))))) (record { form = (Literal 0); kind = Nil })) ∷ (If' (vec1 v) (more_of-Branch (record { form = (IsPointer' b (Load (Whole (Local 1) (PointerKind 0))) 2); kind = BoolKind }) (vec1 v) (more_of-Stmt (Assign (Whole (Local 1) (PointerKind 0)) (record { form = (Load (Part' b (Local 1) (PointerKind 0) (vec3 v) (more_of-Selector (Dereference (2 ∷ [])) (more_of-Selector (Field 2 0) (more_of-Selector (Index (Some 3) 3 (Literal 2)) end_of-Selector))))); kind = (PointerKind 0) })) end_of-Stmt) end_of-Branch) (vec0 v) end_of-Stmt) ∷ (CasePointer' (record { form = (Load (Whole (Local 1) (PointerKind 0))); kind = (PointerKind 0) }) (vec2 v) (more_of-TypePart 2 (vec1 v) (more_of-Stmt (Assign (Part' b (Local 1) (PointerKind 0) (vec3 v) (more_of-Selector (Dereference (2 ∷ [])) (more_of-Selector (Field 2 0) (more_of-Selector (Index (Some 3) 3 (Literal 0)) end_of-Selector)))) (record { form = (Guard' b (Whole (Local 1) (PointerKind 0)) (2 ∷ [])); kind = (PointerKind 2) })) end_of-Stmt) (more_of-TypePart 1 (vec1 v) (more_of-Stmt (Assign (Part' b (Local 1) Char (vec4 v) (more_of-Selector (Dereference (1 ∷ [])) (more_of-Selector (Field 1 0) (more_of-Selector (Dereference []) (more_of-Selector (Field 0 1) end_of-Selector))))) (record { form = (Literal 120); kind = Char })) end_of-Stmt) end_of-TypePart))) ∷ (CaseParameter' (Whole (Parameter 0) (RecordKind 0)) (vec2 v) (more_of-TypePart 2 (vec1 v) (more_of-Stmt (Assign (Part' b (Parameter 0) Char (vec2 v) (more_of-Selector (Narrow 2) (more_of-Selector (Field 1 1) end_of-Selector))) (record { form = (Literal 121); kind = Char })) end_of-Stmt) (more_of-TypePart 0 (vec1 v) (more_of-Stmt (Assign (Part' b (Parameter 0) Int (vec2 v) (more_of-Selector (Narrow 0) (more_of-Selector (Field 0 0) end_of-Selector))) (record { form = (Literal 4); kind = Int })) end_of-Stmt) end_of-TypePart))) ∷ []); answer = (Some (record { form = (Chain' b (Load (Part' b (Local 1) Int (vec2 v) (more_of-Selector (Dereference []) (more_of-Selector (Field 0 0) end_of-Selector)))) (vec1 v) (more_of-Link (Operate Add (Load (Part' b (Parameter 0) Int (vec1 v) (more_of-Selector (Field 0 0) end_of-Selector)))) end_of-Link)); kind = Int })) } ∷ record { «module» = 0; line = 1; is_body = true; formals = []; result = 6; locals = []; texts = []; body = ((New (Whole (Global 0 0) (PointerKind 0))) ∷ (New (Part' b (Global 0 2) (PointerKind 0) (vec1 v) (more_of-Selector (Index (Some 2) 3 (Load (Whole (Global 0 1) Int))) end_of-Selector))) ∷ (Assign (Part' b (Global 0 2) Int (vec3 v) (more_of-Selector (Index (Some 2) 3 (Literal 1)) (more_of-Selector (Dereference []) (more_of-Selector (Field 0 0) end_of-Selector)))) (record { form = (Call' b (Direct' 0 (vec2 v) (more_of-Argument (ByRecord (Part' b (Global 0 2) (RecordKind 0) (vec2 v) (more_of-Selector (Index (Some 2) 3 (Literal 0)) (more_of-Selector (Dereference []) end_of-Selector)))) (more_of-Argument (ByValue (Load (Whole (Global 0 0) (PointerKind 0)))) end_of-Argument)))); kind = Int })) ∷ (Assign (Part' b (Global 0 0) Int (vec6 v) (more_of-Selector (Dereference (1 ∷ [])) (more_of-Selector (Field 1 0) (more_of-Selector (Dereference (1 ∷ [])) (more_of-Selector (Field 1 0) (more_of-Selector (Dereference []) (more_of-Selector (Field 0 0) end_of-Selector))))))) (record { form = (Literal 7); kind = Int })) ∷ []); answer = None } ∷ []); imports_in = false }
 
 abbrev guarded_procs : List Proc
 guarded_procs = ((proc ((block (0 ∷ 1 ∷ 2 ∷ []) ((op (ConstOp 0) [] (Some 3)) ∷ (op NotNilOp (2 ∷ []) None) ∷ (op (PlusOp 8) (2 ∷ []) (Some 4)) ∷ (op (ConstOp 1) [] (Some 5)) ∷ (op StoreOp (4 ∷ 5 ∷ []) None) ∷ (op (GlobalOp 168) [] (Some 6)) ∷ (op (GuardPtrOp 1) (2 ∷ 6 ∷ []) None) ∷ (op NotNilOp (2 ∷ []) None) ∷ (op (PlusOp 24) (2 ∷ []) (Some 7)) ∷ (op StoreOp (7 ∷ 2 ∷ []) None) ∷ (op (GlobalOp 296) [] (Some 8)) ∷ (op (GuardPtrOp 2) (2 ∷ 8 ∷ []) None) ∷ (op NotNilOp (2 ∷ []) None) ∷ (op (PlusOp 40) (2 ∷ []) (Some 9)) ∷ (op (GlobalOp 16) [] (Some 10)) ∷ (op LoadOp (10 ∷ []) (Some 11)) ∷ (op (ConstOp 3) [] (Some 12)) ∷ (op BelowOp (11 ∷ 12 ∷ []) None) ∷ (op (ConstOp 8) [] (Some 13)) ∷ (op MulAddOp (11 ∷ 13 ∷ 9 ∷ []) (Some 14)) ∷ (op LoadOp (14 ∷ []) (Some 15)) ∷ (op (GlobalOp 168) [] (Some 16)) ∷ (op (GuardPtrOp 1) (15 ∷ 16 ∷ []) None) ∷ (op NotNilOp (15 ∷ []) None) ∷ (op (PlusOp 24) (15 ∷ []) (Some 17)) ∷ (op LoadOp (17 ∷ []) (Some 18)) ∷ (op NotNilOp (18 ∷ []) None) ∷ (op (PlusOp 8) (18 ∷ []) (Some 19)) ∷ (op (GlobalOp 168) [] (Some 20)) ∷ (op (GuardPtrOp 1) (2 ∷ 20 ∷ []) None) ∷ (op (GlobalOp 296) [] (Some 21)) ∷ (op (GuardPtrOp 2) (2 ∷ 21 ∷ []) None) ∷ (op NotNilOp (2 ∷ []) None) ∷ (op (PlusOp 8) (2 ∷ []) (Some 22)) ∷ (op LoadOp (22 ∷ []) (Some 23)) ∷ (op StoreOp (19 ∷ 23 ∷ []) None) ∷ (op (GlobalOp 168) [] (Some 24)) ∷ (op (GuardTagOp 1) (1 ∷ 24 ∷ []) None) ∷ (op (PlusOp 16) (0 ∷ []) (Some 25)) ∷ (op (GlobalOp 168) [] (Some 26)) ∷ (op (GuardPtrOp 1) (2 ∷ 26 ∷ []) None) ∷ (op StoreOp (25 ∷ 2 ∷ []) None) ∷ (op (GlobalOp 168) [] (Some 27)) ∷ (op (GuardTagOp 1) (1 ∷ 27 ∷ []) None) ∷ (op (GlobalOp 296) [] (Some 28)) ∷ (op (GuardTagOp 2) (1 ∷ 28 ∷ []) None) ∷ (op (PlusOp 32) (0 ∷ []) (Some 29)) ∷ (op (ConstOp 1) [] (Some 30)) ∷ (op (ConstOp 3) [] (Some 31)) ∷ (op BelowOp (30 ∷ 31 ∷ []) None) ∷ (op (ConstOp 8) [] (Some 32)) ∷ (op MulAddOp (30 ∷ 32 ∷ 29 ∷ []) (Some 33)) ∷ (op (ConstOp 0) [] (Some 34)) ∷ (op StoreOp (33 ∷ 34 ∷ []) None) ∷ (op (GlobalOp 296) [] (Some 35)) ∷ (op (IsPtrOp 2) (2 ∷ 35 ∷ []) (Some 36)) ∷ []) (Nonzero 36 1 2) 1048576 None) ∷ (block [] ((op (GlobalOp 296) [] (Some 37)) ∷ (op (GuardPtrOp 2) (2 ∷ 37 ∷ []) None) ∷ (op NotNilOp (2 ∷ []) None) ∷ (op (PlusOp 40) (2 ∷ []) (Some 38)) ∷ (op (ConstOp 2) [] (Some 39)) ∷ (op (ConstOp 3) [] (Some 40)) ∷ (op BelowOp (39 ∷ 40 ∷ []) None) ∷ (op (ConstOp 8) [] (Some 41)) ∷ (op MulAddOp (39 ∷ 41 ∷ 38 ∷ []) (Some 42)) ∷ (op LoadOp (42 ∷ []) (Some 43)) ∷ []) (Jump 3 (43 ∷ [])) 524288 None) ∷ (block [] [] (Jump 3 (2 ∷ [])) 524288 None) ∷ (block (44 ∷ []) ((op (GlobalOp 296) [] (Some 45)) ∷ (op (IsPtrOp 2) (44 ∷ 45 ∷ []) (Some 46)) ∷ []) (Nonzero 46 6 4) 1048576 None) ∷ (block [] ((op (GlobalOp 168) [] (Some 47)) ∷ (op (IsPtrOp 1) (44 ∷ 47 ∷ []) (Some 48)) ∷ []) (Nonzero 48 7 5) 1048576 None) ∷ (block [] [] (Jump 8 []) 524288 None) ∷ (block [] ((op (GlobalOp 296) [] (Some 49)) ∷ (op (GuardPtrOp 2) (44 ∷ 49 ∷ []) None) ∷ (op NotNilOp (44 ∷ []) None) ∷ (op (PlusOp 40) (44 ∷ []) (Some 50)) ∷ (op (ConstOp 0) [] (Some 51)) ∷ (op (ConstOp 3) [] (Some 52)) ∷ (op BelowOp (51 ∷ 52 ∷ []) None) ∷ (op (ConstOp 8) [] (Some 53)) ∷ (op MulAddOp (51 ∷ 53 ∷ 50 ∷ []) (Some 54)) ∷ (op (GlobalOp 296) [] (Some 55)) ∷ (op (GuardPtrOp 2) (44 ∷ 55 ∷ []) None) ∷ (op StoreOp (54 ∷ 44 ∷ []) None) ∷ []) (Jump 8 []) 524288 None) ∷ (block [] ((op (GlobalOp 168) [] (Some 56)) ∷ (op (GuardPtrOp 1) (44 ∷ 56 ∷ []) None) ∷ (op NotNilOp (44 ∷ []) None) ∷ (op (PlusOp 24) (44 ∷ []) (Some 57)) ∷ (op LoadOp (57 ∷ []) (Some 58)) ∷ (op NotNilOp (58 ∷ []) None) ∷ (op (PlusOp 16) (58 ∷ []) (Some 59)) ∷ (op (ConstOp 120) [] (Some 60)) ∷ (op StoreOp (59 ∷ 60 ∷ []) None) ∷ []) (Jump 8 []) 524288 None) ∷ (block [] ((op (GlobalOp 296) [] (Some 61)) ∷ (op (IsTagOp 2) (1 ∷ 61 ∷ []) (Some 62)) ∷ []) (Nonzero 62 11 9) 1048576 None) ∷ (block [] ((op (GlobalOp 40) [] (Some 63)) ∷ (op (IsTagOp 0) (1 ∷ 63 ∷ []) (Some 64)) ∷ []) (Nonzero 64 12 10) 1048576 None) ∷ (block [] [] (Jump 13 []) 524288 None) ∷ (block [] ((op (GlobalOp 296) [] (Some 65)) ∷ (op (GuardTagOp 2) (1 ∷ 65 ∷ []) None) ∷ (op (PlusOp 24) (0 ∷ []) (Some 66)) ∷ (op (ConstOp 121) [] (Some 67)) ∷ (op StoreOp (66 ∷ 67 ∷ []) None) ∷ []) (Jump 13 []) 524288 None) ∷ (block [] ((op (GlobalOp 40) [] (Some 68)) ∷ (op (GuardTagOp 0) (1 ∷ 68 ∷ []) None) ∷ (op (ConstOp 4) [] (Some 69)) ∷ (op StoreOp (0 ∷ 69 ∷ []) None) ∷ []) (Jump 13 []) 524288 None) ∷ (block [] ((op NotNilOp (44 ∷ []) None) ∷ (op (PlusOp 8) (44 ∷ []) (Some 70)) ∷ (op LoadOp (70 ∷ []) (Some 71)) ∷ (op LoadOp (0 ∷ []) (Some 72)) ∷ (op AddOp (71 ∷ 72 ∷ []) (Some 73)) ∷ []) (Return (Some 73)) 1048576 None) ∷ []) 74 3 true 2 0) ∷ (proc ((block [] ((op (GlobalOp 8) [] (Some 0)) ∷ (op (ConstOp 3) [] (Some 1)) ∷ (op (ConstOp 24) [] (Some 2)) ∷ (op (GlobalOp 40) [] (Some 3)) ∷ (op NewOp (1 ∷ 2 ∷ 3 ∷ []) (Some 4)) ∷ (op StoreOp (0 ∷ 4 ∷ []) None) ∷ (op (GlobalOp 24) [] (Some 5)) ∷ (op (GlobalOp 16) [] (Some 6)) ∷ (op LoadOp (6 ∷ []) (Some 7)) ∷ (op (ConstOp 2) [] (Some 8)) ∷ (op BelowOp (7 ∷ 8 ∷ []) None) ∷ (op (ConstOp 8) [] (Some 9)) ∷ (op MulAddOp (7 ∷ 9 ∷ 5 ∷ []) (Some 10)) ∷ (op (ConstOp 3) [] (Some 11)) ∷ (op (ConstOp 24) [] (Some 12)) ∷ (op (GlobalOp 40) [] (Some 13)) ∷ (op NewOp (11 ∷ 12 ∷ 13 ∷ []) (Some 14)) ∷ (op StoreOp (10 ∷ 14 ∷ []) None) ∷ (op (GlobalOp 24) [] (Some 15)) ∷ (op (ConstOp 1) [] (Some 16)) ∷ (op (ConstOp 2) [] (Some 17)) ∷ (op BelowOp (16 ∷ 17 ∷ []) None) ∷ (op (ConstOp 8) [] (Some 18)) ∷ (op MulAddOp (16 ∷ 18 ∷ 15 ∷ []) (Some 19)) ∷ (op LoadOp (19 ∷ []) (Some 20)) ∷ (op NotNilOp (20 ∷ []) None) ∷ (op (PlusOp 8) (20 ∷ []) (Some 21)) ∷ (op (GlobalOp 24) [] (Some 22)) ∷ (op (ConstOp 0) [] (Some 23)) ∷ (op (ConstOp 2) [] (Some 24)) ∷ (op BelowOp (23 ∷ 24 ∷ []) None) ∷ (op (ConstOp 8) [] (Some 25)) ∷ (op MulAddOp (23 ∷ 25 ∷ 22 ∷ []) (Some 26)) ∷ (op LoadOp (26 ∷ []) (Some 27)) ∷ (op NotNilOp (27 ∷ []) None) ∷ (op (PlusOp 8) (27 ∷ []) (Some 28)) ∷ (op LoadOp (27 ∷ []) (Some 29)) ∷ (op (GlobalOp 8) [] (Some 30)) ∷ (op LoadOp (30 ∷ []) (Some 31)) ∷ (op (CallOp 0) (28 ∷ 29 ∷ 31 ∷ []) (Some 32)) ∷ (op StoreOp (21 ∷ 32 ∷ []) None) ∷ (op (GlobalOp 8) [] (Some 33)) ∷ (op LoadOp (33 ∷ []) (Some 34)) ∷ (op (GlobalOp 168) [] (Some 35)) ∷ (op (GuardPtrOp 1) (34 ∷ 35 ∷ []) None) ∷ (op NotNilOp (34 ∷ []) None) ∷ (op (PlusOp 24) (34 ∷ []) (Some 36)) ∷ (op LoadOp (36 ∷ []) (Some 37)) ∷ (op (GlobalOp 168) [] (Some 38)) ∷ (op (GuardPtrOp 1) (37 ∷ 38 ∷ []) None) ∷ (op NotNilOp (37 ∷ []) None) ∷ (op (PlusOp 24) (37 ∷ []) (Some 39)) ∷ (op LoadOp (39 ∷ []) (Some 40)) ∷ (op NotNilOp (40 ∷ []) None) ∷ (op (PlusOp 8) (40 ∷ []) (Some 41)) ∷ (op (ConstOp 7) [] (Some 42)) ∷ (op StoreOp (41 ∷ 42 ∷ []) None) ∷ []) (Return None) 1048576 None) ∷ []) 43 0 false 0 0) ∷ [])

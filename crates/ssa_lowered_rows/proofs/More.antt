@@ -82,7 +82,7 @@ factorial_low b v = refl
 
 -- MODULE X; IMPORT Out; TYPE P = RECORD x, y: INTEGER END; Q = RECORD (P) z: INTEGER END; VAR p: P; q: Q; BEGIN q.x := 1; q.y := 2; q.z := 3; p := q; Out.Int(p.x, 0); Out.Int(p.y, 0); Out.Int(q.z, 0) END X.
 abbrev extensioncopy : Outside Program
-extensioncopy b v = record { types = record { kinds = ((RecordKind 0) ∷ (RecordKind 1) ∷ Nothing ∷ Int ∷ []); records = (record { «module» = 0; base = None; level = 0; fields = (record { name = []; exported = false; type_number = 3 } ∷ record { name = []; exported = false; type_number = 3 } ∷ []); cells = 2 } ∷ record { «module» = 0; base = (Some 0); level = 1; fields = (record { name = []; exported = false; type_number = 3 } ∷ []); cells = 3 } ∷ []); signatures = [] }; modules = (record { name = []; objects = []; variables = (0 ∷ 1 ∷ []); body = 0 } ∷ []); procedures = (record { «module» = 0; line = 1; is_body = true; formals = []; result = 2; locals = []; texts = []; body = ((Assign (Part' b (Global 0 1) Int (vec1 v) (more_of-Selector (Field 0 0) end_of-Selector)) (record { form = (Literal 1); kind = Int })) ∷ (Assign (Part' b (Global 0 1) Int (vec1 v) (more_of-Selector (Field 0 1) end_of-Selector)) (record { form = (Literal 2); kind = Int })) ∷ (Assign (Part' b (Global 0 1) Int (vec1 v) (more_of-Selector (Field 1 0) end_of-Selector)) (record { form = (Literal 3); kind = Int })) ∷ (CopyRecord (Whole (Global 0 0) (RecordKind 0)) (Whole (Global 0 1) (RecordKind 1))) ∷ (OutInt (record { form = (Load (Part' b (Global 0 0) Int (vec1 v) (more_of-Selector (Field 0 0) end_of-Selector))); kind = Int }) (record { form = (Literal 0); kind = Int })) ∷ (OutInt (record { form = (Load (Part' b (Global 0 0) Int (vec1 v) (more_of-Selector (Field 0 1) end_of-Selector))); kind = Int }) (record { form = (Literal 0); kind = Int })) ∷ (OutInt (record { form = (Load (Part' b (Global 0 1) Int (vec1 v) (more_of-Selector (Field 1 0) end_of-Selector))); kind = Int }) (record { form = (Literal 0); kind = Int })) ∷ []); answer = None } ∷ []); imports_in = false }
+extensioncopy b v = record { types = record { kinds = ((RecordKind 0) ∷ (RecordKind 1) ∷ Nothing ∷ Int ∷ []); records = (record { «module» = 0; base = None; level = 0; fields = (record { name = []; exported = false; type_number = 3 } ∷ record { name = []; exported = false; type_number = 3 } ∷ []); cells = 2; extent = record { bytes = 16; wide = true } } ∷ record { «module» = 0; base = (Some 0); level = 1; fields = (record { name = []; exported = false; type_number = 3 } ∷ []); cells = 3; extent = record { bytes = 24; wide = true } } ∷ []); signatures = [] }; modules = (record { name = []; objects = []; variables = (0 ∷ 1 ∷ []); body = 0 } ∷ []); procedures = (record { «module» = 0; line = 1; is_body = true; formals = []; result = 2; locals = []; texts = []; body = ((Assign (Part' b (Global 0 1) Int (vec1 v) (more_of-Selector (Field 0 0) end_of-Selector)) (record { form = (Literal 1); kind = Int })) ∷ (Assign (Part' b (Global 0 1) Int (vec1 v) (more_of-Selector (Field 0 1) end_of-Selector)) (record { form = (Literal 2); kind = Int })) ∷ (Assign (Part' b (Global 0 1) Int (vec1 v) (more_of-Selector (Field 1 0) end_of-Selector)) (record { form = (Literal 3); kind = Int })) ∷ (CopyRecord (Whole (Global 0 0) (RecordKind 0)) (Whole (Global 0 1) (RecordKind 1))) ∷ (OutInt (record { form = (Load (Part' b (Global 0 0) Int (vec1 v) (more_of-Selector (Field 0 0) end_of-Selector))); kind = Int }) (record { form = (Literal 0); kind = Int })) ∷ (OutInt (record { form = (Load (Part' b (Global 0 0) Int (vec1 v) (more_of-Selector (Field 0 1) end_of-Selector))); kind = Int }) (record { form = (Literal 0); kind = Int })) ∷ (OutInt (record { form = (Load (Part' b (Global 0 1) Int (vec1 v) (more_of-Selector (Field 1 0) end_of-Selector))); kind = Int }) (record { form = (Literal 0); kind = Int })) ∷ []); answer = None } ∷ []); imports_in = false }
 
 abbrev extensioncopy_procs : List Proc
 extensioncopy_procs = ((proc ((block [] ((op (GlobalOp 24) [] (Some 0)) ∷ (op (ConstOp 1) [] (Some 1)) ∷ (op StoreOp (0 ∷ 1 ∷ []) None) ∷ (op (GlobalOp 24) [] (Some 2)) ∷ (op (PlusOp 8) (2 ∷ []) (Some 3)) ∷ (op (ConstOp 2) [] (Some 4)) ∷ (op StoreOp (3 ∷ 4 ∷ []) None) ∷ (op (GlobalOp 24) [] (Some 5)) ∷ (op (PlusOp 16) (5 ∷ []) (Some 6)) ∷ (op (ConstOp 3) [] (Some 7)) ∷ (op StoreOp (6 ∷ 7 ∷ []) None) ∷ (op (GlobalOp 8) [] (Some 8)) ∷ (op (GlobalOp 24) [] (Some 9)) ∷ (op (ConstOp 16) [] (Some 10)) ∷ (op CopyOp (8 ∷ 9 ∷ 10 ∷ []) None) ∷ (op (GlobalOp 8) [] (Some 11)) ∷ (op LoadOp (11 ∷ []) (Some 12)) ∷ (op (ConstOp 0) [] (Some 13)) ∷ (op (SvcOp 2) (12 ∷ 13 ∷ []) None) ∷ (op (GlobalOp 8) [] (Some 14)) ∷ (op (PlusOp 8) (14 ∷ []) (Some 15)) ∷ (op LoadOp (15 ∷ []) (Some 16)) ∷ (op (ConstOp 0) [] (Some 17)) ∷ (op (SvcOp 2) (16 ∷ 17 ∷ []) None) ∷ (op (GlobalOp 24) [] (Some 18)) ∷ (op (PlusOp 16) (18 ∷ []) (Some 19)) ∷ (op LoadOp (19 ∷ []) (Some 20)) ∷ (op (ConstOp 0) [] (Some 21)) ∷ (op (SvcOp 2) (20 ∷ 21 ∷ []) None) ∷ []) (Return None) 1048576 None) ∷ []) 22 0 false 0 0) ∷ [])
@@ -138,7 +138,7 @@ texts_constants b v = refl
 
 -- MODULE T; IMPORT Out; TYPE B = RECORD x: INTEGER END; E = RECORD (B) y: INTEGER END; PE = POINTER TO E; VAR b: B; e: E; p: PE; PROCEDURE Kind(VAR r: B); BEGIN CASE r OF E: Out.Char(''E''); r.y := 5; r.x := 6 | B: Out.Char(''B'') END; IF r IS E THEN Out.Int(r(E).y, 0) END END Kind; PROCEDURE Pass(VAR r: B); BEGIN Kind(r) END Pass; BEGIN Kind(b); Kind(e); Pass(e); NEW(p); Pass(p^); Out.Int(p.x, 0); Pass(b) END T.
 abbrev tags : Outside Program
-tags b v = record { types = record { kinds = ((RecordKind 0) ∷ (RecordKind 1) ∷ (PointerKind 1) ∷ Nothing ∷ Int ∷ []); records = (record { «module» = 0; base = None; level = 0; fields = (record { name = []; exported = false; type_number = 4 } ∷ []); cells = 1 } ∷ record { «module» = 0; base = (Some 0); level = 1; fields = (record { name = []; exported = false; type_number = 4 } ∷ []); cells = 2 } ∷ []); signatures = [] }; modules = (record { name = []; objects = []; variables = (0 ∷ 1 ∷ 2 ∷ []); body = 2 } ∷ []); procedures = (record { «module» = 0; line = 1; is_body = false; formals = (record { mode = OfRecord; variable = true; type_number = 0 } ∷ []); result = 3; locals = []; texts = []; body = ((CaseParameter' (Whole (Parameter 0) (RecordKind 0)) (vec2 v) (more_of-TypePart 1 (vec3 v) (more_of-Stmt (OutChar (record { form = (Literal 69); kind = Char })) (more_of-Stmt (Assign (Part' b (Parameter 0) Int (vec2 v) (more_of-Selector (Narrow 1) (more_of-Selector (Field 1 0) end_of-Selector))) (record { form = (Literal 5); kind = Int })) (more_of-Stmt (Assign (Part' b (Parameter 0) Int (vec2 v) (more_of-Selector (Narrow 1) (more_of-Selector (Field 0 0) end_of-Selector))) (record { form = (Literal 6); kind = Int })) end_of-Stmt))) (more_of-TypePart 0 (vec1 v) (more_of-Stmt (OutChar (record { form = (Literal 66); kind = Char })) end_of-Stmt) end_of-TypePart))) ∷ (If' (vec1 v) (more_of-Branch (record { form = (IsParameter (Whole (Parameter 0) (RecordKind 0)) 1); kind = BoolKind }) (vec1 v) (more_of-Stmt (OutInt (record { form = (Load (Part' b (Parameter 0) Int (vec2 v) (more_of-Selector (Narrow 1) (more_of-Selector (Field 1 0) end_of-Selector)))); kind = Int }) (record { form = (Literal 0); kind = Int })) end_of-Stmt) end_of-Branch) (vec0 v) end_of-Stmt) ∷ []); answer = None } ∷ record { «module» = 0; line = 1; is_body = false; formals = (record { mode = OfRecord; variable = true; type_number = 0 } ∷ []); result = 3; locals = []; texts = []; body = ((Invoke (Direct' 0 (vec1 v) (more_of-Argument (ByRecord (Whole (Parameter 0) (RecordKind 0))) end_of-Argument))) ∷ []); answer = None } ∷ record { «module» = 0; line = 1; is_body = true; formals = []; result = 3; locals = []; texts = []; body = ((Invoke (Direct' 0 (vec1 v) (more_of-Argument (ByRecord (Whole (Global 0 0) (RecordKind 0))) end_of-Argument))) ∷ (Invoke (Direct' 0 (vec1 v) (more_of-Argument (ByRecord (Whole (Global 0 1) (RecordKind 1))) end_of-Argument))) ∷ (Invoke (Direct' 1 (vec1 v) (more_of-Argument (ByRecord (Whole (Global 0 1) (RecordKind 1))) end_of-Argument))) ∷ (New (Whole (Global 0 2) (PointerKind 1))) ∷ (Invoke (Direct' 1 (vec1 v) (more_of-Argument (ByRecord (Part' b (Global 0 2) (RecordKind 1) (vec1 v) (more_of-Selector (Dereference []) end_of-Selector))) end_of-Argument))) ∷ (OutInt (record { form = (Load (Part' b (Global 0 2) Int (vec2 v) (more_of-Selector (Dereference []) (more_of-Selector (Field 0 0) end_of-Selector)))); kind = Int }) (record { form = (Literal 0); kind = Int })) ∷ (Invoke (Direct' 1 (vec1 v) (more_of-Argument (ByRecord (Whole (Global 0 0) (RecordKind 0))) end_of-Argument))) ∷ []); answer = None } ∷ []); imports_in = false }
+tags b v = record { types = record { kinds = ((RecordKind 0) ∷ (RecordKind 1) ∷ (PointerKind 1) ∷ Nothing ∷ Int ∷ []); records = (record { «module» = 0; base = None; level = 0; fields = (record { name = []; exported = false; type_number = 4 } ∷ []); cells = 1; extent = record { bytes = 8; wide = true } } ∷ record { «module» = 0; base = (Some 0); level = 1; fields = (record { name = []; exported = false; type_number = 4 } ∷ []); cells = 2; extent = record { bytes = 16; wide = true } } ∷ []); signatures = [] }; modules = (record { name = []; objects = []; variables = (0 ∷ 1 ∷ 2 ∷ []); body = 2 } ∷ []); procedures = (record { «module» = 0; line = 1; is_body = false; formals = (record { mode = OfRecord; variable = true; type_number = 0 } ∷ []); result = 3; locals = []; texts = []; body = ((CaseParameter' (Whole (Parameter 0) (RecordKind 0)) (vec2 v) (more_of-TypePart 1 (vec3 v) (more_of-Stmt (OutChar (record { form = (Literal 69); kind = Char })) (more_of-Stmt (Assign (Part' b (Parameter 0) Int (vec2 v) (more_of-Selector (Narrow 1) (more_of-Selector (Field 1 0) end_of-Selector))) (record { form = (Literal 5); kind = Int })) (more_of-Stmt (Assign (Part' b (Parameter 0) Int (vec2 v) (more_of-Selector (Narrow 1) (more_of-Selector (Field 0 0) end_of-Selector))) (record { form = (Literal 6); kind = Int })) end_of-Stmt))) (more_of-TypePart 0 (vec1 v) (more_of-Stmt (OutChar (record { form = (Literal 66); kind = Char })) end_of-Stmt) end_of-TypePart))) ∷ (If' (vec1 v) (more_of-Branch (record { form = (IsParameter (Whole (Parameter 0) (RecordKind 0)) 1); kind = BoolKind }) (vec1 v) (more_of-Stmt (OutInt (record { form = (Load (Part' b (Parameter 0) Int (vec2 v) (more_of-Selector (Narrow 1) (more_of-Selector (Field 1 0) end_of-Selector)))); kind = Int }) (record { form = (Literal 0); kind = Int })) end_of-Stmt) end_of-Branch) (vec0 v) end_of-Stmt) ∷ []); answer = None } ∷ record { «module» = 0; line = 1; is_body = false; formals = (record { mode = OfRecord; variable = true; type_number = 0 } ∷ []); result = 3; locals = []; texts = []; body = ((Invoke (Direct' 0 (vec1 v) (more_of-Argument (ByRecord (Whole (Parameter 0) (RecordKind 0))) end_of-Argument))) ∷ []); answer = None } ∷ record { «module» = 0; line = 1; is_body = true; formals = []; result = 3; locals = []; texts = []; body = ((Invoke (Direct' 0 (vec1 v) (more_of-Argument (ByRecord (Whole (Global 0 0) (RecordKind 0))) end_of-Argument))) ∷ (Invoke (Direct' 0 (vec1 v) (more_of-Argument (ByRecord (Whole (Global 0 1) (RecordKind 1))) end_of-Argument))) ∷ (Invoke (Direct' 1 (vec1 v) (more_of-Argument (ByRecord (Whole (Global 0 1) (RecordKind 1))) end_of-Argument))) ∷ (New (Whole (Global 0 2) (PointerKind 1))) ∷ (Invoke (Direct' 1 (vec1 v) (more_of-Argument (ByRecord (Part' b (Global 0 2) (RecordKind 1) (vec1 v) (more_of-Selector (Dereference []) end_of-Selector))) end_of-Argument))) ∷ (OutInt (record { form = (Load (Part' b (Global 0 2) Int (vec2 v) (more_of-Selector (Dereference []) (more_of-Selector (Field 0 0) end_of-Selector)))); kind = Int }) (record { form = (Literal 0); kind = Int })) ∷ (Invoke (Direct' 1 (vec1 v) (more_of-Argument (ByRecord (Whole (Global 0 0) (RecordKind 0))) end_of-Argument))) ∷ []); answer = None } ∷ []); imports_in = false }
 
 abbrev tags_procs : List Proc
 tags_procs = ((proc ((block (0 ∷ 1 ∷ []) ((op (GlobalOp 168) [] (Some 2)) ∷ (op (IsTagOp 1) (1 ∷ 2 ∷ []) (Some 3)) ∷ []) (Nonzero 3 3 1) 1048576 None) ∷ (block [] ((op (GlobalOp 40) [] (Some 4)) ∷ (op (IsTagOp 0) (1 ∷ 4 ∷ []) (Some 5)) ∷ []) (Nonzero 5 4 2) 1048576 None) ∷ (block [] [] (Jump 5 []) 524288 None) ∷ (block [] ((op (ConstOp 69) [] (Some 6)) ∷ (op (SvcOp 1) (6 ∷ []) None) ∷ (op (GlobalOp 168) [] (Some 7)) ∷ (op (GuardTagOp 1) (1 ∷ 7 ∷ []) None) ∷ (op (PlusOp 8) (0 ∷ []) (Some 8)) ∷ (op (ConstOp 5) [] (Some 9)) ∷ (op StoreOp (8 ∷ 9 ∷ []) None) ∷ (op (GlobalOp 168) [] (Some 10)) ∷ (op (GuardTagOp 1) (1 ∷ 10 ∷ []) None) ∷ (op (ConstOp 6) [] (Some 11)) ∷ (op StoreOp (0 ∷ 11 ∷ []) None) ∷ []) (Jump 5 []) 524288 None) ∷ (block [] ((op (ConstOp 66) [] (Some 12)) ∷ (op (SvcOp 1) (12 ∷ []) None) ∷ []) (Jump 5 []) 524288 None) ∷ (block [] ((op (GlobalOp 168) [] (Some 13)) ∷ (op (IsTagOp 1) (1 ∷ 13 ∷ []) (Some 14)) ∷ []) (Nonzero 14 6 7) 1048576 None) ∷ (block [] ((op (GlobalOp 168) [] (Some 15)) ∷ (op (GuardTagOp 1) (1 ∷ 15 ∷ []) None) ∷ (op (PlusOp 8) (0 ∷ []) (Some 16)) ∷ (op LoadOp (16 ∷ []) (Some 17)) ∷ (op (ConstOp 0) [] (Some 18)) ∷ (op (SvcOp 2) (17 ∷ 18 ∷ []) None) ∷ []) (Jump 8 []) 524288 None) ∷ (block [] [] (Jump 8 []) 524288 None) ∷ (block [] [] (Return None) 1048576 None) ∷ []) 19 2 true 0 0) ∷ (proc ((block (0 ∷ 1 ∷ []) ((op (CallOp 0) (0 ∷ 1 ∷ []) None) ∷ []) (Return None) 1048576 None) ∷ []) 2 2 true 0 0) ∷ (proc ((block [] ((op (GlobalOp 8) [] (Some 0)) ∷ (op (GlobalOp 40) [] (Some 1)) ∷ (op (CallOp 0) (0 ∷ 1 ∷ []) None) ∷ (op (GlobalOp 16) [] (Some 2)) ∷ (op (GlobalOp 168) [] (Some 3)) ∷ (op (CallOp 0) (2 ∷ 3 ∷ []) None) ∷ (op (GlobalOp 16) [] (Some 4)) ∷ (op (GlobalOp 168) [] (Some 5)) ∷ (op (CallOp 1) (4 ∷ 5 ∷ []) None) ∷ (op (GlobalOp 32) [] (Some 6)) ∷ (op (ConstOp 3) [] (Some 7)) ∷ (op (ConstOp 24) [] (Some 8)) ∷ (op (GlobalOp 168) [] (Some 9)) ∷ (op NewOp (7 ∷ 8 ∷ 9 ∷ []) (Some 10)) ∷ (op StoreOp (6 ∷ 10 ∷ []) None) ∷ (op (GlobalOp 32) [] (Some 11)) ∷ (op LoadOp (11 ∷ []) (Some 12)) ∷ (op NotNilOp (12 ∷ []) None) ∷ (op (PlusOp 8) (12 ∷ []) (Some 13)) ∷ (op LoadOp (12 ∷ []) (Some 14)) ∷ (op (CallOp 1) (13 ∷ 14 ∷ []) None) ∷ (op (GlobalOp 32) [] (Some 15)) ∷ (op LoadOp (15 ∷ []) (Some 16)) ∷ (op NotNilOp (16 ∷ []) None) ∷ (op (PlusOp 8) (16 ∷ []) (Some 17)) ∷ (op LoadOp (17 ∷ []) (Some 18)) ∷ (op (ConstOp 0) [] (Some 19)) ∷ (op (SvcOp 2) (18 ∷ 19 ∷ []) None) ∷ (op (GlobalOp 8) [] (Some 20)) ∷ (op (GlobalOp 40) [] (Some 21)) ∷ (op (CallOp 1) (20 ∷ 21 ∷ []) None) ∷ []) (Return None) 1048576 None) ∷ []) 22 0 false 0 0) ∷ [])
@@ -151,7 +151,7 @@ tags_constants b v = refl
 
 -- MODULE T; TYPE B = RECORD x: INTEGER END; E = RECORD (B) y: INTEGER END; VAR b: B; PROCEDURE Kind(VAR r: B); BEGIN r(E).y := 5 END Kind; BEGIN Kind(b) END T.
 abbrev tagguard : Outside Program
-tagguard b v = record { types = record { kinds = ((RecordKind 0) ∷ (RecordKind 1) ∷ Nothing ∷ Int ∷ []); records = (record { «module» = 0; base = None; level = 0; fields = (record { name = []; exported = false; type_number = 3 } ∷ []); cells = 1 } ∷ record { «module» = 0; base = (Some 0); level = 1; fields = (record { name = []; exported = false; type_number = 3 } ∷ []); cells = 2 } ∷ []); signatures = [] }; modules = (record { name = []; objects = []; variables = (0 ∷ []); body = 1 } ∷ []); procedures = (record { «module» = 0; line = 1; is_body = false; formals = (record { mode = OfRecord; variable = true; type_number = 0 } ∷ []); result = 2; locals = []; texts = []; body = ((Assign (Part' b (Parameter 0) Int (vec2 v) (more_of-Selector (Narrow 1) (more_of-Selector (Field 1 0) end_of-Selector))) (record { form = (Literal 5); kind = Int })) ∷ []); answer = None } ∷ record { «module» = 0; line = 1; is_body = true; formals = []; result = 2; locals = []; texts = []; body = ((Invoke (Direct' 0 (vec1 v) (more_of-Argument (ByRecord (Whole (Global 0 0) (RecordKind 0))) end_of-Argument))) ∷ []); answer = None } ∷ []); imports_in = false }
+tagguard b v = record { types = record { kinds = ((RecordKind 0) ∷ (RecordKind 1) ∷ Nothing ∷ Int ∷ []); records = (record { «module» = 0; base = None; level = 0; fields = (record { name = []; exported = false; type_number = 3 } ∷ []); cells = 1; extent = record { bytes = 8; wide = true } } ∷ record { «module» = 0; base = (Some 0); level = 1; fields = (record { name = []; exported = false; type_number = 3 } ∷ []); cells = 2; extent = record { bytes = 16; wide = true } } ∷ []); signatures = [] }; modules = (record { name = []; objects = []; variables = (0 ∷ []); body = 1 } ∷ []); procedures = (record { «module» = 0; line = 1; is_body = false; formals = (record { mode = OfRecord; variable = true; type_number = 0 } ∷ []); result = 2; locals = []; texts = []; body = ((Assign (Part' b (Parameter 0) Int (vec2 v) (more_of-Selector (Narrow 1) (more_of-Selector (Field 1 0) end_of-Selector))) (record { form = (Literal 5); kind = Int })) ∷ []); answer = None } ∷ record { «module» = 0; line = 1; is_body = true; formals = []; result = 2; locals = []; texts = []; body = ((Invoke (Direct' 0 (vec1 v) (more_of-Argument (ByRecord (Whole (Global 0 0) (RecordKind 0))) end_of-Argument))) ∷ []); answer = None } ∷ []); imports_in = false }
 
 abbrev tagguard_procs : List Proc
 tagguard_procs = ((proc ((block (0 ∷ 1 ∷ []) ((op (GlobalOp 144) [] (Some 2)) ∷ (op (GuardTagOp 1) (1 ∷ 2 ∷ []) None) ∷ (op (PlusOp 8) (0 ∷ []) (Some 3)) ∷ (op (ConstOp 5) [] (Some 4)) ∷ (op StoreOp (3 ∷ 4 ∷ []) None) ∷ []) (Return None) 1048576 None) ∷ []) 5 2 true 0 0) ∷ (proc ((block [] ((op (GlobalOp 8) [] (Some 0)) ∷ (op (GlobalOp 16) [] (Some 1)) ∷ (op (CallOp 0) (0 ∷ 1 ∷ []) None) ∷ []) (Return None) 1048576 None) ∷ []) 2 0 false 0 0) ∷ [])
@@ -164,7 +164,7 @@ tagguard_constants b v = refl
 
 -- MODULE P; IMPORT Out; TYPE B = POINTER TO RB; RB = RECORD x: INTEGER END; E = POINTER TO RE; RE = RECORD (RB) y: INTEGER; next: B END; VAR p: B; e: E; PROCEDURE Show(q: B); BEGIN CASE q OF E: Out.Char(''E''); q.y := 3; Show(q.next) | B: Out.Char(''B'') END END Show; BEGIN Show(p); NEW(e); e.next := e; NEW(e.next); Show(e); p := e; Out.Int(p(E).y, 0); IF p = e THEN Out.Char(''!'') END; e := NIL; p := e.next END P.
 abbrev pointercase : Outside Program
-pointercase b v = record { types = record { kinds = ((RecordKind 0) ∷ (RecordKind 1) ∷ (PointerKind 0) ∷ (PointerKind 1) ∷ Nothing ∷ Int ∷ []); records = (record { «module» = 0; base = None; level = 0; fields = (record { name = []; exported = false; type_number = 5 } ∷ []); cells = 1 } ∷ record { «module» = 0; base = (Some 0); level = 1; fields = (record { name = []; exported = false; type_number = 5 } ∷ record { name = []; exported = false; type_number = 2 } ∷ []); cells = 3 } ∷ []); signatures = [] }; modules = (record { name = []; objects = []; variables = (2 ∷ 3 ∷ []); body = 1 } ∷ []); procedures = (record { «module» = 0; line = 1; is_body = false; formals = (record { mode = OfValue; variable = false; type_number = 2 } ∷ []); result = 4; locals = []; texts = []; body = ((CasePointer' (record { form = (Load (Whole (Local 0) (PointerKind 0))); kind = (PointerKind 0) }) (vec2 v) (more_of-TypePart 1 (vec3 v) (more_of-Stmt (OutChar (record { form = (Literal 69); kind = Char })) (more_of-Stmt (Assign (Part' b (Local 0) Int (vec2 v) (more_of-Selector (Dereference (1 ∷ [])) (more_of-Selector (Field 1 0) end_of-Selector))) (record { form = (Literal 3); kind = Int })) (more_of-Stmt (Invoke (Direct' 0 (vec1 v) (more_of-Argument (ByValue (Load (Part' b (Local 0) (PointerKind 0) (vec2 v) (more_of-Selector (Dereference (1 ∷ [])) (more_of-Selector (Field 1 1) end_of-Selector))))) end_of-Argument))) end_of-Stmt))) (more_of-TypePart 0 (vec1 v) (more_of-Stmt (OutChar (record { form = (Literal 66); kind = Char })) end_of-Stmt) end_of-TypePart))) ∷ []); answer = None } ∷ record { «module» = 0; line = 1; is_body = true; formals = []; result = 4; locals = []; texts = []; body = ((Invoke (Direct' 0 (vec1 v) (more_of-Argument (ByValue (Load (Whole (Global 0 0) (PointerKind 0)))) end_of-Argument))) ∷ (New (Whole (Global 0 1) (PointerKind 1))) ∷ (Assign (Part' b (Global 0 1) (PointerKind 0) (vec2 v) (more_of-Selector (Dereference []) (more_of-Selector (Field 1 1) end_of-Selector))) (record { form = (Load (Whole (Global 0 1) (PointerKind 1))); kind = (PointerKind 1) })) ∷ (New (Part' b (Global 0 1) (PointerKind 0) (vec2 v) (more_of-Selector (Dereference []) (more_of-Selector (Field 1 1) end_of-Selector)))) ∷ (Invoke (Direct' 0 (vec1 v) (more_of-Argument (ByValue (Load (Whole (Global 0 1) (PointerKind 1)))) end_of-Argument))) ∷ (Assign (Whole (Global 0 0) (PointerKind 0)) (record { form = (Load (Whole (Global 0 1) (PointerKind 1))); kind = (PointerKind 1) })) ∷ (OutInt (record { form = (Load (Part' b (Global 0 0) Int (vec2 v) (more_of-Selector (Dereference (1 ∷ [])) (more_of-Selector (Field 1 0) end_of-Selector)))); kind = Int }) (record { form = (Literal 0); kind = Int })) ∷ (If' (vec1 v) (more_of-Branch (record { form = (Compare' Equal b (Load (Whole (Global 0 0) (PointerKind 0))) b (Load (Whole (Global 0 1) (PointerKind 1)))); kind = BoolKind }) (vec1 v) (more_of-Stmt (OutChar (record { form = (Literal 33); kind = Char })) end_of-Stmt) end_of-Branch) (vec0 v) end_of-Stmt) ∷ (Assign (Whole (Global 0 1) (PointerKind 1)) (record { form = (Literal 0); kind = Nil })) ∷ (Assign (Whole (Global 0 0) (PointerKind 0)) (record { form = (Load (Part' b (Global 0 1) (PointerKind 0) (vec2 v) (more_of-Selector (Dereference []) (more_of-Selector (Field 1 1) end_of-Selector)))); kind = (PointerKind 0) })) ∷ []); answer = None } ∷ []); imports_in = false }
+pointercase b v = record { types = record { kinds = ((RecordKind 0) ∷ (RecordKind 1) ∷ (PointerKind 0) ∷ (PointerKind 1) ∷ Nothing ∷ Int ∷ []); records = (record { «module» = 0; base = None; level = 0; fields = (record { name = []; exported = false; type_number = 5 } ∷ []); cells = 1; extent = record { bytes = 8; wide = true } } ∷ record { «module» = 0; base = (Some 0); level = 1; fields = (record { name = []; exported = false; type_number = 5 } ∷ record { name = []; exported = false; type_number = 2 } ∷ []); cells = 3; extent = record { bytes = 24; wide = true } } ∷ []); signatures = [] }; modules = (record { name = []; objects = []; variables = (2 ∷ 3 ∷ []); body = 1 } ∷ []); procedures = (record { «module» = 0; line = 1; is_body = false; formals = (record { mode = OfValue; variable = false; type_number = 2 } ∷ []); result = 4; locals = []; texts = []; body = ((CasePointer' (record { form = (Load (Whole (Local 0) (PointerKind 0))); kind = (PointerKind 0) }) (vec2 v) (more_of-TypePart 1 (vec3 v) (more_of-Stmt (OutChar (record { form = (Literal 69); kind = Char })) (more_of-Stmt (Assign (Part' b (Local 0) Int (vec2 v) (more_of-Selector (Dereference (1 ∷ [])) (more_of-Selector (Field 1 0) end_of-Selector))) (record { form = (Literal 3); kind = Int })) (more_of-Stmt (Invoke (Direct' 0 (vec1 v) (more_of-Argument (ByValue (Load (Part' b (Local 0) (PointerKind 0) (vec2 v) (more_of-Selector (Dereference (1 ∷ [])) (more_of-Selector (Field 1 1) end_of-Selector))))) end_of-Argument))) end_of-Stmt))) (more_of-TypePart 0 (vec1 v) (more_of-Stmt (OutChar (record { form = (Literal 66); kind = Char })) end_of-Stmt) end_of-TypePart))) ∷ []); answer = None } ∷ record { «module» = 0; line = 1; is_body = true; formals = []; result = 4; locals = []; texts = []; body = ((Invoke (Direct' 0 (vec1 v) (more_of-Argument (ByValue (Load (Whole (Global 0 0) (PointerKind 0)))) end_of-Argument))) ∷ (New (Whole (Global 0 1) (PointerKind 1))) ∷ (Assign (Part' b (Global 0 1) (PointerKind 0) (vec2 v) (more_of-Selector (Dereference []) (more_of-Selector (Field 1 1) end_of-Selector))) (record { form = (Load (Whole (Global 0 1) (PointerKind 1))); kind = (PointerKind 1) })) ∷ (New (Part' b (Global 0 1) (PointerKind 0) (vec2 v) (more_of-Selector (Dereference []) (more_of-Selector (Field 1 1) end_of-Selector)))) ∷ (Invoke (Direct' 0 (vec1 v) (more_of-Argument (ByValue (Load (Whole (Global 0 1) (PointerKind 1)))) end_of-Argument))) ∷ (Assign (Whole (Global 0 0) (PointerKind 0)) (record { form = (Load (Whole (Global 0 1) (PointerKind 1))); kind = (PointerKind 1) })) ∷ (OutInt (record { form = (Load (Part' b (Global 0 0) Int (vec2 v) (more_of-Selector (Dereference (1 ∷ [])) (more_of-Selector (Field 1 0) end_of-Selector)))); kind = Int }) (record { form = (Literal 0); kind = Int })) ∷ (If' (vec1 v) (more_of-Branch (record { form = (Compare' Equal b (Load (Whole (Global 0 0) (PointerKind 0))) b (Load (Whole (Global 0 1) (PointerKind 1)))); kind = BoolKind }) (vec1 v) (more_of-Stmt (OutChar (record { form = (Literal 33); kind = Char })) end_of-Stmt) end_of-Branch) (vec0 v) end_of-Stmt) ∷ (Assign (Whole (Global 0 1) (PointerKind 1)) (record { form = (Literal 0); kind = Nil })) ∷ (Assign (Whole (Global 0 0) (PointerKind 0)) (record { form = (Load (Part' b (Global 0 1) (PointerKind 0) (vec2 v) (more_of-Selector (Dereference []) (more_of-Selector (Field 1 1) end_of-Selector)))); kind = (PointerKind 0) })) ∷ []); answer = None } ∷ []); imports_in = false }
 
 abbrev pointercase_procs : List Proc
 pointercase_procs = ((proc ((block (0 ∷ []) ((op (GlobalOp 152) [] (Some 1)) ∷ (op (IsPtrOp 1) (0 ∷ 1 ∷ []) (Some 2)) ∷ []) (Nonzero 2 3 1) 1048576 None) ∷ (block [] ((op (GlobalOp 24) [] (Some 3)) ∷ (op (IsPtrOp 0) (0 ∷ 3 ∷ []) (Some 4)) ∷ []) (Nonzero 4 4 2) 1048576 None) ∷ (block [] [] (Jump 5 []) 524288 None) ∷ (block [] ((op (ConstOp 69) [] (Some 5)) ∷ (op (SvcOp 1) (5 ∷ []) None) ∷ (op (GlobalOp 152) [] (Some 6)) ∷ (op (GuardPtrOp 1) (0 ∷ 6 ∷ []) None) ∷ (op NotNilOp (0 ∷ []) None) ∷ (op (PlusOp 16) (0 ∷ []) (Some 7)) ∷ (op (ConstOp 3) [] (Some 8)) ∷ (op StoreOp (7 ∷ 8 ∷ []) None) ∷ (op (GlobalOp 152) [] (Some 9)) ∷ (op (GuardPtrOp 1) (0 ∷ 9 ∷ []) None) ∷ (op NotNilOp (0 ∷ []) None) ∷ (op (PlusOp 24) (0 ∷ []) (Some 10)) ∷ (op LoadOp (10 ∷ []) (Some 11)) ∷ (op (CallOp 0) (11 ∷ []) None) ∷ []) (Jump 5 []) 524288 None) ∷ (block [] ((op (ConstOp 66) [] (Some 12)) ∷ (op (SvcOp 1) (12 ∷ []) None) ∷ []) (Jump 5 []) 524288 None) ∷ (block [] [] (Return None) 1048576 None) ∷ []) 13 1 true 1 0) ∷ (proc ((block [] ((op (GlobalOp 8) [] (Some 0)) ∷ (op LoadOp (0 ∷ []) (Some 1)) ∷ (op (CallOp 0) (1 ∷ []) None) ∷ (op (GlobalOp 16) [] (Some 2)) ∷ (op (ConstOp 4) [] (Some 3)) ∷ (op (ConstOp 32) [] (Some 4)) ∷ (op (GlobalOp 152) [] (Some 5)) ∷ (op NewOp (3 ∷ 4 ∷ 5 ∷ []) (Some 6)) ∷ (op StoreOp (2 ∷ 6 ∷ []) None) ∷ (op (GlobalOp 16) [] (Some 7)) ∷ (op LoadOp (7 ∷ []) (Some 8)) ∷ (op NotNilOp (8 ∷ []) None) ∷ (op (PlusOp 24) (8 ∷ []) (Some 9)) ∷ (op (GlobalOp 16) [] (Some 10)) ∷ (op LoadOp (10 ∷ []) (Some 11)) ∷ (op StoreOp (9 ∷ 11 ∷ []) None) ∷ (op (GlobalOp 16) [] (Some 12)) ∷ (op LoadOp (12 ∷ []) (Some 13)) ∷ (op NotNilOp (13 ∷ []) None) ∷ (op (PlusOp 24) (13 ∷ []) (Some 14)) ∷ (op (ConstOp 2) [] (Some 15)) ∷ (op (ConstOp 16) [] (Some 16)) ∷ (op (GlobalOp 24) [] (Some 17)) ∷ (op NewOp (15 ∷ 16 ∷ 17 ∷ []) (Some 18)) ∷ (op StoreOp (14 ∷ 18 ∷ []) None) ∷ (op (GlobalOp 16) [] (Some 19)) ∷ (op LoadOp (19 ∷ []) (Some 20)) ∷ (op (CallOp 0) (20 ∷ []) None) ∷ (op (GlobalOp 8) [] (Some 21)) ∷ (op (GlobalOp 16) [] (Some 22)) ∷ (op LoadOp (22 ∷ []) (Some 23)) ∷ (op StoreOp (21 ∷ 23 ∷ []) None) ∷ (op (GlobalOp 8) [] (Some 24)) ∷ (op LoadOp (24 ∷ []) (Some 25)) ∷ (op (GlobalOp 152) [] (Some 26)) ∷ (op (GuardPtrOp 1) (25 ∷ 26 ∷ []) None) ∷ (op NotNilOp (25 ∷ []) None) ∷ (op (PlusOp 16) (25 ∷ []) (Some 27)) ∷ (op LoadOp (27 ∷ []) (Some 28)) ∷ (op (ConstOp 0) [] (Some 29)) ∷ (op (SvcOp 2) (28 ∷ 29 ∷ []) None) ∷ (op (GlobalOp 8) [] (Some 30)) ∷ (op LoadOp (30 ∷ []) (Some 31)) ∷ (op (GlobalOp 16) [] (Some 32)) ∷ (op LoadOp (32 ∷ []) (Some 33)) ∷ []) (Branch 0 31 33 1 2) 1048576 None) ∷ (block [] ((op (ConstOp 33) [] (Some 34)) ∷ (op (SvcOp 1) (34 ∷ []) None) ∷ []) (Jump 3 []) 524288 None) ∷ (block [] [] (Jump 3 []) 524288 None) ∷ (block [] ((op (GlobalOp 16) [] (Some 35)) ∷ (op (ConstOp 0) [] (Some 36)) ∷ (op StoreOp (35 ∷ 36 ∷ []) None) ∷ (op (GlobalOp 8) [] (Some 37)) ∷ (op (GlobalOp 16) [] (Some 38)) ∷ (op LoadOp (38 ∷ []) (Some 39)) ∷ (op NotNilOp (39 ∷ []) None) ∷ (op (PlusOp 24) (39 ∷ []) (Some 40)) ∷ (op LoadOp (40 ∷ []) (Some 41)) ∷ (op StoreOp (37 ∷ 41 ∷ []) None) ∷ []) (Return None) 1048576 None) ∷ []) 42 0 false 0 0) ∷ [])
@@ -217,7 +217,7 @@ byteinc_low b v = refl
 
 -- MODULE R; IMPORT Out; TYPE N = POINTER TO R; R = RECORD v: INTEGER; l, r: N END; VAR t: N; PROCEDURE Add(VAR t: N; v: INTEGER); BEGIN IF t = NIL THEN NEW(t); t.v := v ELSIF v < t.v THEN Add(t.l, v) ELSE Add(t.r, v) END END Add; PROCEDURE Walk(t: N); BEGIN IF t # NIL THEN Walk(t.l); Out.Int(t.v, 2); Walk(t.r) END END Walk; BEGIN Add(t, 5); Add(t, 2); Add(t, 8); Add(t, 6); Walk(t) END R.
 abbrev recdeep : Outside Program
-recdeep b v = record { types = record { kinds = ((RecordKind 0) ∷ (PointerKind 0) ∷ Int ∷ Nothing ∷ []); records = (record { «module» = 0; base = None; level = 0; fields = (record { name = []; exported = false; type_number = 2 } ∷ record { name = []; exported = false; type_number = 1 } ∷ record { name = []; exported = false; type_number = 1 } ∷ []); cells = 3 } ∷ []); signatures = [] }; modules = (record { name = []; objects = []; variables = (1 ∷ []); body = 2 } ∷ []); procedures = (record { «module» = 0; line = 1; is_body = false; formals = (record { mode = Place; variable = true; type_number = 1 } ∷ record { mode = OfValue; variable = false; type_number = 2 } ∷ []); result = 3; locals = []; texts = []; body = ((If' (vec2 v) (more_of-Branch (record { form = (Compare' Equal b (Load (Whole (Parameter 0) (PointerKind 0))) b (Literal 0)); kind = BoolKind }) (vec2 v) (more_of-Stmt (New (Whole (Parameter 0) (PointerKind 0))) (more_of-Stmt (Assign (Part' b (Parameter 0) Int (vec2 v) (more_of-Selector (Dereference []) (more_of-Selector (Field 0 0) end_of-Selector))) (record { form = (Load (Whole (Local 0) Int)); kind = Int })) end_of-Stmt)) (more_of-Branch (record { form = (Compare' Less b (Load (Whole (Local 0) Int)) b (Load (Part' b (Parameter 0) Int (vec2 v) (more_of-Selector (Dereference []) (more_of-Selector (Field 0 0) end_of-Selector))))); kind = BoolKind }) (vec1 v) (more_of-Stmt (Invoke (Direct' 0 (vec2 v) (more_of-Argument (ByPlace (Part' b (Parameter 0) (PointerKind 0) (vec2 v) (more_of-Selector (Dereference []) (more_of-Selector (Field 0 1) end_of-Selector)))) (more_of-Argument (ByValue (Load (Whole (Local 0) Int))) end_of-Argument)))) end_of-Stmt) end_of-Branch)) (vec1 v) (more_of-Stmt (Invoke (Direct' 0 (vec2 v) (more_of-Argument (ByPlace (Part' b (Parameter 0) (PointerKind 0) (vec2 v) (more_of-Selector (Dereference []) (more_of-Selector (Field 0 2) end_of-Selector)))) (more_of-Argument (ByValue (Load (Whole (Local 0) Int))) end_of-Argument)))) end_of-Stmt)) ∷ []); answer = None } ∷ record { «module» = 0; line = 1; is_body = false; formals = (record { mode = OfValue; variable = false; type_number = 1 } ∷ []); result = 3; locals = []; texts = []; body = ((If' (vec1 v) (more_of-Branch (record { form = (Compare' Unequal b (Load (Whole (Local 0) (PointerKind 0))) b (Literal 0)); kind = BoolKind }) (vec3 v) (more_of-Stmt (Invoke (Direct' 1 (vec1 v) (more_of-Argument (ByValue (Load (Part' b (Local 0) (PointerKind 0) (vec2 v) (more_of-Selector (Dereference []) (more_of-Selector (Field 0 1) end_of-Selector))))) end_of-Argument))) (more_of-Stmt (OutInt (record { form = (Load (Part' b (Local 0) Int (vec2 v) (more_of-Selector (Dereference []) (more_of-Selector (Field 0 0) end_of-Selector)))); kind = Int }) (record { form = (Literal 2); kind = Int })) (more_of-Stmt (Invoke (Direct' 1 (vec1 v) (more_of-Argument (ByValue (Load (Part' b (Local 0) (PointerKind 0) (vec2 v) (more_of-Selector (Dereference []) (more_of-Selector (Field 0 2) end_of-Selector))))) end_of-Argument))) end_of-Stmt))) end_of-Branch) (vec0 v) end_of-Stmt) ∷ []); answer = None } ∷ record { «module» = 0; line = 1; is_body = true; formals = []; result = 3; locals = []; texts = []; body = ((Invoke (Direct' 0 (vec2 v) (more_of-Argument (ByPlace (Whole (Global 0 0) (PointerKind 0))) (more_of-Argument (ByValue (Literal 5)) end_of-Argument)))) ∷ (Invoke (Direct' 0 (vec2 v) (more_of-Argument (ByPlace (Whole (Global 0 0) (PointerKind 0))) (more_of-Argument (ByValue (Literal 2)) end_of-Argument)))) ∷ (Invoke (Direct' 0 (vec2 v) (more_of-Argument (ByPlace (Whole (Global 0 0) (PointerKind 0))) (more_of-Argument (ByValue (Literal 8)) end_of-Argument)))) ∷ (Invoke (Direct' 0 (vec2 v) (more_of-Argument (ByPlace (Whole (Global 0 0) (PointerKind 0))) (more_of-Argument (ByValue (Literal 6)) end_of-Argument)))) ∷ (Invoke (Direct' 1 (vec1 v) (more_of-Argument (ByValue (Load (Whole (Global 0 0) (PointerKind 0)))) end_of-Argument))) ∷ []); answer = None } ∷ []); imports_in = false }
+recdeep b v = record { types = record { kinds = ((RecordKind 0) ∷ (PointerKind 0) ∷ Int ∷ Nothing ∷ []); records = (record { «module» = 0; base = None; level = 0; fields = (record { name = []; exported = false; type_number = 2 } ∷ record { name = []; exported = false; type_number = 1 } ∷ record { name = []; exported = false; type_number = 1 } ∷ []); cells = 3; extent = record { bytes = 24; wide = true } } ∷ []); signatures = [] }; modules = (record { name = []; objects = []; variables = (1 ∷ []); body = 2 } ∷ []); procedures = (record { «module» = 0; line = 1; is_body = false; formals = (record { mode = Place; variable = true; type_number = 1 } ∷ record { mode = OfValue; variable = false; type_number = 2 } ∷ []); result = 3; locals = []; texts = []; body = ((If' (vec2 v) (more_of-Branch (record { form = (Compare' Equal b (Load (Whole (Parameter 0) (PointerKind 0))) b (Literal 0)); kind = BoolKind }) (vec2 v) (more_of-Stmt (New (Whole (Parameter 0) (PointerKind 0))) (more_of-Stmt (Assign (Part' b (Parameter 0) Int (vec2 v) (more_of-Selector (Dereference []) (more_of-Selector (Field 0 0) end_of-Selector))) (record { form = (Load (Whole (Local 0) Int)); kind = Int })) end_of-Stmt)) (more_of-Branch (record { form = (Compare' Less b (Load (Whole (Local 0) Int)) b (Load (Part' b (Parameter 0) Int (vec2 v) (more_of-Selector (Dereference []) (more_of-Selector (Field 0 0) end_of-Selector))))); kind = BoolKind }) (vec1 v) (more_of-Stmt (Invoke (Direct' 0 (vec2 v) (more_of-Argument (ByPlace (Part' b (Parameter 0) (PointerKind 0) (vec2 v) (more_of-Selector (Dereference []) (more_of-Selector (Field 0 1) end_of-Selector)))) (more_of-Argument (ByValue (Load (Whole (Local 0) Int))) end_of-Argument)))) end_of-Stmt) end_of-Branch)) (vec1 v) (more_of-Stmt (Invoke (Direct' 0 (vec2 v) (more_of-Argument (ByPlace (Part' b (Parameter 0) (PointerKind 0) (vec2 v) (more_of-Selector (Dereference []) (more_of-Selector (Field 0 2) end_of-Selector)))) (more_of-Argument (ByValue (Load (Whole (Local 0) Int))) end_of-Argument)))) end_of-Stmt)) ∷ []); answer = None } ∷ record { «module» = 0; line = 1; is_body = false; formals = (record { mode = OfValue; variable = false; type_number = 1 } ∷ []); result = 3; locals = []; texts = []; body = ((If' (vec1 v) (more_of-Branch (record { form = (Compare' Unequal b (Load (Whole (Local 0) (PointerKind 0))) b (Literal 0)); kind = BoolKind }) (vec3 v) (more_of-Stmt (Invoke (Direct' 1 (vec1 v) (more_of-Argument (ByValue (Load (Part' b (Local 0) (PointerKind 0) (vec2 v) (more_of-Selector (Dereference []) (more_of-Selector (Field 0 1) end_of-Selector))))) end_of-Argument))) (more_of-Stmt (OutInt (record { form = (Load (Part' b (Local 0) Int (vec2 v) (more_of-Selector (Dereference []) (more_of-Selector (Field 0 0) end_of-Selector)))); kind = Int }) (record { form = (Literal 2); kind = Int })) (more_of-Stmt (Invoke (Direct' 1 (vec1 v) (more_of-Argument (ByValue (Load (Part' b (Local 0) (PointerKind 0) (vec2 v) (more_of-Selector (Dereference []) (more_of-Selector (Field 0 2) end_of-Selector))))) end_of-Argument))) end_of-Stmt))) end_of-Branch) (vec0 v) end_of-Stmt) ∷ []); answer = None } ∷ record { «module» = 0; line = 1; is_body = true; formals = []; result = 3; locals = []; texts = []; body = ((Invoke (Direct' 0 (vec2 v) (more_of-Argument (ByPlace (Whole (Global 0 0) (PointerKind 0))) (more_of-Argument (ByValue (Literal 5)) end_of-Argument)))) ∷ (Invoke (Direct' 0 (vec2 v) (more_of-Argument (ByPlace (Whole (Global 0 0) (PointerKind 0))) (more_of-Argument (ByValue (Literal 2)) end_of-Argument)))) ∷ (Invoke (Direct' 0 (vec2 v) (more_of-Argument (ByPlace (Whole (Global 0 0) (PointerKind 0))) (more_of-Argument (ByValue (Literal 8)) end_of-Argument)))) ∷ (Invoke (Direct' 0 (vec2 v) (more_of-Argument (ByPlace (Whole (Global 0 0) (PointerKind 0))) (more_of-Argument (ByValue (Literal 6)) end_of-Argument)))) ∷ (Invoke (Direct' 1 (vec1 v) (more_of-Argument (ByValue (Load (Whole (Global 0 0) (PointerKind 0)))) end_of-Argument))) ∷ []); answer = None } ∷ []); imports_in = false }
 
 abbrev recdeep_procs : List Proc
 recdeep_procs = ((proc ((block (0 ∷ 1 ∷ []) ((op LoadOp (0 ∷ []) (Some 2)) ∷ (op (ConstOp 0) [] (Some 3)) ∷ []) (Branch 0 2 3 1 2) 1048576 None) ∷ (block [] ((op (ConstOp 4) [] (Some 4)) ∷ (op (ConstOp 32) [] (Some 5)) ∷ (op (GlobalOp 16) [] (Some 6)) ∷ (op NewOp (4 ∷ 5 ∷ 6 ∷ []) (Some 7)) ∷ (op StoreOp (0 ∷ 7 ∷ []) None) ∷ (op LoadOp (0 ∷ []) (Some 8)) ∷ (op NotNilOp (8 ∷ []) None) ∷ (op (PlusOp 8) (8 ∷ []) (Some 9)) ∷ (op StoreOp (9 ∷ 1 ∷ []) None) ∷ []) (Jump 6 []) 524288 None) ∷ (block [] ((op LoadOp (0 ∷ []) (Some 10)) ∷ (op NotNilOp (10 ∷ []) None) ∷ (op (PlusOp 8) (10 ∷ []) (Some 11)) ∷ (op LoadOp (11 ∷ []) (Some 12)) ∷ []) (Branch 11 1 12 3 4) 524288 None) ∷ (block [] ((op LoadOp (0 ∷ []) (Some 13)) ∷ (op NotNilOp (13 ∷ []) None) ∷ (op (PlusOp 16) (13 ∷ []) (Some 14)) ∷ (op (CallOp 0) (14 ∷ 1 ∷ []) None) ∷ []) (Jump 5 []) 262144 None) ∷ (block [] ((op LoadOp (0 ∷ []) (Some 15)) ∷ (op NotNilOp (15 ∷ []) None) ∷ (op (PlusOp 24) (15 ∷ []) (Some 16)) ∷ (op (CallOp 0) (16 ∷ 1 ∷ []) None) ∷ []) (Jump 5 []) 262144 None) ∷ (block [] [] (Jump 6 []) 524288 None) ∷ (block [] [] (Return None) 1048576 None) ∷ []) 17 2 true 1 0) ∷ (proc ((block (0 ∷ []) ((op (ConstOp 0) [] (Some 1)) ∷ []) (Branch 1 0 1 1 2) 1048576 None) ∷ (block [] ((op NotNilOp (0 ∷ []) None) ∷ (op (PlusOp 16) (0 ∷ []) (Some 2)) ∷ (op LoadOp (2 ∷ []) (Some 3)) ∷ (op (CallOp 1) (3 ∷ []) None) ∷ (op NotNilOp (0 ∷ []) None) ∷ (op (PlusOp 8) (0 ∷ []) (Some 4)) ∷ (op LoadOp (4 ∷ []) (Some 5)) ∷ (op (ConstOp 2) [] (Some 6)) ∷ (op (SvcOp 2) (5 ∷ 6 ∷ []) None) ∷ (op NotNilOp (0 ∷ []) None) ∷ (op (PlusOp 24) (0 ∷ []) (Some 7)) ∷ (op LoadOp (7 ∷ []) (Some 8)) ∷ (op (CallOp 1) (8 ∷ []) None) ∷ []) (Jump 3 []) 524288 None) ∷ (block [] [] (Jump 3 []) 524288 None) ∷ (block [] [] (Return None) 1048576 None) ∷ []) 9 1 true 1 0) ∷ (proc ((block [] ((op (GlobalOp 8) [] (Some 0)) ∷ (op (ConstOp 5) [] (Some 1)) ∷ (op (CallOp 0) (0 ∷ 1 ∷ []) None) ∷ (op (GlobalOp 8) [] (Some 2)) ∷ (op (ConstOp 2) [] (Some 3)) ∷ (op (CallOp 0) (2 ∷ 3 ∷ []) None) ∷ (op (GlobalOp 8) [] (Some 4)) ∷ (op (ConstOp 8) [] (Some 5)) ∷ (op (CallOp 0) (4 ∷ 5 ∷ []) None) ∷ (op (GlobalOp 8) [] (Some 6)) ∷ (op (ConstOp 6) [] (Some 7)) ∷ (op (CallOp 0) (6 ∷ 7 ∷ []) None) ∷ (op (GlobalOp 8) [] (Some 8)) ∷ (op LoadOp (8 ∷ []) (Some 9)) ∷ (op (CallOp 1) (9 ∷ []) None) ∷ []) (Return None) 1048576 None) ∷ []) 10 0 false 0 0) ∷ [])
@@ -290,7 +290,7 @@ evenodd_low b v = refl
 
 -- MODULE V; IMPORT Out; TYPE R = RECORD a: INTEGER; n: RECORD b: ARRAY 2 OF CHAR END END; E = RECORD (R) e: INTEGER END; VAR r: R; e: E; PROCEDURE P(x: R; VAR y: R); BEGIN y.a := 9; Out.Int(x.a, 0); y.n.b := x.n.b; y := x END P; BEGIN e.a := 3; P(e, e); P(r, e); Out.Int(e.a, 0) END V.
 abbrev alias : Outside Program
-alias b v = record { types = record { kinds = ((RecordKind 0) ∷ (RecordKind 1) ∷ (RecordKind 2) ∷ Char ∷ Nothing ∷ Int ∷ (Array (Some 2) 3) ∷ []); records = (record { «module» = 0; base = None; level = 0; fields = (record { name = []; exported = false; type_number = 5 } ∷ record { name = []; exported = false; type_number = 1 } ∷ []); cells = 3 } ∷ record { «module» = 0; base = None; level = 0; fields = (record { name = []; exported = false; type_number = 6 } ∷ []); cells = 2 } ∷ record { «module» = 0; base = (Some 0); level = 1; fields = (record { name = []; exported = false; type_number = 5 } ∷ []); cells = 4 } ∷ []); signatures = [] }; modules = (record { name = []; objects = []; variables = (0 ∷ 2 ∷ []); body = 1 } ∷ []); procedures = (record { «module» = 0; line = 1; is_body = false; formals = (record { mode = Place; variable = false; type_number = 0 } ∷ record { mode = OfRecord; variable = true; type_number = 0 } ∷ []); result = 4; locals = []; texts = []; body = ((Assign (Part' b (Parameter 1) Int (vec1 v) (more_of-Selector (Field 0 0) end_of-Selector)) (record { form = (Literal 9); kind = Int })) ∷ (OutInt (record { form = (Load (Part' b (Parameter 0) Int (vec1 v) (more_of-Selector (Field 0 0) end_of-Selector))); kind = Int }) (record { form = (Literal 0); kind = Int })) ∷ (CopyArray (Part' b (Parameter 1) (Array (Some 2) 3) (vec2 v) (more_of-Selector (Field 0 1) (more_of-Selector (Field 1 0) end_of-Selector))) (Part' b (Parameter 0) (Array (Some 2) 3) (vec2 v) (more_of-Selector (Field 0 1) (more_of-Selector (Field 1 0) end_of-Selector)))) ∷ (CopyRecord (Whole (Parameter 1) (RecordKind 0)) (Whole (Parameter 0) (RecordKind 0))) ∷ []); answer = None } ∷ record { «module» = 0; line = 1; is_body = true; formals = []; result = 4; locals = []; texts = []; body = ((Assign (Part' b (Global 0 1) Int (vec1 v) (more_of-Selector (Field 0 0) end_of-Selector)) (record { form = (Literal 3); kind = Int })) ∷ (Invoke (Direct' 0 (vec2 v) (more_of-Argument (ByPlace (Whole (Global 0 1) (RecordKind 2))) (more_of-Argument (ByRecord (Whole (Global 0 1) (RecordKind 2))) end_of-Argument)))) ∷ (Invoke (Direct' 0 (vec2 v) (more_of-Argument (ByPlace (Whole (Global 0 0) (RecordKind 0))) (more_of-Argument (ByRecord (Whole (Global 0 1) (RecordKind 2))) end_of-Argument)))) ∷ (OutInt (record { form = (Load (Part' b (Global 0 1) Int (vec1 v) (more_of-Selector (Field 0 0) end_of-Selector))); kind = Int }) (record { form = (Literal 0); kind = Int })) ∷ []); answer = None } ∷ []); imports_in = false }
+alias b v = record { types = record { kinds = ((RecordKind 0) ∷ (RecordKind 1) ∷ (RecordKind 2) ∷ Char ∷ Nothing ∷ Int ∷ (Array (Some 2) 3) ∷ []); records = (record { «module» = 0; base = None; level = 0; fields = (record { name = []; exported = false; type_number = 5 } ∷ record { name = []; exported = false; type_number = 1 } ∷ []); cells = 3; extent = record { bytes = 16; wide = true } } ∷ record { «module» = 0; base = None; level = 0; fields = (record { name = []; exported = false; type_number = 6 } ∷ []); cells = 2; extent = record { bytes = 2; wide = false } } ∷ record { «module» = 0; base = (Some 0); level = 1; fields = (record { name = []; exported = false; type_number = 5 } ∷ []); cells = 4; extent = record { bytes = 24; wide = true } } ∷ []); signatures = [] }; modules = (record { name = []; objects = []; variables = (0 ∷ 2 ∷ []); body = 1 } ∷ []); procedures = (record { «module» = 0; line = 1; is_body = false; formals = (record { mode = Place; variable = false; type_number = 0 } ∷ record { mode = OfRecord; variable = true; type_number = 0 } ∷ []); result = 4; locals = []; texts = []; body = ((Assign (Part' b (Parameter 1) Int (vec1 v) (more_of-Selector (Field 0 0) end_of-Selector)) (record { form = (Literal 9); kind = Int })) ∷ (OutInt (record { form = (Load (Part' b (Parameter 0) Int (vec1 v) (more_of-Selector (Field 0 0) end_of-Selector))); kind = Int }) (record { form = (Literal 0); kind = Int })) ∷ (CopyArray (Part' b (Parameter 1) (Array (Some 2) 3) (vec2 v) (more_of-Selector (Field 0 1) (more_of-Selector (Field 1 0) end_of-Selector))) (Part' b (Parameter 0) (Array (Some 2) 3) (vec2 v) (more_of-Selector (Field 0 1) (more_of-Selector (Field 1 0) end_of-Selector)))) ∷ (CopyRecord (Whole (Parameter 1) (RecordKind 0)) (Whole (Parameter 0) (RecordKind 0))) ∷ []); answer = None } ∷ record { «module» = 0; line = 1; is_body = true; formals = []; result = 4; locals = []; texts = []; body = ((Assign (Part' b (Global 0 1) Int (vec1 v) (more_of-Selector (Field 0 0) end_of-Selector)) (record { form = (Literal 3); kind = Int })) ∷ (Invoke (Direct' 0 (vec2 v) (more_of-Argument (ByPlace (Whole (Global 0 1) (RecordKind 2))) (more_of-Argument (ByRecord (Whole (Global 0 1) (RecordKind 2))) end_of-Argument)))) ∷ (Invoke (Direct' 0 (vec2 v) (more_of-Argument (ByPlace (Whole (Global 0 0) (RecordKind 0))) (more_of-Argument (ByRecord (Whole (Global 0 1) (RecordKind 2))) end_of-Argument)))) ∷ (OutInt (record { form = (Load (Part' b (Global 0 1) Int (vec1 v) (more_of-Selector (Field 0 0) end_of-Selector))); kind = Int }) (record { form = (Literal 0); kind = Int })) ∷ []); answer = None } ∷ []); imports_in = false }
 
 abbrev alias_procs : List Proc
 alias_procs = ((proc ((block (0 ∷ 1 ∷ 2 ∷ []) ((op (ConstOp 9) [] (Some 3)) ∷ (op StoreOp (1 ∷ 3 ∷ []) None) ∷ (op LoadOp (0 ∷ []) (Some 4)) ∷ (op (ConstOp 0) [] (Some 5)) ∷ (op (SvcOp 2) (4 ∷ 5 ∷ []) None) ∷ (op (PlusOp 8) (1 ∷ []) (Some 6)) ∷ (op (PlusOp 8) (0 ∷ []) (Some 7)) ∷ (op (ConstOp 16) [] (Some 8)) ∷ (op CopyOp (6 ∷ 7 ∷ 8 ∷ []) None) ∷ (op (ConstOp 24) [] (Some 9)) ∷ (op CopyOp (1 ∷ 0 ∷ 9 ∷ []) None) ∷ []) (Return None) 1048576 None) ∷ []) 10 3 true 0 0) ∷ (proc ((block [] ((op (GlobalOp 32) [] (Some 0)) ∷ (op (ConstOp 3) [] (Some 1)) ∷ (op StoreOp (0 ∷ 1 ∷ []) None) ∷ (op (GlobalOp 32) [] (Some 2)) ∷ (op (GlobalOp 32) [] (Some 3)) ∷ (op (GlobalOp 320) [] (Some 4)) ∷ (op (CallOp 0) (2 ∷ 3 ∷ 4 ∷ []) None) ∷ (op (GlobalOp 8) [] (Some 5)) ∷ (op (GlobalOp 32) [] (Some 6)) ∷ (op (GlobalOp 320) [] (Some 7)) ∷ (op (CallOp 0) (5 ∷ 6 ∷ 7 ∷ []) None) ∷ (op (GlobalOp 32) [] (Some 8)) ∷ (op LoadOp (8 ∷ []) (Some 9)) ∷ (op (ConstOp 0) [] (Some 10)) ∷ (op (SvcOp 2) (9 ∷ 10 ∷ []) None) ∷ []) (Return None) 1048576 None) ∷ []) 11 0 false 0 0) ∷ [])
@@ -376,3 +376,16 @@ stringcall_low b v = refl
 
 pub stringcall_constants : (b : Box (Unit {0}) Heap) (v : Vec (Unit {0}) Heap) → constants (stringcall b v) (in_cells (stringcall b v).types) 268435456 ≡ (97 ∷ 0 ∷ 0 ∷ 0 ∷ 0 ∷ 0 ∷ 0 ∷ 0 ∷ 98 ∷ 0 ∷ 0 ∷ 0 ∷ 0 ∷ 0 ∷ 0 ∷ 0 ∷ 99 ∷ 0 ∷ 0 ∷ 0 ∷ 0 ∷ 0 ∷ 0 ∷ 0 ∷ 0 ∷ 0 ∷ 0 ∷ 0 ∷ 0 ∷ 0 ∷ 0 ∷ 0 ∷ [])
 stringcall_constants b v = refl
+
+-- MODULE Z; TYPE R = RECORD END; VAR a: ARRAY 1048576, 1048576 OF R; PROCEDURE P; VAR b: ARRAY 1048576 OF R; BEGIN b[1048575] := a[0][1] END P; BEGIN P END Z.
+abbrev emptiest : Outside Program
+emptiest b v = record { types = record { kinds = ((RecordKind 0) ∷ (Array (Some 1048576) 0) ∷ (Array (Some 1048576) 1) ∷ Nothing ∷ []); records = (record { «module» = 0; base = None; level = 0; fields = []; cells = 0; extent = record { bytes = 0; wide = false } } ∷ []); signatures = [] }; modules = (record { name = []; objects = []; variables = (2 ∷ []); body = 1 } ∷ []); procedures = (record { «module» = 0; line = 1; is_body = false; formals = []; result = 3; locals = (1 ∷ []); texts = []; body = ((CopyRecord (Part' b (Local 0) (RecordKind 0) (vec1 v) (more_of-Selector (Index (Some 1048576) 0 (Literal 1048575)) end_of-Selector)) (Part' b (Global 0 0) (RecordKind 0) (vec2 v) (more_of-Selector (Index (Some 1048576) 1 (Literal 0)) (more_of-Selector (Index (Some 1048576) 0 (Literal 1)) end_of-Selector)))) ∷ []); answer = None } ∷ record { «module» = 0; line = 1; is_body = true; formals = []; result = 3; locals = []; texts = []; body = ((Invoke (Direct' 0 (vec0 v) end_of-Argument)) ∷ []); answer = None } ∷ []); imports_in = false }
+
+abbrev emptiest_procs : List Proc
+emptiest_procs = ((proc ((block [] ((op (LocalOp 0) [] (Some 0)) ∷ (op (ConstOp 0) [] (Some 1)) ∷ (op ZeroOp (0 ∷ 1 ∷ []) None) ∷ (op (LocalOp 0) [] (Some 2)) ∷ (op (ConstOp 1048575) [] (Some 3)) ∷ (op (ConstOp 1048576) [] (Some 4)) ∷ (op BelowOp (3 ∷ 4 ∷ []) None) ∷ (op (ConstOp 0) [] (Some 5)) ∷ (op MulAddOp (3 ∷ 5 ∷ 2 ∷ []) (Some 6)) ∷ (op (GlobalOp 8) [] (Some 7)) ∷ (op (ConstOp 0) [] (Some 8)) ∷ (op (ConstOp 1048576) [] (Some 9)) ∷ (op BelowOp (8 ∷ 9 ∷ []) None) ∷ (op (ConstOp 0) [] (Some 10)) ∷ (op MulAddOp (8 ∷ 10 ∷ 7 ∷ []) (Some 11)) ∷ (op (ConstOp 1) [] (Some 12)) ∷ (op (ConstOp 1048576) [] (Some 13)) ∷ (op BelowOp (12 ∷ 13 ∷ []) None) ∷ (op (ConstOp 0) [] (Some 14)) ∷ (op MulAddOp (12 ∷ 14 ∷ 11 ∷ []) (Some 15)) ∷ (op (ConstOp 0) [] (Some 16)) ∷ (op CopyOp (6 ∷ 15 ∷ 16 ∷ []) None) ∷ []) (Return None) 1048576 None) ∷ []) 17 0 true 0 0) ∷ (proc ((block [] ((op (CallOp 0) [] None) ∷ []) (Return None) 1048576 None) ∷ []) 0 0 false 0 0) ∷ [])
+
+pub emptiest_low : (b : Box (Unit {0}) Heap) (v : Vec (Unit {0}) Heap) → lowered (emptiest b v) ≡ emptiest_procs
+emptiest_low b v = refl
+
+pub emptiest_constants : (b : Box (Unit {0}) Heap) (v : Vec (Unit {0}) Heap) → constants (emptiest b v) (in_cells (emptiest b v).types) 268435456 ≡ (8 ∷ 0 ∷ 0 ∷ 16 ∷ 0 ∷ 0 ∷ 0 ∷ 0 ∷ 0 ∷ 0 ∷ 0 ∷ 0 ∷ 0 ∷ 0 ∷ 0 ∷ 0 ∷ 0 ∷ 0 ∷ 0 ∷ 0 ∷ 0 ∷ 0 ∷ 0 ∷ 0 ∷ 0 ∷ 0 ∷ 0 ∷ 0 ∷ 0 ∷ 0 ∷ 0 ∷ 0 ∷ 0 ∷ 0 ∷ 0 ∷ 0 ∷ 0 ∷ 0 ∷ 0 ∷ 0 ∷ 0 ∷ 0 ∷ 0 ∷ 0 ∷ 0 ∷ 0 ∷ 0 ∷ 0 ∷ 0 ∷ 0 ∷ 0 ∷ 0 ∷ 0 ∷ 0 ∷ 0 ∷ 0 ∷ 0 ∷ 0 ∷ 0 ∷ 0 ∷ 0 ∷ 0 ∷ 0 ∷ 0 ∷ 0 ∷ 0 ∷ 0 ∷ 0 ∷ 0 ∷ 0 ∷ 0 ∷ 0 ∷ 0 ∷ 0 ∷ 0 ∷ 0 ∷ 0 ∷ 0 ∷ 0 ∷ 0 ∷ 0 ∷ 0 ∷ 0 ∷ 0 ∷ 0 ∷ 0 ∷ 0 ∷ 0 ∷ 0 ∷ 0 ∷ 0 ∷ 0 ∷ 0 ∷ 0 ∷ 0 ∷ 0 ∷ 0 ∷ 0 ∷ 0 ∷ 0 ∷ 0 ∷ 0 ∷ 0 ∷ 0 ∷ 0 ∷ 0 ∷ 0 ∷ 0 ∷ 0 ∷ 0 ∷ 0 ∷ 0 ∷ 0 ∷ 0 ∷ 0 ∷ 0 ∷ 0 ∷ 0 ∷ 0 ∷ 0 ∷ 0 ∷ 0 ∷ 0 ∷ 0 ∷ 0 ∷ 0 ∷ 0 ∷ 0 ∷ [])
+emptiest_constants b v = refl

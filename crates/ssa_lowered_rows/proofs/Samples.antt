@@ -138,7 +138,7 @@ depth_low b v = refl
 
 -- MODULE G; TYPE B = RECORD END; E = RECORD (B) x: INTEGER END; F = RECORD (E) END; PB = POINTER TO B; PE = POINTER TO E; PF = POINTER TO F; VAR p: PB; e: PE; f: PF; BEGIN ASSERT(~(p IS PE)); NEW(e); p := e; e := p(PE); NEW(f); p := f; e := p(PE); ASSERT(p IS PF); NEW(p); e := p(PE) END G.
 abbrev guards : Outside Program
-guards b v = record { types = record { kinds = ((RecordKind 0) ∷ (RecordKind 1) ∷ (RecordKind 2) ∷ (PointerKind 0) ∷ (PointerKind 1) ∷ (PointerKind 2) ∷ Nothing ∷ Int ∷ []); records = (record { «module» = 0; base = None; level = 0; fields = []; cells = 0 } ∷ record { «module» = 0; base = (Some 0); level = 1; fields = (record { name = []; exported = false; type_number = 7 } ∷ []); cells = 1 } ∷ record { «module» = 0; base = (Some 1); level = 2; fields = []; cells = 1 } ∷ []); signatures = [] }; modules = (record { name = []; objects = []; variables = (3 ∷ 4 ∷ 5 ∷ []); body = 0 } ∷ []); procedures = (record { «module» = 0; line = 1; is_body = true; formals = []; result = 6; locals = []; texts = []; body = ((Assert (record { form = (Unary' Not b (IsPointer' b (Load (Whole (Global 0 0) (PointerKind 0))) 1)); kind = BoolKind })) ∷ (New (Whole (Global 0 1) (PointerKind 1))) ∷ (Assign (Whole (Global 0 0) (PointerKind 0)) (record { form = (Load (Whole (Global 0 1) (PointerKind 1))); kind = (PointerKind 1) })) ∷ (Assign (Whole (Global 0 1) (PointerKind 1)) (record { form = (Guard' b (Whole (Global 0 0) (PointerKind 0)) (1 ∷ [])); kind = (PointerKind 1) })) ∷ (New (Whole (Global 0 2) (PointerKind 2))) ∷ (Assign (Whole (Global 0 0) (PointerKind 0)) (record { form = (Load (Whole (Global 0 2) (PointerKind 2))); kind = (PointerKind 2) })) ∷ (Assign (Whole (Global 0 1) (PointerKind 1)) (record { form = (Guard' b (Whole (Global 0 0) (PointerKind 0)) (1 ∷ [])); kind = (PointerKind 1) })) ∷ (Assert (record { form = (IsPointer' b (Load (Whole (Global 0 0) (PointerKind 0))) 2); kind = BoolKind })) ∷ (New (Whole (Global 0 0) (PointerKind 0))) ∷ (Assign (Whole (Global 0 1) (PointerKind 1)) (record { form = (Guard' b (Whole (Global 0 0) (PointerKind 0)) (1 ∷ [])); kind = (PointerKind 1) })) ∷ []); answer = None } ∷ []); imports_in = false }
+guards b v = record { types = record { kinds = ((RecordKind 0) ∷ (RecordKind 1) ∷ (RecordKind 2) ∷ (PointerKind 0) ∷ (PointerKind 1) ∷ (PointerKind 2) ∷ Nothing ∷ Int ∷ []); records = (record { «module» = 0; base = None; level = 0; fields = []; cells = 0; extent = record { bytes = 0; wide = false } } ∷ record { «module» = 0; base = (Some 0); level = 1; fields = (record { name = []; exported = false; type_number = 7 } ∷ []); cells = 1; extent = record { bytes = 8; wide = true } } ∷ record { «module» = 0; base = (Some 1); level = 2; fields = []; cells = 1; extent = record { bytes = 8; wide = true } } ∷ []); signatures = [] }; modules = (record { name = []; objects = []; variables = (3 ∷ 4 ∷ 5 ∷ []); body = 0 } ∷ []); procedures = (record { «module» = 0; line = 1; is_body = true; formals = []; result = 6; locals = []; texts = []; body = ((Assert (record { form = (Unary' Not b (IsPointer' b (Load (Whole (Global 0 0) (PointerKind 0))) 1)); kind = BoolKind })) ∷ (New (Whole (Global 0 1) (PointerKind 1))) ∷ (Assign (Whole (Global 0 0) (PointerKind 0)) (record { form = (Load (Whole (Global 0 1) (PointerKind 1))); kind = (PointerKind 1) })) ∷ (Assign (Whole (Global 0 1) (PointerKind 1)) (record { form = (Guard' b (Whole (Global 0 0) (PointerKind 0)) (1 ∷ [])); kind = (PointerKind 1) })) ∷ (New (Whole (Global 0 2) (PointerKind 2))) ∷ (Assign (Whole (Global 0 0) (PointerKind 0)) (record { form = (Load (Whole (Global 0 2) (PointerKind 2))); kind = (PointerKind 2) })) ∷ (Assign (Whole (Global 0 1) (PointerKind 1)) (record { form = (Guard' b (Whole (Global 0 0) (PointerKind 0)) (1 ∷ [])); kind = (PointerKind 1) })) ∷ (Assert (record { form = (IsPointer' b (Load (Whole (Global 0 0) (PointerKind 0))) 2); kind = BoolKind })) ∷ (New (Whole (Global 0 0) (PointerKind 0))) ∷ (Assign (Whole (Global 0 1) (PointerKind 1)) (record { form = (Guard' b (Whole (Global 0 0) (PointerKind 0)) (1 ∷ [])); kind = (PointerKind 1) })) ∷ []); answer = None } ∷ []); imports_in = false }
 
 abbrev guards_procs : List Proc
 guards_procs = ((proc ((block [] ((op (GlobalOp 8) [] (Some 0)) ∷ (op LoadOp (0 ∷ []) (Some 1)) ∷ (op (GlobalOp 160) [] (Some 2)) ∷ (op (IsPtrOp 1) (1 ∷ 2 ∷ []) (Some 3)) ∷ (op FlipOp (3 ∷ []) (Some 4)) ∷ (op TrueOp (4 ∷ []) None) ∷ (op (GlobalOp 16) [] (Some 5)) ∷ (op (ConstOp 2) [] (Some 6)) ∷ (op (ConstOp 16) [] (Some 7)) ∷ (op (GlobalOp 160) [] (Some 8)) ∷ (op NewOp (6 ∷ 7 ∷ 8 ∷ []) (Some 9)) ∷ (op StoreOp (5 ∷ 9 ∷ []) None) ∷ (op (GlobalOp 8) [] (Some 10)) ∷ (op (GlobalOp 16) [] (Some 11)) ∷ (op LoadOp (11 ∷ []) (Some 12)) ∷ (op StoreOp (10 ∷ 12 ∷ []) None) ∷ (op (GlobalOp 16) [] (Some 13)) ∷ (op (GlobalOp 8) [] (Some 14)) ∷ (op LoadOp (14 ∷ []) (Some 15)) ∷ (op (GlobalOp 160) [] (Some 16)) ∷ (op (GuardPtrOp 1) (15 ∷ 16 ∷ []) None) ∷ (op StoreOp (13 ∷ 15 ∷ []) None) ∷ (op (GlobalOp 24) [] (Some 17)) ∷ (op (ConstOp 2) [] (Some 18)) ∷ (op (ConstOp 16) [] (Some 19)) ∷ (op (GlobalOp 288) [] (Some 20)) ∷ (op NewOp (18 ∷ 19 ∷ 20 ∷ []) (Some 21)) ∷ (op StoreOp (17 ∷ 21 ∷ []) None) ∷ (op (GlobalOp 8) [] (Some 22)) ∷ (op (GlobalOp 24) [] (Some 23)) ∷ (op LoadOp (23 ∷ []) (Some 24)) ∷ (op StoreOp (22 ∷ 24 ∷ []) None) ∷ (op (GlobalOp 16) [] (Some 25)) ∷ (op (GlobalOp 8) [] (Some 26)) ∷ (op LoadOp (26 ∷ []) (Some 27)) ∷ (op (GlobalOp 160) [] (Some 28)) ∷ (op (GuardPtrOp 1) (27 ∷ 28 ∷ []) None) ∷ (op StoreOp (25 ∷ 27 ∷ []) None) ∷ (op (GlobalOp 8) [] (Some 29)) ∷ (op LoadOp (29 ∷ []) (Some 30)) ∷ (op (GlobalOp 288) [] (Some 31)) ∷ (op (IsPtrOp 2) (30 ∷ 31 ∷ []) (Some 32)) ∷ (op TrueOp (32 ∷ []) None) ∷ (op (GlobalOp 8) [] (Some 33)) ∷ (op (ConstOp 1) [] (Some 34)) ∷ (op (ConstOp 8) [] (Some 35)) ∷ (op (GlobalOp 32) [] (Some 36)) ∷ (op NewOp (34 ∷ 35 ∷ 36 ∷ []) (Some 37)) ∷ (op StoreOp (33 ∷ 37 ∷ []) None) ∷ (op (GlobalOp 16) [] (Some 38)) ∷ (op (GlobalOp 8) [] (Some 39)) ∷ (op LoadOp (39 ∷ []) (Some 40)) ∷ (op (GlobalOp 160) [] (Some 41)) ∷ (op (GuardPtrOp 1) (40 ∷ 41 ∷ []) None) ∷ (op StoreOp (38 ∷ 40 ∷ []) None) ∷ []) (Return None) 1048576 None) ∷ []) 42 0 false 0 0) ∷ [])
@@ -151,7 +151,7 @@ guards_constants b v = refl
 
 -- MODULE G; TYPE B = RECORD END; E = RECORD (B) x: INTEGER END; PB = POINTER TO B; PE = POINTER TO E; VAR p: PB; e: PE; BEGIN e := p(PE) END G.
 abbrev nilguard : Outside Program
-nilguard b v = record { types = record { kinds = ((RecordKind 0) ∷ (RecordKind 1) ∷ (PointerKind 0) ∷ (PointerKind 1) ∷ Nothing ∷ Int ∷ []); records = (record { «module» = 0; base = None; level = 0; fields = []; cells = 0 } ∷ record { «module» = 0; base = (Some 0); level = 1; fields = (record { name = []; exported = false; type_number = 5 } ∷ []); cells = 1 } ∷ []); signatures = [] }; modules = (record { name = []; objects = []; variables = (2 ∷ 3 ∷ []); body = 0 } ∷ []); procedures = (record { «module» = 0; line = 1; is_body = true; formals = []; result = 4; locals = []; texts = []; body = ((Assign (Whole (Global 0 1) (PointerKind 1)) (record { form = (Guard' b (Whole (Global 0 0) (PointerKind 0)) (1 ∷ [])); kind = (PointerKind 1) })) ∷ []); answer = None } ∷ []); imports_in = false }
+nilguard b v = record { types = record { kinds = ((RecordKind 0) ∷ (RecordKind 1) ∷ (PointerKind 0) ∷ (PointerKind 1) ∷ Nothing ∷ Int ∷ []); records = (record { «module» = 0; base = None; level = 0; fields = []; cells = 0; extent = record { bytes = 0; wide = false } } ∷ record { «module» = 0; base = (Some 0); level = 1; fields = (record { name = []; exported = false; type_number = 5 } ∷ []); cells = 1; extent = record { bytes = 8; wide = true } } ∷ []); signatures = [] }; modules = (record { name = []; objects = []; variables = (2 ∷ 3 ∷ []); body = 0 } ∷ []); procedures = (record { «module» = 0; line = 1; is_body = true; formals = []; result = 4; locals = []; texts = []; body = ((Assign (Whole (Global 0 1) (PointerKind 1)) (record { form = (Guard' b (Whole (Global 0 0) (PointerKind 0)) (1 ∷ [])); kind = (PointerKind 1) })) ∷ []); answer = None } ∷ []); imports_in = false }
 
 abbrev nilguard_procs : List Proc
 nilguard_procs = ((proc ((block [] ((op (GlobalOp 16) [] (Some 0)) ∷ (op (GlobalOp 8) [] (Some 1)) ∷ (op LoadOp (1 ∷ []) (Some 2)) ∷ (op (GlobalOp 152) [] (Some 3)) ∷ (op (GuardPtrOp 1) (2 ∷ 3 ∷ []) None) ∷ (op StoreOp (0 ∷ 2 ∷ []) None) ∷ []) (Return None) 1048576 None) ∷ []) 4 0 false 0 0) ∷ [])

@@ -6,10 +6,10 @@ use Rattle.std.proofs.lemmas.Bool.{ltb-true, leb-true}
 use Rattle.std.proofs.lemmas.List.{get_or_past}
 use Rattle.std.proofs.lemmas.List.Sums.{sum_by-cons}
 use Rattle.ob_types.specs.Table.{Table}
-use Rattle.ob_types.specs.Layout.{kind_of, record_of, types_of, cells, record_cells}
+use Rattle.ob_types.specs.Layout.{no_record_type, kind_of, record_of, types_of, cells, record_cells}
 use Rattle.ob_types.specs.Forms.{all, all_below, if_base}
 use Rattle.ob_types.specs.LegalTypes.{most_cells, is_length, is_variable_kind, is_variable_type, is_record_type, kind_legal, type_legal, record_legal, signature_legal, types_legal}
-use Rattle.ob_types.specs.WellFormed.{well_formed, argument_words, level_fine, cells_fine, counts_fine}
+use Rattle.ob_types.specs.WellFormed.{well_formed, argument_words, level_fine, sizes_fine, counts_fine}
 use Rattle.ob_types.specs.WellFormed.{words_of as words_of_mode}
 use Rattle.ob_types.specs.Counted.{IsClosed}
 use Rattle.ob_types.specs.declared.types.Mode.{Mode}
@@ -22,7 +22,7 @@ use Rattle.ob_types.specs.declared.types.Formal.{Formal}
 use Rattle.ob_types.specs.declared.program.Procedure.{Procedure}
 use Rattle.ob_types.specs.declared.program.Program.{Program}
 use Rattle.ob_types.proofs.Tests.{no, none_some, and_of, below, all_at, less_or_past}
-use Rattle.ob_types.proofs.WellFormedParts.{parts_of}
+use Rattle.ob_types.proofs.WellFormedParts.{parts_of, said}
 use Rattle.ssa_lowered.specs.Variables.{words_by, words_of}
 use Rattle.ssa_tables.specs.Measured.{HasSizes, IsMeasured}
 
@@ -53,11 +53,8 @@ module _ (t : Table) where
   not_nothing : {A : Type 0} (k : ℕ) (kind : TypeKind) → kind_of t k ≡ kind → length t.kinds ≤ k → (Nothing ≡ kind → A) → A
   not_nothing k kind is le f = f (sym (kind_past k le) ∙ is)
 
-  abbrev plain : RecordType
-  plain = record { «module» = 0; base = None; level = 0; fields = []; cells = 0 }
-
-  record_past : (r : ℕ) → length t.records ≤ r → record_of t r ≡ plain
-  record_past r le = get_or_past t.records r plain le
+  record_past : (r : ℕ) → length t.records ≤ r → record_of t r ≡ no_record_type
+  record_past r le = get_or_past t.records r no_record_type le
 
   module _ (legal : types_legal t ≡ true) where
     abbrev records_legal : Bool
@@ -124,11 +121,11 @@ measured p h =
     let parts = parts_of p h in
     let t = p.types in
     let levels = all_below (length t.records) (level_fine p) in
-    let counted = all_below (length t.records) (cells_fine p) in
+    let counted = all_below (length t.records) (sizes_fine p) in
     let signatures = all (λ g. nat_le (argument_words g.formals) 24) t.signatures in
     let procedures = all (λ (q : Procedure). nat_le (argument_words q.formals) 24) p.procedures in
     let c = and_of (levels && counted) (signatures && procedures) parts.counts in
-    let records : (r : ℕ) → r < length t.records → (record_of t r).cells ≡ record_cells t r = (λ r lt. eqb-true (record_of t r).cells (record_cells t r) (below (length t.records) (cells_fine p) (and_of levels counted c.0).1 r lt)) in
+    let records : (r : ℕ) → r < length t.records → (record_of t r).cells ≡ record_cells t r = (λ r lt. (said p r (below (length t.records) (sizes_fine p) (and_of levels counted c.0).1 r lt)).0) in
     record {
       types = record {
         fine = parts.table;

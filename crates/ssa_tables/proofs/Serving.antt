@@ -6,7 +6,7 @@ use Rattle.std.proofs.lemmas.Bool.{lt-ltb}
 use Rattle.std.proofs.lemmas.List.{get_or-map, get_or_past}
 use Rattle.std.proofs.lemmas.List.Sums.{sum_by-cons, sum-map, sum_by-take-le}
 use Rattle.ob_types.specs.Table.{Table}
-use Rattle.ob_types.specs.Layout.{kind_of, record_of, types_of, base_cells, cells, cells_of_all, record_cells, field_place}
+use Rattle.ob_types.specs.Layout.{no_record_type, kind_of, record_of, types_of, base_cells, cells, cells_of_all, record_cells, field_place}
 use Rattle.ob_types.specs.Meaning.{globals_of, texts_of, text_number}
 use Rattle.ob_types.specs.declared.types.Field.{Field}
 use Rattle.ob_types.specs.declared.types.Formal.{Formal}
@@ -186,9 +186,6 @@ module _ (p : Program) (sizes : List ℕ) (known : (k : ℕ) → size_by sizes k
   ---- Records
 
   module _ (has : HasSizes t) where
-    abbrev plain : RecordType
-    plain = record { «module» = 0; base = None; level = 0; fields = []; cells = 0 }
-
     abbrev record_bytes : List ℕ
     record_bytes = map (λ (r : RecordType). 8 * r.cells) t.records
 
@@ -196,7 +193,7 @@ module _ (p : Program) (sizes : List ℕ) (known : (k : ℕ) → size_by sizes k
     whole_is r = by (less_or_past r (length t.records))
       where
         by : (r < length t.records) ⊎ (length t.records ≤ r) → get_or record_bytes r 0 ≡ 8 * record_cells t r
-        by (inl lt) = get_or-map (λ (x : RecordType). 8 * x.cells) t.records r plain 0 lt ∙ ap (λ n. 8 * n) (has.records r lt)
+        by (inl lt) = get_or-map (λ (x : RecordType). 8 * x.cells) t.records r no_record_type 0 lt ∙ ap (λ n. 8 * n) (has.records r lt)
         by (inr le) = get_or_past record_bytes r 0 (subst (λ n. n ≤ r) (sym (map_length t.records)) le) ∙ sym (ap (λ n. 8 * n) (none r le))
           where
             map_length : (xs : List RecordType) → length (map (λ (x : RecordType). 8 * x.cells) xs) ≡ length xs
@@ -204,7 +201,7 @@ module _ (p : Program) (sizes : List ℕ) (known : (k : ℕ) → size_by sizes k
             map_length (x ∷ xs) = ap suc (map_length xs)
 
             none : (r : ℕ) → length t.records ≤ r → record_cells t r ≡ 0
-            none r le = ap (λ (x : RecordType). base_cells x.base (λ b. Rattle.ob_types.specs.Layout.record_within t (length t.kinds + length t.records) b) + sum (map (λ k. Rattle.ob_types.specs.Layout.cells_within t (length t.kinds + length t.records) k) (types_of x.fields))) (get_or_past t.records r plain le)
+            none r le = ap (λ (x : RecordType). base_cells x.base (λ b. Rattle.ob_types.specs.Layout.record_within t (length t.kinds + length t.records) b) + sum (map (λ k. Rattle.ob_types.specs.Layout.cells_within t (length t.kinds + length t.records) k) (types_of x.fields))) (get_or_past t.records r no_record_type le)
 
     base_is : (o : Option ℕ) → base_by record_bytes o ≡ 8 * base_cells o (record_cells t)
     base_is None = refl
@@ -252,11 +249,11 @@ module _ (p : Program) (sizes : List ℕ) (known : (k : ℕ) → size_by sizes k
 
         by : (r < length t.records) ⊎ (length t.records ≤ r) → (of_row (map row_of t.records) r field 0 ≡ 8 * field_place t r field) × (8 * field_place t r field ≤ 8388608)
         by (inl lt) = (
-          at_inside (map row_of t.records) r field 0 (subst (λ n. r < n) (sym (rows_length t.records)) lt) ∙ ap (λ row. clamped row field) (get_or-map row_of t.records r plain [] lt) ∙ (inside r field lt).0,
+          at_inside (map row_of t.records) r field 0 (subst (λ n. r < n) (sym (rows_length t.records)) lt) ∙ ap (λ row. clamped row field) (get_or-map row_of t.records r no_record_type [] lt) ∙ (inside r field lt).0,
           (inside r field lt).1,
         )
         by (inr le) =
-            let a : field_place t r field ≡ 0 + cells_of_all t (take {A = ℕ} field []) = ap (λ (x : RecordType). base_cells x.base (record_cells t) + cells_of_all t (take field (types_of x.fields))) (get_or_past t.records r plain le) in
+            let a : field_place t r field ≡ 0 + cells_of_all t (take {A = ℕ} field []) = ap (λ (x : RecordType). base_cells x.base (record_cells t) + cells_of_all t (take field (types_of x.fields))) (get_or_past t.records r no_record_type le) in
             let b : cells_of_all t (take {A = ℕ} field []) ≡ 0 = ap (cells_of_all t) (take_nothing field) in
             let none : field_place t r field ≡ 0 = omega (arith, a, b) in
             (at_past (map row_of t.records) r field 0 (subst (λ n. n ≤ r) (sym (rows_length t.records)) le) ∙ omega (arith, none), omega (arith, none))
@@ -264,7 +261,7 @@ module _ (p : Program) (sizes : List ℕ) (known : (k : ℕ) → size_by sizes k
     level_is : (r : ℕ) → get_or (map (λ (x : RecordType). x.level) t.records) r 0 ≡ (record_of t r).level
     level_is r = by t.records r
       where
-        by : (xs : List RecordType) (r : ℕ) → get_or (map (λ (x : RecordType). x.level) xs) r 0 ≡ (get_or xs r plain).level
+        by : (xs : List RecordType) (r : ℕ) → get_or (map (λ (x : RecordType). x.level) xs) r 0 ≡ (get_or xs r no_record_type).level
         by [] r = refl
         by (x ∷ xs) zero = refl
         by (x ∷ xs) (suc r) = by xs r

@@ -8,7 +8,7 @@ ghost use Rattle.ssa_tables.specs.Strings.{Adds};
 
 use crate::places::beyond;
 use items::Items;
-use ob_types::Procedure;
+use ob_types::{Characters, Procedure};
 use outside::Memory;
 use std::alloc::Global;
 
@@ -30,7 +30,7 @@ pub fn string_places(
 }
 
 /// Adds where each of some strings begins; the result is where the last one ends.
-fn add_strings(list: &mut Items<u32>, first: u32, texts: &[Items<u8>]) -> Result<u32, Memory>
+fn add_strings(list: &mut Items<u32>, first: u32, texts: &[Characters]) -> Result<u32, Memory>
     ensures { IfOk result (λ end. Adds list.old list.new first end texts.now) }
 {
     let mut at = first;

@@ -12,11 +12,11 @@ use Rattle.ob_types.specs.declared.types.Signature.{Signature}
 use Rattle.ob_types.specs.Table.{Table}
 use Rattle.ob_types.proofs.Tests.{none_some, some_same}
 use Rattle.ob_judge.specs.Shapes.{Added as AddedOf, Field as FieldOf, Layout as LayoutOf}
-use Rattle.check_types.specs.steps.Maps.{at_bytes}
+use Rattle.check_types.specs.Fields.{at_fields}
 use Rattle.check_types.specs.declared.types.TypeRef.{TypeRef}
 use Rattle.check_types.specs.declared.types.TypeRef.TheVariants as TheType
 use Rattle.check_types.specs.declared.table.Added.{Added}
-use Rattle.check_types.specs.declared.table.FieldEntry.{FieldEntry}
+use Rattle.check_types.specs.declared.fields.FieldEntry.{FieldEntry}
 use Rattle.check_types.specs.declared.table.Layout.{Layout}
 use Rattle.check_types.specs.declared.table.TypeTable.{TypeTable}
 use Rattle.check_types.specs.Known.{field_of, added_of, layout_of, known_of}
@@ -48,7 +48,7 @@ closed_more es fs more l h = record { field = λ q f at. numbered_more es fs mor
 pub layouts_more : (es fs : List TypeRef) → Extends es fs → (xs : List RecordType) (ls : List Layout) → AreRecordTypes es xs ls → AreRecordTypes fs xs ls
 layouts_more es fs more [] [] h = tt
 layouts_more es fs more (x ∷ xs) (l ∷ ls) h = (
-  record { unit = h.0.unit; base = h.0.base; level = h.0.level; fields = fields_more es fs more x.fields l.added.items h.0.fields; cells = h.0.cells },
+  record { unit = h.0.unit; base = h.0.base; level = h.0.level; fields = fields_more es fs more x.fields l.added.items h.0.fields; cells = h.0.cells; extent = h.0.extent; narrow = h.0.narrow },
   closed_more es fs more l h.1,
   layouts_more es fs more xs ls h.2,
 )
@@ -71,9 +71,9 @@ module _ (t u : Table) (es : List TypeRef) (means : (e : TypeRef) → IsNumbered
 
   pub layout_stays : (x : RecordType) (l : Layout) → IsRecordType es x l → IsClosed es l → layout_of u l ≡ layout_of t l
   layout_stays x l h c =
-      ap₂ (λ (as' : List AddedOf) (fs : List ℕ → Option FieldOf). record { module_number = l.module_number; line = l.line.items; added = as'; fields = fs; cells = l.cells })
+      ap₂ (λ (as' : List AddedOf) (fs : List ℕ → Option FieldOf). record { module_number = l.module_number; line = l.line.items; added = as'; fields = fs; cells = l.cells; extent = l.extent })
       (added_stay x.fields l.added.items h.fields)
-      (fun_ext (λ q. field_stays (at_bytes l.fields q) (λ f is. c.field q f is)))
+      (fun_ext (λ q. field_stays (at_fields l.fields q) (λ f is. c.field q f is)))
 
   pub layouts_stay : (xs : List RecordType) (ls : List Layout) → AreRecordTypes es xs ls → map (layout_of u) ls ≡ map (layout_of t) ls
   layouts_stay [] [] h = refl

@@ -10,6 +10,9 @@ use Rattle.ob_types.specs.declared.types.RecordType.{RecordType}
 use Rattle.ob_types.specs.declared.types.Signature.{Signature}
 use Rattle.ob_types.specs.declared.types.TypeKind.TheVariants as TheKind
 use Rattle.ob_types.specs.Assignable.{both_or_neither}
+use Rattle.ob_types.specs.Layout.{no_record_type}
+use Rattle.ob_types.specs.Trees.{no_extent}
+use Rattle.ob_types.specs.declared.types.Extent.{Extent}
 use Rattle.ob_types.specs.Table.{Table}
 use Rattle.ob_types.proofs.Tests.{none_some, some_same, no}
 use Rattle.ob_judge.specs.Shapes.{Procedure}
@@ -51,29 +54,28 @@ layouts_set es x l h c (suc n) (y ∷ xs) (k ∷ ls) a = (a.0, a.1, layouts_set 
 layouts_set es x l h c n [] (k ∷ ls) a = absurd a
 layouts_set es x l h c n (y ∷ xs) [] a = absurd a
 
-abbrev pub blank_record : RecordType
-blank_record = record { «module» = 0; base = None; level = 0; fields = []; cells = 0 }
-
 -- of a type of which nothing is known
 module _ (es : List TypeRef) (l : Layout) (blank : IsBlank l) where
-  blank_is : IsRecordType es blank_record l
+  blank_is : IsRecordType es no_record_type l
   blank_is = record {
     unit = sym blank.unit;
     base = sym (ap base_in blank.line);
     level = let e = ap (λ ns. length ns) blank.line in omega (arith, e);
     fields = subst (AreFields es []) (sym blank.added) tt;
     cells = sym blank.cells;
+    extent = sym blank.extent;
+    narrow = let e = ap (λ x. x.bytes) blank.extent in omega (arith, e);
   }
 
   blank_closed : IsClosed es l
   blank_closed = record { field = λ q f h. none_some f (sym (blank.fields q) ∙ h) }
 
   pub blank_means : (t : Table) → layout_of t l ≡ no_layout
-  blank_means t = joined blank.unit blank.line (ap (map (added_of t)) blank.added) (fun_ext (λ q. ap (option_map (field_of t)) (blank.fields q))) blank.cells
+  blank_means t = joined blank.unit blank.line (ap (map (added_of t)) blank.added) (fun_ext (λ q. ap (option_map (field_of t)) (blank.fields q))) blank.cells blank.extent
     where
-      joined : {m : ℕ} {line : List ℕ} {as' : List AddedOf} {fs : List ℕ → Option FieldOf} {n : ℕ} → m ≡ 0 → line ≡ [] → as' ≡ [] → fs ≡ (λ q. None) → n ≡ 0
-          → record { module_number = m; line = line; added = as'; fields = fs; cells = n } ≡ no_layout
-      joined a b c d e = cc
+      joined : {m : ℕ} {line : List ℕ} {as' : List AddedOf} {fs : List ℕ → Option FieldOf} {n : ℕ} {x : Extent} → m ≡ 0 → line ≡ [] → as' ≡ [] → fs ≡ (λ q. None) → n ≡ 0 → x ≡ no_extent
+          → record { module_number = m; line = line; added = as'; fields = fs; cells = n; extent = x } ≡ no_layout
+      joined a b c d e f = cc
 
 -- ---- the last entry
 
@@ -96,7 +98,7 @@ module _ (b : Contents) (ok : IsConsistent b) where
   module _ (r n : ℕ) (at : r ≡ length b.layouts) (number : n ≡ length b.entries) (l : Layout) (blank : IsBlank l) where
     abbrev with_record : Contents
     with_record = record {
-      types = record b.types { kinds = b.types.kinds ++ TheKind.Record r ∷ []; records = b.types.records ++ blank_record ∷ [] };
+      types = record b.types { kinds = b.types.kinds ++ TheKind.Record r ∷ []; records = b.types.records ++ no_record_type ∷ [] };
       entries = b.entries ++ TheType.Record r ∷ [];
       bases = b.bases;
       layouts = b.layouts ++ l ∷ [];
@@ -110,10 +112,10 @@ module _ (b : Contents) (ok : IsConsistent b) where
     with_record_built =
         let fits = record_next r at in
         record {
-          sound = pushed (record b.types { records = b.types.records ++ blank_record ∷ [] }) b.entries b.bases (other_records b.types b.entries b.bases ok.sound (b.types.records ++ blank_record ∷ [])) (TheType.Record r) fits;
+          sound = pushed (record b.types { records = b.types.records ++ no_record_type ∷ [] }) b.entries b.bases (other_records b.types b.entries b.bases ok.sound (b.types.records ++ no_record_type ∷ [])) (TheType.Record r) fits;
           index = indexed b.notes with_record.notes b.entries (TheType.Record r) record_is_noted fits.new ok.index;
           signatures = record { says = ok.signatures.says; all = ok.signatures.all };
-          layouts = layouts_push with_record.entries blank_record l (blank_is with_record.entries l blank) (blank_closed with_record.entries l blank) b.types.records b.layouts
+          layouts = layouts_push with_record.entries no_record_type l (blank_is with_record.entries l blank) (blank_closed with_record.entries l blank) b.types.records b.layouts
               (layouts_more b.entries with_record.entries (extends_append b.entries (TheType.Record r ∷ [])) b.types.records b.layouts ok.layouts);
           records = one_longer b.notes.records b.layouts n l ok.records;
           pointers = ok.pointers;
@@ -129,7 +131,7 @@ module _ (b : Contents) (ok : IsConsistent b) where
         one_longer : {A B : Type 0} (xs : List A) (ys : List B) (x : A) (y : B) → length xs ≡ length ys → length (xs ++ x ∷ []) ≡ length (ys ++ y ∷ [])
         one_longer xs ys x y e = let f = length-append xs (x ∷ []) in let g = length-append ys (y ∷ []) in omega (arith, e, f, g)
 
-    pub record_built : (t : Table) (es : List TypeRef) (bs : List (Option ℕ)) (ls : List Layout) (rs : List ℕ) (x : RecordType) → x ≡ blank_record
+    pub record_built : (t : Table) (es : List TypeRef) (bs : List (Option ℕ)) (ls : List Layout) (rs : List ℕ) (x : RecordType) → x ≡ no_record_type
         → t ≡ record b.types { kinds = b.types.kinds ++ TheKind.Record r ∷ []; records = b.types.records ++ x ∷ [] } → es ≡ b.entries ++ TheType.Record r ∷ [] → bs ≡ b.bases → ls ≡ b.layouts ++ l ∷ [] → rs ≡ b.notes.records ++ n ∷ []
         → IsConsistent (record { types = t; entries = es; bases = bs; layouts = ls; notes = record b.notes { records = rs } })
     record_built t es bs ls rs x is p q u v w =

@@ -1,10 +1,11 @@
 -- Counts of cells, as far as they are counted.
 use Rattle.std.proofs.Common.{◌≡◌, ℕ, zero, suc, ◌*◌, ◌<◌, ◌≤◌, sym, ap, ◌∙◌, arith, ◌⊎◌, inl, inr}
 use Rattle.std.specs.Prelude.{min}
-use Rattle.std.proofs.Math.Nat.{min-eq_left, min-eq_right, le-mul_of_pos_right, mul_assoc, mul-zero}
+use Rattle.std.proofs.Math.Nat.{min-eq_left, min-eq_right, le-mul_of_pos_right, mul_assoc, mul_comm, mul-zero}
 use Rattle.ob_types.proofs.Tests.{less_or_past}
 
-capped_mul : (m a c : ℕ) → min m (min m a * c) ≡ min m (a * c)
+-- a factor counted as far
+pub capped_mul : (m a c : ℕ) → min m (min m a * c) ≡ min m (a * c)
 capped_mul m a c = by (less_or_past a m) c
   where
     by : (a < m) ⊎ (m ≤ a) → (c : ℕ) → min m (min m a * c) ≡ min m (a * c)
@@ -18,3 +19,7 @@ capped_mul m a c = by (less_or_past a m) c
 -- so many more, each with so many cells
 pub capped_more : (m a l c : ℕ) → min m (min m (a * l) * c) ≡ min m (a * (l * c))
 capped_more m a l c = capped_mul m (a * l) c ∙ ap (min m) (mul_assoc a l c)
+
+-- both factors counted as far
+pub capped_both : (m a c : ℕ) → min m (min m a * min m c) ≡ min m (a * c)
+capped_both m a c = capped_mul m a (min m c) ∙ ap (min m) (mul_comm a (min m c)) ∙ capped_mul m c a ∙ ap (min m) (mul_comm c a)

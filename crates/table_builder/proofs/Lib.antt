@@ -12,3 +12,4 @@ pub mod Basics
 pub mod Counts
 pub mod Growing
 pub mod ByShape
+pub mod Elements

@@ -1,14 +1,16 @@
 -- What a builder of a table keeps.
-use Rattle.std.specs.Prelude.{◌≡◌, ◌-◌, ◌≤◌, ℕ, List, [], ◌∷◌, length, true, cond, Option, Some, None, Vec, slice_get}
+use Rattle.std.specs.Prelude.{◌≡◌, ◌-◌, ◌*◌, ◌≤◌, ℕ, List, [], ◌∷◌, length, true, cond, Option, Some, None, Vec, slice_get}
 use Rattle.std.specs.BTreeMap.{BTreeMap}
 use Rattle.std.specs.Global.{Global}
 use Rattle.std.specs.Str.{bytes_eq}
+use Rattle.ob_types.specs.Trees.{no_extent}
 use Rattle.ob_types.specs.declared.types.Field.{Field}
 use Rattle.ob_types.specs.declared.types.RecordType.{RecordType}
 use Rattle.check_types.specs.steps.Maps.{at_bytes}
+use Rattle.check_types.specs.Fields.{at_fields}
 use Rattle.check_types.specs.declared.types.TypeRef.{TypeRef}
 use Rattle.check_types.specs.declared.table.Added.{Added}
-use Rattle.check_types.specs.declared.table.FieldEntry.{FieldEntry}
+use Rattle.check_types.specs.declared.fields.FieldEntry.{FieldEntry}
 use Rattle.check_types.specs.declared.table.Layout.{Layout}
 use Rattle.check_types.specs.declared.table.TypeTable.{TypeTable}
 use Rattle.table_builder.specs.declared.numbers.TypeNumbers.{TypeNumbers}
@@ -41,10 +43,13 @@ pub record IsRecordType (entries : List TypeRef) (x : RecordType) (l : Layout) :
   pub level : x.level ≡ length l.line.items - 1
   pub fields : AreFields entries x.fields l.added.items
   pub cells : x.cells ≡ l.cells
+  pub extent : x.extent ≡ l.extent
+  -- a cell takes eight bytes at most
+  pub narrow : l.extent.bytes ≤ 8 * l.cells
 
 -- what fields are of has a number
 pub record IsClosed (entries : List TypeRef) (l : Layout) : Type 0 where
-  pub field : (q : List ℕ) (f : FieldEntry) → at_bytes l.fields q ≡ Some f → IsNumbered entries f.of
+  pub field : (q : List ℕ) (f : FieldEntry) → at_fields l.fields q ≡ Some f → IsNumbered entries f.of
 
 abbrev pub AreRecordTypes : List TypeRef → List RecordType → List Layout → Type 0
 AreRecordTypes entries [] [] = Unit {0}
@@ -94,14 +99,16 @@ pub record IsReady (entries : List TypeRef) (l : Layout) : Type 0 where
   pub added : AreElements entries l.added.items
   pub line : length l.line.items ≤ 16
   pub cells : l.cells ≤ 1048576
+  pub narrow : l.extent.bytes ≤ 8 * l.cells
 
 -- a record type of which nothing is known
 pub record IsBlank (l : Layout) : Type 0 where
   pub unit : l.module_number ≡ 0
   pub line : l.line.items ≡ []
   pub added : l.added.items ≡ []
-  pub fields : (q : List ℕ) → at_bytes l.fields q ≡ None
+  pub fields : (q : List ℕ) → at_fields l.fields q ≡ None
   pub cells : l.cells ≡ 0
+  pub extent : l.extent ≡ no_extent
 
 -- a map with this number at these parts, and otherwise what it was
 abbrev pub IsNotedIn : (old new : BTreeMap (Vec ℕ Global) ℕ) → List ℕ → ℕ → Type 0

@@ -68,6 +68,7 @@ impl TableBuilder {
             level: level_of(&layout.line),
             fields: self.fields(&layout.added)?,
             cells: layout.cells as u32,
+            extent: layout.extent,
         })
     }
 }

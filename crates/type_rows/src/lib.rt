@@ -9,4 +9,4 @@ mod sample;
 #[cfg(test)]
 mod tests;
 
-pub use sample::{cells, extends, is_assignable, is_same, sample_types};
+pub use sample::{align, bytes, cells, extends, is_assignable, is_same, sample_types};

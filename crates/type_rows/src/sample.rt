@@ -1,12 +1,13 @@
 //! The table, and the calls on it.
 
-ghost use Rattle.std.specs.Prelude.{◌≡◌, ◌<◌, ◌++◌, take, map, length, Option, Some, None, IfOk, OnOk};
+ghost use Rattle.std.specs.Prelude.{◌≡◌, ◌<◌, ◌++◌, take, drop, map, length, Option, Some, None, IfOk, OnOk};
 ghost use Rattle.ob_types.specs.Layout.{cells as cells_of};
+ghost use Rattle.ob_types.specs.Trees.{bytes as bytes_of, align as align_of};
 ghost use Rattle.ob_types.specs.Assignable.{same, extends as extends_type, assignable};
 ghost use Rattle.type_rows.specs.Sample.{basic, structured, field, formal, sample};
 
 use items::Items;
-use ob_types::{Field, Formal, Mode, RecordType, Signature, TypeKind, Types};
+use ob_types::{Extent, Field, Formal, Mode, RecordType, Signature, TypeKind, Types};
 use outside::Memory;
 use std::alloc::Global;
 
@@ -26,8 +27,9 @@ fn record_type(
     level: u32,
     fields: &[u32],
     cells: u32,
+    extent: Extent,
 ) -> Result<RecordType, Memory>
-    ensures { IfOk result (λ r. r ≡ record { «module» = 0; base = base; level = level; fields = map field fields.now; cells = cells }) }
+    ensures { IfOk result (λ r. r ≡ record { «module» = 0; base = base; level = level; fields = map field fields.now; cells = cells; extent = extent }) }
 {
     let mut found = Vec::new(alloc);
     for type_number in fields {
@@ -43,6 +45,7 @@ fn record_type(
         level,
         fields: Items::from_vec(found),
         cells,
+        extent,
     })
 }
 
@@ -59,6 +62,31 @@ fn signature(alloc: Global, variable: bool) -> Result<Signature, Memory>
     Ok(Signature { formals, result: 6 })
 }
 
+fn extent(bytes: u32, wide: bool) -> Extent
+    ensures { result ≡ record { bytes = bytes; wide = wide } }
+{
+    Extent { bytes, wide }
+}
+
+fn push_records(types: &mut Types, alloc: Global) -> Result<(), Memory>
+    ensures { OnOk result (types.new ≡ record types.old { records = types.old.records ++ take 3 sample.records }) }
+{
+    types.push_record(record_type(alloc, None, 0, &[0, 7], 4, extent(32, true))?)?;
+    types.push_record(record_type(alloc, Some(0), 1, &[2], 5, extent(40, true))?)?;
+    types.push_record(record_type(alloc, Some(1), 2, &[], 5, extent(40, true))?)?;
+    Ok(())
+}
+
+fn push_packed_records(types: &mut Types, alloc: Global) -> Result<(), Memory>
+    ensures { OnOk result (types.new ≡ record types.old { records = types.old.records ++ drop 3 sample.records }) }
+{
+    types.push_record(record_type(alloc, None, 0, &[2, 0, 2], 3, extent(24, true))?)?;
+    types.push_record(record_type(alloc, None, 0, &[1, 2], 2, extent(2, false))?)?;
+    types.push_record(record_type(alloc, Some(3), 1, &[2], 4, extent(32, true))?)?;
+    types.push_record(record_type(alloc, None, 0, &[2, 2, 2], 3, extent(3, false))?)?;
+    Ok(())
+}
+
 /// The table.
 pub fn sample_types(alloc: Global) -> Result<Types, Memory>
     ensures { IfOk result (λ types. types ≡ sample) }
@@ -66,9 +94,8 @@ pub fn sample_types(alloc: Global) -> Result<Types, Memory>
     let mut types = Types::new(alloc);
     push_basic(&mut types)?;
     push_structured(&mut types)?;
-    types.push_record(record_type(alloc, None, 0, &[0, 7], 4)?)?;
-    types.push_record(record_type(alloc, Some(0), 1, &[2], 5)?)?;
-    types.push_record(record_type(alloc, Some(1), 2, &[], 5)?)?;
+    push_records(&mut types, alloc)?;
+    push_packed_records(&mut types, alloc)?;
     types.push_signature(signature(alloc, false)?)?;
     types.push_signature(signature(alloc, true)?)?;
     Ok(types)
@@ -132,6 +159,14 @@ fn push_structured(types: &mut Types) -> Result<(), Memory>
             TypeKind::Text(1),
             TypeKind::Text(3),
             TypeKind::Text(4),
+            array(9, 2),
+            TypeKind::Record(3),
+            TypeKind::Record(4),
+            array(3, 26),
+            TypeKind::Record(5),
+            TypeKind::Record(6),
+            array(5, 29),
+            array(2, 30),
         ],
     )
 }
@@ -139,10 +174,28 @@ fn push_structured(types: &mut Types) -> Result<(), Memory>
 /// Of the table: the cells of a type.
 pub fn cells(types: &Types, t: u32) -> u64
     requires table { types.now ≡ sample }
-    requires known { t < 24 }
+    requires known { t < 32 }
     ensures { result ≡ cells_of sample t }
 {
     types.cells(t)
+}
+
+/// The bytes of a type.
+pub fn bytes(types: &Types, t: u32) -> u64
+    requires table { types.now ≡ sample }
+    requires known { t < 32 }
+    ensures { result ≡ bytes_of sample t }
+{
+    types.bytes(t)
+}
+
+/// Of what its beginning is a multiple.
+pub fn align(types: &Types, t: u32) -> u64
+    requires table { types.now ≡ sample }
+    requires known { t < 32 }
+    ensures { result ≡ align_of sample t }
+{
+    types.align(t)
 }
 
 /// Whether two types are the same.

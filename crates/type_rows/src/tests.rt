@@ -1,6 +1,6 @@
 //! Answers of the calls, from the language's rules.
 
-use crate::{cells, extends, is_assignable, is_same, sample_types};
+use crate::{align, bytes, cells, extends, is_assignable, is_same, sample_types};
 use std::test::Fail;
 
 const INTEGER: u32 = 0;
@@ -49,6 +49,22 @@ const TEXT_3: u32 = 22;
 
 const TEXT_4: u32 = 23;
 
+const NINE_CHARS: u32 = 24;
+
+const MIXED: u32 = 25;
+
+const TWO_SMALL: u32 = 26;
+
+const SMALL_PAIRS: u32 = 27;
+
+const MIXED_EXTENDED: u32 = 28;
+
+const THREE_CHARS: u32 = 29;
+
+const THREES: u32 = 30;
+
+const ROWS_OF_THREES: u32 = 31;
+
 /// A scalar, a pointer and a procedure are one cell, and so counts an open array; an array and a record have those of
 /// their parts.
 #[test]
@@ -67,12 +83,33 @@ fn cells_are_those_of_the_parts(rt: HostRuntime) -> Result<(), Fail> {
     Ok(())
 }
 
+/// A CHAR, a BYTE and a BOOLEAN take a byte, any other scalar eight and begins at a multiple of 8; a record is rounded up
+/// only where it has such a scalar.
+#[test]
+fn bytes_are_packed(rt: HostRuntime) -> Result<(), Fail> {
+    let types = sample_types(rt.alloc())?;
+    assert!(rt; bytes(&types, INTEGER) == 8 && align(&types, INTEGER) == 8);
+    assert!(rt; bytes(&types, BYTE) == 1 && align(&types, BYTE) == 1);
+    assert!(rt; bytes(&types, TO_BASE) == 8 && align(&types, TO_BASE) == 8);
+    assert!(rt; bytes(&types, MATRIX) == 48 && align(&types, MATRIX) == 8);
+    assert!(rt; bytes(&types, EXTENSION) == 40 && align(&types, EXTENSION) == 8);
+    assert!(rt; bytes(&types, NINE_CHARS) == 9 && align(&types, NINE_CHARS) == 1);
+    assert!(rt; bytes(&types, MIXED) == 24 && align(&types, MIXED) == 8);
+    assert!(rt; bytes(&types, TWO_SMALL) == 2 && align(&types, TWO_SMALL) == 1);
+    assert!(rt; bytes(&types, SMALL_PAIRS) == 6 && align(&types, SMALL_PAIRS) == 1);
+    assert!(rt; bytes(&types, MIXED_EXTENDED) == 32 && align(&types, MIXED_EXTENDED) == 8);
+    assert!(rt; bytes(&types, THREE_CHARS) == 3 && align(&types, THREE_CHARS) == 1);
+    assert!(rt; bytes(&types, THREES) == 15 && align(&types, THREES) == 1);
+    assert!(rt; bytes(&types, ROWS_OF_THREES) == 30 && align(&types, ROWS_OF_THREES) == 1);
+    Ok(())
+}
+
 /// Each type is the same as itself. Arrays of other lengths or elements, procedure types with other parameters, and types
 /// that are declared apart are not the same.
 #[test]
 fn same_are_types_of_one_declaration(rt: HostRuntime) -> Result<(), Fail> {
     let types = sample_types(rt.alloc())?;
-    for t in 0..24 {
+    for t in 0..32 {
         assert!(rt; is_same(&types, t, t));
     }
     for (a, b) in [
@@ -125,7 +162,7 @@ fn extends_goes_by_bases(rt: HostRuntime) -> Result<(), Fail> {
 #[test]
 fn assignable_are_these(rt: HostRuntime) -> Result<(), Fail> {
     let types = sample_types(rt.alloc())?;
-    for t in 0..24 {
+    for t in 0..32 {
         assert!(rt; is_assignable(&types, t, t));
     }
     for (to, from) in [

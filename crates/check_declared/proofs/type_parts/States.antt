@@ -1,6 +1,6 @@
 -- What parts leave, and what holds of the states that stand for it.
-use Rattle.std.proofs.Common.{◌≡◌, ℕ, Result, Ok, Err, sym, subst}
-use Rattle.std.specs.Prelude.{OnOk, IfOk}
+use Rattle.std.proofs.Common.{◌≡◌, ◌≤◌, ◌*◌, ℕ, Result, Ok, Err, sym, subst}
+use Rattle.std.specs.Prelude.{OnOk, IfOk, min}
 use Rattle.ob_syntax.specs.Syntax as S
 use Rattle.ob_judge.specs.Judged.{Judged, Keeps, Breaks, ◌>>=◌}
 use Rattle.ob_judge.specs.Shapes as J
@@ -16,6 +16,8 @@ use Rattle.check_types.specs.declared.steps.fault.CheckFault.TheVariants.{Fault,
 use Rattle.check_types.specs.declared.types.TypeRef.{TypeRef}
 use Rattle.check_types.specs.declared.types.TypeRef.TheVariants as TheType
 use Rattle.check_types.specs.declared.table.Layout.{Layout}
+use Rattle.check_types.specs.declared.table.TypeTable.{TypeTable}
+use Rattle.table_builder.specs.Cells.{most_cells}
 use Rattle.table_builder.specs.Entries.{IsElement}
 use Rattle.check_making.specs.declared.making.Declaring.{Declaring}
 use Rattle.check_making.specs.declared.making.Surroundings.{Surroundings}
@@ -23,7 +25,8 @@ use Rattle.check_making.specs.Making.{Makes, IsSettled}
 use Rattle.check_making.specs.Parts.{Gave, Judges, JudgesAs, IsPointer}
 use Rattle.check_making.specs.parameters.Stands.{Stands}
 use Rattle.check_making.proofs.parameters.Stages.{came, open_made, open_gave}
-use Rattle.check_making.specs.new_types.Layouts.{IsSoFarIn}
+use Rattle.check_making.specs.new_types.Layouts.{IsSoFar, IsSoFarIn}
+use Rattle.check_making.proofs.new_types.Cells.{narrow_counted}
 use Rattle.check_making.specs.new_types.Records.{IsKnown}
 use Rattle.check_declared.specs.type_parts.Records.{HasLayout}
 
@@ -57,10 +60,13 @@ has_layout s (Keeps a) (Ok l) h = record { layout = a; so_far = h.by }
 has_layout s (Breaks n at) (Ok l) h = absurd h.by
 has_layout s j (Err e) h = tt
 
+thin : {t : TypeTable} {g : J.Layout} (l : Layout) → IsSoFar t l g → l.extent.bytes ≤ 8 * l.cells
+thin {g = g} l k = subst (λ x. x.bytes ≤ 8 * l.cells) (sym k.extent) (subst (λ n. min most_cells g.extent.bytes ≤ 8 * n) (sym k.cells) (narrow_counted g.extent.bytes g.cells k.narrow))
+
 pub layout_known : (s t : Declaring) (l : Layout) → t.types ≡ s.types → HasLayout s l → IsKnown t.types.table l
 layout_known s t l e h =
     let k = h.so_far in
-    subst (λ z. IsKnown z.table l) (sym e) (record { elements = k.elements; closed = k.closed; short = k.short })
+    subst (λ z. IsKnown z.table l) (sym e) (record { elements = k.elements; closed = k.closed; short = k.short; narrow = thin l k })
 
 -- ---- fields, and the state in which they were judged
 

@@ -1,8 +1,10 @@
 -- Fields judged one after another.
-use Rattle.std.proofs.Common.{◌≡◌, ℕ, ◌+◌, ◌-◌, ◌≤◌, ◌^◌, List, [], ◌∷◌, ◌++◌, length, map, Bool, true, false, not, cond, Option, Some, None, Err, option_map, refl, sym, ap, ap₂, ◌∙◌, subst, arith}
+use Rattle.std.proofs.Common.{◌≡◌, ℕ, ◌+◌, ◌-◌, ◌*◌, ◌≤◌, ◌^◌, List, [], ◌∷◌, ◌++◌, length, map, Bool, true, false, not, cond, Option, Some, None, Err, option_map, refl, sym, ap, ap₂, ◌∙◌, subst, arith}
 use Rattle.std.specs.Prelude.{is_none, is_some, min}
 use Rattle.std.specs.Str.{bytes_eq}
 use Rattle.std.proofs.lemmas.List.{map-append, length-map}
+use Rattle.ob_types.specs.Trees.{with_part}
+use Rattle.ob_types.specs.declared.types.Extent.{Extent}
 use Rattle.ob_types.proofs.Tests.{some_same}
 use Rattle.ob_syntax.specs.declared.names.Identdef.{Identdef}
 use Rattle.ob_syntax.specs.declared.names.NextIdentdef.{NextIdentdef}
@@ -15,22 +17,22 @@ use Rattle.ob_judge.specs.Types.{stand_fields, add_fields}
 use Rattle.check_types.specs.steps.Answers.{Answers}
 use Rattle.check_types.specs.declared.steps.fault.CheckFault.{CheckFault}
 use Rattle.check_types.specs.declared.steps.fault.CheckFault.TheVariants.{Fault, Memory}
-use Rattle.check_types.specs.steps.Maps.{at_bytes}
+use Rattle.check_types.specs.Fields.{at_fields}
 use Rattle.check_types.proofs.steps.Maps.{mapped_choice}
 use Rattle.check_making.proofs.parameters.Answering.{then_then}
 use Rattle.check_types.specs.declared.table.Added.{Added}
-use Rattle.check_types.specs.declared.table.FieldEntry.{FieldEntry}
+use Rattle.check_types.specs.declared.fields.FieldEntry.{FieldEntry}
 use Rattle.check_types.specs.declared.table.Layout.{Layout}
 use Rattle.check_types.specs.declared.table.TypeTable.{TypeTable}
 use Rattle.check_types.specs.declared.types.TypeRef.{TypeRef}
 use Rattle.check_types.specs.Known.{field_of, added_of, known_of}
 use Rattle.check_types.specs.TypeMeaning.{type_shape}
-use Rattle.table_builder.specs.Cells.{most_cells}
+use Rattle.table_builder.specs.Cells.{most_cells, counted_extent}
 use Rattle.table_builder.specs.Entries.{IsNumbered, IsElement}
 use Rattle.table_builder.specs.Contents.{AreElements}
 use Rattle.check_making.specs.new_types.Layouts.{IsSoFar}
 use Rattle.check_making.specs.new_types.Fields.{IsWith}
-use Rattle.check_making.proofs.new_types.Cells.{capped_sum}
+use Rattle.check_making.proofs.new_types.Cells.{capped_sum, counted_part, narrow_rounded}
 
 -- ---- names of fields
 
@@ -61,9 +63,10 @@ elements_more : (es : List TypeRef) (xs : List Added) (a : Added) → AreElement
 elements_more es [] a h k = (k, tt)
 elements_more es (x ∷ xs) a h k = (h.0, elements_more es xs a h.1 k)
 
-module _ (p : Source) (t : TypeTable) (old new : Layout) (x : Identdef) (r n unit : ℕ) (of : TypeRef) (count : ℕ) (number : n ≡ length old.added.items) (element : IsElement t.entries.items of)
-    (counted : count ≡ min most_cells (J.cells (known_of t) (type_shape t.types of)))
-    (with : IsWith p old x (record { adder = r; number = n; of = of; exported = is_some x.star; owner = unit }) count new) where
+module _ (p : Source) (t : TypeTable) (old new : Layout) (x : Identdef) (r n unit : ℕ) (of : TypeRef) (count : ℕ) (takes : Extent) (number : n ≡ length old.added.items) (element : IsElement t.entries.items of)
+    (counted : count ≡ min most_cells (J.cells (known_of t) (type_shape t.types of))) (measured : takes ≡ counted_extent (J.extent (known_of t) (type_shape t.types of)))
+    (thin : (J.extent (known_of t) (type_shape t.types of)).bytes ≤ 8 * J.cells (known_of t) (type_shape t.types of))
+    (with : IsWith p old x (record { adder = r; number = n; of = of; exported = is_some x.star; owner = unit }) count takes new) where
   abbrev entry : FieldEntry
   entry = record { adder = r; number = n; of = of; exported = is_some x.star; owner = unit }
 
@@ -86,13 +89,18 @@ module _ (p : Source) (t : TypeTable) (old new : Layout) (x : Identdef) (r n uni
         fields = λ q.
             ap₂ (λ (f : J.Field) (o : Option J.Field). cond (bytes_eq (spelled p x.name) q) (Some f) o)
             (ap₂ (λ k o. record { adder = r; number = k; shape = shape; exported = is_some x.star; owner = o }) many here) (h.fields q)
-            ∙ sym (mapped_choice (field_of t.types) (bytes_eq (spelled p x.name) q) entry (at_bytes old.fields q))
+            ∙ sym (mapped_choice (field_of t.types) (bytes_eq (spelled p x.name) q) entry (at_fields old.fields q))
             ∙ ap (option_map (field_of t.types)) (sym (with.fields q));
         cells = with.cells ∙ ap₂ (λ a b. min most_cells (min (a + b) (2 ^ 64 - 1))) h.cells counted
             ∙ capped_sum most_cells (2 ^ 64 - 1) g.cells (J.cells (known_of t) shape) (omega arith)
             ∙ ap (λ k. min most_cells (g.cells + J.cells k shape)) (sym known);
+        extent = with.extent ∙ ap₂ (λ a b. counted_extent (with_part a b)) h.extent measured
+            ∙ counted_part g.extent (J.extent (known_of t) shape)
+            ∙ ap (λ k. counted_extent (with_part g.extent (J.extent k shape))) (sym known);
+        narrow = subst (λ k. (with_part g.extent (J.extent k shape)).bytes ≤ 8 * (g.cells + J.cells k shape)) (sym known)
+            (let a = narrow_rounded (J.extent (known_of t) shape).wide g.extent.bytes g.cells h.narrow in omega (arith, a, thin));
         elements = subst (AreElements t.entries.items) (sym with.added) (elements_more t.entries.items old.added.items _ h.elements element);
-        closed = record { field = λ q f at. closed_by (bytes_eq (spelled p x.name) q) q f (at_bytes old.fields q) (λ k is. (h.closed).field q k is) (sym (with.fields q) ∙ at) };
+        closed = record { field = λ q f at. closed_by (bytes_eq (spelled p x.name) q) q f (at_fields old.fields q) (λ k is. (h.closed).field q k is) (sym (with.fields q) ∙ at) };
         short = subst (λ v. length v.items ≤ 15) (sym with.line) h.short;
       }
 

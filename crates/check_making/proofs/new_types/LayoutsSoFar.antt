@@ -1,5 +1,5 @@
 -- What is known of a record type while its fields are judged: where it begins, and when types are made meanwhile.
-use Rattle.std.proofs.Common.{◌≡◌, ℕ, zero, suc, ◌<◌, ◌≤◌, List, [], ◌∷◌, length, map, true, false, Option, Some, None, Ok, Err, option_map, refl, sym, ap, ap₂, ◌∙◌, subst, arith}
+use Rattle.std.proofs.Common.{◌≡◌, ℕ, zero, suc, ◌*◌, ◌<◌, ◌≤◌, List, [], ◌∷◌, length, map, true, false, Option, Some, None, Ok, Err, option_map, refl, sym, ap, ap₂, ◌∙◌, subst, arith}
 use Rattle.std.specs.Prelude.{slice_get, nat_le}
 use Rattle.ob_syntax.specs.declared.types.Base.{Base}
 use Rattle.ob_judge.specs.Judged.{Keeps, ◌>>=◌, ◌>>◌, rule, some}
@@ -15,23 +15,23 @@ use Rattle.check_types.specs.steps.Answers.{Answers}
 use Rattle.check_types.specs.declared.steps.fault.CheckFault.{CheckFault}
 use Rattle.check_types.specs.declared.steps.fault.CheckFault.TheVariants.{Fault}
 use Rattle.check_types.proofs.steps.Answering.{kept, broken}
-use Rattle.check_types.specs.steps.Maps.{at_bytes}
+use Rattle.check_types.specs.Fields.{at_fields}
 use Rattle.check_types.specs.declared.table.Added.{Added}
-use Rattle.check_types.specs.declared.table.FieldEntry.{FieldEntry}
+use Rattle.check_types.specs.declared.fields.FieldEntry.{FieldEntry}
 use Rattle.check_types.specs.declared.table.Layout.{Layout}
 use Rattle.check_types.specs.declared.table.TypeTable.{TypeTable}
 use Rattle.check_types.specs.declared.types.TypeRef.{TypeRef}
-use Rattle.check_types.specs.Known.{field_of, added_of, layout_of}
+use Rattle.check_types.specs.Known.{field_of, added_of, layout_of, known_of}
 use Rattle.table_builder.specs.declared.builder.TableBuilder.{TableBuilder}
 use Rattle.table_builder.specs.Builder.{IsBuilt}
 use Rattle.table_builder.specs.Entries.{IsNumbered}
 use Rattle.table_builder.specs.Growing.{Grows}
-use Rattle.table_builder.specs.Contents.{IsClosed, AreElements, AreRecordTypes}
+use Rattle.table_builder.specs.Contents.{IsClosed, AreElements, AreRecordTypes, IsBlank}
 use Rattle.table_builder.proofs.Growing.{numbered_still, element_still}
 use Rattle.check_making.specs.declared.making.Declaring.{Declaring}
 use Rattle.check_making.specs.declared.making.Surroundings.{Surroundings}
 use Rattle.check_making.specs.Making.{Makes}
-use Rattle.check_making.specs.new_types.Layouts.{IsSoFar, IsCopy, IsNew, IsBegunFrom, IsBegun, base_number}
+use Rattle.check_making.specs.new_types.Layouts.{IsSoFar, IsCopy, IsBegunFrom, IsBegun, base_number}
 use Rattle.check_making.proofs.parameters.Answering.{then_then}
 
 -- ---- types are made meanwhile
@@ -54,8 +54,10 @@ module _ (t u : TypeTable) (g : Grows t u) where
     module_number = h.module_number;
     line = h.line;
     added = h.added ∙ sym (added_same l.added.items h.elements);
-    fields = λ q. h.fields q ∙ sym (entry_same (at_bytes l.fields q) (λ f at. (h.closed).field q f at));
+    fields = λ q. h.fields q ∙ sym (entry_same (at_fields l.fields q) (λ f at. (h.closed).field q f at));
     cells = h.cells;
+    extent = h.extent;
+    narrow = h.narrow;
     elements = added_still l.added.items h.elements;
     closed = record { field = λ q f at. numbered_still t u g f.of ((h.closed).field q f at) };
     short = h.short;
@@ -74,31 +76,42 @@ closed_at es [] (k ∷ ls) h n l at = absurd h
 closed_at es (x ∷ xs) (k ∷ ls) h zero l at = subst (IsClosed es) (some_same k l at) h.1
 closed_at es (x ∷ xs) (k ∷ ls) h (suc n) l at = closed_at es xs ls h.2 n l at
 
+pub narrow_at : (es : List TypeRef) (xs : List RecordType) (ls : List Layout) → AreRecordTypes es xs ls → (n : ℕ) (l : Layout) → slice_get ls n ≡ Some l → l.extent.bytes ≤ 8 * l.cells
+narrow_at es [] [] h n l at = none_some l at
+narrow_at es (x ∷ xs) [] h n l at = absurd h
+narrow_at es [] (k ∷ ls) h n l at = absurd h
+narrow_at es (x ∷ xs) (k ∷ ls) h zero l at = subst (λ z. z.extent.bytes ≤ 8 * z.cells) (some_same k l at) (h.0).narrow
+narrow_at es (x ∷ xs) (k ∷ ls) h (suc n) l at = narrow_at es xs ls h.2 n l at
+
 get_map : {A B : Type 0} (f : A → B) (xs : List A) (n : ℕ) → slice_get (map f xs) n ≡ option_map f (slice_get xs n)
 get_map f [] n = refl
 get_map f (x ∷ xs) zero = refl
 get_map f (x ∷ xs) (suc n) = get_map f xs n
 
-pub begun_none : (t : TypeTable) (l : Layout) → IsNew l → IsSoFar t l (record no_layout { added = [] })
+pub begun_none : (t : TypeTable) (l : Layout) → IsBlank l → IsSoFar t l (record no_layout { added = [] })
 begun_none t l h = record {
-  module_number = sym h.module_number;
+  module_number = sym h.unit;
   line = sym h.line;
   added = sym (ap (map (added_of t.types)) h.added);
   fields = λ q. sym (ap (option_map (field_of t.types)) (h.fields q));
   cells = h.cells;
+  extent = h.extent;
+  narrow = omega arith;
   elements = subst (AreElements t.entries.items) (sym h.added) tt;
   closed = record { field = λ q f at. none_some f (sym (h.fields q) ∙ at) };
   short = let e = ap length h.line in omega (arith, e);
 }
 
 module _ (b : TableBuilder) (ok : IsBuilt b) where
-  begun_copy : (l base : Layout) → IsClosed b.table.entries.items base → IsCopy l base → length l.line.items ≤ 15 → IsSoFar b.table l (record (layout_of b.table.types base) { added = [] })
-  begun_copy l base closed c short = record {
+  begun_copy : (l base : Layout) → IsClosed b.table.entries.items base → base.extent.bytes ≤ 8 * base.cells → IsCopy l base → length l.line.items ≤ 15 → IsSoFar b.table l (record (layout_of b.table.types base) { added = [] })
+  begun_copy l base closed narrow c short = record {
     module_number = sym c.module_number;
     line = sym c.line;
     added = sym (ap (map (added_of b.table.types)) c.added);
     fields = λ q. sym (ap (option_map (field_of b.table.types)) (c.fields q));
     cells = c.cells;
+    extent = c.extent;
+    narrow = narrow;
     elements = subst (AreElements b.table.entries.items) (sym c.added) tt;
     closed = record { field = λ q f at. closed.field q f (sym (c.fields q) ∙ at) };
     short = short;
@@ -106,7 +119,7 @@ module _ (b : TableBuilder) (ok : IsBuilt b) where
 
   begun_by : (l : Layout) (n : ℕ) (o : Option Layout) → slice_get b.table.layouts.items n ≡ o → IsBegunFrom l o → length l.line.items ≤ 15 → IsSoFar b.table l (record (base_known b.table o) { added = [] })
   begun_by l n None at h short = begun_none b.table l h
-  begun_by l n (Some base) at h short = begun_copy l base (closed_at b.table.entries.items b.table.types.records b.table.layouts.items ok.layouts n base at) h short
+  begun_by l n (Some base) at h short = begun_copy l base (closed_at b.table.entries.items b.table.types.records b.table.layouts.items ok.layouts n base at) (narrow_at b.table.entries.items b.table.types.records b.table.layouts.items ok.layouts n base at) h short
 
   pub begun_from : (l : Layout) (n : ℕ) → IsBegunFrom l (slice_get b.table.layouts.items n) → length l.line.items ≤ 15 → IsSoFar b.table l (record (base_known b.table (slice_get b.table.layouts.items n)) { added = [] })
   begun_from l n h short = begun_by l n (slice_get b.table.layouts.items n) refl h short
@@ -149,3 +162,11 @@ pub shallow : {B : Type 0} {S : B → J.Layout → Type 0} {b : B} (at : ℕ) (l
 shallow at l n is few h =
     let within : nat_le (length l.line) 15 ≡ true = grind (arith, nat_tests, is, few) in
     kept 42 at (Keeps l) within (record { by = h })
+
+-- what the table knows of record types takes at most eight bytes a cell
+pub records_narrow : (b : TableBuilder) → IsBuilt b → (r : ℕ) → (J.extent_in (slice_get (known_of b.table).records r)).bytes ≤ 8 * J.cells_of (slice_get (known_of b.table).records r)
+records_narrow b ok r = by (slice_get b.table.layouts.items r) refl
+  where
+    by : (o : Option Layout) → slice_get b.table.layouts.items r ≡ o → (J.extent_in (slice_get (known_of b.table).records r)).bytes ≤ 8 * J.cells_of (slice_get (known_of b.table).records r)
+    by None at = subst (λ (o : Option J.Layout). (J.extent_in o).bytes ≤ 8 * J.cells_of o) (sym (get_map (layout_of b.table.types) b.table.layouts.items r ∙ ap (option_map (layout_of b.table.types)) at)) (omega arith)
+    by (Some l) at = subst (λ (o : Option J.Layout). (J.extent_in o).bytes ≤ 8 * J.cells_of o) (sym (get_map (layout_of b.table.types) b.table.layouts.items r ∙ ap (option_map (layout_of b.table.types)) at)) (narrow_at b.table.entries.items b.table.types.records b.table.layouts.items ok.layouts r l at)

@@ -1,7 +1,8 @@
 -- Arrays that are legal.
-use Rattle.std.proofs.Common.{◌≡◌, ℕ, zero, suc, ◌<◌, ◌≤◌, List, [], ◌∷◌, length, get_or, true, refl, sym, ap, ◌∙◌, arith}
+use Rattle.std.proofs.Common.{◌≡◌, ℕ, zero, suc, ◌*◌, ◌<◌, ◌≤◌, List, [], ◌∷◌, length, get_or, true, refl, sym, ap, ap₂, ◌∙◌, arith}
 use Rattle.std.specs.Prelude.{min, nat_le, pos}
-use Rattle.ob_judge.specs.Shapes.{Shape, Array, Layout, cells}
+use Rattle.std.proofs.Math.Nat.{mul_comm}
+use Rattle.ob_judge.specs.Shapes.{Shape, Array, Layout, Known, cells}
 use Rattle.ob_judge.specs.Types.{limit, is_length}
 use Rattle.judged_programs.specs.Complete.{IsKnown}
 use Rattle.check_types.specs.Known.{known_of}
@@ -9,6 +10,7 @@ use Rattle.check_types.specs.TypeMeaning.{type_shape}
 use Rattle.check_types.specs.declared.table.TypeTable.{TypeTable}
 use Rattle.check_types.specs.declared.types.TypeRef.{TypeRef}
 use Rattle.table_builder.specs.Cells.{most_cells}
+use Rattle.table_builder.proofs.Counts.{capped_mul}
 use Rattle.check_making.specs.new_types.Arrays.{AreLengths}
 use Rattle.check_making.proofs.new_types.Cells.{few_cells}
 
@@ -26,3 +28,14 @@ pub array_fits : (old new : TypeTable) (k : TypeRef) (n : ℕ) (a : Shape) → k
 array_fits old new k n a known shape count is few =
     ap (λ x. nat_le (cells x (Array n a)) limit) (sym known) ∙ ap (λ z. nat_le (cells (known_of new) z) limit) (sym shape)
     ∙ few_cells count (cells (known_of new) (type_shape new.types k)) is few
+
+-- what was counted in the table in which it is made is counted in the one that has it
+pub counted_in : (old new : TypeTable) (k : TypeRef) (a : Shape) (count : ℕ) → known_of new ≡ known_of old → type_shape new.types k ≡ a → count ≡ min most_cells (cells (known_of old) a)
+    → count ≡ min most_cells (cells (known_of new) (type_shape new.types k))
+counted_in old new k a count known shape is = is ∙ ap₂ (λ (x : Known) (z : Shape). min most_cells (cells x z)) (sym known) (sym shape)
+
+-- an array's cells by its element's
+pub counted_array : (old new : Known) → new ≡ old → (n count : ℕ) (a : Shape) → count ≡ min most_cells (cells old a) → min most_cells (count * n) ≡ min most_cells (cells new (Array n a))
+counted_array old new same n count a is =
+    ap (λ z. min most_cells (z * n)) is ∙ capped_mul most_cells (cells old a) n ∙ ap (min most_cells) (mul_comm (cells old a) n)
+    ∙ ap (λ z. min most_cells (cells z (Array n a))) (sym same)

@@ -1,26 +1,29 @@
 -- What is known of a record type while its fields are judged.
-use Rattle.std.specs.Prelude.{◌≡◌, ◌≤◌, [], ℕ, List, Option, Some, None, option_map, map, length, min}
+use Rattle.std.specs.Prelude.{◌≡◌, ◌*◌, ◌≤◌, [], ℕ, List, Option, Some, None, option_map, map, length, min}
 use Rattle.ob_syntax.specs.declared.types.Base.{Base}
 use Rattle.ob_judge.specs.Judged.{Judged, ◌>>=◌, some}
 use Rattle.ob_judge.specs.Shapes as J
 use Rattle.ob_judge.specs.Scopes.{Source, World, place}
 use Rattle.ob_judge.specs.Parameters.{type_at}
 use Rattle.ob_judge.specs.Types.{record_only}
-use Rattle.check_types.specs.steps.Maps.{at_bytes}
+use Rattle.check_types.specs.Fields.{at_fields}
 use Rattle.check_types.specs.declared.table.Layout.{Layout}
 use Rattle.check_types.specs.declared.table.TypeTable.{TypeTable}
 use Rattle.check_types.specs.Known.{field_of, added_of}
-use Rattle.table_builder.specs.Cells.{most_cells}
-use Rattle.table_builder.specs.Contents.{IsClosed, AreElements}
+use Rattle.table_builder.specs.Cells.{most_cells, counted_extent}
+use Rattle.table_builder.specs.Contents.{IsClosed, AreElements, IsBlank}
 use Rattle.check_making.specs.declared.making.Declaring.{Declaring}
 
--- the fields so far, their cells counted as far as any type may have them; what they are of has a number
+-- the fields so far, their cells and bytes counted as far as any type may have them; what they are of has a number
 pub record IsSoFar (t : TypeTable) (l : Layout) (g : J.Layout) : Type 0 where
   pub module_number : g.module_number ≡ l.module_number
   pub line : g.line ≡ l.line.items
   pub added : g.added ≡ map (added_of t.types) l.added.items
-  pub fields : (q : List ℕ) → g.fields q ≡ option_map (field_of t.types) (at_bytes l.fields q)
+  pub fields : (q : List ℕ) → g.fields q ≡ option_map (field_of t.types) (at_fields l.fields q)
   pub cells : l.cells ≡ min most_cells g.cells
+  pub extent : l.extent ≡ counted_extent g.extent
+  -- a cell takes eight bytes at most
+  pub narrow : g.extent.bytes ≤ 8 * g.cells
   pub elements : AreElements t.entries.items l.added.items
   pub closed : IsClosed t.entries.items l
   pub short : length l.line.items ≤ 15
@@ -37,19 +40,13 @@ pub record IsCopy (l base : Layout) : Type 0 where
   pub module_number : l.module_number ≡ base.module_number
   pub line : l.line.items ≡ base.line.items
   pub added : l.added.items ≡ []
-  pub fields : (q : List ℕ) → at_bytes l.fields q ≡ at_bytes base.fields q
+  pub fields : (q : List ℕ) → at_fields l.fields q ≡ at_fields base.fields q
   pub cells : l.cells ≡ min most_cells base.cells
+  pub extent : l.extent ≡ counted_extent base.extent
 
 -- nothing is known but of the base, if there is one
-pub record IsNew (l : Layout) : Type 0 where
-  pub module_number : l.module_number ≡ 0
-  pub line : l.line.items ≡ []
-  pub added : l.added.items ≡ []
-  pub fields : (q : List ℕ) → at_bytes l.fields q ≡ None
-  pub cells : l.cells ≡ 0
-
 abbrev pub IsBegunFrom : Layout → Option Layout → Type 0
-IsBegunFrom l None = IsNew l
+IsBegunFrom l None = IsBlank l
 IsBegunFrom l (Some base) = IsCopy l base
 
 -- the record type that a base names

@@ -19,7 +19,8 @@ use check_types::steps::CheckFault;
 use check_types::{Added, FieldEntry, Layout, TypeRef};
 use items::Items;
 use ob_syntax::names::{Identdef, Idents, NextIdentdef};
-use table_builder::capped;
+use ob_types::Extent;
+use table_builder::{capped, with_part};
 
 // A field's name stands: 36 where it is a field's already, also one of a base.
 fn stand_field(
@@ -35,7 +36,7 @@ fn stand_field(
         Judges round.now state.old state.new (judged_names round.now.source.now (ident.now ∷ []) g) result }
 {
     let name = round.source.spelled(ident.name);
-    if layout.fields.contains_key(name) {
+    if layout.fields.get(name).is_some() {
         return Err(round.source.fault(36, ident.name));
     }
     state.stand(round, ident.name)
@@ -77,15 +78,16 @@ pub fn stand_fields(
     stand_more(state, round, layout, &idents.more)
 }
 
-// One more field, whose type has so many cells.
+// One more field, whose type has so many cells and takes so much.
 fn with_field(
     round: &Surroundings,
     layout: Layout,
     ident: &Identdef,
     entry: FieldEntry,
     cells: u64,
+    extent: Extent,
 ) -> Result<Layout, CheckFault>
-    ensures with { IfOk result (λ l. IsWith round.now.source.now layout ident.now entry cells l) }
+    ensures with { IfOk result (λ l. IsWith round.now.source.now layout ident.now entry cells extent l) }
     ensures memory { IfErr result (λ e. e ≡ CheckFault.Memory) }
 {
     let bytes = round.source.spelled(ident.name);
@@ -98,14 +100,14 @@ fn with_field(
         exported: entry.exported,
         of: entry.of,
     })?;
-    let mut fields = layout.fields;
-    fields.insert(key, entry)?;
+    let fields = layout.fields.with(key, entry)?;
     Ok(Layout {
         module_number: layout.module_number,
         line: layout.line,
         added,
         fields,
         cells: all,
+        extent: with_part(layout.extent, extent),
     })
 }
 
@@ -127,6 +129,7 @@ fn add_field(
     let number = next_number(&layout.added)?;
     let exported = ident.star.is_some();
     let cells = state.types.cells(of);
+    let extent = state.types.extent(of);
     let entry = FieldEntry {
         adder: r,
         number,
@@ -134,7 +137,7 @@ fn add_field(
         exported,
         owner: round.module_number,
     };
-    with_field(round, layout, ident, entry, cells)
+    with_field(round, layout, ident, entry, cells, extent)
 }
 
 // The fields behind the first.

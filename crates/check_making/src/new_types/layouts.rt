@@ -2,40 +2,16 @@
 
 ghost use Rattle.std.specs.Prelude.{◌≡◌, ℕ, List, IfOk, IfErr, Some, None, slice_get};
 ghost use Rattle.ob_judge.specs.Types.{base_layout as judged_base};
-ghost use Rattle.check_types.specs.steps.Maps.{at_bytes};
 ghost use Rattle.check_making.specs.Making.{IsSettled};
 ghost use Rattle.check_making.specs.Parts.{JudgesHere};
 ghost use Rattle.check_making.specs.new_types.Layouts.{IsBegunFrom, IsCopy, IsBegun, IsNumber, base_number};
 
 use crate::{Declaring, Surroundings};
 use check_types::steps::CheckFault;
-use check_types::{FieldEntry, Layout, TypeRef};
+use check_types::{Layout, TypeRef};
 use ob_syntax::types::Base;
-use std::alloc::{AllocError, Global};
-use std::collections::BTreeMap;
-use table_builder::capped;
-
-// No fields; takes no memory.
-fn no_fields(alloc: Global) -> Layout
-    ensures { IsBegunFrom result None }
-{
-    Layout {
-        module_number: 0,
-        line: Vec::new(alloc),
-        added: Vec::new(alloc),
-        fields: BTreeMap::new(alloc),
-        cells: 0,
-    }
-}
-
-// A copy of what names stand for.
-fn copied(
-    fields: &BTreeMap<Vec<u8>, FieldEntry>,
-) -> Result<BTreeMap<Vec<u8>, FieldEntry>, AllocError>
-    ensures { IfOk result (λ m. (q : List ℕ) → at_bytes m q ≡ at_bytes fields.now q) }
-{
-    fields.clone()
-}
+use std::alloc::Global;
+use table_builder::{blank_layout, capped, counted};
 
 // What is known of a record type that extends this one, and adds nothing yet.
 fn extended(alloc: Global, base: &Layout) -> Result<Layout, CheckFault>
@@ -43,13 +19,14 @@ fn extended(alloc: Global, base: &Layout) -> Result<Layout, CheckFault>
     ensures memory { IfErr result (λ e. e ≡ CheckFault.Memory) }
 {
     let line = Vec::from_slice(alloc, &base.line)?;
-    let fields = copied(&base.fields)?;
+    let fields = base.fields.extended(alloc)?;
     Ok(Layout {
         module_number: base.module_number,
         line,
         added: Vec::new(alloc),
         fields,
         cells: capped(base.cells),
+        extent: counted(u64::from(base.extent.bytes), base.extent.wide),
     })
 }
 
@@ -60,7 +37,7 @@ fn extended_at(alloc: Global, layouts: &[Layout], r: u32) -> Result<Layout, Chec
 {
     match layouts.get(r as usize) {
         Some(base) => extended(alloc, base),
-        None => Ok(no_fields(alloc)),
+        None => Ok(blank_layout(alloc)),
     }
 }
 
@@ -99,7 +76,7 @@ pub fn begun(
     ensures { JudgesHere (IsBegun state.now) round.now state.now (judged_base round.now.source.now tree.now) result }
 {
     match tree {
-        None => Ok(no_fields(round.alloc)),
+        None => Ok(blank_layout(round.alloc)),
         Some(tree) => with_base(state, round, tree),
     }
 }

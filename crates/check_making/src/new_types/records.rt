@@ -17,6 +17,7 @@ use crate::{Declaring, Surroundings};
 use check_types::steps::CheckFault;
 use check_types::{Layout, TypeRef};
 use std::alloc::Global;
+use table_builder::rounded;
 
 // A number before others.
 fn with_front(alloc: Global, first: u32, rest: &[u32]) -> Result<Vec<u32>, CheckFault>
@@ -37,12 +38,14 @@ fn whole(round: &Surroundings, r: u32, layout: Layout) -> Result<Layout, CheckFa
     ensures memory { IfErr result (λ e. e ≡ CheckFault.Memory) }
 {
     let line = with_front(round.alloc, r, &layout.line)?;
+    let fields = layout.fields.complete(round.alloc)?;
     Ok(Layout {
         module_number: round.module_number,
         line,
         added: layout.added,
-        fields: layout.fields,
+        fields,
         cells: layout.cells,
+        extent: rounded(layout.extent),
     })
 }
 

@@ -2,6 +2,7 @@
 use Rattle.std.proofs.Common.{◌≡◌, ℕ, zero, suc, ◌+◌, ◌-◌, ◌<◌, List, [], ◌∷◌, ◌++◌, map, length, Bool, Option, Some, None, refl, sym, ap, ap₂, ◌∙◌, subst, arith}
 use Rattle.std.specs.Prelude.{slice_get}
 use Rattle.std.specs.List.{range_with_len}
+use Rattle.ob_types.specs.declared.types.Extent.{Extent}
 use Rattle.ob_types.proofs.Tests.{none_some, some_same}
 use Rattle.ob_types.specs.declared.types.Field.{Field}
 use Rattle.ob_types.specs.declared.types.RecordType.{RecordType}
@@ -52,19 +53,20 @@ module _ (t : TypeTable) where
   fields_same [] (a ∷ as') h = absurd h
   fields_same (f ∷ fs) [] h = absurd h
 
-  abbrev by_parts : ℕ → Option ℕ → ℕ → List AddedOf → ℕ → I.RecordType
-  by_parts m b l fs n = record { module_number = m; base = b; level = l; fields = fs; cells = n }
+  abbrev by_parts : ℕ → Option ℕ → ℕ → List AddedOf → ℕ → Extent → I.RecordType
+  by_parts m b l fs n e = record { module_number = m; base = b; level = l; fields = fs; cells = n; extent = e }
 
   records_same : (xs : List RecordType) (ls : List Layout) → AreRecordTypes t.entries.items xs ls → map (plain_record t.types) xs ≡ map record_form (map (layout_of t.types) ls)
   records_same [] [] h = refl
   records_same (x ∷ xs) (l ∷ ls) h =
       let r = h.0 in
       ap₂ {C = List I.RecordType} (λ y ys. y ∷ ys)
-      (ap (λ m. by_parts m x.base x.level (map (plain_field t.types) x.fields) x.cells) r.unit
-      ∙ ap (λ b. by_parts l.module_number b x.level (map (plain_field t.types) x.fields) x.cells) (r.base ∙ base_same l.line.items)
-      ∙ ap (λ k. by_parts l.module_number (judged_base l.line.items) k (map (plain_field t.types) x.fields) x.cells) r.level
-      ∙ ap (λ fs. by_parts l.module_number (judged_base l.line.items) (length l.line.items - 1) fs x.cells) (fields_same x.fields l.added.items r.fields)
-      ∙ ap (λ n. by_parts l.module_number (judged_base l.line.items) (length l.line.items - 1) (map (added_of t.types) l.added.items) n) r.cells)
+      (ap (λ m. by_parts m x.base x.level (map (plain_field t.types) x.fields) x.cells x.extent) r.unit
+      ∙ ap (λ b. by_parts l.module_number b x.level (map (plain_field t.types) x.fields) x.cells x.extent) (r.base ∙ base_same l.line.items)
+      ∙ ap (λ k. by_parts l.module_number (judged_base l.line.items) k (map (plain_field t.types) x.fields) x.cells x.extent) r.level
+      ∙ ap (λ fs. by_parts l.module_number (judged_base l.line.items) (length l.line.items - 1) fs x.cells x.extent) (fields_same x.fields l.added.items r.fields)
+      ∙ ap (λ n. by_parts l.module_number (judged_base l.line.items) (length l.line.items - 1) (map (added_of t.types) l.added.items) n x.extent) r.cells
+      ∙ ap (λ e. by_parts l.module_number (judged_base l.line.items) (length l.line.items - 1) (map (added_of t.types) l.added.items) l.cells e) r.extent)
       (records_same xs ls h.2)
   records_same [] (l ∷ ls) h = absurd h
   records_same (x ∷ xs) [] h = absurd h

@@ -7,7 +7,7 @@ ghost use Rattle.check_modules.specs.programs.Modules.{HasSettledModules, Stands
 use check_making::TextPlace;
 use check_types::names::KnownModule;
 use items::Items;
-use ob_types::{Module, Procedure};
+use ob_types::{Characters, Module, Procedure};
 use outside::Memory;
 use std::alloc::Global;
 use table_builder::TableBuilder;
@@ -18,7 +18,7 @@ use table_builder::TableBuilder;
 pub struct Modules {
     pub imports_in: bool,
     pub types: TableBuilder,
-    pub strings: Vec<Items<u8>>,
+    pub strings: Vec<Characters>,
     pub places: Vec<TextPlace>,
     pub known: Vec<KnownModule>,
     pub modules: Items<Module>,

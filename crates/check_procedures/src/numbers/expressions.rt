@@ -7,7 +7,7 @@ ghost use Rattle.check_procedures.specs.numbers.Readings.{each, accesses, expres
 use crate::numbers::numbers::{renumbered_base, type_kind, type_number};
 use check_types::names::Scope;
 use items::Items;
-use ob_types::{Access, Argument, Call, Designator, Expr, Link, Selector};
+use ob_types::{Access, Argument, Call, Characters, Designator, Expr, Link, Selector};
 use outside::Memory;
 use std::alloc::Global;
 
@@ -16,7 +16,7 @@ use std::alloc::Global;
 pub fn renumber_expression<'a>(
     scope: &Scope<'a>,
     alloc: Global,
-    uses: &mut Items<Items<u8>>,
+    uses: &mut Items<Characters>,
     tree: &mut Expr,
 ) -> Result<(), Memory>
     ensures { OnOk result (KeepsMeaning expressions (numbering_of scope.now)
@@ -85,7 +85,7 @@ pub fn renumber_expression<'a>(
 fn renumber_links<'a>(
     scope: &Scope<'a>,
     alloc: Global,
-    uses: &mut Items<Items<u8>>,
+    uses: &mut Items<Characters>,
     list: &mut Vec<Link>,
 ) -> Result<(), Memory>
     ensures { OnOk result (KeepsMeaning (each links) (numbering_of scope.now)
@@ -102,7 +102,7 @@ fn renumber_links<'a>(
 fn renumber_link<'a>(
     scope: &Scope<'a>,
     alloc: Global,
-    uses: &mut Items<Items<u8>>,
+    uses: &mut Items<Characters>,
     link: &mut Link,
 ) -> Result<(), Memory>
     ensures { OnOk result (KeepsMeaning links (numbering_of scope.now)
@@ -138,7 +138,7 @@ fn renumber_link<'a>(
 pub fn renumber_designator<'a>(
     scope: &Scope<'a>,
     alloc: Global,
-    uses: &mut Items<Items<u8>>,
+    uses: &mut Items<Characters>,
     d: &mut Designator,
 ) -> Result<(), Memory>
     ensures { OnOk result (KeepsMeaning designators (numbering_of scope.now)
@@ -162,7 +162,7 @@ pub fn renumber_designator<'a>(
 fn renumber_access<'a>(
     scope: &Scope<'a>,
     alloc: Global,
-    uses: &mut Items<Items<u8>>,
+    uses: &mut Items<Characters>,
     access: &mut Access,
 ) -> Result<(), Memory>
     ensures { OnOk result (KeepsMeaning accesses (numbering_of scope.now)
@@ -179,7 +179,7 @@ fn renumber_access<'a>(
 fn renumber_selectors<'a>(
     scope: &Scope<'a>,
     alloc: Global,
-    uses: &mut Items<Items<u8>>,
+    uses: &mut Items<Characters>,
     list: &mut Vec<Selector>,
 ) -> Result<(), Memory>
     ensures { OnOk result (KeepsMeaning (each selectors) (numbering_of scope.now)
@@ -196,7 +196,7 @@ fn renumber_selectors<'a>(
 fn renumber_selector<'a>(
     scope: &Scope<'a>,
     alloc: Global,
-    uses: &mut Items<Items<u8>>,
+    uses: &mut Items<Characters>,
     selector: &mut Selector,
 ) -> Result<(), Memory>
     ensures { OnOk result (KeepsMeaning selectors (numbering_of scope.now)
@@ -219,7 +219,7 @@ fn renumber_selector<'a>(
 pub fn renumber_call<'a>(
     scope: &Scope<'a>,
     alloc: Global,
-    uses: &mut Items<Items<u8>>,
+    uses: &mut Items<Characters>,
     call: &mut Call,
 ) -> Result<(), Memory>
     ensures { OnOk result (KeepsMeaning calls (numbering_of scope.now)
@@ -243,7 +243,7 @@ pub fn renumber_call<'a>(
 fn renumber_arguments<'a>(
     scope: &Scope<'a>,
     alloc: Global,
-    uses: &mut Items<Items<u8>>,
+    uses: &mut Items<Characters>,
     list: &mut Vec<Argument>,
 ) -> Result<(), Memory>
     ensures { OnOk result (KeepsMeaning (each arguments) (numbering_of scope.now)
@@ -260,7 +260,7 @@ fn renumber_arguments<'a>(
 fn renumber_argument<'a>(
     scope: &Scope<'a>,
     alloc: Global,
-    uses: &mut Items<Items<u8>>,
+    uses: &mut Items<Characters>,
     argument: &mut Argument,
 ) -> Result<(), Memory>
     ensures { OnOk result (KeepsMeaning arguments (numbering_of scope.now)

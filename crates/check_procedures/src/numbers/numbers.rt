@@ -1,17 +1,17 @@
 //! Numbers of types and strings.
 
-ghost use Rattle.std.specs.Prelude.{◌≡◌, IfOk, IfSome, IfNone, Some, None, slice_get};
+ghost use Rattle.std.specs.Prelude.{◌≡◌, IfOk, is_some, slice_get};
 ghost use Rattle.ob_types.specs.Table.{Table};
 ghost use Rattle.judged_tree.specs.TypeShapes.{shape_of, shape_of_kind};
 ghost use Rattle.check_operands.specs.Operands.{texts_of};
 ghost use Rattle.check_procedures.specs.numbers.Numbering.{LastsIn, KeepsMeaning, numbering_of};
 ghost use Rattle.check_procedures.specs.numbers.Readings.{bases};
 
-use check_operands::text;
+use check_operands::characters_of;
 use check_types::TypeTable;
 use check_types::names::Scope;
 use items::Items;
-use ob_types::{Base, TypeKind};
+use ob_types::{Base, Characters, TypeKind};
 use outside::Memory;
 use std::alloc::Global;
 
@@ -66,47 +66,40 @@ pub fn type_kind(types: &TypeTable, kind: TypeKind) -> TypeKind
     }
 }
 
-// The characters of a string's number, if it is one.
-fn text_at<'a>(scope: &Scope<'a>, number: u32) -> Option<&'a [u8]>
-    ensures there { IfSome result (λ s. slice_get (texts_of scope.now) number ≡ Some s.now) }
-    ensures missing { IfNone result (slice_get (texts_of scope.now) number ≡ None) }
+// Whether a number is that of a string.
+fn is_text<'a>(scope: &Scope<'a>, number: u32) -> bool
+    ensures { result ≡ is_some (slice_get (texts_of scope.now) number) }
 {
     let before = scope.source.count();
-    if (number as usize).saturating_sub(before) <= scope.strings.len() {
-        Some(text(scope, number))
-    } else {
-        None
-    }
+    (number as usize).saturating_sub(before) <= scope.strings.len()
 }
 
 // A use of a string, by its place among all uses so far.
 fn text_use<'a>(
     scope: &Scope<'a>,
     alloc: Global,
-    uses: &mut Items<Items<u8>>,
+    uses: &mut Items<Characters>,
     number: u32,
 ) -> Result<Base, Memory>
     ensures { IfOk result (λ base. KeepsMeaning bases (numbering_of scope.now)
         (record { tree = Base.Text number; made = base; before = uses.old; after = uses.new })) }
 {
-    match text_at(scope, number) {
-        None => Ok(Base::Text(MISSING)),
-        Some(characters) => {
-            let place = uses.len();
-            if place >= MISSING as usize {
-                return Err(Memory);
-            }
-            uses.push(Items::from_slice(alloc, characters)?)?;
-            Ok(Base::Text(place as u32))
-        }
+    if !is_text(scope, number) {
+        return Ok(Base::Text(MISSING));
     }
+    let place = uses.len();
+    if place >= MISSING as usize {
+        return Err(Memory);
+    }
+    uses.push(characters_of(scope, alloc, number)?)?;
+    Ok(Base::Text(place as u32))
 }
 
 /// Where a designator begins.
 pub fn renumbered_base<'a>(
     scope: &Scope<'a>,
     alloc: Global,
-    uses: &mut Items<Items<u8>>,
+    uses: &mut Items<Characters>,
     base: Base,
 ) -> Result<Base, Memory>
     ensures { IfOk result (λ made. KeepsMeaning bases (numbering_of scope.now)

@@ -15,14 +15,14 @@ use crate::numbers::statements::{renumber_checked, renumber_statements};
 use check_types::names::Scope;
 use check_types::steps::CheckFault;
 use items::Items;
-use ob_types::{Checked, Stmt};
+use ob_types::{Characters, Checked, Stmt};
 use outside::Memory;
 use std::alloc::Global;
 
 /// Statements and an answer whose uses of strings are numbered by their order, and the characters of these uses.
 #[derive(Drop)]
 pub struct Numbered {
-    pub texts: Items<Items<u8>>,
+    pub texts: Items<Characters>,
     pub body: Items<Stmt>,
     pub answer: Option<Checked>,
 }
@@ -31,7 +31,7 @@ pub struct Numbered {
 fn renumber_answer<'a>(
     scope: &Scope<'a>,
     alloc: Global,
-    uses: &mut Items<Items<u8>>,
+    uses: &mut Items<Characters>,
     answer: &mut Option<Checked>,
 ) -> Result<(), Memory>
     ensures { OnOk result (KeepsMeaning answers (numbering_of scope.now)

@@ -8,7 +8,7 @@ use crate::numbers::expressions::{renumber_call, renumber_designator, renumber_e
 use crate::numbers::numbers::type_kind;
 use check_types::names::Scope;
 use items::Items;
-use ob_types::{Branch, CasePart, Checked, Designator, ForLoop, Stmt, TypePart};
+use ob_types::{Branch, CasePart, Characters, Checked, Designator, ForLoop, Stmt, TypePart};
 use outside::Memory;
 use std::alloc::Global;
 
@@ -16,7 +16,7 @@ use std::alloc::Global;
 pub fn renumber_checked<'a>(
     scope: &Scope<'a>,
     alloc: Global,
-    uses: &mut Items<Items<u8>>,
+    uses: &mut Items<Characters>,
     x: &mut Checked,
 ) -> Result<(), Memory>
     ensures { OnOk result (KeepsMeaning checked (numbering_of scope.now)
@@ -31,7 +31,7 @@ pub fn renumber_checked<'a>(
 fn renumber_change<'a>(
     scope: &Scope<'a>,
     alloc: Global,
-    uses: &mut Items<Items<u8>>,
+    uses: &mut Items<Characters>,
     d: &mut Designator,
     x: &mut Checked,
 ) -> Result<(), Memory>
@@ -47,7 +47,7 @@ fn renumber_change<'a>(
 fn renumber_copy<'a>(
     scope: &Scope<'a>,
     alloc: Global,
-    uses: &mut Items<Items<u8>>,
+    uses: &mut Items<Characters>,
     to: &mut Designator,
     from: &mut Designator,
 ) -> Result<(), Memory>
@@ -63,7 +63,7 @@ fn renumber_copy<'a>(
 fn renumber_head<'a>(
     scope: &Scope<'a>,
     alloc: Global,
-    uses: &mut Items<Items<u8>>,
+    uses: &mut Items<Characters>,
     variable: &mut Designator,
     first: &mut Checked,
     limit: &mut Checked,
@@ -86,7 +86,7 @@ fn renumber_head<'a>(
 pub fn renumber_statements<'a>(
     scope: &Scope<'a>,
     alloc: Global,
-    uses: &mut Items<Items<u8>>,
+    uses: &mut Items<Characters>,
     list: &mut Vec<Stmt>,
 ) -> Result<(), Memory>
     ensures { OnOk result (KeepsMeaning bodies (numbering_of scope.now)
@@ -162,7 +162,7 @@ fn is_update_statement(statement: &Stmt) -> bool
 fn renumber_update<'a>(
     scope: &Scope<'a>,
     alloc: Global,
-    uses: &mut Items<Items<u8>>,
+    uses: &mut Items<Characters>,
     statement: &mut Stmt,
 ) -> Result<(), Memory>
     ensures { OnOk result (is_update statement.old ≡ true → KeepsMeaning statements (numbering_of scope.now)
@@ -219,7 +219,7 @@ fn renumber_update<'a>(
 fn renumber_other<'a>(
     scope: &Scope<'a>,
     alloc: Global,
-    uses: &mut Items<Items<u8>>,
+    uses: &mut Items<Characters>,
     statement: &mut Stmt,
 ) -> Result<(), Memory>
     ensures { OnOk result (is_compound statement.old ≡ false → is_update statement.old ≡ false
@@ -278,7 +278,7 @@ fn renumber_other<'a>(
 fn renumber_simple<'a>(
     scope: &Scope<'a>,
     alloc: Global,
-    uses: &mut Items<Items<u8>>,
+    uses: &mut Items<Characters>,
     statement: &mut Stmt,
 ) -> Result<(), Memory>
     ensures { OnOk result (is_compound statement.old ≡ false → KeepsMeaning statements (numbering_of scope.now)
@@ -297,7 +297,7 @@ fn renumber_simple<'a>(
 fn renumber_compound<'a>(
     scope: &Scope<'a>,
     alloc: Global,
-    uses: &mut Items<Items<u8>>,
+    uses: &mut Items<Characters>,
     statement: &mut Stmt,
 ) -> Result<(), Memory>
     ensures { OnOk result (is_compound statement.old ≡ true → KeepsMeaning statements (numbering_of scope.now)
@@ -360,7 +360,7 @@ fn renumber_compound<'a>(
 fn renumber_statement<'a>(
     scope: &Scope<'a>,
     alloc: Global,
-    uses: &mut Items<Items<u8>>,
+    uses: &mut Items<Characters>,
     statement: &mut Stmt,
 ) -> Result<(), Memory>
     ensures { OnOk result (KeepsMeaning statements (numbering_of scope.now)
@@ -379,7 +379,7 @@ fn renumber_statement<'a>(
 fn renumber_loop<'a>(
     scope: &Scope<'a>,
     alloc: Global,
-    uses: &mut Items<Items<u8>>,
+    uses: &mut Items<Characters>,
     for_loop: &mut ForLoop,
 ) -> Result<(), Memory>
     ensures { OnOk result (KeepsMeaning loops (numbering_of scope.now)
@@ -402,7 +402,7 @@ fn renumber_loop<'a>(
 fn renumber_branches<'a>(
     scope: &Scope<'a>,
     alloc: Global,
-    uses: &mut Items<Items<u8>>,
+    uses: &mut Items<Characters>,
     list: &mut Vec<Branch>,
 ) -> Result<(), Memory>
     ensures { OnOk result (KeepsMeaning (each branches) (numbering_of scope.now)
@@ -419,7 +419,7 @@ fn renumber_branches<'a>(
 fn renumber_branch<'a>(
     scope: &Scope<'a>,
     alloc: Global,
-    uses: &mut Items<Items<u8>>,
+    uses: &mut Items<Characters>,
     branch: &mut Branch,
 ) -> Result<(), Memory>
     ensures { OnOk result (KeepsMeaning branches (numbering_of scope.now)
@@ -435,7 +435,7 @@ fn renumber_branch<'a>(
 fn renumber_case_parts<'a>(
     scope: &Scope<'a>,
     alloc: Global,
-    uses: &mut Items<Items<u8>>,
+    uses: &mut Items<Characters>,
     list: &mut Vec<CasePart>,
 ) -> Result<(), Memory>
     ensures { OnOk result (KeepsMeaning (each case_parts) (numbering_of scope.now)
@@ -452,7 +452,7 @@ fn renumber_case_parts<'a>(
 fn renumber_case_part<'a>(
     scope: &Scope<'a>,
     alloc: Global,
-    uses: &mut Items<Items<u8>>,
+    uses: &mut Items<Characters>,
     part: &mut CasePart,
 ) -> Result<(), Memory>
     ensures { OnOk result (KeepsMeaning case_parts (numbering_of scope.now)
@@ -467,7 +467,7 @@ fn renumber_case_part<'a>(
 fn renumber_type_parts<'a>(
     scope: &Scope<'a>,
     alloc: Global,
-    uses: &mut Items<Items<u8>>,
+    uses: &mut Items<Characters>,
     list: &mut Vec<TypePart>,
 ) -> Result<(), Memory>
     ensures { OnOk result (KeepsMeaning (each type_parts) (numbering_of scope.now)
@@ -484,7 +484,7 @@ fn renumber_type_parts<'a>(
 fn renumber_type_part<'a>(
     scope: &Scope<'a>,
     alloc: Global,
-    uses: &mut Items<Items<u8>>,
+    uses: &mut Items<Characters>,
     part: &mut TypePart,
 ) -> Result<(), Memory>
     ensures { OnOk result (KeepsMeaning type_parts (numbering_of scope.now)

@@ -22,7 +22,7 @@ fn find<'a>(scope: &Scope<'a>, record_type: u32, name: &[u8]) -> Option<FieldEnt
         (slice_get (known_of scope.now.types.now).records record_type) name.now }
 {
     match scope.types.layouts.get(record_type as usize) {
-        Some(layout) => layout.fields.get(name).copied(),
+        Some(layout) => layout.fields.get(name),
         None => None,
     }
 }

@@ -9,6 +9,7 @@ use crate::names::levels::Level;
 use crate::steps::Source;
 use crate::{TypeRef, TypeTable};
 use items::Items;
+use ob_types::Characters;
 
 /// The type of a constant that is no string.
 #[derive(Clone, Copy)]
@@ -154,7 +155,7 @@ pub struct Narrowing {
 pub struct Scope<'a> {
     pub source: &'a Source<'a>,
     pub types: &'a TypeTable,
-    pub strings: &'a [Items<u8>],
+    pub strings: &'a [Characters],
     pub modules: &'a [KnownModule],
     pub levels: &'a [Level],
     pub narrowed: &'a [Narrowing],

@@ -4,6 +4,7 @@ use Rattle.std.specs.Prelude.{is_none, nat_le, slice_set, is_some, if◌then◌e
 use Rattle.ob_types.proofs.Tests.{none_some}
 use Rattle.ob_syntax.specs.Syntax as S
 use Rattle.ob_syntax.specs.declared.names.Identdef.{Identdef}
+use Rattle.ob_types.specs.Trees.{rounded_extent}
 use Rattle.ob_judge.specs.Judged.{Judged, Keeps, Breaks, ◌>>=◌, rule, some}
 use Rattle.ob_judge.specs.Shapes.{Shape, Record, Pointer, Procedure, Layout}
 use Rattle.std.specs.Str.{bytes_eq}
@@ -107,7 +108,7 @@ module _ (p : Source) (read : IsRead p) where
         o_next (k_among (fields_part p n first (record (b.0) { added = [] }) >>> λ g. more_part p n more g) b.1
         (o_next (k_fields n first (record (b.0) { added = [] }) (record (b.1) { standing = [] })) (λ g. k_more n more g.0 g.1))) (λ g.
         o_next (o_look (rule 35 (place p i) (nat_le (g.0).cells limit)) g.1) (λ u.
-        keeps (OnwardTo u.1) (Record n, with_known (λ k. record k { records = slice_set k.records n (record (g.0) { module_number = u.1.world.module_number; line = n ∷ (g.0).line }) }) u.1) (quiet u.1 _ refl refl refl refl refl refl)))))
+        keeps (OnwardTo u.1) (Record n, with_known (λ k. record k { records = slice_set k.records n (record (g.0) { module_number = u.1.world.module_number; line = n ∷ (g.0).line; extent = rounded_extent (g.0).extent }) }) u.1) (quiet u.1 _ refl refl refl refl refl refl)))))
     k_type (S.Pointer i j base) s = o_next (k_pointed s base (type_part p base) (forward_name p (with_pointer s) base) refl (k_type base (with_pointer s))) (λ r. keeps (OnwardTo r.1) (Pointer (length s.world.known.bases), r.1) (onward r.1))
     k_type (S.Procedure i formals) s = o_next (k_aside (formal_part p false formals) s) (λ r. keeps (OnwardTo r.1) (Procedure ((r.0).0).formals (r.0).1, r.1) (onward r.1))
 

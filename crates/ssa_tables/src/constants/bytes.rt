@@ -10,8 +10,7 @@ ghost use Rattle.ssa_tables.specs.Shared.{ServesAll};
 ghost use Rattle.ssa_tables.specs.constants.Described.{all_described, all_texts, character_in_cell};
 
 use crate::constants::descriptors::push_descriptor;
-use items::Items;
-use ob_types::{Procedure, Program, Types};
+use ob_types::{Characters, Procedure, Program, Types};
 use outside::Memory;
 use ssa_exprs::Tables;
 use std::alloc::Global;
@@ -60,7 +59,7 @@ fn push_procedures(bytes: &mut Vec<u8>, procedures: &[Procedure]) -> Result<(), 
 }
 
 /// Adds strings, each with its 0X.
-fn push_texts(bytes: &mut Vec<u8>, texts: &[Items<u8>]) -> Result<(), Memory>
+fn push_texts(bytes: &mut Vec<u8>, texts: &[Characters]) -> Result<(), Memory>
     ensures { OnOk result (bytes.new.items ≡ bytes.old.items ++ all_texts texts.now) }
 {
     for text in texts {

@@ -2,6 +2,7 @@
 use Rattle.std.proofs.Common.{◌≡◌, ℕ, ◌+◌, List, [], ◌∷◌, ◌++◌, length, Bool, true, false, Option, Some, None, refl}
 use Rattle.std.specs.Prelude.{slice_set, nat_le, is_some, is_none}
 use Rattle.ob_types.specs.Forms.{all}
+use Rattle.ob_types.specs.Trees.{rounded_extent}
 use Rattle.ob_types.proofs.Tests.{and_from}
 use Rattle.ob_syntax.specs.Syntax as S
 use Rattle.ob_syntax.specs.declared.names.Identdef.{Identdef}
@@ -135,7 +136,7 @@ module _ (p : Source) where
         s_next (s_among layout_closed (fields_part p n first (record (b.0) { added = [] }) >>> λ g. more_part p n more g) b.1
         (s_next (s_fields n first (record (b.0) { added = [] }) refl (record (b.1) { standing = [] }) fine_b) (λ g fine_g closed. s_more n more g.0 closed g.1 fine_g))) (λ g fine_g closed.
         s_next (s_pass (rule 35 (place p i) (nat_le (g.0).cells limit)) g.1 fine_g) (λ u fine_u _.
-        let l : Layout = record (g.0) { module_number = (u.1).world.module_number; line = n ∷ (g.0).line } in
+        let l : Layout = record (g.0) { module_number = (u.1).world.module_number; line = n ∷ (g.0).line; extent = rounded_extent (g.0).extent } in
         kept IsWhole (Record n) (with_known (λ k. record k { records = slice_set k.records n l }) u.1) (fine_set_record u.1 n l closed fine_u) (refl, refl))))
     s_type (S.Pointer i j base) s fine =
         let n = length s.world.known.bases in

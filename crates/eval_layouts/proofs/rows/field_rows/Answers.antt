@@ -1,5 +1,5 @@
-use Rattle.std.proofs.Common.{◌≡◌, List, ℕ, ◌+◌, ◌<◌, get_or, length, None, [], take, sym, ap, subst, ◌∙◌}
-use Rattle.ob_types.specs.Layout.{record_of, record_cells, base_cells, cells_of_all, types_of, field_place}
+use Rattle.std.proofs.Common.{◌≡◌, List, ℕ, ◌+◌, ◌<◌, get_or, length, take, ap, subst, ◌∙◌}
+use Rattle.ob_types.specs.Layout.{no_record_type, record_of, record_cells, base_cells, cells_of_all, types_of, field_place}
 use Rattle.ob_types.specs.declared.types.RecordType.{RecordType}
 use Rattle.eval_layouts.specs.Tables.{TableOf}
 use Rattle.eval_layouts.proofs.Tabling.{each_step, there}
@@ -14,5 +14,5 @@ loop-declared-preserved c =
     let P : ℕ → List ℕ → Type 0 = λ k row. TableOf (field_place t k) row in
     let Q : RecordType → Type 0 = λ q. TableOf (λ f. base_cells q.base (record_cells t) + cells_of_all t (take f (types_of q.fields))) row in
     let L : List RecordType → Type 0 = λ l. i < length l in
-    let is : r ≡ record_of t i = there t.records i r (record { «module» = 0; base = None; level = 0; fields = []; cells = 0 }) r (subst L c.records-declared-items.ensures c.loop-declared-test.true) (c.declared-item.is ∙ ap (λ (l : List RecordType). get_or l i r) c.records-declared-items.ensures) in
+    let is : r ≡ record_of t i = there t.records i r no_record_type r (subst L c.records-declared-items.ensures c.loop-declared-test.true) (c.declared-item.is ∙ ap (λ (l : List RecordType). get_or l i r) c.records-declared-items.ensures) in
     each_step P c.loop-declared.rows.items c.push.new.self.items row i c.loop-declared.invariant.1 c.loop-declared.invariant.0 c.in_ok-push.ensures.items (subst Q is c.in_ok-field_row.ensures)

@@ -1,5 +1,5 @@
 use Rattle.std.proofs.Common.{refl}
-use Rattle.object_nodes.specs.Trees.{Array}
+use Rattle.ob_types.specs.Trees.{Array}
 use Rattle.object_nodes.proofs.Stood.{one_room_or_apart}
 use Rattle.object_nodes.proofs.laws.nodes_stand_apart.Goals as goal
 

@@ -1,5 +1,5 @@
-use Rattle.object_nodes.proofs.Meeting.{bytes_few, bytes_many}
-use Rattle.object_nodes.proofs.Words.{eight, narrow, whole_words, few_words, few_rounded}
+use Rattle.ob_types.proofs.TreeBytes.{bytes_few, bytes_many}
+use Rattle.ob_types.proofs.TreeBytes.{eight, narrow, whole_words, few_words, few_rounded}
 use Rattle.object_nodes.proofs.laws.trees_take_bytes.Goals as goal
 
 pub returns : goal.returns

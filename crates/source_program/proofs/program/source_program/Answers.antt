@@ -1,5 +1,4 @@
-use Rattle.std.proofs.Common.{◌≡◌, true, sym, subst, ◌∙◌, ◌≤◌, List, length}
-use Rattle.ob_types.specs.Counted.{IsCounted, HasOneNumberEach}
+use Rattle.std.proofs.Common.{◌≡◌, true, sym, subst, ◌≤◌, List, length}
 use Rattle.ob_types.specs.Meaning.{texts_of}
 use Rattle.ob_types.specs.WellFormed.{well_formed}
 use Rattle.ob_types.specs.declared.program.Procedure.{Procedure}
@@ -8,7 +7,7 @@ use Rattle.judged_programs.proofs.WellFormedPrograms.{program_well_formed}
 use Rattle.judged_tree.proofs.OneShape.{one-number}
 use Rattle.legal_tables.proofs.Legal.{legal_table}
 use Rattle.source_program.proofs.Behind.{program_behind, program_is}
-use Rattle.source_program.proofs.Tables.{counted}
+use Rattle.source_program.proofs.Tables.{counted, laid_out}
 use Rattle.source_program.proofs.program.source_program.Goals as goal
 
 pub into_program-program-requires : goal.into_program-program-requires
@@ -27,6 +26,7 @@ returns c =
       program = program_behind T s h p c.into_program-program.ensures.program c.into_program-program.ensures.in_turn few;
       well_formed = fine;
       counted = counted p fine legal;
+      laid_out = laid_out p fine legal;
       one_number = one-number p.types legal.once legal.front;
       fault = tt;
     }

@@ -21,7 +21,7 @@ still_there ss more new n s at is = ap (λ k. get_or (new ++ more) k []) at ∙ 
 pub returns-clause-settled : goal.returns-clause-settled
 returns-clause-settled c =
     settled_with c.args.round.now c.args.self.now c.requires.settled c.push.new.self _ c.in_ok-push.ensures.items c.push-2.new.self (c.args.place ∷ []) c.in_ok-push-2.ensures.items
-    (c.requires.place ∙ sym c.in_ok-string.ensures, tt)
+    (c.requires.place, tt)
 
 pub returns-clause-makes : goal.returns-clause-makes
 returns-clause-makes c = λ m makes. makes_with c.args.round.now c.args.self.now c.requires.settled c.push.new.self _ c.in_ok-push.ensures.items c.push-2.new.self _ c.in_ok-push-2.ensures.items m makes
@@ -32,13 +32,12 @@ returns-clause-stays c =
     let at : c.in_ok-n.n ≡ length ss = c.in_ok-n.ensures.number ∙ ap length c.deref.ensures.value in
     record {
       object = λ u more grows. ap (λ x. AConstant (Chars x))
-          (still_there ss more c.push.new.self.items c.in_ok-n.n c.in_ok-string.string at c.in_ok-push.ensures.items
-          ∙ sym (is_there ss c.push.new.self.items c.in_ok-n.n c.in_ok-string.string at c.in_ok-push.ensures.items));
+          (still_there ss more c.push.new.self.items c.in_ok-n.n c.args.characters at c.in_ok-push.ensures.items
+          ∙ sym (is_there ss c.push.new.self.items c.in_ok-n.n c.args.characters at c.in_ok-push.ensures.items));
     }
 
 pub returns-clause-means : goal.returns-clause-means
 returns-clause-means c =
     let ss = c.args.self.now.strings.items in
     ap (λ x. Chars x)
-    (is_there ss c.push.new.self.items c.in_ok-n.n c.in_ok-string.string (c.in_ok-n.ensures.number ∙ ap length c.deref.ensures.value) c.in_ok-push.ensures.items
-    ∙ c.in_ok-string.ensures)
+    (is_there ss c.push.new.self.items c.in_ok-n.n c.args.characters (c.in_ok-n.ensures.number ∙ ap length c.deref.ensures.value) c.in_ok-push.ensures.items)

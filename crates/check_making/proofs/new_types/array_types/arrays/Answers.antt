@@ -1,21 +1,25 @@
-use Rattle.std.proofs.Common.{◌≡◌, ◌∙◌, ◌-◌, ◌+◌, length, get_or, drop, refl, ap, sym, subst, arith}
+use Rattle.std.proofs.Common.{◌≡◌, ◌∙◌, ◌-◌, ◌+◌, ◌*◌, length, get_or, drop, refl, ap, sym, subst, arith}
 use Rattle.std.proofs.lemmas.List.{drop_all}
 use Rattle.ob_judge.specs.Scopes.{place}
 use Rattle.ob_judge.specs.Types.{arrays}
 use Rattle.check_types.proofs.steps.Answering.{exit, as_judged}
-use Rattle.ob_judge.specs.Shapes.{Known}
+use Rattle.std.specs.Prelude.{min}
+use Rattle.ob_judge.specs.Shapes.{Known, cells}
+use Rattle.table_builder.specs.Cells.{most_cells}
 use Rattle.judged_programs.specs.Complete.{IsKnown}
 use Rattle.check_types.specs.Known.{known_of}
 use Rattle.check_types.specs.TypeMeaning.{type_shape}
 use Rattle.check_making.specs.Making.{table_of}
 use Rattle.check_making.proofs.Growing.{grows_on}
 use Rattle.check_making.proofs.new_types.ArrayLists.{arrays_from, arrays_stop, type_comes}
-use Rattle.check_making.proofs.new_types.LegalArrays.{length_at, array_known}
+use Rattle.check_making.proofs.new_types.LegalArrays.{length_at, array_known, counted_array}
 use Rattle.check_making.proofs.new_types.array_types.arrays.Goals as goal
 
 pub loop-left-init : goal.loop-left-init
 loop-left-init c = record {
   within = (omega arith);
+  counted = c.cells-cells.ensures;
+  small = let e = c.cells-cells.ensures in omega (arith, e);
   settled = c.requires.settled;
   grows = record { entry = λ n e h. h; shape = λ e h. refl };
   known = refl;
@@ -35,9 +39,16 @@ loop-left-preserved c =
     let more = c.loop-left-test.true in
     let within = c.loop-left.invariant.within in
     let next : (c.loop-left.left - 1) + 1 ≡ c.loop-left.left = omega (arith, more) in
-    let records = (known_of c.args.state.now.types.table).records in
+    let known = known_of c.args.state.now.types.table in
+    let records = known.records in
+    let n = get_or ns (c.loop-left.left - 1) 0 in
+    let times =
+    c.capped-cells.ensures.is ∙ ap (λ k. min most_cells (c.loop-left.cells * k)) c.from.ensures
+    ∙ counted_array known known refl n c.loop-left.cells (type_shape (table_of s) c.loop-left.of) c.loop-left.invariant.counted in
     record {
       within = omega (arith, within);
+      counted = times ∙ ap (λ a. min most_cells (cells known a)) (sym c.in_ok-of.ensures.shape.shape_is);
+      small = c.capped-cells.ensures.small;
       settled = c.in_ok-of.ensures.settled;
       grows = grows_on c.args.state.now.types.table s.types.table c.array_of.new.state.types.table c.loop-left.invariant.grows c.in_ok-of.ensures.grows;
       known = c.in_ok-of.ensures.known ∙ c.loop-left.invariant.known;
@@ -55,6 +66,12 @@ loop-left-preserved c =
           (ap (λ k. arrays p (place p c.args.array_word) (drop k ns) shape m.world) next ∙ c.loop-left.invariant.judged m h)
           ∙ type_comes _ (c.in_ok-of.ensures.judged m (c.loop-left.invariant.makes m h));
     }
+
+pub array_of-requires-clause-cells : goal.array_of-requires-clause-cells
+array_of-requires-clause-cells c =
+    let s = c.loop-left.state in
+    c.capped-cells.ensures.is ∙ ap (λ k. min most_cells (c.loop-left.cells * k)) c.from.ensures
+    ∙ counted_array (known_of c.args.state.now.types.table) (known_of s.types.table) c.loop-left.invariant.known (get_or c.args.lengths.now (c.loop-left.left - 1) 0) c.loop-left.cells (type_shape (table_of s) c.loop-left.of) c.loop-left.invariant.counted
 
 pub returns-in_err-of-clause-judged : goal.returns-in_err-of-clause-judged
 returns-in_err-of-clause-judged c = λ m h.

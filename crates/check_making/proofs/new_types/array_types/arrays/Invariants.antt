@@ -1,4 +1,7 @@
-use Rattle.std.proofs.Common.{◌≡◌, ◌≤◌, length, drop}
+use Rattle.std.proofs.Common.{◌≡◌, ◌≤◌, ◌^◌, length, drop}
+use Rattle.std.specs.Prelude.{min}
+use Rattle.ob_judge.specs.Shapes.{cells}
+use Rattle.table_builder.specs.Cells.{most_cells}
 use Rattle.ob_judge.specs.Judged.{Keeps}
 use Rattle.ob_judge.specs.Making.{Making}
 use Rattle.ob_judge.specs.Scopes.{place}
@@ -19,6 +22,8 @@ decreases-loop-left l = l.left
 abbrev pub invariant-loop-left : goal.invariant-loop-left
 invariant-loop-left l = record {
   within : l.left ≤ length l.lengths;
+  counted : l.cells ≡ min most_cells (cells (known_of l.initial.state.types.table) (type_shape (table_of l.state) l.of));
+  small : l.cells ≤ 2 ^ 30;
   settled : IsSettled l.round l.state;
   grows : Grows l.initial.state.types.table l.state.types.table;
   known : known_of l.state.types.table ≡ known_of l.initial.state.types.table;

@@ -1,7 +1,10 @@
--- Bytes of trees by words: what has a part of eight bytes is whole words, all else has a byte a cell.
+-- What trees take: a cell a byte at least and eight at most; what has a part of eight bytes is whole words, all else has a byte a cell.
 use Rattle.std.proofs.Common.{◌≡◌, ℕ, zero, suc, ◌+◌, ◌*◌, ◌/◌, ◌%◌, ◌≤◌, Bool, true, false, ◌&&◌, ◌||◌, not, refl, ap, ◌∙◌, arith}
-use Rattle.object_nodes.specs.Trees.{DataTree, Scalar, Array, Record, FieldRow, Empty, Field, Extend, tree_cells, row_cells, fits_byte, scalar_bytes, round_up, wide, row_wide, tree_bytes, row_end}
-use Rattle.object_nodes.proofs.Meeting.{bytes_few}
+use Rattle.ob_types.specs.Trees.{DataTree, Scalar, Array, Record, FieldRow, Empty, Field, Extend, tree_cells, row_cells, fits_byte, scalar_bytes, round_up, wide, row_wide, tree_bytes, row_end}
+
+pub up_above : (b : Bool) (n : ℕ) → n ≤ round_up b n
+up_above true n = omega arith
+up_above false n = omega arith
 
 or_left : (a b : Bool) → (a || b) ≡ false → a ≡ false
 or_left true b h = h
@@ -22,6 +25,54 @@ rounded_words : (n : ℕ) → round_up true n % 8 ≡ 0
 rounded_words n = omega arith
 
 module _ (packed : Bool) where
+  -- a tree has no bytes where it has no cells, and else one a cell at least, eight at most
+  pub few_up : (b : Bool) (n m : ℕ) → n ≤ 8 * m → round_up b n ≤ 8 * m
+  few_up true n m le = omega (arith, le)
+  few_up false n m le = le
+
+  wide_up : (a b : Bool) (n m k x : ℕ) → n ≤ 8 * m → x ≤ 8 * k → round_up a n + x ≤ 8 * (m + k)
+  wide_up a b n m k x le lt = let z = few_up a n m le in omega (arith, z, lt)
+
+  times_few : (n a b : ℕ) → a ≤ 8 * b → n * a ≤ 8 * (n * b)
+  times_few zero a b le = omega arith
+  times_few (suc n) a b le = let z = times_few n a b le in
+      let x : suc n * a ≡ a + n * a = omega arith in let y : suc n * b ≡ b + n * b = omega arith in omega (arith, z, le, x, y)
+
+  times_many : (n a b : ℕ) → a ≤ b → n * a ≤ n * b
+  times_many zero a b le = omega arith
+  times_many (suc n) a b le = let z = times_many n a b le in
+      let x : suc n * a ≡ a + n * a = omega arith in let y : suc n * b ≡ b + n * b = omega arith in omega (arith, z, le, x, y)
+
+  scalar_few : (b : Bool) → scalar_bytes b ≤ 8 * 1
+  scalar_few true = omega arith
+  scalar_few false = omega arith
+
+  scalar_many : (b : Bool) → 1 ≤ scalar_bytes b
+  scalar_many true = omega arith
+  scalar_many false = omega arith
+
+  mutual
+    pub bytes_few : (s : DataTree) → tree_bytes packed s ≤ 8 * tree_cells s
+    bytes_few (Scalar f) = scalar_few (packed && fits_byte f)
+    bytes_few (Array n t) = times_few n (tree_bytes packed t) (tree_cells t) (bytes_few t)
+    bytes_few (Record r) = few_up (row_wide packed r) (row_end packed r) (row_cells r) (row_few r)
+
+    pub row_few : (r : FieldRow) → row_end packed r ≤ 8 * row_cells r
+    row_few Empty = omega arith
+    row_few (Field r t) = wide_up (wide packed t) (wide packed t) (row_end packed r) (row_cells r) (tree_cells t) (tree_bytes packed t) (row_few r) (bytes_few t)
+    row_few (Extend r) = few_up (row_wide packed r) (row_end packed r) (row_cells r) (row_few r)
+
+  mutual
+    pub bytes_many : (s : DataTree) → tree_cells s ≤ tree_bytes packed s
+    bytes_many (Scalar f) = scalar_many (packed && fits_byte f)
+    bytes_many (Array n t) = times_many n (tree_cells t) (tree_bytes packed t) (bytes_many t)
+    bytes_many (Record r) = let z = row_many r in let u = up_above (row_wide packed r) (row_end packed r) in omega (arith, z, u)
+
+    row_many : (r : FieldRow) → row_cells r ≤ row_end packed r
+    row_many Empty = omega arith
+    row_many (Field r t) = let z = row_many r in let u = up_above (wide packed t) (row_end packed r) in let y = bytes_many t in omega (arith, z, u, y)
+    row_many (Extend r) = let z = row_many r in let u = up_above (row_wide packed r) (row_end packed r) in omega (arith, z, u)
+
   mutual
     pub narrow : (t : DataTree) → wide packed t ≡ false → tree_bytes packed t ≡ tree_cells t
     narrow (Scalar f) e = one (packed && fits_byte f) e
@@ -54,11 +105,11 @@ module _ (packed : Bool) where
   few_words t = by (wide packed t) refl
     where
       by : (b : Bool) → wide packed t ≡ b → tree_bytes packed t / 8 + tree_bytes packed t % 8 ≤ tree_cells t
-      by true e = let a = whole_words t e in let b = bytes_few packed t in omega (arith, a, b)
+      by true e = let a = whole_words t e in let b = bytes_few t in omega (arith, a, b)
       by false e = let a = narrow t e in omega (arith, a)
 
   pub few_rounded : (t : DataTree) → round_up true (tree_bytes packed t) ≤ 8 * tree_cells t
-  few_rounded t = let e = bytes_few packed t in omega (arith, e)
+  few_rounded t = let e = bytes_few t in omega (arith, e)
 
 -- eight bytes a cell
 

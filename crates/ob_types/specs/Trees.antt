@@ -1,7 +1,9 @@
 -- The tree of a type: its elements and fields down to scalars, with what it takes in cells and in bytes.
-use Rattle.std.specs.Prelude.{ℕ, zero, suc, ◌+◌, ◌*◌, ◌/◌, List, [], ◌∷◌, ◌++◌, length, Bool, true, false, ◌&&◌, ◌||◌, not, Option, Some, None}
+use Rattle.std.specs.Prelude.{ℕ, zero, suc, ◌+◌, ◌*◌, ◌/◌, List, [], ◌∷◌, ◌++◌, length, take, slice_index, Bool, true, false, ◌&&◌, ◌||◌, ◌==◌, not, Option, Some, None}
+use Rattle.ob_types.specs.Assignable.{both_or_neither}
 use Rattle.ob_types.specs.Layout.{kind_of, record_of, types_of}
 use Rattle.ob_types.specs.Table.{Table}
+use Rattle.ob_types.specs.declared.types.Extent.{Extent}
 use Rattle.ob_types.specs.declared.types.TypeKind.{TypeKind}
 use Rattle.ob_types.specs.declared.types.TypeKind.TheVariants.{Array as ArrayOf, Record as RecordOf}
 use Rattle.ob_types.specs.Forms.{Form, Truth, Small, scalar_form, form_or_zero, repeated}
@@ -85,6 +87,36 @@ module _ (packed : Bool) where
     row_end (Field r t) = round_up (wide t) (row_end r) + tree_bytes t
     row_end (Extend r) = round_up (row_wide r) (row_end r)
 
+-- what it takes where small scalars take a byte, and what a row takes up to the end of its last field
+abbrev pub tree_extent : DataTree → Extent
+tree_extent t = record { bytes = tree_bytes true t; wide = wide true t }
+
+abbrev pub row_extent : FieldRow → Extent
+row_extent r = record { bytes = row_end true r; wide = row_wide true r }
+
+abbrev pub no_extent : Extent
+no_extent = record { bytes = 0; wide = false }
+
+-- so many, one behind the other
+abbrev pub in_a_row : ℕ → Extent → Extent
+in_a_row n x = record x { bytes = n * x.bytes }
+
+-- a part behind others: it begins at a multiple of 8 where it has a part of eight bytes
+abbrev pub with_part : Extent → Extent → Extent
+with_part x y = record { bytes = round_up y.wide x.bytes + y.bytes; wide = x.wide || y.wide }
+
+-- a record whose fields take that
+abbrev pub rounded_extent : Extent → Extent
+rounded_extent x = record { bytes = round_up x.wide x.bytes; wide = x.wide }
+
+abbrev pub same_extent : Extent → Extent → Bool
+same_extent x y = x.bytes == y.bytes && both_or_neither x.wide y.wide
+
+-- of what the beginning is a multiple
+abbrev pub alignment : Bool → ℕ
+alignment true = 8
+alignment false = 1
+
 ---- The trees of a table's types.
 
 abbrev pub base_row : Option ℕ → (ℕ → FieldRow) → FieldRow
@@ -117,3 +149,20 @@ module _ (t : Table) where
 
   unfoldable pub record_row : ℕ → FieldRow
   record_row r = row_within (suc (length t.kinds + length t.records)) r
+
+  abbrev pub record_extent : ℕ → Extent
+  record_extent r = tree_extent (Record (record_row r))
+
+  -- the bytes of a variable of a type, and of what its beginning is a multiple, where small scalars take a byte
+  abbrev pub bytes : ℕ → ℕ
+  bytes k = tree_bytes true (data_tree k)
+
+  abbrev pub align : ℕ → ℕ
+  align k = alignment (wide true (data_tree k))
+
+  -- a record up to one of its own fields, and the byte at which that field stands: behind the base and the fields before it
+  unfoldable pub fields_before : ℕ → ℕ → FieldRow
+  fields_before r field = with_fields data_tree (base_row (record_of t r).base record_row) (take field (types_of (record_of t r).fields))
+
+  abbrev pub field_offset : ℕ → ℕ → ℕ
+  field_offset r field = round_up (wide true (data_tree (slice_index (types_of (record_of t r).fields) field))) (row_end true (fields_before r field))

@@ -1,6 +1,5 @@
 -- Copies of maps.
-use Rattle.std.proofs.Common.{◌≡◌, ℕ, List, [], ◌∷◌, Bool, cond, Some, Result, Ok, Err, Vec, Global, refl, ap, ap₂, ◌∙◌}
-use Rattle.std.specs.Prelude.{IfOk, MatchResult}
+use Rattle.std.proofs.Common.{◌≡◌, ℕ, List, [], ◌∷◌, Bool, cond, Some, Vec, Global, refl, ap, ap₂, ◌∙◌}
 use Rattle.std.specs.List.{AllZip}
 use Rattle.std.specs.BTreeMap.{is_at}
 use Rattle.std.specs.Map.{lookup}
@@ -25,7 +24,3 @@ same_there C D f g q (a ∷ es) [] h = absurd h
 same_there C D f g q (a ∷ es) (b ∷ fs) h =
     ap (λ (k : List ℕ). cond (is_there q k) (Some b.1) (lookup (is_at (λ (k : Vec ℕ Global). slice_cmp nat_cmp q k.items)) fs)) (f a.0 b.0 (h.0).0)
     ∙ ap₂ (λ x o. cond (is_there q (a.0).items) (Some x) o) (g a.1 b.1 (h.0).1) (same_there C D f g q es fs h.1)
-
-pub matched_ok : {A E : Type 0} {P S : A → Type 0} (Q : E → Type 0) (r : Result A E) → MatchResult r P Q → ((a : A) → P a → S a) → IfOk r S
-matched_ok Q (Ok a) h f = f a h
-matched_ok Q (Err e) h f = tt
