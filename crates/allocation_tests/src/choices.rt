@@ -56,7 +56,7 @@ fn bare(alloc: Global, test: u32, to: u32) -> Result<Node, AllocError> {
 }
 
 // Tests one behind the other, each with a node on each of its edges to the next.
-fn tests(alloc: Global) -> Result<Flow, AllocError> {
+pub(crate) fn tests(alloc: Global) -> Result<Flow, AllocError> {
     let mut nodes = Vec::new(alloc);
     for number in 0..TESTS {
         let first = number.saturating_mul(3);

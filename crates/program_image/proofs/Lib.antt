@@ -1,5 +1,5 @@
-mod Ready
-mod Fitting
+pub mod Ready
+pub mod Fitting
 pub mod Running
 pub mod Telling
 mod Counting

@@ -1,9 +1,10 @@
 -- An image of a program does what the program means.
-use Rattle.std.proofs.Common.{◌≡◌, ℕ, zero, suc, ◌-◌, ◌*◌, ◌<◌, ◌^◌, List, [], ◌∷◌, ◌++◌, length, get_or, replicate, true, None, refl, subst, arith}
+use Rattle.std.proofs.Common.{◌≡◌, ℕ, zero, suc, ◌-◌, ◌*◌, ◌<◌, ◌^◌, List, [], ◌∷◌, ◌++◌, length, map, get_or, replicate, true, None, refl, subst, arith}
 use Rattle.std.specs.Prelude.{All, nat_lt}
 use Rattle.std.specs.List.{flat_map}
 use Rattle.std.specs.Int.{to_le_bytes, w64}
 use Rattle.std.proofs.lemmas.Bool.{ltb-true}
+use Rattle.image_form.specs.declared.image.Image.{Image}
 use Rattle.image_form.specs.Form.{IsInForm}
 use Rattle.a64_memory.specs.Memory.{AreBytes}
 use Rattle.a64_memory.proofs.Cells.{no_bytes, more_bytes, bytes_of_8}
@@ -20,6 +21,8 @@ use Rattle.ssa_lowered.specs.Data.{Layout, in_cells, text_room}
 use Rattle.ssa_lowered.specs.Limits.{limit_of}
 use Rattle.ssa_lowered.specs.Lowered.{lowered}
 use Rattle.ssa_lowered.specs.Pieces.{numbers}
+use Rattle.linked_flows.specs.Allocations.{Cut}
+use Rattle.link_plan.specs.Linked.{linked, Runs}
 use Rattle.link_plan.proofs.Low.{and_left, and_right}
 use Rattle.alloc_choice.specs.declared.choice.Choice.{Choice}
 use Rattle.back_end.specs.declared.imaging.LinkedProcedures.{LinkedProcedures}
@@ -28,7 +31,7 @@ use Rattle.lowered_valid.specs.Claims.{IsShort}
 use Rattle.lowered_runs.specs.Claims.{constants_of}
 use Rattle.lowered_runs.specs.Words.{AreInput}
 use Rattle.placed_code.specs.declared.data.ImageData.{ImageData}
-use Rattle.compiled_runs.specs.Compiled.{data_of, CanRunAnywhere}
+use Rattle.compiled_runs.specs.Compiled.{data_of, flows_of, CanRunAnywhere}
 use Rattle.compiled_runs.proofs.Whole.{means}
 use Rattle.program_image.specs.Images.{IsProgramImage, DoesAsMeant}
 use Rattle.program_image.proofs.Ready.{valid}
@@ -95,15 +98,21 @@ module _ (p : Program) (fine : well_formed p ≡ true) (none : limit_of p ≡ No
     stands = λ has. record { same = refl; near = near p none };
   }
 
+-- an image of its flows in traces with results, whoever made these
+module _ (p : Program) (cuts : List Cut) (image : Image) (flows : map (λ c. c.flow) cuts ≡ flows_of p) (is : image ≡ linked cuts (data_of p))
+    (runs : (input : List ℕ) → AreBytes (constants_of p) → ((i : ℕ) → get_or input i 0 < 2 ^ 64) → Runs image cuts (data_of p) input)
+    (fine : well_formed p ≡ true) (none : limit_of p ≡ None) (short : All IsShort (lowered p)) (form : IsInForm image) where
+  pub linked_does_as_meant : DoesAsMeant p cuts image
+  linked_does_as_meant input numbers =
+      means p cuts image input
+      (record { flows = flows; is = is; form = form })
+      (runs input (constants_small p fine) (input_small input numbers))
+      (valid p fine none short)
+      (can_run p fine none input numbers)
+
 module _ (choice : Choice) (p : Program) (made : LinkedProcedures) (h : IsImageBy choice (lowered p) (data_of p) made) where
   pub program_image_is : IsProgramImage choice p h.cuts made.image
   program_image_is = record { are = h.are; few = h.few; is = h.is }
 
-  module _ (fine : well_formed p ≡ true) (none : limit_of p ≡ None) (short : All IsShort (lowered p)) (form : IsInForm made.image) where
-    pub does_as_meant : DoesAsMeant p h.cuts made.image
-    does_as_meant input numbers =
-        means p h.cuts made.image input
-        (record { flows = h.are.flows; is = h.is; form = form })
-        (h.runs input (constants_small p fine) (input_small input numbers))
-        (valid p fine none short)
-        (can_run p fine none input numbers)
+  pub does_as_meant : well_formed p ≡ true → limit_of p ≡ None → All IsShort (lowered p) → IsInForm made.image → DoesAsMeant p h.cuts made.image
+  does_as_meant fine none short form = linked_does_as_meant p h.cuts made.image h.are.flows h.is h.runs fine none short form

@@ -73,7 +73,7 @@ fn places_of_words(places: &[ProcPlace])
 }
 
 /// What an image holds are words, as what is said of its file asks.
-fn of_words(image: &Image)
+pub fn of_words(image: &Image)
     ensures { IsOfWords image.now }
 {
     code_of_words(image.code.as_slice());

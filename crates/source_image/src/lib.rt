@@ -8,6 +8,6 @@
 mod imaging;
 mod refusal;
 
-pub use imaging::{source_image, source_traces};
+pub use imaging::{of_words, source_image, source_traces};
 pub use program_image::{Builder, Choice, Compiled, Image, Policy};
-pub use refusal::Refusal;
+pub use refusal::{Refusal, refused_program, refused_source};

@@ -25,7 +25,7 @@ pub enum Refusal {
 }
 
 /// The same fault of texts.
-pub(crate) fn refused_source(fault: SourceFault) -> Refusal
+pub fn refused_source(fault: SourceFault) -> Refusal
     ensures { result ≡ of_source fault }
 {
     match fault {
@@ -36,7 +36,7 @@ pub(crate) fn refused_source(fault: SourceFault) -> Refusal
 }
 
 /// The same fault of a program.
-pub(crate) fn refused_program(fault: ProgramFault) -> Refusal
+pub fn refused_program(fault: ProgramFault) -> Refusal
     ensures { result ≡ of_program fault }
 {
     match fault {

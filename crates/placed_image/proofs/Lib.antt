@@ -1,0 +1,3 @@
+pub mod Cuts
+pub mod Taken
+pub mod Results

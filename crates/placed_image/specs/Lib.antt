@@ -1,0 +1,3 @@
+pub mod Cutting
+pub mod Shares
+pub mod Placing

@@ -1,0 +1,4 @@
+pub mod Plans
+pub mod Own
+pub mod Placed
+pub mod Refused

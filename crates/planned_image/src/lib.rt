@@ -1,0 +1,20 @@
+//! A program's plan, and its image from results that come from elsewhere.
+//!
+//! `program_plan` and `source_plan` give a program's procedures as flows in traces, with its data. `audited_image` takes results for
+//! these traces, whoever made them: it tells the first failure, or gives the image that is linked from them, which does what the
+//! program means. All flows and results lie in memory; `program_image` goes through them in batches, and keeps none.
+#![tactic(auto)]
+
+mod auditing;
+mod fault;
+mod laws;
+mod planning;
+mod sources;
+
+pub use auditing::audited_image;
+pub use fault::AuditFault;
+pub use laws::{own_results_have_one_image, own_results_pass};
+pub use planning::{ProgramFlows, ProgramPlan, program_flows, program_plan};
+pub use program_image::{Builder, Image, ProgramFault};
+pub use source_image::Refusal;
+pub use sources::source_plan;
