@@ -22,7 +22,7 @@ use Rattle.image_form.specs.declared.image.Image.{Image}
 use Rattle.image_form.specs.declared.image.ProcPlace.{ProcPlace}
 use Rattle.a64_machine.specs.State.{Trap}
 use Rattle.trc_answers.specs.Runs.{run_of, cause_of_fault}
-use Rattle.trc_answers.specs.Verdict.{Verdict, Refuses, Runs, Writes, Prints, FileComesTo, IsMissing, HasTooMany, HasBytes, IsHeld, IsLeft, ImageComesTo, RunsAlone, RunsOnInput, HasTooMuch, BytesComeTo, AreNoImage, Written, Renews, AreTheSame, Differ}
+use Rattle.trc_answers.specs.Verdict.{Verdict, Refuses, Runs, Writes, Prints, FileComesTo, IsMissing, HasTooMany, HasBytes, IsHeld, IsLeft, ImageComesTo, RunsAlone, RunsOnInput, HasTooMuch, BytesComeTo, AreNoImage, IsWritten, Written, Renews, AreTheSame, Differ}
 use Rattle.trc_answers.specs.Reading.{IsImageRead, NoBytes, IsImageUnread, IsNoFile, FailedOnce, HasNoMemory}
 use Rattle.trc_answers.specs.Answers.{Devices, devices, Answers, AsItComes, ReadsInput, FailsReadingFiles, FailsReadingInput, FailsPrinting, FailsWriting, LacksMemory, InputStays, FilesHold, RunAnswers, Ran, RanIntoFault, HadNoRoom, PrintAnswers, Printed, PrintedAFront}
 use Rattle.trc_answers.specs.declared.causes.Device.TheVariants.{Files, Input, Output}
@@ -242,21 +242,21 @@ no_image left steps bytes (Fault number at) cause k out is fault held faults =
     (AreNoImage (record { number = number; at = at }) fault refl))
 no_image left steps bytes image_fault.Memory cause k out is fault held faults = lacks (λ l. BytesComeTo l steps bytes) held held faults faults left k out cause is refl
 
--- an image was written
-pub writes : (held held' : Option Held) (m n : ℕ) (name bytes : List ℕ) (image : Image)
-    → ToldOfWrite held name bytes held' (Ok tt) → bytes ≡ image_bytes image
-    → (left : Option (List ℕ)) (k : ℕ) (out : Account) → Answers (λ _. Written name image) (devices held m left k out) (devices held' n left k out) Done
-writes held held' m n name bytes image tells same left k out =
-    AsItComes (Writes name (image_bytes image)) refl refl
-    (record { written = all_none out; files = subst (λ b. ToldOfWrite held name b held' (Ok tt)) same tells; input = λ e. record { left = refl; faults = refl } })
+-- bytes were written
+pub writes : (held held' : Option Held) (m n : ℕ) (name bytes : List ℕ) → ToldOfWrite held name bytes held' (Ok tt)
+    → (left : Option (List ℕ)) (k : ℕ) (out : Account) → Answers (λ _. IsWritten name bytes) (devices held m left k out) (devices held' n left k out) Done
+writes held held' m n name bytes tells left k out =
+    AsItComes (Writes name bytes) refl refl (record { written = all_none out; files = tells; input = λ e. record { left = refl; faults = refl } })
 
--- the files failed while an image was written
-pub write_failed : (held held' : Option Held) (m n : ℕ) (name bytes : List ℕ) (image : Image) (e : PutFault)
-    → e ≡ put.Failed → ToldOfWrite held name bytes held' (Err e) → bytes ≡ image_bytes image → Rose m n
-    → (left : Option (List ℕ)) (k : ℕ) (out : Account) → Answers (λ _. Written name image) (devices held m left k out) (devices held' n left k out) (WriteFault Files)
-write_failed held held' m n name bytes image e is tells same rose left k out =
-    FailsWriting name (image_bytes image) refl refl rose (nothing out)
-    (subst (λ b. ToldOfWrite held name b held' (Err put.Failed)) same (subst (λ x. ToldOfWrite held name bytes held' (Err x)) is tells)) (record { left = refl; faults = refl })
+-- the files failed while bytes were written
+pub write_failed : (held held' : Option Held) (m n : ℕ) (name bytes : List ℕ) (e : PutFault) → e ≡ put.Failed → ToldOfWrite held name bytes held' (Err e) → Rose m n
+    → (left : Option (List ℕ)) (k : ℕ) (out : Account) → Answers (λ _. IsWritten name bytes) (devices held m left k out) (devices held' n left k out) (WriteFault Files)
+write_failed held held' m n name bytes e is tells rose left k out =
+    FailsWriting name bytes refl refl rose (nothing out) (subst (λ x. ToldOfWrite held name bytes held' (Err x)) is tells) (record { left = refl; faults = refl })
+
+-- they were those that were wanted
+pub wrote : (name bytes wanted : List ℕ) (old new : Devices) (cause : Cause) → bytes ≡ wanted → Answers (λ _. IsWritten name bytes) old new cause → Answers (λ _. IsWritten name wanted) old new cause
+wrote name bytes wanted old new cause same answers = subst (λ b. Answers (λ _. IsWritten name b) old new cause) same answers
 
 -- the image has these bytes in version 1, and what is written then
 pub renews : (name bytes : List ℕ) (image : Image) (old new : Devices) (cause : Cause) → bytes ≡ image_bytes (in_version_one image) → Answers (λ _. Written name image) old new cause → Answers (λ _. Renews name bytes image) old new cause

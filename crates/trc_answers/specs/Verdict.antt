@@ -9,6 +9,7 @@ use Rattle.image_form.specs.Form.{IsInForm}
 use Rattle.image_file.specs.Rules.{Broken, first_fault}
 use Rattle.image_file.specs.Spelling.{image_bytes, in_version_one, IsOfWords}
 use Rattle.image_file.specs.Differing.{DifferAt}
+use Rattle.elf_file.specs.Spelling.{elf_bytes}
 use Rattle.a64_machine.specs.State.{Trap}
 use Rattle.trc_answers.specs.Runs.{run_of, cause_of_run}
 use Rattle.trc_answers.specs.declared.causes.Cause.{Cause}
@@ -87,9 +88,17 @@ pub data BytesComeTo (left : Option (List ℕ)) (steps : ℕ) (bytes : List ℕ)
       → ImageComesTo left steps image verdict
       → BytesComeTo left steps bytes verdict
 
--- an image is written to the file of this name
+-- bytes are written to the file of this name
+abbrev pub IsWritten : (name bytes : List ℕ) → Verdict → Type 0
+IsWritten name bytes verdict = verdict ≡ Writes name bytes
+
+-- an image is written
 abbrev pub Written : List ℕ → Image → Verdict → Type 0
-Written name image verdict = verdict ≡ Writes name (image_bytes image)
+Written name image = IsWritten name (image_bytes image)
+
+-- its native program is written
+abbrev pub WrittenElf : List ℕ → Image → Verdict → Type 0
+WrittenElf name image = IsWritten name (elf_bytes image)
 
 -- it is written where these bytes are its bytes in version 1; else the first difference is told
 pub data Renews (name bytes : List ℕ) (image : Image) (verdict : Verdict) : Type 0 where

@@ -1,17 +1,35 @@
-//! What is written: an image to a file, or lines on the output.
+//! What is written: an image or its native program to a file, or lines on the output.
 
 ghost use Rattle.std.specs.Prelude.{◌≤◌, ℕ, List, Option};
 ghost use Rattle.outside.specs.Sink.{Account};
 ghost use Rattle.image_form.specs.Form.{IsInForm};
 ghost use Rattle.trc_answers.specs.Causes.{IsPlain};
-ghost use Rattle.trc_answers.specs.Verdict.{Renews, Written};
+ghost use Rattle.trc_answers.specs.Verdict.{IsWritten, Renews, Written, WrittenElf};
 ghost use Rattle.trc_answers.specs.Answers.{Answers, PrintAnswers, devices};
 
 use crate::causes::{Cause, Device};
+use elf_file::write_elf;
 use image_file::{first_difference, write_image};
 use image_form::Image;
 use outside::{Files, PutFault, Sink, write_all};
 use std::alloc::Global;
+
+/// Writes bytes to the file of this name.
+fn write_file<F: Files>(alloc: Global, name: &str, bytes: &[u8], files: &mut F) -> Cause
+    ensures answers { (left : Option (List ℕ)) (faults : ℕ) (out : Account)
+        → Answers (λ _. IsWritten name.now bytes.now) (devices (F.held files.old) (F.faults files.old) left faults out)
+        (devices (F.held files.new) (F.faults files.new) left faults out) result }
+    ensures plain { IsPlain result }
+    ensures rises { F.faults files.old ≤ F.faults files.new }
+{
+    match files.write(alloc, name, bytes) {
+        Ok(()) => Cause::Done,
+        Err(PutFault::Failed) => Cause::WriteFault {
+            device: Device::Files,
+        },
+        Err(PutFault::Memory) => Cause::Memory,
+    }
+}
 
 /// Writes an image to the file of this name.
 pub fn write_image_file<F: Files>(alloc: Global, name: &str, image: &Image, files: &mut F) -> Cause
@@ -22,15 +40,24 @@ pub fn write_image_file<F: Files>(alloc: Global, name: &str, image: &Image, file
     ensures plain { IsPlain result }
     ensures rises { F.faults files.old ≤ F.faults files.new }
 {
-    let Ok(bytes) = write_image(alloc, image) else {
-        return Cause::Memory;
-    };
-    match files.write(alloc, name, bytes.as_slice()) {
-        Ok(()) => Cause::Done,
-        Err(PutFault::Failed) => Cause::WriteFault {
-            device: Device::Files,
-        },
-        Err(PutFault::Memory) => Cause::Memory,
+    match write_image(alloc, image) {
+        Ok(bytes) => write_file(alloc, name, bytes.as_slice(), files),
+        Err(_) => Cause::Memory,
+    }
+}
+
+/// Writes the native program of an image to the file of this name.
+pub fn write_elf_file<F: Files>(alloc: Global, name: &str, image: &Image, files: &mut F) -> Cause
+    requires { IsInForm image.now }
+    ensures answers { (left : Option (List ℕ)) (faults : ℕ) (out : Account)
+        → Answers (λ _. WrittenElf name.now image.now) (devices (F.held files.old) (F.faults files.old) left faults out)
+        (devices (F.held files.new) (F.faults files.new) left faults out) result }
+    ensures plain { IsPlain result }
+    ensures rises { F.faults files.old ≤ F.faults files.new }
+{
+    match write_elf(alloc, image) {
+        Ok(bytes) => write_file(alloc, name, bytes.as_slice(), files),
+        Err(_) => Cause::Memory,
     }
 }
 

@@ -25,7 +25,7 @@ use Rattle.trc_answers.proofs.Answering.{refuses, lacks, mapped, prints}
 use Rattle.trc_answers.proofs.Texts.{text_at, placed_as}
 use Rattle.trc_cli.specs.Commands.{cause_of_refusal, IsRefusedAs, AreRefused, TextsComeTo, HaveNoImage, HaveImage, TracesComeTo, HaveNoTraces, HaveTraces, IsTextIn, IsTextHeld, IsTextOf, NamesText, names_read, ComesTo, FaultsOnlyInExec, FilesUse, InputUse}
 use Rattle.trc_cli.specs.Lines.{IsTold}
-use Rattle.trc_words.specs.Asked.{Asked, Run, Build, Exec, Traces, Bulk, Help}
+use Rattle.trc_words.specs.Asked.{Asked, Run, Build, Elf, Exec, Traces, Bulk, Help}
 use Rattle.trc_cli.specs.Did.{Did}
 use Rattle.trc_cli.proofs.Sound.{faults_only_in_exec}
 
@@ -115,6 +115,7 @@ untouched : (request : Option Asked) (t : Devices) → FilesUse request t t
 untouched None t = record { held = refl; faults = refl }
 untouched (Some (Run files choice steps)) t = tt
 untouched (Some (Build out files choice from)) t = tt
+untouched (Some (Elf out files choice)) t = tt
 untouched (Some (Exec image steps)) t = tt
 untouched (Some (Traces files choice)) t = tt
 untouched (Some (Bulk seed size choice steps)) t = record { held = refl; faults = refl }
@@ -124,6 +125,7 @@ unread : (request : Option Asked) (t : Devices) → InputUse request t t
 unread None t = record { left = refl; faults = refl }
 unread (Some (Run files choice steps)) t = tt
 unread (Some (Build out files choice from)) t = record { left = refl; faults = refl }
+unread (Some (Elf out files choice)) t = record { left = refl; faults = refl }
 unread (Some (Exec image steps)) t = tt
 unread (Some (Traces files choice)) t = record { left = refl; faults = refl }
 unread (Some (Bulk seed size choice steps)) t = record { left = refl; faults = refl }

@@ -16,13 +16,13 @@ use Rattle.source_image.specs.Refusals.{IsRefusal}
 use Rattle.source_image.specs.declared.refusal.Refusal.{Refusal}
 use Rattle.source_image.specs.declared.refusal.Refusal.TheVariants.{Memory as NoMemory}
 use Rattle.bulk_text.specs.Bulk.{bulk_text}
-use Rattle.trc_words.specs.Asked.{Asked, Run, Build, Exec, Traces, Bulk, Help}
+use Rattle.trc_words.specs.Asked.{Asked, Run, Build, Elf, Exec, Traces, Bulk, Help}
 use Rattle.trc_answers.specs.declared.causes.Cause.{Cause}
 use Rattle.trc_answers.specs.declared.causes.Cause.TheVariants.{Memory, NotImage, OtherImage}
 use Rattle.trc_answers.specs.declared.causes.Device.TheVariants.{Files, Input, Output}
 use Rattle.trc_answers.specs.Reading.{FilesComeTo, AreTooMany as AreTooManyFiles, LacksOne, HasALongOne, HaveTexts}
 use Rattle.trc_answers.specs.Runs.{run_of}
-use Rattle.trc_answers.specs.Verdict.{Verdict, Refuses, Runs, Writes, cause_of, FileComesTo, IsMissing, HasTooMany, HasBytes, ImageComesTo, RunsAlone, RunsOnInput, HasTooMuch, BytesComeTo, AreNoImage, AreAnImage, Written, Renews, AreTheSame, Differ, most_image, world}
+use Rattle.trc_answers.specs.Verdict.{Verdict, Refuses, Runs, Writes, cause_of, FileComesTo, IsMissing, HasTooMany, HasBytes, ImageComesTo, RunsAlone, RunsOnInput, HasTooMuch, BytesComeTo, AreNoImage, AreAnImage, Written, WrittenElf, Renews, AreTheSame, Differ, most_image, world}
 use Rattle.trc_answers.specs.Answers.{Devices, Answers, AsItComes, FailsReadingFiles, FailsReadingInput, FailsPrinting, FailsWriting, LacksMemory, AllDone}
 use Rattle.trc_cli.specs.Commands.{ComesTo, AnewComesTo, cause_of_refusal, SummaryComesTo, TextsComeTo, HaveNoImage, HaveImage, TracesComeTo}
 use Rattle.trc_cli.specs.Laws.{Alike, NoneFailed}
@@ -110,6 +110,9 @@ module _ (laws : Laws) (held : Held) (left : List ℕ) (a b : Verdict) where
       files_once held files (AnewComesTo (Some held) choice out from (length files)) a b
       (λ texts x y. file_once held (length files) from _ a b
       (λ bytes u v. by_image choice texts (Renews out bytes) (λ image i j. renews_once out bytes image a b i j) u v) x y) h k
+  once (Some (Elf out files choice)) h k =
+      files_once held files (TextsComeTo choice (λ made. WrittenElf out made.image)) a b
+      (λ texts x y. by_image choice texts (WrittenElf out) (λ image i j. both a b _ i j) x y) h k
   once (Some (Exec image steps)) h k = file_once held 0 image _ a b (λ bytes. bytes_once left steps bytes a b) h k
   once (Some (Traces files choice)) h k = files_once held files (TracesComeTo choice) a b (λ texts x y. traces_once laws choice texts a b x y) h k
   once (Some (Bulk seed size choice steps)) h k =

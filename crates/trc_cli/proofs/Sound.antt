@@ -14,7 +14,7 @@ use Rattle.source_image.specs.declared.refusal.Refusal.TheVariants as refusal
 use Rattle.text_laws.specs.no_faults.Faults.{IsBreak}
 use Rattle.text_laws.proofs.no_faults.Never.{image_never_faults}
 use Rattle.bulk_text.specs.Bulk.{bulk_text}
-use Rattle.trc_words.specs.Asked.{Asked, Run, Build, Exec, Traces, Bulk, Help}
+use Rattle.trc_words.specs.Asked.{Asked, Run, Build, Elf, Exec, Traces, Bulk, Help}
 use Rattle.trc_answers.specs.declared.causes.Cause.{Cause}
 use Rattle.trc_answers.specs.declared.causes.Device.{Device}
 use Rattle.trc_answers.specs.declared.causes.Cause.TheVariants as cause
@@ -94,6 +94,7 @@ comes_sound held left (Some (Run files choice steps)) v h =
 comes_sound held left (Some (Build out files choice None)) v h = files_sound held files _ v (λ texts. texts_sound choice texts _ v (λ made is e. as_sound v _ e tt)) h
 comes_sound held left (Some (Build out files choice (Some from))) v h =
     files_sound held files _ v (λ texts. file_sound held (length files) from _ v (λ bytes. texts_sound choice texts _ v (λ made is. renews_sound out bytes made.image v))) h
+comes_sound held left (Some (Elf out files choice)) v h = files_sound held files _ v (λ texts. texts_sound choice texts _ v (λ made is e. as_sound v _ e tt)) h
 comes_sound held left (Some (Exec image steps)) v h = tt
 comes_sound held left (Some (Traces files choice)) v h = files_sound held files _ v (λ texts. traces_sound choice texts v) h
 comes_sound held left (Some (Bulk seed size choice steps)) v h =
@@ -108,6 +109,7 @@ other_cause : (asked : Option Asked) (c : Cause) → IsNoMachineFault c → Faul
 other_cause None c h = h
 other_cause (Some (Run files choice steps)) c h = h
 other_cause (Some (Build out files choice from)) c h = h
+other_cause (Some (Elf out files choice)) c h = h
 other_cause (Some (Exec image steps)) c h = tt
 other_cause (Some (Traces files choice)) c h = h
 other_cause (Some (Bulk seed size choice steps)) c h = h

@@ -10,13 +10,13 @@ use Rattle.source_image.specs.Refusals.{IsRefusal, IsRefusalOfTraces}
 use Rattle.source_image.specs.declared.refusal.Refusal.{Refusal}
 use Rattle.source_image.specs.declared.refusal.Refusal.TheVariants.{TooLong, Source, Limit, Memory}
 use Rattle.bulk_text.specs.Bulk.{bulk_text}
-use Rattle.trc_words.specs.Asked.{Asked, Run, Build, Exec, Traces, Bulk, Help}
+use Rattle.trc_words.specs.Asked.{Asked, Run, Build, Elf, Exec, Traces, Bulk, Help}
 use Rattle.trc_answers.specs.declared.causes.Cause.{Cause}
 use Rattle.trc_answers.specs.declared.causes.Cause.TheVariants as cause
 use Rattle.trc_answers.specs.Answers.{Devices, InputStays}
 use Rattle.trc_answers.specs.Reading.{FilesComeTo}
 use Rattle.trc_answers.specs.Runs.{run_of, cause_of_run}
-use Rattle.trc_answers.specs.Verdict.{Verdict, Refuses, Prints, World, IsHeld, FileComesTo, ImageComesTo, BytesComeTo, Written, Renews}
+use Rattle.trc_answers.specs.Verdict.{Verdict, Refuses, Prints, World, IsHeld, FileComesTo, ImageComesTo, BytesComeTo, Written, WrittenElf, Renews}
 use Rattle.trc_cli.specs.declared.bulk.Counts.{Counts}
 
 ---- Texts
@@ -86,7 +86,7 @@ SummaryComesTo steps made verdict = verdict ≡ told_of_run made (run_of made.im
 
 -- the lines of help
 abbrev pub help_lines : List ℕ
-help_lines = codes "trc run|build|traces|exec|bulk|help" ++ (10 ∷ (codes "--policy --traces --regs --jobs --steps --from" ++ 10 ∷ []))
+help_lines = codes "trc run|build|elf|traces|exec|bulk|help" ++ (10 ∷ (codes "--policy --traces --regs --jobs --steps --from" ++ 10 ∷ []))
 
 -- an image is built anew from that of an older file, which is the next that is read
 abbrev pub AnewComesTo : Option Held → Choice → (out from : List ℕ) (number : ℕ) → List (List ℕ) → Verdict → Type 0
@@ -97,6 +97,7 @@ abbrev pub RequestComesTo : World → Asked → Verdict → Type 0
 RequestComesTo world (Run files choice steps) = FilesComeTo world.held files (TextsComeTo choice (λ made. ImageComesTo world.left steps made.image))
 RequestComesTo world (Build out files choice None) = FilesComeTo world.held files (TextsComeTo choice (λ made. Written out made.image))
 RequestComesTo world (Build out files choice (Some from)) = FilesComeTo world.held files (AnewComesTo world.held choice out from (length files))
+RequestComesTo world (Elf out files choice) = FilesComeTo world.held files (TextsComeTo choice (λ made. WrittenElf out made.image))
 RequestComesTo world (Exec image steps) = FileComesTo world.held 0 image (BytesComeTo world.left steps)
 RequestComesTo world (Traces files choice) = FilesComeTo world.held files (TracesComeTo choice)
 RequestComesTo world (Bulk seed size choice steps) = TextsComeTo choice (SummaryComesTo steps) (bulk_text seed size ∷ [])
@@ -142,6 +143,7 @@ abbrev pub names_read : Option Asked → List (List ℕ)
 names_read None = []
 names_read (Some (Run files choice steps)) = files
 names_read (Some (Build out files choice from)) = files ++ option_to_list from
+names_read (Some (Elf out files choice)) = files
 names_read (Some (Exec image steps)) = image ∷ []
 names_read (Some (Traces files choice)) = files
 names_read (Some (Bulk seed size choice steps)) = []

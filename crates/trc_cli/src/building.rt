@@ -1,4 +1,4 @@
-//! Modules are compiled, and their image is written to a file.
+//! Modules are compiled, and their image, or its native program, is written to a file.
 
 ghost use Rattle.std.specs.Prelude.{◌≡◌, ◌≤◌, ℕ, List, Option, length, map, option_map};
 ghost use Rattle.alloc_choice.specs.Choice.{IsFitChoice};
@@ -7,7 +7,7 @@ ghost use Rattle.trc_words.specs.Asked.{Build};
 ghost use Rattle.trc_answers.specs.Answers.{Answers, devices};
 ghost use Rattle.trc_answers.specs.Causes.{IsPlaced};
 ghost use Rattle.trc_answers.specs.Reading.{FilesComeTo};
-ghost use Rattle.trc_answers.specs.Verdict.{Renews, Written, world};
+ghost use Rattle.trc_answers.specs.Verdict.{Renews, Written, WrittenElf, world};
 ghost use Rattle.trc_cli.specs.Commands.{AnewComesTo, IsTextHeld, IsTextIn, RequestComesTo, TextsComeTo};
 
 use crate::compiling::{Scaffolds, compile, image_alone};
@@ -17,7 +17,9 @@ use source_image::Choice;
 use std::alloc::AllocGlobal;
 use std::sync::Wait;
 use std::thread::Threads;
-use trc_answers::{Ending, read_image_file, read_texts, renew_image_file, write_image_file};
+use trc_answers::{
+    Ending, read_image_file, read_texts, renew_image_file, write_elf_file, write_image_file,
+};
 
 // Compiles texts, and writes their image to the file of this name.
 fn build_texts<R: Threads + Wait + AllocGlobal + Sync, F: Files, G: Gate>(
@@ -198,5 +200,58 @@ pub(crate) fn build_from<R: Threads + Wait + AllocGlobal + Sync, F: Files, G: Ga
     match from {
         Some(from) => build_anew(rt, out, names, from, choice, files, gate, scaffolds),
         None => build(rt, out, names, choice, files, gate, scaffolds),
+    }
+}
+
+// Compiles texts, and writes the native program of their image to the file of this name.
+fn elf_texts<R: Threads + Wait + AllocGlobal + Sync, F: Files, G: Gate>(
+    rt: &R,
+    name: &str,
+    texts: &[Items<u8>],
+    choice: &Choice,
+    files: &mut F,
+    gate: &G,
+    scaffolds: Scaffolds,
+) -> Ending
+    requires choice { IsFitChoice choice.now }
+    requires few { length texts.now ≤ 64 }
+    ensures answers { (left : Option (List ℕ)) (faults : ℕ) (out : Account)
+        → Answers (λ _. TextsComeTo choice.now (λ made. WrittenElf name.now made.image) texts.now)
+        (devices (F.held files.old) (F.faults files.old) left faults out)
+        (devices (F.held files.new) (F.faults files.new) left faults out) result.cause }
+    ensures placed { IsPlaced (IsTextIn texts.now) result.cause result.place }
+    ensures rises { F.faults files.old ≤ F.faults files.new }
+{
+    match compile(rt, choice, texts, gate) {
+        Ok(made) => {
+            let image = image_alone(made, scaffolds);
+            Ending::of(write_elf_file(rt.alloc(), name, &image, files))
+        }
+        Err(ending) => ending,
+    }
+}
+
+/// Compiles the files of these names, and writes the native program of their image to the file `out`, which is written last.
+pub(crate) fn elf<R: Threads + Wait + AllocGlobal + Sync, F: Files, G: Gate>(
+    rt: &R,
+    out: &str,
+    names: &[&str],
+    choice: &Choice,
+    files: &mut F,
+    gate: &G,
+    scaffolds: Scaffolds,
+) -> Ending
+    requires { IsFitChoice choice.now }
+    ensures answers { (left : Option (List ℕ)) (faults : ℕ) (output : Account)
+        → Answers (λ _. FilesComeTo (F.held files.old) (map (λ name. name.now) names.now)
+        (TextsComeTo choice.now (λ made. WrittenElf out.now made.image)))
+        (devices (F.held files.old) (F.faults files.old) left faults output)
+        (devices (F.held files.new) (F.faults files.new) left faults output) result.cause }
+    ensures placed { IsPlaced (IsTextHeld (F.held files.old) (map (λ name. name.now) names.now)) result.cause result.place }
+    ensures rises { F.faults files.old ≤ F.faults files.new }
+{
+    match read_texts(rt.alloc(), names, files) {
+        Ok(texts) => elf_texts(rt, out, texts.as_slice(), choice, files, gate, scaffolds),
+        Err(cause) => Ending::of(cause),
     }
 }

@@ -8,7 +8,7 @@ ghost use Rattle.trc_answers.specs.Causes.{IsPlaced};
 ghost use Rattle.trc_cli.specs.Commands.{FilesUse, InputUse, IsTextOf, RequestComesTo, names_read};
 ghost use Rattle.trc_answers.specs.Verdict.{world};
 
-use crate::building::build_from;
+use crate::building::{build_from, elf};
 use crate::bulk::bulk;
 use crate::compiling::Scaffolds;
 use crate::running::run;
@@ -22,7 +22,7 @@ use trc_words::Request;
 
 /// The lines of `help`.
 const HELP: &[u8] =
-    b"trc run|build|traces|exec|bulk|help\n--policy --traces --regs --jobs --steps --from\n";
+    b"trc run|build|elf|traces|exec|bulk|help\n--policy --traces --regs --jobs --steps --from\n";
 
 /// Some names, and one more where there is one.
 fn names_with<'a>(
@@ -46,6 +46,7 @@ pub(crate) fn names_of<'a>(alloc: Global, request: &Request<'a>) -> Result<Vec<&
     match request {
         Request::Run { files, .. } => Vec::from_slice(alloc, files.as_slice()),
         Request::Build { files, from, .. } => names_with(alloc, files.as_slice(), *from),
+        Request::Elf { files, .. } => Vec::from_slice(alloc, files.as_slice()),
         Request::Traces { files, .. } => Vec::from_slice(alloc, files.as_slice()),
         Request::Exec { image, .. } => Vec::from_slice(alloc, &[*image]),
         Request::Bulk { .. } => Ok(Vec::new(alloc)),
@@ -115,6 +116,11 @@ pub(crate) fn perform<
             gate,
             scaffolds,
         ),
+        Request::Elf {
+            out: name,
+            files: names,
+            choice,
+        } => elf(rt, name, names.as_slice(), choice, files, gate, scaffolds),
         Request::Exec { image, steps } => {
             Ending::of(exec(rt.alloc(), image, *steps, files, input, out))
         }

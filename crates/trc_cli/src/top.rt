@@ -109,6 +109,7 @@ pub(crate) fn call<
 /// - `run FILE {FILE}` compiles the modules and runs their image on `out`;
 /// - `build OUT FILE {FILE}` compiles the modules and writes the image to OUT; with `--from IMAGE` only where the file IMAGE
 ///   holds the same image in version 1;
+/// - `elf OUT FILE {FILE}` compiles the modules and writes the native program of their image to OUT;
 /// - `traces FILE {FILE}` tells the traces of the modules' procedures;
 /// - `exec IMAGE` runs the image that the file holds;
 /// - `bulk SEED SIZE` makes a module of SIZE procedures, compiles and runs it, and tells what came of it;

@@ -14,7 +14,7 @@ use trc_cli::trc;
 
 /// The words of each call, and its input: each example, some with other policies and fewer registers, an example that is
 /// named before the module that it imports, and a file that isn't there.
-const CALLS: [(&str, &str); 30] = [
+const CALLS: [(&str, &str); 31] = [
     ("help", ""),
     ("run Answer.Mod", ""),
     ("run Squares.Mod", ""),
@@ -51,6 +51,7 @@ const CALLS: [(&str, &str); 30] = [
     ("bulk 7 20", ""),
     ("run UseStack.Mod Stack.Mod", ""),
     ("run Missing.Mod", ""),
+    ("elf answer Missing.Mod", ""),
 ];
 
 /// Makes the call of these words with this input, over the host's files, and gives the status with which it ends.

@@ -231,7 +231,7 @@ fn words_and_files_are_refused(rt: HostRuntime) -> Result<(), Fail> {
     wants(&rt, &["exec", "Missing.Mod"], &mut files, b"", missing)?;
     let help = Wanted {
         status: 0,
-        out: "trc run|build|traces|exec|bulk|help\n--policy --traces --regs --jobs --steps --from\n",
+        out: "trc run|build|elf|traces|exec|bulk|help\n--policy --traces --regs --jobs --steps --from\n",
         err: "",
     };
     wants(&rt, &["help"], &mut files, b"", help)
@@ -495,6 +495,41 @@ fn an_image_has_so_many_words_and_steps(rt: HostRuntime) -> Result<(), Fail> {
         )?;
     }
     Ok(())
+}
+
+/// The sum of bytes by which another program's files are named.
+fn sum_of(bytes: &[u8]) -> u64 {
+    let mut sum: u64 = 0xCBF2_9CE4_8422_2325;
+    for byte in bytes {
+        sum = (sum ^ u64::from(*byte)).wrapping_mul(0x0000_0100_0000_01B3);
+    }
+    sum
+}
+
+#[test]
+fn native_programs_are_written(rt: HostRuntime) -> Result<(), Fail> {
+    let mut files = answer(&rt, Vec::new(rt.alloc()))?;
+    let done = refused(0, "");
+    wants(&rt, &["elf", "N", "M.Mod"], &mut files, b"", done)?;
+    let native = files.read(rt.alloc(), "N", 100_000)?;
+    assert_eq!(rt; native.len(), 66_824);
+    assert_eq!(rt; sum_of(&native), 0x6907_6C12_F900_61C8);
+    let plain = ["elf", "N", "M.Mod", "--policy", "plain"];
+    wants(&rt, &plain, &mut files, b"", done)?;
+    let native = files.read(rt.alloc(), "N", 100_000)?;
+    assert_eq!(rt; native.len(), 66_864);
+    assert_eq!(rt; sum_of(&native), 0x7AE0_D2C5_8695_45A8);
+    let usage = refused(1, "trc: usage\n");
+    let from = ["elf", "N", "M.Mod", "--from", "N"];
+    wants(&rt, &from, &mut files, b"", usage)?;
+    wants(&rt, &["elf", "N"], &mut files, b"", usage)?;
+    let missing = refused(4, "trc: no file Missing.Mod\n");
+    wants(&rt, &["elf", "O", "Missing.Mod"], &mut files, b"", missing)?;
+    let unwritten = refused(4, "trc: no file O\n");
+    wants(&rt, &["exec", "O"], &mut files, b"", unwritten)?;
+    let mut failing = answer(&rt, vec![in rt.alloc(); 1u64]?)?;
+    let fault = refused(4, "trc: write fault on files\n");
+    wants(&rt, &["elf", "N", "M.Mod"], &mut failing, b"", fault)
 }
 
 /// Builds the module anew from the image in the file E, and looks at how the call ended and at what the file O holds.

@@ -7,10 +7,10 @@ use Rattle.std.specs.Str.Parse.{digits_value}
 use Rattle.clap.specs.Words.{App, Row, all_of, fault_of, first_of, matches_of}
 use Rattle.alloc_choice.specs.declared.choice.Policy.{Policy}
 use Rattle.trace_build.specs.declared.builder.Builder.{Builder}
-use Rattle.trc_words.specs.Commands.{run_command, build_command, exec_command, traces_command, bulk_command, help_command}
+use Rattle.trc_words.specs.Commands.{run_command, build_command, elf_command, exec_command, traces_command, bulk_command, help_command}
 use Rattle.trc_words.specs.Numbers.{is_between, is_number, number_between}
 use Rattle.trc_words.specs.Options.{choice_in, given, jobs_in, policy_in, regs_in, steps_in, traces_choice_in, traces_in, value_or}
-use Rattle.trc_words.specs.Asked.{Asked, Run, Build, Exec, Traces, Bulk, Help, asked_of, bulk_asked, build_asked, exec_asked, files_in, help_asked, is_none, run_asked, seed_in, size_in, some_of, taken, traces_asked}
+use Rattle.trc_words.specs.Asked.{Asked, Run, Build, Elf, Exec, Traces, Bulk, Help, asked_of, bulk_asked, build_asked, elf_asked, exec_asked, files_in, help_asked, is_none, run_asked, seed_in, size_in, some_of, taken, traces_asked}
 use Rattle.alloc_choice.specs.Choice.{IsFitChoice}
 use Rattle.trc_words.specs.Fitting.{Fits}
 use Rattle.trc_words.specs.Requests.{Asks, plain}
@@ -131,6 +131,13 @@ build_fits rows =
     given_holds IsFitChoice Fits (choice_in rows) _ (choice_holds rows) (λ choice c.
     some_holds Fits (Build out files choice (first_of (codes "from") rows)) (f, c))))
 
+elf_fits : (rows : List Row) → Holds Fits (elf_asked rows)
+elf_fits rows =
+    given_holds Any Fits (first_of (codes "OUT") rows) _ (λ _ _. tt) (λ out _.
+    given_holds IsFull Fits (files_in rows) _ (files_hold rows) (λ files f.
+    given_holds IsFitChoice Fits (choice_in rows) _ (choice_holds rows) (λ choice c.
+    some_holds Fits (Elf out files choice) (f, c))))
+
 exec_fits : (rows : List Row) → Holds Fits (exec_asked rows)
 exec_fits rows =
     given_holds Any Fits (first_of (codes "IMAGE") rows) _ (λ _ _. tt) (λ image _.
@@ -162,11 +169,12 @@ asked_of_fits : (command : List ℕ) (words : List (List ℕ)) → Holds Fits (a
 asked_of_fits command words =
     cond_holds Fits (bytes_eq command (codes "run")) _ _ (taken_fits run_command words run_asked run_fits)
     (cond_holds Fits (bytes_eq command (codes "build")) _ _ (taken_fits build_command words build_asked build_fits)
+    (cond_holds Fits (bytes_eq command (codes "elf")) _ _ (taken_fits elf_command words elf_asked elf_fits)
     (cond_holds Fits (bytes_eq command (codes "exec")) _ _ (taken_fits exec_command words exec_asked exec_fits)
     (cond_holds Fits (bytes_eq command (codes "traces")) _ _ (taken_fits traces_command words traces_asked traces_fits)
     (cond_holds Fits (bytes_eq command (codes "bulk")) _ _ (taken_fits bulk_command words bulk_asked bulk_fits)
     (cond_holds Fits (bytes_eq command (codes "help")) _ _ (taken_fits help_command words help_asked help_fits)
-    (none_holds Fits))))))
+    (none_holds Fits)))))))
 
 -- a request that words ask for fits
 pub fits_of : (command : List ℕ) (words : List (List ℕ)) (r : Result Request WordsFault) → Asks (asked_of command words) r → IfOk r (λ request. Fits (plain request))

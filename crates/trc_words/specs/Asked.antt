@@ -4,13 +4,14 @@ use Rattle.std.specs.Str.{bytes_eq}
 use Rattle.clap.specs.Words.{App, Row, all_of, fault_of, first_of, matches_of}
 use Rattle.clap.specs.Kinds.{Kinds}
 use Rattle.alloc_choice.specs.declared.choice.Choice.{Choice}
-use Rattle.trc_words.specs.Commands.{run_command, build_command, exec_command, traces_command, bulk_command, help_command}
+use Rattle.trc_words.specs.Commands.{run_command, build_command, elf_command, exec_command, traces_command, bulk_command, help_command}
 use Rattle.trc_words.specs.Numbers.{number_between}
 use Rattle.trc_words.specs.Options.{choice_in, given, steps_in, traces_choice_in}
 
 pub data Asked : Type 0 where
   Run : (files : List (List ℕ)) (choice : Choice) (steps : ℕ) → Asked
   Build : (out : List ℕ) (files : List (List ℕ)) (choice : Choice) (from : Option (List ℕ)) → Asked
+  Elf : (out : List ℕ) (files : List (List ℕ)) (choice : Choice) → Asked
   Exec : (image : List ℕ) (steps : ℕ) → Asked
   Traces : (files : List (List ℕ)) (choice : Choice) → Asked
   Bulk : (seed size : ℕ) (choice : Choice) (steps : ℕ) → Asked
@@ -40,6 +41,11 @@ abbrev pub build_asked : List Row → Option Asked
 build_asked rows =
     given (first_of (codes "OUT") rows) (λ out.
     given (files_in rows) (λ files. given (choice_in rows) (λ choice. Some (Build out files choice (first_of (codes "from") rows)))))
+
+abbrev pub elf_asked : List Row → Option Asked
+elf_asked rows =
+    given (first_of (codes "OUT") rows) (λ out.
+    given (files_in rows) (λ files. given (choice_in rows) (λ choice. Some (Elf out files choice))))
 
 abbrev pub exec_asked : List Row → Option Asked
 exec_asked rows =
@@ -71,11 +77,12 @@ abbrev pub asked_of : List ℕ → List (List ℕ) → Option Asked
 asked_of command words =
     if bytes_eq command (codes "run") then taken run_command words run_asked
     else (if bytes_eq command (codes "build") then taken build_command words build_asked
+    else (if bytes_eq command (codes "elf") then taken elf_command words elf_asked
     else (if bytes_eq command (codes "exec") then taken exec_command words exec_asked
     else (if bytes_eq command (codes "traces") then taken traces_command words traces_asked
     else (if bytes_eq command (codes "bulk") then taken bulk_command words bulk_asked
     else (if bytes_eq command (codes "help") then taken help_command words help_asked
-    else None)))))
+    else None))))))
 
 -- what words ask for, or nothing where they are refused
 abbrev pub asked : List (List ℕ) → Option Asked

@@ -47,6 +47,10 @@ run_command = with_run (with_files (new_app (codes "run")))
 abbrev pub build_command : App
 build_command = with_option (with_choice (with_files (with_argument (new_app (codes "build")) (codes "OUT")))) (codes "from")
 
+-- elf OUT FILE {FILE} [--policy NAME] [--traces NAME] [--regs N] [--jobs N]
+abbrev pub elf_command : App
+elf_command = with_choice (with_files (with_argument (new_app (codes "elf")) (codes "OUT")))
+
 -- exec IMAGE [--steps N]
 abbrev pub exec_command : App
 exec_command = with_option (with_argument (new_app (codes "exec")) (codes "IMAGE")) (codes "steps")

@@ -1,12 +1,13 @@
 -- What holds of all that words can ask for.
 use Rattle.std.specs.Prelude.{◌≤◌, length}
 use Rattle.alloc_choice.specs.Choice.{IsFitChoice}
-use Rattle.trc_words.specs.Asked.{Asked, Run, Build, Exec, Traces, Bulk, Help}
+use Rattle.trc_words.specs.Asked.{Asked, Run, Build, Elf, Exec, Traces, Bulk, Help}
 
 -- at least one file is named, a choice and the size of a made module are in their range
 abbrev pub Fits : Asked → Type 0
 Fits (Run files choice steps) = (1 ≤ length files) × IsFitChoice choice × (steps ≤ 1000000000000000)
 Fits (Build out files choice from) = (1 ≤ length files) × IsFitChoice choice
+Fits (Elf out files choice) = (1 ≤ length files) × IsFitChoice choice
 Fits (Exec image steps) = steps ≤ 1000000000000000
 Fits (Traces files choice) = (1 ≤ length files) × IsFitChoice choice
 Fits (Bulk seed size choice steps) =

@@ -4,7 +4,7 @@ use Rattle.std.specs.Borrow.{Bor}
 use Rattle.trc_words.specs.Asked.{Asked}
 use Rattle.trc_words.specs.Asked as asked
 use Rattle.trc_words.specs.declared.asked.Request.{Request}
-use Rattle.trc_words.specs.declared.asked.Request.TheVariants.{Run, Build, Exec, Traces, Bulk, Help}
+use Rattle.trc_words.specs.declared.asked.Request.TheVariants.{Run, Build, Elf, Exec, Traces, Bulk, Help}
 use Rattle.trc_words.specs.declared.asked.WordsFault.{WordsFault}
 use Rattle.trc_words.specs.declared.asked.WordsFault.TheVariants.{Usage, Memory}
 
@@ -16,6 +16,7 @@ texts list = map (λ text. text.now) list
 abbrev pub plain : Request → Asked
 plain (Run files choice steps) = asked.Run (texts files.items) choice steps
 plain (Build out files choice from) = asked.Build out.now (texts files.items) choice (option_map (λ text. text.now) from)
+plain (Elf out files choice) = asked.Elf out.now (texts files.items) choice
 plain (Exec image steps) = asked.Exec image.now steps
 plain (Traces files choice) = asked.Traces (texts files.items) choice
 plain (Bulk seed size choice steps) = asked.Bulk seed size choice steps

@@ -30,6 +30,12 @@ pub enum Request<'a> {
         choice: Choice,
         from: Option<&'a str>,
     },
+    /// Compile files, and write the native program of their image to the file `out`.
+    Elf {
+        out: &'a str,
+        files: Vec<&'a str>,
+        choice: Choice,
+    },
     /// Run the image that a file holds.
     Exec {
         image: &'a str,

@@ -3,7 +3,7 @@
 ghost use Rattle.std.specs.Prelude.{◌≡◌, map, string_bytes, true, IfOk};
 ghost use Rattle.clap.specs.Words.{app_of};
 ghost use Rattle.clap.specs.Faults.{is_simple_and_free};
-ghost use Rattle.trc_words.specs.Commands.{run_command, build_command, exec_command, traces_command, bulk_command, help_command};
+ghost use Rattle.trc_words.specs.Commands.{run_command, build_command, elf_command, exec_command, traces_command, bulk_command, help_command};
 ghost use Rattle.trc_words.specs.Taking.{IsTakenBy};
 
 use crate::arguments::{
@@ -40,6 +40,15 @@ fn build_command<'a>(alloc: Global) -> Result<Command<'a>, AllocError>
     let command = with_files(alloc, command)?;
     let command = with_choice(alloc, command)?;
     with_option(alloc, command, "from")
+}
+
+/// `elf OUT FILE {FILE}`, with the options of compiling
+fn elf_command<'a>(alloc: Global) -> Result<Command<'a>, AllocError>
+    ensures { IfOk result (λ command. app_of command ≡ elf_command) }
+{
+    let command = with_argument(alloc, Command::new(alloc, "elf"), "OUT")?;
+    let command = with_files(alloc, command)?;
+    with_choice(alloc, command)
 }
 
 /// `exec IMAGE [--steps N]`
@@ -80,6 +89,14 @@ pub(crate) fn build<'a>(alloc: Global, words: &'a [String]) -> Result<ArgMatches
     ensures { IsTakenBy build_command (map string_bytes words.entry.now) result }
 {
     let command = build_command(alloc)?;
+    matches(command, words)
+}
+
+/// What `elf` makes of words.
+pub(crate) fn elf<'a>(alloc: Global, words: &'a [String]) -> Result<ArgMatches<'a>, WordsFault>
+    ensures { IsTakenBy elf_command (map string_bytes words.entry.now) result }
+{
+    let command = elf_command(alloc)?;
     matches(command, words)
 }
 

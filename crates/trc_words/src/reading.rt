@@ -1,8 +1,8 @@
 //! From words to what they ask for.
 
 ghost use Rattle.std.specs.Prelude.{map, string_bytes, IfOk, ◌≡◌};
-ghost use Rattle.trc_words.specs.Asked.{asked, asked_of, files_in, seed_in, size_in, taken, run_asked, build_asked, exec_asked, traces_asked, bulk_asked, help_asked};
-ghost use Rattle.trc_words.specs.Commands.{run_command, build_command, exec_command, traces_command, bulk_command, help_command};
+ghost use Rattle.trc_words.specs.Asked.{asked, asked_of, files_in, seed_in, size_in, taken, run_asked, build_asked, elf_asked, exec_asked, traces_asked, bulk_asked, help_asked};
+ghost use Rattle.trc_words.specs.Commands.{run_command, build_command, elf_command, exec_command, traces_command, bulk_command, help_command};
 ghost use Rattle.trc_words.specs.Fitting.{Fits};
 ghost use Rattle.trc_words.specs.Requests.{Asks, Shows, plain, texts};
 ghost use Rattle.clap.specs.Words.{found_of, rows_of};
@@ -67,6 +67,16 @@ fn build_request<'a>(alloc: Global, matches: &ArgMatches<'a>) -> Result<Request<
     })
 }
 
+/// What the matches of `elf` ask for.
+fn elf_request<'a>(alloc: Global, matches: &ArgMatches<'a>) -> Result<Request<'a>, WordsFault>
+    ensures { Asks (elf_asked (rows_of (found_of matches.now))) result }
+{
+    let out = value(matches, "OUT").ok_or(WordsFault::Usage)?;
+    let files = files(alloc, matches)?;
+    let choice = choice(matches).ok_or(WordsFault::Usage)?;
+    Ok(Request::Elf { out, files, choice })
+}
+
 /// What the matches of `exec` ask for.
 fn exec_request<'a>(matches: &ArgMatches<'a>) -> Result<Request<'a>, WordsFault>
     ensures { Asks (exec_asked (rows_of (found_of matches.now))) result }
@@ -117,6 +127,14 @@ fn build<'a>(alloc: Global, words: &'a [String]) -> Result<Request<'a>, WordsFau
     build_request(alloc, &matches)
 }
 
+/// What words ask for that begin with `elf`.
+fn elf<'a>(alloc: Global, words: &'a [String]) -> Result<Request<'a>, WordsFault>
+    ensures { Asks (taken elf_command (map string_bytes words.entry.now) elf_asked) result }
+{
+    let matches = commands::elf(alloc, words)?;
+    elf_request(alloc, &matches)
+}
+
 /// What words ask for that begin with `exec`.
 fn exec<'a>(alloc: Global, words: &'a [String]) -> Result<Request<'a>, WordsFault>
     ensures { Asks (taken exec_command (map string_bytes words.entry.now) exec_asked) result }
@@ -156,6 +174,7 @@ fn of_command<'a>(alloc: Global, name: &str, words: &'a [String]) -> Result<Requ
     match name {
         "run" => run(alloc, words),
         "build" => build(alloc, words),
+        "elf" => elf(alloc, words),
         "exec" => exec(alloc, words),
         "traces" => traces(alloc, words),
         "bulk" => bulk(alloc, words),

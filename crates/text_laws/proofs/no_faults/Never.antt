@@ -5,18 +5,17 @@ use Rattle.std.proofs.lemmas.Bool.{lt-ltb}
 use Rattle.a64_memory.specs.Memory.{AreBytes}
 use Rattle.ob_types.specs.Forms.{all}
 use Rattle.lowered_runs.specs.Words.{AreInput}
-use Rattle.run_laws.specs.Runs.{Trapped}
+use Rattle.run_laws.specs.Runs.{Trapped, run}
 use Rattle.run_laws.proofs.Agreement.{trap_never}
 use Rattle.image_form.specs.declared.image.Image.{Image}
 use Rattle.a64_machine.specs.State.{Trap, Broke, Undefined, BadAddress, BadCall}
-use Rattle.a64_machine.specs.Machine.{start, system}
+use Rattle.a64_machine.specs.Machine.{start, step_of, system}
 use Rattle.ob_types.specs.Store as store
 use Rattle.ob_types.specs.Meaning.{meaning}
 use Rattle.ob_types.specs.declared.program.Program.{Program}
 use Rattle.linked_flows.specs.Allocations.{Cut}
 use Rattle.placed_code.specs.Placed.{Placed}
 use Rattle.compiled_runs.specs.Compiled.{Means, placed_of, same_break}
-use Rattle.trc_answers.specs.Runs.{run_of}
 use Rattle.alloc_choice.specs.declared.choice.Choice.{Choice}
 use Rattle.program_image.specs.declared.imaging.Compiled.{Compiled}
 use Rattle.source_image.specs.Images.{IsImageOfTexts}
@@ -45,7 +44,7 @@ module _ (p : Program) (ps : List Placed) (image : Image) where
   no_call number store.Senseless h = h
 
 module _ (p : Program) (cuts : List Cut) (image : Image) (input : List ℕ) (means : Means p cuts image input) (steps : ℕ) (out : List ℕ) where
-  pub is_break : (trap : Trap) → run_of image input steps ≡ Trapped trap out → IsBreak trap
+  pub is_break : (trap : Trap) → run (step_of image.code) steps (start image input) [] ≡ Trapped trap out → IsBreak trap
   is_break (Broke kind place) is = tt
   is_break (Undefined word) is = trap_never (system image) (length image.code) (same_break p (placed_of cuts) image) (start image input) (meaning p input) means (Undefined word) (no_undefined p (placed_of cuts) image word) steps out is
   is_break (BadAddress address) is = trap_never (system image) (length image.code) (same_break p (placed_of cuts) image) (start image input) (meaning p input) means (BadAddress address) (no_address p (placed_of cuts) image address) steps out is
@@ -53,5 +52,5 @@ module _ (p : Program) (cuts : List Cut) (image : Image) (input : List ℕ) (mea
 
 -- the machine that runs an image of texts comes to no fault
 pub image_never_faults : (choice : Choice) (texts : List (List ℕ)) (made : Compiled) (input : List ℕ) (steps : ℕ) (trap : Trap) (out : List ℕ)
-    → IsImageOfTexts choice texts made → AreBytes input → run_of made.image input steps ≡ Trapped trap out → IsBreak trap
+    → IsImageOfTexts choice texts made → AreBytes input → run (step_of made.image.code) steps (start made.image input) [] ≡ Trapped trap out → IsBreak trap
 image_never_faults choice texts made input steps trap out is are e = is_break is.program is.cuts made.image input (is.means input (are_input input are)) steps out trap e

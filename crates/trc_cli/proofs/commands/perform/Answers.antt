@@ -9,6 +9,9 @@ returns-in-Run-clause-answers g c = rw (c.in-Run.is, ← c.as_slice.ensures.valu
 pub returns-in-Build-clause-answers : goal.returns-in-Build-clause-answers
 returns-in-Build-clause-answers g c = rw (c.in-Build.is, ← c.as_slice-in-Build.ensures.value) (c.build_from.ensures.answers _ _ _)
 
+pub returns-in-Elf-clause-answers : goal.returns-in-Elf-clause-answers
+returns-in-Elf-clause-answers g c = rw (c.in-Elf.is, ← c.as_slice-in-Elf.ensures.value) (c.elf.ensures.answers _ _ _)
+
 pub returns-in-Exec-clause-answers : goal.returns-in-Exec-clause-answers
 returns-in-Exec-clause-answers g c = rw (c.in-Exec.is, c.of.ensures) c.exec.ensures.answers
 

@@ -1,0 +1,11 @@
+use Rattle.trc_answers.specs.Verdict.{WrittenElf}
+use Rattle.trc_cli.proofs.Endings.{image_comes, no_image}
+use Rattle.trc_cli.proofs.building.elf_texts.Goals as goal
+
+pub returns-in-Ok-clause-answers : goal.returns-in-Ok-clause-answers
+returns-in-Ok-clause-answers g c = λ left faults out.
+    rw c.of.ensures (image_comes c.args.choice.now c.args.texts.now (λ _. WrittenElf c.args.name.now) c.in-Ok.made _ _ _ _ c.in-Ok.ensures.image c.image_alone-image.ensures (c.write_elf_file.ensures.answers left faults out))
+
+pub returns-in-Err-clause-answers : goal.returns-in-Err-clause-answers
+returns-in-Err-clause-answers g c = λ left faults out.
+    no_image c.args.choice.now c.args.texts.now (λ _ made. WrittenElf c.args.name.now made.image) _ c.in-Err.ensures.refused _ _ left faults out
