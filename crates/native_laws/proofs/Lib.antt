@@ -1,0 +1,5 @@
+mod TrapKinds
+mod Modest
+mod Low
+mod Free
+mod Images
