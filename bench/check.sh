@@ -1,7 +1,7 @@
 #!/bin/bash
 # Time of checking against size, in doublings: declarations, one long expression, names of one scope, fields of one record, labels of
-# one CASE, procedures; and what small texts may repeat: one record with as many extensions as fields, an array of so many dimensions, a
-# string constant that is used again and again.
+# one CASE, procedures; and what small texts may repeat: one record with as many extensions as fields, an array of so many dimensions, as
+# many fields and variables of one such array, a string constant that is used again and again.
 #
 #     bench/check.sh [PROGRAM]
 #
@@ -14,6 +14,8 @@ program=${1:-$(built pass_times)}
 # make KIND COUNT: a module with so many of a kind
 make() {
     awk -v kind="$1" -v n="$2" '
+        # ones: a length of 1 for each dimension
+        function ones(i) { for (i = 0; i < n; i++) printf i ? ", 1" : "1" }
         # names PREFIX: all names with a prefix, with commas between them
         function names(prefix, i) { for (i = 0; i < n; i++) printf "%s%s%d", i ? ", " : "", prefix, i }
         # places PREFIX: a store into each name, of the value of some other
@@ -36,7 +38,10 @@ make() {
             } else if (kind == "extensions") {
                 printf "TYPE R = RECORD "; names("f"); print ": INTEGER END;"; for (i = 0; i < n; i++) printf "E%d = RECORD (R) END;\n", i
             } else if (kind == "dimensions") {
-                printf "VAR a: ARRAY 1"; for (i = 1; i < n; i++) printf ", 1"; print " OF CHAR;"
+                printf "VAR a: ARRAY "; ones(); print " OF CHAR;"
+            } else if (kind == "uses") {
+                printf "TYPE T = ARRAY "; ones(); printf " OF CHAR; R = RECORD "; names("f"); print ": T END;"
+                printf "VAR "; names("v"); print ": T;"
             } else if (kind == "strings") {
                 printf "CONST s = \""; for (i = 0; i < n; i++) printf "x"; printf "\"; VAR a: ARRAY %d OF CHAR; BEGIN\n", n + 1
                 for (i = 0; i < n / 12; i++) print "a := s;"
@@ -56,8 +61,9 @@ checked() {
 }
 
 printf '%-14s %8s %9s %10s %10s %10s %10s %8s\n' module size bytes 'scan, ms' 'parse, ms' 'check, ms' 'us each' growth
-for kind in declarations expression names fields labels extensions dimensions strings procedures; do
+for kind in declarations expression names fields labels extensions dimensions uses strings procedures; do
     sizes='1250 2500 5000 10000 20000'
+    [ "$kind" = uses ] && sizes='6250 12500 25000 50000'
     [ "$kind" = procedures ] && sizes='125 250 500 1000'
     last=
     for size in $sizes; do

@@ -1,12 +1,9 @@
 -- The next variable of a module or a procedure.
 use Rattle.std.specs.Prelude.{ℕ, List, Option, Some, None}
 use Rattle.ob_syntax.specs.declared.names.Identdef.{Identdef}
-use Rattle.ob_syntax.specs.declared.names.Idents.{Idents}
-use Rattle.ob_syntax.specs.Plain.{plain_idents}
 use Rattle.ob_judge.specs.Shapes.{Shape}
 use Rattle.ob_judge.specs.Scopes.{Source}
 use Rattle.ob_judge.specs.Making.{Part}
-use Rattle.ob_judge.specs.Parameters.{idents_list}
 use Rattle.ob_judge.specs.Declarations.{each, variable_part}
 use Rattle.check_types.specs.declared.types.TypeRef.{TypeRef}
 use Rattle.check_types.specs.declared.names.scope.Home.{Home}
@@ -35,7 +32,3 @@ variable_here unit procedure of number = record {
 -- these are variables of this type, one after the other
 abbrev pub variables_part : Source → Shape → List Identdef → Part (Unit {0})
 variables_part p shape = each p (variable_part p shape)
-
--- the names of a list
-abbrev pub names_in : Idents → List Identdef
-names_in idents = idents_list (plain_idents idents)

@@ -6,11 +6,9 @@
 #![tactic(auto)]
 
 mod constants;
-mod lists;
 mod one_variable;
 mod string_places;
 pub mod type_parts;
 
 pub use constants::{const_decl, const_decls};
-pub use lists::{stand_all, variables};
 pub use one_variable::variable;

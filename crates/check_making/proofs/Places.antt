@@ -45,4 +45,4 @@ module _ (r : Surroundings) (s : Declaring) (ok : IsSettled r s) where
       (type_has (table_of s) r.source.now (world_in r s) ok.types (member_at (table_of s) (module_of (table_of s) (strings_of s)) r.modules.now ok.members) number q.name (member_symbol r.source.now (world_in r s) q.member)))
       (λ k shape is has.
       let same : type_shape (table_of s) k ≡ shape = ap (λ z. type_shape z.types k) (sym t) ∙ is in
-      record { shape_is = same; element = element_by_shape (contents_of s.types.table s.types.numbers) ok.built k shape has.0 has.1 same })
+      record { shape_is = same; element = element_by_shape (contents_of s.types.table s.types.numbers s.types.elements.items) ok.built k shape has.0 has.1 same })

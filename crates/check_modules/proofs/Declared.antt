@@ -109,7 +109,7 @@ module _ (b : TableBuilder) (built : IsBuilt b) (strings : List (List ℕ)) wher
   one : (name : List ℕ) (exported : Bool) (n : Named) → HasType b.table.types (object_of b.table.types strings n) → (rest : List I.Declared) → OffersInRange (of_named name exported n ++ rest) → IsTold b.table.entries.items n × OffersInRange rest
   one name exported (TheNamed.Constant (TheConstant.Bits c n)) h rest k = k
   one name exported (TheNamed.Constant (TheConstant.Chars n)) h rest k = (tt, k.1)
-  one name exported (TheNamed.Type of) h rest k = (entry_by_shape (contents_of b.table b.numbers) built of (type_shape b.table.types of) h.0 refl, k.1)
+  one name exported (TheNamed.Type of) h rest k = (entry_by_shape (contents_of b.table b.numbers b.elements.items) built of (type_shape b.table.types of) h.0 refl, k.1)
   one name exported (TheNamed.Variable v) h rest k = (tt, k.1)
   one name exported (TheNamed.Procedure n g l) h rest k = (tt, k.1)
   one name exported (TheNamed.Standard n) h rest k = (tt, k)

@@ -81,7 +81,7 @@ module _ (b c : TableBuilder) (built : IsBuilt b) (after : IsBuilt c) (grows : G
 
   parts_stay : (g : ℕ) (x : Signature) → slice_get b.table.types.signatures g ≡ Some x → HasLegalParts b.table x → HasLegalParts c.table x
   parts_stay g x at h =
-      let n = (procedure_numbered (contents_of b.table b.numbers) built g x at).numbered in
+      let n = (procedure_numbered (contents_of b.table b.numbers b.elements.items) built g x at).numbered in
       let before = subst (is_before n.0) at (built.sound.parts n.0 (TheType.Procedure g) n.1) in
       record {
         formals = λ i y at_y.

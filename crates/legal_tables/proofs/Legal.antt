@@ -134,7 +134,7 @@ module _ (b : TableBuilder) (built : IsBuilt b) (legal : HasLegalTypes b.table) 
   legal_signature : (g : ℕ) (x : Signature) → slice_get t.signatures g ≡ Some x → IsLegalSignature t x
   legal_signature g x at =
       let h = legal.signature g x at in
-      let n = (procedure_numbered (contents_of b.table b.numbers) built g x at).numbered in
+      let n = (procedure_numbered (contents_of b.table b.numbers b.elements.items) built g x at).numbered in
       let before = (subst (is_before n.0) at (built.sound.parts n.0 (TheType.Procedure g) n.1)).1 in
       let within = slice_get_within entries n.0 (TheType.Procedure g) n.1 in
       let many = long t entries bases built.sound in

@@ -1,5 +1,5 @@
 -- What a builder keeps at its start.
-use Rattle.std.proofs.Common.{◌≡◌, ℕ, zero, suc, ◌<◌, List, [], length, Option, Some, None, refl, sym, ap, ap₂, ◌∙◌, subst}
+use Rattle.std.proofs.Common.{◌≡◌, ℕ, zero, suc, ◌<◌, List, [], length, Option, Some, None, refl, sym, ap, ap₂, ◌∙◌, subst, arith}
 use Rattle.std.specs.Prelude.{slice_get}
 use Rattle.std.proofs.lemmas.Option.{slice_get_within}
 use Rattle.ob_types.specs.Table.{Table}
@@ -11,6 +11,8 @@ use Rattle.check_types.specs.declared.table.Layout.{Layout}
 use Rattle.table_builder.specs.Entries.{IsElement, element_in}
 use Rattle.table_builder.specs.Sound.{IsSound}
 use Rattle.table_builder.specs.Index.{Notes, number_in, basic_types, IsIndex}
+use Rattle.table_builder.specs.declared.elements.Elements.{Elements}
+use Rattle.table_builder.specs.Elements.{itself, elements_of, elements_of_basics, AreCounted}
 use Rattle.table_builder.specs.Contents.{Contents, IsConsistent}
 use Rattle.table_builder.proofs.Built.{same_contents}
 
@@ -50,7 +52,22 @@ basic_index = record { says = says; all = all }
     all e (suc (suc (suc (suc (suc zero))))) h = one TheType.Nothing e 5 refl h
     all e (suc (suc (suc (suc (suc (suc n)))))) h = none_some e h
 
-start_built : (ks : List TypeKind) → IsSound (record { kinds = ks; records = []; signatures = [] }) basic_types [] → IsConsistent (record { types = record { kinds = ks; records = []; signatures = [] }; entries = basic_types; bases = []; layouts = []; notes = no_notes })
+basics_counted : AreCounted basic_types elements_of_basics
+basics_counted = record { as_many = omega arith; each = each }
+  where
+    one : (n : ℕ) (f of : TypeRef) → Some f ≡ Some of → elements_of elements_of_basics n f ≡ itself n → Some (itself n) ≡ Some (elements_of elements_of_basics n of)
+    one n f of h is = ap (λ x. Some x) (sym is ∙ ap (elements_of elements_of_basics n) (some_same f of h))
+
+    each : (n : ℕ) (of : TypeRef) → slice_get basic_types n ≡ Some of → slice_get elements_of_basics n ≡ Some (elements_of elements_of_basics n of)
+    each zero of h = one 0 TheType.Int of h refl
+    each (suc zero) of h = one 1 TheType.Bool of h refl
+    each (suc (suc zero)) of h = one 2 TheType.Char of h refl
+    each (suc (suc (suc zero))) of h = one 3 TheType.Byte of h refl
+    each (suc (suc (suc (suc zero)))) of h = one 4 TheType.Set of h refl
+    each (suc (suc (suc (suc (suc zero))))) of h = one 5 TheType.Nothing of h refl
+    each (suc (suc (suc (suc (suc (suc n)))))) of h = none_some of h
+
+start_built : (ks : List TypeKind) → IsSound (record { kinds = ks; records = []; signatures = [] }) basic_types [] → IsConsistent (record { types = record { kinds = ks; records = []; signatures = [] }; entries = basic_types; bases = []; layouts = []; notes = no_notes; elements = elements_of_basics })
 start_built ks sound = record {
   sound = sound;
   index = basic_index;
@@ -61,6 +78,7 @@ start_built ks sound = record {
   bases = refl;
   procedures = refl;
   elements = λ n of h a e is g. plain n of h a is;
+  counted = basics_counted;
 }
   where
     one : (f of : TypeRef) → Some f ≡ Some of → (a : ℕ) → element_in f ≡ None → element_in of ≡ Some a → {A : Type 0} → A
@@ -75,12 +93,13 @@ start_built ks sound = record {
     plain (suc (suc (suc (suc (suc zero))))) of h a is = one TheType.Nothing of h a refl is
     plain (suc (suc (suc (suc (suc (suc n)))))) of h a is = none_some of h
 
-pub basics_built : (t : Table) (es : List TypeRef) (bs : List (Option ℕ)) (ls : List Layout) (s : Notes) → IsSound t es bs → t.records ≡ [] → t.signatures ≡ [] → es ≡ basic_types → bs ≡ [] → ls ≡ [] → s ≡ no_notes
-    → IsConsistent (record { types = t; entries = es; bases = bs; layouts = ls; notes = s })
-basics_built t es bs ls s sound r g q u v w =
+pub basics_built : (t : Table) (es : List TypeRef) (bs : List (Option ℕ)) (ls : List Layout) (s : Notes) (xs : List Elements) → IsSound t es bs → t.records ≡ [] → t.signatures ≡ [] → es ≡ basic_types → bs ≡ [] → ls ≡ [] → s ≡ no_notes → xs ≡ elements_of_basics
+    → IsConsistent (record { types = t; entries = es; bases = bs; layouts = ls; notes = s; elements = xs })
+basics_built t es bs ls s xs sound r g q u v w e =
     let is : t ≡ record { kinds = t.kinds; records = []; signatures = [] } = ap₂ (λ xs ys. record { kinds = t.kinds; records = xs; signatures = ys }) r g in
-    same_contents (record { types = record { kinds = t.kinds; records = []; signatures = [] }; entries = basic_types; bases = []; layouts = []; notes = no_notes })
-    (start_built t.kinds (subst (λ z. IsSound z basic_types []) is (subst (λ fs. IsSound t fs []) q (subst (λ cs. IsSound t es cs) u sound)))) t es bs ls s is q u v w
+    subst (λ (ys : List Elements). IsConsistent (record { types = t; entries = es; bases = bs; layouts = ls; notes = s; elements = ys })) (sym e)
+    (same_contents (record { types = record { kinds = t.kinds; records = []; signatures = [] }; entries = basic_types; bases = []; layouts = []; notes = no_notes; elements = elements_of_basics })
+    (start_built t.kinds (subst (λ z. IsSound z basic_types []) is (subst (λ fs. IsSound t fs []) q (subst (λ cs. IsSound t es cs) u sound)))) t es bs ls s is q u v w)
 
 -- ---- the basic types have their numbers, in any table
 

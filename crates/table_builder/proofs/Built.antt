@@ -25,9 +25,11 @@ use Rattle.table_builder.specs.Entries.{IsNumbered, is_whole, HasParts, element_
 use Rattle.table_builder.specs.Sound.{IsSound, IsNext}
 use Rattle.table_builder.specs.Growing.{Grows}
 use Rattle.table_builder.specs.Index.{Notes, signature_parts, number_in, IsArray}
+use Rattle.table_builder.specs.Elements.{AreCounted}
 use Rattle.table_builder.specs.Contents.{AreFields, IsRecordType, IsClosed, AreRecordTypes, Contents, IsConsistent}
 use Rattle.table_builder.proofs.Growth.{Extends, type_means}
 use Rattle.table_builder.proofs.Pushing.{extends_append, extends_self, own_pointer, pointers-append, with_entry, pushed}
+use Rattle.table_builder.proofs.EachCounted.{IsOfBefore}
 use Rattle.table_builder.proofs.Indexing.{IsNoted, indexed, IsWith, restored, array_noted, open_noted}
 
 -- ---- record types stay, where there are more entries
@@ -134,10 +136,10 @@ module _ (b : Contents) (ok : IsConsistent b) (of : TypeRef) (fits : IsNext b.ty
   longer = extends_append b.entries (of ∷ [])
 
   -- an array type
-  pub built_array : (notes : Notes) → IsNoted b.notes notes of (length b.entries) → own_pointer of ≡ [] → HasWholeElements b.entries of
+  pub built_array : (notes : Notes) → IsNoted b.notes notes of (length b.entries) → own_pointer of ≡ [] → HasWholeElements b.entries of → AreCounted (b.entries ++ of ∷ []) b.elements
       → notes.records ≡ b.notes.records → notes.pointers ≡ b.notes.pointers → notes.procedures ≡ b.notes.procedures → notes.signatures ≡ b.notes.signatures
-      → IsConsistent (record { types = with_entry b.types b.entries b.bases ok.sound of fits; entries = b.entries ++ of ∷ []; bases = b.bases; layouts = b.layouts; notes = notes })
-  built_array notes noted none whole records pointers procedures signatures = record {
+      → IsConsistent (record { types = with_entry b.types b.entries b.bases ok.sound of fits; entries = b.entries ++ of ∷ []; bases = b.bases; layouts = b.layouts; notes = notes; elements = b.elements })
+  built_array notes noted none whole counted records pointers procedures signatures = record {
     sound = pushed b.types b.entries b.bases ok.sound of fits;
     index = indexed b.notes notes b.entries of noted fits.new ok.index;
     signatures = record {
@@ -150,6 +152,7 @@ module _ (b : Contents) (ok : IsConsistent b) (of : TypeRef) (fits : IsNext b.ty
     bases = ok.bases ∙ sym (no_more (pointers_of b.entries) (own_pointer of) none (pointers_of (b.entries ++ of ∷ [])) (pointers-append b.entries of));
     procedures = ap (λ xs. length xs) procedures ∙ ok.procedures;
     elements = elements_more b ok of b.types.signatures fits.parts whole;
+    counted = counted;
   }
     where
       no_more : (xs ys : List ℕ) → ys ≡ [] → (zs : List ℕ) → zs ≡ xs ++ ys → length zs ≡ length xs
@@ -158,11 +161,11 @@ module _ (b : Contents) (ok : IsConsistent b) (of : TypeRef) (fits : IsNext b.ty
 -- ---- the same contents, otherwise come by
 
 pub same_contents : (b : Contents) → IsConsistent b → (t : Table) (es : List TypeRef) (bs : List (Option ℕ)) (ls : List Layout) (s : Notes) → t ≡ b.types → es ≡ b.entries → bs ≡ b.bases → ls ≡ b.layouts → s ≡ b.notes
-    → IsConsistent (record { types = t; entries = es; bases = bs; layouts = ls; notes = s })
+    → IsConsistent (record { types = t; entries = es; bases = bs; layouts = ls; notes = s; elements = b.elements })
 same_contents b ok t es bs ls s p q r u v = subst IsConsistent (sym together) ok
   where
-    together : record { types = t; entries = es; bases = bs; layouts = ls; notes = s } ≡ b
-    together = ap₂ (λ (x : Table × List TypeRef × List (Option ℕ)) (y : List Layout × Notes). record { types = x.0; entries = x.1; bases = x.2; layouts = y.0; notes = y.1 })
+    together : record { types = t; entries = es; bases = bs; layouts = ls; notes = s; elements = b.elements } ≡ b
+    together = ap₂ (λ (x : Table × List TypeRef × List (Option ℕ)) (y : List Layout × Notes). record { types = x.0; entries = x.1; bases = x.2; layouts = y.0; notes = y.1; elements = b.elements })
         (ap₂ (λ (x : Table) (y : List TypeRef × List (Option ℕ)). (x, y.0, y.1)) p (ap₂ (λ (x : List TypeRef) (y : List (Option ℕ)). (x, y)) q r))
         (ap₂ (λ (x : List Layout) (y : Notes). (x, y)) u v)
 
@@ -185,6 +188,17 @@ module _ (b : Contents) (ok : IsConsistent b) (of : TypeRef) (parts : List ℕ) 
       no_pointer (TheType.Open e) h p is = let z = is in cc
       no_pointer _ h p is = h
 
+  pub array_before : IsOfBefore (length b.entries) of
+  array_before = by of is
+    where
+      by : (of : TypeRef) → IsArray (length b.entries) of parts → IsOfBefore (length b.entries) of
+      by (TheType.Array n e) h l k is = subst (λ m. m < length b.entries) (same n e l k is) h.0
+        where
+          same : (n e l k : ℕ) → TheType.Array n e ≡ TheType.Array l k → e ≡ k
+          same n e l k is = cc
+      by (TheType.Open e) h l k is = absurd (let z = is in cc)
+      by _ h l k is = absurd h
+
   array_parted : (of : TypeRef) → IsArray (length b.entries) of parts → (number_in b.notes of ≡ b.notes.arrays parts) × (own_pointer of ≡ [])
   array_parted (TheType.Array n e) h = (ap b.notes.arrays (sym h.1), refl)
   array_parted (TheType.Open e) h = (ap b.notes.arrays (sym h.1), refl)
@@ -196,14 +210,14 @@ module _ (b : Contents) (ok : IsConsistent b) (of : TypeRef) (parts : List ℕ) 
   array_is_noted _ h n arrays w = absurd h
 
   -- it was added
-  pub array_built : number_in b.notes of ≡ None → HasWholeElements b.entries of → (arrays : List ℕ → Option ℕ) (n : ℕ) → n ≡ length b.entries → IsWith parts n b.notes.arrays arrays
+  pub array_built : number_in b.notes of ≡ None → HasWholeElements b.entries of → AreCounted (b.entries ++ of ∷ []) b.elements → (arrays : List ℕ → Option ℕ) (n : ℕ) → n ≡ length b.entries → IsWith parts n b.notes.arrays arrays
       → (t : Table) (es : List TypeRef) (bs : List (Option ℕ)) (ls : List Layout)
       → t ≡ record b.types { kinds = b.types.kinds ++ kind_of_type b.bases of ∷ [] } → es ≡ b.entries ++ of ∷ [] → bs ≡ b.bases → ls ≡ b.layouts
-      → IsConsistent (record { types = t; entries = es; bases = bs; layouts = ls; notes = record b.notes { arrays = arrays } })
-  array_built none whole arrays n at w t es bs ls p q r u =
+      → IsConsistent (record { types = t; entries = es; bases = bs; layouts = ls; notes = record b.notes { arrays = arrays }; elements = b.elements })
+  array_built none whole counted arrays n at w t es bs ls p q r u =
       let fits = array_next none in
-      same_contents (record { types = with_entry b.types b.entries b.bases ok.sound of fits; entries = b.entries ++ of ∷ []; bases = b.bases; layouts = b.layouts; notes = record b.notes { arrays = arrays } })
-      (built_array b ok of fits (record b.notes { arrays = arrays }) (array_is_noted of is (length b.entries) arrays (subst (λ m. IsWith parts m b.notes.arrays arrays) at w)) (array_parted of is).1 whole refl refl refl refl)
+      same_contents (record { types = with_entry b.types b.entries b.bases ok.sound of fits; entries = b.entries ++ of ∷ []; bases = b.bases; layouts = b.layouts; notes = record b.notes { arrays = arrays }; elements = b.elements })
+      (built_array b ok of fits (record b.notes { arrays = arrays }) (array_is_noted of is (length b.entries) arrays (subst (λ m. IsWith parts m b.notes.arrays arrays) at w)) (array_parted of is).1 whole counted refl refl refl refl)
       t es bs ls (record b.notes { arrays = arrays }) p q r u refl
 
   -- it was noted, and that taken away again

@@ -1,5 +1,5 @@
 -- One more record, pointer or procedure type, and what a pointer type points to.
-use Rattle.std.proofs.Common.{◌≡◌, ℕ, zero, suc, ◌<◌, List, [], ◌∷◌, ◌++◌, length, get_or, map, Bool, true, false, ◌&&◌, Option, Some, None, option_map, refl, sym, ap, ap₂, ◌∙◌, subst, arith, eqb-true, ◌⊎◌, inl, inr}
+use Rattle.std.proofs.Common.{◌≡◌, ℕ, zero, suc, ◌<◌, List, [], ◌∷◌, ◌++◌, length, take, ◌-◌, get_or, map, Bool, true, false, ◌&&◌, Option, Some, None, option_map, refl, sym, ap, ap₂, ◌∙◌, subst, arith, eqb-true, ◌⊎◌, inl, inr}
 use Rattle.std.specs.Prelude.{◌==◌, slice_get, slice_set}
 use mathlib.Core.Path.{fun_ext}
 use Rattle.std.proofs.lemmas.List.{length-append, length-set}
@@ -18,6 +18,7 @@ use Rattle.ob_types.proofs.Tests.{none_some, some_same, no}
 use Rattle.ob_judge.specs.Shapes.{Procedure}
 use Rattle.ob_judge.specs.Shapes.{Field as FieldOf, Added as AddedOf}
 use Rattle.ob_judge.specs.Making.{no_layout}
+use Rattle.ob_judge.specs.Modules.{base_in}
 use Rattle.judged_tree.specs.TypeShapes.{formals_shape, signature_shape, shapes_of, shape_of}
 use Rattle.judged_tree.specs.Tables.{is_before, same_parameters}
 use Rattle.check_types.specs.steps.Maps.{at_bytes}
@@ -31,9 +32,10 @@ use Rattle.check_types.specs.TypeMeaning.{type_shape}
 use Rattle.table_builder.specs.Entries.{IsNumbered, IsElement, is_whole, pointers_of}
 use Rattle.table_builder.specs.Sound.{IsSound, IsNext, IsNewSignature}
 use Rattle.table_builder.specs.Index.{signature_parts, HasSignature, bit}
-use Rattle.table_builder.specs.Contents.{IsField, AreFields, IsRecordType, IsClosed, AreRecordTypes, IsBlank, base_in, AreElements, Contents, notes_of, IsConsistent}
+use Rattle.table_builder.specs.Elements.{AreCounted}
+use Rattle.table_builder.specs.Contents.{IsField, AreFields, IsRecordType, IsClosed, AreRecordTypes, IsBlank, AreElements, Contents, notes_of, IsConsistent}
 use Rattle.table_builder.specs.declared.numbers.TypeNumbers.{TypeNumbers}
-use Rattle.table_builder.proofs.Lists.{there, get_left, get_from, get_last}
+use Rattle.table_builder.proofs.Lists.{there, get_left, get_from, get_last, take_last}
 use Rattle.table_builder.proofs.Growth.{Extends, formals_mean, number_means}
 use Rattle.table_builder.proofs.Pushing.{extends_append, pointers-append, pushed, other_records}
 use Rattle.table_builder.proofs.Indexing.{IsNoted, indexed, IsWith, value_here, value_there, record_noted, pointer_noted, procedure_noted, parts_tell}
@@ -85,6 +87,10 @@ last_element es fs e is whole = record { numbered = (length es, ap (λ gs. slice
 past_end : {A : Type 0} (xs : List A) (n : ℕ) (x : A) → n ≡ length xs → slice_get xs n ≡ Some x → ⊥
 past_end xs n x e h = let l = slice_get_within xs n x h in omega (arith, e, l)
 
+-- one more, and taken off again
+pub popped : (xs ys zs : List ℕ) (n l : ℕ) → ys ≡ xs ++ n ∷ [] → l ≡ length ys → zs ≡ take (l - 1) ys → zs ≡ xs
+popped xs ys zs n l p m q = q ∙ ap (λ i. take (i - 1) ys) m ∙ ap (λ ns. take (length ns - 1) ns) p ∙ take_last xs n
+
 module _ (b : Contents) (ok : IsConsistent b) where
   -- ---- record types
 
@@ -95,7 +101,7 @@ module _ (b : Contents) (ok : IsConsistent b) where
     pointer = λ p e. absurd (let z = e in cc);
   }
 
-  module _ (r n : ℕ) (at : r ≡ length b.layouts) (number : n ≡ length b.entries) (l : Layout) (blank : IsBlank l) where
+  module _ (r n : ℕ) (at : r ≡ length b.layouts) (number : n ≡ length b.entries) (l : Layout) (blank : IsBlank l) (counted : AreCounted (b.entries ++ TheType.Record r ∷ []) b.elements) where
     abbrev with_record : Contents
     with_record = record {
       types = record b.types { kinds = b.types.kinds ++ TheKind.Record r ∷ []; records = b.types.records ++ no_record_type ∷ [] };
@@ -103,6 +109,7 @@ module _ (b : Contents) (ok : IsConsistent b) where
       bases = b.bases;
       layouts = b.layouts ++ l ∷ [];
       notes = record b.notes { records = b.notes.records ++ n ∷ [] };
+      elements = b.elements;
     }
 
     record_is_noted : IsNoted b.notes with_record.notes (TheType.Record r) (length b.entries)
@@ -122,6 +129,7 @@ module _ (b : Contents) (ok : IsConsistent b) where
           bases = ok.bases ∙ sym (ap (λ ps. length ps) (pointers-append b.entries (TheType.Record r) ∙ append_nil (pointers_of b.entries)));
           procedures = ok.procedures;
           elements = elements_more b ok (TheType.Record r) b.types.signatures tt (λ a e is h. none_some a is);
+          counted = counted;
         }
       where
         append_nil : (ns : List ℕ) → ns ++ [] ≡ ns
@@ -133,7 +141,7 @@ module _ (b : Contents) (ok : IsConsistent b) where
 
     pub record_built : (t : Table) (es : List TypeRef) (bs : List (Option ℕ)) (ls : List Layout) (rs : List ℕ) (x : RecordType) → x ≡ no_record_type
         → t ≡ record b.types { kinds = b.types.kinds ++ TheKind.Record r ∷ []; records = b.types.records ++ x ∷ [] } → es ≡ b.entries ++ TheType.Record r ∷ [] → bs ≡ b.bases → ls ≡ b.layouts ++ l ∷ [] → rs ≡ b.notes.records ++ n ∷ []
-        → IsConsistent (record { types = t; entries = es; bases = bs; layouts = ls; notes = record b.notes { records = rs } })
+        → IsConsistent (record { types = t; entries = es; bases = bs; layouts = ls; notes = record b.notes { records = rs }; elements = b.elements })
     record_built t es bs ls rs x is p q u v w =
         same_contents with_record with_record_built t es bs ls (record b.notes { records = rs })
         (p ∙ ap (λ y. record b.types { kinds = b.types.kinds ++ TheKind.Record r ∷ []; records = b.types.records ++ y ∷ [] }) is) q u v (ap (λ ms. record b.notes { records = ms }) w)
@@ -150,7 +158,7 @@ module _ (b : Contents) (ok : IsConsistent b) where
       same : (p q : ℕ) → TheType.Pointer p ≡ TheType.Pointer q → p ≡ q
       same p q e = cc
 
-  module _ (p n : ℕ) (at : p ≡ length b.bases) (number : n ≡ length b.entries) where
+  module _ (p n : ℕ) (at : p ≡ length b.bases) (number : n ≡ length b.entries) (counted : AreCounted (b.entries ++ TheType.Pointer p ∷ []) b.elements) where
     abbrev with_pointer : Contents
     with_pointer = record {
       types = record b.types { kinds = b.types.kinds ++ TheKind.Pointer 0 ∷ [] };
@@ -158,6 +166,7 @@ module _ (b : Contents) (ok : IsConsistent b) where
       bases = b.bases ++ None ∷ [];
       layouts = b.layouts;
       notes = record b.notes { pointers = b.notes.pointers ++ n ∷ [] };
+      elements = b.elements;
     }
 
     pointer_is_noted : IsNoted b.notes with_pointer.notes (TheType.Pointer p) (length b.entries)
@@ -176,6 +185,7 @@ module _ (b : Contents) (ok : IsConsistent b) where
           bases = one_longer b.bases (pointers_of b.entries) None p ok.bases ∙ sym (ap (λ ps. length ps) (pointers-append b.entries (TheType.Pointer p)));
           procedures = ok.procedures;
           elements = elements_more b ok (TheType.Pointer p) b.types.signatures tt (λ a e is h. none_some a is);
+          counted = counted;
         }
       where
         one_longer : {A B : Type 0} (xs : List A) (ys : List B) (x : A) (y : B) → length xs ≡ length ys → length (xs ++ x ∷ []) ≡ length (ys ++ y ∷ [])
@@ -183,7 +193,7 @@ module _ (b : Contents) (ok : IsConsistent b) where
 
     pub pointer_built : (t : Table) (es : List TypeRef) (bs : List (Option ℕ)) (ls : List Layout) (ps : List ℕ)
         → t ≡ with_pointer.types → es ≡ with_pointer.entries → bs ≡ with_pointer.bases → ls ≡ b.layouts → ps ≡ b.notes.pointers ++ n ∷ [] → IsSound t es bs
-        → IsConsistent (record { types = t; entries = es; bases = bs; layouts = ls; notes = record b.notes { pointers = ps } })
+        → IsConsistent (record { types = t; entries = es; bases = bs; layouts = ls; notes = record b.notes { pointers = ps }; elements = b.elements })
     pointer_built t es bs ls ps i q u v w sound =
         same_contents with_pointer (with_pointer_built (subst (λ s. IsSound s with_pointer.entries with_pointer.bases) i (subst (λ fs. IsSound t fs with_pointer.bases) q (subst (λ cs. IsSound t es cs) u sound))))
         t es bs ls (record b.notes { pointers = ps }) i q u v (ap (λ ms. record b.notes { pointers = ms }) w)
@@ -194,9 +204,9 @@ module _ (b : Contents) (ok : IsConsistent b) where
   pointer_numbered p l = let n = there b.notes.pointers p (let e = ok.pointers in omega (arith, l, e)) in (n.0, ok.index.says (TheType.Pointer p) n.0 n.1)
 
   pub base_built : (t : Table) (es : List TypeRef) (bs : List (Option ℕ)) (ls : List Layout) (ks : _) (p r : ℕ) → t ≡ record b.types { kinds = ks } → es ≡ b.entries → bs ≡ slice_set b.bases p (Some r) → ls ≡ b.layouts → IsSound t es bs
-      → IsConsistent (record { types = t; entries = es; bases = bs; layouts = ls; notes = b.notes })
+      → IsConsistent (record { types = t; entries = es; bases = bs; layouts = ls; notes = b.notes; elements = b.elements })
   base_built t es bs ls ks p r i q u v sound =
-      same_contents (record { types = record b.types { kinds = ks }; entries = b.entries; bases = slice_set b.bases p (Some r); layouts = b.layouts; notes = b.notes })
+      same_contents (record { types = record b.types { kinds = ks }; entries = b.entries; bases = slice_set b.bases p (Some r); layouts = b.layouts; notes = b.notes; elements = b.elements })
       (record {
         sound = subst (λ s. IsSound s b.entries (slice_set b.bases p (Some r))) i (subst (λ fs. IsSound t fs (slice_set b.bases p (Some r))) q (subst (λ cs. IsSound t es cs) u sound));
         index = ok.index;
@@ -207,15 +217,16 @@ module _ (b : Contents) (ok : IsConsistent b) where
         bases = length-set b.bases p (Some r) ∙ ok.bases;
         procedures = ok.procedures;
         elements = ok.elements;
+        counted = ok.counted;
       }) t es bs ls b.notes i q u v refl
 
   -- ---- what is known of a record type
 
   pub layout_built : (t : Table) (es : List TypeRef) (bs : List (Option ℕ)) (ls : List Layout) (r : ℕ) (x : RecordType) (l : Layout) → IsRecordType b.entries x l → IsClosed b.entries l
       → t ≡ record b.types { records = slice_set b.types.records r x } → es ≡ b.entries → bs ≡ b.bases → ls ≡ slice_set b.layouts r l
-      → IsConsistent (record { types = t; entries = es; bases = bs; layouts = ls; notes = b.notes })
+      → IsConsistent (record { types = t; entries = es; bases = bs; layouts = ls; notes = b.notes; elements = b.elements })
   layout_built t es bs ls r x l h c i q u v =
-      same_contents (record { types = record b.types { records = slice_set b.types.records r x }; entries = b.entries; bases = b.bases; layouts = slice_set b.layouts r l; notes = b.notes })
+      same_contents (record { types = record b.types { records = slice_set b.types.records r x }; entries = b.entries; bases = b.bases; layouts = slice_set b.layouts r l; notes = b.notes; elements = b.elements })
       (record {
         sound = other_records b.types b.entries b.bases ok.sound (slice_set b.types.records r x);
         index = ok.index;
@@ -226,6 +237,7 @@ module _ (b : Contents) (ok : IsConsistent b) where
         bases = ok.bases;
         procedures = ok.procedures;
         elements = ok.elements;
+        counted = ok.counted;
       }) t es bs ls b.notes i q u v refl
 
   -- ---- procedure types
@@ -264,7 +276,7 @@ module _ (b : Contents) (ok : IsConsistent b) where
   }
 
   module _ (x : Signature) (g n : ℕ) (at : g ≡ length b.types.signatures) (number : n ≡ length b.entries) (before : is_before (length b.entries) (Some x))
-      (none : b.notes.signatures (signature_parts x.formals x.result) ≡ None) (signatures : List ℕ → Option ℕ) (parts_now : List ℕ) (are : parts_now ≡ signature_parts x.formals x.result) (with_parts : IsWith parts_now g b.notes.signatures signatures) where
+      (none : b.notes.signatures (signature_parts x.formals x.result) ≡ None) (signatures : List ℕ → Option ℕ) (parts_now : List ℕ) (are : parts_now ≡ signature_parts x.formals x.result) (with_parts : IsWith parts_now g b.notes.signatures signatures) (counted : AreCounted (b.entries ++ TheType.Procedure g ∷ []) b.elements) where
     w : IsWith (signature_parts x.formals x.result) g b.notes.signatures signatures
     w = subst (λ ps. IsWith ps g b.notes.signatures signatures) are with_parts
 
@@ -275,6 +287,7 @@ module _ (b : Contents) (ok : IsConsistent b) where
       bases = b.bases;
       layouts = b.layouts;
       notes = record b.notes { procedures = b.notes.procedures ++ n ∷ []; signatures = signatures };
+      elements = b.elements;
     }
 
     procedure_is_noted : IsNoted b.notes with_procedure.notes (TheType.Procedure g) (length b.entries)
@@ -317,6 +330,7 @@ module _ (b : Contents) (ok : IsConsistent b) where
       bases = ok.bases ∙ sym (ap (λ ps. length ps) (pointers-append b.entries (TheType.Procedure g) ∙ append_nil (pointers_of b.entries)));
       procedures = one_longer b.notes.procedures b.types.signatures n x ok.procedures;
       elements = elements_more b ok (TheType.Procedure g) with_procedure.types.signatures (procedure_next x g at before).parts (λ a e is h. none_some a is);
+      counted = counted;
     }
       where
         append_nil : (ns : List ℕ) → ns ++ [] ≡ ns
@@ -328,7 +342,7 @@ module _ (b : Contents) (ok : IsConsistent b) where
 
     pub procedure_built : (t : Table) (es : List TypeRef) (bs : List (Option ℕ)) (ls : List Layout) (ps : List ℕ)
         → t ≡ with_procedure.types → es ≡ with_procedure.entries → bs ≡ b.bases → ls ≡ b.layouts → ps ≡ b.notes.procedures ++ n ∷ [] → IsSound t es bs
-        → IsConsistent (record { types = t; entries = es; bases = bs; layouts = ls; notes = record b.notes { procedures = ps; signatures = signatures } })
+        → IsConsistent (record { types = t; entries = es; bases = bs; layouts = ls; notes = record b.notes { procedures = ps; signatures = signatures }; elements = b.elements })
     procedure_built t es bs ls ps i q u v k sound =
         same_contents with_procedure (with_procedure_built (subst (λ s. IsSound s with_procedure.entries b.bases) i (subst (λ fs. IsSound t fs b.bases) q (subst (λ cs. IsSound t es cs) u sound))))
         t es bs ls (record b.notes { procedures = ps; signatures = signatures }) i q u v (ap (λ ms. record b.notes { procedures = ms; signatures = signatures }) k)

@@ -1,7 +1,7 @@
 -- Counts of cells, as far as they are counted.
 use Rattle.std.proofs.Common.{◌≡◌, ℕ, zero, suc, ◌*◌, ◌<◌, ◌≤◌, sym, ap, ◌∙◌, arith, ◌⊎◌, inl, inr}
 use Rattle.std.specs.Prelude.{min}
-use Rattle.std.proofs.Math.Nat.{min-eq_left, min-eq_right, le-mul_of_pos_right, mul_assoc, mul_comm, mul-zero}
+use Rattle.std.proofs.Math.Nat.{min-eq_left, min-eq_right, le-mul_of_pos_right, mul_comm, mul-zero}
 use Rattle.ob_types.proofs.Tests.{less_or_past}
 
 -- a factor counted as far
@@ -16,10 +16,9 @@ capped_mul m a c = by (less_or_past a m) c
         let k = le-mul_of_pos_right {m = suc c} a (omega arith) in
         ap (λ n. min m (n * suc c)) (min-eq_left l) ∙ min-eq_left h ∙ sym (min-eq_left (omega (arith, l, k)))
 
--- so many more, each with so many cells
-pub capped_more : (m a l c : ℕ) → min m (min m (a * l) * c) ≡ min m (a * (l * c))
-capped_more m a l c = capped_mul m (a * l) c ∙ ap (min m) (mul_assoc a l c)
+pub capped_factor : (m a c : ℕ) → min m (a * min m c) ≡ min m (a * c)
+capped_factor m a c = ap (min m) (mul_comm a (min m c)) ∙ capped_mul m c a ∙ ap (min m) (mul_comm c a)
 
 -- both factors counted as far
 pub capped_both : (m a c : ℕ) → min m (min m a * min m c) ≡ min m (a * c)
-capped_both m a c = capped_mul m a (min m c) ∙ ap (min m) (mul_comm a (min m c)) ∙ capped_mul m c a ∙ ap (min m) (mul_comm c a)
+capped_both m a c = capped_mul m a (min m c) ∙ capped_factor m a c

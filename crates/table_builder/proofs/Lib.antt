@@ -5,11 +5,12 @@ pub mod Apart
 pub mod Growth
 pub mod Pushing
 pub mod Indexing
+pub mod Counts
+pub mod Repeated
+pub mod EachCounted
 pub mod Built
 pub mod Calls
 pub mod Known
 pub mod Basics
-pub mod Counts
 pub mod Growing
 pub mod ByShape
-pub mod Elements

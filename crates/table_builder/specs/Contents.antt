@@ -6,6 +6,7 @@ use Rattle.std.specs.Str.{bytes_eq}
 use Rattle.ob_types.specs.Trees.{no_extent}
 use Rattle.ob_types.specs.declared.types.Field.{Field}
 use Rattle.ob_types.specs.declared.types.RecordType.{RecordType}
+use Rattle.ob_judge.specs.Modules.{base_in}
 use Rattle.check_types.specs.steps.Maps.{at_bytes}
 use Rattle.check_types.specs.Fields.{at_fields}
 use Rattle.check_types.specs.declared.types.TypeRef.{TypeRef}
@@ -14,9 +15,11 @@ use Rattle.check_types.specs.declared.fields.FieldEntry.{FieldEntry}
 use Rattle.check_types.specs.declared.table.Layout.{Layout}
 use Rattle.check_types.specs.declared.table.TypeTable.{TypeTable}
 use Rattle.table_builder.specs.declared.numbers.TypeNumbers.{TypeNumbers}
+use Rattle.table_builder.specs.declared.elements.Elements.{Elements}
 use Rattle.table_builder.specs.Entries.{IsNumbered, IsElement, is_whole, HasWholeElements, pointers_of}
 use Rattle.table_builder.specs.Sound.{IsSound}
 use Rattle.table_builder.specs.Index.{Notes, IsIndex, IndexesSignatures}
+use Rattle.table_builder.specs.Elements.{AreCounted}
 use Rattle.ob_types.specs.Table.{Table}
 
 -- a field as the program has it
@@ -30,11 +33,6 @@ abbrev pub AreFields : List TypeRef → List Field → List Added → Type 0
 AreFields entries [] [] = Unit {0}
 AreFields entries (f ∷ fs) (a ∷ as') = IsField entries f a × AreFields entries fs as'
 AreFields entries fs as' = ⊥
-
--- the record type that one with this line extends
-abbrev pub base_in : List ℕ → Option ℕ
-base_in (r ∷ b ∷ rs) = Some b
-base_in line = None
 
 -- a record type as the program has it
 pub record IsRecordType (entries : List TypeRef) (x : RecordType) (l : Layout) : Type 0 where
@@ -63,6 +61,7 @@ pub record Contents : Type 0 where
   pub bases : List (Option ℕ)
   pub layouts : List Layout
   pub notes : Notes
+  pub elements : List Elements
 
 abbrev pub notes_of : TypeNumbers → Notes
 notes_of s = record {
@@ -73,10 +72,10 @@ notes_of s = record {
   signatures = at_bytes s.signatures;
 }
 
-abbrev pub contents_of : TypeTable → TypeNumbers → Contents
-contents_of t s = record { types = t.types; entries = t.entries.items; bases = t.bases.items; layouts = t.layouts.items; notes = notes_of s }
+abbrev pub contents_of : TypeTable → TypeNumbers → List Elements → Contents
+contents_of t s xs = record { types = t.types; entries = t.entries.items; bases = t.bases.items; layouts = t.layouts.items; notes = notes_of s; elements = xs }
 
--- a type's number is that of its entry, and each record, pointer and procedure type has one
+-- a type's number is that of its entry, each record, pointer and procedure type has one, and each number its elements
 pub record IsConsistent (b : Contents) : Type 0 where
   pub sound : IsSound b.types b.entries b.bases
   pub index : IsIndex b.notes b.entries
@@ -87,6 +86,7 @@ pub record IsConsistent (b : Contents) : Type 0 where
   pub bases : length b.bases ≡ length (pointers_of b.entries)
   pub procedures : length b.notes.procedures ≡ length b.types.signatures
   pub elements : (n : ℕ) (of : TypeRef) → slice_get b.entries n ≡ Some of → HasWholeElements b.entries of
+  pub counted : AreCounted b.entries b.elements
 
 -- types that variables may have, each with a number
 abbrev pub AreElements : List TypeRef → List Added → Type 0

@@ -14,6 +14,7 @@ ghost use Rattle.table_builder.specs.Builder.{IsBuilt};
 ghost use Rattle.table_builder.specs.Contents.{IsReady};
 
 use crate::blanks::{blank_layout, blank_record};
+use crate::elements::{Elements, basic_elements, note_elements};
 use crate::entries::{
     push_entry, push_pointer, push_procedure, push_record, set_layout, set_target,
 };
@@ -26,14 +27,15 @@ use ob_types::{Formal, Signature};
 use outside::Memory;
 use std::alloc::Global;
 
-/// A table of types that grows, and which number each type has. Each type gets one number, the basic types come first,
-/// and a type that has a number stays what it is. `IsBuilt` says that table and numbers agree: each call asks for it, and
-/// leaves it so.
+/// A table of types that grows, which number each type has, and, by its number, how many elements it has that are no
+/// arrays. Each type gets one number, the basic types come first, and a type that has a number stays what it is. `IsBuilt`
+/// says that all agree: each call asks for it, and leaves it so.
 #[derive(Drop)]
 pub struct TableBuilder {
     pub alloc: Global,
     pub table: TypeTable,
     pub numbers: TypeNumbers,
+    pub elements: Vec<Elements>,
 }
 
 // The number behind these; without one there is no memory for another.
@@ -56,10 +58,12 @@ impl TableBuilder {
     {
         let mut table = empty_table(alloc);
         push_basics(&mut table)?;
+        let elements = basic_elements(alloc)?;
         Ok(TableBuilder {
             alloc,
             table,
             numbers: TypeNumbers::new(alloc),
+            elements,
         })
     }
 
@@ -102,6 +106,7 @@ impl TableBuilder {
             return Ok(());
         }
         let n = next_number(&self.table.entries)?;
+        note_elements(&mut self.elements, of, n)?;
         note(&mut self.numbers.arrays, self.alloc, parts, n)?;
         match push_entry(&mut self.table, of) {
             Ok(()) => Ok(()),
@@ -165,6 +170,7 @@ impl TableBuilder {
     {
         let r = next_number(&self.table.layouts)?;
         let n = next_number(&self.table.entries)?;
+        note_elements(&mut self.elements, TypeRef::Record(r), n)?;
         self.numbers.records.push(n)?;
         let layout = blank_layout(self.alloc);
         let declared = blank_record(self.alloc);
@@ -191,6 +197,7 @@ impl TableBuilder {
     {
         let p = next_number(&self.table.bases)?;
         let n = next_number(&self.table.entries)?;
+        note_elements(&mut self.elements, TypeRef::Pointer(p), n)?;
         self.numbers.pointers.push(n)?;
         match push_pointer(&mut self.table, p) {
             Ok(()) => Ok(p),
@@ -256,6 +263,7 @@ impl TableBuilder {
     {
         let g = next_number(self.table.types.signatures())?;
         let n = next_number(&self.table.entries)?;
+        note_elements(&mut self.elements, TypeRef::Procedure(g), n)?;
         self.numbers.note_procedure(self.alloc, parts, g, n)?;
         match push_procedure(&mut self.table, signature, g) {
             Ok(()) => Ok(TypeRef::Procedure(g)),

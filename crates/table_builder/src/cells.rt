@@ -1,6 +1,6 @@
 //! Cells and bytes of types (Oberon-07 report, section 6), counted as far as any type may have them.
 
-ghost use Rattle.std.specs.Prelude.{◌≡◌, ◌<◌, ◌≤◌, ◌*◌, ◌^◌, ℕ, Some, length, slice_get, min, IfSome, IfNone};
+ghost use Rattle.std.specs.Prelude.{◌≡◌, ◌<◌, ◌≤◌, ◌*◌, ◌^◌, ℕ, Some, length, slice_get, min};
 ghost use Rattle.ob_judge.specs.Shapes.{cells as cells_of, extent as extent_of};
 ghost use Rattle.judged_tree.specs.TypeShapes.{shape_of};
 ghost use Rattle.check_types.specs.TypeMeaning.{type_shape};
@@ -10,6 +10,7 @@ ghost use Rattle.table_builder.specs.Builder.{IsBuilt};
 ghost use Rattle.table_builder.specs.Cells.{most_cells, counted_extent, innermost, elements_in};
 
 use crate::builder::TableBuilder;
+use crate::elements::Elements;
 use crate::extents::counted;
 use check_types::TypeRef;
 use ob_types::Extent;
@@ -25,25 +26,7 @@ pub fn capped(count: u64) -> u64
     count.min(MOST_CELLS)
 }
 
-/// So many elements that are no arrays of known length, by the number of their type.
-#[derive(Clone, Copy)]
-pub struct Elements {
-    pub count: u64,
-    pub of: u32,
-}
-
 impl TableBuilder {
-    // The length and the element type of an array of known length, by its number.
-    fn array_at(&self, n: u32) -> Option<(u32, u32)>
-        ensures array { IfSome result (λ a. slice_get self.now.table.entries.items n ≡ Some (TypeRef.Array a.0 a.1)) }
-        ensures none { IfNone result ((l e : ℕ) → slice_get self.now.table.entries.items n ≡ Some (TypeRef.Array l e) → ⊥) }
-    {
-        match self.table.entries.get(n as usize) {
-            Some(TypeRef::Array { length, element }) => Some((*length, *element)),
-            _ => None,
-        }
-    }
-
     // A type as so many elements that are no arrays.
     fn elements(&self, of: TypeRef) -> Elements
         requires built { IsBuilt self.now }
@@ -54,13 +37,8 @@ impl TableBuilder {
         ensures there { result.of < length self.now.table.entries.items }
         ensures single { (l e : ℕ) → slice_get self.now.table.entries.items result.of ≡ Some (TypeRef.Array l e) → ⊥ }
     {
-        let mut count: u64 = 1;
-        let mut n = self.number(of);
-        while let Some((length, element)) = self.array_at(n) {
-            count = capped(count * u64::from(length));
-            n = element;
-        }
-        Elements { count, of: n }
+        let n = self.number(of);
+        self.elements[n as usize]
     }
 
     // The cells of a record type.
@@ -95,7 +73,8 @@ impl TableBuilder {
         ensures { result ≡ min most_cells (cells_of (known_of self.now.table) (type_shape self.now.table.types of)) }
     {
         let elements = self.elements(of);
-        capped(elements.count * self.own_cells(elements.of))
+        let count = u64::from(elements.count);
+        capped(count * self.own_cells(elements.of))
     }
 
     // What a record type takes in memory, its bytes as far as they are counted.
@@ -129,7 +108,8 @@ impl TableBuilder {
         ensures { result ≡ counted_extent (extent_of (known_of self.now.table) (type_shape self.now.table.types of)) }
     {
         let elements = self.elements(of);
+        let count = u64::from(elements.count);
         let own = self.own_extent(elements.of);
-        counted(elements.count * u64::from(own.bytes), own.wide)
+        counted(count * u64::from(own.bytes), own.wide)
     }
 }

@@ -1,8 +1,9 @@
 //! Record types as the program has them.
 
 ghost use Rattle.std.specs.Prelude.{◌≡◌, ◌≤◌, ◌-◌, length, IfOk};
+ghost use Rattle.ob_judge.specs.Modules.{base_in};
 ghost use Rattle.table_builder.specs.Entries.{IsElement};
-ghost use Rattle.table_builder.specs.Contents.{IsField, AreFields, IsRecordType, IsReady, AreElements, base_in};
+ghost use Rattle.table_builder.specs.Contents.{IsField, AreFields, IsRecordType, IsReady, AreElements};
 ghost use Rattle.table_builder.specs.Builder.{IsBuilt};
 
 use crate::builder::TableBuilder;

@@ -5,7 +5,8 @@ ghost use Rattle.ob_judge.specs.Parameters.{stand, symbols_of, next_list};
 ghost use Rattle.table_builder.specs.Entries.{IsElement};
 ghost use Rattle.check_making.specs.Making.{shape_in, IsSettled};
 ghost use Rattle.check_making.specs.Parts.{Judges};
-ghost use Rattle.check_declared.specs.Variables.{names_in, variables_part};
+ghost use Rattle.check_making.specs.new_types.Fields.{names_in};
+ghost use Rattle.check_declared.specs.Variables.{variables_part};
 
 use crate::variable;
 use check_making::{Declaring, Surroundings};

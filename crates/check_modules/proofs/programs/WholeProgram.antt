@@ -11,8 +11,7 @@ use Rattle.ob_types.specs.declared.program.Procedure.{Procedure}
 use Rattle.ob_types.specs.declared.program.Program.{Program}
 use Rattle.ob_judge.specs.Shapes.{Added as AddedOf, Known}
 use Rattle.ob_judge.specs.Image as I
-use Rattle.ob_judge.specs.Modules.{SoFar, record_form, program_of}
-use Rattle.ob_judge.specs.Modules.{base_in as judged_base}
+use Rattle.ob_judge.specs.Modules.{SoFar, base_in, record_form, program_of}
 use Rattle.judged_tree.specs.TypeShapes.{shape_of, pointer_bases}
 use Rattle.judged_tree.specs.Plain.{plain_field, plain_record, plain_module, plain_procedure, plain_program}
 use Rattle.judged_tree.specs.Outline.{outlined_procedure, outlined_program, record_or_zero}
@@ -25,7 +24,7 @@ use Rattle.check_types.specs.declared.table.TypeTable.{TypeTable}
 use Rattle.check_types.specs.Known.{added_of, layout_of}
 use Rattle.check_types.specs.TypeMeaning.{kind_of_type}
 use Rattle.table_builder.specs.Entries.{pointers_of}
-use Rattle.table_builder.specs.Contents.{base_in, AreFields, AreRecordTypes}
+use Rattle.table_builder.specs.Contents.{AreFields, AreRecordTypes}
 use Rattle.table_builder.specs.Builder.{IsBuilt}
 use Rattle.table_builder.proofs.Meaning.{long}
 use Rattle.check_making.specs.scopes.Building.{TheyStandFor}
@@ -36,11 +35,6 @@ use Rattle.check_modules.specs.declared.programs.modules.Modules.{Modules}
 use Rattle.check_modules.specs.programs.Modules.{AreModulesOf, StandsForModules}
 
 -- ---- record types
-
-base_same : (line : List ℕ) → base_in line ≡ judged_base line
-base_same [] = refl
-base_same (r ∷ []) = refl
-base_same (r ∷ b ∷ line) = refl
 
 module _ (t : TypeTable) where
   fields_same : (fs : List Field) (as' : List Added) → AreFields t.entries.items fs as' → map (plain_field t.types) fs ≡ map (added_of t.types) as'
@@ -62,11 +56,11 @@ module _ (t : TypeTable) where
       let r = h.0 in
       ap₂ {C = List I.RecordType} (λ y ys. y ∷ ys)
       (ap (λ m. by_parts m x.base x.level (map (plain_field t.types) x.fields) x.cells x.extent) r.unit
-      ∙ ap (λ b. by_parts l.module_number b x.level (map (plain_field t.types) x.fields) x.cells x.extent) (r.base ∙ base_same l.line.items)
-      ∙ ap (λ k. by_parts l.module_number (judged_base l.line.items) k (map (plain_field t.types) x.fields) x.cells x.extent) r.level
-      ∙ ap (λ fs. by_parts l.module_number (judged_base l.line.items) (length l.line.items - 1) fs x.cells x.extent) (fields_same x.fields l.added.items r.fields)
-      ∙ ap (λ n. by_parts l.module_number (judged_base l.line.items) (length l.line.items - 1) (map (added_of t.types) l.added.items) n x.extent) r.cells
-      ∙ ap (λ e. by_parts l.module_number (judged_base l.line.items) (length l.line.items - 1) (map (added_of t.types) l.added.items) l.cells e) r.extent)
+      ∙ ap (λ b. by_parts l.module_number b x.level (map (plain_field t.types) x.fields) x.cells x.extent) r.base
+      ∙ ap (λ k. by_parts l.module_number (base_in l.line.items) k (map (plain_field t.types) x.fields) x.cells x.extent) r.level
+      ∙ ap (λ fs. by_parts l.module_number (base_in l.line.items) (length l.line.items - 1) fs x.cells x.extent) (fields_same x.fields l.added.items r.fields)
+      ∙ ap (λ n. by_parts l.module_number (base_in l.line.items) (length l.line.items - 1) (map (added_of t.types) l.added.items) n x.extent) r.cells
+      ∙ ap (λ e. by_parts l.module_number (base_in l.line.items) (length l.line.items - 1) (map (added_of t.types) l.added.items) l.cells e) r.extent)
       (records_same xs ls h.2)
   records_same [] (l ∷ ls) h = absurd h
   records_same (x ∷ xs) [] h = absurd h

@@ -38,6 +38,7 @@ pub fn into_program(state: Modules) -> Program
         alloc: _,
         table,
         numbers: _,
+        elements: _,
     } = types;
     let TypeTable {
         types,

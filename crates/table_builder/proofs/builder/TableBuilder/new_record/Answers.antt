@@ -1,17 +1,49 @@
-use Rattle.std.proofs.Common.{refl, ap, ◌∙◌, length}
+use Rattle.std.proofs.Common.{refl, ap, ◌∙◌, length, arith}
 use Rattle.table_builder.specs.Contents.{contents_of}
-use Rattle.table_builder.proofs.Calls.{record_next, record_built, last_element}
+use Rattle.table_builder.proofs.EachCounted.{recounted, one_counted, record_before}
+use Rattle.table_builder.proofs.Built.{same_contents}
+use Rattle.table_builder.proofs.Calls.{record_next, record_built, last_element, popped}
 use Rattle.table_builder.proofs.Known.{record_grows, known_record}
 use Rattle.table_builder.proofs.builder.TableBuilder.new_record.Goals as goal
 
+pub note_elements-requires : goal.note_elements-requires
+note_elements-requires c =
+    let n = c.in_ok-n.ensures ∙ ap (λ es. length es) c.deref-2.ensures.value in
+    let l = c.requires.built.counted.as_many in
+    omega (arith, n, l)
+
+pub returns-in_err-note_elements-clause-built : goal.returns-in_err-note_elements-clause-built
+returns-in_err-note_elements-clause-built c =
+    let n = c.in_ok-n.ensures ∙ ap (λ es. length es) c.deref-2.ensures.value in
+    recounted (contents_of c.args.self.now.table c.args.self.now.numbers c.args.self.now.elements.items) c.requires.built c.in_ok-n.n n _ c.in_err-note_elements.ensures.kept c.in_err-note_elements.ensures.as_many
+
+pub returns-in_err-push-clause-built : goal.returns-in_err-push-clause-built
+returns-in_err-push-clause-built c =
+    let n = c.in_ok-n.ensures ∙ ap (λ es. length es) c.deref-2.ensures.value in
+    let b = contents_of c.args.self.now.table c.args.self.now.numbers c.note_elements.new.elements.items in
+    let built = recounted (contents_of c.args.self.now.table c.args.self.now.numbers c.args.self.now.elements.items) c.requires.built c.in_ok-n.n n _ c.in_ok-note_elements.ensures.kept c.in_ok-note_elements.ensures.as_many in
+    same_contents b built b.types b.entries b.bases b.layouts _ refl refl refl refl (ap (λ ns. record b.notes { records = ns }) c.in_err-push.ensures.items)
+
 pub push_record-requires-clause-next : goal.push_record-requires-clause-next
-push_record-requires-clause-next c = record_next (contents_of c.args.self.now.table c.args.self.now.numbers) c.requires.built c.in_ok-r.r (c.in_ok-r.ensures ∙ ap (λ es. length es) c.deref.ensures.value)
+push_record-requires-clause-next c = record_next (contents_of c.args.self.now.table c.args.self.now.numbers c.args.self.now.elements.items) c.requires.built c.in_ok-r.r (c.in_ok-r.ensures ∙ ap (λ es. length es) c.deref.ensures.value)
 
 pub returns-in-Ok-clause-built : goal.returns-in-Ok-clause-built
 returns-in-Ok-clause-built c =
-    record_built (contents_of c.args.self.now.table c.args.self.now.numbers) c.requires.built c.in_ok-r.r c.in_ok-n.n (c.in_ok-r.ensures ∙ ap (λ es. length es) c.deref.ensures.value) (c.in_ok-n.ensures ∙ ap (λ es. length es) c.deref-2.ensures.value)
-    c.blank_layout-layout.result c.blank_layout-layout.ensures _ _ _ _ _ c.blank_record-declared.result c.blank_record-declared.ensures
+    let n = c.in_ok-n.ensures ∙ ap (λ es. length es) c.deref-2.ensures.value in
+    let was = contents_of c.args.self.now.table c.args.self.now.numbers c.args.self.now.elements.items in
+    let built = recounted was c.requires.built c.in_ok-n.n n _ c.in_ok-note_elements.ensures.kept c.in_ok-note_elements.ensures.as_many in
+    let counted = one_counted was c.requires.built c.in_ok-n.n n _ c.in_ok-note_elements.ensures.kept _ (record_before _ c.in_ok-r.r) c.in_ok-note_elements.ensures.noted in
+    record_built (contents_of c.args.self.now.table c.args.self.now.numbers c.note_elements.new.elements.items) built c.in_ok-r.r c.in_ok-n.n (c.in_ok-r.ensures ∙ ap (λ es. length es) c.deref.ensures.value) n
+    c.blank_layout-layout.result c.blank_layout-layout.ensures counted _ _ _ _ _ c.blank_record-declared.result c.blank_record-declared.ensures
     c.in-Ok.ensures.types c.in-Ok.ensures.entries (ap (λ bs. bs.items) c.in-Ok.ensures.bases) c.in-Ok.ensures.layouts c.in_ok-push.ensures.items
+
+pub returns-in-Err-clause-built : goal.returns-in-Err-clause-built
+returns-in-Err-clause-built c =
+    let n = c.in_ok-n.ensures ∙ ap (λ es. length es) c.deref-2.ensures.value in
+    let b = contents_of c.args.self.now.table c.args.self.now.numbers c.note_elements.new.elements.items in
+    let built = recounted (contents_of c.args.self.now.table c.args.self.now.numbers c.args.self.now.elements.items) c.requires.built c.in_ok-n.n n _ c.in_ok-note_elements.ensures.kept c.in_ok-note_elements.ensures.as_many in
+    same_contents b built _ _ _ _ _ c.in-Err.ensures.same_types c.in-Err.ensures.same_entries (ap (λ bs. bs.items) c.in-Err.ensures.bases) c.in-Err.ensures.same_layouts
+    (ap (λ ns. record b.notes { records = ns }) (popped _ _ _ _ _ c.in_ok-push.ensures.items c.push.new.self.ok.0 c.pop.ensures.rest))
 
 pub returns-in-Ok-clause-grows : goal.returns-in-Ok-clause-grows
 returns-in-Ok-clause-grows c = record_grows c.args.self.now.table c.push_record.new.table c.requires.built.sound c.in-Ok.ensures.sound c.in_ok-r.r _ c.in-Ok.ensures.types c.in-Ok.ensures.entries

@@ -12,7 +12,7 @@ set_layout-requires-clause-declared c =
 
 pub returns-clause-built : goal.returns-clause-built
 returns-clause-built c =
-    layout_built (contents_of c.args.self.now.table c.args.self.now.numbers) c.requires.built _ _ _ _ c.args.r c.in_ok-declared.declared c.args.layout c.in_ok-declared.ensures c.requires.ready.closed
+    layout_built (contents_of c.args.self.now.table c.args.self.now.numbers c.args.self.now.elements.items) c.requires.built _ _ _ _ c.args.r c.in_ok-declared.declared c.args.layout c.in_ok-declared.ensures c.requires.ready.closed
     c.set_layout.ensures.types (ap (λ es. es.items) c.set_layout.ensures.entries) (ap (λ bs. bs.items) c.set_layout.ensures.bases) c.set_layout.ensures.layouts
 
 pub returns-clause-grows : goal.returns-clause-grows

@@ -1,18 +1,13 @@
 -- Types as so many elements that are no arrays: what these have, they have so many times.
-use Rattle.std.proofs.Common.{◌≡◌, ℕ, ◌*◌, ◌<◌, ◌≤◌, ◌^◌, List, length, Option, Some, refl, sym, ap, ◌∙◌, subst, arith}
-use Rattle.std.specs.Prelude.{slice_get, min}
-use Rattle.std.proofs.Math.Nat.{mul_assoc, min-eq_right}
+use Rattle.std.proofs.Common.{◌≡◌, ℕ, ◌*◌, refl, ap, ◌∙◌, arith}
+use Rattle.std.proofs.Math.Nat.{mul_assoc}
 use Rattle.ob_types.specs.Table.{Table}
 use Rattle.ob_types.specs.Trees.{in_a_row}
 use Rattle.ob_judge.specs.Shapes.{Shape, Array, Known, cells, extent}
-use Rattle.judged_tree.specs.TypeShapes.{shape_of}
 use Rattle.check_types.specs.TypeMeaning.{type_shape}
 use Rattle.check_types.specs.declared.types.TypeRef.{TypeRef}
 use Rattle.check_types.specs.declared.types.TypeRef.TheVariants as TheType
-use Rattle.table_builder.specs.Cells.{most_cells, innermost, elements_in}
-use Rattle.table_builder.specs.Sound.{IsSound}
-use Rattle.table_builder.proofs.Lists.{there}
-use Rattle.table_builder.proofs.Meaning.{meant}
+use Rattle.table_builder.specs.Cells.{innermost, elements_in}
 
 -- what is no array is one element, itself
 pub record IsSingle (a : Shape) : Type 0 where
@@ -22,11 +17,6 @@ pub record IsSingle (a : Shape) : Type 0 where
 pub single : (t : Table) (e : TypeRef) → ((l k : ℕ) → e ≡ TheType.Array l k → ⊥) → IsSingle (type_shape t e)
 single t (TheType.Array l k) h = absurd (h l k refl)
 single t e h = record { one = refl; same = refl }
-
-pub single_there : (t : Table) (entries : List TypeRef) (bases : List (Option ℕ)) → IsSound t entries bases → (n : ℕ) → n < length entries → ((l k : ℕ) → slice_get entries n ≡ Some (TheType.Array l k) → ⊥) → IsSingle (shape_of t n)
-single_there t entries bases ok n l h =
-    let e = there entries n l in
-    subst IsSingle (sym (meant t entries bases ok n e.0 e.1)) (single t e.0 (λ m k q. h m k (e.1 ∙ ap Some q)))
 
 pub cells_by_elements : (known : Known) (a : Shape) → elements_in a * cells known (innermost a) ≡ cells known a
 cells_by_elements known (Array n a) = mul_assoc n (elements_in a) (cells known (innermost a)) ∙ ap (λ m. n * m) (cells_by_elements known a)
@@ -40,9 +30,3 @@ extent_by_elements known (Array n a) =
     ap (λ (m : ℕ). record { bytes = m; wide = (extent known (innermost a)).wide }) (mul_assoc n (elements_in a) (extent known (innermost a)).bytes)
     ∙ ap (in_a_row n) (extent_by_elements known a)
 extent_by_elements known a = ap (λ (m : ℕ). record { bytes = m; wide = (extent known a).wide }) (once (extent known a).bytes)
-
--- so few elements are counted as they are
-pub counted_once : (n k : ℕ) → k ≡ 1 → n ≤ 2 ^ 30 → min most_cells (n * k) ≡ n
-counted_once n k is few =
-    let times : n * 1 ≡ n = omega arith in
-    ap (λ z. min most_cells (n * z)) is ∙ ap (min most_cells) times ∙ min-eq_right (omega (arith, few))
