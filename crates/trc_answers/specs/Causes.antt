@@ -12,7 +12,7 @@ use Rattle.trc_answers.specs.declared.causes.Device.{Device}
 use Rattle.trc_answers.specs.declared.causes.Device.TheVariants.{Files, Input, Output}
 use Rattle.trc_answers.specs.declared.causes.Spot.{Spot}
 use Rattle.trc_answers.specs.declared.causes.Cause.{Cause}
-use Rattle.trc_answers.specs.declared.causes.Cause.TheVariants.{Usage, NoSuchFile, ReadFault, Source, Limit, OtherImage, NotImage, InputTooLong, Trapped, MachineFault, Spent, WriteFault, Memory, Done}
+use Rattle.trc_answers.specs.declared.causes.Cause.TheVariants.{Usage, NoSuchFile, ReadFault, Source, Limit, BadLine, OtherImage, NotImage, InputTooLong, Trapped, MachineFault, Spent, WriteFault, Memory, Done}
 
 abbrev pub status_of : Cause → ℕ
 status_of Usage = 1
@@ -20,6 +20,7 @@ status_of (NoSuchFile word) = 4
 status_of (ReadFault device) = 4
 status_of (Source number m at) = 2
 status_of (Limit number index) = 3
+status_of (BadLine number) = 1
 status_of (OtherImage at) = 8
 status_of (NotImage number at) = 8
 status_of InputTooLong = 3
@@ -91,6 +92,7 @@ line_of names place (NoSuchFile word) = line (codes "trc: no file ") (name_at na
 line_of names place (ReadFault device) = line (codes "trc: read fault on ") (device_name device)
 line_of names place (Source number m at) = source_line (name_at names m) place number
 line_of names place (Limit number index) = limit_line number index
+line_of names place (BadLine number) = line (codes "trc: bad line ") (shortest_text number)
 line_of names place (OtherImage at) = line (codes "trc: other image at ") (shortest_text at)
 line_of names place (NotImage number at) = line (codes "trc: not an image: ") (shortest_text number ++ (codes " at " ++ shortest_text at))
 line_of names place InputTooLong = line (codes "trc: input too long") []

@@ -32,8 +32,10 @@ pub enum Cause {
     ReadFault { device: Device },
     /// A rule of the language is broken: its number, 10 to 42, the module by its place among the files, from 0, and the byte.
     Source { number: u8, module: u32, at: u32 },
-    /// A limit is passed: its number, 50 to 59, and the module's or the procedure's where it is one of these, else 0.
+    /// A limit is passed: its number, 50 to 59, 69 or 70, and the module's or the procedure's where it is one of these, else 0.
     Limit { number: u8, index: u32 },
+    /// The line of a batch's list with this number, counted from 1, is the first that isn't of a line's form.
+    BadLine { line: u32 },
     /// The file from which an image was to be built anew differs from that image in version 1, first at this byte.
     OtherImage { at: u32 },
     /// The file is no image: the number of the first rule that it breaks, 60 to 65, and the place of the byte.
@@ -90,6 +92,7 @@ pub fn status(cause: Cause) -> u8
         Cause::ReadFault { .. } => 4,
         Cause::Source { .. } => 2,
         Cause::Limit { .. } => 3,
+        Cause::BadLine { .. } => 1,
         Cause::OtherImage { .. } => 8,
         Cause::NotImage { .. } => 8,
         Cause::InputTooLong => 3,

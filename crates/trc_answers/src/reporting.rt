@@ -227,6 +227,7 @@ pub fn report<E: Sink>(
             say_source(err, name_at(names, module), place, number)
         }
         Cause::Limit { number, index } => say_limit(err, number, index),
+        Cause::BadLine { line } => say(err, b"trc: bad line ", decimal(u64::from(line)).as_slice()),
         Cause::OtherImage { at } => say(
             err,
             b"trc: other image at ",
