@@ -5,7 +5,7 @@
 
 Writes `stdin` and `stdout` into FOLDER (that crate's, if none is given): worked programs, the modules of bench/rows with one choice
 of policy, traces and registers after another, made modules, commands with their options, files that aren't there, limits, each trap
-in a procedure of an imported module, images that are built anew from those of version 1, and the bytes of the smallest image of each
+in a procedure of an imported module, images that are built anew from those of version 1, batches, and the bytes of the smallest image of each
 version, cut off at each place and changed at each. bench/other_compiler.py says where the other compiler is; how lines are written is
 said in crates/trc_vectors.
 """
@@ -17,8 +17,9 @@ from module_texts import pieces_of, row_files
 import image  # noqa: E402
 import trc  # noqa: E402
 
-# What the other compiler has: images of version 2, with cells of eight bytes and 4,000 values.
+# What the other compiler has: images of version 2, with cells of eight bytes and 4,000 values; and batches.
 STAGE = ['--stage', '=12,15']
+BATCHES = ['--stage', '=12,15,20']
 
 CHOICES = list(itertools.product(['plain', 'linear', 'bottomup', 'mixed'], ['bi', 'uni'], ['16', '4', '8']))
 
@@ -95,7 +96,8 @@ def commands():
     """Words that are taken and words that are refused."""
     text = {'M.Mod': module('Out.Int(6*7, 0); Out.Ln').encode()}
     for words in ('', 'help', 'help me', 'walk', 'run', 'build', 'build A', 'elf', 'elf A', 'elf A B', 'elf A M.Mod', 'elf A M.Mod --regs 3', 'elf A M.Mod --steps 1', 'elf A M.Mod --from A',
-                  'traces', 'exec', 'exec A B', 'bulk', 'bulk 7', 'bulk 7 2',
+                  'traces', 'exec', 'exec A B', 'batch', 'batch A', 'batch M.Mod A', 'batch M.Mod', 'batch M.Mod --from A', 'batch M.Mod --regs 17',
+                  'batch M.Mod --steps x', 'bulk', 'bulk 7', 'bulk 7 2',
                   'bulk 7 2 3', 'bulk 7 0', 'bulk 7 1001', 'bulk 9223372036854775808 1', 'bulk 9223372036854775807 1', 'bulk 7 2 --steps 10',
                   'bulk 7 3 --policy mixed --traces uni --regs 4 --jobs 2', 'run M.Mod --policy fast', 'run M.Mod --policy', 'run M.Mod --regs 3',
                   'run M.Mod --regs 17', 'run M.Mod --regs 04', 'run M.Mod --traces tri', 'run M.Mod --jobs 0', 'run M.Mod --jobs 65',
@@ -179,6 +181,27 @@ def anew():
         yield ['build', 'O', 'M.Mod', '--from', 'M1'], dict(files, M1=first[:n] + bytes([first[n] ^ 0x41]) + first[n + 1:]), b''
 
 
+def batches():
+    """Lists of jobs: worked ones, bad ones, and two with two hundred made jobs of every kind."""
+    files = {'A.Mod': b'MODULE A; PROCEDURE Twice*(x: INTEGER): INTEGER; BEGIN RETURN 2*x END Twice; END A.',
+             'B.Mod': b'MODULE B; IMPORT A, Out; BEGIN Out.Int(A.Twice(21), 0); Out.Ln END B.',
+             'M.Mod': module('Out.Int(42, 0); Out.Ln').encode(), 'In.Mod': module('In.Char(c); Out.Char(c); IF ~In.Done THEN Out.Char("-") END', 'VAR c: CHAR; ', 'In, Out').encode()}
+    for text in (b'0 A.Mod B.Mod\n1 M.Mod\n0 Missing.Mod\n', b'', b'2 M.Mod\n', b'0 M.Mod', b'0 M.Mod\n1 M.Mod', b'0 M.Mod\n0  M.Mod\n', b'0 M.Mod \n', b' 0 M.Mod\n',
+                 b'0\n', b'\n', b'00 M.Mod\n', b'0 M.Mod\n\n1 M.Mod\n', b'0 \xff\n1 M.Mod\n', b'1 B.Mod A.Mod\n1 A.Mod\n0 In.Mod\n', b'0 M.Mod Missing.Mod Away.Mod\n',
+                 b'1' + b' M.Mod' * 65 + b'\n1' + b' M.Mod' * 64 + b'\n', b'0\tM.Mod\n', b'0 LIST\n1 M.Mod\n'):
+        yield ['batch', 'LIST'], dict(files, LIST=text), b'input'
+    yield ['batch', 'LIST', '--steps', '15', '--policy', 'plain'], dict(files, LIST=b'0 M.Mod\n1 M.Mod\n'), b''
+    kinds = ('Out.Int(%d, 0)', 'Out.Int(%d, 0); ASSERT(FALSE)', 'Out.Int(%d, 0); WHILE TRUE DO END', 'Out.Int(x%d, 0)', 'Out.Int(%d DIV 0, 0)')
+    for options in ([], ['--policy', 'mixed', '--traces', 'uni', '--regs', '4', '--jobs', '1']):
+        made, lines = dict(files), []
+        for job in range(200):
+            body = kinds[job // 3 % len(kinds)] % job
+            made['J%d' % job] = trc.bulk_text(job, 1 + job % 2) if job % 3 == 0 else module(body).encode()
+            names = ['J%d' % job] if job % 17 else ['A.Mod', 'B.Mod', 'J%d' % job]
+            lines.append('%d %s\n' % (job * 7 // 5 % 2, ' '.join(names)))
+        yield ['batch', 'LIST', '--steps', '20000', *options], dict(made, LIST=''.join(lines).encode()), b''
+
+
 def workers():
     """The same modules by one, three and sixty-four workers."""
     moves = ('MODULE S; IMPORT Out; PROCEDURE P; VAR a, b, t, i: INTEGER; BEGIN a := 1; b := 2; i := 0; '
@@ -239,8 +262,8 @@ def line(words, files, given):
 def answer(words, files, given):
     """What a call prints. The other compiler has no `elf`: it is refused as `build` is, but for `--from`, and its bytes aren't printed."""
     asked = ['build' if words[0] == 'elf' and '--from' not in words else words[0]] + words[1:]
-    call = trc.Run(STAGE + ([] if asked == [''] else asked), dict(files), given)
-    call.out = call.out.replace(b'run|build|traces', b'run|build|elf|traces')
+    call = trc.Run((BATCHES if words[0] == 'batch' else STAGE) + ([] if asked == [''] else asked), dict(files), given)
+    call.out = call.out.replace(b'run|build|traces', b'run|build|elf|traces').replace(b'bulk|help', b'bulk|batch|help')
     told = written((call.err + '\n').encode()) if call.err else ''
     built = written(call.files[words[1]]) if words[0] == 'build' and len(words) > 1 and words[1] in call.files else ''
     return '%d %s | %s%s\n' % (call.status, written(bytes(call.out)), told, built)
@@ -248,7 +271,7 @@ def answer(words, files, given):
 
 def main():
     folder = folder_of('trc_vectors')
-    calls = [call for part in (worked, modules, commands, traps, anew, workers, images, stored, made) for call in part()]
+    calls = [call for part in (worked, modules, commands, traps, anew, batches, workers, images, stored, made) for call in part()]
     with open(os.path.join(folder, 'stdin'), 'w') as out:
         out.writelines(line(*call) for call in calls)
     with open(os.path.join(folder, 'stdout'), 'w') as out:

@@ -42,7 +42,8 @@ struct LeaveFlags {
 }
 
 // Answers the job with this index, where there is one.
-fn answer<N: Runner>(
+fn answer<N: Runner, R: Threads + Wait + Sync>(
+    rt: &R,
     alloc: Global,
     runner: &N,
     jobs: &[N::Job],
@@ -53,13 +54,13 @@ fn answer<N: Runner>(
     ensures { OnOk result (AnswersUpTo (N.is_answer runner.now) jobs.now (index + 1) answers.new.items) }
 {
     if (index as usize) < jobs.len() {
-        answers.push(runner.run(alloc, &jobs[index as usize])?)?;
+        answers.push(runner.run(rt, alloc, &jobs[index as usize])?)?;
     }
     Ok(())
 }
 
 // Takes a ticket, if there is one, and answers its job.
-fn serve_one<N: Runner, R: Wait>(
+fn serve_one<N: Runner, R: Threads + Wait + Sync>(
     rt: &R,
     alloc: Global,
     runner: &N,
@@ -80,15 +81,15 @@ fn serve_one<N: Runner, R: Wait>(
         return Ok(false);
     };
     if ticket.sender == 0 {
-        answer(alloc, runner, first, ticket.index, &mut answers.first)?;
+        answer(rt, alloc, runner, first, ticket.index, &mut answers.first)?;
     } else {
-        answer(alloc, runner, second, ticket.index, &mut answers.second)?;
+        answer(rt, alloc, runner, second, ticket.index, &mut answers.second)?;
     }
     Ok(true)
 }
 
 // Takes and answers until as many tickets were taken as there are jobs.
-fn serve_all<N: Runner, R: Wait>(
+fn serve_all<N: Runner, R: Threads + Wait + Sync>(
     rt: &R,
     alloc: Global,
     runner: &N,
@@ -129,7 +130,7 @@ fn serve_all<N: Runner, R: Wait>(
 }
 
 // Serves both submitters, and waits for their ends. Where there is no memory they are told to leave.
-fn attend<N: Runner, R: Threads + Wait>(
+fn attend<N: Runner, R: Threads + Wait + Sync>(
     rt: &R,
     alloc: Global,
     runner: &N,

@@ -20,7 +20,12 @@ impl Runner for Doubles {
 
     ghost is_answer = { λ runner job answer. answer ≡ 2 * job };
 
-    fn run(&self, _alloc: Global, job: &u32) -> Result<u64, Memory> {
+    fn run<R: Threads + Wait + Sync>(
+        &self,
+        _rt: &R,
+        _alloc: Global,
+        job: &u32,
+    ) -> Result<u64, Memory> {
         Ok(*job as u64 * 2)
     }
 }

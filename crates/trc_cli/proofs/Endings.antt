@@ -1,6 +1,5 @@
 -- What compiling is for a command.
-use Rattle.std.proofs.Common.{◌≡◌, ◌<◌, ℕ, zero, suc, List, [], ◌∷◌, length, Option, Some, None, refl, sym, ap, ◌∙◌, subst, arith}
-use Rattle.std.specs.Prelude.{slice_get}
+use Rattle.std.proofs.Common.{◌≡◌, ℕ, List, [], Option, Some, None, refl, sym, ap, ◌∙◌, subst}
 use Rattle.outside.specs.Files.{Held}
 use Rattle.outside.specs.Sink.{Account}
 use Rattle.trc_answers.specs.declared.places.Position.{Position}
@@ -8,9 +7,7 @@ use Rattle.alloc_choice.specs.declared.choice.Choice.{Choice}
 use Rattle.image_form.specs.declared.image.Image.{Image}
 use Rattle.program_image.specs.declared.imaging.Compiled.{Compiled}
 use Rattle.source_image.specs.Images.{IsImageOfTexts, AreTracesOfTexts}
-use Rattle.ob_types.specs.declared.program.Program.{Program}
-use Rattle.program_image.specs.declared.fault.ProgramFault.{ProgramFault}
-use Rattle.source_image.specs.Refusals.{IsRefusal, IsRefusalOf, IsRefusalOfTraces}
+use Rattle.source_image.specs.Refusals.{IsRefusal, IsRefusalOfTraces}
 use Rattle.source_image.specs.declared.refusal.Refusal.{Refusal}
 use Rattle.source_image.specs.declared.refusal.Refusal.TheVariants.{TooLong, Source, Limit, Memory}
 use Rattle.trc_answers.specs.declared.causes.Cause.{Cause}
@@ -23,9 +20,9 @@ use Rattle.trc_answers.specs.Reading.{AreTextsOf}
 use Rattle.trc_answers.specs.Answers.{Devices, devices, Answers, PrintAnswers}
 use Rattle.trc_answers.proofs.Answering.{refuses, lacks, mapped, prints}
 use Rattle.trc_answers.proofs.Texts.{text_at, placed_as}
-use Rattle.trc_cli.specs.Commands.{cause_of_refusal, IsRefusedAs, AreRefused, TextsComeTo, HaveNoImage, HaveImage, TracesComeTo, HaveNoTraces, HaveTraces, IsTextIn, IsTextHeld, IsTextOf, NamesText, names_read, ComesTo, FaultsOnlyInExec, FilesUse, InputUse}
+use Rattle.trc_cli.specs.Commands.{cause_of_refusal, IsRefusedAs, AreRefused, TextsComeTo, HaveNoImage, HaveImage, TracesComeTo, HaveNoTraces, HaveTraces, IsTextIn, IsTextHeld, IsTextOf, names_read, ComesTo, FaultsOnlyInExec, FilesUse, InputUse}
 use Rattle.trc_cli.specs.Lines.{IsTold}
-use Rattle.trc_words.specs.Asked.{Asked, Run, Build, Elf, Exec, Traces, Bulk, Help}
+use Rattle.trc_words.specs.Asked.{Asked, Run, Build, Elf, Exec, Traces, Bulk, Batch, Help}
 use Rattle.trc_cli.specs.Did.{Did}
 use Rattle.trc_cli.proofs.Sound.{faults_only_in_exec}
 
@@ -77,19 +74,6 @@ has_traces choice texts lines printed held m left k a b cause are same answers =
 
 ---- Places
 
-there : {A : Type 0} (xs : List A) (n : ℕ) (x : A) → slice_get xs n ≡ Some x → n < length xs
-there [] zero x e = absurd (let z = e in cc)
-there [] (suc n) x e = absurd (let z = e in cc)
-there (y ∷ xs) zero x e = omega arith
-there (y ∷ xs) (suc n) x e = let l = there xs n x e in omega (arith, l)
-
--- a refusal names one of the texts that are refused
-pub names_text : (texts : List (List ℕ)) (refusal : Refusal) (TellsOf : Program → ProgramFault → Type 0) → IsRefusalOf TellsOf texts refusal → NamesText texts refusal
-names_text texts (TooLong m) TellsOf h = there texts m h.bytes h.text
-names_text texts (Source m number at) TellsOf h = there texts m h.bytes h.text
-names_text texts (Limit number index) TellsOf h = tt
-names_text texts Memory TellsOf h = tt
-
 -- the place of a fault in texts is one in the texts that are held
 pub placed_held : (held : Option Held) (names texts : List (List ℕ)) (cause : Cause) (place : Position) → AreTextsOf held names texts
     → IsPlaced (IsTextIn texts) cause place → IsPlaced (IsTextHeld held names) cause place
@@ -119,6 +103,7 @@ untouched (Some (Elf out files choice)) t = tt
 untouched (Some (Exec image steps)) t = tt
 untouched (Some (Traces files choice)) t = tt
 untouched (Some (Bulk seed size choice steps)) t = record { held = refl; faults = refl }
+untouched (Some (Batch list choice steps)) t = tt
 untouched (Some Help) t = record { held = refl; faults = refl }
 
 unread : (request : Option Asked) (t : Devices) → InputUse request t t
@@ -129,6 +114,7 @@ unread (Some (Elf out files choice)) t = record { left = refl; faults = refl }
 unread (Some (Exec image steps)) t = tt
 unread (Some (Traces files choice)) t = record { left = refl; faults = refl }
 unread (Some (Bulk seed size choice steps)) t = record { left = refl; faults = refl }
+unread (Some (Batch list choice steps)) t = record { left = refl; faults = refl }
 unread (Some Help) t = record { left = refl; faults = refl }
 
 -- a command ended for a cause, which was told

@@ -1,8 +1,8 @@
 -- Files come to one thing, where what is held is told.
-use Rattle.std.proofs.Common.{◌≡◌, ◌<◌, ◌≤◌, ◌⊎◌, ℕ, zero, suc, List, [], ◌∷◌, length, take, Option, Some, None, refl, sym, ap, ap₂, ◌∙◌, subst, arith, inl, inr}
+use Rattle.std.proofs.Common.{◌≡◌, ◌<◌, ◌⊎◌, ℕ, zero, suc, List, [], ◌∷◌, length, take, Option, Some, None, refl, ap, ap₂, ◌∙◌, subst, arith, inl, inr}
 use Rattle.std.specs.Prelude.{slice_get}
 use Rattle.outside.specs.Files.{Held}
-use Rattle.trc_answers.specs.Reading.{most_bytes, most_modules, IsRead, AreRead, AreTextsOf, IsReached, FilesComeTo, AreTooMany, LacksOne, HasALongOne, HaveTexts}
+use Rattle.trc_answers.specs.Reading.{most_bytes, IsRead, AreRead, AreTextsOf, IsReached, FilesComeTo, AreTooMany, LacksOne, HasALongOne, HaveTexts}
 use Rattle.trc_answers.specs.Verdict.{Verdict, Refuses}
 use Rattle.trc_answers.specs.declared.causes.Cause.TheVariants.{NoSuchFile, Limit}
 use Rattle.trc_cli.specs.Laws.{Alike}

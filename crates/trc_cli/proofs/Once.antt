@@ -16,18 +16,21 @@ use Rattle.source_image.specs.Refusals.{IsRefusal}
 use Rattle.source_image.specs.declared.refusal.Refusal.{Refusal}
 use Rattle.source_image.specs.declared.refusal.Refusal.TheVariants.{Memory as NoMemory}
 use Rattle.bulk_text.specs.Bulk.{bulk_text}
-use Rattle.trc_words.specs.Asked.{Asked, Run, Build, Elf, Exec, Traces, Bulk, Help}
+use Rattle.batch_jobs.specs.Jobs.{Reply, IsRunReply, cut_reply}
+use Rattle.batch_jobs.proofs.Once.{batch_once}
+use Rattle.trc_words.specs.Asked.{Asked, Run, Build, Elf, Exec, Traces, Bulk, Batch, Help}
 use Rattle.trc_answers.specs.declared.causes.Cause.{Cause}
 use Rattle.trc_answers.specs.declared.causes.Cause.TheVariants.{Memory, NotImage, OtherImage}
 use Rattle.trc_answers.specs.declared.causes.Device.TheVariants.{Files, Input, Output}
 use Rattle.trc_answers.specs.Reading.{FilesComeTo, AreTooMany as AreTooManyFiles, LacksOne, HasALongOne, HaveTexts}
+use Rattle.trc_answers.specs.Causes.{status_of}
 use Rattle.trc_answers.specs.Runs.{run_of}
 use Rattle.trc_answers.specs.Verdict.{Verdict, Refuses, Runs, Writes, cause_of, FileComesTo, IsMissing, HasTooMany, HasBytes, ImageComesTo, RunsAlone, RunsOnInput, HasTooMuch, BytesComeTo, AreNoImage, AreAnImage, Written, WrittenElf, Renews, AreTheSame, Differ, most_image, world}
 use Rattle.trc_answers.specs.Answers.{Devices, Answers, AsItComes, FailsReadingFiles, FailsReadingInput, FailsPrinting, FailsWriting, LacksMemory, AllDone}
 use Rattle.trc_cli.specs.Commands.{ComesTo, AnewComesTo, cause_of_refusal, SummaryComesTo, TextsComeTo, HaveNoImage, HaveImage, TracesComeTo}
 use Rattle.trc_cli.specs.Laws.{Alike, NoneFailed}
 use Rattle.trc_cli.proofs.FilesOnce.{files_once, texts_there}
-use Rattle.trc_cli.proofs.Same.{both, two}
+use Rattle.trc_cli.proofs.Same.{alike, both, two}
 use Rattle.trc_cli.proofs.TextsOnce.{Laws, texts_once, traces_once, told_same}
 
 image_once : (left : List ℕ) (steps : ℕ) (image : Image) (a b : Verdict) → ImageComesTo (Some left) steps image a → ImageComesTo (Some left) steps image b → Alike a b
@@ -90,6 +93,13 @@ renews_once name bytes image a b (AreTheSame same e) (Differ at d f) = absurd (n
 renews_once name bytes image a b (Differ at d e) (AreTheSame same f) = absurd (never_differ at bytes _ same d)
 renews_once name bytes image a b (Differ at d e) (Differ other d' f) = two a b _ _ (ap (λ n. Refuses (OtherImage n)) (same_place at other bytes _ d d' (ordered at other))) e f
 
+-- texts are replied to in one way
+reply_once : (laws : Laws) (choice : Choice) (steps : ℕ) (texts : List (List ℕ)) (one other : Reply) → IsRunReply choice steps texts one → IsRunReply choice steps texts other → one ≡ other
+reply_once laws choice steps texts one other h k =
+    let same = texts_once laws choice choice refl refl refl texts (λ made. ImageComesTo (Some []) steps made.image) (λ made. ImageComesTo (Some []) steps made.image) h.verdict k.verdict
+    (λ made again is also i j. image_once [] steps again.image h.verdict k.verdict (subst (λ m. ImageComesTo (Some []) steps m h.verdict) (laws.image choice choice texts made again refl refl refl is also).0 i) j) h.comes k.comes in
+    h.is ∙ (λ i. cut_reply (status_of (same.cause i)) (same.written i)) ∙ sym k.is
+
 module _ (laws : Laws) (held : Held) (left : List ℕ) (a b : Verdict) where
   -- what texts come to by the image that they have
   by_image : (choice : Choice) (texts : List (List ℕ)) (next : Image → Verdict → Type 0) → ((image : Image) → next image a → next image b → Alike a b)
@@ -118,6 +128,7 @@ module _ (laws : Laws) (held : Held) (left : List ℕ) (a b : Verdict) where
   once (Some (Bulk seed size choice steps)) h k =
       texts_once laws choice choice refl refl refl (bulk_text seed size ∷ []) (SummaryComesTo steps) (SummaryComesTo steps) a b
       (λ made other is also i j. two a b _ _ (told_same steps made other (laws.image choice choice (bulk_text seed size ∷ []) made other refl refl refl is also)) i j) h k
+  once (Some (Batch list choice steps)) h k = subst (Alike a) (batch_once held choice steps (reply_once laws choice steps) list a b h k) (alike a)
   once (Some Help) h k = both a b _ h k
 
 ---- `exec` of what `build` wrote

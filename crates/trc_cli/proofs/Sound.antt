@@ -1,5 +1,5 @@
 -- What compiled modules answer is no fault of the machine.
-use Rattle.std.proofs.Common.{◌≡◌, ◌<◌, ℕ, List, [], ◌∷◌, length, Option, Some, None, refl, sym, subst, arith}
+use Rattle.std.proofs.Common.{◌≡◌, ℕ, List, [], ◌∷◌, length, Option, Some, None, refl, sym, subst, arith}
 use Rattle.outside.specs.Files.{Held}
 use Rattle.a64_memory.specs.Memory.{AreBytes}
 use Rattle.image_form.specs.declared.image.Image.{Image}
@@ -14,15 +14,14 @@ use Rattle.source_image.specs.declared.refusal.Refusal.TheVariants as refusal
 use Rattle.text_laws.specs.no_faults.Faults.{IsBreak}
 use Rattle.text_laws.proofs.no_faults.Never.{image_never_faults}
 use Rattle.bulk_text.specs.Bulk.{bulk_text}
-use Rattle.trc_words.specs.Asked.{Asked, Run, Build, Elf, Exec, Traces, Bulk, Help}
+use Rattle.batch_jobs.specs.Batches.{BatchComesTo, LacksList, HasLongList, HasList, HasBadLine, HasLines, AreTooMany, AreTooLarge, HaveJobs}
+use Rattle.trc_words.specs.Asked.{Asked, Run, Build, Elf, Exec, Traces, Bulk, Batch, Help}
 use Rattle.trc_answers.specs.declared.causes.Cause.{Cause}
-use Rattle.trc_answers.specs.declared.causes.Device.{Device}
-use Rattle.trc_answers.specs.declared.causes.Cause.TheVariants as cause
-use Rattle.trc_answers.specs.Reading.{FilesComeTo, AreTooMany, LacksOne, HasALongOne, HaveTexts}
+use Rattle.trc_answers.specs.Reading.{FilesComeTo, AreTooMany as AreTooManyFiles, LacksOne, HasALongOne, HaveTexts}
 use Rattle.trc_answers.specs.Runs.{run_of, cause_of_trap, cause_of_run}
-use Rattle.trc_answers.specs.Verdict.{Verdict, Refuses, Runs, Writes, Prints, cause_of, FileComesTo, IsMissing, HasTooMany, HasBytes, ImageComesTo, RunsAlone, RunsOnInput, HasTooMuch, Renews, AreTheSame, Differ, world}
+use Rattle.trc_answers.specs.Verdict.{Verdict, cause_of, FileComesTo, IsMissing, HasTooMany, HasBytes, ImageComesTo, RunsAlone, RunsOnInput, HasTooMuch, Renews, AreTheSame, Differ, world}
 use Rattle.trc_answers.specs.Answers.{Devices, Answers, AsItComes, FailsReadingFiles, FailsReadingInput, FailsPrinting, FailsWriting, LacksMemory}
-use Rattle.trc_cli.specs.Commands.{ComesTo, RequestComesTo, IsNoMachineFault, FaultsOnlyInExec, cause_of_refusal, TextsComeTo, HaveNoImage, HaveImage, TracesComeTo, HaveNoTraces, HaveTraces, told_of_run}
+use Rattle.trc_cli.specs.Commands.{ComesTo, IsNoMachineFault, FaultsOnlyInExec, cause_of_refusal, TextsComeTo, HaveNoImage, HaveImage, TracesComeTo, HaveNoTraces, HaveTraces, told_of_run}
 
 -- the cause of a verdict is none
 abbrev Sound : Verdict → Type 0
@@ -72,7 +71,7 @@ traces_sound choice texts v (HaveNoTraces r) = as_sound v _ r.verdict_is (refusa
 traces_sound choice texts v (HaveTraces lines are e) = as_sound v _ e tt
 
 files_sound : (held : Option Held) (names : List (List ℕ)) (next : List (List ℕ) → Verdict → Type 0) (v : Verdict) → ((texts : List (List ℕ)) → next texts v → Sound v) → FilesComeTo held names next v → Sound v
-files_sound held names next v f (AreTooMany many e) = as_sound v _ e tt
+files_sound held names next v f (AreTooManyFiles many e) = as_sound v _ e tt
 files_sound held names next v f (LacksOne number name reached none e) = as_sound v _ e tt
 files_sound held names next v f (HasALongOne number name text reached is long e) = as_sound v _ e tt
 files_sound held names next v f (HaveTexts texts are h) = f texts h
@@ -85,6 +84,14 @@ file_sound held number name next v f (HasBytes bytes is few h) = f bytes h
 renews_sound : (name bytes : List ℕ) (image : Image) (v : Verdict) → Renews name bytes image v → Sound v
 renews_sound name bytes image v (AreTheSame same e) = as_sound v _ e tt
 renews_sound name bytes image v (Differ at d e) = as_sound v _ e tt
+
+batch_sound : (held : Option Held) (choice : Choice) (steps : ℕ) (list : List ℕ) (v : Verdict) → BatchComesTo held choice steps list v → Sound v
+batch_sound held choice steps list v (LacksList none e) = as_sound v _ e tt
+batch_sound held choice steps list v (HasLongList bytes is long e) = as_sound v _ e tt
+batch_sound held choice steps list v (HasList bytes is few (HasBadLine number bad e)) = as_sound v _ e tt
+batch_sound held choice steps list v (HasList bytes is few (HasLines lines are (AreTooMany many e))) = as_sound v _ e tt
+batch_sound held choice steps list v (HasList bytes is few (HasLines lines are (AreTooLarge some passes e))) = as_sound v _ e tt
+batch_sound held choice steps list v (HasList bytes is few (HasLines lines are (HaveJobs first second some jobs replied))) = as_sound v _ replied.verdict_is tt
 
 -- so words that ask for anything but the run of an image of a file don't
 comes_sound : (held : Option Held) (left : Option (List ℕ)) (asked : Option Asked) (v : Verdict) → ComesTo (world held left) asked v → FaultsOnlyInExec asked (cause_of v)
@@ -99,6 +106,7 @@ comes_sound held left (Some (Exec image steps)) v h = tt
 comes_sound held left (Some (Traces files choice)) v h = files_sound held files _ v (λ texts. traces_sound choice texts v) h
 comes_sound held left (Some (Bulk seed size choice steps)) v h =
     texts_sound choice (bulk_text seed size ∷ []) _ v (λ made is e. as_sound v _ e (told_sound choice (bulk_text seed size ∷ []) made steps is (run_of made.image [] steps) refl)) h
+comes_sound held left (Some (Batch list choice steps)) v h = batch_sound held choice steps list v h
 comes_sound held left (Some Help) v h = as_sound v _ h tt
 
 as_cause : (asked : Option Asked) (c d : Cause) → c ≡ d → FaultsOnlyInExec asked d → FaultsOnlyInExec asked c
@@ -113,6 +121,7 @@ other_cause (Some (Elf out files choice)) c h = h
 other_cause (Some (Exec image steps)) c h = tt
 other_cause (Some (Traces files choice)) c h = h
 other_cause (Some (Bulk seed size choice steps)) c h = h
+other_cause (Some (Batch list choice steps)) c h = h
 other_cause (Some Help) c h = h
 
 pub faults_only_in_exec : (asked : Option Asked) (old new : Devices) (c : Cause) → Answers (λ left. ComesTo (world old.held left) asked) old new c → FaultsOnlyInExec asked c

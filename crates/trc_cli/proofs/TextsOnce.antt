@@ -1,5 +1,5 @@
 -- Texts come to one thing, by the laws of texts.
-use Rattle.std.proofs.Common.{◌≡◌, ℕ, List, [], length, refl, sym, ap, ap₂, ◌∙◌, subst}
+use Rattle.std.proofs.Common.{◌≡◌, ℕ, List, [], length, refl, sym, ap, ◌∙◌}
 use Rattle.image_form.specs.declared.image.Image.{Image}
 use Rattle.run_laws.specs.Runs.{Outcome, Ended, Trapped, Going}
 use Rattle.a64_machine.specs.State.{Trap}
@@ -12,7 +12,7 @@ use Rattle.source_image.specs.declared.refusal.Refusal.TheVariants.{Memory}
 use Rattle.trc_answers.specs.Runs.{run_of, cause_of_run}
 use Rattle.trc_answers.specs.Verdict.{Verdict, Refuses, Prints}
 use Rattle.trc_cli.specs.declared.bulk.Counts.{Counts}
-use Rattle.trc_cli.specs.Commands.{cause_of_refusal, AreRefused, TextsComeTo, HaveNoImage, HaveImage, TracesComeTo, HaveNoTraces, HaveTraces, counts_of, summary_of, told_of_run}
+use Rattle.trc_cli.specs.Commands.{cause_of_refusal, TextsComeTo, HaveNoImage, HaveImage, TracesComeTo, HaveNoTraces, HaveTraces, counts_of, summary_of, told_of_run}
 use Rattle.trc_cli.specs.Laws.{Alike}
 use Rattle.trc_cli.proofs.Same.{two}
 

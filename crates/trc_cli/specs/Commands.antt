@@ -1,61 +1,21 @@
 -- What each command comes to when nothing fails.
-use Rattle.std.specs.Prelude.{◌≡◌, ◌<◌, ℕ, List, [], ◌∷◌, ◌++◌, length, decimal, Option, Some, None, codes, slice_get, option_to_list}
+use Rattle.std.specs.Prelude.{◌≡◌, ℕ, List, [], ◌∷◌, ◌++◌, length, decimal, Option, Some, None, codes, slice_get, option_to_list}
 use Rattle.outside.specs.Files.{Held}
 use Rattle.run_laws.specs.Runs.{Outcome, Ended}
 use Rattle.a64_machine.specs.State.{Trap}
 use Rattle.alloc_choice.specs.declared.choice.Choice.{Choice}
 use Rattle.program_image.specs.declared.imaging.Compiled.{Compiled}
-use Rattle.source_image.specs.Images.{IsImageOfTexts, AreTracesOfTexts}
-use Rattle.source_image.specs.Refusals.{IsRefusal, IsRefusalOfTraces}
-use Rattle.source_image.specs.declared.refusal.Refusal.{Refusal}
-use Rattle.source_image.specs.declared.refusal.Refusal.TheVariants.{TooLong, Source, Limit, Memory}
 use Rattle.bulk_text.specs.Bulk.{bulk_text}
-use Rattle.trc_words.specs.Asked.{Asked, Run, Build, Elf, Exec, Traces, Bulk, Help}
+use Rattle.batch_jobs.specs.Batches.{BatchComesTo}
+use Rattle.trc_words.specs.Asked.{Asked, Run, Build, Elf, Exec, Traces, Bulk, Batch, Help}
 use Rattle.trc_answers.specs.declared.causes.Cause.{Cause}
 use Rattle.trc_answers.specs.declared.causes.Cause.TheVariants as cause
 use Rattle.trc_answers.specs.Answers.{Devices, InputStays}
 use Rattle.trc_answers.specs.Reading.{FilesComeTo}
 use Rattle.trc_answers.specs.Runs.{run_of, cause_of_run}
 use Rattle.trc_answers.specs.Verdict.{Verdict, Refuses, Prints, World, IsHeld, FileComesTo, ImageComesTo, BytesComeTo, Written, WrittenElf, Renews}
+pub use Rattle.trc_texts.specs.Texts.{cause_of_refusal, NamesText, IsRefusedAs, AreRefused, TextsComeTo, HaveNoImage, HaveImage, TracesComeTo, HaveNoTraces, HaveTraces, IsTextIn}
 use Rattle.trc_cli.specs.declared.bulk.Counts.{Counts}
-
----- Texts
-
--- why texts have no image, as a cause
-abbrev pub cause_of_refusal : Refusal → Cause
-cause_of_refusal (TooLong m) = cause.Limit 55 m
-cause_of_refusal (Source m number at) = cause.Source number m at
-cause_of_refusal (Limit number index) = cause.Limit number index
-cause_of_refusal Memory = cause.Memory
-
--- the module that a refusal names is one of these texts
-abbrev pub NamesText : List (List ℕ) → Refusal → Type 0
-NamesText texts (TooLong m) = m < length texts
-NamesText texts (Source m number at) = m < length texts
-NamesText texts refusal = Unit {0}
-
--- texts are refused for this cause, want of memory among them, as this says why they are
-pub record IsRefusedAs (IsWhy : Refusal → Type 0) (cause : Cause) : Type 0 where
-  pub refusal : Refusal
-  pub is : IsWhy refusal
-  pub cause_is : cause ≡ cause_of_refusal refusal
-
--- texts break a rule, or their program passes a limit
-pub record AreRefused (IsWhy : Refusal → Type 0) (verdict : Verdict) : Type 0 where
-  pub refusal : Refusal
-  pub is : IsWhy refusal
-  pub tells : refusal ≡ Memory → ⊥
-  pub verdict_is : verdict ≡ Refuses (cause_of_refusal refusal)
-
--- texts are refused, or their image comes to something
-pub data TextsComeTo (choice : Choice) (next : Compiled → Verdict → Type 0) (texts : List (List ℕ)) (verdict : Verdict) : Type 0 where
-  HaveNoImage : AreRefused (IsRefusal choice texts) verdict → TextsComeTo choice next texts verdict
-  HaveImage : (made : Compiled) → IsImageOfTexts choice texts made → next made verdict → TextsComeTo choice next texts verdict
-
--- texts are refused, but never for their code, or their traces are told
-pub data TracesComeTo (choice : Choice) (texts : List (List ℕ)) (verdict : Verdict) : Type 0 where
-  HaveNoTraces : AreRefused (IsRefusalOfTraces choice texts) verdict → TracesComeTo choice texts verdict
-  HaveTraces : (lines : List ℕ) → AreTracesOfTexts choice texts lines → verdict ≡ Prints lines → TracesComeTo choice texts verdict
 
 ---- Made modules
 
@@ -86,7 +46,7 @@ SummaryComesTo steps made verdict = verdict ≡ told_of_run made (run_of made.im
 
 -- the lines of help
 abbrev pub help_lines : List ℕ
-help_lines = codes "trc run|build|elf|traces|exec|bulk|help" ++ (10 ∷ (codes "--policy --traces --regs --jobs --steps --from" ++ 10 ∷ []))
+help_lines = codes "trc run|build|elf|traces|exec|bulk|batch|help" ++ (10 ∷ (codes "--policy --traces --regs --jobs --steps --from" ++ 10 ∷ []))
 
 -- an image is built anew from that of an older file, which is the next that is read
 abbrev pub AnewComesTo : Option Held → Choice → (out from : List ℕ) (number : ℕ) → List (List ℕ) → Verdict → Type 0
@@ -101,6 +61,7 @@ RequestComesTo world (Elf out files choice) = FilesComeTo world.held files (Text
 RequestComesTo world (Exec image steps) = FileComesTo world.held 0 image (BytesComeTo world.left steps)
 RequestComesTo world (Traces files choice) = FilesComeTo world.held files (TracesComeTo choice)
 RequestComesTo world (Bulk seed size choice steps) = TextsComeTo choice (SummaryComesTo steps) (bulk_text seed size ∷ [])
+RequestComesTo world (Batch list choice steps) = BatchComesTo world.held choice steps list
 RequestComesTo world Help = λ verdict. verdict ≡ Prints help_lines
 
 -- what words come to that ask for this, or for nothing
@@ -147,11 +108,8 @@ names_read (Some (Elf out files choice)) = files
 names_read (Some (Exec image steps)) = image ∷ []
 names_read (Some (Traces files choice)) = files
 names_read (Some (Bulk seed size choice steps)) = []
+names_read (Some (Batch list choice steps)) = list ∷ []
 names_read (Some Help) = []
-
--- the text of this number
-abbrev pub IsTextIn : List (List ℕ) → ℕ → List ℕ → Type 0
-IsTextIn texts number text = slice_get texts number ≡ Some text
 
 -- the text that is held under the name of this number
 abbrev pub IsTextHeld : Option Held → List (List ℕ) → ℕ → List ℕ → Type 0

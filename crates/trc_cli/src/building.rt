@@ -10,7 +10,6 @@ ghost use Rattle.trc_answers.specs.Reading.{FilesComeTo};
 ghost use Rattle.trc_answers.specs.Verdict.{Renews, Written, WrittenElf, world};
 ghost use Rattle.trc_cli.specs.Commands.{AnewComesTo, IsTextHeld, IsTextIn, RequestComesTo, TextsComeTo};
 
-use crate::compiling::{Scaffolds, compile, image_alone};
 use items::Items;
 use outside::{Files, Gate};
 use source_image::Choice;
@@ -20,6 +19,7 @@ use std::thread::Threads;
 use trc_answers::{
     Ending, read_image_file, read_texts, renew_image_file, write_elf_file, write_image_file,
 };
+use trc_texts::{Scaffolds, compile, image_alone};
 
 // Compiles texts, and writes their image to the file of this name.
 fn build_texts<R: Threads + Wait + AllocGlobal + Sync, F: Files, G: Gate>(
@@ -40,7 +40,7 @@ fn build_texts<R: Threads + Wait + AllocGlobal + Sync, F: Files, G: Gate>(
     ensures placed { IsPlaced (IsTextIn texts.now) result.cause result.place }
     ensures rises { F.faults files.old ≤ F.faults files.new }
 {
-    match compile(rt, choice, texts, gate) {
+    match compile(rt, rt.alloc(), choice, texts, gate) {
         Ok(made) => {
             let image = image_alone(made, scaffolds);
             Ending::of(write_image_file(rt.alloc(), name, &image, files))
@@ -94,7 +94,7 @@ fn renew_texts<R: Threads + Wait + AllocGlobal + Sync, F: Files, G: Gate>(
     ensures placed { IsPlaced (IsTextIn texts.now) result.cause result.place }
     ensures rises { F.faults files.old ≤ F.faults files.new }
 {
-    match compile(rt, choice, texts, gate) {
+    match compile(rt, rt.alloc(), choice, texts, gate) {
         Ok(made) => {
             let image = image_alone(made, scaffolds);
             Ending::of(renew_image_file(rt.alloc(), name, bytes, &image, files))
@@ -222,7 +222,7 @@ fn elf_texts<R: Threads + Wait + AllocGlobal + Sync, F: Files, G: Gate>(
     ensures placed { IsPlaced (IsTextIn texts.now) result.cause result.place }
     ensures rises { F.faults files.old ≤ F.faults files.new }
 {
-    match compile(rt, choice, texts, gate) {
+    match compile(rt, rt.alloc(), choice, texts, gate) {
         Ok(made) => {
             let image = image_alone(made, scaffolds);
             Ending::of(write_elf_file(rt.alloc(), name, &image, files))

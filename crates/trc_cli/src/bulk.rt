@@ -11,7 +11,6 @@ ghost use Rattle.trc_answers.specs.Verdict.{Prints};
 ghost use Rattle.trc_cli.specs.Commands.{IsTextIn, SummaryComesTo, TextsComeTo, count_line, counts_of, counts_text, summary_of};
 ghost use Rattle.trc_cli.specs.declared.bulk.Counts.{Counts};
 
-use crate::compiling::{Scaffolds, compile, image_alone};
 use bulk_text::bulk_text;
 use items::Items;
 use memory_devices::MemSink;
@@ -21,6 +20,7 @@ use std::alloc::{AllocError, AllocGlobal, Global};
 use std::sync::Wait;
 use std::thread::Threads;
 use trc_answers::{Cause, Ending, print, run_on};
+use trc_texts::{Scaffolds, compile, image_alone};
 
 /// How much a made module may write; it writes one number and a line's end.
 const ROOM: usize = 4096;
@@ -145,7 +145,7 @@ pub(crate) fn bulk<R: Threads + Wait + AllocGlobal + Sync, O: Sink, G: Gate>(
     let Ok(text) = bulk_text(rt.alloc(), seed, size) else {
         return Ending::of(Cause::Memory);
     };
-    match compile(rt, choice, &[Items::from_vec(text)], gate) {
+    match compile(rt, rt.alloc(), choice, &[Items::from_vec(text)], gate) {
         Ok(made) => Ending::of(run_and_tell(rt.alloc(), made, steps, out, scaffolds)),
         Err(ending) => ending,
     }

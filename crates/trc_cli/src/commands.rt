@@ -10,19 +10,20 @@ ghost use Rattle.trc_answers.specs.Verdict.{world};
 
 use crate::building::{build_from, elf};
 use crate::bulk::bulk;
-use crate::compiling::Scaffolds;
 use crate::running::run;
 use crate::tracing::traces;
+use batch_jobs::batch;
 use outside::{Files, Gate, Sink, Source};
 use std::alloc::{AllocError, AllocGlobal, Global};
 use std::sync::Wait;
 use std::thread::Threads;
 use trc_answers::{Ending, exec, print};
+use trc_texts::Scaffolds;
 use trc_words::Request;
 
 /// The lines of `help`.
 const HELP: &[u8] =
-    b"trc run|build|elf|traces|exec|bulk|help\n--policy --traces --regs --jobs --steps --from\n";
+    b"trc run|build|elf|traces|exec|bulk|batch|help\n--policy --traces --regs --jobs --steps --from\n";
 
 /// Some names, and one more where there is one.
 fn names_with<'a>(
@@ -50,6 +51,7 @@ pub(crate) fn names_of<'a>(alloc: Global, request: &Request<'a>) -> Result<Vec<&
         Request::Traces { files, .. } => Vec::from_slice(alloc, files.as_slice()),
         Request::Exec { image, .. } => Vec::from_slice(alloc, &[*image]),
         Request::Bulk { .. } => Ok(Vec::new(alloc)),
+        Request::Batch { list, .. } => Vec::from_slice(alloc, &[*list]),
         Request::Help => Ok(Vec::new(alloc)),
     }
 }
@@ -134,6 +136,11 @@ pub(crate) fn perform<
             choice,
             steps,
         } => bulk(rt, *seed, *size, choice, *steps, out, gate, scaffolds),
+        Request::Batch {
+            list,
+            choice,
+            steps,
+        } => Ending::of(batch(rt, list, choice, *steps, files, out, gate)),
         Request::Help => Ending::of(print(out, HELP)),
     }
 }

@@ -1,8 +1,8 @@
 //! The command line: the top call, which the program makes with its words and the world's devices.
 //!
 //! `trc` does what its words ask for: it compiles modules and runs their image, writes the image or its native program to a file,
-//! tells the traces, runs the image that a file holds, makes a module and runs it, or tells the commands; and it answers a cause and a
-//! status.
+//! tells the traces, runs the image that a file holds, makes a module and runs it, answers
+//! a batch of jobs, or tells the commands; and it answers a cause and a status.
 //! `specs/Commands.antt` says what words come to when nothing fails; what is answered then is that, a read fault, a write fault, or
 //! want of memory (`trc_answers`). The clauses of `trc` say so, and what is told on the error sink.
 #![tactic(auto)]
@@ -10,7 +10,6 @@
 mod building;
 mod bulk;
 mod commands;
-mod compiling;
 mod laws;
 mod program;
 mod running;

@@ -9,7 +9,6 @@ ghost use Rattle.trc_answers.specs.Reading.{FilesComeTo};
 ghost use Rattle.trc_answers.specs.Verdict.{ImageComesTo};
 ghost use Rattle.trc_cli.specs.Commands.{IsTextHeld, IsTextIn, TextsComeTo};
 
-use crate::compiling::{Scaffolds, compile, image_alone};
 use items::Items;
 use outside::{Files, Gate, Sink, Source};
 use source_image::Choice;
@@ -17,6 +16,7 @@ use std::alloc::AllocGlobal;
 use std::sync::Wait;
 use std::thread::Threads;
 use trc_answers::{Ending, read_texts, run_image};
+use trc_texts::{Scaffolds, compile, image_alone};
 
 // Compiles texts, and runs their image.
 fn run_texts<R: Threads + Wait + AllocGlobal + Sync, I: Source, O: Sink, G: Gate>(
@@ -39,7 +39,7 @@ fn run_texts<R: Threads + Wait + AllocGlobal + Sync, I: Source, O: Sink, G: Gate
     ensures input_rises { I.faults input.old ≤ I.faults input.new }
     ensures out_rises { (O.account out.old).faults ≤ (O.account out.new).faults }
 {
-    match compile(rt, choice, texts, gate) {
+    match compile(rt, rt.alloc(), choice, texts, gate) {
         Ok(made) => {
             let image = image_alone(made, scaffolds);
             Ending::of(run_image(rt.alloc(), image, steps, input, out))

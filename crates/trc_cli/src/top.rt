@@ -12,12 +12,12 @@ ghost use Rattle.trc_cli.specs.Did.{Did};
 ghost use Rattle.trc_cli.specs.Lines.{IsTold};
 
 use crate::commands::{names_of, perform};
-use crate::compiling::Scaffolds;
 use outside::{Files, Gate, Sink, Source};
 use std::alloc::AllocGlobal;
 use std::sync::Wait;
 use std::thread::Threads;
 use trc_answers::{Cause, Ending, Outcome, report, status};
+use trc_texts::Scaffolds;
 use trc_words::{Request, WordsFault, read_words};
 
 /// Tells how a command ended on the error sink, whose fault changes nothing, and gives the cause with its status. The names are
@@ -113,6 +113,7 @@ pub(crate) fn call<
 /// - `traces FILE {FILE}` tells the traces of the modules' procedures;
 /// - `exec IMAGE` runs the image that the file holds;
 /// - `bulk SEED SIZE` makes a module of SIZE procedures, compiles and runs it, and tells what came of it;
+/// - `batch LIST` answers the jobs of the list that the file holds, each as `run` does on empty input, and prints the replies;
 /// - `help` tells the commands;
 ///
 /// with the options `--policy`, `--traces`, `--regs`, `--jobs` and `--steps`. One line is written to `err` for each cause but Done. All

@@ -7,12 +7,12 @@ ghost use Rattle.trc_answers.specs.Causes.{IsPlaced};
 ghost use Rattle.trc_answers.specs.Reading.{FilesComeTo};
 ghost use Rattle.trc_cli.specs.Commands.{IsTextHeld, IsTextIn, TracesComeTo};
 
-use crate::compiling::trace_lines;
 use items::Items;
 use outside::{Files, Sink};
 use source_image::Choice;
 use std::alloc::Global;
 use trc_answers::{Ending, print, read_texts};
+use trc_texts::trace_lines;
 
 // Tells the traces of texts.
 fn trace_texts<O: Sink>(alloc: Global, texts: &[Items<u8>], choice: &Choice, out: &mut O) -> Ending

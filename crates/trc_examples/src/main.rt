@@ -14,7 +14,7 @@ use trc_cli::trc;
 
 /// The words of each call, and its input: each example, some with other policies and fewer registers, an example that is
 /// named before the module that it imports, and a file that isn't there.
-const CALLS: [(&str, &str); 31] = [
+const CALLS: [(&str, &str); 32] = [
     ("help", ""),
     ("run Answer.Mod", ""),
     ("run Squares.Mod", ""),
@@ -49,6 +49,7 @@ const CALLS: [(&str, &str); 31] = [
     ("run Answer.Mod --steps 15", ""),
     ("traces Gcd.Mod", ""),
     ("bulk 7 20", ""),
+    ("batch batch.txt", ""),
     ("run UseStack.Mod Stack.Mod", ""),
     ("run Missing.Mod", ""),
     ("elf answer Missing.Mod", ""),

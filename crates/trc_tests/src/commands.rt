@@ -231,7 +231,7 @@ fn words_and_files_are_refused(rt: HostRuntime) -> Result<(), Fail> {
     wants(&rt, &["exec", "Missing.Mod"], &mut files, b"", missing)?;
     let help = Wanted {
         status: 0,
-        out: "trc run|build|elf|traces|exec|bulk|help\n--policy --traces --regs --jobs --steps --from\n",
+        out: "trc run|build|elf|traces|exec|bulk|batch|help\n--policy --traces --regs --jobs --steps --from\n",
         err: "",
     };
     wants(&rt, &["help"], &mut files, b"", help)
@@ -702,6 +702,44 @@ fn limits_are_told(rt: HostRuntime) -> Result<(), Fail> {
         b"",
         refused(4, "trc: no file A\n"),
     )
+}
+
+#[test]
+fn a_batch_is_answered(rt: HostRuntime) -> Result<(), Fail> {
+    let mut files = two_modules(&rt)?;
+    files.put(
+        "LIST",
+        b"0 A.Mod B.Mod\n1 A.Mod C.Mod\n0 Missing.Mod\n1 A.Mod\n",
+    )?;
+    let answered = Wanted {
+        status: 0,
+        out: "0 0 0 6\n6  14\n0 1 4 0\n1 0 2 0\n1 1 0 0\n",
+        err: "",
+    };
+    wants(&rt, &["batch", "LIST"], &mut files, b"", answered)?;
+    let usage = refused(1, "trc: usage\n");
+    wants(&rt, &["batch", "LIST", "L"], &mut files, b"", usage)?;
+    wants(&rt, &["batch"], &mut files, b"", usage)
+}
+
+#[test]
+fn batches_are_refused(rt: HostRuntime) -> Result<(), Fail> {
+    let mut files = two_modules(&rt)?;
+    let missing = refused(4, "trc: no file L\n");
+    wants(&rt, &["batch", "L"], &mut files, b"", missing)?;
+    files.put("L", b"0 A.Mod\n2 A.Mod\n")?;
+    let bad = refused(1, "trc: bad line 2\n");
+    wants(&rt, &["batch", "L"], &mut files, b"", bad)?;
+    files.put("L", "0 A.Mod\n".repeat(rt.alloc(), 1025)?.as_bytes())?;
+    let jobs = refused(3, "trc: limit 69 Jobs at 0\n");
+    wants(&rt, &["batch", "L"], &mut files, b"", jobs)?;
+    files.put("L", vec![in rt.alloc(); b'0'; 1_048_577]?.as_slice())?;
+    let long = refused(3, "trc: limit 55 Source at 0\n");
+    wants(&rt, &["batch", "L"], &mut files, b"", long)?;
+    files.put("S", vec![in rt.alloc(); b' '; 1_048_576]?.as_slice())?;
+    files.put("L", "0 S\n".repeat(rt.alloc(), 65)?.as_bytes())?;
+    let sources = refused(3, "trc: limit 70 JobBytes at 0\n");
+    wants(&rt, &["batch", "L"], &mut files, b"", sources)
 }
 
 // Two workers are inside at once, each at a trace of its own.

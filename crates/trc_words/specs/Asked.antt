@@ -4,7 +4,7 @@ use Rattle.std.specs.Str.{bytes_eq}
 use Rattle.clap.specs.Words.{App, Row, all_of, fault_of, first_of, matches_of}
 use Rattle.clap.specs.Kinds.{Kinds}
 use Rattle.alloc_choice.specs.declared.choice.Choice.{Choice}
-use Rattle.trc_words.specs.Commands.{run_command, build_command, elf_command, exec_command, traces_command, bulk_command, help_command}
+use Rattle.trc_words.specs.Commands.{run_command, build_command, elf_command, exec_command, traces_command, bulk_command, batch_command, help_command}
 use Rattle.trc_words.specs.Numbers.{number_between}
 use Rattle.trc_words.specs.Options.{choice_in, given, steps_in, traces_choice_in}
 
@@ -15,6 +15,7 @@ pub data Asked : Type 0 where
   Exec : (image : List ℕ) (steps : ℕ) → Asked
   Traces : (files : List (List ℕ)) (choice : Choice) → Asked
   Bulk : (seed size : ℕ) (choice : Choice) (steps : ℕ) → Asked
+  Batch : (list : List ℕ) (choice : Choice) (steps : ℕ) → Asked
   Help : Asked
 
 -- a list that isn't empty
@@ -60,6 +61,11 @@ bulk_asked rows =
     given (seed_in rows) (λ seed. given (size_in rows) (λ size.
     given (choice_in rows) (λ choice. given (steps_in rows) (λ steps. Some (Bulk seed size choice steps)))))
 
+abbrev pub batch_asked : List Row → Option Asked
+batch_asked rows =
+    given (first_of (codes "LIST") rows) (λ list.
+    given (choice_in rows) (λ choice. given (steps_in rows) (λ steps. Some (Batch list choice steps))))
+
 abbrev pub help_asked : List Row → Option Asked
 help_asked rows = Some Help
 
@@ -81,8 +87,9 @@ asked_of command words =
     else (if bytes_eq command (codes "exec") then taken exec_command words exec_asked
     else (if bytes_eq command (codes "traces") then taken traces_command words traces_asked
     else (if bytes_eq command (codes "bulk") then taken bulk_command words bulk_asked
+    else (if bytes_eq command (codes "batch") then taken batch_command words batch_asked
     else (if bytes_eq command (codes "help") then taken help_command words help_asked
-    else None))))))
+    else None)))))))
 
 -- what words ask for, or nothing where they are refused
 abbrev pub asked : List (List ℕ) → Option Asked

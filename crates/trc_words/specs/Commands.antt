@@ -64,6 +64,10 @@ abbrev pub bulk_command : App
 bulk_command =
     with_run (with_argument (with_argument (new_app (codes "bulk")) (codes "SEED")) (codes "SIZE"))
 
+-- batch LIST [--policy NAME] [--traces NAME] [--regs N] [--jobs N] [--steps N]
+abbrev pub batch_command : App
+batch_command = with_run (with_argument (new_app (codes "batch")) (codes "LIST"))
+
 -- help
 abbrev pub help_command : App
 help_command = new_app (codes "help")

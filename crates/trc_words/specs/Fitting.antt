@@ -1,7 +1,7 @@
 -- What holds of all that words can ask for.
 use Rattle.std.specs.Prelude.{◌≤◌, length}
 use Rattle.alloc_choice.specs.Choice.{IsFitChoice}
-use Rattle.trc_words.specs.Asked.{Asked, Run, Build, Elf, Exec, Traces, Bulk, Help}
+use Rattle.trc_words.specs.Asked.{Asked, Run, Build, Elf, Exec, Traces, Bulk, Batch, Help}
 
 -- at least one file is named, a choice and the size of a made module are in their range
 abbrev pub Fits : Asked → Type 0
@@ -12,4 +12,5 @@ Fits (Exec image steps) = steps ≤ 1000000000000000
 Fits (Traces files choice) = (1 ≤ length files) × IsFitChoice choice
 Fits (Bulk seed size choice steps) =
     (seed ≤ 9223372036854775807) × (1 ≤ size) × (size ≤ 1000) × IsFitChoice choice × (steps ≤ 1000000000000000)
+Fits (Batch list choice steps) = IsFitChoice choice × (steps ≤ 1000000000000000)
 Fits Help = Unit {0}

@@ -4,7 +4,7 @@ use Rattle.std.specs.Borrow.{Bor}
 use Rattle.trc_words.specs.Asked.{Asked}
 use Rattle.trc_words.specs.Asked as asked
 use Rattle.trc_words.specs.declared.asked.Request.{Request}
-use Rattle.trc_words.specs.declared.asked.Request.TheVariants.{Run, Build, Elf, Exec, Traces, Bulk, Help}
+use Rattle.trc_words.specs.declared.asked.Request.TheVariants.{Run, Build, Elf, Exec, Traces, Bulk, Batch, Help}
 use Rattle.trc_words.specs.declared.asked.WordsFault.{WordsFault}
 use Rattle.trc_words.specs.declared.asked.WordsFault.TheVariants.{Usage, Memory}
 
@@ -20,6 +20,7 @@ plain (Elf out files choice) = asked.Elf out.now (texts files.items) choice
 plain (Exec image steps) = asked.Exec image.now steps
 plain (Traces files choice) = asked.Traces (texts files.items) choice
 plain (Bulk seed size choice steps) = asked.Bulk seed size choice steps
+plain (Batch list choice steps) = asked.Batch list.now choice steps
 plain Help = asked.Help
 
 module _ {A B : Type 0} where

@@ -53,6 +53,12 @@ pub enum Request<'a> {
         choice: Choice,
         steps: u64,
     },
+    /// Answer the jobs of the list that a file holds.
+    Batch {
+        list: &'a str,
+        choice: Choice,
+        steps: u64,
+    },
     /// Tell the commands and their options.
     Help,
 }

@@ -3,7 +3,7 @@
 ghost use Rattle.std.specs.Prelude.{◌≡◌, map, string_bytes, true, IfOk};
 ghost use Rattle.clap.specs.Words.{app_of};
 ghost use Rattle.clap.specs.Faults.{is_simple_and_free};
-ghost use Rattle.trc_words.specs.Commands.{run_command, build_command, elf_command, exec_command, traces_command, bulk_command, help_command};
+ghost use Rattle.trc_words.specs.Commands.{run_command, build_command, elf_command, exec_command, traces_command, bulk_command, batch_command, help_command};
 ghost use Rattle.trc_words.specs.Taking.{IsTakenBy};
 
 use crate::arguments::{
@@ -76,6 +76,14 @@ fn bulk_command<'a>(alloc: Global) -> Result<Command<'a>, AllocError>
     with_run(alloc, command)
 }
 
+/// `batch LIST`, with all options of `run`
+fn batch_command<'a>(alloc: Global) -> Result<Command<'a>, AllocError>
+    ensures { IfOk result (λ command. app_of command ≡ batch_command) }
+{
+    let command = with_argument(alloc, Command::new(alloc, "batch"), "LIST")?;
+    with_run(alloc, command)
+}
+
 /// What `run` makes of words.
 pub(crate) fn run<'a>(alloc: Global, words: &'a [String]) -> Result<ArgMatches<'a>, WordsFault>
     ensures { IsTakenBy run_command (map string_bytes words.entry.now) result }
@@ -121,6 +129,14 @@ pub(crate) fn bulk<'a>(alloc: Global, words: &'a [String]) -> Result<ArgMatches<
     ensures { IsTakenBy bulk_command (map string_bytes words.entry.now) result }
 {
     let command = bulk_command(alloc)?;
+    matches(command, words)
+}
+
+/// What `batch` makes of words.
+pub(crate) fn batch<'a>(alloc: Global, words: &'a [String]) -> Result<ArgMatches<'a>, WordsFault>
+    ensures { IsTakenBy batch_command (map string_bytes words.entry.now) result }
+{
+    let command = batch_command(alloc)?;
     matches(command, words)
 }
 

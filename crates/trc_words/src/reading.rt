@@ -1,8 +1,8 @@
 //! From words to what they ask for.
 
 ghost use Rattle.std.specs.Prelude.{map, string_bytes, IfOk, ◌≡◌};
-ghost use Rattle.trc_words.specs.Asked.{asked, asked_of, files_in, seed_in, size_in, taken, run_asked, build_asked, elf_asked, exec_asked, traces_asked, bulk_asked, help_asked};
-ghost use Rattle.trc_words.specs.Commands.{run_command, build_command, elf_command, exec_command, traces_command, bulk_command, help_command};
+ghost use Rattle.trc_words.specs.Asked.{asked, asked_of, files_in, seed_in, size_in, taken, run_asked, build_asked, elf_asked, exec_asked, traces_asked, bulk_asked, batch_asked, help_asked};
+ghost use Rattle.trc_words.specs.Commands.{run_command, build_command, elf_command, exec_command, traces_command, bulk_command, batch_command, help_command};
 ghost use Rattle.trc_words.specs.Fitting.{Fits};
 ghost use Rattle.trc_words.specs.Requests.{Asks, Shows, plain, texts};
 ghost use Rattle.clap.specs.Words.{found_of, rows_of};
@@ -111,6 +111,20 @@ fn bulk_request<'a>(matches: &ArgMatches<'a>) -> Result<Request<'a>, WordsFault>
     })
 }
 
+/// What the matches of `batch` ask for.
+fn batch_request<'a>(matches: &ArgMatches<'a>) -> Result<Request<'a>, WordsFault>
+    ensures { Asks (batch_asked (rows_of (found_of matches.now))) result }
+{
+    let list = value(matches, "LIST").ok_or(WordsFault::Usage)?;
+    let choice = choice(matches).ok_or(WordsFault::Usage)?;
+    let steps = steps(matches).ok_or(WordsFault::Usage)?;
+    Ok(Request::Batch {
+        list,
+        choice,
+        steps,
+    })
+}
+
 /// What words ask for that begin with `run`.
 fn run<'a>(alloc: Global, words: &'a [String]) -> Result<Request<'a>, WordsFault>
     ensures { Asks (taken run_command (map string_bytes words.entry.now) run_asked) result }
@@ -159,6 +173,14 @@ fn bulk<'a>(alloc: Global, words: &'a [String]) -> Result<Request<'a>, WordsFaul
     bulk_request(&matches)
 }
 
+/// What words ask for that begin with `batch`.
+fn batch<'a>(alloc: Global, words: &'a [String]) -> Result<Request<'a>, WordsFault>
+    ensures { Asks (taken batch_command (map string_bytes words.entry.now) batch_asked) result }
+{
+    let matches = commands::batch(alloc, words)?;
+    batch_request(&matches)
+}
+
 /// What words ask for that begin with `help`.
 fn help<'a>(alloc: Global, words: &'a [String]) -> Result<Request<'a>, WordsFault>
     ensures { Asks (taken help_command (map string_bytes words.entry.now) help_asked) result }
@@ -178,6 +200,7 @@ fn of_command<'a>(alloc: Global, name: &str, words: &'a [String]) -> Result<Requ
         "exec" => exec(alloc, words),
         "traces" => traces(alloc, words),
         "bulk" => bulk(alloc, words),
+        "batch" => batch(alloc, words),
         "help" => help(alloc, words),
         _ => Err(WordsFault::Usage),
     }

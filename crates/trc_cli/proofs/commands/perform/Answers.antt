@@ -21,5 +21,8 @@ returns-in-Traces-clause-answers g c = rw (c.in-Traces.is, ← c.as_slice-in-Tra
 pub returns-in-Bulk-clause-answers : goal.returns-in-Bulk-clause-answers
 returns-in-Bulk-clause-answers g c = rw c.in-Bulk.is (c.bulk.ensures.answers _ _ _ _)
 
+pub returns-in-Batch-clause-answers : goal.returns-in-Batch-clause-answers
+returns-in-Batch-clause-answers g c = rw (c.in-Batch.is, c.of-in-Batch.ensures) (c.batch.ensures.answers _ _)
+
 pub returns-in-Help-clause-answers : goal.returns-in-Help-clause-answers
 returns-in-Help-clause-answers g c = rw (c.in-Help.is, c.of-in-Help.ensures) (prints _ help_lines _ _ _ _ _ _ _ refl c.print.ensures.answers)

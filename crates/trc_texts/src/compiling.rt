@@ -6,19 +6,19 @@ ghost use Rattle.source_image.specs.Images.{IsImageOfTexts, AreTracesOfTexts};
 ghost use Rattle.source_image.specs.Refusals.{IsRefusal, IsRefusalOfTraces};
 ghost use Rattle.trc_answers.specs.Causes.{IsPlaced};
 ghost use Rattle.trc_answers.specs.declared.causes.Cause.TheVariants as cause;
-ghost use Rattle.trc_cli.specs.Commands.{IsRefusedAs, IsTextIn, NamesText, cause_of_refusal};
+ghost use Rattle.trc_texts.specs.Texts.{IsRefusedAs, IsTextIn, NamesText, cause_of_refusal};
 
 use items::Items;
 use outside::Gate;
 use source_image::{Choice, Compiled, Image, Refusal, source_image, source_traces};
-use std::alloc::{AllocGlobal, Global};
+use std::alloc::Global;
 use std::sync::Wait;
 use std::thread::Threads;
 use trc_answers::{Cause, Ending, position_of};
 
 /// What becomes of what an image was made on.
 #[derive(Clone, Copy)]
-pub(crate) enum Scaffolds {
+pub enum Scaffolds {
     /// It is let go, piece by piece.
     LetGo,
     /// It is left standing, in a process that ends soon.
@@ -26,7 +26,7 @@ pub(crate) enum Scaffolds {
 }
 
 /// The image alone.
-pub(crate) fn image_alone(made: Compiled, scaffolds: Scaffolds) -> Image
+pub fn image_alone(made: Compiled, scaffolds: Scaffolds) -> Image
     ensures { result ≡ made.image }
 {
     match scaffolds {
@@ -55,8 +55,8 @@ fn broken(texts: &[Items<u8>], index: usize, number: u8, at: u32) -> Ending
     }
 }
 
-/// How a command ends that compiles these texts, of which there is no image, or no traces.
-pub(crate) fn refused(texts: &[Items<u8>], refusal: Refusal) -> Ending
+// How a command ends that compiles these texts, of which there is no image, or no traces.
+fn refused(texts: &[Items<u8>], refusal: Refusal) -> Ending
     requires few { length texts.now ≤ 64 }
     requires named { NamesText texts.now refusal }
     ensures cause { result.cause ≡ cause_of_refusal refusal }
@@ -74,8 +74,9 @@ pub(crate) fn refused(texts: &[Items<u8>], refusal: Refusal) -> Ending
 }
 
 /// The image of texts by a choice, of which there are at most 64.
-pub(crate) fn compile<R: Threads + Wait + AllocGlobal + Sync, G: Gate>(
+pub fn compile<R: Threads + Wait + Sync, G: Gate>(
     rt: &R,
+    alloc: Global,
     choice: &Choice,
     texts: &[Items<u8>],
     gate: &G,
@@ -86,18 +87,14 @@ pub(crate) fn compile<R: Threads + Wait + AllocGlobal + Sync, G: Gate>(
     ensures refused { IfErr result (λ ending. IsRefusedAs (IsRefusal choice.now texts.now) ending.cause) }
     ensures placed { IfErr result (λ ending. IsPlaced (IsTextIn texts.now) ending.cause ending.place) }
 {
-    match source_image(rt, rt.alloc(), choice, texts, gate) {
+    match source_image(rt, alloc, choice, texts, gate) {
         Ok(made) => Ok(made),
         Err(refusal) => Err(refused(texts, refusal)),
     }
 }
 
 /// The lines that tell the traces of texts by a choice, of which there are at most 64.
-pub(crate) fn trace_lines(
-    alloc: Global,
-    choice: &Choice,
-    texts: &[Items<u8>],
-) -> Result<Vec<u8>, Ending>
+pub fn trace_lines(alloc: Global, choice: &Choice, texts: &[Items<u8>]) -> Result<Vec<u8>, Ending>
     requires { length texts.now ≤ 64 }
     ensures lines { IfOk result (λ lines. AreTracesOfTexts choice.now texts.now lines.items) }
     ensures refused { IfErr result (λ ending. IsRefusedAs (IsRefusalOfTraces choice.now texts.now) ending.cause) }

@@ -1,0 +1,5 @@
+pub mod Jobs
+pub mod Sources
+pub mod Found
+pub mod Replies
+pub mod Batches
