@@ -5,7 +5,7 @@
 
 Writes `stdin` and `stdout` into FOLDER (that crate's, if none is given): worked programs, the modules of bench/rows with one choice
 of policy, traces and registers after another, made modules, commands with their options, files that aren't there, limits, each trap
-in a procedure of an imported module, images that are built anew from those of version 1, batches, and the bytes of the smallest image of each
+in a procedure of an imported module, images that are built anew from those of version 1, notes and their audits, batches, and the bytes of the smallest image of each
 version, cut off at each place and changed at each. bench/other_compiler.py says where the other compiler is; how lines are written is
 said in crates/trc_vectors.
 """
@@ -17,8 +17,9 @@ from module_texts import pieces_of, row_files
 import image  # noqa: E402
 import trc  # noqa: E402
 
-# What the other compiler has: images of version 2, with cells of eight bytes and 4,000 values; and batches.
+# What the other compiler has: images of version 2, with cells of eight bytes and 4,000 values; notes; and batches.
 STAGE = ['--stage', '=12,15']
+NOTES = ['--stage', '=12,15,17']
 BATCHES = ['--stage', '=12,15,20']
 
 CHOICES = list(itertools.product(['plain', 'linear', 'bottomup', 'mixed'], ['bi', 'uni'], ['16', '4', '8']))
@@ -103,6 +104,10 @@ def commands():
                   'run M.Mod --regs 17', 'run M.Mod --regs 04', 'run M.Mod --traces tri', 'run M.Mod --jobs 0', 'run M.Mod --jobs 65',
                   'run M.Mod --jobs 64', 'run M.Mod --steps 15', 'run M.Mod --steps=16', 'run M.Mod --steps 1000000000000001',
                   'run M.Mod --steps x', 'run --steps 16 M.Mod', 'run -- M.Mod', 'run M.Mod --', 'run M.Mod --help', 'traces M.Mod --regs 4',
+                  'audit', 'audit A', 'audit A B', 'audit A B M.Mod', 'audit A M.Mod M.Mod', 'audit A B M.Mod --regs 3', 'audit A B M.Mod --traces tri',
+                  'audit A B M.Mod --jobs 2', 'audit A B M.Mod --policy plain', 'audit A B M.Mod --steps 3', 'audit A B M.Mod --from B',
+                  'audit A B M.Mod --notes B', 'build A M.Mod --notes', 'build A M.Mod --notes N', 'build A M.Mod --notes N --notes N', 'run M.Mod --notes N',
+                  'elf A M.Mod --notes N', 'build A M.Mod --notes N --from A',
                   'build A M.Mod --steps 4', 'exec A --policy plain', 'build A M.Mod', 'build A M.Mod --policy plain --regs 4'):
         yield words.split(' '), text, b''
 
@@ -154,6 +159,11 @@ def built_of(words, files):
     return bytes(trc.Run(STAGE + words, dict(files), b'').files[words[1]])
 
 
+def notes_of(words, files):
+    """The notes that a call of `build --notes N` writes; none where it is refused."""
+    return bytes(trc.Run(NOTES + words, dict(files), b'').files.get('N', b''))
+
+
 def first_of(data):
     """The image of these bytes, in version 1."""
     i = image.read_image(data, (1, 2), True)
@@ -179,6 +189,39 @@ def anew():
         yield words.split(' '), whole, b''
     for n in list(range(32)) + list(range(32, len(first), 16)):
         yield ['build', 'O', 'M.Mod', '--from', 'M1'], dict(files, M1=first[:n] + bytes([first[n] ^ 0x41]) + first[n + 1:]), b''
+
+
+def audits():
+    """Notes of forty lists of modules, each written and audited; of small modules cut off and changed at many of their bytes; others that are unsound."""
+    pieces = [texts for name in row_files() if not os.path.dirname(name) for _, texts in pieces_of(name)]
+    found = 0
+    for sources, (policy, traces, regs) in zip(pieces[::3], itertools.cycle(CHOICES[::-1])):
+        names = ['M%d.Mod' % i for i in range(len(sources))]
+        files, options = dict(zip(names, sources)), ['--traces', traces, '--regs', regs]
+        build = ['build', 'O', *names, '--policy', policy, *options, '--notes', 'N']
+        notes = notes_of(build, files)
+        if notes and found < 40 and len(notes) < 4000:
+            found += 1
+            yield build, files, b''
+            yield ['audit', 'O', 'N', *names, *options], dict(files, N=notes), b''
+            yield ['audit', 'O', 'N', *names, '--traces', traces, '--regs', '4'], dict(files, N=notes), b''
+            yield ['audit', 'O', 'N', *names, '--traces', 'bi' if traces == 'uni' else 'uni', '--regs', regs], dict(files, N=notes), b''
+    files = {'E.Mod': b'MODULE E; END E.', 'M.Mod': module('Out.Int(6*7, 0); Out.Ln').encode(), 'F.Mod': b'MODULE F; BEGIN x END F.',
+             'L.Mod': b'MODULE T; VAR i: INTEGER; BEGIN REPEAT i := i + 1 UNTIL i = 5 END T.'}
+    empty, small, loop = (notes_of(['build', 'O', name, '--notes', 'N'], files) for name in ('E.Mod', 'M.Mod', 'L.Mod'))
+    whole = dict(files, NE=empty, NM=small, NL=loop, None_=b'', More=small + b'\0', Image=built_of(['build', 'A', 'M.Mod'], files),
+                 M1=first_of(built_of(['build', 'A', 'M.Mod'], files)))
+    for words in ('audit O NM M.Mod', 'audit NM NM M.Mod', 'audit M.Mod NM M.Mod', 'audit O NE E.Mod', 'audit O NE M.Mod', 'audit O NM E.Mod', 'audit O NL L.Mod',
+                  'audit O NM L.Mod', 'audit O NL M.Mod', 'audit O None_ M.Mod', 'audit O More M.Mod', 'audit O Image M.Mod', 'audit O M.Mod M.Mod', 'audit O Gone M.Mod',
+                  'audit O Gone F.Mod', 'audit O Gone Away.Mod', 'audit O NM Away.Mod', 'audit O NM M.Mod Away.Mod', 'audit O NM F.Mod', 'audit O None_ F.Mod', 'audit O NM M.Mod M.Mod',
+                  'audit O NM M.Mod E.Mod', 'audit O NM ' + ' '.join(['M.Mod'] * 65), 'audit O Gone ' + ' '.join(['M.Mod'] * 65), 'audit O NM ' + ' '.join(['M.Mod'] * 64),
+                  'build O M.Mod --notes O', 'build O M.Mod --notes M.Mod', 'build O M.Mod --from M1 --notes N', 'build M1 M.Mod --from M1 --notes M1',
+                  'build O E.Mod --from M1 --notes N', 'build O F.Mod --notes N', 'build O Away.Mod --notes N', 'build O E.Mod M.Mod L.Mod --notes N --jobs 3'):
+        yield words.split(' '), whole, b''
+    for n in itertools.chain(range(16), range(16, len(small), 29)):
+        yield ['audit', 'O', 'N', 'M.Mod'], dict(files, N=small[:n]), b''
+    for n in itertools.chain(range(8), range(8, len(loop), 4)):
+        yield ['audit', 'O', 'N', 'L.Mod'], dict(files, N=loop[:n] + bytes([loop[n] ^ (1 if n % 8 else 3)]) + loop[n + 1:]), b''
 
 
 def batches():
@@ -259,19 +302,27 @@ def line(words, files, given):
     return '\t'.join(fields + (['<' + written(given)] if given else [])) + '\n'
 
 
+def stage_of(words):
+    if words[0] == 'audit' or '--notes' in words:
+        return NOTES
+    return BATCHES if words[0] == 'batch' else STAGE
+
+
 def answer(words, files, given):
-    """What a call prints. The other compiler has no `elf`: it is refused as `build` is, but for `--from`, and its bytes aren't printed."""
-    asked = ['build' if words[0] == 'elf' and '--from' not in words else words[0]] + words[1:]
-    call = trc.Run((BATCHES if words[0] == 'batch' else STAGE) + ([] if asked == [''] else asked), dict(files), given)
-    call.out = call.out.replace(b'run|build|traces', b'run|build|elf|traces').replace(b'bulk|help', b'bulk|batch|help')
+    """What a call prints. The other compiler has no `elf`: it is refused as `build` is, but for `--from` and `--notes`, and its bytes aren't printed."""
+    asked = ['build' if words[0] == 'elf' and '--from' not in words and '--notes' not in words else words[0]] + words[1:]
+    call = trc.Run(stage_of(words) + ([] if asked == [''] else asked), dict(files), given)
+    call.out = call.out.replace(b'run|build|traces', b'run|build|elf|traces').replace(b'bulk|help', b'bulk|audit|batch|help').replace(b'--steps --from\n', b'--steps --from --notes\n')
     told = written((call.err + '\n').encode()) if call.err else ''
-    built = written(call.files[words[1]]) if words[0] == 'build' and len(words) > 1 and words[1] in call.files else ''
-    return '%d %s | %s%s\n' % (call.status, written(bytes(call.out)), told, built)
+    wrote = written(call.files[words[1]]) if words[0] in ('build', 'audit') and len(words) > 1 and words[1] in call.files else ''
+    if words[0] == 'build' and '--notes' in words[:-1]:
+        wrote += ' ' + written(call.files.get(words[words.index('--notes') + 1], b''))
+    return '%d %s | %s%s\n' % (call.status, written(bytes(call.out)), told, wrote)
 
 
 def main():
     folder = folder_of('trc_vectors')
-    calls = [call for part in (worked, modules, commands, traps, anew, batches, workers, images, stored, made) for call in part()]
+    calls = [call for part in (worked, modules, commands, traps, anew, audits, batches, workers, images, stored, made) for call in part()]
     with open(os.path.join(folder, 'stdin'), 'w') as out:
         out.writelines(line(*call) for call in calls)
     with open(os.path.join(folder, 'stdout'), 'w') as out:

@@ -1,6 +1,7 @@
 pub mod Accepts
 pub mod Holds
 pub mod Lines
+pub mod Living
 pub mod Looping
 pub mod Passes
 pub mod Placing

@@ -21,7 +21,7 @@ use Rattle.lir_core.specs.Spots.{Spot, reg, home, out, target, saved, in_registe
 use Rattle.loc_state.specs.Homed.{inserted, all_inserted}
 use Rattle.alloc_audit.specs.Tests.{is_value, stand, are_below, first_unfit}
 use Rattle.alloc_audit.specs.Nodes.{is_rising, is_single, may_hold, may_name, is_wanted, live_values, are_true, starts_well, keeps_all, ends_well, ended, lines_failure}
-use Rattle.alloc_audit.specs.Parts.{rises_from, is_above, is_alone, may_have, are_true_of}
+use Rattle.alloc_audit.specs.Parts.{rises_from, is_above, is_alone, may_have, are_true_of, is_done, is_right}
 use Rattle.alloc_audit.specs.Holdings.{Holdings, view_at, holdings_of, room_in, walker_of}
 use Rattle.loc_state.proofs.Homing.{has_all_inserted}
 
@@ -119,12 +119,6 @@ end_parts false b c d e = refl
 end_parts true false c d e = refl
 end_parts true true false d e = refl
 end_parts true true true d e = refl
-
-abbrev pub is_done : Node → List ℕ → Walk → Bool
-is_done node named w = (w.next == length node.lirs) && are_below (length w.regs.items) (drop w.used named) && stand (get w.regs.items) (drop w.used named) (end_reads node.end)
-
-abbrev pub is_right : Places → Walk → Bool
-is_right end w = are_true_of (get w.regs.items) 0 end.regs && list_all (has w.homes) end.homed && is_single end.regs
 
 pub ends_is : (values : ℕ) (live : ℕ → ℕ → Bool) (node : Node) (end : Places) (named : List ℕ) (w : Walk)
     → ends_well (room_in values w) live (code_node node) end (walker_of named w) ≡ (is_done node named w && (is_right end w && keeps_all (room_in values w) live (code_node node) end))

@@ -49,6 +49,14 @@ abbrev pub may_hold : (ℕ → ℕ → Bool) → CodeBlock → ℕ → Option �
 may_hold live bl n None = true
 may_hold live bl n (Some v) = may_name live bl n v
 
+-- a start names values that are live into the node, and the node's parameters
+abbrev pub names_few : (ℕ → ℕ → Bool) → CodeBlock → ℕ → Places → Bool
+names_few live bl n start = list_all (may_hold live bl n) start.regs && list_all (may_name live bl n) start.homed
+
+-- a start has places for what is live into the node, and for each parameter that the node needs
+abbrev pub has_needed : ℕ → (ℕ → ℕ → Bool) → CodeBlock → ℕ → Places → Bool
+has_needed values live bl n start = list_all (placed start) (live_values values live n) && list_all (λ v. not (is_wanted live bl v) || placed start v) bl.params
+
 abbrev pub starts_well : Room → (ℕ → ℕ → Bool) → CodeBlock → ℕ → Places → Bool
 starts_well room live bl n start =
     (length start.regs == room.regs) && is_single start.regs && is_rising start.homed

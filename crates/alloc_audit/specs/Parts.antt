@@ -1,24 +1,27 @@
 -- What the code of an audit tests, over sets and rows of bits.
 use Rattle.std.specs.Prelude.{◌≡◌, ℕ, zero, suc, ◌+◌, ◌==◌, ◌&&◌, ◌||◌, nat_lt, Bool, true, not, cond, List, [], ◌∷◌, ◌++◌, drop, length, Option, Some, None}
 use Rattle.std.specs.List.{list_all, list_any}
-use Rattle.block_runs.specs.Blocks.{CodeBlock, successors}
+use Rattle.block_runs.specs.Blocks.{CodeBlock, end_uses, successors}
 use Rattle.block_runs.specs.declared.end.End.{End}
+use Rattle.block_runs.specs.Live.{has}
 use Rattle.lir_core.specs.Rows.{has_bit}
 use Rattle.lir_core.specs.declared.places.Places.{Places}
 use Rattle.lir_core.specs.declared.places.Line.{Line}
-use Rattle.lir_core.specs.Spots.{in_register}
+use Rattle.lir_core.specs.Spots.{in_register, get}
 use Rattle.lir_core.specs.Flows.{code_nodes, IsValidFlow}
-use Rattle.lir_core.specs.Lines.{Room}
+use Rattle.lir_core.specs.Lines.{end_reads, Room}
 use Rattle.lir_core.specs.Walks.{begin}
 use Rattle.lir_core.specs.Rows.{live_into}
-use Rattle.alloc_audit.specs.Tests.{is_value}
-use Rattle.alloc_audit.specs.Nodes.{starts_well, lines_failure, Grounds}
+use Rattle.alloc_audit.specs.Tests.{is_value, stand, are_below}
+use Rattle.alloc_audit.specs.Nodes.{is_single, live_values, starts_well, lines_failure, Grounds}
 use Rattle.alloc_audit.specs.Results.{IsLive}
 use Rattle.alloc_audit.specs.Verdicts.{verdict_from, grounds_of_flow, grounds_of}
+use Rattle.alloc_audit.specs.declared.walk.Walk.{Walk}
 use Rattle.alloc_audit.specs.declared.verdict.Failure.{Failure}
 use Rattle.alloc_audit.specs.declared.verdict.Verdict.{Verdict}
 use Rattle.alloc_audit.specs.declared.verdict.Verdict.TheVariants.{Sound, Unsound}
 use Rattle.lir_core.specs.declared.flow.Flow.{Flow}
+use Rattle.lir_core.specs.declared.flow.Node.{Node}
 use Rattle.lir_core.specs.declared.flow.Trace.{Trace}
 use Rattle.lir_core.specs.declared.places.TraceOut.{TraceOut}
 
@@ -34,6 +37,10 @@ abbrev pub may_have : (ℕ → Bool) → (ℕ → Bool) → Option ℕ → Bool
 may_have live param None = true
 may_have live param (Some v) = may_be live param v
 
+-- a start names what is live, and parameters
+abbrev pub names_only : (ℕ → Bool) → (ℕ → Bool) → Places → Bool
+names_only live param start = list_all (may_have live param) start.regs && list_all (may_be live param) start.homed
+
 -- a value is live into some node that follows
 abbrev pub passes_on : List (List ℕ) → End → ℕ → Bool
 passes_on rows end v = list_any (λ to. has_bit rows to v) (successors end)
@@ -41,9 +48,17 @@ passes_on rows end v = list_any (λ to. has_bit rows to v) (successors end)
 abbrev pub has_if_wanted : List (List ℕ) → (ℕ → Bool) → End → (ℕ → Bool) → ℕ → Bool
 has_if_wanted rows reads end has_place v = not (reads v || passes_on rows end v) || has_place v
 
+-- what is live into node n has a place, and each of the node's parameters that the node needs
+abbrev pub has_all : ℕ → List (List ℕ) → ℕ → Node → (ℕ → Bool) → (ℕ → Bool) → Bool
+has_all values rows n node reads has_place = list_all has_place (live_values values (has_bit rows) n) && list_all (has_if_wanted rows reads node.end has_place) node.params
+
 -- all that is live into nodes has places
 abbrev pub have_live : ℕ → List (List ℕ) → (ℕ → Bool) → List ℕ → Bool
 have_live values rows has_place nodes = list_all (λ to. list_all has_place (live_into values rows to)) nodes
+
+-- what a node's end reads or passes on has a place, and what is live into the nodes that follow
+abbrev pub keeps : ℕ → List (List ℕ) → Node → (ℕ → Bool) → Bool
+keeps values rows node has_place = list_all has_place (end_uses node.end) && have_live values rows has_place (successors node.end)
 
 -- numbers rise, behind one that may stand before them
 abbrev pub is_above : Option ℕ → ℕ → Bool
@@ -68,8 +83,19 @@ abbrev pub are_true_of : (ℕ → Option ℕ) → ℕ → List (Option ℕ) → 
 are_true_of at i [] = true
 are_true_of at i (x ∷ xs) = is_so (at i) x && are_true_of at (suc i) xs
 
+-- all operations are done, and what the end reads stands in the registers named for it
+abbrev pub is_done : Node → List ℕ → Walk → Bool
+is_done node named w = (w.next == length node.lirs) && are_below (length w.regs.items) (drop w.used named) && stand (get w.regs.items) (drop w.used named) (end_reads node.end)
+
+-- end places have what is said of them
+abbrev pub is_right : Places → Walk → Bool
+is_right end w = are_true_of (get w.regs.items) 0 end.regs && list_all (has w.homes) end.homed && is_single end.regs
+
 abbrev pub room_for : ℕ → ℕ → ℕ → Room
 room_for regs slots values = record { regs = regs; slots = slots; values = values }
+
+abbrev pub room_of : ℕ → ℕ → Flow → Room
+room_of regs slots f = room_for regs slots f.values
 
 -- a node's failure, by its block
 abbrev pub block_failure : Room → CodeBlock → (ℕ → ℕ → Bool) → ℕ → Places → List Line → List ℕ → Places → Option ℕ

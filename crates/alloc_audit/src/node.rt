@@ -1,18 +1,14 @@
 //! A node of a result.
 
-ghost use Rattle.std.specs.Prelude.{◌≡◌, ℕ, List, ◌≤◌, ◌<◌, ◌==◌, ◌&&◌, ◌||◌, not, Bool, [], true, false, None, length, drop, IfOk, OnOk, map, replicate};
-ghost use Rattle.std.specs.List.{list_all};
-ghost use Rattle.block_runs.specs.Blocks.{end_uses, successors};
+ghost use Rattle.std.specs.Prelude.{◌≡◌, ℕ, List, ◌≤◌, ◌<◌, ◌==◌, ◌&&◌, false, None, length, IfOk, replicate};
 ghost use Rattle.block_runs.specs.Live.{has};
 ghost use Rattle.lir_core.specs.Flows.{code_node};
 ghost use Rattle.lir_core.specs.Rows.{has_bit};
-ghost use Rattle.lir_core.specs.Spots.{placed, get};
-ghost use Rattle.lir_core.specs.Lines.{end_reads};
 ghost use Rattle.lir_core.specs.Walks.{begin};
-ghost use Rattle.alloc_audit.specs.Tests.{stand, are_below};
-ghost use Rattle.alloc_audit.specs.Holdings.{holdings_of, view_at, room_in, walker_of};
-ghost use Rattle.alloc_audit.specs.Nodes.{is_single, is_rising, live_values, is_wanted, may_name, may_hold, starts_well, keeps_all, ends_well, lines_failure};
-ghost use Rattle.alloc_audit.specs.Parts.{block_failure, room_for, placed_by, may_be, may_have, has_if_wanted, have_live, are_true_of};
+ghost use Rattle.alloc_audit.specs.Tests.{are_below};
+ghost use Rattle.alloc_audit.specs.Holdings.{room_in, walker_of};
+ghost use Rattle.alloc_audit.specs.Nodes.{is_single, is_rising, names_few, has_needed, starts_well, keeps_all, ends_well, lines_failure};
+ghost use Rattle.alloc_audit.specs.Parts.{block_failure, room_for, placed_by, names_only, has_all, keeps, is_done, is_right};
 
 use crate::places::{
     all_may_be, all_may_have, are_homed, are_true, end_reads_stand, has_behind, has_end, has_live,
@@ -97,14 +93,14 @@ fn is_shaped(count: usize, start: &Places) -> bool
 
 // Whether start places name live values and parameters alone.
 fn both_may(live: &LiveSets, number: u32, params: &Homes, start: &Places) -> bool
-    ensures { result ≡ (list_all (may_have (has_bit live.now number) (has params.now)) start.now.regs && list_all (may_be (has_bit live.now number) (has params.now)) start.now.homed) }
+    ensures { result ≡ names_only (has_bit live.now number) (has params.now) start.now }
 {
     all_may_have(live, number, params, start.regs.as_slice())
         && all_may_be(live, number, params, start.homed.as_slice())
 }
 
 fn names_few(alloc: Global, at: &AuditedNode<'_>, start: &Places) -> Result<bool, AllocError>
-    ensures { IfOk result (λ b. b ≡ (list_all (may_hold (has_bit at.now.live.now) (code_node at.now.node.now) at.now.number) start.now.regs && list_all (may_name (has_bit at.now.live.now) (code_node at.now.node.now) at.now.number) start.now.homed)) }
+    ensures { IfOk result (λ b. b ≡ names_few (has_bit at.now.live.now) (code_node at.now.node.now) at.now.number start.now) }
 {
     let params = set_of(alloc, at.node.params.as_slice())?;
     Ok(both_may(at.live, at.number, &params, start))
@@ -112,7 +108,7 @@ fn names_few(alloc: Global, at: &AuditedNode<'_>, start: &Places) -> Result<bool
 
 // Whether start places have what is live into a node, and the parameters that are wanted.
 fn both_have(homes: &Homes, reads: &Homes, at: &AuditedNode<'_>, start: &Places) -> bool
-    ensures { result ≡ (list_all (placed_by start.now.regs (has homes.now)) (live_values at.now.values (has_bit at.now.live.now) at.now.number) && list_all (has_if_wanted at.now.live.now (has reads.now) at.now.node.now.end (placed_by start.now.regs (has homes.now))) at.now.node.now.params) }
+    ensures { result ≡ has_all at.now.values at.now.live.now at.now.number at.now.node.now (has reads.now) (placed_by start.now.regs (has homes.now)) }
 {
     let regs = start.regs.as_slice();
     has_live(regs, homes, at.live, at.number, at.values)
@@ -127,7 +123,7 @@ fn both_have(homes: &Homes, reads: &Homes, at: &AuditedNode<'_>, start: &Places)
 }
 
 fn has_needed(alloc: Global, at: &AuditedNode<'_>, start: &Places) -> Result<bool, AllocError>
-    ensures { IfOk result (λ b. b ≡ (list_all (placed start.now) (live_values at.now.values (has_bit at.now.live.now) at.now.number) && list_all (λ v. not (is_wanted (has_bit at.now.live.now) (code_node at.now.node.now) v) || placed start.now v) at.now.node.now.params)) }
+    ensures { IfOk result (λ b. b ≡ has_needed at.now.values (has_bit at.now.live.now) (code_node at.now.node.now) at.now.number start.now) }
 {
     let homes = set_of(alloc, start.homed.as_slice())?;
     let reads = reads_of(alloc, at.node)?;
@@ -150,7 +146,7 @@ fn starts_well(alloc: Global, at: &AuditedNode<'_>, start: &Places) -> Result<bo
 // Whether all operations are done, and what the end reads stands in the registers named for it.
 fn is_done(walk: &Walk, node: &Node, named: &[u8]) -> bool
     requires { walk.now.used ≤ length named.now }
-    ensures { result ≡ ((walk.now.next == length node.now.lirs) && are_below (length walk.now.regs.items) (drop walk.now.used named.now) && stand (get walk.now.regs.items) (drop walk.now.used named.now) (end_reads node.now.end)) }
+    ensures { result ≡ is_done node.now named.now walk.now }
 {
     let rest = &named[walk.used..];
     walk.next == node.lirs.len()
@@ -160,7 +156,7 @@ fn is_done(walk: &Walk, node: &Node, named: &[u8]) -> bool
 
 // Whether end places are right.
 fn is_right(walk: &Walk, end: &Places) -> bool
-    ensures { result ≡ (are_true_of (get walk.now.regs.items) 0 end.now.regs && list_all (has walk.now.homes) end.now.homed && is_single end.now.regs) }
+    ensures { result ≡ is_right end.now walk.now }
 {
     are_true(&walk.regs, end.regs.as_slice())
         && are_homed(&walk.homes, end.homed.as_slice())
@@ -169,7 +165,7 @@ fn is_right(walk: &Walk, end: &Places) -> bool
 
 // Whether end places have what is wanted behind a node.
 fn both_kept(homes: &Homes, at: &AuditedNode<'_>, end: &Places) -> bool
-    ensures { result ≡ (list_all (placed_by end.now.regs (has homes.now)) (end_uses at.now.node.now.end) && have_live at.now.values at.now.live.now (placed_by end.now.regs (has homes.now)) (successors at.now.node.now.end)) }
+    ensures { result ≡ keeps at.now.values at.now.live.now at.now.node.now (placed_by end.now.regs (has homes.now)) }
 {
     let regs = end.regs.as_slice();
     has_end(regs, homes, &at.node.end) && has_behind(regs, homes, at.live, &at.node.end, at.values)

@@ -36,18 +36,18 @@ listed_back [] = refl
 listed_back (t ∷ ts) = ap (λ us. t ∷ us) (listed_back ts)
 
 -- traces with the same nodes
-traces_same : (ts us : List Trace) → lists_of ts ≡ lists_of us → ts ≡ us
+pub traces_same : (ts us : List Trace) → lists_of ts ≡ lists_of us → ts ≡ us
 traces_same ts us h = sym (listed_back ts) ∙ (ap (map trace_of) h ∙ listed_back us)
 
 -- the traces that a builder gives to flows are those behind a choice's results
-cut_same : (choice : Choice) (first : ℕ) (cuts : List Cut) (lists : List (List Trace)) → AllAllocations choice first cuts → AreCutBy choice.builder (map (λ c. c.flow) cuts) lists → lists ≡ map (λ c. c.traces) cuts
+pub cut_same : (choice : Choice) (first : ℕ) (cuts : List Cut) (lists : List (List Trace)) → AllAllocations choice first cuts → AreCutBy choice.builder (map (λ c. c.flow) cuts) lists → lists ≡ map (λ c. c.traces) cuts
 cut_same choice first [] [] h cut = refl
 cut_same choice first [] (ts ∷ lists) h cut = absurd cut
 cut_same choice first (c ∷ cuts) [] h cut = absurd cut
 cut_same choice first (c ∷ cuts) (ts ∷ lists) h cut = ap₂ (λ us rest. us ∷ rest) (traces_same ts c.traces (cut.0.traces ∙ sym h.0.traces)) (cut_same choice (first + length c.traces) cuts lists h.1 cut.1)
 
 -- each flow's own of all results are those that it has
-cuts_back : (choice : Choice) (first : ℕ) (cuts : List Cut) → AllAllocations choice first cuts → cuts_of (map (λ c. c.flow) cuts) (map (λ c. c.traces) cuts) (joined (map (λ c. c.outs) cuts)) ≡ cuts
+pub cuts_back : (choice : Choice) (first : ℕ) (cuts : List Cut) → AllAllocations choice first cuts → cuts_of (map (λ c. c.flow) cuts) (map (λ c. c.traces) cuts) (joined (map (λ c. c.outs) cuts)) ≡ cuts
 cuts_back choice first [] h = refl
 cuts_back choice first (c ∷ cuts) h =
     let rest = joined (map (λ (d : Cut). d.outs) cuts) in

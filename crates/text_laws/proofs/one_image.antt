@@ -4,4 +4,4 @@ mod Linear
 mod Bottom
 mod Results
 mod Cuts
-mod Moved
+pub mod Moved

@@ -1,3 +1,3 @@
-mod Passed
+pub mod Passed
 mod Reports
-mod Refused
+pub mod Refused

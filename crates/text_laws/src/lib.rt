@@ -11,11 +11,11 @@ mod constants;
 mod judged_shapes;
 pub mod no_faults;
 mod one_fault;
-mod one_image;
+pub mod one_image;
 mod one_image_of_texts;
 mod one_program;
 mod one_reading;
-mod one_refusal;
+pub mod one_refusal;
 
 pub use constants::constants_are_meant;
 pub use judged_shapes::{judged_images_have_closed_types, modules_have_one_lowering};

@@ -22,9 +22,10 @@ use Rattle.image_form.specs.declared.image.Image.{Image}
 use Rattle.image_form.specs.declared.image.ProcPlace.{ProcPlace}
 use Rattle.a64_machine.specs.State.{Trap}
 use Rattle.trc_answers.specs.Runs.{run_of, cause_of_fault}
-use Rattle.trc_answers.specs.Verdict.{Verdict, Refuses, Runs, Writes, Prints, FileComesTo, IsMissing, HasTooMany, HasBytes, IsHeld, IsLeft, ImageComesTo, RunsAlone, RunsOnInput, HasTooMuch, BytesComeTo, AreNoImage, IsWritten, Written, Renews, AreTheSame, Differ}
+use Rattle.trc_answers.specs.Causes.{cause_of_put}
+use Rattle.trc_answers.specs.Verdict.{Verdict, Refuses, Runs, Writes, WritesBoth, Accepts, Prints, files_written, sound_line, FileComesTo, IsMissing, HasTooMany, HasBytes, IsHeld, IsLeft, ImageComesTo, RunsAlone, RunsOnInput, HasTooMuch, BytesComeTo, AreNoImage, IsWritten, Written, Renews, AreTheSame, Differ}
 use Rattle.trc_answers.specs.Reading.{IsImageRead, NoBytes, IsImageUnread, IsNoFile, FailedOnce, HasNoMemory}
-use Rattle.trc_answers.specs.Answers.{Devices, devices, Answers, AsItComes, ReadsInput, FailsReadingFiles, FailsReadingInput, FailsPrinting, FailsWriting, LacksMemory, InputStays, FilesHold, RunAnswers, Ran, RanIntoFault, HadNoRoom, PrintAnswers, Printed, PrintedAFront}
+use Rattle.trc_answers.specs.Answers.{Devices, devices, Answers, AsItComes, ReadsInput, FailsReadingFiles, FailsReadingInput, FailsPrinting, FailsWriting, FailsWritingSecond, LacksMemoryBetween, LacksMemory, InputStays, FilesHold, FirstFailed, SecondFailed, RunAnswers, Ran, RanIntoFault, HadNoRoom, PrintAnswers, Printed, PrintedAFront}
 use Rattle.trc_answers.specs.declared.causes.Device.TheVariants.{Files, Input, Output}
 use Rattle.trc_answers.specs.declared.causes.Cause.{Cause}
 use Rattle.trc_answers.specs.declared.causes.Cause.TheVariants.{NoSuchFile, ReadFault, OtherImage, NotImage, InputTooLong, WriteFault, Memory, Done}
@@ -87,7 +88,9 @@ mapped comes comes' old new cause f (AsItComes verdict it is done) = AsItComes v
 mapped comes comes' old new cause f (FailsReadingFiles is rose none still) = FailsReadingFiles is rose none still
 mapped comes comes' old new cause f (FailsReadingInput reads is rose none) = FailsReadingInput (reads_as comes comes' f reads) is rose none
 mapped comes comes' old new cause f (FailsPrinting verdict it is cut) = FailsPrinting verdict (f old.left verdict it) is cut
-mapped comes comes' old new cause f (FailsWriting name bytes it is rose took file still) = FailsWriting name bytes (f old.left (Writes name bytes) it) is rose took file still
+mapped comes comes' old new cause f (FailsWriting verdict name bytes rest it first is failed) = FailsWriting verdict name bytes rest (f old.left verdict it) first is failed
+mapped comes comes' old new cause f (FailsWritingSecond name bytes other others it is failed) = FailsWritingSecond name bytes other others (f old.left (WritesBoth name bytes other others) it) is failed
+mapped comes comes' old new cause f (LacksMemoryBetween name bytes other others it is half) = LacksMemoryBetween name bytes other others (f old.left (WritesBoth name bytes other others) it) is half
 mapped comes comes' old new cause f (LacksMemory is none either) = LacksMemory is none (either_as comes comes' (InputStays old new) f either)
 
 rose_later : (a b c : ℕ) → a ≤ b → Rose b c → Rose a c
@@ -98,6 +101,8 @@ files_later : (held : Option Held) (m n : ℕ) (left : Option (List ℕ)) (k : �
 files_later held m n left k out new (Refuses cause) h = h
 files_later held m n left k out new (Runs reads places outcome) h = h
 files_later held m n left k out new (Writes name bytes) h = h
+files_later held m n left k out new (WritesBoth name bytes other others) h = h
+files_later held m n left k out new (Accepts name bytes) h = h
 files_later held m n left k out new (Prints lines) h = h
 
 input_later : (held : Option Held) (m n : ℕ) (left : Option (List ℕ)) (k : ℕ) (out : Account) (new : Devices)
@@ -115,8 +120,13 @@ pub later : (comes : Option (List ℕ) → Verdict → Type 0) (held : Option He
 later comes held m n left k out new cause l (AsItComes verdict it is done) = AsItComes verdict it is (record { written = done.written; files = files_later held m n left k out new verdict done.files; input = λ e. input_later held m n left k out new (done.input e) })
 later comes held m n left k out new cause l (FailsReadingFiles is rose none still) = FailsReadingFiles is (rose_later m n new.files_faults l rose) (record { output = none.output; files = none.files }) (input_later held m n left k out new still)
 later comes held m n left k out new cause l (FailsReadingInput reads is rose none) = FailsReadingInput reads is rose (record { output = none.output; files = none.files })
-later comes held m n left k out new cause l (FailsPrinting verdict it is cut) = FailsPrinting verdict it is (record { front = cut.front; failed = cut.failed; files = cut.files; input = λ e. input_later held m n left k out new (cut.input e) })
-later comes held m n left k out new cause l (FailsWriting name bytes it is rose took file still) = FailsWriting name bytes it is (rose_later m n new.files_faults l rose) took file (input_later held m n left k out new still)
+later comes held m n left k out new cause l (FailsPrinting verdict it is cut) = FailsPrinting verdict it is (record { front = cut.front; failed = cut.failed; files = files_later held m n left k out new verdict cut.files; input = λ e. input_later held m n left k out new (cut.input e) })
+later comes held m n left k out new cause l (FailsWriting verdict name bytes rest it first is failed) =
+    FailsWriting verdict name bytes rest it first is (record { failed = rose_later m n new.files_faults l failed.failed; output = failed.output; files = failed.files; input = input_later held m n left k out new failed.input })
+later comes held m n left k out new cause l (FailsWritingSecond name bytes other others it is failed) =
+    FailsWritingSecond name bytes other others it is (record { between = failed.between; first = failed.first; second = failed.second; failed = rose_later m n new.files_faults l failed.failed; output = failed.output; input = input_later held m n left k out new failed.input })
+later comes held m n left k out new cause l (LacksMemoryBetween name bytes other others it is half) =
+    LacksMemoryBetween name bytes other others it is (record { first = half.first; output = half.output; input = input_later held m n left k out new half.input })
 later comes held m n left k out new cause l (LacksMemory is none either) = LacksMemory is (record { output = none.output; files = none.files }) (either_later held m n left k out new (ReadsInput comes) either)
 
 -- what is held under a name that was read
@@ -248,21 +258,50 @@ pub writes : (held held' : Option Held) (m n : ℕ) (name bytes : List ℕ) → 
 writes held held' m n name bytes tells left k out =
     AsItComes (Writes name bytes) refl refl (record { written = all_none out; files = tells; input = λ e. record { left = refl; faults = refl } })
 
--- the files failed while bytes were written
-pub write_failed : (held held' : Option Held) (m n : ℕ) (name bytes : List ℕ) (e : PutFault) → e ≡ put.Failed → ToldOfWrite held name bytes held' (Err e) → Rose m n
-    → (left : Option (List ℕ)) (k : ℕ) (out : Account) → Answers (λ _. IsWritten name bytes) (devices held m left k out) (devices held' n left k out) (WriteFault Files)
-write_failed held held' m n name bytes e is tells rose left k out =
-    FailsWriting name bytes refl refl rose (nothing out) (subst (λ x. ToldOfWrite held name bytes held' (Err x)) is tells) (record { left = refl; faults = refl })
+-- the first of a verdict's files wasn't written
+pub unwritten : (comes : Option (List ℕ) → Verdict → Type 0) (held held' : Option Held) (m n : ℕ) (verdict : Verdict) (name bytes : List ℕ) (rest : List (List ℕ × List ℕ)) (e : PutFault) (cause : Cause)
+    → cause ≡ cause_of_put e → files_written verdict ≡ (name, bytes) ∷ rest → ToldOfWrite held name bytes held' (Err e) → (e ≡ put.Memory → held' ≡ held) → (e ≡ put.Failed → Rose m n)
+    → (left : Option (List ℕ)) (k : ℕ) (out : Account) → comes left verdict → Answers comes (devices held m left k out) (devices held' n left k out) cause
+unwritten comes held held' m n verdict name bytes rest put.Failed cause is first tells same rose left k out it =
+    FailsWriting verdict name bytes rest it first is (record { failed = rose refl; output = nothing out; files = tells; input = record { left = refl; faults = refl } })
+unwritten comes held held' m n verdict name bytes rest put.Memory cause is first tells same rose left k out it = lacks comes held held' m n left k out cause is (same refl)
+
+-- both were
+pub both_written : (held between held' : Option Held) (m n : ℕ) (name bytes other others : List ℕ) → ToldOfWrite held name bytes between (Ok tt) → ToldOfWrite between other others held' (Ok tt)
+    → (left : Option (List ℕ)) (k : ℕ) (out : Account) → Answers (λ _ verdict. verdict ≡ WritesBoth name bytes other others) (devices held m left k out) (devices held' n left k out) Done
+both_written held between held' m n name bytes other others first second left k out =
+    AsItComes (WritesBoth name bytes other others) refl refl (record { written = all_none out; files = record { between = between; first = first; second = second }; input = λ e. record { left = refl; faults = refl } })
+
+-- the second wasn't
+pub second_unwritten : (held between held' : Option Held) (m p n : ℕ) (name bytes other others : List ℕ) (e : PutFault) (cause : Cause)
+    → cause ≡ cause_of_put e → ToldOfWrite held name bytes between (Ok tt) → ToldOfWrite between other others held' (Err e) → (e ≡ put.Memory → held' ≡ between) → (e ≡ put.Failed → Rose p n) → m ≤ p
+    → (left : Option (List ℕ)) (k : ℕ) (out : Account) → Answers (λ _ verdict. verdict ≡ WritesBoth name bytes other others) (devices held m left k out) (devices held' n left k out) cause
+second_unwritten held between held' m p n name bytes other others put.Failed cause is first second same rose l left k out =
+    FailsWritingSecond name bytes other others refl is (record { between = between; first = first; second = second; failed = rose_later m p n l (rose refl); output = nothing out; input = record { left = refl; faults = refl } })
+second_unwritten held between held' m p n name bytes other others put.Memory cause is first second same rose l left k out =
+    LacksMemoryBetween name bytes other others refl is (record { first = subst (λ h. ToldOfWrite held name bytes h (Ok tt)) (sym (same refl)) first; output = nothing out; input = record { left = refl; faults = refl } })
+
+-- a file was written, and what it was made of is printed to be sound
+pub accepts : (held held' : Option Held) (m n : ℕ) (name bytes : List ℕ) (left : Option (List ℕ)) (k : ℕ) (a b : Account) (cause : Cause) → ToldOfWrite held name bytes held' (Ok tt) → PrintAnswers sound_line a b cause
+    → Answers (λ _ verdict. verdict ≡ Accepts name bytes) (devices held m left k a) (devices held' n left k b) cause
+accepts held held' m n name bytes left k a b cause tells (Printed is took) =
+    AsItComes (Accepts name bytes) refl is (record { written = took; files = tells; input = λ e. record { left = refl; faults = refl } })
+accepts held held' m n name bytes left k a b cause tells (PrintedAFront is took rose) =
+    FailsPrinting (Accepts name bytes) refl is (record { front = took; failed = rose; files = tells; input = λ e. record { left = refl; faults = refl } })
+
+-- what was written is what was wanted
+pub as_wanted : (comes : List ℕ → Verdict → Type 0) (bytes wanted : List ℕ) (old new : Devices) (cause : Cause) → bytes ≡ wanted → Answers (λ _. comes bytes) old new cause → Answers (λ _. comes wanted) old new cause
+as_wanted comes bytes wanted old new cause same answers = subst (λ b. Answers (λ _. comes b) old new cause) same answers
 
 -- they were those that were wanted
 pub wrote : (name bytes wanted : List ℕ) (old new : Devices) (cause : Cause) → bytes ≡ wanted → Answers (λ _. IsWritten name bytes) old new cause → Answers (λ _. IsWritten name wanted) old new cause
 wrote name bytes wanted old new cause same answers = subst (λ b. Answers (λ _. IsWritten name b) old new cause) same answers
 
 -- the image has these bytes in version 1, and what is written then
-pub renews : (name bytes : List ℕ) (image : Image) (old new : Devices) (cause : Cause) → bytes ≡ image_bytes (in_version_one image) → Answers (λ _. Written name image) old new cause → Answers (λ _. Renews name bytes image) old new cause
-renews name bytes image old new cause same answers = mapped (λ _. Written name image) (λ _. Renews name bytes image) old new cause (λ _ v it. AreTheSame same it) answers
+pub renews : (bytes : List ℕ) (image : Image) (next : Verdict → Type 0) (old new : Devices) (cause : Cause) → bytes ≡ image_bytes (in_version_one image) → Answers (λ _. next) old new cause → Answers (λ _. Renews bytes image next) old new cause
+renews bytes image next old new cause same answers = mapped (λ _. next) (λ _. Renews bytes image next) old new cause (λ _ v it. AreTheSame same it) answers
 
 -- it has others
-pub differs : (held : Option Held) (m : ℕ) (name bytes : List ℕ) (image : Image) (at : ℕ) → DifferAt at bytes (image_bytes (in_version_one image))
-    → (left : Option (List ℕ)) (k : ℕ) (out : Account) → Answers (λ _. Renews name bytes image) (devices held m left k out) (devices held m left k out) (OtherImage at)
-differs held m name bytes image at differ left k out = refuses (λ _. Renews name bytes image) held held m m left k out (OtherImage at) refl (Differ at differ refl)
+pub differs : (held : Option Held) (m : ℕ) (bytes : List ℕ) (image : Image) (next : Verdict → Type 0) (at : ℕ) → DifferAt at bytes (image_bytes (in_version_one image))
+    → (left : Option (List ℕ)) (k : ℕ) (out : Account) → Answers (λ _. Renews bytes image next) (devices held m left k out) (devices held m left k out) (OtherImage at)
+differs held m bytes image next at differ left k out = refuses (λ _. Renews bytes image next) held held m m left k out (OtherImage at) refl (Differ at differ refl)

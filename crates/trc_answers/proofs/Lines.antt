@@ -49,3 +49,8 @@ image_parts a b c message number between rest h k =
     subst (TookAll a c) (append_assoc message number (line between rest) ∙ ap (λ r. message ++ r)
     (sym (append_assoc number (between ++ rest) (10 ∷ []) ∙ ap (λ r. number ++ r) (append_assoc between rest (10 ∷ [])))))
     (joined a b c (message ++ number) (line between rest) h k)
+
+-- the line of results that aren't sound: two numbers, and the rest of the line
+pub unsound_parts : (a b c d : Account) (message trace blank node at : List ℕ) → TookAll a b (message ++ trace) → TookAll b c (blank ++ node) → TookAll c d (line blank at)
+    → TookAll a d (line message (trace ++ (blank ++ (node ++ (blank ++ at)))))
+unsound_parts a b c d message trace blank node at h k l = image_parts a b d message trace blank (node ++ (blank ++ at)) h (image_parts b c d blank node blank at k l)

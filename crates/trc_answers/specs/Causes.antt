@@ -2,6 +2,8 @@
 use Rattle.std.specs.Prelude.{ℕ, zero, suc, ◌+◌, ◌/◌, ◌%◌, List, [], ◌∷◌, ◌++◌, ◌⊎◌, ◌≡◌, length, take, codes, nat_lt, slice_index_or, Option, Some, None, if◌then◌else◌}
 use Rattle.out_text.specs.Text.{shortest_text}
 use Rattle.outside.specs.Sink.{Account, TookAll, Faulted}
+use Rattle.outside.specs.declared.files.PutFault.{PutFault}
+use Rattle.outside.specs.declared.files.PutFault.TheVariants as put
 use Rattle.ob_judge.specs.Scopes.{line_ends}
 use Rattle.trc_answers.specs.Places.{last_line}
 use Rattle.trc_answers.specs.Names.{name_of_rule, name_of_limit}
@@ -12,7 +14,7 @@ use Rattle.trc_answers.specs.declared.causes.Device.{Device}
 use Rattle.trc_answers.specs.declared.causes.Device.TheVariants.{Files, Input, Output}
 use Rattle.trc_answers.specs.declared.causes.Spot.{Spot}
 use Rattle.trc_answers.specs.declared.causes.Cause.{Cause}
-use Rattle.trc_answers.specs.declared.causes.Cause.TheVariants.{Usage, NoSuchFile, ReadFault, Source, Limit, BadLine, OtherImage, NotImage, InputTooLong, Trapped, MachineFault, Spent, WriteFault, Memory, Done}
+use Rattle.trc_answers.specs.declared.causes.Cause.TheVariants.{Usage, NoSuchFile, ReadFault, Source, Limit, BadLine, OtherImage, NotImage, NotNotes, Unsound, InputTooLong, Trapped, MachineFault, Spent, WriteFault, Memory, Done}
 
 abbrev pub status_of : Cause → ℕ
 status_of Usage = 1
@@ -23,6 +25,8 @@ status_of (Limit number index) = 3
 status_of (BadLine number) = 1
 status_of (OtherImage at) = 8
 status_of (NotImage number at) = 8
+status_of (NotNotes number at) = 8
+status_of (Unsound trace node at) = 10
 status_of InputTooLong = 3
 status_of (Trapped kind spot) = 6
 status_of (MachineFault fault) = 9
@@ -30,6 +34,11 @@ status_of Spent = 7
 status_of (WriteFault device) = 4
 status_of Memory = 5
 status_of Done = 0
+
+-- the cause of a file that wasn't written
+abbrev pub cause_of_put : PutFault → Cause
+cause_of_put put.Failed = WriteFault Files
+cause_of_put put.Memory = Memory
 
 -- a device's name in a line
 abbrev pub device_name : Device → List ℕ
@@ -85,23 +94,31 @@ spot_line (Some spot) = codes " in module " ++ (shortest_text spot.«module» ++
 abbrev pub trap_line : ℕ → Option Spot → List ℕ
 trap_line kind spot = codes "trc: trap " ++ (shortest_text kind ++ spot_line spot)
 
--- the line of a cause, where the command reads the files of these names, and a rule is broken at this place; none where all was done
-abbrev pub line_of : List (List ℕ) → Position → Cause → List ℕ
-line_of names place Usage = line (codes "trc: usage") []
-line_of names place (NoSuchFile word) = line (codes "trc: no file ") (name_at names word)
-line_of names place (ReadFault device) = line (codes "trc: read fault on ") (device_name device)
-line_of names place (Source number m at) = source_line (name_at names m) place number
-line_of names place (Limit number index) = limit_line number index
-line_of names place (BadLine number) = line (codes "trc: bad line ") (shortest_text number)
-line_of names place (OtherImage at) = line (codes "trc: other image at ") (shortest_text at)
-line_of names place (NotImage number at) = line (codes "trc: not an image: ") (shortest_text number ++ (codes " at " ++ shortest_text at))
-line_of names place InputTooLong = line (codes "trc: input too long") []
-line_of names place (Trapped kind spot) = trap_line kind spot
-line_of names place (MachineFault fault) = fault_line fault
-line_of names place Spent = line (codes "trc: steps spent") []
-line_of names place (WriteFault device) = line (codes "trc: write fault on ") (device_name device)
-line_of names place Memory = line (codes "trc: out of memory") []
-line_of names place Done = []
+-- the line of results that aren't sound
+abbrev pub unsound_line : (trace node at : ℕ) → List ℕ
+unsound_line trace node at =
+    line (codes "trc: unsound ") (shortest_text trace ++ (codes " " ++ (shortest_text node ++ (codes " " ++ shortest_text at))))
+
+-- the line of a cause, where the command reads the files of these names, the modules' at this number and behind it, and a rule is
+-- broken at this place; none where all was done
+abbrev pub line_of : List (List ℕ) → ℕ → Position → Cause → List ℕ
+line_of names first place Usage = line (codes "trc: usage") []
+line_of names first place (NoSuchFile word) = line (codes "trc: no file ") (name_at names word)
+line_of names first place (ReadFault device) = line (codes "trc: read fault on ") (device_name device)
+line_of names first place (Source number m at) = source_line (name_at names (first + m)) place number
+line_of names first place (Limit number index) = limit_line number index
+line_of names first place (BadLine number) = line (codes "trc: bad line ") (shortest_text number)
+line_of names first place (OtherImage at) = line (codes "trc: other image at ") (shortest_text at)
+line_of names first place (NotImage number at) = line (codes "trc: not an image: ") (shortest_text number ++ (codes " at " ++ shortest_text at))
+line_of names first place (NotNotes number at) = line (codes "trc: not notes: ") (shortest_text number ++ (codes " at " ++ shortest_text at))
+line_of names first place (Unsound trace node at) = unsound_line trace node at
+line_of names first place InputTooLong = line (codes "trc: input too long") []
+line_of names first place (Trapped kind spot) = trap_line kind spot
+line_of names first place (MachineFault fault) = fault_line fault
+line_of names first place Spent = line (codes "trc: steps spent") []
+line_of names first place (WriteFault device) = line (codes "trc: write fault on ") (device_name device)
+line_of names first place Memory = line (codes "trc: out of memory") []
+line_of names first place Done = []
 
 -- no rule of the language is broken
 abbrev pub IsPlain : Cause → Type 0

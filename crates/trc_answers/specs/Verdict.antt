@@ -1,5 +1,5 @@
 -- What a command comes to when nothing fails.
-use Rattle.std.specs.Prelude.{◌≡◌, ◌≤◌, ◌<◌, ℕ, List, [], length, Bool, true, false, Option, Some, None}
+use Rattle.std.specs.Prelude.{◌≡◌, ◌≤◌, ◌<◌, ℕ, List, [], ◌∷◌, ◌++◌, codes, length, Bool, true, false, Option, Some, None}
 use Rattle.outside.specs.Files.{Held}
 use Rattle.run_laws.specs.Runs.{Outcome, output}
 use Rattle.a64_memory.specs.Memory.{AreBytes}
@@ -15,11 +15,14 @@ use Rattle.trc_answers.specs.Runs.{run_of, cause_of_run}
 use Rattle.trc_answers.specs.declared.causes.Cause.{Cause}
 use Rattle.trc_answers.specs.declared.causes.Cause.TheVariants.{NoSuchFile, OtherImage, NotImage, InputTooLong, Done}
 
--- a command is refused for a cause, runs an image whose procedures are at these places, writes a file, or prints lines
+-- a command is refused for a cause, runs an image whose procedures are at these places, writes a file, writes one and then another,
+-- writes one and prints that what it was made of is sound, or prints lines
 pub data Verdict : Type 0 where
   Refuses : Cause → Verdict
   Runs : (reads_input : Bool) (places : List ProcPlace) → Outcome Trap → Verdict
   Writes : (name bytes : List ℕ) → Verdict
+  WritesBoth : (name bytes other others : List ℕ) → Verdict
+  Accepts : (name bytes : List ℕ) → Verdict
   Prints : List ℕ → Verdict
 
 -- the cause that it answers
@@ -27,14 +30,29 @@ abbrev pub cause_of : Verdict → Cause
 cause_of (Refuses cause) = cause
 cause_of (Runs reads places outcome) = cause_of_run places outcome
 cause_of (Writes name bytes) = Done
+cause_of (WritesBoth name bytes other others) = Done
+cause_of (Accepts name bytes) = Done
 cause_of (Prints lines) = Done
+
+-- the line that tells that results are sound
+abbrev pub sound_line : List ℕ
+sound_line = codes "sound" ++ 10 ∷ []
 
 -- what it writes on the output
 abbrev pub written_by : Verdict → List ℕ
 written_by (Refuses cause) = []
 written_by (Runs reads places outcome) = output outcome
 written_by (Writes name bytes) = []
+written_by (WritesBoth name bytes other others) = []
+written_by (Accepts name bytes) = sound_line
 written_by (Prints lines) = lines
+
+-- the files that it writes, in order, each with its bytes
+abbrev pub files_written : Verdict → List (List ℕ × List ℕ)
+files_written (Writes name bytes) = (name, bytes) ∷ []
+files_written (WritesBoth name bytes other others) = (name, bytes) ∷ (other, others) ∷ []
+files_written (Accepts name bytes) = (name, bytes) ∷ []
+files_written other = []
 
 -- whether it reads the input
 abbrev pub reads_input : Verdict → Bool
@@ -100,7 +118,15 @@ Written name image = IsWritten name (image_bytes image)
 abbrev pub WrittenElf : List ℕ → Image → Verdict → Type 0
 WrittenElf name image = IsWritten name (elf_bytes image)
 
--- it is written where these bytes are its bytes in version 1; else the first difference is told
-pub data Renews (name bytes : List ℕ) (image : Image) (verdict : Verdict) : Type 0 where
-  AreTheSame : bytes ≡ image_bytes (in_version_one image) → Written name image verdict → Renews name bytes image verdict
-  Differ : (at : ℕ) → DifferAt at bytes (image_bytes (in_version_one image)) → verdict ≡ Refuses (OtherImage at) → Renews name bytes image verdict
+-- it is written, and then these bytes to another file
+abbrev pub WrittenWith : (name : List ℕ) → Image → (other others : List ℕ) → Verdict → Type 0
+WrittenWith name image other others verdict = verdict ≡ WritesBoth name (image_bytes image) other others
+
+-- it is written, and told to be made of sound results
+abbrev pub Accepted : List ℕ → Image → Verdict → Type 0
+Accepted name image verdict = verdict ≡ Accepts name (image_bytes image)
+
+-- where these bytes are an image's bytes in version 1, it comes to something; else the first difference is told
+pub data Renews (bytes : List ℕ) (image : Image) (next : Verdict → Type 0) (verdict : Verdict) : Type 0 where
+  AreTheSame : bytes ≡ image_bytes (in_version_one image) → next verdict → Renews bytes image next verdict
+  Differ : (at : ℕ) → DifferAt at bytes (image_bytes (in_version_one image)) → verdict ≡ Refuses (OtherImage at) → Renews bytes image next verdict

@@ -47,6 +47,7 @@ pub fn limit_name(number: u8) -> &'static [u8]
         57 => b"Traces",
         58 => b"Constants",
         59 => b"Locals",
+        67 => b"Notes",
         69 => b"Jobs",
         70 => b"JobBytes",
         _ => b"",

@@ -3,7 +3,7 @@
 ghost use Rattle.std.specs.Prelude.{◌≡◌, ◌<◌, ◌≤◌, ◌++◌, Some, codes, length, map, OnOk, OnErr};
 ghost use Rattle.outside.specs.Sink.{TookAll, Faulted};
 ghost use Rattle.out_text.specs.Text.{shortest_text};
-ghost use Rattle.trc_answers.specs.Causes.{device_name, fault_line, hex, hex_digit, limit_line, line, line_of, name_at, source_line, spot_line, trap_line};
+ghost use Rattle.trc_answers.specs.Causes.{device_name, fault_line, hex, hex_digit, limit_line, line, line_of, name_at, source_line, spot_line, trap_line, unsound_line};
 
 use crate::causes::{Cause, Device, Spot};
 use crate::names::{limit_name, rule_name};
@@ -61,6 +61,30 @@ fn say_no_image<E: Sink>(err: &mut E, number: u8, at: u32) -> Result<(), WriteFa
 {
     put_number(err, b"trc: not an image: ", u64::from(number))?;
     say(err, b" at ", decimal(u64::from(at)).as_slice())?;
+    Ok(())
+}
+
+/// Writes the line of bytes that are no notes.
+fn say_no_notes<E: Sink>(err: &mut E, number: u8, at: u32) -> Result<(), WriteFault>
+    ensures all { OnOk result (TookAll (E.account err.old) (E.account err.new)
+        (line (codes "trc: not notes: ") (shortest_text number ++ (codes " at " ++ shortest_text at)))) }
+    ensures rises { (E.account err.old).faults ≤ (E.account err.new).faults }
+    ensures failed { OnErr result (Faulted (E.account err.old) (E.account err.new)) }
+{
+    put_number(err, b"trc: not notes: ", u64::from(number))?;
+    say(err, b" at ", decimal(u64::from(at)).as_slice())?;
+    Ok(())
+}
+
+/// Writes the line of results that aren't sound.
+fn say_unsound<E: Sink>(err: &mut E, trace: u32, node: u32, line: u32) -> Result<(), WriteFault>
+    ensures all { OnOk result (TookAll (E.account err.old) (E.account err.new) (unsound_line trace node line)) }
+    ensures rises { (E.account err.old).faults ≤ (E.account err.new).faults }
+    ensures failed { OnErr result (Faulted (E.account err.old) (E.account err.new)) }
+{
+    put_number(err, b"trc: unsound ", u64::from(trace))?;
+    put_number(err, b" ", u64::from(node))?;
+    say(err, b" ", decimal(u64::from(line)).as_slice())?;
     Ok(())
 }
 
@@ -197,7 +221,7 @@ fn say_fault<E: Sink>(err: &mut E, fault: Step) -> Result<(), WriteFault>
 }
 
 /// A name by its number, or no bytes where there is none.
-fn name_at<'a>(names: &[&'a str], number: u32) -> &'a [u8]
+fn name_at<'a>(names: &[&'a str], number: u64) -> &'a [u8]
     ensures { result.now ≡ name_at (map (λ name. name.now) names.now) number }
 {
     let at = number as usize;
@@ -208,23 +232,26 @@ fn name_at<'a>(names: &[&'a str], number: u32) -> &'a [u8]
     }
 }
 
-/// Writes the line of a cause of a command that reads the files of these names, where a rule is broken at this place.
+/// Writes the line of a cause of a command that reads the files of these names, the modules' at this number and behind it, where a
+/// rule is broken at this place.
 pub fn report<E: Sink>(
     err: &mut E,
     cause: Cause,
     place: Position,
     names: &[&str],
+    first: u32,
 ) -> Result<(), WriteFault>
-    ensures all { OnOk result (TookAll (E.account err.old) (E.account err.new) (line_of (map (λ name. name.now) names.now) place cause)) }
+    ensures all { OnOk result (TookAll (E.account err.old) (E.account err.new) (line_of (map (λ name. name.now) names.now) first place cause)) }
     ensures rises { (E.account err.old).faults ≤ (E.account err.new).faults }
     ensures failed { OnErr result (Faulted (E.account err.old) (E.account err.new)) }
 {
     match cause {
         Cause::Usage => say(err, b"trc: usage", b""),
-        Cause::NoSuchFile { word } => say(err, b"trc: no file ", name_at(names, word)),
+        Cause::NoSuchFile { word } => say(err, b"trc: no file ", name_at(names, u64::from(word))),
         Cause::ReadFault { device } => say(err, b"trc: read fault on ", name_of(device)),
         Cause::Source { number, module, .. } => {
-            say_source(err, name_at(names, module), place, number)
+            let name = name_at(names, u64::from(first) + u64::from(module));
+            say_source(err, name, place, number)
         }
         Cause::Limit { number, index } => say_limit(err, number, index),
         Cause::BadLine { line } => say(err, b"trc: bad line ", decimal(u64::from(line)).as_slice()),
@@ -234,6 +261,8 @@ pub fn report<E: Sink>(
             decimal(u64::from(at)).as_slice(),
         ),
         Cause::NotImage { number, at } => say_no_image(err, number, at),
+        Cause::NotNotes { number, at } => say_no_notes(err, number, at),
+        Cause::Unsound { trace, node, line } => say_unsound(err, trace, node, line),
         Cause::InputTooLong => say(err, b"trc: input too long", b""),
         Cause::Trapped { kind, spot } => say_trap(err, kind, spot),
         Cause::MachineFault { fault } => say_fault(err, fault),

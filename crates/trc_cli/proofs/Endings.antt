@@ -8,42 +8,21 @@ use Rattle.image_form.specs.declared.image.Image.{Image}
 use Rattle.program_image.specs.declared.imaging.Compiled.{Compiled}
 use Rattle.source_image.specs.Images.{IsImageOfTexts, AreTracesOfTexts}
 use Rattle.source_image.specs.Refusals.{IsRefusal, IsRefusalOfTraces}
-use Rattle.source_image.specs.declared.refusal.Refusal.{Refusal}
-use Rattle.source_image.specs.declared.refusal.Refusal.TheVariants.{TooLong, Source, Limit, Memory}
+use Rattle.source_image.specs.declared.refusal.Refusal.TheVariants.{Memory}
 use Rattle.trc_answers.specs.declared.causes.Cause.{Cause}
 use Rattle.trc_answers.specs.declared.causes.Cause.TheVariants as cause
 use Rattle.trc_answers.specs.declared.causes.Outcome.{Outcome}
 use Rattle.trc_answers.specs.Causes.{IsPlaced, line_of, status_of}
 use Rattle.trc_answers.specs.Causes.{TookLine}
 use Rattle.trc_answers.specs.Verdict.{Verdict, Refuses, world}
-use Rattle.trc_answers.specs.Reading.{AreTextsOf}
 use Rattle.trc_answers.specs.Answers.{Devices, devices, Answers, PrintAnswers}
 use Rattle.trc_answers.proofs.Answering.{refuses, lacks, mapped, prints}
-use Rattle.trc_answers.proofs.Texts.{text_at, placed_as}
-use Rattle.trc_cli.specs.Commands.{cause_of_refusal, IsRefusedAs, AreRefused, TextsComeTo, HaveNoImage, HaveImage, TracesComeTo, HaveNoTraces, HaveTraces, IsTextIn, IsTextHeld, IsTextOf, names_read, ComesTo, FaultsOnlyInExec, FilesUse, InputUse}
+use Rattle.trc_cli.specs.Commands.{IsRefusedAs, TextsComeTo, HaveNoImage, HaveImage, TracesComeTo, HaveNoTraces, HaveTraces, IsTextOf, first_module, names_read, ComesTo, FaultsOnlyInExec, FilesUse, InputUse}
+use Rattle.trc_texts.proofs.Refusing.{refused}
 use Rattle.trc_cli.specs.Lines.{IsTold}
-use Rattle.trc_words.specs.Asked.{Asked, Run, Build, Elf, Exec, Traces, Bulk, Batch, Help}
+use Rattle.trc_words.specs.Asked.{Asked, Run, Build, Elf, Exec, Traces, Bulk, Audit, Batch, Help}
 use Rattle.trc_cli.specs.Did.{Did}
 use Rattle.trc_cli.proofs.Sound.{faults_only_in_exec}
-
--- a command that comes to what refused texts come to
-module _ (IsWhy : Refusal → Type 0) (comes : Option (List ℕ) → Verdict → Type 0) (of_refused : (left : Option (List ℕ)) (v : Verdict) → AreRefused IsWhy v → comes left v) where
-  refused_as : (refusal : Refusal) → IsWhy refusal → (refusal ≡ Memory → ⊥) → (cause : Cause) → cause ≡ cause_of_refusal refusal
-      → (held : Option Held) (m : ℕ) (left : Option (List ℕ)) (k : ℕ) (out : Account) → Answers comes (devices held m left k out) (devices held m left k out) cause
-  refused_as refusal is tells cause e held m left k out =
-      refuses comes held held m m left k out cause refl
-      (of_refused left (Refuses cause) (record { refusal = refusal; is = is; tells = tells; verdict_is = ap Refuses e }))
-
-  refused_for : (refusal : Refusal) → IsWhy refusal → (cause : Cause) → cause ≡ cause_of_refusal refusal
-      → (held : Option Held) (m : ℕ) (left : Option (List ℕ)) (k : ℕ) (out : Account) → Answers comes (devices held m left k out) (devices held m left k out) cause
-  refused_for (TooLong n) is cause e held m left k out = refused_as (TooLong n) is (λ x. let z : TooLong n ≡ Memory = x in cc) cause e held m left k out
-  refused_for (Source n number at) is cause e held m left k out = refused_as (Source n number at) is (λ x. let z : Source n number at ≡ Memory = x in cc) cause e held m left k out
-  refused_for (Limit number index) is cause e held m left k out = refused_as (Limit number index) is (λ x. let z : Limit number index ≡ Memory = x in cc) cause e held m left k out
-  refused_for Memory is cause e held m left k out = lacks comes held held m m left k out cause e refl
-
-  pub refused : (cause : Cause) → IsRefusedAs IsWhy cause → (held : Option Held) (m : ℕ) (left : Option (List ℕ)) (k : ℕ) (out : Account)
-      → Answers comes (devices held m left k out) (devices held m left k out) cause
-  refused cause h = refused_for h.refusal h.is cause h.cause_is
 
 -- texts have no image
 pub no_image : (choice : Choice) (texts : List (List ℕ)) (next : Option (List ℕ) → Compiled → Verdict → Type 0) (cause : Cause) → IsRefusedAs (IsRefusal choice texts) cause
@@ -72,25 +51,18 @@ pub has_traces : (choice : Choice) (texts : List (List ℕ)) (lines printed : Li
 has_traces choice texts lines printed held m left k a b cause are same answers =
     prints (λ _. TracesComeTo choice texts) lines held m left k a b cause (HaveTraces lines are refl) (subst (λ ls. PrintAnswers ls a b cause) same answers)
 
----- Places
-
--- the place of a fault in texts is one in the texts that are held
-pub placed_held : (held : Option Held) (names texts : List (List ℕ)) (cause : Cause) (place : Position) → AreTextsOf held names texts
-    → IsPlaced (IsTextIn texts) cause place → IsPlaced (IsTextHeld held names) cause place
-placed_held held names texts cause place are h = placed_as (IsTextIn texts) (IsTextHeld held names) cause place (λ m text is. text_at held names texts m text are.read is) h
-
 ---- Lines without names
 
 told_plainly : (held : Option Held) (asked : Option Asked) (a b : Account) (place : Position) (cause other : Cause) → cause ≡ other → IsPlaced (IsTextOf held asked) other place
-    → line_of [] place other ≡ line_of (names_read asked) place other → TookLine a b (line_of [] place cause) → IsTold held asked a b cause
+    → line_of [] 0 place other ≡ line_of (names_read asked) (first_module asked) place other → TookLine a b (line_of [] 0 place cause) → IsTold held asked a b cause
 told_plainly held asked a b place cause other is placed same line =
     subst (IsTold held asked a b) (sym is)
-    (record { place = place; placed = placed; told = subst (TookLine a b) same (subst (λ c. TookLine a b (line_of [] place c)) is line) })
+    (record { place = place; placed = placed; told = subst (TookLine a b) same (subst (λ c. TookLine a b (line_of [] 0 place c)) is line) })
 
-pub told_of_memory : (held : Option Held) (asked : Option Asked) (a b : Account) (place : Position) (ended : Cause) → ended ≡ cause.Memory → TookLine a b (line_of [] place ended) → IsTold held asked a b ended
+pub told_of_memory : (held : Option Held) (asked : Option Asked) (a b : Account) (place : Position) (ended : Cause) → ended ≡ cause.Memory → TookLine a b (line_of [] 0 place ended) → IsTold held asked a b ended
 told_of_memory held asked a b place ended is line = told_plainly held asked a b place ended cause.Memory is tt refl line
 
-pub told_of_usage : (held : Option Held) (asked : Option Asked) (a b : Account) (place : Position) (ended : Cause) → ended ≡ cause.Usage → TookLine a b (line_of [] place ended) → IsTold held asked a b ended
+pub told_of_usage : (held : Option Held) (asked : Option Asked) (a b : Account) (place : Position) (ended : Cause) → ended ≡ cause.Usage → TookLine a b (line_of [] 0 place ended) → IsTold held asked a b ended
 told_of_usage held asked a b place ended is line = told_plainly held asked a b place ended cause.Usage is tt refl line
 
 ---- What was done
@@ -98,22 +70,24 @@ told_of_usage held asked a b place ended is line = told_plainly held asked a b p
 untouched : (request : Option Asked) (t : Devices) → FilesUse request t t
 untouched None t = record { held = refl; faults = refl }
 untouched (Some (Run files choice steps)) t = tt
-untouched (Some (Build out files choice from)) t = tt
+untouched (Some (Build out files choice from notes)) t = tt
 untouched (Some (Elf out files choice)) t = tt
 untouched (Some (Exec image steps)) t = tt
 untouched (Some (Traces files choice)) t = tt
 untouched (Some (Bulk seed size choice steps)) t = record { held = refl; faults = refl }
+untouched (Some (Audit out notes files builder regs)) t = tt
 untouched (Some (Batch list choice steps)) t = tt
 untouched (Some Help) t = record { held = refl; faults = refl }
 
 unread : (request : Option Asked) (t : Devices) → InputUse request t t
 unread None t = record { left = refl; faults = refl }
 unread (Some (Run files choice steps)) t = tt
-unread (Some (Build out files choice from)) t = record { left = refl; faults = refl }
+unread (Some (Build out files choice from notes)) t = record { left = refl; faults = refl }
 unread (Some (Elf out files choice)) t = record { left = refl; faults = refl }
 unread (Some (Exec image steps)) t = tt
 unread (Some (Traces files choice)) t = record { left = refl; faults = refl }
 unread (Some (Bulk seed size choice steps)) t = record { left = refl; faults = refl }
+unread (Some (Audit out notes files builder regs)) t = record { left = refl; faults = refl }
 unread (Some (Batch list choice steps)) t = record { left = refl; faults = refl }
 unread (Some Help) t = record { left = refl; faults = refl }
 

@@ -18,20 +18,22 @@ use Rattle.source_image.specs.declared.refusal.Refusal.TheVariants.{Memory as No
 use Rattle.bulk_text.specs.Bulk.{bulk_text}
 use Rattle.batch_jobs.specs.Jobs.{Reply, IsRunReply, cut_reply}
 use Rattle.batch_jobs.proofs.Once.{batch_once}
-use Rattle.trc_words.specs.Asked.{Asked, Run, Build, Elf, Exec, Traces, Bulk, Batch, Help}
+use Rattle.note_commands.specs.Noted.{NotedComeTo, NotedAnewComeTo, NotesWritten}
+use Rattle.note_commands.specs.Audits.{AuditOf, AuditComesTo, AreTooMany as AreTooManyModules, LacksNotes, LacksTexts, HasTexts, PlanComesTo, audit_of, one_behind}
+use Rattle.trc_words.specs.Asked.{Asked, Run, Build, Elf, Exec, Traces, Bulk, Audit, Batch, Help}
 use Rattle.trc_answers.specs.declared.causes.Cause.{Cause}
 use Rattle.trc_answers.specs.declared.causes.Cause.TheVariants.{Memory, NotImage, OtherImage}
 use Rattle.trc_answers.specs.declared.causes.Device.TheVariants.{Files, Input, Output}
-use Rattle.trc_answers.specs.Reading.{FilesComeTo, AreTooMany as AreTooManyFiles, LacksOne, HasALongOne, HaveTexts}
+use Rattle.trc_answers.specs.Reading.{FilesComeTo, AreTooMany as AreTooManyFiles, LacksOne, HasALongOne, HaveTexts, Nothing}
 use Rattle.trc_answers.specs.Causes.{status_of}
 use Rattle.trc_answers.specs.Runs.{run_of}
-use Rattle.trc_answers.specs.Verdict.{Verdict, Refuses, Runs, Writes, cause_of, FileComesTo, IsMissing, HasTooMany, HasBytes, ImageComesTo, RunsAlone, RunsOnInput, HasTooMuch, BytesComeTo, AreNoImage, AreAnImage, Written, WrittenElf, Renews, AreTheSame, Differ, most_image, world}
-use Rattle.trc_answers.specs.Answers.{Devices, Answers, AsItComes, FailsReadingFiles, FailsReadingInput, FailsPrinting, FailsWriting, LacksMemory, AllDone}
+use Rattle.trc_answers.specs.Verdict.{Verdict, Refuses, Runs, Writes, cause_of, FileComesTo, IsMissing, HasTooMany, HasBytes, ImageComesTo, RunsAlone, RunsOnInput, HasTooMuch, BytesComeTo, AreNoImage, AreAnImage, Written, WrittenElf, WrittenWith, Renews, AreTheSame, Differ, most_image, world}
+use Rattle.trc_answers.specs.Answers.{Devices, Answers, AsItComes, FailsReadingFiles, FailsReadingInput, FailsPrinting, FailsWriting, FailsWritingSecond, LacksMemoryBetween, LacksMemory, AllDone}
 use Rattle.trc_cli.specs.Commands.{ComesTo, AnewComesTo, cause_of_refusal, SummaryComesTo, TextsComeTo, HaveNoImage, HaveImage, TracesComeTo}
 use Rattle.trc_cli.specs.Laws.{Alike, NoneFailed}
 use Rattle.trc_cli.proofs.FilesOnce.{files_once, texts_there}
 use Rattle.trc_cli.proofs.Same.{alike, both, two}
-use Rattle.trc_cli.proofs.TextsOnce.{Laws, texts_once, traces_once, told_same}
+use Rattle.trc_cli.proofs.TextsOnce.{Laws, noted_once, texts_once, traces_once, told_same}
 
 image_once : (left : List ℕ) (steps : ℕ) (image : Image) (a b : Verdict) → ImageComesTo (Some left) steps image a → ImageComesTo (Some left) steps image b → Alike a b
 image_once left steps image a b (RunsAlone f e) (RunsAlone f' e') = both a b _ e e'
@@ -87,11 +89,11 @@ ordered n m = grind arith
 never_differ : (at : ℕ) (xs ys : List ℕ) → xs ≡ ys → DifferAt at xs ys → ⊥
 never_differ at xs ys same d = d.other (ap (λ l. slice_get l at) same)
 
-renews_once : (name bytes : List ℕ) (image : Image) (a b : Verdict) → Renews name bytes image a → Renews name bytes image b → Alike a b
-renews_once name bytes image a b (AreTheSame same e) (AreTheSame same' f) = both a b _ e f
-renews_once name bytes image a b (AreTheSame same e) (Differ at d f) = absurd (never_differ at bytes _ same d)
-renews_once name bytes image a b (Differ at d e) (AreTheSame same f) = absurd (never_differ at bytes _ same d)
-renews_once name bytes image a b (Differ at d e) (Differ other d' f) = two a b _ _ (ap (λ n. Refuses (OtherImage n)) (same_place at other bytes _ d d' (ordered at other))) e f
+renews_once : (bytes : List ℕ) (image : Image) (next : Verdict → Type 0) (a b : Verdict) → (next a → next b → Alike a b) → Renews bytes image next a → Renews bytes image next b → Alike a b
+renews_once bytes image next a b one (AreTheSame same h) (AreTheSame same' k) = one h k
+renews_once bytes image next a b one (AreTheSame same h) (Differ at d f) = absurd (never_differ at bytes _ same d)
+renews_once bytes image next a b one (Differ at d e) (AreTheSame same k) = absurd (never_differ at bytes _ same d)
+renews_once bytes image next a b one (Differ at d e) (Differ other d' f) = two a b _ _ (ap (λ n. Refuses (OtherImage n)) (same_place at other bytes _ d d' (ordered at other))) e f
 
 -- texts are replied to in one way
 reply_once : (laws : Laws) (choice : Choice) (steps : ℕ) (texts : List (List ℕ)) (one other : Reply) → IsRunReply choice steps texts one → IsRunReply choice steps texts other → one ≡ other
@@ -108,18 +110,49 @@ module _ (laws : Laws) (held : Held) (left : List ℕ) (a b : Verdict) where
       texts_once laws choice choice refl refl refl texts (λ made. next made.image) (λ made. next made.image) a b
       (λ made other is also i j. one other.image (subst (λ m. next m a) (laws.image choice choice texts made other refl refl refl is also).0 i) j) x y
 
+  -- an audit comes to one thing
+  audit_once : (of : AuditOf) (name : List ℕ) (files : List (List ℕ)) → AuditComesTo (Some held) of name files a → AuditComesTo (Some held) of name files b → Alike a b
+  audit_once of name files (AreTooManyModules many e) (AreTooManyModules many' f) = both a b _ e f
+  audit_once of name files (AreTooManyModules many e) (LacksNotes few none f) = absurd (omega (arith, many, few))
+  audit_once of name files (AreTooManyModules many e) (LacksTexts bytes c few there comes f) = absurd (omega (arith, many, few))
+  audit_once of name files (AreTooManyModules many e) (HasTexts bytes texts there are k) = let few = are.few in absurd (omega (arith, many, few))
+  audit_once of name files (LacksNotes few none e) (AreTooManyModules many f) = absurd (omega (arith, many, few))
+  audit_once of name files (LacksNotes few none e) (LacksNotes few' none' f) = both a b _ e f
+  audit_once of name files (LacksNotes few none e) (LacksTexts bytes c few' there comes f) = absurd (not_held bytes _ none there)
+  audit_once of name files (LacksNotes few none e) (HasTexts bytes texts there are k) = absurd (not_held bytes _ none there)
+  audit_once of name files (LacksTexts bytes c few there comes e) (AreTooManyModules many f) = absurd (omega (arith, many, few))
+  audit_once of name files (LacksTexts bytes c few there comes e) (LacksNotes few' none f) = absurd (not_held bytes _ none there)
+  audit_once of name files (LacksTexts bytes c few there comes e) (LacksTexts other d few' there' comes' f) =
+      two a b _ _ (ap (λ x. Refuses (one_behind x)) (files_once held files Nothing (Refuses c) (Refuses d) (λ texts x y. absurd x) comes comes').cause) e f
+  audit_once of name files (LacksTexts bytes c few there comes e) (HasTexts other texts there' are k) = absurd (texts_there held files Nothing texts (Refuses c) are comes)
+  audit_once of name files (HasTexts bytes texts there are h) (AreTooManyModules many f) = let few = are.few in absurd (omega (arith, many, few))
+  audit_once of name files (HasTexts bytes texts there are h) (LacksNotes few none f) = absurd (not_held bytes _ none there)
+  audit_once of name files (HasTexts bytes texts there are h) (LacksTexts other c few there' comes f) = absurd (texts_there held files Nothing texts (Refuses c) are comes)
+  audit_once of name files (HasTexts bytes texts there are h) (HasTexts other others there' are' k) =
+      let at : PlanComesTo of other texts b = texts_there held files (PlanComesTo of other) texts b are (HaveTexts others are' k) in
+      let plan : PlanComesTo of bytes texts b = subst (λ x. PlanComesTo of x texts b) (some_held bytes other _ there there') at in
+      subst (Alike a) (laws.audit of bytes texts a b h plan) (alike a)
+
   pub once : (asked : Option Asked) → ComesTo (world (Some held) (Some left)) asked a → ComesTo (world (Some held) (Some left)) asked b → Alike a b
   once None h k = both a b _ h k
   once (Some (Run files choice steps)) h k =
       files_once held files (TextsComeTo choice (λ made. ImageComesTo (Some left) steps made.image)) a b
       (λ texts x y. by_image choice texts (ImageComesTo (Some left) steps) (λ image i j. image_once left steps image a b i j) x y) h k
-  once (Some (Build out files choice None)) h k =
+  once (Some (Build out files choice None None)) h k =
       files_once held files (TextsComeTo choice (λ made. Written out made.image)) a b
       (λ texts x y. by_image choice texts (Written out) (λ image i j. both a b _ i j) x y) h k
-  once (Some (Build out files choice (Some from))) h k =
+  once (Some (Build out files choice (Some from) None)) h k =
       files_once held files (AnewComesTo (Some held) choice out from (length files)) a b
       (λ texts x y. file_once held (length files) from _ a b
-      (λ bytes u v. by_image choice texts (Renews out bytes) (λ image i j. renews_once out bytes image a b i j) u v) x y) h k
+      (λ bytes u v. by_image choice texts (λ image. Renews bytes image (Written out image)) (λ image i j. renews_once bytes image (Written out image) a b (both a b _) i j) u v) x y) h k
+  once (Some (Build out files choice None (Some notes))) h k =
+      files_once held files (NotedComeTo choice (NotesWritten out notes)) a b
+      (λ texts x y. noted_once laws choice texts (λ image. WrittenWith out image notes) a b (λ image bytes i j. both a b _ i j) x y) h k
+  once (Some (Build out files choice (Some from) (Some notes))) h k =
+      files_once held files (NotedAnewComeTo (Some held) choice out notes from (length files)) a b
+      (λ texts x y. file_once held (length files) from _ a b
+      (λ old u v. noted_once laws choice texts (λ image bytes. Renews old image (WrittenWith out image notes bytes)) a b
+      (λ image bytes i j. renews_once old image (WrittenWith out image notes bytes) a b (both a b _) i j) u v) x y) h k
   once (Some (Elf out files choice)) h k =
       files_once held files (TextsComeTo choice (λ made. WrittenElf out made.image)) a b
       (λ texts x y. by_image choice texts (WrittenElf out) (λ image i j. both a b _ i j) x y) h k
@@ -128,6 +161,7 @@ module _ (laws : Laws) (held : Held) (left : List ℕ) (a b : Verdict) where
   once (Some (Bulk seed size choice steps)) h k =
       texts_once laws choice choice refl refl refl (bulk_text seed size ∷ []) (SummaryComesTo steps) (SummaryComesTo steps) a b
       (λ made other is also i j. two a b _ _ (told_same steps made other (laws.image choice choice (bulk_text seed size ∷ []) made other refl refl refl is also)) i j) h k
+  once (Some (Audit out notes files builder regs)) h k = audit_once (audit_of out builder regs) notes files h k
   once (Some (Batch list choice steps)) h k = subst (Alike a) (batch_once held choice steps (reply_once laws choice steps) list a b h k) (alike a)
   once (Some Help) h k = both a b _ h k
 
@@ -191,7 +225,7 @@ module _ (one_image : (a b : Choice) (texts : List (List ℕ)) (made other : Com
   written_as : (image : Image) → Written out image (Writes out bytes) → image_bytes image ≡ bytes
   written_as image w = sym (same_bytes out bytes out (image_bytes image) w)
 
-  renewed_as : (from : List ℕ) (image : Image) → Renews out from image (Writes out bytes) → image_bytes image ≡ bytes
+  renewed_as : (from : List ℕ) (image : Image) → Renews from image (Written out image) (Writes out bytes) → image_bytes image ≡ bytes
   renewed_as from image (AreTheSame same w) = written_as image w
   renewed_as from image (Differ at d e) = absurd (not_refused out bytes _ e)
 
@@ -199,7 +233,7 @@ module _ (one_image : (a b : Choice) (texts : List (List ℕ)) (made other : Com
       → TextsComeTo other (λ m. ImageComesTo (Some left) steps m.image) texts ran → FileComesTo (Some later) 0 out (BytesComeTo (Some left) steps) executed → Alike ran executed
   exec_anew number from texts (IsMissing none e) y x = absurd (not_refused out bytes _ e)
   exec_anew number from texts (HasTooMany found is many e) y x = absurd (not_refused out bytes _ e)
-  exec_anew number from texts (HasBytes found is few w) y x = exec_texts (Renews out found) (renewed_as found) texts w y x
+  exec_anew number from texts (HasBytes found is few w) y x = exec_texts (λ image. Renews found image (Written out image)) (renewed_as found) texts w y x
 
   exec_files : (files : List (List ℕ)) (comes : List (List ℕ) → Verdict → Type 0)
       → ((texts : List (List ℕ)) → comes texts (Writes out bytes) → TextsComeTo other (λ m. ImageComesTo (Some left) steps m.image) texts ran
@@ -211,7 +245,7 @@ module _ (one_image : (a b : Choice) (texts : List (List ℕ)) (made other : Com
   exec_files files comes one (HasALongOne number name text reached is long e) y x = absurd (not_refused out bytes _ e)
   exec_files files comes one (HaveTexts texts are w) y x = let read = texts_there held files (TextsComeTo other (λ m. ImageComesTo (Some left) steps m.image)) texts ran are y in one texts w read x
 
-  pub exec_is_run : (files : List (List ℕ)) (from : Option (List ℕ)) → ComesTo (world (Some held) (Some left)) (Some (Build out files choice from)) (Writes out bytes)
+  pub exec_is_run : (files : List (List ℕ)) (from : Option (List ℕ)) → ComesTo (world (Some held) (Some left)) (Some (Build out files choice from None)) (Writes out bytes)
       → ComesTo (world (Some held) (Some left)) (Some (Run files other steps)) ran → ComesTo (world (Some later) (Some left)) (Some (Exec out steps)) executed → Alike ran executed
   exec_is_run files None w y x = exec_files files _ (exec_texts (Written out) written_as) w y x
   exec_is_run files (Some from) w y x = exec_files files _ (exec_anew (length files) from) w y x
@@ -222,5 +256,7 @@ quiet asked old new cause none (AsItComes verdict it is done) = inr (verdict, it
 quiet asked old new cause none (FailsReadingFiles is rose nothing still) = absurd (none.none Files rose)
 quiet asked old new cause none (FailsReadingInput reads is rose nothing) = absurd (none.none Input rose)
 quiet asked old new cause none (FailsPrinting verdict it is cut) = absurd (none.none Output cut.failed)
-quiet asked old new cause none (FailsWriting name bytes it is rose took file still) = absurd (none.none Files rose)
+quiet asked old new cause none (FailsWriting verdict name bytes rest it first is failed) = absurd (none.none Files failed.failed)
+quiet asked old new cause none (FailsWritingSecond name bytes other others it is failed) = absurd (none.none Files failed.failed)
+quiet asked old new cause none (LacksMemoryBetween name bytes other others it is half) = inl is
 quiet asked old new cause none (LacksMemory is nothing either) = inl is

@@ -1,16 +1,10 @@
 -- Verdicts that come to the same.
 use Rattle.std.proofs.Common.{◌≡◌, ◌∙◌, refl, sym, subst}
-use Rattle.trc_answers.specs.Verdict.{Verdict, Refuses, Runs, Writes, Prints}
-use Rattle.trc_cli.specs.Laws.{Alike, SameFile}
-
-same_file : (v : Verdict) → SameFile v v
-same_file (Refuses cause) = tt
-same_file (Runs reads places outcome) = tt
-same_file (Writes name bytes) = (refl, refl)
-same_file (Prints lines) = tt
+use Rattle.trc_answers.specs.Verdict.{Verdict}
+use Rattle.trc_cli.specs.Laws.{Alike}
 
 pub alike : (v : Verdict) → Alike v v
-alike v = record { cause = refl; written = refl; file = same_file v }
+alike v = record { cause = refl; written = refl; files = refl }
 
 -- two that are one verdict
 pub both : (a b v : Verdict) → a ≡ v → b ≡ v → Alike a b

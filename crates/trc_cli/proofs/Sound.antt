@@ -15,12 +15,16 @@ use Rattle.text_laws.specs.no_faults.Faults.{IsBreak}
 use Rattle.text_laws.proofs.no_faults.Never.{image_never_faults}
 use Rattle.bulk_text.specs.Bulk.{bulk_text}
 use Rattle.batch_jobs.specs.Batches.{BatchComesTo, LacksList, HasLongList, HasList, HasBadLine, HasLines, AreTooMany, AreTooLarge, HaveJobs}
-use Rattle.trc_words.specs.Asked.{Asked, Run, Build, Elf, Exec, Traces, Bulk, Batch, Help}
+use Rattle.noted_image.specs.declared.noting.NotedImage.{NotedImage}
+use Rattle.note_commands.specs.Noted.{NotedComeTo, HaveNoNotes, HaveNotes}
+use Rattle.note_commands.specs.Audits.{AuditOf, AuditComesTo, AreTooMany as AreTooManyModules, LacksNotes, LacksTexts, HasTexts, PlanComesTo, HaveNoPlan, HavePlan, AreTooLong, AreNoNotes, HaveResults, AreUnsound, MakeMuchCode, MakeAnImage, one_behind}
+use Rattle.trc_words.specs.Asked.{Asked, Run, Build, Elf, Exec, Traces, Bulk, Audit, Batch, Help}
 use Rattle.trc_answers.specs.declared.causes.Cause.{Cause}
+use Rattle.trc_answers.specs.declared.causes.Cause.TheVariants as cause
 use Rattle.trc_answers.specs.Reading.{FilesComeTo, AreTooMany as AreTooManyFiles, LacksOne, HasALongOne, HaveTexts}
 use Rattle.trc_answers.specs.Runs.{run_of, cause_of_trap, cause_of_run}
-use Rattle.trc_answers.specs.Verdict.{Verdict, cause_of, FileComesTo, IsMissing, HasTooMany, HasBytes, ImageComesTo, RunsAlone, RunsOnInput, HasTooMuch, Renews, AreTheSame, Differ, world}
-use Rattle.trc_answers.specs.Answers.{Devices, Answers, AsItComes, FailsReadingFiles, FailsReadingInput, FailsPrinting, FailsWriting, LacksMemory}
+use Rattle.trc_answers.specs.Verdict.{Verdict, Refuses, cause_of, FileComesTo, IsMissing, HasTooMany, HasBytes, ImageComesTo, RunsAlone, RunsOnInput, HasTooMuch, Renews, AreTheSame, Differ, world}
+use Rattle.trc_answers.specs.Answers.{Devices, Answers, AsItComes, FailsReadingFiles, FailsReadingInput, FailsPrinting, FailsWriting, FailsWritingSecond, LacksMemoryBetween, LacksMemory}
 use Rattle.trc_cli.specs.Commands.{ComesTo, IsNoMachineFault, FaultsOnlyInExec, cause_of_refusal, TextsComeTo, HaveNoImage, HaveImage, TracesComeTo, HaveNoTraces, HaveTraces, told_of_run}
 
 -- the cause of a verdict is none
@@ -81,9 +85,31 @@ file_sound held number name next v f (IsMissing none e) = as_sound v _ e tt
 file_sound held number name next v f (HasTooMany bytes is many e) = as_sound v _ e tt
 file_sound held number name next v f (HasBytes bytes is few h) = f bytes h
 
-renews_sound : (name bytes : List ℕ) (image : Image) (v : Verdict) → Renews name bytes image v → Sound v
-renews_sound name bytes image v (AreTheSame same e) = as_sound v _ e tt
-renews_sound name bytes image v (Differ at d e) = as_sound v _ e tt
+renews_sound : (bytes : List ℕ) (image : Image) (next : Verdict → Type 0) (v : Verdict) → (next v → Sound v) → Renews bytes image next v → Sound v
+renews_sound bytes image next v f (AreTheSame same h) = f h
+renews_sound bytes image next v f (Differ at d e) = as_sound v _ e tt
+
+noted_sound : (choice : Choice) (next : NotedImage → Verdict → Type 0) (texts : List (List ℕ)) (v : Verdict) → ((made : NotedImage) → next made v → Sound v) → NotedComeTo choice next texts v → Sound v
+noted_sound choice next texts v f (HaveNoNotes r) = as_sound v _ r.verdict_is (refusals r.refusal)
+noted_sound choice next texts v f (HaveNotes made is h) = f made h
+
+behind_sound : (c : Cause) → IsNoMachineFault c → IsNoMachineFault (one_behind c)
+behind_sound (cause.NoSuchFile number) h = tt
+behind_sound _ h = h
+
+plan_sound : (of : AuditOf) (bytes : List ℕ) (texts : List (List ℕ)) (v : Verdict) → PlanComesTo of bytes texts v → Sound v
+plan_sound of bytes texts v (HaveNoPlan r) = as_sound v _ r.verdict_is (refusals r.refusal)
+plan_sound of bytes texts v (HavePlan plan is (AreTooLong long e)) = as_sound v _ e tt
+plan_sound of bytes texts v (HavePlan plan is (AreNoNotes number at few rule e)) = as_sound v _ e tt
+plan_sound of bytes texts v (HavePlan plan is (HaveResults outs few are same (AreUnsound trace node line found e))) = as_sound v _ e tt
+plan_sound of bytes texts v (HavePlan plan is (HaveResults outs few are same (MakeMuchCode much e))) = as_sound v _ e tt
+plan_sound of bytes texts v (HavePlan plan is (HaveResults outs few are same (MakeAnImage image of_results form words e))) = as_sound v _ e tt
+
+audit_sound : (held : Option Held) (of : AuditOf) (name : List ℕ) (files : List (List ℕ)) (v : Verdict) → AuditComesTo held of name files v → Sound v
+audit_sound held of name files v (AreTooManyModules many e) = as_sound v _ e tt
+audit_sound held of name files v (LacksNotes few none e) = as_sound v _ e tt
+audit_sound held of name files v (LacksTexts bytes c few there comes e) = as_sound v _ e (behind_sound c (files_sound held files _ (Refuses c) (λ texts h. absurd h) comes))
+audit_sound held of name files v (HasTexts bytes texts there are h) = plan_sound of bytes texts v h
 
 batch_sound : (held : Option Held) (choice : Choice) (steps : ℕ) (list : List ℕ) (v : Verdict) → BatchComesTo held choice steps list v → Sound v
 batch_sound held choice steps list v (LacksList none e) = as_sound v _ e tt
@@ -98,14 +124,18 @@ comes_sound : (held : Option Held) (left : Option (List ℕ)) (asked : Option As
 comes_sound held left None v h = as_sound v _ h tt
 comes_sound held left (Some (Run files choice steps)) v h =
     files_sound held files _ v (λ texts. texts_sound choice texts _ v (λ made is. image_sound choice texts made left steps v is)) h
-comes_sound held left (Some (Build out files choice None)) v h = files_sound held files _ v (λ texts. texts_sound choice texts _ v (λ made is e. as_sound v _ e tt)) h
-comes_sound held left (Some (Build out files choice (Some from))) v h =
-    files_sound held files _ v (λ texts. file_sound held (length files) from _ v (λ bytes. texts_sound choice texts _ v (λ made is. renews_sound out bytes made.image v))) h
+comes_sound held left (Some (Build out files choice None None)) v h = files_sound held files _ v (λ texts. texts_sound choice texts _ v (λ made is e. as_sound v _ e tt)) h
+comes_sound held left (Some (Build out files choice (Some from) None)) v h =
+    files_sound held files _ v (λ texts. file_sound held (length files) from _ v (λ bytes. texts_sound choice texts _ v (λ made is. renews_sound bytes made.image _ v (λ e. as_sound v _ e tt)))) h
+comes_sound held left (Some (Build out files choice None (Some notes))) v h = files_sound held files _ v (λ texts. noted_sound choice _ texts v (λ made e. as_sound v _ e tt)) h
+comes_sound held left (Some (Build out files choice (Some from) (Some notes))) v h =
+    files_sound held files _ v (λ texts. file_sound held (length files) from _ v (λ bytes. noted_sound choice _ texts v (λ made. renews_sound bytes made.image _ v (λ e. as_sound v _ e tt)))) h
 comes_sound held left (Some (Elf out files choice)) v h = files_sound held files _ v (λ texts. texts_sound choice texts _ v (λ made is e. as_sound v _ e tt)) h
 comes_sound held left (Some (Exec image steps)) v h = tt
 comes_sound held left (Some (Traces files choice)) v h = files_sound held files _ v (λ texts. traces_sound choice texts v) h
 comes_sound held left (Some (Bulk seed size choice steps)) v h =
     texts_sound choice (bulk_text seed size ∷ []) _ v (λ made is e. as_sound v _ e (told_sound choice (bulk_text seed size ∷ []) made steps is (run_of made.image [] steps) refl)) h
+comes_sound held left (Some (Audit out notes files builder regs)) v h = audit_sound held _ notes files v h
 comes_sound held left (Some (Batch list choice steps)) v h = batch_sound held choice steps list v h
 comes_sound held left (Some Help) v h = as_sound v _ h tt
 
@@ -116,11 +146,12 @@ as_cause asked c d e h = subst (FaultsOnlyInExec asked) (sym e) h
 other_cause : (asked : Option Asked) (c : Cause) → IsNoMachineFault c → FaultsOnlyInExec asked c
 other_cause None c h = h
 other_cause (Some (Run files choice steps)) c h = h
-other_cause (Some (Build out files choice from)) c h = h
+other_cause (Some (Build out files choice from notes)) c h = h
 other_cause (Some (Elf out files choice)) c h = h
 other_cause (Some (Exec image steps)) c h = tt
 other_cause (Some (Traces files choice)) c h = h
 other_cause (Some (Bulk seed size choice steps)) c h = h
+other_cause (Some (Audit out notes files builder regs)) c h = h
 other_cause (Some (Batch list choice steps)) c h = h
 other_cause (Some Help) c h = h
 
@@ -129,5 +160,7 @@ faults_only_in_exec asked old new c (AsItComes v it is done) = as_cause asked c 
 faults_only_in_exec asked old new c (FailsReadingFiles is rose nothing still) = as_cause asked c _ is (other_cause asked _ tt)
 faults_only_in_exec asked old new c (FailsReadingInput reads is rose nothing) = as_cause asked c _ is (other_cause asked _ tt)
 faults_only_in_exec asked old new c (FailsPrinting v it is cut) = as_cause asked c _ is (other_cause asked _ tt)
-faults_only_in_exec asked old new c (FailsWriting name bytes it is rose took file still) = as_cause asked c _ is (other_cause asked _ tt)
+faults_only_in_exec asked old new c (FailsWriting v name bytes rest it first is failed) = as_cause asked c _ is (other_cause asked _ tt)
+faults_only_in_exec asked old new c (FailsWritingSecond name bytes other others it is failed) = as_cause asked c _ is (other_cause asked _ tt)
+faults_only_in_exec asked old new c (LacksMemoryBetween name bytes other others it is half) = as_cause asked c _ is (other_cause asked _ tt)
 faults_only_in_exec asked old new c (LacksMemory is nothing either) = as_cause asked c _ is (other_cause asked _ tt)

@@ -1,12 +1,17 @@
 -- Texts come to one thing, by the laws of texts.
-use Rattle.std.proofs.Common.{◌≡◌, ℕ, List, [], length, refl, sym, ap, ◌∙◌}
+use Rattle.std.proofs.Common.{◌≡◌, ℕ, List, [], length, refl, sym, ap, ◌∙◌, subst}
 use Rattle.image_form.specs.declared.image.Image.{Image}
 use Rattle.run_laws.specs.Runs.{Outcome, Ended, Trapped, Going}
 use Rattle.a64_machine.specs.State.{Trap}
 use Rattle.alloc_choice.specs.declared.choice.Choice.{Choice}
 use Rattle.program_image.specs.declared.imaging.Compiled.{Compiled}
 use Rattle.source_image.specs.Images.{IsImageOfTexts, AreTracesOfTexts}
-use Rattle.source_image.specs.Refusals.{IsRefusal, IsRefusalOfTraces}
+use Rattle.source_image.specs.Refusals.{IsRefusal, IsRefusalOf, IsRefusalOfTraces}
+use Rattle.noted_image.specs.Faults.{TellsWithNotes}
+use Rattle.noted_image.specs.Notes.{IsNotedImageOfTexts}
+use Rattle.noted_image.specs.declared.noting.NotedImage.{NotedImage}
+use Rattle.note_commands.specs.Noted.{NotedComeTo, HaveNoNotes, HaveNotes}
+use Rattle.note_commands.specs.Audits.{AuditOf, PlanComesTo}
 use Rattle.source_image.specs.declared.refusal.Refusal.{Refusal}
 use Rattle.source_image.specs.declared.refusal.Refusal.TheVariants.{Memory}
 use Rattle.trc_answers.specs.Runs.{run_of, cause_of_run}
@@ -30,8 +35,26 @@ pub record Laws : Type 0 where
       → AreTracesOfTexts a texts lines → IsRefusalOfTraces b texts r → r ≡ Memory
   pub report : (a b : Choice) (texts : List (List ℕ)) (lines others : List ℕ) → a.policy ≡ b.policy → a.builder ≡ b.builder
       → AreTracesOfTexts a texts lines → AreTracesOfTexts b texts others → lines ≡ others
+  pub noted_image : (a b : Choice) (texts : List (List ℕ)) (made other : NotedImage) → a.policy ≡ b.policy → a.builder ≡ b.builder → a.regs ≡ b.regs
+      → IsNotedImageOfTexts a texts made → IsNotedImageOfTexts b texts other → (made.image ≡ other.image) × (made.notes.items ≡ other.notes.items)
+  pub noted_refusal : (a b : Choice) (texts : List (List ℕ)) (r s : Refusal) → a.policy ≡ b.policy → a.builder ≡ b.builder → a.regs ≡ b.regs
+      → IsRefusalOf (TellsWithNotes a) texts r → IsRefusalOf (TellsWithNotes b) texts s → ¬ (r ≡ Memory) → ¬ (s ≡ Memory) → r ≡ s
+  pub noted_excluded : (a b : Choice) (texts : List (List ℕ)) (made : NotedImage) (r : Refusal) → a.policy ≡ b.policy → a.builder ≡ b.builder → a.regs ≡ b.regs
+      → IsNotedImageOfTexts a texts made → IsRefusalOf (TellsWithNotes b) texts r → r ≡ Memory
+  pub audit : (of : AuditOf) (bytes : List ℕ) (texts : List (List ℕ)) (a b : Verdict) → PlanComesTo of bytes texts a → PlanComesTo of bytes texts b → a ≡ b
 
 module _ (laws : Laws) where
+  -- by the image and the notes that texts have
+  pub noted_once : (choice : Choice) (texts : List (List ℕ)) (next : Image → List ℕ → Verdict → Type 0) (v w : Verdict) → ((image : Image) (notes : List ℕ) → next image notes v → next image notes w → Alike v w)
+      → NotedComeTo choice (λ made. next made.image made.notes.items) texts v → NotedComeTo choice (λ made. next made.image made.notes.items) texts w → Alike v w
+  noted_once choice texts next v w f (HaveNotes made is h) (HaveNotes other also k) =
+      let same = laws.noted_image choice choice texts made other refl refl refl is also in
+      f other.image other.notes.items (subst (λ i. next i other.notes.items v) same.0 (subst (λ notes. next made.image notes v) same.1 h)) k
+  noted_once choice texts next v w f (HaveNotes made is h) (HaveNoNotes r) = absurd (r.tells (laws.noted_excluded choice choice texts made r.refusal refl refl refl is r.is))
+  noted_once choice texts next v w f (HaveNoNotes r) (HaveNotes other also k) = absurd (r.tells (laws.noted_excluded choice choice texts other r.refusal refl refl refl also r.is))
+  noted_once choice texts next v w f (HaveNoNotes r) (HaveNoNotes s) =
+      two v w _ _ (ap (λ k. Refuses (cause_of_refusal k)) (laws.noted_refusal choice choice texts r.refusal s.refusal refl refl refl r.is s.is r.tells s.tells)) r.verdict_is s.verdict_is
+
   module _ (a b : Choice) (policy : a.policy ≡ b.policy) (builder : a.builder ≡ b.builder) (regs : a.regs ≡ b.regs) (texts : List (List ℕ)) (next other_next : Compiled → Verdict → Type 0) (v w : Verdict) where
     pub texts_once : ((made other : Compiled) → IsImageOfTexts a texts made → IsImageOfTexts b texts other → next made v → other_next other w → Alike v w)
         → TextsComeTo a next texts v → TextsComeTo b other_next texts w → Alike v w

@@ -1,5 +1,5 @@
 -- What each command comes to when nothing fails.
-use Rattle.std.specs.Prelude.{◌≡◌, ℕ, List, [], ◌∷◌, ◌++◌, length, decimal, Option, Some, None, codes, slice_get, option_to_list}
+use Rattle.std.specs.Prelude.{◌≡◌, ℕ, List, [], ◌∷◌, ◌++◌, length, decimal, Option, Some, None, codes, option_to_list}
 use Rattle.outside.specs.Files.{Held}
 use Rattle.run_laws.specs.Runs.{Outcome, Ended}
 use Rattle.a64_machine.specs.State.{Trap}
@@ -7,14 +7,16 @@ use Rattle.alloc_choice.specs.declared.choice.Choice.{Choice}
 use Rattle.program_image.specs.declared.imaging.Compiled.{Compiled}
 use Rattle.bulk_text.specs.Bulk.{bulk_text}
 use Rattle.batch_jobs.specs.Batches.{BatchComesTo}
-use Rattle.trc_words.specs.Asked.{Asked, Run, Build, Elf, Exec, Traces, Bulk, Batch, Help}
+use Rattle.note_commands.specs.Audits.{AuditComesTo, audit_of}
+use Rattle.note_commands.specs.Noted.{NotedAnewComeTo, NotedComeTo, NotesWritten}
+use Rattle.trc_words.specs.Asked.{Asked, Run, Build, Elf, Exec, Traces, Bulk, Audit, Batch, Help}
 use Rattle.trc_answers.specs.declared.causes.Cause.{Cause}
 use Rattle.trc_answers.specs.declared.causes.Cause.TheVariants as cause
 use Rattle.trc_answers.specs.Answers.{Devices, InputStays}
 use Rattle.trc_answers.specs.Reading.{FilesComeTo}
 use Rattle.trc_answers.specs.Runs.{run_of, cause_of_run}
-use Rattle.trc_answers.specs.Verdict.{Verdict, Refuses, Prints, World, IsHeld, FileComesTo, ImageComesTo, BytesComeTo, Written, WrittenElf, Renews}
-pub use Rattle.trc_texts.specs.Texts.{cause_of_refusal, NamesText, IsRefusedAs, AreRefused, TextsComeTo, HaveNoImage, HaveImage, TracesComeTo, HaveNoTraces, HaveTraces, IsTextIn}
+use Rattle.trc_answers.specs.Verdict.{Verdict, Refuses, Prints, World, FileComesTo, ImageComesTo, BytesComeTo, Written, WrittenElf, Renews}
+pub use Rattle.trc_texts.specs.Texts.{cause_of_refusal, NamesText, IsRefusedAs, AreRefused, TextsComeTo, HaveNoImage, HaveImage, TracesComeTo, HaveNoTraces, HaveTraces, IsTextIn, IsTextHeld}
 use Rattle.trc_cli.specs.declared.bulk.Counts.{Counts}
 
 ---- Made modules
@@ -46,21 +48,24 @@ SummaryComesTo steps made verdict = verdict ≡ told_of_run made (run_of made.im
 
 -- the lines of help
 abbrev pub help_lines : List ℕ
-help_lines = codes "trc run|build|elf|traces|exec|bulk|batch|help" ++ (10 ∷ (codes "--policy --traces --regs --jobs --steps --from" ++ 10 ∷ []))
+help_lines = codes "trc run|build|elf|traces|exec|bulk|audit|batch|help" ++ (10 ∷ (codes "--policy --traces --regs --jobs --steps --from --notes" ++ 10 ∷ []))
 
 -- an image is built anew from that of an older file, which is the next that is read
 abbrev pub AnewComesTo : Option Held → Choice → (out from : List ℕ) (number : ℕ) → List (List ℕ) → Verdict → Type 0
-AnewComesTo held choice out from number texts = FileComesTo held number from (λ bytes. TextsComeTo choice (λ made. Renews out bytes made.image) texts)
+AnewComesTo held choice out from number texts = FileComesTo held number from (λ bytes. TextsComeTo choice (λ made. Renews bytes made.image (Written out made.image)) texts)
 
 -- what each command comes to
 abbrev pub RequestComesTo : World → Asked → Verdict → Type 0
 RequestComesTo world (Run files choice steps) = FilesComeTo world.held files (TextsComeTo choice (λ made. ImageComesTo world.left steps made.image))
-RequestComesTo world (Build out files choice None) = FilesComeTo world.held files (TextsComeTo choice (λ made. Written out made.image))
-RequestComesTo world (Build out files choice (Some from)) = FilesComeTo world.held files (AnewComesTo world.held choice out from (length files))
+RequestComesTo world (Build out files choice None None) = FilesComeTo world.held files (TextsComeTo choice (λ made. Written out made.image))
+RequestComesTo world (Build out files choice (Some from) None) = FilesComeTo world.held files (AnewComesTo world.held choice out from (length files))
+RequestComesTo world (Build out files choice None (Some notes)) = FilesComeTo world.held files (NotedComeTo choice (NotesWritten out notes))
+RequestComesTo world (Build out files choice (Some from) (Some notes)) = FilesComeTo world.held files (NotedAnewComeTo world.held choice out notes from (length files))
 RequestComesTo world (Elf out files choice) = FilesComeTo world.held files (TextsComeTo choice (λ made. WrittenElf out made.image))
 RequestComesTo world (Exec image steps) = FileComesTo world.held 0 image (BytesComeTo world.left steps)
 RequestComesTo world (Traces files choice) = FilesComeTo world.held files (TracesComeTo choice)
 RequestComesTo world (Bulk seed size choice steps) = TextsComeTo choice (SummaryComesTo steps) (bulk_text seed size ∷ [])
+RequestComesTo world (Audit out notes files builder regs) = AuditComesTo world.held (audit_of out builder regs) notes files
 RequestComesTo world (Batch list choice steps) = BatchComesTo world.held choice steps list
 RequestComesTo world Help = λ verdict. verdict ≡ Prints help_lines
 
@@ -103,20 +108,23 @@ FaultsOnlyInExec other cause = IsNoMachineFault cause
 abbrev pub names_read : Option Asked → List (List ℕ)
 names_read None = []
 names_read (Some (Run files choice steps)) = files
-names_read (Some (Build out files choice from)) = files ++ option_to_list from
+names_read (Some (Build out files choice from notes)) = files ++ option_to_list from
 names_read (Some (Elf out files choice)) = files
 names_read (Some (Exec image steps)) = image ∷ []
 names_read (Some (Traces files choice)) = files
 names_read (Some (Bulk seed size choice steps)) = []
+names_read (Some (Audit out notes files builder regs)) = notes ∷ files
 names_read (Some (Batch list choice steps)) = list ∷ []
 names_read (Some Help) = []
 
--- the text that is held under the name of this number
-abbrev pub IsTextHeld : Option Held → List (List ℕ) → ℕ → List ℕ → Type 0
-IsTextHeld held names number text = (name : List ℕ) × (slice_get names number ≡ Some name) × IsHeld held name (Some text)
+-- the number of the first module's name among these
+abbrev pub first_module : Option Asked → ℕ
+first_module (Some (Audit out notes files builder regs)) = 1
+first_module other = 0
 
 -- the text of the module of this number: the one that is made, or the one that is held
 abbrev pub IsTextOf : Option Held → Option Asked → ℕ → List ℕ → Type 0
-IsTextOf held (Some (Build out files choice from)) = IsTextHeld held files
+IsTextOf held (Some (Build out files choice from notes)) = IsTextHeld held files
+IsTextOf held (Some (Audit out notes files builder regs)) = IsTextHeld held files
 IsTextOf held (Some (Bulk seed size choice steps)) = IsTextIn (bulk_text seed size ∷ [])
 IsTextOf held asked = IsTextHeld held (names_read asked)

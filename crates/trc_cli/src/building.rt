@@ -1,9 +1,10 @@
 //! Modules are compiled, and their image, or its native program, is written to a file.
 
-ghost use Rattle.std.specs.Prelude.{◌≡◌, ◌≤◌, ℕ, List, Option, length, map, option_map};
+ghost use Rattle.std.specs.Prelude.{◌≡◌, ◌≤◌, ℕ, List, Option, Some, None, length, map};
 ghost use Rattle.alloc_choice.specs.Choice.{IsFitChoice};
 ghost use Rattle.outside.specs.Sink.{Account};
 ghost use Rattle.trc_words.specs.Asked.{Build};
+ghost use Rattle.trc_words.specs.Requests.{text};
 ghost use Rattle.trc_answers.specs.Answers.{Answers, devices};
 ghost use Rattle.trc_answers.specs.Causes.{IsPlaced};
 ghost use Rattle.trc_answers.specs.Reading.{FilesComeTo};
@@ -11,6 +12,7 @@ ghost use Rattle.trc_answers.specs.Verdict.{Renews, Written, WrittenElf, world};
 ghost use Rattle.trc_cli.specs.Commands.{AnewComesTo, IsTextHeld, IsTextIn, RequestComesTo, TextsComeTo};
 
 use items::Items;
+use note_commands::{build_anew_with_notes, build_with_notes};
 use outside::{Files, Gate};
 use source_image::Choice;
 use std::alloc::AllocGlobal;
@@ -88,7 +90,7 @@ fn renew_texts<R: Threads + Wait + AllocGlobal + Sync, F: Files, G: Gate>(
     requires choice { IsFitChoice choice.now }
     requires few { length texts.now ≤ 64 }
     ensures answers { (left : Option (List ℕ)) (faults : ℕ) (out : Account)
-        → Answers (λ _. TextsComeTo choice.now (λ made. Renews name.now bytes.now made.image) texts.now)
+        → Answers (λ _. TextsComeTo choice.now (λ made. Renews bytes.now made.image (Written name.now made.image)) texts.now)
         (devices (F.held files.old) (F.faults files.old) left faults out)
         (devices (F.held files.new) (F.faults files.new) left faults out) result.cause }
     ensures placed { IsPlaced (IsTextIn texts.now) result.cause result.place }
@@ -176,9 +178,9 @@ fn build_anew<R: Threads + Wait + AllocGlobal + Sync, F: Files, G: Gate>(
     }
 }
 
-/// Compiles the files of these names, and writes their image to the file `out`; where an older file is named, only where that holds
-/// the image in version 1.
-pub(crate) fn build_from<R: Threads + Wait + AllocGlobal + Sync, F: Files, G: Gate>(
+// Compiles the files of these names, and writes their image to the file `out`; where an older file is named, only where that holds
+// the image in version 1.
+fn build_from<R: Threads + Wait + AllocGlobal + Sync, F: Files, G: Gate>(
     rt: &R,
     out: &str,
     names: &[&str],
@@ -191,7 +193,7 @@ pub(crate) fn build_from<R: Threads + Wait + AllocGlobal + Sync, F: Files, G: Ga
     requires { IsFitChoice choice.now }
     ensures answers { (left : Option (List ℕ)) (faults : ℕ) (output : Account)
         → Answers (λ l. RequestComesTo (world (F.held files.old) l)
-        (Build out.now (map (λ name. name.now) names.now) choice.now (option_map (λ name. name.now) from.entry)))
+        (Build out.now (map (λ name. name.now) names.now) choice.now (text from.entry) None))
         (devices (F.held files.old) (F.faults files.old) left faults output)
         (devices (F.held files.new) (F.faults files.new) left faults output) result.cause }
     ensures placed { IsPlaced (IsTextHeld (F.held files.old) (map (λ name. name.now) names.now)) result.cause result.place }
@@ -200,6 +202,60 @@ pub(crate) fn build_from<R: Threads + Wait + AllocGlobal + Sync, F: Files, G: Ga
     match from {
         Some(from) => build_anew(rt, out, names, from, choice, files, gate, scaffolds),
         None => build(rt, out, names, choice, files, gate, scaffolds),
+    }
+}
+
+// The same, with the notes of the results behind the image, which are written to the file `notes` behind it.
+fn build_noted<R: Threads + Wait + AllocGlobal + Sync, F: Files, G: Gate>(
+    rt: &R,
+    out: &str,
+    notes: &str,
+    names: &[&str],
+    from: Option<&str>,
+    choice: &Choice,
+    files: &mut F,
+    gate: &G,
+) -> Ending
+    requires { IsFitChoice choice.now }
+    ensures answers { (left : Option (List ℕ)) (faults : ℕ) (output : Account)
+        → Answers (λ l. RequestComesTo (world (F.held files.old) l)
+        (Build out.now (map (λ name. name.now) names.now) choice.now (text from.entry) (Some notes.now)))
+        (devices (F.held files.old) (F.faults files.old) left faults output)
+        (devices (F.held files.new) (F.faults files.new) left faults output) result.cause }
+    ensures placed { IsPlaced (IsTextHeld (F.held files.old) (map (λ name. name.now) names.now)) result.cause result.place }
+    ensures rises { F.faults files.old ≤ F.faults files.new }
+{
+    match from {
+        Some(from) => { build_anew_with_notes(rt, out, notes, names, from, choice, files, gate) }
+        None => build_with_notes(rt, out, notes, names, choice, files, gate),
+    }
+}
+
+/// Compiles the files of these names, and writes their image to the file `out`; where an older file is named, only where that holds
+/// the image in version 1; and where a file for notes is named, the notes of the results behind the image to that.
+pub(crate) fn build_asked<R: Threads + Wait + AllocGlobal + Sync, F: Files, G: Gate>(
+    rt: &R,
+    out: &str,
+    names: &[&str],
+    from: Option<&str>,
+    notes: Option<&str>,
+    choice: &Choice,
+    files: &mut F,
+    gate: &G,
+    scaffolds: Scaffolds,
+) -> Ending
+    requires { IsFitChoice choice.now }
+    ensures answers { (left : Option (List ℕ)) (faults : ℕ) (output : Account)
+        → Answers (λ l. RequestComesTo (world (F.held files.old) l)
+        (Build out.now (map (λ name. name.now) names.now) choice.now (text from.entry) (text notes.entry)))
+        (devices (F.held files.old) (F.faults files.old) left faults output)
+        (devices (F.held files.new) (F.faults files.new) left faults output) result.cause }
+    ensures placed { IsPlaced (IsTextHeld (F.held files.old) (map (λ name. name.now) names.now)) result.cause result.place }
+    ensures rises { F.faults files.old ≤ F.faults files.new }
+{
+    match notes {
+        Some(notes) => build_noted(rt, out, notes, names, from, choice, files, gate),
+        None => build_from(rt, out, names, from, choice, files, gate, scaffolds),
     }
 }
 

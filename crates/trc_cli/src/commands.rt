@@ -1,18 +1,19 @@
 //! The commands.
 
-ghost use Rattle.std.specs.Prelude.{◌≡◌, ◌≤◌, ◌++◌, Some, map, option_map, option_to_list, IfOk};
+ghost use Rattle.std.specs.Prelude.{◌≡◌, ◌≤◌, ◌∷◌, ◌++◌, Some, map, option_map, option_to_list, IfOk};
 ghost use Rattle.trc_words.specs.Fitting.{Fits};
 ghost use Rattle.trc_words.specs.Requests.{plain};
 ghost use Rattle.trc_answers.specs.Answers.{Answers, devices};
 ghost use Rattle.trc_answers.specs.Causes.{IsPlaced};
-ghost use Rattle.trc_cli.specs.Commands.{FilesUse, InputUse, IsTextOf, RequestComesTo, names_read};
+ghost use Rattle.trc_cli.specs.Commands.{FilesUse, InputUse, IsTextOf, RequestComesTo, first_module, names_read};
 ghost use Rattle.trc_answers.specs.Verdict.{world};
 
-use crate::building::{build_from, elf};
+use crate::building::{build_asked, elf};
 use crate::bulk::bulk;
 use crate::running::run;
 use crate::tracing::traces;
 use batch_jobs::batch;
+use note_commands::audit;
 use outside::{Files, Gate, Sink, Source};
 use std::alloc::{AllocError, AllocGlobal, Global};
 use std::sync::Wait;
@@ -23,7 +24,7 @@ use trc_words::Request;
 
 /// The lines of `help`.
 const HELP: &[u8] =
-    b"trc run|build|elf|traces|exec|bulk|batch|help\n--policy --traces --regs --jobs --steps --from\n";
+    b"trc run|build|elf|traces|exec|bulk|audit|batch|help\n--policy --traces --regs --jobs --steps --from --notes\n";
 
 /// Some names, and one more where there is one.
 fn names_with<'a>(
@@ -40,6 +41,29 @@ fn names_with<'a>(
     Ok(all)
 }
 
+/// A name, and others behind it.
+fn names_behind<'a>(
+    alloc: Global,
+    first: &'a str,
+    names: &[&'a str],
+) -> Result<Vec<&'a str>, AllocError>
+    ensures { IfOk result (λ all. map (λ name. name.now) all.items ≡ first.entry.now ∷ map (λ name. name.now) names.now) }
+{
+    let mut all = Vec::from_slice(alloc, &[first])?;
+    all.extend_from_slice(names)?;
+    Ok(all)
+}
+
+/// The number of the first module's name among these.
+pub(crate) fn first_module(request: &Request<'_>) -> u32
+    ensures { result ≡ first_module (Some (plain request.now)) }
+{
+    match request {
+        Request::Audit { .. } => 1,
+        _ => 0,
+    }
+}
+
 /// The names of the files that a command reads, in the order of reading.
 pub(crate) fn names_of<'a>(alloc: Global, request: &Request<'a>) -> Result<Vec<&'a str>, AllocError>
     ensures { IfOk result (λ names. map (λ name. name.now) names.items ≡ names_read (Some (plain request.now))) }
@@ -51,6 +75,7 @@ pub(crate) fn names_of<'a>(alloc: Global, request: &Request<'a>) -> Result<Vec<&
         Request::Traces { files, .. } => Vec::from_slice(alloc, files.as_slice()),
         Request::Exec { image, .. } => Vec::from_slice(alloc, &[*image]),
         Request::Bulk { .. } => Ok(Vec::new(alloc)),
+        Request::Audit { notes, files, .. } => names_behind(alloc, notes, files.as_slice()),
         Request::Batch { list, .. } => Vec::from_slice(alloc, &[*list]),
         Request::Help => Ok(Vec::new(alloc)),
     }
@@ -108,11 +133,13 @@ pub(crate) fn perform<
             files: names,
             choice,
             from,
-        } => build_from(
+            notes,
+        } => build_asked(
             rt,
             name,
             names.as_slice(),
             *from,
+            *notes,
             choice,
             files,
             gate,
@@ -136,6 +163,22 @@ pub(crate) fn perform<
             choice,
             steps,
         } => bulk(rt, *seed, *size, choice, *steps, out, gate, scaffolds),
+        Request::Audit {
+            out: name,
+            notes,
+            files: names,
+            builder,
+            regs,
+        } => audit(
+            rt.alloc(),
+            name,
+            notes,
+            names.as_slice(),
+            *builder,
+            *regs,
+            files,
+            out,
+        ),
         Request::Batch {
             list,
             choice,

@@ -16,7 +16,7 @@ mod running;
 mod top;
 mod tracing;
 
-pub use laws::{answers_are_verdicts, exec_of_built_is_run};
+pub use laws::{answers_are_verdicts, audit_of_noted_accepts, exec_of_built_is_run};
 pub use program::run_program;
 pub use top::trc;
 pub use trc_answers::{Cause, Device, Outcome};

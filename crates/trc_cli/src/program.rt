@@ -50,6 +50,6 @@ pub fn run_program<
             let left = Scaffolds::LeftStanding;
             call(rt, words, files, input, out, err, &OpenGate, left).status
         }
-        Err(Memory) => finish(err, Ending::of(Cause::Memory), &[]).status,
+        Err(Memory) => finish(err, Ending::of(Cause::Memory), &[], 0).status,
     }
 }

@@ -11,7 +11,7 @@ ghost use Rattle.trc_cli.specs.Commands.{ComesTo, FaultsOnlyInExec, FilesUse, In
 ghost use Rattle.trc_cli.specs.Did.{Did};
 ghost use Rattle.trc_cli.specs.Lines.{IsTold};
 
-use crate::commands::{names_of, perform};
+use crate::commands::{first_module, names_of, perform};
 use outside::{Files, Gate, Sink, Source};
 use std::alloc::AllocGlobal;
 use std::sync::Wait;
@@ -21,14 +21,14 @@ use trc_texts::Scaffolds;
 use trc_words::{Request, WordsFault, read_words};
 
 /// Tells how a command ended on the error sink, whose fault changes nothing, and gives the cause with its status. The names are
-/// those of the files that the command reads.
-pub(crate) fn finish<E: Sink>(err: &mut E, ending: Ending, names: &[&str]) -> Outcome
+/// those of the files that the command reads, the modules' at this number and behind it.
+pub(crate) fn finish<E: Sink>(err: &mut E, ending: Ending, names: &[&str], first: u32) -> Outcome
     ensures cause { result.cause ≡ ending.cause }
     ensures status { result.status ≡ status_of ending.cause }
-    ensures told { TookLine (E.account err.old) (E.account err.new) (line_of (map (λ name. name.now) names.now) ending.place ending.cause) }
+    ensures told { TookLine (E.account err.old) (E.account err.new) (line_of (map (λ name. name.now) names.now) first ending.place ending.cause) }
     ensures rises { (E.account err.old).faults ≤ (E.account err.new).faults }
 {
-    let _ = report(err, ending.cause, ending.place, names);
+    let _ = report(err, ending.cause, ending.place, names, first);
     Outcome {
         status: status(ending.cause),
         cause: ending.cause,
@@ -64,10 +64,10 @@ fn perform_and_tell<
     ensures err_rises { (E.account err.old).faults ≤ (E.account err.new).faults }
 {
     let Ok(names) = names_of(rt.alloc(), request) else {
-        return finish(err, Ending::of(Cause::Memory), &[]);
+        return finish(err, Ending::of(Cause::Memory), &[], 0);
     };
     let ending = perform(rt, request, files, input, out, gate, scaffolds);
-    finish(err, ending, names.as_slice())
+    finish(err, ending, names.as_slice(), first_module(request))
 }
 
 /// Does what the words ask for, those behind the program's name, with what images were made on let go or left standing.
@@ -99,8 +99,8 @@ pub(crate) fn call<
 {
     match read_words(rt.alloc(), words) {
         Ok(request) => perform_and_tell(rt, &request, files, input, out, err, gate, scaffolds),
-        Err(WordsFault::Usage) => finish(err, Ending::of(Cause::Usage), &[]),
-        Err(WordsFault::Memory) => finish(err, Ending::of(Cause::Memory), &[]),
+        Err(WordsFault::Usage) => finish(err, Ending::of(Cause::Usage), &[], 0),
+        Err(WordsFault::Memory) => finish(err, Ending::of(Cause::Memory), &[], 0),
     }
 }
 
@@ -108,11 +108,13 @@ pub(crate) fn call<
 ///
 /// - `run FILE {FILE}` compiles the modules and runs their image on `out`;
 /// - `build OUT FILE {FILE}` compiles the modules and writes the image to OUT; with `--from IMAGE` only where the file IMAGE
-///   holds the same image in version 1;
+///   holds the same image in version 1; with `--notes NAME` it then writes the notes of the results behind the image to NAME;
 /// - `elf OUT FILE {FILE}` compiles the modules and writes the native program of their image to OUT;
 /// - `traces FILE {FILE}` tells the traces of the modules' procedures;
 /// - `exec IMAGE` runs the image that the file holds;
 /// - `bulk SEED SIZE` makes a module of SIZE procedures, compiles and runs it, and tells what came of it;
+/// - `audit OUT NOTES FILE {FILE}` takes results for the modules' traces from the notes that the file NOTES holds, and where they
+///   are sound writes the image that they make to OUT, and prints `sound`;
 /// - `batch LIST` answers the jobs of the list that the file holds, each as `run` does on empty input, and prints the replies;
 /// - `help` tells the commands;
 ///

@@ -231,7 +231,7 @@ fn words_and_files_are_refused(rt: HostRuntime) -> Result<(), Fail> {
     wants(&rt, &["exec", "Missing.Mod"], &mut files, b"", missing)?;
     let help = Wanted {
         status: 0,
-        out: "trc run|build|elf|traces|exec|bulk|batch|help\n--policy --traces --regs --jobs --steps --from\n",
+        out: "trc run|build|elf|traces|exec|bulk|audit|batch|help\n--policy --traces --regs --jobs --steps --from --notes\n",
         err: "",
     };
     wants(&rt, &["help"], &mut files, b"", help)
@@ -740,6 +740,101 @@ fn batches_are_refused(rt: HostRuntime) -> Result<(), Fail> {
     files.put("L", "0 S\n".repeat(rt.alloc(), 65)?.as_bytes())?;
     let sources = refused(3, "trc: limit 70 JobBytes at 0\n");
     wants(&rt, &["batch", "L"], &mut files, b"", sources)
+}
+
+/// The module that does nothing, its image in the file I and its notes in the file N.
+fn noted<R: Threads + Wait + AllocGlobal + Sync + Abort>(rt: &R) -> Result<MemFiles, Fail> {
+    let mut files = MemFiles::new(rt.alloc(), Vec::new(rt.alloc()));
+    files.put("E.Mod", b"MODULE E; END E.")?;
+    let words = ["build", "I", "E.Mod", "--notes", "N"];
+    wants(rt, &words, &mut files, b"", refused(0, ""))?;
+    Ok(files)
+}
+
+/// What `audit` prints of sound results.
+const SOUND: Wanted<'static> = Wanted {
+    status: 0,
+    out: "sound\n",
+    err: "",
+};
+
+#[test]
+fn notes_that_were_written_pass(rt: HostRuntime) -> Result<(), Fail> {
+    let mut files = noted(&rt)?;
+    let notes = files.read(rt.alloc(), "N", 1000)?;
+    assert_eq!(rt; notes.len(), 184);
+    wants(&rt, &["audit", "O", "N", "E.Mod"], &mut files, b"", SOUND)?;
+    let image = files.read(rt.alloc(), "I", 1000)?;
+    let audited = files.read(rt.alloc(), "O", 1000)?;
+    assert_eq!(rt; audited.as_slice(), image.as_slice());
+    let registers = ["audit", "O", "N", "E.Mod", "--regs", "8"];
+    let other = refused(10, "trc: unsound 0 0 0\n");
+    wants(&rt, &registers, &mut files, b"", other)
+}
+
+/// Audits the notes with another byte at this place, and looks at how the call ended; the image stays as it was.
+fn audits_changed<R: Threads + Wait + AllocGlobal + Sync + Abort>(
+    rt: &R,
+    at: usize,
+    byte: u8,
+    wanted: Wanted<'_>,
+) -> Result<(), Fail> {
+    let mut files = noted(rt)?;
+    let mut notes = files.read(rt.alloc(), "N", 1000)?;
+    if let Some(changed) = notes.get_mut(at) {
+        *changed = byte;
+    }
+    files.put("N", notes.as_slice())?;
+    files.put("O", b"before")?;
+    wants(rt, &["audit", "O", "N", "E.Mod"], &mut files, b"", wanted)?;
+    let kept = files.read(rt.alloc(), "O", 1000)?;
+    assert_eq!(rt; kept.as_slice(), b"before".as_slice());
+    Ok(())
+}
+
+#[test]
+fn changed_notes_are_told(rt: HostRuntime) -> Result<(), Fail> {
+    audits_changed(&rt, 24, 1, refused(10, "trc: unsound 0 0 0\n"))?;
+    audits_changed(&rt, 0, b'X', refused(8, "trc: not notes: 71 at 0\n"))?;
+    audits_changed(&rt, 8, 2, refused(8, "trc: not notes: 70 at 184\n"))?;
+    audits_changed(&rt, 11, 255, refused(8, "trc: not notes: 70 at 184\n"))?;
+    audits_changed(&rt, 8, 0, refused(8, "trc: not notes: 73 at 12\n"))?;
+    audits_changed(&rt, 12, 1, refused(10, "trc: unsound 0 0 0\n"))
+}
+
+#[test]
+fn audits_are_refused(rt: HostRuntime) -> Result<(), Fail> {
+    let mut files = noted(&rt)?;
+    let usage = refused(1, "trc: usage\n");
+    wants(&rt, &["audit", "O", "N"], &mut files, b"", usage)?;
+    let policy = ["audit", "O", "N", "E.Mod", "--policy", "plain"];
+    wants(&rt, &policy, &mut files, b"", usage)?;
+    let same = ["build", "O", "E.Mod", "--notes", "O"];
+    wants(&rt, &same, &mut files, b"", usage)?;
+    let none = refused(4, "trc: no file M\n");
+    wants(&rt, &["audit", "O", "M", "E.Mod"], &mut files, b"", none)?;
+    let module = refused(4, "trc: no file M.Mod\n");
+    wants(&rt, &["audit", "O", "N", "M.Mod"], &mut files, b"", module)?;
+    files.put("M.Mod", b"MODULE M; BEGIN x END M.")?;
+    let unknown = refused(2, "trc: M.Mod:1:17: error 30 Unknown\n");
+    let two = ["audit", "O", "N", "E.Mod", "M.Mod"];
+    wants(&rt, &two, &mut files, b"", unknown)?;
+    let unwritten = refused(4, "trc: no file O\n");
+    wants(&rt, &["exec", "O"], &mut files, b"", unwritten)
+}
+
+#[test]
+fn notes_are_written_behind_the_image(rt: HostRuntime) -> Result<(), Fail> {
+    let mut files = answer(&rt, vec![in rt.alloc(); 2u64]?)?;
+    let fault = refused(4, "trc: write fault on files\n");
+    let words = ["build", "I", "M.Mod", "--notes", "N"];
+    wants(&rt, &words, &mut files, b"", fault)?;
+    let done = Wanted {
+        status: 0,
+        out: "42\n",
+        err: "",
+    };
+    wants(&rt, &["exec", "I"], &mut files, b"", done)
 }
 
 // Two workers are inside at once, each at a trace of its own.

@@ -55,8 +55,8 @@ fn broken(texts: &[Items<u8>], index: usize, number: u8, at: u32) -> Ending
     }
 }
 
-// How a command ends that compiles these texts, of which there is no image, or no traces.
-fn refused(texts: &[Items<u8>], refusal: Refusal) -> Ending
+/// How a command ends that compiles these texts, which are refused, and of which there are at most 64.
+pub fn refused(texts: &[Items<u8>], refusal: Refusal) -> Ending
     requires few { length texts.now ≤ 64 }
     requires named { NamesText texts.now refusal }
     ensures cause { result.cause ≡ cause_of_refusal refusal }

@@ -3,8 +3,8 @@
 //!
 //! A line has the words of the call, with a blank between them; then, each behind a tab, the files, as `NAME=TEXT`, or the input,
 //! as `<TEXT`. In a text `\n` stands for a line's end, `\t` for a tab, `\\` for a backslash and `\xHH` for the byte with that
-//! number; so in what is printed, for each byte that isn't a printable character. Behind a call of `build` the bytes of the file
-//! are printed too. The stored input are worked programs, commands with all their options, faults, limits, and the bytes of an image
+//! number; so in what is printed, for each byte that isn't a printable character. Behind a call of `build` or `audit` the bytes of the files
+//! that it writes are printed too. The stored input are worked programs, commands with all their options, faults, limits, and the bytes of an image
 //! that are cut off and changed, one by one; what is wanted is what another compiler, written in Python from the rules alone,
 //! prints of them (`bench/trc_vectors.py` makes both where it is).
 #![tactic(auto)]
@@ -118,17 +118,35 @@ fn call_of(alloc: Global, line: &str) -> Result<Call> {
     Ok(call)
 }
 
-/// What the file has that a call of `build` writes; nothing of any other call.
-fn built(alloc: Global, words: &[String], files: &mut MemFiles) -> Result<String> {
+/// What the file of this name has; nothing where it isn't there.
+fn held(alloc: Global, name: &str, files: &mut MemFiles) -> Result<String> {
+    match files.read(alloc, name, ROOM) {
+        Ok(bytes) => written(alloc, bytes.as_slice()),
+        Err(_) => Ok(String::new(alloc)),
+    }
+}
+
+/// The word behind `--notes`, if there is one.
+fn notes_name(words: &[String]) -> Option<&str> {
+    let at = words.iter().position(|word| word.as_str() == "--notes")?;
+    Some(words.get(at + 1)?.as_str())
+}
+
+/// What the files have that a call of `build` or `audit` writes, with a blank between an image and notes; nothing of any other call.
+fn wrote(alloc: Global, words: &[String], files: &mut MemFiles) -> Result<String> {
     let [command, name, ..] = words else {
         return Ok(String::new(alloc));
     };
-    if command.as_str() != "build" {
+    if command.as_str() != "build" && command.as_str() != "audit" {
         return Ok(String::new(alloc));
     }
-    match files.read(alloc, name.as_str(), ROOM) {
-        Ok(bytes) => written(alloc, bytes.as_slice()),
-        Err(_) => Ok(String::new(alloc)),
+    let image = held(alloc, name.as_str(), files)?;
+    match notes_name(words) {
+        Some(notes) if command.as_str() == "build" => {
+            let notes = held(alloc, notes, files)?;
+            Ok(format!(in alloc; "{image} {notes}")?)
+        }
+        _ => Ok(image),
     }
 }
 
@@ -153,9 +171,9 @@ fn answer<R: Threads + Wait + AllocGlobal + Sync>(rt: &R, line: &str) -> Result<
         &OpenGate,
     );
     let told = written(alloc, err.bytes())?;
-    let wrote = written(alloc, out.bytes())?;
-    let file = built(alloc, words.as_slice(), &mut files)?;
-    Ok(format!(in alloc; "{} {wrote} | {told}{file}", outcome.status)?)
+    let printed = written(alloc, out.bytes())?;
+    let files = wrote(alloc, words.as_slice(), &mut files)?;
+    Ok(format!(in alloc; "{} {printed} | {told}{files}", outcome.status)?)
 }
 
 fn main(rt: HostRuntime) -> Result<()> {

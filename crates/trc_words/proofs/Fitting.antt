@@ -7,10 +7,10 @@ use Rattle.std.specs.Str.Parse.{digits_value}
 use Rattle.clap.specs.Words.{App, Row, all_of, fault_of, first_of, matches_of}
 use Rattle.alloc_choice.specs.declared.choice.Policy.{Policy}
 use Rattle.trace_build.specs.declared.builder.Builder.{Builder}
-use Rattle.trc_words.specs.Commands.{run_command, build_command, elf_command, exec_command, traces_command, bulk_command, batch_command, help_command}
+use Rattle.trc_words.specs.Commands.{run_command, build_command, elf_command, exec_command, traces_command, bulk_command, audit_command, batch_command, help_command}
 use Rattle.trc_words.specs.Numbers.{is_between, is_number, number_between}
 use Rattle.trc_words.specs.Options.{choice_in, given, jobs_in, policy_in, regs_in, steps_in, traces_choice_in, traces_in, value_or}
-use Rattle.trc_words.specs.Asked.{Asked, Run, Build, Elf, Exec, Traces, Bulk, Batch, Help, asked_of, batch_asked, bulk_asked, build_asked, elf_asked, exec_asked, files_in, help_asked, is_none, run_asked, seed_in, size_in, some_of, taken, traces_asked}
+use Rattle.trc_words.specs.Asked.{Asked, Run, Build, Elf, Exec, Traces, Bulk, Audit, Batch, Help, asked_of, audit_asked, batch_asked, bulk_asked, build_asked, elf_asked, exec_asked, files_in, help_asked, is_none, notes_in, run_asked, seed_in, size_in, some_of, taken, traces_asked}
 use Rattle.alloc_choice.specs.Choice.{IsFitChoice}
 use Rattle.trc_words.specs.Fitting.{Fits}
 use Rattle.trc_words.specs.Requests.{Asks, plain}
@@ -129,7 +129,8 @@ build_fits rows =
     given_holds Any Fits (first_of (codes "OUT") rows) _ (λ _ _. tt) (λ out _.
     given_holds IsFull Fits (files_in rows) _ (files_hold rows) (λ files f.
     given_holds IsFitChoice Fits (choice_in rows) _ (choice_holds rows) (λ choice c.
-    some_holds Fits (Build out files choice (first_of (codes "from") rows)) (f, c))))
+    given_holds Any Fits (notes_in out rows) _ (λ _ _. tt) (λ notes _.
+    some_holds Fits (Build out files choice (first_of (codes "from") rows) notes) (f, c)))))
 
 elf_fits : (rows : List Row) → Holds Fits (elf_asked rows)
 elf_fits rows =
@@ -158,6 +159,15 @@ bulk_fits rows =
     given_holds (λ n. n ≤ 1000000000000000) Fits (steps_in rows) _ (steps_hold rows) (λ steps s.
     some_holds Fits (Bulk seed size choice steps) (e, z.0, z.1, c, s)))))
 
+audit_fits : (rows : List Row) → Holds Fits (audit_asked rows)
+audit_fits rows =
+    given_holds Any Fits (first_of (codes "OUT") rows) _ (λ _ _. tt) (λ out _.
+    given_holds Any Fits (first_of (codes "NOTES") rows) _ (λ _ _. tt) (λ notes _.
+    given_holds IsFull Fits (files_in rows) _ (files_hold rows) (λ files f.
+    given_holds Any Fits (traces_in rows) _ (λ _ _. tt) (λ builder _.
+    given_holds (Between 4 16) Fits (regs_in rows) _ (regs_hold rows) (λ regs r.
+    some_holds Fits (Audit out notes files builder regs) (f, r.0, r.1))))))
+
 batch_fits : (rows : List Row) → Holds Fits (batch_asked rows)
 batch_fits rows =
     given_holds Any Fits (first_of (codes "LIST") rows) _ (λ _ _. tt) (λ list _.
@@ -180,9 +190,10 @@ asked_of_fits command words =
     (cond_holds Fits (bytes_eq command (codes "exec")) _ _ (taken_fits exec_command words exec_asked exec_fits)
     (cond_holds Fits (bytes_eq command (codes "traces")) _ _ (taken_fits traces_command words traces_asked traces_fits)
     (cond_holds Fits (bytes_eq command (codes "bulk")) _ _ (taken_fits bulk_command words bulk_asked bulk_fits)
+    (cond_holds Fits (bytes_eq command (codes "audit")) _ _ (taken_fits audit_command words audit_asked audit_fits)
     (cond_holds Fits (bytes_eq command (codes "batch")) _ _ (taken_fits batch_command words batch_asked batch_fits)
     (cond_holds Fits (bytes_eq command (codes "help")) _ _ (taken_fits help_command words help_asked help_fits)
-    (none_holds Fits))))))))
+    (none_holds Fits)))))))))
 
 -- a request that words ask for fits
 pub fits_of : (command : List ℕ) (words : List (List ℕ)) (r : Result Request WordsFault) → Asks (asked_of command words) r → IfOk r (λ request. Fits (plain request))

@@ -4,17 +4,19 @@ use Rattle.std.specs.Str.{bytes_eq}
 use Rattle.clap.specs.Words.{App, Row, all_of, fault_of, first_of, matches_of}
 use Rattle.clap.specs.Kinds.{Kinds}
 use Rattle.alloc_choice.specs.declared.choice.Choice.{Choice}
-use Rattle.trc_words.specs.Commands.{run_command, build_command, elf_command, exec_command, traces_command, bulk_command, batch_command, help_command}
+use Rattle.trace_build.specs.declared.builder.Builder.{Builder}
+use Rattle.trc_words.specs.Commands.{run_command, build_command, elf_command, exec_command, traces_command, bulk_command, audit_command, batch_command, help_command}
 use Rattle.trc_words.specs.Numbers.{number_between}
-use Rattle.trc_words.specs.Options.{choice_in, given, steps_in, traces_choice_in}
+use Rattle.trc_words.specs.Options.{choice_in, given, regs_in, steps_in, traces_choice_in, traces_in}
 
 pub data Asked : Type 0 where
   Run : (files : List (List ℕ)) (choice : Choice) (steps : ℕ) → Asked
-  Build : (out : List ℕ) (files : List (List ℕ)) (choice : Choice) (from : Option (List ℕ)) → Asked
+  Build : (out : List ℕ) (files : List (List ℕ)) (choice : Choice) (from notes : Option (List ℕ)) → Asked
   Elf : (out : List ℕ) (files : List (List ℕ)) (choice : Choice) → Asked
   Exec : (image : List ℕ) (steps : ℕ) → Asked
   Traces : (files : List (List ℕ)) (choice : Choice) → Asked
   Bulk : (seed size : ℕ) (choice : Choice) (steps : ℕ) → Asked
+  Audit : (out notes : List ℕ) (files : List (List ℕ)) (builder : Builder) (regs : ℕ) → Asked
   Batch : (list : List ℕ) (choice : Choice) (steps : ℕ) → Asked
   Help : Asked
 
@@ -38,10 +40,19 @@ run_asked rows =
     given (files_in rows) (λ files.
     given (choice_in rows) (λ choice. given (steps_in rows) (λ steps. Some (Run files choice steps))))
 
+-- a name that isn't this one, if there is a name
+abbrev pub other_than : List ℕ → Option (List ℕ) → Option (Option (List ℕ))
+other_than out None = Some None
+other_than out (Some name) = if bytes_eq name out then None else Some (Some name)
+
+abbrev pub notes_in : List ℕ → List Row → Option (Option (List ℕ))
+notes_in out rows = other_than out (first_of (codes "notes") rows)
+
 abbrev pub build_asked : List Row → Option Asked
 build_asked rows =
     given (first_of (codes "OUT") rows) (λ out.
-    given (files_in rows) (λ files. given (choice_in rows) (λ choice. Some (Build out files choice (first_of (codes "from") rows)))))
+    given (files_in rows) (λ files. given (choice_in rows) (λ choice.
+    given (notes_in out rows) (λ notes. Some (Build out files choice (first_of (codes "from") rows) notes)))))
 
 abbrev pub elf_asked : List Row → Option Asked
 elf_asked rows =
@@ -60,6 +71,12 @@ abbrev pub bulk_asked : List Row → Option Asked
 bulk_asked rows =
     given (seed_in rows) (λ seed. given (size_in rows) (λ size.
     given (choice_in rows) (λ choice. given (steps_in rows) (λ steps. Some (Bulk seed size choice steps)))))
+
+abbrev pub audit_asked : List Row → Option Asked
+audit_asked rows =
+    given (first_of (codes "OUT") rows) (λ out. given (first_of (codes "NOTES") rows) (λ notes.
+    given (files_in rows) (λ files.
+    given (traces_in rows) (λ builder. given (regs_in rows) (λ regs. Some (Audit out notes files builder regs))))))
 
 abbrev pub batch_asked : List Row → Option Asked
 batch_asked rows =
@@ -87,9 +104,10 @@ asked_of command words =
     else (if bytes_eq command (codes "exec") then taken exec_command words exec_asked
     else (if bytes_eq command (codes "traces") then taken traces_command words traces_asked
     else (if bytes_eq command (codes "bulk") then taken bulk_command words bulk_asked
+    else (if bytes_eq command (codes "audit") then taken audit_command words audit_asked
     else (if bytes_eq command (codes "batch") then taken batch_command words batch_asked
     else (if bytes_eq command (codes "help") then taken help_command words help_asked
-    else None)))))))
+    else None))))))))
 
 -- what words ask for, or nothing where they are refused
 abbrev pub asked : List (List ℕ) → Option Asked

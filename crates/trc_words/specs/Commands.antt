@@ -43,9 +43,10 @@ with_run app = with_option (with_choice app) (codes "steps")
 abbrev pub run_command : App
 run_command = with_run (with_files (new_app (codes "run")))
 
--- build OUT FILE {FILE} [--policy NAME] [--traces NAME] [--regs N] [--jobs N] [--from IMAGE]
+-- build OUT FILE {FILE} [--policy NAME] [--traces NAME] [--regs N] [--jobs N] [--from IMAGE] [--notes NAME]
 abbrev pub build_command : App
-build_command = with_option (with_choice (with_files (with_argument (new_app (codes "build")) (codes "OUT")))) (codes "from")
+build_command =
+    with_option (with_option (with_choice (with_files (with_argument (new_app (codes "build")) (codes "OUT")))) (codes "from")) (codes "notes")
 
 -- elf OUT FILE {FILE} [--policy NAME] [--traces NAME] [--regs N] [--jobs N]
 abbrev pub elf_command : App
@@ -63,6 +64,11 @@ traces_command = with_traces (with_files (new_app (codes "traces")))
 abbrev pub bulk_command : App
 bulk_command =
     with_run (with_argument (with_argument (new_app (codes "bulk")) (codes "SEED")) (codes "SIZE"))
+
+-- audit OUT NOTES FILE {FILE} [--traces NAME] [--regs N]
+abbrev pub audit_command : App
+audit_command =
+    with_option (with_option (with_files (with_argument (with_argument (new_app (codes "audit")) (codes "OUT")) (codes "NOTES"))) (codes "traces")) (codes "regs")
 
 -- batch LIST [--policy NAME] [--traces NAME] [--regs N] [--jobs N] [--steps N]
 abbrev pub batch_command : App

@@ -4,7 +4,7 @@ use Rattle.std.specs.Borrow.{Bor}
 use Rattle.trc_words.specs.Asked.{Asked}
 use Rattle.trc_words.specs.Asked as asked
 use Rattle.trc_words.specs.declared.asked.Request.{Request}
-use Rattle.trc_words.specs.declared.asked.Request.TheVariants.{Run, Build, Elf, Exec, Traces, Bulk, Batch, Help}
+use Rattle.trc_words.specs.declared.asked.Request.TheVariants.{Run, Build, Elf, Exec, Traces, Bulk, Audit, Batch, Help}
 use Rattle.trc_words.specs.declared.asked.WordsFault.{WordsFault}
 use Rattle.trc_words.specs.declared.asked.WordsFault.TheVariants.{Usage, Memory}
 
@@ -12,14 +12,18 @@ use Rattle.trc_words.specs.declared.asked.WordsFault.TheVariants.{Usage, Memory}
 abbrev pub texts : List (Bor (List ℕ)) → List (List ℕ)
 texts list = map (λ text. text.now) list
 
+abbrev pub text : Option (Bor (List ℕ)) → Option (List ℕ)
+text name = option_map (λ text. text.now) name
+
 -- what a request asks for
 abbrev pub plain : Request → Asked
 plain (Run files choice steps) = asked.Run (texts files.items) choice steps
-plain (Build out files choice from) = asked.Build out.now (texts files.items) choice (option_map (λ text. text.now) from)
+plain (Build out files choice from notes) = asked.Build out.now (texts files.items) choice (text from) (text notes)
 plain (Elf out files choice) = asked.Elf out.now (texts files.items) choice
 plain (Exec image steps) = asked.Exec image.now steps
 plain (Traces files choice) = asked.Traces (texts files.items) choice
 plain (Bulk seed size choice steps) = asked.Bulk seed size choice steps
+plain (Audit out notes files builder regs) = asked.Audit out.now notes.now (texts files.items) builder regs
 plain (Batch list choice steps) = asked.Batch list.now choice steps
 plain Help = asked.Help
 

@@ -6,7 +6,7 @@ ghost use Rattle.trc_words.specs.Asked.{Asked};
 ghost use Rattle.trc_words.specs.Taking.{FollowsFrom};
 ghost use Rattle.trc_words.specs.declared.asked.WordsFault.TheVariants.{Memory};
 
-use alloc_choice::Choice;
+use alloc_choice::{Builder, Choice};
 use clap::Error;
 use clap::error::ErrorKind;
 use std::alloc::{AllocError, AllocFailed};
@@ -23,12 +23,14 @@ pub enum Request<'a> {
         steps: u64,
     },
     /// Compile files, and write their image to the file `out`. Where the file `from` is named, it has to hold the image that
-    /// the same files have in version 1.
+    /// the same files have in version 1. Where the file `notes` is named, which is another than `out`, write the notes of the
+    /// results behind the image to it.
     Build {
         out: &'a str,
         files: Vec<&'a str>,
         choice: Choice,
         from: Option<&'a str>,
+        notes: Option<&'a str>,
     },
     /// Compile files, and write the native program of their image to the file `out`.
     Elf {
@@ -52,6 +54,15 @@ pub enum Request<'a> {
         size: u32,
         choice: Choice,
         steps: u64,
+    },
+    /// Audit the results in the notes that the file `notes` holds for the traces of files, over `regs` registers, 4 to 16, and write
+    /// the image that is linked from them to the file `out`.
+    Audit {
+        out: &'a str,
+        notes: &'a str,
+        files: Vec<&'a str>,
+        builder: Builder,
+        regs: u8,
     },
     /// Answer the jobs of the list that a file holds.
     Batch {

@@ -3,7 +3,7 @@
 ghost use Rattle.std.specs.Prelude.{◌≡◌, map, string_bytes, true, IfOk};
 ghost use Rattle.clap.specs.Words.{app_of};
 ghost use Rattle.clap.specs.Faults.{is_simple_and_free};
-ghost use Rattle.trc_words.specs.Commands.{run_command, build_command, elf_command, exec_command, traces_command, bulk_command, batch_command, help_command};
+ghost use Rattle.trc_words.specs.Commands.{run_command, build_command, elf_command, exec_command, traces_command, bulk_command, audit_command, batch_command, help_command};
 ghost use Rattle.trc_words.specs.Taking.{IsTakenBy};
 
 use crate::arguments::{
@@ -32,14 +32,15 @@ fn run_command<'a>(alloc: Global) -> Result<Command<'a>, AllocError>
     with_run(alloc, command)
 }
 
-/// `build OUT FILE {FILE} [--from IMAGE]`, with the options of compiling
+/// `build OUT FILE {FILE} [--from IMAGE] [--notes NAME]`, with the options of compiling
 fn build_command<'a>(alloc: Global) -> Result<Command<'a>, AllocError>
     ensures { IfOk result (λ command. app_of command ≡ build_command) }
 {
     let command = with_argument(alloc, Command::new(alloc, "build"), "OUT")?;
     let command = with_files(alloc, command)?;
     let command = with_choice(alloc, command)?;
-    with_option(alloc, command, "from")
+    let command = with_option(alloc, command, "from")?;
+    with_option(alloc, command, "notes")
 }
 
 /// `elf OUT FILE {FILE}`, with the options of compiling
@@ -74,6 +75,17 @@ fn bulk_command<'a>(alloc: Global) -> Result<Command<'a>, AllocError>
     let command = with_argument(alloc, Command::new(alloc, "bulk"), "SEED")?;
     let command = with_argument(alloc, command, "SIZE")?;
     with_run(alloc, command)
+}
+
+/// `audit OUT NOTES FILE {FILE} [--traces NAME] [--regs N]`
+fn audit_command<'a>(alloc: Global) -> Result<Command<'a>, AllocError>
+    ensures { IfOk result (λ command. app_of command ≡ audit_command) }
+{
+    let command = with_argument(alloc, Command::new(alloc, "audit"), "OUT")?;
+    let command = with_argument(alloc, command, "NOTES")?;
+    let command = with_files(alloc, command)?;
+    let command = with_option(alloc, command, "traces")?;
+    with_option(alloc, command, "regs")
 }
 
 /// `batch LIST`, with all options of `run`
@@ -129,6 +141,14 @@ pub(crate) fn bulk<'a>(alloc: Global, words: &'a [String]) -> Result<ArgMatches<
     ensures { IsTakenBy bulk_command (map string_bytes words.entry.now) result }
 {
     let command = bulk_command(alloc)?;
+    matches(command, words)
+}
+
+/// What `audit` makes of words.
+pub(crate) fn audit<'a>(alloc: Global, words: &'a [String]) -> Result<ArgMatches<'a>, WordsFault>
+    ensures { IsTakenBy audit_command (map string_bytes words.entry.now) result }
+{
+    let command = audit_command(alloc)?;
     matches(command, words)
 }
 

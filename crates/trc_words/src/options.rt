@@ -67,7 +67,7 @@ fn policy(matches: &ArgMatches<'_>) -> Option<Policy>
 }
 
 /// How traces are cut: in both directions where the words don't say.
-fn traces(matches: &ArgMatches<'_>) -> Option<Builder>
+pub(crate) fn traces(matches: &ArgMatches<'_>) -> Option<Builder>
     ensures { result ≡ traces_in (rows_of (found_of matches.now)) }
 {
     match value(matches, "traces") {
@@ -77,7 +77,7 @@ fn traces(matches: &ArgMatches<'_>) -> Option<Builder>
 }
 
 /// The number of registers: 16 where the words don't say.
-fn regs(matches: &ArgMatches<'_>) -> Option<u8>
+pub(crate) fn regs(matches: &ArgMatches<'_>) -> Option<u8>
     ensures { result ≡ regs_in (rows_of (found_of matches.now)) }
 {
     match value(matches, "regs") {

@@ -1,16 +1,16 @@
 //! From words to what they ask for.
 
-ghost use Rattle.std.specs.Prelude.{map, string_bytes, IfOk, ◌≡◌};
-ghost use Rattle.trc_words.specs.Asked.{asked, asked_of, files_in, seed_in, size_in, taken, run_asked, build_asked, elf_asked, exec_asked, traces_asked, bulk_asked, batch_asked, help_asked};
-ghost use Rattle.trc_words.specs.Commands.{run_command, build_command, elf_command, exec_command, traces_command, bulk_command, batch_command, help_command};
+ghost use Rattle.std.specs.Prelude.{map, option_map, string_bytes, IfOk, ◌≡◌};
+ghost use Rattle.trc_words.specs.Asked.{asked, asked_of, files_in, notes_in, other_than, seed_in, size_in, taken, run_asked, build_asked, elf_asked, exec_asked, traces_asked, bulk_asked, audit_asked, batch_asked, help_asked};
+ghost use Rattle.trc_words.specs.Commands.{run_command, build_command, elf_command, exec_command, traces_command, bulk_command, audit_command, batch_command, help_command};
 ghost use Rattle.trc_words.specs.Fitting.{Fits};
-ghost use Rattle.trc_words.specs.Requests.{Asks, Shows, plain, texts};
+ghost use Rattle.trc_words.specs.Requests.{Asks, Shows, plain, text, texts};
 ghost use Rattle.clap.specs.Words.{found_of, rows_of};
 
 use crate::asked::{Request, WordsFault};
 use crate::commands;
 use crate::numbers::number_between;
-use crate::options::{choice, file_names, steps, traces_choice, value};
+use crate::options::{choice, file_names, regs, steps, traces as builder, traces_choice, value};
 use clap::ArgMatches;
 use std::alloc::Global;
 
@@ -52,6 +52,23 @@ fn run_request<'a>(alloc: Global, matches: &ArgMatches<'a>) -> Result<Request<'a
     })
 }
 
+// A name that isn't this one, if there is a name.
+fn other_than<'a>(out: &str, name: Option<&'a str>) -> Option<Option<&'a str>>
+    ensures { option_map text result ≡ other_than out.now (text name.entry) }
+{
+    let Some(name) = name else {
+        return Some(None);
+    };
+    if name == out { None } else { Some(Some(name)) }
+}
+
+/// The name of the file for notes, if there is one, which is another than this.
+fn notes_name<'a>(matches: &ArgMatches<'a>, out: &str) -> Option<Option<&'a str>>
+    ensures { option_map text result ≡ notes_in out.now (rows_of (found_of matches.now)) }
+{
+    other_than(out, value(matches, "notes"))
+}
+
 /// What the matches of `build` ask for.
 fn build_request<'a>(alloc: Global, matches: &ArgMatches<'a>) -> Result<Request<'a>, WordsFault>
     ensures { Asks (build_asked (rows_of (found_of matches.now))) result }
@@ -59,11 +76,13 @@ fn build_request<'a>(alloc: Global, matches: &ArgMatches<'a>) -> Result<Request<
     let out = value(matches, "OUT").ok_or(WordsFault::Usage)?;
     let files = files(alloc, matches)?;
     let choice = choice(matches).ok_or(WordsFault::Usage)?;
+    let notes = notes_name(matches, out).ok_or(WordsFault::Usage)?;
     Ok(Request::Build {
         out,
         files,
         choice,
         from: value(matches, "from"),
+        notes,
     })
 }
 
@@ -108,6 +127,24 @@ fn bulk_request<'a>(matches: &ArgMatches<'a>) -> Result<Request<'a>, WordsFault>
         size,
         choice,
         steps,
+    })
+}
+
+/// What the matches of `audit` ask for.
+fn audit_request<'a>(alloc: Global, matches: &ArgMatches<'a>) -> Result<Request<'a>, WordsFault>
+    ensures { Asks (audit_asked (rows_of (found_of matches.now))) result }
+{
+    let out = value(matches, "OUT").ok_or(WordsFault::Usage)?;
+    let notes = value(matches, "NOTES").ok_or(WordsFault::Usage)?;
+    let files = files(alloc, matches)?;
+    let builder = builder(matches).ok_or(WordsFault::Usage)?;
+    let regs = regs(matches).ok_or(WordsFault::Usage)?;
+    Ok(Request::Audit {
+        out,
+        notes,
+        files,
+        builder,
+        regs,
     })
 }
 
@@ -173,6 +210,14 @@ fn bulk<'a>(alloc: Global, words: &'a [String]) -> Result<Request<'a>, WordsFaul
     bulk_request(&matches)
 }
 
+/// What words ask for that begin with `audit`.
+fn audit<'a>(alloc: Global, words: &'a [String]) -> Result<Request<'a>, WordsFault>
+    ensures { Asks (taken audit_command (map string_bytes words.entry.now) audit_asked) result }
+{
+    let matches = commands::audit(alloc, words)?;
+    audit_request(alloc, &matches)
+}
+
 /// What words ask for that begin with `batch`.
 fn batch<'a>(alloc: Global, words: &'a [String]) -> Result<Request<'a>, WordsFault>
     ensures { Asks (taken batch_command (map string_bytes words.entry.now) batch_asked) result }
@@ -200,6 +245,7 @@ fn of_command<'a>(alloc: Global, name: &str, words: &'a [String]) -> Result<Requ
         "exec" => exec(alloc, words),
         "traces" => traces(alloc, words),
         "bulk" => bulk(alloc, words),
+        "audit" => audit(alloc, words),
         "batch" => batch(alloc, words),
         "help" => help(alloc, words),
         _ => Err(WordsFault::Usage),

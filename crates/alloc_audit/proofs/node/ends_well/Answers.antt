@@ -3,7 +3,8 @@ use Rattle.lir_core.specs.Flows.{code_node}
 use Rattle.lir_core.specs.Rows.{has_bit}
 use Rattle.alloc_audit.specs.Holdings.{room_in}
 use Rattle.alloc_audit.specs.Nodes.{keeps_all}
-use Rattle.alloc_audit.proofs.Placing.{is_done, is_right, ends_is, second_false, both_true}
+use Rattle.alloc_audit.specs.Parts.{is_done, is_right}
+use Rattle.alloc_audit.proofs.Placing.{ends_is, second_false, both_true}
 use Rattle.alloc_audit.proofs.node.ends_well.Goals as goal
 
 pub returns-then-not-is_right : goal.returns-then-not-is_right

@@ -7,7 +7,7 @@ pub returns-in-Run-clause-answers : goal.returns-in-Run-clause-answers
 returns-in-Run-clause-answers g c = rw (c.in-Run.is, ← c.as_slice.ensures.value) c.run.ensures.answers
 
 pub returns-in-Build-clause-answers : goal.returns-in-Build-clause-answers
-returns-in-Build-clause-answers g c = rw (c.in-Build.is, ← c.as_slice-in-Build.ensures.value) (c.build_from.ensures.answers _ _ _)
+returns-in-Build-clause-answers g c = rw (c.in-Build.is, ← c.as_slice-in-Build.ensures.value) (c.build_asked.ensures.answers _ _ _)
 
 pub returns-in-Elf-clause-answers : goal.returns-in-Elf-clause-answers
 returns-in-Elf-clause-answers g c = rw (c.in-Elf.is, ← c.as_slice-in-Elf.ensures.value) (c.elf.ensures.answers _ _ _)
@@ -20,6 +20,9 @@ returns-in-Traces-clause-answers g c = rw (c.in-Traces.is, ← c.as_slice-in-Tra
 
 pub returns-in-Bulk-clause-answers : goal.returns-in-Bulk-clause-answers
 returns-in-Bulk-clause-answers g c = rw c.in-Bulk.is (c.bulk.ensures.answers _ _ _ _)
+
+pub returns-in-Audit-clause-answers : goal.returns-in-Audit-clause-answers
+returns-in-Audit-clause-answers g c = rw (c.in-Audit.is, ← c.as_slice-in-Audit.ensures.value) (c.audit.ensures.answers _ _)
 
 pub returns-in-Batch-clause-answers : goal.returns-in-Batch-clause-answers
 returns-in-Batch-clause-answers g c = rw (c.in-Batch.is, c.of-in-Batch.ensures) (c.batch.ensures.answers _ _)

@@ -12,4 +12,8 @@ returns-clause-once c = λ held left asked a b h k. once (record {
   excluded = c.images_exclude_refusals.ensures;
   traces_excluded = c.traces_exclude_refusals.ensures;
   report = c.texts_have_one_report.ensures;
+  noted_image = c.texts_have_one_noted_image.ensures;
+  noted_refusal = c.texts_have_one_refusal_with_notes.ensures;
+  noted_excluded = c.noted_images_exclude_refusals.ensures;
+  audit = c.audits_come_to_one.ensures;
 }) held left a b asked h k
