@@ -1,6 +1,7 @@
 //! The pool with real threads: what each final result is, and that two workers are inside at once.
 
 mod calls;
+mod refused;
 mod seats;
 
 use crate::made::{Shape, made_tree};

@@ -2,4 +2,10 @@
 #![tactic(auto)]
 
 #[cfg(test)]
+mod broken_images;
+#[cfg(test)]
 mod commands;
+#[cfg(test)]
+mod failing_devices;
+#[cfg(test)]
+mod nests;
