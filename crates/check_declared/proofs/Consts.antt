@@ -62,7 +62,7 @@ module _ (r : Surroundings) (d : ConstDecl) (m : Making) where
 -- ---- one after the other
 
 abbrev pub consts_from : Surroundings → Unit {0} × Making → List ConstDecl → Judged (Unit {0} × Making)
-consts_from r a ds = each r.source.now (const_part r.source.now) (plain_each plain_const_decl ds) a.1
+consts_from r a ds = each (const_part r.source.now) (plain_each plain_const_decl ds) a.1
 
 abbrev pub const_item : Surroundings → Unit {0} × Making → ConstDecl → Judged (Unit {0} × Making)
 const_item r a d = const_part r.source.now (plain_const_decl d) a.1

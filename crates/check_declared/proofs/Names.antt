@@ -75,7 +75,7 @@ module _ (r : Surroundings) where
 
 module _ (r : Surroundings) (shape : Shape) where
   abbrev pub variables_from : Unit {0} × Making → List NextIdentdef → Judged (Unit {0} × Making)
-  variables_from a xs = each r.source.now (variable_part r.source.now shape) (next_list xs) a.1
+  variables_from a xs = each (variable_part r.source.now shape) (next_list xs) a.1
 
   abbrev pub variable_item : Unit {0} × Making → NextIdentdef → Judged (Unit {0} × Making)
   variable_item a x = variable_part r.source.now shape x.name a.1

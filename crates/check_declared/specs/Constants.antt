@@ -35,7 +35,7 @@ IsKept r s value t c = constant_of (table_of t) (strings_of t) c ≡ constant_me
 
 -- these constants are declared, one after the other
 abbrev pub consts_part : Source → List ConstDecl → Part (Unit {0})
-consts_part p trees = each p (const_part p) (plain_each plain_const_decl trees)
+consts_part p trees = each (const_part p) (plain_each plain_const_decl trees)
 
 -- the value of an expression where a constant is asked for
 abbrev pub constant_part : Source → Expression → World → Judged I.Constant

@@ -31,4 +31,4 @@ variable_here unit procedure of number = record {
 
 -- these are variables of this type, one after the other
 abbrev pub variables_part : Source → Shape → List Identdef → Part (Unit {0})
-variables_part p shape = each p (variable_part p shape)
+variables_part p shape = each (variable_part p shape)

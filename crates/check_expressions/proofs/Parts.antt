@@ -101,10 +101,10 @@ module _ (p : Source) (w : World) where
   pub added_law : (a : Operand) (x : Added) (xs : List Added) → added p w a (plain_each_added (x ∷ xs)) ≡ (added_one p w a x >>= λ z. added p w z (plain_each_added xs))
   added_law a x xs =
       ap (added p w a) (added_parts x xs)
-      ∙ then_then (term p w (plain_term (out-Added x).term)) (λ y. joined p w (add_operator (out-Added x).operator) (place p (add_symbol (out-Added x).operator)) a y) (λ z. added p w z (plain_each_added xs))
+      ∙ then_then (term p w (plain_term (out-Added x).term)) (λ y. joined (add_operator (out-Added x).operator) (place p (add_symbol (out-Added x).operator)) a y) (λ z. added p w z (plain_each_added xs))
 
   pub multiplied_law : (a : Operand) (x : Multiplied) (xs : List Multiplied) → multiplied p w a (plain_each_multiplied (x ∷ xs)) ≡ (multiplied_one p w a x >>= λ z. multiplied p w z (plain_each_multiplied xs))
-  multiplied_law a x xs = then_then (factor p w (plain_factor x.factor)) (λ y. joined p w (mul_operator x.operator) (place p (mul_symbol x.operator)) a y) (λ z. multiplied p w z (plain_each_multiplied xs))
+  multiplied_law a x xs = then_then (factor p w (plain_factor x.factor)) (λ y. joined (mul_operator x.operator) (place p (mul_symbol x.operator)) a y) (λ z. multiplied p w z (plain_each_multiplied xs))
 
   -- ---- sets
 
@@ -123,12 +123,12 @@ module _ (p : Source) (w : World) where
   pub element_one : (a : I.Expr) (x : Element) → (out-Element x).high ≡ None → with_element p w a (plain_element x) ≡ (number_in p w (plain_expression (out-Element x).low) >>= λ b. Keeps (I.Linked a (I.Element b)))
   element_one a x h =
       ap (with_element p w a) (element_parts x ∙ ap (plain_maybe_high (plain_expression (out-Element x).low)) h)
-      ∙ then_then (expression p w (plain_expression (out-Element x).low)) (λ y. set_element p w (place p (expression_first (plain_expression (out-Element x).low))) y) (λ b. Keeps (I.Linked a (I.Element b)))
+      ∙ then_then (expression p w (plain_expression (out-Element x).low)) (λ y. set_element (place p (expression_first (plain_expression (out-Element x).low))) y) (λ b. Keeps (I.Linked a (I.Element b)))
 
   ranged : (a : I.Expr) (low high : S.Expression) (i : ℕ) → with_element p w a (S.range low i high) ≡ (number_in p w low >>= λ b. number_in p w high >>= λ c. Keeps (I.Linked a (I.Elements b c)))
   ranged a low high i =
-      then_then (expression p w low) (λ x. set_element p w (place p (expression_first low)) x) (λ b. expression p w high >>= λ y. set_element p w (place p (expression_first high)) y >>= λ c. Keeps (I.Linked a (I.Elements b c)))
-      ∙ alike (number_in p w low) _ _ (λ b. then_then (expression p w high) (λ y. set_element p w (place p (expression_first high)) y) (λ c. Keeps (I.Linked a (I.Elements b c))))
+      then_then (expression p w low) (λ x. set_element (place p (expression_first low)) x) (λ b. expression p w high >>= λ y. set_element (place p (expression_first high)) y >>= λ c. Keeps (I.Linked a (I.Elements b c)))
+      ∙ alike (number_in p w low) _ _ (λ b. then_then (expression p w high) (λ y. set_element (place p (expression_first high)) y) (λ c. Keeps (I.Linked a (I.Elements b c))))
 
   pub element_range : (a : I.Expr) (x : Element) (h : ElementHigh) → (out-Element x).high ≡ Some h →
       with_element p w a (plain_element x) ≡ (number_in p w (plain_expression (out-Element x).low) >>= λ b. number_in p w (plain_expression (out-ElementHigh h).expression) >>= λ c. Keeps (I.Linked a (I.Elements b c)))
@@ -146,13 +146,13 @@ module _ (p : Source) (w : World) where
   pub indexed_is : (at : ℕ) (x : Operand) (l : ExpressionList) → indexed p w at x (plain_list l) ≡ (indexed_one p w at x (plain_expression (out-List l).first) >>= λ y. indexed_more p w at y (plain_each_expression (out-List l).more.items))
   indexed_is at x l =
       ap (indexed p w at x) (list_parts l)
-      ∙ then_then (expression p w (plain_expression (out-List l).first)) (λ i. element p w at (place p (expression_first (plain_expression (out-List l).first))) x i) (λ y. indexed_more p w at y (plain_each_expression (out-List l).more.items))
+      ∙ then_then (expression p w (plain_expression (out-List l).first)) (λ i. element at (place p (expression_first (plain_expression (out-List l).first))) x i) (λ y. indexed_more p w at y (plain_each_expression (out-List l).more.items))
 
   pub indexed_law : (at : ℕ) (a : Operand) (x : NextExpression) (xs : List NextExpression) →
       indexed_more p w at a (plain_each_expression (x ∷ xs)) ≡ (indexed_one p w at a (plain_expression (out-NextExpression x).expression) >>= λ z. indexed_more p w at z (plain_each_expression xs))
   indexed_law at a x xs =
       ap (indexed_more p w at a) (next_expression_parts x xs)
-      ∙ then_then (expression p w (plain_expression (out-NextExpression x).expression)) (λ i. element p w at (place p (expression_first (plain_expression (out-NextExpression x).expression))) a i) (λ z. indexed_more p w at z (plain_each_expression xs))
+      ∙ then_then (expression p w (plain_expression (out-NextExpression x).expression)) (λ i. element at (place p (expression_first (plain_expression (out-NextExpression x).expression))) a i) (λ z. indexed_more p w at z (plain_each_expression xs))
 
   -- ---- arguments
 

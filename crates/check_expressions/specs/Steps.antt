@@ -54,25 +54,25 @@ module _ (p : Source) (w : World) where
   abbrev pub added_one : Operand → Added → Judged Operand
   added_one x a = do
     y ← term p w (plain_term (out-Added a).term)
-    joined p w (add_operator (out-Added a).operator) (place p (add_symbol (out-Added a).operator)) x y
+    joined (add_operator (out-Added a).operator) (place p (add_symbol (out-Added a).operator)) x y
 
   -- one more factor
   abbrev pub multiplied_one : Operand → Multiplied → Judged Operand
   multiplied_one x m = do
     y ← factor p w (plain_factor m.factor)
-    joined p w (mul_operator m.operator) (place p (mul_symbol m.operator)) x y
+    joined (mul_operator m.operator) (place p (mul_symbol m.operator)) x y
 
   -- a number in a set
   abbrev pub number_in : S.Expression → Judged I.Expr
   number_in e = do
     x ← expression p w e
-    set_element p w (place p (expression_first e)) x
+    set_element (place p (expression_first e)) x
 
   -- one more index
   abbrev pub indexed_one : (at : ℕ) → Operand → S.Expression → Judged Operand
   indexed_one at x e = do
     i ← expression p w e
-    element p w at (place p (expression_first e)) x i
+    element at (place p (expression_first e)) x i
 
   -- one argument
   abbrev pub given_by : S.Expression → Judged J.Given

@@ -27,7 +27,7 @@ use std::alloc::Global;
 
 // The value of an integer's symbol.
 fn int_at<'a>(scope: &Scope<'a>, i: u32) -> u64
-    ensures { result ≡ int_of scope.now.source.now (world_of scope.now) (symbol_at scope.now.source.now i).kind }
+    ensures { result ≡ int_of (symbol_at scope.now.source.now i).kind }
 {
     match scope.source.symbol(i).kind {
         Kind::Int(n) => n.cast_unsigned(),
@@ -37,7 +37,7 @@ fn int_at<'a>(scope: &Scope<'a>, i: u32) -> u64
 
 // The code of a character's symbol.
 fn char_at<'a>(scope: &Scope<'a>, i: u32) -> u8
-    ensures { result ≡ char_of scope.now.source.now (world_of scope.now) (symbol_at scope.now.source.now i).kind }
+    ensures { result ≡ char_of (symbol_at scope.now.source.now i).kind }
 {
     match scope.source.symbol(i).kind {
         Kind::Char(n) => n,
@@ -49,7 +49,7 @@ fn char_at<'a>(scope: &Scope<'a>, i: u32) -> u8
 pub fn int_literal<'a>(scope: &Scope<'a>, i: u32) -> Operand
     ensures { Stands scope.now result
         (value_of Integer
-        (Literal (int_of scope.now.source.now (world_of scope.now) (symbol_at scope.now.source.now i).kind))) }
+        (Literal (int_of (symbol_at scope.now.source.now i).kind))) }
 {
     literal(Basic::Int, int_at(scope, i))
 }
@@ -58,7 +58,7 @@ pub fn int_literal<'a>(scope: &Scope<'a>, i: u32) -> Operand
 pub fn char_literal<'a>(scope: &Scope<'a>, i: u32) -> Operand
     ensures { Stands scope.now result
         (value_of CharShape
-        (Literal (char_of scope.now.source.now (world_of scope.now) (symbol_at scope.now.source.now i).kind))) }
+        (Literal (char_of (symbol_at scope.now.source.now i).kind))) }
 {
     literal(Basic::Char, u64::from(char_at(scope, i)))
 }
@@ -73,7 +73,7 @@ pub fn joined_terms<'a>(
 ) -> Result<Operand, CheckFault>
     ensures { (a b : Judgement) → Stands scope.now x a → Stands scope.now y b →
         Answers (Stands scope.now)
-        (judged_operator scope.now.source.now (world_of scope.now) (added_by operator.now)
+        (judged_operator (added_by operator.now)
         (place scope.now.source.now (symbol_of_added operator.now)) a b)
         result }
 {
@@ -94,7 +94,7 @@ pub fn joined_factors<'a>(
 ) -> Result<Operand, CheckFault>
     ensures { (a b : Judgement) → Stands scope.now x a → Stands scope.now y b →
         Answers (Stands scope.now)
-        (judged_operator scope.now.source.now (world_of scope.now) (multiplied_by operator.now)
+        (judged_operator (multiplied_by operator.now)
         (place scope.now.source.now (symbol_of_multiplied operator.now)) a b)
         result }
 {
@@ -139,7 +139,7 @@ pub fn as_factor<'a>(scope: &Scope<'a>, symbol: u32, x: Operand) -> Result<Opera
 pub fn guard_name<'a>(scope: &Scope<'a>, x: &Begun, list: &List) -> Option<BareName>
     ensures { (a : Judgement) → IsBegun scope.now x.now a →
         option_map name_and_member result
-        ≡ judged_name scope.now.source.now (world_of scope.now) a (judged_bare (plain_list list.now)) }
+        ≡ judged_name a (judged_bare (plain_list list.now)) }
 {
     if is_procedure(scope, x) {
         None

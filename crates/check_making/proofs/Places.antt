@@ -34,15 +34,15 @@ member_at t f (c ∷ ks) h (suc n) k is = member_at t f ks h.1 n k is
 module _ (r : Surroundings) (s : Declaring) (ok : IsSettled r s) where
   -- a type that is named there
   pub type_answers : (m : Making) → Makes r s m → (number : ℕ) (q : Qualident) (scope : Scope) → scope.source.now ≡ r.source.now → world_of scope ≡ world_in r s → scope.types.now ≡ s.types.table
-      → (result : Result TypeRef CheckFault) → Answers (IsOfType scope) (type_named scope.source.now (world_of scope) number q.name (member_symbol scope.source.now (world_of scope) q.member)) result
+      → (result : Result TypeRef CheckFault) → Answers (IsOfType scope) (type_named scope.source.now (world_of scope) number q.name (member_symbol q.member)) result
       → Answers (IsTypeOf s) (type_at r.source.now number q m.world) result
   type_answers m makes number q scope p w t result h =
       let w' = w ∙ sym makes.world in
       answers_with (type_at r.source.now number q m.world) result
-      (subst (λ x. Answers (IsOfType scope) (type_named r.source.now x number q.name (member_symbol r.source.now x q.member)) result) w'
-      (subst (λ z. Answers (IsOfType scope) (type_named z (world_of scope) number q.name (member_symbol z (world_of scope) q.member)) result) p h))
+      (subst (λ x. Answers (IsOfType scope) (type_named r.source.now x number q.name (member_symbol q.member)) result) w'
+      (subst (λ z. Answers (IsOfType scope) (type_named z (world_of scope) number q.name (member_symbol q.member)) result) p h))
       (subst (λ x. Gives (λ shape. HasShape (table_of s) shape × (is_whole_shape shape ≡ true)) (type_at r.source.now number q x)) (sym makes.world)
-      (type_has (table_of s) r.source.now (world_in r s) ok.types (member_at (table_of s) (module_of (table_of s) (strings_of s)) r.modules.now ok.members) number q.name (member_symbol r.source.now (world_in r s) q.member)))
+      (type_has (table_of s) r.source.now (world_in r s) ok.types (member_at (table_of s) (module_of (table_of s) (strings_of s)) r.modules.now ok.members) number q.name (member_symbol q.member)))
       (λ k shape is has.
       let same : type_shape (table_of s) k ≡ shape = ap (λ z. type_shape z.types k) (sym t) ∙ is in
       record { shape_is = same; element = element_by_shape (contents_of s.types.table s.types.numbers s.types.elements.items) ok.built k shape has.0 has.1 same })

@@ -78,7 +78,7 @@ module _ (t : Table) where
     of_module TheIn q x is = in_has q x is
     of_module (Earlier n) q x is = by (slice_get w.modules n) refl is
       where
-        by : (o : Option KnownModule) → slice_get w.modules n ≡ o → names_in p w o q ≡ Some x → HasType t x.object
+        by : (o : Option KnownModule) → slice_get w.modules n ≡ o → names_in o q ≡ Some x → HasType t x.object
         by None i is = none_some x is
         by (Some k) i is = (members n k i).each q x is
 
@@ -93,10 +93,10 @@ module _ (t : Table) where
     qualified_has name None = named_has name
     qualified_has name (Some i) = and_then (named_has name) (λ o h. member_of_has name i o)
 
-    type_of : (o : Object) (s : Shape) → HasType t o → type_of_object p w o ≡ Some s → HasShape t s × (is_whole_shape s ≡ true)
+    type_of : (o : Object) (s : Shape) → HasType t o → type_of_object o ≡ Some s → HasShape t s × (is_whole_shape s ≡ true)
     type_of (AType u) s h is = subst (λ v. HasShape t v × (is_whole_shape v ≡ true)) (some_same u s is) h
     type_of _ s h is = none_some s is
 
     -- a type that is named
     pub type_has : (number name : ℕ) (i : Option ℕ) → Gives (λ s. HasShape t s × (is_whole_shape s ≡ true)) (type_named p w number name i)
-    type_has number name i = and_then (qualified_has name i) (λ o h. at_last number (place p name) (type_of_object p w o) (λ s is. type_of o s h is))
+    type_has number name i = and_then (qualified_has name i) (λ o h. at_last number (place p name) (type_of_object o) (λ s is. type_of o s h is))

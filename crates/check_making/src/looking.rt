@@ -2,7 +2,6 @@
 
 ghost use Rattle.std.specs.Prelude.{◌≡◌};
 ghost use Rattle.ob_judge.specs.Names.{member_symbol as symbol_of};
-ghost use Rattle.ob_judge.specs.Scopes.{Source, World};
 ghost use Rattle.ob_judge.specs.Parameters.{type_at as judged_type};
 ghost use Rattle.check_types.specs.names.Worlds.{world_of};
 ghost use Rattle.check_making.specs.Making.{strings_of, world_in, IsSettled, IsTypeOf};
@@ -16,7 +15,7 @@ use ob_syntax::names::{Member, Qualident};
 
 // The symbol of a member.
 fn member_symbol(member: &Option<Member>) -> Option<u32>
-    ensures { (p : Source) (w : World) → result ≡ symbol_of p w member.now }
+    ensures { result ≡ symbol_of member.now }
 {
     match member {
         Some(member) => Some(member.name),

@@ -65,7 +65,7 @@ module _ (p : Source) (x : S.Module) where
 
   pub module_parts : (s : Making) → module_part p x s ≡ (new_name s >> (declared_part p x s >>= λ d. ending_part p x d.1))
   module_parts s =
-      first_by s (new_name s) (λ t. each p (import_part p) (import_list x.imports) t >>= λ a. decls_part p x.decls a.1 >>= λ d. rest d.1)
+      first_by s (new_name s) (λ t. each (import_part p) (import_list x.imports) t >>= λ a. decls_part p x.decls a.1 >>= λ d. rest d.1)
       ∙ ap (λ (j : Judged (Module × Making)). new_name s >> j)
-      (joined (each p (import_part p) (import_list x.imports) s) (λ a. decls_part p x.decls a.1) (λ d. ending_part p x d.1) (λ a. decls_part p x.decls a.1 >>= λ d. rest d.1)
+      (joined (each (import_part p) (import_list x.imports) s) (λ a. decls_part p x.decls a.1) (λ d. ending_part p x d.1) (λ a. decls_part p x.decls a.1 >>= λ d. rest d.1)
       (λ a. onward (decls_part p x.decls a.1) (λ d. rest d.1) (λ d. ending_part p x d.1) (λ d. ending_by d.1 (body_of p d.1.world x.body) named)))

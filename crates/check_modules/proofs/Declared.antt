@@ -49,8 +49,8 @@ module _ (r : Surroundings) (x : S.Module) (s : Building) (t : Declaring) where
 
   -- the answer of imports, on a program that is being built
   imports_built : (types : t.types ≡ s.declaring.types) (result : Result (Unit {0}) CheckFault) → Judges r s.declaring t (imports_part r.source.now x.imports) result → (m : Making) → Represents r s m
-      → Answers (Built r imported_to) (each r.source.now (import_part r.source.now) (import_list x.imports) m) result
-  imports_built types result judged m h = built_at r s m h t (each r.source.now (import_part r.source.now) (import_list x.imports) m) (h_imports r.source.now (import_list x.imports) m) types result (judged m h.makes)
+      → Answers (Built r imported_to) (each (import_part r.source.now) (import_list x.imports) m) result
+  imports_built types result judged m h = built_at r s m h t (each (import_part r.source.now) (import_list x.imports) m) (h_imports r.source.now (import_list x.imports) m) types result (judged m h.makes)
 
   pub not_imported : {u : Building} {e : CheckFault} → t.types ≡ s.declaring.types → Judges r s.declaring t (imports_part r.source.now x.imports) (Err e) → BuildsUpright r s u (declared_part r.source.now x) (Err e)
   not_imported types judged = λ c m h up. stop _ _ (imports_built types (Err _) judged m h)
@@ -84,10 +84,10 @@ module _ (r : Surroundings) (x : S.Module) (s : Building) (t : Declaring) where
 
 -- by its parts
 pub by_parts : {P : Type 0} (r : Surroundings) (x : S.Module) (m : Making) (a : Unit {0} × Making) → declared_part r.source.now x m ≡ Keeps a
-    → ((b : Making) → each r.source.now (import_part r.source.now) (import_list x.imports) m ≡ Keeps (tt, b) → decls_part r.source.now x.decls b ≡ Keeps (tt, a.1) → P) → P
-by_parts {P = P} r x m a is f = by (each r.source.now (import_part r.source.now) (import_list x.imports) m) refl is
+    → ((b : Making) → each (import_part r.source.now) (import_list x.imports) m ≡ Keeps (tt, b) → decls_part r.source.now x.decls b ≡ Keeps (tt, a.1) → P) → P
+by_parts {P = P} r x m a is f = by (each (import_part r.source.now) (import_list x.imports) m) refl is
   where
-    by : (j : Judged (Unit {0} × Making)) → each r.source.now (import_part r.source.now) (import_list x.imports) m ≡ j → (j >>= λ b. decls_part r.source.now x.decls b.1) ≡ Keeps a → P
+    by : (j : Judged (Unit {0} × Making)) → each (import_part r.source.now) (import_list x.imports) m ≡ j → (j >>= λ b. decls_part r.source.now x.decls b.1) ≡ Keeps a → P
     by (Keeps b) e i = f b.1 e i
     by (Breaks n at) e i = absurd (let z = i in cc)
 

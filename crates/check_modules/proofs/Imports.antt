@@ -17,6 +17,6 @@ module _ (p : Source) where
       keeps (HeldTo m.1) (tt, with_levels (declare_last (spelled p x.name) (record { object = AModule m.0; exported = false })) (record m.1 { imports_in = m.1.imports_in || is_in m.0 }))
       (record { modules = refl; procedures = refl; bases = refl; forward = refl })))
 
-  pub h_imports : (xs : List Import) (s : Making) → Gives (HeldTo s) (each p (import_part p) xs s)
+  pub h_imports : (xs : List Import) (s : Making) → Gives (HeldTo s) (each (import_part p) xs s)
   h_imports [] s = keeps (HeldTo s) (tt, s) (held s)
   h_imports (x ∷ xs) s = h_next (h_import x s) (λ r. h_imports xs r.1)

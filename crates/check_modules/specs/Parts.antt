@@ -29,7 +29,7 @@ module _ (p : Source) where
 
   -- its imports and its declarations
   abbrev pub declared_part : S.Module → Part (Unit {0})
-  declared_part m = each p (import_part p) (import_list m.imports) >>> λ _. decls_part p m.decls
+  declared_part m = each (import_part p) (import_list m.imports) >>> λ _. decls_part p m.decls
 
   -- its body, and the name behind END
   abbrev pub completed_module : S.Module → Making → Judged Procedure

@@ -48,14 +48,14 @@ module _ (fs : List (ℕ × ℕ)) where
     b_const : (d : S.ConstDecl) (s : Making) → Beside fs (const_part p d (waiting fs s)) (const_part p d s)
     b_const d s = b_next (b_stand (d.name.name ∷ []) s) (λ r. b_next (b_look (constant p r.1.world d.value) r.1) (λ c. b_declared d.name (AConstant c.0) c.1))
 
-    b_consts : (ds : List S.ConstDecl) (s : Making) → Beside fs (each p (const_part p) ds (waiting fs s)) (each p (const_part p) ds s)
+    b_consts : (ds : List S.ConstDecl) (s : Making) → Beside fs (each (const_part p) ds (waiting fs s)) (each (const_part p) ds s)
     b_consts [] s = b_keeps tt s
     b_consts (d ∷ ds) s = b_next (b_const d s) (λ r. b_consts ds r.1)
 
     -- ---- parameters
 
     abbrev known_from : ℕ → Bool → Shape → Listed → Making → Making
-    known_from i v a l s = record (with_levels (declare_last (spelled p i) (record { object = parameter_variable p v a s.values (length l.parameters) s.world; exported = false })) s) { values = if is_value (mode_of v a) then suc s.values else s.values }
+    known_from i v a l s = record (with_levels (declare_last (spelled p i) (record { object = parameter_variable v a s.values (length l.parameters) s.world; exported = false })) s) { values = if is_value (mode_of v a) then suc s.values else s.values }
 
     b_add : (b v : Bool) (a : Shape) (is : List ℕ) (l : Listed) (s : Making) → Beside fs (add_parameters p b v a is l (waiting fs s)) (add_parameters p b v a is l s)
     b_add b v a [] l s = b_keeps l s
@@ -90,8 +90,8 @@ module _ (fs : List (ℕ × ℕ)) where
 
     decls_forget : (d : S.Decls) (s : Making) → decls_part p d (waiting fs s) ≡ decls_part p d s
     decls_forget (S.decls consts types vars procedures) s =
-        ap (λ (m : Judged (Unit {0} × Making)). m >>= λ r. types_part p (types_in p types) r.1 >>= λ q. each p (var_part p) (vars_in p vars) q.1 >>= λ z. procedures_part p procedures z.1) ((b_consts (consts_in p consts) s).by)
-        ∙ then_then (each p (const_part p) (consts_in p consts) s) (λ r. Keeps (r.0, waiting fs r.1)) (λ r. types_part p (types_in p types) r.1 >>= λ q. each p (var_part p) (vars_in p vars) q.1 >>= λ z. procedures_part p procedures z.1)
+        ap (λ (m : Judged (Unit {0} × Making)). m >>= λ r. types_part p (types_in types) r.1 >>= λ q. each (var_part p) (vars_in vars) q.1 >>= λ z. procedures_part p procedures z.1) ((b_consts (consts_in consts) s).by)
+        ∙ then_then (each (const_part p) (consts_in consts) s) (λ r. Keeps (r.0, waiting fs r.1)) (λ r. types_part p (types_in types) r.1 >>= λ q. each (var_part p) (vars_in vars) q.1 >>= λ z. procedures_part p procedures z.1)
 
     -- and so the declarations of a procedure, behind its heading
     pub heading_forgets : {B : Type 0} (f : ℕ) (name : Identdef) (x : Option S.Formals) (is_local : Bool) (d : S.Decls) (s : Making) (more : Listed × Shape → Unit {0} × Making → Judged B)

@@ -51,7 +51,7 @@ steady_held s t h = record {
 module _ (p : Source) where
   pub first_parts_steady : (consts : Option S.Consts) (types : Option S.Types) (vars : Option S.Vars) (s : Making) → Gives (Onward s) (first_parts p consts types vars s)
   first_parts_steady consts types vars s =
-      steady_then (s_consts p (consts_in p consts) s) (λ a. steady_then (s_types p (types_in p types) a.1) (λ b. s_vars p (vars_in p vars) b.1))
+      steady_then (s_consts p (consts_in consts) s) (λ a. steady_then (s_types p (types_in types) a.1) (λ b. s_vars p (vars_in vars) b.1))
 
   pub heading_steady : (f : ℕ) (name : Identdef) (x : Option S.Formals) (is_local : Bool) (s : Making) → Gives (λ (left : (Listed × Shape) × Making). Steady s left.1) (heading p f name x is_local s)
   heading_steady f name x is_local s = weaken (h_heading p f name x is_local s) (λ r h. steady_held s r.1 h)

@@ -23,9 +23,9 @@ module _ (p : Source) (c : SoFar) where
 
   pub first_parts_upright : (consts : Option S.Consts) (types : Option S.Types) (vars : Option S.Vars) (m : Making) → Upright c m → Gives UprightTo (first_parts p consts types vars m)
   first_parts_upright consts types vars m u =
-      and_then (by_law {P = UprightTo} (each p (const_part p) (consts_in p consts) m) (λ a e. consts_upright c p (consts_in p consts) m a.1 e u)) (λ a h.
-      and_then (by_law {P = UprightTo} (types_part p (types_in p types) a.1) (λ b e. types_upright c p (types_in p types) a.1 b.1 e h)) (λ b k.
-      by_law {P = UprightTo} (each p (var_part p) (vars_in p vars) b.1) (λ d e. vars_upright c p (vars_in p vars) b.1 d.1 e k)))
+      and_then (by_law {P = UprightTo} (each (const_part p) (consts_in consts) m) (λ a e. consts_upright c p (consts_in consts) m a.1 e u)) (λ a h.
+      and_then (by_law {P = UprightTo} (types_part p (types_in types) a.1) (λ b e. types_upright c p (types_in types) a.1 b.1 e h)) (λ b k.
+      by_law {P = UprightTo} (each (var_part p) (vars_in vars) b.1) (λ d e. vars_upright c p (vars_in vars) b.1 d.1 e k)))
 
   pub next_upright : (name : ℕ) (m : Making) → Upright c m → Gives UprightTo (next_procedure p name m)
   next_upright name m u =

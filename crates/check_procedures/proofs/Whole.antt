@@ -34,9 +34,9 @@ module _ (p : Source) (tree : Decls) where
 
   decls_are : (m : Making) → decls_part p (plain_decls tree) m ≡ (first m >>= λ z. behind z.1)
   decls_are m =
-      let consts = each p (const_part p) (consts_in p (plain_option plain_consts (out-Decls tree).consts)) m in
-      let types : Making → Judged (Unit {0} × Making) = λ s. types_part p (types_in p (plain_option plain_types (out-Decls tree).types)) s in
-      let vars : Making → Judged (Unit {0} × Making) = λ s. each p (var_part p) (vars_in p (plain_option plain_vars (out-Decls tree).vars)) s in
+      let consts = each (const_part p) (consts_in (plain_option plain_consts (out-Decls tree).consts)) m in
+      let types : Making → Judged (Unit {0} × Making) = λ s. types_part p (types_in (plain_option plain_types (out-Decls tree).types)) s in
+      let vars : Making → Judged (Unit {0} × Making) = λ s. each (var_part p) (vars_in (plain_option plain_vars (out-Decls tree).vars)) s in
       ap (λ d. decls_part p d m) (decls_parts tree)
       ∙ sym (then_then consts (λ a. types a.1 >>= λ b. vars b.1) (λ z. behind z.1)
       ∙ then_same consts _ _ (λ a. then_then (types a.1) (λ b. vars b.1) (λ z. behind z.1)))

@@ -27,7 +27,7 @@ module _ (p : Source) where
   -- constants, types and variables
   abbrev pub first_parts : Option S.Consts → Option S.Types → Option S.Vars → Part (Unit {0})
   first_parts consts types vars =
-      each p (const_part p) (consts_in p consts) >>> λ _. types_part p (types_in p types) >>> λ _. each p (var_part p) (vars_in p vars)
+      each (const_part p) (consts_in consts) >>> λ _. types_part p (types_in types) >>> λ _. each (var_part p) (vars_in vars)
 
   -- a procedure's name stands, and it takes the next number
   abbrev pub next_procedure : (name : ℕ) → Part ℕ

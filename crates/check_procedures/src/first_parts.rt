@@ -34,7 +34,7 @@ fn constant_declarations(
     ensures settled { OnOk result (IsSettled round.now state.new) }
     ensures types { OnOk result (state.new.types ≡ state.old.types) }
     ensures judged { Judges round.now state.old state.new
-        (each round.now.source.now (const_part round.now.source.now) (consts_in round.now.source.now (plain_option plain_consts tree.now))) result }
+        (each (const_part round.now.source.now) (consts_in (plain_option plain_consts tree.now))) result }
 {
     match tree {
         None => Ok(()),

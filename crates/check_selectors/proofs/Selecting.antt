@@ -104,14 +104,14 @@ module _ (p : Source) (w : World) (at : ℕ) where
   alike_on (Breaks n k) f g h = refl
 
   pub parens_is : (a : Stage) (l : ℕ) (list : S.Expressions) (r : ℕ) → standard_in a ≡ None → select p w at a (S.Parens l list r) ≡ parens_behind p w at list a
-  parens_is (Whole (AConstant c)) l list q h = alike_on (begun p w at (Whole (AConstant c))) _ _ (λ x. list_is list x (guard_name p w x (bare_list list)))
-  parens_is (Whole (AType t)) l list q h = alike_on (begun p w at (Whole (AType t))) _ _ (λ x. list_is list x (guard_name p w x (bare_list list)))
-  parens_is (Whole (AVariable v)) l list q h = alike_on (begun p w at (Whole (AVariable v))) _ _ (λ x. list_is list x (guard_name p w x (bare_list list)))
-  parens_is (Whole (AProcedure n t v)) l list q h = alike_on (begun p w at (Whole (AProcedure n t v))) _ _ (λ x. list_is list x (guard_name p w x (bare_list list)))
+  parens_is (Whole (AConstant c)) l list q h = alike_on (begun p w at (Whole (AConstant c))) _ _ (λ x. list_is list x (guard_name x (bare_list list)))
+  parens_is (Whole (AType t)) l list q h = alike_on (begun p w at (Whole (AType t))) _ _ (λ x. list_is list x (guard_name x (bare_list list)))
+  parens_is (Whole (AVariable v)) l list q h = alike_on (begun p w at (Whole (AVariable v))) _ _ (λ x. list_is list x (guard_name x (bare_list list)))
+  parens_is (Whole (AProcedure n t v)) l list q h = alike_on (begun p w at (Whole (AProcedure n t v))) _ _ (λ x. list_is list x (guard_name x (bare_list list)))
   parens_is (Whole (AStandard r)) l list q h = cc
-  parens_is (Whole (AModule k)) l list q h = alike_on (begun p w at (Whole (AModule k))) _ _ (λ x. list_is list x (guard_name p w x (bare_list list)))
-  parens_is (Partly x) l list q h = alike_on (begun p w at (Partly x)) _ _ (λ x. list_is list x (guard_name p w x (bare_list list)))
-  parens_is (Ended x) l list q h = alike_on (begun p w at (Ended x)) _ _ (λ x. list_is list x (guard_name p w x (bare_list list)))
+  parens_is (Whole (AModule k)) l list q h = alike_on (begun p w at (Whole (AModule k))) _ _ (λ x. list_is list x (guard_name x (bare_list list)))
+  parens_is (Partly x) l list q h = alike_on (begun p w at (Partly x)) _ _ (λ x. list_is list x (guard_name x (bare_list list)))
+  parens_is (Ended x) l list q h = alike_on (begun p w at (Ended x)) _ _ (λ x. list_is list x (guard_name x (bare_list list)))
 
   parens_any : (a : Stage) (l : ℕ) (list : S.Expressions) (r : ℕ) (o : Option Standard) → standard_in a ≡ o → select p w at a (S.Parens l list r) ≡ parens_at p w at list a o
   parens_any a l list r (Some s) h = parens_standard_is a s l list r h

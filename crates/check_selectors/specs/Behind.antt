@@ -71,7 +71,7 @@ module _ (p : Source) (w : World) where
   abbrev pub parens_behind : (at : ℕ) → S.Expressions → Stage → Judged Stage
   parens_behind at list a = do
     x ← begun p w at a
-    list_behind at list x (guard_name p w x (bare_list list))
+    list_behind at list x (guard_name x (bare_list list))
 
   -- arguments of a standard procedure
   abbrev pub arguments_behind : (at : ℕ) → S.Expressions → Standard → Judged Stage

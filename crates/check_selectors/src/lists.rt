@@ -14,7 +14,6 @@ ghost use Rattle.check_selectors.specs.parts.Parts.{IsPart};
 ghost use Rattle.check_selectors.specs.Stages.{IsStage, IsBegun};
 ghost use Rattle.check_selectors.specs.Behind.{guard_behind, call_behind, standard_behind};
 ghost use Rattle.ob_types.specs.Table.{Table};
-ghost use Rattle.ob_judge.specs.Scopes.{Source as SourceOf, World};
 ghost use Rattle.check_types.specs.names.Meaning.{standard_of as standard_meant};
 
 use crate::begun::{Begun, operand_of};
@@ -39,7 +38,7 @@ pub fn element_of<'a>(
 ) -> Result<Part, CheckFault>
     ensures { (a b : Judgement) → IsBegun scope.now x a → Stands scope.now i b →
         Answers (IsPart scope.now)
-        (judged_element scope.now.source.now (world_of scope.now) (place scope.now.source.now symbol)
+        (judged_element (place scope.now.source.now symbol)
         (place scope.now.source.now index_symbol) a b)
         result }
 {
@@ -89,8 +88,7 @@ pub fn guarded_by<'a>(
 
 /// Whether what stands before a list is a procedure.
 pub fn is_procedure<'a>(scope: &Scope<'a>, x: &Begun) -> bool
-    ensures { (a : Judgement) → IsBegun scope.now x.now a →
-        tests_procedure scope.now.source.now (world_of scope.now) a.shape ≡ result }
+    ensures { (a : Judgement) → IsBegun scope.now x.now a → tests_procedure a.shape ≡ result }
 {
     match x {
         Begun::Variable(part) => is_procedure_type(part.of),
@@ -100,7 +98,7 @@ pub fn is_procedure<'a>(scope: &Scope<'a>, x: &Begun) -> bool
 
 // A procedure type.
 fn is_procedure_type(of: TypeRef) -> bool
-    ensures { (t : Table) (p : SourceOf) (w : World) → tests_procedure p w (type_shape t of) ≡ result }
+    ensures { (t : Table) → tests_procedure (type_shape t of) ≡ result }
 {
     match of {
         TypeRef::Procedure(_) => true,

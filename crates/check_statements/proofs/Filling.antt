@@ -9,14 +9,14 @@ use Rattle.ob_types.specs.declared.statements.TypePart.{TypePart}
 use Rattle.ob_syntax.specs.Syntax as S
 use Rattle.ob_judge.specs.Shapes.{Shape, Integer, Boolean, Char, Byte, Set, Nil, Nothing, Text, Array, Open, Record, Pointer, Procedure, is_pointer}
 use Rattle.ob_judge.specs.Image as I
-use Rattle.ob_judge.specs.Scopes.{World, Source}
+use Rattle.ob_judge.specs.Scopes.{Source}
 use Rattle.ob_judge.specs.Operands.{Operand, checked, designator_of}
 use Rattle.ob_judge.specs.Cases.{SelectorOf, OnType, Labelled, narrow, case_of}
 use Rattle.ob_judge.specs.Statements.{statements}
+use Rattle.check_statements.specs.steps.Steps.{on_value}
 use Rattle.judged_tree.specs.Plain.{plain_body}
 use Rattle.judged_tree.specs.Outline.{outlined_parts}
 use Rattle.check_statements.specs.trees.Onto.{case_parts_onto, type_parts_onto}
-use Rattle.check_statements.specs.steps.Steps.{on_value as on_value_in}
 use Rattle.check_types.specs.steps.Answers.{Answers}
 use Rattle.check_types.specs.declared.steps.fault.CheckFault.{CheckFault}
 use Rattle.check_types.proofs.steps.Answering.{as_judged}
@@ -31,14 +31,10 @@ use Rattle.check_operands.specs.Operands.{texts_of, bases_of}
 use Rattle.check_statements.specs.ranges.Ranges.{AreRanges}
 use Rattle.check_statements.specs.declared.parts.CaseParts.{CaseParts}
 use Rattle.check_statements.specs.declared.parts.CaseParts.TheVariants.{Values, Types}
-use Rattle.check_statements.specs.Standing.{AreStatements, SoFar, on_value, on_of, ArePutParts, AreParts}
-
-pub on_value_is : (p : Source) (w : World) (b : Bool) → on_value b ≡ on_value_in p w b
-on_value_is p w false = refl
-on_value_is p w true = refl
+use Rattle.check_statements.specs.Standing.{AreStatements, SoFar, on_of, ArePutParts, AreParts}
 
 -- a CASE on types that isn't on a pointer
-pub on_parameter : (p : Source) (d : I.Place) (s : Shape) (x : Operand) (parts : I.Parts) → is_pointer s ≡ false → case_of p (OnType d s) x parts ≡ I.CaseParameter (designator_of x) parts
+pub on_parameter : (p : Source) (d : I.Place) (s : Shape) (x : Operand) (parts : I.Parts) → is_pointer s ≡ false → case_of (OnType d s) x parts ≡ I.CaseParameter (designator_of x) parts
 on_parameter p d Integer x parts h = refl
 on_parameter p d Boolean x parts h = refl
 on_parameter p d Char x parts h = refl
@@ -53,7 +49,7 @@ on_parameter p d (Record r) x parts h = refl
 on_parameter p d (Pointer n) x parts h = no (sym h)
 on_parameter p d (Procedure ps r) x parts h = refl
 
-pub on_pointer : (p : Source) (d : I.Place) (s : Shape) (x : Operand) (parts : I.Parts) → is_pointer s ≡ true → case_of p (OnType d s) x parts ≡ I.CasePointer (checked x) parts
+pub on_pointer : (p : Source) (d : I.Place) (s : Shape) (x : Operand) (parts : I.Parts) → is_pointer s ≡ true → case_of (OnType d s) x parts ≡ I.CasePointer (checked x) parts
 on_pointer p d (Pointer n) x parts h = refl
 on_pointer p d Integer x parts h = no h
 on_pointer p d Boolean x parts h = no h
@@ -68,7 +64,7 @@ on_pointer p d (Open a) x parts h = no h
 on_pointer p d (Record r) x parts h = no h
 on_pointer p d (Procedure ps r) x parts h = no h
 
-pub on_values : (p : Source) (b : Bool) (x : Operand) (parts : I.Parts) → case_of p (on_value b) x parts ≡ I.Case (checked x) parts
+pub on_values : (p : Source) (b : Bool) (x : Operand) (parts : I.Parts) → case_of (on_value b) x parts ≡ I.Case (checked x) parts
 on_values p false x parts = refl
 on_values p true x parts = refl
 
@@ -80,16 +76,16 @@ in_scope s i r body res e h = subst (λ (z : Scope). Answers (AreStatements z) (
 
 module _ (s : Scope) where
   narrow_is : (v : VariablePlace) (to : TypeRef) (shape : Shape) (ns : List Narrowing) → IsOfType s to shape →
-      narrowings_before (table_of s) (strings_of s) [] ns ≡ (narrow s.source.now (world_of s) (place_of v) (type_shape (table_of s) to)).narrowed →
-      narrow s.source.now (world_of s) (place_of v) shape ≡ record (world_of s) { narrowed = narrowings_before (table_of s) (strings_of s) [] ns }
-  narrow_is v to shape ns k e = ap (narrow s.source.now (world_of s) (place_of v)) (sym k) ∙ ap (λ z. record (world_of s) { narrowed = z }) (sym e)
+      narrowings_before (table_of s) (strings_of s) [] ns ≡ (narrow (world_of s) (place_of v) (type_shape (table_of s) to)).narrowed →
+      narrow (world_of s) (place_of v) shape ≡ record (world_of s) { narrowed = narrowings_before (table_of s) (strings_of s) [] ns }
+  narrow_is v to shape ns k e = ap (narrow (world_of s) (place_of v)) (sym k) ∙ ap (λ z. record (world_of s) { narrowed = z }) (sym e)
 
   -- the body of a part for a type
   pub narrowed_answers : (i : Scope) (v : VariablePlace) (to : TypeRef) (shape : Shape) (body : S.Stats) (res : Result (Vec Stmt Global) CheckFault) →
       i ≡ record s { narrowed = i.narrowed } → IsOfType s to shape →
-      narrowings_before (table_of s) (strings_of s) [] i.narrowed.now ≡ (narrow s.source.now (world_of s) (place_of v) (type_shape (table_of s) to)).narrowed →
+      narrowings_before (table_of s) (strings_of s) [] i.narrowed.now ≡ (narrow (world_of s) (place_of v) (type_shape (table_of s) to)).narrowed →
       Answers (AreStatements i) (statements i.source.now (world_of i) body) res →
-      Answers (AreStatements s) (statements s.source.now (narrow s.source.now (world_of s) (place_of v) shape) body) res
+      Answers (AreStatements s) (statements s.source.now (narrow (world_of s) (place_of v) shape) body) res
   narrowed_answers i v to shape body res e k n h =
       as_judged (ap (λ z. statements s.source.now z body) (narrow_is v to shape i.narrowed.now k n)) (in_scope s i i.narrowed body res e h)
 

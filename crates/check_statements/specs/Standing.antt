@@ -1,5 +1,5 @@
 -- What checked statements and their parts stand for.
-use Rattle.std.specs.Prelude.{◌≡◌, ℕ, ℤ, List, Bool, true, false, Option, Some, None, Vec}
+use Rattle.std.specs.Prelude.{◌≡◌, ℕ, ℤ, List, Option, Some, None, Vec}
 use Rattle.std.specs.Global.{Global}
 use Rattle.ob_types.specs.Table.{Table}
 use Rattle.ob_types.specs.declared.statements.Stmt.{Stmt}
@@ -12,12 +12,12 @@ use Rattle.ob_judge.specs.Scopes.{World, Source, place}
 use Rattle.ob_judge.specs.Operands.{Operand, checked}
 use Rattle.ob_judge.specs.Symbols.{expression_first}
 use Rattle.ob_judge.specs.Assignments.{number, step_of}
-use Rattle.ob_judge.specs.Cases.{SelectorOf, OnInteger, OnChar, OnType}
+use Rattle.ob_judge.specs.Cases.{SelectorOf, OnType}
 use Rattle.ob_judge.specs.Statements.{statements}
 use Rattle.judged_tree.specs.Plain.{plain_designator, plain_statement, plain_body}
 use Rattle.judged_tree.specs.Outline.{outlined_designator, outlined_statements, outlined_branches, outlined_parts}
 use Rattle.check_statements.specs.trees.Onto.{statements_onto, branches_onto, case_parts_onto, type_parts_onto}
-use Rattle.check_statements.specs.steps.Steps.{JudgedHead}
+use Rattle.check_statements.specs.steps.Steps.{JudgedHead, on_value}
 use Rattle.check_types.specs.TypeMeaning.{type_shape}
 use Rattle.check_types.specs.declared.names.scope.Scope.{Scope}
 use Rattle.check_types.specs.names.Meaning.{place_of}
@@ -90,10 +90,6 @@ abbrev pub SoFar : Type 0
 SoFar = (I.Parts → I.Parts) × List (ℤ × ℤ)
 
 -- what the CASE is on
-abbrev pub on_value : Bool → SelectorOf
-on_value false = OnInteger
-on_value true = OnChar
-
 abbrev pub on_of : Table → CaseParts → SelectorOf
 on_of t (TheParts.Values of_char parts taken) = on_value of_char
 on_of t (TheParts.Types variable of parts) = OnType (place_of variable) (type_shape t of)

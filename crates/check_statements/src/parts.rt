@@ -63,7 +63,7 @@ pub fn no_parts(alloc: Global, on: Selecting) -> CaseParts
 fn on_types<'a>(scope: &Scope<'a>, x: Operand, of: TypeRef, parts: Vec<TypePart>) -> Stmt
     ensures { (variable : ThePlace) (on : SelectorOf) (a : Judgement) (b : Parts) → Stands scope.now x a →
         AreParts scope.now on (CaseParts.Types variable of parts) b →
-        IsStatement scope.now result (judged_case scope.now.source.now on a b) }
+        IsStatement scope.now result (judged_case on a b) }
 {
     if of.is_pointer() {
         case_pointer(checked(scope, x), parts)
@@ -75,7 +75,7 @@ fn on_types<'a>(scope: &Scope<'a>, x: Operand, of: TypeRef, parts: Vec<TypePart>
 /// A CASE on this operand.
 pub fn case_made<'a>(scope: &Scope<'a>, x: Operand, all: CaseParts) -> Stmt
     ensures { (on : SelectorOf) (a : Judgement) (b : Parts) → Stands scope.now x a → AreParts scope.now on all b →
-        IsStatement scope.now result (judged_case scope.now.source.now on a b) }
+        IsStatement scope.now result (judged_case on a b) }
 {
     match all {
         CaseParts::Values { parts, .. } => case_values(checked(scope, x), parts),

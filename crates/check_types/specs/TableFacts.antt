@@ -3,6 +3,7 @@ use Rattle.std.specs.Prelude.{◌≡◌, ℕ, List, Bool, true, false, ◌&&◌,
 use Rattle.ob_types.specs.Table.{Table}
 use Rattle.ob_types.specs.declared.types.Formal.{Formal}
 use Rattle.ob_judge.specs.Shapes.{Shape, Char, Nil, Text, Pointer, Procedure, Nothing, Known, same, bool_eq, extends, is_number}
+use Rattle.ob_judge.specs.Parts.{is_nothing}
 use Rattle.judged_tree.specs.TypeShapes.{shape_at, shape_of}
 use Rattle.check_types.specs.declared.types.TypeRef.{TypeRef}
 use Rattle.check_types.specs.declared.types.TypeRef.TheVariants as TheType
@@ -11,10 +12,6 @@ use Rattle.check_types.specs.TypeMeaning.{type_shape}
 -- an entry by its number
 abbrev pub entry_at : List TypeRef → ℕ → TypeRef
 entry_at entries n = slice_index_or entries n TheType.Nothing
-
-abbrev pub is_nothing : Shape → Bool
-is_nothing Nothing = true
-is_nothing s = false
 
 abbrev pub is_nil : Shape → Bool
 is_nil Nil = true
@@ -33,10 +30,6 @@ IsApart t = (a b : ℕ) → same (shape_of t a) (shape_of t b) ≡ is_one t a b
 -- two parameters of the same kind and type
 abbrev pub same_formal_shape : List Shape → Formal → Formal → Bool
 same_formal_shape shapes x y = bool_eq x.variable y.variable && same (shape_at shapes x.type_number) (shape_at shapes y.type_number)
-
-abbrev pub is_char_shape : Shape → Bool
-is_char_shape Char = true
-is_char_shape s = false
 
 -- may be assigned as what is the same, as an extension, or as a number
 abbrev pub assignable_plain : Known → Shape → Shape → Bool

@@ -3,10 +3,10 @@
 ghost use Rattle.std.specs.Prelude.{◌≡◌};
 ghost use Rattle.ob_judge.specs.Shapes.{Array, Open, assignable as may_store};
 ghost use Rattle.ob_judge.specs.Operators.{is_text as tests_text, is_equality as tests_equality, is_inclusion as tests_inclusion, may_equal as may_be_equal, are_ordered as tests_ordered, are_texts as tests_texts, are_included as tests_included, may_compare as may_relate};
-ghost use Rattle.ob_judge.specs.Calls.{may_name as names};
+ghost use Rattle.ob_judge.specs.Calls.{may_name as names, is_char_only};
 ghost use Rattle.judged_tree.specs.TypeShapes.{shape_of};
 ghost use Rattle.check_types.specs.TypeMeaning.{type_shape};
-ghost use Rattle.check_types.specs.TableFacts.{is_char_shape, assignable_plain, scalar_store};
+ghost use Rattle.check_types.specs.TableFacts.{assignable_plain, scalar_store};
 ghost use Rattle.check_types.specs.Known.{known_of};
 
 use crate::table::TypeTable;
@@ -38,7 +38,7 @@ fn is_inclusion(relation: Relation) -> bool
 impl TypeTable {
     // Whether an array has elements of CHAR.
     fn is_of_chars(&self, element: u32) -> bool
-        ensures { is_char_shape (shape_of self.now.types element) ≡ result }
+        ensures { is_char_only (shape_of self.now.types element) ≡ result }
     {
         self.entry(element).is_char_only()
     }

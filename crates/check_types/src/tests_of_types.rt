@@ -3,10 +3,10 @@
 ghost use Rattle.std.specs.Prelude.{◌≡◌};
 ghost use Rattle.ob_types.specs.Table.{Table};
 ghost use Rattle.ob_judge.specs.Shapes.{is_number as tests_number, is_truth as tests_truth, is_set as tests_set, is_pointer as tests_pointer, is_reference as tests_reference, is_scalar as tests_scalar};
-ghost use Rattle.check_types.specs.TableFacts.{is_nothing as tests_nothing, is_nil as tests_nil, is_char_shape as tests_char_only};
+ghost use Rattle.check_types.specs.TableFacts.{is_nil as tests_nil};
 ghost use Rattle.ob_judge.specs.Operators.{is_char as tests_char};
-ghost use Rattle.ob_judge.specs.Scopes.{World};
-ghost use Rattle.ob_judge.specs.Calls.{may_order as tests_order};
+ghost use Rattle.ob_judge.specs.Calls.{may_order as tests_order, is_char_only as tests_char_only};
+ghost use Rattle.ob_judge.specs.Parts.{is_nothing as tests_nothing};
 ghost use Rattle.check_types.specs.TypeMeaning.{type_shape};
 
 use crate::types::TypeRef;
@@ -115,7 +115,7 @@ impl TypeRef {
 
     /// What ORD takes beside numbers: a character, BOOLEAN or SET.
     pub fn may_order(self) -> bool
-        ensures { (t : Table) (w : World) → tests_order w (type_shape t self) ≡ result }
+        ensures { (t : Table) → tests_order (type_shape t self) ≡ result }
     {
         self.is_char() || self.is_truth() || self.is_set()
     }

@@ -56,7 +56,7 @@ module _ (p : Source) where
   i_type_decl : (d : S.TypeDecl) (s : Making) → Gives (InTo s) (type_decl_part p d s)
   i_type_decl d s = i_next (i_stand p (d.name.name ∷ []) s) (λ r. i_next (i_type p d.is r.1) (λ a. i_declared d.name (AType a.0) a.1))
 
-  pub i_type_decls : (ds : List S.TypeDecl) (s : Making) → Gives (InTo s) (each p (type_decl_part p) ds s)
+  pub i_type_decls : (ds : List S.TypeDecl) (s : Making) → Gives (InTo s) (each (type_decl_part p) ds s)
   i_type_decls [] s = keeps (InTo s) (tt, s) (still s)
   i_type_decls (d ∷ ds) s = i_next (i_type_decl d s) (λ r. i_type_decls ds r.1)
 
@@ -113,11 +113,11 @@ module _ (p : Source) where
   set_none s = record { modules = refl; levels = refl; narrowed = refl; records = refl; bases_length = refl; bases = λ n d. refl; procedures = refl; variables = refl; values = refl; procedure = refl; module_number = refl }
 
   set_forward : (k : ℕ × ℕ) (s : Making) → Gives (λ (r : Unit {0} × Making). SetsBases (k ∷ []) s r.1) (forward_base p k s)
-  set_forward k s = and_then (here_same (some 30 (place p k.1) (entry_object p (last_names s.world.levels (spelled p k.1)))) s) (λ o a. and_then (here_same (some 31 (place p k.1) (record_object o.0)) o.1) (λ r b.
+  set_forward k s = and_then (here_same (some 30 (place p k.1) (entry_object (last_names s.world.levels (spelled p k.1)))) s) (λ o a. and_then (here_same (some 31 (place p k.1) (record_object o.0)) o.1) (λ r b.
       keeps (λ (r : Unit {0} × Making). SetsBases (k ∷ []) s r.1) (tt, with_known (λ x. record x { bases = slice_set x.bases k.0 (Some r.0) }) r.1)
       (subst (λ u. SetsBases (k ∷ []) s (with_known (λ x. record x { bases = slice_set x.bases k.0 (Some r.0) }) u)) (sym (b ∙ a)) (set_one k r.0 s))))
 
-  pub set_forwards : (ks : List (ℕ × ℕ)) (s : Making) → Gives (λ (r : Unit {0} × Making). SetsBases ks s r.1) (each p (forward_base p) ks s)
+  pub set_forwards : (ks : List (ℕ × ℕ)) (s : Making) → Gives (λ (r : Unit {0} × Making). SetsBases ks s r.1) (each (forward_base p) ks s)
   set_forwards [] s = keeps (λ (r : Unit {0} × Making). SetsBases [] s r.1) (tt, s) (set_none s)
   set_forwards (k ∷ ks) s = and_then (set_forward k s) (λ r h. weaken (set_forwards ks r.1) (λ q g. set_more k ks s r.1 q.1 h g))
 
@@ -179,13 +179,13 @@ module _ (p : Source) where
   g_variable a x s = g_next (g_in s (i_declared x (AVariable (record { shape = a; place = place_here s.world.procedure s.world.module_number (s.values + length s.variables); home = home_here s.world.procedure; owner = s.world.module_number; procedure = s.world.procedure })) s))
       (λ r. keeps (To r.1) (tt, record r.1 { variables = r.1.variables ++ a ∷ [] }) (one_variable r.1 a))
 
-  pub g_variables : (a : Shape) (xs : List Identdef) (s : Making) → Gives (To s) (each p (variable_part p a) xs s)
+  pub g_variables : (a : Shape) (xs : List Identdef) (s : Making) → Gives (To s) (each (variable_part p a) xs s)
   g_variables a [] s = keeps (To s) (tt, s) (self s)
   g_variables a (x ∷ xs) s = g_next (g_variable a x s) (λ r. g_variables a xs r.1)
 
   pub g_var : (d : S.VarDecl) (s : Making) → Gives (To s) (var_part p d s)
   g_var d s = g_next (g_in s (i_stand p (symbols_of (idents_list d.names)) s)) (λ r. g_next (g_in r.1 (i_type p d.of r.1)) (λ a. g_variables a.0 (idents_list d.names) a.1))
 
-  pub g_each : {X : Type 0} (f : X → Part (Unit {0})) → ((x : X) (s : Making) → Gives (To s) (f x s)) → (xs : List X) (s : Making) → Gives (To s) (each p f xs s)
+  pub g_each : {X : Type 0} (f : X → Part (Unit {0})) → ((x : X) (s : Making) → Gives (To s) (f x s)) → (xs : List X) (s : Making) → Gives (To s) (each f xs s)
   g_each f g [] s = keeps (To s) (tt, s) (self s)
   g_each f g (x ∷ xs) s = g_next (g x s) (λ r. g_each f g xs r.1)

@@ -41,7 +41,7 @@ module _ (w : Final) where
   constant_elsewhere f g (Bits Integer n) h = h
   constant_elsewhere f g (Bits _ n) h = h
 
-  pub k_each : {X : Type 0} {Before : Type 0} (p : Source) (f : X → Part (Unit {0})) → ((x : X) (s : Making) → Gives (Ok w (Unit {0}) (Some_ w) s) (f x s)) → (xs : List X) (s : Making) → Gives (Ok w Before (Some_ w) s) (each p f xs s)
+  pub k_each : {X : Type 0} {Before : Type 0} (p : Source) (f : X → Part (Unit {0})) → ((x : X) (s : Making) → Gives (Ok w (Unit {0}) (Some_ w) s) (f x s)) → (xs : List X) (s : Making) → Gives (Ok w Before (Some_ w) s) (each f xs s)
   k_each p f g [] s = k_give w (Some_ w) tt s (λ before agrees sound. tt)
   k_each p f g (x ∷ xs) s = k_next w (weaken (g x s) (λ r h. record { grown = h.grown; sound = λ before agrees sound. h.sound tt agrees sound })) (λ r. k_each p f g xs r.1)
 
@@ -115,7 +115,7 @@ module _ (w : Final) where
               (record { names = (k.0).names; members = (k.0).members; fields = (k.0).fields; narrowed = (k.0).narrowed }, tt);
         }))
 
-    k_variables : {Before : Type 0} (a : Shape) (xs : List Identdef) → (Before → IsGood w a) → (s : Making) → Gives (Ok w Before (Some_ w) s) (each p (variable_part p a) xs s)
+    k_variables : {Before : Type 0} (a : Shape) (xs : List Identdef) → (Before → IsGood w a) → (s : Making) → Gives (Ok w Before (Some_ w) s) (each (variable_part p a) xs s)
     k_variables a [] good s = k_give w (Some_ w) tt s (λ before agrees sound. tt)
     k_variables a (x ∷ xs) good s = k_next w (k_variable a x good s) (λ r. k_variables a xs (λ before. good before.0) r.1)
 

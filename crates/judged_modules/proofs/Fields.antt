@@ -72,7 +72,7 @@ module _ (w : Final) where
       module_number = g.module_number;
       line = g.line;
       added = g.added ++ new x a ∷ [];
-      fields = add_field p (spelled p x.name) (field n v x a g) g.fields;
+      fields = add_field (spelled p x.name) (field n v x a g) g.fields;
       cells = g.cells + cells v.known a;
       extent = with_part g.extent (extent v.known a);
     }

@@ -66,7 +66,7 @@ module _ (w : Final) where
               (named, from_length w (length (m.1).procedures) (length s.procedures) _ (ap (λ u. length u.procedures) k.0 ∙ ap length (h.1).procedures_same) (record { each = λ f q from at. let l = get_within (m.1).procedures f q at in absurd (omega (arith, from, l)) }));
         })))
 
-    k_imports : (xs : List Import) (s : Making) → Gives (Done w s) (each p (import_part p) xs s)
+    k_imports : (xs : List Import) (s : Making) → Gives (Done w s) (each (import_part p) xs s)
     k_imports [] s = keeps (Done w s) (tt, s) (done_self w p order read s)
     k_imports (x ∷ xs) s = and_then (k_import x s) (λ r h. weaken (k_imports xs r.1) (λ q k. done_on w p order read s r q h k))
 

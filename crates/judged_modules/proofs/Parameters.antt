@@ -239,7 +239,7 @@ module _ (w : Final) where
   module _ (p : Source) where
     -- the parameter's name is known
     abbrev known_from : ℕ → Bool → Shape → Listed → Making → Making
-    known_from i v a l s = record (with_levels (declare_last (spelled p i) (record { object = parameter_variable p v a s.values (length l.parameters) s.world; exported = false })) s) { values = if is_value (mode_of v a) then suc s.values else s.values }
+    known_from i v a l s = record (with_levels (declare_last (spelled p i) (record { object = parameter_variable v a s.values (length l.parameters) s.world; exported = false })) s) { values = if is_value (mode_of v a) then suc s.values else s.values }
 
     abbrev new : Bool → Shape → Formal
     new v a = record { mode = mode_of v a; variable = v; shape = a }
@@ -257,7 +257,7 @@ module _ (w : Final) where
     value_last false a xs h = no h
 
     kept : (f : ℕ) (v : Bool) (a : Shape) (l : Listed) (s : Making) → IsParameterType w a → s.world.procedure ≡ Some f → s.values ≡ length (value_shapes l.parameters) → HasParameters w f (l.parameters ++ new v a ∷ [])
-        → IsKept w s.world.module_number (parameter_variable p v a s.values (length l.parameters) s.world)
+        → IsKept w s.world.module_number (parameter_variable v a s.values (length l.parameters) s.world)
     kept f v a l s kind here values has g seen =
         let same : f ≡ g = eqb-true f g (subst (λ o. is_visible (Some g) (AVariable (record { shape = a; place = if is_value (mode_of v a) then Local s.values else Parameter (length l.parameters); home = parameter_home v a; owner = s.world.module_number; procedure = o })) ≡ true) here seen) in (
           subst (λ n. VariableStands (setting_in w n) (record { shape = a; place = if is_value (mode_of v a) then Local s.values else Parameter (length l.parameters); home = parameter_home v a; owner = s.world.module_number; procedure = s.world.procedure })) same
@@ -287,7 +287,7 @@ module _ (w : Final) where
           let values = ap (λ u. u.values) h.0 ∙ n.2 in
           let again = subst (λ u. Sound w u.world) (sym h.0) sound in
           k.sound before (listed_more v a l (kind before) listed) agrees
-          (sound_declared w (r.1).world (spelled p i) (record { object = parameter_variable p v a (r.1).values (length l.parameters) (r.1).world; exported = false }) (kept f v a l r.1 (kind before) here values has) again)
+          (sound_declared w (r.1).world (spelled p i) (record { object = parameter_variable v a (r.1).values (length l.parameters) (r.1).world; exported = false }) (kept f v a l r.1 (kind before) here values has) again)
           (λ j. (here, ap (λ u. u.variables) h.0 ∙ n.1, one_value (is_value (mode_of v a)) a (value_shapes l.parameters) (r.1).values values ∙ ap length (sym (values_append l.parameters (new v a ∷ []))), n.3));
     }))
 
@@ -324,7 +324,7 @@ module _ (w : Final) where
                 let empty = λ (i : b ≡ true). ap (λ u. u.variables) k.0 ∙ h.variables ∙ (knows i).1 in
                 let back = subst (Agrees w) k.0 (agrees_back w a.1 q.1 (heads_grows b a.1 q.1 j.heads empty) agrees) in
                 let again = subst (Sound w) (sym h.world) sound in
-                j.sound (given a.0 (good_type 31 (x.of).name (member_symbol p (r.1).world (x.of).member) r.1 back again) k.1) listed agrees (subst (λ u. Sound w u.world) (sym k.0) again)
+                j.sound (given a.0 (good_type 31 (x.of).name (member_symbol (x.of).member) r.1 back again) k.1) listed agrees (subst (λ u. Sound w u.world) (sym k.0) again)
                 (λ i. (ap (λ u. u.world.procedure) k.0 ∙ ap (λ v. v.procedure) h.world ∙ (knows i).0, empty i, ap (λ u. u.values) k.0 ∙ h.values ∙ (knows i).2, (knows i).3));
           })))
 
@@ -348,7 +348,7 @@ module _ (w : Final) where
 
       result_good : (r : Option ResultType) (s : Making) → Agrees w s → Sound w s.world → Gives IsResultType (result_shape p r s.world)
       result_good None s agrees sound = keeps IsResultType Nothing (refl, refl)
-      result_good (Some r) s agrees sound = and_then (good_type 31 (r.name).name (member_symbol p s.world (r.name).member) s agrees sound) (λ a h.
+      result_good (Some r) s agrees sound = and_then (good_type 31 (r.name).name (member_symbol (r.name).member) s agrees sound) (λ a h.
           by_rule 31 (place p (r.name).name) (is_scalar a) (λ k. keeps IsResultType a (result_of a h.1 k, h.0)))
 
       -- what formal parts give: what a procedure takes and gives

@@ -50,7 +50,7 @@ q_in : {A : Type 0} {m : Judged (A × Making)} (s : Making) → Gives (InTo s) m
 q_in s g = weaken g (λ q k. record { values = k.values_same; procedures = k.procedures_same })
 
 module _ (p : Source) where
-  q_each : {X : Type 0} (f : X → Part (Unit {0})) → ((x : X) (s : Making) → Gives (Quiet s) (f x s)) → (xs : List X) (s : Making) → Gives (Quiet s) (each p f xs s)
+  q_each : {X : Type 0} (f : X → Part (Unit {0})) → ((x : X) (s : Making) → Gives (Quiet s) (f x s)) → (xs : List X) (s : Making) → Gives (Quiet s) (each f xs s)
   q_each f g [] s = keeps (Quiet s) (tt, s) (record { values = refl; procedures = refl })
   q_each f g (x ∷ xs) s = q_next (g x s) (λ r. q_each f g xs r.1)
 
@@ -295,9 +295,9 @@ module _ (w : Final) where
       mutual
         pub k_decls : (d : S.Decls) (s : Making) → Gives (Done s) (decls_part p d s)
         k_decls (S.decls consts types vars procedures) s =
-            and_then (gives_both (k_each w p (const_part p) (λ d u. k_const w order p read d u) (consts_in p consts) s) (q_each p (const_part p) (λ d u. q_const p d u) (consts_in p consts) s)) (λ a ha.
-            and_then (gives_both (k_types w order p read {Before = Unit {0}} (types_in p types) a.1) (q_types p (types_in p types) a.1)) (λ b hb.
-            and_then (gives_both (k_each w p (var_part p) (λ d u. k_var w order p read d u) (vars_in p vars) b.1) (q_each p (var_part p) (λ d u. q_var p d u) (vars_in p vars) b.1)) (λ c hc.
+            and_then (gives_both (k_each w p (const_part p) (λ d u. k_const w order p read d u) (consts_in consts) s) (q_each p (const_part p) (λ d u. q_const p d u) (consts_in consts) s)) (λ a ha.
+            and_then (gives_both (k_types w order p read {Before = Unit {0}} (types_in types) a.1) (q_types p (types_in types) a.1)) (λ b hb.
+            and_then (gives_both (k_each w p (var_part p) (λ d u. k_var w order p read d u) (vars_in vars) b.1) (q_each p (var_part p) (λ d u. q_var p d u) (vars_in vars) b.1)) (λ c hc.
             weaken (k_procedures procedures c.1) (λ q hq. done_on s a q (quiet_done s a ha.0 ha.1) (done_on a.1 b q (quiet_done a.1 b hb.0 hb.1) (done_on b.1 c q (quiet_done b.1 c hc.0 hc.1) hq))))))
 
         pub k_procedures : (x : S.Procedures) (s : Making) → Gives (Done s) (procedures_part p x s)

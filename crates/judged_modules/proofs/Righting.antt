@@ -7,7 +7,8 @@ use Rattle.ob_judge.specs.Shapes.{Field as FieldOf}
 use Rattle.ob_judge.specs.Scopes.{Object, AConstant, AVariable, Entry, KnownModule, Imported, TheOut, TheIn, Earlier, World, Source, is_visible, or_of_module, or_else, look_up}
 use Rattle.ob_judge.specs.Making.{Making}
 use Rattle.ob_judge.specs.Names.{names_of, names_in, narrowing_of}
-use Rattle.judged_well.specs.Standing.{is_foreign, fields_in, ObjectStands, IsUnnarrowed, IsForeign, IsOwn, FieldStands, Right}
+use Rattle.ob_judge.specs.Parts.{fields_of}
+use Rattle.judged_well.specs.Standing.{is_foreign, ObjectStands, IsUnnarrowed, IsForeign, IsOwn, FieldStands, Right}
 use Rattle.judged_well.proofs.FirstWorld.{of_out, of_in}
 use Rattle.judged_modules.specs.Final.{Final, setting_in}
 use Rattle.judged_modules.specs.Agrees.{Agrees, IsVariable, records_of, bases_of}
@@ -67,7 +68,7 @@ module _ (w : Final) where
 
   module _ (p : Source) where
     unnarrowed : (v : World) (o : Object) → v.narrowed ≡ [] → IsUnnarrowed (setting_in w 0) p v o
-    unnarrowed v (AVariable x) h = ap (λ ns. narrowing_of p v x.place ns) h
+    unnarrowed v (AVariable x) h = ap (λ ns. narrowing_of x.place ns) h
     unnarrowed v (AConstant c) h = tt
     unnarrowed v _ h = tt
 
@@ -105,7 +106,7 @@ module _ (w : Final) where
         there = λ a b h. agrees.there a (there_of s a b h);
         targets = λ n r h. target n r (slice_get (bases_of s) n) refl h;
         fields = λ r q x h. fields r q x (slice_get (records_of s) r) refl h;
-        narrowed = λ d n h. none_some n (sym (ap (λ ns. narrowing_of p s.world d ns) sound.narrowed) ∙ h);
+        narrowed = λ d n h. none_some n (sym (ap (λ ns. narrowing_of d ns) sound.narrowed) ∙ h);
       }
         where
           target : (n r : ℕ) (o : Option (Option ℕ)) → slice_get (bases_of s) n ≡ o → base_of o ≡ Some r → w.target n ≡ Some r
@@ -113,11 +114,11 @@ module _ (w : Final) where
           target n r (Some None) i h = none_some r h
           target n r (Some (Some k)) i h = agrees.target n r (i ∙ ap Some h)
 
-          fields : (r : ℕ) (q : List ℕ) (x : FieldOf) (o : Option Layout) → slice_get (records_of s) r ≡ o → fields_in (setting_in w f) o q ≡ Some x → FieldStands (setting_in w f) r x
+          fields : (r : ℕ) (q : List ℕ) (x : FieldOf) (o : Option Layout) → slice_get (records_of s) r ≡ o → fields_of o q ≡ Some x → FieldStands (setting_in w f) r x
           fields r q x None i h = none_some x h
           fields r q x (Some l) i h = field_stands r l x i (sound.fields r l q x i h)
 
-          of_module : (o : Option KnownModule) (n : ℕ) → slice_get s.world.modules n ≡ o → (q : List ℕ) (x : Entry) → names_in p s.world o q ≡ Some x → ObjectStands (setting_in w f) x.object × IsUnnarrowed (setting_in w f) p s.world x.object × IsForeign (setting_in w f) s.world x.object
+          of_module : (o : Option KnownModule) (n : ℕ) → slice_get s.world.modules n ≡ o → (q : List ℕ) (x : Entry) → names_in o q ≡ Some x → ObjectStands (setting_in w f) x.object × IsUnnarrowed (setting_in w f) p s.world x.object × IsForeign (setting_in w f) s.world x.object
           of_module None n i q x h = none_some x h
           of_module (Some m) n i q x h = let k = sound.members n m i q x h in (k.0 f, unnarrowed s.world x.object sound.narrowed, abroad f s.world x.object k.1)
 

@@ -243,7 +243,7 @@ module _ (p : Source) where
   i_stand_fields (x ∷ xs) g s = i_next (i_look (rule 36 (place p x.name) (is_none (g.fields (spelled p x.name)))) s) (λ r. i_next (i_stand (x.name ∷ []) r.1) (λ q. i_stand_fields xs g q.1))
 
   -- parts whose scope is put back
-  pub i_among : {A : Type 0} (m : Part A) (s : Making) → Gives (InTo (record s { standing = [] })) (m (record s { standing = [] })) → Gives (InTo s) (among_fields p m s)
+  pub i_among : {A : Type 0} (m : Part A) (s : Making) → Gives (InTo (record s { standing = [] })) (m (record s { standing = [] })) → Gives (InTo s) (among_fields m s)
   i_among m s g = and_then g (λ r h. keeps (InTo s) (r.0, record r.1 { standing = s.standing })
       (follows s (record s { standing = [] }) (record r.1 { standing = s.standing }) (calm s _ refl refl refl refl refl refl refl refl)
       (follows (record s { standing = [] }) r.1 (record r.1 { standing = s.standing }) h (calm r.1 _ refl refl refl refl refl refl refl refl))))
@@ -285,7 +285,7 @@ module _ (p : Source) where
   base_lined : (b : Option Base) (s : Making) → Gives (λ (r : Layout × Making). IsBaseLine (records_of s) (r.0).line) (base_layout p b s.world >>= λ a. Keeps (a, s))
   base_lined b s = and_then (base_of_line b s.world) (λ l h. keeps (λ (r : Layout × Making). IsBaseLine (records_of s) (r.0).line) (l, s) h)
 
-  among_lined : (m : Part Layout) (s : Making) (line : List ℕ) → Gives (Lined (record s { standing = [] }) line) (m (record s { standing = [] })) → Gives (Lined s line) (among_fields p m s)
+  among_lined : (m : Part Layout) (s : Making) (line : List ℕ) → Gives (Lined (record s { standing = [] }) line) (m (record s { standing = [] })) → Gives (Lined s line) (among_fields m s)
   among_lined m s line g = and_then g (λ r h. keeps (Lined s line) (r.0, record r.1 { standing = s.standing }) (
     follows s (record s { standing = [] }) (record r.1 { standing = s.standing }) (calm s _ refl refl refl refl refl refl refl refl)
         (follows (record s { standing = [] }) r.1 (record r.1 { standing = s.standing }) h.0 (calm r.1 _ refl refl refl refl refl refl refl refl)),
@@ -296,7 +296,7 @@ module _ (p : Source) where
     pub i_type : (x : S.TypeTree) (s : Making) → Gives (InTo s) (type_part p x s)
     i_type (S.Named q) s = i_look (type_at p 31 q s.world) s
     i_type (S.Array i first more j element) s = i_next (i_look (array_length p first s.world) s) (λ n. i_next (i_look (array_lengths p more n.1.world) n.1) (λ ns.
-        i_next (i_type element ns.1) (λ a. i_look (arrays p (place p i) (n.0 ∷ ns.0) a.0 a.1.world) a.1)))
+        i_next (i_type element ns.1) (λ a. i_look (arrays (place p i) (n.0 ∷ ns.0) a.0 a.1.world) a.1)))
     i_type (S.Record i base first more j) s =
         let n = length (records_of s) in
         and_then (gives_both (i_look (base_layout p base (with_record s).world) (with_record s)) (base_lined base (with_record s))) (λ b h.

@@ -89,7 +89,7 @@ module _ (w : Final) where
     small_size (negsuc n) h = no h
 
     small_length : (x : S.Expression) (v : World) → Gives Small (array_length p x v)
-    small_length x v = and_then (anything (constant p v x)) (λ c i. by_some 31 (place p (expression_first x)) (int_only p c) (λ n is.
+    small_length x v = and_then (anything (constant p v x)) (λ c i. by_some 31 (place p (expression_first x)) (int_only c) (λ n is.
         by_rule 35 (place p (expression_first x)) (is_length n) (λ ok. keeps Small (size_of n) (small_size n ok))))
 
     small_lengths : (xs : S.NextExpressions) (v : World) → Gives AreSmall (array_lengths p xs v)
@@ -99,7 +99,7 @@ module _ (w : Final) where
     good_array : (n : ℕ) (a : Shape) → Small n → IsGood w a → IsGood w (Array n a)
     good_array n a h k = (and_from (nat_lt n (2 ^ 32)) (is_whole a && good (setting_in w 0) a) h (and_from (is_whole a) (good (setting_in w 0) a) k.1 k.0), refl)
 
-    good_arrays : (at : ℕ) (ns : List ℕ) → AreSmall ns → (a : Shape) → IsGood w a → (v : World) → Gives (IsGood w) (arrays p at ns a v)
+    good_arrays : (at : ℕ) (ns : List ℕ) → AreSmall ns → (a : Shape) → IsGood w a → (v : World) → Gives (IsGood w) (arrays at ns a v)
     good_arrays at [] h a k v = keeps (IsGood w) a k
     good_arrays at (n ∷ ns) h a k v = and_then (good_arrays at ns h.1 a k v) (λ inner g. by_rule 35 at (nat_le (cells v.known (Array n inner)) limit) (λ ok. keeps (IsGood w) (Array n inner) (good_array n inner h.0 g)))
 
@@ -123,7 +123,7 @@ module _ (w : Final) where
     k_stand_fields (x ∷ xs) g s = k_next w (k_pass w (rule 36 (place p x.name) (is_none (g.fields (spelled p x.name)))) s) (λ r. k_next w (k_stand w p (x.name ∷ []) r.1) (λ q. k_stand_fields xs g q.1))
 
     k_among : {A : Type 0} {Before : Type 0} (P : A → Making → Type 0) (m : Part A) (s : Making) → ((a : A) (t : Making) → P a t → P a (record t { standing = s.standing }))
-        → Gives (Ok w Before P (record s { standing = [] })) (m (record s { standing = [] })) → Gives (Ok w Before P s) (among_fields p m s)
+        → Gives (Ok w Before P (record s { standing = [] })) (m (record s { standing = [] })) → Gives (Ok w Before P s) (among_fields m s)
     k_among P m s same g = and_then g (λ r h. keeps (Ok w _ P s) (r.0, record (r.1) { standing = s.standing }) (record {
       grown = onward s r.1 (record (r.1) { standing = s.standing }) (onward s (record s { standing = [] }) r.1 (untouched s _ refl refl refl refl refl refl refl) h.grown) (untouched r.1 _ refl refl refl refl refl refl refl);
       sound = λ before agrees sound. let a = h.sound before (agrees_back w r.1 (record (r.1) { standing = s.standing }) (untouched r.1 _ refl refl refl refl refl refl refl) agrees) sound in (a.0, same r.0 r.1 a.1);
@@ -203,12 +203,12 @@ module _ (w : Final) where
 
     mutual
       pub k_type : {Before : Type 0} (x : S.TypeTree) (s : Making) → Gives (Ok w Before (λ a t. IsGood w a) s) (type_part p x s)
-      k_type (S.Named q) s = k_look w (IsGood w) (type_at p 31 q s.world) s (λ before agrees sound. good_type w p order 31 q.name (member_symbol p s.world q.member) s agrees sound)
+      k_type (S.Named q) s = k_look w (IsGood w) (type_at p 31 q s.world) s (λ before agrees sound. good_type w p order 31 q.name (member_symbol q.member) s agrees sound)
       k_type (S.Array i first more j element) s =
           k_next w (k_look w Small (array_length p first s.world) s (λ before agrees sound. small_length first s.world)) (λ n.
           k_next w (k_look w AreSmall (array_lengths p more (n.1).world) n.1 (λ before agrees sound. small_lengths more (n.1).world)) (λ ns.
           k_next w (k_type element ns.1) (λ a.
-          k_look w (IsGood w) (arrays p (place p i) (n.0 ∷ ns.0) a.0 (a.1).world) a.1 (λ before agrees sound. good_arrays (place p i) (n.0 ∷ ns.0) (((before.0).0).1, (before.0).1) a.0 before.1 (a.1).world))))
+          k_look w (IsGood w) (arrays (place p i) (n.0 ∷ ns.0) a.0 (a.1).world) a.1 (λ before agrees sound. good_arrays (place p i) (n.0 ∷ ns.0) (((before.0).0).1, (before.0).1) a.0 before.1 (a.1).world))))
       k_type (S.Record i base first more j) s =
           let n = length (records_of s) in
           let s1 = with_record s in

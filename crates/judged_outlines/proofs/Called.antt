@@ -80,14 +80,14 @@ module _ (n : ℕ) (p : Source) (w : World) (before later : List (Option ℕ)) (
   all_stay (one v t ps) [] h = keeps SameArguments no_argument refl
   all_stay none xs h = keeps SameArguments no_argument refl
 
-  call_stays : (x : Operand) → Stays x → (k : What) (bs : Arguments) → SameArguments bs → SameCall (call_of w x k bs)
+  call_stays : (x : Operand) → Stays x → (k : What) (bs : Arguments) → SameArguments bs → SameCall (call_of x k bs)
   call_stays x h (Code f l) bs i = ap (Direct f) i
   call_stays x h (Named d) bs i = ap₂ (λ a b. Indirect a b) (pointed x h) i
   call_stays x h _ bs i = ap₂ (λ a b. Indirect a b) (pointed x h) i
 
   pub a_called : (at : ℕ) (x : Operand) → Stays x → (ps : Formals) (result : Shape) → PointsAmong n result → (xs : List Given) → AllStay xs → Gives Stays (called w at x ps result xs)
-  a_called at x h ps result g xs all = by_rule 40 at (is_count w ps xs) (λ count. and_then (all_stay ps xs all) (λ bs i.
-      keeps Stays (value result (Result (call_of w x x.what bs))) (record { shape = g; what = ap Result (call_stays x h x.what bs i) })))
+  a_called at x h ps result g xs all = by_rule 40 at (is_count ps xs) (λ count. and_then (all_stay ps xs all) (λ bs i.
+      keeps Stays (value result (Result (call_of x x.what bs))) (record { shape = g; what = ap Result (call_stays x h x.what bs i) })))
 
   pub a_applied : (at : ℕ) (x : Operand) → Stays x → (s : Shape) → PointsAmong n s → (xs : List Given) → AllStay xs → Gives Stays (applied p w at x s xs)
   a_applied at x h (Procedure ps result) g xs all = a_called at x h ps result g.1 xs all
@@ -96,36 +96,36 @@ module _ (n : ℕ) (p : Source) (w : World) (before later : List (Option ℕ)) (
 
   -- ---- standard procedures
 
-  a_function : (s : Shape) (x : Expr) → PointsAmong n s → Same x → Gives Stays (function w s x)
+  a_function : (s : Shape) (x : Expr) → PointsAmong n s → Same x → Gives Stays (function s x)
   a_function s x g h = keeps Stays (operand s (Valued x) AsConstant) (record { shape = g; what = h })
 
-  a_proper : (x : Statement) → SameStatement x → Gives Stays (proper w x)
+  a_proper : (x : Statement) → SameStatement x → Gives Stays (proper x)
   a_proper x h = keeps Stays (operand Nothing (Proper x) AsValue) (record { shape = tt; what = h })
 
   -- of a number, its form and the whole
   abbrev Number : Checked → Type 0
   Number c = Same c.form × SameChecked c
 
-  a_number : (x : Given) → Stays x.operand → Gives Number (number w x)
+  a_number : (x : Given) → Stays x.operand → Gives Number (number x)
   a_number x h = by_rule 31 x.at (is_number x.operand.shape) (λ it. keeps Number (checked x.operand) (formed x.operand h, checked_stays n before later same x.operand h))
 
   a_assigned : (t : Shape) (x : Given) → Stays x.operand → Gives SameChecked (assigned_to w t x)
   a_assigned t x h = by_rule 31 x.at (may_assign w.known t x.operand) (λ may. keeps SameChecked (stored t x.operand) (stored_stays n before later same t x.operand h))
 
-  a_shifted : (operator : Binary) (x y : Given) → Stays x.operand → Stays y.operand → Gives Stays (shifted w operator x y)
+  a_shifted : (operator : Binary) (x y : Given) → Stays x.operand → Stays y.operand → Gives Stays (shifted operator x y)
   a_shifted operator x y h k = and_then (a_number x h) (λ a i. and_then (a_number y k) (λ b j. a_function Integer (operated operator a.form b.form) tt (ap₂ (λ c d. Linked c (Operate operator d)) i.0 j.0)))
 
   -- how a standard procedure changes a variable
   abbrev Changes : (Designator → Checked → Statement) → Type 0
   Changes change = (d : Designator) (c : Checked) → SameDesignator d → SameChecked c → SameStatement (change d c)
 
-  a_changed : (change : Designator → Checked → Statement) → Changes change → (v : Given) (m : Judged Checked) → Stays v.operand → Gives Number m → Gives Stays (changed w change v m)
-  a_changed change ok v m h g = by_unit (written v) (and_then (anything (number w v)) (λ c z. and_then g (λ x i. a_proper (change (designator_of v.operand) x) (ok (designator_of v.operand) x (pointed v.operand h) i.1))))
+  a_changed : (change : Designator → Checked → Statement) → Changes change → (v : Given) (m : Judged Checked) → Stays v.operand → Gives Number m → Gives Stays (changed change v m)
+  a_changed change ok v m h g = by_unit (written v) (and_then (anything (number v)) (λ c z. and_then g (λ x i. a_proper (change (designator_of v.operand) x) (ok (designator_of v.operand) x (pointed v.operand h) i.1))))
 
-  a_set_changed : (change : Designator → Checked → Statement) → Changes change → (v x : Given) → Stays v.operand → Stays x.operand → Gives Stays (set_changed w change v x)
+  a_set_changed : (change : Designator → Checked → Statement) → Changes change → (v x : Given) → Stays v.operand → Stays x.operand → Gives Stays (set_changed change v x)
   a_set_changed change ok v x h k = by_unit (written v) (by_rule 31 v.at (is_set v.operand.shape) (λ it. and_then (a_number x k) (λ a i. a_proper (change (designator_of v.operand) a) (ok (designator_of v.operand) a (pointed v.operand h) i.1))))
 
-  a_by_one : Gives Number (by_one w)
+  a_by_one : Gives Number by_one
   a_by_one = keeps Number (record { form = Literal 1; shape = Integer }) (refl, refl)
 
   increases : Changes Tree.Increase
@@ -148,12 +148,12 @@ module _ (n : ℕ) (p : Source) (w : World) (before later : List (Option ℕ)) (
   a_standard at Lsl (x ∷ y ∷ []) h = a_shifted TheBinary.Lsl x y h.0 (h.1).0
   a_standard at Asr (x ∷ y ∷ []) h = a_shifted TheBinary.Asr x y h.0 (h.1).0
   a_standard at Ror (x ∷ y ∷ []) h = a_shifted TheBinary.Ror x y h.0 (h.1).0
-  a_standard at Ord (x ∷ []) h = by_rule 31 x.at (may_order w x.operand.shape) (λ it. a_function Integer (form x.operand) tt (formed x.operand h.0))
+  a_standard at Ord (x ∷ []) h = by_rule 31 x.at (may_order x.operand.shape) (λ it. a_function Integer (form x.operand) tt (formed x.operand h.0))
   a_standard at Chr (x ∷ []) h = and_then (a_number x h.0) (λ a i. a_function Char (AsByte a.form) tt (ap AsByte i.0))
-  a_standard at Inc (v ∷ []) h = a_changed Tree.Increase increases v (by_one w) h.0 a_by_one
-  a_standard at Inc (v ∷ y ∷ []) h = a_changed Tree.Increase increases v (number w y) h.0 (a_number y (h.1).0)
-  a_standard at Dec (v ∷ []) h = a_changed Tree.Decrease decreases v (by_one w) h.0 a_by_one
-  a_standard at Dec (v ∷ y ∷ []) h = a_changed Tree.Decrease decreases v (number w y) h.0 (a_number y (h.1).0)
+  a_standard at Inc (v ∷ []) h = a_changed Tree.Increase increases v by_one h.0 a_by_one
+  a_standard at Inc (v ∷ y ∷ []) h = a_changed Tree.Increase increases v (number y) h.0 (a_number y (h.1).0)
+  a_standard at Dec (v ∷ []) h = a_changed Tree.Decrease decreases v by_one h.0 a_by_one
+  a_standard at Dec (v ∷ y ∷ []) h = a_changed Tree.Decrease decreases v (number y) h.0 (a_number y (h.1).0)
   a_standard at Incl (v ∷ x ∷ []) h = a_set_changed Tree.Include includes v x h.0 (h.1).0
   a_standard at Excl (v ∷ x ∷ []) h = a_set_changed Tree.Exclude excludes v x h.0 (h.1).0
   a_standard at New (v ∷ []) h = by_unit (written v) (by_some 31 v.at (target_of w.known v.operand.shape) (λ r is.
@@ -164,5 +164,5 @@ module _ (n : ℕ) (p : Source) (w : World) (before later : List (Option ℕ)) (
   a_standard at OutString (x ∷ []) h = by_rule 31 x.at (is_chars x.operand.what || is_variable x.operand && is_text x.operand.shape) (λ it.
       a_proper (Tree.OutString (designator_of x.operand)) (ap Tree.OutString (pointed x.operand h.0)))
   a_standard at OutLn [] h = a_proper Tree.OutLn refl
-  a_standard at InChar (v ∷ []) h = by_unit (written v) (by_rule 31 v.at (is_char_only w v.operand.shape) (λ it. a_proper (Tree.InChar (designator_of v.operand)) (ap Tree.InChar (pointed v.operand h.0))))
+  a_standard at InChar (v ∷ []) h = by_unit (written v) (by_rule 31 v.at (is_char_only v.operand.shape) (λ it. a_proper (Tree.InChar (designator_of v.operand)) (ap Tree.InChar (pointed v.operand h.0))))
   a_standard at s xs h = breaks Stays 40 at

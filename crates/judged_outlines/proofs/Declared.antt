@@ -42,7 +42,7 @@ among_left s t more outer inner = record {
 }
 
 module _ (p : Source) where
-  pub d_each : {X : Type 0} (f : X → Part (Unit {0})) → ((x : X) (s : Making) → AmongIn s → Gives (LeavesAmong Any s) (f x s)) → (xs : List X) (s : Making) → AmongIn s → Gives (LeavesAmong Any s) (each p f xs s)
+  pub d_each : {X : Type 0} (f : X → Part (Unit {0})) → ((x : X) (s : Making) → AmongIn s → Gives (LeavesAmong Any s) (f x s)) → (xs : List X) (s : Making) → AmongIn s → Gives (LeavesAmong Any s) (each f xs s)
   d_each f g [] s among = d_give Any tt s among tt
   d_each f g (x ∷ xs) s among = d_next (g x s among) (λ r h. d_each f g xs r.1 h.among)
 
@@ -57,7 +57,7 @@ module _ (p : Source) where
   d_type_decl d s among = d_next (d_stand p (d.name.name ∷ []) s among) (λ r h. d_next (d_type p d.is r.1 h.among) (λ a k. d_declared p d.name (AType a.0) a.1 k.among k.gives))
 
   d_forward : (k : ℕ × ℕ) (s : Making) → AmongIn s → Gives (LeavesAmong Any s) (forward_base p k s)
-  d_forward k s among = d_next (d_pass (some 30 (place p k.1) (entry_object p (last_names s.world.levels (spelled p k.1)))) s among) (λ o h. d_next (d_pass (some 31 (place p k.1) (record_object o.0)) o.1 h.among) (λ r j.
+  d_forward k s among = d_next (d_pass (some 30 (place p k.1) (entry_object (last_names s.world.levels (spelled p k.1)))) s among) (λ o h. d_next (d_pass (some 31 (place p k.1) (record_object o.0)) o.1 h.among) (λ r j.
       let e = set_length (bases_of r.1) k.0 (Some r.0) in
       d_change r.1 (with_known (λ x. record x { bases = slice_set x.bases k.0 (Some r.0) }) r.1) (omega (arith, e)) (among_with_bases r.1 (slice_set (bases_of r.1) k.0 (Some r.0)) (omega (arith, e)) j.among)))
 
@@ -80,7 +80,7 @@ module _ (p : Source) where
       (h, variable_place s.world.procedure s.world.module_number (s.values + length s.variables))) (λ r k.
       d_change r.1 (record r.1 { variables = r.1.variables ++ a ∷ [] }) (omega arith) (record { names = k.among.names; members = k.among.members; fields = k.among.fields; narrowed = k.among.narrowed }))
 
-  d_variables : (a : Shape) (xs : List Identdef) (s : Making) → AmongIn s → ObjectAmong (pointer_count s) (AType a) → Gives (LeavesAmong Any s) (each p (variable_part p a) xs s)
+  d_variables : (a : Shape) (xs : List Identdef) (s : Making) → AmongIn s → ObjectAmong (pointer_count s) (AType a) → Gives (LeavesAmong Any s) (each (variable_part p a) xs s)
   d_variables a [] s among h = d_give Any tt s among tt
   d_variables a (x ∷ xs) s among h = d_next (d_variable a x s among h) (λ r k. d_variables a xs r.1 k.among (object_later (pointer_count s) (pointer_count r.1) k.more (AType a) h))
 
@@ -125,8 +125,8 @@ module _ (p : Source) where
   mutual
     pub d_decls : (d : S.Decls) (s : Making) → AmongIn s → Gives (LeavesAmong Any s) (decls_part p d s)
     d_decls (S.decls consts types vars procedures) s among =
-        d_next (d_each (const_part p) d_const (consts_in p consts) s among) (λ a f. d_next (d_types (types_in p types) a.1 f.among) (λ b g.
-        d_next (d_each (var_part p) d_var (vars_in p vars) b.1 g.among) (λ c h. d_procedures procedures c.1 h.among)))
+        d_next (d_each (const_part p) d_const (consts_in consts) s among) (λ a f. d_next (d_types (types_in types) a.1 f.among) (λ b g.
+        d_next (d_each (var_part p) d_var (vars_in vars) b.1 g.among) (λ c h. d_procedures procedures c.1 h.among)))
 
     pub d_procedures : (x : S.Procedures) (s : Making) → AmongIn s → Gives (LeavesAmong Any s) (procedures_part p x s)
     d_procedures S.no_procedure s among = d_give Any tt s among tt

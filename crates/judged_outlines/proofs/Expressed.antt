@@ -37,7 +37,7 @@ module _ (n : ℕ) (p : Source) (w : World) (among : WorldAmong n w) (before lat
   abbrev All : List Given → Type 0
   All = AllStay n p w before later same
 
-  a_literal : (s : Shape) (bits : ℕ) → PointsAmong n s → Gives Stays (literal p w s bits)
+  a_literal : (s : Shape) (bits : ℕ) → PointsAmong n s → Gives Stays (literal s bits)
   a_literal s bits h = keeps Stays (value s (Literal bits)) (record { shape = h; what = refl })
 
   partly : (m : Judged Operand) → Gives Stays m → Gives Staged (m >>= λ y. Keeps (Partly y))
@@ -48,11 +48,11 @@ module _ (n : ℕ) (p : Source) (w : World) (among : WorldAmong n w) (before lat
 
   -- a guard, or the arguments of a call
   parens : (at : ℕ) (stage : Stage) → Staged stage → (list : S.Expressions) → Gives All (arguments p w list)
-      → Gives Staged (begun p w at stage >>= λ x. elim (guard_name p w x (bare_list list)) as (λ _. Judged Stage) [
+      → Gives Staged (begun p w at stage >>= λ x. elim (guard_name x (bare_list list)) as (λ _. Judged Stage) [
         | Some q ↦ type_named p w 31 q.0 q.1 >>= λ t. guarded p w at x t >>= λ y. Keeps (Partly y)
         | None ↦ arguments p w list >>= λ xs. applied p w at x x.shape xs >>= λ y. Keeps (Ended y)
       ])
-  parens at stage h list walked = and_then (a_begun n p w among before later same at stage h) (λ x k. by x k (guard_name p w x (bare_list list)))
+  parens at stage h list walked = and_then (a_begun n p w among before later same at stage h) (λ x k. by x k (guard_name x (bare_list list)))
     where
       by : (x : Operand) → Stays x → (q : Option (ℕ × Option ℕ)) → Gives Staged (elim q as (λ _. Judged Stage) [
         | Some q ↦ type_named p w 31 q.0 q.1 >>= λ t. guarded p w at x t >>= λ y. Keeps (Partly y)
@@ -88,9 +88,9 @@ module _ (n : ℕ) (p : Source) (w : World) (among : WorldAmong n w) (before lat
     a_multiplied x h (S.multiplied operator f rest) = and_then (a_factor f) (λ y k. and_then (a_joined n p w among before later same (mul_operator operator) (place p (mul_symbol operator)) x y h k) (λ z l. a_multiplied z l rest))
 
     a_factor : (x : S.Factor) → Gives Stays (factor p w x)
-    a_factor (S.Int i) = a_literal Integer (int_of p w (symbol_at p i).kind) tt
+    a_factor (S.Int i) = a_literal Integer (int_of (symbol_at p i).kind) tt
     a_factor (S.Text i) = keeps Stays (operand (TextShape (length (characters p i))) (Chars (characters p i)) AsValue) (record { shape = tt; what = tt })
-    a_factor (S.Char i) = a_literal Char (char_of p w (symbol_at p i).kind) tt
+    a_factor (S.Char i) = a_literal Char (char_of (symbol_at p i).kind) tt
     a_factor (S.Nil i) = a_literal Nil 0 tt
     a_factor (S.True i) = a_literal Boolean 1 tt
     a_factor (S.False i) = a_literal Boolean 0 tt

@@ -55,7 +55,7 @@ module _ (n : ℕ) (p : Source) (w : World) (among : WorldAmong n w) where
       []) (tt, ((tt, tt), tt)) q x is
   known_member (Earlier k) q x is = by (slice_get w.modules k) refl is
     where
-      by : (o : Option KnownModule) → slice_get w.modules k ≡ o → names_in p w o q ≡ Some x → Known x.object
+      by : (o : Option KnownModule) → slice_get w.modules k ≡ o → names_in o q ≡ Some x → Known x.object
       by None i h = none_some x h
       by (Some m) i h = among.members k m i q x h
 
@@ -76,13 +76,13 @@ module _ (n : ℕ) (p : Source) (w : World) (among : WorldAmong n w) where
   a_qualified name None = a_named name
   a_qualified name (Some i) = and_then (a_named name) (λ o h. a_member_of name i o)
 
-  type_of : (o : Object) → ObjectAmong n o → (s : Shape) → type_of_object p w o ≡ Some s → PointsAmong n s
+  type_of : (o : Object) → ObjectAmong n o → (s : Shape) → type_of_object o ≡ Some s → PointsAmong n s
   type_of (AType u) h s is = subst (PointsAmong n) (some_same u s is) h
   type_of (AConstant c) h s is = none_some s is
   type_of _ h s is = none_some s is
 
   pub a_type_named : (number name : ℕ) (i : Option ℕ) → Gives (PointsAmong n) (type_named p w number name i)
-  a_type_named number name i = and_then (a_qualified name i) (λ o h. at_last number (place p name) (type_of_object p w o) (λ s is. type_of o h s is))
+  a_type_named number name i = and_then (a_qualified name i) (λ o h. at_last number (place p name) (type_of_object o) (λ s is. type_of o h s is))
 
   -- ---- names as operands
 
@@ -93,21 +93,21 @@ module _ (n : ℕ) (p : Source) (w : World) (among : WorldAmong n w) where
     pub whole_stays : (v : Variable) → ObjectAmong n (AVariable v) → Stays (whole_variable w v)
     whole_stays v h = record { shape = h.0; what = declared_stays n before later same v.place h.1 }
 
-    narrowing_among : (d : Place) (ns : List Narrowing) → Each (NarrowingAmong n) ns → (x : Narrowing) → narrowing_of p w d ns ≡ Some x → NarrowingAmong n x
+    narrowing_among : (d : Place) (ns : List Narrowing) → Each (NarrowingAmong n) ns → (x : Narrowing) → narrowing_of d ns ≡ Some x → NarrowingAmong n x
     narrowing_among d [] all x h = none_some x h
-    narrowing_among d (y ∷ ys) all x h = by (narrowing_among d ys all.1 x) (is_place p w d y.variable) h
+    narrowing_among d (y ∷ ys) all x h = by (narrowing_among d ys all.1 x) (is_place d y.variable) h
       where
-        by : (narrowing_of p w d ys ≡ Some x → NarrowingAmong n x) → (b : Bool) → (if b then Some y else narrowing_of p w d ys) ≡ Some x → NarrowingAmong n x
+        by : (narrowing_of d ys ≡ Some x → NarrowingAmong n x) → (b : Bool) → (if b then Some y else narrowing_of d ys) ≡ Some x → NarrowingAmong n x
         by rest true i = subst (NarrowingAmong n) (some_same y x i) all.0
         by rest false i = rest i
 
-    narrowed_stays : (x : Operand) → Stays x → (is_pointer_ : Bool) (o : Option Narrowing) → ((k : Narrowing) → o ≡ Some k → NarrowingAmong n k) → Stays (narrowed_to p w x is_pointer_ o)
+    narrowed_stays : (x : Operand) → Stays x → (is_pointer_ : Bool) (o : Option Narrowing) → ((k : Narrowing) → o ≡ Some k → NarrowingAmong n k) → Stays (narrowed_to x is_pointer_ o)
     narrowed_stays x h b None all = h
     narrowed_stays x h true (Some k) all = record { shape = all k refl; what = ap (λ a. Guard a k.tag) (form_stays n before later same x h) }
     narrowed_stays x h false (Some k) all = record { shape = all k refl; what = ap (λ a. Narrow a k.tag) (place_stays n before later same x h) }
 
     variable_stays : (v : Variable) → ObjectAmong n (AVariable v) → Stays (variable_read p w v)
-    variable_stays v h = narrowed_stays (whole_variable w v) (whole_stays v h) (is_pointer v.shape) (narrowing_of p w v.place w.narrowed) (λ k is. narrowing_among v.place w.narrowed among.narrowed k is)
+    variable_stays v h = narrowed_stays (whole_variable w v) (whole_stays v h) (is_pointer v.shape) (narrowing_of v.place w.narrowed) (λ k is. narrowing_among v.place w.narrowed among.narrowed k is)
 
     constant_stays : (c : Constant) → ObjectAmong n (AConstant c) → Stays (of_constant c)
     constant_stays (TheBits s bits) h = record { shape = h; what = refl }

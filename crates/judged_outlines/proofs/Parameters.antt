@@ -37,7 +37,7 @@ FormalsAmong r t = ListedAmong r.0 t × PointsAmong (pointer_count t) r.1
 module _ (p : Source) where
   -- the parameter's name is known
   abbrev known_from : ℕ → Bool → Shape → Listed → Making → Making
-  known_from i v a l s = record (with_levels (declare_last (spelled p i) (record { object = parameter_variable p v a s.values (length l.parameters) s.world; exported = false })) s) { values = if is_value (mode_of v a) then suc s.values else s.values }
+  known_from i v a l s = record (with_levels (declare_last (spelled p i) (record { object = parameter_variable v a s.values (length l.parameters) s.world; exported = false })) s) { values = if is_value (mode_of v a) then suc s.values else s.values }
 
   parameter_place : (b : Bool) (values k : ℕ) → IsDeclaredPlace (if b then Local values else Parameter k)
   parameter_place true values k = tt
@@ -45,7 +45,7 @@ module _ (p : Source) where
 
   known_among : (i : ℕ) (v : Bool) (a : Shape) (l : Listed) (s : Making) → PointsAmong (pointer_count s) a → AmongIn s → AmongIn (known_from i v a l s)
   known_among i v a l s h among =
-      let u = among_declared s (spelled p i) (record { object = parameter_variable p v a s.values (length l.parameters) s.world; exported = false }) (h, parameter_place (is_value (mode_of v a)) s.values (length l.parameters)) among in
+      let u = among_declared s (spelled p i) (record { object = parameter_variable v a s.values (length l.parameters) s.world; exported = false }) (h, parameter_place (is_value (mode_of v a)) s.values (length l.parameters)) among in
       record { names = u.names; members = u.members; fields = u.fields; narrowed = u.narrowed }
 
   d_add : (b v : Bool) (a : Shape) (is : List ℕ) (l : Listed) (s : Making) → AmongIn s → PointsAmong (pointer_count s) a → ListedAmong l s → Gives (LeavesAmong ListedAmong s) (add_parameters p b v a is l s)
@@ -59,7 +59,7 @@ module _ (p : Source) where
 
   d_section : (b : Bool) (x : S.Section) (l : Listed) (s : Making) → AmongIn s → ListedAmong l s → Gives (LeavesAmong ListedAmong s) (section p b x l s)
   d_section b x l s among k = d_next (d_stand p (x.first ∷ next_names x.more) s among) (λ r g.
-      d_next (d_look (λ a t. PointsAmong (pointer_count t) a) (type_at p 31 x.of (r.1).world) r.1 g.among (a_type_named (pointer_count r.1) p (r.1).world g.among 31 (x.of).name (member_symbol p (r.1).world (x.of).member))) (λ a j.
+      d_next (d_look (λ a t. PointsAmong (pointer_count t) a) (type_at p 31 x.of (r.1).world) r.1 g.among (a_type_named (pointer_count r.1) p (r.1).world g.among 31 (x.of).name (member_symbol (x.of).member))) (λ a j.
       d_add b (is_some x.var_word) (opened (is_some x.open_array) a.0) (x.first ∷ next_names x.more) l a.1 j.among (opened_among (pointer_count a.1) (is_some x.open_array) a.0 j.gives)
       (formals_later (pointer_count r.1) (pointer_count a.1) j.more l.formals (formals_later (pointer_count s) (pointer_count r.1) g.more l.formals k))))
 
@@ -73,7 +73,7 @@ module _ (p : Source) where
 
   result_among : (r : Option ResultType) (s : Making) → AmongIn s → Gives (λ a. PointsAmong (pointer_count s) a) (result_shape p r s.world)
   result_among None s among = keeps (λ a. PointsAmong (pointer_count s) a) Nothing tt
-  result_among (Some r) s among = and_then (a_type_named (pointer_count s) p s.world among 31 (r.name).name (member_symbol p s.world (r.name).member)) (λ a h.
+  result_among (Some r) s among = and_then (a_type_named (pointer_count s) p s.world among 31 (r.name).name (member_symbol (r.name).member)) (λ a h.
       by_rule 31 (place p (r.name).name) (is_scalar a) (λ it. keeps (λ b. PointsAmong (pointer_count s) b) a h))
 
   pub d_formals : (b : Bool) (x : Option S.Formals) (s : Making) → AmongIn s → Gives (LeavesAmong FormalsAmong s) (formal_part p b x s)

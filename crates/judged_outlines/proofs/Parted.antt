@@ -40,19 +40,19 @@ module _ (n : ℕ) (p : Source) (w : World) (among : WorldAmong n w) (before lat
 
   -- ---- parts
 
-  followed_stays : (x : Operand) (r : ℕ) → Stays x → Stays (followed p w x r)
+  followed_stays : (x : Operand) (r : ℕ) → Stays x → Stays (followed x r)
   followed_stays x r h = record { shape = tt; what = ap Dereference (pointer_stays n before later same (form x) (formed x h)) }
 
   record_stays : (x : Operand) → Stays x → (r : ℕ × Operand) → record_of p w x ≡ Some r → Stays r.1
   record_stays x h r is = by x.shape is
     where
-      through : (o : Option ℕ) → elim o as (λ _. Option (ℕ × Operand)) [ Some k ↦ Some (k, followed p w x k) | None ↦ None ] ≡ Some r → Stays r.1
+      through : (o : Option ℕ) → elim o as (λ _. Option (ℕ × Operand)) [ Some k ↦ Some (k, followed x k) | None ↦ None ] ≡ Some r → Stays r.1
       through None i = none_some r i
-      through (Some k) i = subst (λ z. Stays z.1) (some_same (k, followed p w x k) r i) (followed_stays x k h)
+      through (Some k) i = subst (λ z. Stays z.1) (some_same (k, followed x k) r i) (followed_stays x k h)
 
       by : (s : Shape) → elim s as (λ _. Option (ℕ × Operand)) [
         | Record m ↦ Some (m, x)
-        | Pointer m ↦ elim (target_of w.known (Pointer m)) as (λ _. Option (ℕ × Operand)) [ Some k ↦ Some (k, followed p w x k) | None ↦ None ]
+        | Pointer m ↦ elim (target_of w.known (Pointer m)) as (λ _. Option (ℕ × Operand)) [ Some k ↦ Some (k, followed x k) | None ↦ None ]
         | other ↦ None
       ] ≡ Some r → Stays r.1
       by (Record m) i = subst (λ z. Stays z.1) (some_same (m, x) r i) h
@@ -60,15 +60,15 @@ module _ (n : ℕ) (p : Source) (w : World) (among : WorldAmong n w) (before lat
       by Integer i = none_some r i
       by _ i = none_some r i
 
-  field_among : (o : Option Layout) (r : ℕ) (q : List ℕ) (f : FieldOf) → slice_get w.known.records r ≡ o → fields_of p w o q ≡ Some f → PointsAmong n f.shape
+  field_among : (o : Option Layout) (r : ℕ) (q : List ℕ) (f : FieldOf) → slice_get w.known.records r ≡ o → fields_of o q ≡ Some f → PointsAmong n f.shape
   field_among None r q f at is = none_some f is
   field_among (Some l) r q f at is = among.fields r l at q f is
 
   pub a_field : (at i : ℕ) (x : Operand) → Stays x → Gives Stays (field p w at i x)
   a_field at i x h = by_some 31 at (record_of p w x) (λ r is.
-      by_some 30 (place p i) (fields_of p w (slice_get w.known.records r.0) (spelled p i)) (λ f found.
+      by_some 30 (place p i) (fields_of (slice_get w.known.records r.0) (spelled p i)) (λ f found.
       by_rule 34 (place p i) (f.exported || nat_eq f.owner w.module_number) (λ seen.
-      keeps Stays (part_of p w r.1 f.shape (Field (place_of r.1) f.adder f.number)) (record {
+      keeps Stays (part_of r.1 f.shape (Field (place_of r.1) f.adder f.number)) (record {
         shape = field_among (slice_get w.known.records r.0) r.0 (spelled p i) f refl found;
         what = ap (λ d. Field d f.adder f.number) (place_stays n before later same r.1 (record_stays x h r is));
       }))))
@@ -79,34 +79,34 @@ module _ (n : ℕ) (p : Source) (w : World) (among : WorldAmong n w) (before lat
   element_among Integer a is h = none_some a is
   element_among _ a is h = none_some a is
 
-  pub a_element : (at at_index : ℕ) (x i : Operand) → Stays x → Stays i → Gives Stays (element p w at at_index x i)
+  pub a_element : (at at_index : ℕ) (x i : Operand) → Stays x → Stays i → Gives Stays (element at at_index x i)
   a_element at at_index x i h k = by_some 31 at (element_of x.shape) (λ a is.
       by_rule 31 at_index (is_number i.shape) (λ number.
-      keeps Stays (part_of p w x a (Index (place_of x) (length_of x) a (form i))) (record {
+      keeps Stays (part_of x a (Index (place_of x) (length_of x) a (form i))) (record {
         shape = element_among x.shape a is h.shape;
         what = ap₂ (λ d y. Index d (length_of x) a y) (place_stays n before later same x h) (formed i k);
       })))
 
   pub a_target : (at : ℕ) (x : Operand) → Stays x → Gives Stays (target p w at x)
-  a_target at x h = by_some 31 at (target_of w.known x.shape) (λ r is. keeps Stays (followed p w x r) (followed_stays x r h))
+  a_target at x h = by_some 31 at (target_of w.known x.shape) (λ r is. keeps Stays (followed x r) (followed_stays x r h))
 
   -- ---- guards and type tests
 
-  guard_stays : (x : Operand) (t : Shape) (r : ℕ) → Stays x → PointsAmong n t → Stays (guard_of p w x t r)
+  guard_stays : (x : Operand) (t : Shape) (r : ℕ) → Stays x → PointsAmong n t → Stays (guard_of x t r)
   guard_stays x (Pointer k) r h g = record { shape = g; what = ap (λ y. Guard y r) (formed x h) }
   guard_stays x Integer r h g = record { shape = g; what = ap (λ d. Narrow d r) (place_stays n before later same x h) }
   guard_stays x _ r h g = record { shape = g; what = ap (λ d. Narrow d r) (place_stays n before later same x h) }
 
   pub a_guarded : (at : ℕ) (x : Operand) (t : Shape) → Stays x → PointsAmong n t → Gives Stays (guarded p w at x t)
-  a_guarded at x t h g = by_some 31 at (tested_tag p w x t) (λ r is. keeps Stays (guard_of p w x t r) (guard_stays x t r h g))
+  a_guarded at x t h g = by_some 31 at (tested_tag p w x t) (λ r is. keeps Stays (guard_of x t r) (guard_stays x t r h g))
 
-  test_stays : (x : Operand) (t : Shape) (r : ℕ) → Stays x → Same (test_of p w x t r)
+  test_stays : (x : Operand) (t : Shape) (r : ℕ) → Stays x → Same (test_of x t r)
   test_stays x (Pointer k) r h = ap (λ y. IsPointer y r) (formed x h)
   test_stays x Integer r h = ap (λ d. IsParameter d r) (designator_stays n before later same x h)
   test_stays x _ r h = ap (λ d. IsParameter d r) (designator_stays n before later same x h)
 
   a_tested : (at : ℕ) (x : Operand) (t : Shape) → Stays x → Gives Stays (tested p w at x t)
-  a_tested at x t h = by_some 31 at (tested_tag p w x t) (λ r is. keeps Stays (value Boolean (test_of p w x t r)) (a_value Boolean (test_of p w x t r) tt (test_stays x t r h)))
+  a_tested at x t h = by_some 31 at (tested_tag p w x t) (λ r is. keeps Stays (value Boolean (test_of x t r)) (a_value Boolean (test_of x t r) tt (test_stays x t r h)))
 
   pub a_is_test : (q : Option (ℕ × Option ℕ)) (at : ℕ) (x : Operand) → Stays x → Gives Stays (is_test p w q at x)
   a_is_test None at x h = breaks Stays 31 at
@@ -153,7 +153,7 @@ module _ (n : ℕ) (p : Source) (w : World) (among : WorldAmong n w) (before lat
   row_stays op Byte Byte row is = number_rows op row is
   row_stays op _ _ row is = none_some row is
 
-  pub a_joined : (op : Operator) (at : ℕ) (x y : Operand) → Stays x → Stays y → Gives Stays (joined p w op at x y)
+  pub a_joined : (op : Operator) (at : ℕ) (x y : Operand) → Stays x → Stays y → Gives Stays (joined op at x y)
   a_joined op at x y h k = by_some 31 at (row_of op x.shape y.shape) (λ row is.
       let r = row_stays op x.shape y.shape row is in
       keeps Stays (value row.0 (row.1 (form x) (form y))) (a_value row.0 (row.1 (form x) (form y)) r.0 (r.1 (form x) (form y) (formed x h) (formed y k))))
@@ -169,18 +169,18 @@ module _ (n : ℕ) (p : Source) (w : World) (among : WorldAmong n w) (before lat
   a_signed (Some (TheSign.Plus i)) x h = by_rule 31 (place p i) (is_number x.shape) (λ number. keeps Stays (value Integer (form x)) (a_value Integer (form x) tt (formed x h)))
   a_signed (Some (TheSign.Minus i)) x h = by_some 31 (place p i) (negated_row x.shape) (λ row is. keeps Stays (value row.0 (row.1 (form x))) (negated x.shape row is (form x) (formed x h)))
 
-  pub a_inverted : (at : ℕ) (x : Operand) → Stays x → Gives Stays (inverted p w at x)
+  pub a_inverted : (at : ℕ) (x : Operand) → Stays x → Gives Stays (inverted at x)
   a_inverted at x h = by_rule 31 at (is_truth x.shape) (λ truth. keeps Stays (value Boolean (Apply TheUnary.Not (form x))) (a_value Boolean (Apply TheUnary.Not (form x)) tt (ap (Apply TheUnary.Not) (formed x h))))
 
-  inclusion_stays : (r : Comparison) (x y : Expr) → Same x → Same y → Same (inclusion p w r x y)
+  inclusion_stays : (r : Comparison) (x y : Expr) → Same x → Same y → Same (inclusion r x y)
   inclusion_stays TheComparison.GreaterEqual x y h k = operates TheBinary.Superset x y h k
   inclusion_stays TheComparison.Equal x y h k = operates TheBinary.Subset x y h k
   inclusion_stays _ x y h k = operates TheBinary.Subset x y h k
 
-  comparison_stays : (r : Comparison) (x y : Operand) → Stays x → Stays y → Same (comparison p w r x y)
+  comparison_stays : (r : Comparison) (x y : Operand) → Stays x → Stays y → Same (comparison r x y)
   comparison_stays r x y h k = by (are_texts x.shape y.shape) (are_included r x.shape y.shape)
     where
-      by : (t i : Bool) → Same (if t then CompareTexts r (designator_of x) (designator_of y) else if i then inclusion p w r (form x) (form y) else Compare r (form x) (form y))
+      by : (t i : Bool) → Same (if t then CompareTexts r (designator_of x) (designator_of y) else if i then inclusion r (form x) (form y) else Compare r (form x) (form y))
       by true i = ap₂ (λ a b. CompareTexts r a b) (designator_stays n before later same x h) (designator_stays n before later same y k)
       by false true = inclusion_stays r (form x) (form y) (formed x h) (formed y k)
       by false false = ap₂ (λ a b. Compare r a b) (formed x h) (formed y k)
@@ -188,13 +188,13 @@ module _ (n : ℕ) (p : Source) (w : World) (among : WorldAmong n w) (before lat
   a_compared : (r : Comparison) (at : ℕ) (x y : Operand) → Stays x → Stays y → Gives Stays (compared p w r at x y)
   a_compared r at x y h k = by_rule 31 at (may_compare w.known r x.shape y.shape) (λ may.
       by_rule 32 at (not (w.constant && are_texts x.shape y.shape)) (λ c.
-      keeps Stays (value Boolean (comparison p w r x y)) (a_value Boolean (comparison p w r x y) tt (comparison_stays r x y h k))))
+      keeps Stays (value Boolean (comparison r x y)) (a_value Boolean (comparison r x y) tt (comparison_stays r x y h k))))
 
-  a_is_in : (at : ℕ) (x s : Operand) → Stays x → Stays s → Gives Stays (is_in p w at x s)
+  a_is_in : (at : ℕ) (x s : Operand) → Stays x → Stays s → Gives Stays (is_in at x s)
   a_is_in at x s h k = by_rule 31 at (is_number x.shape && is_set s.shape) (λ may.
       keeps Stays (value Boolean (In (form x) (form s))) (a_value Boolean (In (form x) (form s)) tt (ap₂ (λ a b. In a b) (formed x h) (formed s k))))
 
-  pub a_set_element : (at : ℕ) (x : Operand) → Stays x → Gives Same (set_element p w at x)
+  pub a_set_element : (at : ℕ) (x : Operand) → Stays x → Gives Same (set_element at x)
   a_set_element at x h = by_rule 31 at (is_number x.shape) (λ number. keeps Same (form x) (formed x h))
 
   pub a_related : (relation : Relation) (x y : Operand) → Stays x → Stays y → Gives Stays (related p w relation x y)
@@ -208,4 +208,4 @@ module _ (n : ℕ) (p : Source) (w : World) (among : WorldAmong n w) (before lat
   a_related (TheRelation.Is i) x y h k = breaks Stays 31 (place p i)
 
   pub a_as_factor : (at : ℕ) (x : Operand) → Stays x → Gives Stays (as_factor p w at x)
-  a_as_factor at x h = by_rule 31 at (not (is_nothing p w x.shape)) (λ a. by_rule 32 at (not w.constant || is_constant x) (λ b. keeps Stays x h))
+  a_as_factor at x h = by_rule 31 at (not (is_nothing x.shape)) (λ a. by_rule 32 at (not w.constant || is_constant x) (λ b. keeps Stays x h))

@@ -64,7 +64,7 @@ module _ (n : ℕ) (p : Source) (before later : List (Option ℕ)) (same : (k : 
   module _ (w : World) (among : WorldAmong n w) where
     -- ---- assignments
 
-    destined : (o : Object) → ObjectAmong n o → (selectors : S.Selectors) (m : Judged Operand) → Gives Stays m → Gives Stays (whole_object p w o selectors m)
+    destined : (o : Object) → ObjectAmong n o → (selectors : S.Selectors) (m : Judged Operand) → Gives Stays m → Gives Stays (whole_object w o selectors m)
     destined (AVariable v) h S.no_selector m g = keeps Stays (whole_variable w v) (whole_stays n p w among before later same v h)
     destined (AVariable v) h (S.selected s rest) m g = g
     destined (AConstant c) h selectors m g = g
@@ -73,7 +73,7 @@ module _ (n : ℕ) (p : Source) (before later : List (Option ℕ)) (same : (k : 
     a_destination : (d : S.Designator) → Gives Stays (destination p w d)
     a_destination d = and_then (a_named n p w among d.name) (λ o h. destined o h d.selectors (designator p w d) (a_designator n p w among before later same d))
 
-    assigned_stays : (s : Shape) (x y : Operand) → Stays x → Stays y → SameStatement (assigned p s x y)
+    assigned_stays : (s : Shape) (x y : Operand) → Stays x → Stays y → SameStatement (assigned s x y)
     assigned_stays (Array m a) x y h k = ap₂ (λ c d. CopyArray c d) (pointed x h) (pointed y k)
     assigned_stays (Open a) x y h k = ap₂ (λ c d. CopyArray c d) (pointed x h) (pointed y k)
     assigned_stays (Record r) x y h k = ap₂ (λ c d. CopyRecord c d) (pointed x h) (pointed y k)
@@ -85,18 +85,18 @@ module _ (n : ℕ) (p : Source) (before later : List (Option ℕ)) (same : (k : 
         by_rule 31 (place p d.name) (is_variable x) (λ used.
         by_rule 33 (place p d.name) (not (is_read_only x)) (λ free.
         by_rule 31 (place p (expression_first v)) (may_assign w.known x.shape y) (λ may.
-        keeps SameStatement (assigned p x.shape x y) (assigned_stays x.shape x y h k))))))
+        keeps SameStatement (assigned x.shape x y) (assigned_stays x.shape x y h k))))))
 
     -- ---- calls
 
-    a_called_alone : (at : ℕ) (o : Option Object) (m : Judged Operand) → Gives Stays m → Gives Stays (called_alone p w at o m)
+    a_called_alone : (at : ℕ) (o : Option Object) (m : Judged Operand) → Gives Stays m → Gives Stays (called_alone w at o m)
     a_called_alone at (Some (AStandard s)) m g = a_standard n p w before later same at s [] tt
     a_called_alone at (Some (AConstant c)) m g = g
     a_called_alone at (Some _) m g = g
     a_called_alone at None m g = g
 
-    a_called_bare : (at : ℕ) (x : Operand) → Stays x → (s : Shape) → PointsAmong n s → Gives Stays (called_bare p w at x s)
-    a_called_bare at x h (Procedure ps result) g = by (is_call p x.what)
+    a_called_bare : (at : ℕ) (x : Operand) → Stays x → (s : Shape) → PointsAmong n s → Gives Stays (called_bare w at x s)
+    a_called_bare at x h (Procedure ps result) g = by (is_call x.what)
       where
         by : (b : Bool) → Gives Stays (if b then Keeps x else called w at x ps result [])
         by true = keeps Stays x h
@@ -104,10 +104,10 @@ module _ (n : ℕ) (p : Source) (before later : List (Option ℕ)) (same : (k : 
     a_called_bare at x h Integer g = keeps Stays x h
     a_called_bare at x h _ g = keeps Stays x h
 
-    a_deed : (at : ℕ) (y : Operand) → Stays y → Gives SameStatement (deed_of p at y.shape y.what)
+    a_deed : (at : ℕ) (y : Operand) → Stays y → Gives SameStatement (deed_of at y.shape y.what)
     a_deed at y h = by y.shape y.what h.what
       where
-        by : (s : Shape) (k : What) → WhatStays n before later same k → Gives SameStatement (deed_of p at s k)
+        by : (s : Shape) (k : What) → WhatStays n before later same k → Gives SameStatement (deed_of at s k)
         by Nothing (Proper d) i = keeps SameStatement d i
         by Nothing (Valued (Result c)) i = keeps SameStatement (Invoke c) (ap Invoke (result_call (outlined_call later c) (outlined_call before c) i))
         by Nothing (Valued (Literal bits)) i = breaks SameStatement 31 at
@@ -133,7 +133,7 @@ module _ (n : ℕ) (p : Source) (before later : List (Option ℕ)) (same : (k : 
     a_number : (x : S.Expression) → Gives SameChecked (number p w x)
     a_number x = and_then (a_expression n p w among before later same x) (λ y h. by_rule 31 (place p (expression_first x)) (is_number y.shape) (λ it. keeps SameChecked (checked y) (whole y h)))
 
-    variable_stays : (o : Object) → ObjectAmong n o → (d : Designator) → integer_variable p w o ≡ Some d → SameDesignator d
+    variable_stays : (o : Object) → ObjectAmong n o → (d : Designator) → integer_variable w o ≡ Some d → SameDesignator d
     variable_stays (AVariable v) h d is = by v.shape is
       where
         by : (s : Shape) → (elim s as (λ _. Option Designator) [ Integer ↦ Some (of_type v.place Integer) | other ↦ None ]) ≡ Some d → SameDesignator d
@@ -145,7 +145,7 @@ module _ (n : ℕ) (p : Source) (before later : List (Option ℕ)) (same : (k : 
 
     -- ---- CASE
 
-    case_stays : (s : SelectorOf) (x : Operand) (parts : Parts) → Stays x → SameParts parts → SameStatement (case_of p s x parts)
+    case_stays : (s : SelectorOf) (x : Operand) (parts : Parts) → Stays x → SameParts parts → SameStatement (case_of s x parts)
     case_stays (OnType d (Pointer k)) x parts h i = ap₂ (λ a b. CasePointer a b) (whole x h) i
     case_stays (OnType d Integer) x parts h i = ap₂ (λ a b. CaseParameter a b) (pointed x h) i
     case_stays (OnType d _) x parts h i = ap₂ (λ a b. CaseParameter a b) (pointed x h) i
@@ -157,21 +157,21 @@ module _ (n : ℕ) (p : Source) (before later : List (Option ℕ)) (same : (k : 
     MaybeAmong (Some o) = ObjectAmong n o
 
     a_label_object : (l : Label) → Gives MaybeAmong (label_object p w l)
-    a_label_object (TheLabel.Named q) = and_then (a_qualified n p w among q.name (member_symbol p w q.member)) (λ o h. keeps MaybeAmong (Some o) h)
+    a_label_object (TheLabel.Named q) = and_then (a_qualified n p w among q.name (member_symbol q.member)) (λ o h. keeps MaybeAmong (Some o) h)
     a_label_object (TheLabel.Int i) = keeps MaybeAmong None tt
     a_label_object (TheLabel.Char i) = keeps MaybeAmong None tt
     a_label_object (TheLabel.Text i) = keeps MaybeAmong None tt
 
-    label_among : (o : Option Object) → MaybeAmong o → (t : Shape) → label_type p o ≡ Some t → PointsAmong n t
+    label_among : (o : Option Object) → MaybeAmong o → (t : Shape) → label_type o ≡ Some t → PointsAmong n t
     label_among (Some (AType s)) h t is = subst (PointsAmong n) (some_same s t is) h
     label_among (Some (AConstant c)) h t is = none_some t is
     label_among (Some _) h t is = none_some t is
     label_among None h t is = none_some t is
 
     a_type_label : (s : Shape) (first : Bool) (r : Range) → Gives (PointsAmong n) (type_label p w s first r)
-    a_type_label s first r = and_then (a_label_object r.low) (λ o h. by_some 39 (place p (label_symbol p r.low)) (label_type p o) (λ t is.
-        by_rule 39 (place p (label_symbol p r.low)) (extends w.known t s) (λ it. by_unit (no_high p w (place p (label_symbol p r.low)) r.high)
-        (by_rule 39 (place p (label_symbol p r.low)) first (λ one. keeps (PointsAmong n) t (label_among o h t is))))))
+    a_type_label s first r = and_then (a_label_object r.low) (λ o h. by_some 39 (place p (label_symbol r.low)) (label_type o) (λ t is.
+        by_rule 39 (place p (label_symbol r.low)) (extends w.known t s) (λ it. by_unit (no_high p w (place p (label_symbol r.low)) r.high)
+        (by_rule 39 (place p (label_symbol r.low)) first (λ one. keeps (PointsAmong n) t (label_among o h t is))))))
 
     a_type_labels : (s : Shape) (first : Range) (more : List NextRange) → Gives (PointsAmong n) (type_labels p w s first more)
     a_type_labels s first [] = a_type_label s true first
@@ -181,13 +181,13 @@ module _ (n : ℕ) (p : Source) (before later : List (Option ℕ)) (same : (k : 
     abbrev pub InWhen : When × World × List (ℤ × ℤ) → Type 0
     InWhen r = WorldAmong n r.1
 
-    narrowed_among : (d : _) (t : Shape) → PointsAmong n t → WorldAmong n (narrow p w d t)
+    narrowed_among : (d : _) (t : Shape) → PointsAmong n t → WorldAmong n (narrow w d t)
     narrowed_among d t h = record { names = among.names; members = among.members; fields = among.fields; narrowed = (h, among.narrowed) }
 
     a_when : (s : SelectorOf) (taken : List (ℤ × ℤ)) (first : Range) (more : List NextRange) → Gives InWhen (when_of p w s taken first more)
     a_when OnInteger taken first more = and_then (anything (ranges p w false (as_list first more) taken)) (λ y z. keeps InWhen (Labels y.labels, w, y.taken) among)
     a_when OnChar taken first more = and_then (anything (ranges p w true (as_list first more) taken)) (λ y z. keeps InWhen (Labels y.labels, w, y.taken) among)
-    a_when (OnType d s) taken first more = and_then (a_type_labels s first more) (λ t h. keeps InWhen (Extends (tag_of p w.known t), narrow p w d t, taken) (narrowed_among d t h))
+    a_when (OnType d s) taken first more = and_then (a_type_labels s first more) (λ t h. keeps InWhen (Extends (tag_of w.known t), narrow w d t, taken) (narrowed_among d t h))
 
   -- ---- sequences
 
@@ -219,9 +219,9 @@ module _ (n : ℕ) (p : Source) (before later : List (Option ℕ)) (same : (k : 
         put (If (next_branch g b more) c) (ap₂ (λ x y. If x y) (one_branch g b more h k l) m)))))
     a_statement w among (S.Case case_word selector of_word first more end_word) =
         and_then (a_expression n p w among before later same selector) (λ x h.
-        by_some 31 (place p (expression_first selector)) (selector_of p (case_variable p (named_alone p w (bare selector))) x.shape) (λ s is.
+        by_some 31 (place p (expression_first selector)) (selector_of (case_variable (named_alone p w (bare selector))) x.shape) (λ s is.
         and_then (a_case_part w among s [] first) (λ one k. and_then (a_next_cases w among s one.1 more) (λ rest l.
-        put (case_of p s x (one.0 rest)) (case_stays w among s x (one.0 rest) h (k rest l))))))
+        put (case_of s x (one.0 rest)) (case_stays w among s x (one.0 rest) h (k rest l))))))
     a_statement w among (S.While while_word guard do_word body elsifs end_word) =
         and_then (a_condition w among guard) (λ g h. and_then (a_statements w among body) (λ b k. and_then (a_branches w among elsifs) (λ more l.
         put (While (next_branch g b more)) (ap While (one_branch g b more h k l)))))
@@ -229,7 +229,7 @@ module _ (n : ℕ) (p : Source) (before later : List (Option ℕ)) (same : (k : 
         and_then (a_statements w among body) (λ b k. and_then (a_condition w among guard) (λ g h. put (Repeat b g) (ap₂ (λ x y. Repeat x y) k h)))
     a_statement w among (S.For for_word variable becomes from to_word to by_ do_word body end_word) =
         and_then (a_named n p w among variable) (λ o h. and_then (a_expression n p w among before later same from) (λ x k.
-        by_some 31 (place p variable) (integer_variable p w o) (λ d is.
+        by_some 31 (place p variable) (integer_variable w o) (λ d is.
         by_rule 31 (place p (expression_first from)) (is_number x.shape) (λ it.
         and_then (a_number w among to) (λ y l. and_then (anything (step_of p w by_)) (λ step z. and_then (a_statements w among body) (λ b m.
         put (For d (checked x) y step b) (for_stays d (checked x) y step b (variable_stays w among o h d is) (whole x k) l m))))))))
@@ -265,8 +265,8 @@ module _ (n : ℕ) (p : Source) (before later : List (Option ℕ)) (same : (k : 
   SameAnswer a = option_map (outlined_checked later) a ≡ option_map (outlined_checked before) a
 
   pub a_answer : (w : World) → WorldAmong n w → (result : Shape) (end_word : ℕ) (r : Option S.Returned) → Gives SameAnswer (answer p result end_word r w)
-  a_answer w among result end_word None = by_rule 41 (place p end_word) (is_nothing p w result) (λ it. keeps SameAnswer None refl)
+  a_answer w among result end_word None = by_rule 41 (place p end_word) (is_nothing result) (λ it. keeps SameAnswer None refl)
   a_answer w among result end_word (Some r) = and_then (a_expression n p w among before later same r.value) (λ x h.
-      by_rule 41 (place p r.return_word) (not (is_nothing p w result)) (λ it.
+      by_rule 41 (place p r.return_word) (not (is_nothing result)) (λ it.
       by_rule 31 (place p (expression_first r.value)) (may_assign w.known result x) (λ may.
       keeps SameAnswer (Some (stored result x)) (ap Some (stored_stays n before later same result x h)))))

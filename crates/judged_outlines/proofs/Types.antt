@@ -51,7 +51,7 @@ pub among_with_bases : (s : Making) (bases : List (Option ℕ)) → pointer_coun
 among_with_bases s bases more among = let h = world_later (pointer_count s) (length bases) more s.world among in record { names = h.names; members = h.members; fields = h.fields; narrowed = h.narrowed }
 
 module _ (p : Source) where
-  arrays_among : (at : ℕ) (ns : List ℕ) (a : Shape) (v : World) (n : ℕ) → PointsAmong n a → Gives (PointsAmong n) (arrays p at ns a v)
+  arrays_among : (at : ℕ) (ns : List ℕ) (a : Shape) (v : World) (n : ℕ) → PointsAmong n a → Gives (PointsAmong n) (arrays at ns a v)
   arrays_among at [] a v n h = keeps (PointsAmong n) a h
   arrays_among at (k ∷ ks) a v n h = and_then (arrays_among at ks a v n h) (λ inner g. by_rule 35 at (nat_le (cells v.known (Array k inner)) limit) (λ it. keeps (PointsAmong n) (Array k inner) g))
 
@@ -72,7 +72,7 @@ module _ (p : Source) where
   d_stand_fields (x ∷ xs) g s among = d_next (d_pass (rule 36 (place p x.name) (is_none (g.fields (spelled p x.name)))) s among) (λ r h. d_next (d_stand p (x.name ∷ []) r.1 h.among) (λ q k. d_stand_fields xs g q.1 k.among))
 
   added : (n : ℕ) (name : List ℕ) (f : FieldOf) (fields : List ℕ → Option FieldOf) → PointsAmong n f.shape → ((q : List ℕ) (y : FieldOf) → fields q ≡ Some y → PointsAmong n y.shape)
-      → (q : List ℕ) (y : FieldOf) → add_field p name f fields q ≡ Some y → PointsAmong n y.shape
+      → (q : List ℕ) (y : FieldOf) → add_field name f fields q ≡ Some y → PointsAmong n y.shape
   added n name f fields h all q y at = by (bytes_eq name q) at
     where
       by : (b : Bool) → (if b then Some f else fields q) ≡ Some y → PointsAmong n y.shape
@@ -85,13 +85,13 @@ module _ (p : Source) where
     module_number = g.module_number;
     line = g.line;
     added = g.added ++ record { name = spelled p x.name; exported = is_some x.star; shape = a } ∷ [];
-    fields = add_field p (spelled p x.name) (record { adder = r; number = length g.added; shape = a; exported = is_some x.star; owner = v.module_number }) g.fields;
+    fields = add_field (spelled p x.name) (record { adder = r; number = length g.added; shape = a; exported = is_some x.star; owner = v.module_number }) g.fields;
     cells = g.cells + cells v.known a;
     extent = with_part g.extent (extent v.known a);
   }) (added n (spelled p x.name) (record { adder = r; number = length g.added; shape = a; exported = is_some x.star; owner = v.module_number }) g.fields h k)
 
   among_within : {A : Type 0} (Q : A → Making → Type 0) (m : Part A) (s : Making) → ((a : A) (t : Making) → Q a t → Q a (record t { standing = s.standing }))
-      → Gives (LeavesAmong Q (record s { standing = [] })) (m (record s { standing = [] })) → Gives (LeavesAmong Q s) (among_fields p m s)
+      → Gives (LeavesAmong Q (record s { standing = [] })) (m (record s { standing = [] })) → Gives (LeavesAmong Q s) (among_fields m s)
   among_within Q m s as_well g = and_then g (λ r h. keeps (LeavesAmong Q s) (r.0, record (r.1) { standing = s.standing }) (record { more = h.more; among = h.among; gives = as_well r.0 r.1 h.gives }))
 
   -- ---- pointer types
@@ -128,12 +128,12 @@ module _ (p : Source) where
 
   mutual
     pub d_type : (x : S.TypeTree) (s : Making) → AmongIn s → Gives (LeavesAmong ShapeAmong s) (type_part p x s)
-    d_type (S.Named q) s among = d_look ShapeAmong (type_at p 31 q s.world) s among (a_type_named (pointer_count s) p s.world among 31 q.name (member_symbol p s.world q.member))
+    d_type (S.Named q) s among = d_look ShapeAmong (type_at p 31 q s.world) s among (a_type_named (pointer_count s) p s.world among 31 q.name (member_symbol q.member))
     d_type (S.Array i first more j element) s among =
         d_next (d_pass (array_length p first s.world) s among) (λ n hn.
         d_next (d_pass (array_lengths p more (n.1).world) n.1 hn.among) (λ ns hs.
         d_next (d_type element ns.1 hs.among) (λ a ha.
-        d_look ShapeAmong (arrays p (place p i) (n.0 ∷ ns.0) a.0 (a.1).world) a.1 ha.among (arrays_among (place p i) (n.0 ∷ ns.0) a.0 (a.1).world (pointer_count a.1) ha.gives))))
+        d_look ShapeAmong (arrays (place p i) (n.0 ∷ ns.0) a.0 (a.1).world) a.1 ha.among (arrays_among (place p i) (n.0 ∷ ns.0) a.0 (a.1).world (pointer_count a.1) ha.gives))))
     d_type (S.Record i base first more j) s among =
         let n = length (records_of s) in
         let s1 = with_record s in

@@ -73,17 +73,17 @@ module _ (c : SoFar) where
     procedures_upright x s t is h = record { tidy = ((given (tt, t) (s_procedures (length c.procedures) p x s) is).tidy tt h.tidy).0; among = (given (tt, t) (d_procedures p x s h.among) is).among }
 
     -- one after the other
-    each_upright : {X : Type 0} (f : X → Part (Unit {0})) → ((x : X) (s t : Making) → f x s ≡ Keeps (tt, t) → Upright c s → Upright c t) → (xs : List X) (s t : Making) → each p f xs s ≡ Keeps (tt, t) → Upright c s → Upright c t
+    each_upright : {X : Type 0} (f : X → Part (Unit {0})) → ((x : X) (s t : Making) → f x s ≡ Keeps (tt, t) → Upright c s → Upright c t) → (xs : List X) (s t : Making) → each f xs s ≡ Keeps (tt, t) → Upright c s → Upright c t
     each_upright f g [] s t is h = subst (Upright c) (ap (λ r. r.1) (kept_same (tt, s) (tt, t) is)) h
-    each_upright f g (x ∷ xs) s t is h = let k = bound (f x s) (λ r. each p f xs r.1) (tt, t) is in each_upright f g xs (k.0).1 t k.2 (g x s (k.0).1 k.1 h)
+    each_upright f g (x ∷ xs) s t is h = let k = bound (f x s) (λ r. each f xs r.1) (tt, t) is in each_upright f g xs (k.0).1 t k.2 (g x s (k.0).1 k.1 h)
 
-    pub imports_upright : (xs : List Import) (s t : Making) → each p (import_part p) xs s ≡ Keeps (tt, t) → Upright c s → Upright c t
+    pub imports_upright : (xs : List Import) (s t : Making) → each (import_part p) xs s ≡ Keeps (tt, t) → Upright c s → Upright c t
     imports_upright xs s t is h = each_upright (import_part p) import_upright xs s t is h
 
-    pub consts_upright : (ds : List S.ConstDecl) (s t : Making) → each p (const_part p) ds s ≡ Keeps (tt, t) → Upright c s → Upright c t
+    pub consts_upright : (ds : List S.ConstDecl) (s t : Making) → each (const_part p) ds s ≡ Keeps (tt, t) → Upright c s → Upright c t
     consts_upright ds s t is h = each_upright (const_part p) const_upright ds s t is h
 
-    pub vars_upright : (ds : List S.VarDecl) (s t : Making) → each p (var_part p) ds s ≡ Keeps (tt, t) → Upright c s → Upright c t
+    pub vars_upright : (ds : List S.VarDecl) (s t : Making) → each (var_part p) ds s ≡ Keeps (tt, t) → Upright c s → Upright c t
     vars_upright ds s t is h = each_upright (var_part p) var_upright ds s t is h
 
     -- a procedure, as the only one

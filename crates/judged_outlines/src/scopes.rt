@@ -44,7 +44,7 @@ pub fn imports_stay_upright()
 
 /// all imports of a module,
 pub fn all_imports_stay_upright()
-    ensures { (c : SoFar) (p : Source) (xs : List Import) (s t : Making) → each p (import_part p) xs s ≡ Keeps (tt, t) → Upright c s → Upright c t }
+    ensures { (c : SoFar) (p : Source) (xs : List Import) (s t : Making) → each (import_part p) xs s ≡ Keeps (tt, t) → Upright c s → Upright c t }
 {}
 
 /// constants,
@@ -54,7 +54,7 @@ pub fn constants_stay_upright()
 
 /// all constants of a scope,
 pub fn all_constants_stay_upright()
-    ensures { (c : SoFar) (p : Source) (ds : List ConstDecl) (s t : Making) → each p (const_part p) ds s ≡ Keeps (tt, t)
+    ensures { (c : SoFar) (p : Source) (ds : List ConstDecl) (s t : Making) → each (const_part p) ds s ≡ Keeps (tt, t)
         → Upright c s → Upright c t }
 {}
 
@@ -76,7 +76,7 @@ pub fn variables_stay_upright()
 
 /// all variables of a scope,
 pub fn all_variables_stay_upright()
-    ensures { (c : SoFar) (p : Source) (ds : List VarDecl) (s t : Making) → each p (var_part p) ds s ≡ Keeps (tt, t) → Upright c s → Upright c t }
+    ensures { (c : SoFar) (p : Source) (ds : List VarDecl) (s t : Making) → each (var_part p) ds s ≡ Keeps (tt, t) → Upright c s → Upright c t }
 {}
 
 /// all declarations of a scope,

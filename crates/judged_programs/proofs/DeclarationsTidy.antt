@@ -27,7 +27,7 @@ use Rattle.judged_programs.proofs.TypesTidy.{s_type, tidy_with_bases, there_with
 use Rattle.judged_programs.specs.Tidy.{IsKnownObject, Tidy}
 
 module _ (from : ℕ) (p : Source) where
-  pub s_each : {X : Type 0} {Before : Type 0} (f : X → Part (Unit {0})) → ((x : X) (s : Making) → Gives (Stays from (Unit {0}) Any s) (f x s)) → (xs : List X) (s : Making) → Gives (Stays from Before Any s) (each p f xs s)
+  pub s_each : {X : Type 0} {Before : Type 0} (f : X → Part (Unit {0})) → ((x : X) (s : Making) → Gives (Stays from (Unit {0}) Any s) (f x s)) → (xs : List X) (s : Making) → Gives (Stays from Before Any s) (each f xs s)
   s_each f g [] s = s_give Any tt s (λ before tidy. tt)
   s_each f g (x ∷ xs) s = s_next (weaken (g x s) (λ r h. record { grown = h.grown; depth = h.depth; tidy = λ before tidy. h.tidy tt tidy })) (λ r. s_each f g xs r.1)
 
@@ -39,7 +39,7 @@ module _ (from : ℕ) (p : Source) where
 
   -- ---- the bases at the end of a TYPE part
 
-  entry_of_object : (o : Option Entry) (x : Object) → entry_object p o ≡ Some x → (e : Entry) × (o ≡ Some e) × (e.object ≡ x)
+  entry_of_object : (o : Option Entry) (x : Object) → entry_object o ≡ Some x → (e : Entry) × (o ≡ Some e) × (e.object ≡ x)
   entry_of_object None x h = none_some x h
   entry_of_object (Some e) x h = (e, refl, some_same e.object x h)
 
@@ -53,16 +53,16 @@ module _ (from : ℕ) (p : Source) where
   Kept s r = Tidy from s → Tidy from r.1
 
   s_forward : (k : ℕ × ℕ) (s : Making) → Gives (Kept s) (forward_base p k s)
-  s_forward k s = and_then (look_as (some 30 (place p k.1) (entry_object p (last_names s.world.levels (spelled p k.1)))) s) (λ o h. and_then (look_as (some 31 (place p k.1) (record_object o.0)) o.1) (λ r j.
+  s_forward k s = and_then (look_as (some 30 (place p k.1) (entry_object (last_names s.world.levels (spelled p k.1)))) s) (λ o h. and_then (look_as (some 31 (place p k.1) (record_object o.0)) o.1) (λ r j.
       keeps (Kept s) (tt, with_known (λ x. record x { bases = slice_set x.bases k.0 (Some r.0) }) r.1) (λ tidy.
       let back = j.0 ∙ h.0 in
       let again = subst (Tidy from) (sym back) tidy in
-      let e = entry_of_object (last_names s.world.levels (spelled p k.1)) o.0 (there_is 30 (place p k.1) (entry_object p (last_names s.world.levels (spelled p k.1))) o.0 h.1) in
+      let e = entry_of_object (last_names s.world.levels (spelled p k.1)) o.0 (there_is 30 (place p k.1) (entry_object (last_names s.world.levels (spelled p k.1))) o.0 h.1) in
       let known = subst (IsKnownObject (records_of s)) e.2 (last_of (IsKnownObject (records_of s)) s.world.levels tidy.names (spelled p k.1) e.0 e.1) in
       let there = subst (λ u. r.0 < length (records_of u)) (sym back) (record_there (records_of s) o.0 known r.0 (there_is 31 (place p k.1) (record_object o.0) r.0 j.1)) in
       tidy_with_bases from r.1 (slice_set (bases_of r.1) k.0 (Some r.0)) (there_with_base r.1 k.0 r.0 there again.targets) again)))
 
-  s_forwards : (ks : List (ℕ × ℕ)) (s : Making) → Gives (Kept s) (each p (forward_base p) ks s)
+  s_forwards : (ks : List (ℕ × ℕ)) (s : Making) → Gives (Kept s) (each (forward_base p) ks s)
   s_forwards [] s = keeps (Kept s) (tt, s) (λ tidy. tidy)
   s_forwards (k ∷ ks) s = and_then (s_forward k s) (λ r h. weaken (s_forwards ks r.1) (λ q j. λ tidy. j (h tidy)))
 
@@ -102,7 +102,7 @@ module _ (from : ℕ) (p : Source) where
     tidy = λ before tidy. (one_more r.1 a (good before) (h.tidy before tidy).0, tt);
   }))
 
-  s_variables : {Before : Type 0} (a : Shape) (xs : List Identdef) → (Before → is_whole a ≡ true) → (s : Making) → Gives (Stays from Before Any s) (each p (variable_part p a) xs s)
+  s_variables : {Before : Type 0} (a : Shape) (xs : List Identdef) → (Before → is_whole a ≡ true) → (s : Making) → Gives (Stays from Before Any s) (each (variable_part p a) xs s)
   s_variables a [] good s = s_give Any tt s (λ before tidy. tt)
   s_variables a (x ∷ xs) good s = s_next (s_variable a x good s) (λ r. s_variables a xs (λ before. good before.0) r.1)
 

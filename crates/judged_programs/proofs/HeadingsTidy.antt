@@ -72,7 +72,7 @@ module _ (from : ℕ) (Before : Type 0) (b : Bool) where
 module _ (from : ℕ) (p : Source) where
   -- the parameter's name is known
   abbrev known_from : ℕ → Bool → Shape → Listed → Making → Making
-  known_from i v a l s = record (with_levels (declare_last (spelled p i) (record { object = parameter_variable p v a s.values (length l.parameters) s.world; exported = false })) s) { values = if is_value (mode_of v a) then suc s.values else s.values }
+  known_from i v a l s = record (with_levels (declare_last (spelled p i) (record { object = parameter_variable v a s.values (length l.parameters) s.world; exported = false })) s) { values = if is_value (mode_of v a) then suc s.values else s.values }
 
   -- where all parameters are of a type that they may have
   lists_with : (Before : Type 0) (b : Bool) (l : Listed) (s : Making) (r : Listed × Making) → Lists from Before b l s r → (Tidy from s → Before) → Lists from (Unit {0}) b l s r
@@ -85,9 +85,9 @@ module _ (from : ℕ) (p : Source) where
   one_known : (i : ℕ) (v : Bool) (a : Shape) (l : Listed) (s : Making) → nat_le (l.words + words_of_shape v a) 24 ≡ true → Lists from (IsFormal a) true l s (listed v a l, known_from i v a l s)
   one_known i v a l s ok = record {
     heads = record { records = refl; bases = refl; procedures = refl; variables = refl; procedure = refl; module_number = refl; values = λ j. no (sym j) };
-    depth = depth_declared (spelled p i) (record { object = parameter_variable p v a s.values (length l.parameters) s.world; exported = false }) s.world.levels;
+    depth = depth_declared (spelled p i) (record { object = parameter_variable v a s.values (length l.parameters) s.world; exported = false }) s.world.levels;
     tidy = λ before inside tidy few. (
-      tidy_declared from s (spelled p i) (record { object = parameter_variable p v a s.values (length l.parameters) s.world; exported = false }) tt (λ none. absurd (let z = sym none ∙ (inside refl).1 in cc)) tidy,
+      tidy_declared from s (spelled p i) (record { object = parameter_variable v a s.values (length l.parameters) s.world; exported = false }) tt (λ none. absurd (let z = sym none ∙ (inside refl).1 in cc)) tidy,
       few_more v a l before ok few,
     );
   }
@@ -114,7 +114,7 @@ module _ (from : ℕ) (p : Source) where
       weaken (h_add b (is_some x.var_word) c (x.first ∷ next_names x.more) l a.1) (λ q j.
       lists_on from (Unit {0}) b l s (l, r.1) q (lists_plain from (Unit {0}) b p l s r.1 h)
       (lists_with (IsFormal c) b l r.1 q (subst (λ u. Lists from (IsFormal c) b l u q) k.0 j)
-      (λ tidy. opened_formal (is_some x.open_array) a.0 (given a.0 (known_type p from r.1 tidy 31 (x.of).name (member_symbol p (r.1).world (x.of).member)) k.1).whole)))))
+      (λ tidy. opened_formal (is_some x.open_array) a.0 (given a.0 (known_type p from r.1 tidy 31 (x.of).name (member_symbol (x.of).member)) k.1).whole)))))
 
   h_sections : (b : Bool) (xs : List S.NextSection) (l : Listed) (s : Making) → Gives (Lists from (Unit {0}) b l s) (next_sections p b xs l s)
   h_sections b [] l s = keeps (Lists from (Unit {0}) b l s) (l, s) (lists_self from (Unit {0}) b l s)
@@ -133,7 +133,7 @@ module _ (from : ℕ) (p : Source) where
 
   result_is : (r : Option ResultType) (s : Making) → Tidy from s → Gives (λ a. is_result a ≡ true) (result_shape p r s.world)
   result_is None s tidy = keeps (λ a. is_result a ≡ true) Nothing refl
-  result_is (Some r) s tidy = and_then (known_type p from s tidy 31 (r.name).name (member_symbol p s.world (r.name).member)) (λ a h.
+  result_is (Some r) s tidy = and_then (known_type p from s tidy 31 (r.name).name (member_symbol (r.name).member)) (λ a h.
       by_rule 31 (place p (r.name).name) (is_scalar a) (λ k. keeps (λ a. is_result a ≡ true) a (result_of a h.whole k)))
 
   -- what a procedure takes and gives

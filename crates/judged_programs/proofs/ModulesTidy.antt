@@ -45,7 +45,7 @@ module _ (from : ℕ) (p : Source) where
         tidy = λ before tidy. (tidy_declared from after (spelled p x.name) e tt (λ none. tt) tidy, tt);
       })))))
 
-  s_imports : (xs : List Import) (s : Making) → Gives (Through from s) (each p (import_part p) xs s)
+  s_imports : (xs : List Import) (s : Making) → Gives (Through from s) (each (import_part p) xs s)
   s_imports [] s = keeps (Through from s) (tt, s) (stays_self from p s)
   s_imports (x ∷ xs) s = and_then (s_import x s) (λ r h. weaken (s_imports xs r.1) (λ q k. stays_on from p s r q h k))
 

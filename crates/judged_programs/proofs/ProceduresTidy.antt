@@ -249,9 +249,9 @@ module _ (from : ℕ) (p : Source) where
   mutual
     pub s_decls : (d : S.Decls) (s : Making) → Gives (Through from s) (decls_part p d s)
     s_decls (S.decls consts types vars procedures) s =
-        and_then (s_each from p {Before = Unit {0}} (const_part p) (λ d u. s_const from p d u) (consts_in p consts) s) (λ a ha.
-        and_then (s_types from p {Before = Unit {0}} (types_in p types) a.1) (λ b hb.
-        and_then (s_each from p {Before = Unit {0}} (var_part p) (λ d u. s_var from p d u) (vars_in p vars) b.1) (λ c hc.
+        and_then (s_each from p {Before = Unit {0}} (const_part p) (λ d u. s_const from p d u) (consts_in consts) s) (λ a ha.
+        and_then (s_types from p {Before = Unit {0}} (types_in types) a.1) (λ b hb.
+        and_then (s_each from p {Before = Unit {0}} (var_part p) (λ d u. s_var from p d u) (vars_in vars) b.1) (λ c hc.
         weaken (s_procedures procedures c.1) (λ q hq. stays_on s a q ha (stays_on a.1 b q hb (stays_on b.1 c q hc hq))))))
 
     pub s_procedures : (x : S.Procedures) (s : Making) → Gives (Through from s) (procedures_part p x s)

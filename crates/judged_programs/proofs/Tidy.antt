@@ -163,7 +163,7 @@ module _ (p : Source) (from : ℕ) (s : Making) (tidy : Tidy from s) where
       []) (tt, (tt, tt)) q x is
   known_member (Earlier n) q x is = by (slice_get s.world.modules n) refl is
     where
-      by : (o : Option KnownModule) → slice_get s.world.modules n ≡ o → names_in p s.world o q ≡ Some x → Known x.object
+      by : (o : Option KnownModule) → slice_get s.world.modules n ≡ o → names_in o q ≡ Some x → Known x.object
       by None i h = none_some x h
       by (Some m) i h = tidy.members n m i q x h
 
@@ -184,14 +184,14 @@ module _ (p : Source) (from : ℕ) (s : Making) (tidy : Tidy from s) where
   k_qualified name None = k_named name
   k_qualified name (Some i) = and_then (k_named name) (λ o h. k_member_of name i o)
 
-  type_of : (o : Object) → Known o → (a : Shape) → type_of_object p s.world o ≡ Some a → IsKnown (records_of s) a
+  type_of : (o : Object) → Known o → (a : Shape) → type_of_object o ≡ Some a → IsKnown (records_of s) a
   type_of (AType u) h a is = subst (IsKnown (records_of s)) (some_same u a is) h
   type_of (AConstant c) h a is = none_some a is
   type_of _ h a is = none_some a is
 
   -- a type that is named is known
   pub known_type : (number name : ℕ) (i : Option ℕ) → Gives (IsKnown (records_of s)) (type_named p s.world number name i)
-  known_type number name i = and_then (k_qualified name i) (λ o h. at_last number (place p name) (type_of_object p s.world o) (λ a is. type_of o h a is))
+  known_type number name i = and_then (k_qualified name i) (λ o h. at_last number (place p name) (type_of_object o) (λ a is. type_of o h a is))
 
 -- ---- names that stand, and names that are declared
 

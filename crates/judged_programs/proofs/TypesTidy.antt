@@ -100,7 +100,7 @@ module _ (from : ℕ) (p : Source) where
   known_array : (records : List Layout) (n : ℕ) (a : Shape) → IsKnown records a → IsKnown records (Array n a)
   known_array records n a h = record { whole = refl; core_there = h.core_there }
 
-  pub known_arrays : (records : List Layout) (at : ℕ) (ns : List ℕ) (a : Shape) (v : World) → IsKnown records a → Gives (IsKnown records) (arrays p at ns a v)
+  pub known_arrays : (records : List Layout) (at : ℕ) (ns : List ℕ) (a : Shape) (v : World) → IsKnown records a → Gives (IsKnown records) (arrays at ns a v)
   known_arrays records at [] a v h = keeps (IsKnown records) a h
   known_arrays records at (n ∷ ns) a v h = and_then (known_arrays records at ns a v h) (λ inner k. by_rule 35 at (nat_le (cells v.known (Array n inner)) limit) (λ ok. keeps (IsKnown records) (Array n inner) (known_array records n inner k)))
 
@@ -117,7 +117,7 @@ module _ (from : ℕ) (p : Source) where
 
   pub base_is : (b : Option Base) (s : Making) → Tidy from s → Gives (IsBase (records_of s)) (base_layout p b s.world)
   base_is None s tidy = keeps (IsBase (records_of s)) no_layout (no_base refl refl refl)
-  base_is (Some b) s tidy = and_then (known_type p from s tidy 42 (b.name).name (member_symbol p s.world (b.name).member)) (λ a h. by_some 42 (place p (b.name).name) (record_only a) (λ r is.
+  base_is (Some b) s tidy = and_then (known_type p from s tidy 42 (b.name).name (member_symbol (b.name).member)) (λ a h. by_some 42 (place p (b.name).name) (record_only a) (λ r is.
       by_rule 42 (place p (b.name).name) (nat_le (length (layout_of (slice_get (records_of s) r)).line) 15) (λ ok.
       keeps (IsBase (records_of s)) (layout_of (slice_get (records_of s) r)) (base_known (records_of s) r (h.core_there r (ap core (only_record a r is))) (grind (arith, nat_tests, ok))))))
 
@@ -126,7 +126,7 @@ module _ (from : ℕ) (p : Source) where
   s_stand_fields (x ∷ xs) g s = s_next (s_pass (rule 36 (place p x.name) (is_none (g.fields (spelled p x.name)))) s) (λ r. s_next (s_stand p (x.name ∷ []) r.1) (λ q. s_stand_fields xs g q.1))
 
   s_among : {A : Type 0} {Before : Type 0} (P : A → Making → Type 0) (m : Part A) (s : Making) → ((a : A) (t : Making) → P a t → P a (record t { standing = s.standing }))
-      → Gives (Stays from Before P (record s { standing = [] })) (m (record s { standing = [] })) → Gives (Stays from Before P s) (among_fields p m s)
+      → Gives (Stays from Before P (record s { standing = [] })) (m (record s { standing = [] })) → Gives (Stays from Before P s) (among_fields m s)
   s_among P m s same g = and_then g (λ r h. keeps (Stays from _ P s) (r.0, record (r.1) { standing = s.standing }) (record {
     grown = onward s r.1 (record (r.1) { standing = s.standing }) (onward s (record s { standing = [] }) r.1 (untouched s _ refl refl refl refl refl refl refl) h.grown) (untouched r.1 _ refl refl refl refl refl refl refl);
     depth = h.depth;
@@ -157,7 +157,7 @@ module _ (from : ℕ) (p : Source) where
     module_number = g.module_number;
     line = g.line;
     added = g.added ++ record { name = spelled p x.name; exported = is_some x.star; shape = a } ∷ [];
-    fields = add_field p (spelled p x.name) (record { adder = n; number = length g.added; shape = a; exported = is_some x.star; owner = v.module_number }) g.fields;
+    fields = add_field (spelled p x.name) (record { adder = n; number = length g.added; shape = a; exported = is_some x.star; owner = v.module_number }) g.fields;
     cells = g.cells + cells v.known a;
     extent = with_part g.extent (extent v.known a);
   }) (record { name = spelled p x.name; exported = is_some x.star; shape = a }) known h refl refl refl refl refl)
@@ -238,12 +238,12 @@ module _ (from : ℕ) (p : Source) where
 
   mutual
     pub s_type : {Before : Type 0} (x : S.TypeTree) (s : Making) → Gives (Stays from Before (λ a t. IsKnown (records_of t) a) s) (type_part p x s)
-    s_type (S.Named q) s = s_look (λ a t. IsKnown (records_of t) a) (type_at p 31 q s.world) s (λ before tidy. known_type p from s tidy 31 q.name (member_symbol p s.world q.member))
+    s_type (S.Named q) s = s_look (λ a t. IsKnown (records_of t) a) (type_at p 31 q s.world) s (λ before tidy. known_type p from s tidy 31 q.name (member_symbol q.member))
     s_type (S.Array i first more j element) s =
         s_next (s_pass (array_length p first s.world) s) (λ n.
         s_next (s_pass (array_lengths p more (n.1).world) n.1) (λ ns.
         s_next (s_type element ns.1) (λ a.
-        s_look (λ b t. IsKnown (records_of t) b) (arrays p (place p i) (n.0 ∷ ns.0) a.0 (a.1).world) a.1 (λ before tidy. known_arrays (records_of a.1) (place p i) (n.0 ∷ ns.0) a.0 (a.1).world before.1))))
+        s_look (λ b t. IsKnown (records_of t) b) (arrays (place p i) (n.0 ∷ ns.0) a.0 (a.1).world) a.1 (λ before tidy. known_arrays (records_of a.1) (place p i) (n.0 ∷ ns.0) a.0 (a.1).world before.1))))
     s_type (S.Record i base first more j) s =
         let n = length (records_of s) in
         let s1 = with_record s in

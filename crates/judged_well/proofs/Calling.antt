@@ -17,13 +17,14 @@ use Rattle.ob_judge.specs.Scopes.{World, Source, Standard, Abs, Odd, Len, Lsl, A
 use Rattle.ob_judge.specs.Operands.{What, Named as ThePlace, Valued, Chars, Code, Proper, Use, AsVariable, AsConstant, AsValue, Operand, operand, value, place_in, designator_of, checked, is_variable, is_read_only, is_narrowed, is_local_code}
 use Rattle.ob_judge.specs.Operands.{form as form_of}
 use Rattle.ob_judge.specs.Calls.{Given, stored, may_assign, is_chars, may_name, is_open_text, may_pass, as_reference, as_passed, bound, is_count, all_bound, call_of, called, number, assigned_to, function, proper, shifted, changed, set_changed, by_one, may_order, is_char_only, standard}
-use Rattle.ob_judge.specs.Parts.{applied}
+use Rattle.ob_judge.specs.Parts.{applied, is_procedure}
+use Rattle.ob_judge.specs.Assignments.{is_call}
 use Rattle.judged_tree.proofs.SameShapes.{same-self, same-is}
 use Rattle.judged_well.specs.Forms.{Form, Zero, Truth, Small, Number, ToRecord, Routines, Named, is_writable, gives_number, changes, is_full}
 use Rattle.judged_well.specs.Forms.{is_small as is_small_form}
 use Rattle.judged_well.specs.Setting.{Setting, IsOrder}
 use Rattle.judged_well.specs.Typing.{outline, form, designated, scalar, scalar_in, given_for, length_of_shape, array_of, any_array, argument_suits, all_suit, call_suits, call_form, place_suits, record_suits, open_suits, record_in, checked_form, shape_in, fine, takes, points_to, suits_through, result_through, is_byte, or_zero}
-use Rattle.judged_well.specs.Standing.{is_whole, is_formal, is_result, is_procedure_shape, is_call, Fits, as_done, as_whole, as_open, as_record, StandsAs, Stands, IsBegun, IsUsed, IsLast, IsValue, near_for, good, goods, Right}
+use Rattle.judged_well.specs.Standing.{is_whole, is_formal, is_result, Fits, as_done, as_whole, as_open, as_record, StandsAs, Stands, IsBegun, IsUsed, IsLast, IsValue, near_for, good, goods, Right}
 use Rattle.judged_well.specs.Gives.{Gives}
 use Rattle.judged_well.proofs.Judging.{keeps, breaks, and_then, by_rule, by_some}
 use Rattle.judged_well.proofs.Values.{scalar_near}
@@ -203,7 +204,7 @@ module _ (e : Setting) (order : IsOrder e) where
     AllStand [] = Unit {0}
     AllStand (x ∷ xs) = Stands e x.operand × AllStand xs
 
-    pub t_all_bound : (ps : Formals) (xs : List Given) → AllStand xs → goods e ps ≡ true → is_count w ps xs ≡ true → Gives (λ bs. all_suit e (outline e) bs ps ≡ true) (all_bound w ps xs)
+    pub t_all_bound : (ps : Formals) (xs : List Given) → AllStand xs → goods e ps ≡ true → is_count ps xs ≡ true → Gives (λ bs. all_suit e (outline e) bs ps ≡ true) (all_bound w ps xs)
     t_all_bound none [] h g c = keeps (λ bs. all_suit e (outline e) bs none ≡ true) no_argument refl
     t_all_bound none (x ∷ xs) h g c = no c
     t_all_bound (one v t ps) [] h g c = no c
@@ -237,10 +238,10 @@ module _ (e : Setting) (order : IsOrder e) where
     shape_result : (ps qs : Formals) (s u : Shape) → Procedure ps s ≡ Procedure qs u → s ≡ u
     shape_result ps qs s u h = cc
 
-    t_call_of : (x : Operand) → IsBegun e x → (ps : Formals) (s : Shape) → x.shape ≡ Procedure ps s → (bs : Arguments) → all_suit e (outline e) bs ps ≡ true → IsCallOf (call_of w x x.what bs) s
+    t_call_of : (x : Operand) → IsBegun e x → (ps : Formals) (s : Shape) → x.shape ≡ Procedure ps s → (bs : Arguments) → all_suit e (outline e) bs ps ≡ true → IsCallOf (call_of x x.what bs) s
     t_call_of x b ps s is bs h = by x.what b.stands.does b.used refl
       where
-        by : (what : What) → StandsAs e x.shape x.use_ what → IsUsed e x.shape x.use_ what → x.what ≡ what → IsCallOf (call_of w x what bs) s
+        by : (what : What) → StandsAs e x.shape x.use_ what → IsUsed e x.shape x.use_ what → x.what ≡ what → IsCallOf (call_of x what bs) s
         by (Code f l) k u i =
             let same = sym k.2 ∙ is in
             direct_call f bs ps s (k.3 ∙ ap₂ (λ a c. Some (a, c)) (shape_parameters k.0 ps k.1 s same) (shape_result k.0 ps k.1 s same)) h
@@ -249,12 +250,12 @@ module _ (e : Setting) (order : IsOrder e) where
             indirect_call (designator_of x) bs ps s n.0 (ap (λ a. designated e (outline e) (of_type (place_in a) x.shape)) i ∙ n.1) (procedure_form n.0 ps s (subst (λ a. Fits n.0 a) is n.3)) h
         by (Valued y) k u i = value_none x.use_ y u
           where
-            value_none : (u : Use) (y : Expr) → IsUsed e x.shape u (Valued y) → IsCallOf (call_of w x (Valued y) bs) s
-            value_none (AsVariable r t m) y u = no (sym (sym (ap is_procedure_shape is) ∙ u))
-            value_none AsConstant y u = no (sym (sym (ap is_procedure_shape is) ∙ u))
-            value_none AsValue y u = no (sym (sym (ap is_procedure_shape is) ∙ u))
-        by (Chars cs) k u i = no (ap is_procedure_shape (sym k.0 ∙ is))
-        by (Proper d) k u i = no (ap is_procedure_shape (sym k.0 ∙ is))
+            value_none : (u : Use) (y : Expr) → IsUsed e x.shape u (Valued y) → IsCallOf (call_of x (Valued y) bs) s
+            value_none (AsVariable r t m) y u = no (sym (sym (ap is_procedure is) ∙ u))
+            value_none AsConstant y u = no (sym (sym (ap is_procedure is) ∙ u))
+            value_none AsValue y u = no (sym (sym (ap is_procedure is) ∙ u))
+        by (Chars cs) k u i = no (ap is_procedure (sym k.0 ∙ is))
+        by (Proper d) k u i = no (ap is_procedure (sym k.0 ∙ is))
 
     result_value : (c : Call) (s : Shape) → is_result s ≡ true → good e s ≡ true → IsCallOf c s → IsValue e s (Result c)
     result_value c Nothing r g h = (c, refl, h.0)
@@ -280,10 +281,10 @@ module _ (e : Setting) (order : IsOrder e) where
     t_called at x b ps s is xs h =
         let g = and_of (goods e ps) (is_result s && good e s) (ap (good e) (sym is) ∙ b.stands.good) in
         let r = and_of (is_result s) (good e s) g.1 in
-        by_rule 40 at (is_count w ps xs) (λ count.
+        by_rule 40 at (is_count ps xs) (λ count.
         and_then (t_all_bound ps xs h g.0 count) (λ bs suit.
-        keeps (λ y. Stands e y × IsLast e y) (value s (Result (call_of w x x.what bs)))
-        (record { does = (result_value (call_of w x x.what bs) s r.0 r.1 (t_call_of x b ps s is bs suit), tt); good = r.1 }, refl)))
+        keeps (λ y. Stands e y × IsLast e y) (value s (Result (call_of x x.what bs)))
+        (record { does = (result_value (call_of x x.what bs) s r.0 r.1 (t_call_of x b ps s is bs suit), tt); good = r.1 }, refl)))
 
     pub t_applied : (at : ℕ) (x : Operand) → IsBegun e x → (xs : List Given) → AllStand xs → Gives (λ y. Stands e y × IsLast e y) (applied p w at x x.shape xs)
     t_applied at x b xs h = by x.shape refl
@@ -298,14 +299,14 @@ module _ (e : Setting) (order : IsOrder e) where
     abbrev Given_ : Operand → Type 0
     Given_ y = Stands e y × IsLast e y
 
-    a_function : (s : Shape) (y : Expr) → IsValue e s y → good e s ≡ true → is_procedure_shape s ≡ false → Gives Given_ (function w s y)
+    a_function : (s : Shape) (y : Expr) → IsValue e s y → good e s ≡ true → is_procedure s ≡ false → Gives Given_ (function s y)
     a_function s y v g n = keeps Given_ (operand s (Valued y) AsConstant) (record { does = (v, tt); good = g }, last (is_call (Valued y)))
       where
-        last : (b : Bool) → ((b || not (is_procedure_shape s)) && true) ≡ true
+        last : (b : Bool) → ((b || not (is_procedure s)) && true) ≡ true
         last true = refl
         last false = ap (λ c. not c && true) n
 
-    a_proper : (d : Statement) → fine e (outline e) d ≡ true → Gives Given_ (proper w d)
+    a_proper : (d : Statement) → fine e (outline e) d ≡ true → Gives Given_ (proper d)
     a_proper d h = keeps Given_ (operand Nothing (Proper d) AsValue) (record { does = (refl, h, tt); good = refl }, refl)
 
     -- a number as a whole expression
@@ -320,7 +321,7 @@ module _ (e : Setting) (order : IsOrder e) where
     checked_number : (x : Operand) → Stands e x → is_plain x.shape ≡ true → gives_number (formed (form_of x)) ≡ true → gives_number (checked_form e (outline e) (checked x)) ≡ true
     checked_number x h i n = ap gives_number (checked_is e order x h i) ∙ n
 
-    t_number : (x : Given) → Stands e x.operand → Gives IsNumber (number w x)
+    t_number : (x : Given) → Stands e x.operand → Gives IsNumber (number x)
     t_number x h = by_rule 31 x.at (is_number x.operand.shape) (λ n.
         let v = numbers e order x.operand h n in
         keeps IsNumber (checked x.operand) (v, checked_number x.operand h (number_plain x.operand.shape n) v))
@@ -344,7 +345,7 @@ module _ (e : Setting) (order : IsOrder e) where
     given_number (Some Number) h = refl
     given_number (Some _) h = no h
 
-    t_shifted : (op : Binary) (x n : Given) → Stands e x.operand → Stands e n.operand → Gives Given_ (shifted w op x n)
+    t_shifted : (op : Binary) (x n : Given) → Stands e x.operand → Stands e n.operand → Gives Given_ (shifted op x n)
     t_shifted op x n h k = and_then (t_number x h) (λ a i. and_then (t_number n k) (λ b j.
         a_function Integer (operated op a.form b.form) (number_near e order (formed (operated op a.form b.form)) (on_two e order a.form b.form op i.0 j.0)) refl refl))
 
@@ -368,14 +369,14 @@ module _ (e : Setting) (order : IsOrder e) where
     no_set_pointer _ h = refl
 
     t_changed : (change : Designator → Checked → Statement) → ((d : Designator) (c : Checked) → gives_number (checked_form e (outline e) c) ≡ true → holds_of (takes e (changes (is_byte (shape_in e (outline e) d)))) (designated e (outline e) d) ≡ true → fine e (outline e) (change d c) ≡ true)
-        → (v : Given) (n : Judged Checked) → Stands e v.operand → Gives IsNumber n → Gives Given_ (changed w change v n)
+        → (v : Given) (n : Judged Checked) → Stands e v.operand → Gives IsNumber n → Gives Given_ (changed change v n)
     t_changed change ok v n h k = both_rules v.at (is_variable v.operand) (not (is_read_only v.operand)) (λ used free.
-        by_number v h (λ c. n >>= λ x. proper w (change (designator_of v.operand) x)) (λ number_.
+        by_number v h (λ c. n >>= λ x. proper (change (designator_of v.operand) x)) (λ number_.
         and_then k (λ c i.
         let d = written_no_pointer v.operand h used (not_true (is_read_only v.operand) free) (no_number_pointer v.operand.shape number_) in
         a_proper (change (designator_of v.operand) c) (ok (designator_of v.operand) c i.1 (subst (λ o. holds_of (takes e (changes (is_byte (outline e v.operand.shape)))) o ≡ true) (sym d.1) (number_takes v.operand.shape d.0 d.2 number_ d.3))))))
       where
-        by_number : (v : Given) → Stands e v.operand → {B : Type 0} {Q : B → Type 0} → (f : Checked → Judged B) → (is_number v.operand.shape ≡ true → Gives Q (f (checked v.operand))) → Gives Q (number w v >>= f)
+        by_number : (v : Given) → Stands e v.operand → {B : Type 0} {Q : B → Type 0} → (f : Checked → Judged B) → (is_number v.operand.shape ≡ true → Gives Q (f (checked v.operand))) → Gives Q (number v >>= f)
         by_number v h {Q = Q} f next = cases (is_number v.operand.shape) next
           where
             cases : (b : Bool) → (b ≡ true → Gives Q (f (checked v.operand))) → Gives Q ((rule 31 v.at b >> Keeps (checked v.operand)) >>= f)
@@ -390,7 +391,7 @@ module _ (e : Setting) (order : IsOrder e) where
     full_takes s n (as_record r) h k = no h
 
     t_set_changed : (change : Designator → Checked → Statement) → ((d : Designator) (c : Checked) → gives_number (checked_form e (outline e) c) ≡ true → holds_of (takes e is_full) (designated e (outline e) d) ≡ true → fine e (outline e) (change d c) ≡ true)
-        → (v x : Given) → Stands e v.operand → Stands e x.operand → Gives Given_ (set_changed w change v x)
+        → (v x : Given) → Stands e v.operand → Stands e x.operand → Gives Given_ (set_changed change v x)
     t_set_changed change ok v x h k = both_rules v.at (is_variable v.operand) (not (is_read_only v.operand)) (λ used free.
         by_rule 31 v.at (is_set v.operand.shape) (λ set_.
         and_then (t_number x k) (λ c i.
@@ -400,7 +401,7 @@ module _ (e : Setting) (order : IsOrder e) where
     one_is : IsNumber (record { form = Literal 1; shape = Integer })
     one_is = (refl, refl)
 
-    t_by_one : Gives IsNumber (by_one w)
+    t_by_one : Gives IsNumber by_one
     t_by_one = keeps IsNumber (record { form = Literal 1; shape = Integer }) one_is
 
     any_of : (s : Shape) (n : Named) → Fits n s → good e s ≡ true → is_compound s ≡ true → is_some (element_of s) ≡ true → any_array (length_of_shape (outline e s)) n ≡ true
@@ -433,19 +434,19 @@ module _ (e : Setting) (order : IsOrder e) where
     pointer_shape (Pointer n) r h = (n, refl, right.targets n r h)
     pointer_shape _ r h = none_some r h
 
-    char_takes : (s : Shape) (n : Named) → Fits n s → is_char_only w s ≡ true → is_writable n ≡ true → takes e (changes true) n ≡ true
+    char_takes : (s : Shape) (n : Named) → Fits n s → is_char_only s ≡ true → is_writable n ≡ true → takes e (changes true) n ≡ true
     char_takes s n (as_whole Char w i) h k = and_from w true k refl
     char_takes s n as_done h k = no h
     char_takes s n (as_whole _ w i) h k = no h
     char_takes s n (as_open a w) h k = no h
     char_takes s n (as_record r) h k = no h
 
-    no_char_pointer : (s : Shape) → is_char_only w s ≡ true → is_pointer s ≡ false
+    no_char_pointer : (s : Shape) → is_char_only s ≡ true → is_pointer s ≡ false
     no_char_pointer Char h = refl
     no_char_pointer (Pointer n) h = no h
     no_char_pointer _ h = refl
 
-    ordered_number : (x : Operand) → Stands e x → may_order w x.shape ≡ true → gives_number (formed (form_of x)) ≡ true
+    ordered_number : (x : Operand) → Stands e x → may_order x.shape ≡ true → gives_number (formed (form_of x)) ≡ true
     ordered_number x h m = or_cases (is_char x.shape || is_truth x.shape) (is_set x.shape) m
         (λ q. or_cases (is_char x.shape) (is_truth x.shape) q (λ c. char_value e order p w right x h c) (λ t. truth_number (formed (form_of x)) (truths e order x h (truth_shape x.shape t))))
         (λ s. sets e order x h (set_shape x.shape s))
@@ -476,13 +477,13 @@ module _ (e : Setting) (order : IsOrder e) where
     t_standard at Lsl (x ∷ n ∷ []) h = t_shifted TheBinary.Lsl x n h.0 (h.1).0
     t_standard at Asr (x ∷ n ∷ []) h = t_shifted TheBinary.Asr x n h.0 (h.1).0
     t_standard at Ror (x ∷ n ∷ []) h = t_shifted TheBinary.Ror x n h.0 (h.1).0
-    t_standard at Ord (x ∷ []) h = by_rule 31 x.at (may_order w x.operand.shape) (λ m.
+    t_standard at Ord (x ∷ []) h = by_rule 31 x.at (may_order x.operand.shape) (λ m.
         a_function Integer (form_of x.operand) (number_near e order (formed (form_of x.operand)) (ordered_number x.operand h.0 m)) refl refl)
     t_standard at Chr (x ∷ []) h = and_then (t_number x h.0) (λ a i. a_function Char (AsByte a.form) (ap (λ b. near_for e (provided b (Some Small)) (Some Small)) i.0) refl refl)
-    t_standard at Inc (v ∷ []) h = t_changed Tree.Increase (λ d c i j. and_from (gives_number (checked_form e (outline e) c)) (holds_of (takes e (changes (is_byte (shape_in e (outline e) d)))) (designated e (outline e) d)) i j) v (by_one w) h.0 t_by_one
-    t_standard at Inc (v ∷ n ∷ []) h = t_changed Tree.Increase (λ d c i j. and_from (gives_number (checked_form e (outline e) c)) (holds_of (takes e (changes (is_byte (shape_in e (outline e) d)))) (designated e (outline e) d)) i j) v (number w n) h.0 (t_number n (h.1).0)
-    t_standard at Dec (v ∷ []) h = t_changed Tree.Decrease (λ d c i j. and_from (gives_number (checked_form e (outline e) c)) (holds_of (takes e (changes (is_byte (shape_in e (outline e) d)))) (designated e (outline e) d)) i j) v (by_one w) h.0 t_by_one
-    t_standard at Dec (v ∷ n ∷ []) h = t_changed Tree.Decrease (λ d c i j. and_from (gives_number (checked_form e (outline e) c)) (holds_of (takes e (changes (is_byte (shape_in e (outline e) d)))) (designated e (outline e) d)) i j) v (number w n) h.0 (t_number n (h.1).0)
+    t_standard at Inc (v ∷ []) h = t_changed Tree.Increase (λ d c i j. and_from (gives_number (checked_form e (outline e) c)) (holds_of (takes e (changes (is_byte (shape_in e (outline e) d)))) (designated e (outline e) d)) i j) v by_one h.0 t_by_one
+    t_standard at Inc (v ∷ n ∷ []) h = t_changed Tree.Increase (λ d c i j. and_from (gives_number (checked_form e (outline e) c)) (holds_of (takes e (changes (is_byte (shape_in e (outline e) d)))) (designated e (outline e) d)) i j) v (number n) h.0 (t_number n (h.1).0)
+    t_standard at Dec (v ∷ []) h = t_changed Tree.Decrease (λ d c i j. and_from (gives_number (checked_form e (outline e) c)) (holds_of (takes e (changes (is_byte (shape_in e (outline e) d)))) (designated e (outline e) d)) i j) v by_one h.0 t_by_one
+    t_standard at Dec (v ∷ n ∷ []) h = t_changed Tree.Decrease (λ d c i j. and_from (gives_number (checked_form e (outline e) c)) (holds_of (takes e (changes (is_byte (shape_in e (outline e) d)))) (designated e (outline e) d)) i j) v (number n) h.0 (t_number n (h.1).0)
     t_standard at Incl (v ∷ x ∷ []) h = t_set_changed Tree.Include (λ d c i j. and_from (gives_number (checked_form e (outline e) c)) (holds_of (takes e is_full) (designated e (outline e) d)) i j) v x h.0 (h.1).0
     t_standard at Excl (v ∷ x ∷ []) h = t_set_changed Tree.Exclude (λ d c i j. and_from (gives_number (checked_form e (outline e) c)) (holds_of (takes e is_full) (designated e (outline e) d)) i j) v x h.0 (h.1).0
     t_standard at New (v ∷ []) h = both_rules v.at (is_variable v.operand) (not (is_read_only v.operand)) (λ used free.
@@ -500,7 +501,7 @@ module _ (e : Setting) (order : IsOrder e) where
         a_proper (Tree.OutString (designator_of x.operand)) (texts e order x.operand.shape x.operand.use_ x.operand.what (h.0).does (h.0).good (text_use x.operand h.0 m)))
     t_standard at OutLn [] h = a_proper Tree.OutLn refl
     t_standard at InChar (v ∷ []) h = both_rules v.at (is_variable v.operand) (not (is_read_only v.operand)) (λ used free.
-        by_rule 31 v.at (is_char_only w v.operand.shape) (λ c.
+        by_rule 31 v.at (is_char_only v.operand.shape) (λ c.
         let d = written_no_pointer v.operand h.0 used (not_true (is_read_only v.operand) free) (no_char_pointer v.operand.shape c) in
         a_proper (Tree.InChar (designator_of v.operand)) (subst (λ o. holds_of (takes e (changes true)) o ≡ true) (sym d.1) (char_takes v.operand.shape d.0 d.2 c d.3))))
     t_standard at s xs h = breaks Given_ 40 at

@@ -79,7 +79,7 @@ module _ (p : Source) (w : World) where
       by Byte Byte h = numbers op h
       by _ _ h = none_some row h
 
-  joined_typed : (op : Operator) (at : ℕ) (x y : Operand) → Gives IsTyped (joined p w op at x y)
+  joined_typed : (op : Operator) (at : ℕ) (x y : Operand) → Gives IsTyped (joined op at x y)
   joined_typed op at x y = by_some 31 at (row_of op x.shape y.shape) (λ row is. keeps IsTyped (value row.0 (row.1 (form_of x) (form_of y))) (row_typed op x.shape y.shape row is))
 
   negated_typed : (s : Shape) (row : Shape × (Expr → Expr)) → negated_row s ≡ Some row → is_typed row.0 ≡ true
@@ -94,7 +94,7 @@ module _ (p : Source) (w : World) where
   signed_typed (Some (TheSign.Minus i)) x h = by_some 31 (place p i) (negated_row x.shape) (λ row is. keeps IsTyped (value row.0 (row.1 (form_of x))) (negated_typed x.shape row is))
 
   compared_typed : (r : _) (at : ℕ) (x y : Operand) → Gives IsTyped (compared p w r at x y)
-  compared_typed r at x y = by_rule 31 at (may_compare w.known r x.shape y.shape) (λ m. by_rule 32 at (not (w.constant && are_texts x.shape y.shape)) (λ c. keeps IsTyped (value Boolean (comparison p w r x y)) refl))
+  compared_typed r at x y = by_rule 31 at (may_compare w.known r x.shape y.shape) (λ m. by_rule 32 at (not (w.constant && are_texts x.shape y.shape)) (λ c. keeps IsTyped (value Boolean (comparison r x y)) refl))
 
   related_typed : (r : Relation) (x y : Operand) → Gives IsTyped (related p w r x y)
   related_typed (TheRelation.Equal i) x y = compared_typed TheComparison.Equal (place p i) x y
@@ -108,9 +108,9 @@ module _ (p : Source) (w : World) where
 
   tested_typed : (q : Option (ℕ × Option ℕ)) (at : ℕ) (x : Operand) → Gives IsTyped (is_test p w q at x)
   tested_typed None at x = breaks IsTyped 31 at
-  tested_typed (Some q) at x = and_then (anything (type_named p w 31 q.0 q.1)) (λ t z. by_some 31 at (tested_tag p w x t) (λ r is. keeps IsTyped (value Boolean (test_of p w x t r)) refl))
+  tested_typed (Some q) at x = and_then (anything (type_named p w 31 q.0 q.1)) (λ t z. by_some 31 at (tested_tag p w x t) (λ r is. keeps IsTyped (value Boolean (test_of x t r)) refl))
 
-  not_nothing : (s : Shape) → not (is_nothing p w s) ≡ true → is_typed s ≡ true
+  not_nothing : (s : Shape) → not (is_nothing s) ≡ true → is_typed s ≡ true
   not_nothing Nothing h = no h
   not_nothing Integer h = refl
   not_nothing _ h = refl
@@ -141,16 +141,16 @@ module _ (p : Source) (w : World) where
     typed_multiplied x h (S.multiplied operator f rest) = and_then (anything (factor p w f)) (λ y z. and_then (joined_typed (mul_operator operator) (place p (mul_symbol operator)) x y) (λ u k. typed_multiplied u k rest))
 
     typed_factor : (x : S.Factor) → Gives IsTyped (factor p w x)
-    typed_factor (S.Int i) = keeps IsTyped (value Integer (Literal (int_of p w (symbol_at p i).kind))) refl
+    typed_factor (S.Int i) = keeps IsTyped (value Integer (Literal (int_of (symbol_at p i).kind))) refl
     typed_factor (S.Text i) = keeps IsTyped (operand (TextShape (length (characters p i))) (Chars (characters p i)) AsValue) refl
-    typed_factor (S.Char i) = keeps IsTyped (value Char (Literal (char_of p w (symbol_at p i).kind))) refl
+    typed_factor (S.Char i) = keeps IsTyped (value Char (Literal (char_of (symbol_at p i).kind))) refl
     typed_factor (S.Nil i) = keeps IsTyped (value Nil (Literal 0)) refl
     typed_factor (S.True i) = keeps IsTyped (value Boolean (Literal 1)) refl
     typed_factor (S.False i) = keeps IsTyped (value Boolean (Literal 0)) refl
     typed_factor (S.EmptySet i j) = keeps IsTyped (value Set (Literal 0)) refl
     typed_factor (S.Set i first more j) = and_then (anything (with_element p w (Literal 0) first)) (λ s z. and_then (anything (with_elements p w s more)) (λ t y. keeps IsTyped (value Set t) refl))
     typed_factor (S.Designated name selectors) = and_then (anything (named p w name)) (λ o z. and_then (anything (selected p w (place p name) (Whole o) selectors)) (λ x y.
-        by_rule 31 (place p name) (not (is_nothing p w x.shape)) (λ n. by_rule 32 (place p name) (not w.constant || is_constant x) (λ c. keeps IsTyped x (not_nothing x.shape n)))))
+        by_rule 31 (place p name) (not (is_nothing x.shape)) (λ n. by_rule 32 (place p name) (not w.constant || is_constant x) (λ c. keeps IsTyped x (not_nothing x.shape n)))))
     typed_factor (S.Paren i x j) = and_then (typed_expression x) (λ y h. keeps IsTyped (as_value y) h)
     typed_factor (S.Not i x) = and_then (anything (factor p w x)) (λ y z. by_rule 31 (place p i) (is_truth y.shape) (λ t. keeps IsTyped (value Boolean (I.Apply TheUnary.Not (form_of y))) refl))
 

@@ -15,15 +15,15 @@ use Rattle.ob_judge.specs.Operands.{form as form_of}
 use Rattle.ob_judge.specs.Symbols.{expression_first, bare_list}
 use Rattle.ob_judge.specs.Calls.{is_chars, may_assign, stored, standard, called}
 use Rattle.ob_judge.specs.Names.{Stage, Whole, Partly, Ended, object_operand, variable_read, narrowed_to, named, type_named, begun, finished}
-use Rattle.ob_judge.specs.Parts.{record_of, fields_of, part_of, followed, tested_tag, guard_of, field, element, target, guarded, applied, guard_name}
+use Rattle.ob_judge.specs.Parts.{record_of, fields_of, part_of, followed, tested_tag, guard_of, field, element, target, guarded, applied, guard_name, is_procedure}
 use Rattle.ob_judge.specs.Expressions.{expression, arguments, selected, select, indexed, indexed_more, designator}
-use Rattle.ob_judge.specs.Assignments.{is_call as is_call_of, whole_object, destination, assigned, assignment, alone, called_alone, called_bare, deed_of, call_statement, assign_or_call, condition, number, integer_variable}
+use Rattle.ob_judge.specs.Assignments.{is_call, whole_object, destination, assigned, assignment, alone, called_alone, called_bare, deed_of, call_statement, assign_or_call, condition, number, integer_variable}
 use Rattle.judged_tree.proofs.SameShapes.{same-is}
 use Rattle.judged_well.specs.Gives.{Gives}
 use Rattle.judged_well.specs.Forms.{Named, is_writable, gives_number, is_full}
 use Rattle.judged_well.specs.Setting.{Setting, IsOrder}
 use Rattle.judged_well.specs.Typing.{outline, form, designated, scalar, scalar_in, given_for, checked_form, fine, array_of, may_copy, has_record, length_of_shape, element_in, record_in, takes, call_suits, begins_there, is_base}
-use Rattle.judged_well.specs.Standing.{is_whole, Fits, as_done, as_whole, as_open, as_record, StandsAs, Stands, IsBegun, IsLast, IsRead, is_call, is_procedure_shape, IsValue, good, ObjectStands, IsUnnarrowed, StageStands, Right, IsOwn, is_own}
+use Rattle.judged_well.specs.Standing.{is_whole, Fits, as_done, as_whole, as_open, as_record, StandsAs, Stands, IsBegun, IsLast, IsRead, IsValue, good, ObjectStands, IsUnnarrowed, StageStands, Right, IsOwn, is_own}
 use Rattle.judged_well.proofs.Judging.{keeps, breaks, weaken, and_then, and_then_as, by_rule, by_some, anything, gives_both}
 use Rattle.judged_well.proofs.Values.{designated_is}
 use Rattle.judged_well.proofs.Places.{compound, fits_array, fits_open}
@@ -49,12 +49,12 @@ module _ (e : Setting) (order : IsOrder e) (p : Source) (read : IsRead p) (w : W
 
   wide_field : (at i : ℕ) (x : Operand) → Gives Wide (field p w at i x)
   wide_field at i x = by_some 31 at (record_of p w x) (λ r is.
-      by_some 30 (place p i) (fields_of p w (slice_get w.known.records r.0) (spelled p i)) (λ f found.
+      by_some 30 (place p i) (fields_of (slice_get w.known.records r.0) (spelled p i)) (λ f found.
       by_rule 34 (place p i) (f.exported || nat_eq f.owner w.module_number) (λ seen.
-      keeps Wide (part_of p w r.1 f.shape (Tree.Field (place_of r.1) f.adder f.number)) refl)))
+      keeps Wide (part_of r.1 f.shape (Tree.Field (place_of r.1) f.adder f.number)) refl)))
 
-  wide_element : (at at_index : ℕ) (x i : Operand) → Gives Wide (element p w at at_index x i)
-  wide_element at at_index x i = by_some 31 at (element_of x.shape) (λ a is. by_rule 31 at_index (is_number i.shape) (λ n. keeps Wide (part_of p w x a (Tree.Index (place_of x) (length_of x) a (form_of i))) refl))
+  wide_element : (at at_index : ℕ) (x i : Operand) → Gives Wide (element at at_index x i)
+  wide_element at at_index x i = by_some 31 at (element_of x.shape) (λ a is. by_rule 31 at_index (is_number i.shape) (λ n. keeps Wide (part_of x a (Tree.Index (place_of x) (length_of x) a (form_of i))) refl))
 
   wide_indexed_more : (at : ℕ) (x : Operand) → Wide x → (xs : S.NextExpressions) → Gives Wide (indexed_more p w at x xs)
   wide_indexed_more at x h S.no_expression = keeps Wide x h
@@ -64,18 +64,18 @@ module _ (e : Setting) (order : IsOrder e) (p : Source) (read : IsRead p) (w : W
   wide_indexed at x (S.expressions first more) = and_then (anything (expression p w first)) (λ i z. and_then (wide_element at (place p (expression_first first)) x i) (λ k l. wide_indexed_more at k l more))
 
   wide_target : (at : ℕ) (x : Operand) → Gives Wide (target p w at x)
-  wide_target at x = by_some 31 at (target_of w.known x.shape) (λ r is. keeps Wide (followed p w x r) refl)
+  wide_target at x = by_some 31 at (target_of w.known x.shape) (λ r is. keeps Wide (followed x r) refl)
 
-  wide_guard : (x : Operand) (t : Shape) (r : ℕ) → Wide (guard_of p w x t r)
+  wide_guard : (x : Operand) (t : Shape) (r : ℕ) → Wide (guard_of x t r)
   wide_guard x (Pointer n) r = refl
   wide_guard x Integer r = refl
   wide_guard x _ r = refl
 
   wide_guarded : (at : ℕ) (x : Operand) (t : Shape) → Gives Wide (guarded p w at x t)
-  wide_guarded at x t = by_some 31 at (tested_tag p w x t) (λ r is. keeps Wide (guard_of p w x t r) (wide_guard x t r))
+  wide_guarded at x t = by_some 31 at (tested_tag p w x t) (λ r is. keeps Wide (guard_of x t r) (wide_guard x t r))
 
   last_wide : (x : Operand) → IsLast e x → Wide x
-  last_wide x h = not_true (is_narrowed x) (and_of (is_call x.what || not (is_procedure_shape x.shape)) (not (is_narrowed x)) h).1
+  last_wide x h = not_true (is_narrowed x) (and_of (is_call x.what || not (is_procedure x.shape)) (not (is_narrowed x)) h).1
 
   ended_wide : (m : Judged Operand) → Gives (λ y. Stands e y × IsLast e y) m → Gives WideStage (m >>= λ y. Keeps (Ended y))
   ended_wide m g = and_then g (λ y h. keeps WideStage (Ended y) (last_wide y h.1))
@@ -84,11 +84,11 @@ module _ (e : Setting) (order : IsOrder e) (p : Source) (read : IsRead p) (w : W
   partly_wide m g = and_then g (λ y h. keeps WideStage (Partly y) h)
 
   wide_parens : (at : ℕ) (stage : Stage) → StageStands e stage → (list : S.Expressions)
-      → Gives WideStage (begun p w at stage >>= λ x. elim (guard_name p w x (bare_list list)) as (λ _. Judged Stage) [
+      → Gives WideStage (begun p w at stage >>= λ x. elim (guard_name x (bare_list list)) as (λ _. Judged Stage) [
         | Some q ↦ type_named p w 31 q.0 q.1 >>= λ t. guarded p w at x t >>= λ y. Keeps (Partly y)
         | None ↦ arguments p w list >>= λ xs. applied p w at x x.shape xs >>= λ y. Keeps (Ended y)
       ])
-  wide_parens at stage h list = and_then (t_begun e order p w right at stage h) (λ x k. by x k (guard_name p w x (bare_list list)))
+  wide_parens at stage h list = and_then (t_begun e order p w right at stage h) (λ x k. by x k (guard_name x (bare_list list)))
     where
       by : (x : Operand) → IsBegun e x → (q : Option (ℕ × Option ℕ)) → Gives WideStage (elim q as (λ _. Judged Stage) [
         | Some q ↦ type_named p w 31 q.0 q.1 >>= λ t. guarded p w at x t >>= λ y. Keeps (Partly y)
@@ -113,7 +113,7 @@ module _ (e : Setting) (order : IsOrder e) (p : Source) (read : IsRead p) (w : W
 
   wide_object : (at : ℕ) (o : Object) → IsUnnarrowed e p w o → Gives Wide (object_operand p w at o)
   wide_object at (AConstant c) h = keeps Wide (of_constant c) (wide_constant c)
-  wide_object at (AVariable v) h = keeps Wide (variable_read p w v) (ap (λ o. is_narrowed (narrowed_to p w (whole_variable w v) (is_pointer v.shape) o)) h)
+  wide_object at (AVariable v) h = keeps Wide (variable_read p w v) (ap (λ o. is_narrowed (narrowed_to (whole_variable w v) (is_pointer v.shape) o)) h)
   wide_object at (AProcedure f s l) h = keeps Wide (operand s (Code f l) AsValue) refl
   wide_object at (AType s) h = breaks Wide 31 at
   wide_object at _ h = breaks Wide 31 at
@@ -146,7 +146,7 @@ module _ (e : Setting) (order : IsOrder e) (p : Source) (read : IsRead p) (w : W
           subst (λ xs. Gives Wide (selected p w (place p d.name) (Whole o) xs)) (sym at)
           (and_then (gives_both (t_select e order p read w right (place p d.name) (Whole o) h s) (wide_select (place p d.name) (Whole o) h s)) (λ next l. wide_selected (place p d.name) next l.0 l.1 rest)))
 
-      by : (o : Object) → named p w d.name ≡ Keeps o → ObjectStands e o → (xs : S.Selectors) → d.selectors ≡ xs → Gives IsDestination (whole_object p w o xs (designator p w d))
+      by : (o : Object) → named p w d.name ≡ Keeps o → ObjectStands e o → (xs : S.Selectors) → d.selectors ≡ xs → Gives IsDestination (whole_object w o xs (designator p w d))
       by (AVariable v) is h S.no_selector at = keeps IsDestination (whole_variable w v) ((t_whole_variable e order p w right v h).stands, refl)
       by (AVariable v) is h (S.selected s rest) at = other_destination d (selected_wide s rest at)
       by (AConstant c) is h xs at = other_destination d (named_wide (AConstant c) is h tt)
@@ -316,10 +316,10 @@ module _ (e : Setting) (order : IsOrder e) (p : Source) (read : IsRead p) (w : W
       ∙ and_from (is_writable d.0) (given_for e (checked_form e (outline e) (stored t y)) (scalar_in e d.0)) d.3
       (ap (λ o. given_for e (checked_form e (outline e) (stored t y)) o) f.1 ∙ t_stored_checked e order p w right t y k f.0 (ap (good e) (sym i) ∙ h.good) c m)
 
-  t_assigned : (x y : Operand) → Written e order x → Stands e x → Stands e y → may_assign w.known x.shape y ≡ true → IsFine (assigned p x.shape x y)
+  t_assigned : (x y : Operand) → Written e order x → Stands e x → Stands e y → may_assign w.known x.shape y ≡ true → IsFine (assigned x.shape x y)
   t_assigned x y d h k m = by x.shape refl (and_of (assignable w.known x.shape y.shape) (not (is_local_code y.what)) m).0
     where
-      by : (s : Shape) → x.shape ≡ s → assignable w.known s y.shape ≡ true → IsFine (assigned p s x y)
+      by : (s : Shape) → x.shape ≡ s → assignable w.known s y.shape ≡ true → IsFine (assigned s x y)
       by (Array n a) i m = array_copied a (Some n) x y d (ap (λ s. element_in (outline e s)) i) (ap (λ s. length_of_shape (outline e s)) i) (from_fits a n y.shape m) (fits_array e order d.0 n a (subst (λ s. Fits d.0 s) i d.2) (ap (good e) (sym i) ∙ h.good)) (source_array a y k y.shape refl (from_array a n y.shape m))
       by (Open a) i m = array_copied a None x y d (ap (λ s. element_in (outline e s)) i) (ap (λ s. length_of_shape (outline e s)) i) refl (fits_open e order d.0 a (subst (λ s. Fits d.0 s) i d.2)) (source_array a y k y.shape refl (from_open a y.shape m))
       by (Record r) i m = record_copied r x y d k i m
@@ -339,41 +339,35 @@ module _ (e : Setting) (order : IsOrder e) (p : Source) (read : IsRead p) (w : W
       by_rule 31 (place p d.name) (is_variable x) (λ used.
       by_rule 33 (place p d.name) (not (is_read_only x)) (λ free.
       by_rule 31 (place p (expression_first v)) (may_assign w.known x.shape y) (λ m.
-      keeps IsFine (assigned p x.shape x y) (t_assigned x y (written_unnarrowed e order x h.0 used (not_true (is_read_only x) free) h.1) h.0 k m))))))
+      keeps IsFine (assigned x.shape x y) (t_assigned x y (written_unnarrowed e order x h.0 used (not_true (is_read_only x) free) h.1) h.0 k m))))))
 
   -- ---- calls
 
   finished_of : (x : Operand) → Stands e x × IsLast e x → IsFinished e order p w right x
-  finished_of x h = record { stands = h.0; begun = λ i. no (sym i ∙ (and_of (is_call x.what || not (is_procedure_shape x.shape)) (not (is_narrowed x)) h.1).0) }
+  finished_of x h = record { stands = h.0; begun = λ i. no (sym i ∙ (and_of (is_call x.what || not (is_procedure x.shape)) (not (is_narrowed x)) h.1).0) }
 
-  t_called_alone : (at : ℕ) (o : Option Object) (m : Judged Operand) → Gives (IsFinished e order p w right) m → Gives (IsFinished e order p w right) (called_alone p w at o m)
+  t_called_alone : (at : ℕ) (o : Option Object) (m : Judged Operand) → Gives (IsFinished e order p w right) m → Gives (IsFinished e order p w right) (called_alone w at o m)
   t_called_alone at (Some (AStandard s)) m g = weaken (t_standard e order p w right at s [] tt) finished_of
   t_called_alone at (Some (AConstant c)) m g = g
   t_called_alone at (Some _) m g = g
   t_called_alone at None m g = g
 
-  calls_alike : (k : What) → is_call_of p k ≡ is_call k
-  calls_alike (Valued (Result c)) = refl
-  calls_alike (Valued (Literal n)) = refl
-  calls_alike (Valued _) = refl
-  calls_alike _ = refl
-
-  t_called_bare : (at : ℕ) (x : Operand) → IsFinished e order p w right x → Gives (Stands e) (called_bare p w at x x.shape)
+  t_called_bare : (at : ℕ) (x : Operand) → IsFinished e order p w right x → Gives (Stands e) (called_bare w at x x.shape)
   t_called_bare at x h = by x.shape refl
     where
-      called_if : (ps : Formals) (r : Shape) → x.shape ≡ Procedure ps r → (b : Bool) → is_call_of p x.what ≡ b → Gives (Stands e) (if b then Keeps x else called w at x ps r [])
+      called_if : (ps : Formals) (r : Shape) → x.shape ≡ Procedure ps r → (b : Bool) → is_call x.what ≡ b → Gives (Stands e) (if b then Keeps x else called w at x ps r [])
       called_if ps r i true j = keeps (Stands e) x h.stands
-      called_if ps r i false j = weaken (t_called e order p w right at x (h.begun (ap₂ (λ c s. c || not (is_procedure_shape s)) (sym (calls_alike x.what) ∙ j) i)) ps r i [] tt) (λ y k. k.0)
+      called_if ps r i false j = weaken (t_called e order p w right at x (h.begun (ap₂ (λ c s. c || not (is_procedure s)) j i)) ps r i [] tt) (λ y k. k.0)
 
-      by : (s : Shape) → x.shape ≡ s → Gives (Stands e) (called_bare p w at x s)
-      by (Procedure ps r) i = called_if ps r i (is_call_of p x.what) refl
+      by : (s : Shape) → x.shape ≡ s → Gives (Stands e) (called_bare w at x s)
+      by (Procedure ps r) i = called_if ps r i (is_call x.what) refl
       by Integer i = keeps (Stands e) x h.stands
       by _ i = keeps (Stands e) x h.stands
 
-  t_deed : (at : ℕ) (y : Operand) → Stands e y → Gives IsFine (deed_of p at y.shape y.what)
+  t_deed : (at : ℕ) (y : Operand) → Stands e y → Gives IsFine (deed_of at y.shape y.what)
   t_deed at y h = by y.shape y.use_ y.what h.does
     where
-      by : (s : Shape) (u : Use) (what : What) → StandsAs e s u what → Gives IsFine (deed_of p at s what)
+      by : (s : Shape) (u : Use) (what : What) → StandsAs e s u what → Gives IsFine (deed_of at s what)
       by Nothing u (Proper d) h = keeps IsFine d h.1
       by Nothing u (Valued (Result c)) h = keeps IsFine (Invoke c) (let k = h.0 in subst (λ z. call_suits e (outline e) z ≡ true) (sym (same c k.0 k.1)) k.2)
         where
@@ -425,7 +419,7 @@ module _ (e : Setting) (order : IsOrder e) (p : Source) (read : IsRead p) (w : W
   own_base here (Parameter k) h = refl
   own_base here _ h = no h
 
-  pub integer_base : (o : Object) → IsOwn e w o → (d : Designator) → integer_variable p w o ≡ Some d → begins_there d ≡ true
+  pub integer_base : (o : Object) → IsOwn e w o → (d : Designator) → integer_variable w o ≡ Some d → begins_there d ≡ true
   integer_base (AVariable v) h d is = by v.shape is
     where
       by : (s : Shape) → elim s as (λ _. Option Designator) [ Integer ↦ Some (of_type v.place Integer) | other ↦ None ] ≡ Some d → begins_there d ≡ true
@@ -434,7 +428,7 @@ module _ (e : Setting) (order : IsOrder e) (p : Source) (read : IsRead p) (w : W
   integer_base (AConstant c) h d is = none_some d is
   integer_base _ h d is = none_some d is
 
-  pub t_integer_variable : (o : Object) → ObjectStands e o → (d : Designator) → integer_variable p w o ≡ Some d → holds_of (takes e is_full) (designated e (outline e) d) ≡ true
+  pub t_integer_variable : (o : Object) → ObjectStands e o → (d : Designator) → integer_variable w o ≡ Some d → holds_of (takes e is_full) (designated e (outline e) d) ≡ true
   t_integer_variable (AVariable v) h d is = by v.shape refl is
     where
       full : (n : Named) → Fits n Integer → is_writable n ≡ true → takes e is_full n ≡ true

@@ -83,7 +83,7 @@ module _ (e : Setting) (p : Source) where
       (67 ∷ 104 ∷ 97 ∷ 114 ∷ [], AStandard InChar) ∷
       (68 ∷ 111 ∷ 110 ∷ 101 ∷ [], AVariable (record { shape = Boolean; place = Done; home = ReadOnly; owner = 0; procedure = None })) ∷
       [])
-      ((tt, tt, tt), ((done, ap (λ ns. narrowing_of p v Done ns) none, refl), tt))
+      ((tt, tt, tt), ((done, ap (λ ns. narrowing_of Done ns) none, refl), tt))
 
   members : (m : Imported) (q : List ℕ) (x : Entry) → names_of_module p first m q ≡ Some x → Foreign first x.object
   members TheOut q x is = of_out first q x is

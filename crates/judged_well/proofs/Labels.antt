@@ -75,18 +75,18 @@ module _ (e : Setting) where
     abbrev Known : Constant → Type 0
     Known c = ConstantStands e c
 
-    only_constant : (o : Object) → ObjectStands e o → (c : Constant) → constant_only p o ≡ Some c → Known c
+    only_constant : (o : Object) → ObjectStands e o → (c : Constant) → constant_only o ≡ Some c → Known c
     only_constant (AConstant d) h c is = subst Known (some_same d c is) h
     only_constant (AType s) h c is = none_some c is
     only_constant _ h c is = none_some c is
 
     t_label_constant : (l : Label) → Gives Known (label_constant p w l)
-    t_label_constant (TheLabel.Int i) = keeps Known (Bits Integer (int_of p w (symbol_at p i).kind)) (literal_number e (int_of p w (symbol_at p i).kind) (int_small p read w i), refl)
-    t_label_constant (TheLabel.Char i) = keeps Known (Bits Char (char_of p w (symbol_at p i).kind)) (literal_small e (char_of p w (symbol_at p i).kind) (char_small p read w i), refl)
+    t_label_constant (TheLabel.Int i) = keeps Known (Bits Integer (int_of (symbol_at p i).kind)) (literal_number e (int_of (symbol_at p i).kind) (int_small p read w i), refl)
+    t_label_constant (TheLabel.Char i) = keeps Known (Bits Char (char_of (symbol_at p i).kind)) (literal_small e (char_of (symbol_at p i).kind) (char_small p read w i), refl)
     t_label_constant (TheLabel.Text i) = keeps Known (Tree.Chars (characters p i)) (characters_are p read i)
-    t_label_constant (TheLabel.Named q) = and_then (t_qualified e order p w right q.name (member_symbol p w q.member)) (λ o h. at_last 39 (place p q.name) (constant_only p o) (only_constant o h))
+    t_label_constant (TheLabel.Named q) = and_then (t_qualified e order p w right q.name (member_symbol q.member)) (λ o h. at_last 39 (place p q.name) (constant_only o) (only_constant o h))
 
-    label_value : (of_char : Bool) (c : Constant) → Known c → (z : ℤ) → label_in p of_char c ≡ Some z → IsInteger z
+    label_value : (of_char : Bool) (c : Constant) → Known c → (z : ℤ) → label_in of_char c ≡ Some z → IsInteger z
     label_value false (Bits Integer n) h z is = subst IsInteger (some_same (signed n) z is) (signed_integer n (number_below n h.0))
     label_value true (Bits Char n) h z is = subst IsInteger (some_same (pos n) z is) (byte_integer n (char_below n h.0))
     label_value true (Tree.Chars (c ∷ [])) h z is = subst IsInteger (some_same (pos c) z is) (byte_integer c (less c 256 (only_character c h)))
@@ -96,20 +96,20 @@ module _ (e : Setting) where
     label_value of_char c h z is = none_some z is
 
     t_label : (of_char : Bool) (l : Label) → Gives IsInteger (label p w of_char l)
-    t_label of_char l = and_then (t_label_constant l) (λ c h. at_last 39 (place p (label_symbol p l)) (label_in p of_char c) (label_value of_char c h))
+    t_label of_char l = and_then (t_label_constant l) (λ c h. at_last 39 (place p (label_symbol l)) (label_in of_char c) (label_value of_char c h))
 
     t_high : (of_char : Bool) (low : ℤ) → IsInteger low → (h : Option High) → Gives IsInteger (high_label p w of_char low h)
     t_high of_char low i None = keeps IsInteger low i
     t_high of_char low i (Some h) = t_label of_char h.label
 
-    value_fine : (low high : ℤ) (h : Option High) → IsInteger low → IsInteger high → int_le low high ≡ true → all label_fine (value_label p low high h ∷ []) ≡ true
+    value_fine : (low high : ℤ) (h : Option High) → IsInteger low → IsInteger high → int_le low high ≡ true → all label_fine (value_label low high h ∷ []) ≡ true
     value_fine low high None i j k = and_from (is_integer low) true i refl
     value_fine low high (Some h) i j k = and_from (is_integer low && (is_integer high && int_le low high)) true (and_from (is_integer low) (is_integer high && int_le low high) i (and_from (is_integer high) (int_le low high) j k)) refl
 
     t_range : (of_char : Bool) (r : Range) (taken : List (ℤ × ℤ)) → Gives AreLabels (range p w of_char r taken)
     t_range of_char r taken = and_then (t_label of_char r.low) (λ low h. and_then (t_high of_char low h r.high) (λ high k.
-        by_rule 39 (place p (label_symbol p r.low)) (int_le low high && not (overlaps low high taken)) (λ m.
-        keeps AreLabels (record { labels = value_label p low high r.high ∷ []; taken = (low, high) ∷ taken }) (value_fine low high r.high h k (and_of (int_le low high) (not (overlaps low high taken)) m).0))))
+        by_rule 39 (place p (label_symbol r.low)) (int_le low high && not (overlaps low high taken)) (λ m.
+        keeps AreLabels (record { labels = value_label low high r.high ∷ []; taken = (low, high) ∷ taken }) (value_fine low high r.high h k (and_of (int_le low high) (not (overlaps low high taken)) m).0))))
 
     all_append : (xs ys : List ValueLabel) → all label_fine xs ≡ true → all label_fine ys ≡ true → all label_fine (xs ++ ys) ≡ true
     all_append [] ys h k = k
@@ -122,12 +122,12 @@ module _ (e : Setting) where
     abbrev pub IsStep : ℤ → Type 0
     IsStep z = is_step z ≡ true
 
-    int_value : (c : Constant) → Known c → (z : ℤ) → int_only p c ≡ Some z → IsInteger z
+    int_value : (c : Constant) → Known c → (z : ℤ) → int_only c ≡ Some z → IsInteger z
     int_value (Bits Integer n) h z is = subst IsInteger (some_same (signed n) z is) (signed_integer n (number_below n h.0))
     int_value (Tree.Chars cs) h z is = none_some z is
     int_value (Bits _ n) h z is = none_some z is
 
     pub t_step : (b : Option S.By) → Gives IsStep (step_of p w b)
     t_step None = keeps IsStep (pos 1) refl
-    t_step (Some b) = and_then (t_constant e order p read w right b.step) (λ c h. by_some 31 (place p (expression_first b.step)) (int_only p c) (λ z is.
+    t_step (Some b) = and_then (t_constant e order p read w right b.step) (λ c h. by_some 31 (place p (expression_first b.step)) (int_only c) (λ z is.
         by_rule 35 (place p (expression_first b.step)) (not (int_eq z (pos 0))) (λ k. keeps IsStep z (and_from (is_integer z) (not (int_eq z (pos 0))) (int_value c h z is) k))))

@@ -9,11 +9,13 @@ use Rattle.ob_judge.specs.Image.{Chars as TheChars}
 use Rattle.ob_judge.specs.Scopes.{Home, Free, ReadOnly, Tagged, OfModule, Variable, Imported, Object, AConstant, AType, AVariable, AProcedure, AModule, Narrowing, World, Source, look_up, is_visible, place, spelled}
 use Rattle.ob_judge.specs.Operands.{Code, AsVariable, AsValue, Operand, operand, place_of, read_only_by, is_narrowed, is_tagged_home, whole_variable, of_constant}
 use Rattle.ob_judge.specs.Names.{Stage, Whole, Partly, Ended, named, names_of, member, member_of_object, qualified, type_of_object, type_named, narrowing_of, narrowed_to, variable_read, object_operand, begun, finished}
+use Rattle.ob_judge.specs.Parts.{is_procedure}
+use Rattle.ob_judge.specs.Assignments.{is_call}
 use Rattle.judged_well.specs.Forms.{Form, Zero, Truth, Small, Number, ToRecord, Routines, Exactly, Named, Dynamic, is_number, literal, literal_by, is_writable, is_dynamic}
 use Rattle.judged_well.specs.Setting.{Setting, IsOrder}
 use Rattle.judged_well.specs.Typing.{outline, pointer}
 use Rattle.judged_well.specs.Typing.{named as names}
-use Rattle.judged_well.specs.Standing.{is_whole, Fits, as_done, as_whole, as_open, as_record, HomeClaims, Stands, IsBegun, IsValue, FollowsAs, FollowsTo, near_for, good, ConstantStands, VariableStands, ObjectStands, StageStands, NarrowsTo, to_pointer, to_record, IsUnnarrowed, is_procedure_shape, is_call, Right, IsOwn}
+use Rattle.judged_well.specs.Standing.{is_whole, Fits, as_done, as_whole, as_open, as_record, HomeClaims, Stands, IsBegun, IsValue, FollowsAs, FollowsTo, near_for, good, ConstantStands, VariableStands, ObjectStands, StageStands, NarrowsTo, to_pointer, to_record, IsUnnarrowed, Right, IsOwn}
 use Rattle.judged_well.specs.Gives.{Gives}
 use Rattle.judged_well.proofs.Judging.{keeps, breaks, weaken, and_then, by_rule, by_some, at_last}
 use Rattle.judged_well.proofs.Selecting.{place_begun, t_guard, guard_value}
@@ -45,13 +47,13 @@ module _ (e : Setting) (order : IsOrder e) (p : Source) (w : World) (right : Rig
   abbrev pub IsType : Shape → Type 0
   IsType s = (good e s ≡ true) × (is_whole s ≡ true)
 
-  type_of : (o : Object) → ObjectStands e o → (s : Shape) → type_of_object p w o ≡ Some s → IsType s
+  type_of : (o : Object) → ObjectStands e o → (s : Shape) → type_of_object o ≡ Some s → IsType s
   type_of (AType u) h s is = subst IsType (some_same u s is) h
   type_of (AConstant c) h s is = none_some s is
   type_of _ h s is = none_some s is
 
   pub t_type_named : (number name : ℕ) (i : Option ℕ) → Gives IsType (type_named p w number name i)
-  t_type_named number name i = and_then (t_qualified name i) (λ o h. at_last number (place p name) (type_of_object p w o) (λ s is. type_of o h s is))
+  t_type_named number name i = and_then (t_qualified name i) (λ o h. at_last number (place p name) (type_of_object o) (λ s is. type_of o h s is))
 
   -- ---- names as operands
 
@@ -74,7 +76,7 @@ module _ (e : Setting) (order : IsOrder e) (p : Source) (w : World) (right : Rig
 
   -- a variable in a part of a CASE on types
   narrowed_begun : (x : Operand) → IsBegun e x → (m : Named) (s u : Shape) (tag : ℕ) (d : Place) → x.shape ≡ s → the (place_of x) ≡ Some m → Fits m s → NarrowsTo e tag m u
-      → IsBegun e (narrowed_to p w x (is_pointer s) (Some (record { variable = d; shape = u; tag = tag })))
+      → IsBegun e (narrowed_to x (is_pointer s) (Some (record { variable = d; shape = u; tag = tag })))
   narrowed_begun x b m s u tag d i at (as_whole (Pointer k) c h) (to_pointer n j v t) =
       t_guard e order p w right x b (ap is_pointer i) j tag t (AsVariable false false true) refl (guard_value e order p w right x b.stands (ap is_pointer i) j tag t, refl)
   narrowed_begun x b m s u tag d i at (as_record r) (to_record k there) =
@@ -83,7 +85,7 @@ module _ (e : Setting) (order : IsOrder e) (p : Source) (w : World) (right : Rig
   narrowed_begun x b m s u tag d i at (as_whole _ w h) k = elim k [ ]
   narrowed_begun x b m s u tag d i at (as_open a w) k = elim k [ ]
 
-  t_narrowed : (v : Variable) → VariableStands e v → (o : Option Narrowing) → narrowing_of p w v.place w.narrowed ≡ o → IsBegun e (narrowed_to p w (whole_variable w v) (is_pointer v.shape) o)
+  t_narrowed : (v : Variable) → VariableStands e v → (o : Option Narrowing) → narrowing_of v.place w.narrowed ≡ o → IsBegun e (narrowed_to (whole_variable w v) (is_pointer v.shape) o)
   t_narrowed v h None is = t_whole_variable v h
   t_narrowed v h (Some n) is =
       let k = right.narrowed v.place n is in
@@ -91,7 +93,7 @@ module _ (e : Setting) (order : IsOrder e) (p : Source) (w : World) (right : Rig
       narrowed_begun (whole_variable w v) (t_whole_variable v h) h.names v.shape n.shape n.tag n.variable refl h.are h.fits (subst (λ m. NarrowsTo e n.tag m n.shape) same k.to)
 
   pub t_variable_read : (v : Variable) → VariableStands e v → IsBegun e (variable_read p w v)
-  t_variable_read v h = t_narrowed v h (narrowing_of p w v.place w.narrowed) refl
+  t_variable_read v h = t_narrowed v h (narrowing_of v.place w.narrowed) refl
 
   -- a literal is no pointer and no procedure
   abbrev is_reference_form : Form → Bool
@@ -128,7 +130,7 @@ module _ (e : Setting) (order : IsOrder e) (p : Source) (w : World) (right : Rig
   number_or_none (Some (Exactly f)) i g h = no i
   number_or_none _ i _ h = no h
 
-  literal_code : (n : ℕ) (s : Shape) → IsValue e s (Literal n) → is_procedure_shape s ≡ false
+  literal_code : (n : ℕ) (s : Shape) → IsValue e s (Literal n) → is_procedure s ≡ false
   literal_code n (Procedure ps s) h = no (sym (number_or_none (literal n) (literal_is n) (Routines ps s) refl) ∙ h)
   literal_code n Integer h = refl
   literal_code n _ h = refl
@@ -166,7 +168,7 @@ module _ (e : Setting) (order : IsOrder e) (p : Source) (w : World) (right : Rig
   -- a designator as a whole: what is no call is begun
   pub record IsFinished (x : Operand) : Type 0 where
     pub stands : Stands e x
-    pub begun : (is_call x.what || not (is_procedure_shape x.shape)) ≡ false → IsBegun e x
+    pub begun : (is_call x.what || not (is_procedure x.shape)) ≡ false → IsBegun e x
 
   finished_begun : (x : Operand) → IsBegun e x → IsFinished x
   finished_begun x h = record { stands = h.stands; begun = λ i. h }
@@ -174,4 +176,4 @@ module _ (e : Setting) (order : IsOrder e) (p : Source) (w : World) (right : Rig
   pub t_finished : (at : ℕ) (s : Stage) → StageStands e s → Gives IsFinished (finished p w at s)
   t_finished at (Whole o) h = weaken (t_object at o h) finished_begun
   t_finished at (Partly x) h = keeps IsFinished x (finished_begun x h)
-  t_finished at (Ended x) h = keeps IsFinished x (record { stands = h.0; begun = λ i. no (sym i ∙ (and_of (is_call x.what || not (is_procedure_shape x.shape)) (not (is_narrowed x)) h.1).0) })
+  t_finished at (Ended x) h = keeps IsFinished x (record { stands = h.0; begun = λ i. no (sym i ∙ (and_of (is_call x.what || not (is_procedure x.shape)) (not (is_narrowed x)) h.1).0) })

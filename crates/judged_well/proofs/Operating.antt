@@ -139,7 +139,7 @@ module _ (e : Setting) (order : IsOrder e) where
   valued s x v g = record { does = (v, tt); good = g }
 
   module _ (p : Source) (w : World) (right : Right e p w) where
-    pub t_joined : (op : Operator) (at : ℕ) (x y : Operand) → Stands e x → Stands e y → Gives (Stands e) (joined p w op at x y)
+    pub t_joined : (op : Operator) (at : ℕ) (x y : Operand) → Stands e x → Stands e y → Gives (Stands e) (joined op at x y)
     t_joined op at x y h k = by_some 31 at (row_of op x.shape y.shape) (λ row is.
         let r = t_row op x y h k row is in
         keeps (Stands e) (value row.0 (row.1 (form_of x) (form_of y))) (valued row.0 (row.1 (form_of x) (form_of y)) r.value r.good))
@@ -164,7 +164,7 @@ module _ (e : Setting) (order : IsOrder e) where
         keeps (Stands e) (value Integer (form_of x)) (valued Integer (form_of x) (number_near (formed (form_of x)) (numbers x h n)) refl))
     t_signed (Some (TheSign.Minus i)) x h = by_some 31 (place p i) (negated_row x.shape) (λ row is. keeps (Stands e) (value row.0 (row.1 (form_of x))) (minus x h row is))
 
-    pub t_inverted : (at : ℕ) (x : Operand) → Stands e x → Gives (Stands e) (inverted p w at x)
+    pub t_inverted : (at : ℕ) (x : Operand) → Stands e x → Gives (Stands e) (inverted at x)
     t_inverted at x h = by_rule 31 at (is_truth x.shape) (λ t.
         keeps (Stands e) (value Boolean (Apply TheUnary.Not (form_of x))) (valued Boolean (Apply TheUnary.Not (form_of x))
         (ap (λ c. near_for e (provided c (Some Truth)) (Some Truth)) (truth_number (formed (form_of x)) (truths x h (truth_shape x.shape t)))) refl))
@@ -264,15 +264,15 @@ module _ (e : Setting) (order : IsOrder e) where
     equality_is TheComparison.Unequal h = refl
     equality_is _ h = no h
 
-    included : (r : Comparison) (x y : Expr) → gives_number (formed x) ≡ true → gives_number (formed y) ≡ true → formed (inclusion p w r x y) ≡ Some Truth
+    included : (r : Comparison) (x y : Expr) → gives_number (formed x) ≡ true → gives_number (formed y) ≡ true → formed (inclusion r x y) ≡ Some Truth
     included TheComparison.GreaterEqual x y h k = ap₂ (λ a b. provided a (provided b (Some Truth))) h k
     included _ x y h k = ap₂ (λ a b. provided a (provided b (Some Truth))) h k
 
-    related_form : (r : Comparison) (x y : Operand) → Stands e x → Stands e y → may_compare w.known r x.shape y.shape ≡ true → formed (comparison p w r x y) ≡ Some Truth
+    related_form : (r : Comparison) (x y : Operand) → Stands e x → Stands e y → may_compare w.known r x.shape y.shape ≡ true → formed (comparison r x y) ≡ Some Truth
     related_form r x y h k m = by (are_texts x.shape y.shape) (are_included r x.shape y.shape) refl refl
       where
         by : (t i : Bool) → are_texts x.shape y.shape ≡ t → are_included r x.shape y.shape ≡ i
-            → formed (if t then CompareTexts r (designator_of x) (designator_of y) else if i then inclusion p w r (form_of x) (form_of y) else Compare r (form_of x) (form_of y)) ≡ Some Truth
+            → formed (if t then CompareTexts r (designator_of x) (designator_of y) else if i then inclusion r (form_of x) (form_of y) else Compare r (form_of x) (form_of y)) ≡ Some Truth
         by true i is_t is_i =
             let g = and_of (not (are_ordered x.shape y.shape) && is_text_shape x.shape) (is_text_shape y.shape) is_t in
             let f = and_of (not (are_ordered x.shape y.shape)) (is_text_shape x.shape) g.0 in
@@ -292,15 +292,15 @@ module _ (e : Setting) (order : IsOrder e) where
     pub t_compared : (r : Comparison) (at : ℕ) (x y : Operand) → Stands e x → Stands e y → Gives (Stands e) (compared p w r at x y)
     t_compared r at x y h k = by_rule 31 at (may_compare w.known r x.shape y.shape) (λ m.
         by_rule 32 at (not (w.constant && are_texts x.shape y.shape)) (λ c.
-        keeps (Stands e) (value Boolean (comparison p w r x y)) (valued Boolean (comparison p w r x y) (ap (λ o. near_for e o (Some Truth)) (related_form r x y h k m)) refl)))
+        keeps (Stands e) (value Boolean (comparison r x y)) (valued Boolean (comparison r x y) (ap (λ o. near_for e o (Some Truth)) (related_form r x y h k m)) refl)))
 
-    pub t_is_in : (at : ℕ) (x s : Operand) → Stands e x → Stands e s → Gives (Stands e) (is_in p w at x s)
+    pub t_is_in : (at : ℕ) (x s : Operand) → Stands e x → Stands e s → Gives (Stands e) (is_in at x s)
     t_is_in at x s h k = by_rule 31 at (is_number x.shape && is_set s.shape) (λ m.
         let g = and_of (is_number x.shape) (is_set s.shape) m in
         keeps (Stands e) (value Boolean (In (form_of x) (form_of s))) (valued Boolean (In (form_of x) (form_of s))
         (ap₂ (λ a b. near_for e (provided a (provided b (Some Truth))) (Some Truth)) (numbers x h g.0) (sets s k (set_shape s.shape g.1))) refl))
 
-    pub t_set_element : (at : ℕ) (x : Operand) → Stands e x → Gives (λ y. gives_number (formed y) ≡ true) (set_element p w at x)
+    pub t_set_element : (at : ℕ) (x : Operand) → Stands e x → Gives (λ y. gives_number (formed y) ≡ true) (set_element at x)
     t_set_element at x h = by_rule 31 at (is_number x.shape) (λ n. keeps (λ y. gives_number (formed y) ≡ true) (form_of x) (numbers x h n))
 
     pub t_related : (relation : Relation) (x y : Operand) → Stands e x → Stands e y → Gives (Stands e) (related p w relation x y)
@@ -314,4 +314,4 @@ module _ (e : Setting) (order : IsOrder e) where
     t_related (TheRelation.Is i) x y h k = breaks (Stands e) 31 (place p i)
 
     pub t_as_factor : (at : ℕ) (x : Operand) → Stands e x → Gives (Stands e) (as_factor p w at x)
-    t_as_factor at x h = by_rule 31 at (not (is_nothing p w x.shape)) (λ a. by_rule 32 at (not w.constant || is_constant x) (λ b. keeps (Stands e) x h))
+    t_as_factor at x h = by_rule 31 at (not (is_nothing x.shape)) (λ a. by_rule 32 at (not w.constant || is_constant x) (λ b. keeps (Stands e) x h))

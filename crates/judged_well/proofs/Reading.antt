@@ -31,17 +31,17 @@ drop_short (suc n) [] = omega arith
 drop_short (suc n) (x ∷ xs) = let h = drop_short n xs in omega (arith, h)
 
 module _ (p : Source) (read : IsRead p) where
-  pub int_small : (w : World) (i : ℕ) → int_of p w (symbol_at p i).kind < 2 ^ 64
+  pub int_small : (w : World) (i : ℕ) → int_of (symbol_at p i).kind < 2 ^ 64
   int_small w i = by (symbol_at p i).kind refl
     where
-      by : (k : Kind) → (symbol_at p i).kind ≡ k → int_of p w k < 2 ^ 64
+      by : (k : Kind) → (symbol_at p i).kind ≡ k → int_of k < 2 ^ 64
       by (TheKind.Int z) is = read.numbers i z is
       by _ is = omega arith
 
-  pub char_small : (w : World) (i : ℕ) → char_of p w (symbol_at p i).kind < 256
+  pub char_small : (w : World) (i : ℕ) → char_of (symbol_at p i).kind < 256
   char_small w i = by (symbol_at p i).kind refl
     where
-      by : (k : Kind) → (symbol_at p i).kind ≡ k → char_of p w k < 256
+      by : (k : Kind) → (symbol_at p i).kind ≡ k → char_of k < 256
       by (TheKind.Char n) is = read.chars i n is
       by _ is = omega arith
 

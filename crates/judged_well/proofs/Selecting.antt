@@ -1,9 +1,9 @@
 -- Parts of operands: fields, elements, what pointers point to, guards and type tests.
-use Rattle.std.proofs.Common.{◌≡◌, ℕ, ◌^◌, List, Bool, true, false, ◌&&◌, ◌||◌, Option, Some, None, refl, sym, ap, ap₂, ◌∙◌, subst}
+use Rattle.std.proofs.Common.{◌≡◌, ℕ, ◌^◌, Bool, true, false, ◌&&◌, ◌||◌, Option, Some, None, refl, sym, ap, ap₂, ◌∙◌, subst}
 use Rattle.std.specs.Prelude.{if◌then◌else◌, nat_eq, nat_lt, is_some, option_map, slice_get}
 use Rattle.ob_types.specs.WellFormed.{provided, holds_of, with_some}
 use Rattle.ob_types.proofs.Tests.{no, none_some, some_same, and_of}
-use Rattle.ob_judge.specs.Shapes.{Shape, Boolean, Array, Open, Record, Pointer, Layout, Field as FieldOf, target_of, extends, is_pointer, is_number, element_of, length_in}
+use Rattle.ob_judge.specs.Shapes.{Shape, Boolean, Array, Open, Record, Pointer, Field as FieldOf, target_of, extends, is_pointer, is_number, element_of, length_in}
 use Rattle.ob_judge.specs.Image.{Expr, Guard, Place, Index, Field, Dereference, Narrow}
 use Rattle.ob_judge.specs.Scopes.{World, Source, place, spelled}
 use Rattle.ob_judge.specs.Operands.{What, Named as ThePlace, Valued, Use, AsVariable, AsConstant, AsValue, Operand, operand, value, place_in, place_of, is_read_only, is_tagged, length_of, length_by, designator_of}
@@ -12,7 +12,7 @@ use Rattle.ob_judge.specs.Parts.{part_of, followed, record_of, fields_of, field,
 use Rattle.judged_well.specs.Forms.{Form, ToRecord, Truth, Named, Of, Dynamic, is_writable, is_dynamic, gives_number, gives_pointer, pointed}
 use Rattle.judged_well.specs.Setting.{Setting, IsOrder}
 use Rattle.judged_well.specs.Typing.{outline, form, named, designated, pointer, named_record, has_record, array_of}
-use Rattle.judged_well.specs.Standing.{is_whole, Fits, as_whole, as_record, Claims, StandsAs, Stands, IsBegun, IsUsed, FollowsAs, FollowsTo, near_for, value_form, good, FieldStands, fields_in, Right}
+use Rattle.judged_well.specs.Standing.{is_whole, Fits, as_whole, as_record, Claims, StandsAs, Stands, IsBegun, IsUsed, FollowsAs, FollowsTo, near_for, value_form, good, FieldStands, Right}
 use Rattle.judged_well.specs.Gives.{Gives}
 use Rattle.judged_well.proofs.Judging.{keeps, by_rule, by_some}
 use Rattle.judged_well.proofs.Values.{value_as, near_pointer}
@@ -42,11 +42,11 @@ module _ (e : Setting) (order : IsOrder e) (p : Source) (w : World) (right : Rig
       by (Pointer n) i h = exact (e.target n) (pointer e (outline e) (form_of x)) h (right.targets n r i)
       by _ i h = none_some r i
 
-  pub t_followed : (x : Operand) → IsBegun e x → (r : ℕ) → target_of w.known x.shape ≡ Some r → IsBegun e (followed p w x r)
+  pub t_followed : (x : Operand) → IsBegun e x → (r : ℕ) → target_of w.known x.shape ≡ Some r → IsBegun e (followed x r)
   t_followed x b r is = place_begun (Record r) (Dereference (form_of x)) false false false (Dynamic r) (pointer_to x b r is) (as_record r) refl (λ h. refl) (λ h. refl)
 
   pub t_target : (at : ℕ) (x : Operand) → IsBegun e x → Gives (IsBegun e) (target p w at x)
-  t_target at x b = by_some 31 at (target_of w.known x.shape) (λ r is. keeps (IsBegun e) (followed p w x r) (t_followed x b r is))
+  t_target at x b = by_some 31 at (target_of w.known x.shape) (λ r is. keeps (IsBegun e) (followed x r) (t_followed x b r is))
 
   -- ---- fields
 
@@ -68,13 +68,13 @@ module _ (e : Setting) (order : IsOrder e) (p : Source) (w : World) (right : Rig
   t_record : (x : Operand) → IsBegun e x → (r : ℕ × Operand) → record_of p w x ≡ Some r → IsRecord r
   t_record x b r is = by x.shape refl is
     where
-      through : (o : Option ℕ) → target_of w.known x.shape ≡ o → elim o as (λ _. Option (ℕ × Operand)) [ Some k ↦ Some (k, followed p w x k) | None ↦ None ] ≡ Some r → IsRecord r
+      through : (o : Option ℕ) → target_of w.known x.shape ≡ o → elim o as (λ _. Option (ℕ × Operand)) [ Some k ↦ Some (k, followed x k) | None ↦ None ] ≡ Some r → IsRecord r
       through None i h = none_some r h
-      through (Some k) i h = subst IsRecord (some_same (k, followed p w x k) r h) (Dynamic k, pointer_to x b k i, refl, λ z. refl)
+      through (Some k) i h = subst IsRecord (some_same (k, followed x k) r h) (Dynamic k, pointer_to x b k i, refl, λ z. refl)
 
       by : (s : Shape) → x.shape ≡ s → elim s as (λ _. Option (ℕ × Operand)) [
         | Record n ↦ Some (n, x)
-        | Pointer n ↦ elim (target_of w.known (Pointer n)) as (λ _. Option (ℕ × Operand)) [ Some k ↦ Some (k, followed p w x k) | None ↦ None ]
+        | Pointer n ↦ elim (target_of w.known (Pointer n)) as (λ _. Option (ℕ × Operand)) [ Some k ↦ Some (k, followed x k) | None ↦ None ]
         | other ↦ None
       ] ≡ Some r → IsRecord r
       by (Record n) i h = subst IsRecord (some_same (n, x) r h) (whole_record x b n i)
@@ -87,17 +87,13 @@ module _ (e : Setting) (order : IsOrder e) (p : Source) (w : World) (right : Rig
       ap (λ o. with_some o (λ t. provided (has_record e f.adder t) (option_map (λ s. Of s (is_writable t)) (e.field f.adder f.number)))) is
       ∙ ap₂ (λ b o. provided b (option_map (λ s. Of s (is_writable n)) o)) (ap (λ o. holds_of (λ s. e.extends s f.adder) o) owner ∙ stands.of) stands.there
 
-  fields_are : (o : Option Layout) (name : List ℕ) → fields_of p w o name ≡ fields_in e o name
-  fields_are None name = refl
-  fields_are (Some l) name = refl
-
   pub t_field : (at i : ℕ) (x : Operand) → IsBegun e x → Gives (IsBegun e) (field p w at i x)
   t_field at i x b = by_some 31 at (record_of p w x) (λ r is.
-      by_some 30 (place p i) (fields_of p w (slice_get w.known.records r.0) (spelled p i)) (λ f found.
+      by_some 30 (place p i) (fields_of (slice_get w.known.records r.0) (spelled p i)) (λ f found.
       by_rule 34 (place p i) (f.exported || nat_eq f.owner w.module_number) (λ seen.
-      keeps (IsBegun e) (part_of p w r.1 f.shape (Field (place_of r.1) f.adder f.number))
+      keeps (IsBegun e) (part_of r.1 f.shape (Field (place_of r.1) f.adder f.number))
       (let h = t_record x b r is in
-      let stands = right.fields r.0 (spelled p i) f (sym (fields_are (slice_get w.known.records r.0) (spelled p i)) ∙ found) in
+      let stands = right.fields r.0 (spelled p i) f found in
       place_begun f.shape (Field (place_of r.1) f.adder f.number) (is_read_only r.1) false false (Of f.shape (is_writable h.0)) (field_named h.0 (place_of r.1) r.0 f h.1 h.2 stands) (as_whole f.shape (is_writable h.0) stands.whole) stands.good h.3 (λ z. no z)))))
 
   -- ---- elements
@@ -134,10 +130,10 @@ module _ (e : Setting) (order : IsOrder e) (p : Source) (w : World) (right : Rig
           at (Open c) i refl None refl (λ ok n f. subst (λ k. array_of k None n ≡ true) same (fits_open e order n c f)) (subst (λ k. good e k ≡ true) same parts.1) (subst (λ k. is_whole k ≡ true) same parts.0)
       by _ i h = none_some a h
 
-  pub t_element : (at at_index : ℕ) (x i : Operand) → IsBegun e x → Stands e i → Gives (IsBegun e) (element p w at at_index x i)
+  pub t_element : (at at_index : ℕ) (x i : Operand) → IsBegun e x → Stands e i → Gives (IsBegun e) (element at at_index x i)
   t_element at at_index x i b c = by_some 31 at (element_of x.shape) (λ a is.
       by_rule 31 at_index (is_number i.shape) (λ number.
-      keeps (IsBegun e) (part_of p w x a (Index (place_of x) (length_of x) a (form_of i)))
+      keeps (IsBegun e) (part_of x a (Index (place_of x) (length_of x) a (form_of i)))
       (let h = t_array x b a is in
       place_begun a (Index (place_of x) (length_of x) a (form_of i)) (is_read_only x) false false (Of a (is_writable h.0)) (element_named h.0 (place_of x) a (length_of x) (form_of i) h.1 h.2 (number_of e order i.shape i.use_ i.what c.does number)) (as_whole a (is_writable h.0) h.5) h.4 h.3 (λ z. no z))))
 
@@ -227,19 +223,19 @@ module _ (e : Setting) (order : IsOrder e) (p : Source) (w : World) (right : Rig
   narrow_named : (x : Operand) → IsTagged x → (r : ℕ) → e.is_record r ≡ true → named e (outline e) (Narrow (place_of x) r) ≡ Some (Dynamic r)
   narrow_named x h r there = ap (λ c. provided c (provided (holds_of is_dynamic (named e (outline e) (place_of x))) (Some (Dynamic r)))) there ∙ ap (λ o. provided (holds_of is_dynamic o) (Some (Dynamic r))) h.1 ∙ ap (λ c. provided c (Some (Dynamic r))) h.3
 
-  t_guard_of : (x : Operand) → IsBegun e x → (t : Shape) (r : ℕ) → IsAsked x t r → IsBegun e (guard_of p w x t r)
+  t_guard_of : (x : Operand) → IsBegun e x → (t : Shape) (r : ℕ) → IsAsked x t r → IsBegun e (guard_of x t r)
   t_guard_of x b (Pointer n) r h = t_guard x b h.0 n r h.1 AsValue refl (guard_value x b.stands h.0 n r h.1, tt)
   t_guard_of x b (Record n) r h = place_begun (Record n) (Narrow (place_of x) r) false true false (Dynamic r) (narrow_named x h.0 r h.2) (subst (λ k. Fits (Dynamic r) (Record k)) (sym h.1) (as_record r)) refl (λ z. refl) (λ z. refl)
   t_guard_of x b _ r h = absurd h
 
   pub t_guarded : (at : ℕ) (x : Operand) (t : Shape) → IsBegun e x → Gives (IsBegun e) (guarded p w at x t)
-  t_guarded at x t b = by_some 31 at (tested_tag p w x t) (λ r is. keeps (IsBegun e) (guard_of p w x t r) (t_guard_of x b t r (t_asked x b.stands t r is)))
+  t_guarded at x t b = by_some 31 at (tested_tag p w x t) (λ r is. keeps (IsBegun e) (guard_of x t r) (t_guard_of x b t r (t_asked x b.stands t r is)))
 
-  t_test_of : (x : Operand) → Stands e x → (t : Shape) (r : ℕ) → IsAsked x t r → form e (outline e) (test_of p w x t r) ≡ Some Truth
+  t_test_of : (x : Operand) → Stands e x → (t : Shape) (r : ℕ) → IsAsked x t r → form e (outline e) (test_of x t r) ≡ Some Truth
   t_test_of x b (Pointer n) r h = ap₂ (λ c d. provided c (provided d (Some Truth))) (order.there n r h.1) (pointer_value x b h.0)
   t_test_of x b (Record n) r h = ap₂ (λ c o. provided c (provided (holds_of is_dynamic o) (Some Truth))) h.2 (h.0).2 ∙ ap (λ c. provided c (Some Truth)) (h.0).3
   t_test_of x b _ r h = absurd h
 
   pub t_tested : (at : ℕ) (x : Operand) (t : Shape) → Stands e x → Gives (Stands e) (tested p w at x t)
-  t_tested at x t b = by_some 31 at (tested_tag p w x t) (λ r is. keeps (Stands e) (value Boolean (test_of p w x t r))
+  t_tested at x t b = by_some 31 at (tested_tag p w x t) (λ r is. keeps (Stands e) (value Boolean (test_of x t r))
       (record { does = (ap (λ o. near_for e o (Some Truth)) (t_test_of x b t r (t_asked x b t r is)), tt); good = refl }))

@@ -30,16 +30,16 @@ module _ (e : Setting) (order : IsOrder e) (p : Source) (w : World) (right : Rig
   -- ---- an expression that is the name of a variable
 
   abbrev pub IsRead : ℕ → Operand → Type 0
-  IsRead name y = (v : Variable) → entry_object p (look_up (spelled p name) w.levels) ≡ Some (AVariable v) → VariableStands e v × (is_own e w.module_number v.place ≡ true) × (y ≡ variable_read p w v)
+  IsRead name y = (v : Variable) → entry_object (look_up (spelled p name) w.levels) ≡ Some (AVariable v) → VariableStands e v × (is_own e w.module_number v.place ≡ true) × (y ≡ variable_read p w v)
 
   abbrev Found : ℕ → Object → Type 0
-  Found name o = (v : Variable) → entry_object p (look_up (spelled p name) w.levels) ≡ Some (AVariable v) → (o ≡ AVariable v) × VariableStands e v × (is_own e w.module_number v.place ≡ true)
+  Found name o = (v : Variable) → entry_object (look_up (spelled p name) w.levels) ≡ Some (AVariable v) → (o ≡ AVariable v) × VariableStands e v × (is_own e w.module_number v.place ≡ true)
 
   named_found : (name : ℕ) → Gives (Found name) (named p w name)
   named_found name = by_some 30 (place p name) (look_up (spelled p name) w.levels) (λ x is.
       by_rule 34 (place p name) (is_visible w.procedure x.object) (λ seen.
       keeps (Found name) x.object (λ v at.
-      let same = some_same x.object (AVariable v) (ap (λ o. entry_object p o) (sym is) ∙ at) in
+      let same = some_same x.object (AVariable v) (ap (λ o. entry_object o) (sym is) ∙ at) in
       let h = right.names (spelled p name) x is seen in
       (same, subst (λ o. ObjectStands e o) same h.0, subst (λ o. IsOwn e w o) same h.1))))
 
@@ -55,7 +55,7 @@ module _ (e : Setting) (order : IsOrder e) (p : Source) (w : World) (right : Rig
 
   factor_found : (name : ℕ) → Gives (IsRead name) (factor p w (S.Designated name S.no_selector))
   factor_found name = and_then (named_found name) (λ o h. and_then (finished_found name (place p name) o h) (λ x k.
-      by_rule 31 (place p name) (not (is_nothing p w x.shape)) (λ a. by_rule 32 (place p name) (not w.constant || is_constant x) (λ b. keeps (IsRead name) x k))))
+      by_rule 31 (place p name) (not (is_nothing x.shape)) (λ a. by_rule 32 (place p name) (not w.constant || is_constant x) (λ b. keeps (IsRead name) x k))))
 
   abbrev IsBare : Option (ℕ × Option ℕ) → Operand → Type 0
   IsBare (Some q) y = elim (q.1) as (λ _. Type 0) [ None ↦ IsRead q.0 y | Some i ↦ Unit {0} ]
@@ -108,7 +108,7 @@ module _ (e : Setting) (order : IsOrder e) (p : Source) (w : World) (right : Rig
   record_there tag r u (to_record k h) = (tag, refl)
 
   kind_of_read : (x : Operand) (m : Named) (s : Shape) → x.shape ≡ s → (is_pointer s ≡ false → (is_dynamic m ≡ true) × (is_tagged x ≡ true)) → Fits m s → (o : Option Narrowing) → ((n : Narrowing) → o ≡ Some n → NarrowsTo e n.tag m n.shape)
-      → Kind m (narrowed_to p w x (is_pointer s) o)
+      → Kind m (narrowed_to x (is_pointer s) o)
   kind_of_read x m s i d (as_whole (Pointer k) c h) None to = (k, i)
   kind_of_read x m s i d (as_whole (Pointer k) c h) (Some n) to = pointer_there n.tag k c n.shape (to n refl)
   kind_of_read x m s i d (as_record r) None to = (r, i, (d refl).1)
@@ -137,29 +137,29 @@ module _ (e : Setting) (order : IsOrder e) (p : Source) (w : World) (right : Rig
 
   read_case : (v : Variable) → (h : VariableStands e v) → (is_pointer v.shape || is_tagged_home v.home) ≡ true → (y : Operand) → y ≡ variable_read p w v → IsBegun e y → IsCase y h.names y.shape
   read_case v h c y is b = case_of_kind h.names y b (subst (λ z. Kind h.names z) (sym is)
-      (kind_of_read (whole_variable w v) h.names v.shape refl (tagged_variable v h c) h.fits (narrowing_of p w v.place w.narrowed)
+      (kind_of_read (whole_variable w v) h.names v.shape refl (tagged_variable v h c) h.fits (narrowing_of v.place w.narrowed)
       (λ n at. let k = right.narrowed v.place n at in subst (λ m. NarrowsTo e n.tag m n.shape) (some_same k.names h.names (sym k.are ∙ h.are)) k.to)))
 
   t_typed : (v : Variable) → VariableStands e v → is_own e w.module_number v.place ≡ true → (is_pointer v.shape || is_tagged_home v.home) ≡ true → (y : Operand) → y ≡ variable_read p w v → IsTyped y v.place y.shape
   t_typed v h own c y is = record { is = refl; names_it = h.names; are = h.are; own = own; case = read_case v h c y is (subst (λ z. IsBegun e z) (sym is) (t_variable_read e order p w right v h)) }
 
-  on_value : (x : Operand) (s : SelectorOf) → on_values p x.shape ≡ Some s → IsSelector x s
+  on_value : (x : Operand) (s : SelectorOf) → on_values x.shape ≡ Some s → IsSelector x s
   on_value x s is = by x.shape refl is
     where
       number : (u : Shape) → x.shape ≡ u → is_number u ≡ true → Some OnInteger ≡ Some s → IsSelector x s
       number u i n h = subst (IsSelector x) (some_same OnInteger s h) (ap is_number i ∙ n)
 
-      by : (u : Shape) → x.shape ≡ u → on_values p u ≡ Some s → IsSelector x s
+      by : (u : Shape) → x.shape ≡ u → on_values u ≡ Some s → IsSelector x s
       by Integer i h = number Integer i refl h
       by Byte i h = number Byte i refl h
       by Char i h = subst (IsSelector x) (some_same OnChar s h) i
       by _ i h = none_some s h
 
-  chosen : (x : Operand) (o : Option Place) (s : SelectorOf) → ((d : Place) → o ≡ Some d → IsTyped x d x.shape) → selector_of p o x.shape ≡ Some s → IsSelector x s
+  chosen : (x : Operand) (o : Option Place) (s : SelectorOf) → ((d : Place) → o ≡ Some d → IsTyped x d x.shape) → selector_of o x.shape ≡ Some s → IsSelector x s
   chosen x (Some d) s typed is = subst (IsSelector x) (some_same (OnType d x.shape) s is) (typed d refl)
   chosen x None s typed is = on_value x s is
 
-  from_object : (x : Operand) (o : Option Object) → ((v : Variable) → o ≡ Some (AVariable v) → VariableStands e v × (is_own e w.module_number v.place ≡ true) × (x ≡ variable_read p w v)) → (d : Place) → case_variable p o ≡ Some d → IsTyped x d x.shape
+  from_object : (x : Operand) (o : Option Object) → ((v : Variable) → o ≡ Some (AVariable v) → VariableStands e v × (is_own e w.module_number v.place ≡ true) × (x ≡ variable_read p w v)) → (d : Place) → case_variable o ≡ Some d → IsTyped x d x.shape
   from_object x (Some (AVariable v)) h d is = by (is_pointer v.shape || is_tagged_home v.home) refl is
     where
       by : (c : Bool) → (is_pointer v.shape || is_tagged_home v.home) ≡ c → (if c then Some v.place else None) ≡ Some d → IsTyped x d x.shape
@@ -169,12 +169,12 @@ module _ (e : Setting) (order : IsOrder e) (p : Source) (w : World) (right : Rig
   from_object x (Some _) h d is = none_some d is
   from_object x None h d is = none_some d is
 
-  selected_by : (q : Option (ℕ × Option ℕ)) (x : Operand) → IsBare q x → (s : SelectorOf) → selector_of p (case_variable p (named_alone p w q)) x.shape ≡ Some s → IsSelector x s
+  selected_by : (q : Option (ℕ × Option ℕ)) (x : Operand) → IsBare q x → (s : SelectorOf) → selector_of (case_variable (named_alone p w q)) x.shape ≡ Some s → IsSelector x s
   selected_by None x h s is = on_value x s is
   selected_by (Some (name, Some i)) x h s is = on_value x s is
-  selected_by (Some (name, None)) x h s is = chosen x (case_variable p (entry_object p (look_up (spelled p name) w.levels))) s (from_object x (entry_object p (look_up (spelled p name) w.levels)) h) is
+  selected_by (Some (name, None)) x h s is = chosen x (case_variable (entry_object (look_up (spelled p name) w.levels))) s (from_object x (entry_object (look_up (spelled p name) w.levels)) h) is
 
-  pub t_selector : (x : S.Expression) → Gives (λ y. (s : SelectorOf) → selector_of p (case_variable p (named_alone p w (bare x))) y.shape ≡ Some s → IsSelector y s) (expression p w x)
+  pub t_selector : (x : S.Expression) → Gives (λ y. (s : SelectorOf) → selector_of (case_variable (named_alone p w (bare x))) y.shape ≡ Some s → IsSelector y s) (expression p w x)
   t_selector x = weaken (t_bare x) (λ y h s is. selected_by (bare x) y h s is)
 
   -- ---- labels of types
@@ -183,15 +183,15 @@ module _ (e : Setting) (order : IsOrder e) (p : Source) (w : World) (right : Rig
   Extends s t = extends w.known t s ≡ true
 
   t_type_label : (s : Shape) (first : Bool) (r : Range) → Gives (Extends s) (type_label p w s first r)
-  t_type_label s first r = and_then (anything (label_object p w r.low)) (λ o z. by_some 39 (place p (label_symbol p r.low)) (label_type p o) (λ t is.
-      by_rule 39 (place p (label_symbol p r.low)) (extends w.known t s) (λ h. by_unit (no_high p w (place p (label_symbol p r.low)) r.high) (by_rule 39 (place p (label_symbol p r.low)) first (λ one. keeps (Extends s) t h)))))
+  t_type_label s first r = and_then (anything (label_object p w r.low)) (λ o z. by_some 39 (place p (label_symbol r.low)) (label_type o) (λ t is.
+      by_rule 39 (place p (label_symbol r.low)) (extends w.known t s) (λ h. by_unit (no_high p w (place p (label_symbol r.low)) r.high) (by_rule 39 (place p (label_symbol r.low)) first (λ one. keeps (Extends s) t h)))))
 
   pub t_type_labels : (s : Shape) (first : Range) (more : List NextRange) → Gives (Extends s) (type_labels p w s first more)
   t_type_labels s first [] = t_type_label s true first
   t_type_labels s first (r ∷ rs) = and_then (anything (type_label p w s true first)) (λ t z. t_type_label s false r.range)
 
   -- and the guard in such a part
-  pub t_narrows : (x : Operand) (n : Named) (s t : Shape) → IsCase x n s → extends w.known t s ≡ true → NarrowsTo e (tag_of p w.known t) n t
+  pub t_narrows : (x : Operand) (n : Named) (s t : Shape) → IsCase x n s → extends w.known t s ≡ true → NarrowsTo e (tag_of w.known t) n t
   t_narrows x n s (Pointer m) (of_pointer k j c) h = by (base_of (slice_get w.known.bases m)) refl h
     where
       by : (o : Option ℕ) → base_of (slice_get w.known.bases m) ≡ o → based_on w.known o (target_of w.known (Pointer j)) ≡ true → NarrowsTo e (elim o as (λ _. ℕ) [ Some r ↦ r | None ↦ 0 ]) (Of (Pointer k) c) (Pointer m)

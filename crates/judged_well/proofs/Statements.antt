@@ -54,13 +54,13 @@ module _ (e : Setting) (order : IsOrder e) (p : Source) (read : IsRead p) where
 
   -- ---- the selector of a CASE
 
-  value_case : (w : World) → (right : Right e p w) → (x : Operand) → Stands e x → (s : SelectorOf) → IsSelector e order p w right x s → (parts : Parts) → AreParts parts → fine e (outline e) (case_of p s x parts) ≡ true
+  value_case : (w : World) → (right : Right e p w) → (x : Operand) → Stands e x → (s : SelectorOf) → IsSelector e order p w right x s → (parts : Parts) → AreParts parts → fine e (outline e) (case_of s x parts) ≡ true
   value_case w right x h OnInteger i parts k = and_from (gives_number (checked_form e (outline e) (checked x))) (fine_parts e (outline e) parts) (number_checked e order p read w right x h i) k
   value_case w right x h OnChar i parts k = and_from (gives_number (checked_form e (outline e) (checked x))) (fine_parts e (outline e) parts)
       (ap gives_number (checked_is e order x h (ap is_plain i)) ∙ char_value e order p w right x h (ap is_char i)) k
   value_case w right x h (OnType d s) i parts k = by i.names_it s i.case i.is
     where
-      by : (n : Named) (s : Shape) → IsCase e order p w right x n s → x.shape ≡ s → fine e (outline e) (case_of p (OnType d s) x parts) ≡ true
+      by : (n : Named) (s : Shape) → IsCase e order p w right x n s → x.shape ≡ s → fine e (outline e) (case_of (OnType d s) x parts) ≡ true
       by n s (of_pointer m j c) is = and_from (gives_pointer (checked_form e (outline e) (checked x))) (fine_parts e (outline e) parts)
           (ap gives_pointer (checked_is e order x h (ap is_plain is)) ∙ pointers e order p w right x h j is) k
       by n s (of_record r m q a b) is = and_from (holds_of is_dynamic (designated e (outline e) (designator_of x))) (fine_parts e (outline e) parts) (ap (holds_of is_dynamic) a ∙ b) k
@@ -78,8 +78,8 @@ module _ (e : Setting) (order : IsOrder e) (p : Source) (read : IsRead p) where
   t_when w right x OnChar i taken first more = and_then (t_ranges e order p read w right true (as_list first more) taken) (λ y h. keeps IsWhen (Labels y.labels, w, y.taken) (h, right))
   t_when w right x (OnType d s) i taken first more = and_then (t_type_labels e order p w right s first more) (λ t h.
       let to = t_narrows e order p w right x i.names_it s t i.case h in
-      keeps IsWhen (Extends (tag_of p w.known t), narrow p w d t, taken)
-      (narrowing_there (tag_of p w.known t) i.names_it t to, right_narrow p e w right d t i.names_it i.are to i.own))
+      keeps IsWhen (Extends (tag_of w.known t), narrow w d t, taken)
+      (narrowing_there (tag_of w.known t) i.names_it t to, right_narrow p e w right d t i.names_it i.are to i.own))
 
   one_branch : (g : Checked) (b : Statements) (more : Branches) → gives_number (checked_form e (outline e) g) ≡ true → IsFineAll b → AreBranches more → AreBranches (next_branch g b more)
   one_branch g b more h k l = and_from (gives_number (checked_form e (outline e) g)) (fine_all e (outline e) b && fine_branches e (outline e) more) h (and_from (fine_all e (outline e) b) (fine_branches e (outline e) more) k l)
@@ -103,10 +103,10 @@ module _ (e : Setting) (order : IsOrder e) (p : Source) (read : IsRead p) where
         put (If (next_branch g b more) c) (and_from (fine_branches e (outline e) (next_branch g b more)) (fine_all e (outline e) c) (one_branch g b more h k l) m)))))
     t_statement w right (S.Case case_word selector of_word first more end_word) =
         and_then (gives_both (t_expression e order p read w right selector) (t_selector e order p w right selector)) (λ x h.
-        by_some 31 (place p (expression_first selector)) (selector_of p (case_variable p (named_alone p w (bare selector))) x.shape) (λ s is.
+        by_some 31 (place p (expression_first selector)) (selector_of (case_variable (named_alone p w (bare selector))) x.shape) (λ s is.
         let i = h.1 s is in
         and_then (t_case_part w right x s i [] first) (λ one k. and_then (t_next_cases w right x s i one.1 more) (λ rest l.
-        put (case_of p s x (one.0 rest)) (value_case w right x h.0 s i (one.0 rest) (k rest l))))))
+        put (case_of s x (one.0 rest)) (value_case w right x h.0 s i (one.0 rest) (k rest l))))))
     t_statement w right (S.While while_word guard do_word body elsifs end_word) =
         and_then (t_condition e order p read w right guard) (λ g h. and_then (t_statements w right body) (λ b k. and_then (t_branches w right elsifs) (λ more l.
         put (While (next_branch g b more)) (one_branch g b more h k l))))
@@ -115,7 +115,7 @@ module _ (e : Setting) (order : IsOrder e) (p : Source) (read : IsRead p) where
         put (Repeat b g) (and_from (fine_all e (outline e) b) (gives_number (checked_form e (outline e) g)) k h)))
     t_statement w right (S.For for_word variable becomes from to_word to by_ do_word body end_word) =
         and_then (t_named_own e order p w right variable) (λ o h. and_then (t_expression e order p read w right from) (λ x k.
-        by_some 31 (place p variable) (integer_variable p w o) (λ d is.
+        by_some 31 (place p variable) (integer_variable w o) (λ d is.
         by_rule 31 (place p (expression_first from)) (is_number x.shape) (λ n.
         and_then (t_number e order p read w right to) (λ y l. and_then (t_step e order p read w right by_) (λ step z. and_then (t_statements w right body) (λ b m.
         put (For d (checked x) y step b) (for_fine d (checked x) y step b z (integer_base e order p read w right o h.1 d is) (t_integer_variable e order p read w right o h.0 d is) (number_checked e order p read w right x k n) l m))))))))

@@ -37,7 +37,7 @@ module _ (e : Setting) (order : IsOrder e) (p : Source) (read : IsRead p) (w : W
   abbrev Staged : Stage → Type 0
   Staged = StageStands e
 
-  a_literal : (s : Shape) (n : ℕ) → Stands e (value s (Literal n)) → Gives Holds (literal p w s n)
+  a_literal : (s : Shape) (n : ℕ) → Stands e (value s (Literal n)) → Gives Holds (literal s n)
   a_literal s n h = keeps Holds (value s (Literal n)) h
 
   -- in parentheses
@@ -75,11 +75,11 @@ module _ (e : Setting) (order : IsOrder e) (p : Source) (read : IsRead p) (w : W
 
   -- a guard, or the arguments of a call
   parens : (at : ℕ) (stage : Stage) → StageStands e stage → (list : S.Expressions) → Gives (AllStand e order p w right) (arguments p w list)
-      → Gives Staged (begun p w at stage >>= λ x. elim (guard_name p w x (bare_list list)) as (λ _. Judged Stage) [
+      → Gives Staged (begun p w at stage >>= λ x. elim (guard_name x (bare_list list)) as (λ _. Judged Stage) [
         | Some q ↦ type_named p w 31 q.0 q.1 >>= λ t. guarded p w at x t >>= λ y. Keeps (Partly y)
         | None ↦ arguments p w list >>= λ xs. applied p w at x x.shape xs >>= λ y. Keeps (Ended y)
       ])
-  parens at stage h list walked = and_then (t_begun e order p w right at stage h) (λ x k. by x k (guard_name p w x (bare_list list)))
+  parens at stage h list walked = and_then (t_begun e order p w right at stage h) (λ x k. by x k (guard_name x (bare_list list)))
     where
       by : (x : Operand) → IsBegun e x → (q : Option (ℕ × Option ℕ)) → Gives Staged (elim q as (λ _. Judged Stage) [
         | Some q ↦ type_named p w 31 q.0 q.1 >>= λ t. guarded p w at x t >>= λ y. Keeps (Partly y)
@@ -115,9 +115,9 @@ module _ (e : Setting) (order : IsOrder e) (p : Source) (read : IsRead p) (w : W
     t_multiplied x h (S.multiplied operator f rest) = and_then (t_factor f) (λ y k. and_then (t_joined e order p w right (mul_operator operator) (place p (mul_symbol operator)) x y h k) (λ z l. t_multiplied z l rest))
 
     t_factor : (x : S.Factor) → Gives Holds (factor p w x)
-    t_factor (S.Int i) = a_literal Integer (int_of p w (symbol_at p i).kind) (valued e order Integer (Literal (int_of p w (symbol_at p i).kind)) (literal_number e (int_of p w (symbol_at p i).kind) (int_small p read w i)) refl)
+    t_factor (S.Int i) = a_literal Integer (int_of (symbol_at p i).kind) (valued e order Integer (Literal (int_of (symbol_at p i).kind)) (literal_number e (int_of (symbol_at p i).kind) (int_small p read w i)) refl)
     t_factor (S.Text i) = keeps Holds (operand (TextShape (length (characters p i))) (Chars (characters p i)) AsValue) (record { does = (refl, characters_are p read i, tt); good = refl })
-    t_factor (S.Char i) = a_literal Char (char_of p w (symbol_at p i).kind) (valued e order Char (Literal (char_of p w (symbol_at p i).kind)) (literal_small e (char_of p w (symbol_at p i).kind) (char_small p read w i)) refl)
+    t_factor (S.Char i) = a_literal Char (char_of (symbol_at p i).kind) (valued e order Char (Literal (char_of (symbol_at p i).kind)) (literal_small e (char_of (symbol_at p i).kind) (char_small p read w i)) refl)
     t_factor (S.Nil i) = a_literal Nil 0 (valued e order Nil (Literal 0) refl refl)
     t_factor (S.True i) = a_literal Boolean 1 (valued e order Boolean (Literal 1) refl refl)
     t_factor (S.False i) = a_literal Boolean 0 (valued e order Boolean (Literal 0) refl refl)

@@ -63,19 +63,19 @@ module _ (e : Setting) (order : IsOrder e) (p : Source) (read : IsRead p) (w : W
   abbrev Suits : Shape → Option CheckedImage → Type 0
   Suits result o = answer_suits e result o ≡ true
 
-  nothing_is : (s : Shape) → is_nothing p w s ≡ true → s ≡ Nothing
+  nothing_is : (s : Shape) → is_nothing s ≡ true → s ≡ Nothing
   nothing_is Nothing h = refl
   nothing_is _ h = no h
 
-  scalar_result : (s : Shape) → is_result s ≡ true → not (is_nothing p w s) ≡ true → (is_whole s ≡ true) × (is_scalar s ≡ true)
+  scalar_result : (s : Shape) → is_result s ≡ true → not (is_nothing s) ≡ true → (is_whole s ≡ true) × (is_scalar s ≡ true)
   scalar_result Nothing r h = no h
   scalar_result Integer r h = (refl, refl)
   scalar_result s r h = and_of (is_whole s) (is_scalar s) r
 
   pub t_answer : (result : Shape) → is_result result ≡ true → good e result ≡ true → (end_word : ℕ) (r : Option S.Returned) → Gives (Suits result) (answer p result end_word r w)
-  t_answer result k g end_word None = by_rule 41 (place p end_word) (is_nothing p w result) (λ h. keeps (Suits result) None (ap (λ s. answer_suits e s None) (nothing_is result h)))
+  t_answer result k g end_word None = by_rule 41 (place p end_word) (is_nothing result) (λ h. keeps (Suits result) None (ap (λ s. answer_suits e s None) (nothing_is result h)))
   t_answer result k g end_word (Some r) = and_then (t_expression e order p read w right r.value) (λ x h.
-      by_rule 41 (place p r.return_word) (not (is_nothing p w result)) (λ some.
+      by_rule 41 (place p r.return_word) (not (is_nothing result)) (λ some.
       by_rule 31 (place p (expression_first r.value)) (may_assign w.known result x) (λ m.
       let s = scalar_result result k some in
       keeps (Suits result) (Some (stored result x)) (t_stored_checked e order p w right result x h s.0 g s.1 (and_of (assignable w.known result x.shape) (not (is_local_code x.what)) m).0))))

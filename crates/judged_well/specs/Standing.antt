@@ -3,13 +3,15 @@ use Rattle.std.specs.Prelude.{◌≡◌, ◌<◌, ◌^◌, ◌+◌, ℕ, ℤ, su
 use Rattle.wrapping_numbers.specs.Numbers.{unsigned}
 use Rattle.ob_types.specs.Forms.{all}
 use Rattle.ob_symbol.specs.declared.symbol.Kind.TheVariants as TheKind
-use Rattle.ob_judge.specs.Shapes.{Shape, Integer, Boolean, Nil, Nothing, Array, Open, Record, Pointer, Procedure, Formals, none, one, is_scalar, Layout, Field as FieldOf, base_of, record_extends}
+use Rattle.ob_judge.specs.Shapes.{Shape, Integer, Boolean, Nil, Nothing, Array, Open, Record, Pointer, Procedure, Formals, none, one, is_scalar, Field as FieldOf, base_of, record_extends}
 use Rattle.ob_judge.specs.Shapes.{Text as TextShape}
 use Rattle.ob_judge.specs.Image.{Expr, Literal, Result, Place, Done, Global, Local, Parameter, Call, Constant, Bits}
 use Rattle.ob_judge.specs.Image.{Chars as TheChars}
 use Rattle.ob_judge.specs.Scopes.{Home, ReadOnly, Tagged, Variable, Imported, Object, AConstant, AType, AVariable, AProcedure, Entry, Narrowing, World, Source, look_up, is_visible, symbol_at}
 use Rattle.ob_judge.specs.Operands.{What, Named as ThePlace, Valued, Chars, Code, Proper, Use, AsVariable, Operand, is_narrowed, form as form_of}
 use Rattle.ob_judge.specs.Names.{Stage, Whole, Partly, Ended, names_of, narrowing_of}
+use Rattle.ob_judge.specs.Parts.{fields_of, is_procedure}
+use Rattle.ob_judge.specs.Assignments.{is_call}
 use Rattle.judged_well.specs.Forms.{Form, Zero, Small, ToRecord, Routines, Named, InDone, Of, OpenOf, Dynamic, is_writable, is_dynamic}
 use Rattle.judged_well.specs.Setting.{Setting}
 use Rattle.judged_well.specs.Typing.{suits, scalar, outline, form, named, pointer, call_suits, fine}
@@ -54,14 +56,6 @@ pub record IsRead (p : Source) : Type 0 where
   pub few : length p.bytes + 2 < 2 ^ 32
   pub numbers : (i : ℕ) (z : ℤ) → (symbol_at p i).kind ≡ TheKind.Int z → unsigned z < 2 ^ 64
   pub chars : (i n : ℕ) → (symbol_at p i).kind ≡ TheKind.Char n → n < 256
-
-abbrev pub is_procedure_shape : Shape → Bool
-is_procedure_shape (Procedure ps s) = true
-is_procedure_shape s = false
-
-abbrev pub is_call : What → Bool
-is_call (Valued (Result c)) = true
-is_call w = false
 
 -- what a place of this type names
 pub data Fits : Named → Shape → Type 0 where
@@ -151,7 +145,7 @@ module _ (e : Setting) where
   abbrev pub IsUsed : Shape → Use → What → Type 0
   IsUsed s (AsVariable r t n) (ThePlace d) = Unit {0}
   IsUsed s u (ThePlace d) = ⊥
-  IsUsed s u (Valued x) = is_procedure_shape s ≡ false
+  IsUsed s u (Valued x) = is_procedure s ≡ false
   IsUsed s u what = Unit {0}
 
   pub record IsBegun (x : Operand) : Type 0 where
@@ -161,7 +155,7 @@ module _ (e : Setting) where
 
   -- what is last: a call, or no procedure; it isn't narrowed
   abbrev pub IsLast : Operand → Type 0
-  IsLast x = ((is_call x.what || not (is_procedure_shape x.shape)) && not (is_narrowed x)) ≡ true
+  IsLast x = ((is_call x.what || not (is_procedure x.shape)) && not (is_narrowed x)) ≡ true
 
   abbrev pub ConstantStands : Constant → Type 0
   ConstantStands (Bits s n) = IsValue s (Literal n) × (good s ≡ true)
@@ -198,10 +192,6 @@ module _ (e : Setting) where
     pub are : named e (outline e) d ≡ Some names
     pub to : NarrowsTo n.tag names n.shape
 
-  abbrev pub fields_in : Option Layout → List ℕ → Option FieldOf
-  fields_in None name = None
-  fields_in (Some l) name = l.fields name
-
   -- a field of record type r
   pub record FieldStands (r : ℕ) (f : FieldOf) : Type 0 where
     pub there : e.field f.adder f.number ≡ Some f.shape
@@ -211,7 +201,7 @@ module _ (e : Setting) where
 
   -- what a name stands for isn't narrowed
   abbrev pub IsUnnarrowed : Source → World → Object → Type 0
-  IsUnnarrowed p w (AVariable v) = narrowing_of p w v.place w.narrowed ≡ None
+  IsUnnarrowed p w (AVariable v) = narrowing_of v.place w.narrowed ≡ None
   IsUnnarrowed p w o = Unit {0}
 
   -- a variable of this procedure or module, and one of another module
@@ -241,5 +231,5 @@ module _ (e : Setting) where
     pub extends : (a b : ℕ) → record_extends w.known a b ≡ true → e.extends a b ≡ true
     pub there : (a b : ℕ) → record_extends w.known a b ≡ true → e.is_record a ≡ true
     pub targets : (n r : ℕ) → base_of (slice_get w.known.bases n) ≡ Some r → e.target n ≡ Some r
-    pub fields : (r : ℕ) (name : List ℕ) (f : FieldOf) → fields_in (slice_get w.known.records r) name ≡ Some f → FieldStands r f
-    pub narrowed : (d : Place) (n : Narrowing) → narrowing_of p w d w.narrowed ≡ Some n → NarrowStands d n
+    pub fields : (r : ℕ) (name : List ℕ) (f : FieldOf) → fields_of (slice_get w.known.records r) name ≡ Some f → FieldStands r f
+    pub narrowed : (d : Place) (n : Narrowing) → narrowing_of d w.narrowed ≡ Some n → NarrowStands d n

@@ -13,24 +13,51 @@ use Rattle.ob_judge.specs.Symbols.{expression_first}
 use Rattle.ob_judge.specs.Names.{named, member}
 use Rattle.ob_judge.specs.Expressions.{expression, designator, constant}
 
+-- a variable that is the whole destination isn't read, so it isn't narrowed
+abbrev pub whole_object : World → Object → S.Selectors → Judged Operand → Judged Operand
+whole_object w (AVariable v) S.no_selector other = Keeps (whole_variable w v)
+whole_object w o selectors other = other
+
+abbrev pub assigned : Shape → Operand → Operand → Statement
+assigned (Array n a) x y = CopyArray (designator_of x) (designator_of y)
+assigned (Open a) x y = CopyArray (designator_of x) (designator_of y)
+assigned (Record r) x y = CopyRecord (designator_of x) (designator_of y)
+assigned s x y = Assign (designator_of x) (stored s y)
+
+abbrev pub called_alone : World → (at : ℕ) → Option Object → Judged Operand → Judged Operand
+called_alone w at (Some (AStandard s)) other = standard w at s []
+called_alone w at o other = other
+
+abbrev pub is_call : What → Bool
+is_call (Valued (Result c)) = true
+is_call w = false
+
+-- a procedure without a list is called without arguments
+abbrev pub called_bare : World → (at : ℕ) → Operand → Shape → Judged Operand
+called_bare w at x (Procedure ps result) = if is_call x.what then Keeps x else called w at x ps result []
+called_bare w at x s = Keeps x
+
+-- 31 at the designator unless it is a call without a result
+abbrev pub deed_of : (at : ℕ) → Shape → What → Judged Statement
+deed_of at Nothing (Proper d) = Keeps d
+deed_of at Nothing (Valued (Result c)) = Keeps (Invoke c)
+deed_of at s what = Breaks 31 at
+
+abbrev pub integer_variable : World → Object → Option Designator
+integer_variable w (AVariable v) = elim (v.shape) as (λ _. Option Designator) [ Integer ↦ Some (of_type v.place Integer) | other ↦ None ]
+integer_variable w o = None
+
+abbrev pub int_only : Constant → Option ℤ
+int_only (Bits Integer n) = Some (signed n)
+int_only c = None
+
 module _ (p : Source) where
   -- ---- assignments and calls
-
-  -- a variable that is the whole destination isn't read, so it isn't narrowed
-  abbrev pub whole_object : World → Object → S.Selectors → Judged Operand → Judged Operand
-  whole_object w (AVariable v) S.no_selector other = Keeps (whole_variable w v)
-  whole_object w o selectors other = other
 
   abbrev pub destination : World → S.Designator → Judged Operand
   destination w d = do
     o ← named p w d.name
     whole_object w o d.selectors (designator p w d)
-
-  abbrev pub assigned : Shape → Operand → Operand → Statement
-  assigned (Array n a) x y = CopyArray (designator_of x) (designator_of y)
-  assigned (Open a) x y = CopyArray (designator_of x) (designator_of y)
-  assigned (Record r) x y = CopyRecord (designator_of x) (designator_of y)
-  assigned s x y = Assign (designator_of x) (stored s y)
 
   -- designator, expression; then 31, 33 at the designator and 31 at the expression
   abbrev pub assignment : World → S.Designator → S.Expression → Judged Statement
@@ -49,25 +76,6 @@ module _ (p : Source) where
     o ← member p w m i
     Keeps (Some o)
   alone w o selectors = Keeps None
-
-  abbrev pub called_alone : World → (at : ℕ) → Option Object → Judged Operand → Judged Operand
-  called_alone w at (Some (AStandard s)) other = standard w at s []
-  called_alone w at o other = other
-
-  abbrev pub is_call : What → Bool
-  is_call (Valued (Result c)) = true
-  is_call w = false
-
-  -- a procedure without a list is called without arguments
-  abbrev pub called_bare : World → (at : ℕ) → Operand → Shape → Judged Operand
-  called_bare w at x (Procedure ps result) = if is_call x.what then Keeps x else called w at x ps result []
-  called_bare w at x s = Keeps x
-
-  -- 31 at the designator unless it is a call without a result
-  abbrev pub deed_of : (at : ℕ) → Shape → What → Judged Statement
-  deed_of at Nothing (Proper d) = Keeps d
-  deed_of at Nothing (Valued (Result c)) = Keeps (Invoke c)
-  deed_of at s what = Breaks 31 at
 
   abbrev pub call_statement : World → S.Designator → Judged Statement
   call_statement w d = do
@@ -95,14 +103,6 @@ module _ (p : Source) where
     x ← expression p w e
     rule 31 (place p (expression_first e)) (is_number x.shape)
     Keeps (checked x)
-
-  abbrev pub integer_variable : World → Object → Option Designator
-  integer_variable w (AVariable v) = elim (v.shape) as (λ _. Option Designator) [ Integer ↦ Some (of_type v.place Integer) | other ↦ None ]
-  integer_variable w o = None
-
-  abbrev pub int_only : Constant → Option ℤ
-  int_only (Bits Integer n) = Some (signed n)
-  int_only c = None
 
   -- 31, 35: a constant INTEGER that isn't 0
   abbrev pub step_of : World → Option S.By → Judged ℤ

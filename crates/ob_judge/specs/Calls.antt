@@ -64,6 +64,62 @@ written x = do
   rule 40 x.at (is_variable x.operand)
   rule 33 x.at (not (is_read_only x.operand))
 
+-- 40 at the call's designator: as many arguments as parameters
+abbrev pub is_count : Formals → List Given → Bool
+is_count none [] = true
+is_count (one v t ps) (x ∷ xs) = is_count ps xs
+is_count ps xs = false
+
+-- a declared procedure by its number, any other by its variable
+abbrev pub call_of : Operand → What → Arguments → Call
+call_of x (Code f l) bs = Direct f bs
+call_of x what bs = Indirect (designator_of x) bs
+
+abbrev pub number : Given → Judged Checked
+number x = do
+  rule 31 x.at (is_number x.operand.shape)
+  Keeps (checked x.operand)
+
+-- a function that a constant expression may have
+abbrev pub function : Shape → Expr → Judged Operand
+function s x = Keeps (operand s (Valued x) AsConstant)
+
+abbrev pub proper : Statement → Judged Operand
+proper d = Keeps (operand Nothing (Proper d) AsValue)
+
+abbrev pub shifted : Binary → Given → Given → Judged Operand
+shifted op x n = do
+  a ← number x
+  b ← number n
+  function Integer (operated op a.form b.form)
+
+-- INC and DEC
+abbrev pub changed : (Designator → Checked → Statement) → Given → Judged Checked → Judged Operand
+changed change v n = do
+  written v
+  _ ← number v
+  x ← n
+  proper (change (designator_of v.operand) x)
+
+-- INCL and EXCL
+abbrev pub set_changed : (Designator → Checked → Statement) → Given → Given → Judged Operand
+set_changed change v x = do
+  written v
+  rule 31 v.at (is_set v.operand.shape)
+  a ← number x
+  proper (change (designator_of v.operand) a)
+
+-- the amount where none is given
+abbrev pub by_one : Judged Checked
+by_one = Keeps (record { form = Literal 1; shape = Integer })
+
+abbrev pub may_order : Shape → Bool
+may_order s = is_char s || is_truth s || is_set s
+
+abbrev pub is_char_only : Shape → Bool
+is_char_only Char = true
+is_char_only s = false
+
 module _ (w : World) where
   -- one argument for its parameter
   abbrev pub bound : (is_var : Bool) → Shape → Given → Judged Argument
@@ -75,23 +131,12 @@ module _ (w : World) where
     rule 31 x.at (may_pass w.known t x.operand)
     Keeps (as_passed t x.operand)
 
-  -- 40 at the call's designator: as many arguments as parameters
-  abbrev pub is_count : Formals → List Given → Bool
-  is_count none [] = true
-  is_count (one v t ps) (x ∷ xs) = is_count ps xs
-  is_count ps xs = false
-
   abbrev pub all_bound : Formals → List Given → Judged Arguments
   all_bound (one v t ps) (x ∷ xs) = do
     a ← bound v t x
     bs ← all_bound ps xs
     Keeps (next_argument a bs)
   all_bound ps xs = Keeps no_argument
-
-  -- a declared procedure by its number, any other by its variable
-  abbrev pub call_of : Operand → What → Arguments → Call
-  call_of x (Code f l) bs = Direct f bs
-  call_of x what bs = Indirect (designator_of x) bs
 
   abbrev pub called : (at : ℕ) → Operand → Formals → Shape → List Given → Judged Operand
   called at x ps result xs = do
@@ -101,56 +146,11 @@ module _ (w : World) where
 
   -- ---- the standard procedures: 40 for any other number of arguments
 
-  abbrev pub number : Given → Judged Checked
-  number x = do
-    rule 31 x.at (is_number x.operand.shape)
-    Keeps (checked x.operand)
-
   -- as for a value parameter
   abbrev pub assigned_to : Shape → Given → Judged Checked
   assigned_to t x = do
     rule 31 x.at (may_assign w.known t x.operand)
     Keeps (stored t x.operand)
-
-  -- a function that a constant expression may have
-  abbrev pub function : Shape → Expr → Judged Operand
-  function s x = Keeps (operand s (Valued x) AsConstant)
-
-  abbrev pub proper : Statement → Judged Operand
-  proper d = Keeps (operand Nothing (Proper d) AsValue)
-
-  abbrev pub shifted : Binary → Given → Given → Judged Operand
-  shifted op x n = do
-    a ← number x
-    b ← number n
-    function Integer (operated op a.form b.form)
-
-  -- INC and DEC
-  abbrev pub changed : (Designator → Checked → Statement) → Given → Judged Checked → Judged Operand
-  changed change v n = do
-    written v
-    _ ← number v
-    x ← n
-    proper (change (designator_of v.operand) x)
-
-  -- INCL and EXCL
-  abbrev pub set_changed : (Designator → Checked → Statement) → Given → Given → Judged Operand
-  set_changed change v x = do
-    written v
-    rule 31 v.at (is_set v.operand.shape)
-    a ← number x
-    proper (change (designator_of v.operand) a)
-
-  -- the amount where none is given
-  abbrev pub by_one : Judged Checked
-  by_one = Keeps (record { form = Literal 1; shape = Integer })
-
-  abbrev pub may_order : Shape → Bool
-  may_order s = is_char s || is_truth s || is_set s
-
-  abbrev pub is_char_only : Shape → Bool
-  is_char_only Char = true
-  is_char_only s = false
 
   abbrev pub standard : (at : ℕ) → Standard → List Given → Judged Operand
   standard at Abs (x ∷ []) = do

@@ -35,33 +35,69 @@ pub data SelectorOf : Type 0 where
   OnInteger OnChar : SelectorOf
   OnType : (variable : Place) → (shape : Shape) → SelectorOf
 
+-- of INTEGER (false) or CHAR (true): a string of one character is a character
+abbrev pub label_in : (of_char : Bool) → Constant → Option ℤ
+label_in false (Bits Integer n) = Some (signed n)
+label_in true (Bits Char n) = Some (pos n)
+label_in true (Tree.Chars (c ∷ [])) = Some (pos c)
+label_in of_char c = None
+
+abbrev pub constant_only : Object → Option Constant
+constant_only (AConstant c) = Some c
+constant_only o = None
+
+abbrev pub label_symbol : Label → ℕ
+label_symbol (TheLabel.Int i) = i
+label_symbol (TheLabel.Char i) = i
+label_symbol (TheLabel.Text i) = i
+label_symbol (TheLabel.Named q) = q.name
+
+abbrev pub value_label : ℤ → ℤ → Option High → ValueLabel
+value_label low high None = TheValueLabel.One low
+value_label low high (Some h) = TheValueLabel.Range low high
+
+abbrev pub label_type : Option Object → Option Shape
+label_type (Some (AType s)) = Some s
+label_type o = None
+
+abbrev pub case_variable : Option Object → Option Place
+case_variable (Some (AVariable v)) = if is_pointer v.shape || is_tagged_home v.home then Some v.place else None
+case_variable o = None
+
+abbrev pub entry_object : Option Entry → Option Object
+entry_object None = None
+entry_object (Some e) = Some e.object
+
+abbrev pub on_values : Shape → Option SelectorOf
+on_values s = if is_number s then Some OnInteger else elim s as (λ _. Option SelectorOf) [ Char ↦ Some OnChar | other ↦ None ]
+
+abbrev pub selector_of : Option Place → Shape → Option SelectorOf
+selector_of (Some d) s = Some (OnType d s)
+selector_of None s = on_values s
+
+abbrev pub tag_of : Known → Shape → ℕ
+tag_of known (Record r) = r
+tag_of known s = elim (target_of known s) as (λ _. ℕ) [ Some r ↦ r | None ↦ 0 ]
+
+-- in a part for a type each read of the variable is its guard
+abbrev pub narrow : World → Place → Shape → World
+narrow w d t = record w { narrowed = record { variable = d; shape = t; tag = tag_of w.known t } ∷ w.narrowed }
+
+abbrev pub case_of : SelectorOf → Operand → Parts → Statement
+case_of (OnType d (Pointer n)) x parts = CasePointer (checked x) parts
+case_of (OnType d s) x parts = CaseParameter (designator_of x) parts
+case_of s x parts = Tree.Case (checked x) parts
+
 module _ (p : Source) where
   -- ---- labels
 
-  -- of INTEGER (false) or CHAR (true): a string of one character is a character
-  abbrev pub label_in : (of_char : Bool) → Constant → Option ℤ
-  label_in false (Bits Integer n) = Some (signed n)
-  label_in true (Bits Char n) = Some (pos n)
-  label_in true (Tree.Chars (c ∷ [])) = Some (pos c)
-  label_in of_char c = None
-
-  abbrev pub constant_only : Object → Option Constant
-  constant_only (AConstant c) = Some c
-  constant_only o = None
-
   abbrev pub label_constant : World → Label → Judged Constant
-  label_constant w (TheLabel.Int i) = Keeps (Bits Integer (int_of p w (symbol_at p i).kind))
-  label_constant w (TheLabel.Char i) = Keeps (Bits Char (char_of p w (symbol_at p i).kind))
+  label_constant w (TheLabel.Int i) = Keeps (Bits Integer (int_of (symbol_at p i).kind))
+  label_constant w (TheLabel.Char i) = Keeps (Bits Char (char_of (symbol_at p i).kind))
   label_constant w (TheLabel.Text i) = Keeps (Tree.Chars (characters p i))
   label_constant w (TheLabel.Named q) = do
-    o ← qualified p w q.name (member_symbol p w q.member)
+    o ← qualified p w q.name (member_symbol q.member)
     some 39 (place p q.name) (constant_only o)
-
-  abbrev pub label_symbol : Label → ℕ
-  label_symbol (TheLabel.Int i) = i
-  label_symbol (TheLabel.Char i) = i
-  label_symbol (TheLabel.Text i) = i
-  label_symbol (TheLabel.Named q) = q.name
 
   abbrev pub label : World → Bool → Label → Judged ℤ
   label w of_char l = do
@@ -71,10 +107,6 @@ module _ (p : Source) where
   abbrev pub high_label : World → Bool → ℤ → Option High → Judged ℤ
   high_label w of_char low None = Keeps low
   high_label w of_char low (Some h) = label w of_char h.label
-
-  abbrev pub value_label : ℤ → ℤ → Option High → ValueLabel
-  value_label low high None = TheValueLabel.One low
-  value_label low high (Some h) = TheValueLabel.Range low high
 
   -- 39 at the first label of a range that runs downward or overlaps
   abbrev pub range : World → Bool → Range → List (ℤ × ℤ) → Judged Labelled
@@ -94,13 +126,9 @@ module _ (p : Source) where
   -- a label of a CASE on types
   abbrev pub label_object : World → Label → Judged (Option Object)
   label_object w (TheLabel.Named q) = do
-    o ← qualified p w q.name (member_symbol p w q.member)
+    o ← qualified p w q.name (member_symbol q.member)
     Keeps (Some o)
   label_object w l = Keeps None
-
-  abbrev pub label_type : Option Object → Option Shape
-  label_type (Some (AType s)) = Some s
-  label_type o = None
 
   abbrev pub no_high : World → (at : ℕ) → Option High → Judged (Unit {0})
   no_high w at None = Keeps tt
@@ -126,32 +154,9 @@ module _ (p : Source) where
 
   -- ---- CASE
 
-  abbrev pub case_variable : Option Object → Option Place
-  case_variable (Some (AVariable v)) = if is_pointer v.shape || is_tagged_home v.home then Some v.place else None
-  case_variable o = None
-
-  abbrev pub entry_object : Option Entry → Option Object
-  entry_object None = None
-  entry_object (Some e) = Some e.object
-
   abbrev pub named_alone : World → Option (ℕ × Option ℕ) → Option Object
   named_alone w (Some (name, None)) = entry_object (look_up (spelled p name) w.levels)
   named_alone w q = None
-
-  abbrev pub on_values : Shape → Option SelectorOf
-  on_values s = if is_number s then Some OnInteger else elim s as (λ _. Option SelectorOf) [ Char ↦ Some OnChar | other ↦ None ]
-
-  abbrev pub selector_of : Option Place → Shape → Option SelectorOf
-  selector_of (Some d) s = Some (OnType d s)
-  selector_of None s = on_values s
-
-  abbrev pub tag_of : Known → Shape → ℕ
-  tag_of known (Record r) = r
-  tag_of known s = elim (target_of known s) as (λ _. ℕ) [ Some r ↦ r | None ↦ 0 ]
-
-  -- in a part for a type each read of the variable is its guard
-  abbrev pub narrow : World → Place → Shape → World
-  narrow w d t = record w { narrowed = record { variable = d; shape = t; tag = tag_of w.known t } ∷ w.narrowed }
 
   -- the labels of a part: when it is done, the world of its body, and all labels so far
   abbrev pub when_of : World → SelectorOf → List (ℤ × ℤ) → Range → List NextRange → Judged (When × World × List (ℤ × ℤ))
@@ -164,8 +169,3 @@ module _ (p : Source) where
   when_of w (OnType d s) taken first more = do
     t ← type_labels w s first more
     Keeps (Extends (tag_of w.known t), narrow w d t, taken)
-
-  abbrev pub case_of : SelectorOf → Operand → Parts → Statement
-  case_of (OnType d (Pointer n)) x parts = CasePointer (checked x) parts
-  case_of (OnType d s) x parts = CaseParameter (designator_of x) parts
-  case_of s x parts = Tree.Case (checked x) parts

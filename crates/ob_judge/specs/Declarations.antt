@@ -27,12 +27,24 @@ abbrev pub place_here : Option ℕ → (unit number : ℕ) → Place
 place_here None unit number = Global unit number
 place_here (Some f) unit number = Local number
 
+abbrev pub each : {X : Type 0} → (X → Part (Unit {0})) → List X → Part (Unit {0})
+each f [] = give tt
+each f (x ∷ xs) = f x >>> λ _. each f xs
+
+abbrev pub consts_in : Option S.Consts → List S.ConstDecl
+consts_in None = []
+consts_in (Some x) = x.each
+
+abbrev pub types_in : Option S.Types → List S.TypeDecl
+types_in None = []
+types_in (Some x) = x.each
+
+abbrev pub vars_in : Option S.Vars → List S.VarDecl
+vars_in None = []
+vars_in (Some x) = x.each
+
 module _ (p : Source) where
   -- ---- CONST, TYPE, VAR: 36 where the name stands, before the rest; the name is known at the end
-
-  abbrev pub each : {X : Type 0} → (X → Part (Unit {0})) → List X → Part (Unit {0})
-  each f [] = give tt
-  each f (x ∷ xs) = f x >>> λ _. each f xs
 
   abbrev pub const_part : S.ConstDecl → Part (Unit {0})
   const_part d = stand p (d.name.name ∷ []) >>> λ _. here (λ w. constant p w d.value) >>> λ c.
@@ -44,7 +56,7 @@ module _ (p : Source) where
   -- at the end of a TYPE part: 30 and 31 at a base's name
   abbrev pub forward_base : ℕ × ℕ → Part (Unit {0})
   forward_base f =
-      here (λ w. some 30 (place p f.1) (entry_object p (last_names w.levels (spelled p f.1)))) >>> λ o.
+      here (λ w. some 30 (place p f.1) (entry_object (last_names w.levels (spelled p f.1)))) >>> λ o.
       here (λ w. some 31 (place p f.1) (record_object o)) >>> λ r. set_base f.0 r
 
   abbrev pub types_part : List S.TypeDecl → Part (Unit {0})
@@ -63,28 +75,16 @@ module _ (p : Source) where
   var_part d = stand p (symbols_of (idents_list d.names)) >>> λ _. type_part p d.of >>> λ s.
       each (variable_part s) (idents_list d.names)
 
-  abbrev pub consts_in : Option S.Consts → List S.ConstDecl
-  consts_in None = []
-  consts_in (Some x) = x.each
-
-  abbrev pub types_in : Option S.Types → List S.TypeDecl
-  types_in None = []
-  types_in (Some x) = x.each
-
-  abbrev pub vars_in : Option S.Vars → List S.VarDecl
-  vars_in None = []
-  vars_in (Some x) = x.each
-
   -- ---- procedures
 
   -- 41 at RETURN where there is no result, and at END where there is no RETURN
   abbrev pub answer : Shape → (end_word : ℕ) → Option S.Returned → World → Judged (Option Checked)
   answer result end_word None w = do
-    rule 41 (place p end_word) (is_nothing p w result)
+    rule 41 (place p end_word) (is_nothing result)
     Keeps None
   answer result end_word (Some r) w = do
     x ← expression p w r.value
-    rule 41 (place p r.return_word) (not (is_nothing p w result))
+    rule 41 (place p r.return_word) (not (is_nothing result))
     rule 31 (place p (expression_first r.value)) (may_assign w.known result x)
     Keeps (Some (stored result x))
 

@@ -38,7 +38,7 @@ module _ (p : Source) (w : World) where
     added x S.no_term = Keeps x
     added x (S.added operator t rest) = do
       y ← term t
-      z ← joined p w (add_operator operator) (place p (add_symbol operator)) x y
+      z ← joined (add_operator operator) (place p (add_symbol operator)) x y
       added z rest
 
     pub term : S.Term → Judged Operand
@@ -50,17 +50,17 @@ module _ (p : Source) (w : World) where
     multiplied x S.no_factor = Keeps x
     multiplied x (S.multiplied operator f rest) = do
       y ← factor f
-      z ← joined p w (mul_operator operator) (place p (mul_symbol operator)) x y
+      z ← joined (mul_operator operator) (place p (mul_symbol operator)) x y
       multiplied z rest
 
     pub factor : S.Factor → Judged Operand
-    factor (S.Int i) = literal p w Integer (int_of p w (symbol_at p i).kind)
-    factor (S.Text i) = text_literal p w (characters p i)
-    factor (S.Char i) = literal p w Char (char_of p w (symbol_at p i).kind)
-    factor (S.Nil i) = literal p w Nil 0
-    factor (S.True i) = literal p w Boolean 1
-    factor (S.False i) = literal p w Boolean 0
-    factor (S.EmptySet i j) = literal p w Set 0
+    factor (S.Int i) = literal Integer (int_of (symbol_at p i).kind)
+    factor (S.Text i) = text_literal (characters p i)
+    factor (S.Char i) = literal Char (char_of (symbol_at p i).kind)
+    factor (S.Nil i) = literal Nil 0
+    factor (S.True i) = literal Boolean 1
+    factor (S.False i) = literal Boolean 0
+    factor (S.EmptySet i j) = literal Set 0
     factor (S.Set i first more j) = do
       s ← with_element (Literal 0) first
       t ← with_elements s more
@@ -74,7 +74,7 @@ module _ (p : Source) (w : World) where
       Keeps (as_value y)
     factor (S.Not i x) = do
       y ← factor x
-      inverted p w (place p i) y
+      inverted (place p i) y
 
     pub with_elements : Expr → S.NextElements → Judged Expr
     with_elements s S.no_element = Keeps s
@@ -85,13 +85,13 @@ module _ (p : Source) (w : World) where
     pub with_element : Expr → S.Element → Judged Expr
     with_element s (S.one low) = do
       x ← expression low
-      a ← set_element p w (place p (expression_first low)) x
+      a ← set_element (place p (expression_first low)) x
       Keeps (Linked s (Element a))
     with_element s (S.range low dots high) = do
       x ← expression low
-      a ← set_element p w (place p (expression_first low)) x
+      a ← set_element (place p (expression_first low)) x
       y ← expression high
-      b ← set_element p w (place p (expression_first high)) y
+      b ← set_element (place p (expression_first high)) y
       Keeps (Linked s (Elements a b))
 
     -- the parts of what a name stands for
@@ -130,7 +130,7 @@ module _ (p : Source) (w : World) where
       Keeps (Ended y)
     select at stage (S.Parens left_paren list right_paren) = do
       x ← begun p w at stage
-      elim (guard_name p w x (bare_list list)) as (λ _. Judged Stage) [
+      elim (guard_name x (bare_list list)) as (λ _. Judged Stage) [
         | Some q ↦ type_named p w 31 q.0 q.1 >>= λ t. guarded p w at x t >>= λ y. Keeps (Partly y)
         | None ↦ arguments list >>= λ xs. applied p w at x x.shape xs >>= λ y. Keeps (Ended y)
       ]
@@ -138,14 +138,14 @@ module _ (p : Source) (w : World) where
     pub indexed : (at : ℕ) → Operand → S.Expressions → Judged Operand
     indexed at x (S.expressions first more) = do
       i ← expression first
-      y ← element p w at (place p (expression_first first)) x i
+      y ← element at (place p (expression_first first)) x i
       indexed_more at y more
 
     pub indexed_more : (at : ℕ) → Operand → S.NextExpressions → Judged Operand
     indexed_more at x S.no_expression = Keeps x
     indexed_more at x (S.next_expression comma e rest) = do
       i ← expression e
-      y ← element p w at (place p (expression_first e)) x i
+      y ← element at (place p (expression_first e)) x i
       indexed_more at y rest
 
     -- all arguments are walked before the first is judged

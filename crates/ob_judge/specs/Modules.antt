@@ -92,7 +92,7 @@ module _ (p : Source) where
   abbrev pub module_part : S.Module → Part Module
   module_part m =
       here (λ w. rule 36 (place p m.name) (is_new (imported w.modules (spelled p m.name)))) >>> λ _.
-      each p import_part (import_list m.imports) >>> λ _.
+      each import_part (import_list m.imports) >>> λ _.
       decls_part p m.decls >>> λ _.
       here (λ w. body_of p w m.body) >>> λ b.
       here (λ w. rule 37 (place p m.end_name) (bytes_eq (spelled p m.end_name) (spelled p m.name))) >>> λ _.

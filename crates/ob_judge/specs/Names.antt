@@ -14,6 +14,34 @@ pub data Stage : Type 0 where
   Partly : Operand → Stage
   Ended : Operand → Stage
 
+abbrev pub names_in : Option KnownModule → List ℕ → Option Entry
+names_in None = no_names
+names_in (Some m) = m.names
+
+abbrev pub type_of_object : Object → Option Shape
+type_of_object (AType s) = Some s
+type_of_object o = None
+
+abbrev pub member_symbol : Option Member → Option ℕ
+member_symbol None = None
+member_symbol (Some m) = Some m.name
+
+abbrev pub is_place : Place → Place → Bool
+is_place (Global m v) (Global n u) = nat_eq m n && nat_eq v u
+is_place (Local v) (Local u) = nat_eq v u
+is_place (Parameter v) (Parameter u) = nat_eq v u
+is_place d e = false
+
+abbrev pub narrowing_of : Place → List Narrowing → Option Narrowing
+narrowing_of d [] = None
+narrowing_of d (n ∷ ns) = if is_place d n.variable then Some n else narrowing_of d ns
+
+-- in a part of a CASE on types each read of the variable is its guard
+abbrev pub narrowed_to : Operand → Bool → Option Narrowing → Operand
+narrowed_to x pointer None = x
+narrowed_to x true (Some n) = operand n.shape (Valued (Guard (form x) n.tag)) (AsVariable false false true)
+narrowed_to x false (Some n) = operand n.shape (Named (Narrow (place_of x) n.tag)) (AsVariable false true true)
+
 module _ (p : Source) (w : World) where
   -- 30, 34: a name is declared, and seen here
   abbrev pub named : ℕ → Judged Object
@@ -21,10 +49,6 @@ module _ (p : Source) (w : World) where
     entry ← some 30 (place p i) (look_up (spelled p i) w.levels)
     rule 34 (place p i) (is_visible w.procedure entry.object)
     Keeps entry.object
-
-  abbrev pub names_in : Option KnownModule → List ℕ → Option Entry
-  names_in None = no_names
-  names_in (Some m) = m.names
 
   abbrev pub names_of : Imported → List ℕ → Option Entry
   names_of TheOut = names_of_out
@@ -49,37 +73,13 @@ module _ (p : Source) (w : World) where
     o ← named name
     member_of_object name i o
 
-  abbrev pub type_of_object : Object → Option Shape
-  type_of_object (AType s) = Some s
-  type_of_object o = None
-
   -- a qualident that names a type, or this rule is broken at it
   abbrev pub type_named : (number : ℕ) → ℕ → Option ℕ → Judged Shape
   type_named number name i = do
     o ← qualified name i
     some number (place p name) (type_of_object o)
 
-  abbrev pub member_symbol : Option Member → Option ℕ
-  member_symbol None = None
-  member_symbol (Some m) = Some m.name
-
   -- ---- names as operands
-
-  abbrev pub is_place : Place → Place → Bool
-  is_place (Global m v) (Global n u) = nat_eq m n && nat_eq v u
-  is_place (Local v) (Local u) = nat_eq v u
-  is_place (Parameter v) (Parameter u) = nat_eq v u
-  is_place d e = false
-
-  abbrev pub narrowing_of : Place → List Narrowing → Option Narrowing
-  narrowing_of d [] = None
-  narrowing_of d (n ∷ ns) = if is_place d n.variable then Some n else narrowing_of d ns
-
-  -- in a part of a CASE on types each read of the variable is its guard
-  abbrev pub narrowed_to : Operand → Bool → Option Narrowing → Operand
-  narrowed_to x pointer None = x
-  narrowed_to x true (Some n) = operand n.shape (Valued (Guard (form x) n.tag)) (AsVariable false false true)
-  narrowed_to x false (Some n) = operand n.shape (Named (Narrow (place_of x) n.tag)) (AsVariable false true true)
 
   abbrev pub variable_read : Variable → Operand
   variable_read v = narrowed_to (whole_variable w v) (is_pointer v.shape) (narrowing_of v.place w.narrowed)

@@ -75,6 +75,16 @@ listed v s l = record {
   words = l.words + words_of v s;
 }
 
+-- a parameter is known in its procedure; a scalar value parameter is a local variable
+abbrev pub parameter_variable : Bool → Shape → (values number : ℕ) → World → Object
+parameter_variable v s values number w = AVariable (record {
+  shape = s;
+  place = if is_value (mode_of v s) then Local values else Parameter number;
+  home = parameter_home v s;
+  owner = w.module_number;
+  procedure = w.procedure;
+})
+
 module _ (p : Source) where
   -- 36: a name stands twice in the open scope
   abbrev pub stand : List ℕ → Part (Unit {0})
@@ -92,19 +102,9 @@ module _ (p : Source) where
       ask (λ s. is_none s.world.procedure) >>> λ of_module. become (offer_if of_module (spelled p x.name) e)
 
   abbrev pub type_at : (number : ℕ) → Qualident → World → Judged Shape
-  type_at number q w = type_named p w number q.name (member_symbol p w q.member)
+  type_at number q w = type_named p w number q.name (member_symbol q.member)
 
   -- ---- parameters
-
-  -- a parameter is known in its procedure; a scalar value parameter is a local variable
-  abbrev pub parameter_variable : Bool → Shape → (values number : ℕ) → World → Object
-  parameter_variable v s values number w = AVariable (record {
-    shape = s;
-    place = if is_value (mode_of v s) then Local values else Parameter number;
-    home = parameter_home v s;
-    owner = w.module_number;
-    procedure = w.procedure;
-  })
 
   abbrev pub declare_parameter : (known_here : Bool) → ℕ → Bool → Shape → ℕ → Part (Unit {0})
   declare_parameter false i v s number = give tt

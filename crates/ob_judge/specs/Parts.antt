@@ -20,16 +20,94 @@ use Rattle.ob_judge.specs.Operands.{Operand, operand, Named, Chars, AsVariable, 
 use Rattle.ob_judge.specs.Calls.{Given, called}
 use Rattle.ob_judge.specs.Names.{type_named}
 
+-- a part of a variable
+abbrev pub part_of : Operand → Shape → Place → Operand
+part_of x shape d = operand shape (Named d) (AsVariable (is_read_only x) false false)
+
+-- what a pointer points to
+abbrev pub followed : Operand → ℕ → Operand
+followed x r = operand (Record r) (Named (Dereference (form x))) (AsVariable false false false)
+
+abbrev pub fields_of : Option Layout → List ℕ → Option FieldOf
+fields_of None name = None
+fields_of (Some l) name = l.fields name
+
+-- after the index was walked: 31 at the designator, 31 at the index
+abbrev pub element : (at at_index : ℕ) → Operand → Operand → Judged Operand
+element at at_index x i = do
+  shape ← some 31 at (element_of x.shape)
+  rule 31 at_index (is_number i.shape)
+  Keeps (part_of x shape (Index (place_of x) (length_of x) shape (form i)))
+
+abbrev pub guard_of : Operand → Shape → ℕ → Operand
+guard_of x (Pointer n) r = value (Pointer n) (Guard (form x) r)
+guard_of x t r = operand t (Named (Narrow (place_of x) r)) (AsVariable false true false)
+
+abbrev pub test_of : Operand → Shape → ℕ → Expr
+test_of x (Pointer n) r = IsPointer (form x) r
+test_of x t r = IsParameter (designator_of x) r
+
+-- 31 at the operator: its operands have no row
+abbrev pub joined : Operator → (at : ℕ) → Operand → Operand → Judged Operand
+joined op at x y = do
+  row ← some 31 at (row_of op x.shape y.shape)
+  Keeps (value row.0 (row.1 (form x) (form y)))
+
+abbrev pub inverted : (at : ℕ) → Operand → Judged Operand
+inverted at x = do
+  rule 31 at (is_truth x.shape)
+  Keeps (value Boolean (Apply TheUnary.Not (form x)))
+
+abbrev pub inclusion : Comparison → Expr → Expr → Expr
+inclusion TheComparison.GreaterEqual x y = operated TheBinary.Superset x y
+inclusion r x y = operated TheBinary.Subset x y
+
+abbrev pub comparison : Comparison → Operand → Operand → Expr
+comparison r x y =
+    if are_texts x.shape y.shape then CompareTexts r (designator_of x) (designator_of y)
+    else if are_included r x.shape y.shape then inclusion r (form x) (form y)
+    else Compare r (form x) (form y)
+
+abbrev pub is_in : (at : ℕ) → Operand → Operand → Judged Operand
+is_in at x s = do
+  rule 31 at (is_number x.shape && is_set s.shape)
+  Keeps (value Boolean (In (form x) (form s)))
+
+-- 31 at an element that is no number
+abbrev pub set_element : (at : ℕ) → Operand → Judged Expr
+set_element at x = do
+  rule 31 at (is_number x.shape)
+  Keeps (form x)
+
+abbrev pub int_of : Kind → ℕ
+int_of (TheKind.Int n) = unsigned n
+int_of k = 0
+
+abbrev pub char_of : Kind → ℕ
+char_of (TheKind.Char n) = n
+char_of k = 0
+
+abbrev pub literal : Shape → ℕ → Judged Operand
+literal s n = Keeps (value s (Literal n))
+
+abbrev pub text_literal : List ℕ → Judged Operand
+text_literal cs = Keeps (operand (Text (length cs)) (Chars cs) AsValue)
+
+-- what a call of a proper procedure gives
+abbrev pub is_nothing : Shape → Bool
+is_nothing Nothing = true
+is_nothing s = false
+
+abbrev pub is_procedure : Shape → Bool
+is_procedure (Procedure ps r) = true
+is_procedure s = false
+
+-- the name of a type where a guard may stand
+abbrev pub guard_name : Operand → Option (ℕ × Option ℕ) → Option (ℕ × Option ℕ)
+guard_name x q = if is_procedure x.shape then None else q
+
 module _ (p : Source) (w : World) where
   -- ---- parts
-
-  -- a part of a variable
-  abbrev pub part_of : Operand → Shape → Place → Operand
-  part_of x shape d = operand shape (Named d) (AsVariable (is_read_only x) false false)
-
-  -- what a pointer points to
-  abbrev pub followed : Operand → ℕ → Operand
-  followed x r = operand (Record r) (Named (Dereference (form x))) (AsVariable false false false)
 
   -- the record that a record or a pointer to one has fields of, with the pointer followed
   abbrev pub record_of : Operand → Option (ℕ × Operand)
@@ -39,10 +117,6 @@ module _ (p : Source) (w : World) where
     | other ↦ None
   ]
 
-  abbrev pub fields_of : Option Layout → List ℕ → Option FieldOf
-  fields_of None name = None
-  fields_of (Some l) name = l.fields name
-
   -- 31, 30, 34
   abbrev pub field : (at i : ℕ) → Operand → Judged Operand
   field at i x = do
@@ -50,13 +124,6 @@ module _ (p : Source) (w : World) where
     f ← some 30 (place p i) (fields_of (slice_get w.known.records r.0) (spelled p i))
     rule 34 (place p i) (f.exported || nat_eq f.owner w.module_number)
     Keeps (part_of r.1 f.shape (Field (place_of r.1) f.adder f.number))
-
-  -- after the index was walked: 31 at the designator, 31 at the index
-  abbrev pub element : (at at_index : ℕ) → Operand → Operand → Judged Operand
-  element at at_index x i = do
-    shape ← some 31 at (element_of x.shape)
-    rule 31 at_index (is_number i.shape)
-    Keeps (part_of x shape (Index (place_of x) (length_of x) shape (form i)))
 
   abbrev pub target : (at : ℕ) → Operand → Judged Operand
   target at x = do
@@ -72,18 +139,10 @@ module _ (p : Source) (w : World) where
   tested_tag x (Record n) = if is_tagged x && extends w.known (Record n) x.shape then Some n else None
   tested_tag x t = None
 
-  abbrev pub guard_of : Operand → Shape → ℕ → Operand
-  guard_of x (Pointer n) r = value (Pointer n) (Guard (form x) r)
-  guard_of x t r = operand t (Named (Narrow (place_of x) r)) (AsVariable false true false)
-
   abbrev pub guarded : (at : ℕ) → Operand → Shape → Judged Operand
   guarded at x t = do
     r ← some 31 at (tested_tag x t)
     Keeps (guard_of x t r)
-
-  abbrev pub test_of : Operand → Shape → ℕ → Expr
-  test_of x (Pointer n) r = IsPointer (form x) r
-  test_of x t r = IsParameter (designator_of x) r
 
   abbrev pub tested : (at : ℕ) → Operand → Shape → Judged Operand
   tested at x t = do
@@ -91,12 +150,6 @@ module _ (p : Source) (w : World) where
     Keeps (value Boolean (test_of x t r))
 
   -- ---- operators
-
-  -- 31 at the operator: its operands have no row
-  abbrev pub joined : Operator → (at : ℕ) → Operand → Operand → Judged Operand
-  joined op at x y = do
-    row ← some 31 at (row_of op x.shape y.shape)
-    Keeps (value row.0 (row.1 (form x) (form y)))
 
   abbrev pub signed : Option Sign → Operand → Judged Operand
   signed None x = Keeps x
@@ -107,38 +160,12 @@ module _ (p : Source) (w : World) where
     row ← some 31 (place p i) (negated_row x.shape)
     Keeps (value row.0 (row.1 (form x)))
 
-  abbrev pub inverted : (at : ℕ) → Operand → Judged Operand
-  inverted at x = do
-    rule 31 at (is_truth x.shape)
-    Keeps (value Boolean (Apply TheUnary.Not (form x)))
-
-  abbrev pub inclusion : Comparison → Expr → Expr → Expr
-  inclusion TheComparison.GreaterEqual x y = operated TheBinary.Superset x y
-  inclusion r x y = operated TheBinary.Subset x y
-
-  abbrev pub comparison : Comparison → Operand → Operand → Expr
-  comparison r x y =
-      if are_texts x.shape y.shape then CompareTexts r (designator_of x) (designator_of y)
-      else if are_included r x.shape y.shape then inclusion r (form x) (form y)
-      else Compare r (form x) (form y)
-
   -- 31 at the relation; 32 there where a constant expression compares texts
   abbrev pub compared : Comparison → (at : ℕ) → Operand → Operand → Judged Operand
   compared r at x y = do
     rule 31 at (may_compare w.known r x.shape y.shape)
     rule 32 at (not (w.constant && are_texts x.shape y.shape))
     Keeps (value Boolean (comparison r x y))
-
-  abbrev pub is_in : (at : ℕ) → Operand → Operand → Judged Operand
-  is_in at x s = do
-    rule 31 at (is_number x.shape && is_set s.shape)
-    Keeps (value Boolean (In (form x) (form s)))
-
-  -- 31 at an element that is no number
-  abbrev pub set_element : (at : ℕ) → Operand → Judged Expr
-  set_element at x = do
-    rule 31 at (is_number x.shape)
-    Keeps (form x)
 
   -- of two operands; IS has none here
   abbrev pub related : Relation → Operand → Operand → Judged Operand
@@ -160,25 +187,7 @@ module _ (p : Source) (w : World) where
 
   -- ---- literals
 
-  abbrev pub int_of : Kind → ℕ
-  int_of (TheKind.Int n) = unsigned n
-  int_of k = 0
-
-  abbrev pub char_of : Kind → ℕ
-  char_of (TheKind.Char n) = n
-  char_of k = 0
-
-  abbrev pub literal : Shape → ℕ → Judged Operand
-  literal s n = Keeps (value s (Literal n))
-
-  abbrev pub text_literal : List ℕ → Judged Operand
-  text_literal cs = Keeps (operand (Text (length cs)) (Chars cs) AsValue)
-
   -- 31: a call of a proper procedure has no value; 32: what no constant expression has as a factor
-  abbrev pub is_nothing : Shape → Bool
-  is_nothing Nothing = true
-  is_nothing s = false
-
   abbrev pub as_factor : (at : ℕ) → Operand → Judged Operand
   as_factor at x = do
     rule 31 at (not (is_nothing x.shape))
@@ -189,11 +198,3 @@ module _ (p : Source) (w : World) where
   abbrev pub applied : (at : ℕ) → Operand → Shape → List Given → Judged Operand
   applied at x (Procedure ps result) xs = called w at x ps result xs
   applied at x s xs = Breaks 31 at
-
-  abbrev pub is_procedure : Shape → Bool
-  is_procedure (Procedure ps r) = true
-  is_procedure s = false
-
-  -- the name of a type where a guard may stand
-  abbrev pub guard_name : Operand → Option (ℕ × Option ℕ) → Option (ℕ × Option ℕ)
-  guard_name x q = if is_procedure x.shape then None else q

@@ -34,10 +34,10 @@ module _ (p : Source) where
       Keeps (next_statement (If (next_branch g b more) c))
     statement w (S.Case case_word selector of_word first more end_word) = do
       x ← expression p w selector
-      s ← some 31 (place p (expression_first selector)) (selector_of p (case_variable p (named_alone p w (bare selector))) x.shape)
+      s ← some 31 (place p (expression_first selector)) (selector_of (case_variable (named_alone p w (bare selector))) x.shape)
       one ← case_part w s [] first
       rest ← next_cases w s one.1 more
-      Keeps (next_statement (case_of p s x (one.0 rest)))
+      Keeps (next_statement (case_of s x (one.0 rest)))
     statement w (S.While while_word guard do_word body elsifs end_word) = do
       g ← condition p w guard
       b ← statements w body
@@ -50,7 +50,7 @@ module _ (p : Source) where
     statement w (S.For for_word variable becomes from to_word to by do_word body end_word) = do
       o ← named p w variable
       x ← expression p w from
-      d ← some 31 (place p variable) (integer_variable p w o)
+      d ← some 31 (place p variable) (integer_variable w o)
       rule 31 (place p (expression_first from)) (is_number x.shape)
       y ← number p w to
       step ← step_of p w by

@@ -37,6 +37,21 @@ abbrev pub record_object : Object → Option ℕ
 record_object (AType (Record n)) = Some n
 record_object o = None
 
+-- the innermost array is the first; 35 at ARRAY where one is too big
+abbrev pub arrays : (at : ℕ) → List ℕ → Shape → World → Judged Shape
+arrays at [] element w = Keeps element
+arrays at (n ∷ ns) element w = do
+  inner ← arrays at ns element w
+  rule 35 at (nat_le (cells w.known (Array n inner)) limit)
+  Keeps (Array n inner)
+
+abbrev pub add_field : List ℕ → Field → (List ℕ → Option Field) → List ℕ → Option Field
+add_field name f fields q = if bytes_eq name q then Some f else fields q
+
+-- a part among the names of a record's own fields
+abbrev pub among_fields : {A : Type 0} → Part A → Part A
+among_fields m s = m (record s { standing = [] }) >>= λ r. Keeps (r.0, record r.1 { standing = s.standing })
+
 module _ (p : Source) where
   -- ---- types
 
@@ -44,7 +59,7 @@ module _ (p : Source) where
   abbrev pub array_length : S.Expression → World → Judged ℕ
   array_length e w = do
     c ← constant p w e
-    n ← some 31 (place p (expression_first e)) (int_only p c)
+    n ← some 31 (place p (expression_first e)) (int_only c)
     rule 35 (place p (expression_first e)) (is_length n)
     Keeps (size_of n)
 
@@ -54,14 +69,6 @@ module _ (p : Source) where
     n ← array_length e w
     ns ← array_lengths es w
     Keeps (n ∷ ns)
-
-  -- the innermost array is the first; 35 at ARRAY where one is too big
-  abbrev pub arrays : (at : ℕ) → List ℕ → Shape → World → Judged Shape
-  arrays at [] element w = Keeps element
-  arrays at (n ∷ ns) element w = do
-    inner ← arrays at ns element w
-    rule 35 at (nat_le (cells w.known (Array n inner)) limit)
-    Keeps (Array n inner)
 
   abbrev pub place_of_type : S.TypeTree → ℕ
   place_of_type (S.Named q) = place p q.name
@@ -85,9 +92,6 @@ module _ (p : Source) where
   stand_fields (x ∷ xs) g = here (λ w. rule 36 (place p x.name) (is_none (g.fields (spelled p x.name)))) >>> λ _.
       stand p (x.name ∷ []) >>> λ _. stand_fields xs g
 
-  abbrev pub add_field : List ℕ → Field → (List ℕ → Option Field) → List ℕ → Option Field
-  add_field name f fields q = if bytes_eq name q then Some f else fields q
-
   abbrev pub add_fields : (adder : ℕ) → World → Shape → List Identdef → Layout → Layout
   add_fields r w s [] g = g
   add_fields r w s (x ∷ xs) g = add_fields r w s xs (record {
@@ -98,10 +102,6 @@ module _ (p : Source) where
     cells = g.cells + cells w.known s;
     extent = with_part g.extent (extent w.known s);
   })
-
-  -- a part among the names of a record's own fields
-  abbrev pub among_fields : {A : Type 0} → Part A → Part A
-  among_fields m s = m (record s { standing = [] }) >>= λ r. Keeps (r.0, record r.1 { standing = s.standing })
 
   -- an unqualified name that isn't known may be declared later in the same TYPE part
   abbrev pub forward_name : Making → S.TypeTree → Option ℕ

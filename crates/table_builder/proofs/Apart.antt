@@ -6,6 +6,7 @@ use Rattle.ob_types.specs.Table.{Table}
 use Rattle.ob_types.specs.declared.types.Signature.{Signature}
 use Rattle.ob_types.proofs.Tests.{no, and_of, less_or_past}
 use Rattle.ob_judge.specs.Shapes.{Shape, Nothing, same}
+use Rattle.ob_judge.specs.Parts.{is_nothing}
 use Rattle.judged_tree.specs.TypeShapes.{shape_of}
 use Rattle.judged_tree.specs.Tables.{same_entry, same_signatures, HasEachOnce, HasOneShapeEach}
 use Rattle.judged_tree.proofs.SameShapes.{same-self, same-is}
@@ -13,7 +14,7 @@ use Rattle.judged_tree.proofs.OneShape.{one-shape}
 use Rattle.check_types.specs.declared.types.TypeRef.{TypeRef}
 use Rattle.check_types.specs.declared.types.TypeRef.TheVariants as TheType
 use Rattle.check_types.specs.TypeMeaning.{kind_of_type}
-use Rattle.check_types.specs.TableFacts.{is_nothing, is_one, IsApart}
+use Rattle.check_types.specs.TableFacts.{is_one, IsApart}
 use Rattle.table_builder.specs.Sound.{IsSound}
 use Rattle.table_builder.proofs.Meaning.{entry_there, kind_at, front}
 use Rattle.table_builder.proofs.Shapes.{shape_past}

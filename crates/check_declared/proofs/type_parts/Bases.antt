@@ -59,7 +59,7 @@ module _ (p : Source) where
         by (Some r) = refl
 
     pub base_law : forward_base p f m ≡ (record_named p f.1 m.world >>= λ r. set_base f.0 r m)
-    base_law = base_by (entry_object p (last_names m.world.levels (spelled p f.1)))
+    base_law = base_by (entry_object (last_names m.world.levels (spelled p f.1)))
 
     -- those that wait, and how many pointer types there are, stay
     pub record StaysBut (n : Making) : Type 0 where
@@ -110,7 +110,7 @@ as_many fs gs e = sym (length-map fs forward_of) ∙ ap (λ xs. length xs) e ∙
 
 module _ (r : Surroundings) where
   abbrev pub bases_from : Unit {0} × Making → List (ℕ × ℕ) → Judged (Unit {0} × Making)
-  bases_from a fs = each r.source.now (forward_base r.source.now) fs a.1
+  bases_from a fs = each (forward_base r.source.now) fs a.1
 
   abbrev pub base_item : Unit {0} × Making → ℕ × ℕ → Judged (Unit {0} × Making)
   base_item a f = forward_base r.source.now f a.1
@@ -136,10 +136,10 @@ module _ (r : Surroundings) where
   bases_first = left_first r bases_from base_item bases_law bases_end
 
 -- behind the declarations of a TYPE part each pointer type that waits is one of those that there are
-pub are_there : (r : Surroundings) (s t : Declaring) (ds : List S.TypeDecl) (m : Making) → Makes r s (typing r.source.now m) → Judges r s t (each r.source.now (type_decl_part r.source.now) ds) (Ok tt) → AreThere t
+pub are_there : (r : Surroundings) (s t : Declaring) (ds : List S.TypeDecl) (m : Making) → Makes r s (typing r.source.now m) → Judges r s t (each (type_decl_part r.source.now) ds) (Ok tt) → AreThere t
 are_there r s t ds m makes h =
     let p = r.source.now in
-    let g = left_with (each p (type_decl_part p) ds (typing p m)) (h (typing p m) makes) (i_type_decls p ds (typing p m)) in
+    let g = left_with (each (type_decl_part p) ds (typing p m)) (h (typing p m) makes) (i_type_decls p ds (typing p m)) in
     let left = (g.0).1 in
     let new = (g.1).makes in
     let into = g.2 in

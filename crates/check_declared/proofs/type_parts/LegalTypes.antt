@@ -43,7 +43,7 @@ IsAllowed n = is_length (pos n) ≡ true
 
 module _ (p : Source) (w : World) where
   length_allowed : (e : S.Expression) → Gives IsAllowed (array_length p e w)
-  length_allowed e = and_then (anything (constant p w e)) (λ c h. by_some 31 (place p (expression_first e)) (int_only p c) (λ n is.
+  length_allowed e = and_then (anything (constant p w e)) (λ c h. by_some 31 (place p (expression_first e)) (int_only c) (λ n is.
       by_rule 35 (place p (expression_first e)) (is_length n) (λ ok. keeps IsAllowed (size_of n) (size_allowed n ok))))
 
   more_allowed : (es : S.NextExpressions) → Gives (Each IsAllowed) (array_lengths p es w)

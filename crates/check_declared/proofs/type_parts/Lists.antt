@@ -19,7 +19,7 @@ use Rattle.check_making.specs.Parts.{Made}
 
 module _ {X Y : Type 0} (r : Surroundings) (part : X → Part (Unit {0})) (plain : Y → X) where
   abbrev pub parts_from : Unit {0} × Making → List Y → Judged (Unit {0} × Making)
-  parts_from a ys = each r.source.now part (plain_each plain ys) a.1
+  parts_from a ys = each part (plain_each plain ys) a.1
 
   abbrev pub part_item : Unit {0} × Making → Y → Judged (Unit {0} × Making)
   part_item a y = part (plain y) a.1

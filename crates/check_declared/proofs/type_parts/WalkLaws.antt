@@ -59,10 +59,10 @@ module _ (p : Source) where
   module _ (i : ℕ) (first : S.Expression) (more : S.NextExpressions) (element : S.TypeTree) (m : Making) where
     -- from the element type on
     abbrev pub element_on : List ℕ → Judged (J.Shape × Making)
-    element_on ns = type_part p element m >>= λ (s : J.Shape × Making). arrays p (place p i) ns s.0 (s.1).world >>= λ a. Keeps (a, s.1)
+    element_on ns = type_part p element m >>= λ (s : J.Shape × Making). arrays (place p i) ns s.0 (s.1).world >>= λ a. Keeps (a, s.1)
 
     abbrev array_from : ℕ → List ℕ × Making → Judged (J.Shape × Making)
-    array_from n k = type_part p element k.1 >>= λ (s : J.Shape × Making). arrays p (place p i) (n ∷ k.0) s.0 (s.1).world >>= λ a. Keeps (a, s.1)
+    array_from n k = type_part p element k.1 >>= λ (s : J.Shape × Making). arrays (place p i) (n ∷ k.0) s.0 (s.1).world >>= λ a. Keeps (a, s.1)
 
     array_rest : (n : ℕ) (b : Judged (List ℕ)) → ((b >>= λ ns. Keeps (ns, m)) >>= array_from n) ≡ ((b >>= λ ns. Keeps (n ∷ ns)) >>= element_on)
     array_rest n (Keeps ns) = refl

@@ -19,10 +19,10 @@ AreThere s = AreBelow (length s.types.table.bases.items) (map forward_of s.forwa
 
 -- the bases of all that wait for one
 abbrev pub bases_part : Source → Part (Unit {0})
-bases_part p = ask (λ s. s.forward) >>> λ fs. each p (forward_base p) fs
+bases_part p = ask (λ s. s.forward) >>> λ fs. each (forward_base p) fs
 
 -- the record type of a name of the innermost scope
 abbrev pub record_named : Source → ℕ → World → Judged ℕ
 record_named p i w = do
-  o ← some 30 (place p i) (entry_object p (last_names w.levels (spelled p i)))
+  o ← some 30 (place p i) (entry_object (last_names w.levels (spelled p i)))
   some 31 (place p i) (record_object o)

@@ -2,7 +2,6 @@
 
 ghost use Rattle.std.specs.Prelude.{◌≡◌, ℕ, OnOk};
 ghost use Rattle.ob_syntax.specs.Plain.{plain_option, plain_each, plain_type_decl, plain_types, plain_var_decl, plain_vars};
-ghost use Rattle.ob_judge.specs.Scopes.{Source};
 ghost use Rattle.ob_judge.specs.Declarations.{each, type_decl_part, types_in, types_part, var_part, vars_in};
 ghost use Rattle.ob_judge.specs.Making.{Making};
 ghost use Rattle.judged_programs.specs.Tidy.{Tidy};
@@ -47,7 +46,7 @@ fn type_decls(
     ensures legal { (from : ℕ) (m : Making) → Makes round.now state.old m → Tidy from m
         → OnOk result (HasLegalTypes state.old.types.table → HasLegalTypes state.new.types.table) }
     ensures judged { Judges round.now state.old state.new
-        (each round.now.source.now (type_decl_part round.now.source.now) (plain_each plain_type_decl trees.now)) result }
+        (each (type_decl_part round.now.source.now) (plain_each plain_type_decl trees.now)) result }
 {
     for tree in trees {
         type_decl(state, round, tree)?;
@@ -57,7 +56,7 @@ fn type_decls(
 
 // The declarations of a TYPE part, or none.
 fn type_trees<'a>(tree: &'a Option<Types>) -> &'a [TypeDecl]
-    ensures { (p : Source) → plain_each plain_type_decl result.now ≡ types_in p (plain_option plain_types tree.now) }
+    ensures { plain_each plain_type_decl result.now ≡ types_in (plain_option plain_types tree.now) }
 {
     match tree {
         None => &[],
@@ -79,7 +78,7 @@ pub fn type_declarations(
     ensures legal { (from : ℕ) (m : Making) → Makes round.now state.old m → Tidy from m
         → OnOk result (HasLegalTypes state.old.types.table → HasLegalTypes state.new.types.table) }
     ensures judged { Judges round.now state.old state.new
-        (types_part round.now.source.now (types_in round.now.source.now (plain_option plain_types tree.now))) result }
+        (types_part round.now.source.now (types_in (plain_option plain_types tree.now))) result }
 {
     begin_type_part(state, round);
     type_decls(state, round, type_trees(tree))?;
@@ -114,7 +113,7 @@ fn var_decls(
     ensures legal { (from : ℕ) (m : Making) → Makes round.now state.old m → Tidy from m
         → OnOk result (HasLegalTypes state.old.types.table → HasLegalTypes state.new.types.table) }
     ensures judged { Judges round.now state.old state.new
-        (each round.now.source.now (var_part round.now.source.now) (plain_each plain_var_decl trees.now)) result }
+        (each (var_part round.now.source.now) (plain_each plain_var_decl trees.now)) result }
 {
     for tree in trees {
         var_decl(state, round, tree)?;
@@ -124,7 +123,7 @@ fn var_decls(
 
 // The declarations of a VAR part, or none.
 fn variable_trees<'a>(tree: &'a Option<Vars>) -> &'a [VarDecl]
-    ensures { (p : Source) → plain_each plain_var_decl result.now ≡ vars_in p (plain_option plain_vars tree.now) }
+    ensures { plain_each plain_var_decl result.now ≡ vars_in (plain_option plain_vars tree.now) }
 {
     match tree {
         None => &[],
@@ -145,7 +144,7 @@ pub fn variable_declarations(
     ensures legal { (from : ℕ) (m : Making) → Makes round.now state.old m → Tidy from m
         → OnOk result (HasLegalTypes state.old.types.table → HasLegalTypes state.new.types.table) }
     ensures judged { Judges round.now state.old state.new
-        (each round.now.source.now (var_part round.now.source.now) (vars_in round.now.source.now (plain_option plain_vars tree.now))) result }
+        (each (var_part round.now.source.now) (vars_in (plain_option plain_vars tree.now))) result }
 {
     var_decls(state, round, variable_trees(tree))
 }

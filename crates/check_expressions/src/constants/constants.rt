@@ -4,7 +4,6 @@ ghost use Rattle.std.specs.Prelude.{◌≡◌, List, ℕ, true, option_map, slic
 ghost use Rattle.ob_types.specs.Table.{Table};
 ghost use Rattle.ob_syntax.specs.Plain.{plain_expression};
 ghost use Rattle.ob_judge.specs.Operands.{Operand as Judgement, What as JudgedWhat, constant_in};
-ghost use Rattle.ob_judge.specs.Scopes.{Source as SourceOf};
 ghost use Rattle.ob_judge.specs.Assignments.{int_only};
 ghost use Rattle.ob_judge.specs.Expressions.{constant as judged_constant};
 ghost use Rattle.check_types.specs.steps.Answers.{Answers};
@@ -116,7 +115,7 @@ pub fn constant<'a>(
 
 /// The number that a constant of type INTEGER is.
 pub fn integer(value: ConstantValue) -> Option<i64>
-    ensures { (p : SourceOf) (texts : List (List ℕ)) → result ≡ int_only p (constant_meant texts value) }
+    ensures { (texts : List (List ℕ)) → result ≡ int_only (constant_meant texts value) }
 {
     match value {
         ConstantValue::Bits(Basic::Int, bits) => Some(bits.cast_signed()),

@@ -23,11 +23,11 @@ use Rattle.check_making.proofs.new_types.Cells.{few_cells, many_cells}
 
 module _ (p : Source) (w : World) where
   -- what is refused further in is refused
-  pub arrays_stop : {B B' : Type 0} {R : B → Shape → Type 0} {S : B' → Shape → Type 0} {e : CheckFault} (at : ℕ) (ns : List ℕ) (i : ℕ) (s : Shape) → Answers R (arrays p at (drop i ns) s w) (Err e) → Answers S (arrays p at ns s w) (Err e)
+  pub arrays_stop : {B B' : Type 0} {R : B → Shape → Type 0} {S : B' → Shape → Type 0} {e : CheckFault} (at : ℕ) (ns : List ℕ) (i : ℕ) (s : Shape) → Answers R (arrays at (drop i ns) s w) (Err e) → Answers S (arrays at ns s w) (Err e)
   arrays_stop at [] zero s h = refused h
   arrays_stop at [] (suc i) s h = refused h
   arrays_stop at (n ∷ ns) zero s h = refused h
-  arrays_stop {R = R} at (n ∷ ns) (suc i) s h = stop {R = R} (arrays p at ns s w) _ (arrays_stop {S = R} at ns i s h)
+  arrays_stop {R = R} at (n ∷ ns) (suc i) s h = stop {R = R} (arrays at ns s w) _ (arrays_stop {S = R} at ns i s h)
 
 -- ---- whether an array has few enough cells
 module _ (r : Surroundings) (s : Declaring) (m : Making) (makes : Makes r s m) (k : TypeRef) (a : Shape) (is : type_shape (table_of s) k ≡ a) (n : ℕ) (count : n ≡ min most_cells (cells (known_of s.types.table) (type_shape (table_of s) k))) where
@@ -44,10 +44,10 @@ pub within_past : (p : Source) (i n : ℕ) (a : Shape) (w : World) → nat_le (c
 within_past p i n a w e = ap (λ b. rule 35 (place p i) b >> Keeps (Array n a)) e
 
 -- one array more round those that were made
-pub arrays_from : (p : Source) (word : ℕ) (w : World) (ns : List ℕ) (i : ℕ) (s inner : Shape) → i < length ns → arrays p (place p word) (drop (i + 1) ns) s w ≡ Keeps inner
-    → arrays p (place p word) (drop i ns) s w ≡ array_within p word (get_or ns i 0) inner w
+pub arrays_from : (p : Source) (word : ℕ) (w : World) (ns : List ℕ) (i : ℕ) (s inner : Shape) → i < length ns → arrays (place p word) (drop (i + 1) ns) s w ≡ Keeps inner
+    → arrays (place p word) (drop i ns) s w ≡ array_within p word (get_or ns i 0) inner w
 arrays_from p word w ns i s inner l h =
-    ap (λ xs. arrays p (place p word) xs s w) (drop_more ns i 0 l)
+    ap (λ xs. arrays (place p word) xs s w) (drop_more ns i 0 l)
     ∙ ap (λ j. j >>= λ (a : Shape). rule 35 (place p word) (nat_le (cells w.known (Array (get_or ns i 0) a)) limit) >> Keeps (Array (get_or ns i 0) a)) h
 
 pub type_comes : {t : Declaring} {k : TypeRef} (j : Judged Shape) → Answers (IsTypeOf t) j (Ok k) → j ≡ Keeps (type_shape (table_of t) k)

@@ -30,16 +30,16 @@ module _ (r : Surroundings) (s u : Declaring) (m : Making) (makes : Makes r s m)
   abbrev with_value : ℕ → ℕ
   with_value n = if is_value (mode_of v shape) then suc n else n
 
-  known_as : is_none s.procedure ≡ false → o ≡ parameter_variable r.source.now v shape m.values number m.world → Answers (Made r u) (declared r.source.now x o m) (Ok tt) → Makes r u (named (parameter_variable r.source.now v shape m.values number m.world))
+  known_as : is_none s.procedure ≡ false → o ≡ parameter_variable v shape m.values number m.world → Answers (Made r u) (declared r.source.now x o m) (Ok tt) → Makes r u (named (parameter_variable v shape m.values number m.world))
   known_as inside is h =
       subst (λ a. Makes r u (named a)) is
       (subst (λ b. Makes r u (offer_if b (spelled r.source.now i) (record { object = o; exported = false }) (named o))) (ap (λ (w : World). is_none w.procedure) makes.world ∙ inside) (h.by).makes)
 
-  pub parameter_known : is_none s.procedure ≡ false → o ≡ parameter_variable r.source.now v shape s.values number m.world → (values : ℕ) → values ≡ with_value s.values
+  pub parameter_known : is_none s.procedure ≡ false → o ≡ parameter_variable v shape s.values number m.world → (values : ℕ) → values ≡ with_value s.values
       → Answers (Made r u) (declared r.source.now x o m) (Ok tt) → Answers (Made r (record u { values = values })) (declare_parameter r.source.now true i v shape number m) (Ok tt)
   parameter_known inside is values at h =
-      let n = named (parameter_variable r.source.now v shape m.values number m.world) in
-      let known = known_as inside (is ∙ ap (λ k. parameter_variable r.source.now v shape k number m.world) (sym makes.values)) h in
+      let n = named (parameter_variable v shape m.values number m.world) in
+      let known = known_as inside (is ∙ ap (λ k. parameter_variable v shape k number m.world) (sym makes.values)) h in
       record {
         by = record {
           makes = makes_changed r u u.standing u.forward u.is_type_part values n known n.standing n.forward n.is_type_part (with_value n.values) known.standing known.forward known.is_type_part
@@ -49,7 +49,7 @@ module _ (r : Surroundings) (s u : Declaring) (m : Making) (makes : Makes r s m)
 
   pub parameter_unknown : {t : Declaring} {e : CheckFault} → Answers (Made r u) (declared r.source.now x o m) (Err e) → Answers (Made r t) (declare_parameter r.source.now true i v shape number m) (Err e)
   parameter_unknown {e = e} h =
-      let n = named (parameter_variable r.source.now v shape m.values number m.world) in
+      let n = named (parameter_variable v shape m.values number m.world) in
       record {
         by = no_fault {A = Unit {0} × Making} {B = Unit {0} × Making} (tt, record n { values = with_value n.values })
             (tt, offer_if (is_none m.world.procedure) (spelled r.source.now i) (record { object = o; exported = false }) (named o)) e h.by;

@@ -68,7 +68,7 @@ pub fn arrays(
     ensures grows { OnOk result (Grows state.old.types.table state.new.types.table) }
     ensures element { IfOk result (λ k. IsElement state.new.types.table.entries.items k) }
     ensures judged { JudgesHere (IsTypeOf state.new) round.now state.old
-        (judged_arrays round.now.source.now (place round.now.source.now array_word) lengths.now (shape_in state.old element)) result }
+        (judged_arrays (place round.now.source.now array_word) lengths.now (shape_in state.old element)) result }
     ensures known { known_of state.new.types.table ≡ known_of state.old.types.table }
     ensures legal { OnOk result (AreLengths lengths.now → IsKnown (known_of state.old.types.table).records (shape_in state.old element)
         → HasLegalTypes state.old.types.table → HasLegalTypes state.new.types.table) }

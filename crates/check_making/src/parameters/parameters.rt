@@ -60,7 +60,7 @@ fn parameter_variable(
 ) -> Variable
     ensures of { result.of ≡ kind.of }
     ensures judged { (t : Table) (strings : List (List ℕ)) (w : World) → w.module_number ≡ round.now.module_number → w.procedure ≡ procedure →
-        object_of t strings (Named.Variable result) ≡ judged_variable round.now.source.now kind.variable (type_shape t kind.of) values number w }
+        object_of t strings (Named.Variable result) ≡ judged_variable kind.variable (type_shape t kind.of) values number w }
 {
     let place = if is_value(mode_of(kind.variable, kind.of)) {
         VariablePlace::Local(values)

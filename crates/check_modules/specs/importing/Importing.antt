@@ -15,7 +15,7 @@ known_as p name m =
 
 -- imports behind the first, one after the other
 abbrev pub more_imports : Source → List NextImport → Part (Unit {0})
-more_imports p more = each p (import_part p) (map (λ n. n.import) more)
+more_imports p more = each (import_part p) (map (λ n. n.import) more)
 
 abbrev pub imports_part : Source → Option S.Imports → Part (Unit {0})
-imports_part p imports = each p (import_part p) (import_list imports)
+imports_part p imports = each (import_part p) (import_list imports)

@@ -166,7 +166,7 @@ pub formals_done : (shapes : List Shape) (xs : List Formal) (i : ℕ) → length
 formals_done shapes xs i le = ap (formals_shape shapes) (drop_all i xs le)
 
 -- as many arguments as parameters
-pub count_is : (s : Scope) (w : World) (shapes : List Shape) (ps : List Formal) (xs : List Given) (bs : List J.Given) → AreGiven s xs bs → J.is_count w (formals_shape shapes ps) bs ≡ nat_eq (length ps) (length xs)
+pub count_is : (s : Scope) (w : World) (shapes : List Shape) (ps : List Formal) (xs : List Given) (bs : List J.Given) → AreGiven s xs bs → J.is_count (formals_shape shapes ps) bs ≡ nat_eq (length ps) (length xs)
 count_is s w shapes [] [] [] h = refl
 count_is s w shapes [] [] (a ∷ bs) h = absurd h
 count_is s w shapes [] (x ∷ xs) [] h = absurd h
@@ -177,14 +177,14 @@ count_is s w shapes (p ∷ ps) (x ∷ xs) [] h = absurd h
 count_is s w shapes (p ∷ ps) (x ∷ xs) (a ∷ bs) h = count_is s w shapes ps xs bs h.1 ∙ sym (eqb-suc-suc (length ps) (length xs))
 
 -- a call by its number, or by its variable
-pub direct_call : (w : World) (x : Operand) (what : What) (bs : I.Arguments) (f : ℕ) → code_in what ≡ Some f → J.call_of w x what bs ≡ I.Direct f bs
+pub direct_call : (w : World) (x : Operand) (what : What) (bs : I.Arguments) (f : ℕ) → code_in what ≡ Some f → J.call_of x what bs ≡ I.Direct f bs
 direct_call w x (Named d) bs f h = cc
 direct_call w x (Valued e) bs f h = cc
 direct_call w x (Chars cs) bs f h = cc
 direct_call w x (Code g l) bs f h = let e : g ≡ f = cc in ap (λ n. I.Direct n bs) e
 direct_call w x (Proper d) bs f h = cc
 
-pub indirect_call : (w : World) (x : Operand) (what : What) (bs : I.Arguments) → code_in what ≡ None → J.call_of w x what bs ≡ I.Indirect (designator_of x) bs
+pub indirect_call : (w : World) (x : Operand) (what : What) (bs : I.Arguments) → code_in what ≡ None → J.call_of x what bs ≡ I.Indirect (designator_of x) bs
 indirect_call w x (Named d) bs h = refl
 indirect_call w x (Valued e) bs h = refl
 indirect_call w x (Chars cs) bs h = refl

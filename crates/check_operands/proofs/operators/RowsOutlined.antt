@@ -27,7 +27,7 @@ inclusion_outlined bases TheRelation.LessEqual y = refl
 inclusion_outlined bases TheRelation.Greater y = refl
 inclusion_outlined bases TheRelation.GreaterEqual y = refl
 
-inclusion_is : (p : Source) (w : World) (r : Relation) (x y : Expr) → inclusion p w r x y ≡ Linked x (inclusion_link_of r y)
+inclusion_is : (p : Source) (w : World) (r : Relation) (x y : Expr) → inclusion r x y ≡ Linked x (inclusion_link_of r y)
 inclusion_is p w TheRelation.Equal x y = refl
 inclusion_is p w TheRelation.Unequal x y = refl
 inclusion_is p w TheRelation.Less x y = refl
@@ -37,8 +37,8 @@ inclusion_is p w TheRelation.GreaterEqual x y = refl
 
 -- of two sets
 pub comparison_included : (p : Source) (w : World) (r : Relation) (a b : Operand) → are_texts a.shape b.shape ≡ false → are_included r a.shape b.shape ≡ true →
-    comparison p w r a b ≡ Linked (form a) (inclusion_link_of r (form b))
+    comparison r a b ≡ Linked (form a) (inclusion_link_of r (form b))
 comparison_included p w r a b e f =
-    ap (λ c. if c then CompareTexts r (designator_of a) (designator_of b) else if are_included r a.shape b.shape then inclusion p w r (form a) (form b) else Compare r (form a) (form b)) e
-    ∙ ap (λ c. if c then inclusion p w r (form a) (form b) else Compare r (form a) (form b)) f
+    ap (λ c. if c then CompareTexts r (designator_of a) (designator_of b) else if are_included r a.shape b.shape then inclusion r (form a) (form b) else Compare r (form a) (form b)) e
+    ∙ ap (λ c. if c then inclusion r (form a) (form b) else Compare r (form a) (form b)) f
     ∙ inclusion_is p w r (form a) (form b)

@@ -65,7 +65,7 @@ fn code_number<'a>(scope: &Scope<'a>, what: &What) -> Option<u32>
 fn call_by<'a>(scope: &Scope<'a>, x: Operand, arguments: Vec<Argument>) -> Call
     ensures { (a : Judgement) (bs : JudgedArguments) → Stands scope.now x a → AreArguments scope.now arguments bs →
         plain_call (table_of scope.now) (texts_of scope.now) result
-        ≡ outlined_call (bases_of scope.now) (call_of (world_of scope.now) a a.what bs) }
+        ≡ outlined_call (bases_of scope.now) (call_of a a.what bs) }
 {
     match code_number(scope, &x.what) {
         Some(number) => Call::Direct(number, arguments),
@@ -93,7 +93,7 @@ fn result_of_call<'a>(
 ) -> Result<Operand, CheckFault>
     ensures { (a : Judgement) (bs : JudgedArguments) → Stands scope.now x a → AreArguments scope.now arguments bs →
         Answers (Stands scope.now)
-        (Keeps (value_of (result_of (table_of scope.now) signature) (ResultOf (call_of (world_of scope.now) a a.what bs))))
+        (Keeps (value_of (result_of (table_of scope.now) signature) (ResultOf (call_of a a.what bs))))
         result }
 {
     let tree = call(alloc, call_by(scope, x, arguments))?;

@@ -10,7 +10,7 @@ ghost use Rattle.ob_judge.specs.Scopes.{characters};
 ghost use Rattle.check_types.specs.steps.Answers.{Gives};
 ghost use Rattle.check_types.specs.declared.names.scope.Scope.{Scope as TheScope};
 ghost use Rattle.check_types.specs.names.Basics.{basic_shape};
-ghost use Rattle.check_types.specs.names.Worlds.{table_of, world_of};
+ghost use Rattle.check_types.specs.names.Worlds.{table_of};
 ghost use Rattle.check_types.specs.TypeMeaning.{type_shape};
 ghost use Rattle.check_operands.specs.Operands.{Stands};
 ghost use Rattle.check_operands.specs.operators.Judged.{IsTree};
@@ -41,7 +41,7 @@ pub fn literal(of: Basic, bits: u64) -> Operand
 
 /// A string.
 pub fn text_literal<'a>(scope: &Scope<'a>, i: u32) -> Operand
-    ensures { Gives (Stands scope.now) (judged_text scope.now.source.now (world_of scope.now) (characters scope.now.source.now i)) result }
+    ensures { Gives (Stands scope.now) (judged_text (characters scope.now.source.now i)) result }
 {
     let number = literal_text(scope, i);
     Operand {

@@ -46,7 +46,7 @@ pub fn joined<'a>(
     x: Operand,
     y: Operand,
 ) -> Result<Operand, CheckFault>
-    ensures { JudgesBoth scope.now x y (judged_operator scope.now.source.now (world_of scope.now) (operator_of operator) (place scope.now.source.now symbol)) result }
+    ensures { JudgesBoth scope.now x y (judged_operator (operator_of operator) (place scope.now.source.now symbol)) result }
 {
     match row_of(operator, x.of, y.of) {
         None => Err(scope.source.fault(31, symbol)),
@@ -120,7 +120,7 @@ pub fn inverted<'a>(
     symbol: u32,
     x: Operand,
 ) -> Result<Operand, CheckFault>
-    ensures { Judges scope.now x (judged_not scope.now.source.now (world_of scope.now) (place scope.now.source.now symbol)) result }
+    ensures { Judges scope.now x (judged_not (place scope.now.source.now symbol)) result }
 {
     if x.of.is_truth() {
         applied(scope, alloc, TypeRef::Bool, Unary::Not, x)

@@ -90,7 +90,7 @@ fn comparison<'a>(
     x: Operand,
     y: Operand,
 ) -> Result<Operand, CheckFault>
-    ensures { JudgesBoth scope.now x y (λ a b. Keeps (value_of Boolean (comparison_of scope.now.source.now (world_of scope.now) relation a b))) result }
+    ensures { JudgesBoth scope.now x y (λ a b. Keeps (value_of Boolean (comparison_of relation a b))) result }
 {
     if scope.types.are_texts(x.of, y.of) {
         of_texts(scope, alloc, relation, x, y)
@@ -144,7 +144,7 @@ pub fn is_in<'a>(
     x: Operand,
     set: Operand,
 ) -> Result<Operand, CheckFault>
-    ensures { JudgesBoth scope.now x set (judged_in scope.now.source.now (world_of scope.now) (place scope.now.source.now symbol)) result }
+    ensures { JudgesBoth scope.now x set (judged_in (place scope.now.source.now symbol)) result }
 {
     if x.of.is_number() && set.of.is_set() {
         membership(scope, alloc, x, set)
@@ -178,7 +178,7 @@ pub fn related<'a>(
 /// An element of a set: 31 where it is no number.
 pub fn set_element<'a>(scope: &Scope<'a>, symbol: u32, x: Operand) -> Result<Expr, CheckFault>
     ensures { (a : Judgement) → Stands scope.now x a
-        → Answers (IsTree scope.now) (judged_element scope.now.source.now (world_of scope.now)
+        → Answers (IsTree scope.now) (judged_element
         (place scope.now.source.now symbol) a) result }
 {
     if x.of.is_number() {

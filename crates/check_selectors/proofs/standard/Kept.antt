@@ -2,13 +2,12 @@
 use Rattle.std.proofs.Common.{◌≡◌, ℕ, Option, Some, None, option_map, Bool, true, false, ◌&&◌, Result, Ok, Err, List, refl, sym, ap, ap₂, ◌∙◌}
 use Rattle.std.specs.Prelude.{is_some}
 use Rattle.ob_judge.specs.Judged.{Judged, Keeps, Breaks, ◌>>=◌, ◌>>◌, rule}
-use Rattle.ob_judge.specs.Shapes.{Shape, Integer, Boolean, Char, Byte, Set, Nil, Nothing, Text, Array, Open, Record, Pointer, Procedure, is_number}
+use Rattle.ob_judge.specs.Shapes.{is_number}
 use Rattle.ob_judge.specs.Image as I
 use Rattle.judged_tree.specs.Outline.{outlined_designator, outlined_checked, outlined_statement}
-use Rattle.check_types.specs.TableFacts.{is_char_shape}
 use Rattle.ob_judge.specs.Scopes.{World}
 use Rattle.ob_judge.specs.Operands.{checked}
-use Rattle.ob_judge.specs.Calls.{Given, number, is_char_only}
+use Rattle.ob_judge.specs.Calls.{Given, number}
 use Rattle.check_types.specs.steps.Answers.{Answers}
 use Rattle.check_types.specs.declared.steps.fault.CheckFault.{CheckFault}
 use Rattle.check_selectors.specs.standard.Made.{IsKept, changed_by}
@@ -19,7 +18,7 @@ pub kept_so : {A B : Type 0} {S : B → A → Type 0} {r : Result B CheckFault} 
 kept_so (Keeps a) n h k = k
 kept_so (Breaks rule at) n h k = absurd h.by
 
-pub number_is : (w : World) (x : Given) → is_number x.operand.shape ≡ true → number w x ≡ Keeps (checked x.operand)
+pub number_is : (w : World) (x : Given) → is_number x.operand.shape ≡ true → number x ≡ Keeps (checked x.operand)
 number_is w x h = ap (λ b. rule 31 x.at b >> Keeps (checked x.operand)) h
 
 pub some_mapped : {A B : Type 0} (f : A → B) (o : Option A) → is_some (option_map f o) ≡ is_some o
@@ -28,21 +27,6 @@ some_mapped f (Some a) = refl
 
 pub both_true : (a b : Bool) → a ≡ true → b ≡ true → (a && b) ≡ true
 both_true a b h k = ap₂ (λ x y. x && y) h k
-
-pub char_only_is : (w : World) (s : Shape) → is_char_only w s ≡ is_char_shape s
-char_only_is w Integer = refl
-char_only_is w Boolean = refl
-char_only_is w Char = refl
-char_only_is w Byte = refl
-char_only_is w Set = refl
-char_only_is w Nil = refl
-char_only_is w Nothing = refl
-char_only_is w (Text n) = refl
-char_only_is w (Array n e) = refl
-char_only_is w (Open e) = refl
-char_only_is w (Record n) = refl
-char_only_is w (Pointer n) = refl
-char_only_is w (Procedure ps r) = refl
 
 pub changed_outlined : (bases : List (Option ℕ)) (change : Change) (d : I.Designator) (x : I.Checked) →
     changed_by change (outlined_designator bases d) (outlined_checked bases x) ≡ outlined_statement bases (changed_by change d x)

@@ -73,13 +73,13 @@ JudgesElement s x i m r = (a b : J.Operand) → IsPart s x a → Stands s i b �
 -- an element of this type, by the array's length where its type has one
 abbrev pub element_in : Scope → Option ℕ → (element : ℕ) → J.Operand → J.Operand → Judged J.Operand
 element_in s length element a b =
-    let shape = shape_of (table_of s) element in Keeps (part_of s.source.now (world_of s) a shape (I.Index (J.place_of a) length shape (J.form b)))
+    let shape = shape_of (table_of s) element in Keeps (part_of a shape (I.Index (J.place_of a) length shape (J.form b)))
 
 -- an operand guarded
 abbrev pub guard_in : Scope → Shape → (tag : ℕ) → J.Operand → Judged J.Operand
-guard_in s shape tag a = Keeps (guard_of s.source.now (world_of s) a shape tag)
+guard_in s shape tag a = Keeps (guard_of a shape tag)
 
 -- a variable that is narrowed, which is a pointer or a VAR record parameter
 abbrev pub narrowed_in : Scope → Variable → (is_pointer : Bool) → Narrowing → Judged J.Operand
 narrowed_in s v is_pointer n =
-    Keeps (narrowed_to s.source.now (world_of s) (J.whole_variable (world_of s) (variable_of (table_of s) (strings_of s) v)) is_pointer (Some (narrowing_of (table_of s) (strings_of s) n)))
+    Keeps (narrowed_to (J.whole_variable (world_of s) (variable_of (table_of s) (strings_of s) v)) is_pointer (Some (narrowing_of (table_of s) (strings_of s) n)))

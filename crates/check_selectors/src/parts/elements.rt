@@ -52,7 +52,7 @@ pub fn element<'a>(
     x: Part,
     i: Operand,
 ) -> Result<Part, CheckFault>
-    ensures { JudgesElement scope.now x i (judged_element scope.now.source.now (world_of scope.now)
+    ensures { JudgesElement scope.now x i (judged_element
         (place scope.now.source.now symbol) (place scope.now.source.now index_symbol)) result }
 {
     match x.of {
@@ -81,7 +81,7 @@ pub fn followed<'a>(
     record_type: u32,
     x: Part,
 ) -> Result<Part, CheckFault>
-    ensures { JudgesPart scope.now x (λ a. Keeps (followed_from scope.now.source.now (world_of scope.now) a record_type)) result }
+    ensures { JudgesPart scope.now x (λ a. Keeps (followed_from a record_type)) result }
 {
     let Part { reach, .. } = x;
     let at = match reach {

@@ -18,7 +18,7 @@ use std::alloc::Global;
 
 // A field of a record type by its name.
 fn find<'a>(scope: &Scope<'a>, record_type: u32, name: &[u8]) -> Option<FieldEntry>
-    ensures { option_map (field_of (table_of scope.now)) result ≡ fields_from scope.now.source.now (world_of scope.now)
+    ensures { option_map (field_of (table_of scope.now)) result ≡ fields_from
         (slice_get (known_of scope.now.types.now).records record_type) name.now }
 {
     match scope.types.layouts.get(record_type as usize) {
@@ -81,7 +81,7 @@ fn field_behind<'a>(
     x: Part,
 ) -> Result<Part, CheckFault>
     ensures { JudgesPart scope.now x (λ a. judged_field_in scope.now.source.now (world_of scope.now) i record_type
-        (followed_from scope.now.source.now (world_of scope.now) a record_type)) result }
+        (followed_from a record_type)) result }
 {
     let target = followed(alloc, scope, record_type, x)?;
     field_in(scope, alloc, i, record_type, target)

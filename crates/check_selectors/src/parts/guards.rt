@@ -152,7 +152,7 @@ fn pointer_test<'a>(
     pointer: u32,
     r: u32,
 ) -> Result<Operand, CheckFault>
-    ensures { Judges scope.now x (λ a. Keeps (value_of Boolean (judged_test scope.now.source.now (world_of scope.now) a (Pointer pointer) r))) result }
+    ensures { Judges scope.now x (λ a. Keeps (value_of Boolean (judged_test a (Pointer pointer) r))) result }
 {
     let tree = is_pointer(alloc, form(scope, x), r)?;
     Ok(value(TypeRef::Bool, tree))

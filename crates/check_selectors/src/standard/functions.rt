@@ -132,7 +132,7 @@ pub fn shifted<'a>(
     n: Given,
 ) -> Result<Operand, CheckFault>
     ensures { (a b : JudgedGiven) → IsGiven scope.now x a → IsGiven scope.now n b →
-        Answers (Stands scope.now) (judged_shift (world_of scope.now) operator a b) result }
+        Answers (Stands scope.now) (judged_shift operator a b) result }
 {
     if !x.operand.of.is_number() {
         Err(scope.source.fault(31, x.symbol))

@@ -30,7 +30,7 @@ pub fn changed_by_one<'a>(
     v: Given,
 ) -> Result<Operand, CheckFault>
     ensures { (a : JudgedGiven) → IsGiven scope.now v a →
-        Answers (Stands scope.now) (judged_change (world_of scope.now) (change_of change) a (by_one (world_of scope.now))) result }
+        Answers (Stands scope.now) (judged_change (change_of change) a by_one) result }
 {
     written(scope, &v)?;
     if v.operand.of.is_number() {
@@ -55,7 +55,7 @@ pub fn changed_by<'a>(
 ) -> Result<Operand, CheckFault>
     ensures { (a b : JudgedGiven) → IsGiven scope.now v a → IsGiven scope.now n b →
         Answers (Stands scope.now)
-        (judged_change (world_of scope.now) (change_of change) a (judged_number (world_of scope.now) b)) result }
+        (judged_change (change_of change) a (judged_number b)) result }
 {
     written(scope, &v)?;
     if !v.operand.of.is_number() {
@@ -79,7 +79,7 @@ pub fn set_changed<'a>(
     x: Given,
 ) -> Result<Operand, CheckFault>
     ensures { (a b : JudgedGiven) → IsGiven scope.now v a → IsGiven scope.now x b →
-        Answers (Stands scope.now) (judged_set_change (world_of scope.now) (change_of change) a b) result }
+        Answers (Stands scope.now) (judged_set_change (change_of change) a b) result }
 {
     written(scope, &v)?;
     if !v.operand.of.is_set() {

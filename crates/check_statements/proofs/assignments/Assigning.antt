@@ -5,17 +5,16 @@ use Rattle.ob_syntax.specs.Plain.{plain_expression, plain_each_selector, plain_r
 use Rattle.ob_syntax.specs.declared.expressions.Selector.{Selector}
 use Rattle.ob_syntax.specs.declared.declarations.Returned.{Returned}
 use Rattle.ob_judge.specs.Judged.{Judged, Keeps, Breaks, ◌>>=◌, ◌>>◌, rule, some}
-use Rattle.ob_judge.specs.Shapes.{Shape, Integer, Boolean, Char, Byte, Set, Nil, Nothing, Text, Array, Open, Record, Pointer, Procedure}
+use Rattle.ob_judge.specs.Shapes.{Shape, Integer}
 use Rattle.ob_judge.specs.Image.{Designator, of_type}
 use Rattle.ob_judge.specs.Image as I
 use Rattle.ob_judge.specs.Scopes.{Object, AConstant, AType, AVariable, AProcedure, AStandard, AModule, Variable, Source, World, place}
 use Rattle.ob_judge.specs.Operands.{Operand, designator_of, whole_variable}
 use Rattle.ob_judge.specs.Calls.{stored, may_assign}
 use Rattle.ob_judge.specs.Symbols.{expression_first}
-use Rattle.ob_judge.specs.Parts.{is_nothing as nothing_in}
+use Rattle.ob_judge.specs.Parts.{is_nothing}
 use Rattle.ob_judge.specs.Expressions.{expression}
 use Rattle.ob_judge.specs.Assignments.{whole_object, integer_variable}
-use Rattle.check_types.specs.TableFacts.{is_nothing}
 use Rattle.check_types.specs.steps.Answers.{Answers}
 use Rattle.check_types.specs.declared.steps.fault.CheckFault.{CheckFault}
 use Rattle.check_types.specs.declared.steps.fault.CheckFault.TheVariants.{Fault}
@@ -23,9 +22,9 @@ use Rattle.check_types.proofs.steps.Answering.{missing}
 use Rattle.ob_judge.specs.Declarations.{answer}
 use Rattle.check_statements.specs.assignments.Assigned.{returned}
 
-module _ (p : Source) (w : World) where
+module _ (w : World) where
   -- a part of a variable is the destination
-  pub other_part : (o : Object) (ss : List Selector) (other : Judged Operand) (b : Bool) → b ≡ nat_eq (length ss) 0 → b ≡ false → whole_object p w o (plain_each_selector ss) other ≡ other
+  pub other_part : (o : Object) (ss : List Selector) (other : Judged Operand) (b : Bool) → b ≡ nat_eq (length ss) 0 → b ≡ false → whole_object w o (plain_each_selector ss) other ≡ other
   other_part o [] other b h i = no (sym i ∙ h)
   other_part (AVariable v) (s ∷ ss) other b h i = refl
   other_part (AConstant c) (s ∷ ss) other b h i = refl
@@ -47,26 +46,11 @@ answered at bt b (Keeps x) f g = answered_by at bt b (f x) (g x)
 answered at bt b (Breaks n k) f g = refl
 
 pub answer_is : (p : Source) (w : World) (t : Shape) (end_word : ℕ) (r : Returned) → answer p t end_word (Some (plain_returned r)) w ≡ (returned p w t r >>= λ c. Keeps (Some c))
-answer_is p w t end_word r = answered (place p r.return_word) (place p (expression_first (plain_expression r.value))) (not (nothing_in p w t)) (expression p w (plain_expression r.value)) (λ x. may_assign w.known t x) (λ x. stored t x)
-
-pub same_nothing : (p : Source) (w : World) (s : Shape) → nothing_in p w s ≡ is_nothing s
-same_nothing p w Nothing = refl
-same_nothing p w Integer = refl
-same_nothing p w Boolean = refl
-same_nothing p w Char = refl
-same_nothing p w Byte = refl
-same_nothing p w Set = refl
-same_nothing p w Nil = refl
-same_nothing p w (Text n) = refl
-same_nothing p w (Array n a) = refl
-same_nothing p w (Open a) = refl
-same_nothing p w (Record r) = refl
-same_nothing p w (Pointer n) = refl
-same_nothing p w (Procedure ps r) = refl
+answer_is p w t end_word r = answered (place p r.return_word) (place p (expression_first (plain_expression r.value))) (not (is_nothing t)) (expression p w (plain_expression r.value)) (λ x. may_assign w.known t x) (λ x. stored t x)
 
 -- ---- FOR
 
-pub integer_is : (p : Source) (w : World) (v : Variable) → v.shape ≡ Integer → integer_variable p w (AVariable v) ≡ Some (designator_of (whole_variable w v))
+pub integer_is : (p : Source) (w : World) (v : Variable) → v.shape ≡ Integer → integer_variable w (AVariable v) ≡ Some (designator_of (whole_variable w v))
 integer_is p w v h = subst (λ s. (elim s as (λ _. Option Designator) [ Integer ↦ Some (of_type v.place Integer) | other ↦ None ]) ≡ Some (of_type v.place s)) (sym h) refl
 
 pub missing_so : {A A' B : Type 0} {S : B → A' → Type 0} {o : Option A} {e : CheckFault} (n at : ℕ) (f : A → Judged A') → o ≡ None → e ≡ Fault n at → Answers S (some n at o >>= f) (Err e)

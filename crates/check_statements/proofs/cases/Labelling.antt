@@ -28,24 +28,24 @@ ruled n at b x f = by b
 module _ (p : Source) (w : World) (of_char : Bool) where
   -- what a range with these ends comes to
   abbrev ended : Range → J.Labelled → ℤ → ℤ → Judged J.Labelled
-  ended r a low high = rule 39 (place p (J.label_symbol p r.low)) (int_le low high && not (J.overlaps low high a.taken)) >> Keeps (record { labels = J.value_label p low high r.high ∷ []; taken = (low, high) ∷ a.taken })
+  ended r a low high = rule 39 (place p (J.label_symbol r.low)) (int_le low high && not (J.overlaps low high a.taken)) >> Keeps (record { labels = J.value_label low high r.high ∷ []; taken = (low, high) ∷ a.taken })
 
   abbrev added_to : J.Labelled → J.Labelled → Judged J.Labelled
   added_to a y = Keeps (record { labels = a.labels ++ y.labels; taken = y.taken })
 
   with_high : (r : Range) (a : J.Labelled) (low : ℤ) (m : Judged ℤ) →
-      ((m >>= λ high. ended r a low high) >>= λ x. added_to a x) ≡ (m >>= λ high. labelled_ends p w (place p (J.label_symbol p r.low)) low high r.high a)
-  with_high r a low (Keeps high) = ruled 39 (place p (J.label_symbol p r.low)) (int_le low high && not (J.overlaps low high a.taken)) (record { labels = J.value_label p low high r.high ∷ []; taken = (low, high) ∷ a.taken }) (λ x. added_to a x)
+      ((m >>= λ high. ended r a low high) >>= λ x. added_to a x) ≡ (m >>= λ high. labelled_ends p w (place p (J.label_symbol r.low)) low high r.high a)
+  with_high r a low (Keeps high) = ruled 39 (place p (J.label_symbol r.low)) (int_le low high && not (J.overlaps low high a.taken)) (record { labels = J.value_label low high r.high ∷ []; taken = (low, high) ∷ a.taken }) (λ x. added_to a x)
   with_high r a low (Breaks n at) = refl
 
   with_low : (r : Range) (a : J.Labelled) (m : Judged ℤ) →
       ((m >>= λ low. J.high_label p w of_char low r.high >>= λ high. ended r a low high) >>= λ x. added_to a x)
-      ≡ (m >>= λ low. J.high_label p w of_char low r.high >>= λ high. labelled_ends p w (place p (J.label_symbol p r.low)) low high r.high a)
+      ≡ (m >>= λ low. J.high_label p w of_char low r.high >>= λ high. labelled_ends p w (place p (J.label_symbol r.low)) low high r.high a)
   with_low r a (Keeps low) = with_high r a low (J.high_label p w of_char low r.high)
   with_low r a (Breaks n at) = refl
 
   pub one_is : (a : J.Labelled) (r : Range) → labelled_one p w of_char a r
-      ≡ (J.label p w of_char r.low >>= λ low. J.high_label p w of_char low r.high >>= λ high. labelled_ends p w (place p (J.label_symbol p r.low)) low high r.high a)
+      ≡ (J.label p w of_char r.low >>= λ low. J.high_label p w of_char low r.high >>= λ high. labelled_ends p w (place p (J.label_symbol r.low)) low high r.high a)
   one_is a r = with_low r a (J.label p w of_char r.low)
 
   -- ---- all ranges
@@ -80,11 +80,11 @@ module _ (p : Source) (w : World) (of_char : Bool) where
 
 module _ (p : Source) (w : World) where
   pub type_label_is : (s : Shape) (is_first : Bool) (r : Range) → J.type_label p w s is_first r
-      ≡ (type_in_label p w (place p (J.label_symbol p r.low)) r.low >>= λ t. label_end p w (place p (J.label_symbol p r.low)) s is_first r.high t)
+      ≡ (type_in_label p w (place p (J.label_symbol r.low)) r.low >>= λ t. label_end p w (place p (J.label_symbol r.low)) s is_first r.high t)
   type_label_is s is_first r = by (J.label_object p w r.low)
     where
-      by : (m : Judged _) → (m >>= λ o. some 39 (place p (J.label_symbol p r.low)) (J.label_type p o) >>= λ t. label_end p w (place p (J.label_symbol p r.low)) s is_first r.high t)
-          ≡ ((m >>= λ o. some 39 (place p (J.label_symbol p r.low)) (J.label_type p o)) >>= λ t. label_end p w (place p (J.label_symbol p r.low)) s is_first r.high t)
+      by : (m : Judged _) → (m >>= λ o. some 39 (place p (J.label_symbol r.low)) (J.label_type o) >>= λ t. label_end p w (place p (J.label_symbol r.low)) s is_first r.high t)
+          ≡ ((m >>= λ o. some 39 (place p (J.label_symbol r.low)) (J.label_type o)) >>= λ t. label_end p w (place p (J.label_symbol r.low)) s is_first r.high t)
       by (Keeps o) = refl
       by (Breaks n at) = refl
 
@@ -103,5 +103,5 @@ pub missing_last : {A B : Type 0} {S : B → A → Type 0} {o : Option A} {e : C
 missing_last {S} {e} n at i j = subst (λ o. Answers S (some n at o) (Err e)) (sym i) (subst (λ (z : CheckFault). Answers S (some n at None) (Err z)) (sym j) (record { by = (refl, refl) }))
 
 pub ends_kept : (p : Source) (w : World) (at : ℕ) (low high : ℤ) (tree : Option High) (a : J.Labelled) (x : Labelled) →
-    (int_le low high && not (J.overlaps low high a.taken)) ≡ true → x.labels ≡ a.labels ++ J.value_label p low high tree ∷ [] → AreRanges x.taken ((low, high) ∷ a.taken) → Answers IsLabelled (labelled_ends p w at low high tree a) (Ok x)
-ends_kept p w at low high tree a x t l r = kept 39 at (Keeps (record { labels = a.labels ++ J.value_label p low high tree ∷ []; taken = (low, high) ∷ a.taken })) t (record { by = record { labels = l; taken = r } })
+    (int_le low high && not (J.overlaps low high a.taken)) ≡ true → x.labels ≡ a.labels ++ J.value_label low high tree ∷ [] → AreRanges x.taken ((low, high) ∷ a.taken) → Answers IsLabelled (labelled_ends p w at low high tree a) (Ok x)
+ends_kept p w at low high tree a x t l r = kept 39 at (Keeps (record { labels = a.labels ++ J.value_label low high tree ∷ []; taken = (low, high) ∷ a.taken })) t (record { by = record { labels = l; taken = r } })

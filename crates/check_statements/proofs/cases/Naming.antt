@@ -8,9 +8,9 @@ use Rattle.check_types.specs.names.Meaning.{narrowing_of, narrowings_before}
 use Rattle.check_types.specs.declared.names.scope.Narrowing.{Narrowing}
 use Rattle.check_statements.specs.cases.Selecting.{name_in}
 
-pub alone_is : (p : Source) (w : World) (q : Option (ℕ × Option ℕ)) (n : ℕ) → name_in q ≡ Some n → named_alone p w q ≡ entry_object p (look_up (spelled p n) w.levels)
+pub alone_is : (p : Source) (w : World) (q : Option (ℕ × Option ℕ)) (n : ℕ) → name_in q ≡ Some n → named_alone p w q ≡ entry_object (look_up (spelled p n) w.levels)
 alone_is p w None n h = absurd (let z = h in cc)
-alone_is p w (Some (m, None)) n h = let z : m ≡ n = cc in ap (λ k. entry_object p (look_up (spelled p k) w.levels)) z
+alone_is p w (Some (m, None)) n h = let z : m ≡ n = cc in ap (λ k. entry_object (look_up (spelled p k) w.levels)) z
 alone_is p w (Some (m, Some i)) n h = absurd (let z = h in cc)
 
 module _ (t : Table) (strings : List (List ℕ)) where

@@ -16,7 +16,7 @@ use Rattle.ob_judge.specs.Calls.{standard}
 use Rattle.ob_judge.specs.Assignments.{alone, called_alone, is_call, deed_of}
 use Rattle.std.proofs.Common.{Result, Ok, Err}
 use Rattle.ob_types.specs.declared.statements.Stmt.{Stmt}
-use Rattle.check_types.specs.TableFacts.{is_nothing}
+use Rattle.ob_judge.specs.Parts.{is_nothing}
 use Rattle.check_types.specs.steps.Answers.{Answers}
 use Rattle.check_types.proofs.steps.Answering.{as_judged}
 use Rattle.check_types.specs.declared.steps.fault.CheckFault.{CheckFault}
@@ -100,7 +100,7 @@ module _ (p : Source) (w : World) where
   no_field o [] b h i k = no (sym i ∙ h)
   no_field o (s ∷ ss) b h i k = more_behind o (plain_selector s) (plain_each_selector ss) k
 
-  pub standard_is : (at : ℕ) (o : Option Object) (s : Standard) (other : Judged Operand) → standard_alone o ≡ Some s → called_alone p w at o other ≡ standard w at s []
+  pub standard_is : (at : ℕ) (o : Option Object) (s : Standard) (other : Judged Operand) → standard_alone o ≡ Some s → called_alone w at o other ≡ standard w at s []
   standard_is at None s other h = none_some s h
   standard_is at (Some (AStandard t)) s other h = ap (λ z. standard w at z []) (some_same t s h)
   standard_is at (Some (AVariable v)) s other h = none_some s h
@@ -196,7 +196,7 @@ module _ (bases : List (Option ℕ)) where
   same_call (I.AsByte x) = refl
   same_call (I.Length d) = refl
 
-  call_of_value : (p : Source) (x : I.Expr) → is_call p (Valued x) ≡ is_result x
+  call_of_value : (p : Source) (x : I.Expr) → is_call (Valued x) ≡ is_result x
   call_of_value p (I.Result c) = refl
   call_of_value p (I.Literal n) = refl
   call_of_value p (I.Routine f) = refl
@@ -212,7 +212,7 @@ module _ (bases : List (Option ℕ)) where
   call_of_value p (I.AsByte x) = refl
   call_of_value p (I.Length d) = refl
 
-  pub called_what : (p : Source) (x : I.Expr) (w : What) → Valued x ≡ outlined_what bases w → is_call p w ≡ is_result x
+  pub called_what : (p : Source) (x : I.Expr) (w : What) → Valued x ≡ outlined_what bases w → is_call w ≡ is_result x
   called_what p x (Valued y) h = let z : x ≡ outlined_expr bases y = cc in call_of_value p y ∙ sym (same_result y) ∙ ap is_result (sym z)
   called_what p x (Named d) h = cc
   called_what p x (Chars cs) h = cc
@@ -240,7 +240,7 @@ proper_what bases d (Valued x) h = cc
 -- ---- deeds
 
 module _ (p : Source) (at : ℕ) where
-  valued_deed : (x : I.Expr) (d : I.Statement) → option_map I.Invoke (call_by x) ≡ Some d → deed_of p at Nothing (Valued x) ≡ Keeps d
+  valued_deed : (x : I.Expr) (d : I.Statement) → option_map I.Invoke (call_by x) ≡ Some d → deed_of at Nothing (Valued x) ≡ Keeps d
   valued_deed (I.Result c) d h = ap Keeps (some_same (I.Invoke c) d h)
   valued_deed (I.Literal n) d h = none_some d h
   valued_deed (I.Routine f) d h = none_some d h
@@ -256,14 +256,14 @@ module _ (p : Source) (at : ℕ) where
   valued_deed (I.AsByte x) d h = none_some d h
   valued_deed (I.Length e) d h = none_some d h
 
-  some_deed : (w : What) (d : I.Statement) → deed_by w ≡ Some d → deed_of p at Nothing w ≡ Keeps d
+  some_deed : (w : What) (d : I.Statement) → deed_by w ≡ Some d → deed_of at Nothing w ≡ Keeps d
   some_deed (Proper e) d h = ap Keeps (some_same e d h)
   some_deed (Valued x) d h = valued_deed x d h
   some_deed (Named e) d h = none_some d h
   some_deed (Chars cs) d h = none_some d h
   some_deed (Code f l) d h = none_some d h
 
-  valued_none : (x : I.Expr) → option_map I.Invoke (call_by x) ≡ None → deed_of p at Nothing (Valued x) ≡ Breaks 31 at
+  valued_none : (x : I.Expr) → option_map I.Invoke (call_by x) ≡ None → deed_of at Nothing (Valued x) ≡ Breaks 31 at
   valued_none (I.Result c) h = none_some (I.Invoke c) (sym h)
   valued_none (I.Literal n) h = refl
   valued_none (I.Routine f) h = refl
@@ -279,7 +279,7 @@ module _ (p : Source) (at : ℕ) where
   valued_none (I.AsByte x) h = refl
   valued_none (I.Length e) h = refl
 
-  none_deed : (w : What) → deed_by w ≡ None → deed_of p at Nothing w ≡ Breaks 31 at
+  none_deed : (w : What) → deed_by w ≡ None → deed_of at Nothing w ≡ Breaks 31 at
   none_deed (Proper e) h = none_some e (sym h)
   none_deed (Valued x) h = valued_none x h
   none_deed (Named e) h = refl
@@ -292,21 +292,21 @@ module _ (p : Source) (at : ℕ) where
 
   -- the code's statement is the deed
   pub deed_kept : (s : Scope) (made : Stmt) (shape : Shape) (w : What) → is_nothing shape ≡ true →
-      Some (plain_statement (table_of s) (texts_of s) made) ≡ option_map (outlined_statement (bases_of s)) (deed_by w) → Answers (IsStatement s) (deed_of p at shape w) (Ok made)
+      Some (plain_statement (table_of s) (texts_of s) made) ≡ option_map (outlined_statement (bases_of s)) (deed_by w) → Answers (IsStatement s) (deed_of at shape w) (Ok made)
   deed_kept s made shape w n h = by (deed_by w) refl h
     where
-      by : (o : Option I.Statement) → deed_by w ≡ o → Some (plain_statement (table_of s) (texts_of s) made) ≡ option_map (outlined_statement (bases_of s)) o → Answers (IsStatement s) (deed_of p at shape w) (Ok made)
+      by : (o : Option I.Statement) → deed_by w ≡ o → Some (plain_statement (table_of s) (texts_of s) made) ≡ option_map (outlined_statement (bases_of s)) o → Answers (IsStatement s) (deed_of at shape w) (Ok made)
       by None i j = none_some (plain_statement (table_of s) (texts_of s) made) (sym j)
-      by (Some d) i j = as_judged (ap (λ z. deed_of p at z w) (nothing_is shape n) ∙ some_deed w d i) (record { by = some_same _ _ j })
+      by (Some d) i j = as_judged (ap (λ z. deed_of at z w) (nothing_is shape n) ∙ some_deed w d i) (record { by = some_same _ _ j })
 
-  pub deed_broken : (s : Scope) (shape : Shape) (w : What) (e : CheckFault) → e ≡ Fault 31 at → is_nothing shape ≡ true → None ≡ option_map (outlined_statement (bases_of s)) (deed_by w) → Answers (IsStatement s) (deed_of p at shape w) (Err e)
+  pub deed_broken : (s : Scope) (shape : Shape) (w : What) (e : CheckFault) → e ≡ Fault 31 at → is_nothing shape ≡ true → None ≡ option_map (outlined_statement (bases_of s)) (deed_by w) → Answers (IsStatement s) (deed_of at shape w) (Err e)
   deed_broken s shape w e f n h = by (deed_by w) refl h
     where
-      by : (o : Option I.Statement) → deed_by w ≡ o → None ≡ option_map (outlined_statement (bases_of s)) o → Answers (IsStatement s) (deed_of p at shape w) (Err e)
-      by None i j = as_judged (ap (λ z. deed_of p at z w) (nothing_is shape n) ∙ none_deed w i) (breaks_so 31 at f)
+      by : (o : Option I.Statement) → deed_by w ≡ o → None ≡ option_map (outlined_statement (bases_of s)) o → Answers (IsStatement s) (deed_of at shape w) (Err e)
+      by None i j = as_judged (ap (λ z. deed_of at z w) (nothing_is shape n) ∙ none_deed w i) (breaks_so 31 at f)
       by (Some d) i j = none_some (outlined_statement (bases_of s) d) j
 
-  other_deed : (shape : Shape) (w : What) → is_nothing shape ≡ false → deed_of p at shape w ≡ Breaks 31 at
+  other_deed : (shape : Shape) (w : What) → is_nothing shape ≡ false → deed_of at shape w ≡ Breaks 31 at
   other_deed Nothing w h = no (sym h)
   other_deed Integer w h = refl
   other_deed Boolean w h = refl
@@ -321,5 +321,5 @@ module _ (p : Source) (at : ℕ) where
   other_deed (Pointer n) w h = refl
   other_deed (Procedure ps r) w h = refl
 
-  pub deed_typed : (s : Scope) (shape : Shape) (w : What) (e : CheckFault) → e ≡ Fault 31 at → is_nothing shape ≡ false → Answers (IsStatement s) (deed_of p at shape w) (Err e)
+  pub deed_typed : (s : Scope) (shape : Shape) (w : What) (e : CheckFault) → e ≡ Fault 31 at → is_nothing shape ≡ false → Answers (IsStatement s) (deed_of at shape w) (Err e)
   deed_typed s shape w e f n = as_judged (other_deed shape w n) (breaks_so 31 at f)

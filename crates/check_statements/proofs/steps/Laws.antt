@@ -121,9 +121,9 @@ module _ (p : Source) (w : World) where
   repeat_is b = let x = out-RepeatStat b.value in ap (statement p w) (repeat_parts b) ∙ then_repeat (statements p w (plain_stats x.body)) (condition p w (plain_expression x.guard))
 
   for_first : (v : ℕ) (from to : S.Expression) (by : Option S.By) (body : S.Stats) (m : Judged Object) (n : Judged Operand) →
-      (m >>= λ o. n >>= λ x. some 31 (place p v) (integer_variable p w o) >>= λ d. rule 31 (place p (expression_first from)) (is_number x.shape) >> (number p w to >>= λ y. step_of p w by >>= λ step. statements p w body >>= λ b. Keeps (next_statement (For d (checked x) y step b))))
-      ≡ (((m >>= λ o. n >>= λ x. some 31 (place p v) (integer_variable p w o) >>= λ d. rule 31 (place p (expression_first from)) (is_number x.shape) >> (number p w to >>= λ y. step_of p w by >>= λ step. Keeps (record { variable = d; first = checked x; limit = y; step = step }))) >>= λ (h : JudgedHead). statements p w body >>= λ b. Keeps (For h.variable h.first h.limit h.step b)) >>= λ s. Keeps (next_statement s))
-  for_first v from to by body (Keeps o) (Keeps x) = for_middle (place p v) (place p (expression_first from)) (integer_variable p w o) (is_number x.shape) x (number p w to) (step_of p w by) (statements p w body)
+      (m >>= λ o. n >>= λ x. some 31 (place p v) (integer_variable w o) >>= λ d. rule 31 (place p (expression_first from)) (is_number x.shape) >> (number p w to >>= λ y. step_of p w by >>= λ step. statements p w body >>= λ b. Keeps (next_statement (For d (checked x) y step b))))
+      ≡ (((m >>= λ o. n >>= λ x. some 31 (place p v) (integer_variable w o) >>= λ d. rule 31 (place p (expression_first from)) (is_number x.shape) >> (number p w to >>= λ y. step_of p w by >>= λ step. Keeps (record { variable = d; first = checked x; limit = y; step = step }))) >>= λ (h : JudgedHead). statements p w body >>= λ b. Keeps (For h.variable h.first h.limit h.step b)) >>= λ s. Keeps (next_statement s))
+  for_first v from to by body (Keeps o) (Keeps x) = for_middle (place p v) (place p (expression_first from)) (integer_variable w o) (is_number x.shape) x (number p w to) (step_of p w by) (statements p w body)
   for_first v from to by body (Keeps o) (Breaks i at) = refl
   for_first v from to by body (Breaks i at) n = refl
 
@@ -133,26 +133,26 @@ module _ (p : Source) (w : World) where
   -- ---- CASE
 
   case_last : (s : SelectorOf) (x : Operand) (one : (Parts → Parts) × List (ℤ × ℤ)) (n : Judged Parts) →
-      (n >>= λ rest. Keeps (next_statement (case_of p s x (one.0 rest)))) ≡ (((n >>= λ r. Keeps (one.0 r)) >>= λ parts. Keeps (case_of p s x parts)) >>= λ d. Keeps (next_statement d))
+      (n >>= λ rest. Keeps (next_statement (case_of s x (one.0 rest)))) ≡ (((n >>= λ r. Keeps (one.0 r)) >>= λ parts. Keeps (case_of s x parts)) >>= λ d. Keeps (next_statement d))
   case_last s x one (Keeps r) = refl
   case_last s x one (Breaks i at) = refl
 
   case_middle : (s : SelectorOf) (x : Operand) (more : List NextCase) (m : Judged ((Parts → Parts) × List (ℤ × ℤ))) →
-      (m >>= λ one. next_cases p w s one.1 (plain_each_case more) >>= λ rest. Keeps (next_statement (case_of p s x (one.0 rest))))
-      ≡ (((m >>= λ one. Keeps ((λ r. one.0 r), one.1)) >>= λ a. part_more p w s a more >>= λ parts. Keeps (case_of p s x parts)) >>= λ d. Keeps (next_statement d))
+      (m >>= λ one. next_cases p w s one.1 (plain_each_case more) >>= λ rest. Keeps (next_statement (case_of s x (one.0 rest))))
+      ≡ (((m >>= λ one. Keeps ((λ r. one.0 r), one.1)) >>= λ a. part_more p w s a more >>= λ parts. Keeps (case_of s x parts)) >>= λ d. Keeps (next_statement d))
   case_middle s x more (Keeps one) = case_last s x one (next_cases p w s one.1 (plain_each_case more))
   case_middle s x more (Breaks i at) = refl
 
   case_selected : (at : ℕ) (x : Operand) (first : S.MaybeCase) (more : List NextCase) (o : Option SelectorOf) →
-      (some 31 at o >>= λ s. case_part p w s [] first >>= λ one. next_cases p w s one.1 (plain_each_case more) >>= λ rest. Keeps (next_statement (case_of p s x (one.0 rest))))
-      ≡ ((some 31 at o >>= λ s. (case_part p w s [] first >>= λ one. Keeps ((λ r. one.0 r), one.1)) >>= λ a. part_more p w s a more >>= λ parts. Keeps (case_of p s x parts)) >>= λ d. Keeps (next_statement d))
+      (some 31 at o >>= λ s. case_part p w s [] first >>= λ one. next_cases p w s one.1 (plain_each_case more) >>= λ rest. Keeps (next_statement (case_of s x (one.0 rest))))
+      ≡ ((some 31 at o >>= λ s. (case_part p w s [] first >>= λ one. Keeps ((λ r. one.0 r), one.1)) >>= λ a. part_more p w s a more >>= λ parts. Keeps (case_of s x parts)) >>= λ d. Keeps (next_statement d))
   case_selected at x first more (Some s) = case_middle s x more (case_part p w s [] first)
   case_selected at x first more None = refl
 
   case_first : (e : S.Expression) (first : S.MaybeCase) (more : List NextCase) (m : Judged Operand) →
-      (m >>= λ x. some 31 (place p (expression_first e)) (selector_of p (case_variable p (named_alone p w (bare e))) x.shape) >>= λ s. case_part p w s [] first >>= λ one. next_cases p w s one.1 (plain_each_case more) >>= λ rest. Keeps (next_statement (case_of p s x (one.0 rest))))
-      ≡ ((m >>= λ x. some 31 (place p (expression_first e)) (selector_of p (case_variable p (named_alone p w (bare e))) x.shape) >>= λ s. (case_part p w s [] first >>= λ one. Keeps ((λ r. one.0 r), one.1)) >>= λ a. part_more p w s a more >>= λ parts. Keeps (case_of p s x parts)) >>= λ d. Keeps (next_statement d))
-  case_first e first more (Keeps x) = case_selected (place p (expression_first e)) x first more (selector_of p (case_variable p (named_alone p w (bare e))) x.shape)
+      (m >>= λ x. some 31 (place p (expression_first e)) (selector_of (case_variable (named_alone p w (bare e))) x.shape) >>= λ s. case_part p w s [] first >>= λ one. next_cases p w s one.1 (plain_each_case more) >>= λ rest. Keeps (next_statement (case_of s x (one.0 rest))))
+      ≡ ((m >>= λ x. some 31 (place p (expression_first e)) (selector_of (case_variable (named_alone p w (bare e))) x.shape) >>= λ s. (case_part p w s [] first >>= λ one. Keeps ((λ r. one.0 r), one.1)) >>= λ a. part_more p w s a more >>= λ parts. Keeps (case_of s x parts)) >>= λ d. Keeps (next_statement d))
+  case_first e first more (Keeps x) = case_selected (place p (expression_first e)) x first more (selector_of (case_variable (named_alone p w (bare e))) x.shape)
   case_first e first more (Breaks i at) = refl
 
   pub case_is : (b : Box CaseStat Global) → statement p w (plain_stat (TheStat.Case b)) ≡ (case_stat_of p w b.value >>= λ d. Keeps (next_statement d))
@@ -176,7 +176,7 @@ module _ (p : Source) (w : World) where
   labelled_when l = Keeps (Labels l.labels, w, l.taken)
 
   abbrev typed_when : Place → List (ℤ × ℤ) → Shape → Judged (When × World × List (ℤ × ℤ))
-  typed_when d ts t = Keeps (Extends (tag_of p w.known t), narrow p w d t, ts)
+  typed_when d ts t = Keeps (Extends (tag_of w.known t), narrow w d t, ts)
 
   abbrev bodied : When → List (ℤ × ℤ) → Statements → Judged ((Parts → Parts) × List (ℤ × ℤ))
   bodied when ts b = Keeps (next_part when b, ts)
@@ -197,16 +197,16 @@ module _ (p : Source) (w : World) where
   valued a body (Breaks i at) = refl
 
   pub value_filled_is : (of_char : Bool) (a : (Parts → Parts) × List (ℤ × ℤ)) (x : CasePart) →
-      filled p w (on_value p w of_char) a x ≡ (ranges p w of_char (as_list (out-CasePart x).first (out-CasePart x).more.items) a.1 >>= λ l. statements p w (plain_stats (out-CasePart x).body) >>= λ b. put_part a (Labels l.labels) l.taken b)
+      filled p w (on_value of_char) a x ≡ (ranges p w of_char (as_list (out-CasePart x).first (out-CasePart x).more.items) a.1 >>= λ l. statements p w (plain_stats (out-CasePart x).body) >>= λ b. put_part a (Labels l.labels) l.taken b)
   value_filled_is false a x = valued a (plain_stats (out-CasePart x).body) (ranges p w false (as_list (out-CasePart x).first (out-CasePart x).more.items) a.1)
   value_filled_is true a x = valued a (plain_stats (out-CasePart x).body) (ranges p w true (as_list (out-CasePart x).first (out-CasePart x).more.items) a.1)
 
   typed : (d : Place) (a : (Parts → Parts) × List (ℤ × ℤ)) (body : S.Stats) (m : Judged Shape) →
       (((m >>= λ t. typed_when d a.1 t) >>= λ x. statements p x.1 body >>= λ b. bodied x.0 x.2 b) >>= λ one. added a one)
-      ≡ (m >>= λ t. statements p (narrow p w d t) body >>= λ b. put_part a (Extends (tag_of p w.known t)) a.1 b)
-  typed d a body (Keeps t) = with_body a (Extends (tag_of p w.known t)) a.1 (statements p (narrow p w d t) body)
+      ≡ (m >>= λ t. statements p (narrow w d t) body >>= λ b. put_part a (Extends (tag_of w.known t)) a.1 b)
+  typed d a body (Keeps t) = with_body a (Extends (tag_of w.known t)) a.1 (statements p (narrow w d t) body)
   typed d a body (Breaks i at) = refl
 
   pub type_filled_is : (d : Place) (s : Shape) (a : (Parts → Parts) × List (ℤ × ℤ)) (x : CasePart) →
-      filled p w (OnType d s) a x ≡ (type_labels p w s (out-CasePart x).first (out-CasePart x).more.items >>= λ t. statements p (narrow p w d t) (plain_stats (out-CasePart x).body) >>= λ b. put_part a (Extends (tag_of p w.known t)) a.1 b)
+      filled p w (OnType d s) a x ≡ (type_labels p w s (out-CasePart x).first (out-CasePart x).more.items >>= λ t. statements p (narrow w d t) (plain_stats (out-CasePart x).body) >>= λ b. put_part a (Extends (tag_of w.known t)) a.1 b)
   type_filled_is d s a x = typed d a (plain_stats (out-CasePart x).body) (type_labels p w s (out-CasePart x).first (out-CasePart x).more.items)

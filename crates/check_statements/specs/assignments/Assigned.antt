@@ -47,7 +47,7 @@ module _ (p : Source) (w : World) where
   abbrev pub step_in : S.Expression → Judged ℤ
   step_in e = do
     c ← constant p w e
-    z ← some 31 (place p (expression_first e)) (int_only p c)
+    z ← some 31 (place p (expression_first e)) (int_only c)
     rule 35 (place p (expression_first e)) (not (int_eq z (pos 0)))
     Keeps z
 
@@ -55,6 +55,6 @@ module _ (p : Source) (w : World) where
   abbrev pub returned : Shape → Returned → Judged I.Checked
   returned t r = do
     x ← expression p w (plain_expression r.value)
-    rule 41 (place p r.return_word) (not (is_nothing p w t))
+    rule 41 (place p r.return_word) (not (is_nothing t))
     rule 31 (place p (expression_first (plain_expression r.value))) (may_assign w.known t x)
     Keeps (stored t x)

@@ -41,4 +41,4 @@ module _ (p : Source) (w : World) (of_char : Bool) where
 abbrev pub labelled_ends : Source → World → (at : ℕ) → ℤ → ℤ → Option High → J.Labelled → Judged J.Labelled
 labelled_ends p w at low high tree a = do
   rule 39 at (int_le low high && not (J.overlaps low high a.taken))
-  Keeps (record { labels = a.labels ++ J.value_label p low high tree ∷ []; taken = (low, high) ∷ a.taken })
+  Keeps (record { labels = a.labels ++ J.value_label low high tree ∷ []; taken = (low, high) ∷ a.taken })

@@ -38,7 +38,7 @@ module _ (p : Source) (w : World) where
   abbrev pub type_in_label : (at : ℕ) → Label → Judged Shape
   type_in_label at l = do
     o ← J.label_object p w l
-    some 39 at (J.label_type p o)
+    some 39 at (J.label_type o)
 
   -- a label that names this type
   abbrev pub label_end : (at : ℕ) → Shape → (is_first : Bool) → Option High → Shape → Judged Shape

@@ -34,6 +34,11 @@ pub record JudgedHead : Type 0 where
   pub limit : Checked
   pub step : ℤ
 
+-- what a CASE on values is on
+abbrev pub on_value : (of_char : Bool) → SelectorOf
+on_value false = OnInteger
+on_value true = OnChar
+
 module _ (p : Source) (w : World) where
   -- ---- lists of statements
 
@@ -93,7 +98,7 @@ module _ (p : Source) (w : World) where
   head variable from to by = do
     o ← named p w variable
     x ← expression p w from
-    d ← some 31 (place p variable) (integer_variable p w o)
+    d ← some 31 (place p variable) (integer_variable w o)
     rule 31 (place p (expression_first from)) (is_number x.shape)
     y ← number p w to
     step ← step_of p w by
@@ -123,21 +128,17 @@ module _ (p : Source) (w : World) where
   parts_of s x first more = do
     a ← part_one s ((λ rest. rest), []) (plain_case first)
     parts ← part_more s a more
-    Keeps (case_of p s x parts)
+    Keeps (case_of s x parts)
 
   abbrev pub case_stat_of : CaseStat → Judged Statement
   case_stat_of c = do
     x ← expression p w (plain_expression (out-CaseStat c).selector)
-    s ← some 31 (place p (expression_first (plain_expression (out-CaseStat c).selector))) (selector_of p (case_variable p (named_alone p w (bare (plain_expression (out-CaseStat c).selector)))) x.shape)
+    s ← some 31 (place p (expression_first (plain_expression (out-CaseStat c).selector))) (selector_of (case_variable (named_alone p w (bare (plain_expression (out-CaseStat c).selector)))) x.shape)
     parts_of s x (out-CaseStat c).first (out-CaseStat c).more.items
 
   -- a part with labels
   abbrev pub filled : SelectorOf → (Parts → Parts) × List (ℤ × ℤ) → CasePart → Judged ((Parts → Parts) × List (ℤ × ℤ))
   filled s a x = part_one s a (S.one_case (out-CasePart x).first (out-CasePart x).more.items (out-CasePart x).colon (plain_stats (out-CasePart x).body))
-
-  abbrev pub on_value : Bool → SelectorOf
-  on_value false = OnInteger
-  on_value true = OnChar
 
   abbrev pub value_one : Bool → (Parts → Parts) × List (ℤ × ℤ) → Case → Judged ((Parts → Parts) × List (ℤ × ℤ))
   value_one of_char a x = part_one (on_value of_char) a (plain_case x)

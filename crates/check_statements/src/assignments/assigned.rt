@@ -4,7 +4,7 @@ ghost use Rattle.std.specs.Prelude.{◌≡◌, ℕ, List, option_map};
 ghost use Rattle.ob_types.specs.Table.{Table};
 ghost use Rattle.ob_syntax.specs.Plain.{plain_expression, plain_designator, plain_each_selector};
 ghost use Rattle.ob_judge.specs.Judged.{Judged, Keeps};
-ghost use Rattle.ob_judge.specs.Scopes.{Source as SourceOf, World};
+ghost use Rattle.ob_judge.specs.Scopes.{World};
 ghost use Rattle.ob_judge.specs.Operands.{Operand as Judgement};
 ghost use Rattle.ob_judge.specs.Assignments.{whole_object, destination as judged_destination, assigned as assigned_from, assignment as judged_assignment};
 ghost use Rattle.check_types.specs.steps.Answers.{Answers};
@@ -27,8 +27,8 @@ use std::alloc::Global;
 
 // A variable that is named with no part of it.
 fn variable_alone(named: Named, selectors: &[Selector]) -> Option<Variable>
-    ensures { (t : Table) (strings : List (List ℕ)) (p : SourceOf) (w : World) (other : Judged Judgement) →
-        whole_object p w (object_of t strings named) (plain_each_selector selectors.now) other
+    ensures { (t : Table) (strings : List (List ℕ)) (w : World) (other : Judged Judgement) →
+        whole_object w (object_of t strings named) (plain_each_selector selectors.now) other
         ≡ destined w (option_map (variable_of t strings) result) other }
 {
     if selectors.is_empty() {
@@ -66,7 +66,7 @@ fn assigned<'a>(
 ) -> Result<Stmt, CheckFault>
     ensures { (a b : Judgement) → Stands scope.now x a → Stands scope.now y b →
         Answers (IsStatement scope.now)
-        (Keeps (assigned_from scope.now.source.now a.shape a b)) result }
+        (Keeps (assigned_from a.shape a b)) result }
 {
     match x.of {
         TypeRef::Array { .. } => Ok(Stmt::CopyArray(

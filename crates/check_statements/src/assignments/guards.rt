@@ -69,7 +69,7 @@ pub fn number<'a>(
 pub fn control_variable<'a>(scope: &Scope<'a>, named: Named) -> Option<Designator>
     ensures { option_map (plain_designator (table_of scope.now) (texts_of scope.now)) result
         ≡ option_map (outlined_designator (bases_of scope.now))
-        (integer_variable scope.now.source.now (world_of scope.now) (object_of (table_of scope.now) (strings_of scope.now) named)) }
+        (integer_variable (world_of scope.now) (object_of (table_of scope.now) (strings_of scope.now) named)) }
 {
     match named {
         Named::Variable(variable) => match variable.of {

@@ -5,7 +5,7 @@ ghost use Rattle.wrapping_numbers.specs.Numbers.{signed};
 ghost use Rattle.ob_judge.specs.Judged.{some};
 ghost use Rattle.ob_judge.specs.Shapes.{Integer, Char as CharShape};
 ghost use Rattle.ob_judge.specs.Image.{Bits, Chars as TheChars};
-ghost use Rattle.ob_judge.specs.Scopes.{Source as SourceOf, World, symbol_at, place};
+ghost use Rattle.ob_judge.specs.Scopes.{symbol_at, place};
 ghost use Rattle.ob_judge.specs.Names.{qualified as judged_qualident, member_symbol as member_of};
 ghost use Rattle.ob_judge.specs.Parts.{int_of, char_of};
 ghost use Rattle.ob_judge.specs.Cases.{Labelled as JudgedLabels, label_in, label_symbol as symbol_of, label as judged_label, high_label as judged_high, value_label as label_of, ranges as judged_ranges, as_list};
@@ -34,7 +34,7 @@ pub struct Labelled {
 
 // The symbol of a member's name.
 fn member_symbol(tree: &Option<Member>) -> Option<u32>
-    ensures { (p : SourceOf) (w : World) → result ≡ member_of p w tree.now }
+    ensures { result ≡ member_of tree.now }
 {
     match tree {
         None => None,
@@ -46,7 +46,7 @@ fn member_symbol(tree: &Option<Member>) -> Option<u32>
 pub fn qualified<'a>(scope: &Scope<'a>, tree: &Qualident) -> Result<Named, CheckFault>
     ensures { Answers (IsNamed scope.now)
         (judged_qualident scope.now.source.now (world_of scope.now) tree.now.name
-        (member_of scope.now.source.now (world_of scope.now) tree.now.member))
+        (member_of tree.now.member))
         result }
 {
     scope.qualified(tree.name, member_symbol(&tree.member))
@@ -54,7 +54,7 @@ pub fn qualified<'a>(scope: &Scope<'a>, tree: &Qualident) -> Result<Named, Check
 
 /// The symbol that a label begins with.
 pub fn label_symbol(tree: &Label) -> u32
-    ensures { (p : SourceOf) → result ≡ symbol_of p tree.now }
+    ensures { result ≡ symbol_of tree.now }
 {
     match tree {
         Label::Int(i) => *i,
@@ -66,7 +66,7 @@ pub fn label_symbol(tree: &Label) -> u32
 
 // The number that an integer's symbol is.
 fn number_at<'a>(scope: &Scope<'a>, i: u32) -> i64
-    ensures { result ≡ signed (int_of scope.now.source.now (world_of scope.now) (symbol_at scope.now.source.now i).kind) }
+    ensures { result ≡ signed (int_of (symbol_at scope.now.source.now i).kind) }
 {
     match scope.source.symbol(i).kind {
         Kind::Int(n) => n,
@@ -76,7 +76,7 @@ fn number_at<'a>(scope: &Scope<'a>, i: u32) -> i64
 
 // The code of a character's symbol.
 fn code_at<'a>(scope: &Scope<'a>, i: u32) -> u8
-    ensures { result ≡ char_of scope.now.source.now (world_of scope.now) (symbol_at scope.now.source.now i).kind }
+    ensures { result ≡ char_of (symbol_at scope.now.source.now i).kind }
 {
     match scope.source.symbol(i).kind {
         Kind::Char(n) => n,
@@ -88,8 +88,8 @@ fn code_at<'a>(scope: &Scope<'a>, i: u32) -> u8
 fn number_label<'a>(scope: &Scope<'a>, of_char: bool, i: u32) -> Result<i64, CheckFault>
     ensures { Answers IsNumber
         (some 39 (place scope.now.source.now i)
-        (label_in scope.now.source.now of_char
-        (Bits Integer (int_of scope.now.source.now (world_of scope.now) (symbol_at scope.now.source.now i).kind))))
+        (label_in of_char
+        (Bits Integer (int_of (symbol_at scope.now.source.now i).kind))))
         result }
 {
     if of_char {
@@ -103,8 +103,8 @@ fn number_label<'a>(scope: &Scope<'a>, of_char: bool, i: u32) -> Result<i64, Che
 fn code_label<'a>(scope: &Scope<'a>, of_char: bool, i: u32) -> Result<i64, CheckFault>
     ensures { Answers IsNumber
         (some 39 (place scope.now.source.now i)
-        (label_in scope.now.source.now of_char
-        (Bits CharShape (char_of scope.now.source.now (world_of scope.now) (symbol_at scope.now.source.now i).kind))))
+        (label_in of_char
+        (Bits CharShape (char_of (symbol_at scope.now.source.now i).kind))))
         result }
 {
     if of_char {
@@ -122,7 +122,7 @@ fn text_label<'a>(
     characters: &[u8],
 ) -> Result<i64, CheckFault>
     ensures { Answers IsNumber
-        (some 39 (place scope.now.source.now symbol) (label_in scope.now.source.now of_char (TheChars characters.now))) result }
+        (some 39 (place scope.now.source.now symbol) (label_in of_char (TheChars characters.now))) result }
 {
     match characters {
         [code] => {
@@ -149,7 +149,7 @@ fn string_at<'a>(scope: &Scope<'a>, k: u32) -> &'a [u8]
 // The code of a CHAR constant, which has 8 bits: one that had 64 wouldn't be taken.
 fn code_of<'a>(scope: &Scope<'a>, symbol: u32, of_char: bool, bits: u64) -> Result<i64, CheckFault>
     ensures { Answers IsNumber
-        (some 39 (place scope.now.source.now symbol) (label_in scope.now.source.now of_char (Bits CharShape bits))) result }
+        (some 39 (place scope.now.source.now symbol) (label_in of_char (Bits CharShape bits))) result }
 {
     if !of_char {
         Err(scope.source.fault(39, symbol))
@@ -168,7 +168,7 @@ fn number_of<'a>(
     bits: u64,
 ) -> Result<i64, CheckFault>
     ensures { Answers IsNumber
-        (some 39 (place scope.now.source.now symbol) (label_in scope.now.source.now of_char (Bits Integer bits))) result }
+        (some 39 (place scope.now.source.now symbol) (label_in of_char (Bits Integer bits))) result }
 {
     if of_char {
         Err(scope.source.fault(39, symbol))
@@ -186,7 +186,7 @@ fn constant_label<'a>(
 ) -> Result<i64, CheckFault>
     ensures { Answers IsNumber
         (some 39 (place scope.now.source.now symbol)
-        (label_in scope.now.source.now of_char (constant_of (table_of scope.now) (strings_of scope.now) c)))
+        (label_in of_char (constant_of (table_of scope.now) (strings_of scope.now) c)))
         result }
 {
     match c {
@@ -237,7 +237,7 @@ fn high_label<'a>(
 
 // The label of a checked tree.
 fn value_label(low: i64, high: i64, tree: &Option<High>) -> ValueLabel
-    ensures { (p : SourceOf) → result ≡ label_of p low high tree.now }
+    ensures { result ≡ label_of low high tree.now }
 {
     match tree {
         None => ValueLabel::One(low),

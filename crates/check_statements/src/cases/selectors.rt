@@ -3,7 +3,6 @@
 ghost use Rattle.std.specs.Prelude.{◌≡◌, ℕ, List, Some, option_map};
 ghost use Rattle.ob_types.specs.Table.{Table};
 ghost use Rattle.ob_syntax.specs.Plain.{plain_expression, plain_simple};
-ghost use Rattle.ob_judge.specs.Scopes.{Source as SourceOf};
 ghost use Rattle.ob_judge.specs.Symbols.{bare, bare_simple as bare_in_simple};
 ghost use Rattle.ob_judge.specs.Operands.{is_tagged_home as tagged_home};
 ghost use Rattle.ob_judge.specs.Cases.{case_variable as judged_variable, named_alone, on_values as judged_values, selector_of};
@@ -40,8 +39,7 @@ fn is_tagged(home: Home) -> bool
 
 // A pointer variable, or a VAR record parameter.
 fn variable_of_types(named: Named) -> Option<VariablePlace>
-    ensures { (t : Table) (strings : List (List ℕ)) (p : SourceOf) →
-        option_map place_of result ≡ judged_variable p (Some (object_of t strings named)) }
+    ensures { (t : Table) (strings : List (List ℕ)) → option_map place_of result ≡ judged_variable (Some (object_of t strings named)) }
 {
     match named {
         Named::Variable(variable) => {
@@ -81,8 +79,7 @@ fn name_alone(tree: &Expression) -> Option<u32>
 // The variable whose type a CASE may be on.
 fn case_variable<'a>(scope: &Scope<'a>, tree: &Expression) -> Option<VariablePlace>
     ensures { option_map place_of result
-        ≡ judged_variable scope.now.source.now
-        (named_alone scope.now.source.now (world_of scope.now) (bare (plain_expression tree.now))) }
+        ≡ judged_variable (named_alone scope.now.source.now (world_of scope.now) (bare (plain_expression tree.now))) }
 {
     match name_alone(tree) {
         None => None,
@@ -95,7 +92,7 @@ fn case_variable<'a>(scope: &Scope<'a>, tree: &Expression) -> Option<VariablePla
 
 // INTEGER and BYTE, or CHAR.
 fn on_values(of: TypeRef) -> Option<Selecting>
-    ensures { (t : Table) (p : SourceOf) → option_map (selecting_meant t) result ≡ judged_values p (type_shape t of) }
+    ensures { (t : Table) → option_map (selecting_meant t) result ≡ judged_values (type_shape t of) }
 {
     match of {
         TypeRef::Int => Some(Selecting::Numbers),
@@ -108,9 +105,7 @@ fn on_values(of: TypeRef) -> Option<Selecting>
 /// What a CASE is on, where its expression has this type.
 pub fn selector<'a>(scope: &Scope<'a>, tree: &Expression, of: TypeRef) -> Option<Selecting>
     ensures { option_map (selecting_meant (table_of scope.now)) result
-        ≡ selector_of scope.now.source.now
-        (judged_variable scope.now.source.now
-        (named_alone scope.now.source.now (world_of scope.now) (bare (plain_expression tree.now))))
+        ≡ selector_of (judged_variable (named_alone scope.now.source.now (world_of scope.now) (bare (plain_expression tree.now))))
         (type_shape (table_of scope.now) of) }
 {
     match case_variable(scope, tree) {

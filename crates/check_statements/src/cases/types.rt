@@ -48,7 +48,7 @@ fn no_high<'a>(scope: &Scope<'a>, symbol: u32, tree: &Option<High>) -> Result<()
 // The type that a name stands for.
 fn named_type(named: Option<Named>) -> Option<TypeRef>
     ensures { (s : TheScope) (o : Option Object) → IsMaybeNamed s named o →
-        option_map (type_shape (table_of s)) result ≡ label_type s.source.now o }
+        option_map (type_shape (table_of s)) result ≡ label_type o }
 {
     match named {
         Some(Named::Type(of)) => Some(of),
@@ -130,7 +130,7 @@ pub fn type_labels<'a>(
 
 /// The record type that a part for this type is for.
 pub fn tag_of<'a>(scope: &Scope<'a>, of: TypeRef) -> u32
-    ensures { result ≡ tag_in scope.now.source.now (known_of scope.now.types.now) (type_shape (table_of scope.now) of) }
+    ensures { result ≡ tag_in (known_of scope.now.types.now) (type_shape (table_of scope.now) of) }
 {
     match of {
         TypeRef::Record(record) => record,
@@ -149,7 +149,7 @@ pub fn narrowed<'a>(
     of: TypeRef,
 ) -> Result<Vec<Narrowing>, CheckFault>
     ensures ok { IfOk result (λ v. narrowings_before (table_of scope.now) (strings_of scope.now) [] v.items
-        ≡ (narrow scope.now.source.now (world_of scope.now) (place_of variable) (type_shape (table_of scope.now) of)).narrowed) }
+        ≡ (narrow (world_of scope.now) (place_of variable) (type_shape (table_of scope.now) of)).narrowed) }
     ensures memory { IfErr result (λ e. e ≡ CheckFault.Memory) }
 {
     let mut all = Vec::from_slice(alloc, scope.narrowed)?;

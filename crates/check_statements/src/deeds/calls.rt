@@ -97,7 +97,7 @@ fn called_alone<'a>(
 ) -> Result<Operand, CheckFault>
     ensures { (o : Option Object) → IsAlone only o →
         Answers (Stands scope.now)
-        (judged_standard_alone scope.now.source.now (world_of scope.now) (place scope.now.source.now tree.now.name) o
+        (judged_standard_alone (world_of scope.now) (place scope.now.source.now tree.now.name) o
         (judged_designator scope.now.source.now (world_of scope.now) (plain_designator tree.now)))
         result }
 {
@@ -138,7 +138,7 @@ fn is_call_tree(tree: &Expr) -> bool
 // Whether an operand is a call.
 fn is_call<'a>(scope: &Scope<'a>, what: &What) -> bool
     ensures { (w : JudgedWhat) → what_image (table_of scope.now) (texts_of scope.now) what.now ≡ outlined_what (bases_of scope.now) w →
-        tests_call scope.now.source.now w ≡ result }
+        tests_call w ≡ result }
 {
     match what {
         What::Valued(value) => is_call_tree(&value.tree),
@@ -155,7 +155,7 @@ fn called_bare<'a>(
 ) -> Result<Operand, CheckFault>
     ensures { (a : Judgement) → Stands scope.now x a →
         Answers (Stands scope.now)
-        (judged_bare_call scope.now.source.now (world_of scope.now) (place scope.now.source.now symbol) a a.shape) result }
+        (judged_bare_call (world_of scope.now) (place scope.now.source.now symbol) a a.shape) result }
 {
     match x.of {
         TypeRef::Procedure(signature) => {
@@ -215,7 +215,7 @@ fn deed_in<'a>(scope: &Scope<'a>, what: What) -> Option<Stmt>
 fn deed<'a>(scope: &Scope<'a>, symbol: u32, x: Operand) -> Result<Stmt, CheckFault>
     ensures { (a : Judgement) → Stands scope.now x a →
         Answers (IsStatement scope.now)
-        (judged_deed scope.now.source.now (place scope.now.source.now symbol) a.shape a.what) result }
+        (judged_deed (place scope.now.source.now symbol) a.shape a.what) result }
 {
     if x.of.is_nothing() {
         match deed_in(scope, x.what) {

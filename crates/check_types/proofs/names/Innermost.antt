@@ -21,22 +21,22 @@ or_none None = refl
 
 module _ (p : Source) (w : World) (t : Table) (strings : List (List ℕ)) (d : Place) where
   pub found_before : (before : List J.Narrowing) (ns : List Narrowing) →
-      Names.narrowing_of p w d (narrowings_before t strings before ns) ≡ or_else (Names.narrowing_of p w d (narrowings_before t strings [] ns)) (Names.narrowing_of p w d before)
+      Names.narrowing_of d (narrowings_before t strings before ns) ≡ or_else (Names.narrowing_of d (narrowings_before t strings [] ns)) (Names.narrowing_of d before)
   found_before before [] = refl
   found_before before (n ∷ ns) =
       found_before (narrowing_of t strings n ∷ before) ns
-      ∙ sym (else_else (Names.narrowing_of p w d (narrowings_before t strings [] ns)) (is_place p w d (place_of n.variable)) (narrowing_of t strings n) (Names.narrowing_of p w d before))
-      ∙ ap (λ o. or_else o (Names.narrowing_of p w d before)) (sym (found_before (narrowing_of t strings n ∷ []) ns))
+      ∙ sym (else_else (Names.narrowing_of d (narrowings_before t strings [] ns)) (is_place d (place_of n.variable)) (narrowing_of t strings n) (Names.narrowing_of d before))
+      ∙ ap (λ o. or_else o (Names.narrowing_of d before)) (sym (found_before (narrowing_of t strings n ∷ []) ns))
 
   -- a round of the walk
-  pub found_more : (ns : List Narrowing) (i : ℕ) (n : Narrowing) (found : Option Narrowing) (b : Bool) → i < length ns → is_place p w d (place_of (get_or ns i n).variable) ≡ b →
-      or_else (Names.narrowing_of p w d (narrowings_before t strings [] (drop i ns))) (option_map (narrowing_of t strings) found)
-      ≡ or_else (Names.narrowing_of p w d (narrowings_before t strings [] (drop (i + 1) ns))) (if b then Some (narrowing_of t strings (get_or ns i n)) else option_map (narrowing_of t strings) found)
+  pub found_more : (ns : List Narrowing) (i : ℕ) (n : Narrowing) (found : Option Narrowing) (b : Bool) → i < length ns → is_place d (place_of (get_or ns i n).variable) ≡ b →
+      or_else (Names.narrowing_of d (narrowings_before t strings [] (drop i ns))) (option_map (narrowing_of t strings) found)
+      ≡ or_else (Names.narrowing_of d (narrowings_before t strings [] (drop (i + 1) ns))) (if b then Some (narrowing_of t strings (get_or ns i n)) else option_map (narrowing_of t strings) found)
   found_more ns i n found b lt e =
-      ap (λ l. or_else (Names.narrowing_of p w d (narrowings_before t strings [] l)) (option_map (narrowing_of t strings) found)) (drop_more ns i n lt)
+      ap (λ l. or_else (Names.narrowing_of d (narrowings_before t strings [] l)) (option_map (narrowing_of t strings) found)) (drop_more ns i n lt)
       ∙ ap (λ o. or_else o (option_map (narrowing_of t strings) found)) (found_before (narrowing_of t strings (get_or ns i n) ∷ []) (drop (i + 1) ns))
-      ∙ else_else (Names.narrowing_of p w d (narrowings_before t strings [] (drop (i + 1) ns))) (is_place p w d (place_of (get_or ns i n).variable)) (narrowing_of t strings (get_or ns i n)) (option_map (narrowing_of t strings) found)
-      ∙ ap (λ c. or_else (Names.narrowing_of p w d (narrowings_before t strings [] (drop (i + 1) ns))) (if c then Some (narrowing_of t strings (get_or ns i n)) else option_map (narrowing_of t strings) found)) e
+      ∙ else_else (Names.narrowing_of d (narrowings_before t strings [] (drop (i + 1) ns))) (is_place d (place_of (get_or ns i n).variable)) (narrowing_of t strings (get_or ns i n)) (option_map (narrowing_of t strings) found)
+      ∙ ap (λ c. or_else (Names.narrowing_of d (narrowings_before t strings [] (drop (i + 1) ns))) (if c then Some (narrowing_of t strings (get_or ns i n)) else option_map (narrowing_of t strings) found)) e
 
   pub at_start : (o : Option J.Narrowing) → o ≡ or_else o None
   at_start o = or_none o

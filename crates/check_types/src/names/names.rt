@@ -2,7 +2,7 @@
 
 ghost use Rattle.std.specs.Prelude.{◌≡◌, ℕ, List, Some, map, option_map, slice_get};
 ghost use Rattle.ob_types.specs.Table.{Table};
-ghost use Rattle.ob_judge.specs.Scopes.{World, Source as SourceOf, is_visible as visible, spelled, place};
+ghost use Rattle.ob_judge.specs.Scopes.{is_visible as visible, spelled, place};
 ghost use Rattle.ob_judge.specs.Scopes.{look_up as looked_up};
 ghost use Rattle.ob_judge.specs.Modules.{offered};
 ghost use Rattle.ob_judge.specs.Names.{named as judged_name, member as judged_member, member_of_object as judged_member_of, qualified as judged_qualident, type_of_object, type_named as judged_type, names_of as names_in_module, is_place as same_place, narrowing_of as narrowing_at};
@@ -55,7 +55,7 @@ fn offer(found: Option<Declared>) -> Option<Declared>
 
 // Whether two places are the same variable's.
 fn is_place(a: VariablePlace, b: VariablePlace) -> bool
-    ensures { (p : SourceOf) (w : World) → same_place p w (place_of a) (place_of b) ≡ result }
+    ensures { same_place (place_of a) (place_of b) ≡ result }
 {
     match (a, b) {
         (
@@ -213,8 +213,7 @@ impl<'a> Scope<'a> {
 
     /// How a variable is narrowed here, if it is.
     pub fn narrowing(&self, variable: VariablePlace) -> Option<Narrowing>
-        ensures { option_map (narrowing_of (table_of self.now) (strings_of self.now)) result ≡ narrowing_at self.now.source.now
-            (world_of self.now) (place_of variable) (world_of self.now).narrowed }
+        ensures { option_map (narrowing_of (table_of self.now) (strings_of self.now)) result ≡ narrowing_at (place_of variable) (world_of self.now).narrowed }
     {
         let mut found = None;
         for narrowing in self.narrowed {

@@ -54,14 +54,14 @@ module _ (p : Source) where
   pub h_const : (d : S.ConstDecl) (s : Making) → Gives (HeldTo s) (const_part p d s)
   h_const d s = h_next (h_stand (d.name.name ∷ []) s) (λ r. h_next (h_look (constant p r.1.world d.value) r.1) (λ c. h_declared d.name (AConstant c.0) c.1))
 
-  pub h_consts : (ds : List S.ConstDecl) (s : Making) → Gives (HeldTo s) (each p (const_part p) ds s)
+  pub h_consts : (ds : List S.ConstDecl) (s : Making) → Gives (HeldTo s) (each (const_part p) ds s)
   h_consts [] s = keeps (HeldTo s) (tt, s) (held s)
   h_consts (d ∷ ds) s = h_next (h_const d s) (λ r. h_consts ds r.1)
 
   -- ---- parameters
 
   abbrev known_from : ℕ → Bool → Shape → Listed → Making → Making
-  known_from i v a l s = record (with_levels (declare_last (spelled p i) (record { object = parameter_variable p v a s.values (length l.parameters) s.world; exported = false })) s) { values = if is_value (mode_of v a) then suc s.values else s.values }
+  known_from i v a l s = record (with_levels (declare_last (spelled p i) (record { object = parameter_variable v a s.values (length l.parameters) s.world; exported = false })) s) { values = if is_value (mode_of v a) then suc s.values else s.values }
 
   h_add : (b v : Bool) (a : Shape) (is : List ℕ) (l : Listed) (s : Making) → Gives (HeldTo s) (add_parameters p b v a is l s)
   h_add b v a [] l s = keeps (HeldTo s) (l, s) (held s)

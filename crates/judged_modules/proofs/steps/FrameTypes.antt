@@ -53,7 +53,7 @@ module _ (p : Source) where
   k_stand_fields [] g s = keeps (KeptTo s) (tt, s) (kept s)
   k_stand_fields (x ∷ xs) g s = k_next (k_look (rule 36 (place p x.name) (is_none (g.fields (spelled p x.name)))) s) (λ r. k_next (k_held (h_stand p (x.name ∷ []) r.1)) (λ q. k_stand_fields xs g q.1))
 
-  k_among : {A : Type 0} (m : Part A) (s : Making) → Gives (KeptTo (record s { standing = [] })) (m (record s { standing = [] })) → Gives (KeptTo s) (among_fields p m s)
+  k_among : {A : Type 0} (m : Part A) (s : Making) → Gives (KeptTo (record s { standing = [] })) (m (record s { standing = [] })) → Gives (KeptTo s) (among_fields m s)
   k_among m s g = and_then g (λ r h. keeps (KeptTo s) (r.0, record r.1 { standing = s.standing }) (record { modules = h.modules; procedures = h.procedures }))
 
   k_aside : {A : Type 0} (m : Part A) (s : Making) → Gives (KeptTo s) (aside m s)
@@ -78,7 +78,7 @@ module _ (p : Source) where
     k_type : (x : S.TypeTree) (s : Making) → Gives (KeptTo s) (type_part p x s)
     k_type (S.Named q) s = k_look (type_at p 31 q s.world) s
     k_type (S.Array i first more j element) s = k_next (k_look (array_length p first s.world) s) (λ n. k_next (k_look (array_lengths p more n.1.world) n.1) (λ ns.
-        k_next (k_type element ns.1) (λ a. k_look (arrays p (place p i) (n.0 ∷ ns.0) a.0 a.1.world) a.1)))
+        k_next (k_type element ns.1) (λ a. k_look (arrays (place p i) (n.0 ∷ ns.0) a.0 a.1.world) a.1)))
     k_type (S.Record i base first more j) s =
         let n = length s.world.known.records in
         k_from s (with_record s) (record { modules = refl; procedures = refl })
@@ -100,7 +100,7 @@ module _ (p : Source) where
 
   -- ---- TYPE and VAR
 
-  k_each : {X : Type 0} (f : X → Part (Unit {0})) → ((x : X) (s : Making) → Gives (KeptTo s) (f x s)) → (xs : List X) (s : Making) → Gives (KeptTo s) (each p f xs s)
+  k_each : {X : Type 0} (f : X → Part (Unit {0})) → ((x : X) (s : Making) → Gives (KeptTo s) (f x s)) → (xs : List X) (s : Making) → Gives (KeptTo s) (each f xs s)
   k_each f g [] s = keeps (KeptTo s) (tt, s) (kept s)
   k_each f g (x ∷ xs) s = k_next (g x s) (λ r. k_each f g xs r.1)
 
@@ -108,7 +108,7 @@ module _ (p : Source) where
   k_type_decl d s = k_next (k_held (h_stand p (d.name.name ∷ []) s)) (λ r. k_next (k_type d.is r.1) (λ a. k_held (h_declared p d.name (AType a.0) a.1)))
 
   k_forward : (k : ℕ × ℕ) (s : Making) → Gives (KeptTo s) (forward_base p k s)
-  k_forward k s = k_next (k_look (some 30 (place p k.1) (entry_object p (last_names s.world.levels (spelled p k.1)))) s) (λ o. k_next (k_look (some 31 (place p k.1) (record_object o.0)) o.1) (λ r.
+  k_forward k s = k_next (k_look (some 30 (place p k.1) (entry_object (last_names s.world.levels (spelled p k.1)))) s) (λ o. k_next (k_look (some 31 (place p k.1) (record_object o.0)) o.1) (λ r.
       keeps (KeptTo r.1) (tt, with_known (λ x. record x { bases = slice_set x.bases k.0 (Some r.0) }) r.1) (record { modules = refl; procedures = refl })))
 
   pub k_types : (ds : List S.TypeDecl) (s : Making) → Gives (KeptTo s) (types_part p ds s)
@@ -123,7 +123,7 @@ module _ (p : Source) where
   k_var : (d : S.VarDecl) (s : Making) → Gives (KeptTo s) (var_part p d s)
   k_var d s = k_next (k_held (h_stand p (symbols_of (idents_list d.names)) s)) (λ r. k_next (k_type d.of r.1) (λ a. k_each (variable_part p a.0) (k_variable a.0) (idents_list d.names) a.1))
 
-  pub k_vars : (ds : List S.VarDecl) (s : Making) → Gives (KeptTo s) (each p (var_part p) ds s)
+  pub k_vars : (ds : List S.VarDecl) (s : Making) → Gives (KeptTo s) (each (var_part p) ds s)
   k_vars ds s = k_each (var_part p) k_var ds s
 
   -- ---- procedures, and all declarations of a scope
@@ -144,7 +144,7 @@ module _ (p : Source) where
 
   pub m_decls : (d : S.Decls) (s : Making) → Gives (SameModules s) (decls_part p d s)
   m_decls (S.decls consts types vars procedures) s =
-      and_then (h_consts p (consts_in p consts) s) (λ a f. and_then (k_types (types_in p types) a.1) (λ b g. and_then (k_vars (vars_in p vars) b.1) (λ c h.
+      and_then (h_consts p (consts_in consts) s) (λ a f. and_then (k_types (types_in types) a.1) (λ b g. and_then (k_vars (vars_in vars) b.1) (λ c h.
       weaken (m_procedures procedures c.1) (λ q k. k ∙ h.modules ∙ g.modules ∙ f.modules))))
 
   -- ---- what pointer types point to, too
@@ -155,13 +155,13 @@ module _ (p : Source) where
   begins_same : (as' bs : List (Option ℕ)) → bs ≡ as' → Begins as' bs
   begins_same as' bs e = record { long = (let l = ap (λ xs. length xs) e in omega (arith, l)); same = λ n l. ap (λ xs. slice_get xs n) e }
 
-  pub s_consts : (ds : List S.ConstDecl) (s : Making) → Gives (SteadyTo s) (each p (const_part p) ds s)
+  pub s_consts : (ds : List S.ConstDecl) (s : Making) → Gives (SteadyTo s) (each (const_part p) ds s)
   s_consts ds s = weaken (h_consts p ds s) (λ r h. record { modules = h.modules; procedures = h.procedures; begins = begins_same s.world.known.bases r.1.world.known.bases h.bases })
 
   pub s_types : (ds : List S.TypeDecl) (s : Making) → Gives (SteadyTo s) (types_part p ds s)
   s_types ds s = weaken (gives_both (k_types ds s) (t_typed p ds s)) (λ r h. let g = typed_grows p s r.1 h.1 in record { modules = (h.0).modules; procedures = (h.0).procedures; begins = record { long = g.bases_more; same = g.bases } })
 
-  pub s_vars : (ds : List S.VarDecl) (s : Making) → Gives (SteadyTo s) (each p (var_part p) ds s)
+  pub s_vars : (ds : List S.VarDecl) (s : Making) → Gives (SteadyTo s) (each (var_part p) ds s)
   s_vars ds s = weaken (gives_both (k_vars ds s) (g_each p (var_part p) (g_var p) ds s)) (λ r h. record { modules = (h.0).modules; procedures = (h.0).procedures; begins = record { long = (h.1).bases_more; same = (h.1).bases } })
 
   -- ---- a procedure, in its own scope

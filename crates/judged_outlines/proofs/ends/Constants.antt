@@ -181,7 +181,7 @@ module _ (p : Source) (w : World) where
       by Byte Byte k i = numbers op i
       by _ _ k i = none_some row i
 
-  joined_plain : (op : Operator) (at : ℕ) (x y : Operand) → IsPlain y → Gives IsPlain (joined p w op at x y)
+  joined_plain : (op : Operator) (at : ℕ) (x y : Operand) → IsPlain y → Gives IsPlain (joined op at x y)
   joined_plain op at x y h = by_some 31 at (row_of op x.shape y.shape) (λ row is.
       keeps IsPlain (value row.0 (row.1 (form x) (form y))) (row_range op x.shape y.shape (form x) (form y) (λ e. truth_in y.shape y.what e h) row is))
 
@@ -196,7 +196,7 @@ module _ (p : Source) (w : World) where
   signed_plain (Some (TheSign.Plus i)) x h = by_rule 31 (place p i) (is_number x.shape) (λ n. keeps IsPlain (value Integer (form x)) (any_integer (fold (form x))))
   signed_plain (Some (TheSign.Minus i)) x h = by_some 31 (place p i) (negated_row x.shape) (λ row is. keeps IsPlain (value row.0 (row.1 (form x))) (negated_range x.shape (form x) row is))
 
-  inclusion_range : (r : _) (x y : I.Expr) → HasRange Boolean (fold (inclusion p w r x y))
+  inclusion_range : (r : _) (x y : I.Expr) → HasRange Boolean (fold (inclusion r x y))
   inclusion_range TheComparison.GreaterEqual x y = of_test (binary_of TheBinary.Superset) (λ a b. of_truth (subset b a)) (fold x) (fold y)
   inclusion_range TheComparison.Equal x y = of_test (binary_of TheBinary.Subset) (λ a b. of_truth (subset a b)) (fold x) (fold y)
   inclusion_range TheComparison.Unequal x y = of_test (binary_of TheBinary.Subset) (λ a b. of_truth (subset a b)) (fold x) (fold y)
@@ -204,16 +204,16 @@ module _ (p : Source) (w : World) where
   inclusion_range TheComparison.LessEqual x y = of_test (binary_of TheBinary.Subset) (λ a b. of_truth (subset a b)) (fold x) (fold y)
   inclusion_range TheComparison.Greater x y = of_test (binary_of TheBinary.Subset) (λ a b. of_truth (subset a b)) (fold x) (fold y)
 
-  comparison_range : (r : _) (x y : Operand) → HasRange Boolean (fold (comparison p w r x y))
+  comparison_range : (r : _) (x y : Operand) → HasRange Boolean (fold (comparison r x y))
   comparison_range r x y = by (are_texts x.shape y.shape) (are_included r x.shape y.shape)
     where
-      by : (a b : Bool) → HasRange Boolean (fold (if a then I.CompareTexts r (designator_of x) (designator_of y) else if b then inclusion p w r (form x) (form y) else I.Compare r (form x) (form y)))
+      by : (a b : Bool) → HasRange Boolean (fold (if a then I.CompareTexts r (designator_of x) (designator_of y) else if b then inclusion r (form x) (form y) else I.Compare r (form x) (form y)))
       by true b = tt
       by false true = inclusion_range r (form x) (form y)
       by false false = of_test (λ a b. option_map truth (relation_of r (TheCell.Bits a) (TheCell.Bits b))) (λ a b. of_truths (relation_of r (TheCell.Bits a) (TheCell.Bits b))) (fold (form x)) (fold (form y))
 
   compared_plain : (r : _) (at : ℕ) (x y : Operand) → Gives IsPlain (compared p w r at x y)
-  compared_plain r at x y = by_rule 31 at (may_compare w.known r x.shape y.shape) (λ m. by_rule 32 at (not (w.constant && are_texts x.shape y.shape)) (λ c. keeps IsPlain (value Boolean (comparison p w r x y)) (comparison_range r x y)))
+  compared_plain r at x y = by_rule 31 at (may_compare w.known r x.shape y.shape) (λ m. by_rule 32 at (not (w.constant && are_texts x.shape y.shape)) (λ c. keeps IsPlain (value Boolean (comparison r x y)) (comparison_range r x y)))
 
   related_plain : (r : Relation) (x y : Operand) → Gives IsPlain (related p w r x y)
   related_plain (TheRelation.Equal i) x y = compared_plain TheComparison.Equal (place p i) x y
@@ -225,48 +225,48 @@ module _ (p : Source) (w : World) where
   related_plain (TheRelation.In i) x y = by_rule 31 (place p i) (is_number x.shape && is_set y.shape) (λ m. keeps IsPlain (value Boolean (I.In (form x) (form y))) (of_test (λ a b. element_only a (λ e. Some (truth (has b e)))) element_test (fold (form x)) (fold (form y))))
   related_plain (TheRelation.Is i) x y = breaks IsPlain 31 (place p i)
 
-  test_range : (x : Operand) (t : Shape) (r : ℕ) → HasRange Boolean (fold (test_of p w x t r))
+  test_range : (x : Operand) (t : Shape) (r : ℕ) → HasRange Boolean (fold (test_of x t r))
   test_range x (Pointer n) r = tt
   test_range x Integer r = tt
   test_range x t r = tt
 
   tested_plain : (q : Option (ℕ × Option ℕ)) (at : ℕ) (x : Operand) → Gives IsPlain (is_test p w q at x)
   tested_plain None at x = breaks IsPlain 31 at
-  tested_plain (Some q) at x = and_then (anything (type_named p w 31 q.0 q.1)) (λ t z. by_some 31 at (tested_tag p w x t) (λ r is. keeps IsPlain (value Boolean (test_of p w x t r)) (test_range x t r)))
+  tested_plain (Some q) at x = and_then (anything (type_named p w 31 q.0 q.1)) (λ t z. by_some 31 at (tested_tag p w x t) (λ r is. keeps IsPlain (value Boolean (test_of x t r)) (test_range x t r)))
 
   -- ---- standard procedures and calls
 
   a_value : (s : Shape) (x : I.Expr) → Gives IsFactor (Keeps (value s x))
   a_value s x = keeps IsFactor (value s x) (λ h. no h)
 
-  a_proper : (d : I.Statement) → Gives IsFactor (proper w d)
+  a_proper : (d : I.Statement) → Gives IsFactor (proper d)
   a_proper d = keeps IsFactor (operand Nothing (Proper d) AsValue) (λ h. no h)
 
-  a_function : (s : Shape) (x : I.Expr) → HasRange s (fold x) → Gives IsFactor (function w s x)
+  a_function : (s : Shape) (x : I.Expr) → HasRange s (fold x) → Gives IsFactor (function s x)
   a_function s x h = keeps IsFactor (operand s (Valued x) AsConstant) (λ _. h)
 
-  shifted_factor : (op : Binary) (x n : Given) → Gives IsFactor (shifted w op x n)
-  shifted_factor op x n = and_then (anything (number w x)) (λ a i. and_then (anything (number w n)) (λ b j. a_function Integer (I.Linked a.form (I.Operate op b.form)) (any_integer _)))
+  shifted_factor : (op : Binary) (x n : Given) → Gives IsFactor (shifted op x n)
+  shifted_factor op x n = and_then (anything (number x)) (λ a i. and_then (anything (number n)) (λ b j. a_function Integer (I.Linked a.form (I.Operate op b.form)) (any_integer _)))
 
-  changed_factor : (change : I.Designator → I.Checked → I.Statement) (v : Given) (n : Judged I.Checked) → Gives IsFactor (changed w change v n)
-  changed_factor change v n = by_unit (written v) (and_then (anything (number w v)) (λ a i. and_then (anything n) (λ x j. a_proper (change _ x))))
+  changed_factor : (change : I.Designator → I.Checked → I.Statement) (v : Given) (n : Judged I.Checked) → Gives IsFactor (changed change v n)
+  changed_factor change v n = by_unit (written v) (and_then (anything (number v)) (λ a i. and_then (anything n) (λ x j. a_proper (change _ x))))
 
-  set_changed_factor : (change : I.Designator → I.Checked → I.Statement) (v x : Given) → Gives IsFactor (set_changed w change v x)
-  set_changed_factor change v x = by_unit (written v) (by_rule 31 v.at (is_set v.operand.shape) (λ s. and_then (anything (number w x)) (λ a i. a_proper (change _ a))))
+  set_changed_factor : (change : I.Designator → I.Checked → I.Statement) (v x : Given) → Gives IsFactor (set_changed change v x)
+  set_changed_factor change v x = by_unit (written v) (by_rule 31 v.at (is_set v.operand.shape) (λ s. and_then (anything (number x)) (λ a i. a_proper (change _ a))))
 
   standard_factor : (at : ℕ) (s : Standard) (xs : List Given) → Gives IsFactor (standard w at s xs)
-  standard_factor at J.Abs (x ∷ []) = and_then (anything (number w x)) (λ a i. a_function Integer (I.Apply TheUnary.Abs a.form) (any_integer _))
-  standard_factor at J.Odd (x ∷ []) = and_then (anything (number w x)) (λ a i. a_function Boolean (I.Apply TheUnary.Odd a.form) (odd_range (fold a.form)))
+  standard_factor at J.Abs (x ∷ []) = and_then (anything (number x)) (λ a i. a_function Integer (I.Apply TheUnary.Abs a.form) (any_integer _))
+  standard_factor at J.Odd (x ∷ []) = and_then (anything (number x)) (λ a i. a_function Boolean (I.Apply TheUnary.Odd a.form) (odd_range (fold a.form)))
   standard_factor at J.Len (x ∷ []) = by_rule 31 x.at (is_variable x.operand && is_some (element_of x.operand.shape)) (λ m. a_value Integer _)
   standard_factor at J.Lsl (x ∷ n ∷ []) = shifted_factor TheBinary.Lsl x n
   standard_factor at J.Asr (x ∷ n ∷ []) = shifted_factor TheBinary.Asr x n
   standard_factor at J.Ror (x ∷ n ∷ []) = shifted_factor TheBinary.Ror x n
-  standard_factor at J.Ord (x ∷ []) = by_rule 31 x.at (may_order w x.operand.shape) (λ m. a_function Integer (form x.operand) (any_integer _))
-  standard_factor at J.Chr (x ∷ []) = and_then (anything (number w x)) (λ a i. a_function Char (I.AsByte a.form) (byte_range (fold a.form)))
-  standard_factor at J.Inc (v ∷ []) = changed_factor I.Increase v (by_one w)
-  standard_factor at J.Inc (v ∷ n ∷ []) = changed_factor I.Increase v (number w n)
-  standard_factor at J.Dec (v ∷ []) = changed_factor I.Decrease v (by_one w)
-  standard_factor at J.Dec (v ∷ n ∷ []) = changed_factor I.Decrease v (number w n)
+  standard_factor at J.Ord (x ∷ []) = by_rule 31 x.at (may_order x.operand.shape) (λ m. a_function Integer (form x.operand) (any_integer _))
+  standard_factor at J.Chr (x ∷ []) = and_then (anything (number x)) (λ a i. a_function Char (I.AsByte a.form) (byte_range (fold a.form)))
+  standard_factor at J.Inc (v ∷ []) = changed_factor I.Increase v by_one
+  standard_factor at J.Inc (v ∷ n ∷ []) = changed_factor I.Increase v (number n)
+  standard_factor at J.Dec (v ∷ []) = changed_factor I.Decrease v by_one
+  standard_factor at J.Dec (v ∷ n ∷ []) = changed_factor I.Decrease v (number n)
   standard_factor at J.Incl (v ∷ x ∷ []) = set_changed_factor I.Include v x
   standard_factor at J.Excl (v ∷ x ∷ []) = set_changed_factor I.Exclude v x
   standard_factor at J.New (v ∷ []) = by_unit (written v) (by_some 31 v.at (target_of w.known v.operand.shape) (λ r is. by_rule 31 v.at (not (is_narrowed v.operand)) (λ n. a_proper _)))
@@ -275,11 +275,11 @@ module _ (p : Source) (w : World) where
   standard_factor at J.OutInt (x ∷ n ∷ []) = and_then (anything (assigned_to w Integer x)) (λ a i. and_then (anything (assigned_to w Integer n)) (λ b j. a_proper (I.OutInt a b)))
   standard_factor at J.OutString (x ∷ []) = by_rule 31 x.at _ (λ m. a_proper _)
   standard_factor at J.OutLn [] = a_proper I.OutLn
-  standard_factor at J.InChar (v ∷ []) = by_unit (written v) (by_rule 31 v.at (is_char_only w v.operand.shape) (λ m. a_proper _))
+  standard_factor at J.InChar (v ∷ []) = by_unit (written v) (by_rule 31 v.at (is_char_only v.operand.shape) (λ m. a_proper _))
   standard_factor at s xs = breaks IsFactor 40 at
 
   applied_factor : (at : ℕ) (x : Operand) (s : Shape) (xs : List Given) → Gives IsFactor (applied p w at x s xs)
-  applied_factor at x (Procedure ps result) xs = by_rule 40 at (is_count w ps xs) (λ c. and_then (anything (all_bound w ps xs)) (λ bs z. a_value result (I.Result (call_of w x x.what bs))))
+  applied_factor at x (Procedure ps result) xs = by_rule 40 at (is_count ps xs) (λ c. and_then (anything (all_bound w ps xs)) (λ bs z. a_value result (I.Result (call_of x x.what bs))))
   applied_factor at x _ xs = breaks IsFactor 31 at
 
   -- ---- designators
@@ -288,21 +288,21 @@ module _ (p : Source) (w : World) where
   a_variable s what r t n = λ h. no h
 
   field_factor : (at i : ℕ) (x : Operand) → Gives IsFactor (field p w at i x)
-  field_factor at i x = by_some 31 at (record_of p w x) (λ r is. by_some 30 (place p i) (fields_of p w (slice_get w.known.records r.0) (spelled p i)) (λ f k. by_rule 34 (place p i) _ (λ v. keeps IsFactor (part_of p w r.1 f.shape _) (λ h. no h))))
+  field_factor at i x = by_some 31 at (record_of p w x) (λ r is. by_some 30 (place p i) (fields_of (slice_get w.known.records r.0) (spelled p i)) (λ f k. by_rule 34 (place p i) _ (λ v. keeps IsFactor (part_of r.1 f.shape _) (λ h. no h))))
 
-  element_factor : (at j : ℕ) (x i : Operand) → Gives IsFactor (element p w at j x i)
-  element_factor at j x i = by_some 31 at (element_of x.shape) (λ s is. by_rule 31 j (is_number i.shape) (λ n. keeps IsFactor (part_of p w x s _) (λ h. no h)))
+  element_factor : (at j : ℕ) (x i : Operand) → Gives IsFactor (element at j x i)
+  element_factor at j x i = by_some 31 at (element_of x.shape) (λ s is. by_rule 31 j (is_number i.shape) (λ n. keeps IsFactor (part_of x s _) (λ h. no h)))
 
   target_factor : (at : ℕ) (x : Operand) → Gives IsFactor (target p w at x)
-  target_factor at x = by_some 31 at (target_of w.known x.shape) (λ r is. keeps IsFactor (followed p w x r) (λ h. no h))
+  target_factor at x = by_some 31 at (target_of w.known x.shape) (λ r is. keeps IsFactor (followed x r) (λ h. no h))
 
-  guard_factor : (x : Operand) (t : Shape) (r : ℕ) → IsFactor (guard_of p w x t r)
+  guard_factor : (x : Operand) (t : Shape) (r : ℕ) → IsFactor (guard_of x t r)
   guard_factor x (Pointer n) r = λ h. no h
   guard_factor x (Record n) r = λ h. no h
   guard_factor x _ r = λ h. no h
 
   guarded_factor : (at : ℕ) (x : Operand) (t : Shape) → Gives IsFactor (guarded p w at x t)
-  guarded_factor at x t = by_some 31 at (tested_tag p w x t) (λ r is. keeps IsFactor (guard_of p w x t r) (guard_factor x t r))
+  guarded_factor at x t = by_some 31 at (tested_tag p w x t) (λ r is. keeps IsFactor (guard_of x t r) (guard_factor x t r))
 
   more_factor : (at : ℕ) (x : Operand) → IsFactor x → (more : S.NextExpressions) → Gives IsFactor (indexed_more p w at x more)
   more_factor at x h S.no_expression = keeps IsFactor x h
@@ -311,7 +311,7 @@ module _ (p : Source) (w : World) where
   indexed_factor : (at : ℕ) (x : Operand) (list : S.Expressions) → Gives IsFactor (indexed p w at x list)
   indexed_factor at x (S.expressions first more) = and_then (anything (expression p w first)) (λ i z. and_then (element_factor at (place p (expression_first first)) x i) (λ y k. more_factor at y k more))
 
-  narrowed_factor : (x : Operand) → is_constant x ≡ false → (pointer : Bool) (n : Option J.Narrowing) → IsFactor (narrowed_to p w x pointer n)
+  narrowed_factor : (x : Operand) → is_constant x ≡ false → (pointer : Bool) (n : Option J.Narrowing) → IsFactor (narrowed_to x pointer n)
   narrowed_factor x v pointer None = λ h. no (sym v ∙ h)
   narrowed_factor x v true (Some n) = λ h. no h
   narrowed_factor x v false (Some n) = λ h. no h
@@ -319,7 +319,7 @@ module _ (p : Source) (w : World) where
   object_factor : (at : ℕ) (o : Object) → ObjectInRange o → Gives IsFactor (object_operand p w at o)
   object_factor at (AConstant (I.Bits s n)) h = keeps IsFactor (of_constant (I.Bits s n)) (λ _. h)
   object_factor at (AConstant (I.Chars cs)) h = keeps IsFactor (of_constant (I.Chars cs)) (λ _. refl)
-  object_factor at (AVariable v) h = keeps IsFactor (variable_read p w v) (narrowed_factor (whole_variable w v) refl _ (narrowing_of p w v.place w.narrowed))
+  object_factor at (AVariable v) h = keeps IsFactor (variable_read p w v) (narrowed_factor (whole_variable w v) refl _ (narrowing_of v.place w.narrowed))
   object_factor at (AProcedure n shape l) h = keeps IsFactor (operand shape (Code n l) AsValue) (λ i. no i)
   object_factor at (AType s) h = breaks IsFactor 31 at
   object_factor at (AStandard s) h = breaks IsFactor 31 at
@@ -357,11 +357,11 @@ module _ (p : Source) (w : World) where
     empty_stage : (at : ℕ) (stage : Stage) → Gives IsFactorStage (begun p w at stage >>= λ x. applied p w at x x.shape [] >>= λ y. Keeps (Ended y))
     empty_stage at stage = and_then (anything (begun p w at stage)) (λ x z. ended (applied_factor at x x.shape []))
 
-    parens_stage : (at : ℕ) (stage : Stage) (list : S.Expressions) → Gives IsFactorStage (begun p w at stage >>= λ x. elim (guard_name p w x (bare_list list)) as (λ _. Judged Stage) [
+    parens_stage : (at : ℕ) (stage : Stage) (list : S.Expressions) → Gives IsFactorStage (begun p w at stage >>= λ x. elim (guard_name x (bare_list list)) as (λ _. Judged Stage) [
       | Some q ↦ type_named p w 31 q.0 q.1 >>= λ t. guarded p w at x t >>= λ y. Keeps (Partly y)
       | None ↦ arguments p w list >>= λ xs. applied p w at x x.shape xs >>= λ y. Keeps (Ended y)
     ])
-    parens_stage at stage list = and_then (anything (begun p w at stage)) (λ x z. listed at x list (guard_name p w x (bare_list list)))
+    parens_stage at stage list = and_then (anything (begun p w at stage)) (λ x z. listed at x list (guard_name x (bare_list list)))
 
     select_stage : (at : ℕ) (stage : Stage) (s : S.Selector) → Gives IsFactorStage (select p w at stage s)
     select_stage at (Whole (AModule m)) (S.Field period i) = and_then (member_basic m i) (λ o h. keeps IsFactorStage (Whole o) h)
@@ -383,7 +383,7 @@ module _ (p : Source) (w : World) where
       wanted : (b : Bool) → (not w.constant || b) ≡ true → b ≡ true
       wanted b h = sym (ap (λ c. not c || b) asked) ∙ h
 
-      char_range : (i : ℕ) (k : Kind) → (symbol_at p i).kind ≡ k → char_of p w k < 256
+      char_range : (i : ℕ) (k : Kind) → (symbol_at p i).kind ≡ k → char_of k < 256
       char_range i (TheKind.Char n) is = read.chars i n is
       char_range i (TheKind.Int z) is = omega arith
       char_range i k is = omega arith
@@ -414,16 +414,16 @@ module _ (p : Source) (w : World) where
         multiplied_plain x h (S.multiplied operator f rest) = and_then (factor_plain f) (λ y z. and_then (joined_plain (mul_operator operator) (place p (mul_symbol operator)) x y z) (λ u k. multiplied_plain u k rest))
 
         factor_plain : (x : S.Factor) → Gives IsPlain (factor p w x)
-        factor_plain (S.Int i) = keeps IsPlain (value Integer (I.Literal (int_of p w (symbol_at p i).kind))) tt
+        factor_plain (S.Int i) = keeps IsPlain (value Integer (I.Literal (int_of (symbol_at p i).kind))) tt
         factor_plain (S.Text i) = keeps IsPlain (operand (TextShape _) (Chars (characters p i)) AsValue) refl
-        factor_plain (S.Char i) = keeps IsPlain (value Char (I.Literal (char_of p w (symbol_at p i).kind))) (char_range i (symbol_at p i).kind refl)
+        factor_plain (S.Char i) = keeps IsPlain (value Char (I.Literal (char_of (symbol_at p i).kind))) (char_range i (symbol_at p i).kind refl)
         factor_plain (S.Nil i) = keeps IsPlain (value Nil (I.Literal 0)) refl
         factor_plain (S.True i) = keeps IsPlain (value Boolean (I.Literal 1)) (omega arith)
         factor_plain (S.False i) = keeps IsPlain (value Boolean (I.Literal 0)) (omega arith)
         factor_plain (S.EmptySet i j) = keeps IsPlain (value Set (I.Literal 0)) tt
         factor_plain (S.Set i first more j) = and_then (anything (with_element p w (I.Literal 0) first)) (λ s z. and_then (anything (with_elements p w s more)) (λ t y. keeps IsPlain (value Set t) (any_set (fold t))))
         factor_plain (S.Designated name selectors) = and_then (named_basic name) (λ o h. and_then (selected_factor (place p name) (Whole o) h selectors) (λ x k.
-            by_rule 31 (place p name) (not (is_nothing p w x.shape)) (λ n. by_rule 32 (place p name) (not w.constant || is_constant x) (λ c. keeps IsPlain x (k (wanted (is_constant x) c))))))
+            by_rule 31 (place p name) (not (is_nothing x.shape)) (λ n. by_rule 32 (place p name) (not w.constant || is_constant x) (λ c. keeps IsPlain x (k (wanted (is_constant x) c))))))
         factor_plain (S.Paren i x j) = and_then (plain_constant x) (λ y h. keeps IsPlain (as_value y) h)
         factor_plain (S.Not i x) = and_then (anything (factor p w x)) (λ y z. by_rule 31 (place p i) (is_truth y.shape) (λ t. keeps IsPlain (value Boolean (I.Apply TheUnary.Not (form y))) (not_range (fold (form y)))))
 

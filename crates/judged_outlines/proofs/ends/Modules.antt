@@ -41,7 +41,7 @@ module _ (p : Source) (read : IsRead p) where
   e_import x s = o_next (h_stand p read (x.name ∷ []) s) (λ r. o_next (o_look (some 38 (place p (origin x)) (imported r.1.world.modules (spelled p (origin x)))) r.1) (λ m.
       keeps (OnwardTo m.1) (tt, with_levels (declare_last (spelled p x.name) (module_entry m.0)) (imports_in m.0 m.1)) (known_as x.name m.0 m.1)))
 
-  pub e_imports : (xs : List Import) (s : Making) → Gives (OnwardTo s) (each p (import_part p) xs s)
+  pub e_imports : (xs : List Import) (s : Making) → Gives (OnwardTo s) (each (import_part p) xs s)
   e_imports [] s = keeps (OnwardTo s) (tt, s) (onward s)
   e_imports (x ∷ xs) s = o_next (e_import x s) (λ r. e_imports xs r.1)
 
@@ -85,7 +85,7 @@ module _ (p : Source) (read : IsRead p) where
     pub module_ends_well : (d : SoFar) → with_module p m c ≡ Keeps d → EndsWell d
     module_ends_well d is = (subst (Gives EndsWell) is e_with).holds
 
-    pub constants_offered : (s t : Making) → each p (import_part p) (import_list m.imports) (first_making c) ≡ Keeps (tt, s) → decls_part p m.decls s ≡ Keeps (tt, t) → OffersInRange t.objects
+    pub constants_offered : (s t : Making) → each (import_part p) (import_list m.imports) (first_making c) ≡ Keeps (tt, s) → decls_part p m.decls s ≡ Keeps (tt, t) → OffersInRange t.objects
     constants_offered s t i d =
         let a = (subst (Gives (OnwardTo (first_making c))) i (e_imports (import_list m.imports) (first_making c))).holds in
         let b = (subst (Gives (AboveTo s)) d (k_decls p read m.decls s)).holds in

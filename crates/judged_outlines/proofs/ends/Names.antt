@@ -54,17 +54,17 @@ module _ (p : Source) (read : IsRead p) where
       and_then (look_with (constant p r.1.world d.value) r.1 (supposing (HasRanges r.1.world) IsInRange (constant p r.1.world d.value) (λ h. constants_in_range p r.1.world read (right_here p r.1.world h) d.value))) (λ c k.
       subst (λ u. Gives (OnwardTo u) (declared p d.name (AConstant c.0) c.1)) k.0 (h_declared d.name (AConstant c.0) c.1 (subst (λ u. HasRanges u.world → IsInRange c.0) (sym k.0) k.1))))
 
-  pub h_consts : (ds : List S.ConstDecl) (s : Making) → Gives (OnwardTo s) (each p (const_part p) ds s)
+  pub h_consts : (ds : List S.ConstDecl) (s : Making) → Gives (OnwardTo s) (each (const_part p) ds s)
   h_consts [] s = keeps (OnwardTo s) (tt, s) (onward s)
   h_consts (d ∷ ds) s = o_next (h_const d s) (λ r. h_consts ds r.1)
 
   -- ---- parameters
 
   abbrev parameter_entry : Bool → Shape → Listed → Making → Entry
-  parameter_entry v a l s = record { object = parameter_variable p v a s.values (length l.parameters) s.world; exported = false }
+  parameter_entry v a l s = record { object = parameter_variable v a s.values (length l.parameters) s.world; exported = false }
 
   abbrev known_from : ℕ → Bool → Shape → Listed → Making → Making
-  known_from i v a l s = record (with_levels (declare_last (spelled p i) (record { object = parameter_variable p v a s.values (length l.parameters) s.world; exported = false })) s) { values = if is_value (mode_of v a) then suc s.values else s.values }
+  known_from i v a l s = record (with_levels (declare_last (spelled p i) (record { object = parameter_variable v a s.values (length l.parameters) s.world; exported = false })) s) { values = if is_value (mode_of v a) then suc s.values else s.values }
 
   h_add : (b v : Bool) (a : Shape) (is : List ℕ) (l : Listed) (s : Making) → Gives (OnwardTo s) (add_parameters p b v a is l s)
   h_add b v a [] l s = keeps (OnwardTo s) (l, s) (onward s)

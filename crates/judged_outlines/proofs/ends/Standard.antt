@@ -41,10 +41,10 @@ listed : (xs : List (List ℕ × Object)) → have_no_constant xs ≡ true → N
 listed [] h q x is = none_some x is
 listed (y ∷ ys) h q x is = listed_by y ys q x (λ k. listed ys k q x) (is_no_constant y.1) (bytes_eq y.0 q) refl h is
 
-earlier : (p : Source) (w : World) → HasRanges w → (n : ℕ) → NamesInRange (names_in p (record w { constant = true }) (slice_get w.modules n))
+earlier : (p : Source) (w : World) → HasRanges w → (n : ℕ) → NamesInRange (names_in (slice_get w.modules n))
 earlier p w h n = by (slice_get w.modules n) refl
   where
-    by : (o : Option KnownModule) → slice_get w.modules n ≡ o → NamesInRange (names_in p (record w { constant = true }) o)
+    by : (o : Option KnownModule) → slice_get w.modules n ≡ o → NamesInRange (names_in o)
     by None e q x is = none_some x is
     by (Some m) e q x is = h.members n m e q x is
 

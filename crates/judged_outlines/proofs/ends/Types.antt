@@ -31,7 +31,7 @@ module _ (p : Source) (read : IsRead p) where
   k_stand_fields [] g s = keeps (OnwardTo s) (tt, s) (onward s)
   k_stand_fields (x ∷ xs) g s = o_next (o_look (rule 36 (place p x.name) (is_none (g.fields (spelled p x.name)))) s) (λ r. o_next (h_stand p read (x.name ∷ []) r.1) (λ q. k_stand_fields xs g q.1))
 
-  k_among : {A : Type 0} (m : Part A) (s : Making) → Gives (OnwardTo (record s { standing = [] })) (m (record s { standing = [] })) → Gives (OnwardTo s) (among_fields p m s)
+  k_among : {A : Type 0} (m : Part A) (s : Making) → Gives (OnwardTo (record s { standing = [] })) (m (record s { standing = [] })) → Gives (OnwardTo s) (among_fields m s)
   k_among m s g = and_then g (λ r h. keeps (OnwardTo s) (r.0, record r.1 { standing = s.standing })
       (record { modules = h.modules; part = h.part; waiting = h.waiting; unset = h.unset; names = h.names; objects = h.objects }))
 
@@ -100,7 +100,7 @@ module _ (p : Source) (read : IsRead p) where
     k_type : (x : S.TypeTree) (s : Making) → Gives (OnwardTo s) (type_part p x s)
     k_type (S.Named q) s = o_look (type_at p 31 q s.world) s
     k_type (S.Array i first more j element) s = o_next (o_look (array_length p first s.world) s) (λ n. o_next (o_look (array_lengths p more n.1.world) n.1) (λ ns.
-        o_next (k_type element ns.1) (λ a. o_look (arrays p (place p i) (n.0 ∷ ns.0) a.0 a.1.world) a.1)))
+        o_next (k_type element ns.1) (λ a. o_look (arrays (place p i) (n.0 ∷ ns.0) a.0 a.1.world) a.1)))
     k_type (S.Record i base first more j) s =
         let n = length s.world.known.records in
         o_from s (with_record s) (quiet s (with_record s) refl refl refl refl refl refl)
@@ -122,7 +122,7 @@ module _ (p : Source) (read : IsRead p) where
 
   -- ---- TYPE and VAR
 
-  k_each : {X : Type 0} (f : X → Part (Unit {0})) → ((x : X) (s : Making) → Gives (OnwardTo s) (f x s)) → (xs : List X) (s : Making) → Gives (OnwardTo s) (each p f xs s)
+  k_each : {X : Type 0} (f : X → Part (Unit {0})) → ((x : X) (s : Making) → Gives (OnwardTo s) (f x s)) → (xs : List X) (s : Making) → Gives (OnwardTo s) (each f xs s)
   k_each f g [] s = keeps (OnwardTo s) (tt, s) (onward s)
   k_each f g (x ∷ xs) s = o_next (g x s) (λ r. k_each f g xs r.1)
 
@@ -160,10 +160,10 @@ module _ (p : Source) (read : IsRead p) where
   }
 
   k_forward : (k : ℕ × ℕ) (s : Making) → Gives (λ (r : Unit {0} × Making). Based (k ∷ []) s r.1) (forward_base p k s)
-  k_forward k s = and_then (b_look (some 30 (place p k.1) (entry_object p (last_names s.world.levels (spelled p k.1)))) s) (λ o a. and_then (b_look (some 31 (place p k.1) (record_object o.0)) o.1) (λ r b.
+  k_forward k s = and_then (b_look (some 30 (place p k.1) (entry_object (last_names s.world.levels (spelled p k.1)))) s) (λ o a. and_then (b_look (some 31 (place p k.1) (record_object o.0)) o.1) (λ r b.
       keeps (λ (r : Unit {0} × Making). Based (k ∷ []) s r.1) (tt, based k.0 r.0 r.1) (subst (λ u. Based (k ∷ []) s (based k.0 r.0 u)) (sym (b ∙ a)) (based_one k r.0 s))))
 
-  k_forwards : (ks : List (ℕ × ℕ)) (s : Making) → Gives (λ (r : Unit {0} × Making). Based ks s r.1) (each p (forward_base p) ks s)
+  k_forwards : (ks : List (ℕ × ℕ)) (s : Making) → Gives (λ (r : Unit {0} × Making). Based ks s r.1) (each (forward_base p) ks s)
   k_forwards [] s = keeps (λ (r : Unit {0} × Making). Based [] s r.1) (tt, s) (record { modules = refl; levels = refl; part = refl; objects = refl; unset = λ n h. (h, λ w. w) })
   k_forwards (k ∷ ks) s = and_then (k_forward k s) (λ r h. weaken (k_forwards ks r.1) (λ q g. based_more k ks s r.1 q.1 h g))
 
@@ -192,7 +192,7 @@ module _ (p : Source) (read : IsRead p) where
   k_var : (d : S.VarDecl) (s : Making) → Gives (OnwardTo s) (var_part p d s)
   k_var d s = o_next (h_stand p read (symbols_of (idents_list d.names)) s) (λ r. o_next (k_type d.of r.1) (λ a. k_each (variable_part p a.0) (k_variable a.0) (idents_list d.names) a.1))
 
-  pub k_vars : (ds : List S.VarDecl) (s : Making) → Gives (OnwardTo s) (each p (var_part p) ds s)
+  pub k_vars : (ds : List S.VarDecl) (s : Making) → Gives (OnwardTo s) (each (var_part p) ds s)
   k_vars ds s = k_each (var_part p) k_var ds s
 
   -- ---- procedures, and all declarations of a scope
@@ -224,7 +224,7 @@ module _ (p : Source) (read : IsRead p) where
   mutual
     pub k_decls : (d : S.Decls) (s : Making) → Gives (AboveTo s) (decls_part p d s)
     k_decls (S.decls consts types vars procedures) s =
-        a_next (a_by (h_consts p read (consts_in p consts) s)) (λ a. a_next (k_types (types_in p types) a.1) (λ b. a_next (a_by (k_vars (vars_in p vars) b.1)) (λ c. k_procedures procedures c.1)))
+        a_next (a_by (h_consts p read (consts_in consts) s)) (λ a. a_next (k_types (types_in types) a.1) (λ b. a_next (a_by (k_vars (vars_in vars) b.1)) (λ c. k_procedures procedures c.1)))
 
     k_procedures : (x : S.Procedures) (s : Making) → Gives (AboveTo s) (procedures_part p x s)
     k_procedures S.no_procedure s = keeps (AboveTo s) (tt, s) (above s)

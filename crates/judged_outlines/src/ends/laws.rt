@@ -23,6 +23,6 @@ pub fn modules_end_well()
 /// And the constants that it offers have values of their types.
 pub fn offered_constants_are_in_range()
     ensures { (p : Source) (m : ModuleTree) (c : SoFar) (s t : Making) → IsRead p → EndsWell c
-        → each p (import_part p) (import_list m.imports) (first_making c) ≡ Keeps (tt, s)
+        → each (import_part p) (import_list m.imports) (first_making c) ≡ Keeps (tt, s)
         → decls_part p m.decls s ≡ Keeps (tt, t) → OffersInRange t.objects }
 {}

@@ -173,7 +173,7 @@ module _ (p : Source) where
         []) (tt, (tt, tt)) q x is
     known_member (Earlier n) q x is = by (slice_get s.world.modules n) refl is
       where
-        by : (o : Option KnownModule) → slice_get s.world.modules n ≡ o → names_in p s.world o q ≡ Some x → IsGood x.object
+        by : (o : Option KnownModule) → slice_get s.world.modules n ≡ o → names_in o q ≡ Some x → IsGood x.object
         by None i h = none_some x h
         by (Some m) i h = fine.members n m i q x h
 
@@ -194,10 +194,10 @@ module _ (p : Source) where
     k_qualified name None = k_named name
     k_qualified name (Some i) = and_then (k_named name) (λ o h. k_member_of name i o)
 
-    type_of : (o : Object) → IsGood o → (a : Shape) → type_of_object p s.world o ≡ Some a → IsWhole a
+    type_of : (o : Object) → IsGood o → (a : Shape) → type_of_object o ≡ Some a → IsWhole a
     type_of (AType u) h a is = subst IsWhole (some_same u a is) h
     type_of (AConstant c) h a is = none_some a is
     type_of _ h a is = none_some a is
 
     pub known_type : (number name : ℕ) (i : Option ℕ) → Gives IsWhole (type_named p s.world number name i)
-    known_type number name i = and_then (k_qualified name i) (λ o h. at_last number (place p name) (type_of_object p s.world o) (λ a is. type_of o h a is))
+    known_type number name i = and_then (k_qualified name i) (λ o h. at_last number (place p name) (type_of_object o) (λ a is. type_of o h a is))

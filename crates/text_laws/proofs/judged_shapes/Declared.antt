@@ -26,7 +26,7 @@ use Rattle.text_laws.proofs.judged_shapes.Closed.{IsGood, procedure_closed, Fine
 use Rattle.text_laws.proofs.judged_shapes.Types.{fine_bases, heading_closed, h_formals, s_type}
 
 module _ (p : Source) where
-  pub s_each : {X : Type 0} (f : X → Part (Unit {0})) → ((x : X) (s : Making) → Fine s → Gives (Kept Any) (f x s)) → (xs : List X) (s : Making) → Fine s → Gives (Kept Any) (each p f xs s)
+  pub s_each : {X : Type 0} (f : X → Part (Unit {0})) → ((x : X) (s : Making) → Fine s → Gives (Kept Any) (f x s)) → (xs : List X) (s : Making) → Fine s → Gives (Kept Any) (each f xs s)
   s_each f g [] s fine = kept Any tt s fine tt
   s_each f g (x ∷ xs) s fine = s_next (g x s fine) (λ r fine_r _. s_each f g xs r.1 fine_r)
 
@@ -42,7 +42,7 @@ module _ (p : Source) where
 
   s_forward : (k : ℕ × ℕ) (s : Making) → Fine s → Gives (Kept Any) (forward_base p k s)
   s_forward k s fine =
-      s_next (s_pass (some 30 (place p k.1) (entry_object p (last_names s.world.levels (spelled p k.1)))) s fine) (λ o fine_o _.
+      s_next (s_pass (some 30 (place p k.1) (entry_object (last_names s.world.levels (spelled p k.1)))) s fine) (λ o fine_o _.
       s_next (s_pass (some 31 (place p k.1) (record_object o.0)) o.1 fine_o) (λ r fine_r _.
       kept Any tt (with_known (λ x. record x { bases = slice_set x.bases k.0 (Some r.0) }) r.1) (fine_bases r.1 (slice_set (r.1).world.known.bases k.0 (Some r.0)) fine_r) tt))
 
@@ -108,9 +108,9 @@ module _ (p : Source) where
   mutual
     pub s_decls : (d : S.Decls) (s : Making) → Fine s → Gives (Kept Any) (decls_part p d s)
     s_decls (S.decls consts types vars procedures) s fine =
-        s_next (s_each (const_part p) s_const (consts_in p consts) s fine) (λ a fine_a _.
-        s_next (s_types (types_in p types) a.1 fine_a) (λ b fine_b _.
-        s_next (s_each (var_part p) s_var (vars_in p vars) b.1 fine_b) (λ c fine_c _. s_procedures procedures c.1 fine_c)))
+        s_next (s_each (const_part p) s_const (consts_in consts) s fine) (λ a fine_a _.
+        s_next (s_types (types_in types) a.1 fine_a) (λ b fine_b _.
+        s_next (s_each (var_part p) s_var (vars_in vars) b.1 fine_b) (λ c fine_c _. s_procedures procedures c.1 fine_c)))
 
     s_procedures : (x : S.Procedures) (s : Making) → Fine s → Gives (Kept Any) (procedures_part p x s)
     s_procedures S.no_procedure s fine = kept Any tt s fine tt

@@ -53,12 +53,12 @@ module _ (p : Source) where
   h_add true v a good (i ∷ is) l h s fine =
       s_next (s_pass (rule 40 (place p i) (nat_le (l.words + words_of_shape v a) 24)) s fine) (λ r fine_r _.
       h_add true v a good is (listed v a l) (one_more v a l good h) _
-      (fine_declared (spelled p i) (record { object = parameter_variable p v a (r.1).values (length l.parameters) (r.1).world; exported = false }) r.1 tt fine_r))
+      (fine_declared (spelled p i) (record { object = parameter_variable v a (r.1).values (length l.parameters) (r.1).world; exported = false }) r.1 tt fine_r))
 
   h_section : (b : Bool) (x : S.Section) (l : Listed) → parameters_closed l → (s : Making) → Fine s → Gives (Kept parameters_closed) (section p b x l s)
   h_section b x l h s fine =
       s_next (s_stand p (x.first ∷ next_names x.more) s fine) (λ r fine_r _.
-      s_next (s_look IsWhole (type_at p 31 x.of (r.1).world) r.1 fine_r (known_type p r.1 fine_r 31 (x.of).name (member_symbol p (r.1).world (x.of).member))) (λ a fine_a whole.
+      s_next (s_look IsWhole (type_at p 31 x.of (r.1).world) r.1 fine_r (known_type p r.1 fine_r 31 (x.of).name (member_symbol (x.of).member))) (λ a fine_a whole.
       h_add b (is_some x.var_word) (opened (is_some x.open_array) a.0) (opened_closed (is_some x.open_array) a.0 whole) (x.first ∷ next_names x.more) l h a.1 fine_a))
 
   h_sections : (b : Bool) (xs : List S.NextSection) (l : Listed) → parameters_closed l → (s : Making) → Fine s → Gives (Kept parameters_closed) (next_sections p b xs l s)
@@ -85,7 +85,7 @@ module _ (p : Source) where
   whole_array : (n : ℕ) (a : Shape) → IsWhole a → IsWhole (Array n a)
   whole_array n a h = (refl, and_from (is_type a) (is_closed a) h.0 h.1)
 
-  whole_arrays : (at : ℕ) (ns : List ℕ) (a : Shape) (v : World) → IsWhole a → Gives IsWhole (arrays p at ns a v)
+  whole_arrays : (at : ℕ) (ns : List ℕ) (a : Shape) (v : World) → IsWhole a → Gives IsWhole (arrays at ns a v)
   whole_arrays at [] a v h = keeps IsWhole a h
   whole_arrays at (n ∷ ns) a v h = and_then (whole_arrays at ns a v h) (λ inner k. by_rule 35 at (nat_le (cells v.known (Array n inner)) limit) (λ ok. keeps IsWhole (Array n inner) (whole_array n inner k)))
 
@@ -104,7 +104,7 @@ module _ (p : Source) where
   fields_added n v a good [] g h = h
   fields_added n v a good (x ∷ xs) g h = fields_added n v a good xs _ (all_more (λ x. is_closed x.shape) g.added (record { name = spelled p x.name; exported = is_some x.star; shape = a }) h good)
 
-  s_among : {A : Type 0} (P : A → Type 0) (m : Part A) (s : Making) → Gives (Kept P) (m (record s { standing = [] })) → Gives (Kept P) (among_fields p m s)
+  s_among : {A : Type 0} (P : A → Type 0) (m : Part A) (s : Making) → Gives (Kept P) (m (record s { standing = [] })) → Gives (Kept P) (among_fields m s)
   s_among P m s g = s_next g (λ r fine h. kept P r.0 (record (r.1) { standing = s.standing }) fine h)
 
   -- ---- types
@@ -123,12 +123,12 @@ module _ (p : Source) where
 
   mutual
     pub s_type : (x : S.TypeTree) (s : Making) → Fine s → Gives (Kept IsWhole) (type_part p x s)
-    s_type (S.Named q) s fine = s_look IsWhole (type_at p 31 q s.world) s fine (known_type p s fine 31 q.name (member_symbol p s.world q.member))
+    s_type (S.Named q) s fine = s_look IsWhole (type_at p 31 q s.world) s fine (known_type p s fine 31 q.name (member_symbol q.member))
     s_type (S.Array i first more j element) s fine =
         s_next (s_pass (array_length p first s.world) s fine) (λ n fine_n _.
         s_next (s_pass (array_lengths p more (n.1).world) n.1 fine_n) (λ ns fine_ns _.
         s_next (s_type element ns.1 fine_ns) (λ a fine_a whole.
-        s_look IsWhole (arrays p (place p i) (n.0 ∷ ns.0) a.0 (a.1).world) a.1 fine_a (whole_arrays (place p i) (n.0 ∷ ns.0) a.0 (a.1).world whole))))
+        s_look IsWhole (arrays (place p i) (n.0 ∷ ns.0) a.0 (a.1).world) a.1 fine_a (whole_arrays (place p i) (n.0 ∷ ns.0) a.0 (a.1).world whole))))
     s_type (S.Record i base first more j) s fine =
         let n = length s.world.known.records in
         let begun = with_record s in

@@ -104,18 +104,18 @@ pub index-returns-in_err-i : goal.index-returns-in_err-i
 index-returns-in_err-i t c = λ a h. exit _ c.from_residual-in_err-i.ensures.1 (goes_on _ _ (c.in_ok-x.ensures a h) (λ x k. as_judged (ap (λ m. m >>= λ y. Keeps (Partly y)) (indexed_is c.args.scope.now.source.now (world_of c.args.scope.now) (place c.args.scope.now.source.now c.args.symbol) x c.args.list.now)) (stop {B = Unit {0}} {R = λ u a. Unit {0}} _ _ (stop {B = Unit {0}} {R = λ u a. Unit {0}} _ _ (stop _ _ c.in_err-i.ensures)))))
 
 pub index-returns-in_err-first : goal.index-returns-in_err-first
-index-returns-in_err-first t c = λ a h. exit _ c.from_residual-in_err-first.ensures.1 (goes_on _ _ (c.in_ok-x.ensures a h) (λ x k. as_judged (ap (λ m. m >>= λ y. Keeps (Partly y)) (indexed_is c.args.scope.now.source.now (world_of c.args.scope.now) (place c.args.scope.now.source.now c.args.symbol) x c.args.list.now)) (stop {B = Unit {0}} {R = λ u a. Unit {0}} _ _ (stop _ _ (goes_on _ _ c.in_ok-i.ensures (λ i e. as_judged (ap (λ n. element c.args.scope.now.source.now (world_of c.args.scope.now) (place c.args.scope.now.source.now c.args.symbol) (place c.args.scope.now.source.now n) x i) (sym c.expression_first.ensures)) (c.in_err-first.ensures x i k e)))))))
+index-returns-in_err-first t c = λ a h. exit _ c.from_residual-in_err-first.ensures.1 (goes_on _ _ (c.in_ok-x.ensures a h) (λ x k. as_judged (ap (λ m. m >>= λ y. Keeps (Partly y)) (indexed_is c.args.scope.now.source.now (world_of c.args.scope.now) (place c.args.scope.now.source.now c.args.symbol) x c.args.list.now)) (stop {B = Unit {0}} {R = λ u a. Unit {0}} _ _ (stop _ _ (goes_on _ _ c.in_ok-i.ensures (λ i e. as_judged (ap (λ n. element (place c.args.scope.now.source.now c.args.symbol) (place c.args.scope.now.source.now n) x i) (sym c.expression_first.ensures)) (c.in_err-first.ensures x i k e)))))))
 
 pub index-returns-in_err-last : goal.index-returns-in_err-last
-index-returns-in_err-last t c = λ a h. exit _ c.from_residual-in_err-last.ensures.1 (goes_on _ _ (c.in_ok-x.ensures a h) (λ x k. as_judged (ap (λ m. m >>= λ y. Keeps (Partly y)) (indexed_is c.args.scope.now.source.now (world_of c.args.scope.now) (place c.args.scope.now.source.now c.args.symbol) x c.args.list.now)) (stop _ _ (goes_on _ _ (goes_on _ _ c.in_ok-i.ensures (λ i e. as_judged (ap (λ n. element c.args.scope.now.source.now (world_of c.args.scope.now) (place c.args.scope.now.source.now c.args.symbol) (place c.args.scope.now.source.now n) x i) (sym c.expression_first.ensures)) (c.in_ok-first.ensures x i k e)))
+index-returns-in_err-last t c = λ a h. exit _ c.from_residual-in_err-last.ensures.1 (goes_on _ _ (c.in_ok-x.ensures a h) (λ x k. as_judged (ap (λ m. m >>= λ y. Keeps (Partly y)) (indexed_is c.args.scope.now.source.now (world_of c.args.scope.now) (place c.args.scope.now.source.now c.args.symbol) x c.args.list.now)) (stop _ _ (goes_on _ _ (goes_on _ _ c.in_ok-i.ensures (λ i e. as_judged (ap (λ n. element (place c.args.scope.now.source.now c.args.symbol) (place c.args.scope.now.source.now n) x i) (sym c.expression_first.ensures)) (c.in_ok-first.ensures x i k e)))
     (λ y g. as_judged (ap (λ ns. indexed_more c.args.scope.now.source.now (world_of c.args.scope.now) (place c.args.scope.now.source.now c.args.symbol) y (plain_each_expression ns)) (sym c.deref.ensures.value)) (c.in_err-last.ensures y g))))))
 
 pub index-returns : goal.index-returns
-index-returns t c = λ a h. goes_on _ _ (c.in_ok-x.ensures a h) (λ x k. as_judged (ap (λ m. m >>= λ y. Keeps (Partly y)) (indexed_is c.args.scope.now.source.now (world_of c.args.scope.now) (place c.args.scope.now.source.now c.args.symbol) x c.args.list.now)) (goes_on _ _ (goes_on _ _ (goes_on _ _ c.in_ok-i.ensures (λ i e. as_judged (ap (λ n. element c.args.scope.now.source.now (world_of c.args.scope.now) (place c.args.scope.now.source.now c.args.symbol) (place c.args.scope.now.source.now n) x i) (sym c.expression_first.ensures)) (c.in_ok-first.ensures x i k e)))
+index-returns t c = λ a h. goes_on _ _ (c.in_ok-x.ensures a h) (λ x k. as_judged (ap (λ m. m >>= λ y. Keeps (Partly y)) (indexed_is c.args.scope.now.source.now (world_of c.args.scope.now) (place c.args.scope.now.source.now c.args.symbol) x c.args.list.now)) (goes_on _ _ (goes_on _ _ (goes_on _ _ c.in_ok-i.ensures (λ i e. as_judged (ap (λ n. element (place c.args.scope.now.source.now c.args.symbol) (place c.args.scope.now.source.now n) x i) (sym c.expression_first.ensures)) (c.in_ok-first.ensures x i k e)))
     (λ y g. as_judged (ap (λ ns. indexed_more c.args.scope.now.source.now (world_of c.args.scope.now) (place c.args.scope.now.source.now c.args.symbol) y (plain_each_expression ns)) (sym c.deref.ensures.value)) (c.in_ok-last.ensures y g))) (λ z f. record { by = f })))
 
 pub indexed_one-returns : goal.indexed_one-returns
-indexed_one-returns t c = λ x h. goes_on _ _ c.in_ok-i.ensures (λ i e. as_judged (ap (λ n. element c.args.scope.now.source.now (world_of c.args.scope.now) (place c.args.scope.now.source.now c.args.symbol) (place c.args.scope.now.source.now n) x i) (sym c.expression_first.ensures)) (c.element.ensures x i h e))
+indexed_one-returns t c = λ x h. goes_on _ _ c.in_ok-i.ensures (λ i e. as_judged (ap (λ n. element (place c.args.scope.now.source.now c.args.symbol) (place c.args.scope.now.source.now n) x i) (sym c.expression_first.ensures)) (c.element.ensures x i h e))
 
 pub parens-returns-in_err-all-in-Some : goal.parens-returns-in_err-all-in-Some
 parens-returns-in_err-all-in-Some t c = λ a h. exit _ c.from_residual-in_err-all-in-Some.ensures.1 (as_judged (ap (parens_at c.args.scope.now.source.now (world_of c.args.scope.now) (place c.args.scope.now.source.now c.args.symbol) (plain_list c.args.list.now) a) (c.in-Some.ensures a h) ∙ ap (λ m. m >>= λ xs. standard_behind c.args.scope.now.source.now (world_of c.args.scope.now) (place c.args.scope.now.source.now c.args.symbol) (standard_of c.in-Some.s) xs) (arguments_is c.args.scope.now.source.now (world_of c.args.scope.now) c.args.list.now))

@@ -9,5 +9,5 @@ pub returns-in_err-const_decls-in-Some-clause-judged :
 returns-in_err-const_decls-in-Some-clause-judged c = λ m makes.
     let p = c.args.round.now.source.now in
     exit _ c.from_residual.ensures.1
-    (as_judged (ap (λ t. each p (const_part p) (consts_in p (plain_option plain_consts t)) m) c.in-Some.is)
-    (as_judged (ap (λ xs. each p (const_part p) (plain_each plain_const_decl xs) m) (sym c.deref.ensures.value)) (c.in_err-const_decls-in-Some.ensures.judged m makes)))
+    (as_judged (ap (λ t. each (const_part p) (consts_in (plain_option plain_consts t)) m) c.in-Some.is)
+    (as_judged (ap (λ xs. each (const_part p) (plain_each plain_const_decl xs) m) (sym c.deref.ensures.value)) (c.in_err-const_decls-in-Some.ensures.judged m makes)))

@@ -18,11 +18,11 @@ returns-in_err-x c = exit _ c.from_residual-in_err-x.ensures.1 (goes_on _ _ c.in
 pub returns-in-None : goal.returns-in-None
 returns-in-None c = let s = c.args.scope.now in
     goes_on _ _ c.in_ok-named.ensures (λ o h. goes_on _ _ c.in_ok-x.ensures (λ a k. missing_so 31 _ _
-    (no_image (outlined_designator (bases_of s)) (integer_variable s.source.now (world_of s) o) (c.in-None.ensures ∙ ap (λ z. option_map (outlined_designator (bases_of s)) (integer_variable s.source.now (world_of s) z)) h))
+    (no_image (outlined_designator (bases_of s)) (integer_variable (world_of s) o) (c.in-None.ensures ∙ ap (λ z. option_map (outlined_designator (bases_of s)) (integer_variable (world_of s) z)) h))
     c.fault.ensures))
 
 pub returns-in-Some : goal.returns-in-Some
 returns-in-Some c = let s = c.args.scope.now in
     goes_on _ _ c.in_ok-named.ensures (λ o h. goes_on _ _ c.in_ok-x.ensures (λ a k.
-    let r = an_image (outlined_designator (bases_of s)) (integer_variable s.source.now (world_of s) o) _ (c.in-Some.ensures ∙ ap (λ z. option_map (outlined_designator (bases_of s)) (integer_variable s.source.now (world_of s) z)) h) in
+    let r = an_image (outlined_designator (bases_of s)) (integer_variable (world_of s) o) _ (c.in-Some.ensures ∙ ap (λ z. option_map (outlined_designator (bases_of s)) (integer_variable (world_of s) z)) h) in
     there 31 _ _ r.1 (c.counted.ensures r.0 a r.2 k)))

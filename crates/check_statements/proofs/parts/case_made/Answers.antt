@@ -12,7 +12,7 @@ pub returns-in-Values : goal.returns-in-Values
 returns-in-Values c = λ on a b h k. let s = c.args.scope.now in let m = subst (λ z. AreParts s on z b) c.in-Values.is k in
     c.case_values.ensures (table_of s) (texts_of s)
     ∙ ap₂ I.Case (c.checked.ensures a h) m.all
-    ∙ sym (ap (outlined_statement (bases_of s)) (ap (λ z. case_of s.source.now z a b) (sym m.selector) ∙ on_values s.source.now c.in-Values.of_char a b))
+    ∙ sym (ap (outlined_statement (bases_of s)) (ap (λ z. case_of z a b) (sym m.selector) ∙ on_values s.source.now c.in-Values.of_char a b))
 
 pub returns : goal.returns
 returns c = λ on a b h k. let s = c.args.scope.now in

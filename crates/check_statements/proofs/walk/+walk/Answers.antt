@@ -32,7 +32,7 @@ use Rattle.check_statements.proofs.assignments.Assigning.{missing_so}
 use Rattle.check_expressions.proofs.Walking.{walk_on, walk_stops, walk_ends}
 use Rattle.check_statements.specs.Standing.{ArePut, ArePutBranches, SoFar, ArePutParts}
 use Rattle.check_statements.proofs.Joining.{none_put, one_put, all_put, made_put, no_branch_put, branch_put, for_made}
-use Rattle.check_statements.proofs.Filling.{on_value_is, value_put, type_put, narrowed_answers}
+use Rattle.check_statements.proofs.Filling.{value_put, type_put, narrowed_answers}
 use Rattle.check_statements.proofs.walk.+walk.Goals as goal
 
 pub statements-returns-in_err-first : goal.statements-returns-in_err-first
@@ -245,19 +245,19 @@ for_loop-returns-in_err-head t c = exit _ c.from_residual.ensures.1 (stop _ _ c.
 
 pub case-returns-in-None : goal.case-returns-in-None
 case-returns-in-None t c = let s = c.args.scope.now in let p = s.source.now in let w = world_of s in
-    goes_on _ _ c.in_ok-x.ensures (λ o h. missing_so 31 _ _ (sym (c.in-None.ensures ∙ (ap (selector_of p (case_variable p (named_alone p w (bare (plain_expression (out-CaseStat c.args.tree.now).selector))))) h.shape))) (c.fault.ensures ∙ ap (λ n. Fault 31 (place p n)) c.expression_first.ensures))
+    goes_on _ _ c.in_ok-x.ensures (λ o h. missing_so 31 _ _ (sym (c.in-None.ensures ∙ (ap (selector_of (case_variable (named_alone p w (bare (plain_expression (out-CaseStat c.args.tree.now).selector))))) h.shape))) (c.fault.ensures ∙ ap (λ n. Fault 31 (place p n)) c.expression_first.ensures))
 
 pub case-returns-in_err-first-in-Some : goal.case-returns-in_err-first-in-Some
 case-returns-in_err-first-in-Some t c = let s = c.args.scope.now in let p = s.source.now in let w = world_of s in
-    exit _ c.from_residual-in_err-first-in-Some.ensures.1 (goes_on _ _ c.in_ok-x.ensures (λ o h. there 31 _ _ (sym (c.in-Some.ensures ∙ (ap (selector_of p (case_variable p (named_alone p w (bare (plain_expression (out-CaseStat c.args.tree.now).selector))))) h.shape))) (stop _ _ (c.in_err-first-in-Some.ensures (selecting_meant (table_of s) c.in-Some.on) ((λ rest. rest), []) (c.no_parts.ensures s)))))
+    exit _ c.from_residual-in_err-first-in-Some.ensures.1 (goes_on _ _ c.in_ok-x.ensures (λ o h. there 31 _ _ (sym (c.in-Some.ensures ∙ (ap (selector_of (case_variable (named_alone p w (bare (plain_expression (out-CaseStat c.args.tree.now).selector))))) h.shape))) (stop _ _ (c.in_err-first-in-Some.ensures (selecting_meant (table_of s) c.in-Some.on) ((λ rest. rest), []) (c.no_parts.ensures s)))))
 
 pub case-returns-in_err-all-in-Some : goal.case-returns-in_err-all-in-Some
 case-returns-in_err-all-in-Some t c = let s = c.args.scope.now in let p = s.source.now in let w = world_of s in
-    exit _ c.from_residual-in_err-all-in-Some.ensures.1 (goes_on _ _ c.in_ok-x.ensures (λ o h. there 31 _ _ (sym (c.in-Some.ensures ∙ (ap (selector_of p (case_variable p (named_alone p w (bare (plain_expression (out-CaseStat c.args.tree.now).selector))))) h.shape))) (goes_on _ _ (c.in_ok-first-in-Some.ensures (selecting_meant (table_of s) c.in-Some.on) ((λ rest. rest), []) (c.no_parts.ensures s)) (λ b m. stop _ _ (as_judged (ap (part_more p w (selecting_meant (table_of s) c.in-Some.on) b) (sym c.deref.ensures.value)) (c.in_err-all-in-Some.ensures (selecting_meant (table_of s) c.in-Some.on) b m))))))
+    exit _ c.from_residual-in_err-all-in-Some.ensures.1 (goes_on _ _ c.in_ok-x.ensures (λ o h. there 31 _ _ (sym (c.in-Some.ensures ∙ (ap (selector_of (case_variable (named_alone p w (bare (plain_expression (out-CaseStat c.args.tree.now).selector))))) h.shape))) (goes_on _ _ (c.in_ok-first-in-Some.ensures (selecting_meant (table_of s) c.in-Some.on) ((λ rest. rest), []) (c.no_parts.ensures s)) (λ b m. stop _ _ (as_judged (ap (part_more p w (selecting_meant (table_of s) c.in-Some.on) b) (sym c.deref.ensures.value)) (c.in_err-all-in-Some.ensures (selecting_meant (table_of s) c.in-Some.on) b m))))))
 
 pub case-returns-in_ok-all-in-Some : goal.case-returns-in_ok-all-in-Some
 case-returns-in_ok-all-in-Some t c = let s = c.args.scope.now in let p = s.source.now in let w = world_of s in
-    goes_on _ _ c.in_ok-x.ensures (λ o h. there 31 _ _ (sym (c.in-Some.ensures ∙ (ap (selector_of p (case_variable p (named_alone p w (bare (plain_expression (out-CaseStat c.args.tree.now).selector))))) h.shape))) (goes_on _ _ (c.in_ok-first-in-Some.ensures (selecting_meant (table_of s) c.in-Some.on) ((λ rest. rest), []) (c.no_parts.ensures s)) (λ b m. goes_on _ _ (as_judged (ap (part_more p w (selecting_meant (table_of s) c.in-Some.on) b) (sym c.deref.ensures.value)) (c.in_ok-all-in-Some.ensures (selecting_meant (table_of s) c.in-Some.on) b m)) (λ ps n. record { by = c.case_made.ensures (selecting_meant (table_of s) c.in-Some.on) o ps h n }))))
+    goes_on _ _ c.in_ok-x.ensures (λ o h. there 31 _ _ (sym (c.in-Some.ensures ∙ (ap (selector_of (case_variable (named_alone p w (bare (plain_expression (out-CaseStat c.args.tree.now).selector))))) h.shape))) (goes_on _ _ (c.in_ok-first-in-Some.ensures (selecting_meant (table_of s) c.in-Some.on) ((λ rest. rest), []) (c.no_parts.ensures s)) (λ b m. goes_on _ _ (as_judged (ap (part_more p w (selecting_meant (table_of s) c.in-Some.on) b) (sym c.deref.ensures.value)) (c.in_ok-all-in-Some.ensures (selecting_meant (table_of s) c.in-Some.on) b m)) (λ ps n. record { by = c.case_made.ensures (selecting_meant (table_of s) c.in-Some.on) o ps h n }))))
 
 pub case_part-returns-in-None : goal.case_part-returns-in-None
 case_part-returns-in-None t c = let s = c.args.scope.now in let p = s.source.now in let w = world_of s in
@@ -273,15 +273,15 @@ case_part-returns-in-Types t c = let s = c.args.scope.now in let p = s.source.no
 
 pub value_part-returns-in_err-labelled : goal.value_part-returns-in_err-labelled
 value_part-returns-in_err-labelled t c = let s = c.args.scope.now in let p = s.source.now in let w = world_of s in
-    λ on a h. exit _ c.from_residual.ensures.1 (as_judged (ap (λ z. filled p w z a c.args.tree.now) (sym h.selector ∙ on_value_is p w c.args.of_char) ∙ value_filled_is p w c.args.of_char a c.args.tree.now) (stop _ _ (as_judged (ap (λ rs. ranges p w c.args.of_char (as_list (out-CasePart c.args.tree.now).first rs) a.1) (sym c.deref.ensures.value)) (c.in_err-labelled.ensures a.1 h.taken))))
+    λ on a h. exit _ c.from_residual.ensures.1 (as_judged (ap (λ z. filled p w z a c.args.tree.now) (sym h.selector) ∙ value_filled_is p w c.args.of_char a c.args.tree.now) (stop _ _ (as_judged (ap (λ rs. ranges p w c.args.of_char (as_list (out-CasePart c.args.tree.now).first rs) a.1) (sym c.deref.ensures.value)) (c.in_err-labelled.ensures a.1 h.taken))))
 
 pub value_part-returns-in_err-body : goal.value_part-returns-in_err-body
 value_part-returns-in_err-body t c = let s = c.args.scope.now in let p = s.source.now in let w = world_of s in
-    λ on a h. exit _ c.from_residual-in_err-body.ensures.1 (as_judged (ap (λ z. filled p w z a c.args.tree.now) (sym h.selector ∙ on_value_is p w c.args.of_char) ∙ value_filled_is p w c.args.of_char a c.args.tree.now) (goes_on _ _ (as_judged (ap (λ rs. ranges p w c.args.of_char (as_list (out-CasePart c.args.tree.now).first rs) a.1) (sym c.deref.ensures.value)) (c.in_ok-labelled.ensures a.1 h.taken)) (λ l k. stop _ _ c.in_err-body.ensures)))
+    λ on a h. exit _ c.from_residual-in_err-body.ensures.1 (as_judged (ap (λ z. filled p w z a c.args.tree.now) (sym h.selector) ∙ value_filled_is p w c.args.of_char a c.args.tree.now) (goes_on _ _ (as_judged (ap (λ rs. ranges p w c.args.of_char (as_list (out-CasePart c.args.tree.now).first rs) a.1) (sym c.deref.ensures.value)) (c.in_ok-labelled.ensures a.1 h.taken)) (λ l k. stop _ _ c.in_err-body.ensures)))
 
 pub value_part-returns : goal.value_part-returns
 value_part-returns t c = let s = c.args.scope.now in let p = s.source.now in let w = world_of s in
-    λ on a h. as_judged (ap (λ z. filled p w z a c.args.tree.now) (sym h.selector ∙ on_value_is p w c.args.of_char) ∙ value_filled_is p w c.args.of_char a c.args.tree.now) (goes_on _ _ (as_judged (ap (λ rs. ranges p w c.args.of_char (as_list (out-CasePart c.args.tree.now).first rs) a.1) (sym c.deref.ensures.value)) (c.in_ok-labelled.ensures a.1 h.taken)) (λ l k. goes_on _ _ c.in_ok-body.ensures (λ b m. record { by = value_put s on c.args.of_char c.args.parts c.in_ok-all.all c.args.taken c.in_ok-labelled.labelled.taken a c.in_ok-labelled.labelled.labels c.in_ok-body.body l b h k.labels k.taken m c.in_ok-all.ensures })))
+    λ on a h. as_judged (ap (λ z. filled p w z a c.args.tree.now) (sym h.selector) ∙ value_filled_is p w c.args.of_char a c.args.tree.now) (goes_on _ _ (as_judged (ap (λ rs. ranges p w c.args.of_char (as_list (out-CasePart c.args.tree.now).first rs) a.1) (sym c.deref.ensures.value)) (c.in_ok-labelled.ensures a.1 h.taken)) (λ l k. goes_on _ _ c.in_ok-body.ensures (λ b m. record { by = value_put s on c.args.of_char c.args.parts c.in_ok-all.all c.args.taken c.in_ok-labelled.labelled.taken a c.in_ok-labelled.labelled.labels c.in_ok-body.body l b h k.labels k.taken m c.in_ok-all.ensures })))
 
 pub type_part-returns-in_err-to : goal.type_part-returns-in_err-to
 type_part-returns-in_err-to t c = let s = c.args.scope.now in let p = s.source.now in let w = world_of s in
@@ -293,4 +293,4 @@ type_part-returns-in_err-body t c = let s = c.args.scope.now in let p = s.source
 
 pub type_part-returns : goal.type_part-returns
 type_part-returns t c = let s = c.args.scope.now in let p = s.source.now in let w = world_of s in
-    λ on a h. as_judged (ap (λ z. filled p w z a c.args.tree.now) (sym h.selector) ∙ type_filled_is p w (place_of c.args.variable) (type_shape (table_of s) c.args.of) a c.args.tree.now) (goes_on _ _ (as_judged (ap (λ rs. type_labels p w (type_shape (table_of s) c.args.of) (out-CasePart c.args.tree.now).first rs) (sym c.deref.ensures.value)) c.in_ok-to.ensures) (λ shape k. goes_on _ _ (narrowed_answers s c.in_part-inner.result c.args.variable c.in_ok-to.to shape (plain_stats (out-CasePart c.args.tree.now).body) (Ok _) c.in_part-inner.ensures.same k (ap (narrowings_before (table_of s) (strings_of s) []) (c.in_part-inner.ensures.narrowed ∙ c.as_slice.ensures.value) ∙ c.in_ok-narrowings.ensures.ok) c.in_ok-body.ensures) (λ b m. record { by = type_put s on c.args.variable c.args.of c.args.parts c.in_ok-all.all a c.tag_of.result _ c.in_ok-body.body b h (c.tag_of.ensures ∙ ap (tag_of p w.known) k) m c.in_ok-all.ensures })))
+    λ on a h. as_judged (ap (λ z. filled p w z a c.args.tree.now) (sym h.selector) ∙ type_filled_is p w (place_of c.args.variable) (type_shape (table_of s) c.args.of) a c.args.tree.now) (goes_on _ _ (as_judged (ap (λ rs. type_labels p w (type_shape (table_of s) c.args.of) (out-CasePart c.args.tree.now).first rs) (sym c.deref.ensures.value)) c.in_ok-to.ensures) (λ shape k. goes_on _ _ (narrowed_answers s c.in_part-inner.result c.args.variable c.in_ok-to.to shape (plain_stats (out-CasePart c.args.tree.now).body) (Ok _) c.in_part-inner.ensures.same k (ap (narrowings_before (table_of s) (strings_of s) []) (c.in_part-inner.ensures.narrowed ∙ c.as_slice.ensures.value) ∙ c.in_ok-narrowings.ensures.ok) c.in_ok-body.ensures) (λ b m. record { by = type_put s on c.args.variable c.args.of c.args.parts c.in_ok-all.all a c.tag_of.result _ c.in_ok-body.body b h (c.tag_of.ensures ∙ ap (tag_of w.known) k) m c.in_ok-all.ensures })))

@@ -34,20 +34,20 @@ returns-in_err-type_decls-clause-judged c = λ m makes.
     let p = c.args.round.now.source.now in
     let ds = plain_each plain_type_decl c.type_trees.result.now in
     exit _ c.from_residual.ensures.1
-    (as_judged (ap (λ xs. types_part p xs m) (sym (c.type_trees.ensures p))) (stop (each p (type_decl_part p) ds (typing p m)) _ (c.in_err-type_decls.ensures.judged (typing p m) (c.begin_type_part.ensures.makes m makes))))
+    (as_judged (ap (λ xs. types_part p xs m) (sym c.type_trees.ensures)) (stop (each (type_decl_part p) ds (typing p m)) _ (c.in_err-type_decls.ensures.judged (typing p m) (c.begin_type_part.ensures.makes m makes))))
 
 pub returns-clause-judged : goal.returns-clause-judged
 returns-clause-judged c = λ m makes.
     let p = c.args.round.now.source.now in
     let ds = plain_each plain_type_decl c.type_trees.result.now in
-    as_judged (ap (λ xs. types_part p xs m) (sym (c.type_trees.ensures p)))
-    (goes_on (each p (type_decl_part p) ds (typing p m)) _ (c.in_ok-type_decls.ensures.judged (typing p m) (c.begin_type_part.ensures.makes m makes)) (λ a made.
+    as_judged (ap (λ xs. types_part p xs m) (sym c.type_trees.ensures))
+    (goes_on (each (type_decl_part p) ds (typing p m)) _ (c.in_ok-type_decls.ensures.judged (typing p m) (c.begin_type_part.ensures.makes m makes)) (λ a made.
     c.forward_bases.ensures.judged (typed p a.1) (c.end_type_part.ensures.makes a.1 made.makes)))
 
 pub returns-clause-procedure : goal.returns-clause-procedure
 returns-clause-procedure c =
     let p = c.args.round.now.source.now in
-    let ds = types_in p (plain_option plain_types c.args.tree.now) in
+    let ds = types_in (plain_option plain_types c.args.tree.now) in
     let m = c.requires.making in
     part_opens c.requires (types_part p ds) (weaken (t_typed p ds m) (λ a g. (typed_grows p m a.1 g).procedure)) c.forward_bases.result (returns-clause-judged c)
 

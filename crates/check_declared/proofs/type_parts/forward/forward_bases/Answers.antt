@@ -62,7 +62,7 @@ returns-in_err-forward_base-clause-judged c = λ m makes.
     let k = length-map c.args.state.now.forward.items forward_of in
     let at = ap (λ xs. get_or xs c.loop-i.i (forward_of c.waiting_at-forward.result)) (sym same.forward) ∙ mapped_at s.forward.items c.loop-i.i c.waiting_at-forward.result (forward_of c.waiting_at-forward.result) c.waiting_at-forward.ensures in
     exit _ c.from_residual.ensures.1
-    (as_judged (ap (λ xs. each r.source.now (forward_base r.source.now) xs m) makes.forward)
+    (as_judged (ap (λ xs. each (forward_base r.source.now) xs m) makes.forward)
     (bases_stop r (bases_from r (tt, m) fs) s t fs c.loop-i.i (forward_of c.waiting_at-forward.result) _ (omega (arith, l, e, k)) (c.loop-i.invariant.judged m makes)
     (λ n h. as_judged (ap (base_item r (tt, n)) at) (c.in_err-forward_base.ensures.judged n h))))
 
@@ -73,6 +73,6 @@ returns-clause-judged c = λ m makes.
     let past = c.loop-i-test.false in
     let e = c.waiting-i-end.ensures in
     let k = length-map c.args.state.now.forward.items forward_of in
-    as_judged (ap (λ xs. each r.source.now (forward_base r.source.now) xs m) makes.forward)
+    as_judged (ap (λ xs. each (forward_base r.source.now) xs m) makes.forward)
     (bases_done r (bases_from r (tt, m) fs) c.loop-i.state
     (subst (Judging (StateMakes r) (bases_from r) (bases_from r (tt, m) fs) c.loop-i.state) (drop_all c.loop-i.i fs (omega (arith, past, e, k))) (c.loop-i.invariant.judged m makes)))

@@ -126,9 +126,9 @@ array_type-returns-clause-judged t c = λ m makes.
     as_judged (array_law p x.array_word (plain_expression x.first) (plain_each_expression x.more.items) (plain_type x.element.value) m x.of_word)
     (goes_on _ _ (as_judged (ap (λ es. lengths_part p (plain_expression x.first) (plain_each_expression es) m.world) (sym c.deref.ensures.value)) (c.in_ok-lengths.ensures m makes)) (λ ns is.
     goes_on _ _ (as_judged (ap (λ e. type_part p (plain_type e) m) (sym c.deref-2.ensures)) (c.in_ok-element.ensures.judged m makes)) (λ s g.
-    gives_here (arrays p (place p x.array_word) ns s.0 (s.1).world) s.1 c.arrays.result (on_ok c.arrays.result (λ f. f s.1 g.makes) c.arrays.ensures.makes)
-    (subst (λ (z : Shape). Answers (IsTypeOf new) (arrays p (place p x.array_word) ns z (s.1).world) c.arrays.result) (g.value.shape_is)
-    (subst (λ ks. Answers (IsTypeOf new) (arrays p (place p x.array_word) ks (type_shape (table_of c.type_of.new.state) c.in_ok-element.element) (s.1).world) c.arrays.result) (c.deref-3.ensures.value ∙ is)
+    gives_here (arrays (place p x.array_word) ns s.0 (s.1).world) s.1 c.arrays.result (on_ok c.arrays.result (λ f. f s.1 g.makes) c.arrays.ensures.makes)
+    (subst (λ (z : Shape). Answers (IsTypeOf new) (arrays (place p x.array_word) ns z (s.1).world) c.arrays.result) (g.value.shape_is)
+    (subst (λ ks. Answers (IsTypeOf new) (arrays (place p x.array_word) ks (type_shape (table_of c.type_of.new.state) c.in_ok-element.element) (s.1).world) c.arrays.result) (c.deref-3.ensures.value ∙ is)
     (c.arrays.ensures.judged s.1 g.makes))))))
 
 -- ---- records

@@ -9,4 +9,4 @@ pub returns : goal.returns
 returns c = λ m makes.
     let scope = c.scope-scope.result in
     type_answers c.args.round.now c.args.self.now c.requires m makes c.args.number c.args.qualident.now scope c.scope-scope.ensures.source c.scope-scope.ensures.world c.scope-scope.ensures.types c.type_named.result
-    (subst (λ i. Answers (IsOfType scope) (type_named scope.source.now (world_of scope) c.args.number c.args.qualident.now.name i) c.type_named.result) (c.member_symbol.ensures scope.source.now (world_of scope)) c.type_named.ensures)
+    (subst (λ i. Answers (IsOfType scope) (type_named scope.source.now (world_of scope) c.args.number c.args.qualident.now.name i) c.type_named.result) c.member_symbol.ensures c.type_named.ensures)

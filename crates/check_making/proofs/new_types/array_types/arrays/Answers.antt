@@ -27,7 +27,7 @@ loop-left-init c = record {
   legal = λ lengths h legal. legal;
   element = c.requires.element;
   makes = λ m h. h;
-  judged = λ m h. ap (λ ns. arrays c.args.round.now.source.now (place c.args.round.now.source.now c.args.array_word) ns (type_shape (table_of c.args.state.now) c.args.element) m.world) (drop_all (length c.args.lengths.now) c.args.lengths.now (omega arith));
+  judged = λ m h. ap (λ ns. arrays (place c.args.round.now.source.now c.args.array_word) ns (type_shape (table_of c.args.state.now) c.args.element) m.world) (drop_all (length c.args.lengths.now) c.args.lengths.now (omega arith));
 }
 
 pub loop-left-preserved : goal.loop-left-preserved
@@ -63,7 +63,7 @@ loop-left-preserved c =
       makes = λ m h. c.in_ok-of.ensures.makes m (c.loop-left.invariant.makes m h);
       judged = λ m h.
           arrays_from p c.args.array_word m.world ns (c.loop-left.left - 1) shape (type_shape (table_of s) c.loop-left.of) (omega (arith, more, within))
-          (ap (λ k. arrays p (place p c.args.array_word) (drop k ns) shape m.world) next ∙ c.loop-left.invariant.judged m h)
+          (ap (λ k. arrays (place p c.args.array_word) (drop k ns) shape m.world) next ∙ c.loop-left.invariant.judged m h)
           ∙ type_comes _ (c.in_ok-of.ensures.judged m (c.loop-left.invariant.makes m h));
     }
 
@@ -85,7 +85,7 @@ returns-in_err-of-clause-judged c = λ m h.
     exit _ c.from_residual.ensures.1
     (arrays_stop p m.world (place p c.args.array_word) ns (c.loop-left.left - 1) shape
     (as_judged (arrays_from p c.args.array_word m.world ns (c.loop-left.left - 1) shape (type_shape (table_of s) c.loop-left.of) (omega (arith, more, within))
-    (ap (λ k. arrays p (place p c.args.array_word) (drop k ns) shape m.world) next ∙ c.loop-left.invariant.judged m h))
+    (ap (λ k. arrays (place p c.args.array_word) (drop k ns) shape m.world) next ∙ c.loop-left.invariant.judged m h))
     (c.in_err-of.ensures.judged m (c.loop-left.invariant.makes m h))))
 
 pub returns-clause-judged : goal.returns-clause-judged
@@ -95,4 +95,4 @@ returns-clause-judged c = λ m h.
     let shape = type_shape (table_of c.args.state.now) c.args.element in
     let past = c.loop-left-test.false in
     let none : 0 ≡ c.loop-left.left = omega (arith, past) in
-    as_judged (ap (λ k. arrays p (place p c.args.array_word) (drop k ns) shape m.world) none ∙ c.loop-left.invariant.judged m h) (record { by = record { shape_is = refl; element = c.loop-left.invariant.element } })
+    as_judged (ap (λ k. arrays (place p c.args.array_word) (drop k ns) shape m.world) none ∙ c.loop-left.invariant.judged m h) (record { by = record { shape_is = refl; element = c.loop-left.invariant.element } })

@@ -34,5 +34,5 @@ invariant-loop-left l = record {
   element : IsElement l.state.types.table.entries.items l.of;
   makes : (m : Making) → Makes l.round l.initial.state m → Makes l.round l.state m;
   judged : (m : Making) → Makes l.round l.initial.state m
-      → arrays l.round.source.now (place l.round.source.now l.array_word) (drop l.left l.lengths) (type_shape (table_of l.initial.state) l.fn.element) m.world ≡ Keeps (type_shape (table_of l.state) l.of);
+      → arrays (place l.round.source.now l.array_word) (drop l.left l.lengths) (type_shape (table_of l.initial.state) l.fn.element) m.world ≡ Keeps (type_shape (table_of l.state) l.of);
 }

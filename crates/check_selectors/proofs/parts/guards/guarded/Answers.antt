@@ -17,12 +17,12 @@ pub returns-in-Pointer : goal.returns-in-Pointer
 returns-in-Pointer c = λ a h.
     let s = c.args.scope.now in
     as_judged (ap (λ k. guarded s.source.now (world_of s) (place s.source.now c.args.symbol) a (type_shape (table_of s) k)) c.in-Pointer.is)
-    (there 31 (place s.source.now c.args.symbol) (λ r. Keeps (guard_of s.source.now (world_of s) a (Pointer c.in-Pointer.pointer) r))
+    (there 31 (place s.source.now c.args.symbol) (λ r. Keeps (guard_of a (Pointer c.in-Pointer.pointer) r))
     (ap (λ k. tested_tag s.source.now (world_of s) a (type_shape (table_of s) k)) (sym c.in-Pointer.is) ∙ c.in-Some.ensures a h.shape h.usage) (c.pointer_guard.ensures a h))
 
 pub returns-in-Record : goal.returns-in-Record
 returns-in-Record c = λ a h.
     let s = c.args.scope.now in
     as_judged (ap (λ k. guarded s.source.now (world_of s) (place s.source.now c.args.symbol) a (type_shape (table_of s) k)) c.in-Record.is)
-    (there 31 (place s.source.now c.args.symbol) (λ r. Keeps (guard_of s.source.now (world_of s) a (Record c.in-Record.record_type) r))
+    (there 31 (place s.source.now c.args.symbol) (λ r. Keeps (guard_of a (Record c.in-Record.record_type) r))
     (ap (λ k. tested_tag s.source.now (world_of s) a (type_shape (table_of s) k)) (sym c.in-Record.is) ∙ c.in-Some.ensures a h.shape h.usage) (c.record_guard.ensures a h))

@@ -17,5 +17,5 @@ pub returns-in-Pointer : goal.returns-in-Pointer
 returns-in-Pointer c = λ a h.
     let s = c.args.scope.now in
     as_judged (ap (λ k. tested s.source.now (world_of s) (place s.source.now c.args.symbol) a (type_shape (table_of s) k)) c.in-Pointer.is)
-    (there 31 (place s.source.now c.args.symbol) (λ r. Keeps (value Boolean (test_of s.source.now (world_of s) a (Pointer c.in-Pointer.pointer) r)))
+    (there 31 (place s.source.now c.args.symbol) (λ r. Keeps (value Boolean (test_of a (Pointer c.in-Pointer.pointer) r)))
     (ap (λ k. tested_tag s.source.now (world_of s) a (type_shape (table_of s) k)) (sym c.in-Pointer.is) ∙ c.in-Some.ensures a h.shape h.usage) (c.pointer_test.ensures a h))

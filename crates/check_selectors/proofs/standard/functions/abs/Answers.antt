@@ -18,5 +18,5 @@ use Rattle.check_selectors.proofs.standard.functions.abs.Goals as goal
 pub returns-in_ok-tree : goal.returns-in_ok-tree
 returns-in_ok-tree c = λ a h.
     let s = c.args.scope.now in
-    as_judged (ap (λ m. m >>= λ e. J.function (world_of s) Integer (I.Apply TheUnary.Abs e.form)) (number_is (world_of s) a (ap is_number (sym h.operand.shape) ∙ c.is_number.ensures (table_of s) ∙ c.if-is_number.true)))
+    as_judged (ap (λ m. m >>= λ e. J.function Integer (I.Apply TheUnary.Abs e.form)) (number_is (world_of s) a (ap is_number (sym h.operand.shape) ∙ c.is_number.ensures (table_of s) ∙ c.if-is_number.true)))
     (record { by = c.function.ensures s Integer (I.Apply TheUnary.Abs (form a.operand)) refl (c.in_ok-tree.ensures (table_of s) (texts_of s) ∙ ap (I.Apply TheUnary.Abs) (c.form.ensures a.operand h.operand)) })

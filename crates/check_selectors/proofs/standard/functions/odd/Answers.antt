@@ -20,7 +20,7 @@ use Rattle.check_selectors.proofs.standard.functions.odd.Goals as goal
 pub returns-in_ok-tree : goal.returns-in_ok-tree
 returns-in_ok-tree c = λ a h.
     let s = c.args.scope.now in
-    as_judged (ap (λ m. m >>= λ e. J.function (world_of s) Boolean (I.Apply TheUnary.Odd e.form)) (number_is (world_of s) a (ap is_number (sym h.operand.shape) ∙ c.is_number.ensures (table_of s) ∙ c.if-is_number.true)))
+    as_judged (ap (λ m. m >>= λ e. J.function Boolean (I.Apply TheUnary.Odd e.form)) (number_is (world_of s) a (ap is_number (sym h.operand.shape) ∙ c.is_number.ensures (table_of s) ∙ c.if-is_number.true)))
     (record { by = c.function.ensures s Boolean (I.Apply TheUnary.Odd (form a.operand)) refl (c.in_ok-tree.ensures (table_of s) (texts_of s) ∙ ap (I.Apply TheUnary.Odd) (c.form.ensures a.operand h.operand)) })
 
 pub returns-else-is_number : goal.returns-else-is_number

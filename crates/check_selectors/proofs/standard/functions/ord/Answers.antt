@@ -7,7 +7,7 @@ use Rattle.ob_judge.specs.Calls as J
 use Rattle.judged_tree.specs.Plain.{plain_expr, plain_designator, plain_checked}
 use Rattle.check_types.proofs.steps.Answering.{goes_on, stop, exit, kept, there, as_judged}
 use Rattle.check_types.specs.TypeMeaning.{type_shape}
-use Rattle.check_types.specs.names.Worlds.{table_of, world_of}
+use Rattle.check_types.specs.names.Worlds.{table_of}
 use Rattle.check_operands.specs.Operands.{texts_of, bases_of}
 use Rattle.check_selectors.specs.standard.Made.{changed_by}
 use Rattle.check_selectors.proofs.standard.Kept.{kept_so, number_is, some_mapped, both_true}
@@ -20,10 +20,10 @@ use Rattle.check_selectors.proofs.standard.functions.ord.Goals as goal
 pub returns-then-may_order : goal.returns-then-may_order
 returns-then-may_order c = λ a h.
     let s = c.args.scope.now in
-    kept 31 a.at _ (ap (J.may_order (world_of s)) (sym h.operand.shape) ∙ c.may_order.ensures (table_of s) (world_of s) ∙ c.if-may_order.true)
+    kept 31 a.at _ (ap J.may_order (sym h.operand.shape) ∙ c.may_order.ensures (table_of s) ∙ c.if-may_order.true)
     (record { by = c.function.ensures s Integer (form a.operand) refl (c.form.ensures a.operand h.operand) })
 
 pub returns-else-may_order : goal.returns-else-may_order
 returns-else-may_order c = λ a h.
     let s = c.args.scope.now in
-    refused_by 31 a.at _ (c.fault.ensures ∙ ap (Fault 31) h.at) (ap (J.may_order (world_of s)) (sym h.operand.shape) ∙ c.may_order.ensures (table_of s) (world_of s) ∙ c.if-may_order.false)
+    refused_by 31 a.at _ (c.fault.ensures ∙ ap (Fault 31) h.at) (ap J.may_order (sym h.operand.shape) ∙ c.may_order.ensures (table_of s) ∙ c.if-may_order.false)

@@ -20,7 +20,7 @@ use Rattle.check_selectors.proofs.standard.functions.shifted.Goals as goal
 pub returns-in_ok-tree : goal.returns-in_ok-tree
 returns-in_ok-tree c = λ a b h k.
     let s = c.args.scope.now in
-    as_judged (ap₂ (λ m n. m >>= λ x. n >>= λ y. J.function (world_of s) Integer (I.Linked x.form (I.Operate c.args.operator y.form))) (number_is (world_of s) a (ap is_number (sym h.operand.shape) ∙ c.is_number.ensures (table_of s) ∙ c.if-not-is_number.false)) (number_is (world_of s) b (ap is_number (sym k.operand.shape) ∙ c.is_number-else-not-is_number.ensures (table_of s) ∙ c.if-not-is_number-2.false)))
+    as_judged (ap₂ (λ m n. m >>= λ x. n >>= λ y. J.function Integer (I.Linked x.form (I.Operate c.args.operator y.form))) (number_is (world_of s) a (ap is_number (sym h.operand.shape) ∙ c.is_number.ensures (table_of s) ∙ c.if-not-is_number.false)) (number_is (world_of s) b (ap is_number (sym k.operand.shape) ∙ c.is_number-else-not-is_number.ensures (table_of s) ∙ c.if-not-is_number-2.false)))
     (record {
       by = c.function.ensures s Integer (I.Linked (form a.operand) (I.Operate c.args.operator (form b.operand))) refl
           (c.in_ok-tree.ensures (table_of s) (texts_of s) ∙ ap₂ (λ x y. I.Linked x (I.Operate c.args.operator y)) (c.form-left.ensures a.operand h.operand) (c.form-right.ensures b.operand k.operand));

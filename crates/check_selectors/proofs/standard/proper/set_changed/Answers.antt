@@ -10,7 +10,7 @@ use Rattle.check_types.specs.TypeMeaning.{type_shape}
 use Rattle.check_types.specs.names.Worlds.{table_of, world_of}
 use Rattle.check_operands.specs.Operands.{texts_of, bases_of}
 use Rattle.check_selectors.specs.standard.Made.{changed_by}
-use Rattle.check_selectors.proofs.standard.Kept.{kept_so, number_is, char_only_is, changed_outlined}
+use Rattle.check_selectors.proofs.standard.Kept.{kept_so, number_is, changed_outlined}
 use Rattle.ob_types.specs.declared.tree.Unary.TheVariants as TheUnary
 use Rattle.ob_types.specs.declared.tree.Binary.TheVariants as TheBinary
 use Rattle.check_types.specs.declared.steps.fault.CheckFault.TheVariants.{Fault}
@@ -23,7 +23,7 @@ returns-in_ok-made c = λ a b h k.
     let s = c.args.scope.now in
     kept_so _ _ (c.in_ok-written.ensures a h)
     (kept 31 a.at _ (ap is_set (sym h.operand.shape) ∙ c.is_set.ensures (table_of s) ∙ c.if-not-is_set.false)
-    (as_judged (ap (λ n. n >>= λ x. J.proper (world_of s) (changed_by c.args.change (designator_of a.operand) x)) (number_is (world_of s) b (ap is_number (sym k.operand.shape) ∙ c.is_number.ensures (table_of s) ∙ c.if-not-is_number.false)))
+    (as_judged (ap (λ n. n >>= λ x. J.proper (changed_by c.args.change (designator_of a.operand) x)) (number_is (world_of s) b (ap is_number (sym k.operand.shape) ∙ c.is_number.ensures (table_of s) ∙ c.if-not-is_number.false)))
     (record { by = c.in_ok-made.ensures s (changed_by c.args.change (designator_of a.operand) (checked b.operand)) (c.of.ensures (table_of s) (texts_of s) ∙ ap₂ (changed_by c.args.change) (c.designator-variable.ensures a.operand h.operand) (c.checked-element.ensures b.operand k.operand) ∙ changed_outlined (bases_of s) c.args.change (designator_of a.operand) (checked b.operand)) })))
 
 pub returns-then-not-is_set : goal.returns-then-not-is_set

@@ -3,4 +3,4 @@ use Rattle.check_statements.proofs.assignments.Assigning.{other_part}
 use Rattle.check_statements.proofs.assignments.assigned.variable_alone.Goals as goal
 
 pub returns-else-is_empty : goal.returns-else-is_empty
-returns-else-is_empty c = λ t strings p w other. other_part p w (object_of t strings c.args.named) c.args.selectors.now other c.is_empty.result c.is_empty.ensures c.if-is_empty.false
+returns-else-is_empty c = λ t strings w other. other_part w (object_of t strings c.args.named) c.args.selectors.now other c.is_empty.result c.is_empty.ensures c.if-is_empty.false

@@ -14,5 +14,5 @@ returns-in-Int c =
     let s = c.args.scope.now in
     let v = variable_of (table_of s) (strings_of s) c.in-Variable.variable in
     ap Some (c.designator.ensures (whole_variable (world_of s) v) c.whole_operand.ensures)
-    ∙ sym (ap (λ n. option_map (outlined_designator (bases_of s)) (integer_variable s.source.now (world_of s) (object_of (table_of s) (strings_of s) n))) c.in-Variable.is
+    ∙ sym (ap (λ n. option_map (outlined_designator (bases_of s)) (integer_variable (world_of s) (object_of (table_of s) (strings_of s) n))) c.in-Variable.is
     ∙ ap (option_map (outlined_designator (bases_of s))) (integer_is s.source.now (world_of s) v (ap (type_shape (table_of s)) c.in-Int.is)))

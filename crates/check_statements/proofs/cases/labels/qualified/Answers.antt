@@ -5,4 +5,4 @@ use Rattle.check_types.specs.names.Worlds.{world_of}
 use Rattle.check_statements.proofs.cases.labels.qualified.Goals as goal
 
 pub returns : goal.returns
-returns c = as_judged (ap (qualified c.args.scope.now.source.now (world_of c.args.scope.now) c.args.tree.now.name) (sym (c.member_symbol.ensures c.args.scope.now.source.now (world_of c.args.scope.now)))) c.qualified.ensures
+returns c = as_judged (ap (qualified c.args.scope.now.source.now (world_of c.args.scope.now) c.args.tree.now.name) (sym c.member_symbol.ensures)) c.qualified.ensures

@@ -13,5 +13,5 @@ returns-in_ok-push c = λ a h.
     let u = to_z-of_z w64 c.args.high c.ranges.high in
     ends_kept c.args.scope.now.source.now (world_of c.args.scope.now) _ c.args.low c.args.high c.args.tree.now a _
     (ap₂ (λ i j. int_le i j && not (overlaps i j a.taken)) (sym l) (sym u) ∙ c.in_ok-add.ensures.fits a.taken h.taken ∙ c.if-branch.true)
-    (c.in_ok-push.ensures.ok ∙ ap (λ v. c.args.so_far.labels ++ v ∷ []) (c.value_label.ensures c.args.scope.now.source.now ∙ ap₂ (λ i j. value_label c.args.scope.now.source.now i j c.args.tree.now) l u) ∙ ap (λ ls. ls ++ value_label c.args.scope.now.source.now c.args.low c.args.high c.args.tree.now ∷ []) h.labels)
+    (c.in_ok-push.ensures.ok ∙ ap (λ v. c.args.so_far.labels ++ v ∷ []) (c.value_label.ensures ∙ ap₂ (λ i j. value_label i j c.args.tree.now) l u) ∙ ap (λ ls. ls ++ value_label c.args.low c.args.high c.args.tree.now ∷ []) h.labels)
     (subst (λ r. AreRanges c.add.new.self (r ∷ a.taken)) (ap₂ (λ i j. (i, j)) l u) (c.in_ok-add.ensures.added a.taken h.taken c.if-branch.true))

@@ -18,6 +18,6 @@ returns c = λ a h.
     as_judged (one_is c.args.scope.now.source.now (world_of c.args.scope.now) c.args.of_char a c.args.tree.now)
     (goes_on _ _ c.in_ok-low.ensures (λ low e.
     goes_on _ _ (as_judged (ap (λ n. high_label c.args.scope.now.source.now (world_of c.args.scope.now) c.args.of_char n c.args.tree.now.high) (sym (l ∙ e))) c.in_ok-high.ensures) (λ high i.
-    as_judged (ap (λ n. labelled_ends c.args.scope.now.source.now (world_of c.args.scope.now) (place c.args.scope.now.source.now n) low high c.args.tree.now.high a) (sym (c.label_symbol.ensures c.args.scope.now.source.now))
+    as_judged (ap (λ n. labelled_ends c.args.scope.now.source.now (world_of c.args.scope.now) (place c.args.scope.now.source.now n) low high c.args.tree.now.high a) (sym c.label_symbol.ensures)
     ∙ ap₂ (λ m n. labelled_ends c.args.scope.now.source.now (world_of c.args.scope.now) (place c.args.scope.now.source.now c.label_symbol.result) m n c.args.tree.now.high a) (sym (l ∙ e)) (sym (u ∙ i)))
     (c.with_ends.ensures a h))))

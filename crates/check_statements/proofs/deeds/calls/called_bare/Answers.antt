@@ -13,6 +13,6 @@ use Rattle.check_statements.proofs.deeds.calls.called_bare.Goals as goal
 
 pub returns-else-is_call : goal.returns-else-is_call
 returns-else-is_call c = λ a h. let s = c.args.scope.now in
-    as_judged (ap (called_bare s.source.now (world_of s) (place s.source.now c.args.symbol) a) (sym h.shape ∙ ap (type_shape (table_of s)) c.in-Procedure.is)
+    as_judged (ap (called_bare (world_of s) (place s.source.now c.args.symbol) a) (sym h.shape ∙ ap (type_shape (table_of s)) c.in-Procedure.is)
     ∙ ap (λ b. if b then Keeps a else called (world_of s) (place s.source.now c.args.symbol) a (formals_of (table_of s) c.in-Procedure.signature) (result_of (table_of s) c.in-Procedure.signature) []) (c.is_call.ensures a.what h.what ∙ c.if-is_call.false))
     (c.called.ensures a [] h (subst (λ (xs : List Given). AreGiven s xs []) (sym c.new.ensures.items) tt))

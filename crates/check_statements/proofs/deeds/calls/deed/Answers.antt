@@ -1,6 +1,6 @@
 use Rattle.std.proofs.Common.{ap, sym, ◌∙◌}
 use Rattle.ob_judge.specs.Scopes.{place}
-use Rattle.check_types.specs.TableFacts.{is_nothing}
+use Rattle.ob_judge.specs.Parts.{is_nothing}
 use Rattle.check_types.specs.names.Worlds.{table_of}
 use Rattle.check_statements.proofs.deeds.Deeds.{deed_kept, deed_broken, deed_typed}
 use Rattle.check_statements.proofs.deeds.calls.deed.Goals as goal

@@ -13,8 +13,8 @@ loop-narrowing-preserved c =
     let d = place_of c.args.variable in let ns = c.args.self.now.narrowed.now in let i = c.loop-narrowing.narrowing-index in
     c.loop-narrowing.invariant
     ∙ elim c.if-is_place.branch [
-      | then-is_place x ↦ found_more p w t strings d ns i _ c.loop-narrowing.found true c.loop-narrowing-test.true (c.is_place.ensures p w ∙ x.if-is_place.true)
-          ∙ ap (λ o. or_else (Names.narrowing_of p w d (narrowings_before t strings [] (drop (i + 1) ns))) (option_map (narrowing_of t strings) o)) (sym x.found-is)
-      | else-is_place x ↦ found_more p w t strings d ns i _ c.loop-narrowing.found false c.loop-narrowing-test.true (c.is_place.ensures p w ∙ x.if-is_place.false)
-          ∙ ap (λ o. or_else (Names.narrowing_of p w d (narrowings_before t strings [] (drop (i + 1) ns))) (option_map (narrowing_of t strings) o)) (sym x.found-is)
+      | then-is_place x ↦ found_more p w t strings d ns i _ c.loop-narrowing.found true c.loop-narrowing-test.true (c.is_place.ensures ∙ x.if-is_place.true)
+          ∙ ap (λ o. or_else (Names.narrowing_of d (narrowings_before t strings [] (drop (i + 1) ns))) (option_map (narrowing_of t strings) o)) (sym x.found-is)
+      | else-is_place x ↦ found_more p w t strings d ns i _ c.loop-narrowing.found false c.loop-narrowing-test.true (c.is_place.ensures ∙ x.if-is_place.false)
+          ∙ ap (λ o. or_else (Names.narrowing_of d (narrowings_before t strings [] (drop (i + 1) ns))) (option_map (narrowing_of t strings) o)) (sym x.found-is)
     ]

@@ -7,5 +7,5 @@ use Rattle.check_types.proofs.names.scope.Scope.narrowing.Given as goal
 
 abbrev pub invariant-loop-narrowing : goal.invariant-loop-narrowing
 invariant-loop-narrowing l =
-    Names.narrowing_of l.self.source.now (world_of l.self) (place_of l.variable) (world_of l.self).narrowed
-    ≡ or_else (Names.narrowing_of l.self.source.now (world_of l.self) (place_of l.variable) (narrowings_before (table_of l.self) (strings_of l.self) [] (drop l.narrowing-index l.self.narrowed.now))) (option_map (narrowing_of (table_of l.self) (strings_of l.self)) l.found)
+    Names.narrowing_of (place_of l.variable) (world_of l.self).narrowed
+    ≡ or_else (Names.narrowing_of (place_of l.variable) (narrowings_before (table_of l.self) (strings_of l.self) [] (drop l.narrowing-index l.self.narrowed.now))) (option_map (narrowing_of (table_of l.self) (strings_of l.self)) l.found)
