@@ -1,5 +1,5 @@
 -- What the code of an audit tests, over sets and rows of bits.
-use Rattle.std.specs.Prelude.{◌≡◌, ℕ, zero, suc, ◌+◌, ◌==◌, ◌&&◌, ◌||◌, nat_lt, Bool, true, not, cond, List, [], ◌∷◌, ◌++◌, drop, length, Option, Some, None}
+use Rattle.std.specs.Prelude.{◌≡◌, ℕ, zero, suc, ◌+◌, ◌==◌, ◌&&◌, ◌||◌, nat_lt, nat_le, Bool, true, not, cond, List, [], ◌∷◌, ◌++◌, drop, take, length, Option, Some, None}
 use Rattle.std.specs.List.{list_all, list_any}
 use Rattle.block_runs.specs.Blocks.{CodeBlock, end_uses, successors}
 use Rattle.block_runs.specs.declared.end.End.{End}
@@ -8,20 +8,24 @@ use Rattle.lir_core.specs.Rows.{has_bit}
 use Rattle.lir_core.specs.declared.places.Places.{Places}
 use Rattle.lir_core.specs.declared.places.Line.{Line}
 use Rattle.lir_core.specs.Spots.{in_register, get}
-use Rattle.lir_core.specs.Flows.{code_nodes, IsValidFlow}
-use Rattle.lir_core.specs.Lines.{end_reads, Room}
+use Rattle.lir_core.specs.Flows.{code_node, code_nodes, operation_of, IsValidFlow}
+use Rattle.lir_core.specs.Lines.{end_reads, names, Room}
 use Rattle.lir_core.specs.Walks.{begin}
 use Rattle.lir_core.specs.Rows.{live_into}
 use Rattle.alloc_audit.specs.Tests.{is_value, stand, are_below}
-use Rattle.alloc_audit.specs.Nodes.{is_single, live_values, starts_well, lines_failure, Grounds}
+use Rattle.alloc_audit.specs.Nodes.{is_single, live_values, starts_well, lines_failure, node_failure, Grounds}
 use Rattle.alloc_audit.specs.Results.{IsLive}
 use Rattle.alloc_audit.specs.Verdicts.{verdict_from, grounds_of_flow, grounds_of}
+use Rattle.alloc_audit.specs.declared.node.AuditedNode.{AuditedNode}
+use Rattle.alloc_audit.specs.declared.node.NodePart.{NodePart}
+use Rattle.alloc_audit.specs.declared.results.Audited.{Audited}
 use Rattle.alloc_audit.specs.declared.walk.Walk.{Walk}
 use Rattle.alloc_audit.specs.declared.verdict.Failure.{Failure}
 use Rattle.alloc_audit.specs.declared.verdict.Verdict.{Verdict}
 use Rattle.alloc_audit.specs.declared.verdict.Verdict.TheVariants.{Sound, Unsound}
 use Rattle.lir_core.specs.declared.flow.Flow.{Flow}
 use Rattle.lir_core.specs.declared.flow.Node.{Node}
+use Rattle.lir_core.specs.declared.flow.Lir.{Lir}
 use Rattle.lir_core.specs.declared.flow.Trace.{Trace}
 use Rattle.lir_core.specs.declared.places.TraceOut.{TraceOut}
 
@@ -104,7 +108,40 @@ block_failure room bl live n start lines named end =
     (lines_failure room live bl lines end (begin start named))
     (Some 0)
 
+-- the line at which a node's part of a result fails
+abbrev pub part_failure : AuditedNode → NodePart → Option ℕ
+part_failure at part =
+    block_failure (room_for at.registers at.slots at.values) (code_node at.node.now) (has_bit at.live.now) at.number
+    part.start.now part.lines.now part.named.now part.end.now
+
+-- the same behind a start that is well, which has as many registers as there are
+abbrev pub part_lines_failure : AuditedNode → NodePart → Option ℕ
+part_lines_failure at part =
+    lines_failure (room_for (length part.start.now.regs) at.slots at.values) (has_bit at.live.now) (code_node at.node.now) part.lines.now part.end.now
+    (begin part.start.now part.named.now)
+
+-- an operation that is no call can read its uses, where these registers are named for what comes
+abbrev pub can_read : Walk → Lir → List ℕ → Bool
+can_read w op rest =
+    nat_le (names (operation_of op)) (length rest)
+    && are_below (length w.regs.items) (take (names (operation_of op)) rest)
+    && stand (get w.regs.items) (take (length op.uses) rest) op.uses
+
 ---- Results
+
+-- what a trace's result is held against, where a flow's slots are counted already
+abbrev pub grounds_for : ℕ → ℕ → Flow → List (List ℕ) → List ℕ → Grounds
+grounds_for k slots f rows ns = record { room = room_for k slots f.values; code = code_nodes f.nodes; live = has_bit rows; nodes = ns }
+
+-- what the results of a trace with these nodes are held against
+abbrev pub grounds_in : Audited → List ℕ → Grounds
+grounds_in audited ns = grounds_for audited.registers audited.slots audited.flow.now audited.live.now ns
+
+-- the line at which the part of a node with this number fails
+abbrev pub numbered_failure : Audited → ℕ → NodePart → Option ℕ
+numbered_failure audited n part =
+    node_failure (room_for audited.registers audited.slots audited.flow.now.values) (code_nodes audited.flow.now.nodes) (has_bit audited.live.now) n
+    part.start.now part.lines.now part.named.now part.end.now
 
 abbrev pub or_else : Option Verdict → Verdict → Verdict
 or_else None behind = behind
@@ -123,10 +160,6 @@ TellsOne k f live t trace outs o = (rest : List Grounds)
 abbrev pub verdict_at : ℕ → Option Failure → Option Verdict
 verdict_at t None = None
 verdict_at t (Some f) = Some (Unsound t f.node f.line)
-
--- what a trace's result is held against, where a flow's slots are counted already
-abbrev pub grounds_for : ℕ → ℕ → Flow → List (List ℕ) → List ℕ → Grounds
-grounds_for k slots f rows ns = record { room = room_for k slots f.values; code = code_nodes f.nodes; live = has_bit rows; nodes = ns }
 
 -- what is told is a failure
 abbrev pub IsFailure : Option Verdict → Type 0

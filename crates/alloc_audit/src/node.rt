@@ -7,8 +7,8 @@ ghost use Rattle.lir_core.specs.Rows.{has_bit};
 ghost use Rattle.lir_core.specs.Walks.{begin};
 ghost use Rattle.alloc_audit.specs.Tests.{are_below};
 ghost use Rattle.alloc_audit.specs.Holdings.{room_in, walker_of};
-ghost use Rattle.alloc_audit.specs.Nodes.{is_single, is_rising, names_few, has_needed, starts_well, keeps_all, ends_well, lines_failure};
-ghost use Rattle.alloc_audit.specs.Parts.{block_failure, room_for, placed_by, names_only, has_all, keeps, is_done, is_right};
+ghost use Rattle.alloc_audit.specs.Nodes.{is_single, is_rising, names_few, has_needed, starts_well, keeps_all, ends_well};
+ghost use Rattle.alloc_audit.specs.Parts.{part_failure, part_lines_failure, room_for, placed_by, names_only, has_all, keeps, is_done, is_right};
 
 use crate::places::{
     all_may_be, all_may_have, are_homed, are_true, end_reads_stand, has_behind, has_end, has_live,
@@ -205,7 +205,7 @@ pub(crate) fn node_failure(
     part: &NodePart<'_>,
 ) -> Result<Option<usize>, AllocError>
     requires { 0 < at.now.registers }
-    ensures { IfOk result (λ o. o ≡ block_failure (room_for at.now.registers at.now.slots at.now.values) (code_node at.now.node.now) (has_bit at.now.live.now) at.now.number part.now.start.now part.now.lines.now part.now.named.now part.now.end.now) }
+    ensures { IfOk result (λ o. o ≡ part_failure at.now part.now) }
 {
     if part.end.regs.len() != at.registers {
         return Ok(Some(0));
@@ -224,7 +224,7 @@ fn lines_failure(
     part: &NodePart<'_>,
 ) -> Result<Option<usize>, AllocError>
     requires { 0 < length part.now.start.now.regs }
-    ensures { IfOk result (λ o. o ≡ lines_failure (room_for (length part.now.start.now.regs) at.now.slots at.now.values) (has_bit at.now.live.now) (code_node at.now.node.now) part.now.lines.now part.now.end.now (begin part.now.start.now part.now.named.now)) }
+    ensures { IfOk result (λ o. o ≡ part_lines_failure at.now part.now) }
 {
     let NodePart {
         start,

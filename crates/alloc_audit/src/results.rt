@@ -5,9 +5,8 @@ ghost use Rattle.lir_core.specs.Flows.{code_nodes};
 ghost use Rattle.lir_core.specs.Lines.{slots_of};
 ghost use Rattle.lir_core.specs.Rows.{has_bit};
 ghost use Rattle.alloc_audit.specs.declared.verdict.Verdict.TheVariants.{Unsound};
-ghost use Rattle.alloc_audit.specs.Nodes.{Grounds, node_failure};
 ghost use Rattle.alloc_audit.specs.Verdicts.{nodes_failure, is_long, result_failure, grounds_of};
-ghost use Rattle.alloc_audit.specs.Parts.{TellsAll, TellsOne, IsFailure, verdict_at, room_for, grounds_for};
+ghost use Rattle.alloc_audit.specs.Parts.{TellsAll, TellsOne, IsFailure, verdict_at, grounds_in, numbered_failure};
 
 use crate::node::{AuditedNode, NodePart, node_failure};
 use crate::verdict::{Failure, Verdict};
@@ -32,7 +31,7 @@ fn failure_at(
     part: &NodePart<'_>,
 ) -> Result<Option<usize>, Memory>
     requires { 0 < audited.now.registers }
-    ensures { IfOk result (λ o. o ≡ node_failure (room_for audited.now.registers audited.now.slots audited.now.flow.now.values) (code_nodes audited.now.flow.now.nodes) (has_bit audited.now.live.now) number part.now.start.now part.now.lines.now part.now.named.now part.now.end.now) }
+    ensures { IfOk result (λ o. o ≡ numbered_failure audited.now number part.now) }
 {
     let Some(node) = audited.flow.nodes.as_slice().get(number as usize) else {
         return Err(Memory);
@@ -64,7 +63,7 @@ fn nodes_failure(
     requires lines { length lines.now ≡ length numbers.now }
     requires regs { length regs.now ≡ length numbers.now }
     requires ends { length ends.now ≡ length numbers.now }
-    ensures { IfOk result (λ o. o ≡ nodes_failure (grounds_for audited.now.registers audited.now.slots audited.now.flow.now audited.now.live.now numbers.now) 0 numbers.now starts.now lines.now regs.now ends.now) }
+    ensures { IfOk result (λ o. o ≡ nodes_failure (grounds_in audited.now numbers.now) 0 numbers.now starts.now lines.now regs.now ends.now) }
 {
     for (at, number) in numbers.iter().enumerate() {
         let part = NodePart {
@@ -106,7 +105,7 @@ fn result_failure(
     out: &TraceOut,
 ) -> Result<Option<Failure>, Memory>
     requires { 0 < audited.now.registers }
-    ensures { IfOk result (λ o. o ≡ result_failure (grounds_for audited.now.registers audited.now.slots audited.now.flow.now audited.now.live.now trace.now.nodes) number out.now) }
+    ensures { IfOk result (λ o. o ≡ result_failure (grounds_in audited.now trace.now.nodes) number out.now) }
 {
     if !is_of(number, trace.nodes.len(), out) {
         return Ok(Some(Failure { node: 0, line: 0 }));

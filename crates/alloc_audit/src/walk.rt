@@ -13,6 +13,7 @@ ghost use Rattle.lir_core.specs.declared.places.Line.TheVariants.{Store, Load, M
 ghost use Rattle.lir_core.specs.declared.places.Line.TheVariants.{Result as Gives};
 ghost use Rattle.lir_core.specs.declared.places.Line.TheVariants.{Lir as Does};
 ghost use Rattle.lir_core.specs.Walks.{walk as walked_by};
+ghost use Rattle.alloc_audit.specs.Parts.{can_read};
 ghost use Rattle.alloc_audit.specs.Moving.{HasMoved, HasDefinition, Takes, loaded};
 
 use crate::destinations::are_distinct;
@@ -277,7 +278,7 @@ impl Walk {
     // Whether an operation that is no call can read its uses, where these registers are named for what comes.
     fn can_read(&self, op: &Lir, rest: &[u8]) -> bool
         requires { is_call op.now.template ≡ false }
-        ensures { result ≡ (nat_le (names (operation_of op.now)) (length rest.now) && are_below (length self.now.regs.items) (take (names (operation_of op.now)) rest.now) && stand (get self.now.regs.items) (take (length op.now.uses) rest.now) op.now.uses) }
+        ensures { result ≡ can_read self.now op.now rest.now }
     {
         let uses = op.uses.as_slice();
         let count = names_of(op);
