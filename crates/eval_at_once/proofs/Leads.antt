@@ -1,10 +1,10 @@
 -- Parts of expressions that begin with another.
 use Rattle.std.proofs.Common.{◌≡◌, ℕ, List, [], ◌∷◌, Option, Some, None, refl, ap, sym, ◌∙◌}
-use Rattle.run_laws.specs.Turns.{State, after, ◌>>=◌, give}
+use Rattle.run_laws.specs.Turns.{State, after, give}
 use Rattle.ob_types.specs.Layout.{cells, field_place, extends}
 use Rattle.ob_types.specs.Store.{Cell, Store, Act, given, Handed, At, Sized, Here, address_in, span_in, place, span}
-use Rattle.ob_types.specs.Expressions.{Extension, element_place, field_of, object_of, narrowed, load, guarded, all_guarded, two_operands, both, either, with_element, with_range, length_of, by_place, by_open, Calls}
-use Rattle.ob_types.specs.Meaning.{value, link, designated, select}
+use Rattle.ob_types.specs.Expressions.{element_place, field_of, object_of, narrowed, load, all_guarded, two_operands, both, either, with_element, with_range, length_of, by_place, by_open, Calls}
+use Rattle.ob_types.specs.Meaning.{value, link, select}
 use Rattle.ob_types.specs.declared.tree.Link.{Link, Operate, And, Or, Element, Elements'}
 use Rattle.ob_types.specs.declared.tree.Selector.{Selector, Index, Field, Dereference, Narrow}
 use Rattle.ob_types.specs.declared.program.Program.{Program}

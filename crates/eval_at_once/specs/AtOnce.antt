@@ -1,5 +1,5 @@
 -- What was done at once, beside what the meaning does.
-use Rattle.std.specs.Prelude.{◌≡◌, List, ◌∷◌, ◌++◌, Bool, true, false, Result, Ok, Err, Option, Some, None}
+use Rattle.std.specs.Prelude.{◌≡◌, List, ◌∷◌, ◌++◌, Bool, true, false, Result, Ok, Err}
 use Rattle.std.specs.Borrow.{Bor}
 use Rattle.run_laws.specs.Turns.{State, Ending, Gives, ◌>>=◌, give}
 use Rattle.ob_types.specs.Store.{Store, Trap}

@@ -2,9 +2,9 @@
 
 ghost use Rattle.run_laws.specs.Turns.{give};
 ghost use Rattle.ob_types.specs.Statements.{test as the_test};
-ghost use Rattle.ob_types.specs.Meaning.{value as value_of, at_most, effects_of};
+ghost use Rattle.ob_types.specs.Meaning.{at_most, effects_of};
 ghost use Rattle.eval_store.specs.Did.{AtOnce};
-ghost use Rattle.eval_at_once.specs.Here.{here_of};
+ghost use Rattle.eval_at_once.specs.Here.{here_of, value_in};
 ghost use Rattle.eval_at_once.specs.Lists.{branches_by};
 ghost use Rattle.eval_at_once.specs.AtOnce.{Chose, IsAmong};
 
@@ -33,7 +33,7 @@ pub fn test(
     world: &World,
     e: &Expr,
 ) -> Result<Option<bool>, Stop>
-    ensures { AtOnce (the_test (value_of laid.now (at_most laid.now active.now.fuel) (here_of active.now) e.now) world.now) result world.now }
+    ensures { AtOnce (the_test (value_in laid.now active.now e.now) world.now) result world.now }
 {
     match value(laid, active, world, e) {
         Err(stop) => Err(stop),

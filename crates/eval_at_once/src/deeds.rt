@@ -1,9 +1,9 @@
 //! Statements without calls and without others in them.
 
 ghost use Rattle.std.specs.Prelude.{◌≡◌};
-ghost use Rattle.ob_types.specs.Meaning.{value as value_of, designated, effect, effects_of, at_most, kind_in as kind_of_designator, is_byte as is_of_bytes};
+ghost use Rattle.ob_types.specs.Meaning.{effect, effects_of, at_most, kind_in as kind_of_designator, is_byte as is_of_bytes};
 ghost use Rattle.ob_types.specs.Statements.{assign as assigned, change_number, change_set, assert as asserted, out_char, out_int};
-ghost use Rattle.eval_at_once.specs.Here.{here_of};
+ghost use Rattle.eval_at_once.specs.Here.{here_of, value_in, handed_in};
 ghost use Rattle.eval_at_once.specs.AtOnce.{Done, DoneSome, IsEnd};
 
 use crate::active::Active;
@@ -22,7 +22,7 @@ fn assign(
     d: &Designator,
     x: &Expr,
 ) -> Result<bool, Stop>
-    ensures did { Done (assigned (designated laid.now (at_most laid.now active.now.fuel) (here_of active.now) d.now) (value_of laid.now (at_most laid.now active.now.fuel) (here_of active.now) x.now) world.old) result world.old world.new }
+    ensures did { Done (assigned (handed_in laid.now active.now d.now) (value_in laid.now active.now x.now) world.old) result world.old world.new }
     ensures turns { world.new.turns ≡ world.old.turns }
 {
     match located(laid, active, world, d) {
@@ -51,7 +51,7 @@ fn change(
     d: &Designator,
     x: &Expr,
 ) -> Result<bool, Stop>
-    ensures did { Done (change_number active.now.procedure operator (designated laid.now (at_most laid.now active.now.fuel) (here_of active.now) d.now) (value_of laid.now (at_most laid.now active.now.fuel) (here_of active.now) x.now) (is_of_bytes (kind_of_designator d.now)) world.old) result world.old world.new }
+    ensures did { Done (change_number active.now.procedure operator (handed_in laid.now active.now d.now) (value_in laid.now active.now x.now) (is_of_bytes (kind_of_designator d.now)) world.old) result world.old world.new }
     ensures turns { world.new.turns ≡ world.old.turns }
 {
     match located(laid, active, world, d) {
@@ -86,7 +86,7 @@ fn change_elements(
     d: &Designator,
     x: &Expr,
 ) -> Result<bool, Stop>
-    ensures did { Done (change_set active.now.procedure operator (designated laid.now (at_most laid.now active.now.fuel) (here_of active.now) d.now) (value_of laid.now (at_most laid.now active.now.fuel) (here_of active.now) x.now) world.old) result world.old world.new }
+    ensures did { Done (change_set active.now.procedure operator (handed_in laid.now active.now d.now) (value_in laid.now active.now x.now) world.old) result world.old world.new }
     ensures turns { world.new.turns ≡ world.old.turns }
 {
     match located(laid, active, world, d) {
@@ -108,7 +108,7 @@ fn change_elements(
 
 /// ASSERT.
 fn assert(laid: &LaidProgram, active: &Active, world: &World, x: &Expr) -> Result<bool, Stop>
-    ensures { Done (asserted active.now.procedure (value_of laid.now (at_most laid.now active.now.fuel) (here_of active.now) x.now) world.now) result world.now world.now }
+    ensures { Done (asserted active.now.procedure (value_in laid.now active.now x.now) world.now) result world.now world.now }
 {
     match value(laid, active, world, x) {
         Err(stop) => Err(stop),
@@ -127,7 +127,7 @@ fn write_char(
     world: &mut World,
     x: &Expr,
 ) -> Result<bool, Stop>
-    ensures did { Done (out_char (value_of laid.now (at_most laid.now active.now.fuel) (here_of active.now) x.now) world.old) result world.old world.new }
+    ensures did { Done (out_char (value_in laid.now active.now x.now) world.old) result world.old world.new }
     ensures turns { world.new.turns ≡ world.old.turns }
 {
     match value(laid, active, world, x) {
@@ -148,7 +148,7 @@ fn write_int(
     x: &Expr,
     width: &Expr,
 ) -> Result<bool, Stop>
-    ensures did { Done (out_int (value_of laid.now (at_most laid.now active.now.fuel) (here_of active.now) x.now) (value_of laid.now (at_most laid.now active.now.fuel) (here_of active.now) width.now) world.old) result world.old world.new }
+    ensures did { Done (out_int (value_in laid.now active.now x.now) (value_in laid.now active.now width.now) world.old) result world.old world.new }
     ensures turns { world.new.turns ≡ world.old.turns }
 {
     match value(laid, active, world, x) {

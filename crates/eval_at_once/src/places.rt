@@ -1,11 +1,11 @@
 //! Where designators begin, and the selectors that have no expression.
 
 ghost use Rattle.run_laws.specs.Turns.{give};
-ghost use Rattle.ob_types.specs.Layout.{extends, field_place};
-ghost use Rattle.ob_types.specs.Expressions.{field_of, object_of, load, all_guarded};
+ghost use Rattle.ob_types.specs.Layout.{field_place};
+ghost use Rattle.ob_types.specs.Expressions.{field_of, object_of, load};
 ghost use Rattle.ob_types.specs.Meaning.{base_of, at_most};
 ghost use Rattle.eval_store.specs.Did.{Did};
-ghost use Rattle.eval_at_once.specs.Here.{here_of};
+ghost use Rattle.eval_at_once.specs.Here.{here_of, guarded_in};
 
 use crate::active::Active;
 use eval_layouts::LaidProgram;
@@ -79,7 +79,7 @@ pub fn dereferenced(
     handed: Handed,
     guards: &[u32],
 ) -> Result<Handed, Stop>
-    ensures { Did (object_of active.now.procedure (all_guarded active.now.procedure (extends laid.now.types) (load (give handed)) guards.now) world.now) result world.now }
+    ensures { Did (object_of active.now.procedure (guarded_in laid.now active.now (load (give handed)) guards.now) world.now) result world.now }
 {
     match world.load(handed) {
         Err(stop) => Err(stop),

@@ -1,9 +1,10 @@
 //! Expressions and designators without calls.
 
 ghost use Rattle.run_laws.specs.Turns.{give};
-ghost use Rattle.ob_types.specs.Meaning.{value as value_of, designated, link as the_link, select as the_select, at_most};
+ghost use Rattle.ob_types.specs.Expressions.{load, compared, contained};
+ghost use Rattle.ob_types.specs.Meaning.{link as the_link, select as the_select, at_most};
 ghost use Rattle.eval_store.specs.Did.{AtOnce};
-ghost use Rattle.eval_at_once.specs.Here.{here_of};
+ghost use Rattle.eval_at_once.specs.Here.{here_of, value_in, handed_in, guarded_in};
 ghost use Rattle.eval_at_once.specs.Lists.{linked_by, selected_by};
 
 use crate::active::Active;
@@ -12,7 +13,7 @@ use crate::places::{base, dereferenced, member};
 use eval_layouts::LaidProgram;
 use eval_store::{Cell, Handed, Stop, World};
 use ob_operators::elements;
-use ob_types::{Designator, Expr, Link, Selector};
+use ob_types::{Designator, Expr, Link, Relation, Selector};
 
 /// The value of an expression; none where it has a call, or is none of the small ones.
 #[cycle(at_once)]
@@ -22,35 +23,13 @@ pub fn value(
     world: &World,
     e: &Expr,
 ) -> Result<Option<Cell>, Stop>
-    ensures { AtOnce (value_of laid.now (at_most laid.now active.now.fuel) (here_of active.now) e.now world.now) result world.now }
+    ensures { AtOnce (value_in laid.now active.now e.now world.now) result world.now }
 {
     match e {
         Expr::Literal(n) => Ok(Some(Cell::bits(*n))),
         Expr::Routine(g) => Ok(Some(Cell::code(*g))),
-        Expr::Load(d) => match located(laid, active, world, d) {
-            Err(stop) => Err(stop),
-            Ok(None) => Ok(None),
-            Ok(Some(handed)) => match world.load(handed) {
-                Err(stop) => Err(stop),
-                Ok(c) => Ok(Some(c)),
-            },
-        },
-        Expr::Guard(d, guards) => match located(laid, active, world, d) {
-            Err(stop) => Err(stop),
-            Ok(None) => Ok(None),
-            Ok(Some(handed)) => match world.load(handed) {
-                Err(stop) => Err(stop),
-                Ok(c) => match world.all_guarded(
-                    laid.types(),
-                    active.procedure,
-                    c,
-                    guards.as_slice(),
-                ) {
-                    Err(stop) => Err(stop),
-                    Ok(d) => Ok(Some(d)),
-                },
-            },
-        },
+        Expr::Load(d) => loaded(laid, active, world, d),
+        Expr::Guard(d, guards) => guarded(laid, active, world, d, guards.as_slice()),
         Expr::Unary(operator, x) => match value(laid, active, world, x) {
             Err(stop) => Err(stop),
             Ok(None) => Ok(None),
@@ -64,34 +43,9 @@ pub fn value(
             Ok(None) => Ok(None),
             Ok(Some(c)) => linked(laid, active, world, links, c),
         },
-        Expr::Compare(relation, x, y) => match value(laid, active, world, x) {
-            Err(stop) => Err(stop),
-            Ok(None) => Ok(None),
-            Ok(Some(c)) => match value(laid, active, world, y) {
-                Err(stop) => Err(stop),
-                Ok(None) => Ok(None),
-                Ok(Some(d)) => match world.compared(*relation, c, d) {
-                    Err(stop) => Err(stop),
-                    Ok(answer) => Ok(Some(answer)),
-                },
-            },
-        },
+        Expr::Compare(relation, x, y) => comparison(laid, active, world, *relation, x, y),
         Expr::CompareTexts(_, _, _) => Ok(None),
-        Expr::In(x, s) => match value(laid, active, world, x) {
-            Err(stop) => Err(stop),
-            Ok(None) => Ok(None),
-            Ok(Some(c)) => match world.element(active.procedure, c) {
-                Err(stop) => Err(stop),
-                Ok(n) => match value(laid, active, world, s) {
-                    Err(stop) => Err(stop),
-                    Ok(None) => Ok(None),
-                    Ok(Some(d)) => match world.contained(n, d) {
-                        Err(stop) => Err(stop),
-                        Ok(answer) => Ok(Some(answer)),
-                    },
-                },
-            },
-        },
+        Expr::In(x, s) => membership(laid, active, world, x, s),
         Expr::IsPointer(x, r) => match value(laid, active, world, x) {
             Err(stop) => Err(stop),
             Ok(None) => Ok(None),
@@ -125,6 +79,101 @@ pub fn value(
             },
         },
         Expr::Call(_) => Ok(None),
+    }
+}
+
+// What stands at a designator.
+#[cycle(at_once)]
+fn loaded(
+    laid: &LaidProgram,
+    active: &Active,
+    world: &World,
+    d: &Designator,
+) -> Result<Option<Cell>, Stop>
+    ensures { AtOnce (load (handed_in laid.now active.now d.now) world.now) result world.now }
+{
+    match located(laid, active, world, d) {
+        Err(stop) => Err(stop),
+        Ok(None) => Ok(None),
+        Ok(Some(handed)) => match world.load(handed) {
+            Err(stop) => Err(stop),
+            Ok(c) => Ok(Some(c)),
+        },
+    }
+}
+
+// What stands at a designator, behind type guards.
+#[cycle(at_once)]
+fn guarded(
+    laid: &LaidProgram,
+    active: &Active,
+    world: &World,
+    d: &Designator,
+    guards: &[u32],
+) -> Result<Option<Cell>, Stop>
+    ensures { AtOnce (guarded_in laid.now active.now (load (handed_in laid.now active.now d.now)) guards.now world.now) result world.now }
+{
+    match loaded(laid, active, world, d) {
+        Err(stop) => Err(stop),
+        Ok(None) => Ok(None),
+        Ok(Some(c)) => match world.all_guarded(laid.types(), active.procedure, c, guards) {
+            Err(stop) => Err(stop),
+            Ok(c) => Ok(Some(c)),
+        },
+    }
+}
+
+// A relation of two values.
+#[cycle(at_once)]
+fn comparison(
+    laid: &LaidProgram,
+    active: &Active,
+    world: &World,
+    relation: Relation,
+    x: &Expr,
+    y: &Expr,
+) -> Result<Option<Cell>, Stop>
+    ensures { AtOnce (compared relation (value_in laid.now active.now x.now) (value_in laid.now active.now y.now) world.now) result world.now }
+{
+    match value(laid, active, world, x) {
+        Err(stop) => Err(stop),
+        Ok(None) => Ok(None),
+        Ok(Some(c)) => match value(laid, active, world, y) {
+            Err(stop) => Err(stop),
+            Ok(None) => Ok(None),
+            Ok(Some(d)) => match world.compared(relation, c, d) {
+                Err(stop) => Err(stop),
+                Ok(answer) => Ok(Some(answer)),
+            },
+        },
+    }
+}
+
+// Whether a number is in a set.
+#[cycle(at_once)]
+fn membership(
+    laid: &LaidProgram,
+    active: &Active,
+    world: &World,
+    x: &Expr,
+    s: &Expr,
+) -> Result<Option<Cell>, Stop>
+    ensures { AtOnce (contained active.now.procedure (value_in laid.now active.now x.now) (value_in laid.now active.now s.now) world.now) result world.now }
+{
+    match value(laid, active, world, x) {
+        Err(stop) => Err(stop),
+        Ok(None) => Ok(None),
+        Ok(Some(c)) => match world.element(active.procedure, c) {
+            Err(stop) => Err(stop),
+            Ok(n) => match value(laid, active, world, s) {
+                Err(stop) => Err(stop),
+                Ok(None) => Ok(None),
+                Ok(Some(d)) => match world.contained(n, d) {
+                    Err(stop) => Err(stop),
+                    Ok(answer) => Ok(Some(answer)),
+                },
+            },
+        },
     }
 }
 
@@ -219,7 +268,7 @@ pub fn located(
     world: &World,
     d: &Designator,
 ) -> Result<Option<Handed>, Stop>
-    ensures { AtOnce (designated laid.now (at_most laid.now active.now.fuel) (here_of active.now) d.now world.now) result world.now }
+    ensures { AtOnce (handed_in laid.now active.now d.now world.now) result world.now }
 {
     match d {
         Designator::Whole(at, _) => match base(laid, active, world, *at) {

@@ -1,6 +1,6 @@
-use Rattle.std.proofs.Common.{◌≡◌, List, ◌∷◌, ◌++◌, ◌+◌, take, drop, Bool, true, false, sym, ap, subst, ◌∙◌}
+use Rattle.std.proofs.Common.{List, ◌++◌, ◌+◌, take, drop, Bool, true, false, sym, ap, subst, ◌∙◌}
 use Rattle.std.proofs.lemmas.List.{take-append-drop}
-use Rattle.run_laws.specs.Turns.{State, Ending, Gives, ◌>>=◌, give}
+use Rattle.run_laws.specs.Turns.{Ending, Gives, ◌>>=◌, give}
 use Rattle.ob_types.specs.Store.{Store, Trap}
 use Rattle.ob_types.specs.Meaning.{at_most, effects_of}
 use Rattle.ob_types.specs.declared.statements.Stmt.{Stmt}

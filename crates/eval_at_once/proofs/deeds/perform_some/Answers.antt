@@ -1,4 +1,4 @@
-use Rattle.std.proofs.Common.{◌≡◌, List, [], ◌∷◌, ◌++◌, Bool, true, Ok, sym, ap, subst, ◌∙◌, append_assoc, arith}
+use Rattle.std.proofs.Common.{List, [], ◌∷◌, ◌++◌, Bool, Ok, sym, ap, subst, ◌∙◌, append_assoc}
 use Rattle.run_laws.specs.Turns.{Ending}
 use Rattle.ob_types.specs.Store.{Store, Trap}
 use Rattle.ob_types.specs.Meaning.{at_most, effect, effects_of}

@@ -13,7 +13,7 @@ use Rattle.ob_types.specs.declared.tree.Selector.{Selector}
 use Rattle.eval_store.specs.Did.{Stopped, AtOnce}
 use Rattle.eval_at_once.specs.Here.{here_of}
 use Rattle.eval_at_once.specs.Lists.{linked_by, selected_by}
-use Rattle.eval_at_once.proofs.Going.{at_item, no_item, stops_first, linked_more, linked_stops, selected_more, selected_stops, guards_on, guards_stop, load_on, load_stops, none_there, no_number_link, chain_is, part_is}
+use Rattle.eval_at_once.proofs.Going.{at_item, no_item, stops_first, linked_more, linked_stops, selected_more, selected_stops, guards_on, guards_stop, none_there, no_number_link, chain_is, part_is}
 use Rattle.eval_at_once.proofs.values.+at_once.Goals as goal
 
 pub linked-returns-in-Err : goal.linked-returns-in-Err
@@ -128,80 +128,65 @@ select-returns-in-Ok-dereferenced t c =
     let R : List ℕ → Type 0 = λ rs. object_of x.procedure (all_guarded x.procedure (extends p.types) (load (give c.args.handed)) rs) s ≡ Gives c.in-Ok-dereferenced.next s in
     ap D c.in-Dereference.is ∙ subst R c.as_slice.ensures c.in-Ok-dereferenced.ensures
 
-pub value-returns-in-Err-located : goal.value-returns-in-Err-located
-value-returns-in-Err-located t c =
+pub value-returns-in-Guard : goal.value-returns-in-Guard
+value-returns-in-Guard t c =
     let p = c.args.laid.now in
     let x = c.args.active.now in
     let s = c.args.world.now in
     let V : Expr → Ending Store Trap Cell = λ e. value p (at_most p x.fuel) (here_of x) e s in
-    let P : Ending Store Trap Cell → Type 0 = λ e. Stopped e c.in-Err-located.stop s.out in
-    let Q : Designator → Type 0 = λ d. Stopped (designated p (at_most p x.fuel) (here_of x) d s) c.in-Err-located.stop s.out in
-    let m = designated p (at_most p x.fuel) (here_of x) c.in-Guard.d.value in
-    subst P (sym (ap V c.in-Guard.is)) (guards_stop x.procedure (extends p.types) (load m) c.in-Guard.guards s c.in-Err-located.stop s.out (load_stops m s c.in-Err-located.stop s.out (subst Q c.deref.ensures c.in-Err-located.ensures)))
+    let P : Ending Store Trap Cell → Type 0 = λ e. AtOnce e c.guarded.result s in
+    let Q : Designator → Type 0 = λ d. AtOnce (all_guarded x.procedure (extends p.types) (load (designated p (at_most p x.fuel) (here_of x) d)) c.in-Guard.guards s) c.guarded.result s in
+    let R : List ℕ → Type 0 = λ rs. AtOnce (all_guarded x.procedure (extends p.types) (load (designated p (at_most p x.fuel) (here_of x) c.deref.result.now)) rs s) c.guarded.result s in
+    subst P (sym (ap V c.in-Guard.is)) (subst Q c.deref.ensures (subst R c.as_slice.ensures c.guarded.ensures))
 
-pub value-returns-in-Err-load-2 : goal.value-returns-in-Err-load-2
-value-returns-in-Err-load-2 t c =
+pub guarded-returns-in-Err : goal.guarded-returns-in-Err
+guarded-returns-in-Err t c =
     let p = c.args.laid.now in
     let x = c.args.active.now in
-    let s = c.args.world.now in
-    let h = c.in-Ok-Some-located.handed in
-    let V : Expr → Ending Store Trap Cell = λ e. value p (at_most p x.fuel) (here_of x) e s in
-    let P : Ending Store Trap Cell → Type 0 = λ e. Stopped e c.in-Err-load-2.stop s.out in
-    let Q : Designator → Type 0 = λ d. designated p (at_most p x.fuel) (here_of x) d s ≡ Gives h s in
-    let m = designated p (at_most p x.fuel) (here_of x) c.in-Guard.d.value in
-    let known = rw c.in-Ok-Some-located.field-0-is at c.in-Ok-Some-located.ensures in
-    subst P (sym (ap V c.in-Guard.is)) (guards_stop x.procedure (extends p.types) (load m) c.in-Guard.guards s c.in-Err-load-2.stop s.out (subst P (sym (load_on m h s (subst Q c.deref.ensures known))) c.in-Err-load-2.ensures))
+    guards_stop x.procedure (extends p.types) (load (designated p (at_most p x.fuel) (here_of x) c.args.d.now)) c.args.guards.now c.args.world.now c.in-Err.stop c.args.world.now.out c.in-Err.ensures
 
-pub value-returns-in-Err-all_guarded : goal.value-returns-in-Err-all_guarded
-value-returns-in-Err-all_guarded t c =
+pub guarded-returns-in-Err-all_guarded : goal.guarded-returns-in-Err-all_guarded
+guarded-returns-in-Err-all_guarded t c =
     let p = c.args.laid.now in
     let x = c.args.active.now in
     let s = c.args.world.now in
-    let h = c.in-Ok-Some-located.handed in
-    let V : Expr → Ending Store Trap Cell = λ e. value p (at_most p x.fuel) (here_of x) e s in
     let P : Ending Store Trap Cell → Type 0 = λ e. Stopped e c.in-Err-all_guarded.stop s.out in
-    let Q : Designator → Type 0 = λ d. designated p (at_most p x.fuel) (here_of x) d s ≡ Gives h s in
-    let m = designated p (at_most p x.fuel) (here_of x) c.in-Guard.d.value in
-    let known = rw c.in-Ok-Some-located.field-0-is at c.in-Ok-Some-located.ensures in
-    let R : List ℕ → Type 0 = λ rs. Stopped (all_guarded x.procedure (extends c.types.result.now) (give c.in-Ok-load.c) rs s) c.in-Err-all_guarded.stop s.out in
-    let T : Table → Type 0 = λ k. Stopped (all_guarded x.procedure (extends k) (give c.in-Ok-load.c) c.in-Guard.guards s) c.in-Err-all_guarded.stop s.out in
-    subst P (sym (ap V c.in-Guard.is ∙ guards_on x.procedure (extends p.types) (load m) c.in-Guard.guards c.in-Ok-load.c s (load_on m h s (subst Q c.deref.ensures known) ∙ c.in-Ok-load.ensures))) (subst T c.types.ensures (subst R c.as_slice.ensures c.in-Err-all_guarded.ensures))
+    let m = load (designated p (at_most p x.fuel) (here_of x) c.args.d.now) in
+    let known = rw c.in-Ok-Some.field-0-is at c.in-Ok-Some.ensures in
+    let T : Table → Type 0 = λ k. Stopped (all_guarded x.procedure (extends k) (give c.in-Ok-Some.c) c.args.guards.now s) c.in-Err-all_guarded.stop s.out in
+    subst P (sym (guards_on x.procedure (extends p.types) m c.args.guards.now c.in-Ok-Some.c s known)) (subst T c.types.ensures c.in-Err-all_guarded.ensures)
 
-pub value-returns-in-Ok-all_guarded : goal.value-returns-in-Ok-all_guarded
-value-returns-in-Ok-all_guarded t c =
+pub guarded-returns-in-Ok : goal.guarded-returns-in-Ok
+guarded-returns-in-Ok t c =
     let p = c.args.laid.now in
     let x = c.args.active.now in
     let s = c.args.world.now in
-    let h = c.in-Ok-Some-located.handed in
-    let V : Expr → Ending Store Trap Cell = λ e. value p (at_most p x.fuel) (here_of x) e s in
-    let Q : Designator → Type 0 = λ d. designated p (at_most p x.fuel) (here_of x) d s ≡ Gives h s in
-    let m = designated p (at_most p x.fuel) (here_of x) c.in-Guard.d.value in
-    let known = rw c.in-Ok-Some-located.field-0-is at c.in-Ok-Some-located.ensures in
-    let R : List ℕ → Type 0 = λ rs. all_guarded x.procedure (extends c.types.result.now) (give c.in-Ok-load.c) rs s ≡ Gives c.in-Ok-all_guarded.d s in
-    let T : Table → Type 0 = λ k. all_guarded x.procedure (extends k) (give c.in-Ok-load.c) c.in-Guard.guards s ≡ Gives c.in-Ok-all_guarded.d s in
-    ap V c.in-Guard.is ∙ guards_on x.procedure (extends p.types) (load m) c.in-Guard.guards c.in-Ok-load.c s (load_on m h s (subst Q c.deref.ensures known) ∙ c.in-Ok-load.ensures) ∙ subst T c.types.ensures (subst R c.as_slice.ensures c.in-Ok-all_guarded.ensures)
+    let m = load (designated p (at_most p x.fuel) (here_of x) c.args.d.now) in
+    let known = rw c.in-Ok-Some.field-0-is at c.in-Ok-Some.ensures in
+    let T : Table → Type 0 = λ k. all_guarded x.procedure (extends k) (give c.in-Ok-Some.c) c.args.guards.now s ≡ Gives c.in-Ok.c s in
+    guards_on x.procedure (extends p.types) m c.args.guards.now c.in-Ok-Some.c s known ∙ subst T c.types.ensures c.in-Ok.ensures
 
-pub value-returns-in-Err-value-2 : goal.value-returns-in-Err-value-2
-value-returns-in-Err-value-2 t c =
+pub value-returns-in-Err-value : goal.value-returns-in-Err-value
+value-returns-in-Err-value t c =
     let p = c.args.laid.now in
     let x = c.args.active.now in
     let s = c.args.world.now in
     let V : Expr → Ending Store Trap Cell = λ e. value p (at_most p x.fuel) (here_of x) e s in
-    let P : Ending Store Trap Cell → Type 0 = λ e. Stopped e c.in-Err-value-2.stop s.out in
-    let Q : Expr → Type 0 = λ e. Stopped (V e) c.in-Err-value-2.stop s.out in
+    let P : Ending Store Trap Cell → Type 0 = λ e. Stopped e c.in-Err-value.stop s.out in
+    let Q : Expr → Type 0 = λ e. Stopped (V e) c.in-Err-value.stop s.out in
     let ls = c.in-Chain.links.items in
-    subst P (sym (ap V c.in-Chain.is)) (stops_first (V c.in-Chain.x.value) (λ d. linked_by p (at_most p x.fuel) (here_of x) ls (give d)) (V (Chain c.in-Chain.x c.in-Chain.links)) c.in-Err-value-2.stop s.out (chain_is p (at_most p x.fuel) (here_of x) c.in-Chain.x c.in-Chain.links s) (subst Q c.deref-in-Chain.ensures c.in-Err-value-2.ensures))
+    subst P (sym (ap V c.in-Chain.is)) (stops_first (V c.in-Chain.x.value) (λ d. linked_by p (at_most p x.fuel) (here_of x) ls (give d)) (V (Chain c.in-Chain.x c.in-Chain.links)) c.in-Err-value.stop s.out (chain_is p (at_most p x.fuel) (here_of x) c.in-Chain.x c.in-Chain.links s) (subst Q c.deref-in-Chain.ensures c.in-Err-value.ensures))
 
-pub value-returns-in-Ok-Some-value-2 : goal.value-returns-in-Ok-Some-value-2
-value-returns-in-Ok-Some-value-2 t c =
+pub value-returns-in-Ok-Some-value : goal.value-returns-in-Ok-Some-value
+value-returns-in-Ok-Some-value t c =
     let p = c.args.laid.now in
     let x = c.args.active.now in
     let s = c.args.world.now in
-    let d = c.in-Ok-Some-value-2.c in
+    let d = c.in-Ok-Some-value.c in
     let V : Expr → Ending Store Trap Cell = λ e. value p (at_most p x.fuel) (here_of x) e s in
     let P : Ending Store Trap Cell → Type 0 = λ e. AtOnce e c.linked.result s in
     let Q : Expr → Type 0 = λ e. V e ≡ Gives d s in
     let L : List Link → Ending Store Trap Cell = λ l. linked_by p (at_most p x.fuel) (here_of x) l (give d) s in
     let G : Ending Store Trap Cell → Ending Store Trap Cell = λ e. after e (λ d. linked_by p (at_most p x.fuel) (here_of x) c.in-Chain.links.items (give d)) in
-    let known = rw c.in-Ok-Some-value-2.field-0-is at c.in-Ok-Some-value-2.ensures in
-    subst P (sym (ap V c.in-Chain.is ∙ chain_is p (at_most p x.fuel) (here_of x) c.in-Chain.x c.in-Chain.links s ∙ ap G (subst Q c.deref-in-Chain.ensures known) ∙ ap L (sym c.deref-in-Ok-Some-value-2.ensures.value))) c.linked.ensures
+    let known = rw c.in-Ok-Some-value.field-0-is at c.in-Ok-Some-value.ensures in
+    subst P (sym (ap V c.in-Chain.is ∙ chain_is p (at_most p x.fuel) (here_of x) c.in-Chain.x c.in-Chain.links s ∙ ap G (subst Q c.deref-in-Chain.ensures known) ∙ ap L (sym c.deref-in-Ok-Some-value.ensures.value))) c.linked.ensures
