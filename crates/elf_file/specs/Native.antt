@@ -83,22 +83,26 @@ call from to = i.Bl (distance from to)
 abbrev pub frame_register : ℕ → ℕ
 frame_register register = if register == 31 then 28 else register
 
+-- the same load or store with X28 for SP; what is neither stays
+abbrev pub access_on_frame : Instr → Instr
+access_on_frame (i.Ldr rt rn imm) = i.Ldr rt (frame_register rn) imm
+access_on_frame (i.Str rt rn imm) = i.Str rt (frame_register rn) imm
+access_on_frame (i.Ldrb rt rn imm) = i.Ldrb rt (frame_register rn) imm
+access_on_frame (i.Strb rt rn imm) = i.Strb rt (frame_register rn) imm
+access_on_frame (i.LdrReg rt rn rm) = i.LdrReg rt (frame_register rn) rm
+access_on_frame (i.LdrRegScaled rt rn rm) = i.LdrRegScaled rt (frame_register rn) rm
+access_on_frame (i.StrReg rt rn rm) = i.StrReg rt (frame_register rn) rm
+access_on_frame (i.StrRegScaled rt rn rm) = i.StrRegScaled rt (frame_register rn) rm
+access_on_frame (i.LdrbReg rt rn rm) = i.LdrbReg rt (frame_register rn) rm
+access_on_frame (i.StrbReg rt rn rm) = i.StrbReg rt (frame_register rn) rm
+access_on_frame other = other
+
 -- the same instruction with X28 for SP
 abbrev pub on_frame : Instr → Instr
 on_frame (i.AddImm rd rn imm high) = i.AddImm (frame_register rd) (frame_register rn) imm high
 on_frame (i.SubImm rd rn imm high) = i.SubImm (frame_register rd) (frame_register rn) imm high
 on_frame (i.SubsImm rd rn imm high) = i.SubsImm rd (frame_register rn) imm high
-on_frame (i.Ldr rt rn imm) = i.Ldr rt (frame_register rn) imm
-on_frame (i.Str rt rn imm) = i.Str rt (frame_register rn) imm
-on_frame (i.Ldrb rt rn imm) = i.Ldrb rt (frame_register rn) imm
-on_frame (i.Strb rt rn imm) = i.Strb rt (frame_register rn) imm
-on_frame (i.LdrReg rt rn rm) = i.LdrReg rt (frame_register rn) rm
-on_frame (i.LdrRegScaled rt rn rm) = i.LdrRegScaled rt (frame_register rn) rm
-on_frame (i.StrReg rt rn rm) = i.StrReg rt (frame_register rn) rm
-on_frame (i.StrRegScaled rt rn rm) = i.StrRegScaled rt (frame_register rn) rm
-on_frame (i.LdrbReg rt rn rm) = i.LdrbReg rt (frame_register rn) rm
-on_frame (i.StrbReg rt rn rm) = i.StrbReg rt (frame_register rn) rm
-on_frame other = other
+on_frame other = access_on_frame other
 
 -- a call of a service at a place, with so many stubs before its own: the end needs none; what is no service stays
 abbrev pub native_service : NativeSize → ℕ → ℕ → ℕ → Instr

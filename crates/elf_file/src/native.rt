@@ -5,7 +5,7 @@ ghost use Rattle.image_form.specs.Form.{IsInForm};
 ghost use Rattle.a64_numbers.specs.Moves.{half};
 ghost use Rattle.a64_table.specs.Table.{word_of};
 ghost use Rattle.elf_file.specs.Runtime.{service_entry, trap_place, runtime};
-ghost use Rattle.elf_file.specs.Native.{IsSmall, service_of, stub_service, stubs_of, native_size, stub_place, links_place, runtime_place, constants_place, address, distance, branch, call, frame_register, on_frame, native_service, native_trap, native_instr, native_word, stub, stub_words, load_number, links, all_native, all_stubs, native_words};
+ghost use Rattle.elf_file.specs.Native.{IsSmall, service_of, stub_service, stubs_of, native_size, stub_place, links_place, runtime_place, constants_place, address, distance, branch, call, frame_register, access_on_frame, on_frame, native_service, native_trap, native_instr, native_word, stub, stub_words, load_number, links, all_native, all_stubs, native_words};
 
 use crate::runtime::runtime_words;
 use a64_instr::{Bits, Instr, Reg};
@@ -189,29 +189,11 @@ fn frame_register(register: Reg) -> Reg
     }
 }
 
-// The same instruction with X28 for SP.
-fn on_frame(instr: Instr) -> Instr
-    ensures { result ≡ on_frame instr }
+// The same load or store with X28 for SP; what is neither stays.
+fn access_on_frame(instr: Instr) -> Instr
+    ensures { result ≡ access_on_frame instr }
 {
     match instr {
-        Instr::AddImm { rd, rn, imm, high } => Instr::AddImm {
-            rd: frame_register(rd),
-            rn: frame_register(rn),
-            imm,
-            high,
-        },
-        Instr::SubImm { rd, rn, imm, high } => Instr::SubImm {
-            rd: frame_register(rd),
-            rn: frame_register(rn),
-            imm,
-            high,
-        },
-        Instr::SubsImm { rd, rn, imm, high } => Instr::SubsImm {
-            rd,
-            rn: frame_register(rn),
-            imm,
-            high,
-        },
         Instr::Ldr { rt, rn, imm } => Instr::Ldr {
             rt,
             rn: frame_register(rn),
@@ -263,6 +245,33 @@ fn on_frame(instr: Instr) -> Instr
             rm,
         },
         other => other,
+    }
+}
+
+// The same instruction with X28 for SP.
+fn on_frame(instr: Instr) -> Instr
+    ensures { result ≡ on_frame instr }
+{
+    match instr {
+        Instr::AddImm { rd, rn, imm, high } => Instr::AddImm {
+            rd: frame_register(rd),
+            rn: frame_register(rn),
+            imm,
+            high,
+        },
+        Instr::SubImm { rd, rn, imm, high } => Instr::SubImm {
+            rd: frame_register(rd),
+            rn: frame_register(rn),
+            imm,
+            high,
+        },
+        Instr::SubsImm { rd, rn, imm, high } => Instr::SubsImm {
+            rd,
+            rn: frame_register(rn),
+            imm,
+            high,
+        },
+        other => access_on_frame(other),
     }
 }
 
