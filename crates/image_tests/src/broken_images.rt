@@ -7,8 +7,8 @@ use std::process::Abort;
 use std::sync::Wait;
 use std::test::Fail;
 use std::thread::Threads;
-use trc_base::{Files, MemFiles, MemSink, MemSource, OpenGate, Source};
-use trc_cli::trc;
+use trc_base::{Files, MemFiles, MemSource, Source};
+use trc_calls::{call, done, refused, wants};
 
 /// A number that is put at a byte's place, four bytes of it, and the status and the line that `exec` then comes to.
 type Change<'a> = (usize, u32, u8, &'a str);
@@ -59,9 +59,7 @@ const SECOND_CHANGES: [Change<'static>; 21] = [
 fn second_image<R: Threads + Wait + AllocGlobal + Sync + Abort>(rt: &R) -> Result<Vec<u8>, Fail> {
     let mut files = MemFiles::new(rt.alloc(), Vec::new(rt.alloc()));
     files.put("E.Mod", b"MODULE E; END E.")?;
-    let mut input = MemSource::new(Vec::new(rt.alloc()), 1, Vec::new(rt.alloc()));
-    let told = calls(rt, &["build", "A", "E.Mod"], &mut files, &mut input, 0)?;
-    assert_eq!(rt; told.len(), 0);
+    wants(rt, &["build", "A", "E.Mod"], &mut files, b"", done(""))?;
     let bytes = files.read(rt.alloc(), "A", 1000)?;
     assert_eq!(rt; bytes.len(), 236);
     Ok(bytes)
@@ -78,29 +76,8 @@ fn first_image(alloc: Global, second: &[u8]) -> Result<Vec<u8>, AllocError> {
     Ok(bytes)
 }
 
-/// Makes a call that ends with this status and writes nothing, and gives the line that it tells.
-fn calls<R: Threads + Wait + AllocGlobal + Sync + Abort>(
-    rt: &R,
-    texts: &[&str],
-    files: &mut MemFiles,
-    input: &mut MemSource,
-    status: u8,
-) -> Result<Vec<u8>, Fail> {
-    let mut words = Vec::new(rt.alloc());
-    for text in texts {
-        words.push(String::from_str(rt.alloc(), text)?)?;
-    }
-    let mut out = MemSink::new(rt.alloc(), 100, 100, Vec::new(rt.alloc()))?;
-    let mut err = MemSink::new(rt.alloc(), 100, 100, Vec::new(rt.alloc()))?;
-    let words = words.as_slice();
-    let outcome = trc(rt, words, files, input, &mut out, &mut err, &OpenGate);
-    assert_eq!(rt; outcome.status, status);
-    assert_eq!(rt; out.bytes().len(), 0);
-    Ok(Vec::from_slice(rt.alloc(), err.bytes())?)
-}
-
 /// Executes the image that a file holds, which comes to this status and line.
-fn executes_so<R: Threads + Wait + AllocGlobal + Sync + Abort>(
+fn executes_so<R: Threads + Wait + AllocGlobal + Sync>(
     rt: &R,
     image: &[u8],
     status: u8,
@@ -108,10 +85,7 @@ fn executes_so<R: Threads + Wait + AllocGlobal + Sync + Abort>(
 ) -> Result<(), Fail> {
     let mut files = MemFiles::new(rt.alloc(), Vec::new(rt.alloc()));
     files.put("A", image)?;
-    let mut input = MemSource::new(Vec::new(rt.alloc()), 1, Vec::new(rt.alloc()));
-    let told = calls(rt, &["exec", "A"], &mut files, &mut input, status)?;
-    assert_eq!(rt; told.as_slice(), line.as_bytes());
-    Ok(())
+    wants(rt, &["exec", "A"], &mut files, b"", refused(status, line))
 }
 
 /// A file with a number's four bytes in the place of those that are there.
@@ -126,7 +100,7 @@ fn changed(alloc: Global, file: &[u8], at: usize, number: u32) -> Result<Vec<u8>
 }
 
 /// Looks at each change of a file, at each of its beginnings, at a byte more, and at each byte of its mark changed.
-fn breaks_so<R: Threads + Wait + AllocGlobal + Sync + Abort>(
+fn breaks_so<R: Threads + Wait + AllocGlobal + Sync>(
     rt: &R,
     file: &[u8],
     changes: &[Change<'_>],
@@ -174,8 +148,9 @@ fn the_input_is_read_where_an_image_says_so(rt: HostRuntime) -> Result<(), Fail>
             files.put("A", &changed(rt.alloc(), image, 12, flags)?)?;
             let bytes = Vec::from_slice(rt.alloc(), b"a")?;
             let mut input = MemSource::new(bytes, 1, Vec::new(rt.alloc()));
-            let told = calls(&rt, &["exec", "A"], &mut files, &mut input, 0)?;
-            assert_eq!(rt; told.len(), 0);
+            let none = Vec::new(rt.alloc());
+            let seen = call(&rt, &["exec", "A"], &mut files, &mut input, 100, none)?;
+            assert_eq!(rt; seen.outcome.status, 0);
             let mut piece = [0u8; 1];
             let Ok(count) = input.read(&mut piece) else {
                 return Err("the input fails".into());

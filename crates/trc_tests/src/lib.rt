@@ -1,11 +1,11 @@
-//! Tests of the top call over devices in memory: what commands tell and write.
+//! Tests of the top call over devices in memory: modules that are refused, what commands tell and write, failing devices, and nests.
 #![tactic(auto)]
 
-#[cfg(test)]
-mod broken_images;
 #[cfg(test)]
 mod commands;
 #[cfg(test)]
 mod failing_devices;
 #[cfg(test)]
 mod nests;
+#[cfg(test)]
+mod sources;
