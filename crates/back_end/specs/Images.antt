@@ -9,7 +9,7 @@ use Rattle.placed_code.specs.Results.{all_placed}
 use Rattle.placed_code.specs.Layout.{all_words}
 use Rattle.linked_flows.specs.Allocations.{Cut, steps_of, all_allocated}
 use Rattle.link_plan.specs.Linked.{linked, Runs}
-use Rattle.modest_flows.specs.Modest.{most_values}
+use Rattle.size_limits.specs.Limits.{most_values}
 use Rattle.alloc_choice.specs.declared.choice.Choice.{Choice}
 use Rattle.flow_allocation.specs.Allocations.{AllAllocations, trace_count}
 use Rattle.back_end.specs.declared.imaging.LinkedProcedures.{LinkedProcedures}

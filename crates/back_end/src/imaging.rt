@@ -48,8 +48,8 @@ const SHARE: usize = 64;
 /// the number behind those of the procedures before it, each with the final result by the policy, in lines with the moves of
 /// edges, linked. The workers of the choice share the traces, and whatever they do the image is the same; a worker passes the gate
 /// before it begins a trace. `Traces` comes exactly where there are over 262,144 traces, `Code` where there are not and the code is over
-/// 262,144 words, and `Misfit` for no procedures whose numbers and frames are small enough, so for none of at most 4,000 values
-/// each. Takes the time of the passes. The procedures are let go in batches, before the flows of each are allocated. It may wait.
+/// 262,144 words, and `Misfit` for no procedures whose numbers and frames are small enough, so for none that have no more values
+/// than a procedure may have. Takes the time of the passes. The procedures are let go in batches, before the flows of each are allocated. It may wait.
 pub fn image_of<G: Gate, R: Threads + Wait + Sync>(
     rt: &R,
     alloc: Global,

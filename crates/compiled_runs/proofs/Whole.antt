@@ -20,7 +20,7 @@ use Rattle.ob_types.specs.declared.program.Program.{Program}
 use Rattle.ssa_core.specs.declared.procedure.Proc.{Proc}
 use Rattle.ssa_core.specs.Procedures.{procedure, procedures}
 use Rattle.ssa_core.specs.Validity.{IsValid}
-use Rattle.ssa_lowered.specs.Data.{Layout, in_cells}
+use Rattle.ssa_lowered.specs.Data.{Layout, layout}
 use Rattle.ssa_lowered.specs.Lowered.{procs_from, lowered}
 use Rattle.lir_core.specs.declared.flow.Flow.{Flow}
 use Rattle.lir_core.specs.Flows.{procedure as flow_procedure, procedures as flow_procedures}
@@ -108,7 +108,7 @@ module _ (p : Program) (cuts : List Cut) (image : Image) (input : List ℕ)
 
   -- as many procedures are placed as the program has
   each : length ps ≡ length p.procedures
-  each = let a = lowered_each p (in_cells p.types) 0 p.procedures in let b = length_map procedure (lowered p) in omega (arith, a, b, count)
+  each = let a = lowered_each p (layout p.types) 0 p.procedures in let b = length_map procedure (lowered p) in omega (arith, a, b, count)
 
   -- the image's places tell the procedure of a BRK
   breaks_in : (k f : ℕ) (trap : why.Trap) → breaks_as ps (Kind k f) trap → same_break p ps image (Trapping k f) trap

@@ -3,7 +3,7 @@
 ghost use Rattle.std.specs.Prelude.{ℕ, List};
 ghost use Rattle.image_form.specs.declared.image.Image.{Image};
 ghost use Rattle.ob_types.specs.declared.program.Program.{Program};
-ghost use Rattle.ssa_lowered.specs.Data.{in_cells};
+ghost use Rattle.ssa_lowered.specs.Data.{layout};
 ghost use Rattle.lowered_valid.specs.Claims.{CanBeLowered};
 ghost use Rattle.linked_flows.specs.Allocations.{Cut};
 ghost use Rattle.link_plan.specs.Linked.{Runs};
@@ -16,5 +16,5 @@ ghost use Rattle.compiled_runs.specs.Compiled.{data_of, IsImageOf, CanRunAnywher
 pub fn images_mean()
     ensures { (p : Program) (cuts : List Cut) (image : Image) (input : List ℕ)
         → IsImageOf p cuts image → Runs image cuts (data_of p) input
-        → CanBeLowered (in_cells p.types) p → CanRunAnywhere p input → Means p cuts image input }
+        → CanBeLowered (layout p.types) p → CanRunAnywhere p input → Means p cuts image input }
 {}

@@ -10,7 +10,7 @@ use Rattle.ob_types.specs.Table.{Table}
 use Rattle.ob_types.specs.WellFormed.{argument_words, counts_fine, level_by, level_fine, sizes_fine, variables_fine, bodies_in_order, declarations_fine}
 use Rattle.ob_types.specs.declared.program.Program.{Program}
 use Rattle.ob_types.proofs.Tests.{and_of, below, no, none_some, some_same}
-use Rattle.ssa_lowered.specs.Data.{Layout, in_cells, descriptor_at}
+use Rattle.ssa_lowered.specs.Data.{Layout, layout, descriptor_at}
 use Rattle.ssa_lowered.specs.Constants.{ancestor_within, ancestor, base_by, address_of}
 
 -- one of two tests holds, the latter of a base
@@ -32,7 +32,7 @@ module _ (p : Program) (declared : declarations_fine p ≡ true) where
   t = p.types
 
   abbrev lay : Layout
-  lay = in_cells p.types
+  lay = layout p.types
 
   abbrev many : ℕ
   many = length p.types.records

@@ -15,7 +15,7 @@ use Rattle.ob_types.specs.Meaning.{zeros}
 use Rattle.ob_types.specs.declared.program.Module.{Module}
 use Rattle.ob_types.specs.declared.program.Procedure.{Procedure as Declared}
 use Rattle.ob_types.specs.declared.program.Program.{Program}
-use Rattle.ssa_lowered.specs.Data.{Layout, in_cells, room, room_of_all}
+use Rattle.ssa_lowered.specs.Data.{Layout, layout, room, room_of_all}
 use Rattle.ssa_lowered.specs.Pieces.{Piece, Appends, Closes, Low}
 use Rattle.ssa_lowered.specs.Pieces.{◌>>=◌ as ◌>>>◌, give as gives}
 use Rattle.ssa_lowered.specs.Places.{Stand}
@@ -26,7 +26,7 @@ use Rattle.lowered_runs.proofs.Starting.{start_of}
 
 module _ (p : Program) where
   abbrev lay : Layout
-  lay = in_cells p.types
+  lay = layout p.types
 
   -- what stands before a procedure's statements
   abbrev prefix : Here → ℕ → Bool → (all zeroed : ℕ) → List Variable → Low (Option ℕ) → Low (Option ℕ)
@@ -91,13 +91,13 @@ leaves_body ps f w pr is counted cells bytes few =
 ---- Globals, in words and in bytes
 
 module _ (p : Program) where
-  room_is : (k : ℕ) → room (in_cells p.types) k ≡ 8 * cells p.types k
+  room_is : (k : ℕ) → room (layout p.types) k ≡ 8 * cells p.types k
   room_is k = omega arith
 
-  pub rooms_are : (ks : List ℕ) → room_of_all (in_cells p.types) ks ≡ 8 * cells_of_all p.types ks
+  pub rooms_are : (ks : List ℕ) → room_of_all (layout p.types) ks ≡ 8 * cells_of_all p.types ks
   rooms_are [] = refl
   rooms_are (k ∷ ks) =
-      let e = sum_by-cons (λ x. x) (room (in_cells p.types) k) (map (room (in_cells p.types)) ks) in
+      let e = sum_by-cons (λ x. x) (room (layout p.types) k) (map (room (layout p.types)) ks) in
       let f = sum_by-cons (λ x. x) (cells p.types k) (map (cells p.types) ks) in
       let g = rooms_are ks in
       omega (arith, e, f, g)
@@ -108,19 +108,19 @@ module _ (p : Program) where
   size_is : (m : Module) → length (zeros p m.variables) ≡ cells_of_all p.types m.variables
   size_is m = length-replicate (cells_of_all p.types m.variables) (Bits 0)
 
-  pub modules_are : (ms : List Module) → sum_by (λ x. room_of_all (in_cells p.types) x.variables) ms ≡ 8 * sum (module_sizes ms)
+  pub modules_are : (ms : List Module) → sum_by (λ x. room_of_all (layout p.types) x.variables) ms ≡ 8 * sum (module_sizes ms)
   modules_are [] = refl
   modules_are (m ∷ ms) =
-      let e = sum_by-cons (λ x. room_of_all (in_cells p.types) x.variables) m ms in
+      let e = sum_by-cons (λ x. room_of_all (layout p.types) x.variables) m ms in
       let f = sum_by-cons (λ x. x) (length (zeros p m.variables)) (module_sizes ms) in
       let g = modules_are ms in let h = rooms_are m.variables in let k = size_is m in
       omega (arith, e, f, g, h, k)
 
-  pub starts_are : (ms : List Module) (i : ℕ) → sum_by (λ x. room_of_all (in_cells p.types) x.variables) (take i ms) ≡ 8 * start_of (module_sizes ms) i
+  pub starts_are : (ms : List Module) (i : ℕ) → sum_by (λ x. room_of_all (layout p.types) x.variables) (take i ms) ≡ 8 * start_of (module_sizes ms) i
   starts_are ms zero = refl
   starts_are [] (suc i) = refl
   starts_are (m ∷ ms) (suc i) =
-      let e = sum_by-cons (λ x. room_of_all (in_cells p.types) x.variables) m (take i ms) in
+      let e = sum_by-cons (λ x. room_of_all (layout p.types) x.variables) m (take i ms) in
       let g = starts_are ms i in let h = rooms_are m.variables in let k = size_is m in
       omega (arith, e, g, h, k)
 

@@ -6,7 +6,7 @@ use Rattle.ob_types.specs.declared.program.Program.{Program}
 use Rattle.ob_types.proofs.WellFormedParts.{parts_of}
 use Rattle.block_runs.specs.Blocks.{bodies, bodies_from}
 use Rattle.ssa_core.specs.Procedures.{procedures}
-use Rattle.ssa_lowered.specs.Data.{Layout, in_cells}
+use Rattle.ssa_lowered.specs.Data.{Layout, layout}
 use Rattle.ssa_lowered.specs.Lowered.{lowered, procs_from}
 
 either_way : (b : Bool) (f : ℕ) (xs ys : List ℕ) → xs ≡ ys → (if not b then xs else (f ∷ xs)) ≡ (if b then (f ∷ ys) else ys)
@@ -19,4 +19,4 @@ bodies_lowered p l f (q ∷ qs) = either_way q.is_body f (bodies_from (suc f) (p
 
 -- they are in the order of the modules
 pub bodies_in_modules : (p : Program) → well_formed p ≡ true → bodies (procedures (lowered p)) ≡ map (λ m. m.body) p.modules
-bodies_in_modules p h = bodies_lowered p (in_cells p.types) 0 p.procedures ∙ (parts_of p h).order
+bodies_in_modules p h = bodies_lowered p (layout p.types) 0 p.procedures ∙ (parts_of p h).order

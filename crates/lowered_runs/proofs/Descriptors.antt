@@ -6,7 +6,7 @@ use Rattle.std.proofs.Math.Seq.{drop-append-add}
 use Rattle.std.proofs.lemmas.List.{drop-append-le, take-append-le, length-drop}
 use Rattle.a64_memory.specs.Bytes.{slab}
 use Rattle.ob_types.specs.declared.program.Program.{Program}
-use Rattle.ssa_lowered.specs.Data.{Layout, in_cells}
+use Rattle.ssa_lowered.specs.Data.{Layout, layout}
 use Rattle.ssa_lowered.specs.Pieces.{numbers}
 use Rattle.ssa_lowered.specs.Constants.{descriptor_bytes, address_of, ancestor}
 use Rattle.lowered_runs.proofs.Strings.{length_flat, length_numbers}
@@ -46,7 +46,7 @@ slab_row f k each i (suc n) (suc r) o m lt fits =
 
 module _ (p : Program) (globals : ℕ) where
   abbrev lay : Layout
-  lay = in_cells p.types
+  lay = layout p.types
 
   abbrev cell_bytes : ℕ → ℕ → List ℕ
   cell_bytes r j = to_le_bytes w64 (address_of p lay globals (ancestor p.types j r))

@@ -10,7 +10,7 @@ use Rattle.ob_types.specs.Store.{Store as Objects, Here as Running}
 use Rattle.ob_types.specs.WellFormed
 use Rattle.ob_types.specs.WellFormed.{Named as Thing}
 use Rattle.ob_types.specs.declared.program.Program.{Program}
-use Rattle.ssa_lowered.specs.Data.{Layout, in_cells, global_at, descriptor_at, text_at, within}
+use Rattle.ssa_lowered.specs.Data.{Layout, layout, global_at, descriptor_at, text_at, within}
 use Rattle.ssa_lowered.specs.Variables.{Register, Memory, is_structured, none, words_of}
 use Rattle.ssa_lowered.specs.Lowered.{Here, here_of, variable_of, by_mode}
 use Rattle.lowered_runs.specs.Words.{Whole, Level, local}
@@ -34,11 +34,11 @@ module _ (w : Whole) (l : Level) where
   abbrev pub program : Program
   program = w.program
 
-  abbrev pub layout : Layout
-  layout = in_cells program.types
+  abbrev pub lay : Layout
+  lay = layout program.types
 
   abbrev pub here : Here
-  here = here_of program layout l.proc (procedure_of program l.proc)
+  here = here_of program lay l.proc (procedure_of program l.proc)
 
   abbrev pub running : Running
   running = record { procedure = l.proc; frame = l.frame; arguments = l.arguments }
@@ -48,17 +48,17 @@ module _ (w : Whole) (l : Level) where
 
   -- where a local variable is
   abbrev pub LocalIs : ℕ → ℕ → Type 0
-  LocalIs x k = (((variable_of program layout here x).site ≡ Register) × (l.in_register x ≡ true) × (is_structured (kind_of program.types k) ≡ false))
-      ⊎ ((n : ℕ) × ((variable_of program layout here x).site ≡ Memory n) × (l.in_register x ≡ false) × ((s : Objects) → AddressIs w l (local l x) (cells program.types k) (sub64 (8 * l.local) (here.bytes - n)) s))
+  LocalIs x k = (((variable_of program lay here x).site ≡ Register) × (l.in_register x ≡ true) × (is_structured (kind_of program.types k) ≡ false))
+      ⊎ ((n : ℕ) × ((variable_of program lay here x).site ≡ Memory n) × (l.in_register x ≡ false) × ((s : Objects) → AddressIs w l (local l x) (cells program.types k) (sub64 (8 * l.local) (here.bytes - n)) s))
 
   -- where variables and descriptors are
   pub record Variables : Type 0 where
     pub cell : (x : ℕ) → l.cell x ≡ cells_of_all program.types (take x locals)
     pub count : l.count ≡ length locals
     pub local : (x k : ℕ) → slice_get locals x ≡ Some k → LocalIs x k
-    pub global : (m v k : ℕ) → slice_get (globals_of program m) v ≡ Some k → (s : Objects) → AddressIs w l (record { area = Globals; object = suc m; cell = cells_of_all program.types (take v (globals_of program m)) }) (cells program.types k) (data_base + global_at program layout m v) s
-    pub descriptor : (r : ℕ) → w.descriptor r ≡ data_base + within (descriptor_at program layout r)
-    pub text : (o : ℕ) (xs : List ℕ) → slice_get (texts_of program.procedures) o ≡ Some xs → (s : Objects) → AddressIs w l (record { area = Strings; object = o; cell = 0 }) (suc (length xs)) (data_base + within (text_at program layout o)) s
+    pub global : (m v k : ℕ) → slice_get (globals_of program m) v ≡ Some k → (s : Objects) → AddressIs w l (record { area = Globals; object = suc m; cell = cells_of_all program.types (take v (globals_of program m)) }) (cells program.types k) (data_base + global_at program lay m v) s
+    pub descriptor : (r : ℕ) → w.descriptor r ≡ data_base + within (descriptor_at program lay r)
+    pub text : (o : ℕ) (xs : List ℕ) → slice_get (texts_of program.procedures) o ≡ Some xs → (s : Objects) → AddressIs w l (record { area = Strings; object = o; cell = 0 }) (suc (length xs)) (data_base + within (text_at program lay o)) s
     pub records : w.records ≡ length program.types.records
     pub tells : TellsExtensions w
     pub done : (s : Objects) → AddressIs w l (record { area = Globals; object = 0; cell = 0 }) 1 (data_base + 0) s

@@ -10,7 +10,7 @@ use Rattle.ob_types.specs.declared.types.TypeKind.TheVariants.{Array}
 use Rattle.ob_types.specs.declared.types.TypeKind.TheVariants.{Record as RecordOf}
 use Rattle.ob_types.specs.declared.program.Program.{Program}
 use Rattle.ob_types.proofs.Tests.{no}
-use Rattle.ssa_lowered.specs.Data.{Layout, in_cells, room}
+use Rattle.ssa_lowered.specs.Data.{Layout, layout, room}
 use Rattle.ssa_lowered.specs.Pieces.{Mask, rest}
 use Rattle.ssa_lowered.specs.Variables.{Site, Register, Memory, Variable, is_structured, structured_room, scalars_lent, placed}
 
@@ -69,7 +69,7 @@ types_in xs = map (λ x. x.0) xs
 
 module _ (p : Program) where
   abbrev pub lay : Layout
-  lay = in_cells p.types
+  lay = layout p.types
 
   abbrev pub size : ℕ → ℕ
   size k = cells p.types k

@@ -11,7 +11,7 @@ use Rattle.ob_types.specs.declared.program.Program.{Program}
 use Rattle.ob_types.proofs.Tests.{and_of}
 use Rattle.ob_sound.proofs.Typed.{lt_of}
 use Rattle.ssa_core.specs.Procedures.{procedures}
-use Rattle.ssa_lowered.specs.Data.{Layout, in_cells, globals_room, room_of_all}
+use Rattle.ssa_lowered.specs.Data.{Layout, layout, globals_room, room_of_all}
 use Rattle.ssa_lowered.specs.Lowered.{lowered, procs_from}
 use Rattle.lowered_runs.specs.Words.{Whole, Level, Right, Sizes, sizes_of, Thing, InCell, TagOf, Constant, word_of, There, Room, Held, Apart}
 use Rattle.ob_types.specs.WellFormed.{declarations_fine}
@@ -61,7 +61,7 @@ many p l f (q ∷ qs) = ap suc (many p l (suc f) qs)
 
 module _ (p : Program) (input : List ℕ) where
   abbrev lay : Layout
-  lay = in_cells p.types
+  lay = layout p.types
 
   pub room_sizes : globals_room p lay ≡ 8 * sum (global_sizes p input)
   room_sizes =

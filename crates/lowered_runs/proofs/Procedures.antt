@@ -27,7 +27,7 @@ use Rattle.ob_sound.proofs.Typed.{lt_of}
 use Rattle.ob_sound.proofs.Handing.{AllTaken, all_taken_push}
 use Rattle.ob_sound.proofs.Programs.{s_at_most, last_index}
 use Rattle.ssa_core.specs.Procedures.{procedure, procedures}
-use Rattle.ssa_lowered.specs.Data.{Layout, in_cells, globals_room}
+use Rattle.ssa_lowered.specs.Data.{Layout, layout, globals_room}
 use Rattle.ssa_lowered.specs.Pieces.{Cursor}
 use Rattle.ssa_lowered.specs.Variables.{lent_by_list, lent_by_answer}
 use Rattle.ssa_lowered.specs.Lowered.{Here, here_of, lowered, made_of, proc_of}
@@ -69,7 +69,7 @@ answer_given p l here (Some x) c h = refl
 
 module _ (p : Program) (input : List ℕ) (code : ℕ → ℕ) (constants : List ℕ) (n : ℕ) where
   abbrev pub lay : Layout
-  lay = in_cells p.types
+  lay = layout p.types
 
   abbrev pub w : Whole
   w = whole_of p input code constants n

@@ -35,7 +35,7 @@ use Rattle.ob_sound.proofs.Typed.{lt_of}
 use Rattle.ob_sound.proofs.Handing.{AllTaken}
 use Rattle.ob_sound.proofs.Programs.{s_at_most, start_typed, makes_sense}
 use Rattle.ssa_core.specs.Procedures.{procedure, procedures, code_blocks}
-use Rattle.ssa_lowered.specs.Data.{Layout, in_cells, globals_room}
+use Rattle.ssa_lowered.specs.Data.{Layout, layout, globals_room}
 use Rattle.ssa_lowered.specs.Pieces.{Cursor, Made}
 use Rattle.ssa_lowered.specs.Places.{Leaves, Stand}
 use Rattle.ssa_lowered.specs.Variables.{structured_room, scalars_lent}
@@ -86,7 +86,7 @@ at_end (suc j) (x ∷ xs) e = at_end j xs e
 
 module _ (p : Program) (input : List ℕ) (code : ℕ → ℕ) (constants : List ℕ) (n : ℕ) where
   abbrev lay : Layout
-  lay = in_cells p.types
+  lay = layout p.types
 
   abbrev w : Whole
   w = whole_of p input code constants n

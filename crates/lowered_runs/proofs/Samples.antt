@@ -27,7 +27,7 @@ use Rattle.a64_memory.proofs.Cells.{no_bytes, bytes_of_8}
 use Rattle.a64_memory.proofs.Shapes.{append_bytes}
 use Rattle.a64_memory.specs.Areas.{data_base}
 use Rattle.ssa_lowered.specs.Constants.{ancestor, address_of, descriptor_bytes}
-use Rattle.ssa_lowered.specs.Data.{in_cells}
+use Rattle.ssa_lowered.specs.Data.{layout}
 use Rattle.ssa_lowered.specs.Pieces.{numbers}
 use Rattle.lowered_runs.specs.Claims.{CanRun, constants_of}
 use Rattle.lowered_runs.specs.Sample.{sample, number, CallsItself, HandsOver}
@@ -167,7 +167,7 @@ module _ (b : Box (Unit {0}) Heap) (v : Vec (Unit {0}) Heap) where
   }
 
   handing_bytes : AreBytes (constants_of handing)
-  handing_bytes = each_bytes (descriptor_bytes handing (in_cells handing.types) data_base) (λ r. each_bytes (λ j. to_le_bytes w64 (address_of handing (in_cells handing.types) data_base (ancestor handing.types j r))) (λ j. bytes_of_8 (address_of handing (in_cells handing.types) data_base (ancestor handing.types j r))) (numbers 0 16)) (numbers 0 1)
+  handing_bytes = each_bytes (descriptor_bytes handing (layout handing.types) data_base) (λ r. each_bytes (λ j. to_le_bytes w64 (address_of handing (layout handing.types) data_base (ancestor handing.types j r))) (λ j. bytes_of_8 (address_of handing (layout handing.types) data_base (ancestor handing.types j r))) (numbers 0 16)) (numbers 0 1)
 
   handing_runs : CanRun handing [] (constants_of handing) (λ g. suc g)
   unfolding data_tree record_row

@@ -27,7 +27,7 @@ use Rattle.ob_types.specs.Meaning.{start, zeros, texts_of}
 use Rattle.ob_types.specs.declared.program.Module.{Module}
 use Rattle.ob_types.specs.declared.program.Program.{Program}
 use Rattle.ssa_core.specs.Procedures.{procedures}
-use Rattle.ssa_lowered.specs.Data.{in_cells, globals_room, descriptor_at, within}
+use Rattle.ssa_lowered.specs.Data.{layout, globals_room, descriptor_at, within}
 use Rattle.ssa_lowered.specs.Lowered.{lowered}
 use Rattle.lowered_runs.specs.Words.{Whole, Level, Sizes, sizes_of, sizes_in, Thing, InCell, TagOf, Constant, word_at, word_of, There, ValueIs, word, Held, AreInput}
 use Rattle.lowered_runs.specs.Claims.{has_constants, ConstantsStand}
@@ -236,17 +236,17 @@ module _ (p : Program) (input : List ℕ) where
 
   -- cell k of all descriptors
   abbrev descriptor_cell : ℕ → ℕ
-  descriptor_cell k = address_of p (in_cells p.types) data_base (ancestor p.types (k % 16) (k / 16))
+  descriptor_cell k = address_of p (layout p.types) data_base (ancestor p.types (k % 16) (k / 16))
 
   abbrev first_cell : ℕ
   first_cell = data_word + sum global_sizes
 
-  pub entry_there : (t j : ℕ) → t < length p.types.records → j ≤ 15 → row_at first_cell (16 * length p.types.records) descriptor_cell (data_word + (sum global_sizes + 16 * t) + j) ≡ Some (address_of p (in_cells p.types) data_base (ancestor p.types j t))
+  pub entry_there : (t j : ℕ) → t < length p.types.records → j ≤ 15 → row_at first_cell (16 * length p.types.records) descriptor_cell (data_word + (sum global_sizes + 16 * t) + j) ≡ Some (address_of p (layout p.types) data_base (ancestor p.types j t))
   entry_there t j lt le =
       let i = data_word + (sum global_sizes + 16 * t) + j in
       let level : (i - first_cell) % 16 ≡ j = omega (arith, le) in
       let record_type : (i - first_cell) / 16 ≡ t = omega (arith, le) in
-      row_there first_cell (16 * length p.types.records) descriptor_cell i (omega arith) (omega (arith, lt, le)) ∙ ap₂ (λ a b. Some (address_of p (in_cells p.types) data_base (ancestor p.types a b))) level record_type
+      row_there first_cell (16 * length p.types.records) descriptor_cell i (omega arith) (omega (arith, lt, le)) ∙ ap₂ (λ a b. Some (address_of p (layout p.types) data_base (ancestor p.types a b))) level record_type
 
   -- what the whole program is, with no procedure's object yet
   abbrev pub whole_of : (code : ℕ → ℕ) (constants : List ℕ) → ℕ → Whole
@@ -256,12 +256,12 @@ module _ (p : Program) (input : List ℕ) where
     code = code;
     global = λ o. data_word + start_of global_sizes o;
     string = λ o. Some (data_word + (sum global_sizes + 16 * length p.types.records + start_of string_sizes o));
-    descriptor = λ r. data_base + within (descriptor_at p (in_cells p.types) r);
+    descriptor = λ r. data_base + within (descriptor_at p (layout p.types) r);
     entry = row_at first_cell (16 * length p.types.records) descriptor_cell;
     records = length p.types.records;
-    areas = shapes (first_world (globals_room p (in_cells p.types)) constants input).memory;
+    areas = shapes (first_world (globals_room p (layout p.types)) constants input).memory;
     points = all_points (procedures (lowered p));
-    first = first_state (globals_room p (in_cells p.types)) constants input;
+    first = first_state (globals_room p (layout p.types)) constants input;
     turns = n;
   }
 
@@ -269,7 +269,7 @@ module _ (p : Program) (input : List ℕ) where
   abbrev pub body_level : ℕ → ℕ → Store → Level
   body_level q j s = record { proc = q; args = []; arguments = []; callers = []; body = j; local = local_word; sizes = []; frame = 0; slots = λ o c. None; forms = []; count = 0; in_register = λ x. false; cell = λ x. 0; store = s }
 
-  module _ (code : ℕ → ℕ) (constants : List ℕ) (n : ℕ) (small : globals_room p (in_cells p.types) + length constants ≤ 0x10000000) (are : AreBytes constants) (room : 8 * sum global_sizes ≡ globals_room p (in_cells p.types)) (few : sum global_sizes ≤ 1048576) (bytes : AreInput input) (standing : has_constants p ≡ true → ConstantsStand p constants) (declared : declarations_fine p ≡ true) (q j : ℕ) where
+  module _ (code : ℕ → ℕ) (constants : List ℕ) (n : ℕ) (small : globals_room p (layout p.types) + length constants ≤ 0x10000000) (are : AreBytes constants) (room : 8 * sum global_sizes ≡ globals_room p (layout p.types)) (few : sum global_sizes ≤ 1048576) (bytes : AreInput input) (standing : has_constants p ≡ true → ConstantsStand p constants) (declared : declarations_fine p ≡ true) (q j : ℕ) where
     abbrev w : Whole
     w = whole_of code constants n
 
@@ -277,7 +277,7 @@ module _ (p : Program) (input : List ℕ) where
     l = body_level q j (start p input)
 
     abbrev m : List Area
-    m = (first_world (globals_room p (in_cells p.types)) constants input).memory
+    m = (first_world (globals_room p (layout p.types)) constants input).memory
 
     abbrev z : Sizes
     z = sizes_of (start p input)
@@ -351,7 +351,7 @@ module _ (p : Program) (input : List ℕ) where
     globals_below : (t : Thing) (i : ℕ) → IsGlobal t i → i < data_word + sum global_sizes
     globals_below t i a = let e = a.4 in let lt = start_below global_sizes a.0 a.1 a.3 in omega (arith, e, lt)
 
-    strings_from : (t : Thing) (i : ℕ) → IsString t i → (behind ≤ i) × (8 * i + 8 ≤ data_base + (globals_room p (in_cells p.types) + length constants))
+    strings_from : (t : Thing) (i : ℕ) → IsString t i → (behind ≤ i) × (8 * i + 8 ≤ data_base + (globals_room p (layout p.types) + length constants))
     strings_from t i a =
         let e = a.4 in
         let lt = start_below string_sizes a.0 a.1 a.3 in
@@ -360,7 +360,7 @@ module _ (p : Program) (input : List ℕ) where
         let long = ap (λ (bs : List ℕ). length bs) stand.same ∙ length_constants p data_base texts in
         (omega (arith, e), omega (arith, e, lt, all_are, long, room))
 
-    entries_below : (t : Thing) (i : ℕ) → IsEntry t i → 8 * i + 8 ≤ data_base + (globals_room p (in_cells p.types) + length constants)
+    entries_below : (t : Thing) (i : ℕ) → IsEntry t i → 8 * i + 8 ≤ data_base + (globals_room p (layout p.types) + length constants)
     entries_below t i a =
         let low = a.1 in
         let high = a.2 in
@@ -388,11 +388,11 @@ module _ (p : Program) (input : List ℕ) where
     thing_covered : (t : Thing) (i : ℕ) → IsPlaced t i → covered w.areas (8 * i) 8 ≡ true
     thing_covered t i (inl a) =
         let e = a.4 in let lt = start_below global_sizes a.0 a.1 a.3 in
-        data_covered (globals_room p (in_cells p.types)) constants input small are i 1 (omega (arith, e)) (omega (arith, e, lt, room))
+        data_covered (globals_room p (layout p.types)) constants input small are i 1 (omega (arith, e)) (omega (arith, e, lt, room))
     thing_covered t i (inr (inl a)) = let x = strings_from t i a in let low = x.0 in let high = x.1 in
-        data_covered (globals_room p (in_cells p.types)) constants input small are i 1 (omega (arith, low)) (omega (arith, high))
+        data_covered (globals_room p (layout p.types)) constants input small are i 1 (omega (arith, low)) (omega (arith, high))
     thing_covered t i (inr (inr a)) = let high = entries_below t i a in let low = a.1 in
-        data_covered (globals_room p (in_cells p.types)) constants input small are i 1 (omega (arith, low)) (omega (arith, high))
+        data_covered (globals_room p (layout p.types)) constants input small are i 1 (omega (arith, low)) (omega (arith, high))
 
     thing_below : (t : Thing) (i : ℕ) → IsPlaced t i → i < local_word
     thing_below t i (inl a) = let lt = globals_below t i a in omega (arith, lt, few)
@@ -400,14 +400,14 @@ module _ (p : Program) (input : List ℕ) where
     thing_below t i (inr (inr a)) = let high = entries_below t i a in omega (arith, high, small)
 
     -- a character's word
-    character_word : (k c i : ℕ) → ConstantsStand p constants → slice_get (characters texts) k ≡ Some c → i ≡ behind + k → 8 * i + 8 ≤ data_base + (globals_room p (in_cells p.types) + length constants) → word m i ≡ c
+    character_word : (k c i : ℕ) → ConstantsStand p constants → slice_get (characters texts) k ≡ Some c → i ≡ behind + k → 8 * i + 8 ≤ data_base + (globals_room p (layout p.types) + length constants) → word m i ≡ c
     character_word k c i stand is at high =
-        let place : 8 * i - data_base ≡ globals_room p (in_cells p.types) + (128 * length p.types.records + 8 * k) = omega (arith, at, room) in
-        let long : length {A = ℕ} (replicate (globals_room p (in_cells p.types)) 0 ++ constants) ≡ globals_room p (in_cells p.types) + length constants = length-append (replicate (globals_room p (in_cells p.types)) 0) constants ∙ ap (λ n. n + length constants) (length-replicate {A = ℕ} (globals_room p (in_cells p.types)) 0) in
-        let within_data = lies_here (globals_room p (in_cells p.types)) constants input small are (record { base = data_base; bytes = replicate (globals_room p (in_cells p.types)) 0 ++ constants }) (8 * i) 8 (omega (arith, at)) (omega (arith, high, long)) in
-        ap (from_le_bytes w64) (ap (λ t. cond t (slab (replicate (globals_room p (in_cells p.types)) 0 ++ constants) (8 * i - data_base) 8) (bytes_at (zeroed local_base local_bytes ∷ zeroed heap_base heap_bytes ∷ []) (8 * i) 8)) within_data
-        ∙ ap (λ cs. slab (replicate (globals_room p (in_cells p.types)) 0 ++ cs) (8 * i - data_base) 8) stand.same
-        ∙ character_at p data_base (globals_room p (in_cells p.types)) texts k c (8 * i - data_base) is place)
+        let place : 8 * i - data_base ≡ globals_room p (layout p.types) + (128 * length p.types.records + 8 * k) = omega (arith, at, room) in
+        let long : length {A = ℕ} (replicate (globals_room p (layout p.types)) 0 ++ constants) ≡ globals_room p (layout p.types) + length constants = length-append (replicate (globals_room p (layout p.types)) 0) constants ∙ ap (λ n. n + length constants) (length-replicate {A = ℕ} (globals_room p (layout p.types)) 0) in
+        let within_data = lies_here (globals_room p (layout p.types)) constants input small are (record { base = data_base; bytes = replicate (globals_room p (layout p.types)) 0 ++ constants }) (8 * i) 8 (omega (arith, at)) (omega (arith, high, long)) in
+        ap (from_le_bytes w64) (ap (λ t. cond t (slab (replicate (globals_room p (layout p.types)) 0 ++ constants) (8 * i - data_base) 8) (bytes_at (zeroed local_base local_bytes ∷ zeroed heap_base heap_bytes ∷ []) (8 * i) 8)) within_data
+        ∙ ap (λ cs. slab (replicate (globals_room p (layout p.types)) 0 ++ cs) (8 * i - data_base) 8) stand.same
+        ∙ character_at p data_base (globals_room p (layout p.types)) texts k c (8 * i - data_base) is place)
         ∙ character_number p data_base c
 
     -- a descriptor's word
@@ -424,17 +424,17 @@ module _ (p : Program) (input : List ℕ) where
         let top = entries_below (Constant i) i (refl, low, omega (arith, high)) in
         let lt : r < length p.types.records = omega (arith, low, high) in
         let less : j < 16 = omega arith in
-        let zeros : List ℕ = replicate (globals_room p (in_cells p.types)) 0 in
-        let own = flat_map (descriptor_bytes p (in_cells p.types) data_base) (numbers 0 (length p.types.records)) in
-        let more = flat_map (text_bytes (in_cells p.types)) texts in
-        let empty = length-replicate {A = ℕ} (globals_room p (in_cells p.types)) 0 in
-        let place : 8 * i - data_base ≡ length {A = ℕ} (replicate (globals_room p (in_cells p.types)) 0) + (128 * r + 8 * j) = omega (arith, low, room, empty) in
-        let long : length {A = ℕ} (replicate (globals_room p (in_cells p.types)) 0 ++ constants) ≡ globals_room p (in_cells p.types) + length constants = length-append (replicate (globals_room p (in_cells p.types)) 0) constants ∙ ap (λ n. n + length constants) (length-replicate {A = ℕ} (globals_room p (in_cells p.types)) 0) in
-        let within_data = lies_here (globals_room p (in_cells p.types)) constants input small are (record { base = data_base; bytes = replicate (globals_room p (in_cells p.types)) 0 ++ constants }) (8 * i) 8 (omega (arith, low)) (omega (arith, top, long)) in
+        let zeros : List ℕ = replicate (globals_room p (layout p.types)) 0 in
+        let own = flat_map (descriptor_bytes p (layout p.types) data_base) (numbers 0 (length p.types.records)) in
+        let more = flat_map (text_bytes (layout p.types)) texts in
+        let empty = length-replicate {A = ℕ} (globals_room p (layout p.types)) 0 in
+        let place : 8 * i - data_base ≡ length {A = ℕ} (replicate (globals_room p (layout p.types)) 0) + (128 * r + 8 * j) = omega (arith, low, room, empty) in
+        let long : length {A = ℕ} (replicate (globals_room p (layout p.types)) 0 ++ constants) ≡ globals_room p (layout p.types) + length constants = length-append (replicate (globals_room p (layout p.types)) 0) constants ∙ ap (λ n. n + length constants) (length-replicate {A = ℕ} (globals_room p (layout p.types)) 0) in
+        let within_data = lies_here (globals_room p (layout p.types)) constants input small are (record { base = data_base; bytes = replicate (globals_room p (layout p.types)) 0 ++ constants }) (8 * i) 8 (omega (arith, low)) (omega (arith, top, long)) in
         let whole = length_descriptors p data_base in
         let few_bytes : descriptor_cell k < 2 ^ 64 = let b = cell_below p declared data_base j r lt in omega (arith, b, small, long_own) in
-        ap (from_le_bytes w64) (ap (λ t. cond t (slab (replicate (globals_room p (in_cells p.types)) 0 ++ constants) (8 * i - data_base) 8) (bytes_at (zeroed local_base local_bytes ∷ zeroed heap_base heap_bytes ∷ []) (8 * i) 8)) within_data
-        ∙ ap (λ cs. slab (replicate (globals_room p (in_cells p.types)) 0 ++ cs) (8 * i - data_base) 8) stand.same
+        ap (from_le_bytes w64) (ap (λ t. cond t (slab (replicate (globals_room p (layout p.types)) 0 ++ constants) (8 * i - data_base) 8) (bytes_at (zeroed local_base local_bytes ∷ zeroed heap_base heap_bytes ∷ []) (8 * i) 8)) within_data
+        ∙ ap (λ cs. slab (replicate (globals_room p (layout p.types)) 0 ++ cs) (8 * i - data_base) 8) stand.same
         ∙ ap (λ n. slab (zeros ++ (own ++ more)) n 8) place
         ∙ ap (take 8) (drop-append-add zeros (own ++ more) (128 * r + 8 * j))
         ∙ slab_first own more (128 * r + 8 * j) 8 (omega (arith, whole, lt, less))
@@ -449,21 +449,21 @@ module _ (p : Program) (input : List ℕ) where
         lies = λ t i there at. thing_covered t i (only t i there at);
         below = λ t i there at. inl (thing_below t i (only t i there at));
         heap_ends = omega arith;
-        heap_covered = λ i low high. heap_covered (globals_room p (in_cells p.types)) constants input small are i low high;
+        heap_covered = λ i low high. heap_covered (globals_room p (layout p.types)) constants input small are i low high;
         local_begins = omega arith;
         local_ends = omega arith;
         few = omega arith;
-        local_covered = λ i k low high. local_covered (globals_room p (in_cells p.types)) constants input small are i k low high;
+        local_covered = λ i k low high. local_covered (globals_room p (layout p.types)) constants input small are i k low high;
       };
       frames = refl;
       areas = refl;
-      rises = first_rises (globals_room p (in_cells p.types)) constants input small are;
-      bytes = first_bytes (globals_room p (in_cells p.types)) constants input small are;
+      rises = first_rises (globals_room p (layout p.types)) constants input small are;
+      bytes = first_bytes (globals_room p (layout p.types)) constants input small are;
       holds = first_holds;
       tags = λ o t i is at. absurd (none_some is);
       constants = entry_word;
       tagged = refl;
-      zeros = λ i low high. heap_word_zero (globals_room p (in_cells p.types)) constants input small are i (omega (arith, low)) high;
+      zeros = λ i low high. heap_word_zero (globals_room p (layout p.types)) constants input small are i (omega (arith, low)) high;
       input = bytes;
     }
       where
@@ -475,7 +475,7 @@ module _ (p : Program) (input : List ℕ) where
             let there = there_cell (start p input) Globals o c v is in
             let e = global_word o c i at in
             let lt = start_below global_sizes o c there in
-            let k = global_word_zero (globals_room p (in_cells p.types)) constants input small are (start_of global_sizes o + c) (omega (arith, lt, room)) in
+            let k = global_word_zero (globals_room p (layout p.types)) constants input small are (start_of global_sizes o + c) (omega (arith, lt, room)) in
             subst (λ v. ValueIs w z v (word m i)) (sym (global_zero o c v is)) (ap (word m) (e ∙ assoc data_word (start_of global_sizes o) c) ∙ k, omega arith)
         first_holds Frames o c i v is at = absurd (none_some at)
         first_holds Heap o c i v is at = absurd (none_some at)
@@ -485,5 +485,5 @@ module _ (p : Program) (input : List ℕ) where
             let x = cell_is texts o c v is in
             let high = (strings_from (InCell Strings o c) i (o, c, refl, there, e)).1 in
             let word_is = character_word (start_of string_sizes o + c) x.0 i (strings_stand o c there) x.2 e high in
-            let low = loaded8_lt m (8 * i) (first_bytes (globals_room p (in_cells p.types)) constants input small are) in
+            let low = loaded8_lt m (8 * i) (first_bytes (globals_room p (layout p.types)) constants input small are) in
             subst (λ v. ValueIs w z v (word m i)) (sym x.1) (word_is, omega (arith, word_is, low))

@@ -11,7 +11,7 @@ use Rattle.ob_types.specs.Store.{Cell, Bits, cell_of}
 use Rattle.ob_types.specs.Table.{Table}
 use Rattle.ob_types.specs.declared.program.Program.{Program}
 use Rattle.ob_sound.proofs.Tables.{get_left, get_right}
-use Rattle.ssa_lowered.specs.Data.{Layout, in_cells, text_room}
+use Rattle.ssa_lowered.specs.Data.{Layout, layout, text_room}
 use Rattle.ssa_lowered.specs.Pieces.{numbers}
 use Rattle.ssa_lowered.specs.Constants.{descriptor_bytes, address_of, ancestor, character_bytes, text_bytes}
 
@@ -86,14 +86,14 @@ starts_below (ys ∷ texts) (suc o) xs e =
 -- the bytes of constants
 module _ (t : Table) where
   abbrev spelled : ℕ → List ℕ
-  spelled c = character_bytes (in_cells t) c
+  spelled c = character_bytes (layout t) c
 
-  one_text : (xs : List ℕ) → text_bytes (in_cells t) xs ≡ flat_map spelled (xs ++ 0 ∷ [])
+  one_text : (xs : List ℕ) → text_bytes (layout t) xs ≡ flat_map spelled (xs ++ 0 ∷ [])
   one_text xs =
-      let none : text_room (in_cells t) xs - 8 * suc (length xs) ≡ 0 = omega arith in
+      let none : text_room (layout t) xs - 8 * suc (length xs) ≡ 0 = omega arith in
       ap (λ n. flat_map spelled (xs ++ 0 ∷ []) ++ replicate n 0) none ∙ append-nil (flat_map spelled (xs ++ 0 ∷ []))
 
-  pub all_texts : (texts : List (List ℕ)) → flat_map (text_bytes (in_cells t)) texts ≡ flat_map spelled (characters texts)
+  pub all_texts : (texts : List (List ℕ)) → flat_map (text_bytes (layout t)) texts ≡ flat_map spelled (characters texts)
   all_texts [] = refl
   all_texts (xs ∷ texts) = ap₂ (λ a b. a ++ b) (one_text xs) (all_texts texts) ∙ sym (flat_map-append spelled (xs ++ 0 ∷ []) (characters texts))
 
@@ -113,7 +113,7 @@ module _ (t : Table) where
 
 module _ (p : Program) (globals : ℕ) where
   abbrev lay : Layout
-  lay = in_cells p.types
+  lay = layout p.types
 
   pub length_descriptors : length (flat_map (descriptor_bytes p lay globals) (numbers 0 (length p.types.records))) ≡ 128 * length p.types.records
   length_descriptors =

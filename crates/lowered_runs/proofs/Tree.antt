@@ -54,7 +54,7 @@ use Rattle.ssa_lowered.specs.Values.{load as lower_load}
 use Rattle.ob_types.specs.WellFormed.{record_by, open_element, has_branch, Elementary, OfType, Letter}
 use Rattle.ob_sound.proofs.Deeds.{takes_is, given_is}
 use Rattle.ob_sound.proofs.Tree.{t_base, t_select, t_value, t_link, t_effect}
-use Rattle.ssa_lowered.specs.Data.{Layout, global_at, descriptor_at, text_at, within}
+use Rattle.ssa_lowered.specs.Data.{Layout, layout, global_at, descriptor_at, text_at, within}
 use Rattle.ssa_lowered.specs.Pieces.{Low, Mask}
 use Rattle.ssa_lowered.specs.Control.{Lowers, Round, fork_and, fork_or, fork_value}
 use Rattle.ssa_lowered.specs.Variables.{is_structured, either, none, origin, unselected, itself as whole_of, assigned, assigned_all, assigned_branches, words_of, lent, lent_links, lent_link, lent_at, lent_whole, lent_by_first, lent_selectors, lent_selector, lent_call, lent_as, lent_in, lent_by, lent_by_all, lent_by_branches, lent_by_list, lent_by_answer}
@@ -74,7 +74,7 @@ use Rattle.lowered_runs.proofs.Exprs.{follows_bits}
 use Rattle.lowered_runs.proofs.Cases.{bodies_known, first_of, parts_of, Matched, Bodies, follows_case}
 use Rattle.lowered_runs.proofs.Labels.{Known, known_steady, labels_any, rungs_same, all_labels_say, trap_otherwise}
 use Rattle.std.proofs.Common.{map, ap₂}
-use Rattle.lowered_runs.proofs.Levels.{layout, here, running, locals, LocalIs, Variables, Given, steady_given}
+use Rattle.lowered_runs.proofs.Levels.{here, running, locals, LocalIs, Variables, Given, steady_given}
 use Rattle.lowered_runs.proofs.Follows.{And as Both, Steady, steady_and, Follows, FollowsTo, follows_bind, follows_seen, follows_give, follows_sound, follows_known, follows_less, follows_mask}
 use Rattle.lowered_runs.proofs.Exprs.{CellIs, follows_literal, follows_routine, follows_unary, follows_binary}
 use Rattle.lowered_runs.proofs.Sets.{follows_same, follows_contained, follows_element, follows_range, follows_byte, follows_compared}
@@ -169,7 +169,7 @@ module _ (w : Whole) (l : Level) (right : Right w) (apart : Apart l) (vars : Var
   p = w.program
 
   abbrev lay : Layout
-  lay = layout w l
+  lay = layout p.types
 
   abbrev mine : Here
   mine = here w l

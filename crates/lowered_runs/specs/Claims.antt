@@ -11,7 +11,7 @@ use Rattle.ob_types.specs.Meaning.{texts_of, meaning}
 use Rattle.ob_types.specs.WellFormed.{is_empty, well_formed}
 use Rattle.ob_types.specs.declared.program.Program.{Program}
 use Rattle.ssa_core.specs.Procedures.{procedures}
-use Rattle.ssa_lowered.specs.Data.{in_cells, globals_room}
+use Rattle.ssa_lowered.specs.Data.{layout, globals_room}
 use Rattle.ssa_lowered.specs.Constants.{constants as own_constants}
 use Rattle.ssa_lowered.specs.Lowered.{lowered}
 use Rattle.lowered_runs.specs.Words.{same_trap, AreInput}
@@ -21,11 +21,11 @@ abbrev pub code_of : Program → List Procedure
 code_of p = procedures (lowered p)
 
 abbrev pub data_bytes : Program → ℕ
-data_bytes p = globals_room p (in_cells p.types)
+data_bytes p = globals_room p (layout p.types)
 
 -- the bytes of its record types' descriptors and of its strings
 abbrev pub constants_of : Program → List ℕ
-constants_of p = own_constants p (in_cells p.types) data_base
+constants_of p = own_constants p (layout p.types) data_base
 
 -- it has record types or strings
 abbrev pub has_constants : Program → Bool

@@ -23,7 +23,7 @@ use Rattle.ob_types.specs.declared.program.Procedure.{Procedure}
 use Rattle.ob_types.specs.declared.program.Program.{Program}
 use Rattle.ob_types.proofs.Tests.{none_some, and_of}
 use Rattle.ob_types.proofs.WellFormedParts.{Parts, parts_of}
-use Rattle.ssa_lowered.specs.Data.{Layout, in_cells}
+use Rattle.ssa_lowered.specs.Data.{Layout, layout}
 use Rattle.ssa_lowered.specs.Limits.{Limit, or_else, passes, at_procedure, limit_in, limits_from, limit_by, limit_of, passed, global_cells, constant_cells}
 use Rattle.ssa_lowered.specs.Pieces.{Start, Piece, Appends, Closes, blocks_of}
 use Rattle.ssa_lowered.specs.Variables.{words_of}
@@ -208,4 +208,4 @@ pub valid_all : (p : Program) (l : Layout) → CanBeLowered l p → All IsValid 
 valid_all p l can = both_all IsShort IsValid (lowered_by l p) (all_within l p (λ x. IsShort x → IsValid x) can.within.limits (valid l p can.within)) can.short
 
 pub small_valid : (p : Program) → well_formed p ≡ true → limit_of p ≡ None → All IsSmall p.procedures → All IsValid (lowered p)
-small_valid p fine limits small = valid_all p (in_cells p.types) (record { within = record { narrow = cells_narrow p.types; fine = fine; limits = limits }; short = short_all p (in_cells p.types) small })
+small_valid p fine limits small = valid_all p (layout p.types) (record { within = record { narrow = cells_narrow p.types; fine = fine; limits = limits }; short = short_all p (layout p.types) small })

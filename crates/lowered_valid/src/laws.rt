@@ -85,7 +85,7 @@ pub fn lowered_procedures_are_valid()
     ensures some { Box (Unit {0}) Heap → Vec (Unit {0}) Heap → (p : Program) × CanBeLowered (in_cells p.types) p × CanBeLowered (packed p.types) p }
 {}
 
-/// The procedures of a program that passes no limit have at most 4,000 values each.
+/// The procedures of a program that passes no limit have no more values each than a procedure may have.
 pub fn values_are_few()
     ensures { (p : Program) → limit_of p ≡ None → All HasFewValues (lowered p) }
 {}

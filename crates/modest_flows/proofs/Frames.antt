@@ -4,6 +4,7 @@ use Rattle.std.specs.Prelude.{nat_lt, nat_le, max, min, is_some}
 use Rattle.std.specs.List.{list_all}
 use Rattle.std.proofs.lemmas.Bool.{ltb-true, eqb-true}
 use Rattle.std.proofs.lemmas.Bool.Decides.{nat_tests}
+use Rattle.size_limits.specs.Limits.{most_values}
 use Rattle.run_laws.specs.Layers.{places_from}
 use Rattle.block_runs.specs.declared.end.End.{End}
 use Rattle.block_runs.specs.declared.end.End.TheVariants.{Jump, Branch, Nonzero, Return, Trap}
@@ -35,7 +36,6 @@ use Rattle.linked_flows.proofs.Nodes.{sound_node}
 use Rattle.link_blocks.specs.Fits.{most_outs}
 use Rattle.link_blocks.proofs.Made.{blocks_of, one_block}
 use Rattle.link_blocks.proofs.Outs.{slots_few}
-use Rattle.modest_flows.specs.Modest.{most_values}
 use Rattle.modest_flows.proofs.Lows.{SpotLow, CopiesLow, MovesLow, low_append, order_low, edge_low}
 use Rattle.modest_flows.proofs.Lives.{start_low, argument_low, and_left, and_right}
 

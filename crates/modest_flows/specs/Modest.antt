@@ -1,12 +1,9 @@
 -- Flows that are small enough for instructions.
-use Rattle.std.specs.Prelude.{◌≡◌, ℕ, ◌<◌, ◌≤◌, true}
+use Rattle.std.specs.Prelude.{◌≡◌, ◌<◌, ◌≤◌, true}
 use Rattle.std.specs.List.{list_all}
+use Rattle.size_limits.specs.Limits.{most_values}
 use Rattle.lir_core.specs.declared.flow.Flow.{Flow}
 use Rattle.link_blocks.specs.Fits.{trap_fits}
-
--- so many values of a procedure have their homes in a frame
-abbrev pub most_values : ℕ
-most_values = 4000
 
 -- few values, few local data, and traps whose kinds have 16 bits
 pub record IsModest (f : Flow) : Type 0 where

@@ -1,6 +1,7 @@
 //! The laws that the layers above cite.
 
 ghost use Rattle.std.specs.Prelude.{ℕ, ◌+◌, ◌≤◌};
+ghost use Rattle.size_limits.specs.Limits.{most_values};
 ghost use Rattle.trace_build.specs.Cuts.{lists_of, AllTraces};
 ghost use Rattle.boundary_resolve.specs.Edges.{AreSound};
 ghost use Rattle.placed_code.specs.Words.{slots_of};
@@ -8,10 +9,10 @@ ghost use Rattle.placed_code.specs.Results.{placed};
 ghost use Rattle.linked_flows.specs.Allocations.{Cut, steps_of, allocated};
 ghost use Rattle.link_blocks.specs.Fits.{most_outs};
 ghost use Rattle.link_blocks.specs.Laid.{Fits};
-ghost use Rattle.modest_flows.specs.Modest.{most_values, IsModest};
+ghost use Rattle.modest_flows.specs.Modest.{IsModest};
 
-/// With sound results, the frame of a flow of at most 4,000 values has at most 4,021 slots: one for each value, 20 for
-/// arguments, and the link's.
+/// With sound results, the frame of a flow that has no more values than a procedure may have has a slot for each of these at most,
+/// 20 for arguments, and the link's.
 pub fn small_flows_have_small_frames()
     ensures { (k : ℕ) (c : Cut) → AreSound k c.flow c.traces c.outs → AllTraces c.flow (lists_of c.traces) → c.flow.values ≤ most_values
         → slots_of (placed steps_of (allocated c)) ≤ most_outs + (1 + most_values) }

@@ -11,7 +11,7 @@ use Rattle.ssa_core.specs.declared.procedure.Op.{Op}
 use Rattle.ssa_core.specs.declared.procedure.Block.{Block}
 use Rattle.ssa_core.specs.declared.procedure.Proc.{Proc}
 use Rattle.ssa_core.specs.Procedures.{code_blocks}
-use Rattle.ssa_lowered.specs.Data.{Layout, in_cells}
+use Rattle.ssa_lowered.specs.Data.{Layout, layout}
 use Rattle.ssa_lowered.specs.Pieces.{Start, Piece, Appends, Closes, blocks_of}
 use Rattle.ssa_lowered.specs.Variables.{words_of}
 use Rattle.ssa_lowered.specs.Lowered.{here_of, zeroed_bytes, made_of, proc_of, procs_from, entry, at_entry, lowered}
@@ -91,7 +91,7 @@ kinds_from p l f [] = All-nil HasKinds
 kinds_from p l f (q ∷ qs) = All-cons HasKinds (proc_of p l f q) (procs_from p l (suc f) qs) (of_selected (proc_of p l f q) (of_proc p l f q)) (kinds_from p l (suc f) qs)
 
 pub all_kinds : (p : Program) → All HasKinds (lowered p)
-all_kinds p = kinds_from p (in_cells p.types) 0 p.procedures
+all_kinds p = kinds_from p (layout p.types) 0 p.procedures
 
 pub is_modest : (p : Proc) → HasFewValues p → HasSmallData p → HasKinds p → IsModest (selected p)
 is_modest p few small kinds = let bytes = small.bytes in record { values = few; local_bytes = omega (arith, bytes); kinds = kinds }

@@ -18,7 +18,7 @@ first_form (x ∷ xs) lt = (x, refl)
 some_form : (s : DataTree) → 0 < tree_cells s → 0 < length (tree_forms s)
 some_form s some = let e = cells_forms s in omega (arith, e, some)
 
-variable_fits : (packed : Bool) (ks : List DataTree) (v c o : ℕ) (s : DataTree) → VariableNode packed ks v c o s → (k : DataTree) × (slice_get ks v ≡ Some k) × (o + tree_bytes packed s ≤ tree_bytes packed k)
+pub variable_fits : (packed : Bool) (ks : List DataTree) (v c o : ℕ) (s : DataTree) → VariableNode packed ks v c o s → (k : DataTree) × (slice_get ks v ≡ Some k) × (o + tree_bytes packed s ≤ tree_bytes packed k)
 variable_fits packed [] v c o s a = absurd a
 variable_fits packed (k ∷ ks) zero c o s a = (k, refl, node_bytes packed k c o s a)
 variable_fits packed (k ∷ ks) (suc v) c o s a = variable_fits packed ks v a.0 o s a.1

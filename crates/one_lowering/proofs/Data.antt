@@ -14,7 +14,7 @@ use Rattle.ob_types.specs.declared.program.Procedure.{Procedure}
 use Rattle.ob_types.specs.declared.program.Program.{Program}
 use Rattle.ob_types.proofs.Tests.{and_of, and_from, all_at}
 use Rattle.ssa_lowered.specs.Data
-use Rattle.ssa_lowered.specs.Data.{in_cells, rounded, globals_room, global_at, descriptor_at, text_at}
+use Rattle.ssa_lowered.specs.Data.{layout, rounded, globals_room, global_at, descriptor_at, text_at}
 use Rattle.ob_judge.specs.Shapes.{Shape}
 use Rattle.ob_judge.specs.Image as I
 use Rattle.judged_tree.specs.TypeShapes.{shape_of}
@@ -98,16 +98,16 @@ module _ (p : Program) (well : well_formed p ≡ true) (sources : List (List ℕ
 
   -- ---- modules' variables
 
-  rooms_same : (ks : List ℕ) → AllClosed ks → Data.room_of_all (in_cells p.types) ks ≡ rooms facts (map shape ks)
+  rooms_same : (ks : List ℕ) → AllClosed ks → Data.room_of_all (layout p.types) ks ≡ rooms facts (map shape ks)
   rooms_same ks h = ap sum (of_shapes (λ k. rounded (8 * cells p.types k)) (λ s. room facts s) (λ k c. ap (λ n. rounded n) (size_same k c)) ks h)
 
   modules_same : (n : ℕ) (ms : List Module) → all (λ (y : I.Module). all is_closed y.variables) (map (plain_module p.types sources) ms) ≡ true
-      → sum_by (λ (y : Module). Data.room_of_all (in_cells p.types) y.variables) (take n ms) ≡ sum_by (λ (y : I.Module). rooms facts y.variables) (take n (map (plain_module p.types sources) ms))
+      → sum_by (λ (y : Module). Data.room_of_all (layout p.types) y.variables) (take n ms) ≡ sum_by (λ (y : I.Module). rooms facts y.variables) (take n (map (plain_module p.types sources) ms))
   modules_same zero ms h = refl
   modules_same (suc n) [] h = refl
   modules_same (suc n) (m ∷ ms) h =
       let b = and_of (all is_closed (map shape m.variables)) (all (λ (y : I.Module). all is_closed y.variables) (map (plain_module p.types sources) ms)) h in
-      sum_by-cons (λ (y : Module). Data.room_of_all (in_cells p.types) y.variables) m (take n ms)
+      sum_by-cons (λ (y : Module). Data.room_of_all (layout p.types) y.variables) m (take n ms)
       ∙ ap₂ (λ u v. u + v) (rooms_same m.variables b.0) (modules_same n ms b.1)
       ∙ sym (sum_by-cons (λ (y : I.Module). rooms facts y.variables) (plain_module p.types sources m) (take n (map (plain_module p.types sources) ms)))
 
@@ -122,16 +122,16 @@ module _ (p : Program) (well : well_formed p ≡ true) (sources : List (List ℕ
       subst (λ ss. all is_closed ss ≡ true) (sym (variables_same m))
       (all_index (λ (y : I.Module). all is_closed y.variables) (map (plain_module p.types sources) p.modules) no_module closed.variables refl m)
 
-  pub global_same : (m v : ℕ) → global_at p (in_cells p.types) m v ≡ global_place facts m v
+  pub global_same : (m v : ℕ) → global_at p (layout p.types) m v ≡ global_place facts m v
   global_same m v =
       let ks = globals_of p m in
       let before = rooms_same (take v ks) (take_closed v ks (variables_closed m)) ∙ ap (λ ss. rooms facts ss) (sym (take_map shape v ks) ∙ ap (λ ss. take v ss) (variables_same m)) in
       ap₂ (λ u w. 8 + (u + w)) (modules_same m p.modules closed.variables) before
 
-  pub globals_same : globals_room p (in_cells p.types) ≡ all_globals facts
+  pub globals_same : globals_room p (layout p.types) ≡ all_globals facts
   globals_same = ap (λ n. 8 + n) (modules_same (length p.modules) p.modules closed.variables ∙ ap (λ n. modules_room facts n) (sym (length-map p.modules (plain_module p.types sources))))
 
-  pub descriptor_same : (r : ℕ) → descriptor_at p (in_cells p.types) r ≡ descriptor_place facts r
+  pub descriptor_same : (r : ℕ) → descriptor_at p (layout p.types) r ≡ descriptor_place facts r
   descriptor_same r = ap (λ n. n + 128 * r) globals_same
 
   -- their cells
@@ -152,13 +152,13 @@ module _ (p : Program) (well : well_formed p ≡ true) (sources : List (List ℕ
   pub records_many : length p.types.records ≡ length (plain_program sources (numbered p)).records
   records_many = sym (length-map p.types.records (plain_record p.types))
 
-  pub text_same : (k : ℕ) → text_at p (in_cells p.types) k ≡ string_place facts k
+  pub text_same : (k : ℕ) → text_at p (layout p.types) k ≡ string_place facts k
   text_same k =
       ap₂ (λ u xs. u + sum_by (λ (cs : List ℕ). rounded (8 * suc (length cs))) (take k xs))
       (descriptor_same (length p.types.records) ∙ ap (λ n. descriptor_place facts n) records_many)
       strings_same
 
-  pub use_same : (f k : ℕ) → text_at p (in_cells p.types) (text_number p f k) ≡ use_place facts f k
+  pub use_same : (f k : ℕ) → text_at p (layout p.types) (text_number p f k) ≡ use_place facts f k
   use_same f k =
       text_same (text_number p f k)
       ∙ ap (λ xs. string_place facts (length xs + k)) (sym (flat_of_map (λ (q : Procedure). q.texts) (take f p.procedures)) ∙ ap (λ yss. flat_map (λ ys. ys) yss) (sym (take_map (λ (q : Procedure). q.texts) f p.procedures)))

@@ -23,7 +23,7 @@ use Rattle.ob_types.specs.Layout.{signature_of}
 use Rattle.ob_types.specs.WellFormed
 use Rattle.ob_types.specs.WellFormed.{Named as Thing, Of, Characters, provided, with_some, holds_of, gives_number, gives_pointer, is_number, is_writable}
 use Rattle.ob_types.proofs.Tests.{no, and_of}
-use Rattle.ssa_lowered.specs.Data.{in_cells, within, global_at, descriptor_at, text_at}
+use Rattle.ssa_lowered.specs.Data.{layout, within, global_at, descriptor_at, text_at}
 use Rattle.ssa_lowered.specs.Pieces.{Low, ◌>>=◌}
 use Rattle.ssa_lowered.specs.Control.{fork_and, fork_or, Lowers, valued, tested}
 use Rattle.ssa_lowered.specs.Values.{Named, data_at, element, field, dereferenced, narrowed, binary, texts_compared, guarded, contained, with_element, with_range, is_pointer, is_tag, tag_of, as_byte, length_of, by_word, address, by_record, by_open, also, call, call_at, with_result, home_of, load}
@@ -42,12 +42,12 @@ use Rattle.one_lowering.proofs.Sound.{AreClosed, SoundIf, sound_base, sound_sele
 -- a program says what is asked of it in a procedure
 pub record Answers (p : Program) (here : Here) (a : Asked) : Type 0 where
   pub level : (r : ℕ) → (record_of p.types r).level ≡ a.level r
-  pub descriptor : (r : ℕ) → within (descriptor_at p (in_cells p.types) r) ≡ a.descriptor r
-  pub global : (m v : ℕ) → global_at p (in_cells p.types) m v ≡ a.global m v
-  pub text : (k : ℕ) → within (text_at p (in_cells p.types) (text_number p here.number k)) ≡ a.text k
-  pub parameter : (k : ℕ) → Lowered.parameter p (in_cells p.types) here k ≡ a.parameter k
-  pub local : (x : ℕ) → local_by p (in_cells p.types) here (variable_of p (in_cells p.types) here x).site x ≡ a.local x
-  pub register : (x : ℕ) → in_register p (in_cells p.types) here (variable_of p (in_cells p.types) here x).site ≡ a.register x
+  pub descriptor : (r : ℕ) → within (descriptor_at p (layout p.types) r) ≡ a.descriptor r
+  pub global : (m v : ℕ) → global_at p (layout p.types) m v ≡ a.global m v
+  pub text : (k : ℕ) → within (text_at p (layout p.types) (text_number p here.number k)) ≡ a.text k
+  pub parameter : (k : ℕ) → Lowered.parameter p (layout p.types) here k ≡ a.parameter k
+  pub local : (x : ℕ) → local_by p (layout p.types) here (variable_of p (layout p.types) here x).site x ≡ a.local x
+  pub register : (x : ℕ) → in_register p (layout p.types) here (variable_of p (layout p.types) here x).site ≡ a.register x
   pub size : (k : ℕ) → is_closed (shape_of p.types k) ≡ true → 8 * cells p.types k ≡ a.size (shape_of p.types k)
   pub whole : (r : ℕ) → record_cells p.types r ≡ a.whole r
   pub place : (r i : ℕ) → 8 * field_place p.types r i ≡ a.place r i
@@ -120,7 +120,7 @@ module _ (p : Program) (here : Here) (a : Asked) (answers : Answers p here a) (c
   through_part suit (Exactly g) h = no h
 
   -- where a designator begins
-  same_base : (b : Base) → Is (WellFormed.base_named p f b) → Lowered.based p (in_cells p.types) here b ≡ low_place a (plain_base p.types uses b)
+  same_base : (b : Base) → Is (WellFormed.base_named p f b) → Lowered.based p (layout p.types) here b ≡ low_place a (plain_base p.types uses b)
   same_base Done h = refl
   same_base (Global m v) h = ap (λ n. data_at n) (answers.global m v)
   same_base (Local x) h = answers.local x
@@ -134,14 +134,14 @@ module _ (p : Program) (here : Here) (a : Asked) (answers : Answers p here a) (c
       zero_plus n = omega arith
 
   -- guards, the first innermost
-  same_guards : (rs : List ℕ) (x : Low ℕ) (y : I.Expr) → valued x ≡ low_expr a y → valued (all_guarded p (in_cells p.types) here rs x) ≡ low_expr a (Plain.guarded rs y)
+  same_guards : (rs : List ℕ) (x : Low ℕ) (y : I.Expr) → valued x ≡ low_expr a y → valued (all_guarded p (layout p.types) here rs x) ≡ low_expr a (Plain.guarded rs y)
   same_guards [] x y e = e
   same_guards (r ∷ rs) x y e =
-      same_guards rs (guarded x (within (descriptor_at p (in_cells p.types) r)) (record_of p.types r).level) (I.Guard y r)
+      same_guards rs (guarded x (within (descriptor_at p (layout p.types) r)) (record_of p.types r).level) (I.Guard y r)
       (λ k. valued (guarded (e k).value (answers.descriptor r k) (answers.level r k)))
 
-  same_loaded : (d : Designator) → named p (in_cells p.types) here d ≡ low_named a (plain_designator p.types uses d)
-      → valued (load (home_of (named p (in_cells p.types) here d) false)) ≡ low_expr a (I.Load (plain_designator p.types uses d))
+  same_loaded : (d : Designator) → named p (layout p.types) here d ≡ low_named a (plain_designator p.types uses d)
+      → valued (load (home_of (named p (layout p.types) here d) false)) ≡ low_expr a (I.Load (plain_designator p.types uses d))
   same_loaded d e = λ k. valued (load (home_of (e k) false))
 
   pub length_same : (d : Designator) → length_of_kind (kind_in d) ≡ length_in (plain_designator p.types uses d)
@@ -153,18 +153,18 @@ module _ (p : Program) (here : Here) (a : Asked) (answers : Answers p here a) (c
   record_same (Part' _ b kind _ row) = same_record p.types kind
 
   mutual
-    pub same_expr : (x : Expr) → Sensible x → expr p (in_cells p.types) here x ≡ low_expr a (plain_expr p.types uses x)
+    pub same_expr : (x : Expr) → Sensible x → expr p (layout p.types) here x ≡ low_expr a (plain_expr p.types uses x)
     same_expr (Literal n) h = refl
     same_expr (Routine g) h = refl
     same_expr (Load d) h = same_loaded d (same_named d (with_is (WellFormed.named p f d) (WellFormed.scalar_in p) h))
     same_expr (Guard' _ d rs) h =
         let o = with_some (WellFormed.named p f d) (WellFormed.scalar_in p) in
-        same_guards rs (load (home_of (named p (in_cells p.types) here d) false)) (I.Load (plain_designator p.types uses d))
+        same_guards rs (load (home_of (named p (layout p.types) here d) false)) (I.Load (plain_designator p.types uses d))
         (same_loaded d (same_named d (with_is (WellFormed.named p f d) (WellFormed.scalar_in p) (guarded_is p f rs o h))))
     same_expr (Unary' op _ x) h =
         ap (λ y. one_of op y) (same_expr x (holds_is is_number (WellFormed.form p f x) (of_provided (gives_number (WellFormed.form p f x)) (Some (WellFormed.unary_form op)) h).0))
     same_expr (Chain' _ x _ links) h =
-        same_linked links (WellFormed.form p f x) h (expr p (in_cells p.types) here x) (plain_expr p.types uses x) (same_expr x (linked_is p f links (WellFormed.form p f x) h))
+        same_linked links (WellFormed.form p f x) h (expr p (layout p.types) here x) (plain_expr p.types uses x) (same_expr x (linked_is p f links (WellFormed.form p f x) h))
     same_expr (Compare' r _ x _ y) h =
         let b = of_with (WellFormed.form p f x) (λ b. with_some (WellFormed.form p f y) (λ c. provided (WellFormed.comparable r b c) (Some Truth))) h in
         let i = with_is (WellFormed.form p f x) (λ b. with_some (WellFormed.form p f y) (λ c. provided (WellFormed.comparable r b c) (Some Truth))) h in
@@ -199,35 +199,35 @@ module _ (p : Program) (here : Here) (a : Asked) (answers : Answers p here a) (c
     same_expr (Call' _ c) h = ap (λ u. valued (with_result u)) (same_called c (of_provided (WellFormed.call_suits p f c) (WellFormed.call_form p f c) h).0)
 
     same_linked : {m : _} (row : Row_of-Link m) (o : Option Form) → Is (WellFormed.linked_form p f row o) → (x : Lowers) (y : I.Expr) → x ≡ low_expr a y
-        → linked p (in_cells p.types) here row x ≡ low_expr a (plain_links p.types uses row y)
+        → linked p (layout p.types) here row x ≡ low_expr a (plain_links p.types uses row y)
     same_linked end_of-Link o h x y e = e
     same_linked (more_of-Link k more) o h x y e =
-        same_linked more (WellFormed.link_form p f k o) h (link p (in_cells p.types) here k x) (I.Linked y (plain_link p.types uses k))
+        same_linked more (WellFormed.link_form p f k o) h (link p (layout p.types) here k x) (I.Linked y (plain_link p.types uses k))
         (same_link k o (linked_is p f more (WellFormed.link_form p f k o) h) x ∙ ap (λ z. low_link a (plain_link p.types uses k) z) e)
 
-    same_link : (k : Link) (o : Option Form) → Is (WellFormed.link_form p f k o) → (x : Lowers) → link p (in_cells p.types) here k x ≡ low_link a (plain_link p.types uses k) x
+    same_link : (k : Link) (o : Option Form) → Is (WellFormed.link_form p f k o) → (x : Lowers) → link p (layout p.types) here k x ≡ low_link a (plain_link p.types uses k) x
     same_link (Operate op y) o h x = ap (λ v. valued (binary op x.value v.value)) (same_expr y (operand_is p f op y o h))
     same_link (AndLink y) o h x = ap (λ v. tested (fork_and x.test v.test)) (same_expr y (condition_is p f y o h))
     same_link (OrLink y) o h x = ap (λ v. tested (fork_or x.test v.test)) (same_expr y (condition_is p f y o h))
     same_link (Element y) o h x = ap (λ v. valued (with_element x.value v.value)) (same_expr y (element_is p f y o h))
     same_link (Elements' b y c z) o h x = let r = elements_are p f b y c z o h in ap₂ (λ u v. valued (with_range x.value u.value v.value)) (same_expr y r.0) (same_expr z r.1)
 
-    pub same_named : (d : Designator) → Nameable d → named p (in_cells p.types) here d ≡ low_named a (plain_designator p.types uses d)
+    pub same_named : (d : Designator) → Nameable d → named p (layout p.types) here d ≡ low_named a (plain_designator p.types uses d)
     same_named (Whole b k) h = same_base b (with_is (WellFormed.base_named p f b) (WellFormed.of_kind p k) h)
     same_named (Part' _ b k _ row) h =
         let base = WellFormed.base_named p f b in
         let all = with_is (WellFormed.selected_named p f row base) (WellFormed.of_kind p k) h in
-        same_selected row base (sound_base p f closed b) all (Lowered.based p (in_cells p.types) here b) (plain_base p.types uses b) (same_base b (selected_is p f row base all))
+        same_selected row base (sound_base p f closed b) all (Lowered.based p (layout p.types) here b) (plain_base p.types uses b) (same_base b (selected_is p f row base all))
 
     same_selected : {m : _} (row : Row_of-Selector m) (o : Option Thing) → SoundIf p o → Is (WellFormed.selected_named p f row o) → (d : Low Named) (place : I.Place) → d ≡ low_place a place
-        → selected p (in_cells p.types) here row d ≡ low_place a (plain_selectors p.types uses row place)
+        → selected p (layout p.types) here row d ≡ low_place a (plain_selectors p.types uses row place)
     same_selected end_of-Selector o sound h d place e = e
     same_selected (more_of-Selector s more) o sound h d place e =
-        same_selected more (WellFormed.select_named p f s o) (sound_select p f closed s o sound) h (select p (in_cells p.types) here s d) (plain_selector p.types uses s place)
+        same_selected more (WellFormed.select_named p f s o) (sound_select p f closed s o sound) h (select p (layout p.types) here s d) (plain_selector p.types uses s place)
         (same_select s o sound (selected_is p f more (WellFormed.select_named p f s o) h) d place e)
 
     same_select : (s : Selector) (o : Option Thing) → SoundIf p o → Is (WellFormed.select_named p f s o) → (d : Low Named) (place : I.Place) → d ≡ low_place a place
-        → select p (in_cells p.types) here s d ≡ low_place a (plain_selector p.types uses s place)
+        → select p (layout p.types) here s d ≡ low_place a (plain_selector p.types uses s place)
     same_select (Index n e x) None sound h d place i = no h
     same_select (Index n e x) (Some t) sound h d place i =
         let last = provided (gives_number (WellFormed.form p f x)) (Some (Of e (is_writable t))) in
@@ -240,7 +240,7 @@ module _ (p : Program) (here : Here) (a : Asked) (answers : Answers p here a) (c
         ap (λ u. dereferenced u.value) (same_guards rs (load (home_of d false)) (pointer_at place) (λ k. valued (load (home_of (i k) false))))
     same_select (Narrow r) o sound h d place i = λ k. narrowed (i k) (answers.descriptor r k) (answers.level r k)
 
-    pub same_called : (c : CallForm) → WellFormed.call_suits p f c ≡ true → called p (in_cells p.types) here c ≡ low_call a (plain_call p.types uses c)
+    pub same_called : (c : CallForm) → WellFormed.call_suits p f c ≡ true → called p (layout p.types) here c ≡ low_call a (plain_call p.types uses c)
     same_called (Direct' g _ row) h =
         let formals = (procedure_of p g).formals in
         ap (λ u. call g u) (same_arguments row formals (and_of (WellFormed.callable p g) (WellFormed.all_suit p f row formals) h).1)
@@ -251,7 +251,7 @@ module _ (p : Program) (here : Here) (a : Asked) (answers : Answers p here a) (c
         let it = same_named d (with_is (WellFormed.named p f d) (WellFormed.scalar_in p) (holds_is (WellFormed.suits_through p (WellFormed.all_suit p f row)) o h)) in
         ap₂ (λ u v. call_at (load (home_of u false)) v) it (same_arguments row (signature_of p.types k.0).formals k.1)
 
-    same_argument : (x : Argument) (y : Formal) → WellFormed.argument_suits p f x y ≡ true → argument p (in_cells p.types) here x ≡ low_argument a (plain_argument p.types uses x)
+    same_argument : (x : Argument) (y : Formal) → WellFormed.argument_suits p f x y ≡ true → argument p (layout p.types) here x ≡ low_argument a (plain_argument p.types uses x)
     same_argument (ByValue e) y h = ap (λ u. by_word u.value) (same_expr e (value_part y.mode (WellFormed.form p f e) (WellFormed.form_of p y.type_number) h))
     same_argument (ByPlace d) y h = ap (λ u. by_word (address u)) (same_named d (place_part y.mode y.type_number y.variable (WellFormed.named p f d) h))
     same_argument (ByRecord d) y h =
@@ -261,7 +261,7 @@ module _ (p : Program) (here : Here) (a : Asked) (answers : Answers p here a) (c
         ap₂ (λ u n. by_open u n) (same_named d (open_part y.mode (WellFormed.open_element (kind_of p.types y.type_number)) y.variable (length_of_kind (kind_in d)) (WellFormed.named p f d) h))
         (length_same d)
 
-    same_arguments : {m : _} (row : Row_of-Argument m) (xs : List Formal) → WellFormed.all_suit p f row xs ≡ true → arguments p (in_cells p.types) here row ≡ low_arguments a (plain_arguments p.types uses row)
+    same_arguments : {m : _} (row : Row_of-Argument m) (xs : List Formal) → WellFormed.all_suit p f row xs ≡ true → arguments p (layout p.types) here row ≡ low_arguments a (plain_arguments p.types uses row)
     same_arguments end_of-Argument xs h = refl
     same_arguments (more_of-Argument x more) [] h = no h
     same_arguments (more_of-Argument x more) (y ∷ ys) h =

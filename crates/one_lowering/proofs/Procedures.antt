@@ -13,7 +13,7 @@ use Rattle.ob_types.specs.declared.program.Procedure.{Procedure}
 use Rattle.ob_types.specs.declared.program.Program.{Program}
 use Rattle.ob_types.proofs.Tests.{and_of, and_from}
 use Rattle.block_runs.specs.declared.end.End.TheVariants.{Return}
-use Rattle.ssa_lowered.specs.Data.{in_cells, within, rounded}
+use Rattle.ssa_lowered.specs.Data.{layout, within, rounded}
 use Rattle.ssa_lowered.specs.Data
 use Rattle.ssa_lowered.specs.Pieces.{give, ◌>>=◌, Mask, rest, blocks_of}
 use Rattle.ssa_lowered.specs.Variables
@@ -61,7 +61,7 @@ module _ (p : Program) (well : well_formed p ≡ true) (sources : List (List ℕ
   abbrev uses : List (List ℕ)
   uses = tally 0 (length (texts_of p.procedures))
 
-  room_same : (k : ℕ) → is_closed (shape k) ≡ true → Data.room (in_cells p.types) k ≡ room x (shape k)
+  room_same : (k : ℕ) → is_closed (shape k) ≡ true → Data.room (layout p.types) k ≡ room x (shape k)
   room_same k h = ap (λ n. rounded n) (size_same p well sources closed k h)
 
   of_sums : (g : ℕ → ℕ) (h : Shape → ℕ) → ((k : ℕ) → is_closed (shape k) ≡ true → g k ≡ h (shape k)) → (ks : List ℕ) → all is_closed (map shape ks) ≡ true → sum_by g ks ≡ sum_by h (map shape ks)
@@ -74,10 +74,10 @@ module _ (p : Program) (well : well_formed p ≡ true) (sources : List (List ℕ
   structured_any [] = refl
   structured_any (k ∷ ks) = ap₂ (λ a b. a || b) (same_structured p.types k) (structured_any ks)
 
-  room_or_none : (k : ℕ) → is_closed (shape k) ≡ true → (if is_structured (kind_of p.types k) then Data.room (in_cells p.types) k else 0) ≡ (if structured_shape (shape k) then room x (shape k) else 0)
+  room_or_none : (k : ℕ) → is_closed (shape k) ≡ true → (if is_structured (kind_of p.types k) then Data.room (layout p.types) k else 0) ≡ (if structured_shape (shape k) then room x (shape k) else 0)
   room_or_none k c = ap₂ (λ (b : Bool) (n : ℕ). if b then n else 0) (same_structured p.types k) (room_same k c)
 
-  scalars_same : (lent : Mask) (ks : List ℕ) → Variables.scalars_lent p.types (in_cells p.types) lent ks ≡ scalars_lent x lent (map shape ks)
+  scalars_same : (lent : Mask) (ks : List ℕ) → Variables.scalars_lent p.types (layout p.types) lent ks ≡ scalars_lent x lent (map shape ks)
   scalars_same lent [] = refl
   scalars_same lent (k ∷ ks) = ap₂ (λ b n. cond (lent 0 && not b) 1 0 + n) (same_structured p.types k) (scalars_same (rest lent) ks)
 
@@ -90,13 +90,13 @@ module _ (p : Program) (well : well_formed p ≡ true) (sources : List (List ℕ
   shaped y = (shape y.0, y.1)
 
   placed_same : (lent : Mask) (a b : ℕ) (ys : List (ℕ × Option ℕ)) → all (λ (y : ℕ × Option ℕ). is_closed (shape y.0)) ys ≡ true
-      → map slot_of (Variables.placed p.types (in_cells p.types) lent a b ys) ≡ placed x lent a b (map shaped ys)
+      → map slot_of (Variables.placed p.types (layout p.types) lent a b ys) ≡ placed x lent a b (map shaped ys)
   placed_same lent a b [] h = refl
   placed_same lent a b (y ∷ ys) h =
       let c = and_of (is_closed (shape y.0)) (all (λ (z : ℕ × Option ℕ). is_closed (shape z.0)) ys) h in
       let there = same_structured p.types y.0 in
-      let bytes = Data.room (in_cells p.types) y.0 in
-      let behind : ℕ → ℕ → List Variable = λ m n. Variables.placed p.types (in_cells p.types) (rest lent) m n ys in
+      let bytes = Data.room (layout p.types) y.0 in
+      let behind : ℕ → ℕ → List Variable = λ m n. Variables.placed p.types (layout p.types) (rest lent) m n ys in
       let variable : Site → Variable = λ s. record { type_number = y.0; word = y.1; site = s } in
       let first = placed_same (rest lent) (a + bytes) b ys c.1 ∙ ap (λ n. placed x (rest lent) (a + n) b (map shaped ys)) (room_same y.0 c.0) in
       let second = placed_same (rest lent) a (b + 8) ys c.1 in
@@ -133,11 +133,11 @@ module _ (p : Program) (well : well_formed p ≡ true) (sources : List (List ℕ
   site_alike (u ∷ vs) zero = refl
   site_alike (u ∷ vs) (suc v) = site_alike vs v
 
-  store_alike : (all : ℕ) (v : Variable) (s : Site) → store_first p.types (in_cells p.types) all v s ≡ store_slot all (slot_of v) s
+  store_alike : (all : ℕ) (v : Variable) (s : Site) → store_first p.types (layout p.types) all v s ≡ store_slot all (slot_of v) s
   store_alike all v Register = refl
   store_alike all v (Memory n) = refl
 
-  stored_alike : (all : ℕ) (vs : List Variable) → stored p.types (in_cells p.types) all vs ≡ store_slots all (map slot_of vs)
+  stored_alike : (all : ℕ) (vs : List Variable) → stored p.types (layout p.types) all vs ≡ store_slots all (map slot_of vs)
   stored_alike all [] = refl
   stored_alike all (v ∷ vs) = ap₂ (λ a b. a >>= λ _. b) (store_alike all v v.site) (stored_alike all vs)
 
@@ -155,14 +155,14 @@ module _ (p : Program) (well : well_formed p ≡ true) (sources : List (List ℕ
     q = procedure_of p f
 
     abbrev here : Here
-    here = here_of p (in_cells p.types) f q
+    here = here_of p (layout p.types) f q
 
     lent_same : lent_in_body q ≡ lent_in x f (form q)
     lent_same = λ k v. body_lends p.types uses v q.body k || answer_lends p.types uses v q.answer k
 
-    zeroed_same : zeroed_bytes p (in_cells p.types) q ≡ zeroed x f (form q)
+    zeroed_same : zeroed_bytes p (layout p.types) q ≡ zeroed x f (form q)
     zeroed_same =
-        of_sums (λ k. if is_structured (kind_of p.types k) then Data.room (in_cells p.types) k else 0) (λ s. if structured_shape s then room x s else 0) room_or_none (locals_of q) (locals_closed p well sources closed f)
+        of_sums (λ k. if is_structured (kind_of p.types k) then Data.room (layout p.types) k else 0) (λ s. if structured_shape s then room x s else 0) room_or_none (locals_of q) (locals_closed p well sources closed f)
         ∙ ap (λ ss. structured_room x ss) (local_shapes_same p well sources closed q)
 
     bytes_same : here.bytes ≡ bytes x f (form q)
@@ -179,21 +179,21 @@ module _ (p : Program) (well : well_formed p ≡ true) (sources : List (List ℕ
         ∙ ap₂ (λ us vs. us ++ vs) (values_same 0 q.formals) (map_map shaped without_word q.locals ∙ sym (map_map shape_alone shape q.locals)) in
         let whole_closed = all_append (λ (y : ℕ × Option ℕ). is_closed (shape y.0)) (value_parameters 0 q.formals) own (values_closed 0 q.formals (formals_closed p well sources closed f))
         (all_of_map (λ (y : ℕ × Option ℕ). is_closed (shape y.0)) without_word q.locals ∙ sym (all_of_map is_closed shape q.locals) ∙ own_closed p well sources closed f) in
-        placed_same (lent_in_body q) 0 (zeroed_bytes p (in_cells p.types) q) list whole_closed
+        placed_same (lent_in_body q) 0 (zeroed_bytes p (layout p.types) q) list whole_closed
         ∙ (λ k. placed x (lent_same k) 0 (zeroed_same k) (shapes k))
 
-    site_same : (v : ℕ) → (Lowered.variable_of p (in_cells p.types) here v).site ≡ site_of x f (form q) v
+    site_same : (v : ℕ) → (Lowered.variable_of p (layout p.types) here v).site ≡ site_of x f (form q) v
     site_same v = site_alike here.variables v ∙ ap (λ vs. (slice_index_or vs v no_slot).site) slots_same
 
-    local_alike : (s : Site) (v : ℕ) → Lowered.local_by p (in_cells p.types) here s v ≡ Whole.local_by here.bytes s v
+    local_alike : (s : Site) (v : ℕ) → Lowered.local_by p (layout p.types) here s v ≡ Whole.local_by here.bytes s v
     local_alike Register v = refl
     local_alike (Memory n) v = refl
 
-    register_alike : (s : Site) → Lowered.in_register p (in_cells p.types) here s ≡ Whole.in_register s
+    register_alike : (s : Site) → Lowered.in_register p (layout p.types) here s ≡ Whole.in_register s
     register_alike Register = refl
     register_alike (Memory n) = refl
 
-    parameter_same : (k : ℕ) → Lowered.parameter p (in_cells p.types) here k ≡ (asked x f (form q)).parameter k
+    parameter_same : (k : ℕ) → Lowered.parameter p (layout p.types) here k ≡ (asked x f (form q)).parameter k
     parameter_same k =
         let words = words_same (take k q.formals) ∙ ap (λ ys. word_count ys) (sym (take_map (plain_formal p.types) k q.formals)) in
         parameter_alike p.types (slice_get q.formals k) (words_of (take k q.formals))
@@ -206,8 +206,8 @@ module _ (p : Program) (well : well_formed p ≡ true) (sources : List (List ℕ
       global = global_same p well sources closed;
       text = λ k. ap (λ n. within n) (use_same p well sources closed f k);
       parameter = parameter_same;
-      local = λ v. local_alike (Lowered.variable_of p (in_cells p.types) here v).site v ∙ (λ k. Whole.local_by (bytes_same k) (site_same v k) v);
-      register = λ v. register_alike (Lowered.variable_of p (in_cells p.types) here v).site ∙ ap (λ s. Whole.in_register s) (site_same v);
+      local = λ v. local_alike (Lowered.variable_of p (layout p.types) here v).site v ∙ (λ k. Whole.local_by (bytes_same k) (site_same v k) v);
+      register = λ v. register_alike (Lowered.variable_of p (layout p.types) here v).site ∙ ap (λ s. Whole.in_register s) (site_same v);
       size = size_same p well sources closed;
       whole = counted_same p well sources closed;
       place = place_same p well sources closed;
@@ -218,13 +218,13 @@ module _ (p : Program) (well : well_formed p ≡ true) (sources : List (List ℕ
         let last = answer_fine p f (form_of p q.result) q.answer in
         and_of (all (fine p f) q.body) last (and_of (all (formal_legal p.types) q.formals) (all (fine p f) q.body && last) (procedures_are_fine p well f there)).1
 
-    body_same : deeds_of p (in_cells p.types) here q.body ≡ low_statements (asked x f (form q)) (form q).body
+    body_same : deeds_of p (layout p.types) here q.body ≡ low_statements (asked x f (form q)) (form q).body
     body_same = same_body p here (asked x f (form q)) answers (are_closed p well sources closed f) q.body parts_fine.0
 
-    answer_same : answer p (in_cells p.types) here q.answer ≡ low_answer (asked x f (form q)) (form q).answer
+    answer_same : answer p (layout p.types) here q.answer ≡ low_answer (asked x f (form q)) (form q).answer
     answer_same = same_answer p here (asked x f (form q)) answers (are_closed p well sources closed f) (form_of p q.result) q.answer parts_fine.1
 
-    whole_same : whole p (in_cells p.types) here (words_of q.formals) (zeroed_bytes p (in_cells p.types) q) ≡ low_whole x f (form q) (word_count (form q).formals)
+    whole_same : whole p (layout p.types) here (words_of q.formals) (zeroed_bytes p (layout p.types) q) ≡ low_whole x f (form q) (word_count (form q).formals)
     whole_same =
         let words = words_same q.formals in
         let some = structured_any q.locals in
@@ -232,7 +232,7 @@ module _ (p : Program) (well : well_formed p ≡ true) (sources : List (List ℕ
         let open_all = opened_alike here.variables ∙ ap (λ vs. open_slots vs) slots_same in
         λ k. further 4 (words k - 4) >>= λ _. zeroing (some k) (bytes_same k) (zeroed_same k) >>= λ _. store k >>= λ _. open_all k >>= λ env. enter env >>= λ _. body_same k >>= λ _. answer_same k
 
-    pub made_same : made_of p (in_cells p.types) f q ≡ low_made x f (form q)
+    pub made_same : made_of p (layout p.types) f q ≡ low_made x f (form q)
     made_same = λ k. whole_same k (at_entry (words_same q.formals k))
 
     pub cells_all : sum (map (λ k. cells p.types k) (locals_of q)) ≡ sum (map (λ s. cells_in x s) (local_shapes (form q)))
@@ -240,7 +240,7 @@ module _ (p : Program) (well : well_formed p ≡ true) (sources : List (List ℕ
         ap sum (of_shapes p well sources closed (λ k. cells p.types k) (λ s. cells_in x s) (cells_same p well sources closed) (locals_of q) (locals_closed p well sources closed f))
         ∙ ap (λ ss. sum (map (λ s. cells_in x s) ss)) (local_shapes_same p well sources closed q)
 
-    pub procedure_same : proc_of p (in_cells p.types) f q ≡ low_procedure x f (form q)
+    pub procedure_same : proc_of p (layout p.types) f q ≡ low_procedure x f (form q)
     procedure_same = λ k. record {
       blocks = blocks_of (entry (words_same q.formals k)) [] (Return (made_same k).result) (made_same k).pieces;
       values = (made_same k).after.values;

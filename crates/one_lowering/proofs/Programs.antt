@@ -10,7 +10,7 @@ use Rattle.ob_types.specs.declared.program.Program.{Program}
 use Rattle.ob_types.specs.Table.{Table}
 use Rattle.ob_types.proofs.Tests.{none_some, some_same}
 use Rattle.ob_judge.specs.Image as I
-use Rattle.ssa_lowered.specs.Data.{in_cells, globals_room}
+use Rattle.ssa_lowered.specs.Data.{layout, globals_room}
 use Rattle.ssa_lowered.specs.Pieces.{numbers}
 use Rattle.ssa_lowered.specs.Constants
 use Rattle.ssa_lowered.specs.Constants.{base_by, ancestor, constants}
@@ -48,11 +48,11 @@ module _ (p : Program) (well : well_formed p ≡ true) (sources : List (List ℕ
       moved : (f i : ℕ) → f + suc i ≡ suc f + i
       moved f i = omega arith
 
-  procedures_same : (f : ℕ) (qs : List Procedure) → AreFrom f qs → procs_from p (in_cells p.types) f qs ≡ low_procedures x f (map (plain_procedure p.types) (map (numbered_procedure (length (texts_of p.procedures))) qs))
+  procedures_same : (f : ℕ) (qs : List Procedure) → AreFrom f qs → procs_from p (layout p.types) f qs ≡ low_procedures x f (map (plain_procedure p.types) (map (numbered_procedure (length (texts_of p.procedures))) qs))
   procedures_same f [] h = refl
   procedures_same f (q ∷ qs) h =
       let b = first_from f q (h 0 q refl) in
-      let first = subst (λ r. proc_of p (in_cells p.types) f r ≡ low_procedure x f (form_of p well sources closed r)) b.0 (procedure_same p well sources closed f b.1) in
+      let first = subst (λ r. proc_of p (layout p.types) f r ≡ low_procedure x f (form_of p well sources closed r)) b.0 (procedure_same p well sources closed f b.1) in
       ap₂ (λ u us. u ∷ us) first (procedures_same (suc f) qs (rest_from f q qs h))
 
   all_from : AreFrom 0 p.procedures
@@ -64,7 +64,7 @@ module _ (p : Program) (well : well_formed p ≡ true) (sources : List (List ℕ
   pub lowered_same : lowered p ≡ low_program (plain_program sources (numbered p)) (map (λ q. q.texts) p.procedures)
   lowered_same = procedures_same 0 p.procedures all_from
 
-  pub data_same : globals_room p (in_cells p.types) ≡ all_globals x
+  pub data_same : globals_room p (layout p.types) ≡ all_globals x
   data_same = globals_same p well sources closed
 
   -- ---- constants
@@ -76,32 +76,32 @@ module _ (p : Program) (well : well_formed p ≡ true) (sources : List (List ℕ
   own_ancestor : (j r : ℕ) → ancestor p.types j r ≡ Whole.ancestor_within x (suc (length x.records)) j r
   own_ancestor j r = ap (λ n. Constants.ancestor_within p.types (suc n) j r) (records_many p well sources closed) ∙ ancestor_same (suc (length x.records)) j r
 
-  address_same : (globals : ℕ) (o : Option ℕ) → Constants.address_of p (in_cells p.types) globals o ≡ Whole.address_of x globals o
+  address_same : (globals : ℕ) (o : Option ℕ) → Constants.address_of p (layout p.types) globals o ≡ Whole.address_of x globals o
   address_same globals None = refl
   address_same globals (Some r) = ap (λ n. globals + n) (descriptor_same p well sources closed r)
 
-  descriptor_bytes_same : (globals r : ℕ) → Constants.descriptor_bytes p (in_cells p.types) globals r ≡ descriptor_bytes x globals r
+  descriptor_bytes_same : (globals r : ℕ) → Constants.descriptor_bytes p (layout p.types) globals r ≡ descriptor_bytes x globals r
   descriptor_bytes_same globals r =
-      let own : (j : ℕ) → Constants.address_of p (in_cells p.types) globals (ancestor p.types j r) ≡ Whole.address_of x globals (Whole.ancestor_within x (suc (length x.records)) j r) =
+      let own : (j : ℕ) → Constants.address_of p (layout p.types) globals (ancestor p.types j r) ≡ Whole.address_of x globals (Whole.ancestor_within x (suc (length x.records)) j r) =
       λ j. address_same globals (ancestor p.types j r) ∙ ap (λ o. Whole.address_of x globals o) (own_ancestor j r) in
       λ k. flat_map (λ j. to_le_bytes w64 (own j k)) (numbers 0 16)
 
-  pub constants_same : (globals : ℕ) → constants p (in_cells p.types) globals ≡ low_constants x globals
+  pub constants_same : (globals : ℕ) → constants p (layout p.types) globals ≡ low_constants x globals
   constants_same globals = λ k.
       flat_map (λ r. descriptor_bytes_same globals r k) (numbers 0 (records_many p well sources closed k)) ++ flat_map string_bytes (strings_same p well sources closed k)
 
   -- ---- limits
 
-  limit_in_same : (f : ℕ) → f < length p.procedures → limit_in p (in_cells p.types) f (procedure_of p f) ≡ low_limit_in x f (form_of p well sources closed (procedure_of p f))
+  limit_in_same : (f : ℕ) → f < length p.procedures → limit_in p (layout p.types) f (procedure_of p f) ≡ low_limit_in x f (form_of p well sources closed (procedure_of p f))
   limit_in_same f l = λ k.
       if nat_lt 1048576 (cells_all p well sources closed f l k) then Some (record { number = 59; index = f })
       else at_procedure f (passed (made_same p well sources closed f l k).pieces)
 
-  limits_same : (f : ℕ) (qs : List Procedure) → AreFrom f qs → limits_from p (in_cells p.types) f qs ≡ low_limits_from x f (map (plain_procedure p.types) (map (numbered_procedure (length (texts_of p.procedures))) qs))
+  limits_same : (f : ℕ) (qs : List Procedure) → AreFrom f qs → limits_from p (layout p.types) f qs ≡ low_limits_from x f (map (plain_procedure p.types) (map (numbered_procedure (length (texts_of p.procedures))) qs))
   limits_same f [] h = refl
   limits_same f (q ∷ qs) h =
       let b = first_from f q (h 0 q refl) in
-      let first = subst (λ r. limit_in p (in_cells p.types) f r ≡ low_limit_in x f (form_of p well sources closed r)) b.0 (limit_in_same f b.1) in
+      let first = subst (λ r. limit_in p (layout p.types) f r ≡ low_limit_in x f (form_of p well sources closed r)) b.0 (limit_in_same f b.1) in
       ap₂ (λ u v. or_else u v) first (limits_same (suc f) qs (rest_from f q qs h))
 
   pub limit_same : limit_of p ≡ low_limit (plain_program sources (numbered p)) (map (λ q. q.texts) p.procedures)

@@ -18,7 +18,7 @@ use Rattle.ob_types.specs.WellFormed
 use Rattle.ob_types.specs.WellFormed.{Named as Thing, Cells, Of, OpenOf, Dynamic, Characters, holds_of, gives_number, gives_pointer, element_by}
 use Rattle.ob_types.proofs.Tests.{no, and_of}
 use Rattle.block_runs.specs.declared.end.End.TheVariants.{Jump, Trap}
-use Rattle.ssa_lowered.specs.Data.{in_cells, rounded}
+use Rattle.ssa_lowered.specs.Data.{layout, rounded}
 use Rattle.ssa_lowered.specs.Pieces.{Low, give, ◌>>=◌, Mask}
 use Rattle.ssa_lowered.specs.Control.{fork_value, choose, loop, repeat, for}
 use Rattle.ssa_lowered.specs.Values.{const, binary, is_pointer, is_tag, tag_of, load, home_of, without_result}
@@ -46,16 +46,16 @@ module _ (p : Program) (here : Here) (a : Asked) (answers : Answers p here a) (c
   abbrev Checks : Checked → Type 0
   Checks x = Is (WellFormed.form p f x.form)
 
-  value_same : (x : Checked) → Checks x → value p (in_cells p.types) here x ≡ low_value a (plain_checked p.types texts x)
+  value_same : (x : Checked) → Checks x → value p (layout p.types) here x ≡ low_value a (plain_checked p.types texts x)
   value_same x h = ap (λ u. u.value) (same_expr p here a answers closed x.form h)
 
-  test_same : (x : Checked) → Checks x → test p (in_cells p.types) here x ≡ low_test a (plain_checked p.types texts x)
+  test_same : (x : Checked) → Checks x → test p (layout p.types) here x ≡ low_test a (plain_checked p.types texts x)
   test_same x h = ap (λ u. u.test) (same_expr p here a answers closed x.form h)
 
-  named_same : (d : Designator) → Nameable p here a answers closed d → named p (in_cells p.types) here d ≡ low_named a (plain_designator p.types texts d)
+  named_same : (d : Designator) → Nameable p here a answers closed d → named p (layout p.types) here d ≡ low_named a (plain_designator p.types texts d)
   named_same d h = same_named p here a answers closed d h
 
-  home_same : (d : Designator) → Nameable p here a answers closed d → home p (in_cells p.types) here d ≡ low_home a (plain_designator p.types texts d)
+  home_same : (d : Designator) → Nameable p here a answers closed d → home p (layout p.types) here d ≡ low_home a (plain_designator p.types texts d)
   home_same d h = ap (λ u. home_of u false) (named_same d h)
 
   lengths : (d : Designator) → length_of_kind (kind_in d) ≡ length_in (plain_designator p.types texts d)
@@ -89,25 +89,25 @@ module _ (p : Program) (here : Here) (a : Asked) (answers : Answers p here a) (c
       let o = open_array p (element_kind kind) d h in
       no (subst (λ y. WellFormed.has_kind p kind y ≡ true) o.2 is)
 
-  registers_same : (m n : Mask) → ((x : ℕ) → m x ≡ n x) → registers p (in_cells p.types) here m ≡ Middle.registers a n
+  registers_same : (m n : Mask) → ((x : ℕ) → m x ≡ n x) → registers p (layout p.types) here m ≡ Middle.registers a n
   registers_same m n e = λ k x. answers.register x k && e x k
 
   -- the tests of a CASE of types
-  tests_same : (is : ℕ → ℕ → ℕ → Low ℕ) (rs : List ℕ) (v : ℕ) → map (λ r. Lowered.type_test p (in_cells p.types) here is v r ∷ []) rs ≡ map (λ r. Middle.type_test a is v r ∷ []) rs
+  tests_same : (is : ℕ → ℕ → ℕ → Low ℕ) (rs : List ℕ) (v : ℕ) → map (λ r. Lowered.type_test p (layout p.types) here is v r ∷ []) rs ≡ map (λ r. Middle.type_test a is v r ∷ []) rs
   tests_same is [] v = refl
   tests_same is (r ∷ rs) v = λ k. (fork_value (is (answers.descriptor r k) (answers.level r k) v) ∷ []) ∷ tests_same is rs v k
 
   -- labels and types of the parts of a CASE
-  same_labels : {m : _} (row : Row_of-CasePart m) → labels_of p (in_cells p.types) here row ≡ Middle.labels_of (plain_case_parts p.types texts row)
+  same_labels : {m : _} (row : Row_of-CasePart m) → labels_of p (layout p.types) here row ≡ Middle.labels_of (plain_case_parts p.types texts row)
   same_labels end_of-CasePart = refl
   same_labels (more_of-CasePart labels _ body more) = ap (λ u. labels ∷ u) (same_labels more)
 
-  same_tags : {m : _} (row : Row_of-TypePart m) → records_of p (in_cells p.types) here row ≡ Middle.records_of (plain_type_parts p.types texts row)
+  same_tags : {m : _} (row : Row_of-TypePart m) → records_of p (layout p.types) here row ≡ Middle.records_of (plain_type_parts p.types texts row)
   same_tags end_of-TypePart = refl
   same_tags (more_of-TypePart r _ body more) = ap (λ u. r ∷ u) (same_tags more)
 
-  type_tests_same : {m : _} (is : ℕ → ℕ → ℕ → Low ℕ) (row : Row_of-TypePart m) → type_tests p (in_cells p.types) here row is ≡ Middle.type_tests a (plain_type_parts p.types texts row) is
-  type_tests_same is row = λ k v. (tests_same is (records_of p (in_cells p.types) here row) v ∙ ap (λ rs. map (λ r. Middle.type_test a is v r ∷ []) rs) (same_tags row)) k
+  type_tests_same : {m : _} (is : ℕ → ℕ → ℕ → Low ℕ) (row : Row_of-TypePart m) → type_tests p (layout p.types) here row is ≡ Middle.type_tests a (plain_type_parts p.types texts row) is
+  type_tests_same is row = λ k v. (tests_same is (records_of p (layout p.types) here row) v ∙ ap (λ rs. map (λ r. Middle.type_test a is v r ∷ []) rs) (same_tags row)) k
 
   copied_size : (d : Designator) → holds_of (WellFormed.may_copy p f (element_kind (kind_in d)) (length_of_kind (kind_in d))) (WellFormed.named p f d) ≡ true
       → 8 * cells p.types (element_kind (kind_in d)) ≡ a.size (element_in (plain_designator p.types texts d))
@@ -122,7 +122,7 @@ module _ (p : Program) (here : Here) (a : Asked) (answers : Answers p here a) (c
       elements_in (Part' _ b kind _ row) = refl
 
   mutual
-    same_deed : (s : Stmt) → WellFormed.fine p f s ≡ true → deed p (in_cells p.types) here s ≡ low_statement a (plain_statement p.types texts s)
+    same_deed : (s : Stmt) → WellFormed.fine p f s ≡ true → deed p (layout p.types) here s ≡ low_statement a (plain_statement p.types texts s)
     same_deed (Assign d x) h =
         let b = of_holds (λ t. WellFormed.is_writable t && WellFormed.given_for p (WellFormed.checked_form p f x) (WellFormed.scalar_in p t)) (WellFormed.named p f d) h in
         let c = and_of (WellFormed.is_writable b.0) (WellFormed.given_for p (WellFormed.checked_form p f x) (WellFormed.scalar_in p b.0)) b.2 in
@@ -164,7 +164,7 @@ module _ (p : Program) (here : Here) (a : Asked) (answers : Answers p here a) (c
     same_deed (If' _ parts _ other) h =
         let b = and_of (WellFormed.fine_branches p f parts) (WellFormed.fine_row p f other) h in
         same_alternatives parts b.0 (assigned_all other) (assigned_statements (plain_statements p.types texts other)) (λ x. assigned_all_same p.types texts x other)
-        (deeds p (in_cells p.types) here other) (low_statements a (plain_statements p.types texts other)) (same_deeds other b.1)
+        (deeds p (layout p.types) here other) (low_statements a (plain_statements p.types texts other)) (same_deeds other b.1)
     same_deed (While' _ parts) h =
         let b = and_of (WellFormed.has_branch parts) (WellFormed.fine_branches p f parts) h in
         let mask = registers_same (assigned_branches parts) (Middle.assigned_branches (plain_branches p.types texts parts)) (λ x. assigned_branches_same p.types texts x parts) in
@@ -213,14 +213,14 @@ module _ (p : Program) (here : Here) (a : Asked) (answers : Answers p here a) (c
         let bodies = same_type_bodies parts b.1 in
         λ k. case_of (mask k) (tag_of (given k)) (tests k) (bodies k) (λ out args. Jump out args)
 
-    same_deeds : {m : _} (row : Row_of-Stmt m) → WellFormed.fine_row p f row ≡ true → deeds p (in_cells p.types) here row ≡ low_statements a (plain_statements p.types texts row)
+    same_deeds : {m : _} (row : Row_of-Stmt m) → WellFormed.fine_row p f row ≡ true → deeds p (layout p.types) here row ≡ low_statements a (plain_statements p.types texts row)
     same_deeds end_of-Stmt h = refl
     same_deeds (more_of-Stmt s more) h =
         let b = and_of (WellFormed.fine p f s) (WellFormed.fine_row p f more) h in
         ap₂ (λ u v. u >>= λ _. v) (same_deed s b.0) (same_deeds more b.1)
 
     same_alternatives : {m : _} (row : Row_of-Branch m) → WellFormed.fine_branches p f row ≡ true → (mask now : Mask) → ((x : ℕ) → mask x ≡ now x) → (other then : Deed) → other ≡ then
-        → alternatives p (in_cells p.types) here row mask other ≡ low_alternatives a (plain_branches p.types texts row) now then
+        → alternatives p (layout p.types) here row mask other ≡ low_alternatives a (plain_branches p.types texts row) now then
     same_alternatives end_of-Branch h mask now e other then g = g
     same_alternatives (more_of-Branch x _ body more) h mask now e other then g =
         let b = and_of (gives_number (WellFormed.checked_form p f x)) (WellFormed.fine_row p f body && WellFormed.fine_branches p f more) h in
@@ -232,7 +232,7 @@ module _ (p : Program) (here : Here) (a : Asked) (answers : Answers p here a) (c
         let rest = same_alternatives more c.1 mask now e other then g in
         λ k. choose (joined k) (first k) (inner k) (rest k)
 
-    same_rounds : {m : _} (row : Row_of-Branch m) → WellFormed.fine_branches p f row ≡ true → guarded_rounds p (in_cells p.types) here row ≡ low_rounds a (plain_branches p.types texts row)
+    same_rounds : {m : _} (row : Row_of-Branch m) → WellFormed.fine_branches p f row ≡ true → guarded_rounds p (layout p.types) here row ≡ low_rounds a (plain_branches p.types texts row)
     same_rounds end_of-Branch h = refl
     same_rounds (more_of-Branch x _ body more) h =
         let b = and_of (gives_number (WellFormed.checked_form p f x)) (WellFormed.fine_row p f body && WellFormed.fine_branches p f more) h in
@@ -242,27 +242,27 @@ module _ (p : Program) (here : Here) (a : Asked) (answers : Answers p here a) (c
         let rest = same_rounds more c.1 in
         λ k. record { test = first k; body = inner k } ∷ rest k
 
-    same_case_bodies : {m : _} (row : Row_of-CasePart m) → WellFormed.fine_case_parts p f row ≡ true → case_bodies p (in_cells p.types) here row ≡ low_bodies a (plain_case_parts p.types texts row)
+    same_case_bodies : {m : _} (row : Row_of-CasePart m) → WellFormed.fine_case_parts p f row ≡ true → case_bodies p (layout p.types) here row ≡ low_bodies a (plain_case_parts p.types texts row)
     same_case_bodies end_of-CasePart h = refl
     same_case_bodies (more_of-CasePart labels _ body more) h =
         let b = and_of (all WellFormed.label_fine labels) (WellFormed.fine_row p f body && WellFormed.fine_case_parts p f more) h in
         let c = and_of (WellFormed.fine_row p f body) (WellFormed.fine_case_parts p f more) b.1 in
         ap₂ (λ u v. u ∷ v) (same_deeds body c.0) (same_case_bodies more c.1)
 
-    same_type_bodies : {m : _} (row : Row_of-TypePart m) → WellFormed.fine_type_parts p f row ≡ true → type_bodies p (in_cells p.types) here row ≡ low_bodies a (plain_type_parts p.types texts row)
+    same_type_bodies : {m : _} (row : Row_of-TypePart m) → WellFormed.fine_type_parts p f row ≡ true → type_bodies p (layout p.types) here row ≡ low_bodies a (plain_type_parts p.types texts row)
     same_type_bodies end_of-TypePart h = refl
     same_type_bodies (more_of-TypePart r _ body more) h =
         let b = and_of (is_record_type p.types r) (WellFormed.fine_row p f body && WellFormed.fine_type_parts p f more) h in
         let c = and_of (WellFormed.fine_row p f body) (WellFormed.fine_type_parts p f more) b.1 in
         ap₂ (λ u v. u ∷ v) (same_deeds body c.0) (same_type_bodies more c.1)
 
-  pub same_body : (ss : List Stmt) → all (WellFormed.fine p f) ss ≡ true → deeds_of p (in_cells p.types) here ss ≡ low_statements a (plain_body p.types texts ss)
+  pub same_body : (ss : List Stmt) → all (WellFormed.fine p f) ss ≡ true → deeds_of p (layout p.types) here ss ≡ low_statements a (plain_body p.types texts ss)
   same_body [] h = refl
   same_body (s ∷ more) h =
       let b = and_of (WellFormed.fine p f s) (all (WellFormed.fine p f) more) h in
       ap₂ (λ u v. u >>= λ _. v) (same_deed s b.0) (same_body more b.1)
 
-  pub same_answer : (o : Option Form) (x : Option Checked) → WellFormed.answer_fine p f o x ≡ true → answer p (in_cells p.types) here x ≡ low_answer a (option_map (plain_checked p.types texts) x)
+  pub same_answer : (o : Option Form) (x : Option Checked) → WellFormed.answer_fine p f o x ≡ true → answer p (layout p.types) here x ≡ low_answer a (option_map (plain_checked p.types texts) x)
   same_answer o None h = refl
   same_answer None (Some x) h = no h
   same_answer (Some form) (Some x) h =

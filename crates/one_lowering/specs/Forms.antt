@@ -8,7 +8,7 @@ use Rattle.ob_types.specs.declared.program.Program.{Program}
 use Rattle.ob_judge.specs.Shapes.{Shape, Nothing, Array, Open}
 use Rattle.ob_judge.specs.Image.{Program as ProgramImage}
 use Rattle.judged_tree.specs.Plain.{plain_program}
-use Rattle.ssa_lowered.specs.Data.{in_cells, globals_room}
+use Rattle.ssa_lowered.specs.Data.{layout, globals_room}
 use Rattle.ssa_lowered.specs.Constants.{constants}
 use Rattle.ssa_lowered.specs.Limits.{limit_of}
 use Rattle.ssa_lowered.specs.Lowered.{lowered}
@@ -61,8 +61,8 @@ place_of x = (x.«module», x.line)
 pub record HaveOneLowering (p q : Program) : Type 0 where
   pub procedures : lowered p ≡ lowered q
   pub places : map place_of p.procedures ≡ map place_of q.procedures
-  pub globals : globals_room p (in_cells p.types) ≡ globals_room q (in_cells q.types)
+  pub globals : globals_room p (layout p.types) ≡ globals_room q (layout q.types)
   -- where the globals start at any address
-  pub constants : (base : ℕ) → constants p (in_cells p.types) base ≡ constants q (in_cells q.types) base
+  pub constants : (base : ℕ) → constants p (layout p.types) base ≡ constants q (layout q.types) base
   pub limit : limit_of p ≡ limit_of q
   pub imports : p.imports_in ≡ q.imports_in

@@ -10,7 +10,7 @@ use Rattle.trace_build.specs.declared.builder.Builder.{Builder}
 use Rattle.placed_code.specs.declared.data.ImageData.{ImageData}
 use Rattle.linked_flows.specs.Allocations.{Cut}
 use Rattle.link_plan.specs.Linked.{linked, Runs}
-use Rattle.modest_flows.specs.Modest.{most_values}
+use Rattle.size_limits.specs.Limits.{most_values}
 use Rattle.alloc_audit.specs.Results.{AreWalked}
 use Rattle.back_end.specs.Numbers.{node_numbers}
 use Rattle.placed_image.specs.Cutting.{AreCutBy}

@@ -11,7 +11,7 @@ use Rattle.ssa_tables.proofs.Limits.{first_within, few_descriptors}
 use Rattle.ssa_tables.proofs.constants.Counted.{constants_length, globals_length}
 use Rattle.ssa_build.proofs.Within.{few_procedures, few_globals, few_constants}
 use Rattle.ssa_core.specs.declared.procedure.Proc.{Proc}
-use Rattle.ssa_lowered.specs.Data.{in_cells}
+use Rattle.ssa_lowered.specs.Data.{layout}
 use Rattle.ssa_lowered.specs.Lowered.{lowered}
 use Rattle.placed_code.specs.declared.data.ProcName.{ProcName}
 use Rattle.placed_code.specs.declared.data.ImageData.{ImageData}
@@ -72,4 +72,4 @@ data_fits_as p none extra is = subst DataFits (sym is) (data_fits p none)
 -- each procedure has a name
 pub all_named : (p : Program) (procs : List Proc) (extra : ImageData) → procs ≡ lowered p → extra ≡ data_of p → length extra.names ≡ length procs
 all_named p procs extra same is =
-    ap (λ (x : ImageData). length x.names) is ∙ names_length p.procedures ∙ sym (lowered_each p (in_cells p.types) 0 p.procedures) ∙ sym (ap (λ (xs : List Proc). length xs) same)
+    ap (λ (x : ImageData). length x.names) is ∙ names_length p.procedures ∙ sym (lowered_each p (layout p.types) 0 p.procedures) ∙ sym (ap (λ (xs : List Proc). length xs) same)

@@ -10,7 +10,7 @@ use Rattle.ob_types.specs.declared.program.Program.{Program}
 use Rattle.ssa_core.specs.declared.procedure.Proc.{Proc}
 use Rattle.ssa_core.specs.Procedures.{code_blocks}
 use Rattle.ssa_core.specs.Validity.{most, IsValid}
-use Rattle.ssa_lowered.specs.Data.{in_cells}
+use Rattle.ssa_lowered.specs.Data.{layout}
 use Rattle.ssa_lowered.specs.Limits.{limit_of}
 use Rattle.ssa_lowered.specs.Lowered.{lowered}
 use Rattle.lowered_valid.specs.Claims.{IsShort, IsNarrow, CanBeLowered}
@@ -38,20 +38,20 @@ are_short p ps same e = are_all (lowered p) (sym (e ∙ ap all_short same))
 
 ---- All that is asked
 
-narrow : (t : Table) → IsNarrow t (in_cells t)
+narrow : (t : Table) → IsNarrow t (layout t)
 narrow t = record { types = λ k. omega arith; fields = λ r field. omega arith }
 
 module _ (p : Program) (fine : well_formed p ≡ true) (none : limit_of p ≡ None) (short : All IsShort (lowered p)) where
-  can_be_lowered : CanBeLowered (in_cells p.types) p
+  can_be_lowered : CanBeLowered (layout p.types) p
   can_be_lowered = record { within = record { narrow = narrow p.types; fine = fine; limits = none }; short = short }
 
   pub valid : All IsValid (lowered p)
-  valid = valid_all p (in_cells p.types) can_be_lowered
+  valid = valid_all p (layout p.types) can_be_lowered
 
   pub ready : All IsReady (lowered p)
   ready k d l =
       let small = all_small p fine none k d l in
-      record { valid = valid k d l; local_data = (small.cells, small.bytes); body = bare_all p (in_cells p.types) fine k d l }
+      record { valid = valid k d l; local_data = (small.cells, small.bytes); body = bare_all p (layout p.types) fine k d l }
 
 pub few_values : (p : Program) → limit_of p ≡ None → All HasFewValues (lowered p)
 few_values p none = all_few p none

@@ -17,7 +17,7 @@ use Rattle.ob_types.specs.declared.program.Program.{Program}
 use Rattle.ob_types.proofs.WellFormedParts.{parts_of}
 use Rattle.ssa_core.specs.declared.procedure.Proc.{Proc}
 use Rattle.ssa_lowered.specs.Constants.{ancestor, address_of, descriptor_bytes, character_bytes, text_bytes}
-use Rattle.ssa_lowered.specs.Data.{Layout, in_cells, text_room}
+use Rattle.ssa_lowered.specs.Data.{Layout, layout, text_room}
 use Rattle.ssa_lowered.specs.Limits.{limit_of}
 use Rattle.ssa_lowered.specs.Lowered.{lowered}
 use Rattle.ssa_lowered.specs.Pieces.{numbers}
@@ -45,7 +45,7 @@ each_bytes f are (x ∷ xs) = append_bytes (f x) (flat_map f xs) (are x) (each_b
 
 module _ (p : Program) where
   abbrev l : Layout
-  l = in_cells p.types
+  l = layout p.types
 
   descriptor_small : (r : ℕ) → AreBytes (descriptor_bytes p l data_base r)
   descriptor_small r = each_bytes (λ j. to_le_bytes w64 (address_of p l data_base (ancestor p.types j r))) (λ j. bytes_of_8 (address_of p l data_base (ancestor p.types j r))) (numbers 0 16)

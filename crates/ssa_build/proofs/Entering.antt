@@ -1,13 +1,13 @@
 -- The loops at a procedure's beginning, step by step.
-use Rattle.std.proofs.Common.{◌≡◌, ℕ, suc, ◌+◌, ◌-◌, ◌<◌, ◌≤◌, List, [], ◌∷◌, map, drop, length, get_or, Bool, true, false, Some, if◌then◌else◌, ap, ◌∙◌, arith}
+use Rattle.std.proofs.Common.{◌≡◌, ℕ, suc, ◌+◌, ◌-◌, ◌<◌, ◌≤◌, List, [], ◌∷◌, map, drop, length, get_or, Bool, true, false, Some, if◌then◌else◌, sym, ap, ◌∙◌, arith}
 use Rattle.std.proofs.lemmas.List.{drop_more}
 use Rattle.std.proofs.Math.ListN.{drop_of_length-le}
-use Rattle.block_runs.specs.declared.code.Code.TheVariants.{Arg, Const, Zero, Store}
+use Rattle.block_runs.specs.declared.code.Code.TheVariants.{Arg, Const, Zero, Store, StoreByte}
 use Rattle.block_runs.specs.declared.code.Code.TheVariants.{Local as LocalAt}
 use Rattle.ob_types.specs.Layout.{kind_of}
 use Rattle.ssa_lowered.specs.Values.{store}
 use Rattle.ob_types.specs.Table.{Table}
-use Rattle.ssa_lowered.specs.Data.{Layout, in_cells}
+use Rattle.ssa_lowered.specs.Data.{Layout, layout}
 use Rattle.ssa_lowered.specs.Pieces.{give, skip, ◌>>=◌, emits, does}
 use Rattle.ssa_lowered.specs.Variables.{further, zeroing, is_structured, first_value, store_first, stored, first_of, opened}
 use Rattle.ssa_exprs.specs.Making.{View, Gives}
@@ -37,11 +37,11 @@ gives_zeroing {a = a} some bytes zeroed is g h k =
     gives_as (ap (λ b. zeroing b bytes zeroed) is)
     (gives_bind (λ x. emits (Const zeroed) [] >>= λ y. does Zero (x ∷ y ∷ [])) g (gives_bind (λ y. does Zero (a ∷ y ∷ [])) h k))
 
-pub gives_stored : {v0 v1 v2 v3 : View} {a u : ℕ} (t : Table) (bytes n : ℕ) (v : Variable) → is_structured (kind_of t v.type_number) ≡ false → v.place ≡ Some n → Gives v0 v1 (emits (LocalAt (bytes - n)) []) a → Gives v1 v2 (first_value v.word) u
-    → Gives v2 v3 (does Store (a ∷ u ∷ [])) tt → Gives v0 v3 (store_first t (in_cells t) bytes (seen v) (site_of v.place)) tt
-gives_stored {a = a} t bytes n v single at g h k =
-    gives_as (ap (λ o. store_first t (in_cells t) bytes (seen v) (site_of o)) at ∙ ap (λ b. if b then skip else (emits (LocalAt (bytes - n)) [] >>= λ x. first_value v.word >>= λ y. store false x y)) single)
-    (gives_bind (λ x. first_value v.word >>= λ y. store false x y) g (gives_bind (λ y. store false a y) h k))
+pub gives_stored : {v0 v1 v2 v3 : View} {a u : ℕ} (t : Table) (bytes n : ℕ) (v : Variable) (small : Bool) → small ≡ (layout t).is_small (kind_of t v.type_number) → is_structured (kind_of t v.type_number) ≡ false → v.place ≡ Some n → Gives v0 v1 (emits (LocalAt (bytes - n)) []) a → Gives v1 v2 (first_value v.word) u
+    → Gives v2 v3 (does (if small then StoreByte else Store) (a ∷ u ∷ [])) tt → Gives v0 v3 (store_first t (layout t) bytes (seen v) (site_of v.place)) tt
+gives_stored {a = a} {u = u} t bytes n v small narrow single at g h k =
+    gives_as (ap (λ o. store_first t (layout t) bytes (seen v) (site_of o)) at ∙ ap (λ b. if b then skip else (emits (LocalAt (bytes - n)) [] >>= λ x. first_value v.word >>= λ y. store ((layout t).is_small (kind_of t v.type_number)) x y)) single ∙ ap (λ s. emits (LocalAt (bytes - n)) [] >>= λ x. first_value v.word >>= λ y. store s x y) (sym narrow))
+    (gives_bind (λ x. first_value v.word >>= λ y. store small x y) g (gives_bind (λ y. store small a y) h k))
 
 pub opened_more : {b x w : View} {more : List ℕ} (vs : List Variable) (i : ℕ) (d : Variable) (u : ℕ) → i < length vs → Gives b x (first_of (get_or vs i d).word (site_of (get_or vs i d).place)) u
     → Gives x w (opened (map seen (drop (i + 1) vs))) more → Gives b w (opened (map seen (drop i vs))) (u ∷ more)

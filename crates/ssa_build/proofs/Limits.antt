@@ -8,7 +8,7 @@ use Rattle.ob_types.specs.Meaning.{locals_of}
 use Rattle.ob_types.specs.declared.program.Procedure.{Procedure}
 use Rattle.ob_types.specs.declared.program.Program.{Program}
 use Rattle.ssa_core.specs.declared.procedure.Proc.{Proc}
-use Rattle.ssa_lowered.specs.Data.{Layout, in_cells}
+use Rattle.ssa_lowered.specs.Data.{Layout, layout}
 use Rattle.ssa_lowered.specs.Limits.{Limit, passed, or_else, at_procedure, passes, global_cells, constant_cells, limit_in, limits_from, limit_of}
 use Rattle.ssa_lowered.specs.Lowered.{made_of, proc_of, procs_from}
 use Rattle.ssa_tables.specs.declared.fault.LowerFault.{LowerFault}
@@ -33,10 +33,10 @@ or_else_on : (a b c : Option Limit) → or_else (or_else a b) c ≡ or_else a (o
 or_else_on None b c = refl
 or_else_on (Some x) b c = refl
 
-pub limit_parts : (p : Program) → limit_of p ≡ or_else (first_limit p) (or_else (limits_from p (in_cells p.types) 0 p.procedures) (last_limit p))
-limit_parts p = sym (or_else_on (passes 52 (nat_lt 4096 (length p.procedures))) (passes 53 (nat_lt 1048576 (global_cells p))) (or_else (limits_from p (in_cells p.types) 0 p.procedures) (passes 58 (nat_lt 262144 (constant_cells p)))))
+pub limit_parts : (p : Program) → limit_of p ≡ or_else (first_limit p) (or_else (limits_from p (layout p.types) 0 p.procedures) (last_limit p))
+limit_parts p = sym (or_else_on (passes 52 (nat_lt 4096 (length p.procedures))) (passes 53 (nat_lt 1048576 (global_cells p))) (or_else (limits_from p (layout p.types) 0 p.procedures) (passes 58 (nat_lt 262144 (constant_cells p)))))
 
-pub all_within : (p : Program) → first_limit p ≡ None → limits_from p (in_cells p.types) 0 p.procedures ≡ None → last_limit p ≡ None → limit_of p ≡ None
+pub all_within : (p : Program) → first_limit p ≡ None → limits_from p (layout p.types) 0 p.procedures ≡ None → last_limit p ≡ None → limit_of p ≡ None
 all_within p a b c = limit_parts p ∙ ap₂ (λ x y. or_else x y) a (ap₂ (λ x y. or_else x y) b c)
 
 -- of a procedure
@@ -53,17 +53,17 @@ data_some : (f : ℕ) (other : Option Limit) (x : Limit) (b : Bool) → data_or 
 data_some f other x true h = h
 data_some f other x false h = absurd (cc)
 
-inside : (p : Program) (f : ℕ) (q : Procedure) → local_limit p f q ≡ None → limit_in p (in_cells p.types) f q ≡ at_procedure f (passed (made_of p (in_cells p.types) f q).pieces)
-inside p f q none = data_none f (at_procedure f (passed (made_of p (in_cells p.types) f q).pieces)) (nat_lt 1048576 (cells_of_all p.types (locals_of q))) none
+inside : (p : Program) (f : ℕ) (q : Procedure) → local_limit p f q ≡ None → limit_in p (layout p.types) f q ≡ at_procedure f (passed (made_of p (layout p.types) f q).pieces)
+inside p f q none = data_none f (at_procedure f (passed (made_of p (layout p.types) f q).pieces)) (nat_lt 1048576 (cells_of_all p.types (locals_of q))) none
 
-pub limit_passed : (p : Program) (f : ℕ) (q : Procedure) (n : ℕ) → local_limit p f q ≡ None → passed (made_of p (in_cells p.types) f q).pieces ≡ Some n → limit_in p (in_cells p.types) f q ≡ Some (record { number = n; index = f })
+pub limit_passed : (p : Program) (f : ℕ) (q : Procedure) (n : ℕ) → local_limit p f q ≡ None → passed (made_of p (layout p.types) f q).pieces ≡ Some n → limit_in p (layout p.types) f q ≡ Some (record { number = n; index = f })
 limit_passed p f q n none is = inside p f q none ∙ ap (at_procedure f) is
 
-pub limit_none : (p : Program) (f : ℕ) (q : Procedure) → local_limit p f q ≡ None → passed (made_of p (in_cells p.types) f q).pieces ≡ None → limit_in p (in_cells p.types) f q ≡ None
+pub limit_none : (p : Program) (f : ℕ) (q : Procedure) → local_limit p f q ≡ None → passed (made_of p (layout p.types) f q).pieces ≡ None → limit_in p (layout p.types) f q ≡ None
 limit_none p f q none is = inside p f q none ∙ ap (at_procedure f) is
 
-pub tells_local : (e : LowerFault) (p : Program) (f : ℕ) (q : Procedure) → Tells e (local_limit p f q) → Tells e (limit_in p (in_cells p.types) f q)
-tells_local (TheFault.Limit n i) p f q h = data_some f (at_procedure f (passed (made_of p (in_cells p.types) f q).pieces)) (record { number = n; index = i }) (nat_lt 1048576 (cells_of_all p.types (locals_of q))) h
+pub tells_local : (e : LowerFault) (p : Program) (f : ℕ) (q : Procedure) → Tells e (local_limit p f q) → Tells e (limit_in p (layout p.types) f q)
+tells_local (TheFault.Limit n i) p f q h = data_some f (at_procedure f (passed (made_of p (layout p.types) f q).pieces)) (record { number = n; index = i }) (nat_lt 1048576 (cells_of_all p.types (locals_of q))) h
 tells_local TheFault.Memory p f q h = tt
 
 -- procedure by procedure

@@ -1,7 +1,7 @@
 -- How the parts of a procedure are put together.
 use Rattle.std.proofs.Common.{◌≡◌, ℕ, ◌-◌, List, Option, refl, sym, subst, arith}
 use Rattle.ob_types.specs.declared.program.Program.{Program}
-use Rattle.ssa_lowered.specs.Data.{Layout, in_cells}
+use Rattle.ssa_lowered.specs.Data.{Layout, layout}
 use Rattle.ssa_lowered.specs.Lowered.{Here, enters, answer, whole}
 use Rattle.ssa_lowered.specs.Pieces.{Low, ◌>>=◌}
 use Rattle.ssa_lowered.specs.Statements.{Deed}
@@ -36,11 +36,11 @@ makes_enter p l here v env = record {
 -- a whole procedure
 pub makes_whole : {v0 v1 v2 v3 v4 v5 v6 v7 : View} {env : List ℕ} {r : Option ℕ} (p : Program) (here : Here) (words zeroed : ℕ)
     → Gives v0 v1 (further 4 (words - 4)) tt → Gives v1 v2 (zeroing (some_structured p.types here.procedure.locals) here.bytes zeroed) tt
-    → Gives v2 v3 (stored p.types (in_cells p.types) here.bytes here.variables) tt → Gives v3 v4 (opened here.variables) env
-    → v5 ≡ record v4 { known = record { env = env; log = v4.known.log } } → Steps v5 v6 (deeds_in p here here.procedure.body) → Gives v6 v7 (answer p (in_cells p.types) here here.procedure.answer) r
-    → Makes v0 v7 (whole p (in_cells p.types) here words zeroed) r
+    → Gives v2 v3 (stored p.types (layout p.types) here.bytes here.variables) tt → Gives v3 v4 (opened here.variables) env
+    → v5 ≡ record v4 { known = record { env = env; log = v4.known.log } } → Steps v5 v6 (deeds_in p here here.procedure.body) → Gives v6 v7 (answer p (layout p.types) here here.procedure.answer) r
+    → Makes v0 v7 (whole p (layout p.types) here words zeroed) r
 makes_whole {v4 = v4} {v6 = v6} {env = env} p here words zeroed g1 g2 g3 g4 is s g5 =
-    let l = in_cells p.types in
+    let l = layout p.types in
     let body = deeds_in p here here.procedure.body in
     let end = answer p l here here.procedure.answer in
     let some = some_structured p.types here.procedure.locals in

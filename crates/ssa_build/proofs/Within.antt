@@ -4,7 +4,7 @@ use Rattle.std.specs.Prelude.{nat_lt}
 use Rattle.ob_types.specs.declared.program.Program.{Program}
 use Rattle.ob_types.proofs.Tests.{none_some}
 use Rattle.std.proofs.Common.{sym}
-use Rattle.ssa_lowered.specs.Data.{in_cells}
+use Rattle.ssa_lowered.specs.Data.{layout}
 use Rattle.ssa_lowered.specs.Limits.{Limit, or_else, passes, global_cells, constant_cells, limits_from, limit_of}
 
 both_none : (a b : Option Limit) → or_else a b ≡ None → (a ≡ None) × (b ≡ None)
@@ -20,7 +20,7 @@ at_most a b is = grind (arith, is)
 
 module _ (p : Program) (none : limit_of p ≡ None) where
   abbrev later : Option Limit
-  later = or_else (limits_from p (in_cells p.types) 0 p.procedures) (passes 58 (nat_lt 262144 (constant_cells p)))
+  later = or_else (limits_from p (layout p.types) 0 p.procedures) (passes 58 (nat_lt 262144 (constant_cells p)))
 
   first : (passes 52 (nat_lt 4096 (length p.procedures)) ≡ None) × (or_else (passes 53 (nat_lt 1048576 (global_cells p))) later ≡ None)
   first = both_none (passes 52 (nat_lt 4096 (length p.procedures))) (or_else (passes 53 (nat_lt 1048576 (global_cells p))) later) none
@@ -35,4 +35,4 @@ module _ (p : Program) (none : limit_of p ≡ None) where
   few_globals = at_most 1048576 (global_cells p) (not_over 53 (nat_lt 1048576 (global_cells p)) second.0)
 
   pub few_constants : constant_cells p ≤ 262144
-  few_constants = at_most 262144 (constant_cells p) (not_over 58 (nat_lt 262144 (constant_cells p)) (both_none (limits_from p (in_cells p.types) 0 p.procedures) (passes 58 (nat_lt 262144 (constant_cells p))) second.1).1)
+  few_constants = at_most 262144 (constant_cells p) (not_over 58 (nat_lt 262144 (constant_cells p)) (both_none (limits_from p (layout p.types) 0 p.procedures) (passes 58 (nat_lt 262144 (constant_cells p))) second.1).1)

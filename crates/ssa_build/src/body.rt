@@ -2,7 +2,7 @@
 
 ghost use Rattle.std.specs.Prelude.{◌≡◌, IfOk};
 ghost use Rattle.ob_types.specs.declared.program.Program.{Program};
-ghost use Rattle.ssa_lowered.specs.Data.{in_cells};
+ghost use Rattle.ssa_lowered.specs.Data.{layout};
 ghost use Rattle.ssa_lowered.specs.Lowered.{Here, answer as answer_there, whole};
 ghost use Rattle.ssa_lowered.specs.Variables.{some_structured};
 ghost use Rattle.ssa_exprs.specs.Making.{Gives};
@@ -31,7 +31,7 @@ fn has_structured(types: &Types, list: &[u32]) -> bool
 
 /// The expression behind RETURN.
 fn answer(t: &Tables, b: &mut Making, answer: &Option<Checked>) -> Result<Option<u32>, Memory>
-    ensures { IfOk result (λ r. (p : Program) (here : Here) → Serves t.now p here → Gives b.old b.new (answer_there p (in_cells p.types) here answer.now) r) }
+    ensures { IfOk result (λ r. (p : Program) (here : Here) → Serves t.now p here → Gives b.old b.new (answer_there p (layout p.types) here answer.now) r) }
 {
     match answer {
         None => Ok(None),
@@ -51,7 +51,7 @@ pub fn lower_body(
     locals: &Locals,
     words: u32,
 ) -> Result<Option<u32>, Memory>
-    ensures { IfOk result (λ r. InProgram t.now types.now procedure.now locals.now (λ p here. Makes b.old b.new (whole p (in_cells p.types) here words locals.now.structured) r)) }
+    ensures { IfOk result (λ r. InProgram t.now types.now procedure.now locals.now (λ p here. Makes b.old b.new (whole p (layout p.types) here words locals.now.structured) r)) }
 {
     let variables = locals.variables.as_slice();
     let structured = has_structured(types, procedure.locals.as_slice());

@@ -3,7 +3,7 @@
 ghost use Rattle.std.specs.Prelude.{◌≡◌, ◌-◌, ◌≤◌, map, OnOk, IfOk};
 ghost use Rattle.ob_types.specs.Layout.{kind_of};
 ghost use Rattle.ob_types.specs.Table.{Table};
-ghost use Rattle.ssa_lowered.specs.Data.{in_cells};
+ghost use Rattle.ssa_lowered.specs.Data.{layout};
 ghost use Rattle.ssa_lowered.specs.Variables.{further as further_there, zeroing, first_value, first_of, is_structured, store_first as store_first_there, stored, opened, words_of};
 ghost use Rattle.ssa_exprs.specs.Making.{Gives};
 ghost use Rattle.ssa_tables.specs.Local.{seen, site_of};
@@ -11,7 +11,7 @@ ghost use Rattle.ssa_tables.specs.Local.{seen, site_of};
 use block_runs::Code;
 use ob_types::{Formal, Types};
 use outside::Memory;
-use ssa_exprs::Making;
+use ssa_exprs::{Making, store_code, takes_a_byte};
 use ssa_tables::{Variable, is_structured, words};
 
 /// The argument words of all parameters.
@@ -60,7 +60,7 @@ fn first(b: &mut Making, word: Option<u32>) -> Result<u32, Memory>
 
 /// A scalar in memory gets its first value.
 fn store_first(b: &mut Making, types: &Types, bytes: u32, v: Variable) -> Result<(), Memory>
-    ensures { OnOk result (Gives b.old b.new (store_first_there types.now (in_cells types.now) bytes (seen v) (site_of v.place)) tt) }
+    ensures { OnOk result (Gives b.old b.new (store_first_there types.now (layout types.now) bytes (seen v) (site_of v.place)) tt) }
 {
     match v.place {
         None => Ok(()),
@@ -70,7 +70,7 @@ fn store_first(b: &mut Making, types: &Types, bytes: u32, v: Variable) -> Result
             }
             let a = b.emit(Code::Local(bytes.saturating_sub(n)), &[])?;
             let u = first(b, v.word)?;
-            b.act(Code::Store, &[a, u])?;
+            b.act(store_code(takes_a_byte(types.kind(v.type_number))), &[a, u])?;
             Ok(())
         }
     }
@@ -83,7 +83,7 @@ pub fn store_all(
     bytes: u32,
     variables: &[Variable],
 ) -> Result<(), Memory>
-    ensures { OnOk result (Gives b.old b.new (stored types.now (in_cells types.now) bytes (map seen variables.now)) tt) }
+    ensures { OnOk result (Gives b.old b.new (stored types.now (layout types.now) bytes (map seen variables.now)) tt) }
 {
     for v in variables {
         store_first(b, types, bytes, *v)?;

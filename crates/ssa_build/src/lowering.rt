@@ -1,7 +1,7 @@
 //! Programs.
 
 ghost use Rattle.std.specs.Prelude.{◌≡◌, ◌≤◌, length, None, IfOk, OnOk, IfErr};
-ghost use Rattle.ssa_lowered.specs.Data.{in_cells};
+ghost use Rattle.ssa_lowered.specs.Data.{layout};
 ghost use Rattle.ssa_lowered.specs.Limits.{limits_from, limit_of};
 ghost use Rattle.ssa_lowered.specs.Lowered.{procs_from, lowered};
 ghost use Rattle.ssa_tables.specs.Faults.{Tells};
@@ -23,9 +23,9 @@ pub struct LoweredProgram {
     pub tables: Tables,
 }
 
-/// The procedures of a program, where each cell takes eight bytes. A program is refused by the first of these limits that it
+/// The procedures of a program, in the layout in use. A program is refused by the first of these limits that it
 /// passes: over 4,096 procedures (52), over 1,048,576 cells of globals (53); then, procedure by procedure, over 1,048,576 cells
-/// of local data (59), and over 4,000 values (50) or blocks (51), whichever comes first, with the procedure's number; then over
+/// of local data (59), and too many values (50) or blocks (51), whichever comes first, with the procedure's number; then over
 /// 262,144 cells of constants (58).
 pub fn lower(alloc: Global, program: &Program) -> Result<Items<Proc>, LowerFault>
     requires { IsMeasured program.now }
@@ -58,7 +58,7 @@ pub fn lower_with_tables(alloc: Global, program: &Program) -> Result<LoweredProg
         Ok(procedures) => procedures,
         Err(e) => return Err(e),
     };
-    match check_constants(&tables) {
+    match check_constants(program) {
         Ok(_) => Ok(LoweredProgram { procedures, tables }),
         Err(e) => Err(e),
     }
@@ -73,9 +73,9 @@ fn all_procedures(
     requires measured { IsMeasured program.now }
     requires from { ServesFrom tables.old program.now 0 }
     requires few { length program.now.procedures ≤ 4096 }
-    ensures ok { IfOk result (λ list. list ≡ procs_from program.now (in_cells program.now.types) 0 program.now.procedures) }
-    ensures within { OnOk result (limits_from program.now (in_cells program.now.types) 0 program.now.procedures ≡ None) }
-    ensures limit { IfErr result (λ e. Tells e (limits_from program.now (in_cells program.now.types) 0 program.now.procedures)) }
+    ensures ok { IfOk result (λ list. list ≡ procs_from program.now (layout program.now.types) 0 program.now.procedures) }
+    ensures within { OnOk result (limits_from program.now (layout program.now.types) 0 program.now.procedures ≡ None) }
+    ensures limit { IfErr result (λ e. Tells e (limits_from program.now (layout program.now.types) 0 program.now.procedures)) }
     ensures all { OnOk result (ServesAll tables.new program.now) }
 {
     let procedures = program.procedures.as_slice();

@@ -1,7 +1,7 @@
 //! A procedure, from its tables to its blocks.
 
 ghost use Rattle.std.specs.Prelude.{◌≡◌, suc, Some, None, slice_get, IfOk, OnOk, IfErr};
-ghost use Rattle.ssa_lowered.specs.Data.{in_cells};
+ghost use Rattle.ssa_lowered.specs.Data.{layout};
 ghost use Rattle.ssa_lowered.specs.Limits.{limit_in};
 ghost use Rattle.ssa_lowered.specs.Lowered.{proc_of};
 ghost use Rattle.ssa_tables.specs.Faults.{Tells};
@@ -31,9 +31,9 @@ pub fn lower_procedure(
     requires measured { IsMeasured program.now }
     requires there { slice_get program.now.procedures f ≡ Some procedure.now }
     requires from { ServesFrom tables.old program.now f }
-    ensures ok { IfOk result (λ made. made ≡ proc_of program.now (in_cells program.now.types) f procedure.now) }
-    ensures within { OnOk result (limit_in program.now (in_cells program.now.types) f procedure.now ≡ None) }
-    ensures limit { IfErr result (λ e. Tells e (limit_in program.now (in_cells program.now.types) f procedure.now)) }
+    ensures ok { IfOk result (λ made. made ≡ proc_of program.now (layout program.now.types) f procedure.now) }
+    ensures within { OnOk result (limit_in program.now (layout program.now.types) f procedure.now ≡ None) }
+    ensures limit { IfErr result (λ e. Tells e (limit_in program.now (layout program.now.types) f procedure.now)) }
     ensures from { OnOk result (ServesFrom tables.new program.now (suc f)) }
 {
     let locals = match enter(alloc, tables, program, f, procedure) {

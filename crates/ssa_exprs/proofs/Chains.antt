@@ -7,7 +7,7 @@ use Rattle.ob_types.specs.declared.tree.Unary.{Unary}
 use Rattle.ob_types.specs.declared.tree.Unary.TheVariants.{Negate, Complement, Not, Abs, Odd}
 use Rattle.ob_types.specs.declared.tree.Expr.{Expr, Unary as UnaryOf, Literal, Routine, Load, Guard', Unary', Compare', CompareTexts', In', IsPointer', IsParameter, Byte', Length, Call', Chain, Chain', Row_of-Link, end_of-Link, more_of-Link, items-the_row-Link, items_hidden-the_row-Link-2}
 use Rattle.ob_types.specs.declared.tree.Link.{Link}
-use Rattle.ssa_lowered.specs.Data.{in_cells}
+use Rattle.ssa_lowered.specs.Data.{layout}
 use Rattle.ssa_lowered.specs.Pieces.{Low}
 use Rattle.ssa_lowered.specs.Values.{const}
 use Rattle.ssa_lowered.specs.Control.{Lowers, Test, half, flag, fork_value, fork_not}
@@ -26,7 +26,7 @@ take_whole [] = refl
 take_whole (x ∷ xs) = ap (λ ys. x ∷ ys) (take_whole xs)
 
 module _ (p : Program) (here : Here) where
-  linked_row : (m : _) (row : Row_of-Link m) (x : Lowers) → linked p (in_cells p.types) here row x ≡ linked_in p here (items-the_row-Link m row) x
+  linked_row : (m : _) (row : Row_of-Link m) (x : Lowers) → linked p (layout p.types) here row x ≡ linked_in p here (items-the_row-Link m row) x
   linked_row m end_of-Link x = refl
   linked_row m (more_of-Link k rest) x = linked_row _ rest (link_in p here k x)
 

@@ -1,6 +1,7 @@
 -- How parts are put together, as the definitions put them together.
 use Rattle.std.proofs.Common.{◌≡◌, ℕ, suc, nat_le, Ok, Err, IfOk, Result, List, [], ◌∷◌, ◌++◌, Option, Some, None, Bool, true, false, refl, sym, ap, ap₂, ◌∙◌, subst, arith, append_assoc, slice_get, if◌then◌else◌, option_to_list}
 use Rattle.block_runs.specs.declared.code.Code.TheVariants.{Const}
+use Rattle.size_limits.specs.Limits.{most_blocks}
 use Rattle.ssa_lowered.specs.Pieces.{Made, Low, give, ◌>>=◌, emits, fetched, variable, Appends, Closes}
 use Rattle.ssa_lowered.specs.Pieces.{Piece as Placed}
 use Rattle.ssa_lowered.specs.Limits.{passed, too_many}
@@ -36,7 +37,7 @@ later_if false n p q r e = e
 pub passed_on : (xs ys : List Placed) → passed (xs ++ ys) ≡ later (passed xs) (passed ys)
 passed_on [] ys = refl
 passed_on (Appends b i op ∷ xs) ys = later_if (too_many (option_to_list op.def)) 50 _ _ _ (passed_on xs ys)
-passed_on (Closes b i end s ∷ xs) ys = later_if (nat_le 4000 (suc b)) 51 _ _ _ (later_if (too_many s.params) 50 _ _ _ (passed_on xs ys))
+passed_on (Closes b i end s ∷ xs) ys = later_if (nat_le most_blocks (suc b)) 51 _ _ _ (later_if (too_many s.params) 50 _ _ _ (passed_on xs ys))
 
 pub limit_on : {b c q : Option ℕ} (a p r : Option ℕ) → b ≡ later a p → c ≡ later b q → (b ≡ None → r ≡ q) → c ≡ later a (later p r)
 limit_on {q = q} (Some n) p r x y h = y ∙ ap (λ o. later o q) x

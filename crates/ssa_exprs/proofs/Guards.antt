@@ -8,7 +8,7 @@ use Rattle.ob_types.specs.declared.tree.Argument.{Argument}
 use Rattle.ssa_lowered.specs.Pieces.{Low}
 use Rattle.ssa_lowered.specs.Values.{Named, guarded}
 use Rattle.ssa_lowered.specs.Lowered.{Here, descriptor, level}
-use Rattle.ssa_lowered.specs.Data.{in_cells}
+use Rattle.ssa_lowered.specs.Data.{layout}
 use Rattle.ssa_exprs.specs.declared.tables.Tables.{Tables}
 use Rattle.ssa_exprs.specs.Making.{View, Gives, Passed}
 use Rattle.ssa_exprs.specs.Tables.{Serves, descriptor_in, level_in}
@@ -26,7 +26,7 @@ module _ (program : Program) (here : Here) where
   guarding_more t rs i d {a = a} {b = b} {c = c} {p = p} s lt one rest =
       let r = get_or rs i d in
       subst (λ l. Guarding l a c p) (sym (drop_more rs i d lt)) (record {
-        by = λ v m g. rest.by v (guarded m (descriptor program (in_cells program.types) here r) (level program (in_cells program.types) here r))
+        by = λ v m g. rest.by v (guarded m (descriptor program (layout program.types) here r) (level program (layout program.types) here r))
             (subst (λ (k : ℕ × ℕ). Gives v b (guarded m k.0 k.1) p) (ap₂ (λ x y. (x, y)) (s.descriptor r) (s.level r)) (one v m g));
       })
 

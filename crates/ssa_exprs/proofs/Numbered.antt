@@ -2,6 +2,7 @@
 use Rattle.std.proofs.lemmas.Bool.{leb-true}
 use Rattle.std.proofs.Common.{◌-◌, ◌≡◌, ℕ, zero, suc, ◌+◌, ◌<◌, ◌≤◌, nat_le, [], ◌∷◌, ◌++◌, Bool, true, false, ◌||◌, not, refl, sym, ap, ap₂, ◌∙◌, arith}
 use Rattle.std.proofs.lemmas.Bool.Decides.{nat_tests}
+use Rattle.size_limits.specs.Limits.{most_values}
 use Rattle.ssa_lowered.specs.Pieces.{numbers}
 use Rattle.ssa_lowered.specs.Limits.{too_many}
 
@@ -13,26 +14,26 @@ or_true : (a : Bool) → a || true ≡ true
 or_true true = refl
 or_true false = refl
 
-few : (i n : ℕ) → i + n ≤ 4000 → too_many (numbers i n) ≡ false
+few : (i n : ℕ) → i + n ≤ most_values → too_many (numbers i n) ≡ false
 few i zero le = refl
 few i (suc n) le =
-    let low : nat_le 4000 i ≡ false = grind (arith, nat_tests) in
+    let low : nat_le most_values i ≡ false = grind (arith, nat_tests) in
     ap₂ (λ a b. a || b) low (few (suc i) n (omega (arith, le)))
 
-many : (i n : ℕ) → 4000 < i + suc n → too_many (numbers i (suc n)) ≡ true
+many : (i n : ℕ) → most_values < i + suc n → too_many (numbers i (suc n)) ≡ true
 many i zero lt =
-    let high : nat_le 4000 i ≡ true = grind (arith, nat_tests) in
+    let high : nat_le most_values i ≡ true = grind (arith, nat_tests) in
     ap (λ a. a || too_many (numbers (suc i) 0)) high
-many i (suc n) lt = ap (λ b. nat_le 4000 i || b) (many (suc i) n (omega (arith, lt))) ∙ or_true (nat_le 4000 i)
+many i (suc n) lt = ap (λ b. nat_le most_values i || b) (many (suc i) n (omega (arith, lt))) ∙ or_true (nat_le most_values i)
 
-room_by : (b : Bool) (i n : ℕ) → nat_le i (4000 - suc n) ≡ b → suc n ≤ 4000 → nat_le i (4000 - suc n) ≡ not (too_many (numbers i (suc n)))
-room_by true i n e small = let le : i + suc n ≤ 4000 = let h = leb-true i (4000 - suc n) e in omega (arith, h, small) in e ∙ ap not (sym (few i (suc n) le))
-room_by false i n e small = let lt : 4000 < i + suc n = grind (arith, nat_tests) in e ∙ ap not (sym (many i n lt))
+room_by : (b : Bool) (i n : ℕ) → nat_le i (most_values - suc n) ≡ b → suc n ≤ most_values → nat_le i (most_values - suc n) ≡ not (too_many (numbers i (suc n)))
+room_by true i n e small = let le : i + suc n ≤ most_values = let h = leb-true i (most_values - suc n) e in omega (arith, h, small) in e ∙ ap not (sym (few i (suc n) le))
+room_by false i n e small = let lt : most_values < i + suc n = grind (arith, nat_tests) in e ∙ ap not (sym (many i n lt))
 
-pub room : (i n : ℕ) → 0 < n → n ≤ 4000 → nat_le i (4000 - n) ≡ not (too_many (numbers i n))
+pub room : (i n : ℕ) → 0 < n → n ≤ most_values → nat_le i (most_values - n) ≡ not (too_many (numbers i n))
 room i zero pos small = absurd (omega (arith, pos))
-room i (suc n) pos small = room_by (nat_le i (4000 - suc n)) i n refl small
+room i (suc n) pos small = room_by (nat_le i (most_values - suc n)) i n refl small
 
-pub no_room : (i n : ℕ) → 4000 < n → not (too_many (numbers i n)) ≡ false
+pub no_room : (i n : ℕ) → most_values < n → not (too_many (numbers i n)) ≡ false
 no_room i zero lt = absurd (omega (arith, lt))
 no_room i (suc n) lt = ap not (many i n (omega (arith, lt)))

@@ -1,9 +1,9 @@
 -- What the parts of a construct give, put together as the construct: one line for each.
-use Rattle.std.proofs.Common.{◌≡◌, ℕ, ap, false, List, [], ◌∷◌, ◌++◌, Bool, Option, Some, None, Result, Ok, Err, IfOk}
+use Rattle.std.proofs.Common.{◌≡◌, ℕ, ap, if◌then◌else◌, List, [], ◌∷◌, ◌++◌, Bool, Option, Some, None, Result, Ok, Err, IfOk}
 use Rattle.ob_types.specs.declared.tree.Unary.{Unary}
 use Rattle.ob_types.specs.declared.tree.Binary.{Binary}
 use Rattle.ob_types.specs.declared.tree.Relation.{Relation}
-use Rattle.block_runs.specs.declared.code.Code.TheVariants.{Bic, Set, Mul, MulAdd, Global, Local, IsPtr, IsTag, Below, NotNil, GuardTag, GuardPtr, Compare, Elem, Has, Bit, Span, Or, Byte, Call, CallAt, Load}
+use Rattle.block_runs.specs.declared.code.Code.TheVariants.{Bic, Set, Mul, MulAdd, Global, Local, IsPtr, IsTag, Below, NotNil, GuardTag, GuardPtr, Compare, Elem, Has, Bit, Span, Or, Byte, Call, CallAt, Load, LoadByte}
 use Rattle.ssa_lowered.specs.Pieces.{Low, give, ◌>>=◌, emits, does, variable}
 use Rattle.ssa_lowered.specs.Values.{const, condition, Named, At, Beside, Object, Held, address_in, address, second, length_in, bytes_in, data_at, local_at, element, field, dereferenced, narrowed, one_operand, two_operands, included, unary, binary, compared, texts_compared, guarded, member, contained, with_element, with_range, is_pointer, is_tag, tag_of, tag_in, as_byte, length_of, by_word, by_record, by_open, also, Request, call, call_at, with_result, home_in, home_of, load, Home, Register, Memory, current}
 use Rattle.ssa_exprs.specs.Making.{View, Gives}
@@ -122,17 +122,17 @@ pub gives_load : {v0 v1 v2 : View} {d : Low Home} {h : Home} {r : ℕ} → Gives
 gives_load {h = h} p0 q = gives_bind (λ h. current h) p0 q
 
 -- the value of a scalar variable: in a register, and in memory
-pub gives_held : {v u w : View} {d : Low Named} (h : Named) (x : ℕ) {r : ℕ} → held_in h ≡ Some x → Gives v u d h → Gives u w (variable x) r → Gives v w (load (home_of d false)) r
-gives_held (At a) x e p q = absurd (cc)
-gives_held (Beside a s) x e p q = absurd (cc)
-gives_held (Object a) x e p q = absurd (cc)
-gives_held {u = u} {w = w} {d = d} (Held y) x {r = r} e p q = gives_load (gives_bind (λ h. home_in false h) p (gives_give _ (Register y))) (gives_as (ap variable (some_one e)) q)
+pub gives_held : {v u w : View} {d : Low Named} (small : Bool) (h : Named) (x : ℕ) {r : ℕ} → held_in h ≡ Some x → Gives v u d h → Gives u w (variable x) r → Gives v w (load (home_of d small)) r
+gives_held small (At a) x e p q = absurd (cc)
+gives_held small (Beside a s) x e p q = absurd (cc)
+gives_held small (Object a) x e p q = absurd (cc)
+gives_held {u = u} {w = w} {d = d} small (Held y) x {r = r} e p q = gives_load (gives_bind (λ h. home_in small h) p (gives_give _ (Register y))) (gives_as (ap variable (some_one e)) q)
 
-gives_cell : {v u w1 : View} {d : Low Named} (h : Named) {a : ℕ} → held_in h ≡ None → Gives v u d h → Gives u w1 (address_in h 0) a → Gives v w1 (home_of d false) (Memory a false)
-gives_cell (At b) {a = a} e p q = gives_bind (λ h. home_in false h) p (gives_bind (λ a. give (Memory a false)) q (gives_give _ (Memory a false)))
-gives_cell (Beside b s) {a = a} e p q = gives_bind (λ h. home_in false h) p (gives_bind (λ a. give (Memory a false)) q (gives_give _ (Memory a false)))
-gives_cell (Object b) {a = a} e p q = gives_bind (λ h. home_in false h) p (gives_bind (λ a. give (Memory a false)) q (gives_give _ (Memory a false)))
-gives_cell (Held y) e p q = absurd (cc)
+gives_cell : {v u w1 : View} {d : Low Named} (small : Bool) (h : Named) {a : ℕ} → held_in h ≡ None → Gives v u d h → Gives u w1 (address_in h 0) a → Gives v w1 (home_of d small) (Memory a small)
+gives_cell small (At b) {a = a} e p q = gives_bind (λ h. home_in small h) p (gives_bind (λ a. give (Memory a small)) q (gives_give _ (Memory a small)))
+gives_cell small (Beside b s) {a = a} e p q = gives_bind (λ h. home_in small h) p (gives_bind (λ a. give (Memory a small)) q (gives_give _ (Memory a small)))
+gives_cell small (Object b) {a = a} e p q = gives_bind (λ h. home_in small h) p (gives_bind (λ a. give (Memory a small)) q (gives_give _ (Memory a small)))
+gives_cell small (Held y) e p q = absurd (cc)
 
-pub gives_stored : {v u w1 w : View} {d : Low Named} (h : Named) {a r : ℕ} → held_in h ≡ None → Gives v u d h → Gives u w1 (address_in h 0) a → Gives w1 w (emits Load (a ∷ [])) r → Gives v w (load (home_of d false)) r
-gives_stored h e p q t = gives_load (gives_cell h e p q) t
+pub gives_stored : {v u w1 w : View} {d : Low Named} (small : Bool) (h : Named) {a r : ℕ} → held_in h ≡ None → Gives v u d h → Gives u w1 (address_in h 0) a → Gives w1 w (emits (if small then LoadByte else Load) (a ∷ [])) r → Gives v w (load (home_of d small)) r
+gives_stored small h e p q t = gives_load (gives_cell small h e p q) t

@@ -7,7 +7,7 @@ use Rattle.ob_types.specs.declared.tree.Access.{Access}
 use Rattle.ob_types.specs.declared.tree.Argument.{Argument}
 use Rattle.ob_types.specs.declared.tree.Call.{Call, Direct, Direct', Indirect, Indirect', Row_of-Argument, end_of-Argument, more_of-Argument, items-the_row-Argument, items_hidden-the_row-Argument-0}
 use Rattle.ob_types.specs.declared.program.Program.{Program}
-use Rattle.ssa_lowered.specs.Data.{in_cells}
+use Rattle.ssa_lowered.specs.Data.{layout}
 use Rattle.ssa_lowered.specs.Pieces.{Low}
 use Rattle.ssa_lowered.specs.Values.{Named, also, call, call_at, unary}
 use Rattle.ssa_lowered.specs.Control.{Lowers}
@@ -26,11 +26,11 @@ value_one Abs x = refl
 value_one Odd x = refl
 
 module _ (p : Program) (here : Here) where
-  selected_row : (m : _) (row : Row_of-Selector m) (d : Low Named) → selected p (in_cells p.types) here row d ≡ selected_in p here (items-the_row-Selector m row) d
+  selected_row : (m : _) (row : Row_of-Selector m) (d : Low Named) → selected p (layout p.types) here row d ≡ selected_in p here (items-the_row-Selector m row) d
   selected_row m end_of-Selector d = refl
   selected_row m (more_of-Selector s rest) d = selected_row _ rest (select_in p here s d)
 
-  arguments_row : (m : _) (row : Row_of-Argument m) → arguments p (in_cells p.types) here row ≡ arguments_in p here (items-the_row-Argument m row)
+  arguments_row : (m : _) (row : Row_of-Argument m) → arguments p (layout p.types) here row ≡ arguments_in p here (items-the_row-Argument m row)
   arguments_row m end_of-Argument = refl
   arguments_row m (more_of-Argument a rest) = ap (λ r. also (argument_in p here a) r) (arguments_row _ rest)
 

@@ -2,6 +2,7 @@
 use Rattle.std.specs.Prelude.{◌≡◌, ℕ, zero, suc, ◌+◌, ◌≤◌, nat_le, List, [], ◌∷◌, ◌++◌, map, Option, Some, None, if◌then◌else◌}
 use Rattle.block_runs.specs.declared.end.End.{End}
 use Rattle.block_runs.specs.declared.end.End.TheVariants.{Jump, Branch, Nonzero, Return, Trap}
+use Rattle.size_limits.specs.Limits.{most_blocks}
 use Rattle.ssa_lowered.specs.Pieces.{Cursor, Made, Low, Appends, Closes, numbers}
 use Rattle.ssa_lowered.specs.Pieces.{Piece as Placed}
 use Rattle.ssa_lowered.specs.Control.{Test}
@@ -114,7 +115,7 @@ bound v t = record v { bounds = v.bounds ++ record { label = t; block = v.block 
 
 -- the limit that is passed where a block ends, and the next one begins with these parameters
 abbrev pub begins : ℕ → List ℕ → Option ℕ
-begins b params = if nat_le 4000 (suc b) then Some 51 else if too_many params then Some 50 else None
+begins b params = if nat_le most_blocks (suc b) then Some 51 else if too_many params then Some 50 else None
 
 abbrev pub begun : View → ℕ → Option ℕ
 begun v count = later v.over (begins v.block (numbers v.values count))

@@ -1,11 +1,12 @@
 -- Tables of a program and a procedure, and that they are right.
-use Rattle.std.specs.Prelude.{◌≡◌, ℕ, ◌+◌, ◌-◌, ◌*◌, ◌<◌, min, List, [], length, Option, Some, None, slice_get, slice_index, slice_index_or, if◌then◌else◌, nat_lt}
-use Rattle.ob_types.specs.Meaning.{text_number}
+use Rattle.std.specs.Prelude.{◌≡◌, ℕ, ◌+◌, ◌-◌, ◌*◌, ◌<◌, min, List, [], length, Option, Some, None, slice_get, slice_index, slice_index_or, if◌then◌else◌, nat_lt, Bool}
+use Rattle.ob_types.specs.Layout.{record_cells}
+use Rattle.ob_types.specs.Meaning.{text_number, kind_in}
 use Rattle.ob_types.specs.declared.tree.Expr.{Expr}
 use Rattle.ob_types.specs.declared.tree.Designator.{Designator}
 use Rattle.ob_types.specs.declared.tree.Base.{Base}
 use Rattle.ob_types.specs.declared.program.Program.{Program}
-use Rattle.ssa_lowered.specs.Data.{in_cells, global_at, text_at, within}
+use Rattle.ssa_lowered.specs.Data.{layout, global_at, text_at, within}
 use Rattle.ssa_lowered.specs.Pieces.{Low, give, ◌>>=◌}
 use Rattle.ssa_lowered.specs.Control.{Lowers}
 use Rattle.ssa_lowered.specs.Values.{Named, At, const}
@@ -37,28 +38,35 @@ size_in t k = slice_index_or t.sizes k 8
 abbrev pub record_in : Tables → ℕ → ℕ
 record_in t r = slice_index_or t.records r 0
 
+abbrev pub cells_in : Tables → ℕ → ℕ
+cells_in t r = slice_index_or t.cells r 0
+
 abbrev pub offset_in : Tables → ℕ → ℕ → ℕ
 offset_in t r field = of_row t.offsets r field 0
 
 abbrev pub text_in : Tables → ℕ → ℕ
 text_in t k = clamped t.texts (t.first_text + k)
 
--- the expression and the designator of a procedure, where each cell takes eight bytes
+-- the expression and the designator of a procedure, in the layout in use
 abbrev pub expr_in : Program → Here → Expr → Lowers
-expr_in p here e = expr p (in_cells p.types) here e
+expr_in p here e = expr p (layout p.types) here e
 
 abbrev pub named_in : Program → Here → Designator → Low Named
-named_in p here d = named p (in_cells p.types) here d
+named_in p here d = named p (layout p.types) here d
+
+-- whether the scalar that a designator names takes one byte
+abbrev pub small_in : Program → Designator → Bool
+small_in p d = (layout p.types).is_small (kind_in d)
 
 -- where a designator begins, and where a parameter and a variable are
 abbrev pub based_in : Program → Here → Base → Low Named
-based_in p here at = based p (in_cells p.types) here at
+based_in p here at = based p (layout p.types) here at
 
 abbrev pub passed_in : Program → Here → ℕ → Low Named
-passed_in p here k = parameter p (in_cells p.types) here k
+passed_in p here k = parameter p (layout p.types) here k
 
 abbrev pub own_in : Program → Here → ℕ → Low Named
-own_in p here x = local_by p (in_cells p.types) here (variable_of p (in_cells p.types) here x).site x
+own_in p here x = local_by p (layout p.types) here (variable_of p (layout p.types) here x).site x
 
 -- where a variable is, by its distance from the end of the local data
 abbrev pub site_by : ℕ → Site → Option ℕ
@@ -77,13 +85,14 @@ local_in t x = slice_index_or t.locals x None
 
 -- the tables are right for a procedure of a program
 pub record Serves (t : Tables) (p : Program) (here : Here) : Type 0 where
-  pub global : (m v : ℕ) → global_in t m v ≡ global_at p (in_cells p.types) m v
-  pub descriptor : (r : ℕ) → descriptor_in t r ≡ descriptor p (in_cells p.types) here r
-  pub level : (r : ℕ) → level_in t r ≡ level p (in_cells p.types) here r
-  pub size : (k : ℕ) → size_in t k ≡ (in_cells p.types).bytes k
-  pub whole : (r : ℕ) → record_in t r ≡ (in_cells p.types).record_bytes r
-  pub offset : (r field : ℕ) → offset_in t r field ≡ (in_cells p.types).offset r field
+  pub global : (m v : ℕ) → global_in t m v ≡ global_at p (layout p.types) m v
+  pub descriptor : (r : ℕ) → descriptor_in t r ≡ descriptor p (layout p.types) here r
+  pub level : (r : ℕ) → level_in t r ≡ level p (layout p.types) here r
+  pub size : (k : ℕ) → size_in t k ≡ (layout p.types).bytes k
+  pub whole : (r : ℕ) → record_in t r ≡ (layout p.types).record_bytes r
+  pub cells : (r : ℕ) → cells_in t r ≡ record_cells p.types r
+  pub offset : (r field : ℕ) → offset_in t r field ≡ (layout p.types).offset r field
   pub short : (r field : ℕ) → 8 + offset_in t r field < 4294967296
-  pub text : (k : ℕ) → text_in t k ≡ within (text_at p (in_cells p.types) (text_number p here.number k))
-  pub parameter : (k : ℕ) → (parameter p (in_cells p.types) here k ≡ parameter_in (slice_get t.parameters k))
-  pub local : (x : ℕ) → local_in t x ≡ site_by here.bytes (variable_of p (in_cells p.types) here x).site
+  pub text : (k : ℕ) → text_in t k ≡ within (text_at p (layout p.types) (text_number p here.number k))
+  pub parameter : (k : ℕ) → (parameter p (layout p.types) here k ≡ parameter_in (slice_get t.parameters k))
+  pub local : (x : ℕ) → local_in t x ≡ site_by here.bytes (variable_of p (layout p.types) here x).site

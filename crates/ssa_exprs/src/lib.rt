@@ -12,6 +12,7 @@ mod named;
 mod steps;
 mod tables;
 mod walk;
+mod widths;
 
 pub use lowering::{Lowering, lower_cond, lower_value};
 pub use making::{Bound, Making, Piece, Undo};
@@ -24,3 +25,4 @@ pub use walk::{
     Request, cond, fork, kind_in, length_of_kind, load, named as designated, prepared,
     record_of_kind, value,
 };
+pub use widths::{CHARACTER_BYTES, load_code, store_code, takes_a_byte};

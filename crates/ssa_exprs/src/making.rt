@@ -9,6 +9,7 @@ ghost use Rattle.ssa_exprs.specs.Making.{View, Gives, asked, bound, closed};
 
 use block_runs::{Code, End, Numbers};
 use outside::Memory;
+use size_limits::{MOST_BLOCKS, MOST_VALUES};
 use ssa_core::Op;
 use std::alloc::Global;
 use std::marker::Model;
@@ -38,9 +39,6 @@ pub struct Undo {
     pub variable: u32,
     pub value: u32,
 }
-
-/// How many values and blocks a procedure has at most.
-const MOST: u32 = 4000;
 
 /// The limits of values and of blocks, by their numbers.
 const VALUES: u8 = 50;
@@ -95,7 +93,7 @@ impl Making {
         if self.over.is_some() {
             return Ok(v);
         }
-        if v >= MOST {
+        if v >= MOST_VALUES {
             self.over = Some(VALUES);
             return Ok(v);
         }
@@ -254,7 +252,7 @@ impl Making {
         if self.over.is_some() {
             return Ok(());
         }
-        if self.block >= MOST - 1 {
+        if self.block >= MOST_BLOCKS - 1 {
             self.over = Some(BLOCKS);
             return Ok(());
         }
@@ -363,10 +361,10 @@ fn has_room(values: u32, count: usize) -> bool
     if count == 0 {
         return true;
     }
-    if count > MOST as usize {
+    if count > MOST_VALUES as usize {
         return false;
     }
-    values <= MOST - count as u32
+    values <= MOST_VALUES - count as u32
 }
 
 /// The next so many values.

@@ -1,6 +1,6 @@
 //! What designators name, and the small parts of their code.
 
-ghost use Rattle.std.specs.Prelude.{◌≡◌, ℕ, ◌+◌, ◌*◌, ◌<◌, ◌≤◌, ◌^◌, IfSome, List, [], ◌∷◌, IfOk, OnOk, Option, None, false};
+ghost use Rattle.std.specs.Prelude.{◌≡◌, ℕ, ◌+◌, ◌*◌, ◌<◌, ◌≤◌, ◌^◌, IfSome, List, [], ◌∷◌, IfOk, OnOk, Option, None};
 ghost use Rattle.ssa_lowered.specs.Values.{past, address_in, second, length_in, bytes_in, tag_in, is_pointer, is_tag, two_operands, one_operand, home_of, load, guarded};
 ghost use Rattle.ssa_lowered.specs.Values.{Named as NamedThing};
 ghost use Rattle.block_runs.specs.declared.code.Code.TheVariants.{Plus};
@@ -9,6 +9,7 @@ ghost use Rattle.ssa_exprs.specs.Making.{View, Gives};
 ghost use Rattle.ssa_exprs.specs.Named.{named_of, held_in};
 
 use crate::making::Making;
+use crate::widths::load_code;
 use block_runs::Code;
 use ob_types::{Binary, Relation, Unary};
 use outside::Memory;
@@ -199,9 +200,9 @@ fn held(h: Named) -> Option<u32>
     }
 }
 
-/// The value of a scalar variable.
-pub fn read(b: &mut Making, h: Named) -> Result<u32, Memory>
-    ensures { IfOk result (λ r. (v : View) (d : Low NamedThing) → Gives v b.old d (named_of h) → Gives v b.new (load (home_of d false)) r) }
+/// The value of a scalar variable, which takes one byte in memory, or eight.
+pub fn read(b: &mut Making, h: Named, small: bool) -> Result<u32, Memory>
+    ensures { IfOk result (λ r. (v : View) (d : Low NamedThing) → Gives v b.old d (named_of h) → Gives v b.new (load (home_of d small)) r) }
 {
     match held(h) {
         Some(x) => {
@@ -210,7 +211,7 @@ pub fn read(b: &mut Making, h: Named) -> Result<u32, Memory>
         }
         None => {
             let a = address_in(b, h, 0)?;
-            let v = b.emit(Code::Load, &[a])?;
+            let v = b.emit(load_code(small), &[a])?;
             Ok(v)
         }
     }

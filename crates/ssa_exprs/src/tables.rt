@@ -1,7 +1,7 @@
 //! Where data stands, for the program and the procedure that are lowered.
 
 ghost use Rattle.std.specs.Prelude.{◌≡◌, ℕ, ◌+◌, ◌*◌, ◌<◌, ◌^◌, min, is_none, Option, Some, None};
-ghost use Rattle.ssa_exprs.specs.Tables.{clamped, of_row, global_in, descriptor_in, level_in, size_in, offset_in, text_in, record_in, local_in};
+ghost use Rattle.ssa_exprs.specs.Tables.{clamped, of_row, global_in, descriptor_in, level_in, size_in, offset_in, text_in, record_in, cells_in, local_in};
 
 use crate::named::Named;
 use items::Items;
@@ -22,6 +22,10 @@ pub struct Tables {
     pub sizes: Items<u32>,
     /// The size of each record type.
     pub records: Items<u32>,
+    /// How many cells each record type has.
+    pub cells: Items<u32>,
+    /// How many cells each type has.
+    pub type_cells: Items<u32>,
     /// The addresses of all strings, and which is the procedure's first.
     pub texts: Items<u32>,
     pub first_text: u32,
@@ -107,6 +111,18 @@ impl Tables {
         let records = self.records.as_slice();
         if (r as usize) < records.len() {
             records[r as usize]
+        } else {
+            0
+        }
+    }
+
+    /// How many cells a record type has.
+    pub fn record_cells(&self, r: u32) -> u32
+        ensures { result ≡ cells_in self.now r }
+    {
+        let cells = self.cells.as_slice();
+        if (r as usize) < cells.len() {
+            cells[r as usize]
         } else {
             0
         }

@@ -23,6 +23,7 @@ use crate::named::{
 };
 use crate::steps::{Step, Steps, Wanted, Ways, half, planned};
 use crate::tables::Tables;
+use crate::widths::{CHARACTER_BYTES, takes_a_byte};
 use block_runs::{Code, End};
 use ob_types::{
     Access, Argument, Base, Call, Designator, Expr, Link, Relation, Selector, TypeKind, Unary,
@@ -118,7 +119,7 @@ pub fn load(t: &Tables, b: &mut Making, d: &Designator) -> Result<u32, Memory>
     ensures { IfOk result (λ v. (p : Program) (here : Here) → Serves t.now p here → Gives b.old b.new (load_in p here d.now) v) }
 {
     let h = named(t, b, d)?;
-    let v = read(b, h)?;
+    let v = read(b, h, takes_a_byte(kind_in(d)))?;
     Ok(v)
 }
 
@@ -184,7 +185,7 @@ fn select(t: &Tables, b: &mut Making, s: &Selector, h: Named) -> Result<Named, M
             Ok(Named::At(a))
         }
         Selector::Dereference(types) => {
-            let p = read(b, h)?;
+            let p = read(b, h, false)?;
             guard_all(t, b, types.as_slice(), p)?;
             b.act(Code::NotNil, &[p])?;
             Ok(Named::Object(p))
@@ -263,10 +264,10 @@ fn compared_texts(
 {
     let x = named(t, b, d)?;
     let a = address_in(b, x, 0)?;
-    let i = bytes_in(b, 8, length_of_kind(kind_in(d)), x)?;
+    let i = bytes_in(b, CHARACTER_BYTES, length_of_kind(kind_in(d)), x)?;
     let y = named(t, b, e)?;
     let c = address_in(b, y, 0)?;
-    let j = bytes_in(b, 8, length_of_kind(kind_in(e)), y)?;
+    let j = bytes_in(b, CHARACTER_BYTES, length_of_kind(kind_in(e)), y)?;
     let k = b.emit(Code::Compare, &[a, i, c, j])?;
     let z = b.emit(Code::Const(0), &[])?;
     let v = b.emit(Code::Set(condition(r)), &[k, z])?;

@@ -1,11 +1,12 @@
 -- Which limit lowering passes first.
 use Rattle.std.specs.Prelude.{ℕ, suc, ◌+◌, ◌*◌, List, [], ◌∷◌, length, sum_by, nat_le, nat_lt, option_to_list, Bool, Option, Some, None, if◌then◌else◌}
 use Rattle.std.specs.List.{list_any}
+use Rattle.size_limits.specs.Limits.{most_values, most_blocks}
 use Rattle.ob_types.specs.Layout.{cells_of_all}
 use Rattle.ob_types.specs.Meaning.{locals_of, texts_of}
 use Rattle.ob_types.specs.declared.program.Procedure.{Procedure}
 use Rattle.ob_types.specs.declared.program.Program.{Program}
-use Rattle.ssa_lowered.specs.Data.{Layout, in_cells}
+use Rattle.ssa_lowered.specs.Data.{Layout, layout}
 use Rattle.ssa_lowered.specs.Pieces.{Piece, Appends, Closes}
 use Rattle.ssa_lowered.specs.Lowered.{made_of}
 
@@ -14,15 +15,15 @@ pub record Limit : Type 0 where
   pub number : ℕ
   pub index : ℕ
 
--- one of these is a value past the 4,000th
+-- one of these is a value past the last one that a procedure may have
 abbrev pub too_many : List ℕ → Bool
-too_many vs = list_any (λ v. nat_le 4000 v) vs
+too_many vs = list_any (λ v. nat_le most_values v) vs
 
--- over 4,000 values (50) or 4,000 blocks (51): which comes first, where a block is begun before its parameters are made
+-- too many values (50) or blocks (51): which comes first, where a block is begun before its parameters are made
 abbrev pub passed : List Piece → Option ℕ
 passed [] = None
 passed (Appends b i op ∷ more) = if too_many (option_to_list op.def) then Some 50 else passed more
-passed (Closes b i end start ∷ more) = if nat_le 4000 (suc b) then Some 51 else if too_many start.params then Some 50 else passed more
+passed (Closes b i end start ∷ more) = if nat_le most_blocks (suc b) then Some 51 else if too_many start.params then Some 50 else passed more
 
 abbrev pub or_else : Option Limit → Option Limit → Option Limit
 or_else None b = b
@@ -61,4 +62,4 @@ limit_by l p =
     (passes 58 (nat_lt 262144 (constant_cells p)))))
 
 abbrev pub limit_of : Program → Option Limit
-limit_of p = limit_by (in_cells p.types) p
+limit_of p = limit_by (layout p.types) p

@@ -29,7 +29,7 @@ use Rattle.ob_types.specs.declared.program.Program.{Program}
 use Rattle.block_runs.specs.declared.end.End.{End}
 use Rattle.block_runs.specs.declared.end.End.TheVariants.{Jump, Return, Trap}
 use Rattle.ssa_core.specs.declared.procedure.Proc.{Proc}
-use Rattle.ssa_lowered.specs.Data.{Layout, in_cells, packed, rounded, global_at, descriptor_at, text_at, within}
+use Rattle.ssa_lowered.specs.Data.{Layout, layout, packed, rounded, global_at, descriptor_at, text_at, within}
 use Rattle.ssa_lowered.specs.Pieces.{Cursor, Start, Made, Low, give, ◌>>=◌, skip, numbers, Mask, blocks_of}
 use Rattle.ssa_lowered.specs.Values.{const, condition, Named, At, Beside, Held, data_at, local_at, element, field, dereferenced, narrowed, unary, binary, compared, texts_compared, routine, guarded, contained, with_element, with_range, is_pointer, is_tag, tag_of, as_byte, length_of, by_word, address, by_record, by_open, also, Request, call, call_at, with_result, without_result, Home, home_of, load}
 use Rattle.ssa_lowered.specs.Control.{Test, fork_value, fork_branch, fork_not, fork_and, fork_or, Lowers, valued, tested, choose, Round, loop, repeat, for, Rung, case}
@@ -332,9 +332,9 @@ procs_from p l f (q ∷ qs) = proc_of p l f q ∷ procs_from p l (suc f) qs
 abbrev pub lowered_by : Layout → Program → List Proc
 lowered_by l p = procs_from p l 0 p.procedures
 
--- where each cell takes eight bytes
+-- in the layout in use
 abbrev pub lowered : Program → List Proc
-lowered p = lowered_by (in_cells p.types) p
+lowered p = lowered_by (layout p.types) p
 
 -- where a CHAR, BYTE or BOOLEAN takes one byte
 abbrev pub lowered_packed : Program → List Proc

@@ -8,4 +8,7 @@
 
 mod laws;
 
-pub use laws::pieces_stand;
+pub use laws::{
+    cells_take_few_bytes, fields_lie_apart, layouts_are_by_trees, pieces_stand,
+    types_take_their_parts,
+};

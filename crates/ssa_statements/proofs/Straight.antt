@@ -2,8 +2,7 @@
 use Rattle.std.proofs.Common.{◌≡◌, ℕ, [], ◌∷◌, Bool, true, false, Option, Some, None, refl, ap, if◌then◌else◌, ◌+◌, ◌*◌, ◌/◌, arith}
 use Rattle.ob_types.specs.declared.tree.Binary.{Binary}
 use Rattle.ob_types.specs.declared.tree.Binary.TheVariants.{Add}
-use Rattle.block_runs.specs.declared.code.Code.TheVariants.{Global, Set, Max0, Bit, Byte, Fits, True, New, Copy, Svc, Store}
-use Rattle.ssa_lowered.specs.Data.{rounded}
+use Rattle.block_runs.specs.declared.code.Code.TheVariants.{Global, Set, Max0, Bit, Byte, Fits, True, New, Copy, Svc, Store, StoreByte}
 use Rattle.ssa_lowered.specs.Pieces.{Low, ◌>>=◌, skip, emits, does}
 use Rattle.ssa_lowered.specs.Values.{const, Named, address_in, length_in, bytes_in, member, two_operands, Home, load, binary, current, change, store, Request, without_result}
 use Rattle.ssa_lowered.specs.Statements.{assign, change_number, change_set, new, fits, copy_array, copy_record, assert, out_char, out_int, out_string, in_char}
@@ -52,13 +51,6 @@ steps_new {h = h} {n = n} {b = b} {i = i} cells bytes g p0 p1 p2 p3 p4 q =
     (steps_after (λ g. (emits New (n ∷ b ∷ g ∷ [])) >>= λ p. change h p) p3
     (steps_after (λ p. change h p) p4 q))))
 
--- a record's cells, from its bytes
-pub whole_cells : (bytes cells : ℕ) → bytes ≡ 8 * cells → bytes / 8 + 1 ≡ cells + 1
-whole_cells bytes cells e = omega (arith, e)
-
-pub whole_bytes : (bytes cells : ℕ) → bytes ≡ 8 * cells → bytes + 8 ≡ rounded (8 * cells) + 8
-whole_bytes bytes cells e = omega (arith, e)
-
 pub gives_tested : {v0 v1 v2 v3 : View} {a b : ℕ} (n m : Option ℕ) (to from : Named) → Gives v0 v1 (length_in n to) a → Gives v1 v2 (length_in m from) b → Gives v2 v3 (does Fits (b ∷ a ∷ [])) tt → Gives v0 v3 (tested n to m from) tt
 gives_tested {a = a} n m to from p0 p1 p2 = gives_bind (λ a. (length_in m from) >>= λ b. does Fits (b ∷ a ∷ [])) p0 (gives_bind (λ b. does Fits (b ∷ a ∷ [])) p1 p2)
 
@@ -90,24 +82,24 @@ steps_out_char p0 p1 = steps_of (gives_bind (λ a. does (Svc 1) (a ∷ [])) p0 p
 pub steps_out_int : {v0 v1 v2 v3 : View} {x n : Low ℕ} {a b : ℕ} → Gives v0 v1 x a → Gives v1 v2 n b → Gives v2 v3 (does (Svc 2) (a ∷ b ∷ [])) tt → Steps v0 v3 (out_int x n)
 steps_out_int {n = n} {a = a} p0 p1 p2 = steps_of (gives_bind (λ a. n >>= λ b. does (Svc 2) (a ∷ b ∷ [])) p0 (gives_bind (λ b. does (Svc 2) (a ∷ b ∷ [])) p1 p2))
 
-pub steps_out_string : {v0 v1 v2 v3 v4 v5 : View} {d : Low Named} {h : Named} {a l s : ℕ} (n : Option ℕ) → Gives v0 v1 d h → Gives v1 v2 (address_in h 0) a → Gives v2 v3 (length_in n h) l → Gives v3 v4 (const 8) s → Gives v4 v5 (does (Svc 3) (a ∷ l ∷ s ∷ [])) tt → Steps v0 v5 (out_string 8 d n)
-steps_out_string {h = h} {a = a} {l = l} n p0 p1 p2 p3 p4 =
-    steps_of (gives_bind (λ h. (address_in h 0) >>= λ a. (length_in n h) >>= λ l. (const 8) >>= λ s. does (Svc 3) (a ∷ l ∷ s ∷ [])) p0
-    (gives_bind (λ a. (length_in n h) >>= λ l. (const 8) >>= λ s. does (Svc 3) (a ∷ l ∷ s ∷ [])) p1
-    (gives_bind (λ l. (const 8) >>= λ s. does (Svc 3) (a ∷ l ∷ s ∷ [])) p2
+pub steps_out_string : {v0 v1 v2 v3 v4 v5 : View} {d : Low Named} {h : Named} {a l s : ℕ} (character : ℕ) (n : Option ℕ) → Gives v0 v1 d h → Gives v1 v2 (address_in h 0) a → Gives v2 v3 (length_in n h) l → Gives v3 v4 (const character) s → Gives v4 v5 (does (Svc 3) (a ∷ l ∷ s ∷ [])) tt → Steps v0 v5 (out_string character d n)
+steps_out_string {h = h} {a = a} {l = l} character n p0 p1 p2 p3 p4 =
+    steps_of (gives_bind (λ h. (address_in h 0) >>= λ a. (length_in n h) >>= λ l. (const character) >>= λ s. does (Svc 3) (a ∷ l ∷ s ∷ [])) p0
+    (gives_bind (λ a. (length_in n h) >>= λ l. (const character) >>= λ s. does (Svc 3) (a ∷ l ∷ s ∷ [])) p1
+    (gives_bind (λ l. (const character) >>= λ s. does (Svc 3) (a ∷ l ∷ s ∷ [])) p2
     (gives_bind (λ s. does (Svc 3) (a ∷ l ∷ s ∷ [])) p3 p4))))
 
-pub steps_in_char : {v0 v1 v2 v3 v4 v5 v6 v7 v8 v9 : View} {d : Low Named} {h : Named} {a c z k g v : ℕ} → Gives v0 v1 d h → Gives v1 v2 (address_in h 0) a → Gives v2 v3 (emits (Svc 4) []) c → Gives v3 v4 (const 0) z → Gives v4 v5 (emits (Set 10) (c ∷ z ∷ [])) k
-    → Gives v5 v6 (emits (Global 0) []) g → Gives v6 v7 (does Store (g ∷ k ∷ [])) tt → Gives v7 v8 (emits Max0 (c ∷ [])) v → Gives v8 v9 (does Store (a ∷ v ∷ [])) tt → Steps v0 v9 (in_char d false false)
-steps_in_char {h = h} {a = a} {c = c} {z = z} {k = k} {g = g} p0 p1 p2 p3 p4 p5 p6 p7 p8 =
-    steps_of (gives_bind (λ h. (address_in h 0) >>= λ a. (emits (Svc 4) []) >>= λ c. (const 0) >>= λ z. (emits (Set 10) (c ∷ z ∷ [])) >>= λ k. (emits (Global 0) []) >>= λ g. (store false g k) >>= λ _. (emits Max0 (c ∷ [])) >>= λ v. store false a v) p0
-    (gives_bind (λ a. (emits (Svc 4) []) >>= λ c. (const 0) >>= λ z. (emits (Set 10) (c ∷ z ∷ [])) >>= λ k. (emits (Global 0) []) >>= λ g. (store false g k) >>= λ _. (emits Max0 (c ∷ [])) >>= λ v. store false a v) p1
-    (gives_bind (λ c. (const 0) >>= λ z. (emits (Set 10) (c ∷ z ∷ [])) >>= λ k. (emits (Global 0) []) >>= λ g. (store false g k) >>= λ _. (emits Max0 (c ∷ [])) >>= λ v. store false a v) p2
-    (gives_bind (λ z. (emits (Set 10) (c ∷ z ∷ [])) >>= λ k. (emits (Global 0) []) >>= λ g. (store false g k) >>= λ _. (emits Max0 (c ∷ [])) >>= λ v. store false a v) p3
-    (gives_bind (λ k. (emits (Global 0) []) >>= λ g. (store false g k) >>= λ _. (emits Max0 (c ∷ [])) >>= λ v. store false a v) p4
-    (gives_bind (λ g. (store false g k) >>= λ _. (emits Max0 (c ∷ [])) >>= λ v. store false a v) p5
-    (gives_bind (λ _. (emits Max0 (c ∷ [])) >>= λ v. store false a v) p6
-    (gives_bind (λ v. store false a v) p7 p8))))))))
+pub steps_in_char : {v0 v1 v2 v3 v4 v5 v6 v7 v8 v9 : View} {d : Low Named} {h : Named} {a c z k g v : ℕ} (flag letter : Bool) → Gives v0 v1 d h → Gives v1 v2 (address_in h 0) a → Gives v2 v3 (emits (Svc 4) []) c → Gives v3 v4 (const 0) z → Gives v4 v5 (emits (Set 10) (c ∷ z ∷ [])) k
+    → Gives v5 v6 (emits (Global 0) []) g → Gives v6 v7 (does (if flag then StoreByte else Store) (g ∷ k ∷ [])) tt → Gives v7 v8 (emits Max0 (c ∷ [])) v → Gives v8 v9 (does (if letter then StoreByte else Store) (a ∷ v ∷ [])) tt → Steps v0 v9 (in_char d flag letter)
+steps_in_char {h = h} {a = a} {c = c} {z = z} {k = k} {g = g} flag letter p0 p1 p2 p3 p4 p5 p6 p7 p8 =
+    steps_of (gives_bind (λ h. (address_in h 0) >>= λ a. (emits (Svc 4) []) >>= λ c. (const 0) >>= λ z. (emits (Set 10) (c ∷ z ∷ [])) >>= λ k. (emits (Global 0) []) >>= λ g. (store flag g k) >>= λ _. (emits Max0 (c ∷ [])) >>= λ v. store letter a v) p0
+    (gives_bind (λ a. (emits (Svc 4) []) >>= λ c. (const 0) >>= λ z. (emits (Set 10) (c ∷ z ∷ [])) >>= λ k. (emits (Global 0) []) >>= λ g. (store flag g k) >>= λ _. (emits Max0 (c ∷ [])) >>= λ v. store letter a v) p1
+    (gives_bind (λ c. (const 0) >>= λ z. (emits (Set 10) (c ∷ z ∷ [])) >>= λ k. (emits (Global 0) []) >>= λ g. (store flag g k) >>= λ _. (emits Max0 (c ∷ [])) >>= λ v. store letter a v) p2
+    (gives_bind (λ z. (emits (Set 10) (c ∷ z ∷ [])) >>= λ k. (emits (Global 0) []) >>= λ g. (store flag g k) >>= λ _. (emits Max0 (c ∷ [])) >>= λ v. store letter a v) p3
+    (gives_bind (λ k. (emits (Global 0) []) >>= λ g. (store flag g k) >>= λ _. (emits Max0 (c ∷ [])) >>= λ v. store letter a v) p4
+    (gives_bind (λ g. (store flag g k) >>= λ _. (emits Max0 (c ∷ [])) >>= λ v. store letter a v) p5
+    (gives_bind (λ _. (emits Max0 (c ∷ [])) >>= λ v. store letter a v) p6
+    (gives_bind (λ v. store letter a v) p7 p8))))))))
 
 pub steps_invoke : {v0 v1 v2 : View} {m : Low Request} {r : Request} → Gives v0 v1 m r → Gives v1 v2 (does r.code r.words) tt → Steps v0 v2 (without_result m)
 steps_invoke p0 p1 = steps_of (gives_bind (λ r. does r.code r.words) p0 p1)

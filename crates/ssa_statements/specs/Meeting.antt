@@ -1,5 +1,5 @@
 -- Jumps to joins and to the headers of loops, as the code makes them.
-use Rattle.std.specs.Prelude.{◌≡◌, ℕ, ℤ, pos, int_lt, false, if◌then◌else◌, List, [], ◌∷◌, Some, None}
+use Rattle.std.specs.Prelude.{◌≡◌, ℕ, ℤ, pos, int_lt, if◌then◌else◌, List, [], ◌∷◌, Some, None}
 use Rattle.ob_types.specs.declared.program.Program.{Program}
 use Rattle.block_runs.specs.declared.end.End.TheVariants.{Jump}
 use Rattle.ssa_lowered.specs.Pieces.{give}
@@ -12,7 +12,7 @@ use Rattle.ob_types.specs.declared.tree.Binary.TheVariants.{Add}
 use Rattle.ob_types.specs.declared.tree.Designator.{Designator}
 use Rattle.ssa_exprs.specs.Changes.{rewound, values_of, joined}
 use Rattle.ssa_exprs.specs.Making.{View, asked, bound, closed}
-use Rattle.ssa_exprs.specs.Tables.{named_in}
+use Rattle.ssa_exprs.specs.Tables.{small_in, named_in}
 use Rattle.ssa_statements.specs.declared.control.Frame.{Frame}
 
 -- FOR: the relation of the variable to the limit where the body is done, by the step's sign
@@ -21,10 +21,10 @@ limit_condition step = if int_lt (pos 0) step then 13 else 10
 
 -- whether the variable has passed the limit, and its step
 abbrev pub reached_in : Program → Here → Designator → ℕ → ℤ → Test
-reached_in p here d last step = fork_branch (limit_condition step) (load (home_of (named_in p here d) false)) (give last)
+reached_in p here d last step = fork_branch (limit_condition step) (load (home_of (named_in p here d) (small_in p d))) (give last)
 
 abbrev pub advance_in : Program → Here → Designator → ℤ → Deed
-advance_in p here d step = assign (home_of (named_in p here d) false) (binary Add (load (home_of (named_in p here d) false)) (const (unsigned step)))
+advance_in p here d step = assign (home_of (named_in p here d) (small_in p d)) (binary Add (load (home_of (named_in p here d) (small_in p d))) (const (unsigned step)))
 
 -- the open block ends with a jump that gives the values of variables
 pub record Jumps (v w : View) (out : ℕ) (xs : List ℕ) (freq : ℕ) : Type 0 where

@@ -3,7 +3,7 @@ use Rattle.std.specs.Prelude.{ℕ, List, [], ◌∷◌, Option}
 use Rattle.block_runs.specs.declared.code.Code.TheVariants.{Fits}
 use Rattle.ob_types.specs.declared.statements.Stmt.{Stmt}
 use Rattle.ob_types.specs.declared.program.Program.{Program}
-use Rattle.ssa_lowered.specs.Data.{in_cells}
+use Rattle.ssa_lowered.specs.Data.{layout}
 use Rattle.ssa_lowered.specs.Pieces.{◌>>=◌, does, Mask}
 use Rattle.ssa_lowered.specs.Values.{Named, length_in}
 use Rattle.ssa_lowered.specs.Control.{Round, rounds}
@@ -24,9 +24,9 @@ pub record Rounds (v w : View) (mask : Mask) (head outside : ℕ) (rs : List Rou
   pub once : Once v w
   pub undoes : Undoes v.known w.known
 
--- a statement of a procedure, where each cell takes eight bytes
+-- a statement of a procedure, in the layout in use
 abbrev pub deed_in : Program → Here → Stmt → Deed
-deed_in p here s = deed p (in_cells p.types) here s
+deed_in p here s = deed p (layout p.types) here s
 
 -- the lengths of arrays are tested
 abbrev pub tested : Option ℕ → Named → Option ℕ → Named → Deed

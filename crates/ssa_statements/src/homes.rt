@@ -1,6 +1,6 @@
 //! Scalar variables, in registers and in memory.
 
-ghost use Rattle.std.specs.Prelude.{◌≡◌, false, IfOk, OnOk, [], ◌∷◌};
+ghost use Rattle.std.specs.Prelude.{◌≡◌, IfOk, OnOk, [], ◌∷◌};
 ghost use Rattle.ssa_lowered.specs.Values.{current, change, home_in};
 ghost use Rattle.ssa_exprs.specs.Making.{Gives};
 ghost use Rattle.ssa_exprs.specs.Named.{named_of};
@@ -9,28 +9,28 @@ ghost use Rattle.ssa_statements.specs.Steps.{Steps};
 
 use block_runs::Code;
 use outside::Memory;
-use ssa_exprs::{Making, Named};
+use ssa_exprs::{Making, Named, load_code, store_code};
 
 /// Where a scalar variable is.
 #[derive(Clone, Copy)]
 pub enum Home {
     /// In a register, by the variable's number.
     Register(u32),
-    /// In memory, by the value that is its address.
-    Memory(u32),
+    /// In memory, by the value that is its address, and whether it takes one byte.
+    Memory(u32, bool),
 }
 
-/// Where the scalar variable is that a designator names.
-pub fn home_at(b: &mut Making, h: Named) -> Result<Home, Memory>
-    ensures { IfOk result (λ r. Gives b.old b.new (home_in false (named_of h)) (home_value r)) }
+/// Where the scalar variable is that a designator names, which takes one byte in memory, or eight.
+pub fn home_at(b: &mut Making, h: Named, small: bool) -> Result<Home, Memory>
+    ensures { IfOk result (λ r. Gives b.old b.new (home_in small (named_of h)) (home_value r)) }
 {
     match h {
         Named::Held(x) => Ok(Home::Register(x)),
-        Named::At(a) => Ok(Home::Memory(a)),
-        Named::Beside(a, _) => Ok(Home::Memory(a)),
+        Named::At(a) => Ok(Home::Memory(a, small)),
+        Named::Beside(a, _) => Ok(Home::Memory(a, small)),
         Named::Object(p) => {
             let a = b.emit(Code::Plus(8), &[p])?;
-            Ok(Home::Memory(a))
+            Ok(Home::Memory(a, small))
         }
     }
 }
@@ -41,7 +41,10 @@ pub fn current(b: &mut Making, h: Home) -> Result<u32, Memory>
 {
     match h {
         Home::Register(x) => b.variable(x),
-        Home::Memory(a) => b.emit(Code::Load, &[a]),
+        Home::Memory(a, small) => {
+            let v = b.emit(load_code(small), &[a])?;
+            Ok(v)
+        }
     }
 }
 
@@ -51,7 +54,7 @@ pub fn change(b: &mut Making, h: Home, v: u32) -> Result<(), Memory>
 {
     match h {
         Home::Register(x) => b.assign(x, v)?,
-        Home::Memory(a) => b.act(Code::Store, &[a, v])?,
+        Home::Memory(a, small) => b.act(store_code(small), &[a, v])?,
     }
     Ok(())
 }

@@ -1,6 +1,6 @@
 //! Statements without blocks of their own.
 
-ghost use Rattle.std.specs.Prelude.{◌≡◌, false, OnOk, IfOk, [], ◌∷◌, if◌then◌else◌};
+ghost use Rattle.std.specs.Prelude.{◌≡◌, OnOk, IfOk, [], ◌∷◌, if◌then◌else◌};
 ghost use Rattle.block_runs.specs.declared.code.Code.TheVariants.{Byte};
 ghost use Rattle.ssa_lowered.specs.Pieces.{skip, does};
 ghost use Rattle.ob_types.specs.Meaning.{element_kind};
@@ -13,7 +13,7 @@ ghost use Rattle.ssa_lowered.specs.Statements.{fits, change_number, change_set};
 ghost use Rattle.ssa_lowered.specs.Values.{home_of};
 ghost use Rattle.ssa_exprs.specs.Making.{Gives, Tests};
 ghost use Rattle.ssa_exprs.specs.Named.{named_of};
-ghost use Rattle.ssa_exprs.specs.Tables.{Serves, named_in, expr_in};
+ghost use Rattle.ssa_exprs.specs.Tables.{Serves, small_in, named_in, expr_in};
 ghost use Rattle.ssa_statements.specs.Homes.{home_value};
 ghost use Rattle.ssa_statements.specs.Meeting.{reached_in, advance_in, limit_condition};
 ghost use Rattle.ssa_statements.specs.Steps.{Steps, deed_in};
@@ -23,16 +23,16 @@ use block_runs::{Code, End};
 use ob_types::{Binary, Call, Checked, Designator, TypeKind};
 use outside::Memory;
 use ssa_exprs::{
-    Making, Named, Tables, address_in, bytes_in, designated, kind_in, length_in, length_of_kind,
-    prepared, record_of_kind, two_operands, value,
+    CHARACTER_BYTES, Making, Named, Tables, address_in, bytes_in, designated, kind_in, length_in,
+    length_of_kind, prepared, record_of_kind, store_code, takes_a_byte, two_operands, value,
 };
 
 /// Where the scalar variable is that a designator names.
 pub fn place(t: &Tables, b: &mut Making, d: &Designator) -> Result<Home, Memory>
-    ensures { IfOk result (λ h. (p : Program) (here : Here) → Serves t.now p here → Gives b.old b.new (home_of (named_in p here d.now) false) (home_value h)) }
+    ensures { IfOk result (λ h. (p : Program) (here : Here) → Serves t.now p here → Gives b.old b.new (home_of (named_in p here d.now) (small_in p d.now)) (home_value h)) }
 {
     let h = designated(t, b, d)?;
-    let r = home_at(b, h)?;
+    let r = home_at(b, h, takes_a_byte(kind_in(d)))?;
     Ok(r)
 }
 
@@ -55,7 +55,7 @@ pub fn step(
     x: &Checked,
 ) -> Result<(), Memory>
     ensures { OnOk result ((p : Program) (here : Here) → Serves t.now p here
-        → Steps b.old b.new (change_number op (home_of (named_in p here d.now) false) (expr_in p here x.now.form).value
+        → Steps b.old b.new (change_number op (home_of (named_in p here d.now) (small_in p d.now)) (expr_in p here x.now.form).value
         (Rattle.ob_types.specs.Meaning.is_byte (Rattle.ob_types.specs.Meaning.kind_in d.now)))) }
 {
     let h = place(t, b, d)?;
@@ -93,7 +93,7 @@ pub fn alter(
     x: &Checked,
 ) -> Result<(), Memory>
     ensures { OnOk result ((p : Program) (here : Here) → Serves t.now p here
-        → Steps b.old b.new (change_set op (home_of (named_in p here d.now) false) (expr_in p here x.now.form).value)) }
+        → Steps b.old b.new (change_set op (home_of (named_in p here d.now) (small_in p d.now)) (expr_in p here x.now.form).value)) }
 {
     let h = place(t, b, d)?;
     let a = value(t, b, &x.form)?;
@@ -110,10 +110,11 @@ pub fn make(t: &Tables, b: &mut Making, d: &Designator) -> Result<(), Memory>
     ensures { OnOk result ((p : Program) (here : Here) → Serves t.now p here → Steps b.old b.new (deed_in p here (New d.now))) }
 {
     let r = record_of_kind(kind_in(d));
+    let cells = u64::from(t.record_cells(r));
     let bytes = u64::from(t.record(r));
     let h = place(t, b, d)?;
-    let n = b.emit(Code::Const(bytes / 8 + 1), &[])?;
-    let m = b.emit(Code::Const(bytes + 8), &[])?;
+    let n = b.emit(Code::Const(cells + 1), &[])?;
+    let m = b.emit(Code::Const((bytes + 7) / 8 * 8 + 8), &[])?;
     let g = b.emit(Code::Global(t.descriptor(r)), &[])?;
     let p = b.emit(Code::New, &[n, m, g])?;
     change(b, h, p)?;
@@ -232,7 +233,7 @@ pub fn out_string(t: &Tables, b: &mut Making, d: &Designator) -> Result<(), Memo
     let h = designated(t, b, d)?;
     let a = address_in(b, h, 0)?;
     let l = length_in(b, length_of_kind(kind_in(d)), h)?;
-    let s = b.emit(Code::Const(8), &[])?;
+    let s = b.emit(Code::Const(CHARACTER_BYTES), &[])?;
     b.act(Code::Svc(3), &[a, l, s])?;
     Ok(())
 }
@@ -247,9 +248,9 @@ pub fn in_char(t: &Tables, b: &mut Making, d: &Designator) -> Result<(), Memory>
     let z = b.emit(Code::Const(0), &[])?;
     let done = b.emit(Code::Set(10), &[c, z])?;
     let g = b.emit(Code::Global(0), &[])?;
-    b.act(Code::Store, &[g, done])?;
+    b.act(store_code(takes_a_byte(TypeKind::Bool)), &[g, done])?;
     let v = b.emit(Code::Max0, &[c])?;
-    b.act(Code::Store, &[a, v])?;
+    b.act(store_code(takes_a_byte(TypeKind::Char)), &[a, v])?;
     Ok(())
 }
 

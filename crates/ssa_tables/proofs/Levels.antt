@@ -70,16 +70,6 @@ default_any [] i a b lt = absurd (omega (arith, lt))
 default_any (x ∷ xs) zero a b lt = refl
 default_any (x ∷ xs) (suc i) a b lt = default_any xs i a b (omega (arith, lt))
 
--- all lengths are counted, in bytes
-pub bytes_counted : (count c whole : ℕ) → whole ≤ 1048576 → (count * c) % 2 ^ 64 ≡ whole % 2 ^ 64 → (count * (8 * c)) % 2 ^ 64 ≡ 8 * whole
-bytes_counted count c whole few h =
-    ap (λ m. m % 2 ^ 64) (turned count c)
-    ∙ sym (mul-mod_first (count * c) 8 (2 ^ 64))
-    ∙ ap (λ m. (m * 8) % 2 ^ 64) h
-    ∙ small whole few
-  where
-    turned : (a b : ℕ) → a * (8 * b) ≡ a * b * 8
-    turned a b = grind arith
-
-    small : (n : ℕ) → n ≤ 1048576 → (n % 2 ^ 64 * 8) % 2 ^ 64 ≡ 8 * n
-    small n le = omega (arith, le)
+-- all lengths are counted
+pub cells_counted : (count c whole : ℕ) → whole ≤ 1048576 → (count * c) % 2 ^ 64 ≡ whole % 2 ^ 64 → (count * c) % 2 ^ 64 ≡ whole
+cells_counted count c whole few h = h ∙ omega (arith, few)

@@ -17,7 +17,7 @@ use Rattle.ob_types.specs.declared.program.Module.{Module}
 use Rattle.ob_types.specs.declared.program.Procedure.{Procedure}
 use Rattle.ob_types.specs.declared.program.Program.{Program}
 use Rattle.ob_types.proofs.Tests.{less_or_past}
-use Rattle.ssa_lowered.specs.Data.{Layout, in_cells, room, room_of_all, modules_room, global_at, globals_room, descriptor_at, text_room, text_at, within}
+use Rattle.ssa_lowered.specs.Data.{Layout, layout, room, room_of_all, modules_room, global_at, globals_room, descriptor_at, text_room, text_at, within}
 use Rattle.ssa_lowered.specs.Pieces.{give}
 use Rattle.ssa_lowered.specs.Limits.{global_cells, constant_cells}
 use Rattle.ssa_lowered.specs.Lowered.{Here, here_of, by_mode, parameter_by, variable_of}
@@ -27,7 +27,7 @@ use Rattle.ssa_exprs.specs.Named.{named_of}
 use Rattle.ssa_exprs.specs.Tables.{Serves, clamped, of_row, global_in, descriptor_in, level_in, size_in, offset_in, record_in, local_in, site_by, parameter_in}
 use Rattle.ssa_exprs.specs.declared.tables.Tables.{Tables}
 use Rattle.ssa_tables.specs.Measured.{HasSizes, IsMeasured}
-use Rattle.ssa_tables.specs.Places.{starts, finish, size_by, field_size, module_starts, module_finish, base_by, string_size}
+use Rattle.ssa_tables.specs.Places.{starts, finish, size_by, type_cells_by, field_size, module_starts, module_finish, base_by, string_size}
 use Rattle.ssa_tables.specs.Shared.{ServesAll, ServesFrom}
 use Rattle.ssa_tables.specs.Local.{seen, site_of, distance, name_by, parameters_from, AreLocals}
 use Rattle.ssa_tables.specs.declared.locals.Variable.{Variable}
@@ -88,7 +88,7 @@ module _ (p : Program) (sizes : List ℕ) (known : (k : ℕ) → size_by sizes k
   t = p.types
 
   abbrev l : Layout
-  l = in_cells t
+  l = layout t
 
   pub all_room : (ks : List ℕ) → sum_by (size_by sizes) ks ≡ room_of_all l ks
   all_room [] = refl
@@ -203,6 +203,18 @@ module _ (p : Program) (sizes : List ℕ) (known : (k : ℕ) → size_by sizes k
             none : (r : ℕ) → length t.records ≤ r → record_cells t r ≡ 0
             none r le = ap (λ (x : RecordType). base_cells x.base (λ b. Rattle.ob_types.specs.Layout.record_within t (length t.kinds + length t.records) b) + sum (map (λ k. Rattle.ob_types.specs.Layout.cells_within t (length t.kinds + length t.records) k) (types_of x.fields))) (get_or_past t.records r no_record_type le)
 
+    cells_is : (r : ℕ) → get_or (map (λ (x : RecordType). x.cells) t.records) r 0 ≡ record_cells t r
+    cells_is r = by (less_or_past r (length t.records))
+      where
+        by : (r < length t.records) ⊎ (length t.records ≤ r) → get_or (map (λ (x : RecordType). x.cells) t.records) r 0 ≡ record_cells t r
+        by (inl lt) = get_or-map (λ (x : RecordType). x.cells) t.records r no_record_type 0 lt ∙ has.records r lt
+        by (inr le) = let e = whole_is r in let f = get_or_past record_bytes r 0 (subst (λ n. n ≤ r) (sym (length_of (λ (x : RecordType). 8 * x.cells) t.records)) le) in
+            get_or_past (map (λ (x : RecordType). x.cells) t.records) r 0 (subst (λ n. n ≤ r) (sym (length_of (λ (x : RecordType). x.cells) t.records)) le) ∙ omega (arith, e, f)
+          where
+            length_of : (f : RecordType → ℕ) (xs : List RecordType) → length (map f xs) ≡ length xs
+            length_of f [] = refl
+            length_of f (x ∷ xs) = ap suc (length_of f xs)
+
     base_is : (o : Option ℕ) → base_by record_bytes o ≡ 8 * base_cells o (record_cells t)
     base_is None = refl
     base_is (Some b) = whole_is b
@@ -279,14 +291,16 @@ module _ (p : Program) (sizes : List ℕ) (known : (k : ℕ) → size_by sizes k
     -- all of them
     pub serves_all : (x : Tables) (first : ℕ) → module_finish (size_by sizes) 8 p.modules ≤ 8388608
         → x.globals ≡ module_starts (size_by sizes) 8 p.modules → x.descriptors ≡ module_finish (size_by sizes) 8 p.modules
-        → x.levels ≡ map (λ (r : RecordType). r.level) t.records → x.sizes ≡ sizes → x.records ≡ record_bytes → x.offsets ≡ map row_of t.records
+        → x.levels ≡ map (λ (r : RecordType). r.level) t.records → x.sizes ≡ sizes → x.records ≡ record_bytes → x.cells ≡ map (λ (r : RecordType). r.cells) t.records → ((k : ℕ) → type_cells_by x.type_cells k ≡ cells t k) → x.offsets ≡ map row_of t.records
         → first ≡ within (module_finish (size_by sizes) 8 p.modules + 128 * length t.records) → x.texts ≡ starts string_size first (texts_of p.procedures) → ServesAll x p
-    serves_all x first few globals descriptors levels all records offsets place texts = record {
+    serves_all x first few globals descriptors levels all records cells_of_records cells_of_types offsets place texts = record {
       global = λ m v. ap₂ (λ rows d. of_row rows m v d) globals descriptors ∙ global_is few m v;
       descriptor = λ r. ap (λ d. min (d + 128 * r) 16777215) (descriptors ∙ globals_end few);
       level = λ r. ap (λ xs. get_or xs r 0) levels ∙ level_is r;
       size = λ k. ap (λ xs. size_by xs k) all ∙ known k;
       whole = λ r. ap (λ xs. get_or xs r 0) records ∙ whole_is r;
+      cells = λ r. ap (λ xs. get_or xs r 0) cells_of_records ∙ cells_is r;
+      type_cells = cells_of_types;
       offset = λ r field. ap (λ rows. of_row rows r field 0) offsets ∙ (offset_both r field).0;
       short = λ r field. let e = ap (λ rows. of_row rows r field 0) offsets ∙ (offset_both r field).0 in let f = (offset_both r field).1 in omega (arith, e, f);
       text = λ n. ap (λ xs. clamped xs n) texts ∙ string_is first n place few;
@@ -294,13 +308,14 @@ module _ (p : Program) (sizes : List ℕ) (known : (k : ℕ) → size_by sizes k
 
 -- and with what belongs to a procedure
 pub serves_one : (x y : Tables) (p : Program) (f : ℕ) (q : Procedure) (v : Locals) → ServesFrom x p f → AreLocals v p f q
-    → y ≡ record x { locals = map (λ (w : Variable). distance v.bytes w.place) v.variables; parameters = parameters_from 0 q.formals } → Serves y p (here_of p (in_cells p.types) f q)
-serves_one x y p f q v from are is = subst (λ z. Serves z p (here_of p (in_cells p.types) f q)) (sym is) (record {
+    → y ≡ record x { locals = map (λ (w : Variable). distance v.bytes w.place) v.variables; parameters = parameters_from 0 q.formals } → Serves y p (here_of p (layout p.types) f q)
+serves_one x y p f q v from are is = subst (λ z. Serves z p (here_of p (layout p.types) f q)) (sym is) (record {
   global = from.all.global;
   descriptor = from.all.descriptor;
   level = from.all.level;
   size = from.all.size;
   whole = from.all.whole;
+  cells = from.all.cells;
   offset = from.all.offset;
   short = from.all.short;
   text = λ k. ap (λ n. clamped x.texts (n + k)) from.texts ∙ from.all.text (text_number p f k);
@@ -311,6 +326,6 @@ serves_one x y p f q v from are is = subst (λ z. Serves z p (here_of p (in_cell
 -- what belongs to no procedure stays
 pub from_same : (x y : Tables) (p : Program) (f : ℕ) (locals : List (Option ℕ)) (parameters : List Rattle.ssa_exprs.specs.declared.named.Named.Named) → ServesFrom x p f → y ≡ record x { locals = locals; parameters = parameters } → ServesFrom y p f
 from_same x y p f locals parameters from is = subst (λ z. ServesFrom z p f) (sym is) (record {
-  all = record { global = from.all.global; descriptor = from.all.descriptor; level = from.all.level; size = from.all.size; whole = from.all.whole; offset = from.all.offset; short = from.all.short; text = from.all.text };
+  all = record { global = from.all.global; descriptor = from.all.descriptor; level = from.all.level; size = from.all.size; whole = from.all.whole; cells = from.all.cells; type_cells = from.all.type_cells; offset = from.all.offset; short = from.all.short; text = from.all.text };
   texts = from.texts;
 })

@@ -20,12 +20,12 @@ use Rattle.ob_types.specs.declared.program.Program.{Program}
 use Rattle.ob_types.proofs.Tests.{no}
 use Rattle.ssa_assigned.specs.Assigned.{has}
 use Rattle.ssa_assigned.proofs.Noting.{or_assoc, or_false}
-use Rattle.ssa_lowered.specs.Data.{Layout, in_cells, room, within}
+use Rattle.ssa_lowered.specs.Data.{Layout, layout, room, within}
 use Rattle.ssa_lowered.specs.Pieces.{Mask, rest}
 use Rattle.ssa_lowered.specs.Lowered.{here_of, zeroed_bytes, lent_in_body}
 use Rattle.ssa_lowered.specs.Variables.{Site, Register, Memory, is_structured, structured_room, scalars_lent, placed, value_parameters, words_by, words_of}
 use Rattle.ssa_lowered.specs.Variables.{Variable as VariableThere}
-use Rattle.ssa_tables.specs.Places.{finish, size_by}
+use Rattle.ssa_tables.specs.Places.{finish, size_by, type_cells_by}
 use Rattle.ssa_tables.specs.Local.{pair_of, declared_in, seen, marked, place_in, ends_behind, placed_by, ends_by, structured_size, AreLocals}
 use Rattle.ssa_tables.specs.declared.locals.Variable.{Variable}
 use Rattle.ssa_tables.specs.declared.locals.Locals.{Locals}
@@ -125,7 +125,7 @@ single_by f w _ h = refl
 
 module _ (t : Table) (sizes : List ℕ) (known : (k : ℕ) → size_by sizes k ≡ 8 * cells t k) where
   abbrev l : Layout
-  l = in_cells t
+  l = layout t
 
   pub room_is : (k : ℕ) → room l k ≡ size_by sizes k
   room_is k = rounded_cells (cells t k) ∙ sym (known k)
@@ -152,19 +152,6 @@ module _ (t : Table) (sizes : List ℕ) (known : (k : ℕ) → size_by sizes k �
       let a = sizes_cons k ks in
       let b = sum_by-cons (λ x. x) (cells t k) (map (cells t) ks) in
       omega (arith, one, more, a, b)
-
-  all_bytes : (vs : List Variable) → sum_by (λ (v : Variable). size_by sizes v.type_number) vs ≡ 8 * cells_of_all t (map type_in vs)
-  all_bytes [] = refl
-  all_bytes (v ∷ vs) =
-      let a = sum_by-cons (λ (v : Variable). size_by sizes v.type_number) v vs in
-      let b = sum_by-cons (λ x. x) (cells t v.type_number) (map (cells t) (map type_in vs)) in
-      let c = known v.type_number in
-      let more = all_bytes vs in
-      omega (arith, a, b, c, more)
-
-  -- all variables one behind the other
-  pub variables_finish_is : (vs : List Variable) → finish (λ (v : Variable). size_by sizes v.type_number) 0 vs ≡ within (8 * cells_of_all t (map type_in vs))
-  variables_finish_is vs = let e = all_bytes vs in finish_is (λ (v : Variable). size_by sizes v.type_number) 0 vs (omega arith) ∙ (omega (arith, e))
 
   structured_bytes : (vs : List Variable) → sum_by (structured_size t sizes) vs ≡ structured_room t l (map type_in vs)
   structured_bytes [] = refl
@@ -281,23 +268,34 @@ module _ (t : Table) (sizes : List ℕ) (known : (k : ℕ) → size_by sizes k �
 
   -- a procedure's variables
   module _ (p : Program) (f : ℕ) (q : Procedure) (of_table : p.types ≡ t) where
-    pub locals_are : (x : Locals) (vs : List Variable) (ms : List Bool) → map pair_of vs ≡ declared_in q → length ms ≡ length vs → Marks ms (lent_in_body q) vs → finish (λ (v : Variable). size_by sizes v.type_number) 0 vs ≤ 8388608
-        → x.variables ≡ placed_by t sizes ms (ends 0 x.structured) vs → x.bytes ≡ (ends_by t sizes ms (ends 0 x.structured) vs).scalar → x.structured ≡ finish (structured_size t sizes) 0 vs → x.cells ≡ finish (λ (v : Variable). size_by sizes v.type_number) 0 vs / 8 → AreLocals x p f q
-    locals_are x vs ms declared same marks few variables bytes structured counted =
+    pub locals_are : (x : Locals) (vs : List Variable) (ms : List Bool) → map pair_of vs ≡ declared_in q → length ms ≡ length vs → Marks ms (lent_in_body q) vs → x.cells ≡ cells_of_all t (map type_in vs) → x.cells ≤ 1048576
+        → x.variables ≡ placed_by t sizes ms (ends 0 x.structured) vs → x.bytes ≡ (ends_by t sizes ms (ends 0 x.structured) vs).scalar → x.structured ≡ finish (structured_size t sizes) 0 vs → AreLocals x p f q
+    locals_are x vs ms declared same marks counted few variables bytes structured =
         let lent = lent_in_body q in
         let types = declared_types q vs declared in
-        let all = variables_finish_is vs in
         let fits = memory_fits lent (map type_in vs) in
-        let zeroed : x.structured ≡ structured_room t l (map type_in vs) = structured ∙ structured_finish_is vs (omega (arith, all, few, fits)) in
-        let range : Range lent 0 x.structured vs = (omega (arith, all, few, fits), omega (arith, all, few, fits, zeroed)) in
+        let zeroed : x.structured ≡ structured_room t l (map type_in vs) = structured ∙ structured_finish_is vs (omega (arith, counted, few, fits)) in
+        let range : Range lent 0 x.structured vs = (omega (arith, counted, few, fits), omega (arith, counted, few, fits, zeroed)) in
         let whole : x.structured ≡ structured_room t l (locals_of q) = zeroed ∙ ap (structured_room t l) types in
         let ended : x.bytes ≡ x.structured + 8 * scalars_lent t l lent (map type_in vs) = bytes ∙ ends_is ms lent vs 0 x.structured same marks range in
         record {
-          variables = ap (map seen) variables ∙ placed_is ms lent vs 0 x.structured same marks range ∙ ap₂ (λ n ps. placed t l lent 0 n ps) whole declared ∙ sym (ap (λ u. placed u (in_cells u) lent 0 (structured_room u (in_cells u) (locals_of q)) (declared_in q)) of_table);
-          cells = (omega (arith, all, few, counted)) ∙ ap₂ (λ u ks. cells_of_all u ks) (sym of_table) types;
-          bytes = ended ∙ ap₂ (λ n ks. n + 8 * scalars_lent t l lent ks) whole types ∙ sym (ap (λ u. structured_room u (in_cells u) (locals_of q) + 8 * scalars_lent u (in_cells u) lent (locals_of q)) of_table);
-          structured = whole ∙ sym (ap (λ u. structured_room u (in_cells u) (locals_of q)) of_table);
+          variables = ap (map seen) variables ∙ placed_is ms lent vs 0 x.structured same marks range ∙ ap₂ (λ n ps. placed t l lent 0 n ps) whole declared ∙ sym (ap (λ u. placed u (layout u) lent 0 (structured_room u (layout u) (locals_of q)) (declared_in q)) of_table);
+          cells = counted ∙ ap₂ (λ u ks. cells_of_all u ks) (sym of_table) types;
+          bytes = ended ∙ ap₂ (λ n ks. n + 8 * scalars_lent t l lent ks) whole types ∙ sym (ap (λ u. structured_room u (layout u) (locals_of q) + 8 * scalars_lent u (layout u) lent (locals_of q)) of_table);
+          structured = whole ∙ sym (ap (λ u. structured_room u (layout u) (locals_of q)) of_table);
         }
+
+-- the cells of a procedure's variables
+module _ (t : Table) (counts : List ℕ) (counted : (k : ℕ) → type_cells_by counts k ≡ cells t k) where
+  abbrev counted_in : Variable → ℕ
+  counted_in v = type_cells_by counts v.type_number
+
+  all_counted : (vs : List Variable) → sum_by counted_in vs ≡ cells_of_all t (map type_in vs)
+  all_counted [] = refl
+  all_counted (v ∷ vs) = sum_by-cons counted_in v vs ∙ ap₂ (λ a b. a + b) (counted v.type_number) (all_counted vs) ∙ sym (sum_by-cons (λ x. x) (cells t v.type_number) (map (cells t) (map type_in vs)))
+
+  pub declared_cells_are : (vs : List Variable) → finish counted_in 0 vs ≡ within (cells_of_all t (map type_in vs))
+  declared_cells_are vs = let e = all_counted vs in finish_is counted_in 0 vs (omega arith) ∙ omega (arith, e)
 
 -- a loop's step over marks and variables
 module _ (t : Table) (sizes : List ℕ) where

@@ -8,7 +8,7 @@ use Rattle.ob_types.specs.declared.types.Mode.TheVariants.{Record as OfRecord, O
 use Rattle.ob_types.specs.declared.types.Formal.{Formal}
 use Rattle.ob_types.specs.declared.program.Procedure.{Procedure}
 use Rattle.ob_types.specs.declared.program.Program.{Program}
-use Rattle.ssa_lowered.specs.Data.{in_cells, within}
+use Rattle.ssa_lowered.specs.Data.{layout, within}
 use Rattle.ssa_lowered.specs.Limits.{Limit}
 use Rattle.ssa_lowered.specs.Lowered.{here_of, zeroed_bytes}
 use Rattle.ssa_lowered.specs.Variables.{Site, Register, Memory, is_structured, value_parameters, words_by}
@@ -68,10 +68,10 @@ module _ (t : Table) (sizes : List ℕ) where
 
 -- the variables of a procedure of a program, their cells, and the bytes of its local data
 pub record AreLocals (x : Locals) (p : Program) (f : ℕ) (q : Procedure) : Type 0 where
-  pub variables : map seen x.variables ≡ (here_of p (in_cells p.types) f q).variables
+  pub variables : map seen x.variables ≡ (here_of p (layout p.types) f q).variables
   pub cells : x.cells ≡ cells_of_all p.types (locals_of q)
-  pub bytes : x.bytes ≡ (here_of p (in_cells p.types) f q).bytes
-  pub structured : x.structured ≡ zeroed_bytes p (in_cells p.types) q
+  pub bytes : x.bytes ≡ (here_of p (layout p.types) f q).bytes
+  pub structured : x.structured ≡ zeroed_bytes p (layout p.types) q
 
 -- the limit of a procedure's local data
 abbrev pub local_limit : Program → ℕ → Procedure → Option Limit

@@ -17,6 +17,10 @@ finish size at (x ∷ xs) = finish size (within (at + size x)) xs
 abbrev pub size_by : List ℕ → ℕ → ℕ
 size_by sizes k = slice_index_or sizes k 8
 
+-- a type's cells by a table of all types' cells
+abbrev pub type_cells_by : List ℕ → ℕ → ℕ
+type_cells_by counts k = slice_index_or counts k 1
+
 abbrev pub field_size : List ℕ → Field → ℕ
 field_size sizes f = size_by sizes f.type_number
 
@@ -37,3 +41,7 @@ base_by records (Some b) = slice_index_or records b 0
 -- a string with its 0X, eight bytes a character
 abbrev pub string_size : List ℕ → ℕ
 string_size xs = rounded (8 * suc (length xs))
+
+-- and in cells
+abbrev pub string_cells : List ℕ → ℕ
+string_cells xs = suc (length xs)

@@ -1,7 +1,11 @@
--- Strings that are added to those that stand before.
+-- Strings that are put behind those that stand before.
 use Rattle.std.specs.Prelude.{◌≡◌, ℕ, List, ◌++◌}
-use Rattle.ssa_tables.specs.Places.{starts, string_size}
+use Rattle.ssa_tables.specs.Places.{starts, string_size, finish, string_cells}
 
 -- with what comes behind, they are as if they had been put in line at once
 pub record Adds (old new : List ℕ) (first end : ℕ) (texts : List (List ℕ)) : Type 0 where
   pub by : (rest : List (List ℕ)) → new ++ starts string_size end rest ≡ old ++ starts string_size first (texts ++ rest)
+
+-- with what comes behind, their cells are counted as if all had been counted at once
+pub record Counts (first end : ℕ) (texts : List (List ℕ)) : Type 0 where
+  pub by : (rest : List (List ℕ)) → finish string_cells end rest ≡ finish string_cells first (texts ++ rest)

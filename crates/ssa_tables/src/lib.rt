@@ -8,6 +8,7 @@
 //! places that the tables say (`constants`).
 #![tactic(auto)]
 
+mod cells;
 pub mod constants;
 mod fault;
 mod fields;

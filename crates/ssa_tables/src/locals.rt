@@ -1,16 +1,17 @@
 //! A procedure's variables: which are in memory, and where.
 
 ghost use Rattle.std.specs.Prelude.{◌≡◌, ◌+◌, ◌*◌, ◌≤◌, ◌<◌, ◌++◌, ℕ, map, length, replicate, false, slice_index_or, Option, Some, None, IfOk, OnOk, IfErr};
-ghost use Rattle.ob_types.specs.Layout.{kind_of, cells};
+ghost use Rattle.ob_types.specs.Layout.{kind_of, cells, cells_of_all};
 ghost use Rattle.ob_types.specs.Meaning.{is_value};
 ghost use Rattle.ob_types.specs.declared.program.Program.{Program};
 ghost use Rattle.ssa_assigned.specs.Assigned.{has};
 ghost use Rattle.ssa_lowered.specs.Variables.{is_structured, value_parameters, words_by, words_of};
 ghost use Rattle.ssa_tables.specs.Faults.{Tells};
 ghost use Rattle.ssa_tables.specs.Measured.{HasSizes};
-ghost use Rattle.ssa_tables.specs.Places.{finish, size_by};
+ghost use Rattle.ssa_tables.specs.Places.{finish, size_by, type_cells_by};
 ghost use Rattle.ssa_tables.specs.Local.{AreLocals, declared_in, pair_of, marked, place_in, ends_behind, placed_by, ends_by, structured_size, local_limit};
 
+use crate::cells::declared_cells;
 use crate::fault::LowerFault;
 use crate::lent::lend_in_body;
 use crate::places::{beyond, size_in};
@@ -56,17 +57,19 @@ pub struct Ends {
     pub scalar: u32,
 }
 
-/// The variables of a procedure, by the sizes of all types; it is refused where they have over 1,048,576 cells.
+/// The variables of a procedure, by the sizes and the cells of all types; it is refused where they have over 1,048,576 cells.
 pub fn local_data(
     alloc: Global,
     types: &Types,
     sizes: &[u32],
+    counts: &[u32],
     f: u32,
     procedure: &Procedure,
 ) -> Result<Locals, LowerFault>
     requires sizes { HasSizes types.now }
     requires words { words_of procedure.now.formals ≤ 24 }
     requires known { (k : ℕ) → size_by sizes.now k ≡ 8 * cells types.now k }
+    requires counted { (k : ℕ) → type_cells_by counts.now k ≡ cells types.now k }
     ensures ok { IfOk result (λ x. (p : Program) → p.types ≡ types.now → AreLocals x p f procedure.now) }
     ensures within { OnOk result ((p : Program) → p.types ≡ types.now → local_limit p f procedure.now ≡ None) }
     ensures limit { IfErr result (λ e. (p : Program) → p.types ≡ types.now → Tells e (local_limit p f procedure.now)) }
@@ -75,13 +78,14 @@ pub fn local_data(
         Ok(declared) => declared,
         Err(_) => return Err(LowerFault::Memory),
     };
-    if variables_finish(sizes, declared.as_slice()) > 8388608 {
+    let count = declared_cells(counts, declared.as_slice());
+    if count > 1048576 {
         return Err(LowerFault::Limit {
             number: 59,
             index: f,
         });
     }
-    match placed(alloc, types, sizes, procedure, declared.as_slice()) {
+    match placed(alloc, types, sizes, procedure, declared.as_slice(), count) {
         Ok(locals) => Ok(locals),
         Err(_) => Err(LowerFault::Memory),
     }
@@ -157,17 +161,6 @@ pub fn words(mode: Mode) -> u32
     }
 }
 
-/// Where the last of some variables would end, if all stood one behind the other.
-fn variables_finish(sizes: &[u32], list: &[Variable]) -> u32
-    ensures { result ≡ finish (λ v. size_by sizes.now v.type_number) 0 list.now }
-{
-    let mut at = 0;
-    for v in list {
-        at = beyond(at, size_in(sizes, v.type_number));
-    }
-    at
-}
-
 /// Where the last array or record ends.
 fn structured_finish(types: &Types, sizes: &[u32], list: &[Variable]) -> u32
     ensures { result ≡ finish (structured_size types.now sizes.now) 0 list.now }
@@ -215,18 +208,20 @@ fn marks(alloc: Global, count: usize, lent: &[u32]) -> Result<Vec<bool>, Memory>
     Ok(list)
 }
 
-/// The variables of a procedure with their places.
+/// The variables of a procedure with their places, by how many cells they have.
 fn placed(
     alloc: Global,
     types: &Types,
     sizes: &[u32],
     procedure: &Procedure,
     declared: &[Variable],
+    count: u32,
 ) -> Result<Locals, Memory>
     requires sizes { HasSizes types.now }
     requires known { (k : ℕ) → size_by sizes.now k ≡ 8 * cells types.now k }
     requires declared { map pair_of declared.now ≡ declared_in procedure.now }
-    requires few { finish (λ v. size_by sizes.now v.type_number) 0 declared.now ≤ 8388608 }
+    requires counted { count ≡ cells_of_all types.now (map (λ v. v.type_number) declared.now) }
+    requires few { count ≤ 1048576 }
     ensures { IfOk result (λ x. (p : Program) (f : ℕ) → p.types ≡ types.now → AreLocals x p f procedure.now) }
 {
     let lent = lend_in_body(alloc, procedure)?;
@@ -235,7 +230,7 @@ fn placed(
     let placed = place_all(alloc, types, sizes, marks.as_slice(), declared, structured)?;
     Ok(Locals {
         variables: placed.variables,
-        cells: variables_finish(sizes, declared) / 8,
+        cells: count,
         bytes: placed.bytes,
         structured,
     })

@@ -2,7 +2,7 @@
 
 ghost use Rattle.std.specs.Prelude.{◌≡◌, ◌≤◌, ℕ, suc, [], map, Some, None, slice_get, IfOk, OnOk, IfErr};
 ghost use Rattle.ob_types.specs.declared.program.Program.{Program as ProgramThere};
-ghost use Rattle.ssa_lowered.specs.Data.{in_cells};
+ghost use Rattle.ssa_lowered.specs.Data.{layout};
 ghost use Rattle.ssa_lowered.specs.Lowered.{here_of};
 ghost use Rattle.ssa_lowered.specs.Variables.{words_of};
 ghost use Rattle.ssa_exprs.specs.Tables.{Serves};
@@ -33,12 +33,14 @@ pub fn enter(
     requires there { slice_get program.now.procedures f ≡ Some procedure.now }
     requires from { ServesFrom tables.old program.now f }
     ensures ok { IfOk result (λ x. AreLocals x program.now f procedure.now) }
-    ensures serves { OnOk result (Serves tables.new program.now (here_of program.now (in_cells program.now.types) f procedure.now)) }
+    ensures serves { OnOk result (Serves tables.new program.now (here_of program.now (layout program.now.types) f procedure.now)) }
     ensures from { ServesFrom tables.new program.now f }
     ensures within { OnOk result (local_limit program.now f procedure.now ≡ None) }
     ensures limit { IfErr result (λ e. Tells e (local_limit program.now f procedure.now)) }
 {
-    let locals = match local_data(alloc, &program.types, tables.sizes.as_slice(), f, procedure) {
+    let sizes = tables.sizes.as_slice();
+    let counts = tables.type_cells.as_slice();
+    let locals = match local_data(alloc, &program.types, sizes, counts, f, procedure) {
         Ok(locals) => locals,
         Err(e) => return Err(e),
     };

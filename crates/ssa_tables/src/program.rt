@@ -1,18 +1,18 @@
 //! What all procedures of a program share.
 
-ghost use Rattle.std.specs.Prelude.{◌≡◌, ◌+◌, ◌-◌, ◌*◌, ◌≤◌, ℕ, min, length, None, slice_index, IfOk, OnOk, IfErr};
+ghost use Rattle.std.specs.Prelude.{◌≡◌, ◌+◌, ◌*◌, ◌≤◌, ℕ, min, length, None, IfOk, OnOk, IfErr};
 ghost use Rattle.ob_types.specs.Layout.{cells};
-ghost use Rattle.ob_types.specs.declared.program.Program.{Program as ProgramThere};
 ghost use Rattle.ssa_tables.specs.Faults.{Tells, first_limit, last_limit};
 ghost use Rattle.ssa_tables.specs.Measured.{IsMeasured};
-ghost use Rattle.ssa_tables.specs.Places.{module_finish, size_by};
-ghost use Rattle.ssa_tables.specs.Shared.{ServesAll, ServesFrom};
+ghost use Rattle.ssa_tables.specs.Places.{module_finish, type_cells_by};
+ghost use Rattle.ssa_tables.specs.Shared.{ServesFrom};
 
+use crate::cells::{constant_cells, module_cells};
 use crate::fault::LowerFault;
 use crate::fields::field_offsets;
 use crate::globals::{module_places, modules_end};
 use crate::places::beyond;
-use crate::sizes::{record_levels, record_sizes, type_sizes};
+use crate::sizes::{cells_of_records, record_levels, record_sizes, type_cells, type_sizes};
 use crate::strings::string_places;
 use items::Items;
 use ob_types::Program;
@@ -34,31 +34,28 @@ pub fn program_tables(alloc: Global, program: &Program) -> Result<Tables, LowerF
             index: 0,
         });
     }
-    let sizes = match type_sizes(alloc, &program.types) {
-        Ok(sizes) => sizes,
+    let counts = match type_cells(alloc, &program.types) {
+        Ok(counts) => counts,
         Err(_) => return Err(LowerFault::Memory),
     };
-    let descriptors = modules_end(sizes.as_slice(), 8, program.modules.as_slice());
-    if descriptors > 8388608 {
+    if module_cells(counts.as_slice(), program.modules.as_slice()) > 1048576 {
         return Err(LowerFault::Limit {
             number: 53,
             index: 0,
         });
     }
-    match shared(alloc, program, sizes, descriptors) {
+    match shared(alloc, program, counts) {
         Ok(tables) => Ok(tables),
         Err(_) => Err(LowerFault::Memory),
     }
 }
 
 /// The program is refused, with limit 58, where its descriptors and strings have over 262,144 cells.
-pub fn check_constants(tables: &Tables) -> Result<(), LowerFault>
-    ensures within { OnOk result ((p : ProgramThere) → ServesAll tables.now p → first_limit p ≡ None → last_limit p ≡ None) }
-    ensures limit { IfErr result (λ e. (p : ProgramThere) → ServesAll tables.now p → first_limit p ≡ None → Tells e (last_limit p)) }
+pub fn check_constants(program: &Program) -> Result<(), LowerFault>
+    ensures within { OnOk result (last_limit program.now ≡ None) }
+    ensures limit { IfErr result (λ e. Tells e (last_limit program.now)) }
 {
-    let end = last_place(tables.texts.as_slice());
-    let most = u64::from(tables.descriptors) + 2097152;
-    if u64::from(end) > most {
+    if constant_cells(program) > 262144 {
         return Err(LowerFault::Limit {
             number: 58,
             index: 0,
@@ -67,35 +64,22 @@ pub fn check_constants(tables: &Tables) -> Result<(), LowerFault>
     Ok(())
 }
 
-/// Where the last string ends.
-fn last_place(texts: &[u32]) -> u32
-    ensures { result ≡ slice_index texts.now (length texts.now - 1) }
-{
-    if texts.len() == 0 {
-        0
-    } else {
-        texts[texts.len() - 1]
-    }
-}
-
-/// All tables, by the sizes of types and the place behind the variables of all modules.
-fn shared(
-    alloc: Global,
-    program: &Program,
-    sizes: Items<u32>,
-    descriptors: u32,
-) -> Result<Tables, Memory>
+/// All tables, by the cells of types.
+fn shared(alloc: Global, program: &Program, type_cells: Items<u32>) -> Result<Tables, Memory>
     requires measured { IsMeasured program.now }
-    requires known { (k : ℕ) → size_by sizes k ≡ 8 * cells program.now.types k }
-    requires place { descriptors ≡ module_finish (size_by sizes) 8 program.now.modules }
-    requires few { descriptors ≤ 8388608 }
+    requires known { (k : ℕ) → type_cells_by type_cells k ≡ cells program.now.types k }
+    requires few { module_finish (type_cells_by type_cells) 1 program.now.modules ≤ 1048576 }
     ensures { IfOk result (λ t. ServesFrom t program.now 0) }
 {
     let types = &program.types;
+    let modules = program.modules.as_slice();
     let procedures = program.procedures.as_slice();
+    let sizes = type_sizes(alloc, types, type_cells.as_slice())?;
     let records = record_sizes(alloc, types)?;
+    let cells = cells_of_records(alloc, types)?;
     let levels = record_levels(alloc, types)?;
-    let globals = module_places(alloc, sizes.as_slice(), 8, program.modules.as_slice())?;
+    let globals = module_places(alloc, sizes.as_slice(), 8, modules)?;
+    let descriptors = modules_end(sizes.as_slice(), 8, modules);
     let offsets = field_offsets(alloc, types, sizes.as_slice(), records.as_slice())?;
     let first = behind_descriptors(descriptors, types.records().len());
     let texts = string_places(alloc, first, procedures)?;
@@ -106,6 +90,8 @@ fn shared(
         offsets,
         sizes,
         records,
+        cells,
+        type_cells,
         texts,
         first_text: 0,
         parameters: Items::new(alloc),

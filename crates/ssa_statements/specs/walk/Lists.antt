@@ -9,7 +9,7 @@ use Rattle.ob_types.specs.declared.statements.Stmt.{Stmt}
 use Rattle.ob_types.specs.declared.statements.TypePart.{TypePart}
 use Rattle.ob_types.specs.declared.tree.Designator.{Designator}
 use Rattle.ssa_lowered.specs.Control.{choose, Round, loop, repeat, case}
-use Rattle.ssa_lowered.specs.Data.{in_cells}
+use Rattle.ssa_lowered.specs.Data.{layout}
 use Rattle.ssa_lowered.specs.Lowered.{Here, deeds_of}
 use Rattle.ssa_lowered.specs.Pieces.{◌>>=◌}
 use Rattle.ssa_lowered.specs.Statements.{Deed}
@@ -23,9 +23,9 @@ use Rattle.ssa_statements.specs.declared.walk.rungs.Dynamic.{Dynamic}
 use Rattle.ssa_statements.specs.walk.Rungs.{coded_cases, coded_types}
 
 module _ (p : Program) (here : Here) where
-  -- the statements of a list, where each cell takes eight bytes
+  -- the statements of a list, in the layout in use
   abbrev pub deeds_in : List Stmt → Deed
-  deeds_in ss = deeds_of p (in_cells p.types) here ss
+  deeds_in ss = deeds_of p (layout p.types) here ss
 
   -- the branches of IF; behind them these statements, as this code
   abbrev pub alternatives_in : List Branch → List Stmt → Deed → Deed

@@ -8,7 +8,7 @@ use Rattle.ob_types.specs.Meaning.{texts_of}
 use Rattle.ob_types.specs.declared.program.Module.{Module}
 use Rattle.ob_types.specs.declared.program.Program.{Program}
 use Rattle.ssa_lowered.specs.Constants.{ancestor, constants}
-use Rattle.ssa_lowered.specs.Data.{Layout, in_cells, globals_room, room, room_of_all}
+use Rattle.ssa_lowered.specs.Data.{Layout, layout, globals_room, room, room_of_all}
 use Rattle.ssa_lowered.specs.Limits.{global_cells, constant_cells}
 use Rattle.ssa_lowered.specs.Pieces.{numbers}
 use Rattle.ssa_tables.specs.constants.Described.{address_by, described, all_described, character_in_cell, all_texts}
@@ -53,9 +53,9 @@ module _ (p : Program) (first : ℕ) where
       let more = texts_length xss in
       omega (arith, a, b, c, d, e, more)
 
-pub constants_length : (p : Program) (globals : ℕ) → length (constants p (in_cells p.types) globals) ≡ 8 * constant_cells p
+pub constants_length : (p : Program) (globals : ℕ) → length (constants p (layout p.types) globals) ≡ 8 * constant_cells p
 constants_length p globals =
-    let first = globals + globals_room p (in_cells p.types) in
+    let first = globals + globals_room p (layout p.types) in
     let a = sym (ap (λ (l : List ℕ). length l) (constants_are p globals first refl)) in
     let b = length-append (all_described p.types first) (all_texts (texts_of p.procedures)) in
     let c = descriptors_length p first in
@@ -64,7 +64,7 @@ constants_length p globals =
 
 module _ (p : Program) where
   abbrev l : Layout
-  l = in_cells p.types
+  l = layout p.types
 
   variables_room : (ks : List ℕ) → room_of_all l ks ≡ 8 * cells_of_all p.types ks
   variables_room [] = refl

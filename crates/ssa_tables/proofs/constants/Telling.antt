@@ -13,7 +13,7 @@ use Rattle.ob_types.specs.Table.{Table}
 use Rattle.ob_types.specs.declared.program.Procedure.{Procedure}
 use Rattle.ob_types.specs.declared.program.Program.{Program}
 use Rattle.ssa_lowered.specs.Constants.{base_by, ancestor_within, ancestor, address_of, descriptor_bytes, character_bytes, text_bytes, constants}
-use Rattle.ssa_lowered.specs.Data.{Layout, in_cells, globals_room, text_room}
+use Rattle.ssa_lowered.specs.Data.{Layout, layout, globals_room, text_room}
 use Rattle.ssa_lowered.specs.Pieces.{numbers}
 use Rattle.ssa_tables.specs.constants.Described.{address_by, described, all_described, character_in_cell, all_texts}
 
@@ -102,7 +102,7 @@ same_items f g e (x ∷ xs) = ap₂ (λ a b. a ++ b) (e x) (same_items f g e xs)
 
 module _ (p : Program) (globals : ℕ) where
   abbrev l : Layout
-  l = in_cells p.types
+  l = layout p.types
 
   address_is : (o : Option ℕ) → address_by (globals + globals_room p l) o ≡ address_of p l globals o
   address_is None = refl

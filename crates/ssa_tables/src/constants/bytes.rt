@@ -4,7 +4,7 @@ ghost use Rattle.std.specs.Prelude.{◌≡◌, ◌++◌, ◌<◌, ◌^◌, None,
 ghost use Rattle.std.specs.List.{flat_map};
 ghost use Rattle.ob_types.specs.Meaning.{texts_of};
 ghost use Rattle.ssa_lowered.specs.Constants.{constants as constants_there};
-ghost use Rattle.ssa_lowered.specs.Data.{in_cells};
+ghost use Rattle.ssa_lowered.specs.Data.{layout};
 ghost use Rattle.ssa_tables.specs.Faults.{first_limit};
 ghost use Rattle.ssa_tables.specs.Shared.{ServesAll};
 ghost use Rattle.ssa_tables.specs.constants.Described.{all_described, all_texts, character_in_cell};
@@ -24,7 +24,7 @@ pub fn program_constants(
 ) -> Result<Vec<u8>, Memory>
     requires tables { ServesAll tables.now program.now }
     requires within { first_limit program.now ≡ None }
-    ensures { IfOk result (λ bytes. bytes.items ≡ constants_there program.now (in_cells program.now.types) globals) }
+    ensures { IfOk result (λ bytes. bytes.items ≡ constants_there program.now (layout program.now.types) globals) }
 {
     let mut bytes = Vec::new(alloc);
     let first = u64::from(globals) + u64::from(tables.descriptors);

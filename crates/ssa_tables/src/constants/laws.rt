@@ -3,15 +3,15 @@
 ghost use Rattle.std.specs.Prelude.{◌≡◌, ◌*◌, ℕ, length};
 ghost use Rattle.ob_types.specs.declared.program.Program.{Program};
 ghost use Rattle.ssa_lowered.specs.Constants.{constants};
-ghost use Rattle.ssa_lowered.specs.Data.{in_cells, globals_room};
+ghost use Rattle.ssa_lowered.specs.Data.{layout, globals_room};
 ghost use Rattle.ssa_lowered.specs.Limits.{global_cells, constant_cells};
 
 /// The constants have eight bytes for each of their cells.
 pub fn constants_are_counted()
-    ensures { (p : Program) (globals : ℕ) → length (constants p (in_cells p.types) globals) ≡ 8 * constant_cells p }
+    ensures { (p : Program) (globals : ℕ) → length (constants p (layout p.types) globals) ≡ 8 * constant_cells p }
 {}
 
 /// And so have the globals.
 pub fn globals_are_counted()
-    ensures { (p : Program) → globals_room p (in_cells p.types) ≡ 8 * global_cells p }
+    ensures { (p : Program) → globals_room p (layout p.types) ≡ 8 * global_cells p }
 {}

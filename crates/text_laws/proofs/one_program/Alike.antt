@@ -17,7 +17,7 @@ use Rattle.ob_types.specs.WellFormed.{well_formed}
 use Rattle.ob_types.specs.declared.program.Program.{Program}
 use Rattle.ob_types.specs.declared.program.Procedure.{Procedure as Declared}
 use Rattle.ssa_core.specs.Procedures.{procedure, procedures}
-use Rattle.ssa_lowered.specs.Data.{Layout, in_cells}
+use Rattle.ssa_lowered.specs.Data.{Layout, layout}
 use Rattle.ssa_lowered.specs.Lowered.{lowered, procs_from}
 use Rattle.ssa_build.proofs.Within.{few_procedures}
 use Rattle.ssa_lowered.specs.Limits.{limit_of}
@@ -66,7 +66,7 @@ lowered_length p l f (q ∷ qs) = ap suc (lowered_length p l (suc f) qs)
 
 places : (p : Program) → limit_of p ≡ None → AreCodePlaces (length (code_of p)) somewhere
 places p within =
-    let many : length (code_of p) ≡ length p.procedures = length-map (lowered p) procedure ∙ lowered_length p (in_cells p.types) 0 p.procedures in
+    let many : length (code_of p) ≡ length p.procedures = length-map (lowered p) procedure ∙ lowered_length p (layout p.types) 0 p.procedures in
     let few = few_procedures p within in
     record {
       few = λ k lt. omega (arith, many, few, lt);

@@ -1,5 +1,5 @@
 use Rattle.std.proofs.Common.{◌≡◌, ◌+◌, ◌++◌, ◌<◌, suc, [], ◌∷◌, length, get_or, ap, ◌∙◌, subst, arith}
-use Rattle.ssa_lowered.specs.Data.{in_cells}
+use Rattle.ssa_lowered.specs.Data.{layout}
 use Rattle.ssa_lowered.specs.Limits.{limits_from}
 use Rattle.ssa_lowered.specs.Lowered.{procs_from}
 use Rattle.ssa_tables.specs.Shared.{ServesFrom}
@@ -9,7 +9,7 @@ use Rattle.ssa_build.proofs.lowering.all_procedures.Goals as goal
 pub returns-in-Err-clause-limit : goal.returns-in-Err-clause-limit
 returns-in-Err-clause-limit c =
     let p = c.args.program.now in
-    let l = in_cells p.types in
+    let l = layout p.types in
     let q = c.index-procedures-f.result in
     let lt = subst (λ qs. c.loop-f.f < length qs) c.as_slice-procedures.ensures c.loop-f-test.true in
     let is = c.index-procedures-f.is ∙ ap (λ qs. get_or qs c.loop-f.f q) c.as_slice-procedures.ensures in
@@ -18,7 +18,7 @@ returns-in-Err-clause-limit c =
 pub loop-f-preserved : goal.loop-f-preserved
 loop-f-preserved c =
     let p = c.args.program.now in
-    let l = in_cells p.types in
+    let l = layout p.types in
     let q = c.index-procedures-f.result in
     let lt = subst (λ qs. c.loop-f.f < length qs) c.as_slice-procedures.ensures c.loop-f-test.true in
     let is = c.index-procedures-f.is ∙ ap (λ qs. get_or qs c.loop-f.f q) c.as_slice-procedures.ensures in

@@ -4,13 +4,13 @@ use Rattle.ob_types.specs.declared.tree.Access.{Access}
 use Rattle.ob_types.specs.Meaning.{kind_in, length_of_kind, record_of_kind}
 use Rattle.ssa_lowered.specs.Pieces.{emits, does}
 use Rattle.block_runs.specs.declared.code.Code.TheVariants.{Set, Global, GuardTag, Call, CallAt}
-use Rattle.ssa_lowered.specs.Data.{in_cells}
+use Rattle.ssa_lowered.specs.Data.{layout}
 use Rattle.ssa_lowered.specs.Values.{const, is_pointer, is_tag, tag_in, length_in, address_in, bytes_in, condition, home_of, load, call, call_at, as_byte, with_result}
 use Rattle.ssa_lowered.specs.Lowered.{descriptor, level}
 use Rattle.ssa_exprs.specs.Making.{Gives, closed}
 use Rattle.block_runs.specs.declared.end.End.TheVariants.{Branch}
 use Rattle.ssa_exprs.specs.Named.{named_of}
-use Rattle.ssa_exprs.specs.Tables.{expr_in, named_in, based_in, descriptor_in}
+use Rattle.ssa_exprs.specs.Tables.{small_in, expr_in, named_in, based_in, descriptor_in}
 use Rattle.ssa_exprs.specs.Steps.{Fulfils, Taken, AllTaken, operand_of}
 use Rattle.ssa_exprs.specs.Walk.{load_in, select_in, selected_in, link_in, guarded_in, texts_in, argument_in, arguments_in, called_in}
 use Rattle.ssa_exprs.proofs.Giving.{gives_bind, gives_as}
@@ -24,7 +24,9 @@ use Rattle.ssa_exprs.proofs.Guards.{selecting_more, selecting_end, passing_more,
 use Rattle.ssa_exprs.proofs.walk.+walk.Goals as goal
 
 pub load-returns : goal.load-returns
-load-returns t c = λ p here s. c.in_ok-v.ensures _ _ (c.in_ok-h.ensures p here s)
+load-returns t c = λ p here s.
+    let narrow : c.takes_a_byte.result ≡ small_in p c.args.d.now = c.takes_a_byte.ensures p.types ∙ ap (layout p.types).is_small c.kind_in.ensures in
+    gives_as (ap (λ b. load (home_of (named_in p here c.args.d.now) b)) (sym narrow)) (c.in_ok-v.ensures _ _ (c.in_ok-h.ensures p here s))
 
 pub named-returns-in_ok-h-in-Part : goal.named-returns-in_ok-h-in-Part
 named-returns-in_ok-h-in-Part t c = λ p here s.
@@ -60,7 +62,7 @@ argument-returns-in_ok-push-in-ByPlace t c = λ p here s. (c.in_ok-v-in-ByPlace.
 
 pub argument-returns-in_ok-push-in-ByRecord-2 : goal.argument-returns-in_ok-push-in-ByRecord-2
 argument-returns-in_ok-push-in-ByRecord-2 t c = λ p here s.
-    let g = descriptor p (in_cells p.types) here (record_of_kind (kind_in c.in-ByRecord.d)) in
+    let g = descriptor p (layout p.types) here (record_of_kind (kind_in c.in-ByRecord.d)) in
     let same : c.descriptor.result ≡ g = c.descriptor.ensures ∙ ap (descriptor_in c.args.t.now) (c.record_of_kind.ensures ∙ ap record_of_kind c.kind_in.ensures) ∙ s.descriptor (record_of_kind (kind_in c.in-ByRecord.d)) in (
       c.in_ok-v-in-ByRecord.v ∷ c.in_ok-tag-in-ByRecord.tag ∷ [],
       c.in_ok-push-in-ByRecord-2.ensures.items ∙ ap (λ l. l ++ c.in_ok-tag-in-ByRecord.tag ∷ []) c.in_ok-push-in-ByRecord.ensures.items ∙ append_assoc _ (c.in_ok-v-in-ByRecord.v ∷ []) (c.in_ok-tag-in-ByRecord.tag ∷ []),
@@ -93,7 +95,7 @@ prepared-returns-in_ok-act-in-Indirect t c = λ p here s.
 
 pub select-returns-in_ok-e-in-Index : goal.select-returns-in_ok-e-in-Index
 select-returns-in_ok-e-in-Index t c = λ p here s v d g.
-    let size_is : c.from.result ≡ (in_cells p.types).bytes c.in-Index.element = c.from.ensures ∙ c.size.ensures ∙ s.size c.in-Index.element in
+    let size_is : c.from.result ≡ (layout p.types).bytes c.in-Index.element = c.from.ensures ∙ c.size.ensures ∙ s.size c.in-Index.element in
     gives_as (ap (λ z. select_in p here z d) c.in-Index.is)
     (gives_element c.in-Index.length g (c.in_ok-a-in-Index.ensures (omega arith)) (c.in_ok-i-in-Index.ensures p here s)
     (gives_as (ap (λ n. length_in n (named_of c.args.h)) (sym c.known.ensures)) c.in_ok-n-in-Index.ensures)
@@ -103,10 +105,10 @@ select-returns-in_ok-e-in-Index t c = λ p here s v d g.
 
 pub select-returns-in_ok-a-in-Field : goal.select-returns-in_ok-a-in-Field
 select-returns-in_ok-a-in-Field t c = λ p here s v d g.
-    let same : c.offset.result ≡ (in_cells p.types).offset c.in-Field.record c.in-Field.field = c.offset.ensures ∙ s.offset c.in-Field.record c.in-Field.field in
+    let same : c.offset.result ≡ (layout p.types).offset c.in-Field.record c.in-Field.field = c.offset.ensures ∙ s.offset c.in-Field.record c.in-Field.field in
     let short : 8 + c.offset.result < 4294967296 = subst (λ n. 8 + n < 4294967296) (sym c.offset.ensures) (s.short c.in-Field.record c.in-Field.field) in
     gives_as (ap (λ z. select_in p here z d) c.in-Field.is)
-    (gives_field ((in_cells p.types).offset c.in-Field.record c.in-Field.field) g (gives_as (ap (λ n. address_in (named_of c.args.h) n) (sym same)) (c.in_ok-a-in-Field.ensures short)))
+    (gives_field ((layout p.types).offset c.in-Field.record c.in-Field.field) g (gives_as (ap (λ n. address_in (named_of c.args.h) n) (sym same)) (c.in_ok-a-in-Field.ensures short)))
 
 pub select-returns-in_ok-act-in-Dereference : goal.select-returns-in_ok-act-in-Dereference
 select-returns-in_ok-act-in-Dereference t c = λ p here s v d g.
@@ -150,10 +152,10 @@ pub value-returns-in_ok-c-in-In : goal.value-returns-in_ok-c-in-In
 value-returns-in_ok-c-in-In t c = IfOk-weaker c.emit-in-In.result _ _ (λ v g p here s. gives_as (ap (λ e. (expr_in p here e).value) c.in-In.is) (gives_contained (expr_in p here c.in-In.x.value).value (gives_member (gives_as (ap (λ e. (expr_in p here e).value) (sym c.deref-in-In.ensures)) (c.in_ok-a-in-In.ensures p here s)) c.in_ok-act-in-In.ensures) (gives_as (ap (λ e. (expr_in p here e).value) (sym c.deref-in-In-2.ensures)) (c.in_ok-c-in-In.ensures p here s)) g)) c.emit-in-In.ensures
 
 pub value-returns-in_ok-a-in-IsPointer : goal.value-returns-in_ok-a-in-IsPointer
-value-returns-in_ok-a-in-IsPointer t c = IfOk-weaker c.is_pointer.result _ _ (λ v g p here s. gives_as (ap (λ e. (expr_in p here e).value) c.in-IsPointer.is) (gives_bind (is_pointer (descriptor p (in_cells p.types) here c.in-IsPointer.r) (level p (in_cells p.types) here c.in-IsPointer.r)) (gives_as (ap (λ e. (expr_in p here e).value) (sym c.deref-in-IsPointer.ensures)) (c.in_ok-a-in-IsPointer.ensures p here s)) (gives_as (ap₂ (λ g j. is_pointer g j c.in_ok-a-in-IsPointer.a) (sym (c.descriptor.ensures ∙ s.descriptor c.in-IsPointer.r)) (sym (c.level.ensures ∙ s.level c.in-IsPointer.r))) g))) c.is_pointer.ensures
+value-returns-in_ok-a-in-IsPointer t c = IfOk-weaker c.is_pointer.result _ _ (λ v g p here s. gives_as (ap (λ e. (expr_in p here e).value) c.in-IsPointer.is) (gives_bind (is_pointer (descriptor p (layout p.types) here c.in-IsPointer.r) (level p (layout p.types) here c.in-IsPointer.r)) (gives_as (ap (λ e. (expr_in p here e).value) (sym c.deref-in-IsPointer.ensures)) (c.in_ok-a-in-IsPointer.ensures p here s)) (gives_as (ap₂ (λ g j. is_pointer g j c.in_ok-a-in-IsPointer.a) (sym (c.descriptor.ensures ∙ s.descriptor c.in-IsPointer.r)) (sym (c.level.ensures ∙ s.level c.in-IsPointer.r))) g))) c.is_pointer.ensures
 
 pub value-returns-in_ok-tag-in-IsParameter : goal.value-returns-in_ok-tag-in-IsParameter
-value-returns-in_ok-tag-in-IsParameter t c = IfOk-weaker c.is_tag.result _ _ (λ v g p here s. gives_as (ap (λ e. (expr_in p here e).value) c.in-IsParameter.is) (gives_bind (is_tag (descriptor p (in_cells p.types) here c.in-IsParameter.r) (level p (in_cells p.types) here c.in-IsParameter.r)) (gives_tag_of (c.in_ok-h-in-IsParameter.ensures p here s) c.in_ok-tag-in-IsParameter.ensures) (gives_as (ap₂ (λ g j. is_tag g j c.in_ok-tag-in-IsParameter.tag) (sym (c.descriptor-in-IsParameter.ensures ∙ s.descriptor c.in-IsParameter.r)) (sym (c.level-in-IsParameter.ensures ∙ s.level c.in-IsParameter.r))) g))) c.is_tag.ensures
+value-returns-in_ok-tag-in-IsParameter t c = IfOk-weaker c.is_tag.result _ _ (λ v g p here s. gives_as (ap (λ e. (expr_in p here e).value) c.in-IsParameter.is) (gives_bind (is_tag (descriptor p (layout p.types) here c.in-IsParameter.r) (level p (layout p.types) here c.in-IsParameter.r)) (gives_tag_of (c.in_ok-h-in-IsParameter.ensures p here s) c.in_ok-tag-in-IsParameter.ensures) (gives_as (ap₂ (λ g j. is_tag g j c.in_ok-tag-in-IsParameter.tag) (sym (c.descriptor-in-IsParameter.ensures ∙ s.descriptor c.in-IsParameter.r)) (sym (c.level-in-IsParameter.ensures ∙ s.level c.in-IsParameter.r))) g))) c.is_tag.ensures
 
 pub value-returns-in-Byte : goal.value-returns-in-Byte
 value-returns-in-Byte t c = IfOk-weaker c.tested_byte.result _ _ (λ v g p here s. gives_as (ap (λ e. (expr_in p here e).value) c.in-Byte.is) (gives_as (ap (λ e. as_byte (expr_in p here e).value) (sym c.deref-in-Byte.ensures)) (g p here s))) c.tested_byte.ensures
@@ -173,13 +175,13 @@ compared_texts-returns t c = λ p here s.
     let e = c.args.e.now in
     let n_is : c.length_of_kind.result ≡ length_of_kind (kind_in d) = c.length_of_kind.ensures.is ∙ ap length_of_kind c.kind_in.ensures in
     let m_is : c.length_of_kind-2.result ≡ length_of_kind (kind_in e) = c.length_of_kind-2.ensures.is ∙ ap length_of_kind c.kind_in-2.ensures in
-    gives_texts_compared 8 c.args.r (length_of_kind (kind_in d)) (length_of_kind (kind_in e))
+    gives_texts_compared (layout p.types).character c.args.r (length_of_kind (kind_in d)) (length_of_kind (kind_in e))
     (c.in_ok-x.ensures p here s)
     (c.in_ok-a.ensures (omega arith))
-    (gives_as (ap (λ n. bytes_in 8 n (named_of c.in_ok-x.x)) (sym n_is)) c.in_ok-i.ensures)
+    (gives_as (ap (λ n. bytes_in (layout p.types).character n (named_of c.in_ok-x.x)) (sym n_is)) c.in_ok-i.ensures)
     (c.in_ok-y.ensures p here s)
     (c.in_ok-c.ensures (omega arith))
-    (gives_as (ap (λ n. bytes_in 8 n (named_of c.in_ok-y.y)) (sym m_is)) c.in_ok-j.ensures)
+    (gives_as (ap (λ n. bytes_in (layout p.types).character n (named_of c.in_ok-y.y)) (sym m_is)) c.in_ok-j.ensures)
     c.in_ok-k.ensures c.in_ok-z.ensures
     (gives_as (ap (λ k. emits (Set k) (c.in_ok-k.k ∷ c.in_ok-z.z ∷ [])) (sym c.condition.ensures)) c.in_ok-v.ensures)
 

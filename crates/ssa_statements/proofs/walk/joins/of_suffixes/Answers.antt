@@ -1,7 +1,7 @@
 use Rattle.std.proofs.Common.{◌≡◌, ℕ, ◌<◌, ◌||◌, ◌&&◌, Bool, true, false, drop, length, sym, refl, ap, ap₂, ◌∙◌, subst, arith}
 use Rattle.std.specs.Prelude.{nat_lt, slice_index}
 use Rattle.std.specs.List.{filter}
-use Rattle.ssa_lowered.specs.Data.{in_cells}
+use Rattle.ssa_lowered.specs.Data.{layout}
 use Rattle.ssa_lowered.specs.Lowered.{variable_of, in_register}
 use Rattle.ssa_lowered.specs.Variables.{either}
 use Rattle.ssa_assigned.specs.Assigned.{has, assigned_list, assigned_parts}
@@ -26,5 +26,5 @@ returns c = λ p here s i mask lt e env len.
     ∙ ap (λ b. assigned_parts (drop k parts) j || b) (ap (λ l. has l j) c.as_slice-2.ensures.value ∙ noted j) in
     ap (filter (λ x. nat_lt i (many x))) (c.in_ok-variables.ensures p here s (assigned_list other) all (λ x. ap (λ l. has l x) c.as_slice.ensures.value ∙ noted x) (λ x. refl) env len)
     ∙ chosen_kept (λ x. nat_lt i (many x)) env (registers_in p here mask) (registers_in p here all) (λ j inside.
-    and_between (in_register p (in_cells p.types) here (variable_of p (in_cells p.types) here j).site) (all j) (nat_lt i (many j)) (mask j)
+    and_between (in_register p (layout p.types) here (variable_of p (layout p.types) here j).site) (all j) (nat_lt i (many j)) (mask j)
     (sym (e j) ∙ sym (lasts i lt j inside) ∙ lasts_one i (many j) ∙ ap (λ b. b && nat_lt i (many j)) (lasts 0 (omega (arith, lt)) j inside)))
