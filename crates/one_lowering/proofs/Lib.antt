@@ -1,17 +1,17 @@
 pub mod Lists
-mod Sizes
+pub mod Sizes
 mod Entries
 mod Parts
-mod Middle
+pub mod Middle
 mod Masks
 mod Suits
 mod Sound
 mod Expressions
 mod Statements
-mod Whole
+pub mod Whole
 mod Data
 mod Procedures
-mod Programs
+pub mod Programs
 mod Erased
 pub mod Uses
 mod InOrder
