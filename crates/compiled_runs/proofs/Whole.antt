@@ -35,7 +35,7 @@ use Rattle.linked_flows.specs.Allocations.{Cut, steps_of, allocated, all_allocat
 use Rattle.link_plan.specs.Linked.{Runs}
 use Rattle.lowered_runs.specs.Words.{same_trap}
 use Rattle.lowered_runs.specs.Claims.{CanRun, code_of, constants_of}
-use Rattle.lowered_runs.proofs.Programs.{keeps_up}
+use Rattle.lowered_runs.proofs.Claimed.{keeps_up}
 use Rattle.compiled_runs.specs.Compiled.{flows_of, placed_of, data_of, IsImageOf, CanRunAnywhere, place_of, same_break, Means}
 use Rattle.compiled_runs.proofs.Places.{are_code_places}
 use Rattle.compiled_runs.proofs.Telling.{told}
@@ -94,7 +94,7 @@ module _ (p : Program) (cuts : List Cut) (image : Image) (input : List ℕ)
   able = can (code_places ps) (are_code_places ps (length (code_of p)) count few)
 
   procedures_keep : (n : ℕ) → Keeps (block_system (code_of p) (code_places ps)) (least (code_of p)) (all_points (code_of p)) same_trap first n (meaning p input n)
-  procedures_keep n = keeps_up p input (code_places ps) (constants_of p) n able.fine able.numbers able.places able.globals able.room able.bytes able.stands
+  procedures_keep n = keeps_up p input (constants_of p) (code_places ps) n able
 
   flows_same : flow_procedures (flows_of p) ≡ procedures_of (all_allocated cuts)
   flows_same = sym (flows_are cuts ∙ ap flow_procedures is.flows)

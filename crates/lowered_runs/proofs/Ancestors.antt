@@ -10,7 +10,7 @@ use Rattle.ob_types.specs.Table.{Table}
 use Rattle.ob_types.specs.WellFormed.{argument_words, counts_fine, level_by, level_fine, sizes_fine, variables_fine, bodies_in_order, declarations_fine}
 use Rattle.ob_types.specs.declared.program.Program.{Program}
 use Rattle.ob_types.proofs.Tests.{and_of, below, no, none_some, some_same}
-use Rattle.ssa_lowered.specs.Data.{Layout, layout, descriptor_at}
+use Rattle.ssa_lowered.specs.Data.{Layout, descriptor_at}
 use Rattle.ssa_lowered.specs.Constants.{ancestor_within, ancestor, base_by, address_of}
 
 -- one of two tests holds, the latter of a base
@@ -27,12 +27,9 @@ pub or_second : (a b : Bool) → b ≡ true → (a || b) ≡ true
 or_second true b h = refl
 or_second false b h = h
 
-module _ (p : Program) (declared : declarations_fine p ≡ true) where
+module _ (p : Program) (lay : Layout) (declared : declarations_fine p ≡ true) where
   abbrev t : Table
   t = p.types
-
-  abbrev lay : Layout
-  lay = layout p.types
 
   abbrev many : ℕ
   many = length p.types.records

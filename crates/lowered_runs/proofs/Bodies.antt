@@ -1,33 +1,24 @@
 -- Modules' bodies: how each is entered, and how it goes on to the next.
-use Rattle.std.proofs.Common.{◌≡◌, ℕ, zero, suc, ◌+◌, ◌*◌, ◌^◌, ◌<◌, ◌≤◌, List, [], ◌∷◌, ◌++◌, map, length, Bool, false, ◌&&◌, slice_get, refl, sym, ap, ap₂, ◌∙◌, arith, Option, Some, None}
-use Rattle.std.specs.Prelude.{◌-◌, if◌then◌else◌, nat_lt, sum, sum_by, take, slice_index_or, drop, ◌==◌}
+use Rattle.std.proofs.Common.{◌≡◌, ℕ, suc, ◌+◌, ◌^◌, ◌<◌, List, [], ◌∷◌, ◌++◌, map, Bool, false, ◌&&◌, ap, ap₂, ◌∙◌, arith, Option, None}
+use Rattle.std.specs.Prelude.{◌-◌, if◌then◌else◌, nat_lt, drop, ◌==◌}
 use Rattle.std.proofs.lemmas.Bool.Decides.{nat_tests}
-use Rattle.std.proofs.lemmas.List.Sums.{sum_by-cons}
 use Rattle.run_laws.specs.Runs.{Moves, Traps}
 use Rattle.wrapping_numbers.specs.Numbers.{add64, sub64}
 use Rattle.block_runs.specs.Blocks.{Procedure, block_at, procedure_of}
 use Rattle.block_runs.specs.States.{World, Starts, Runs, Kind}
 use Rattle.block_runs.specs.Steps.{enter, first_frame, taken, freed, one_if, goes_back}
-use Rattle.std.proofs.lemmas.List.{length-replicate}
-use Rattle.ob_types.specs.Store.{Bits}
-use Rattle.ob_types.specs.Layout.{cells, cells_of_all}
-use Rattle.ob_types.specs.Meaning.{zeros}
-use Rattle.ob_types.specs.declared.program.Module.{Module}
+use Rattle.ob_types.specs.Layout.{cells}
 use Rattle.ob_types.specs.declared.program.Procedure.{Procedure as Declared}
 use Rattle.ob_types.specs.declared.program.Program.{Program}
-use Rattle.ssa_lowered.specs.Data.{Layout, layout, room, room_of_all}
+use Rattle.ssa_lowered.specs.Data.{Layout}
 use Rattle.ssa_lowered.specs.Pieces.{Piece, Appends, Closes, Low}
 use Rattle.ssa_lowered.specs.Pieces.{◌>>=◌ as ◌>>>◌, give as gives}
 use Rattle.ssa_lowered.specs.Places.{Stand}
 use Rattle.ssa_lowered.specs.Variables.{Variable, words_of, some_structured, further, zeroing, stored, opened, placed, value_parameters}
 use Rattle.ssa_lowered.specs.Lowered.{Here, here_of, enters, deeds_of, answer, at_entry, zeroed_bytes, made_of, lent_in_body}
 use Rattle.lowered_runs.proofs.Standing.{Standing}
-use Rattle.lowered_runs.proofs.Starting.{start_of}
 
-module _ (p : Program) where
-  abbrev lay : Layout
-  lay = layout p.types
-
+module _ (p : Program) (lay : Layout) where
   -- what stands before a procedure's statements
   abbrev prefix : Here → ℕ → Bool → (all zeroed : ℕ) → List Variable → Low (Option ℕ) → Low (Option ℕ)
   prefix here n b all zeroed vs body = further 4 n >>> λ _. zeroing b all zeroed >>> λ _. stored p.types lay all vs >>> λ _. opened vs >>> λ env. enters p lay here env >>> λ _. body
@@ -87,73 +78,3 @@ leaves_body ps f w pr is counted cells bytes few =
 
     same : (n : ℕ) → n < 2 ^ 64 → sub64 n 0 ≡ n
     same n lt = omega (arith, lt)
-
----- Globals, in words and in bytes
-
-module _ (p : Program) where
-  room_is : (k : ℕ) → room (layout p.types) k ≡ 8 * cells p.types k
-  room_is k = omega arith
-
-  pub rooms_are : (ks : List ℕ) → room_of_all (layout p.types) ks ≡ 8 * cells_of_all p.types ks
-  rooms_are [] = refl
-  rooms_are (k ∷ ks) =
-      let e = sum_by-cons (λ x. x) (room (layout p.types) k) (map (room (layout p.types)) ks) in
-      let f = sum_by-cons (λ x. x) (cells p.types k) (map (cells p.types) ks) in
-      let g = rooms_are ks in
-      omega (arith, e, f, g)
-
-  abbrev pub module_sizes : List Module → List ℕ
-  module_sizes ms = map (λ cs. length cs) (map (λ m. zeros p m.variables) ms)
-
-  size_is : (m : Module) → length (zeros p m.variables) ≡ cells_of_all p.types m.variables
-  size_is m = length-replicate (cells_of_all p.types m.variables) (Bits 0)
-
-  pub modules_are : (ms : List Module) → sum_by (λ x. room_of_all (layout p.types) x.variables) ms ≡ 8 * sum (module_sizes ms)
-  modules_are [] = refl
-  modules_are (m ∷ ms) =
-      let e = sum_by-cons (λ x. room_of_all (layout p.types) x.variables) m ms in
-      let f = sum_by-cons (λ x. x) (length (zeros p m.variables)) (module_sizes ms) in
-      let g = modules_are ms in let h = rooms_are m.variables in let k = size_is m in
-      omega (arith, e, f, g, h, k)
-
-  pub starts_are : (ms : List Module) (i : ℕ) → sum_by (λ x. room_of_all (layout p.types) x.variables) (take i ms) ≡ 8 * start_of (module_sizes ms) i
-  starts_are ms zero = refl
-  starts_are [] (suc i) = refl
-  starts_are (m ∷ ms) (suc i) =
-      let e = sum_by-cons (λ x. room_of_all (layout p.types) x.variables) m (take i ms) in
-      let g = starts_are ms i in let h = rooms_are m.variables in let k = size_is m in
-      omega (arith, e, g, h, k)
-
-  pub cells_are : (ms : List Module) → sum_by (λ m. cells_of_all p.types m.variables) ms ≡ sum (module_sizes ms)
-  cells_are [] = refl
-  cells_are (m ∷ ms) =
-      let e = sum_by-cons (λ x. cells_of_all p.types x.variables) m ms in
-      let f = sum_by-cons (λ x. x) (length (zeros p m.variables)) (module_sizes ms) in
-      let g = cells_are ms in let k = size_is m in
-      omega (arith, e, f, g, k)
-
-  -- a variable's cells are among its module's
-  pub variable_below : (ms : List Module) (none : Module) (i v k : ℕ) → none.variables ≡ [] → slice_get (slice_index_or ms i none).variables v ≡ Some k → start_of (module_sizes ms) i + (cells_of_all p.types (take v (slice_index_or ms i none).variables) + cells p.types k) ≤ sum (module_sizes ms)
-  variable_below [] none i v k empty at = absurd (nothing (ap (λ xs. slice_get xs v) (sym empty) ∙ at))
-    where
-      nothing : None ≡ Some k → ⊥
-      nothing e = cc
-  variable_below (m ∷ ms) none zero v k empty at =
-      let f = sum_by-cons (λ x. x) (length (zeros p m.variables)) (module_sizes ms) in
-      let g = size_is m in let h = in_list m.variables v k at in
-      omega (arith, f, g, h)
-    where
-      in_list : (ks : List ℕ) (v k : ℕ) → slice_get ks v ≡ Some k → cells_of_all p.types (take v ks) + cells p.types k ≤ cells_of_all p.types ks
-      in_list [] v k e = absurd (cc)
-      in_list (x ∷ ks) zero k e = let f = sum_by-cons (λ x. x) (cells p.types x) (map (cells p.types) ks) in let g = ap (cells p.types) (same e) in omega (arith, f, g)
-        where
-          same : Some x ≡ Some k → x ≡ k
-          same e = cc
-      in_list (x ∷ ks) (suc v) k e =
-          let f = sum_by-cons (λ x. x) (cells p.types x) (map (cells p.types) ks) in
-          let g = sum_by-cons (λ x. x) (cells p.types x) (map (cells p.types) (take v ks)) in
-          let h = in_list ks v k e in omega (arith, f, g, h)
-  variable_below (m ∷ ms) none (suc i) v k empty at =
-      let f = sum_by-cons (λ x. x) (length (zeros p m.variables)) (module_sizes ms) in
-      let h = variable_below ms none i v k empty at in
-      omega (arith, f, h)

@@ -1,5 +1,5 @@
 -- Calls: argument words, the call's operation, and what is behind it.
-use Rattle.std.proofs.Common.{◌≡◌, ◌*◌, Bool, ℕ, zero, suc, ◌+◌, ◌<◌, ◌≤◌, ◌⊎◌, inl, inr, List, [], ◌∷◌, ◌++◌, map, length, true, false, not, slice_index, refl, sym, ap, ◌∙◌, subst, arith, cond, Option, Some, None, eqb-true, eq-eqb, ne_eqb}
+use Rattle.std.proofs.Common.{◌≡◌, Bool, ℕ, zero, suc, ◌+◌, ◌<◌, ◌≤◌, ◌⊎◌, inl, inr, List, [], ◌∷◌, ◌++◌, map, length, true, false, not, slice_index, refl, sym, ap, ◌∙◌, subst, arith, cond, Option, Some, None, eqb-true, eq-eqb, ne_eqb}
 use Rattle.std.specs.Prelude.{drop, ◌==◌, if◌then◌else◌}
 use Rattle.std.proofs.lemmas.Bool.{cases_lt}
 use Rattle.std.proofs.lemmas.List.Sums.{sum_by-cons}
@@ -7,7 +7,8 @@ use Rattle.run_laws.specs.Runs.{Moves, Traps, weigh}
 use Rattle.run_laws.specs.Turns.{Ending, Gives, Fails, Spent, after, give, ◌>>=◌}
 use Rattle.run_laws.specs.Turns.{State as At}
 use Rattle.run_laws.proofs.Reached.{pass_quiet}
-use Rattle.a64_memory.specs.Memory.{Area, covers, loaded8}
+use Rattle.a64_memory.specs.Memory.{Area, covered, loaded8}
+use Rattle.a64_memory.proofs.Shapes.{covers-shapes}
 use Rattle.block_runs.specs.declared.code.Code.{Code}
 use Rattle.block_runs.specs.declared.code.Code.TheVariants.{Const, Global, Load, Call, CallAt, NotNil}
 use Rattle.block_runs.specs.Blocks.{Operation, block_of, procedure_of}
@@ -18,7 +19,7 @@ use Rattle.block_runs.specs.Effects.{Calls as Leads, Gives as Yields, Fails as R
 use Rattle.block_runs.specs.Steps.{set, behind, operate}
 use Rattle.block_runs.specs.Points.{least}
 use Rattle.ob_types.specs.Forms.{Form, Routines, types_fine}
-use Rattle.ob_types.specs.Layout.{kind_of, signature_of, cells, record_cells}
+use Rattle.ob_types.specs.Layout.{kind_of, signature_of}
 use Rattle.ob_types.specs.Store.{Cell, Bits, Pointer, Heap, Store, address_in, Address, Handed, At as Addressed, Sized, Tagged, Value, Act, Trap, Span, Senseless, given, cell_of, code_in}
 use Rattle.ob_types.specs.Store.{Code as Procedure}
 use Rattle.ob_types.specs.Expressions.{Calls, cons, by_value, by_record, by_open, with_tag, called_by_number, called_by_value, result_of}
@@ -41,15 +42,18 @@ use Rattle.ssa_lowered.specs.Pieces.{◌>>=◌ as ◌>>>◌, give as gives}
 use Rattle.ssa_lowered.specs.Values.{Named, Beside, Object, length_in, tag_in, Request, by_word, also, call, call_at, with_result, without_result}
 use Rattle.ssa_lowered.specs.Values.{At as AtAddress, Held as InRegister, by_record as lower_record, by_open as lower_open, address_in as lower_address}
 use Rattle.ssa_lowered.specs.Variables.{words_of, words_by}
-use Rattle.lowered_runs.specs.Words.{Whole, Level, Right, sizes_of, TagOf, ValueIs, word, Held, Later, Apart}
-use Rattle.lowered_runs.proofs.Stores.{later_on, value_later, covers_thing, there_tag}
+use Rattle.ob_types.specs.Trees.{DataTree, Array, Record, data_tree, record_row}
+use Rattle.object_nodes.specs.Nodes.{Node}
+use Rattle.object_nodes.specs.Running.{forms_of_all}
+use Rattle.held_stores.specs.Places.{TagOf as Tag_of}
+use Rattle.lowered_runs.specs.Words.{Whole, Level, Right, ValueIs, Held, Later, AddressIs, Apart}
+use Rattle.lowered_runs.proofs.Stores.{later_on, value_later, address_later, code_is}
 use Rattle.lowered_runs.proofs.Values.{Under, Same, put_here, put_same, under_more, under_at, map_same, off_refl}
 use Rattle.lowered_runs.proofs.Standing.{Standing, bulk}
 use Rattle.lowered_runs.proofs.Ready.{Position, position, system, world_of, frame_at, runs_at, Typing, Goes, Came_to, Ready, ready_more}
 use Rattle.lowered_runs.proofs.Follows.{Fact, And as Both, Steady, steady_and, Grows, grows_bind, grows_give, grows_emits, grows_does, Follows, FollowsTo, DoneTo, Fits, follows_bind, follows_give, follows_known, follows_seen, follows_then, follows_found, steady_fixed, follows_result, follows_emits, follows_does, follows_never, goes_on, op_step, op_pays, effect_at, Acts, acts_give, acts_trap, acts_senseless}
-use Rattle.lowered_runs.proofs.Homes.{AddressIs, address_later}
 use Rattle.lowered_runs.proofs.Sets.{follows_same}
-use Rattle.lowered_runs.proofs.Designators.{row_of, SecondIs, NamedIs, RowIs, steady_row, shorter, grows_address, follows_address}
+use Rattle.lowered_runs.proofs.Designators.{SecondIs, NamedIs, RowIs, steady_row, grows_address, follows_address, tree_of, begun_by}
 use Rattle.lowered_runs.proofs.Elements.{LengthIn, SpanIs, steady_span, span_by, spanned_same, follows_length_in, grows_length_in}
 use Rattle.lowered_runs.proofs.Exprs.{CellIs, steady_cell}
 use Rattle.lowered_runs.proofs.Deeds.{follows_same_to}
@@ -67,10 +71,10 @@ module _ (w : Whole) (l : Level) where
 
   -- the words of one argument, and what is asked of those behind them
   abbrev pub OneIs : Store → Mode → ℕ → Handed → List ℕ → (List ℕ → Type 0) → Type 0
-  OneIs s OfValue k (Value c) (u ∷ us) on = ValueIs w (sizes_of s) c u × on us
-  OneIs s Place k (Addressed a) (u ∷ us) on = AddressIs w l a (cells w.program.types k) u s × on us
-  OneIs s OfRecord k (Tagged a t) (u ∷ v ∷ us) on = AddressIs w l a (record_cells w.program.types t) u s × (SecondIs w l (Tagged a t) v × on us)
-  OneIs s OfOpen k (Sized a n) (u ∷ v ∷ us) on = ((e : ℕ) → open_element (kind_of w.program.types k) ≡ Some e → AddressIs w l a (n * cells w.program.types e) u s) × ((v ≡ n) × on us)
+  OneIs s OfValue k (Value c) (u ∷ us) on = ValueIs w s.tags c u × on us
+  OneIs s Place k (Addressed a) (u ∷ us) on = AddressIs w l a (data_tree w.program.types k) u s × on us
+  OneIs s OfRecord k (Tagged a t) (u ∷ v ∷ us) on = AddressIs w l a (Record (record_row w.program.types t)) u s × (SecondIs w l (Tagged a t) v × on us)
+  OneIs s OfOpen k (Sized a n) (u ∷ v ∷ us) on = ((e : ℕ) → open_element (kind_of w.program.types k) ≡ Some e → AddressIs w l a (Array n (data_tree w.program.types e)) u s) × ((v ≡ n) × on us)
   OneIs s _ k _ _ on = ⊥
 
   abbrev pub Words : Store → List Formal → List Handed → List ℕ → Type 0
@@ -78,14 +82,14 @@ module _ (w : Whole) (l : Level) where
   Words s (x ∷ xs) (h ∷ hs) us = OneIs s x.mode x.type_number h us (λ rest. Words s xs hs rest)
   Words s _ _ _ = ⊥
 
-  one_on : (s t : Store) (m : Mode) (k : ℕ) (h : Handed) (us : List ℕ) (on next : List ℕ → Type 0) → Later l s t → ((vs : List ℕ) → on vs → next vs) → OneIs s m k h us on → OneIs t m k h us next
+  one_on : (s t : Store) (m : Mode) (k : ℕ) (h : Handed) (us : List ℕ) (on next : List ℕ → Type 0) → Later w l s t → ((vs : List ℕ) → on vs → next vs) → OneIs s m k h us on → OneIs t m k h us next
   one_on s t OfValue k (Value c) (u ∷ us) on next later more h = (value_later w l s t c u later h.0, more us h.1)
-  one_on s t Place k (Addressed a) (u ∷ us) on next later more h = (address_later w l a (cells w.program.types k) u s t later h.0, more us h.1)
-  one_on s t OfRecord k (Tagged a d) (u ∷ v ∷ us) on next later more h = (address_later w l a (record_cells w.program.types d) u s t later h.0, (h.1.0, more us h.1.1))
-  one_on s t OfOpen k (Sized a n) (u ∷ v ∷ us) on next later more h = ((λ e is. address_later w l a (n * cells w.program.types e) u s t later (h.0 e is)), (h.1.0, more us h.1.1))
+  one_on s t Place k (Addressed a) (u ∷ us) on next later more h = (address_later w l a (data_tree w.program.types k) u s t later h.0, more us h.1)
+  one_on s t OfRecord k (Tagged a d) (u ∷ v ∷ us) on next later more h = (address_later w l a (Record (record_row w.program.types d)) u s t later h.0, (h.1.0, more us h.1.1))
+  one_on s t OfOpen k (Sized a n) (u ∷ v ∷ us) on next later more h = ((λ e is. address_later w l a (Array n (data_tree w.program.types e)) u s t later (h.0 e is)), (h.1.0, more us h.1.1))
   one_on s t _ k _ _ on next later more h = absurd h
 
-  words_later : (s t : Store) (xs : List Formal) (hs : List Handed) (us : List ℕ) → Later l s t → Words s xs hs us → Words t xs hs us
+  words_later : (s t : Store) (xs : List Formal) (hs : List Handed) (us : List ℕ) → Later w l s t → Words s xs hs us → Words t xs hs us
   words_later s t [] [] [] later h = tt
   words_later s t [] [] (u ∷ us) later h = absurd h
   words_later s t [] (x ∷ hs) us later h = absurd h
@@ -141,7 +145,7 @@ module _ (w : Whole) (l : Level) where
   follows_by_value k steady one = follows_bind w l steady one (λ a. grows_give w l (a ∷ [])) (λ c a. follows_give w l (Value c) (a ∷ []) (λ n f s z. ((z.1.0, tt), (z.1.1, tt))))
 
   -- an address
-  pub follows_by_place : {fuel : ℕ} {mask : Mask} {K : Fact} {x : Act Address} {low : Low ℕ} (k : ℕ) → Steady w l K → Follows w l 0 fuel mask K (RowIs w l (cells w.program.types k)) x low → Follows w l 0 fuel mask K (OneWord Place k) (λ s. (x >>= λ a. give (Addressed a)) s) (by_word low)
+  pub follows_by_place : {fuel : ℕ} {mask : Mask} {K : Fact} {x : Act Address} {low : Low ℕ} (k : ℕ) → Steady w l K → Follows w l 0 fuel mask K (RowIs w l (data_tree w.program.types k)) x low → Follows w l 0 fuel mask K (OneWord Place k) (λ s. (x >>= λ a. give (Addressed a)) s) (by_word low)
   follows_by_place k steady one = follows_bind w l steady one (λ a. grows_give w l (a ∷ [])) (λ c a. follows_give w l (Addressed c) (a ∷ []) (λ n f s z. ((z.1.0, tt), (z.1.1, tt))))
 
   -- a record's address, and its tag: that of its own type where no other goes with it
@@ -176,9 +180,9 @@ module _ (w : Whole) (l : Level) where
       second (Value c) a t y is e = absurd is
   follows_tag own d h (Object i) r descriptor placed memory = follows_emits w l Load (i ∷ []) (λ n f m s held known.
       let z = known.1.1 in
-      let cover = covers_thing w l s.store m (TagOf z.0) z.4.0 held (there_tag s.store z.0 z.1 held.tagged z.3) z.4.1 in
-      acts_give w l tt (word m z.4.0) held refl (ap (λ x. given_at x (cond (covers m x 8) (Some (loaded8 m x)) None) Yields) z.4.2 ∙ ap (λ b. given_at (8 * z.4.0) (cond b (Some (word m z.4.0)) None) Yields) cover)
-      (omega arith, (λ a t e. put_here n (word m z.4.0) f ∙ (held.tags z.0 z.1 z.4.0 z.3 z.4.1).0 ∙ ap w.descriptor (its_tag h z.0 z.1 a t z.2 e))))
+      let cover = covers-shapes m (f i) 8 ∙ ap (λ ss. covered ss (f i) 8) held.areas ∙ held.room.lies (Tag_of z.0) (f i) 8 (z.4, refl) in
+      acts_give w l tt (loaded8 m (f i)) held refl (ap (λ b. given_at (f i) (cond b (Some (loaded8 m (f i))) None) Yields) cover)
+      (omega arith, (λ a t e. put_here n (loaded8 m (f i)) f ∙ (held.tags z.0 z.1 (f i) z.3 z.4).0 ∙ ap w.descriptor (its_tag h z.0 z.1 a t z.2 e))))
     where
       its_tag : (h : Handed) (o k : ℕ) (a : Address) (t : ℕ) → h ≡ Tagged (record { area = Heap; object = o; cell = 0 }) k → with_tag h r ≡ Some (Tagged a t) → k ≡ t
       its_tag h o k a t is e = tag_of_handed (record { area = Heap; object = o; cell = 0 }) a k t (sym (ap (λ x. with_tag x r) is) ∙ e)
@@ -189,15 +193,15 @@ module _ (w : Whole) (l : Level) where
 
   pub follows_by_record : {fuel : ℕ} {mask : Mask} {K : Fact} {A : Handed → Named → Fact} {q : Low Named} (k r : ℕ) (own : Mask) (d : Thing) (descriptor : ℕ) (place_of : Act Handed) → Steady w l K → w.descriptor r ≡ data_base + descriptor → ((x : ℕ) → own x ≡ true → l.in_register x ≡ false) → ((h : Handed) (v : Named) → Steady w l (A h v))
       → ((h : Handed) (v : Named) (n : ℕ) (f : ℕ → ℕ) (s : Store) → A h v n f s → NamedIs w l own d h v n f s)
-      → ((h : Handed) (v : Named) (n : ℕ) (f : ℕ → ℕ) (s : Store) → A h v n f s → (a : Address) (t : ℕ) → with_tag h r ≡ Some (Tagged a t) → record_cells w.program.types t ≤ row_of w l d h)
+      → ((h : Handed) (v : Named) (n : ℕ) (f : ℕ → ℕ) (s : Store) → A h v n f s → (a : Address) (t : ℕ) → with_tag h r ≡ Some (Tagged a t) → Node w.packed (tree_of w l d h) 0 0 (Record (record_row w.program.types t)))
       → Follows w l 0 fuel mask K A place_of q → Follows w l 0 fuel mask K (OneWord OfRecord k) (by_record place_of r) (lower_record q descriptor)
   follows_by_record {fuel = fuel} {mask = mask} {K = K} {A = A} k r own d descriptor place_of steady placed memory steady_record names rows one =
       follows_same w l (place_of >>= λ h. given (address_in h) >>= λ a. given (with_tag h r)) (by_record place_of r) (λ s. regroup (place_of s))
       (follows_bind w l steady one (λ v. grows_bind w l (grows_address w l v 0) (λ i. grows_second v i))
       (λ h v. follows_bind w l (steady_and w l steady (steady_record h v))
-      (follows_found w l (address_in h) (follows_known w l {K = Both K (NamedIs w l own d h v)} (λ n f s z. (z.0, names h v n f s z.1)) (follows_address w l own d h v (row_of w l d h) (omega arith) (inr memory))))
+      (follows_found w l (address_in h) (follows_known w l {K = Both K (NamedIs w l own d h v)} (λ n f s z. (z.0, names h v n f s z.1)) (follows_address w l own d h v (inr memory))))
       (λ i. grows_second v i)
-      (λ a i. let known = steady_and w l (steady_and w l steady (steady_record h v)) (steady_and w l (steady_row w l (row_of w l d h) a i) (steady_fixed w l (address_in h ≡ Some a))) in
+      (λ a i. let known = steady_and w l (steady_and w l steady (steady_record h v)) (steady_and w l (steady_row w l (tree_of w l d h) a i) (steady_fixed w l (address_in h ≡ Some a))) in
       follows_bind w l {m = give tt} {h = λ (u : Unit {0}). given (with_tag h r)} known (follows_known w l {K = Both K (NamedIs w l own d h v)} (λ n f s z. (z.0.0, names h v n f s z.0.1)) (follows_tag own d h v r descriptor placed memory)) (λ z. grows_give w l (i ∷ z ∷ []))
       (λ u z. follows_seen w l (i ∷ z ∷ []) (λ n f s m held typed g. by h v a i z n f s g.0.0.1 g.0.1 g.1)))))
     where
@@ -219,18 +223,18 @@ module _ (w : Whole) (l : Level) where
       same a b e = cc
 
       -- the words are those of the record and its tag
-      words : (b a : Address) (t i z n : ℕ) (f : ℕ → ℕ) (s : Store) (row : ℕ) → Some b ≡ Some a → record_cells w.program.types t ≤ row → RowIs w l row a i n f s → (z < n) × (f z ≡ w.descriptor t) → OneWord OfRecord k (Tagged b t) (i ∷ z ∷ []) n f s
-      words b a t i z n f s row is long at tag = ((at.0, (tag.0, tt)), (shorter w l b (f i) s (record_cells w.program.types t) row long (subst (λ a. AddressIs w l a row (f i) s) (same a b is) at.1), (tag.1, tt)))
+      words : (b a : Address) (t i z n : ℕ) (f : ℕ → ℕ) (s : Store) (row : DataTree) → Some b ≡ Some a → Node w.packed row 0 0 (Record (record_row w.program.types t)) → RowIs w l row a i n f s → (z < n) × (f z ≡ w.descriptor t) → OneWord OfRecord k (Tagged b t) (i ∷ z ∷ []) n f s
+      words b a t i z n f s row is long at tag = ((at.0, (tag.0, tt)), (begun_by w l b row (Record (record_row w.program.types t)) (f i) s long (subst (λ a. AddressIs w l a row (f i) s) (same a b is) at.1), (tag.1, tt)))
 
-      by : (h : Handed) (v : Named) (a : Address) (i z n : ℕ) (f : ℕ → ℕ) (s : At Store) → A h v n f s.store → RowIs w l (row_of w l d h) a i n f s.store × (address_in h ≡ Some a) → TagIs h r z n f s.store
+      by : (h : Handed) (v : Named) (a : Address) (i z n : ℕ) (f : ℕ → ℕ) (s : At Store) → A h v n f s.store → RowIs w l (tree_of w l d h) a i n f s.store × (address_in h ≡ Some a) → TagIs h r z n f s.store
           → ((x : Handed) × (given (with_tag h r) s ≡ Gives x s) × OneWord OfRecord k x (i ∷ z ∷ []) n f s.store) ⊎ (given (with_tag h r) s ≡ Fails Senseless s.out)
-      by (Addressed b) v a i z n f s is at tag = inl (Tagged b r, refl, words b a r i z n f s.store (row_of w l d (Addressed b)) at.1 (rows (Addressed b) v n f s.store is b r refl) at.0 (tag.0, tag.1 b r refl))
-      by (Tagged b t) v a i z n f s is at tag = inl (Tagged b t, refl, words b a t i z n f s.store (row_of w l d (Tagged b t)) at.1 (rows (Tagged b t) v n f s.store is b t refl) at.0 (tag.0, tag.1 b t refl))
+      by (Addressed b) v a i z n f s is at tag = inl (Tagged b r, refl, words b a r i z n f s.store (tree_of w l d (Addressed b)) at.1 (rows (Addressed b) v n f s.store is b r refl) at.0 (tag.0, tag.1 b r refl))
+      by (Tagged b t) v a i z n f s is at tag = inl (Tagged b t, refl, words b a t i z n f s.store (tree_of w l d (Tagged b t)) at.1 (rows (Tagged b t) v n f s.store is b t refl) at.0 (tag.0, tag.1 b t refl))
       by (Sized b n2) v a i z n f s is at tag = inr refl
       by (Value c) v a i z n f s is at tag = inr refl
 
   -- an array's address, and its length
-  pub follows_by_open : {fuel : ℕ} {mask : Mask} {K : Fact} {A : Handed → Named → Fact} {q : Low Named} (k : ℕ) (o : Option ℕ) (c : ℕ) (place_of : Act Handed) → Steady w l K → ((h : Handed) (v : Named) → Steady w l (A h v)) → ((e : ℕ) → open_element (kind_of w.program.types k) ≡ Some e → c ≡ cells w.program.types e)
+  pub follows_by_open : {fuel : ℕ} {mask : Mask} {K : Fact} {A : Handed → Named → Fact} {q : Low Named} (k : ℕ) (o : Option ℕ) (c : DataTree) (place_of : Act Handed) → Steady w l K → ((h : Handed) (v : Named) → Steady w l (A h v)) → ((e : ℕ) → open_element (kind_of w.program.types k) ≡ Some e → c ≡ data_tree w.program.types e)
       → ((h : Handed) (v : Named) → Follows w l 0 fuel mask (Both K (A h v)) (SpanIs w l o c v) (span_by w l o h) (lower_address v 0)) → Follows w l 0 fuel mask K A place_of q → Follows w l 0 fuel mask K (OneWord OfOpen k) (by_open place_of o) (lower_open q o)
   follows_by_open {K = K} {A = A} k o c place_of steady steady_array same spans one =
       follows_same w l (place_of >>= λ h. span_by w l o h >>= handed) (by_open place_of o) (spanned_same w l place_of o handed)
@@ -238,7 +242,7 @@ module _ (w : Whole) (l : Level) where
       (λ h v. follows_bind w l (steady_and w l steady (steady_array h v)) (spans h v) (λ i. grows_second v i)
       (λ a i. follows_bind w l {m = give tt} {h = λ (u : Unit {0}). handed a} (steady_and w l (steady_and w l steady (steady_array h v)) (steady_span w l o c v a i))
       (follows_known w l {K = Both K (LengthIn w l o a.length v)} (λ n f s g. (g.0.0, g.1.3)) (follows_length_in w l o a.length v)) (λ z. grows_give w l (i ∷ z ∷ []))
-      (λ u z. follows_give w l (Sized a.at a.length) (i ∷ z ∷ []) (λ n f s g. ((g.0.1.0, (g.1.0, tt)), ((λ e is. subst (λ b. AddressIs w l a.at (a.length * b) (f i) s) (same e is) g.0.1.1), (g.1.1, tt))))))))
+      (λ u z. follows_give w l (Sized a.at a.length) (i ∷ z ∷ []) (λ n f s g. ((g.0.1.0, (g.1.0, tt)), ((λ e is. subst (λ b. AddressIs w l a.at (Array a.length b) (f i) s) (same e is) g.0.1.1), (g.1.1, tt))))))))
     where
       handed : Span → Act Handed
       handed a = give (Sized a.at a.length)
@@ -286,10 +290,9 @@ AnswerIs w l _ _ = λ n f s. ⊥
 
 -- what is below a call
 pub record Stacked (l : Level) : Type 0 where
-  pub beyond : (o c : ℕ) → length l.sizes ≤ o → l.slots o c ≡ None
   pub deep : l.frame ≤ length l.sizes
   pub own : (x : ℕ) → x < l.count → l.frame < length l.sizes
-  pub depth : length l.forms ≡ length l.sizes
+  pub depth : length l.types ≡ length l.sizes
 
 -- a value that is wanted is given
 abbrev pub GivesFor : Program → ℕ → Option ℕ → Type 0
@@ -300,49 +303,49 @@ GivesFor p g (Some v) = (k : Form) × (WellFormed.form_of p (declared_of p g).re
 abbrev pub ResultIs : Whole → Option ℕ → Option Cell → Store → ℕ → Type 0
 ResultIs w None r s x = Unit {0}
 ResultIs w (Some v) None s x = ⊥
-ResultIs w (Some v) (Some c) s x = ValueIs w (sizes_of s) c x
+ResultIs w (Some v) (Some c) s x = ValueIs w s.tags c x
 
 -- behind a call, whose operation stands at c
 pub record Back (w : Whole) (l : Level) (def : Option ℕ) (c : Position) (f : ℕ → ℕ) (s : Store) (most : ℕ) (free : (Point → ℕ) → ℕ) (r : Option Cell) (t : At Store) : Type 0 where
   pub memory : List Area
   pub x : ℕ
-  pub reached : Came_to w most 1 t.turns t.out (Runs (behind (frame_at l c f) def x) l.callers (world_of l memory t.store)) free
+  pub reached : Came_to w most 1 t.turns t.out (Runs (behind (frame_at l c f) def x) l.callers (world_of w l memory t.store)) free
   pub held : Held w l t.store memory
-  pub later : Later l s t.store
-  pub still : (d : ℕ) → l.frame < length l.sizes → l.slots l.frame d ≡ None → cell_of t.store.frames l.frame d ≡ cell_of s.frames l.frame d
+  pub later : Later w l s t.store
+  pub still : (x : ℕ) → x < l.count → l.in_register x ≡ true → cell_of t.store.frames l.frame (l.cell x) ≡ cell_of s.frames l.frame (l.cell x)
   pub is : ResultIs w def r t.store x
 
 -- what calls do, in whatever level they are made: from a procedure's entry, with its argument words, to behind the call
 pub record Calling (w : Whole) (good : types_fine w.program.types ≡ true) (fuel : ℕ) (calls : Calls) : Type 0 where
   pub by : (l : Level) (g : ℕ) (hs : List Handed) (xs : List ℕ) (def : Option ℕ) (most : ℕ) (c : Position) (f : ℕ → ℕ) (s : At Store) (m : List Area) (room free : (Point → ℕ) → ℕ) (op : Operation) (rest : List Operation)
-      → Stacked l → callable w.program g ≡ true → GivesFor w.program g def → most ≤ fuel → ((h : Point → ℕ) → free h ≤ weigh h w.points)
+      → Stacked l → Apart w l → callable w.program g ≡ true → GivesFor w.program g def → most ≤ fuel → ((h : Point → ℕ) → free h ≤ weigh h w.points)
       → drop c.op (block_of (procedure_of w.procedures l.proc) c.block).ops ≡ op ∷ rest → op.def ≡ def
-      → Came_to w most 1 s.turns s.out (Enters g xs (frame_at l c f ∷ l.callers) (world_of l m s.store)) room
-      → Held w l s.store m → Typing w l s.store → AllTaken w.program good l.forms s.store.tags (declared_of w.program g).formals hs → Words w l s.store (declared_of w.program g).formals hs xs
+      → Came_to w most 1 s.turns s.out (Enters g xs (frame_at l c f ∷ l.callers) (world_of w l m s.store)) room
+      → Held w l s.store m → Typing w l s.store → AllTaken w.program good (forms_of_all w.program l.types) s.store.tags (declared_of w.program g).formals hs → Words w l s.store (declared_of w.program g).formals hs xs
       → Goes w (calls g hs s) (Back w l def c f s.store most free)
 
-module _ (w : Whole) (l : Level) (right : Right w) (apart : Apart l) (stacked : Stacked l) (good : types_fine w.program.types ≡ true) where
+module _ (w : Whole) (l : Level) (right : Right w) (apart : Apart w l) (stacked : Stacked l) (good : types_fine w.program.types ≡ true) where
   -- what is known where a call is made
   abbrev pub Known : List Formal → List Handed → List ℕ → Fact
-  Known xs hs us n f s = WordsAre w l xs hs us n f s × AllTaken w.program good l.forms s.tags xs hs
+  Known xs hs us n f s = WordsAre w l xs hs us n f s × AllTaken w.program good (forms_of_all w.program l.types) s.tags xs hs
 
   steady_known : (xs : List Formal) (hs : List Handed) (us : List ℕ) → Steady w l (Known xs hs us)
   steady_known xs hs us = record {
-    by = λ n v f h s t le same later z. ((steady_words w l xs hs us).by n v f h s t le same later z.0, all_taken_older w.program good l.forms s.tags t.tags (λ o k e. later.tag o k e) xs hs z.1);
+    by = λ n v f h s t le same later z. ((steady_words w l xs hs us).by n v f h s t le same later z.0, all_taken_older w.program good (forms_of_all w.program l.types) s.tags t.tags (λ o k e. later.tag o k e) xs hs z.1);
   }
 
   -- the operation leads to the procedure's entry
   call_step : (c : Position) (f : ℕ → ℕ) (m : List Area) (s : Store) (g : ℕ) (us : List ℕ) (op : Op) → callable w.program g ≡ true → length (map f us) ≡ words_of (declared_of w.program g).formals
       → effect_at w l f m s op.code op.uses ≡ Leads (Some g) (map f us) → ((rest : List Operation) × (drop c.op (block_of (procedure_of w.procedures l.proc) c.block).ops ≡ operation_of op ∷ rest))
-      → (system w).step (runs_at l c f m s) ≡ Moves [] (Enters g (map f us) (frame_at l c f ∷ l.callers) (world_of l m s))
+      → (system w).step (runs_at w l c f m s) ≡ Moves [] (Enters g (map f us) (frame_at l c f ∷ l.callers) (world_of w l m s))
   call_step c f m s g us op ok long leads stands =
       op_step w l c f m s op stands
-      ∙ ap (operate w.procedures (operation_of op) (frame_at l c f) l.callers (world_of l m s)) leads
-      ∙ ap (λ b. if b then Moves [] (Enters g (map f us) (frame_at l c f ∷ l.callers) (world_of l m s)) else Traps (Fault g)) (right.may g ok (map f us) long)
+      ∙ ap (operate w.procedures (operation_of op) (frame_at l c f) l.callers (world_of w l m s)) leads
+      ∙ ap (λ b. if b then Moves [] (Enters g (map f us) (frame_at l c f ∷ l.callers) (world_of w l m s)) else Traps (Fault g)) (right.may g ok (map f us) long)
 
   -- the caller behind a call
   back_ready : (most gain : ℕ) (c : Cursor) (f : ℕ → ℕ) (s : At Store) (room free : (Point → ℕ) → ℕ) (def : Option ℕ) (after : Position) (values : ℕ → ℕ) (r : Option Cell) (t : At Store)
-      → Ready w l most gain (position c) f s room → (b : Back w l def (position c) f s.store most free r t) → (Runs (behind (frame_at l (position c) f) def b.x) l.callers (world_of l b.memory t.store) ≡ runs_at l after values b.memory t.store) → after.env ≡ c.env → c.values ≤ after.values → Same c.values f values
+      → Ready w l most gain (position c) f s room → (b : Back w l def (position c) f s.store most free r t) → (Runs (behind (frame_at l (position c) f) def b.x) l.callers (world_of w l b.memory t.store) ≡ runs_at w l after values b.memory t.store) → after.env ≡ c.env → c.values ≤ after.values → Same c.values f values
       → Ready w l most 1 after values t free
   back_ready most gain c f s room free def after values r t ready b is env le same = record {
     memory = b.memory;
@@ -352,9 +355,9 @@ module _ (w : Whole) (l : Level) (right : Right w) (apart : Apart l) (stacked : 
     under = subst (Under after.values) (sym env) (under_more c.values after.values c.env le ready.under);
     registers = λ y lt reg v at.
         let z = ready.size in
-        subst (λ us. ValueIs w (sizes_of t.store) v (values (slice_index us y))) (sym env)
-        (subst (λ n. ValueIs w (sizes_of t.store) v n) (sym (same (slice_index c.env y) (under_at c.values c.env y (omega (arith, lt, z)) ready.under)))
-        (value_later w l s.store t.store v (f (slice_index c.env y)) b.later (ready.registers y lt reg v (sym (b.still (l.cell y) (stacked.own y lt) (apart.registers y lt reg)) ∙ at))));
+        subst (λ us. ValueIs w t.store.tags v (values (slice_index us y))) (sym env)
+        (subst (λ n. ValueIs w t.store.tags v n) (sym (same (slice_index c.env y) (under_at c.values c.env y (omega (arith, lt, z)) ready.under)))
+        (value_later w l s.store t.store v (f (slice_index c.env y)) b.later (ready.registers y lt reg v (sym (b.still y lt reg) ∙ at))));
     since = later_on w l l.store s.store t.store ready.since b.later;
   }
 
@@ -371,8 +374,8 @@ module _ (w : Whole) (l : Level) (right : Right w) (apart : Apart l) (stacked : 
       by = λ most gain c f s room free le needs few stands fits within known typed r.
           let op : Op = record { code = code; uses = uses; def = Some c.values } in
           goes_on w l (calls g hs s)
-          (calling.by l g hs (map f us) (Some c.values) most (position c) f s r.memory free free (operation_of op) stands.0.0 stacked ok (has c.values) le (λ h. let z = within h in omega (arith, z)) stands.0.1 refl
-          (pass_quiet (system w) (least w.procedures) w.points w.first w.turns 1 free (In l.proc c.block c.op) (Enters g (map f us) (frame_at l (position c) f ∷ l.callers) (world_of l r.memory s.store)) r.reached refl
+          (calling.by l g hs (map f us) (Some c.values) most (position c) f s r.memory free free (operation_of op) stands.0.0 stacked apart ok (has c.values) le (λ h. let z = within h in omega (arith, z)) stands.0.1 refl
+          (pass_quiet (system w) (least w.procedures) w.points w.first w.turns 1 free (In l.proc c.block c.op) (Enters g (map f us) (frame_at l (position c) f ∷ l.callers) (world_of w l r.memory s.store)) r.reached refl
           (call_step (position c) f r.memory s.store g us op ok (words_length w l s.store (declared_of w.program g).formals hs (map f us) known.1.0.1) (leads c.values f s.store r.memory known.0) stands.0)
           (λ h. let z = fits h in omega (arith, z)) (let e = op_pays w l (position c) op stands.0 in omega (arith, e)))
           r.held typed known.1.1 known.1.0.1)
@@ -400,8 +403,8 @@ module _ (w : Whole) (l : Level) (right : Right w) (apart : Apart l) (stacked : 
       by = λ most gain c f s room free le needs few stands fits within known typed r.
           let op : Op = record { code = code; uses = uses; def = None } in
           goes_on w l (calls g hs s)
-          (calling.by l g hs (map f us) None most (position c) f s r.memory free free (operation_of op) stands.0.0 stacked ok tt le (λ h. let z = within h in omega (arith, z)) stands.0.1 refl
-          (pass_quiet (system w) (least w.procedures) w.points w.first w.turns 1 free (In l.proc c.block c.op) (Enters g (map f us) (frame_at l (position c) f ∷ l.callers) (world_of l r.memory s.store)) r.reached refl
+          (calling.by l g hs (map f us) None most (position c) f s r.memory free free (operation_of op) stands.0.0 stacked apart ok tt le (λ h. let z = within h in omega (arith, z)) stands.0.1 refl
+          (pass_quiet (system w) (least w.procedures) w.points w.first w.turns 1 free (In l.proc c.block c.op) (Enters g (map f us) (frame_at l (position c) f ∷ l.callers) (world_of w l r.memory s.store)) r.reached refl
           (call_step (position c) f r.memory s.store g us op ok (words_length w l s.store (declared_of w.program g).formals hs (map f us) known.1.0.1) (leads c.values f s.store r.memory known.0) stands.0)
           (λ h. let z = fits h in omega (arith, z)) (let e = op_pays w l (position c) op stands.0 in omega (arith, e)))
           r.held typed known.1.1 known.1.0.1)
@@ -484,8 +487,8 @@ module _ (w : Whole) (l : Level) (right : Right w) (apart : Apart l) (stacked : 
 
         by : (c : Cell) (n : ℕ) (f : ℕ → ℕ) (m : List Area) (s : At Store) → Held w l s.store m → VariableIs k c i n f s.store → Acts w l (λ g x t. CodeIs k g i n f t) (code_in l.proc c s) s m (effect_at w l f m s.store NotNil (i ∷ []))
         by (Procedure g) n f m s held h = acts_give w l g 0 held refl
-            (says f m s.store ∙ ap (λ b. if not b then Yields 0 else Refuses 2) (ne_eqb (f i) 0 (λ e. right.codes.nowhere g h.0.1.0 (sym h.0.1.1 ∙ e))))
-            (h.0.0, h.0.1.0, h.0.1.1, h.1)
+            (says f m s.store ∙ ap (λ b. if not b then Yields 0 else Refuses 2) (ne_eqb (f i) 0 (λ e. let z = code_is w g (f i) h.0.1 in right.codes.nowhere g z.0 (sym z.1 ∙ e))))
+            (h.0.0, (code_is w g (f i) h.0.1).0, (code_is w g (f i) h.0.1).1, h.1)
         by (Bits zero) n f m s held h = acts_trap w l 2 refl (says f m s.store ∙ ap (λ x. if not (x == 0) then Yields 0 else Refuses 2) h.0.1.0)
         by (Bits (suc j)) n f m s held h = acts_senseless w l refl
         by (Pointer o) n f m s held h = acts_senseless w l refl

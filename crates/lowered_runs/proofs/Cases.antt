@@ -144,8 +144,8 @@ module _ (w : Whole) (l : Level) (fuel : ℕ) (K : Fact) (mask : Mask) (steady :
     values = f;
     ready = record {
       memory = r.memory;
-      reached = pass_quiet (system w) (least w.procedures) w.points w.first w.turns 1 free (In l.proc c.block c.op) (runs_at l (record { block = suc c.block; op = 0; values = c.values; env = c.env }) f r.memory s.store) r.reached refl
-          (end_step w l (position c) f r.memory s.store (Jump (suc c.block) []) (stands.0.0, stands.0.1) ∙ ap (λ ps. Moves [] (Runs (at_block (frame_at l (position c) f) (suc c.block) (set_all ps [] f)) l.callers (world_of l r.memory s.store))) stands.0.2)
+      reached = pass_quiet (system w) (least w.procedures) w.points w.first w.turns 1 free (In l.proc c.block c.op) (runs_at w l (record { block = suc c.block; op = 0; values = c.values; env = c.env }) f r.memory s.store) r.reached refl
+          (end_step w l (position c) f r.memory s.store (Jump (suc c.block) []) (stands.0.0, stands.0.1) ∙ ap (λ ps. Moves [] (Runs (at_block (frame_at l (position c) f) (suc c.block) (set_all ps [] f)) l.callers (world_of w l r.memory s.store))) stands.0.2)
           (λ h. let z = fits h in omega (arith, z)) (omega arith);
       held = r.held;
       size = r.size;
@@ -235,7 +235,7 @@ module _ (w : Whole) (l : Level) (fuel : ℕ) (K : Fact) (mask : Mask) (steady :
   pub record Joined (most base v out : ℕ) (env : List ℕ) (s : Store) (f : ℕ → ℕ) (free : (Point → ℕ) → ℕ) (u : Unit {0}) (t : At Store) : Type 0 where
     pub values : ℕ → ℕ
     pub ready : Ready w l most 1 (record { block = out; op = 0; values = beyond mask v env; env = merged mask v env }) values t free
-    pub later : Later l s t.store
+    pub later : Later w l s t.store
     pub same : Same base f values
     pub typed : Typing w l t.store
 

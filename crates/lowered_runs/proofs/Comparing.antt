@@ -24,7 +24,10 @@ use Rattle.ob_types.proofs.Tests.{no}
 use Rattle.ssa_core.specs.declared.procedure.Op.{Op}
 use Rattle.ssa_core.specs.Procedures.{operation_of}
 use Rattle.ssa_lowered.specs.Pieces.{Cursor}
-use Rattle.lowered_runs.specs.Words.{same_trap, Whole, Level, Right, Apart, sizes_of, ValueIs, Held, Later}
+use Rattle.block_runs.specs.Effects.{char_bytes}
+use Rattle.ob_types.specs.Forms.{Small}
+use Rattle.ob_types.specs.Trees.{Array, Scalar}
+use Rattle.lowered_runs.specs.Words.{same_trap, Whole, Level, Right, Apart, ValueIs, Held, Later}
 use Rattle.block_runs.specs.declared.code.Code.TheVariants.{Const, Set, Compare}
 use Rattle.block_runs.specs.Compares.{compares}
 use Rattle.ob_types.specs.Forms.{types_fine}
@@ -41,7 +44,7 @@ use Rattle.ssa_lowered.specs.Pieces.{Low, Mask, emits}
 use Rattle.ssa_lowered.specs.Pieces.{◌>>=◌ as ◌>>>◌}
 use Rattle.ssa_lowered.specs.Values.{Named, const, condition, bytes_in}
 use Rattle.ssa_lowered.specs.Values.{address_in as lower_address, texts_compared as lower_compared}
-use Rattle.lowered_runs.proofs.Stores.{later_refl}
+use Rattle.lowered_runs.proofs.Stores.{later_refl, address_few}
 use Rattle.lowered_runs.proofs.Values.{put_here, put_same, under_at, under_more, off_refl}
 use Rattle.lowered_runs.proofs.Ready.{position, system, world_of, frame_at, runs_at, Goes, Came_to, Registers, Typing}
 use Rattle.lowered_runs.proofs.Follows.{Fact, And as Both, Steady, steady_and, Grows, grows_bind, grows_emits, Follows, Done, follows_bind, follows_known, follows_emits, op_step, op_pays, then_goes, acts_give}
@@ -49,7 +52,7 @@ use Rattle.lowered_runs.proofs.Exprs.{CellIs, made_bits}
 use Rattle.lowered_runs.proofs.Sets.{follows_same}
 use Rattle.lowered_runs.proofs.Designators.{DesignatorIs, grows_address}
 use Rattle.lowered_runs.proofs.Elements.{ConstIs, steady_const, follows_const, LengthIn, SpanIs, span_by, spanned_same}
-use Rattle.lowered_runs.proofs.Copies.{follows_bytes, grows_bytes}
+use Rattle.lowered_runs.proofs.Copies.{few_times, follows_bytes, grows_bytes}
 use Rattle.lowered_runs.proofs.Texts.{Reads, TextIs, steady_text, NamedText, steady_named_text, text_at_span, follows_spanned}
 
 -- positions of two texts
@@ -130,34 +133,37 @@ pub characters_few : (xs : List ℕ) (x i : ℕ) (m : List Area) → Reads xs x 
 unfolding Reads
 characters_few [] x i m h = omega arith
 characters_few (c ∷ xs) x zero m h = h.1
-characters_few (c ∷ xs) x (suc i) m h = characters_few xs (add64 x 8) i m h.2
+characters_few (c ∷ xs) x (suc i) m h = characters_few xs (add64 x char_bytes) i m h.2
 
-read_at : (xs : List ℕ) (x i : ℕ) (m : List Area) → Reads xs x m → x < 2 ^ 64 → i < length xs → load1 m (add64 x (8 * i)) ≡ Some (slice_index xs i)
+read_at : (xs : List ℕ) (x i : ℕ) (m : List Area) → Reads xs x m → x < 2 ^ 64 → i < length xs → load1 m (add64 x (char_bytes * i)) ≡ Some (slice_index xs i)
 unfolding Reads
 read_at [] x i m h few lt = absurd (omega (arith, lt))
-read_at (c ∷ xs) x zero m h few lt = let here : add64 x (8 * 0) ≡ x = omega (arith, few) in ap (load1 m) here ∙ h.0
+read_at (c ∷ xs) x zero m h few lt = let here : add64 x (char_bytes * 0) ≡ x = omega (arith, few) in ap (load1 m) here ∙ h.0
 read_at (c ∷ xs) x (suc i) m h few lt =
-    let on : add64 x (8 * suc i) ≡ add64 (add64 x 8) (8 * i) = omega arith in
-    ap (load1 m) on ∙ read_at xs (add64 x 8) i m h.2 (omega arith) (omega (arith, lt))
+    let on : add64 x (char_bytes * suc i) ≡ add64 (add64 x char_bytes) (char_bytes * i) = omega arith in
+    ap (load1 m) on ∙ read_at xs (add64 x char_bytes) i m h.2 (omega arith) (omega (arith, lt))
 
 past_end : (xs : List ℕ) (i : ℕ) → length xs ≤ i → slice_index xs i ≡ 0
 past_end [] i le = refl
 past_end (c ∷ xs) zero le = absurd (omega (arith, le))
 past_end (c ∷ xs) (suc i) le = past_end xs i (omega (arith, le))
 
-char_is : (xs : List ℕ) (x i : ℕ) (m : List Area) → Reads xs x m → x < 2 ^ 64 → char_at m x (8 * length xs) (8 * i) ≡ Some (slice_index xs i)
+char_is : (xs : List ℕ) (x i : ℕ) (m : List Area) → Reads xs x m → x < 2 ^ 64 → char_at m x (char_bytes * length xs) (char_bytes * i) ≡ Some (slice_index xs i)
 char_is xs x i m h few = ⊎_elim
-    (λ (lt : i < length xs). ap (λ b. if b then Some 0 else load1 m (add64 x (8 * i))) (not_past (length xs) i lt) ∙ read_at xs x i m h few lt)
-    (λ (ge : length xs ≤ i). ap (λ b. if b then Some 0 else load1 m (add64 x (8 * i))) (is_past (length xs) i ge) ∙ ap (λ c. Some c) (sym (past_end xs i ge)))
+    (λ (lt : i < length xs). ap (λ b. if b then Some 0 else load1 m (add64 x (char_bytes * i))) (not_past (length xs) i lt) ∙ read_at xs x i m h few lt)
+    (λ (ge : length xs ≤ i). ap (λ b. if b then Some 0 else load1 m (add64 x (char_bytes * i))) (is_past (length xs) i ge) ∙ ap (λ c. Some c) (sym (past_end xs i ge)))
     (cases_lt i (length xs))
   where
-    not_past : (n i : ℕ) → i < n → nat_le (8 * n) (8 * i) ≡ false
+    not_past : (n i : ℕ) → i < n → nat_le (char_bytes * n) (char_bytes * i) ≡ false
     not_past n i lt = grind (arith, nat_tests)
 
-    is_past : (n i : ℕ) → n ≤ i → nat_le (8 * n) (8 * i) ≡ true
+    is_past : (n i : ℕ) → n ≤ i → nat_le (char_bytes * n) (char_bytes * i) ≡ true
     is_past n i le = grind (arith, nat_tests)
 
-module _ (w : Whole) (l : Level) (right : Right w) (apart : Apart l) where
+narrow_character : {w : Whole} → Right w → w.layout.character ≤ 8388608
+narrow_character right = let e = right.character in omega (arith, e)
+
+module _ (w : Whole) (l : Level) (right : Right w) (apart : Apart w l) where
   module _ (xs ys : List ℕ) (x y : ℕ) (us : List ℕ) (most : ℕ) (c : Cursor) (f : ℕ → ℕ) (s : Objects) (m : List Area) (free : (Point → ℕ) → ℕ) (reads_one : Reads xs x m) (reads_two : Reads ys y m) (few_one : x < 2 ^ 64) (few_two : y < 2 ^ 64) (short : length xs < 2 ^ 32)
       (within : (h : Point → ℕ) → h (In_routine CompareAtHead) + (h (In_routine CompareAtCell) + free h) ≤ weigh h w.points) where
     abbrev op : Op
@@ -174,17 +180,17 @@ module _ (w : Whole) (l : Level) (right : Right w) (apart : Apart l) where
     difference = sub64 (slice_index xs last) (slice_index ys last)
 
     abbrev at_head : State
-    at_head = Works (CompareHead x (8 * length xs) y (8 * length ys)) fr l.callers (world_of l m s)
+    at_head = Works (CompareHead x (char_bytes * length xs) y (char_bytes * length ys)) fr l.callers (world_of w l m s)
 
     abbrev at_cell : ℕ → State
-    at_cell done = Works (CompareCell x (8 * length xs) y (8 * length ys) done) fr l.callers (world_of l m s)
+    at_cell done = Works (CompareCell x (char_bytes * length xs) y (char_bytes * length ys) done) fr l.callers (world_of w l m s)
 
     abbrev at_end : State
-    at_end = runs_at l (record { block = c.block; op = suc c.op; values = suc c.values; env = c.env }) (set f c.values difference) m s
+    at_end = runs_at w l (record { block = c.block; op = suc c.op; values = suc c.values; env = c.env }) (set f c.values difference) m s
 
     -- behind position i
     abbrev behind : ℕ → State
-    behind i = cond (nat_lt i last) (at_cell (8 * suc i)) at_end
+    behind i = cond (nat_lt i last) (at_cell (char_bytes * suc i)) at_end
 
     -- before so many positions
     stand : ℕ → State
@@ -210,25 +216,25 @@ module _ (w : Whole) (l : Level) (right : Right w) (apart : Apart l) where
       pub reached : Came_to w bound 1 t.turns t.out at_end free
 
     module _ (rest : List Operation) (rest_is : rest_of w.procedures fr ≡ operation_of op ∷ rest) where
-      at_step : (done : ℕ) → (system w).step (at_cell done) ≡ compared_at (rest_of w.procedures fr) x (8 * length xs) y (8 * length ys) done fr l.callers (world_of l m s) (char_at m x (8 * length xs) done) (char_at m y (8 * length ys) done)
+      at_step : (done : ℕ) → (system w).step (at_cell done) ≡ compared_at (rest_of w.procedures fr) x (char_bytes * length xs) y (char_bytes * length ys) done fr l.callers (world_of w l m s) (char_at m x (char_bytes * length xs) done) (char_at m y (char_bytes * length ys) done)
       at_step done = refl
 
-      tested : (i : ℕ) (b : Bool) → go_on xs ys i ≡ b → (system w).step (at_cell (8 * i)) ≡ (if b then Moves [] (Works (CompareCell x (8 * length xs) y (8 * length ys) (add64 (8 * i) 8)) fr l.callers (world_of l m s)) else resumed (rest_of w.procedures fr) fr l.callers (world_of l m s) (Some (sub64 (slice_index xs i) (slice_index ys i))))
+      tested : (i : ℕ) (b : Bool) → go_on xs ys i ≡ b → (system w).step (at_cell (char_bytes * i)) ≡ (if b then Moves [] (Works (CompareCell x (char_bytes * length xs) y (char_bytes * length ys) (add64 (char_bytes * i) char_bytes)) fr l.callers (world_of w l m s)) else resumed (rest_of w.procedures fr) fr l.callers (world_of w l m s) (Some (sub64 (slice_index xs i) (slice_index ys i))))
       tested i b e =
-          at_step (8 * i)
-          ∙ ap₂ (λ p q. compared_at (rest_of w.procedures fr) x (8 * length xs) y (8 * length ys) (8 * i) fr l.callers (world_of l m s) p q) (char_is xs x i m reads_one few_one) (char_is ys y i m reads_two few_two)
-          ∙ ap (λ b. if b then Moves [] (Works (CompareCell x (8 * length xs) y (8 * length ys) (add64 (8 * i) 8)) fr l.callers (world_of l m s)) else resumed (rest_of w.procedures fr) fr l.callers (world_of l m s) (Some (sub64 (slice_index xs i) (slice_index ys i)))) e
+          at_step (char_bytes * i)
+          ∙ ap₂ (λ p q. compared_at (rest_of w.procedures fr) x (char_bytes * length xs) y (char_bytes * length ys) (char_bytes * i) fr l.callers (world_of w l m s) p q) (char_is xs x i m reads_one few_one) (char_is ys y i m reads_two few_two)
+          ∙ ap (λ b. if b then Moves [] (Works (CompareCell x (char_bytes * length xs) y (char_bytes * length ys) (add64 (char_bytes * i) char_bytes)) fr l.callers (world_of w l m s)) else resumed (rest_of w.procedures fr) fr l.callers (world_of w l m s) (Some (sub64 (slice_index xs i) (slice_index ys i)))) e
 
-      step_at : (i : ℕ) → i ≤ last → (system w).step (at_cell (8 * i)) ≡ Moves [] (behind i)
+      step_at : (i : ℕ) → i ≤ last → (system w).step (at_cell (char_bytes * i)) ≡ Moves [] (behind i)
       step_at i le = ⊎_elim
           (λ (lt : i < last).
           let go = go_before xs ys i lt in
           let inside = go_within xs ys i go in
-          let on : add64 (8 * i) 8 ≡ 8 * suc i = omega (arith, inside, short) in
-          tested i true go ∙ ap (λ d. Moves [] (at_cell d)) on ∙ ap (λ b. Moves [] (cond b (at_cell (8 * suc i)) at_end)) (sym (is_less i last lt)))
+          let on : add64 (char_bytes * i) 8 ≡ char_bytes * suc i = omega (arith, inside, short) in
+          tested i true go ∙ ap (λ d. Moves [] (at_cell d)) on ∙ ap (λ b. Moves [] (cond b (at_cell (char_bytes * suc i)) at_end)) (sym (is_less i last lt)))
           (λ (ge : last ≤ i). let e : i ≡ last = omega (arith, le, ge) in
-          subst (λ i. (system w).step (at_cell (8 * i)) ≡ Moves [] (behind i)) (sym e)
-          (tested last false (stop_there xs ys) ∙ ap (λ ops. resumed ops fr l.callers (world_of l m s) (Some difference)) rest_is ∙ ap (λ b. Moves [] (cond b (at_cell (8 * suc last)) at_end)) (sym (not_less last))))
+          subst (λ i. (system w).step (at_cell (char_bytes * i)) ≡ Moves [] (behind i)) (sym e)
+          (tested last false (stop_there xs ys) ∙ ap (λ ops. resumed ops fr l.callers (world_of w l m s) (Some difference)) rest_is ∙ ap (λ b. Moves [] (cond b (at_cell (char_bytes * suc last)) at_end)) (sym (not_less last))))
           (cases_lt i last)
         where
           is_less : (i k : ℕ) → i < k → nat_lt i k ≡ true
@@ -245,7 +251,7 @@ module _ (w : Whole) (l : Level) (right : Right w) (apart : Apart l) where
           refl (step_at 0 le) (λ h. omega arith) (omega arith)
       one_on left (suc i) out le at =
           pass_quiet (system w) (least w.procedures) w.points w.first w.turns 1 free (In_routine CompareAtCell) (behind (suc i))
-          (subst (λ x. Came_to w left 0 left out x (λ h. h (In_routine CompareAtHead) + (h (In_routine CompareAtCell) + free h))) (ap (λ b. cond b (at_cell (8 * suc i)) at_end) (is_less i last (omega (arith, le)))) at)
+          (subst (λ x. Came_to w left 0 left out x (λ h. h (In_routine CompareAtHead) + (h (In_routine CompareAtCell) + free h))) (ap (λ b. cond b (at_cell (char_bytes * suc i)) at_end) (is_less i last (omega (arith, le)))) at)
           refl (step_at (suc i) le) (λ h. omega arith) (omega arith)
         where
           is_less : (i k : ℕ) → i < k → nat_lt i k ≡ true
@@ -266,7 +272,7 @@ module _ (w : Whole) (l : Level) (right : Right w) (apart : Apart l) where
         store = o.store;
         bound = bound;
         less = o.less;
-        reached = subst (λ x. Came_to w bound 1 t.turns t.out x free) (ap (λ b. cond b (at_cell (8 * suc last)) at_end) (not_less last)) o.reached;
+        reached = subst (λ x. Came_to w bound 1 t.turns t.out x free) (ap (λ b. cond b (at_cell (char_bytes * suc last)) at_end) (not_less last)) o.reached;
       }
         where
           not_less : (k : ℕ) → nat_lt k k ≡ false
@@ -296,14 +302,16 @@ module _ (w : Whole) (l : Level) (right : Right w) (apart : Apart l) where
 
   follows_both_read : {fuel : ℕ} {mask : Mask} {K : Fact} (good : types_fine w.program.types ≡ true) (r : Relation) (t u : Thing) (o p : Option ℕ) (e d : Elementary) → WellFormed.elements_in w.program t o ≡ Some e → WellFormed.is_letter w.program e ≡ true → WellFormed.elements_in w.program u p ≡ Some d → WellFormed.is_letter w.program d ≡ true
       → (h g : Handed) (v q : Named) (a b : Span) (i j k m : ℕ) → a.length < 2 ^ 32
-      → Follows w l 0 fuel mask (Both (Both (Both (Both K (TextIs w l t o 1 h v a i)) (ConstIs w l (8 * (a.length * 1)) k)) (TextIs w l u p 1 g q b j)) (ConstIs w l (8 * (b.length * 1)) m)) (DifferenceIs r) (both_read a b) (emits Compare (i ∷ k ∷ j ∷ m ∷ []))
+      → Follows w l 0 fuel mask (Both (Both (Both (Both K (TextIs w l t o h v a i)) (ConstIs w l (a.length * w.layout.character) k)) (TextIs w l u p g q b j)) (ConstIs w l (b.length * w.layout.character) m)) (DifferenceIs r) (both_read a b) (emits Compare (i ∷ k ∷ j ∷ m ∷ []))
   follows_both_read {mask = mask} {K = K} good r t u o p e d one_is one_letter two_is two_letter h g v q a b i j k m few_cells = record {
     grows = grows_emits w l Compare (i ∷ k ∷ j ∷ m ∷ []);
     by = λ most n c f s room free le needs few stands fits within known typed z.
-        let one = text_at_span w l good t o e one_is one_letter h v a i c.values f s z.memory z.held typed known.0.0.0.1 in
-        let two = text_at_span w l good u p d two_is two_letter g q b j c.values f s z.memory z.held typed known.0.1 in
-        let bytes_one : f k ≡ 8 * length one.chars = let x = known.0.0.1.1 in let y = one.size in omega (arith, x, y) in
-        let bytes_two : f m ≡ 8 * length two.chars = let x = known.1.1 in let y = two.size in omega (arith, x, y) in
+        let low_one : f i < 2 ^ 64 = let e = address_few w l s.store z.memory a.at (Array a.length (Scalar Small)) (f i) z.held known.0.0.0.1.0.1 in omega (arith, e) in
+        let low_two : f j < 2 ^ 64 = let e = address_few w l s.store z.memory b.at (Array b.length (Scalar Small)) (f j) z.held known.0.1.0.1 in omega (arith, e) in
+        let one = text_at_span w l right good t o e one_is one_letter h v a i c.values f s z.memory z.held typed known.0.0.0.1 in
+        let two = text_at_span w l right good u p d two_is two_letter g q b j c.values f s z.memory z.held typed known.0.1 in
+        let bytes_one : f k ≡ char_bytes * length one.chars = let x = known.0.0.1.1 ∙ ap (λ c. a.length * c) right.character in let y = one.size in omega (arith, x, y) in
+        let bytes_two : f m ≡ char_bytes * length two.chars = let x = known.1.1 ∙ ap (λ c. b.length * c) right.character in let y = two.size in omega (arith, x, y) in
         let op : Op = record { code = Compare; uses = i ∷ k ∷ j ∷ m ∷ []; def = Some c.values } in
         let fr = frame_at l (position c) f in
         let values = set f c.values (sub64 (slice_index one.chars (common one.chars two.chars)) (slice_index two.chars (common one.chars two.chars))) in
@@ -312,22 +320,22 @@ module _ (w : Whole) (l : Level) (right : Right w) (apart : Apart l) where
         let new = put_same c.values c.values (sub64 (slice_index one.chars (common one.chars two.chars)) (slice_index two.chars (common one.chars two.chars))) f (omega arith) in
         subst (λ x. Goes w x (Done w l (DifferenceIs r) mask most n c (emits Compare (i ∷ k ∷ j ∷ m ∷ []) c) s.store f free)) (sym (reads_are a b s one.chars two.chars one.gives two.gives))
         (then_goes w l (spend_all (suc (common one.chars two.chars))) (λ _. give (text_of one.chars, text_of two.chars)) s
-        (positions_go one.chars two.chars (f i) (f j) (i ∷ k ∷ j ∷ m ∷ []) most c f s.store z.memory free one.reads two.reads known.0.0.0.1.0.1.few known.0.1.0.1.few (omega (arith, size_one, few_cells)) (λ h. let y = within h in omega (arith, y)) stands.0.0 stands.0.1 s refl
-        (pass_quiet (system w) (least w.procedures) w.points w.first w.turns 1 free (In l.proc c.block c.op) (Works (CompareHead (f i) (8 * length one.chars) (f j) (8 * length two.chars)) fr l.callers (world_of l z.memory s.store)) z.reached refl
-        (op_step w l (position c) f z.memory s.store op stands.0 ∙ ap₂ (λ x y. Moves [] (Works (CompareHead (f i) x (f j) y) fr l.callers (world_of l z.memory s.store))) bytes_one bytes_two) (λ h. let y = fits h in omega (arith, y)) (omega (arith, pays))))
+        (positions_go one.chars two.chars (f i) (f j) (i ∷ k ∷ j ∷ m ∷ []) most c f s.store z.memory free one.reads two.reads low_one low_two (omega (arith, size_one, few_cells)) (λ h. let y = within h in omega (arith, y)) stands.0.0 stands.0.1 s refl
+        (pass_quiet (system w) (least w.procedures) w.points w.first w.turns 1 free (In l.proc c.block c.op) (Works (CompareHead (f i) (char_bytes * length one.chars) (f j) (char_bytes * length two.chars)) fr l.callers (world_of w l z.memory s.store)) z.reached refl
+        (op_step w l (position c) f z.memory s.store op stands.0 ∙ ap₂ (λ x y. Moves [] (Works (CompareHead (f i) x (f j) y) fr l.callers (world_of w l z.memory s.store))) bytes_one bytes_two) (λ h. let y = fits h in omega (arith, y)) (omega (arith, pays))))
         (λ y t x. record {
           by = let less = x.less in record {
             values = values;
             ready = record {
               memory = z.memory;
-              reached = loosen (system w) (least w.procedures) w.points w.first w.turns most n free (subst (λ st. Came_to w x.bound 1 t.turns t.out (runs_at l (position (emits Compare (i ∷ k ∷ j ∷ m ∷ []) c).after) values z.memory st) free) (sym x.store) x.reached) less few (λ h. omega arith);
+              reached = loosen (system w) (least w.procedures) w.points w.first w.turns most n free (subst (λ st. Came_to w x.bound 1 t.turns t.out (runs_at w l (position (emits Compare (i ∷ k ∷ j ∷ m ∷ []) c).after) values z.memory st) free) (sym x.store) x.reached) less few (λ h. omega arith);
               held = subst (λ st. Held w l st z.memory) (sym x.store) z.held;
               size = z.size;
               under = under_more c.values (suc c.values) c.env (omega arith) z.under;
-              registers = subst (λ st. Registers w l c.env values st) (sym x.store) (λ y lt reg v is. let size = z.size in subst (λ n. ValueIs w (sizes_of s.store) v n) (sym (new (slice_index c.env y) (under_at c.values c.env y (omega (arith, lt, size)) z.under))) (z.registers y lt reg v is));
-              since = subst (λ st. Later l l.store st) (sym x.store) z.since;
+              registers = subst (λ st. Registers w l c.env values st) (sym x.store) (λ y lt reg v is. let size = z.size in subst (λ n. ValueIs w s.store.tags v n) (sym (new (slice_index c.env y) (under_at c.values c.env y (omega (arith, lt, size)) z.under))) (z.registers y lt reg v is));
+              since = subst (λ st. Later w l l.store st) (sym x.store) z.since;
             };
-            later = subst (λ st. Later l s.store st) (sym x.store) (later_refl w l s.store);
+            later = subst (λ st. Later w l s.store st) (sym x.store) (later_refl w l s.store);
             is = (
               omega arith,
               slice_index one.chars (common one.chars two.chars),
@@ -400,36 +408,36 @@ module _ (w : Whole) (l : Level) (right : Right w) (apart : Apart l) where
       grows_last : (i k j k2 : ℕ) → Grows w l (emits Compare (i ∷ k ∷ j ∷ k2 ∷ []) >>> λ c. const 0 >>> λ z. emits (Set (condition r)) (c ∷ z ∷ []))
       grows_last i k j k2 = grows_bind w l (grows_emits w l Compare (i ∷ k ∷ j ∷ k2 ∷ [])) (λ c. grows_answer c)
 
-      grows_third : (i k : ℕ) (v2 : Named) (j : ℕ) → Grows w l (bytes_in 8 m v2 >>> λ k2. emits Compare (i ∷ k ∷ j ∷ k2 ∷ []) >>> λ c. const 0 >>> λ z. emits (Set (condition r)) (c ∷ z ∷ []))
-      grows_third i k v2 j = grows_bind w l (grows_bytes w l right apart 1 m v2) (λ k2. grows_last i k j k2)
+      grows_third : (i k : ℕ) (v2 : Named) (j : ℕ) → Grows w l (bytes_in w.layout.character m v2 >>> λ k2. emits Compare (i ∷ k ∷ j ∷ k2 ∷ []) >>> λ c. const 0 >>> λ z. emits (Set (condition r)) (c ∷ z ∷ []))
+      grows_third i k v2 j = grows_bind w l (grows_bytes w l right apart w.layout.character m v2) (λ k2. grows_last i k j k2)
 
-      grows_second : (i k : ℕ) → Grows w l (q >>> λ v2. lower_address v2 0 >>> λ j. bytes_in 8 m v2 >>> λ k2. emits Compare (i ∷ k ∷ j ∷ k2 ∷ []) >>> λ c. const 0 >>> λ z. emits (Set (condition r)) (c ∷ z ∷ []))
+      grows_second : (i k : ℕ) → Grows w l (q >>> λ v2. lower_address v2 0 >>> λ j. bytes_in w.layout.character m v2 >>> λ k2. emits Compare (i ∷ k ∷ j ∷ k2 ∷ []) >>> λ c. const 0 >>> λ z. emits (Set (condition r)) (c ∷ z ∷ []))
       grows_second i k = grows_bind w l two (λ v2. grows_bind w l (grows_address w l v2 0) (λ j. grows_third i k v2 j))
 
-      grows_first : (v : Named) (i : ℕ) → Grows w l (bytes_in 8 n v >>> λ k. q >>> λ v2. lower_address v2 0 >>> λ j. bytes_in 8 m v2 >>> λ k2. emits Compare (i ∷ k ∷ j ∷ k2 ∷ []) >>> λ c. const 0 >>> λ z. emits (Set (condition r)) (c ∷ z ∷ []))
-      grows_first v i = grows_bind w l (grows_bytes w l right apart 1 n v) (λ k. grows_second i k)
+      grows_first : (v : Named) (i : ℕ) → Grows w l (bytes_in w.layout.character n v >>> λ k. q >>> λ v2. lower_address v2 0 >>> λ j. bytes_in w.layout.character m v2 >>> λ k2. emits Compare (i ∷ k ∷ j ∷ k2 ∷ []) >>> λ c. const 0 >>> λ z. emits (Set (condition r)) (c ∷ z ∷ []))
+      grows_first v i = grows_bind w l (grows_bytes w l right apart w.layout.character n v) (λ k. grows_second i k)
 
   pub follows_texts_compared : {fuel : ℕ} {mask own other : Mask} {K : Fact} {p q : Low Named} (good : types_fine w.program.types ≡ true) (r : Relation) (t u : Thing) (n m : Option ℕ) (e d : Elementary) (x y : Act Handed) → WellFormed.elements_in w.program t n ≡ Some e → WellFormed.is_letter w.program e ≡ true → WellFormed.elements_in w.program u m ≡ Some d → WellFormed.is_letter w.program d ≡ true → Steady w l K
-      → ((h : Handed) (v : Named) → Follows w l 0 fuel mask (Both K (DesignatorIs w l own t h v)) (SpanIs w l n 1 v) (span_by w l n h) (lower_address v 0)) → ((h : Handed) (v : Named) → Follows w l 0 fuel mask (Both K (DesignatorIs w l other u h v)) (SpanIs w l m 1 v) (span_by w l m h) (lower_address v 0))
-      → Follows w l 0 fuel mask K (NamedText w l own t) x p → Follows w l 0 fuel mask K (NamedText w l other u) y q → Follows w l 0 fuel mask K (CellIs w l) (texts_compared r x n y m) (lower_compared 8 r p n q m)
+      → ((h : Handed) (v : Named) → Follows w l 0 fuel mask (Both K (DesignatorIs w l own t h v)) (SpanIs w l n (Scalar Small) v) (span_by w l n h) (lower_address v 0)) → ((h : Handed) (v : Named) → Follows w l 0 fuel mask (Both K (DesignatorIs w l other u h v)) (SpanIs w l m (Scalar Small) v) (span_by w l m h) (lower_address v 0))
+      → Follows w l 0 fuel mask K (NamedText w l own t) x p → Follows w l 0 fuel mask K (NamedText w l other u) y q → Follows w l 0 fuel mask K (CellIs w l) (texts_compared r x n y m) (lower_compared w.layout.character r p n q m)
   follows_texts_compared {fuel} {mask} {own} {other} {K} {p} {q} good r t u n m e d x y one_is one_letter two_is two_letter steady spans_one spans_two one two =
       follows_same w l (x >>= λ h. span_by w l n h >>= (from_first r m y)) (texts_compared r x n y m) (spanned_same w l x n (from_first r m y))
       (follows_bind w l steady one (λ v. grows_bind w l (grows_address w l v 0) (λ i. grows_first r m y n q two.grows v i))
       (λ h v. follows_bind w l (steady_and w l steady (steady_named_text w l own t h v)) (follows_spanned w l own t n spans_one h v) (λ i. grows_first r m y n q two.grows v i)
-      (λ a i. let known = steady_and w l (steady_and w l steady (steady_named_text w l own t h v)) (steady_text w l t n 1 h v a i) in
+      (λ a i. let known = steady_and w l (steady_and w l steady (steady_named_text w l own t h v)) (steady_text w l t n h v a i) in
       follows_by (grows_first r m y n q two.grows v i) (λ k f s z. z.1.0.2) (λ few. follows_bind w l {m = give tt} {h = λ (z : Unit {0}). from_first r m y a} known
-      (follows_known w l {K = Both K (LengthIn w l n a.length v)} (λ j f s z. (z.0.0, z.1.0.3)) (follows_bytes w l right apart 1 n v a.length steady (omega (arith, few)))) (λ k. grows_second r m y n q two.grows i k)
-      (λ z k. let known2 = steady_and w l known (steady_const w l (8 * (a.length * 1)) k) in
+      (follows_known w l {K = Both K (LengthIn w l n a.length v)} (λ j f s z. (z.0.0, z.1.0.3)) (follows_bytes w l right apart w.layout.character n v a.length steady (few_times w l right apart a.length w.layout.character few (narrow_character right)))) (λ k. grows_second r m y n q two.grows i k)
+      (λ z k. let known2 = steady_and w l known (steady_const w l (a.length * w.layout.character) k) in
       follows_same w l (y >>= λ h2. span_by w l m h2 >>= from_second r m y a) (from_first r m y a) (spanned_same w l y m (from_second r m y a))
       (follows_bind w l known2 (follows_known w l (λ j f s z. z.0.0.0) two) (λ v2. grows_bind w l (grows_address w l v2 0) (λ j. grows_third r m y n q two.grows i k v2 j))
       (λ h2 v2. follows_bind w l (steady_and w l known2 (steady_named_text w l other u h2 v2)) (follows_known w l (λ j f s z. (z.0.0.0.0, z.1)) (follows_spanned w l other u m spans_two h2 v2)) (λ j. grows_third r m y n q two.grows i k v2 j)
-      (λ b j. let known3 = steady_and w l (steady_and w l known2 (steady_named_text w l other u h2 v2)) (steady_text w l u m 1 h2 v2 b j) in
+      (λ b j. let known3 = steady_and w l (steady_and w l known2 (steady_named_text w l other u h2 v2)) (steady_text w l u m h2 v2 b j) in
       follows_by (grows_third r m y n q two.grows i k v2 j) (λ k f s z. z.1.0.2) (λ few2. follows_bind w l {m = give tt} {h = λ (z : Unit {0}). from_second r m y a b} known3
-      (follows_known w l {K = Both K (LengthIn w l m b.length v2)} (λ j f s z. (z.0.0.0.0.0, z.1.0.3)) (follows_bytes w l right apart 1 m v2 b.length steady (omega (arith, few2)))) (λ k2. grows_last r m y n q two.grows i k j k2)
+      (follows_known w l {K = Both K (LengthIn w l m b.length v2)} (λ j f s z. (z.0.0.0.0.0, z.1.0.3)) (follows_bytes w l right apart w.layout.character m v2 b.length steady (few_times w l right apart b.length w.layout.character few2 (narrow_character right)))) (λ k2. grows_last r m y n q two.grows i k j k2)
       (λ z2 k2. follows_same w l (both_read a b >>= answered r m y) (from_second r m y a b) (same_answer r m y a b)
-      (follows_bind w l (steady_and w l known3 (steady_const w l (8 * (b.length * 1)) k2))
+      (follows_bind w l (steady_and w l known3 (steady_const w l (b.length * w.layout.character) k2))
       (follows_known w l (λ j f s z. ((((z.0.0.0.0.0.0, z.0.0.0.0.1), z.0.0.0.1), z.0.1), z.1)) (follows_both_read good r t u n m e d one_is one_letter two_is two_letter h h2 v v2 a b i j k k2 few)) (λ c. grows_answer r m y n q two.grows c)
-      (λ z3 c. follows_bind w l {m = give tt} {h = λ (o : Unit {0}). answered r m y z3} (steady_and w l (steady_and w l known3 (steady_const w l (8 * (b.length * 1)) k2)) (steady_difference r z3 c)) (follows_const w l 0) (λ o. grows_emits w l (Set (condition r)) (c ∷ o ∷ []))
+      (λ z3 c. follows_bind w l {m = give tt} {h = λ (o : Unit {0}). answered r m y z3} (steady_and w l (steady_and w l known3 (steady_const w l (b.length * w.layout.character) k2)) (steady_difference r z3 c)) (follows_const w l 0) (λ o. grows_emits w l (Set (condition r)) (c ∷ o ∷ []))
       (λ o zero_at. follows_emits w l (Set (condition r)) (c ∷ zero_at ∷ []) (λ j f mm s held z.
       let dif = z.0.1 in
       let b1 = text_order (related r) z3.0 z3.1 in

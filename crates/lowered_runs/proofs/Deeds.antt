@@ -25,7 +25,7 @@ use Rattle.lowered_runs.proofs.Ready.{Goes, world_of}
 use Rattle.lowered_runs.proofs.Follows.{Fact, And as Both, Steady, steady_and, Grows, grows_bind, grows_give, grows_emits, grows_does, Follows, FollowsTo, follows_bind, follows_give, follows_known, follows_does, acts_give, acts_trap, acts_senseless, DoneTo, effect_at, ActsTo}
 use Rattle.lowered_runs.proofs.Exprs.{CellIs, NumberIs, steady_number, follows_bits, follows_operated, follows_byte_test, grows_two}
 use Rattle.lowered_runs.proofs.Sets.{regroup, follows_same, steady_element, tested, follows_member, grows_member, element_bits}
-use Rattle.lowered_runs.proofs.Homes.{HomeIs, steady_home, grows_current, grows_change, follows_current, follows_change, Nothing_more}
+use Rattle.lowered_runs.proofs.Homes.{HomeIs, IsNarrow, steady_home, grows_current, grows_change, follows_current, follows_change, Nothing_more}
 
 -- operators without a trap
 abbrev pub Total : Binary → Type 0
@@ -58,47 +58,61 @@ module _ (w : Whole) (l : Level) where
       bits_of : Cell → Act ℕ
       bits_of c = bits_in c
 
-  when_byte : {need fuel : ℕ} {mask : Mask} {K : Fact} (is_byte : Bool) (a i : ℕ) → Follows w l need fuel mask (Both K (NumberIs w l a i)) (λ (u v : Unit {0}). Both K (NumberIs w l a i)) (unless l.proc 11 (if is_byte then inside a 256 else true)) (if is_byte then does Byte (i ∷ []) else skip)
+  -- what was tested to be a BYTE is one
+  abbrev Byte_is : Bool → ℕ → Type 0
+  Byte_is true a = a < 256
+  Byte_is false a = Unit {0}
+
+  when_byte : {need fuel : ℕ} {mask : Mask} {K : Fact} (is_byte : Bool) (a i : ℕ) → Follows w l need fuel mask (Both K (NumberIs w l a i)) (λ (u v : Unit {0}). Both (Both K (NumberIs w l a i)) (λ n f s. Byte_is is_byte a)) (unless l.proc 11 (if is_byte then inside a 256 else true)) (if is_byte then does Byte (i ∷ []) else skip)
   when_byte true a i = record {
     grows = grows_does w l Byte (i ∷ []);
     by = λ most g c f s room free le needs few stands fits within known typed r. (follows_byte_test w l a i known.1.1.1).by most g c f s room free le needs few stands fits within known typed r;
   }
-  when_byte false a i = follows_give w l tt tt (λ n f s k. k)
+  when_byte false a i = follows_give w l tt tt (λ n f s k. (k, tt))
+
+  -- a number that is stored by a byte was tested
+  number_narrow : (small is_byte : Bool) (a : ℕ) → (small ≡ true → is_byte ≡ true) → Byte_is is_byte a → IsNarrow w l small (Bits a)
+  number_narrow true true a byte lt = lt
+  number_narrow true false a byte lt = absurd (differ (byte refl))
+    where
+      differ : false ≡ true → ⊥
+      differ e = cc
+  number_narrow false is_byte a byte lt = tt
 
   grows_byte : (is_byte : Bool) (i : ℕ) → Grows w l (if is_byte then does Byte (i ∷ []) else skip)
   grows_byte true i = grows_does w l _ _
   grows_byte false i = grows_give w l tt
 
   -- INC and DEC
-  pub follows_number_change : {need fuel : ℕ} {mask : Mask} {K : Fact} {x : Act Cell} {q : Low Home} {t : Low ℕ} (right : Right w) (apart : Apart l) (own : Mask) (op : Binary) (d : Act Handed) (is_byte : Bool) → Total op → Steady w l K → ((x : ℕ) → own x ≡ true → l.in_register x ≡ true → mask x ≡ true)
-      → Follows w l need fuel mask K (HomeIs w l own) (place d) q → Follows w l need fuel mask K (CellIs w l) x t → FollowsTo w l false need fuel mask K (Nothing_more w l) (change_number l.proc op d x is_byte) (lower_number op q t is_byte)
-  follows_number_change right apart own op d is_byte total steady masked one two = follows_bind w l steady one
+  pub follows_number_change : {need fuel : ℕ} {mask : Mask} {K : Fact} {x : Act Cell} {q : Low Home} {t : Low ℕ} (right : Right w) (apart : Apart w l) (own : Mask) (small : Bool) (op : Binary) (d : Act Handed) (is_byte : Bool) → (small ≡ true → is_byte ≡ true) → Total op → Steady w l K → ((x : ℕ) → own x ≡ true → l.in_register x ≡ true → mask x ≡ true)
+      → Follows w l need fuel mask K (HomeIs w l own small) (place d) q → Follows w l need fuel mask K (CellIs w l) x t → FollowsTo w l false need fuel mask K (Nothing_more w l) (change_number l.proc op d x is_byte) (lower_number op q t is_byte)
+  follows_number_change right apart own small op d is_byte byte total steady masked one two = follows_bind w l steady one
       (λ h. grows_bind w l two.grows (λ n. grows_bind w l (grows_current w l h) (λ v. behind h v n)))
-      (λ a h. follows_bind w l (steady_and w l steady (steady_home w l own a h)) (follows_known w l (λ n f s k. k.0) (follows_bits w l steady two)) (λ n. grows_bind w l (grows_current w l h) (λ v. behind h v n))
-      (λ b j. follows_bind w l (steady_and w l (steady_and w l steady (steady_home w l own a h)) (steady_number w l b j))
-      (follows_known w l (λ n f s k. ((k.0.0, k.1), k.0.1)) (follows_bits w l (steady_and w l (steady_and w l steady (steady_number w l b j)) (steady_home w l own a h)) (follows_current w l own a h))) (λ v. behind h v j)
-      (λ v i. follows_bind w l (steady_and w l (steady_and w l (steady_and w l steady (steady_home w l own a h)) (steady_number w l b j)) (steady_number w l v i))
-      (follows_known w l (λ n f s k. (((k.0.0.0, k.0.0.1), k.1), k.0.1)) (follows_given op v i b j total (steady_and w l steady (steady_home w l own a h)))) (λ z. grows_bind w l (grows_byte is_byte z) (λ u. grows_change w l h z))
-      (λ c z. follows_bind w l (steady_and w l (steady_and w l (steady_and w l (steady_and w l steady (steady_home w l own a h)) (steady_number w l b j)) (steady_number w l v i)) (steady_number w l c z)) (when_byte is_byte c z) (λ u. grows_change w l h z)
-      (λ u y. follows_known w l (λ n f s k. ((k.0.0.0.0.0, k.0.0.0.0.1), k.0.1)) (follows_change w l right apart own a (Bits c) h z masked))))))
+      (λ a h. follows_bind w l (steady_and w l steady (steady_home w l own small a h)) (follows_known w l (λ n f s k. k.0) (follows_bits w l steady two)) (λ n. grows_bind w l (grows_current w l h) (λ v. behind h v n))
+      (λ b j. follows_bind w l (steady_and w l (steady_and w l steady (steady_home w l own small a h)) (steady_number w l b j))
+      (follows_known w l (λ n f s k. ((k.0.0, k.1), k.0.1)) (follows_bits w l (steady_and w l (steady_and w l steady (steady_number w l b j)) (steady_home w l own small a h)) (follows_current w l own small a h))) (λ v. behind h v j)
+      (λ v i. follows_bind w l (steady_and w l (steady_and w l (steady_and w l steady (steady_home w l own small a h)) (steady_number w l b j)) (steady_number w l v i))
+      (follows_known w l (λ n f s k. (((k.0.0.0, k.0.0.1), k.1), k.0.1)) (follows_given op v i b j total (steady_and w l steady (steady_home w l own small a h)))) (λ z. grows_bind w l (grows_byte is_byte z) (λ u. grows_change w l h z))
+      (λ c z. follows_bind w l (steady_and w l (steady_and w l (steady_and w l (steady_and w l steady (steady_home w l own small a h)) (steady_number w l b j)) (steady_number w l v i)) (steady_number w l c z)) (when_byte is_byte c z) (λ u. grows_change w l h z)
+      (λ u y. follows_known w l {K = Both (Both (λ n f s. Byte_is is_byte c) (HomeIs w l own small a h)) (CellIs w l (Bits c) z)} (λ n f s k. ((k.1.1, k.0.0.0.0.1), k.0.1)) (follows_change w l right apart own small a (Bits c) h z masked (λ n f s k. number_narrow small is_byte c byte k)))))))
     where
       behind : (h : Home) (v n : ℕ) → Grows w l (two_operands op v n >>> λ z. (if is_byte then does Byte (z ∷ []) else skip) >>> λ u. change h z)
       behind h v n = grows_bind w l (grows_two w l op v n) (λ z. grows_bind w l (grows_byte is_byte z) (λ u. grows_change w l h z))
 
   -- INCL and EXCL
-  pub follows_set_change : {need fuel : ℕ} {mask : Mask} {K : Fact} {x : Act Cell} {q : Low Home} {t : Low ℕ} (right : Right w) (apart : Apart l) (own : Mask) (op : Binary) (d : Act Handed) → Total op → Steady w l K → ((x : ℕ) → own x ≡ true → l.in_register x ≡ true → mask x ≡ true)
-      → Follows w l need fuel mask K (HomeIs w l own) (place d) q → Follows w l need fuel mask K (CellIs w l) x t → FollowsTo w l false need fuel mask K (Nothing_more w l) (change_set l.proc op d x) (lower_set op q t)
+  pub follows_set_change : {need fuel : ℕ} {mask : Mask} {K : Fact} {x : Act Cell} {q : Low Home} {t : Low ℕ} (right : Right w) (apart : Apart w l) (own : Mask) (op : Binary) (d : Act Handed) → Total op → Steady w l K → ((x : ℕ) → own x ≡ true → l.in_register x ≡ true → mask x ≡ true)
+      → Follows w l need fuel mask K (HomeIs w l own false) (place d) q → Follows w l need fuel mask K (CellIs w l) x t → FollowsTo w l false need fuel mask K (Nothing_more w l) (change_set l.proc op d x) (lower_set op q t)
   follows_set_change {x = x} {t = low} right apart own op d total steady masked one two = follows_bind w l steady one
       (λ h. grows_bind w l (grows_member w l two.grows) (λ i. behind h i))
       (λ a h. follows_same_to (tested w l x >>= λ n. rest a n) (bits x >>= λ n. unless l.proc 7 (inside n 64) >>= λ _. rest a n)
       (λ s. regroup (λ n. unless l.proc 7 (inside n 64)) (rest a) (bits x s))
-      (follows_bind w l (steady_and w l steady (steady_home w l own a h)) (follows_known w l (λ n f s k. k.0) (follows_member w l steady two)) (λ i. behind h i)
-      (λ n i. follows_bind w l {m = give tt} {h = λ (u : Unit {0}). rest a n} (steady_and w l (steady_and w l steady (steady_home w l own a h)) (steady_element w l n i)) (element_bits w l n i) (λ e. after_bit h e)
-      (λ u e. follows_bind w l (steady_and w l (steady_and w l (steady_and w l steady (steady_home w l own a h)) (steady_element w l n i)) (steady_number w l (elements n n) e))
-      (follows_known w l (λ n f s k. ((k.0.0.0, k.1), k.0.0.1)) (follows_bits w l (steady_and w l (steady_and w l steady (steady_number w l (elements n n) e)) (steady_home w l own a h)) (follows_current w l own a h))) (λ v. grows_bind w l (grows_two w l op v e) (λ z. grows_change w l h z))
-      (λ v j. follows_bind w l (steady_and w l (steady_and w l (steady_and w l (steady_and w l steady (steady_home w l own a h)) (steady_element w l n i)) (steady_number w l (elements n n) e)) (steady_number w l v j))
-      (follows_known w l (λ n f s k. (((k.0.0.0.0, k.0.0.0.1), k.1), k.0.1)) (follows_given op v j (elements n n) e total (steady_and w l steady (steady_home w l own a h)))) (λ z. grows_change w l h z)
-      (λ c z. follows_known w l (λ n f s k. ((k.0.0.0.0.0, k.0.0.0.0.1), k.1)) (follows_change w l right apart own a (Bits c) h z masked)))))))
+      (follows_bind w l (steady_and w l steady (steady_home w l own false a h)) (follows_known w l (λ n f s k. k.0) (follows_member w l steady two)) (λ i. behind h i)
+      (λ n i. follows_bind w l {m = give tt} {h = λ (u : Unit {0}). rest a n} (steady_and w l (steady_and w l steady (steady_home w l own false a h)) (steady_element w l n i)) (element_bits w l n i) (λ e. after_bit h e)
+      (λ u e. follows_bind w l (steady_and w l (steady_and w l (steady_and w l steady (steady_home w l own false a h)) (steady_element w l n i)) (steady_number w l (elements n n) e))
+      (follows_known w l (λ n f s k. ((k.0.0.0, k.1), k.0.0.1)) (follows_bits w l (steady_and w l (steady_and w l steady (steady_number w l (elements n n) e)) (steady_home w l own false a h)) (follows_current w l own false a h))) (λ v. grows_bind w l (grows_two w l op v e) (λ z. grows_change w l h z))
+      (λ v j. follows_bind w l (steady_and w l (steady_and w l (steady_and w l (steady_and w l steady (steady_home w l own false a h)) (steady_element w l n i)) (steady_number w l (elements n n) e)) (steady_number w l v j))
+      (follows_known w l (λ n f s k. (((k.0.0.0.0, k.0.0.0.1), k.1), k.0.1)) (follows_given op v j (elements n n) e total (steady_and w l steady (steady_home w l own false a h)))) (λ z. grows_change w l h z)
+      (λ c z. follows_known w l (λ n f s k. ((k.0.0.0.0.0, k.0.0.0.0.1), k.1)) (follows_change w l right apart own false a (Bits c) h z masked (λ n f s k. tt))))))))
     where
       rest : Address → ℕ → Act (Unit {0})
       rest a n = bits (fetch a) >>= λ v. given (binary_of op v (elements n n)) >>= λ z. put a (Bits z)
@@ -131,7 +145,7 @@ module _ (w : Whole) (l : Level) where
         bytes = a ∷ [];
         x = 0;
         gives = ap (λ b. (if b then write (a ∷ []) else (λ s. Fails Senseless s.out)) s) is;
-        does = inl (ap (λ x. Does (x ∷ []) (world_of l m s.store) 0) (small e (below is)));
+        does = inl (ap (λ x. Does (x ∷ []) (world_of w l m s.store) 0) (small e (below is)));
         turns = refl;
         out = refl;
         held = held;
@@ -159,7 +173,7 @@ module _ (w : Whole) (l : Level) where
         bytes = int_text a b;
         x = 0;
         gives = refl;
-        does = inl (ap₂ (λ x y. Does (int_text x y) (world_of l m s.store) 0) known.0.1.1.0 known.1.1.0);
+        does = inl (ap₂ (λ x y. Does (int_text x y) (world_of w l m s.store) 0) known.0.1.1.0 known.1.1.0);
         turns = refl;
         out = refl;
         held = held;

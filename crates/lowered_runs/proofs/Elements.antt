@@ -13,34 +13,34 @@ use Rattle.ob_types.specs.Store.{Cell, Bits, Senseless, Heap, Address, Handed, S
 use Rattle.ob_types.specs.Store.{Store as Objects, At as Addressed}
 use Rattle.ob_types.specs.Operators.{inside}
 use Rattle.ob_types.specs.Expressions.{element_place, field_of, length_of}
-use Rattle.ob_types.specs.Layout.{cells}
+use Rattle.ob_types.specs.Trees.{DataTree, Array, tree_cells, tree_bytes, data_tree}
 use Rattle.ob_types.specs.WellFormed.{OpenOf}
 use Rattle.ob_types.specs.WellFormed.{Named as Thing}
 use Rattle.ssa_lowered.specs.Pieces.{Low, Mask, emits, does}
 use Rattle.ssa_lowered.specs.Pieces.{◌>>=◌ as ◌>>>◌, give as gives}
 use Rattle.ssa_lowered.specs.Values.{Named, At, Beside, Object, const, element, field, length_in, past as lower_past, length_of as lower_length, address_in as lower_address}
 use Rattle.ssa_lowered.specs.Values.{Held as InRegister}
-use Rattle.lowered_runs.specs.Words.{Whole, Level, sizes_of, word_at, Held}
+use Rattle.object_nodes.specs.Nodes.{Node}
+use Rattle.object_nodes.proofs.Meeting.{node_self, node_bytes, variable_node}
+use Rattle.held_stores.specs.Places.{trees}
+use Rattle.lowered_runs.specs.Words.{Whole, Level, ground, active, Held, AddressIs}
+use Rattle.lowered_runs.proofs.Stores.{address_later, address_few, object_below}
 use Rattle.lowered_runs.proofs.Values.{put_here}
 use Rattle.lowered_runs.proofs.Follows.{Fact, And as Both, Steady, steady_and, Grows, grows_bind, grows_give, grows_emits, grows_does, Follows, follows_bind, follows_give, follows_then, follows_known, follows_emits, follows_does, follows_seen, follows_never, acts_give, acts_trap, acts_senseless, effect_at, Acts}
 use Rattle.lowered_runs.proofs.Exprs.{CellIs, NumberIs, steady_number, follows_bits}
 use Rattle.lowered_runs.proofs.Numbers.{inside_same}
 use Rattle.lowered_runs.proofs.Sets.{follows_same}
 use Rattle.lowered_runs.proofs.Forks.{after_after}
-use Rattle.lowered_runs.proofs.Homes.{AddressIs, address_later}
-use Rattle.lowered_runs.proofs.Designators.{row_of, is_single, NamedIs, SecondFits, DesignatorIs, steady_designator, grows_address, RowIs, object_row, follows_address}
+use Rattle.lowered_runs.proofs.Designators.{tree_of, object_tree, is_single, NamedIs, SecondFits, DesignatorIs, steady_designator, grows_address, RowIs, object_row, follows_address}
 
--- the cells of an element are among those of its array
-among : (n c i j : ℕ) → i < n → j < c → i * c + j < n * c
-among zero c i j lt less = absurd (omega (arith, lt))
-among (suc n) c zero j lt less = grind (arith)
-among (suc n) c (suc i) j lt less = let h = among n c i j (omega (arith, lt)) less in by (n * c) (i * c) c j h (next n) (next i)
+-- the bytes of an element are among those of its array
+pub under : (n b i : ℕ) → i < n → i * b + b ≤ n * b
+under zero b i lt = absurd (omega (arith, lt))
+under (suc n) b zero lt = grind (arith)
+under (suc n) b (suc i) lt = let h = under n b i (omega (arith, lt)) in let e = next n b in let f = next i b in omega (arith, h, e, f)
   where
-    next : (m : ℕ) → suc m * c ≡ c + m * c
-    next m = grind (arith)
-
-    by : (a b c j : ℕ) → b + j < a → {p q : ℕ} → p ≡ c + a → q ≡ c + b → q + j < p
-    by a b c j h e g = omega (arith, h, e, g)
+    next : (n b : ℕ) → suc n * b ≡ b + n * b
+    next n b = grind (arith)
 
 module _ (w : Whole) (l : Level) where
   -- a number that was made
@@ -72,21 +72,31 @@ module _ (w : Whole) (l : Level) where
       by v f m s held e same true is = acts_give w l tt 0 held (ap (λ b. unless l.proc 1 b s) (sym same ∙ is)) (e ∙ ap (λ b. if b then Yields 0 else Refuses 1) is) (less a n is)
       by v f m s held e same false is = acts_trap w l 1 (ap (λ b. unless l.proc 1 b s) (sym same ∙ is)) (e ∙ ap (λ b. if b then Yields 0 else Refuses 1) is)
 
-  -- an element's cells
-  part_is : (a : Address) (n c i x y : ℕ) (s : Objects) → i < n → AddressIs w l a (n * c) x s → y ≡ madd64 i (8 * c) x → AddressIs w l (past a (i * c)) c y s
-  part_is a n c i x y s lt at is = record {
-    few = let e = is in omega (arith, e);
-    row = λ j less.
-        let r = at.row (i * c + j) (among n c i j lt less) in
-        let apart : a.cell + (i * c + j) ≡ a.cell + i * c + j = omega arith in
-        (r.0, subst (λ k. word_at w l (sizes_of s) a.area a.object k ≡ Some r.0) apart r.1, by (i * c) x y j r.0 (eight i c) is r.2);
+  -- a part of what stands at an address, so many cells and bytes on
+  pub part_at : (a : Address) (t u : DataTree) (c o x y : ℕ) (s : Objects) → Node w.packed t c o u → AddressIs w l a t x s → y ≡ x + o → AddressIs w l (past a c) u y s
+  part_at a t u c o x y s node at is = record {
+    variable = at.variable;
+    byte = at.byte + o;
+    from = at.from;
+    node = variable_node w.packed (trees (ground w) (active l) s.tags a.area a.object) at.variable a.cell at.byte t c o u (a.cell + c) at.node node refl;
+    begins = at.begins;
+    is = let e = at.is in omega (arith, e, is);
   }
-    where
-      eight : (i c : ℕ) → i * (8 * c) ≡ 8 * (i * c)
-      eight i c = grind (arith)
 
-      by : (m x y j r : ℕ) → i * (8 * c) ≡ 8 * m → y ≡ madd64 i (8 * c) x → (x + 8 * (m + j)) % 2 ^ 64 ≡ 8 * r % 2 ^ 64 → (y + 8 * j) % 2 ^ 64 ≡ 8 * r % 2 ^ 64
-      by m x y j r e g h = omega (arith, e, g, h)
+  -- an element
+  pub element_node : (n i : ℕ) (e : DataTree) → i < n → Node w.packed (Array n e) (i * tree_cells e) (i * tree_bytes w.packed e) e
+  element_node n i e lt = inr (i, 0, 0, lt, node_self w.packed e, omega arith, omega arith)
+
+  part_is : (a : Address) (n : ℕ) (e : DataTree) (c size i x y : ℕ) (s : Objects) → c ≡ tree_cells e → size ≡ tree_bytes w.packed e → i < n → x + n * tree_bytes w.packed e < 2 ^ 63 → AddressIs w l a (Array n e) x s → y ≡ madd64 i size x → AddressIs w l (past a (i * c)) e y s
+  part_is a n e c size i x y s cells bytes lt few at is =
+      let inside = under n (tree_bytes w.packed e) i lt in
+      let same = ap (λ b. i * b) bytes in
+      part_at a (Array n e) e (i * c) (i * tree_bytes w.packed e) x y s
+      (subst (λ k. Node w.packed (Array n e) (i * k) (i * tree_bytes w.packed e) e) (sym cells) (element_node n i e lt)) at
+      (by x y (i * size) (i * tree_bytes w.packed e) (n * tree_bytes w.packed e) (tree_bytes w.packed e) is same inside few)
+    where
+      by : (x y k o all b : ℕ) → y ≡ (x + k % 2 ^ 64) % 2 ^ 64 → k ≡ o → o + b ≤ all → x + all < 2 ^ 63 → y ≡ x + o
+      by x y k o all b e f g h = omega (arith, e, f, g, h)
 
   ---- Arrays with their lengths
 
@@ -103,16 +113,16 @@ module _ (w : Whole) (l : Level) where
   steady_length None k (Object i) = record { by = λ n u f g s t le same later h. h }
   steady_length None k (InRegister x) = record { by = λ n u f g s t le same later h. h }
 
-  -- value i is the address of an array of elements of c cells, which is named so
-  abbrev pub SpanIs : Option ℕ → ℕ → Named → Span → ℕ → Fact
-  SpanIs o c v a i n f s = (i < n) × AddressIs w l a.at (a.length * c) (f i) s × (a.length < 2 ^ 32) × LengthIn o a.length v n f s
+  -- value i is the address of an array of elements with a tree, which is named so
+  abbrev pub SpanIs : Option ℕ → DataTree → Named → Span → ℕ → Fact
+  SpanIs o e v a i n f s = (i < n) × AddressIs w l a.at (Array a.length e) (f i) s × (a.length < 2 ^ 32) × LengthIn o a.length v n f s
 
-  pub steady_span : (o : Option ℕ) (c : ℕ) (v : Named) (a : Span) (i : ℕ) → Steady w l (SpanIs o c v a i)
-  steady_span o c v a i = record {
+  pub steady_span : (o : Option ℕ) (e : DataTree) (v : Named) (a : Span) (i : ℕ) → Steady w l (SpanIs o e v a i)
+  steady_span o e v a i = record {
     by = λ n u f g s t le same later h.
         let lt = h.0 in (
           omega (arith, le, lt),
-          subst (λ x. AddressIs w l a.at (a.length * c) x t) (sym (same i h.0)) (address_later w l a.at (a.length * c) (f i) s t later h.1),
+          subst (λ x. AddressIs w l a.at (Array a.length e) x t) (sym (same i h.0)) (address_later w l a.at (Array a.length e) (f i) s t later h.1),
           h.2,
           (steady_length o a.length v).by n u f g s t le same later h.3,
         );
@@ -130,15 +140,15 @@ module _ (w : Whole) (l : Level) where
       ∙ ap (λ e. after e go) (sym (after_after (d s) (λ h. given (address_in h)) (λ a. give (record { at = a; length = n }))))
 
   -- one of known length
-  pub follows_known_span : {need fuel : ℕ} {mask : Mask} {K : Fact} (own : Mask) (d : Thing) (h : Handed) (v : Named) (n c : ℕ) → Steady w l K → n * c ≤ row_of w l d h → is_single w l d ≡ false → n < 2 ^ 32
-      → Follows w l need fuel mask (Both K (DesignatorIs w l own d h v)) (SpanIs (Some n) c v) (span_by (Some n) h) (lower_address v 0)
-  follows_known_span {K = K} own d h v n c steady long many few = follows_then w l {h = λ a. give (record { at = a; length = n })} (steady_and w l steady (steady_designator w l own d h v))
-      (follows_known w l {K = Both K (NamedIs w l own d h v)} (λ m f s k. (k.0, k.1.0)) (follows_address w l own d h v (n * c) long (inl many)))
-      (λ a i m f s known at. inl (record { at = a; length = n }, refl, (at.0, at.1, few, refl)))
+  pub follows_known_span : {need fuel : ℕ} {mask : Mask} {K : Fact} (own : Mask) (d : Thing) (h : Handed) (v : Named) (n : ℕ) (e : DataTree) → Steady w l K → tree_of w l d h ≡ Array n e → is_single w l d ≡ false → n < 2 ^ 32
+      → Follows w l need fuel mask (Both K (DesignatorIs w l own d h v)) (SpanIs (Some n) e v) (span_by (Some n) h) (lower_address v 0)
+  follows_known_span {K = K} own d h v n e steady whole many few = follows_then w l {h = λ a. give (record { at = a; length = n })} (steady_and w l steady (steady_designator w l own d h v))
+      (follows_known w l {K = Both K (NamedIs w l own d h v)} (λ m f s k. (k.0, k.1.0)) (follows_address w l own d h v (inl many)))
+      (λ a i m f s known at. inl (record { at = a; length = n }, refl, (at.0, subst (λ t. AddressIs w l a t (f i) s.store) whole at.1, few, refl)))
 
   -- an open array: an address without a length makes no sense
   pub follows_open_span : {need fuel : ℕ} {mask : Mask} {K : Fact} (own : Mask) (e : ℕ) (may : Bool) (h : Handed) (v : Named)
-      → Follows w l need fuel mask (Both K (DesignatorIs w l own (OpenOf e may) h v)) (SpanIs None (cells w.program.types e) v) (span_by None h) (lower_address v 0)
+      → Follows w l need fuel mask (Both K (DesignatorIs w l own (OpenOf e may) h v)) (SpanIs None (data_tree w.program.types e) v) (span_by None h) (lower_address v 0)
   follows_open_span own e may h (At i) = follows_seen w l i (λ n f s m held typed known. absurd (no_length h known.1.0.1.0 known.1.0.1.1 known.1.1))
     where
       no_length : (h : Handed) (a : Address) → h ≡ Addressed a → SecondFits w l (OpenOf e may) h → ⊥
@@ -148,13 +158,13 @@ module _ (w : Whole) (l : Level) where
       same : (a b : Address) → Some a ≡ Some b → b ≡ a
       same a b e = cc
 
-      by : (h : Handed) (n : ℕ) (f : ℕ → ℕ) (s : Moment Objects) → DesignatorIs w l own (OpenOf e may) h (Beside i j) n f s.store → ((a : Span) × (span_by None h s ≡ Gives a s) × SpanIs None (cells w.program.types e) (Beside i j) a i n f s.store) ⊎ (span_by None h s ≡ Fails Senseless s.out)
+      by : (h : Handed) (n : ℕ) (f : ℕ → ℕ) (s : Moment Objects) → DesignatorIs w l own (OpenOf e may) h (Beside i j) n f s.store → ((a : Span) × (span_by None h s ≡ Gives a s) × SpanIs None (data_tree w.program.types e) (Beside i j) a i n f s.store) ⊎ (span_by None h s ≡ Fails Senseless s.out)
       by (Sized a k) n f s g = inl (
         record { at = a; length = k },
         refl,
         (
           g.0.0,
-          subst (λ b. AddressIs w l b (k * cells w.program.types e) (f i) s.store) (same a g.0.1.1.0 g.0.1.1.1) g.0.1.1.2,
+          subst (λ b. AddressIs w l b (Array k (data_tree w.program.types e)) (f i) s.store) (same a g.0.1.1.0 g.0.1.1.1) g.0.1.1.2,
           g.1,
           (g.0.1.0, g.0.1.1.3),
         ),
@@ -185,12 +195,12 @@ module _ (w : Whole) (l : Level) where
 
   ---- Elements
 
-  module _ (o : Option ℕ) (c : ℕ) (x : Act Cell) (t : Low ℕ) where
+  module _ (o : Option ℕ) (e : DataTree) (c size : ℕ) (cells_are : c ≡ tree_cells e) (bytes_are : size ≡ tree_bytes w.packed e) (x : Act Cell) (t : Low ℕ) where
     abbrev indexed : Span → Act Handed
     indexed a = bits x >>= λ k. unless l.proc 1 (inside k a.length) >>= λ _. give (Addressed (past a.at (k * c)))
 
     abbrev placed_at : ℕ → ℕ → Low Named
-    placed_at i j = const (8 * c) >>> λ b. emits MulAdd (j ∷ b ∷ i ∷ []) >>> λ y. gives (At y)
+    placed_at i j = const size >>> λ b. emits MulAdd (j ∷ b ∷ i ∷ []) >>> λ y. gives (At y)
 
     abbrev tested_at : ℕ → ℕ → ℕ → Low Named
     tested_at i j z = does Below (j ∷ z ∷ []) >>> λ _. placed_at i j
@@ -199,7 +209,7 @@ module _ (w : Whole) (l : Level) where
     indexed_at v i = t >>> λ j. length_in o v >>> λ z. tested_at i j z
 
     grows_placed : (i j : ℕ) → Grows w l (placed_at i j)
-    grows_placed i j = grows_bind w l (grows_emits w l (Const (8 * c)) []) (λ b. grows_bind w l (grows_emits w l MulAdd (j ∷ b ∷ i ∷ [])) (λ y. grows_give w l (At y)))
+    grows_placed i j = grows_bind w l (grows_emits w l (Const size) []) (λ b. grows_bind w l (grows_emits w l MulAdd (j ∷ b ∷ i ∷ [])) (λ y. grows_give w l (At y)))
 
     grows_tested : (i j z : ℕ) → Grows w l (tested_at i j z)
     grows_tested i j z = grows_bind w l (grows_does w l Below (j ∷ z ∷ [])) (λ u. grows_placed i j)
@@ -211,105 +221,103 @@ module _ (w : Whole) (l : Level) where
     grows_indexed two v i = grows_bind w l two (λ j. grows_behind v i j)
 
     -- the element's address, where the index is tested
-    follows_placed : {need fuel : ℕ} {mask : Mask} {K : Fact} (other : Mask) (e : Thing) (v : Named) (a : Span) (i k j : ℕ) → Steady w l K → ((b : Address) → row_of w l e (Addressed b) ≡ c)
-        → Follows w l need fuel mask (Both (Both (Both K (SpanIs o c v a i)) (NumberIs w l k j)) (Less k a.length)) (NamedIs w l other e) (give (Addressed (past a.at (k * c)))) (placed_at i j)
-    follows_placed {K = K} other e v a i k j steady short =
-        let known = steady_and w l (steady_and w l (steady_and w l steady (steady_span o c v a i)) (steady_number w l k j)) (steady_less k a.length) in
-        follows_bind w l {m = give tt} {h = λ (u : Unit {0}). give (Addressed (past a.at (k * c)))} known (follows_const (8 * c)) (λ b. grows_bind w l (grows_emits w l MulAdd (j ∷ b ∷ i ∷ [])) (λ y. grows_give w l (At y)))
-        (λ u b. follows_bind w l {m = give tt} {h = λ (u : Unit {0}). give (Addressed (past a.at (k * c)))} (steady_and w l known (steady_const (8 * c) b))
-        (follows_emits w l {R = λ (u : Unit {0}) y. RowIs w l c (past a.at (k * c)) y} MulAdd (j ∷ b ∷ i ∷ []) (λ n f m s held g. acts_give w l tt (madd64 (f j) (f b) (f i)) held refl refl
-        (omega arith, part_is a.at a.length c k (f i) (set_at n f (madd64 (f j) (f b) (f i))) s.store g.0.1 g.0.0.0.1.1 (put_here n (madd64 (f j) (f b) (f i)) f ∙ ap₂ (λ x y. madd64 x y (f i)) g.0.0.1.1.0 g.1.1))))
+    follows_placed : {need fuel : ℕ} {mask : Mask} {K : Fact} (other : Mask) (d : Thing) (v : Named) (a : Span) (i k j : ℕ) → Steady w l K → ((b : Address) → tree_of w l d (Addressed b) ≡ e)
+        → Follows w l need fuel mask (Both (Both (Both K (SpanIs o e v a i)) (NumberIs w l k j)) (Less k a.length)) (NamedIs w l other d) (give (Addressed (past a.at (k * c)))) (placed_at i j)
+    follows_placed {K = K} other d v a i k j steady short =
+        let known = steady_and w l (steady_and w l (steady_and w l steady (steady_span o e v a i)) (steady_number w l k j)) (steady_less k a.length) in
+        follows_bind w l {m = give tt} {h = λ (u : Unit {0}). give (Addressed (past a.at (k * c)))} known (follows_const size) (λ b. grows_bind w l (grows_emits w l MulAdd (j ∷ b ∷ i ∷ [])) (λ y. grows_give w l (At y)))
+        (λ u b. follows_bind w l {m = give tt} {h = λ (u : Unit {0}). give (Addressed (past a.at (k * c)))} (steady_and w l known (steady_const size b))
+        (follows_emits w l {R = λ (u : Unit {0}) y. RowIs w l e (past a.at (k * c)) y} MulAdd (j ∷ b ∷ i ∷ []) (λ n f m s held g. acts_give w l tt (madd64 (f j) (f b) (f i)) held refl refl (
+          omega arith,
+          part_is a.at a.length e c size k (f i) (set_at n f (madd64 (f j) (f b) (f i))) s.store cells_are bytes_are g.0.1 (address_few w l s.store m a.at (Array a.length e) (f i) held g.0.0.0.1.1) g.0.0.0.1.1
+              (put_here n (madd64 (f j) (f b) (f i)) f ∙ ap₂ (λ x y. madd64 x y (f i)) g.0.0.1.1.0 g.1.1),
+        )))
         (λ y. grows_give w l (At y))
-        (λ u y. follows_give w l (Addressed (past a.at (k * c))) (At y) (λ n f s g. (g.1.0, (past a.at (k * c), refl, subst (λ r. AddressIs w l (past a.at (k * c)) r (f y) s) (sym (short (past a.at (k * c)))) g.1.1)))))
+        (λ u y. follows_give w l (Addressed (past a.at (k * c))) (At y) (λ n f s g. (g.1.0, (past a.at (k * c), refl, subst (λ t. AddressIs w l (past a.at (k * c)) t (f y) s) (sym (short (past a.at (k * c)))) g.1.1)))))
       where
         set_at : ℕ → (ℕ → ℕ) → ℕ → ℕ
         set_at v f x = set f v x v
 
-    follows_indexed : {need fuel : ℕ} {mask : Mask} {K : Fact} (other : Mask) (e : Thing) (v : Named) (a : Span) (i : ℕ) → Steady w l K → ((b : Address) → row_of w l e (Addressed b) ≡ c) → a.length < 2 ^ 32 → Follows w l need fuel mask K (CellIs w l) x t
-        → Follows w l need fuel mask (Both K (SpanIs o c v a i)) (NamedIs w l other e) (indexed a) (indexed_at v i)
-    follows_indexed {K = K} other e v a i steady short few two =
-        let known = steady_and w l steady (steady_span o c v a i) in
+    follows_indexed : {need fuel : ℕ} {mask : Mask} {K : Fact} (other : Mask) (d : Thing) (v : Named) (a : Span) (i : ℕ) → Steady w l K → ((b : Address) → tree_of w l d (Addressed b) ≡ e) → a.length < 2 ^ 32 → Follows w l need fuel mask K (CellIs w l) x t
+        → Follows w l need fuel mask (Both K (SpanIs o e v a i)) (NamedIs w l other d) (indexed a) (indexed_at v i)
+    follows_indexed {K = K} other d v a i steady short few two =
+        let known = steady_and w l steady (steady_span o e v a i) in
         follows_bind w l known (follows_known w l (λ n f s k. k.0) (follows_bits w l steady two)) (λ j. grows_behind v i j)
         (λ k j. follows_bind w l {m = give tt} {h = λ (u : Unit {0}). unless l.proc 1 (inside k a.length) >>= λ _. give (Addressed (past a.at (k * c)))} (steady_and w l known (steady_number w l k j))
         (follows_known w l {K = Both K (LengthIn o a.length v)} (λ n f s g. (g.0.0, g.0.1.3)) (follows_length_in o a.length v)) (λ z. grows_tested i j z)
         (λ u z. follows_bind w l (steady_and w l (steady_and w l known (steady_number w l k j)) (steady_const a.length z)) (follows_below k j a.length z (omega (arith, few))) (λ u. grows_placed i j)
-        (λ u y. follows_known w l (λ n f s g. (g.0.0, g.1)) (follows_placed other e v a i k j steady short))))
+        (λ u y. follows_known w l (λ n f s g. (g.0.0, g.1)) (follows_placed other d v a i k j steady short))))
 
-    pub follows_element_place : {need fuel : ℕ} {mask : Mask} {K : Fact} {A : Handed → Named → Fact} {q : Low Named} (other : Mask) (e : Thing) (place_of : Act Handed) → Steady w l K → ((h : Handed) (v : Named) → Steady w l (A h v)) → ((b : Address) → row_of w l e (Addressed b) ≡ c)
-        → ((h : Handed) (v : Named) → Follows w l need fuel mask (Both K (A h v)) (SpanIs o c v) (span_by o h) (lower_address v 0)) → Follows w l need fuel mask K A place_of q → Follows w l need fuel mask K (CellIs w l) x t → Follows w l need fuel mask K (NamedIs w l other e) (element_place l.proc place_of o c x) (element q o (8 * c) t)
-    follows_element_place {need} {fuel} {mask} {K} {A} other e place_of steady steady_array short spans one two =
+    pub follows_element_place : {need fuel : ℕ} {mask : Mask} {K : Fact} {A : Handed → Named → Fact} {q : Low Named} (other : Mask) (d : Thing) (place_of : Act Handed) → Steady w l K → ((h : Handed) (v : Named) → Steady w l (A h v)) → ((b : Address) → tree_of w l d (Addressed b) ≡ e)
+        → ((h : Handed) (v : Named) → Follows w l need fuel mask (Both K (A h v)) (SpanIs o e v) (span_by o h) (lower_address v 0)) → Follows w l need fuel mask K A place_of q → Follows w l need fuel mask K (CellIs w l) x t → Follows w l need fuel mask K (NamedIs w l other d) (element_place l.proc place_of o c x) (element q o size t)
+    follows_element_place {need} {fuel} {mask} {K} {A} other d place_of steady steady_array short spans one two =
         follows_same w l (place_of >>= λ h. span_by o h >>= indexed) (element_place l.proc place_of o c x) (spanned_same place_of o indexed)
         (follows_bind w l steady one (λ v. grows_bind w l (grows_address w l v 0) (λ i. grows_indexed two.grows v i))
         (λ h v. follows_bind w l (steady_and w l steady (steady_array h v)) (spans h v) (λ i. grows_indexed two.grows v i) (λ a i. behind_span h v a i)))
       where
-        behind_span : (h : Handed) (v : Named) (a : Span) (i : ℕ) → Follows w l need fuel mask (Both (Both K (A h v)) (SpanIs o c v a i)) (NamedIs w l other e) (indexed a) (indexed_at v i)
+        behind_span : (h : Handed) (v : Named) (a : Span) (i : ℕ) → Follows w l need fuel mask (Both (Both K (A h v)) (SpanIs o e v a i)) (NamedIs w l other d) (indexed a) (indexed_at v i)
         behind_span h v a i = record {
           grows = grows_indexed two.grows v i;
-          by = λ most g d f s room free le needs few stands fits within known typed r.
-              (follows_indexed other e v a i (steady_and w l steady (steady_array h v)) short known.1.2 (follows_known w l (λ n f s k. k.0) two)).by most g d f s room free le needs few stands fits within known typed r;
+          by = λ most g at f s room free le needs few stands fits within known typed r.
+              (follows_indexed other d v a i (steady_and w l steady (steady_array h v)) short known.1.2 (follows_known w l (λ n f s k. k.0) two)).by most g at f s room free le needs few stands fits within known typed r;
         }
 
   ---- Fields
 
-  -- the cells from the m-th on
-  pub behind_is : (a : Address) (m c r x y : ℕ) (s : Objects) → ((j : ℕ) → j < c → m + j < r) → AddressIs w l a r x s → y < 2 ^ 64 → (x + 8 * m) % 2 ^ 64 ≡ y → AddressIs w l (past a m) c y s
-  behind_is a m c r x y s long at few is = record {
-    few = few;
-    row = λ j less.
-        let e = at.row (m + j) (long j less) in
-        let apart : a.cell + (m + j) ≡ a.cell + m + j = omega arith in
-        let same = e.2 in
-        (e.0, subst (λ k. word_at w l (sizes_of s) a.area a.object k ≡ Some e.0) apart e.1, omega (arith, is, same));
-  }
-
   -- an address that is known
-  abbrev Placed : ℕ → Handed → ℕ → Fact
-  Placed r h i n f s = (i < n) × ((a : Address) × (address_in h ≡ Some a) × AddressIs w l a r (f i) s)
+  abbrev Placed : DataTree → Handed → ℕ → Fact
+  Placed t h i n f s = (i < n) × ((a : Address) × (address_in h ≡ Some a) × AddressIs w l a t (f i) s)
 
   abbrev placed_past : ℕ → Handed → Act Address
   placed_past m h = given (address_in h) >>= λ a. give (past a m)
 
-  follows_past : {need fuel : ℕ} {mask : Mask} {K : Fact} (h : Handed) (i m c r x : ℕ) → x ≡ 8 * m → ((j : ℕ) → j < c → m + j < r) → Follows w l need fuel mask (Both K (Placed r h i)) (RowIs w l c) (placed_past m h) (lower_past i x)
-  follows_past h i m c r zero e long = follows_seen w l i (λ n f s held_in held typed g.
-      let at = g.1.1 in let few = at.2.few in
-      inl (past at.0 m, ap (λ o. after (given o s) (λ a. give (past a m))) at.1, (g.1.0, behind_is at.0 m c r (f i) (f i) s.store long at.2 few (omega (arith, few, e)))))
-  follows_past h i m c r (suc x) e long = follows_emits w l (Plus (suc x)) (i ∷ []) (λ n f held_in s held g.
+  follows_past : {need fuel : ℕ} {mask : Mask} {K : Fact} (h : Handed) (i m x : ℕ) (t u : DataTree) → Node w.packed t m x u → Follows w l need fuel mask (Both K (Placed t h i)) (RowIs w l u) (placed_past m h) (lower_past i x)
+  follows_past h i m zero t u node = follows_seen w l i (λ n f s held_in held typed g.
       let at = g.1.1 in
+      inl (past at.0 m, ap (λ o. after (given o s) (λ a. give (past a m))) at.1, (g.1.0, part_at at.0 t u m 0 (f i) (f i) s.store node at.2 (omega arith))))
+  follows_past h i m (suc x) t u node = follows_emits w l (Plus (suc x)) (i ∷ []) (λ n f held_in s held g.
+      let at = g.1.1 in
+      let few = address_few w l s.store held_in at.0 t (f i) held at.2 in
+      let fits = node_bytes w.packed t m (suc x) u node in
       acts_give w l (past at.0 m) (add64 (f i) (suc x)) held (ap (λ o. after (given o s) (λ a. give (past a m))) at.1) refl
-      (omega arith, behind_is at.0 m c r (f i) (set_at n f (add64 (f i) (suc x))) s.store long at.2 (let z = put_here n (add64 (f i) (suc x)) f in omega (arith, z)) (let z = put_here n (add64 (f i) (suc x)) f in omega (arith, z, e))))
+      (omega arith, part_at at.0 t u m (suc x) (f i) (set_at n f (add64 (f i) (suc x))) s.store node at.2 (put_here n (add64 (f i) (suc x)) f ∙ omega (arith, few, fits))))
     where
       set_at : ℕ → (ℕ → ℕ) → ℕ → ℕ
       set_at v f x = set f v x v
 
-  follows_field_at : {need fuel : ℕ} {mask : Mask} {K : Fact} (own : Mask) (d : Thing) (h : Handed) (v : Named) (m c : ℕ) → ((j : ℕ) → j < c → m + j < row_of w l d h) → is_single w l d ≡ false → Follows w l need fuel mask (Both K (NamedIs w l own d h v)) (RowIs w l c) (placed_past m h) (lower_address v (8 * m))
-  follows_field_at own d h (At i) m c long many = follows_known w l (λ n f s k. (k.0, (k.1.0, (k.1.1.0, ap address_in k.1.1.1, k.1.1.2)))) (follows_past h i m c (row_of w l d h) (8 * m) refl long)
-  follows_field_at own d h (Beside i j) m c long many = follows_known w l (λ n f s k. (k.0, (k.1.0, (k.1.1.1.0, k.1.1.1.1, k.1.1.1.2)))) (follows_past h i m c (row_of w l d h) (8 * m) refl long)
-  follows_field_at own d h (Object i) m c long many = follows_emits w l (Plus (8 + 8 * m)) (i ∷ []) (λ n f held_in s held g.
+  follows_field_at : {need fuel : ℕ} {mask : Mask} {K : Fact} (own : Mask) (d : Thing) (h : Handed) (v : Named) (m x : ℕ) (u : DataTree) → Node w.packed (tree_of w l d h) m x u → is_single w l d ≡ false → Follows w l need fuel mask (Both K (NamedIs w l own d h v)) (RowIs w l u) (placed_past m h) (lower_address v x)
+  follows_field_at own d h (At i) m x u node many = follows_known w l (λ n f s k. (k.0, (k.1.0, (k.1.1.0, ap address_in k.1.1.1, k.1.1.2)))) (follows_past h i m x (tree_of w l d h) u node)
+  follows_field_at own d h (Beside i j) m x u node many = follows_known w l (λ n f s k. (k.0, (k.1.0, (k.1.1.1.0, k.1.1.1.1, k.1.1.1.2)))) (follows_past h i m x (tree_of w l d h) u node)
+  follows_field_at own d h (Object i) m x u node many = follows_emits w l (Plus (8 + x)) (i ∷ []) (λ n f held_in s held g.
       let z = g.1.1 in
-      let y = put_here n (add64 (f i) (8 + 8 * m)) f in
-      acts_give w l (past (record { area = Heap; object = z.0; cell = 0 }) m) (add64 (f i) (8 + 8 * m)) held (ap (λ x. after (given (address_in x) s) (λ a. give (past a m))) z.2) refl
-      (omega arith, behind_is (record { area = Heap; object = z.0; cell = 0 }) m c (m + c) (add64 (f i) 8) (set_at n f (add64 (f i) (8 + 8 * m))) s.store (λ j lt. omega (arith, lt)) (object_row w l s.store held_in z.0 (m + c) (f i) held z.4) (omega (arith, y)) (omega (arith, y))))
+      let a : Address = record { area = Heap; object = z.0; cell = 0 } in
+      let row = subst (λ t. AddressIs w l a t (add64 (f i) 8) s.store) (object_tree w l d h z.0 z.1 z.2 z.5) (object_row w l s.store held_in z.0 z.1 (f i) held z.3 z.4) in
+      let few = address_few w l s.store held_in a (tree_of w l d h) (add64 (f i) 8) held row in
+      let low = object_below w l s.store held_in z.0 (f i) held z.4 in
+      let fits = node_bytes w.packed (tree_of w l d h) m x u node in
+      acts_give w l (past a m) (add64 (f i) (8 + x)) held (ap (λ x. after (given (address_in x) s) (λ a. give (past a m))) z.2) refl
+      (omega arith, part_at a (tree_of w l d h) u m x (add64 (f i) 8) (set_at n f (add64 (f i) (8 + x))) s.store node row (put_here n (add64 (f i) (8 + x)) f ∙ omega (arith, few, fits, low))))
     where
       set_at : ℕ → (ℕ → ℕ) → ℕ → ℕ
       set_at v f x = set f v x v
-  follows_field_at own d h (InRegister x) m c long many = follows_never w l (λ n f s g. differ (sym g.1.4 ∙ many)) (grows_address w l (InRegister x) (8 * m))
+  follows_field_at own d h (InRegister x) m o u node many = follows_never w l (λ n f s g. differ (sym g.1.4 ∙ many)) (grows_address w l (InRegister x) o)
     where
       differ : true ≡ false → ⊥
       differ e = cc
 
-  pub follows_field_place : {need fuel : ℕ} {mask : Mask} {K : Fact} {q : Low Named} (own other : Mask) (d : Thing) (e : Thing) (place_of : Act Handed) (m c : ℕ) → Steady w l K → ((h : Handed) → SecondFits w l d h → (j : ℕ) → j < c → m + j < row_of w l d h) → is_single w l d ≡ false → ((a : Address) → row_of w l e (Addressed a) ≡ c)
-      → Follows w l need fuel mask K (DesignatorIs w l own d) place_of q → Follows w l need fuel mask K (NamedIs w l other e) (field_of place_of m) (field q (8 * m))
-  follows_field_place {need} {fuel} {mask} {K} {q} own other d e place_of m c steady long many short one =
+  pub follows_field_place : {need fuel : ℕ} {mask : Mask} {K : Fact} {q : Low Named} (own other : Mask) (d : Thing) (e : Thing) (place_of : Act Handed) (m x : ℕ) (u : DataTree) → Steady w l K → ((h : Handed) → SecondFits w l d h → Node w.packed (tree_of w l d h) m x u) → is_single w l d ≡ false → ((a : Address) → tree_of w l e (Addressed a) ≡ u)
+      → Follows w l need fuel mask K (DesignatorIs w l own d) place_of q → Follows w l need fuel mask K (NamedIs w l other e) (field_of place_of m) (field q x)
+  follows_field_place {need} {fuel} {mask} {K} {q} own other d e place_of m x u steady part many short one =
       follows_same w l (place_of >>= λ h. placed_past m h >>= λ a. give (Addressed a)) (field_of place_of m) (λ s. regroup (place_of s))
-      (follows_bind w l steady one (λ v. grows_bind w l (grows_address w l v (8 * m)) (λ i. grows_give w l (At i)))
+      (follows_bind w l steady one (λ v. grows_bind w l (grows_address w l v x) (λ i. grows_give w l (At i)))
       (λ h v. follows_bind w l (steady_and w l steady (steady_designator w l own d h v)) (field_at h v) (λ i. grows_give w l (At i))
-      (λ a i. follows_give w l (Addressed a) (At i) (λ n f s g. (g.1.0, (a, refl, subst (λ r. AddressIs w l a r (f i) s) (sym (short a)) g.1.1))))))
+      (λ a i. follows_give w l (Addressed a) (At i) (λ n f s g. (g.1.0, (a, refl, subst (λ t. AddressIs w l a t (f i) s) (sym (short a)) g.1.1))))))
     where
-      field_at : (h : Handed) (v : Named) → Follows w l need fuel mask (Both K (DesignatorIs w l own d h v)) (RowIs w l c) (placed_past m h) (lower_address v (8 * m))
+      field_at : (h : Handed) (v : Named) → Follows w l need fuel mask (Both K (DesignatorIs w l own d h v)) (RowIs w l u) (placed_past m h) (lower_address v x)
       field_at h v = record {
-        grows = grows_address w l v (8 * m);
+        grows = grows_address w l v x;
         by = λ most g b f s room free le needs few stands fits within known typed r.
-            (follows_field_at {K = K} own d h v m c (long h known.1.1) many).by most g b f s room free le needs few stands fits within (known.0, known.1.0) typed r;
+            (follows_field_at {K = K} own d h v m x u (part h known.1.1) many).by most g b f s room free le needs few stands fits within (known.0, known.1.0) typed r;
       }
 
       regroup : (e : Ending Objects Trap Handed) → after e (λ h. placed_past m h >>= λ a. give (Addressed a)) ≡ after (after e (λ h. given (address_in h))) (λ a. give (Addressed (past a m)))
@@ -323,12 +331,12 @@ module _ (w : Whole) (l : Level) where
 
   ---- Lengths
 
-  pub follows_length : {need fuel : ℕ} {mask : Mask} {K : Fact} {A : Handed → Named → Fact} {q : Low Named} (o : Option ℕ) (c : ℕ) (place_of : Act Handed) → Steady w l K → ((h : Handed) (v : Named) → Steady w l (A h v))
-      → ((h : Handed) (v : Named) → Follows w l need fuel mask (Both K (A h v)) (SpanIs o c v) (span_by o h) (lower_address v 0)) → Follows w l need fuel mask K A place_of q → Follows w l need fuel mask K (CellIs w l) (length_of place_of o) (lower_length q o)
-  follows_length {need} {fuel} {mask} {K} {A} o c place_of steady steady_array spans one =
+  pub follows_length : {need fuel : ℕ} {mask : Mask} {K : Fact} {A : Handed → Named → Fact} {q : Low Named} (o : Option ℕ) (e : DataTree) (place_of : Act Handed) → Steady w l K → ((h : Handed) (v : Named) → Steady w l (A h v))
+      → ((h : Handed) (v : Named) → Follows w l need fuel mask (Both K (A h v)) (SpanIs o e v) (span_by o h) (lower_address v 0)) → Follows w l need fuel mask K A place_of q → Follows w l need fuel mask K (CellIs w l) (length_of place_of o) (lower_length q o)
+  follows_length {need} {fuel} {mask} {K} {A} o e place_of steady steady_array spans one =
       follows_same w l (place_of >>= λ h. span_by o h >>= λ a. give (Bits a.length)) (length_of place_of o) (spanned_same place_of o (λ a. give (Bits a.length)))
       (follows_bind w l steady one (λ v. grows_bind w l (grows_address w l v 0) (λ i. grows_length_in o v))
       (λ h v. follows_bind w l (steady_and w l steady (steady_array h v)) (spans h v) (λ i. grows_length_in o v)
-      (λ a i. let known = steady_and w l (steady_and w l steady (steady_array h v)) (steady_span o c v a i) in
+      (λ a i. let known = steady_and w l (steady_and w l steady (steady_array h v)) (steady_span o e v a i) in
       follows_then w l {m = give tt} {h = λ (u : Unit {0}). give (Bits a.length)} known (follows_known w l {K = Both K (LengthIn o a.length v)} (λ n f s g. (g.0.0, g.1.3)) (follows_length_in o a.length v))
       (λ u z n f s g at. let few = g.1.2 in inl (Bits a.length, refl, (at.0, (at.1, omega (arith, few))))))))

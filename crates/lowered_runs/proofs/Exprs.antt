@@ -1,5 +1,5 @@
 -- Values and operators.
-use Rattle.std.proofs.Common.{◌≡◌, ℕ, zero, suc, ◌+◌, ◌<◌, ◌≤◌, ◌^◌, ◌⊎◌, List, [], ◌∷◌, length, Bool, true, false, cond, inl, inr, refl, sym, ap, ap₂, ◌∙◌, subst, arith, Some, None}
+use Rattle.std.proofs.Common.{◌≡◌, ℕ, suc, ◌<◌, ◌^◌, ◌⊎◌, List, [], ◌∷◌, length, Bool, true, false, cond, inl, inr, refl, sym, ap, ap₂, ◌∙◌, subst, arith, Some, None}
 use Rattle.std.specs.Prelude.{nat_le, int_lt, pos, ◌==◌, if◌then◌else◌, bit_or, bit_and, bit_xor}
 use Rattle.std.proofs.lemmas.Bool.Decides.{nat_tests}
 use Rattle.run_laws.specs.Turns.{Gives, Fails, give}
@@ -29,30 +29,16 @@ use Rattle.ob_sound.proofs.Numbers.{unary_lt, truth_lt}
 use Rattle.ssa_lowered.specs.Pieces.{Low, Mask, emits, does}
 use Rattle.ssa_lowered.specs.Values.{const, unary, binary, routine}
 use Rattle.ssa_lowered.specs.Values.{one_operand as lower_one, two_operands as lower_two, included}
-use Rattle.lowered_runs.specs.Words.{Whole, Level, sizes_of, place_from, ValueIs, Held}
-use Rattle.lowered_runs.proofs.Stores.{value_later}
+use Rattle.lowered_runs.specs.Words.{Whole, Level, ValueIs, Held}
+use Rattle.lowered_runs.proofs.Stores.{value_later, is_code}
 use Rattle.lowered_runs.proofs.Values.{put_here}
 use Rattle.lowered_runs.proofs.Numbers.{div_same, mod_same, abs_same, inside_same, up_to}
 use Rattle.lowered_runs.proofs.Follows.{Fact, And as Both, Steady, steady_and, Grows, grows_bind, grows_emits, Follows, follows_bind, follows_then, follows_known, follows_less, follows_emits, follows_does, Acts, acts_give, acts_trap, effect_at}
 
--- where objects of the heap stand
-pub place_above : (at : ℕ) (ns : List ℕ) (o i : ℕ) → place_from at ns o ≡ Some i → at ≤ i
-place_above at [] o i e = absurd (cc)
-place_above at (n ∷ ns) zero i e = let f = same e in omega (arith, f)
-  where
-    same : Some at ≡ Some i → at ≡ i
-    same e = cc
-place_above at (n ∷ ns) (suc o) i e = let h = place_above (at + suc n) ns o i e in omega (arith, h)
-
-pub place_there : (at : ℕ) (ns : List ℕ) (o i : ℕ) → place_from at ns o ≡ Some i → o < length ns
-place_there at [] o i e = absurd (cc)
-place_there at (n ∷ ns) zero i e = omega arith
-place_there at (n ∷ ns) (suc o) i e = let h = place_there (at + suc n) ns o i e in omega (arith, h)
-
 module _ (w : Whole) (l : Level) where
   -- value i is a cell's
   abbrev pub CellIs : Cell → ℕ → Fact
-  CellIs c i n f s = (i < n) × ValueIs w (sizes_of s) c (f i)
+  CellIs c i n f s = (i < n) × ValueIs w s.tags c (f i)
 
   -- value i is a number
   abbrev pub NumberIs : ℕ → ℕ → Fact
@@ -62,7 +48,7 @@ module _ (w : Whole) (l : Level) where
   steady_cell c i = record {
     by = λ n m f g s t le same later h.
         let lt = h.0 in
-        (omega (arith, le, lt), subst (λ x. ValueIs w (sizes_of t) c x) (sym (same i h.0)) (value_later w l s t c (f i) later h.1));
+        (omega (arith, le, lt), subst (λ x. ValueIs w t.tags c x) (sym (same i h.0)) (value_later w l s t c (f i) later h.1));
   }
 
   pub steady_number : (k i : ℕ) → Steady w l (NumberIs k i)
@@ -78,7 +64,7 @@ module _ (w : Whole) (l : Level) where
   follows_literal n lt = follows_emits w l (Const n) [] (λ v f m s held known. acts_give w l (Bits n) n held refl refl (made_bits v n n f s.store refl lt))
 
   pub follows_routine : {need fuel : ℕ} {mask : Mask} {K : Fact} (g : ℕ) → g < length w.procedures → Follows w l need fuel mask K CellIs (give (Procedure g)) (routine g)
-  follows_routine g lt = follows_emits w l (CodeOf g) [] (λ v f m s held known. acts_give w l (Procedure g) (w.code g) held refl refl (omega arith, (lt, put_here v (w.code g) f)))
+  follows_routine g lt = follows_emits w l (CodeOf g) [] (λ v f m s held known. acts_give w l (Procedure g) (w.code g) held refl refl (omega arith, is_code w g lt ∙ ap (λ x. Some x) (sym (put_here v (w.code g) f))))
 
   pub follows_bits : {need fuel : ℕ} {mask : Mask} {K : Fact} {x : Act Cell} {low : Low ℕ} → Steady w l K → Follows w l need fuel mask K CellIs x low → Follows w l need fuel mask K NumberIs (bits x) low
   follows_bits {K = K} steady one = follows_then w l steady one by
@@ -219,6 +205,9 @@ module _ (w : Whole) (l : Level) where
       at_most : nat_le a 63 ≡ true → a < 64
       at_most h = grind (arith, nat_tests)
 
-  pub follows_byte_test : {need fuel : ℕ} {mask : Mask} {K : Fact} (a i : ℕ) → a < 2 ^ 64 → Follows w l need fuel mask (One a i K) (λ (u v : Unit {0}). One a i K) (unless l.proc 11 (inside a 256)) (does Byte (i ∷ []))
-  follows_byte_test {need} {fuel} {mask} {K} a i lt = subst (λ b. Follows w l need fuel mask (One a i K) (λ (u v : Unit {0}). One a i K) (unless l.proc 11 b) (does Byte (i ∷ []))) (up_to a 255 ∙ inside_same a 256 lt (omega arith))
-      (follows_less w l (λ u v n f s h. h.0) (tested a i 11 (λ x. nat_le x 255) Byte (λ f m s. refl)))
+  pub follows_byte_test : {need fuel : ℕ} {mask : Mask} {K : Fact} (a i : ℕ) → a < 2 ^ 64 → Follows w l need fuel mask (One a i K) (λ (u v : Unit {0}). Both (One a i K) (λ n f s. a < 256)) (unless l.proc 11 (inside a 256)) (does Byte (i ∷ []))
+  follows_byte_test {need} {fuel} {mask} {K} a i lt = subst (λ b. Follows w l need fuel mask (One a i K) (λ (u v : Unit {0}). Both (One a i K) (λ n f s. a < 256)) (unless l.proc 11 b) (does Byte (i ∷ []))) (up_to a 255 ∙ inside_same a 256 lt (omega arith))
+      (follows_less w l (λ u v n f s h. (h.0, at_most h.1)) (tested a i 11 (λ x. nat_le x 255) Byte (λ f m s. refl)))
+    where
+      at_most : nat_le a 255 ≡ true → a < 256
+      at_most h = grind (arith, nat_tests)

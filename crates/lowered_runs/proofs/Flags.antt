@@ -16,7 +16,8 @@ use Rattle.ob_sound.proofs.Typed.{Sound, Good, HasForm, Older, older_refl}
 use Rattle.ssa_lowered.specs.Pieces.{Cursor, Piece, close, fresh, plain}
 use Rattle.ssa_lowered.specs.Values.{const}
 use Rattle.ssa_lowered.specs.Control.{Test, flag, half, at_freq}
-use Rattle.lowered_runs.specs.Words.{Whole, Level, sizes_of, ValueIs, Later}
+use Rattle.object_nodes.specs.Running.{forms_of_all}
+use Rattle.lowered_runs.specs.Words.{Whole, Level, ValueIs, Later}
 use Rattle.lowered_runs.proofs.Stores.{later_on}
 use Rattle.lowered_runs.proofs.Values.{Same, Off, same_on, under_more, under_at, put_here, put_else, put_same, off_refl}
 use Rattle.lowered_runs.proofs.Standing.{Standing, stand_first, stand_rest, bulk, bulk_append}
@@ -32,19 +33,19 @@ module _ (w : Whole) (l : Level) where
       → ((h : Point → ℕ) → h (In l.proc c.block c.op) + free h ≤ room h) → Ready w l most g c f s room → Ready w l most g (record { block = to; op = 0; values = suc v; env = c.env }) (set f v (f r)) s free
   jump_one {most} {g} {c} {f} {s} {room} free to v r stands is low fits q = record {
     memory = q.memory;
-    reached = pass_quiet (system w) (least w.procedures) w.points w.first w.turns g free (In l.proc c.block c.op) (runs_at l (record { block = to; op = 0; values = suc v; env = c.env }) (set f v (f r)) q.memory s.store) q.reached refl
-        (end_step w l c f q.memory s.store (Jump to (r ∷ [])) stands ∙ ap (λ ps. Moves [] (runs_at l (record { block = to; op = 0; values = suc v; env = c.env }) (set_all ps (f r ∷ []) f) q.memory s.store)) is) fits (omega arith);
+    reached = pass_quiet (system w) (least w.procedures) w.points w.first w.turns g free (In l.proc c.block c.op) (runs_at w l (record { block = to; op = 0; values = suc v; env = c.env }) (set f v (f r)) q.memory s.store) q.reached refl
+        (end_step w l c f q.memory s.store (Jump to (r ∷ [])) stands ∙ ap (λ ps. Moves [] (runs_at w l (record { block = to; op = 0; values = suc v; env = c.env }) (set_all ps (f r ∷ []) f) q.memory s.store)) is) fits (omega arith);
     held = q.held;
     size = q.size;
     under = under_more c.values (suc v) c.env (omega (arith, low)) q.under;
-    registers = λ x lt reg d at. let e = q.size in subst (λ n. ValueIs w (sizes_of s.store) d n) (sym (put_else v (f r) f (slice_index c.env x) (λ y. away (under_at c.values c.env x (omega (arith, lt, e)) q.under) y))) (q.registers x lt reg d at);
+    registers = λ x lt reg d at. let e = q.size in subst (λ n. ValueIs w s.store.tags d n) (sym (put_else v (f r) f (slice_index c.env x) (λ y. away (under_at c.values c.env x (omega (arith, lt, e)) q.under) y))) (q.registers x lt reg d at);
     since = q.since;
   }
     where
       away : {u : ℕ} → u < c.values → u ≡ v → ⊥
       away lt e = absurd (omega (arith, lt, e, low))
 
-  module _ {fuel : ℕ} {K : Fact} (x : Act Cell) (test : Test) (one : Forks w l holds fuel K No_more (bits x) test) (truth : (tags : List ℕ) → Older l.store.tags tags → Sound w.program l.forms tags (HasForm w.program Truth) x) where
+  module _ {fuel : ℕ} {K : Fact} (x : Act Cell) (test : Test) (one : Forks w l holds fuel K No_more (bits x) test) (truth : (tags : List ℕ) → Older l.store.tags tags → Sound w.program (forms_of_all w.program l.types) tags (HasForm w.program Truth) x) where
     abbrev one_at : Cursor → Cursor
     one_at c = at_freq (test c).after (half c.freq)
 
@@ -57,7 +58,7 @@ module _ (w : Whole) (l : Level) where
     abbrev behind : Cursor → List Piece
     behind c = (const 1 (one_at c)).pieces ++ (close (const 1 (one_at c)).after (Jump (suc (zero_at c).block) ((const 1 (one_at c)).result ∷ [])) (plain (zero_at c).freq (zero_at c).seen) ∷ last c)
 
-    joined : (most : ℕ) (c : Cursor) (f : ℕ → ℕ) (s t : Store) (at : At Store) (free : (Point → ℕ) → ℕ) (k : ℕ) (start : Cursor) (v : ℕ → ℕ) → at.store ≡ t → start.env ≡ c.env → c.values ≤ start.values → start.values ≤ suc (test c).after.values → k < 2 → Later l s t → Same c.values f v → Typing w l t
+    joined : (most : ℕ) (c : Cursor) (f : ℕ → ℕ) (s t : Store) (at : At Store) (free : (Point → ℕ) → ℕ) (k : ℕ) (start : Cursor) (v : ℕ → ℕ) → at.store ≡ t → start.env ≡ c.env → c.values ≤ start.values → start.values ≤ suc (test c).after.values → k < 2 → Later w l s t → Same c.values f v → Typing w l t
         → Ends_at w l start.block (suc start.op) (Jump (suc (zero_at c).block) (start.values ∷ [])) → Begins_with w l (suc (zero_at c).block) ((const 0 (zero_at c)).after.values ∷ [])
         → Done w l (λ (u : Unit {0}) i. NumberIs w l k i) nothing most 1 start (const k start) t v (λ h. h (In l.proc start.block (suc start.op)) + free h) tt at
         → Done w l (CellIs w l) nothing most 1 c (flag test c) s f free (Bits k) at
@@ -102,7 +103,7 @@ module _ (w : Whole) (l : Level) where
             joined most c f s.store t.store t free 1 (one_at c) v.values refl (one.env c) (omega (arith, grown)) (omega arith) small v.later v.same v.typed (stands.1.0.0, stands.1.0.1) stands.1.1.1.0.2 z
         ways most g c f s free le stands within (suc (suc k)) t small v = absurd (omega (arith, small))
 
-        by_ending : (most g : ℕ) (c : Cursor) (f : ℕ → ℕ) (s : At Store) (free : (Point → ℕ) → ℕ) → most ≤ fuel → g ≤ 1 → Standing w.procedures l.proc (behind c) → Fits w l (behind c) free → (e : Ending Store Trap Cell) → Good w.program l.forms (HasForm w.program Truth) s.store.tags e
+        by_ending : (most g : ℕ) (c : Cursor) (f : ℕ → ℕ) (s : At Store) (free : (Point → ℕ) → ℕ) → most ≤ fuel → g ≤ 1 → Standing w.procedures l.proc (behind c) → Fits w l (behind c) free → (e : Ending Store Trap Cell) → Good w.program (forms_of_all w.program l.types) (HasForm w.program Truth) s.store.tags e
             → Goes w (after e bits_in) (Went w l holds No_more most c (test c).after (one_at c).block (zero_at c).block s.store f (λ h. bulk l.proc (behind c) h + free h)) → Goes w e (Done w l (CellIs w l) nothing most g c (flag test c) s.store f free)
         by_ending most g c f s free le few stands within (Gives (Bits k) t) good go = let z = ways most g c f s free le stands within k t good.2 go.by in
             record { by = record { values = z.values; ready = ready_more w l most g free z.ready (omega arith) few (λ h. omega arith); later = z.later; is = z.is; same = z.same; off = z.off; typed = z.typed } }

@@ -22,7 +22,8 @@ use Rattle.ssa_core.specs.Procedures.{operation_of}
 use Rattle.ssa_core.specs.declared.procedure.Op.{Op}
 use Rattle.ssa_lowered.specs.Pieces.{Cursor, Piece, Made, Low, Mask, emits, does}
 use Rattle.ssa_lowered.specs.Pieces.{◌>>=◌ as ◌>>>◌, give as gives}
-use Rattle.lowered_runs.specs.Words.{same_trap, Whole, Level, sizes_of, ValueIs, Held, Later}
+use Rattle.object_nodes.specs.Running.{forms_of_all}
+use Rattle.lowered_runs.specs.Words.{same_trap, Whole, Level, ValueIs, Held, Later}
 use Rattle.lowered_runs.proofs.Stores.{later_refl, later_on, value_later}
 use Rattle.lowered_runs.proofs.Values.{Same, Off, put_same, same_on, under_more, under_at, off_refl, off_on, off_more}
 use Rattle.lowered_runs.proofs.Standing.{Standing, stand_first, stand_rest, bulk, bulk_append, shared}
@@ -41,7 +42,7 @@ Anything n f s = Unit {0}
 module _ (w : Whole) (l : Level) where
   -- it stays so while values are added and the call goes on
   pub record Steady (K : Fact) : Type 0 where
-    pub by : (n m : ℕ) (f g : ℕ → ℕ) (s t : Store) → n ≤ m → Same n f g → Later l s t → K n f s → K m g t
+    pub by : (n m : ℕ) (f g : ℕ → ℕ) (s t : Store) → n ≤ m → Same n f g → Later w l s t → K n f s → K m g t
 
   pub steady_and : {K L : Fact} → Steady K → Steady L → Steady (And K L)
   steady_and a b = record { by = λ n m f g s t le same later h. (a.by n m f g s t le same later h.0, b.by n m f g s t le same later h.1) }
@@ -53,7 +54,7 @@ module _ (w : Whole) (l : Level) where
   pub record DoneTo {A B : Type 0} (kept : Bool) (R : A → B → Fact) (mask : Mask) (most g : ℕ) (c : Cursor) (v : Made B) (s : Store) (f : ℕ → ℕ) (free : (Point → ℕ) → ℕ) (a : A) (t : At Store) : Type 0 where
     pub values : ℕ → ℕ
     pub ready : Ready w l most g (position v.after) values t free
-    pub later : Later l s t.store
+    pub later : Later w l s t.store
     pub is : R a v.result v.after.values values t.store
     pub same : Same c.values f values
     pub off : Off mask c.env v.after.env
@@ -213,14 +214,14 @@ module _ (w : Whole) (l : Level) where
   }
 
   -- where a part makes sense, behind it the store is typed, and what it gives has the form that it says
-  pub follows_sound : {A B : Type 0} {kept : Bool} {need fuel : ℕ} {mask : Mask} {K : Fact} {R : A → B → Fact} {m : Act A} {low : Low B} {P : List ℕ → A → Type 0} → ((tags : List ℕ) → Older l.store.tags tags → Sound w.program l.forms tags P m) → FollowsTo kept need fuel mask K R m low → Follows need fuel mask K (λ a b. And (R a b) (λ n f s. P s.tags a)) m low
+  pub follows_sound : {A B : Type 0} {kept : Bool} {need fuel : ℕ} {mask : Mask} {K : Fact} {R : A → B → Fact} {m : Act A} {low : Low B} {P : List ℕ → A → Type 0} → ((tags : List ℕ) → Older l.store.tags tags → Sound w.program (forms_of_all w.program l.types) tags P m) → FollowsTo kept need fuel mask K R m low → Follows need fuel mask K (λ a b. And (R a b) (λ n f s. P s.tags a)) m low
   follows_sound {A} {B} {kept} {need} {fuel} {mask} {K} {R} {m} {low} {P} sound one = record {
     grows = one.grows;
     by = λ most g c f s room free le needs few stands fits within known typed r.
         by_ending most g c f s free (m s) ((sound s.store.tags (λ o k is. r.since.tag o k is)).by s (older_refl s.store.tags) typed) (one.by most g c f s room free le needs few stands fits within known typed r);
   }
     where
-      by_ending : (most g : ℕ) (c : Cursor) (f : ℕ → ℕ) (s : At Store) (free : (Point → ℕ) → ℕ) (e : Ending Store Trap A) → Good w.program l.forms P s.store.tags e → Goes w e (DoneTo kept R mask most g c (low c) s.store f free) → Goes w e (Done (λ a b. And (R a b) (λ n f s. P s.tags a)) mask most g c (low c) s.store f free)
+      by_ending : (most g : ℕ) (c : Cursor) (f : ℕ → ℕ) (s : At Store) (free : (Point → ℕ) → ℕ) (e : Ending Store Trap A) → Good w.program (forms_of_all w.program l.types) P s.store.tags e → Goes w e (DoneTo kept R mask most g c (low c) s.store f free) → Goes w e (Done (λ a b. And (R a b) (λ n f s. P s.tags a)) mask most g c (low c) s.store f free)
       by_ending most g c f s free (Gives a t) good goes = let v = goes.by in record { by = record { values = v.values; ready = v.ready; later = v.later; is = (v.is, good.2); same = v.same; off = v.off; typed = good.0 } }
       by_ending most g c f s free (Fails trap out) good goes = record { by = goes.by }
       by_ending most g c f s free (Spent out) good goes = record { by = goes.by }
@@ -248,7 +249,7 @@ module _ (w : Whole) (l : Level) where
 
   -- the effect of an operation, where a run stands
   abbrev pub effect_at : (ℕ → ℕ) → List Area → Store → Code → List ℕ → Effect
-  effect_at f m s code us = effect_of w.code (length w.procedures) l.args (world_of l m s) code (map f us)
+  effect_at f m s code us = effect_of w.code (length w.procedures) l.args (world_of w l m s) code (map f us)
 
   -- it does what a part of the meaning does: writes bytes, changes the store and memory, gives a number
   pub record Did {A : Type 0} (kept : Bool) (Q : A → ℕ → Store → Type 0) (e : Ending Store Trap A) (s : At Store) (m : List Area) (effect : Effect) : Type 0 where
@@ -258,11 +259,11 @@ module _ (w : Whole) (l : Level) where
     pub bytes : List ℕ
     pub x : ℕ
     pub gives : e ≡ Gives a state
-    pub does : (effect ≡ Does bytes (world_of l memory state.store) x) ⊎ ((effect ≡ Yields x) × (bytes ≡ []) × (world_of l memory state.store ≡ world_of l m s.store))
+    pub does : (effect ≡ Does bytes (world_of w l memory state.store) x) ⊎ ((effect ≡ Yields x) × (bytes ≡ []) × (world_of w l memory state.store ≡ world_of w l m s.store))
     pub turns : state.turns ≡ s.turns
     pub out : state.out ≡ s.out ++ bytes
     pub held : Held w l state.store memory
-    pub later : Later l s.store state.store
+    pub later : Later w l s.store state.store
     pub registers : (y : ℕ) → y < l.count → l.in_register y ≡ true → (v : Cell) → cell_of state.store.frames l.frame (l.cell y) ≡ Some v → cell_of s.store.frames l.frame (l.cell y) ≡ Some v
     pub is : Q a x state.store
     pub typed : Typing w l s.store → Asks kept (Typing w l state.store)
@@ -306,8 +307,8 @@ module _ (w : Whole) (l : Level) where
   ops_at b i = drop i (block_of (procedure_of w.procedures l.proc) b).ops
 
   pub op_step : (c : Position) (f : ℕ → ℕ) (m : List Area) (s : Store) (op : Op) → ((rest : List Operation) × (drop c.op (block_of (procedure_of w.procedures l.proc) c.block).ops ≡ operation_of op ∷ rest))
-      → (system w).step (runs_at l c f m s) ≡ operate w.procedures (operation_of op) (frame_at l c f) l.callers (world_of l m s) (effect_at f m s op.code op.uses)
-  op_step c f m s op is = ap (λ ops. perform w.procedures w.code ops (frame_at l c f) l.callers (world_of l m s)) is.1
+      → (system w).step (runs_at w l c f m s) ≡ operate w.procedures (operation_of op) (frame_at l c f) l.callers (world_of w l m s) (effect_at f m s op.code op.uses)
+  op_step c f m s op is = ap (λ ops. perform w.procedures w.code ops (frame_at l c f) l.callers (world_of w l m s)) is.1
 
   pub op_pays : (c : Position) (op : Op) → ((rest : List Operation) × (drop c.op (block_of (procedure_of w.procedures l.proc) c.block).ops ≡ operation_of op ∷ rest)) → least w.procedures (In l.proc c.block c.op) ≡ 1
   op_pays c op is = ap (λ ops. rest_least ops (block_of (procedure_of w.procedures l.proc) c.block).end) is.1
@@ -317,16 +318,16 @@ module _ (w : Whole) (l : Level) where
   behind_op c def values = record { block = c.block; op = suc c.op; values = values; env = c.env }
 
   moves_to : (c : Position) (f : ℕ → ℕ) (op : Op) (m : List Area) (s : At Store) (A : Type 0) (kept : Bool) (Q : A → ℕ → Store → Type 0) (e : Ending Store Trap A) (effect : Effect) (values : ℕ) → (d : Did kept Q e s m effect)
-      → operate w.procedures (operation_of op) (frame_at l c f) l.callers (world_of l m s.store) effect ≡ Moves d.bytes (runs_at l (behind_op c op.def values) (define op.def d.x f) d.memory d.state.store)
+      → operate w.procedures (operation_of op) (frame_at l c f) l.callers (world_of w l m s.store) effect ≡ Moves d.bytes (runs_at w l (behind_op c op.def values) (define op.def d.x f) d.memory d.state.store)
   moves_to c f op m s A kept Q e effect values d = by d.does
     where
       fr : Frame
       fr = frame_at l c f
 
-      by : ((effect ≡ Does d.bytes (world_of l d.memory d.state.store) d.x) ⊎ ((effect ≡ Yields d.x) × (d.bytes ≡ []) × (world_of l d.memory d.state.store ≡ world_of l m s.store)))
-          → operate w.procedures (operation_of op) (frame_at l c f) l.callers (world_of l m s.store) effect ≡ Moves d.bytes (runs_at l (behind_op c op.def values) (define op.def d.x f) d.memory d.state.store)
-      by (inl h) = ap (operate w.procedures (operation_of op) (frame_at l c f) l.callers (world_of l m s.store)) h
-      by (inr h) = ap (operate w.procedures (operation_of op) (frame_at l c f) l.callers (world_of l m s.store)) h.0
+      by : ((effect ≡ Does d.bytes (world_of w l d.memory d.state.store) d.x) ⊎ ((effect ≡ Yields d.x) × (d.bytes ≡ []) × (world_of w l d.memory d.state.store ≡ world_of w l m s.store)))
+          → operate w.procedures (operation_of op) (frame_at l c f) l.callers (world_of w l m s.store) effect ≡ Moves d.bytes (runs_at w l (behind_op c op.def values) (define op.def d.x f) d.memory d.state.store)
+      by (inl h) = ap (operate w.procedures (operation_of op) (frame_at l c f) l.callers (world_of w l m s.store)) h
+      by (inr h) = ap (operate w.procedures (operation_of op) (frame_at l c f) l.callers (world_of w l m s.store)) h.0
           ∙ ap₂ (λ bytes (x : World). Moves bytes (Runs (behind (frame_at l c f) op.def d.x) l.callers x)) (sym h.1) (sym h.2)
 
   -- the run behind an operation, where it doesn't halt
@@ -336,16 +337,16 @@ module _ (w : Whole) (l : Level) where
       → Ready w l most g (record { block = c.block; op = suc c.op; values = values; env = c.env }) (define op.def d.x f) d.state free
   moved {A} {kept} {Q} {e} most g c f s room free op values r stands fits d le same = record {
     memory = d.memory;
-    reached = subst (λ k. Came_to w most g k d.state.out (runs_at l (behind_op c op.def values) (define op.def d.x f) d.memory d.state.store) free) (sym d.turns)
-        (subst (λ o. Came_to w most g s.turns o (runs_at l (behind_op c op.def values) (define op.def d.x f) d.memory d.state.store) free) (sym d.out)
-        (pass (system w) (least w.procedures) w.points w.first w.turns g free (In l.proc c.block c.op) d.bytes (runs_at l (behind_op c op.def values) (define op.def d.x f) d.memory d.state.store) r.reached refl
+    reached = subst (λ k. Came_to w most g k d.state.out (runs_at w l (behind_op c op.def values) (define op.def d.x f) d.memory d.state.store) free) (sym d.turns)
+        (subst (λ o. Came_to w most g s.turns o (runs_at w l (behind_op c op.def values) (define op.def d.x f) d.memory d.state.store) free) (sym d.out)
+        (pass (system w) (least w.procedures) w.points w.first w.turns g free (In l.proc c.block c.op) d.bytes (runs_at w l (behind_op c op.def values) (define op.def d.x f) d.memory d.state.store) r.reached refl
         (op_step c f r.memory s.store op stands ∙ moves_to c f op r.memory s A kept Q e (effect_at f r.memory s.store op.code op.uses) values d) fits (omega arith)));
     held = d.held;
     size = r.size;
     under = under_more c.values values c.env le r.under;
     registers = λ y lt reg v is.
         let z = r.size in
-        subst (λ n. ValueIs w (sizes_of d.state.store) v n) (sym (same (slice_index c.env y) (under_at c.values c.env y (omega (arith, lt, z)) r.under)))
+        subst (λ n. ValueIs w d.state.store.tags v n) (sym (same (slice_index c.env y) (under_at c.values c.env y (omega (arith, lt, z)) r.under)))
         (value_later w l s.store d.state.store v (f (slice_index c.env y)) d.later (r.registers y lt reg v (d.registers y lt reg v is)));
     since = later_on w l l.store s.store d.state.store r.since d.later;
   }
@@ -356,7 +357,7 @@ module _ (w : Whole) (l : Level) where
       → ((k : ℕ) × (e ≡ Fails (Kind k l.proc) s.out) × (effect_at f r.memory s.store op.code op.uses ≡ Refuses k)) ⊎ (e ≡ Fails Senseless s.out) → Goes w e Good
   halts {A} {Good} most g c f s room r e op stands fits (inl z) = subst (λ x. Goes w x Good) (sym z.1)
       (comes_trap HasSense (system w) (least w.procedures) w.points w.first w.turns same_trap (Kind z.0 l.proc) (Stopped z.0 l.proc) r.reached
-      (op_step (position c) f r.memory s.store op stands ∙ ap (operate w.procedures (operation_of op) (frame_at l (position c) f) l.callers (world_of l r.memory s.store)) z.2) (refl, refl) fits)
+      (op_step (position c) f r.memory s.store op stands ∙ ap (operate w.procedures (operation_of op) (frame_at l (position c) f) l.callers (world_of w l r.memory s.store)) z.2) (refl, refl) fits)
   halts most g c f s room r e op stands fits (inr z) = goes_senseless e s.out z
 
   pub follows_emits : {A : Type 0} {kept : Bool} {need fuel : ℕ} {mask : Mask} {K : Fact} {R : A → ℕ → Fact} {m : Act A} (code : Code) (us : List ℕ)

@@ -21,7 +21,7 @@ use Rattle.ob_types.specs.declared.tree.Relation.{Relation}
 use Rattle.ssa_lowered.specs.Pieces.{Cursor, Low, Mask, close, plain}
 use Rattle.ssa_lowered.specs.Values.{condition}
 use Rattle.ssa_lowered.specs.Control.{Test, fork, fork_value, fork_branch, fork_not, fork_and, fork_or}
-use Rattle.lowered_runs.specs.Words.{Whole, Level, Right, sizes_of, ValueIs, Later}
+use Rattle.lowered_runs.specs.Words.{Whole, Level, Right, ValueIs, Later}
 use Rattle.lowered_runs.proofs.Stores.{later_on}
 use Rattle.lowered_runs.proofs.Values.{Under, Same, Off, same_on, under_more}
 use Rattle.lowered_runs.proofs.Standing.{Standing, stand_first, stand_rest, bulk, bulk_append}
@@ -47,8 +47,8 @@ module _ (w : Whole) (l : Level) where
   abbrev pub Ends_at : ℕ → ℕ → End → Type 0
   Ends_at b i end = (drop i (block_of (procedure_of w.procedures l.proc) b).ops ≡ []) × ((block_of (procedure_of w.procedures l.proc) b).end ≡ end)
 
-  pub end_step : (c : Position) (f : ℕ → ℕ) (m : List Area) (s : Store) (end : End) → Ends_at c.block c.op end → (system w).step (runs_at l c f m s) ≡ leave w.procedures end (frame_at l c f) l.callers (world_of l m s)
-  end_step c f m s end is = ap (λ ops. perform w.procedures w.code ops (frame_at l c f) l.callers (world_of l m s)) is.0 ∙ ap (λ e. leave w.procedures e (frame_at l c f) l.callers (world_of l m s)) is.1
+  pub end_step : (c : Position) (f : ℕ → ℕ) (m : List Area) (s : Store) (end : End) → Ends_at c.block c.op end → (system w).step (runs_at w l c f m s) ≡ leave w.procedures end (frame_at l c f) l.callers (world_of w l m s)
+  end_step c f m s end is = ap (λ ops. perform w.procedures w.code ops (frame_at l c f) l.callers (world_of w l m s)) is.0 ∙ ap (λ e. leave w.procedures e (frame_at l c f) l.callers (world_of w l m s)) is.1
 
   pub end_pays : (b i : ℕ) (end : End) → Ends_at b i end → least w.procedures (In l.proc b i) ≡ end_least end
   end_pays b i end is = ap (λ ops. rest_least ops (block_of (procedure_of w.procedures l.proc) b).end) is.0 ∙ ap end_least is.1
@@ -61,7 +61,7 @@ module _ (w : Whole) (l : Level) where
   pub record Went {A : Type 0} (says : A → Bool) (Q : A → Fact) (most : ℕ) (c d : Cursor) (yes_to no_to : ℕ) (s : Store) (f : ℕ → ℕ) (free : (Point → ℕ) → ℕ) (a : A) (t : At Store) : Type 0 where
     pub values : ℕ → ℕ
     pub ready : Ready w l most 1 (record { block = cond (says a) yes_to no_to; op = 0; values = d.values; env = d.env }) values t free
-    pub later : Later l s t.store
+    pub later : Later w l s t.store
     pub same : Same c.values f values
     pub is : Q a d.values values t.store
     pub typed : Typing w l t.store
@@ -82,7 +82,7 @@ module _ (w : Whole) (l : Level) where
     held = r.held;
     size = sym off.size ∙ r.size;
     under = under_more u v e le under;
-    registers = λ x lt reg c is. subst (λ n. ValueIs w (sizes_of s.store) c (f n)) (off.at x refl) (r.registers x lt reg c is);
+    registers = λ x lt reg c is. subst (λ n. ValueIs w s.store.tags c (f n)) (off.at x refl) (r.registers x lt reg c is);
     since = r.since;
   }
 
@@ -107,8 +107,8 @@ module _ (w : Whole) (l : Level) where
           ready = ready_back {u = c.values} v.off (one.grows.by c) r.under (record {
             memory = q.memory;
             reached = pass_quiet (system w) (least w.procedures) w.points w.first w.turns 1 free (In l.proc d.after.block d.after.op)
-                (runs_at l (record { block = cond (says a) yes_to no_to; op = 0; values = d.after.values; env = d.after.env }) v.values q.memory t.store) q.reached refl
-                (end_step (position d.after) v.values q.memory t.store (d.result yes_to no_to) (stood.0, stood.1) ∙ turns.1 d.after.block d.after.op l.callers (world_of l q.memory t.store))
+                (runs_at w l (record { block = cond (says a) yes_to no_to; op = 0; values = d.after.values; env = d.after.env }) v.values q.memory t.store) q.reached refl
+                (end_step (position d.after) v.values q.memory t.store (d.result yes_to no_to) (stood.0, stood.1) ∙ turns.1 d.after.block d.after.op l.callers (world_of w l q.memory t.store))
                 (λ h. omega arith) (omega (arith, pays));
             held = q.held;
             size = q.size;
@@ -217,7 +217,7 @@ module _ (w : Whole) (l : Level) where
   module _ {fuel : ℕ} {K : Fact} (x y : Act Cell) (t u : Test) (steady : Steady w l K) (one : Forks holds fuel K No_more (bits x) t) (two : Forks holds fuel K No_more (bits y) u) where
     -- the second condition is tried where the first one goes on
     second : (most : ℕ) (c : Cursor) (yes_to no_to freq : ℕ) (f : ℕ → ℕ) (s : At Store) (free : (Point → ℕ) → ℕ) → most ≤ fuel → Standing w.procedures l.proc ((u (t c).after).pieces yes_to no_to freq) → Fits w l ((u (t c).after).pieces yes_to no_to freq) free → K c.values f s.store
-        → (g : ℕ → ℕ) (z : At Store) → Later l s.store z.store → Same c.values f g → Typing w l z.store → Ready w l most 1 (position (t c).after) g z (λ h. bulk l.proc ((u (t c).after).pieces yes_to no_to freq) h + free h)
+        → (g : ℕ → ℕ) (z : At Store) → Later w l s.store z.store → Same c.values f g → Typing w l z.store → Ready w l most 1 (position (t c).after) g z (λ h. bulk l.proc ((u (t c).after).pieces yes_to no_to freq) h + free h)
         → Goes w (bits y z) (Went holds No_more most c (u (t c).after).after yes_to no_to s.store f free)
     second most c yes_to no_to freq f s free le stands within known g z later same typed r =
         goes_on w l (bits y z) (two.by most 1 (t c).after yes_to no_to freq g z (λ h. bulk l.proc ((u (t c).after).pieces yes_to no_to freq) h + free h) free le (omega arith) stands (λ h. omega arith) within

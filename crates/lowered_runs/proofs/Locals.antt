@@ -1,20 +1,25 @@
--- Where a call's variables are: in registers, or in which words.
-use Rattle.std.proofs.Common.{◌≡◌, ℕ, zero, suc, ◌+◌, ◌*◌, ◌<◌, ◌≤◌, ◌⊎◌, inl, inr, ⊎_elim, List, [], ◌∷◌, map, take, Bool, true, false, not, cond, ◌&&◌, slice_get, refl, sym, ap, ap₂, ◌∙◌, subst, arith, Option, Some, None}
-use Rattle.std.specs.Prelude.{◌-◌, slice_index_or, nat_lt, if◌then◌else◌}
-use Rattle.std.proofs.lemmas.Bool.{cases_lt}
-use Rattle.std.proofs.lemmas.Bool.Decides.{nat_tests}
+-- Where a call's variables are: in registers, or from which byte of the local data on.
+use Rattle.std.proofs.Common.{◌≡◌, ℕ, zero, suc, ◌+◌, ◌*◌, ◌/◌, ◌<◌, ◌≤◌, ◌⊎◌, inl, inr, List, [], ◌∷◌, map, take, Bool, true, false, cond, not, ◌&&◌, slice_get, Option, Some, None, refl, sym, ap, ap₂, ◌∙◌, subst, arith}
+use Rattle.std.specs.Prelude.{if◌then◌else◌, slice_index_or}
 use Rattle.std.proofs.lemmas.List.Sums.{sum_by-cons}
+use Rattle.ob_types.specs.Forms.{Form, form_or_zero, scalar_form, types_fine}
 use Rattle.ob_types.specs.Layout.{kind_of, cells, cells_by, cells_of_all}
+use Rattle.ob_types.specs.Trees.{DataTree, Scalar, data_tree, tree_bytes, tree_cells, fits_byte, scalar_bytes}
+use Rattle.ob_types.specs.declared.program.Program.{Program}
 use Rattle.ob_types.specs.declared.types.TypeKind.{TypeKind}
 use Rattle.ob_types.specs.declared.types.TypeKind.TheVariants.{Array}
 use Rattle.ob_types.specs.declared.types.TypeKind.TheVariants.{Record as RecordOf}
-use Rattle.ob_types.specs.declared.program.Program.{Program}
+use Rattle.ob_types.proofs.DataTrees.{cells_are, other_data_tree}
 use Rattle.ob_types.proofs.Tests.{no}
-use Rattle.ssa_lowered.specs.Data.{Layout, layout, room}
+use Rattle.ob_types.proofs.TreeBytes.{few_rounded}
+use Rattle.object_nodes.specs.Addresses.{Sides}
+use Rattle.object_nodes.specs.Nodes.{Node, VariableNode}
+use Rattle.object_nodes.proofs.Meeting.{node_self}
+use Rattle.ssa_lowered.specs.Data.{Layout, IsLayout, room}
 use Rattle.ssa_lowered.specs.Pieces.{Mask, rest}
 use Rattle.ssa_lowered.specs.Variables.{Site, Register, Memory, Variable, is_structured, structured_room, scalars_lent, placed}
 
--- where a variable is: in as many words as it has cells, in one word that scalars in memory have, or in a register
+-- where a variable is: in as many bytes as it takes, in eight that scalars in memory have, or in a register
 pub data Way : Type 0 where
   Wide : Way
   Lent : Way
@@ -25,7 +30,7 @@ way true lent = Wide
 way false true = Lent
 way false false = Kept
 
--- the words that it takes of those for structured variables, and of those for scalars
+-- the bytes that it takes of those for structured variables, and how many scalars it is in memory
 abbrev pub wide_of : Way → ℕ → ℕ
 wide_of Wide k = k
 wide_of Lent k = 0
@@ -48,18 +53,6 @@ some_is e = cc
 none_is : {A : Type 0} {x : A} → None ≡ Some x → ⊥
 none_is e = cc
 
-less_of : (a b : ℕ) → nat_lt a b ≡ true → a < b
-less_of a b h = grind (arith, nat_tests)
-
-more_of : (a b : ℕ) → nat_lt a b ≡ false → b ≤ a
-more_of a b h = grind (arith, nat_tests)
-
-is_less : (a b : ℕ) → a < b → nat_lt a b ≡ true
-is_less a b h = grind (arith, nat_tests)
-
-no_less : (a b : ℕ) → b ≤ a → nat_lt a b ≡ false
-no_less a b h = grind (arith, nat_tests)
-
 -- a variable's type, and the argument word with which it begins
 abbrev pub Pairs : Type 0
 Pairs = List (ℕ × Option ℕ)
@@ -67,9 +60,13 @@ Pairs = List (ℕ × Option ℕ)
 abbrev pub types_in : Pairs → List ℕ
 types_in xs = map (λ x. x.0) xs
 
+one_byte : (b : Bool) → scalar_bytes b ≤ 8
+one_byte true = omega arith
+one_byte false = omega arith
+
 module _ (p : Program) where
-  abbrev pub lay : Layout
-  lay = layout p.types
+  abbrev pub tree : ℕ → DataTree
+  tree k = data_tree p.types k
 
   abbrev pub size : ℕ → ℕ
   size k = cells p.types k
@@ -77,14 +74,14 @@ module _ (p : Program) where
   abbrev pub is_wide : ℕ → Bool
   is_wide k = is_structured (kind_of p.types k)
 
+  -- the form of a scalar
+  abbrev pub form_in : ℕ → Form
+  form_in k = form_or_zero (scalar_form (kind_of p.types k))
+
   pub single : (k : ℕ) → is_wide k ≡ false → size k ≡ 1
   single k h = single_kind _ _ (kind_of p.types k) h
 
-  -- the words for structured variables, and for scalars
-  abbrev pub wide_in : Pairs → ℕ
-  wide_in [] = 0
-  wide_in (x ∷ xs) = wide_of (way (is_wide x.0) false) (size x.0) + wide_in xs
-
+  -- how many scalars are in memory
   abbrev pub lent_in : Mask → Pairs → ℕ
   lent_in lent [] = 0
   lent_in lent (x ∷ xs) = lent_of (way (is_wide x.0) (lent 0)) + lent_in (rest lent) xs
@@ -105,141 +102,120 @@ module _ (p : Program) where
   first_grows (z ∷ xs) zero (suc y) k lt at = let e = first_more z xs y in let f = ap size (some_is at) in omega (arith, e, f)
   first_grows (z ∷ xs) (suc x) (suc y) k lt at = let e = first_more z xs y in let f = first_more z xs x in let g = first_grows xs x y k (omega (arith, lt)) at in omega (arith, e, f, g)
 
-  ---- Bytes and words
-
-  wide_step : (t : Bool) (k bytes more words : ℕ) → bytes ≡ 8 * k → more ≡ 8 * words → (if t then bytes else 0) + more ≡ 8 * (wide_of (way t false) k + words)
-  wide_step true k bytes more words e f = omega (arith, e, f)
-  wide_step false k bytes more words e f = omega (arith, f)
-
-  pub wide_bytes : (xs : Pairs) → structured_room p.types lay (types_in xs) ≡ 8 * wide_in xs
-  wide_bytes [] = refl
-  wide_bytes (x ∷ xs) =
-      sum_by-cons (λ k. if is_structured (kind_of p.types k) then room lay k else 0) x.0 (types_in xs)
-      ∙ wide_step (is_wide x.0) (size x.0) (room lay x.0) (structured_room p.types lay (types_in xs)) (wide_in xs) (omega arith) (wide_bytes xs)
-
   lent_step : (s t : Bool) → cond (t && not s) 1 0 ≡ lent_of (way s t)
   lent_step true true = refl
   lent_step true false = refl
   lent_step false true = refl
   lent_step false false = refl
 
-  pub lent_words : (lent : Mask) (xs : Pairs) → scalars_lent p.types lay lent (types_in xs) ≡ lent_in lent xs
-  lent_words lent [] = refl
-  lent_words lent (x ∷ xs) = ap₂ (λ a b. a + b) (lent_step (is_wide x.0) (lent 0)) (lent_words (rest lent) xs)
+module _ (p : Program) (lay : Layout) where
+  -- the bytes for structured variables
+  abbrev pub wide_in : Pairs → ℕ
+  wide_in [] = 0
+  wide_in (x ∷ xs) = wide_of (way (is_wide p x.0) false) (room lay x.0) + wide_in xs
 
-  -- no more words than cells
-  pub words_fit : (lent : Mask) (xs : Pairs) → wide_in xs + lent_in lent xs ≤ cells_of_all p.types (types_in xs)
-  words_fit lent [] = omega arith
-  words_fit lent (x ∷ xs) = let e = cells_more x xs in let h = words_fit (rest lent) xs in by (is_wide x.0) refl (lent 0) e h
-    where
-      by : (s : Bool) → is_wide x.0 ≡ s → (t : Bool) → cells_of_all p.types (types_in (x ∷ xs)) ≡ size x.0 + cells_of_all p.types (types_in xs) → wide_in xs + lent_in (rest lent) xs ≤ cells_of_all p.types (types_in xs)
-          → wide_of (way s false) (size x.0) + wide_in xs + (lent_of (way s t) + lent_in (rest lent) xs) ≤ cells_of_all p.types (types_in (x ∷ xs))
-      by true is t e h = omega (arith, e, h)
-      by false is true e h = let one = single x.0 is in omega (arith, e, h, one)
-      by false is false e h = omega (arith, e, h)
+  wide_step : (t : Bool) (k more bytes : ℕ) → more ≡ bytes → (if t then k else 0) + more ≡ wide_of (way t false) k + bytes
+  wide_step true k more bytes e = omega (arith, e)
+  wide_step false k more bytes e = omega (arith, e)
+
+  pub wide_bytes : (xs : Pairs) → structured_room p.types lay (types_in xs) ≡ wide_in xs
+  wide_bytes [] = refl
+  wide_bytes (x ∷ xs) =
+      sum_by-cons (λ k. if is_structured (kind_of p.types k) then room lay k else 0) x.0 (types_in xs)
+      ∙ wide_step (is_wide p x.0) (room lay x.0) (structured_room p.types lay (types_in xs)) (wide_in xs) (wide_bytes xs)
+
+  pub lent_words : (lent : Mask) (xs : Pairs) → scalars_lent p.types lay lent (types_in xs) ≡ lent_in p lent xs
+  lent_words lent [] = refl
+  lent_words lent (x ∷ xs) = ap₂ (λ a b. a + b) (lent_step p (is_wide p x.0) (lent 0)) (lent_words (rest lent) xs)
 
   ---- Places
 
-  abbrev next_wide : Way → ℕ → ℕ → ℕ
-  next_wide W a k = a + wide_of W k
-
-  abbrev next_lent : Way → ℕ → ℕ
-  next_lent W b = lent_of W + b
-
-  abbrev placed_by : Way → Mask → (a b : ℕ) → ℕ × Option ℕ → Pairs → List Variable
-  placed_by Wide lent a b x xs = record { type_number = x.0; word = x.1; site = Memory (8 * a) } ∷ placed p.types lay (rest lent) (8 * (a + size x.0)) (8 * b) xs
-  placed_by Lent lent a b x xs = record { type_number = x.0; word = x.1; site = Memory (8 * b) } ∷ placed p.types lay (rest lent) (8 * a) (8 * suc b) xs
-  placed_by Kept lent a b x xs = record { type_number = x.0; word = x.1; site = Register } ∷ placed p.types lay (rest lent) (8 * a) (8 * b) xs
-
-  pub placed_is : (lent : Mask) (a b : ℕ) (x : ℕ × Option ℕ) (xs : Pairs) → placed p.types lay lent (8 * a) (8 * b) (x ∷ xs) ≡ placed_by (way (is_wide x.0) (lent 0)) lent a b x xs
-  placed_is lent a b x xs = by (is_wide x.0) (lent 0)
-    where
-      next_a : 8 * a + room lay x.0 ≡ 8 * (a + size x.0)
-      next_a = omega arith
-
-      next_b : 8 * b + 8 ≡ 8 * suc b
-      next_b = omega arith
-
-      by : (s t : Bool) → (if s then record { type_number = x.0; word = x.1; site = Memory (8 * a) } ∷ placed p.types lay (rest lent) (8 * a + room lay x.0) (8 * b) xs
-          else if t then record { type_number = x.0; word = x.1; site = Memory (8 * b) } ∷ placed p.types lay (rest lent) (8 * a) (8 * b + 8) xs
-          else record { type_number = x.0; word = x.1; site = Register } ∷ placed p.types lay (rest lent) (8 * a) (8 * b) xs) ≡ placed_by (way s t) lent a b x xs
-      by true t = ap (λ n. record { type_number = x.0; word = x.1; site = Memory (8 * a) } ∷ placed p.types lay (rest lent) n (8 * b) xs) next_a
-      by false true = ap (λ n. record { type_number = x.0; word = x.1; site = Memory (8 * b) } ∷ placed p.types lay (rest lent) (8 * a) n xs) next_b
-      by false false = refl
-
   -- where a variable is, and what comes behind it
   abbrev pub site_by : Way → (a b : ℕ) → Site
-  site_by Wide a b = Memory (8 * a)
-  site_by Lent a b = Memory (8 * b)
+  site_by Wide a b = Memory a
+  site_by Lent a b = Memory b
   site_by Kept a b = Register
 
   abbrev pub placed_in : Way → Mask → (a b : ℕ) → ℕ × Option ℕ → Pairs → List Variable
-  placed_in W lent a b x xs = record { type_number = x.0; word = x.1; site = site_by W a b } ∷ placed p.types lay (rest lent) (8 * (a + wide_of W (size x.0))) (8 * (lent_of W + b)) xs
+  placed_in W lent a b x xs = record { type_number = x.0; word = x.1; site = site_by W a b } ∷ placed p.types lay (rest lent) (a + wide_of W (room lay x.0)) (b + 8 * lent_of W) xs
 
-  pub placed_all : (lent : Mask) (a b : ℕ) (x : ℕ × Option ℕ) (xs : Pairs) → placed p.types lay lent (8 * a) (8 * b) (x ∷ xs) ≡ placed_in (way (is_wide x.0) (lent 0)) lent a b x xs
-  placed_all lent a b x xs = placed_is lent a b x xs ∙ by (way (is_wide x.0) (lent 0))
+  pub placed_all : (lent : Mask) (a b : ℕ) (x : ℕ × Option ℕ) (xs : Pairs) → placed p.types lay lent a b (x ∷ xs) ≡ placed_in (way (is_wide p x.0) (lent 0)) lent a b x xs
+  placed_all lent a b x xs = by (is_wide p x.0) (lent 0)
     where
-      by : (W : Way) → placed_by W lent a b x xs ≡ placed_in W lent a b x xs
-      by Wide = ap (λ n. record { type_number = x.0; word = x.1; site = Memory (8 * a) } ∷ placed p.types lay (rest lent) (8 * (a + size x.0)) n xs) (omega arith)
-      by Lent = ap₂ (λ n k. record { type_number = x.0; word = x.1; site = Memory (8 * b) } ∷ placed p.types lay (rest lent) n k xs) (omega arith) (omega arith)
-      by Kept = ap₂ (λ n k. record { type_number = x.0; word = x.1; site = Register } ∷ placed p.types lay (rest lent) n k xs) (omega arith) (omega arith)
+      none_more : (n : ℕ) → n ≡ n + 0
+      none_more n = omega arith
+
+      by : (s t : Bool) → (if s then record { type_number = x.0; word = x.1; site = Memory a } ∷ placed p.types lay (rest lent) (a + room lay x.0) b xs
+          else if t then record { type_number = x.0; word = x.1; site = Memory b } ∷ placed p.types lay (rest lent) a (b + 8) xs
+          else record { type_number = x.0; word = x.1; site = Register } ∷ placed p.types lay (rest lent) a b xs) ≡ placed_in (way s t) lent a b x xs
+      by true t = ap (λ n. record { type_number = x.0; word = x.1; site = Memory a } ∷ placed p.types lay (rest lent) (a + room lay x.0) n xs) (none_more b)
+      by false true = ap (λ n. record { type_number = x.0; word = x.1; site = Memory b } ∷ placed p.types lay (rest lent) n (b + 8) xs) (none_more a)
+      by false false = ap₂ (λ n k. record { type_number = x.0; word = x.1; site = Register } ∷ placed p.types lay (rest lent) n k xs) (none_more a) (none_more b)
 
   module _ (base : ℕ) where
-    abbrev pub own_by : Way → (a b c : ℕ) → Bool → Option ℕ → Option ℕ
-    own_by W a b c false later = later
-    own_by Wide a b c true later = Some (base + (a + c))
-    own_by Lent a b c true later = Some (base + b)
-    own_by Kept a b c true later = None
+    -- where a variable begins, where the next structured one and the next scalar stand a and b bytes behind the base
+    abbrev pub own_by : Way → (a b : ℕ) → Option ℕ
+    own_by Wide a b = Some (base + a)
+    own_by Lent a b = Some (base + b)
+    own_by Kept a b = None
 
-    -- the word of a cell, where the next structured variable has word a and the next scalar word b behind the base
     abbrev pub own_at : Mask → (a b : ℕ) → Pairs → ℕ → Option ℕ
-    own_at lent a b [] c = None
-    own_at lent a b (x ∷ xs) c =
-        own_by (way (is_wide x.0) (lent 0)) a b c (nat_lt c (size x.0)) (own_at (rest lent) (a + wide_of (way (is_wide x.0) (lent 0)) (size x.0)) (lent_of (way (is_wide x.0) (lent 0)) + b) xs (c - size x.0))
+    own_at lent a b [] v = None
+    own_at lent a b (x ∷ xs) zero = own_by (way (is_wide p x.0) (lent 0)) a b
+    own_at lent a b (x ∷ xs) (suc v) = own_at (rest lent) (a + wide_of (way (is_wide p x.0) (lent 0)) (room lay x.0)) (b + 8 * lent_of (way (is_wide p x.0) (lent 0))) xs v
 
-    -- the cells of the first variable, and of those behind it
-    pub own_first : (lent : Mask) (a b : ℕ) (x : ℕ × Option ℕ) (xs : Pairs) (c : ℕ) → c < size x.0 → own_at lent a b (x ∷ xs) c ≡ own_by (way (is_wide x.0) (lent 0)) a b c true None
-    own_first lent a b x xs c lt = by (way (is_wide x.0) (lent 0)) (own_at (rest lent) (a + wide_of (way (is_wide x.0) (lent 0)) (size x.0)) (lent_of (way (is_wide x.0) (lent 0)) + b) xs (c - size x.0)) (nat_lt c (size x.0)) (is_less c (size x.0) lt)
+module _ (p : Program) (packed : Bool) (lay : Layout) (fine : types_fine p.types ≡ true) (laid : IsLayout packed p.types lay) where
+  pub scalar_tree : (k : ℕ) → is_wide p k ≡ false → tree p k ≡ Scalar (form_in p k)
+  scalar_tree k h = other_data_tree p.types fine k (λ r e. whole (sym (ap is_structured e) ∙ h)) (λ n m e. whole (sym (ap is_structured e) ∙ h))
+    where
+      whole : true ≡ false → ⊥
+      whole e = cc
+
+  -- a variable fits its room, and that has eight bytes a cell at most
+  pub room_fits : (k : ℕ) → tree_bytes packed (tree p k) ≤ room lay k
+  room_fits k = let e = laid.bytes k in omega (arith, e)
+
+  pub room_few : (k : ℕ) → room lay k ≤ 8 * size p k
+  room_few k = let e = laid.bytes k in let f = few_rounded packed (tree p k) in let c = cells_are p.types k in rounded_few (lay.bytes k) (tree_bytes packed (tree p k)) e f c
+    where
+      rounded_few : (x y : ℕ) → x ≡ y → (y + 7) / 8 * 8 ≤ 8 * tree_cells (tree p k) → size p k ≡ tree_cells (tree p k) → (x + 7) / 8 * 8 ≤ 8 * size p k
+      rounded_few x y e f c = omega (arith, e, f, c)
+
+  pub lent_fits : (k : ℕ) → is_wide p k ≡ false → tree_bytes packed (tree p k) ≤ 8
+  lent_fits k h = let e = ap (tree_bytes packed) (scalar_tree k h) in let f = one_byte (packed && fits_byte (form_in p k)) in omega (arith, e, f)
+
+  -- no more bytes than eight for each cell
+  pub words_fit : (lent : Mask) (xs : Pairs) → wide_in p lay xs + 8 * lent_in p lent xs ≤ 8 * cells_of_all p.types (types_in xs)
+  words_fit lent [] = omega arith
+  words_fit lent (x ∷ xs) = let e = cells_more p x xs in let h = words_fit (rest lent) xs in by (is_wide p x.0) refl (lent 0) e h
+    where
+      by : (s : Bool) → is_wide p x.0 ≡ s → (t : Bool) → cells_of_all p.types (types_in (x ∷ xs)) ≡ size p x.0 + cells_of_all p.types (types_in xs) → wide_in p lay xs + 8 * lent_in p (rest lent) xs ≤ 8 * cells_of_all p.types (types_in xs)
+          → wide_of (way s false) (room lay x.0) + wide_in p lay xs + 8 * (lent_of (way s t) + lent_in p (rest lent) xs) ≤ 8 * cells_of_all p.types (types_in (x ∷ xs))
+      by true is t e h = let r = room_few x.0 in omega (arith, e, h, r)
+      by false is true e h = let one = single p x.0 is in omega (arith, e, h, one)
+      by false is false e h = omega (arith, e, h)
+
+  module _ (base : ℕ) where
+    -- among the bytes for structured variables, or those for scalars
+    abbrev pub Among : (a wide b lent i n : ℕ) → Type 0
+    Among a wide b lent i n = ((base + a ≤ i) × (i + n ≤ base + (a + wide))) ⊎ ((base + b ≤ i) × (i + n ≤ base + (b + 8 * lent)))
+
+    pub own_inside : (lent : Mask) (a b : ℕ) (xs : Pairs) (v k i : ℕ) → slice_get (types_in xs) v ≡ Some k → own_at p lay base lent a b xs v ≡ Some i → Among a (wide_in p lay xs) b (lent_in p lent xs) i (tree_bytes packed (tree p k))
+    own_inside lent a b [] v k i type at = absurd (none_is at)
+    own_inside lent a b (x ∷ xs) zero k i type at = here (is_wide p x.0) refl (lent 0) at
       where
-        by : (W : Way) (later : Option ℕ) (t : Bool) → t ≡ true → own_by W a b c t later ≡ own_by W a b c true None
-        by W later false e = no e
-        by Wide later true e = refl
-        by Lent later true e = refl
-        by Kept later true e = refl
+        fits : tree_bytes packed (tree p k) ≤ room lay x.0
+        fits = subst (λ k. tree_bytes packed (tree p k) ≤ room lay x.0) (some_is type) (room_fits x.0)
 
-    pub own_rest : (lent : Mask) (a b : ℕ) (x : ℕ × Option ℕ) (xs : Pairs) (c : ℕ) → own_at lent a b (x ∷ xs) (size x.0 + c) ≡ own_at (rest lent) (a + wide_of (way (is_wide x.0) (lent 0)) (size x.0)) (lent_of (way (is_wide x.0) (lent 0)) + b) xs c
-    own_rest lent a b x xs c =
-        let W = way (is_wide x.0) (lent 0) in
-        ap (λ t. own_by W a b (size x.0 + c) t (own_at (rest lent) (a + wide_of W (size x.0)) (lent_of W + b) xs (size x.0 + c - size x.0))) (no_less (size x.0 + c) (size x.0) (omega arith))
-        ∙ ap (own_at (rest lent) (a + wide_of W (size x.0)) (lent_of W + b) xs) (omega arith)
-
-    -- a cell is one of the first variable's, or one behind them
-    pub own_cases : (lent : Mask) (a b : ℕ) (x : ℕ × Option ℕ) (xs : Pairs) (c i : ℕ) → own_at lent a b (x ∷ xs) c ≡ Some i
-        → ((c < size x.0) × (own_by (way (is_wide x.0) (lent 0)) a b c true None ≡ Some i)) ⊎ ((d : ℕ) × (c ≡ size x.0 + d) × (own_at (rest lent) (a + wide_of (way (is_wide x.0) (lent 0)) (size x.0)) (lent_of (way (is_wide x.0) (lent 0)) + b) xs d ≡ Some i))
-    own_cases lent a b x xs c i at = ⊎_elim
-        (λ (lt : c < size x.0). inl (lt, sym (own_first lent a b x xs c lt) ∙ at))
-        (λ (ge : size x.0 ≤ c).
-        let e : c ≡ size x.0 + (c - size x.0) = omega (arith, ge) in
-        inr (c - size x.0, e, sym (own_rest lent a b x xs (c - size x.0)) ∙ sym (ap (own_at lent a b (x ∷ xs)) e) ∙ at))
-        (cases_lt c (size x.0))
-
-    -- one of the words for structured variables, or of those for scalars
-    abbrev pub Among : (a wide b lent i : ℕ) → Type 0
-    Among a wide b lent i = ((base + a ≤ i) × (i < base + (a + wide))) ⊎ ((base + b ≤ i) × (i < base + (b + lent)))
-
-    pub own_inside : (lent : Mask) (a b : ℕ) (xs : Pairs) (c i : ℕ) → own_at lent a b xs c ≡ Some i → Among a (wide_in xs) b (lent_in lent xs) i
-    own_inside lent a b [] c i at = absurd (none_is at)
-    own_inside lent a b (x ∷ xs) c i at = elim (own_cases lent a b x xs c i at) [
-      | inl h ↦ here (is_wide x.0) (lent 0) h.0 h.1
-      | inr h ↦ there (is_wide x.0) (lent 0) (own_inside (rest lent) (a + wide_of (way (is_wide x.0) (lent 0)) (size x.0)) (lent_of (way (is_wide x.0) (lent 0)) + b) xs h.0 i h.2)
-    ]
+        here : (s : Bool) → is_wide p x.0 ≡ s → (t : Bool) → own_by p lay base (way s t) a b ≡ Some i → Among a (wide_of (way s false) (room lay x.0) + wide_in p lay xs) b (lent_of (way s t) + lent_in p (rest lent) xs) i (tree_bytes packed (tree p k))
+        here true is t e = let f = some_is e in let g = fits in inl (omega (arith, f), omega (arith, f, g))
+        here false is true e = let f = some_is e in let g = subst (λ k. tree_bytes packed (tree p k) ≤ 8) (some_is type) (lent_fits x.0 is) in inr (omega (arith, f), omega (arith, f, g))
+        here false is false e = absurd (none_is e)
+    own_inside lent a b (x ∷ xs) (suc v) k i type at =
+        there (is_wide p x.0) (lent 0) (own_inside (rest lent) (a + wide_of (way (is_wide p x.0) (lent 0)) (room lay x.0)) (b + 8 * lent_of (way (is_wide p x.0) (lent 0))) xs v k i type at)
       where
-        here : (s t : Bool) → c < size x.0 → own_by (way s t) a b c true None ≡ Some i → Among a (wide_of (way s false) (size x.0) + wide_in xs) b (lent_of (way s t) + lent_in (rest lent) xs) i
-        here true t lt e = let f = some_is e in inl (omega (arith, f), omega (arith, f, lt))
-        here false true lt e = let f = some_is e in inr (omega (arith, f), omega (arith, f))
-        here false false lt e = absurd (none_is e)
-
-        there : (s t : Bool) → Among (a + wide_of (way s t) (size x.0)) (wide_in xs) (lent_of (way s t) + b) (lent_in (rest lent) xs) i → Among a (wide_of (way s false) (size x.0) + wide_in xs) b (lent_of (way s t) + lent_in (rest lent) xs) i
+        there : (s t : Bool) → Among (a + wide_of (way s t) (room lay x.0)) (wide_in p lay xs) (b + 8 * lent_of (way s t)) (lent_in p (rest lent) xs) i (tree_bytes packed (tree p k))
+            → Among a (wide_of (way s false) (room lay x.0) + wide_in p lay xs) b (lent_of (way s t) + lent_in p (rest lent) xs) i (tree_bytes packed (tree p k))
         there true t (inl h) = let lo = h.0 in let hi = h.1 in inl (omega (arith, lo), omega (arith, hi))
         there true t (inr h) = let lo = h.0 in let hi = h.1 in inr (omega (arith, lo), omega (arith, hi))
         there false true (inl h) = let lo = h.0 in let hi = h.1 in inl (omega (arith, lo), omega (arith, hi))
@@ -247,81 +223,64 @@ module _ (p : Program) where
         there false false (inl h) = let lo = h.0 in let hi = h.1 in inl (omega (arith, lo), omega (arith, hi))
         there false false (inr h) = let lo = h.0 in let hi = h.1 in inr (omega (arith, lo), omega (arith, hi))
 
-    -- two cells have two words
-    pub own_apart : (lent : Mask) (a b : ℕ) (xs : Pairs) (c d i : ℕ) → a + wide_in xs ≤ b → own_at lent a b xs c ≡ Some i → own_at lent a b xs d ≡ Some i → c ≡ d
-    own_apart lent a b [] c d i le at by = absurd (none_is at)
-    own_apart lent a b (x ∷ xs) c d i le at by = elim (own_cases lent a b x xs c i at) [
-      | inl h ↦ elim (own_cases lent a b x xs d i by) [
-        | inl g ↦ both (is_wide x.0) refl (lent 0) h.0 g.0 h.1 g.1
-        | inr g ↦ absurd (one (is_wide x.0) (lent 0) c h.0 h.1 le (own_inside (rest lent) (a + wide_of (way (is_wide x.0) (lent 0)) (size x.0)) (lent_of (way (is_wide x.0) (lent 0)) + b) xs g.0 i g.2))
-      ]
-      | inr h ↦ elim (own_cases lent a b x xs d i by) [
-        | inl g ↦ absurd (one (is_wide x.0) (lent 0) d g.0 g.1 le (own_inside (rest lent) (a + wide_of (way (is_wide x.0) (lent 0)) (size x.0)) (lent_of (way (is_wide x.0) (lent 0)) + b) xs h.0 i h.2))
-        | inr g ↦ (let e = h.1 in let f = g.1 in
-            let same = own_apart (rest lent) (a + wide_of (way (is_wide x.0) (lent 0)) (size x.0)) (lent_of (way (is_wide x.0) (lent 0)) + b) xs h.0 g.0 i (room_for (is_wide x.0) (lent 0) le) h.2 g.2 in omega (arith, e, f, same))
-      ]
+    -- the first variable, and one behind it
+    first_apart : (lent : Mask) (a b : ℕ) (x : ℕ × Option ℕ) (xs : Pairs) (w k i j : ℕ) → a + wide_in p lay (x ∷ xs) ≤ b → slice_get (types_in xs) w ≡ Some k → own_by p lay base (way (is_wide p x.0) (lent 0)) a b ≡ Some i
+        → own_at p lay base (rest lent) (a + wide_of (way (is_wide p x.0) (lent 0)) (room lay x.0)) (b + 8 * lent_of (way (is_wide p x.0) (lent 0))) xs w ≡ Some j → i + tree_bytes packed (tree p x.0) ≤ j ⊎ j + tree_bytes packed (tree p k) ≤ i
+    first_apart lent a b x xs w k i j le type at to =
+        by (is_wide p x.0) refl (lent 0) le at (own_inside (rest lent) (a + wide_of (way (is_wide p x.0) (lent 0)) (room lay x.0)) (b + 8 * lent_of (way (is_wide p x.0) (lent 0))) xs w k j type to)
+      where
+        by : (s : Bool) → is_wide p x.0 ≡ s → (t : Bool) → a + (wide_of (way s false) (room lay x.0) + wide_in p lay xs) ≤ b → own_by p lay base (way s t) a b ≡ Some i
+            → Among (a + wide_of (way s t) (room lay x.0)) (wide_in p lay xs) (b + 8 * lent_of (way s t)) (lent_in p (rest lent) xs) j (tree_bytes packed (tree p k)) → i + tree_bytes packed (tree p x.0) ≤ j ⊎ j + tree_bytes packed (tree p k) ≤ i
+        by true is t le e (inl h) = let f = some_is e in let lo = h.0 in let fits = room_fits x.0 in inl (omega (arith, f, lo, fits))
+        by true is t le e (inr h) = let f = some_is e in let lo = h.0 in let fits = room_fits x.0 in inl (omega (arith, f, lo, fits, le))
+        by false is true le e (inl h) = let f = some_is e in let hi = h.1 in inr (omega (arith, f, hi, le))
+        by false is true le e (inr h) = let f = some_is e in let lo = h.0 in let fits = lent_fits x.0 is in inl (omega (arith, f, lo, fits))
+        by false is false le e h = absurd (none_is e)
+
+    -- two variables share no byte
+    pub own_apart : (lent : Mask) (a b : ℕ) (xs : Pairs) (v w k m i j : ℕ) → a + wide_in p lay xs ≤ b → slice_get (types_in xs) v ≡ Some k → slice_get (types_in xs) w ≡ Some m → own_at p lay base lent a b xs v ≡ Some i → own_at p lay base lent a b xs w ≡ Some j
+        → (v ≡ w) ⊎ Sides i (tree_bytes packed (tree p k)) j (tree_bytes packed (tree p m))
+    own_apart lent a b [] v w k m i j le one two at to = absurd (none_is at)
+    own_apart lent a b (x ∷ xs) zero zero k m i j le one two at to = inl refl
+    own_apart lent a b (x ∷ xs) zero (suc w) k m i j le one two at to =
+        inr (subst (λ k. Sides i (tree_bytes packed (tree p k)) j (tree_bytes packed (tree p m))) (some_is one) (first_apart lent a b x xs w m i j le two at to))
+    own_apart lent a b (x ∷ xs) (suc v) zero k m i j le one two at to =
+        inr (subst (λ m. Sides i (tree_bytes packed (tree p k)) j (tree_bytes packed (tree p m))) (some_is two) (turned (first_apart lent a b x xs v k j i le one to at)))
+      where
+        turned : j + tree_bytes packed (tree p x.0) ≤ i ⊎ i + tree_bytes packed (tree p k) ≤ j → Sides i (tree_bytes packed (tree p k)) j (tree_bytes packed (tree p x.0))
+        turned (inl h) = inr h
+        turned (inr h) = inl h
+    own_apart lent a b (x ∷ xs) (suc v) (suc w) k m i j le one two at to = elim (own_apart (rest lent) (a + wide_of (way (is_wide p x.0) (lent 0)) (room lay x.0)) (b + 8 * lent_of (way (is_wide p x.0) (lent 0))) xs v w k m i j (room_for (is_wide p x.0) (lent 0) le) one two at to) [
+      | inl e ↦ inl (ap suc e)
+      | inr far ↦ inr far
     ]
       where
-        both : (s : Bool) → is_wide x.0 ≡ s → (t : Bool) → c < size x.0 → d < size x.0 → own_by (way s t) a b c true None ≡ Some i → own_by (way s t) a b d true None ≡ Some i → c ≡ d
-        both true is t lt less e f = let g = some_is e in let h = some_is f in omega (arith, g, h)
-        both false is true lt less e f = let one = single x.0 is in omega (arith, one, lt, less)
-        both false is false lt less e f = absurd (none_is e)
-
-        one : (s t : Bool) (c : ℕ) → c < size x.0 → own_by (way s t) a b c true None ≡ Some i → a + (wide_of (way s false) (size x.0) + wide_in xs) ≤ b → Among (a + wide_of (way s t) (size x.0)) (wide_in xs) (lent_of (way s t) + b) (lent_in (rest lent) xs) i → ⊥
-        one true t c lt e le (inl h) = let f = some_is e in let lo = h.0 in absurd (omega (arith, f, lt, lo))
-        one true t c lt e le (inr h) = let f = some_is e in let lo = h.0 in absurd (omega (arith, f, lt, lo, le))
-        one false true c lt e le (inl h) = let f = some_is e in let hi = h.1 in absurd (omega (arith, f, hi, le))
-        one false true c lt e le (inr h) = let f = some_is e in let lo = h.0 in absurd (omega (arith, f, lo))
-        one false false c lt e le h = none_is e
-
-        room_for : (s t : Bool) → a + (wide_of (way s false) (size x.0) + wide_in xs) ≤ b → a + wide_of (way s t) (size x.0) + wide_in xs ≤ lent_of (way s t) + b
+        room_for : (s t : Bool) → a + (wide_of (way s false) (room lay x.0) + wide_in p lay xs) ≤ b → a + wide_of (way s t) (room lay x.0) + wide_in p lay xs ≤ b + 8 * lent_of (way s t)
         room_for true t le = omega (arith, le)
         room_for false true le = omega (arith, le)
         room_for false false le = omega (arith, le)
 
-    -- where a variable is
-    abbrev pub SiteIs : Mask → (a b : ℕ) → Pairs → ℕ → ℕ → Site → Type 0
-    SiteIs lent a b xs x k site = ((site ≡ Register) × (is_wide k ≡ false) × (own_at lent a b xs (first xs x) ≡ None))
-        ⊎ ((n : ℕ) × (site ≡ Memory (8 * n)) × (n + size k ≤ b + lent_in lent xs) × ((j : ℕ) → j < size k → own_at lent a b xs (first xs x + j) ≡ Some (base + (n + j))))
+    -- where a variable is, as lowering has it
+    abbrev pub SiteIs : Option ℕ → ℕ → Site → Type 0
+    SiteIs own k site = ((site ≡ Register) × (is_wide p k ≡ false) × (own ≡ None)) ⊎ ((n : ℕ) × (site ≡ Memory n) × (own ≡ Some (base + n)))
 
-    abbrev SiteBehind : Mask → (a b : ℕ) → ℕ × Option ℕ → Pairs → (x k : ℕ) (s t : Bool) → Site → Type 0
-    SiteBehind lent a b y xs x k s t site = ((site ≡ Register) × (is_wide k ≡ false) × (own_at lent a b (y ∷ xs) (first (y ∷ xs) (suc x)) ≡ None))
-        ⊎ ((n : ℕ) × (site ≡ Memory (8 * n)) × (n + size k ≤ b + (lent_of (way s t) + lent_in (rest lent) xs)) × ((j : ℕ) → j < size k → own_at lent a b (y ∷ xs) (first (y ∷ xs) (suc x) + j) ≡ Some (base + (n + j))))
-
-    pub site_is : (lent : Mask) (a b : ℕ) (xs : Pairs) (x k : ℕ) (none : Variable) → a + wide_in xs ≤ b → slice_get (types_in xs) x ≡ Some k → SiteIs lent a b xs x k (slice_index_or (placed p.types lay lent (8 * a) (8 * b) xs) x none).site
-    site_is lent a b [] x k none le at = absurd (none_is at)
-    site_is lent a b (y ∷ xs) zero k none le at = subst (λ k. SiteIs lent a b (y ∷ xs) 0 k (slice_index_or (placed p.types lay lent (8 * a) (8 * b) (y ∷ xs)) 0 none).site) (some_is at)
-        (subst (λ vs. SiteIs lent a b (y ∷ xs) 0 y.0 (slice_index_or vs 0 none).site) (sym (placed_is lent a b y xs))
-        (by (is_wide y.0) refl (lent 0) le (λ j lt. own_first lent a b y xs j lt)))
+    pub site_is : (lent : Mask) (a b : ℕ) (xs : Pairs) (x k : ℕ) (none : Variable) → slice_get (types_in xs) x ≡ Some k → SiteIs (own_at p lay base lent a b xs x) k (slice_index_or (placed p.types lay lent a b xs) x none).site
+    site_is lent a b [] x k none at = absurd (none_is at)
+    site_is lent a b (y ∷ xs) zero k none at = subst (λ vs. SiteIs (own_at p lay base lent a b (y ∷ xs) 0) k (slice_index_or vs 0 none).site) (sym (placed_all p lay lent a b y xs))
+        (subst (λ k. SiteIs (own_at p lay base lent a b (y ∷ xs) 0) k (site_by p lay (way (is_wide p y.0) (lent 0)) a b)) (some_is at) (by (is_wide p y.0) refl (lent 0)))
       where
-        from_zero : (j : ℕ) → 0 + j ≡ j
-        from_zero j = omega arith
+        by : (s : Bool) → is_wide p y.0 ≡ s → (t : Bool) → SiteIs (own_by p lay base (way s t) a b) y.0 (site_by p lay (way s t) a b)
+        by true is t = inr (a, refl, refl)
+        by false is true = inr (b, refl, refl)
+        by false is false = inl (refl, is, refl)
+    site_is lent a b (y ∷ xs) (suc x) k none at = subst (λ vs. SiteIs (own_at p lay base lent a b (y ∷ xs) (suc x)) k (slice_index_or vs (suc x) none).site) (sym (placed_all p lay lent a b y xs))
+        (site_is (rest lent) (a + wide_of (way (is_wide p y.0) (lent 0)) (room lay y.0)) (b + 8 * lent_of (way (is_wide p y.0) (lent 0))) xs x k none at)
 
-        by : (s : Bool) → is_wide y.0 ≡ s → (t : Bool) → a + (wide_of (way s false) (size y.0) + wide_in xs) ≤ b → ((j : ℕ) → j < size y.0 → own_at lent a b (y ∷ xs) j ≡ own_by (way s t) a b j true None)
-            → ((((slice_index_or (placed_by (way s t) lent a b y xs) 0 none).site ≡ Register) × (is_wide y.0 ≡ false) × (own_at lent a b (y ∷ xs) 0 ≡ None))
-            ⊎ ((n : ℕ) × ((slice_index_or (placed_by (way s t) lent a b y xs) 0 none).site ≡ Memory (8 * n)) × (n + size y.0 ≤ b + (lent_of (way s t) + lent_in (rest lent) xs)) × ((j : ℕ) → j < size y.0 → own_at lent a b (y ∷ xs) (0 + j) ≡ Some (base + (n + j)))))
-        by true is t le e = inr (a, refl, omega (arith, le), λ j lt. ap (own_at lent a b (y ∷ xs)) (from_zero j) ∙ e j lt)
-        by false is true le e = let one = single y.0 is in inr (b, refl, omega (arith, one), λ j lt. ap (own_at lent a b (y ∷ xs)) (from_zero j) ∙ e j lt ∙ ap (λ n. Some (base + n)) (omega (arith, lt, one)))
-        by false is false le e = let one = single y.0 is in inl (refl, is, e 0 (omega (arith, one)))
-    site_is lent a b (y ∷ xs) (suc x) k none le at =
-        subst (λ vs. SiteIs lent a b (y ∷ xs) (suc x) k (slice_index_or vs (suc x) none).site) (sym (placed_is lent a b y xs))
-        (by (is_wide y.0) (lent 0) le (λ u v e f c. own_rest lent a b y xs c ∙ ap₂ (λ u v. own_at (rest lent) u v xs c) (sym e) (sym f)) (λ a b le. site_is (rest lent) a b xs x k none le at))
-      where
-        by : (s t : Bool) → a + (wide_of (way s false) (size y.0) + wide_in xs) ≤ b → ((u v : ℕ) → u ≡ a + wide_of (way s t) (size y.0) → v ≡ lent_of (way s t) + b → (c : ℕ) → own_at lent a b (y ∷ xs) (size y.0 + c) ≡ own_at (rest lent) u v xs c)
-            → ((a b : ℕ) → a + wide_in xs ≤ b → SiteIs (rest lent) a b xs x k (slice_index_or (placed p.types lay (rest lent) (8 * a) (8 * b) xs) x none).site)
-            → SiteBehind lent a b y xs x k s t (slice_index_or (placed_by (way s t) lent a b y xs) (suc x) none).site
-        by true t le e more = moved (more (a + size y.0) b (omega (arith, le)))
-          where
-            moved : SiteIs (rest lent) (a + size y.0) b xs x k (slice_index_or (placed p.types lay (rest lent) (8 * (a + size y.0)) (8 * b) xs) x none).site → SiteBehind lent a b y xs x k true t (slice_index_or (placed p.types lay (rest lent) (8 * (a + size y.0)) (8 * b) xs) x none).site
-            moved (inl h) = inl (h.0, h.1, ap (own_at lent a b (y ∷ xs)) (first_more y xs x) ∙ e (a + size y.0) b (omega arith) (omega arith) (first xs x) ∙ h.2)
-            moved (inr h) = let fit = h.2 in inr (h.0, h.1, omega (arith, fit), λ j lt. ap (own_at lent a b (y ∷ xs)) (let f = first_more y xs x in omega (arith, f)) ∙ e (a + size y.0) b (omega arith) (omega arith) (first xs x + j) ∙ h.3 j lt)
-        by false true le e more = moved (more a (suc b) (omega (arith, le)))
-          where
-            moved : SiteIs (rest lent) a (suc b) xs x k (slice_index_or (placed p.types lay (rest lent) (8 * a) (8 * suc b) xs) x none).site → SiteBehind lent a b y xs x k false true (slice_index_or (placed p.types lay (rest lent) (8 * a) (8 * suc b) xs) x none).site
-            moved (inl h) = inl (h.0, h.1, ap (own_at lent a b (y ∷ xs)) (first_more y xs x) ∙ e a (suc b) (omega arith) (omega arith) (first xs x) ∙ h.2)
-            moved (inr h) = let fit = h.2 in inr (h.0, h.1, omega (arith, fit), λ j lt. ap (own_at lent a b (y ∷ xs)) (let f = first_more y xs x in omega (arith, f)) ∙ e a (suc b) (omega arith) (omega arith) (first xs x + j) ∙ h.3 j lt)
-        by false false le e more = moved (more a b (omega (arith, le)))
-          where
-            moved : SiteIs (rest lent) a b xs x k (slice_index_or (placed p.types lay (rest lent) (8 * a) (8 * b) xs) x none).site → SiteBehind lent a b y xs x k false false (slice_index_or (placed p.types lay (rest lent) (8 * a) (8 * b) xs) x none).site
-            moved (inl h) = inl (h.0, h.1, ap (own_at lent a b (y ∷ xs)) (first_more y xs x) ∙ e a b (omega arith) (omega arith) (first xs x) ∙ h.2)
-            moved (inr h) = let fit = h.2 in inr (h.0, h.1, omega (arith, fit), λ j lt. ap (own_at lent a b (y ∷ xs)) (let f = first_more y xs x in omega (arith, f)) ∙ e a b (omega arith) (omega arith) (first xs x + j) ∙ h.3 j lt)
+-- a variable is a node of its own
+pub own_variable : (p : Program) (packed : Bool) (ks : List ℕ) (v k : ℕ) → slice_get ks v ≡ Some k → VariableNode packed (map (data_tree p.types) ks) v (cells_of_all p.types (take v ks)) 0 (data_tree p.types k)
+own_variable p packed [] v k at = absurd (none_is at)
+own_variable p packed (l ∷ ls) zero k at = subst (λ n. Node packed (data_tree p.types l) 0 0 (data_tree p.types n)) (some_is at) (node_self packed (data_tree p.types l))
+own_variable p packed (l ∷ ls) (suc v) k at =
+    let a = sum_by-cons (λ n. n) (cells p.types l) (map (cells p.types) (take v ls)) in
+    let b = cells_are p.types l in
+    (cells_of_all p.types (take v ls), own_variable p packed ls v k at, omega (arith, a, b))

@@ -1,8 +1,7 @@
 -- All calls of a program do what they mean, by turns.
-use Rattle.lowered_runs.specs.Claims.{has_constants, ConstantsStand}
 use Rattle.std.proofs.Common.{◌≡◌, ℕ, zero, suc, ◌+◌, ◌<◌, ◌≤◌, List, [], ◌∷◌, ◌++◌, map, length, Bool, true, false, not, ◌&&◌, ◌||◌, refl, sym, ap, ◌∙◌, subst, arith, Option, Some, None}
 use Rattle.std.specs.Prelude.{slice_index_or, is_some, nat_lt}
-use Rattle.a64_memory.specs.Areas.{heap_word}
+use Rattle.a64_memory.specs.Areas.{heap_base}
 use Rattle.run_laws.specs.Runs.{weigh}
 use Rattle.run_laws.specs.Layers.{places_from, points_of_all}
 use Rattle.run_laws.proofs.Comes.{comes_spend, comes_spent}
@@ -25,19 +24,25 @@ use Rattle.ob_types.specs.declared.statements.Checked.{Checked}
 use Rattle.ob_types.proofs.Tests.{no, and_of}
 use Rattle.ob_sound.proofs.Typed.{lt_of}
 use Rattle.ob_sound.proofs.Handing.{AllTaken, all_taken_push}
-use Rattle.ob_sound.proofs.Programs.{s_at_most, last_index}
+use Rattle.ob_sound.proofs.Programs.{s_at_most}
 use Rattle.ssa_core.specs.Procedures.{procedure, procedures}
-use Rattle.ssa_lowered.specs.Data.{Layout, layout, globals_room}
+use Rattle.ssa_lowered.specs.Data.{Layout, IsLayout}
+use Rattle.block_runs.specs.Effects.{char_bytes}
+use Rattle.object_nodes.specs.Running.{forms_of_all}
+use Rattle.ob_types.specs.Meaning.{texts_of}
+use Rattle.std.proofs.lemmas.List.{map-append}
 use Rattle.ssa_lowered.specs.Pieces.{Cursor}
 use Rattle.ssa_lowered.specs.Variables.{lent_by_list, lent_by_answer}
-use Rattle.ssa_lowered.specs.Lowered.{Here, here_of, lowered, made_of, proc_of}
+use Rattle.ssa_lowered.specs.Lowered.{Here, here_of, procs_from, made_of, proc_of}
 use Rattle.ssa_lowered.specs.Lowered.{answer as lower_answer}
-use Rattle.lowered_runs.specs.Words.{same_trap, Whole, Level, Right}
+use Rattle.lowered_runs.specs.Words.{same_trap, Whole, Level, Right, Apart}
 use Rattle.lowered_runs.proofs.Standing.{shared}
 use Rattle.lowered_runs.proofs.Ready.{Position, system, frame_at}
 use Rattle.lowered_runs.proofs.Points.{whole_weight, one_within, procedure_at}
 use Rattle.lowered_runs.proofs.Starting.{whole_of}
-use Rattle.lowered_runs.proofs.Frames.{Activation, above, with_frame}
+use Rattle.lowered_runs.specs.Claims.{ConstantsStandBy}
+use Rattle.held_stores.specs.Changes.{with_frame}
+use Rattle.lowered_runs.proofs.Frames.{Activation, above}
 use Rattle.lowered_runs.proofs.Calls.{Stacked, Calling, GivesFor}
 use Rattle.lowered_runs.proofs.Activations.{DataPlaced, activation, laid, stacked_above, apart_above, variables_above, lent_above}
 use Rattle.lowered_runs.proofs.Returns.{IsGiven}
@@ -67,15 +72,12 @@ answer_given : (p : Program) (l : Layout) (here : Here) (e : Option Checked) (c 
 answer_given p l here None c h = no h
 answer_given p l here (Some x) c h = refl
 
-module _ (p : Program) (input : List ℕ) (code : ℕ → ℕ) (constants : List ℕ) (n : ℕ) where
-  abbrev pub lay : Layout
-  lay = layout p.types
-
+module _ (p : Program) (packed : Bool) (lay : Layout) (laid_by : IsLayout packed p.types lay) (character : lay.character ≡ char_bytes) (input : List ℕ) (code : ℕ → ℕ) (constants : List ℕ) (n : ℕ) where
   abbrev pub w : Whole
-  w = whole_of p input code constants n
+  w = whole_of p packed lay input code constants n
 
   abbrev pub ps : List Procedure
-  ps = procedures (lowered p)
+  ps = procedures (procs_from p lay 0 p.procedures)
 
   pub coded_at : (g : ℕ) → g < length p.procedures → coded ps g ≡ procedure (proc_of p lay g (procedure_of p g))
   coded_at g lt = let z : 0 + g ≡ g = omega arith in procedure_at p lay 0 p.procedures g (procedure_of p g) (found p.procedures g _ lt) ∙ ap (λ i. procedure (proc_of p lay i (procedure_of p g))) z
@@ -90,12 +92,12 @@ module _ (p : Program) (input : List ℕ) (code : ℕ → ℕ) (constants : List
       let e = ap (λ i. whole_weight p lay i (procedure_of p g) h) z in
       omega (arith, a, b, d, e)
 
-  module _ (good : types_fine p.types ≡ true) (all_fine : (f : ℕ) → f < length p.procedures → WellFormed.procedure_fine p f ≡ true) (codes : AreCodePlaces (length ps) code) (declared : WellFormed.declarations_fine p ≡ true) (small : globals_room p lay ≤ 0x800000) (standing : has_constants p ≡ true → ConstantsStand p constants) where
+  module _ (good : types_fine p.types ≡ true) (all_fine : (f : ℕ) → f < length p.procedures → WellFormed.procedure_fine p f ≡ true) (codes : AreCodePlaces (length ps) code) (declared : WellFormed.declarations_fine p ≡ true) (standing : 0 < length p.types.records + length (texts_of p.procedures) → ConstantsStandBy p lay constants) where
     right : Right w
-    right = right_of_code p input code constants n 0 0 no_store codes declared
+    right = right_of_code p packed lay laid_by character input code constants n 0 0 no_store codes declared
 
     data_at : DataPlaced w
-    data_at = data_placed p input code constants n 0 0 no_store declared small standing
+    data_at = data_placed p packed lay laid_by character input code constants n 0 0 no_store declared standing
 
     given_by : (g : ℕ) (def : Option ℕ) (r : Option Form) (e : Option Checked) → WellFormed.form_of p (procedure_of p g).result ≡ r → (procedure_of p g).answer ≡ e → WellFormed.answer_fine p g r e ≡ true → GivesFor p g def → IsGiven def (made_of p lay g (procedure_of p g)).result
     given_by g None r e is at fine gives = tt
@@ -106,7 +108,7 @@ module _ (p : Program) (input : List ℕ) (code : ℕ → ℕ) (constants : List
     given_by g (Some v) (Some k) None is at fine gives = no fine
     given_by g (Some v) (Some k) (Some x) is at fine gives = answer_given p lay (here_of p lay g (procedure_of p g)) (procedure_of p g).answer _ (ap is_some at)
 
-    module _ (fuel : ℕ) (calling : Calling w good fuel (at_most p fuel)) (l : Level) (stacked : Stacked l) (g : ℕ) (hs : List Handed) (xs : List ℕ) (c : Position) (f : ℕ → ℕ) (there : g < length p.procedures) where
+    module _ (fuel : ℕ) (calling : Calling w good fuel (at_most p fuel)) (l : Level) (apart : Apart w l) (stacked : Stacked l) (g : ℕ) (hs : List Handed) (xs : List ℕ) (c : Position) (f : ℕ → ℕ) (there : g < length p.procedures) where
       abbrev q : Declared
       q = procedure_of p g
 
@@ -119,42 +121,49 @@ module _ (p : Program) (input : List ℕ) (code : ℕ → ℕ) (constants : List
       fine_code : (all (WellFormed.fine p g) q.body ≡ true) × (WellFormed.answer_fine p g (WellFormed.form_of p q.result) q.answer ≡ true)
       fine_code = and_of (all (WellFormed.fine p g) q.body) (WellFormed.answer_fine p g (WellFormed.form_of p q.result) q.answer) fine_parts.1
 
-      module _ (s : Objects) (cs : List Cell) (words_small : l.local + k.words ≤ heap_word) (taken : AllTaken p good l.forms s.tags q.formals hs) where
+      module _ (s : Objects) (cs : List Cell) (bytes_small : l.local + k.bytes ≤ heap_base) (taken : AllTaken p good (forms_of_all p l.types) s.tags q.formals hs) where
         abbrev u : Level
         u = above l k (with_frame cs s)
 
-        own_forms : slice_index_or u.forms u.frame [] ≡ joined (forms p.types) (locals_of q)
-        own_forms = subst (λ i. slice_index_or u.forms i [] ≡ joined (forms p.types) (locals_of q)) stacked.depth (last_index p good l.forms k.forms)
+        last_forms : (vs : List (List ℕ)) (ks : List ℕ) → slice_index_or (forms_of_all p (vs ++ ks ∷ [])) (length vs) [] ≡ joined (forms p.types) ks
+        last_forms [] ks = refl
+        last_forms (v ∷ vs) ks = last_forms vs ks
+
+        own_forms : slice_index_or (forms_of_all p u.types) u.frame [] ≡ joined (forms p.types) (locals_of q)
+        own_forms = last_forms l.types (locals_of q)
+
+        taken_above : AllTaken p good (forms_of_all p u.types) s.tags q.formals hs
+        taken_above = subst (λ fs. AllTaken p good fs s.tags q.formals hs) (sym (map-append (joined (forms p.types)) l.types (locals_of q ∷ []))) (all_taken_push p good (forms_of_all p l.types) (joined (forms p.types) (locals_of q)) s.tags q.formals hs taken)
 
         pub serves : Serves w u fuel (at_most p fuel)
         serves = record {
-          body = list_is w u right (apart_above w l g hs xs (frame_at l c f) (with_frame cs s)) (variables_above w l g hs xs (frame_at l c f) (with_frame cs s) data_at words_small) good (at_most p fuel) (s_at_most p good all_fine fuel) own_forms
-              (all_taken_push p good l.forms k.forms s.tags q.formals hs taken) (stacked_above w l g hs xs (frame_at l c f) (with_frame cs s) stacked) fuel calling (λ x. true) q.body fine_code.0 (λ x. refl)
+          body = list_is w u right (apart_above w l g hs xs (frame_at l c f) (with_frame cs s) good laid_by stacked.depth) (variables_above w l g hs xs (frame_at l c f) (with_frame cs s) good laid_by stacked.depth data_at bytes_small) good (at_most p fuel) (s_at_most p good all_fine fuel) own_forms
+              taken_above (stacked_above w l g hs xs (frame_at l c f) (with_frame cs s) stacked) fuel calling (λ x. true) q.body fine_code.0 (λ x. refl)
               (λ x e. lent_above w l g hs xs (frame_at l c f) (with_frame cs s) x (either_left (lent_by_list q.body x) (lent_by_answer q.answer x) e));
-          result = answer_is w u right (apart_above w l g hs xs (frame_at l c f) (with_frame cs s)) (variables_above w l g hs xs (frame_at l c f) (with_frame cs s) data_at words_small) good (at_most p fuel) (s_at_most p good all_fine fuel) own_forms
-              (all_taken_push p good l.forms k.forms s.tags q.formals hs taken) (stacked_above w l g hs xs (frame_at l c f) (with_frame cs s) stacked) fuel calling (WellFormed.form_of p q.result) q.answer fine_code.1
+          result = answer_is w u right (apart_above w l g hs xs (frame_at l c f) (with_frame cs s) good laid_by stacked.depth) (variables_above w l g hs xs (frame_at l c f) (with_frame cs s) good laid_by stacked.depth data_at bytes_small) good (at_most p fuel) (s_at_most p good all_fine fuel) own_forms
+              taken_above (stacked_above w l g hs xs (frame_at l c f) (with_frame cs s) stacked) fuel calling (WellFormed.form_of p q.result) q.answer fine_code.1
               (λ x e. lent_above w l g hs xs (frame_at l c f) (with_frame cs s) x (either_right (lent_by_list q.body x) (lent_by_answer q.answer x) e));
         }
 
     -- calls, for at most so many turns
     pub calling_all : (fuel : ℕ) → Calling w good fuel (at_most p fuel)
     calling_all zero = record {
-      by = λ l g hs xs def most c f s m room free op rest stacked ok gives le within stands def_is at held typed taken words.
+      by = λ l g hs xs def most c f s m room free op rest stacked apart ok gives le within stands def_is at held typed taken words.
           comes_spent HasSense (system w) (least w.procedures) w.points w.first w.turns same_trap at (let b = at.bound in omega (arith, b, le));
     }
     calling_all (suc fuel) = record {
-      by = λ l g hs xs def most c f s m room free op rest stacked ok gives le within stands def_is at held typed taken words.
+      by = λ l g hs xs def most c f s m room free op rest stacked apart ok gives le within stands def_is at held typed taken words.
           let parts = and_of (nat_lt g (length p.procedures)) (not (procedure_of p g).is_body) ok in
           let there = lt_of p g (length p.procedures) parts.0 in
           let calling = calling_all fuel in
-          let fine = fine_parts fuel calling l stacked g hs xs c f there in
-          let code_fine = fine_code fuel calling l stacked g hs xs c f there in
+          let fine = fine_parts fuel calling l apart stacked g hs xs c f there in
+          let code_fine = fine_code fuel calling l apart stacked g hs xs c f there in
           comes_spend HasSense (system w) (least w.procedures) w.points w.first w.turns same_trap s (λ u. invoked p (at_most p fuel) fuel g hs) (λ h. whole_weight p lay g (procedure_of p g) h + shared h) at (points_at g there)
           (λ turns is reached. let bound = at.bound in
-          invoked_goes w right good l stacked g hs xs def most c f free op rest stands def_is within (coded_at g there) (not_body (procedure_of p g).is_body parts.1) fine.0 (points_at g there)
+          invoked_goes w right good l apart stacked g hs xs def most c f free op rest stands def_is within (coded_at g there) (not_body (procedure_of p g).is_body parts.1) fine.0 (points_at g there)
           (given_by g def (WellFormed.form_of p (procedure_of p g).result) (procedure_of p g).answer refl refl code_fine.1 gives)
           fuel (at_most p fuel) turns (omega (arith, bound, is)) (omega (arith, bound, is, le))
-          (λ t cs m0 entered fits. serves fuel calling l stacked g hs xs c f there t cs (let low = entered.held.room.local_ends in let fit = (laid w l g hs xs (frame_at l c f)).fits in omega (arith, low, fit, fits)) entered.taken)
+          (λ t cs m0 entered fits. serves fuel calling l apart stacked g hs xs c f there t cs (let low = entered.held.room.local_ends in let fit = (laid w l g hs xs (frame_at l c f) good laid_by).fits in omega (arith, low, fit, fits)) entered.taken)
           (record s { turns = turns }) m turns (omega arith) (record { held = held; typed = typed; taken = taken; words = words }) reached);
     }
       where

@@ -1,6 +1,5 @@
 -- Whole programs: the bodies of the modules, one after the other.
-use Rattle.lowered_runs.specs.Claims.{has_constants, ConstantsStand}
-use Rattle.std.proofs.Common.{◌≡◌, ℕ, zero, suc, ◌+◌, ◌*◌, ◌<◌, ◌≤◌, List, [], ◌∷◌, ◌++◌, map, length, drop, true, false, not, ◌&&◌, slice_get, refl, sym, ap, ap₂, ◌∙◌, subst, arith, Option, Some, None, filter}
+use Rattle.std.proofs.Common.{◌≡◌, ℕ, zero, suc, ◌+◌, ◌*◌, ◌<◌, ◌≤◌, List, [], ◌∷◌, ◌++◌, map, length, drop, true, false, not, ◌&&◌, slice_get, Bool, refl, sym, ap, ap₂, ◌∙◌, subst, arith, Option, Some, None, filter}
 use Rattle.std.specs.Prelude.{nat_lt}
 use Rattle.run_laws.specs.Runs.{Keeps, weigh}
 use Rattle.run_laws.specs.Layers.{places_from, points_of_all}
@@ -35,11 +34,12 @@ use Rattle.ob_sound.proofs.Typed.{lt_of}
 use Rattle.ob_sound.proofs.Handing.{AllTaken}
 use Rattle.ob_sound.proofs.Programs.{s_at_most, start_typed, makes_sense}
 use Rattle.ssa_core.specs.Procedures.{procedure, procedures, code_blocks}
-use Rattle.ssa_lowered.specs.Data.{Layout, layout, globals_room}
+use Rattle.ssa_lowered.specs.Data.{Layout, IsLayout, globals_room}
+use Rattle.block_runs.specs.Effects.{char_bytes}
 use Rattle.ssa_lowered.specs.Pieces.{Cursor, Made}
 use Rattle.ssa_lowered.specs.Places.{Leaves, Stand}
 use Rattle.ssa_lowered.specs.Variables.{structured_room, scalars_lent}
-use Rattle.ssa_lowered.specs.Lowered.{lowered, proc_of, made_of, here_of, deeds_of, at_entry, lent_in_body}
+use Rattle.ssa_lowered.specs.Lowered.{procs_from, proc_of, made_of, here_of, deeds_of, at_entry, lent_in_body}
 use Rattle.ssa_lowered.proofs.Stands.{proc_stands}
 use Rattle.lowered_runs.specs.Words.{same_trap, Whole, Level, Held, AreInput}
 use Rattle.ob_types.specs.Layout.{kind_of}
@@ -56,9 +56,10 @@ use Rattle.lowered_runs.proofs.Forks.{Ends_at, end_step}
 use Rattle.lowered_runs.proofs.Structures.{Always}
 use Rattle.lowered_runs.proofs.Tree.{list_is}
 use Rattle.lowered_runs.proofs.Points.{whole_weight, bodies_weight, bodies_within, declared_at}
-use Rattle.lowered_runs.proofs.Starting.{whole_of, body_level, first_held}
+use Rattle.lowered_runs.proofs.Starting.{whole_of, body_level, first_held_by}
+use Rattle.lowered_runs.specs.Claims.{ConstantsStandBy}
 use Rattle.lowered_runs.proofs.Bodies.{plain_body, standing_in, enters_body, leaves_body}
-use Rattle.lowered_runs.proofs.Modules.{room_sizes, right_of_code, apart_in_body, variables_in_body, stacked_body, held_same}
+use Rattle.lowered_runs.proofs.Modules.{right_of_code, apart_in_body, variables_in_body, stacked_body}
 
 empty_is : {A : Type 0} (xs : List A) → is_empty xs ≡ true → xs ≡ []
 empty_is [] h = refl
@@ -84,18 +85,15 @@ at_end zero (x ∷ xs) e = absurd (cc)
 at_end (suc j) [] e = refl
 at_end (suc j) (x ∷ xs) e = at_end j xs e
 
-module _ (p : Program) (input : List ℕ) (code : ℕ → ℕ) (constants : List ℕ) (n : ℕ) where
-  abbrev lay : Layout
-  lay = layout p.types
-
+module _ (p : Program) (packed : Bool) (lay : Layout) (laid_by : IsLayout packed p.types lay) (character : lay.character ≡ char_bytes) (input : List ℕ) (code : ℕ → ℕ) (constants : List ℕ) (n : ℕ) where
   abbrev w : Whole
-  w = whole_of p input code constants n
+  w = whole_of p packed lay input code constants n
 
   abbrev ps : List Procedure
-  ps = procedures (lowered p)
+  ps = procedures (procs_from p lay 0 p.procedures)
 
   abbrev level : ℕ → ℕ → Store → Level
-  level q j s = body_level p input q j s
+  level q j s = body_level p packed lay input q j s
 
   -- the points of the bodies from the j-th on, and of the end
   abbrev left : ℕ → List Module → (Point → ℕ) → ℕ
@@ -106,11 +104,11 @@ module _ (p : Program) (input : List ℕ) (code : ℕ → ℕ) (constants : List
   record Between (j : ℕ) (ms : List Module) (s : Moment Store) : Type 0 where
     pub gain : ℕ
     pub memory : List Area
-    pub reached : Came_to w n gain s.turns s.out (Starts (world_of (level 0 j s.store) memory s.store)) (left j ms)
+    pub reached : Came_to w n gain s.turns s.out (Starts (world_of w (level 0 j s.store) memory s.store)) (left j ms)
     pub held : Held w (level 0 j s.store) s.store memory
     pub typed : Typing w (level 0 j s.store) s.store
 
-  module _ (good : types_fine p.types ≡ true) (all_fine : (f : ℕ) → f < length p.procedures → WellFormed.procedure_fine p f ≡ true) (codes : AreCodePlaces (length ps) code) (declared : WellFormed.declarations_fine p ≡ true) (small : globals_room p lay ≤ 0x800000) (standing : has_constants p ≡ true → ConstantsStand p constants) where
+  module _ (good : types_fine p.types ≡ true) (all_fine : (f : ℕ) → f < length p.procedures → WellFormed.procedure_fine p f ≡ true) (codes : AreCodePlaces (length ps) code) (declared : WellFormed.declarations_fine p ≡ true) (standing : 0 < length p.types.records + length (texts_of p.procedures) → ConstantsStandBy p lay constants) where
     module _ (j : ℕ) (m : Module) (ms : List Module) (s : Moment Store) (fine : WellFormed.module_fine p m ≡ true) where
       abbrev q : ℕ
       q = m.body
@@ -143,7 +141,7 @@ module _ (p : Program) (input : List ℕ) (code : ℕ → ℕ) (constants : List
       none = ap₂ (λ a b. map (λ x. x.type_number) (filter (λ x. is_value x.mode) a) ++ b) no_formals no_locals
 
       is_at : coded ps q ≡ procedure (proc_of p lay q d)
-      is_at = coded_at p input code constants n q there
+      is_at = coded_at p packed lay laid_by character input code constants n q there
 
       uncounted : not d.is_body ≡ false
       uncounted = ap not (and_of (nat_lt m.body (length p.procedures)) d.is_body split.0).1
@@ -161,7 +159,7 @@ module _ (p : Program) (input : List ℕ) (code : ℕ → ℕ) (constants : List
       done = deeds_of p lay (here_of p lay q d) d.body first
 
       made : made_of p lay q d ≡ record { pieces = done.pieces ++ []; result = None; after = done.after }
-      made = plain_body p q d no_formals no_locals no_result
+      made = plain_body p lay q d no_formals no_locals no_result
 
       weight : (h : Point → ℕ) → whole_weight p lay q d h ≡ h (Entry q) + (bulk q done.pieces h + h (In q done.after.block done.after.op))
       weight h =
@@ -183,18 +181,18 @@ module _ (p : Program) (input : List ℕ) (code : ℕ → ℕ) (constants : List
       abbrev enough : (Point → ℕ) → ℕ
       enough h = bulk q done.pieces h + behind h
 
-      entered : slice_get (bodies ps) j ≡ Some q → (b : Between j (m ∷ ms) s) → Came_to w n 1 s.turns s.out (runs_at l (position first) (first_values (procedure (proc_of p lay q d)) []) b.memory s.store) enough
+      entered : slice_get (bodies ps) j ≡ Some q → (b : Between j (m ∷ ms) s) → Came_to w n 1 s.turns s.out (runs_at w l (position first) (first_values (procedure (proc_of p lay q d)) []) b.memory s.store) enough
       entered is b =
-          pass_quiet (system w) (least w.procedures) w.points w.first w.turns 1 enough (Entry q) (runs_at l (position first) (first_values (procedure (proc_of p lay q d)) []) b.memory s.store)
-          (pass_quiet (system w) (least w.procedures) w.points w.first w.turns 1 (λ h. whole_weight p lay q d h + left (suc j) ms h) (Begin j) (Enters q [] [] (world_of l b.memory s.store)) b.reached refl
-          (ap (λ o. begin o (world_of l b.memory s.store)) is) (λ h. omega arith) (omega arith))
-          refl (enters_body ps q (world_of l b.memory s.store) (procedure (proc_of p lay q d)) is_at uncounted no_cells no_bytes (omega arith)) (λ h. let e = weight h in omega (arith, e)) (omega arith)
+          pass_quiet (system w) (least w.procedures) w.points w.first w.turns 1 enough (Entry q) (runs_at w l (position first) (first_values (procedure (proc_of p lay q d)) []) b.memory s.store)
+          (pass_quiet (system w) (least w.procedures) w.points w.first w.turns 1 (λ h. whole_weight p lay q d h + left (suc j) ms h) (Begin j) (Enters q [] [] (world_of w l b.memory s.store)) b.reached refl
+          (ap (λ o. begin o (world_of w l b.memory s.store)) is) (λ h. omega arith) (omega arith))
+          refl (enters_body ps q (world_of w l b.memory s.store) (procedure (proc_of p lay q d)) is_at uncounted no_cells no_bytes (omega arith)) (λ h. let e = weight h in omega (arith, e)) (omega arith)
 
       ready : slice_get (bodies ps) j ≡ Some q → (b : Between j (m ∷ ms) s) → Ready w l n 1 (position first) (first_values (procedure (proc_of p lay q d)) []) s enough
       ready is b = record {
         memory = b.memory;
         reached = entered is b;
-        held = held_same p input w 0 q j j s.store s.store s.store b.memory b.held;
+        held = b.held;
         size = refl;
         under = tt;
         registers = λ x lt. absurd (omega (arith, lt));
@@ -205,10 +203,10 @@ module _ (p : Program) (input : List ℕ) (code : ℕ → ℕ) (constants : List
       next_body t z = record {
         gain = 0;
         memory = z.ready.memory;
-        reached = pass_quiet (system w) (least w.procedures) w.points w.first w.turns 0 (left (suc j) ms) (In q done.after.block done.after.op) (Starts (world_of (level 0 (suc j) t.store) z.ready.memory t.store)) z.ready.reached refl
-            (end_step w l (position done.after) z.values z.ready.memory t.store (Return None) ends ∙ leaves_body ps q (world_of l z.ready.memory t.store) (procedure (proc_of p lay q d)) is_at uncounted no_cells no_bytes (omega arith))
+        reached = pass_quiet (system w) (least w.procedures) w.points w.first w.turns 0 (left (suc j) ms) (In q done.after.block done.after.op) (Starts (world_of w (level 0 (suc j) t.store) z.ready.memory t.store)) z.ready.reached refl
+            (end_step w l (position done.after) z.values z.ready.memory t.store (Return None) ends ∙ leaves_body ps q (world_of w l z.ready.memory t.store) (procedure (proc_of p lay q d)) is_at uncounted no_cells no_bytes (omega arith))
             (λ h. omega arith) (omega arith);
-        held = held_same p input w q 0 j (suc j) s.store t.store t.store z.ready.memory z.ready.held;
+        held = z.ready.held;
         typed = z.typed;
       }
 
@@ -218,8 +216,8 @@ module _ (p : Program) (input : List ℕ) (code : ℕ → ℕ) (constants : List
           let parts = and_of (all (formal_legal p.types) d.formals) (all (WellFormed.fine p q) d.body && WellFormed.answer_fine p q (WellFormed.form_of p d.result) d.answer) (all_fine q there) in
           let body = and_of (all (WellFormed.fine p q) d.body) (WellFormed.answer_fine p q (WellFormed.form_of p d.result) d.answer) parts.1 in
           goes_on w l (effects_of p (at_most p n) (record { procedure = q; frame = 0; arguments = [] }) n d.body s)
-          ((list_is w l (right_of_code p input code constants n q j s.store codes declared) (apart_in_body p input code constants n q j s.store) (variables_in_body p input code constants n q j s.store none declared small standing) good (at_most p n) (s_at_most p good all_fine n)
-          (sym (ap (λ ls. joined (forms p.types) ls) none)) (subst (λ xs. AllTaken p good [] s.store.tags xs []) (sym no_formals) tt) (stacked_body p input code constants n q j s.store) n (calling_all p input code constants n good all_fine codes declared small standing n) (λ x. true) d.body body.0 (λ x. refl) (λ x e. refl)).by
+          ((list_is w l (right_of_code p packed lay laid_by character input code constants n q j s.store codes declared) (apart_in_body p packed lay laid_by character input code constants n q j s.store) (variables_in_body p packed lay laid_by character input code constants n q j s.store declared standing none) good (at_most p n) (s_at_most p good all_fine n)
+          (sym (ap (λ ls. joined (forms p.types) ls) none)) (subst (λ xs. AllTaken p good [] s.store.tags xs []) (sym no_formals) tt) (stacked_body p packed lay laid_by character input code constants n q j s.store) n (calling_all p packed lay laid_by character input code constants n good all_fine codes declared standing n) (λ x. true) d.body body.0 (λ x. refl) (λ x e. refl)).by
           n 1 first (first_values (procedure (proc_of p lay q d)) []) s enough behind (omega arith) (omega arith) (omega arith) stands (λ h. omega arith) (λ h. let e = weight h in let f = fits h in omega (arith, e, f))
           (λ k x h f at. absurd (nothing (ap (λ xs. slice_get xs k) (sym no_formals) ∙ at))) b.typed (ready is b))
           (λ u t z. next_body t z)
@@ -234,10 +232,10 @@ module _ (p : Program) (input : List ℕ) (code : ℕ → ℕ) (constants : List
       by = record {
         most = n;
         gain = b.gain;
-        place = Starts (world_of (level 0 j s.store) b.memory s.store);
+        place = Starts (world_of w (level 0 j s.store) b.memory s.store);
         free = left j [];
         reached = b.reached;
-        stops = ap (λ o. begin o (world_of (level 0 j s.store) b.memory s.store)) (at_end j (bodies ps) rest);
+        stops = ap (λ o. begin o (world_of w (level 0 j s.store) b.memory s.store)) (at_end j (bodies ps) rest);
         fits = λ h. omega arith;
       };
     }
@@ -281,18 +279,17 @@ module _ (p : Program) (input : List ℕ) (code : ℕ → ℕ) (constants : List
   declared_well h = (and_of (types_fine p.types) (WellFormed.declarations_fine p) (and_of (types_fine p.types && WellFormed.declarations_fine p) (all (all (λ c. nat_lt c 256)) (texts_of p.procedures) && (all (WellFormed.module_fine p) p.modules && all_below (length p.procedures) (WellFormed.procedure_fine p))) h).0).1
 
   -- the procedures keep up with the meaning
-  pub keeps_up : well_formed p ≡ true → AreInput input → AreCodePlaces (length ps) code → globals_room p lay ≤ 0x800000 → globals_room p lay + length constants ≤ 0x10000000 → AreBytes constants → (has_constants p ≡ true → ConstantsStand p constants)
+  pub keeps_up_by : well_formed p ≡ true → AreInput input → AreCodePlaces (length ps) code → globals_room p lay + length constants ≤ 0x10000000 → AreBytes constants → (0 < length p.types.records + length (texts_of p.procedures) → ConstantsStandBy p lay constants)
       → Keeps (block_system ps code) (least ps) (all_points ps) same_trap (first_state (globals_room p lay) constants input) n (meaning p input n)
-  keeps_up h bytes codes small room are standing =
+  keeps_up_by h bytes codes room are standing =
       let parts = parts_of p h in
-      let order = bodies_in_modules p h in
-      let sizes = room_sizes p input in
+      let order = bodies_in_modules p lay h in
       keeps_comes HasSense (system w) (least w.procedures) w.points w.first w.turns same_trap (all_bodies p n p.modules (record { store = start p input; out = []; turns = n }))
       (makes_no_nonsense (all_bodies p n p.modules (record { store = start p input; out = []; turns = n })) (makes_sense p input n h bytes))
-      (bodies_run parts.table parts.procedures codes (declared_well h) small standing 0 p.modules (record { store = start p input; out = []; turns = n }) order parts.modules (enough_room order) (record {
+      (bodies_run parts.table parts.procedures codes (declared_well h) standing 0 p.modules (record { store = start p input; out = []; turns = n }) order parts.modules (enough_room order) (record {
         gain = 0;
         memory = (first_world (globals_room p lay) constants input).memory;
         reached = starts (system w) (least w.procedures) w.points w.first w.turns (left 0 p.modules) (λ h. let e = enough_room order h in omega (arith, e));
-        held = first_held p input code constants n room are (sym sizes) (omega (arith, sizes, small)) bytes standing (declared_well h) 0 0;
+        held = first_held_by p packed lay input code constants n laid_by room are bytes standing (declared_well h) 0 0;
         typed = start_typed p parts.table parts.procedures input parts.texts bytes;
       }))

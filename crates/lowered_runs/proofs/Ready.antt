@@ -1,5 +1,5 @@
 -- Where a run of lowered code stands, and what it has done by now.
-use Rattle.std.proofs.Common.{◌≡◌, ℕ, suc, ◌-◌, ◌*◌, ◌<◌, ◌≤◌, List, length, Bool, true, false, slice_index, Some}
+use Rattle.std.proofs.Common.{◌≡◌, ℕ, ◌-◌, ◌<◌, ◌≤◌, List, length, Bool, true, false, slice_index, Some}
 use Rattle.std.specs.Prelude.{sum, sum_by}
 use Rattle.run_laws.specs.Runs.{System}
 use Rattle.run_laws.specs.Turns.{Ending}
@@ -15,12 +15,14 @@ use Rattle.ob_types.specs.Sense.{HasSense}
 use Rattle.ob_types.specs.Store.{Cell, Store, Trap, cell_of}
 use Rattle.ob_sound.proofs.Typed.{Typed}
 use Rattle.ssa_lowered.specs.Pieces.{Cursor}
-use Rattle.lowered_runs.specs.Words.{same_trap, Whole, Level, sizes_of, next, ValueIs, Held, Later}
+use Rattle.object_nodes.specs.Running.{forms_of_all}
+use Rattle.held_stores.specs.Places.{next, object_cells}
+use Rattle.lowered_runs.specs.Words.{same_trap, Whole, Level, ground, ValueIs, Held, Later}
 use Rattle.lowered_runs.proofs.Values.{Under}
 
 -- the store's cells have the forms that their types say
 abbrev pub Typing : Whole → Level → Store → Type 0
-Typing w l s = Typed w.program l.forms s
+Typing w l s = Typed w.program (forms_of_all w.program l.types) s
 
 -- what is asked for, or nothing
 abbrev pub Asks : Bool → Type 0 → Type 0
@@ -44,23 +46,23 @@ position c = record { block = c.block; op = c.op; values = c.values; env = c.env
 abbrev pub system : Whole → System State Stop Point
 system w = block_system w.procedures w.code
 
-abbrev pub world_of : Level → List Area → Store → World
-world_of l m s = record {
+abbrev pub world_of : Whole → Level → List Area → Store → World
+world_of w l m s = record {
   memory = m;
   body = l.body;
   calls = 8192 - length l.sizes;
   cells = local_words - sum l.sizes;
-  local = 8 * l.local;
-  next = 8 * next (sizes_of s);
-  free = heap_words - sum_by suc (sizes_of s).heap;
+  local = l.local;
+  next = next (ground w) s.tags;
+  free = heap_words - sum_by (object_cells (ground w)) s.tags;
   input = s.input;
 }
 
 abbrev pub frame_at : Level → Position → (ℕ → ℕ) → Frame
 frame_at l c f = record { proc = l.proc; block = c.block; at = c.op; values = f; args = l.args }
 
-abbrev pub runs_at : Level → Position → (ℕ → ℕ) → List Area → Store → State
-runs_at l c f m s = Runs (frame_at l c f) l.callers (world_of l m s)
+abbrev pub runs_at : Whole → Level → Position → (ℕ → ℕ) → List Area → Store → State
+runs_at w l c f m s = Runs (frame_at l c f) l.callers (world_of w l m s)
 
 module _ (w : Whole) where
   abbrev pub Goes : {A : Type 0} → Ending Store Trap A → (A → At Store → Type 0) → Type 0
@@ -72,16 +74,16 @@ module _ (w : Whole) where
   module _ (l : Level) where
     -- register variables have their values
     abbrev pub Registers : List ℕ → (ℕ → ℕ) → Store → Type 0
-    Registers env f s = (x : ℕ) → x < l.count → l.in_register x ≡ true → (v : Cell) → cell_of s.frames l.frame (l.cell x) ≡ Some v → ValueIs w (sizes_of s) v (f (slice_index env x))
+    Registers env f s = (x : ℕ) → x < l.count → l.in_register x ≡ true → (v : Cell) → cell_of s.frames l.frame (l.cell x) ≡ Some v → ValueIs w s.tags v (f (slice_index env x))
 
     pub record Ready (most g : ℕ) (c : Position) (f : ℕ → ℕ) (s : At Store) (free : (Point → ℕ) → ℕ) : Type 0 where
       pub memory : List Area
-      pub reached : Came_to most g s.turns s.out (runs_at l c f memory s.store) free
+      pub reached : Came_to most g s.turns s.out (runs_at w l c f memory s.store) free
       pub held : Held w l s.store memory
       pub size : length c.env ≡ l.count
       pub under : Under c.values c.env
       pub registers : Registers c.env f s.store
-      pub since : Later l l.store s.store
+      pub since : Later w l l.store s.store
 
     pub ready_more : {most g : ℕ} {c : Position} {f : ℕ → ℕ} {s : At Store} {room : (Point → ℕ) → ℕ} (more less : ℕ) (free : (Point → ℕ) → ℕ) → Ready most g c f s room → most ≤ more → less ≤ g → ((h : Point → ℕ) → free h ≤ room h) → Ready more less c f s free
     ready_more {most} {g} {c} {f} {s} {room} more less free r le few fits = record {

@@ -1,11 +1,10 @@
 -- Elements of sets, bytes, and relations of values.
-use Rattle.std.proofs.Common.{◌≡◌, ◌≢◌, ℕ, zero, suc, ◌*◌, ◌<◌, ◌⊎◌, List, [], ◌∷◌, length, Bool, false, not, ⊎_elim, inl, inr, refl, sym, ap, ap₂, ◌∙◌, subst, arith, Some, None, eq-eqb, ne_eqb}
+use Rattle.std.proofs.Common.{◌≡◌, ◌≢◌, ℕ, zero, suc, ◌<◌, ◌⊎◌, List, [], ◌∷◌, Bool, false, not, ⊎_elim, inl, inr, refl, sym, ap, ap₂, ◌∙◌, subst, arith, Some, None, eq-eqb, ne_eqb}
 use Rattle.std.specs.Prelude.{option_map, nat_eq, bit_or}
 use Rattle.std.proofs.lemmas.Bool.{cases_eq}
 use Rattle.run_laws.specs.Turns.{Ending, Gives, Fails, Spent, after, give, ◌>>=◌}
 use Rattle.run_laws.specs.Turns.{State as At}
 use Rattle.a64_memory.specs.Memory.{Area}
-use Rattle.a64_memory.specs.Areas.{heap_word}
 use Rattle.wrapping_numbers.specs.Sets.{has, bit_words, span_words, has_words}
 use Rattle.wrapping_numbers.proofs.Bounds.{or64_lt}
 use Rattle.block_runs.specs.declared.code.Code.TheVariants.{Or, Set, Bit, Span, Has, Elem, Byte}
@@ -21,12 +20,15 @@ use Rattle.ssa_lowered.specs.Pieces.{Low, Mask, emits}
 use Rattle.ssa_lowered.specs.Pieces.{◌>>=◌ as ◌>>>◌}
 use Rattle.ssa_lowered.specs.Values.{condition, member}
 use Rattle.ssa_lowered.specs.Values.{compared as lower_compared, contained as lower_contained, with_element as lower_element, with_range as lower_range, as_byte as lower_byte}
-use Rattle.lowered_runs.specs.Words.{Whole, Level, Right, sizes_of, place, TagOf, Thing, ValueIs, Held}
-use Rattle.lowered_runs.proofs.Stores.{some_same}
+use Rattle.object_nodes.specs.Addresses.{Sides}
+use Rattle.held_stores.specs.Places.{place, Thing, TagOf}
+use Rattle.held_stores.proofs.Pieces.{place_above}
+use Rattle.lowered_runs.specs.Words.{Whole, Level, Right, ground, ValueIs, Held}
+use Rattle.lowered_runs.proofs.Stores.{some_same, code_is}
 use Rattle.lowered_runs.proofs.Ready.{Goes}
 use Rattle.lowered_runs.proofs.Numbers.{has_same, span_same, bit_same}
 use Rattle.lowered_runs.proofs.Follows.{Done, Fact, And as Both, Steady, steady_and, Grows, grows_bind, grows_give, grows_emits, grows_does, Follows, follows_bind, follows_give, follows_known, follows_emits, acts_give, acts_senseless}
-use Rattle.lowered_runs.proofs.Exprs.{CellIs, NumberIs, steady_cell, steady_number, made_bits, follows_bits, follows_number, follows_elem, follows_byte_test, place_above, place_there}
+use Rattle.lowered_runs.proofs.Exprs.{CellIs, NumberIs, steady_cell, steady_number, made_bits, follows_bits, follows_number, follows_elem, follows_byte_test}
 
 -- a value, and a test of it
 abbrev pub checked : {A : Type 0} → Act A → (A → Act (Unit {0})) → Act A
@@ -135,7 +137,7 @@ module _ (w : Whole) (l : Level) where
         grows = grows_bind w l (grows_does w l Byte (i ∷ [])) (λ u. grows_give w l i);
         by = λ most g c f s room free le needs few stands fits within known typed r.
             (follows_bind w l (steady_and w l steady (steady_number w l a i)) (follows_byte_test w l a i known.1.1.1) (λ u. grows_give w l i)
-            (λ u v. follows_give w l (Bits a) i (λ n f s h. h.1.1))).by most g c f s room free le needs few stands fits within known typed r;
+            (λ u v. follows_give w l (Bits a) i (λ n f s h. h.1.0.1))).by most g c f s room free le needs few stands fits within known typed r;
       })
 
   ---- Relations
@@ -168,24 +170,28 @@ module _ (w : Whole) (l : Level) where
 
   module _ (right : Right w) (s : Store) (m : List Area) (held : Held w l s m) where
     abbrev Is : Cell → ℕ → Type 0
-    Is c x = ValueIs w (sizes_of s) c x
+    Is c x = ValueIs w s.tags c x
 
     -- two objects at one place are one
-    object_one : (a b i : ℕ) → place (sizes_of s) a ≡ Some i → place (sizes_of s) b ≡ Some i → a ≡ b
-    object_one a b i e g = one (held.room.apart (TagOf a) (TagOf b) i (place_there heap_word (sizes_of s).heap a i e) (place_there heap_word (sizes_of s).heap b i g) e g)
+    object_one : (a b x : ℕ) → place (ground w) s.tags a ≡ Some x → place (ground w) s.tags b ≡ Some x → a ≡ b
+    object_one a b x e g = elim (held.room.apart (TagOf a) (TagOf b) x 8 x 8 (e, refl) (g, refl)) [
+      | inl same ↦ ap number same
+      | inr far ↦ absurd (beside far)
+    ]
       where
         number : Thing → ℕ
         number (TagOf o) = o
         number _ = 0
 
-        one : TagOf a ≡ TagOf b → a ≡ b
-        one e = ap number e
+        beside : Sides x 8 x 8 → ⊥
+        beside (inl le) = omega (arith, le)
+        beside (inr le) = omega (arith, le)
 
-    above : (a i x : ℕ) → place (sizes_of s) a ≡ Some i → x ≡ 8 * i → 0 < x
-    above a i x e is = let h = place_above heap_word (sizes_of s).heap a i e in omega (arith, h, is)
+    above : (a x : ℕ) → place (ground w) s.tags a ≡ Some x → 0 < x
+    above a x e = let h = place_above (ground w) s.tags a x e in omega (arith, h)
 
-    code_some : (g x : ℕ) → g < length w.procedures → x ≡ w.code g → 0 < x
-    code_some g x lt e = positive x (λ z. right.codes.nowhere g lt (sym e ∙ z))
+    code_some : (g x : ℕ) → (ground w).code g ≡ Some x → 0 < x
+    code_some g x e = let c = code_is w g x e in positive x (λ z. right.codes.nowhere g c.0 (sym c.1 ∙ z))
       where
         positive : (x : ℕ) → x ≢ 0 → 0 < x
         positive zero ne = absurd (ne refl)
@@ -197,20 +203,20 @@ module _ (w : Whole) (l : Level) where
       nat_eq a b,
       refl,
       alike x y a b
-          (λ e. let i = some_same (ap (place (sizes_of s)) (sym e) ∙ h.1) g.1 in let p = h.2 in let q = g.2 in omega (arith, i, p, q))
-          (λ e. let i : g.0 ≡ h.0 = (let p = h.2 in let q = g.2 in omega (arith, e, p, q)) in object_one a b h.0 h.1 (g.1 ∙ ap (λ n. Some n) i)),
+          (λ e. some_same (ap (place (ground w) s.tags) (sym e) ∙ h) g)
+          (λ e. object_one a b x h (g ∙ ap (λ n. Some n) (sym e))),
     )
     same_cells (Procedure a) (Procedure b) x y h g = inl (
       nat_eq a b,
       refl,
       alike x y a b
-          (λ e. h.1 ∙ ap w.code e ∙ sym g.1)
-          (λ e. right.codes.apart a b h.0 g.0 (sym h.1 ∙ e ∙ g.1)),
+          (λ e. some_same (ap (ground w).code (sym e) ∙ h) g)
+          (λ e. let i = code_is w a x h in let j = code_is w b y g in right.codes.apart a b i.0 j.0 (sym i.1 ∙ e ∙ j.1)),
     )
-    same_cells (Bits zero) (Pointer b) x y h g = inl (false, refl, apart_zero x y h.0 (above b g.0 y g.1 g.2))
-    same_cells (Bits zero) (Procedure b) x y h g = inl (false, refl, apart_zero x y h.0 (code_some b y g.0 g.1))
-    same_cells (Pointer a) (Bits zero) x y h g = inl (false, refl, zero_apart x y (above a h.0 x h.1 h.2) g.0)
-    same_cells (Procedure a) (Bits zero) x y h g = inl (false, refl, zero_apart x y (code_some a x h.0 h.1) g.0)
+    same_cells (Bits zero) (Pointer b) x y h g = inl (false, refl, apart_zero x y h.0 (above b y g))
+    same_cells (Bits zero) (Procedure b) x y h g = inl (false, refl, apart_zero x y h.0 (code_some b y g))
+    same_cells (Pointer a) (Bits zero) x y h g = inl (false, refl, zero_apart x y (above a x h) g.0)
+    same_cells (Procedure a) (Bits zero) x y h g = inl (false, refl, zero_apart x y (code_some a x h) g.0)
     same_cells (Bits (suc n)) (Pointer b) x y h g = inr refl
     same_cells (Bits (suc n)) (Procedure b) x y h g = inr refl
     same_cells (Pointer a) (Bits (suc n)) x y h g = inr refl

@@ -17,7 +17,7 @@ use Rattle.ob_types.specs.Operators.{holds}
 use Rattle.ob_types.specs.Statements.{Deed, test, try}
 use Rattle.ssa_lowered.specs.Pieces.{Cursor, Piece, Made, Low, Mask, close, fresh, plain, params, merged, beyond, picked, join, join_start}
 use Rattle.ssa_lowered.specs.Control.{Test, half, often, at_freq, choose, Round, behind, rounds, loop, repeat}
-use Rattle.lowered_runs.specs.Words.{same_trap, Whole, Level, sizes_of, ValueIs, Later}
+use Rattle.lowered_runs.specs.Words.{same_trap, Whole, Level, ValueIs, Later}
 use Rattle.lowered_runs.proofs.Stores.{later_on, later_refl}
 use Rattle.lowered_runs.proofs.Values.{Under, Same, Off, same_on, under_more, map_at, off_refl, off_on, off_merged, size_merged, under_merged, beyond_more, enter_same, enter_merged}
 use Rattle.lowered_runs.proofs.Standing.{Standing, stand_first, stand_rest, bulk, bulk_append}
@@ -43,8 +43,8 @@ module _ (w : Whole) (l : Level) where
   jump {most} {g} {c} {f} {s} {room} free to v mask base stands is off size under fits r = record {
     memory = r.memory;
     reached = pass_quiet (system w) (least w.procedures) w.points w.first w.turns g free (In l.proc c.block c.op)
-        (runs_at l (record { block = to; op = 0; values = beyond mask v base; env = merged mask v base }) (set_all (params mask v base) (map f (picked mask c.env)) f) r.memory s.store) r.reached refl
-        (end_step w l c f r.memory s.store (Jump to (picked mask c.env)) stands ∙ ap (λ ps. Moves [] (runs_at l (record { block = to; op = 0; values = beyond mask v base; env = merged mask v base }) (set_all ps (map f (picked mask c.env)) f) r.memory s.store)) is) fits (omega arith);
+        (runs_at w l (record { block = to; op = 0; values = beyond mask v base; env = merged mask v base }) (set_all (params mask v base) (map f (picked mask c.env)) f) r.memory s.store) r.reached refl
+        (end_step w l c f r.memory s.store (Jump to (picked mask c.env)) stands ∙ ap (λ ps. Moves [] (runs_at w l (record { block = to; op = 0; values = beyond mask v base; env = merged mask v base }) (set_all ps (map f (picked mask c.env)) f) r.memory s.store)) is) fits (omega arith);
     held = r.held;
     size = size_merged mask v base ∙ size;
     under = under_merged mask v base under;
@@ -53,7 +53,7 @@ module _ (w : Whole) (l : Level) where
         let long = size_merged mask v base in
         let other = off.size in
         let e : f (slice_index c.env x) ≡ g2 (slice_index (merged mask v base) x) = sym (map_at f c.env x (omega (arith, lt, other, size))) ∙ sym (ap (λ us. slice_index us x) (enter_merged mask v base c.env f off under)) ∙ map_at g2 (merged mask v base) x (omega (arith, lt, long, size)) in
-        subst (λ n. ValueIs w (sizes_of s.store) d n) e (r.registers x lt reg d at);
+        subst (λ n. ValueIs w s.store.tags d n) e (r.registers x lt reg d at);
     since = r.since;
   }
 
@@ -109,7 +109,7 @@ module _ (w : Whole) (l : Level) where
     joins : (most : ℕ) (c : Cursor) (s : Store) (f : ℕ → ℕ) (free : (Point → ℕ) → ℕ) (v : ℕ → ℕ) (t : Store) (start : Cursor) (d : Made (Unit {0})) (u : At Store)
         → start.env ≡ (tries c).after.env → (tries c).after.values ≤ start.values → start.values ≤ d.after.values → d.after.values ≤ (ltwo (no_at c)).after.values
         → Ends_at w l d.after.block d.after.op (Jump (out_at c).block (picked mask d.after.env)) → Begins_with (out_at c).block (params mask (ltwo (no_at c)).after.values (tries c).after.env)
-        → length (tries c).after.env ≡ l.count → Under (tries c).after.values (tries c).after.env → Later l s t → Same c.values f v
+        → length (tries c).after.env ≡ l.count → Under (tries c).after.values (tries c).after.env → Later w l s t → Same c.values f v
         → Done w l Always mask most 1 start d t v (λ h. h (In l.proc d.after.block d.after.op) + free h) tt u → Done w l Always mask most 1 c (choose mask tries lone ltwo c) s f free tt u
     joins most c s f free v t start d u env le0 le1 le2 stands is size under later same z =
         let base = (tries c).after.env in
@@ -177,7 +177,7 @@ module _ (w : Whole) (l : Level) where
   pub record Turned (most head : ℕ) (mask : Mask) (v : ℕ) (base : List ℕ) (c d : Cursor) (s : Store) (f : ℕ → ℕ) (free : (Point → ℕ) → ℕ) (goes : Bool) (t : At Store) : Type 0 where
     pub values : ℕ → ℕ
     pub ready : Ready w l most 1 (cond goes (record { block = head; op = 0; values = beyond mask v base; env = merged mask v base }) (position d)) values t (λ h. cond goes 0 (free h))
-    pub later : Later l s t.store
+    pub later : Later w l s t.store
     pub same : Same v f values
     pub typed : Typing w l t.store
 
@@ -290,7 +290,7 @@ module _ (w : Whole) (l : Level) where
     record Before (most : ℕ) (c : Cursor) (s : Store) (f : ℕ → ℕ) (k : ℕ) (t : At Store) : Type 0 where
       pub values : ℕ → ℕ
       pub ready : Ready w l k 1 (position (head_at c)) values t (λ h. 0)
-      pub later : Later l s t.store
+      pub later : Later w l s t.store
       pub same : Same c.values f values
       pub typed : Typing w l t.store
 
@@ -302,7 +302,7 @@ module _ (w : Whole) (l : Level) where
           let header : Header (head_at c).block mask c.values c.env = record { begins = stands.0.2; size = r.size; under = r.under } in
           subst (λ q. Goes w (repeated fuel m s) (Done w l Always mask most q c (loop mask rs c) s.store f free)) paid
           (comes_repeat HasSense (system w) (least w.procedures) w.points w.first w.turns same_trap m most (Before most c s.store f) (λ u t. Done w l Always mask most 1 c (loop mask rs c) s.store f free u t)
-          (λ k t h. record { gain = 0; place = runs_at l (position (head_at c)) h.values h.ready.memory t.store; free = λ h. 0; reached = h.ready.reached })
+          (λ k t h. record { gain = 0; place = runs_at w l (position (head_at c)) h.values h.ready.memory t.store; free = λ h. 0; reached = h.ready.reached })
           (λ k n t less under h is.
           goes_on w l (m (record t { turns = n }))
           (all.by n 0 (head_at c).block c.freq (head_at c) c.values c.env h.values (record t { turns = n }) (λ h. bulk l.proc (turns_at c).pieces h + free h) free (omega (arith, le, less, under)) (omega arith) (omega arith) stands.1 (λ h. omega arith) (λ h. let z = within h in omega (arith, z))
@@ -360,12 +360,12 @@ module _ (w : Whole) (l : Level) where
     record Waits (k : ℕ) (c : Cursor) (s : Store) (f : ℕ → ℕ) (t : At Store) : Type 0 where
       pub values : ℕ → ℕ
       pub ready : Ready w l k 1 (position (done_at c).after) values t (λ h. 0)
-      pub later : Later l s t.store
+      pub later : Later w l s t.store
       pub same : Same c.values f values
       pub off : Off mask c.env (done_at c).after.env
       pub typed : Typing w l t.store
 
-    body_runs : (k : ℕ) (c : Cursor) (s : Store) (f : ℕ → ℕ) → k ≤ fuel → Standing w.procedures l.proc (done_at c).pieces → Fits w l (done_at c).pieces (λ h. 0) → K c.values f s → (v : ℕ → ℕ) (t : At Store) → Later l s t.store → Same c.values f v → Typing w l t.store
+    body_runs : (k : ℕ) (c : Cursor) (s : Store) (f : ℕ → ℕ) → k ≤ fuel → Standing w.procedures l.proc (done_at c).pieces → Fits w l (done_at c).pieces (λ h. 0) → K c.values f s → (v : ℕ → ℕ) (t : At Store) → Later w l s t.store → Same c.values f v → Typing w l t.store
         → Ready w l k 1 (position (top_at c)) v t (λ h. bulk l.proc (done_at c).pieces h) → Goes w (body t) (λ u z. Waits k c s f z)
     body_runs k c s f le stands within known v t later same typed r =
         let low_ = beyond_more mask c.values c.env in
@@ -432,7 +432,7 @@ module _ (w : Whole) (l : Level) where
             → Goes w (repeated fuel round t) (λ u z. Done w l Always mask most 1 c (repeat mask low tries c) s.store f free u z)
         loops most c s f free le under size behind_ stood within begins known t y =
             comes_repeat HasSense (system w) (least w.procedures) w.points w.first w.turns same_trap round most (λ k z. Waits k c s.store f z) (λ u z. Done w l Always mask most 1 c (repeat mask low tries c) s.store f free u z)
-            (λ k z h. record { gain = 0; place = runs_at l (position (done_at c).after) h.values h.ready.memory z.store; free = λ h. 0; reached = h.ready.reached })
+            (λ k z h. record { gain = 0; place = runs_at w l (position (done_at c).after) h.values h.ready.memory z.store; free = λ h. 0; reached = h.ready.reached })
             (λ k n z less under_ h is.
             let rest : (Point → ℕ) → ℕ = λ h. bulk l.proc (tests_at c) h + (h (In l.proc (back_at c).block (back_at c).op) + (bulk l.proc (done_at c).pieces h + free h)) in
             let grown : c.values ≤ (done_at c).after.values = (let a = beyond_more mask c.values c.env in let b = one.grows.by (top_at c) in omega (arith, a, b)) in

@@ -1,5 +1,5 @@
 -- The recursion on the checked tree.
-use Rattle.std.proofs.Common.{◌≡◌, ℕ, zero, suc, ◌+◌, ◌*◌, ◌<◌, ◌≤◌, ◌^◌, inl, inr, List, [], ◌∷◌, length, take, Bool, true, false, not, cond, ◌&&◌, slice_get, refl, sym, ap, ◌∙◌, subst, arith, Option, Some, None, eqb-true, eq-eqb}
+use Rattle.std.proofs.Common.{◌≡◌, ℕ, zero, suc, ◌+◌, ◌<◌, ◌≤◌, ◌^◌, inl, inr, List, [], ◌∷◌, length, take, Bool, true, false, not, cond, ◌&&◌, slice_get, refl, sym, ap, ◌∙◌, subst, arith, Option, Some, None, eqb-true, eq-eqb}
 use Rattle.std.specs.Prelude.{◌-◌, ◌||◌, ◌==◌, nat_lt, slice_index_or, if◌then◌else◌}
 use Rattle.run_laws.specs.Turns.{Ending, Gives, Fails, Spent, after, ◌>>=◌, give}
 use Rattle.run_laws.specs.Turns.{State as Moment}
@@ -29,10 +29,9 @@ use Rattle.ob_types.specs.declared.statements.Stmt.{Stmt, Assign, CopyArray, Cop
 use Rattle.ob_types.specs.declared.statements.Stmt.{Call as Invoke}
 use Rattle.ob_types.specs.declared.program.Program.{Program}
 use Rattle.ob_types.proofs.Tests.{none_some, some_same, no, and_of}
-use Rattle.ob_sound.proofs.Typed.{Sound, Any, HasForm, Older}
+use Rattle.ob_sound.proofs.Typed.{Sound, Any, HasForm, Fits, Older}
 use Rattle.ob_sound.proofs.Constructs.{Means, with_is, holds_is}
 use Rattle.ob_sound.proofs.Typed.{provided_is, lt_of}
-use Rattle.ob_sound.proofs.Tables.{cells_length, scalar_forms}
 use Rattle.ob_sound.proofs.Handing.{CallsSound, AllTaken, all_taken_older, Answers, through_is, parameter_names, open_parts}
 use Rattle.ob_sound.proofs.Handing.{taken_at as taken_of}
 use Rattle.ob_types.proofs.WellFormedParts.{step_small}
@@ -52,14 +51,28 @@ use Rattle.ssa_lowered.specs.Values.{by_word, address, with_result, without_resu
 use Rattle.ssa_lowered.specs.Values.{by_record as lower_record, by_open as lower_open, address_in as lower_address}
 use Rattle.ssa_lowered.specs.Values.{load as lower_load}
 use Rattle.ob_types.specs.WellFormed.{record_by, open_element, has_branch, Elementary, OfType, Letter}
-use Rattle.ob_sound.proofs.Deeds.{takes_is, given_is}
+use Rattle.ob_sound.proofs.Deeds.{takes_is, given_is, suits_fits}
+use Rattle.ob_types.specs.Store.{Pointer as PointerCell, Code as CodeCell}
 use Rattle.ob_sound.proofs.Tree.{t_base, t_select, t_value, t_link, t_effect}
-use Rattle.ssa_lowered.specs.Data.{Layout, layout, global_at, descriptor_at, text_at, within}
+use Rattle.ssa_lowered.specs.Data.{Layout, takes_a_byte, global_at, descriptor_at, text_at, within, rounded}
+use Rattle.ob_types.specs.Trees.{DataTree, Scalar, Record, fits_byte, scalar_bytes, row_cells, round_up, wide, row_end, fields_before, data_tree, record_row}
+use Rattle.ob_types.specs.Trees.{Array as ArrayTree}
+use Rattle.ob_types.proofs.DataTrees.{cells_are, record_cells_are, array_data_tree, record_data_tree, scalar_data_tree}
+use Rattle.object_nodes.specs.Running.{forms_of_all}
+use Rattle.object_nodes.specs.Nodes.{Node}
+use Rattle.ob_types.proofs.TreeBytes.{few_rounded}
+use Rattle.std.proofs.Common.{slice_index}
+use Rattle.object_nodes.proofs.Meeting.{node_self, node_node}
+use Rattle.object_nodes.proofs.Trees.{byte_place, field_node, base_node}
+use Rattle.object_nodes.proofs.Designators.{element_trees}
+use Rattle.held_stores.specs.Held.{takes_byte}
+use Rattle.held_stores.specs.Places.{object_room}
+use Rattle.ob_types.specs.Forms.{form_or_zero}
 use Rattle.ssa_lowered.specs.Pieces.{Low, Mask}
 use Rattle.ssa_lowered.specs.Control.{Lowers, Round, fork_and, fork_or, fork_value}
 use Rattle.ssa_lowered.specs.Variables.{is_structured, either, none, origin, unselected, itself as whole_of, assigned, assigned_all, assigned_branches, words_of, lent, lent_links, lent_link, lent_at, lent_whole, lent_by_first, lent_selectors, lent_selector, lent_call, lent_as, lent_in, lent_by, lent_by_all, lent_by_branches, lent_by_list, lent_by_answer}
 use Rattle.ssa_lowered.specs.Lowered.{Here, in_register, variable_of, local_by, parameter_by, by_mode, based, descriptor, named, small, expr, link as lower_link, linked as lower_linked, called as lower_called, argument as lower_argument, arguments as lower_arguments, answer as lower_answer, home, registers, deed, deeds, deeds_of, one_of, alternatives, guarded_rounds}
-use Rattle.lowered_runs.specs.Words.{Whole, Level, Right, local, Apart}
+use Rattle.lowered_runs.specs.Words.{Whole, Level, Right, ground, local, Apart}
 use Rattle.block_runs.specs.declared.end.End.TheVariants.{Trap as Trap_end}
 use Rattle.ob_types.specs.Operators.{label_has, labels_have}
 use Rattle.ob_types.specs.Statements.{case as case_of_value}
@@ -80,8 +93,8 @@ use Rattle.lowered_runs.proofs.Exprs.{CellIs, follows_literal, follows_routine, 
 use Rattle.lowered_runs.proofs.Sets.{follows_same, follows_contained, follows_element, follows_range, follows_byte, follows_compared}
 use Rattle.lowered_runs.proofs.Forks.{nothing, No_more, after_after, Forks, forks_value, forks_branch, forks_not, forks_and, forks_or, forks_as}
 use Rattle.lowered_runs.proofs.Structures.{Always, forks_test, follows_choose, Rounded, rounds_none, rounds_less, rounds_more, follows_loop, follows_until}
-use Rattle.lowered_runs.proofs.Homes.{HomeIs, follows_load, follows_assign}
-use Rattle.lowered_runs.proofs.Designators.{row_of, is_single, NamedIs, SecondFits, DesignatorIs, steady_designator, only_named, follows_home, follows_data, follows_register, follows_local}
+use Rattle.lowered_runs.proofs.Homes.{HomeIs, IsNarrow, follows_load, follows_assign}
+use Rattle.lowered_runs.proofs.Designators.{tree_of, begun_by, is_single, NamedIs, SecondFits, DesignatorIs, steady_designator, only_named, follows_home, follows_data, follows_register, follows_local}
 use Rattle.lowered_runs.proofs.Elements.{SpanIs, span_by, follows_known_span, follows_open_span, follows_element_place, follows_field_place, follows_length}
 use Rattle.ob_types.specs.Meaning.{length_of_kind}
 use Rattle.ob_types.specs.Expressions.{length_of}
@@ -89,18 +102,16 @@ use Rattle.ssa_lowered.specs.Values.{length_of as lower_length}
 use Rattle.ob_types.specs.Meaning.{selected, select}
 use Rattle.ob_types.specs.declared.types.TypeKind.TheVariants.{Array}
 use Rattle.ob_types.specs.declared.types.TypeKind.{TypeKind}
-use Rattle.ob_types.specs.declared.types.TypeKind.TheVariants.{Int, Char, Byte}
+use Rattle.ob_types.specs.declared.types.TypeKind.TheVariants.{Int, Char, Byte, Nil, Nothing}
+use Rattle.ob_types.specs.declared.types.TypeKind.TheVariants.{Text as TextOf}
 use Rattle.ob_types.specs.declared.types.TypeKind.TheVariants.{Record as RecordOf, Bool as Boolean, Set as SetOf, Pointer as PointerTo, Procedure as ProcedureOf}
 use Rattle.ob_types.specs.Forms.{scalar_form}
 use Rattle.ob_types.specs.Layout.{record_of, types_of, field_place, extends}
-use Rattle.ob_types.specs.Forms.{record_forms}
-use Rattle.ob_sound.proofs.Typed.{in_length}
-use Rattle.ob_sound.proofs.Constructs.{record_is, p_of, pointed_is, letter_forms}
+use Rattle.ob_sound.proofs.Constructs.{record_is, p_of, pointed_is}
 use Rattle.ob_types.specs.declared.tree.Designator.{Row_of-Selector, end_of-Selector, more_of-Selector}
 use Rattle.ob_types.specs.declared.tree.Selector.{Selector, Index, Field, Dereference, Narrow}
-use Rattle.ob_sound.proofs.Typed.{Names, NamesOf, names_older, element_is, element_forms}
-use Rattle.ob_sound.proofs.Constructs.{element_same}
-use Rattle.ob_sound.proofs.Tables.{array_forms, length_repeated, whole_forms, field_at, prefix, record_cells_length, extends_trans}
+use Rattle.ob_sound.proofs.Typed.{Names, NamesOf, names_older, element_is}
+use Rattle.ob_sound.proofs.Tables.{record_cells_length, extends_trans}
 use Rattle.ssa_lowered.specs.Lowered.{selected as lower_selected, select as lower_select}
 use Rattle.ssa_lowered.specs.Values.{Named}
 use Rattle.lowered_runs.proofs.Input.{follows_in_char}
@@ -120,7 +131,7 @@ use Rattle.lowered_runs.proofs.TypeTests.{answer as type_answer, steady_pointer_
 use Rattle.ob_types.specs.Expressions.{guarded, all_guarded}
 use Rattle.ssa_lowered.specs.Values.{guarded as lower_guarded, is_pointer, is_tag}
 use Rattle.ssa_lowered.specs.Lowered.{level, all_guarded as lower_all_guarded}
-use Rattle.lowered_runs.proofs.Copies.{Reaches, follows_copy_record, follows_copy_array}
+use Rattle.lowered_runs.proofs.Copies.{Reaches, writable_is, follows_copy_record, follows_copy_array}
 use Rattle.ob_types.specs.Statements.{done}
 use Rattle.ob_sound.proofs.Deeds.{done_formed}
 use Rattle.lowered_runs.proofs.Bounds.{load_is, assign_is, step_is, follows_for}
@@ -138,6 +149,51 @@ use Rattle.ob_sound.proofs.Tree.{t_named, t_checked}
 use Rattle.ssa_lowered.specs.Lowered.{bound}
 use Rattle.lowered_runs.proofs.Deeds.{follows_number_change, follows_set_change, follows_assert, follows_out_char, follows_out_int}
 use Rattle.lowered_runs.proofs.Flags.{follows_flag}
+
+-- types that are one are of one width
+byte_same : (a b : TypeKind) → WellFormed.equal_kinds a b ≡ true → takes_a_byte a ≡ takes_a_byte b
+byte_same Int Int h = refl
+byte_same Boolean Boolean h = refl
+byte_same Char Char h = refl
+byte_same Byte Byte h = refl
+byte_same SetOf SetOf h = refl
+byte_same Nil Nil h = refl
+byte_same Nothing Nothing h = refl
+byte_same (TextOf n) (TextOf m) h = refl
+byte_same (Array n a) (Array m b) h = refl
+byte_same (RecordOf r) (RecordOf s) h = refl
+byte_same (PointerTo r) (PointerTo s) h = refl
+byte_same (ProcedureOf r) (ProcedureOf s) h = refl
+byte_same _ _ h = no h
+
+-- what points is no byte, and neither is a full number
+pointer_wide : (f : Form) → WellFormed.is_pointer f ≡ true → fits_byte f ≡ false
+pointer_wide Zero h = refl
+pointer_wide (ToRecord r) h = refl
+pointer_wide Truth h = no h
+pointer_wide Small h = no h
+pointer_wide Number h = no h
+pointer_wide (Routines k) h = no h
+pointer_wide (Exactly g) h = no h
+
+full_wide : (f : Form) → WellFormed.is_full f ≡ true → fits_byte f ≡ false
+full_wide Number h = refl
+full_wide Zero h = no h
+full_wide Truth h = no h
+full_wide Small h = no h
+full_wide (ToRecord r) h = no h
+full_wide (Routines k) h = no h
+full_wide (Exactly g) h = no h
+
+-- a number that is a byte's changes as one
+byte_changes : (b : Bool) (f : Form) → WellFormed.changes b f ≡ true → fits_byte f ≡ true → b ≡ true
+byte_changes b Small h is = h
+byte_changes b Number h is = no is
+byte_changes b Zero h is = no h
+byte_changes b Truth h is = no h
+byte_changes b (ToRecord r) h is = no h
+byte_changes b (Routines k) h is = no h
+byte_changes b (Exactly g) h is = no h
 
 either_left : (a b : Bool) → a ≡ true → (a || b) ≡ true
 either_left true b h = refl
@@ -163,13 +219,13 @@ regroup_mask true true b c h = refl
 regroup_mask true false b c h = h
 regroup_mask false a b c h = no h
 
-module _ (w : Whole) (l : Level) (right : Right w) (apart : Apart l) (vars : Variables w l) (good : types_fine w.program.types ≡ true) (calls : Calls) (sound : CallsSound w.program good calls)
-    (frame : slice_index_or l.forms l.frame [] ≡ joined (forms w.program.types) (locals w l)) (taken : AllTaken w.program good l.forms l.store.tags (procedure_of w.program l.proc).formals l.arguments) (stacked : Stacked l) (fuel : ℕ) (calling : Calling w good fuel calls) where
+module _ (w : Whole) (l : Level) (right : Right w) (apart : Apart w l) (vars : Variables w l) (good : types_fine w.program.types ≡ true) (calls : Calls) (sound : CallsSound w.program good calls)
+    (frame : slice_index_or (forms_of_all w.program l.types) l.frame [] ≡ joined (forms w.program.types) (locals w l)) (taken : AllTaken w.program good (forms_of_all w.program l.types) l.store.tags (procedure_of w.program l.proc).formals l.arguments) (stacked : Stacked l) (fuel : ℕ) (calling : Calling w good fuel calls) where
   abbrev p : Program
   p = w.program
 
   abbrev lay : Layout
-  lay = layout p.types
+  lay = w.layout
 
   abbrev mine : Here
   mine = here w l
@@ -195,16 +251,16 @@ module _ (w : Whole) (l : Level) (right : Right w) (apart : Apart l) (vars : Var
   steady : Steady w l (Given w l)
   steady = steady_given w l
 
-  taken_at : (tags : List ℕ) → Older l.store.tags tags → AllTaken p good l.forms tags (procedure_of p l.proc).formals l.arguments
-  taken_at tags older = all_taken_older p good l.forms l.store.tags tags older (procedure_of p l.proc).formals l.arguments taken
+  taken_at : (tags : List ℕ) → Older l.store.tags tags → AllTaken p good (forms_of_all p l.types) tags (procedure_of p l.proc).formals l.arguments
+  taken_at tags older = all_taken_older p good (forms_of_all p l.types) l.store.tags tags older (procedure_of p l.proc).formals l.arguments taken
 
-  pub sound_value : (e : Expr) (k : Form) → WellFormed.form p l.proc e ≡ Some k → (tags : List ℕ) → Older l.store.tags tags → Sound p l.forms tags (HasForm p k) (value p calls runs e)
-  sound_value e k is tags older = (t_value p good calls sound runs l.forms tags frame (taken_at tags older) e).sound k is
+  pub sound_value : (e : Expr) (k : Form) → WellFormed.form p l.proc e ≡ Some k → (tags : List ℕ) → Older l.store.tags tags → Sound p (forms_of_all p l.types) tags (HasForm p k) (value p calls runs e)
+  sound_value e k is tags older = (t_value p good calls sound runs (forms_of_all p l.types) tags frame (taken_at tags older) e).sound k is
 
   ---- Designators
 
   -- what goes with an address is as its name says
-  names_second : (n : Thing) (h : Handed) (tags : List ℕ) → Names p l.forms tags n h → SecondFits w l n h
+  names_second : (n : Thing) (h : Handed) (tags : List ℕ) → Names p (forms_of_all p l.types) tags n h → SecondFits w l n h
   names_second (Cells f may) h tags x = tt
   names_second (Of k may) h tags x = tt
   names_second (Characters m) h tags x = tt
@@ -243,8 +299,8 @@ module _ (w : Whole) (l : Level) (right : Right w) (apart : Apart l) (vars : Var
           (follows_local w l (origin (Local x)) (Of k true) (local l x) (mine.bytes - h.0) steady h.3)
   base_is {mask} (Parameter k) n is =
       let z = with_is p good (slice_get (procedure_of p l.proc).formals k) (λ x. WellFormed.parameter_by p x.mode x.type_number x.variable) n is in
-      let t = taken_of p good l.forms l.store.tags (procedure_of p l.proc).formals l.arguments taken k z.0 z.1 in
-      let second = names_second n t.0 l.store.tags (parameter_names p good l.forms l.store.tags z.0.mode z.0.type_number z.0.variable t.0 n z.2 t.2) in
+      let t = taken_of p good (forms_of_all p l.types) l.store.tags (procedure_of p l.proc).formals l.arguments taken k z.0 z.1 in
+      let second = names_second n t.0 l.store.tags (parameter_names p good (forms_of_all p l.types) l.store.tags z.0.mode z.0.type_number z.0.variable t.0 n z.2 t.2) in
       subst (λ o. Follows w l 0 fuel mask (Given w l) (DesignatorIs w l none n) (given (slice_get l.arguments k)) (parameter_by o (words_of (take k (procedure_of p l.proc).formals)))) (sym z.1)
       (follows_seen w l (by_mode z.0.mode (words_of (take k (procedure_of p l.proc).formals))) (λ v f s m held typed known. inl (t.0, ap (λ o. given o s) t.1, (known k z.0 t.0 n z.1 t.1 z.2, second))))
   base_is {mask} (Text k) n is =
@@ -252,16 +308,55 @@ module _ (w : Whole) (l : Level) (right : Right w) (apart : Apart l) (vars : Var
       subst (λ n. Follows w l 0 fuel mask (Given w l) (DesignatorIs w l none n) (base_of p calls runs (Text k)) (based p lay mine (Text k))) (some_same (Characters (suc (length z.0))) n z.2)
       (follows_less w l (λ h v n f s known. (known, tt)) (follows_data w l none (Characters (suc (length z.0))) (record { area = Strings; object = text_number p l.proc k; cell = 0 }) (within (text_at p lay (text_number p l.proc k))) steady (vars.text (text_number p l.proc k) z.0 z.1)))
 
-  -- a scalar has a cell
-  scalar_row : (n : Thing) (f : Form) → WellFormed.scalar_in p n ≡ Some f → (h : Handed) → 1 ≤ row_of w l n h
-  scalar_row (Cells g may) f is h = omega arith
-  scalar_row (Of k may) f is h = let e = cells_length p.types k in let g = ap length_of (scalar_forms p.types good k f is) in omega (arith, e, g)
+  -- a scalar's tree
+  scalar_tree : (n : Thing) (f : Form) → WellFormed.scalar_in p n ≡ Some f → (h : Handed) → tree_of w l n h ≡ Scalar f
+  scalar_tree (Cells g may) f is h = ap Scalar (some_same g f is)
+  scalar_tree (Of k may) f is h = scalar_data_tree p.types good k f is
+  scalar_tree (OpenOf e may) f is h = none_some f is
+  scalar_tree (Dynamic r) f is h = none_some f is
+  scalar_tree (Characters m) f is h = none_some f is
+
+  -- its width is by its type
+  byte_kind : (kind : TypeKind) (n : Thing) (f : Form) → WellFormed.has_kind p kind n ≡ true → WellFormed.scalar_in p n ≡ Some f → takes_a_byte kind ≡ fits_byte f
+  byte_kind kind (Cells Truth may) f has is = byte_same kind Boolean has ∙ ap fits_byte (some_same Truth f is)
+  byte_kind kind (Cells Zero may) f has is = no has
+  byte_kind kind (Cells Small may) f has is = no has
+  byte_kind kind (Cells Number may) f has is = no has
+  byte_kind kind (Cells (ToRecord r) may) f has is = no has
+  byte_kind kind (Cells (Routines k) may) f has is = no has
+  byte_kind kind (Cells (Exactly g) may) f has is = no has
+  byte_kind kind (Of k may) f has is = byte_same kind (kind_of p.types k) has ∙ ap (λ o. fits_byte (form_or_zero o)) is
+  byte_kind kind (OpenOf e may) f has is = none_some f is
+  byte_kind kind (Dynamic r) f has is = none_some f is
+  byte_kind kind (Characters m) f has is = none_some f is
+
+  byte_in : (d : Designator) (n : Thing) (f : Form) → WellFormed.named p l.proc d ≡ Some n → WellFormed.scalar_in p n ≡ Some f → takes_a_byte (kind_in d) ≡ fits_byte f
+  byte_in (Variable b kind) n f is scalar =
+      let z = with_is p good (WellFormed.base_named p l.proc b) (WellFormed.of_kind p kind) n is in
+      let y = provided_is p (WellFormed.has_kind p kind z.0) (Some z.0) n z.2 in
+      byte_kind kind z.0 f y.0 (ap (WellFormed.scalar_in p) (some_same z.0 n y.1) ∙ scalar)
+  byte_in (Part' _ b kind _ row) n f is scalar =
+      let z = with_is p good (WellFormed.selected_named p l.proc row (WellFormed.base_named p l.proc b)) (WellFormed.of_kind p kind) n is in
+      let y = provided_is p (WellFormed.has_kind p kind z.0) (Some z.0) n z.2 in
+      byte_kind kind z.0 f y.0 (ap (WellFormed.scalar_in p) (some_same z.0 n y.1) ∙ scalar)
+
+  small_is : (d : Designator) (n : Thing) (f : Form) → WellFormed.named p l.proc d ≡ Some n → WellFormed.scalar_in p n ≡ Some f → small p lay mine d ≡ takes_byte (ground w) f
+  small_is d n f is scalar = right.laid.is_small (kind_in d) ∙ ap (λ b. w.packed && b) (byte_in d n f is scalar)
+
+  -- what is no byte takes eight
+  wide_form : (f : Form) → fits_byte f ≡ false → takes_byte (ground w) f ≡ false
+  wide_form f e = ap (λ b. w.packed && b) e ∙ never w.packed
     where
-      length_of : List Form → ℕ
-      length_of xs = length xs
-  scalar_row (OpenOf e may) f is h = none_some f is
-  scalar_row (Dynamic r) f is h = none_some f is
-  scalar_row (Characters m) f is h = none_some f is
+      never : (b : Bool) → (b && false) ≡ false
+      never true = refl
+      never false = refl
+
+  byte_small : (f : Form) → takes_byte (ground w) f ≡ true → fits_byte f ≡ true
+  byte_small f e = (and_of w.packed (fits_byte f) e).1
+
+  narrow_wide : (b : Bool) (c : Cell) → b ≡ false → IsNarrow w l b c
+  narrow_wide false c e = tt
+  narrow_wide true c e = no (sym e)
 
   ---- Guards
 
@@ -276,6 +371,15 @@ module _ (w : Whole) (l : Level) (right : Right w) (apart : Apart l) (vars : Var
   guarded_some : (rs : List ℕ) (o : Option Form) (k : Form) → WellFormed.guarded_form p rs o ≡ Some k → (a : Form) × (o ≡ Some a)
   guarded_some rs None k is = none_some k (sym (guarded_nothing rs) ∙ is)
   guarded_some rs (Some a) k is = (a, refl)
+
+  -- what is guarded as a pointer is no byte
+  guarded_wide : (rs : List ℕ) (a : Form) (r : ℕ) → WellFormed.guarded_form p rs (Some a) ≡ Some (ToRecord r) → fits_byte a ≡ false
+  guarded_wide [] a r is = ap fits_byte (some_same a (ToRecord r) is)
+  guarded_wide (s ∷ rs) a r is =
+      let on = provided (is_record_type p.types s) (provided (WellFormed.is_pointer a) (Some (ToRecord s))) in
+      let z = guarded_some rs on (ToRecord r) is in
+      let b = provided_is p (is_record_type p.types s) (provided (WellFormed.is_pointer a) (Some (ToRecord s))) z.0 z.1 in
+      pointer_wide a (provided_is p (WellFormed.is_pointer a) (Some (ToRecord s)) z.0 b.1).0
 
   -- guards, one after the other
   follows_guards : (rs : List ℕ) (o : Option Form) (k : Form) (x : Act Cell) (q : Low ℕ) → WellFormed.guarded_form p rs o ≡ Some k → Follows w l 0 fuel nothing (Given w l) (CellIs w l) x q → Follows w l 0 fuel nothing (Given w l) (CellIs w l) (all_guarded l.proc (extends p.types) x rs) (lower_all_guarded p lay mine rs q)
@@ -304,11 +408,6 @@ module _ (w : Whole) (l : Level) (right : Right w) (apart : Apart l) (vars : Var
   selected_some : {m : _} (row : Row_of-Selector m) (o : Option Thing) (n : Thing) → WellFormed.selected_named p l.proc row o ≡ Some n → (t : Thing) × (o ≡ Some t)
   selected_some row None n is = absurd (selected_none row n is)
   selected_some row (Some t) n is = (t, refl)
-
-  -- an array's cells
-  array_cells : (k n e : ℕ) → kind_of p.types k ≡ Array (Some n) e → cells p.types k ≡ n * cells p.types e
-  array_cells k n e is =
-      cells_length p.types k ∙ ap (λ (xs : List Form). length xs) (array_forms p.types good k n e is) ∙ length_repeated n (forms p.types e) ∙ ap (λ m. n * m) (sym (cells_length p.types e))
 
   -- record types that designators name are in the table; In.Done is a truth
   abbrev Legal : Thing → Type 0
@@ -406,38 +505,31 @@ module _ (w : Whole) (l : Level) (right : Right w) (apart : Apart l) (vars : Var
 
   -- a designator names what its name says
   abbrev Sensible : Thing → Act Handed → Type 0
-  Sensible t d = (tags : List ℕ) → Older l.store.tags tags → Sound p l.forms tags (NamesOf p l.forms t) d
+  Sensible t d = (tags : List ℕ) → Older l.store.tags tags → Sound p (forms_of_all p l.types) tags (NamesOf p (forms_of_all p l.types) t) d
 
   -- and so does a part of it
   sensible_part : (s : Selector) (b t : Thing) (d : Act Handed) → WellFormed.select_named p l.proc s (Some b) ≡ Some t → Sensible b d → Sensible t (select p calls runs s d)
-  sensible_part s b t d is sensible tags older = (t_select p good calls sound runs l.forms tags frame (taken_at tags older) s (Some b) d (p_of p good b (sensible tags older))).sound t is
+  sensible_part s b t d is sensible tags older = (t_select p good calls sound runs (forms_of_all p l.types) tags frame (taken_at tags older) s (Some b) d (p_of p good b (sensible tags older))).sound t is
 
   of_sensible : {mask own : Mask} {d : Act Handed} {low : Low Named} (n : Thing) → Sensible n d → Follows w l 0 fuel mask (Given w l) (NamedIs w l own n) d low → Follows w l 0 fuel mask (Given w l) (DesignatorIs w l own n) d low
-  of_sensible n sensible one = follows_less w l (λ h v i f s known. (known.0, names_second n h s.tags known.1)) (follows_sound w l {P = NamesOf p l.forms n} sensible one)
+  of_sensible n sensible one = follows_less w l (λ h v i f s known. (known.0, names_second n h s.tags known.1)) (follows_sound w l {P = NamesOf p (forms_of_all p l.types) n} sensible one)
 
   ---- Arrays
 
-  abbrev element_cells : Elementary → ℕ
-  element_cells el = length (element_forms p el)
+  abbrev element_tree : Elementary → DataTree
+  element_tree (OfType k) = data_tree p.types k
+  element_tree Letter = Scalar Small
 
-  span_is : {mask : Mask} (own : Mask) (t : Thing) (o : Option ℕ) (el : Elementary) → WellFormed.elements_in p t o ≡ Some el → (h : Handed) (v : Named) → Follows w l 0 fuel mask (Both (Given w l) (DesignatorIs w l own t h v)) (SpanIs w l o (element_cells el) v) (span_by w l o h) (lower_address v 0)
+  span_is : {mask : Mask} (own : Mask) (t : Thing) (o : Option ℕ) (el : Elementary) → WellFormed.elements_in p t o ≡ Some el → (h : Handed) (v : Named) → Follows w l 0 fuel mask (Both (Given w l) (DesignatorIs w l own t h v)) (SpanIs w l o (element_tree el) v) (span_by w l o h) (lower_address v 0)
   span_is own (Of k may) (Some n) el is h v =
       let a = element_is p (kind_of p.types k) n el is in
-      let long = ap (λ m. n * m) (sym (ap element_cells a.2) ∙ sym (cells_length p.types a.0)) ∙ sym (array_cells k n a.0 a.1) in
-      follows_known_span w l own (Of k may) h v n (element_cells el) steady (at_most long) (ap (λ z. not (is_structured z)) a.1) a.3
-    where
-      at_most : {x y : ℕ} → x ≡ y → x ≤ y
-      at_most e = omega (arith, e)
+      follows_known_span w l own (Of k may) h v n (element_tree el) steady (array_data_tree p.types good k n a.0 a.1 ∙ ap (λ el. ArrayTree n (element_tree el)) a.2) (ap (λ z. not (is_structured z)) a.1) a.3
   span_is own (Characters m) (Some n) el is h v =
       let a = provided_is p (m == n && nat_lt n (2 ^ 32)) (Some Letter) el is in
       let b = and_of (m == n) (nat_lt n (2 ^ 32)) a.0 in
-      follows_known_span w l own (Characters m) h v n (element_cells el) steady (as_long (eqb-true m n b.0) (sym (ap element_cells (some_same Letter el a.1)))) refl (lt_of p n (2 ^ 32) b.1)
-    where
-      as_long : {m n c : ℕ} → m ≡ n → c ≡ 1 → n * c ≤ m
-      as_long {m} {n} {c} e one = subst (λ c. n * c ≤ m) (sym one) (omega (arith, e))
+      follows_known_span w l own (Characters m) h v n (element_tree el) steady (ap₂ (λ n el. ArrayTree n (element_tree el)) (eqb-true m n b.0) (some_same Letter el a.1)) refl (lt_of p n (2 ^ 32) b.1)
   span_is {mask} own (OpenOf e may) None el is h v =
-      subst (λ el. Follows w l 0 fuel mask (Both (Given w l) (DesignatorIs w l own (OpenOf e may) h v)) (SpanIs w l None (element_cells el) v) (span_by w l None h) (lower_address v 0)) (some_same (OfType e) el is)
-      (subst (λ c. Follows w l 0 fuel mask (Both (Given w l) (DesignatorIs w l own (OpenOf e may) h v)) (SpanIs w l None c v) (span_by w l None h) (lower_address v 0)) (cells_length p.types e) (follows_open_span w l own e may h v))
+      subst (λ el. Follows w l 0 fuel mask (Both (Given w l) (DesignatorIs w l own (OpenOf e may) h v)) (SpanIs w l None (element_tree el) v) (span_by w l None h) (lower_address v 0)) (some_same (OfType e) el is) (follows_open_span w l own e may h v)
   span_is own (Of k may) None el is h v = none_some el is
   span_is own (Characters m) None el is h v = none_some el is
   span_is own (OpenOf e may) (Some n) el is h v = none_some el is
@@ -445,87 +537,77 @@ module _ (w : Whole) (l : Level) (right : Right w) (apart : Apart l) (vars : Var
   span_is own (Dynamic r) o el is h v = none_some el is
 
   -- of elements of a type
-  array_is : {mask : Mask} (own : Mask) (t : Thing) (o : Option ℕ) (e : ℕ) → WellFormed.array_of p e o t ≡ true → (h : Handed) (v : Named) → Follows w l 0 fuel mask (Both (Given w l) (DesignatorIs w l own t h v)) (SpanIs w l o (cells p.types e) v) (span_by w l o h) (lower_address v 0)
+  array_is : {mask : Mask} (own : Mask) (t : Thing) (o : Option ℕ) (e : ℕ) → WellFormed.array_of p e o t ≡ true → (h : Handed) (v : Named) → Follows w l 0 fuel mask (Both (Given w l) (DesignatorIs w l own t h v)) (SpanIs w l o (data_tree p.types e) v) (span_by w l o h) (lower_address v 0)
   array_is {mask} own t o e has h v =
       let el = holds_is p good (λ x. WellFormed.is_element p x e) (WellFormed.elements_in p t o) has in
-      subst (λ c. Follows w l 0 fuel mask (Both (Given w l) (DesignatorIs w l own t h v)) (SpanIs w l o c v) (span_by w l o h) (lower_address v 0)) (ap (λ (xs : List Form). length xs) (element_same p good el.0 e el.2) ∙ sym (cells_length p.types e)) (span_is own t o el.0 el.1 h v)
+      subst (λ c. Follows w l 0 fuel mask (Both (Given w l) (DesignatorIs w l own t h v)) (SpanIs w l o c v) (span_by w l o h) (lower_address v 0)) (element_trees p w.packed good l.types el.0 e el.2) (span_is own t o el.0 el.1 h v)
 
-  -- a field's cells are among those of its record
-  field_within : (s r f kind j : ℕ) → extends p.types s r ≡ true → slice_get (types_of (record_of p.types r).fields) f ≡ Some kind → j < cells p.types kind → field_place p.types r f + j < length (record_forms p.types s)
-  field_within s r f kind j ext at lt =
-      let x = slice_found (forms p.types kind) j (let e = cells_length p.types kind in omega (arith, lt, e)) in
-      in_length p (record_forms p.types s) (field_place p.types r f + j) x.0 (prefix p.types good s r (field_place p.types r f + j) x.0 ext (field_at p.types good r f kind j x.0 at x.1))
+  -- a record's address is that of its base's part
+  record_part : (n : Thing) (r : ℕ) → WellFormed.has_record p r n ≡ true → (h : Handed) → SecondFits w l n h → Node w.packed (tree_of w l n h) 0 0 (Record (record_row p.types r))
+  record_part (Of k may) r has h second =
+      let s = holds_is p good (λ s. extends p.types s r) (record_by (kind_of p.types k)) has in
+      subst (λ t. Node w.packed t 0 0 (Record (record_row p.types r))) (sym (record_data_tree p.types good k s.0 (record_is p good (kind_of p.types k) s.0 s.1))) (base_node p.types good w.packed s.0 r s.2)
+  record_part (Dynamic b) r has (Tagged a t) second = base_node p.types good w.packed t r (extends_trans p.types good t b r second has)
+  record_part (Dynamic b) r has (Addressed a) second = absurd second
+  record_part (Dynamic b) r has (Sized a n) second = absurd second
+  record_part (Dynamic b) r has (Value c) second = absurd second
+  record_part (Cells f may) r has h second = no has
+  record_part (OpenOf e may) r has h second = no has
+  record_part (Characters m) r has h second = no has
+
+  record_many : (d : Thing) (r : ℕ) → WellFormed.has_record p r d ≡ true → is_single w l d ≡ false
+  record_many (Of k may) r has =
+      let s = holds_is p good (λ s. extends p.types s r) (record_by (kind_of p.types k)) has in
+      ap (λ z. not (is_structured z)) (record_is p good (kind_of p.types k) s.0 s.1)
+  record_many (Dynamic b) r has = refl
+  record_many (Cells f may) r has = no has
+  record_many (OpenOf e may) r has = no has
+  record_many (Characters m) r has = no has
+
+  -- where a field stands
+  field_offset : (r f kind : ℕ) → slice_get (types_of (record_of p.types r).fields) f ≡ Some kind → byte_place p.types w.packed r f kind ≡ lay.offset r f
+  unfolding byte_place
+  field_offset r f kind at = ap (λ k. round_up (wide w.packed (data_tree p.types k)) (row_end w.packed (fields_before p.types r f))) (sym (index_of (types_of (record_of p.types r).fields) f kind at)) ∙ sym (right.laid.offset r f)
     where
-      slice_found : (xs : List Form) (j : ℕ) → j < length xs → (x : Form) × (slice_get xs j ≡ Some x)
-      slice_found [] j lt = absurd (omega (arith, lt))
-      slice_found (x ∷ xs) zero lt = (x, refl)
-      slice_found (x ∷ xs) (suc j) lt = slice_found xs j (omega (arith, lt))
+      index_of : (ks : List ℕ) (f k : ℕ) → slice_get ks f ≡ Some k → slice_index ks f ≡ k
+      index_of [] f k e = none_some k e
+      index_of (x ∷ ks) zero k e = some_same x k e
+      index_of (x ∷ ks) (suc f) k e = index_of ks f k e
 
-  field_cells : (k s r f kind j : ℕ) → kind_of p.types k ≡ RecordOf s → extends p.types s r ≡ true → slice_get (types_of (record_of p.types r).fields) f ≡ Some kind → j < cells p.types kind → field_place p.types r f + j < cells p.types k
-  field_cells k s r f kind j is ext at lt =
-      let there = field_within s r f kind j ext at lt in
-      let e = cells_length p.types k ∙ ap (λ (xs : List Form). length xs) (whole_forms p.types good k s is) in
-      omega (arith, there, e)
-
-  -- also where the record has a dynamic type
-  dynamic_cells : (b r f kind : ℕ) (h : Handed) → SecondFits w l (Dynamic b) h → extends p.types b r ≡ true → slice_get (types_of (record_of p.types r).fields) f ≡ Some kind → (j : ℕ) → j < cells p.types kind → field_place p.types r f + j < row_of w l (Dynamic b) h
-  dynamic_cells b r f kind (Tagged a t) second ext at j lt =
-      let there = field_within t r f kind j (extends_trans p.types good t b r second ext) at lt in
-      let e = record_cells_length p.types t in omega (arith, there, e)
-  dynamic_cells b r f kind _ second ext at j lt = absurd second
+  field_part : (n : Thing) (r f kind : ℕ) → WellFormed.has_record p r n ≡ true → slice_get (types_of (record_of p.types r).fields) f ≡ Some kind → (h : Handed) → SecondFits w l n h → Node w.packed (tree_of w l n h) (field_place p.types r f) (lay.offset r f) (data_tree p.types kind)
+  field_part n r f kind has at h second =
+      node_node w.packed (tree_of w l n h) 0 0 (Record (record_row p.types r)) (field_place p.types r f) (lay.offset r f) (data_tree p.types kind) (field_place p.types r f) (lay.offset r f) (record_part n r has h second)
+      (subst (λ x. Node w.packed (Record (record_row p.types r)) (field_place p.types r f) x (data_tree p.types kind)) (field_offset r f kind at) (field_node p.types good w.packed r f kind at)) (omega arith) (omega arith)
 
   -- the address of a whole variable is made where it is in memory
   own_lent : (d : Designator) → Lends (lent_whole d) → (x : ℕ) → whole_of d x ≡ true → l.in_register x ≡ false
   own_lent (Variable b k) lends x e = lends x e
   own_lent (Part' _ b k _ row) lends x e = left_lends (unselected (origin b) row) (lent_selectors (origin b) row) lends x e
 
-  -- an extension has its base's cells
-  extended_cells : (s r : ℕ) → extends p.types s r ≡ true → length (record_forms p.types r) ≤ length (record_forms p.types s)
-  extended_cells s r h = by (length (record_forms p.types r)) refl
-    where
-      found : (xs : List Form) (j : ℕ) → j < length xs → (x : Form) × (slice_get xs j ≡ Some x)
-      found [] j lt = absurd (omega (arith, lt))
-      found (x ∷ xs) zero lt = (x, refl)
-      found (x ∷ xs) (suc j) lt = found xs j (omega (arith, lt))
-
-      by : (n : ℕ) → length (record_forms p.types r) ≡ n → length (record_forms p.types r) ≤ length (record_forms p.types s)
-      by zero e = omega (arith, e)
-      by (suc n) e =
-          let x = found (record_forms p.types r) n (omega (arith, e)) in
-          let there = in_length p (record_forms p.types s) n x.0 (prefix p.types good s r n x.0 h x.1) in omega (arith, e, there)
-
-  record_row : (k l s r : ℕ) → record_by (kind_of p.types k) ≡ Some r → record_by (kind_of p.types l) ≡ Some s → extends p.types s r ≡ true → cells p.types k ≤ cells p.types l
-  record_row k l s r is on h =
-      let a = cells_length p.types k ∙ ap (λ (xs : List Form). length xs) (whole_forms p.types good k r (record_is p good (kind_of p.types k) r is)) in
-      let b = cells_length p.types l ∙ ap (λ (xs : List Form). length xs) (whole_forms p.types good l s (record_is p good (kind_of p.types l) s on)) in
-      let e = extended_cells s r h in omega (arith, a, b, e)
-
   no_record : (o : Option ℕ) → (false || holds_of (λ r. false) o) ≡ true → ⊥
   no_record None e = no e
   no_record (Some r) e = no e
 
-  -- what may be handed over has the cells of its parameter
-  place_row : (k : ℕ) (v : Bool) (n : Thing) (h : Handed) → SecondFits w l n h → WellFormed.place_suits p k v n ≡ true → cells p.types k ≤ row_of w l n h
-  place_row k true (Of j may) h second suits = let e = eqb-true j k (and_of (j == k) may suits).0 in let f = ap (cells p.types) e in omega (arith, f)
-  place_row k false (Of j may) h second suits = elim (or_split p good (j == k) (holds_of (λ r. WellFormed.has_record p r (Of j may)) (record_by (kind_of p.types k))) suits) [
-    | inl e ↦ (let f = ap (cells p.types) (eqb-true j k e) in omega (arith, f))
-    | inr e ↦ (let r = holds_is p good (λ r. WellFormed.has_record p r (Of j may)) (record_by (kind_of p.types k)) e in
-        let s = holds_is p good (λ s. extends p.types s r.0) (record_by (kind_of p.types j)) r.2 in
-        record_row k j s.0 r.0 r.1 s.1 s.2)
+  -- what may be handed over begins with what its parameter has
+  place_part : (k : ℕ) (v : Bool) (n : Thing) (h : Handed) → SecondFits w l n h → WellFormed.place_suits p k v n ≡ true → Node w.packed (tree_of w l n h) 0 0 (data_tree p.types k)
+  place_part k true (Of j may) h second suits = let e = eqb-true j k (and_of (j == k) may suits).0 in subst (λ k. Node w.packed (data_tree p.types j) 0 0 (data_tree p.types k)) e (node_self w.packed (data_tree p.types j))
+  place_part k false (Of j may) h second suits = elim (or_split p good (j == k) (holds_of (λ r. WellFormed.has_record p r (Of j may)) (record_by (kind_of p.types k))) suits) [
+    | inl e ↦ subst (λ k. Node w.packed (data_tree p.types j) 0 0 (data_tree p.types k)) (eqb-true j k e) (node_self w.packed (data_tree p.types j))
+    | inr e ↦ (let r = holds_is p good (λ r. WellFormed.has_record p r (Of j may)) (record_by (kind_of p.types k)) e in whole_record k r.0 (Of j may) h r.1 (record_part (Of j may) r.0 r.2 h second))
   ]
-  place_row k false (Dynamic r) (Tagged a t) second suits =
+    where
+      whole_record : (k r : ℕ) (n : Thing) (h : Handed) → record_by (kind_of p.types k) ≡ Some r → Node w.packed (tree_of w l n h) 0 0 (Record (record_row p.types r)) → Node w.packed (tree_of w l n h) 0 0 (data_tree p.types k)
+      whole_record k r n h is part = subst (λ t. Node w.packed (tree_of w l n h) 0 0 t) (sym (record_data_tree p.types good k r (record_is p good (kind_of p.types k) r is))) part
+  place_part k false (Dynamic r) h second suits =
       let b = holds_is p good (λ b. extends p.types r b) (record_by (kind_of p.types k)) suits in
-      let whole = cells_length p.types k ∙ ap (λ (xs : List Form). length xs) (whole_forms p.types good k b.0 (record_is p good (kind_of p.types k) b.0 b.1)) in
-      let less = extended_cells t b.0 (extends_trans p.types good t r b.0 second b.2) in
-      let own = record_cells_length p.types t in omega (arith, whole, less, own)
-  place_row k false (Dynamic r) _ second suits = absurd second
-  place_row k true (Dynamic r) h second suits = no suits
-  place_row k true (Cells f may) h second suits = no suits
-  place_row k true (OpenOf e may) h second suits = no suits
-  place_row k true (Characters m) h second suits = no suits
-  place_row k false (Cells f may) h second suits = absurd (no_record (record_by (kind_of p.types k)) suits)
-  place_row k false (OpenOf e may) h second suits = absurd (no_record (record_by (kind_of p.types k)) suits)
-  place_row k false (Characters m) h second suits = absurd (no_record (record_by (kind_of p.types k)) suits)
+      subst (λ t. Node w.packed (tree_of w l (Dynamic r) h) 0 0 t) (sym (record_data_tree p.types good k b.0 (record_is p good (kind_of p.types k) b.0 b.1))) (record_part (Dynamic r) b.0 b.2 h second)
+  place_part k true (Dynamic r) h second suits = no suits
+  place_part k true (Cells f may) h second suits = no suits
+  place_part k true (OpenOf e may) h second suits = no suits
+  place_part k true (Characters m) h second suits = no suits
+  place_part k false (Cells f may) h second suits = absurd (no_record (record_by (kind_of p.types k)) suits)
+  place_part k false (OpenOf e may) h second suits = absurd (no_record (record_by (kind_of p.types k)) suits)
+  place_part k false (Characters m) h second suits = absurd (no_record (record_by (kind_of p.types k)) suits)
 
   ---- Expressions
 
@@ -598,10 +680,10 @@ module _ (w : Whole) (l : Level) (right : Right w) (apart : Apart l) (vars : Var
       by (Characters m) at is = no is
 
   abbrev Meant : Option Form → Act Cell → Type 0
-  Meant o x = (tags : List ℕ) → Older l.store.tags tags → Means p good l.forms tags o x
+  Meant o x = (tags : List ℕ) → Older l.store.tags tags → Means p good (forms_of_all p l.types) tags o x
 
   means_link : (k : Link) (o : Option Form) (x : Act Cell) → Meant o x → Meant (WellFormed.link_form p l.proc k o) (link p calls runs k x)
-  means_link k o x q tags older = t_link p good calls sound runs l.forms tags frame (taken_at tags older) k o x (q tags older)
+  means_link k o x q tags older = t_link p good calls sound runs (forms_of_all p l.types) tags frame (taken_at tags older) k o x (q tags older)
 
   length_shows : (o : Option ℕ) (d : Designator) (k : Form) → provided (holds_of (WellFormed.any_array p o) (WellFormed.named p l.proc d)) (Some Number) ≡ Some k
       → ((t : Thing) → WellFormed.named p l.proc d ≡ Some t → Follows w l 0 fuel nothing (Given w l) (DesignatorIs w l (whole_of d) t) (designated p calls runs d) (named p lay mine d))
@@ -610,14 +692,14 @@ module _ (w : Whole) (l : Level) (right : Right w) (apart : Apart l) (vars : Var
       let a = provided_is p (holds_of (WellFormed.any_array p o) (WellFormed.named p l.proc d)) (Some Number) k is in
       let t = holds_is p good (WellFormed.any_array p o) (WellFormed.named p l.proc d) a.0 in
       let e = holds_is p good (λ x. true) (WellFormed.elements_in p t.0 o) t.2 in
-      shown (follows_length w l o (element_cells e.0) (designated p calls runs d) steady (steady_designator w l (whole_of d) t.0) (span_is (whole_of d) t.0 o e.0 e.1) (one t.0 t.1))
+      shown (follows_length w l o (element_tree e.0) (designated p calls runs d) steady (steady_designator w l (whole_of d) t.0) (span_is (whole_of d) t.0 o e.0 e.1) (one t.0 t.1))
 
   ---- Arguments
 
   -- they are as they are taken
   all_given : {m : _} (xs : List Formal) (row : Row_of-Argument m) → WellFormed.all_suit p l.proc row xs ≡ true → Follows w l 0 fuel nothing (Given w l) (WordsAre w l xs) (arguments p calls runs row) (lower_arguments p lay mine row)
-      → Follows w l 0 fuel nothing (Given w l) (λ hs us n f s. WordsAre w l xs hs us n f s × AllTaken p good l.forms s.tags xs hs) (arguments p calls runs row) (lower_arguments p lay mine row)
-  all_given xs row suits one = follows_sound w l {P = λ tags hs. AllTaken p good l.forms tags xs hs} (λ tags older. t_arguments p good calls sound runs l.forms tags frame (taken_at tags older) _ row xs suits) one
+      → Follows w l 0 fuel nothing (Given w l) (λ hs us n f s. WordsAre w l xs hs us n f s × AllTaken p good (forms_of_all p l.types) s.tags xs hs) (arguments p calls runs row) (lower_arguments p lay mine row)
+  all_given xs row suits one = follows_sound w l {P = λ tags hs. AllTaken p good (forms_of_all p l.types) tags xs hs} (λ tags older. t_arguments p good calls sound runs (forms_of_all p l.types) tags frame (taken_at tags older) _ row xs suits) one
 
   -- a procedure variable that is called is of a procedure type, and so are the arguments
   called_through : {m : _} (d : Designator) (args : Row_of-Argument m) → holds_of (WellFormed.suits_through p (WellFormed.all_suit p l.proc args)) (with_some (WellFormed.named p l.proc d) (WellFormed.scalar_in p)) ≡ true
@@ -632,7 +714,7 @@ module _ (w : Whole) (l : Level) (right : Right w) (apart : Apart l) (vars : Var
       → Follows w l 0 fuel nothing (Given w l) (CellIs w l) (load (designated p calls runs d)) (lower_load (home_of (named p lay mine d) (small p lay mine d)))
   variable_value d k is one =
       let z = with_is p good (WellFormed.named p l.proc d) (WellFormed.scalar_in p) k is in
-      follows_load w l (whole_of d) (designated p calls runs d) steady (follows_home w l (whole_of d) z.0 (designated p calls runs d) steady (λ h v m g s known. scalar_row z.0 k z.2 h) (only_named w l z.0 (one z.0 z.1)))
+      follows_load w l (whole_of d) (small p lay mine d) (designated p calls runs d) steady (follows_home w l (whole_of d) (small p lay mine d) z.0 (designated p calls runs d) k (scalar_tree z.0 k z.2) (small_is d z.0 k z.1 z.2) steady (only_named w l z.0 (one z.0 z.1)))
 
   code_value : (d : Designator) (k : ℕ) → with_some (WellFormed.named p l.proc d) (WellFormed.scalar_in p) ≡ Some (Routines k) → ((n : Thing) → WellFormed.named p l.proc d ≡ Some n → Follows w l 0 fuel nothing (Given w l) (DesignatorIs w l (whole_of d) n) (designated p calls runs d) (named p lay mine d))
       → Follows w l 0 fuel nothing (Given w l) (λ c i n f s. CellIs w l c i n f s × HasForm p (Routines k) s.tags c) (load (designated p calls runs d)) (lower_load (home_of (named p lay mine d) (small p lay mine d)))
@@ -651,11 +733,11 @@ module _ (w : Whole) (l : Level) (right : Right w) (apart : Apart l) (vars : Var
       let n = holds_is p good (WellFormed.place_suits p k v) (WellFormed.named p l.proc d) suits in
       follows_by_place w l k steady (follows_bind w l steady (one n.0 n.1) (λ h. grows_address w l h 0) (λ h a. addressed n.0 n.2 h a))
     where
-      addressed : (n : Thing) → WellFormed.place_suits p k v n ≡ true → (h : Handed) (a : Named) → Follows w l 0 fuel nothing (Both (Given w l) (DesignatorIs w l (whole_of d) n h a)) (RowIs w l (cells p.types k)) (given (address_in h)) (lower_address a 0)
+      addressed : (n : Thing) → WellFormed.place_suits p k v n ≡ true → (h : Handed) (a : Named) → Follows w l 0 fuel nothing (Both (Given w l) (DesignatorIs w l (whole_of d) n h a)) (RowIs w l (data_tree p.types k)) (given (address_in h)) (lower_address a 0)
       addressed n suits h a = record {
         grows = grows_address w l a 0;
         by = λ most g c f s room free le needs few stands fits within known typed r.
-            (follows_address w l {K = Given w l} (whole_of d) n h a (cells p.types k) (place_row k v n h known.1.1 suits) (inr (own_lent d lends))).by most g c f s room free le needs few stands fits within (known.0, known.1.0) typed r;
+            (follows_less w l (λ b i n2 g s2 k2. (k2.0, begun_by w l b (tree_of w l n h) (data_tree p.types k) (g i) s2 (place_part k v n h known.1.1 suits) k2.1)) (follows_address w l {K = Given w l} (whole_of d) n h a (inr (own_lent d lends)))).by most g c f s room free le needs few stands fits within (known.0, known.1.0) typed r;
       }
   place_word OfValue k v d suits lends one = no suits
   place_word OfRecord k v d suits lends one = no suits
@@ -664,20 +746,19 @@ module _ (w : Whole) (l : Level) (right : Right w) (apart : Apart l) (vars : Var
   tags_same : (a b : Address) (r t : ℕ) → Some (Tagged a r) ≡ Some (Tagged b t) → r ≡ t
   tags_same a b r t e = cc
 
-  -- a record that may be handed over with a tag has that record type's cells
-  tagged_row : (b r : ℕ) (n : Thing) (h : Handed) (tags : List ℕ) → WellFormed.record_suits p b r n ≡ true → Names p l.forms tags n h → (a : Address) (t : ℕ) → with_tag h r ≡ Some (Tagged a t) → record_cells p.types t ≤ row_of w l n h
-  tagged_row b r (Of k true) (Addressed c) tags suits names a t is =
+  -- a record that may be handed over with a tag is one of that record type
+  tagged_part : (b r : ℕ) (n : Thing) (h : Handed) (tags : List ℕ) → WellFormed.record_suits p b r n ≡ true → Names p (forms_of_all p l.types) tags n h → (a : Address) (t : ℕ) → with_tag h r ≡ Some (Tagged a t) → Node w.packed (tree_of w l n h) 0 0 (Record (record_row p.types t))
+  tagged_part b r (Of k true) (Addressed c) tags suits names a t is =
       let s = holds_is p good (λ s. s == r && extends p.types s b) (record_by (kind_of p.types k)) suits in
       let same = eqb-true s.0 r (and_of (s.0 == r) (extends p.types s.0 b) s.2).0 in
-      let whole = cells_length p.types k ∙ ap (λ (xs : List Form). length xs) (whole_forms p.types good k s.0 (record_is p good (kind_of p.types k) s.0 s.1)) in
-      let own = record_cells_length p.types s.0 in
-      let tag = ap (record_cells p.types) (same ∙ tags_same c a r t is) in omega (arith, whole, own, tag)
-  tagged_row b r (Dynamic s) (Tagged c k) tags suits names a t is = let tag = ap (record_cells p.types) (tags_same c a k t is) in omega (arith, tag)
-  tagged_row b r (Of k false) h tags suits names a t is = no suits
-  tagged_row b r (Cells f may) h tags suits names a t is = no suits
-  tagged_row b r (OpenOf e may) h tags suits names a t is = no suits
-  tagged_row b r (Characters m) h tags suits names a t is = no suits
-  tagged_row b r _ _ tags suits names a t is = absurd names
+      subst (λ z. Node w.packed (data_tree p.types k) 0 0 (Record (record_row p.types z))) (same ∙ tags_same c a r t is)
+      (subst (λ z. Node w.packed z 0 0 (Record (record_row p.types s.0))) (sym (record_data_tree p.types good k s.0 (record_is p good (kind_of p.types k) s.0 s.1))) (node_self w.packed (Record (record_row p.types s.0))))
+  tagged_part b r (Dynamic s) (Tagged c k) tags suits names a t is = subst (λ z. Node w.packed (Record (record_row p.types k)) 0 0 (Record (record_row p.types z))) (tags_same c a k t is) (node_self w.packed (Record (record_row p.types k)))
+  tagged_part b r (Of k false) h tags suits names a t is = no suits
+  tagged_part b r (Cells f may) h tags suits names a t is = no suits
+  tagged_part b r (OpenOf e may) h tags suits names a t is = no suits
+  tagged_part b r (Characters m) h tags suits names a t is = no suits
+  tagged_part b r _ _ tags suits names a t is = absurd names
 
   record_word : (m : Mode) (k r : ℕ) (d : Designator) → WellFormed.record_argument p m (record_by (kind_of p.types k)) r (WellFormed.named p l.proc d) ≡ true → Lends (lent_whole d) → ((n : Thing) → WellFormed.named p l.proc d ≡ Some n → Follows w l 0 fuel nothing (Given w l) (DesignatorIs w l (whole_of d) n) (designated p calls runs d) (named p lay mine d))
       → Follows w l 0 fuel nothing (Given w l) (OneWord w l m k) (by_record (designated p calls runs d) r) (lower_record (named p lay mine d) (descriptor p lay mine r))
@@ -688,9 +769,9 @@ module _ (w : Whole) (l : Level) (right : Right w) (apart : Apart l) (vars : Var
       by (Some b) h =
           let n = holds_is p good (WellFormed.record_suits p b r) (WellFormed.named p l.proc d) h in
           follows_by_record w l k r (whole_of d) n.0 (descriptor p lay mine r) (designated p calls runs d) steady (vars.descriptor r) (own_lent d lends)
-          (λ h v. steady_and w l (steady_designator w l (whole_of d) n.0 h v) (record { by = λ i j f g s t le same later names. names_older p l.forms s.tags t.tags (λ o k e. later.tag o k e) n.0 h names }))
-          (λ h v i f s names. names.0.0) (λ h v i f s names. tagged_row b r n.0 h s.tags n.2 names.1)
-          (follows_sound w l {P = NamesOf p l.forms n.0} (λ tags older. (t_named p good calls sound runs l.forms tags frame (taken_at tags older) d).sound n.0 n.1) (one n.0 n.1))
+          (λ h v. steady_and w l (steady_designator w l (whole_of d) n.0 h v) (record { by = λ i j f g s t le same later names. names_older p (forms_of_all p l.types) s.tags t.tags (λ o k e. later.tag o k e) n.0 h names }))
+          (λ h v i f s names. names.0.0) (λ h v i f s names. tagged_part b r n.0 h s.tags n.2 names.1)
+          (follows_sound w l {P = NamesOf p (forms_of_all p l.types) n.0} (λ tags older. (t_named p good calls sound runs (forms_of_all p l.types) tags frame (taken_at tags older) d).sound n.0 n.1) (one n.0 n.1))
   record_word OfValue k r d suits lends one = no suits
   record_word Place k r d suits lends one = no suits
   record_word OfOpen k r d suits lends one = no suits
@@ -703,22 +784,30 @@ module _ (w : Whole) (l : Level) (right : Right w) (apart : Apart l) (vars : Var
       by None at h = no h
       by (Some e) at h =
           let n = holds_is p good (WellFormed.open_suits p e v o) (WellFormed.named p l.proc d) h in
-          follows_by_open w l k o (cells p.types e) (designated p calls runs d) steady (steady_designator w l (whole_of d) n.0) (λ i is. ap (cells p.types) (some_same e i (sym at ∙ is)))
+          follows_by_open w l k o (data_tree p.types e) (designated p calls runs d) steady (steady_designator w l (whole_of d) n.0) (λ i is. ap (data_tree p.types) (some_same e i (sym at ∙ is)))
           (array_is (whole_of d) n.0 o e (open_parts p good e v o n.0 n.2).0) (one n.0 n.1)
   open_word OfValue k v d o suits one = no suits
   open_word Place k v d o suits one = no suits
   open_word OfRecord k v d o suits one = no suits
 
   -- an array of characters, and what it is
-  letters_span : {mask : Mask} (own : Mask) (t : Thing) (o : Option ℕ) (el : Elementary) → WellFormed.elements_in p t o ≡ Some el → WellFormed.is_letter p el ≡ true → (h : Handed) (v : Named) → Follows w l 0 fuel mask (Both (Given w l) (DesignatorIs w l own t h v)) (SpanIs w l o 1 v) (span_by w l o h) (lower_address v 0)
+  letter_tree : (el : Elementary) → WellFormed.is_letter p el ≡ true → element_tree el ≡ Scalar Small
+  letter_tree Letter h = refl
+  letter_tree (OfType k) h = scalar_data_tree p.types good k Small (char_form (kind_of p.types k) h)
+    where
+      char_form : (kind : TypeKind) → WellFormed.is_char kind ≡ true → scalar_form kind ≡ Some Small
+      char_form Char h = refl
+      char_form _ h = no h
+
+  letters_span : {mask : Mask} (own : Mask) (t : Thing) (o : Option ℕ) (el : Elementary) → WellFormed.elements_in p t o ≡ Some el → WellFormed.is_letter p el ≡ true → (h : Handed) (v : Named) → Follows w l 0 fuel mask (Both (Given w l) (DesignatorIs w l own t h v)) (SpanIs w l o (Scalar Small) v) (span_by w l o h) (lower_address v 0)
   letters_span {mask} own t o el is letter h v =
-      subst (λ c. Follows w l 0 fuel mask (Both (Given w l) (DesignatorIs w l own t h v)) (SpanIs w l o c v) (span_by w l o h) (lower_address v 0)) (ap (λ (xs : List Form). length xs) (letter_forms p good el letter)) (span_is own t o el is h v)
+      subst (λ c. Follows w l 0 fuel mask (Both (Given w l) (DesignatorIs w l own t h v)) (SpanIs w l o c v) (span_by w l o h) (lower_address v 0)) (letter_tree el letter) (span_is own t o el is h v)
 
   sound_named : {mask : Mask} (d : Designator) (t : Thing) → WellFormed.named p l.proc d ≡ Some t → Follows w l 0 fuel mask (Given w l) (DesignatorIs w l (whole_of d) t) (designated p calls runs d) (named p lay mine d) → Follows w l 0 fuel mask (Given w l) (NamedText w l (whole_of d) t) (designated p calls runs d) (named p lay mine d)
-  sound_named d t is one = follows_sound w l {P = NamesOf p l.forms t} (λ tags older. (t_named p good calls sound runs l.forms tags frame (taken_at tags older) d).sound t is) one
+  sound_named d t is one = follows_sound w l {P = NamesOf p (forms_of_all p l.types) t} (λ tags older. (t_named p good calls sound runs (forms_of_all p l.types) tags frame (taken_at tags older) d).sound t is) one
 
   sensible_base : (b : Base) (n : Thing) → WellFormed.base_named p l.proc b ≡ Some n → Sensible n (base_of p calls runs b)
-  sensible_base b n is tags older = (t_base p good calls sound runs l.forms tags frame (taken_at tags older) b).sound n is
+  sensible_base b n is tags older = (t_base p good calls sound runs (forms_of_all p l.types) tags frame (taken_at tags older) b).sound n is
 
   mutual
     pub named_is : (d : Designator) (n : Thing) → WellFormed.named p l.proc d ≡ Some n → Lends (lent_at d) → Follows w l 0 fuel nothing (Given w l) (DesignatorIs w l (whole_of d) n) (designated p calls runs d) (named p lay mine d)
@@ -759,19 +848,17 @@ module _ (w : Whole) (l : Level) (right : Right w) (apart : Apart l) (vars : Var
         let c = provided_is p (gives_number (WellFormed.form p l.proc x)) (Some (Of e (WellFormed.is_writable b))) t has.1 in
         let g = number_form (WellFormed.form p l.proc x) c.0 in
         subst (λ t. PartIs t (select p calls runs (Index o e x) d) (lower_select p lay mine (Index o e x) low)) (some_same (Of e (WellFormed.is_writable b)) t c.1)
-        (tt, of_variable e (WellFormed.is_writable b) (follows_element_place w l o (cells p.types e) (value p calls runs x) (expr p lay mine x).value none (Of e (WellFormed.is_writable b)) d steady (steady_designator w l own b) (λ a. refl) (array_is own b o e has.0) one (shows_of x g.0 g.1 lends).value))
+        (tt, of_variable e (WellFormed.is_writable b) (follows_element_place w l o (data_tree p.types e) (cells p.types e) (lay.bytes e) (cells_are p.types e) (right.laid.bytes e) (value p calls runs x) (expr p lay mine x).value none (Of e (WellFormed.is_writable b)) d steady (steady_designator w l own b) (λ a. refl) (array_is own b o e has.0) one (shows_of x g.0 g.1 lends).value))
     select_is (Field r f) own (Of k may) t d low is parts lends sensible one =
         let a = provided_is p (WellFormed.has_record p r (Of k may)) (with_some (slice_get (types_of (record_of p.types r).fields) f) (λ k. Some (Of k may))) t is in
         let c = with_is p good (slice_get (types_of (record_of p.types r).fields) f) (λ k. Some (Of k may)) t a.1 in
-        let s = holds_is p good (λ s. extends p.types s r) (WellFormed.record_by (kind_of p.types k)) a.0 in
-        let kind = record_is p good (kind_of p.types k) s.0 s.1 in
         subst (λ t. PartIs t (select p calls runs (Field r f) d) (lower_select p lay mine (Field r f) low)) (some_same (Of c.0 may) t c.2)
-        (tt, of_variable c.0 may (follows_field_place w l own none (Of k may) (Of c.0 may) d (field_place p.types r f) (cells p.types c.0) steady (λ h second j lt. field_cells k s.0 r f c.0 j kind s.2 c.1 lt) (ap (λ z. not (is_structured z)) kind) (λ a. refl) one))
+        (tt, of_variable c.0 may (follows_field_place w l own none (Of k may) (Of c.0 may) d (field_place p.types r f) (lay.offset r f) (data_tree p.types c.0) steady (field_part (Of k may) r f c.0 a.0 c.1) (record_many (Of k may) r a.0) (λ a. refl) one))
     select_is (Field r f) own (Dynamic b) t d low is parts lends sensible one =
         let a = provided_is p (WellFormed.has_record p r (Dynamic b)) (with_some (slice_get (types_of (record_of p.types r).fields) f) (λ k. Some (Of k true))) t is in
         let c = with_is p good (slice_get (types_of (record_of p.types r).fields) f) (λ k. Some (Of k true)) t a.1 in
         subst (λ t. PartIs t (select p calls runs (Field r f) d) (lower_select p lay mine (Field r f) low)) (some_same (Of c.0 true) t c.2)
-        (tt, of_variable c.0 true (follows_field_place w l own none (Dynamic b) (Of c.0 true) d (field_place p.types r f) (cells p.types c.0) steady (λ h second j lt. dynamic_cells b r f c.0 h second a.0 c.1 j lt) refl (λ a. refl) one))
+        (tt, of_variable c.0 true (follows_field_place w l own none (Dynamic b) (Of c.0 true) d (field_place p.types r f) (lay.offset r f) (data_tree p.types c.0) steady (field_part (Dynamic b) r f c.0 a.0 c.1) refl (λ a. refl) one))
     select_is (Field r f) own (OpenOf e may) t d low is parts lends sensible one = none_some t is
     select_is (Field r f) own (Cells g may) t d low is parts lends sensible one = none_some t is
     select_is (Field r f) own (Characters m) t d low is parts lends sensible one = none_some t is
@@ -784,7 +871,7 @@ module _ (w : Whole) (l : Level) (right : Right w) (apart : Apart l) (vars : Var
         (λ sensible. (
           subst Legal r.2 (legal_select (Dereference rs) b t is parts),
           of_sensible (Dynamic r.0) sensible (follows_object w l none r.0 steady (follows_guards rs (WellFormed.scalar_in p b) a.0 (load d) (lower_load (home_of low false)) a.1
-              (follows_load w l own d steady (follows_home w l own b d steady (λ h v m g s known. scalar_row b c.0 c.1 h) (only_named w l b one))))),
+              (follows_load w l own false d steady (follows_home w l own false b d c.0 (scalar_tree b c.0 c.1) (sym (wide_form c.0 (guarded_wide rs c.0 r.0 (sym (ap (WellFormed.guarded_form p rs) c.1) ∙ a.1 ∙ ap (λ f. Some f) r.1)))) steady (only_named w l b one))))),
         )) whole
     select_is (Narrow r) own (Dynamic b) t d low is parts lends sensible one =
         let a = provided_is p (is_record_type p.types r) (Some (Dynamic r)) t is in
@@ -809,7 +896,7 @@ module _ (w : Whole) (l : Level) (right : Right w) (apart : Apart l) (vars : Var
         one_shows op (value p calls runs x) (expr p lay mine x) (shows_of x y.0 y.1 lends)
     shows_of (Chain' _ x _ links) k is lends =
         let z = linked_some links (WellFormed.form p l.proc x) k is in
-        linked_shows links (WellFormed.form p l.proc x) (value p calls runs x) (expr p lay mine x) k is (right_lends (lent x) (lent_links links) lends) (shows_of x z.0 z.1 (left_lends (lent x) (lent_links links) lends)) (λ tags older. t_value p good calls sound runs l.forms tags frame (taken_at tags older) x)
+        linked_shows links (WellFormed.form p l.proc x) (value p calls runs x) (expr p lay mine x) k is (right_lends (lent x) (lent_links links) lends) (shows_of x z.0 z.1 (left_lends (lent x) (lent_links links) lends)) (λ tags older. t_value p good calls sound runs (forms_of_all p l.types) tags frame (taken_at tags older) x)
     shows_of (Compare' r _ x _ y) k is lends =
         let a = with_is p good (WellFormed.form p l.proc x) (λ a. with_some (WellFormed.form p l.proc y) (λ b. provided (WellFormed.comparable r a b) (Some Truth))) k is in
         let b = with_is p good (WellFormed.form p l.proc y) (λ b. provided (WellFormed.comparable r a.0 b) (Some Truth)) k a.2 in
@@ -898,13 +985,13 @@ module _ (w : Whole) (l : Level) (right : Right w) (apart : Apart l) (vars : Var
         let a = provided_is p (WellFormed.call_suits p l.proc (Direct' g m args)) (WellFormed.call_form p l.proc (Direct' g m args)) k is in
         let y = and_of (WellFormed.callable p g) (WellFormed.all_suit p l.proc args (procedure_of p g).formals) a.0 in
         follows_result_of w l right apart stacked good calls calling steady
-        (follows_less w l (λ r i n f s h. h.0) (follows_sound w l {P = Answers p good (WellFormed.form_of p (procedure_of p g).result)} (λ tags older. t_call p good calls sound runs l.forms tags frame (taken_at tags older) (Direct' g m args) a.0)
+        (follows_less w l (λ r i n f s h. h.0) (follows_sound w l {P = Answers p good (WellFormed.form_of p (procedure_of p g).result)} (λ tags older. t_call p good calls sound runs (forms_of_all p l.types) tags frame (taken_at tags older) (Direct' g m args) a.0)
         (follows_called w l right apart stacked good calls calling g steady y.0 (λ v. (k, a.1)) (all_given (procedure_of p g).formals args y.1 (words_are (procedure_of p g).formals args y.1 lends)))))
     call_value (Indirect' d m args) k is lends =
         let a = provided_is p (WellFormed.call_suits p l.proc (Indirect' d m args)) (WellFormed.call_form p l.proc (Indirect' d m args)) k is in
         let t = called_through d args a.0 in
         follows_result_of w l right apart stacked good calls calling steady
-        (follows_less w l (λ r i n f s h. h.0) (follows_sound w l {P = Answers p good (WellFormed.call_form p l.proc (Indirect' d m args))} (λ tags older. t_call p good calls sound runs l.forms tags frame (taken_at tags older) (Indirect' d m args) a.0)
+        (follows_less w l (λ r i n f s h. h.0) (follows_sound w l {P = Answers p good (WellFormed.call_form p l.proc (Indirect' d m args))} (λ tags older. t_call p good calls sound runs (forms_of_all p l.types) tags frame (taken_at tags older) (Indirect' d m args) a.0)
         (follows_called_value w l right apart stacked good calls calling t.0 steady (k, sym (ap (λ o. with_some o (WellFormed.result_through p)) t.1) ∙ a.1) (code_value d t.0 t.1 (λ n e. named_is d n e (left_lends (lent_at d) (lent_in args) lends)))
         (all_given (signature_of p.types t.0).formals args t.2 (words_are (signature_of p.types t.0).formals args t.2 (right_lends (lent_at d) (lent_in args) lends))))))
 
@@ -922,8 +1009,8 @@ module _ (w : Whole) (l : Level) (right : Right w) (apart : Apart l) (vars : Var
     word_is (ByRecord d) x suits lends = record_word x.mode x.type_number (record_of_kind (kind_in d)) d suits lends (λ n is. named_is d n is (at_of_whole d lends))
     word_is (ByOpen d) x suits lends = open_word x.mode x.type_number x.variable d (length_of_kind (kind_in d)) suits (λ n is. named_is d n is (at_of_whole d lends))
 
-  pub home_is : (d : Designator) (n : Thing) (f : Form) → WellFormed.named p l.proc d ≡ Some n → WellFormed.scalar_in p n ≡ Some f → Lends (lent_at d) → Follows w l 0 fuel nothing (Given w l) (HomeIs w l (whole_of d)) (place (designated p calls runs d)) (home p lay mine d)
-  home_is d n f is scalar lends = follows_home w l (whole_of d) n (designated p calls runs d) steady (λ h v m g s k. scalar_row n f scalar h) (only_named w l n (named_is d n is lends))
+  pub home_is : (d : Designator) (n : Thing) (f : Form) → WellFormed.named p l.proc d ≡ Some n → WellFormed.scalar_in p n ≡ Some f → Lends (lent_at d) → Follows w l 0 fuel nothing (Given w l) (HomeIs w l (whole_of d) (small p lay mine d)) (place (designated p calls runs d)) (home p lay mine d)
+  home_is d n f is scalar lends = follows_home w l (whole_of d) (small p lay mine d) n (designated p calls runs d) f (scalar_tree n f scalar) (small_is d n f is scalar) steady (only_named w l n (named_is d n is lends))
 
   ---- Statements
 
@@ -938,8 +1025,54 @@ module _ (w : Whole) (l : Level) (right : Right w) (apart : Apart l) (vars : Var
   value_at : {mask : Mask} (x : Checked) (k : Form) → WellFormed.checked_form p l.proc x ≡ Some k → Lends (lent x.form) → Follows w l 1 fuel mask (Given w l) (CellIs w l) (value p calls runs x.form) (expr p lay mine x.form).value
   value_at x k is lends = follows_mask w l {less = nothing} (omega arith) (λ y e. refl) (checked_shows x k is lends).value
 
-  home_at : {mask : Mask} (d : Designator) (n : Thing) (f : Form) → WellFormed.named p l.proc d ≡ Some n → WellFormed.scalar_in p n ≡ Some f → Lends (lent_at d) → Follows w l 1 fuel mask (Given w l) (HomeIs w l (whole_of d)) (place (designated p calls runs d)) (home p lay mine d)
+  home_at : {mask : Mask} (d : Designator) (n : Thing) (f : Form) → WellFormed.named p l.proc d ≡ Some n → WellFormed.scalar_in p n ≡ Some f → Lends (lent_at d) → Follows w l 1 fuel mask (Given w l) (HomeIs w l (whole_of d) (small p lay mine d)) (place (designated p calls runs d)) (home p lay mine d)
   home_at d n f is scalar lends = follows_mask w l {less = nothing} (omega arith) (λ y e. refl) (home_is d n f is scalar lends)
+
+  -- a full number's home takes eight bytes
+  full_small : (d : Designator) (n : Thing) (f : Form) → WellFormed.named p l.proc d ≡ Some n → WellFormed.scalar_in p n ≡ Some f → WellFormed.is_full f ≡ true → small p lay mine d ≡ false
+  full_small d n f is scalar full = small_is d n f is scalar ∙ wide_form f (full_wide f full)
+
+  full_home : {mask : Mask} (d : Designator) (n : Thing) (f : Form) → WellFormed.named p l.proc d ≡ Some n → WellFormed.scalar_in p n ≡ Some f → WellFormed.is_full f ≡ true → Lends (lent_at d) → Follows w l 1 fuel mask (Given w l) (HomeIs w l (whole_of d) false) (place (designated p calls runs d)) (home p lay mine d)
+  full_home {mask} d n f is scalar full lends = subst (λ b. Follows w l 1 fuel mask (Given w l) (HomeIs w l (whole_of d) b) (place (designated p calls runs d)) (home p lay mine d)) (full_small d n f is scalar full) (home_at d n f is scalar lends)
+
+  -- a pointer's as well
+  pointer_home : {mask : Mask} (d : Designator) (n : Thing) (r : ℕ) (f : Form) → WellFormed.named p l.proc d ≡ Some n → WellFormed.scalar_in p n ≡ Some f → WellFormed.points_to p r f ≡ true → Lends (lent_at d) → Follows w l 1 fuel mask (Given w l) (HomeIs w l (whole_of d) false) (place (designated p calls runs d)) (home p lay mine d)
+  pointer_home {mask} d n r f is scalar points lends = subst (λ b. Follows w l 1 fuel mask (Given w l) (HomeIs w l (whole_of d) b) (place (designated p calls runs d)) (home p lay mine d)) (small_is d n f is scalar ∙ wide_form f (wide_pointer f points)) (home_at d n f is scalar lends)
+    where
+      wide_pointer : (f : Form) → WellFormed.points_to p r f ≡ true → fits_byte f ≡ false
+      wide_pointer (ToRecord b) h = refl
+      wide_pointer Zero h = no h
+      wide_pointer Truth h = no h
+      wide_pointer Small h = no h
+      wide_pointer Number h = no h
+      wide_pointer (Routines k) h = no h
+      wide_pointer (Exactly g) h = no h
+
+  -- a value that suits a byte is narrow
+  byte_narrow : (f : Form) (c : Cell) (tags : List ℕ) → fits_byte f ≡ true → Fits p tags f c → (b : Bool) → IsNarrow w l b c
+  byte_narrow f c tags is fit false = tt
+  byte_narrow Truth (Bits n) tags is fit true = omega (arith, fit)
+  byte_narrow Small (Bits n) tags is fit true = fit
+  byte_narrow Truth (PointerCell o) tags is fit true = absurd fit
+  byte_narrow Truth (CodeCell g) tags is fit true = absurd fit
+  byte_narrow Small (PointerCell o) tags is fit true = absurd fit
+  byte_narrow Small (CodeCell g) tags is fit true = absurd fit
+  byte_narrow Zero c tags is fit true = no is
+  byte_narrow Number c tags is fit true = no is
+  byte_narrow (ToRecord r) c tags is fit true = no is
+  byte_narrow (Routines k) c tags is fit true = no is
+  byte_narrow (Exactly g) c tags is fit true = no is
+
+  narrow_value : (d : Designator) (n : Thing) (a f : Form) → WellFormed.named p l.proc d ≡ Some n → WellFormed.scalar_in p n ≡ Some f → WellFormed.suits p a f ≡ true → (c : Cell) (tags : List ℕ) → HasForm p a tags c → IsNarrow w l (small p lay mine d) c
+  narrow_value d n a f is scalar suits c tags has = by (fits_byte f) refl
+    where
+      by : (b : Bool) → fits_byte f ≡ b → IsNarrow w l (small p lay mine d) c
+      by true e = byte_narrow f c tags e (suits_fits p good tags a f c suits has) (small p lay mine d)
+      by false e = narrow_wide (small p lay mine d) c (small_is d n f is scalar ∙ wide_form f e)
+
+  -- any value is narrow where eight bytes are taken
+  wide_value : {need : ℕ} {mask : Mask} {x : Act Cell} {q : Low ℕ} (b : Bool) → b ≡ false → Follows w l need fuel mask (Given w l) (CellIs w l) x q → Follows w l need fuel mask (Given w l) (λ c i. Both (CellIs w l c i) (λ n f s. IsNarrow w l b c)) x q
+  wide_value b e one = follows_less w l (λ c i n f s h. (h, narrow_wide b c e)) one
 
   -- the variables that may change
   abbrev Covers : Mask → Mask → Type 0
@@ -985,41 +1118,14 @@ module _ (w : Whole) (l : Level) (right : Right w) (apart : Apart l) (vars : Var
 
   -- a statement that makes sense leaves a typed store
   typed_by : {mask : Mask} (s : Stmt) {low : Low (Unit {0})} → WellFormed.fine p l.proc s ≡ true → FollowsTo w l false 1 fuel mask (Given w l) Always (effect p calls runs fuel s) low → Follows w l 1 fuel mask (Given w l) Always (effect p calls runs fuel s) low
-  typed_by s fine one = follows_less w l (λ a b n f t h. tt) (follows_sound w l {P = Any p} (λ tags older. (t_effect p good calls sound runs l.forms tags frame (taken_at tags older) fuel s).sound fine) one)
+  typed_by s fine one = follows_less w l (λ a b n f t h. tt) (follows_sound w l {P = Any p} (λ tags older. (t_effect p good calls sound runs (forms_of_all p l.types) tags frame (taken_at tags older) fuel s).sound fine) one)
 
   -- what needs no turns before it
   unpaid : {mask : Mask} {A B : Type 0} {K : Fact} {R : A → B → Fact} {x : Act A} {low : Low B} → Follows w l 0 fuel nothing K R x low → Follows w l 1 fuel mask K R x low
   unpaid one = follows_mask w l {less = nothing} (omega arith) (λ y e. refl) one
 
-  -- a record reaches as far as its type's base does
-  record_long : (d : Thing) (r : ℕ) → WellFormed.has_record p r d ≡ true → (h : Handed) → SecondFits w l d h → record_cells p.types r ≤ row_of w l d h
-  record_long (Of k may) r has h second =
-      let s = holds_is p good (λ s. extends p.types s r) (record_by (kind_of p.types k)) has in
-      let a = cells_length p.types k ∙ ap (λ (xs : List Form). length xs) (whole_forms p.types good k s.0 (record_is p good (kind_of p.types k) s.0 s.1)) in
-      let b = record_cells_length p.types r in
-      let e = extended_cells s.0 r s.2 in omega (arith, a, b, e)
-  record_long (Dynamic b) r has (Tagged a t) second =
-      let less = extended_cells t r (extends_trans p.types good t b r second has) in
-      let own = record_cells_length p.types t in
-      let base = record_cells_length p.types r in omega (arith, less, own, base)
-  record_long (Dynamic b) r has (Addressed a) second = absurd second
-  record_long (Dynamic b) r has (Sized a n) second = absurd second
-  record_long (Dynamic b) r has (Value c) second = absurd second
-  record_long (Cells f may) r has h second = no has
-  record_long (OpenOf e may) r has h second = no has
-  record_long (Characters m) r has h second = no has
-
-  record_many : (d : Thing) (r : ℕ) → WellFormed.has_record p r d ≡ true → is_single w l d ≡ false
-  record_many (Of k may) r has =
-      let s = holds_is p good (λ s. extends p.types s r) (record_by (kind_of p.types k)) has in
-      ap (λ z. not (is_structured z)) (record_is p good (kind_of p.types k) s.0 s.1)
-  record_many (Dynamic b) r has = refl
-  record_many (Cells f may) r has = no has
-  record_many (OpenOf e may) r has = no has
-  record_many (Characters m) r has = no has
-
-  record_reaches : (own : Mask) (d : Thing) (r : ℕ) → WellFormed.has_record p r d ≡ true → Reaches w l right apart own d (record_cells p.types r)
-  record_reaches own d r has = record { long = record_long d r has; many = record_many d r has }
+  record_reaches : (own : Mask) (d : Thing) (r : ℕ) → WellFormed.has_record p r d ≡ true → Reaches w l right apart own d (Record (record_row p.types r))
+  record_reaches own d r has = record { part = record_part d r has; many = record_many d r has }
 
   -- the record type of a new object is there, and its descriptor's place is within the limit
   record_type_of : (r : ℕ) (k : Form) → WellFormed.points_to p r k ≡ true → r < length p.types.records
@@ -1030,6 +1136,25 @@ module _ (w : Whole) (l : Level) (right : Right w) (apart : Apart l) (vars : Var
   record_type_of r Number h = no h
   record_type_of r (Routines k) h = no h
   record_type_of r (Exactly g) h = no h
+
+  -- a number that takes a character takes as many bytes as characters do: where these take eight, all take eight
+  character_width : (f : Form) → WellFormed.changes true f ≡ true → lay.is_small Char ≡ takes_byte (ground w) f
+  character_width f h = right.laid.is_small Char ∙ by w.packed (right.laid.character) f h
+    where
+      by : (packed : Bool) → lay.character ≡ scalar_bytes packed → (f : Form) → WellFormed.changes true f ≡ true → (packed && takes_a_byte Char) ≡ (packed && fits_byte f)
+      by false e f h = refl
+      by true e Small h = refl
+      by true e f h = let c = right.character in absurd (omega (arith, e, c))
+
+  -- its cells, and its bytes with the tag
+  row_many : (r : ℕ) → record_cells p.types r ≡ row_cells (record_row p.types r)
+  row_many r = record_cells_are p.types r
+
+  room_of : (r : ℕ) → rounded (lay.record_bytes r) + 8 ≡ object_room (ground w) r
+  room_of r = let e = right.laid.record_bytes r in omega (arith, e)
+
+  bytes_small : (k : ℕ) → lay.bytes k ≤ 8388608
+  bytes_small k = let e = right.laid.bytes k in let f = few_rounded w.packed (data_tree p.types k) in let c = cells_are p.types k in let m = right.cells k in omega (arith, e, f, c, m)
 
   clamped : (n : ℕ) → within n < 2 ^ 32
   clamped n = grind (arith, nat_tests)
@@ -1061,12 +1186,12 @@ module _ (w : Whole) (l : Level) (right : Right w) (apart : Apart l) (vars : Var
   fixed_base Done n f is scalar = (_, λ s. refl)
   fixed_base (Parameter k) n f is scalar =
       let x = with_is p good (slice_get (procedure_of p l.proc).formals k) (λ x. WellFormed.parameter_by p x.mode x.type_number x.variable) n is in
-      let t = taken_of p good l.forms l.store.tags (procedure_of p l.proc).formals l.arguments taken k x.0 x.1 in
-      let names = parameter_names p good l.forms l.store.tags x.0.mode x.0.type_number x.0.variable t.0 n x.2 t.2 in
+      let t = taken_of p good (forms_of_all p l.types) l.store.tags (procedure_of p l.proc).formals l.arguments taken k x.0 x.1 in
+      let names = parameter_names p good (forms_of_all p l.types) l.store.tags x.0.mode x.0.type_number x.0.variable t.0 n x.2 t.2 in
       let a = by n t.0 scalar names in
       (a.0, λ s. ap (λ o. place (given o) s) t.1 ∙ ap (λ h. place (give h) s) a.1)
     where
-      by : (m : Thing) (h : Handed) → WellFormed.scalar_in p m ≡ Some f → Names p l.forms l.store.tags m h → (a : Address) × (h ≡ Addressed a)
+      by : (m : Thing) (h : Handed) → WellFormed.scalar_in p m ≡ Some f → Names p (forms_of_all p l.types) l.store.tags m h → (a : Address) × (h ≡ Addressed a)
       by (Of k may) (Addressed a) e names = (a, refl)
       by (Cells g may) (Addressed a) e names = (a, refl)
       by (OpenOf g may) h e names = none_some f e
@@ -1096,35 +1221,35 @@ module _ (w : Whole) (l : Level) (right : Right w) (apart : Apart l) (vars : Var
   limit_test true x y = refl
   limit_test false x y = refl
 
-  sound_same : {A : Type 0} {tags : List ℕ} {P : List ℕ → A → Type 0} (m n : Act A) → ((s : Moment Objects) → m s ≡ n s) → Sound p l.forms tags P m → Sound p l.forms tags P n
-  sound_same {tags = tags} {P = P} m n same h = record { by = λ s older typed. subst (λ e. Good p l.forms P s.store.tags e) (same s) (h.by s older typed) }
+  sound_same : {A : Type 0} {tags : List ℕ} {P : List ℕ → A → Type 0} (m n : Act A) → ((s : Moment Objects) → m s ≡ n s) → Sound p (forms_of_all p l.types) tags P m → Sound p (forms_of_all p l.types) tags P n
+  sound_same {tags = tags} {P = P} m n same h = record { by = λ s older typed. subst (λ e. Good p (forms_of_all p l.types) P s.store.tags e) (same s) (h.by s older typed) }
 
-  sound_place : (d : Designator) → holds_of (WellFormed.takes p WellFormed.is_full) (WellFormed.named p l.proc d) ≡ true → (tags : List ℕ) → Older l.store.tags tags → Sound p l.forms tags (λ t a. Formed p l.forms t a Number × (can_write a.area ≡ true)) (place (designated p calls runs d))
-  sound_place d h tags older = s_full p good (WellFormed.named p l.proc d) h (t_named p good calls sound runs l.forms tags frame (taken_at tags older) d)
+  sound_place : (d : Designator) → holds_of (WellFormed.takes p WellFormed.is_full) (WellFormed.named p l.proc d) ≡ true → (tags : List ℕ) → Older l.store.tags tags → Sound p (forms_of_all p l.types) tags (λ t a. Formed p (forms_of_all p l.types) t a Number × (can_write a.area ≡ true)) (place (designated p calls runs d))
+  sound_place d h tags older = s_full p good (WellFormed.named p l.proc d) h (t_named p good calls sound runs (forms_of_all p l.types) tags frame (taken_at tags older) d)
 
-  sound_first : (d : Designator) (x : Checked) → holds_of (WellFormed.takes p WellFormed.is_full) (WellFormed.named p l.proc d) ≡ true → gives_number (WellFormed.checked_form p l.proc x) ≡ true → (tags : List ℕ) → Older l.store.tags tags → Sound p l.forms tags (Any p) (assign (designated p calls runs d) (value p calls runs x.form))
+  sound_first : (d : Designator) (x : Checked) → holds_of (WellFormed.takes p WellFormed.is_full) (WellFormed.named p l.proc d) ≡ true → gives_number (WellFormed.checked_form p l.proc x) ≡ true → (tags : List ℕ) → Older l.store.tags tags → Sound p (forms_of_all p l.types) tags (Any p) (assign (designated p calls runs d) (value p calls runs x.form))
   sound_first d x h g tags older =
-      s_bind p (sound_place d h tags older) (λ t1 a e1 at. s_bind p (s_older p e1 (as_number p good (WellFormed.checked_form p l.proc x) g (t_checked p good calls sound runs l.forms tags frame (taken_at tags older) x)))
-      (λ t2 c e2 f. s_put p a Number c (form_older p l.forms t1 t2 e2 a.area a.object a.cell Number at.0) at.1 f))
+      s_bind p (sound_place d h tags older) (λ t1 a e1 at. s_bind p (s_older p e1 (as_number p good (WellFormed.checked_form p l.proc x) g (t_checked p good calls sound runs (forms_of_all p l.types) tags frame (taken_at tags older) x)))
+      (λ t2 c e2 f. s_put p a Number c (form_older p (forms_of_all p l.types) t1 t2 e2 a.area a.object a.cell Number at.0) at.1 f))
 
   sound_step : (d : Designator) (n : ℕ) (a : Address) → ((s : Moment Objects) → place (designated p calls runs d) s ≡ Gives a s) → holds_of (WellFormed.takes p WellFormed.is_full) (WellFormed.named p l.proc d) ≡ true → (tags : List ℕ) → Older l.store.tags tags
-      → Sound p l.forms tags (Any p) (assign (designated p calls runs d) (two_operands l.proc Add (load (designated p calls runs d)) (give (Bits n))))
+      → Sound p (forms_of_all p l.types) tags (Any p) (assign (designated p calls runs d) (two_operands l.proc Add (load (designated p calls runs d)) (give (Bits n))))
   sound_step d n a is h tags older = sound_same (place (designated p calls runs d) >>= λ a. bits (fetch a) >>= λ v. put a (Bits (add64 v n))) (assign (designated p calls runs d) (two_operands l.proc Add (load (designated p calls runs d)) (give (Bits n))))
       (λ s. ap (λ e. after e (λ a. bits (fetch a) >>= λ v. put a (Bits (add64 v n)))) (is s) ∙ sym (step_is w l a (designated p calls runs d) is n s))
-      (s_bind p (sound_place d h tags older) (λ t1 a e1 at. s_bind p (s_number_at p good a Number refl at.0) (λ t2 v e2 j. s_put p a Number (Bits (add64 v n)) (form_older p l.forms t1 t2 e2 a.area a.object a.cell Number at.0) at.1 (add64_lt v n))))
+      (s_bind p (sound_place d h tags older) (λ t1 a e1 at. s_bind p (s_number_at p good a Number refl at.0) (λ t2 v e2 j. s_put p a Number (Bits (add64 v n)) (form_older p (forms_of_all p l.types) t1 t2 e2 a.area a.object a.cell Number at.0) at.1 (add64_lt v n))))
 
   -- a call of a procedure without a result
   call_only : (c : Call) → WellFormed.call_suits p l.proc c ≡ true → Lends (lent_call c) → Follows w l 0 fuel nothing (Given w l) Always (called p calls runs c >>= λ _. give tt) (without_result (lower_called p lay mine c))
   call_only (Direct' g m args) suits lends =
       let y = and_of (WellFormed.callable p g) (WellFormed.all_suit p l.proc args (procedure_of p g).formals) suits in
       follows_then w l {R = λ r (u : Unit {0}) n f s. Unit {0}} steady
-      (follows_less w l (λ r u n f s h. tt) (follows_sound w l {P = Answers p good (WellFormed.form_of p (procedure_of p g).result)} (λ tags older. t_call p good calls sound runs l.forms tags frame (taken_at tags older) (Direct' g m args) suits)
+      (follows_less w l (λ r u n f s h. tt) (follows_sound w l {P = Answers p good (WellFormed.form_of p (procedure_of p g).result)} (λ tags older. t_call p good calls sound runs (forms_of_all p l.types) tags frame (taken_at tags older) (Direct' g m args) suits)
       (follows_called_only w l right apart stacked good calls calling g steady y.0 (all_given (procedure_of p g).formals args y.1 (words_are (procedure_of p g).formals args y.1 lends)))))
       (λ r u n f s known h. inl (tt, refl, tt))
   call_only (Indirect' d m args) suits lends =
       let t = called_through d args suits in
       follows_then w l {R = λ r (u : Unit {0}) n f s. Unit {0}} steady
-      (follows_less w l (λ r u n f s h. tt) (follows_sound w l {P = Answers p good (WellFormed.call_form p l.proc (Indirect' d m args))} (λ tags older. t_call p good calls sound runs l.forms tags frame (taken_at tags older) (Indirect' d m args) suits)
+      (follows_less w l (λ r u n f s h. tt) (follows_sound w l {P = Answers p good (WellFormed.call_form p l.proc (Indirect' d m args))} (λ tags older. t_call p good calls sound runs (forms_of_all p l.types) tags frame (taken_at tags older) (Indirect' d m args) suits)
       (follows_called_value_only w l right apart stacked good calls calling t.0 steady (code_value d t.0 t.1 (λ n e. named_is d n e (left_lends (lent_at d) (lent_in args) lends)))
       (all_given (signature_of p.types t.0).formals args t.2 (words_are (signature_of p.types t.0).formals args t.2 (right_lends (lent_at d) (lent_in args) lends))))))
       (λ r u n f s known h. inl (tt, refl, tt))
@@ -1233,27 +1358,28 @@ module _ (w : Whole) (l : Level) (right : Right w) (apart : Apart l) (vars : Var
         let z = holds_is p good (λ t. WellFormed.is_writable t && WellFormed.given_for p (WellFormed.checked_form p l.proc x) (WellFormed.scalar_in p t)) (WellFormed.named p l.proc d) fine in
         let y = and_of (WellFormed.is_writable z.0) (WellFormed.given_for p (WellFormed.checked_form p l.proc x) (WellFormed.scalar_in p z.0)) z.2 in
         let g = given_is p good (WellFormed.checked_form p l.proc x) (WellFormed.scalar_in p z.0) y.1 in
-        typed_by (Assign d x) fine (follows_assign w l right apart (whole_of d) (designated p calls runs d) steady (masked_by mask d z.0 z.1 c) (home_at d z.0 g.1 z.1 g.3 (left_lends (lent_at d) (lent x.form) lends)) (value_at x g.0 g.2 (right_lends (lent_at d) (lent x.form) lends)))
+        typed_by (Assign d x) fine (follows_assign w l right apart (whole_of d) (small p lay mine d) (designated p calls runs d) steady (masked_by mask d z.0 z.1 c) (home_at d z.0 g.1 z.1 g.3 (left_lends (lent_at d) (lent x.form) lends))
+        (follows_less w l (λ v i n f s h. (h.0, narrow_value d z.0 g.0 g.1 z.1 g.3 g.4 v s.tags h.1)) (follows_sound w l {P = HasForm p g.0} (sound_value x.form g.0 (checked_is x g.0 g.2)) (value_at x g.0 g.2 (right_lends (lent_at d) (lent x.form) lends)))))
     stmt_is mask (Increase d x) fine c lends =
         let y = and_of (gives_number (WellFormed.checked_form p l.proc x)) (holds_of (WellFormed.takes p (WellFormed.changes (is_byte (kind_in d)))) (WellFormed.named p l.proc d)) fine in
         let z = takes_is p good (WellFormed.changes (is_byte (kind_in d))) (WellFormed.named p l.proc d) y.1 in
         let g = number_form (WellFormed.checked_form p l.proc x) y.0 in
-        typed_by (Increase d x) fine (follows_number_change w l right apart (whole_of d) Add (designated p calls runs d) (is_byte (kind_in d)) tt steady (masked_by mask d z.0 z.2 c) (home_at d z.0 z.1 z.2 z.3 (left_lends (lent_at d) (lent x.form) lends)) (value_at x g.0 g.1 (right_lends (lent_at d) (lent x.form) lends)))
+        typed_by (Increase d x) fine (follows_number_change w l right apart (whole_of d) (small p lay mine d) Add (designated p calls runs d) (is_byte (kind_in d)) (λ e. byte_changes (is_byte (kind_in d)) z.1 z.4 (byte_small z.1 (sym (small_is d z.0 z.1 z.2 z.3) ∙ e))) tt steady (masked_by mask d z.0 z.2 c) (home_at d z.0 z.1 z.2 z.3 (left_lends (lent_at d) (lent x.form) lends)) (value_at x g.0 g.1 (right_lends (lent_at d) (lent x.form) lends)))
     stmt_is mask (Decrease d x) fine c lends =
         let y = and_of (gives_number (WellFormed.checked_form p l.proc x)) (holds_of (WellFormed.takes p (WellFormed.changes (is_byte (kind_in d)))) (WellFormed.named p l.proc d)) fine in
         let z = takes_is p good (WellFormed.changes (is_byte (kind_in d))) (WellFormed.named p l.proc d) y.1 in
         let g = number_form (WellFormed.checked_form p l.proc x) y.0 in
-        typed_by (Decrease d x) fine (follows_number_change w l right apart (whole_of d) Subtract (designated p calls runs d) (is_byte (kind_in d)) tt steady (masked_by mask d z.0 z.2 c) (home_at d z.0 z.1 z.2 z.3 (left_lends (lent_at d) (lent x.form) lends)) (value_at x g.0 g.1 (right_lends (lent_at d) (lent x.form) lends)))
+        typed_by (Decrease d x) fine (follows_number_change w l right apart (whole_of d) (small p lay mine d) Subtract (designated p calls runs d) (is_byte (kind_in d)) (λ e. byte_changes (is_byte (kind_in d)) z.1 z.4 (byte_small z.1 (sym (small_is d z.0 z.1 z.2 z.3) ∙ e))) tt steady (masked_by mask d z.0 z.2 c) (home_at d z.0 z.1 z.2 z.3 (left_lends (lent_at d) (lent x.form) lends)) (value_at x g.0 g.1 (right_lends (lent_at d) (lent x.form) lends)))
     stmt_is mask (Include d x) fine c lends =
         let y = and_of (gives_number (WellFormed.checked_form p l.proc x)) (holds_of (WellFormed.takes p WellFormed.is_full) (WellFormed.named p l.proc d)) fine in
         let z = takes_is p good WellFormed.is_full (WellFormed.named p l.proc d) y.1 in
         let g = number_form (WellFormed.checked_form p l.proc x) y.0 in
-        typed_by (Include d x) fine (follows_set_change w l right apart (whole_of d) Union (designated p calls runs d) tt steady (masked_by mask d z.0 z.2 c) (home_at d z.0 z.1 z.2 z.3 (left_lends (lent_at d) (lent x.form) lends)) (value_at x g.0 g.1 (right_lends (lent_at d) (lent x.form) lends)))
+        typed_by (Include d x) fine (follows_set_change w l right apart (whole_of d) Union (designated p calls runs d) tt steady (masked_by mask d z.0 z.2 c) (full_home d z.0 z.1 z.2 z.3 z.4 (left_lends (lent_at d) (lent x.form) lends)) (value_at x g.0 g.1 (right_lends (lent_at d) (lent x.form) lends)))
     stmt_is mask (Exclude d x) fine c lends =
         let y = and_of (gives_number (WellFormed.checked_form p l.proc x)) (holds_of (WellFormed.takes p WellFormed.is_full) (WellFormed.named p l.proc d)) fine in
         let z = takes_is p good WellFormed.is_full (WellFormed.named p l.proc d) y.1 in
         let g = number_form (WellFormed.checked_form p l.proc x) y.0 in
-        typed_by (Exclude d x) fine (follows_set_change w l right apart (whole_of d) Difference (designated p calls runs d) tt steady (masked_by mask d z.0 z.2 c) (home_at d z.0 z.1 z.2 z.3 (left_lends (lent_at d) (lent x.form) lends)) (value_at x g.0 g.1 (right_lends (lent_at d) (lent x.form) lends)))
+        typed_by (Exclude d x) fine (follows_set_change w l right apart (whole_of d) Difference (designated p calls runs d) tt steady (masked_by mask d z.0 z.2 c) (full_home d z.0 z.1 z.2 z.3 z.4 (left_lends (lent_at d) (lent x.form) lends)) (value_at x g.0 g.1 (right_lends (lent_at d) (lent x.form) lends)))
     stmt_is mask (Assert x) fine c lends = let g = number_form (WellFormed.checked_form p l.proc x) fine in follows_assert w l steady (value_at x g.0 g.1 lends)
     stmt_is mask (OutChar x) fine c lends = let g = holds_is p good WellFormed.is_small (WellFormed.checked_form p l.proc x) fine in follows_out_char w l steady (value_at x g.0 g.1 lends)
     stmt_is mask (OutInt x n) fine c lends =
@@ -1281,35 +1407,34 @@ module _ (w : Whole) (l : Level) (right : Right w) (apart : Apart l) (vars : Var
         let a = holds_is p good (WellFormed.may_copy p l.proc (element_kind (kind_in d)) (length_of_kind (kind_in d))) (WellFormed.named p l.proc d) y.0 in
         let b = holds_is p good (WellFormed.array_of p (element_kind (kind_in d)) (length_of_kind (kind_in e))) (WellFormed.named p l.proc e) y.1 in
         let may = and_of (WellFormed.is_writable a.0) (WellFormed.array_of p (element_kind (kind_in d)) (length_of_kind (kind_in d)) a.0) a.2 in
-        typed_by (CopyArray d e) fine (follows_copy_array w l right apart (cells p.types (element_kind (kind_in d))) (length_of_kind (kind_in d)) (length_of_kind (kind_in e)) (designated p calls runs d) (designated p calls runs e) (right.cells (element_kind (kind_in d))) fits.0 steady
-        (steady_designator w l (whole_of d) a.0) (steady_designator w l (whole_of e) b.0)
+        typed_by (CopyArray d e) fine (follows_copy_array w l right apart a.0 (data_tree p.types (element_kind (kind_in d))) (cells p.types (element_kind (kind_in d))) (lay.bytes (element_kind (kind_in d))) (length_of_kind (kind_in d)) (length_of_kind (kind_in e)) (designated p calls runs d) (designated p calls runs e)
+        (cells_are p.types (element_kind (kind_in d))) (right.laid.bytes (element_kind (kind_in d))) (bytes_small (element_kind (kind_in d))) fits.0 (writable_is w l right apart a.0 may.0) steady (steady_designator w l (whole_of e) b.0)
         (λ h v. unpaid (array_is (whole_of d) a.0 (length_of_kind (kind_in d)) (element_kind (kind_in d)) may.1 h v)) (λ h v. unpaid (array_is (whole_of e) b.0 (length_of_kind (kind_in e)) (element_kind (kind_in d)) b.2 h v))
-        (unpaid (named_is d a.0 a.1 (at_of_whole d (left_lends (lent_whole d) (lent_whole e) lends)))) (unpaid (named_is e b.0 b.1 (at_of_whole e (right_lends (lent_whole d) (lent_whole e) lends)))))
+        (unpaid (sound_named d a.0 a.1 (named_is d a.0 a.1 (at_of_whole d (left_lends (lent_whole d) (lent_whole e) lends))))) (unpaid (named_is e b.0 b.1 (at_of_whole e (right_lends (lent_whole d) (lent_whole e) lends)))))
     stmt_is mask (CopyRecord d e) fine c lends =
         let y = and_of (holds_of (λ t. WellFormed.is_writable t && WellFormed.has_record p (record_of_kind (kind_in d)) t) (WellFormed.named p l.proc d)) (holds_of (WellFormed.has_record p (record_of_kind (kind_in d))) (WellFormed.named p l.proc e)) fine in
         let a = holds_is p good (λ t. WellFormed.is_writable t && WellFormed.has_record p (record_of_kind (kind_in d)) t) (WellFormed.named p l.proc d) y.0 in
         let b = holds_is p good (WellFormed.has_record p (record_of_kind (kind_in d))) (WellFormed.named p l.proc e) y.1 in
         let may = and_of (WellFormed.is_writable a.0) (WellFormed.has_record p (record_of_kind (kind_in d)) a.0) a.2 in
-        let few = right.record_cells (record_of_kind (kind_in d)) in
-        typed_by (CopyRecord d e) fine (follows_copy_record w l right apart a.0 b.0 (designated p calls runs d) (designated p calls runs e) (record_cells p.types (record_of_kind (kind_in d))) (omega (arith, few)) steady (record_reaches (whole_of d) a.0 (record_of_kind (kind_in d)) may.1) (record_reaches (whole_of e) b.0 (record_of_kind (kind_in d)) b.2)
-        (unpaid (named_is d a.0 a.1 (at_of_whole d (left_lends (lent_whole d) (lent_whole e) lends)))) (unpaid (named_is e b.0 b.1 (at_of_whole e (right_lends (lent_whole d) (lent_whole e) lends)))))
+        let r = record_of_kind (kind_in d) in
+        typed_by (CopyRecord d e) fine (follows_copy_record w l right apart a.0 b.0 (designated p calls runs d) (designated p calls runs e) (Record (record_row p.types r)) (record_cells p.types r) (lay.record_bytes r) (row_many r) (right.laid.record_bytes r) steady (record_reaches (whole_of d) a.0 r may.1) (writable_is w l right apart a.0 may.0) (record_reaches (whole_of e) b.0 r b.2)
+        (unpaid (sound_named d a.0 a.1 (named_is d a.0 a.1 (at_of_whole d (left_lends (lent_whole d) (lent_whole e) lends))))) (unpaid (named_is e b.0 b.1 (at_of_whole e (right_lends (lent_whole d) (lent_whole e) lends)))))
     stmt_is mask (New d) fine c lends =
         let t = takes_is p good (WellFormed.points_to p (record_of_kind (kind_in d))) (WellFormed.named p l.proc d) fine in
         let n = record_type_of (record_of_kind (kind_in d)) t.1 t.4 in
-        let e = vars.records in
-        typed_by (New d) fine (follows_new w l right apart (whole_of d) (designated p calls runs d) (record_cells p.types (record_of_kind (kind_in d))) (record_of_kind (kind_in d)) (descriptor p lay mine (record_of_kind (kind_in d))) (vars.descriptor (record_of_kind (kind_in d)))
-        (clamped (descriptor_at p lay (record_of_kind (kind_in d)))) (record_cells_length p.types (record_of_kind (kind_in d))) (omega (arith, n, e)) steady (masked_by mask d t.0 t.2 c) (home_at d t.0 t.1 t.2 t.3 lends))
+        let r = record_of_kind (kind_in d) in
+        typed_by (New d) fine (follows_new w l right apart (whole_of d) (designated p calls runs d) (record_cells p.types r) r (descriptor p lay mine r) (rounded (lay.record_bytes r)) (vars.descriptor r)
+        (clamped (descriptor_at p lay r)) (record_cells_length p.types r) (row_many r) (room_of r) n steady (masked_by mask d t.0 t.2 c) (pointer_home d t.0 r t.1 t.2 t.3 t.4 lends))
     stmt_is mask (OutString d) fine c lends =
         let t = holds_is p good (WellFormed.is_text p (length_of_kind (kind_in d))) (WellFormed.named p l.proc d) fine in
         let el = holds_is p good (WellFormed.is_letter p) (WellFormed.elements_in p t.0 (length_of_kind (kind_in d))) t.2 in
-        let one_cell = ap (λ (xs : List Form). length xs) (letter_forms p good el.0 el.2) in
-        follows_out_string w l good t.0 (length_of_kind (kind_in d)) el.0 (designated p calls runs d) el.1 el.2 steady
-        (λ h v. unpaid (subst (λ c. Follows w l 0 fuel nothing (Both (Given w l) (DesignatorIs w l (whole_of d) t.0 h v)) (SpanIs w l (length_of_kind (kind_in d)) c v) (span_by w l (length_of_kind (kind_in d)) h) (lower_address v 0)) one_cell (span_is (whole_of d) t.0 (length_of_kind (kind_in d)) el.0 el.1 h v)))
-        (unpaid (follows_sound w l {P = NamesOf p l.forms t.0} (λ tags older. (t_named p good calls sound runs l.forms tags frame (taken_at tags older) d).sound t.0 t.1) (named_is d t.0 t.1 (at_of_whole d lends))))
+        follows_out_string w l right good t.0 (length_of_kind (kind_in d)) el.0 (designated p calls runs d) el.1 el.2 steady
+        (λ h v. unpaid (letters_span (whole_of d) t.0 (length_of_kind (kind_in d)) el.0 el.1 el.2 h v))
+        (unpaid (sound_named d t.0 t.1 (named_is d t.0 t.1 (at_of_whole d lends))))
     stmt_is mask (InChar d) fine c lends =
         let t = takes_is p good (WellFormed.changes true) (WellFormed.named p l.proc d) fine in
-        typed_by (InChar d) fine (follows_in_char w l right apart (whole_of d) t.0 (designated p calls runs d) steady (own_lent d lends) (λ h. scalar_row t.0 t.1 t.3 h) vars.done
-        (λ n le tags older. s_put p done Truth (Bits n) (done_formed p good l.forms tags) refl (omega (arith, le)))
+        typed_by (InChar d) fine (follows_in_char w l right apart (whole_of d) t.0 (designated p calls runs d) steady (own_lent d lends) (lay.is_small Char) (lay.is_small Boolean) t.1 (character_width t.1 t.4) (right.laid.is_small Boolean) (λ h. scalar_tree t.0 t.1 t.3 h) vars.done
+        (λ n le tags older. s_put p done Truth (Bits n) (done_formed p good (forms_of_all p l.types) tags) refl (omega (arith, le)))
         (follows_mask w l {less = nothing} (omega arith) (λ y e. refl) (only_named w l t.0 (named_is d t.0 t.2 (at_of_whole d lends)))))
     stmt_is mask (Invoke k) fine c lends = follows_mask w l {less = nothing} (omega arith) (λ y e. refl) (call_only k fine lends)
     stmt_is mask (For' _ d x y step _ body) fine c lends =
@@ -1327,16 +1452,17 @@ module _ (w : Whole) (l : Level) (right : Right w) (apart : Apart l) (vars : Var
         let at = left_lends (lent_at d) (either (lent x.form) (either (lent y.form) (lent_by_all body))) lends in
         let inner = registers p lay mine (either (whole_of d) (assigned_all body)) in
         let n = unsigned step in
+        let eight = full_small d t.0 t.1 t.2 t.3 t.4 in
         let stepped = follows_same w l (assign (designated p calls runs d) (two_operands l.proc Add (load (designated p calls runs d)) (give (Bits n)))) (bits (fetch fixed.0) >>= λ v. put fixed.0 (Bits (add64 v n))) (step_is w l fixed.0 (designated p calls runs d) fixed.1 n)
         (follows_less w l {Q = Always} (λ a b n f t h. tt) (follows_sound w l {P = Any p} (λ tags older. sound_step d n fixed.0 fixed.1 y1.0 tags older)
-        (follows_assign w l right apart (whole_of d) (designated p calls runs d) steady (masked_by inner d t.0 t.2 (λ v e. left_of (in_register p lay mine (variable_of p lay mine v).site) (whole_of d v) (assigned_all body v) e)) (home_at d t.0 t.1 t.2 t.3 at)
-        (follows_binary w l Add steady (follows_load w l (whole_of d) (designated p calls runs d) steady (home_at d t.0 t.1 t.2 t.3 at)) (follows_literal w l n (step_small step y0.0)))))) in
+        (follows_assign w l right apart (whole_of d) (small p lay mine d) (designated p calls runs d) steady (masked_by inner d t.0 t.2 (λ v e. left_of (in_register p lay mine (variable_of p lay mine v).site) (whole_of d v) (assigned_all body v) e)) (home_at d t.0 t.1 t.2 t.3 at)
+        (wide_value (small p lay mine d) eight (follows_binary w l Add steady (follows_load w l (whole_of d) (small p lay mine d) (designated p calls runs d) steady (home_at d t.0 t.1 t.2 t.3 at)) (follows_literal w l n (step_small step y0.0))))))) in
         follows_for w l mask inner (bound p lay mine step) step (value p calls runs x.form) (effects p calls runs fuel body) fixed.0 (designated p calls runs d) fixed.1 (limit_test (int_lt (pos 0) step)) (not_assigned mask (either (whole_of d) (assigned_all body)) c) steady
         (follows_same w l (assign (designated p calls runs d) (value p calls runs x.form)) (value p calls runs x.form >>= λ c. put fixed.0 c) (assign_is w l fixed.0 (designated p calls runs d) fixed.1 (value p calls runs x.form))
         (follows_less w l {Q = Always} (λ a b n f t h. tt) (follows_sound w l {P = Any p} (λ tags older. sound_first d x y1.0 y2.0 tags older)
-        (follows_assign w l right apart (whole_of d) (designated p calls runs d) steady (masked_by mask d t.0 t.2 (λ v e. c v (left_of (in_register p lay mine (variable_of p lay mine v).site) (whole_of d v) (assigned_all body v) e))) (home_at d t.0 t.1 t.2 t.3 at) (value_at x g.0 g.1 (left_lends (lent x.form) (either (lent y.form) (lent_by_all body)) lends2))))))
+        (follows_assign w l right apart (whole_of d) (small p lay mine d) (designated p calls runs d) steady (masked_by mask d t.0 t.2 (λ v e. c v (left_of (in_register p lay mine (variable_of p lay mine v).site) (whole_of d v) (assigned_all body v) e))) (home_at d t.0 t.1 t.2 t.3 at) (wide_value (small p lay mine d) eight (value_at x g.0 g.1 (left_lends (lent x.form) (either (lent y.form) (lent_by_all body)) lends2)))))))
         (value_at y h.0 h.1 (left_lends (lent y.form) (lent_by_all body) lends3))
-        (follows_same w l (load (designated p calls runs d)) (fetch fixed.0) (load_is w l fixed.0 (designated p calls runs d) fixed.1) (follows_load w l (whole_of d) (designated p calls runs d) steady (home_is d t.0 t.1 t.2 t.3 at)))
+        (follows_same w l (load (designated p calls runs d)) (fetch fixed.0) (load_is w l fixed.0 (designated p calls runs d) fixed.1) (follows_load w l (whole_of d) (small p lay mine d) (designated p calls runs d) steady (home_is d t.0 t.1 t.2 t.3 at)))
         (follows_bind w l steady (row_is inner body y3.1 (λ v e. right_of (in_register p lay mine (variable_of p lay mine v).site) (whole_of d v) (assigned_all body v) e) (right_lends (lent y.form) (lent_by_all body) lends3)) (λ u. stepped.grows) (λ u v. follows_known w l (λ n f s k. k.0) stepped))
     stmt_is mask (Case' x _ parts) fine c lends =
         let y = and_of (gives_number (WellFormed.checked_form p l.proc x)) (WellFormed.fine_case_parts p l.proc parts) fine in

@@ -11,7 +11,7 @@ use Rattle.ob_types.specs.Expressions.{is_of}
 use Rattle.ob_types.specs.Statements.{Deed}
 use Rattle.ob_types.proofs.Tests.{and_of}
 use Rattle.ob_sound.proofs.Typed.{lt_of}
-use Rattle.ssa_lowered.specs.Data.{Layout, layout}
+use Rattle.ssa_lowered.specs.Data.{Layout}
 use Rattle.ssa_lowered.specs.Pieces.{Low, Mask, params, picked}
 use Rattle.ssa_lowered.specs.Control.{Test}
 use Rattle.ssa_lowered.specs.Lowered.{Here, descriptor, type_test}
@@ -36,7 +36,7 @@ nothing_more b = give tt
 
 module _ (w : Whole) (l : Level) (right : Right w) (vars : Variables w l) (fuel : ℕ) (K : Fact) (steady : Steady w l K) (mask : Mask) (here : Here) (TypeIs : Option ℕ → ℕ → Fact) (is : ℕ → ℕ → ℕ → Low ℕ) (stays : (t : Option ℕ) (i : ℕ) → Steady w l (TypeIs t i)) (t : Option ℕ) (i : ℕ) where
   abbrev lay : Layout
-  lay = layout w.program.types
+  lay = w.layout
 
   abbrev pub KnownType : Fact
   KnownType = Both K (TypeIs t i)

@@ -3,10 +3,11 @@ use Rattle.std.proofs.Common.{◌≡◌, ◌≢◌, ℕ, zero, suc, ◌+◌, ◌
 use Rattle.std.specs.Prelude.{◌==◌, if◌then◌else◌}
 use Rattle.run_laws.specs.Turns.{Gives, Fails, after, give, ◌>>=◌}
 use Rattle.run_laws.specs.Turns.{State as At}
-use Rattle.a64_memory.specs.Memory.{Area, covers, loaded8, load8}
+use Rattle.a64_memory.specs.Memory.{Area, covered, loaded8, load8}
+use Rattle.a64_memory.proofs.Shapes.{covers-shapes}
 use Rattle.a64_memory.proofs.Blocks.{covers-top}
 use Rattle.wrapping_numbers.specs.Numbers.{add64}
-use Rattle.a64_memory.specs.Areas.{data_base, heap_word}
+use Rattle.a64_memory.specs.Areas.{data_base, heap_base}
 use Rattle.block_runs.specs.declared.code.Code.TheVariants.{Const, Global, Load, IsPtr, IsTag, GuardPtr, GuardTag}
 use Rattle.block_runs.specs.Effects.{Effect, given_at, level as level_of, unless as refuses_unless}
 use Rattle.block_runs.specs.Effects.{Gives as Yields, Fails as Refuses}
@@ -24,12 +25,14 @@ use Rattle.ssa_lowered.specs.Pieces.{Low, Mask, emits, does}
 use Rattle.ssa_lowered.specs.Pieces.{◌>>=◌ as ◌>>>◌, give as gives}
 use Rattle.ssa_lowered.specs.Values.{Named, Beside, Object, Held as InRegister, At as AtAddress, second, is_pointer, is_tag}
 use Rattle.ssa_lowered.specs.Values.{guarded as lower_guarded, narrowed as lower_narrowed, tag_of as lower_tag}
-use Rattle.lowered_runs.specs.Words.{Whole, Level, Right, sizes_of, TagOf, Constant, ValueIs, word, Held}
-use Rattle.lowered_runs.proofs.Stores.{covers_thing, there_tag, value_later}
+use Rattle.held_stores.specs.Places.{Entry, TagOf}
+use Rattle.held_stores.proofs.Pieces.{place_above}
+use Rattle.lowered_runs.specs.Words.{Whole, Level, Right, ground, ValueIs, Held}
+use Rattle.lowered_runs.proofs.Stores.{value_later}
 use Rattle.lowered_runs.proofs.Values.{put_here}
 use Rattle.lowered_runs.proofs.Follows.{Fact, And as Both, Anything, Steady, steady_and, steady_fixed, Grows, grows_bind, grows_give, grows_emits, grows_does, Follows, follows_bind, follows_then, follows_found, follows_give, follows_seen, follows_known, follows_emits, follows_does, follows_never, Acts, acts_give, acts_trap, acts_senseless, effect_at}
 use Rattle.lowered_runs.proofs.Forks.{after_after}
-use Rattle.lowered_runs.proofs.Exprs.{CellIs, steady_cell, made_bits, place_above}
+use Rattle.lowered_runs.proofs.Exprs.{CellIs, steady_cell, made_bits}
 use Rattle.lowered_runs.proofs.Sets.{follows_same}
 use Rattle.lowered_runs.proofs.Designators.{SecondIs, SecondFits, NamedIs, DesignatorIs, steady_designator}
 use Rattle.lowered_runs.proofs.Elements.{ConstIs, steady_const}
@@ -50,30 +53,27 @@ module _ (w : Whole) (l : Level) (right : Right w) (vars : Variables w l) where
   -- the cell of a descriptor at a record type's level
   level_says : (s : Store) (m : List Area) (t r x : ℕ) (on : ℕ → Effect) → Held w l s m → (d : Tells w t r) → x ≡ w.descriptor t → level_of m (rank r) x on ≡ on d.cell
   level_says s m t r x on held d is =
-      let i = d.word + rank r in
-      let cover = covers_thing w l s m (Constant i) i held (d.cell, d.there) refl in
-      let top = covers-top m 0 (8 * i) 8 held.rises cover in
-      let place = d.place in
-      let at : add64 x (8 * rank r) ≡ 8 * i = omega (arith, is, place, top) in
-      ap (λ a. given_at a (load8 m a) on) at ∙ ap (λ b. given_at (8 * i) (cond b (Some (word m i)) None) on) cover ∙ ap on (held.constants i d.cell d.there)
+      let y = w.descriptor t + 8 * rank r in
+      let cover = covers-shapes m y 8 ∙ ap (λ ss. covered ss y 8) held.areas ∙ held.room.lies (Entry y) y 8 (d.cell, d.there, refl, refl) in
+      let top = covers-top m 0 y 8 held.rises cover in
+      let at : add64 x (8 * rank r) ≡ y = omega (arith, is, top) in
+      ap (λ a. given_at a (load8 m a) on) at ∙ ap (λ b. given_at y (cond b (Some (loaded8 m y)) None) on) cover ∙ ap on (held.entries y d.cell d.there)
 
   -- of an object's descriptor, where a pointer isn't NIL
-  object_says : (s : Store) (m : List Area) (o t r x : ℕ) (none : Effect) (on : ℕ → Effect) → Held w l s m → ValueIs w (sizes_of s) (Pointer o) x → slice_get s.tags o ≡ Some t → (d : Tells w t r)
+  object_says : (s : Store) (m : List Area) (o t r x : ℕ) (none : Effect) (on : ℕ → Effect) → Held w l s m → ValueIs w s.tags (Pointer o) x → slice_get s.tags o ≡ Some t → (d : Tells w t r)
       → (if x == 0 then none else given_at x (load8 m x) (λ tag. level_of m (rank r) tag on)) ≡ on d.cell
   object_says s m o t r x none on held is tag d =
-      let i = is.0 in
-      let cover = covers_thing w l s m (TagOf o) i held (there_tag s o t held.tagged tag) is.1 in
-      ap (λ b. if b then none else given_at x (load8 m x) (λ tag. level_of m (rank r) tag on)) (ne_eqb x 0 (some x i is.2 (place_above heap_word (sizes_of s).heap o i is.1)))
-      ∙ ap (λ x. given_at x (load8 m x) (λ tag. level_of m (rank r) tag on)) is.2
-      ∙ ap (λ b. given_at (8 * i) (cond b (Some (word m i)) None) (λ tag. level_of m (rank r) tag on)) cover
-      ∙ level_says s m t r (word m i) on held d (held.tags o t i tag is.1).0
+      let cover = covers-shapes m x 8 ∙ ap (λ ss. covered ss x 8) held.areas ∙ held.room.lies (TagOf o) x 8 (is, refl) in
+      ap (λ b. if b then none else given_at x (load8 m x) (λ tag. level_of m (rank r) tag on)) (ne_eqb x 0 (some x (place_above (ground w) s.tags o x is)))
+      ∙ ap (λ b. given_at x (cond b (Some (loaded8 m x)) None) (λ tag. level_of m (rank r) tag on)) cover
+      ∙ level_says s m t r (loaded8 m x) on held d (held.tags o t x tag is).0
     where
-      some : (x i : ℕ) → x ≡ 8 * i → heap_word ≤ i → x ≢ 0
-      some x i e le z = absurd (omega (arith, e, le, z))
+      some : (x : ℕ) → heap_base ≤ x → x ≢ 0
+      some x le z = absurd (omega (arith, le, z))
 
   -- the record type of an object is in the table
-  object_there : (s : Store) (m : List Area) (o t i : ℕ) → Held w l s m → slice_get s.tags o ≡ Some t → (ValueIs w (sizes_of s) (Pointer o) i) → t < many
-  object_there s m o t i held tag is = let lt = (held.tags o t is.0 tag is.1).1 in let e = vars.records in omega (arith, lt, e)
+  object_there : (s : Store) (m : List Area) (o t i : ℕ) → Held w l s m → slice_get s.tags o ≡ Some t → (ValueIs w s.tags (Pointer o) i) → t < many
+  object_there s m o t i held tag is = (held.tags o t i tag is).1
 
   ---- Guards of pointers
 
@@ -130,13 +130,13 @@ module _ (w : Whole) (l : Level) (right : Right w) (vars : Variables w l) where
   -- of a pointer's object: NIL has none
   abbrev pub PointerType : Option ℕ → ℕ → Fact
   PointerType None i n f s = (i < n) × (f i ≡ 0)
-  PointerType (Some t) i n f s = (i < n) × ((o : ℕ) × (slice_get s.tags o ≡ Some t) × ValueIs w (sizes_of s) (Pointer o) (f i))
+  PointerType (Some t) i n f s = (i < n) × ((o : ℕ) × (slice_get s.tags o ≡ Some t) × ValueIs w s.tags (Pointer o) (f i))
 
   pub steady_pointer_type : (t : Option ℕ) (i : ℕ) → Steady w l (PointerType t i)
   steady_pointer_type None i = record { by = λ n m f g s u le same later h. let lt = h.0 in (omega (arith, le, lt), same i h.0 ∙ h.1) }
   steady_pointer_type (Some t) i = record {
     by = λ n m f g s u le same later h.
-        let lt = h.0 in (omega (arith, le, lt), (h.1.0, later.tag h.1.0 t h.1.1, subst (λ x. ValueIs w (sizes_of u) (Pointer h.1.0) x) (sym (same i h.0)) (value_later w l s u (Pointer h.1.0) (f i) later h.1.2)));
+        let lt = h.0 in (omega (arith, le, lt), (h.1.0, later.tag h.1.0 t h.1.1, subst (λ x. ValueIs w u.tags (Pointer h.1.0) x) (sym (same i h.0)) (value_later w l s u (Pointer h.1.0) (f i) later h.1.2)));
   }
 
   pub follows_pointer_type : {need fuel : ℕ} {mask : Mask} {K : Fact} {x : Act Cell} {q : Low ℕ} → Steady w l K → Follows w l need fuel mask K (CellIs w l) x q → Follows w l need fuel mask K PointerType (pointer_type x) q
@@ -241,9 +241,9 @@ module _ (w : Whole) (l : Level) (right : Right w) (vars : Variables w l) where
       by (Value c) n f s is fits lt = absurd fits
   follows_second own b h (Object i) there = follows_emits w l Load (i ∷ []) (λ n f m s held known.
       let z = known.1.0.1 in
-      let cover = covers_thing w l s.store m (TagOf z.0) z.4.0 held (there_tag s.store z.0 z.1 held.tagged z.3) z.4.1 in
-      acts_give w l z.1 (word m z.4.0) held (ap (λ h. given (tag_in h) s) z.2) (ap (λ x. given_at x (cond (covers m x 8) (Some (loaded8 m x)) None) Yields) z.4.2 ∙ ap (λ b. given_at (8 * z.4.0) (cond b (Some (word m z.4.0)) None) Yields) cover)
-      (omega arith, (put_here n (word m z.4.0) f ∙ (held.tags z.0 z.1 z.4.0 z.3 z.4.1).0, object_there s.store m z.0 z.1 (f i) held z.3 z.4)))
+      let cover = covers-shapes m (f i) 8 ∙ ap (λ ss. covered ss (f i) 8) held.areas ∙ held.room.lies (TagOf z.0) (f i) 8 (z.4, refl) in
+      acts_give w l z.1 (loaded8 m (f i)) held (ap (λ h. given (tag_in h) s) z.2) (ap (λ b. given_at (f i) (cond b (Some (loaded8 m (f i))) None) Yields) cover)
+      (omega arith, (put_here n (loaded8 m (f i)) f ∙ (held.tags z.0 z.1 (f i) z.3 z.4).0, object_there s.store m z.0 z.1 (f i) held z.3 z.4)))
   follows_second own b h (InRegister x) there = follows_never w l (λ n f s k. differ k.1.0.4) (grows_second (InRegister x))
     where
       differ : false ≡ true → ⊥

@@ -1,10 +1,10 @@
-use Rattle.lowered_runs.proofs.Programs.{keeps_up}
+use Rattle.lowered_runs.proofs.Claimed.{keeps_up}
 use Rattle.lowered_runs.proofs.Samples.{sample_runs, some_calls, some_hands}
 use Rattle.lowered_runs.proofs.laws.programs_keep_up.Goals as goal
 
 pub returns : goal.returns
 returns c = record {
-  all = λ p input constants code n h. keeps_up p input code constants n h.fine h.numbers h.places h.globals h.room h.bytes h.stands;
+  all = λ p input constants code n h. keeps_up p input constants code n h;
   some = sample_runs;
   calls = λ b v. some_calls b v;
   hands = λ b v. some_hands b v;
