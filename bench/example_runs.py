@@ -18,8 +18,8 @@ import trc  # noqa: E402
 
 CRATE = os.path.join(TOP, 'crates', 'trc_examples')
 
-# What the other compiler has: images of version 2, with cells of eight bytes and 4,000 values; notes and batches.
-STAGE = ['--stage', '=12,15,17,20']
+# What the other compiler has: images of version 2, with cells of eight bytes and 4,000 values; notes, meanings and batches.
+STAGE = ['--stage', '=12,15,17,19,20']
 
 
 def calls():

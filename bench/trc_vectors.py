@@ -5,8 +5,8 @@
 
 Writes `stdin` and `stdout` into FOLDER (that crate's, if none is given): worked programs, the modules of bench/rows with one choice
 of policy, traces and registers after another, made modules, commands with their options, files that aren't there, limits, each trap
-in a procedure of an imported module, images that are built anew from those of version 1, notes and their audits, batches, and the bytes of the smallest image of each
-version, cut off at each place and changed at each. bench/other_compiler.py says where the other compiler is; how lines are written is
+in a procedure of an imported module, images that are built anew from those of version 1, notes and their audits, batches, what modules mean with the fewest turns in which
+that is over and with one less, and the bytes of the smallest image of each version, cut off at each place and changed at each. bench/other_compiler.py says where the other compiler is; how lines are written is
 said in crates/trc_vectors.
 """
 import itertools
@@ -14,13 +14,17 @@ import os
 
 from other_compiler import folder_of
 from module_texts import pieces_of, row_files
+import check  # noqa: E402
 import image  # noqa: E402
+import meaning  # noqa: E402
 import trc  # noqa: E402
 
-# What the other compiler has: images of version 2, with cells of eight bytes and 4,000 values; notes; and batches.
+# What the other compiler has: images of version 2, with cells of eight bytes and 4,000 values; notes; batches; meanings; and all of these.
 STAGE = ['--stage', '=12,15']
 NOTES = ['--stage', '=12,15,17']
 BATCHES = ['--stage', '=12,15,20']
+MEANINGS = ['--stage', '=12,15,19']
+ALL = ['--stage', '=12,15,17,19,20']
 
 CHOICES = list(itertools.product(['plain', 'linear', 'bottomup', 'mixed'], ['bi', 'uni'], ['16', '4', '8']))
 
@@ -108,6 +112,11 @@ def commands():
                   'audit A B M.Mod --jobs 2', 'audit A B M.Mod --policy plain', 'audit A B M.Mod --steps 3', 'audit A B M.Mod --from B',
                   'audit A B M.Mod --notes B', 'build A M.Mod --notes', 'build A M.Mod --notes N', 'build A M.Mod --notes N --notes N', 'run M.Mod --notes N',
                   'elf A M.Mod --notes N', 'build A M.Mod --notes N --from A',
+                  'mean', 'mean M.Mod', 'mean M.Mod --turns 0', 'mean M.Mod --turns=007', 'mean M.Mod --turns', 'mean M.Mod --turns x', 'mean M.Mod --turns 1000000000000001',
+                  'mean M.Mod --turns 1000000000000000', 'mean M.Mod --turns 1 --turns 1', 'mean M.Mod --steps 1', 'mean M.Mod --traces uni', 'mean M.Mod --regs 4', 'mean Away.Mod',
+                  'both', 'both M.Mod', 'both M.Mod --turns 0 --steps 0', 'both M.Mod --turns 0 --steps 15', 'both M.Mod --steps 16', 'both M.Mod --turns x', 'both M.Mod --steps x',
+                  'both M.Mod --policy fast', 'both M.Mod --policy mixed --traces uni --regs 4 --jobs 2 --steps 100 --turns 0', 'both Away.Mod', 'both M.Mod --notes N',
+                  'run M.Mod --turns 1', 'exec M.Mod --turns 1', 'build A M.Mod --turns 1', 'batch M.Mod --turns 1',
                   'build A M.Mod --steps 4', 'exec A --policy plain', 'build A M.Mod', 'build A M.Mod --policy plain --regs 4'):
         yield words.split(' '), text, b''
 
@@ -260,6 +269,62 @@ def workers():
             yield ['bulk', '7', size, '--jobs', jobs], {}, b''
 
 
+def least_turns(sources, given, most=20000):
+    """The fewest turns with which what the modules mean is over; the most that are tried where it isn't with these; none where they mean nothing."""
+    try:
+        program = check.check_sources(sources)
+    except (trc.Fault, trc.Limit):
+        return None
+    given = given if program.imports_in else b''
+
+    def goes_on(turns):
+        return isinstance(meaning.meaning(program, given, turns), meaning.Going)
+    low, high = (most if goes_on(most) else 0), most
+    while low < high:
+        middle = (low + high) // 2
+        low, high = (middle + 1, high) if goes_on(middle) else (low, middle)
+    return low
+
+
+def meant(names, sources, given, choice, most=20000):
+    """What modules mean with the fewest turns in which that is over, and with one less; and beside a run."""
+    files, turns = dict(zip(names, sources)), least_turns(sources, given, most)
+    if turns is None:
+        yield ['mean', *names], files, given
+        yield ['both', *names], files, given
+        return
+    for limit in sorted({max(turns - 1, 0), turns}):
+        yield ['mean', *names, '--turns', str(limit)], files, given
+    policy, traces, regs = choice
+    yield ['both', *names, '--policy', policy, '--traces', traces, '--regs', regs, '--steps', '20000', '--turns', str(turns)], files, given
+
+
+def meanings():
+    """What the modules of the other rows mean: the worked ones, each trap, a heap that is full, too many calls, the modules of bench/rows, and made ones."""
+    down = 'PROCEDURE D(n: INTEGER); BEGIN IF n > 1 THEN D(n - 1) END END D; '
+    deep = module('Out.Char("a"); D(8192); Out.Char("b")', down)
+    for turns in ('16384', '16383'):
+        yield ['mean', 'M.Mod', '--turns', turns], {'M.Mod': deep.encode()}, b''
+    yield ['mean', 'M.Mod', '--turns', '0'], {'M.Mod': module('WHILE TRUE DO END', imports='').encode()}, b''
+    choices = itertools.cycle(CHOICES)
+    once = set()
+    for words, files, given in itertools.chain(worked(), modules(), traps()):
+        names = [word for word in words if word.endswith('.Mod')]
+        key = (tuple(names), tuple(sorted(files.items())), given)
+        if words[0] == 'run' and key not in once:
+            once.add(key)
+            if all(name in files for name in names) and len(names) <= 64:
+                yield from meant(names, [files[name] for name in names], given, next(choices), 2200000)
+            else:
+                yield ['mean', *names], files, given
+                yield ['both', *names], files, given
+    for words, files, given in stored():
+        names = [word for word in words if word.endswith('.Mod')]
+        yield from meant(names, [files[name] for name in names], given, next(choices))
+    for seed in range(0, 200, 4):
+        yield from meant(['M.Mod'], [trc.bulk_text(seed, 2 + seed % 5)], b'', next(choices))
+
+
 def images():
     """The smallest image, in each version whole, cut off at each place, and changed at each; and some that read."""
     second = built_of(['build', 'A', 'M.Mod'], {'M.Mod': b'MODULE E; END E.'})
@@ -303,6 +368,10 @@ def line(words, files, given):
 
 
 def stage_of(words):
+    if words[0] == 'help':
+        return ALL
+    if words[0] in ('mean', 'both'):
+        return MEANINGS
     if words[0] == 'audit' or '--notes' in words:
         return NOTES
     return BATCHES if words[0] == 'batch' else STAGE
@@ -312,7 +381,7 @@ def answer(words, files, given):
     """What a call prints. The other compiler has no `elf`: it is refused as `build` is, but for `--from` and `--notes`, and its bytes aren't printed."""
     asked = ['build' if words[0] == 'elf' and '--from' not in words and '--notes' not in words else words[0]] + words[1:]
     call = trc.Run(stage_of(words) + ([] if asked == [''] else asked), dict(files), given)
-    call.out = call.out.replace(b'run|build|traces', b'run|build|elf|traces').replace(b'bulk|help', b'bulk|audit|batch|help').replace(b'--steps --from\n', b'--steps --from --notes\n')
+    call.out = call.out.replace(b'run|build|traces', b'run|build|elf|traces')
     told = written((call.err + '\n').encode()) if call.err else ''
     wrote = written(call.files[words[1]]) if words[0] in ('build', 'audit') and len(words) > 1 and words[1] in call.files else ''
     if words[0] == 'build' and '--notes' in words[:-1]:
@@ -322,7 +391,7 @@ def answer(words, files, given):
 
 def main():
     folder = folder_of('trc_vectors')
-    calls = [call for part in (worked, modules, commands, traps, anew, audits, batches, workers, images, stored, made) for call in part()]
+    calls = [call for part in (worked, modules, commands, traps, anew, audits, batches, workers, meanings, images, stored, made) for call in part()]
     with open(os.path.join(folder, 'stdin'), 'w') as out:
         out.writelines(line(*call) for call in calls)
     with open(os.path.join(folder, 'stdout'), 'w') as out:

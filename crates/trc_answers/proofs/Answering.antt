@@ -23,9 +23,9 @@ use Rattle.image_form.specs.declared.image.ProcPlace.{ProcPlace}
 use Rattle.a64_machine.specs.State.{Trap}
 use Rattle.trc_answers.specs.Runs.{run_of, cause_of_fault}
 use Rattle.trc_answers.specs.Causes.{cause_of_put}
-use Rattle.trc_answers.specs.Verdict.{Verdict, Refuses, Runs, Writes, WritesBoth, Accepts, Prints, files_written, sound_line, FileComesTo, IsMissing, HasTooMany, HasBytes, IsHeld, IsLeft, ImageComesTo, RunsAlone, RunsOnInput, HasTooMuch, BytesComeTo, AreNoImage, IsWritten, Written, Renews, AreTheSame, Differ}
+use Rattle.trc_answers.specs.Verdict.{Verdict, Refuses, Runs, Means, Writes, WritesBoth, Accepts, Prints, Tells, files_written, sound_line, FileComesTo, IsMissing, HasTooMany, HasBytes, IsHeld, IsLeft, ImageComesTo, RunsAlone, RunsOnInput, HasTooMuch, BytesComeTo, AreNoImage, IsWritten, Written, Renews, AreTheSame, Differ}
 use Rattle.trc_answers.specs.Reading.{IsImageRead, NoBytes, IsImageUnread, IsNoFile, FailedOnce, HasNoMemory}
-use Rattle.trc_answers.specs.Answers.{Devices, devices, Answers, AsItComes, ReadsInput, FailsReadingFiles, FailsReadingInput, FailsPrinting, FailsWriting, FailsWritingSecond, LacksMemoryBetween, LacksMemory, InputStays, FilesHold, FirstFailed, SecondFailed, RunAnswers, Ran, RanIntoFault, HadNoRoom, PrintAnswers, Printed, PrintedAFront}
+use Rattle.trc_answers.specs.Answers.{Devices, devices, Answers, AsItComes, ReadsInput, FailsReadingFiles, FailsReadingInput, FailsPrinting, FailsWriting, FailsWritingSecond, LacksMemoryBetween, LacksMemoryInside, LacksMemory, InputStays, FilesHold, FirstFailed, SecondFailed, RunAnswers, Ran, RanIntoFault, HadNoRoom, PrintAnswers, Printed, PrintedAFront}
 use Rattle.trc_answers.specs.declared.causes.Device.TheVariants.{Files, Input, Output}
 use Rattle.trc_answers.specs.declared.causes.Cause.{Cause}
 use Rattle.trc_answers.specs.declared.causes.Cause.TheVariants.{NoSuchFile, ReadFault, OtherImage, NotImage, InputTooLong, WriteFault, Memory, Done}
@@ -91,6 +91,7 @@ mapped comes comes' old new cause f (FailsPrinting verdict it is cut) = FailsPri
 mapped comes comes' old new cause f (FailsWriting verdict name bytes rest it first is failed) = FailsWriting verdict name bytes rest (f old.left verdict it) first is failed
 mapped comes comes' old new cause f (FailsWritingSecond name bytes other others it is failed) = FailsWritingSecond name bytes other others (f old.left (WritesBoth name bytes other others) it) is failed
 mapped comes comes' old new cause f (LacksMemoryBetween name bytes other others it is half) = LacksMemoryBetween name bytes other others (f old.left (WritesBoth name bytes other others) it) is half
+mapped comes comes' old new cause f (LacksMemoryInside reads ended written it is short) = LacksMemoryInside reads ended written (f old.left (Means reads ended written) it) is short
 mapped comes comes' old new cause f (LacksMemory is none either) = LacksMemory is none (either_as comes comes' (InputStays old new) f either)
 
 rose_later : (a b c : ℕ) → a ≤ b → Rose b c → Rose a c
@@ -100,10 +101,12 @@ files_later : (held : Option Held) (m n : ℕ) (left : Option (List ℕ)) (k : �
     → FilesHold (devices held n left k out) verdict new → FilesHold (devices held m left k out) verdict new
 files_later held m n left k out new (Refuses cause) h = h
 files_later held m n left k out new (Runs reads places outcome) h = h
+files_later held m n left k out new (Means reads cause written) h = h
 files_later held m n left k out new (Writes name bytes) h = h
 files_later held m n left k out new (WritesBoth name bytes other others) h = h
 files_later held m n left k out new (Accepts name bytes) h = h
 files_later held m n left k out new (Prints lines) h = h
+files_later held m n left k out new (Tells reads lines) h = h
 
 input_later : (held : Option Held) (m n : ℕ) (left : Option (List ℕ)) (k : ℕ) (out : Account) (new : Devices)
     → InputStays (devices held n left k out) new → InputStays (devices held m left k out) new
@@ -127,6 +130,8 @@ later comes held m n left k out new cause l (FailsWritingSecond name bytes other
     FailsWritingSecond name bytes other others it is (record { between = failed.between; first = failed.first; second = failed.second; failed = rose_later m n new.files_faults l failed.failed; output = failed.output; input = input_later held m n left k out new failed.input })
 later comes held m n left k out new cause l (LacksMemoryBetween name bytes other others it is half) =
     LacksMemoryBetween name bytes other others it is (record { first = half.first; output = half.output; input = input_later held m n left k out new half.input })
+later comes held m n left k out new cause l (LacksMemoryInside reads ended written it is short) =
+    LacksMemoryInside reads ended written it is (record { front = short.front; files = short.files; input = λ e. input_later held m n left k out new (short.input e) })
 later comes held m n left k out new cause l (LacksMemory is none either) = LacksMemory is (record { output = none.output; files = none.files }) (either_later held m n left k out new (ReadsInput comes) either)
 
 -- what is held under a name that was read

@@ -1,5 +1,5 @@
 -- What a command answers, given what it comes to when nothing fails.
-use Rattle.std.specs.Prelude.{◌≡◌, ◌⊎◌, ℕ, List, ◌∷◌, true, false, Option, None, Ok, Err}
+use Rattle.std.specs.Prelude.{◌≡◌, ◌⊎◌, ℕ, List, ◌∷◌, Bool, true, false, Option, None, Ok, Err}
 use Rattle.outside.specs.Counts.{Rose}
 use Rattle.outside.specs.Files.{Held, ToldOfWrite}
 use Rattle.outside.specs.Sink.{Account, TookAll, TookFront, TookNothing, Faulted}
@@ -8,7 +8,7 @@ use Rattle.run_laws.specs.Runs.{Outcome, output}
 use Rattle.image_form.specs.declared.image.ProcPlace.{ProcPlace}
 use Rattle.a64_machine.specs.State.{Trap}
 use Rattle.trc_answers.specs.Runs.{cause_of_run}
-use Rattle.trc_answers.specs.Verdict.{Verdict, Writes, WritesBoth, Accepts, cause_of, files_written, written_by, reads_input}
+use Rattle.trc_answers.specs.Verdict.{Verdict, Means, Writes, WritesBoth, Accepts, cause_of, files_written, written_by, reads_input}
 use Rattle.trc_answers.specs.declared.causes.Device.{Device}
 use Rattle.trc_answers.specs.declared.causes.Device.TheVariants.{Files, Input, Output}
 use Rattle.trc_answers.specs.declared.causes.Cause.{Cause}
@@ -62,6 +62,12 @@ pub record CutOff (old : Devices) (verdict : Verdict) (new : Devices) : Type 0 w
   pub files : FilesHold old verdict new
   pub input : reads_input verdict ≡ false → InputStays old new
 
+-- a front of what the command writes was taken, and the files stayed
+pub record CutShort (old : Devices) (verdict : Verdict) (new : Devices) : Type 0 where
+  pub front : TookFront old.out new.out (written_by verdict)
+  pub files : new.held ≡ old.held
+  pub input : reads_input verdict ≡ false → InputStays old new
+
 -- nothing was written
 pub record NothingWritten (old new : Devices) : Type 0 where
   pub output : TookNothing old.out new.out
@@ -97,7 +103,8 @@ pub record ReadsInput (comes_to : Option (List ℕ) → Verdict → Type 0) : Ty
 
 -- the answer of a command: the cause to which it comes, with all done; a read fault, of the files before the input is touched, or of
 -- the input where the command reads it; a write fault, of the output or of a file that it writes, which may hold anything then; or
--- want of memory, with the input as it was unless the command reads it, and the first of two files written or not
+-- want of memory, with the input as it was unless the command reads it, the first of two files written or not, and what a program
+-- means done in part or not at all
 pub data Answers (comes : Option (List ℕ) → Verdict → Type 0) (old new : Devices) (cause : Cause) : Type 0 where
   AsItComes : (verdict : Verdict) → comes old.left verdict → cause ≡ cause_of verdict → AllDone old verdict new → Answers comes old new cause
   FailsReadingFiles : cause ≡ ReadFault Files → Failed old new Files → NothingWritten old new → InputStays old new → Answers comes old new cause
@@ -109,6 +116,8 @@ pub data Answers (comes : Option (List ℕ) → Verdict → Type 0) (old new : D
       → SecondFailed old name bytes other others new → Answers comes old new cause
   LacksMemoryBetween : (name bytes other others : List ℕ) → comes old.left (WritesBoth name bytes other others) → cause ≡ Memory
       → SecondLacksMemory old name bytes new → Answers comes old new cause
+  LacksMemoryInside : (reads : Bool) (ended : Cause) (written : List ℕ) → comes old.left (Means reads ended written) → cause ≡ Memory
+      → CutShort old (Means reads ended written) new → Answers comes old new cause
   LacksMemory : cause ≡ Memory → NothingWritten old new → InputStays old new ⊎ ReadsInput comes → Answers comes old new cause
 
 -- the answer of a run with this outcome, of an image whose procedures are at these places, between two accounts of the output

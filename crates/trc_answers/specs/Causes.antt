@@ -14,7 +14,7 @@ use Rattle.trc_answers.specs.declared.causes.Device.{Device}
 use Rattle.trc_answers.specs.declared.causes.Device.TheVariants.{Files, Input, Output}
 use Rattle.trc_answers.specs.declared.causes.Spot.{Spot}
 use Rattle.trc_answers.specs.declared.causes.Cause.{Cause}
-use Rattle.trc_answers.specs.declared.causes.Cause.TheVariants.{Usage, NoSuchFile, ReadFault, Source, Limit, BadLine, OtherImage, NotImage, NotNotes, Unsound, InputTooLong, Trapped, MachineFault, Spent, WriteFault, Memory, Done}
+use Rattle.trc_answers.specs.declared.causes.Cause.TheVariants.{Usage, NoSuchFile, ReadFault, Source, Limit, BadLine, OtherImage, NotImage, NotNotes, Unsound, InputTooLong, Trapped, MachineFault, Spent, TurnsSpent, WriteFault, Memory, Done}
 
 abbrev pub status_of : Cause → ℕ
 status_of Usage = 1
@@ -31,6 +31,7 @@ status_of InputTooLong = 3
 status_of (Trapped kind spot) = 6
 status_of (MachineFault fault) = 9
 status_of Spent = 7
+status_of TurnsSpent = 7
 status_of (WriteFault device) = 4
 status_of Memory = 5
 status_of Done = 0
@@ -116,6 +117,7 @@ line_of names first place InputTooLong = line (codes "trc: input too long") []
 line_of names first place (Trapped kind spot) = trap_line kind spot
 line_of names first place (MachineFault fault) = fault_line fault
 line_of names first place Spent = line (codes "trc: steps spent") []
+line_of names first place TurnsSpent = line (codes "trc: turns spent") []
 line_of names first place (WriteFault device) = line (codes "trc: write fault on ") (device_name device)
 line_of names first place Memory = line (codes "trc: out of memory") []
 line_of names first place Done = []

@@ -15,24 +15,29 @@ use Rattle.trc_answers.specs.Runs.{run_of, cause_of_run}
 use Rattle.trc_answers.specs.declared.causes.Cause.{Cause}
 use Rattle.trc_answers.specs.declared.causes.Cause.TheVariants.{NoSuchFile, OtherImage, NotImage, InputTooLong, Done}
 
--- a command is refused for a cause, runs an image whose procedures are at these places, writes a file, writes one and then another,
--- writes one and prints that what it was made of is sound, or prints lines
+-- a command is refused for a cause, runs an image whose procedures are at these places, does what a program means and ends for a cause
+-- with this written, writes a file, writes one and then another, writes one and prints that what it was made of is sound, or prints
+-- lines, or lines of what came of the input
 pub data Verdict : Type 0 where
   Refuses : Cause → Verdict
   Runs : (reads_input : Bool) (places : List ProcPlace) → Outcome Trap → Verdict
+  Means : (reads_input : Bool) → Cause → (written : List ℕ) → Verdict
   Writes : (name bytes : List ℕ) → Verdict
   WritesBoth : (name bytes other others : List ℕ) → Verdict
   Accepts : (name bytes : List ℕ) → Verdict
   Prints : List ℕ → Verdict
+  Tells : (reads_input : Bool) (lines : List ℕ) → Verdict
 
 -- the cause that it answers
 abbrev pub cause_of : Verdict → Cause
 cause_of (Refuses cause) = cause
 cause_of (Runs reads places outcome) = cause_of_run places outcome
+cause_of (Means reads cause written) = cause
 cause_of (Writes name bytes) = Done
 cause_of (WritesBoth name bytes other others) = Done
 cause_of (Accepts name bytes) = Done
 cause_of (Prints lines) = Done
+cause_of (Tells reads lines) = Done
 
 -- the line that tells that results are sound
 abbrev pub sound_line : List ℕ
@@ -42,10 +47,12 @@ sound_line = codes "sound" ++ 10 ∷ []
 abbrev pub written_by : Verdict → List ℕ
 written_by (Refuses cause) = []
 written_by (Runs reads places outcome) = output outcome
+written_by (Means reads cause written) = written
 written_by (Writes name bytes) = []
 written_by (WritesBoth name bytes other others) = []
 written_by (Accepts name bytes) = sound_line
 written_by (Prints lines) = lines
+written_by (Tells reads lines) = lines
 
 -- the files that it writes, in order, each with its bytes
 abbrev pub files_written : Verdict → List (List ℕ × List ℕ)
@@ -58,6 +65,8 @@ files_written other = []
 abbrev pub reads_input : Verdict → Bool
 reads_input (Refuses InputTooLong) = true
 reads_input (Runs reads places outcome) = reads
+reads_input (Means reads cause written) = reads
+reads_input (Tells reads lines) = reads
 reads_input _ = false
 
 -- what the devices tell before a command: what files hold, and what is left of the input, each where it is told

@@ -53,6 +53,8 @@ pub enum Cause {
     MachineFault { fault: Step },
     /// All steps were made, and the program would go on.
     Spent,
+    /// All turns were spent, and what the program means would go on.
+    TurnsSpent,
     /// The device failed while it was written.
     WriteFault { device: Device },
     /// There was no memory.
@@ -106,6 +108,7 @@ pub fn status(cause: Cause) -> u8
         Cause::Trapped { .. } => 6,
         Cause::MachineFault { .. } => 9,
         Cause::Spent => 7,
+        Cause::TurnsSpent => 7,
         Cause::WriteFault { .. } => 4,
         Cause::Memory => 5,
         Cause::Done => 0,

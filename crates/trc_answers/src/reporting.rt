@@ -267,6 +267,7 @@ pub fn report<E: Sink>(
         Cause::Trapped { kind, spot } => say_trap(err, kind, spot),
         Cause::MachineFault { fault } => say_fault(err, fault),
         Cause::Spent => say(err, b"trc: steps spent", b""),
+        Cause::TurnsSpent => say(err, b"trc: turns spent", b""),
         Cause::WriteFault { device } => say(err, b"trc: write fault on ", name_of(device)),
         Cause::Memory => say(err, b"trc: out of memory", b""),
         Cause::Done => write_all(err, b""),

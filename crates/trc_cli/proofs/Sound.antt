@@ -1,5 +1,5 @@
 -- What compiled modules answer is no fault of the machine.
-use Rattle.std.proofs.Common.{◌≡◌, ℕ, List, [], ◌∷◌, length, Option, Some, None, refl, sym, subst, arith}
+use Rattle.std.proofs.Common.{◌≡◌, ℕ, List, [], ◌∷◌, length, Bool, Option, Some, None, refl, sym, subst, arith}
 use Rattle.outside.specs.Files.{Held}
 use Rattle.a64_memory.specs.Memory.{AreBytes}
 use Rattle.image_form.specs.declared.image.Image.{Image}
@@ -16,15 +16,23 @@ use Rattle.text_laws.proofs.no_faults.Never.{image_never_faults}
 use Rattle.bulk_text.specs.Bulk.{bulk_text}
 use Rattle.batch_jobs.specs.Batches.{BatchComesTo, LacksList, HasLongList, HasList, HasBadLine, HasLines, AreTooMany, AreTooLarge, HaveJobs}
 use Rattle.noted_image.specs.declared.noting.NotedImage.{NotedImage}
+use Rattle.ob_types.specs.Store.{Kind, Senseless}
+use Rattle.ob_types.specs.Store.{Trap as Meant}
+use Rattle.ob_types.specs.Meaning.{meaning}
+use Rattle.ob_types.specs.declared.program.Program.{Program}
+use Rattle.meaning_commands.specs.Inputs.{InputComesTo, WantsNone, HasInput}
+use Rattle.meaning_commands.specs.Inputs.{HasTooMuch as HasMuchInput}
+use Rattle.meaning_commands.specs.Meanings.{cause_of_meaning, MeanComeTo, HaveNoMeaning, HaveMeaning}
+use Rattle.meaning_commands.specs.Comparisons.{BothComeTo, HaveNoneToCompare, HaveBoth}
 use Rattle.note_commands.specs.Noted.{NotedComeTo, HaveNoNotes, HaveNotes}
 use Rattle.note_commands.specs.Audits.{AuditOf, AuditComesTo, AreTooMany as AreTooManyModules, LacksNotes, LacksTexts, HasTexts, PlanComesTo, HaveNoPlan, HavePlan, AreTooLong, AreNoNotes, HaveResults, AreUnsound, MakeMuchCode, MakeAnImage, one_behind}
-use Rattle.trc_words.specs.Asked.{Asked, Run, Build, Elf, Exec, Traces, Bulk, Audit, Batch, Help}
+use Rattle.trc_words.specs.Asked.{Asked, Run, Build, Elf, Exec, Traces, Bulk, Audit, Mean, Both, Batch, Help}
 use Rattle.trc_answers.specs.declared.causes.Cause.{Cause}
 use Rattle.trc_answers.specs.declared.causes.Cause.TheVariants as cause
 use Rattle.trc_answers.specs.Reading.{FilesComeTo, AreTooMany as AreTooManyFiles, LacksOne, HasALongOne, HaveTexts}
 use Rattle.trc_answers.specs.Runs.{run_of, cause_of_trap, cause_of_run}
 use Rattle.trc_answers.specs.Verdict.{Verdict, Refuses, cause_of, FileComesTo, IsMissing, HasTooMany, HasBytes, ImageComesTo, RunsAlone, RunsOnInput, HasTooMuch, Renews, AreTheSame, Differ, world}
-use Rattle.trc_answers.specs.Answers.{Devices, Answers, AsItComes, FailsReadingFiles, FailsReadingInput, FailsPrinting, FailsWriting, FailsWritingSecond, LacksMemoryBetween, LacksMemory}
+use Rattle.trc_answers.specs.Answers.{Devices, Answers, AsItComes, FailsReadingFiles, FailsReadingInput, FailsPrinting, FailsWriting, FailsWritingSecond, LacksMemoryBetween, LacksMemoryInside, LacksMemory}
 use Rattle.trc_cli.specs.Commands.{ComesTo, IsNoMachineFault, FaultsOnlyInExec, cause_of_refusal, TextsComeTo, HaveNoImage, HaveImage, TracesComeTo, HaveNoTraces, HaveTraces, told_of_run}
 
 -- the cause of a verdict is none
@@ -119,6 +127,25 @@ batch_sound held choice steps list v (HasList bytes is few (HasLines lines are (
 batch_sound held choice steps list v (HasList bytes is few (HasLines lines are (AreTooLarge some passes e))) = as_sound v _ e tt
 batch_sound held choice steps list v (HasList bytes is few (HasLines lines are (HaveJobs first second some jobs replied))) = as_sound v _ replied.verdict_is tt
 
+meant_sound : (p : Program) (o : Outcome Meant) → IsNoMachineFault (cause_of_meaning p o)
+meant_sound p (Ended out) = tt
+meant_sound p (Trapped (Kind kind f) out) = tt
+meant_sound p (Trapped Senseless out) = tt
+meant_sound p (Going out) = tt
+
+input_sound : (left : Option (List ℕ)) (wanted : Bool) (next : List ℕ → Verdict → Type 0) (v : Verdict) → ((input : List ℕ) → next input v → Sound v) → InputComesTo left wanted next v → Sound v
+input_sound left wanted next v f (WantsNone w h) = f [] h
+input_sound left wanted next v f (HasInput input w is are few h) = f input h
+input_sound left wanted next v f (HasMuchInput input w is many e) = as_sound v _ e tt
+
+mean_sound : (left : Option (List ℕ)) (turns : ℕ) (texts : List (List ℕ)) (v : Verdict) → MeanComeTo left turns texts v → Sound v
+mean_sound left turns texts v (HaveNoMeaning r) = as_sound v _ r.verdict_is (refusals r.refusal)
+mean_sound left turns texts v (HaveMeaning p x within h) = input_sound left p.imports_in _ v (λ input e. as_sound v _ e (meant_sound p (meaning p input turns))) h
+
+both_sound : (left : Option (List ℕ)) (choice : Choice) (steps turns : ℕ) (texts : List (List ℕ)) (v : Verdict) → BothComeTo left choice steps turns texts v → Sound v
+both_sound left choice steps turns texts v (HaveNoneToCompare r) = as_sound v _ r.verdict_is (refusals r.refusal)
+both_sound left choice steps turns texts v (HaveBoth p image x is h) = input_sound left p.imports_in _ v (λ input e. as_sound v _ e tt) h
+
 -- so words that ask for anything but the run of an image of a file don't
 comes_sound : (held : Option Held) (left : Option (List ℕ)) (asked : Option Asked) (v : Verdict) → ComesTo (world held left) asked v → FaultsOnlyInExec asked (cause_of v)
 comes_sound held left None v h = as_sound v _ h tt
@@ -136,6 +163,8 @@ comes_sound held left (Some (Traces files choice)) v h = files_sound held files 
 comes_sound held left (Some (Bulk seed size choice steps)) v h =
     texts_sound choice (bulk_text seed size ∷ []) _ v (λ made is e. as_sound v _ e (told_sound choice (bulk_text seed size ∷ []) made steps is (run_of made.image [] steps) refl)) h
 comes_sound held left (Some (Audit out notes files builder regs)) v h = audit_sound held _ notes files v h
+comes_sound held left (Some (Mean files turns)) v h = files_sound held files _ v (λ texts. mean_sound left turns texts v) h
+comes_sound held left (Some (Both files choice steps turns)) v h = files_sound held files _ v (λ texts. both_sound left choice steps turns texts v) h
 comes_sound held left (Some (Batch list choice steps)) v h = batch_sound held choice steps list v h
 comes_sound held left (Some Help) v h = as_sound v _ h tt
 
@@ -152,6 +181,8 @@ other_cause (Some (Exec image steps)) c h = tt
 other_cause (Some (Traces files choice)) c h = h
 other_cause (Some (Bulk seed size choice steps)) c h = h
 other_cause (Some (Audit out notes files builder regs)) c h = h
+other_cause (Some (Mean files turns)) c h = h
+other_cause (Some (Both files choice steps turns)) c h = h
 other_cause (Some (Batch list choice steps)) c h = h
 other_cause (Some Help) c h = h
 
@@ -163,4 +194,5 @@ faults_only_in_exec asked old new c (FailsPrinting v it is cut) = as_cause asked
 faults_only_in_exec asked old new c (FailsWriting v name bytes rest it first is failed) = as_cause asked c _ is (other_cause asked _ tt)
 faults_only_in_exec asked old new c (FailsWritingSecond name bytes other others it is failed) = as_cause asked c _ is (other_cause asked _ tt)
 faults_only_in_exec asked old new c (LacksMemoryBetween name bytes other others it is half) = as_cause asked c _ is (other_cause asked _ tt)
+faults_only_in_exec asked old new c (LacksMemoryInside reads ended written it is short) = as_cause asked c _ is (other_cause asked _ tt)
 faults_only_in_exec asked old new c (LacksMemory is nothing either) = as_cause asked c _ is (other_cause asked _ tt)

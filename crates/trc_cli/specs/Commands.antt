@@ -7,9 +7,11 @@ use Rattle.alloc_choice.specs.declared.choice.Choice.{Choice}
 use Rattle.program_image.specs.declared.imaging.Compiled.{Compiled}
 use Rattle.bulk_text.specs.Bulk.{bulk_text}
 use Rattle.batch_jobs.specs.Batches.{BatchComesTo}
+use Rattle.meaning_commands.specs.Meanings.{MeanComeTo}
+use Rattle.meaning_commands.specs.Comparisons.{BothComeTo}
 use Rattle.note_commands.specs.Audits.{AuditComesTo, audit_of}
 use Rattle.note_commands.specs.Noted.{NotedAnewComeTo, NotedComeTo, NotesWritten}
-use Rattle.trc_words.specs.Asked.{Asked, Run, Build, Elf, Exec, Traces, Bulk, Audit, Batch, Help}
+use Rattle.trc_words.specs.Asked.{Asked, Run, Build, Elf, Exec, Traces, Bulk, Audit, Mean, Both, Batch, Help}
 use Rattle.trc_answers.specs.declared.causes.Cause.{Cause}
 use Rattle.trc_answers.specs.declared.causes.Cause.TheVariants as cause
 use Rattle.trc_answers.specs.Answers.{Devices, InputStays}
@@ -48,7 +50,7 @@ SummaryComesTo steps made verdict = verdict ≡ told_of_run made (run_of made.im
 
 -- the lines of help
 abbrev pub help_lines : List ℕ
-help_lines = codes "trc run|build|elf|traces|exec|bulk|audit|batch|help" ++ (10 ∷ (codes "--policy --traces --regs --jobs --steps --from --notes" ++ 10 ∷ []))
+help_lines = codes "trc run|build|elf|traces|exec|bulk|audit|mean|both|batch|help" ++ (10 ∷ (codes "--policy --traces --regs --jobs --steps --from --notes --turns" ++ 10 ∷ []))
 
 -- an image is built anew from that of an older file, which is the next that is read
 abbrev pub AnewComesTo : Option Held → Choice → (out from : List ℕ) (number : ℕ) → List (List ℕ) → Verdict → Type 0
@@ -66,6 +68,8 @@ RequestComesTo world (Exec image steps) = FileComesTo world.held 0 image (BytesC
 RequestComesTo world (Traces files choice) = FilesComeTo world.held files (TracesComeTo choice)
 RequestComesTo world (Bulk seed size choice steps) = TextsComeTo choice (SummaryComesTo steps) (bulk_text seed size ∷ [])
 RequestComesTo world (Audit out notes files builder regs) = AuditComesTo world.held (audit_of out builder regs) notes files
+RequestComesTo world (Mean files turns) = FilesComeTo world.held files (MeanComeTo world.left turns)
+RequestComesTo world (Both files choice steps turns) = FilesComeTo world.held files (BothComeTo world.left choice steps turns)
 RequestComesTo world (Batch list choice steps) = BatchComesTo world.held choice steps list
 RequestComesTo world Help = λ verdict. verdict ≡ Prints help_lines
 
@@ -74,10 +78,12 @@ abbrev pub ComesTo : World → Option Asked → Verdict → Type 0
 ComesTo world None verdict = verdict ≡ Refuses cause.Usage
 ComesTo world (Some request) verdict = RequestComesTo world request verdict
 
--- only what runs an image reads the input; a made module reads none
+-- only what runs an image or does what modules mean reads the input; a made module reads none
 abbrev pub InputUse : Option Asked → Devices → Devices → Type 0
 InputUse (Some (Run files choice steps)) old new = Unit {0}
 InputUse (Some (Exec image steps)) old new = Unit {0}
+InputUse (Some (Mean files turns)) old new = Unit {0}
+InputUse (Some (Both files choice steps turns)) old new = Unit {0}
 InputUse other old new = InputStays old new
 
 -- the files are as they were
@@ -114,6 +120,8 @@ names_read (Some (Exec image steps)) = image ∷ []
 names_read (Some (Traces files choice)) = files
 names_read (Some (Bulk seed size choice steps)) = []
 names_read (Some (Audit out notes files builder regs)) = notes ∷ files
+names_read (Some (Mean files turns)) = files
+names_read (Some (Both files choice steps turns)) = files
 names_read (Some (Batch list choice steps)) = list ∷ []
 names_read (Some Help) = []
 

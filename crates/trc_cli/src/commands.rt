@@ -13,6 +13,7 @@ use crate::bulk::bulk;
 use crate::running::run;
 use crate::tracing::traces;
 use batch_jobs::batch;
+use meaning_commands::{both, mean};
 use note_commands::audit;
 use outside::{Files, Gate, Sink, Source};
 use std::alloc::{AllocError, AllocGlobal, Global};
@@ -24,7 +25,7 @@ use trc_words::Request;
 
 /// The lines of `help`.
 const HELP: &[u8] =
-    b"trc run|build|elf|traces|exec|bulk|audit|batch|help\n--policy --traces --regs --jobs --steps --from --notes\n";
+    b"trc run|build|elf|traces|exec|bulk|audit|mean|both|batch|help\n--policy --traces --regs --jobs --steps --from --notes --turns\n";
 
 /// Some names, and one more where there is one.
 fn names_with<'a>(
@@ -76,6 +77,8 @@ pub(crate) fn names_of<'a>(alloc: Global, request: &Request<'a>) -> Result<Vec<&
         Request::Exec { image, .. } => Vec::from_slice(alloc, &[*image]),
         Request::Bulk { .. } => Ok(Vec::new(alloc)),
         Request::Audit { notes, files, .. } => names_behind(alloc, notes, files.as_slice()),
+        Request::Mean { files, .. } => Vec::from_slice(alloc, files.as_slice()),
+        Request::Both { files, .. } => Vec::from_slice(alloc, files.as_slice()),
         Request::Batch { list, .. } => Vec::from_slice(alloc, &[*list]),
         Request::Help => Ok(Vec::new(alloc)),
     }
@@ -178,6 +181,26 @@ pub(crate) fn perform<
             *regs,
             files,
             out,
+        ),
+        Request::Mean {
+            files: names,
+            turns,
+        } => mean(rt.alloc(), names.as_slice(), *turns, files, input, out),
+        Request::Both {
+            files: names,
+            choice,
+            steps,
+            turns,
+        } => both(
+            rt,
+            names.as_slice(),
+            choice,
+            *steps,
+            *turns,
+            files,
+            input,
+            out,
+            gate,
         ),
         Request::Batch {
             list,

@@ -115,10 +115,12 @@ pub(crate) fn call<
 /// - `bulk SEED SIZE` makes a module of SIZE procedures, compiles and runs it, and tells what came of it;
 /// - `audit OUT NOTES FILE {FILE}` takes results for the modules' traces from the notes that the file NOTES holds, and where they
 ///   are sound writes the image that they make to OUT, and prints `sound`;
+/// - `mean FILE {FILE}` does what the modules mean, turn by turn;
+/// - `both FILE {FILE}` tells how what the modules mean ends, and how the run of their image ends on the same input;
 /// - `batch LIST` answers the jobs of the list that the file holds, each as `run` does on empty input, and prints the replies;
 /// - `help` tells the commands;
 ///
-/// with the options `--policy`, `--traces`, `--regs`, `--jobs` and `--steps`. One line is written to `err` for each cause but Done. All
+/// with the options `--policy`, `--traces`, `--regs`, `--jobs`, `--steps` and `--turns`. One line is written to `err` for each cause but Done. All
 /// memory that was taken is let go.
 pub fn trc<R: Threads + Wait + AllocGlobal + Sync, F: Files, I: Source, O: Sink, E: Sink, G: Gate>(
     rt: &R,

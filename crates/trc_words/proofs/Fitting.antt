@@ -7,10 +7,10 @@ use Rattle.std.specs.Str.Parse.{digits_value}
 use Rattle.clap.specs.Words.{App, Row, all_of, fault_of, first_of, matches_of}
 use Rattle.alloc_choice.specs.declared.choice.Policy.{Policy}
 use Rattle.trace_build.specs.declared.builder.Builder.{Builder}
-use Rattle.trc_words.specs.Commands.{run_command, build_command, elf_command, exec_command, traces_command, bulk_command, audit_command, batch_command, help_command}
+use Rattle.trc_words.specs.Commands.{run_command, build_command, elf_command, exec_command, traces_command, bulk_command, audit_command, mean_command, both_command, batch_command, help_command}
 use Rattle.trc_words.specs.Numbers.{is_between, is_number, number_between}
-use Rattle.trc_words.specs.Options.{choice_in, given, jobs_in, policy_in, regs_in, steps_in, traces_choice_in, traces_in, value_or}
-use Rattle.trc_words.specs.Asked.{Asked, Run, Build, Elf, Exec, Traces, Bulk, Audit, Batch, Help, asked_of, audit_asked, batch_asked, bulk_asked, build_asked, elf_asked, exec_asked, files_in, help_asked, is_none, notes_in, run_asked, seed_in, size_in, some_of, taken, traces_asked}
+use Rattle.trc_words.specs.Options.{choice_in, given, jobs_in, policy_in, regs_in, steps_in, traces_choice_in, traces_in, turns_in, value_or}
+use Rattle.trc_words.specs.Asked.{Asked, Run, Build, Elf, Exec, Traces, Bulk, Audit, Mean, Both, Batch, Help, asked_of, audit_asked, batch_asked, both_asked, bulk_asked, build_asked, elf_asked, exec_asked, files_in, help_asked, is_none, mean_asked, notes_in, run_asked, seed_in, size_in, some_of, taken, traces_asked}
 use Rattle.alloc_choice.specs.Choice.{IsFitChoice}
 use Rattle.trc_words.specs.Fitting.{Fits}
 use Rattle.trc_words.specs.Requests.{Asks, plain}
@@ -74,6 +74,11 @@ jobs_hold rows = value_holds (Between 1 64) 4 (number_between 1 64) (first_of (c
 steps_hold : (rows : List Row) → Holds (λ n. n ≤ 1000000000000000) (steps_in rows)
 steps_hold rows =
     value_holds (λ n. n ≤ 1000000000000000) 1000000000 (number_between 0 1000000000000000) (first_of (codes "steps") rows) (lit≤ tt)
+    (λ text n e. (number_holds 0 1000000000000000 text n e).1)
+
+turns_hold : (rows : List Row) → Holds (λ n. n ≤ 1000000000000000) (turns_in rows)
+turns_hold rows =
+    value_holds (λ n. n ≤ 1000000000000000) 100000000 (number_between 0 1000000000000000) (first_of (codes "turns") rows) (lit≤ tt)
     (λ text n e. (number_holds 0 1000000000000000 text n e).1)
 
 abbrev Any : {A : Type 0} → A → Type 0
@@ -168,6 +173,20 @@ audit_fits rows =
     given_holds (Between 4 16) Fits (regs_in rows) _ (regs_hold rows) (λ regs r.
     some_holds Fits (Audit out notes files builder regs) (f, r.0, r.1))))))
 
+mean_fits : (rows : List Row) → Holds Fits (mean_asked rows)
+mean_fits rows =
+    given_holds IsFull Fits (files_in rows) _ (files_hold rows) (λ files f.
+    given_holds (λ n. n ≤ 1000000000000000) Fits (turns_in rows) _ (turns_hold rows) (λ turns t.
+    some_holds Fits (Mean files turns) (f, t)))
+
+both_fits : (rows : List Row) → Holds Fits (both_asked rows)
+both_fits rows =
+    given_holds IsFull Fits (files_in rows) _ (files_hold rows) (λ files f.
+    given_holds IsFitChoice Fits (choice_in rows) _ (choice_holds rows) (λ choice c.
+    given_holds (λ n. n ≤ 1000000000000000) Fits (steps_in rows) _ (steps_hold rows) (λ steps s.
+    given_holds (λ n. n ≤ 1000000000000000) Fits (turns_in rows) _ (turns_hold rows) (λ turns t.
+    some_holds Fits (Both files choice steps turns) (f, c, s, t)))))
+
 batch_fits : (rows : List Row) → Holds Fits (batch_asked rows)
 batch_fits rows =
     given_holds Any Fits (first_of (codes "LIST") rows) _ (λ _ _. tt) (λ list _.
@@ -191,9 +210,11 @@ asked_of_fits command words =
     (cond_holds Fits (bytes_eq command (codes "traces")) _ _ (taken_fits traces_command words traces_asked traces_fits)
     (cond_holds Fits (bytes_eq command (codes "bulk")) _ _ (taken_fits bulk_command words bulk_asked bulk_fits)
     (cond_holds Fits (bytes_eq command (codes "audit")) _ _ (taken_fits audit_command words audit_asked audit_fits)
+    (cond_holds Fits (bytes_eq command (codes "mean")) _ _ (taken_fits mean_command words mean_asked mean_fits)
+    (cond_holds Fits (bytes_eq command (codes "both")) _ _ (taken_fits both_command words both_asked both_fits)
     (cond_holds Fits (bytes_eq command (codes "batch")) _ _ (taken_fits batch_command words batch_asked batch_fits)
     (cond_holds Fits (bytes_eq command (codes "help")) _ _ (taken_fits help_command words help_asked help_fits)
-    (none_holds Fits)))))))))
+    (none_holds Fits)))))))))))
 
 -- a request that words ask for fits
 pub fits_of : (command : List ℕ) (words : List (List ℕ)) (r : Result Request WordsFault) → Asks (asked_of command words) r → IfOk r (λ request. Fits (plain request))

@@ -5,9 +5,9 @@ use Rattle.clap.specs.Words.{App, Row, all_of, fault_of, first_of, matches_of}
 use Rattle.clap.specs.Kinds.{Kinds}
 use Rattle.alloc_choice.specs.declared.choice.Choice.{Choice}
 use Rattle.trace_build.specs.declared.builder.Builder.{Builder}
-use Rattle.trc_words.specs.Commands.{run_command, build_command, elf_command, exec_command, traces_command, bulk_command, audit_command, batch_command, help_command}
+use Rattle.trc_words.specs.Commands.{run_command, build_command, elf_command, exec_command, traces_command, bulk_command, audit_command, mean_command, both_command, batch_command, help_command}
 use Rattle.trc_words.specs.Numbers.{number_between}
-use Rattle.trc_words.specs.Options.{choice_in, given, regs_in, steps_in, traces_choice_in, traces_in}
+use Rattle.trc_words.specs.Options.{choice_in, given, regs_in, steps_in, traces_choice_in, traces_in, turns_in}
 
 pub data Asked : Type 0 where
   Run : (files : List (List ℕ)) (choice : Choice) (steps : ℕ) → Asked
@@ -17,6 +17,8 @@ pub data Asked : Type 0 where
   Traces : (files : List (List ℕ)) (choice : Choice) → Asked
   Bulk : (seed size : ℕ) (choice : Choice) (steps : ℕ) → Asked
   Audit : (out notes : List ℕ) (files : List (List ℕ)) (builder : Builder) (regs : ℕ) → Asked
+  Mean : (files : List (List ℕ)) (turns : ℕ) → Asked
+  Both : (files : List (List ℕ)) (choice : Choice) (steps turns : ℕ) → Asked
   Batch : (list : List ℕ) (choice : Choice) (steps : ℕ) → Asked
   Help : Asked
 
@@ -78,6 +80,15 @@ audit_asked rows =
     given (files_in rows) (λ files.
     given (traces_in rows) (λ builder. given (regs_in rows) (λ regs. Some (Audit out notes files builder regs))))))
 
+abbrev pub mean_asked : List Row → Option Asked
+mean_asked rows =
+    given (files_in rows) (λ files. given (turns_in rows) (λ turns. Some (Mean files turns)))
+
+abbrev pub both_asked : List Row → Option Asked
+both_asked rows =
+    given (files_in rows) (λ files. given (choice_in rows) (λ choice.
+    given (steps_in rows) (λ steps. given (turns_in rows) (λ turns. Some (Both files choice steps turns)))))
+
 abbrev pub batch_asked : List Row → Option Asked
 batch_asked rows =
     given (first_of (codes "LIST") rows) (λ list.
@@ -105,9 +116,11 @@ asked_of command words =
     else (if bytes_eq command (codes "traces") then taken traces_command words traces_asked
     else (if bytes_eq command (codes "bulk") then taken bulk_command words bulk_asked
     else (if bytes_eq command (codes "audit") then taken audit_command words audit_asked
+    else (if bytes_eq command (codes "mean") then taken mean_command words mean_asked
+    else (if bytes_eq command (codes "both") then taken both_command words both_asked
     else (if bytes_eq command (codes "batch") then taken batch_command words batch_asked
     else (if bytes_eq command (codes "help") then taken help_command words help_asked
-    else None))))))))
+    else None))))))))))
 
 -- what words ask for, or nothing where they are refused
 abbrev pub asked : List (List ℕ) → Option Asked

@@ -70,6 +70,14 @@ abbrev pub audit_command : App
 audit_command =
     with_option (with_option (with_files (with_argument (with_argument (new_app (codes "audit")) (codes "OUT")) (codes "NOTES"))) (codes "traces")) (codes "regs")
 
+-- mean FILE {FILE} [--turns N]
+abbrev pub mean_command : App
+mean_command = with_option (with_files (new_app (codes "mean"))) (codes "turns")
+
+-- both FILE {FILE} [--policy NAME] [--traces NAME] [--regs N] [--jobs N] [--steps N] [--turns N]
+abbrev pub both_command : App
+both_command = with_option (with_run (with_files (new_app (codes "both")))) (codes "turns")
+
 -- batch LIST [--policy NAME] [--traces NAME] [--regs N] [--jobs N] [--steps N]
 abbrev pub batch_command : App
 batch_command = with_run (with_argument (new_app (codes "batch")) (codes "LIST"))

@@ -47,6 +47,9 @@ jobs_in rows = value_or 4 (number_between 1 64) (first_of (codes "jobs") rows)
 abbrev pub steps_in : List Row → Option ℕ
 steps_in rows = value_or 1000000000 (number_between 0 1000000000000000) (first_of (codes "steps") rows)
 
+abbrev pub turns_in : List Row → Option ℕ
+turns_in rows = value_or 100000000 (number_between 0 1000000000000000) (first_of (codes "turns") rows)
+
 -- the policy and the traces that the words choose, with 16 registers and 4 workers
 abbrev pub traces_choice_in : List Row → Option Choice
 traces_choice_in rows =

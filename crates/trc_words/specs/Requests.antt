@@ -4,7 +4,7 @@ use Rattle.std.specs.Borrow.{Bor}
 use Rattle.trc_words.specs.Asked.{Asked}
 use Rattle.trc_words.specs.Asked as asked
 use Rattle.trc_words.specs.declared.asked.Request.{Request}
-use Rattle.trc_words.specs.declared.asked.Request.TheVariants.{Run, Build, Elf, Exec, Traces, Bulk, Audit, Batch, Help}
+use Rattle.trc_words.specs.declared.asked.Request.TheVariants.{Run, Build, Elf, Exec, Traces, Bulk, Audit, Mean, Both, Batch, Help}
 use Rattle.trc_words.specs.declared.asked.WordsFault.{WordsFault}
 use Rattle.trc_words.specs.declared.asked.WordsFault.TheVariants.{Usage, Memory}
 
@@ -24,6 +24,8 @@ plain (Exec image steps) = asked.Exec image.now steps
 plain (Traces files choice) = asked.Traces (texts files.items) choice
 plain (Bulk seed size choice steps) = asked.Bulk seed size choice steps
 plain (Audit out notes files builder regs) = asked.Audit out.now notes.now (texts files.items) builder regs
+plain (Mean files turns) = asked.Mean (texts files.items) turns
+plain (Both files choice steps turns) = asked.Both (texts files.items) choice steps turns
 plain (Batch list choice steps) = asked.Batch list.now choice steps
 plain Help = asked.Help
 

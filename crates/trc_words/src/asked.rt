@@ -13,7 +13,8 @@ use std::alloc::{AllocError, AllocFailed};
 use thiserror::Error as ErrorOf;
 
 /// What a command is asked for. Files go by their names, of which there is one at least. A choice has 4 to 16 registers
-/// and 1 to 64 workers. A run makes at most `steps` steps, which is at most 1,000,000,000,000,000.
+/// and 1 to 64 workers. A run makes at most `steps` steps, and a
+/// meaning takes at most `turns` turns; each is at most 1,000,000,000,000,000.
 #[derive(Debug, Drop)]
 pub enum Request<'a> {
     /// Compile files and run their image.
@@ -63,6 +64,18 @@ pub enum Request<'a> {
         files: Vec<&'a str>,
         builder: Builder,
         regs: u8,
+    },
+    /// Check files, and do what their program means, turn by turn.
+    Mean {
+        files: Vec<&'a str>,
+        turns: u64,
+    },
+    /// Compile files, and tell on the same input how what their program means ends, and how the run of their image does.
+    Both {
+        files: Vec<&'a str>,
+        choice: Choice,
+        steps: u64,
+        turns: u64,
     },
     /// Answer the jobs of the list that a file holds.
     Batch {

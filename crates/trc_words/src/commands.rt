@@ -3,7 +3,7 @@
 ghost use Rattle.std.specs.Prelude.{◌≡◌, map, string_bytes, true, IfOk};
 ghost use Rattle.clap.specs.Words.{app_of};
 ghost use Rattle.clap.specs.Faults.{is_simple_and_free};
-ghost use Rattle.trc_words.specs.Commands.{run_command, build_command, elf_command, exec_command, traces_command, bulk_command, audit_command, batch_command, help_command};
+ghost use Rattle.trc_words.specs.Commands.{run_command, build_command, elf_command, exec_command, traces_command, bulk_command, audit_command, mean_command, both_command, batch_command, help_command};
 ghost use Rattle.trc_words.specs.Taking.{IsTakenBy};
 
 use crate::arguments::{
@@ -88,6 +88,23 @@ fn audit_command<'a>(alloc: Global) -> Result<Command<'a>, AllocError>
     with_option(alloc, command, "regs")
 }
 
+/// `mean FILE {FILE} [--turns N]`
+fn mean_command<'a>(alloc: Global) -> Result<Command<'a>, AllocError>
+    ensures { IfOk result (λ command. app_of command ≡ mean_command) }
+{
+    let command = with_files(alloc, Command::new(alloc, "mean"))?;
+    with_option(alloc, command, "turns")
+}
+
+/// `both FILE {FILE} [--turns N]`, with all options of `run`
+fn both_command<'a>(alloc: Global) -> Result<Command<'a>, AllocError>
+    ensures { IfOk result (λ command. app_of command ≡ both_command) }
+{
+    let command = with_files(alloc, Command::new(alloc, "both"))?;
+    let command = with_run(alloc, command)?;
+    with_option(alloc, command, "turns")
+}
+
 /// `batch LIST`, with all options of `run`
 fn batch_command<'a>(alloc: Global) -> Result<Command<'a>, AllocError>
     ensures { IfOk result (λ command. app_of command ≡ batch_command) }
@@ -149,6 +166,22 @@ pub(crate) fn audit<'a>(alloc: Global, words: &'a [String]) -> Result<ArgMatches
     ensures { IsTakenBy audit_command (map string_bytes words.entry.now) result }
 {
     let command = audit_command(alloc)?;
+    matches(command, words)
+}
+
+/// What `mean` makes of words.
+pub(crate) fn mean<'a>(alloc: Global, words: &'a [String]) -> Result<ArgMatches<'a>, WordsFault>
+    ensures { IsTakenBy mean_command (map string_bytes words.entry.now) result }
+{
+    let command = mean_command(alloc)?;
+    matches(command, words)
+}
+
+/// What `both` makes of words.
+pub(crate) fn both<'a>(alloc: Global, words: &'a [String]) -> Result<ArgMatches<'a>, WordsFault>
+    ensures { IsTakenBy both_command (map string_bytes words.entry.now) result }
+{
+    let command = both_command(alloc)?;
     matches(command, words)
 }
 

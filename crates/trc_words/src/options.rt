@@ -4,7 +4,7 @@ ghost use Rattle.std.specs.Prelude.{◌≡◌, option_map};
 ghost use Rattle.clap.specs.Words.{all_of, first_of, found_of, rows_of};
 ghost use Rattle.trc_words.specs.Asked.{files_in};
 ghost use Rattle.trc_words.specs.Requests.{texts};
-ghost use Rattle.trc_words.specs.Options.{named_in, policies, builders, policy_in, traces_in, regs_in, jobs_in, steps_in, traces_choice_in, choice_in};
+ghost use Rattle.trc_words.specs.Options.{named_in, policies, builders, policy_in, traces_in, regs_in, jobs_in, steps_in, turns_in, traces_choice_in, choice_in};
 
 use crate::numbers::number_between;
 use alloc_choice::{Builder, Choice, Policy};
@@ -103,6 +103,16 @@ pub(crate) fn steps(matches: &ArgMatches<'_>) -> Option<u64>
     match value(matches, "steps") {
         Some(text) => number_between(0, 1_000_000_000_000_000, text),
         None => Some(1_000_000_000),
+    }
+}
+
+/// The turns of a meaning: 100,000,000 where the words don't say.
+pub(crate) fn turns(matches: &ArgMatches<'_>) -> Option<u64>
+    ensures { result ≡ turns_in (rows_of (found_of matches.now)) }
+{
+    match value(matches, "turns") {
+        Some(text) => number_between(0, 1_000_000_000_000_000, text),
+        None => Some(100_000_000),
     }
 }
 

@@ -1,8 +1,8 @@
 //! From words to what they ask for.
 
 ghost use Rattle.std.specs.Prelude.{map, option_map, string_bytes, IfOk, ◌≡◌};
-ghost use Rattle.trc_words.specs.Asked.{asked, asked_of, files_in, notes_in, other_than, seed_in, size_in, taken, run_asked, build_asked, elf_asked, exec_asked, traces_asked, bulk_asked, audit_asked, batch_asked, help_asked};
-ghost use Rattle.trc_words.specs.Commands.{run_command, build_command, elf_command, exec_command, traces_command, bulk_command, audit_command, batch_command, help_command};
+ghost use Rattle.trc_words.specs.Asked.{asked, asked_of, files_in, notes_in, other_than, seed_in, size_in, taken, run_asked, build_asked, elf_asked, exec_asked, traces_asked, bulk_asked, audit_asked, mean_asked, both_asked, batch_asked, help_asked};
+ghost use Rattle.trc_words.specs.Commands.{run_command, build_command, elf_command, exec_command, traces_command, bulk_command, audit_command, mean_command, both_command, batch_command, help_command};
 ghost use Rattle.trc_words.specs.Fitting.{Fits};
 ghost use Rattle.trc_words.specs.Requests.{Asks, Shows, plain, text, texts};
 ghost use Rattle.clap.specs.Words.{found_of, rows_of};
@@ -10,7 +10,9 @@ ghost use Rattle.clap.specs.Words.{found_of, rows_of};
 use crate::asked::{Request, WordsFault};
 use crate::commands;
 use crate::numbers::number_between;
-use crate::options::{choice, file_names, regs, steps, traces as builder, traces_choice, value};
+use crate::options::{
+    choice, file_names, regs, steps, traces as builder, traces_choice, turns, value,
+};
 use clap::ArgMatches;
 use std::alloc::Global;
 
@@ -148,6 +150,31 @@ fn audit_request<'a>(alloc: Global, matches: &ArgMatches<'a>) -> Result<Request<
     })
 }
 
+/// What the matches of `mean` ask for.
+fn mean_request<'a>(alloc: Global, matches: &ArgMatches<'a>) -> Result<Request<'a>, WordsFault>
+    ensures { Asks (mean_asked (rows_of (found_of matches.now))) result }
+{
+    let files = files(alloc, matches)?;
+    let turns = turns(matches).ok_or(WordsFault::Usage)?;
+    Ok(Request::Mean { files, turns })
+}
+
+/// What the matches of `both` ask for.
+fn both_request<'a>(alloc: Global, matches: &ArgMatches<'a>) -> Result<Request<'a>, WordsFault>
+    ensures { Asks (both_asked (rows_of (found_of matches.now))) result }
+{
+    let files = files(alloc, matches)?;
+    let choice = choice(matches).ok_or(WordsFault::Usage)?;
+    let steps = steps(matches).ok_or(WordsFault::Usage)?;
+    let turns = turns(matches).ok_or(WordsFault::Usage)?;
+    Ok(Request::Both {
+        files,
+        choice,
+        steps,
+        turns,
+    })
+}
+
 /// What the matches of `batch` ask for.
 fn batch_request<'a>(matches: &ArgMatches<'a>) -> Result<Request<'a>, WordsFault>
     ensures { Asks (batch_asked (rows_of (found_of matches.now))) result }
@@ -218,6 +245,22 @@ fn audit<'a>(alloc: Global, words: &'a [String]) -> Result<Request<'a>, WordsFau
     audit_request(alloc, &matches)
 }
 
+/// What words ask for that begin with `mean`.
+fn mean<'a>(alloc: Global, words: &'a [String]) -> Result<Request<'a>, WordsFault>
+    ensures { Asks (taken mean_command (map string_bytes words.entry.now) mean_asked) result }
+{
+    let matches = commands::mean(alloc, words)?;
+    mean_request(alloc, &matches)
+}
+
+/// What words ask for that begin with `both`.
+fn both<'a>(alloc: Global, words: &'a [String]) -> Result<Request<'a>, WordsFault>
+    ensures { Asks (taken both_command (map string_bytes words.entry.now) both_asked) result }
+{
+    let matches = commands::both(alloc, words)?;
+    both_request(alloc, &matches)
+}
+
 /// What words ask for that begin with `batch`.
 fn batch<'a>(alloc: Global, words: &'a [String]) -> Result<Request<'a>, WordsFault>
     ensures { Asks (taken batch_command (map string_bytes words.entry.now) batch_asked) result }
@@ -246,6 +289,8 @@ fn of_command<'a>(alloc: Global, name: &str, words: &'a [String]) -> Result<Requ
         "traces" => traces(alloc, words),
         "bulk" => bulk(alloc, words),
         "audit" => audit(alloc, words),
+        "mean" => mean(alloc, words),
+        "both" => both(alloc, words),
         "batch" => batch(alloc, words),
         "help" => help(alloc, words),
         _ => Err(WordsFault::Usage),

@@ -24,6 +24,12 @@ returns-in-Bulk-clause-answers g c = rw c.in-Bulk.is (c.bulk.ensures.answers _ _
 pub returns-in-Audit-clause-answers : goal.returns-in-Audit-clause-answers
 returns-in-Audit-clause-answers g c = rw (c.in-Audit.is, ← c.as_slice-in-Audit.ensures.value) (c.audit.ensures.answers _ _)
 
+pub returns-in-Mean-clause-answers : goal.returns-in-Mean-clause-answers
+returns-in-Mean-clause-answers g c = rw (c.in-Mean.is, ← c.as_slice-in-Mean.ensures.value) c.mean.ensures.answers
+
+pub returns-in-Both-clause-answers : goal.returns-in-Both-clause-answers
+returns-in-Both-clause-answers g c = rw (c.in-Both.is, ← c.as_slice-in-Both.ensures.value) c.both.ensures.answers
+
 pub returns-in-Batch-clause-answers : goal.returns-in-Batch-clause-answers
 returns-in-Batch-clause-answers g c = rw (c.in-Batch.is, c.of-in-Batch.ensures) (c.batch.ensures.answers _ _)
 

@@ -1,0 +1,38 @@
+//! The laws of meanings that are done.
+
+ghost use Rattle.std.specs.Prelude.{◌≡◌, ℕ, List, Some};
+ghost use Rattle.image_form.specs.declared.image.Image.{Image};
+ghost use Rattle.a64_memory.specs.Memory.{AreBytes};
+ghost use Rattle.ob_types.specs.declared.program.Program.{Program};
+ghost use Rattle.alloc_choice.specs.declared.choice.Choice.{Choice};
+ghost use Rattle.trc_answers.specs.Verdict.{Verdict, cause_of};
+ghost use Rattle.trc_answers.specs.declared.causes.Cause.TheVariants.{TurnsSpent};
+ghost use Rattle.meaning_commands.specs.Agreements.{Suffice, TellTheSame};
+ghost use Rattle.meaning_commands.specs.Meanings.{MeanComeTo};
+ghost use Rattle.meaning_commands.specs.Programs.{IsImageOfProgram};
+
+use ob_laws::over_stays_over;
+use text_laws::{texts_have_one_first_fault, texts_have_one_lowering, texts_have_one_meaning};
+
+/// Where turns and steps suffice, a program and its image are told by the same line: (n + 1) * L steps suffice for a meaning that is
+/// over within n turns, where the image has L words of code, and 8 * m + 8 turns for a machine that is over within m steps.
+pub fn both_agree()
+    ensures { (choice : Choice) (p : Program) (image : Image) (steps turns : ℕ) (input : List ℕ)
+        → IsImageOfProgram choice p image → AreBytes input → Suffice p image steps turns input → TellTheSame p image steps turns input }
+{
+    over_stays_over();
+}
+
+/// Where it is told what is left of the input, texts are refused for one reason, or what they mean ends or traps in one way with one
+/// output, whatever program they are found to be, if it is over within the turns. This follows from the laws of texts, which are cited
+/// as calls that do nothing. How many turns are the fewest is told of each program alone.
+pub fn meanings_come_to_one()
+    ensures { (left : List ℕ) (turns : ℕ) (texts : List (List ℕ)) (a b : Verdict)
+        → MeanComeTo (Some left) turns texts a → MeanComeTo (Some left) turns texts b
+        → (cause_of a ≡ TurnsSpent → ⊥) → (cause_of b ≡ TurnsSpent → ⊥) → a ≡ b }
+{
+    over_stays_over();
+    texts_have_one_first_fault();
+    texts_have_one_lowering();
+    texts_have_one_meaning();
+}

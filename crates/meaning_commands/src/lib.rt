@@ -1,0 +1,18 @@
+//! The commands of the meaning: `mean` and `both`.
+//!
+//! `mean` does what the program of some modules means, turn by turn; `both` tells beside each other how that ends and how the machine
+//! ends that runs the program's image, on the same input. `specs/Meanings.antt` and `specs/Comparisons.antt` say what they come to
+//! when nothing fails. Where turns and steps suffice, both lines of `both` say the same (`both_agree`), and what texts
+//! mean is one where it is over (`meanings_come_to_one`).
+#![tactic(auto)]
+
+mod comparing;
+mod imaging;
+mod input;
+mod laws;
+mod meaning;
+mod programs;
+
+pub use comparing::both;
+pub use laws::{both_agree, meanings_come_to_one};
+pub use meaning::mean;
