@@ -1,9 +1,9 @@
 //! Statements without calls and without others in them.
 
 ghost use Rattle.std.specs.Prelude.{◌≡◌};
-ghost use Rattle.ob_types.specs.Meaning.{effect, effects_of, at_most, kind_in as kind_of_designator, is_byte as is_of_bytes};
-ghost use Rattle.ob_types.specs.Statements.{assign as assigned, change_number, change_set, assert as asserted, out_char, out_int};
-ghost use Rattle.eval_at_once.specs.Here.{here_of, value_in, handed_in};
+ghost use Rattle.ob_types.specs.Meaning.{effect, effects_of, at_most};
+ghost use Rattle.ob_types.specs.Statements.{assign as assigned, change_set, assert as asserted, out_char, out_int};
+ghost use Rattle.eval_at_once.specs.Here.{here_of, value_in, handed_in, changed_in};
 ghost use Rattle.eval_at_once.specs.AtOnce.{Done, DoneSome, IsEnd};
 
 use crate::active::Active;
@@ -51,7 +51,7 @@ fn change(
     d: &Designator,
     x: &Expr,
 ) -> Result<bool, Stop>
-    ensures did { Done (change_number active.now.procedure operator (handed_in laid.now active.now d.now) (value_in laid.now active.now x.now) (is_of_bytes (kind_of_designator d.now)) world.old) result world.old world.new }
+    ensures did { Done (changed_in laid.now active.now operator d.now x.now world.old) result world.old world.new }
     ensures turns { world.new.turns ≡ world.old.turns }
 {
     match located(laid, active, world, d) {
