@@ -8,7 +8,7 @@ use Rattle.lir_core.specs.declared.places.Line.{Line}
 use Rattle.lir_core.specs.declared.places.Line.TheVariants as lines
 use Rattle.lir_core.specs.declared.places.TraceOut.{TraceOut}
 use Rattle.plain_form.specs.Spelling.{number, list, IsNumber, IsRegister, KeepsList}
-use Rattle.plain_form.specs.results.Spelling.{held, places, place, move, line, result}
+use Rattle.plain_form.specs.results.Spelling.{held, places, place, move, line, from_ends, from_starts, result}
 use Rattle.plain_form.specs.results.Bounds.{FitsHeld, FitsPlaces, FitsPlace, FitsMove, FitsLine, FitsResult}
 use Rattle.plain_form.specs.Reading.{Reading, ◌>>=◌, number_at, up_to_at, register_at, list_at}
 use Rattle.plain_form.specs.results.Reading.{held_by, held_at, places_at, kind_of_place, place_at, move_at, stored_at, kind_of_line, line_at, result_at}
@@ -220,8 +220,8 @@ module _ (total : ℕ) where
         let r1 = list places z.ends ++ r2 in
         let r0 = list places z.starts ++ r1 in
         let grouped : result z ++ rest ≡ number z.trace ++ r0 =
-        append_assoc (number z.trace) (list places z.starts ++ (list places z.ends ++ (list (list line) z.lines ++ list (list number) z.regs))) rest
-        ∙ ap (λ x. number z.trace ++ x) (append_assoc (list places z.starts) (list places z.ends ++ (list (list line) z.lines ++ list (list number) z.regs)) rest
+        append_assoc (number z.trace) (from_starts z) rest
+        ∙ ap (λ x. number z.trace ++ x) (append_assoc (list places z.starts) (from_ends z) rest
         ∙ ap (λ x. list places z.starts ++ x) (append_assoc (list places z.ends) (list (list line) z.lines ++ list (list number) z.regs) rest
         ∙ ap (λ x. list places z.ends ++ x) (append_assoc (list (list line) z.lines) (list (list number) z.regs) rest))) in
         ap (result_at total) grouped

@@ -58,6 +58,16 @@ TypedMove = KeepsMove Any IsNumber Any IsNumber
 abbrev pub TypedLine : Line → Type 0
 TypedLine = KeepsLine Any IsNumber Any IsNumber
 
+-- what a result ends with: its lines, and the registers of their uses and definitions
+abbrev pub TypedLines : TraceOut → Type 0
+TypedLines o = KeepsList Any (KeepsList Any TypedLine) o.lines × KeepsList Any (KeepsList Any Any) o.regs
+
+abbrev pub TypedEnds : TraceOut → Type 0
+TypedEnds o = KeepsList Any TypedPlaces o.ends × TypedLines o
+
+abbrev pub TypedStarts : TraceOut → Type 0
+TypedStarts o = KeepsList Any TypedPlaces o.starts × TypedEnds o
+
 abbrev pub TypedResult : TraceOut → Type 0
 TypedResult = KeepsResult Any IsNumber Any IsNumber
 

@@ -33,5 +33,15 @@ line (Moves ms) = number 3 ++ list move ms
 line (Result r) = number 4 ++ number r
 line (Target p) = number 5 ++ place p
 
+-- what a result ends with: its lines, and the registers of their uses and definitions
+abbrev pub from_lines : TraceOut → List ℕ
+from_lines o = list (list line) o.lines ++ list (list number) o.regs
+
+abbrev pub from_ends : TraceOut → List ℕ
+from_ends o = list places o.ends ++ from_lines o
+
+abbrev pub from_starts : TraceOut → List ℕ
+from_starts o = list places o.starts ++ from_ends o
+
 abbrev pub result : TraceOut → List ℕ
-result o = number o.trace ++ (list places o.starts ++ (list places o.ends ++ (list (list line) o.lines ++ list (list number) o.regs)))
+result o = number o.trace ++ from_starts o

@@ -1,9 +1,9 @@
 //! From results to bytes.
 
 ghost use Rattle.std.specs.Prelude.{◌≡◌, ◌++◌, OnOk};
-ghost use Rattle.plain_form.specs.Spelling.{number, list, IsNumber, Any, KeepsList};
-ghost use Rattle.plain_form.specs.results.Spelling.{held, places, place, move, line, result as spelled_result};
-ghost use Rattle.plain_form.specs.results.Bounds.{TypedHeld, TypedPlaces, TypedPlace, TypedMove, TypedLine, TypedResult};
+ghost use Rattle.plain_form.specs.Spelling.{number, IsNumber};
+ghost use Rattle.plain_form.specs.results.Spelling.{held, places, place, move, line, from_lines, from_ends, from_starts, result as spelled_result};
+ghost use Rattle.plain_form.specs.results.Bounds.{TypedHeld, TypedPlaces, TypedPlace, TypedMove, TypedLine, TypedLines, TypedEnds, TypedStarts, TypedResult};
 
 use crate::writing::{ToBytes, put_number};
 use lir_core::{Line, Move, Place, Places, TraceOut};
@@ -115,8 +115,8 @@ impl ToBytes for Line {
 
 // Puts the lines of a result, and the registers of its uses and definitions, behind bytes.
 fn put_lines(out: &mut Vec<u8>, o: &TraceOut) -> Result<(), AllocError>
-    ensures bytes { OnOk result (out.new.items ≡ out.old.items ++ (list (list line) o.now.lines ++ list (list number) o.now.regs)) }
-    ensures typed { OnOk result (KeepsList Any (KeepsList Any TypedLine) o.now.lines × KeepsList Any (KeepsList Any Any) o.now.regs) }
+    ensures bytes { OnOk result (out.new.items ≡ out.old.items ++ from_lines o.now) }
+    ensures typed { OnOk result (TypedLines o.now) }
 {
     o.lines.put(out)?;
     o.regs.put(out)
@@ -124,8 +124,8 @@ fn put_lines(out: &mut Vec<u8>, o: &TraceOut) -> Result<(), AllocError>
 
 // Puts the end places of a result behind bytes, and what comes then.
 fn put_ends(out: &mut Vec<u8>, o: &TraceOut) -> Result<(), AllocError>
-    ensures bytes { OnOk result (out.new.items ≡ out.old.items ++ (list places o.now.ends ++ (list (list line) o.now.lines ++ list (list number) o.now.regs))) }
-    ensures typed { OnOk result (KeepsList Any TypedPlaces o.now.ends × KeepsList Any (KeepsList Any TypedLine) o.now.lines × KeepsList Any (KeepsList Any Any) o.now.regs) }
+    ensures bytes { OnOk result (out.new.items ≡ out.old.items ++ from_ends o.now) }
+    ensures typed { OnOk result (TypedEnds o.now) }
 {
     o.ends.put(out)?;
     put_lines(out, o)
@@ -133,8 +133,8 @@ fn put_ends(out: &mut Vec<u8>, o: &TraceOut) -> Result<(), AllocError>
 
 // Puts the start places of a result behind bytes, and what comes then.
 fn put_starts(out: &mut Vec<u8>, o: &TraceOut) -> Result<(), AllocError>
-    ensures bytes { OnOk result (out.new.items ≡ out.old.items ++ (list places o.now.starts ++ (list places o.now.ends ++ (list (list line) o.now.lines ++ list (list number) o.now.regs)))) }
-    ensures typed { OnOk result (KeepsList Any TypedPlaces o.now.starts × KeepsList Any TypedPlaces o.now.ends × KeepsList Any (KeepsList Any TypedLine) o.now.lines × KeepsList Any (KeepsList Any Any) o.now.regs) }
+    ensures bytes { OnOk result (out.new.items ≡ out.old.items ++ from_starts o.now) }
+    ensures typed { OnOk result (TypedStarts o.now) }
 {
     o.starts.put(out)?;
     put_ends(out, o)
