@@ -16,7 +16,7 @@ use Rattle.block_runs.specs.States.{World, Work, CopyHead, ZeroHead, CompareHead
 
 -- the bytes of a character in memory
 abbrev pub char_bytes : ℕ
-char_bytes = 8
+char_bytes = 1
 
 -- what comes of an operation
 pub data Effect : Type 0 where

@@ -3,7 +3,7 @@ use Rattle.std.specs.Prelude.{ℕ}
 
 -- the values of a procedure, which have their homes in its frame
 abbrev pub most_values : ℕ
-most_values = 4000
+most_values = 8000
 
 -- the blocks of a procedure
 abbrev pub most_blocks : ℕ

@@ -2,7 +2,7 @@
 #![tactic(auto)]
 
 /// How many values a procedure has at most.
-pub const MOST_VALUES: u32 = 4_000;
+pub const MOST_VALUES: u32 = 8_000;
 
 /// How many blocks a procedure has at most.
 pub const MOST_BLOCKS: u32 = 4_000;

@@ -53,10 +53,10 @@ pub record IsLayout (packed : Bool) (t : Table) (l : Layout) : Type 0 where
 
 -- the layout in use, and whether it is packed
 abbrev pub is_packed : Bool
-is_packed = false
+is_packed = true
 
 abbrev pub layout : Table → Layout
-layout t = in_cells t
+layout t = packed t
 
 ---- Addresses
 

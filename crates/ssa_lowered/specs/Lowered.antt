@@ -3,7 +3,6 @@ use Rattle.std.specs.Prelude.{ℕ, suc, ◌+◌, ◌-◌, ◌*◌, ◌&&◌, pos
 use Rattle.wrapping_numbers.specs.Numbers.{unsigned}
 use Rattle.ob_types.specs.Layout.{record_of, cells_of_all, record_cells}
 use Rattle.ob_types.specs.Meaning.{locals_of, text_number, kind_in, length_of_kind, element_kind, record_of_kind, is_byte}
-use Rattle.ob_types.specs.declared.types.TypeKind.TheVariants.{Char}
 use Rattle.ob_types.specs.declared.types.TypeKind.TheVariants.{Bool as Boolean}
 use Rattle.ob_types.specs.declared.types.Mode.{Mode}
 use Rattle.ob_types.specs.declared.types.Mode.TheVariants.{Record as OfRecord, Open as OfOpen}
@@ -226,7 +225,7 @@ module _ (p : Program) (l : Layout) (here : Here) where
     deed (OutInt x n) = out_int (value x) (value n)
     deed (OutString d) = out_string l.character (named d) (length_of_kind (kind_in d))
     deed OutLn = out_char (const 10)
-    deed (InChar d) = in_char (named d) (l.is_small Boolean) (l.is_small Char)
+    deed (InChar d) = in_char (named d) (l.is_small Boolean) (small d)
     deed (Invoke c) = without_result (called c)
     deed (If' _ parts _ other) = alternatives parts (assigned_all other) (deeds other)
     deed (While' _ parts) = loop (registers (assigned_branches parts)) (guarded_rounds parts)

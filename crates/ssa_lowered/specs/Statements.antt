@@ -96,7 +96,7 @@ out_string character d n = do
 
 -- In.Done stands at 0
 abbrev pub in_char : Low Named → Bool → Bool → Deed
-in_char d small_flag small_character = do
+in_char d small_flag small = do
   h ← d
   a ← address_in h 0
   c ← emits (Svc 4) []
@@ -105,4 +105,4 @@ in_char d small_flag small_character = do
   g ← emits (Global 0) []
   _ ← store small_flag g ok
   v ← emits Max0 (c ∷ [])
-  store small_character a v
+  store small a v
