@@ -40,7 +40,7 @@ use Rattle.ssa_core.specs.declared.procedure.Proc.{Proc}
 use Rattle.ssa_lowered.specs.Data.{in_cells, packed}
 use Rattle.ssa_lowered.specs.Constants.{constants}
 use Rattle.ssa_lowered.specs.Limits.{limit_of}
-use Rattle.ssa_lowered.specs.Lowered.{lowered, lowered_packed}
+use Rattle.ssa_lowered.specs.Lowered.{lowered, lowered_in_cells}
 ''' % ', '.join('%s as %sOp' % (c, c) for c in CODES)
 
 WORDS = '''-- procedures, blocks and operations, in few words
@@ -86,7 +86,7 @@ def proc(p):
 
 
 # what a row has to see into
-SEEN = {'lowered': '', 'lowered_packed': 'unfolding data_tree record_row fields_before\n'}
+SEEN = {'lowered_in_cells': '', 'lowered': 'unfolding data_tree record_row fields_before\n'}
 
 
 def lowered(rows, stage, word, layout):
@@ -135,8 +135,8 @@ def limits(rows):
 
 def main():
     what, rows, out = sys.argv[1:]
-    body = '\n'.join({'cells': lambda: lowered(rows, 12, 'lowered', 'in_cells'),
-                      'packed': lambda: lowered(rows, 13, 'lowered_packed', 'packed'),
+    body = '\n'.join({'cells': lambda: lowered(rows, 12, 'lowered_in_cells', 'in_cells'),
+                      'packed': lambda: lowered(rows, 13, 'lowered', 'packed'),
                       'limits': lambda: limits(rows)}[what]())
     head = HEAD % USES
     head = head.replace('and what holds of them. Written by bench/checked_rows.py', 'and the procedures that they become. Written by bench/lowered_rows.py')

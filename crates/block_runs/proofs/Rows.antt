@@ -4,7 +4,7 @@ use Rattle.std.proofs.Common.{◌≡◌, ℕ, ◌+◌, ◌*◌, Bool, true, fals
 use Rattle.std.specs.Fmt.{digits}
 use Rattle.run_laws.specs.Runs.{Outcome, Ended, Trapped, run}
 use Rattle.block_runs.specs.declared.code.Code.{Code}
-use Rattle.block_runs.specs.declared.code.Code.TheVariants.{Const, Global, Local, Plus, Arg, Load, Store, Add, Sub, And, Or, Eor, Bic, Lsl, Asr, Ror, Mul, MulAdd, Neg, Not, Abs, Max0, Odd, Set, Bit, Span, Has, Div, Mod, Below, Elem, NotNil, IsPtr, IsTag, GuardPtr, GuardTag, New, Call, CallAt, Copy, Zero, Compare, Svc}
+use Rattle.block_runs.specs.declared.code.Code.TheVariants.{Const, Global, Local, Plus, Arg, Load, Store, LoadByte, StoreByte, Add, Sub, And, Or, Eor, Bic, Lsl, Asr, Ror, Mul, MulAdd, Neg, Not, Abs, Max0, Odd, Set, Bit, Span, Has, Div, Mod, Below, Elem, NotNil, IsPtr, IsTag, GuardPtr, GuardTag, New, Call, CallAt, Copy, Zero, Compare, Svc}
 use Rattle.block_runs.specs.declared.code.Code.TheVariants.{Code as CodeOf}
 use Rattle.block_runs.specs.declared.end.End.{End}
 use Rattle.block_runs.specs.declared.end.End.TheVariants.{Jump, Branch, Nonzero, Return, Trap}
@@ -82,20 +82,20 @@ sets = refl
 abbrev arrays_and_records_code : List Procedure
 arrays_and_records_code =
     procedure false 0 0 (
-    block ([]) (op (Global 200) ([]) (Some 0) ∷ op (Const 0) ([]) (Some 1) ∷ op Store (0 ∷ 1 ∷ []) None ∷ op (Const 2) ([]) (Some 2) ∷ []) (Jump 1 ([])) ∷
-    block ([]) (op (Global 200) ([]) (Some 3) ∷ op Load (3 ∷ []) (Some 4) ∷ []) (Branch 13 4 2 2 3) ∷
-    block ([]) (op (Global 8) ([]) (Some 5) ∷ op (Global 200) ([]) (Some 6) ∷ op Load (6 ∷ []) (Some 7) ∷ op (Const 3) ([]) (Some 8) ∷ op Below (7 ∷ 8 ∷ []) None ∷ op (Const 16) ([]) (Some 9) ∷ op MulAdd (7 ∷ 9 ∷ 5 ∷ []) (Some 10) ∷ op (Global 200) ([]) (Some 11) ∷ op Load (11 ∷ []) (Some 12) ∷ op (Global 200) ([]) (Some 13) ∷ op Load (13 ∷ []) (Some 14) ∷ op Mul (12 ∷ 14 ∷ []) (Some 15) ∷ op Store (10 ∷ 15 ∷ []) None ∷ op (Global 8) ([]) (Some 16) ∷ op (Global 200) ([]) (Some 17) ∷ op Load (17 ∷ []) (Some 18) ∷ op (Const 3) ([]) (Some 19) ∷ op Below (18 ∷ 19 ∷ []) None ∷ op (Const 16) ([]) (Some 20) ∷ op MulAdd (18 ∷ 20 ∷ 16 ∷ []) (Some 21) ∷ op (Plus 8) (21 ∷ []) (Some 22) ∷ op (Global 200) ([]) (Some 23) ∷ op Load (23 ∷ []) (Some 24) ∷ op Neg (24 ∷ []) (Some 25) ∷ op Store (22 ∷ 25 ∷ []) None ∷ op (Global 200) ([]) (Some 26) ∷ op (Global 200) ([]) (Some 27) ∷ op Load (27 ∷ []) (Some 28) ∷ op (Const 1) ([]) (Some 29) ∷ op Add (28 ∷ 29 ∷ []) (Some 30) ∷ op Store (26 ∷ 30 ∷ []) None ∷ []) (Jump 1 ([])) ∷
-    block ([]) (op (Global 56) ([]) (Some 31) ∷ op (Global 8) ([]) (Some 32) ∷ op (Const 48) ([]) (Some 33) ∷ op Copy (31 ∷ 32 ∷ 33 ∷ []) None ∷ op (Global 8) ([]) (Some 34) ∷ op (Const 1) ([]) (Some 35) ∷ op (Const 3) ([]) (Some 36) ∷ op Below (35 ∷ 36 ∷ []) None ∷ op (Const 16) ([]) (Some 37) ∷ op MulAdd (35 ∷ 37 ∷ 34 ∷ []) (Some 38) ∷ op (Const 7) ([]) (Some 39) ∷ op Store (38 ∷ 39 ∷ []) None ∷ op (Global 56) ([]) (Some 40) ∷ op (Const 1) ([]) (Some 41) ∷ op (Const 3) ([]) (Some 42) ∷ op Below (41 ∷ 42 ∷ []) None ∷ op (Const 16) ([]) (Some 43) ∷ op MulAdd (41 ∷ 43 ∷ 40 ∷ []) (Some 44) ∷ op Load (44 ∷ []) (Some 45) ∷ op (Global 8) ([]) (Some 46) ∷ op (Const 1) ([]) (Some 47) ∷ op (Const 3) ([]) (Some 48) ∷ op Below (47 ∷ 48 ∷ []) None ∷ op (Const 16) ([]) (Some 49) ∷ op MulAdd (47 ∷ 49 ∷ 46 ∷ []) (Some 50) ∷ op Load (50 ∷ []) (Some 51) ∷ op (Const 10) ([]) (Some 52) ∷ op Mul (51 ∷ 52 ∷ []) (Some 53) ∷ op Add (45 ∷ 53 ∷ []) (Some 54) ∷ op (Const 0) ([]) (Some 55) ∷ op (Svc 2) (54 ∷ 55 ∷ []) None ∷ op (Global 104) ([]) (Some 56) ∷ op (Global 336) ([]) (Some 57) ∷ op (Const 32) ([]) (Some 58) ∷ op Copy (56 ∷ 57 ∷ 58 ∷ []) None ∷ op (Global 152) ([]) (Some 59) ∷ op (Global 368) ([]) (Some 60) ∷ op (Const 32) ([]) (Some 61) ∷ op Copy (59 ∷ 60 ∷ 61 ∷ []) None ∷ op (Global 104) ([]) (Some 62) ∷ op (Const 48) ([]) (Some 63) ∷ op (Global 152) ([]) (Some 64) ∷ op (Const 48) ([]) (Some 65) ∷ op Compare (62 ∷ 63 ∷ 64 ∷ 65 ∷ []) (Some 66) ∷ op (Const 0) ([]) (Some 67) ∷ op (Set 11) (66 ∷ 67 ∷ []) (Some 68) ∷ []) (Nonzero 68 4 5) ∷
-    block ([]) (op (Global 104) ([]) (Some 69) ∷ op (Const 6) ([]) (Some 70) ∷ op (Const 8) ([]) (Some 71) ∷ op (Svc 3) (69 ∷ 70 ∷ 71 ∷ []) None ∷ []) (Jump 6 ([])) ∷
+    block ([]) (op (Global 120) ([]) (Some 0) ∷ op (Const 0) ([]) (Some 1) ∷ op Store (0 ∷ 1 ∷ []) None ∷ op (Const 2) ([]) (Some 2) ∷ []) (Jump 1 ([])) ∷
+    block ([]) (op (Global 120) ([]) (Some 3) ∷ op Load (3 ∷ []) (Some 4) ∷ []) (Branch 13 4 2 2 3) ∷
+    block ([]) (op (Global 8) ([]) (Some 5) ∷ op (Global 120) ([]) (Some 6) ∷ op Load (6 ∷ []) (Some 7) ∷ op (Const 3) ([]) (Some 8) ∷ op Below (7 ∷ 8 ∷ []) None ∷ op (Const 16) ([]) (Some 9) ∷ op MulAdd (7 ∷ 9 ∷ 5 ∷ []) (Some 10) ∷ op (Global 120) ([]) (Some 11) ∷ op Load (11 ∷ []) (Some 12) ∷ op (Global 120) ([]) (Some 13) ∷ op Load (13 ∷ []) (Some 14) ∷ op Mul (12 ∷ 14 ∷ []) (Some 15) ∷ op Store (10 ∷ 15 ∷ []) None ∷ op (Global 8) ([]) (Some 16) ∷ op (Global 120) ([]) (Some 17) ∷ op Load (17 ∷ []) (Some 18) ∷ op (Const 3) ([]) (Some 19) ∷ op Below (18 ∷ 19 ∷ []) None ∷ op (Const 16) ([]) (Some 20) ∷ op MulAdd (18 ∷ 20 ∷ 16 ∷ []) (Some 21) ∷ op (Plus 8) (21 ∷ []) (Some 22) ∷ op (Global 120) ([]) (Some 23) ∷ op Load (23 ∷ []) (Some 24) ∷ op Neg (24 ∷ []) (Some 25) ∷ op Store (22 ∷ 25 ∷ []) None ∷ op (Global 120) ([]) (Some 26) ∷ op (Global 120) ([]) (Some 27) ∷ op Load (27 ∷ []) (Some 28) ∷ op (Const 1) ([]) (Some 29) ∷ op Add (28 ∷ 29 ∷ []) (Some 30) ∷ op Store (26 ∷ 30 ∷ []) None ∷ []) (Jump 1 ([])) ∷
+    block ([]) (op (Global 56) ([]) (Some 31) ∷ op (Global 8) ([]) (Some 32) ∷ op (Const 48) ([]) (Some 33) ∷ op Copy (31 ∷ 32 ∷ 33 ∷ []) None ∷ op (Global 8) ([]) (Some 34) ∷ op (Const 1) ([]) (Some 35) ∷ op (Const 3) ([]) (Some 36) ∷ op Below (35 ∷ 36 ∷ []) None ∷ op (Const 16) ([]) (Some 37) ∷ op MulAdd (35 ∷ 37 ∷ 34 ∷ []) (Some 38) ∷ op (Const 7) ([]) (Some 39) ∷ op Store (38 ∷ 39 ∷ []) None ∷ op (Global 56) ([]) (Some 40) ∷ op (Const 1) ([]) (Some 41) ∷ op (Const 3) ([]) (Some 42) ∷ op Below (41 ∷ 42 ∷ []) None ∷ op (Const 16) ([]) (Some 43) ∷ op MulAdd (41 ∷ 43 ∷ 40 ∷ []) (Some 44) ∷ op Load (44 ∷ []) (Some 45) ∷ op (Global 8) ([]) (Some 46) ∷ op (Const 1) ([]) (Some 47) ∷ op (Const 3) ([]) (Some 48) ∷ op Below (47 ∷ 48 ∷ []) None ∷ op (Const 16) ([]) (Some 49) ∷ op MulAdd (47 ∷ 49 ∷ 46 ∷ []) (Some 50) ∷ op Load (50 ∷ []) (Some 51) ∷ op (Const 10) ([]) (Some 52) ∷ op Mul (51 ∷ 52 ∷ []) (Some 53) ∷ op Add (45 ∷ 53 ∷ []) (Some 54) ∷ op (Const 0) ([]) (Some 55) ∷ op (Svc 2) (54 ∷ 55 ∷ []) None ∷ op (Global 104) ([]) (Some 56) ∷ op (Global 256) ([]) (Some 57) ∷ op (Const 4) ([]) (Some 58) ∷ op Copy (56 ∷ 57 ∷ 58 ∷ []) None ∷ op (Global 112) ([]) (Some 59) ∷ op (Global 264) ([]) (Some 60) ∷ op (Const 4) ([]) (Some 61) ∷ op Copy (59 ∷ 60 ∷ 61 ∷ []) None ∷ op (Global 104) ([]) (Some 62) ∷ op (Const 6) ([]) (Some 63) ∷ op (Global 112) ([]) (Some 64) ∷ op (Const 6) ([]) (Some 65) ∷ op Compare (62 ∷ 63 ∷ 64 ∷ 65 ∷ []) (Some 66) ∷ op (Const 0) ([]) (Some 67) ∷ op (Set 11) (66 ∷ 67 ∷ []) (Some 68) ∷ []) (Nonzero 68 4 5) ∷
+    block ([]) (op (Global 104) ([]) (Some 69) ∷ op (Const 6) ([]) (Some 70) ∷ op (Const 1) ([]) (Some 71) ∷ op (Svc 3) (69 ∷ 70 ∷ 71 ∷ []) None ∷ []) (Jump 6 ([])) ∷
     block ([]) ([]) (Jump 6 ([])) ∷
-    block ([]) (op (Global 104) ([]) (Some 72) ∷ op (Const 48) ([]) (Some 73) ∷ op (Global 400) ([]) (Some 74) ∷ op (Const 32) ([]) (Some 75) ∷ op Compare (72 ∷ 73 ∷ 74 ∷ 75 ∷ []) (Some 76) ∷ op (Const 0) ([]) (Some 77) ∷ op (Set 0) (76 ∷ 77 ∷ []) (Some 78) ∷ []) (Nonzero 78 7 8) ∷
+    block ([]) (op (Global 104) ([]) (Some 72) ∷ op (Const 6) ([]) (Some 73) ∷ op (Global 272) ([]) (Some 74) ∷ op (Const 4) ([]) (Some 75) ∷ op Compare (72 ∷ 73 ∷ 74 ∷ 75 ∷ []) (Some 76) ∷ op (Const 0) ([]) (Some 77) ∷ op (Set 0) (76 ∷ 77 ∷ []) (Some 78) ∷ []) (Nonzero 78 7 8) ∷
     block ([]) (op (Const 61) ([]) (Some 79) ∷ op (Svc 1) (79 ∷ []) None ∷ []) (Jump 9 ([])) ∷
     block ([]) ([]) (Jump 9 ([])) ∷
     block ([]) ([]) (Return None) ∷ [])
     ∷
     []
 
-pub arrays_and_records : runs 457 arrays_and_records_code (small_world 208 (208 ∷ 0 ∷ 0 ∷ 16 ∷ 0 ∷ 0 ∷ 0 ∷ 0 ∷ 0 ∷ 0 ∷ 0 ∷ 0 ∷ 0 ∷ 0 ∷ 0 ∷ 0 ∷ 0 ∷ 0 ∷ 0 ∷ 0 ∷ 0 ∷ 0 ∷ 0 ∷ 0 ∷ 0 ∷ 0 ∷ 0 ∷ 0 ∷ 0 ∷ 0 ∷ 0 ∷ 0 ∷ 0 ∷ 0 ∷ 0 ∷ 0 ∷ 0 ∷ 0 ∷ 0 ∷ 0 ∷ 0 ∷ 0 ∷ 0 ∷ 0 ∷ 0 ∷ 0 ∷ 0 ∷ 0 ∷ 0 ∷ 0 ∷ 0 ∷ 0 ∷ 0 ∷ 0 ∷ 0 ∷ 0 ∷ 0 ∷ 0 ∷ 0 ∷ 0 ∷ 0 ∷ 0 ∷ 0 ∷ 0 ∷ 0 ∷ 0 ∷ 0 ∷ 0 ∷ 0 ∷ 0 ∷ 0 ∷ 0 ∷ 0 ∷ 0 ∷ 0 ∷ 0 ∷ 0 ∷ 0 ∷ 0 ∷ 0 ∷ 0 ∷ 0 ∷ 0 ∷ 0 ∷ 0 ∷ 0 ∷ 0 ∷ 0 ∷ 0 ∷ 0 ∷ 0 ∷ 0 ∷ 0 ∷ 0 ∷ 0 ∷ 0 ∷ 0 ∷ 0 ∷ 0 ∷ 0 ∷ 0 ∷ 0 ∷ 0 ∷ 0 ∷ 0 ∷ 0 ∷ 0 ∷ 0 ∷ 0 ∷ 0 ∷ 0 ∷ 0 ∷ 0 ∷ 0 ∷ 0 ∷ 0 ∷ 0 ∷ 0 ∷ 0 ∷ 0 ∷ 0 ∷ 0 ∷ 0 ∷ 0 ∷ 0 ∷ 0 ∷ 0 ∷ 0 ∷ 97 ∷ 0 ∷ 0 ∷ 0 ∷ 0 ∷ 0 ∷ 0 ∷ 0 ∷ 98 ∷ 0 ∷ 0 ∷ 0 ∷ 0 ∷ 0 ∷ 0 ∷ 0 ∷ 99 ∷ 0 ∷ 0 ∷ 0 ∷ 0 ∷ 0 ∷ 0 ∷ 0 ∷ 0 ∷ 0 ∷ 0 ∷ 0 ∷ 0 ∷ 0 ∷ 0 ∷ 0 ∷ 97 ∷ 0 ∷ 0 ∷ 0 ∷ 0 ∷ 0 ∷ 0 ∷ 0 ∷ 98 ∷ 0 ∷ 0 ∷ 0 ∷ 0 ∷ 0 ∷ 0 ∷ 0 ∷ 100 ∷ 0 ∷ 0 ∷ 0 ∷ 0 ∷ 0 ∷ 0 ∷ 0 ∷ 0 ∷ 0 ∷ 0 ∷ 0 ∷ 0 ∷ 0 ∷ 0 ∷ 0 ∷ 97 ∷ 0 ∷ 0 ∷ 0 ∷ 0 ∷ 0 ∷ 0 ∷ 0 ∷ 98 ∷ 0 ∷ 0 ∷ 0 ∷ 0 ∷ 0 ∷ 0 ∷ 0 ∷ 99 ∷ 0 ∷ 0 ∷ 0 ∷ 0 ∷ 0 ∷ 0 ∷ 0 ∷ 0 ∷ 0 ∷ 0 ∷ 0 ∷ 0 ∷ 0 ∷ 0 ∷ 0 ∷ []) ([]) 8192 1048576 256 64) ≡ Ended (55 ∷ 49 ∷ 97 ∷ 98 ∷ 99 ∷ 61 ∷ [])
+pub arrays_and_records : runs 449 arrays_and_records_code (small_world 128 (128 ∷ 0 ∷ 0 ∷ 16 ∷ 0 ∷ 0 ∷ 0 ∷ 0 ∷ 0 ∷ 0 ∷ 0 ∷ 0 ∷ 0 ∷ 0 ∷ 0 ∷ 0 ∷ 0 ∷ 0 ∷ 0 ∷ 0 ∷ 0 ∷ 0 ∷ 0 ∷ 0 ∷ 0 ∷ 0 ∷ 0 ∷ 0 ∷ 0 ∷ 0 ∷ 0 ∷ 0 ∷ 0 ∷ 0 ∷ 0 ∷ 0 ∷ 0 ∷ 0 ∷ 0 ∷ 0 ∷ 0 ∷ 0 ∷ 0 ∷ 0 ∷ 0 ∷ 0 ∷ 0 ∷ 0 ∷ 0 ∷ 0 ∷ 0 ∷ 0 ∷ 0 ∷ 0 ∷ 0 ∷ 0 ∷ 0 ∷ 0 ∷ 0 ∷ 0 ∷ 0 ∷ 0 ∷ 0 ∷ 0 ∷ 0 ∷ 0 ∷ 0 ∷ 0 ∷ 0 ∷ 0 ∷ 0 ∷ 0 ∷ 0 ∷ 0 ∷ 0 ∷ 0 ∷ 0 ∷ 0 ∷ 0 ∷ 0 ∷ 0 ∷ 0 ∷ 0 ∷ 0 ∷ 0 ∷ 0 ∷ 0 ∷ 0 ∷ 0 ∷ 0 ∷ 0 ∷ 0 ∷ 0 ∷ 0 ∷ 0 ∷ 0 ∷ 0 ∷ 0 ∷ 0 ∷ 0 ∷ 0 ∷ 0 ∷ 0 ∷ 0 ∷ 0 ∷ 0 ∷ 0 ∷ 0 ∷ 0 ∷ 0 ∷ 0 ∷ 0 ∷ 0 ∷ 0 ∷ 0 ∷ 0 ∷ 0 ∷ 0 ∷ 0 ∷ 0 ∷ 0 ∷ 0 ∷ 0 ∷ 0 ∷ 0 ∷ 0 ∷ 0 ∷ 0 ∷ 97 ∷ 98 ∷ 99 ∷ 0 ∷ 0 ∷ 0 ∷ 0 ∷ 0 ∷ 97 ∷ 98 ∷ 100 ∷ 0 ∷ 0 ∷ 0 ∷ 0 ∷ 0 ∷ 97 ∷ 98 ∷ 99 ∷ 0 ∷ 0 ∷ 0 ∷ 0 ∷ 0 ∷ []) ([]) 8192 1048576 256 64) ≡ Ended (55 ∷ 49 ∷ 97 ∷ 98 ∷ 99 ∷ 61 ∷ [])
 unfolding digits
 arrays_and_records = refl
 
@@ -154,9 +154,9 @@ objects = refl
 abbrev input_code : List Procedure
 input_code =
     procedure false 0 0 (
-    block ([]) (op (Global 8) ([]) (Some 0) ∷ op (Svc 4) ([]) (Some 1) ∷ op (Const 0) ([]) (Some 2) ∷ op (Set 10) (1 ∷ 2 ∷ []) (Some 3) ∷ op (Global 0) ([]) (Some 4) ∷ op Store (4 ∷ 3 ∷ []) None ∷ op Max0 (1 ∷ []) (Some 5) ∷ op Store (0 ∷ 5 ∷ []) None ∷ []) (Jump 1 ([])) ∷
-    block ([]) (op (Global 0) ([]) (Some 6) ∷ op Load (6 ∷ []) (Some 7) ∷ []) (Nonzero 7 2 3) ∷
-    block ([]) (op (Global 8) ([]) (Some 8) ∷ op Load (8 ∷ []) (Some 9) ∷ op (Svc 1) (9 ∷ []) None ∷ op (Global 8) ([]) (Some 10) ∷ op (Svc 4) ([]) (Some 11) ∷ op (Const 0) ([]) (Some 12) ∷ op (Set 10) (11 ∷ 12 ∷ []) (Some 13) ∷ op (Global 0) ([]) (Some 14) ∷ op Store (14 ∷ 13 ∷ []) None ∷ op Max0 (11 ∷ []) (Some 15) ∷ op Store (10 ∷ 15 ∷ []) None ∷ []) (Jump 1 ([])) ∷
+    block ([]) (op (Global 8) ([]) (Some 0) ∷ op (Svc 4) ([]) (Some 1) ∷ op (Const 0) ([]) (Some 2) ∷ op (Set 10) (1 ∷ 2 ∷ []) (Some 3) ∷ op (Global 0) ([]) (Some 4) ∷ op StoreByte (4 ∷ 3 ∷ []) None ∷ op Max0 (1 ∷ []) (Some 5) ∷ op StoreByte (0 ∷ 5 ∷ []) None ∷ []) (Jump 1 ([])) ∷
+    block ([]) (op (Global 0) ([]) (Some 6) ∷ op LoadByte (6 ∷ []) (Some 7) ∷ []) (Nonzero 7 2 3) ∷
+    block ([]) (op (Global 8) ([]) (Some 8) ∷ op LoadByte (8 ∷ []) (Some 9) ∷ op (Svc 1) (9 ∷ []) None ∷ op (Global 8) ([]) (Some 10) ∷ op (Svc 4) ([]) (Some 11) ∷ op (Const 0) ([]) (Some 12) ∷ op (Set 10) (11 ∷ 12 ∷ []) (Some 13) ∷ op (Global 0) ([]) (Some 14) ∷ op StoreByte (14 ∷ 13 ∷ []) None ∷ op Max0 (11 ∷ []) (Some 15) ∷ op StoreByte (10 ∷ 15 ∷ []) None ∷ []) (Jump 1 ([])) ∷
     block ([]) ([]) (Return None) ∷ [])
     ∷
     []

@@ -28,7 +28,7 @@ use Rattle.ob_types.specs.declared.program.Program.{Program}
 use Rattle.block_runs.specs.declared.end.End.{End}
 use Rattle.block_runs.specs.declared.end.End.TheVariants.{Jump, Return, Trap}
 use Rattle.ssa_core.specs.declared.procedure.Proc.{Proc}
-use Rattle.ssa_lowered.specs.Data.{Layout, layout, packed, rounded, global_at, descriptor_at, text_at, within}
+use Rattle.ssa_lowered.specs.Data.{Layout, layout, in_cells, rounded, global_at, descriptor_at, text_at, within}
 use Rattle.ssa_lowered.specs.Pieces.{Cursor, Start, Made, Low, give, ◌>>=◌, skip, numbers, Mask, blocks_of}
 use Rattle.ssa_lowered.specs.Values.{const, condition, Named, At, Beside, Held, data_at, local_at, element, field, dereferenced, narrowed, unary, binary, compared, texts_compared, routine, guarded, contained, with_element, with_range, is_pointer, is_tag, tag_of, as_byte, length_of, by_word, address, by_record, by_open, also, Request, call, call_at, with_result, without_result, Home, home_of, load}
 use Rattle.ssa_lowered.specs.Control.{Test, fork_value, fork_branch, fork_not, fork_and, fork_or, Lowers, valued, tested, choose, Round, loop, repeat, for, Rung, case}
@@ -335,6 +335,6 @@ lowered_by l p = procs_from p l 0 p.procedures
 abbrev pub lowered : Program → List Proc
 lowered p = lowered_by (layout p.types) p
 
--- where a CHAR, BYTE or BOOLEAN takes one byte
-abbrev pub lowered_packed : Program → List Proc
-lowered_packed p = lowered_by (packed p.types) p
+-- where each cell takes eight bytes
+abbrev pub lowered_in_cells : Program → List Proc
+lowered_in_cells p = lowered_by (in_cells p.types) p
