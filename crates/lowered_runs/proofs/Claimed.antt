@@ -4,8 +4,8 @@ use Rattle.ob_types.specs.Meaning.{texts_of}
 use Rattle.ob_types.specs.WellFormed.{is_empty}
 use Rattle.ob_types.specs.declared.program.Program.{Program}
 use Rattle.ob_types.specs.declared.types.RecordType.{RecordType}
-use Rattle.ssa_lowered.specs.Data.{Layout, layout}
-use Rattle.ssa_lowered.proofs.Layouts.{cells_by_trees}
+use Rattle.ssa_lowered.specs.Data.{Layout, is_packed, layout}
+use Rattle.ssa_lowered.proofs.Layouts.{packed_by_trees}
 use Rattle.lowered_runs.specs.Claims.{CanRun, CanRunBy, KeepsUp, KeepsUpBy, has_constants}
 use Rattle.lowered_runs.proofs.Programs.{keeps_up_by}
 
@@ -23,8 +23,8 @@ keeps_up_in p packed l input constants code n h = keeps_up_by p packed l h.laid 
 
 -- in the layout in use
 pub keeps_up : (p : Program) (input constants : List ℕ) (code : ℕ → ℕ) (n : ℕ) → CanRun p input constants code → KeepsUp p input constants code n
-keeps_up p input constants code n h = keeps_up_in p false (layout p.types) input constants code n (record {
-  laid = cells_by_trees p.types;
+keeps_up p input constants code n h = keeps_up_in p is_packed (layout p.types) input constants code n (record {
+  laid = packed_by_trees p.types;
   character = refl;
   fine = h.fine;
   numbers = h.numbers;

@@ -36,6 +36,7 @@ no_constants : false ≡ true → ⊥
 no_constants e = cc
 
 pub sample_runs : CanRun sample [] [] (λ g. suc g)
+unfolding data_tree record_row
 sample_runs = record {
   fine = refl;
   numbers = refl;
@@ -102,6 +103,7 @@ module _ (b : Box (Unit {0}) Heap) (v : Vec (Unit {0}) Heap) where
   }
 
   pub counting_runs : CanRun counting [] [] (λ g. suc g)
+  unfolding data_tree record_row
   counting_runs = record {
     fine = refl;
     numbers = refl;

@@ -55,7 +55,7 @@ use Rattle.ob_sound.proofs.Deeds.{takes_is, given_is, suits_fits}
 use Rattle.ob_types.specs.Store.{Pointer as PointerCell, Code as CodeCell}
 use Rattle.ob_sound.proofs.Tree.{t_base, t_select, t_value, t_link, t_effect}
 use Rattle.ssa_lowered.specs.Data.{Layout, takes_a_byte, global_at, descriptor_at, text_at, within, rounded}
-use Rattle.ob_types.specs.Trees.{DataTree, Scalar, Record, fits_byte, scalar_bytes, row_cells, round_up, wide, row_end, fields_before, data_tree, record_row}
+use Rattle.ob_types.specs.Trees.{DataTree, Scalar, Record, fits_byte, row_cells, round_up, wide, row_end, fields_before, data_tree, record_row}
 use Rattle.ob_types.specs.Trees.{Array as ArrayTree}
 use Rattle.ob_types.proofs.DataTrees.{cells_are, record_cells_are, array_data_tree, record_data_tree, scalar_data_tree}
 use Rattle.object_nodes.specs.Running.{forms_of_all}
@@ -1137,15 +1137,6 @@ module _ (w : Whole) (l : Level) (right : Right w) (apart : Apart w l) (vars : V
   record_type_of r (Routines k) h = no h
   record_type_of r (Exactly g) h = no h
 
-  -- a number that takes a character takes as many bytes as characters do: where these take eight, all take eight
-  character_width : (f : Form) → WellFormed.changes true f ≡ true → lay.is_small Char ≡ takes_byte (ground w) f
-  character_width f h = right.laid.is_small Char ∙ by w.packed (right.laid.character) f h
-    where
-      by : (packed : Bool) → lay.character ≡ scalar_bytes packed → (f : Form) → WellFormed.changes true f ≡ true → (packed && takes_a_byte Char) ≡ (packed && fits_byte f)
-      by false e f h = refl
-      by true e Small h = refl
-      by true e f h = let c = right.character in absurd (omega (arith, e, c))
-
   -- its cells, and its bytes with the tag
   row_many : (r : ℕ) → record_cells p.types r ≡ row_cells (record_row p.types r)
   row_many r = record_cells_are p.types r
@@ -1433,7 +1424,7 @@ module _ (w : Whole) (l : Level) (right : Right w) (apart : Apart w l) (vars : V
         (unpaid (sound_named d t.0 t.1 (named_is d t.0 t.1 (at_of_whole d lends))))
     stmt_is mask (InChar d) fine c lends =
         let t = takes_is p good (WellFormed.changes true) (WellFormed.named p l.proc d) fine in
-        typed_by (InChar d) fine (follows_in_char w l right apart (whole_of d) t.0 (designated p calls runs d) steady (own_lent d lends) (lay.is_small Char) (lay.is_small Boolean) t.1 (character_width t.1 t.4) (right.laid.is_small Boolean) (λ h. scalar_tree t.0 t.1 t.3 h) vars.done
+        typed_by (InChar d) fine (follows_in_char w l right apart (whole_of d) t.0 (designated p calls runs d) steady (own_lent d lends) (small p lay mine d) (lay.is_small Boolean) t.1 (small_is d t.0 t.1 t.2 t.3) (right.laid.is_small Boolean) (λ h. scalar_tree t.0 t.1 t.3 h) vars.done
         (λ n le tags older. s_put p done Truth (Bits n) (done_formed p good (forms_of_all p l.types) tags) refl (omega (arith, le)))
         (follows_mask w l {less = nothing} (omega arith) (λ y e. refl) (only_named w l t.0 (named_is d t.0 t.2 (at_of_whole d lends)))))
     stmt_is mask (Invoke k) fine c lends = follows_mask w l {less = nothing} (omega arith) (λ y e. refl) (call_only k fine lends)

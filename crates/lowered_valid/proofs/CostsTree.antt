@@ -15,7 +15,6 @@ use Rattle.ssa_lowered.specs.Lowered.{Here, by_mode, parameter_by, variable_of, 
 use Rattle.ssa_lowered.proofs.Everywhere.{Each, each_on}
 use Rattle.wrapping_numbers.specs.Numbers.{unsigned}
 use Rattle.ob_types.specs.Layout.{kind_of, record_cells}
-use Rattle.ob_types.specs.declared.types.TypeKind.TheVariants.{Char}
 use Rattle.ob_types.specs.declared.types.TypeKind.TheVariants.{Bool as Boolean}
 use Rattle.ob_types.specs.declared.types.Formal.{Formal}
 use Rattle.ob_types.specs.declared.tree.Expr.{Expr, Literal, Routine, Load, Guard', Unary', Chain', Compare', CompareTexts', In', IsPointer', IsParameter, Byte', Length, Call', Row_of-Link, end_of-Link, more_of-Link}
@@ -238,7 +237,7 @@ module _ (p : Program) (l : Layout) (here : Here) where
     c_deed (OutInt x n) = at_most (c_out_int (c_value x) (c_value n)) (omega arith)
     c_deed (OutString d) = at_most (c_out_string l.character (length_of_kind (kind_in d)) (c_named d)) (omega arith)
     c_deed OutLn = at_most (c_out_char (c_const 10)) (omega arith)
-    c_deed (InChar d) = at_most (c_in_char (l.is_small Boolean) (l.is_small Char) (c_named d)) (omega arith)
+    c_deed (InChar d) = at_most (c_in_char (l.is_small Boolean) (l.is_small (kind_in d)) (c_named d)) (omega arith)
     c_deed (Invoke c) = at_most (c_without_result (c_called c)) (omega arith)
     c_deed (If' _ parts _ other) = at_most (c_alternatives parts (assigned_all other) (c_deeds other)) (omega arith)
     c_deed (While' _ parts) = at_most (c_loop (16 * in_branches parts) _ (guarded_rounds p l here parts) (each_round parts)) (omega arith)

@@ -6,7 +6,6 @@ use Rattle.std.proofs.lemmas.List.Sums.{sum_by-cons}
 use Rattle.wrapping_numbers.specs.Numbers.{unsigned}
 use Rattle.ob_types.specs.Layout.{kind_of, record_cells}
 use Rattle.ob_types.specs.Meaning.{kind_in, length_of_kind, element_kind, record_of_kind, is_byte}
-use Rattle.ob_types.specs.declared.types.TypeKind.TheVariants.{Char}
 use Rattle.ob_types.specs.declared.types.TypeKind.TheVariants.{Bool as Boolean}
 use Rattle.ob_types.specs.declared.types.Formal.{Formal}
 use Rattle.ob_types.specs.declared.tree.Binary.TheVariants.{Add, Subtract, Union, Difference}
@@ -327,7 +326,7 @@ module _ (args : ℕ) (p : Program) (l : Layout) (here : Here) (small_enough : N
     s_deed (OutInt x n) h = let a = and_of (gives_number (WellFormed.checked_form p f x)) (gives_number (WellFormed.checked_form p f n)) h in s_out_int args (s_value x (number_of x a.0)) (s_value n (number_of n a.1))
     s_deed (OutString d) h = s_out_string args l.character (length_of_kind (kind_in d)) (s_named d (holds_is (WellFormed.is_text p (length_of_kind (kind_in d))) (WellFormed.named p f d) h))
     s_deed OutLn h = s_out_char args (s_const args 10)
-    s_deed (InChar d) h = s_in_char args (l.is_small Boolean) (l.is_small Char) (s_named d (holds_is (WellFormed.takes p (WellFormed.changes true)) (WellFormed.named p f d) h))
+    s_deed (InChar d) h = s_in_char args (l.is_small Boolean) (l.is_small (kind_in d)) (s_named d (holds_is (WellFormed.takes p (WellFormed.changes true)) (WellFormed.named p f d) h))
     s_deed (Invoke c) h = s_without_result args (s_called c h)
     s_deed (If' _ parts _ other) h = let a = and_of (WellFormed.fine_branches p f parts) (WellFormed.fine_row p f other) h in s_alternatives parts a.0 (assigned_all other) (s_deeds other a.1)
     s_deed (While' _ parts) h = let a = and_of (WellFormed.has_branch parts) (WellFormed.fine_branches p f parts) h in s_loop args _ (guarded_rounds p l here parts) (each_round parts a.1)
