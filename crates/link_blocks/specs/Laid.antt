@@ -11,7 +11,8 @@ use Rattle.boundary_resolve.specs.Placing.{placed_of, node_lines, registers_at}
 use Rattle.boundary_resolve.specs.Edges.{AreSound}
 use Rattle.placed_code.specs.Placed.{no_block}
 use Rattle.placed_code.specs.Placed as place
-use Rattle.placed_code.specs.Words.{slots_of, most_slots}
+use Rattle.placed_code.specs.Words.{slots_of}
+use Rattle.size_limits.specs.Limits.{most_slots}
 use Rattle.placed_code.specs.Results.{placed, placed_block}
 use Rattle.linked_flows.specs.Allocations.{Cut, steps_of, part_at, allocated}
 use Rattle.link_blocks.specs.Fits.{numbers_fit, registers_fit}

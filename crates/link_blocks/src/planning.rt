@@ -30,10 +30,8 @@ use link_layout::{Copy, Ranks};
 use link_words::Frame;
 use lir_core::{Flow, Leave, Node, RegisterList, TraceOut};
 use outside::Memory;
+use size_limits::MOST_SLOTS;
 use std::alloc::{AllocError, Global};
-
-/// The most slots of a frame.
-const MOST_SLOTS: usize = 8_192;
 
 /// The most slots for arguments of calls.
 const MOST_OUTS: usize = 20;

@@ -1,7 +1,7 @@
 //! Procedures in blocks of cells.
 
 ghost use Rattle.std.specs.Prelude.{◌≡◌, ◌+◌, ◌<◌, ◌≤◌, ◌^◌, IsTrue, length};
-ghost use Rattle.placed_code.specs.Words.{most_slots};
+ghost use Rattle.size_limits.specs.Limits.{most_slots};
 ghost use Rattle.link_blocks.specs.Fits.{number_fits, most_outs};
 
 use a64_instr::Reg;

@@ -26,7 +26,8 @@ use Rattle.block_runs.specs.Blocks.{bodies}
 use Rattle.lir_core.specs.Spots.{Spot, reg, home, out, target, saved}
 use Rattle.placed_code.specs.Placed.{Copy, Cell, Block, Placed, block_of, procedures, use_register, def_register}
 use Rattle.link_blocks.specs.Fits.{most_outs}
-use Rattle.placed_code.specs.Words.{Where, InReg, InSlot, slot_of, where_is, near_slots, is_near, page_slots, page_word, load_slot, store_slot, move, move_between, copy_word, copies_words, slots_of, frame_of, most_slots, move_word, op_words, depth_words, frame_words, count_words, taking, room_words, data_words, local_words, prologue, unframe_words, giving, unroom_words, undata_words, unlocal_words, undepth_words, epilogue, jump_words, turned, branch_words, nonzero_words, result_words, last_words}
+use Rattle.placed_code.specs.Words.{Where, InReg, InSlot, slot_of, where_is, near_slots, is_near, page_slots, page_word, load_slot, store_slot, move, move_between, copy_word, copies_words, slots_of, frame_of, move_word, op_words, depth_words, frame_words, count_words, taking, room_words, data_words, local_words, prologue, unframe_words, giving, unroom_words, undata_words, unlocal_words, undepth_words, epilogue, jump_words, turned, branch_words, nonzero_words, result_words, last_words}
+use Rattle.size_limits.specs.Limits.{most_slots}
 use Rattle.placed_code.specs.Layout.{cell_width, block_width, proc_width, front_width, Placing, placings, zero_first, own_words, cell_words, end_words, block_words, front_words, proc_words, start_words, all_words, entry, routines_at, procedures_at, place}
 use Rattle.placed_code.specs.Claims.{AllInRange}
 use Rattle.link_blocks.specs.Fits.{number_fits, trap_fits}

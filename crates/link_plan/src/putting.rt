@@ -3,7 +3,8 @@
 ghost use Rattle.std.specs.Prelude.{◌≡◌, ℕ, ◌+◌, ◌-◌, ◌<◌, ◌≤◌, ◌^◌, ◌++◌, map, length, min, true, OnOk, IfSome, IfNone};
 ghost use Rattle.run_laws.specs.Layers.{whole_width, spread};
 ghost use Rattle.a64_table.specs.Table.{word_of};
-ghost use Rattle.placed_code.specs.Words.{where_is, copies_words, copy_word, op_words, most_slots};
+ghost use Rattle.placed_code.specs.Words.{where_is, copies_words, copy_word, op_words};
+ghost use Rattle.size_limits.specs.Limits.{most_slots};
 ghost use Rattle.placed_code.specs.Layout.{cell_width};
 ghost use Rattle.link_words.specs.Fields.{InReach, entry_in};
 ghost use Rattle.link_words.specs.Frames.{WhereFits, where_of};

@@ -1,5 +1,6 @@
 -- The words of copies, operations, entries and ends.
 use Rattle.std.specs.Prelude.{ℕ, suc, ◌+◌, ◌-◌, ◌*◌, ◌/◌, ◌%◌, ◌^◌, ◌==◌, nat_lt, ◌&&◌, not, Bool, true, false, List, [], ◌∷◌, ◌++◌, map, length, Option, Some, None, if◌then◌else◌}
+use Rattle.size_limits.specs.Limits.{most_slots}
 use Rattle.a64_numbers.specs.Branches.{branch_field}
 use Rattle.a64_numbers.specs.Moves.{half, constant_moves}
 use Rattle.a64_numbers.specs.declared.moves.Move.{Move}
@@ -88,10 +89,7 @@ slots_of pr = pr.outs + (1 + pr.homes)
 abbrev pub frame_of : Placed → ℕ
 frame_of pr = 8 * slots_of pr
 
--- how many slots a frame has at most, and how many bytes
-abbrev pub most_slots : ℕ
-most_slots = 8192
-
+-- how many bytes a frame has at most
 abbrev pub most_frame : ℕ
 most_frame = 8 * most_slots
 
