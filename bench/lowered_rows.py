@@ -14,7 +14,7 @@ What stands in the repository is made so, from its top (then `rt tidy` in the cr
     lowered_rows.py cells bench/rows/lowered.txt crates/ssa_lowered_rows/proofs/Low.antt
     lowered_rows.py packed bench/rows/lowered.txt crates/ssa_lowered_rows/proofs/Packed.antt
     lowered_rows.py limits bench/rows/limits.txt crates/ssa_lowered_rows/proofs/Limited.antt
-    lowered_rows.py cells bench/rows/lowered_telling.txt crates/ssa_lowered/proofs/Told.antt
+    lowered_rows.py packed bench/rows/lowered_telling.txt crates/ssa_lowered/proofs/Told.antt
 
 bench/other_compiler.py says where the other compiler is; without it nothing is written."""
 import itertools
