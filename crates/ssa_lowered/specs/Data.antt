@@ -1,5 +1,5 @@
 -- Where data stands: a layout of types, and with it the addresses of variables, descriptors and strings, in bytes behind the start of the globals.
-use Rattle.std.specs.Prelude.{◌≡◌, ℕ, suc, ◌+◌, ◌*◌, ◌/◌, min, List, map, take, length, sum, sum_by, slice_index, Bool, true, ◌&&◌}
+use Rattle.std.specs.Prelude.{◌≡◌, ℕ, suc, ◌+◌, ◌*◌, ◌/◌, min, List, map, take, length, sum, sum_by, slice_index, Bool, true, false, ◌&&◌}
 use Rattle.ob_types.specs.Forms.{scalar_form, form_or_zero}
 use Rattle.ob_types.specs.Layout.{record_of, types_of, cells, record_cells, field_place}
 use Rattle.ob_types.specs.Trees.{Record, fits_byte, scalar_bytes, round_up, wide, tree_bytes, row_end, data_tree, record_row, fields_before, record_extent, field_offset, bytes}
