@@ -6,7 +6,7 @@ use std::sync::Wait;
 use std::test::Fail;
 use std::thread::Threads;
 use trc_base::{Files, Gate, MemFiles, MemSink, MemSource, OpenGate};
-use trc_cli::{Outcome, trc};
+pub use trc_cli::{Cause, Outcome, trc};
 
 /// How a call ended, and what the output and the error output took.
 #[derive(Drop)]
