@@ -1,10 +1,13 @@
 -- Where a program's data stand is told by its form.
-use Rattle.std.proofs.Common.{◌≡◌, ℕ, zero, suc, ◌+◌, ◌*◌, List, [], ◌∷◌, ◌++◌, map, take, length, sum, true, Some, refl, sym, ap, ap₂, subst, ◌∙◌, slice_get}
-use Rattle.std.specs.Prelude.{slice_index_or, sum_by, flat_map, filter}
+use Rattle.std.proofs.Common.{◌≡◌, ℕ, zero, suc, ◌+◌, ◌*◌, List, [], ◌∷◌, ◌++◌, map, take, length, sum, true, Option, Some, None, refl, sym, ap, ap₂, subst, ◌∙◌, slice_get, arith}
+use Rattle.std.specs.Prelude.{slice_index, slice_index_or, option_map, sum_by, flat_map, filter}
 use Rattle.std.proofs.lemmas.List.{length-map}
 use Rattle.std.proofs.lemmas.List.Sums.{sum_by-cons}
 use Rattle.ob_types.specs.Forms.{all}
-use Rattle.ob_types.specs.Layout.{record_of, types_of, base_cells, cells, cells_of_all, record_cells, field_place, no_record_type}
+use Rattle.ob_types.specs.Layout.{record_of, types_of, cells, cells_of_all, record_cells, no_record_type}
+use Rattle.ob_types.specs.Trees.{FieldRow, round_up, tree_extent, row_extent, with_part, base_row, with_fields, data_tree, record_row, record_extent, fields_before}
+use Rattle.ob_types.specs.Trees.{Field as FieldBehind}
+use Rattle.ob_types.specs.declared.types.Extent.{Extent}
 use Rattle.ob_types.specs.Meaning.{procedure_of, no_procedure, globals_of, locals_of, texts_of, text_number, is_value}
 use Rattle.ob_types.specs.WellFormed.{well_formed}
 use Rattle.ob_types.specs.declared.types.Field.{Field}
@@ -12,20 +15,31 @@ use Rattle.ob_types.specs.declared.types.Formal.{Formal}
 use Rattle.ob_types.specs.declared.program.Module.{Module}
 use Rattle.ob_types.specs.declared.program.Procedure.{Procedure}
 use Rattle.ob_types.specs.declared.program.Program.{Program}
-use Rattle.ob_types.proofs.Tests.{and_of, and_from, all_at}
+use Rattle.ob_types.proofs.Tests.{none_some, some_same, and_of, and_from, all_at}
 use Rattle.ssa_lowered.specs.Data
 use Rattle.ssa_lowered.specs.Data.{layout, rounded, globals_room, global_at, descriptor_at, text_at}
-use Rattle.ob_judge.specs.Shapes.{Shape}
+use Rattle.ob_judge.specs.Shapes.{Shape, Nothing}
 use Rattle.ob_judge.specs.Image as I
 use Rattle.judged_tree.specs.TypeShapes.{shape_of}
 use Rattle.judged_tree.specs.Plain.{plain_record, plain_field, plain_formal, plain_module, plain_procedure, plain_program}
 use Rattle.one_lowering.specs.Forms.{is_closed, HasClosedTypes, numbered_procedure, numbered}
-use Rattle.one_lowering.proofs.Lists.{index_map, map_map, take_map, flat_of_map, all_index, all_append, map_append, filter_map, all_filter, all_of_map}
-use Rattle.one_lowering.proofs.Sizes.{shape_cells}
-use Rattle.one_lowering.proofs.Entries.{same_cells}
-use Rattle.one_lowering.proofs.Parts.{types_are_fine, record_counts}
+use Rattle.one_lowering.proofs.Lists.{index_map, get_map, map_map, take_map, flat_of_map, all_index, all_append, map_append, filter_map, all_filter, all_of_map}
+use Rattle.one_lowering.proofs.Sizes.{shape_cells, shape_extent}
+use Rattle.one_lowering.proofs.Entries.{same_cells, extent_told}
+use Rattle.one_lowering.proofs.Parts.{types_are_fine, record_counts, record_takes}
 use Rattle.one_lowering.proofs.Sound.{AreClosed}
-use Rattle.one_lowering.proofs.Whole.{Facts, facts_of, blank, no_module, record_at, counted, cells_in, size, fields_in, place, room, rooms, modules_room, variables_in, global_place, all_globals, descriptor_place, strings, string_place, use_place, local_shapes}
+use Rattle.one_lowering.proofs.Whole.{Facts, facts_of, blank, no_module, string_room, record_at, counted, cells_in, taken, extent_in, size, fields_in, base_extent, with_parts, place, room, rooms, modules_room, variables_in, global_place, all_globals, descriptor_place, strings, string_place, use_place, local_shapes}
+
+-- the number of a list at a place, where there is one
+number_at : (ks : List ℕ) (i k : ℕ) → slice_get ks i ≡ Some k → slice_index ks i ≡ k
+number_at [] i k at = none_some k at
+number_at (j ∷ ks) zero k at = some_same j k at
+number_at (j ∷ ks) (suc i) k at = number_at ks i k at
+
+shape_there : (ss : List Shape) (i : ℕ) (s : Shape) → slice_get ss i ≡ Some s → slice_index_or ss i Nothing ≡ s
+shape_there [] i s at = none_some s at
+shape_there (t ∷ ss) zero s at = some_same t s at
+shape_there (t ∷ ss) (suc i) s at = shape_there ss i s at
 
 module _ (p : Program) (well : well_formed p ≡ true) (sources : List (List ℕ)) (closed : HasClosedTypes (plain_program sources (numbered p))) where
   abbrev pub facts : Facts
@@ -72,8 +86,17 @@ module _ (p : Program) (well : well_formed p ≡ true) (sources : List (List ℕ
   pub cells_same : (k : ℕ) → is_closed (shape k) ≡ true → cells p.types k ≡ cells_in facts (shape k)
   cells_same k h = same_cells p.types (types_are_fine p well) k h ∙ (λ i. shape_cells (λ r. counted_same r i) (shape k))
 
-  pub size_same : (k : ℕ) → is_closed (shape k) ≡ true → 8 * cells p.types k ≡ size facts (shape k)
-  size_same k h = ap (λ n. 8 * n) (cells_same k h)
+  pub taken_same : (r : ℕ) → record_extent p.types r ≡ taken facts r
+  taken_same r = record_takes p well r ∙ sym (ap (λ y. y.extent) (record_same r))
+
+  extent_same : (k : ℕ) → is_closed (shape k) ≡ true → tree_extent (data_tree p.types k) ≡ extent_in facts (shape k)
+  extent_same k h = extent_told p.types (types_are_fine p well) k h ∙ (λ i. shape_extent (λ r. taken_same r i) (shape k))
+
+  pub size_same : (k : ℕ) → is_closed (shape k) ≡ true → (layout p.types).bytes k ≡ size facts (shape k)
+  size_same k h = ap (λ x. x.bytes) (extent_same k h)
+
+  pub whole_bytes_same : (r : ℕ) → (layout p.types).record_bytes r ≡ (taken facts r).bytes
+  whole_bytes_same r = ap (λ x. x.bytes) (taken_same r)
 
   fields_closed : (r : ℕ) → AllClosed (types_of (record_of p.types r).fields)
   fields_closed r =
@@ -87,19 +110,42 @@ module _ (p : Program) (well : well_formed p ≡ true) (sources : List (List ℕ
       let fs = (record_of p.types r).fields in
       map_map shape (λ (x : Field). x.type_number) fs ∙ sym (map_map (λ x. x.shape) (plain_field p.types) fs) ∙ sym (ap (λ (y : I.RecordType). map (λ f. f.shape) y.fields) (record_same r))
 
-  pub place_same : (r i : ℕ) → 8 * field_place p.types r i ≡ place facts r i
-  place_same r i =
+  -- what the base takes, and what it takes with fields behind it
+  base_taken : (o : Option ℕ) → row_extent (base_row o (record_row p.types)) ≡ base_extent facts o
+  base_taken None = refl
+  base_taken (Some b) = taken_same b
+
+  fields_taken : (row : FieldRow) (x : Extent) → row_extent row ≡ x → (ks : List ℕ) → AllClosed ks → row_extent (with_fields (data_tree p.types) row ks) ≡ with_parts facts x (map shape ks)
+  fields_taken row x e [] h = e
+  fields_taken row x e (k ∷ ks) h =
+      let b = and_of (is_closed (shape k)) (all is_closed (map shape ks)) h in
+      fields_taken (FieldBehind row (data_tree p.types k)) (with_part x (extent_in facts (shape k))) (ap₂ (λ y z. with_part y z) e (extent_same k b.0)) ks b.1
+
+  before_taken : (r i : ℕ) → row_extent (fields_before p.types r i) ≡ with_parts facts (base_extent facts (record_at facts r).base) (take i (fields_in facts r))
+  unfolding fields_before
+  before_taken r i =
       let ks = types_of (record_of p.types r).fields in
-      let base : base_cells (record_of p.types r).base (λ b. record_cells p.types b) ≡ base_cells (record_at facts r).base (λ b. counted facts b) = λ k. base_cells (base_same r k) (λ b. counted_same b k) in
-      let inner : sum (map (λ k. cells p.types k) (take i ks)) ≡ sum (map (λ s. cells_in facts s) (take i (fields_in facts r))) =
-      ap sum (of_shapes (λ k. cells p.types k) (λ s. cells_in facts s) cells_same (take i ks) (take_closed i ks (fields_closed r)))
-      ∙ ap (λ ss. sum (map (λ s. cells_in facts s) ss)) (sym (take_map shape i ks) ∙ ap (λ ss. take i ss) (fields_same r)) in
-      ap₂ (λ m n. 8 * (m + n)) base inner
+      let base = base_taken (record_of p.types r).base ∙ ap (λ o. base_extent facts o) (base_same r) in
+      fields_taken (base_row (record_of p.types r).base (record_row p.types)) (base_extent facts (record_at facts r).base) base (take i ks) (take_closed i ks (fields_closed r))
+      ∙ ap (λ ss. with_parts facts (base_extent facts (record_at facts r).base) ss) (sym (take_map shape i ks) ∙ ap (λ ss. take i ss) (fields_same r))
+
+  -- a field of some type
+  own_taken : (r i k : ℕ) → slice_get (types_of (record_of p.types r).fields) i ≡ Some k
+      → tree_extent (data_tree p.types (slice_index (types_of (record_of p.types r).fields) i)) ≡ extent_in facts (slice_index_or (fields_in facts r) i Nothing)
+  own_taken r i k at =
+      let ks = types_of (record_of p.types r).fields in
+      let there : slice_get (fields_in facts r) i ≡ Some (shape k) = ap (λ ss. slice_get ss i) (sym (fields_same r)) ∙ get_map shape ks i ∙ ap (λ o. option_map shape o) at in
+      ap (λ n. tree_extent (data_tree p.types n)) (number_at ks i k at)
+      ∙ extent_same k (closed_at ks (fields_closed r) i k at)
+      ∙ ap (λ s. extent_in facts s) (sym (shape_there (fields_in facts r) i (shape k) there))
+
+  pub place_same : (r i k : ℕ) → slice_get (types_of (record_of p.types r).fields) i ≡ Some k → (layout p.types).offset r i ≡ place facts r i
+  place_same r i k at = ap₂ (λ (x y : Extent). round_up x.wide y.bytes) (own_taken r i k at) (before_taken r i)
 
   -- ---- modules' variables
 
   rooms_same : (ks : List ℕ) → AllClosed ks → Data.room_of_all (layout p.types) ks ≡ rooms facts (map shape ks)
-  rooms_same ks h = ap sum (of_shapes (λ k. rounded (8 * cells p.types k)) (λ s. room facts s) (λ k c. ap (λ n. rounded n) (size_same k c)) ks h)
+  rooms_same ks h = ap sum (of_shapes (λ k. rounded ((layout p.types).bytes k)) (λ s. room facts s) (λ k c. ap (λ n. rounded n) (size_same k c)) ks h)
 
   modules_same : (n : ℕ) (ms : List Module) → all (λ (y : I.Module). all is_closed y.variables) (map (plain_module p.types sources) ms) ≡ true
       → sum_by (λ (y : Module). Data.room_of_all (layout p.types) y.variables) (take n ms) ≡ sum_by (λ (y : I.Module). rooms facts y.variables) (take n (map (plain_module p.types sources) ms))
@@ -152,11 +198,18 @@ module _ (p : Program) (well : well_formed p ≡ true) (sources : List (List ℕ
   pub records_many : length p.types.records ≡ length (plain_program sources (numbered p)).records
   records_many = sym (length-map p.types.records (plain_record p.types))
 
+  pub text_room_same : (cs : List ℕ) → Data.text_room (layout p.types) cs ≡ string_room cs
+  text_room_same cs = ap (λ n. rounded n) (once (suc (length cs)))
+    where
+      once : (n : ℕ) → 1 * n ≡ n
+      once n = omega arith
+
   pub text_same : (k : ℕ) → text_at p (layout p.types) k ≡ string_place facts k
   text_same k =
-      ap₂ (λ u xs. u + sum_by (λ (cs : List ℕ). rounded (8 * suc (length cs))) (take k xs))
+      ap₂ (λ u xs. u + sum_by (Data.text_room (layout p.types)) (take k xs))
       (descriptor_same (length p.types.records) ∙ ap (λ n. descriptor_place facts n) records_many)
       strings_same
+      ∙ (λ i. descriptor_place facts (length facts.records) + sum_by (λ cs. text_room_same cs i) (take k (strings facts)))
 
   pub use_same : (f k : ℕ) → text_at p (layout p.types) (text_number p f k) ≡ use_place facts f k
   use_same f k =

@@ -7,13 +7,17 @@ use Rattle.ob_types.specs.declared.types.TypeKind.TheVariants as TheKind
 use Rattle.ob_types.specs.Forms.{types_fine}
 use Rattle.ob_types.specs.Layout.{kind_of, cells_by, cells_within, record_within, cells, record_cells}
 use Rattle.ob_types.specs.Table.{Table}
+use Rattle.ob_types.specs.Trees.{tree_extent, in_a_row, tree_by, data_tree, record_row, record_extent}
+use Rattle.ob_types.specs.declared.types.Extent.{Extent}
 use Rattle.ob_types.proofs.Counting.{cells-array, cells-record}
+use Rattle.ob_types.proofs.DataTrees.{tree_is}
 use Rattle.ob_types.proofs.Tests.{no, and_of, less_or_past}
+use Rattle.ssa_lowered.specs.Data.{takes_a_byte}
 use Rattle.ssa_lowered.specs.Variables.{is_structured}
 use Rattle.ob_judge.specs.Shapes.{Shape, Nothing}
 use Rattle.judged_tree.specs.TypeShapes.{shape_at, array_shape, kind_shape, next_pointer, shapes_after, shapes_of, shape_of}
 use Rattle.one_lowering.specs.Forms.{is_type, is_closed}
-use Rattle.one_lowering.proofs.Sizes.{shape_cells, structured_shape}
+use Rattle.one_lowering.proofs.Sizes.{shape_cells, small_shape, shape_extent, structured_shape}
 
 -- ---- shapes from the front
 
@@ -113,6 +117,16 @@ module _ (t : Table) where
   pub same_structured : (k : ℕ) → is_structured (kind_of t k) ≡ structured_shape (shape_of t k)
   same_structured k = let s = number_stands k in kind_structured s.front s.pointer (kind_of t k) ∙ sym (ap structured_shape s.shape)
 
+  -- ---- variables that take a byte
+
+  kind_small : (front : List Shape) (p : ℕ) (kind : TypeKind) → takes_a_byte kind ≡ small_shape (kind_shape t front p kind)
+  kind_small front p (TheKind.Array (Some n) e) = refl
+  kind_small front p (TheKind.Array None e) = refl
+  kind_small front p _ = refl
+
+  pub same_small : (k : ℕ) → takes_a_byte (kind_of t k) ≡ small_shape (shape_of t k)
+  same_small k = let s = number_stands k in kind_small s.front s.pointer (kind_of t k) ∙ sym (ap small_shape s.shape)
+
   -- ---- cells
 
   -- what isn't the kind of no type stands in the table
@@ -158,3 +172,38 @@ module _ (t : Table) where
 
     pub same_cells : (k : ℕ) → is_closed (shape_of t k) ≡ true → cells t k ≡ shape_cells (record_cells t) (shape_of t k)
     same_cells k h = cells_by_shape (suc k) k (omega arith) h
+
+    -- ---- bytes
+
+    abbrev taken_by : Shape → Extent
+    taken_by s = shape_extent (record_extent t) s
+
+    -- where elements' bytes are told by their shapes
+    extent_at : (k : ℕ) → is_closed (shape_of t k) ≡ true → ((e : ℕ) → e < k → is_closed (shape_of t e) ≡ true → tree_extent (data_tree t e) ≡ taken_by (shape_of t e))
+        → tree_extent (data_tree t k) ≡ taken_by (shape_of t k)
+    extent_at k h before = by (kind_of t k) refl
+      where
+        s : Stands (shapes_of t) k (kind_of t k)
+        s = number_stands k
+
+        tree : (kind : TypeKind) → kind_of t k ≡ kind → tree_extent (data_tree t k) ≡ tree_extent (tree_by (data_tree t) (record_row t) kind)
+        tree kind is = ap tree_extent (tree_is t fine k) ∙ ap (λ q. tree_extent (tree_by (data_tree t) (record_row t) q)) is
+
+        -- a record or a scalar
+        whole : (kind : TypeKind) → kind_of t k ≡ kind → tree_extent (tree_by (data_tree t) (record_row t) kind) ≡ taken_by (kind_shape t s.front s.pointer kind)
+            → tree_extent (data_tree t k) ≡ taken_by (shape_of t k)
+        whole kind is e = tree kind is ∙ e ∙ sym (ap taken_by (s.shape ∙ ap (λ q. kind_shape t s.front s.pointer q) is))
+
+        by : (kind : TypeKind) → kind_of t k ≡ kind → tree_extent (data_tree t k) ≡ taken_by (shape_of t k)
+        by (TheKind.Array (Some n) e) is =
+            let x = elements k (Some n) e is h in
+            tree (TheKind.Array (Some n) e) is ∙ ap (in_a_row n) (before e x.before x.closed) ∙ sym (ap taken_by x.shape)
+        by (TheKind.Array None e) is = whole (TheKind.Array None e) is refl
+        by kind is = whole kind is refl
+
+    extent_by_shape : (b k : ℕ) → k < b → is_closed (shape_of t k) ≡ true → tree_extent (data_tree t k) ≡ taken_by (shape_of t k)
+    extent_by_shape zero k l h = absurd (omega (arith, l))
+    extent_by_shape (suc b) k l h = extent_at k h (λ e less closed. extent_by_shape b e (omega (arith, less, l)) closed)
+
+    pub extent_told : (k : ℕ) → is_closed (shape_of t k) ≡ true → tree_extent (data_tree t k) ≡ shape_extent (record_extent t) (shape_of t k)
+    extent_told k h = extent_by_shape (suc k) k (omega arith) h

@@ -1,6 +1,6 @@
 -- What expressions become is told by their form.
-use Rattle.std.proofs.Common.{◌≡◌, ℕ, zero, suc, ◌+◌, ◌*◌, ◌<◌, List, [], ◌∷◌, length, Bool, true, false, Option, Some, None, refl, sym, ap, ap₂, ◌∙◌, slice_get, arith}
-use Rattle.ob_types.specs.Layout.{kind_of, record_of, cells, record_cells, field_place}
+use Rattle.std.proofs.Common.{◌≡◌, ℕ, zero, suc, ◌+◌, ◌<◌, List, [], ◌∷◌, length, Bool, true, false, Option, Some, None, refl, sym, ap, ap₂, ◌∙◌, slice_get, arith}
+use Rattle.ob_types.specs.Layout.{kind_of, record_of, types_of, record_cells}
 use Rattle.ob_types.specs.Meaning.{procedure_of, texts_of, text_number, kind_in, length_of_kind, record_of_kind}
 use Rattle.ob_types.specs.declared.types.Formal.{Formal}
 use Rattle.ob_types.specs.declared.types.Mode.{Mode}
@@ -23,7 +23,7 @@ use Rattle.ob_types.specs.Layout.{signature_of}
 use Rattle.ob_types.specs.WellFormed
 use Rattle.ob_types.specs.WellFormed.{Named as Thing, Of, Characters, provided, with_some, holds_of, gives_number, gives_pointer, is_number, is_writable}
 use Rattle.ob_types.proofs.Tests.{no, and_of}
-use Rattle.ssa_lowered.specs.Data.{layout, within, global_at, descriptor_at, text_at}
+use Rattle.ssa_lowered.specs.Data.{layout, takes_a_byte, within, global_at, descriptor_at, text_at}
 use Rattle.ssa_lowered.specs.Pieces.{Low, ◌>>=◌}
 use Rattle.ssa_lowered.specs.Control.{fork_and, fork_or, Lowers, valued, tested}
 use Rattle.ssa_lowered.specs.Values.{Named, data_at, element, field, dereferenced, narrowed, binary, texts_compared, guarded, contained, with_element, with_range, is_pointer, is_tag, tag_of, as_byte, length_of, by_word, address, by_record, by_open, also, call, call_at, with_result, home_of, load}
@@ -34,9 +34,9 @@ use Rattle.judged_tree.specs.TypeShapes.{shape_of}
 use Rattle.judged_tree.specs.Plain
 use Rattle.judged_tree.specs.Plain.{pointer_at, text_place, plain_base, plain_expr, plain_links, plain_link, plain_designator, plain_selectors, plain_selector, plain_call, plain_arguments, plain_argument}
 use Rattle.one_lowering.specs.Forms.{is_closed, tally}
-use Rattle.one_lowering.proofs.Sizes.{same_length, same_record}
-use Rattle.one_lowering.proofs.Middle.{Asked, compare, length_in, record_in, low_expr, low_link, low_named, low_place, low_call, low_argument, low_arguments}
-use Rattle.one_lowering.proofs.Suits.{Is, of_provided, of_with, with_is, of_holds, holds_is, given_is, guarded_is, linked_is, operand_is, condition_is, element_is, elements_are, selected_is, index_is}
+use Rattle.one_lowering.proofs.Sizes.{same_small, same_length, same_record}
+use Rattle.one_lowering.proofs.Middle.{Asked, character, compare, small_in, length_in, record_in, low_expr, low_link, low_named, low_place, low_call, low_argument, low_arguments}
+use Rattle.one_lowering.proofs.Suits.{Is, of_provided, of_with, with_is, of_holds, holds_is, given_is, guarded_is, linked_is, operand_is, condition_is, element_is, elements_are, selected_is, index_is, field_is}
 use Rattle.one_lowering.proofs.Sound.{AreClosed, SoundIf, sound_base, sound_select, element_closed}
 
 -- a program says what is asked of it in a procedure
@@ -48,9 +48,10 @@ pub record Answers (p : Program) (here : Here) (a : Asked) : Type 0 where
   pub parameter : (k : ℕ) → Lowered.parameter p (layout p.types) here k ≡ a.parameter k
   pub local : (x : ℕ) → local_by p (layout p.types) here (variable_of p (layout p.types) here x).site x ≡ a.local x
   pub register : (x : ℕ) → in_register p (layout p.types) here (variable_of p (layout p.types) here x).site ≡ a.register x
-  pub size : (k : ℕ) → is_closed (shape_of p.types k) ≡ true → 8 * cells p.types k ≡ a.size (shape_of p.types k)
+  pub size : (k : ℕ) → is_closed (shape_of p.types k) ≡ true → (layout p.types).bytes k ≡ a.size (shape_of p.types k)
   pub whole : (r : ℕ) → record_cells p.types r ≡ a.whole r
-  pub place : (r i : ℕ) → 8 * field_place p.types r i ≡ a.place r i
+  pub whole_bytes : (r : ℕ) → (layout p.types).record_bytes r ≡ a.whole_bytes r
+  pub place : (r i k : ℕ) → slice_get (types_of (record_of p.types r).fields) i ≡ Some k → (layout p.types).offset r i ≡ a.place r i
 
 pub tally_at : (n i k : ℕ) → k < n → slice_get (tally i n) k ≡ Some ((i + k) ∷ [])
 tally_at zero i k l = absurd (omega (arith, l))
@@ -140,9 +141,13 @@ module _ (p : Program) (here : Here) (a : Asked) (answers : Answers p here a) (c
       same_guards rs (guarded x (within (descriptor_at p (layout p.types) r)) (record_of p.types r).level) (I.Guard y r)
       (λ k. valued (guarded (e k).value (answers.descriptor r k) (answers.level r k)))
 
+  pub small_same : (d : Designator) → takes_a_byte (kind_in d) ≡ small_in (plain_designator p.types uses d)
+  small_same (Whole b kind) = same_small p.types kind
+  small_same (Part' _ b kind _ row) = same_small p.types kind
+
   same_loaded : (d : Designator) → named p (layout p.types) here d ≡ low_named a (plain_designator p.types uses d)
-      → valued (load (home_of (named p (layout p.types) here d) false)) ≡ low_expr a (I.Load (plain_designator p.types uses d))
-  same_loaded d e = λ k. valued (load (home_of (e k) false))
+      → valued (load (home_of (named p (layout p.types) here d) (takes_a_byte (kind_in d)))) ≡ low_expr a (I.Load (plain_designator p.types uses d))
+  same_loaded d e = λ k. valued (load (home_of (e k) (small_same d k)))
 
   pub length_same : (d : Designator) → length_of_kind (kind_in d) ≡ length_in (plain_designator p.types uses d)
   length_same (Whole b kind) = same_length p.types kind
@@ -159,7 +164,7 @@ module _ (p : Program) (here : Here) (a : Asked) (answers : Answers p here a) (c
     same_expr (Load d) h = same_loaded d (same_named d (with_is (WellFormed.named p f d) (WellFormed.scalar_in p) h))
     same_expr (Guard' _ d rs) h =
         let o = with_some (WellFormed.named p f d) (WellFormed.scalar_in p) in
-        same_guards rs (load (home_of (named p (layout p.types) here d) false)) (I.Load (plain_designator p.types uses d))
+        same_guards rs (load (home_of (named p (layout p.types) here d) (takes_a_byte (kind_in d)))) (I.Load (plain_designator p.types uses d))
         (same_loaded d (same_named d (with_is (WellFormed.named p f d) (WellFormed.scalar_in p) (guarded_is p f rs o h))))
     same_expr (Unary' op _ x) h =
         ap (λ y. one_of op y) (same_expr x (holds_is is_number (WellFormed.form p f x) (of_provided (gives_number (WellFormed.form p f x)) (Some (WellFormed.unary_form op)) h).0))
@@ -176,7 +181,7 @@ module _ (p : Program) (here : Here) (a : Asked) (answers : Answers p here a) (c
         let c = of_provided (holds_of (WellFormed.is_text p (length_of_kind (kind_in e))) (WellFormed.named p f e)) (Some Truth) b.1 in
         let u = same_named d (holds_is (WellFormed.is_text p (length_of_kind (kind_in d))) (WellFormed.named p f d) b.0) in
         let v = same_named e (holds_is (WellFormed.is_text p (length_of_kind (kind_in e))) (WellFormed.named p f e) c.0) in
-        λ k. valued (texts_compared 8 r (u k) (length_same d k) (v k) (length_same e k))
+        λ k. valued (texts_compared character r (u k) (length_same d k) (v k) (length_same e k))
     same_expr (In' _ x _ s) h =
         let b = of_provided (gives_number (WellFormed.form p f x)) (provided (gives_number (WellFormed.form p f s)) (Some Truth)) h in
         let c = of_provided (gives_number (WellFormed.form p f s)) (Some Truth) b.1 in
@@ -235,7 +240,7 @@ module _ (p : Program) (here : Here) (a : Asked) (answers : Answers p here a) (c
         let size = answers.size e (element_closed p e n t sound array) in
         let index = same_expr x (index_is p f n e x (Some t) h) in
         λ k. element (i k) n (size k) (index k).value
-    same_select (Field r number) o sound h d place i = ap₂ (λ u n. field u n) i (answers.place r number)
+    same_select (Field r number) o sound h d place i = let it = field_is p f r number o h in ap₂ (λ u n. field u n) i (answers.place r number it.0 it.1)
     same_select (Dereference rs) o sound h d place i =
         ap (λ u. dereferenced u.value) (same_guards rs (load (home_of d false)) (pointer_at place) (λ k. valued (load (home_of (i k) false))))
     same_select (Narrow r) o sound h d place i = λ k. narrowed (i k) (answers.descriptor r k) (answers.level r k)
@@ -249,7 +254,8 @@ module _ (p : Program) (here : Here) (a : Asked) (answers : Answers p here a) (c
         let b = of_holds (WellFormed.suits_through p (WellFormed.all_suit p f row)) o h in
         let k = through_part (WellFormed.all_suit p f row) b.0 b.2 in
         let it = same_named d (with_is (WellFormed.named p f d) (WellFormed.scalar_in p) (holds_is (WellFormed.suits_through p (WellFormed.all_suit p f row)) o h)) in
-        ap₂ (λ u v. call_at (load (home_of u false)) v) it (same_arguments row (signature_of p.types k.0).formals k.1)
+        let xs = same_arguments row (signature_of p.types k.0).formals k.1 in
+        λ j. call_at (load (home_of (it j) (small_same d j))) (xs j)
 
     same_argument : (x : Argument) (y : Formal) → WellFormed.argument_suits p f x y ≡ true → argument p (layout p.types) here x ≡ low_argument a (plain_argument p.types uses x)
     same_argument (ByValue e) y h = ap (λ u. by_word u.value) (same_expr e (value_part y.mode (WellFormed.form p f e) (WellFormed.form_of p y.type_number) h))

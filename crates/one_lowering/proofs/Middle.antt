@@ -1,5 +1,5 @@
 -- Lowering as a function of a program's form: of expressions and statements.
-use Rattle.std.specs.Prelude.{ℕ, suc, ◌*◌, ◌&&◌, ◌==◌, pos, ℤ, int_lt, List, [], ◌∷◌, ◌++◌, map, Bool, false, Option, Some, None, if◌then◌else◌}
+use Rattle.std.specs.Prelude.{ℕ, suc, ◌&&◌, ◌==◌, pos, ℤ, int_lt, List, [], ◌∷◌, ◌++◌, map, Bool, true, Option, Some, None, if◌then◌else◌}
 use Rattle.wrapping_numbers.specs.Numbers.{unsigned}
 use Rattle.ob_types.specs.declared.tree.Binary.TheVariants.{Add, Subtract, Union, Difference}
 use Rattle.ob_types.specs.declared.tree.Relation.{Relation}
@@ -16,14 +16,15 @@ use Rattle.ssa_lowered.specs.Variables.{none, either}
 use Rattle.ssa_lowered.specs.Lowered.{one_of}
 use Rattle.ob_judge.specs.Shapes.{Shape}
 use Rattle.ob_judge.specs.Image as I
-use Rattle.one_lowering.proofs.Sizes.{shape_length, shape_record, shape_element, byte_shape}
+use Rattle.one_lowering.proofs.Sizes.{small_shape, shape_length, shape_record, shape_element, byte_shape}
 
--- what lowering asks of the whole program and of the procedure that it is in: the bytes of a type, the cells of a record type
--- and its level, where a field stands, where descriptors, variables of modules and strings stand, what parameters and
--- variables name, and which variables are in registers
+-- what lowering asks of the whole program and of the procedure that it is in: the bytes of a type, the cells and the bytes of
+-- a record type and its level, where a field stands, where descriptors, variables of modules and strings stand, what parameters
+-- and variables name, and which variables are in registers
 pub record Asked : Type 0 where
   pub size : Shape → ℕ
   pub whole : ℕ → ℕ
+  pub whole_bytes : ℕ → ℕ
   pub level : ℕ → ℕ
   pub place : (r field : ℕ) → ℕ
   pub descriptor : ℕ → ℕ
@@ -32,6 +33,10 @@ pub record Asked : Type 0 where
   pub parameter : ℕ → Low Named
   pub local : ℕ → Low Named
   pub register : Mask
+
+-- the bytes from one character of a text to the next
+abbrev pub character : ℕ
+character = 1
 
 abbrev pub compare : Relation → Lowers → Lowers → Lowers
 compare r x y = record { value = compared r x.value y.value; test = fork_branch (condition r) x.value y.value }
@@ -47,6 +52,10 @@ element_in (I.of_type place s) = shape_element s
 
 abbrev pub byte_in : I.Designator → Bool
 byte_in (I.of_type place s) = byte_shape s
+
+-- whether what a designator names takes one byte
+abbrev pub small_in : I.Designator → Bool
+small_in (I.of_type place s) = small_shape s
 
 ---- Masks
 
@@ -223,12 +232,12 @@ module _ (a : Asked) where
     pub low_expr : I.Expr → Lowers
     low_expr (I.Literal n) = valued (const n)
     low_expr (I.Routine g) = valued (routine g)
-    low_expr (I.Load d) = valued (load (home_of (low_named d) false))
+    low_expr (I.Load d) = valued (load (home_of (low_named d) (small_in d)))
     low_expr (I.Guard x r) = valued (guarded (low_expr x).value (a.descriptor r) (a.level r))
     low_expr (I.Apply op x) = one_of op (low_expr x)
     low_expr (I.Linked x k) = low_link k (low_expr x)
     low_expr (I.Compare r x y) = compare r (low_expr x) (low_expr y)
-    low_expr (I.CompareTexts r d e) = valued (texts_compared 8 r (low_named d) (length_in d) (low_named e) (length_in e))
+    low_expr (I.CompareTexts r d e) = valued (texts_compared character r (low_named d) (length_in d) (low_named e) (length_in e))
     low_expr (I.In x s) = valued (contained (low_expr x).value (low_expr s).value)
     low_expr (I.IsPointer x r) = valued ((low_expr x).value >>= is_pointer (a.descriptor r) (a.level r))
     low_expr (I.IsParameter d r) = valued (tag_of (low_named d) >>= is_tag (a.descriptor r) (a.level r))
@@ -259,7 +268,7 @@ module _ (a : Asked) where
 
     pub low_call : I.Call → Low Request
     low_call (I.Direct g xs) = call g (low_arguments xs)
-    low_call (I.Indirect d xs) = call_at (load (home_of (low_named d) false)) (low_arguments xs)
+    low_call (I.Indirect d xs) = call_at (load (home_of (low_named d) (small_in d))) (low_arguments xs)
 
     pub low_argument : I.Argument → Low (List ℕ)
     low_argument (I.ByValue x) = by_word (low_expr x).value
@@ -278,7 +287,7 @@ module _ (a : Asked) where
   low_test x = (low_expr x.form).test
 
   abbrev pub low_home : I.Designator → Low Home
-  low_home d = home_of (low_named d) false
+  low_home d = home_of (low_named d) (small_in d)
 
   abbrev pub registers : Mask → Mask
   registers mask x = a.register x && mask x
@@ -293,18 +302,18 @@ module _ (a : Asked) where
     pub low_statement : I.Statement → Deed
     low_statement (I.Assign d x) = assign (low_home d) (low_value x)
     low_statement (I.CopyArray d e) = copy_array (low_named d) (length_in d) (low_named e) (length_in e) (a.size (element_in d))
-    low_statement (I.CopyRecord d e) = copy_record (low_named d) (low_named e) (8 * a.whole (record_in d))
+    low_statement (I.CopyRecord d e) = copy_record (low_named d) (low_named e) (a.whole_bytes (record_in d))
     low_statement (I.Increase d x) = change_number Add (low_home d) (low_value x) (byte_in d)
     low_statement (I.Decrease d x) = change_number Subtract (low_home d) (low_value x) (byte_in d)
     low_statement (I.Include d x) = change_set Union (low_home d) (low_value x)
     low_statement (I.Exclude d x) = change_set Difference (low_home d) (low_value x)
-    low_statement (I.New d) = new (low_home d) (a.whole (record_in d)) (rounded (8 * a.whole (record_in d))) (a.descriptor (record_in d))
+    low_statement (I.New d) = new (low_home d) (a.whole (record_in d)) (rounded (a.whole_bytes (record_in d))) (a.descriptor (record_in d))
     low_statement (I.Assert x) = assert (low_value x)
     low_statement (I.OutChar x) = out_char (low_value x)
     low_statement (I.OutInt x n) = out_int (low_value x) (low_value n)
-    low_statement (I.OutString d) = out_string 8 (low_named d) (length_in d)
+    low_statement (I.OutString d) = out_string character (low_named d) (length_in d)
     low_statement I.OutLn = out_char (const 10)
-    low_statement (I.InChar d) = in_char (low_named d) false false
+    low_statement (I.InChar d) = in_char (low_named d) true (small_in d)
     low_statement (I.Invoke c) = without_result (low_call c)
     low_statement (I.If parts other) = low_alternatives parts (assigned_statements other) (low_statements other)
     low_statement (I.While parts) = loop (registers (assigned_branches parts)) (low_rounds parts)

@@ -13,7 +13,7 @@ use Rattle.ob_types.specs.declared.program.Procedure.{Procedure}
 use Rattle.ob_types.specs.declared.program.Program.{Program}
 use Rattle.ob_types.proofs.Tests.{and_of, and_from}
 use Rattle.block_runs.specs.declared.end.End.TheVariants.{Return}
-use Rattle.ssa_lowered.specs.Data.{layout, within, rounded}
+use Rattle.ssa_lowered.specs.Data.{layout, takes_a_byte, within, rounded}
 use Rattle.ssa_lowered.specs.Data
 use Rattle.ssa_lowered.specs.Pieces.{give, ◌>>=◌, Mask, rest, blocks_of}
 use Rattle.ssa_lowered.specs.Variables
@@ -27,7 +27,7 @@ use Rattle.judged_tree.specs.Plain.{plain_formal, plain_program}
 use Rattle.one_lowering.specs.Forms.{is_closed, tally, HasClosedTypes, numbered}
 use Rattle.one_lowering.proofs.Lists.{map_map, take_map, get_map, sum_map, map_append, map_cond, all_append, all_of_map}
 use Rattle.one_lowering.proofs.Sizes.{structured_shape}
-use Rattle.one_lowering.proofs.Entries.{same_structured}
+use Rattle.one_lowering.proofs.Entries.{same_small, same_structured}
 use Rattle.one_lowering.proofs.Parts.{procedures_are_fine}
 use Rattle.one_lowering.proofs.Masks.{body_lends, answer_lends}
 use Rattle.one_lowering.proofs.Expressions.{Answers}
@@ -35,7 +35,7 @@ use Rattle.one_lowering.proofs.Statements.{same_body, same_answer}
 use Rattle.one_lowering.proofs.Middle.{low_statements, low_answer}
 use Rattle.one_lowering.proofs.Whole
 use Rattle.one_lowering.proofs.Whole.{Facts, Slot, no_slot, room, structured_room, placed, scalars_lent, cells_in, local_shapes, word_count, value_slots, store_slot, store_slots, open_slots, lent_in, zeroed, slots, bytes, site_of, asked, enter, low_whole, low_made, low_procedure}
-use Rattle.one_lowering.proofs.Data.{facts, of_shapes, level_same, counted_same, cells_same, size_same, place_same, global_same, descriptor_same, use_same, formals_closed, own_closed, locals_closed, local_shapes_same, are_closed}
+use Rattle.one_lowering.proofs.Data.{facts, of_shapes, level_same, counted_same, cells_same, size_same, whole_bytes_same, place_same, global_same, descriptor_same, use_same, formals_closed, own_closed, locals_closed, local_shapes_same, are_closed}
 use Rattle.one_lowering.proofs.Data as D
 
 parameter_alike : (t : _) (o : Option Formal) (w : ℕ) → Lowered.parameter_by o w ≡ Whole.parameter_by (option_map (plain_formal t) o) w
@@ -84,7 +84,7 @@ module _ (p : Program) (well : well_formed p ≡ true) (sources : List (List ℕ
   -- ---- where variables stand
 
   abbrev slot_of : Variable → Slot
-  slot_of v = record { word = v.word; structured = is_structured (kind_of p.types v.type_number); site = v.site }
+  slot_of v = record { word = v.word; structured = is_structured (kind_of p.types v.type_number); small = takes_a_byte (kind_of p.types v.type_number); site = v.site }
 
   abbrev shaped : ℕ × Option ℕ → Shape × Option ℕ
   shaped y = (shape y.0, y.1)
@@ -95,6 +95,7 @@ module _ (p : Program) (well : well_formed p ≡ true) (sources : List (List ℕ
   placed_same lent a b (y ∷ ys) h =
       let c = and_of (is_closed (shape y.0)) (all (λ (z : ℕ × Option ℕ). is_closed (shape z.0)) ys) h in
       let there = same_structured p.types y.0 in
+      let small = same_small p.types y.0 in
       let bytes = Data.room (layout p.types) y.0 in
       let behind : ℕ → ℕ → List Variable = λ m n. Variables.placed p.types (layout p.types) (rest lent) m n ys in
       let variable : Site → Variable = λ s. record { type_number = y.0; word = y.1; site = s } in
@@ -103,7 +104,7 @@ module _ (p : Program) (well : well_formed p ≡ true) (sources : List (List ℕ
       let third = placed_same (rest lent) a b ys c.1 in
       map_cond slot_of (is_structured (kind_of p.types y.0)) (variable (Memory a) ∷ behind (a + bytes) b) (cond (lent 0) (variable (Memory b) ∷ behind a (b + 8)) (variable Register ∷ behind a b))
       ∙ ap (λ zs. cond (is_structured (kind_of p.types y.0)) (map slot_of (variable (Memory a) ∷ behind (a + bytes) b)) zs) (map_cond slot_of (lent 0) (variable (Memory b) ∷ behind a (b + 8)) (variable Register ∷ behind a b))
-      ∙ (λ k. cond (there k) (record { word = y.1; structured = there k; site = Memory a } ∷ first k) (cond (lent 0) (record { word = y.1; structured = there k; site = Memory b } ∷ second k) (record { word = y.1; structured = there k; site = Register } ∷ third k)))
+      ∙ (λ k. cond (there k) (record { word = y.1; structured = there k; small = small k; site = Memory a } ∷ first k) (cond (lent 0) (record { word = y.1; structured = there k; small = small k; site = Memory b } ∷ second k) (record { word = y.1; structured = there k; small = small k; site = Register } ∷ third k)))
 
   values_same : (w : ℕ) (fs : List Formal) → map shaped (value_parameters w fs) ≡ value_slots w (map (plain_formal p.types) fs)
   values_same w [] = refl
@@ -210,6 +211,7 @@ module _ (p : Program) (well : well_formed p ≡ true) (sources : List (List ℕ
       register = λ v. register_alike (Lowered.variable_of p (layout p.types) here v).site ∙ ap (λ s. Whole.in_register s) (site_same v);
       size = size_same p well sources closed;
       whole = counted_same p well sources closed;
+      whole_bytes = whole_bytes_same p well sources closed;
       place = place_same p well sources closed;
     }
 

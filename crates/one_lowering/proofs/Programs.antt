@@ -1,6 +1,6 @@
 -- What a program becomes is told by its form.
 use Rattle.std.proofs.Common.{◌≡◌, ℕ, zero, suc, ◌+◌, ◌*◌, ◌<◌, List, [], ◌∷◌, ◌++◌, map, length, true, Option, Some, None, refl, sym, ap, ap₂, subst, ◌∙◌, slice_get, arith}
-use Rattle.std.specs.Prelude.{slice_index_or, flat_map, if◌then◌else◌, ◌==◌, sum_by, nat_lt}
+use Rattle.std.specs.Prelude.{slice_index_or, flat_map, replicate, if◌then◌else◌, ◌-◌, ◌==◌, sum_by, nat_lt}
 use Rattle.std.proofs.lemmas.List.{length-map}
 use Rattle.std.specs.Int.{to_le_bytes, w64}
 use Rattle.ob_types.specs.Meaning.{procedure_of, no_procedure, texts_of}
@@ -20,7 +20,7 @@ use Rattle.judged_tree.specs.Plain.{plain_program, plain_procedure}
 use Rattle.one_lowering.specs.Forms.{HasClosedTypes, numbered, numbered_procedure, place_of, HaveOneForm, HaveOneLowering}
 use Rattle.one_lowering.proofs.Whole
 use Rattle.one_lowering.proofs.Whole.{Facts, facts_of, descriptor_bytes, all_globals, string_bytes, low_procedure, low_procedures, low_program, low_constants, strings, low_limit_in, low_limits_from, low_limit}
-use Rattle.one_lowering.proofs.Data.{facts, form_of, level_same, base_same, globals_same, descriptor_same, strings_same, records_many, module_cells}
+use Rattle.one_lowering.proofs.Data.{facts, form_of, level_same, base_same, globals_same, descriptor_same, strings_same, text_room_same, records_many, module_cells}
 use Rattle.one_lowering.proofs.Procedures.{procedure_same, made_same, cells_all}
 
 at_place : {A : Type 0} (xs : List A) (i : ℕ) (x d : A) → slice_get xs i ≡ Some x → (slice_index_or xs i d ≡ x) × (i < length xs)
@@ -86,9 +86,19 @@ module _ (p : Program) (well : well_formed p ≡ true) (sources : List (List ℕ
       λ j. address_same globals (ancestor p.types j r) ∙ ap (λ o. Whole.address_of x globals o) (own_ancestor j r) in
       λ k. flat_map (λ j. to_le_bytes w64 (own j k)) (numbers 0 16)
 
+  characters_same : (cs : List ℕ) → flat_map (Constants.character_bytes (layout p.types)) cs ≡ cs
+  characters_same [] = refl
+  characters_same (c ∷ cs) = ap (λ ds. c ∷ ds) (characters_same cs)
+
+  string_same : (cs : List ℕ) → Constants.text_bytes (layout p.types) cs ≡ string_bytes cs
+  string_same cs = λ k. characters_same (cs ++ 0 ∷ []) k ++ replicate (text_room_same p well sources closed cs k - once (suc (length cs)) k) 0
+    where
+      once : (n : ℕ) → 1 * n ≡ n
+      once n = omega arith
+
   pub constants_same : (globals : ℕ) → constants p (layout p.types) globals ≡ low_constants x globals
   constants_same globals = λ k.
-      flat_map (λ r. descriptor_bytes_same globals r k) (numbers 0 (records_many p well sources closed k)) ++ flat_map string_bytes (strings_same p well sources closed k)
+      flat_map (λ r. descriptor_bytes_same globals r k) (numbers 0 (records_many p well sources closed k)) ++ flat_map (λ cs. string_same cs k) (strings_same p well sources closed k)
 
   -- ---- limits
 

@@ -1,10 +1,13 @@
 -- What a shape says of the types that have it.
-use Rattle.std.proofs.Common.{◌≡◌, ℕ, suc, ◌*◌, Bool, true, false, Option, Some, None, refl}
+use Rattle.std.proofs.Common.{◌≡◌, ℕ, suc, ◌*◌, Bool, true, false, not, Option, Some, None, refl}
+use Rattle.ob_types.specs.declared.types.Extent.{Extent}
 use Rattle.ob_types.specs.declared.types.TypeKind.{TypeKind}
 use Rattle.ob_types.specs.declared.types.TypeKind.TheVariants as TheKind
 use Rattle.ob_types.specs.Meaning.{length_of_kind, record_of_kind, is_byte}
 use Rattle.ob_types.specs.Table.{Table}
-use Rattle.ob_judge.specs.Shapes.{Shape, Char, Byte, Nothing, Array, Open, Record, Pointer, Text}
+use Rattle.ob_types.specs.Trees.{scalar_bytes, in_a_row}
+use Rattle.ssa_lowered.specs.Data.{takes_a_byte}
+use Rattle.ob_judge.specs.Shapes.{Shape, Boolean, Char, Byte, Nothing, Array, Open, Record, Pointer, Text}
 use Rattle.judged_tree.specs.TypeShapes.{shape_of_kind}
 
 -- the cells of a type with this shape, where record types have these
@@ -12,6 +15,19 @@ abbrev pub shape_cells : (ℕ → ℕ) → Shape → ℕ
 shape_cells of (Array n s) = n * shape_cells of s
 shape_cells of (Record r) = of r
 shape_cells of s = 1
+
+-- a CHAR, a BYTE, a BOOLEAN
+abbrev pub small_shape : Shape → Bool
+small_shape Boolean = true
+small_shape Char = true
+small_shape Byte = true
+small_shape s = false
+
+-- what a type with this shape takes in memory, where record types take that
+abbrev pub shape_extent : (ℕ → Extent) → Shape → Extent
+shape_extent of (Array n s) = in_a_row n (shape_extent of s)
+shape_extent of (Record r) = of r
+shape_extent of s = record { bytes = scalar_bytes (small_shape s); wide = not (small_shape s) }
 
 -- an array or a record
 abbrev pub structured_shape : Shape → Bool
@@ -58,3 +74,8 @@ module _ (t : Table) where
   same_byte (TheKind.Array (Some n) e) = refl
   same_byte (TheKind.Array None e) = refl
   same_byte _ = refl
+
+  pub same_small : (kind : TypeKind) → takes_a_byte kind ≡ small_shape (shape_of_kind t kind)
+  same_small (TheKind.Array (Some n) e) = refl
+  same_small (TheKind.Array None e) = refl
+  same_small _ = refl

@@ -1,8 +1,7 @@
 -- What statements become is told by their form.
-use Rattle.std.proofs.Common.{◌≡◌, ℕ, suc, ◌*◌, List, [], ◌∷◌, map, Bool, true, false, ◌&&◌, ◌||◌, Option, Some, None, refl, ap, ap₂, subst, ◌∙◌}
+use Rattle.std.proofs.Common.{◌≡◌, ℕ, suc, List, [], ◌∷◌, map, Bool, true, ◌&&◌, ◌||◌, Option, Some, None, refl, ap, ap₂, subst, ◌∙◌}
 use Rattle.std.specs.Prelude.{is_some, option_map}
 use Rattle.wrapping_numbers.specs.Numbers.{unsigned}
-use Rattle.ob_types.specs.Layout.{cells}
 use Rattle.ob_types.specs.Meaning.{kind_in, length_of_kind, element_kind, record_of_kind, is_byte}
 use Rattle.ob_types.specs.declared.types.TypeKind.{TypeKind}
 use Rattle.ob_types.specs.declared.types.TypeKind.TheVariants as TheKind
@@ -30,11 +29,11 @@ use Rattle.judged_tree.specs.TypeShapes.{shape_of_kind}
 use Rattle.judged_tree.specs.Plain.{plain_designator, plain_checked, plain_statement, plain_statements, plain_branches, plain_case_parts, plain_type_parts, plain_body}
 use Rattle.one_lowering.proofs.Sizes.{shape_element, same_byte}
 use Rattle.one_lowering.proofs.Middle
-use Rattle.one_lowering.proofs.Middle.{Asked, length_in, record_in, element_in, byte_in, itself_in, assigned_statements, assigned_parts, bound, case_of, low_named, low_value, low_test, low_home, low_statement, low_statements, low_alternatives, low_rounds, low_bodies, low_answer}
+use Rattle.one_lowering.proofs.Middle.{Asked, character, length_in, record_in, element_in, byte_in, itself_in, assigned_statements, assigned_parts, bound, case_of, low_named, low_value, low_test, low_home, low_statement, low_statements, low_alternatives, low_rounds, low_bodies, low_answer}
 use Rattle.one_lowering.proofs.Masks.{same_itself, assigned_all_same, assigned_branches_same, assigned_case_parts_same, assigned_type_parts_same}
 use Rattle.one_lowering.proofs.Suits.{Is, of_holds, holds_is, given_is, checked_is, number_checked}
 use Rattle.one_lowering.proofs.Sound.{AreClosed, Sound, element_closed, letter_shape, open_array, sound_named}
-use Rattle.one_lowering.proofs.Expressions.{Answers, uses, Nameable, length_same, record_same, same_expr, same_named, same_called}
+use Rattle.one_lowering.proofs.Expressions.{Answers, uses, Nameable, small_same, length_same, record_same, same_expr, same_named, same_called}
 
 module _ (p : Program) (here : Here) (a : Asked) (answers : Answers p here a) (closed : AreClosed p here.number) where
   abbrev f : ℕ
@@ -56,7 +55,7 @@ module _ (p : Program) (here : Here) (a : Asked) (answers : Answers p here a) (c
   named_same d h = same_named p here a answers closed d h
 
   home_same : (d : Designator) → Nameable p here a answers closed d → home p (layout p.types) here d ≡ low_home a (plain_designator p.types texts d)
-  home_same d h = ap (λ u. home_of u false) (named_same d h)
+  home_same d h = ap₂ (λ u small. home_of u small) (named_same d h) (small_same p here a answers closed d)
 
   lengths : (d : Designator) → length_of_kind (kind_in d) ≡ length_in (plain_designator p.types texts d)
   lengths d = length_same p here a answers closed d
@@ -79,7 +78,7 @@ module _ (p : Program) (here : Here) (a : Asked) (answers : Answers p here a) (c
 
   -- the bytes of what an array's elements are, where one is copied
   element_size : (kind : TypeKind) (d : Thing) → Sound p d → WellFormed.has_kind p kind d ≡ true → WellFormed.array_of p (element_kind kind) (length_of_kind kind) d ≡ true
-      → 8 * cells p.types (element_kind kind) ≡ a.size (shape_element (shape_of_kind p.types kind))
+      → (layout p.types).bytes (element_kind kind) ≡ a.size (shape_element (shape_of_kind p.types kind))
   element_size (TheKind.Array (Some n) e) d sound is h = answers.size e (element_closed p e (Some n) d sound h)
   element_size (TheKind.Array None e) d sound is h = answers.size e (element_closed p e None d sound h)
   element_size (TheKind.Text n) d sound is h =
@@ -110,7 +109,7 @@ module _ (p : Program) (here : Here) (a : Asked) (answers : Answers p here a) (c
   type_tests_same is row = λ k v. (tests_same is (records_of p (layout p.types) here row) v ∙ ap (λ rs. map (λ r. Middle.type_test a is v r ∷ []) rs) (same_tags row)) k
 
   copied_size : (d : Designator) → holds_of (WellFormed.may_copy p f (element_kind (kind_in d)) (length_of_kind (kind_in d))) (WellFormed.named p f d) ≡ true
-      → 8 * cells p.types (element_kind (kind_in d)) ≡ a.size (element_in (plain_designator p.types texts d))
+      → (layout p.types).bytes (element_kind (kind_in d)) ≡ a.size (element_in (plain_designator p.types texts d))
   copied_size d h =
       let x = of_holds (WellFormed.may_copy p f (element_kind (kind_in d)) (length_of_kind (kind_in d))) (WellFormed.named p f d) h in
       let s = sound_named p f closed d x.0 x.1 in
@@ -140,8 +139,8 @@ module _ (p : Program) (here : Here) (a : Asked) (answers : Answers p here a) (c
         let b = and_of (holds_of writes (WellFormed.named p f d)) (holds_of (WellFormed.has_record p (record_of_kind (kind_in d))) (WellFormed.named p f e)) h in
         let u = named_same d (holds_is writes (WellFormed.named p f d) b.0) in
         let v = named_same e (holds_is (WellFormed.has_record p (record_of_kind (kind_in d))) (WellFormed.named p f e) b.1) in
-        let size = answers.whole (record_of_kind (kind_in d)) ∙ ap (λ r. a.whole r) (records d) in
-        λ k. copy_record (u k) (v k) (8 * size k)
+        let size = answers.whole_bytes (record_of_kind (kind_in d)) ∙ ap (λ r. a.whole_bytes r) (records d) in
+        λ k. copy_record (u k) (v k) (size k)
     same_deed (Increase d x) h = let b = stepped d x (WellFormed.changes (is_byte (kind_in d))) h in λ k. change_number Add (home_same d b.1 k) (value_same x b.0 k) (byte_same d k)
     same_deed (Decrease d x) h = let b = stepped d x (WellFormed.changes (is_byte (kind_in d))) h in λ k. change_number Subtract (home_same d b.1 k) (value_same x b.0 k) (byte_same d k)
     same_deed (Include d x) h = let b = stepped d x WellFormed.is_full h in ap₂ (λ u v. change_set Union u v) (home_same d b.1) (value_same x b.0)
@@ -149,17 +148,18 @@ module _ (p : Program) (here : Here) (a : Asked) (answers : Answers p here a) (c
     same_deed (New d) h =
         let r = record_of_kind (kind_in d) in
         let u = home_same d (holds_is (WellFormed.takes p (WellFormed.points_to p r)) (WellFormed.named p f d) h) in
-        let size = answers.whole r ∙ ap (λ r. a.whole r) (records d) in
+        let cells = answers.whole r ∙ ap (λ r. a.whole r) (records d) in
+        let size = answers.whole_bytes r ∙ ap (λ r. a.whole_bytes r) (records d) in
         let tag = answers.descriptor r ∙ ap (λ r. a.descriptor r) (records d) in
-        λ k. new (u k) (size k) (rounded (8 * size k)) (tag k)
+        λ k. new (u k) (cells k) (rounded (size k)) (tag k)
     same_deed (Assert x) h = ap (λ u. assert u) (value_same x (number_of x h))
     same_deed (OutChar x) h = ap (λ u. out_char u) (value_same x (checked_is p f x (holds_is WellFormed.is_small (WellFormed.checked_form p f x) h)))
     same_deed (OutInt x n) h =
         let b = and_of (gives_number (WellFormed.checked_form p f x)) (gives_number (WellFormed.checked_form p f n)) h in
         ap₂ (λ u v. out_int u v) (value_same x (number_of x b.0)) (value_same n (number_of n b.1))
-    same_deed (OutString d) h = ap₂ (λ u n. out_string 8 u n) (named_same d (holds_is (WellFormed.is_text p (length_of_kind (kind_in d))) (WellFormed.named p f d) h)) (lengths d)
+    same_deed (OutString d) h = ap₂ (λ u n. out_string character u n) (named_same d (holds_is (WellFormed.is_text p (length_of_kind (kind_in d))) (WellFormed.named p f d) h)) (lengths d)
     same_deed OutLn h = refl
-    same_deed (InChar d) h = ap (λ u. in_char u false false) (named_same d (holds_is (WellFormed.takes p (WellFormed.changes true)) (WellFormed.named p f d) h))
+    same_deed (InChar d) h = ap₂ (λ u small. in_char u true small) (named_same d (holds_is (WellFormed.takes p (WellFormed.changes true)) (WellFormed.named p f d) h)) (small_same p here a answers closed d)
     same_deed (Invoke c) h = ap (λ u. without_result u) (same_called p here a answers closed c h)
     same_deed (If' _ parts _ other) h =
         let b = and_of (WellFormed.fine_branches p f parts) (WellFormed.fine_row p f other) h in

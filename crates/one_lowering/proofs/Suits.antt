@@ -106,6 +106,15 @@ module _ (p : Program) (f : ℕ) where
       let inner = provided (gives_number (WellFormed.form p f x)) (Some (Of element (is_writable a.0))) in
       number_is (WellFormed.form p f x) (of_provided (gives_number (WellFormed.form p f x)) (Some (Of element (is_writable a.0))) (of_provided (WellFormed.array_of p element n a.0) inner a.2).1).0
 
+  -- a field is one of its record type's
+  pub field_is : (r i : ℕ) (o : Option Named) → Is (WellFormed.select_named p f (Field r i) o) → (k : ℕ) × (slice_get (types_of (record_of p.types r).fields) i ≡ Some k)
+  field_is r i o h =
+      let field = slice_get (types_of (record_of p.types r).fields) i in
+      let a = of_with o (λ t. provided (WellFormed.has_record p r t) (with_some field (λ k. Some (Of k (is_writable t))))) h in
+      let inner = with_some field (λ k. Some (Of k (is_writable a.0))) in
+      let b = of_with field (λ k. Some (Of k (is_writable a.0))) (of_provided (WellFormed.has_record p r a.0) inner a.2).1 in
+      (b.0, b.1)
+
   ---- Whole expressions
 
   pub checked_is : (x : Checked) → Is (WellFormed.checked_form p f x) → Is (WellFormed.form p f x.form)

@@ -2,8 +2,8 @@
 use Rattle.std.specs.Prelude.{ℕ, zero, suc, ◌+◌, ◌-◌, ◌*◌, ◌==◌, ◌&&◌, List, [], ◌∷◌, ◌++◌, map, take, length, sum, sum_by, flat_map, filter, replicate, nat_lt, Bool, true, false, not, cond, Option, Some, None, slice_get, slice_index_or, if◌then◌else◌}
 use Rattle.std.specs.Int.{to_le_bytes, w64}
 use Rattle.std.specs.List.{list_any}
-use Rattle.ob_types.specs.Trees.{no_extent}
-use Rattle.ob_types.specs.Layout.{base_cells}
+use Rattle.ob_types.specs.Trees.{round_up, no_extent, with_part}
+use Rattle.ob_types.specs.declared.types.Extent.{Extent}
 use Rattle.ob_types.specs.Meaning.{is_value}
 use Rattle.block_runs.specs.declared.end.End.TheVariants.{Return}
 use Rattle.block_runs.specs.declared.code.Code.TheVariants.{Local as LocalAt}
@@ -16,10 +16,14 @@ use Rattle.ssa_lowered.specs.Variables.{either, words_by, Site, Register, Memory
 use Rattle.ssa_lowered.specs.Lowered.{by_mode, entry, at_entry}
 use Rattle.ssa_lowered.specs.Constants.{base_by}
 use Rattle.ssa_lowered.specs.Limits.{Limit, passed, or_else, at_procedure, passes}
-use Rattle.ob_judge.specs.Shapes.{Shape}
+use Rattle.ob_judge.specs.Shapes.{Shape, Nothing}
 use Rattle.ob_judge.specs.Image as I
-use Rattle.one_lowering.proofs.Sizes.{shape_cells, structured_shape}
+use Rattle.one_lowering.proofs.Sizes.{shape_cells, small_shape, shape_extent, structured_shape}
 use Rattle.one_lowering.proofs.Middle.{Asked, lent_statements, lent_answer, low_statements, low_answer}
+
+-- what a string takes: a byte for each character and its 0X, so that the next one begins at a multiple of 8
+abbrev pub string_room : List ℕ → ℕ
+string_room cs = rounded (suc (length cs))
 
 -- the record types, the modules, and the strings of each procedure
 pub record Facts : Type 0 where
@@ -44,10 +48,11 @@ abbrev pub value_slots : ℕ → List I.Formal → List (Shape × Option ℕ)
 value_slots w [] = []
 value_slots w (x ∷ xs) = (if is_value x.mode then (x.shape, Some w) ∷ [] else []) ++ value_slots (w + words_by x.mode) xs
 
--- a variable: its word, whether it is an array or a record, and where it is
+-- a variable: its word, whether it is an array or a record, whether it takes one byte, and where it is
 pub record Slot : Type 0 where
   pub word : Option ℕ
   pub structured : Bool
+  pub small : Bool
   pub site : Site
 
 abbrev pub in_register : Site → Bool
@@ -55,7 +60,7 @@ in_register Register = true
 in_register (Memory n) = false
 
 abbrev pub no_slot : Slot
-no_slot = record { word = None; structured = false; site = Register }
+no_slot = record { word = None; structured = false; small = false; site = Register }
 
 abbrev pub local_by : ℕ → Site → ℕ → Low Named
 local_by bytes Register x = give (Held x)
@@ -74,7 +79,7 @@ store_slot all v (Memory n) =
     else do
       a ← emits (LocalAt (all - n)) []
       u ← first_value v.word
-      store false a u
+      store v.small a u
 
 abbrev pub store_slots : ℕ → List Slot → Deed
 store_slots all [] = skip
@@ -100,14 +105,32 @@ module _ (x : Facts) where
   abbrev pub cells_in : Shape → ℕ
   cells_in s = shape_cells counted s
 
+  -- what a record type and what a type takes in memory
+  abbrev pub taken : ℕ → Extent
+  taken r = (record_at r).extent
+
+  abbrev pub extent_in : Shape → Extent
+  extent_in s = shape_extent taken s
+
   abbrev pub size : Shape → ℕ
-  size s = 8 * cells_in s
+  size s = (extent_in s).bytes
 
   abbrev pub fields_in : ℕ → List Shape
   fields_in r = map (λ f. f.shape) (record_at r).fields
 
+  -- what the base takes, where there is one
+  abbrev pub base_extent : Option ℕ → Extent
+  base_extent None = no_extent
+  base_extent (Some b) = taken b
+
+  -- what some part and fields behind it take, one behind the other
+  abbrev pub with_parts : Extent → List Shape → Extent
+  with_parts x [] = x
+  with_parts x (s ∷ ss) = with_parts (with_part x (extent_in s)) ss
+
+  -- a field stands behind the base and the fields before it, at a multiple of 8 where it has a part of eight bytes
   abbrev pub place : ℕ → ℕ → ℕ
-  place r i = 8 * (base_cells (record_at r).base counted + sum (map cells_in (take i (fields_in r))))
+  place r i = round_up (extent_in (slice_index_or (fields_in r) i Nothing)).wide (with_parts (base_extent (record_at r).base) (take i (fields_in r))).bytes
 
   abbrev pub room : Shape → ℕ
   room s = rounded (size s)
@@ -134,7 +157,7 @@ module _ (x : Facts) where
   strings = flat_map (λ ts. ts) x.texts
 
   abbrev pub string_place : ℕ → ℕ
-  string_place k = descriptor_place (length x.records) + sum_by (λ cs. rounded (8 * suc (length cs))) (take k strings)
+  string_place k = descriptor_place (length x.records) + sum_by string_room (take k strings)
 
   abbrev pub use_place : ℕ → ℕ → ℕ
   use_place f k = string_place (length (flat_map (λ ts. ts) (take f x.texts)) + k)
@@ -164,9 +187,9 @@ module _ (x : Facts) where
   abbrev pub placed : Mask → (structured scalar : ℕ) → List (Shape × Option ℕ) → List Slot
   placed lent a b [] = []
   placed lent a b (y ∷ ys) =
-      if structured_shape y.0 then record { word = y.1; structured = structured_shape y.0; site = Memory a } ∷ placed (rest lent) (a + room y.0) b ys
-      else if lent 0 then record { word = y.1; structured = structured_shape y.0; site = Memory b } ∷ placed (rest lent) a (b + 8) ys
-      else record { word = y.1; structured = structured_shape y.0; site = Register } ∷ placed (rest lent) a b ys
+      if structured_shape y.0 then record { word = y.1; structured = structured_shape y.0; small = small_shape y.0; site = Memory a } ∷ placed (rest lent) (a + room y.0) b ys
+      else if lent 0 then record { word = y.1; structured = structured_shape y.0; small = small_shape y.0; site = Memory b } ∷ placed (rest lent) a (b + 8) ys
+      else record { word = y.1; structured = structured_shape y.0; small = small_shape y.0; site = Register } ∷ placed (rest lent) a b ys
 
   module _ (f : ℕ) (q : I.Procedure) where
     abbrev pub lent_in : Mask
@@ -188,6 +211,7 @@ module _ (x : Facts) where
     asked = record {
       size = size;
       whole = counted;
+      whole_bytes = λ r. (taken r).bytes;
       level = λ r. (record_at r).level;
       place = place;
       descriptor = λ r. within (descriptor_place r);
@@ -232,9 +256,9 @@ facts_of p texts = record { records = p.records; modules = p.modules; texts = te
 abbrev pub low_program : I.Program → List (List (List ℕ)) → List Proc
 low_program p texts = low_procedures (facts_of p texts) 0 p.procedures
 
--- the bytes of a string with its 0X
+-- a string, its 0X, and zeros up to a multiple of eight bytes
 abbrev pub string_bytes : List ℕ → List ℕ
-string_bytes cs = flat_map (λ c. c ∷ replicate (8 - 1) 0) (cs ++ 0 ∷ []) ++ replicate (rounded (8 * suc (length cs)) - 8 * suc (length cs)) 0
+string_bytes cs = (cs ++ 0 ∷ []) ++ replicate (string_room cs - suc (length cs)) 0
 
 -- descriptors and strings
 abbrev pub low_constants : Facts → (globals : ℕ) → List ℕ
