@@ -1,11 +1,8 @@
 -- What expressions become is told by their form.
-use Rattle.std.proofs.Common.{◌≡◌, ℕ, zero, suc, ◌+◌, ◌<◌, List, [], ◌∷◌, length, Bool, true, false, Option, Some, None, refl, sym, ap, ap₂, ◌∙◌, slice_get, arith}
+use Rattle.std.proofs.Common.{◌≡◌, ℕ, zero, suc, ◌+◌, ◌<◌, List, [], ◌∷◌, length, true, false, Option, Some, None, refl, sym, ap, ap₂, ◌∙◌, slice_get, arith}
 use Rattle.ob_types.specs.Layout.{kind_of, record_of, types_of, record_cells}
 use Rattle.ob_types.specs.Meaning.{procedure_of, texts_of, text_number, kind_in, length_of_kind, record_of_kind}
 use Rattle.ob_types.specs.declared.types.Formal.{Formal}
-use Rattle.ob_types.specs.declared.types.Mode.{Mode}
-use Rattle.ob_types.specs.declared.types.Mode.TheVariants.{Place}
-use Rattle.ob_types.specs.declared.types.Mode.TheVariants.{Value as AsValue, Record as AsRecord, Open as AsOpen}
 use Rattle.ob_types.specs.declared.tree.Expr.{Expr, Literal, Routine, Load, Guard', Unary', Chain', Compare', CompareTexts', In', IsPointer', IsParameter, Byte', Length, Call', Row_of-Link, end_of-Link, more_of-Link}
 use Rattle.ob_types.specs.declared.tree.Link.{Link, Operate, Element, Elements'}
 use Rattle.ob_types.specs.declared.tree.Link.{And as AndLink, Or as OrLink}
@@ -17,7 +14,7 @@ use Rattle.ob_types.specs.declared.tree.Call.{Row_of-Argument, end_of-Argument, 
 use Rattle.ob_types.specs.declared.tree.Call.{Call as CallForm}
 use Rattle.ob_types.specs.declared.tree.Argument.{Argument, ByValue, ByPlace, ByRecord, ByOpen}
 use Rattle.ob_types.specs.declared.program.Program.{Program}
-use Rattle.ob_types.specs.Forms.{Form, Zero, Truth, Small, Number, ToRecord, Routines, Exactly}
+use Rattle.ob_types.specs.Forms.{Form, Truth, Small, Number}
 use Rattle.ob_types.specs.LegalTypes.{is_record_type}
 use Rattle.ob_types.specs.Layout.{signature_of}
 use Rattle.ob_types.specs.WellFormed
@@ -36,7 +33,7 @@ use Rattle.judged_tree.specs.Plain.{pointer_at, text_place, plain_base, plain_ex
 use Rattle.one_lowering.specs.Forms.{is_closed, tally}
 use Rattle.one_lowering.proofs.Sizes.{same_small, same_length, same_record}
 use Rattle.one_lowering.proofs.Middle.{Asked, character, compare, small_in, length_in, record_in, low_expr, low_link, low_named, low_place, low_call, low_argument, low_arguments}
-use Rattle.one_lowering.proofs.Suits.{Is, of_provided, of_with, with_is, of_holds, holds_is, given_is, guarded_is, linked_is, operand_is, condition_is, element_is, elements_are, selected_is, index_is, field_is}
+use Rattle.one_lowering.proofs.Suits.{Is, of_provided, of_with, with_is, of_holds, holds_is, guarded_is, linked_is, operand_is, condition_is, element_is, elements_are, selected_is, index_is, field_is, value_part, place_part, record_part, open_part, through_part}
 use Rattle.one_lowering.proofs.Sound.{AreClosed, SoundIf, sound_base, sound_select, element_closed}
 
 -- a program says what is asked of it in a procedure
@@ -82,43 +79,6 @@ module _ (p : Program) (here : Here) (a : Asked) (answers : Answers p here a) (c
 
   abbrev pub Nameable : Designator → Type 0
   Nameable d = Is (WellFormed.named p f d)
-
-  -- what an argument's mode says of its part
-  value_part : (m : Mode) (x y : Option Form) → WellFormed.value_suits p m x y ≡ true → Is x
-  value_part AsValue x y h = given_is p f x y h
-  value_part Place x y h = no h
-  value_part AsRecord x y h = no h
-  value_part AsOpen x y h = no h
-
-  place_part : (m : Mode) (k : ℕ) (w : Bool) (d : Option Thing) → WellFormed.place_argument p m k w d ≡ true → Is d
-  place_part AsValue k w d h = no h
-  place_part Place k w d h = holds_is (WellFormed.place_suits p k w) d h
-  place_part AsRecord k w d h = no h
-  place_part AsOpen k w d h = no h
-
-  record_part : (m : Mode) (b : Option ℕ) (r : ℕ) (d : Option Thing) → WellFormed.record_argument p m b r d ≡ true → Is d
-  record_part AsValue b r d h = no h
-  record_part Place b r d h = no h
-  record_part AsRecord None r d h = no h
-  record_part AsRecord (Some b) r d h = holds_is (WellFormed.record_suits p b r) d h
-  record_part AsOpen b r d h = no h
-
-  open_part : (m : Mode) (e : Option ℕ) (w : Bool) (n : Option ℕ) (d : Option Thing) → WellFormed.open_argument p m e w n d ≡ true → Is d
-  open_part AsValue e w n d h = no h
-  open_part Place e w n d h = no h
-  open_part AsRecord e w n d h = no h
-  open_part AsOpen None w n d h = no h
-  open_part AsOpen (Some e) w n d h = holds_is (WellFormed.open_suits p e w n) d h
-
-  -- a call through a value: its arguments are those of some procedure type
-  through_part : (suit : List Formal → Bool) (x : Form) → WellFormed.suits_through p suit x ≡ true → (k : ℕ) × (suit (signature_of p.types k).formals ≡ true)
-  through_part suit (Routines k) h = (k, h)
-  through_part suit Zero h = no h
-  through_part suit Truth h = no h
-  through_part suit Small h = no h
-  through_part suit Number h = no h
-  through_part suit (ToRecord r) h = no h
-  through_part suit (Exactly g) h = no h
 
   -- where a designator begins
   same_base : (b : Base) → Is (WellFormed.base_named p f b) → Lowered.based p (layout p.types) here b ≡ low_place a (plain_base p.types uses b)
@@ -252,19 +212,19 @@ module _ (p : Program) (here : Here) (a : Asked) (answers : Answers p here a) (c
     same_called (Indirect' d _ row) h =
         let o = with_some (WellFormed.named p f d) (WellFormed.scalar_in p) in
         let b = of_holds (WellFormed.suits_through p (WellFormed.all_suit p f row)) o h in
-        let k = through_part (WellFormed.all_suit p f row) b.0 b.2 in
+        let k = through_part p f (WellFormed.all_suit p f row) b.0 b.2 in
         let it = same_named d (with_is (WellFormed.named p f d) (WellFormed.scalar_in p) (holds_is (WellFormed.suits_through p (WellFormed.all_suit p f row)) o h)) in
         let xs = same_arguments row (signature_of p.types k.0).formals k.1 in
         λ j. call_at (load (home_of (it j) (small_same d j))) (xs j)
 
     same_argument : (x : Argument) (y : Formal) → WellFormed.argument_suits p f x y ≡ true → argument p (layout p.types) here x ≡ low_argument a (plain_argument p.types uses x)
-    same_argument (ByValue e) y h = ap (λ u. by_word u.value) (same_expr e (value_part y.mode (WellFormed.form p f e) (WellFormed.form_of p y.type_number) h))
-    same_argument (ByPlace d) y h = ap (λ u. by_word (address u)) (same_named d (place_part y.mode y.type_number y.variable (WellFormed.named p f d) h))
+    same_argument (ByValue e) y h = ap (λ u. by_word u.value) (same_expr e (value_part p f y.mode (WellFormed.form p f e) (WellFormed.form_of p y.type_number) h))
+    same_argument (ByPlace d) y h = ap (λ u. by_word (address u)) (same_named d (place_part p f y.mode y.type_number y.variable (WellFormed.named p f d) h))
     same_argument (ByRecord d) y h =
-        ap₂ (λ u n. by_record u n) (same_named d (record_part y.mode (WellFormed.record_by (kind_of p.types y.type_number)) (record_of_kind (kind_in d)) (WellFormed.named p f d) h))
+        ap₂ (λ u n. by_record u n) (same_named d (record_part p f y.mode (WellFormed.record_by (kind_of p.types y.type_number)) (record_of_kind (kind_in d)) (WellFormed.named p f d) h))
         (answers.descriptor (record_of_kind (kind_in d)) ∙ ap (λ r. a.descriptor r) (record_same d))
     same_argument (ByOpen d) y h =
-        ap₂ (λ u n. by_open u n) (same_named d (open_part y.mode (WellFormed.open_element (kind_of p.types y.type_number)) y.variable (length_of_kind (kind_in d)) (WellFormed.named p f d) h))
+        ap₂ (λ u n. by_open u n) (same_named d (open_part p f y.mode (WellFormed.open_element (kind_of p.types y.type_number)) y.variable (length_of_kind (kind_in d)) (WellFormed.named p f d) h))
         (length_same d)
 
     same_arguments : {m : _} (row : Row_of-Argument m) (xs : List Formal) → WellFormed.all_suit p f row xs ≡ true → arguments p (layout p.types) here row ≡ low_arguments a (plain_arguments p.types uses row)

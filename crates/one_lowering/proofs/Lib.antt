@@ -1,12 +1,12 @@
 pub mod Lists
 pub mod Sizes
-mod Entries
-mod Parts
+pub mod Entries
+pub mod Parts
 pub mod Middle
 mod Masks
-mod Suits
-mod Sound
-mod Expressions
+pub mod Suits
+pub mod Sound
+pub mod Expressions
 mod Statements
 pub mod Whole
 mod Data

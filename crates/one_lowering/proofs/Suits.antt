@@ -1,11 +1,15 @@
 -- What is well-formed has parts that are.
 use Rattle.std.proofs.Common.{◌≡◌, ℕ, List, [], ◌∷◌, Bool, true, false, Option, Some, None, refl}
 use Rattle.std.specs.Prelude.{is_some, slice_get}
-use Rattle.ob_types.specs.Forms.{Form, Truth, Number, ToRecord}
+use Rattle.ob_types.specs.Forms.{Form, Zero, Truth, Small, Number, ToRecord, Routines, Exactly}
 use Rattle.ob_types.specs.LegalTypes.{is_record_type}
 use Rattle.ob_types.specs.WellFormed
 use Rattle.ob_types.specs.WellFormed.{provided, with_some, holds_of, gives_number, gives_truth, gives_pointer, is_number, is_truth, binary_form, Named, Of, Dynamic, is_writable, pointed}
-use Rattle.ob_types.specs.Layout.{record_of, types_of}
+use Rattle.ob_types.specs.Layout.{record_of, types_of, signature_of}
+use Rattle.ob_types.specs.declared.types.Formal.{Formal}
+use Rattle.ob_types.specs.declared.types.Mode.{Mode}
+use Rattle.ob_types.specs.declared.types.Mode.TheVariants.{Place}
+use Rattle.ob_types.specs.declared.types.Mode.TheVariants.{Value as AsValue, Record as AsRecord, Open as AsOpen}
 use Rattle.ob_types.specs.declared.tree.Binary.{Binary}
 use Rattle.ob_types.specs.declared.program.Program.{Program}
 use Rattle.ob_types.specs.declared.statements.Checked.{Checked}
@@ -122,3 +126,42 @@ module _ (p : Program) (f : ℕ) where
 
   pub number_checked : (x : Checked) → gives_number (WellFormed.checked_form p f x) ≡ true → Is (WellFormed.form p f x.form)
   number_checked x h = checked_is x (number_is (WellFormed.checked_form p f x) h)
+
+  ---- Arguments
+
+  -- what an argument's mode says of its part
+  pub value_part : (m : Mode) (x y : Option Form) → WellFormed.value_suits p m x y ≡ true → Is x
+  value_part AsValue x y h = given_is x y h
+  value_part Place x y h = no h
+  value_part AsRecord x y h = no h
+  value_part AsOpen x y h = no h
+
+  pub place_part : (m : Mode) (k : ℕ) (w : Bool) (d : Option Named) → WellFormed.place_argument p m k w d ≡ true → Is d
+  place_part AsValue k w d h = no h
+  place_part Place k w d h = holds_is (WellFormed.place_suits p k w) d h
+  place_part AsRecord k w d h = no h
+  place_part AsOpen k w d h = no h
+
+  pub record_part : (m : Mode) (b : Option ℕ) (r : ℕ) (d : Option Named) → WellFormed.record_argument p m b r d ≡ true → Is d
+  record_part AsValue b r d h = no h
+  record_part Place b r d h = no h
+  record_part AsRecord None r d h = no h
+  record_part AsRecord (Some b) r d h = holds_is (WellFormed.record_suits p b r) d h
+  record_part AsOpen b r d h = no h
+
+  pub open_part : (m : Mode) (e : Option ℕ) (w : Bool) (n : Option ℕ) (d : Option Named) → WellFormed.open_argument p m e w n d ≡ true → Is d
+  open_part AsValue e w n d h = no h
+  open_part Place e w n d h = no h
+  open_part AsRecord e w n d h = no h
+  open_part AsOpen None w n d h = no h
+  open_part AsOpen (Some e) w n d h = holds_is (WellFormed.open_suits p e w n) d h
+
+  -- a call through a value: its arguments are those of some procedure type
+  pub through_part : (suit : List Formal → Bool) (x : Form) → WellFormed.suits_through p suit x ≡ true → (k : ℕ) × (suit (signature_of p.types k).formals ≡ true)
+  through_part suit (Routines k) h = (k, h)
+  through_part suit Zero h = no h
+  through_part suit Truth h = no h
+  through_part suit Small h = no h
+  through_part suit Number h = no h
+  through_part suit (ToRecord r) h = no h
+  through_part suit (Exactly g) h = no h

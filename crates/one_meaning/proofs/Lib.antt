@@ -1,0 +1,6 @@
+mod Meant
+mod Expressions
+mod Statements
+mod Whole
+mod Data
+mod Programs
