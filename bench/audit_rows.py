@@ -12,7 +12,6 @@ import other_compiler
 import backend
 import notes
 import trc
-from stage import Stage
 
 MODULES = {
     'empty': b'MODULE E; END E.',
@@ -151,7 +150,7 @@ result number starts ends lines regs = record { trace = number; starts = starts;
 ''')
 plans = {}
 for name, text in MODULES.items():
-    plan = plans[name] = trc.make_plan([name], [text], 'bi', Stage('=12,17'))
+    plan = plans[name] = trc.make_plan([name], [text], 'bi', other_compiler.STAGE)
     print('abbrev %s : Planned' % name)
     print('%s = record { flows = %s; live = %s; cuts = %s }\n' % (name, row(flow(f) for f in plan.flows), row(row(row(sorted(s)) for s in live) for live in plan.lives),
                                                              row(row('trace %s' % row(t) for t in cut) for cut in plan.cuts)))

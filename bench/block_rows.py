@@ -7,7 +7,7 @@ It takes blocks and outputs from the plain compiler that bench/other_compiler.py
 """
 import sys
 
-import other_compiler  # noqa: F401 (its folder on the path)
+from other_compiler import STAGE
 import check, lower, meaning, backend, machine
 from meaning import Ended, Trapped
 
@@ -34,9 +34,9 @@ def proc(p):
 rows = []
 def row(name, comment, sources, input_=b'', calls=8192, cells=1048576, heap=64, local=256):
     p = check.check_sources([s.encode() for s in sources])
-    low = lower.lower(p, 12)
+    low = lower.lower(p, STAGE)
     r = meaning.deep(lambda: meaning.meaning(p, input_, 10**6))
-    img = backend.compile_program(p)
+    img = backend.compile_program(p, stage=STAGE)
     m = machine.Machine(img, input_)
     h = m.run(10**6)
     if isinstance(r, Ended):

@@ -15,11 +15,10 @@ import subprocess
 import sys
 import tempfile
 
-import other_compiler  # noqa: F401
+from other_compiler import CALLED
 from module_texts import pieces_of, row_files
 import trc  # noqa: E402
 
-STAGE = ['--stage', '=12,15,17']
 CHOICES = list(itertools.product(['plain', 'linear', 'bottomup', 'mixed'], ['bi', 'uni'], ['16', '4', '8', '6']))
 
 
@@ -29,7 +28,7 @@ def bases():
     for sources, (policy, traces, regs) in zip(pieces, itertools.cycle(CHOICES)):
         names = ['M%d.Mod' % i for i in range(len(sources))]
         options = ['--traces', traces, '--regs', regs]
-        call = trc.Run(STAGE + ['build', 'O', *names, '--policy', policy, *options, '--notes', 'N'], dict(zip(names, sources)), b'')
+        call = trc.Run(CALLED + ['build', 'O', *names, '--policy', policy, *options, '--notes', 'N'], dict(zip(names, sources)), b'')
         if call.status == 0 and len(call.files['N']) < 8000:
             yield {name: bytes(call.files[name]) for name in names + ['N']}, names, options
 
@@ -62,7 +61,7 @@ def by_program(program, files, words, folder):
 
 
 def by_other(files, words):
-    call = trc.Run(STAGE + words, dict(files), b'')
+    call = trc.Run(CALLED + words, dict(files), b'')
     return call.status, bytes(call.out), (call.err + '\n').encode() if call.err else b'', bytes(call.files.get('O', b''))
 
 

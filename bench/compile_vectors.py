@@ -7,16 +7,14 @@ have the whole language in them, by every choice. bench/other_compiler.py says w
 """
 import itertools
 
-from other_compiler import sum_of, sum_of_places
+from other_compiler import STAGE, sum_of, sum_of_places
 from module_texts import EXAMPLE_NAMES, WHOLE, example, pieces_of, rows, texts_line
 import backend  # noqa: E402
 import check  # noqa: E402
 import trc  # noqa: E402
 from scan import Fault  # noqa: E402
 from lower import Limit  # noqa: E402
-from stage import Stage  # noqa: E402
 
-STAGE = Stage('=12,15')  # images name their procedures
 CHOICES = ['linear bi 16', 'plain bi 4', 'bottomup uni 8', 'mixed bi 5']
 EVERY = list(itertools.product(['plain', 'linear', 'bottomup', 'mixed'], ['uni', 'bi'], [4, 8, 16]))
 

@@ -14,7 +14,7 @@ import re
 import struct
 import sys
 
-from other_compiler import TOP, folder_of
+from other_compiler import CALLED, TOP, folder_of
 import a64  # noqa: E402
 import image  # noqa: E402
 import machine  # noqa: E402
@@ -162,7 +162,7 @@ def built(names, *options):
     """The image of modules."""
     folder = os.path.join(TOP, 'examples')
     files = {n + '.Mod': open(os.path.join(folder, n + '.Mod'), 'rb').read() for n in names}
-    run = trc.Run(['build', *options, 'out.img'] + list(files), files, b'')
+    run = trc.Run(CALLED + ['build', *options, 'out.img'] + list(files), files, b'')
     if run.status != 0:
         raise SystemExit('no image: %s' % run.err)
     return image.read_image(bytes(run.files['out.img']), (1, 2))
@@ -228,7 +228,7 @@ def rows():
 def main():
     if sys.argv[1:2] == ['elf']:
         files = {os.path.basename(n): open(n, 'rb').read() for n in sys.argv[3:]}
-        run = trc.Run(['build', 'out.img'] + list(files), files, b'')
+        run = trc.Run(CALLED + ['build', 'out.img'] + list(files), files, b'')
         if run.status != 0:
             raise SystemExit('no image: %s' % run.err)
         open(sys.argv[2], 'wb').write(elf_of(image.read_image(bytes(run.files['out.img']), (1, 2))))

@@ -13,13 +13,10 @@ import itertools
 import os
 import re
 
-from other_compiler import TOP, folder_of
+from other_compiler import CALLED, TOP, folder_of
 import trc  # noqa: E402
 
 CRATE = os.path.join(TOP, 'crates', 'trc_examples')
-
-# What the other compiler has: images of version 2, with cells of eight bytes and 4,000 values; notes, meanings and batches.
-STAGE = ['--stage', '=12,15,17,19,20']
 
 
 def calls():
@@ -36,7 +33,7 @@ def files():
 def made(words, given):
     """What a call comes to: its status, its output, its line. The other compiler has no `elf`: it is refused as `build` is."""
     asked = ['build' if words[0] == 'elf' else words[0]] + words[1:]
-    run = trc.Run(STAGE + asked, files(), given.encode())
+    run = trc.Run(CALLED + asked, files(), given.encode())
     out = bytes(run.out).decode().replace('run|build|traces', 'run|build|elf|traces')
     return run.status, out, run.err and run.err + '\n'
 

@@ -4,7 +4,7 @@
 
 It takes them from the plain compiler that bench/other_compiler.py finds.
 """
-import other_compiler  # noqa: F401 (its folder on the path)
+from other_compiler import STAGE
 import backend
 import check
 import lower
@@ -101,7 +101,7 @@ def jump(to):
 
 
 text = b'MODULE T; IMPORT Out; VAR i: INTEGER; BEGIN i := 0; WHILE i < 9 DO IF i = 3 THEN Out.Char("x") END; i := i + 1 END END T.'
-made('loop_with_if', 'a loop with an IF: no edge is critical', lower.lower(check.check_sources([text]), 12).procs[0])
+made('loop_with_if', 'a loop with an IF: no edge is critical', lower.lower(check.check_sources([text]), STAGE).procs[0])
 made('equal_targets', 'a test whose targets are one block, to which nothing else leads: no edge is split', graph([branch(1, 1), End('Return')], [8, 4]))
 made('equal_targets_of_a_join', 'a test whose targets are one block, to which another leads too: each edge gets a node', graph([nonzero(1, 2), branch(2, 2), End('Return')], [16, 4, 8]))
 made('two_back_edges', "a loop's header with two back edges, one of them from a test", graph([jump(1), branch(2, 4), nonzero(1, 3), jump(1), End('Return')], [1, 8, 4, 2, 1]))

@@ -20,7 +20,7 @@ call, and commas in the lists before an END. Procedures that break one rule each
 import copy
 import os
 
-from other_compiler import end_of, folder_of, line_of, proc_line
+from other_compiler import STAGE, end_of, folder_of, line_of, proc_line
 import backend  # noqa: E402
 import check  # noqa: E402
 import lower  # noqa: E402
@@ -194,10 +194,10 @@ def main():
         assert not ssa.is_valid(procs[-1]), rule
     procs += graphs()
     for text in texts:
-        for flow in trc.make_plan(['M'], [text], 'bi', 12).flows:
+        for flow in trc.make_plan(['M'], [text], 'bi', STAGE).flows:
             lines.append(line_of(['flow', flow.values, flow.args], flow, operation_of))
             answers += answer_of(flow)
-        procs += lower.lower(check.check_sources([text]), 12).procs
+        procs += lower.lower(check.check_sources([text]), STAGE).procs
     for proc in procs:
         lines.append(proc_line(proc))
         answers.append(answer_of_proc(proc))

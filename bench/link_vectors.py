@@ -12,14 +12,13 @@ is said in crates/link_vectors and crates/vector_texts.
 import os
 import sys
 
-from other_compiler import folder_of, line_of, sum_of
+from other_compiler import STAGE, folder_of, line_of, sum_of
 from module_texts import pieces_of
 import backend  # noqa: E402
 import check  # noqa: E402
 import lower  # noqa: E402
 import ssa  # noqa: E402
 import trc  # noqa: E402
-from stage import Stage  # noqa: E402
 
 ROWS = ['linked.txt', 'lowered.txt', 'lowered_telling.txt', 'telling.txt', 'programs.txt', 'more_programs.txt', 'frames.txt']
 WHOLE = {'loop', 'types', 'modules', 'telling'}  # printed with all their words
@@ -30,8 +29,6 @@ def sources():
     found = [piece for name in ROWS for piece in pieces_of(name)]
     return found + [('made%d' % i, [trc.bulk_text(i, 2 + i % 4)]) for i in range(1, 25)]
 
-
-STAGE = Stage('=12,16')  # far homes
 
 # 24 arguments, a cycle between values over an edge, calls by number and by value, and traps
 FAR = b"""MODULE F; VAR x, y: INTEGER; f: PROCEDURE (a: INTEGER): INTEGER;
@@ -83,7 +80,7 @@ def plans():
     """Names and flows of modules; far ones have arguments, homes, or neither on both sides of slot 4,096."""
     for name, texts in sources():
         try:
-            yield name, backend.plan(check.check_sources(texts), 'bi')
+            yield name, backend.plan(check.check_sources(texts), 'bi', STAGE)
         except Exception:
             continue
     for count in (4010, 4040, 4090):
@@ -91,7 +88,7 @@ def plans():
 
 
 def bench(count):
-    plan = backend.plan(check.check_sources([trc.bulk_text(3, 24)]), 'bi')
+    plan = backend.plan(check.check_sources([trc.bulk_text(3, 24)]), 'bi', STAGE)
     print('module 0 0')
     for i in range(count):
         for flow in plan.flows[:-1]:

@@ -7,6 +7,7 @@ Rows: pieces between lines ---, each a line `name policy registers`, then module
 bench/other_compiler.py says where that is; without it nothing is written."""
 import sys
 
+from other_compiler import STAGE
 from row_texts import listed, some, truth
 import backend
 import check
@@ -88,9 +89,9 @@ def row(piece):
     first, _, text = piece.strip('\n').partition('\n')
     name, policy, registers = first.split()
     sources = [m.strip('\n').encode() + b'\n' for m in text.split('===\n')]
-    plan = backend.plan(check.check_sources(sources), 'bi')
+    plan = backend.plan(check.check_sources(sources), 'bi', STAGE)
     outs = backend.results(plan, policy, int(registers))
-    image = backend.place(plan, outs)
+    image = backend.place(plan, outs, STAGE)
     said = ['-- ' + ' '.join(s.decode().split()) for s in sources] + ['-- %s, %s registers' % (policy, registers)]
     for i, (f, traces, results) in enumerate(zip(plan.flows, plan.cuts, outs)):
         said += ['abbrev %s_%d : Cut' % (name, i), '%s_%d = record {' % (name, i), '  flow = %s;' % flow(f),

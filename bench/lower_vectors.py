@@ -7,7 +7,7 @@ how often there is each operation and end, and which operations there aren't. be
 import collections
 import sys
 
-from other_compiler import proc_line
+from other_compiler import STAGE, proc_line
 from module_texts import EXAMPLE_NAMES, WHOLE, example, pieces_of, texts_line
 import check  # noqa: E402
 import lower  # noqa: E402
@@ -50,7 +50,7 @@ def cases():
 def answer(texts, counts):
     """The lines that are wanted; counts what procedures are made of."""
     try:
-        procs = lower.lower(check.check_sources(texts)).procs
+        procs = lower.lower(check.check_sources(texts), STAGE).procs
     except lower.Limit as limit:
         return ['limit %d at %d' % (limit.number, limit.index)]
     for block in [b for p in procs for b in p.blocks]:

@@ -12,6 +12,12 @@ if not os.path.isdir(ORACLE):
     sys.exit('no other compiler here; nothing is written')
 sys.path.insert(0, ORACLE)
 sys.setrecursionlimit(100000)
+from stage import Stage  # noqa: E402
+
+# What the other compiler has of what it could have, by its own numbers: cells of one byte (13), images that name their procedures (15), 8,000 values
+# and far homes (16), notes (17), meanings (19) and batches (20). Every script takes it from here.
+STAGE = Stage('=12,13,15,16,17,19,20')
+CALLED = ['--stage', str(STAGE)]  # the same before the words of a call
 
 
 def folder_of(crate):

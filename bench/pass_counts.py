@@ -8,7 +8,7 @@ with 16 registers, what it writes, and the steps of its run. bench/other_compile
 """
 import os
 
-from other_compiler import folder_of
+from other_compiler import STAGE, folder_of
 import backend  # noqa: E402
 import check  # noqa: E402
 import machine  # noqa: E402
@@ -16,7 +16,7 @@ import trc  # noqa: E402
 
 def counted(policy):
     """The lines of a policy."""
-    image = backend.compile_program(check.check_sources([trc.bulk_text(7, 100)]), policy, 'bi', 16)
+    image = backend.compile_program(check.check_sources([trc.bulk_text(7, 100)]), policy, 'bi', 16, STAGE)
     run = machine.Machine(image)
     assert run.run(10 ** 9) == ('Ended',)
     return '7 100 %s\nwords %d\noutput %ssteps %d\n' % (policy, len(image.code), bytes(run.out).decode(), run.steps)

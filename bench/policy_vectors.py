@@ -11,7 +11,7 @@ homed values), its lines, the registers named, and its end places.
 """
 import os
 
-from other_compiler import folder_of, line_of
+from other_compiler import STAGE, folder_of, line_of
 import backend  # noqa: E402
 import ssa  # noqa: E402
 import trc  # noqa: E402
@@ -76,7 +76,7 @@ def main():
     texts = [NEST.encode(), MANY.encode(), FIVE.encode(), trc.bulk_text(7, 6)]
     lines, answers = [], []
     for text in texts:
-        for flow in trc.make_plan(['M'], [text], 'bi', 12).flows:
+        for flow in trc.make_plan(['M'], [text], 'bi', STAGE).flows:
             live, traces = ssa.live(flow), backend.build('bi', flow)
             for regs in (4, 5, 8, 16):
                 for policy in ('plain', 'linear', 'bottom_up', 'mixed'):

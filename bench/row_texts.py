@@ -1,5 +1,5 @@
 """What the scripts that write rows share: values as definitions write them, and, by `other_compiler`, what they are held against."""
-import other_compiler  # noqa: F401 (its folder on the path)
+from other_compiler import STAGE
 from lower import Layout
 
 
@@ -22,7 +22,7 @@ def truth(b):
 
 def extent_of(program, record):
     """What a record type takes where small scalars take a byte."""
-    layout = Layout(program, 13)
+    layout = Layout(program, STAGE)
     return 'record { bytes = %d; wide = %s }' % (layout.bytes(record), truth(layout.align(record) == 8))
 
 

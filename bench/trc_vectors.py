@@ -12,19 +12,12 @@ said in crates/trc_vectors.
 import itertools
 import os
 
-from other_compiler import folder_of
+from other_compiler import CALLED, folder_of
 from module_texts import pieces_of, row_files
 import check  # noqa: E402
 import image  # noqa: E402
 import meaning  # noqa: E402
 import trc  # noqa: E402
-
-# What the other compiler has: images of version 2, with cells of eight bytes and 4,000 values; notes; batches; meanings; and all of these.
-STAGE = ['--stage', '=12,15']
-NOTES = ['--stage', '=12,15,17']
-BATCHES = ['--stage', '=12,15,20']
-MEANINGS = ['--stage', '=12,15,19']
-ALL = ['--stage', '=12,15,17,19,20']
 
 CHOICES = list(itertools.product(['plain', 'linear', 'bottomup', 'mixed'], ['bi', 'uni'], ['16', '4', '8']))
 
@@ -165,12 +158,12 @@ def traps():
 
 
 def built_of(words, files):
-    return bytes(trc.Run(STAGE + words, dict(files), b'').files[words[1]])
+    return bytes(trc.Run(CALLED + words, dict(files), b'').files[words[1]])
 
 
 def notes_of(words, files):
     """The notes that a call of `build --notes N` writes; none where it is refused."""
-    return bytes(trc.Run(NOTES + words, dict(files), b'').files.get('N', b''))
+    return bytes(trc.Run(CALLED + words, dict(files), b'').files.get('N', b''))
 
 
 def first_of(data):
@@ -367,20 +360,10 @@ def line(words, files, given):
     return '\t'.join(fields + (['<' + written(given)] if given else [])) + '\n'
 
 
-def stage_of(words):
-    if words[0] == 'help':
-        return ALL
-    if words[0] in ('mean', 'both'):
-        return MEANINGS
-    if words[0] == 'audit' or '--notes' in words:
-        return NOTES
-    return BATCHES if words[0] == 'batch' else STAGE
-
-
 def answer(words, files, given):
     """What a call prints. The other compiler has no `elf`: it is refused as `build` is, but for `--from` and `--notes`, and its bytes aren't printed."""
     asked = ['build' if words[0] == 'elf' and '--from' not in words and '--notes' not in words else words[0]] + words[1:]
-    call = trc.Run(stage_of(words) + ([] if asked == [''] else asked), dict(files), given)
+    call = trc.Run(CALLED + ([] if asked == [''] else asked), dict(files), given)
     call.out = call.out.replace(b'run|build|traces', b'run|build|elf|traces')
     told = written((call.err + '\n').encode()) if call.err else ''
     wrote = written(call.files[words[1]]) if words[0] in ('build', 'audit') and len(words) > 1 and words[1] in call.files else ''
