@@ -87,7 +87,7 @@ use Rattle.block_runs.specs.declared.end.End.{End}
 use Rattle.block_runs.specs.declared.end.End.TheVariants.{Jump, Branch, Nonzero, Return, Trap}
 use Rattle.block_runs.specs.Blocks.{Operation, CodeBlock, Procedure}
 use Rattle.block_runs.specs.States.{World, State, Starts, Stop, Kind}
-use Rattle.block_runs.specs.First.{data_base, local_base, heap_base, zeroed}
+use Rattle.a64_memory.specs.Areas.{data_base, local_base, heap_base, zeroed}
 use Rattle.block_runs.specs.Steps.{block_system}
 
 abbrev op : Code → List ℕ → Option ℕ → Operation

@@ -1,18 +1,18 @@
 #!/usr/bin/env python3
 """Writes worked programs as values that definitions compute, with the procedures that another compiler for the language makes of them.
 
+    lowered_rows.py packed ROWS OUT.antt    in the layout in use, where a CHAR, BYTE or BOOLEAN takes one byte
     lowered_rows.py cells ROWS OUT.antt     where each cell takes eight bytes
-    lowered_rows.py packed ROWS OUT.antt    where a CHAR, BYTE or BOOLEAN takes one byte
     lowered_rows.py limits ROWS OUT.antt    which limit is passed first
 
 ROWS as for checked_rows.py; in those of limits [9*text] stands for so many copies of a text, with their numbers in place of #. Where a program has
 constants of at most 640 bytes, these are compared too.
 What stands in the repository is made so, from its top (then `rt tidy` in the crate):
 
-    lowered_rows.py cells bench/rows/programs.txt crates/ssa_lowered_rows/proofs/Samples.antt
-    lowered_rows.py cells bench/rows/more_programs.txt crates/ssa_lowered_rows/proofs/More.antt
-    lowered_rows.py cells bench/rows/lowered.txt crates/ssa_lowered_rows/proofs/Low.antt
-    lowered_rows.py packed bench/rows/lowered.txt crates/ssa_lowered_rows/proofs/Packed.antt
+    lowered_rows.py packed bench/rows/programs.txt crates/ssa_lowered_rows/proofs/Samples.antt
+    lowered_rows.py packed bench/rows/more_programs.txt crates/ssa_lowered_rows/proofs/More.antt
+    lowered_rows.py packed bench/rows/lowered.txt crates/ssa_lowered_rows/proofs/Low.antt
+    lowered_rows.py cells bench/rows/lowered.txt crates/ssa_lowered_rows/proofs/Cells.antt
     lowered_rows.py limits bench/rows/limits.txt crates/ssa_lowered_rows/proofs/Limited.antt
     lowered_rows.py packed bench/rows/lowered_telling.txt crates/ssa_lowered/proofs/Told.antt
 
@@ -21,10 +21,13 @@ import itertools
 import re
 import sys
 
+from other_compiler import STAGE
 import checked_rows
 from checked_rows import HEAD, ARGUMENTS, deep, declared, listed, program_of, rows_of, truth, vectors
 import lower
+from stage import Stage
 
+IN_CELLS = Stage('=12,16')  # as STAGE, where each cell takes eight bytes
 CODES = ('Const Global Local Plus Code Arg Load Store LoadByte StoreByte Add Sub And Or Eor Bic Lsl Asr Ror Mul MulAdd Neg Not Abs Max0 Odd Set Flip Bit Span '
          'Has Div Mod Below Fits Byte Elem NotNil True IsPtr IsTag GuardPtr GuardTag New Call CallAt Copy Zero Compare Svc').split()
 GLOBALS = 0x10000000
@@ -126,7 +129,7 @@ def limits(rows):
         p, text = program_of(source)
         want = 'None'
         try:
-            deep(lambda: lower.lower(p))
+            deep(lambda: lower.lower(p, STAGE))
         except lower.Limit as limit:
             want = 'Some (record { number = %d; index = %d })' % (limit.number, limit.index)
         yield declared(name, short, text)
@@ -135,10 +138,11 @@ def limits(rows):
 
 def main():
     what, rows, out = sys.argv[1:]
-    body = '\n'.join({'cells': lambda: lowered(rows, 12, 'lowered_in_cells', 'in_cells'),
-                      'packed': lambda: lowered(rows, 13, 'lowered', 'packed'),
+    body = '\n'.join({'cells': lambda: lowered(rows, IN_CELLS, 'lowered_in_cells', 'in_cells'),
+                      'packed': lambda: lowered(rows, STAGE, 'lowered', 'packed'),
                       'limits': lambda: limits(rows)}[what]())
-    head = HEAD % USES
+    program = 'use Rattle.ob_types.specs.declared.program.Program.{Program}\n'
+    head = (HEAD % USES).replace(program, program + 'use Rattle.ob_types.specs.Trees.{data_tree, record_row, fields_before}\n')
     head = head.replace('and what holds of them. Written by bench/checked_rows.py', 'and the procedures that they become. Written by bench/lowered_rows.py')
     open(out, 'w').write(head + WORDS + vectors(body) + body)
 

@@ -1,5 +1,5 @@
 pub mod Samples
 pub mod More
 pub mod Low
-pub mod Packed
+pub mod Cells
 pub mod Limited

@@ -37,16 +37,19 @@ vec0 v = record { ptr = v.ptr; len = 0; cap = 0; alloc = v.alloc; items = []; ok
 abbrev vec1 : Vec (Unit {0}) Heap → Vec (Unit {0}) Heap
 vec1 v = record { ptr = v.ptr; len = 1; cap = 1; alloc = v.alloc; items = tt ∷ []; ok = (refl, omega arith); small = omega arith }
 
--- MODULE M; IMPORT Out; BEGIN [2000*Out.Int(1, 1); ]Out.Ln END M.
+abbrev vec2 : Vec (Unit {0}) Heap → Vec (Unit {0}) Heap
+vec2 v = record { ptr = v.ptr; len = 2; cap = 2; alloc = v.alloc; items = tt ∷ tt ∷ []; ok = (refl, omega arith); small = omega arith }
+
+-- MODULE M; IMPORT Out; BEGIN [4000*Out.Int(1, 1); ]Out.Ln END M.
 abbrev values : Outside Program
-values b v = record { types = record { kinds = (Nothing ∷ []); records = []; signatures = [] }; modules = (record { name = []; objects = []; variables = []; body = 0 } ∷ []); procedures = (record { «module» = 0; line = 1; is_body = true; formals = []; result = 0; locals = []; texts = []; body = (replicate 2000 (OutInt (record { form = (Literal 1); kind = Int }) (record { form = (Literal 1); kind = Int })) ++ (OutLn ∷ [])); answer = None } ∷ []); imports_in = false }
+values b v = record { types = record { kinds = (Nothing ∷ []); records = []; signatures = [] }; modules = (record { name = []; objects = []; variables = []; body = 0 } ∷ []); procedures = (record { «module» = 0; line = 1; is_body = true; formals = []; result = 0; locals = []; texts = []; body = (replicate 4000 (OutInt (record { form = (Literal 1); kind = Int }) (record { form = (Literal 1); kind = Int })) ++ (OutLn ∷ [])); answer = None } ∷ []); imports_in = false }
 
 pub values_limit : (b : Box (Unit {0}) Heap) (v : Vec (Unit {0}) Heap) → limit_of (values b v) ≡ Some (record { number = 50; index = 0 })
 values_limit b v = refl
 
--- MODULE M; IMPORT Out; BEGIN [2000*Out.Int(1, 1); ]END M.
+-- MODULE M; IMPORT Out; BEGIN [4000*Out.Int(1, 1); ]END M.
 abbrev values_just : Outside Program
-values_just b v = record { types = record { kinds = (Nothing ∷ []); records = []; signatures = [] }; modules = (record { name = []; objects = []; variables = []; body = 0 } ∷ []); procedures = (record { «module» = 0; line = 1; is_body = true; formals = []; result = 0; locals = []; texts = []; body = (replicate 2000 (OutInt (record { form = (Literal 1); kind = Int }) (record { form = (Literal 1); kind = Int })) ++ []); answer = None } ∷ []); imports_in = false }
+values_just b v = record { types = record { kinds = (Nothing ∷ []); records = []; signatures = [] }; modules = (record { name = []; objects = []; variables = []; body = 0 } ∷ []); procedures = (record { «module» = 0; line = 1; is_body = true; formals = []; result = 0; locals = []; texts = []; body = (replicate 4000 (OutInt (record { form = (Literal 1); kind = Int }) (record { form = (Literal 1); kind = Int })) ++ []); answer = None } ∷ []); imports_in = false }
 
 pub values_just_limit : (b : Box (Unit {0}) Heap) (v : Vec (Unit {0}) Heap) → limit_of (values_just b v) ≡ None
 values_just_limit b v = refl
@@ -72,9 +75,9 @@ block_before_its_parameters b v = record { types = record { kinds = (BoolKind �
 pub block_before_its_parameters_limit : (b : Box (Unit {0}) Heap) (v : Vec (Unit {0}) Heap) → limit_of (block_before_its_parameters b v) ≡ Some (record { number = 51; index = 0 })
 block_before_its_parameters_limit b v = refl
 
--- MODULE M; VAR g: BOOLEAN; PROCEDURE P; VAR i: INTEGER; BEGIN [1333*IF g THEN INC(i) END; ]END P; BEGIN END M.
+-- MODULE M; VAR g: BOOLEAN; PROCEDURE P; VAR i: INTEGER; BEGIN [1334*IF g THEN INC(i); INC(i) END; ]END P; BEGIN END M.
 abbrev value_before_block : Outside Program
-value_before_block b v = record { types = record { kinds = (BoolKind ∷ (Nothing ∷ (Int ∷ []))); records = []; signatures = [] }; modules = (record { name = []; objects = []; variables = (0 ∷ []); body = 1 } ∷ []); procedures = (record { «module» = 0; line = 1; is_body = false; formals = []; result = 1; locals = (2 ∷ []); texts = []; body = (replicate 1333 (If' (vec1 v) (more_of-Branch (record { form = (Load (Whole (Global 0 0) BoolKind)); kind = BoolKind }) (vec1 v) (more_of-Stmt (Increase (Whole (Local 0) Int) (record { form = (Literal 1); kind = Int })) end_of-Stmt) end_of-Branch) (vec0 v) end_of-Stmt) ++ []); answer = None } ∷ (record { «module» = 0; line = 1; is_body = true; formals = []; result = 1; locals = []; texts = []; body = []; answer = None } ∷ [])); imports_in = false }
+value_before_block b v = record { types = record { kinds = (BoolKind ∷ (Nothing ∷ (Int ∷ []))); records = []; signatures = [] }; modules = (record { name = []; objects = []; variables = (0 ∷ []); body = 1 } ∷ []); procedures = (record { «module» = 0; line = 1; is_body = false; formals = []; result = 1; locals = (2 ∷ []); texts = []; body = (replicate 1334 (If' (vec1 v) (more_of-Branch (record { form = (Load (Whole (Global 0 0) BoolKind)); kind = BoolKind }) (vec2 v) (more_of-Stmt (Increase (Whole (Local 0) Int) (record { form = (Literal 1); kind = Int })) (more_of-Stmt (Increase (Whole (Local 0) Int) (record { form = (Literal 1); kind = Int })) end_of-Stmt)) end_of-Branch) (vec0 v) end_of-Stmt) ++ []); answer = None } ∷ (record { «module» = 0; line = 1; is_body = true; formals = []; result = 1; locals = []; texts = []; body = []; answer = None } ∷ [])); imports_in = false }
 
 pub value_before_block_limit : (b : Box (Unit {0}) Heap) (v : Vec (Unit {0}) Heap) → limit_of (value_before_block b v) ≡ Some (record { number = 50; index = 0 })
 value_before_block_limit b v = refl
@@ -93,16 +96,16 @@ locals_just b v = record { types = record { kinds = (Nothing ∷ (Int ∷ ((Arra
 pub locals_just_limit : (b : Box (Unit {0}) Heap) (v : Vec (Unit {0}) Heap) → limit_of (locals_just b v) ≡ None
 locals_just_limit b v = refl
 
--- MODULE M; IMPORT Out; PROCEDURE P; VAR a: ARRAY 1000000 OF INTEGER; b: ARRAY 48577 OF INTEGER; BEGIN [2001*Out.Int(1, 1); ]END P; BEGIN [2001*Out.Int(1, 1); ]END M.
+-- MODULE M; IMPORT Out; PROCEDURE P; VAR a: ARRAY 1000000 OF INTEGER; b: ARRAY 48577 OF INTEGER; BEGIN [4001*Out.Int(1, 1); ]END P; BEGIN [4001*Out.Int(1, 1); ]END M.
 abbrev locals_before_values : Outside Program
-locals_before_values b v = record { types = record { kinds = (Nothing ∷ (Int ∷ ((Array (Some 1000000) 1) ∷ ((Array (Some 48577) 1) ∷ [])))); records = []; signatures = [] }; modules = (record { name = []; objects = []; variables = []; body = 1 } ∷ []); procedures = (record { «module» = 0; line = 1; is_body = false; formals = []; result = 0; locals = (2 ∷ (3 ∷ [])); texts = []; body = (replicate 2001 (OutInt (record { form = (Literal 1); kind = Int }) (record { form = (Literal 1); kind = Int })) ++ []); answer = None } ∷ (record { «module» = 0; line = 1; is_body = true; formals = []; result = 0; locals = []; texts = []; body = (replicate 2001 (OutInt (record { form = (Literal 1); kind = Int }) (record { form = (Literal 1); kind = Int })) ++ []); answer = None } ∷ [])); imports_in = false }
+locals_before_values b v = record { types = record { kinds = (Nothing ∷ (Int ∷ ((Array (Some 1000000) 1) ∷ ((Array (Some 48577) 1) ∷ [])))); records = []; signatures = [] }; modules = (record { name = []; objects = []; variables = []; body = 1 } ∷ []); procedures = (record { «module» = 0; line = 1; is_body = false; formals = []; result = 0; locals = (2 ∷ (3 ∷ [])); texts = []; body = (replicate 4001 (OutInt (record { form = (Literal 1); kind = Int }) (record { form = (Literal 1); kind = Int })) ++ []); answer = None } ∷ (record { «module» = 0; line = 1; is_body = true; formals = []; result = 0; locals = []; texts = []; body = (replicate 4001 (OutInt (record { form = (Literal 1); kind = Int }) (record { form = (Literal 1); kind = Int })) ++ []); answer = None } ∷ [])); imports_in = false }
 
 pub locals_before_values_limit : (b : Box (Unit {0}) Heap) (v : Vec (Unit {0}) Heap) → limit_of (locals_before_values b v) ≡ Some (record { number = 59; index = 0 })
 locals_before_values_limit b v = refl
 
--- MODULE M; IMPORT Out; PROCEDURE A; BEGIN [2001*Out.Int(1, 1); ]END A; PROCEDURE P; VAR a: ARRAY 1000000 OF INTEGER; b: ARRAY 48577 OF INTEGER; END P; BEGIN END M.
+-- MODULE M; IMPORT Out; PROCEDURE A; BEGIN [4001*Out.Int(1, 1); ]END A; PROCEDURE P; VAR a: ARRAY 1000000 OF INTEGER; b: ARRAY 48577 OF INTEGER; END P; BEGIN END M.
 abbrev values_of_an_earlier_procedure : Outside Program
-values_of_an_earlier_procedure b v = record { types = record { kinds = (Nothing ∷ (Int ∷ ((Array (Some 1000000) 1) ∷ ((Array (Some 48577) 1) ∷ [])))); records = []; signatures = [] }; modules = (record { name = []; objects = []; variables = []; body = 2 } ∷ []); procedures = (record { «module» = 0; line = 1; is_body = false; formals = []; result = 0; locals = []; texts = []; body = (replicate 2001 (OutInt (record { form = (Literal 1); kind = Int }) (record { form = (Literal 1); kind = Int })) ++ []); answer = None } ∷ (record { «module» = 0; line = 1; is_body = false; formals = []; result = 0; locals = (2 ∷ (3 ∷ [])); texts = []; body = []; answer = None } ∷ (record { «module» = 0; line = 1; is_body = true; formals = []; result = 0; locals = []; texts = []; body = []; answer = None } ∷ []))); imports_in = false }
+values_of_an_earlier_procedure b v = record { types = record { kinds = (Nothing ∷ (Int ∷ ((Array (Some 1000000) 1) ∷ ((Array (Some 48577) 1) ∷ [])))); records = []; signatures = [] }; modules = (record { name = []; objects = []; variables = []; body = 2 } ∷ []); procedures = (record { «module» = 0; line = 1; is_body = false; formals = []; result = 0; locals = []; texts = []; body = (replicate 4001 (OutInt (record { form = (Literal 1); kind = Int }) (record { form = (Literal 1); kind = Int })) ++ []); answer = None } ∷ (record { «module» = 0; line = 1; is_body = false; formals = []; result = 0; locals = (2 ∷ (3 ∷ [])); texts = []; body = []; answer = None } ∷ (record { «module» = 0; line = 1; is_body = true; formals = []; result = 0; locals = []; texts = []; body = []; answer = None } ∷ []))); imports_in = false }
 
 pub values_of_an_earlier_procedure_limit : (b : Box (Unit {0}) Heap) (v : Vec (Unit {0}) Heap) → limit_of (values_of_an_earlier_procedure b v) ≡ Some (record { number = 50; index = 0 })
 values_of_an_earlier_procedure_limit b v = refl
