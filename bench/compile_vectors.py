@@ -8,7 +8,8 @@ have the whole language in them, by every choice. bench/other_compiler.py says w
 import itertools
 
 from other_compiler import STAGE, sum_of, sum_of_places
-from module_texts import EXAMPLE_NAMES, WHOLE, example, pieces_of, rows, texts_line
+from module_texts import EXAMPLE_NAMES, WHOLE, example, pieces_of, rows, short_line, spread, texts_line
+import size_texts
 import backend  # noqa: E402
 import check  # noqa: E402
 import trc  # noqa: E402
@@ -21,11 +22,11 @@ EVERY = list(itertools.product(['plain', 'linear', 'bottomup', 'mixed'], ['uni',
 
 def limits():
     """Programs at a limit, and one beyond."""
-    for n in (3999, 4000, 4001):
-        yield [b'MODULE V; VAR a: INTEGER; BEGIN a := ' + b'+'.join([b'a'] * (n // 2)) + b' END V.']
+    for n in (2666, 2667):
+        yield [b'MODULE V; VAR a: INTEGER; BEGIN a := ' + b'+'.join([b'a'] * n) + b' END V.']
     for n in (1333, 1334):
         yield [b'MODULE B; VAR a: INTEGER; BEGIN ' + b'; '.join([b'IF a = 0 THEN a := 1 END'] * n) + b' END B.']
-    for n in (500, 1990, 3000):
+    for n in (500, 1990):
         names = [b'a%d' % i for i in range(n)]
         moved = b'; '.join(b'%s := %s' % (x, y) for x, y in zip(names, names[1:]))
         yield [b'MODULE H; PROCEDURE P; VAR ' + b', '.join(names) + b': INTEGER; BEGIN WHILE a0 < 9 DO ' + moved + b' END END P; BEGIN P END H.']
@@ -38,6 +39,20 @@ def limits():
         yield [b'MODULE L; PROCEDURE P; VAR a: ARRAY %d OF BYTE; END P; END L.' % n]
     for n in (4095, 4096):
         yield [b'MODULE P; ' + b''.join(b'PROCEDURE p%d; END p%d; ' % (i, i) for i in range(n)) + b'END P.']
+
+
+def sized():
+    """Texts in short of very many values and homes, and of copies, each with choices."""
+    all_policies = ['plain bi 16', 'linear bi 16', 'bottomup bi 16', 'mixed bi 16']
+    yield size_texts.asserts(8000), all_policies
+    yield size_texts.asserts(8001), all_policies[:1]
+    for n in (4095, 4096, 8000):
+        yield size_texts.homes(n), all_policies
+    yield size_texts.swaps(1950), all_policies[:2]
+    for n in (4010, 4040, 4090):
+        yield size_texts.arguments(n), ['plain bi 16', 'linear bi 4']
+    for offset in range(10):
+        yield size_texts.copied(offset), CHOICES
 
 
 def answer(sources, choice):
@@ -76,6 +91,10 @@ def vectors():
             answers.append(answer(sources, choice))
             if not answers[-1].startswith('image'):
                 break
+    for short, choices in sized():
+        for choice in choices:
+            lines.append(short_line(choice, short))
+            answers.append(answer([spread(short).encode()], choice))
     for name, sources in list(pieces_of(WHOLE)) + [(names[-1], example(*names)) for names in EXAMPLE_NAMES]:
         images = every_image(sources)
         if images:

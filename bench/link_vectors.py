@@ -20,7 +20,7 @@ import lower  # noqa: E402
 import ssa  # noqa: E402
 import trc  # noqa: E402
 
-ROWS = ['linked.txt', 'lowered.txt', 'lowered_telling.txt', 'telling.txt', 'programs.txt', 'more_programs.txt', 'frames.txt']
+ROWS = ['linked.txt', 'lowered.txt', 'lowered_telling.txt', 'telling.txt', 'programs.txt', 'more_programs.txt', 'packed.txt', 'frames.txt']
 WHOLE = {'loop', 'types', 'modules', 'telling'}  # printed with all their words
 
 

@@ -8,18 +8,17 @@ import collections
 import sys
 
 from other_compiler import STAGE, proc_line
-from module_texts import EXAMPLE_NAMES, WHOLE, example, pieces_of, texts_line
+from module_texts import EXAMPLE_NAMES, WHOLE, example, pieces_of, short_line, spread, texts_line
 import check  # noqa: E402
 import lower  # noqa: E402
 import ssa  # noqa: E402
-from lowered_rows import spread  # noqa: E402
 
-ROWS = [WHOLE, 'programs.txt', 'more_programs.txt', 'lowered.txt', 'lowered_telling.txt', 'telling.txt', 'frames.txt', 'linked.txt']
+ROWS = [WHOLE, 'programs.txt', 'more_programs.txt', 'lowered.txt', 'lowered_telling.txt', 'telling.txt', 'packed.txt', 'frames.txt', 'linked.txt']
 
 
 def sums(n):
-    """A procedure with so many values: a sum of its parameter."""
-    return b'MODULE S; PROCEDURE P(a: INTEGER): INTEGER; RETURN a%s END P; END S.\n' % (b'+a' * (n - 1))
+    """A procedure with so many values, in short: a sum of its parameter."""
+    return 'MODULE S; PROCEDURE P(a: INTEGER): INTEGER; RETURN a[%d*+a] END P; END S.\n' % (n - 1)
 
 
 def tests(n):
@@ -31,7 +30,6 @@ def tests(n):
 def limits():
     """Programs at a limit, and one beyond; of bench/rows those of moderate length that show another limit, or which comes first."""
     for n in (4000, 4001):
-        yield 'values_%d' % n, [sums(n)]
         yield 'blocks_%d' % n, [tests(n)]
     for name, texts in pieces_of('limits.txt'):
         if name not in ('values', 'values_just', 'blocks', 'blocks_just', 'procedures', 'procedures_just', 'constants_just', 'constants_over'):
@@ -65,6 +63,9 @@ def vectors():
     for name, texts in cases():
         lines.append(texts_line('lower ' + name, texts))
         answers += answer(texts, counts)
+    for n in (8000, 8001):
+        lines.append(short_line('lower values_%d' % n, sums(n)))
+        answers += answer([spread(sums(n)).encode()], counts)
     print(len(lines), 'programs,', sum(line.startswith('limit') for line in answers), 'beyond a limit')
     print(', '.join('%s %d' % found for found in counts.most_common()), file=sys.stderr)
     print('none of', ', '.join(sorted(set(ssa.CODES) - set(counts))), file=sys.stderr)

@@ -18,12 +18,12 @@ What stands in the repository is made so, from its top (then `rt tidy` in the cr
 
 bench/other_compiler.py says where the other compiler is; without it nothing is written."""
 import itertools
-import re
 import sys
 
 from other_compiler import STAGE
 import checked_rows
 from checked_rows import HEAD, ARGUMENTS, deep, declared, listed, program_of, rows_of, truth, vectors
+from module_texts import spread
 import lower
 from stage import Stage
 
@@ -111,15 +111,6 @@ def in_runs(xs):
     for x, run in reversed([(x, len(list(run))) for x, run in itertools.groupby(xs)]):
         out = '(replicate %d %s ++ %s)' % (run, x, out) if run > 20 else '(' + ' ∷ '.join([x] * run + [out]) + ')'
     return out
-
-
-def copies(found):
-    return ''.join(found[2].replace('#', str(i)) for i in range(int(found[1])))
-
-
-def spread(short):
-    """A text with its copies."""
-    return re.sub(r'\[(\d+)\*([^]]*)\]', copies, short)
 
 
 def limits(rows):

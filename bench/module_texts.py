@@ -1,5 +1,6 @@
 """Modules' texts that vectors are made of: those of bench/rows and of the examples, and lines that have them."""
 import os
+import re
 
 from other_compiler import TOP
 
@@ -35,6 +36,15 @@ def example(*names):
     return [open(os.path.join(EXAMPLES, name + '.Mod'), 'rb').read() for name in names]
 
 
+def copies(found):
+    return ''.join(found[2].replace('#', str(i)) for i in range(int(found[1])))
+
+
+def spread(short):
+    """A text with its copies: [9*part] stands for so many copies of a part, with their numbers in place of #."""
+    return re.sub(r'\[(\d+)\*([^]]*)\]', copies, short)
+
+
 def written(text):
     """A text as it is written in a line."""
     return text.decode().replace('\\', '\\\\').replace('\t', '\\t').replace('\n', '\\n')
@@ -43,3 +53,8 @@ def written(text):
 def texts_line(words, texts):
     """A line of these words, and texts behind them."""
     return words + ''.join('\t' + written(text) for text in texts) + '\n'
+
+
+def short_line(words, short):
+    """A line of these words, and a text in short, of which the programs that read it make copies."""
+    return 'spread ' + texts_line(words, [short.encode()])

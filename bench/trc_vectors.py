@@ -4,22 +4,30 @@
     bench/trc_vectors.py [FOLDER]
 
 Writes `stdin` and `stdout` into FOLDER (that crate's, if none is given): worked programs, the modules of bench/rows with one choice
-of policy, traces and registers after another, made modules, commands with their options, files that aren't there, limits, each trap
+of policy, traces and registers after another, made modules, procedures of very many values and copies of each length, commands with their options, files that aren't there, limits, each trap
 in a procedure of an imported module, images that are built anew from those of version 1, notes and their audits, batches, what modules mean with the fewest turns in which
 that is over and with one less, and the bytes of the smallest image of each version, cut off at each place and changed at each. bench/other_compiler.py says where the other compiler is; how lines are written is
 said in crates/trc_vectors.
 """
+import functools
 import itertools
 import os
 
 from other_compiler import CALLED, folder_of
-from module_texts import pieces_of, row_files
+from module_texts import pieces_of, row_files, spread
+import size_texts
 import check  # noqa: E402
 import image  # noqa: E402
 import meaning  # noqa: E402
 import trc  # noqa: E402
 
 CHOICES = list(itertools.product(['plain', 'linear', 'bottomup', 'mixed'], ['bi', 'uni'], ['16', '4', '8']))
+
+
+class Short(bytes):
+    """A text in short."""
+    def spread(self):
+        return spread(self.decode()).encode()
 
 
 def module(body, declared='', imports='Out'):
@@ -318,6 +326,22 @@ def meanings():
         yield from meant(['M.Mod'], [trc.bulk_text(seed, 2 + seed % 5)], b'', next(choices))
 
 
+def sizes():
+    """Procedures of as many values as there may be and of one more, of homes on both sides of the reach of one load, and copies of each length at
+    each offset: texts in short."""
+    long = [(size_texts.asserts(8000), CHOICES[::6]), (size_texts.asserts(8001), CHOICES[:1]), (size_texts.swaps(1950), CHOICES[::6]),
+            (size_texts.arguments(4010), CHOICES[:2]), (size_texts.arguments(4090), CHOICES[:2])]
+    long += [(size_texts.homes(n), CHOICES[::6]) for n in (4095, 4096, 8000)]
+    for short, choices in long:
+        for policy, traces, regs in choices:
+            yield ['run', 'M.Mod', '--policy', policy, '--traces', traces, '--regs', regs], {'M.Mod': Short(short.encode())}, b''
+    for offset, (policy, traces, regs) in zip(range(10), itertools.cycle(CHOICES[::5])):
+        text = Short(size_texts.copied(offset).encode())
+        yield ['run', 'M.Mod', '--policy', policy, '--traces', traces, '--regs', regs], {'M.Mod': text}, b''
+        turns = str(least_turns([text.spread()], b''))
+        yield ['both', 'M.Mod', '--policy', policy, '--traces', traces, '--regs', regs, '--turns', turns], {'M.Mod': text}, b''
+
+
 def images():
     """The smallest image, in each version whole, cut off at each place, and changed at each; and some that read."""
     second = built_of(['build', 'A', 'M.Mod'], {'M.Mod': b'MODULE E; END E.'})
@@ -356,14 +380,27 @@ def written(data):
 
 
 def line(words, files, given):
-    fields = [' '.join(words)] + ['%s=%s' % (name, written(data)) for name, data in files.items()]
+    short = ['spread'] if any(isinstance(data, Short) for data in files.values()) else []
+    fields = [' '.join(short + words)] + ['%s=%s' % (name, written(data)) for name, data in files.items()]
     return '\t'.join(fields + (['<' + written(given)] if given else [])) + '\n'
+
+
+@functools.cache
+def printed(short):
+    """What a run of a text in short comes to: the same by each choice, so it is made once, by the policy that takes the other compiler the least time."""
+    return trc.Run(CALLED + ['run', 'M.Mod', '--policy', 'plain'], {'M.Mod': short.spread()}, b'')
+
+
+def called(words, files, given):
+    if words[0] == 'run' and isinstance(files.get('M.Mod'), Short):
+        return printed(files['M.Mod'])
+    return trc.Run(CALLED + words, {name: data.spread() if isinstance(data, Short) else data for name, data in files.items()}, given)
 
 
 def answer(words, files, given):
     """What a call prints. The other compiler has no `elf`: it is refused as `build` is, but for `--from` and `--notes`, and its bytes aren't printed."""
     asked = ['build' if words[0] == 'elf' and '--from' not in words and '--notes' not in words else words[0]] + words[1:]
-    call = trc.Run(CALLED + ([] if asked == [''] else asked), dict(files), given)
+    call = called([] if asked == [''] else asked, files, given)
     call.out = call.out.replace(b'run|build|traces', b'run|build|elf|traces')
     told = written((call.err + '\n').encode()) if call.err else ''
     wrote = written(call.files[words[1]]) if words[0] in ('build', 'audit') and len(words) > 1 and words[1] in call.files else ''
@@ -374,7 +411,7 @@ def answer(words, files, given):
 
 def main():
     folder = folder_of('trc_vectors')
-    calls = [call for part in (worked, modules, commands, traps, anew, audits, batches, workers, meanings, images, stored, made) for call in part()]
+    calls = [call for part in (worked, modules, commands, traps, anew, audits, batches, workers, meanings, sizes, images, stored, made) for call in part()]
     with open(os.path.join(folder, 'stdin'), 'w') as out:
         out.writelines(line(*call) for call in calls)
     with open(os.path.join(folder, 'stdout'), 'w') as out:

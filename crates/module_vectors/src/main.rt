@@ -8,6 +8,7 @@
 //! | `lower NAME` | the procedures, or the limit that is passed first (`lowering`) |
 //! | `every NAME` | the image of each choice, by one worker and by several (`choices`) |
 //! | `POLICY BUILDER REGISTERS` | the image of this choice, or why there is none (`images`) |
+//! | `spread` before any of these | the same of the line that `vector_texts::spread` makes of the rest |
 //!
 //! The stored input are small modules that keep or break each rule, legal modules with a symbol or a declaration changed, modules
 //! that use the whole language, and programs at limits and beyond; what is wanted comes from another compiler, written in Python
@@ -30,10 +31,10 @@ use std::io;
 use std::io::{BufRead, BufReader};
 use std::sync::Wait;
 use std::thread::Threads;
-use vector_texts::texts_of;
+use vector_texts::{spread, texts_of};
 
 /// What a line asks for is told of its modules.
-fn answer<R: Threads + Wait + Sync>(rt: &R, alloc: Global, line: &str) -> Result<String, Memory> {
+fn told<R: Threads + Wait + Sync>(rt: &R, alloc: Global, line: &str) -> Result<String, Memory> {
     let texts = texts_of(alloc, line)?;
     let Some(words) = line.split('\t').next() else {
         return Ok(String::new(alloc));
@@ -43,6 +44,14 @@ fn answer<R: Threads + Wait + Sync>(rt: &R, alloc: Global, line: &str) -> Result
         Some("lower") => procedure_lines(alloc, texts.as_slice()),
         Some("every") => every_image(rt, alloc, texts.as_slice()),
         _ => image_line(rt, alloc, words, texts.as_slice()),
+    }
+}
+
+/// What a line asks for, or the line that a short one stands for.
+fn answer<R: Threads + Wait + Sync>(rt: &R, alloc: Global, line: &str) -> Result<String, Memory> {
+    match line.strip_prefix("spread ") {
+        Some(short) => told(rt, alloc, spread(alloc, short)?.as_str()),
+        None => told(rt, alloc, line),
     }
 }
 

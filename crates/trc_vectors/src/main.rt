@@ -3,7 +3,8 @@
 //!
 //! A line has the words of the call, with a blank between them; then, each behind a tab, the files, as `NAME=TEXT`, or the input,
 //! as `<TEXT`. In a text `\n` stands for a line's end, `\t` for a tab, `\\` for a backslash and `\xHH` for the byte with that
-//! number; so in what is printed, for each byte that isn't a printable character. Behind a call of `build` or `audit` the bytes of the files
+//! number; so in what is printed, for each byte that isn't a printable character. A line behind the word `spread` stands for the one
+//! that `vector_texts::spread` makes of it. Behind a call of `build` or `audit` the bytes of the files
 //! that it writes are printed too. The stored input are worked programs, commands with all their options, faults, limits, and the bytes of an image
 //! that are cut off and changed, one by one; what is wanted is what another compiler, written in Python from the rules alone,
 //! prints of them (`bench/trc_vectors.py` makes both where it is).
@@ -16,6 +17,7 @@ use std::sync::Wait;
 use std::thread::Threads;
 use trc_base::{Files, MemFiles, MemSink, MemSource, OpenGate};
 use trc_cli::trc;
+use vector_texts::spread;
 
 /// How much a call may write.
 const ROOM: usize = 1 << 16;
@@ -151,7 +153,7 @@ fn wrote(alloc: Global, words: &[String], files: &mut MemFiles) -> Result<String
 }
 
 /// What a line's call comes to.
-fn answer<R: Threads + Wait + AllocGlobal + Sync>(rt: &R, line: &str) -> Result<String> {
+fn told<R: Threads + Wait + AllocGlobal + Sync>(rt: &R, line: &str) -> Result<String> {
     let alloc = rt.alloc();
     let Call {
         words,
@@ -174,6 +176,14 @@ fn answer<R: Threads + Wait + AllocGlobal + Sync>(rt: &R, line: &str) -> Result<
     let printed = written(alloc, out.bytes())?;
     let files = wrote(alloc, words.as_slice(), &mut files)?;
     Ok(format!(in alloc; "{} {printed} | {told}{files}", outcome.status)?)
+}
+
+/// What the call of a line comes to, or of the line that a short one stands for.
+fn answer<R: Threads + Wait + AllocGlobal + Sync>(rt: &R, line: &str) -> Result<String> {
+    match line.strip_prefix("spread ") {
+        Some(short) => told(rt, spread(rt.alloc(), short)?.as_str()),
+        None => told(rt, line),
+    }
 }
 
 fn main(rt: HostRuntime) -> Result<()> {

@@ -1,0 +1,51 @@
+"""Modules at the bounds of what a procedure may have, and modules that copy arrays of each length, in short: in them [9*part] stands for so
+many copies of a part, with their numbers in place of #, which module_texts.spread makes, and vector_texts::spread in the programs that read
+them. The homes are those that a value has whatever the policy, as it lives across a call."""
+
+# so many statements that make one value each, which live nowhere
+ASSERTS = 'MODULE A; BEGIN [%d*ASSERT(TRUE); ]END A.'
+
+# so many values that live across a call, and no others: each has a home whatever the policy
+HOMES = ('MODULE H; IMPORT Out; VAR s: INTEGER; PROCEDURE N; END N; PROCEDURE Q(c: CHAR); BEGIN s := s + ORD(c) + 1 END Q; PROCEDURE P; VAR [%d*c#, ]z: CHAR; '
+         'BEGIN N; Q(z); [%d*Q(c#); ]END P; BEGIN P; Out.Int(s, 0) END H.')
+
+# a loop whose header has so many pairs of parameters and two, each pair of which changes places at the loop's end
+SWAPS = ('MODULE S; IMPORT Out; VAR s: INTEGER; PROCEDURE Q(x: INTEGER); BEGIN s := s * 3 + x END Q; PROCEDURE P; VAR [%d*a#, b#, ]i, t: INTEGER; BEGIN i := 0; a0 := 7; '
+         'WHILE i < 3 DO [%d*t := a#; a# := b#; b# := t; ]i := i + 1 END; [%d*Q(b#); ]Q(a0) END P; BEGIN P; Out.Int(s, 0) END S.')
+
+# a procedure with so many homes before all others, which calls itself with 24 words, others by number and by value, and divides; and a trap
+ARGUMENTS = ('MODULE F; IMPORT Out; VAR s, x, y: INTEGER; f: PROCEDURE (a: INTEGER): INTEGER; PROCEDURE Q(a: INTEGER): INTEGER; RETURN a DIV 3 END Q; '
+             'PROCEDURE N(c: CHAR); BEGIN s := s + ORD(c) + 1 END N; PROCEDURE P([22*a#, ]a22: INTEGER; d: INTEGER): INTEGER; VAR i, j, k, t: INTEGER; [%d*c#, ]z: CHAR; '
+             'BEGIN i := a0 + a22; j := a7; k := a4; N(z); WHILE i > 0 DO t := i; i := j; j := k; k := t - 1; IF i = a21 THEN x := x + f(i) END END; '
+             'IF d > 0 THEN x := x + P(k - j, i, [18*a#, ]j, x, a4, d - 1) END; [%d*N(c#); ]RETURN x + a5 * Q(k) END P; '
+             'BEGIN f := Q; y := P([22*# * 7, ]2, 3); Out.Int(y, 0); Out.Int(s, 9); ASSERT(y = 0) END F.')
+
+
+def asserts(n):
+    return ASSERTS % n
+
+
+def homes(n):
+    return HOMES % (n - 1, n - 1)
+
+
+def swaps(n):
+    return SWAPS % (n, n, n)
+
+
+def arguments(n):
+    return ARGUMENTS % (n, n)
+
+
+def copied(offset):
+    """A record with so many characters, an array of each length from 1 to 17 and a character; each array is copied, and a part without cells."""
+    before = 'a: ARRAY %d OF CHAR; ' % offset if offset else ''
+    put = 'Put(r#.a, 48); Put(s#.a, 58); ' if offset else ''
+    show = 'Show(s#.a); ' if offset else ''
+    return ('MODULE C; IMPORT Out; TYPE E = RECORD END; Z = RECORD %(before)se: E; c: CHAR END; [17*R# = RECORD %(before)sb: ARRAY # + 1 OF CHAR; c: CHAR END; ]'
+            'VAR [17*r#, s#: R#; ]y, z: Z; PROCEDURE Put(VAR t: ARRAY OF CHAR; n: INTEGER); VAR i: INTEGER; BEGIN FOR i := 0 TO LEN(t) - 1 DO t[i] := CHR(n + i) END END Put; '
+            'PROCEDURE Show(t: ARRAY OF CHAR); VAR i: INTEGER; BEGIN FOR i := 0 TO LEN(t) - 1 DO Out.Char(t[i]) END END Show; '
+            'PROCEDURE Any(VAR t: ARRAY OF CHAR; u: ARRAY OF CHAR); BEGIN t := u END Any; '
+            'BEGIN %(empty)sy.c := "y"; z.c := "z"; z.e := y.e; Out.Char(z.c); [17*%(put)sPut(r#.b, 65); Put(s#.b, 97); r#.c := "."; s#.c := "!"; s#.b := r#.b; %(show)sShow(s#.b); Out.Char(s#.c); '
+            'Put(s#.b, 97); Any(s#.b, r#.b); %(show)sShow(s#.b); Out.Char(s#.c); s# := r#; Show(s#.b); Out.Char(s#.c); Out.Ln; ]END C.') % {
+                'before': before, 'put': put, 'show': show, 'empty': 'Put(y.a, 65); Put(z.a, 97); z.e := y.e; Show(z.a); ' if offset else ''}
