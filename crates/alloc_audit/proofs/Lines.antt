@@ -26,6 +26,7 @@ use Rattle.lir_core.specs.declared.flow.Lir.{Lir}
 use Rattle.alloc_audit.specs.Moving.{Tried, HasDefinition}
 use Rattle.alloc_audit.proofs.Accepts.{value_is}
 use Rattle.alloc_audit.proofs.Stepping.{from_spot, view_given, room_given, room_all, view_all, view_result, view_aimed, HasDef, view_done, room_left, room_made, walker, same_walker}
+use Rattle.loc_state.proofs.Numbers.{in_row}
 
 -- a line that can't be taken
 pub refused : (values : ℕ) (ops : List Operation) (named : List ℕ) (l : Line) (old new : Walk) (took : Bool) → took ≡ false → fits (room_in values old) ops l (walker_of named old) ≡ false → Tried values ops named l old new took
@@ -54,11 +55,6 @@ home_test false v = refl
 
 pub home_is : (b : Bool) (v : ℕ) → b ≡ true → cond b (Some v) None ≡ Some v
 home_is b v e = ap (λ x. cond x (Some v) None) e
-
-in_row : (xs : List (Option ℕ)) (r v : ℕ) → get xs r ≡ Some v → r < length xs
-in_row [] r v e = cc
-in_row (x ∷ xs) zero v e = omega arith
-in_row (x ∷ xs) (suc r) v e = omega (arith, in_row xs r v e)
 
 stored_test : (h : Holdings) (values r v : ℕ) → is_value (get h.regs r) v ≡ true → v < values → (nat_lt r (length h.regs) && nat_lt v values && is_value (get h.regs r) v) ≡ true
 stored_test h values r v e lt = and_from _ _ (and_from _ _ (lt-ltb _ _ (in_row h.regs r v (value_is _ v e))) (lt-ltb _ _ lt)) e

@@ -20,9 +20,9 @@ use Rattle.lir_core.specs.Walks.{Walker, left, without, defined}
 use Rattle.global_live.proofs.Lists.{has-filter}
 use Rattle.loc_state.specs.Homed.{inserted, others}
 use Rattle.loc_state.proofs.Homing.{has_inserted}
-use Rattle.alloc_audit.proofs.Rows.{get_set}
 use Rattle.alloc_audit.specs.Tests.{can_take, can_move}
 use Rattle.alloc_audit.specs.Holdings.{Holdings, view_at, room_at, given, all_given, result_taken, aimed, left_by, made, maybe_made, def_register, done_by}
+use Rattle.loc_state.proofs.Numbers.{get_set}
 
 turned : (a b : ℕ) → (a == b) ≡ (b == a)
 turned a b = grind (arith, nat_tests)

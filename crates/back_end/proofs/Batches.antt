@@ -27,8 +27,9 @@ use Rattle.back_end.specs.Images.{IsReady}
 use Rattle.back_end.specs.Batches.{IsPlanned, AreMore}
 use Rattle.back_end.specs.declared.imaging.Planned.{Planned}
 use Rattle.back_end.specs.Numbers.{node_numbers}
-use Rattle.back_end.proofs.Reading.{both, all_further}
+use Rattle.back_end.proofs.Reading.{all_further}
 use Rattle.back_end.proofs.Ready.{HaveNumbers, all_allocated, valid_flows}
+use Rattle.modest_flows.proofs.Fitting.{both}
 
 ---- Lists of cuts, one behind the other
 

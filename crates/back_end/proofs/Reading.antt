@@ -1,5 +1,5 @@
 -- What holds of each operation that was read.
-use Rattle.std.proofs.Common.{◌≡◌, ℕ, zero, suc, ◌+◌, ◌<◌, ◌^◌, List, [], ◌∷◌, ◌++◌, take, drop, map, length, get_or, Bool, true, false, ◌&&◌, refl, sym, ap, ◌∙◌, subst, arith}
+use Rattle.std.proofs.Common.{◌≡◌, ℕ, zero, suc, ◌+◌, ◌<◌, ◌^◌, List, [], ◌∷◌, ◌++◌, take, drop, map, length, get_or, Bool, true, ◌&&◌, refl, sym, ap, ◌∙◌, subst, arith}
 use Rattle.std.specs.Prelude.{All}
 use Rattle.std.specs.List.{list_all}
 use Rattle.std.proofs.lemmas.List.{take_more}
@@ -16,10 +16,7 @@ use Rattle.placed_code.specs.Claims.{IsNumber}
 use Rattle.link_plan.proofs.Low.{and_left, and_right}
 use Rattle.link_blocks.specs.Fits.{trap_fits}
 use Rattle.back_end.specs.Numbers.{has_number, lirs_number, node_numbers}
-
-pub both : (a b : Bool) → a ≡ true → b ≡ true → (a && b) ≡ true
-both true b e f = f
-both false b e f = cc
+use Rattle.modest_flows.proofs.Fitting.{both}
 
 -- one item further
 pub further : {A : Type 0} (f : A → Bool) (xs : List A) (i : ℕ) (x : A) → i < length xs → x ≡ get_or xs i x → list_all f (take i xs) ≡ true → f x ≡ true → list_all f (take (i + 1) xs) ≡ true

@@ -14,10 +14,10 @@ use Rattle.batch_jobs.specs.Replies.{replies_text}
 use Rattle.batch_jobs.specs.Sources.{IsSource, AreSources, GivesNone, IsMissing, IsTooLong, Reading, IsReadingOf, HasTooMany, EndsAtOne, HasAll, AreReadings, AreJobs, PassesJobBytes, bytes_of, read_for, tasks_for}
 use Rattle.batch_jobs.specs.Batches.{AreReplied, LinesComeTo, AreTooMany, AreTooLarge, HaveJobs, ListComesTo, HasBadLine, HasLines, BatchComesTo, LacksList, HasLongList, HasList}
 
-some_is : {A : Type 0} (x y : A) (o : Option A) → o ≡ Some x → o ≡ Some y → x ≡ y
+pub some_is : {A : Type 0} (x y : A) (o : Option A) → o ≡ Some x → o ≡ Some y → x ≡ y
 some_is x y o e f = cc
 
-some_none : {A : Type 0} (x : A) (o : Option A) → o ≡ Some x → o ≡ None → ⊥
+pub some_none : {A : Type 0} (x : A) (o : Option A) → o ≡ Some x → o ≡ None → ⊥
 some_none x o e f = cc
 
 none_there : {A : Type 0} (n : ℕ) (x : A) → slice_get [] n ≡ Some x → ⊥

@@ -42,6 +42,8 @@ use Rattle.bottom_up.specs.Bottom.{made_by, made_along, next_params, before_it}
 use Rattle.bottom_up.proofs.Covering.{now_at, Taking, take_all_kept}
 use Rattle.bottom_up.proofs.Sections.{sec, after_is, used_after, live_after, live_lives, lives_live, starts, there, live_not_made, read_below, lives_early}
 use Rattle.bottom_up.proofs.Along.{row_in, end_regs, take_all_frame, settled_end, placed_grows, Along, operate_all_kept}
+use Rattle.linear_scan.proofs.Nodes.{reads_used}
+use Rattle.loc_back.proofs.Places.{set_past}
 
 ---- Ends
 
@@ -51,14 +53,6 @@ passed_used (Branch k a b one another) v h = cc
 passed_used (Nonzero a one another) v h = cc
 passed_used (Return a) v h = cc
 passed_used (Trap kind) v h = cc
-
-reads_used : (end : End) (v : ℕ) → has (end_reads end) v ≡ true → has (end_uses end) v ≡ true
-reads_used (Jump to args) v h = cc
-reads_used (Branch k a b one another) v h = h
-reads_used (Nonzero a one another) v h = h
-reads_used (Return None) v h = cc
-reads_used (Return (Some a)) v h = h
-reads_used (Trap kind) v h = cc
 
 used_passed : (end : End) (v : ℕ) → has (end_uses end) v ≡ true → has (end_reads end) v ≡ false → has (passed end) v ≡ true
 used_passed (Jump to args) v h e = h
@@ -77,11 +71,6 @@ few_reads (Return (Some a)) = omega arith
 few_reads (Trap kind) = omega arith
 
 ---- Registers that are given to arguments
-
-set_past : {A : Type 0} (xs : List A) (r : ℕ) (o : A) → length xs ≤ r → set xs r o ≡ xs
-set_past [] r o l = refl
-set_past (x ∷ xs) zero o l = absurd (omega (arith, l))
-set_past (x ∷ xs) (suc r) o l = ap (λ ys. x ∷ ys) (set_past xs r o (omega (arith, l)))
 
 empty_is : (o : Option ℕ) → is_empty o ≡ true → o ≡ None
 empty_is None e = refl

@@ -17,9 +17,10 @@ use Rattle.loc_back.specs.Marks.{live_at_each}
 use Rattle.loc_back.specs.Served.{Section, lives, lives_from, section_of}
 use Rattle.loc_state.proofs.Numbers.{numbers_same, test_same, or_rest}
 use Rattle.linear_scan.proofs.Needs.{alive}
-use Rattle.linear_scan.proofs.Wanted.{last_live, at_node, block_is, live_below, behind_is, is_behind, wanted_alive, live_alive, alive_live, in_live_into}
+use Rattle.linear_scan.proofs.Wanted.{last_live, at_node, block_is, behind_is, is_behind, wanted_alive, live_alive, alive_live, in_live_into}
 use Rattle.linear_scan.proofs.Fitting.{made_below, made_once}
 use Rattle.bottom_up.specs.Bottom.{made_by, made_along}
+use Rattle.linear_scan.proofs.Fitting.{made_at}
 
 abbrev no_need : ℕ → ℕ → Option ℕ
 no_need v p = None
@@ -79,11 +80,6 @@ of_each values rows (m ∷ ss) s v h e = by (m == s) refl h (λ k. of_each value
     by false q h on = has_back (live_into values rows m) (live_at_each values rows ss) v (on h)
 
 ---- Made in one place
-
-made_at : (bls : List CodeBlock) (n v : ℕ) → times (block_makes (block_at bls n)) v ≤ times (made bls) v
-made_at [] n v = omega arith
-made_at (bl ∷ bls) zero v = let a = times-append (block_makes bl) (made bls) v in omega (arith, a)
-made_at (bl ∷ bls) (suc n) v = let a = times-append (block_makes bl) (made bls) v in let b = made_at bls n v in omega (arith, a, b)
 
 made_two : (bls : List CodeBlock) (a b v : ℕ) → a ≢ b → times (block_makes (block_at bls a)) v + times (block_makes (block_at bls b)) v ≤ times (made bls) v
 made_two [] a b v ne = omega arith

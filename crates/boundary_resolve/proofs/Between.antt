@@ -96,7 +96,7 @@ seated (x ∷ traces) t n h = at_test (has x.nodes n) refl (λ k. seated traces 
 
 ---- Arguments
 
-turned : (p v : ℕ) (b : Bool) → (p == v) ≡ b → (v == p) ≡ b
+pub turned : (p v : ℕ) (b : Bool) → (p == v) ≡ b → (v == p) ≡ b
 turned p v true e = eq-eqb v p (sym (eqb-true p v e))
 turned p v false e = at_test (v == p) refl
   where

@@ -61,7 +61,7 @@ nodes_more F ns i n all old new lt is inv more =
 
 ---- Sound results have rows
 
-not_sitting : (traces : List Trace) (t n : ℕ) → has (all_nodes (lists_of traces)) n ≡ false → seat_of (seats_from t traces) n ≡ None
+pub not_sitting : (traces : List Trace) (t n : ℕ) → has (all_nodes (lists_of traces)) n ≡ false → seat_of (seats_from t traces) n ≡ None
 not_sitting [] t n h = refl
 not_sitting (x ∷ traces) t n h = not_seated x.nodes t 0 n (seats_from (suc t) traces) (not_in_front x.nodes (all_nodes (lists_of traces)) n h) ∙ not_sitting traces (suc t) n (not_in_back x.nodes (all_nodes (lists_of traces)) n h)
 

@@ -40,10 +40,7 @@ use Rattle.compiled_runs.specs.Compiled.{flows_of, placed_of, data_of, IsImageOf
 use Rattle.compiled_runs.proofs.Places.{are_code_places}
 use Rattle.compiled_runs.proofs.Telling.{told}
 use Rattle.compiled_runs.proofs.Traps.{by_reason, keeps_sense, keeps_reason, in_step_back}
-
-length_map : {A B : Type 0} (f : A → B) (xs : List A) → length (map f xs) ≡ length xs
-length_map f [] = refl
-length_map f (x ∷ xs) = ap suc (length_map f xs)
+use Rattle.placed_code.proofs.Parts.{length_map}
 
 map_map : {A B C : Type 0} (f : B → C) (g : A → B) (xs : List A) → map f (map g xs) ≡ map (λ x. f (g x)) xs
 map_map f g [] = refl

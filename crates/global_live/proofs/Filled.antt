@@ -25,7 +25,7 @@ use Rattle.global_live.proofs.Steps.{marked_grows, all_marked_grows, reopened, c
 ---- What a block reads
 
 -- what is read and isn't made is read before it is made
-reads_unmade : (ops : List Operation) (end : End) (v : ℕ) → has (uses_of ops ++ end_uses end) v ≡ true → has (defs_of ops) v ≡ false → reads ops end v ≡ true
+pub reads_unmade : (ops : List Operation) (end : End) (v : ℕ) → has (uses_of ops ++ end_uses end) v ≡ true → has (defs_of ops) v ≡ false → reads ops end v ≡ true
 reads_unmade [] end v h u = h
 reads_unmade (op ∷ ops) end v h u = at_test (has op.uses v) refl (reads_unmade ops end v)
   where
@@ -43,7 +43,7 @@ reads_unmade (op ∷ ops) end v h u = at_test (has op.uses v) refl (reads_unmade
         ∙ on (rest e (in_parts op.uses (uses_of ops ++ end_uses end) v (ap (λ xs. has xs v) (sym (append_assoc op.uses (uses_of ops) (end_uses end))) ∙ h))) (not_in_back (option_to_list op.def) (defs_of ops) v u)
 
 -- what is read before it is made is read
-reads_listed : (ops : List Operation) (end : End) (v : ℕ) → reads ops end v ≡ true → has (uses_of ops ++ end_uses end) v ≡ true
+pub reads_listed : (ops : List Operation) (end : End) (v : ℕ) → reads ops end v ≡ true → has (uses_of ops ++ end_uses end) v ≡ true
 reads_listed [] end v h = h
 reads_listed (op ∷ ops) end v h = ap (λ xs. has xs v) (append_assoc op.uses (uses_of ops) (end_uses end)) ∙ at_test (has op.uses v) refl (has (option_to_list op.def) v) (reads_listed ops end v) h
   where

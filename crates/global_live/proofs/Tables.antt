@@ -20,16 +20,16 @@ pub made_in-append : (n : ℕ) (xs ys makers : List ℕ) → made_in n (xs ++ ys
 made_in-append n [] ys makers = refl
 made_in-append n (x ∷ xs) ys makers = made_in-append n xs ys (set makers x n)
 
-length-made_in : (n : ℕ) (vs makers : List ℕ) → length (made_in n vs makers) ≡ length makers
+pub length-made_in : (n : ℕ) (vs makers : List ℕ) → length (made_in n vs makers) ≡ length makers
 length-made_in n [] makers = refl
 length-made_in n (v ∷ vs) makers = length-made_in n vs (set makers v n) ∙ length-set makers v n
 
-length-makers_from : (n : ℕ) (bls : List CodeBlock) (makers : List ℕ) → length (makers_from n bls makers) ≡ length makers
+pub length-makers_from : (n : ℕ) (bls : List CodeBlock) (makers : List ℕ) → length (makers_from n bls makers) ≡ length makers
 length-makers_from n [] makers = refl
 length-makers_from n (bl ∷ bls) makers = length-makers_from (suc n) bls (made_in n (block_makes bl) makers) ∙ length-made_in n (block_makes bl) makers
 
 -- what isn't made here keeps its node
-made_elsewhere : (n : ℕ) (vs makers : List ℕ) (w : ℕ) → has vs w ≡ false → slice_index (made_in n vs makers) w ≡ slice_index makers w
+pub made_elsewhere : (n : ℕ) (vs makers : List ℕ) (w : ℕ) → has vs w ≡ false → slice_index (made_in n vs makers) w ≡ slice_index makers w
 made_elsewhere n [] makers w h = refl
 made_elsewhere n (v ∷ vs) makers w h = at_test (v == w) refl (made_elsewhere n vs (set makers v n) w) h
   where
@@ -40,7 +40,7 @@ made_elsewhere n (v ∷ vs) makers w h = at_test (v == w) refl (made_elsewhere n
         on h ∙ get_or-set_other makers v w n 0 d
 
 -- what is made here has this node
-made_here : (n : ℕ) (vs makers : List ℕ) (w : ℕ) → w < length makers → has vs w ≡ true → slice_index (made_in n vs makers) w ≡ n
+pub made_here : (n : ℕ) (vs makers : List ℕ) (w : ℕ) → w < length makers → has vs w ≡ true → slice_index (made_in n vs makers) w ≡ n
 made_here n [] makers w lt h = cc
 made_here n (v ∷ vs) makers w lt h = at_test (has vs w) refl (made_here n vs (set makers v n) w (subst (λ k. w < k) (sym (length-set makers v n)) lt))
   where
@@ -58,21 +58,21 @@ made_here n (v ∷ vs) makers w lt h = at_test (has vs w) refl (made_here n vs (
         let lt' : v < length makers = omega (arith, a) in
         made_elsewhere n vs (set makers v n) w e ∙ ap (λ i. get_or (set makers v n) i 0) (sym a) ∙ get_or-set_same makers v n 0 lt'
 
-not_in : (xs : List ℕ) (v : ℕ) → times xs v ≡ 0 → has xs v ≡ false
+pub not_in : (xs : List ℕ) (v : ℕ) → times xs v ≡ 0 → has xs v ≡ false
 not_in xs v h = at_test (has xs v) refl
   where
     at_test : (b : Bool) → has xs v ≡ b → has xs v ≡ false
     at_test true e = let a = times_of_in xs v e in absurd (omega arith)
     at_test false e = e
 
-unmade : (n : ℕ) (bls : List CodeBlock) (makers : List ℕ) (w : ℕ) → times (made bls) w ≡ 0 → slice_index (makers_from n bls makers) w ≡ slice_index makers w
+pub unmade : (n : ℕ) (bls : List CodeBlock) (makers : List ℕ) (w : ℕ) → times (made bls) w ≡ 0 → slice_index (makers_from n bls makers) w ≡ slice_index makers w
 unmade n [] makers w h = refl
 unmade n (bl ∷ bls) makers w h =
     let t = times-append (block_makes bl) (made bls) w in
     unmade (suc n) bls (made_in n (block_makes bl) makers) w (omega arith) ∙ made_elsewhere n (block_makes bl) makers w (not_in (block_makes bl) w (omega arith))
 
 -- the table has the node that makes a value
-makers_from-at : (n : ℕ) (bls : List CodeBlock) (makers : List ℕ) (k w : ℕ) → w < length makers → has (block_makes (block_at bls k)) w ≡ true → times (made bls) w ≤ 1 → slice_index (makers_from n bls makers) w ≡ n + k
+pub makers_from-at : (n : ℕ) (bls : List CodeBlock) (makers : List ℕ) (k w : ℕ) → w < length makers → has (block_makes (block_at bls k)) w ≡ true → times (made bls) w ≤ 1 → slice_index (makers_from n bls makers) w ≡ n + k
 makers_from-at n [] makers k w lt h once = cc
 makers_from-at n (bl ∷ bls) makers zero w lt h once =
     let t = times-append (block_makes bl) (made bls) w in
@@ -86,7 +86,7 @@ makers_from-at n (bl ∷ bls) makers (suc k) w lt h once =
     omega (arith, a)
 
 -- a value that is made is made in a block
-made_somewhere : (bls : List CodeBlock) (w : ℕ) → 0 < times (made bls) w → (k : ℕ) × (has (block_makes (block_at bls k)) w ≡ true)
+pub made_somewhere : (bls : List CodeBlock) (w : ℕ) → 0 < times (made bls) w → (k : ℕ) × (has (block_makes (block_at bls k)) w ≡ true)
 made_somewhere [] w h = absurd (omega arith)
 made_somewhere (bl ∷ bls) w h = at_test (has (block_makes bl) w) refl (made_somewhere bls w)
   where

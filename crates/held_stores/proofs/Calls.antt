@@ -53,13 +53,13 @@ take_append : (xs : List ℕ) (x : ℕ) → take (length xs) (xs ++ x ∷ []) �
 take_append [] x = refl
 take_append (y ∷ xs) x = ap (λ ys. y ∷ ys) (take_append xs x)
 
-sum_append : (xs : List ℕ) (x : ℕ) → sum (xs ++ x ∷ []) ≡ sum xs + x
+pub sum_append : (xs : List ℕ) (x : ℕ) → sum (xs ++ x ∷ []) ≡ sum xs + x
 sum_append [] x = let e = sum_by-cons (λ y. y) x [] in omega (arith, e)
 sum_append (y ∷ xs) x =
     let e = sum_by-cons (λ y. y) y (xs ++ x ∷ []) in let f = sum_by-cons (λ y. y) y xs in let g = sum_append xs x in
     omega (arith, e, f, g)
 
-take_cell : (n : ℕ) (all : List (List Cell)) (o c : ℕ) → o < n → cell_of (take n all) o c ≡ cell_of all o c
+pub take_cell : (n : ℕ) (all : List (List Cell)) (o c : ℕ) → o < n → cell_of (take n all) o c ≡ cell_of all o c
 take_cell zero all o c lt = absurd (omega (arith, lt))
 take_cell (suc n) [] o c lt = refl
 take_cell (suc n) (x ∷ all) zero c lt = refl
@@ -71,12 +71,12 @@ taken_cell (suc n) [] o c v e = absurd (cc)
 taken_cell (suc n) (x ∷ all) zero c v e = (omega arith, e)
 taken_cell (suc n) (x ∷ all) (suc o) c v e = let h = taken_cell n all o c v e in let lt = h.0 in (omega (arith, lt), h.1)
 
-pushed_cell : (all : List (List Cell)) (cs : List Cell) (o c : ℕ) → o < length all → cell_of (all ++ cs ∷ []) o c ≡ cell_of all o c
+pub pushed_cell : (all : List (List Cell)) (cs : List Cell) (o c : ℕ) → o < length all → cell_of (all ++ cs ∷ []) o c ≡ cell_of all o c
 pushed_cell [] cs o c lt = absurd (omega (arith, lt))
 pushed_cell (x ∷ all) cs zero c lt = refl
 pushed_cell (x ∷ all) cs (suc o) c lt = pushed_cell all cs o c (omega (arith, lt))
 
-own_cell : (all : List (List Cell)) (cs : List Cell) (n c : ℕ) → n ≡ length all → cell_of (all ++ cs ∷ []) n c ≡ slice_get cs c
+pub own_cell : (all : List (List Cell)) (cs : List Cell) (n c : ℕ) → n ≡ length all → cell_of (all ++ cs ∷ []) n c ≡ slice_get cs c
 own_cell [] cs zero c e = refl
 own_cell [] cs (suc n) c e = absurd (omega (arith, e))
 own_cell (x ∷ all) cs zero c e = absurd (omega (arith, e))

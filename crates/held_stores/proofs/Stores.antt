@@ -30,7 +30,7 @@ pub shapes_store : (b : Bool) (m : List Region) (x v : ℕ) → shapes (store b 
 shapes_store true m x v = shapes-with_bytes m x (v % 2 ^ 8 ∷ [])
 shapes_store false m x v = shapes-with_bytes m x (to_le_bytes w64 v)
 
-some_none : {A : Type 0} {x : A} {o : Option A} → o ≡ Some x → o ≡ None → ⊥
+pub some_none : {A : Type 0} {x : A} {o : Option A} → o ≡ Some x → o ≡ None → ⊥
 some_none e f = cc
 
 -- a write changes no object's length

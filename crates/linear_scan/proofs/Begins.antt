@@ -28,7 +28,7 @@ plain_or false = refl
 has_sorted : (xs : List ℕ) (v : ℕ) → has (all_inserted xs []) v ≡ has xs v
 has_sorted xs v = has_all_inserted xs [] v ∙ plain_or (has xs v)
 
-get_live : (p : ℕ → Bool) (xs : List (Option ℕ)) (r v : ℕ) → get (map (if_live p) xs) r ≡ Some v → (get xs r ≡ Some v) × (p v ≡ true)
+pub get_live : (p : ℕ → Bool) (xs : List (Option ℕ)) (r v : ℕ) → get (map (if_live p) xs) r ≡ Some v → (get xs r ≡ Some v) × (p v ≡ true)
 get_live p [] r v e = cc
 get_live p (None ∷ xs) zero v e = cc
 get_live p (Some u ∷ xs) zero v e = by (p u) refl e
@@ -39,7 +39,7 @@ get_live p (Some u ∷ xs) zero v e = by (p u) refl e
 get_live p (None ∷ xs) (suc r) v e = get_live p xs r v e
 get_live p (Some u ∷ xs) (suc r) v e = get_live p xs r v e
 
-stays_live : (p : ℕ → Bool) (xs : List (Option ℕ)) (r v : ℕ) → get xs r ≡ Some v → p v ≡ true → get (map (if_live p) xs) r ≡ Some v
+pub stays_live : (p : ℕ → Bool) (xs : List (Option ℕ)) (r v : ℕ) → get xs r ≡ Some v → p v ≡ true → get (map (if_live p) xs) r ≡ Some v
 stays_live p [] r v e q = cc
 stays_live p (x ∷ xs) zero v e q = ap (if_live p) e ∙ ap (λ b. cond b (Some v) None) q
 stays_live p (x ∷ xs) (suc r) v e q = stays_live p xs r v e q
@@ -68,12 +68,12 @@ module _ (p : ℕ → Bool) (q : Places) where
     known = λ v h. knows v (placed_live v h);
   }
 
-get_none : (n r v : ℕ) → get (replicate n None) r ≡ Some v → ⊥
+pub get_none : (n r v : ℕ) → get (replicate n None) r ≡ Some v → ⊥
 get_none zero r v e = cc
 get_none (suc n) zero v e = cc
 get_none (suc n) (suc r) v e = get_none n r v e
 
-in_none : (n v : ℕ) → in_register (replicate n None) v ≡ true → ⊥
+pub in_none : (n v : ℕ) → in_register (replicate n None) v ≡ true → ⊥
 in_none zero v e = cc
 in_none (suc n) v e = in_none n v e
 

@@ -99,7 +99,7 @@ slots_at (bl ∷ bls) (suc n) = max_right (slots_in bl.ops) (slots_of bls) (slot
 
 ---- Values are made once
 
-made_at : (bls : List CodeBlock) (n v : ℕ) → times (block_makes (block_at bls n)) v ≤ times (made bls) v
+pub made_at : (bls : List CodeBlock) (n v : ℕ) → times (block_makes (block_at bls n)) v ≤ times (made bls) v
 made_at [] n v = omega arith
 made_at (bl ∷ bls) zero v = let a = times-append (block_makes bl) (made bls) v in omega (arith, a)
 made_at (bl ∷ bls) (suc n) v = let a = times-append (block_makes bl) (made bls) v in let b = made_at bls n v in omega (arith, a, b)

@@ -92,7 +92,7 @@ module _ (need : ℕ → ℕ → Option ℕ) where
   operates_start (x ∷ xs) p i t = operates_start xs (p + 1) (i + 1) (operate need (drop_all need) p i x t) ∙ operate_start p i x t
 
 -- what an end reads in registers it uses
-reads_used : (end : End) (v : ℕ) → has (end_reads end) v ≡ true → has (end_uses end) v ≡ true
+pub reads_used : (end : End) (v : ℕ) → has (end_reads end) v ≡ true → has (end_uses end) v ≡ true
 reads_used (Jump to args) v h = cc
 reads_used (Branch k a b one other) v h = h
 reads_used (Nonzero a one other) v h = h

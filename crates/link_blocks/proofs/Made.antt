@@ -1,8 +1,7 @@
 -- A plan's blocks, homes and frame are those of the placed procedure.
-use Rattle.std.proofs.Common.{◌≡◌, ℕ, zero, suc, ◌+◌, ◌<◌, ◌≤◌, List, [], ◌∷◌, ◌++◌, map, length, drop, get_or, Bool, true, false, refl, arith, sym, ap, ap₂, ◌∙◌, subst}
+use Rattle.std.proofs.Common.{◌≡◌, ℕ, suc, ◌+◌, ◌<◌, List, [], ◌∷◌, map, length, drop, get_or, Bool, refl, arith, sym, ap, ap₂, ◌∙◌, subst}
 use Rattle.std.specs.Prelude.{flat_map}
-use Rattle.run_laws.specs.Layers.{places_from}
-use Rattle.block_runs.specs.Blocks.{CodeBlock, block_at}
+use Rattle.block_runs.specs.Blocks.{CodeBlock}
 use Rattle.block_runs.specs.Live.{has}
 use Rattle.lir_core.specs.declared.flow.Flow.{Flow}
 use Rattle.lir_core.specs.declared.places.TraceOut.{TraceOut}
@@ -15,7 +14,7 @@ use Rattle.boundary_resolve.specs.Edges.{AreSound}
 use Rattle.boundary_resolve.proofs.Between.{blocks_at}
 use Rattle.placed_code.specs.Placed.{Copy, Cell, Block, Placed, no_block}
 use Rattle.placed_code.specs.Words.{slots_of}
-use Rattle.placed_code.specs.Results.{Part, no_part, part_of, placed_block, placed_blocks, placed, with_copies, with_cells, with_blocks, homes_of, rank_in}
+use Rattle.placed_code.specs.Results.{Part, part_of, placed_block, placed_blocks, placed, with_copies, with_cells, with_blocks, homes_of, rank_in}
 use Rattle.placed_code.proofs.Parts.{length_map, get_mapped, length_blocks, block_is}
 use Rattle.linked_flows.specs.Allocations.{Cut, copies_of, steps_of, part_at, allocated}
 use Rattle.linked_flows.proofs.Edges.{count}
@@ -25,23 +24,18 @@ use Rattle.link_layout.specs.Spots.{copy_of, all_copies}
 use Rattle.link_layout.proofs.Ranking.{homes_are}
 use Rattle.link_blocks.specs.Plans.{block_in, plain_cell, plain_block, plain}
 use Rattle.link_blocks.specs.Ahead.{edges_ahead, behind_edges, AreAllDistinct}
-use Rattle.link_blocks.specs.Laid.{IsCutOf, wanted, AreLaid}
+use Rattle.link_blocks.specs.Laid.{IsCutOf, AreLaid}
 use Rattle.link_blocks.specs.declared.plans.Block.{Block as Made}
 use Rattle.link_blocks.specs.declared.planning.Laid.{Laid}
 use Rattle.link_blocks.proofs.Flat.{edges_flat, behind_edges_flat}
 use Rattle.link_blocks.proofs.Nodes.{all_distinct}
+use Rattle.linked_flows.proofs.Run.{part_is}
 
 pub lists_same : {A : Type 0} (d : A) (xs ys : List A) → length xs ≡ length ys → ((i : ℕ) → i < length xs → get_or xs i d ≡ get_or ys i d) → xs ≡ ys
 lists_same d [] [] n each = refl
 lists_same d [] (y ∷ ys) n each = cc
 lists_same d (x ∷ xs) [] n each = cc
 lists_same d (x ∷ xs) (y ∷ ys) n each = ap₂ (λ a as'. a ∷ as') (each 0 (omega arith)) (lists_same d xs ys (omega (arith, n)) (λ i l. each (suc i) (omega (arith, l))))
-
--- the part of a node
-part_is : (g : ℕ → Part) (a n b : ℕ) → b < n → get_or (map g (places_from a n)) b no_part ≡ g (a + b)
-part_is g a zero b l = absurd (omega (arith, l))
-part_is g a (suc n) zero l = let z : a ≡ a + 0 = omega arith in ap g z
-part_is g a (suc n) (suc b) l = let z : suc a + b ≡ a + suc b = omega arith in part_is g (suc a) n b (omega (arith, l)) ∙ ap g z
 
 abbrev pub blocks_of : Cut → List Block
 blocks_of c = placed_blocks steps_of 0 (code_nodes c.flow.nodes) (allocated c).parts

@@ -4,11 +4,12 @@ use Rattle.std.specs.Prelude.{◌==◌, if◌then◌else◌}
 use Rattle.std.proofs.lemmas.Bool.{eqb-true}
 use Rattle.std.proofs.lemmas.List.{drop_more, drop_all}
 use Rattle.placed_code.specs.Placed.{Placed, proc_of}
-use Rattle.placed_code.specs.Layout.{followed, placings, position, block_width, front_width, proc_width, entry}
+use Rattle.placed_code.specs.Layout.{placings, position, block_width, front_width, proc_width, entry}
 use Rattle.link_words.specs.Fields.{InReach, entry_in}
 use Rattle.link_layout.specs.Starts.{starts_from, end_from, IsByNumber}
 use Rattle.link_layout.specs.Widths.{widths_of, AreBlocks, ArePlaces, IsWide}
 use Rattle.link_layout.proofs.Placing.{starts_length, starts_at, ends_at}
+use Rattle.placed_code.proofs.Linking.{length_followed}
 
 pub none_yet : (order starts places : List ℕ) (i count : ℕ) → length order ≤ i → length places ≡ count → IsByNumber (drop i order) (drop i starts) count places
 none_yet order starts places i count far size =
@@ -41,10 +42,6 @@ numbered_more order starts i j count before after h is lo ls size one others =
     subst (λ (ys : List ℕ). IsByNumber (drop j order) ys count after) (sym ss) (subst (λ (xs : List ℕ). IsByNumber xs (get_or starts j 0 ∷ drop (j + 1) starts) count after) (sym so) next)
 
 ---- As layout defines them
-
-length_followed : (none : ℕ) (order : List ℕ) → length (followed none order) ≡ length order
-length_followed none [] = refl
-length_followed none (c ∷ cs) = ap suc (length_followed none cs)
 
 pub starts_many : (ps : List Placed) (p : ℕ) (order widths starts : List ℕ) (first count : ℕ) → starts ≡ starts_from first widths → AreBlocks ps p first order widths count → length starts ≡ length order
 starts_many ps p order widths starts first count e is =

@@ -1,5 +1,5 @@
 -- Words appended part by part.
-use Rattle.std.proofs.Common.{◌≡◌, ℕ, zero, suc, ◌+◌, ◌<◌, ◌≤◌, ◌^◌, List, [], ◌∷◌, ◌++◌, map, length, drop, get_or, refl, arith, sym, ap, ap₂, ◌∙◌, subst}
+use Rattle.std.proofs.Common.{◌≡◌, ℕ, suc, ◌+◌, ◌<◌, ◌≤◌, ◌^◌, List, ◌∷◌, ◌++◌, map, length, drop, get_or, refl, arith, sym, ap, ap₂, ◌∙◌, subst}
 use Rattle.std.proofs.lemmas.List.{drop_more}
 use Rattle.run_laws.specs.Layers.{whole_width, spread}
 use Rattle.run_laws.proofs.Rows.{length-spread}
@@ -21,10 +21,12 @@ use Rattle.link_blocks.specs.Plans.{block_in, placed_in}
 use Rattle.link_plan.specs.Parts.{entry_at, cell_code, parts_code, block_code, front_code, proc_code, IsWhole}
 use Rattle.link_plan.specs.Measured.{parts_width}
 use Rattle.link_plan.specs.Written.{AreReady, StandsAt}
-use Rattle.link_plan.proofs.Rows.{then, longer, row_more, before_and_behind}
+use Rattle.link_plan.proofs.Rows.{longer, row_more, before_and_behind}
 use Rattle.link_plan.proofs.Sizes.{cell_size, parts_size, block_size, front_size, proc_size, branch_within}
 use Rattle.link_plan.proofs.Same.{proc_is}
 use Rattle.link_plan.proofs.Measures.{frame_is}
+use Rattle.placed_code.proofs.Linking.{drop_lt}
+use Rattle.link_words.proofs.Pushed.{then}
 
 last_placed : (pr : Placed) (n : ℕ) (block : ℕ → ℕ) (k : ℕ) (end : End) (a b : ℕ) → last_of n block (frame_in pr) k end a b ≡ last_words n block pr k end a b
 last_placed pr n block k (Return x) a b = refl
@@ -141,12 +143,6 @@ place_is ps ys i w from d size here =
     let z : 0 + i ≡ i = omega arith in
     let behind : whole_width proc_width (0 + i) (drop i ps) ≡ whole_width proc_width i ys = ap₂ (λ m (qs : List Placed). whole_width proc_width m qs) z d in
     omega (arith, all, behind, size, here)
-
-drop_lt : {A : Type 0} (xs : List A) (n : ℕ) (x : A) (rest : List A) → drop n xs ≡ x ∷ rest → n < length xs
-drop_lt [] zero x rest e = cc
-drop_lt [] (suc n) x rest e = cc
-drop_lt (y ∷ ys) zero x rest e = omega arith
-drop_lt (y ∷ ys) (suc n) x rest e = let r = drop_lt ys n x rest e in omega (arith, r)
 
 pub stands_at : (ps rest : List Placed) (pr : Placed) (i w from : ℕ) (entries : List ℕ) (routines : ℕ) → drop i ps ≡ pr ∷ rest → w + whole_width proc_width i (pr ∷ rest) ≡ from + whole_width proc_width 0 ps → AreReady ps entries routines from → StandsAt ps i entries routines w pr
 stands_at ps rest pr i w from entries routines d size ready =

@@ -1,5 +1,5 @@
 -- The start, the routines and the procedures in one row.
-use Rattle.std.proofs.Common.{◌≡◌, ℕ, suc, ◌+◌, ◌*◌, ◌<◌, ◌≤◌, ◌^◌, List, [], ◌∷◌, ◌++◌, map, length, Bool, true, false, refl, arith, ap, ◌∙◌, length-append}
+use Rattle.std.proofs.Common.{◌≡◌, ℕ, suc, ◌+◌, ◌*◌, ◌<◌, ◌≤◌, ◌^◌, List, [], ◌∷◌, ◌++◌, map, length, Bool, true, false, arith, ap, ◌∙◌}
 use Rattle.std.specs.Prelude.{if◌then◌else◌}
 use Rattle.run_laws.specs.Layers.{whole_width, spread}
 use Rattle.a64_instr.specs.declared.instr.Instr.{Instr}
@@ -12,8 +12,10 @@ use Rattle.placed_code.proofs.Linking.{all_size}
 use Rattle.placed_code.proofs.Rising.{wide}
 use Rattle.link_plan.specs.Parts.{entry_at}
 use Rattle.link_plan.specs.Written.{EntriesAre}
-use Rattle.link_plan.proofs.Rows.{then, longer}
+use Rattle.link_plan.proofs.Rows.{longer}
 use Rattle.link_plan.proofs.Same.{start_is}
+use Rattle.placed_code.proofs.Linking.{length_start as start_length}
+use Rattle.link_words.proofs.Pushed.{then}
 
 whole_wide : (j : ℕ) (ps : List Placed) → 3 * length ps ≤ whole_width proc_width j ps
 whole_wide j [] = omega arith
@@ -26,10 +28,6 @@ bodies_few n (p ∷ ps) = by_test p.counted (bodies_few (suc n) ps)
     by_test : (b : Bool) → length (bodies_from (suc n) (procedures ps)) ≤ length ps → length (if b then bodies_from (suc n) (procedures ps) else (n ∷ bodies_from (suc n) (procedures ps))) ≤ suc (length ps)
     by_test true l = omega (arith, l)
     by_test false l = omega (arith, l)
-
-start_length : (e : ℕ → ℕ) (k : ℕ) (bs : List ℕ) → length (start_words e k bs) ≡ suc (length bs)
-start_length e k [] = refl
-start_length e k (b ∷ bs) = ap suc (start_length e (suc k) bs)
 
 -- more procedures than words
 pub many : (ps : List Placed) (n : ℕ) → n ≡ length ps → 2 ^ 18 < n → 2 ^ 18 < length (all_words ps)

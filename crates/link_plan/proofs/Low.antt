@@ -45,7 +45,7 @@ pub and_right : (a b : Bool) → (a && b) ≡ true → b ≡ true
 and_right true b e = e
 and_right false b e = cc
 
-get_past : {A : Type 0} (xs : List A) (n : ℕ) (d : A) → length xs ≤ n → get_or xs n d ≡ d
+pub get_past : {A : Type 0} (xs : List A) (n : ℕ) (d : A) → length xs ≤ n → get_or xs n d ≡ d
 get_past [] n d l = refl
 get_past (x ∷ xs) zero d l = absurd (omega (arith, l))
 get_past (x ∷ xs) (suc n) d l = get_past xs n d (omega (arith, l))
@@ -58,7 +58,7 @@ leads_below n (Return x) e = tt
 leads_below n (Trap kind) e = tt
 
 -- cells of operations whose numbers fit, with registers below 16
-cells_low : (front : List Copy) (lirs : List Lir) (named : List ℕ) (lines : List Line) → lirs_fit lirs ≡ true → AreRegisters named → CellsLow (cells_from steps_of front (map operation_of lirs) named lines)
+pub cells_low : (front : List Copy) (lirs : List Lir) (named : List ℕ) (lines : List Line) → lirs_fit lirs ≡ true → AreRegisters named → CellsLow (cells_from steps_of front (map operation_of lirs) named lines)
 cells_low front [] named lines e fit = tt
 cells_low front (x ∷ lirs) named lines e fit =
     let one : CellLow (record { copies = front ++ copies_before steps_of lines; op = operation_of x; named = named }) = record {

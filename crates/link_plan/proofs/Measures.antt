@@ -1,7 +1,7 @@
 -- Plans as procedures, while they are measured.
 use Rattle.std.proofs.Common.{◌≡◌, ℕ, zero, suc, ◌+◌, ◌-◌, ◌<◌, ◌≤◌, ◌^◌, List, [], ◌∷◌, ◌++◌, map, length, drop, get_or, Bool, true, false, refl, arith, sym, ap, ap₂, ◌∙◌, subst, min, take, append_assoc, length-append}
 use Rattle.std.specs.Prelude.{◌==◌, nat_lt}
-use Rattle.std.proofs.lemmas.Bool.{ltb-true, eqb-true, eq-eqb}
+use Rattle.std.proofs.lemmas.Bool.{ltb-true}
 use Rattle.std.proofs.lemmas.Bool.Decides.{nat_tests}
 use Rattle.std.proofs.lemmas.List.{drop_more, drop_all, take_more, map-append}
 use Rattle.run_laws.specs.Layers.{whole_width}
@@ -21,6 +21,8 @@ use Rattle.link_plan.specs.declared.measuring.Measure.{Measure}
 use Rattle.link_plan.specs.Measured.{parts_width, measured}
 use Rattle.link_plan.specs.Written.{EntriesAre}
 use Rattle.link_plan.proofs.Rows.{one_over, drop_map, mapped_more}
+use Rattle.boundary_resolve.proofs.Between.{turned as eq_turned}
+use Rattle.placed_code.proofs.Linking.{drop_followed}
 
 -- a plan's frame is the placed procedure's
 pub frame_is : (plan : Plan) → frame_in (placed_in plan) ≡ plan.frame
@@ -29,22 +31,8 @@ frame_is plan = ap (λ n. let f : Frame = record { counted = plan.frame.counted;
 pub is_frame_of : (plan : Plan) → IsFrameOf plan.homes plan.frame.outs (placed_in plan)
 is_frame_of plan = record { outs_are = refl; rank_is = refl }
 
-eq_turned : (p v : ℕ) (b : Bool) → (p == v) ≡ b → (v == p) ≡ b
-eq_turned p v true e = eq-eqb v p (sym (eqb-true p v e))
-eq_turned p v false e = by_test (v == p) refl
-  where
-    by_test : (b : Bool) → (v == p) ≡ b → b ≡ false
-    by_test false h = refl
-    by_test true h = let t : (p == v) ≡ true = eq-eqb p v (sym (eqb-true v p h)) in cc
-
 pub jump_turned : (n : ℕ) → jump_width (0 == n) ≡ jump_width (n == 0)
 jump_turned n = ap jump_width (sym (eq_turned 0 n (0 == n) refl))
-
-drop_followed : (none : ℕ) (order : List ℕ) (n b : ℕ) (rest : List ℕ) → drop n order ≡ b ∷ rest → drop n (followed none order) ≡ record { number = b; next = first_of none rest } ∷ followed none rest
-drop_followed none [] zero b rest e = cc
-drop_followed none [] (suc n) b rest e = cc
-drop_followed none (c ∷ cs) zero b rest e = let same : c ≡ b = cc in let others : cs ≡ rest = cc in ap₂ (λ (x : ℕ) (xs : List ℕ). record { number = x; next = first_of none xs } ∷ followed none xs) same others
-drop_followed none (c ∷ cs) (suc n) b rest e = drop_followed none cs n b rest e
 
 -- a block that is too wide makes all too wide
 pub over_block : (pr : Placed) (n : ℕ) (items order : List ℕ) (i next : ℕ) → n ≡ length pr.blocks → items ≡ order → i < length items → next ≡ first_of n (drop (i + 1) order) → 2 ^ 18 < parts_width pr next (block_of pr (get_or items i 0))

@@ -1,5 +1,5 @@
 -- Each node's part is sound, and its copies fit.
-use Rattle.std.proofs.Common.{◌≡◌, ℕ, suc, ◌+◌, ◌<◌, ◌≤◌, ◌||◌, List, [], ◌∷◌, map, length, get_or, Bool, true, false, cond, Some, None, refl, arith, sym, ap, ◌∙◌, subst}
+use Rattle.std.proofs.Common.{◌≡◌, ℕ, suc, ◌+◌, ◌<◌, ◌≤◌, List, [], ◌∷◌, map, length, get_or, Bool, true, false, cond, Some, refl, arith, sym, ap, ◌∙◌, subst}
 use Rattle.run_laws.specs.Layers.{places_from}
 use Rattle.block_runs.specs.declared.end.End.{End}
 use Rattle.block_runs.specs.declared.end.End.TheVariants.{Jump, Branch, Nonzero, Return, Trap}
@@ -10,26 +10,16 @@ use Rattle.lir_core.specs.declared.places.TraceOut.{TraceOut}
 use Rattle.lir_core.specs.Flows.{code_nodes, node_at}
 use Rattle.lir_core.specs.Lines.{Room}
 use Rattle.lir_core.specs.Sound.{IsSoundNode, room_of, no_places}
-use Rattle.global_live.proofs.Lists.{has-append}
 use Rattle.trace_build.specs.Cuts.{lists_of, all_nodes}
 use Rattle.boundary_resolve.specs.Moves.{entry_places, entry_argument, edge_moves}
-use Rattle.boundary_resolve.specs.Placing.{seats_from, seat_of, out_at, places_at, lines_in, registers_in, registers_at, start_at, end_at, lines_at, is_test, steps_between, steps_from, steps_of_end, test_steps, jump_steps, entry_steps}
+use Rattle.boundary_resolve.specs.Placing.{out_at, places_at, lines_in, registers_in, registers_at, start_at, end_at, lines_at, is_test, steps_between, steps_from, steps_of_end, test_steps, jump_steps, entry_steps}
 use Rattle.boundary_resolve.specs.Edges.{AreSound}
-use Rattle.boundary_resolve.proofs.Between.{seated, not_seated, sound_in, length-places}
+use Rattle.boundary_resolve.proofs.Between.{seated, sound_in, length-places}
 use Rattle.placed_code.specs.Results.{CopiesFit}
 use Rattle.linked_flows.specs.Allocations.{copies_of}
 use Rattle.linked_flows.proofs.Sequence.{edge_fits, order_fits}
 use Rattle.linked_flows.proofs.Ordering.{has_of_times}
-
-unseated : (traces : List Trace) (t n : ℕ) → has (all_nodes (lists_of traces)) n ≡ false → seat_of (seats_from t traces) n ≡ None
-unseated [] t n h = refl
-unseated (x ∷ traces) t n h =
-    let both = or_parts (has x.nodes n) (has (all_nodes (lists_of traces)) n) (sym (has-append x.nodes (all_nodes (lists_of traces)) n) ∙ h) in
-    not_seated x.nodes t 0 n (seats_from (suc t) traces) both.0 ∙ unseated traces (suc t) n both.1
-  where
-    or_parts : (a b : Bool) → (a || b) ≡ false → (a ≡ false) × (b ≡ false)
-    or_parts true b e = cc
-    or_parts false b e = (refl, e)
+use Rattle.boundary_resolve.proofs.Laid.{not_sitting as unseated}
 
 module _ (k : ℕ) (f : Flow) (traces : List Trace) (outs : List TraceOut) (all : AreSound k f traces outs) where
   pub traced : (n : ℕ) → n < length f.nodes → has (all_nodes (lists_of traces)) n ≡ true

@@ -26,7 +26,7 @@ use Rattle.linked_flows.proofs.Entry.{enters}
 use Rattle.linked_flows.proofs.Nodes.{traced, sound_node, steps_fit, entry_fits}
 
 -- the part of a node
-part_is : (g : ℕ → Part) (a n b : ℕ) → b < n → get_or (map g (places_from a n)) b no_part ≡ g (a + b)
+pub part_is : (g : ℕ → Part) (a n b : ℕ) → b < n → get_or (map g (places_from a n)) b no_part ≡ g (a + b)
 part_is g a zero b l = absurd (omega (arith, l))
 part_is g a (suc n) zero l = let z : a ≡ a + 0 = omega arith in ap g z
 part_is g a (suc n) (suc b) l = let z : suc a + b ≡ a + suc b = omega arith in part_is g (suc a) n b (omega (arith, l)) ∙ ap g z

@@ -10,9 +10,9 @@ use Rattle.lir_core.specs.declared.places.Places.{Places}
 use Rattle.lir_core.specs.declared.places.Line.{Line}
 use Rattle.lir_core.specs.declared.places.Line.TheVariants.{Store, Moves, Target, Result}
 use Rattle.lir_core.specs.declared.places.Line.TheVariants.{Lir as Does}
-use Rattle.lir_core.specs.Spots.{Spot, reg, home, out, target, saved, same, spot, source, get, in_register}
-use Rattle.lir_core.specs.Lines.{is_aimed, arguments, argument_spot, argument_spots, Room, InRange}
-use Rattle.lir_core.specs.Walks.{Walker, Taken, Below, after, left, without, defined}
+use Rattle.lir_core.specs.Spots.{Spot, reg, home, target, same, spot, get, in_register}
+use Rattle.lir_core.specs.Lines.{is_aimed, arguments, argument_spots, Room, InRange}
+use Rattle.lir_core.specs.Walks.{Walker, Below, after, left, without, defined}
 use Rattle.loc_state.specs.Registers.{register_of}
 use Rattle.loc_state.specs.Lines.{place_of, argument_moves, aims, moves, call_lines}
 use Rattle.loc_state.proofs.Calling.{distinct_moves, other_source, AllStand, arguments_stand, all_taken, all_stand}
@@ -21,37 +21,22 @@ use Rattle.loc_state.proofs.Numbers.{numbers_same, test_same, test_apart, or_res
 use Rattle.loc_back.specs.declared.part.Loading.{Loading}
 use Rattle.loc_back.specs.declared.part.BackPart.{BackPart}
 use Rattle.loc_back.specs.Steps.{storing, loading, leaving, other, result_stored, result_in, result_moved, reload, reloads, all_saved, seated, unseated, behind_call, emptied, reading, written}
-use Rattle.loc_back.specs.Served.{Section, lives_from, wanted, Leads, Serves, Extends, with_homed, Route, MayBeHomed, IsStanding, Backed, or_first, loaded, AreGiven, CanCall, with_def}
+use Rattle.loc_back.specs.Served.{Section, lives_from, wanted, Leads, Serves, Extends, with_homed, Route, MayBeHomed, IsStanding, Backed, or_first, loaded, CanCall, with_def}
 use Rattle.loc_back.proofs.Leading.{is_or_not, lives_before, used_lives, AreHomed, taken_from, loads_lead, kept_reg, kept_homes, store_leads}
 use Rattle.loc_back.proofs.Turning.{front}
 use Rattle.loc_back.proofs.Standing.{extends_less, extends_made, same_mark}
 use Rattle.loc_back.proofs.GivenSeats.{seated_was, seated_there, unseated_grows, unseated_there, unseated_was, all_saved_grows, all_saved_there, all_saved_was, other_is, is_other}
 use Rattle.loc_back.proofs.Seats.{length-seated}
+use Rattle.loc_state.proofs.Calling.{home_apart}
+use Rattle.loc_state.proofs.Calling.{target_apart}
+use Rattle.loc_state.proofs.Calling.{taken_target}
 
 ---- Spots of arguments
-
-home_apart : (v j : ℕ) → same (home v) (argument_spot j) ≡ false
-home_apart v zero = refl
-home_apart v (suc zero) = refl
-home_apart v (suc (suc zero)) = refl
-home_apart v (suc (suc (suc zero))) = refl
-home_apart v (suc (suc (suc (suc j)))) = refl
-
-target_apart : (j : ℕ) → same target (argument_spot j) ≡ false
-target_apart zero = refl
-target_apart (suc zero) = refl
-target_apart (suc (suc zero)) = refl
-target_apart (suc (suc (suc zero))) = refl
-target_apart (suc (suc (suc (suc j)))) = refl
 
 place_apart : (p : Place) → same (spot p) target ≡ false
 place_apart (Reg r) = refl
 place_apart (Home v) = refl
 place_apart (Out s) = refl
-
-taken_target : (room : Room) (u : ℕ) (o : Option ℕ) → o ≡ Some u → Taken room target o
-taken_target room u None e = cc
-taken_target room u (Some v) e = tt
 
 ---- The lines before a call
 

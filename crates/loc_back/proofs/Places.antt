@@ -69,7 +69,7 @@ calls_at x n op args Done t there e c a = (refl, refl, refl, called_backed x n o
 
 ---- The end of the node before
 
-set_past : {A : Type 0} (xs : List A) (r : ℕ) (o : A) → length xs ≤ r → set xs r o ≡ xs
+pub set_past : {A : Type 0} (xs : List A) (r : ℕ) (o : A) → length xs ≤ r → set xs r o ≡ xs
 set_past [] r o l = refl
 set_past (x ∷ xs) zero o l = absurd (omega (arith, l))
 set_past (x ∷ xs) (suc r) o l = ap (λ ys. x ∷ ys) (set_past xs r o (omega (arith, l)))

@@ -25,7 +25,7 @@ use Rattle.loc_state.proofs.Keeping.{is_marked, marked, stays, CanIf, perform_if
 use Rattle.loc_state.proofs.Numbers.{numbers_same, test_same, get_set, get_emptied, or_rest, nothing, append_nil, in_row, register_at, in_register_at, either, in_reg, in_home}
 use Rattle.loc_state.proofs.Stepping.{keeps_all_kept}
 
-place_spot : (i : ℕ) → spot (argument_place i) ≡ argument_spot i
+pub place_spot : (i : ℕ) → spot (argument_place i) ≡ argument_spot i
 place_spot zero = refl
 place_spot (suc zero) = refl
 place_spot (suc (suc zero)) = refl
@@ -76,7 +76,7 @@ same_number saved (home b) e = cc
 same_number saved (out b) e = cc
 same_number saved target e = cc
 
-spots_apart : (i j : ℕ) → i ≢ j → same (argument_spot i) (argument_spot j) ≡ false
+pub spots_apart : (i j : ℕ) → i ≢ j → same (argument_spot i) (argument_spot j) ≡ false
 spots_apart i j ne = at_test (same (argument_spot i) (argument_spot j)) refl
   where
     at_test : (b : Bool) → same (argument_spot i) (argument_spot j) ≡ b → b ≡ false
@@ -90,14 +90,14 @@ self_same (suc (suc zero)) = refl
 self_same (suc (suc (suc zero))) = refl
 self_same (suc (suc (suc (suc i)))) = test_same i
 
-target_apart : (j : ℕ) → same target (argument_spot j) ≡ false
+pub target_apart : (j : ℕ) → same target (argument_spot j) ≡ false
 target_apart zero = refl
 target_apart (suc zero) = refl
 target_apart (suc (suc zero)) = refl
 target_apart (suc (suc (suc zero))) = refl
 target_apart (suc (suc (suc (suc j)))) = refl
 
-home_apart : (v j : ℕ) → same (home v) (argument_spot j) ≡ false
+pub home_apart : (v j : ℕ) → same (home v) (argument_spot j) ≡ false
 home_apart v zero = refl
 home_apart v (suc zero) = refl
 home_apart v (suc (suc zero)) = refl
@@ -211,7 +211,7 @@ place_apart (Reg r) = refl
 place_apart (Home v) = refl
 place_apart (Out s) = refl
 
-taken_target : (room : Room) (u : ℕ) (o : Option ℕ) → o ≡ Some u → Taken room target o
+pub taken_target : (room : Room) (u : ℕ) (o : Option ℕ) → o ≡ Some u → Taken room target o
 taken_target room u None e = cc
 taken_target room u (Some v) e = tt
 

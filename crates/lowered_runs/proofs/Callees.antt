@@ -65,7 +65,7 @@ use Rattle.object_bytes.specs.Objects.{load}
 use Rattle.object_nodes.specs.Nodes.{VariableNode}
 use Rattle.ob_types.specs.Trees.{Scalar}
 use Rattle.ob_types.specs.Forms.{Form}
-use Rattle.lowered_runs.proofs.Frames.{Activation, call_of, above, own_cell, sum_append}
+use Rattle.lowered_runs.proofs.Frames.{Activation, call_of, above}
 use Rattle.lowered_runs.proofs.Locals.{tree, wide_in}
 use Rattle.lowered_runs.proofs.Calls.{AnswerIs, Words, words_length, Stacked, Back}
 use Rattle.lowered_runs.proofs.Openings.{trees_in, Opens, opens_give, Taken, further_opens, opened_more, some_lent, wide_some, EnvIs, Firsts, stored_opens, opened_opens, memory_either, registers_first, env_size, env_under, Before, Behind}
@@ -74,6 +74,8 @@ use Rattle.lowered_runs.proofs.Activations.{pairs_of, types_are, zeroed_by, none
 use Rattle.lowered_runs.proofs.Returns.{IsGiven, returns}
 use Rattle.lowered_runs.proofs.Bodies.{standing_in}
 use Rattle.lowered_runs.proofs.Points.{whole_weight}
+use Rattle.held_stores.proofs.Calls.{sum_append}
+use Rattle.held_stores.proofs.Calls.{own_cell}
 
 -- a procedure's statements, and what is behind RETURN, do what they mean in a level
 pub record Serves (w : Whole) (u : Level) (fuel : ℕ) (calls : Calls) : Type 0 where

@@ -32,11 +32,12 @@ use Rattle.held_stores.proofs.Pieces.{same_variable}
 use Rattle.held_stores.proofs.Stores.{later_put, put_apart, put_there, stands_covered, store_held, tags_put}
 use Rattle.held_stores.proofs.Stores.{load_is as cell_loaded}
 use Rattle.lowered_runs.specs.Words.{Whole, Level, Right, ground, active, ValueIs, Held, Later, AddressIs, local, Apart}
-use Rattle.lowered_runs.proofs.Stores.{some_same, some_none, later_refl, later_on, address_later, value_few}
+use Rattle.lowered_runs.proofs.Stores.{some_same, later_refl, later_on, address_later, value_few}
 use Rattle.lowered_runs.proofs.Values.{put_here, under_at, under_set, size_set, set_else, off_refl}
 use Rattle.lowered_runs.proofs.Ready.{position, system, world_of, frame_at, Goes, Came_to, ready_more}
 use Rattle.lowered_runs.proofs.Follows.{Fact, And as Both, Steady, steady_and, Grows, grows_bind, grows_emits, grows_does, Follows, FollowsTo, Done, follows_bind, follows_known, follows_emits, follows_does, acts_give, effect_at, acts_senseless, effect_at, goes_here, goes_senseless}
 use Rattle.lowered_runs.proofs.Exprs.{CellIs}
+use Rattle.held_stores.proofs.Stores.{some_none}
 
 -- what a fetch and a put come to
 

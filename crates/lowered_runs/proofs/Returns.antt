@@ -31,9 +31,12 @@ use Rattle.lowered_runs.proofs.Ready.{Position, system, world_of, frame_at, runs
 use Rattle.lowered_runs.proofs.Forks.{Ends_at, end_step, end_pays}
 use Rattle.held_stores.specs.Changes.{with_frame, without_frame}
 use Rattle.held_stores.proofs.Calls.{many_lengths, other_slot, later_pop, held_pop}
-use Rattle.lowered_runs.proofs.Frames.{Activation, call_of, above, sum_append, take_cell, pushed_cell}
+use Rattle.lowered_runs.proofs.Frames.{Activation, call_of, above}
 use Rattle.lowered_runs.proofs.Calls.{Stacked, ResultIs, Back, AnswerIs}
 use Rattle.lowered_runs.proofs.Activations.{activation, bytes_are, laid}
+use Rattle.held_stores.proofs.Calls.{sum_append}
+use Rattle.held_stores.proofs.Calls.{take_cell}
+use Rattle.held_stores.proofs.Calls.{pushed_cell}
 
 -- the number that a call gives, and that one is given where it is wanted
 abbrev pub number_back : Option ℕ → Option ℕ → ℕ

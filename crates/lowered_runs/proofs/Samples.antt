@@ -47,7 +47,7 @@ sample_runs = record {
   stands = λ h. absurd (no_constants h);
 }
 
-each_bytes : {A : Type 0} (f : A → List ℕ) → ((x : A) → AreBytes (f x)) → (xs : List A) → AreBytes (flat_map f xs)
+pub each_bytes : {A : Type 0} (f : A → List ℕ) → ((x : A) → AreBytes (f x)) → (xs : List A) → AreBytes (flat_map f xs)
 each_bytes f are [] = no_bytes
 each_bytes f are (x ∷ xs) = append_bytes (f x) (flat_map f xs) (are x) (each_bytes f are xs)
 

@@ -1,5 +1,5 @@
 -- Numbers, registers and frames of modest flows fit instructions.
-use Rattle.std.proofs.Common.{◌≡◌, ℕ, zero, suc, ◌<◌, ◌≤◌, List, [], ◌∷◌, map, length, get_or, Bool, true, false, ◌&&◌, refl, arith, ap}
+use Rattle.std.proofs.Common.{◌≡◌, ℕ, zero, suc, ◌<◌, ◌≤◌, List, [], ◌∷◌, map, length, get_or, Bool, true, false, ◌&&◌, refl, arith}
 use Rattle.std.specs.Prelude.{nat_lt, nat_le, is_some}
 use Rattle.std.specs.List.{list_all}
 use Rattle.std.proofs.lemmas.Bool.{ltb-true}
@@ -22,8 +22,9 @@ use Rattle.link_blocks.specs.Laid.{Fits}
 use Rattle.modest_flows.proofs.Frames.{frame_small}
 use Rattle.modest_flows.proofs.Lives.{and_left, and_right}
 use Rattle.modest_flows.specs.Modest.{IsModest}
+use Rattle.placed_code.proofs.Parts.{length_map as mapped}
 
-both : (a b : Bool) → a ≡ true → b ≡ true → (a && b) ≡ true
+pub both : (a b : Bool) → a ≡ true → b ≡ true → (a && b) ≡ true
 both true b e f = f
 both false b e f = cc
 
@@ -96,10 +97,6 @@ module _ (k : ℕ) (few : k ≤ 16) where
 count_small : (bls : List CodeBlock) → length bls ≤ size_of bls
 count_small [] = omega arith
 count_small (bl ∷ bls) = let m = count_small bls in omega (arith, m)
-
-mapped : {A B : Type 0} (f : A → B) (xs : List A) → length (map f xs) ≡ length xs
-mapped f [] = refl
-mapped f (x ∷ xs) = ap suc (mapped f xs)
 
 module _ (k : ℕ) (c : Cut) (sound : AreSound k c.flow c.traces c.outs) (paths : AllTraces c.flow (lists_of c.traces)) (modest : IsModest c.flow) where
   registers_ok : registers_fit c.outs ≡ true

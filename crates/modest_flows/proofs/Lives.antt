@@ -1,22 +1,19 @@
 -- What is live, a parameter or an argument is below the number of values.
-use Rattle.std.proofs.Common.{◌≡◌, ◌⊎◌, ⊎_elim, ℕ, zero, suc, ◌+◌, ◌<◌, ◌≤◌, List, [], ◌∷◌, ◌++◌, length, Bool, true, false, ◌&&◌, ◌||◌, cond, Option, Some, None, refl, arith, sym, ap, ◌∙◌, subst, append_assoc}
-use Rattle.std.specs.Prelude.{slice_get, ◌==◌, nat_lt, option_to_list}
+use Rattle.std.proofs.Common.{◌≡◌, ◌⊎◌, ⊎_elim, ℕ, zero, suc, ◌<◌, List, [], ◌∷◌, length, Bool, true, false, ◌&&◌, cond, Some, refl, ap, subst}
+use Rattle.std.specs.Prelude.{slice_get, ◌==◌}
 use Rattle.std.specs.List.{list_all}
 use Rattle.std.proofs.lemmas.Bool.{eq-eqb}
-use Rattle.block_runs.specs.Blocks.{Operation, CodeBlock, block_at, no_block, end_uses}
-use Rattle.block_runs.specs.declared.end.End.{End}
-use Rattle.block_runs.specs.Live.{has, reads, block_makes, Live, Here, Later}
-use Rattle.block_runs.specs.Valid.{all_below, uses_of, block_reads, made}
+use Rattle.block_runs.specs.Blocks.{CodeBlock, block_at}
+use Rattle.block_runs.specs.Live.{has, block_makes, Live, Here, Later}
+use Rattle.block_runs.specs.Valid.{all_below, block_reads, made}
 use Rattle.global_live.proofs.Lists.{has_front, has_back, all_below_in}
-use Rattle.lir_core.specs.declared.places.Places.{Places}
 use Rattle.lir_core.specs.Flows.{code_nodes}
 use Rattle.lir_core.specs.Spots.{placed, argument_of}
-use Rattle.boundary_resolve.specs.Placing.{start_at, seats_from, seat_of, places_at}
+use Rattle.boundary_resolve.specs.Placing.{start_at}
 use Rattle.boundary_resolve.specs.Edges.{AreSound}
-use Rattle.boundary_resolve.proofs.Between.{sound_in, not_seated}
-use Rattle.trace_build.specs.Cuts.{lists_of, all_nodes}
 use Rattle.linked_flows.specs.Allocations.{Cut}
-use Rattle.linked_flows.proofs.Nodes.{sound_node, traced}
+use Rattle.linked_flows.proofs.Nodes.{sound_node}
+use Rattle.global_live.proofs.Filled.{reads_listed as reads_in}
 
 pub and_left : (a b : Bool) → (a && b) ≡ true → a ≡ true
 and_left true b e = refl
@@ -25,23 +22,6 @@ and_left false b e = cc
 pub and_right : (a b : Bool) → (a && b) ≡ true → b ≡ true
 and_right true b e = e
 and_right false b e = cc
-
--- what is read before it is made is among what a block reads
-reads_in : (ops : List Operation) (end : End) (v : ℕ) → reads ops end v ≡ true → has (uses_of ops ++ end_uses end) v ≡ true
-reads_in [] end v e = e
-reads_in (op ∷ ops) end v e = by_test (has op.uses v) refl e (reads_in ops end v)
-  where
-    after : (b : Bool) → cond b false (reads ops end v) ≡ true → reads ops end v ≡ true
-    after true e = cc
-    after false e = e
-
-    whole : has (uses_of ops ++ end_uses end) v ≡ true → has ((op.uses ++ uses_of ops) ++ end_uses end) v ≡ true
-    whole h = ap (λ xs. has xs v) (append_assoc op.uses (uses_of ops) (end_uses end)) ∙ has_back op.uses (uses_of ops ++ end_uses end) v h
-
-    by_test : (b : Bool) → has op.uses v ≡ b → cond b true (cond (has (option_to_list op.def) v) false (reads ops end v)) ≡ true → (reads ops end v ≡ true → has (uses_of ops ++ end_uses end) v ≡ true)
-        → has (uses_of (op ∷ ops) ++ end_uses end) v ≡ true
-    by_test true h e on = has_front (op.uses ++ uses_of ops) (end_uses end) v (has_front op.uses (uses_of ops) v h)
-    by_test false h e on = whole (on (after (has (option_to_list op.def) v) e))
 
 all_got : (f : CodeBlock → Bool) (bls : List CodeBlock) (b : ℕ) (bl : CodeBlock) → list_all f bls ≡ true → slice_get bls b ≡ Some bl → f bl ≡ true
 all_got f [] b bl e g = cc

@@ -1,6 +1,6 @@
 -- No word of placed procedures names X28: operations name X0 to X15 and their own registers, copies and frames others below X28 or X30 and SP.
 use Rattle.std.proofs.Common.{◌≡◌, ℕ, suc, ◌+◌, ◌-◌, ◌/◌, ◌%◌, ◌<◌, ◌^◌, List, [], ◌∷◌, ◌++◌, map, length, Bool, true, false, Option, Some, None, refl, ap, arith}
-use Rattle.std.specs.Prelude.{◌==◌, nat_lt, not, ◌&&◌, if◌then◌else◌}
+use Rattle.std.specs.Prelude.{◌==◌, nat_lt, not, if◌then◌else◌}
 use Rattle.std.specs.List.{list_all}
 use Rattle.std.proofs.lemmas.Bool.{ltb-true, ne_eqb}
 use Rattle.run_laws.specs.Layers.{spread}
@@ -24,6 +24,7 @@ use Rattle.placed_code.specs.Layout.{cell_width, block_width, proc_width, front_
 use Rattle.link_plan.specs.Parts.{cell_code, parts_code, block_code, front_code, proc_code}
 use Rattle.link_plan.proofs.InTable.{CellLow, CellsLow, BlockLow, ProcLow, AllLow}
 use Rattle.native_laws.specs.Registers.{registers_of, leaves_frame_register}
+use Rattle.ob_types.proofs.Tests.{and_from as both}
 
 ---- By register
 
@@ -38,10 +39,6 @@ AllSpared (n ∷ ns) = Spared n × AllSpared ns
 abbrev pub AllFree : List Instr → Type 0
 AllFree [] = Unit {0}
 AllFree (i ∷ is) = AllSpared (registers_of i) × AllFree is
-
-both : (a b : Bool) → a ≡ true → b ≡ true → (a && b) ≡ true
-both true b e f = f
-both false b e f = cc
 
 spared_by : (ns : List ℕ) → AllSpared ns → list_all (λ n. not (n == 28)) ns ≡ true
 spared_by [] h = refl

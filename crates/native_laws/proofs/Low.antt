@@ -1,54 +1,36 @@
 -- The placed procedures of an image of texts fit instructions.
-use Rattle.std.proofs.Common.{◌≡◌, ℕ, zero, suc, ◌+◌, ◌<◌, ◌≤◌, List, [], ◌∷◌, ◌++◌, map, length, drop, get_or, Bool, true, false, All, refl, sym, subst, ◌∙◌, arith}
+use Rattle.std.proofs.Common.{◌≡◌, ℕ, suc, ◌+◌, ◌<◌, ◌≤◌, List, [], ◌∷◌, map, length, Bool, true, false, All, refl, sym, subst, ◌∙◌, arith}
 use Rattle.std.specs.Prelude.{nat_lt}
 use Rattle.std.proofs.lemmas.Bool.{ltb-true}
 use Rattle.std.proofs.lemmas.Bool.Decides.{nat_tests}
-use Rattle.lir_core.specs.declared.flow.Lir.{Lir}
 use Rattle.lir_core.specs.declared.flow.Node.{Node}
-use Rattle.lir_core.specs.declared.places.Line.{Line}
 use Rattle.lir_core.specs.Flows.{operation_of, code_node, code_nodes, node_at, no_node}
-use Rattle.lir_core.specs.Lines.{names}
 use Rattle.boundary_resolve.specs.Placing.{lines_at, registers_at}
 use Rattle.boundary_resolve.specs.Edges.{AreSound}
 use Rattle.ssa_core.specs.declared.procedure.Proc.{Proc}
 use Rattle.lowered_valid.specs.Modest.{HasFewValues, HasSmallData}
 use Rattle.a64_select.specs.Selected.{selected}
-use Rattle.placed_code.specs.Placed.{Copy, Placed, no_block, block_of}
-use Rattle.placed_code.specs.Claims.{AreRegisters}
-use Rattle.placed_code.specs.Results.{placed, all_placed, placed_block, cells_from, copies_before, lines_behind, homes_of}
+use Rattle.placed_code.specs.Placed.{Placed, no_block, block_of}
+use Rattle.placed_code.specs.Results.{placed, all_placed, placed_block, homes_of}
 use Rattle.placed_code.proofs.Homes.{ranks_within}
 use Rattle.placed_code.proofs.Parts.{length_blocks, all_at, registers_fit}
 use Rattle.linked_flows.specs.Allocations.{Cut, steps_of, part_at, allocated, all_allocated}
 use Rattle.linked_flows.proofs.Edges.{count}
 use Rattle.linked_flows.proofs.Nodes.{sound_node}
-use Rattle.link_blocks.specs.Fits.{number_fits, lirs_fit, trap_fits, node_fits}
+use Rattle.link_blocks.specs.Fits.{lirs_fit, trap_fits, node_fits}
 use Rattle.link_blocks.specs.Laid.{Fits}
-use Rattle.link_blocks.proofs.Flat.{registers_drop, registers_last}
+use Rattle.link_blocks.proofs.Flat.{registers_last}
 use Rattle.link_blocks.proofs.Made.{blocks_of, one_block}
 use Rattle.link_blocks.proofs.Outs.{slots_few}
 use Rattle.link_plan.proofs.Low.{and_left, and_right}
-use Rattle.link_plan.proofs.InTable.{CellLow, CellsLow, BlockLow, ProcLow, AllLow}
+use Rattle.link_plan.proofs.InTable.{BlockLow, ProcLow, AllLow}
 use Rattle.modest_flows.specs.Modest.{IsModest}
 use Rattle.modest_flows.proofs.Fitting.{modest_fits}
 use Rattle.alloc_choice.specs.declared.choice.Choice.{Choice}
 use Rattle.flow_allocation.specs.Allocations.{IsAllocation, AllAllocations}
 use Rattle.native_laws.proofs.Modest.{HasKinds, is_modest}
-
-get_past : {A : Type 0} (xs : List A) (n : ℕ) (d : A) → length xs ≤ n → get_or xs n d ≡ d
-get_past [] n d l = refl
-get_past (x ∷ xs) zero d l = absurd (omega (arith, l))
-get_past (x ∷ xs) (suc n) d l = get_past xs n d (omega (arith, l))
-
--- cells of operations whose numbers fit, with registers below 16
-cells_low : (front : List Copy) (lirs : List Lir) (named : List ℕ) (lines : List Line) → lirs_fit lirs ≡ true → AreRegisters named → CellsLow (cells_from steps_of front (map operation_of lirs) named lines)
-cells_low front [] named lines e fit = tt
-cells_low front (x ∷ lirs) named lines e fit =
-    let one : CellLow (record { copies = front ++ copies_before steps_of lines; op = operation_of x; named = named }) = record {
-      number = and_left (number_fits x.template) (lirs_fit lirs) e;
-      uses = λ i. fit i;
-      def = fit (length x.uses);
-    } in
-    (one, cells_low [] lirs (drop (names (operation_of x)) named) (lines_behind lines) (and_right (number_fits x.template) (lirs_fit lirs) e) (registers_drop (names (operation_of x)) named fit))
+use Rattle.link_plan.proofs.Low.{get_past}
+use Rattle.link_plan.proofs.Low.{cells_low}
 
 no_block_low : BlockLow no_block
 no_block_low = record { cells = tt; a = omega arith; b = omega arith; trap = refl }

@@ -64,7 +64,7 @@ node_same t n l u m k e = cc
 line_same : (t n l u m k : ℕ) → finding.Unsound t n l ≡ finding.Unsound u m k → l ≡ k
 line_same t n l u m k e = cc
 
-not_sound : (t n l : ℕ) → finding.Unsound t n l ≡ finding.Sound → ⊥
+pub not_sound : (t n l : ℕ) → finding.Unsound t n l ≡ finding.Sound → ⊥
 not_sound t n l e = cc
 
 ---- Results

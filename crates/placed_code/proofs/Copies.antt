@@ -15,9 +15,11 @@ use Rattle.a64_machine.proofs.Registers.{read_is, put_same, put_other}
 use Rattle.a64_machine.proofs.Steps.{StandAll, stand_append}
 use Rattle.block_runs.specs.States.{World}
 use Rattle.placed_code.specs.Words.{Where, InReg, InSlot, load_slot, store_slot, move}
-use Rattle.placed_code.proofs.Stack.{held, with_held, held_same, held_apart, Space, slot_lies}
+use Rattle.placed_code.proofs.Stack.{held, with_held, Space, slot_lies}
 use Rattle.placed_code.proofs.Slots.{Plain, At, Passed, gives_does, given, load_does, store_does, passed_append}
 use Rattle.a64_machine.proofs.Numbers.{Numbers}
+use Rattle.a64_memory.proofs.Parts.{held_same}
+use Rattle.a64_memory.proofs.Parts.{held_apart}
 
 -- what stands in a register or a slot
 abbrev pub at_where : Area → ℕ → (ℕ → ℕ) → Where → ℕ

@@ -26,13 +26,15 @@ use Rattle.a64_machine.proofs.Registers.{put_same, put_other}
 use Rattle.a64_machine.proofs.Steps.{Stands, step-at, walks-one, walks-none, place-address, StandAll, stand_append}
 use Rattle.block_runs.specs.States.{World}
 use Rattle.placed_code.specs.Words.{move_word, depth_words, frame_words, count_words, taking, room_words, data_words, local_words}
-use Rattle.placed_code.proofs.Stack.{held, with_held, held_same, held_apart, Space, slot_lies}
+use Rattle.placed_code.proofs.Stack.{held, with_held, Space, slot_lies}
 use Rattle.placed_code.proofs.Slots.{Fixed, fixed_put, stores_does, given, kept}
 use Rattle.a64_machine.proofs.Ways.{Stops, stops_behind, stops_longer, Way, way_none, way_append, way_is}
 use Rattle.placed_code.proofs.Leading.{way_of, next_word, Here, leads, gives_any}
 use Rattle.a64_machine.proofs.Numbers.{Numbers}
 use Rattle.a64_numbers.specs.Moves as mv
 use Rattle.a64_numbers.specs.declared.moves.Move.TheVariants as m
+use Rattle.a64_memory.proofs.Parts.{held_same}
+use Rattle.a64_memory.proofs.Parts.{held_apart}
 
 -- two words behind
 skips_two : (k : ℕ) → k < 2 ^ 18 → branch_to 19 (address_of k) 2 ≡ address_of (k + 2)

@@ -60,7 +60,7 @@ nth (x ∷ xs) (suc n) l = let r = nth xs n (omega (arith, l)) in record { item 
 
 ---- The order of blocks
 
-drop_followed : (none : ℕ) (order : List ℕ) (n b : ℕ) (rest : List ℕ) → drop n order ≡ b ∷ rest → drop n (followed none order) ≡ record { number = b; next = first_of none rest } ∷ followed none rest
+pub drop_followed : (none : ℕ) (order : List ℕ) (n b : ℕ) (rest : List ℕ) → drop n order ≡ b ∷ rest → drop n (followed none order) ≡ record { number = b; next = first_of none rest } ∷ followed none rest
 drop_followed none [] zero b rest e = cc
 drop_followed none [] (suc n) b rest e = cc
 drop_followed none (c ∷ cs) zero b rest e = let same : c ≡ b = cc in let others : cs ≡ rest = cc in ap₂ (λ (x : ℕ) (xs : List ℕ). record { number = x; next = first_of none xs } ∷ followed none xs) same others
@@ -72,7 +72,7 @@ drop_past none [] (suc n) e = refl
 drop_past none (c ∷ cs) zero e = cc
 drop_past none (c ∷ cs) (suc n) e = drop_past none cs n e
 
-length_followed : (none : ℕ) (order : List ℕ) → length (followed none order) ≡ length order
+pub length_followed : (none : ℕ) (order : List ℕ) → length (followed none order) ≡ length order
 length_followed none [] = refl
 length_followed none (c ∷ cs) = ap suc (length_followed none cs)
 
@@ -93,7 +93,7 @@ drop_long [] (suc n) l = refl
 drop_long (x ∷ xs) zero l = absurd (omega (arith, l))
 drop_long (x ∷ xs) (suc n) l = drop_long xs n (omega (arith, l))
 
-drop_lt : {A : Type 0} (xs : List A) (n : ℕ) (x : A) (rest : List A) → drop n xs ≡ x ∷ rest → n < length xs
+pub drop_lt : {A : Type 0} (xs : List A) (n : ℕ) (x : A) (rest : List A) → drop n xs ≡ x ∷ rest → n < length xs
 drop_lt [] zero x rest e = cc
 drop_lt [] (suc n) x rest e = cc
 drop_lt (y ∷ ys) zero x rest e = omega arith
@@ -157,7 +157,7 @@ last_block_wide pr lands j (b ∷ (c ∷ cs)) = last_block_wide pr lands (suc j)
 
 ---- The modules' bodies
 
-length_start : (e : ℕ → ℕ) (k : ℕ) (bs : List ℕ) → length (start_words e k bs) ≡ suc (length bs)
+pub length_start : (e : ℕ → ℕ) (k : ℕ) (bs : List ℕ) → length (start_words e k bs) ≡ suc (length bs)
 length_start e k [] = refl
 length_start e k (b ∷ bs) = ap suc (length_start e (suc k) bs)
 

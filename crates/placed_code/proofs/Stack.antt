@@ -1,5 +1,5 @@
 -- The stack: one area of the machine's memory, of which the flows' memory knows nothing.
-use Rattle.std.proofs.Common.{◌≡◌, ℕ, zero, suc, get_or, Option, ◌+◌, ◌*◌, ◌<◌, ◌≤◌, ◌%◌, ◌^◌, ◌⊎◌, List, [], ◌∷◌, ◌++◌, length, Bool, true, false, ◌||◌, cond, Some, None, refl, arith, sym, ap, ◌∙◌, subst, w64, lit<}
+use Rattle.std.proofs.Common.{◌≡◌, ℕ, zero, suc, get_or, Option, ◌+◌, ◌*◌, ◌<◌, ◌≤◌, ◌%◌, ◌^◌, List, [], ◌∷◌, ◌++◌, length, Bool, true, false, cond, Some, None, refl, arith, sym, ap, ◌∙◌, subst, w64, lit<}
 use Rattle.std.specs.Int.{from_le_bytes, to_le_bytes}
 use Rattle.std.proofs.lemmas.Bool.Decides.{nat_tests}
 use Rattle.a64_memory.specs.Memory.{Area, lies, covers, bytes_at, written, with_bytes, loaded1, loaded8, stored1, stored8, load1, load8, store1, store8, IsRising}
@@ -8,7 +8,7 @@ use Rattle.a64_memory.specs.Areas.{frames_base, frames_bytes}
 use Rattle.a64_memory.specs.Texts.{Text, Bytes, Outside, before, text_with, text_at}
 use Rattle.placed_code.specs.Words.{most_frame}
 use Rattle.a64_memory.proofs.Stores.{length-written, rising-with_bytes}
-use Rattle.a64_memory.proofs.Cells.{loaded8-stored8_same, loaded8-stored8_apart, rising-stored8}
+use Rattle.a64_memory.proofs.Cells.{rising-stored8}
 use Rattle.a64_memory.proofs.Beside.{covers_among, bytes_among, store_among, covers_beside, bytes_beside, store_beside, in_area, not_in_area}
 
 -- the number at an address of the stack, and the stack with another number there
@@ -20,12 +20,6 @@ with_held s p v = written s p (to_le_bytes w64 v)
 
 one_area : (s : Area) (p v : ℕ) → lies s p 8 ≡ true → with_held s p v ∷ [] ≡ stored8 (s ∷ []) p v
 one_area s p v h = sym (ap (λ b. cond b (written s p (to_le_bytes w64 v) ∷ []) (s ∷ [])) h)
-
-pub held_same : (s : Area) (p v : ℕ) → lies s p 8 ≡ true → v < 2 ^ 64 → held (with_held s p v) p ≡ v
-held_same s p v h small = ap (λ (m : List Area). loaded8 m p) (one_area s p v h) ∙ loaded8-stored8_same (s ∷ []) p v (ap (λ b. b || false) h) small
-
-pub held_apart : (s : Area) (p v q : ℕ) → lies s p 8 ≡ true → (q + 8 ≤ p) ⊎ (p + 8 ≤ q) → held (with_held s p v) q ≡ held s q
-held_apart s p v q h d = ap (λ (m : List Area). loaded8 m q) (one_area s p v h) ∙ loaded8-stored8_apart (s ∷ []) p v q d
 
 -- the flows' memory, and the machine's, which is the same with the stack among its areas
 pub record Memories (flows : List Area) (s : Area) (machine : List Area) : Type 0 where

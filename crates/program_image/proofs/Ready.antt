@@ -1,5 +1,5 @@
 -- Lowered procedures, where they are short, are what the back end takes.
-use Rattle.std.proofs.Common.{◌≡◌, ℕ, zero, suc, ◌≤◌, List, [], ◌∷◌, Bool, true, false, ◌&&◌, None, refl, sym, ap, ◌∙◌, arith}
+use Rattle.std.proofs.Common.{◌≡◌, ℕ, zero, suc, ◌≤◌, List, [], ◌∷◌, Bool, true, None, sym, ap, ◌∙◌, arith}
 use Rattle.std.specs.Prelude.{All, nat_le}
 use Rattle.std.specs.List.{list_all}
 use Rattle.std.proofs.lemmas.Bool.Decides.{nat_tests}
@@ -15,10 +15,10 @@ use Rattle.ssa_lowered.specs.Limits.{limit_of}
 use Rattle.ssa_lowered.specs.Lowered.{lowered}
 use Rattle.lowered_valid.specs.Claims.{IsShort, IsNarrow, CanBeLowered}
 use Rattle.lowered_valid.proofs.Valid.{valid_all, bare_all}
-use Rattle.lowered_valid.proofs.Modest.{all_few, all_small}
+use Rattle.lowered_valid.proofs.Modest.{all_small}
 use Rattle.program_image.specs.Sizes.{is_short}
 use Rattle.link_plan.proofs.Low.{and_left, and_right}
-use Rattle.back_end.specs.Images.{IsReady, HasFewValues}
+use Rattle.back_end.specs.Images.{IsReady}
 
 ---- Short procedures
 
@@ -52,6 +52,3 @@ module _ (p : Program) (fine : well_formed p ≡ true) (none : limit_of p ≡ No
   ready k d l =
       let small = all_small p fine none k d l in
       record { valid = valid k d l; local_data = (small.cells, small.bytes); body = bare_all p (layout p.types) fine k d l }
-
-pub few_values : (p : Program) → limit_of p ≡ None → All HasFewValues (lowered p)
-few_values p none = all_few p none

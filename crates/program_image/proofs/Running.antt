@@ -36,12 +36,9 @@ use Rattle.compiled_runs.proofs.Whole.{means}
 use Rattle.program_image.specs.Images.{IsProgramImage, DoesAsMeant}
 use Rattle.program_image.proofs.Ready.{valid}
 use Rattle.program_image.proofs.Fitting.{room, near}
+use Rattle.lowered_runs.proofs.Samples.{each_bytes}
 
 ---- Constants are bytes
-
-each_bytes : {A : Type 0} (f : A → List ℕ) → ((x : A) → AreBytes (f x)) → (xs : List A) → AreBytes (flat_map f xs)
-each_bytes f are [] = no_bytes
-each_bytes f are (x ∷ xs) = append_bytes (f x) (flat_map f xs) (are x) (each_bytes f are xs)
 
 module _ (p : Program) where
   abbrev l : Layout

@@ -1,44 +1,16 @@
 -- What blocks read before they make it.
-use Rattle.std.proofs.Common.{◌≡◌, ℕ, ◌<◌, ◌≤◌, Bool, true, false, cond, List, [], ◌∷◌, ◌++◌, length, refl, sym, ap, ◌∙◌, inl, inr, ◌⊎◌, append_assoc}
-use Rattle.std.specs.Prelude.{option_to_list}
+use Rattle.std.proofs.Common.{◌≡◌, ℕ, ◌<◌, ◌≤◌, Bool, true, false, List, length, refl, ap, ◌∙◌, inl, inr, ◌⊎◌}
 use Rattle.std.proofs.lemmas.List.{get_or_past}
 use Rattle.std.proofs.lemmas.Option.{get_or_from_slice_get, slice_get-get_or}
 use Rattle.std.proofs.lemmas.Bool.{cases_lt}
-use Rattle.block_runs.specs.Blocks.{Operation, CodeBlock, block_at, no_block, end_uses, successors}
-use Rattle.block_runs.specs.declared.end.End.{End}
+use Rattle.block_runs.specs.Blocks.{CodeBlock, block_at, no_block, successors}
 use Rattle.block_runs.specs.Live.{has, block_makes, defs_of, reads, Live}
 use Rattle.block_runs.specs.Live.Live.{Here, Later}
-use Rattle.block_runs.specs.Valid.{uses_of, block_reads}
-use Rattle.global_live.proofs.Lists.{has_front, has_back, not_in_front, not_in_back, in_parts}
+use Rattle.block_runs.specs.Valid.{block_reads}
+use Rattle.global_live.proofs.Lists.{not_in_front, not_in_back}
 use Rattle.ssa_valid.specs.Search.{makes, reads_in, leads}
-
--- what is read and isn't made is read before it is made
-pub reads_unmade : (ops : List Operation) (end : End) (v : ℕ) → has (uses_of ops ++ end_uses end) v ≡ true → has (defs_of ops) v ≡ false → reads ops end v ≡ true
-reads_unmade [] end v h u = h
-reads_unmade (op ∷ ops) end v h u = at_test (has op.uses v) refl (reads_unmade ops end v)
-  where
-    unmade : has (option_to_list op.def) v ≡ false
-    unmade = not_in_front (option_to_list op.def) (defs_of ops) v u
-
-    rest : has op.uses v ≡ false → ◌⊎◌ (has op.uses v ≡ true) (has (uses_of ops ++ end_uses end) v ≡ true) → has (uses_of ops ++ end_uses end) v ≡ true
-    rest e (inl t) = let z : true ≡ false = sym t ∙ e in cc
-    rest e (inr t) = t
-
-    at_test : (b : Bool) → has op.uses v ≡ b → (has (uses_of ops ++ end_uses end) v ≡ true → has (defs_of ops) v ≡ false → reads ops end v ≡ true) → cond b true (cond (has (option_to_list op.def) v) false (reads ops end v)) ≡ true
-    at_test true e on = refl
-    at_test false e on =
-        ap (λ c. cond c false (reads ops end v)) unmade
-        ∙ on (rest e (in_parts op.uses (uses_of ops ++ end_uses end) v (ap (λ xs. has xs v) (sym (append_assoc op.uses (uses_of ops) (end_uses end))) ∙ h))) (not_in_back (option_to_list op.def) (defs_of ops) v u)
-
--- what is read before it is made is read
-pub reads_listed : (ops : List Operation) (end : End) (v : ℕ) → reads ops end v ≡ true → has (uses_of ops ++ end_uses end) v ≡ true
-reads_listed [] end v h = h
-reads_listed (op ∷ ops) end v h = ap (λ xs. has xs v) (append_assoc op.uses (uses_of ops) (end_uses end)) ∙ at_test (has op.uses v) refl (has (option_to_list op.def) v) (reads_listed ops end v) h
-  where
-    at_test : (b : Bool) → has op.uses v ≡ b → (c : Bool) → (reads ops end v ≡ true → has (uses_of ops ++ end_uses end) v ≡ true) → cond b true (cond c false (reads ops end v)) ≡ true → has (op.uses ++ (uses_of ops ++ end_uses end)) v ≡ true
-    at_test true e c on h = has_front op.uses (uses_of ops ++ end_uses end) v e
-    at_test false e true on h = cc
-    at_test false e false on h = has_back op.uses (uses_of ops ++ end_uses end) v (on h)
+use Rattle.global_live.proofs.Filled.{reads_unmade}
+use Rattle.global_live.proofs.Filled.{reads_listed}
 
 -- a block that makes, reads or leads is there
 pub there : (p : CodeBlock → Bool) (bls : List CodeBlock) (n : ℕ) → p no_block ≡ false → p (block_at bls n) ≡ true → n < length bls

@@ -1,5 +1,5 @@
 -- What the tables have.
-use Rattle.std.proofs.Common.{◌≡◌, ◌≢◌, ℕ, zero, suc, ◌+◌, ◌<◌, ◌≤◌, ◌==◌, Bool, true, false, ◌&&◌, ◌||◌, cond, List, [], ◌∷◌, ◌++◌, length, get_or, replicate, map, drop, refl, sym, ap, ◌∙◌, subst, arith, ◌↔◌}
+use Rattle.std.proofs.Common.{◌≡◌, ◌≢◌, ℕ, zero, suc, ◌+◌, ◌<◌, ◌==◌, Bool, true, false, ◌&&◌, ◌||◌, cond, List, [], ◌∷◌, ◌++◌, length, get_or, replicate, map, drop, refl, sym, ap, ◌∙◌, subst, arith, ◌↔◌}
 use Rattle.std.specs.Prelude.{if◌then◌else◌}
 use Rattle.std.specs.Prelude.{slice_index, IsTrue, EachIndex}
 use Rattle.std.proofs.Math.ListN.{set}
@@ -11,93 +11,14 @@ use Rattle.block_runs.specs.Valid.{made, times, uses_of}
 use Rattle.ssa_core.specs.declared.procedure.Op.{Op}
 use Rattle.ssa_core.specs.declared.procedure.Block.{Block}
 use Rattle.ssa_core.specs.Procedures.{operation_of, code_block, code_blocks}
-use Rattle.global_live.proofs.Lists.{has-append, times-append, times_of_in, times_of_out}
-use Rattle.ssa_valid.specs.Tables.{row_at, noted, noted_from, made_in, makers_from, one_more, tallied}
+use Rattle.global_live.proofs.Lists.{has-append}
+use Rattle.ssa_valid.specs.Tables.{row_at, noted, noted_from, makers_from, one_more, tallied}
 use Rattle.ssa_valid.specs.Search.{makes}
+use Rattle.global_live.proofs.Tables.{length-makers_from}
+use Rattle.global_live.proofs.Tables.{makers_from-at}
+use Rattle.global_live.proofs.Tables.{made_somewhere}
 
 ---- Makers
-
-pub made_in-append : (n : ℕ) (xs ys makers : List ℕ) → made_in n (xs ++ ys) makers ≡ made_in n ys (made_in n xs makers)
-made_in-append n [] ys makers = refl
-made_in-append n (x ∷ xs) ys makers = made_in-append n xs ys (set makers x n)
-
-length-made_in : (n : ℕ) (vs makers : List ℕ) → length (made_in n vs makers) ≡ length makers
-length-made_in n [] makers = refl
-length-made_in n (v ∷ vs) makers = length-made_in n vs (set makers v n) ∙ length-set makers v n
-
-pub length-makers_from : (n : ℕ) (bls : List CodeBlock) (makers : List ℕ) → length (makers_from n bls makers) ≡ length makers
-length-makers_from n [] makers = refl
-length-makers_from n (bl ∷ bls) makers = length-makers_from (suc n) bls (made_in n (block_makes bl) makers) ∙ length-made_in n (block_makes bl) makers
-
--- what isn't made here keeps its node
-made_elsewhere : (n : ℕ) (vs makers : List ℕ) (w : ℕ) → has vs w ≡ false → slice_index (made_in n vs makers) w ≡ slice_index makers w
-made_elsewhere n [] makers w h = refl
-made_elsewhere n (v ∷ vs) makers w h = at_test (v == w) refl (made_elsewhere n vs (set makers v n) w) h
-  where
-    at_test : (b : Bool) → (v == w) ≡ b → (has vs w ≡ false → slice_index (made_in n vs (set makers v n)) w ≡ slice_index (set makers v n) w) → cond b true (has vs w) ≡ false → slice_index (made_in n vs (set makers v n)) w ≡ slice_index makers w
-    at_test true e on h = cc
-    at_test false e on h =
-        let d : w ≢ v = λ (q : w ≡ v). let t = eq-eqb v w (sym q) in let f : true ≡ false = sym t ∙ e in cc in
-        on h ∙ get_or-set_other makers v w n 0 d
-
--- what is made here has this node
-made_here : (n : ℕ) (vs makers : List ℕ) (w : ℕ) → w < length makers → has vs w ≡ true → slice_index (made_in n vs makers) w ≡ n
-made_here n [] makers w lt h = cc
-made_here n (v ∷ vs) makers w lt h = at_test (has vs w) refl (made_here n vs (set makers v n) w (subst (λ k. w < k) (sym (length-set makers v n)) lt))
-  where
-    first : has vs w ≡ false → v ≡ w
-    first e = eqb-true v w (by (v == w) refl h)
-      where
-        by : (b : Bool) → (v == w) ≡ b → cond b true (has vs w) ≡ true → (v == w) ≡ true
-        by true q h = q
-        by false q h = cc
-
-    at_test : (b : Bool) → has vs w ≡ b → (has vs w ≡ true → slice_index (made_in n vs (set makers v n)) w ≡ n) → slice_index (made_in n vs (set makers v n)) w ≡ n
-    at_test true e on = on e
-    at_test false e on =
-        let a = first e in
-        let lt' : v < length makers = omega (arith, a) in
-        made_elsewhere n vs (set makers v n) w e ∙ ap (λ i. get_or (set makers v n) i 0) (sym a) ∙ get_or-set_same makers v n 0 lt'
-
-not_in : (xs : List ℕ) (v : ℕ) → times xs v ≡ 0 → has xs v ≡ false
-not_in xs v h = at_test (has xs v) refl
-  where
-    at_test : (b : Bool) → has xs v ≡ b → has xs v ≡ false
-    at_test true e = let a = times_of_in xs v e in absurd (omega arith)
-    at_test false e = e
-
-unmade : (n : ℕ) (bls : List CodeBlock) (makers : List ℕ) (w : ℕ) → times (made bls) w ≡ 0 → slice_index (makers_from n bls makers) w ≡ slice_index makers w
-unmade n [] makers w h = refl
-unmade n (bl ∷ bls) makers w h =
-    let t = times-append (block_makes bl) (made bls) w in
-    unmade (suc n) bls (made_in n (block_makes bl) makers) w (omega arith) ∙ made_elsewhere n (block_makes bl) makers w (not_in (block_makes bl) w (omega arith))
-
--- the table has the node that makes a value
-makers_from-at : (n : ℕ) (bls : List CodeBlock) (makers : List ℕ) (k w : ℕ) → w < length makers → has (block_makes (block_at bls k)) w ≡ true → times (made bls) w ≤ 1 → slice_index (makers_from n bls makers) w ≡ n + k
-makers_from-at n [] makers k w lt h once = cc
-makers_from-at n (bl ∷ bls) makers zero w lt h once =
-    let t = times-append (block_makes bl) (made bls) w in
-    let i = times_of_in (block_makes bl) w h in
-    let a : slice_index (makers_from (suc n) bls (made_in n (block_makes bl) makers)) w ≡ n = unmade (suc n) bls (made_in n (block_makes bl) makers) w (omega arith) ∙ made_here n (block_makes bl) makers w lt h in
-    omega arith
-makers_from-at n (bl ∷ bls) makers (suc k) w lt h once =
-    let t = times-append (block_makes bl) (made bls) w in
-    let e = length-made_in n (block_makes bl) makers in
-    let a = makers_from-at (suc n) bls (made_in n (block_makes bl) makers) k w (omega arith) h (omega arith) in
-    omega (arith, a)
-
--- a value that is made is made in a block
-made_somewhere : (bls : List CodeBlock) (w : ℕ) → 0 < times (made bls) w → (k : ℕ) × (has (block_makes (block_at bls k)) w ≡ true)
-made_somewhere [] w h = absurd (omega arith)
-made_somewhere (bl ∷ bls) w h = at_test (has (block_makes bl) w) refl (made_somewhere bls w)
-  where
-    at_test : (b : Bool) → has (block_makes bl) w ≡ b → (0 < times (made bls) w → (k : ℕ) × (has (block_makes (block_at bls k)) w ≡ true)) → (k : ℕ) × (has (block_makes (block_at (bl ∷ bls) k)) w ≡ true)
-    at_test true e on = (0, e)
-    at_test false e on =
-        let t = times-append (block_makes bl) (made bls) w in
-        let z = times_of_out (block_makes bl) w e in
-        let r = on (omega arith) in
-        (suc r.0, r.1)
 
 -- the table says of each block whether it makes a value that is made once
 pub makers_are : (bls : List CodeBlock) (values n v : ℕ) → v < values → times (made bls) v ≡ 1 → (slice_index (makers_from 0 bls (replicate values 0)) v == n) ≡ makes bls n v

@@ -17,10 +17,11 @@ use Rattle.ssa_valid.specs.Tables.{makers_from}
 use Rattle.ssa_valid.specs.Order.{is_stamped, all_in_order}
 use Rattle.ssa_valid.specs.Search.{makes, AreKnown, IsFree, Decides}
 use Rattle.ssa_valid.proofs.Tables.{makers_are, length-makers}
-use Rattle.ssa_valid.proofs.Reading.{there, reads_listed}
+use Rattle.ssa_valid.proofs.Reading.{there}
 use Rattle.ssa_valid.proofs.Ordered.{IsOrdered, AreInside, all_ordered_to, all_ordered_from}
 use Rattle.ssa_valid.proofs.Exploring.{unstamped}
 use Rattle.ssa_valid.proofs.Formed.{Parts, Form, formed_to, formed_from}
+use Rattle.global_live.proofs.Filled.{reads_listed}
 
 -- what a block makes is made
 times_at : (bls : List CodeBlock) (j v : ℕ) → times (block_makes (block_at bls j)) v ≤ times (made bls) v

@@ -4,10 +4,10 @@ use Rattle.std.specs.Prelude.{◌==◌, nat_lt, nat_le, slice_index}
 use Rattle.std.proofs.lemmas.Bool.Decides.{nat_tests}
 use Rattle.block_runs.specs.Live.{has}
 use Rattle.block_runs.specs.Valid.{times}
-use Rattle.global_live.proofs.Lists.{times_of_in}
 use Rattle.trace_needs.specs.Needs.{Position, first_need, latest_mention}
 use Rattle.trace_needs.specs.Asked.{first_from, last_below, IsRising}
 use Rattle.trace_needs.proofs.Joining.{repeated}
+use Rattle.global_live.proofs.Tables.{not_in as lacks}
 
 pub le_test : (a b : ℕ) → a ≤ b → nat_le a b ≡ true
 le_test a b h = grind (arith, nat_tests)
@@ -30,13 +30,6 @@ has_of_times (x ∷ xs) v n e = at_test (x == v) e (has_of_times xs v n)
     at_test : (b : Bool) → cond b (suc (times xs v)) (times xs v) ≡ suc n → (times xs v ≡ suc n → has xs v ≡ true) → cond b true (has xs v) ≡ true
     at_test true e on = refl
     at_test false e on = on e
-
-lacks : (xs : List ℕ) (v : ℕ) → times xs v ≡ 0 → has xs v ≡ false
-lacks xs v e = at_test (has xs v) refl
-  where
-    at_test : (b : Bool) → has xs v ≡ b → b ≡ false
-    at_test false h = refl
-    at_test true h = let a = times_of_in xs v h in absurd (omega (arith, a, e))
 
 module _ (v : ℕ) where
   -- all of a row's numbers are behind the limit

@@ -1,5 +1,5 @@
 -- Files come to one thing, where what is held is told.
-use Rattle.std.proofs.Common.{◌≡◌, ◌<◌, ◌⊎◌, ℕ, zero, suc, List, [], ◌∷◌, length, take, Option, Some, None, refl, ap, ap₂, ◌∙◌, subst, arith, inl, inr}
+use Rattle.std.proofs.Common.{◌≡◌, ◌<◌, ◌⊎◌, ℕ, zero, suc, List, [], ◌∷◌, length, take, Some, None, refl, ap, ap₂, ◌∙◌, subst, arith, inl, inr}
 use Rattle.std.specs.Prelude.{slice_get}
 use Rattle.outside.specs.Files.{Held}
 use Rattle.trc_answers.specs.Reading.{most_bytes, IsRead, AreRead, AreTextsOf, IsReached, FilesComeTo, AreTooMany, LacksOne, HasALongOne, HaveTexts}
@@ -7,12 +7,8 @@ use Rattle.trc_answers.specs.Verdict.{Verdict, Refuses}
 use Rattle.trc_answers.specs.declared.causes.Cause.TheVariants.{NoSuchFile, Limit}
 use Rattle.trc_cli.specs.Laws.{Alike}
 use Rattle.trc_cli.proofs.Same.{both, two}
-
-some_is : {A : Type 0} (x y : A) (o : Option A) → o ≡ Some x → o ≡ Some y → x ≡ y
-some_is x y o e f = cc
-
-some_none : {A : Type 0} (x : A) (o : Option A) → o ≡ Some x → o ≡ None → ⊥
-some_none x o e f = cc
+use Rattle.batch_jobs.proofs.Once.{some_is}
+use Rattle.batch_jobs.proofs.Once.{some_none}
 
 module _ (held : Held) where
   -- the file of this name isn't there, or is too long

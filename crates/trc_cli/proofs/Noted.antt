@@ -35,6 +35,7 @@ use Rattle.trc_answers.specs.Verdict.{Verdict, Refuses, WritesBoth, Accepts, IsM
 use Rattle.trc_words.specs.Asked.{Build}
 use Rattle.trc_cli.specs.Commands.{ComesTo}
 use Rattle.trc_cli.proofs.FilesOnce.{texts_there}
+use Rattle.note_commands.proofs.Once.{not_sound}
 
 not_refused : (a x b y : List ℕ) (c : Cause) → WritesBoth a x b y ≡ Refuses c → ⊥
 not_refused a x b y c e = cc
@@ -44,9 +45,6 @@ same_image a x y b m n e = cc
 
 same_notes : (a x y b m n : List ℕ) → WritesBoth a x b m ≡ WritesBoth a y b n → m ≡ n
 same_notes a x y b m n e = cc
-
-not_sound : (t n l : ℕ) → finding.Unsound t n l ≡ finding.Sound → ⊥
-not_sound t n l e = cc
 
 held_same : (xs ys : List ℕ) (o : Option (List ℕ)) → o ≡ Some xs → o ≡ Some ys → ys ≡ xs
 held_same xs ys o e f = cc

@@ -4,7 +4,7 @@ use Rattle.std.specs.Prelude.{◌==◌, nat_lt, slice_get, filter, option_to_lis
 use Rattle.std.specs.List.{list_all, list_any}
 use Rattle.std.proofs.lemmas.Bool.{eqb-true, eq-eqb, ltb-true}
 use Rattle.std.proofs.lemmas.Option.{slice_get-get_or, get_or_from_slice_get}
-use Rattle.std.proofs.lemmas.List.{append_assoc, map_more, take_all, length-map, length-replicate, get_or-map}
+use Rattle.std.proofs.lemmas.List.{map_more, take_all, length-map, length-replicate, get_or-map}
 use Rattle.run_laws.specs.Layers.{places_from}
 use Rattle.block_runs.specs.declared.end.End.{End}
 use Rattle.block_runs.specs.Blocks.{Operation, CodeBlock, block_at, no_block, end_uses, successors}
@@ -32,6 +32,7 @@ use Rattle.global_live.proofs.Tables.{at_block, has_places}
 use Rattle.simple_policies.specs.plain.Plain.{picked, in_homes, is_at_start, is_at_end, plain_start, plain_end, node_lines, node_regs, plain_of, InFlow}
 use Rattle.simple_policies.proofs.plain.Walked.{walks}
 use Rattle.simple_policies.proofs.plain.Fitting.{parts, AreFit, all_fit, slots_at}
+use Rattle.global_live.proofs.Filled.{reads_listed as reads_in}
 
 ---- Picked values
 
@@ -134,19 +135,6 @@ reads_at_end (op ∷ ops) end v h off = at_use (λ k. reads_at_end ops end v h k
     at_use : (has (defs_of ops) v ≡ false → reads ops end v ≡ true) → (b : Bool) → cond b true (cond (has (option_to_list op.def) v) false (reads ops end v)) ≡ true
     at_use on true = refl
     at_use on false = ap (λ b. cond b false (reads ops end v)) off_both.0 ∙ on off_both.1
-
--- what is read before it is made is read
-reads_in : (ops : List Operation) (end : End) (v : ℕ) → reads ops end v ≡ true → has (uses_of ops ++ end_uses end) v ≡ true
-reads_in [] end v h = h
-reads_in (op ∷ ops) end v h = ap (λ xs. has xs v) (append_assoc op.uses (uses_of ops) (end_uses end)) ∙ at_use (has op.uses v) refl h (λ k. reads_in ops end v k)
-  where
-    at_def : (c : Bool) → cond c false (reads ops end v) ≡ true → reads ops end v ≡ true
-    at_def true h = cc
-    at_def false h = h
-
-    at_use : (b : Bool) → has op.uses v ≡ b → cond b true (cond (has (option_to_list op.def) v) false (reads ops end v)) ≡ true → (reads ops end v ≡ true → has (uses_of ops ++ end_uses end) v ≡ true) → has (op.uses ++ (uses_of ops ++ end_uses end)) v ≡ true
-    at_use true e h on = has_front op.uses (uses_of ops ++ end_uses end) v e
-    at_use false e h on = has_back op.uses (uses_of ops ++ end_uses end) v (on (at_def (has (option_to_list op.def) v) h))
 
 made_in : (bls : List CodeBlock) (n v : ℕ) → n < length bls → has (block_makes (block_at bls n)) v ≡ true → has (made bls) v ≡ true
 made_in [] n v l h = absurd (omega (arith, l))

@@ -16,10 +16,15 @@ use Rattle.lir_core.specs.declared.places.Line.TheVariants.{Load, Target}
 use Rattle.lir_core.specs.declared.places.Line.TheVariants.{Lir as Does}
 use Rattle.lir_core.specs.Flows.{operation_of}
 use Rattle.lir_core.specs.Spots.{Spot, reg, home, out, target, saved, same, spot, source, get, view_of}
-use Rattle.parallel_move.proofs.Sequence.{same_is, same_self}
+use Rattle.parallel_move.proofs.Sequence.{same_self}
 use Rattle.lir_core.specs.Lines.{is_aimed, arguments, argument_spot, argument_spots, use_spots, one_def, names, def_spot, end_reads, IsFree, AreDistinct, Room, AllBelow, argument_place}
 use Rattle.lir_core.specs.Walks.{Walker, kept, left, without, defined, perform, after, walk, Can, Taken, AllTaken, Passes, begin, Finishes, Walks}
 use Rattle.simple_policies.specs.plain.Plain.{in_homes, index_of, load_of, with_load, loads, load_regs, argument_moves, aiming, passing, call_lines, stores, def_regs, reading_lines, lir_lines, lir_regs, lirs_lines, lirs_regs}
+use Rattle.loc_state.proofs.Numbers.{map_map as map-map}
+use Rattle.loc_state.proofs.Calling.{home_apart}
+use Rattle.loc_state.proofs.Calling.{target_apart}
+use Rattle.loc_state.proofs.Calling.{place_spot}
+use Rattle.loc_state.proofs.Calling.{spots_apart}
 
 ---- Walks in parts
 
@@ -157,13 +162,6 @@ module _ (room : Room) (ops : List Operation) where
 
 ---- Arguments
 
-place_spot : (i : ℕ) → spot (argument_place i) ≡ argument_spot i
-place_spot zero = refl
-place_spot (suc zero) = refl
-place_spot (suc (suc zero)) = refl
-place_spot (suc (suc (suc zero))) = refl
-place_spot (suc (suc (suc (suc i)))) = refl
-
 -- the number of an argument by its spot
 number : Spot → ℕ
 number (reg r) = r
@@ -179,27 +177,6 @@ number_is (suc zero) = refl
 number_is (suc (suc zero)) = refl
 number_is (suc (suc (suc zero))) = refl
 number_is (suc (suc (suc (suc i)))) = refl
-
-spots_apart : (i j : ℕ) → i ≢ j → same (argument_spot i) (argument_spot j) ≡ false
-spots_apart i j ne = at_test (same (argument_spot i) (argument_spot j)) refl
-  where
-    at_test : (b : Bool) → same (argument_spot i) (argument_spot j) ≡ b → b ≡ false
-    at_test false e = refl
-    at_test true e = absurd (ne (sym (number_is i) ∙ ap number (same_is (argument_spot i) (argument_spot j) e) ∙ number_is j))
-
-home_apart : (v j : ℕ) → same (home v) (argument_spot j) ≡ false
-home_apart v zero = refl
-home_apart v (suc zero) = refl
-home_apart v (suc (suc zero)) = refl
-home_apart v (suc (suc (suc zero))) = refl
-home_apart v (suc (suc (suc (suc j)))) = refl
-
-target_apart : (j : ℕ) → same target (argument_spot j) ≡ false
-target_apart zero = refl
-target_apart (suc zero) = refl
-target_apart (suc (suc zero)) = refl
-target_apart (suc (suc (suc zero))) = refl
-target_apart (suc (suc (suc (suc j)))) = refl
 
 free : (us : List ℕ) (i j : ℕ) → i < j → IsFree (spot (argument_place i)) (argument_moves j us)
 free [] i j l = tt
@@ -264,10 +241,6 @@ pub record IsFit (room : Room) (x : Lir) : Type 0 where
   pub few : x.call ≡ false → length x.uses ≤ 3
   pub aimed : is_aimed x.template ≡ true → 0 < length x.uses
   pub slots : x.call ≡ true → length (arguments (operation_of x)) ≤ 4 + room.slots
-
-map-map : {A B C : Type 0} (f : B → C) (g : A → B) (xs : List A) → map f (map g xs) ≡ map (λ x. f (g x)) xs
-map-map f g [] = refl
-map-map f g (x ∷ xs) = ap (λ y. f (g x) ∷ y) (map-map f g xs)
 
 take_front : {A : Type 0} (xs ys : List A) (n : ℕ) → length xs ≡ n → take n (xs ++ ys) ≡ xs
 take_front [] ys zero e = refl

@@ -1,5 +1,5 @@
 -- The walk by names accepts trivial results.
-use Rattle.std.proofs.Common.{◌≡◌, ◌≢◌, ℕ, zero, suc, ◌+◌, ◌<◌, ◌≤◌, Bool, true, false, ◌&&◌, cond, List, [], ◌∷◌, ◌++◌, map, filter, length, replicate, get_or, Option, Some, None, refl, sym, ap, ◌∙◌, subst, arith, ◌⊎◌, inl, inr}
+use Rattle.std.proofs.Common.{◌≡◌, ℕ, zero, suc, ◌<◌, true, ◌&&◌, List, [], ◌∷◌, map, filter, length, replicate, get_or, Option, Some, None, refl, sym, ap, ◌∙◌, subst, arith, ◌⊎◌, inl, inr}
 use Rattle.std.specs.Prelude.{slice_get}
 use Rattle.std.proofs.lemmas.List.{length-map, length-replicate}
 use Rattle.std.proofs.lemmas.Bool.{and_parts}
@@ -7,16 +7,16 @@ use Rattle.std.proofs.lemmas.Option.{slice_get-map, get_or_from_slice_get}
 use Rattle.run_laws.specs.Layers.{places_from}
 use Rattle.block_runs.specs.Blocks.{CodeBlock, block_at, no_block, end_uses}
 use Rattle.block_runs.specs.declared.end.End.TheVariants.{Jump}
-use Rattle.block_runs.specs.Live.{has, defs_of, block_makes, Live, Here, Later, LiveBehind}
+use Rattle.block_runs.specs.Live.{has, Live, Here, Later, LiveBehind}
 use Rattle.lir_core.specs.declared.flow.Node.{Node}
 use Rattle.lir_core.specs.declared.places.Places.{Places}
 use Rattle.lir_core.specs.declared.places.TraceOut.{TraceOut}
 use Rattle.lir_core.specs.Flows.{code_node, code_nodes}
 use Rattle.lir_core.specs.Rows.{has_bit, live_into}
-use Rattle.lir_core.specs.Spots.{get, in_register, placed, IsRising, IsRow}
+use Rattle.lir_core.specs.Spots.{in_register, placed, IsRising, IsRow}
 use Rattle.lir_core.specs.Lines.{end_reads}
 use Rattle.lir_core.specs.Walks.{Walks}
-use Rattle.lir_core.specs.Sound.{IsStart, IsEnd, EndsRise, room_of}
+use Rattle.lir_core.specs.Sound.{EndsRise, room_of}
 use Rattle.walked_results.specs.Walked.{IsWalkedNode, IsWalked}
 use Rattle.global_live.proofs.Lists.{has-filter}
 use Rattle.loc_state.specs.Registers.{register_of}
@@ -27,33 +27,12 @@ use Rattle.linear_scan.specs.Linear.{Case, Hint}
 use Rattle.linear_scan.specs.Inputs.{FitsHead, IsInput}
 use Rattle.linear_scan.proofs.Wanted.{in_live_into}
 use Rattle.simple_policies.specs.trivial.Trivial.{trivial_start, trivial, IsTrivial}
+use Rattle.linear_scan.proofs.Begins.{get_live}
+use Rattle.linear_scan.proofs.Begins.{stays_live}
+use Rattle.linear_scan.proofs.Begins.{get_none}
+use Rattle.linear_scan.proofs.Begins.{in_none}
 
 ---- Registers
-
-get_live : (p : ℕ → Bool) (xs : List (Option ℕ)) (r v : ℕ) → get (map (if_live p) xs) r ≡ Some v → (get xs r ≡ Some v) × (p v ≡ true)
-get_live p [] r v e = cc
-get_live p (None ∷ xs) zero v e = cc
-get_live p (Some u ∷ xs) zero v e = by (p u) refl e
-  where
-    by : (b : Bool) → p u ≡ b → cond b (Some u) None ≡ Some v → (Some u ≡ Some v) × (p v ≡ true)
-    by true q e = let z : u ≡ v = cc in (e, ap p (sym z) ∙ q)
-    by false q e = cc
-get_live p (None ∷ xs) (suc r) v e = get_live p xs r v e
-get_live p (Some u ∷ xs) (suc r) v e = get_live p xs r v e
-
-stays_live : (p : ℕ → Bool) (xs : List (Option ℕ)) (r v : ℕ) → get xs r ≡ Some v → p v ≡ true → get (map (if_live p) xs) r ≡ Some v
-stays_live p [] r v e q = cc
-stays_live p (x ∷ xs) zero v e q = ap (if_live p) e ∙ ap (λ b. cond b (Some v) None) q
-stays_live p (x ∷ xs) (suc r) v e q = stays_live p xs r v e q
-
-get_none : (n r v : ℕ) → get (replicate n None) r ≡ Some v → ⊥
-get_none zero r v e = cc
-get_none (suc n) zero v e = cc
-get_none (suc n) (suc r) v e = get_none n r v e
-
-in_none : (n v : ℕ) → in_register (replicate n None) v ≡ true → ⊥
-in_none zero v e = cc
-in_none (suc n) v e = in_none n v e
 
 ---- Results
 

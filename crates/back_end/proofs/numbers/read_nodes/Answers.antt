@@ -2,8 +2,9 @@ use Rattle.std.proofs.Common.{refl, ap, sym, ◌∙◌}
 use Rattle.std.specs.Prelude.{◌&&◌}
 use Rattle.link_blocks.specs.Fits.{trap_fits}
 use Rattle.back_end.specs.Numbers.{lirs_number}
-use Rattle.back_end.proofs.Reading.{both, further}
+use Rattle.back_end.proofs.Reading.{further}
 use Rattle.back_end.proofs.numbers.read_nodes.Goals as goal
+use Rattle.modest_flows.proofs.Fitting.{both}
 
 pub loop-node-preserved : goal.loop-node-preserved
 loop-node-preserved c = record {

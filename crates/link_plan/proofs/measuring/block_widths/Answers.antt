@@ -1,9 +1,9 @@
 use Rattle.std.proofs.Common.{sym}
 use Rattle.placed_code.proofs.Parts.{length_map}
 use Rattle.link_blocks.specs.Plans.{block_in, placed_in}
-use Rattle.link_plan.proofs.Rows.{err_so}
 use Rattle.link_plan.proofs.Measures.{over_block}
 use Rattle.link_plan.proofs.measuring.block_widths.Goals as goal
+use Rattle.link_layout.proofs.Placing.{err_so}
 
 pub returns-in_err-width-clause-limit : goal.returns-in_err-width-clause-limit
 returns-in_err-width-clause-limit c =

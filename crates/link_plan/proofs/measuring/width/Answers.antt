@@ -4,8 +4,9 @@ use Rattle.link_blocks.specs.declared.plans.Plan.{Plan}
 use Rattle.link_blocks.specs.Plans.{placed_in}
 use Rattle.link_plan.specs.Measured.{measured}
 use Rattle.link_plan.specs.declared.measuring.Measure.{Measure}
-use Rattle.link_plan.proofs.Rows.{ok_more, err_more}
 use Rattle.link_plan.proofs.measuring.width.Goals as goal
+use Rattle.link_layout.proofs.Placing.{ok_more}
+use Rattle.link_layout.proofs.Placing.{err_more}
 
 pub returns-clause-width : goal.returns-clause-width
 returns-clause-width c =

@@ -1,8 +1,8 @@
 use Rattle.std.proofs.Common.{◌+◌, ◌∙◌, arith}
 use Rattle.link_layout.proofs.Placing.{end_is}
-use Rattle.link_plan.proofs.Rows.{err_so}
 use Rattle.link_plan.proofs.Measures.{entries_with_end}
 use Rattle.link_plan.proofs.whole.all_entries.Goals as goal
+use Rattle.link_layout.proofs.Placing.{err_so}
 
 pub returns-in_err-end-clause-limit : goal.returns-in_err-end-clause-limit
 returns-in_err-end-clause-limit c =

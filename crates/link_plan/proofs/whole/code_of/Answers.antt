@@ -3,9 +3,10 @@ use Rattle.placed_code.proofs.Parts.{length_map}
 use Rattle.link_layout.specs.Widths.{AreWidths}
 use Rattle.link_blocks.specs.Plans.{placed_in}
 use Rattle.link_plan.specs.Written.{AreReady, EntriesAre}
-use Rattle.link_plan.proofs.Rows.{errs_with, err_so}
+use Rattle.link_plan.proofs.Rows.{errs_with}
 use Rattle.link_plan.proofs.Images.{many, over_procedures, over_bodies, routines_near, start_near, procedures_next, procedures_near, all_near, all_written, some_code, all_appended}
 use Rattle.link_plan.proofs.whole.code_of.Goals as goal
+use Rattle.link_layout.proofs.Placing.{err_so}
 
 pub returns-then-plans-gt-MOST-clause-limit : goal.returns-then-plans-gt-MOST-clause-limit
 returns-then-plans-gt-MOST-clause-limit c limit = many (map placed_in c.args.plans.now) (length c.args.plans.now) (sym (length_map placed_in c.args.plans.now)) c.if-plans-gt-MOST.true

@@ -8,10 +8,11 @@ use Rattle.a64_select.specs.Selected.{selected}
 use Rattle.back_end.specs.Images.{IsReady}
 use Rattle.back_end.specs.Numbers.{node_numbers}
 use Rattle.placed_image.specs.Placing.{IsPlaceable}
-use Rattle.program_image.proofs.Ready.{are_short, ready, few_values}
+use Rattle.program_image.proofs.Ready.{are_short, ready}
 use Rattle.planned_image.specs.Plans.{TellsOfLowering}
 use Rattle.planned_image.proofs.Plans.{all_placeable, lowering_told}
 use Rattle.planned_image.proofs.planning.program_flows.Goals as goal
+use Rattle.lowered_valid.proofs.Modest.{all_few as few_values}
 
 pub lower_with_tables-requires : goal.lower_with_tables-requires
 lower_with_tables-requires c = measured c.args.program.now c.requires.well_formed

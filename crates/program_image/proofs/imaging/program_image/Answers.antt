@@ -4,11 +4,12 @@ use Rattle.std.specs.Prelude.{All}
 use Rattle.ssa_tables.proofs.Measuring.{measured}
 use Rattle.back_end.specs.Images.{IsReady, HasFewValues}
 use Rattle.program_image.specs.Faults.{Tells}
-use Rattle.program_image.proofs.Ready.{are_short, ready, few_values}
+use Rattle.program_image.proofs.Ready.{are_short, ready}
 use Rattle.program_image.proofs.Fitting.{data_fits_as, all_named}
 use Rattle.program_image.proofs.Running.{in_program, program_image_is, does_as_meant}
 use Rattle.program_image.proofs.Telling.{lowering_tells, imaging_tells, few_traces, count_is}
 use Rattle.program_image.proofs.imaging.program_image.Goals as goal
+use Rattle.lowered_valid.proofs.Modest.{all_few as few_values}
 
 pub lower_with_tables-requires : goal.lower_with_tables-requires
 lower_with_tables-requires g c = measured c.args.program c.requires.well_formed

@@ -3,8 +3,8 @@ use Rattle.std.proofs.lemmas.List.{drop_all}
 use Rattle.block_runs.specs.Live.{defs_of}
 use Rattle.ssa_core.specs.Procedures.{operation_of}
 use Rattle.ssa_valid.specs.Tables.{made_in}
-use Rattle.ssa_valid.proofs.Tables.{made_in-append}
 use Rattle.ssa_valid.proofs.makers.add_block.Goals as goal
+use Rattle.global_live.proofs.Tables.{made_in-append}
 
 pub returns : goal.returns
 returns c =

@@ -1,7 +1,8 @@
 use Rattle.std.proofs.Common.{◌≡◌, drop, ap, sym, arith, ◌∙◌, length}
 use Rattle.ssa_core.specs.Procedures.{code_blocks}
-use Rattle.ssa_valid.proofs.Tables.{length-makers, length-makers_from}
+use Rattle.ssa_valid.proofs.Tables.{length-makers}
 use Rattle.ssa_valid.proofs.makers.makers.Goals as goal
+use Rattle.global_live.proofs.Tables.{length-makers_from}
 
 pub returns-clause-few : goal.returns-clause-few
 returns-clause-few c =
