@@ -24,7 +24,9 @@ use Rattle.check_making.specs.declared.making.Surroundings.{Surroundings}
 use Rattle.check_making.specs.Making.{table_of, strings_of, world_in, Makes}
 use Rattle.check_making.specs.Parts.{Made}
 use Rattle.check_declared.specs.Constants.{texts_in, IsValue, IsKept}
-use Rattle.check_declared.proofs.Parts.{look_on, look_stops, StateMakes, left_first, left_next, left_stops, left_none}
+use Rattle.check_declared.proofs.Parts.{StateMakes, left_first, left_next, left_stops, left_none}
+use Rattle.check_making.proofs.parameters.Answering.{look_on}
+use Rattle.check_making.proofs.parameters.Answering.{look_stops}
 
 -- the texts of the state's scope
 pub texts_same : (r : Surroundings) (s : Declaring) (scope : Scope) → scope.source.now ≡ r.source.now → scope.strings.now ≡ strings_of s → texts_of scope ≡ texts_in r s

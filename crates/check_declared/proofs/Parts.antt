@@ -1,15 +1,17 @@
 -- Parts of the judgement, one after the other, and the states that stand for what they leave.
-use Rattle.std.proofs.Common.{◌≡◌, ℕ, ◌+◌, ◌<◌, List, [], ◌∷◌, length, drop, get_or, Result, Ok, Err, refl, sym, ◌∙◌, subst}
+use Rattle.std.proofs.Common.{◌≡◌, ℕ, ◌+◌, ◌<◌, List, [], ◌∷◌, length, drop, get_or, Ok, Err, refl, sym, ◌∙◌, subst}
 use Rattle.ob_judge.specs.Judged.{Judged, Keeps, Breaks, ◌>>=◌}
 use Rattle.ob_judge.specs.Making.{Making}
 use Rattle.check_types.specs.steps.Answers.{Answers, Refuses}
 use Rattle.check_types.specs.declared.steps.fault.CheckFault.{CheckFault}
-use Rattle.check_types.specs.declared.steps.fault.CheckFault.TheVariants.{Fault, Memory}
+use Rattle.check_types.specs.declared.steps.fault.CheckFault.TheVariants.{Memory}
 use Rattle.check_types.proofs.steps.Answering.{Judging, round_on, round_stops}
 use Rattle.check_making.specs.declared.making.Declaring.{Declaring}
 use Rattle.check_making.specs.declared.making.Surroundings.{Surroundings}
 use Rattle.check_making.specs.Making.{Makes}
 use Rattle.check_making.specs.Parts.{Made}
+use Rattle.check_making.proofs.parameters.Answering.{refused}
+use Rattle.check_making.proofs.parameters.InLists.{as_state}
 
 memory_refuses : {A : Type 0} (m : Judged A) → Refuses m Memory
 memory_refuses (Keeps a) = tt
@@ -19,33 +21,10 @@ memory_refuses (Breaks n at) = tt
 pub no_memory : {A B : Type 0} {S : B → A → Type 0} (m : Judged A) → Answers S m (Err Memory)
 no_memory {S} m = record { by = memory_refuses m }
 
--- a judgement in the scope as it is, and then what follows it
-pub look_on : {A B C D : Type 0} {R : B → A → Type 0} {S : D → C → Type 0} {r : Result D CheckFault} {b : B} (j : Judged A) (s : Making) (f : A × Making → Judged C)
-    → Answers R j (Ok b) → ((a : A) → R b a → Answers S (f (a, s)) r) → Answers S ((j >>= λ a. Keeps (a, s)) >>= f) r
-look_on (Keeps a) s f h k = k a h.by
-look_on (Breaks n at) s f h k = absurd h.by
-
-refuses_look : {A C : Type 0} (j : Judged A) (s : Making) (f : A × Making → Judged C) (e : CheckFault) → Refuses j e → Refuses ((j >>= λ a. Keeps (a, s)) >>= f) e
-refuses_look (Keeps a) s f (Fault n at) h = absurd h
-refuses_look (Breaks rule place) s f (Fault n at) h = h
-refuses_look (Keeps a) s f Memory h = memory_refuses (f (a, s))
-refuses_look (Breaks rule place) s f Memory h = tt
-
-pub look_stops : {A B C D : Type 0} {R : B → A → Type 0} {S : D → C → Type 0} {e : CheckFault} (j : Judged A) (s : Making) (f : A × Making → Judged C) → Answers R j (Err e) → Answers S ((j >>= λ a. Keeps (a, s)) >>= f) (Err e)
-look_stops {e} j s f h = record { by = refuses_look j s f e h.by }
-
--- a refusal, whatever the state
-pub refused : {A B D : Type 0} {R : B → A → Type 0} {S : D → A → Type 0} {e : CheckFault} {m : Judged A} → Answers R m (Err e) → Answers S m (Err e)
-refused h = record { by = h.by }
-
 -- ---- rounds over a list, each of which changes the state
 
 abbrev pub StateMakes : Surroundings → Declaring → Unit {0} × Making → Type 0
 StateMakes r s left = Makes r s left.1
-
-as_state : {r : Surroundings} {s : Declaring} (m : Judged (Unit {0} × Making)) → Answers (Made r s) m (Ok tt) → Answers (StateMakes r) m (Ok s)
-as_state (Keeps a) h = record { by = (h.by).makes }
-as_state (Breaks n at) h = absurd h.by
 
 from_state : {r : Surroundings} {s : Declaring} (m : Judged (Unit {0} × Making)) → Answers (StateMakes r) m (Ok s) → Answers (Made r s) m (Ok tt)
 from_state (Keeps a) h = record { by = record { makes = h.by } }

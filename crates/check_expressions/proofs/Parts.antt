@@ -37,7 +37,9 @@ use Rattle.check_expressions.specs.Steps.{is_with, related_with, compared_with, 
 use Rattle.check_types.specs.declared.names.scope.Scope.{Scope}
 use Rattle.check_operands.specs.declared.calls.arguments.Given.{Given}
 use Rattle.check_operands.specs.calls.Given.{IsGiven, AreGiven}
-use Rattle.check_expressions.proofs.Walking.{then_then, alike, with_nothing_behind}
+use Rattle.check_expressions.proofs.Walking.{with_nothing_behind}
+use Rattle.check_operands.proofs.calls.Binding.{then_then}
+use Rattle.check_operands.proofs.calls.Binding.{alike}
 
 -- given arguments, and one more
 pub given_last : (s : Scope) (xs : List Given) (bs : List J.Given) (x : Given) (b : J.Given) → AreGiven s xs bs → IsGiven s x b → AreGiven s (xs ++ x ∷ []) (bs ++ b ∷ [])

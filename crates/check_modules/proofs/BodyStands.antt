@@ -41,9 +41,10 @@ use Rattle.check_making.specs.Making.{world_in, Makes}
 use Rattle.check_making.specs.scopes.Building.{StandsFor}
 use Rattle.check_making.specs.scopes.InTurn.{UseInTurn}
 use Rattle.check_making.proofs.scopes.Procedures.{number_means, number_still, begins_self}
-use Rattle.check_procedures.proofs.Giving.{came, then_so, rule_stops}
+use Rattle.check_procedures.proofs.Giving.{then_so, rule_stops}
 use Rattle.check_procedures.proofs.Texts.{texts_same}
 use Rattle.check_modules.specs.Parts.{body_procedure, completed_module}
+use Rattle.check_making.proofs.headings.Heads.{by_given as came}
 
 -- a module's body by its parts
 abbrev by_parts : ℕ → ℕ → Shape → List (List ℕ) → I.Statements → I.Procedure

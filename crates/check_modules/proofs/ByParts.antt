@@ -12,14 +12,11 @@ use Rattle.ob_judge.specs.Making.{Making, Part, ◌>>>◌, give, ask, new_proced
 use Rattle.ob_judge.specs.Declarations.{each, decls_part}
 use Rattle.ob_judge.specs.Modules.{imported, is_new, import_part, import_list, module_part}
 use Rattle.check_modules.specs.Parts.{body_procedure, declared_part, numbered_part, module_made, ending_part}
+use Rattle.check_operands.proofs.calls.Binding.{alike as onward}
 
 joined : {A B C : Type 0} (m : Judged A) (f : A → Judged B) (g : B → Judged C) (h : A → Judged C) → ((a : A) → h a ≡ (f a >>= g)) → (m >>= h) ≡ ((m >>= f) >>= g)
 joined (Keeps a) f g h e = e a
 joined (Breaks n at) f g h e = refl
-
-onward : {A B : Type 0} (m : Judged A) (f g : A → Judged B) → ((a : A) → f a ≡ g a) → (m >>= f) ≡ (m >>= g)
-onward (Keeps a) f g e = e a
-onward (Breaks n at) f g e = refl
 
 -- a value, the scope as it is
 abbrev held : {A : Type 0} → Making → A → Judged (A × Making)

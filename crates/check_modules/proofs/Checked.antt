@@ -32,7 +32,7 @@ use Rattle.check_making.proofs.Growing.{grows_on}
 use Rattle.check_making.specs.declared.scopes.building.Building.{Building}
 use Rattle.check_making.specs.scopes.Building.{TheyStandFor, Represents}
 use Rattle.check_procedures.specs.UnderWay.{IsUnderWay, BuildsUpright}
-use Rattle.check_procedures.proofs.Giving.{came, rule_stops}
+use Rattle.check_procedures.proofs.Giving.{rule_stops}
 use Rattle.judged_outlines.specs.ends.Ends.{EndsWell}
 use Rattle.check_procedures.specs.lines.Lines.{IsLineTable}
 use Rattle.check_modules.specs.declared.ending.JudgedModule.{JudgedModule}
@@ -43,6 +43,7 @@ use Rattle.check_modules.specs.Parts.{declared_part, ending_part}
 use Rattle.check_modules.specs.Ended.{IsEnded, SeenStays, HasSoFar}
 use Rattle.check_modules.proofs.ByParts.{module_parts}
 use Rattle.check_modules.proofs.Declared.{same_modules, declared_upright, declared_in_range, told}
+use Rattle.check_making.proofs.headings.Heads.{by_given as came}
 
 -- ---- lists with one more
 

@@ -36,12 +36,13 @@ use Rattle.check_making.specs.scopes.Building.{Represents}
 use Rattle.check_making.specs.scopes.Built.{Built}
 use Rattle.check_making.proofs.scopes.Together.{built_at}
 use Rattle.check_procedures.specs.UnderWay.{IsUnderWay, BuildsUpright}
-use Rattle.check_procedures.proofs.Giving.{came, then_so, given_so}
+use Rattle.check_procedures.proofs.Giving.{then_so, given_so}
 use Rattle.judged_outlines.specs.ends.Ends.{OffersInRange, EndsWell}
 use Rattle.judged_outlines.proofs.ends.Modules.{constants_offered}
 use Rattle.check_modules.specs.programs.Entities.{IsTold, AreTold}
 use Rattle.check_modules.specs.Parts.{declared_part}
 use Rattle.check_modules.proofs.Imports.{h_imports}
+use Rattle.check_making.proofs.headings.Heads.{by_given as came}
 
 module _ (r : Surroundings) (x : S.Module) (s : Building) (t : Declaring) where
   abbrev imported_to : Building

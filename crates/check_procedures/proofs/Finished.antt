@@ -56,8 +56,9 @@ use Rattle.check_making.specs.scopes.Numbers.{AreNumbersOf}
 use Rattle.check_making.proofs.scopes.ByNumber.{numbers_mean, numbers_still}
 use Rattle.check_making.proofs.scopes.Procedures.{number_means, number_still, begins_self}
 use Rattle.check_procedures.specs.Completing.{image_of, IsStill}
-use Rattle.check_procedures.proofs.Giving.{came, then_so, rule_stops}
+use Rattle.check_procedures.proofs.Giving.{then_so, rule_stops}
 use Rattle.check_procedures.proofs.Texts.{texts_same}
+use Rattle.check_making.proofs.headings.Heads.{by_given as came}
 
 -- a procedure that isn't a module's body, by its parts
 abbrev by_parts : ℕ → ℕ → List I.Formal → Shape → List Shape → List (List ℕ) → I.Statements → Option I.Checked → I.Procedure

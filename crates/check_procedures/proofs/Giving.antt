@@ -12,11 +12,6 @@ pub by_law : {A : Type 0} {P : A → Type 0} (m : Judged A) → ((a : A) → m �
 by_law {P = P} (Keeps a) f = keeps P a (f a refl)
 by_law {P = P} (Breaks n at) f = breaks P n at
 
--- what was given, by an answer
-pub came : {A B P : Type 0} {R : B → A → Type 0} {b : B} (m : Judged A) → Answers R m (Ok b) → ((a : A) → m ≡ Keeps a → R b a → P) → P
-came (Keeps a) h f = f a refl h.by
-came (Breaks n at) h f = absurd h.by
-
 -- a part was answered, and then what follows it
 pub then_so : {A A' B B' : Type 0} {R : B → A → Type 0} {S : B' → A' → Type 0} {r : Result B' CheckFault} {b : B} (m : Judged A) (f : A → Judged A')
     → Answers R m (Ok b) → ((a : A) → m ≡ Keeps a → R b a → Answers S (f a) r) → Answers S (m >>= f) r

@@ -36,10 +36,11 @@ use Rattle.check_procedures.specs.declared.opening.PutAside.{PutAside}
 use Rattle.check_procedures.specs.Parts.{JudgedOpen, waiting, next_procedure, opening}
 use Rattle.check_procedures.specs.UnderWay.{IsUnderWay}
 use Rattle.check_procedures.specs.Open.{CanBeClosed, IsOpened, IsEntered}
-use Rattle.check_procedures.proofs.Giving.{came, then_so, given_so}
+use Rattle.check_procedures.proofs.Giving.{then_so, given_so}
 use Rattle.check_procedures.proofs.Steadiness.{heading_steady}
 use Rattle.check_procedures.proofs.Uprights.{next_upright, entered_upright}
 use Rattle.check_procedures.proofs.Outers.{outer_still}
+use Rattle.check_making.proofs.headings.Heads.{by_given as came}
 
 module _ (r : Surroundings) (s t : Building) (o : OpenProcedure) (old : IsBuilt s.declaring.types) (new : IsBuilt t.declaring.types) (grows : Grows s.declaring.types.table t.declaring.types.table) where
   pub still_closable : length s.procedures.items ≤ length t.procedures.items → CanBeClosed r s o → CanBeClosed r t o

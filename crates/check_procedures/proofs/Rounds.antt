@@ -22,7 +22,7 @@ use Rattle.check_making.specs.declared.scopes.building.Building.{Building}
 use Rattle.check_making.specs.scopes.Building.{Represents}
 use Rattle.check_making.specs.scopes.Built.{Built}
 use Rattle.check_procedures.specs.UnderWay.{BuildsUpright}
-use Rattle.check_procedures.proofs.Giving.{came}
+use Rattle.check_making.proofs.headings.Heads.{by_given as came}
 
 -- where the walk stands: what the judgement has made, in which the procedures that are left are judged, and that the types
 -- stayed legal since the first

@@ -28,10 +28,11 @@ use Rattle.check_procedures.specs.declared.opening.OpenProcedure.{OpenProcedure}
 use Rattle.check_procedures.specs.Parts.{JudgedOpen, opening, closing}
 use Rattle.check_procedures.specs.UnderWay.{IsUnderWay, BuildsUpright}
 use Rattle.check_procedures.specs.Open.{CanBeClosed, IsOpened}
-use Rattle.check_procedures.proofs.Giving.{came, then_so, given_so}
+use Rattle.check_procedures.proofs.Giving.{then_so, given_so}
 use Rattle.check_procedures.proofs.Uprights.{opening_upright}
 use Rattle.check_procedures.proofs.ByParts.{tree_is}
 use Rattle.check_procedures.proofs.Opens.{still_open}
+use Rattle.check_making.proofs.headings.Heads.{by_given as came}
 
 module _ (r : Surroundings) (tree : ProcedureTree) where
   abbrev Opens : Building → Building → Result OpenProcedure CheckFault → Type 0

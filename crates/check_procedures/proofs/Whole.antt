@@ -21,8 +21,9 @@ use Rattle.check_making.specs.scopes.Building.{Represents}
 use Rattle.check_making.specs.scopes.Built.{Builds}
 use Rattle.check_procedures.specs.Parts.{first_parts}
 use Rattle.check_procedures.specs.UnderWay.{IsUnderWay, BuildsUpright}
-use Rattle.check_procedures.proofs.Giving.{came, then_so, given_so}
+use Rattle.check_procedures.proofs.Giving.{then_so, given_so}
 use Rattle.check_procedures.proofs.Uprights.{first_parts_upright}
+use Rattle.check_making.proofs.headings.Heads.{by_given as came}
 
 module _ (p : Source) (tree : Decls) where
   -- what comes before the procedures

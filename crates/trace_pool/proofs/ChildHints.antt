@@ -30,11 +30,6 @@ there [] k c e = absurd (let z : ⊥ = cc in z)
 there (x ∷ xs) zero c e = let z : x ≡ c = cc in (ap some z, omega arith)
 there (x ∷ xs) (suc k) c e = let r = there xs k c e in (r.0, omega (arith, r.1))
 
-pub past : (xs : List ℕ) (k : ℕ) → slice_get xs k ≡ None → length xs ≤ k
-past [] k e = omega arith
-past (x ∷ xs) zero e = absurd (let z : ⊥ = cc in z)
-past (x ∷ xs) (suc k) e = omega (arith, past xs k e)
-
 -- where a number that was picked stands, and that it meets the test
 record Picked (test : Option ℕ → Bool) (ps : List (Option ℕ)) (n c : ℕ) : Type 0 where
   index : ℕ

@@ -1,7 +1,6 @@
 -- A type that is declared: its name keeps its meaning, and it has a number.
-use Rattle.std.proofs.Common.{◌≡◌, ℕ, List, refl, ap, ◌∙◌, arith}
+use Rattle.std.proofs.Common.{ℕ, List, ap, ◌∙◌, arith}
 use Rattle.std.proofs.lemmas.Option.{slice_get_within}
-use Rattle.ob_types.specs.Table.{Table}
 use Rattle.ob_judge.specs.Scopes.{AType}
 use Rattle.check_types.specs.declared.types.TypeRef.{TypeRef}
 use Rattle.check_types.specs.declared.types.TypeRef.TheVariants as TheType
@@ -10,24 +9,10 @@ use Rattle.check_types.specs.TypeMeaning.{type_shape}
 use Rattle.check_types.specs.declared.names.scope.Named.TheVariants as TheNamed
 use Rattle.table_builder.specs.declared.builder.TableBuilder.{TableBuilder}
 use Rattle.table_builder.specs.Builder.{IsBuilt}
-use Rattle.table_builder.specs.Entries.{IsElement, is_whole, is_whole_shape}
+use Rattle.table_builder.specs.Entries.{IsElement}
 use Rattle.table_builder.proofs.Meaning.{meant, long}
 use Rattle.check_making.specs.Staying.{HasType, NamedStays}
-
-whole_shape_is : (t : Table) (k : TypeRef) → is_whole_shape (type_shape t k) ≡ is_whole k
-whole_shape_is t TheType.Int = refl
-whole_shape_is t TheType.Bool = refl
-whole_shape_is t TheType.Char = refl
-whole_shape_is t TheType.Byte = refl
-whole_shape_is t TheType.Set = refl
-whole_shape_is t TheType.Nil = refl
-whole_shape_is t TheType.Nothing = refl
-whole_shape_is t (TheType.Text n) = refl
-whole_shape_is t (TheType.Array n e) = refl
-whole_shape_is t (TheType.Open e) = refl
-whole_shape_is t (TheType.Record r) = refl
-whole_shape_is t (TheType.Pointer p) = refl
-whole_shape_is t (TheType.Procedure g) = refl
+use Rattle.table_builder.proofs.ByShape.{whole-shape as whole_shape_is}
 
 pub type_stays : (t : TypeTable) (strings : List (List ℕ)) (k : TypeRef) → IsElement t.entries.items k → NamedStays t strings (TheNamed.Type k)
 type_stays t strings k h = record { object = λ u more g. ap AType (g.shape k h.numbered) }

@@ -23,6 +23,7 @@ use Rattle.check_operands.specs.declared.operand.Operand.{Operand}
 use Rattle.check_expressions.specs.declared.constants.constants.ConstantValue.{ConstantValue}
 use Rattle.check_expressions.specs.constants.Constants.{constant_meant, IsConstant, basic_in, chars_in, is_plain}
 use Rattle.check_expressions.proofs.constants.Basic.{constants_are_plain}
+use Rattle.check_operands.proofs.calls.Binding.{kept_on as nothing_behind}
 
 -- ---- values
 
@@ -53,10 +54,6 @@ goes_with : {A A' B B' : Type 0} {P : A → Type 0} {R : B → A → Type 0} {S 
     Gives P m → Answers R m (Ok b) → ((a : A) → P a → R b a → Answers S (f a) r) → Answers S (m >>= f) r
 goes_with (Keeps a) f g h k = k a g.holds h.by
 goes_with (Breaks n at) f g h k = absurd h.by
-
-nothing_behind : {A : Type 0} (m : Judged A) → m ≡ (m >>= λ a. Keeps a)
-nothing_behind (Keeps a) = refl
-nothing_behind (Breaks n at) = refl
 
 module _ (s : Scope) (e : S.Expression) (x : Operand) where
   -- where a constant is asked for

@@ -33,6 +33,7 @@ use Rattle.check_making.specs.declared.making.Surroundings.{Surroundings}
 use Rattle.check_making.specs.Making.{Makes}
 use Rattle.check_making.specs.new_types.Layouts.{IsSoFar, IsCopy, IsBegunFrom, IsBegun, base_number}
 use Rattle.check_making.proofs.parameters.Answering.{then_then}
+use Rattle.judged_modules.proofs.Agreement.{map_get as get_map}
 
 -- ---- types are made meanwhile
 
@@ -82,11 +83,6 @@ narrow_at es (x ∷ xs) [] h n l at = absurd h
 narrow_at es [] (k ∷ ls) h n l at = absurd h
 narrow_at es (x ∷ xs) (k ∷ ls) h zero l at = subst (λ z. z.extent.bytes ≤ 8 * z.cells) (some_same k l at) (h.0).narrow
 narrow_at es (x ∷ xs) (k ∷ ls) h (suc n) l at = narrow_at es xs ls h.2 n l at
-
-get_map : {A B : Type 0} (f : A → B) (xs : List A) (n : ℕ) → slice_get (map f xs) n ≡ option_map f (slice_get xs n)
-get_map f [] n = refl
-get_map f (x ∷ xs) zero = refl
-get_map f (x ∷ xs) (suc n) = get_map f xs n
 
 pub begun_none : (t : TypeTable) (l : Layout) → IsBlank l → IsSoFar t l (record no_layout { added = [] })
 begun_none t l h = record {

@@ -11,8 +11,9 @@ use Rattle.ob_judge.specs.Types.{place_of_type, record_only, forward_name}
 use Rattle.check_types.specs.declared.types.TypeRef.{TypeRef}
 use Rattle.check_types.specs.declared.types.TypeRef.TheVariants as TheType
 use Rattle.check_types.specs.TypeMeaning.{type_shape}
-use Rattle.check_making.proofs.parameters.Answering.{then_then, alike}
+use Rattle.check_making.proofs.parameters.Answering.{then_then}
 use Rattle.check_making.specs.new_types.Pointers.{waits, points_to}
+use Rattle.judged_modules.proofs.steps.Laws.{then_same as alike}
 
 pub no_record : (t : Table) (of : TypeRef) → ((r : ℕ) → of ≡ TheType.Record r → ⊥) → record_only (type_shape t of) ≡ None
 no_record t (TheType.Record r) h = absurd (h r refl)

@@ -37,10 +37,6 @@ pub then_then : {A B C : Type 0} (m : Judged A) (f : A → Judged B) (g : B → 
 then_then (Keeps a) f g = refl
 then_then (Breaks n at) f g = refl
 
-pub alike : {A B : Type 0} (m : Judged A) (f g : A → Judged B) → ((a : A) → f a ≡ g a) → (m >>= f) ≡ (m >>= g)
-alike (Keeps a) f g h = h a
-alike (Breaks n at) f g h = refl
-
 -- a refusal, whatever the answer would say
 pub refused : {A B D : Type 0} {R : B → A → Type 0} {S : D → A → Type 0} {e : CheckFault} {m : Judged A} → Answers R m (Err e) → Answers S m (Err e)
 refused h = record { by = h.by }
@@ -59,7 +55,7 @@ pub look_on : {A B C D : Type 0} {R : B → A → Type 0} {S : D → C → Type 
 look_on (Keeps a) s f h k = k a h.by
 look_on (Breaks n at) s f h k = absurd h.by
 
-refuses_look : {A C : Type 0} (j : Judged A) (s : Making) (f : A × Making → Judged C) (e : CheckFault) → Refuses j e → Refuses ((j >>= λ a. Keeps (a, s)) >>= f) e
+pub refuses_look : {A C : Type 0} (j : Judged A) (s : Making) (f : A × Making → Judged C) (e : CheckFault) → Refuses j e → Refuses ((j >>= λ a. Keeps (a, s)) >>= f) e
 refuses_look (Keeps a) s f (Fault n at) h = absurd h
 refuses_look (Breaks rule place) s f (Fault n at) h = h
 refuses_look (Keeps a) s f Memory h = memory_refuses (f (a, s))

@@ -16,6 +16,8 @@ use Rattle.check_making.specs.declared.making.Surroundings.{Surroundings}
 use Rattle.check_making.specs.Making.{table_of, strings_of, Makes}
 use Rattle.check_making.specs.Parts.{Made}
 use Rattle.check_modules.specs.importing.Importing.{known_as, more_imports}
+use Rattle.check_making.proofs.parameters.Answering.{refused}
+use Rattle.check_making.proofs.parameters.InLists.{as_state}
 
 module _ (r : Surroundings) (x : Import) where
   -- an import whose name stands
@@ -45,16 +47,9 @@ module _ (r : Surroundings) (x : Import) where
 abbrev pub StateMakes : Surroundings → Declaring → Unit {0} × Making → Type 0
 StateMakes r s left = Makes r s left.1
 
-as_state : {r : Surroundings} {s : Declaring} (m : Judged (Unit {0} × Making)) → Answers (Made r s) m (Ok tt) → Answers (StateMakes r) m (Ok s)
-as_state (Keeps a) h = record { by = (h.by).makes }
-as_state (Breaks n at) h = absurd h.by
-
 from_state : {r : Surroundings} {s : Declaring} (m : Judged (Unit {0} × Making)) → Answers (StateMakes r) m (Ok s) → Answers (Made r s) m (Ok tt)
 from_state (Keeps a) h = record { by = record { makes = h.by } }
 from_state (Breaks n at) h = absurd h.by
-
-refused : {A B D : Type 0} {R : B → A → Type 0} {S : D → A → Type 0} {e : CheckFault} {m : Judged A} → Answers R m (Err e) → Answers S m (Err e)
-refused h = record { by = h.by }
 
 module _ (r : Surroundings) where
   abbrev pub imports_from : Unit {0} × Making → List NextImport → Judged (Unit {0} × Making)

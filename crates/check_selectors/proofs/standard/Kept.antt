@@ -1,7 +1,7 @@
 -- Rules that are kept before others, and arguments that are numbers.
-use Rattle.std.proofs.Common.{◌≡◌, ℕ, Option, Some, None, option_map, Bool, true, false, ◌&&◌, Result, Ok, Err, List, refl, sym, ap, ap₂, ◌∙◌}
+use Rattle.std.proofs.Common.{◌≡◌, ℕ, Option, Some, None, option_map, true, Result, Ok, List, refl, ap}
 use Rattle.std.specs.Prelude.{is_some}
-use Rattle.ob_judge.specs.Judged.{Judged, Keeps, Breaks, ◌>>=◌, ◌>>◌, rule}
+use Rattle.ob_judge.specs.Judged.{Judged, Keeps, Breaks, ◌>>◌, rule}
 use Rattle.ob_judge.specs.Shapes.{is_number}
 use Rattle.ob_judge.specs.Image as I
 use Rattle.judged_tree.specs.Outline.{outlined_designator, outlined_checked, outlined_statement}
@@ -24,9 +24,6 @@ number_is w x h = ap (λ b. rule 31 x.at b >> Keeps (checked x.operand)) h
 pub some_mapped : {A B : Type 0} (f : A → B) (o : Option A) → is_some (option_map f o) ≡ is_some o
 some_mapped f None = refl
 some_mapped f (Some a) = refl
-
-pub both_true : (a b : Bool) → a ≡ true → b ≡ true → (a && b) ≡ true
-both_true a b h k = ap₂ (λ x y. x && y) h k
 
 pub changed_outlined : (bases : List (Option ℕ)) (change : Change) (d : I.Designator) (x : I.Checked) →
     changed_by change (outlined_designator bases d) (outlined_checked bases x) ≡ outlined_statement bases (changed_by change d x)

@@ -4,10 +4,10 @@ use Rattle.check_procedures.specs.numbers.Numbering.{NumbersAll}
 use Rattle.check_types.specs.declared.types.TypeRef.TheVariants as TheType
 use Rattle.check_types.specs.names.Worlds.{table_of}
 use Rattle.check_types.proofs.steps.Answering.{exit}
-use Rattle.check_modules.proofs.WantOfMemory.{no_memory}
 use Rattle.check_procedures.proofs.numbers.Lasting.{numbers_all}
 use Rattle.check_modules.proofs.BodyStands.{no_body, no_name, is_bare, is_completed, in_turn_alone}
 use Rattle.check_modules.proofs.bodies.completed.Goals as goal
+use Rattle.check_making.proofs.parameters.Answering.{no_memory}
 
 pub renumbered-requires : goal.renumbered-requires
 renumbered-requires c = record { numbers = subst NumbersAll (sym c.scope-scope.ensures.types) (numbers_all c.args.state.now.types c.requires.settled.built) }

@@ -9,9 +9,9 @@ use Rattle.check_types.proofs.steps.Answering.{exit}
 use Rattle.check_making.specs.declared.making.Surroundings.{Surroundings}
 use Rattle.check_modules.specs.programs.Modules.{HasSettledModules, StandsForModules, modules_behind}
 use Rattle.check_modules.proofs.Checked.{lines_here, name_judged, not_new, first_under_way, offers_told, settled_behind, checked, not_ended, not_declared}
-use Rattle.check_modules.proofs.WantOfMemory.{no_memory}
 use Rattle.check_modules.proofs.Walked.{ends_without}
 use Rattle.check_modules.proofs.checking.check_module.Goals as goal
+use Rattle.check_making.proofs.parameters.Answering.{no_memory}
 
 pub returns-in_err-new_name-clause-judged : goal.returns-in_err-new_name-clause-judged
 returns-in_err-new_name-clause-judged c = λ k h up.

@@ -3,9 +3,9 @@ use Rattle.ob_syntax.specs.Plain.{plain_module}
 use Rattle.check_types.proofs.steps.Answering.{exit}
 use Rattle.check_making.specs.Making.{IsSettled}
 use Rattle.check_modules.specs.programs.Entities.{AreTold}
-use Rattle.check_modules.proofs.WantOfMemory.{no_memory}
 use Rattle.check_modules.proofs.Ends.{not_completed, not_numbered, ends, is_ended, seen_on}
 use Rattle.check_modules.proofs.ending.end_module.Goals as goal
+use Rattle.check_making.proofs.parameters.Answering.{no_memory}
 
 pub module_with-requires-clause-settled : goal.module_with-requires-clause-settled
 module_with-requires-clause-settled c = subst (IsSettled c.args.round.now) (sym c.in_ok-body.ensures.declaring) c.requires.settled

@@ -2,10 +2,11 @@ use Rattle.check_types.proofs.steps.Answering.{exit}
 use Rattle.ob_syntax.specs.Plain.{plain_option, plain_consts, plain_types, plain_vars}
 use Rattle.check_making.proofs.parameters.Answering.{refused, no_memory}
 use Rattle.check_procedures.specs.Parts.{first_parts}
-use Rattle.check_procedures.proofs.Giving.{came, given_so}
+use Rattle.check_procedures.proofs.Giving.{given_so}
 use Rattle.check_procedures.proofs.Uprights.{first_parts_upright}
 use Rattle.check_procedures.proofs.Steadiness.{first_parts_steady, built_so}
 use Rattle.check_procedures.proofs.first_parts.before_procedures.Goals as goal
+use Rattle.check_making.proofs.headings.Heads.{by_given as came}
 
 pub returns-in_err-first_parts-clause-judged : goal.returns-in_err-first_parts-clause-judged
 returns-in_err-first_parts-clause-judged c = λ m h. exit _ c.from_residual.ensures.1 (refused (c.in_err-first_parts.ensures.judged m h.makes))

@@ -4,9 +4,9 @@ use Rattle.legal_tables.specs.Promised.{HasLegalTypes}
 use Rattle.judged_outlines.proofs.Uprights.{consts_upright, types_upright}
 use Rattle.check_types.proofs.steps.Answering.{exit, goes_on, stop}
 use Rattle.check_making.proofs.Growing.{grows_on}
-use Rattle.check_procedures.proofs.Giving.{came}
 use Rattle.check_making.proofs.parameters.Stages.{stands_made}
 use Rattle.check_procedures.proofs.first_parts.first_parts.Goals as goal
+use Rattle.check_making.proofs.headings.Heads.{by_given as came}
 
 pub type_declarations-requires : goal.type_declarations-requires
 type_declarations-requires c = stands_made c.requires c.in_ok-constant_declarations.ensures.settled c.in_ok-constant_declarations.ensures.judged

@@ -7,11 +7,12 @@ use Rattle.ob_types.specs.declared.program.Procedure.{Procedure}
 use Rattle.check_making.specs.Making.{strings_of, IsSettled}
 use Rattle.check_making.proofs.Growing.{variables_still}
 use Rattle.check_making.specs.scopes.Building.{IsLater}
-use Rattle.check_procedures.proofs.Giving.{came, given_so}
+use Rattle.check_procedures.proofs.Giving.{given_so}
 use Rattle.check_procedures.proofs.Uprights.{opening_upright}
 use Rattle.check_procedures.specs.Parts.{opening}
 use Rattle.check_procedures.proofs.Opens.{stands_in, procedure_is_open, heading_there, legal_in, not_headed, opened_so}
 use Rattle.check_procedures.proofs.opening.open_procedure.Goals as goal
+use Rattle.check_making.proofs.headings.Heads.{by_given as came}
 
 pub returns-in_err-number-clause-judged : goal.returns-in_err-number-clause-judged
 returns-in_err-number-clause-judged c = λ m represents. exit _ c.from_residual.ensures.1 (stop _ _ (c.in_err-number.ensures.judged m represents))

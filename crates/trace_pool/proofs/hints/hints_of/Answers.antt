@@ -2,8 +2,9 @@ use Rattle.std.proofs.Common.{◌≡◌, ◌+◌, ◌∷◌, [], length, sym, ap
 use Rattle.std.specs.Prelude.{slice_get}
 use Rattle.pool_core.specs.Tree.{children}
 use Rattle.pool_core.proofs.Moves.{nothing}
-use Rattle.trace_pool.proofs.ChildHints.{fits_more, fits_all, there, past, parent_of_child, within}
+use Rattle.trace_pool.proofs.ChildHints.{fits_more, fits_all, there, parent_of_child, within}
 use Rattle.trace_pool.proofs.hints.hints_of.Goals as goal
+use Rattle.pool_core.proofs.Hands.{none_past as past}
 
 pub hint-requires : goal.hint-requires
 hint-requires g c =

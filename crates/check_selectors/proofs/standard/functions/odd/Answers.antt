@@ -10,12 +10,13 @@ use Rattle.check_types.specs.TypeMeaning.{type_shape}
 use Rattle.check_types.specs.names.Worlds.{table_of, world_of}
 use Rattle.check_operands.specs.Operands.{texts_of, bases_of}
 use Rattle.check_selectors.specs.standard.Made.{changed_by}
-use Rattle.check_selectors.proofs.standard.Kept.{kept_so, number_is, some_mapped, both_true}
+use Rattle.check_selectors.proofs.standard.Kept.{kept_so, number_is, some_mapped}
 use Rattle.ob_types.specs.declared.tree.Unary.TheVariants as TheUnary
 use Rattle.ob_types.specs.declared.tree.Binary.TheVariants as TheBinary
 use Rattle.check_types.specs.declared.steps.fault.CheckFault.TheVariants.{Fault}
 use Rattle.check_selectors.proofs.standard.Refusing.{number_refused}
 use Rattle.check_selectors.proofs.standard.functions.odd.Goals as goal
+use Rattle.ob_types.proofs.Tests.{and_from as both_true}
 
 pub returns-in_ok-tree : goal.returns-in_ok-tree
 returns-in_ok-tree c = λ a h.

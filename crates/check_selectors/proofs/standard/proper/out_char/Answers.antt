@@ -10,10 +10,11 @@ use Rattle.check_types.specs.TypeMeaning.{type_shape}
 use Rattle.check_types.specs.names.Worlds.{table_of, world_of}
 use Rattle.check_operands.specs.Operands.{texts_of, bases_of}
 use Rattle.check_selectors.specs.standard.Made.{changed_by}
-use Rattle.check_selectors.proofs.standard.Kept.{kept_so, number_is, some_mapped, both_true}
+use Rattle.check_selectors.proofs.standard.Kept.{kept_so, number_is, some_mapped}
 use Rattle.ob_types.specs.declared.tree.Unary.TheVariants as TheUnary
 use Rattle.ob_types.specs.declared.tree.Binary.TheVariants as TheBinary
 use Rattle.check_selectors.proofs.standard.proper.out_char.Goals as goal
+use Rattle.ob_types.proofs.Tests.{and_from as both_true}
 
 pub returns : goal.returns
 returns c = λ a h.
