@@ -4,7 +4,8 @@ use Rattle.std.specs.Prelude.{slice_get, slice_index_or, if◌then◌else◌, �
 use Rattle.std.specs.List.{list_any}
 use Rattle.std.proofs.lemmas.List.Sums.{sum_by-cons}
 use Rattle.ob_types.specs.Meaning.{is_value}
-use Rattle.ob_types.specs.Layout.{base_cells}
+use Rattle.ob_types.specs.Trees.{round_up, with_part, in_a_row}
+use Rattle.ob_types.specs.declared.types.Extent.{Extent}
 use Rattle.block_runs.specs.declared.end.End.{End}
 use Rattle.block_runs.specs.declared.end.End.TheVariants.{Return}
 use Rattle.ssa_core.specs.declared.procedure.Op.{Op}
@@ -13,11 +14,11 @@ use Rattle.ssa_lowered.specs.Pieces.{Start, Piece, Appends, Closes, Low, ◌>>=�
 use Rattle.ssa_lowered.specs.Variables.{words_by, Register, Memory, further, zeroing}
 use Rattle.ssa_lowered.specs.Statements.{Deed}
 use Rattle.ssa_lowered.specs.Lowered.{entry, at_entry}
-use Rattle.ob_judge.specs.Shapes.{Shape, Array, Record, Added}
+use Rattle.ob_judge.specs.Shapes.{Shape, Nothing, Array, Record, Added}
 use Rattle.ob_judge.specs.Image as I
-use Rattle.one_lowering.proofs.Sizes.{structured_shape}
+use Rattle.one_lowering.proofs.Sizes.{small_shape, structured_shape}
 use Rattle.one_lowering.proofs.Middle.{low_statements, low_answer}
-use Rattle.one_lowering.proofs.Whole.{Facts, Slot, no_slot, word_count, local_shapes, value_slots, in_register, local_by, parameter_by, store_slots, open_slots, enter, record_at, counted, cells_in, size, place, room, structured_room, scalars_lent, placed, lent_in, zeroed, slots, bytes, site_of, asked, low_whole, low_made, low_procedure, low_procedures}
+use Rattle.one_lowering.proofs.Whole.{Facts, Slot, no_slot, word_count, local_shapes, value_slots, in_register, local_by, parameter_by, store_slots, open_slots, enter, record_at, counted, cells_in, taken, extent_in, size, base_extent, with_parts, place, room, structured_room, scalars_lent, placed, lent_in, zeroed, slots, bytes, site_of, asked, low_whole, low_made, low_procedure, low_procedures}
 use Rattle.moved_code.specs.Procedures.{unplaced_op, unplaced_block, AreAlikeProcs}
 use Rattle.moved_lowering.specs.Within.{IsWithin, AllWithin, FormalsWithin, FieldsWithin, BaseWithin, RecordTypeWithin, ProcedureWithin, ProceduresWithin}
 use Rattle.moved_lowering.specs.Starts.{AllAlikeProcs}
@@ -54,30 +55,48 @@ module _ (x y : Facts) (share : Share x y) where
   cells_same (Record r) i = whole_same r i
   cells_same s i = refl
 
+  taken_same : (r : ℕ) → r < n → taken x r ≡ taken y r
+  taken_same r l = ap (λ t. t.extent) (share.front r l)
+
+  extent_same : (s : Shape) → IsWithin n s → extent_in x s ≡ extent_in y s
+  extent_same (Array k s) i = ap (in_a_row k) (extent_same s i)
+  extent_same (Record r) i = taken_same r i
+  extent_same s i = refl
+
   size_same : (s : Shape) → IsWithin n s → size x s ≡ size y s
-  size_same s i = ap (λ m. 8 * m) (cells_same s i)
+  size_same s i = ap (λ e. e.bytes) (extent_same s i)
 
   room_same : (s : Shape) → IsWithin n s → room x s ≡ room y s
   room_same s i = ap rounded (size_same s i)
 
-  base_same : (o : Option ℕ) → BaseWithin n o → base_cells o (counted x) ≡ base_cells o (counted y)
+  base_same : (o : Option ℕ) → BaseWithin n o → base_extent x o ≡ base_extent y o
   base_same None i = refl
-  base_same (Some b) i = whole_same b i
+  base_same (Some b) i = taken_same b i
 
   abbrev shapes_of : List Added → List Shape
   shapes_of fs = map (λ (f : Added). f.shape) fs
 
-  fields_same : (i : ℕ) (fs : List Added) → FieldsWithin n fs → map (cells_in x) (take i (shapes_of fs)) ≡ map (cells_in y) (take i (shapes_of fs))
-  fields_same zero fs h = refl
-  fields_same (suc i) [] h = refl
-  fields_same (suc i) (f ∷ fs) h = ap₂ (λ m ms. m ∷ ms) (cells_same f.shape h.0) (fields_same i fs h.1)
+  -- what takes as much takes as much with fields behind it
+  fields_same : (d e : Extent) → d ≡ e → (i : ℕ) (fs : List Added) → FieldsWithin n fs → with_parts x d (take i (shapes_of fs)) ≡ with_parts y e (take i (shapes_of fs))
+  fields_same d e g zero fs h = g
+  fields_same d e g (suc i) [] h = g
+  fields_same d e g (suc i) (f ∷ fs) h = fields_same (with_part d (extent_in x f.shape)) (with_part e (extent_in y f.shape)) (ap₂ with_part g (extent_same f.shape h.0)) i fs h.1
+
+  -- a field, or where there is none what stands for it
+  field_same : (i : ℕ) (fs : List Added) → FieldsWithin n fs → extent_in x (slice_index_or (shapes_of fs) i Nothing) ≡ extent_in y (slice_index_or (shapes_of fs) i Nothing)
+  field_same i [] h = refl
+  field_same zero (f ∷ fs) h = extent_same f.shape h.0
+  field_same (suc i) (f ∷ fs) h = field_same i fs h.1
+
+  abbrev place_in : Facts → I.RecordType → ℕ → ℕ
+  place_in z t i = round_up (extent_in z (slice_index_or (shapes_of t.fields) i Nothing)).wide (with_parts z (base_extent z t.base) (take i (shapes_of t.fields))).bytes
 
   place_same : (r i : ℕ) → r < n → place x r i ≡ place y r i
   place_same r i l =
       let t = record_at x r in
       let w = share.within r l in
-      ap₂ (λ a (b : List ℕ). 8 * (a + sum b)) (base_same t.base w.base) (fields_same i t.fields w.fields)
-      ∙ ap (λ (u : I.RecordType). 8 * (base_cells u.base (counted y) + sum (map (cells_in y) (take i (shapes_of u.fields))))) (share.front r l)
+      ap₂ (λ (d e : Extent). round_up d.wide e.bytes) (field_same i t.fields w.fields) (fields_same (base_extent x t.base) (base_extent y t.base) (base_same t.base w.base) i t.fields w.fields)
+      ∙ ap (λ u. place_in y u i) (share.front r l)
 
   ---- variables
 
@@ -109,9 +128,9 @@ module _ (x y : Facts) (share : Share x y) where
       let two = placed_same (rest lent) a (b + 8) zs i.1 in
       let three = placed_same (rest lent) a b zs i.1 in
       λ k.
-      if structured_shape z.0 then record { word = z.1; structured = structured_shape z.0; site = Memory a } ∷ one k
-      else if lent 0 then record { word = z.1; structured = structured_shape z.0; site = Memory b } ∷ two k
-      else record { word = z.1; structured = structured_shape z.0; site = Register } ∷ three k
+      if structured_shape z.0 then record { word = z.1; structured = structured_shape z.0; small = small_shape z.0; site = Memory a } ∷ one k
+      else if lent 0 then record { word = z.1; structured = structured_shape z.0; small = small_shape z.0; site = Memory b } ∷ two k
+      else record { word = z.1; structured = structured_shape z.0; small = small_shape z.0; site = Register } ∷ three k
 
   and_slots : (xs ys : List (Shape × Option ℕ)) → SlotsWithin xs → SlotsWithin ys → SlotsWithin (xs ++ ys)
   and_slots [] ys i j = j
@@ -173,6 +192,7 @@ module _ (x y : Facts) (share : Share x y) where
       char = refl;
       nothing = refl;
       whole = whole_same;
+      whole_bytes = λ r l. ap (λ e. e.bytes) (taken_same r l);
       level = λ r l. ap (λ (t : I.RecordType). t.level) (share.front r l);
       place = place_same;
       parameter = λ k. alike (parameter_by (slice_get q.formals k) (word_count (take k q.formals)));

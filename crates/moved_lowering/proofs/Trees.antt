@@ -1,5 +1,5 @@
 -- What lowering makes of a tree, where another program is asked.
-use Rattle.std.proofs.Common.{◌≡◌, ℕ, suc, ◌+◌, ◌*◌, ◌<◌, Bool, List, [], ◌∷◌, ◌++◌, map, Option, Some, None, refl, sym, ap, ap₂, subst, ◌∙◌}
+use Rattle.std.proofs.Common.{◌≡◌, ℕ, suc, ◌<◌, true, List, [], ◌∷◌, ◌++◌, map, Option, Some, None, refl, subst}
 use Rattle.std.specs.Prelude.{◌&&◌}
 use Rattle.wrapping_numbers.specs.Numbers.{unsigned}
 use Rattle.ob_types.specs.declared.tree.Unary.{Unary}
@@ -16,7 +16,7 @@ use Rattle.ssa_lowered.specs.Variables.{either}
 use Rattle.ssa_lowered.specs.Lowered.{one_of}
 use Rattle.ob_judge.specs.Shapes.{Shape, Array, Record, Open, Text, Char, Nothing, Pointer}
 use Rattle.ob_judge.specs.Image as I
-use Rattle.one_lowering.proofs.Middle.{Asked, length_in, record_in, element_in, byte_in, itself_in, assigned_statements, assigned_branches, assigned_parts, rungs_from, case_of, bound, label_tests, text_at, low_expr, low_link, low_named, low_place, low_call, low_argument, low_arguments, low_value, low_test, low_home, registers, type_tests, low_statement, low_statements, low_alternatives, low_rounds, low_bodies, low_answer}
+use Rattle.one_lowering.proofs.Middle.{Asked, character, small_in, length_in, record_in, element_in, byte_in, itself_in, assigned_statements, assigned_branches, assigned_parts, rungs_from, case_of, bound, label_tests, text_at, low_expr, low_link, low_named, low_place, low_call, low_argument, low_arguments, low_value, low_test, low_home, registers, type_tests, low_statement, low_statements, low_alternatives, low_rounds, low_bodies, low_answer}
 use Rattle.moved_lowering.specs.Within.{IsWithin, ElementOf, RecordOf, InExpr, InLink, InNamed, InPlace, InCall, InArgument, InArguments, InChecked, InStatement, InStatements, InBranches, InParts, InAnswer}
 use Rattle.moved_lowering.proofs.Making.{AreAlike, alike, and_then, same_behind}
 use Rattle.moved_lowering.proofs.Values
@@ -28,6 +28,7 @@ pub record Agree (n : ℕ) (a b : Asked) : Type 0 where
   pub char : a.size Char ≡ b.size Char
   pub nothing : a.size Nothing ≡ b.size Nothing
   pub whole : (r : ℕ) → r < n → a.whole r ≡ b.whole r
+  pub whole_bytes : (r : ℕ) → r < n → a.whole_bytes r ≡ b.whole_bytes r
   pub level : (r : ℕ) → r < n → a.level r ≡ b.level r
   pub place : (r i : ℕ) → r < n → a.place r i ≡ b.place r i
   pub parameter : (k : ℕ) → AreAlike (a.parameter k) (b.parameter k)
@@ -67,7 +68,7 @@ module _ (n : ℕ) (a b : Asked) (h : Agree n a b) where
         let u = expr_alike x i.0 in
         let v = expr_alike y i.1 in
         record { value = Values.compared_alike r u.value v.value; test = Blocks.branch_test (condition r) u.value v.value }
-    expr_alike (I.CompareTexts r d e) i = Blocks.valued_alike (Values.texts_alike 8 r (length_in d) (length_in e) (named_alike d i.0) (named_alike e i.1))
+    expr_alike (I.CompareTexts r d e) i = Blocks.valued_alike (Values.texts_alike character r (length_in d) (length_in e) (named_alike d i.0) (named_alike e i.1))
     expr_alike (I.In x s) i = Blocks.valued_alike (Values.contained_alike (expr_alike x i.0).value (expr_alike s i.1).value)
     expr_alike (I.IsPointer x r) i =
         Blocks.valued_alike (and_then (expr_alike x i.0).value (λ p. at_number (λ l. is_pointer (b.descriptor r) l p) (a.level r) (b.level r) (h.level r i.1) (Values.is_pointer_alike (a.descriptor r) (b.descriptor r) (a.level r) p)))
@@ -138,10 +139,15 @@ module _ (n : ℕ) (a b : Asked) (h : Agree n a b) where
   element_size (I.of_type place (Text k)) i = h.char
   element_size (I.of_type place s) i = h.nothing
 
-  whole_size : (d : I.Designator) → RecordOf n d → a.whole (record_in d) ≡ b.whole (record_in d)
-  whole_size (I.of_type place (Record r)) i = h.whole r i
-  whole_size (I.of_type place (Pointer r)) i = h.whole r i
-  whole_size (I.of_type place s) i = h.whole 0 i
+  whole_cells : (d : I.Designator) → RecordOf n d → a.whole (record_in d) ≡ b.whole (record_in d)
+  whole_cells (I.of_type place (Record r)) i = h.whole r i
+  whole_cells (I.of_type place (Pointer r)) i = h.whole r i
+  whole_cells (I.of_type place s) i = h.whole 0 i
+
+  whole_size : (d : I.Designator) → RecordOf n d → a.whole_bytes (record_in d) ≡ b.whole_bytes (record_in d)
+  whole_size (I.of_type place (Record r)) i = h.whole_bytes r i
+  whole_size (I.of_type place (Pointer r)) i = h.whole_bytes r i
+  whole_size (I.of_type place s) i = h.whole_bytes 0 i
 
   -- ---- CASE
 
@@ -206,21 +212,22 @@ module _ (n : ℕ) (a b : Asked) (h : Agree n a b) where
         at_number (λ size. Rattle.ssa_lowered.specs.Statements.copy_array (low_named b d) (length_in d) (low_named b e) (length_in e) size) (a.size (element_in d)) (b.size (element_in d)) (element_size d i.2)
         (Values.copy_array_alike (length_in d) (length_in e) (a.size (element_in d)) (named_alike d i.0) (named_alike e i.1))
     statement_alike (I.CopyRecord d e) i =
-        at_number (λ size. Rattle.ssa_lowered.specs.Statements.copy_record (low_named b d) (low_named b e) (8 * size)) (a.whole (record_in d)) (b.whole (record_in d)) (whole_size d i.2)
-        (Values.copy_record_alike (8 * a.whole (record_in d)) (named_alike d i.0) (named_alike e i.1))
+        at_number (λ size. Rattle.ssa_lowered.specs.Statements.copy_record (low_named b d) (low_named b e) size) (a.whole_bytes (record_in d)) (b.whole_bytes (record_in d)) (whole_size d i.2)
+        (Values.copy_record_alike (a.whole_bytes (record_in d)) (named_alike d i.0) (named_alike e i.1))
     statement_alike (I.Increase d x) i = Values.change_number_alike Add (byte_in d) (home_alike d i.0) (value_alike x i.1)
     statement_alike (I.Decrease d x) i = Values.change_number_alike Subtract (byte_in d) (home_alike d i.0) (value_alike x i.1)
     statement_alike (I.Include d x) i = Values.change_set_alike Union (home_alike d i.0) (value_alike x i.1)
     statement_alike (I.Exclude d x) i = Values.change_set_alike Difference (home_alike d i.0) (value_alike x i.1)
     statement_alike (I.New d) i =
-        at_number (λ size. Rattle.ssa_lowered.specs.Statements.new (low_home b d) size (rounded (8 * size)) (b.descriptor (record_in d))) (a.whole (record_in d)) (b.whole (record_in d)) (whole_size d i.1)
-        (Values.new_alike (a.whole (record_in d)) (rounded (8 * a.whole (record_in d))) (a.descriptor (record_in d)) (b.descriptor (record_in d)) (home_alike d i.0))
+        at_number (λ size. Rattle.ssa_lowered.specs.Statements.new (low_home b d) (b.whole (record_in d)) (rounded size) (b.descriptor (record_in d))) (a.whole_bytes (record_in d)) (b.whole_bytes (record_in d)) (whole_size d i.1)
+        (at_number (λ cells. Rattle.ssa_lowered.specs.Statements.new (low_home b d) cells (rounded (a.whole_bytes (record_in d))) (b.descriptor (record_in d))) (a.whole (record_in d)) (b.whole (record_in d)) (whole_cells d i.1)
+        (Values.new_alike (a.whole (record_in d)) (rounded (a.whole_bytes (record_in d))) (a.descriptor (record_in d)) (b.descriptor (record_in d)) (home_alike d i.0)))
     statement_alike (I.Assert x) i = Values.assert_alike (value_alike x i)
     statement_alike (I.OutChar x) i = Values.out_char_alike (value_alike x i)
     statement_alike (I.OutInt x k) i = Values.out_int_alike (value_alike x i.0) (value_alike k i.1)
-    statement_alike (I.OutString d) i = Values.out_string_alike 8 (length_in d) (named_alike d i)
+    statement_alike (I.OutString d) i = Values.out_string_alike character (length_in d) (named_alike d i)
     statement_alike I.OutLn i = alike _
-    statement_alike (I.InChar d) i = Values.in_char_alike Rattle.std.proofs.Common.false Rattle.std.proofs.Common.false (named_alike d i)
+    statement_alike (I.InChar d) i = Values.in_char_alike true (small_in d) (named_alike d i)
     statement_alike (I.Invoke c) i = Values.without_result_alike (call_alike c i)
     statement_alike (I.If parts other) i = alternatives_alike parts i.0 (assigned_statements other) (statements_alike other i.1)
     statement_alike (I.While parts) i = by_mask (λ m. loop m (low_rounds b parts)) (assigned_branches parts) (Blocks.loop_alike (registers a (assigned_branches parts)) (low_rounds a parts) (low_rounds b parts) (rounds_alike parts i))

@@ -1,4 +1,4 @@
--- Images that name only the first so many record types, where lowering asks for cells, levels and places.
+-- Images that name only the first so many record types, where lowering asks for cells, bytes, levels and places.
 use Rattle.std.specs.Prelude.{◌<◌, ℕ, List, [], ◌∷◌, Option, Some, None}
 use Rattle.ob_judge.specs.Shapes.{Shape, Array, Record, Open, Pointer, Added}
 use Rattle.ob_judge.specs.Image as I
