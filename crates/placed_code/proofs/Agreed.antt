@@ -13,7 +13,7 @@ use Rattle.block_runs.specs.Points.{least, all_points}
 use Rattle.lir_core.specs.declared.places.Move.{Move}
 use Rattle.placed_code.specs.declared.data.ImageData.{ImageData}
 use Rattle.placed_code.specs.Placed.{Copy, Placed}
-use Rattle.placed_code.specs.Layout.{entry, all_words}
+use Rattle.placed_code.specs.Layout.{all_words}
 use Rattle.placed_code.specs.Claims.{AllInRange, image_of, code_places, breaks_as}
 use Rattle.placed_code.specs.Results.{Allocated, all_placed, procedures_of, IsSequence, AreSoundResults, IsImageOf, same_reason, begins_with, Agrees}
 use Rattle.placed_code.proofs.Parts.{length_map, procedures_are}

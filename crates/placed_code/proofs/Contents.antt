@@ -3,12 +3,11 @@ use Rattle.std.proofs.Common.{◌≡◌, ℕ, suc, ◌+◌, ◌*◌, ◌<◌, �
 use Rattle.std.specs.Prelude.{nat_lt, if◌then◌else◌}
 use Rattle.std.proofs.lemmas.Bool.Decides.{nat_tests, eqb_tells}
 use Rattle.run_laws.specs.Runs.{Moves}
-use Rattle.run_laws.proofs.Layers.{places_from-append}
 use Rattle.a64_memory.specs.Memory.{Area}
 use Rattle.a64_instr.specs.declared.instr.Instr.{Instr}
 use Rattle.a64_machine.specs.State.{State}
 use Rattle.a64_machine.specs.Machine.{step_of}
-use Rattle.a64_machine.proofs.Steps.{Walks, walks-none, walks-append, StandAll, stand_append}
+use Rattle.a64_machine.proofs.Steps.{walks-none, StandAll, stand_append}
 use Rattle.lir_core.specs.Spots.{Spot, reg, home, saved, out, target, same}
 use Rattle.placed_code.specs.Placed.{Copy, copied, all_copied, Placed}
 use Rattle.block_runs.specs.States.{World}

@@ -671,12 +671,12 @@ module _ (l : Linked) (Begins : (p b : ℕ) → (ℕ → ℕ) → (Spot → ℕ)
             let arg : m.registers 0 ≡ (get_or (map f.values us) 0 0) = argument_in (kinds.Svc 3) us v rest r refl 0 0 refl (lit< tt) (omega (arith, n)) in
             let arg' : m.registers 1 ≡ (get_or (map f.values us) 1 0) = argument_in (kinds.Svc 3) us v rest r refl 1 1 refl (lit< tt) (omega (arith, n)) in
             let arg2 : m.registers 2 ≡ (get_or (map f.values us) 2 0) = argument_in (kinds.Svc 3) us v rest r refl 2 2 refl (lit< tt) (omega (arith, n)) in
-            let eight : (get_or (map f.values us) 2 0) ≡ char_bytes = ⊎_elim (λ t. t.1) (λ f. let wrong = f.0 in cc) (eqb_tells (get_or (map f.values us) 2 0) char_bytes) in
-            let arg3 : m.registers 2 ≡ 8 = arg2 ∙ eight in
-            let text : text_at m.memory 8 (get_or (map f.values us) 0 0) (get_or (map f.values us) 1 0) ≡ Bytes bytes = text_flows w.memory c.stack m.memory c.passed.at.memory 8 (get_or (map f.values us) 1 0) (get_or (map f.values us) 0 0) bytes i' in
+            let wide : (get_or (map f.values us) 2 0) ≡ char_bytes = ⊎_elim (λ t. t.1) (λ f. let wrong = f.0 in cc) (eqb_tells (get_or (map f.values us) 2 0) char_bytes) in
+            let arg3 : m.registers 2 ≡ char_bytes = arg2 ∙ wide in
+            let text : text_at m.memory char_bytes (get_or (map f.values us) 0 0) (get_or (map f.values us) 1 0) ≡ Bytes bytes = text_flows w.memory c.stack m.memory c.passed.at.memory char_bytes (get_or (map f.values us) 1 0) (get_or (map f.values us) 0 0) bytes i' in
             let does : service 3 m ≡ Moves bytes t =
             ap (λ (n : ℕ). if n == 1 || n == 8 then writes_text m (text_at m.memory n (m.registers 0) (m.registers 1)) else Traps (why.BadCall 3)) arg3
-            ∙ ap₂ (λ (n o : ℕ). writes_text m (text_at m.memory 8 n o)) arg arg' ∙ ap (writes_text m) text in
+            ∙ ap₂ (λ (n o : ℕ). writes_text m (text_at m.memory char_bytes n o)) arg arg' ∙ ap (writes_text m) text in
             finishes f fs w a e copies (mk (kinds.Svc 3) us v) named cells rest few r 0 bytes w.memory w.next w.free w.input (one_done f fs w a e copies (mk (kinds.Svc 3) us v) named cells rest few r 0 bytes w.input t (i.Svc 3) refl (parts f fs w a e copies (mk (kinds.Svc 3) us v) named cells rest few r).1 does refl refl refl c.passed.at.input c.passed.at.fixed ((λ u. refl), rel.no_answer v 0 (content (proc_of l.procs f.proc) c.stack e.low t.registers) three.1))
 
         by_step : (b : Bool) → ((get_or (map f.values us) 2 0) == char_bytes) ≡ b → Safe (operate l.procs (mk (kinds.Svc 3) us v) f fs w (if b then written w (text_at w.memory char_bytes (get_or (map f.values us) 0 0) (get_or (map f.values us) 1 0)) else Faults 3)) → Came (operate l.procs (mk (kinds.Svc 3) us v) f fs w (if b then written w (text_at w.memory char_bytes (get_or (map f.values us) 0 0) (get_or (map f.values us) 1 0)) else Faults 3))

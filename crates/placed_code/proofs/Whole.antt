@@ -1,5 +1,5 @@
 -- The linked image runs as the flows mean.
-use Rattle.std.proofs.Common.{◌≡◌, ℕ, suc, ◌<◌, ◌≤◌, ◌^◌, List, [], ◌∷◌, ◌++◌, map, length, get_or, refl, arith, sym, ap, ap₂, ◌∙◌, subst}
+use Rattle.std.proofs.Common.{◌≡◌, ℕ, suc, ◌<◌, ◌≤◌, ◌^◌, List, [], ◌∷◌, ◌++◌, map, length, get_or, refl, arith, sym, ap, ◌∙◌, subst}
 use Rattle.std.specs.Prelude.{replicate, drop}
 use Rattle.std.proofs.lemmas.List.{length-replicate}
 use Rattle.run_laws.specs.Runs.{Outcome, Keeps, InStep}
@@ -25,7 +25,7 @@ use Rattle.block_runs.specs.Points.{least, all_points}
 use Rattle.lir_core.specs.Spots.{Spot}
 use Rattle.placed_code.specs.declared.data.ImageData.{ImageData}
 use Rattle.placed_code.specs.Placed.{Placed, procedures, proc_of}
-use Rattle.placed_code.specs.Layout.{entry, all_words, code_of}
+use Rattle.placed_code.specs.Layout.{all_words, code_of}
 use Rattle.placed_code.specs.Results.{begins_with}
 use Rattle.placed_code.specs.Claims.{Ordered, Safe, image_of, code_places, breaks_as}
 use Rattle.placed_code.proofs.Relation.{Starting}
