@@ -9,13 +9,18 @@ use block_runs::Code;
 use ob_types::TypeKind;
 
 /// The bytes from one character of a text to the next.
-pub const CHARACTER_BYTES: u64 = 8;
+pub const CHARACTER_BYTES: u64 = 1;
 
-/// Whether a scalar of a kind takes one byte, and not eight.
-pub fn takes_a_byte(_kind: TypeKind) -> bool
-    ensures { (t : Table) → result ≡ (layout t).is_small _kind }
+/// Whether a scalar of a kind takes one byte, and not eight: a CHAR, a BYTE and a BOOLEAN do.
+pub fn takes_a_byte(kind: TypeKind) -> bool
+    ensures { (t : Table) → result ≡ (layout t).is_small kind }
 {
-    false
+    match kind {
+        TypeKind::Char => true,
+        TypeKind::Byte => true,
+        TypeKind::Bool => true,
+        _ => false,
+    }
 }
 
 /// The load of a scalar that takes one byte, or eight.
