@@ -5,11 +5,13 @@ bench/module_vectors.py takes `vectors` from here: the modules of bench/rows, ma
 that have no image with one choice, the others with each policy, among them both builders and 4 to 16 registers; and modules that
 have the whole language in them, by every choice. bench/other_compiler.py says where the other compiler is.
 """
+import functools
 import itertools
 
 from other_compiler import STAGE, sum_of, sum_of_places
-from module_texts import EXAMPLE_NAMES, WHOLE, example, pieces_of, rows, short_line, spread, texts_line
+from module_texts import EXAMPLE_NAMES, WHOLE, example, pieces_of, rows, short_line, texts_line
 import size_texts
+from size_texts import spread
 import backend  # noqa: E402
 import check  # noqa: E402
 import trc  # noqa: E402
@@ -55,6 +57,21 @@ def sized():
         yield size_texts.copied(offset), CHOICES
 
 
+def same_policies(sources, choice):
+    """A choice of linear in place of mixed where each trace gets that: then the images are one, and the other compiler takes long for the largest."""
+    policy, builder, regs = choice.split()
+    if policy == 'mixed':
+        plan = backend.plan(check.check_sources(sources), builder, STAGE)
+        if all(backend.policy_of(policy, flow, trace) == backend.policy_of('linear', flow, trace) for flow, cut in zip(plan.flows, plan.cuts) for trace in cut):
+            return ' '.join(['linear', builder, regs])
+    return choice
+
+
+@functools.cache
+def answer_once(sources, choice):
+    return answer(sources, choice)
+
+
 def answer(sources, choice):
     policy, builder, regs = choice.split()
     for i, source in enumerate(sources):
@@ -92,9 +109,10 @@ def vectors():
             if not answers[-1].startswith('image'):
                 break
     for short, choices in sized():
+        text = spread(short).encode()
         for choice in choices:
             lines.append(short_line(choice, short))
-            answers.append(answer([spread(short).encode()], choice))
+            answers.append(answer_once((text,), same_policies([text], choice)))
     for name, sources in list(pieces_of(WHOLE)) + [(names[-1], example(*names)) for names in EXAMPLE_NAMES]:
         images = every_image(sources)
         if images:

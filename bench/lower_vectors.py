@@ -8,7 +8,8 @@ import collections
 import sys
 
 from other_compiler import STAGE, proc_line
-from module_texts import EXAMPLE_NAMES, WHOLE, example, pieces_of, short_line, spread, texts_line
+from module_texts import EXAMPLE_NAMES, WHOLE, example, pieces_of, short_line, texts_line
+from size_texts import spread
 import check  # noqa: E402
 import lower  # noqa: E402
 import ssa  # noqa: E402

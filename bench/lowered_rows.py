@@ -23,7 +23,7 @@ import sys
 from other_compiler import STAGE
 import checked_rows
 from checked_rows import HEAD, ARGUMENTS, deep, declared, listed, program_of, rows_of, truth, vectors
-from module_texts import spread
+from size_texts import spread
 import lower
 from stage import Stage
 

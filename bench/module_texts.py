@@ -1,6 +1,5 @@
 """Modules' texts that vectors are made of: those of bench/rows and of the examples, and lines that have them."""
 import os
-import re
 
 from other_compiler import TOP
 
@@ -34,15 +33,6 @@ def rows():
 def example(*names):
     """The texts of examples."""
     return [open(os.path.join(EXAMPLES, name + '.Mod'), 'rb').read() for name in names]
-
-
-def copies(found):
-    return ''.join(found[2].replace('#', str(i)) for i in range(int(found[1])))
-
-
-def spread(short):
-    """A text with its copies: [9*part] stands for so many copies of a part, with their numbers in place of #."""
-    return re.sub(r'\[(\d+)\*([^]]*)\]', copies, short)
 
 
 def written(text):

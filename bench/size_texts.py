@@ -1,6 +1,15 @@
+#!/usr/bin/env python3
 """Modules at the bounds of what a procedure may have, and modules that copy arrays of each length, in short: in them [9*part] stands for so
-many copies of a part, with their numbers in place of #, which module_texts.spread makes, and vector_texts::spread in the programs that read
-them. The homes are those that a value has whatever the policy, as it lives across a call."""
+many copies of a part, with their numbers in place of #, which `spread` makes, and vector_texts::spread in the programs that read
+them.
+
+    bench/size_texts.py (asserts | homes | swaps | branches) VALUES
+
+prints a module with a procedure of about so many values, for bench/values.sh.
+"""
+import re
+import sys
+
 
 # so many statements that make one value each, which live nowhere
 ASSERTS = 'MODULE A; BEGIN [%d*ASSERT(TRUE); ]END A.'
@@ -20,6 +29,10 @@ ARGUMENTS = ('MODULE F; IMPORT Out; VAR s, x, y: INTEGER; f: PROCEDURE (a: INTEG
              'IF d > 0 THEN x := x + P(k - j, i, [18*a#, ]j, x, a4, d - 1) END; [%d*N(c#); ]RETURN x + a5 * Q(k) END P; '
              'BEGIN f := Q; y := P([22*# * 7, ]2, 3); Out.Int(y, 0); Out.Int(s, 9); ASSERT(y = 0) END F.')
 
+# six values for each of so many IFs, each of which reads its own: all live from the first on
+BRANCHES = ('MODULE B; VAR s: INTEGER; PROCEDURE Q(c: CHAR); BEGIN s := s + ORD(c) + 1 END Q; PROCEDURE P(b: BOOLEAN); VAR [%d*c#, d#, e#, f#, g#, h#, ]z: CHAR; '
+            'BEGIN [%d*IF b THEN Q(c#); Q(d#); Q(e#); Q(f#); Q(g#); Q(h#) END; ]Q(z) END P; BEGIN P(TRUE); P(FALSE) END B.')
+
 
 def asserts(n):
     return ASSERTS % n
@@ -37,6 +50,15 @@ def arguments(n):
     return ARGUMENTS % (n, n)
 
 
+def branches(n):
+    return BRANCHES % (n, n)
+
+
+def spread(short):
+    """A text with its copies."""
+    return re.sub(r'\[(\d+)\*([^]]*)\]', lambda found: ''.join(found[2].replace('#', str(i)) for i in range(int(found[1]))), short)
+
+
 def copied(offset):
     """A record with so many characters, an array of each length from 1 to 17 and a character; each array is copied, and a part without cells."""
     before = 'a: ARRAY %d OF CHAR; ' % offset if offset else ''
@@ -49,3 +71,12 @@ def copied(offset):
             'BEGIN %(empty)sy.c := "y"; z.c := "z"; z.e := y.e; Out.Char(z.c); [17*%(put)sPut(r#.b, 65); Put(s#.b, 97); r#.c := "."; s#.c := "!"; s#.b := r#.b; %(show)sShow(s#.b); Out.Char(s#.c); '
             'Put(s#.b, 97); Any(s#.b, r#.b); %(show)sShow(s#.b); Out.Char(s#.c); s# := r#; Show(s#.b); Out.Char(s#.c); Out.Ln; ]END C.') % {
                 'before': before, 'put': put, 'show': show, 'empty': 'Put(y.a, 65); Put(z.a, 97); z.e := y.e; Show(z.a); ' if offset else ''}
+
+
+def main():
+    values = int(sys.argv[2])
+    print(spread({'asserts': lambda: asserts(values), 'homes': lambda: homes(values), 'swaps': lambda: swaps(values // 4 - 3), 'branches': lambda: branches((values - 2) // 6)}[sys.argv[1]]()))
+
+
+if __name__ == '__main__':
+    main()

@@ -14,8 +14,9 @@ import itertools
 import os
 
 from other_compiler import CALLED, folder_of
-from module_texts import pieces_of, row_files, spread
+from module_texts import pieces_of, row_files
 import size_texts
+from size_texts import spread
 import check  # noqa: E402
 import image  # noqa: E402
 import meaning  # noqa: E402

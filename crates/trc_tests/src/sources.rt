@@ -1,7 +1,7 @@
 //! Modules that are refused, and traps that name their procedures, in rows. Expected values come from the language's rules and an
 //! independent compiler.
 
-use std::alloc::AllocGlobal;
+use std::alloc::{AllocError, AllocGlobal, Global};
 use std::test::Fail;
 use trc_base::{Files, MemFiles};
 use trc_calls::{done, refused, runs, wants};
@@ -35,14 +35,55 @@ fn broken_rules_are_told_with_their_places(rt: HostRuntime) -> Result<(), Fail> 
 
 #[test]
 fn a_procedure_has_so_many_values(rt: HostRuntime) -> Result<(), Fail> {
-    let ones = "1+".repeat(rt.alloc(), 1999)?;
+    let ones = "1+".repeat(rt.alloc(), 3999)?;
     runs(
         &rt,
         &format!(in rt.alloc(); "Out.Int({ones}1, 0)")?,
-        done("2000"),
+        done("4000"),
     )?;
     let text = format!(in rt.alloc(); "Out.Int(-{ones}1, 0)")?;
     runs(&rt, &text, refused(3, "trc: limit 50 Values at 0\n"))
+}
+
+/// The policies, and the frame of the image of a body with 8,000 values that live nowhere.
+const FRAMES: [(&str, u32); 2] = [("plain", 64_008), ("linear", 8)];
+
+/// The file in version 1 of an image of one procedure.
+fn first_of(alloc: Global, image: &[u8]) -> Result<Vec<u8>, AllocError> {
+    let mut first = Vec::from_slice(alloc, b"TRC64IMG")?;
+    first.extend_from_slice(&1u32.to_le_bytes())?;
+    first.extend_from_slice(image.get(12..32).unwrap_or(&[]))?;
+    let end = image.len().saturating_sub(12);
+    first.extend_from_slice(image.get(36..end).unwrap_or(&[]))?;
+    Ok(first)
+}
+
+// A body of 8,000 statements that make a value each ends, with a home for each value where the policy asks for one, and its image is
+// built anew from that of version 1, though no image of version 1 may have so large a frame; one of 8,001 is refused.
+#[test]
+fn a_body_has_so_many_assertions(rt: HostRuntime) -> Result<(), Fail> {
+    let body = "ASSERT(TRUE); ".repeat(rt.alloc(), 8000)?;
+    runs(&rt, &body, done(""))?;
+    let text = format!(in rt.alloc(); "MODULE A; BEGIN {body}END A.")?;
+    let mut files = MemFiles::new(rt.alloc(), Vec::new(rt.alloc()));
+    files.put("A.Mod", text.as_bytes())?;
+    for (policy, frame) in FRAMES {
+        let build = ["build", "A", "A.Mod", "--policy", policy];
+        wants(&rt, &build, &mut files, b"", done(""))?;
+        wants(&rt, &["exec", "A"], &mut files, b"", done(""))?;
+        let image = files.read(rt.alloc(), "A", 1_000_000)?;
+        if image.get(28..32) != Some(frame.to_le_bytes().as_slice()) {
+            return Err(Fail::new(policy));
+        }
+        files.put("E", first_of(rt.alloc(), &image)?.as_slice())?;
+        let anew = ["build", "O", "A.Mod", "--policy", policy, "--from", "E"];
+        wants(&rt, &anew, &mut files, b"", done(""))?;
+        if files.read(rt.alloc(), "O", 1_000_000)?.as_slice() != image.as_slice() {
+            return Err(Fail::new(policy));
+        }
+    }
+    let more = format!(in rt.alloc(); "{body}ASSERT(TRUE)")?;
+    runs(&rt, &more, refused(3, "trc: limit 50 Values at 0\n"))
 }
 
 #[test]
