@@ -393,7 +393,7 @@ def printed(short):
 
 
 def called(words, files, given):
-    if words[0] == 'run' and isinstance(files.get('M.Mod'), Short):
+    if words[:1] == ['run'] and isinstance(files.get('M.Mod'), Short):
         return printed(files['M.Mod'])
     return trc.Run(CALLED + words, {name: data.spread() if isinstance(data, Short) else data for name, data in files.items()}, given)
 
