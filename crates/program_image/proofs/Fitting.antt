@@ -8,7 +8,8 @@ use Rattle.ssa_exprs.specs.declared.tables.Tables.{Tables}
 use Rattle.ssa_tables.specs.Faults.{first_limit}
 use Rattle.ssa_tables.specs.Shared.{ServesAll}
 use Rattle.ssa_tables.proofs.Limits.{first_within, few_descriptors}
-use Rattle.ssa_tables.proofs.constants.Counted.{constants_length, globals_length}
+use Rattle.ssa_tables.proofs.constants.Counted.{constants_length, constants_whole}
+use Rattle.ssa_tables.proofs.Rooms.{globals_length, globals_whole}
 use Rattle.ssa_build.proofs.Within.{few_procedures, few_globals, few_constants}
 use Rattle.ssa_core.specs.declared.procedure.Proc.{Proc}
 use Rattle.ssa_lowered.specs.Data.{layout}
@@ -54,8 +55,8 @@ module _ (p : Program) (none : limit_of p ≡ None) where
     few_globals = globals_few;
     few_constants = constants_few;
     few_names = let n = names_length p.procedures in let few = few_procedures p none in omega (arith, n, few);
-    whole_globals = let a = globals_length p in omega (arith, a);
-    whole_constants = let a = constants_length p data_base in omega (arith, a);
+    whole_globals = globals_whole p;
+    whole_constants = constants_whole p data_base;
   }
 
 -- data is the program's by its parts
