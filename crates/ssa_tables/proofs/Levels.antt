@@ -1,14 +1,13 @@
--- How deep arrays are nested in each other, and the sizes of types.
-use Rattle.std.proofs.Common.{◌≡◌, ℕ, zero, suc, ◌+◌, ◌*◌, ◌<◌, ◌≤◌, ◌^◌, ◌%◌, length, List, [], ◌∷◌, get_or, Bool, true, ◌&&◌, Option, Some, None, refl, sym, ap, ◌∙◌, subst, arith}
+-- How deep arrays are nested in each other, and how their cells are counted.
+use Rattle.std.proofs.Common.{◌≡◌, ℕ, zero, suc, ◌+◌, ◌*◌, ◌<◌, ◌≤◌, ◌^◌, ◌%◌, length, List, [], ◌∷◌, get_or, Bool, true, ◌&&◌, Some, refl, sym, ap, ◌∙◌, subst, arith}
 use Rattle.std.proofs.lemmas.Nat.{mul-mod_first}
 use Rattle.ob_types.specs.Table.{Table}
-use Rattle.ob_types.specs.Layout.{kind_of, record_of, types_of, base_cells, cells_by, cells_within, record_within, cells, record_cells, cells_of_all}
+use Rattle.ob_types.specs.Layout.{kind_of, cells}
 use Rattle.ob_types.specs.Forms.{all_below, nests_by, nests, record_nests, rooted, types_fine}
 use Rattle.ob_types.specs.declared.types.TypeKind.{TypeKind}
 use Rattle.ob_types.specs.declared.types.TypeKind.TheVariants.{Array}
-use Rattle.ob_types.specs.declared.types.TypeKind.TheVariants.{Record as RecordOf}
 use Rattle.ob_types.proofs.Tests.{no, and_of, below}
-use Rattle.ob_types.proofs.Counting.{record_stays, cells-array}
+use Rattle.ob_types.proofs.Counting.{cells-array}
 
 abbrev levels_by : (ℕ → ℕ) → TypeKind → ℕ
 levels_by f (Array (Some n) e) = suc (f e)
@@ -41,18 +40,11 @@ module _ (t : Table) where
     nest : (k : ℕ) → k < length t.kinds → nests t (suc depth) k ≡ true
     nest k l = below (length t.kinds) (nests t (suc depth)) (and_of (all_below (length t.kinds) (nests t (suc depth))) rest fine).0 k l
 
-    record_nest : (r : ℕ) → r < length t.records → record_nests t (suc depth) r ≡ true
-    record_nest r l = below (length t.records) (record_nests t (suc depth)) (and_of (all_below (length t.records) (record_nests t (suc depth))) (all_below (length t.records) (rooted t (suc (length t.records)))) (and_of (all_below (length t.kinds) (nests t (suc depth))) rest fine).1).0 r l
-
     pub levels_less : (k n e : ℕ) → k < length t.kinds → kind_of t k ≡ Array (Some n) e → levels e < levels k
     levels_less k n e l is =
         let one : levels k ≡ suc (levels_within depth e) = ap (levels_by (levels_within depth)) is in
         let other : levels_within depth e ≡ levels e = levels_stay depth e (subst (λ kind. nests_by (nests t depth) (record_nests t depth) kind ≡ true) is (nest k l)) in
         omega (arith, one, other)
-
-    -- a record has the cells of its base and of its fields
-    pub record_parts : (r : ℕ) → r < length t.records → record_cells t r ≡ base_cells (record_of t r).base (record_cells t) + cells_of_all t (types_of (record_of t r).fields)
-    record_parts r l = record_stays t (suc depth) r (record_nest r l)
 
     -- one more length of nested arrays is counted
     pub counted_on : (count at n e whole : ℕ) → at < length t.kinds → kind_of t at ≡ Array (Some n) e → (count * cells t at) % 2 ^ 64 ≡ whole % 2 ^ 64 → (count * n % 2 ^ 64 * cells t e) % 2 ^ 64 ≡ whole % 2 ^ 64

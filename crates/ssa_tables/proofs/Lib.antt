@@ -1,6 +1,8 @@
 pub mod Placing
 pub mod Measuring
 pub mod Levels
+pub mod Extents
+pub mod Rooms
 pub mod Variables
 pub mod Texts
 pub mod Serving

@@ -1,8 +1,8 @@
 -- Which limits of data are passed.
-use Rattle.std.proofs.Common.{◌≡◌, ℕ, suc, ◌+◌, ◌-◌, ◌*◌, ◌<◌, ◌≤◌, min, List, [], ◌∷◌, map, take, length, get_or, Bool, true, false, ltb, Option, Some, None, refl, sym, ap, ap₂, ◌∙◌, subst, arith, sum}
-use Rattle.std.specs.Prelude.{if◌then◌else◌, nat_lt}
+use Rattle.std.proofs.Common.{◌≡◌, ℕ, ◌+◌, ◌*◌, ◌<◌, ◌≤◌, min, List, [], ◌∷◌, map, length, Bool, true, false, ltb, Option, Some, None, refl, sym, ap, ap₂, ◌∙◌, arith}
+use Rattle.std.specs.Prelude.{if◌then◌else◌}
 use Rattle.std.specs.List.{sum_by}
-use Rattle.std.proofs.lemmas.Bool.{lt-ltb, ltb-true}
+use Rattle.std.proofs.lemmas.Bool.{lt-ltb}
 use Rattle.std.proofs.lemmas.List.Sums.{sum_by-cons}
 use Rattle.ob_types.specs.Layout.{cells_of_all}
 use Rattle.ob_types.specs.Meaning.{locals_of, texts_of}
@@ -12,7 +12,7 @@ use Rattle.ob_types.specs.declared.program.Procedure.{Procedure}
 use Rattle.ob_types.specs.declared.program.Program.{Program}
 use Rattle.ob_types.proofs.Tests.{none_some}
 use Rattle.ssa_lowered.specs.Data.{within}
-use Rattle.ssa_lowered.specs.Limits.{Limit, or_else, passes, global_cells, constant_cells}
+use Rattle.ssa_lowered.specs.Limits.{Limit, or_else, global_cells, constant_cells}
 use Rattle.ssa_exprs.specs.declared.tables.Tables.{Tables}
 use Rattle.ssa_tables.specs.Faults.{first_limit, last_limit}
 use Rattle.ssa_tables.specs.Local.{pair_of, declared_in, local_limit}
@@ -21,7 +21,7 @@ use Rattle.ssa_tables.specs.Shared.{ServesAll}
 use Rattle.ssa_tables.specs.declared.locals.Variable.{Variable}
 use Rattle.ob_types.specs.Layout.{cells}
 use Rattle.ssa_tables.proofs.Placing.{finish_is, module_finish_is, not_less}
-use Rattle.ssa_tables.proofs.Serving.{room_in_cells}
+use Rattle.ssa_tables.proofs.Rooms.{globals_length}
 use Rattle.ssa_tables.proofs.Variables.{declared_types, declared_cells_are}
 
 abbrev told : ℕ → Bool → Option Limit
@@ -76,7 +76,7 @@ constants_within p n is le = ap (told 58) (not_less 262144 (constant_cells p) (o
 pub few_descriptors : (x : Tables) (p : Program) → ServesAll x p → first_limit p ≡ None → x.descriptors ≤ 8388608
 few_descriptors x p serves first =
     let a = serves.descriptor 0 in
-    let b = room_in_cells p x.sizes serves.size in
+    let b = globals_length p in
     let c = few_globals p first in
     omega (arith, a, b, c)
 

@@ -1,15 +1,15 @@
 -- A well-formed program has sizes that lowering takes.
-use Rattle.std.proofs.Common.{◌≡◌, ℕ, ◌+◌, ◌<◌, ◌≤◌, List, [], ◌∷◌, length, Bool, true, false, ◌&&◌, ltb, leb, Option, Some, None, eqb-true, refl, sym, ap, ap₂, ◌∙◌, subst, arith, ◌⊎◌, inl, inr}
-use Rattle.std.specs.Prelude.{slice_get, nat_lt, nat_le, ◌==◌}
-use Rattle.std.specs.List.{sum_by}
+use Rattle.std.proofs.Common.{◌≡◌, ℕ, ◌+◌, ◌<◌, ◌≤◌, List, [], ◌∷◌, length, Bool, true, ◌&&◌, Option, Some, refl, sym, ap, ap₂, ◌∙◌, subst, ◌⊎◌, inl, inr}
+use Rattle.std.specs.Prelude.{slice_get, nat_le}
 use Rattle.std.proofs.lemmas.Bool.{ltb-true, leb-true}
 use Rattle.std.proofs.lemmas.List.{get_or_past}
 use Rattle.std.proofs.lemmas.List.Sums.{sum_by-cons}
 use Rattle.ob_types.specs.Table.{Table}
 use Rattle.ob_types.specs.Layout.{no_record_type, kind_of, record_of, types_of, cells, record_cells}
 use Rattle.ob_types.specs.Forms.{all, all_below, if_base}
+use Rattle.ob_types.specs.Trees.{record_extent}
 use Rattle.ob_types.specs.LegalTypes.{most_cells, is_length, is_variable_kind, is_variable_type, is_record_type, kind_legal, type_legal, record_legal, signature_legal, types_legal}
-use Rattle.ob_types.specs.WellFormed.{well_formed, argument_words, level_fine, sizes_fine, counts_fine}
+use Rattle.ob_types.specs.WellFormed.{well_formed, argument_words, level_fine, sizes_fine}
 use Rattle.ob_types.specs.WellFormed.{words_of as words_of_mode}
 use Rattle.ob_types.specs.Counted.{IsClosed}
 use Rattle.ob_types.specs.declared.types.Mode.{Mode}
@@ -24,7 +24,7 @@ use Rattle.ob_types.specs.declared.program.Program.{Program}
 use Rattle.ob_types.proofs.Tests.{no, none_some, and_of, below, all_at, less_or_past}
 use Rattle.ob_types.proofs.WellFormedParts.{parts_of, said}
 use Rattle.ssa_lowered.specs.Variables.{words_by, words_of}
-use Rattle.ssa_tables.specs.Measured.{HasSizes, IsMeasured}
+use Rattle.ssa_tables.specs.Measured.{IsMeasured}
 
 words_same : (m : Mode) → words_of_mode m ≡ words_by m
 words_same Value = refl
@@ -125,12 +125,14 @@ measured p h =
     let signatures = all (λ g. nat_le (argument_words g.formals) 24) t.signatures in
     let procedures = all (λ (q : Procedure). nat_le (argument_words q.formals) 24) p.procedures in
     let c = and_of (levels && counted) (signatures && procedures) parts.counts in
-    let records : (r : ℕ) → r < length t.records → (record_of t r).cells ≡ record_cells t r = (λ r lt. (said p r (below (length t.records) (sizes_fine p) (and_of levels counted c.0).1 r lt)).0) in
+    let all_said : (r : ℕ) → r < length t.records → ((record_of t r).cells ≡ record_cells t r) × ((record_of t r).extent ≡ record_extent t r) = (λ r lt. said p r (below (length t.records) (sizes_fine p) (and_of levels counted c.0).1 r lt)) in
+    let records : (r : ℕ) → r < length t.records → (record_of t r).cells ≡ record_cells t r = (λ r lt. (all_said r lt).0) in
     record {
       types = record {
         fine = parts.table;
         closed = closed t parts.legal;
         records = records;
+        extents = λ r lt. (all_said r lt).1;
         few = λ k lt. leb-true (cells t k) most_cells (kind_part t parts.legal k lt).1;
         few_records = λ r lt. subst (λ n. n ≤ 1048576) (records r lt) (leb-true (record_of t r).cells most_cells (record_part t parts.legal r lt).0);
       };

@@ -1,15 +1,18 @@
 -- Where things stand one behind the other.
-use Rattle.std.proofs.Common.{◌≡◌, ℕ, zero, suc, ◌+◌, ◌-◌, ◌*◌, ◌/◌, ◌<◌, ◌≤◌, min, List, [], ◌∷◌, ◌++◌, map, take, drop, length, get_or, Bool, true, false, ltb, refl, sym, ap, ap₂, ◌∙◌, subst, arith, append_assoc, sum, ◌⊎◌, inl, inr}
+use Rattle.std.proofs.Common.{◌≡◌, ℕ, zero, suc, ◌+◌, ◌-◌, ◌<◌, ◌≤◌, List, [], ◌∷◌, ◌++◌, take, drop, length, get_or, Bool, true, false, ltb, refl, sym, ap, ap₂, ◌∙◌, subst, arith, append_assoc, ◌⊎◌, inl, inr}
 use Rattle.std.specs.Prelude.{if◌then◌else◌}
-use Rattle.std.specs.List.{sum_by, flat_map}
+use Rattle.std.specs.List.{sum_by}
 use Rattle.std.proofs.lemmas.Bool.{lt-ltb}
 use Rattle.std.proofs.lemmas.List.{drop_more}
 use Rattle.std.proofs.lemmas.List.Sums.{sum_by-cons}
 use Rattle.std.proofs.Math.ListN.{drop_of_length-le}
+use Rattle.ob_types.specs.Layout.{types_of}
 use Rattle.ob_types.specs.declared.program.Module.{Module}
-use Rattle.ssa_lowered.specs.Data.{within, rounded}
-use Rattle.ssa_exprs.specs.Tables.{clamped}
-use Rattle.ssa_tables.specs.Places.{starts, finish, module_starts, module_finish}
+use Rattle.ob_types.specs.declared.types.Extent.{Extent}
+use Rattle.ob_types.specs.declared.types.Field.{Field}
+use Rattle.ssa_lowered.specs.Data.{within}
+use Rattle.ssa_exprs.specs.Tables.{clamped, of_row}
+use Rattle.ssa_tables.specs.Places.{starts, finish, module_starts, module_finish, begins, field_starts}
 
 ---- What is clamped twice is clamped
 
@@ -21,9 +24,6 @@ within_less a = omega arith
 
 within_same : (a : ℕ) → a ≤ 16777215 → within a ≡ a
 within_same a le = omega (arith, le)
-
-pub rounded_cells : (n : ℕ) → rounded (8 * n) ≡ 8 * n
-rounded_cells n = omega arith
 
 -- the last one ends behind all of them
 pub finish_is : {A : Type 0} (size : A → ℕ) (at : ℕ) (xs : List A) → at ≤ 16777215 → finish size at xs ≡ within (at + sum_by size xs)
@@ -60,7 +60,7 @@ starts_at size at [] (suc i) le = absurd (omega (arith, le))
 starts_at size at (x ∷ xs) zero le = refl
 starts_at size at (x ∷ xs) (suc i) le = starts_at size (within (at + size x)) xs i (omega (arith, le))
 
-clamped_inside : (xs : List ℕ) (i : ℕ) → i < length xs → clamped xs i ≡ get_or xs i 0
+pub clamped_inside : (xs : List ℕ) (i : ℕ) → i < length xs → clamped xs i ≡ get_or xs i 0
 clamped_inside xs i lt = ap (λ (b : Bool). if b then get_or xs i 0 else get_or xs (length xs - 1) 0) (lt-ltb i (length xs) lt)
 
 pub not_less : (i n : ℕ) → n ≤ i → ltb i n ≡ false
@@ -94,6 +94,18 @@ starts_clamped size at xs i = by (less_or_past i (length xs))
         ∙ starts_at size at xs (length xs) (omega arith)
         ∙ ap (λ ys. finish size at ys) (take_all xs (length xs) (omega arith) ∙ sym (take_all xs i (omega (arith, lt))))
 
+---- Lists of lists
+
+pub at_inside : (xss : List (List ℕ)) (i j other : ℕ) → i < length xss → of_row xss i j other ≡ clamped (get_or xss i []) j
+at_inside xss i j other lt = ap (λ (b : Bool). if b then clamped (get_or xss i []) j else other) (lt-ltb i (length xss) lt)
+
+pub at_past : (xss : List (List ℕ)) (i j other : ℕ) → length xss ≤ i → of_row xss i j other ≡ other
+at_past xss i j other le = ap (λ (b : Bool). if b then clamped (get_or xss i []) j else other) (not_less i (length xss) le)
+
+pub take_nothing : {A : Type 0} (n : ℕ) → take {A = A} n [] ≡ []
+take_nothing zero = refl
+take_nothing (suc n) = refl
+
 ---- Steps of loops
 
 pub starts_more : {A : Type 0} (size : A → ℕ) (xs : List A) (i : ℕ) (x : A) (at next : ℕ) (old new all : List ℕ) → i < length xs → x ≡ get_or xs i x → new ≡ old ++ at ∷ [] → next ≡ within (at + size x) → old ++ starts size at (drop i xs) ≡ all → new ++ starts size next (drop (i + 1) xs) ≡ all
@@ -114,6 +126,21 @@ finish_more size xs i x at next end lt is there before =
 
 pub finish_end : {A : Type 0} (size : A → ℕ) (xs : List A) (i at end : ℕ) → length xs ≤ i → finish size at (drop i xs) ≡ end → at ≡ end
 finish_end size xs i at end le before = sym (ap (λ ys. finish size at ys) (drop_of_length-le xs le)) ∙ before
+
+-- the same over fields
+
+pub fields_more : (extent : ℕ → Extent) (fs : List Field) (i : ℕ) (f : Field) (at place next : ℕ) (old new all : List ℕ) → i < length fs → f ≡ get_or fs i f → place ≡ begins (extent f.type_number) at → new ≡ old ++ place ∷ [] → next ≡ within (place + (extent f.type_number).bytes)
+    → old ++ field_starts extent at (types_of (drop i fs)) ≡ all → new ++ field_starts extent next (types_of (drop (i + 1) fs)) ≡ all
+fields_more extent fs i f at place next old new all lt is stands more there before =
+    let e : drop i fs ≡ f ∷ drop (i + 1) fs = drop_more fs i f lt ∙ ap (λ y. y ∷ drop (i + 1) fs) (sym is) in
+    ap₂ (λ l n. l ++ field_starts extent n (types_of (drop (i + 1) fs))) (more ∙ ap (λ n. old ++ n ∷ []) stands) (there ∙ ap (λ n. within (n + (extent f.type_number).bytes)) stands)
+    ∙ append_assoc old (begins (extent f.type_number) at ∷ []) (field_starts extent (within (begins (extent f.type_number) at + (extent f.type_number).bytes)) (types_of (drop (i + 1) fs)))
+    ∙ sym (ap (λ ys. old ++ field_starts extent at (types_of ys)) e)
+    ∙ before
+
+pub fields_end : (extent : ℕ → Extent) (fs : List Field) (i at place : ℕ) (old new all : List ℕ) → length fs ≤ i → place ≡ begins (extent 0) at → new ≡ old ++ place ∷ [] → old ++ field_starts extent at (types_of (drop i fs)) ≡ all → new ≡ all
+fields_end extent fs i at place old new all le stands more before =
+    more ∙ ap (λ n. old ++ n ∷ []) stands ∙ sym (ap (λ ys. old ++ field_starts extent at (types_of ys)) (drop_of_length-le fs le)) ∙ before
 
 -- the same over modules
 

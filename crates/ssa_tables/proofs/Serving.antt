@@ -1,14 +1,14 @@
 -- Tables that are made so are right.
-use Rattle.std.proofs.Common.{◌≡◌, ℕ, zero, suc, ◌+◌, ◌-◌, ◌*◌, ◌<◌, ◌≤◌, min, List, [], ◌∷◌, ◌++◌, map, take, length, get_or, Bool, true, false, ltb, Option, Some, None, refl, sym, ap, ap₂, ◌∙◌, subst, arith, sum, ◌⊎◌, inl, inr}
-use Rattle.std.specs.Prelude.{if◌then◌else◌, slice_get, nat_lt}
+use Rattle.std.proofs.Common.{◌≡◌, ℕ, zero, suc, ◌+◌, ◌*◌, ◌<◌, ◌≤◌, min, List, [], ◌∷◌, map, take, length, get_or, Option, Some, None, refl, sym, ap, ap₂, ◌∙◌, subst, arith, sum, ◌⊎◌, inl, inr}
+use Rattle.std.specs.Prelude.{slice_get}
 use Rattle.std.specs.List.{sum_by}
-use Rattle.std.proofs.lemmas.Bool.{lt-ltb}
 use Rattle.std.proofs.lemmas.List.{get_or-map, get_or_past}
-use Rattle.std.proofs.lemmas.List.Sums.{sum_by-cons, sum-map, sum_by-take-le}
+use Rattle.std.proofs.lemmas.List.Sums.{sum_by-cons, sum_by-take-le}
 use Rattle.ob_types.specs.Table.{Table}
-use Rattle.ob_types.specs.Layout.{no_record_type, kind_of, record_of, types_of, base_cells, cells, cells_of_all, record_cells, field_place}
+use Rattle.ob_types.specs.Layout.{no_record_type, record_of, types_of, base_cells, cells, cells_within, record_within, record_cells}
 use Rattle.ob_types.specs.Meaning.{globals_of, texts_of, text_number}
-use Rattle.ob_types.specs.declared.types.Field.{Field}
+use Rattle.ob_types.specs.Trees.{tree_extent, data_tree}
+use Rattle.ob_types.specs.declared.types.Extent.{Extent}
 use Rattle.ob_types.specs.declared.types.Formal.{Formal}
 use Rattle.ob_types.specs.declared.types.RecordType.{RecordType}
 use Rattle.ob_types.specs.declared.types.Mode.{Mode}
@@ -17,23 +17,22 @@ use Rattle.ob_types.specs.declared.program.Module.{Module}
 use Rattle.ob_types.specs.declared.program.Procedure.{Procedure}
 use Rattle.ob_types.specs.declared.program.Program.{Program}
 use Rattle.ob_types.proofs.Tests.{less_or_past}
-use Rattle.ssa_lowered.specs.Data.{Layout, layout, room, room_of_all, modules_room, global_at, globals_room, descriptor_at, text_room, text_at, within}
+use Rattle.ssa_lowered.specs.Data.{Layout, layout, room, room_of_all, rounded, modules_room, global_at, globals_room, text_room, text_at, within}
 use Rattle.ssa_lowered.specs.Pieces.{give}
-use Rattle.ssa_lowered.specs.Limits.{global_cells, constant_cells}
-use Rattle.ssa_lowered.specs.Lowered.{Here, here_of, by_mode, parameter_by, variable_of}
-use Rattle.ssa_lowered.specs.Variables.{words_by, words_of, Site, Register, Memory}
+use Rattle.ssa_lowered.specs.Lowered.{here_of, by_mode, parameter_by}
+use Rattle.ssa_lowered.specs.Variables.{words_by, words_of, Register}
 use Rattle.ssa_lowered.specs.Variables.{Variable as VariableThere}
 use Rattle.ssa_exprs.specs.Named.{named_of}
-use Rattle.ssa_exprs.specs.Tables.{Serves, clamped, of_row, global_in, descriptor_in, level_in, size_in, offset_in, record_in, local_in, site_by, parameter_in}
+use Rattle.ssa_exprs.specs.Tables.{Serves, clamped, of_row, site_by, parameter_in}
 use Rattle.ssa_exprs.specs.declared.tables.Tables.{Tables}
-use Rattle.ssa_tables.specs.Measured.{HasSizes, IsMeasured}
-use Rattle.ssa_tables.specs.Places.{starts, finish, size_by, type_cells_by, field_size, module_starts, module_finish, base_by, string_size}
+use Rattle.ssa_tables.specs.Measured.{HasSizes}
+use Rattle.ssa_tables.specs.Places.{starts, size_by, room_by, type_cells_by, extent_by, module_starts, module_finish, base_by, field_starts, string_size}
 use Rattle.ssa_tables.specs.Shared.{ServesAll, ServesFrom}
 use Rattle.ssa_tables.specs.Local.{seen, site_of, distance, name_by, parameters_from, AreLocals}
 use Rattle.ssa_tables.specs.declared.locals.Variable.{Variable}
 use Rattle.ssa_tables.specs.declared.locals.Locals.{Locals}
-use Rattle.ssa_tables.proofs.Placing.{finish_is, starts_clamped, module_finish_is, module_starts_at, module_starts_length, rounded_cells, within_on, take_all, not_less}
-use Rattle.ssa_tables.proofs.Levels.{record_parts}
+use Rattle.ssa_tables.proofs.Placing.{finish_is, starts_clamped, module_finish_is, module_starts_at, module_starts_length, within_on, take_all, take_nothing, at_inside, at_past}
+use Rattle.ssa_tables.proofs.Extents.{whole_is, offset_is, offset_few}
 
 ---- Parameters
 
@@ -64,16 +63,6 @@ local_is bytes (v ∷ vs) (suc x) = local_is bytes vs x
 
 ---- What all procedures share
 
-at_inside : (xss : List (List ℕ)) (i j other : ℕ) → i < length xss → of_row xss i j other ≡ clamped (get_or xss i []) j
-at_inside xss i j other lt = ap (λ (b : Bool). if b then clamped (get_or xss i []) j else other) (lt-ltb i (length xss) lt)
-
-at_past : (xss : List (List ℕ)) (i j other : ℕ) → length xss ≤ i → of_row xss i j other ≡ other
-at_past xss i j other le = ap (λ (b : Bool). if b then clamped (get_or xss i []) j else other) (not_less i (length xss) le)
-
-take_nothing : {A : Type 0} (n : ℕ) → take {A = A} n [] ≡ []
-take_nothing zero = refl
-take_nothing (suc n) = refl
-
 take_one : {A : Type 0} (f : A → ℕ) (xs : List A) (i : ℕ) (d : A) → i < length xs → sum_by f (take i xs) + f (get_or xs i d) ≤ sum_by f xs
 take_one f [] i d lt = absurd (omega (arith, lt))
 take_one f (x ∷ xs) zero d lt = let s = sum_by-cons f x xs in omega (arith, s)
@@ -83,31 +72,22 @@ take_one f (x ∷ xs) (suc i) d lt =
     let more = take_one f xs i d (omega (arith, lt)) in
     omega (arith, s, r, more)
 
-module _ (p : Program) (sizes : List ℕ) (known : (k : ℕ) → size_by sizes k ≡ 8 * cells p.types k) where
+module _ (p : Program) (sizes : List ℕ) (known : (k : ℕ) → size_by sizes k ≡ (layout p.types).bytes k) where
   abbrev t : Table
   t = p.types
 
   abbrev l : Layout
   l = layout t
 
-  pub all_room : (ks : List ℕ) → sum_by (size_by sizes) ks ≡ room_of_all l ks
+  pub all_room : (ks : List ℕ) → sum_by (room_by sizes) ks ≡ room_of_all l ks
   all_room [] = refl
   all_room (k ∷ ks) =
-      sum_by-cons (size_by sizes) k ks
-      ∙ ap₂ (λ a b. a + b) (known k ∙ sym (rounded_cells (cells t k))) (all_room ks)
+      sum_by-cons (room_by sizes) k ks
+      ∙ ap₂ (λ a b. a + b) (ap rounded (known k)) (all_room ks)
       ∙ sym (sum_by-cons (λ x. x) (room l k) (map (room l) ks))
 
-  pub room_cells : (ks : List ℕ) → room_of_all l ks ≡ 8 * cells_of_all t ks
-  room_cells [] = refl
-  room_cells (k ∷ ks) =
-      let a = sum_by-cons (λ x. x) (room l k) (map (room l) ks) in
-      let b = sum_by-cons (λ x. x) (cells t k) (map (cells t) ks) in
-      let c = rounded_cells (cells t k) in
-      let more = room_cells ks in
-      omega (arith, a, b, c, more)
-
   abbrev module_size : Module → ℕ
-  module_size m = sum_by (size_by sizes) m.variables
+  module_size m = sum_by (room_by sizes) m.variables
 
   pub modules_are : (ms : List Module) → sum_by module_size ms ≡ sum_by (λ x. room_of_all l x.variables) ms
   modules_are [] = refl
@@ -116,32 +96,17 @@ module _ (p : Program) (sizes : List ℕ) (known : (k : ℕ) → size_by sizes k
       ∙ ap₂ (λ a b. a + b) (all_room m.variables) (modules_are ms)
       ∙ sym (sum_by-cons (λ (x : Module). room_of_all l x.variables) m ms)
 
-  modules_cells : (ms : List Module) → sum_by (λ x. room_of_all l x.variables) ms ≡ 8 * sum_by (λ m. cells_of_all t m.variables) ms
-  modules_cells [] = refl
-  modules_cells (m ∷ ms) =
-      let a = sum_by-cons (λ (x : Module). room_of_all l x.variables) m ms in
-      let b = sum_by-cons (λ (x : Module). cells_of_all t x.variables) m ms in
-      let c = room_cells m.variables in
-      let more = modules_cells ms in
-      omega (arith, a, b, c, more)
-
-  -- where the globals end, in cells
-  pub finish_cells : module_finish (size_by sizes) 8 p.modules ≡ within (8 * global_cells p)
-  finish_cells =
+  -- where the globals end
+  pub finish_globals : module_finish (room_by sizes) 8 p.modules ≡ within (globals_room p l)
+  finish_globals =
       let a = modules_are p.modules in
-      let b = modules_cells p.modules in
-      module_finish_is (size_by sizes) 8 p.modules (omega arith) ∙ (omega (arith, a, b))
-
-  pub room_in_cells : globals_room p l ≡ 8 * global_cells p
-  room_in_cells =
-      let a = modules_cells p.modules in
       let b = ap (λ ms. sum_by (λ (x : Module). room_of_all l x.variables) ms) (take_all p.modules (length p.modules) (omega arith)) in
-      omega (arith, a, b)
+      module_finish_is (room_by sizes) 8 p.modules (omega arith) ∙ (omega (arith, a, b))
 
-  pub globals_end : module_finish (size_by sizes) 8 p.modules ≤ 8388608 → module_finish (size_by sizes) 8 p.modules ≡ globals_room p l
-  globals_end few = let a = finish_cells in let b = room_in_cells in omega (arith, a, b, few)
+  pub globals_end : module_finish (room_by sizes) 8 p.modules ≤ 8388608 → module_finish (room_by sizes) 8 p.modules ≡ globals_room p l
+  globals_end few = let a = finish_globals in omega (arith, a, few)
 
-  module _ (few : module_finish (size_by sizes) 8 p.modules ≤ 8388608) where
+  module _ (few : module_finish (room_by sizes) 8 p.modules ≤ 8388608) where
     abbrev nothing_there : Module
     nothing_there = record { name = []; objects = []; variables = []; body = 0 }
 
@@ -151,124 +116,54 @@ module _ (p : Program) (sizes : List ℕ) (known : (k : ℕ) → size_by sizes k
     modules_take : (m : ℕ) → sum_by module_size (take m p.modules) ≡ modules_room p l m
     modules_take m = modules_are (take m p.modules)
 
-    pub global_is : (m v : ℕ) → of_row (module_starts (size_by sizes) 8 p.modules) m v (module_finish (size_by sizes) 8 p.modules) ≡ global_at p l m v
+    pub global_is : (m v : ℕ) → of_row (module_starts (room_by sizes) 8 p.modules) m v (module_finish (room_by sizes) 8 p.modules) ≡ global_at p l m v
     global_is m v = by (less_or_past m (length p.modules))
       where
-        n : length (module_starts (size_by sizes) 8 p.modules) ≡ length p.modules
-        n = module_starts_length (size_by sizes) 8 p.modules
+        n : length (module_starts (room_by sizes) 8 p.modules) ≡ length p.modules
+        n = module_starts_length (room_by sizes) 8 p.modules
 
-        by : (m < length p.modules) ⊎ (length p.modules ≤ m) → of_row (module_starts (size_by sizes) 8 p.modules) m v (module_finish (size_by sizes) 8 p.modules) ≡ global_at p l m v
+        by : (m < length p.modules) ⊎ (length p.modules ≤ m) → of_row (module_starts (room_by sizes) 8 p.modules) m v (module_finish (room_by sizes) 8 p.modules) ≡ global_at p l m v
         by (inl lt) =
             let ks = globals_of p m in
-            let before = module_finish (size_by sizes) 8 (take m p.modules) in
-            let a : before ≡ within (8 + sum_by module_size (take m p.modules)) = module_finish_is (size_by sizes) 8 (take m p.modules) (omega arith) in
+            let before = module_finish (room_by sizes) 8 (take m p.modules) in
+            let a : before ≡ within (8 + sum_by module_size (take m p.modules)) = module_finish_is (room_by sizes) 8 (take m p.modules) (omega arith) in
             let b = modules_take m in
             let c = take_one module_size p.modules m nothing_there lt in
-            let d = sum_by-take-le (size_by sizes) ks v in
+            let d = sum_by-take-le (room_by sizes) ks v in
             let e = modules_are p.modules in
             let f = small in
             let g = ap (λ ms. sum_by (λ (x : Module). room_of_all l x.variables) ms) (take_all p.modules (length p.modules) (omega arith)) in
             let h = all_room (take v ks) in
             let le : before ≤ 16777215 = omega (arith, a) in
-            at_inside (module_starts (size_by sizes) 8 p.modules) m v (module_finish (size_by sizes) 8 p.modules) (subst (λ k. m < k) (sym n) lt)
-            ∙ ap (λ r. clamped r v) (module_starts_at (size_by sizes) 8 p.modules m nothing_there lt)
-            ∙ starts_clamped (size_by sizes) before ks v
-            ∙ finish_is (size_by sizes) before (take v ks) le
+            at_inside (module_starts (room_by sizes) 8 p.modules) m v (module_finish (room_by sizes) 8 p.modules) (subst (λ k. m < k) (sym n) lt)
+            ∙ ap (λ r. clamped r v) (module_starts_at (room_by sizes) 8 p.modules m nothing_there lt)
+            ∙ starts_clamped (room_by sizes) before ks v
+            ∙ finish_is (room_by sizes) before (take v ks) le
             ∙ (omega (arith, a, b, c, d, e, f, g, h))
         by (inr le) =
             let none : globals_of p m ≡ [] = ap (λ (x : Module). x.variables) (get_or_past p.modules m nothing_there le) in
             let a = ap (room_of_all l) (ap (take v) none ∙ take_nothing v) in
             let b = ap (λ ms. sum_by (λ (x : Module). room_of_all l x.variables) ms) (take_all p.modules (length p.modules) (omega arith) ∙ sym (take_all p.modules m le)) in
-            at_past (module_starts (size_by sizes) 8 p.modules) m v (module_finish (size_by sizes) 8 p.modules) (subst (λ k. k ≤ m) (sym n) le)
+            at_past (module_starts (room_by sizes) 8 p.modules) m v (module_finish (room_by sizes) 8 p.modules) (subst (λ k. k ≤ m) (sym n) le)
             ∙ globals_end few
             ∙ (omega (arith, a, b))
 
   ---- Records
 
   module _ (has : HasSizes t) where
-    abbrev record_bytes : List ℕ
-    record_bytes = map (λ (r : RecordType). 8 * r.cells) t.records
-
-    pub whole_is : (r : ℕ) → get_or record_bytes r 0 ≡ 8 * record_cells t r
-    whole_is r = by (less_or_past r (length t.records))
-      where
-        by : (r < length t.records) ⊎ (length t.records ≤ r) → get_or record_bytes r 0 ≡ 8 * record_cells t r
-        by (inl lt) = get_or-map (λ (x : RecordType). 8 * x.cells) t.records r no_record_type 0 lt ∙ ap (λ n. 8 * n) (has.records r lt)
-        by (inr le) = get_or_past record_bytes r 0 (subst (λ n. n ≤ r) (sym (map_length t.records)) le) ∙ sym (ap (λ n. 8 * n) (none r le))
-          where
-            map_length : (xs : List RecordType) → length (map (λ (x : RecordType). 8 * x.cells) xs) ≡ length xs
-            map_length [] = refl
-            map_length (x ∷ xs) = ap suc (map_length xs)
-
-            none : (r : ℕ) → length t.records ≤ r → record_cells t r ≡ 0
-            none r le = ap (λ (x : RecordType). base_cells x.base (λ b. Rattle.ob_types.specs.Layout.record_within t (length t.kinds + length t.records) b) + sum (map (λ k. Rattle.ob_types.specs.Layout.cells_within t (length t.kinds + length t.records) k) (types_of x.fields))) (get_or_past t.records r no_record_type le)
-
     cells_is : (r : ℕ) → get_or (map (λ (x : RecordType). x.cells) t.records) r 0 ≡ record_cells t r
     cells_is r = by (less_or_past r (length t.records))
       where
+        length_of : (xs : List RecordType) → length (map (λ (x : RecordType). x.cells) xs) ≡ length xs
+        length_of [] = refl
+        length_of (x ∷ xs) = ap suc (length_of xs)
+
+        none : (r : ℕ) → length t.records ≤ r → record_cells t r ≡ 0
+        none r le = ap (λ (x : RecordType). base_cells x.base (record_within t (length t.kinds + length t.records)) + sum (map (cells_within t (length t.kinds + length t.records)) (types_of x.fields))) (get_or_past t.records r no_record_type le)
+
         by : (r < length t.records) ⊎ (length t.records ≤ r) → get_or (map (λ (x : RecordType). x.cells) t.records) r 0 ≡ record_cells t r
         by (inl lt) = get_or-map (λ (x : RecordType). x.cells) t.records r no_record_type 0 lt ∙ has.records r lt
-        by (inr le) = let e = whole_is r in let f = get_or_past record_bytes r 0 (subst (λ n. n ≤ r) (sym (length_of (λ (x : RecordType). 8 * x.cells) t.records)) le) in
-            get_or_past (map (λ (x : RecordType). x.cells) t.records) r 0 (subst (λ n. n ≤ r) (sym (length_of (λ (x : RecordType). x.cells) t.records)) le) ∙ omega (arith, e, f)
-          where
-            length_of : (f : RecordType → ℕ) (xs : List RecordType) → length (map f xs) ≡ length xs
-            length_of f [] = refl
-            length_of f (x ∷ xs) = ap suc (length_of f xs)
-
-    base_is : (o : Option ℕ) → base_by record_bytes o ≡ 8 * base_cells o (record_cells t)
-    base_is None = refl
-    base_is (Some b) = whole_is b
-
-    fields_are : (fs : List Field) → sum_by (field_size sizes) fs ≡ 8 * cells_of_all t (types_of fs)
-    fields_are [] = refl
-    fields_are (f ∷ fs) =
-        let a = sum_by-cons (field_size sizes) f fs in
-        let b = sum_by-cons (λ x. x) (cells t f.type_number) (map (cells t) (types_of fs)) in
-        let c = known f.type_number in
-        let more = fields_are fs in
-        omega (arith, a, b, c, more)
-
-    types_take : (i : ℕ) (fs : List Field) → types_of (take i fs) ≡ take i (types_of fs)
-    types_take zero [] = refl
-    types_take zero (f ∷ fs) = refl
-    types_take (suc i) [] = refl
-    types_take (suc i) (f ∷ fs) = ap (λ ks. f.type_number ∷ ks) (types_take i fs)
-
-    abbrev row_of : RecordType → List ℕ
-    row_of r = starts (field_size sizes) (base_by record_bytes r.base) r.fields
-
-    -- a field's offset, and that it is in range
-    inside : (r field : ℕ) → r < length t.records → (clamped (row_of (record_of t r)) field ≡ 8 * field_place t r field) × (8 * field_place t r field ≤ 8388608)
-    inside r field lt =
-        let x = record_of t r in
-        let first = base_by record_bytes x.base in
-        let a = base_is x.base in
-        let b = fields_are (take field x.fields) ∙ ap (λ ks. 8 * cells_of_all t ks) (types_take field x.fields) in
-        let c = sum_by-take-le (field_size sizes) x.fields field in
-        let d = fields_are x.fields in
-        let e = record_parts t has.fine r lt in
-        let f = has.few_records r lt in
-        let le : first ≤ 16777215 = omega (arith, a, e, f) in
-        let is = starts_clamped (field_size sizes) first x.fields field ∙ finish_is (field_size sizes) first (take field x.fields) le in
-        (omega (arith, a, b, c, d, e, f, is), omega (arith, a, b, c, d, e, f))
-
-    offset_both : (r field : ℕ) → (of_row (map row_of t.records) r field 0 ≡ 8 * field_place t r field) × (8 * field_place t r field ≤ 8388608)
-    offset_both r field = by (less_or_past r (length t.records))
-      where
-        rows_length : (xs : List RecordType) → length (map row_of xs) ≡ length xs
-        rows_length [] = refl
-        rows_length (x ∷ xs) = ap suc (rows_length xs)
-
-        by : (r < length t.records) ⊎ (length t.records ≤ r) → (of_row (map row_of t.records) r field 0 ≡ 8 * field_place t r field) × (8 * field_place t r field ≤ 8388608)
-        by (inl lt) = (
-          at_inside (map row_of t.records) r field 0 (subst (λ n. r < n) (sym (rows_length t.records)) lt) ∙ ap (λ row. clamped row field) (get_or-map row_of t.records r no_record_type [] lt) ∙ (inside r field lt).0,
-          (inside r field lt).1,
-        )
-        by (inr le) =
-            let a : field_place t r field ≡ 0 + cells_of_all t (take {A = ℕ} field []) = ap (λ (x : RecordType). base_cells x.base (record_cells t) + cells_of_all t (take field (types_of x.fields))) (get_or_past t.records r no_record_type le) in
-            let b : cells_of_all t (take {A = ℕ} field []) ≡ 0 = ap (cells_of_all t) (take_nothing field) in
-            let none : field_place t r field ≡ 0 = omega (arith, a, b) in
-            (at_past (map row_of t.records) r field 0 (subst (λ n. n ≤ r) (sym (rows_length t.records)) le) ∙ omega (arith, none), omega (arith, none))
+        by (inr le) = get_or_past (map (λ (x : RecordType). x.cells) t.records) r 0 (subst (λ n. n ≤ r) (sym (length_of t.records)) le) ∙ sym (none r le)
 
     level_is : (r : ℕ) → get_or (map (λ (x : RecordType). x.level) t.records) r 0 ≡ (record_of t r).level
     level_is r = by t.records r
@@ -278,31 +173,40 @@ module _ (p : Program) (sizes : List ℕ) (known : (k : ℕ) → size_by sizes k
         by (x ∷ xs) zero = refl
         by (x ∷ xs) (suc r) = by xs r
 
-    string_is : (first n : ℕ) → first ≡ within (module_finish (size_by sizes) 8 p.modules + 128 * length t.records) → module_finish (size_by sizes) 8 p.modules ≤ 8388608 → clamped (starts string_size first (texts_of p.procedures)) n ≡ within (text_at p l n)
+    one_room : (xs : List ℕ) → string_size xs ≡ text_room l xs
+    one_room xs = omega arith
+
+    texts_room : (xss : List (List ℕ)) → sum_by string_size xss ≡ sum_by (text_room l) xss
+    texts_room [] = refl
+    texts_room (xs ∷ xss) = sum_by-cons string_size xs xss ∙ ap₂ (λ a b. a + b) (one_room xs) (texts_room xss) ∙ sym (sum_by-cons (text_room l) xs xss)
+
+    string_is : (first n : ℕ) → first ≡ within (module_finish (room_by sizes) 8 p.modules + 128 * length t.records) → module_finish (room_by sizes) 8 p.modules ≤ 8388608 → clamped (starts string_size first (texts_of p.procedures)) n ≡ within (text_at p l n)
     string_is first n is few =
         let e = globals_end few in
         let le : first ≤ 16777215 = omega (arith, is) in
+        let rooms = texts_room (take n (texts_of p.procedures)) in
         starts_clamped string_size first (texts_of p.procedures) n
         ∙ finish_is string_size first (take n (texts_of p.procedures)) le
         ∙ ap (λ m. within (m + sum_by string_size (take n (texts_of p.procedures)))) (is ∙ ap (λ m. within (m + 128 * length t.records)) e)
         ∙ within_on (globals_room p l) (128 * length t.records) (sum_by string_size (take n (texts_of p.procedures)))
-        ∙ (omega arith)
+        ∙ omega (arith, rooms)
 
     -- all of them
-    pub serves_all : (x : Tables) (first : ℕ) → module_finish (size_by sizes) 8 p.modules ≤ 8388608
-        → x.globals ≡ module_starts (size_by sizes) 8 p.modules → x.descriptors ≡ module_finish (size_by sizes) 8 p.modules
-        → x.levels ≡ map (λ (r : RecordType). r.level) t.records → x.sizes ≡ sizes → x.records ≡ record_bytes → x.cells ≡ map (λ (r : RecordType). r.cells) t.records → ((k : ℕ) → type_cells_by x.type_cells k ≡ cells t k) → x.offsets ≡ map row_of t.records
-        → first ≡ within (module_finish (size_by sizes) 8 p.modules + 128 * length t.records) → x.texts ≡ starts string_size first (texts_of p.procedures) → ServesAll x p
-    serves_all x first few globals descriptors levels all records cells_of_records cells_of_types offsets place texts = record {
+    pub serves_all : (x : Tables) (extents : List Extent) (first : ℕ) → ((k : ℕ) → extent_by extents k ≡ tree_extent (data_tree t k)) → module_finish (room_by sizes) 8 p.modules ≤ 8388608
+        → x.globals ≡ module_starts (room_by sizes) 8 p.modules → x.descriptors ≡ module_finish (room_by sizes) 8 p.modules
+        → x.levels ≡ map (λ (r : RecordType). r.level) t.records → x.sizes ≡ sizes → x.records ≡ map (λ (r : RecordType). r.extent.bytes) t.records → x.cells ≡ map (λ (r : RecordType). r.cells) t.records
+        → ((k : ℕ) → type_cells_by x.type_cells k ≡ cells t k) → x.offsets ≡ map (λ (r : RecordType). field_starts (extent_by extents) (base_by (map (λ (y : RecordType). y.extent.bytes) t.records) r.base) (types_of r.fields)) t.records
+        → first ≡ within (module_finish (room_by sizes) 8 p.modules + 128 * length t.records) → x.texts ≡ starts string_size first (texts_of p.procedures) → ServesAll x p
+    serves_all x extents first taken few globals descriptors levels all records cells_of_records cells_of_types offsets place texts = record {
       global = λ m v. ap₂ (λ rows d. of_row rows m v d) globals descriptors ∙ global_is few m v;
       descriptor = λ r. ap (λ d. min (d + 128 * r) 16777215) (descriptors ∙ globals_end few);
       level = λ r. ap (λ xs. get_or xs r 0) levels ∙ level_is r;
       size = λ k. ap (λ xs. size_by xs k) all ∙ known k;
-      whole = λ r. ap (λ xs. get_or xs r 0) records ∙ whole_is r;
+      whole = λ r. ap (λ xs. get_or xs r 0) records ∙ whole_is t has r;
       cells = λ r. ap (λ xs. get_or xs r 0) cells_of_records ∙ cells_is r;
       type_cells = cells_of_types;
-      offset = λ r field. ap (λ rows. of_row rows r field 0) offsets ∙ (offset_both r field).0;
-      short = λ r field. let e = ap (λ rows. of_row rows r field 0) offsets ∙ (offset_both r field).0 in let f = (offset_both r field).1 in omega (arith, e, f);
+      offset = λ r field. ap (λ rows. of_row rows r field 0) offsets ∙ offset_is t has extents taken r field;
+      short = λ r field. let e = ap (λ rows. of_row rows r field 0) offsets in let f = offset_few t has extents taken r field in omega (arith, e, f);
       text = λ n. ap (λ xs. clamped xs n) texts ∙ string_is first n place few;
     }
 

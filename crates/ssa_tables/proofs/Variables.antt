@@ -1,36 +1,34 @@
 -- A procedure's variables: what is declared, whose addresses are made, and where they stand.
-use Rattle.std.proofs.Common.{◌≡◌, ◌≢◌, ℕ, zero, suc, ◌+◌, ◌-◌, ◌*◌, ◌/◌, ◌<◌, ◌≤◌, List, [], ◌∷◌, ◌++◌, map, take, drop, set, replicate, length, get_or, Bool, true, false, cond, not, eqb, ◌||◌, ◌&&◌, Option, Some, None, eqb-true, refl, sym, ap, ap₂, ◌∙◌, subst, arith, append_assoc, sum}
-use Rattle.std.specs.Prelude.{◌==◌, if◌then◌else◌, slice_get}
+use Rattle.std.proofs.Common.{◌≡◌, ◌≢◌, ℕ, zero, suc, ◌+◌, ◌*◌, ◌<◌, ◌≤◌, List, [], ◌∷◌, ◌++◌, map, drop, set, replicate, length, get_or, Bool, true, false, cond, not, ◌||◌, ◌&&◌, Option, Some, None, eqb-true, refl, sym, ap, ap₂, ◌∙◌, subst, arith, append_assoc}
+use Rattle.std.specs.Prelude.{◌==◌, if◌then◌else◌}
 use Rattle.std.specs.List.{sum_by, filter}
 use Rattle.std.proofs.lemmas.Bool.{eq-eqb}
 use Rattle.std.proofs.lemmas.List.{drop_more, get_or-set_same, get_or-set_other, length-set, get_or-replicate}
 use Rattle.std.proofs.lemmas.List.Sums.{sum_by-cons}
-use Rattle.std.proofs.Math.ListN.{drop_of_length-le}
 use Rattle.ob_types.specs.Table.{Table}
 use Rattle.ob_types.specs.Layout.{kind_of, cells, cells_by, cells_within, record_within, cells_of_all}
 use Rattle.ob_types.specs.Meaning.{is_value, locals_of}
 use Rattle.ob_types.specs.declared.types.TypeKind.{TypeKind}
 use Rattle.ob_types.specs.declared.types.TypeKind.TheVariants.{Array}
 use Rattle.ob_types.specs.declared.types.TypeKind.TheVariants.{Record as RecordOf}
-use Rattle.ob_types.specs.declared.types.Mode.{Mode}
-use Rattle.ob_types.specs.declared.types.Mode.TheVariants.{Value, Place, Record, Open}
 use Rattle.ob_types.specs.declared.types.Formal.{Formal}
 use Rattle.ob_types.specs.declared.program.Procedure.{Procedure}
 use Rattle.ob_types.specs.declared.program.Program.{Program}
 use Rattle.ob_types.proofs.Tests.{no}
 use Rattle.ssa_assigned.specs.Assigned.{has}
 use Rattle.ssa_assigned.proofs.Noting.{or_assoc, or_false}
-use Rattle.ssa_lowered.specs.Data.{Layout, layout, room, within}
+use Rattle.ssa_lowered.specs.Data.{Layout, layout, room, rounded, within}
 use Rattle.ssa_lowered.specs.Pieces.{Mask, rest}
-use Rattle.ssa_lowered.specs.Lowered.{here_of, zeroed_bytes, lent_in_body}
-use Rattle.ssa_lowered.specs.Variables.{Site, Register, Memory, is_structured, structured_room, scalars_lent, placed, value_parameters, words_by, words_of}
+use Rattle.ssa_lowered.specs.Lowered.{lent_in_body}
+use Rattle.ssa_lowered.specs.Variables.{Site, Register, Memory, is_structured, structured_room, scalars_lent, placed, value_parameters, words_by}
 use Rattle.ssa_lowered.specs.Variables.{Variable as VariableThere}
-use Rattle.ssa_tables.specs.Places.{finish, size_by, type_cells_by}
+use Rattle.ssa_tables.specs.Places.{finish, size_by, room_by, type_cells_by}
 use Rattle.ssa_tables.specs.Local.{pair_of, declared_in, seen, marked, place_in, ends_behind, placed_by, ends_by, structured_size, AreLocals}
 use Rattle.ssa_tables.specs.declared.locals.Variable.{Variable}
 use Rattle.ssa_tables.specs.declared.locals.Locals.{Locals}
 use Rattle.ssa_tables.specs.declared.locals.Ends.{Ends}
-use Rattle.ssa_tables.proofs.Placing.{finish_is, rounded_cells}
+use Rattle.ssa_tables.proofs.Placing.{finish_is}
+use Rattle.ssa_tables.proofs.Rooms.{room_few}
 
 abbrev type_in : Variable → ℕ
 type_in v = v.type_number
@@ -123,12 +121,12 @@ single_by f w (Array n e) h = no (sym h)
 single_by f w (RecordOf r) h = no (sym h)
 single_by f w _ h = refl
 
-module _ (t : Table) (sizes : List ℕ) (known : (k : ℕ) → size_by sizes k ≡ 8 * cells t k) where
+module _ (t : Table) (sizes : List ℕ) (known : (k : ℕ) → size_by sizes k ≡ (layout t).bytes k) where
   abbrev l : Layout
   l = layout t
 
-  pub room_is : (k : ℕ) → room l k ≡ size_by sizes k
-  room_is k = rounded_cells (cells t k) ∙ sym (known k)
+  room_is : (k : ℕ) → room l k ≡ room_by sizes k
+  room_is k = ap rounded (sym (known k))
 
   -- how many cells are scalars in memory, one of which is this
   abbrev scalar : Mask → ℕ → ℕ
@@ -138,8 +136,8 @@ module _ (t : Table) (sizes : List ℕ) (known : (k : ℕ) → size_by sizes k �
   sizes_cons k ks = sum_by-cons (λ j. if is_structured (kind_of t j) then room l j else 0) k ks
 
   one_fits : (k : ℕ) (b lent : Bool) → is_structured (kind_of t k) ≡ b → (if b then room l k else 0) + 8 * cond (lent && not b) 1 0 ≤ 8 * cells t k
-  one_fits k true true is = let e = room_is k ∙ known k in omega (arith, e)
-  one_fits k true false is = let e = room_is k ∙ known k in omega (arith, e)
+  one_fits k true true is = let e = room_few t k in omega (arith, e)
+  one_fits k true false is = let e = room_few t k in omega (arith, e)
   one_fits k false true is = let e : cells t k ≡ 1 = single_by (cells_within t (length t.kinds + length t.records)) (record_within t (length t.kinds + length t.records)) (kind_of t k) is in omega (arith, e)
   one_fits k false false is = omega arith
 
@@ -175,11 +173,11 @@ module _ (t : Table) (sizes : List ℕ) (known : (k : ℕ) → size_by sizes k �
 
   -- where the next ones stand
   range_on : (lent : Mask) (a b : ℕ) (v : Variable) (vs : List Variable) (s m : Bool) → is_structured (kind_of t v.type_number) ≡ s → m ≡ lent 0 → Range lent a b (v ∷ vs)
-      → ends_behind s m (size_by sizes v.type_number) (ends a b) ≡ (if s then ends (a + room l v.type_number) b else (if m then ends a (b + 8) else ends a b))
+      → ends_behind s m (room_by sizes v.type_number) (ends a b) ≡ (if s then ends (a + room l v.type_number) b else (if m then ends a (b + 8) else ends a b))
   range_on lent a b v vs true m is same range =
       let one = sizes_cons v.type_number (map type_in vs) ∙ ap (λ z. (if z then room l v.type_number else 0) + structured_room t l (map type_in vs)) is in
       let e = room_is v.type_number in
-      let n : within (a + size_by sizes v.type_number) ≡ a + room l v.type_number = omega (arith, one, e, range.0) in
+      let n : within (a + room_by sizes v.type_number) ≡ a + room l v.type_number = omega (arith, one, e, range.0) in
       ap (λ z. ends z b) n
   range_on lent a b v vs false true is same range =
       let one : scalars_lent t l lent (map type_in (v ∷ vs)) ≡ 1 + scalars_lent t l (rest lent) (map type_in vs) = ap₂ (λ x y. cond (x && not y) 1 0 + scalars_lent t l (rest lent) (map type_in vs)) (sym same) is in
@@ -220,10 +218,10 @@ module _ (t : Table) (sizes : List ℕ) (known : (k : ℕ) → size_by sizes k �
   one_placed : (ms : List Bool) (lent : Mask) (v : Variable) (vs : List Variable) (a b : ℕ) → Range lent a b (v ∷ vs)
       → ((c d : ℕ) → Range (rest lent) c d vs → map seen (placed_by t sizes ms (ends c d) vs) ≡ placed t l (rest lent) c d (map pair_of vs))
       → (s n : Bool) → is_structured (kind_of t v.type_number) ≡ s → n ≡ lent 0
-      → seen (record v { place = place_in s n (ends a b) }) ∷ map seen (placed_by t sizes ms (ends_behind s n (size_by sizes v.type_number) (ends a b)) vs) ≡ placed t l lent a b (map pair_of (v ∷ vs))
+      → seen (record v { place = place_in s n (ends a b) }) ∷ map seen (placed_by t sizes ms (ends_behind s n (room_by sizes v.type_number) (ends a b)) vs) ≡ placed t l lent a b (map pair_of (v ∷ vs))
   one_placed ms lent v vs a b range more s n is at = by s n is at ∙ sym (ap₂ (whole lent v vs a b) is (sym at))
     where
-      by : (x y : Bool) → is_structured (kind_of t v.type_number) ≡ x → y ≡ lent 0 → seen (record v { place = place_in x y (ends a b) }) ∷ behind ms vs (ends_behind x y (size_by sizes v.type_number) (ends a b)) ≡ whole lent v vs a b x y
+      by : (x y : Bool) → is_structured (kind_of t v.type_number) ≡ x → y ≡ lent 0 → seen (record v { place = place_in x y (ends a b) }) ∷ behind ms vs (ends_behind x y (room_by sizes v.type_number) (ends a b)) ≡ whole lent v vs a b x y
       by true y is at = ap (λ r. there v (Memory a) ∷ r) (ap (behind ms vs) (range_on lent a b v vs true y is at range) ∙ more (a + room l v.type_number) b (range_rest lent a b v vs true y is at range))
       by false true is at = ap (λ r. there v (Memory b) ∷ r) (ap (behind ms vs) (range_on lent a b v vs false true is at range) ∙ more a (b + 8) (range_rest lent a b v vs false true is at range))
       by false false is at = ap (λ r. there v Register ∷ r) (more a b (range_rest lent a b v vs false false is at range))
@@ -238,10 +236,10 @@ module _ (t : Table) (sizes : List ℕ) (known : (k : ℕ) → size_by sizes k �
   one_end : (ms : List Bool) (lent : Mask) (v : Variable) (vs : List Variable) (a b : ℕ) → Range lent a b (v ∷ vs)
       → ((c d : ℕ) → Range (rest lent) c d vs → (ends_by t sizes ms (ends c d) vs).scalar ≡ d + 8 * scalars_lent t l (rest lent) (map type_in vs))
       → (s n : Bool) → is_structured (kind_of t v.type_number) ≡ s → n ≡ lent 0
-      → (ends_by t sizes ms (ends_behind s n (size_by sizes v.type_number) (ends a b)) vs).scalar ≡ b + 8 * scalars_lent t l lent (map type_in (v ∷ vs))
+      → (ends_by t sizes ms (ends_behind s n (room_by sizes v.type_number) (ends a b)) vs).scalar ≡ b + 8 * scalars_lent t l lent (map type_in (v ∷ vs))
   one_end ms lent v vs a b range more s n is at = by s n is at
     where
-      by : (x y : Bool) → is_structured (kind_of t v.type_number) ≡ x → y ≡ lent 0 → end_behind ms vs (ends_behind x y (size_by sizes v.type_number) (ends a b)) ≡ b + 8 * scalars_lent t l lent (map type_in (v ∷ vs))
+      by : (x y : Bool) → is_structured (kind_of t v.type_number) ≡ x → y ≡ lent 0 → end_behind ms vs (ends_behind x y (room_by sizes v.type_number) (ends a b)) ≡ b + 8 * scalars_lent t l lent (map type_in (v ∷ vs))
       by true true is at =
           let one : scalars_lent t l lent (map type_in (v ∷ vs)) ≡ 0 + scalars_lent t l (rest lent) (map type_in vs) = ap₂ (λ x y. cond (x && not y) 1 0 + scalars_lent t l (rest lent) (map type_in vs)) (sym at) is in
           let e = ap (end_behind ms vs) (range_on lent a b v vs true true is at range) ∙ more (a + room l v.type_number) b (range_rest lent a b v vs true true is at range) in
@@ -300,14 +298,14 @@ module _ (t : Table) (counts : List ℕ) (counted : (k : ℕ) → type_cells_by 
 -- a loop's step over marks and variables
 module _ (t : Table) (sizes : List ℕ) where
   pub place_more : (ms : List Bool) (vs : List Variable) (i : ℕ) (m : Bool) (v w : Variable) (e next : Ends) (old new all : List Variable) (last : Ends) → i < length ms → i < length vs → m ≡ get_or ms i m → v ≡ get_or vs i v
-      → new ≡ old ++ w ∷ [] → w ≡ record v { place = place_in (is_structured (kind_of t v.type_number)) m e } → next ≡ ends_behind (is_structured (kind_of t v.type_number)) m (size_by sizes v.type_number) e
+      → new ≡ old ++ w ∷ [] → w ≡ record v { place = place_in (is_structured (kind_of t v.type_number)) m e } → next ≡ ends_behind (is_structured (kind_of t v.type_number)) m (room_by sizes v.type_number) e
       → (old ++ placed_by t sizes (drop i ms) e (drop i vs) ≡ all) × (ends_by t sizes (drop i ms) e (drop i vs) ≡ last)
       → (new ++ placed_by t sizes (drop (i + 1) ms) next (drop (i + 1) vs) ≡ all) × (ends_by t sizes (drop (i + 1) ms) next (drop (i + 1) vs) ≡ last)
   place_more ms vs i m v w e next old new all last ltm ltv mis vis more one there before =
       let a : drop i ms ≡ m ∷ drop (i + 1) ms = drop_more ms i m ltm ∙ ap (λ y. y ∷ drop (i + 1) ms) (sym mis) in
       let b : drop i vs ≡ v ∷ drop (i + 1) vs = drop_more vs i v ltv ∙ ap (λ y. y ∷ drop (i + 1) vs) (sym vis) in (
         ap₂ (λ l n. l ++ placed_by t sizes (drop (i + 1) ms) n (drop (i + 1) vs)) (more ∙ ap (λ x. old ++ x ∷ []) one) there
-            ∙ append_assoc old (record v { place = place_in (is_structured (kind_of t v.type_number)) m e } ∷ []) (placed_by t sizes (drop (i + 1) ms) (ends_behind (is_structured (kind_of t v.type_number)) m (size_by sizes v.type_number) e) (drop (i + 1) vs))
+            ∙ append_assoc old (record v { place = place_in (is_structured (kind_of t v.type_number)) m e } ∷ []) (placed_by t sizes (drop (i + 1) ms) (ends_behind (is_structured (kind_of t v.type_number)) m (room_by sizes v.type_number) e) (drop (i + 1) vs))
             ∙ sym (ap₂ (λ x y. old ++ placed_by t sizes x e y) a b)
             ∙ before.0,
         ap (λ n. ends_by t sizes (drop (i + 1) ms) n (drop (i + 1) vs)) there ∙ sym (ap₂ (λ x y. ends_by t sizes x e y) a b) ∙ before.1,

@@ -1,9 +1,5 @@
 -- Which limit a fault tells of.
-use Rattle.std.specs.Prelude.{◌≡◌, ℕ, length, nat_lt, Option, Some}
-use Rattle.ob_types.specs.Layout.{cells_of_all}
-use Rattle.ob_types.specs.Meaning.{locals_of}
-use Rattle.ob_types.specs.Table.{Table}
-use Rattle.ob_types.specs.declared.program.Procedure.{Procedure}
+use Rattle.std.specs.Prelude.{◌≡◌, length, nat_lt, Option, Some}
 use Rattle.ob_types.specs.declared.program.Program.{Program}
 use Rattle.ssa_lowered.specs.Limits.{Limit, or_else, passes, global_cells, constant_cells}
 use Rattle.ssa_tables.specs.declared.fault.LowerFault.{LowerFault}

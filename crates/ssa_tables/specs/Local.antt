@@ -1,7 +1,7 @@
 -- A procedure's variables, as code holds them, and their places.
-use Rattle.std.specs.Prelude.{◌≡◌, ℕ, suc, ◌+◌, ◌-◌, ◌*◌, ◌++◌, List, [], ◌∷◌, map, Bool, true, false, nat_lt, if◌then◌else◌, Option, Some, None, slice_set, slice_get, length, take}
+use Rattle.std.specs.Prelude.{◌≡◌, ℕ, suc, ◌+◌, ◌-◌, ◌++◌, List, [], ◌∷◌, map, Bool, true, false, nat_lt, if◌then◌else◌, Option, Some, None, slice_set}
 use Rattle.ob_types.specs.Layout.{kind_of, cells_of_all}
-use Rattle.ob_types.specs.Meaning.{locals_of, texts_of}
+use Rattle.ob_types.specs.Meaning.{locals_of}
 use Rattle.ob_types.specs.Table.{Table}
 use Rattle.ob_types.specs.declared.types.Mode.{Mode}
 use Rattle.ob_types.specs.declared.types.Mode.TheVariants.{Record as OfRecord, Open as OfOpen}
@@ -15,7 +15,7 @@ use Rattle.ssa_lowered.specs.Variables.{Site, Register, Memory, is_structured, v
 use Rattle.ssa_lowered.specs.Variables.{Variable as VariableThere}
 use Rattle.ssa_exprs.specs.declared.named.Named.{Named}
 use Rattle.ssa_exprs.specs.declared.named.Named.TheVariants.{At, Beside}
-use Rattle.ssa_tables.specs.Places.{size_by}
+use Rattle.ssa_tables.specs.Places.{room_by}
 use Rattle.ssa_tables.specs.declared.locals.Variable.{Variable}
 use Rattle.ssa_tables.specs.declared.locals.Locals.{Locals}
 use Rattle.ssa_tables.specs.declared.locals.Ends.{Ends}
@@ -47,23 +47,23 @@ place_in false true e = Some e.scalar
 place_in false false e = None
 
 abbrev pub ends_behind : (structured lent : Bool) → ℕ → Ends → Ends
-ends_behind true lent size e = record e { structured = within (e.structured + size) }
-ends_behind false true size e = record e { scalar = within (e.scalar + 8) }
-ends_behind false false size e = e
+ends_behind true lent room e = record e { structured = within (e.structured + room) }
+ends_behind false true room e = record e { scalar = within (e.scalar + 8) }
+ends_behind false false room e = e
 
 module _ (t : Table) (sizes : List ℕ) where
   abbrev pub structured_size : Variable → ℕ
-  structured_size v = if is_structured (kind_of t v.type_number) then size_by sizes v.type_number else 0
+  structured_size v = if is_structured (kind_of t v.type_number) then room_by sizes v.type_number else 0
 
   -- variables with their places, by a mark for each whose address is made
   abbrev pub placed_by : List Bool → Ends → List Variable → List Variable
   placed_by (m ∷ ms) e (v ∷ vs) =
       record v { place = place_in (is_structured (kind_of t v.type_number)) m e }
-      ∷ placed_by ms (ends_behind (is_structured (kind_of t v.type_number)) m (size_by sizes v.type_number) e) vs
+      ∷ placed_by ms (ends_behind (is_structured (kind_of t v.type_number)) m (room_by sizes v.type_number) e) vs
   placed_by _ e _ = []
 
   abbrev pub ends_by : List Bool → Ends → List Variable → Ends
-  ends_by (m ∷ ms) e (v ∷ vs) = ends_by ms (ends_behind (is_structured (kind_of t v.type_number)) m (size_by sizes v.type_number) e) vs
+  ends_by (m ∷ ms) e (v ∷ vs) = ends_by ms (ends_behind (is_structured (kind_of t v.type_number)) m (room_by sizes v.type_number) e) vs
   ends_by _ e _ = e
 
 -- the variables of a procedure of a program, their cells, and the bytes of its local data

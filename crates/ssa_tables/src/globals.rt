@@ -1,7 +1,7 @@
 //! Where the variables of modules stand.
 
 ghost use Rattle.std.specs.Prelude.{◌≡◌, IfOk};
-ghost use Rattle.ssa_tables.specs.Places.{module_starts, module_finish, size_by};
+ghost use Rattle.ssa_tables.specs.Places.{module_starts, module_finish, room_by};
 
 use crate::places::{variable_places, variables_end};
 use items::Items;
@@ -16,7 +16,7 @@ pub fn module_places(
     first: u32,
     modules: &[Module],
 ) -> Result<Items<Items<u32>>, Memory>
-    ensures { IfOk result (λ list. list ≡ module_starts (size_by sizes.now) first modules.now) }
+    ensures { IfOk result (λ list. list ≡ module_starts (room_by sizes.now) first modules.now) }
 {
     let mut list = Items::new(alloc);
     let mut at = first;
@@ -30,7 +30,7 @@ pub fn module_places(
 
 /// Where the last variable of the last module ends.
 pub fn modules_end(sizes: &[u32], first: u32, modules: &[Module]) -> u32
-    ensures { result ≡ module_finish (size_by sizes.now) first modules.now }
+    ensures { result ≡ module_finish (room_by sizes.now) first modules.now }
 {
     let mut at = first;
     for m in modules {

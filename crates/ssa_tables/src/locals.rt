@@ -1,10 +1,11 @@
 //! A procedure's variables: which are in memory, and where.
 
-ghost use Rattle.std.specs.Prelude.{◌≡◌, ◌+◌, ◌*◌, ◌≤◌, ◌<◌, ◌++◌, ℕ, map, length, replicate, false, slice_index_or, Option, Some, None, IfOk, OnOk, IfErr};
+ghost use Rattle.std.specs.Prelude.{◌≡◌, ◌+◌, ◌≤◌, ◌<◌, ◌++◌, ℕ, map, min, length, replicate, false, slice_index_or, Option, Some, None, IfOk, OnOk, IfErr};
 ghost use Rattle.ob_types.specs.Layout.{kind_of, cells, cells_of_all};
 ghost use Rattle.ob_types.specs.Meaning.{is_value};
 ghost use Rattle.ob_types.specs.declared.program.Program.{Program};
 ghost use Rattle.ssa_assigned.specs.Assigned.{has};
+ghost use Rattle.ssa_lowered.specs.Data.{layout, rounded};
 ghost use Rattle.ssa_lowered.specs.Variables.{is_structured, value_parameters, words_by, words_of};
 ghost use Rattle.ssa_tables.specs.Faults.{Tells};
 ghost use Rattle.ssa_tables.specs.Measured.{HasSizes};
@@ -14,7 +15,7 @@ ghost use Rattle.ssa_tables.specs.Local.{AreLocals, declared_in, pair_of, marked
 use crate::cells::declared_cells;
 use crate::fault::LowerFault;
 use crate::lent::lend_in_body;
-use crate::places::{beyond, size_in};
+use crate::places::{behind, beyond, size_in};
 use items::Items;
 use ob_types::{Formal, Mode, Procedure, TypeKind, Types};
 use outside::Memory;
@@ -68,7 +69,7 @@ pub fn local_data(
 ) -> Result<Locals, LowerFault>
     requires sizes { HasSizes types.now }
     requires words { words_of procedure.now.formals ≤ 24 }
-    requires known { (k : ℕ) → size_by sizes.now k ≡ 8 * cells types.now k }
+    requires known { (k : ℕ) → size_by sizes.now k ≡ (layout types.now).bytes k }
     requires counted { (k : ℕ) → type_cells_by counts.now k ≡ cells types.now k }
     ensures ok { IfOk result (λ x. (p : Program) → p.types ≡ types.now → AreLocals x p f procedure.now) }
     ensures within { OnOk result ((p : Program) → p.types ≡ types.now → local_limit p f procedure.now ≡ None) }
@@ -167,19 +168,19 @@ fn structured_finish(types: &Types, sizes: &[u32], list: &[Variable]) -> u32
 {
     let mut at = 0;
     for v in list {
-        at = beyond(at, structured_bytes(types, sizes, *v));
+        at = behind_structured(types, sizes, at, *v);
     }
     at
 }
 
-/// The bytes of a variable that is an array or a record.
-fn structured_bytes(types: &Types, sizes: &[u32], v: Variable) -> u32
-    ensures { result ≡ structured_size types.now sizes.now v }
+/// Where the next array or record begins, behind a variable if that is one.
+fn behind_structured(types: &Types, sizes: &[u32], at: u32, v: Variable) -> u32
+    ensures { result ≡ min (at + structured_size types.now sizes.now v) 16777215 }
 {
     if is_structured(types.kind(v.type_number)) {
-        size_in(sizes, v.type_number)
+        behind(at, size_in(sizes, v.type_number))
     } else {
-        0
+        beyond(at, 0)
     }
 }
 
@@ -218,7 +219,7 @@ fn placed(
     count: u32,
 ) -> Result<Locals, Memory>
     requires sizes { HasSizes types.now }
-    requires known { (k : ℕ) → size_by sizes.now k ≡ 8 * cells types.now k }
+    requires known { (k : ℕ) → size_by sizes.now k ≡ (layout types.now).bytes k }
     requires declared { map pair_of declared.now ≡ declared_in procedure.now }
     requires counted { count ≡ cells_of_all types.now (map (λ v. v.type_number) declared.now) }
     requires few { count ≤ 1048576 }
@@ -283,13 +284,13 @@ fn place_for(structured: bool, lent: bool, ends: Ends) -> Option<u32>
     }
 }
 
-/// Where the next variables stand.
+/// Where the next variables stand, behind one of some bytes.
 fn next_ends(structured: bool, lent: bool, bytes: u32, ends: Ends) -> Ends
-    ensures { result ≡ ends_behind structured lent bytes ends }
+    ensures { result ≡ ends_behind structured lent (rounded bytes) ends }
 {
     if structured {
         Ends {
-            structured: beyond(ends.structured, bytes),
+            structured: behind(ends.structured, bytes),
             scalar: ends.scalar,
         }
     } else if lent {

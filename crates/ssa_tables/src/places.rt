@@ -1,7 +1,8 @@
 //! Things that stand one behind the other, in bytes. What passes 24 bits is clamped, as addresses are.
 
 ghost use Rattle.std.specs.Prelude.{◌≡◌, ◌+◌, min, IfOk};
-ghost use Rattle.ssa_tables.specs.Places.{starts, finish, size_by};
+ghost use Rattle.ssa_lowered.specs.Data.{rounded};
+ghost use Rattle.ssa_tables.specs.Places.{starts, finish, size_by, room_by};
 
 use items::Items;
 use outside::Memory;
@@ -14,7 +15,14 @@ pub fn beyond(at: u32, bytes: u32) -> u32
     (u64::from(at) + u64::from(bytes)).min(16777215) as u32
 }
 
-/// The size of a type in a table; a type that isn't in it has one cell.
+/// Where the next variable begins, behind one that has some bytes: these are rounded up to a multiple of 8.
+pub fn behind(at: u32, bytes: u32) -> u32
+    ensures { result ≡ min (at + rounded bytes) 16777215 }
+{
+    (u64::from(at) + (u64::from(bytes) + 7) / 8 * 8).min(16777215) as u32
+}
+
+/// The bytes of a type in a table; a type that isn't in it has one cell, of eight bytes.
 pub fn size_in(sizes: &[u32], k: u32) -> u32
     ensures { result ≡ size_by sizes.now k }
 {
@@ -29,13 +37,13 @@ pub fn variable_places(
     first: u32,
     types: &[u32],
 ) -> Result<Items<u32>, Memory>
-    ensures { IfOk result (λ list. list ≡ starts (size_by sizes.now) first types.now) }
+    ensures { IfOk result (λ list. list ≡ starts (room_by sizes.now) first types.now) }
 {
     let mut list = Items::new(alloc);
     let mut at = first;
     for k in types {
         list.push(at)?;
-        at = beyond(at, size_in(sizes, *k));
+        at = behind(at, size_in(sizes, *k));
     }
     list.push(at)?;
     Ok(list)
@@ -43,11 +51,11 @@ pub fn variable_places(
 
 /// Where the last of some variables ends.
 pub fn variables_end(sizes: &[u32], first: u32, types: &[u32]) -> u32
-    ensures { result ≡ finish (size_by sizes.now) first types.now }
+    ensures { result ≡ finish (room_by sizes.now) first types.now }
 {
     let mut at = first;
     for k in types {
-        at = beyond(at, size_in(sizes, *k));
+        at = behind(at, size_in(sizes, *k));
     }
     at
 }

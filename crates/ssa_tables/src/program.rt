@@ -12,7 +12,9 @@ use crate::fault::LowerFault;
 use crate::fields::field_offsets;
 use crate::globals::{module_places, modules_end};
 use crate::places::beyond;
-use crate::sizes::{cells_of_records, record_levels, record_sizes, type_cells, type_sizes};
+use crate::sizes::{
+    cells_of_records, record_levels, record_sizes, type_cells, type_extents, type_sizes,
+};
 use crate::strings::string_places;
 use items::Items;
 use ob_types::Program;
@@ -74,13 +76,14 @@ fn shared(alloc: Global, program: &Program, type_cells: Items<u32>) -> Result<Ta
     let types = &program.types;
     let modules = program.modules.as_slice();
     let procedures = program.procedures.as_slice();
-    let sizes = type_sizes(alloc, types, type_cells.as_slice())?;
+    let extents = type_extents(alloc, types)?;
+    let sizes = type_sizes(alloc, extents.as_slice())?;
     let records = record_sizes(alloc, types)?;
     let cells = cells_of_records(alloc, types)?;
     let levels = record_levels(alloc, types)?;
     let globals = module_places(alloc, sizes.as_slice(), 8, modules)?;
     let descriptors = modules_end(sizes.as_slice(), 8, modules);
-    let offsets = field_offsets(alloc, types, sizes.as_slice(), records.as_slice())?;
+    let offsets = field_offsets(alloc, types, extents.as_slice(), records.as_slice())?;
     let first = behind_descriptors(descriptors, types.records().len());
     let texts = string_places(alloc, first, procedures)?;
     Ok(Tables {

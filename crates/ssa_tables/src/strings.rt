@@ -1,12 +1,12 @@
-//! Where strings stand.
+//! Where strings stand, a byte a character, each at a multiple of 8.
 
-ghost use Rattle.std.specs.Prelude.{◌≡◌, suc, ◌+◌, ◌*◌, min, IfOk};
+ghost use Rattle.std.specs.Prelude.{◌≡◌, suc, ◌+◌, min, IfOk};
 ghost use Rattle.ob_types.specs.Meaning.{texts_of};
 ghost use Rattle.ssa_lowered.specs.Data.{rounded};
 ghost use Rattle.ssa_tables.specs.Places.{starts, string_size};
 ghost use Rattle.ssa_tables.specs.Strings.{Adds};
 
-use crate::places::beyond;
+use crate::places::behind;
 use items::Items;
 use ob_types::{Characters, Procedure};
 use outside::Memory;
@@ -43,10 +43,10 @@ fn add_strings(list: &mut Items<u32>, first: u32, texts: &[Characters]) -> Resul
 
 /// Where a string of so many characters ends, with its 0X.
 fn behind_string(at: u32, characters: usize) -> u32
-    ensures { result ≡ min (at + rounded (8 * suc characters)) 16777215 }
+    ensures { result ≡ min (at + rounded (suc characters)) 16777215 }
 {
-    if characters < 2097152 {
-        beyond(at, 8 * (characters as u32 + 1))
+    if characters < 16777215 {
+        behind(at, characters as u32 + 1)
     } else {
         16777215
     }

@@ -1,19 +1,18 @@
--- How many bytes constants have.
-use Rattle.std.proofs.Common.{◌≡◌, ℕ, zero, suc, ◌+◌, ◌*◌, List, [], ◌∷◌, ◌++◌, length, length-append, map, refl, sym, ap, ap₂, ◌∙◌, arith}
+-- How many bytes constants have: eight a cell at most, in whole words.
+use Rattle.std.proofs.Common.{◌≡◌, ℕ, zero, suc, ◌+◌, ◌-◌, ◌*◌, ◌≤◌, List, [], ◌∷◌, replicate, length, length-append, refl, sym, ap, ap₂, ◌∙◌, arith}
+use Rattle.std.specs.Prelude.{◌%◌}
 use Rattle.std.specs.List.{flat_map, sum_by}
 use Rattle.std.specs.Int.{to_le_bytes, w64}
 use Rattle.std.proofs.lemmas.List.Sums.{sum_by-cons}
-use Rattle.ob_types.specs.Layout.{cells, cells_of_all}
 use Rattle.ob_types.specs.Meaning.{texts_of}
-use Rattle.ob_types.specs.declared.program.Module.{Module}
 use Rattle.ob_types.specs.declared.program.Program.{Program}
 use Rattle.ssa_lowered.specs.Constants.{ancestor, constants}
-use Rattle.ssa_lowered.specs.Data.{Layout, layout, globals_room, room, room_of_all}
-use Rattle.ssa_lowered.specs.Limits.{global_cells, constant_cells}
+use Rattle.ssa_lowered.specs.Data.{layout, globals_room, rounded}
+use Rattle.ssa_lowered.specs.Limits.{constant_cells}
 use Rattle.ssa_lowered.specs.Pieces.{numbers}
-use Rattle.ssa_tables.specs.constants.Described.{address_by, described, all_described, character_in_cell, all_texts}
+use Rattle.ssa_tables.specs.Places.{string_size}
+use Rattle.ssa_tables.specs.constants.Described.{address_by, described, all_described, padded, all_texts}
 use Rattle.ssa_tables.proofs.constants.Telling.{constants_are}
-use Rattle.ssa_tables.proofs.Placing.{rounded_cells, take_all}
 
 -- items that take so many bytes each
 alike : {A : Type 0} (f : A → List ℕ) (n : ℕ) → ((x : A) → length (f x) ≡ n) → (xs : List A) → length (flat_map f xs) ≡ n * length xs
@@ -42,50 +41,47 @@ module _ (p : Program) (first : ℕ) where
       let b = numbers_length 0 (length p.types.records) in
       omega (arith, a, b)
 
-  texts_length : (xss : List (List ℕ)) → length (all_texts xss) ≡ 8 * sum_by (λ xs. suc (length xs)) xss
-  texts_length [] = refl
-  texts_length (xs ∷ xss) =
-      let a = length-append (flat_map character_in_cell xs ++ character_in_cell 0) (all_texts xss) in
-      let b = length-append (flat_map character_in_cell xs) (character_in_cell 0) in
-      let c = alike character_in_cell 8 (λ x. refl) xs in
-      let d = sum_by-cons (λ (ys : List ℕ). suc (length ys)) xs xss in
-      let e : length (character_in_cell 0) ≡ 8 = refl in
-      let more = texts_length xss in
-      omega (arith, a, b, c, d, e, more)
+  length_zeros : (n : ℕ) → length {A = ℕ} (replicate n 0) ≡ n
+  length_zeros zero = refl
+  length_zeros (suc n) = ap suc (length_zeros n)
 
-pub constants_length : (p : Program) (globals : ℕ) → length (constants p (layout p.types) globals) ≡ 8 * constant_cells p
-constants_length p globals =
-    let first = globals + globals_room p (layout p.types) in
-    let a = sym (ap (λ (l : List ℕ). length l) (constants_are p globals first refl)) in
-    let b = length-append (all_described p.types first) (all_texts (texts_of p.procedures)) in
-    let c = descriptors_length p first in
-    let d = texts_length p first (texts_of p.procedures) in
-    omega (arith, a, b, c, d)
-
-module _ (p : Program) where
-  abbrev l : Layout
-  l = layout p.types
-
-  variables_room : (ks : List ℕ) → room_of_all l ks ≡ 8 * cells_of_all p.types ks
-  variables_room [] = refl
-  variables_room (k ∷ ks) =
-      let a = sum_by-cons (λ x. x) (room l k) (map (room l) ks) in
-      let b = sum_by-cons (λ x. x) (cells p.types k) (map (cells p.types) ks) in
-      let c = rounded_cells (cells p.types k) in
-      let more = variables_room ks in
-      omega (arith, a, b, c, more)
-
-  all_modules : (ms : List Module) → sum_by (λ x. room_of_all l x.variables) ms ≡ 8 * sum_by (λ m. cells_of_all p.types m.variables) ms
-  all_modules [] = refl
-  all_modules (m ∷ ms) =
-      let a = sum_by-cons (λ (x : Module). room_of_all l x.variables) m ms in
-      let b = sum_by-cons (λ (x : Module). cells_of_all p.types x.variables) m ms in
-      let c = variables_room m.variables in
-      let more = all_modules ms in
-      omega (arith, a, b, c, more)
-
-  pub globals_length : globals_room p l ≡ 8 * global_cells p
-  globals_length =
-      let a = all_modules p.modules in
-      let b = ap (λ ms. sum_by (λ (x : Module). room_of_all l x.variables) ms) (take_all p.modules (length p.modules) (omega arith)) in
+  padded_length : (xs : List ℕ) → length (padded xs) ≡ rounded (suc (length xs))
+  padded_length xs =
+      let a = length-append xs (replicate (string_size xs - length xs) 0) in
+      let b = length_zeros (string_size xs - length xs) in
       omega (arith, a, b)
+
+  -- eight bytes a cell at most, in whole words
+  texts_few : (xss : List (List ℕ)) → length (all_texts xss) ≤ 8 * sum_by (λ xs. suc (length xs)) xss
+  texts_few [] = omega arith
+  texts_few (xs ∷ xss) =
+      let a = length-append (padded xs) (all_texts xss) in
+      let b = padded_length xs in
+      let c = sum_by-cons (λ (ys : List ℕ). suc (length ys)) xs xss in
+      let more = texts_few xss in
+      omega (arith, a, b, c, more)
+
+  texts_whole : (xss : List (List ℕ)) → length (all_texts xss) % 8 ≡ 0
+  texts_whole [] = omega arith
+  texts_whole (xs ∷ xss) =
+      let a = length-append (padded xs) (all_texts xss) in
+      let b = padded_length xs in
+      let more = texts_whole xss in
+      omega (arith, a, b, more)
+
+module _ (p : Program) (globals : ℕ) where
+  abbrev first_descriptor : ℕ
+  first_descriptor = globals + globals_room p (layout p.types)
+
+  parts_length : length (constants p (layout p.types) globals) ≡ 128 * length p.types.records + length (all_texts (texts_of p.procedures))
+  parts_length =
+      let a = sym (ap (λ (l : List ℕ). length l) (constants_are p globals first_descriptor refl)) in
+      let b = length-append (all_described p.types first_descriptor) (all_texts (texts_of p.procedures)) in
+      let c = descriptors_length p first_descriptor in
+      omega (arith, a, b, c)
+
+  pub constants_length : length (constants p (layout p.types) globals) ≤ 8 * constant_cells p
+  constants_length = let a = parts_length in let b = texts_few p first_descriptor (texts_of p.procedures) in omega (arith, a, b)
+
+  pub constants_whole : length (constants p (layout p.types) globals) % 8 ≡ 0
+  constants_whole = let a = parts_length in let b = texts_whole p first_descriptor (texts_of p.procedures) in omega (arith, a, b)

@@ -1,5 +1,5 @@
 -- Lists that are made one part after the other, and that they are the defined constants.
-use Rattle.std.proofs.Common.{◌≡◌, ℕ, suc, ◌+◌, ◌-◌, ◌*◌, ◌<◌, ◌≤◌, List, [], ◌∷◌, ◌++◌, drop, replicate, length, get_or, Bool, true, false, Option, Some, None, refl, sym, ap, ap₂, ◌∙◌, arith, append_assoc, eqb-true}
+use Rattle.std.proofs.Common.{◌≡◌, ℕ, zero, suc, ◌+◌, ◌-◌, ◌*◌, ◌<◌, ◌≤◌, List, [], ◌∷◌, ◌++◌, take, drop, replicate, length, get_or, Bool, true, false, Option, Some, None, refl, sym, ap, ap₂, ◌∙◌, arith, append_assoc, eqb-true}
 use Rattle.std.specs.Prelude.{◌==◌, if◌then◌else◌}
 use Rattle.std.specs.List.{flat_map}
 use Rattle.std.specs.Int.{to_le_bytes, w64}
@@ -15,7 +15,9 @@ use Rattle.ob_types.specs.declared.program.Program.{Program}
 use Rattle.ssa_lowered.specs.Constants.{base_by, ancestor_within, ancestor, address_of, descriptor_bytes, character_bytes, text_bytes, constants}
 use Rattle.ssa_lowered.specs.Data.{Layout, layout, globals_room, text_room}
 use Rattle.ssa_lowered.specs.Pieces.{numbers}
-use Rattle.ssa_tables.specs.constants.Described.{address_by, described, all_described, character_in_cell, all_texts}
+use Rattle.ssa_tables.specs.Places.{string_size}
+use Rattle.ssa_tables.specs.constants.Described.{address_by, described, all_described, padded, all_texts}
+use Rattle.ssa_tables.proofs.Placing.{take_none}
 
 append_none : {A : Type 0} (xs : List A) → xs ++ [] ≡ xs
 append_none [] = refl
@@ -50,16 +52,21 @@ counted_end f i n list all le before =
 -- one procedure's strings
 pub procedure_more : (qs : List Procedure) (i : ℕ) (q : Procedure) (old new all : List ℕ) → i < length qs → q ≡ get_or qs i q → new ≡ old ++ all_texts q.texts → old ++ all_texts (texts_of (drop i qs)) ≡ all → new ++ all_texts (texts_of (drop (i + 1) qs)) ≡ all
 procedure_more qs i q old new all lt is more before =
-    let f = λ (xs : List ℕ). flat_map character_in_cell xs ++ character_in_cell 0 in
     let e : drop i qs ≡ q ∷ drop (i + 1) qs = drop_more qs i q lt ∙ ap (λ y. y ∷ drop (i + 1) qs) (sym is) in
     ap (λ l. l ++ all_texts (texts_of (drop (i + 1) qs))) more
     ∙ append_assoc old (all_texts q.texts) (all_texts (texts_of (drop (i + 1) qs)))
-    ∙ ap (λ l. old ++ l) (sym (flat_map-append f q.texts (texts_of (drop (i + 1) qs))))
+    ∙ ap (λ l. old ++ l) (sym (flat_map-append padded q.texts (texts_of (drop (i + 1) qs))))
     ∙ sym (ap (λ ys. old ++ all_texts (texts_of ys)) e)
     ∙ before
 
 pub procedures_end : (qs : List Procedure) (i : ℕ) (list all : List ℕ) → length qs ≤ i → list ++ all_texts (texts_of (drop i qs)) ≡ all → list ≡ all
 procedures_end qs i list all le before = sym (append_none list) ∙ sym (ap (λ ys. list ++ all_texts (texts_of ys)) (drop_of_length-le qs le)) ∙ before
+
+-- zeros out of eight
+take_zeros : (n m : ℕ) → n ≤ m → take {A = ℕ} n (replicate m 0) ≡ replicate n 0
+take_zeros zero m le = take_none {A = ℕ} (replicate m 0)
+take_zeros (suc n) zero le = absurd (omega (arith, le))
+take_zeros (suc n) (suc m) le = ap (λ xs. 0 ∷ xs) (take_zeros n m (omega (arith, le)))
 
 ---- Ancestors
 
@@ -111,14 +118,19 @@ module _ (p : Program) (globals : ℕ) where
   descriptor_is : (r : ℕ) → described p.types (globals + globals_room p l) r ≡ descriptor_bytes p l globals r
   descriptor_is r = same_items (λ j. to_le_bytes w64 (address_by (globals + globals_room p l) (ancestor p.types j r))) (λ j. to_le_bytes w64 (address_of p l globals (ancestor p.types j r))) (λ j. ap (to_le_bytes w64) (address_is (ancestor p.types j r))) (numbers 0 16)
 
-  text_is : (xs : List ℕ) → flat_map character_in_cell xs ++ character_in_cell 0 ≡ text_bytes l xs
+  one_each : (xs : List ℕ) → flat_map (character_bytes l) xs ≡ xs
+  one_each [] = refl
+  one_each (x ∷ xs) = ap (λ ys. x ∷ ys) (one_each xs)
+
+  text_is : (xs : List ℕ) → padded xs ≡ text_bytes l xs
   text_is xs =
-      let f = character_bytes l in
-      let none : text_room l xs - l.character * suc (length xs) ≡ 0 = omega arith in
-      sym (ap (λ n. flat_map f (xs ++ 0 ∷ []) ++ replicate n 0) none ∙ append_none (flat_map f (xs ++ 0 ∷ [])) ∙ flat_map-append f xs (0 ∷ []))
+      let some : string_size xs - length xs ≡ suc (text_room l xs - l.character * suc (length xs)) = omega arith in
+      ap (λ n. xs ++ replicate n 0) some
+      ∙ sym (append_assoc xs (0 ∷ []) (replicate (text_room l xs - l.character * suc (length xs)) 0))
+      ∙ ap (λ ys. ys ++ replicate (text_room l xs - l.character * suc (length xs)) 0) (sym (one_each (xs ++ 0 ∷ [])))
 
   pub constants_are : (first : ℕ) → first ≡ globals + globals_room p l → all_described p.types first ++ all_texts (texts_of p.procedures) ≡ constants p l globals
   constants_are first is =
       ap₂ (λ a b. a ++ b)
       (ap (all_described p.types) is ∙ same_items (described p.types (globals + globals_room p l)) (descriptor_bytes p l globals) descriptor_is (numbers 0 (length p.types.records)))
-      (same_items (λ (xs : List ℕ). flat_map character_in_cell xs ++ character_in_cell 0) (text_bytes l) text_is (texts_of p.procedures))
+      (same_items padded (text_bytes l) text_is (texts_of p.procedures))

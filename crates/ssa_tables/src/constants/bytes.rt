@@ -1,13 +1,12 @@
 //! All constants.
 
-ghost use Rattle.std.specs.Prelude.{◌≡◌, ◌++◌, ◌<◌, ◌^◌, None, IfOk, OnOk};
-ghost use Rattle.std.specs.List.{flat_map};
+ghost use Rattle.std.specs.Prelude.{◌≡◌, ◌++◌, ◌<◌, ◌≤◌, ◌^◌, replicate, None, IfOk, OnOk};
 ghost use Rattle.ob_types.specs.Meaning.{texts_of};
 ghost use Rattle.ssa_lowered.specs.Constants.{constants as constants_there};
 ghost use Rattle.ssa_lowered.specs.Data.{layout};
 ghost use Rattle.ssa_tables.specs.Faults.{first_limit};
 ghost use Rattle.ssa_tables.specs.Shared.{ServesAll};
-ghost use Rattle.ssa_tables.specs.constants.Described.{all_described, all_texts, character_in_cell};
+ghost use Rattle.ssa_tables.specs.constants.Described.{all_described, all_texts, padded};
 
 use crate::constants::descriptors::push_descriptor;
 use ob_types::{Characters, Procedure, Program, Types};
@@ -58,31 +57,30 @@ fn push_procedures(bytes: &mut Vec<u8>, procedures: &[Procedure]) -> Result<(), 
     Ok(())
 }
 
-/// Adds strings, each with its 0X.
+/// Adds strings, each with its 0X and zeros up to where the next one begins.
 fn push_texts(bytes: &mut Vec<u8>, texts: &[Characters]) -> Result<(), Memory>
     ensures { OnOk result (bytes.new.items ≡ bytes.old.items ++ all_texts texts.now) }
 {
     for text in texts {
-        push_characters(bytes, text.as_slice())?;
-        push_character(bytes, 0)?;
+        push_text(bytes, text.as_slice())?;
     }
     Ok(())
 }
 
-/// Adds characters.
-fn push_characters(bytes: &mut Vec<u8>, text: &[u8]) -> Result<(), Memory>
-    ensures { OnOk result (bytes.new.items ≡ bytes.old.items ++ flat_map character_in_cell text.now) }
+/// Adds a string.
+fn push_text(bytes: &mut Vec<u8>, text: &[u8]) -> Result<(), Memory>
+    ensures { OnOk result (bytes.new.items ≡ bytes.old.items ++ padded text.now) }
 {
-    for c in text {
-        push_character(bytes, *c)?;
-    }
+    bytes.extend_from_slice(text)?;
+    push_zeros(bytes, 8 - text.len() % 8)?;
     Ok(())
 }
 
-/// Adds a character, in eight bytes.
-fn push_character(bytes: &mut Vec<u8>, c: u8) -> Result<(), Memory>
-    ensures { OnOk result (bytes.new.items ≡ bytes.old.items ++ character_in_cell c) }
+/// Adds some zeros, eight at most.
+fn push_zeros(bytes: &mut Vec<u8>, count: usize) -> Result<(), Memory>
+    requires { count ≤ 8 }
+    ensures { OnOk result (bytes.new.items ≡ bytes.old.items ++ replicate count 0) }
 {
-    bytes.extend_from_slice(&[c, 0, 0, 0, 0, 0, 0, 0])?;
+    bytes.extend_from_slice(&[0; 8][..count])?;
     Ok(())
 }

@@ -1,4 +1,4 @@
-use Rattle.std.proofs.Common.{◌≡◌, ◌*◌, min, List, length, ap, ◌∙◌}
+use Rattle.std.proofs.Common.{◌*◌, min, List, length, ap, ◌∙◌}
 use Rattle.ob_types.specs.Meaning.{texts_of}
 use Rattle.ob_types.specs.declared.types.RecordType.{RecordType}
 use Rattle.ssa_tables.specs.Places.{finish, string_cells}

@@ -1,4 +1,4 @@
-use Rattle.std.proofs.Common.{◌≡◌, List, map, sym, ap, ◌∙◌, subst, arith}
+use Rattle.std.proofs.Common.{◌≡◌, map, sym, ap, ◌∙◌, arith}
 use Rattle.ob_types.specs.Layout.{cells_of_all}
 use Rattle.ssa_tables.specs.Local.{pair_of}
 use Rattle.ssa_tables.specs.declared.locals.Variable.{Variable}

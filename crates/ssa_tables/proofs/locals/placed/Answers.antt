@@ -1,7 +1,6 @@
-use Rattle.std.proofs.Common.{◌≡◌, ◌<◌, ℕ, List, Bool, length, get_or, replicate, false, sym, ap, ◌∙◌, IfOk}
+use Rattle.std.proofs.Common.{◌≡◌, ◌<◌, ℕ, List, Bool, length, get_or, false, ap, ◌∙◌}
 use Rattle.ssa_assigned.specs.Assigned.{has}
 use Rattle.ssa_lowered.specs.Lowered.{lent_in_body}
-use Rattle.ssa_tables.specs.Local.{marked}
 use Rattle.ssa_tables.proofs.Variables.{marks_length, marks_at, locals_are}
 use Rattle.ssa_tables.proofs.locals.placed.Goals as goal
 

@@ -1,5 +1,4 @@
-use Rattle.std.proofs.Common.{◌≡◌, ap, ap₂, ◌∙◌, refl}
-use Rattle.ssa_exprs.specs.declared.tables.Tables.{Tables}
+use Rattle.std.proofs.Common.{ap, ap₂, ◌∙◌, refl}
 use Rattle.ssa_tables.specs.Local.{parameters_from}
 use Rattle.ssa_tables.proofs.Serving.{serves_one}
 use Rattle.ssa_tables.proofs.procedure.enter.Goals as goal

@@ -1,4 +1,4 @@
-use Rattle.std.proofs.Common.{◌≡◌, ◌+◌, sym, ap, ap₂, ◌∙◌}
+use Rattle.std.proofs.Common.{◌+◌, sym, ap₂, ◌∙◌}
 use Rattle.ssa_tables.proofs.Texts.{texts_on}
 use Rattle.ssa_tables.proofs.procedure.pass.Goals as goal
 

@@ -1,4 +1,4 @@
-use Rattle.std.proofs.Common.{◌≡◌, ap, ap₂, ◌∙◌, arith}
+use Rattle.std.proofs.Common.{ap₂, ◌∙◌, arith}
 use Rattle.ssa_tables.specs.Places.{module_finish, type_cells_by}
 use Rattle.ssa_tables.proofs.Limits.{globals_passed, first_within, module_cells_are}
 use Rattle.ssa_tables.proofs.program.program_tables.Goals as goal

@@ -1,4 +1,4 @@
-use Rattle.std.proofs.Common.{◌≡◌, sym, ap, ◌∙◌, ◌*◌, get_or, subst, length, ◌<◌}
+use Rattle.std.proofs.Common.{◌≡◌, sym, ap, ◌∙◌, get_or}
 use Rattle.ob_types.specs.Layout.{kind_of}
 use Rattle.ob_types.specs.declared.types.TypeKind.TheVariants.{Int, Nothing}
 use Rattle.ob_types.specs.declared.types.TypeKind.TheVariants.{Record as RecordOf}

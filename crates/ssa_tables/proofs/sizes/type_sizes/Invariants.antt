@@ -1,6 +1,5 @@
-use Rattle.std.proofs.Common.{◌≡◌, length}
-use Rattle.ssa_tables.specs.Sizes.{AreFirstSizes}
+use Rattle.std.proofs.Common.{◌≡◌, map, take}
 use Rattle.ssa_tables.proofs.sizes.type_sizes.Given as goal
 
-abbrev pub invariant-loop-k : goal.invariant-loop-k
-invariant-loop-k l = (length l.list ≡ l.k) × AreFirstSizes l.types l.list
+abbrev pub invariant-loop-x : goal.invariant-loop-x
+invariant-loop-x l = l.list ≡ map (λ x. x.bytes) (take l.x-index l.extents)

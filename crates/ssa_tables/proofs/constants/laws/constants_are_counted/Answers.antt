@@ -1,5 +1,5 @@
-use Rattle.ssa_tables.proofs.constants.Counted.{constants_length}
+use Rattle.ssa_tables.proofs.constants.Counted.{constants_length, constants_whole}
 use Rattle.ssa_tables.proofs.constants.laws.constants_are_counted.Goals as goal
 
 pub returns : goal.returns
-returns c = constants_length
+returns c = record { few = constants_length; whole = constants_whole }
