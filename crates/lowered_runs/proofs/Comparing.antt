@@ -230,7 +230,7 @@ module _ (w : Whole) (l : Level) (right : Right w) (apart : Apart w l) where
           (λ (lt : i < last).
           let go = go_before xs ys i lt in
           let inside = go_within xs ys i go in
-          let on : add64 (char_bytes * i) 8 ≡ char_bytes * suc i = omega (arith, inside, short) in
+          let on : add64 (char_bytes * i) char_bytes ≡ char_bytes * suc i = omega (arith, inside, short) in
           tested i true go ∙ ap (λ d. Moves [] (at_cell d)) on ∙ ap (λ b. Moves [] (cond b (at_cell (char_bytes * suc i)) at_end)) (sym (is_less i last lt)))
           (λ (ge : last ≤ i). let e : i ≡ last = omega (arith, le, ge) in
           subst (λ i. (system w).step (at_cell (char_bytes * i)) ≡ Moves [] (behind i)) (sym e)

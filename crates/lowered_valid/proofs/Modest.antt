@@ -25,7 +25,7 @@ use Rattle.ssa_lowered.specs.Lowered.{made_of, proc_of, procs_from, entry, lower
 use Rattle.ssa_lowered.specs.Pieces.{Start, Piece, Appends, Closes, blocks_of, numbers}
 use Rattle.ssa_lowered.specs.Variables.{words_of}
 use Rattle.lowered_valid.proofs.Bounds.{numbers as small_numbers}
-use Rattle.lowered_valid.proofs.Narrow.{cells_narrow}
+use Rattle.lowered_valid.proofs.Narrow.{packed_narrow}
 use Rattle.lowered_valid.proofs.Procedures.{in_order}
 use Rattle.lowered_valid.specs.Modest.{HasFewValues, HasSmallData}
 
@@ -146,7 +146,7 @@ module _ (p : Program) (f : ℕ) (q : Procedure) (none : limit_in p (layout p.ty
   small_data : well_formed p ≡ true → global_cells p ≤ 1048576 → HasSmallData (proc_of p (layout p.types) f q)
   small_data fine globals =
       let a = few_locals in
-      let b = (small_numbers p (parts_of p fine) (layout p.types) (cells_narrow p.types) globals f q few_locals).frame_small in
+      let b = (small_numbers p (parts_of p fine) (layout p.types) (packed_narrow p.types) globals f q few_locals).frame_small in
       record { cells = omega (arith, a); bytes = omega (arith, b) }
 
 pub all_few : (p : Program) → limit_of p ≡ None → All HasFewValues (lowered p)

@@ -36,7 +36,7 @@ use Rattle.lowered_valid.proofs.Bounds.{numbers as small_numbers}
 use Rattle.lowered_valid.proofs.Once.{numbers_below, times_once}
 use Rattle.lowered_valid.specs.Contents.{IsBare}
 use Rattle.lowered_valid.specs.TreeSizes.{IsSmall}
-use Rattle.lowered_valid.proofs.Narrow.{cells_narrow}
+use Rattle.lowered_valid.proofs.Narrow.{packed_narrow}
 use Rattle.lowered_valid.proofs.Sizes.{short_all}
 use Rattle.lowered_valid.proofs.Bodies.{bodies_bare}
 use Rattle.lowered_valid.proofs.Procedures.{in_order, values_placed, values_below, targets_there, conditions_fit, ends_fit, enters_there, begins, first_params}
@@ -208,4 +208,4 @@ pub valid_all : (p : Program) (l : Layout) → CanBeLowered l p → All IsValid 
 valid_all p l can = both_all IsShort IsValid (lowered_by l p) (all_within l p (λ x. IsShort x → IsValid x) can.within.limits (valid l p can.within)) can.short
 
 pub small_valid : (p : Program) → well_formed p ≡ true → limit_of p ≡ None → All IsSmall p.procedures → All IsValid (lowered p)
-small_valid p fine limits small = valid_all p (layout p.types) (record { within = record { narrow = cells_narrow p.types; fine = fine; limits = limits }; short = short_all p (layout p.types) small })
+small_valid p fine limits small = valid_all p (layout p.types) (record { within = record { narrow = packed_narrow p.types; fine = fine; limits = limits }; short = short_all p (layout p.types) small })
