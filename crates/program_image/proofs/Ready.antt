@@ -4,7 +4,6 @@ use Rattle.std.specs.Prelude.{All, nat_le}
 use Rattle.std.specs.List.{list_all}
 use Rattle.std.proofs.lemmas.Bool.Decides.{nat_tests}
 use Rattle.block_runs.specs.Valid.{size_of}
-use Rattle.ob_types.specs.Table.{Table}
 use Rattle.ob_types.specs.WellFormed.{well_formed}
 use Rattle.ob_types.specs.declared.program.Program.{Program}
 use Rattle.ssa_core.specs.declared.procedure.Proc.{Proc}
@@ -13,9 +12,10 @@ use Rattle.ssa_core.specs.Validity.{most, IsValid}
 use Rattle.ssa_lowered.specs.Data.{layout}
 use Rattle.ssa_lowered.specs.Limits.{limit_of}
 use Rattle.ssa_lowered.specs.Lowered.{lowered}
-use Rattle.lowered_valid.specs.Claims.{IsShort, IsNarrow, CanBeLowered}
+use Rattle.lowered_valid.specs.Claims.{IsShort, CanBeLowered}
 use Rattle.lowered_valid.proofs.Valid.{valid_all, bare_all}
 use Rattle.lowered_valid.proofs.Modest.{all_small}
+use Rattle.lowered_valid.proofs.Narrow.{packed_narrow}
 use Rattle.program_image.specs.Sizes.{is_short}
 use Rattle.link_plan.proofs.Low.{and_left, and_right}
 use Rattle.back_end.specs.Images.{IsReady}
@@ -38,12 +38,9 @@ are_short p ps same e = are_all (lowered p) (sym (e ∙ ap all_short same))
 
 ---- All that is asked
 
-narrow : (t : Table) → IsNarrow t (layout t)
-narrow t = record { types = λ k. omega arith; fields = λ r field. omega arith }
-
 module _ (p : Program) (fine : well_formed p ≡ true) (none : limit_of p ≡ None) (short : All IsShort (lowered p)) where
   can_be_lowered : CanBeLowered (layout p.types) p
-  can_be_lowered = record { within = record { narrow = narrow p.types; fine = fine; limits = none }; short = short }
+  can_be_lowered = record { within = record { narrow = packed_narrow p.types; fine = fine; limits = none }; short = short }
 
   pub valid : All IsValid (lowered p)
   valid = valid_all p (layout p.types) can_be_lowered
