@@ -1,5 +1,5 @@
 -- The parts of statements without blocks, put together: one line for each.
-use Rattle.std.proofs.Common.{◌≡◌, ℕ, [], ◌∷◌, Bool, true, false, Option, Some, None, refl, ap, if◌then◌else◌, ◌+◌, ◌*◌, ◌/◌, arith}
+use Rattle.std.proofs.Common.{◌≡◌, ℕ, [], ◌∷◌, Bool, true, false, Option, Some, None, refl, ap, if◌then◌else◌, ◌+◌}
 use Rattle.ob_types.specs.declared.tree.Binary.{Binary}
 use Rattle.ob_types.specs.declared.tree.Binary.TheVariants.{Add}
 use Rattle.block_runs.specs.declared.code.Code.TheVariants.{Global, Set, Max0, Bit, Byte, Fits, True, New, Copy, Svc, Store, StoreByte}
@@ -89,17 +89,17 @@ steps_out_string {h = h} {a = a} {l = l} character n p0 p1 p2 p3 p4 =
     (gives_bind (λ l. (const character) >>= λ s. does (Svc 3) (a ∷ l ∷ s ∷ [])) p2
     (gives_bind (λ s. does (Svc 3) (a ∷ l ∷ s ∷ [])) p3 p4))))
 
-pub steps_in_char : {v0 v1 v2 v3 v4 v5 v6 v7 v8 v9 : View} {d : Low Named} {h : Named} {a c z k g v : ℕ} (flag letter : Bool) → Gives v0 v1 d h → Gives v1 v2 (address_in h 0) a → Gives v2 v3 (emits (Svc 4) []) c → Gives v3 v4 (const 0) z → Gives v4 v5 (emits (Set 10) (c ∷ z ∷ [])) k
-    → Gives v5 v6 (emits (Global 0) []) g → Gives v6 v7 (does (if flag then StoreByte else Store) (g ∷ k ∷ [])) tt → Gives v7 v8 (emits Max0 (c ∷ [])) v → Gives v8 v9 (does (if letter then StoreByte else Store) (a ∷ v ∷ [])) tt → Steps v0 v9 (in_char d flag letter)
-steps_in_char {h = h} {a = a} {c = c} {z = z} {k = k} {g = g} flag letter p0 p1 p2 p3 p4 p5 p6 p7 p8 =
-    steps_of (gives_bind (λ h. (address_in h 0) >>= λ a. (emits (Svc 4) []) >>= λ c. (const 0) >>= λ z. (emits (Set 10) (c ∷ z ∷ [])) >>= λ k. (emits (Global 0) []) >>= λ g. (store flag g k) >>= λ _. (emits Max0 (c ∷ [])) >>= λ v. store letter a v) p0
-    (gives_bind (λ a. (emits (Svc 4) []) >>= λ c. (const 0) >>= λ z. (emits (Set 10) (c ∷ z ∷ [])) >>= λ k. (emits (Global 0) []) >>= λ g. (store flag g k) >>= λ _. (emits Max0 (c ∷ [])) >>= λ v. store letter a v) p1
-    (gives_bind (λ c. (const 0) >>= λ z. (emits (Set 10) (c ∷ z ∷ [])) >>= λ k. (emits (Global 0) []) >>= λ g. (store flag g k) >>= λ _. (emits Max0 (c ∷ [])) >>= λ v. store letter a v) p2
-    (gives_bind (λ z. (emits (Set 10) (c ∷ z ∷ [])) >>= λ k. (emits (Global 0) []) >>= λ g. (store flag g k) >>= λ _. (emits Max0 (c ∷ [])) >>= λ v. store letter a v) p3
-    (gives_bind (λ k. (emits (Global 0) []) >>= λ g. (store flag g k) >>= λ _. (emits Max0 (c ∷ [])) >>= λ v. store letter a v) p4
-    (gives_bind (λ g. (store flag g k) >>= λ _. (emits Max0 (c ∷ [])) >>= λ v. store letter a v) p5
-    (gives_bind (λ _. (emits Max0 (c ∷ [])) >>= λ v. store letter a v) p6
-    (gives_bind (λ v. store letter a v) p7 p8))))))))
+pub steps_in_char : {v0 v1 v2 v3 v4 v5 v6 v7 v8 v9 : View} {d : Low Named} {h : Named} {a c z k g v : ℕ} (flag small : Bool) → Gives v0 v1 d h → Gives v1 v2 (address_in h 0) a → Gives v2 v3 (emits (Svc 4) []) c → Gives v3 v4 (const 0) z → Gives v4 v5 (emits (Set 10) (c ∷ z ∷ [])) k
+    → Gives v5 v6 (emits (Global 0) []) g → Gives v6 v7 (does (if flag then StoreByte else Store) (g ∷ k ∷ [])) tt → Gives v7 v8 (emits Max0 (c ∷ [])) v → Gives v8 v9 (does (if small then StoreByte else Store) (a ∷ v ∷ [])) tt → Steps v0 v9 (in_char d flag small)
+steps_in_char {h = h} {a = a} {c = c} {z = z} {k = k} {g = g} flag small p0 p1 p2 p3 p4 p5 p6 p7 p8 =
+    steps_of (gives_bind (λ h. (address_in h 0) >>= λ a. (emits (Svc 4) []) >>= λ c. (const 0) >>= λ z. (emits (Set 10) (c ∷ z ∷ [])) >>= λ k. (emits (Global 0) []) >>= λ g. (store flag g k) >>= λ _. (emits Max0 (c ∷ [])) >>= λ v. store small a v) p0
+    (gives_bind (λ a. (emits (Svc 4) []) >>= λ c. (const 0) >>= λ z. (emits (Set 10) (c ∷ z ∷ [])) >>= λ k. (emits (Global 0) []) >>= λ g. (store flag g k) >>= λ _. (emits Max0 (c ∷ [])) >>= λ v. store small a v) p1
+    (gives_bind (λ c. (const 0) >>= λ z. (emits (Set 10) (c ∷ z ∷ [])) >>= λ k. (emits (Global 0) []) >>= λ g. (store flag g k) >>= λ _. (emits Max0 (c ∷ [])) >>= λ v. store small a v) p2
+    (gives_bind (λ z. (emits (Set 10) (c ∷ z ∷ [])) >>= λ k. (emits (Global 0) []) >>= λ g. (store flag g k) >>= λ _. (emits Max0 (c ∷ [])) >>= λ v. store small a v) p3
+    (gives_bind (λ k. (emits (Global 0) []) >>= λ g. (store flag g k) >>= λ _. (emits Max0 (c ∷ [])) >>= λ v. store small a v) p4
+    (gives_bind (λ g. (store flag g k) >>= λ _. (emits Max0 (c ∷ [])) >>= λ v. store small a v) p5
+    (gives_bind (λ _. (emits Max0 (c ∷ [])) >>= λ v. store small a v) p6
+    (gives_bind (λ v. store small a v) p7 p8))))))))
 
 pub steps_invoke : {v0 v1 v2 : View} {m : Low Request} {r : Request} → Gives v0 v1 m r → Gives v1 v2 (does r.code r.words) tt → Steps v0 v2 (without_result m)
 steps_invoke p0 p1 = steps_of (gives_bind (λ r. does r.code r.words) p0 p1)

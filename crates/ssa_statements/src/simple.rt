@@ -250,7 +250,7 @@ pub fn in_char(t: &Tables, b: &mut Making, d: &Designator) -> Result<(), Memory>
     let g = b.emit(Code::Global(0), &[])?;
     b.act(store_code(takes_a_byte(TypeKind::Bool)), &[g, done])?;
     let v = b.emit(Code::Max0, &[c])?;
-    b.act(store_code(takes_a_byte(TypeKind::Char)), &[a, v])?;
+    b.act(store_code(takes_a_byte(kind_in(d))), &[a, v])?;
     Ok(())
 }
 
