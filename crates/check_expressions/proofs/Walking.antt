@@ -1,7 +1,8 @@
 -- A walk over a list whose items are judged one after another, and what judging parts one after another comes to.
-use Rattle.std.proofs.Common.{◌≡◌, ℕ, ◌+◌, ◌<◌, ◌≤◌, List, [], ◌∷◌, length, drop, get_or, Bool, true, false, Option, Some, None, Result, Ok, Err, refl, sym, ap, ◌∙◌, subst}
+use Rattle.std.proofs.Common.{◌≡◌, ℕ, ◌+◌, ◌<◌, ◌≤◌, List, [], ◌∷◌, length, drop, get_or, Bool, true, false, nat_eq, Option, Some, None, Result, Ok, Err, refl, sym, ap, ◌∙◌, subst}
 use Rattle.std.specs.Prelude.{is_some, not}
-use Rattle.std.proofs.lemmas.List.{drop_more, drop_all}
+use Rattle.std.proofs.lemmas.Bool.{eqb-true}
+use Rattle.std.proofs.lemmas.List.{drop_more, drop_all, nil_from_length}
 use Rattle.ob_judge.specs.Judged.{Judged, Keeps, Breaks, ◌>>=◌}
 use Rattle.check_types.specs.steps.Answers.{Answers}
 use Rattle.check_types.specs.declared.steps.fault.CheckFault.{CheckFault}
@@ -11,6 +12,10 @@ use Rattle.check_types.proofs.steps.Answering.{stop, as_judged}
 pub with_nothing_behind : {A : Type 0} (m : Judged A) → (m >>= λ a. Keeps a) ≡ m
 with_nothing_behind (Keeps a) = refl
 with_nothing_behind (Breaks n at) = refl
+
+-- a list of no items
+pub nil_of : {X : Type 0} (xs : List X) (b : Bool) → b ≡ nat_eq (length xs) 0 → b ≡ true → xs ≡ []
+nil_of xs b e t = nil_from_length xs (eqb-true (length xs) 0 (sym e ∙ t))
 
 -- nothing there
 pub none_of : {X : Type 0} (o : Option X) (b : Bool) → is_some o ≡ not b → b ≡ true → o ≡ None

@@ -11,7 +11,7 @@ mod Suits
 mod Fitting
 mod FittingTree
 mod Bounds
-mod Narrow
+pub mod Narrow
 mod Bodies
 mod Costs
 mod CostsTree

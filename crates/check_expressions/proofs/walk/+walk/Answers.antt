@@ -24,10 +24,9 @@ use Rattle.check_operands.specs.calls.Given.{AreGiven}
 use Rattle.check_selectors.proofs.Selecting.{parens_any_is}
 use Rattle.check_selectors.specs.Behind.{standard_behind, call_behind, list_behind, parens_at}
 use Rattle.check_expressions.specs.Steps.{added_one, multiplied_one, indexed_one, arguments_from}
-use Rattle.check_expressions.proofs.Walking.{none_of, walk_on, walk_stops}
+use Rattle.check_expressions.proofs.Walking.{nil_of, none_of, walk_on, walk_stops}
 use Rattle.check_expressions.proofs.Parts.{simple_is, term_is, bare_simple_is, bare_term_is, added_law, multiplied_law, set_some, elements_law, factor_designator, indexed_is, indexed_law, given_with, given_more, given_law, given_last, arguments_is, related_other}
 use Rattle.check_expressions.proofs.walk.+walk.Goals as goal
-use Rattle.check_operands.proofs.symbols.OneName.{nil_of}
 
 pub added-returns-in_err-x : goal.added-returns-in_err-x
 added-returns-in_err-x t c = λ a h. exit _ c.from_residual.ensures.1 (walk_stops (λ b xs. added c.args.scope.now.source.now (world_of c.args.scope.now) b (plain_each_added xs)) (added_one c.args.scope.now.source.now (world_of c.args.scope.now)) (added_law c.args.scope.now.source.now (world_of c.args.scope.now)) c.args.more.now c.loop-next.next-index c.next-item.result c.loop-next-test.true (c.loop-next.invariant a h)
