@@ -12,6 +12,7 @@ set -eu
 . "$(dirname "$0")/measure.sh"
 program=${1:-$(built trc)}
 turns=${2:-20000000}
+needs "$program"
 
 # once WORDS..: the milliseconds of the processors for one call, whose output is let go
 once() {

@@ -9,6 +9,11 @@ built() {
     echo "$top/crates/$1/out/$1"
 }
 
+# needs PROGRAM: ends the script where it isn't there
+needs() {
+    [ -x "$1" ] || { echo "$1 isn't there: rt run in its crate's folder builds it" >&2; exit 1; }
+}
+
 # seconds PROGRAM WORD..: the processor's seconds for one run on the file in, user's and system's; its output is left in out
 seconds() {
     { time "$@" <"$work/in" >"$work/out"; } 2>&1

@@ -3,3 +3,4 @@ mod Types
 mod Declared
 mod Modules
 mod Programs
+mod OneForm

@@ -1,4 +1,3 @@
 mod Reading
 mod InTurn
-mod Keeping
-mod Alike
+mod OneProgram

@@ -1,3 +1,2 @@
 pub mod constants
 pub mod no_faults
-pub mod one_program

@@ -18,7 +18,9 @@ mod one_reading;
 pub mod one_refusal;
 
 pub use constants::constants_are_meant;
-pub use judged_shapes::{judged_images_have_closed_types, modules_have_one_lowering};
+pub use judged_shapes::{
+    judged_images_have_closed_types, modules_have_one_lowering, modules_have_one_meaning,
+};
 pub use no_faults::images_never_fault;
 pub use one_fault::texts_have_one_first_fault;
 pub use one_image::{lowerings_have_one_image, programs_have_one_image};

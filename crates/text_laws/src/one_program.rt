@@ -1,8 +1,7 @@
 //! Texts have one lowering and one meaning.
 //!
-//! The modules that texts are read as are one, and the judgement of them is; so the programs that texts are differ in what
-//! lowering doesn't see. What is lowered from them runs as each of them means, and so they mean the same: what one of them ends
-//! with, or traps with, the other does too, and neither writes what the other doesn't.
+//! The modules that texts are read as are one, and the judgement of them is; so the programs that texts are differ in what neither
+//! lowering nor the meaning sees. With each number of turns the one ends, traps and writes as the other does.
 
 mod laws;
 

@@ -19,6 +19,7 @@ use Rattle.bulk_text.specs.Bulk.{bulk_text}
 use Rattle.batch_jobs.specs.Jobs.{Reply, IsRunReply, cut_reply}
 use Rattle.batch_jobs.proofs.Once.{batch_once}
 use Rattle.meaning_commands.specs.Meanings.{MeanComeTo}
+use Rattle.meaning_commands.specs.Comparisons.{BothComeTo}
 use Rattle.note_commands.specs.Noted.{NotedComeTo, NotedAnewComeTo, NotesWritten}
 use Rattle.note_commands.specs.Audits.{AuditOf, AuditComesTo, AreTooMany as AreTooManyModules, LacksNotes, LacksTexts, HasTexts, PlanComesTo, audit_of, one_behind}
 use Rattle.trc_words.specs.Asked.{Asked, Run, Build, Elf, Exec, Traces, Bulk, Audit, Mean, Both, Batch, Help}
@@ -31,7 +32,7 @@ use Rattle.trc_answers.specs.Runs.{run_of}
 use Rattle.trc_answers.specs.Verdict.{Verdict, Refuses, Runs, Writes, cause_of, FileComesTo, IsMissing, HasTooMany, HasBytes, ImageComesTo, RunsAlone, RunsOnInput, HasTooMuch, BytesComeTo, AreNoImage, AreAnImage, Written, WrittenElf, WrittenWith, Renews, AreTheSame, Differ, most_image, world}
 use Rattle.trc_answers.specs.Answers.{Devices, Answers, AsItComes, FailsReadingFiles, FailsReadingInput, FailsPrinting, FailsWriting, FailsWritingSecond, LacksMemoryBetween, LacksMemoryInside, LacksMemory, AllDone}
 use Rattle.trc_cli.specs.Commands.{ComesTo, AnewComesTo, cause_of_refusal, SummaryComesTo, TextsComeTo, HaveNoImage, HaveImage, TracesComeTo}
-use Rattle.trc_cli.specs.Laws.{Alike, IsSettled, NoneFailed}
+use Rattle.trc_cli.specs.Laws.{Alike, NoneFailed}
 use Rattle.trc_cli.proofs.FilesOnce.{files_once, texts_there}
 use Rattle.trc_cli.proofs.Same.{alike, both, two}
 use Rattle.trc_cli.proofs.TextsOnce.{Laws, noted_once, texts_once, traces_once, told_same}
@@ -134,40 +135,41 @@ module _ (laws : Laws) (held : Held) (left : List ℕ) (a b : Verdict) where
       let plan : PlanComesTo of bytes texts b = subst (λ x. PlanComesTo of x texts b) (some_held bytes other _ there there') at in
       subst (Alike a) (laws.audit of bytes texts a b h plan) (alike a)
 
-  pub once : (asked : Option Asked) → ComesTo (world (Some held) (Some left)) asked a → ComesTo (world (Some held) (Some left)) asked b → IsSettled asked a → IsSettled asked b → Alike a b
-  once None h k s t = both a b _ h k
-  once (Some (Run files choice steps)) h k s t =
+  pub once : (asked : Option Asked) → ComesTo (world (Some held) (Some left)) asked a → ComesTo (world (Some held) (Some left)) asked b → Alike a b
+  once None h k = both a b _ h k
+  once (Some (Run files choice steps)) h k =
       files_once held files (TextsComeTo choice (λ made. ImageComesTo (Some left) steps made.image)) a b
       (λ texts x y. by_image choice texts (ImageComesTo (Some left) steps) (λ image i j. image_once left steps image a b i j) x y) h k
-  once (Some (Build out files choice None None)) h k s t =
+  once (Some (Build out files choice None None)) h k =
       files_once held files (TextsComeTo choice (λ made. Written out made.image)) a b
       (λ texts x y. by_image choice texts (Written out) (λ image i j. both a b _ i j) x y) h k
-  once (Some (Build out files choice (Some from) None)) h k s t =
+  once (Some (Build out files choice (Some from) None)) h k =
       files_once held files (AnewComesTo (Some held) choice out from (length files)) a b
       (λ texts x y. file_once held (length files) from _ a b
       (λ bytes u v. by_image choice texts (λ image. Renews bytes image (Written out image)) (λ image i j. renews_once bytes image (Written out image) a b (both a b _) i j) u v) x y) h k
-  once (Some (Build out files choice None (Some notes))) h k s t =
+  once (Some (Build out files choice None (Some notes))) h k =
       files_once held files (NotedComeTo choice (NotesWritten out notes)) a b
       (λ texts x y. noted_once laws choice texts (λ image. WrittenWith out image notes) a b (λ image bytes i j. both a b _ i j) x y) h k
-  once (Some (Build out files choice (Some from) (Some notes))) h k s t =
+  once (Some (Build out files choice (Some from) (Some notes))) h k =
       files_once held files (NotedAnewComeTo (Some held) choice out notes from (length files)) a b
       (λ texts x y. file_once held (length files) from _ a b
       (λ old u v. noted_once laws choice texts (λ image bytes. Renews old image (WrittenWith out image notes bytes)) a b
       (λ image bytes i j. renews_once old image (WrittenWith out image notes bytes) a b (both a b _) i j) u v) x y) h k
-  once (Some (Elf out files choice)) h k s t =
+  once (Some (Elf out files choice)) h k =
       files_once held files (TextsComeTo choice (λ made. WrittenElf out made.image)) a b
       (λ texts x y. by_image choice texts (WrittenElf out) (λ image i j. both a b _ i j) x y) h k
-  once (Some (Exec image steps)) h k s t = file_once held 0 image _ a b (λ bytes. bytes_once left steps bytes a b) h k
-  once (Some (Traces files choice)) h k s t = files_once held files (TracesComeTo choice) a b (λ texts x y. traces_once laws choice texts a b x y) h k
-  once (Some (Bulk seed size choice steps)) h k s t =
+  once (Some (Exec image steps)) h k = file_once held 0 image _ a b (λ bytes. bytes_once left steps bytes a b) h k
+  once (Some (Traces files choice)) h k = files_once held files (TracesComeTo choice) a b (λ texts x y. traces_once laws choice texts a b x y) h k
+  once (Some (Bulk seed size choice steps)) h k =
       texts_once laws choice choice refl refl refl (bulk_text seed size ∷ []) (SummaryComesTo steps) (SummaryComesTo steps) a b
       (λ made other is also i j. two a b _ _ (told_same steps made other (laws.image choice choice (bulk_text seed size ∷ []) made other refl refl refl is also)) i j) h k
-  once (Some (Audit out notes files builder regs)) h k s t = audit_once (audit_of out builder regs) notes files h k
-  once (Some (Mean files turns)) h k s t =
-      files_once held files (MeanComeTo (Some left) turns) a b (λ texts x y. subst (Alike a) (laws.meaning left turns texts a b x y s t) (alike a)) h k
-  once (Some (Both files choice steps turns)) h k s t = absurd s
-  once (Some (Batch list choice steps)) h k s t = subst (Alike a) (batch_once held choice steps (reply_once laws choice steps) list a b h k) (alike a)
-  once (Some Help) h k s t = both a b _ h k
+  once (Some (Audit out notes files builder regs)) h k = audit_once (audit_of out builder regs) notes files h k
+  once (Some (Mean files turns)) h k =
+      files_once held files (MeanComeTo (Some left) turns) a b (λ texts x y. subst (Alike a) (laws.meaning left turns texts a b x y) (alike a)) h k
+  once (Some (Both files choice steps turns)) h k =
+      files_once held files (BothComeTo (Some left) choice steps turns) a b (λ texts x y. subst (Alike a) (laws.comparison left choice steps turns texts a b x y) (alike a)) h k
+  once (Some (Batch list choice steps)) h k = subst (Alike a) (batch_once held choice steps (reply_once laws choice steps) list a b h k) (alike a)
+  once (Some Help) h k = both a b _ h k
 
 ---- `exec` of what `build` wrote
 

@@ -15,9 +15,9 @@ use Rattle.note_commands.specs.Audits.{AuditOf, PlanComesTo}
 use Rattle.source_image.specs.declared.refusal.Refusal.{Refusal}
 use Rattle.source_image.specs.declared.refusal.Refusal.TheVariants.{Memory}
 use Rattle.trc_answers.specs.Runs.{run_of, cause_of_run}
-use Rattle.trc_answers.specs.Verdict.{Verdict, Refuses, Prints, cause_of}
-use Rattle.trc_answers.specs.declared.causes.Cause.TheVariants.{TurnsSpent}
+use Rattle.trc_answers.specs.Verdict.{Verdict, Refuses, Prints}
 use Rattle.meaning_commands.specs.Meanings.{MeanComeTo}
+use Rattle.meaning_commands.specs.Comparisons.{BothComeTo}
 use Rattle.trc_cli.specs.declared.bulk.Counts.{Counts}
 use Rattle.trc_cli.specs.Commands.{cause_of_refusal, TextsComeTo, HaveNoImage, HaveImage, TracesComeTo, HaveNoTraces, HaveTraces, counts_of, summary_of, told_of_run}
 use Rattle.trc_cli.specs.Laws.{Alike}
@@ -43,8 +43,9 @@ pub record Laws : Type 0 where
       → IsRefusalOf (TellsWithNotes a) texts r → IsRefusalOf (TellsWithNotes b) texts s → ¬ (r ≡ Memory) → ¬ (s ≡ Memory) → r ≡ s
   pub noted_excluded : (a b : Choice) (texts : List (List ℕ)) (made : NotedImage) (r : Refusal) → a.policy ≡ b.policy → a.builder ≡ b.builder → a.regs ≡ b.regs
       → IsNotedImageOfTexts a texts made → IsRefusalOf (TellsWithNotes b) texts r → r ≡ Memory
-  pub meaning : (left : List ℕ) (turns : ℕ) (texts : List (List ℕ)) (a b : Verdict) → MeanComeTo (Some left) turns texts a → MeanComeTo (Some left) turns texts b
-      → (cause_of a ≡ TurnsSpent → ⊥) → (cause_of b ≡ TurnsSpent → ⊥) → a ≡ b
+  pub meaning : (left : List ℕ) (turns : ℕ) (texts : List (List ℕ)) (a b : Verdict) → MeanComeTo (Some left) turns texts a → MeanComeTo (Some left) turns texts b → a ≡ b
+  pub comparison : (left : List ℕ) (choice : Choice) (steps turns : ℕ) (texts : List (List ℕ)) (a b : Verdict)
+      → BothComeTo (Some left) choice steps turns texts a → BothComeTo (Some left) choice steps turns texts b → a ≡ b
   pub audit : (of : AuditOf) (bytes : List ℕ) (texts : List (List ℕ)) (a b : Verdict) → PlanComesTo of bytes texts a → PlanComesTo of bytes texts b → a ≡ b
 
 module _ (laws : Laws) where

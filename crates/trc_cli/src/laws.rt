@@ -8,9 +8,9 @@ ghost use Rattle.trc_answers.specs.declared.causes.Cause.{Cause};
 ghost use Rattle.trc_answers.specs.Verdict.{Verdict, Accepts, Writes, WritesBoth, cause_of, world};
 ghost use Rattle.trc_answers.specs.Answers.{AllDone, Answers, Devices};
 ghost use Rattle.trc_cli.specs.Commands.{ComesTo};
-ghost use Rattle.trc_cli.specs.Laws.{Alike, IsSettled, NoneFailed};
+ghost use Rattle.trc_cli.specs.Laws.{Alike, NoneFailed};
 
-use meaning_commands::meanings_come_to_one;
+use meaning_commands::{comparisons_come_to_one, meanings_come_to_one};
 use note_commands::audits_come_to_one;
 use note_laws::{
     noted_images_exclude_refusals, notes_of_texts_pass, texts_have_one_noted_image,
@@ -23,15 +23,13 @@ use text_laws::{
 
 /// Where no count of faults rises, the answer is a cause that the words come to, with all of it done, unless memory ran out. Where
 /// files and input tell what they hold, words come to one thing at most: to one cause, one output and one list of files that are written. This
-/// follows from the laws of texts, which are cited as calls that do nothing. Of `mean` that is said where it is over within its turns; of `both`
-/// `both_agree` says when its lines tell the same.
+/// follows from the laws of texts, which are cited as calls that do nothing. When the lines of `both` tell the same `both_agree` says.
 pub fn answers_are_verdicts()
     ensures quiet { (asked : Option Asked) (old new : Devices) (cause : Cause) → NoneFailed old new
         → Answers (λ left. ComesTo (world old.held left) asked) old new cause
         → ((cause ≡ Cause.Memory) ⊎ ((verdict : Verdict) × ComesTo (world old.held old.left) asked verdict × (cause ≡ cause_of verdict) × AllDone old verdict new)) }
     ensures once { (held : Held) (left : List ℕ) (asked : Option Asked) (a b : Verdict)
-        → ComesTo (world (Some held) (Some left)) asked a → ComesTo (world (Some held) (Some left)) asked b
-        → IsSettled asked a → IsSettled asked b → Alike a b }
+        → ComesTo (world (Some held) (Some left)) asked a → ComesTo (world (Some held) (Some left)) asked b → Alike a b }
 {
     texts_have_one_image();
     texts_have_one_refusal();
@@ -44,6 +42,7 @@ pub fn answers_are_verdicts()
     noted_images_exclude_refusals();
     audits_come_to_one();
     meanings_come_to_one();
+    comparisons_come_to_one();
 }
 
 /// `exec` of what `build` wrote is `run` of the same files, by any choice with the same policy, builder and number of registers: where

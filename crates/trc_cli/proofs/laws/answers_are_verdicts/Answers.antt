@@ -5,7 +5,7 @@ pub returns-clause-quiet : goal.returns-clause-quiet
 returns-clause-quiet c = quiet
 
 pub returns-clause-once : goal.returns-clause-once
-returns-clause-once c = λ held left asked a b h k s t. once (record {
+returns-clause-once c = λ held left asked a b h k. once (record {
   image = c.texts_have_one_image.ensures;
   refusal = c.texts_have_one_refusal.ensures;
   of_traces = c.texts_have_one_refusal_of_traces.ensures;
@@ -17,4 +17,5 @@ returns-clause-once c = λ held left asked a b h k s t. once (record {
   noted_excluded = c.noted_images_exclude_refusals.ensures;
   audit = c.audits_come_to_one.ensures;
   meaning = c.meanings_come_to_one.ensures;
-}) held left a b asked h k s t
+  comparison = c.comparisons_come_to_one.ensures;
+}) held left a b asked h k

@@ -1,6 +1,6 @@
-use Rattle.text_laws.proofs.one_program.Alike.{mean_the_same}
+use Rattle.text_laws.proofs.one_program.OneProgram.{of_the_same, uses_in_order}
 use Rattle.text_laws.proofs.one_program.laws.texts_have_one_meaning.Goals as goal
 
 pub returns : goal.returns
-returns c = λ texts p q input x y fine also within bytes.
-    mean_the_same c.programs_keep_up.ensures.all p q input (c.texts_have_one_lowering.ensures texts p q x y fine also) fine also within bytes
+returns c = λ texts p q x y fine also input turns.
+    c.modules_have_one_meaning.ensures x.modules p q x.program (of_the_same c.texts_are_read_once.ensures.text texts p q x y) fine also (uses_in_order texts p x) (uses_in_order texts q y) input turns

@@ -1,0 +1,7 @@
+use Rattle.meaning_commands.proofs.Once.{both_once}
+use Rattle.meaning_commands.proofs.laws.comparisons_come_to_one.Goals as goal
+
+pub returns : goal.returns
+returns c =
+    both_once c.texts_have_one_meaning.ensures c.texts_have_one_lowering.ensures c.texts_have_one_first_fault.ensures.fault c.texts_have_one_first_fault.ensures.apart
+    c.lowerings_have_one_image.ensures
