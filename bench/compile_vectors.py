@@ -5,7 +5,6 @@ bench/module_vectors.py takes `vectors` from here: the modules of bench/rows, ma
 that have no image with one choice, the others with each policy, among them both builders and 4 to 16 registers; and modules that
 have the whole language in them, by every choice. bench/other_compiler.py says where the other compiler is.
 """
-import functools
 import itertools
 
 from other_compiler import STAGE, sum_of, sum_of_places
@@ -28,10 +27,9 @@ def limits():
         yield [b'MODULE V; VAR a: INTEGER; BEGIN a := ' + b'+'.join([b'a'] * n) + b' END V.']
     for n in (1333, 1334):
         yield [b'MODULE B; VAR a: INTEGER; BEGIN ' + b'; '.join([b'IF a = 0 THEN a := 1 END'] * n) + b' END B.']
-    for n in (500, 1990):
-        names = [b'a%d' % i for i in range(n)]
-        moved = b'; '.join(b'%s := %s' % (x, y) for x, y in zip(names, names[1:]))
-        yield [b'MODULE H; PROCEDURE P; VAR ' + b', '.join(names) + b': INTEGER; BEGIN WHILE a0 < 9 DO ' + moved + b' END END P; BEGIN P END H.']
+    names = [b'a%d' % i for i in range(500)]
+    moved = b'; '.join(b'%s := %s' % (x, y) for x, y in zip(names, names[1:]))
+    yield [b'MODULE H; PROCEDURE P; VAR ' + b', '.join(names) + b': INTEGER; BEGIN WHILE a0 < 9 DO ' + moved + b' END END P; BEGIN P END H.']
     yield [b'MODULE S; VAR a: INTEGER; BEGIN a := ' + b'+'.join([b'a'] * 20000) + b' END S.']
     yield [b'MODULE C; VAR a: INTEGER; BEGIN CASE a OF ' + b' | '.join(b'%d:' % (i * 7919 % 10007) for i in range(10000)) + b' END END C.']
     yield [b'MODULE N; CONST ' + b''.join(b'c%d = %d; ' % (i, i) for i in range(3000)) + b'VAR a: INTEGER; BEGIN a := c2999 END N.']
@@ -50,26 +48,11 @@ def sized():
     yield size_texts.asserts(8001), all_policies[:1]
     for n in (4095, 4096, 8000):
         yield size_texts.homes(n), all_policies
-    yield size_texts.swaps(1950), all_policies[:2]
+    yield size_texts.swaps(1950), all_policies[:1]
     for n in (4010, 4040, 4090):
-        yield size_texts.arguments(n), ['plain bi 16', 'linear bi 4']
+        yield size_texts.arguments(n), ['plain bi 16', 'bottomup bi 4']
     for offset in range(10):
         yield size_texts.copied(offset), CHOICES
-
-
-def same_policies(sources, choice):
-    """A choice of linear in place of mixed where each trace gets that: then the images are one, and the other compiler takes long for the largest."""
-    policy, builder, regs = choice.split()
-    if policy == 'mixed':
-        plan = backend.plan(check.check_sources(sources), builder, STAGE)
-        if all(backend.policy_of(policy, flow, trace) == backend.policy_of('linear', flow, trace) for flow, cut in zip(plan.flows, plan.cuts) for trace in cut):
-            return ' '.join(['linear', builder, regs])
-    return choice
-
-
-@functools.cache
-def answer_once(sources, choice):
-    return answer(sources, choice)
 
 
 def answer(sources, choice):
@@ -112,7 +95,7 @@ def vectors():
         text = spread(short).encode()
         for choice in choices:
             lines.append(short_line(choice, short))
-            answers.append(answer_once((text,), same_policies([text], choice)))
+            answers.append(answer([text], choice))
     for name, sources in list(pieces_of(WHOLE)) + [(names[-1], example(*names)) for names in EXAMPLE_NAMES]:
         images = every_image(sources)
         if images:

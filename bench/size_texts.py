@@ -14,20 +14,21 @@ import sys
 # so many statements that make one value each, which live nowhere
 ASSERTS = 'MODULE A; BEGIN [%d*ASSERT(TRUE); ]END A.'
 
-# so many values that live across a call, and no others: each has a home whatever the policy
-HOMES = ('MODULE H; IMPORT Out; VAR s: INTEGER; PROCEDURE N; END N; PROCEDURE Q(c: CHAR); BEGIN s := s + ORD(c) + 1 END Q; PROCEDURE P; VAR [%d*c#, ]z: CHAR; '
-         'BEGIN N; Q(z); [%d*Q(c#); ]END P; BEGIN P; Out.Int(s, 0) END H.')
+# so many pairs of values and two, each of which lives across a call and has a home whatever the policy, and a single one that may be there
+HOMES = ('MODULE H; IMPORT Out; VAR n, s: INTEGER; PROCEDURE N; END N; PROCEDURE F(): INTEGER; BEGIN n := n + 1 RETURN n END F; PROCEDURE Q(x: INTEGER); BEGIN s := s * 3 + x END Q; '
+         'PROCEDURE P; VAR x, y: INTEGER; BEGIN N; Q(x); Q(y); [%d*x := F(); y := F(); Q(x); Q(y); ]%sEND P; BEGIN P; Out.Int(n, 0); Out.Int(s, 21) END H.')
 
 # a loop whose header has so many pairs of parameters and two, each pair of which changes places at the loop's end
 SWAPS = ('MODULE S; IMPORT Out; VAR s: INTEGER; PROCEDURE Q(x: INTEGER); BEGIN s := s * 3 + x END Q; PROCEDURE P; VAR [%d*a#, b#, ]i, t: INTEGER; BEGIN i := 0; a0 := 7; '
          'WHILE i < 3 DO [%d*t := a#; a# := b#; b# := t; ]i := i + 1 END; [%d*Q(b#); ]Q(a0) END P; BEGIN P; Out.Int(s, 0) END S.')
 
-# a procedure with so many homes before all others, which calls itself with 24 words, others by number and by value, and divides; and a trap
-ARGUMENTS = ('MODULE F; IMPORT Out; VAR s, x, y: INTEGER; f: PROCEDURE (a: INTEGER): INTEGER; PROCEDURE Q(a: INTEGER): INTEGER; RETURN a DIV 3 END Q; '
-             'PROCEDURE N(c: CHAR); BEGIN s := s + ORD(c) + 1 END N; PROCEDURE P([22*a#, ]a22: INTEGER; d: INTEGER): INTEGER; VAR i, j, k, t: INTEGER; [%d*c#, ]z: CHAR; '
-             'BEGIN i := a0 + a22; j := a7; k := a4; N(z); WHILE i > 0 DO t := i; i := j; j := k; k := t - 1; IF i = a21 THEN x := x + f(i) END END; '
-             'IF d > 0 THEN x := x + P(k - j, i, [18*a#, ]j, x, a4, d - 1) END; [%d*N(c#); ]RETURN x + a5 * Q(k) END P; '
-             'BEGIN f := Q; y := P([22*# * 7, ]2, 3); Out.Int(y, 0); Out.Int(s, 9); ASSERT(y = 0) END F.')
+# a procedure with so many pairs of homes before all others, which calls itself with 24 words, others by number and by value, and divides; and a trap
+ARGUMENTS = ('MODULE F; IMPORT Out; VAR n, s, x, y: INTEGER; f: PROCEDURE (a: INTEGER): INTEGER; PROCEDURE Q(a: INTEGER): INTEGER; RETURN a DIV 3 END Q; '
+             'PROCEDURE G(): INTEGER; BEGIN n := n + 1 RETURN n END G; PROCEDURE N(x: INTEGER); BEGIN s := s * 3 + x END N; '
+             'PROCEDURE P([22*a#, ]a22: INTEGER; d: INTEGER): INTEGER; VAR i, j, k, t, u, v: INTEGER; BEGIN [%d*u := G(); v := G(); N(u); N(v); ]'
+             'i := a0 + a22; j := a7; k := a4; WHILE i > 0 DO t := i; i := j; j := k; k := t - 1; IF i = a21 THEN x := x + f(i) END END; '
+             'IF d > 0 THEN x := x + P(k - j, i, [18*a#, ]j, x, a4, d - 1) END; RETURN x + a5 * Q(k) END P; '
+             'BEGIN f := Q; y := P([22*# * 7, ]2, 3); Out.Int(y, 0); Out.Int(s, 21); ASSERT(y = 0) END F.')
 
 # six values for each of so many IFs, each of which reads its own: all live from the first on
 BRANCHES = ('MODULE B; VAR s: INTEGER; PROCEDURE Q(c: CHAR); BEGIN s := s + ORD(c) + 1 END Q; PROCEDURE P(b: BOOLEAN); VAR [%d*c#, d#, e#, f#, g#, h#, ]z: CHAR; '
@@ -39,7 +40,7 @@ def asserts(n):
 
 
 def homes(n):
-    return HOMES % (n - 1, n - 1)
+    return HOMES % (n // 2 - 1, 'x := F(); N; Q(x) ' if n % 2 else '')
 
 
 def swaps(n):
@@ -47,7 +48,7 @@ def swaps(n):
 
 
 def arguments(n):
-    return ARGUMENTS % (n, n)
+    return ARGUMENTS % (n // 2)
 
 
 def branches(n):

@@ -388,8 +388,8 @@ def line(words, files, given):
 
 @functools.cache
 def printed(short):
-    """What a run of a text in short comes to: the same by each choice, so it is made once, by the policy that takes the other compiler the least time."""
-    return trc.Run(CALLED + ['run', 'M.Mod', '--policy', 'plain'], {'M.Mod': short.spread()}, b'')
+    """What a run of a text in short comes to: what it means, whatever the choice, which takes the other compiler less time than an image."""
+    return trc.Run(CALLED + ['mean', 'M.Mod'], {'M.Mod': short.spread()}, b'')
 
 
 def called(words, files, given):
