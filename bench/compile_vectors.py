@@ -23,8 +23,6 @@ EVERY = list(itertools.product(['plain', 'linear', 'bottomup', 'mixed'], ['uni',
 
 def limits():
     """Programs at a limit, and one beyond."""
-    for n in (2666, 2667):
-        yield [b'MODULE V; VAR a: INTEGER; BEGIN a := ' + b'+'.join([b'a'] * n) + b' END V.']
     for n in (1333, 1334):
         yield [b'MODULE B; VAR a: INTEGER; BEGIN ' + b'; '.join([b'IF a = 0 THEN a := 1 END'] * n) + b' END B.']
     names = [b'a%d' % i for i in range(500)]
@@ -46,6 +44,8 @@ def sized():
     all_policies = ['plain bi 16', 'linear bi 16', 'bottomup bi 16', 'mixed bi 16']
     yield size_texts.asserts(8000), all_policies
     yield size_texts.asserts(8001), all_policies[:1]
+    for n in (2665, 2666):
+        yield 'MODULE V; VAR a: INTEGER; BEGIN a := a[%d*+a] END V.' % n, CHOICES[:1]
     for n in (4095, 4096, 8000):
         yield size_texts.homes(n), all_policies
     yield size_texts.swaps(1950), all_policies[:1]
@@ -74,7 +74,8 @@ def every_image(texts):
     """The lines of all images of modules; none where they pass a limit."""
     program = check.check_sources(texts)
     try:
-        images = [backend.compile_program(program, *choice, STAGE) for choice in EVERY]
+        plans = {builder: backend.plan(program, builder, STAGE) for builder in ('uni', 'bi')}
+        images = [backend.place(plans[builder], backend.results(plans[builder], policy, regs), STAGE) for policy, builder, regs in EVERY]
     except Limit:
         return None
     heads = ['%s %s %d' % choice for choice in EVERY]
