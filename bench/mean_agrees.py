@@ -17,14 +17,14 @@ import subprocess
 import sys
 import tempfile
 
-from other_compiler import TOP
+from other_compiler import CALLED, TOP
 from module_texts import EXAMPLE_NAMES, example
+from size_texts import spread
 import check  # noqa: E402
 import meaning  # noqa: E402
 import trc  # noqa: E402
 from scan import Fault  # noqa: E402
 
-STAGE = ['--stage', '=12,15,19']  # what is refused by a limit is refused as where images are made
 MOST = int(sys.argv[2]) if len(sys.argv) > 2 else 2500000
 INPUTS = [b'some input\n', b'12 + 3 * (4 - 5) =\n']
 
@@ -48,7 +48,8 @@ def read(text):
 def lines_of(crate):
     with open(os.path.join(TOP, 'crates', crate, 'stdin')) as stored:
         for line in stored:
-            yield line.rstrip('\n').split('\t')
+            line = line.rstrip('\n')
+            yield (spread(line[len('spread '):]) if line.startswith('spread ') else line).split('\t')
 
 
 def calls():
@@ -96,7 +97,7 @@ def told(program, folder, words, given):
 
 def wanted(words, files, given):
     """What the other compiler tells."""
-    call = trc.Run(STAGE + words, dict(files), given)
+    call = trc.Run(CALLED + words, dict(files), given)
     return call.status, bytes(call.out), call.err and call.err + '\n'
 
 
