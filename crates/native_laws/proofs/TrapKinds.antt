@@ -6,7 +6,6 @@ use Rattle.std.specs.Prelude.{if◌then◌else◌}
 use Rattle.wrapping_numbers.specs.Numbers.{unsigned}
 use Rattle.ob_types.specs.Layout.{kind_of, record_cells}
 use Rattle.ob_types.specs.Meaning.{kind_in, length_of_kind, element_kind, record_of_kind, is_byte}
-use Rattle.ob_types.specs.declared.types.TypeKind.TheVariants.{Char}
 use Rattle.ob_types.specs.declared.types.TypeKind.TheVariants.{Bool as Boolean}
 use Rattle.ob_types.specs.declared.types.Formal.{Formal}
 use Rattle.ob_types.specs.declared.tree.Unary.{Unary}
@@ -585,7 +584,7 @@ module _ (p : Program) (l : Layout) (here : Here) where
     s_deed (OutInt x n) = s_out_int (s_value x) (s_value n)
     s_deed (OutString d) = s_out_string l.character (length_of_kind (kind_in d)) (s_named p l here d)
     s_deed OutLn = s_out_char (s_const 10)
-    s_deed (InChar d) = s_in_char (l.is_small Boolean) (l.is_small Char) (s_named p l here d)
+    s_deed (InChar d) = s_in_char (l.is_small Boolean) (l.is_small (kind_in d)) (s_named p l here d)
     s_deed (Invoke c) = s_without_result (s_called p l here c)
     s_deed (If' _ parts _ other) = s_alternatives parts (assigned_all other) (s_deeds other)
     s_deed (While' _ parts) = loops _ _ (each_round parts)
