@@ -16,12 +16,12 @@ use Rattle.lir_core.specs.declared.places.Place.{Place}
 use Rattle.lir_core.specs.declared.places.Place.TheVariants.{Reg, Home, Out}
 use Rattle.lir_core.specs.declared.places.Move.{Move}
 use Rattle.lir_core.specs.declared.places.Places.{Places}
-use Rattle.lir_core.specs.Spots.{argument_of, same, spot}
+use Rattle.lir_core.specs.Spots.{argument_of, same, spot, IsRising}
 use Rattle.global_live.proofs.Lists.{has-append}
 use Rattle.parallel_move.specs.Order.{is_moving, pending, ordered, order_of}
 use Rattle.boundary_resolve.specs.declared.moves.Before.{Before}
 use Rattle.boundary_resolve.specs.Moves.{register_of, register_or_home, place_of, reg_moves, home_moves, stays_home, edge_moves, FewRegs}
-use Rattle.boundary_resolve.specs.Before.{argument_before, place_before, stays_before, moves_before, HasFew, HasHomes, HasArguments, IsBefore}
+use Rattle.boundary_resolve.specs.Before.{argument_before, place_before, homed_before, stays_before, moves_before, HasFew, Rises, HasHomes, HasArguments, IsBefore}
 
 at_key : (x y : ℕ) → is_eq (nat_cmp x y) ≡ (x == y)
 at_key x y = at_equal (x == y) refl (nat_lt x y) refl
@@ -103,6 +103,16 @@ home_same s t f g e h (v ∷ vs) =
     ap₂ (λ p ms. cond (s v) ms (let m : Move = record { to = Home v; from = p } in m ∷ ms)) (h v) (home_same s t f g e h vs)
     ∙ ap (λ b. cond b (home_moves t g vs) (let m : Move = record { to = Home v; from = g v } in m ∷ home_moves t g vs)) (e v)
 
+homed_is : (before : Places) (params args : List ℕ) (b : Before) → IsBefore before params args b → (v : ℕ) → homed_before b v ≡ has before.homed v
+homed_is before params args b is v = at_test b.rises refl
+  where
+    at_test : (t : Bool) → b.rises ≡ t → cond t (has b.homed.now v) (contains nat_cmp b.set v) ≡ has before.homed v
+    at_test true e = ap (λ vs. has vs v) is.homed
+    at_test false e = is.set e v
+
+pub rises_before : (before : Places) (params args : List ℕ) (b : Before) → IsBefore before params args b → Rises b
+rises_before before params args b is e = subst IsRising (sym is.homed) (is.rises e)
+
 pub before_is : (before after : Places) (params args : List ℕ) (b : Before) → IsBefore before params args b → moves_before b after ≡ edge_moves before after (argument_of params args)
 before_is before after params args b is =
     ap₂ (λ (x y : List Move). x ++ y)
@@ -113,7 +123,7 @@ before_is before after params args b is =
     place_is v = ap₂ (λ rs u. register_or_home (register_of rs 0 u) u) is.regs (is.arguments v)
 
     stays_is : (v : ℕ) → stays_before b v ≡ stays_home before (argument_of params args) v
-    stays_is v = ap₂ (λ x u. x && u == v) (is.homed v) (is.arguments v)
+    stays_is v = ap₂ (λ x u. x && u == v) (homed_is before params args b is v) (is.arguments v)
 
 pub has_few : (before : Places) (params args : List ℕ) (b : Before) → IsBefore before params args b → FewRegs before → HasFew b
 has_few before params args b is few = subst (λ (rs : List (Option ℕ)). length rs ≤ 16) (sym is.regs) few

@@ -1,20 +1,21 @@
 //! The moves of an edge.
 
-ghost use Rattle.std.specs.Prelude.{◌≡◌, ◌<◌, ◌≤◌, [], ◌++◌, true, length, filter, IfOk, OnOk};
+ghost use Rattle.std.specs.Prelude.{◌≡◌, ◌<◌, ◌≤◌, [], ◌++◌, true, false, length, filter, IfOk, OnOk};
 ghost use Rattle.lir_core.specs.declared.places.Place.TheVariants.{Reg};
 ghost use Rattle.lir_core.specs.Spots.{argument_of, TakesOver};
 ghost use Rattle.parallel_move.specs.Steps.{steps_source};
 ghost use Rattle.parallel_move.specs.Order.{is_moving, order_of};
 ghost use Rattle.boundary_resolve.specs.Moves.{place_of, register_of, reg_moves, home_moves, edge_moves, FewRegs, Covers};
-ghost use Rattle.boundary_resolve.specs.Before.{IsBefore, HasHomes, HasArguments, HasFew, argument_before, place_before, stays_before, moves_before};
+ghost use Rattle.boundary_resolve.specs.Before.{IsBefore, HasHomes, HasArguments, HasFew, Rises, argument_before, place_before, homed_before, stays_before, moves_before};
 
 use lir_core::{Move, Place, Places};
 use outside::Memory;
+use rising_lists::{Finder, is_rising};
 use std::alloc::{AllocError, Global};
 use std::collections::{BTreeMap, BTreeSet};
 
 /// The moves of an edge from a node's end places to a node's start places, where the edge gives arguments to parameters.
-/// Takes n log n for n places, parameters and arguments.
+/// Takes n log n for n places, parameters and arguments, where the homed values behind the edge rise.
 pub fn edge_moves(
     alloc: Global,
     from: &Places,
@@ -32,7 +33,7 @@ pub fn edge_moves(
 
 /// The moves to where the next node wants values.
 pub(crate) fn moves_to(alloc: Global, before: &Before, to: &Places) -> Result<Vec<Move>, AllocError>
-    ensures { HasFew before.now → FewRegs to.now → IfOk result (λ moves. moves.items ≡ moves_before before.now to.now) }
+    ensures { HasFew before.now → Rises before.now → FewRegs to.now → IfOk result (λ moves. moves.items ≡ moves_before before.now to.now) }
 {
     let mut moves = Vec::new(alloc);
     push_registers(&mut moves, before, to.regs.as_slice())?;
@@ -80,7 +81,11 @@ fn is_held(from: &Places, value: u32, register: usize) -> bool
 #[derive(Drop)]
 pub(crate) struct Before<'a> {
     regs: &'a [Option<u32>],
-    homed: BTreeSet<u32>,
+    homed: &'a [u32],
+    /// Whether the homed values rise.
+    rises: bool,
+    /// The homed values as a set, where they don't rise.
+    set: BTreeSet<u32>,
     params: &'a [u32],
     args: &'a [u32],
     /// The arguments by their parameters, where these are more than a few.
@@ -96,9 +101,13 @@ impl<'a> Before<'a> {
     ) -> Result<Before<'a>, AllocError>
         ensures { IfOk result (λ before. IsBefore places.now params.now args.now before) }
     {
+        let homed = places.homed.as_slice();
+        let rises = is_rising(homed);
         Ok(Before {
             regs: places.regs.as_slice(),
-            homed: homed(alloc, places.homed.as_slice())?,
+            homed,
+            rises,
+            set: set(alloc, homed, rises)?,
             params,
             args,
             arguments: table(alloc, params, args)?,
@@ -107,7 +116,7 @@ impl<'a> Before<'a> {
 
     /// Whether all values that are wanted behind the edge stand there before it.
     pub(crate) fn keeps(&self, to: &Places) -> bool
-        ensures { HasFew self.now → FewRegs to.now → result ≡ true → order_of (moves_before self.now to.now) ≡ [] }
+        ensures { HasFew self.now → Rises self.now → FewRegs to.now → result ≡ true → order_of (moves_before self.now to.now) ≡ [] }
     {
         self.keeps_registers(to.regs.as_slice()) && self.keeps_homes(to.homed.as_slice())
     }
@@ -126,10 +135,11 @@ impl<'a> Before<'a> {
     }
 
     fn keeps_homes(&self, homed: &[u32]) -> bool
-        ensures { result ≡ true → home_moves (stays_before self.now) (place_before self.now) homed.now ≡ [] }
+        ensures { Rises self.now → result ≡ true → home_moves (stays_before self.now) (place_before self.now) homed.now ≡ [] }
     {
+        let mut finder = Finder::new(self.homed);
         for value in homed {
-            if !self.stays(*value) {
+            if !self.stays(&mut finder, *value) {
                 return false;
             }
         }
@@ -171,10 +181,23 @@ impl<'a> Before<'a> {
     }
 
     // A value stays in its home.
-    fn stays(&self, value: u32) -> bool
-        ensures { result ≡ stays_before self.now value }
+    fn stays(&self, finder: &mut Finder<'_>, value: u32) -> bool
+        ensures stays { Rises self.now → finder.old ≡ self.now.homed.now → result ≡ stays_before self.now value }
+        ensures list { finder.new ≡ finder.old }
     {
-        self.homed.contains(&value) && self.argument(value) == value
+        self.was_homed(finder, value) && self.argument(value) == value
+    }
+
+    // A value was homed before the edge.
+    fn was_homed(&self, finder: &mut Finder<'_>, value: u32) -> bool
+        ensures homed { Rises self.now → finder.old ≡ self.now.homed.now → result ≡ homed_before self.now value }
+        ensures list { finder.new ≡ finder.old }
+    {
+        if self.rises {
+            finder.has(value)
+        } else {
+            self.set.contains(&value)
+        }
     }
 }
 
@@ -192,14 +215,24 @@ fn register_of(regs: &[Option<u32>], value: u32) -> Option<u8>
     None
 }
 
-fn homed(alloc: Global, values: &[u32]) -> Result<BTreeSet<u32>, AllocError>
-    ensures { IfOk result (λ homed. HasHomes values.now homed) }
+// The set of values, where they don't rise.
+fn set(alloc: Global, values: &[u32], rises: bool) -> Result<BTreeSet<u32>, AllocError>
+    ensures { rises ≡ false → IfOk result (λ set. HasHomes values.now set) }
 {
-    let mut homed = BTreeSet::new(alloc);
-    for value in values {
-        homed.insert(*value)?;
+    if rises {
+        return Ok(BTreeSet::new(alloc));
     }
-    Ok(homed)
+    set_of(alloc, values)
+}
+
+fn set_of(alloc: Global, values: &[u32]) -> Result<BTreeSet<u32>, AllocError>
+    ensures { IfOk result (λ set. HasHomes values.now set) }
+{
+    let mut set = BTreeSet::new(alloc);
+    for value in values {
+        set.insert(*value)?;
+    }
+    Ok(set)
 }
 
 // A parameter's argument, of the first of two for one parameter; any other value is its own.
@@ -261,10 +294,11 @@ fn push_registers(
 }
 
 fn push_homes(moves: &mut Vec<Move>, before: &Before, homed: &[u32]) -> Result<(), AllocError>
-    ensures { HasFew before.now → OnOk result (moves.new.items ≡ moves.old.items ++ home_moves (stays_before before.now) (place_before before.now) homed.now) }
+    ensures { HasFew before.now → Rises before.now → OnOk result (moves.new.items ≡ moves.old.items ++ home_moves (stays_before before.now) (place_before before.now) homed.now) }
 {
+    let mut finder = Finder::new(before.homed);
     for value in homed {
-        if !before.stays(*value) {
+        if !before.stays(&mut finder, *value) {
             moves.push(Move {
                 to: Place::Home(*value),
                 from: before.place(*value),

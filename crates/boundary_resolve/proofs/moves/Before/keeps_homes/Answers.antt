@@ -6,4 +6,7 @@ use Rattle.boundary_resolve.proofs.moves.Before.keeps_homes.Goals as goal
 pub loop-value-preserved : goal.loop-value-preserved
 loop-value-preserved c =
     let b = c.args.self.now in
-    c.loop-value.invariant ∙ stays_step (stays_before b) (place_before b) c.args.homed.now c.loop-value.value-index _ c.loop-value-test.true refl (sym c.if-not-stays.ensures)
+    record {
+      finder = c.stays.ensures.list ∙ c.loop-value.invariant.finder;
+      kept = λ rises. c.loop-value.invariant.kept rises ∙ stays_step (stays_before b) (place_before b) c.args.homed.now c.loop-value.value-index _ c.loop-value-test.true refl (sym (c.if-not-stays.ensures.stays rises c.loop-value.invariant.finder));
+    }
