@@ -4,11 +4,13 @@ ghost use Rattle.std.specs.Prelude.{◌≡◌, [], ◌∷◌, IfOk, OnOk, slice_
 ghost use Rattle.std.specs.Option.{option_map};
 ghost use Rattle.block_runs.specs.Blocks.{end_uses, successors};
 ghost use Rattle.lir_core.specs.Rows.{live_into};
+ghost use Rattle.lir_core.specs.Spots.{IsRising};
 ghost use Rattle.loc_back.specs.Marks.{live_at_each, at_start, at_end, marked_one, marked, starts_marked, ends_marked};
 
 use crate::front_items::FrontItems;
 use lir_core::{Flow, Leave, LiveSets, Node, Places, next_live};
 use loc_state::Homes;
+use rising_lists::Finder;
 use std::alloc::{AllocError, Global};
 
 /// Values that are homed, and what is live into each node of a flow.
@@ -39,12 +41,23 @@ impl Marking<'_> {
         Ok(())
     }
 
+    // The same, in one pass of the homed values where these values rise.
+    fn mark_in_order(&self, marks: &mut Homes, values: &[u32]) -> Result<(), AllocError>
+        ensures { OnOk result (marks.new ≡ marked self.now.homed.now values.now marks.old) }
+    {
+        let mut homed = Finder::new(self.homed.as_slice());
+        for value in values {
+            mark_found(marks, &mut homed, *value)?;
+        }
+        Ok(())
+    }
+
     // What is live into a node.
     fn mark_live(&self, alloc: Global, marks: &mut Homes, node: u32) -> Result<(), AllocError>
         ensures { OnOk result (marks.new ≡ marked self.now.homed.now (live_into self.now.flow.now.values self.now.live.now node) marks.old) }
     {
         let values = live_values(alloc, self.live, node, self.flow.values)?;
-        self.mark_all(marks, values.as_slice())?;
+        self.mark_in_order(marks, values.as_slice())?;
         Ok(())
     }
 
@@ -172,6 +185,18 @@ pub fn live_values(
         from = value + 1;
     }
     Ok(list)
+}
+
+// Marks a value that is found among those that are homed.
+fn mark_found(marks: &mut Homes, homed: &mut Finder<'_>, value: u32) -> Result<(), AllocError>
+    ensures marks { IsRising homed.old → OnOk result (marks.new ≡ marked_one homed.old value marks.old) }
+    ensures homed { homed.new ≡ homed.old }
+{
+    if homed.has(value) {
+        marks.insert(value)
+    } else {
+        Ok(())
+    }
 }
 
 fn with_homes(alloc: Global, q: Places, marks: &Homes) -> Result<Places, AllocError>

@@ -1,76 +1,126 @@
 -- Sets of values.
-use Rattle.std.proofs.Common.{◌≡◌, ℕ, ◌<◌, Bool, true, false, not, cond, List, [], ◌∷◌, filter, refl, sym, ap, ◌∙◌, arith}
-use Rattle.std.specs.Prelude.{◌==◌, nat_lt}
-use Rattle.std.specs.Ordering.{nat_cmp, match_ordering, is_eq}
-use Rattle.std.specs.declared.cmp.Ordering.TheVariants.{Less, Equal, Greater}
-use Rattle.std.specs.List.{list_any, AllByRecursion}
-use Rattle.std.specs.List.Sorted.{IsStrictlySortedBy}
-use Rattle.std.specs.Set.{remove_key}
-use Rattle.std.specs.BTreeSet.{insert_key}
-use Rattle.std.specs.BTreeMap.{is_at}
-use Rattle.std.proofs.lemmas.Bool.{eqb-true, eq-eqb, ne_eqb}
+use Rattle.std.proofs.Common.{◌≡◌, ℕ, suc, ◌<◌, Bool, true, false, not, cond, List, [], ◌∷◌, ◌++◌, filter, refl, sym, ap, ap₂, subst, ◌∙◌, append_assoc, append-nil, arith}
+use Rattle.std.specs.Prelude.{◌==◌, nat_lt, slice_get, insert, remove}
+use Rattle.std.proofs.lemmas.Bool.{eqb-true}
 use Rattle.std.proofs.lemmas.Bool.Decides.{nat_tests}
 use Rattle.block_runs.specs.Live.{has}
 use Rattle.lir_core.specs.Spots.{IsRising}
+use Rattle.rising_lists.specs.Rising.{rank, is_number}
+use Rattle.rising_lists.proofs.Ranks.{has_at_rank, not_in}
+use Rattle.rising_lists.proofs.Ranks.{rising_tail as rising_tail_of}
 use Rattle.loc_state.specs.Homed.{inserted, all_inserted, others}
 
-eq_less : (x y : ℕ) → nat_lt x y ≡ true → (x == y) ≡ false
-eq_less x y h = grind (arith, nat_tests)
+---- Lists that rise, with a value and without
 
-turned : (x y : ℕ) → (x == y) ≡ (y == x)
-turned x y = at_test (x == y) refl
+-- a value that isn't where it would stand is put there
+pub insert_is : (v : ℕ) (xs : List ℕ) → is_number (slice_get xs (rank v xs)) v ≡ false → insert xs (rank v xs) v ≡ inserted v xs
+insert_is v [] e = refl
+insert_is v (x ∷ xs) e = at_test (nat_lt x v) refl (insert_is v xs) e
   where
-    at_test : (b : Bool) → (x == y) ≡ b → b ≡ (y == x)
-    at_test true e = sym (eq-eqb y x (sym (eqb-true x y e)))
-    at_test false e = sym (ne_eqb y x (λ q. let z : true ≡ false = sym (eq-eqb x y (sym q)) ∙ e in cc))
+    not_less : nat_lt x v ≡ true → nat_lt v x ≡ false
+    not_less e = grind (arith, nat_tests)
 
----- The set's words
+    not_same : nat_lt x v ≡ true → (v == x) ≡ false
+    not_same e = grind (arith, nat_tests)
 
-is_at_is : (v x : ℕ) → is_at (nat_cmp v) x ≡ (v == x)
-is_at_is v x = at_test (nat_lt v x) refl (v == x) refl
+    less : nat_lt x v ≡ false → (x == v) ≡ false → nat_lt v x ≡ true
+    less e f = grind (arith, nat_tests)
+
+    at_test : (t : Bool) → nat_lt x v ≡ t → (is_number (slice_get xs (rank v xs)) v ≡ false → insert xs (rank v xs) v ≡ inserted v xs)
+        → is_number (slice_get (x ∷ xs) (cond t (suc (rank v xs)) 0)) v ≡ false → insert (x ∷ xs) (cond t (suc (rank v xs)) 0) v ≡ inserted v (x ∷ xs)
+    at_test true t on e =
+        ap (λ ys. x ∷ ys) (on e) ∙ sym (ap (λ b. cond b (v ∷ (x ∷ xs)) (cond (v == x) (x ∷ xs) (x ∷ inserted v xs))) (not_less t) ∙ ap (λ b. cond b (x ∷ xs) (x ∷ inserted v xs)) (not_same t))
+    at_test false t on e = sym (ap (λ b. cond b (v ∷ (x ∷ xs)) (cond (v == x) (x ∷ xs) (x ∷ inserted v xs))) (less t e))
+
+-- and one that is there stays alone
+pub insert_there : (v : ℕ) (xs : List ℕ) → is_number (slice_get xs (rank v xs)) v ≡ true → xs ≡ inserted v xs
+insert_there v [] e = cc
+insert_there v (x ∷ xs) e = at_test (nat_lt x v) refl (insert_there v xs) e
   where
-    at_test : (b : Bool) → nat_lt v x ≡ b → (c : Bool) → (v == x) ≡ c → is_eq (cond b Less (cond c Equal Greater)) ≡ c
-    at_test true e c f = sym (eq_less v x e) ∙ f
-    at_test false e true f = refl
-    at_test false e false f = refl
+    not_less : nat_lt x v ≡ true → nat_lt v x ≡ false
+    not_less e = grind (arith, nat_tests)
 
-pub contained : (v : ℕ) (xs : List ℕ) → list_any (is_at (nat_cmp v)) xs ≡ has xs v
-contained v [] = refl
-contained v (x ∷ xs) = by (is_at (nat_cmp v) x) (x == v) (is_at_is v x ∙ turned v x) (contained v xs)
-  where
-    by : (b c : Bool) → b ≡ c → list_any (is_at (nat_cmp v)) xs ≡ has xs v → Rattle.std.specs.Prelude.◌||◌ b (list_any (is_at (nat_cmp v)) xs) ≡ cond c true (has xs v)
-    by true true e on = refl
-    by true false e on = cc
-    by false true e on = cc
-    by false false e on = on
+    not_same : nat_lt x v ≡ true → (v == x) ≡ false
+    not_same e = grind (arith, nat_tests)
 
-pub insert_is : (v : ℕ) (xs : List ℕ) → insert_key nat_cmp xs v ≡ inserted v xs
-insert_is v [] = refl
-insert_is v (x ∷ xs) = at_test (nat_lt v x) (v == x) (insert_is v xs)
-  where
-    at_test : (b c : Bool) → insert_key nat_cmp xs v ≡ inserted v xs → match_ordering (cond b Less (cond c Equal Greater)) (v ∷ x ∷ xs) (x ∷ xs) (x ∷ insert_key nat_cmp xs v) ≡ cond b (v ∷ (x ∷ xs)) (cond c (x ∷ xs) (x ∷ inserted v xs))
-    at_test true c on = refl
-    at_test false true on = refl
-    at_test false false on = ap (λ t. x ∷ t) on
+    none_less : (x == v) ≡ true → nat_lt v x ≡ false
+    none_less e = grind (arith, nat_tests)
+
+    turned : (x == v) ≡ true → (v == x) ≡ true
+    turned e = grind (arith, nat_tests)
+
+    at_test : (t : Bool) → nat_lt x v ≡ t → (is_number (slice_get xs (rank v xs)) v ≡ true → xs ≡ inserted v xs)
+        → is_number (slice_get (x ∷ xs) (cond t (suc (rank v xs)) 0)) v ≡ true → (x ∷ xs) ≡ inserted v (x ∷ xs)
+    at_test true t on e =
+        ap (λ ys. x ∷ ys) (on e) ∙ sym (ap (λ b. cond b (v ∷ (x ∷ xs)) (cond (v == x) (x ∷ xs) (x ∷ inserted v xs))) (not_less t) ∙ ap (λ b. cond b (x ∷ xs) (x ∷ inserted v xs)) (not_same t))
+    at_test false t on e = sym (ap (λ b. cond b (v ∷ (x ∷ xs)) (cond (v == x) (x ∷ xs) (x ∷ inserted v xs))) (none_less e) ∙ ap (λ b. cond b (x ∷ xs) (x ∷ inserted v xs)) (turned e))
 
 -- nothing is taken from a list that lacks the value
-keeps : (v : ℕ) (xs : List ℕ) → AllByRecursion (λ y. nat_cmp v y ≡ Less) xs → others v xs ≡ xs
-keeps v [] h = refl
-keeps v (x ∷ xs) h = at_test (nat_lt v x) refl (v == x) h.0 (keeps v xs h.1)
+keeps : (v : ℕ) (xs : List ℕ) → has xs v ≡ false → xs ≡ others v xs
+keeps v [] e = refl
+keeps v (x ∷ xs) e = at_test (x == v) e (keeps v xs)
   where
-    at_test : (b : Bool) → nat_lt v x ≡ b → (c : Bool) → cond b Less (cond c Equal Greater) ≡ Less → others v xs ≡ xs → others v (x ∷ xs) ≡ x ∷ xs
-    at_test true e c h on = ap (λ b. cond (not b) (x ∷ others v xs) (others v xs)) (turned x v ∙ eq_less v x e) ∙ ap (λ t. x ∷ t) on
-    at_test false e true h on = cc
-    at_test false e false h on = cc
+    at_test : (t : Bool) → cond t true (has xs v) ≡ false → (has xs v ≡ false → xs ≡ others v xs) → (x ∷ xs) ≡ cond (not t) (x ∷ others v xs) (others v xs)
+    at_test true e on = cc
+    at_test false e on = ap (λ ys. x ∷ ys) (on e)
 
-pub remove_is : (v : ℕ) (xs : List ℕ) → IsStrictlySortedBy nat_cmp xs → remove_key (is_at (nat_cmp v)) xs ≡ others v xs
-unfolding IsStrictlySortedBy
-remove_is v [] s = refl
-remove_is v (x ∷ xs) s = by (x == v) refl (is_at (nat_cmp v) x) (is_at_is v x ∙ turned v x) (remove_is v xs s.1)
+pub remove_none : (v : ℕ) (xs : List ℕ) → IsRising xs → is_number (slice_get xs (rank v xs)) v ≡ false → xs ≡ others v xs
+remove_none v xs r e = keeps v xs (has_at_rank xs v r ∙ e)
+
+pub remove_is : (v : ℕ) (xs : List ℕ) → IsRising xs → is_number (slice_get xs (rank v xs)) v ≡ true → remove xs (rank v xs) ≡ others v xs
+remove_is v [] r e = cc
+remove_is v (x ∷ xs) r e = at_test (nat_lt x v) refl (remove_is v xs (rising_tail_of x xs r)) e
   where
-    by : (b : Bool) → (x == v) ≡ b → (c : Bool) → c ≡ (x == v) → remove_key (is_at (nat_cmp v)) xs ≡ others v xs → cond c xs (x ∷ remove_key (is_at (nat_cmp v)) xs) ≡ cond (not b) (x ∷ others v xs) (others v xs)
-    by true e c f on = ap (λ b. cond b xs (x ∷ remove_key (is_at (nat_cmp v)) xs)) (f ∙ e) ∙ sym (keeps x xs s.0) ∙ ap (λ y. others y xs) (eqb-true x v e)
-    by false e c f on = ap (λ b. cond b xs (x ∷ remove_key (is_at (nat_cmp v)) xs)) (f ∙ e) ∙ ap (λ t. x ∷ t) on
+    other : nat_lt x v ≡ true → (x == v) ≡ false
+    other e = grind (arith, nat_tests)
+
+    rest : (x == v) ≡ true → has xs v ≡ false
+    rest e = not_in x xs v r (let s = eqb-true x v e in omega (arith, s))
+
+    at_test : (t : Bool) → nat_lt x v ≡ t → (is_number (slice_get xs (rank v xs)) v ≡ true → remove xs (rank v xs) ≡ others v xs)
+        → is_number (slice_get (x ∷ xs) (cond t (suc (rank v xs)) 0)) v ≡ true → remove (x ∷ xs) (cond t (suc (rank v xs)) 0) ≡ others v (x ∷ xs)
+    at_test true t on e = ap (λ ys. x ∷ ys) (on e) ∙ sym (ap (λ b. cond (not b) (x ∷ others v xs) (others v xs)) (other t))
+    at_test false t on e = keeps v xs (rest e) ∙ sym (ap (λ b. cond (not b) (x ∷ others v xs) (others v xs)) e)
+
+-- where a value was sought and what was found there
+pub found_at : (v : ℕ) (xs s t : List ℕ) (at : ℕ) (b : Bool) → s ≡ xs → t ≡ xs → (IsRising s → at ≡ rank v s) → b ≡ is_number (slice_get t at) v → IsRising xs
+    → (at ≡ rank v xs) × (is_number (slice_get xs (rank v xs)) v ≡ b)
+found_at v xs s t at b e f sought found r =
+    let is : at ≡ rank v xs = sought (subst IsRising (sym e) r) ∙ ap (rank v) e in
+    (is, sym (found ∙ ap₂ (λ (ys : List ℕ) (k : ℕ). is_number (slice_get ys k) v) f is))
+
+pub removed_at : (v : ℕ) (xs s t new : List ℕ) (at : ℕ) → s ≡ xs → t ≡ xs → (IsRising s → at ≡ rank v s) → true ≡ is_number (slice_get t at) v → IsRising xs → new ≡ remove xs at → new ≡ others v xs
+removed_at v xs s t new at e f sought found r is =
+    let at_rank = found_at v xs s t at true e f sought found r in
+    is ∙ ap (remove xs) at_rank.0 ∙ remove_is v xs r at_rank.1
+
+-- a list that rises is the set of its values
+inserted_last : (v : ℕ) (xs ys : List ℕ) → IsRising (xs ++ v ∷ ys) → inserted v xs ≡ xs ++ v ∷ []
+inserted_last v [] ys r = refl
+inserted_last v (x ∷ xs) ys r =
+    let below : x < v = last_above x xs v ys r in
+    ap (λ b. cond b (v ∷ (x ∷ xs)) (cond (v == x) (x ∷ xs) (x ∷ inserted v xs))) (not_less x v below)
+    ∙ ap (λ b. cond b (x ∷ xs) (x ∷ inserted v xs)) (not_same x v below)
+    ∙ ap (λ zs. x ∷ zs) (inserted_last v xs ys (rising_tail_of x (xs ++ v ∷ ys) r))
+  where
+    not_less : (x v : ℕ) → x < v → nat_lt v x ≡ false
+    not_less x v l = grind (arith, nat_tests)
+
+    not_same : (x v : ℕ) → x < v → (v == x) ≡ false
+    not_same x v l = grind (arith, nat_tests)
+
+    last_above : (x : ℕ) (xs : List ℕ) (v : ℕ) (ys : List ℕ) → IsRising (x ∷ (xs ++ v ∷ ys)) → x < v
+    last_above x [] v ys r = r.0
+    last_above x (z ∷ zs) v ys r = let a = r.0 in let b = last_above z zs v ys r.1 in omega (arith, a, b)
+
+all_last : (vs xs : List ℕ) → IsRising (xs ++ vs) → all_inserted vs xs ≡ xs ++ vs
+all_last [] xs r = sym (append-nil xs)
+all_last (v ∷ vs) xs r =
+    let more : (xs ++ v ∷ []) ++ vs ≡ xs ++ v ∷ vs = append_assoc xs (v ∷ []) vs in
+    ap (all_inserted vs) (inserted_last v xs vs r) ∙ all_last vs (xs ++ v ∷ []) (subst IsRising (sym more) r) ∙ more
+
+pub all_inserted_is : (vs : List ℕ) → IsRising vs → all_inserted vs [] ≡ vs
+all_inserted_is vs r = all_last vs [] r
 
 ---- What is in them
 
@@ -186,3 +236,6 @@ filter_rises t (x ∷ xs) h = at_test (t x) (above_filter t x xs (rising_tail x 
     at_test : (b : Bool) → Above x (filter t xs) → IsRising (cond b (x ∷ filter t xs) (filter t xs))
     at_test true on = tail_rising x (filter t xs) on
     at_test false on = rest x (filter t xs) on
+
+pub others_rise : (v : ℕ) (xs : List ℕ) → IsRising xs → IsRising (others v xs)
+others_rise v xs r = filter_rises (λ x. not (x == v)) xs r

@@ -2,29 +2,33 @@
 
 ghost use Rattle.std.specs.Prelude.{◌≡◌, [], IfOk, OnOk};
 ghost use Rattle.block_runs.specs.Live.{has};
+ghost use Rattle.lir_core.specs.Spots.{IsRising};
 ghost use Rattle.loc_state.specs.Homed.{inserted, all_inserted, others};
 
 use lir_core::Items;
+use rising_lists::{is_at, is_rising, rank, rank_near};
 use std::alloc::{AllocError, Global};
-use std::collections::BTreeSet;
 use std::marker::Model;
 
-/// A set of values, which contracts see as the list of its values, rising.
+/// A set of values, which contracts see as the list of its values, rising. It is kept as that list: one that rises is taken
+/// over and given out at once, and values that rise are inserted without a search. One that is inserted before others moves
+/// these.
 #[derive(Drop)]
 pub struct Homes {
-    values: BTreeSet<u32>,
+    values: Vec<u32>,
+    /// The index behind the last value that was inserted.
+    behind: usize,
 }
 
 impl Model for Homes {
     ghost use Rattle.std.specs.Prelude.{ℕ, List};
-    ghost use Rattle.std.specs.Ordering.{nat_cmp};
-    ghost use Rattle.std.specs.List.Sorted.{IsStrictlySortedBy};
+    ghost use Rattle.lir_core.specs.Spots.{IsRising};
 
     ghost Value = { List ℕ };
 
-    ghost view = { λ s. s.values.keys };
+    ghost view = { λ s. s.values.items };
 
-    ghost invariant = { λ s. IsStrictlySortedBy nat_cmp s.values.keys };
+    ghost invariant = { λ s. IsRising s.values.items };
 }
 
 impl Homes {
@@ -33,12 +37,26 @@ impl Homes {
         ensures { result ≡ [] }
     {
         Homes {
-            values: BTreeSet::new(alloc),
+            values: Vec::new(alloc),
+            behind: 0,
         }
     }
 
     /// The values of a list.
     pub fn from_slice(alloc: Global, values: &[u32]) -> Result<Homes, AllocError>
+        ensures { IfOk result (λ homes. homes ≡ all_inserted values.now []) }
+    {
+        if is_rising(values) {
+            return Ok(Homes {
+                values: Vec::from_slice(alloc, values)?,
+                behind: 0,
+            });
+        }
+        Homes::of_any(alloc, values)
+    }
+
+    // The values of a list that needn't rise.
+    fn of_any(alloc: Global, values: &[u32]) -> Result<Homes, AllocError>
         ensures { IfOk result (λ homes. homes ≡ all_inserted values.now []) }
     {
         let mut homes = Homes::new(alloc);
@@ -52,14 +70,19 @@ impl Homes {
     pub fn has(&self, value: u32) -> bool
         ensures { result ≡ has self.now value }
     {
-        self.values.contains(&value)
+        let values = self.values.as_slice();
+        is_at(values, rank(values, value), value)
     }
 
     /// A value is homed.
     pub fn insert(&mut self, value: u32) -> Result<(), AllocError>
         ensures { OnOk result (self.new ≡ inserted value self.old) }
     {
-        self.values.insert(value)?;
+        let at = rank_near(self.values.as_slice(), self.behind, value);
+        self.behind = at.saturating_add(1);
+        if !is_at(self.values.as_slice(), at, value) {
+            self.values.insert(at, value)?;
+        }
         Ok(())
     }
 
@@ -67,17 +90,24 @@ impl Homes {
     pub fn remove(&mut self, value: u32)
         ensures { self.new ≡ others value self.old }
     {
-        let _was_homed = self.values.remove(&value);
+        let at = rank(self.values.as_slice(), value);
+        if is_at(self.values.as_slice(), at, value) {
+            let _was_homed = self.values.remove(at);
+        }
     }
 
     /// The values, in order.
     pub fn list(&self, alloc: Global) -> Result<Items<u32>, AllocError>
         ensures { IfOk result (λ list. list ≡ self.now) }
     {
-        let mut list = Items::new(alloc);
-        for value in self.values.iter() {
-            list.push(*value)?;
-        }
-        Ok(list)
+        Items::from_slice(alloc, self.values.as_slice())
+    }
+
+    /// The values, in order, lent.
+    pub fn as_slice(&self) -> &[u32]
+        ensures values { result.now ≡ self.now }
+        ensures rises { IsRising result.now }
+    {
+        self.values.as_slice()
     }
 }
