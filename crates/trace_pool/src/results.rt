@@ -64,7 +64,8 @@ fn run_missing<W: Work>(
     }
 }
 
-/// Every final result of the work, each at its trace's number, by as many threads as there are jobs. It may wait.
+/// Every final result of the work, each at its trace's number, by as many threads as there are jobs, or traces where these
+/// are fewer. It may wait.
 pub fn final_results<W: Work, G: Gate, R: Threads + Wait + Sync>(
     rt: &R,
     alloc: Global,
@@ -78,6 +79,16 @@ pub fn final_results<W: Work, G: Gate, R: Threads + Wait + Sync>(
     ensures { IfOk result (λ v. AreFinal (W.is_final work.now) (W.parents work.now) v.items) }
 {
     let (pool, seat) = Pool::open(alloc, work)?;
-    let seat = run_workers(rt, alloc, &pool, seat, work, gate, jobs);
+    let threads = threads(jobs, work.count());
+    let seat = run_workers(rt, alloc, &pool, seat, work, gate, threads);
     gather(alloc, pool, seat, work)
+}
+
+// How many threads share so many traces: one at least, and none that would have no trace of its own.
+fn threads(jobs: u32, traces: u32) -> u32
+    requires { 0 < jobs }
+    ensures jobs { (0 < result) × (result ≤ jobs) }
+    ensures traces { 1 < result → result ≤ traces }
+{
+    jobs.min(traces.max(1))
 }
