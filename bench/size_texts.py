@@ -3,7 +3,7 @@
 many copies of a part, with their numbers in place of #, which `spread` makes, and vector_texts::spread in the programs that read
 them.
 
-    bench/size_texts.py (asserts | homes | swaps | branches) VALUES
+    bench/size_texts.py (asserts | homes | swaps | branches | tests) VALUES
 
 prints a module with a procedure of about so many values, for bench/values.sh.
 """
@@ -34,6 +34,10 @@ ARGUMENTS = ('MODULE F; IMPORT Out; VAR n, s, x, y: INTEGER; f: PROCEDURE (a: IN
 BRANCHES = ('MODULE B; VAR s: INTEGER; PROCEDURE Q(c: CHAR); BEGIN s := s + ORD(c) + 1 END Q; PROCEDURE P(b: BOOLEAN); VAR [%d*c#, d#, e#, f#, g#, h#, ]z: CHAR; '
             'BEGIN [%d*IF b THEN Q(c#); Q(d#); Q(e#); Q(f#); Q(g#); Q(h#) END; ]Q(z) END P; BEGIN P(TRUE); P(FALSE) END B.')
 
+# a loop of so many tests over two variables each, all of which live around it, and half of which are its parameters
+TESTS = ('MODULE T; IMPORT Out; VAR s: INTEGER; PROCEDURE Q(x: INTEGER); BEGIN s := s * 3 + x END Q; PROCEDURE P; VAR [%d*a#, b#, ]i: INTEGER; BEGIN i := 0; [%d*a# := i; b# := s; ]'
+         'WHILE i < 9 DO [%d*IF i = # THEN a# := b# END; ]i := i + 1 END; [%d*Q(a#); Q(b#); ]END P; BEGIN s := 7; P; Out.Int(s, 0) END T.')
+
 
 def asserts(n):
     return ASSERTS % n
@@ -53,6 +57,10 @@ def arguments(n):
 
 def branches(n):
     return BRANCHES % (n, n)
+
+
+def tests(n):
+    return TESTS % (n, n, n, n)
 
 
 def spread(short):
@@ -76,7 +84,7 @@ def copied(offset):
 
 def main():
     values = int(sys.argv[2])
-    print(spread({'asserts': lambda: asserts(values), 'homes': lambda: homes(values), 'swaps': lambda: swaps(values // 4 - 3), 'branches': lambda: branches((values - 2) // 6)}[sys.argv[1]]()))
+    print(spread({'asserts': lambda: asserts(values), 'homes': lambda: homes(values), 'swaps': lambda: swaps(values // 4 - 3), 'branches': lambda: branches((values - 2) // 6), 'tests': lambda: tests(values // 7 - 2)}[sys.argv[1]]()))
 
 
 if __name__ == '__main__':

@@ -1,7 +1,8 @@
 #!/bin/bash
 # Time and memory of compiling one procedure, against the number of its values: values that live nowhere; values that all live across a
-# call; pairs of a loop's parameters, which change places around it; and values of which each IF reads six, all live from the first on,
-# whose rows of live values have a bit for each value in each of about two thirds as many nodes.
+# call; pairs of a loop's parameters, which change places around it; values of which each IF reads six, all live from the first on,
+# whose rows of live values have a bit for each value in each of about two thirds as many nodes; and a loop of tests, a seventh as many
+# as there are values, over two variables each, which all live around it.
 #
 #     bench/values.sh [TRC [PROGRAM]]
 #
@@ -28,7 +29,7 @@ built_by() {
 printf '%-10s %8s %10s' shape values 'lower, ms'
 for policy in plain linear bottomup; do printf ' %14s %6s' "$policy, ms" MB; done
 printf '\n'
-for shape in asserts homes swaps branches; do
+for shape in asserts homes swaps branches tests; do
     for values in 1000 2000 4000 8000; do
         "$top/bench/size_texts.py" "$shape" "$values" >"$work/M.Mod"
         printf '%-10s %8d %10.2f' "$shape" "$values" "$(least 5 lowers | awk '$1 == "lower" { print $2 / 1000 }')"
