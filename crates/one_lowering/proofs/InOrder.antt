@@ -20,35 +20,39 @@ use Rattle.one_lowering.proofs.Uses.{AllBelow, parts, same_body, same_answer, ta
 abbrev pub outside : I.Procedure → I.Procedure
 outside q = record q { texts = []; body = I.no_statement; answer = None }
 
--- procedures whose forms are the same, with as many numbers for the strings of each, are the same with the numbers
+-- a procedure's form with so many numbers for its strings
+abbrev pub with_numbers : Table → ℕ → Procedure → I.Procedure
+with_numbers t many q = plain_procedure t (numbered_procedure many q)
+
+-- a procedure's uses are in order
+abbrev pub InOrder : Table → ℕ → Procedure → Type 0
+InOrder v many q = strings_of (plain_body v (tally 0 many) q.body) (option_map (plain_checked v (tally 0 many)) q.answer) ≡ tally 0 (length q.texts)
+
+without_strings : (v : Table) (many : ℕ) (q : Procedure) → length q.texts ≤ many → InOrder v many q
+    → (erased_statements (plain_body v (tally 0 many) q.body) ≡ erased_statements (plain_body v q.texts q.body))
+    × (erased_answer (option_map (plain_checked v (tally 0 many)) q.answer) ≡ erased_answer (option_map (plain_checked v q.texts) q.answer))
+without_strings v many q few order =
+    let all = subst (λ xs. AllBelow (length q.texts) xs) (sym order) (tally_below (length q.texts) 0 (length q.texts) (omega arith)) in
+    let b = parts (length q.texts) (in_statements (plain_body v (tally 0 many) q.body)) (in_answer (option_map (plain_checked v (tally 0 many)) q.answer)) all in
+    (same_body v many q.texts few q.body b.0, same_answer v many q.texts few q.answer b.1)
+
+-- procedures whose forms are the same have one body and one answer also with numbers for their strings, however many
+pub bodies_alike : (t u : Table) (many more : ℕ) (q r : Procedure) → length q.texts ≤ many → length r.texts ≤ more → plain_procedure t q ≡ plain_procedure u r → InOrder t many q → InOrder u more r
+    → ((with_numbers t many q).body ≡ (with_numbers u more r).body) × ((with_numbers t many q).answer ≡ (with_numbers u more r).answer)
+bodies_alike t u many more q r few less same first second =
+    let a = without_strings t many q few first in
+    let b = without_strings u more r less second in
+    let texts : q.texts ≡ r.texts = ap (λ x. x.texts) same in
+    let bodies = a.0 ∙ (ap (λ x. erased_statements x.body) same ∙ sym b.0) in
+    let answers = a.1 ∙ (ap (λ x. erased_answer x.answer) same ∙ sym b.1) in
+    let strings = first ∙ (ap (λ xs. tally 0 (length xs)) texts ∙ sym second) in
+    same_with_strings (plain_body t (tally 0 many) q.body) (plain_body u (tally 0 more) r.body) (option_map (plain_checked t (tally 0 many)) q.answer) (option_map (plain_checked u (tally 0 more)) r.answer) bodies answers strings
+
+-- with as many numbers for the strings of each
 module _ (t u : Table) (many : ℕ) where
-  abbrev numbered_t : Procedure → I.Procedure
-  numbered_t q = plain_procedure t (numbered_procedure many q)
-
-  abbrev numbered_u : Procedure → I.Procedure
-  numbered_u q = plain_procedure u (numbered_procedure many q)
-
-  -- a procedure's uses are in order
-  abbrev InOrder : Table → Procedure → Type 0
-  InOrder v q = strings_of (plain_body v (tally 0 many) q.body) (option_map (plain_checked v (tally 0 many)) q.answer) ≡ tally 0 (length q.texts)
-
-  without_strings : (v : Table) (q : Procedure) → length q.texts ≤ many → InOrder v q
-      → (erased_statements (plain_body v (tally 0 many) q.body) ≡ erased_statements (plain_body v q.texts q.body))
-      × (erased_answer (option_map (plain_checked v (tally 0 many)) q.answer) ≡ erased_answer (option_map (plain_checked v q.texts) q.answer))
-  without_strings v q few order =
-      let all = subst (λ xs. AllBelow (length q.texts) xs) (sym order) (tally_below (length q.texts) 0 (length q.texts) (omega arith)) in
-      let b = parts (length q.texts) (in_statements (plain_body v (tally 0 many) q.body)) (in_answer (option_map (plain_checked v (tally 0 many)) q.answer)) all in
-      (same_body v many q.texts few q.body b.0, same_answer v many q.texts few q.answer b.1)
-
-  procedure_alike : (q r : Procedure) → length q.texts ≤ many → length r.texts ≤ many → plain_procedure t q ≡ plain_procedure u r → InOrder t q → InOrder u r → numbered_t q ≡ numbered_u r
+  procedure_alike : (q r : Procedure) → length q.texts ≤ many → length r.texts ≤ many → plain_procedure t q ≡ plain_procedure u r → InOrder t many q → InOrder u many r → with_numbers t many q ≡ with_numbers u many r
   procedure_alike q r few less same first second =
-      let a = without_strings t q few first in
-      let b = without_strings u r less second in
-      let texts : q.texts ≡ r.texts = ap (λ x. x.texts) same in
-      let bodies = a.0 ∙ (ap (λ x. erased_statements x.body) same ∙ sym b.0) in
-      let answers = a.1 ∙ (ap (λ x. erased_answer x.answer) same ∙ sym b.1) in
-      let strings = first ∙ (ap (λ xs. tally 0 (length xs)) texts ∙ sym second) in
-      let both = same_with_strings (plain_body t (tally 0 many) q.body) (plain_body u (tally 0 many) r.body) (option_map (plain_checked t (tally 0 many)) q.answer) (option_map (plain_checked u (tally 0 many)) r.answer) bodies answers strings in
+      let both = bodies_alike t u many many q r few less same first second in
       λ k. record (same k) { texts = tally 0 many; body = both.0 k; answer = both.1 k }
 
   -- one by one

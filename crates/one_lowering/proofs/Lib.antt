@@ -14,4 +14,4 @@ mod Procedures
 pub mod Programs
 mod Erased
 pub mod Uses
-mod InOrder
+pub mod InOrder

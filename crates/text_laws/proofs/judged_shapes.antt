@@ -2,5 +2,5 @@ mod Closed
 mod Types
 mod Declared
 mod Modules
-mod Programs
+pub mod Programs
 mod OneForm

@@ -1,7 +1,7 @@
-mod Bits
+pub mod Bits
 mod Needs
 mod Linear
 mod Bottom
-mod Results
-mod Cuts
+pub mod Results
+pub mod Cuts
 pub mod Moved

@@ -1,3 +1,3 @@
-mod Reading
+pub mod Reading
 mod InTurn
-mod OneProgram
+pub mod OneProgram

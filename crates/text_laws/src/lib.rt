@@ -8,12 +8,12 @@
 #![tactic(auto)]
 
 mod constants;
-mod judged_shapes;
+pub mod judged_shapes;
 pub mod no_faults;
 mod one_fault;
 pub mod one_image;
 mod one_image_of_texts;
-mod one_program;
+pub mod one_program;
 mod one_reading;
 pub mod one_refusal;
 

@@ -40,7 +40,7 @@ abbrev flows : List Cut → List Flow
 flows cs = map (λ c. c.flow) cs
 
 module _ (a b : Choice) (policy : a.policy ≡ b.policy) (builder : a.builder ≡ b.builder) (regs : a.regs ≡ b.regs) where
-  cut_same : (first : ℕ) (c d : Cut) → c.flow ≡ d.flow → IsAllocation a first c → IsAllocation b first d → c ≡ d
+  pub cut_same : (first : ℕ) (c d : Cut) → c.flow ≡ d.flow → IsAllocation a first c → IsAllocation b first d → c ≡ d
   cut_same first c d flow x y =
       let made : traces_of a.builder c.flow.nodes ≡ traces_of b.builder d.flow.nodes = λ k. traces_of (builder k) (flow k).nodes in
       let traces = traces_same c.traces d.traces (x.traces ∙ (made ∙ sym y.traces)) in
@@ -51,7 +51,7 @@ module _ (a b : Choice) (policy : a.policy ≡ b.policy) (builder : a.builder �
       let outs : c.outs ≡ d.outs = x.results ∙ (by_bits ∙ (moved ∙ sym y.results)) in
       λ k. record { flow = flow k; traces = traces k; outs = outs k }
 
-  cuts_same : (first : ℕ) (cs ds : List Cut) → flows cs ≡ flows ds → AllAllocations a first cs → AllAllocations b first ds → cs ≡ ds
+  pub cuts_same : (first : ℕ) (cs ds : List Cut) → flows cs ≡ flows ds → AllAllocations a first cs → AllAllocations b first ds → cs ≡ ds
   cuts_same first [] [] h x y = refl
   cuts_same first [] (d ∷ ds) h x y = absurd (let z = h in cc)
   cuts_same first (c ∷ cs) [] h x y = absurd (let z = h in cc)

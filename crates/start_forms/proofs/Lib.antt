@@ -1,0 +1,7 @@
+mod Shapes
+mod Named
+mod Below
+mod Statements
+mod Procedures
+mod Numbered
+pub mod Starts

@@ -1,0 +1,3 @@
+mod Settling
+mod Declared
+pub mod Modules
