@@ -1,0 +1,9 @@
+use Rattle.std.proofs.Common.{◌≤◌}
+use Rattle.placed_image.proofs.Cuts.{IsLeft}
+use Rattle.module_object.proofs.counting.count_traces.Given as goal
+
+abbrev pub invariant-loop-flow : goal.invariant-loop-flow
+invariant-loop-flow l = record {
+  left : IsLeft l.builder l.flows l.flow-index l.left;
+  most : l.left ≤ 262144;
+}

@@ -1,0 +1,7 @@
+mod Lists
+mod Alike
+mod Behind
+mod Modules
+mod Whole
+mod One
+mod Linked
