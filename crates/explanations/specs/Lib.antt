@@ -1,0 +1,9 @@
+pub mod Entries
+pub mod Faults
+pub mod Limits
+pub mod Traps
+pub mod ImageRules
+pub mod NotesRules
+pub mod ObjectRules
+pub mod Usage
+pub mod Explained
