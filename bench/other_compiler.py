@@ -14,9 +14,9 @@ sys.path.insert(0, ORACLE)
 sys.setrecursionlimit(100000)
 from stage import Stage  # noqa: E402
 
-# What the other compiler has of what it could have, by its own numbers: cells of one byte (13), images that name their procedures (15), 8,000 values
-# and far homes (16), notes (17), meanings (19) and batches (20). Every script takes it from here.
-STAGE = Stage('=12,13,15,16,17,19,20')
+# What the other compiler has of what it could have, by its own numbers: all, with cells of one byte (13), images that name their procedures (15),
+# 8,000 values and far homes (16), notes (17), objects (18), meanings (19) and batches (20). Every script takes it from here.
+STAGE = Stage(20)
 CALLED = ['--stage', str(STAGE)]  # the same before the words of a call
 
 

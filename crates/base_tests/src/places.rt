@@ -18,7 +18,7 @@ fn places_count_lines_and_columns(rt: HostRuntime) -> Result<(), Fail> {
         let place = position_of(text, at);
         assert!(rt; place.line == line && place.column == column);
     }
-    assert!(rt; rule_name(36) == b"Redeclared".as_slice());
+    assert!(rt; rule_name(36) == "Redeclared");
     assert!(rt; limit_name(59) == b"Locals".as_slice());
     assert!(rt; limit_name(70) == b"JobBytes".as_slice());
     assert!(rt; rule_name(50).is_empty());

@@ -7,3 +7,5 @@ mod broken_images;
 mod images;
 #[cfg(test)]
 mod notes;
+#[cfg(test)]
+mod objects;

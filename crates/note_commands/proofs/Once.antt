@@ -37,10 +37,10 @@ use Rattle.trace_notes.proofs.Notes.{notes_again}
 use Rattle.text_laws.proofs.one_image.Moved.{one_data}
 use Rattle.note_laws.proofs.Own.{one_reading}
 use Rattle.note_laws.proofs.Plans.{cut_once, flows_once, same_flows, same_cuts}
-use Rattle.trc_answers.specs.Verdict.{Verdict, Refuses, Accepts}
+use Rattle.trc_answers.specs.Verdict.{Verdict, Refuses, Accepted}
 use Rattle.trc_answers.specs.declared.causes.Cause.TheVariants as cause
 use Rattle.trc_texts.specs.Texts.{cause_of_refusal}
-use Rattle.note_commands.specs.Audits.{AuditOf, IsFound, MakesMuchCode, ResultsComeTo, AreUnsound, MakeMuchCode, MakeAnImage, NotesComeTo, AreTooLong, AreNoNotes, HaveResults, PlanComesTo, HaveNoPlan, HavePlan}
+use Rattle.note_commands.specs.Audits.{AuditOf, AuditedComeTo, IsFound, MakesMuchCode, ResultsComeTo, AreUnsound, MakeMuchCode, MakeAnImage, NotesComeTo, AreTooLong, AreNoNotes, HaveResults, PlanComesTo, HaveNoPlan, HavePlan}
 
 ---- Numbers that can't be different
 
@@ -69,45 +69,45 @@ not_sound t n l e = cc
 
 ---- Results
 
-module _ (of : AuditOf) (p q : Program) (one : HaveOneLowering p q) (plan other : ProgramPlan) (is : IsProgramPlan of.builder p plan) (also : IsProgramPlan of.builder q other) (outs : List TraceOut) where
+module _ (builder : Builder) (k : ℕ) (p q : Program) (one : HaveOneLowering p q) (plan other : ProgramPlan) (is : IsProgramPlan builder p plan) (also : IsProgramPlan builder q other) (outs : List TraceOut) where
   lives_there : ((lives : List (ℕ → ℕ → Bool)) → AreLive plan.flows.items lives → ⊥) → ⊥
   lives_there = lives_are_said plan.flows.items (valid_flows plan.flows.items is.placeable)
 
   there : (lives : List (ℕ → ℕ → Bool)) → AreLive plan.flows.items lives → AreLive other.flows.items lives
-  there lives live = subst (λ fs. AreLive fs lives) (same_flows of.builder p q one plan other is also) live
+  there lives live = subst (λ fs. AreLive fs lives) (same_flows builder p q one plan other is also) live
 
   -- what is found on one plan is found on the other
-  moved : (lives : List (ℕ → ℕ → Bool)) → verdict_on of.regs plan lives outs ≡ verdict_on of.regs other lives outs
-  moved lives = ap₂ (λ fs cuts. verdict_of of.regs fs lives cuts outs) (same_flows of.builder p q one plan other is also) (same_cuts of.builder p q one plan other is also)
+  moved : (lives : List (ℕ → ℕ → Bool)) → verdict_on k plan lives outs ≡ verdict_on k other lives outs
+  moved lives = ap₂ (λ fs cuts. verdict_of k fs lives cuts outs) (same_flows builder p q one plan other is also) (same_cuts builder p q one plan other is also)
 
-  found_twice : (v w : Finding) → IsFound of.regs plan outs v → IsFound of.regs other outs w → (v ≡ w → ⊥) → ⊥
-  found_twice v w h k differ = lives_there (λ lives live. differ (sym (h lives live) ∙ (moved lives ∙ k lives (there lives live))))
+  found_twice : (v w : Finding) → IsFound k plan outs v → IsFound k other outs w → (v ≡ w → ⊥) → ⊥
+  found_twice v w h g differ = lives_there (λ lives live. differ (sym (h lives live) ∙ (moved lives ∙ g lives (there lives live))))
 
-  unsound_once : (t n l u m k : ℕ) → IsFound of.regs plan outs (finding.Unsound t n l) → IsFound of.regs other outs (finding.Unsound u m k) → cause.Unsound t n l ≡ cause.Unsound u m k
-  unsound_once t n l u m k h g =
-      let traces = stable t u (λ differ. found_twice _ _ h g (λ e. differ (trace_same t n l u m k e))) in
-      let nodes = stable n m (λ differ. found_twice _ _ h g (λ e. differ (node_same t n l u m k e))) in
-      let lines = stable l k (λ differ. found_twice _ _ h g (λ e. differ (line_same t n l u m k e))) in
+  unsound_once : (t n l u m j : ℕ) → IsFound k plan outs (finding.Unsound t n l) → IsFound k other outs (finding.Unsound u m j) → cause.Unsound t n l ≡ cause.Unsound u m j
+  unsound_once t n l u m j h g =
+      let traces = stable t u (λ differ. found_twice _ _ h g (λ e. differ (trace_same t n l u m j e))) in
+      let nodes = stable n m (λ differ. found_twice _ _ h g (λ e. differ (node_same t n l u m j e))) in
+      let lines = stable l j (λ differ. found_twice _ _ h g (λ e. differ (line_same t n l u m j e))) in
       λ i. cause.Unsound (traces i) (nodes i) (lines i)
 
-  unsound_or_much : (t n l : ℕ) → IsFound of.regs plan outs (finding.Unsound t n l) → MakesMuchCode of.regs other outs → ⊥
+  unsound_or_much : (t n l : ℕ) → IsFound k plan outs (finding.Unsound t n l) → MakesMuchCode k other outs → ⊥
   unsound_or_much t n l h g = found_twice _ finding.Sound h (λ lives live. (g lives live).0) (not_sound t n l)
 
-  much_or_unsound : (t n l : ℕ) → MakesMuchCode of.regs plan outs → IsFound of.regs other outs (finding.Unsound t n l) → ⊥
+  much_or_unsound : (t n l : ℕ) → MakesMuchCode k plan outs → IsFound k other outs (finding.Unsound t n l) → ⊥
   much_or_unsound t n l h g = found_twice finding.Sound _ (λ lives live. (h lives live).0) g (λ e. not_sound t n l (sym e))
 
 -- of a plan and an image of results for it
-module _ (of : AuditOf) (p : Program) (plan : ProgramPlan) (is : IsProgramPlan of.builder p plan) (outs : List TraceOut) (image : Image) (h : IsImageOfResults of.builder of.regs p outs image) where
+module _ (builder : Builder) (k : ℕ) (p : Program) (plan : ProgramPlan) (is : IsProgramPlan builder p plan) (outs : List TraceOut) (image : Image) (h : IsImageOfResults builder k p outs image) where
   abbrev lists : List (List Trace)
   lists = map (λ v. v.items) plan.cuts.items
 
   image_cuts : lists ≡ h.cuts
-  image_cuts = cut_once of.builder (flows_of p) lists h.cuts (subst (λ fs. AreCutBy of.builder fs lists) is.flows is.cut) h.cut
+  image_cuts = cut_once builder (flows_of p) lists h.cuts (subst (λ fs. AreCutBy builder fs lists) is.flows is.cut) h.cut
 
-  image_found : IsFound of.regs plan outs finding.Sound
+  image_found : IsFound k plan outs finding.Sound
   image_found lives live =
-      ap₂ (λ fs cuts. verdict_of of.regs fs lives cuts outs) is.flows image_cuts
-      ∙ all_pass of.regs 0 (flows_of p) lives h.cuts outs (subst (λ fs. AreLive fs lives) is.flows live) h.walked
+      ap₂ (λ fs cuts. verdict_of k fs lives cuts outs) is.flows image_cuts
+      ∙ all_pass k 0 (flows_of p) lives h.cuts outs (subst (λ fs. AreLive fs lives) is.flows live) h.walked
 
   same_code : cuts_of plan.flows.items lists outs ≡ cuts_of (flows_of p) h.cuts outs
   same_code = ap₂ (λ fs cuts. cuts_of fs cuts outs) is.flows image_cuts
@@ -120,33 +120,35 @@ module _ (of : AuditOf) (p : Program) (plan : ProgramPlan) (is : IsProgramPlan o
       let same = ap code_length same_code in
       omega (arith, long, few, same)
 
-module _ (of : AuditOf) (p q : Program) (one : HaveOneLowering p q) (plan other : ProgramPlan) (is : IsProgramPlan of.builder p plan) (also : IsProgramPlan of.builder q other) (outs : List TraceOut) where
+module _ (builder : Builder) (k : ℕ) (p q : Program) (one : HaveOneLowering p q) (plan other : ProgramPlan) (is : IsProgramPlan builder p plan) (also : IsProgramPlan builder q other) (outs : List TraceOut) where
   code_same : code_length (cuts_of plan.flows.items (map (λ v. v.items) plan.cuts.items) outs) ≡ code_length (cuts_of other.flows.items (map (λ v. v.items) other.cuts.items) outs)
-  code_same = ap₂ (λ fs cuts. code_length (cuts_of fs cuts outs)) (same_flows of.builder p q one plan other is also) (same_cuts of.builder p q one plan other is also)
+  code_same = ap₂ (λ fs cuts. code_length (cuts_of fs cuts outs)) (same_flows builder p q one plan other is also) (same_cuts builder p q one plan other is also)
 
-  one_image : (image another : Image) → IsImageOfResults of.builder of.regs p outs image → IsImageOfResults of.builder of.regs q outs another → image ≡ another
-  one_image image another h k =
-      let lists : h.cuts ≡ k.cuts = sym (image_cuts of p plan is outs image h) ∙ same_cuts of.builder p q one plan other is also ∙ image_cuts of q other also outs another k in
-      h.is ∙ (λ i. linked (cuts_of (flows_once p q one i) (lists i) outs) (one_data p q one i)) ∙ sym k.is
+  one_image : (image another : Image) → IsImageOfResults builder k p outs image → IsImageOfResults builder k q outs another → image ≡ another
+  one_image image another h g =
+      let lists : h.cuts ≡ g.cuts = sym (image_cuts builder k p plan is outs image h) ∙ same_cuts builder p q one plan other is also ∙ image_cuts builder k q other also outs another g in
+      h.is ∙ (λ i. linked (cuts_of (flows_once p q one i) (lists i) outs) (one_data p q one i)) ∙ sym g.is
 
-  results_once : (a b : Verdict) → ResultsComeTo of p plan outs a → ResultsComeTo of q other outs b → a ≡ b
-  results_once a b (AreUnsound t n l h e) (AreUnsound u m k g f) = e ∙ ap Refuses (unsound_once of p q one plan other is also outs t n l u m k h g) ∙ sym f
-  results_once a b (AreUnsound t n l h e) (MakeMuchCode g f) = absurd (unsound_or_much of p q one plan other is also outs t n l h g)
-  results_once a b (AreUnsound t n l h e) (MakeAnImage image g form words f) =
-      absurd (found_twice of p q one plan other is also outs _ finding.Sound h (image_found of q other also outs image g) (not_sound t n l))
-  results_once a b (MakeMuchCode h e) (AreUnsound u m k g f) = absurd (much_or_unsound of p q one plan other is also outs u m k h g)
-  results_once a b (MakeMuchCode h e) (MakeMuchCode g f) = e ∙ sym f
-  results_once a b (MakeMuchCode h e) (MakeAnImage image g form words f) =
-      let few = few_words of q other also outs image g form in
-      let same = code_same in
-      absurd (lives_there of p q one plan other is also outs (λ lives live. let many = (h lives live).1 in omega (arith, few, same, many)))
-  results_once a b (MakeAnImage image g form words e) (AreUnsound u m k h f) =
-      absurd (found_twice of p q one plan other is also outs finding.Sound _ (image_found of p plan is outs image g) h (λ s. not_sound u m k (sym s)))
-  results_once a b (MakeAnImage image g form words e) (MakeMuchCode h f) =
-      let few = few_words of p plan is outs image g form in
-      let same = code_same in
-      absurd (lives_there of p q one plan other is also outs (λ lives live. let many = (h lives (there of p q one plan other is also outs lives live)).1 in omega (arith, few, same, many)))
-  results_once a b (MakeAnImage image g form words e) (MakeAnImage another k form' words' f) = e ∙ ap (λ i. Accepts of.out (image_bytes i)) (one_image image another g k) ∙ sym f
+  module _ (next : Image → Verdict → Type 0) (one_next : (image : Image) (a b : Verdict) → next image a → next image b → a ≡ b) where
+    pub results_once : (a b : Verdict) → AuditedComeTo builder k next p plan outs a → AuditedComeTo builder k next q other outs b → a ≡ b
+    results_once a b (AreUnsound t n l h e) (AreUnsound u m j g f) = e ∙ ap Refuses (unsound_once builder k p q one plan other is also outs t n l u m j h g) ∙ sym f
+    results_once a b (AreUnsound t n l h e) (MakeMuchCode g f) = absurd (unsound_or_much builder k p q one plan other is also outs t n l h g)
+    results_once a b (AreUnsound t n l h e) (MakeAnImage image g form words f) =
+        absurd (found_twice builder k p q one plan other is also outs _ finding.Sound h (image_found builder k q other also outs image g) (not_sound t n l))
+    results_once a b (MakeMuchCode h e) (AreUnsound u m j g f) = absurd (much_or_unsound builder k p q one plan other is also outs u m j h g)
+    results_once a b (MakeMuchCode h e) (MakeMuchCode g f) = e ∙ sym f
+    results_once a b (MakeMuchCode h e) (MakeAnImage image g form words f) =
+        let few = few_words builder k q other also outs image g form in
+        let same = code_same in
+        absurd (lives_there builder k p q one plan other is also outs (λ lives live. let many = (h lives live).1 in omega (arith, few, same, many)))
+    results_once a b (MakeAnImage image g form words e) (AreUnsound u m j h f) =
+        absurd (found_twice builder k p q one plan other is also outs finding.Sound _ (image_found builder k p plan is outs image g) h (λ s. not_sound u m j (sym s)))
+    results_once a b (MakeAnImage image g form words e) (MakeMuchCode h f) =
+        let few = few_words builder k p plan is outs image g form in
+        let same = code_same in
+        absurd (lives_there builder k p q one plan other is also outs (λ lives live. let many = (h lives (there builder k p q one plan other is also outs lives live)).1 in omega (arith, few, same, many)))
+    results_once a b (MakeAnImage image g form words e) (MakeAnImage another h form' words' f) =
+        one_next another a b (subst (λ (i : Image). next i a) (one_image image another g h) e) f
 
 ---- Notes
 
@@ -187,4 +189,4 @@ module _ (one_lowering : (texts : List (List ℕ)) (p q : Program) → IsProgram
   plan_once of bytes texts a b (HavePlan plan is h) (HavePlan other also k) =
       let one = one_lowering texts is.program also.program is.of_texts also.of_texts is.well_formed also.well_formed in
       notes_once bytes (ResultsComeTo of is.program plan) (ResultsComeTo of also.program other) a b
-      (λ outs u v. results_once of is.program also.program one plan other is.is also.is outs a b u v) h k
+      (λ outs u v. results_once of.builder of.regs is.program also.program one plan other is.is also.is outs (Accepted of.out) (λ image x y e f. e ∙ sym f) a b u v) h k

@@ -6,6 +6,8 @@ use Rattle.std.proofs.lemmas.Option.{slice_get_within}
 use Rattle.outside.specs.Files.{Held, ToldOfRead}
 use Rattle.outside.specs.declared.files.GetFault.TheVariants as get
 use Rattle.outside.specs.Sink.{Account}
+use Rattle.image_form.specs.declared.image.Image.{Image}
+use Rattle.trace_build.specs.declared.builder.Builder.{Builder}
 use Rattle.alloc_choice.specs.declared.choice.Choice.{Choice}
 use Rattle.source_image.specs.Refusals.{IsRefusalOf}
 use Rattle.noted_image.specs.Faults.{TellsWithNotes}
@@ -31,7 +33,7 @@ use Rattle.trc_answers.proofs.Answering.{refuses, lacks, files_failed, mapped, l
 use Rattle.trc_texts.specs.Texts.{IsRefusedAs}
 use Rattle.trc_texts.proofs.Refusing.{refused}
 use Rattle.note_commands.specs.Noted.{NotedComeTo, HaveNoNotes, HaveNotes}
-use Rattle.note_commands.specs.Audits.{AuditOf, cause_of_audit, cause_of_notes, NotesComeTo, AreNoNotes, ResultsComeTo, AreUnsound, MakeMuchCode, PlanComesTo, HaveNoPlan, HavePlan, AuditComesTo, LacksNotes, LacksTexts, HasTexts, one_behind}
+use Rattle.note_commands.specs.Audits.{AuditOf, cause_of_audit, cause_of_notes, AuditedComeTo, NotesComeTo, AreNoNotes, ResultsComeTo, AreUnsound, MakeMuchCode, PlanComesTo, HaveNoPlan, HavePlan, AuditComesTo, LacksNotes, LacksTexts, HasTexts, one_behind}
 use Rattle.note_commands.specs.Reading.{AreNotesRead, AreNotesUnread, AreMissing, Failed, LackMemory, IsBelow}
 
 ---- Names
@@ -78,14 +80,15 @@ no_plan of bytes texts cause h = refused (IsRefusalOf (TellsOfPlan of.builder) t
 ---- Results and notes
 
 -- results make no image
-pub not_accepted : (of : AuditOf) (program : Program) (plan : ProgramPlan) (outs : List TraceOut) (fault : AuditFault) (c : Cause) → c ≡ cause_of_audit fault
-    → ((lives : List (ℕ → ℕ → Bool)) → AreLive plan.flows.items lives → TellsOfAudit of.regs plan lives outs fault)
-    → (held : Option Held) (m : ℕ) (left : Option (List ℕ)) (k : ℕ) (out : Account) → Answers (λ _. ResultsComeTo of program plan outs) (devices held m left k out) (devices held m left k out) c
-not_accepted of program plan outs (audit_fault.Unsound trace node line) c is told held m left k out =
-    refuses (λ _. ResultsComeTo of program plan outs) held held m m left k out c refl (AreUnsound trace node line told (ap Refuses is))
-not_accepted of program plan outs audit_fault.Code c is told held m left k out =
-    refuses (λ _. ResultsComeTo of program plan outs) held held m m left k out c refl (MakeMuchCode told (ap Refuses is))
-not_accepted of program plan outs audit_fault.Memory c is told held m left k out = lacks (λ _. ResultsComeTo of program plan outs) held held m m left k out c is refl
+module _ (builder : Builder) (regs : ℕ) (next : Image → Verdict → Type 0) (program : Program) (plan : ProgramPlan) (outs : List TraceOut) where
+  abbrev Audited : Option (List ℕ) → Verdict → Type 0
+  Audited _ verdict = AuditedComeTo builder regs next program plan outs verdict
+
+  pub not_accepted : (fault : AuditFault) (c : Cause) → c ≡ cause_of_audit fault → ((lives : List (ℕ → ℕ → Bool)) → AreLive plan.flows.items lives → TellsOfAudit regs plan lives outs fault)
+      → (held : Option Held) (m : ℕ) (left : Option (List ℕ)) (k : ℕ) (out : Account) → Answers Audited (devices held m left k out) (devices held m left k out) c
+  not_accepted (audit_fault.Unsound trace node line) c is told held m left k out = refuses Audited held held m m left k out c refl (AreUnsound trace node line told (ap Refuses is))
+  not_accepted audit_fault.Code c is told held m left k out = refuses Audited held held m m left k out c refl (MakeMuchCode told (ap Refuses is))
+  not_accepted audit_fault.Memory c is told held m left k out = lacks Audited held held m m left k out c is refl
 
 -- bytes aren't taken for notes
 pub not_taken : (bytes : List ℕ) (next : List TraceOut → Verdict → Type 0) (fault : NoteFault) (c : Cause) → c ≡ cause_of_notes fault → length bytes ≤ most_bytes → Tells (Err fault) (notes_in bytes)

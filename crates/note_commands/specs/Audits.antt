@@ -57,13 +57,17 @@ cause_of_notes (note_fault.Fault number at) = cause.NotNotes number at
 cause_of_notes note_fault.Limit = cause.Limit 67 0
 cause_of_notes note_fault.Memory = cause.Memory
 
--- results for a plan's traces aren't sound, make too much code, or make an image
-pub data ResultsComeTo (of : AuditOf) (program : Program) (plan : ProgramPlan) (outs : List TraceOut) (verdict : Verdict) : Type 0 where
-  AreUnsound : (trace node line : ℕ) → IsFound of.regs plan outs (finding.Unsound trace node line) → verdict ≡ Refuses (cause.Unsound trace node line)
-      → ResultsComeTo of program plan outs verdict
-  MakeMuchCode : MakesMuchCode of.regs plan outs → verdict ≡ Refuses (cause.Limit 54 0) → ResultsComeTo of program plan outs verdict
-  MakeAnImage : (image : Image) → IsImageOfResults of.builder of.regs program outs image → IsInForm image → IsOfWords image → Accepted of.out image verdict
-      → ResultsComeTo of program plan outs verdict
+-- results for a plan's traces aren't sound, make too much code, or make an image, which comes to something
+pub data AuditedComeTo (builder : Builder) (regs : ℕ) (next : Image → Verdict → Type 0) (program : Program) (plan : ProgramPlan) (outs : List TraceOut) (verdict : Verdict) : Type 0 where
+  AreUnsound : (trace node line : ℕ) → IsFound regs plan outs (finding.Unsound trace node line) → verdict ≡ Refuses (cause.Unsound trace node line)
+      → AuditedComeTo builder regs next program plan outs verdict
+  MakeMuchCode : MakesMuchCode regs plan outs → verdict ≡ Refuses (cause.Limit 54 0) → AuditedComeTo builder regs next program plan outs verdict
+  MakeAnImage : (image : Image) → IsImageOfResults builder regs program outs image → IsInForm image → IsOfWords image → next image verdict
+      → AuditedComeTo builder regs next program plan outs verdict
+
+-- the image is accepted
+abbrev pub ResultsComeTo : AuditOf → Program → ProgramPlan → List TraceOut → Verdict → Type 0
+ResultsComeTo of program plan outs verdict = AuditedComeTo of.builder of.regs (Accepted of.out) program plan outs verdict
 
 -- bytes are too many for notes, break a rule, or are the notes of results, which come to something
 pub data NotesComeTo (bytes : List ℕ) (next : List TraceOut → Verdict → Type 0) (verdict : Verdict) : Type 0 where

@@ -25,8 +25,8 @@ use trc_texts::refused;
 /// The most modules that a program may have.
 const MOST_MODULES: usize = 64;
 
-// Why results make no image.
-fn not_accepted(fault: AuditFault) -> Cause
+/// Why results make no image, as a cause.
+pub fn not_accepted(fault: AuditFault) -> Cause
     ensures is { result ≡ cause_of_audit fault }
     ensures plain { IsPlain result }
 {

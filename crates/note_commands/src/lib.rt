@@ -10,7 +10,7 @@ mod building;
 mod laws;
 mod reading;
 
-pub use auditing::audit;
+pub use auditing::{audit, not_accepted};
 pub use building::{build_anew_with_notes, build_with_notes};
 pub use laws::audits_come_to_one;
 pub use noted_image::{Builder, Choice};

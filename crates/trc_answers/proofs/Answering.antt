@@ -23,7 +23,7 @@ use Rattle.image_form.specs.declared.image.ProcPlace.{ProcPlace}
 use Rattle.a64_machine.specs.State.{Trap}
 use Rattle.trc_answers.specs.Runs.{run_of, cause_of_fault}
 use Rattle.trc_answers.specs.Causes.{cause_of_put}
-use Rattle.trc_answers.specs.Verdict.{Verdict, Refuses, Runs, Means, Writes, WritesBoth, Accepts, Prints, Tells, files_written, sound_line, FileComesTo, IsMissing, HasTooMany, HasBytes, IsHeld, IsLeft, ImageComesTo, RunsAlone, RunsOnInput, HasTooMuch, BytesComeTo, AreNoImage, IsWritten, Written, Renews, AreTheSame, Differ}
+use Rattle.trc_answers.specs.Verdict.{Verdict, Refuses, Finds, Runs, Means, Writes, WritesBoth, Accepts, Prints, Tells, files_written, sound_line, FileComesTo, IsMissing, HasTooMany, HasBytes, IsHeld, IsLeft, ImageComesTo, RunsAlone, RunsOnInput, HasTooMuch, BytesComeTo, AreNoImage, IsWritten, Written, Renews, AreTheSame, Differ}
 use Rattle.trc_answers.specs.Reading.{IsImageRead, NoBytes, IsImageUnread, IsNoFile, FailedOnce, HasNoMemory}
 use Rattle.trc_answers.specs.Answers.{Devices, devices, Answers, AsItComes, ReadsInput, FailsReadingFiles, FailsReadingInput, FailsPrinting, FailsWriting, FailsWritingSecond, LacksMemoryBetween, LacksMemoryInside, LacksMemory, InputStays, FilesHold, FirstFailed, SecondFailed, RunAnswers, Ran, RanIntoFault, HadNoRoom, PrintAnswers, Printed, PrintedAFront}
 use Rattle.trc_answers.specs.declared.causes.Device.TheVariants.{Files, Input, Output}
@@ -100,6 +100,7 @@ rose_later a b c l rose = omega (arith, l, rose)
 files_later : (held : Option Held) (m n : ℕ) (left : Option (List ℕ)) (k : ℕ) (out : Account) (new : Devices) (verdict : Verdict)
     → FilesHold (devices held n left k out) verdict new → FilesHold (devices held m left k out) verdict new
 files_later held m n left k out new (Refuses cause) h = h
+files_later held m n left k out new (Finds cause line) h = h
 files_later held m n left k out new (Runs reads places outcome) h = h
 files_later held m n left k out new (Means reads cause written) h = h
 files_later held m n left k out new (Writes name bytes) h = h

@@ -14,7 +14,7 @@ use Rattle.trc_answers.specs.declared.causes.Device.{Device}
 use Rattle.trc_answers.specs.declared.causes.Device.TheVariants.{Files, Input, Output}
 use Rattle.trc_answers.specs.declared.causes.Spot.{Spot}
 use Rattle.trc_answers.specs.declared.causes.Cause.{Cause}
-use Rattle.trc_answers.specs.declared.causes.Cause.TheVariants.{Usage, NoSuchFile, ReadFault, Source, Limit, BadLine, OtherImage, NotImage, NotNotes, Unsound, InputTooLong, Trapped, MachineFault, Spent, TurnsSpent, WriteFault, Memory, Done}
+use Rattle.trc_answers.specs.declared.causes.Cause.TheVariants.{Usage, NoSuchFile, ReadFault, Source, Limit, BadLine, OtherImage, NotImage, NotNotes, NotObject, OtherChoice, Unsound, InputTooLong, Trapped, MachineFault, Spent, TurnsSpent, WriteFault, Memory, Done}
 
 abbrev pub status_of : Cause → ℕ
 status_of Usage = 1
@@ -26,6 +26,8 @@ status_of (BadLine number) = 1
 status_of (OtherImage at) = 8
 status_of (NotImage number at) = 8
 status_of (NotNotes number at) = 8
+status_of (NotObject word number at) = 8
+status_of (OtherChoice object) = 8
 status_of (Unsound trace node at) = 10
 status_of InputTooLong = 3
 status_of (Trapped kind spot) = 6
@@ -112,6 +114,8 @@ line_of names first place (BadLine number) = line (codes "trc: bad line ") (shor
 line_of names first place (OtherImage at) = line (codes "trc: other image at ") (shortest_text at)
 line_of names first place (NotImage number at) = line (codes "trc: not an image: ") (shortest_text number ++ (codes " at " ++ shortest_text at))
 line_of names first place (NotNotes number at) = line (codes "trc: not notes: ") (shortest_text number ++ (codes " at " ++ shortest_text at))
+line_of names first place (NotObject word number at) = line (codes "trc: not an object: ") (shortest_text number ++ (codes " at " ++ shortest_text at))
+line_of names first place (OtherChoice object) = line (codes "trc: other choice at ") (shortest_text object)
 line_of names first place (Unsound trace node at) = unsound_line trace node at
 line_of names first place InputTooLong = line (codes "trc: input too long") []
 line_of names first place (Trapped kind spot) = trap_line kind spot

@@ -78,3 +78,11 @@ pub data IsUnread (held : Option Held) (names : List (List ℕ)) (old new : ℕ)
   IsRefused : FilesComeTo held names Nothing (Refuses cause) → IsUnread held names old new cause
   OneFailed : Rose old new → cause ≡ ReadFault Files → IsUnread held names old new cause
   LackMemory : cause ≡ Memory → IsUnread held names old new cause
+
+-- the text of this number
+abbrev pub IsTextIn : List (List ℕ) → ℕ → List ℕ → Type 0
+IsTextIn texts number text = slice_get texts number ≡ Some text
+
+-- the text that is held under the name of this number
+abbrev pub IsTextHeld : Option Held → List (List ℕ) → ℕ → List ℕ → Type 0
+IsTextHeld held names number text = (name : List ℕ) × (slice_get names number ≡ Some name) × IsHeld held name (Some text)

@@ -15,11 +15,12 @@ use Rattle.trc_answers.specs.Runs.{run_of, cause_of_run}
 use Rattle.trc_answers.specs.declared.causes.Cause.{Cause}
 use Rattle.trc_answers.specs.declared.causes.Cause.TheVariants.{NoSuchFile, OtherImage, NotImage, InputTooLong, Done}
 
--- a command is refused for a cause, runs an image whose procedures are at these places, does what a program means and ends for a cause
+-- a command is refused for a cause, finds one in texts and prints a line of it, runs an image whose procedures are at these places, does what a program means and ends for a cause
 -- with this written, writes a file, writes one and then another, writes one and prints that what it was made of is sound, or prints
 -- lines, or lines of what came of the input
 pub data Verdict : Type 0 where
   Refuses : Cause → Verdict
+  Finds : Cause → (line : List ℕ) → Verdict
   Runs : (reads_input : Bool) (places : List ProcPlace) → Outcome Trap → Verdict
   Means : (reads_input : Bool) → Cause → (written : List ℕ) → Verdict
   Writes : (name bytes : List ℕ) → Verdict
@@ -31,6 +32,7 @@ pub data Verdict : Type 0 where
 -- the cause that it answers
 abbrev pub cause_of : Verdict → Cause
 cause_of (Refuses cause) = cause
+cause_of (Finds cause line) = cause
 cause_of (Runs reads places outcome) = cause_of_run places outcome
 cause_of (Means reads cause written) = cause
 cause_of (Writes name bytes) = Done
@@ -46,6 +48,7 @@ sound_line = codes "sound" ++ 10 ∷ []
 -- what it writes on the output
 abbrev pub written_by : Verdict → List ℕ
 written_by (Refuses cause) = []
+written_by (Finds cause line) = line
 written_by (Runs reads places outcome) = output outcome
 written_by (Means reads cause written) = written
 written_by (Writes name bytes) = []

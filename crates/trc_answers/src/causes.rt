@@ -32,7 +32,7 @@ pub enum Cause {
     ReadFault { device: Device },
     /// A rule of the language is broken: its number, 10 to 42, the module by its place among the files, from 0, and the byte.
     Source { number: u8, module: u32, at: u32 },
-    /// A limit is passed: its number, 50 to 59, 67, 69 or 70, and the module's or the procedure's where it is one of these, else 0.
+    /// A limit is passed: its number, 50 to 59 or 67 to 70, and the module's or the procedure's where it is one of these, else 0.
     Limit { number: u8, index: u32 },
     /// The line of a batch's list with this number, counted from 1, is the first that isn't of a line's form.
     BadLine { line: u32 },
@@ -42,6 +42,11 @@ pub enum Cause {
     NotImage { number: u8, at: u32 },
     /// The file isn't notes: the number of the first rule that it breaks, 70 to 74, and the place of the byte.
     NotNotes { number: u8, at: u32 },
+    /// The file of this number among those that the command reads is no object: the number of the first rule that it breaks, 80 to 84,
+    /// and the place of the byte.
+    NotObject { word: u32, number: u8, at: u32 },
+    /// The object of this number is the first that was made by another choice than the first one.
+    OtherChoice { object: u32 },
     /// A result isn't sound: the trace's number, the number of the block among the trace's, and the line, from 1; 0 where the
     /// block's beginning isn't right.
     Unsound { trace: u32, node: u32, line: u32 },
@@ -103,6 +108,8 @@ pub fn status(cause: Cause) -> u8
         Cause::OtherImage { .. } => 8,
         Cause::NotImage { .. } => 8,
         Cause::NotNotes { .. } => 8,
+        Cause::NotObject { .. } => 8,
+        Cause::OtherChoice { .. } => 8,
         Cause::Unsound { .. } => 10,
         Cause::InputTooLong => 3,
         Cause::Trapped { .. } => 6,

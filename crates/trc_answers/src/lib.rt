@@ -21,6 +21,6 @@ pub use reading::{read_image_file, read_texts};
 pub use reporting::report;
 pub use running::{exec, run_image, run_on};
 pub use writing::{
-    accept_image, print, renew_image_file, renew_image_with, write_elf_file, write_image_file,
-    write_image_with,
+    accept_image, print, renew_image_file, renew_image_with, write_elf_file, write_file,
+    write_image_file, write_image_with,
 };

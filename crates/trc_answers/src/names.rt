@@ -4,31 +4,31 @@ ghost use Rattle.std.specs.Prelude.{◌≡◌};
 ghost use Rattle.trc_answers.specs.Names.{name_of_rule, name_of_limit};
 
 /// How a rule of the language is called, by its number; no bytes where no rule has the number.
-pub fn rule_name(number: u8) -> &'static [u8]
+pub fn rule_name(number: u8) -> &'static str
     ensures { result.now ≡ name_of_rule number }
 {
     match number {
-        10 => b"BadByte",
-        11 => b"OpenComment",
-        12 => b"OpenString",
-        13 => b"NumberTooLarge",
-        14 => b"NameTooLong",
-        20 => b"Syntax",
-        21 => b"TooDeep",
-        30 => b"Unknown",
-        31 => b"TypeMismatch",
-        32 => b"NotConstant",
-        33 => b"ReadOnly",
-        34 => b"NotVisible",
-        35 => b"ConstRange",
-        36 => b"Redeclared",
-        37 => b"EndName",
-        38 => b"ImportOrder",
-        39 => b"BadLabel",
-        40 => b"BadParameter",
-        41 => b"MissingReturn",
-        42 => b"BadExtension",
-        _ => b"",
+        10 => "BadByte",
+        11 => "OpenComment",
+        12 => "OpenString",
+        13 => "NumberTooLarge",
+        14 => "NameTooLong",
+        20 => "Syntax",
+        21 => "TooDeep",
+        30 => "Unknown",
+        31 => "TypeMismatch",
+        32 => "NotConstant",
+        33 => "ReadOnly",
+        34 => "NotVisible",
+        35 => "ConstRange",
+        36 => "Redeclared",
+        37 => "EndName",
+        38 => "ImportOrder",
+        39 => "BadLabel",
+        40 => "BadParameter",
+        41 => "MissingReturn",
+        42 => "BadExtension",
+        _ => "",
     }
 }
 
@@ -48,6 +48,7 @@ pub fn limit_name(number: u8) -> &'static [u8]
         58 => b"Constants",
         59 => b"Locals",
         67 => b"Notes",
+        68 => b"Object",
         69 => b"Jobs",
         70 => b"JobBytes",
         _ => b"",

@@ -76,6 +76,18 @@ fn say_no_notes<E: Sink>(err: &mut E, number: u8, at: u32) -> Result<(), WriteFa
     Ok(())
 }
 
+/// Writes the line of bytes that are no object.
+fn say_no_object<E: Sink>(err: &mut E, number: u8, at: u32) -> Result<(), WriteFault>
+    ensures all { OnOk result (TookAll (E.account err.old) (E.account err.new)
+        (line (codes "trc: not an object: ") (shortest_text number ++ (codes " at " ++ shortest_text at)))) }
+    ensures rises { (E.account err.old).faults ≤ (E.account err.new).faults }
+    ensures failed { OnErr result (Faulted (E.account err.old) (E.account err.new)) }
+{
+    put_number(err, b"trc: not an object: ", u64::from(number))?;
+    say(err, b" at ", decimal(u64::from(at)).as_slice())?;
+    Ok(())
+}
+
 /// Writes the line of results that aren't sound.
 fn say_unsound<E: Sink>(err: &mut E, trace: u32, node: u32, line: u32) -> Result<(), WriteFault>
     ensures all { OnOk result (TookAll (E.account err.old) (E.account err.new) (unsound_line trace node line)) }
@@ -115,7 +127,7 @@ fn say_source<E: Sink>(
 {
     put_place(err, name, place)?;
     put_number(err, b": error ", u64::from(number))?;
-    say(err, b" ", rule_name(number))?;
+    say(err, b" ", rule_name(number).as_bytes())?;
     Ok(())
 }
 
@@ -262,6 +274,12 @@ pub fn report<E: Sink>(
         ),
         Cause::NotImage { number, at } => say_no_image(err, number, at),
         Cause::NotNotes { number, at } => say_no_notes(err, number, at),
+        Cause::NotObject { number, at, .. } => say_no_object(err, number, at),
+        Cause::OtherChoice { object } => say(
+            err,
+            b"trc: other choice at ",
+            decimal(u64::from(object)).as_slice(),
+        ),
         Cause::Unsound { trace, node, line } => say_unsound(err, trace, node, line),
         Cause::InputTooLong => say(err, b"trc: input too long", b""),
         Cause::Trapped { kind, spot } => say_trap(err, kind, spot),

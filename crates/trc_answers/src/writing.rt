@@ -27,7 +27,7 @@ fn unwritten(fault: PutFault) -> Cause
 }
 
 /// Writes bytes to the file of this name.
-fn write_file<F: Files>(alloc: Global, name: &str, bytes: &[u8], files: &mut F) -> Cause
+pub fn write_file<F: Files>(alloc: Global, name: &str, bytes: &[u8], files: &mut F) -> Cause
     ensures answers { (left : Option (List ℕ)) (faults : ℕ) (out : Account)
         → Answers (λ _. IsWritten name.now bytes.now) (devices (F.held files.old) (F.faults files.old) left faults out)
         (devices (F.held files.new) (F.faults files.new) left faults out) result }

@@ -20,7 +20,7 @@ use Rattle.trc_answers.proofs.Answering.{refuses, lacks, mapped, prints}
 use Rattle.trc_cli.specs.Commands.{IsRefusedAs, TextsComeTo, HaveNoImage, HaveImage, TracesComeTo, HaveNoTraces, HaveTraces, IsTextOf, first_module, names_read, ComesTo, FaultsOnlyInExec, FilesUse, InputUse}
 use Rattle.trc_texts.proofs.Refusing.{refused}
 use Rattle.trc_cli.specs.Lines.{IsTold}
-use Rattle.trc_words.specs.Asked.{Asked, Run, Build, Elf, Exec, Traces, Bulk, Audit, Mean, Both, Batch, Help}
+use Rattle.trc_words.specs.Asked.{Asked, Run, Build, Elf, Exec, Traces, Bulk, Audit, Object, Link, Mean, Both, Batch, Check, Explain, Help}
 use Rattle.trc_cli.specs.Did.{Did}
 use Rattle.trc_cli.proofs.Sound.{faults_only_in_exec}
 
@@ -76,9 +76,13 @@ untouched (Some (Exec image steps)) t = tt
 untouched (Some (Traces files choice)) t = tt
 untouched (Some (Bulk seed size choice steps)) t = record { held = refl; faults = refl }
 untouched (Some (Audit out notes files builder regs)) t = tt
+untouched (Some (Object out files choice)) t = tt
+untouched (Some (Link out objects)) t = tt
 untouched (Some (Mean files turns)) t = tt
 untouched (Some (Both files choice steps turns)) t = tt
 untouched (Some (Batch list choice steps)) t = tt
+untouched (Some (Check files format)) t = tt
+untouched (Some (Explain topic)) t = record { held = refl; faults = refl }
 untouched (Some Help) t = record { held = refl; faults = refl }
 
 unread : (request : Option Asked) (t : Devices) → InputUse request t t
@@ -90,9 +94,13 @@ unread (Some (Exec image steps)) t = tt
 unread (Some (Traces files choice)) t = record { left = refl; faults = refl }
 unread (Some (Bulk seed size choice steps)) t = record { left = refl; faults = refl }
 unread (Some (Audit out notes files builder regs)) t = record { left = refl; faults = refl }
+unread (Some (Object out files choice)) t = record { left = refl; faults = refl }
+unread (Some (Link out objects)) t = record { left = refl; faults = refl }
 unread (Some (Mean files turns)) t = tt
 unread (Some (Both files choice steps turns)) t = tt
 unread (Some (Batch list choice steps)) t = record { left = refl; faults = refl }
+unread (Some (Check files format)) t = record { left = refl; faults = refl }
+unread (Some (Explain topic)) t = record { left = refl; faults = refl }
 unread (Some Help) t = record { left = refl; faults = refl }
 
 -- a command ended for a cause, which was told

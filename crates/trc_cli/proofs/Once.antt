@@ -18,11 +18,13 @@ use Rattle.source_image.specs.declared.refusal.Refusal.TheVariants.{Memory as No
 use Rattle.bulk_text.specs.Bulk.{bulk_text}
 use Rattle.batch_jobs.specs.Jobs.{Reply, IsRunReply, cut_reply}
 use Rattle.batch_jobs.proofs.Once.{batch_once}
+use Rattle.module_check.specs.Checks.{CheckComesTo}
 use Rattle.meaning_commands.specs.Meanings.{MeanComeTo}
 use Rattle.meaning_commands.specs.Comparisons.{BothComeTo}
 use Rattle.note_commands.specs.Noted.{NotedComeTo, NotedAnewComeTo, NotesWritten}
 use Rattle.note_commands.specs.Audits.{AuditOf, AuditComesTo, AreTooMany as AreTooManyModules, LacksNotes, LacksTexts, HasTexts, PlanComesTo, audit_of, one_behind}
-use Rattle.trc_words.specs.Asked.{Asked, Run, Build, Elf, Exec, Traces, Bulk, Audit, Mean, Both, Batch, Help}
+use Rattle.object_commands.specs.Objects.{ObjectComesTo}
+use Rattle.trc_words.specs.Asked.{Asked, Run, Build, Elf, Exec, Traces, Bulk, Audit, Object, Link, Mean, Both, Batch, Check, Explain, Help}
 use Rattle.trc_answers.specs.declared.causes.Cause.{Cause}
 use Rattle.trc_answers.specs.declared.causes.Cause.TheVariants.{Memory, NotImage, OtherImage}
 use Rattle.trc_answers.specs.declared.causes.Device.TheVariants.{Files, Input, Output}
@@ -164,11 +166,17 @@ module _ (laws : Laws) (held : Held) (left : List ℕ) (a b : Verdict) where
       texts_once laws choice choice refl refl refl (bulk_text seed size ∷ []) (SummaryComesTo steps) (SummaryComesTo steps) a b
       (λ made other is also i j. two a b _ _ (told_same steps made other (laws.image choice choice (bulk_text seed size ∷ []) made other refl refl refl is also)) i j) h k
   once (Some (Audit out notes files builder regs)) h k = audit_once (audit_of out builder regs) notes files h k
+  once (Some (Object out files choice)) h k =
+      files_once held files (ObjectComesTo choice out) a b (λ texts x y. subst (Alike a) (laws.object choice out texts a b x y) (alike a)) h k
+  once (Some (Link out objects)) h k = subst (Alike a) (laws.link held out objects a b h k) (alike a)
   once (Some (Mean files turns)) h k =
       files_once held files (MeanComeTo (Some left) turns) a b (λ texts x y. subst (Alike a) (laws.meaning left turns texts a b x y) (alike a)) h k
   once (Some (Both files choice steps turns)) h k =
       files_once held files (BothComeTo (Some left) choice steps turns) a b (λ texts x y. subst (Alike a) (laws.comparison left choice steps turns texts a b x y) (alike a)) h k
   once (Some (Batch list choice steps)) h k = subst (Alike a) (batch_once held choice steps (reply_once laws choice steps) list a b h k) (alike a)
+  once (Some (Check files format)) h k =
+      files_once held files (CheckComesTo format files) a b (λ texts x y. subst (Alike a) (laws.check format files texts a b x y) (alike a)) h k
+  once (Some (Explain topic)) h k = both a b _ h k
   once (Some Help) h k = both a b _ h k
 
 ---- `exec` of what `build` wrote

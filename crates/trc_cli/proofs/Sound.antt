@@ -16,6 +16,7 @@ use Rattle.text_laws.proofs.no_faults.Never.{image_never_faults}
 use Rattle.bulk_text.specs.Bulk.{bulk_text}
 use Rattle.batch_jobs.specs.Batches.{BatchComesTo, LacksList, HasLongList, HasList, HasBadLine, HasLines, AreTooMany, AreTooLarge, HaveJobs}
 use Rattle.noted_image.specs.declared.noting.NotedImage.{NotedImage}
+use Rattle.object_form.specs.declared.object.Object.{Object as ObjectRead}
 use Rattle.ob_types.specs.Store.{Kind, Senseless}
 use Rattle.ob_types.specs.Store.{Trap as Meant}
 use Rattle.ob_types.specs.Meaning.{meaning}
@@ -26,7 +27,15 @@ use Rattle.meaning_commands.specs.Meanings.{cause_of_meaning, MeanComeTo, HaveNo
 use Rattle.meaning_commands.specs.Comparisons.{BothComeTo, HaveNoneToCompare, HaveBoth}
 use Rattle.note_commands.specs.Noted.{NotedComeTo, HaveNoNotes, HaveNotes}
 use Rattle.note_commands.specs.Audits.{AuditOf, AuditComesTo, AreTooMany as AreTooManyModules, LacksNotes, LacksTexts, HasTexts, PlanComesTo, HaveNoPlan, HavePlan, AreTooLong, AreNoNotes, HaveResults, AreUnsound, MakeMuchCode, MakeAnImage, one_behind}
-use Rattle.trc_words.specs.Asked.{Asked, Run, Build, Elf, Exec, Traces, Bulk, Audit, Mean, Both, Batch, Help}
+use Rattle.object_commands.specs.Objects.{IsTooLong as IsTooLongAnObject, IsShort, ObjectComesTo, HaveNoObject, HaveObject}
+use Rattle.object_commands.specs.Links.{ContentsComeTo, HaveObjects, JoinedComeTo, HaveNoPlan as HaveNoJointPlan, HavePlan as HaveJointPlan, LinkComesTo, AreTooMany as AreTooManyObjects, LacksOne as LacksAnObject, HaveContents, ObjectsComeTo, HasOther, AreOfOne}
+use Rattle.object_commands.specs.Links.{HaveNoObject as HaveABrokenOne}
+use Rattle.explanations.specs.declared.format.Format.{Format}
+use Rattle.explanations.specs.declared.format.Format.TheVariants.{Text, Json}
+use Rattle.module_check.specs.Checks.{CheckComesTo, AreLegal, AreNot, told_of}
+use Rattle.source_program.specs.declared.fault.SourceFault.{SourceFault}
+use Rattle.source_program.specs.declared.fault.SourceFault.TheVariants as source
+use Rattle.trc_words.specs.Asked.{Asked, Run, Build, Elf, Exec, Traces, Bulk, Audit, Object, Link, Mean, Both, Batch, Check, Explain, Help}
 use Rattle.trc_answers.specs.declared.causes.Cause.{Cause}
 use Rattle.trc_answers.specs.declared.causes.Cause.TheVariants as cause
 use Rattle.trc_answers.specs.Reading.{FilesComeTo, AreTooMany as AreTooManyFiles, LacksOne, HasALongOne, HaveTexts}
@@ -119,6 +128,24 @@ audit_sound held of name files v (LacksNotes few none e) = as_sound v _ e tt
 audit_sound held of name files v (LacksTexts bytes c few there comes e) = as_sound v _ e (behind_sound c (files_sound held files _ (Refuses c) (λ texts h. absurd h) comes))
 audit_sound held of name files v (HasTexts bytes texts there are h) = plan_sound of bytes texts v h
 
+object_sound : (choice : Choice) (out : List ℕ) (texts : List (List ℕ)) (v : Verdict) → ObjectComesTo choice out texts v → Sound v
+object_sound choice out texts v (HaveNoObject r) = as_sound v _ r.verdict_is (refusals r.refusal)
+object_sound choice out texts v (HaveObject object is (IsTooLongAnObject long e)) = as_sound v _ e tt
+object_sound choice out texts v (HaveObject object is (IsShort short read e)) = as_sound v _ e tt
+
+objects_sound : (out : List ℕ) (objects : List ObjectRead) (v : Verdict) → ObjectsComeTo out objects v → Sound v
+objects_sound out objects v (HasOther object other e) = as_sound v _ e tt
+objects_sound out objects v (AreOfOne first rest is none (HaveNoJointPlan r)) = as_sound v _ r.verdict_is (refusals r.refusal)
+objects_sound out objects v (AreOfOne first rest is none (HaveJointPlan plan of_texts (AreUnsound trace node line found e))) = as_sound v _ e tt
+objects_sound out objects v (AreOfOne first rest is none (HaveJointPlan plan of_texts (MakeMuchCode much e))) = as_sound v _ e tt
+objects_sound out objects v (AreOfOne first rest is none (HaveJointPlan plan of_texts (MakeAnImage image of_results form words e))) = as_sound v _ e tt
+
+link_sound : (held : Option Held) (out : List ℕ) (names : List (List ℕ)) (v : Verdict) → LinkComesTo held out names v → Sound v
+link_sound held out names v (AreTooManyObjects many e) = as_sound v _ e tt
+link_sound held out names v (LacksAnObject number name before few are there none e) = as_sound v _ e tt
+link_sound held out names v (HaveContents contents few are (HaveABrokenOne word number at broken e)) = as_sound v _ e tt
+link_sound held out names v (HaveContents contents few are (HaveObjects objects are' h)) = objects_sound out objects v h
+
 batch_sound : (held : Option Held) (choice : Choice) (steps : ℕ) (list : List ℕ) (v : Verdict) → BatchComesTo held choice steps list v → Sound v
 batch_sound held choice steps list v (LacksList none e) = as_sound v _ e tt
 batch_sound held choice steps list v (HasLongList bytes is long e) = as_sound v _ e tt
@@ -146,6 +173,18 @@ both_sound : (left : Option (List ℕ)) (choice : Choice) (steps turns : ℕ) (t
 both_sound left choice steps turns texts v (HaveNoneToCompare r) = as_sound v _ r.verdict_is (refusals r.refusal)
 both_sound left choice steps turns texts v (HaveBoth p image x is h) = input_sound left p.imports_in _ v (λ input e. as_sound v _ e tt) h
 
+found_sound : (format : Format) (names texts : List (List ℕ)) (fault : SourceFault) → IsNoMachineFault (cause_of (told_of format names texts fault))
+found_sound Json names texts (source.Fault m rule at) = tt
+found_sound Json names texts (source.TooLong m) = tt
+found_sound Json names texts source.Memory = tt
+found_sound Text names texts (source.Fault m rule at) = tt
+found_sound Text names texts (source.TooLong m) = tt
+found_sound Text names texts source.Memory = tt
+
+check_sound : (format : Format) (names texts : List (List ℕ)) (v : Verdict) → CheckComesTo format names texts v → Sound v
+check_sound format names texts v (AreLegal p is e) = as_sound v _ e tt
+check_sound format names texts v (AreNot fault is tells e) = as_sound v _ e (found_sound format names texts fault)
+
 -- so words that ask for anything but the run of an image of a file don't
 comes_sound : (held : Option Held) (left : Option (List ℕ)) (asked : Option Asked) (v : Verdict) → ComesTo (world held left) asked v → FaultsOnlyInExec asked (cause_of v)
 comes_sound held left None v h = as_sound v _ h tt
@@ -163,9 +202,13 @@ comes_sound held left (Some (Traces files choice)) v h = files_sound held files 
 comes_sound held left (Some (Bulk seed size choice steps)) v h =
     texts_sound choice (bulk_text seed size ∷ []) _ v (λ made is e. as_sound v _ e (told_sound choice (bulk_text seed size ∷ []) made steps is (run_of made.image [] steps) refl)) h
 comes_sound held left (Some (Audit out notes files builder regs)) v h = audit_sound held _ notes files v h
+comes_sound held left (Some (Object out files choice)) v h = files_sound held files _ v (λ texts. object_sound choice out texts v) h
+comes_sound held left (Some (Link out objects)) v h = link_sound held out objects v h
 comes_sound held left (Some (Mean files turns)) v h = files_sound held files _ v (λ texts. mean_sound left turns texts v) h
 comes_sound held left (Some (Both files choice steps turns)) v h = files_sound held files _ v (λ texts. both_sound left choice steps turns texts v) h
 comes_sound held left (Some (Batch list choice steps)) v h = batch_sound held choice steps list v h
+comes_sound held left (Some (Check files format)) v h = files_sound held files _ v (λ texts. check_sound format files texts v) h
+comes_sound held left (Some (Explain topic)) v h = as_sound v _ h tt
 comes_sound held left (Some Help) v h = as_sound v _ h tt
 
 as_cause : (asked : Option Asked) (c d : Cause) → c ≡ d → FaultsOnlyInExec asked d → FaultsOnlyInExec asked c
@@ -181,9 +224,13 @@ other_cause (Some (Exec image steps)) c h = tt
 other_cause (Some (Traces files choice)) c h = h
 other_cause (Some (Bulk seed size choice steps)) c h = h
 other_cause (Some (Audit out notes files builder regs)) c h = h
+other_cause (Some (Object out files choice)) c h = h
+other_cause (Some (Link out objects)) c h = h
 other_cause (Some (Mean files turns)) c h = h
 other_cause (Some (Both files choice steps turns)) c h = h
 other_cause (Some (Batch list choice steps)) c h = h
+other_cause (Some (Check files format)) c h = h
+other_cause (Some (Explain topic)) c h = h
 other_cause (Some Help) c h = h
 
 pub faults_only_in_exec : (asked : Option Asked) (old new : Devices) (c : Cause) → Answers (λ left. ComesTo (world old.held left) asked) old new c → FaultsOnlyInExec asked c

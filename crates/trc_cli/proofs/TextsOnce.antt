@@ -1,5 +1,6 @@
 -- Texts come to one thing, by the laws of texts.
 use Rattle.std.proofs.Common.{◌≡◌, ℕ, List, [], length, Some, refl, sym, ap, ◌∙◌, subst}
+use Rattle.outside.specs.Files.{Held}
 use Rattle.image_form.specs.declared.image.Image.{Image}
 use Rattle.run_laws.specs.Runs.{Outcome, Ended, Trapped, Going}
 use Rattle.a64_machine.specs.State.{Trap}
@@ -12,10 +13,14 @@ use Rattle.noted_image.specs.Notes.{IsNotedImageOfTexts}
 use Rattle.noted_image.specs.declared.noting.NotedImage.{NotedImage}
 use Rattle.note_commands.specs.Noted.{NotedComeTo, HaveNoNotes, HaveNotes}
 use Rattle.note_commands.specs.Audits.{AuditOf, PlanComesTo}
+use Rattle.object_commands.specs.Objects.{ObjectComesTo}
+use Rattle.object_commands.specs.Links.{LinkComesTo}
 use Rattle.source_image.specs.declared.refusal.Refusal.{Refusal}
 use Rattle.source_image.specs.declared.refusal.Refusal.TheVariants.{Memory}
 use Rattle.trc_answers.specs.Runs.{run_of, cause_of_run}
 use Rattle.trc_answers.specs.Verdict.{Verdict, Refuses, Prints}
+use Rattle.explanations.specs.declared.format.Format.{Format}
+use Rattle.module_check.specs.Checks.{CheckComesTo}
 use Rattle.meaning_commands.specs.Meanings.{MeanComeTo}
 use Rattle.meaning_commands.specs.Comparisons.{BothComeTo}
 use Rattle.trc_cli.specs.declared.bulk.Counts.{Counts}
@@ -43,9 +48,12 @@ pub record Laws : Type 0 where
       → IsRefusalOf (TellsWithNotes a) texts r → IsRefusalOf (TellsWithNotes b) texts s → ¬ (r ≡ Memory) → ¬ (s ≡ Memory) → r ≡ s
   pub noted_excluded : (a b : Choice) (texts : List (List ℕ)) (made : NotedImage) (r : Refusal) → a.policy ≡ b.policy → a.builder ≡ b.builder → a.regs ≡ b.regs
       → IsNotedImageOfTexts a texts made → IsRefusalOf (TellsWithNotes b) texts r → r ≡ Memory
+  pub check : (format : Format) (names texts : List (List ℕ)) (a b : Verdict) → CheckComesTo format names texts a → CheckComesTo format names texts b → a ≡ b
   pub meaning : (left : List ℕ) (turns : ℕ) (texts : List (List ℕ)) (a b : Verdict) → MeanComeTo (Some left) turns texts a → MeanComeTo (Some left) turns texts b → a ≡ b
   pub comparison : (left : List ℕ) (choice : Choice) (steps turns : ℕ) (texts : List (List ℕ)) (a b : Verdict)
       → BothComeTo (Some left) choice steps turns texts a → BothComeTo (Some left) choice steps turns texts b → a ≡ b
+  pub object : (choice : Choice) (out : List ℕ) (texts : List (List ℕ)) (a b : Verdict) → ObjectComesTo choice out texts a → ObjectComesTo choice out texts b → a ≡ b
+  pub link : (held : Held) (out : List ℕ) (names : List (List ℕ)) (a b : Verdict) → LinkComesTo (Some held) out names a → LinkComesTo (Some held) out names b → a ≡ b
   pub audit : (of : AuditOf) (bytes : List ℕ) (texts : List (List ℕ)) (a b : Verdict) → PlanComesTo of bytes texts a → PlanComesTo of bytes texts b → a ≡ b
 
 module _ (laws : Laws) where

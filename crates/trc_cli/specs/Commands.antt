@@ -7,11 +7,15 @@ use Rattle.alloc_choice.specs.declared.choice.Choice.{Choice}
 use Rattle.program_image.specs.declared.imaging.Compiled.{Compiled}
 use Rattle.bulk_text.specs.Bulk.{bulk_text}
 use Rattle.batch_jobs.specs.Batches.{BatchComesTo}
+use Rattle.explanations.specs.Explained.{explanation}
+use Rattle.module_check.specs.Checks.{CheckComesTo}
 use Rattle.meaning_commands.specs.Meanings.{MeanComeTo}
 use Rattle.meaning_commands.specs.Comparisons.{BothComeTo}
 use Rattle.note_commands.specs.Audits.{AuditComesTo, audit_of}
 use Rattle.note_commands.specs.Noted.{NotedAnewComeTo, NotedComeTo, NotesWritten}
-use Rattle.trc_words.specs.Asked.{Asked, Run, Build, Elf, Exec, Traces, Bulk, Audit, Mean, Both, Batch, Help}
+use Rattle.object_commands.specs.Objects.{ObjectComesTo}
+use Rattle.object_commands.specs.Links.{IsTextOfObject, LinkComesTo}
+use Rattle.trc_words.specs.Asked.{Asked, Run, Build, Elf, Exec, Traces, Bulk, Audit, Object, Link, Mean, Both, Batch, Check, Explain, Help}
 use Rattle.trc_answers.specs.declared.causes.Cause.{Cause}
 use Rattle.trc_answers.specs.declared.causes.Cause.TheVariants as cause
 use Rattle.trc_answers.specs.Answers.{Devices, InputStays}
@@ -50,7 +54,7 @@ SummaryComesTo steps made verdict = verdict ≡ told_of_run made (run_of made.im
 
 -- the lines of help
 abbrev pub help_lines : List ℕ
-help_lines = codes "trc run|build|elf|traces|exec|bulk|audit|mean|both|batch|help" ++ (10 ∷ (codes "--policy --traces --regs --jobs --steps --from --notes --turns" ++ 10 ∷ []))
+help_lines = codes "trc run|build|elf|traces|exec|bulk|audit|object|link|mean|both|batch|help" ++ (10 ∷ (codes "--policy --traces --regs --jobs --steps --from --notes --turns" ++ 10 ∷ []))
 
 -- an image is built anew from that of an older file, which is the next that is read
 abbrev pub AnewComesTo : Option Held → Choice → (out from : List ℕ) (number : ℕ) → List (List ℕ) → Verdict → Type 0
@@ -68,9 +72,13 @@ RequestComesTo world (Exec image steps) = FileComesTo world.held 0 image (BytesC
 RequestComesTo world (Traces files choice) = FilesComeTo world.held files (TracesComeTo choice)
 RequestComesTo world (Bulk seed size choice steps) = TextsComeTo choice (SummaryComesTo steps) (bulk_text seed size ∷ [])
 RequestComesTo world (Audit out notes files builder regs) = AuditComesTo world.held (audit_of out builder regs) notes files
+RequestComesTo world (Object out files choice) = FilesComeTo world.held files (ObjectComesTo choice out)
+RequestComesTo world (Link out objects) = LinkComesTo world.held out objects
 RequestComesTo world (Mean files turns) = FilesComeTo world.held files (MeanComeTo world.left turns)
 RequestComesTo world (Both files choice steps turns) = FilesComeTo world.held files (BothComeTo world.left choice steps turns)
 RequestComesTo world (Batch list choice steps) = BatchComesTo world.held choice steps list
+RequestComesTo world (Check files format) = FilesComeTo world.held files (CheckComesTo format files)
+RequestComesTo world (Explain topic) = λ verdict. verdict ≡ Prints (explanation topic)
 RequestComesTo world Help = λ verdict. verdict ≡ Prints help_lines
 
 -- what words come to that ask for this, or for nothing
@@ -95,6 +103,7 @@ pub record FilesStay (old new : Devices) : Type 0 where
 abbrev pub FilesUse : Option Asked → Devices → Devices → Type 0
 FilesUse None old new = FilesStay old new
 FilesUse (Some (Bulk seed size choice steps)) old new = FilesStay old new
+FilesUse (Some (Explain topic)) old new = FilesStay old new
 FilesUse (Some Help) old new = FilesStay old new
 FilesUse other old new = Unit {0}
 
@@ -120,9 +129,13 @@ names_read (Some (Exec image steps)) = image ∷ []
 names_read (Some (Traces files choice)) = files
 names_read (Some (Bulk seed size choice steps)) = []
 names_read (Some (Audit out notes files builder regs)) = notes ∷ files
+names_read (Some (Object out files choice)) = files
+names_read (Some (Link out objects)) = objects
 names_read (Some (Mean files turns)) = files
 names_read (Some (Both files choice steps turns)) = files
 names_read (Some (Batch list choice steps)) = list ∷ []
+names_read (Some (Check files format)) = files
+names_read (Some (Explain topic)) = []
 names_read (Some Help) = []
 
 -- the number of the first module's name among these
@@ -130,9 +143,10 @@ abbrev pub first_module : Option Asked → ℕ
 first_module (Some (Audit out notes files builder regs)) = 1
 first_module other = 0
 
--- the text of the module of this number: the one that is made, or the one that is held
+-- the text of the module of this number: the one that is made, the one that is held, or the one in the object that is held
 abbrev pub IsTextOf : Option Held → Option Asked → ℕ → List ℕ → Type 0
 IsTextOf held (Some (Build out files choice from notes)) = IsTextHeld held files
 IsTextOf held (Some (Audit out notes files builder regs)) = IsTextHeld held files
+IsTextOf held (Some (Link out objects)) = IsTextOfObject held objects
 IsTextOf held (Some (Bulk seed size choice steps)) = IsTextIn (bulk_text seed size ∷ [])
 IsTextOf held asked = IsTextHeld held (names_read asked)

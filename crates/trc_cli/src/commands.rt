@@ -10,11 +10,14 @@ ghost use Rattle.trc_answers.specs.Verdict.{world};
 
 use crate::building::{build_asked, elf};
 use crate::bulk::bulk;
+use crate::explaining::explain;
 use crate::running::run;
 use crate::tracing::traces;
 use batch_jobs::batch;
 use meaning_commands::{both, mean};
+use module_check::check;
 use note_commands::audit;
+use object_commands::{link, object};
 use outside::{Files, Gate, Sink, Source};
 use std::alloc::{AllocError, AllocGlobal, Global};
 use std::sync::Wait;
@@ -25,7 +28,7 @@ use trc_words::Request;
 
 /// The lines of `help`.
 const HELP: &[u8] =
-    b"trc run|build|elf|traces|exec|bulk|audit|mean|both|batch|help\n--policy --traces --regs --jobs --steps --from --notes --turns\n";
+    b"trc run|build|elf|traces|exec|bulk|audit|object|link|mean|both|batch|help\n--policy --traces --regs --jobs --steps --from --notes --turns\n";
 
 /// Some names, and one more where there is one.
 fn names_with<'a>(
@@ -77,9 +80,13 @@ pub(crate) fn names_of<'a>(alloc: Global, request: &Request<'a>) -> Result<Vec<&
         Request::Exec { image, .. } => Vec::from_slice(alloc, &[*image]),
         Request::Bulk { .. } => Ok(Vec::new(alloc)),
         Request::Audit { notes, files, .. } => names_behind(alloc, notes, files.as_slice()),
+        Request::Object { files, .. } => Vec::from_slice(alloc, files.as_slice()),
+        Request::Link { objects, .. } => Vec::from_slice(alloc, objects.as_slice()),
         Request::Mean { files, .. } => Vec::from_slice(alloc, files.as_slice()),
         Request::Both { files, .. } => Vec::from_slice(alloc, files.as_slice()),
         Request::Batch { list, .. } => Vec::from_slice(alloc, &[*list]),
+        Request::Check { files, .. } => Vec::from_slice(alloc, files.as_slice()),
+        Request::Explain { .. } => Ok(Vec::new(alloc)),
         Request::Help => Ok(Vec::new(alloc)),
     }
 }
@@ -182,6 +189,14 @@ pub(crate) fn perform<
             files,
             out,
         ),
+        Request::Object {
+            out: name,
+            files: names,
+            choice,
+        } => object(rt, name, names.as_slice(), choice, files, gate),
+        Request::Link { out: name, objects } => {
+            link(rt.alloc(), name, objects.as_slice(), files)
+        }
         Request::Mean {
             files: names,
             turns,
@@ -207,6 +222,11 @@ pub(crate) fn perform<
             choice,
             steps,
         } => Ending::of(batch(rt, list, choice, *steps, files, out, gate)),
+        Request::Check {
+            files: names,
+            format,
+        } => check(rt.alloc(), names.as_slice(), *format, files, out),
+        Request::Explain { topic } => Ending::of(explain(rt.alloc(), *topic, out)),
         Request::Help => Ending::of(print(out, HELP)),
     }
 }

@@ -16,9 +16,11 @@ use note_laws::{
     noted_images_exclude_refusals, notes_of_texts_pass, texts_have_one_noted_image,
     texts_have_one_refusal_with_notes,
 };
+use object_commands::{links_come_to_one, objects_come_to_one};
 use text_laws::{
-    images_exclude_refusals, texts_have_one_image, texts_have_one_refusal,
-    texts_have_one_refusal_of_traces, texts_have_one_report, traces_exclude_refusals,
+    images_exclude_refusals, texts_have_one_first_fault, texts_have_one_image,
+    texts_have_one_refusal, texts_have_one_refusal_of_traces, texts_have_one_report,
+    traces_exclude_refusals,
 };
 
 /// Where no count of faults rises, the answer is a cause that the words come to, with all of it done, unless memory ran out. Where
@@ -41,6 +43,9 @@ pub fn answers_are_verdicts()
     texts_have_one_refusal_with_notes();
     noted_images_exclude_refusals();
     audits_come_to_one();
+    objects_come_to_one();
+    links_come_to_one();
+    texts_have_one_first_fault();
     meanings_come_to_one();
     comparisons_come_to_one();
 }

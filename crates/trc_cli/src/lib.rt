@@ -10,6 +10,7 @@
 mod building;
 mod bulk;
 mod commands;
+mod explaining;
 mod laws;
 mod program;
 mod running;

@@ -115,9 +115,15 @@ pub(crate) fn call<
 /// - `bulk SEED SIZE` makes a module of SIZE procedures, compiles and runs it, and tells what came of it;
 /// - `audit OUT NOTES FILE {FILE}` takes results for the modules' traces from the notes that the file NOTES holds, and where they
 ///   are sound writes the image that they make to OUT, and prints `sound`;
+/// - `object OUT FILE {FILE}` compiles the modules as far as the registers of the last one, and writes that module's object to OUT;
+/// - `link OUT OBJECT {OBJECT}` takes modules and results for their traces from the objects that the files hold, and where the results
+///   are sound writes the image that they make to OUT;
 /// - `mean FILE {FILE}` does what the modules mean, turn by turn;
 /// - `both FILE {FILE}` tells how what the modules mean ends, and how the run of their image ends on the same input;
 /// - `batch LIST` answers the jobs of the list that the file holds, each as `run` does on empty input, and prints the replies;
+/// - `check FILE {FILE}` judges the modules, and says nothing where all is well; with `--format json` a rule that is broken is told by a
+///   line of JSON on `out`, too;
+/// - `explain` lists the numbers that are told, `explain NUMBER` explains one, and `explain usage` the commands;
 /// - `help` tells the commands;
 ///
 /// with the options `--policy`, `--traces`, `--regs`, `--jobs`, `--steps` and `--turns`. One line is written to `err` for each cause but Done. All

@@ -37,7 +37,7 @@ fn words_and_files_are_refused(rt: HostRuntime) -> Result<(), Fail> {
         wants(&rt, words, &mut files, b"", refused(status, line))?;
     }
     let help =
-        "trc run|build|elf|traces|exec|bulk|audit|mean|both|batch|help\n--policy --traces --regs --jobs --steps --from --notes --turns\n";
+        "trc run|build|elf|traces|exec|bulk|audit|object|link|mean|both|batch|help\n--policy --traces --regs --jobs --steps --from --notes --turns\n";
     wants(&rt, &["help"], &mut files, b"", done(help))
 }
 

@@ -1,6 +1,5 @@
 -- What texts come to that a command compiles.
-use Rattle.std.specs.Prelude.{◌≡◌, ◌<◌, ℕ, List, length, Option, Some, slice_get}
-use Rattle.outside.specs.Files.{Held}
+use Rattle.std.specs.Prelude.{◌≡◌, ◌<◌, ℕ, List, length}
 use Rattle.alloc_choice.specs.declared.choice.Choice.{Choice}
 use Rattle.program_image.specs.declared.imaging.Compiled.{Compiled}
 use Rattle.source_image.specs.Images.{IsImageOfTexts, AreTracesOfTexts}
@@ -9,7 +8,8 @@ use Rattle.source_image.specs.declared.refusal.Refusal.{Refusal}
 use Rattle.source_image.specs.declared.refusal.Refusal.TheVariants.{TooLong, Source, Limit, Memory}
 use Rattle.trc_answers.specs.declared.causes.Cause.{Cause}
 use Rattle.trc_answers.specs.declared.causes.Cause.TheVariants as cause
-use Rattle.trc_answers.specs.Verdict.{Verdict, Refuses, Prints, IsHeld}
+use Rattle.trc_answers.specs.Verdict.{Verdict, Refuses, Prints}
+pub use Rattle.trc_answers.specs.Reading.{IsTextHeld, IsTextIn}
 
 -- why texts have no image, as a cause
 abbrev pub cause_of_refusal : Refusal → Cause
@@ -46,11 +46,3 @@ pub data TextsComeTo (choice : Choice) (next : Compiled → Verdict → Type 0) 
 pub data TracesComeTo (choice : Choice) (texts : List (List ℕ)) (verdict : Verdict) : Type 0 where
   HaveNoTraces : AreRefused (IsRefusalOfTraces choice texts) verdict → TracesComeTo choice texts verdict
   HaveTraces : (lines : List ℕ) → AreTracesOfTexts choice texts lines → verdict ≡ Prints lines → TracesComeTo choice texts verdict
-
--- the text of this number
-abbrev pub IsTextIn : List (List ℕ) → ℕ → List ℕ → Type 0
-IsTextIn texts number text = slice_get texts number ≡ Some text
-
--- the text that is held under the name of this number
-abbrev pub IsTextHeld : Option Held → List (List ℕ) → ℕ → List ℕ → Type 0
-IsTextHeld held names number text = (name : List ℕ) × (slice_get names number ≡ Some name) × IsHeld held name (Some text)

@@ -7,10 +7,10 @@ use Rattle.std.specs.Str.Parse.{digits_value}
 use Rattle.clap.specs.Words.{App, Row, all_of, fault_of, first_of, matches_of}
 use Rattle.alloc_choice.specs.declared.choice.Policy.{Policy}
 use Rattle.trace_build.specs.declared.builder.Builder.{Builder}
-use Rattle.trc_words.specs.Commands.{run_command, build_command, elf_command, exec_command, traces_command, bulk_command, audit_command, mean_command, both_command, batch_command, help_command}
+use Rattle.trc_words.specs.Commands.{run_command, build_command, elf_command, exec_command, traces_command, bulk_command, audit_command, object_command, link_command, mean_command, both_command, batch_command, check_command, explain_command, help_command}
 use Rattle.trc_words.specs.Numbers.{is_between, is_number, number_between}
-use Rattle.trc_words.specs.Options.{choice_in, given, jobs_in, policy_in, regs_in, steps_in, traces_choice_in, traces_in, turns_in, value_or}
-use Rattle.trc_words.specs.Asked.{Asked, Run, Build, Elf, Exec, Traces, Bulk, Audit, Mean, Both, Batch, Help, asked_of, audit_asked, batch_asked, both_asked, bulk_asked, build_asked, elf_asked, exec_asked, files_in, help_asked, is_none, mean_asked, notes_in, run_asked, seed_in, size_in, some_of, taken, traces_asked}
+use Rattle.trc_words.specs.Options.{choice_in, format_in, given, jobs_in, policy_in, regs_in, steps_in, topic_in, traces_choice_in, traces_in, turns_in, value_or}
+use Rattle.trc_words.specs.Asked.{Asked, Run, Build, Elf, Exec, Traces, Bulk, Audit, Object, Link, Mean, Both, Batch, Check, Explain, Help, asked_of, audit_asked, batch_asked, both_asked, bulk_asked, build_asked, check_asked, elf_asked, exec_asked, explain_asked, files_in, help_asked, is_none, link_asked, mean_asked, names_in, notes_in, object_asked, run_asked, seed_in, size_in, some_of, taken, traces_asked}
 use Rattle.alloc_choice.specs.Choice.{IsFitChoice}
 use Rattle.trc_words.specs.Fitting.{Fits}
 use Rattle.trc_words.specs.Requests.{Asks, plain}
@@ -111,8 +111,11 @@ some_full : (files : List (List ℕ)) → Holds IsFull (some_of files)
 some_full [] = none_holds IsFull
 some_full (first ∷ rest) = some_holds IsFull (first ∷ rest) (omega arith)
 
+names_hold : (name : List ℕ) (rows : List Row) → Holds IsFull (names_in name rows)
+names_hold name rows = given_holds Any IsFull (all_of name rows) some_of (λ _ _. tt) (λ files _. some_full files)
+
 files_hold : (rows : List Row) → Holds IsFull (files_in rows)
-files_hold rows = given_holds Any IsFull (all_of (codes "FILE") rows) some_of (λ _ _. tt) (λ files _. some_full files)
+files_hold rows = names_hold (codes "FILE") rows
 
 seed_holds : (rows : List Row) → Holds (λ n. n ≤ 9223372036854775807) (seed_in rows)
 seed_holds rows =
@@ -173,6 +176,19 @@ audit_fits rows =
     given_holds (Between 4 16) Fits (regs_in rows) _ (regs_hold rows) (λ regs r.
     some_holds Fits (Audit out notes files builder regs) (f, r.0, r.1))))))
 
+object_fits : (rows : List Row) → Holds Fits (object_asked rows)
+object_fits rows =
+    given_holds Any Fits (first_of (codes "OUT") rows) _ (λ _ _. tt) (λ out _.
+    given_holds IsFull Fits (files_in rows) _ (files_hold rows) (λ files f.
+    given_holds IsFitChoice Fits (choice_in rows) _ (choice_holds rows) (λ choice c.
+    some_holds Fits (Object out files choice) (f, c))))
+
+link_fits : (rows : List Row) → Holds Fits (link_asked rows)
+link_fits rows =
+    given_holds Any Fits (first_of (codes "OUT") rows) _ (λ _ _. tt) (λ out _.
+    given_holds IsFull Fits (names_in (codes "OBJECT") rows) _ (names_hold (codes "OBJECT") rows) (λ objects o.
+    some_holds Fits (Link out objects) o))
+
 mean_fits : (rows : List Row) → Holds Fits (mean_asked rows)
 mean_fits rows =
     given_holds IsFull Fits (files_in rows) _ (files_hold rows) (λ files f.
@@ -194,6 +210,15 @@ batch_fits rows =
     given_holds (λ n. n ≤ 1000000000000000) Fits (steps_in rows) _ (steps_hold rows) (λ steps s.
     some_holds Fits (Batch list choice steps) (c, s))))
 
+check_fits : (rows : List Row) → Holds Fits (check_asked rows)
+check_fits rows =
+    given_holds IsFull Fits (files_in rows) _ (files_hold rows) (λ files f.
+    given_holds Any Fits (format_in rows) _ (λ _ _. tt) (λ format _.
+    some_holds Fits (Check files format) f))
+
+explain_fits : (rows : List Row) → Holds Fits (explain_asked rows)
+explain_fits rows = given_holds Any Fits (topic_in rows) _ (λ _ _. tt) (λ topic _. some_holds Fits (Explain topic) tt)
+
 help_fits : (rows : List Row) → Holds Fits (help_asked rows)
 help_fits rows = some_holds Fits Help tt
 
@@ -210,11 +235,15 @@ asked_of_fits command words =
     (cond_holds Fits (bytes_eq command (codes "traces")) _ _ (taken_fits traces_command words traces_asked traces_fits)
     (cond_holds Fits (bytes_eq command (codes "bulk")) _ _ (taken_fits bulk_command words bulk_asked bulk_fits)
     (cond_holds Fits (bytes_eq command (codes "audit")) _ _ (taken_fits audit_command words audit_asked audit_fits)
+    (cond_holds Fits (bytes_eq command (codes "object")) _ _ (taken_fits object_command words object_asked object_fits)
+    (cond_holds Fits (bytes_eq command (codes "link")) _ _ (taken_fits link_command words link_asked link_fits)
     (cond_holds Fits (bytes_eq command (codes "mean")) _ _ (taken_fits mean_command words mean_asked mean_fits)
     (cond_holds Fits (bytes_eq command (codes "both")) _ _ (taken_fits both_command words both_asked both_fits)
     (cond_holds Fits (bytes_eq command (codes "batch")) _ _ (taken_fits batch_command words batch_asked batch_fits)
+    (cond_holds Fits (bytes_eq command (codes "check")) _ _ (taken_fits check_command words check_asked check_fits)
+    (cond_holds Fits (bytes_eq command (codes "explain")) _ _ (taken_fits explain_command words explain_asked explain_fits)
     (cond_holds Fits (bytes_eq command (codes "help")) _ _ (taken_fits help_command words help_asked help_fits)
-    (none_holds Fits)))))))))))
+    (none_holds Fits)))))))))))))))
 
 -- a request that words ask for fits
 pub fits_of : (command : List ℕ) (words : List (List ℕ)) (r : Result Request WordsFault) → Asks (asked_of command words) r → IfOk r (λ request. Fits (plain request))

@@ -7,10 +7,10 @@ use Rattle.clap.specs.Words.{App, Rule, new_app, new_rule, with_rule}
 abbrev pub argument_rule : List ℕ → Rule
 argument_rule name = record (new_rule name) { required = true }
 
--- the argument FILE {FILE}, of one value or more
-abbrev pub files_rule : Rule
-files_rule =
-    record (argument_rule (codes "FILE")) {
+-- an argument of one value or more
+abbrev pub names_rule : List ℕ → Rule
+names_rule name =
+    record (argument_rule name) {
       range = Some (record { start_inclusive = 1; end_inclusive = usize_max });
     }
 
@@ -21,8 +21,12 @@ option_rule name = record (new_rule name) { long = Some name }
 abbrev pub with_argument : App → List ℕ → App
 with_argument app name = with_rule app (argument_rule name)
 
+abbrev pub with_names : App → List ℕ → App
+with_names app name = with_rule app (names_rule name)
+
+-- FILE {FILE}
 abbrev pub with_files : App → App
-with_files app = with_rule app files_rule
+with_files app = with_names app (codes "FILE")
 
 abbrev pub with_option : App → List ℕ → App
 with_option app name = with_rule app (option_rule name)
@@ -70,6 +74,14 @@ abbrev pub audit_command : App
 audit_command =
     with_option (with_option (with_files (with_argument (with_argument (new_app (codes "audit")) (codes "OUT")) (codes "NOTES"))) (codes "traces")) (codes "regs")
 
+-- object OUT FILE {FILE} [--policy NAME] [--traces NAME] [--regs N] [--jobs N]
+abbrev pub object_command : App
+object_command = with_choice (with_files (with_argument (new_app (codes "object")) (codes "OUT")))
+
+-- link OUT OBJECT {OBJECT}
+abbrev pub link_command : App
+link_command = with_names (with_argument (new_app (codes "link")) (codes "OUT")) (codes "OBJECT")
+
 -- mean FILE {FILE} [--turns N]
 abbrev pub mean_command : App
 mean_command = with_option (with_files (new_app (codes "mean"))) (codes "turns")
@@ -81,6 +93,14 @@ both_command = with_option (with_run (with_files (new_app (codes "both")))) (cod
 -- batch LIST [--policy NAME] [--traces NAME] [--regs N] [--jobs N] [--steps N]
 abbrev pub batch_command : App
 batch_command = with_run (with_argument (new_app (codes "batch")) (codes "LIST"))
+
+-- check FILE {FILE} [--format NAME]
+abbrev pub check_command : App
+check_command = with_option (with_files (new_app (codes "check"))) (codes "format")
+
+-- explain [TOPIC]
+abbrev pub explain_command : App
+explain_command = with_rule (new_app (codes "explain")) (new_rule (codes "TOPIC"))
 
 -- help
 abbrev pub help_command : App

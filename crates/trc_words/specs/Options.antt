@@ -7,6 +7,11 @@ use Rattle.alloc_choice.specs.declared.choice.Policy.{Policy}
 use Rattle.alloc_choice.specs.declared.choice.Policy.TheVariants.{Plain, Linear, BottomUp, Mixed}
 use Rattle.trace_build.specs.declared.builder.Builder.{Builder}
 use Rattle.trace_build.specs.declared.builder.Builder.TheVariants.{Uni, Bi}
+use Rattle.explanations.specs.declared.format.Format.{Format}
+use Rattle.explanations.specs.declared.format.Format.TheVariants.{Text, Json}
+use Rattle.explanations.specs.declared.topic.Topic.{Topic}
+use Rattle.explanations.specs.declared.topic.Topic.TheVariants.{Pages, Usage, Number}
+use Rattle.explanations.specs.Explained.{has_page}
 use Rattle.trc_words.specs.Numbers.{number_between}
 
 module _ {A B : Type 0} where
@@ -62,3 +67,21 @@ choice_in rows =
     given (policy_in rows) (λ policy. given (traces_in rows) (λ builder.
     given (regs_in rows) (λ regs.
     given (jobs_in rows) (λ jobs. Some (record { policy = policy; builder = builder; regs = regs; jobs = jobs })))))
+
+abbrev pub formats : List (List ℕ × Format)
+formats = (codes "text", Text) ∷ (codes "json", Json) ∷ []
+
+-- how `check` tells that a rule is broken
+abbrev pub format_in : List Row → Option Format
+format_in rows = value_or Text (named_in formats) (first_of (codes "format") rows)
+
+-- a number that has a page
+abbrev pub paged : ℕ → Option Topic
+paged number = if has_page number then Some (Number number) else None
+
+-- what `explain` explains: the commands, or a number that has a page
+abbrev pub topic_named : List ℕ → Option Topic
+topic_named text = if bytes_eq text (codes "usage") then Some Usage else given (number_between 0 255 text) paged
+
+abbrev pub topic_in : List Row → Option Topic
+topic_in rows = value_or Pages topic_named (first_of (codes "TOPIC") rows)

@@ -4,7 +4,7 @@ use Rattle.std.specs.Borrow.{Bor}
 use Rattle.trc_words.specs.Asked.{Asked}
 use Rattle.trc_words.specs.Asked as asked
 use Rattle.trc_words.specs.declared.asked.Request.{Request}
-use Rattle.trc_words.specs.declared.asked.Request.TheVariants.{Run, Build, Elf, Exec, Traces, Bulk, Audit, Mean, Both, Batch, Help}
+use Rattle.trc_words.specs.declared.asked.Request.TheVariants.{Run, Build, Elf, Exec, Traces, Bulk, Audit, Object, Link, Mean, Both, Batch, Check, Explain, Help}
 use Rattle.trc_words.specs.declared.asked.WordsFault.{WordsFault}
 use Rattle.trc_words.specs.declared.asked.WordsFault.TheVariants.{Usage, Memory}
 
@@ -24,9 +24,13 @@ plain (Exec image steps) = asked.Exec image.now steps
 plain (Traces files choice) = asked.Traces (texts files.items) choice
 plain (Bulk seed size choice steps) = asked.Bulk seed size choice steps
 plain (Audit out notes files builder regs) = asked.Audit out.now notes.now (texts files.items) builder regs
+plain (Object out files choice) = asked.Object out.now (texts files.items) choice
+plain (Link out objects) = asked.Link out.now (texts objects.items)
 plain (Mean files turns) = asked.Mean (texts files.items) turns
 plain (Both files choice steps turns) = asked.Both (texts files.items) choice steps turns
 plain (Batch list choice steps) = asked.Batch list.now choice steps
+plain (Check files format) = asked.Check (texts files.items) format
+plain (Explain topic) = asked.Explain topic
 plain Help = asked.Help
 
 module _ {A B : Type 0} where

@@ -2,7 +2,7 @@
 
 ghost use Rattle.std.specs.Prelude.{◌≡◌, IfOk};
 ghost use Rattle.clap.specs.Words.{app_of};
-ghost use Rattle.trc_words.specs.Commands.{with_argument, with_files, with_option, with_traces, with_choice, with_run};
+ghost use Rattle.trc_words.specs.Commands.{with_argument, with_names, with_files, with_option, with_traces, with_choice, with_run};
 
 use clap::{Arg, Command};
 use std::alloc::{AllocError, Global};
@@ -19,12 +19,23 @@ pub(crate) fn with_argument<'a>(
     Ok(command.arg(argument)?)
 }
 
+/// The command, with an argument of one value or more.
+pub(crate) fn with_names<'a>(
+    alloc: Global,
+    command: Command<'a>,
+    name: &'a str,
+) -> Result<Command<'a>, AllocError>
+    ensures { IfOk result (λ more. app_of more ≡ with_names (app_of command.entry) name.entry.now) }
+{
+    let names = Arg::new(alloc, name).required(true).num_args(1..);
+    Ok(command.arg(names)?)
+}
+
 /// The command, with the names of one file or more.
 pub(crate) fn with_files<'a>(alloc: Global, command: Command<'a>) -> Result<Command<'a>, AllocError>
     ensures { IfOk result (λ more. app_of more ≡ with_files (app_of command.entry)) }
 {
-    let files = Arg::new(alloc, "FILE").required(true).num_args(1..);
-    Ok(command.arg(files)?)
+    with_names(alloc, command, "FILE")
 }
 
 /// The command, with an option of one value.

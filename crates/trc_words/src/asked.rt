@@ -9,6 +9,7 @@ ghost use Rattle.trc_words.specs.declared.asked.WordsFault.TheVariants.{Memory};
 use alloc_choice::{Builder, Choice};
 use clap::Error;
 use clap::error::ErrorKind;
+use explanations::{Format, Topic};
 use std::alloc::{AllocError, AllocFailed};
 use thiserror::Error as ErrorOf;
 
@@ -65,6 +66,17 @@ pub enum Request<'a> {
         builder: Builder,
         regs: u8,
     },
+    /// Compile files, and write the object of the last one to the file `out`.
+    Object {
+        out: &'a str,
+        files: Vec<&'a str>,
+        choice: Choice,
+    },
+    /// Join the objects that files hold, of which there is one at least, and write their image to the file `out`.
+    Link {
+        out: &'a str,
+        objects: Vec<&'a str>,
+    },
     /// Check files, and do what their program means, turn by turn.
     Mean {
         files: Vec<&'a str>,
@@ -82,6 +94,15 @@ pub enum Request<'a> {
         list: &'a str,
         choice: Choice,
         steps: u64,
+    },
+    /// Judge files, and tell in this format where a rule is broken.
+    Check {
+        files: Vec<&'a str>,
+        format: Format,
+    },
+    /// Explain what this is.
+    Explain {
+        topic: Topic,
     },
     /// Tell the commands and their options.
     Help,

@@ -3,14 +3,14 @@
 ghost use Rattle.std.specs.Prelude.{◌≡◌, map, string_bytes, true, IfOk};
 ghost use Rattle.clap.specs.Words.{app_of};
 ghost use Rattle.clap.specs.Faults.{is_simple_and_free};
-ghost use Rattle.trc_words.specs.Commands.{run_command, build_command, elf_command, exec_command, traces_command, bulk_command, audit_command, mean_command, both_command, batch_command, help_command};
+ghost use Rattle.trc_words.specs.Commands.{run_command, build_command, elf_command, exec_command, traces_command, bulk_command, audit_command, object_command, link_command, mean_command, both_command, batch_command, check_command, explain_command, help_command};
 ghost use Rattle.trc_words.specs.Taking.{IsTakenBy};
 
 use crate::arguments::{
-    with_argument, with_choice, with_files, with_option, with_run, with_traces,
+    with_argument, with_choice, with_files, with_names, with_option, with_run, with_traces,
 };
 use crate::asked::{WordsFault, fault};
-use clap::{ArgMatches, Command};
+use clap::{Arg, ArgMatches, Command};
 use std::alloc::{AllocError, Global};
 
 /// What a command makes of words, of which the first is its name.
@@ -88,6 +88,23 @@ fn audit_command<'a>(alloc: Global) -> Result<Command<'a>, AllocError>
     with_option(alloc, command, "regs")
 }
 
+/// `object OUT FILE {FILE}`, with the options of compiling
+fn object_command<'a>(alloc: Global) -> Result<Command<'a>, AllocError>
+    ensures { IfOk result (λ command. app_of command ≡ object_command) }
+{
+    let command = with_argument(alloc, Command::new(alloc, "object"), "OUT")?;
+    let command = with_files(alloc, command)?;
+    with_choice(alloc, command)
+}
+
+/// `link OUT OBJECT {OBJECT}`
+fn link_command<'a>(alloc: Global) -> Result<Command<'a>, AllocError>
+    ensures { IfOk result (λ command. app_of command ≡ link_command) }
+{
+    let command = with_argument(alloc, Command::new(alloc, "link"), "OUT")?;
+    with_names(alloc, command, "OBJECT")
+}
+
 /// `mean FILE {FILE} [--turns N]`
 fn mean_command<'a>(alloc: Global) -> Result<Command<'a>, AllocError>
     ensures { IfOk result (λ command. app_of command ≡ mean_command) }
@@ -111,6 +128,22 @@ fn batch_command<'a>(alloc: Global) -> Result<Command<'a>, AllocError>
 {
     let command = with_argument(alloc, Command::new(alloc, "batch"), "LIST")?;
     with_run(alloc, command)
+}
+
+/// `check FILE {FILE} [--format NAME]`
+fn check_command<'a>(alloc: Global) -> Result<Command<'a>, AllocError>
+    ensures { IfOk result (λ command. app_of command ≡ check_command) }
+{
+    let command = with_files(alloc, Command::new(alloc, "check"))?;
+    with_option(alloc, command, "format")
+}
+
+/// `explain [TOPIC]`
+fn explain_command<'a>(alloc: Global) -> Result<Command<'a>, AllocError>
+    ensures { IfOk result (λ command. app_of command ≡ explain_command) }
+{
+    let topic = Arg::new(alloc, "TOPIC");
+    Ok(Command::new(alloc, "explain").arg(topic)?)
 }
 
 /// What `run` makes of words.
@@ -169,6 +202,22 @@ pub(crate) fn audit<'a>(alloc: Global, words: &'a [String]) -> Result<ArgMatches
     matches(command, words)
 }
 
+/// What `object` makes of words.
+pub(crate) fn object<'a>(alloc: Global, words: &'a [String]) -> Result<ArgMatches<'a>, WordsFault>
+    ensures { IsTakenBy object_command (map string_bytes words.entry.now) result }
+{
+    let command = object_command(alloc)?;
+    matches(command, words)
+}
+
+/// What `link` makes of words.
+pub(crate) fn link<'a>(alloc: Global, words: &'a [String]) -> Result<ArgMatches<'a>, WordsFault>
+    ensures { IsTakenBy link_command (map string_bytes words.entry.now) result }
+{
+    let command = link_command(alloc)?;
+    matches(command, words)
+}
+
 /// What `mean` makes of words.
 pub(crate) fn mean<'a>(alloc: Global, words: &'a [String]) -> Result<ArgMatches<'a>, WordsFault>
     ensures { IsTakenBy mean_command (map string_bytes words.entry.now) result }
@@ -190,6 +239,22 @@ pub(crate) fn batch<'a>(alloc: Global, words: &'a [String]) -> Result<ArgMatches
     ensures { IsTakenBy batch_command (map string_bytes words.entry.now) result }
 {
     let command = batch_command(alloc)?;
+    matches(command, words)
+}
+
+/// What `check` makes of words.
+pub(crate) fn check<'a>(alloc: Global, words: &'a [String]) -> Result<ArgMatches<'a>, WordsFault>
+    ensures { IsTakenBy check_command (map string_bytes words.entry.now) result }
+{
+    let command = check_command(alloc)?;
+    matches(command, words)
+}
+
+/// What `explain` makes of words.
+pub(crate) fn explain<'a>(alloc: Global, words: &'a [String]) -> Result<ArgMatches<'a>, WordsFault>
+    ensures { IsTakenBy explain_command (map string_bytes words.entry.now) result }
+{
+    let command = explain_command(alloc)?;
     matches(command, words)
 }
 

@@ -15,4 +15,5 @@ mod reading;
 
 pub use alloc_choice::{Builder, Choice, Policy};
 pub use asked::{Request, WordsFault};
+pub use explanations::{Format, Topic};
 pub use reading::read_words;

@@ -2,13 +2,14 @@
 
 ghost use Rattle.std.specs.Prelude.{◌≡◌, option_map};
 ghost use Rattle.clap.specs.Words.{all_of, first_of, found_of, rows_of};
-ghost use Rattle.trc_words.specs.Asked.{files_in};
+ghost use Rattle.trc_words.specs.Asked.{names_in};
 ghost use Rattle.trc_words.specs.Requests.{texts};
-ghost use Rattle.trc_words.specs.Options.{named_in, policies, builders, policy_in, traces_in, regs_in, jobs_in, steps_in, turns_in, traces_choice_in, choice_in};
+ghost use Rattle.trc_words.specs.Options.{named_in, policies, builders, policy_in, traces_in, regs_in, jobs_in, steps_in, turns_in, traces_choice_in, choice_in, formats, format_in, paged, topic_named, topic_in};
 
 use crate::numbers::number_between;
 use alloc_choice::{Builder, Choice, Policy};
 use clap::ArgMatches;
+use explanations::{Format, Topic, has_page};
 
 /// The value of an argument or option, by its name.
 pub(crate) fn value<'a>(matches: &ArgMatches<'a>, name: &str) -> Option<&'a str>
@@ -24,11 +25,11 @@ fn values<'m, 'a>(matches: &'m ArgMatches<'a>, name: &str) -> Option<&'m [&'a st
     matches.get_strs(name)
 }
 
-/// The names of the files, of which there is one at least.
-pub(crate) fn file_names<'m, 'a>(matches: &'m ArgMatches<'a>) -> Option<&'m [&'a str]>
-    ensures { option_map (λ names. texts names.now) result ≡ files_in (rows_of (found_of matches.now)) }
+/// The values of an argument, of which there is one at least.
+pub(crate) fn some_values<'m, 'a>(matches: &'m ArgMatches<'a>, name: &str) -> Option<&'m [&'a str]>
+    ensures { option_map (λ names. texts names.now) result ≡ names_in name.now (rows_of (found_of matches.now)) }
 {
-    let names = values(matches, "FILE")?;
+    let names = values(matches, name)?;
     if names.is_empty() { None } else { Some(names) }
 }
 
@@ -144,4 +145,56 @@ pub(crate) fn choice(matches: &ArgMatches<'_>) -> Option<Choice>
         regs,
         jobs,
     })
+}
+
+/// The format of this name.
+fn format_named(name: &str) -> Option<Format>
+    ensures { result ≡ named_in formats name.now }
+{
+    match name {
+        "text" => Some(Format::Text),
+        "json" => Some(Format::Json),
+        _ => None,
+    }
+}
+
+/// How `check` tells that a rule is broken: by a line for people where the words don't say.
+pub(crate) fn format(matches: &ArgMatches<'_>) -> Option<Format>
+    ensures { result ≡ format_in (rows_of (found_of matches.now)) }
+{
+    match value(matches, "format") {
+        Some(name) => format_named(name),
+        None => Some(Format::Text),
+    }
+}
+
+/// A number, where it has a page.
+fn paged(number: u8) -> Option<Topic>
+    ensures { result ≡ paged number }
+{
+    if has_page(number) {
+        Some(Topic::Number(number))
+    } else {
+        None
+    }
+}
+
+/// What is explained under this name.
+fn topic_named(name: &str) -> Option<Topic>
+    ensures { result ≡ topic_named name.now }
+{
+    if name == "usage" {
+        return Some(Topic::Usage);
+    }
+    paged(number_between(0, 255, name)? as u8)
+}
+
+/// What `explain` explains: which pages there are where the words don't say.
+pub(crate) fn topic(matches: &ArgMatches<'_>) -> Option<Topic>
+    ensures { result ≡ topic_in (rows_of (found_of matches.now)) }
+{
+    match value(matches, "TOPIC") {
+        Some(name) => topic_named(name),
+        None => Some(Topic::Pages),
+    }
 }

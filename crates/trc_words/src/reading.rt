@@ -1,8 +1,8 @@
 //! From words to what they ask for.
 
 ghost use Rattle.std.specs.Prelude.{map, option_map, string_bytes, IfOk, ◌≡◌};
-ghost use Rattle.trc_words.specs.Asked.{asked, asked_of, files_in, notes_in, other_than, seed_in, size_in, taken, run_asked, build_asked, elf_asked, exec_asked, traces_asked, bulk_asked, audit_asked, mean_asked, both_asked, batch_asked, help_asked};
-ghost use Rattle.trc_words.specs.Commands.{run_command, build_command, elf_command, exec_command, traces_command, bulk_command, audit_command, mean_command, both_command, batch_command, help_command};
+ghost use Rattle.trc_words.specs.Asked.{asked, asked_of, files_in, names_in, notes_in, other_than, seed_in, size_in, taken, run_asked, build_asked, elf_asked, exec_asked, traces_asked, bulk_asked, audit_asked, object_asked, link_asked, mean_asked, both_asked, batch_asked, check_asked, explain_asked, help_asked};
+ghost use Rattle.trc_words.specs.Commands.{run_command, build_command, elf_command, exec_command, traces_command, bulk_command, audit_command, object_command, link_command, mean_command, both_command, batch_command, check_command, explain_command, help_command};
 ghost use Rattle.trc_words.specs.Fitting.{Fits};
 ghost use Rattle.trc_words.specs.Requests.{Asks, Shows, plain, text, texts};
 ghost use Rattle.clap.specs.Words.{found_of, rows_of};
@@ -11,19 +11,30 @@ use crate::asked::{Request, WordsFault};
 use crate::commands;
 use crate::numbers::number_between;
 use crate::options::{
-    choice, file_names, regs, steps, traces as builder, traces_choice, turns, value,
+    choice, format, regs, some_values, steps, topic, traces as builder, traces_choice, turns, value,
 };
 use clap::ArgMatches;
 use std::alloc::Global;
+
+/// The names that an argument has, of which there is one at least.
+fn names<'a>(
+    alloc: Global,
+    matches: &ArgMatches<'a>,
+    name: &str,
+) -> Result<Vec<&'a str>, WordsFault>
+    ensures { Shows (λ names. texts names.items) (names_in name.now (rows_of (found_of matches.now))) result }
+{
+    let values = some_values(matches, name).ok_or(WordsFault::Usage)?;
+    let mut names = Vec::new(alloc);
+    names.extend_from_slice(values)?;
+    Ok(names)
+}
 
 /// The names of the files, of which there is one at least.
 fn files<'a>(alloc: Global, matches: &ArgMatches<'a>) -> Result<Vec<&'a str>, WordsFault>
     ensures { Shows (λ files. texts files.items) (files_in (rows_of (found_of matches.now))) result }
 {
-    let names = file_names(matches).ok_or(WordsFault::Usage)?;
-    let mut files = Vec::new(alloc);
-    files.extend_from_slice(names)?;
-    Ok(files)
+    names(alloc, matches, "FILE")
 }
 
 /// The seed of a made module.
@@ -150,6 +161,25 @@ fn audit_request<'a>(alloc: Global, matches: &ArgMatches<'a>) -> Result<Request<
     })
 }
 
+/// What the matches of `object` ask for.
+fn object_request<'a>(alloc: Global, matches: &ArgMatches<'a>) -> Result<Request<'a>, WordsFault>
+    ensures { Asks (object_asked (rows_of (found_of matches.now))) result }
+{
+    let out = value(matches, "OUT").ok_or(WordsFault::Usage)?;
+    let files = files(alloc, matches)?;
+    let choice = choice(matches).ok_or(WordsFault::Usage)?;
+    Ok(Request::Object { out, files, choice })
+}
+
+/// What the matches of `link` ask for.
+fn link_request<'a>(alloc: Global, matches: &ArgMatches<'a>) -> Result<Request<'a>, WordsFault>
+    ensures { Asks (link_asked (rows_of (found_of matches.now))) result }
+{
+    let out = value(matches, "OUT").ok_or(WordsFault::Usage)?;
+    let objects = names(alloc, matches, "OBJECT")?;
+    Ok(Request::Link { out, objects })
+}
+
 /// What the matches of `mean` ask for.
 fn mean_request<'a>(alloc: Global, matches: &ArgMatches<'a>) -> Result<Request<'a>, WordsFault>
     ensures { Asks (mean_asked (rows_of (found_of matches.now))) result }
@@ -187,6 +217,23 @@ fn batch_request<'a>(matches: &ArgMatches<'a>) -> Result<Request<'a>, WordsFault
         choice,
         steps,
     })
+}
+
+/// What the matches of `check` ask for.
+fn check_request<'a>(alloc: Global, matches: &ArgMatches<'a>) -> Result<Request<'a>, WordsFault>
+    ensures { Asks (check_asked (rows_of (found_of matches.now))) result }
+{
+    let files = files(alloc, matches)?;
+    let format = format(matches).ok_or(WordsFault::Usage)?;
+    Ok(Request::Check { files, format })
+}
+
+/// What the matches of `explain` ask for.
+fn explain_request<'a>(matches: &ArgMatches<'a>) -> Result<Request<'a>, WordsFault>
+    ensures { Asks (explain_asked (rows_of (found_of matches.now))) result }
+{
+    let topic = topic(matches).ok_or(WordsFault::Usage)?;
+    Ok(Request::Explain { topic })
 }
 
 /// What words ask for that begin with `run`.
@@ -245,6 +292,22 @@ fn audit<'a>(alloc: Global, words: &'a [String]) -> Result<Request<'a>, WordsFau
     audit_request(alloc, &matches)
 }
 
+/// What words ask for that begin with `object`.
+fn object<'a>(alloc: Global, words: &'a [String]) -> Result<Request<'a>, WordsFault>
+    ensures { Asks (taken object_command (map string_bytes words.entry.now) object_asked) result }
+{
+    let matches = commands::object(alloc, words)?;
+    object_request(alloc, &matches)
+}
+
+/// What words ask for that begin with `link`.
+fn link<'a>(alloc: Global, words: &'a [String]) -> Result<Request<'a>, WordsFault>
+    ensures { Asks (taken link_command (map string_bytes words.entry.now) link_asked) result }
+{
+    let matches = commands::link(alloc, words)?;
+    link_request(alloc, &matches)
+}
+
 /// What words ask for that begin with `mean`.
 fn mean<'a>(alloc: Global, words: &'a [String]) -> Result<Request<'a>, WordsFault>
     ensures { Asks (taken mean_command (map string_bytes words.entry.now) mean_asked) result }
@@ -269,6 +332,22 @@ fn batch<'a>(alloc: Global, words: &'a [String]) -> Result<Request<'a>, WordsFau
     batch_request(&matches)
 }
 
+/// What words ask for that begin with `check`.
+fn check<'a>(alloc: Global, words: &'a [String]) -> Result<Request<'a>, WordsFault>
+    ensures { Asks (taken check_command (map string_bytes words.entry.now) check_asked) result }
+{
+    let matches = commands::check(alloc, words)?;
+    check_request(alloc, &matches)
+}
+
+/// What words ask for that begin with `explain`.
+fn explain<'a>(alloc: Global, words: &'a [String]) -> Result<Request<'a>, WordsFault>
+    ensures { Asks (taken explain_command (map string_bytes words.entry.now) explain_asked) result }
+{
+    let matches = commands::explain(alloc, words)?;
+    explain_request(&matches)
+}
+
 /// What words ask for that begin with `help`.
 fn help<'a>(alloc: Global, words: &'a [String]) -> Result<Request<'a>, WordsFault>
     ensures { Asks (taken help_command (map string_bytes words.entry.now) help_asked) result }
@@ -289,9 +368,13 @@ fn of_command<'a>(alloc: Global, name: &str, words: &'a [String]) -> Result<Requ
         "traces" => traces(alloc, words),
         "bulk" => bulk(alloc, words),
         "audit" => audit(alloc, words),
+        "object" => object(alloc, words),
+        "link" => link(alloc, words),
         "mean" => mean(alloc, words),
         "both" => both(alloc, words),
         "batch" => batch(alloc, words),
+        "check" => check(alloc, words),
+        "explain" => explain(alloc, words),
         "help" => help(alloc, words),
         _ => Err(WordsFault::Usage),
     }

@@ -11,4 +11,4 @@ returns-in-Ok-clause-answers g c = λ builder program left input_faults fine is.
 
 pub returns-in-Err-clause-answers : goal.returns-in-Err-clause-answers
 returns-in-Err-clause-answers g c = λ builder program left input_faults fine is.
-    not_accepted (audit_of c.args.name.now builder c.args.regs) program c.args.plan c.args.outs.items c.in-Err.fault c.not_accepted.result c.not_accepted.ensures.is c.in-Err.ensures.refused _ _ left input_faults _
+    not_accepted builder c.args.regs (Accepted c.args.name.now) program c.args.plan c.args.outs.items c.in-Err.fault c.not_accepted.result c.not_accepted.ensures.is c.in-Err.ensures.refused _ _ left input_faults _

@@ -24,6 +24,12 @@ returns-in-Bulk-clause-answers g c = rw c.in-Bulk.is (c.bulk.ensures.answers _ _
 pub returns-in-Audit-clause-answers : goal.returns-in-Audit-clause-answers
 returns-in-Audit-clause-answers g c = rw (c.in-Audit.is, ← c.as_slice-in-Audit.ensures.value) (c.audit.ensures.answers _ _)
 
+pub returns-in-Object-clause-answers : goal.returns-in-Object-clause-answers
+returns-in-Object-clause-answers g c = rw (c.in-Object.is, ← c.as_slice-in-Object.ensures.value) (c.object.ensures.answers _ _ _)
+
+pub returns-in-Link-clause-answers : goal.returns-in-Link-clause-answers
+returns-in-Link-clause-answers g c = rw (c.in-Link.is, ← c.as_slice-in-Link.ensures.value) (c.link.ensures.answers _ _ _)
+
 pub returns-in-Mean-clause-answers : goal.returns-in-Mean-clause-answers
 returns-in-Mean-clause-answers g c = rw (c.in-Mean.is, ← c.as_slice-in-Mean.ensures.value) c.mean.ensures.answers
 
@@ -32,6 +38,12 @@ returns-in-Both-clause-answers g c = rw (c.in-Both.is, ← c.as_slice-in-Both.en
 
 pub returns-in-Batch-clause-answers : goal.returns-in-Batch-clause-answers
 returns-in-Batch-clause-answers g c = rw (c.in-Batch.is, c.of-in-Batch.ensures) (c.batch.ensures.answers _ _)
+
+pub returns-in-Check-clause-answers : goal.returns-in-Check-clause-answers
+returns-in-Check-clause-answers g c = rw (c.in-Check.is, ← c.as_slice-in-Check.ensures.value) (c.check.ensures.answers _ _)
+
+pub returns-in-Explain-clause-answers : goal.returns-in-Explain-clause-answers
+returns-in-Explain-clause-answers g c = rw (c.in-Explain.is, c.of-in-Explain.ensures) (c.explain.ensures.answers _ _ _ _)
 
 pub returns-in-Help-clause-answers : goal.returns-in-Help-clause-answers
 returns-in-Help-clause-answers g c = rw (c.in-Help.is, c.of-in-Help.ensures) (prints _ help_lines _ _ _ _ _ _ _ refl c.print.ensures.answers)

@@ -1,3 +1,4 @@
+use Rattle.module_check.proofs.Once.{check_once}
 use Rattle.trc_cli.proofs.Once.{once, quiet}
 use Rattle.trc_cli.proofs.laws.answers_are_verdicts.Goals as goal
 
@@ -16,6 +17,9 @@ returns-clause-once c = λ held left asked a b h k. once (record {
   noted_refusal = c.texts_have_one_refusal_with_notes.ensures;
   noted_excluded = c.noted_images_exclude_refusals.ensures;
   audit = c.audits_come_to_one.ensures;
+  object = c.objects_come_to_one.ensures;
+  link = c.links_come_to_one.ensures;
+  check = check_once c.texts_have_one_first_fault.ensures.fault c.texts_have_one_first_fault.ensures.apart;
   meaning = c.meanings_come_to_one.ensures;
   comparison = c.comparisons_come_to_one.ensures;
 }) held left a b asked h k

@@ -1,0 +1,50 @@
+//! An example is tried.
+
+use crate::examples::put_example;
+use crate::templates::written_out;
+use explanations::Entry;
+use std::alloc::AllocGlobal;
+use std::sync::Wait;
+use std::test::Fail;
+use std::thread::Threads;
+use trc_base::{MemFiles, MemSource};
+use trc_calls::call;
+
+/// What stands before a call in a page.
+const CALL: &str = "$ trc ";
+
+/// The most bytes that an example writes.
+const ROOM: usize = 65_536;
+
+/// Makes the call of these words over these files, and gives the line that is told.
+fn line_of<R: Threads + Wait + AllocGlobal + Sync>(
+    rt: &R,
+    words: &str,
+    files: &mut MemFiles,
+) -> Result<Vec<u8>, Fail> {
+    let text = written_out(rt.alloc(), words)?;
+    let words = text.as_str().split(' ').filter(|word| !word.is_empty());
+    let words: Vec<&str> = words.collect(rt.alloc())?;
+    let mut input = MemSource::new(Vec::new(rt.alloc()), 64, Vec::new(rt.alloc()));
+    let none = Vec::new(rt.alloc());
+    let seen = call(rt, words.as_slice(), files, &mut input, ROOM, none)?;
+    Ok(seen.err)
+}
+
+/// Whether a page's example gives what the page says, and the mended one nothing.
+pub(crate) fn is_true<R: Threads + Wait + AllocGlobal + Sync>(
+    rt: &R,
+    entry: &Entry,
+) -> Result<bool, Fail> {
+    let (first, told) = entry.session.split_once('\n').unwrap_or(("", ""));
+    let words = first.strip_prefix(CALL).unwrap_or("");
+    let mut files = MemFiles::new(rt.alloc(), Vec::new(rt.alloc()));
+    put_example(rt.alloc(), &mut files, entry.example)?;
+    let line = line_of(rt, words, &mut files)?;
+    if line.as_slice().strip_suffix(b"\n") != Some(told.as_bytes()) {
+        return Ok(false);
+    }
+    put_example(rt.alloc(), &mut files, entry.mended)?;
+    let again = entry.mended.strip_prefix(CALL).unwrap_or(words);
+    Ok(line_of(rt, again, &mut files)?.is_empty())
+}

@@ -1,0 +1,3 @@
+mod Fitting
+mod Telling
+pub mod Once

@@ -1,0 +1,11 @@
+use Rattle.std.proofs.Common.{map, string_bytes}
+use Rattle.trc_words.specs.Asked.{explain_asked}
+use Rattle.trc_words.specs.Commands.{explain_command}
+use Rattle.trc_words.proofs.Matching.{asks_refused, asks_taken}
+use Rattle.trc_words.proofs.reading.explain.Goals as goal
+
+pub returns : goal.returns
+returns c = asks_taken explain_command (map string_bytes c.args.words.now) c.in_ok-matches.matches explain_asked c.explain_request.result c.in_ok-matches.ensures c.explain_request.ensures
+
+pub returns-in_err-matches : goal.returns-in_err-matches
+returns-in_err-matches c = asks_refused explain_command (map string_bytes c.args.words.now) explain_asked c.in_err-matches.field-0.0 c.from_residual.result c.in_err-matches.ensures c.from_residual.ensures.1
