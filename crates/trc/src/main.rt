@@ -1,13 +1,22 @@
 //! The program: it hands the host's files and streams to the command of its words, and ends with the status.
 #![tactic(auto)]
 
-use std::alloc::Global;
+mod stack;
+
+use std::alloc::{AllocGlobal, Global};
 use std::process::ExitCode;
-use trc_base::{HostFiles, HostSink, HostSource};
+use std::rt::Env;
+use std::sync::Wait;
+use std::thread;
+use std::thread::{Builder, Threads};
+use trc_base::{Files, HostFiles, HostSink, HostSource, Sink, Source};
 use trc_cli::run_program;
 
 /// The size of the block by which the C library's allocator learns to keep memory: more than one list of a compilation takes.
 const KEPT: usize = 16 << 20;
+
+/// The stack, in bytes, of the thread that does the work where the process's own is short.
+const STACK: usize = 8 << 20;
 
 fn main(rt: HostRuntime) -> ExitCode {
     keep_memory(rt.alloc());
@@ -15,7 +24,17 @@ fn main(rt: HostRuntime) -> ExitCode {
     let mut input = HostSource::new(&rt);
     let mut out = HostSink::new(&rt, false);
     let mut err = HostSink::new(&rt, true);
-    let status = run_program(&rt, &mut files, &mut input, &mut out, &mut err);
+    let told = if stack::is_short(&rt) {
+        let (files, input) = (HostFiles::new(&rt), HostSource::new(&rt));
+        let (out, err) = (HostSink::new(&rt, false), HostSink::new(&rt, true));
+        run_in_thread(&rt, files, input, out, err)
+    } else {
+        None
+    };
+    let status = match told {
+        Some(status) => status,
+        None => run(&rt, &mut files, &mut input, &mut out, &mut err),
+    };
     ExitCode::from(status)
 }
 
@@ -26,4 +45,36 @@ fn keep_memory(alloc: Global) {
     if let Ok(block) = Vec::<u8>::with_capacity(alloc, KEPT) {
         drop(block);
     }
+}
+
+/// Runs the command of the program's words, in a frame of its own, which `main` needn't have beside it.
+#[inline(never)]
+fn run<R: Threads + Wait + Env + AllocGlobal + Sync, F: Files, I: Source, O: Sink, E: Sink>(
+    rt: &R,
+    files: &mut F,
+    input: &mut I,
+    out: &mut O,
+    err: &mut E,
+) -> u8 {
+    run_program(rt, files, input, out, err)
+}
+
+/// As `run`, in a thread that has much stack; none, and nothing is done, where no such thread can be made.
+#[inline(never)]
+fn run_in_thread<
+    R: Threads + Wait + Env + AllocGlobal + Sync,
+    F: Files + Send + Drop,
+    I: Source + Send + Drop,
+    O: Sink + Send + Drop,
+    E: Sink + Send + Drop,
+>(rt: &R, mut files: F, mut input: I, mut out: O, mut err: E) -> Option<u8> {
+    thread::scope(thread::scope_env(), rt, move |scope| -> Option<u8> {
+        let worker = Builder::new().stack_size(STACK);
+        let handle = worker
+            .spawn_scoped(scope, move || -> u8 {
+                run(rt, &mut files, &mut input, &mut out, &mut err)
+            })
+            .ok()?;
+        Some(handle.join(rt))
+    })
 }
