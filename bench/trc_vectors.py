@@ -5,7 +5,7 @@
 
 Writes `stdin` and `stdout` into FOLDER (that crate's, if none is given): worked programs, the modules of bench/rows with one choice
 of policy, traces and registers after another, made modules, procedures of very many values and copies of each length, commands with their options, files that aren't there, limits, each trap
-in a procedure of an imported module, images that are built anew from those of version 1, notes and their audits, batches, what modules mean with the fewest turns in which
+in a procedure of an imported module, images that are built anew from those of version 1, notes and their audits, objects and their images, batches, what modules mean with the fewest turns in which
 that is over and with one less, and the bytes of the smallest image of each version, cut off at each place and changed at each. bench/other_compiler.py says where the other compiler is; how lines are written is
 said in crates/trc_vectors.
 """
@@ -235,6 +235,61 @@ def audits():
         yield ['audit', 'O', 'N', 'L.Mod'], dict(files, N=loop[:n] + bytes([loop[n] ^ (1 if n % 8 else 3)]) + loop[n + 1:]), b''
 
 
+def object_of(words, files):
+    """The object that a call of `object` writes; none where it is refused."""
+    return bytes(trc.Run(CALLED + words, dict(files), b'').files.get(words[1], b''))
+
+
+def objects():
+    """Objects of forty lists of modules under each policy, and their images; every byte of a small one cut off or changed; others in other orders, of
+    edited modules, by other options, of modules that are refused, and words that no call takes."""
+    pieces = [texts for name in row_files() if not os.path.dirname(name) for _, texts in pieces_of(name)]
+    several = [texts for texts in pieces if len(texts) > 1]
+    found = 0
+    for sources, (policy, traces, regs) in zip(itertools.chain(several, pieces[1::2]), itertools.cycle(CHOICES[::-1])):
+        names = ['M%d.Mod' % i for i in range(len(sources))]
+        files, options = dict(zip(names, sources)), ['--policy', policy, '--traces', traces, '--regs', regs]
+        calls = [['object', 'O%d' % i, *names[:i + 1], *options] for i in range(len(sources))]
+        made = {call[1]: object_of(call, files) for call in calls}
+        if found < 40 and all(made.values()) and sum(map(len, made.values())) < 8000:
+            found += 1
+            for call in calls:
+                yield call, files, b''
+            yield ['link', 'A', *made], made, b''
+            yield ['build', 'A', *names, *options], files, b''
+    files = {'A.Mod': b'MODULE A; PROCEDURE Twice*(x: INTEGER): INTEGER; BEGIN RETURN 2*x END Twice; END A.',
+             'B.Mod': b'MODULE B; IMPORT A, Out; BEGIN Out.Int(A.Twice(21), 0); Out.Ln END B.',
+             'C.Mod': b'MODULE C; IMPORT Out; BEGIN Out.Int(1, 0) END C.', 'E.Mod': b'MODULE E; END E.', 'F.Mod': b'MODULE F; BEGIN x END F.'}
+
+    def given(words):
+        return object_of(words.split(' '), files)
+    first, second, third = given('object O A.Mod'), given('object O A.Mod B.Mod'), given('object O A.Mod C.Mod')
+    edited = second.replace(b'A.Twice(21)', b'A.Twice(22)')
+    longer = given('object O A.Mod').replace(b'2*x', b'x+x')
+    whole = dict(files, a=first, b=second, c=third, a8=given('object O A.Mod --regs 8'), b8=given('object O A.Mod B.Mod --regs 8'),
+                 bu=given('object O A.Mod B.Mod --traces uni'), bp=given('object O A.Mod B.Mod --policy plain'), alone=given('object O C.Mod'),
+                 e=given('object O E.Mod'), edited=edited, longer=longer, None_=b'', More=first + b'\0', Image=built_of(['build', 'A', 'E.Mod'], files),
+                 N=notes_of(['build', 'O', 'A.Mod', '--notes', 'N'], files))
+    for words in ('object O A.Mod', 'object O A.Mod B.Mod', 'object O E.Mod', 'object O B.Mod', 'object O B.Mod A.Mod', 'object O F.Mod', 'object O A.Mod F.Mod', 'object O F.Mod A.Mod',
+                  'object O Away.Mod', 'object O A.Mod Away.Mod', 'object O A.Mod A.Mod', 'object A.Mod A.Mod', 'object O', 'object', 'object O A.Mod --from e', 'object O A.Mod --notes N',
+                  'object O A.Mod --steps 3', 'object O A.Mod --policy', 'object O A.Mod --jobs 64', 'object O A.Mod --jobs 65', 'object O A.Mod --regs 3', 'object O --regs 4 A.Mod',
+                  'object O ' + ' '.join(['A.Mod'] * 65), 'object O ' + ' '.join(['E.Mod'] * 64), 'object O A.Mod B.Mod C.Mod --policy mixed --traces uni --regs 8',
+                  'link O a b', 'link O b a', 'link O b', 'link O a', 'link O a a', 'link O a b b', 'link O a b c', 'link O a c b', 'link O a c', 'link O alone a b', 'link O a alone b', 'link O e',
+                  'link O a b8', 'link O a8 b8', 'link O a8 b', 'link O a bu', 'link O a bp', 'link O b a8', 'link O a edited', 'link O longer b', 'link O edited', 'link O a More', 'link O More',
+                  'link O None_', 'link O a None_', 'link O a None_ b8', 'link O a b8 None_', 'link O Image', 'link O N', 'link O A.Mod', 'link O a A.Mod', 'link O Gone', 'link O a Gone', 'link O Gone None_',
+                  'link O None_ Gone', 'link a a b', 'link O', 'link', 'link O a --regs 16', 'link O a --policy linear', 'link O a --jobs 1', 'link O a --from a', 'link O -- a b',
+                  'link O ' + ' '.join(['a'] * 65), 'link O ' + ' '.join(['a'] * 64), 'link O ' + ' '.join(['Gone'] * 65)):
+        words = words.split(' ')
+        yield words, {name: whole[name] for name in words[1:] if name in whole}, b''
+    small = whole['e']
+    for n in itertools.chain(range(24), range(24, len(small), 7)):
+        yield ['link', 'O', 'x'], {'x': small[:n]}, b''
+    for n in itertools.chain(range(48), range(48, len(small), 4)):
+        yield ['link', 'O', 'x'], {'x': small[:n] + bytes([small[n] ^ (0x41 if n % 3 == 0 else 1)]) + small[n + 1:]}, b''
+    for n in range(0, len(second), 7):
+        yield ['link', 'O', 'a', 'b'], {'a': first, 'b': second[:n] + bytes([second[n] ^ (1 if n % 2 else 2)]) + second[n + 1:]}, b''
+
+
 def batches():
     """Lists of jobs: worked ones, bad ones, and two with two hundred made jobs of every kind."""
     files = {'A.Mod': b'MODULE A; PROCEDURE Twice*(x: INTEGER): INTEGER; BEGIN RETURN 2*x END Twice; END A.',
@@ -404,7 +459,7 @@ def answer(words, files, given):
     call = called([] if asked == [''] else asked, files, given)
     call.out = call.out.replace(b'run|build|traces', b'run|build|elf|traces')
     told = written((call.err + '\n').encode()) if call.err else ''
-    wrote = written(call.files[words[1]]) if words[0] in ('build', 'audit') and len(words) > 1 and words[1] in call.files else ''
+    wrote = written(call.files[words[1]]) if words[0] in ('build', 'audit', 'object', 'link') and len(words) > 1 and words[1] in call.files else ''
     if words[0] == 'build' and '--notes' in words[:-1]:
         wrote += ' ' + written(call.files.get(words[words.index('--notes') + 1], b''))
     return '%d %s | %s%s\n' % (call.status, written(bytes(call.out)), told, wrote)
@@ -412,7 +467,7 @@ def answer(words, files, given):
 
 def main():
     folder = folder_of('trc_vectors')
-    calls = [call for part in (worked, modules, commands, traps, anew, audits, batches, workers, meanings, sizes, images, stored, made) for call in part()]
+    calls = [call for part in (worked, modules, commands, traps, anew, audits, objects, batches, workers, meanings, sizes, images, stored, made) for call in part()]
     with open(os.path.join(folder, 'stdin'), 'w') as out:
         out.writelines(line(*call) for call in calls)
     with open(os.path.join(folder, 'stdout'), 'w') as out:

@@ -4,7 +4,7 @@
 //! A line has the words of the call, with a blank between them; then, each behind a tab, the files, as `NAME=TEXT`, or the input,
 //! as `<TEXT`. In a text `\n` stands for a line's end, `\t` for a tab, `\\` for a backslash and `\xHH` for the byte with that
 //! number; so in what is printed, for each byte that isn't a printable character. A line behind the word `spread` stands for the one
-//! that `vector_texts::spread` makes of it. Behind a call of `build` or `audit` the bytes of the files
+//! that `vector_texts::spread` makes of it. Behind a call of `build`, `audit`, `object` or `link` the bytes of the files
 //! that it writes are printed too. The stored input are worked programs, commands with all their options, faults, limits, and the bytes of an image
 //! that are cut off and changed, one by one; what is wanted is what another compiler, written in Python from the rules alone,
 //! prints of them (`bench/trc_vectors.py` makes both where it is).
@@ -134,12 +134,13 @@ fn notes_name(words: &[String]) -> Option<&str> {
     Some(words.get(at + 1)?.as_str())
 }
 
-/// What the files have that a call of `build` or `audit` writes, with a blank between an image and notes; nothing of any other call.
+/// What the files have that a call of `build`, `audit`, `object` or `link` writes, with a blank between an image and notes; nothing of
+/// any other call.
 fn wrote(alloc: Global, words: &[String], files: &mut MemFiles) -> Result<String> {
     let [command, name, ..] = words else {
         return Ok(String::new(alloc));
     };
-    if command.as_str() != "build" && command.as_str() != "audit" {
+    if !matches!(command.as_str(), "build" | "audit" | "object" | "link") {
         return Ok(String::new(alloc));
     }
     let image = held(alloc, name.as_str(), files)?;
