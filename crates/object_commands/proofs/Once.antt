@@ -1,19 +1,13 @@
 -- Texts come to one object, and files of objects to one link.
-use Rattle.std.proofs.Common.{◌≡◌, ◌<◌, ◌⊎◌, inl, inr, ℕ, zero, suc, true, List, [], ◌∷◌, map, take, drop, Option, Some, None, Result, Ok, Err, refl, sym, ap, ap₂, ◌∙◌, subst, arith}
-use Rattle.std.specs.Prelude.{slice_get, ◌==◌, if◌then◌else◌}
+use Rattle.std.proofs.Common.{◌≡◌, ◌<◌, ◌⊎◌, inl, inr, ℕ, zero, suc, true, List, [], ◌∷◌, take, Option, Some, None, Result, Ok, Err, refl, sym, ap, ap₂, ◌∙◌, subst, arith}
+use Rattle.std.specs.Prelude.{slice_get}
 use Rattle.outside.specs.Files.{Held}
 use Rattle.ob_types.specs.WellFormed.{well_formed}
-use Rattle.ob_types.specs.declared.program.Procedure.{Procedure}
 use Rattle.ob_types.specs.declared.program.Program.{Program}
 use Rattle.lir_core.specs.declared.places.TraceOut.{TraceOut}
 use Rattle.trace_build.specs.declared.builder.Builder.{Builder}
-use Rattle.trace_build.specs.Traces.{traces_in}
-use Rattle.linked_flows.specs.Allocations.{Cut}
 use Rattle.alloc_choice.specs.declared.choice.Choice.{Choice}
-use Rattle.audited_allocations.specs.Joined.{joined}
-use Rattle.flow_allocation.specs.Allocations.{AllAllocations}
-use Rattle.compiled_runs.specs.Compiled.{flows_of}
-use Rattle.one_lowering.specs.Forms.{HaveOneLowering, place_of}
+use Rattle.one_lowering.specs.Forms.{HaveOneLowering}
 use Rattle.program_image.specs.Faults.{TellsOfTraces}
 use Rattle.source_program.specs.Texts.{IsProgramOfTexts, IsSourceFault}
 use Rattle.source_program.specs.declared.fault.SourceFault.{SourceFault}
@@ -28,11 +22,10 @@ use Rattle.object_form.specs.Reading.{object_in}
 use Rattle.object_form.specs.Faults.{numbered}
 use Rattle.object_form.proofs.Objects.{object_again, one_object}
 use Rattle.obj_link.specs.Joining.{other_choice, results_of, texts_of}
-use Rattle.module_object.specs.Objects.{AreOwnResults, IsObjectOfTexts, before_module}
-use Rattle.text_laws.proofs.one_image.Cuts.{cuts_same}
+use Rattle.module_object.specs.Objects.{IsObjectOfTexts}
+use Rattle.object_laws.proofs.One.{one_object_of_texts}
 use Rattle.text_laws.proofs.one_refusal.Passed.{early_apart}
 use Rattle.text_laws.proofs.one_refusal.Refused.{excluded}
-use Rattle.note_laws.proofs.Plans.{flows_once}
 use Rattle.trc_answers.specs.Verdict.{Verdict, Refuses, Written}
 use Rattle.trc_answers.specs.declared.causes.Cause.TheVariants as cause
 use Rattle.trc_texts.specs.Texts.{cause_of_refusal}
@@ -41,30 +34,6 @@ use Rattle.object_commands.specs.Objects.{IsStored, IsTooLong, IsShort, ObjectCo
 use Rattle.object_commands.specs.Links.{AreHeld, AreObjectsIn, ContentsComeTo, HaveObjects, IsFirstBroken, IsNoObject, BreaksRule, IsObjectIn, JoinedComeTo, HaveNoPlan, HavePlan, LinkComesTo, AreTooMany, LacksOne, HaveContents, ObjectsComeTo, HasOther, AreOfOne}
 use Rattle.object_commands.specs.Links.{HaveNoObject as HaveABrokenOne}
 use Rattle.object_commands.specs.Links.{IsTooLong as IsTooLongFor}
-
----- Results
-
--- how many places stand before the first one of a module
-abbrev before_place : ℕ → List (ℕ × ℕ) → ℕ
-before_place m [] = 0
-before_place m (x ∷ xs) = if x.0 == m then 0 else suc (before_place m xs)
-
-as_places : (m : ℕ) (ps : List Procedure) → before_module m ps ≡ before_place m (map place_of ps)
-as_places m [] = refl
-as_places m (p ∷ ps) = ap (λ n. if p.«module» == m then 0 else suc n) (as_places m ps)
-
-before_once : (m : ℕ) (p q : Program) → HaveOneLowering p q → before_module m p.procedures ≡ before_module m q.procedures
-before_once m p q one = as_places m p.procedures ∙ ap (before_place m) one.places ∙ sym (as_places m q.procedures)
-
-own_once : (choice : Choice) (m : ℕ) (p q : Program) (outs others : List TraceOut) → HaveOneLowering p q → AreOwnResults choice m p outs → AreOwnResults choice m q others → outs ≡ others
-own_once choice m p q outs others one x y =
-    let n = before_once m p q one in
-    let fs = flows_once p q one in
-    let flows : map (λ (c : Cut). c.flow) x.cuts ≡ map (λ (c : Cut). c.flow) y.cuts = x.flows_are ∙ (λ k. drop (n k) (fs k)) ∙ sym y.flows_are in
-    let first : traces_in choice.builder (take (before_module m p.procedures) (flows_of p)) ≡ traces_in choice.builder (take (before_module m q.procedures) (flows_of q)) = λ k. traces_in choice.builder (take (n k) (fs k)) in
-    let there = subst (λ f. AllAllocations choice f y.cuts) (sym first) y.each in
-    let same = cuts_same choice choice refl refl refl (traces_in choice.builder (take (before_module m p.procedures) (flows_of p))) x.cuts y.cuts flows x.each there in
-    x.is ∙ ap (λ (cs : List Cut). joined (map (λ c. c.outs) cs)) same ∙ sym y.is
 
 ---- Objects of texts
 
@@ -79,14 +48,7 @@ module _ (one_fault : (texts : List (List ℕ)) (a b : SourceFault) → IsSource
     (one_lowering : (texts : List (List ℕ)) (p q : Program) → IsProgramOfTexts texts p → IsProgramOfTexts texts q → well_formed p ≡ true → well_formed q ≡ true → HaveOneLowering p q)
     (refusal : (a b : Choice) (texts : List (List ℕ)) (r s : Refusal) → a.builder ≡ b.builder → IsRefusalOfTraces a texts r → IsRefusalOfTraces b texts s → ¬ (r ≡ Memory) → ¬ (s ≡ Memory) → r ≡ s) where
   same_object : (choice : Choice) (texts : List (List ℕ)) (o p : Object) → IsObjectOfTexts choice texts o → IsObjectOfTexts choice texts p → o ≡ p
-  same_object choice texts o p x y =
-      let one = one_lowering texts x.program y.program x.of_texts y.of_texts x.well_formed y.well_formed in
-      let outs = own_once choice _ x.program y.program o.outs p.outs one x.is.results y.is.results in
-      let policy = x.is.policy ∙ sym y.is.policy in
-      let builder = x.is.builder ∙ sym y.is.builder in
-      let regs = x.is.regs ∙ sym y.is.regs in
-      let text = x.is.source ∙ sym y.is.source in
-      λ k. record { policy = policy k; builder = builder k; regs = regs k; source = text k; outs = outs k }
+  same_object choice texts o p x y = one_object_of_texts choice choice refl refl refl one_lowering texts o p x y
 
   -- texts with an object are refused for want of memory alone
   object_excludes : (choice : Choice) (texts : List (List ℕ)) (o : Object) (r : Refusal) → IsObjectOfTexts choice texts o → IsRefusalOfTraces choice texts r → r ≡ Memory

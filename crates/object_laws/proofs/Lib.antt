@@ -3,5 +3,5 @@ mod Alike
 mod Behind
 mod Modules
 mod Whole
-mod One
+pub mod One
 mod Linked

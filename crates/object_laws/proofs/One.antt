@@ -42,9 +42,9 @@ module _ (a b : Choice) (policy : a.policy ≡ b.policy) (builder : a.builder �
       let same = cuts_same a b policy builder regs (traces_in a.builder (take (before_module m p.procedures) (flows_of p))) x.cuts y.cuts same_flows x.each there in
       x.is ∙ ap (λ cs. joined (results cs)) same ∙ sym y.is
 
-  pub one_object : ((texts : List (List ℕ)) (p q : Program) → IsProgramOfTexts texts p → IsProgramOfTexts texts q → well_formed p ≡ true → well_formed q ≡ true → HaveOneLowering p q)
+  pub one_object_of_texts : ((texts : List (List ℕ)) (p q : Program) → IsProgramOfTexts texts p → IsProgramOfTexts texts q → well_formed p ≡ true → well_formed q ≡ true → HaveOneLowering p q)
       → (texts : List (List ℕ)) (o u : Object) → IsObjectOfTexts a texts o → IsObjectOfTexts b texts u → o ≡ u
-  one_object one_lowering texts o u x y =
+  one_object_of_texts one_lowering texts o u x y =
       let one = one_lowering texts x.program y.program x.of_texts y.of_texts x.well_formed y.well_formed in
       let outs = own_once _ x.program y.program o.outs u.outs one x.is.results y.is.results in
       let same_policy = x.is.policy ∙ (policy ∙ sym y.is.policy) in
