@@ -16,7 +16,7 @@ rules = (10, codes "BadByte") ∷ (11, codes "OpenComment") ∷ (12, codes "Open
 abbrev pub limits : List (ℕ × List ℕ)
 limits = (50, codes "Values") ∷ (51, codes "Blocks") ∷ (52, codes "Procedures") ∷ (53, codes "Globals") ∷ (54, codes "Code")
     ∷ (55, codes "Source") ∷ (56, codes "Modules") ∷ (57, codes "Traces") ∷ (58, codes "Constants") ∷ (59, codes "Locals")
-    ∷ (67, codes "Notes") ∷ (68, codes "Object") ∷ (69, codes "Jobs") ∷ (70, codes "JobBytes") ∷ []
+    ∷ (67, codes "Notes") ∷ (68, codes "Object") ∷ (69, codes "Jobs") ∷ (70, codes "JobBytes") ∷ (71, codes "Page") ∷ []
 
 abbrev pub name_of_rule : ℕ → List ℕ
 name_of_rule number = name_behind rules number

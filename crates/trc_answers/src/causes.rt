@@ -32,7 +32,7 @@ pub enum Cause {
     ReadFault { device: Device },
     /// A rule of the language is broken: its number, 10 to 42, the module by its place among the files, from 0, and the byte.
     Source { number: u8, module: u32, at: u32 },
-    /// A limit is passed: its number, 50 to 59 or 67 to 70, and the module's or the procedure's where it is one of these, else 0.
+    /// A limit is passed: its number, 50 to 59 or 67 to 71, and the module's or the procedure's where it is one of these, else 0.
     Limit { number: u8, index: u32 },
     /// The line of a batch's list with this number, counted from 1, is the first that isn't of a line's form.
     BadLine { line: u32 },

@@ -51,6 +51,7 @@ pub fn limit_name(number: u8) -> &'static [u8]
         68 => b"Object",
         69 => b"Jobs",
         70 => b"JobBytes",
+        71 => b"Page",
         _ => b"",
     }
 }
