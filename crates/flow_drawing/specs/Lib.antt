@@ -1,0 +1,7 @@
+pub mod Order
+pub mod Layout
+pub mod Boxes
+pub mod Standings
+pub mod Paths
+pub mod Texts
+pub mod Drawings
