@@ -4,7 +4,6 @@
 //! objdump prints it; no word of `a64-undefined.txt` may be read. Each line that disagrees is printed.
 #![tactic(auto)]
 
-mod assembly;
 mod vectors;
 
 use crate::vectors::Kind;

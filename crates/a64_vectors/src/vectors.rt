@@ -1,7 +1,7 @@
 //! Files of words, one word a line.
 
-use crate::assembly::Assembly;
 use a64_table::{decode, encode};
+use a64_text::put_word;
 use std::alloc::{AllocError, Global};
 use std::io;
 
@@ -63,11 +63,12 @@ fn first_column(rest: &str) -> &str {
     }
 }
 
-/// Whether the word is read as an instruction, is that instruction's word, and the instruction prints as the text.
+/// Whether the word is read as an instruction, is that instruction's word, and prints as the text.
 fn is_encoding(alloc: Global, word: u32, text: &str) -> Result<bool, AllocError> {
     let Some(instr) = decode(word) else {
         return Ok(false);
     };
-    let printed = format!(in alloc; "{}", Assembly(instr))?;
-    Ok(encode(&instr) == word && printed.as_str() == text)
+    let mut printed = Vec::new(alloc);
+    put_word(alloc, &mut printed, word)?;
+    Ok(encode(&instr) == word && printed.as_slice() == text.as_bytes())
 }
