@@ -1,0 +1,3 @@
+pub mod Sources
+pub mod Order
+pub mod Excerpts

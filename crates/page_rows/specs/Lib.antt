@@ -1,0 +1,4 @@
+pub mod Traffic
+pub mod Headings
+pub mod Rows
+pub mod Sections

@@ -1,0 +1,9 @@
+pub mod Views
+pub mod Frames
+pub mod Choices
+pub mod Rows
+pub mod Summaries
+pub mod Orders
+pub mod Tables
+pub mod Sections
+pub mod Pages
