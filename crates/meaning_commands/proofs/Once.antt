@@ -61,7 +61,7 @@ not_both : (b : Bool) → b ≡ true → b ≡ false → ⊥
 not_both b e f = cc
 
 -- on the same input the same is wanted, where what follows is one
-input_once : (left : List ℕ) (wanted : Bool) (next : List ℕ → Verdict → Type 0) → ((input : List ℕ) (a b : Verdict) → next input a → next input b → a ≡ b)
+pub input_once : (left : List ℕ) (wanted : Bool) (next : List ℕ → Verdict → Type 0) → ((input : List ℕ) (a b : Verdict) → next input a → next input b → a ≡ b)
     → (a b : Verdict) → InputComesTo (Some left) wanted next a → InputComesTo (Some left) wanted next b → a ≡ b
 input_once left wanted next one a b (WantsNone w e) (WantsNone v f) = one [] a b e f
 input_once left wanted next one a b (WantsNone w e) (HasInput input v is are few f) = absurd (not_both wanted v w)

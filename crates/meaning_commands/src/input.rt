@@ -18,11 +18,7 @@ fn are_bytes(bytes: &[u8])
 {}
 
 /// The whole input where it is wanted, and else nothing, with the input left alone.
-pub(crate) fn read_input<I: Source>(
-    alloc: Global,
-    wanted: bool,
-    input: &mut I,
-) -> Result<Vec<u8>, Cause>
+pub fn read_input<I: Source>(alloc: Global, wanted: bool, input: &mut I) -> Result<Vec<u8>, Cause>
     ensures given { IfOk result (λ bytes. IsGiven wanted (input_told (I.left input.old) (I.faults input.old))
         (input_told (I.left input.new) (I.faults input.new)) bytes.items) }
     ensures fault { IfErr result (IsNotGiven wanted (input_told (I.left input.old) (I.faults input.old)) (input_told (I.left input.new) (I.faults input.new))) }

@@ -14,5 +14,7 @@ mod meaning;
 mod programs;
 
 pub use comparing::both;
+pub use input::read_input;
 pub use laws::{both_agree, comparisons_come_to_one, meanings_come_to_one};
 pub use meaning::mean;
+pub use programs::program_of;

@@ -16,7 +16,7 @@ use trc_answers::Ending;
 use trc_texts::refused;
 
 /// The program that texts are.
-pub(crate) fn program_of(alloc: Global, texts: &[Items<u8>]) -> Result<Program, Ending>
+pub fn program_of(alloc: Global, texts: &[Items<u8>]) -> Result<Program, Ending>
     requires { length texts.now ≤ 64 }
     ensures program { IfOk result (AreProgram texts.now) }
     ensures refused { IfErr result (λ ending. IsRefusedAs (IsNoProgram texts.now) ending.cause) }

@@ -1,0 +1,29 @@
+use Rattle.std.proofs.Common.{◌≤◌, ℕ, List, length, map, sym, subst}
+use Rattle.trc_answers.specs.Reading.{AreTextsOf}
+use Rattle.trc_answers.proofs.Texts.{few_texts, reads_texts, unread}
+use Rattle.trc_texts.proofs.Refusing.{placed_held}
+use Rattle.compare_commands.specs.Compares.{ComparesComeTo}
+use Rattle.compare_commands.proofs.comparing.compare.Goals as goal
+
+pub compare_texts-requires-clause-few : goal.compare_texts-requires-clause-few
+compare_texts-requires-clause-few g c κs within = subst (λ (ts : List (List ℕ)). length ts ≤ 64) (sym c.as_slice.ensures.value) (few_texts _ _ _ c.in-Ok.ensures.texts)
+
+pub returns-in-Ok-clause-answers : goal.returns-in-Ok-clause-answers
+returns-in-Ok-clause-answers g c =
+    let held = g.F.Files.held c.args.files.now in
+    let names = map (λ name. name.now) c.args.names.now in
+    let are = subst (AreTextsOf held names) (sym c.as_slice.ensures.value) c.in-Ok.ensures.texts in
+    reads_texts held _ names c.as_slice.result.now _ _ (λ l. ComparesComeTo l c.args.jobs c.args.steps) c.in-Ok.ensures.stays are c.in-Ok.ensures.rises _ _ _ _ _ (c.compare_texts.ensures.answers _ _)
+
+pub returns-in-Ok-clause-placed : goal.returns-in-Ok-clause-placed
+returns-in-Ok-clause-placed g c =
+    let held = g.F.Files.held c.args.files.now in
+    let names = map (λ name. name.now) c.args.names.now in
+    let are = subst (AreTextsOf held names) (sym c.as_slice.ensures.value) c.in-Ok.ensures.texts in
+    placed_held held names c.as_slice.result.now _ _ are c.compare_texts.ensures.placed
+
+pub returns-in-Err-clause-answers : goal.returns-in-Err-clause-answers
+returns-in-Err-clause-answers g c =
+    let held = g.F.Files.held c.args.files.now in
+    let names = map (λ name. name.now) c.args.names.now in
+    rw c.of.ensures (unread held _ names _ _ _ (λ l. ComparesComeTo l c.args.jobs c.args.steps) c.in-Err.ensures.stays c.in-Err.ensures.fault _ _ _)

@@ -1,0 +1,5 @@
+pub mod Choices
+pub mod Rows
+pub mod Lines
+pub mod Tables
+pub mod Compares

@@ -1,0 +1,4 @@
+pub mod Lines
+pub mod Images
+pub mod Runs
+pub mod Steps
