@@ -1,7 +1,7 @@
 -- Limits of programs and lists.
 use Rattle.std.specs.Prelude.{ℕ, Option, Some, None, map, nat_eq, if◌then◌else◌}
 use Rattle.explanations.specs.Entries.{Entry, entry_with}
-use Rattle.explanations.specs.declared.limits.TheConstants.{VALUES, BLOCKS, PROCEDURES, GLOBALS, CODE, SOURCE, MODULES, TRACES, CONSTANTS, LOCALS, NOTES, OBJECT, JOBS, JOB_BYTES}
+use Rattle.explanations.specs.declared.limits.TheConstants.{VALUES, BLOCKS, PROCEDURES, GLOBALS, CODE, SOURCE, MODULES, TRACES, CONSTANTS, LOCALS, NOTES, OBJECT, JOBS, JOB_BYTES, PAGE}
 
 -- what the page of this limit says, where there is one
 unfoldable pub limit_entry : ℕ → Option Entry
@@ -20,4 +20,5 @@ limit_entry number =
     else (if nat_eq number 68 then Some (entry_with (map (λ t. t.now) OBJECT))
     else (if nat_eq number 69 then Some (entry_with (map (λ t. t.now) JOBS))
     else (if nat_eq number 70 then Some (entry_with (map (λ t. t.now) JOB_BYTES))
-    else None)))))))))))))
+    else (if nat_eq number 71 then Some (entry_with (map (λ t. t.now) PAGE))
+    else None))))))))))))))

@@ -30,7 +30,7 @@ pub enum Kind {
 }
 
 /// The kinds and numbers of all pages, in the order in which they are listed.
-pub const PAGES: [(Kind, u8); 63] = [
+pub const PAGES: [(Kind, u8); 64] = [
     (Kind::Fault, 10),
     (Kind::Fault, 11),
     (Kind::Fault, 12),
@@ -65,6 +65,7 @@ pub const PAGES: [(Kind, u8); 63] = [
     (Kind::Limit, 68),
     (Kind::Limit, 69),
     (Kind::Limit, 70),
+    (Kind::Limit, 71),
     (Kind::Trap, 1),
     (Kind::Trap, 2),
     (Kind::Trap, 3),

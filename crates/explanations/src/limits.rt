@@ -132,6 +132,15 @@ const JOB_BYTES: Texts = [
     "list:\n    @63[0 M.Mod\n    ]0 M.Mod",
 ];
 
+const PAGE: Texts = [
+    "Page",
+    "the page of show would have over 67,108,864 bytes",
+    "It has a row for each line of code and in it a cell for each register. Below, @N[ ] stands for what\nit holds, N times, with the number of the time, from 0, for %.",
+    "M.Mod:\n    MODULE M; VAR s: INTEGER; @24[PROCEDURE P%; VAR a, b, c, d, e, f, g, h, i, j, k, l: INTEGER;\n    BEGIN a := 1; b := 2; c := 3; d := 4; e := 5; f := 6; g := 7; h := 8; i := 9; j := 10; k := 11;\n    l := 12; s := a@7900[+b]+c+d+e+f+g+h+i+j+k+l END P%; ]END M.",
+    "$ trc show page.html M.Mod\ntrc: limit 71 Page at 0",
+    "$ trc build M.img M.Mod",
+];
+
 /// What the page of this limit says, where there is one.
 #[tactic(auto, unfolding(crate::specs::Limits::limit_entry))]
 pub fn limit_entry(number: u8) -> Option<Entry>
@@ -152,6 +161,7 @@ pub fn limit_entry(number: u8) -> Option<Entry>
         68 => Some(entry_with(OBJECT)),
         69 => Some(entry_with(JOBS)),
         70 => Some(entry_with(JOB_BYTES)),
+        71 => Some(entry_with(PAGE)),
         _ => None,
     }
 }

@@ -43,6 +43,12 @@ mean FILE {FILE} [--turns N]
 both FILE {FILE} [--policy P] [--traces T] [--regs R] [--jobs J] [--steps S] [--turns N]
     tells how what the files mean ends, and how the run of their image does
     trc both Gcd.Mod
+compare FILE {FILE} [--jobs J] [--steps S]
+    compiles and runs the files by each policy, and tells in a table what each takes
+    trc compare Sorting.Mod
+show OUT FILE {FILE} [--policy P] [--traces T] [--regs R] [--against P]
+    writes a page to OUT on what the registers hold; with --against beside policy P
+    trc show matrices.html Matrices.Mod --against plain
 batch LIST [--policy P] [--traces T] [--regs R] [--jobs J] [--steps S]
     answers the jobs that the file LIST lists, in lines as 0 Answer.Mod
     trc batch batch.txt

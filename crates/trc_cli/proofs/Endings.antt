@@ -20,7 +20,7 @@ use Rattle.trc_answers.proofs.Answering.{refuses, lacks, mapped, prints}
 use Rattle.trc_cli.specs.Commands.{IsRefusedAs, TextsComeTo, HaveNoImage, HaveImage, TracesComeTo, HaveNoTraces, HaveTraces, IsTextOf, first_module, names_read, ComesTo, FaultsOnlyInExec, FilesUse, InputUse}
 use Rattle.trc_texts.proofs.Refusing.{refused}
 use Rattle.trc_cli.specs.Lines.{IsTold}
-use Rattle.trc_words.specs.Asked.{Asked, Run, Build, Elf, Exec, Traces, Bulk, Audit, Object, Link, Mean, Both, Batch, Check, Explain, Help}
+use Rattle.word_requests.specs.Asked.{Asked, Run, Build, Elf, Exec, Traces, Bulk, Audit, Object, Link, Mean, Both, Batch, Check, Explain, Compare, Show, Help}
 use Rattle.trc_cli.specs.Did.{Did}
 use Rattle.trc_cli.proofs.Sound.{faults_only_in_exec}
 
@@ -83,6 +83,8 @@ untouched (Some (Both files choice steps turns)) t = tt
 untouched (Some (Batch list choice steps)) t = tt
 untouched (Some (Check files format)) t = tt
 untouched (Some (Explain topic)) t = record { held = refl; faults = refl }
+untouched (Some (Compare files jobs steps)) t = tt
+untouched (Some (Show out files choice against)) t = tt
 untouched (Some Help) t = record { held = refl; faults = refl }
 
 unread : (request : Option Asked) (t : Devices) → InputUse request t t
@@ -101,6 +103,8 @@ unread (Some (Both files choice steps turns)) t = tt
 unread (Some (Batch list choice steps)) t = record { left = refl; faults = refl }
 unread (Some (Check files format)) t = record { left = refl; faults = refl }
 unread (Some (Explain topic)) t = record { left = refl; faults = refl }
+unread (Some (Compare files jobs steps)) t = tt
+unread (Some (Show out files choice against)) t = record { left = refl; faults = refl }
 unread (Some Help) t = record { left = refl; faults = refl }
 
 -- a command ended for a cause, which was told

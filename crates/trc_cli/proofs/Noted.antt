@@ -32,7 +32,7 @@ use Rattle.note_commands.proofs.Once.{no_rule}
 use Rattle.trc_answers.specs.declared.causes.Cause.{Cause}
 use Rattle.trc_answers.specs.Reading.{AreRead, AreTextsOf, FilesComeTo, AreTooMany, LacksOne, HasALongOne, HaveTexts, Nothing}
 use Rattle.trc_answers.specs.Verdict.{Verdict, Refuses, WritesBoth, Accepts, IsMissing, HasTooMany, HasBytes, AreTheSame, Differ, world}
-use Rattle.trc_words.specs.Asked.{Build}
+use Rattle.word_requests.specs.Asked.{Build}
 use Rattle.trc_cli.specs.Commands.{ComesTo}
 use Rattle.trc_cli.proofs.FilesOnce.{texts_there}
 use Rattle.note_commands.proofs.Once.{not_sound}

@@ -21,10 +21,12 @@ use Rattle.batch_jobs.proofs.Once.{batch_once}
 use Rattle.module_check.specs.Checks.{CheckComesTo}
 use Rattle.meaning_commands.specs.Meanings.{MeanComeTo}
 use Rattle.meaning_commands.specs.Comparisons.{BothComeTo}
+use Rattle.compare_commands.specs.Compares.{ComparesComeTo}
+use Rattle.show_commands.specs.Shows.{ShowComesTo}
 use Rattle.note_commands.specs.Noted.{NotedComeTo, NotedAnewComeTo, NotesWritten}
 use Rattle.note_commands.specs.Audits.{AuditOf, AuditComesTo, AreTooMany as AreTooManyModules, LacksNotes, LacksTexts, HasTexts, PlanComesTo, audit_of, one_behind}
 use Rattle.object_commands.specs.Objects.{ObjectComesTo}
-use Rattle.trc_words.specs.Asked.{Asked, Run, Build, Elf, Exec, Traces, Bulk, Audit, Object, Link, Mean, Both, Batch, Check, Explain, Help}
+use Rattle.word_requests.specs.Asked.{Asked, Run, Build, Elf, Exec, Traces, Bulk, Audit, Object, Link, Mean, Both, Batch, Check, Explain, Compare, Show, Help}
 use Rattle.trc_answers.specs.declared.causes.Cause.{Cause}
 use Rattle.trc_answers.specs.declared.causes.Cause.TheVariants.{Memory, NotImage, OtherImage}
 use Rattle.trc_answers.specs.declared.causes.Device.TheVariants.{Files, Input, Output}
@@ -177,6 +179,10 @@ module _ (laws : Laws) (held : Held) (left : List ℕ) (a b : Verdict) where
   once (Some (Check files format)) h k =
       files_once held files (CheckComesTo format files) a b (λ texts x y. subst (Alike a) (laws.check format files texts a b x y) (alike a)) h k
   once (Some (Explain topic)) h k = both a b _ h k
+  once (Some (Compare files jobs steps)) h k =
+      files_once held files (ComparesComeTo (Some left) jobs steps) a b (λ texts x y. subst (Alike a) (laws.compare left jobs steps texts a b x y) (alike a)) h k
+  once (Some (Show out files choice against)) h k =
+      files_once held files (ShowComesTo choice against out files) a b (λ texts x y. subst (Alike a) (laws.show choice against out files texts a b x y) (alike a)) h k
   once (Some Help) h k = both a b _ h k
 
 ---- `exec` of what `build` wrote

@@ -7,6 +7,7 @@ use Rattle.image_form.specs.declared.image.ProcPlace.{ProcPlace}
 use Rattle.run_laws.specs.Runs.{Outcome, Ended, Trapped, Going}
 use Rattle.a64_machine.specs.State.{Trap, Broke, Undefined, BadAddress, BadCall}
 use Rattle.alloc_choice.specs.declared.choice.Choice.{Choice}
+use Rattle.alloc_choice.specs.declared.choice.Policy.{Policy}
 use Rattle.program_image.specs.declared.imaging.Compiled.{Compiled}
 use Rattle.source_image.specs.Images.{IsImageOfTexts}
 use Rattle.source_image.specs.declared.refusal.Refusal.{Refusal}
@@ -25,6 +26,8 @@ use Rattle.meaning_commands.specs.Inputs.{InputComesTo, WantsNone, HasInput}
 use Rattle.meaning_commands.specs.Inputs.{HasTooMuch as HasMuchInput}
 use Rattle.meaning_commands.specs.Meanings.{cause_of_meaning, MeanComeTo, HaveNoMeaning, HaveMeaning}
 use Rattle.meaning_commands.specs.Comparisons.{BothComeTo, HaveNoneToCompare, HaveBoth}
+use Rattle.compare_commands.specs.Compares.{ComparesComeTo, HaveNoneToCompare as HaveNoTable, HaveTable}
+use Rattle.show_commands.specs.Shows.{ShowComesTo, HaveNoPage, HavePage}
 use Rattle.note_commands.specs.Noted.{NotedComeTo, HaveNoNotes, HaveNotes}
 use Rattle.note_commands.specs.Audits.{AuditOf, AuditComesTo, AreTooMany as AreTooManyModules, LacksNotes, LacksTexts, HasTexts, PlanComesTo, HaveNoPlan, HavePlan, AreTooLong, AreNoNotes, HaveResults, AreUnsound, MakeMuchCode, MakeAnImage, one_behind}
 use Rattle.object_commands.specs.Objects.{IsTooLong as IsTooLongAnObject, IsShort, ObjectComesTo, HaveNoObject, HaveObject}
@@ -35,7 +38,7 @@ use Rattle.explanations.specs.declared.format.Format.TheVariants.{Text, Json}
 use Rattle.module_check.specs.Checks.{CheckComesTo, AreLegal, AreNot, told_of}
 use Rattle.source_program.specs.declared.fault.SourceFault.{SourceFault}
 use Rattle.source_program.specs.declared.fault.SourceFault.TheVariants as source
-use Rattle.trc_words.specs.Asked.{Asked, Run, Build, Elf, Exec, Traces, Bulk, Audit, Object, Link, Mean, Both, Batch, Check, Explain, Help}
+use Rattle.word_requests.specs.Asked.{Asked, Run, Build, Elf, Exec, Traces, Bulk, Audit, Object, Link, Mean, Both, Batch, Check, Explain, Compare, Show, Help}
 use Rattle.trc_answers.specs.declared.causes.Cause.{Cause}
 use Rattle.trc_answers.specs.declared.causes.Cause.TheVariants as cause
 use Rattle.trc_answers.specs.Reading.{FilesComeTo, AreTooMany as AreTooManyFiles, LacksOne, HasALongOne, HaveTexts}
@@ -173,6 +176,14 @@ both_sound : (left : Option (List ℕ)) (choice : Choice) (steps turns : ℕ) (t
 both_sound left choice steps turns texts v (HaveNoneToCompare r) = as_sound v _ r.verdict_is (refusals r.refusal)
 both_sound left choice steps turns texts v (HaveBoth p image x is h) = input_sound left p.imports_in _ v (λ input e. as_sound v _ e tt) h
 
+compare_sound : (left : Option (List ℕ)) (jobs steps : ℕ) (texts : List (List ℕ)) (v : Verdict) → ComparesComeTo left jobs steps texts v → Sound v
+compare_sound left jobs steps texts v (HaveNoTable r) = as_sound v _ r.verdict_is (refusals r.refusal)
+compare_sound left jobs steps texts v (HaveTable p rows is within are h) = input_sound left p.imports_in _ v (λ input e. as_sound v _ e tt) h
+
+show_sound : (choice : Choice) (against : Option Policy) (out : List ℕ) (names texts : List (List ℕ)) (v : Verdict) → ShowComesTo choice against out names texts v → Sound v
+show_sound choice against out names texts v (HaveNoPage r) = as_sound v _ r.verdict_is (refusals r.refusal)
+show_sound choice against out names texts v (HavePage page is e) = as_sound v _ e tt
+
 found_sound : (format : Format) (names texts : List (List ℕ)) (fault : SourceFault) → IsNoMachineFault (cause_of (told_of format names texts fault))
 found_sound Json names texts (source.Fault m rule at) = tt
 found_sound Json names texts (source.TooLong m) = tt
@@ -209,6 +220,8 @@ comes_sound held left (Some (Both files choice steps turns)) v h = files_sound h
 comes_sound held left (Some (Batch list choice steps)) v h = batch_sound held choice steps list v h
 comes_sound held left (Some (Check files format)) v h = files_sound held files _ v (λ texts. check_sound format files texts v) h
 comes_sound held left (Some (Explain topic)) v h = as_sound v _ h tt
+comes_sound held left (Some (Compare files jobs steps)) v h = files_sound held files _ v (λ texts. compare_sound left jobs steps texts v) h
+comes_sound held left (Some (Show out files choice against)) v h = files_sound held files _ v (λ texts. show_sound choice against out files texts v) h
 comes_sound held left (Some Help) v h = as_sound v _ h tt
 
 as_cause : (asked : Option Asked) (c d : Cause) → c ≡ d → FaultsOnlyInExec asked d → FaultsOnlyInExec asked c
@@ -231,6 +244,8 @@ other_cause (Some (Both files choice steps turns)) c h = h
 other_cause (Some (Batch list choice steps)) c h = h
 other_cause (Some (Check files format)) c h = h
 other_cause (Some (Explain topic)) c h = h
+other_cause (Some (Compare files jobs steps)) c h = h
+other_cause (Some (Show out files choice against)) c h = h
 other_cause (Some Help) c h = h
 
 pub faults_only_in_exec : (asked : Option Asked) (old new : Devices) (c : Cause) → Answers (λ left. ComesTo (world old.held left) asked) old new c → FaultsOnlyInExec asked c

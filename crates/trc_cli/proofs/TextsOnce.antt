@@ -1,10 +1,11 @@
 -- Texts come to one thing, by the laws of texts.
-use Rattle.std.proofs.Common.{◌≡◌, ℕ, List, [], length, Some, refl, sym, ap, ◌∙◌, subst}
+use Rattle.std.proofs.Common.{◌≡◌, ℕ, List, [], length, Option, Some, refl, sym, ap, ◌∙◌, subst}
 use Rattle.outside.specs.Files.{Held}
 use Rattle.image_form.specs.declared.image.Image.{Image}
 use Rattle.run_laws.specs.Runs.{Outcome, Ended, Trapped, Going}
 use Rattle.a64_machine.specs.State.{Trap}
 use Rattle.alloc_choice.specs.declared.choice.Choice.{Choice}
+use Rattle.alloc_choice.specs.declared.choice.Policy.{Policy}
 use Rattle.program_image.specs.declared.imaging.Compiled.{Compiled}
 use Rattle.source_image.specs.Images.{IsImageOfTexts, AreTracesOfTexts}
 use Rattle.source_image.specs.Refusals.{IsRefusal, IsRefusalOf, IsRefusalOfTraces}
@@ -23,6 +24,8 @@ use Rattle.explanations.specs.declared.format.Format.{Format}
 use Rattle.module_check.specs.Checks.{CheckComesTo}
 use Rattle.meaning_commands.specs.Meanings.{MeanComeTo}
 use Rattle.meaning_commands.specs.Comparisons.{BothComeTo}
+use Rattle.compare_commands.specs.Compares.{ComparesComeTo}
+use Rattle.show_commands.specs.Shows.{ShowComesTo}
 use Rattle.trc_cli.specs.declared.bulk.Counts.{Counts}
 use Rattle.trc_cli.specs.Commands.{cause_of_refusal, TextsComeTo, HaveNoImage, HaveImage, TracesComeTo, HaveNoTraces, HaveTraces, counts_of, summary_of, told_of_run}
 use Rattle.trc_cli.specs.Laws.{Alike}
@@ -52,6 +55,10 @@ pub record Laws : Type 0 where
   pub meaning : (left : List ℕ) (turns : ℕ) (texts : List (List ℕ)) (a b : Verdict) → MeanComeTo (Some left) turns texts a → MeanComeTo (Some left) turns texts b → a ≡ b
   pub comparison : (left : List ℕ) (choice : Choice) (steps turns : ℕ) (texts : List (List ℕ)) (a b : Verdict)
       → BothComeTo (Some left) choice steps turns texts a → BothComeTo (Some left) choice steps turns texts b → a ≡ b
+  pub compare : (left : List ℕ) (jobs steps : ℕ) (texts : List (List ℕ)) (a b : Verdict)
+      → ComparesComeTo (Some left) jobs steps texts a → ComparesComeTo (Some left) jobs steps texts b → a ≡ b
+  pub show : (choice : Choice) (against : Option Policy) (out : List ℕ) (names texts : List (List ℕ)) (a b : Verdict)
+      → ShowComesTo choice against out names texts a → ShowComesTo choice against out names texts b → a ≡ b
   pub object : (choice : Choice) (out : List ℕ) (texts : List (List ℕ)) (a b : Verdict) → ObjectComesTo choice out texts a → ObjectComesTo choice out texts b → a ≡ b
   pub link : (held : Held) (out : List ℕ) (names : List (List ℕ)) (a b : Verdict) → LinkComesTo (Some held) out names a → LinkComesTo (Some held) out names b → a ≡ b
   pub audit : (of : AuditOf) (bytes : List ℕ) (texts : List (List ℕ)) (a b : Verdict) → PlanComesTo of bytes texts a → PlanComesTo of bytes texts b → a ≡ b

@@ -11,11 +11,13 @@ use Rattle.explanations.specs.Explained.{explanation}
 use Rattle.module_check.specs.Checks.{CheckComesTo}
 use Rattle.meaning_commands.specs.Meanings.{MeanComeTo}
 use Rattle.meaning_commands.specs.Comparisons.{BothComeTo}
+use Rattle.compare_commands.specs.Compares.{ComparesComeTo}
+use Rattle.show_commands.specs.Shows.{ShowComesTo}
 use Rattle.note_commands.specs.Audits.{AuditComesTo, audit_of}
 use Rattle.note_commands.specs.Noted.{NotedAnewComeTo, NotedComeTo, NotesWritten}
 use Rattle.object_commands.specs.Objects.{ObjectComesTo}
 use Rattle.object_commands.specs.Links.{IsTextOfObject, LinkComesTo}
-use Rattle.trc_words.specs.Asked.{Asked, Run, Build, Elf, Exec, Traces, Bulk, Audit, Object, Link, Mean, Both, Batch, Check, Explain, Help}
+use Rattle.word_requests.specs.Asked.{Asked, Run, Build, Elf, Exec, Traces, Bulk, Audit, Object, Link, Mean, Both, Batch, Check, Explain, Compare, Show, Help}
 use Rattle.trc_answers.specs.declared.causes.Cause.{Cause}
 use Rattle.trc_answers.specs.declared.causes.Cause.TheVariants as cause
 use Rattle.trc_answers.specs.Answers.{Devices, InputStays}
@@ -79,6 +81,8 @@ RequestComesTo world (Both files choice steps turns) = FilesComeTo world.held fi
 RequestComesTo world (Batch list choice steps) = BatchComesTo world.held choice steps list
 RequestComesTo world (Check files format) = FilesComeTo world.held files (CheckComesTo format files)
 RequestComesTo world (Explain topic) = λ verdict. verdict ≡ Prints (explanation topic)
+RequestComesTo world (Compare files jobs steps) = FilesComeTo world.held files (ComparesComeTo world.left jobs steps)
+RequestComesTo world (Show out files choice against) = FilesComeTo world.held files (ShowComesTo choice against out files)
 RequestComesTo world Help = λ verdict. verdict ≡ Prints help_lines
 
 -- what words come to that ask for this, or for nothing
@@ -92,6 +96,7 @@ InputUse (Some (Run files choice steps)) old new = Unit {0}
 InputUse (Some (Exec image steps)) old new = Unit {0}
 InputUse (Some (Mean files turns)) old new = Unit {0}
 InputUse (Some (Both files choice steps turns)) old new = Unit {0}
+InputUse (Some (Compare files jobs steps)) old new = Unit {0}
 InputUse other old new = InputStays old new
 
 -- the files are as they were
@@ -136,6 +141,8 @@ names_read (Some (Both files choice steps turns)) = files
 names_read (Some (Batch list choice steps)) = list ∷ []
 names_read (Some (Check files format)) = files
 names_read (Some (Explain topic)) = []
+names_read (Some (Compare files jobs steps)) = files
+names_read (Some (Show out files choice against)) = files
 names_read (Some Help) = []
 
 -- the number of the first module's name among these

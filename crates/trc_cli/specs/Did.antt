@@ -1,7 +1,8 @@
 -- What was done for words, and told.
 use Rattle.std.specs.Prelude.{◌≡◌, ℕ, List, Option}
 use Rattle.outside.specs.Sink.{Account}
-use Rattle.trc_words.specs.Asked.{Asked, asked}
+use Rattle.word_requests.specs.Asked.{Asked}
+use Rattle.trc_words.specs.Asked.{asked}
 use Rattle.trc_answers.specs.declared.causes.Outcome.{Outcome}
 use Rattle.trc_answers.specs.Causes.{status_of}
 use Rattle.trc_answers.specs.Verdict.{world}

@@ -3,7 +3,7 @@ use Rattle.std.specs.Prelude.{Option}
 use Rattle.outside.specs.Files.{Held}
 use Rattle.outside.specs.Sink.{Account}
 use Rattle.trc_answers.specs.declared.places.Position.{Position}
-use Rattle.trc_words.specs.Asked.{Asked}
+use Rattle.word_requests.specs.Asked.{Asked}
 use Rattle.trc_answers.specs.declared.causes.Cause.{Cause}
 use Rattle.trc_answers.specs.Causes.{IsPlaced, TookLine, line_of}
 use Rattle.trc_cli.specs.Commands.{IsTextOf, first_module, names_read}

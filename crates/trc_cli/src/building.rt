@@ -3,8 +3,8 @@
 ghost use Rattle.std.specs.Prelude.{◌≡◌, ◌≤◌, ℕ, List, Option, Some, None, length, map};
 ghost use Rattle.alloc_choice.specs.Choice.{IsFitChoice};
 ghost use Rattle.outside.specs.Sink.{Account};
-ghost use Rattle.trc_words.specs.Asked.{Build};
-ghost use Rattle.trc_words.specs.Requests.{text};
+ghost use Rattle.word_requests.specs.Asked.{Build};
+ghost use Rattle.option_values.specs.Values.{text};
 ghost use Rattle.trc_answers.specs.Answers.{Answers, devices};
 ghost use Rattle.trc_answers.specs.Causes.{IsPlaced};
 ghost use Rattle.trc_answers.specs.Reading.{FilesComeTo};

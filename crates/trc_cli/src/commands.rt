@@ -1,8 +1,8 @@
 //! The commands.
 
 ghost use Rattle.std.specs.Prelude.{◌≡◌, ◌≤◌, ◌∷◌, ◌++◌, Some, map, option_map, option_to_list, IfOk};
-ghost use Rattle.trc_words.specs.Fitting.{Fits};
-ghost use Rattle.trc_words.specs.Requests.{plain};
+ghost use Rattle.word_requests.specs.Fitting.{Fits};
+ghost use Rattle.word_requests.specs.Requests.{plain};
 ghost use Rattle.trc_answers.specs.Answers.{Answers, devices};
 ghost use Rattle.trc_answers.specs.Causes.{IsPlaced};
 ghost use Rattle.trc_cli.specs.Commands.{FilesUse, InputUse, IsTextOf, RequestComesTo, first_module, names_read};
@@ -14,11 +14,13 @@ use crate::explaining::explain;
 use crate::running::run;
 use crate::tracing::traces;
 use batch_jobs::batch;
+use compare_commands::compare;
 use meaning_commands::{both, mean};
 use module_check::check;
 use note_commands::audit;
 use object_commands::{link, object};
 use outside::{Files, Gate, Sink, Source};
+use show_commands::show;
 use std::alloc::{AllocError, AllocGlobal, Global};
 use std::sync::Wait;
 use std::thread::Threads;
@@ -87,6 +89,8 @@ pub(crate) fn names_of<'a>(alloc: Global, request: &Request<'a>) -> Result<Vec<&
         Request::Batch { list, .. } => Vec::from_slice(alloc, &[*list]),
         Request::Check { files, .. } => Vec::from_slice(alloc, files.as_slice()),
         Request::Explain { .. } => Ok(Vec::new(alloc)),
+        Request::Compare { files, .. } => Vec::from_slice(alloc, files.as_slice()),
+        Request::Show { files, .. } => Vec::from_slice(alloc, files.as_slice()),
         Request::Help => Ok(Vec::new(alloc)),
     }
 }
@@ -227,6 +231,17 @@ pub(crate) fn perform<
             format,
         } => check(rt.alloc(), names.as_slice(), *format, files, out),
         Request::Explain { topic } => Ending::of(explain(rt.alloc(), *topic, out)),
+        Request::Compare {
+            files: names,
+            jobs,
+            steps,
+        } => compare(rt, names.as_slice(), *jobs, *steps, files, input, out, gate),
+        Request::Show {
+            out: name,
+            files: names,
+            choice,
+            against,
+        } => show(rt, name, names.as_slice(), choice, *against, files, gate),
         Request::Help => Ending::of(print(out, HELP)),
     }
 }

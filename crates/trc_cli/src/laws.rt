@@ -3,13 +3,14 @@
 ghost use Rattle.std.specs.Prelude.{◌≡◌, ◌⊎◌, ℕ, List, Option, Some, None, slice_get};
 ghost use Rattle.outside.specs.Files.{Held};
 ghost use Rattle.alloc_choice.specs.declared.choice.Choice.{Choice};
-ghost use Rattle.trc_words.specs.Asked.{Asked, Audit, Run, Build, Exec};
+ghost use Rattle.word_requests.specs.Asked.{Asked, Audit, Run, Build, Exec};
 ghost use Rattle.trc_answers.specs.declared.causes.Cause.{Cause};
 ghost use Rattle.trc_answers.specs.Verdict.{Verdict, Accepts, Writes, WritesBoth, cause_of, world};
 ghost use Rattle.trc_answers.specs.Answers.{AllDone, Answers, Devices};
 ghost use Rattle.trc_cli.specs.Commands.{ComesTo};
 ghost use Rattle.trc_cli.specs.Laws.{Alike, NoneFailed};
 
+use compare_commands::compares_come_to_one;
 use meaning_commands::{comparisons_come_to_one, meanings_come_to_one};
 use note_commands::audits_come_to_one;
 use note_laws::{
@@ -17,6 +18,7 @@ use note_laws::{
     texts_have_one_refusal_with_notes,
 };
 use object_commands::{links_come_to_one, objects_come_to_one};
+use show_commands::shows_come_to_one;
 use text_laws::{
     images_exclude_refusals, texts_have_one_first_fault, texts_have_one_image,
     texts_have_one_refusal, texts_have_one_refusal_of_traces, texts_have_one_report,
@@ -48,6 +50,8 @@ pub fn answers_are_verdicts()
     texts_have_one_first_fault();
     meanings_come_to_one();
     comparisons_come_to_one();
+    compares_come_to_one();
+    shows_come_to_one();
 }
 
 /// `exec` of what `build` wrote is `run` of the same files, by any choice with the same policy, builder and number of registers: where

@@ -2,8 +2,8 @@
 
 ghost use Rattle.std.specs.Prelude.{◌≡◌, ◌≤◌, Some, map, string_bytes};
 ghost use Rattle.trc_words.specs.Asked.{asked};
-ghost use Rattle.trc_words.specs.Fitting.{Fits};
-ghost use Rattle.trc_words.specs.Requests.{plain};
+ghost use Rattle.word_requests.specs.Fitting.{Fits};
+ghost use Rattle.word_requests.specs.Requests.{plain};
 ghost use Rattle.trc_answers.specs.Causes.{status_of, line_of, TookLine};
 ghost use Rattle.trc_answers.specs.Verdict.{world};
 ghost use Rattle.trc_answers.specs.Answers.{Answers, devices};
@@ -120,6 +120,10 @@ pub(crate) fn call<
 ///   are sound writes the image that they make to OUT;
 /// - `mean FILE {FILE}` does what the modules mean, turn by turn;
 /// - `both FILE {FILE}` tells how what the modules mean ends, and how the run of their image ends on the same input;
+/// - `compare FILE {FILE}` compiles the modules by each policy, with both builders and with fewer registers, runs each image on the same
+///   input, and prints a table of what each takes;
+/// - `show OUT FILE {FILE}` compiles the modules, and writes a page to OUT that shows how registers are given; with `--against NAME` beside
+///   that policy;
 /// - `batch LIST` answers the jobs of the list that the file holds, each as `run` does on empty input, and prints the replies;
 /// - `check FILE {FILE}` judges the modules, and says nothing where all is well; with `--format json` a rule that is broken is told by a
 ///   line of JSON on `out`, too;

@@ -1,246 +1,25 @@
 //! From words to what they ask for.
 
-ghost use Rattle.std.specs.Prelude.{map, option_map, string_bytes, IfOk, ◌≡◌};
-ghost use Rattle.trc_words.specs.Asked.{asked, asked_of, files_in, names_in, notes_in, other_than, seed_in, size_in, taken, run_asked, build_asked, elf_asked, exec_asked, traces_asked, bulk_asked, audit_asked, object_asked, link_asked, mean_asked, both_asked, batch_asked, check_asked, explain_asked, help_asked};
-ghost use Rattle.trc_words.specs.Commands.{run_command, build_command, elf_command, exec_command, traces_command, bulk_command, audit_command, object_command, link_command, mean_command, both_command, batch_command, check_command, explain_command, help_command};
-ghost use Rattle.trc_words.specs.Fitting.{Fits};
-ghost use Rattle.trc_words.specs.Requests.{Asks, Shows, plain, text, texts};
-ghost use Rattle.clap.specs.Words.{found_of, rows_of};
+ghost use Rattle.std.specs.Prelude.{map, string_bytes, IfOk};
+ghost use Rattle.command_words.specs.Commands.{run_command, build_command, elf_command, exec_command, traces_command, bulk_command, audit_command, object_command, link_command, mean_command, both_command, batch_command, check_command, explain_command, compare_command, show_command, help_command};
+ghost use Rattle.word_requests.specs.Asked.{run_asked, build_asked, elf_asked, exec_asked, traces_asked, bulk_asked, audit_asked, object_asked, link_asked, mean_asked, both_asked, batch_asked, check_asked, explain_asked, compare_asked, show_asked, help_asked};
+ghost use Rattle.word_requests.specs.Fitting.{Fits};
+ghost use Rattle.word_requests.specs.Requests.{Asks, plain};
+ghost use Rattle.trc_words.specs.Asked.{asked, asked_of, taken};
 
-use crate::asked::{Request, WordsFault};
-use crate::commands;
-use crate::numbers::number_between;
-use crate::options::{
-    choice, format, regs, some_values, steps, topic, traces as builder, traces_choice, turns, value,
-};
-use clap::ArgMatches;
+use command_words::WordsFault;
 use std::alloc::Global;
-
-/// The names that an argument has, of which there is one at least.
-fn names<'a>(
-    alloc: Global,
-    matches: &ArgMatches<'a>,
-    name: &str,
-) -> Result<Vec<&'a str>, WordsFault>
-    ensures { Shows (λ names. texts names.items) (names_in name.now (rows_of (found_of matches.now))) result }
-{
-    let values = some_values(matches, name).ok_or(WordsFault::Usage)?;
-    let mut names = Vec::new(alloc);
-    names.extend_from_slice(values)?;
-    Ok(names)
-}
-
-/// The names of the files, of which there is one at least.
-fn files<'a>(alloc: Global, matches: &ArgMatches<'a>) -> Result<Vec<&'a str>, WordsFault>
-    ensures { Shows (λ files. texts files.items) (files_in (rows_of (found_of matches.now))) result }
-{
-    names(alloc, matches, "FILE")
-}
-
-/// The seed of a made module.
-fn seed(matches: &ArgMatches<'_>) -> Option<u64>
-    ensures { result ≡ seed_in (rows_of (found_of matches.now)) }
-{
-    number_between(0, 9_223_372_036_854_775_807, value(matches, "SEED")?)
-}
-
-/// The number of procedures of a made module.
-fn size(matches: &ArgMatches<'_>) -> Option<u32>
-    ensures { result ≡ size_in (rows_of (found_of matches.now)) }
-{
-    Some(number_between(1, 1_000, value(matches, "SIZE")?)? as u32)
-}
-
-/// What the matches of `run` ask for.
-fn run_request<'a>(alloc: Global, matches: &ArgMatches<'a>) -> Result<Request<'a>, WordsFault>
-    ensures { Asks (run_asked (rows_of (found_of matches.now))) result }
-{
-    let files = files(alloc, matches)?;
-    let choice = choice(matches).ok_or(WordsFault::Usage)?;
-    let steps = steps(matches).ok_or(WordsFault::Usage)?;
-    Ok(Request::Run {
-        files,
-        choice,
-        steps,
-    })
-}
-
-// A name that isn't this one, if there is a name.
-fn other_than<'a>(out: &str, name: Option<&'a str>) -> Option<Option<&'a str>>
-    ensures { option_map text result ≡ other_than out.now (text name.entry) }
-{
-    let Some(name) = name else {
-        return Some(None);
-    };
-    if name == out { None } else { Some(Some(name)) }
-}
-
-/// The name of the file for notes, if there is one, which is another than this.
-fn notes_name<'a>(matches: &ArgMatches<'a>, out: &str) -> Option<Option<&'a str>>
-    ensures { option_map text result ≡ notes_in out.now (rows_of (found_of matches.now)) }
-{
-    other_than(out, value(matches, "notes"))
-}
-
-/// What the matches of `build` ask for.
-fn build_request<'a>(alloc: Global, matches: &ArgMatches<'a>) -> Result<Request<'a>, WordsFault>
-    ensures { Asks (build_asked (rows_of (found_of matches.now))) result }
-{
-    let out = value(matches, "OUT").ok_or(WordsFault::Usage)?;
-    let files = files(alloc, matches)?;
-    let choice = choice(matches).ok_or(WordsFault::Usage)?;
-    let notes = notes_name(matches, out).ok_or(WordsFault::Usage)?;
-    Ok(Request::Build {
-        out,
-        files,
-        choice,
-        from: value(matches, "from"),
-        notes,
-    })
-}
-
-/// What the matches of `elf` ask for.
-fn elf_request<'a>(alloc: Global, matches: &ArgMatches<'a>) -> Result<Request<'a>, WordsFault>
-    ensures { Asks (elf_asked (rows_of (found_of matches.now))) result }
-{
-    let out = value(matches, "OUT").ok_or(WordsFault::Usage)?;
-    let files = files(alloc, matches)?;
-    let choice = choice(matches).ok_or(WordsFault::Usage)?;
-    Ok(Request::Elf { out, files, choice })
-}
-
-/// What the matches of `exec` ask for.
-fn exec_request<'a>(matches: &ArgMatches<'a>) -> Result<Request<'a>, WordsFault>
-    ensures { Asks (exec_asked (rows_of (found_of matches.now))) result }
-{
-    let image = value(matches, "IMAGE").ok_or(WordsFault::Usage)?;
-    let steps = steps(matches).ok_or(WordsFault::Usage)?;
-    Ok(Request::Exec { image, steps })
-}
-
-/// What the matches of `traces` ask for.
-fn traces_request<'a>(alloc: Global, matches: &ArgMatches<'a>) -> Result<Request<'a>, WordsFault>
-    ensures { Asks (traces_asked (rows_of (found_of matches.now))) result }
-{
-    let files = files(alloc, matches)?;
-    let choice = traces_choice(matches).ok_or(WordsFault::Usage)?;
-    Ok(Request::Traces { files, choice })
-}
-
-/// What the matches of `bulk` ask for.
-fn bulk_request<'a>(matches: &ArgMatches<'a>) -> Result<Request<'a>, WordsFault>
-    ensures { Asks (bulk_asked (rows_of (found_of matches.now))) result }
-{
-    let seed = seed(matches).ok_or(WordsFault::Usage)?;
-    let size = size(matches).ok_or(WordsFault::Usage)?;
-    let choice = choice(matches).ok_or(WordsFault::Usage)?;
-    let steps = steps(matches).ok_or(WordsFault::Usage)?;
-    Ok(Request::Bulk {
-        seed,
-        size,
-        choice,
-        steps,
-    })
-}
-
-/// What the matches of `audit` ask for.
-fn audit_request<'a>(alloc: Global, matches: &ArgMatches<'a>) -> Result<Request<'a>, WordsFault>
-    ensures { Asks (audit_asked (rows_of (found_of matches.now))) result }
-{
-    let out = value(matches, "OUT").ok_or(WordsFault::Usage)?;
-    let notes = value(matches, "NOTES").ok_or(WordsFault::Usage)?;
-    let files = files(alloc, matches)?;
-    let builder = builder(matches).ok_or(WordsFault::Usage)?;
-    let regs = regs(matches).ok_or(WordsFault::Usage)?;
-    Ok(Request::Audit {
-        out,
-        notes,
-        files,
-        builder,
-        regs,
-    })
-}
-
-/// What the matches of `object` ask for.
-fn object_request<'a>(alloc: Global, matches: &ArgMatches<'a>) -> Result<Request<'a>, WordsFault>
-    ensures { Asks (object_asked (rows_of (found_of matches.now))) result }
-{
-    let out = value(matches, "OUT").ok_or(WordsFault::Usage)?;
-    let files = files(alloc, matches)?;
-    let choice = choice(matches).ok_or(WordsFault::Usage)?;
-    Ok(Request::Object { out, files, choice })
-}
-
-/// What the matches of `link` ask for.
-fn link_request<'a>(alloc: Global, matches: &ArgMatches<'a>) -> Result<Request<'a>, WordsFault>
-    ensures { Asks (link_asked (rows_of (found_of matches.now))) result }
-{
-    let out = value(matches, "OUT").ok_or(WordsFault::Usage)?;
-    let objects = names(alloc, matches, "OBJECT")?;
-    Ok(Request::Link { out, objects })
-}
-
-/// What the matches of `mean` ask for.
-fn mean_request<'a>(alloc: Global, matches: &ArgMatches<'a>) -> Result<Request<'a>, WordsFault>
-    ensures { Asks (mean_asked (rows_of (found_of matches.now))) result }
-{
-    let files = files(alloc, matches)?;
-    let turns = turns(matches).ok_or(WordsFault::Usage)?;
-    Ok(Request::Mean { files, turns })
-}
-
-/// What the matches of `both` ask for.
-fn both_request<'a>(alloc: Global, matches: &ArgMatches<'a>) -> Result<Request<'a>, WordsFault>
-    ensures { Asks (both_asked (rows_of (found_of matches.now))) result }
-{
-    let files = files(alloc, matches)?;
-    let choice = choice(matches).ok_or(WordsFault::Usage)?;
-    let steps = steps(matches).ok_or(WordsFault::Usage)?;
-    let turns = turns(matches).ok_or(WordsFault::Usage)?;
-    Ok(Request::Both {
-        files,
-        choice,
-        steps,
-        turns,
-    })
-}
-
-/// What the matches of `batch` ask for.
-fn batch_request<'a>(matches: &ArgMatches<'a>) -> Result<Request<'a>, WordsFault>
-    ensures { Asks (batch_asked (rows_of (found_of matches.now))) result }
-{
-    let list = value(matches, "LIST").ok_or(WordsFault::Usage)?;
-    let choice = choice(matches).ok_or(WordsFault::Usage)?;
-    let steps = steps(matches).ok_or(WordsFault::Usage)?;
-    Ok(Request::Batch {
-        list,
-        choice,
-        steps,
-    })
-}
-
-/// What the matches of `check` ask for.
-fn check_request<'a>(alloc: Global, matches: &ArgMatches<'a>) -> Result<Request<'a>, WordsFault>
-    ensures { Asks (check_asked (rows_of (found_of matches.now))) result }
-{
-    let files = files(alloc, matches)?;
-    let format = format(matches).ok_or(WordsFault::Usage)?;
-    Ok(Request::Check { files, format })
-}
-
-/// What the matches of `explain` ask for.
-fn explain_request<'a>(matches: &ArgMatches<'a>) -> Result<Request<'a>, WordsFault>
-    ensures { Asks (explain_asked (rows_of (found_of matches.now))) result }
-{
-    let topic = topic(matches).ok_or(WordsFault::Usage)?;
-    Ok(Request::Explain { topic })
-}
+use word_requests::{
+    Request, audit_request, batch_request, both_request, build_request, bulk_request,
+    check_request, compare_request, elf_request, exec_request, explain_request, link_request,
+    mean_request, object_request, run_request, show_request, traces_request,
+};
 
 /// What words ask for that begin with `run`.
 fn run<'a>(alloc: Global, words: &'a [String]) -> Result<Request<'a>, WordsFault>
     ensures { Asks (taken run_command (map string_bytes words.entry.now) run_asked) result }
 {
-    let matches = commands::run(alloc, words)?;
+    let matches = command_words::run(alloc, words)?;
     run_request(alloc, &matches)
 }
 
@@ -248,7 +27,7 @@ fn run<'a>(alloc: Global, words: &'a [String]) -> Result<Request<'a>, WordsFault
 fn build<'a>(alloc: Global, words: &'a [String]) -> Result<Request<'a>, WordsFault>
     ensures { Asks (taken build_command (map string_bytes words.entry.now) build_asked) result }
 {
-    let matches = commands::build(alloc, words)?;
+    let matches = command_words::build(alloc, words)?;
     build_request(alloc, &matches)
 }
 
@@ -256,7 +35,7 @@ fn build<'a>(alloc: Global, words: &'a [String]) -> Result<Request<'a>, WordsFau
 fn elf<'a>(alloc: Global, words: &'a [String]) -> Result<Request<'a>, WordsFault>
     ensures { Asks (taken elf_command (map string_bytes words.entry.now) elf_asked) result }
 {
-    let matches = commands::elf(alloc, words)?;
+    let matches = command_words::elf(alloc, words)?;
     elf_request(alloc, &matches)
 }
 
@@ -264,7 +43,7 @@ fn elf<'a>(alloc: Global, words: &'a [String]) -> Result<Request<'a>, WordsFault
 fn exec<'a>(alloc: Global, words: &'a [String]) -> Result<Request<'a>, WordsFault>
     ensures { Asks (taken exec_command (map string_bytes words.entry.now) exec_asked) result }
 {
-    let matches = commands::exec(alloc, words)?;
+    let matches = command_words::exec(alloc, words)?;
     exec_request(&matches)
 }
 
@@ -272,7 +51,7 @@ fn exec<'a>(alloc: Global, words: &'a [String]) -> Result<Request<'a>, WordsFaul
 fn traces<'a>(alloc: Global, words: &'a [String]) -> Result<Request<'a>, WordsFault>
     ensures { Asks (taken traces_command (map string_bytes words.entry.now) traces_asked) result }
 {
-    let matches = commands::traces(alloc, words)?;
+    let matches = command_words::traces(alloc, words)?;
     traces_request(alloc, &matches)
 }
 
@@ -280,7 +59,7 @@ fn traces<'a>(alloc: Global, words: &'a [String]) -> Result<Request<'a>, WordsFa
 fn bulk<'a>(alloc: Global, words: &'a [String]) -> Result<Request<'a>, WordsFault>
     ensures { Asks (taken bulk_command (map string_bytes words.entry.now) bulk_asked) result }
 {
-    let matches = commands::bulk(alloc, words)?;
+    let matches = command_words::bulk(alloc, words)?;
     bulk_request(&matches)
 }
 
@@ -288,7 +67,7 @@ fn bulk<'a>(alloc: Global, words: &'a [String]) -> Result<Request<'a>, WordsFaul
 fn audit<'a>(alloc: Global, words: &'a [String]) -> Result<Request<'a>, WordsFault>
     ensures { Asks (taken audit_command (map string_bytes words.entry.now) audit_asked) result }
 {
-    let matches = commands::audit(alloc, words)?;
+    let matches = command_words::audit(alloc, words)?;
     audit_request(alloc, &matches)
 }
 
@@ -296,7 +75,7 @@ fn audit<'a>(alloc: Global, words: &'a [String]) -> Result<Request<'a>, WordsFau
 fn object<'a>(alloc: Global, words: &'a [String]) -> Result<Request<'a>, WordsFault>
     ensures { Asks (taken object_command (map string_bytes words.entry.now) object_asked) result }
 {
-    let matches = commands::object(alloc, words)?;
+    let matches = command_words::object(alloc, words)?;
     object_request(alloc, &matches)
 }
 
@@ -304,7 +83,7 @@ fn object<'a>(alloc: Global, words: &'a [String]) -> Result<Request<'a>, WordsFa
 fn link<'a>(alloc: Global, words: &'a [String]) -> Result<Request<'a>, WordsFault>
     ensures { Asks (taken link_command (map string_bytes words.entry.now) link_asked) result }
 {
-    let matches = commands::link(alloc, words)?;
+    let matches = command_words::link(alloc, words)?;
     link_request(alloc, &matches)
 }
 
@@ -312,7 +91,7 @@ fn link<'a>(alloc: Global, words: &'a [String]) -> Result<Request<'a>, WordsFaul
 fn mean<'a>(alloc: Global, words: &'a [String]) -> Result<Request<'a>, WordsFault>
     ensures { Asks (taken mean_command (map string_bytes words.entry.now) mean_asked) result }
 {
-    let matches = commands::mean(alloc, words)?;
+    let matches = command_words::mean(alloc, words)?;
     mean_request(alloc, &matches)
 }
 
@@ -320,7 +99,7 @@ fn mean<'a>(alloc: Global, words: &'a [String]) -> Result<Request<'a>, WordsFaul
 fn both<'a>(alloc: Global, words: &'a [String]) -> Result<Request<'a>, WordsFault>
     ensures { Asks (taken both_command (map string_bytes words.entry.now) both_asked) result }
 {
-    let matches = commands::both(alloc, words)?;
+    let matches = command_words::both(alloc, words)?;
     both_request(alloc, &matches)
 }
 
@@ -328,7 +107,7 @@ fn both<'a>(alloc: Global, words: &'a [String]) -> Result<Request<'a>, WordsFaul
 fn batch<'a>(alloc: Global, words: &'a [String]) -> Result<Request<'a>, WordsFault>
     ensures { Asks (taken batch_command (map string_bytes words.entry.now) batch_asked) result }
 {
-    let matches = commands::batch(alloc, words)?;
+    let matches = command_words::batch(alloc, words)?;
     batch_request(&matches)
 }
 
@@ -336,7 +115,7 @@ fn batch<'a>(alloc: Global, words: &'a [String]) -> Result<Request<'a>, WordsFau
 fn check<'a>(alloc: Global, words: &'a [String]) -> Result<Request<'a>, WordsFault>
     ensures { Asks (taken check_command (map string_bytes words.entry.now) check_asked) result }
 {
-    let matches = commands::check(alloc, words)?;
+    let matches = command_words::check(alloc, words)?;
     check_request(alloc, &matches)
 }
 
@@ -344,15 +123,31 @@ fn check<'a>(alloc: Global, words: &'a [String]) -> Result<Request<'a>, WordsFau
 fn explain<'a>(alloc: Global, words: &'a [String]) -> Result<Request<'a>, WordsFault>
     ensures { Asks (taken explain_command (map string_bytes words.entry.now) explain_asked) result }
 {
-    let matches = commands::explain(alloc, words)?;
+    let matches = command_words::explain(alloc, words)?;
     explain_request(&matches)
+}
+
+/// What words ask for that begin with `compare`.
+fn compare<'a>(alloc: Global, words: &'a [String]) -> Result<Request<'a>, WordsFault>
+    ensures { Asks (taken compare_command (map string_bytes words.entry.now) compare_asked) result }
+{
+    let matches = command_words::compare(alloc, words)?;
+    compare_request(alloc, &matches)
+}
+
+/// What words ask for that begin with `show`.
+fn show<'a>(alloc: Global, words: &'a [String]) -> Result<Request<'a>, WordsFault>
+    ensures { Asks (taken show_command (map string_bytes words.entry.now) show_asked) result }
+{
+    let matches = command_words::show(alloc, words)?;
+    show_request(alloc, &matches)
 }
 
 /// What words ask for that begin with `help`.
 fn help<'a>(alloc: Global, words: &'a [String]) -> Result<Request<'a>, WordsFault>
     ensures { Asks (taken help_command (map string_bytes words.entry.now) help_asked) result }
 {
-    let _matches = commands::help(alloc, words)?;
+    let _matches = command_words::help(alloc, words)?;
     Ok(Request::Help)
 }
 
@@ -375,6 +170,8 @@ fn of_command<'a>(alloc: Global, name: &str, words: &'a [String]) -> Result<Requ
         "batch" => batch(alloc, words),
         "check" => check(alloc, words),
         "explain" => explain(alloc, words),
+        "compare" => compare(alloc, words),
+        "show" => show(alloc, words),
         "help" => help(alloc, words),
         _ => Err(WordsFault::Usage),
     }

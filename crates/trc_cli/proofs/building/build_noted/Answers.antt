@@ -1,4 +1,4 @@
-use Rattle.std.proofs.Common.{◌≡◌, ℕ, length, map, sym, subst}
+use Rattle.std.proofs.Common.{map, sym, subst}
 use Rattle.std.proofs.lemmas.List.{length-map}
 use Rattle.trc_answers.specs.Answers.{Answers, devices}
 use Rattle.trc_answers.specs.Reading.{FilesComeTo}

@@ -45,5 +45,11 @@ returns-in-Check-clause-answers g c = rw (c.in-Check.is, ← c.as_slice-in-Check
 pub returns-in-Explain-clause-answers : goal.returns-in-Explain-clause-answers
 returns-in-Explain-clause-answers g c = rw (c.in-Explain.is, c.of-in-Explain.ensures) (c.explain.ensures.answers _ _ _ _)
 
+pub returns-in-Compare-clause-answers : goal.returns-in-Compare-clause-answers
+returns-in-Compare-clause-answers g c = rw (c.in-Compare.is, ← c.as_slice-in-Compare.ensures.value) c.compare.ensures.answers
+
+pub returns-in-Show-clause-answers : goal.returns-in-Show-clause-answers
+returns-in-Show-clause-answers g c = rw (c.in-Show.is, ← c.as_slice-in-Show.ensures.value) (c.show.ensures.answers _ _ _)
+
 pub returns-in-Help-clause-answers : goal.returns-in-Help-clause-answers
 returns-in-Help-clause-answers g c = rw (c.in-Help.is, c.of-in-Help.ensures) (prints _ help_lines _ _ _ _ _ _ _ refl c.print.ensures.answers)

@@ -1,6 +1,5 @@
-use Rattle.std.proofs.Common.{refl, subst}
+use Rattle.std.proofs.Common.{refl}
 use Rattle.explanations.specs.Explained.{explanation}
-use Rattle.trc_answers.specs.Answers.{PrintAnswers}
 use Rattle.trc_answers.proofs.Answering.{lacks, prints}
 use Rattle.trc_cli.proofs.explaining.explain.Goals as goal
 

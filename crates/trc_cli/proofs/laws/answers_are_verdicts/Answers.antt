@@ -22,4 +22,6 @@ returns-clause-once c = λ held left asked a b h k. once (record {
   check = check_once c.texts_have_one_first_fault.ensures.fault c.texts_have_one_first_fault.ensures.apart;
   meaning = c.meanings_come_to_one.ensures;
   comparison = c.comparisons_come_to_one.ensures;
+  compare = c.compares_come_to_one.ensures;
+  show = c.shows_come_to_one.ensures;
 }) held left a b asked h k

@@ -1,6 +1,6 @@
 use Rattle.std.proofs.Common.{ℕ, List, map, Some, ap, ◌∙◌, subst}
 use Rattle.std.specs.Borrow.{Bor}
-use Rattle.trc_words.specs.Requests.{plain}
+use Rattle.word_requests.specs.Requests.{plain}
 use Rattle.trc_answers.specs.Causes.{TookLine, line_of}
 use Rattle.trc_cli.specs.Commands.{first_module}
 use Rattle.trc_cli.proofs.Endings.{did_as, did_nothing, told_of_memory}

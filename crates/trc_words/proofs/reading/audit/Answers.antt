@@ -1,6 +1,6 @@
 use Rattle.std.proofs.Common.{map, string_bytes}
-use Rattle.trc_words.specs.Asked.{audit_asked}
-use Rattle.trc_words.specs.Commands.{audit_command}
+use Rattle.word_requests.specs.Asked.{audit_asked}
+use Rattle.command_words.specs.Commands.{audit_command}
 use Rattle.trc_words.proofs.Matching.{asks_refused, asks_taken}
 use Rattle.trc_words.proofs.reading.audit.Goals as goal
 

@@ -1,6 +1,6 @@
 use Rattle.std.proofs.Common.{map, string_bytes}
-use Rattle.trc_words.specs.Asked.{both_asked}
-use Rattle.trc_words.specs.Commands.{both_command}
+use Rattle.word_requests.specs.Asked.{both_asked}
+use Rattle.command_words.specs.Commands.{both_command}
 use Rattle.trc_words.proofs.Matching.{asks_refused, asks_taken}
 use Rattle.trc_words.proofs.reading.both.Goals as goal
 

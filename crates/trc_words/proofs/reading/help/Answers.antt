@@ -1,7 +1,7 @@
 use Rattle.std.proofs.Common.{Ok, map, refl, string_bytes}
-use Rattle.trc_words.specs.declared.asked.Request.TheVariants.{Help}
-use Rattle.trc_words.specs.Asked.{help_asked}
-use Rattle.trc_words.specs.Commands.{help_command}
+use Rattle.word_requests.specs.declared.request.Request.TheVariants.{Help}
+use Rattle.word_requests.specs.Asked.{help_asked}
+use Rattle.command_words.specs.Commands.{help_command}
 use Rattle.trc_words.proofs.Matching.{asks_refused, asks_taken}
 use Rattle.trc_words.proofs.reading.help.Goals as goal
 

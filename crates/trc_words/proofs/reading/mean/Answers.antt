@@ -1,6 +1,6 @@
 use Rattle.std.proofs.Common.{map, string_bytes}
-use Rattle.trc_words.specs.Asked.{mean_asked}
-use Rattle.trc_words.specs.Commands.{mean_command}
+use Rattle.word_requests.specs.Asked.{mean_asked}
+use Rattle.command_words.specs.Commands.{mean_command}
 use Rattle.trc_words.proofs.Matching.{asks_refused, asks_taken}
 use Rattle.trc_words.proofs.reading.mean.Goals as goal
 
