@@ -14,7 +14,7 @@ use trc_cli::trc;
 
 /// The words of each call, and its input: each example, some with other policies and fewer registers, an example that is
 /// named before the module that it imports, and a file that isn't there.
-const CALLS: [(&str, &str); 32] = [
+const CALLS: [(&str, &str); 38] = [
     ("help", ""),
     ("run Answer.Mod", ""),
     ("run Squares.Mod", ""),
@@ -50,9 +50,15 @@ const CALLS: [(&str, &str); 32] = [
     ("traces Gcd.Mod", ""),
     ("bulk 7 20", ""),
     ("batch batch.txt", ""),
+    ("compare Gcd.Mod", ""),
+    ("compare Range.Mod --jobs 1", ""),
+    ("compare Count.Mod", "one two\n three\n\nfour"),
+    ("compare Sorting.Mod --steps 1000", ""),
     ("run UseStack.Mod Stack.Mod", ""),
     ("run Missing.Mod", ""),
     ("elf answer Missing.Mod", ""),
+    ("compare Gcd.Mod Missing.Mod", ""),
+    ("show page.html Missing.Mod", ""),
 ];
 
 /// Makes the call of these words with this input, over the host's files, and gives the status with which it ends.

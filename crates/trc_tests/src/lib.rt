@@ -1,4 +1,5 @@
-//! Tests of the top call over devices in memory: modules that are refused, what commands tell and write, failing devices, and nests.
+//! Tests of the top call over devices in memory: modules that are refused, what commands tell and write, tables and pages, failing devices, and
+//! nests.
 #![tactic(auto)]
 
 #[cfg(test)]
@@ -11,3 +12,5 @@ mod failing_devices;
 mod nests;
 #[cfg(test)]
 mod sources;
+#[cfg(test)]
+mod tables;
