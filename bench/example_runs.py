@@ -14,6 +14,7 @@ import os
 import re
 
 from other_compiler import CALLED, TOP, folder_of
+from compared import table
 import trc  # noqa: E402
 
 CRATE = os.path.join(TOP, 'crates', 'trc_examples')
@@ -30,10 +31,24 @@ def files():
     return {name: open(os.path.join(folder, name), 'rb').read() for name in os.listdir(folder)}
 
 
+# Commands that the other compiler hasn't, and those that are refused as they are.
+REFUSED_AS = {'elf': 'build', 'show': 'build', 'compare': 'run'}
+
+
+def compared(words, given):
+    """What `compare` comes to, whose words aren't refused: its options stand behind the names."""
+    names = [word for word in words[1:] if word.endswith('.Mod')]
+    steps = int(words[words.index('--steps') + 1]) if '--steps' in words else 10 ** 9
+    held = files()
+    return 0, table([held[name] for name in names], given.encode(), steps), ''
+
+
 def made(words, given):
-    """What a call comes to: its status, its output, its line. The other compiler has no `elf`: it is refused as `build` is."""
-    asked = ['build' if words[0] == 'elf' else words[0]] + words[1:]
+    """What a call comes to: its status, its output, its line. Of `elf` and `show` no other calls are made than those that are refused."""
+    asked = [REFUSED_AS.get(words[0], words[0])] + words[1:]
     run = trc.Run(CALLED + asked, files(), given.encode())
+    if words[0] == 'compare' and run.status not in (2, 4):
+        return compared(words, given)
     out = bytes(run.out).decode().replace('run|build|traces', 'run|build|elf|traces')
     return run.status, out, run.err and run.err + '\n'
 
