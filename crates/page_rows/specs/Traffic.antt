@@ -1,8 +1,14 @@
 -- What the code of a procedure moves: between registers and homes, and among registers.
+use Rattle.std.specs.List.{list_any}
 use Rattle.std.specs.Prelude.{ℕ, ◌+◌, ◌||◌, min, count_by, Bool, true, false, List, [], ◌∷◌, slice_get, if◌then◌else◌}
 use Rattle.lir_core.specs.declared.flow.Node.{Node}
+use Rattle.lir_core.specs.declared.places.Place.{Place}
+use Rattle.lir_core.specs.declared.places.Place.TheVariants.{Reg, Home, Out}
+use Rattle.lir_core.specs.declared.places.Move.{Move}
 use Rattle.lir_core.specs.declared.places.Line.{Line}
 use Rattle.lir_core.specs.declared.places.Line.TheVariants.{Store, Load, Moves, Result, Target}
+use Rattle.parallel_move.specs.declared.step.Step.{Step}
+use Rattle.parallel_move.specs.declared.step.Step.TheVariants.{Copy, Save, Restore}
 use Rattle.boundary_resolve.specs.declared.code_line.CodeLine.{CodeLine}
 use Rattle.boundary_resolve.specs.declared.code_line.CodeLine.TheVariants.{Body, Edge, Leave}
 use Rattle.boundary_resolve.specs.declared.code_line.CodeLine.TheVariants.{Node as Begins}
@@ -13,19 +19,37 @@ use Rattle.page_rows.specs.declared.traffic.Traffic.{Traffic}
 
 ---- Kinds of lines
 
--- a line of a node: a store to a home, a load from one, or a move
+-- whether a place is the home of a value
+abbrev pub is_home : Place → Bool
+is_home (Home value) = true
+is_home (Reg register) = false
+is_home (Out slot) = false
+
+-- a line of a node: one that writes a home, that reads one, an argument or a target of a call among these, or that moves
 abbrev pub is_of_node : Kind → Line → Bool
 is_of_node kind.Store (Store r v) = true
 is_of_node kind.Load (Load r v) = true
+is_of_node kind.Load (Moves ms) = list_any (λ (m : Move). is_home m.from) ms
+is_of_node kind.Load (Target from) = is_home from
 is_of_node kind.Move (Moves ms) = true
 is_of_node kind.Move (Result r) = true
 is_of_node kind.Move (Target from) = true
 is_of_node k line = false
 
--- a line of code; the steps of edges are moves
+-- a step of an edge; each of them moves
+abbrev pub is_of_step : Kind → Step → Bool
+is_of_step kind.Store (Copy to from) = is_home to
+is_of_step kind.Store (Save from) = false
+is_of_step kind.Store (Restore to) = is_home to
+is_of_step kind.Load (Copy to from) = is_home from
+is_of_step kind.Load (Save from) = is_home from
+is_of_step kind.Load (Restore to) = false
+is_of_step kind.Move s = true
+
+-- a line of code
 abbrev pub is_of : Kind → CodeLine → Bool
 is_of k (Body line) = is_of_node k line
-is_of kind.Move (Edge s) = true
+is_of k (Edge s) = is_of_step k s
 is_of k line = false
 
 ---- Weights

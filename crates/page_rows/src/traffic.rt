@@ -1,13 +1,15 @@
 //! What the code of a procedure moves.
 
 ghost use Rattle.std.specs.Prelude.{◌≡◌, count_by, slice_get};
+ghost use Rattle.std.specs.List.{list_any};
+ghost use Rattle.lir_core.specs.declared.places.Move.{Move};
 ghost use Rattle.alloc_choice.specs.Choice.{freq_of as frequency_in};
-ghost use Rattle.page_rows.specs.Traffic.{added, freq_behind, is_of, is_of_node, own_weight, traffic_of, weighed};
+ghost use Rattle.page_rows.specs.Traffic.{added, freq_behind, is_home, is_of, is_of_node, is_of_step, own_weight, traffic_of, weighed};
 
-use boundary_resolve::CodeLine;
-use lir_core::{Flow, Line, Node};
+use boundary_resolve::{CodeLine, Step};
+use lir_core::{Flow, Line, Move, Node, Place};
 
-/// A kind of lines: stores to homes, loads from homes, or moves.
+/// A kind of lines: those that write homes, those that read homes, or moves.
 #[derive(Clone, Copy)]
 enum Kind {
     Store,
@@ -15,14 +17,28 @@ enum Kind {
     Move,
 }
 
-/// How many lines of a procedure's code store to homes, load from homes, and move between registers; and how often stores and loads
-/// run, where the procedure's entry runs 2^20 times, up to 2^64 - 1.
+/// How many lines of a procedure's code store to homes, load from homes, and move, steps of edges among them; and how often those that
+/// store or load run, where the procedure's entry runs 2^20 times, up to 2^64 - 1.
 #[derive(Clone, Copy)]
 pub struct Traffic {
     pub stores: usize,
     pub loads: usize,
     pub moves: usize,
     pub weight: u64,
+}
+
+// Whether a place is a home.
+fn is_home(place: Place) -> bool
+    ensures { result ≡ is_home place }
+{
+    matches!(place, Place::Home(_))
+}
+
+// Whether some move reads a home.
+fn reads_home(moves: &[Move]) -> bool
+    ensures { result ≡ list_any (λ (m : Move). is_home m.from) moves.now }
+{
+    moves.iter().any(|m| is_home(m.from))
 }
 
 // Whether a line of a node is of a kind.
@@ -32,10 +48,27 @@ fn is_of_node(kind: Kind, line: &Line) -> bool
     match (kind, line) {
         (Kind::Store, Line::Store { .. }) => true,
         (Kind::Load, Line::Load { .. }) => true,
+        (Kind::Load, Line::Moves(moves)) => reads_home(moves.as_slice()),
+        (Kind::Load, Line::Target(place)) => is_home(*place),
         (Kind::Move, Line::Moves(_)) => true,
         (Kind::Move, Line::Result(_)) => true,
         (Kind::Move, Line::Target(_)) => true,
         _ => false,
+    }
+}
+
+// Whether a step of an edge is of a kind.
+fn is_of_step(kind: Kind, step: Step) -> bool
+    ensures { result ≡ is_of_step kind step }
+{
+    match (kind, step) {
+        (Kind::Store, Step::Copy { to, .. }) => is_home(to),
+        (Kind::Store, Step::Save(_)) => false,
+        (Kind::Store, Step::Restore(to)) => is_home(to),
+        (Kind::Load, Step::Copy { from, .. }) => is_home(from),
+        (Kind::Load, Step::Save(from)) => is_home(from),
+        (Kind::Load, Step::Restore(_)) => false,
+        (Kind::Move, _) => true,
     }
 }
 
@@ -45,7 +78,7 @@ fn is_of(kind: Kind, line: &CodeLine) -> bool
 {
     match line {
         CodeLine::Body(line) => is_of_node(kind, line),
-        CodeLine::Edge(_) => matches!(kind, Kind::Move),
+        CodeLine::Edge(step) => is_of_step(kind, *step),
         CodeLine::Node(_) => false,
         CodeLine::Leave(_) => false,
     }
