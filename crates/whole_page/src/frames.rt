@@ -10,15 +10,15 @@ const STYLE: &[u8] = b" - traces</title>\n<style>\n\
 :root{color-scheme:light dark;--bg:#fbfaf8;--fg:#22252b;--dim:#6b7280;--line:#dcd8d0;--card:#fff;--mem:#c2410c;--move:#0e7490;--l:88%;--s:62%;--ink:24%}\n\
 @media screen and (prefers-color-scheme:dark){:root{--bg:#14161a;--fg:#e6e4df;--dim:#9aa1ac;--line:#2c3038;--card:#1b1e24;--mem:#fb923c;--move:#67e8f9;--l:27%;--s:42%;--ink:88%}}\n\
 *{box-sizing:border-box}body{margin:0;background:var(--bg);color:var(--fg);font:15px/1.5 system-ui,sans-serif}\n\
-header,section{max-width:1800px;margin:0 auto;padding:20px 28px}h1{font-size:22px;margin:0}h2{font:600 16px/1.4 ui-monospace,Menlo,Consolas,monospace;margin:0 0 2px}\n\
+header,section{max-width:2200px;margin:0 auto;padding:20px 28px}h1{font-size:22px;margin:0}h2{font:600 16px/1.4 ui-monospace,Menlo,Consolas,monospace;margin:0 0 2px}\n\
 p.sum{margin:2px 0 14px;color:var(--dim)}em{font-style:normal;color:var(--mem)}\n\
 code,table,pre,.graph text{font-family:ui-monospace,Menlo,Consolas,monospace}\n\
-section{border-top:1px solid var(--line)}.two{display:flex;gap:26px;align-items:flex-start;margin-top:14px}.two>div{min-width:0;flex:1 1 0}.two>div:first-child{flex:0 0 auto;max-width:40%}\n\
+section{border-top:1px solid var(--line)}.two{display:flex;gap:26px;align-items:flex-start;margin-top:14px;overflow-x:auto}.two>div{flex:0 0 auto}.two>div:first-child{flex:0 1 auto;min-width:24%;max-width:40%}\n\
 pre{margin:0;font-size:13px;line-height:1.45;white-space:pre-wrap;background:var(--card);border:1px solid var(--line);border-radius:8px;padding:10px 14px;max-height:30em;overflow:auto}\n\
 .graph{max-width:100%;height:auto}.graph .block rect{fill:hsl(var(--h) var(--s) var(--l));stroke:hsl(var(--h) 45% 55%)}\n\
 .graph .block .heat{fill:hsl(var(--h) 60% 50%);stroke:none}.graph text{fill:var(--fg);font-size:13px;text-anchor:middle}.graph .small{font-size:11px;opacity:.75}\n\
 .edge{fill:none;stroke:var(--dim);stroke-width:1.4}.edge.inside{stroke:hsl(var(--h) 60% 50%);stroke-width:3.2}.edge.back{stroke-dasharray:5 4}\n\
-h3{font-size:15px;margin:22px 0 6px;display:flex;gap:10px;align-items:baseline}h3:first-child{margin-top:0}h4{font-size:14px;margin:0 0 8px}\n\
+h3{max-width:42em;font-size:15px;margin:22px 0 6px;display:flex;gap:10px;align-items:baseline}h3:first-child{margin-top:0}h4{font-size:14px;margin:0 0 8px}\n\
 h3 b{background:hsl(var(--h) var(--s) var(--l));padding:1px 10px;border-radius:6px;white-space:nowrap}h3 span{font-weight:400;color:var(--dim);font-size:13px}\n\
 .wide{overflow-x:auto}table{border-collapse:separate;border-spacing:2px 1px;font-size:12.5px}\n\
 th{font-weight:500;color:var(--dim);text-align:center;padding:0 6px}th:first-child{text-align:left}\n\
