@@ -1,5 +1,5 @@
 -- Texts come to one page.
-use Rattle.std.proofs.Common.{◌≡◌, ◌<◌, ◌≤◌, ℕ, true, List, map, length, Option, Some, None, refl, sym, ap, ◌∙◌, subst, arith}
+use Rattle.std.proofs.Common.{◌≡◌, ℕ, true, List, map, length, Option, Some, None, refl, sym, ap, ◌∙◌, subst, arith}
 use Rattle.image_form.specs.declared.image.Image.{Image}
 use Rattle.ob_types.specs.WellFormed.{well_formed}
 use Rattle.ob_types.specs.declared.program.Program.{Program}

@@ -1,5 +1,5 @@
 -- From a page to the whole command.
-use Rattle.std.proofs.Common.{◌≡◌, ℕ, List, Option, subst}
+use Rattle.std.proofs.Common.{◌≡◌, ℕ, List, Option}
 use Rattle.outside.specs.Files.{Held}
 use Rattle.outside.specs.Sink.{Account}
 use Rattle.alloc_choice.specs.declared.choice.Choice.{Choice}

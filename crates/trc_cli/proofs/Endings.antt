@@ -8,7 +8,6 @@ use Rattle.image_form.specs.declared.image.Image.{Image}
 use Rattle.program_image.specs.declared.imaging.Compiled.{Compiled}
 use Rattle.source_image.specs.Images.{IsImageOfTexts, AreTracesOfTexts}
 use Rattle.source_image.specs.Refusals.{IsRefusal, IsRefusalOfTraces}
-use Rattle.source_image.specs.declared.refusal.Refusal.TheVariants.{Memory}
 use Rattle.trc_answers.specs.declared.causes.Cause.{Cause}
 use Rattle.trc_answers.specs.declared.causes.Cause.TheVariants as cause
 use Rattle.trc_answers.specs.declared.causes.Outcome.{Outcome}

@@ -31,7 +31,7 @@ use Rattle.show_commands.specs.Shows.{ShowComesTo, HaveNoPage, HavePage}
 use Rattle.note_commands.specs.Noted.{NotedComeTo, HaveNoNotes, HaveNotes}
 use Rattle.note_commands.specs.Audits.{AuditOf, AuditComesTo, AreTooMany as AreTooManyModules, LacksNotes, LacksTexts, HasTexts, PlanComesTo, HaveNoPlan, HavePlan, AreTooLong, AreNoNotes, HaveResults, AreUnsound, MakeMuchCode, MakeAnImage, one_behind}
 use Rattle.object_commands.specs.Objects.{IsTooLong as IsTooLongAnObject, IsShort, ObjectComesTo, HaveNoObject, HaveObject}
-use Rattle.object_commands.specs.Links.{ContentsComeTo, HaveObjects, JoinedComeTo, HaveNoPlan as HaveNoJointPlan, HavePlan as HaveJointPlan, LinkComesTo, AreTooMany as AreTooManyObjects, LacksOne as LacksAnObject, HaveContents, ObjectsComeTo, HasOther, AreOfOne}
+use Rattle.object_commands.specs.Links.{HaveObjects, HaveNoPlan as HaveNoJointPlan, HavePlan as HaveJointPlan, LinkComesTo, AreTooMany as AreTooManyObjects, LacksOne as LacksAnObject, HaveContents, ObjectsComeTo, HasOther, AreOfOne}
 use Rattle.object_commands.specs.Links.{HaveNoObject as HaveABrokenOne}
 use Rattle.explanations.specs.declared.format.Format.{Format}
 use Rattle.explanations.specs.declared.format.Format.TheVariants.{Text, Json}
