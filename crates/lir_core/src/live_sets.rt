@@ -1,6 +1,6 @@
 //! Which values are live into each node, as rows of bits.
 
-ghost use Rattle.std.specs.Prelude.{◌≡◌, ◌*◌, map};
+ghost use Rattle.std.specs.Prelude.{◌≡◌, ◌*◌, [], map, slice_index_or};
 ghost use Rattle.lir_core.specs.Rows.{has_bit, is_in, IsNext};
 
 use smallvec::SmallVec;
@@ -27,6 +27,16 @@ impl LiveSets {
         ensures { result ≡ map (λ row. row.items) rows.items }
     {
         LiveSets { rows }
+    }
+
+    /// The words of a node's row; none where there is no such node. Takes no memory.
+    pub fn row(&self, node: u32) -> &[u64]
+        ensures { result.now ≡ slice_index_or self.now node [] }
+    {
+        match self.rows.get(node as usize) {
+            Some(row) => row.as_slice(),
+            None => &[],
+        }
     }
 
     /// Whether a value is live into a node; false where there is no such node or value. Takes no memory.
