@@ -1,3 +1,4 @@
+pub mod Alike
 pub mod Halving
 pub mod Joining
 pub mod Search

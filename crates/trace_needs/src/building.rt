@@ -35,7 +35,14 @@ pub fn mentions(alloc: Global, flow: &Flow, trace: &Trace) -> Result<Mentions, M
         → IfOk result (λ ms. (rows : List (List ℕ)) (v before : ℕ)
         → mention_told ms v before ≡ last_mention (positions_of flow.now rows trace.now.nodes) v before) }
 {
-    let nodes = trace.nodes.as_slice();
+    mentions_along(alloc, flow, trace.nodes.as_slice())
+}
+
+/// What the positions of nodes mention, along these.
+pub(crate) fn mentions_along(alloc: Global, flow: &Flow, nodes: &[u32]) -> Result<Mentions, Memory>
+    ensures { IfOk result (λ ms. (rows : List (List ℕ)) (v before : ℕ)
+        → mention_told ms v before ≡ last_mention (positions_of flow.now rows nodes.now) v before) }
+{
     let mut table = Table::new(alloc, room(flow, nodes))?;
     pass_mentions(&mut table, flow, nodes)?;
     let Table { notes, .. } = table;
