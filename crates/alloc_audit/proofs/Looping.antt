@@ -1,7 +1,6 @@
 -- One step of the loops over moves, arguments and lines.
 use Rattle.std.proofs.Common.{◌≡◌, ℕ, zero, suc, ◌+◌, ◌-◌, ◌<◌, ◌≤◌, Bool, true, false, ◌&&◌, ◌||◌, not, cond, List, [], ◌∷◌, length, drop, get_or, Option, Some, None, refl, sym, ap, ◌∙◌, arith, add-one, drop-cons}
 use Rattle.std.specs.Prelude.{◌==◌}
-use Rattle.std.proofs.lemmas.Bool.Decides.{nat_tests}
 use Rattle.block_runs.specs.Live.{has}
 use Rattle.std.proofs.lemmas.Bool.{and_parts, and_from, false_from_ne_true}
 use Rattle.std.proofs.Math.ListN.{drop_of_length-le}
@@ -16,6 +15,7 @@ use Rattle.alloc_audit.specs.declared.destinations.Destinations.{Destinations}
 use Rattle.alloc_audit.specs.Destinations.{is_taken}
 use Rattle.loc_state.specs.Homed.{inserted}
 use Rattle.loc_state.proofs.Homing.{has_inserted}
+use Rattle.loc_state.proofs.Numbers.{numbers_turned}
 use Rattle.alloc_audit.specs.Tests.{is_value, stand, can_take, is_free, are_distinct, first_unfit}
 use Rattle.alloc_audit.specs.Holdings.{Holdings, given, all_given, room_in, walker_of}
 use Rattle.alloc_audit.specs.Moving.{Tried}
@@ -131,9 +131,6 @@ lines_done values ops named lines i first old le so =
 spots_same : (b c : Bool) → cond b true c ≡ (b || c)
 spots_same true c = refl
 spots_same false c = refl
-
-numbers_turned : (a b : ℕ) → (a == b) ≡ (b == a)
-numbers_turned a b = grind (arith, nat_tests)
 
 has_more : (v x : ℕ) (xs : List ℕ) → has (inserted v xs) x ≡ ((x == v) || has xs x)
 has_more v x xs = has_inserted v xs x ∙ spots_same (v == x) (has xs x) ∙ ap (λ b. b || has xs x) (numbers_turned v x)

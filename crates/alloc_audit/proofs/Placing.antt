@@ -1,5 +1,5 @@
 -- Sets, and tests on places.
-use Rattle.std.proofs.Common.{◌≡◌, ℕ, zero, suc, ◌+◌, ◌<◌, Bool, true, false, ◌&&◌, ◌||◌, not, cond, List, [], ◌∷◌, ◌++◌, map, length, drop, get_or, Option, Some, None, refl, sym, ap, ◌∙◌, arith, drop-cons, add-one}
+use Rattle.std.proofs.Common.{◌≡◌, ℕ, zero, suc, ◌+◌, ◌<◌, Bool, true, false, ◌&&◌, ◌||◌, not, cond, List, [], ◌∷◌, map, length, drop, get_or, Option, Some, None, refl, sym, ap, ◌∙◌, arith, drop-cons, add-one}
 use Rattle.std.proofs.Math.Path.{fun_ext}
 use Rattle.std.specs.Prelude.{◌==◌}
 use Rattle.std.specs.List.{list_all}
@@ -23,11 +23,7 @@ use Rattle.alloc_audit.specs.Tests.{is_value, stand, are_below, first_unfit}
 use Rattle.alloc_audit.specs.Nodes.{is_rising, is_single, may_hold, may_name, is_wanted, live_values, are_true, starts_well, keeps_all, ends_well, ended, lines_failure}
 use Rattle.alloc_audit.specs.Parts.{rises_from, is_above, is_alone, may_have, are_true_of, is_done, is_right}
 use Rattle.alloc_audit.specs.Holdings.{Holdings, view_at, holdings_of, room_in, walker_of}
-use Rattle.loc_state.proofs.Homing.{has_all_inserted}
-
-pub inserted_join : (xs ys h : List ℕ) → all_inserted (xs ++ ys) h ≡ all_inserted ys (all_inserted xs h)
-inserted_join [] ys h = refl
-inserted_join (x ∷ xs) ys h = inserted_join xs ys (inserted x h)
+use Rattle.loc_state.proofs.Homing.{has_all_inserted, inserted_append}
 
 pub set_is : (xs h : List ℕ) → h ≡ all_inserted xs [] → has h ≡ has xs
 set_is xs h e = fun_ext (λ v. ap (λ ys. has ys v) e ∙ has_all_inserted xs [] v ∙ or_false (has xs v))
@@ -62,7 +58,7 @@ pub uses_at : (lirs : List Lir) (i : ℕ) (x : Lir) (old new e : List ℕ) → i
     → all_inserted (uses_of (map operation_of (drop i lirs))) old ≡ e → all_inserted (uses_of (map operation_of (drop (i + 1) lirs))) new ≡ e
 uses_at lirs i x old new e lt is n h =
     ap (all_inserted (uses_of (map operation_of (drop (i + 1) lirs)))) n
-    ∙ sym (inserted_join x.uses (uses_of (map operation_of (drop (i + 1) lirs))) old)
+    ∙ sym (inserted_append x.uses (uses_of (map operation_of (drop (i + 1) lirs))) old)
     ∙ ap (λ xs. all_inserted (uses_of (map operation_of xs)) old) (sym (drop-cons lirs i x lt ∙ ap (λ y. y ∷ drop (suc i) lirs) (sym is) ∙ ap (λ j. x ∷ drop j lirs) (sym (add-one i))))
     ∙ h
 

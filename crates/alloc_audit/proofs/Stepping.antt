@@ -3,7 +3,6 @@ use Rattle.std.proofs.Common.{◌≡◌, ℕ, zero, suc, ◌<◌, Bool, true, fa
 use Rattle.std.specs.Prelude.{◌==◌, nat_lt}
 use Rattle.std.specs.List.{list_all}
 use Rattle.std.proofs.lemmas.Bool.{ltb-true, eqb-true, and_parts}
-use Rattle.std.proofs.lemmas.Bool.Decides.{nat_tests}
 use Rattle.std.proofs.Math.ListN.{get_or-map}
 use Rattle.std.proofs.Math.Path.{fun_ext}
 use Rattle.std.proofs.lemmas.List.{length-set, length-map}
@@ -22,10 +21,7 @@ use Rattle.loc_state.specs.Homed.{inserted, others}
 use Rattle.loc_state.proofs.Homing.{has_inserted}
 use Rattle.alloc_audit.specs.Tests.{can_take, can_move}
 use Rattle.alloc_audit.specs.Holdings.{Holdings, view_at, room_at, given, all_given, result_taken, aimed, left_by, made, maybe_made, def_register, done_by}
-use Rattle.loc_state.proofs.Numbers.{get_set}
-
-turned : (a b : ℕ) → (a == b) ≡ (b == a)
-turned a b = grind (arith, nat_tests)
+use Rattle.loc_state.proofs.Numbers.{get_set, numbers_turned}
 
 -- a value that came from a spot
 pub from_spot : (h : Holdings) (b : Bool) (p q : Spot) (v : ℕ) → view_at h q ≡ Some v → cond b (Some v) (view_at h p) ≡ view_at h (cond b q p)
@@ -38,12 +34,12 @@ home_given u v x homes e = by (u == x) refl
     by : (b : Bool) → (u == x) ≡ b → cond (has (inserted u homes) x) (Some x) None ≡ cond (x == u) (Some v) (cond (has homes x) (Some x) None)
     by true q =
         let a : has (inserted u homes) x ≡ true = has_inserted u homes x ∙ ap (λ b. cond b true (has homes x)) q in
-        let b : (x == u) ≡ true = turned x u ∙ q in
+        let b : (x == u) ≡ true = numbers_turned x u ∙ q in
         let d : x ≡ v = sym (eqb-true u x q) ∙ e in
         rw (a, b) (ap Some d)
     by false q =
         let a : has (inserted u homes) x ≡ has homes x = has_inserted u homes x ∙ ap (λ b. cond b true (has homes x)) q in
-        let b : (x == u) ≡ false = turned x u ∙ q in
+        let b : (x == u) ≡ false = numbers_turned x u ∙ q in
         rw (a, b) refl
 
 pub view_given : (values : ℕ) (to : Place) (v : ℕ) (h : Holdings) → can_take (room_at values h) (spot to) (Some v) ≡ true → (p : Spot) → view_at (given to v h) p ≡ cond (same p (spot to)) (Some v) (view_at h p)

@@ -122,6 +122,10 @@ all_last (v ∷ vs) xs r =
 pub all_inserted_is : (vs : List ℕ) → IsRising vs → all_inserted vs [] ≡ vs
 all_inserted_is vs r = all_last vs [] r
 
+pub inserted_append : (xs ys homed : List ℕ) → all_inserted (xs ++ ys) homed ≡ all_inserted ys (all_inserted xs homed)
+inserted_append [] ys homed = refl
+inserted_append (x ∷ xs) ys homed = inserted_append xs ys (inserted x homed)
+
 ---- What is in them
 
 pub has_inserted : (v : ℕ) (xs : List ℕ) (w : ℕ) → has (inserted v xs) w ≡ cond (v == w) true (has xs w)

@@ -18,6 +18,9 @@ numbers_same x y = grind (arith, nat_tests)
 pub numbers_apart : (x y : ℕ) → (x == y) ≡ false → x ≢ y
 numbers_apart x y = grind (arith, nat_tests)
 
+pub numbers_turned : (x y : ℕ) → (x == y) ≡ (y == x)
+numbers_turned x y = grind (arith, nat_tests)
+
 pub test_same : (x : ℕ) → (x == x) ≡ true
 test_same x = grind (arith, nat_tests)
 
