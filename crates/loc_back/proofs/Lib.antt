@@ -1,4 +1,7 @@
 pub mod MarkedSets
+pub mod FrontPlaces
+pub mod GivenHomes
+pub mod Leaving
 pub mod Seats
 pub mod Leading
 pub mod Turning

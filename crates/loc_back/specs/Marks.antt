@@ -1,5 +1,5 @@
 -- Which homes are marked: at a place the values that live there and are homed at the end of the walk.
-use Rattle.std.specs.Prelude.{ℕ, cond, List, [], ◌∷◌, ◌++◌, Option, Some, None, slice_get}
+use Rattle.std.specs.Prelude.{ℕ, zero, suc, cond, List, [], ◌∷◌, ◌++◌, Option, Some, None, slice_get}
 use Rattle.block_runs.specs.Blocks.{end_uses, successors}
 use Rattle.block_runs.specs.Live.{has}
 use Rattle.lir_core.specs.declared.flow.Node.{Node}
@@ -33,14 +33,20 @@ marked homed (v ∷ vs) marks = marked homed vs (marked_one homed v marks)
 abbrev pub with_marks : List ℕ → List ℕ → Places → Places
 with_marks homed vs q = record { regs = q.regs; homed = marked homed vs [] }
 
+-- the places at an index get homes
+abbrev pub put_homes : ℕ → List ℕ → List Places → List Places
+put_homes n homed [] = []
+put_homes zero homed (q ∷ qs) = record q { homed = homed } ∷ qs
+put_homes (suc n) homed (q ∷ qs) = q ∷ put_homes n homed qs
+
 module _ (f : Flow) (rows : List (List ℕ)) (homed : List ℕ) where
   -- the places at the starts of some nodes, and at their ends, with their homes
   abbrev pub starts_marked : List ℕ → List Places → List Places
-  starts_marked [] qs = []
+  starts_marked [] qs = qs
   starts_marked (n ∷ ns) [] = []
   starts_marked (n ∷ ns) (q ∷ qs) = with_marks homed (at_start f.values rows n (slice_get f.nodes n)) q ∷ starts_marked ns qs
 
   abbrev pub ends_marked : List ℕ → List Places → List Places
-  ends_marked [] qs = []
+  ends_marked [] qs = qs
   ends_marked (n ∷ ns) [] = []
   ends_marked (n ∷ ns) (q ∷ qs) = with_marks homed (at_end f.values rows (slice_get f.nodes n)) q ∷ ends_marked ns qs

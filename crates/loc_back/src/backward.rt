@@ -10,6 +10,7 @@ use lir_core::{Items, Leave, Line, Lir, Places, RegisterList, TraceIn, TraceOut}
 use outside::Memory;
 use std::alloc::{AllocError, Global};
 use std::mem::replace;
+use value_sets::ValueSet;
 
 /// The lists of the nodes that are walked, as a result has them, but for the homed values, and the node that is being
 /// walked.
@@ -27,17 +28,18 @@ impl Backward {
     ghost use Rattle.loc_back.specs.Served.{Route, Section, Simulates, due, IsEntered, MayTake, MayEvict, CanDefine, CanCall, CanEnter, with_def, onward, walked, tasks, IsWhole};
     ghost use Rattle.loc_back.specs.Steps.{bare, with_homes, started, in_part, taken, evicted, defined, called, left_node, before_node, closed};
 
-    /// Starts behind a trace, with values that are homed, and so many registers.
-    pub fn new(alloc: Global, homed: &[u32], regs: u8) -> Result<Backward, Memory>
+    /// Starts behind a trace, with values that are homed, and so many registers, and with room for what so many nodes will
+    /// have.
+    pub fn new(alloc: Global, homed: &[u32], regs: u8, nodes: usize) -> Result<Backward, Memory>
         ensures step { IfOk result (λ b. b ≡ started homed.now regs) }
         ensures simulates { IfOk result (λ b. (x : Route) → x.done ≡ [] → x.made ≡ [] → regs ≡ x.room.regs
             → Simulates x 0 [] b) }
     {
         Ok(Backward {
-            starts: FrontItems::new(alloc),
-            ends: FrontItems::new(alloc),
-            lines: FrontItems::new(alloc),
-            regs: FrontItems::new(alloc),
+            starts: FrontItems::with_room(alloc, nodes)?,
+            ends: FrontItems::with_room(alloc, nodes)?,
+            lines: FrontItems::with_room(alloc, nodes)?,
+            regs: FrontItems::with_room(alloc, nodes)?,
             part: BackPart::begin(alloc, homed, regs)?,
         })
     }
@@ -60,7 +62,7 @@ impl Backward {
             → Simulates (onward self.old.part.stage b params.now x) (length b.ops) [] self.new) }
     {
         self.leave_node(alloc)?;
-        self.part.enter(alloc, params, end, args, homes)?;
+        self.part.enter(params, end, args, homes)?;
         Ok(())
     }
 
@@ -170,16 +172,15 @@ impl Backward {
             homed: Items::new(alloc),
         };
         let end = Places {
-            regs: self.part.end.list(alloc)?,
+            regs: replace(&mut self.part.end, Items::new(alloc)),
             homed: Items::new(alloc),
         };
-        let lines = replace(&mut self.part.lines, FrontItems::new(alloc));
-        let named = replace(&mut self.part.named, FrontItems::new(alloc));
-        self.part.end = loc_state::Registers::from_slice(alloc, &[])?;
+        let lines = self.part.lines.take_items(alloc)?;
+        let named = self.part.named.take(alloc)?;
         self.starts.push_front(start)?;
         self.ends.push_front(end)?;
-        self.lines.push_front(lines.into_items())?;
-        self.regs.push_front(RegisterList::from_slice(alloc, named.into_items().as_slice())?)?;
+        self.lines.push_front(lines)?;
+        self.regs.push_front(named)?;
         Ok(())
     }
 
@@ -192,10 +193,9 @@ impl Backward {
             live: t.live,
             homed: &self.part.homed,
         };
-        let starts = marking.starts(alloc, nodes, &mut self.starts)?;
-        let ends = marking.ends(alloc, nodes, &mut self.ends)?;
-        self.starts = starts;
-        self.ends = ends;
+        let mut values = ValueSet::new(alloc);
+        marking.mark_starts(alloc, &mut values, nodes, &mut self.starts)?;
+        marking.mark_ends(alloc, &mut values, nodes, &mut self.ends)?;
         Ok(())
     }
 

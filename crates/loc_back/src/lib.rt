@@ -8,13 +8,17 @@
 
 mod backward;
 mod front_items;
+mod front_registers;
 mod marks;
 mod part;
+mod scratch;
 mod seating;
 mod writing;
 
 pub use backward::Backward;
 pub use front_items::FrontItems;
+pub use front_registers::FrontRegisters;
 pub use marks::live_values;
 pub use part::{BackPart, Begun, Loading, Stage};
+pub use scratch::Scratch;
 pub use seating::{leave_params, seat_new_one};

@@ -1,21 +1,24 @@
 //! The node that is being walked.
 
-ghost use Rattle.std.specs.Prelude.{◌≡◌, ◌≤◌, [], ◌++◌, length, drop, None, Some, IfOk, OnOk};
+ghost use Rattle.std.specs.Prelude.{◌≡◌, ◌≤◌, [], ◌++◌, length, drop, replicate, None, Some, IfOk, OnOk};
 ghost use Rattle.lir_core.specs.Flows.{operation_of};
 ghost use Rattle.loc_state.specs.Homed.{all_inserted};
 ghost use Rattle.loc_back.specs.Steps.{settled_stage, passed};
 
 use crate::front_items::FrontItems;
+use crate::front_registers::FrontRegisters;
+use crate::scratch::Scratch;
 use crate::seating::{
-    keep_others, leave_params, put, save, save_all, seat, seat_new, unseat, value_at,
+    drop_params, keep_others, put, save, save_all, seat, seat_new, unseat, value_at,
 };
 use crate::writing::{
     leave, load_again, move_result, name, name_all, open, reload_all, store_result,
 };
 use lir_core::{Items, Leave, Line, Lir, is_aimed};
-use loc_state::{Homes, Registers, argument_moves, place_of, register_of};
+use loc_state::{Registers, argument_moves, place_of, register_of};
 use outside::Memory;
 use std::alloc::{AllocError, Global};
+use value_sets::ValueSet;
 
 /// An operation that is begun: its index in the node, the register of its definition, and the definition where it is to be
 /// stored.
@@ -27,7 +30,7 @@ pub struct Begun {
 }
 
 /// A register that is loaded again behind an operation.
-#[derive(Clone, Copy)]
+#[derive(Clone, Copy, Default)]
 pub struct Loading {
     pub reg: u8,
     pub value: u32,
@@ -46,18 +49,17 @@ pub enum Stage {
 /// of what is begun the registers noted and what is loaded again.
 #[derive(Drop)]
 pub struct BackPart {
-    pub end: Registers,
+    pub end: Items<Option<u32>>,
     pub regs: Registers,
-    pub homed: Homes,
+    pub homed: ValueSet,
     pub lines: FrontItems<Line>,
-    pub named: FrontItems<u8>,
+    pub named: FrontRegisters,
     pub stage: Stage,
-    pub noted: Items<u8>,
-    pub loads: Items<Loading>,
+    pub noted: Scratch<u8>,
+    pub loads: Scratch<Loading>,
 }
 
 impl BackPart {
-    ghost use Rattle.std.specs.Prelude.{replicate};
     ghost use Rattle.loc_state.specs.Lines.{place_of, aims, moves};
     ghost use Rattle.loc_back.specs.declared.part.Stage.TheVariants.{Behind};
     ghost use Rattle.loc_back.specs.Steps.{end_of, settled, taken, again, evicted, begins, if_homed, seated, unseated, emptied, written, called, defined, entered};
@@ -75,16 +77,17 @@ impl BackPart {
           loads = [];
         }) }
     {
-        let row: Vec<Option<u32>> = vec![in alloc; None; regs as usize]?;
+        let mut first = ValueSet::new(alloc);
+        first.insert_all(homed)?;
         Ok(BackPart {
-            end: Registers::from_slice(alloc, &[])?,
-            regs: Registers::from_slice(alloc, row.as_slice())?,
-            homed: Homes::from_slice(alloc, homed)?,
-            lines: FrontItems::new(alloc),
-            named: FrontItems::new(alloc),
+            end: Items::new(alloc),
+            regs: empty_registers(alloc, regs)?,
+            homed: first,
+            lines: FrontItems::with_room(alloc, LINES)?,
+            named: FrontRegisters::new(alloc),
             stage: Stage::Behind,
-            noted: Items::new(alloc),
-            loads: Items::new(alloc),
+            noted: Scratch::new(alloc),
+            loads: Scratch::new(alloc),
         })
     }
 
@@ -98,8 +101,8 @@ impl BackPart {
         name(&mut self.named, self.stage)?;
         name_all(&mut self.named, self.noted.as_slice())?;
         self.stage = settled_stage(self.stage);
-        self.noted = Items::new(alloc);
-        self.loads = Items::new(alloc);
+        self.noted.clear();
+        self.loads.clear();
         Ok(())
     }
 
@@ -109,7 +112,7 @@ impl BackPart {
     {
         match self.stage {
             Stage::End => {
-                self.end = Registers::from_slice(alloc, self.regs.as_slice())?;
+                self.end = self.regs.list(alloc)?;
                 Ok(())
             }
             Stage::Behind => Ok(()),
@@ -169,12 +172,11 @@ impl BackPart {
         ensures row { OnOk result (length self.new.regs ≡ length self.old.regs) }
     {
         self.settle(alloc)?;
-        self.begin_operation(alloc, index, def, reg)
+        self.begin_operation(index, def, reg)
     }
 
     fn begin_operation(
         &mut self,
-        alloc: Global,
         index: u32,
         def: Option<u32>,
         reg: Option<u8>,
@@ -183,7 +185,7 @@ impl BackPart {
     {
         if let Some(value) = def {
             if let Some(reg) = reg {
-                return self.begin_definition(alloc, index, value, reg);
+                return self.begin_definition(index, value, reg);
             }
         }
         self.stage = Stage::Operation(Begun {
@@ -194,22 +196,15 @@ impl BackPart {
         Ok(())
     }
 
-    fn begin_definition(
-        &mut self,
-        alloc: Global,
-        index: u32,
-        value: u32,
-        reg: u8,
-    ) -> Result<(), AllocError>
+    fn begin_definition(&mut self, index: u32, value: u32, reg: u8) -> Result<(), AllocError>
         ensures { OnOk result (self.new ≡ begins index (Some value) (Some reg) self.old) }
     {
         let content = keep_others(Some(value), value_at(self.regs.as_slice(), reg));
         let stored = self.if_homed(value);
         put(&mut self.regs, reg, None);
         save(&mut self.homed, content)?;
-        let mut loads = Items::new(alloc);
-        leave(&mut loads, reg, content)?;
-        self.loads = loads;
+        self.loads.clear();
+        leave(&mut self.loads, reg, content)?;
         self.stage = Stage::Operation(Begun {
             index,
             reg: Some(reg),
@@ -310,7 +305,6 @@ impl BackPart {
     /// The end of the node before one with these parameters.
     pub(crate) fn enter(
         &mut self,
-        alloc: Global,
         params: &[u32],
         end: &Leave,
         args: &[Option<u8>],
@@ -319,22 +313,29 @@ impl BackPart {
         ensures step { OnOk result (self.new ≡ entered params.now end.now args.now homes.now self.old) }
         ensures row { OnOk result (length self.new.regs ≡ length self.old.regs) }
     {
-        let mut regs = leave_params(alloc, self.regs.as_slice(), params)?;
-        seat_new(&mut regs, passed(end), args);
-        self.regs = regs;
-        self.insert_all(homes)?;
+        drop_params(&mut self.regs, params);
+        seat_new(&mut self.regs, passed(end), args);
+        self.homed.insert_all(homes)?;
         self.stage = Stage::End;
         Ok(())
     }
+}
 
-    fn insert_all(&mut self, homes: &[u32]) -> Result<(), AllocError>
-        ensures { OnOk result (self.new ≡ record self.old { homed = all_inserted homes.now self.old.homed }) }
-    {
-        for value in homes {
-            self.homed.insert(*value)?;
-        }
-        Ok(())
+/// The lines of a node for which there is room at once: most nodes have no more.
+const LINES: usize = 16;
+
+/// Empty registers, as many as there are at most.
+const EMPTY: [Option<u32>; 16] = [None; 16];
+
+// So many registers, which are empty.
+fn empty_registers(alloc: Global, count: u8) -> Result<Registers, AllocError>
+    ensures { IfOk result (λ regs. regs ≡ replicate count None) }
+{
+    if let Some(row) = EMPTY.get(..count as usize) {
+        return Registers::from_slice(alloc, row);
     }
+    let row: Vec<Option<u32>> = vec![in alloc; None; count as usize]?;
+    Registers::from_slice(alloc, row.as_slice())
 }
 
 fn settled_stage(stage: Stage) -> Stage

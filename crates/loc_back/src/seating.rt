@@ -5,8 +5,9 @@ ghost use Rattle.lir_core.specs.Spots.{get};
 ghost use Rattle.loc_state.specs.Steps.{saved};
 ghost use Rattle.loc_back.specs.Steps.{other, all_saved, seated, unseated, no_param, seated_new, seated_news};
 
-use loc_state::{Homes, Registers, has, has_register};
+use loc_state::{Registers, has, has_register};
 use std::alloc::{AllocError, Global};
+use value_sets::ValueSet;
 
 /// What a register has; nothing where there is no such register.
 pub(crate) fn value_at(regs: &[Option<u32>], reg: u8) -> Option<u32>
@@ -28,7 +29,7 @@ pub(crate) fn put(regs: &mut Registers, reg: u8, value: Option<u32>)
 }
 
 /// A register's value joins the homed ones.
-pub(crate) fn save(homed: &mut Homes, content: Option<u32>) -> Result<(), AllocError>
+pub(crate) fn save(homed: &mut ValueSet, content: Option<u32>) -> Result<(), AllocError>
     ensures { OnOk result (homed.new ≡ saved content homed.old) }
 {
     match content {
@@ -52,7 +53,7 @@ pub(crate) fn keep_others(def: Option<u32>, content: Option<u32>) -> Option<u32>
 
 /// The values of registers but for the definition join the homed ones.
 pub(crate) fn save_all(
-    homed: &mut Homes,
+    homed: &mut ValueSet,
     def: Option<u32>,
     regs: &[Option<u32>],
 ) -> Result<(), AllocError>
@@ -84,7 +85,11 @@ fn seat_one(regs: &mut Registers, value: u32, reg: Option<u8>)
 }
 
 /// Uses that have no register are homed.
-pub(crate) fn unseat(homed: &mut Homes, uses: &[u32], args: &[Option<u8>]) -> Result<(), AllocError>
+pub(crate) fn unseat(
+    homed: &mut ValueSet,
+    uses: &[u32],
+    args: &[Option<u8>],
+) -> Result<(), AllocError>
     ensures { OnOk result (homed.new ≡ unseated uses.now args.now homed.old) }
 {
     for i in 0..uses.len().min(args.len()) {
@@ -93,7 +98,7 @@ pub(crate) fn unseat(homed: &mut Homes, uses: &[u32], args: &[Option<u8>]) -> Re
     Ok(())
 }
 
-fn unseat_one(homed: &mut Homes, value: u32, reg: Option<u8>) -> Result<(), AllocError>
+fn unseat_one(homed: &mut ValueSet, value: u32, reg: Option<u8>) -> Result<(), AllocError>
     ensures { OnOk result (homed.new ≡ unseated (value ∷ []) (reg ∷ []) homed.old) }
 {
     match reg {
@@ -111,19 +116,18 @@ pub fn leave_params(
     ensures step { IfOk result (λ left. left ≡ map (no_param params.now) regs.now) }
     ensures row { IfOk result (λ left. length left ≡ length regs.now) }
 {
-    let mut row = Vec::with_capacity(alloc, regs.len())?;
-    for content in regs {
-        row.push(without_params(params, *content))?;
-    }
-    Registers::from_slice(alloc, row.as_slice())
+    let mut left = Registers::from_slice(alloc, regs)?;
+    drop_params(&mut left, params);
+    Ok(left)
 }
 
-fn without_params(params: &[u32], content: Option<u32>) -> Option<u32>
-    ensures { result ≡ no_param params.now content }
+/// Parameters leave their registers.
+pub(crate) fn drop_params(regs: &mut Registers, params: &[u32])
+    ensures step { regs.new ≡ map (no_param params.now) regs.old }
+    ensures row { length regs.new ≡ length regs.old }
 {
-    match content {
-        Some(value) if !has(params, value) => Some(value),
-        _ => None,
+    for param in params {
+        regs.remove(*param);
     }
 }
 

@@ -4,15 +4,18 @@ ghost use Rattle.std.specs.Prelude.{◌≡◌, ◌≤◌, ◌++◌, length, OnOk
 ghost use Rattle.loc_back.specs.Steps.{storing, loading, opening, names_of, leaving, reloads, reload, result_moved, result_stored};
 
 use crate::front_items::FrontItems;
+use crate::front_registers::FrontRegisters;
 use crate::part::{Loading, Stage};
+use crate::scratch::Scratch;
 use crate::seating::keep_others;
-use lir_core::{Items, Line};
-use loc_state::{Homes, has_register, register_of};
+use lir_core::Line;
+use loc_state::{has_register, register_of};
 use std::alloc::AllocError;
+use value_sets::ValueSet;
 
 /// A register's value, if it has one, is to be loaded again.
 pub(crate) fn leave(
-    loads: &mut Items<Loading>,
+    loads: &mut Scratch<Loading>,
     reg: u8,
     content: Option<u32>,
 ) -> Result<(), AllocError>
@@ -73,7 +76,7 @@ pub(crate) fn store(
 }
 
 /// Names the register of a definition.
-pub(crate) fn name(named: &mut FrontItems<u8>, stage: Stage) -> Result<(), AllocError>
+pub(crate) fn name(named: &mut FrontRegisters, stage: Stage) -> Result<(), AllocError>
     ensures { OnOk result (named.new ≡ names_of stage ++ named.old) }
 {
     if let Stage::Operation(begun) = stage {
@@ -86,7 +89,7 @@ pub(crate) fn name(named: &mut FrontItems<u8>, stage: Stage) -> Result<(), Alloc
 }
 
 /// Names registers that were noted.
-pub(crate) fn name_all(named: &mut FrontItems<u8>, noted: &[u8]) -> Result<(), AllocError>
+pub(crate) fn name_all(named: &mut FrontRegisters, noted: &[u8]) -> Result<(), AllocError>
     ensures { OnOk result (named.new ≡ noted.now ++ named.old) }
 {
     let mut left = noted.len();
@@ -157,7 +160,7 @@ pub(crate) fn move_result(
 pub(crate) fn store_result(
     lines: &mut FrontItems<Line>,
     def: Option<u32>,
-    homed: &Homes,
+    homed: &ValueSet,
 ) -> Result<(), AllocError>
     ensures { OnOk result (lines.new ≡ result_stored homed.now def lines.old) }
 {
