@@ -56,10 +56,10 @@ module _ (x : Case) (mention : ℕ → ℕ → Option ℕ) where
   abbrev pub walked_back : List ℕ → Backward
   walked_back ns = closed x.flow x.rows ns (along 0 ns (started (homed_first x ns) x.regs))
 
--- the positions of nodes' starts
-abbrev pub starts_from : List Node → ℕ → List ℕ → List ℕ
-starts_from nodes p [] = []
-starts_from nodes p (n ∷ ns) = p ∷ starts_from nodes (position_behind p (slice_get nodes n)) ns
+-- the position behind some nodes, the first of which starts at position p
+abbrev pub behind_nodes : List Node → ℕ → List ℕ → ℕ
+behind_nodes nodes p [] = p
+behind_nodes nodes p (n ∷ ns) = behind_nodes nodes (position_behind p (slice_get nodes n)) ns
 
 abbrev pub result_of : ℕ → Backward → TraceOut
 result_of number b = record { trace = number; starts = b.starts; ends = b.ends; lines = b.lines; regs = b.regs }

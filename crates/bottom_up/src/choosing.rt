@@ -1,11 +1,13 @@
 //! Which register is given up.
 
-ghost use Rattle.std.specs.Prelude.{◌≡◌, ◌≤◌, length};
-ghost use Rattle.trace_needs.specs.Asked.{mention_told};
+ghost use Rattle.std.specs.Prelude.{◌≡◌, ◌≤◌, length, IfOk};
+ghost use Rattle.trace_needs.specs.Needs.{last_mention};
 ghost use Rattle.bottom_up.specs.Policy.{is_earlier, earlier, nearer, victim, before};
 
 use loc_state::has;
-use trace_needs::Mentions;
+use outside::Memory;
+use std::alloc::Global;
+use trace_needs::LateMentions;
 
 /// A register, and the last position before that mentions its value, if one does.
 #[derive(Clone, Copy)]
@@ -15,36 +17,48 @@ pub(crate) struct Found {
 }
 
 /// Of the registers the lowest one whose value isn't kept and was mentioned earliest before a position.
-pub(crate) fn victim(regs: &[Option<u32>], keep: &[u32], positions: &Mentions, at: u32) -> u8
+pub(crate) fn victim(
+    alloc: Global,
+    regs: &[Option<u32>],
+    keep: &[u32],
+    positions: &mut LateMentions<'_>,
+    at: u32,
+) -> Result<u8, Memory>
     requires { length regs.now ≤ 16 }
-    ensures { result ≡ victim keep.now (before (mention_told positions.now) at) regs.now }
+    ensures reg { IfOk result (λ reg. reg ≡ victim keep.now (before (last_mention positions.old) at) regs.now) }
+    ensures same { positions.new ≡ positions.old }
 {
     let mut best = None;
     let mut reg: u8 = 0;
     for content in regs {
-        best = nearer(keep, positions, at, reg, *content, best);
+        best = nearer(alloc, keep, positions, at, reg, *content, best)?;
         reg += 1;
     }
     match best {
-        Some(found) => found.reg,
-        None => 0,
+        Some(found) => Ok(found.reg),
+        None => Ok(0),
     }
 }
 
 // The best so far, with a register more.
 fn nearer(
+    alloc: Global,
     keep: &[u32],
-    positions: &Mentions,
+    positions: &mut LateMentions<'_>,
     at: u32,
     reg: u8,
     content: Option<u32>,
     best: Option<Found>,
-) -> Option<Found>
-    ensures { result ≡ nearer keep.now (before (mention_told positions.now) at) reg content best }
+) -> Result<Option<Found>, Memory>
+    ensures best { IfOk result (λ found. found ≡ nearer keep.now (before (last_mention positions.old) at) reg content best) }
+    ensures same { positions.new ≡ positions.old }
 {
     match content {
-        Some(value) if !has(keep, value) => earlier(reg, positions.last_mention(value, at), best),
-        _ => best,
+        Some(value) if !has(keep, value) => {
+            let mention = positions.last_mention(alloc, value, at)?;
+            Ok(earlier(reg, mention, best))
+        }
+        _ => Ok(best),
     }
 }
 

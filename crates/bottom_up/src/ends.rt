@@ -2,17 +2,18 @@
 
 ghost use Rattle.std.specs.Prelude.{◌≡◌, ◌≤◌, ◌++◌, [], ◌∷◌, length, map, None, IfOk, OnOk, slice_get};
 ghost use Rattle.lir_core.specs.Spots.{get};
-ghost use Rattle.lir_core.specs.Rows.{live_into};
 ghost use Rattle.block_runs.specs.Blocks.{successors};
 ghost use Rattle.trace_needs.specs.Needs.{is_next, live_off};
+ghost use Rattle.loc_state.specs.Homed.{all_inserted};
 ghost use Rattle.loc_back.specs.Steps.{no_param};
 ghost use Rattle.bottom_up.specs.Policy.{is_empty};
-ghost use Rattle.bottom_up.specs.Ends.{param_register, argument_register, given, without_register, not_given, given_at, passed_home, homed_at};
+ghost use Rattle.bottom_up.specs.Ends.{param_register, argument_register, given, without_register, not_given, given_at, passed_home};
 
 use lir_core::{Leave, LiveSets};
-use loc_back::{leave_params, live_values, seat_new_one};
+use loc_back::{leave_params, seat_new_one};
 use loc_state::{has_register, register_of};
 use std::alloc::{AllocError, Global};
+use value_sets::ValueSet;
 
 /// The trace's next node, if there is one, its parameters, and the registers at its start.
 #[derive(Clone, Copy)]
@@ -22,92 +23,90 @@ pub(crate) struct Following<'a> {
     pub(crate) regs: &'a [Option<u32>],
 }
 
-/// The registers that an end's arguments are given, and the values that are homed at it.
+/// The registers that an end's arguments are given, and those of them that are homed: rooms that are kept from end to end.
 #[derive(Drop)]
 pub(crate) struct PassedOn {
     pub(crate) args: Vec<Option<u8>>,
     pub(crate) homes: Vec<u32>,
 }
 
-/// What an end passes on.
-pub(crate) fn passing(
-    alloc: Global,
-    live: &LiveSets,
-    values: u32,
-    next: &Following,
-    end: &Leave,
-) -> Result<PassedOn, AllocError>
-    requires { length next.now.regs.now ≤ 16 }
-    ensures args { IfOk result (λ p. p.args.items ≡ given_at next.now.node next.now.params.now next.now.regs.now end.now) }
-    ensures homes { IfOk result (λ p. p.homes.items ≡ homed_at values live.now next.now.node next.now.params.now next.now.regs.now end.now) }
-{
-    let PassedOn { args, mut homes } = arguments(alloc, next, end)?;
-    add_off(alloc, &mut homes, live, values, next.node, end)?;
-    Ok(PassedOn { args, homes })
-}
-
-// What an end passes on by its arguments.
-fn arguments(alloc: Global, next: &Following, end: &Leave) -> Result<PassedOn, AllocError>
-    requires { length next.now.regs.now ≤ 16 }
-    ensures args { IfOk result (λ p. p.args.items ≡ given_at next.now.node next.now.params.now next.now.regs.now end.now) }
-    ensures homes { IfOk result (λ p. p.homes.items ≡ passed_home next.now.node next.now.params.now next.now.regs.now end.now) }
-{
-    match end {
-        Leave::Jump { to, args } => {
-            if is_next(next.node, *to) {
-                to_next(alloc, next, args.as_slice())
-            } else {
-                elsewhere(alloc, args.as_slice())
-            }
+impl PassedOn {
+    /// Nothing; takes no memory.
+    pub(crate) fn new(alloc: Global) -> PassedOn {
+        PassedOn {
+            args: Vec::new(alloc),
+            homes: Vec::new(alloc),
         }
-        Leave::Branch { .. } => nothing(alloc),
-        Leave::Nonzero { .. } => nothing(alloc),
-        Leave::Return(_) => nothing(alloc),
-        Leave::Trap(_) => nothing(alloc),
     }
-}
 
-fn nothing(alloc: Global) -> Result<PassedOn, AllocError>
-    ensures args { IfOk result (λ p. p.args.items ≡ []) }
-    ensures homes { IfOk result (λ p. p.homes.items ≡ []) }
-{
-    Ok(PassedOn {
-        args: Vec::new(alloc),
-        homes: Vec::new(alloc),
-    })
-}
-
-// All arguments of a jump out of the trace are homed.
-fn elsewhere(alloc: Global, values: &[u32]) -> Result<PassedOn, AllocError>
-    ensures args { IfOk result (λ p. p.args.items ≡ map (λ a. None) values.now) }
-    ensures homes { IfOk result (λ p. p.homes.items ≡ values.now) }
-{
-    let mut args = Vec::with_capacity(alloc, values.len())?;
-    for _value in values {
-        args.push(None)?;
+    /// What an end passes on by its arguments.
+    pub(crate) fn pass(
+        &mut self,
+        alloc: Global,
+        next: &Following,
+        end: &Leave,
+    ) -> Result<(), AllocError>
+        requires { length next.now.regs.now ≤ 16 }
+        ensures args { OnOk result (self.new.args.items ≡ given_at next.now.node next.now.params.now next.now.regs.now end.now) }
+        ensures homes { OnOk result (self.new.homes.items ≡ passed_home next.now.node next.now.params.now next.now.regs.now end.now) }
+    {
+        self.clear();
+        match end {
+            Leave::Jump { to, args } => {
+                if args.as_slice().is_empty() {
+                    Ok(())
+                } else if is_next(next.node, *to) {
+                    self.to_next(alloc, next, args.as_slice())
+                } else {
+                    self.elsewhere(args.as_slice())
+                }
+            }
+            Leave::Branch { .. } => Ok(()),
+            Leave::Nonzero { .. } => Ok(()),
+            Leave::Return(_) => Ok(()),
+            Leave::Trap(_) => Ok(()),
+        }
     }
-    Ok(PassedOn {
-        args,
-        homes: Vec::from_slice(alloc, values)?,
-    })
-}
 
-// Each argument of a jump to the trace's next node takes its parameter's register where that is empty, or is homed.
-fn to_next(alloc: Global, next: &Following, values: &[u32]) -> Result<PassedOn, AllocError>
-    requires { length next.now.regs.now ≤ 16 }
-    ensures args { IfOk result (λ p. p.args.items ≡ given next.now.regs.now next.now.params.now 0 values.now (map (no_param next.now.params.now) next.now.regs.now)) }
-    ensures homes { IfOk result (λ p. p.homes.items ≡ not_given next.now.regs.now next.now.params.now 0 values.now (map (no_param next.now.params.now) next.now.regs.now)) }
-{
-    let mut regs = leave_params(alloc, next.regs, next.params)?;
-    let mut args = Vec::with_capacity(alloc, values.len())?;
-    let mut homes = Vec::new(alloc);
-    for (i, value) in values.iter().enumerate() {
-        let reg = argument_register(next.regs, param_at(next.params, i), regs.as_slice());
-        args.push(reg)?;
-        add_without(&mut homes, *value, reg, regs.as_slice())?;
-        seat_new_one(&mut regs, *value, reg);
+    fn clear(&mut self)
+        ensures args { self.new.args.items ≡ [] }
+        ensures homes { self.new.homes.items ≡ [] }
+    {
+        self.args.clear();
+        self.homes.clear();
     }
-    Ok(PassedOn { args, homes })
+
+    // All arguments of a jump out of the trace are homed.
+    fn elsewhere(&mut self, values: &[u32]) -> Result<(), AllocError>
+        requires args { self.old.args.items ≡ [] }
+        requires homes { self.old.homes.items ≡ [] }
+        ensures args { OnOk result (self.new.args.items ≡ map (λ a. None) values.now) }
+        ensures homes { OnOk result (self.new.homes.items ≡ values.now) }
+    {
+        for value in values {
+            self.args.push(None)?;
+            self.homes.push(*value)?;
+        }
+        Ok(())
+    }
+
+    // Each argument of a jump to the trace's next node takes its parameter's register where that is empty, or is homed.
+    fn to_next(&mut self, alloc: Global, next: &Following, values: &[u32]) -> Result<(), AllocError>
+        requires few { length next.now.regs.now ≤ 16 }
+        requires args { self.old.args.items ≡ [] }
+        requires homes { self.old.homes.items ≡ [] }
+        ensures args { OnOk result (self.new.args.items ≡ given next.now.regs.now next.now.params.now 0 values.now (map (no_param next.now.params.now) next.now.regs.now)) }
+        ensures homes { OnOk result (self.new.homes.items ≡ not_given next.now.regs.now next.now.params.now 0 values.now (map (no_param next.now.params.now) next.now.regs.now)) }
+    {
+        let mut regs = leave_params(alloc, next.regs, next.params)?;
+        for (i, value) in values.iter().enumerate() {
+            let reg = argument_register(next.regs, param_at(next.params, i), regs.as_slice());
+            self.args.push(reg)?;
+            add_without(&mut self.homes, *value, reg, regs.as_slice())?;
+            seat_new_one(&mut regs, *value, reg);
+        }
+        Ok(())
+    }
 }
 
 fn param_at(params: &[u32], index: usize) -> Option<u32>
@@ -162,55 +161,53 @@ fn add_without(
     Ok(())
 }
 
-// What is live into nodes to which an end leads out of the trace.
-fn add_off(
-    alloc: Global,
-    homes: &mut Vec<u32>,
+/// What is live into nodes to which an end leads out of the trace is homed.
+pub(crate) fn home_off(
+    homed: &mut ValueSet,
     live: &LiveSets,
     values: u32,
     next: Option<u32>,
     end: &Leave,
 ) -> Result<(), AllocError>
-    ensures { OnOk result (homes.new.items ≡ homes.old.items ++ live_off values live.now next (successors end.now)) }
+    ensures { OnOk result (homed.new ≡ all_inserted (live_off values live.now next (successors end.now)) homed.old) }
 {
     match end {
-        Leave::Jump { to, .. } => add_unless_next(alloc, homes, live, values, next, *to),
-        Leave::Branch { yes, no, .. } => add_both(alloc, homes, live, values, next, *yes, *no),
-        Leave::Nonzero { yes, no, .. } => add_both(alloc, homes, live, values, next, *yes, *no),
+        Leave::Jump { to, .. } => home_unless_next(homed, live, values, next, *to),
+        Leave::Branch { yes, no, .. } => home_both(homed, live, values, next, *yes, *no),
+        Leave::Nonzero { yes, no, .. } => home_both(homed, live, values, next, *yes, *no),
         Leave::Return(_) => Ok(()),
         Leave::Trap(_) => Ok(()),
     }
 }
 
-fn add_both(
-    alloc: Global,
-    homes: &mut Vec<u32>,
+#[tactic(auto, using(loc_state::proofs::Homing::inserted_append))]
+fn home_both(
+    homed: &mut ValueSet,
     live: &LiveSets,
     values: u32,
     next: Option<u32>,
     yes: u32,
     no: u32,
 ) -> Result<(), AllocError>
-    ensures { OnOk result (homes.new.items ≡ homes.old.items ++ live_off values live.now next (yes ∷ no ∷ [])) }
+    ensures { OnOk result (homed.new ≡ all_inserted (live_off values live.now next (yes ∷ no ∷ [])) homed.old) }
 {
-    add_unless_next(alloc, homes, live, values, next, yes)?;
-    add_unless_next(alloc, homes, live, values, next, no)
+    home_unless_next(homed, live, values, next, yes)?;
+    home_unless_next(homed, live, values, next, no)
 }
 
-fn add_unless_next(
-    alloc: Global,
-    homes: &mut Vec<u32>,
+fn home_unless_next(
+    homed: &mut ValueSet,
     live: &LiveSets,
     values: u32,
     next: Option<u32>,
     node: u32,
 ) -> Result<(), AllocError>
-    ensures { OnOk result (homes.new.items ≡ homes.old.items ++ live_off values live.now next (node ∷ [])) }
+    ensures { OnOk result (homed.new ≡ all_inserted (live_off values live.now next (node ∷ [])) homed.old) }
 {
     if is_next(next, node) {
         return Ok(());
     }
-    add_live(alloc, homes, live, values, node)
+    homed.insert_live(live, node, values)
 }
 
 fn is_next(next: Option<u32>, node: u32) -> bool
@@ -220,28 +217,4 @@ fn is_next(next: Option<u32>, node: u32) -> bool
         Some(next) => next == node,
         None => false,
     }
-}
-
-/// Adds what is live into a node.
-pub(crate) fn add_live(
-    alloc: Global,
-    homes: &mut Vec<u32>,
-    live: &LiveSets,
-    values: u32,
-    node: u32,
-) -> Result<(), AllocError>
-    ensures { OnOk result (homes.new.items ≡ homes.old.items ++ live_into values live.now node) }
-{
-    let list = live_values(alloc, live, node, values)?;
-    add_all(homes, list.as_slice())?;
-    Ok(())
-}
-
-fn add_all(homes: &mut Vec<u32>, values: &[u32]) -> Result<(), AllocError>
-    ensures { OnOk result (homes.new.items ≡ homes.old.items ++ values.now) }
-{
-    for value in values {
-        homes.push(*value)?;
-    }
-    Ok(())
 }

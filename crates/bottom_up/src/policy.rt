@@ -3,18 +3,19 @@
 ghost use Rattle.std.specs.Prelude.{◌≡◌, ◌+◌, ◌≤◌, length, drop, map, None, IfOk, OnOk};
 ghost use Rattle.block_runs.specs.Blocks.{Operation};
 ghost use Rattle.lir_core.specs.Flows.{operation_of};
-ghost use Rattle.trace_needs.specs.Asked.{mention_told};
+ghost use Rattle.trace_needs.specs.Needs.{last_mention};
 ghost use Rattle.loc_back.specs.Steps.{in_part};
 ghost use Rattle.lir_core.specs.Spots.{get};
+ghost use Rattle.loc_state.specs.Registers.{is};
 ghost use Rattle.bottom_up.specs.Policy.{is_empty, own_or_lowest, seated_at, with_use, with_arguments, with_first, before_call, register_in, call_one, take_one, take_all, made_in, operate, operate_all};
 
 use crate::choosing::victim;
 use lir_core::{Lir, Template, is_aimed};
 use loc_back::Backward;
-use loc_state::{Registers, has_register, lowest_empty, register_of};
+use loc_state::{Registers, has_register, lowest_empty};
 use outside::Memory;
 use std::alloc::{AllocError, Global};
-use trace_needs::Mentions;
+use trace_needs::LateMentions;
 
 /// A number so far behind a position.
 pub(crate) fn behind(at: u32, count: usize) -> Result<u32, Memory>
@@ -26,28 +27,41 @@ pub(crate) fn behind(at: u32, count: usize) -> Result<u32, Memory>
     at.checked_add(count).ok_or(Memory)
 }
 
+/// A number so far before a position.
+pub(crate) fn before(at: u32, count: usize) -> Result<u32, Memory>
+    ensures { IfOk result (λ rest. at ≡ rest + count) }
+{
+    let Ok(count) = u32::try_from(count) else {
+        return Err(Memory);
+    };
+    at.checked_sub(count).ok_or(Memory)
+}
+
 // Takes a use.
+#[tactic(auto, using(crate::proofs::Steps::taken_again))]
 fn take_one(
+    alloc: Global,
     b: &mut Backward,
-    positions: &Mentions,
+    positions: &mut LateMentions<'_>,
     at: u32,
     keep: &[u32],
     value: u32,
 ) -> Result<(), Memory>
     requires few { length b.old.part.regs ≤ 16 }
-    ensures step { OnOk result (b.new ≡ in_part (take_one (mention_told positions.now) at keep.now value) b.old) }
+    ensures step { OnOk result (b.new ≡ in_part (take_one (last_mention positions.old) at keep.now value) b.old) }
     ensures row { OnOk result (length b.new.part.regs ≡ length b.old.part.regs) }
+    ensures same { positions.new ≡ positions.old }
 {
     let regs = b.part.regs.as_slice();
-    if has_register(regs, value) {
-        b.take(value, None)?;
+    if let Some(reg) = register_in(regs, value) {
+        b.take(value, Some(reg))?;
         return Ok(());
     }
     if let Some(reg) = lowest_empty(regs) {
         b.take(value, Some(reg))?;
         return Ok(());
     }
-    let reg = victim(regs, keep, positions, at);
+    let reg = victim(alloc, regs, keep, positions, at)?;
     b.evict(reg)?;
     b.take(value, Some(reg))?;
     Ok(())
@@ -55,34 +69,46 @@ fn take_one(
 
 /// Takes uses.
 pub(crate) fn take_all(
+    alloc: Global,
     b: &mut Backward,
-    positions: &Mentions,
+    positions: &mut LateMentions<'_>,
     at: u32,
     uses: &[u32],
 ) -> Result<(), Memory>
     requires few { length b.old.part.regs ≤ 16 }
-    ensures step { OnOk result (b.new ≡ in_part (take_all (mention_told positions.now) at uses.now uses.now) b.old) }
+    ensures step { OnOk result (b.new ≡ in_part (take_all (last_mention positions.old) at uses.now uses.now) b.old) }
     ensures row { OnOk result (length b.new.part.regs ≡ length b.old.part.regs) }
+    ensures same { positions.new ≡ positions.old }
 {
     for value in uses {
-        take_one(b, positions, at, uses, *value)?;
+        take_one(alloc, b, positions, at, uses, *value)?;
     }
     Ok(())
 }
 
 // The register in which a definition is made.
-fn made_in(regs: &[Option<u32>], positions: &Mentions, at: u32, def: Option<u32>) -> Option<u8>
+fn made_in(
+    alloc: Global,
+    regs: &[Option<u32>],
+    positions: &mut LateMentions<'_>,
+    at: u32,
+    def: Option<u32>,
+) -> Result<Option<u8>, Memory>
     requires { length regs.now ≤ 16 }
-    ensures { result ≡ made_in (mention_told positions.now) at def regs.now }
+    ensures reg { IfOk result (λ reg. reg ≡ made_in (last_mention positions.old) at def regs.now) }
+    ensures same { positions.new ≡ positions.old }
 {
-    let value = def?;
-    if has_register(regs, value) {
-        return Some(register_of(regs, value));
+    let Some(value) = def else {
+        return Ok(None);
+    };
+    if let Some(reg) = register_in(regs, value) {
+        return Ok(Some(reg));
     }
-    match lowest_empty(regs) {
-        Some(reg) => Some(reg),
-        None => Some(victim(regs, &[], positions, at)),
+    if let Some(reg) = lowest_empty(regs) {
+        return Ok(Some(reg));
     }
+    let reg = victim(alloc, regs, &[], positions, at)?;
+    Ok(Some(reg))
 }
 
 // An argument's own place among the first four where that is empty, else the lowest empty register.
@@ -184,14 +210,27 @@ fn registers_in(
     Ok(args)
 }
 
+// The first register that has a value, if one has it.
 fn register_in(regs: &[Option<u32>], value: u32) -> Option<u8>
     requires { length regs.now ≤ 16 }
     ensures { result ≡ register_in regs.now value }
 {
-    if has_register(regs, value) {
-        Some(register_of(regs, value))
-    } else {
-        None
+    let mut reg: u8 = 0;
+    for content in regs {
+        if is(*content, value) {
+            return Some(reg);
+        }
+        reg += 1;
+    }
+    None
+}
+
+fn is(content: Option<u32>, value: u32) -> bool
+    ensures { result ≡ is value content }
+{
+    match content {
+        Some(other) => other == value,
+        None => false,
     }
 }
 
@@ -224,34 +263,36 @@ fn call(alloc: Global, b: &mut Backward, index: u32, lir: &Lir) -> Result<(), Me
 fn operate(
     alloc: Global,
     b: &mut Backward,
-    positions: &Mentions,
+    positions: &mut LateMentions<'_>,
     at: u32,
     index: u32,
     lir: &Lir,
 ) -> Result<(), Memory>
     requires few { length b.old.part.regs ≤ 16 }
-    ensures step { OnOk result (b.new ≡ in_part (operate (mention_told positions.now) at index lir.now) b.old) }
+    ensures step { OnOk result (b.new ≡ in_part (operate (last_mention positions.old) at index lir.now) b.old) }
     ensures row { OnOk result (length b.new.part.regs ≡ length b.old.part.regs) }
+    ensures same { positions.new ≡ positions.old }
 {
     if lir.call {
         return call(alloc, b, index, lir);
     }
-    let reg = made_in(b.part.regs.as_slice(), positions, at, lir.def);
+    let reg = made_in(alloc, b.part.regs.as_slice(), positions, at, lir.def)?;
     b.define(alloc, index, lir, reg)?;
-    take_all(b, positions, at, lir.uses.as_slice())
+    take_all(alloc, b, positions, at, lir.uses.as_slice())
 }
 
 /// The operations of a node, the first of which is at a position, from the last to the first.
 pub(crate) fn operate_all(
     alloc: Global,
     b: &mut Backward,
-    positions: &Mentions,
+    positions: &mut LateMentions<'_>,
     first: u32,
     lirs: &[Lir],
 ) -> Result<(), Memory>
     requires few { length b.old.part.regs ≤ 16 }
-    ensures step { OnOk result (b.new ≡ in_part (operate_all (mention_told positions.now) first 0 lirs.now) b.old) }
+    ensures step { OnOk result (b.new ≡ in_part (operate_all (last_mention positions.old) first 0 lirs.now) b.old) }
     ensures row { OnOk result (length b.new.part.regs ≡ length b.old.part.regs) }
+    ensures same { positions.new ≡ positions.old }
 {
     let mut left = lirs.len();
     while left > 0 {

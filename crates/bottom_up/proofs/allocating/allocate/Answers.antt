@@ -1,9 +1,9 @@
-use Rattle.std.proofs.Common.{◌≡◌, ℕ, List, Option, None, ◌∙◌, ap, ap₂, sym, subst}
+use Rattle.std.proofs.Common.{◌≡◌, ℕ, List, Option, ◌∙◌, ap, ap₂, sym, subst}
 use Rattle.std.proofs.Math.Path.{fun_ext}
-use Rattle.trace_needs.specs.Asked.{mention_told}
+use Rattle.trace_needs.specs.Needs.{last_mention}
 use Rattle.loc_back.specs.Steps.{started, closed}
 use Rattle.linear_scan.specs.Linear.{Case}
-use Rattle.linear_scan.specs.Inputs.{case_of, IsInput}
+use Rattle.linear_scan.specs.Inputs.{case_of}
 use Rattle.bottom_up.specs.Bottom.{homed_first, along, walked_back, result_of, mention_in}
 use Rattle.lir_core.specs.Sound.{EndsRise}
 use Rattle.walked_results.specs.Walked.{IsWalked}
@@ -11,7 +11,7 @@ use Rattle.walked_results.proofs.Sounds.{result_sound}
 use Rattle.bottom_up.proofs.Traces.{bottom_walked}
 use Rattle.bottom_up.proofs.allocating.allocate.Goals as goal
 
-module _ (c : goal.After-drop-positions-inside-3) where
+module _ (c : goal.Joined-positions-5) where
   x : Case
   x = case_of c.args.t.now
 
@@ -19,22 +19,22 @@ module _ (c : goal.After-drop-positions-inside-3) where
   ns = c.args.t.now.trace.now.nodes
 
   said : ℕ → ℕ → Option ℕ
-  said = mention_told c.in_ok-positions.positions
+  said = last_mention c.new-positions.result
 
   made : c.finish.result ≡ result_of c.args.t.now.number (walked_back x said ns)
   unfolding x ns said
   made =
       let start : c.in_ok-b.b ≡ started (homed_first x ns) x.regs = c.in_ok-b.ensures.step ∙ ap (λ hs. started hs x.regs) (c.as_slice.ensures.value ∙ c.in_ok-homed.ensures) in
-      let walk : c.in_ok-b-2.b ≡ along x said 0 ns (started (homed_first x ns) x.regs) = c.in_ok-b-2.ensures ∙ ap₂ (λ ks b. along x said 0 ks b) c.as_slice-2.ensures start in
+      let walk : c.along.new.b ≡ along x said 0 ns (started (homed_first x ns) x.regs) = c.in_ok-along.ensures ∙ ap₂ (λ ks b. along x said 0 ks b) c.as_slice-2.ensures start in
       c.finish.ensures ∙ ap (result_of c.args.t.now.number) (c.in_ok-close.ensures.step ∙ ap (closed x.flow x.rows ns) walk)
 
-  same : IsInput x ns None → said ≡ mention_in x ns
+  same : said ≡ mention_in x ns
   unfolding x ns said
-  same given = fun_ext (λ v. fun_ext (λ p. c.in_ok-positions.ensures.last_mention given.valid x.rows v p))
+  same = fun_ext (λ v. fun_ext (λ p. c.new-positions.ensures.last_mention x.rows v p))
 
 pub returns-clause-bottom_up : goal.returns-clause-bottom_up
 unfolding x ns said
-returns-clause-bottom_up c given = made c ∙ ap (λ m. result_of c.args.t.now.number (walked_back (x c) m (ns c))) (same c given)
+returns-clause-bottom_up c given = made c ∙ ap (λ m. result_of c.args.t.now.number (walked_back (x c) m (ns c))) (same c)
 
 pub returns-clause-walked : goal.returns-clause-walked
 unfolding x ns said

@@ -1,6 +1,0 @@
-use Rattle.std.proofs.Common.{◌≡◌, drop}
-use Rattle.loc_state.specs.Homed.{all_inserted}
-use Rattle.bottom_up.proofs.homing.add_values.Given as goal
-
-abbrev pub invariant-loop-value : goal.invariant-loop-value
-invariant-loop-value l = all_inserted (drop l.value-index l.values) l.made ≡ all_inserted l.values l.initial.made
