@@ -1,13 +1,8 @@
--- Sets of values as rows of bits that are being filled.
-use Rattle.std.specs.Prelude.{◌≡◌, ℕ, ◌/◌, ◌<◌, ◌||◌, Bool, List, length, filter}
-use Rattle.run_laws.specs.Layers.{places_from}
-use Rattle.lir_core.specs.Rows.{is_in}
+-- What is live into several nodes.
+use Rattle.std.specs.Prelude.{ℕ, List, [], ◌∷◌, ◌++◌}
+use Rattle.lir_core.specs.Rows.{live_into}
 
--- what passes a test is marked besides, where there is a bit for it
-pub record AreMarked (test : ℕ → Bool) (before after : List ℕ) : Type 0 where
-  pub each : length after ≡ length before
-  pub mark : (v : ℕ) → v / 64 < length before → is_in after v ≡ (is_in before v || test v)
-
--- of so many values those that are marked
-abbrev pub all_marked : ℕ → List ℕ → List ℕ
-all_marked values marks = filter (is_in marks) (places_from 0 values)
+-- of so many values those that are live into each of some nodes, one node after the other
+abbrev pub live_into_each : ℕ → List (List ℕ) → List ℕ → List ℕ
+live_into_each values live [] = []
+live_into_each values live (n ∷ ns) = live_into values live n ++ live_into_each values live ns

@@ -13,6 +13,7 @@ use crate::plain::lines::Written;
 use lir_core::{Items, Line, Places, RegisterList, TraceIn, TraceOut};
 use outside::Memory;
 use std::alloc::Global;
+use value_sets::ValueSet;
 
 /// The plain result for a trace: every value is in its home between operations. Takes time in proportion to the trace's
 /// code, and for each of its nodes to the flow's values.
@@ -25,14 +26,16 @@ pub fn plain(alloc: Global, t: &TraceIn) -> Result<TraceOut, Memory>
         → IfOk result (λ out. IsSound t.now.regs t.now.flow.now t.now.trace.now out) }
     ensures rises { IsTrace (code_nodes t.now.flow.now.nodes) t.now.trace.now.nodes → IfOk result EndsRise }
 {
+    let count = t.trace.nodes.len();
+    let mut rooms = Rooms::new(alloc);
     let mut parts = Parts {
-        starts: Vec::new(alloc),
-        ends: Vec::new(alloc),
-        lines: Vec::new(alloc),
-        regs: Vec::new(alloc),
+        starts: Vec::with_capacity(alloc, count)?,
+        ends: Vec::with_capacity(alloc, count)?,
+        lines: Vec::with_capacity(alloc, count)?,
+        regs: Vec::with_capacity(alloc, count)?,
     };
     for number in t.trace.nodes.as_slice() {
-        parts.push(alloc, t, *number)?;
+        parts.push(alloc, t, &mut rooms, *number)?;
     }
     let Parts {
         starts,
@@ -49,6 +52,22 @@ pub fn plain(alloc: Global, t: &TraceIn) -> Result<TraceOut, Memory>
     })
 }
 
+/// What is used again from node to node, so that a node takes memory for its results alone.
+#[derive(Drop)]
+struct Rooms {
+    marks: ValueSet,
+    written: Written,
+}
+
+impl Rooms {
+    fn new(alloc: Global) -> Rooms {
+        Rooms {
+            marks: ValueSet::new(alloc),
+            written: Written::new(alloc),
+        }
+    }
+}
+
 /// What is written for the nodes so far.
 #[derive(Drop)]
 struct Parts {
@@ -59,18 +78,24 @@ struct Parts {
 }
 
 impl Parts {
-    fn push(&mut self, alloc: Global, t: &TraceIn, number: u32) -> Result<(), Memory>
+    fn push(
+        &mut self,
+        alloc: Global,
+        t: &TraceIn,
+        rooms: &mut Rooms,
+        number: u32,
+    ) -> Result<(), Memory>
         ensures { number < length t.now.flow.now.nodes → OnOk result (ArePushed t.now number self.old self.new) }
     {
         let Some(node) = t.flow.nodes.as_slice().get(number as usize) else {
             return Ok(());
         };
-        let Written { lines, regs } = Written::of(alloc, node)?;
-        self.starts.push(start(alloc, t, number, node)?)?;
-        self.ends.push(end(alloc, t, &node.end)?)?;
+        let lines = rooms.written.write(alloc, node)?;
+        self.starts
+            .push(start(alloc, t, &mut rooms.marks, number, node)?)?;
+        self.ends.push(end(alloc, t, &mut rooms.marks, &node.end)?)?;
         self.lines.push(Items::from_vec(lines))?;
-        self.regs
-            .push(RegisterList::from_slice(alloc, regs.as_slice())?)?;
+        self.regs.push(RegisterList::from_slice(alloc, rooms.written.regs.as_slice())?)?;
         Ok(())
     }
 }
