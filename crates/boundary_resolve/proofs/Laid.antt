@@ -1,7 +1,7 @@
 -- A procedure's lines, as code lays them.
-use Rattle.std.proofs.Common.{◌≡◌, ℕ, zero, suc, ◌+◌, ◌<◌, ◌≤◌, Bool, true, false, cond, List, [], ◌∷◌, ◌++◌, map, length, drop, get_or, Some, None, refl, sym, ap, ap₂, ◌∙◌, subst, arith}
+use Rattle.std.proofs.Common.{◌≡◌, ℕ, zero, suc, ◌+◌, ◌<◌, ◌≤◌, Bool, true, false, cond, List, [], ◌∷◌, ◌++◌, map, filter, length, take, drop, get_or, Some, None, refl, sym, ap, ap₂, ◌∙◌, subst, arith}
 use Rattle.std.specs.Prelude.{flat_map, slice_get}
-use Rattle.std.proofs.lemmas.List.{drop_more, drop_all, append_assoc, append-nil, length-map}
+use Rattle.std.proofs.lemmas.List.{drop_more, drop_all, append_assoc, append-nil, length-map, map-append}
 use Rattle.run_laws.specs.Layers.{places_from}
 use Rattle.block_runs.specs.Live.{has}
 use Rattle.lir_core.specs.declared.flow.Flow.{Flow}
@@ -15,7 +15,8 @@ use Rattle.lir_core.specs.Flows.{node_at}
 use Rattle.global_live.proofs.Lists.{not_in_front, not_in_back}
 use Rattle.trace_build.specs.Cuts.{lists_of, all_nodes}
 use Rattle.parallel_move.specs.declared.step.Step.{Step}
-use Rattle.parallel_move.specs.Order.{order_of}
+use Rattle.parallel_move.specs.Order.{is_moving, pending, copied, ordered, order_of}
+use Rattle.parallel_move.proofs.Linking.{apart_filter}
 use Rattle.boundary_resolve.specs.declared.code_line.CodeLine.{CodeLine}
 use Rattle.boundary_resolve.specs.declared.code_line.CodeLine.TheVariants.{Edge}
 use Rattle.boundary_resolve.specs.Moves.{edge_moves, entry_places, FewRegs}
@@ -31,9 +32,34 @@ edge_pushed from to params args moves slice steps steps' old new rising is same 
     let d : AreDistinct slice = subst AreDistinct (sym all) (moves_distinct from to (argument_of params args) rising) in
     more ∙ ap (λ (x : List Step). old ++ map Edge x) (again ∙ ordered d ∙ ap order_of all)
 
--- nothing moves on an edge
-pub edge_kept : (from to : Places) (params args : List ℕ) (moves : List Move) (old : List CodeLine) → moves ≡ edge_moves from to (argument_of params args) → order_of moves ≡ [] → old ≡ old ++ map Edge (order_of (edge_moves from to (argument_of params args)))
-edge_kept from to params args moves old is none = sym (append-nil old) ∙ ap (λ (x : List Step). old ++ map Edge x) (sym (sym (ap order_of is) ∙ none))
+moving_twice : (ms : List Move) → filter is_moving (filter is_moving ms) ≡ filter is_moving ms
+moving_twice [] = refl
+moving_twice (m ∷ ms) = at_test (is_moving m) refl (moving_twice ms)
+  where
+    at_test : (b : Bool) → is_moving m ≡ b → filter is_moving (filter is_moving ms) ≡ filter is_moving ms → filter is_moving (cond b (m ∷ filter is_moving ms) (filter is_moving ms)) ≡ cond b (m ∷ filter is_moving ms) (filter is_moving ms)
+    at_test true e on = ap (λ c. cond c (m ∷ filter is_moving (filter is_moving ms)) (filter is_moving (filter is_moving ms))) e ∙ ap (λ x. m ∷ x) on
+    at_test false e on = on
+
+-- the moves of an edge that move have its steps
+pub edge_ordered : (from to : Places) (params args : List ℕ) (moves : List Move) → IsRising to.homed → moves ≡ filter is_moving (edge_moves from to (argument_of params args)) → AreDistinct moves × (order_of moves ≡ order_of (edge_moves from to (argument_of params args)))
+edge_ordered from to params args moves rising is = (
+  subst AreDistinct (sym is) (apart_filter (edge_moves from to (argument_of params args)) (moves_distinct from to (argument_of params args) rising)),
+  ap order_of is ∙ ap (λ (fs : List Move). ordered (length (map pending fs)) (map pending fs)) (moving_twice (edge_moves from to (argument_of params args))),
+)
+
+distinct_behind : (n : ℕ) (ms : List Move) → AreDistinct ms → AreDistinct (drop n ms)
+distinct_behind zero ms d = d
+distinct_behind (suc n) [] d = tt
+distinct_behind (suc n) (m ∷ ms) d = distinct_behind n ms d.1
+
+pub steps_behind : (ms : List Move) (n : ℕ) (slice : List Move) (steps : List Step) → slice ≡ drop n ms → AreDistinct ms → (AreDistinct slice → steps ≡ order_of slice) → steps ≡ order_of (drop n ms)
+steps_behind ms n slice steps is d ordered = ordered (subst AreDistinct (sym is) (distinct_behind n ms d)) ∙ ap order_of is
+
+-- the first moves in their own order, and the steps of the others
+pub pushed_both : (moves : List Move) (n : ℕ) (steps : List Step) (old mid new : List CodeLine) → order_of moves ≡ map copied (filter is_moving (take n moves)) ++ order_of (drop n moves) → steps ≡ order_of (drop n moves) → mid ≡ old ++ map Edge (map copied (filter is_moving (take n moves))) → new ≡ mid ++ map Edge steps → new ≡ old ++ map Edge (order_of moves)
+pushed_both moves n steps old mid new split rest first then =
+    then ∙ ap₂ (λ x y. x ++ map Edge y) first rest ∙ append_assoc old (map Edge (map copied (filter is_moving (take n moves)))) (map Edge (order_of (drop n moves)))
+    ∙ ap (λ x. old ++ x) (sym (ap (map Edge) split ∙ map-append Edge (map copied (filter is_moving (take n moves))) (order_of (drop n moves))))
 
 -- the same edge
 pub same_edge : (from from' to to' : Places) (params params' args args' : List ℕ) → from ≡ from' → to ≡ to' → params ≡ params' → args ≡ args' → order_of (edge_moves from to (argument_of params args)) ≡ order_of (edge_moves from' to' (argument_of params' args'))

@@ -3,3 +3,4 @@ pub mod Between
 pub mod Sought
 pub mod Laid
 pub mod Seated
+pub mod Staying

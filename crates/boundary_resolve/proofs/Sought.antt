@@ -1,5 +1,5 @@
 -- The tables that find where values are before an edge.
-use Rattle.std.proofs.Common.{◌≡◌, ℕ, suc, ◌+◌, ◌<◌, ◌≤◌, Bool, true, false, ◌&&◌, ◌||◌, cond, not, List, [], ◌∷◌, ◌++◌, length, map, filter, take, drop, get_or, Option, Some, None, refl, sym, ap, ap₂, ◌∙◌, subst, arith}
+use Rattle.std.proofs.Common.{◌≡◌, ℕ, suc, ◌+◌, ◌<◌, ◌≤◌, Bool, true, false, ◌&&◌, ◌||◌, cond, List, [], ◌∷◌, ◌++◌, length, take, drop, get_or, Option, Some, None, refl, sym, ap, ap₂, ◌∙◌, subst, arith}
 use Rattle.std.specs.Prelude.{◌==◌, nat_lt, nat_le, min, unwrap_or}
 use Rattle.std.specs.Ordering.{nat_cmp, is_eq}
 use Rattle.std.specs.Cmp.{nat_cmp_is}
@@ -10,15 +10,14 @@ use Rattle.std.specs.BTreeSet.{BTreeSet, contains}
 use Rattle.std.specs.BTreeSet.{Updates as Adds}
 use Rattle.std.proofs.lemmas.Bool.{eqb-true, eq-eqb, ltb-true}
 use Rattle.std.proofs.lemmas.Bool.Decides.{nat_tests}
-use Rattle.std.proofs.lemmas.List.{take_more, drop_more, drop_all, append_assoc, append-nil}
+use Rattle.std.proofs.lemmas.List.{take_more, drop_more, drop_all, append_assoc}
 use Rattle.block_runs.specs.Live.{has}
 use Rattle.lir_core.specs.declared.places.Place.{Place}
-use Rattle.lir_core.specs.declared.places.Place.TheVariants.{Reg, Home, Out}
+use Rattle.lir_core.specs.declared.places.Place.TheVariants.{Reg, Home}
 use Rattle.lir_core.specs.declared.places.Move.{Move}
 use Rattle.lir_core.specs.declared.places.Places.{Places}
-use Rattle.lir_core.specs.Spots.{argument_of, same, spot, IsRising}
+use Rattle.lir_core.specs.Spots.{argument_of, IsRising}
 use Rattle.global_live.proofs.Lists.{has-append}
-use Rattle.parallel_move.specs.Order.{is_moving, pending, ordered, order_of}
 use Rattle.boundary_resolve.specs.declared.moves.Before.{Before}
 use Rattle.boundary_resolve.specs.Moves.{register_of, register_or_home, place_of, reg_moves, home_moves, stays_home, edge_moves, FewRegs}
 use Rattle.boundary_resolve.specs.Before.{argument_before, place_before, homed_before, stays_before, moves_before, HasFew, Rises, HasHomes, HasArguments, IsBefore}
@@ -127,36 +126,6 @@ before_is before after params args b is =
 
 pub has_few : (before : Places) (params args : List ℕ) (b : Before) → IsBefore before params args b → FewRegs before → HasFew b
 has_few before params args b is few = subst (λ (rs : List (Option ℕ)). length rs ≤ 16) (sym is.regs) few
-
----- Edges on which nothing moves
-
-same_place : (p : Place) → same (spot p) (spot p) ≡ true
-same_place (Reg r) = eq-eqb r r refl
-same_place (Home v) = eq-eqb v v refl
-same_place (Out k) = eq-eqb k k refl
-
-not_moving : (m : Move) → m.from ≡ m.to → is_moving m ≡ false
-not_moving m e = ap (λ p. not (same (spot m.to) (spot p))) e ∙ ap not (same_place m.to)
-
-pub kept_step : (from : ℕ → Place) (regs : List (Option ℕ)) (i : ℕ) (held : Option ℕ) (all : List Move) → i < length regs → held ≡ get_or regs i None → ((v : ℕ) → held ≡ Some v → from v ≡ Reg i) → all ≡ filter is_moving (reg_moves from i (drop i regs)) → all ≡ filter is_moving (reg_moves from (i + 1) (drop (i + 1) regs))
-kept_step from regs i held all lt is kept e =
-    e ∙ ap (λ x. filter is_moving (reg_moves from i x)) (drop_more regs i None lt ∙ ap (λ y. y ∷ drop (i + 1) regs) (sym is)) ∙ at_held held kept
-    ∙ ap (λ k. filter is_moving (reg_moves from k (drop (i + 1) regs))) (let one : suc i ≡ i + 1 = omega arith in one)
-  where
-    at_held : (h : Option ℕ) → ((v : ℕ) → h ≡ Some v → from v ≡ Reg i) → filter is_moving (reg_moves from i (h ∷ drop (i + 1) regs)) ≡ filter is_moving (reg_moves from (suc i) (drop (i + 1) regs))
-    at_held None k = refl
-    at_held (Some v) k =
-        let m : Move = record { to = Reg i; from = from v } in
-        ap (λ b. cond b (m ∷ filter is_moving (reg_moves from (suc i) (drop (i + 1) regs))) (filter is_moving (reg_moves from (suc i) (drop (i + 1) regs)))) (not_moving m (k v refl))
-
-pub nothing_moves : (xs ys : List Move) → filter is_moving xs ≡ [] → ys ≡ [] → order_of (xs ++ ys) ≡ []
-nothing_moves xs ys e none =
-    ap (λ z. order_of (xs ++ z)) none ∙ ap order_of (append-nil xs) ∙ ap (λ (fs : List Move). ordered (length (map pending fs)) (map pending fs)) e
-
-pub stays_step : (stays : ℕ → Bool) (from : ℕ → Place) (vs : List ℕ) (i v : ℕ) → i < length vs → v ≡ get_or vs i 0 → stays v ≡ true → home_moves stays from (drop i vs) ≡ home_moves stays from (drop (i + 1) vs)
-stays_step stays from vs i v lt is s =
-    ap (home_moves stays from) (drop_more vs i 0 lt ∙ ap (λ y. y ∷ drop (i + 1) vs) (sym is))
-    ∙ ap (λ b. cond b (home_moves stays from (drop (i + 1) vs)) ((record { to = Home v; from = from v }) ∷ home_moves stays from (drop (i + 1) vs))) s
 
 ---- The table of arguments
 

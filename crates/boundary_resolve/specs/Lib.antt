@@ -4,3 +4,4 @@ pub mod Edges
 pub mod Before
 pub mod Seats
 pub mod Codes
+pub mod Found

@@ -1,21 +1,23 @@
 //! A procedure's lines, node by node.
 
-ghost use Rattle.std.specs.Prelude.{◌≡◌, ℕ, ◌≤◌, ◌++◌, ◌∷◌, [], map, flat_map, length, None, IfOk, OnOk, slice_index_or};
+ghost use Rattle.std.specs.Prelude.{◌≡◌, ℕ, ◌≤◌, ◌++◌, ◌∷◌, [], map, filter, flat_map, length, None, IfOk, OnOk, slice_index_or};
 ghost use Rattle.run_laws.specs.Layers.{places_from};
 ghost use Rattle.lir_core.specs.Spots.{argument_of, IsRising};
 ghost use Rattle.lir_core.specs.Flows.{node_at};
-ghost use Rattle.parallel_move.specs.Order.{order_of};
+ghost use Rattle.lir_core.specs.Lines.{AreDistinct};
+ghost use Rattle.parallel_move.specs.Order.{is_moving, copied, order_of};
 ghost use Rattle.boundary_resolve.specs.declared.code_line.CodeLine.TheVariants.{Edge, Body};
 ghost use Rattle.boundary_resolve.specs.Moves.{edge_moves, entry_places, FewRegs};
 ghost use Rattle.boundary_resolve.specs.Placing.{start_at, end_at, lines_at, is_test, steps_of_end, jump_steps, steps_from, test_steps, entry_steps, node_lines};
 ghost use Rattle.boundary_resolve.specs.Codes.{OfCode};
 
 use crate::code_line::CodeLine;
-use crate::moves::{Before, moves_nothing, moves_to};
+use crate::moves::{Before, moves_to};
+use crate::near::{is_near, push_near};
 use crate::seats::Seat;
-use lir_core::{Flow, Items, Leave, Line, Places, TraceOut};
+use lir_core::{Flow, Items, Leave, Line, Move, Places, TraceOut};
 use outside::Memory;
-use parallel_move::{Step, order};
+use parallel_move::{Step, leading, order};
 use std::alloc::{AllocError, Global};
 
 /// A flow, the results for its traces, and where its nodes stand in them.
@@ -30,7 +32,12 @@ pub(crate) struct Code<'a> {
 
 impl Code<'_> {
     /// The steps of the entry's edge.
-    pub(crate) fn push_entry(&self, alloc: Global, placed: &mut Vec<CodeLine>) -> Result<(), Memory>
+    pub(crate) fn push_entry(
+        &self,
+        alloc: Global,
+        placed: &mut Vec<CodeLine>,
+        moves: &mut Vec<Move>,
+    ) -> Result<(), Memory>
         ensures { OfCode self.now (λ f traces outs. OnOk result (placed.new.items ≡ placed.old.items ++ map Edge (entry_steps f traces outs))) }
     {
         let params = self.params(0);
@@ -38,6 +45,7 @@ impl Code<'_> {
         push_edge(
             alloc,
             placed,
+            moves,
             &before,
             self.start(0),
             params,
@@ -50,35 +58,49 @@ impl Code<'_> {
         &self,
         alloc: Global,
         placed: &mut Vec<CodeLine>,
+        moves: &mut Vec<Move>,
         nodes: &[u32],
     ) -> Result<(), Memory>
         ensures { OfCode self.now (λ f traces outs. OnOk result (placed.new.items ≡ placed.old.items ++ flat_map (node_lines f traces outs) nodes.now)) }
     {
         for node in nodes {
-            self.push_node(alloc, placed, *node)?;
+            self.push_node(alloc, placed, moves, *node)?;
         }
         Ok(())
     }
 
-    fn push_node(&self, alloc: Global, placed: &mut Vec<CodeLine>, node: u32) -> Result<(), Memory>
+    fn push_node(
+        &self,
+        alloc: Global,
+        placed: &mut Vec<CodeLine>,
+        moves: &mut Vec<Move>,
+        node: u32,
+    ) -> Result<(), Memory>
         ensures { OfCode self.now (λ f traces outs. OnOk result (placed.new.items ≡ placed.old.items ++ node_lines f traces outs node)) }
     {
         placed.push(CodeLine::Node(node))?;
-        self.push_test(alloc, placed, node)?;
+        self.push_test(alloc, placed, moves, node)?;
         push_lines(alloc, placed, self.lines(node))?;
-        self.push_jump(alloc, placed, node)?;
+        self.push_jump(alloc, placed, moves, node)?;
         placed.push(CodeLine::Leave(node))?;
         Ok(())
     }
 
     // The steps of the edge from a test into a node.
-    fn push_test(&self, alloc: Global, placed: &mut Vec<CodeLine>, node: u32) -> Result<(), Memory>
+    fn push_test(
+        &self,
+        alloc: Global,
+        placed: &mut Vec<CodeLine>,
+        moves: &mut Vec<Move>,
+        node: u32,
+    ) -> Result<(), Memory>
         ensures { OfCode self.now (λ f traces outs. OnOk result (placed.new.items ≡ placed.old.items ++ map Edge (test_steps f traces outs node))) }
     {
         match self.preds(node).first() {
             Some(pred) if self.is_test(*pred) => push_edge(
                 alloc,
                 placed,
+                moves,
                 self.end(*pred),
                 self.start(node),
                 &[],
@@ -89,7 +111,13 @@ impl Code<'_> {
     }
 
     // The steps of the edge of a node's jump.
-    fn push_jump(&self, alloc: Global, placed: &mut Vec<CodeLine>, node: u32) -> Result<(), Memory>
+    fn push_jump(
+        &self,
+        alloc: Global,
+        placed: &mut Vec<CodeLine>,
+        moves: &mut Vec<Move>,
+        node: u32,
+    ) -> Result<(), Memory>
         ensures { OfCode self.now (λ f traces outs. OnOk result (placed.new.items ≡ placed.old.items ++ map Edge (jump_steps f traces outs node))) }
     {
         let Some(leaving) = self.flow.nodes.as_slice().get(node as usize) else {
@@ -99,6 +127,7 @@ impl Code<'_> {
             Leave::Jump { to, args } => push_edge(
                 alloc,
                 placed,
+                moves,
                 self.end(node),
                 self.start(*to),
                 self.params(*to),
@@ -219,9 +248,12 @@ fn entry(alloc: Global, count: usize) -> Result<(Places, Vec<u32>), Memory>
     Ok((places, args))
 }
 
+// The steps of an edge. The moves are a room for its own.
+#[inline(never)]
 fn push_edge(
     alloc: Global,
     placed: &mut Vec<CodeLine>,
+    moves: &mut Vec<Move>,
     from: &Places,
     to: &Places,
     params: &[u32],
@@ -231,15 +263,20 @@ fn push_edge(
         → OnOk result (placed.new.items ≡ placed.old.items ++ map Edge
         (order_of (edge_moves from.now to.now (argument_of params.now args.now)))) }
 {
-    if moves_nothing(from, to, params, args) {
+    if !is_near(from, to, params) {
+        return push_far(alloc, placed, from, to, params, args);
+    }
+    moves.clear();
+    push_near(moves, from, to, params, args)?;
+    if moves.is_empty() {
         return Ok(());
     }
-    push_moves(alloc, placed, from, to, params, args)
+    push_ordered(alloc, placed, moves.as_slice())
 }
 
-// The steps of an edge. Most edges move nothing, so this stands apart from the test of that.
+// The steps of an edge, by tables.
 #[inline(never)]
-fn push_moves(
+fn push_far(
     alloc: Global,
     placed: &mut Vec<CodeLine>,
     from: &Places,
@@ -252,12 +289,39 @@ fn push_moves(
         (order_of (edge_moves from.now to.now (argument_of params.now args.now)))) }
 {
     let before = Before::new(alloc, from, params, args)?;
-    if before.keeps(to) {
-        return Ok(());
-    }
     let moves = moves_to(alloc, &before, to)?;
     let steps = order(alloc, moves.as_slice())?;
     push_steps(placed, steps.as_slice())?;
+    Ok(())
+}
+
+// The steps of moves that are made all at once.
+#[inline(never)]
+fn push_ordered(alloc: Global, placed: &mut Vec<CodeLine>, moves: &[Move]) -> Result<(), Memory>
+    ensures { AreDistinct moves.now → OnOk result (placed.new.items ≡ placed.old.items ++ map Edge (order_of moves.now)) }
+{
+    let first = leading(moves);
+    push_copies(placed, &moves[..first])?;
+    if first == moves.len() {
+        return Ok(());
+    }
+    let steps = order(alloc, &moves[first..])?;
+    push_steps(placed, steps.as_slice())?;
+    Ok(())
+}
+
+// The steps of moves in their own order.
+fn push_copies(placed: &mut Vec<CodeLine>, moves: &[Move]) -> Result<(), AllocError>
+    ensures { OnOk result (placed.new.items ≡ placed.old.items ++ map Edge (map copied (filter is_moving moves.now))) }
+{
+    for m in moves {
+        if m.to != m.from {
+            placed.push(CodeLine::Edge(Step::Copy {
+                to: m.to,
+                from: m.from,
+            }))?;
+        }
+    }
     Ok(())
 }
 

@@ -1,13 +1,15 @@
 //! The code of a procedure in lines: its nodes, what allocators wrote for them, and the moves of every edge.
 //!
 //! An edge moves values from where they are behind a node to where the next node wants them before it. Its moves stand
-//! before a jump, or at the head of the target of a test, which has no other predecessor.
+//! before a jump, or at the head of the target of a test, which has no other predecessor. The moves of most edges are found
+//! in one walk over places (`near`), those of an edge with many parameters by tables.
 #![tactic(auto)]
 
 mod code;
 mod code_line;
 mod laws;
 mod moves;
+mod near;
 mod resolving;
 mod seats;
 

@@ -1,13 +1,13 @@
 //! The moves of an edge.
 
-ghost use Rattle.std.specs.Prelude.{◌≡◌, ◌<◌, ◌≤◌, [], ◌++◌, true, false, length, filter, IfOk, OnOk};
-ghost use Rattle.lir_core.specs.declared.places.Place.TheVariants.{Reg};
+ghost use Rattle.std.specs.Prelude.{◌≡◌, ◌<◌, ◌≤◌, ◌++◌, false, length, IfOk, OnOk};
 ghost use Rattle.lir_core.specs.Spots.{argument_of, TakesOver};
 ghost use Rattle.parallel_move.specs.Steps.{steps_source};
-ghost use Rattle.parallel_move.specs.Order.{is_moving, order_of};
-ghost use Rattle.boundary_resolve.specs.Moves.{place_of, register_of, reg_moves, home_moves, edge_moves, FewRegs, Covers};
+ghost use Rattle.parallel_move.specs.Order.{order_of};
+ghost use Rattle.boundary_resolve.specs.Moves.{reg_moves, home_moves, edge_moves, FewRegs, Covers};
 ghost use Rattle.boundary_resolve.specs.Before.{IsBefore, HasHomes, HasArguments, HasFew, Rises, argument_before, place_before, homed_before, stays_before, moves_before};
 
+use crate::near::{found_in, register_or_home};
 use lir_core::{Move, Place, Places};
 use outside::Memory;
 use rising_lists::{Finder, is_rising};
@@ -42,40 +42,7 @@ pub(crate) fn moves_to(alloc: Global, before: &Before, to: &Places) -> Result<Ve
 }
 
 /// The most parameters among which is searched for one without a table.
-const FEW: usize = 8;
-
-/// Whether an edge moves nothing, for one behind which nothing is homed and that has few parameters.
-pub(crate) fn moves_nothing(from: &Places, to: &Places, params: &[u32], args: &[u32]) -> bool
-    ensures { FewRegs from.now → result ≡ true → order_of (edge_moves from.now to.now (argument_of params.now args.now)) ≡ [] }
-{
-    params.len() <= FEW
-        && to.homed.as_slice().is_empty()
-        && stay_in_registers(from, to.regs.as_slice(), params, args)
-}
-
-// Whether all values that are wanted in registers behind an edge are there before it.
-fn stay_in_registers(from: &Places, regs: &[Option<u32>], params: &[u32], args: &[u32]) -> bool
-    ensures { FewRegs from.now → result ≡ true → filter is_moving (reg_moves (λ v. place_of from.now (argument_of params.now args.now v)) 0 regs.now) ≡ [] }
-{
-    for (register, held) in regs.iter().enumerate() {
-        if let Some(value) = held
-            && !is_held(from, argument_of(params, args, *value), register)
-        {
-            return false;
-        }
-    }
-    true
-}
-
-// Whether a value is in a register, and in none below it.
-fn is_held(from: &Places, value: u32, register: usize) -> bool
-    ensures { FewRegs from.now → result ≡ true → place_of from.now value ≡ Reg register }
-{
-    match register_of(from.regs.as_slice(), value) {
-        Some(found) => found as usize == register,
-        None => false,
-    }
-}
+pub(crate) const FEW: usize = 8;
 
 /// Where values are before an edge.
 #[derive(Drop)]
@@ -114,48 +81,6 @@ impl<'a> Before<'a> {
         })
     }
 
-    /// Whether all values that are wanted behind the edge stand there before it.
-    pub(crate) fn keeps(&self, to: &Places) -> bool
-        ensures { HasFew self.now → Rises self.now → FewRegs to.now → result ≡ true → order_of (moves_before self.now to.now) ≡ [] }
-    {
-        self.keeps_registers(to.regs.as_slice()) && self.keeps_homes(to.homed.as_slice())
-    }
-
-    fn keeps_registers(&self, regs: &[Option<u32>]) -> bool
-        ensures { HasFew self.now → result ≡ true → filter is_moving (reg_moves (place_before self.now) 0 regs.now) ≡ [] }
-    {
-        for (register, held) in regs.iter().enumerate() {
-            if let Some(value) = held
-                && !self.is_in(*value, register)
-            {
-                return false;
-            }
-        }
-        true
-    }
-
-    fn keeps_homes(&self, homed: &[u32]) -> bool
-        ensures { Rises self.now → result ≡ true → home_moves (stays_before self.now) (place_before self.now) homed.now ≡ [] }
-    {
-        let mut finder = Finder::new(self.homed);
-        for value in homed {
-            if !self.stays(&mut finder, *value) {
-                return false;
-            }
-        }
-        true
-    }
-
-    // Whether a value behind the edge is in a register before it.
-    fn is_in(&self, value: u32, register: usize) -> bool
-        ensures { HasFew self.now → result ≡ true → place_before self.now value ≡ Reg register }
-    {
-        match register_of(self.regs, self.argument(value)) {
-            Some(found) => found as usize == register,
-            None => false,
-        }
-    }
-
     // What a value behind the edge was before it.
     fn argument(&self, value: u32) -> u32
         ensures { result ≡ argument_before self.now value }
@@ -174,10 +99,7 @@ impl<'a> Before<'a> {
         ensures { HasFew self.now → result ≡ place_before self.now value }
     {
         let value = self.argument(value);
-        match register_of(self.regs, value) {
-            Some(register) => Place::Reg(register),
-            None => Place::Home(value),
-        }
+        register_or_home(found_in(self.regs, value), value)
     }
 
     // A value stays in its home.
@@ -201,20 +123,6 @@ impl<'a> Before<'a> {
     }
 }
 
-// The lowest register that has a value.
-fn register_of(regs: &[Option<u32>], value: u32) -> Option<u8>
-    ensures { length regs.now ≤ 16 → result ≡ register_of regs.now 0 value }
-{
-    for (register, held) in regs.iter().enumerate() {
-        if let Some(found) = held
-            && *found == value
-        {
-            return u8::try_from(register).ok();
-        }
-    }
-    None
-}
-
 // The set of values, where they don't rise.
 fn set(alloc: Global, values: &[u32], rises: bool) -> Result<BTreeSet<u32>, AllocError>
     ensures { rises ≡ false → IfOk result (λ set. HasHomes values.now set) }
@@ -235,8 +143,8 @@ fn set_of(alloc: Global, values: &[u32]) -> Result<BTreeSet<u32>, AllocError>
     Ok(set)
 }
 
-// A parameter's argument, of the first of two for one parameter; any other value is its own.
-fn argument_of(params: &[u32], args: &[u32], value: u32) -> u32
+/// A parameter's argument, of the first of two for one parameter; any other value is its own.
+pub(crate) fn argument_of(params: &[u32], args: &[u32], value: u32) -> u32
     ensures { result ≡ argument_of params.now args.now value }
 {
     for (i, param) in params.iter().enumerate() {

@@ -31,9 +31,10 @@ pub fn resolve(
         },
     };
     let mut placed = Vec::with_capacity(alloc, room(outs))?;
-    code.push_entry(alloc, &mut placed)?;
+    let mut moves = Vec::new(alloc);
+    code.push_entry(alloc, &mut placed, &mut moves)?;
     for trace in traces {
-        code.push_nodes(alloc, &mut placed, trace.nodes.as_slice())?;
+        code.push_nodes(alloc, &mut placed, &mut moves, trace.nodes.as_slice())?;
     }
     Ok(placed)
 }

@@ -4,3 +4,4 @@ pub mod Table
 pub mod Saving
 pub mod Along
 pub mod Linking
+pub mod First

@@ -227,7 +227,7 @@ free_filter p (m ∷ ms) h = at_test (is_moving m) (free_filter p ms h.1)
     at_test true rest = (h.0, rest)
     at_test false rest = rest
 
-apart_filter : (ms : List Move) → AreApart ms → AreApart (filter is_moving ms)
+pub apart_filter : (ms : List Move) → AreApart ms → AreApart (filter is_moving ms)
 apart_filter [] h = tt
 apart_filter (m ∷ ms) h = at_test (is_moving m) (apart_filter ms h.1)
   where

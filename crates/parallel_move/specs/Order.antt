@@ -32,6 +32,10 @@ is_moving m = not (same (spot m.to) (spot m.from))
 abbrev pub pending : Move → Pending
 pending m = record { to = m.to; from = Some m.from }
 
+-- the step that makes a move on its own
+abbrev pub copied : Move → Step
+copied m = Copy m.to m.from
+
 abbrev pub moving : List Move → List Pending
 moving ms = map pending (filter is_moving ms)
 

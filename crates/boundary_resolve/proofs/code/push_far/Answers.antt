@@ -1,16 +1,7 @@
 use Rattle.std.proofs.Common.{◌∙◌}
-use Rattle.boundary_resolve.specs.Before.{moves_before}
-use Rattle.boundary_resolve.proofs.Laid.{edge_kept, edge_pushed}
+use Rattle.boundary_resolve.proofs.Laid.{edge_pushed}
 use Rattle.boundary_resolve.proofs.Sought.{before_is, has_few, rises_before}
-use Rattle.boundary_resolve.proofs.code.push_moves.Goals as goal
-
-pub returns-then-keeps : goal.returns-then-keeps
-returns-then-keeps c few_from few_to rising =
-    let b = c.in_ok-before.before in
-    let is = c.in_ok-before.ensures in
-    let few = has_few c.args.from.now c.args.params.now c.args.args.now b is few_from in
-    let rises = rises_before c.args.from.now c.args.params.now c.args.args.now b is in
-    edge_kept c.args.from.now c.args.to.now c.args.params.now c.args.args.now (moves_before b c.args.to.now) c.args.placed.now.items (before_is c.args.from.now c.args.to.now c.args.params.now c.args.args.now b is) (c.keeps.ensures few rises few_to c.if-keeps.true)
+use Rattle.boundary_resolve.proofs.code.push_far.Goals as goal
 
 pub returns : goal.returns
 returns c few_from few_to rising =
