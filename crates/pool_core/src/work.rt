@@ -35,6 +35,10 @@ pub trait Work: Sync {
         requires { trace < length (parents self.now) }
         ensures { get_elem? (parents self.now) trace ≡ some result };
 
+    /// The number with which a worker passes the gate before it runs the trace.
+    fn gate_number(&self, trace: u32) -> u32
+        requires { trace < length (parents self.now) };
+
     /// The final result of a trace, which runs with its hint, or without one where it has no parent.
     fn run<'a>(
         &'a self,

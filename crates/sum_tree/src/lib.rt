@@ -87,6 +87,10 @@ impl Work for SumTree {
         self.parents[trace as usize]
     }
 
+    fn gate_number(&self, trace: u32) -> u32 {
+        trace
+    }
+
     fn run<'a>(&'a self, alloc: Global, trace: u32, hint: Option<&'a u64>) -> Result<u64, Memory> {
         let _ = alloc;
         if Some(self.runs.fetch_add(1, Ordering::SeqCst)) == self.failing {

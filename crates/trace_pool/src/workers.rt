@@ -21,7 +21,10 @@ use std::thread::{Threads, join};
 // A worker draws at most this often, which is oftener than there are traces.
 const ROUNDS: u32 = 0x7fff_ffff;
 
-// Runs the trace that the seat has, and finishes it. False: there was no memory, and the seat has stopped.
+// The size of the block, in bytes, with which a thread's memory begins.
+const KEPT: usize = 1 << 20;
+
+// Passes the gate with the number of the trace that the seat has, runs the trace, and finishes it. False: there was no memory, and the seat has stopped.
 fn perform<W: Work, G: Gate>(
     alloc: Global,
     pool: &Pool<W>,
@@ -39,7 +42,7 @@ fn perform<W: Work, G: Gate>(
     ensures ends { IsEnd result (stage_of seat.new) }
     ensures same { (draws_of seat.new ≡ draws_of seat.old) × (share_of seat.new ≡ share_of seat.old) }
 {
-    gate.enter(trace);
+    gate.enter(work.gate_number(trace));
     let Ok(done) = work.run(alloc, trace, hint.as_ref()) else {
         seat.stop(pool);
         return false;
@@ -106,6 +109,14 @@ fn work_on<W: Work, G: Gate, R: Wait>(
     seat
 }
 
+// The C library gives a thread memory page by page, each with a call of the system for which the others' new pages wait, and what the
+// thread lets go stays its own. So one block is asked for and let go untouched. Where there is no room for it, nothing is lost.
+fn keep_memory(alloc: Global) {
+    if let Ok(block) = Vec::<u8>::with_capacity(alloc, KEPT) {
+        drop(block);
+    }
+}
+
 // Shares the work among as many threads as there are jobs.
 fn spread<W: Work, G: Gate, R: Threads + Wait + Sync>(
     rt: &R,
@@ -130,11 +141,17 @@ fn spread<W: Work, G: Gate, R: Threads + Wait + Sync>(
         || -> Seat<W>
             requires { IsPoolOf W.parents pool.now work.now × IsFresh W.parents pool.now mine 4294967296 }
             ensures { HasWorked W.parents pool.entry.now result (share_of mine) }
-        { work_on(rt, alloc, pool, mine, work, gate) },
+        {
+            keep_memory(alloc);
+            work_on(rt, alloc, pool, mine, work, gate)
+        },
         || -> Seat<W>
             requires { IsSync R.row × (1 < jobs) × IsPoolOf W.parents pool.now work.now × IsFresh W.parents pool.now rest ((jobs - 1) * 4294967296) }
             ensures { HasWorked W.parents pool.entry.now result (share_of rest) }
-        { spread(rt, alloc, pool, rest, work, gate, jobs - 1) },
+        {
+            keep_memory(alloc);
+            spread(rt, alloc, pool, rest, work, gate, jobs - 1)
+        },
     );
     b.join(a, pool)
 }

@@ -30,6 +30,10 @@ impl Work for Pair {
         if trace == 0 { None } else { Some(0) }
     }
 
+    fn gate_number(&self, trace: u32) -> u32 {
+        trace
+    }
+
     fn run<'a>(&'a self, alloc: Global, trace: u32, hint: Option<&'a u32>) -> Result<u32, Memory> {
         let _ = alloc;
         let _ = hint;
