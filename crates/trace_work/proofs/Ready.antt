@@ -1,5 +1,5 @@
 -- Final results of a plan's traces, one behind the other.
-use Rattle.std.proofs.Common.{◌≡◌, ℕ, zero, suc, ◌+◌, ◌<◌, ◌≤◌, ◌⊎◌, inl, inr, List, [], ◌∷◌, ◌++◌, length, get_or, take, Option, Some, None, refl, sym, ap, ap₂, ◌∙◌, subst, arith, length-append}
+use Rattle.std.proofs.Common.{◌≡◌, ℕ, zero, suc, ◌<◌, ◌≤◌, ◌⊎◌, inl, inr, List, [], ◌∷◌, length, get_or, Option, Some, None, refl, sym, ap, ◌∙◌, subst, arith, length-append}
 use Rattle.std.proofs.lemmas.Bool.{cases_lt}
 use Rattle.std.proofs.lemmas.List.{get_or_push, get_or_append_left, ext_get_or}
 use Rattle.lir_core.specs.declared.flow.Trace.{Trace}
@@ -18,14 +18,16 @@ use Rattle.linear_scan.specs.Inputs.{lent}
 use Rattle.alloc_choice.specs.declared.choice.Choice.{Choice}
 use Rattle.alloc_choice.specs.Choice.{IsFitChoice}
 use Rattle.alloc_choice.specs.declared.choice.Policy.{Policy}
-use Rattle.alloc_choice.specs.Choice.{used}
-use Rattle.alloc_choice.specs.Results.{parent_of, hint_for, result_by, result_at, results_to, no_out, out_at, IsCase}
+use Rattle.alloc_choice.specs.declared.choice.Used.{Used}
+use Rattle.alloc_choice.specs.declared.choice.Used.TheVariants.{Plain as ByPlain, Trivial as ByTrivial, Linear as ByLinear, BottomUp as ByBottomUp}
+use Rattle.alloc_choice.specs.Results.{parent_of, hint_for, result_at, results_to, no_out, out_at, IsCase}
 use Rattle.trace_work.specs.declared.planning.TracePlan.{TracePlan}
 use Rattle.trace_work.specs.declared.work.Entry.{Entry}
 use Rattle.trace_work.specs.declared.work.TraceHint.{TraceHint}
 use Rattle.trace_work.specs.Places.{hint_by, if_row}
 use Rattle.walked_results.proofs.Sounds.{result_sound}
-use Rattle.trace_work.specs.Plans.{IsPlan, IsFinal, IsHint, case_of, final_of, finals_to, hint_to, nodes_of}
+use Rattle.alloc_choice.proofs.Fits.{without_hint}
+use Rattle.trace_work.specs.Plans.{IsPlan, IsFinal, IsHint, case_of, final_of, finals_to, if_taken, nodes_of, used_of}
 use Rattle.trace_work.specs.Entries.{entry_of, parents_in, AreEntries}
 use Rattle.trace_work.specs.Finals.{joined, plain_hint, HasRow, IsFinalOf, IsHintOf, OfTrace}
 use Rattle.trace_work.proofs.Entered.{hint_fits, no_parent, root, under}
@@ -39,6 +41,22 @@ length-results_to p x first traces (suc n) =
     let e = length-append (results_to p x first traces n) (result_at p x first traces (results_to p x first traces n) n ∷ []) in
     let r = length-results_to p x first traces n in
     omega (arith, e, r)
+
+---- Hints that are taken
+
+-- no hint is taken as none
+taken_none : (by : Used) → if_taken by None ≡ None
+taken_none ByPlain = refl
+taken_none ByTrivial = refl
+taken_none ByLinear = refl
+taken_none ByBottomUp = refl
+
+-- what is asked with a hint holds with what is taken of it
+taken_fits : (by : Used) (x : Case) (ns : List ℕ) (hint : Option Hint) → IsInput x ns hint → IsInput x ns (if_taken by hint)
+taken_fits ByPlain x ns hint h = without_hint x ns hint h
+taken_fits ByTrivial x ns hint h = h
+taken_fits ByLinear x ns hint h = h
+taken_fits ByBottomUp x ns hint h = without_hint x ns hint h
 
 module _ (choice : Choice) (p : TracePlan) where
   pub length-finals : (n : ℕ) → length (finals_to choice p n) ≡ n
@@ -66,37 +84,39 @@ module _ (choice : Choice) (p : TracePlan) where
   pub case_is : IsPlan choice.builder p → IsCase (case_of choice p) p.traces
   case_is is = record { valid = is.valid; live = is.live; paths = is.paths; partition = is.partition }
 
+  -- what the table gives to a trace, of the result of the one above it
+  abbrev pub table_hint : TraceOut → ℕ → ℕ → Option Hint
+  table_hint done l t = if_taken (used_of choice p t) (if_row choice.regs (hint_by p.flow.now.nodes p.places (trace_at p.traces l) done (first_of (nodes_of p t))))
+
   -- no hint, of a trace without a parent
   pub root_hint : (t : ℕ) → IsPlan choice.builder p → 4 ≤ choice.regs → t < length p.traces → get_or p.parents t None ≡ None → IsHint choice p t None
   root_hint t is enough lt none =
-      let e : parent_of (code_nodes p.flow.now.nodes) p.traces t ≡ None = parent_is (code_nodes p.flow.now.nodes) p.traces t (get_or p.parents t None) (is.parents.parent t lt) ∙ none in
+      let bls = code_nodes p.flow.now.nodes in
+      let head = first_of (nodes_of p t) in
+      let outs = finals_to choice p t in
+      let by = used_of choice p t in
+      let e : parent_of bls p.traces t ≡ None = parent_is bls p.traces t (get_or p.parents t None) (is.parents.parent t lt) ∙ none in
       record {
-        is = sym (ap (hint_for (code_nodes p.flow.now.nodes) p.traces (finals_to choice p t) (first_of (nodes_of p t))) e ∙ without_parent (code_nodes p.flow.now.nodes) p.traces (finals_to choice p t) (first_of (nodes_of p t)));
+        is = sym (ap (λ o. if_taken by (hint_for bls p.traces outs head o)) e ∙ ap (if_taken by) (without_parent bls p.traces outs head) ∙ taken_none by);
         fits = root_ready (case_of choice p) p.traces (case_is is) p.places is.places t enough lt;
       }
 
   -- the hint that the final result of the parent gives
   pub child_hint : (t l : ℕ) (done : TraceOut) (hint : Option Hint) → IsPlan choice.builder p → 4 ≤ choice.regs → t < length p.traces → get_or p.parents t None ≡ Some l → l < t → IsFinal choice p l done
-      → hint ≡ if_row choice.regs (hint_by p.flow.now.nodes p.places (trace_at p.traces l) done (first_of (nodes_of p t))) → IsHint choice p t hint
+      → hint ≡ table_hint done l t → IsHint choice p t hint
   child_hint t l done hint is enough lt known lower final given =
       let bls = code_nodes p.flow.now.nodes in
       let head = first_of (nodes_of p t) in
       let outs = finals_to choice p t in
+      let by = used_of choice p t in
       let e : parent_of bls p.traces t ≡ Some l = parent_is bls p.traces t (get_or p.parents t None) (is.parents.parent t lt) ∙ known in
       let r = child_ready (case_of choice p) p.traces (case_is is) p.places is.places t l done enough lt (result_sound choice.regs p.flow.now (trace_at p.traces l) done final.walked) final.rises in
       let same : done ≡ out_at outs l = final.is ∙ sym (final_at t l lower) in
-      let h : hint ≡ head_hint bls (trace_at p.traces l) done head = given ∙ r.0 in
+      let h : hint ≡ if_taken by (head_hint bls (trace_at p.traces l) done head) = given ∙ ap (if_taken by) r.0 in
       record {
-        is = h ∙ ap (λ o. head_hint bls (trace_at p.traces l) o head) same ∙ sym (with_parent bls p.traces outs head l) ∙ sym (ap (hint_for bls p.traces outs head) e);
-        fits = subst (IsInput (case_of choice p) (nodes_of p t)) (sym h) r.1;
+        is = h ∙ ap (if_taken by) (ap (λ o. head_hint bls (trace_at p.traces l) o head) same ∙ sym (with_parent bls p.traces outs head l) ∙ sym (ap (hint_for bls p.traces outs head) e));
+        fits = subst (IsInput (case_of choice p) (nodes_of p t)) (sym h) (taken_fits by (case_of choice p) (nodes_of p t) (head_hint bls (trace_at p.traces l) done head) r.1);
       }
-
-  ---- Results
-
-  -- what is made with the hint is the final result
-  pub made_is : (t number : ℕ) (hint : Option Hint) → IsHint choice p t hint → number ≡ p.number + t
-      → result_by (used choice.policy p.flow.now.nodes (nodes_of p t)) (case_of choice p) number (nodes_of p t) hint ≡ final_of choice p t
-  made_is t number hint h n = ap₂ (λ m k. result_by (used choice.policy p.flow.now.nodes (nodes_of p t)) (case_of choice p) m (nodes_of p t) k) n h.is
 
 ---- By numbers through all flows
 
@@ -111,17 +131,17 @@ module _ (choice : Choice) (fit : IsFitChoice choice) (plans : List TracePlan) (
   -- the hint of a trace above which there is one, where that one's result is final
   pub hint_of_child : (t above : ℕ) (done : TraceOut) → get_elem? (parents_in entries) t ≡ some (Some above) → IsFinalOf choice plans entries above done
       → (e : Entry) (p : TracePlan) → slice_get entries t ≡ Some e → slice_get plans e.flow ≡ Some p → (over : Entry) → slice_get entries above ≡ Some over
-      → (hint : Option Hint) → hint ≡ if_row choice.regs (hint_by p.flow.now.nodes p.places (trace_at p.traces over.number) done (first_of (nodes_of p e.number)))
+      → (hint : Option Hint) → hint ≡ table_hint choice p done over.number e.number
       → OfTrace plans entries t (λ q n. IsPlan choice.builder q → IsHint choice q n hint)
   hint_of_child t above done known final e p there of over over_there hint is =
       let u = under plans entries t above h known in
       let same : u.entry ≡ e = let z : Some u.entry ≡ Some e = sym u.there ∙ there in cc in
       let plan : u.plan ≡ p = let z : Some u.plan ≡ Some p = sym u.of ∙ ap (λ (y : Entry). slice_get plans y.flow) same ∙ of in cc in
       let local : entry_of u.entry.flow u.plan u.local ≡ over = let z : Some (entry_of u.entry.flow u.plan u.local) ≡ Some over = sym u.over ∙ over_there in cc in
-      let is_local : hint ≡ if_row choice.regs (hint_by u.plan.flow.now.nodes u.plan.places (trace_at u.plan.traces u.local) done (first_of (nodes_of u.plan u.entry.number))) =
-      is ∙ ap (λ (y : TracePlan). if_row choice.regs (hint_by y.flow.now.nodes y.places (trace_at y.traces over.number) done (first_of (nodes_of y e.number)))) (sym plan)
-      ∙ ap (λ (y : Entry). if_row choice.regs (hint_by u.plan.flow.now.nodes u.plan.places (trace_at u.plan.traces y.number) done (first_of (nodes_of u.plan e.number)))) (sym local)
-      ∙ ap (λ (y : Entry). if_row choice.regs (hint_by u.plan.flow.now.nodes u.plan.places (trace_at u.plan.traces u.local) done (first_of (nodes_of u.plan y.number)))) (sym same)
+      let is_local : hint ≡ table_hint choice u.plan done u.local u.entry.number =
+      is ∙ ap (λ (y : TracePlan). table_hint choice y done over.number e.number) (sym plan)
+      ∙ ap (λ (y : Entry). table_hint choice u.plan done y.number e.number) (sym local)
+      ∙ ap (λ (y : Entry). table_hint choice u.plan done u.local y.number) (sym same)
       in
       of_trace t (λ q n. IsPlan choice.builder q → IsHint choice q n hint) u.entry u.plan u.there u.of
       (λ planned. child_hint choice u.plan u.entry.number u.local done hint planned fit.enough u.is.within u.is_local u.lower (final (entry_of u.entry.flow u.plan u.local) u.plan u.over u.of planned) is_local)

@@ -1,5 +1,5 @@
 -- Flows in traces, and the final results of these.
-use Rattle.std.specs.Prelude.{◌≡◌, ℕ, List, length, replicate, Option}
+use Rattle.std.specs.Prelude.{◌≡◌, ℕ, Bool, true, false, cond, List, length, replicate, Option, None}
 use Rattle.lir_core.specs.declared.places.TraceOut.{TraceOut}
 use Rattle.lir_core.specs.Flows.{code_nodes, IsValidFlow}
 use Rattle.lir_core.specs.Sound.{EndsRise}
@@ -13,6 +13,9 @@ use Rattle.trace_needs.specs.Needs.{first_of}
 use Rattle.linear_scan.specs.Linear.{Case, Hint}
 use Rattle.linear_scan.specs.Inputs.{IsInput}
 use Rattle.alloc_choice.specs.declared.choice.Choice.{Choice}
+use Rattle.alloc_choice.specs.declared.choice.Used.{Used}
+use Rattle.alloc_choice.specs.declared.choice.Used.TheVariants.{Plain as ByPlain, Trivial as ByTrivial, Linear as ByLinear, BottomUp as ByBottomUp}
+use Rattle.alloc_choice.specs.Choice.{used}
 use Rattle.alloc_choice.specs.Results.{case_with, hint_for, parent_of, result_at, results_to}
 use Rattle.trace_work.specs.declared.planning.TracePlan.{TracePlan}
 use Rattle.trace_work.specs.Places.{placed_all}
@@ -49,13 +52,32 @@ final_of choice p t = result_at choice.policy (case_of choice p) p.number p.trac
 abbrev pub hint_to : Choice → TracePlan → ℕ → Option Hint
 hint_to choice p t = hint_for (code_nodes p.flow.now.nodes) p.traces (finals_to choice p t) (first_of (nodes_of p t)) (parent_of (code_nodes p.flow.now.nodes) p.traces t)
 
+---- Hints that are taken
+
+-- by what a plan's trace is given places
+abbrev pub used_of : Choice → TracePlan → ℕ → Used
+used_of choice p t = used choice.policy p.flow.now.nodes (nodes_of p t)
+
+-- plain and bottom-up take no hint
+abbrev pub takes_hint : Used → Bool
+takes_hint ByPlain = false
+takes_hint ByTrivial = true
+takes_hint ByLinear = true
+takes_hint ByBottomUp = false
+
+-- a hint, where one is taken
+abbrev pub if_taken : Used → Option Hint → Option Hint
+if_taken by hint = cond (takes_hint by) hint None
+
+---- What is final, and what a hint
+
 -- the final result, which the walk by names accepts, and whose ends can be hints
 pub record IsFinal (choice : Choice) (p : TracePlan) (t : ℕ) (out : TraceOut) : Type 0 where
   pub is : out ≡ final_of choice p t
   pub walked : IsWalked choice.regs p.flow.now (trace_at p.traces t) out
   pub rises : EndsRise out
 
--- the hint, with which the trace can be given places
+-- the hint where the trace's policy takes one and else none, with which the trace can be given places
 pub record IsHint (choice : Choice) (p : TracePlan) (t : ℕ) (hint : Option Hint) : Type 0 where
-  pub is : hint ≡ hint_to choice p t
+  pub is : hint ≡ if_taken (used_of choice p t) (hint_to choice p t)
   pub fits : IsInput (case_of choice p) (nodes_of p t) hint

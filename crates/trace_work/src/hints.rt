@@ -5,8 +5,10 @@ ghost use Rattle.trace_needs.specs.Needs.{first_of};
 ghost use Rattle.linear_scan.specs.Inputs.{lent};
 ghost use Rattle.trace_work.specs.Places.{has_at, first_held, entering_by, hint_of_place, hint_by, if_row};
 ghost use Rattle.trace_work.specs.Lent.{hints};
+ghost use Rattle.trace_work.specs.Plans.{takes_hint};
 
 use crate::places::place_of;
+use alloc_choice::Used;
 use lir_core::{Flow, Places, Trace, TraceOut};
 
 /// A node, and its place in its trace.
@@ -21,6 +23,16 @@ pub(crate) struct Entering {
 pub(crate) struct Hint<'a> {
     pub(crate) node: u32,
     pub(crate) places: &'a Places,
+}
+
+/// Whether a trace that is given places by this takes a hint.
+pub(crate) fn takes_hint(by: Used) -> bool
+    ensures { result ≡ takes_hint by }
+{
+    match by {
+        Used::Trivial | Used::Linear => true,
+        Used::Plain | Used::BottomUp => false,
+    }
 }
 
 /// The hint that the result of the trace above gives to a trace of that head, if the places there have so many registers.

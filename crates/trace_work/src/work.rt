@@ -10,16 +10,16 @@ ghost use Rattle.linear_scan.specs.Inputs.{hint_of, lent};
 ghost use Rattle.alloc_choice.specs.Choice.{IsFitChoice};
 ghost use Rattle.trace_work.specs.Places.{hint_by, if_row};
 ghost use Rattle.trace_work.specs.Lent.{hints};
-ghost use Rattle.trace_work.specs.Plans.{nodes_of, IsFinal, IsHint, IsOrdered, IsPlan};
+ghost use Rattle.trace_work.specs.Plans.{if_taken, nodes_of, used_of, IsFinal, IsHint, IsOrdered, IsPlan};
 ghost use Rattle.trace_work.specs.Entries.{AreEntries, entries_of, parents_in};
 ghost use Rattle.trace_work.specs.Entries.{above as above_in};
 ghost use Rattle.trace_work.specs.Finals.{AreNumbered, AreBehind, flows_in, joined, plain_hint, IsFinalOf, IsHintOf};
 ghost use Rattle.trace_work.specs.declared.fault.WorkFault.TheVariants.{Traces};
 
 use crate::fault::WorkFault;
-use crate::hints::{Hint, head_of, hint_from};
+use crate::hints::{Hint, head_of, hint_from, takes_hint};
 use crate::planning::{TracePlan, plan_of};
-use alloc_choice::{Choice, allocate_trace};
+use alloc_choice::{Choice, allocate_trace, policy_of};
 use items::Items;
 use lir_core::{Flow, Places, TraceIn, TraceOut};
 use outside::Memory;
@@ -180,6 +180,28 @@ fn hint_between<'b>(
     )
 }
 
+// The hint that the final result of a plan's trace gives to a trace below it; none where the policy of that one takes none.
+fn taken_hint<'b>(
+    choice: &Choice,
+    plan: &TracePlan,
+    above: usize,
+    done: &'b TraceOut,
+    below: usize,
+) -> Option<Hint<'b>>
+    requires enough { 0 < choice.now.regs }
+    requires above { above < length plan.now.traces }
+    requires below { below < length plan.now.traces }
+    ensures hint { hints result ≡ if_taken (used_of choice.now plan.now below) (if_row choice.now.regs (hint_by plan.now.flow.now.nodes plan.now.places (trace_at plan.now.traces above) done.now (first_of (nodes_of plan.now below)))) }
+    ensures row { IfSome result (λ h. length h.places.now.regs ≡ choice.now.regs) }
+{
+    let trace = &plan.traces.as_slice()[below];
+    if takes_hint(policy_of(choice, plan.flow, trace)) {
+        hint_between(plan, above, done, below, choice.regs)
+    } else {
+        None
+    }
+}
+
 // The result of a plan's trace, with a hint where there is one.
 fn result(
     alloc: Global,
@@ -225,6 +247,10 @@ impl<'a> Work for TraceWork<'a> {
         self.entries[trace as usize].parent
     }
 
+    fn gate_number(&self, trace: u32) -> u32 {
+        self.before + trace
+    }
+
     fn run<'b>(
         &'b self,
         alloc: Global,
@@ -254,7 +280,7 @@ impl<'a> Work for TraceWork<'a> {
         };
         let above = self.entries[parent as usize].number;
         let plan = &self.plans[entry.flow];
-        match hint_between(plan, above, done, entry.number, self.choice.regs) {
+        match taken_hint(&self.choice, plan, above, done, entry.number) {
             Some(hint) => Ok(Some(copied(alloc, hint)?)),
             None => Ok(None),
         }

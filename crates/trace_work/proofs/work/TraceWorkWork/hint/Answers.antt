@@ -56,8 +56,8 @@ index-plan-requires c =
     let lt = slice_get_within w.entries.items c.args.child x.0 x.1 in
     omega (arith, flow_known w.plans.items w.entries.items w.entered c.args.child c.index-entry.result.now c.index-entry.ensures lt, w.plans.ok)
 
-pub hint_between-requires-clause-above : goal.hint_between-requires-clause-above
-hint_between-requires-clause-above c =
+pub taken_hint-requires-clause-above : goal.taken_hint-requires-clause-above
+taken_hint-requires-clause-above c =
     let w = c.args.self.now in
     let x = entry_there w.entries.items c.args.child (Some c.requires.0) c.requires.1 in
     let lt = slice_get_within w.entries.items c.args.child x.0 x.1 in
@@ -69,15 +69,15 @@ hint_between-requires-clause-above c =
     above_within w.plans.items w.entries.items c.args.child c.requires.0 w.entered c.requires.1 c.index-entry.result.now c.index-plan.result.now there of c.index.result.now
     (ap (slice_get w.entries.items) (sym q) ∙ entry_is w.plans.items w.entries.items w.entered c.in-Some.parent c.index.result.now c.index.ensures over)
 
-pub hint_between-requires-clause-below : goal.hint_between-requires-clause-below
-hint_between-requires-clause-below c =
+pub taken_hint-requires-clause-below : goal.taken_hint-requires-clause-below
+taken_hint-requires-clause-below c =
     let w = c.args.self.now in
     let x = entry_there w.entries.items c.args.child (Some c.requires.0) c.requires.1 in
     let lt = slice_get_within w.entries.items c.args.child x.0 x.1 in
     (entry_of_plan w.plans.items w.entries.items w.entered c.args.child c.index-entry.result.now c.index-entry.ensures lt c.index-plan.result.now c.index-plan.ensures).within
 
-pub returns-in_ok-copied-in-Some-hint_between : goal.returns-in_ok-copied-in-Some-hint_between
-returns-in_ok-copied-in-Some-hint_between c =
+pub returns-in_ok-copied-in-Some-taken_hint : goal.returns-in_ok-copied-in-Some-taken_hint
+returns-in_ok-copied-in-Some-taken_hint c =
     let w = c.args.self.now in
     let x = entry_there w.entries.items c.args.child (Some c.requires.0) c.requires.1 in
     let lt = slice_get_within w.entries.items c.args.child x.0 x.1 in
@@ -86,11 +86,11 @@ returns-in_ok-copied-in-Some-hint_between c =
     let z : some (Some c.in-Some.parent) ≡ some (Some c.requires.0) = ap some (sym c.in-Some.is) ∙ sym (parent_at w.entries.items c.args.child c.index-entry.result.now there) ∙ c.requires.1 in
     let q : c.in-Some.parent ≡ c.requires.0 = cc in
     let over : c.in-Some.parent < length w.entries.items = let l = w.tree c.args.child c.requires.0 c.requires.1 in omega (arith, q, l, lt) in
-    let copy : plain_hint (Some c.in_ok-copied-in-Some-hint_between.field-0) ≡ hints (Some c.in-Some-hint_between.hint) = c.in_ok-copied-in-Some-hint_between.ensures in (
-      ap row_length copy ∙ c.in-Some-hint_between.ensures.row,
+    let copy : plain_hint (Some c.in_ok-copied-in-Some-taken_hint.field-0) ≡ hints (Some c.in-Some-taken_hint.hint) = c.in_ok-copied-in-Some-taken_hint.ensures in (
+      ap row_length copy ∙ c.in-Some-taken_hint.ensures.row,
       hint_of_child w.choice w.fit w.plans.items w.entries.items w.entered c.args.child c.requires.0 c.args.done.now c.requires.1 c.requires.2 c.index-entry.result.now c.index-plan.result.now there of c.index.result.now
           (ap (slice_get w.entries.items) (sym q) ∙ entry_is w.plans.items w.entries.items w.entered c.in-Some.parent c.index.result.now c.index.ensures over)
-          (plain_hint (Some c.in_ok-copied-in-Some-hint_between.field-0)) (copy ∙ c.in-Some-hint_between.ensures.hint),
+          (plain_hint (Some c.in_ok-copied-in-Some-taken_hint.field-0)) (copy ∙ c.in-Some-taken_hint.ensures.hint),
     )
 
 pub returns-in-None : goal.returns-in-None
