@@ -1,5 +1,5 @@
 -- One batch of procedures more.
-use Rattle.std.proofs.Common.{◌≡◌, ℕ, zero, suc, ◌+◌, ◌-◌, ◌<◌, ◌≤◌, true, false, Bool, List, [], ◌∷◌, ◌++◌, map, take, drop, length, refl, sym, ap, ap₂, ◌∙◌, subst, arith, append_assoc}
+use Rattle.std.proofs.Common.{◌≡◌, ℕ, zero, suc, ◌+◌, ◌-◌, ◌<◌, ◌≤◌, ◌^◌, true, false, Bool, List, [], ◌∷◌, ◌++◌, map, take, drop, length, refl, sym, ap, ap₂, ◌∙◌, subst, arith, append_assoc}
 use Rattle.std.specs.Prelude.{◌==◌, All}
 use Rattle.std.specs.List.{list_all}
 use Rattle.std.proofs.lemmas.List.{append-nil, map-append, take-append-drop, length-drop}
@@ -9,12 +9,16 @@ use Rattle.lir_core.specs.declared.flow.Flow.{Flow}
 use Rattle.lir_core.specs.Flows.{IsValidFlow}
 use Rattle.a64_select.specs.Selected.{selected}
 use Rattle.placed_code.specs.Placed.{Placed}
-use Rattle.placed_code.specs.Results.{placed}
+use Rattle.placed_code.specs.Layout.{all_words}
+use Rattle.placed_code.specs.Results.{placed, all_placed}
 use Rattle.linked_flows.specs.Allocations.{Cut, steps_of, allocated}
+use Rattle.linked_flows.specs.Allocations.{all_allocated as allocated_cuts}
 use Rattle.trace_build.specs.Traces.{traces_in}
 use Rattle.link_blocks.specs.Fits.{numbers_fit}
-use Rattle.link_blocks.specs.Plans.{placed_in, plain}
-use Rattle.link_plan.specs.Linked.{AllAllocated, AreCuts, AreSmall, IsAllocated, plans_of}
+use Rattle.procedure_pieces.specs.Pieces.{Piece, piece_of}
+use Rattle.procedure_code.specs.Views.{piece_in}
+use Rattle.link_plan.specs.Linked.{AllAllocated, AreCuts, AreSmall, IsAllocated, pieces_of}
+use Rattle.link_plan.proofs.Longer.{first_fewer, last_fewer}
 use Rattle.alloc_choice.specs.declared.choice.Choice.{Choice}
 use Rattle.alloc_choice.specs.Choice.{IsFitChoice}
 use Rattle.lir_core.specs.declared.places.TraceOut.{TraceOut}
@@ -23,7 +27,7 @@ use Rattle.trace_work.proofs.Made.{traces-append}
 use Rattle.flow_allocation.specs.Allocations.{AllAllocations, AreAllocated, trace_count}
 use Rattle.flow_allocation.proofs.Counting.{counted}
 use Rattle.flow_allocation.proofs.Taking.{none_of, take_none, drop_none}
-use Rattle.back_end.specs.Images.{IsReady}
+use Rattle.back_end.specs.Images.{IsReady, code_length}
 use Rattle.back_end.specs.Batches.{IsPlanned, AreMore}
 use Rattle.back_end.specs.declared.imaging.Planned.{Planned}
 use Rattle.back_end.specs.Numbers.{node_numbers}
@@ -37,9 +41,26 @@ count-append : (xs ys : List Cut) → trace_count (xs ++ ys) ≡ trace_count xs 
 count-append [] ys = omega arith
 count-append (x ∷ xs) ys = let r = count-append xs ys in omega (arith, r)
 
-plans-append : (xs ys : List Cut) → plans_of (xs ++ ys) ≡ plans_of xs ++ plans_of ys
-plans-append [] ys = refl
-plans-append (x ∷ xs) ys = ap (λ (ps : List Placed). plain (placed steps_of (allocated x)) ∷ ps) (plans-append xs ys)
+placed-append : (xs ys : List Cut) → all_placed steps_of (allocated_cuts (xs ++ ys)) ≡ all_placed steps_of (allocated_cuts xs) ++ all_placed steps_of (allocated_cuts ys)
+placed-append [] ys = refl
+placed-append (x ∷ xs) ys = ap (λ (ps : List Placed). placed steps_of (allocated x) ∷ ps) (placed-append xs ys)
+
+pieces-append : (xs ys : List Cut) → pieces_of (xs ++ ys) ≡ pieces_of xs ++ pieces_of ys
+pieces-append [] ys = refl
+pieces-append (x ∷ xs) ys = ap (λ (ps : List Piece). piece_of (placed steps_of (allocated x)) ∷ ps) (pieces-append xs ys)
+
+-- too long in front, or behind
+over-front : (xs ys : List Cut) → 2 ^ 18 < code_length xs → 2 ^ 18 < code_length (xs ++ ys)
+over-front xs ys l =
+    let m = first_fewer (all_placed steps_of (allocated_cuts xs)) (all_placed steps_of (allocated_cuts ys)) in
+    let e = ap (λ (ps : List Placed). length (all_words ps)) (placed-append xs ys) in
+    omega (arith, l, m, e)
+
+over-behind : (xs ys : List Cut) → 2 ^ 18 < code_length ys → 2 ^ 18 < code_length (xs ++ ys)
+over-behind xs ys l =
+    let m = last_fewer (all_placed steps_of (allocated_cuts xs)) (all_placed steps_of (allocated_cuts ys)) in
+    let e = ap (λ (ps : List Placed). length (all_words ps)) (placed-append xs ys) in
+    omega (arith, l, m, e)
 
 allocations-append : (choice : Choice) (first n : ℕ) (xs ys : List Cut) → AllAllocations choice first xs → AllAllocations choice n ys → n ≡ first + trace_count xs → AllAllocations choice first (xs ++ ys)
 allocations-append choice first n [] ys hx hy e = let z : n ≡ first = omega (arith, e) in subst (λ m. AllAllocations choice m ys) z hy
@@ -95,15 +116,16 @@ module _ {A : Type 0} (P : A → Type 0) (most : ℕ) (left : List A) (all : All
 
 ---- A batch more
 
-pub nothing : (choice : Choice) (planned : Planned) → choice.regs ≤ 16 → map placed_in planned.plans.items ≡ [] → planned.traces ≡ 0 → planned.fit ≡ true → IsPlanned choice [] planned
-nothing choice planned few none zero-traces fit = record {
+pub nothing : (choice : Choice) (planned : Planned) → choice.regs ≤ 16 → map piece_in planned.pieces.items ≡ [] → planned.traces ≡ 0 → planned.fit ≡ true → planned.room ≡ true → IsPlanned choice [] planned
+nothing choice planned few none zero-traces fit room = record {
   cuts = [];
   are = record { flows = refl; each = tt };
   few = omega (arith, zero-traces);
   count = zero-traces;
   numbers = λ k f n. absurd (omega (arith, n));
-  plans = λ e. record { plans_are = none; numbers = refl; few = few; each = no_cut };
+  pieces = λ e f. record { pieces_are = none; numbers = refl; few = few; each = no_cut };
   misfit = λ e. absurd (let z : true ≡ false = sym fit ∙ e in cc);
+  over = λ e. absurd (let z : true ≡ false = sym room ∙ e in cc);
 }
   where
     no_cut : (q : ℕ) (c : Cut) (rest : List Cut) → drop q ([]) ≡ c ∷ rest → IsAllocated choice.regs c
@@ -127,6 +149,10 @@ module _ (choice : Choice) (fit : IsFitChoice choice) (done batch : List Proc) (
   misfits e small true f = made.misfit can-link e f (small-behind before.cuts made.cuts small)
   misfits e small false f = before.misfit f (small-front before.cuts made.cuts small)
 
+  long : new.room ≡ false → (b : Bool) → old.room ≡ b → 2 ^ 18 < code_length (before.cuts ++ made.cuts)
+  long e true f = over-behind before.cuts made.cuts (made.over can-link e f)
+  long e false f = over-front before.cuts made.cuts (before.over f)
+
   pub one_more : IsPlanned choice (done ++ batch) new
   one_more =
       let n = before.count in
@@ -138,19 +164,20 @@ module _ (choice : Choice) (fit : IsFitChoice choice) (done batch : List Proc) (
         few = made.few;
         count = omega (arith, n, m, c);
         numbers = subst HaveNumbers (sym (map-append selected done batch)) (all-joined (λ (f : Flow). node_numbers f.nodes ≡ true) (map selected done) (map selected batch) before.numbers there);
-        plans = λ e.
-            let p = made.plans can-link e in
-            let o = before.plans p.0 in
+        pieces = λ e f.
+            let p = made.pieces can-link e f in
+            let o = before.pieces p.0 p.1 in
             record {
-              plans_are = p.1 ∙ ap (λ (ps : List Placed). ps ++ plans_of made.cuts) o.plans_are ∙ sym (plans-append before.cuts made.cuts);
+              pieces_are = p.2 ∙ ap (λ (ps : List Piece). ps ++ pieces_of made.cuts) o.pieces_are ∙ sym (pieces-append before.cuts made.cuts);
               numbers =
                   ap (list_all (λ f. numbers_fit f)) (map-append (λ (c : Cut). c.flow) before.cuts made.cuts)
                   ∙ list_all-append (λ f. numbers_fit f) (map (λ (c : Cut). c.flow) before.cuts) (map (λ (c : Cut). c.flow) made.cuts)
-                  ∙ both (list_all (λ f. numbers_fit f) (map (λ (c : Cut). c.flow) before.cuts)) (list_all (λ f. numbers_fit f) (map (λ (c : Cut). c.flow) made.cuts)) o.numbers (sym (ap (λ (fs : List Flow). list_all (λ f. numbers_fit f) fs) made.flows_are) ∙ p.2);
+                  ∙ both (list_all (λ f. numbers_fit f) (map (λ (c : Cut). c.flow) before.cuts)) (list_all (λ f. numbers_fit f) (map (λ (c : Cut). c.flow) made.cuts)) o.numbers (sym (ap (λ (fs : List Flow). list_all (λ f. numbers_fit f) fs) made.flows_are) ∙ p.3);
               few = o.few;
               each = each-append (IsAllocated choice.regs) before.cuts made.cuts o.each can-link;
             };
         misfit = λ e small. misfits e small old.fit refl;
+        over = λ e. long e old.room refl;
       }
 
 ---- What passes give
@@ -160,15 +187,18 @@ module _ (choice : Choice) (fit : IsFitChoice choice) (flows : List Flow) (parts
   are_cuts : AllAllocated choice.regs h.cuts → AreCuts choice.regs flows parts outs h.cuts
   are_cuts each = record { flows_are = h.flows_are; parts_are = h.parts_are; outs_are = h.outs_are; few = fit.few; each = each }
 
-  abbrev Plans : Type 0
-  Plans = AllAllocated choice.regs h.cuts → new.fit ≡ true
-      → (old.fit ≡ true) × (map placed_in new.plans.items ≡ map placed_in old.plans.items ++ plans_of h.cuts) × (list_all (λ f. numbers_fit f) flows ≡ true)
+  abbrev Pieces : Type 0
+  Pieces = AllAllocated choice.regs h.cuts → new.fit ≡ true → new.room ≡ true
+      → (old.fit ≡ true) × (old.room ≡ true) × (map piece_in new.pieces.items ≡ map piece_in old.pieces.items ++ pieces_of h.cuts) × (list_all (λ f. numbers_fit f) flows ≡ true)
 
   abbrev Misfit : Type 0
   Misfit = AllAllocated choice.regs h.cuts → new.fit ≡ false → old.fit ≡ true → AreSmall h.cuts → ⊥
 
-  with_plans : Plans → Misfit → AreMore choice flows old new
-  with_plans plans misfit =
+  abbrev Over : Type 0
+  Over = AllAllocated choice.regs h.cuts → new.room ≡ false → old.room ≡ true → 2 ^ 18 < code_length h.cuts
+
+  with_pieces : Pieces → Misfit → Over → AreMore choice flows old new
+  with_pieces pieces misfit over =
       let n = h.count in
       record {
         cuts = h.cuts;
@@ -176,18 +206,28 @@ module _ (choice : Choice) (fit : IsFitChoice choice) (flows : List Flow) (parts
         each = h.each;
         few = omega (arith, few, sum);
         count = omega (arith, sum, n);
-        plans = plans;
+        pieces = pieces;
         misfit = misfit;
+        over = over;
       }
 
-  pub added : old.fit ≡ true → new.fit ≡ true → ((k : ℕ) (cuts : List Cut) → AreCuts k flows parts outs cuts → map placed_in new.plans.items ≡ map placed_in old.plans.items ++ plans_of cuts) → list_all (λ f. numbers_fit f) flows ≡ true → AreMore choice flows old new
-  added were are plans numbers = with_plans (λ each e. (were, plans choice.regs h.cuts (are_cuts each), numbers)) (λ each e f small. (let z : true ≡ false = sym are ∙ e in cc))
+  -- the same mark can't have come to be false
+  unmarked : {A : Type 0} (before after : Bool) → after ≡ before → after ≡ false → before ≡ true → A
+  unmarked before after same is was = absurd (let z : true ≡ false = sym was ∙ sym same ∙ is in cc)
 
-  pub refused : new.fit ≡ false → ((k : ℕ) (cuts : List Cut) → AreCuts k flows parts outs cuts → AreSmall cuts → ⊥) → AreMore choice flows old new
-  refused unfit none = with_plans (λ each e. absurd (let z : false ≡ true = sym unfit ∙ e in cc)) (λ each e f small. none choice.regs h.cuts (are_cuts each) small)
+  pub added : old.fit ≡ true → new.fit ≡ old.fit → new.room ≡ old.room → ((k : ℕ) (cuts : List Cut) → AreCuts k flows parts outs cuts → map piece_in new.pieces.items ≡ map piece_in old.pieces.items ++ pieces_of cuts) → list_all (λ f. numbers_fit f) flows ≡ true
+      → AreMore choice flows old new
+  added were fits rooms pieces numbers =
+      with_pieces (λ each e f. (were, sym rooms ∙ f, pieces choice.regs h.cuts (are_cuts each), numbers))
+      (λ each e f small. unmarked old.fit new.fit fits e f) (λ each e f. unmarked old.room new.room rooms e f)
 
-  pub passed : old.fit ≡ false → new.fit ≡ false → AreMore choice flows old new
-  passed was-unfit unfit = with_plans (λ each e. absurd (let z : false ≡ true = sym unfit ∙ e in cc)) (λ each e f small. (let z : false ≡ true = sym was-unfit ∙ f in cc))
+  pub refused : new.fit ≡ false → new.room ≡ old.room → ((k : ℕ) (cuts : List Cut) → AreCuts k flows parts outs cuts → AreSmall cuts → ⊥) → AreMore choice flows old new
+  refused unfit rooms none =
+      with_pieces (λ each e. absurd (let z : false ≡ true = sym unfit ∙ e in cc)) (λ each e f small. none choice.regs h.cuts (are_cuts each) small) (λ each e f. unmarked old.room new.room rooms e f)
+
+  pub too_long : new.fit ≡ old.fit → new.room ≡ false → ((k : ℕ) (cuts : List Cut) → AreCuts k flows parts outs cuts → 2 ^ 18 < code_length cuts) → AreMore choice flows old new
+  too_long fits none far =
+      with_pieces (λ each e f. absurd (let z : false ≡ true = sym none ∙ f in cc)) (λ each e f small. unmarked old.fit new.fit fits e f) (λ each e f. far choice.regs h.cuts (are_cuts each))
 
 ---- Numbers of traces
 
@@ -269,16 +309,16 @@ pub record IsUnderWay (choice : Choice) (all left : List Proc) (count i : ℕ) (
   pub planned : IsPlanned choice done made
 
 -- before the first round
-pub begun : (choice : Choice) (all left : List Proc) (count : ℕ) (made : Planned) → choice.regs ≤ 16 → All IsReady all → left ≡ all → count ≡ length all → map placed_in made.plans.items ≡ [] → made.traces ≡ 0 → made.fit ≡ true
+pub begun : (choice : Choice) (all left : List Proc) (count : ℕ) (made : Planned) → choice.regs ≤ 16 → All IsReady all → left ≡ all → count ≡ length all → map piece_in made.pieces.items ≡ [] → made.traces ≡ 0 → made.fit ≡ true → made.room ≡ true
     → IsUnderWay choice all left count 0 made
-begun choice all left count made few ready same long none zero-traces fit =
+begun choice all left count made few ready same long none zero-traces fit room =
     let l : length left ≡ length all = ap (λ (ps : List Proc). length ps) same in
     record {
       done = [];
       split = same;
       ready = subst (All IsReady) (sym same) ready;
       rounds = omega (arith, l, long);
-      planned = nothing choice made few none zero-traces fit;
+      planned = nothing choice made few none zero-traces fit room;
     }
 
 -- flows of the next batch

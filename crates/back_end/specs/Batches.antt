@@ -1,36 +1,39 @@
--- Plans of procedures, batch by batch.
-use Rattle.std.specs.Prelude.{◌≡◌, ◌+◌, ◌≤◌, List, ◌++◌, map, All, true, false}
+-- Pieces of procedures, batch by batch.
+use Rattle.std.specs.Prelude.{◌≡◌, ◌+◌, ◌<◌, ◌≤◌, ◌^◌, List, ◌++◌, map, All, true, false}
 use Rattle.std.specs.List.{list_all}
 use Rattle.ssa_core.specs.declared.procedure.Proc.{Proc}
 use Rattle.lir_core.specs.declared.flow.Flow.{Flow}
 use Rattle.a64_select.specs.Selected.{selected}
 use Rattle.linked_flows.specs.Allocations.{Cut}
 use Rattle.link_blocks.specs.Fits.{numbers_fit}
-use Rattle.link_blocks.specs.Plans.{placed_in}
-use Rattle.link_plan.specs.Linked.{AllAllocated, ArePlans, AreSmall, plans_of}
+use Rattle.procedure_code.specs.Views.{piece_in}
+use Rattle.link_plan.specs.Linked.{AllAllocated, ArePieces, AreSmall, pieces_of}
 use Rattle.alloc_choice.specs.declared.choice.Choice.{Choice}
 use Rattle.flow_allocation.specs.Allocations.{AllAllocations, trace_count}
-use Rattle.back_end.specs.Images.{AreCutsOf}
+use Rattle.back_end.specs.Images.{AreCutsOf, code_length}
 use Rattle.back_end.specs.Numbers.{node_numbers}
 use Rattle.back_end.specs.declared.imaging.Planned.{Planned}
 
--- the plans of procedures in traces with final results, at most 262,144 of these; some cut doesn't fit where they are marked so
+-- the pieces of procedures in traces with final results, at most 262,144 of these; some cut doesn't fit, or the code is too
+-- long, where they are marked so
 pub record IsPlanned (choice : Choice) (procs : List Proc) (planned : Planned) : Type 0 where
   pub cuts : List Cut
   pub are : AreCutsOf choice procs cuts
   pub few : planned.traces ≤ 262144
   pub count : planned.traces ≡ trace_count cuts
   pub numbers : All (λ (f : Flow). node_numbers f.nodes ≡ true) (map selected procs)
-  pub plans : planned.fit ≡ true → ArePlans choice.regs (map placed_in planned.plans.items) cuts
+  pub pieces : planned.fit ≡ true → planned.room ≡ true → ArePieces choice.regs (map piece_in planned.pieces.items) cuts
   pub misfit : planned.fit ≡ false → AreSmall cuts → ⊥
+  pub over : planned.room ≡ false → 2 ^ 18 < code_length cuts
 
--- the plans of flows are added, where all before them fit and they do too, and their traces
+-- the pieces of flows are added, where all before them fit and have room and they do too, and their traces
 pub record AreMore (choice : Choice) (flows : List Flow) (old new : Planned) : Type 0 where
   pub cuts : List Cut
   pub flows_are : flows ≡ map (λ c. c.flow) cuts
   pub each : AllAllocations choice old.traces cuts
   pub few : new.traces ≤ 262144
   pub count : new.traces ≡ old.traces + trace_count cuts
-  pub plans : AllAllocated choice.regs cuts → new.fit ≡ true
-      → (old.fit ≡ true) × (map placed_in new.plans.items ≡ map placed_in old.plans.items ++ plans_of cuts) × (list_all (λ f. numbers_fit f) flows ≡ true)
+  pub pieces : AllAllocated choice.regs cuts → new.fit ≡ true → new.room ≡ true
+      → (old.fit ≡ true) × (old.room ≡ true) × (map piece_in new.pieces.items ≡ map piece_in old.pieces.items ++ pieces_of cuts) × (list_all (λ f. numbers_fit f) flows ≡ true)
   pub misfit : AllAllocated choice.regs cuts → new.fit ≡ false → old.fit ≡ true → AreSmall cuts → ⊥
+  pub over : AllAllocated choice.regs cuts → new.room ≡ false → old.room ≡ true → 2 ^ 18 < code_length cuts

@@ -21,7 +21,7 @@ use a64_select::select;
 use flow_allocation::{AllocatedFlows, Choice, Flow, allocate_flows};
 use image_form::Image;
 use items::Items;
-use link_plan::{ImageData, LinkFault, Plan, add_plans, image_of_plans};
+use link_plan::{ImageData, LinkFault, Piece, add_pieces, image_of_pieces};
 use outside::Gate;
 use ssa_core::Proc;
 use std::alloc::Global;
@@ -29,12 +29,12 @@ use std::sync::Wait;
 use std::thread::Threads;
 use std::vec::IntoIter;
 
-/// An image, of how many traces its code is made, and the plans of its procedures, which nothing needs any more.
+/// An image, of how many traces its code is made, and the pieces of its procedures, which nothing needs any more.
 #[derive(Drop)]
 pub struct LinkedProcedures {
     pub image: Image,
     pub traces: u32,
-    pub plans: Items<Plan>,
+    pub pieces: Items<Piece>,
 }
 
 /// How many procedures a batch of one worker has. A batch goes through the passes as a whole, so what one pass makes of it is still near
@@ -71,27 +71,37 @@ pub fn image_of<G: Gate, R: Threads + Wait + Sync>(
         → (cuts : List Cut) × AreCutsOf choice.now procedures cuts × (AreSmall cuts → ⊥)) }
     ensures modest { All HasFewValues procedures → IfErr result (λ fault. fault ≡ Misfit → ⊥) }
 {
-    let Planned { plans, traces, fit } = plan_all(rt, alloc, choice, procedures, gate)?;
+    let Planned {
+        pieces,
+        traces,
+        fit,
+        room,
+    } = plan_all(rt, alloc, choice, procedures, gate)?;
     if !fit {
         return Err(ImageFault::Misfit);
     }
-    match image_of_plans(alloc, plans.as_slice(), extra) {
+    if !room {
+        return Err(ImageFault::Code);
+    }
+    match image_of_pieces(alloc, pieces.as_slice(), extra) {
         Ok(image) => Ok(LinkedProcedures {
             image,
             traces,
-            plans: Items::from_vec(plans),
+            pieces: Items::from_vec(pieces),
         }),
         Err(fault) => Err(fault_of(fault)),
     }
 }
 
-/// The plans of procedures, and of how many traces they are made. Where some procedure fits no instructions, `fit` says so, and the
-/// plans are of no use.
+/// The pieces of procedures, and of how many traces they are made. Where some procedure fits no instructions, `fit` is
+/// false, and where one is longer than any image, `room` is: then the pieces are of no use, and the procedures behind it are
+/// counted and tried for instructions alone.
 #[derive(Drop)]
 struct Planned {
-    plans: Vec<Plan>,
+    pieces: Vec<Piece>,
     traces: u32,
     fit: bool,
+    room: bool,
 }
 
 // How many procedures a batch has.
@@ -106,7 +116,7 @@ fn batch(jobs: u32) -> usize
     }
 }
 
-// Takes procedures through the passes up to their plans, batch by batch.
+// Takes procedures through the passes up to their pieces, batch by batch.
 fn plan_all<G: Gate, R: Threads + Wait + Sync>(
     rt: &R,
     alloc: Global,
@@ -125,9 +135,10 @@ fn plan_all<G: Gate, R: Threads + Wait + Sync>(
     let most = batch(choice.jobs);
     let mut rest = procedures.into_vec().into_iter();
     let mut planned = Planned {
-        plans: Vec::with_capacity(alloc, count)?,
+        pieces: Vec::with_capacity(alloc, count)?,
         traces: 0,
         fit: true,
+        room: true,
     };
     for _ in 0..count {
         let flows = select_next(alloc, &mut rest, most)?;
@@ -139,7 +150,7 @@ fn plan_all<G: Gate, R: Threads + Wait + Sync>(
     Ok(planned)
 }
 
-// Adds the plans of flows, where all before them fit instructions, and their traces.
+// Adds the pieces of flows, where all before them fit instructions, and their traces.
 fn plan_more<G: Gate, R: Threads + Wait + Sync>(
     rt: &R,
     alloc: Global,
@@ -162,11 +173,12 @@ fn plan_more<G: Gate, R: Threads + Wait + Sync>(
     } = allocate_flows(rt, alloc, choice, planned.traces, flows, gate)?;
     planned.traces += traces;
     if planned.fit {
-        planned.fit = match add_plans(alloc, &mut planned.plans, flows, parts, outs) {
-            Ok(_) => true,
-            Err(LinkFault::Misfit) => false,
-            Err(fault) => return Err(fault_of(fault)),
-        };
+        match add_pieces(alloc, &mut planned.pieces, flows, parts, outs) {
+            Ok(_) => {}
+            Err(LinkFault::Misfit) => planned.fit = false,
+            Err(LinkFault::Limit) => planned.room = false,
+            Err(LinkFault::Memory) => return Err(ImageFault::Memory),
+        }
     }
     Ok(())
 }

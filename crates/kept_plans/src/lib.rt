@@ -7,6 +7,7 @@
 mod linking;
 mod parents;
 
-pub use link_plan::{Image, ImageData, LinkFault, Plan};
+pub use link_blocks::Plan;
+pub use link_plan::{Image, ImageData, LinkFault};
 pub use linking::{LinkedPlans, link_kept};
 pub use parents::all_parents;

@@ -8,7 +8,7 @@ ghost use Rattle.link_layout.specs.Widths.{widths_of};
 ghost use Rattle.link_blocks.specs.Plans.{cell_in, block_in, placed_in};
 ghost use Rattle.run_laws.specs.Layers.{whole_width};
 ghost use Rattle.link_layout.specs.declared.fault.LayoutFault.TheVariants.{Limit};
-ghost use Rattle.link_plan.specs.Measured.{parts_width};
+ghost use Rattle.procedure_code.specs.Measured.{parts_width};
 ghost use Rattle.line_words.specs.LineWidths.{block_widths, line_widths};
 
 use a64_instr::Bits;

@@ -8,16 +8,14 @@ use Rattle.lir_core.specs.declared.flow.Flow.{Flow}
 use Rattle.lir_core.specs.declared.places.TraceOut.{TraceOut}
 use Rattle.boundary_resolve.specs.declared.code_line.CodeLine.{CodeLine}
 use Rattle.boundary_resolve.specs.Placing.{placed_of}
-use Rattle.placed_code.specs.Placed.{Placed, proc_of}
 use Rattle.placed_code.specs.Words.{frame_of, most_frame}
 use Rattle.placed_code.specs.Results.{placed, all_placed}
 use Rattle.linked_flows.specs.Allocations.{Cut, steps_of, allocated, all_allocated}
 use Rattle.link_blocks.specs.Fits.{numbers_fit}
-use Rattle.link_blocks.specs.Plans.{plain}
 use Rattle.link_blocks.specs.Laid.{IsCutOf}
-use Rattle.link_plan.specs.Parts.{IsWhole}
-use Rattle.link_plan.specs.Linked.{AllAllocated, AreCuts, greatest_frame}
-use Rattle.link_plan.proofs.Low.{whole, proc_low, and_left, and_right}
+use Rattle.procedure_pieces.specs.Pieces.{Piece, piece_of}
+use Rattle.link_plan.specs.Linked.{AllAllocated, AreCuts, greatest_frame, pieces_of}
+use Rattle.link_plan.proofs.Low.{proc_low, and_left, and_right}
 use Rattle.link_plan.proofs.InTable.{AllLow}
 
 -- the cut of a number
@@ -71,15 +69,12 @@ drop_next {A} xs i x rest e = let z : i + 1 ≡ suc i = omega arith in ap (λ m.
     on (y ∷ ys) zero e = let others : ys ≡ rest = cc in others
     on (y ∷ ys) (suc m) e = on ys m e
 
-abbrev pub plain_all : List Cut → List Placed
-plain_all cuts = map plain (all_placed steps_of (all_allocated cuts))
-
--- one plan more
-pub plans_more : (cuts : List Cut) (i : ℕ) (c : Cut) (rest : List Cut) (old new all : List Placed) (pr : Placed) → drop i cuts ≡ c ∷ rest → new ≡ old ++ pr ∷ [] → pr ≡ plain (placed steps_of (allocated c))
-    → old ++ plain_all (drop i cuts) ≡ all → new ++ plain_all (drop (i + 1) cuts) ≡ all
-plans_more cuts i c rest old new all pr d e is inv =
-    ap₂ (λ (xs : List Placed) (cs : List Cut). xs ++ plain_all cs) e (drop_next cuts i c rest d)
-    ∙ append_assoc old (pr ∷ []) (plain_all rest) ∙ ap (λ (p : Placed). old ++ p ∷ plain_all rest) is ∙ sym (ap (λ (cs : List Cut). old ++ plain_all cs) d) ∙ inv
+-- one piece more
+pub pieces_more : (cuts : List Cut) (i : ℕ) (c : Cut) (rest : List Cut) (old new all : List Piece) → drop i cuts ≡ c ∷ rest → new ≡ old ++ piece_of (placed steps_of (allocated c)) ∷ []
+    → old ++ pieces_of (drop i cuts) ≡ all → new ++ pieces_of (drop (i + 1) cuts) ≡ all
+pieces_more cuts i c rest old new all d e inv =
+    ap₂ (λ (xs : List Piece) (cs : List Cut). xs ++ pieces_of cs) e (drop_next cuts i c rest d)
+    ∙ append_assoc old (piece_of (placed steps_of (allocated c)) ∷ []) (pieces_of rest) ∙ sym (ap (λ (cs : List Cut). old ++ pieces_of cs) d) ∙ inv
 
 pub same_lengths : (k : ℕ) (flows : List Flow) (parts : List (List CodeLine)) (outs : List (List TraceOut)) (cuts : List Cut) → AreCuts k flows parts outs cuts → (length parts ≡ length flows) × (length outs ≡ length flows)
 same_lengths k flows parts outs cuts are =
@@ -117,15 +112,6 @@ all_low k few (c ∷ cuts) each numbers fits =
       all_low k few cuts (λ q d rest e. each (suc q) d rest e) (and_right (numbers_fit c.flow) (list_all (λ f. numbers_fit f) (map (λ (x : Cut). x.flow) cuts)) numbers) (omega (arith, more, fits)),
     )
 
-pub all_whole : (k : ℕ) → k ≤ 16 → (cuts : List Cut) → AllAllocated k cuts → (p : ℕ) → p < length (plain_all cuts) → IsWhole (proc_of (plain_all cuts) p)
-all_whole k few [] each p l = absurd (omega (arith, l))
-all_whole k few (c ∷ cuts) each zero l = whole k few c (each 0 c cuts refl)
-all_whole k few (c ∷ cuts) each (suc p) l = all_whole k few cuts (λ q d rest e. each (suc q) d rest e) p (omega (arith, l))
-
-pub frames_plain : (ps : List Placed) → greatest_frame (map plain ps) ≡ greatest_frame ps
-frames_plain [] = refl
-frames_plain (p ∷ ps) = ap (λ m. max (frame_of p) m) (frames_plain ps)
-
 ---- Lists whose items are taken one by one
 
 -- an item that is taken, and what is left
@@ -155,5 +141,5 @@ pub map_last : {A B : Type 0} (f : A → B) (xs : List A) (x : A) → map f (xs 
 map_last f [] x = refl
 map_last f (y ∷ xs) x = ap (λ ys. f y ∷ ys) (map_last f xs x)
 
-pub plans_all : (cuts : List Cut) (i : ℕ) (plans all : List Placed) → length cuts ≤ i → plans ++ plain_all (drop i cuts) ≡ all → plans ≡ all
-plans_all cuts i plans all l inv = sym (append-nil plans) ∙ sym (ap (λ (cs : List Cut). plans ++ plain_all cs) (drop_all i cuts l)) ∙ inv
+pub pieces_all : (cuts : List Cut) (i : ℕ) (pieces all : List Piece) → length cuts ≤ i → pieces ++ pieces_of (drop i cuts) ≡ all → pieces ≡ all
+pieces_all cuts i pieces all l inv = sym (append-nil pieces) ∙ sym (ap (λ (cs : List Cut). pieces ++ pieces_of cs) (drop_all i cuts l)) ∙ inv

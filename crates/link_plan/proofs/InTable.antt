@@ -1,9 +1,9 @@
 -- Each word of placed procedures whose numbers, registers and frames fit is one of the table.
-use Rattle.std.proofs.Common.{◌≡◌, ℕ, zero, suc, ◌+◌, ◌-◌, ◌*◌, ◌/◌, ◌%◌, ◌<◌, ◌≤◌, ◌^◌, List, [], ◌∷◌, ◌++◌, map, length, Bool, true, false, cond, Option, Some, None, refl, arith, sym, ap, ap₂, ◌∙◌, subst, lit<, get_or}
+use Rattle.std.proofs.Common.{◌≡◌, ℕ, suc, ◌+◌, ◌-◌, ◌*◌, ◌/◌, ◌%◌, ◌<◌, ◌≤◌, ◌^◌, List, [], ◌∷◌, ◌++◌, map, length, Bool, true, false, cond, Option, Some, None, refl, arith, lit<}
 use Rattle.std.specs.Prelude.{◌==◌, nat_lt, if◌then◌else◌}
 use Rattle.std.proofs.lemmas.Bool.{ltb-true}
 use Rattle.std.proofs.Math.Nat.{mod-lt}
-use Rattle.run_laws.specs.Layers.{whole_width, spread}
+use Rattle.run_laws.specs.Layers.{spread}
 use Rattle.a64_numbers.specs.Branches.{branch_field}
 use Rattle.a64_numbers.proofs.Branches.{branch_field_lt}
 use Rattle.a64_numbers.specs.Moves.{half, more_ones, lowest, filling, beginning, move_of_half, half_moves, given, constant_moves}
@@ -13,11 +13,11 @@ use Rattle.a64_numbers.specs.Conditions.{opposite}
 use Rattle.a64_instr.specs.declared.instr.Cond.{Cond}
 use Rattle.a64_instr.specs.declared.instr.Cond.TheVariants as is
 use Rattle.a64_instr.specs.declared.instr.Instr.{Instr}
-use Rattle.a64_instr.specs.declared.instr.Instr.TheVariants.{Bl, Svc, AddImm, SubImm, Ldr, Str}
-use Rattle.a64_table.specs.Table.{Field, AllFit, InRange, row_of, cond_number}
+use Rattle.a64_instr.specs.declared.instr.Instr.TheVariants.{AddImm, SubImm, Ldr, Str}
+use Rattle.a64_table.specs.Table.{Field, AllFit, row_of, cond_number}
 use Rattle.a64_table.specs.Decode.{cond_of}
 use Rattle.a64_machine.specs.State.{address_of}
-use Rattle.a64_runtime.specs.Routines.{routines, against}
+use Rattle.a64_runtime.specs.Routines.{routines}
 use Rattle.block_runs.specs.declared.code.Code.{Code}
 use Rattle.block_runs.specs.declared.code.Code.TheVariants as o
 use Rattle.block_runs.specs.declared.end.End.{End}
@@ -26,12 +26,12 @@ use Rattle.block_runs.specs.Blocks.{bodies}
 use Rattle.lir_core.specs.Spots.{Spot, reg, home, out, target, saved}
 use Rattle.placed_code.specs.Placed.{Copy, Cell, Block, Placed, block_of, procedures, use_register, def_register}
 use Rattle.link_blocks.specs.Fits.{most_outs}
-use Rattle.placed_code.specs.Words.{Where, InReg, InSlot, slot_of, where_is, near_slots, is_near, page_slots, page_word, load_slot, store_slot, move, move_between, copy_word, copies_words, slots_of, frame_of, move_word, op_words, depth_words, frame_words, count_words, taking, room_words, data_words, local_words, prologue, unframe_words, giving, unroom_words, undata_words, unlocal_words, undepth_words, epilogue, jump_words, turned, branch_words, nonzero_words, result_words, last_words}
+use Rattle.placed_code.specs.Words.{Where, InReg, InSlot, slot_of, where_is, near_slots, is_near, page_slots, page_word, load_slot, store_slot, move_between, copy_word, copies_words, slots_of, frame_of, move_word, op_words, depth_words, frame_words, count_words, taking, room_words, data_words, prologue, unframe_words, giving, unroom_words, undata_words, unlocal_words, undepth_words, epilogue, jump_words, turned, branch_words, nonzero_words, result_words, last_words}
 use Rattle.size_limits.specs.Limits.{most_slots}
-use Rattle.placed_code.specs.Layout.{cell_width, block_width, proc_width, front_width, Placing, placings, zero_first, own_words, cell_words, end_words, block_words, front_words, proc_words, start_words, all_words, entry, routines_at, procedures_at, place}
+use Rattle.placed_code.specs.Layout.{cell_width, block_width, proc_width, front_width, Placing, placings, zero_first, proc_words, start_words, all_words, entry, routines_at, procedures_at, place}
 use Rattle.placed_code.specs.Claims.{AllInRange}
 use Rattle.link_blocks.specs.Fits.{number_fits, trap_fits}
-use Rattle.link_plan.specs.Parts.{cell_code, end_code, parts_code, block_code, front_code, proc_code}
+use Rattle.procedure_pieces.specs.Code.{cell_code, parts_code, block_code, front_code, proc_code}
 
 in_append : (xs ys : List Instr) → AllInRange xs → AllInRange ys → AllInRange (xs ++ ys)
 in_append [] ys f g = g

@@ -1,12 +1,6 @@
-pub mod Plain
 pub mod InTable
 pub mod Low
+pub mod Longer
 pub mod Running
 pub mod Cuts
-pub mod Rows
-pub mod Sizes
-pub mod Same
-pub mod Measures
-pub mod Appended
-pub mod Images
 pub mod Forms

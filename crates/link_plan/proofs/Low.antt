@@ -1,12 +1,11 @@
 -- The placed procedures of sound results are whole, and all of their parts fit instructions.
-use Rattle.std.proofs.Common.{◌≡◌, ℕ, zero, suc, ◌+◌, ◌*◌, ◌<◌, ◌≤◌, ◌^◌, List, [], ◌∷◌, ◌++◌, map, length, drop, get_or, Bool, true, false, Option, None, refl, arith, sym, ap, ap₂, ◌∙◌, subst}
+use Rattle.std.proofs.Common.{◌≡◌, ℕ, zero, suc, ◌≤◌, List, [], ◌∷◌, ◌++◌, map, length, drop, get_or, Bool, true, false, refl, arith, sym, ap, ◌∙◌, subst}
 use Rattle.std.specs.Prelude.{nat_lt, ◌&&◌}
-use Rattle.std.specs.List.{list_all}
 use Rattle.std.proofs.lemmas.Bool.{ltb-true}
 use Rattle.std.proofs.lemmas.Bool.Decides.{nat_tests}
 use Rattle.block_runs.specs.declared.end.End.{End}
 use Rattle.block_runs.specs.declared.end.End.TheVariants.{Return, Jump, Branch, Nonzero, Trap}
-use Rattle.block_runs.specs.Blocks.{Operation, CodeBlock, block_at, successors}
+use Rattle.block_runs.specs.Blocks.{CodeBlock, block_at, successors}
 use Rattle.block_runs.specs.Valid.{all_below}
 use Rattle.global_live.proofs.Tables.{at_block}
 use Rattle.lir_core.specs.declared.flow.Lir.{Lir}
@@ -16,14 +15,14 @@ use Rattle.lir_core.specs.Flows.{operation_of, code_node, code_nodes, node_at, n
 use Rattle.lir_core.specs.Lines.{names}
 use Rattle.boundary_resolve.specs.Placing.{lines_at, registers_at}
 use Rattle.boundary_resolve.proofs.Between.{blocks_at}
-use Rattle.placed_code.specs.Placed.{Copy, Cell, Block, Placed, no_block, block_of}
-use Rattle.placed_code.specs.Words.{frame_of, slots_of, most_frame}
+use Rattle.placed_code.specs.Placed.{Copy, Block, Placed, no_block, block_of}
+use Rattle.placed_code.specs.Words.{frame_of, most_frame}
 use Rattle.placed_code.specs.Layout.{position}
-use Rattle.placed_code.specs.Claims.{AreRegisters, Ordered}
-use Rattle.placed_code.specs.Results.{placed, placed_block, cells_from, copies_before, lines_behind, last_named, homes_of}
+use Rattle.placed_code.specs.Claims.{AreRegisters}
+use Rattle.placed_code.specs.Results.{placed, placed_block, cells_from, copies_before, lines_behind, homes_of}
 use Rattle.placed_code.proofs.Homes.{ranks_within}
 use Rattle.placed_code.proofs.Parts.{length_map, length_blocks, all_at, registers_fit}
-use Rattle.linked_flows.specs.Allocations.{Cut, copies_of, steps_of, part_at, allocated, IsReady}
+use Rattle.linked_flows.specs.Allocations.{Cut, steps_of, part_at, allocated, IsReady}
 use Rattle.linked_flows.proofs.Edges.{count}
 use Rattle.linked_flows.proofs.Nodes.{sound_node}
 use Rattle.linked_flows.proofs.Run.{is_sound}
@@ -32,10 +31,10 @@ use Rattle.link_blocks.specs.Plans.{plain_end, plain_block, plain}
 use Rattle.link_blocks.proofs.Flat.{registers_drop, registers_last}
 use Rattle.link_blocks.proofs.Made.{blocks_of, one_block}
 use Rattle.link_blocks.proofs.Outs.{slots_few}
-use Rattle.link_plan.specs.Parts.{LeadsBelow, IsWhole}
+use Rattle.procedure_code.specs.Parts.{LeadsBelow, IsWhole}
+use Rattle.procedure_code.proofs.Plain.{nth_plain}
 use Rattle.link_plan.specs.Linked.{IsAllocated}
-use Rattle.link_plan.proofs.Plain.{nth_plain}
-use Rattle.link_plan.proofs.InTable.{FrameLow, CellLow, CellsLow, BlockLow, ProcLow}
+use Rattle.link_plan.proofs.InTable.{CellLow, CellsLow, BlockLow, ProcLow}
 
 pub and_left : (a b : Bool) → (a && b) ≡ true → a ≡ true
 and_left true b e = refl
@@ -44,6 +43,10 @@ and_left false b e = cc
 pub and_right : (a b : Bool) → (a && b) ≡ true → b ≡ true
 and_right true b e = e
 and_right false b e = cc
+
+pub either : (a b : Bool) (P : Type 0) → (a && b) ≡ false → (a ≡ false → P) → (b ≡ false → P) → P
+either true b P e f g = g e
+either false b P e f g = f refl
 
 pub get_past : {A : Type 0} (xs : List A) (n : ℕ) (d : A) → length xs ≤ n → get_or xs n d ≡ d
 get_past [] n d l = refl

@@ -1,10 +1,9 @@
 -- The image is the defined one, and runs as the flows mean.
-use Rattle.std.proofs.Common.{◌≡◌, ℕ, ◌<◌, ◌≤◌, ◌%◌, ◌^◌, List, [], ◌∷◌, ◌++◌, map, length, drop, get_or, true, refl, arith, sym, ap, ap₂, ◌∙◌, subst}
-use Rattle.std.specs.Prelude.{Result, Ok, Err, IfErr}
+use Rattle.std.proofs.Common.{◌≡◌, ℕ, suc, ◌+◌, ◌<◌, ◌≤◌, ◌^◌, List, [], ◌∷◌, ◌++◌, map, length, get_or, true, refl, arith, sym, ap, ap₂, ◌∙◌, subst}
+use Rattle.std.specs.Prelude.{Result, Ok, Err, IfErr, max}
 use Rattle.std.specs.List.{list_all}
+use Rattle.run_laws.specs.Layers.{whole_width}
 use Rattle.a64_memory.specs.Memory.{AreBytes}
-use Rattle.a64_table.specs.Table.{word_of}
-use Rattle.a64_instr.specs.declared.instr.Instr.{Instr}
 use Rattle.image_form.specs.declared.image.Image.{Image}
 use Rattle.image_form.specs.declared.image.ProcPlace.{ProcPlace}
 use Rattle.image_form.specs.Form.{IsInForm}
@@ -12,39 +11,57 @@ use Rattle.lir_core.specs.declared.flow.Flow.{Flow}
 use Rattle.lir_core.specs.declared.places.TraceOut.{TraceOut}
 use Rattle.boundary_resolve.specs.declared.code_line.CodeLine.{CodeLine}
 use Rattle.placed_code.specs.declared.data.ImageData.{ImageData}
-use Rattle.placed_code.specs.Placed.{Placed, proc_of}
-use Rattle.placed_code.specs.Words.{most_frame}
-use Rattle.placed_code.specs.Layout.{all_words, code_of, entry}
+use Rattle.placed_code.specs.Placed.{Placed}
+use Rattle.placed_code.specs.Words.{frame_of, most_frame}
+use Rattle.placed_code.specs.Layout.{proc_width, all_words, code_of, entry}
 use Rattle.placed_code.specs.Claims.{places_of, version_of}
 use Rattle.placed_code.specs.Results.{all_placed}
+use Rattle.placed_code.proofs.Linking.{all_size}
 use Rattle.linked_flows.specs.Allocations.{Cut, steps_of, all_allocated, AreReady}
 use Rattle.linked_flows.proofs.Run.{runs}
 use Rattle.link_blocks.specs.Fits.{numbers_fit}
-use Rattle.link_blocks.specs.Plans.{plain}
-use Rattle.link_plan.specs.Parts.{IsWhole}
-use Rattle.link_plan.specs.Linked.{AreCuts, ArePlans, greatest_frame, linked, plans_of, Runs}
-use Rattle.link_plan.proofs.Plain.{words_are_plain, entries_plain}
+use Rattle.procedure_pieces.specs.Pieces.{Piece, piece_of}
+use Rattle.procedure_pieces.specs.Linked.{piece_width, begins}
+use Rattle.procedure_pieces.specs.Linked.{linked as linked_pieces}
+use Rattle.procedure_pieces.proofs.Ordered.{piece_size}
+use Rattle.procedure_pieces.proofs.Linking.{from_same, begins_same, is_linked}
+use Rattle.procedure_code.proofs.Images.{linked_size}
+use Rattle.link_plan.specs.Linked.{AreCuts, ArePieces, greatest_frame, greatest_in, linked, pieces_of, Runs}
 use Rattle.link_plan.proofs.Forms.{made}
 use Rattle.link_plan.proofs.InTable.{all_in_table}
 use Rattle.link_plan.proofs.Low.{is_ready}
-use Rattle.link_plan.proofs.Cuts.{frames_fit, all_low, all_whole, frames_plain}
+use Rattle.link_plan.proofs.Cuts.{frames_fit, all_low}
 
-module _ (k : ℕ) (plans : List Placed) (cuts : List Cut) (are : ArePlans k plans cuts) where
+widths_same : (j : ℕ) (ps : List Placed) → whole_width piece_width j (map piece_of ps) ≡ whole_width proc_width j ps
+widths_same j [] = refl
+widths_same j (p ∷ ps) = ap₂ (λ m n. m + n) (piece_size j p) (widths_same (suc j) ps)
+
+-- as many words as the procedures have
+long_same : (ps : List Placed) → length (linked_pieces (map piece_of ps)) ≡ length (all_words ps)
+long_same ps =
+    let a = linked_size (map piece_of ps) in let b = all_size ps in
+    let c = from_same ps in let d = widths_same 0 ps in
+    omega (arith, a, b, c, d)
+
+frames_same : (ps : List Placed) → greatest_in (map piece_of ps) ≡ greatest_frame ps
+frames_same [] = refl
+frames_same (p ∷ ps) = ap (λ m. max (frame_of p) m) (frames_same ps)
+
+module _ (k : ℕ) (pieces : List Piece) (cuts : List Cut) (are : ArePieces k pieces cuts) where
   abbrev ps : List Placed
   ps = all_placed steps_of (all_allocated cuts)
 
-  -- what is asked of plans that are those of the cuts
-  pub plans_whole : (p : ℕ) → p < length plans → IsWhole (proc_of plans p)
-  plans_whole = subst (λ (qs : List Placed). (p : ℕ) → p < length qs → IsWhole (proc_of qs p)) (sym are.plans_are) (all_whole k are.few cuts are.each)
+  code_is : (code : List ℕ) → code ≡ linked_pieces pieces → length (linked_pieces pieces) ≤ 2 ^ 18 → code ≡ code_of ps
+  code_is code c few =
+      let long = ap (λ (qs : List Piece). length (linked_pieces qs)) are.pieces_are ∙ long_same ps in
+      let size = all_size ps in
+      c ∙ ap linked_pieces are.pieces_are ∙ sym (is_linked ps (omega (arith, long, size, few)))
 
-  code_is : (code : List ℕ) → code ≡ code_of plans → code ≡ code_of ps
-  code_is code c = c ∙ ap (λ (qs : List Placed). code_of qs) are.plans_are ∙ ap (λ (is : List Instr). map word_of is) (words_are_plain ps)
+  pub frame_is : (frame : ℕ) → frame ≡ greatest_in pieces → frame ≡ greatest_frame ps
+  frame_is frame f = f ∙ ap greatest_in are.pieces_are ∙ frames_same ps
 
-  pub frame_is : (frame : ℕ) → frame ≡ greatest_frame plans → frame ≡ greatest_frame ps
-  frame_is frame f = f ∙ ap greatest_frame are.plans_are ∙ frames_plain ps
-
-  pub over_is : 2 ^ 18 < length (all_words plans) → 2 ^ 18 < length (all_words ps)
-  over_is l = subst (λ (is : List Instr). 2 ^ 18 < length is) (ap (λ (qs : List Placed). all_words qs) are.plans_are ∙ words_are_plain ps) l
+  pub over_is : 2 ^ 18 < length (linked_pieces pieces) → 2 ^ 18 < length (all_words ps)
+  over_is l = let long = ap (λ (qs : List Piece). length (linked_pieces qs)) are.pieces_are ∙ long_same ps in omega (arith, l, long)
 
   pub image_runs : (image : Image) (extra : ImageData) (input : List ℕ) → image ≡ linked cuts extra → IsInForm image → image.frame ≤ most_frame → AreBytes extra.constants → ((i : ℕ) → get_or input i 0 < 2 ^ 64)
       → Runs image cuts extra input
@@ -56,19 +73,19 @@ module _ (k : ℕ) (plans : List Placed) (cuts : List Cut) (are : ArePlans k pla
       subst (λ (x : Image). Runs x cuts extra input) (sym is)
       (runs k frame cuts extra input are.few ready (record { form = subst IsInForm is form; bytes = bytes; in_table = table }) low)
 
-  entries_are : entry plans ≡ entry ps
-  entries_are = ap (λ (qs : List Placed). entry qs) are.plans_are ∙ entries_plain ps
+  entries_are : begins pieces ≡ entry ps
+  entries_are = ap begins are.pieces_are ∙ begins_same ps
 
-  pub image_is : (extra : ImageData) (version : ℕ) (code : List ℕ) (frame : ℕ) (places : List ProcPlace) → code ≡ code_of plans → frame ≡ greatest_frame plans → version ≡ version_of extra.names → places ≡ places_of (entry plans) 0 extra.names
-      → made extra version code frame places ≡ linked cuts extra
-  image_is extra version code frame places c f v p =
-      ap₂ (λ (ws : List ℕ) (n : ℕ). made extra version ws n places) (code_is code c) (frame_is frame f)
+  pub image_is : (extra : ImageData) (version : ℕ) (code : List ℕ) (frame : ℕ) (places : List ProcPlace) → code ≡ linked_pieces pieces → length (linked_pieces pieces) ≤ 2 ^ 18 → frame ≡ greatest_in pieces → version ≡ version_of extra.names
+      → places ≡ places_of (begins pieces) 0 extra.names → made extra version code frame places ≡ linked cuts extra
+  image_is extra version code frame places c few f v p =
+      ap₂ (λ (ws : List ℕ) (n : ℕ). made extra version ws n places) (code_is code c few) (frame_is frame f)
       ∙ ap₂ (λ (n : ℕ) (xs : List ProcPlace). made extra n (code_of ps) (greatest_frame ps) xs) v (p ∙ ap (λ (e : ℕ → ℕ). places_of e 0 extra.names) entries_are)
 
--- the plans that are added to none are those of the cuts
-pub are_plans : (k : ℕ) (flows : List Flow) (parts : List (List CodeLine)) (outs : List (List TraceOut)) (plans before : List Placed) (cuts : List Cut) → AreCuts k flows parts outs cuts → before ≡ [] → plans ≡ before ++ plans_of cuts → list_all (λ f. numbers_fit f) flows ≡ true → ArePlans k plans cuts
-are_plans k flows parts outs plans before cuts are none added numbers = record {
-  plans_are = added ∙ ap (λ (qs : List Placed). qs ++ plans_of cuts) none;
+-- the pieces that are added to none are those of the cuts
+pub are_pieces : (k : ℕ) (flows : List Flow) (parts : List (List CodeLine)) (outs : List (List TraceOut)) (pieces before : List Piece) (cuts : List Cut) → AreCuts k flows parts outs cuts → before ≡ [] → pieces ≡ before ++ pieces_of cuts → list_all (λ f. numbers_fit f) flows ≡ true → ArePieces k pieces cuts
+are_pieces k flows parts outs pieces before cuts are none added numbers = record {
+  pieces_are = added ∙ ap (λ (qs : List Piece). qs ++ pieces_of cuts) none;
   numbers = sym (ap (λ (fs : List Flow). list_all (λ f. numbers_fit f) fs) are.flows_are) ∙ numbers;
   few = are.few;
   each = are.each;

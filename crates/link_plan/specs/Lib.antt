@@ -1,4 +1,1 @@
 pub mod Linked
-pub mod Parts
-pub mod Measured
-pub mod Written

@@ -1,5 +1,5 @@
 -- The image of flows in traces with sound results, and what it does.
-use Rattle.std.specs.Prelude.{◌≡◌, ◌∷◌, ℕ, ◌<◌, ◌≤◌, ◌^◌, ◌%◌, max, List, [], map, drop, length, get_or, false, true}
+use Rattle.std.specs.Prelude.{◌≡◌, ◌∷◌, ℕ, ◌<◌, ◌≤◌, ◌^◌, ◌%◌, max, List, [], map, drop, length, false, true}
 use Rattle.std.specs.List.{list_all}
 use Rattle.run_laws.specs.Runs.{Outcome, Keeps, InStep}
 use Rattle.run_laws.specs.Layers.{Through}
@@ -25,6 +25,7 @@ use Rattle.linked_flows.specs.Allocations.{Cut, steps_of, all_allocated}
 use Rattle.link_blocks.specs.Fits.{numbers_fit}
 use Rattle.link_blocks.specs.Laid.{Fits}
 use Rattle.link_blocks.specs.Plans.{plain}
+use Rattle.procedure_pieces.specs.Pieces.{Piece, piece_of}
 
 -- what an image has besides its code is within its form
 pub record DataFits (extra : ImageData) : Type 0 where
@@ -73,9 +74,13 @@ pub record AreCuts (k : ℕ) (flows : List Flow) (parts : List (List CodeLine)) 
 abbrev pub plans_of : List Cut → List Placed
 plans_of cuts = map plain (all_placed steps_of (all_allocated cuts))
 
--- plans are those of cuts with sound results, whose numbers fit instructions
-pub record ArePlans (k : ℕ) (plans : List Placed) (cuts : List Cut) : Type 0 where
-  pub plans_are : plans ≡ plans_of cuts
+-- the pieces of cuts
+abbrev pub pieces_of : List Cut → List Piece
+pieces_of cuts = map piece_of (all_placed steps_of (all_allocated cuts))
+
+-- pieces are those of cuts with sound results, whose numbers fit instructions
+pub record ArePieces (k : ℕ) (pieces : List Piece) (cuts : List Cut) : Type 0 where
+  pub pieces_are : pieces ≡ pieces_of cuts
   pub numbers : list_all (λ f. numbers_fit f) (map (λ c. c.flow) cuts) ≡ true
   pub few : k ≤ 16
   pub each : AllAllocated k cuts
@@ -87,6 +92,11 @@ AreSmall cuts = (q : ℕ) (c : Cut) (rest : List Cut) → drop q cuts ≡ c ∷ 
 abbrev pub greatest_frame : List Placed → ℕ
 greatest_frame [] = 0
 greatest_frame (p ∷ ps) = max (frame_of p) (greatest_frame ps)
+
+-- the greatest frame of pieces
+abbrev pub greatest_in : List Piece → ℕ
+greatest_in [] = 0
+greatest_in (piece ∷ pieces) = max piece.frame (greatest_in pieces)
 
 abbrev pub frame_of_cuts : List Cut → ℕ
 frame_of_cuts cuts = greatest_frame (all_placed steps_of (all_allocated cuts))

@@ -1,43 +1,45 @@
 //! The image of flows.
 
-ghost use Rattle.std.specs.Prelude.{◌≡◌, ◌++◌, ℕ, ◌+◌, ◌<◌, ◌≤◌, ◌^◌, ◌%◌, List, length, get_or, map, [], true, false, IfOk, OnOk, IfErr};
+ghost use Rattle.std.specs.Prelude.{◌≡◌, ◌∷◌, ◌++◌, ℕ, ◌+◌, ◌<◌, ◌≤◌, ◌^◌, ◌%◌, List, length, get_or, map, [], true, false, IfOk, OnOk, IfErr};
 ghost use Rattle.std.specs.List.{list_all};
 ghost use Rattle.a64_memory.specs.Memory.{AreBytes};
 ghost use Rattle.image_form.specs.Form.{IsInForm};
-ghost use Rattle.placed_code.specs.Placed.{proc_of};
 ghost use Rattle.placed_code.specs.Words.{most_frame};
 ghost use Rattle.placed_code.specs.Claims.{places_of, version_of};
 ghost use Rattle.placed_code.specs.Results.{placed, all_placed};
-ghost use Rattle.placed_code.specs.Layout.{all_words, code_of};
+ghost use Rattle.placed_code.specs.Layout.{all_words};
 ghost use Rattle.linked_flows.specs.Allocations.{Cut, steps_of, allocated, all_allocated};
 ghost use Rattle.link_blocks.specs.Fits.{numbers_fit};
 ghost use Rattle.link_blocks.specs.Laid.{IsCutOf, Fits};
-ghost use Rattle.link_plan.specs.Parts.{IsWhole, entry_at};
-ghost use Rattle.link_plan.specs.Written.{EntriesAre};
 ghost use Rattle.link_blocks.specs.Plans.{placed_in, plain};
-ghost use Rattle.link_plan.specs.Linked.{DataFits, NameAllOrNone, small_frame, IsUnnamedAndFar, AreCuts, ArePlans, AreSmall, greatest_frame, frame_of_cuts, plans_of, Runs, linked};
+ghost use Rattle.procedure_pieces.specs.Pieces.{piece_of};
+ghost use Rattle.procedure_pieces.specs.Linked.{begins};
+ghost use Rattle.procedure_pieces.specs.Linked.{linked as linked_pieces};
+ghost use Rattle.procedure_code.specs.Parts.{entry_at};
+ghost use Rattle.procedure_code.specs.Views.{piece_in};
+ghost use Rattle.link_plan.specs.Linked.{DataFits, NameAllOrNone, small_frame, IsUnnamedAndFar, IsAllocated, AreCuts, ArePieces, AreSmall, greatest_in, frame_of_cuts, pieces_of, Runs, linked};
 ghost use Rattle.link_plan.specs.declared.fault.LinkFault.TheVariants.{Limit, Misfit};
 
 use crate::fault::LinkFault;
-use crate::whole::{CodeWords, code_of};
 use boundary_resolve::CodeLine;
 use image_form::{Image, ProcPlace, ProcPlaces, Words};
 use link_blocks::{Plan, PlanFault};
 use link_layout::LayoutFault;
 use lir_core::{Flow, TraceOut};
 use placed_code::{ImageData, ProcName};
+use procedure_code::{CodeWords, Piece, code_of, entry_at, piece_of};
 use std::alloc::{AllocError, Global};
 
 /// The bytes of the greatest frame in an image that names no procedure.
 const SMALL_FRAME: u32 = 32_768;
 
-/// The image of flows by their numbers, from each one's lines in code order and the results for its traces. A flow whose
-/// calls aren't counted is the body of a module, and the bodies run in the order of their numbers. The data names all flows, and
-/// the image has version 2, or none, and it has version 1. Globals and constants are of whole cells of eight bytes, at most
-/// 8,388,608 and 2,097,152 bytes. `Limit` comes exactly where the code is over 262,144 words, `Misfit` for no sound results of
-/// flows whose numbers and frames are small enough: 65,536 bytes of a frame in version 2, and 32,768 in version 1.
-/// Takes time in proportion to lines and words, and n log n for n homes. The lines and results of a flow are let go once they are
-/// read.
+/// The image of flows by their numbers, from each one's lines in code order and the results for its traces. A flow
+/// whose calls aren't counted is the body of a module, and the bodies run in the order of their numbers. The data
+/// names all flows, and the image has version 2, or none, and it has version 1. Globals and constants are of whole
+/// cells of eight bytes, at most 8,388,608 and 2,097,152 bytes. `Limit` comes exactly where the code is over 262,144
+/// words, `Misfit` for no sound results of flows whose numbers and frames are small enough: 65,536 bytes of a frame
+/// in version 2, and 32,768 in version 1. Takes time in proportion to lines and words, and n log n for n homes. The
+/// lines and results of a flow are let go once they are read.
 pub fn link(
     alloc: Global,
     flows: &[Flow],
@@ -57,55 +59,91 @@ pub fn link(
     ensures misfit { IfErr result (λ fault. fault ≡ Misfit → (k : ℕ) (cuts : List Cut) → AreCuts k flows.now (map (λ v. v.items) parts.items) (map (λ v. v.items) outs.items) cuts
         → AreSmall cuts → IsUnnamedAndFar extra (frame_of_cuts cuts)) }
 {
-    let mut plans = Vec::with_capacity(alloc, flows.len())?;
-    add_plans(alloc, &mut plans, flows, parts, outs)?;
-    image_of_plans(alloc, plans.as_slice(), extra)
+    let mut pieces = Vec::with_capacity(alloc, flows.len())?;
+    add_pieces(alloc, &mut pieces, flows, parts, outs)?;
+    image_of_pieces(alloc, pieces.as_slice(), extra)
 }
 
-/// Adds the plans of flows, from each one's lines in code order and the results for its traces: `link` in parts, so that flows
-/// can be let go before those behind them are made. `Misfit` comes for no sound results of flows whose numbers and frames are small
-/// enough, and `Limit` never. Takes time in proportion to lines. The lines and results of a flow are let go once they are read.
-pub fn add_plans(
+/// Adds the pieces of flows, from each one's lines in code order and the results for its traces: `link` in parts, so
+/// that flows can be let go before those behind them are made. `Misfit` comes for no sound results of flows whose
+/// numbers and frames are small enough, and else `Limit` exactly where some procedure alone is longer than an image
+/// may be. Takes time in proportion to lines and words, and n log n for n homes. The lines and results of a flow are
+/// let go once they are read, and its plan once its words are made.
+pub fn add_pieces(
     alloc: Global,
-    plans: &mut Vec<Plan>,
+    pieces: &mut Vec<Piece>,
     flows: &[Flow],
     parts: Vec<Vec<CodeLine>>,
     outs: Vec<Vec<TraceOut>>,
 ) -> Result<(), LinkFault>
-    ensures plans { OnOk result ((k : ℕ) (cuts : List Cut) → AreCuts k flows.now (map (λ v. v.items) parts.items) (map (λ v. v.items) outs.items) cuts
-        → map placed_in plans.new.items ≡ map placed_in plans.old.items ++ plans_of cuts) }
-    ensures count { OnOk result (length plans.new.items ≡ length plans.old.items + length flows.now) }
+    ensures pieces { OnOk result ((k : ℕ) (cuts : List Cut) → AreCuts k flows.now (map (λ v. v.items) parts.items) (map (λ v. v.items) outs.items) cuts
+        → map piece_in pieces.new.items ≡ map piece_in pieces.old.items ++ pieces_of cuts) }
+    ensures count { OnOk result (length pieces.new.items ≡ length pieces.old.items + length flows.now) }
     ensures fits { OnOk result (list_all (λ f. numbers_fit f) flows.now ≡ true) }
-    ensures limit { IfErr result (λ fault. fault ≡ Limit → ⊥) }
+    ensures limit { IfErr result (λ fault. fault ≡ Limit → (k : ℕ) (cuts : List Cut) → AreCuts k flows.now (map (λ v. v.items) parts.items) (map (λ v. v.items) outs.items) cuts
+        → 2 ^ 18 < length (all_words (all_placed steps_of (all_allocated cuts)))) }
     ensures misfit { IfErr result (λ fault. fault ≡ Misfit → (k : ℕ) (cuts : List Cut) → AreCuts k flows.now (map (λ v. v.items) parts.items) (map (λ v. v.items) outs.items) cuts
         → AreSmall cuts → ⊥) }
 {
     let mut parts = parts.into_iter();
     let mut outs = outs.into_iter();
+    let mut room = true;
     for flow in flows {
         let lines = parts.next().ok_or(LinkFault::Misfit)?;
         let results = outs.next().ok_or(LinkFault::Misfit)?;
-        let plan = plan_of(alloc, flow, lines.as_slice(), results.as_slice())?;
-        plans.push(plan)?;
+        let one = add_piece(alloc, pieces, flow, lines.as_slice(), results.as_slice())?;
+        room &= one;
     }
-    Ok(())
+    if room { Ok(()) } else { Err(LinkFault::Limit) }
 }
 
-/// The image of plans, by the numbers of their flows. A flow whose calls aren't counted is the body of a module, and the bodies run
-/// in the order of their numbers. The data names all plans, and the image has version 2, or none, and it has version 1. `Misfit` comes
-/// exactly where some frame is over 32,768 bytes in version 1, and else `Limit` exactly where the code is over 262,144 words. Takes
-/// time in proportion to lines and words, and n log n for n homes.
-pub fn image_of_plans(alloc: Global, plans: &[Plan], extra: ImageData) -> Result<Image, LinkFault>
+/// Adds the piece of a flow where an image of it alone has room for it, and tells whether it has.
+fn add_piece(
+    alloc: Global,
+    pieces: &mut Vec<Piece>,
+    flow: &Flow,
+    lines: &[CodeLine],
+    outs: &[TraceOut],
+) -> Result<bool, LinkFault>
+    ensures piece { (k : ℕ) (c : Cut) → k ≤ 16 → IsAllocated k c → IsCutOf k flow.now lines.now outs.now c → IfOk result (λ room. room ≡ true
+        → map piece_in pieces.new.items ≡ map piece_in pieces.old.items ++ piece_of (placed steps_of (allocated c)) ∷ []) }
+    ensures count { IfOk result (λ room. room ≡ true → length pieces.new.items ≡ length pieces.old.items + 1) }
+    ensures over { (k : ℕ) (c : Cut) → k ≤ 16 → IsAllocated k c → IsCutOf k flow.now lines.now outs.now c → IfOk result (λ room. room ≡ false
+        → 2 ^ 18 < length (all_words (placed steps_of (allocated c) ∷ []))) }
+    ensures fits { OnOk result (numbers_fit flow.now ≡ true) }
+    ensures limit { IfErr result (λ fault. fault ≡ Limit → ⊥) }
+    ensures misfit { IfErr result (λ fault. fault ≡ Misfit → (k : ℕ) (c : Cut) → IsCutOf k flow.now lines.now outs.now c → Fits c → ⊥) }
+{
+    let plan = plan_of(alloc, flow, lines, outs)?;
+    match piece_of(alloc, &plan) {
+        Ok(piece) => {
+            pieces.push(piece)?;
+            Ok(true)
+        }
+        Err(LayoutFault::Limit) => Ok(false),
+        Err(LayoutFault::Memory) => Err(LinkFault::Memory),
+    }
+}
+
+/// The image of pieces, by the numbers of their flows. A flow whose calls aren't counted is the body of a module, and
+/// the bodies run in the order of their numbers. The data names all pieces, and the image has version 2, or none, and
+/// it has version 1. `Misfit` comes exactly where some frame is over 32,768 bytes in version 1, and else `Limit`
+/// exactly where the code is over 262,144 words. Takes time in proportion to words.
+pub fn image_of_pieces(
+    alloc: Global,
+    pieces: &[Piece],
+    extra: ImageData,
+) -> Result<Image, LinkFault>
     requires extra { DataFits extra }
-    requires names { NameAllOrNone extra.names (length plans.now) }
-    ensures image { (k : ℕ) (cuts : List Cut) → ArePlans k (map placed_in plans.now) cuts
+    requires names { NameAllOrNone extra.names (length pieces.now) }
+    ensures image { (k : ℕ) (cuts : List Cut) → ArePieces k (map piece_in pieces.now) cuts
         → IfOk result (λ image. image ≡ linked cuts extra) }
     ensures form { IfOk result IsInForm }
-    ensures runs { (k : ℕ) (cuts : List Cut) (input : List ℕ) → ArePlans k (map placed_in plans.now) cuts → AreBytes extra.constants
+    ensures runs { (k : ℕ) (cuts : List Cut) (input : List ℕ) → ArePieces k (map piece_in pieces.now) cuts → AreBytes extra.constants
         → ((i : ℕ) → get_or input i 0 < 2 ^ 64) → IfOk result (λ image. Runs image cuts extra input) }
-    ensures limit { IfErr result (λ fault. fault ≡ Limit → (k : ℕ) (cuts : List Cut) → ArePlans k (map placed_in plans.now) cuts
+    ensures limit { IfErr result (λ fault. fault ≡ Limit → (k : ℕ) (cuts : List Cut) → ArePieces k (map piece_in pieces.now) cuts
         → 2 ^ 18 < length (all_words (all_placed steps_of (all_allocated cuts)))) }
-    ensures misfit { IfErr result (λ fault. fault ≡ Misfit → IsUnnamedAndFar extra (greatest_frame (map placed_in plans.now))) }
+    ensures misfit { IfErr result (λ fault. fault ≡ Misfit → IsUnnamedAndFar extra (greatest_in (map piece_in pieces.now))) }
 {
     let ImageData {
         flags,
@@ -114,11 +152,11 @@ pub fn image_of_plans(alloc: Global, plans: &[Plan], extra: ImageData) -> Result
         names,
     } = extra;
     let names = names.as_slice();
-    let frame = greatest_frame(plans);
+    let frame = greatest_frame(pieces);
     if is_past(names, frame) {
         return Err(LinkFault::Misfit);
     }
-    let CodeWords { words, entries } = words_of(alloc, plans)?;
+    let CodeWords { words, entries } = words_of(alloc, pieces)?;
     let places = places_of(alloc, entries.as_slice(), names)?;
     Ok(Image {
         version: version_of(names),
@@ -165,17 +203,7 @@ fn places_of(
     Ok(places)
 }
 
-/// Where a procedure begins; those that aren't there begin behind all others.
-fn entry_at(entries: &[u32], procedure: usize) -> u32
-    ensures { result ≡ entry_at entries.now procedure }
-{
-    let last = entries.len().saturating_sub(1);
-    match entries.get(procedure.min(last)) {
-        Some(word) => *word,
-        None => 0,
-    }
-}
-
+/// The plan of a flow.
 fn plan_of(
     alloc: Global,
     flow: &Flow,
@@ -195,30 +223,29 @@ fn plan_of(
 }
 
 /// The bytes of the greatest frame.
-fn greatest_frame(plans: &[Plan]) -> u32
-    ensures greatest { result ≡ greatest_frame (map placed_in plans.now) }
+fn greatest_frame(pieces: &[Piece]) -> u32
+    ensures greatest { result ≡ greatest_in (map piece_in pieces.now) }
     ensures most { result ≤ most_frame }
     ensures whole { result % 8 ≡ 0 }
 {
     let mut frame = 0;
-    let mut i = plans.len();
+    let mut i = pieces.len();
     while i > 0 {
         i -= 1;
-        frame = (8 * plans[i].frame.slots).max(frame);
+        frame = pieces[i].frame.max(frame);
     }
     frame
 }
 
-/// The code words of plans, and where each begins.
-fn words_of(alloc: Global, plans: &[Plan]) -> Result<CodeWords, LinkFault>
-    ensures code { ((p : ℕ) → p < length plans.now → IsWhole (proc_of (map placed_in plans.now) p)) → IfOk result (λ code. code.words.items ≡ code_of (map placed_in plans.now)) }
-    ensures size { IfOk result (λ code. length code.words.items ≡ length (all_words (map placed_in plans.now))) }
-    ensures entries { IfOk result (λ code. EntriesAre (map placed_in plans.now) code.entries.items) }
-    ensures fits { IfOk result (λ code. (1 ≤ length code.words.items) × (length code.words.items ≤ 2 ^ 18)) }
-    ensures limit { IfErr result (λ fault. fault ≡ Limit → 2 ^ 18 < length (all_words (map placed_in plans.now))) }
+/// The code words of pieces, and where each begins.
+fn words_of(alloc: Global, pieces: &[Piece]) -> Result<CodeWords, LinkFault>
+    ensures code { IfOk result (λ code. code.words.items ≡ linked_pieces (map piece_in pieces.now)) }
+    ensures entries { IfOk result (λ code. (p : ℕ) → entry_at code.entries.items p ≡ begins (map piece_in pieces.now) p) }
+    ensures fits { IfOk result (λ code. length (linked_pieces (map piece_in pieces.now)) ≤ 2 ^ 18) }
+    ensures limit { IfErr result (λ fault. fault ≡ Limit → 2 ^ 18 < length (linked_pieces (map piece_in pieces.now))) }
     ensures misfit { IfErr result (λ fault. fault ≡ Misfit → ⊥) }
 {
-    match code_of(alloc, plans) {
+    match code_of(alloc, pieces) {
         Ok(code) => Ok(code),
         Err(LayoutFault::Limit) => Err(LinkFault::Limit),
         Err(LayoutFault::Memory) => Err(LinkFault::Memory),

@@ -17,7 +17,7 @@ use crate::data::program_data;
 use crate::fault::{ProgramFault, of_imaging, of_lowering};
 use crate::sizes::are_short;
 use back_end::{Choice, Image, image_of};
-use link_plan::Plan;
+use link_plan::Piece;
 use lir_core::Items;
 use ob_types::Program;
 use outside::Gate;
@@ -37,11 +37,11 @@ pub struct Compiled {
     pub scaffold: Scaffold,
 }
 
-/// What an image was made from, and nothing reads any more: the program, and the plans of its procedures.
+/// What an image was made from, and nothing reads any more: the program, and the pieces of its procedures.
 #[derive(Drop)]
 pub struct Scaffold {
     program: Program,
-    plans: Items<Plan>,
+    pieces: Items<Piece>,
 }
 
 impl Compiled {
@@ -105,7 +105,7 @@ pub fn program_image<G: Gate, R: Threads + Wait + Sync>(
             traces: linked.traces,
             scaffold: Scaffold {
                 program,
-                plans: linked.plans,
+                pieces: linked.pieces,
             },
         }),
         Err(fault) => Err(of_imaging(fault)),

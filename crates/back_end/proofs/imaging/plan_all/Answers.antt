@@ -2,8 +2,8 @@ use Rattle.std.proofs.Common.{map, refl, sym, ap, subst, ◌∙◌, arith}
 use Rattle.std.specs.Prelude.{All}
 use Rattle.std.specs.Vec.Iter.{into_iter_items}
 use Rattle.lir_core.specs.Flows.{IsValidFlow}
-use Rattle.link_blocks.specs.Plans.{placed_in}
-use Rattle.link_plan.proofs.Rows.{errs_with}
+use Rattle.procedure_code.specs.Views.{piece_in}
+use Rattle.procedure_code.proofs.Rows.{errs_with}
 use Rattle.back_end.specs.Batches.{AreMore}
 use Rattle.back_end.proofs.Batches.{begun, flows_valid, further, not_none, over}
 use Rattle.back_end.proofs.imaging.plan_all.Goals as goal
@@ -11,7 +11,7 @@ use Rattle.back_end.proofs.imaging.plan_all.Goals as goal
 pub loop-init : goal.loop-init
 loop-init g c = record {
   some = c.batch-most.ensures c.requires.choice.some_jobs;
-  way = begun c.args.choice.now c.args.procedures _ c.len-count.result _ c.requires.choice.few c.requires.ready (c.into_iter-rest.ensures.rest ∙ c.into_vec.ensures) c.len-count.ensures (ap (map placed_in) c.in_ok-with_capacity.ensures.items) refl refl;
+  way = begun c.args.choice.now c.args.procedures _ c.len-count.result _ c.requires.choice.few c.requires.ready (c.into_iter-rest.ensures.rest ∙ c.into_vec.ensures) c.len-count.ensures (ap (map piece_in) c.in_ok-with_capacity.ensures.items) refl refl refl;
 }
 
 pub returns-in_err-plan_more-clause-traces : goal.returns-in_err-plan_more-clause-traces

@@ -1,8 +1,9 @@
 use Rattle.std.proofs.Common.{[], ◌∷◌, map, length, ap, sym, ◌∙◌, arith, length-append}
 use Rattle.kept_plans.proofs.Lists.{imaged}
 use Rattle.link_blocks.specs.Plans.{placed_in}
-use Rattle.link_plan.proofs.Rows.{errs_with}
-use Rattle.link_plan.proofs.Cuts.{cut_at, fits_more, map_last, plans_more, plans_all, cuts_length}
+use Rattle.procedure_code.proofs.Rows.{errs_with}
+use Rattle.link_plan.proofs.Cuts.{cut_at, fits_more, map_last, cuts_length}
+use Rattle.kept_plans.proofs.Plans.{plans_more, plans_all}
 use Rattle.kept_plans.proofs.linking.plans_of.Goals as goal
 
 pub returns-in_err-plan-clause-misfit : goal.returns-in_err-plan-clause-misfit

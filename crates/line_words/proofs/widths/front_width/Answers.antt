@@ -5,7 +5,7 @@ use Rattle.placed_code.specs.Layout.{jump_width, first_of, last_width}
 use Rattle.placed_code.proofs.Parts.{length_map}
 use Rattle.link_layout.specs.Spots.{copy_of}
 use Rattle.link_blocks.specs.Plans.{block_in, placed_in}
-use Rattle.link_plan.proofs.Measures.{frame_is, is_frame_of, jump_turned}
+use Rattle.procedure_code.proofs.Measures.{frame_is, is_frame_of, jump_turned}
 use Rattle.line_words.proofs.widths.front_width.Goals as goal
 use Rattle.link_layout.proofs.Placing.{ok_more}
 use Rattle.link_layout.proofs.Placing.{err_more}

@@ -2,7 +2,7 @@ use Rattle.std.proofs.Common.{sym, ◌∙◌, arith}
 use Rattle.placed_code.proofs.Parts.{length_map}
 use Rattle.link_blocks.specs.Plans.{block_in, placed_in}
 use Rattle.link_layout.proofs.Placing.{errs_with}
-use Rattle.link_plan.proofs.Measures.{over_block}
+use Rattle.procedure_code.proofs.Measures.{over_block}
 use Rattle.line_words.proofs.widths.line_widths.Goals as goal
 
 pub returns-in_err-push_block_at-clause-limit : goal.returns-in_err-push_block_at-clause-limit

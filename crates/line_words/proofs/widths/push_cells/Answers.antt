@@ -2,7 +2,7 @@ use Rattle.std.proofs.Common.{◌+◌, map, drop, ◌∙◌}
 use Rattle.link_layout.proofs.Placing.{err_so}
 use Rattle.placed_code.specs.Layout.{cell_width}
 use Rattle.link_blocks.specs.Plans.{cell_in, placed_in}
-use Rattle.link_plan.proofs.Rows.{one_over, drop_map, mapped_more}
+use Rattle.procedure_code.proofs.Rows.{one_over, drop_map, mapped_more}
 use Rattle.line_words.proofs.widths.push_cells.Goals as goal
 
 pub returns-in_err-width-clause-limit : goal.returns-in_err-width-clause-limit

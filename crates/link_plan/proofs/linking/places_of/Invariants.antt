@@ -1,6 +1,6 @@
 use Rattle.std.proofs.Common.{◌≡◌, ◌++◌, drop}
 use Rattle.placed_code.specs.Claims.{places_of}
-use Rattle.link_plan.specs.Parts.{entry_at}
+use Rattle.procedure_code.specs.Parts.{entry_at}
 use Rattle.link_plan.proofs.linking.places_of.Given as goal
 
 abbrev pub invariant-loop-number : goal.invariant-loop-number

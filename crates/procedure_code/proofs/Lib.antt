@@ -1,0 +1,9 @@
+pub mod InOrder
+pub mod Rows
+pub mod Sizes
+pub mod Same
+pub mod Measures
+pub mod Appended
+pub mod Alone
+pub mod Plain
+pub mod Images

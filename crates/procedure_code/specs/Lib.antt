@@ -1,0 +1,5 @@
+pub mod Holes
+pub mod Views
+pub mod Parts
+pub mod Measured
+pub mod Joined
