@@ -7,6 +7,8 @@
 //! (`specs/Paths.antt`). `put_drawing` appends the text, which `specs/Drawings.antt` defines. Each block has a box, boxes lie apart
 //! and within the drawing, and each edge leads from its block's box to its target's, down or round the left side
 //! (`blocks_stand_below`, `boxes_lie_apart`, `edges_meet_boxes`).
+//!
+//! `hue` and `put_times` are also for what else a page tells of traces: their colours, and how often blocks run.
 #![tactic(auto)]
 
 mod drawing;
@@ -20,3 +22,4 @@ mod texts;
 
 pub use drawing::put_drawing;
 pub use laws::{blocks_stand_below, boxes_lie_apart, edges_meet_boxes};
+pub use texts::{hue, put_times};

@@ -37,8 +37,8 @@ fn put_place(alloc: Global, text: &mut Vec<u8>, x: u64, y: u64) -> Result<(), Al
     put_attribute(alloc, text, b"y", y)
 }
 
-// The hue of a trace.
-fn hue(trace: usize) -> u64
+/// The hue of a trace.
+pub fn hue(trace: usize) -> u64
     ensures { result ≡ hue trace }
 {
     const HUES: [u64; 10] = [211, 32, 152, 340, 268, 96, 12, 186, 300, 54];
@@ -62,8 +62,8 @@ fn put_hundredths(alloc: Global, text: &mut Vec<u8>, number: u64) -> Result<(), 
     put_number(alloc, text, number % 10)
 }
 
-// Appends how often a block runs, relative to the entry.
-fn put_times(alloc: Global, text: &mut Vec<u8>, freq: u64) -> Result<(), AllocError>
+/// Appends how often a block runs, relative to the entry.
+pub fn put_times(alloc: Global, text: &mut Vec<u8>, freq: u64) -> Result<(), AllocError>
     ensures { OnOk result (text.new.items ≡ text.old.items ++ times_text freq) }
 {
     if freq < ONCE {

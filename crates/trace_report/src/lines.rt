@@ -19,8 +19,8 @@ pub(crate) struct Told {
     pub(crate) used: Used,
 }
 
-// How a policy that is used is called.
-fn name_of(used: Used) -> &'static [u8]
+/// How a policy that is used is called.
+pub fn name_of(used: Used) -> &'static [u8]
     ensures { result.now ≡ name_of used }
 {
     match used {
@@ -41,8 +41,8 @@ fn frequency(flow: &Flow, number: u32) -> u64
     }
 }
 
-// How often the most frequent of these nodes runs.
-fn greatest(flow: &Flow, numbers: &[u32]) -> u64
+/// How often the most frequent of these nodes runs, as often as their counts say; 0 of none.
+pub fn greatest(flow: &Flow, numbers: &[u32]) -> u64
     ensures { result ≡ greatest flow.now.nodes 0 numbers.now }
 {
     let mut most = 0;
@@ -85,8 +85,8 @@ fn put_more_blocks(alloc: Global, text: &mut Vec<u8>, numbers: &[u32]) -> Result
     Ok(())
 }
 
-// Appends the blocks.
-fn put_blocks(alloc: Global, text: &mut Vec<u8>, numbers: &[u32]) -> Result<(), AllocError>
+/// Appends blocks by their numbers, with a comma between two.
+pub fn put_blocks(alloc: Global, text: &mut Vec<u8>, numbers: &[u32]) -> Result<(), AllocError>
     ensures { OnOk result (text.new.items ≡ text.old.items ++ blocks_text numbers.now) }
 {
     match numbers {

@@ -1,7 +1,8 @@
 -- What stands above the table of a trace.
-use Rattle.std.specs.Prelude.{ℕ, zero, suc, ◌*◌, ◌/◌, ◌%◌, nat_lt, List, [], ◌∷◌, ◌++◌, codes, Option, Some, None, if◌then◌else◌, slice_index_or}
+use Rattle.std.specs.Prelude.{ℕ, zero, suc, List, [], ◌++◌, codes, Option, Some, None}
 use Rattle.std.specs.Fmt.{decimal}
 use Rattle.alloc_choice.specs.declared.choice.Used.{Used}
+use Rattle.flow_drawing.specs.Texts.{hue, times_text}
 use Rattle.trace_report.specs.Lines.{name_of, blocks_text}
 use Rattle.trace_tables.specs.declared.counts.Counts.{Counts}
 
@@ -44,23 +45,9 @@ columns_end = codes "<th>homes</th><th>words</th></tr>\n"
 
 ---- What is told of a trace
 
--- the hues of ten traces, in degrees
-abbrev pub hues : List ℕ
-hues = 211 ∷ 32 ∷ 152 ∷ 340 ∷ 268 ∷ 96 ∷ 12 ∷ 186 ∷ 300 ∷ 54 ∷ []
-
-abbrev pub trace_hue : ℕ → ℕ
-trace_hue trace = slice_index_or hues (trace % 10) 0
-
--- how often a trace runs, where the entry runs 2^20 times: the whole part from once on, else in hundredths, rounded down
-abbrev pub hundredths_text : ℕ → List ℕ
-hundredths_text n = codes "0." ++ (decimal (n / 10) ++ decimal (n % 10))
-
-abbrev pub times_text : ℕ → List ℕ
-times_text freq = if nat_lt freq 1048576 then hundredths_text (freq * 100 / 1048576) else decimal (freq / 1048576)
-
 -- a trace by its number, in its colour
 unfoldable pub title_text : ℕ → List ℕ
-title_text trace = title_begin ++ (decimal (trace_hue trace) ++ (number_begin ++ (decimal trace ++ number_end)))
+title_text trace = title_begin ++ (decimal (hue trace) ++ (number_begin ++ (decimal trace ++ number_end)))
 
 abbrev pub policy_text : Option Used → List ℕ
 policy_text None = []

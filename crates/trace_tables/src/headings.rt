@@ -1,18 +1,15 @@
 //! What stands above the table of a trace.
 
-ghost use Rattle.std.specs.Prelude.{◌≡◌, ◌++◌, slice_get, OnOk};
-ghost use Rattle.alloc_choice.specs.Choice.{freq_of};
-ghost use Rattle.trace_report.specs.Lines.{name_of, greatest, more_blocks, blocks_text};
-ghost use Rattle.trace_tables.specs.Headings.{title_begin, number_begin, number_end, hint_mark, heading_end, blocks_mark, times_mark, times_end, table_begin, columns_end, trace_hue, hundredths_text, times_text, title_text, policy_text, which_text, counts_text, hint_text, numbers_text, column_text, columns_text, table_open, table_close};
+ghost use Rattle.std.specs.Prelude.{◌≡◌, ◌++◌, OnOk};
+ghost use Rattle.flow_drawing.specs.Texts.{hue, times_text};
+ghost use Rattle.trace_tables.specs.Headings.{title_begin, number_begin, number_end, hint_mark, heading_end, blocks_mark, times_mark, times_end, table_begin, columns_end, title_text, policy_text, which_text, counts_text, hint_text, numbers_text, column_text, columns_text, table_open, table_close};
 
 use crate::counts::Counts;
 use alloc_choice::Used;
+use flow_drawing::{hue, put_times};
 use html_text::{put_number, put_text};
-use lir_core::Flow;
 use std::alloc::{AllocError, Global};
-
-/// How often a procedure's entry is taken to run.
-const ONCE: u64 = 1_048_576;
+use trace_report::{name_of, put_blocks};
 
 #[tactic(auto, unfolding(crate::specs::Headings::title_begin))]
 fn put_title_begin(text: &mut Vec<u8>) -> Result<(), AllocError>
@@ -87,52 +84,16 @@ fn put_heading_end(text: &mut Vec<u8>) -> Result<(), AllocError>
     put_text(text, b"</span></h3>\n")
 }
 
-fn trace_hue(trace: usize) -> u64
-    ensures { result ≡ trace_hue trace }
-{
-    const HUES: [u64; 10] = [211, 32, 152, 340, 268, 96, 12, 186, 300, 54];
-    HUES[trace % 10]
-}
-
-fn put_hundredths(alloc: Global, text: &mut Vec<u8>, number: u64) -> Result<(), AllocError>
-    ensures { OnOk result (text.new.items ≡ text.old.items ++ hundredths_text number) }
-{
-    put_text(text, b"0.")?;
-    put_number(alloc, text, number / 10)?;
-    put_number(alloc, text, number % 10)
-}
-
-fn put_times(alloc: Global, text: &mut Vec<u8>, freq: u64) -> Result<(), AllocError>
-    ensures { OnOk result (text.new.items ≡ text.old.items ++ times_text freq) }
-{
-    if freq < ONCE {
-        put_hundredths(alloc, text, freq * 100 / ONCE)
-    } else {
-        put_number(alloc, text, freq / ONCE)
-    }
-}
-
 /// Appends a trace by its number, in its colour.
 #[tactic(auto, unfolding(crate::specs::Headings::title_text))]
 pub(crate) fn put_title(alloc: Global, text: &mut Vec<u8>, trace: usize) -> Result<(), AllocError>
     ensures { OnOk result (text.new.items ≡ text.old.items ++ title_text trace) }
 {
     put_title_begin(text)?;
-    put_number(alloc, text, trace_hue(trace))?;
+    put_number(alloc, text, hue(trace))?;
     put_number_begin(text)?;
     put_number(alloc, text, trace as u64)?;
     put_number_end(text)
-}
-
-fn name_of(used: Used) -> &'static [u8]
-    ensures { result.now ≡ name_of used }
-{
-    match used {
-        Used::Plain => b"plain",
-        Used::Trivial => b"trivial",
-        Used::Linear => b"linear",
-        Used::BottomUp => b"bottomup",
-    }
 }
 
 fn put_policy(text: &mut Vec<u8>, used: Option<Used>) -> Result<(), AllocError>
@@ -142,49 +103,6 @@ fn put_policy(text: &mut Vec<u8>, used: Option<Used>) -> Result<(), AllocError>
         None => Ok(()),
         Some(used) => put_text(text, name_of(used)),
     }
-}
-
-fn put_more_blocks(alloc: Global, text: &mut Vec<u8>, numbers: &[u32]) -> Result<(), AllocError>
-    ensures { OnOk result (text.new.items ≡ text.old.items ++ more_blocks numbers.now) }
-{
-    for number in numbers {
-        put_text(text, b",")?;
-        put_number(alloc, text, u64::from(*number))?;
-    }
-    Ok(())
-}
-
-fn put_blocks(alloc: Global, text: &mut Vec<u8>, numbers: &[u32]) -> Result<(), AllocError>
-    ensures { OnOk result (text.new.items ≡ text.old.items ++ blocks_text numbers.now) }
-{
-    match numbers {
-        [] => Ok(()),
-        [first, more @ ..] => {
-            put_number(alloc, text, u64::from(*first))?;
-            put_more_blocks(alloc, text, more)
-        }
-    }
-}
-
-// How often a node runs; not at all where there is none.
-fn frequency(flow: &Flow, number: u32) -> u64
-    ensures { result ≡ freq_of (slice_get flow.now.nodes number) }
-{
-    match flow.nodes.as_slice().get(number as usize) {
-        Some(node) => node.freq,
-        None => 0,
-    }
-}
-
-/// How often the most frequent of these nodes runs.
-pub(crate) fn greatest(flow: &Flow, numbers: &[u32]) -> u64
-    ensures { result ≡ greatest flow.now.nodes 0 numbers.now }
-{
-    let mut most = 0;
-    for number in numbers {
-        most = frequency(flow, *number).max(most);
-    }
-    most
 }
 
 /// Appends by what a trace has its places, which blocks it has, and how often the most frequent of them runs.

@@ -9,7 +9,7 @@ ghost use Rattle.trace_tables.specs.Tables.{plain_shown, last_edge, either_edge,
 
 use crate::nothing::Nothing;
 use crate::shown::ShownProcedure;
-use lir_core::{Flow, Leave, Line, Node, Places};
+use lir_core::{Flow, Leave, Line, Node, Places, TraceOut};
 use trace_rows::{EdgeName, Seat};
 
 fn node_at<'a>(flow: &'a Flow, nothing: &'a Nothing, number: u32) -> &'a Node
@@ -34,58 +34,36 @@ pub(crate) fn first_registers<'a>(shown: &ShownProcedure<'a>) -> &'a [Option<u32
     }
 }
 
-fn start_at<'a>(
-    shown: &ShownProcedure<'a>,
-    nothing: &'a Nothing,
-    trace: usize,
-    place: usize,
-) -> &'a Places
-    ensures { result.now ≡ slice_index_or (out_at shown.now.outs.now trace).starts place no_places }
+fn out_at<'a>(shown: &ShownProcedure<'a>, nothing: &'a Nothing, trace: usize) -> &'a TraceOut
+    ensures { result.now ≡ out_at shown.now.outs.now trace }
 {
-    let Some(out) = shown.outs.get(trace) else {
-        return &nothing.places;
-    };
-    match out.starts.as_slice().get(place) {
+    match shown.outs.get(trace) {
+        Some(out) => out,
+        None => &nothing.out,
+    }
+}
+
+fn places_at<'a>(list: &'a [Places], nothing: &'a Nothing, place: usize) -> &'a Places
+    ensures { result.now ≡ slice_index_or list.now place no_places }
+{
+    match list.get(place) {
         Some(places) => places,
         None => &nothing.places,
     }
 }
 
-fn end_at<'a>(
-    shown: &ShownProcedure<'a>,
-    nothing: &'a Nothing,
-    trace: usize,
-    place: usize,
-) -> &'a Places
-    ensures { result.now ≡ slice_index_or (out_at shown.now.outs.now trace).ends place no_places }
+fn named_at<'a>(out: &'a TraceOut, place: usize) -> &'a [u8]
+    ensures { result.now ≡ slice_index_or out.now.regs place [] }
 {
-    let Some(out) = shown.outs.get(trace) else {
-        return &nothing.places;
-    };
-    match out.ends.as_slice().get(place) {
-        Some(places) => places,
-        None => &nothing.places,
-    }
-}
-
-fn named_at<'a>(shown: &ShownProcedure<'a>, trace: usize, place: usize) -> &'a [u8]
-    ensures { result.now ≡ slice_index_or (out_at shown.now.outs.now trace).regs place [] }
-{
-    let Some(out) = shown.outs.get(trace) else {
-        return &[];
-    };
     match out.regs.as_slice().get(place) {
         Some(named) => named.as_slice(),
         None => &[],
     }
 }
 
-fn lines_at<'a>(shown: &ShownProcedure<'a>, trace: usize, place: usize) -> &'a [Line]
-    ensures { result.now ≡ slice_index_or (out_at shown.now.outs.now trace).lines place [] }
+fn lines_at<'a>(out: &'a TraceOut, place: usize) -> &'a [Line]
+    ensures { result.now ≡ slice_index_or out.now.lines place [] }
 {
-    let Some(out) = shown.outs.get(trace) else {
-        return &[];
-    };
     match out.lines.as_slice().get(place) {
         Some(lines) => lines.as_slice(),
         None => &[],
@@ -168,13 +146,14 @@ pub(crate) fn seat_of<'a>(
     ensures node { result.node.now ≡ node_at shown.now.flow.now.nodes number }
 {
     let node = node_at(shown.flow, nothing, number);
-    let lines = lines_at(shown, trace, place);
+    let out = out_at(shown, nothing, trace);
+    let lines = lines_at(out, place);
     Seat {
         block: number,
         node,
-        start: start_at(shown, nothing, trace, place),
-        end: end_at(shown, nothing, trace, place),
-        named: named_at(shown, trace, place),
+        start: places_at(out.starts.as_slice(), nothing, place),
+        end: places_at(out.ends.as_slice(), nothing, place),
+        named: named_at(out, place),
         first_edge: first_edge(shown.flow, nothing, number, lines),
         last_edge: last_edge(number, &node.end),
     }

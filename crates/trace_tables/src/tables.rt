@@ -9,9 +9,7 @@ ghost use Rattle.trace_tables.specs.Counts as counts;
 ghost use Rattle.trace_tables.specs.Tables.{plain_shown, sheet_of, seat_of, blocks_rows, lines_behind_blocks, blocks_cursor, heading, table_text, tables_from, first_cursor, entry_title, entry_table, tables_text};
 
 use crate::counts::{Counts, counts_of};
-use crate::headings::{
-    greatest, put_numbers, put_table_close, put_table_open, put_title, put_which,
-};
+use crate::headings::{put_numbers, put_table_close, put_table_open, put_title, put_which};
 use crate::nothing::Nothing;
 use crate::seats::{first_registers, seat_of};
 use crate::shown::ShownProcedure;
@@ -19,6 +17,7 @@ use alloc_choice::Used;
 use html_text::put_text;
 use outside::Memory;
 use std::alloc::{AllocError, Global};
+use trace_report::greatest;
 use trace_rows::{Cursor, Sheet, put_entry_row, put_entry_rows, put_node_rows};
 
 // What all blocks of a procedure have in common.
