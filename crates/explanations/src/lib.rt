@@ -1,7 +1,7 @@
 //! What numbers mean that the program tells: faults of modules, limits, traps of runs, rules of images, notes and objects. Each has a
 //! page, with an example that gives it and the mended example; `explanation` gives the text that is printed.
 //!
-//! The pages stand as data in a module for each kind. The document `EXPLAIN.md` in the data of `explanation_rows` holds the same texts:
+//! The pages stand as data in a module for each kind. The document `EXPLAIN.md` in the data of `trc_runs` holds the same texts:
 //! that program holds it against these, and tries each example. `specs/Explained.antt` says which texts are printed,
 //! `specs/Entries.antt` how a page is laid out.
 #![tactic(auto)]

@@ -1,12 +1,13 @@
 //! What `check` and `explain` tell. Places come from an independent compiler.
 
+use crate::calls::{Wanted, answer, call, done, refused, wants};
 use std::alloc::AllocGlobal;
 use std::process::Abort;
 use std::sync::Wait;
 use std::test::Fail;
 use std::thread::Threads;
 use trc_base::{MemFiles, MemSource};
-use trc_calls::{Cause, Wanted, answer, call, done, refused, wants};
+use trc_cli::Cause;
 
 /// The module that breaks a rule on its second line, in a file whose name is escaped in JSON.
 const BROKEN: &str = "MODULE M; VAR b: BOOLEAN;\nBEGIN b := count END M.\n";

@@ -1,10 +1,10 @@
 //! What commands tell and write, in rows. Expected values come from the language's rules and an independent compiler.
 
+use crate::calls::{Wanted, answer, call, call_through, done, refused, wants};
 use std::alloc::AllocGlobal;
 use std::process::Abort;
 use std::test::Fail;
 use trc_base::{Files, MeetGate, MemFiles, MemSource};
-use trc_calls::{Wanted, answer, call, call_through, done, refused, wants};
 
 /// Calls that are refused: their words, the status and the line.
 const REFUSED: [(&[&str], u8, &str); 12] = [

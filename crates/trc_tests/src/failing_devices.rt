@@ -6,7 +6,7 @@ use std::sync::Wait;
 use std::test::Fail;
 use std::thread::Threads;
 use trc_base::{Files, GetFault, MemFiles, MemSink, MemSource, OpenGate};
-use trc_calls::{Cause, Outcome, trc};
+use trc_cli::{Cause, Outcome, trc};
 
 /// A module that writes what it reads.
 const COPIES: &str =

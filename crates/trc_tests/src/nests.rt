@@ -6,7 +6,7 @@ use std::sync::Wait;
 use std::test::Fail;
 use std::thread::Threads;
 use trc_base::{MemFiles, MemSink, MemSource, OpenGate};
-use trc_calls::trc;
+use trc_cli::trc;
 
 /// A construct, by what stands before the nest, what opens a part of it, what stands inside, what closes a part and what stands
 /// behind; how many parts are 100 constructs; and the column of the first construct too many with one part more.

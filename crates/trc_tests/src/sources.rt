@@ -1,10 +1,10 @@
 //! Modules that are refused, and traps that name their procedures, in rows. Expected values come from the language's rules and an
 //! independent compiler.
 
+use crate::calls::{done, refused, runs, wants};
 use std::alloc::{AllocError, AllocGlobal, Global};
 use std::test::Fail;
 use trc_base::{Files, MemFiles};
-use trc_calls::{done, refused, runs, wants};
 
 /// Bodies of a module that are refused, and their lines.
 const BROKEN: [(&str, &str); 4] = [

@@ -1,12 +1,12 @@
 //! The table of `compare`, and the page of `show`: what refuses them, how many rows there are and how each ends, and what is written.
 //! Expected values come from the language's rules.
 
+use crate::calls::{answer, call, done, refused, wants};
 use std::alloc::AllocGlobal;
 use std::sync::Wait;
 use std::test::Fail;
 use std::thread::Threads;
 use trc_base::{Files, MemFiles, MemSource};
-use trc_calls::{answer, call, done, refused, wants};
 
 /// How many choices are compared.
 const ROWS: usize = 14;

@@ -1,8 +1,8 @@
 //! The files of an example.
 
 use crate::templates::{bytes_of, written_out};
+use anyhow::Result;
 use std::alloc::Global;
-use std::test::Fail;
 use trc_base::MemFiles;
 
 /// Whether a file of this name is written in hexadecimal digits.
@@ -11,7 +11,7 @@ fn is_hexadecimal(name: &str) -> bool {
 }
 
 /// Puts a file with this text among the files, where it has a name.
-fn put_file(alloc: Global, files: &mut MemFiles, name: &str, text: &str) -> Result<(), Fail> {
+fn put_file(alloc: Global, files: &mut MemFiles, name: &str, text: &str) -> Result<()> {
     if name.is_empty() {
         return Ok(());
     }
@@ -25,7 +25,7 @@ fn put_file(alloc: Global, files: &mut MemFiles, name: &str, text: &str) -> Resu
 
 /// Puts the files of an example among the files: each begins with a line that ends with a colon, and its lines stand behind four
 /// blanks.
-pub(crate) fn put_example(alloc: Global, files: &mut MemFiles, example: &str) -> Result<(), Fail> {
+pub(crate) fn put_example(alloc: Global, files: &mut MemFiles, example: &str) -> Result<()> {
     let mut name = String::new(alloc);
     let mut text = String::new(alloc);
     for line in example.split('\n') {

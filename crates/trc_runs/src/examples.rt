@@ -1,16 +1,16 @@
-//! Runs the examples, which are its data, by the top call over the host's files, and prints how each call ended.
+//! The examples: each call that is listed here is made over the host's files, and how it ended is printed behind its words.
 //!
 //! The error line goes to the standard output too, so that the stored run has it. A call's input stands beside its words.
 //! What each call must print is what another compiler, written in Python from the rules alone, prints of it
 //! (`bench/example_runs.py` writes it where that compiler is).
-#![tactic(auto)]
 
+use crate::calls::{call, words_of};
 use anyhow::Result;
 use std::alloc::AllocGlobal;
+use std::io::Print;
 use std::sync::Wait;
 use std::thread::Threads;
-use trc_base::{Files, HostFiles, HostSink, MemSource, OpenGate, Sink};
-use trc_cli::trc;
+use trc_base::{Files, Sink};
 
 /// The words of each call, and its input: each example, some with other policies and fewer registers, an example that is
 /// named before the module that it imports, and a file that isn't there.
@@ -61,40 +61,18 @@ const CALLS: [(&str, &str); 38] = [
     ("show page.html Missing.Mod", ""),
 ];
 
-/// Makes the call of these words with this input, over the host's files, and gives the status with which it ends.
-fn call<R: Threads + Wait + AllocGlobal + Sync, F: Files, O: Sink, E: Sink>(
-    rt: &R,
-    text: &str,
-    input: &str,
-    files: &mut F,
-    out: &mut O,
-    err: &mut E,
-) -> Result<u8> {
-    let mut words = Vec::new(rt.alloc());
-    for word in text.split(' ') {
-        words.push(String::from_str(rt.alloc(), word)?)?;
-    }
-    let bytes = Vec::from_slice(rt.alloc(), input.as_bytes())?;
-    let mut source = MemSource::new(bytes, 64, Vec::new(rt.alloc()));
-    let outcome = trc(
-        rt,
-        words.as_slice(),
-        files,
-        &mut source,
-        out,
-        err,
-        &OpenGate,
-    );
-    Ok(outcome.status)
-}
-
-fn main(rt: HostRuntime) -> Result<()> {
-    let mut files = HostFiles::new(&rt);
-    let mut out = HostSink::new(&rt, false);
-    let mut err = HostSink::new(&rt, false);
+/// Makes each call over these files and sinks, and prints its words before it and its status behind it.
+pub(crate) fn print_examples<
+    R: Threads + Wait + AllocGlobal + Sync + Print,
+    F: Files,
+    O: Sink,
+    E: Sink,
+>(rt: &R, files: &mut F, out: &mut O, told: &mut E) -> Result<()> {
     for (text, input) in CALLS {
         println!(rt; "{text}:")?;
-        let status = call(&rt, text, input, &mut files, &mut out, &mut err)?;
+        let words = words_of(rt.alloc(), text)?;
+        let input = Vec::from_slice(rt.alloc(), input.as_bytes())?;
+        let status = call(rt, words.as_slice(), input, files, out, told);
         println!(rt; "status {status}")?;
     }
     Ok(())

@@ -1,13 +1,13 @@
-//! Makes the pages of two small modules, which are its data, by the top call over the host's files, and holds each against the page
-//! that is stored beside its module. The stored pages open in a browser as they are.
-#![tactic(auto)]
+//! The pages of two small modules: each is made over the host's files, and held against the page that is stored beside its module.
+//! The stored pages open in a browser as they are.
 
+use crate::calls::{call, words_of};
 use anyhow::Result;
 use std::alloc::AllocGlobal;
+use std::io::Print;
 use std::sync::Wait;
 use std::thread::Threads;
-use trc_base::{Files, HostFiles, HostSink, MemSource, OpenGate, Sink};
-use trc_cli::trc;
+use trc_base::{Files, Sink};
 
 /// The words of each call behind `show page.html`, and the page that it must write.
 const PAGES: [(&str, &str); 3] = [
@@ -25,25 +25,12 @@ fn show<R: Threads + Wait + AllocGlobal + Sync, F: Files, O: Sink, E: Sink>(
     text: &str,
     files: &mut F,
     out: &mut O,
-    err: &mut E,
+    told: &mut E,
 ) -> Result<u8> {
-    let mut words = Vec::new(rt.alloc());
-    words.push(String::from_str(rt.alloc(), "show")?)?;
-    words.push(String::from_str(rt.alloc(), "page.html")?)?;
-    for word in text.split(' ') {
-        words.push(String::from_str(rt.alloc(), word)?)?;
-    }
-    let mut source = MemSource::new(Vec::new(rt.alloc()), 64, Vec::new(rt.alloc()));
-    let outcome = trc(
-        rt,
-        words.as_slice(),
-        files,
-        &mut source,
-        out,
-        err,
-        &OpenGate,
-    );
-    Ok(outcome.status)
+    let text = format!(in rt.alloc(); "show page.html {text}")?;
+    let words = words_of(rt.alloc(), text.as_str())?;
+    let none = Vec::new(rt.alloc());
+    Ok(call(rt, words.as_slice(), none, files, out, told))
 }
 
 /// The first byte in which two texts differ, if they do.
@@ -59,12 +46,15 @@ fn difference(one: &[u8], other: &[u8]) -> Option<usize> {
     None
 }
 
-fn main(rt: HostRuntime) -> Result<()> {
-    let mut files = HostFiles::new(&rt);
-    let mut out = HostSink::new(&rt, false);
-    let mut err = HostSink::new(&rt, false);
+/// Makes each page over these files and sinks, and prints the status and whether the page is the stored one.
+pub(crate) fn print_pages<
+    R: Threads + Wait + AllocGlobal + Sync + Print,
+    F: Files,
+    O: Sink,
+    E: Sink,
+>(rt: &R, files: &mut F, out: &mut O, told: &mut E) -> Result<()> {
     for (text, stored) in PAGES {
-        let status = show(&rt, text, &mut files, &mut out, &mut err)?;
+        let status = show(rt, text, files, out, told)?;
         let page = files.read(rt.alloc(), "page.html", MOST)?;
         let wanted = files.read(rt.alloc(), stored, MOST)?;
         match difference(page.as_slice(), wanted.as_slice()) {

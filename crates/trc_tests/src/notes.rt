@@ -1,12 +1,12 @@
 //! What `build --notes` writes and `audit` tells, in rows. Expected values come from the form of notes and an independent compiler.
 
+use crate::calls::{Wanted, answer, done, holds, refused, wants};
 use std::alloc::AllocGlobal;
 use std::process::Abort;
 use std::sync::Wait;
 use std::test::Fail;
 use std::thread::Threads;
 use trc_base::{Files, MemFiles};
-use trc_calls::{Wanted, answer, done, holds, refused, wants};
 
 /// The module that does nothing, its image in the file I and its notes in the file N.
 fn noted<R: Threads + Wait + AllocGlobal + Sync>(rt: &R) -> Result<MemFiles, Fail> {

@@ -1,5 +1,5 @@
-//! Makes the call of each line of its input by the top call over devices in memory, and prints how it ended, what it wrote, and
-//! its error line.
+//! The vectors: the call of each line of the standard input is made over devices in memory, and what is printed is how it ended, what
+//! it wrote, and its error line.
 //!
 //! A line has the words of the call, with a blank between them; then, each behind a tab, the files, as `NAME=TEXT`, or the input,
 //! as `<TEXT`. In a text `\n` stands for a line's end, `\t` for a tab, `\\` for a backslash and `\xHH` for the byte with that
@@ -8,19 +8,15 @@
 //! that it writes are printed too. The stored input are worked programs, commands with all their options, faults, limits, and the bytes of an image
 //! that are cut off and changed, one by one; what is wanted is what another compiler, written in Python from the rules alone,
 //! prints of them (`bench/trc_vectors.py` makes both where it is).
-#![tactic(auto)]
 
+use crate::calls::{ROOM, Seen, call_in_memory, words_of};
 use anyhow::Result;
 use std::alloc::{AllocGlobal, Global};
-use std::io::{BufRead, BufReader};
+use std::io::{BufRead, BufReader, Input, Print};
 use std::sync::Wait;
 use std::thread::Threads;
-use trc_base::{Files, MemFiles, MemSink, MemSource, OpenGate};
-use trc_cli::trc;
+use trc_base::{Files, MemFiles};
 use vector_texts::spread;
-
-/// How much a call may write.
-const ROOM: usize = 1 << 16;
 
 /// The value of a hexadecimal digit in lower case; 0 of any other byte.
 fn digit(byte: u8) -> u8 {
@@ -103,13 +99,10 @@ struct Call {
 fn call_of(alloc: Global, line: &str) -> Result<Call> {
     let mut parts = line.split('\t');
     let mut call = Call {
-        words: Vec::new(alloc),
+        words: words_of(alloc, parts.next().unwrap_or(""))?,
         files: MemFiles::new(alloc, Vec::new(alloc)),
         input: Vec::new(alloc),
     };
-    for word in parts.next().unwrap_or("").split(' ') {
-        call.words.push(String::from_str(alloc, word)?)?;
-    }
     for part in parts {
         if let Some(text) = part.strip_prefix('<') {
             call.input = bytes_of(alloc, text)?;
@@ -161,22 +154,11 @@ fn told<R: Threads + Wait + AllocGlobal + Sync>(rt: &R, line: &str) -> Result<St
         mut files,
         input,
     } = call_of(alloc, line)?;
-    let mut source = MemSource::new(input, 64, Vec::new(alloc));
-    let mut out = MemSink::new(alloc, ROOM, ROOM, Vec::new(alloc))?;
-    let mut err = MemSink::new(alloc, ROOM, ROOM, Vec::new(alloc))?;
-    let outcome = trc(
-        rt,
-        words.as_slice(),
-        &mut files,
-        &mut source,
-        &mut out,
-        &mut err,
-        &OpenGate,
-    );
-    let told = written(alloc, err.bytes())?;
-    let printed = written(alloc, out.bytes())?;
+    let Seen { status, out, err } = call_in_memory(rt, words.as_slice(), input, &mut files)?;
+    let told = written(alloc, err.as_slice())?;
+    let printed = written(alloc, out.as_slice())?;
     let files = wrote(alloc, words.as_slice(), &mut files)?;
-    Ok(format!(in alloc; "{} {printed} | {told}{files}", outcome.status)?)
+    Ok(format!(in alloc; "{status} {printed} | {told}{files}")?)
 }
 
 /// What the call of a line comes to, or of the line that a short one stands for.
@@ -187,10 +169,13 @@ fn answer<R: Threads + Wait + AllocGlobal + Sync>(rt: &R, line: &str) -> Result<
     }
 }
 
-fn main(rt: HostRuntime) -> Result<()> {
+/// Prints what the call of each line of the standard input comes to.
+pub(crate) fn print_vectors<R: Threads + Wait + AllocGlobal + Sync + Print + Input>(
+    rt: &R,
+) -> Result<()> {
     for line in BufReader::new(rt.alloc(), rt.reader())?.lines(rt.alloc()) {
         let line = line?;
-        let text = answer(&rt, line.as_str())?;
+        let text = answer(rt, line.as_str())?;
         println!(rt; "{text}")?;
     }
     Ok(())

@@ -3,13 +3,13 @@
 
 ghost use Rattle.std.specs.Prelude.{◌<◌, ◌≤◌, length};
 
+use crate::calls::{Wanted, answer, call, done, holds, refused, wants};
 use std::alloc::{AllocError, AllocGlobal, Global};
 use std::process::Abort;
 use std::sync::Wait;
 use std::test::Fail;
 use std::thread::Threads;
 use trc_base::{Files, MemFiles, MemSource};
-use trc_calls::{Wanted, answer, call, done, holds, refused, wants};
 
 /// The bytes of an image without constants: the numbers of its header, its code words, and the numbers of its places.
 fn image_file(

@@ -1,11 +1,11 @@
 //! The document.
 
+use anyhow::Result;
 use explanations::{PAGES, Topic, explanation, page};
 use std::alloc::Global;
-use std::test::Fail;
 
 /// What stands in a document's blocks of code, one behind the other.
-fn blocks_of(alloc: Global, text: &[u8]) -> Result<Vec<u8>, Fail> {
+fn blocks_of(alloc: Global, text: &[u8]) -> Result<Vec<u8>> {
     let mut blocks = Vec::new(alloc);
     let mut inside = false;
     for line in text.split(|byte| *byte == b'\n') {
@@ -20,7 +20,7 @@ fn blocks_of(alloc: Global, text: &[u8]) -> Result<Vec<u8>, Fail> {
 }
 
 /// Whether a document's blocks of code are the text of `explain usage` and those of all pages, in their order.
-pub(crate) fn is_document(alloc: Global, text: &[u8]) -> Result<bool, Fail> {
+pub(crate) fn is_document(alloc: Global, text: &[u8]) -> Result<bool> {
     let mut all = explanation(alloc, Topic::Usage)?;
     for (kind, number) in PAGES {
         all.extend_from_slice(page(alloc, kind, number)?.as_slice())?;

@@ -1,19 +1,20 @@
-//! Tries the example of each page of `explanations` by the top call over files in memory, and prints whether it gives what its page
-//! says, and whether the mended example gives nothing of it; and holds the pages against those in `EXPLAIN.md`, which is the
-//! document's text.
-#![tactic(auto)]
+//! The explanations: the example of each page of `explanations` is tried over files in memory, and what is printed is whether it gives
+//! what its page says, and the mended example nothing of it. The pages are held against those in `EXPLAIN.md`, which is the document's
+//! text.
 
-mod document;
-mod examples;
-mod templates;
-mod trying;
-
-use document::is_document;
+use crate::documents::is_document;
+use crate::trying::is_true;
+use anyhow::Result;
 use explanations::{Kind, PAGES, entry_of, has_page};
-use std::test::Fail;
+use std::alloc::AllocGlobal;
+use std::io::Print;
+use std::sync::Wait;
+use std::thread::Threads;
 use trc_answers::{limit_name, rule_name};
-use trc_base::{Files, HostFiles};
-use trying::is_true;
+use trc_base::Files;
+
+/// The most bytes of the document.
+const MOST: usize = 1_048_576;
 
 /// The kinds of pages.
 const KINDS: [Kind; 6] = [
@@ -59,13 +60,18 @@ fn pages_of_all() -> Option<usize> {
     Some(count)
 }
 
-fn main(rt: HostRuntime) -> Result<(), Fail> {
+/// Prints of each page whether its example does as the page says, and then whether all are listed and the document in these files has
+/// them.
+pub(crate) fn print_explained<R: Threads + Wait + AllocGlobal + Sync + Print, F: Files>(
+    rt: &R,
+    files: &mut F,
+) -> Result<()> {
     for (kind, number) in PAGES {
         let Some(entry) = entry_of(kind, number) else {
             println!(rt; "{number}: no page")?;
             continue;
         };
-        let verdict = if is_true(&rt, &entry)? {
+        let verdict = if is_true(rt, &entry)? {
             "as its page says"
         } else {
             "NOT as its page says"
@@ -74,8 +80,7 @@ fn main(rt: HostRuntime) -> Result<(), Fail> {
     }
     let all = pages_of_all() == Some(PAGES.len());
     println!(rt; "all pages listed: {all}")?;
-    let mut files = HostFiles::new(&rt);
-    let text = files.read(rt.alloc(), "EXPLAIN.md", 1_048_576)?;
+    let text = files.read(rt.alloc(), "EXPLAIN.md", MOST)?;
     let same = is_document(rt.alloc(), text.as_slice())?;
     println!(rt; "the document holds them: {same}")?;
     Ok(())

@@ -1,31 +1,30 @@
-//! Calls of the top call over devices in memory, for its tests: with which words and files, and what comes of them.
-#![tactic(auto)]
+//! Calls of the top call over devices in memory: with which words and files, and what comes of them.
 
 use std::alloc::AllocGlobal;
 use std::sync::Wait;
 use std::test::Fail;
 use std::thread::Threads;
 use trc_base::{Files, Gate, MemFiles, MemSink, MemSource, OpenGate};
-pub use trc_cli::{Cause, Outcome, trc};
+use trc_cli::{Outcome, trc};
 
 /// How a call ended, and what the output and the error output took.
 #[derive(Drop)]
-pub struct Seen {
-    pub outcome: Outcome,
-    pub out: Vec<u8>,
-    pub err: Vec<u8>,
+pub(crate) struct Seen {
+    pub(crate) outcome: Outcome,
+    pub(crate) out: Vec<u8>,
+    pub(crate) err: Vec<u8>,
 }
 
 /// What a call comes to: its status, its output, and the line that is told.
 #[derive(Clone, Copy)]
-pub struct Wanted<'a> {
-    pub status: u8,
-    pub out: &'a str,
-    pub err: &'a str,
+pub(crate) struct Wanted<'a> {
+    pub(crate) status: u8,
+    pub(crate) out: &'a str,
+    pub(crate) err: &'a str,
 }
 
 /// A call that ends well and writes this.
-pub fn done<'a>(out: &'a str) -> Wanted<'a> {
+pub(crate) fn done<'a>(out: &'a str) -> Wanted<'a> {
     Wanted {
         status: 0,
         out,
@@ -34,7 +33,7 @@ pub fn done<'a>(out: &'a str) -> Wanted<'a> {
 }
 
 /// A call that ends with this status and line, and writes nothing on the output.
-pub fn refused<'a>(status: u8, err: &'a str) -> Wanted<'a> {
+pub(crate) fn refused<'a>(status: u8, err: &'a str) -> Wanted<'a> {
     Wanted {
         status,
         out: "",
@@ -44,7 +43,7 @@ pub fn refused<'a>(status: u8, err: &'a str) -> Wanted<'a> {
 
 /// Calls `trc` with these words over these files and input, with room for so many bytes on the output, of which
 /// these writes fail.
-pub fn call<R: Threads + Wait + AllocGlobal + Sync>(
+pub(crate) fn call<R: Threads + Wait + AllocGlobal + Sync>(
     rt: &R,
     texts: &[&str],
     files: &mut MemFiles,
@@ -56,7 +55,7 @@ pub fn call<R: Threads + Wait + AllocGlobal + Sync>(
 }
 
 /// Calls `trc` so, with workers that pass this gate.
-pub fn call_through<R: Threads + Wait + AllocGlobal + Sync, G: Gate>(
+pub(crate) fn call_through<R: Threads + Wait + AllocGlobal + Sync, G: Gate>(
     rt: &R,
     texts: &[&str],
     files: &mut MemFiles,
@@ -79,7 +78,7 @@ pub fn call_through<R: Threads + Wait + AllocGlobal + Sync, G: Gate>(
 
 /// Makes a call over these files and this input, without further faults and with ample room, and fails where another thing comes
 /// of it than is wanted.
-pub fn wants<R: Threads + Wait + AllocGlobal + Sync>(
+pub(crate) fn wants<R: Threads + Wait + AllocGlobal + Sync>(
     rt: &R,
     texts: &[&str],
     files: &mut MemFiles,
@@ -103,7 +102,7 @@ pub fn wants<R: Threads + Wait + AllocGlobal + Sync>(
 }
 
 /// Runs a module with this body over a call, which comes to what is wanted.
-pub fn runs<R: Threads + Wait + AllocGlobal + Sync>(
+pub(crate) fn runs<R: Threads + Wait + AllocGlobal + Sync>(
     rt: &R,
     body: &str,
     wanted: Wanted<'_>,
@@ -115,7 +114,7 @@ pub fn runs<R: Threads + Wait + AllocGlobal + Sync>(
 }
 
 /// The module that prints 42, and files that hold it, of which these calls fail.
-pub fn answer<R: AllocGlobal>(rt: &R, failing: Vec<u64>) -> Result<MemFiles, Fail> {
+pub(crate) fn answer<R: AllocGlobal>(rt: &R, failing: Vec<u64>) -> Result<MemFiles, Fail> {
     let mut files = MemFiles::new(rt.alloc(), failing);
     files.put(
         "M.Mod",
@@ -125,7 +124,7 @@ pub fn answer<R: AllocGlobal>(rt: &R, failing: Vec<u64>) -> Result<MemFiles, Fai
 }
 
 /// Fails where a file holds other bytes than these.
-pub fn holds<R: AllocGlobal>(
+pub(crate) fn holds<R: AllocGlobal>(
     rt: &R,
     files: &mut MemFiles,
     name: &str,

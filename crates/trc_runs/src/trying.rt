@@ -1,33 +1,33 @@
 //! An example is tried.
 
-use crate::examples::put_example;
+use crate::calls::call_in_memory;
+use crate::example_files::put_example;
 use crate::templates::written_out;
+use anyhow::Result;
 use explanations::Entry;
 use std::alloc::AllocGlobal;
 use std::sync::Wait;
-use std::test::Fail;
 use std::thread::Threads;
-use trc_base::{MemFiles, MemSource};
-use trc_calls::call;
+use trc_base::MemFiles;
 
 /// What stands before a call in a page.
 const CALL: &str = "$ trc ";
-
-/// The most bytes that an example writes.
-const ROOM: usize = 65_536;
 
 /// Makes the call of these words over these files, and gives the line that is told.
 fn line_of<R: Threads + Wait + AllocGlobal + Sync>(
     rt: &R,
     words: &str,
     files: &mut MemFiles,
-) -> Result<Vec<u8>, Fail> {
+) -> Result<Vec<u8>> {
     let text = written_out(rt.alloc(), words)?;
-    let words = text.as_str().split(' ').filter(|word| !word.is_empty());
-    let words: Vec<&str> = words.collect(rt.alloc())?;
-    let mut input = MemSource::new(Vec::new(rt.alloc()), 64, Vec::new(rt.alloc()));
+    let mut words = Vec::new(rt.alloc());
+    for word in text.as_str().split(' ') {
+        if !word.is_empty() {
+            words.push(String::from_str(rt.alloc(), word)?)?;
+        }
+    }
     let none = Vec::new(rt.alloc());
-    let seen = call(rt, words.as_slice(), files, &mut input, ROOM, none)?;
+    let seen = call_in_memory(rt, words.as_slice(), none, files)?;
     Ok(seen.err)
 }
 
@@ -35,7 +35,7 @@ fn line_of<R: Threads + Wait + AllocGlobal + Sync>(
 pub(crate) fn is_true<R: Threads + Wait + AllocGlobal + Sync>(
     rt: &R,
     entry: &Entry,
-) -> Result<bool, Fail> {
+) -> Result<bool> {
     let (first, told) = entry.session.split_once('\n').unwrap_or(("", ""));
     let words = first.strip_prefix(CALL).unwrap_or("");
     let mut files = MemFiles::new(rt.alloc(), Vec::new(rt.alloc()));

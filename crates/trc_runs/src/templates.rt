@@ -1,13 +1,13 @@
 //! Repetitions in examples.
 
+use anyhow::Result;
 use std::alloc::Global;
-use std::test::Fail;
 
 /// The most repetitions in one text.
 const MOST: usize = 20;
 
 /// What a repetition holds, for the time of this number.
-fn put_once(text: &mut String, content: &str, number: &str) -> Result<(), Fail> {
+fn put_once(text: &mut String, content: &str, number: &str) -> Result<()> {
     let mut first = true;
     for piece in content.split('%') {
         if !first {
@@ -20,7 +20,7 @@ fn put_once(text: &mut String, content: &str, number: &str) -> Result<(), Fail> 
 }
 
 /// A text with its last repetition written out, where it has one.
-fn with_last(alloc: Global, text: &str) -> Result<Option<String>, Fail> {
+fn with_last(alloc: Global, text: &str) -> Result<Option<String>> {
     let Some((before, repetition)) = text.rsplit_once('@') else {
         return Ok(None);
     };
@@ -40,7 +40,7 @@ fn with_last(alloc: Global, text: &str) -> Result<Option<String>, Fail> {
 }
 
 /// A text with all its repetitions written out.
-pub(crate) fn written_out(alloc: Global, text: &str) -> Result<String, Fail> {
+pub(crate) fn written_out(alloc: Global, text: &str) -> Result<String> {
     let mut all = String::from_str(alloc, text)?;
     for _ in 0..MOST {
         match with_last(alloc, all.as_str())? {
@@ -61,7 +61,7 @@ fn digit_of(byte: u8) -> Option<u8> {
 }
 
 /// Appends the bytes of hexadecimal digits; what stands between these is passed over.
-fn put_hex(bytes: &mut Vec<u8>, digits: &str) -> Result<(), Fail> {
+fn put_hex(bytes: &mut Vec<u8>, digits: &str) -> Result<()> {
     let mut high = None;
     for byte in digits.as_bytes() {
         let Some(digit) = digit_of(*byte) else {
@@ -80,7 +80,7 @@ fn put_hex(bytes: &mut Vec<u8>, digits: &str) -> Result<(), Fail> {
 }
 
 /// The bytes of hexadecimal digits, of which those of at most one repetition come so often as it says.
-pub(crate) fn bytes_of(alloc: Global, text: &str) -> Result<Vec<u8>, Fail> {
+pub(crate) fn bytes_of(alloc: Global, text: &str) -> Result<Vec<u8>> {
     let mut bytes = Vec::new(alloc);
     let Some((before, repetition)) = text.split_once('@') else {
         put_hex(&mut bytes, text)?;

@@ -2,13 +2,13 @@
 
 ghost use Rattle.std.specs.Prelude.{◌≤◌, length};
 
+use crate::calls::{call, done, refused, wants};
 use std::alloc::{AllocError, AllocGlobal, Global};
 use std::process::Abort;
 use std::sync::Wait;
 use std::test::Fail;
 use std::thread::Threads;
 use trc_base::{Files, MemFiles, MemSource, Source};
-use trc_calls::{call, done, refused, wants};
 
 /// A number that is put at a byte's place, four bytes of it, and the status and the line that `exec` then comes to.
 type Change<'a> = (usize, u32, u8, &'a str);

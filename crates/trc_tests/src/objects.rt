@@ -1,12 +1,12 @@
 //! What `object` writes and `link` tells, in rows. Expected values come from the form of objects and an independent compiler.
 
+use crate::calls::{call, done, holds, refused, wants};
 use std::alloc::AllocGlobal;
 use std::process::Abort;
 use std::sync::Wait;
 use std::test::Fail;
 use std::thread::Threads;
 use trc_base::{Files, MemFiles, MemSource};
-use trc_calls::{call, done, holds, refused, wants};
 
 /// Modules, of which the second imports the first, and the last is none.
 const MODULES: [(&str, &[u8]); 4] = [

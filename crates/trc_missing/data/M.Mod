@@ -1,1 +1,0 @@
-MODULE M; IMPORT Out; BEGIN Out.Int(42, 0); Out.Ln END M.
