@@ -8,7 +8,7 @@ use Rattle.plain_form.specs.results.Bounds.{IsNotable}
 use Rattle.audited_allocations.specs.Joined.{joined}
 use Rattle.trace_notes.specs.Notes.{most_bytes, notes}
 use Rattle.link_plan.specs.Linked.{AreCuts}
-use Rattle.link_plan.proofs.Rows.{errs_with}
+use Rattle.procedure_code.proofs.Rows.{errs_with}
 use Rattle.program_image.proofs.Fitting.{data_fits_as}
 use Rattle.planned_image.proofs.Placed.{valid_flows}
 use Rattle.noted_image.specs.Faults.{TellsWithNotes}

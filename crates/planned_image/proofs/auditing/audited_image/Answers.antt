@@ -7,7 +7,7 @@ use Rattle.lir_core.specs.Flows.{IsValidFlow}
 use Rattle.alloc_audit.specs.declared.verdict.Verdict.TheVariants.{Sound}
 use Rattle.alloc_audit.specs.Verdicts.{verdict_of}
 use Rattle.alloc_audit.specs.Results.{AreLive, AreWalked}
-use Rattle.link_plan.proofs.Rows.{errs_with}
+use Rattle.procedure_code.proofs.Rows.{errs_with}
 use Rattle.back_end.specs.Images.{code_length}
 use Rattle.placed_image.specs.Placing.{CanBePlaced, IsPlacedImage}
 use Rattle.placed_image.specs.Shares.{cuts_of}

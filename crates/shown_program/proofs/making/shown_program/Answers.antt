@@ -9,7 +9,7 @@ use Rattle.flow_allocation.specs.Allocations.{AreAllocated, items_of}
 use Rattle.kept_plans.specs.Above.{AreAllParents}
 use Rattle.link_plan.specs.Linked.{AreCuts}
 use Rattle.link_plan.proofs.Cuts.{same_lengths}
-use Rattle.link_plan.proofs.Rows.{errs_with}
+use Rattle.procedure_code.proofs.Rows.{errs_with}
 use Rattle.placed_image.specs.Cutting.{AreCutBy}
 use Rattle.placed_image.proofs.Results.{each_cut}
 use Rattle.program_image.proofs.Fitting.{data_fits_as}
