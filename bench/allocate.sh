@@ -1,6 +1,6 @@
 #!/bin/bash
-# Time of allocation without a choice, by linear scan and bottom-up, against the number of operations of a straight line, and of
-# nodes of nested loops, for sizes that double; and bottom-up against linear scan.
+# Time of allocation by each policy, against the number of operations of a straight line, and of nodes of nested loops, for sizes
+# that double; and each policy's against linear scan's.
 #
 #     bench/allocate.sh [PROGRAM]
 #
@@ -16,16 +16,22 @@ took() {
     milliseconds "$program" bench
 }
 
-# measure KIND SIZE: prints the milliseconds for the flow by each policy, and the lines of bottom-up's results
+# measure KIND SIZE: prints the milliseconds for the flow by each policy, what these are of linear scan's, and the lines of
+# bottom-up's results
 measure() {
+    linear=$(took linear)
+    mixed=$(took mixed)
     plain=$(took plain)
-    scan=$(took linear)
     up=$(took bottom_up)
-    awk -v k="$1" -v n="$2" -v p="$plain" -v l="$scan" -v b="$up" -v lines="$(cat "$work/out")" \
-        'BEGIN { printf "%-6s %8d %10.1f %10.1f %10.1f %8.2f  %s lines\n", k, n, p, l, b, b / (l > 0 ? l : 1), lines }'
+    awk -v k="$1" -v n="$2" -v l="$linear" -v m="$mixed" -v u="$up" -v p="$plain" -v lines="$(cat "$work/out")" '
+        function of_linear(t) { return t / (l > 0 ? l : 1) }
+        BEGIN {
+            printf "%-6s %8d %10.1f %10.1f %10.1f %10.1f %8.2f %8.2f %8.2f  %s lines\n",
+                k, n, l, m, u, p, of_linear(m), of_linear(u), of_linear(p), lines
+        }'
 }
 
-printf '%-6s %8s %10s %10s %10s %8s\n' flow size 'plain, ms' 'linear, ms' 'up, ms' 'up / linear'
+printf '%-6s %8s %10s %10s %10s %10s %8s %8s %8s\n' flow size 'linear, ms' mixed 'bottom-up' plain 'mixed/l' 'up/l' 'plain/l'
 for size in 1000 2000 4000 8000 16000 32000 64000; do
     "$top/bench/straight_line.py" "$size" >"$work/flow"
     measure line "$size"

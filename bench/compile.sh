@@ -48,12 +48,17 @@ done
 printf '%-10s' 1000/400
 paste -d' ' "$work/1000" "$work/400" | awk '{ for (i = 1; i <= NF / 2; i++) printf "%10.2f", $i / $(i + NF / 2); print "   (wanted: at most 2.75)" }'
 
-printf '\n%-10s %9s %9s %12s %9s   of 400 procedures\n' policy words steps 'allocate, ms' 'all, ms'
-for policy in linear bottomup mixed plain; do
-    least 5 calls 400 "$policy" | awk -v p="$policy" '
+# policy NAME: a policy, and its words, steps, and milliseconds of allocation and of all in one call
+policy() {
+    least 5 calls 400 "$1" | awk -v p="$1" '
         { of[$1] = $2 }
-        END { printf "%-10s %9d %9d %12.2f %9.2f\n", p, of["words"], of["steps"], of["allocate"] / 1000, of["all"] / 1000 }'
-done
+        END { print p, of["words"], of["steps"], of["allocate"] / 1000, of["all"] / 1000 }'
+}
+
+printf '\n%-10s %9s %9s %12s %9s %10s %9s   of 400 procedures\n' policy words steps 'allocate, ms' 'all, ms' 'of linear' 'of linear'
+for policy in linear mixed bottomup plain; do policy "$policy"; done | awk '
+    NR == 1 { allocate = $4; all = $5 }
+    { printf "%-10s %9d %9d %12.2f %9.2f %10.2f %9.2f\n", $1, $2, $3, $4, $5, $4 / allocate, $5 / all }'
 
 printf '\n%-10s %9s %9s %14s   (wanted: under 1024)\n' procedures words MiB 'bytes a word'
 for size in 100 400 1000; do

@@ -1,28 +1,28 @@
 #!/usr/bin/env python3
-"""Makes what crates/trc_examples must print, by another compiler.
+"""Makes what crates/trc_runs must print of the examples, by another compiler.
 
     bench/example_runs.py [FOLDER]
 
-Writes `stdout` into FOLDER (that crate's, if none is given): for each call that the crate's main.rt lists, its words, what it
-writes, its error line and its status. Each call of `run` is made with every policy and both builders too, with 4, 5 and 16
-registers, and the script ends where one of them writes something else. bench/other_compiler.py says where the other
-compiler is.
+Writes `stdout` into FOLDER (that crate's, if none is given), with another section `examples`: for each call that the crate's
+examples.rt lists, its words, what it writes, its error line and its status. Each call of `run` is made with every policy and both
+builders too, with 4, 5 and 16 registers, and the script ends where one of them writes something else. bench/other_compiler.py
+says where the other compiler is.
 """
 import ast
 import itertools
 import os
 import re
 
-from other_compiler import CALLED, TOP, folder_of
+from other_compiler import CALLED, TOP, put_section
 from compared import table
 import trc  # noqa: E402
 
-CRATE = os.path.join(TOP, 'crates', 'trc_examples')
+CRATE = os.path.join(TOP, 'crates', 'trc_runs')
 
 
 def calls():
-    """The calls that main.rt lists: words and input."""
-    listed = open(os.path.join(CRATE, 'src', 'main.rt')).read().partition('] = [\n')[2].partition('\n];')[0]
+    """The calls that examples.rt lists: words and input."""
+    listed = open(os.path.join(CRATE, 'src', 'examples.rt')).read().partition('] = [\n')[2].partition('\n];')[0]
     return ast.literal_eval('[' + re.sub(r'^\s*//.*$', '', listed, flags=re.M) + ']')
 
 
@@ -69,7 +69,7 @@ def main():
             raise SystemExit('policies differ: ' + line)
         status, out, err = made(words, given)
         text += '%s:\n%s%sstatus %d\n' % (line, out, err, status)
-    open(os.path.join(folder_of('trc_examples'), 'stdout'), 'w').write(text)
+    put_section('examples', text)
 
 
 main()

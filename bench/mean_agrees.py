@@ -4,7 +4,7 @@
     bench/mean_agrees.py [PROGRAM [MOST]]
 
 PROGRAM is the built program of crates/trc (`rt run` leaves it in that crate's out/). The programs are those of the stored runs of
-module_vectors (the modules of bench/rows, made ones, those at limits), trc_vectors and trc_examples, each once with each input that it
+module_vectors (the modules of bench/rows, made ones, those at limits), trc_runs (its vectors and its examples), each once with each input that it
 has there. Where one is refused, the line and the status must be the same. Else its fewest turns are found, up to
 MOST, which are 2,500,000 if no other number is given; with these, and with one less, `mean` must write the same bytes, end with the same
 status, and tell the same trap, with the module and line of its procedure. Where it goes on with MOST turns, it must do so here too. The script prints how many
@@ -56,7 +56,7 @@ def calls():
     """The modules and the input of each program, which may come again."""
     for fields in lines_of('module_vectors'):
         yield [read(text) for text in fields[1:]], INPUTS[0]
-    for fields in lines_of('trc_vectors'):
+    for fields in lines_of('trc_runs'):
         words, given = fields[0].split(' '), b''
         files = {}
         for field in fields[1:]:

@@ -5,7 +5,7 @@ from other_compiler import TOP
 
 ROWS = os.path.join(TOP, 'bench', 'rows')
 WHOLE = os.path.join('whole', 'modules.txt')  # legal modules that have the whole language in them
-EXAMPLES = os.path.join(TOP, 'crates', 'trc_examples', 'data')
+EXAMPLES = os.path.join(TOP, 'examples')
 EXAMPLE_NAMES = [['Answer'], ['Calc'], ['Collatz'], ['Count'], ['Functions'], ['Gcd'], ['Interpreter'], ['List'], ['Lucky'], ['Matrices'], ['Range'], ['Sets'],
                  ['Shapes'], ['Sorting'], ['Squares'], ['Texts'], ['Tree'], ['Wrap'], ['Stack', 'UseStack']]  # the modules of each
 

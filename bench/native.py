@@ -3,8 +3,8 @@
     native.py PROGRAM EMULATOR
 
 PROGRAM is the built `trc`, EMULATOR runs a program for Linux on AArch64. Each program is run by `trc run` and as a file that `trc
-elf` writes, on the same input: output, status and error line must be the same. The programs are the examples, the stored ones of
-crates/trc_vectors, and a thousand made ones. Then a loop of a hundred million turns is measured both ways.
+elf` writes, on the same input: output, status and error line must be the same. The programs are the examples and vectors of
+crates/trc_runs, and a thousand made ones. Then a loop of a hundred million turns is measured both ways.
 """
 import ast
 import os
@@ -24,8 +24,8 @@ BEGIN P END Loop.
 
 
 def examples():
-    """The calls of `run` that crates/trc_examples makes: words, files, input."""
-    text = open(os.path.join(CRATES, 'trc_examples', 'src', 'main.rt')).read().partition('] = [\n')[2].partition('\n];')[0]
+    """The calls of `run` that crates/trc_runs makes of examples: words, files, input."""
+    text = open(os.path.join(CRATES, 'trc_runs', 'src', 'examples.rt')).read().partition('] = [\n')[2].partition('\n];')[0]
     folder = os.path.join(TOP, 'examples')
     files = {name: open(os.path.join(folder, name), 'rb').read() for name in os.listdir(folder)}
     for words, given in ast.literal_eval('[' + re.sub(r'^\s*//.*$', '', text, flags=re.M) + ']'):
@@ -33,14 +33,14 @@ def examples():
 
 
 def bytes_of(written):
-    """The bytes of a text as crates/trc_vectors writes it."""
+    """The bytes of a text as a vector has it."""
     plain = re.sub(r'\\(n|t|\\|x[0-9a-f]{2})', lambda m: {'n': '\n', 't': '\t', '\\': '\\'}.get(m[1]) or chr(int(m[1][1:], 16)), written)
     return plain.encode('latin-1')
 
 
 def vectors():
-    """The stored calls of crates/trc_vectors."""
-    for line in open(os.path.join(CRATES, 'trc_vectors', 'stdin'), encoding='latin-1').read().splitlines():
+    """The vectors of crates/trc_runs."""
+    for line in open(os.path.join(CRATES, 'trc_runs', 'stdin'), encoding='latin-1').read().splitlines():
         words, *parts = line.split('\t')
         given = b''.join(bytes_of(part[1:]) for part in parts if part.startswith('<'))
         files = {part.partition('=')[0]: bytes_of(part.partition('=')[2]) for part in parts if not part.startswith('<')}

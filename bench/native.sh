@@ -1,7 +1,7 @@
 #!/bin/bash
 # Native programs against the machine, where an emulator of AArch64 with Linux is installed (Debian's qemu-user-static has one):
-# output, status and error line of all examples, of the stored programs of crates/trc_vectors and of a thousand made ones, and the
-# time of a loop. It ends with status 1 where something differs.
+# output, status and error line of all examples and vectors of crates/trc_runs and of a thousand made ones, and the time of a loop. It
+# ends with status 1 where something differs.
 #
 #     bench/native.sh [PROGRAM]
 #

@@ -4,6 +4,7 @@ It is in ../shared/oracle, seen from the top of the repository, or in the folder
 modules importable; where it isn't there, the script ends and has written nothing.
 """
 import os
+import re
 import sys
 
 TOP = os.path.dirname(os.path.dirname(os.path.abspath(__file__)))
@@ -23,6 +24,20 @@ CALLED = ['--stage', str(STAGE)]  # the same before the words of a call
 def folder_of(crate):
     """The folder that a script writes a crate's stored run into: its argument, or the crate's own."""
     return sys.argv[1] if len(sys.argv) > 1 else os.path.join(TOP, 'crates', crate)
+
+
+def put_section(name, text):
+    """Puts a text in the place of one section of the output of `trc_runs`, in the folder that a script writes to.
+
+    A section begins with the line `== NAME`. The others are those that the folder has, or, where it has no output, the crate's own.
+    """
+    path = os.path.join(folder_of('trc_runs'), 'stdout')
+    stored = path if os.path.exists(path) else os.path.join(TOP, 'crates', 'trc_runs', 'stdout')
+    with open(stored) as old:
+        parts = re.split(r'(?m)^(== \w+\n)', old.read())
+    parts[parts.index('== %s\n' % name) + 1] = text
+    with open(path, 'w') as new:
+        new.write(''.join(parts))
 
 
 def end_of(e):

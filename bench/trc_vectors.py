@@ -1,19 +1,19 @@
 #!/usr/bin/env python3
-"""Makes the input of crates/trc_vectors and the answers that are wanted, by another compiler.
+"""Makes the vectors of crates/trc_runs, which are its input, and the answers that are wanted, by another compiler.
 
     bench/trc_vectors.py [FOLDER]
 
-Writes `stdin` and `stdout` into FOLDER (that crate's, if none is given): worked programs, the modules of bench/rows with one choice
+Writes `stdin` and, with another section `vectors`, `stdout` into FOLDER (that crate's, if none is given): worked programs, the modules of bench/rows with one choice
 of policy, traces and registers after another, made modules, procedures of very many values and copies of each length, commands with their options, files that aren't there, limits, each trap
 in a procedure of an imported module, images that are built anew from those of version 1, notes and their audits, objects and their images, batches, what modules mean with the fewest turns in which
 that is over and with one less, and the bytes of the smallest image of each version, cut off at each place and changed at each. bench/other_compiler.py says where the other compiler is; how lines are written is
-said in crates/trc_vectors.
+said in that crate's vectors.rt.
 """
 import functools
 import itertools
 import os
 
-from other_compiler import CALLED, folder_of
+from other_compiler import CALLED, folder_of, put_section
 from module_texts import pieces_of, row_files
 import size_texts
 from size_texts import spread
@@ -466,12 +466,10 @@ def answer(words, files, given):
 
 
 def main():
-    folder = folder_of('trc_vectors')
     calls = [call for part in (worked, modules, commands, traps, anew, audits, objects, batches, workers, meanings, sizes, images, stored, made) for call in part()]
-    with open(os.path.join(folder, 'stdin'), 'w') as out:
+    with open(os.path.join(folder_of('trc_runs'), 'stdin'), 'w') as out:
         out.writelines(line(*call) for call in calls)
-    with open(os.path.join(folder, 'stdout'), 'w') as out:
-        out.writelines(answer(*call) for call in calls)
+    put_section('vectors', ''.join(answer(*call) for call in calls))
     print(len(calls), 'calls')
 
 
