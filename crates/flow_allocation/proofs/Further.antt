@@ -1,9 +1,7 @@
 -- From final results, one behind the other, to flows in traces.
 use Rattle.std.proofs.Common.{◌≡◌, ℕ, zero, suc, ◌+◌, ◌<◌, ◌≤◌, List, [], ◌∷◌, ◌++◌, map, length, take, drop, get_or, refl, sym, ap, ap₂, ◌∙◌, subst, arith}
-use Rattle.std.specs.Prelude.{All, Option, Some, slice_get}
-use Rattle.std.proofs.lemmas.List.{get_or-drop, get_or-take, length-drop, length-take-le, drop-drop}
-use mathlib.Core.Option.{some}
-use lib.ListN.{get_elem?}
+use Rattle.std.specs.Prelude.{All, Some, slice_get}
+use Rattle.std.proofs.lemmas.List.{get_or-drop, get_or-take, length-drop, length-take-le, drop-drop, take_all}
 use Rattle.lir_core.specs.declared.flow.Flow.{Flow}
 use Rattle.lir_core.specs.declared.flow.Trace.{Trace}
 use Rattle.lir_core.specs.declared.places.TraceOut.{TraceOut}
@@ -22,11 +20,11 @@ use Rattle.trace_work.specs.declared.planning.TracePlan.{TracePlan}
 use Rattle.trace_work.specs.declared.work.Entry.{Entry}
 use Rattle.walked_results.specs.Walked.{IsWalked}
 use Rattle.walked_results.proofs.Sounds.{result_sound}
-use Rattle.trace_work.specs.Plans.{IsPlan, IsFinal, case_of, finals_to}
+use Rattle.trace_work.specs.Plans.{AreFinals, IsPlan, IsFinal, case_of}
 use Rattle.trace_work.specs.Entries.{AreEntries, entry_of, parents_in}
 use Rattle.trace_work.specs.Finals.{AreNumbered, AreBehind, flows_in, IsFinalOf}
 use Rattle.trace_work.proofs.Ready.{are_finals}
-use Rattle.flow_allocation.specs.Allocations.{IsAllocation, AllAllocations, AreAllocated, trace_count}
+use Rattle.flow_allocation.specs.Allocations.{IsAllocation, AllAllocations, AreAllocated}
 use Rattle.flow_allocation.proofs.Counting.{counted}
 use Rattle.flow_allocation.specs.Sharing.{shares, AreLines, HaveLines, AreShared}
 
@@ -203,3 +201,24 @@ module _ (choice : Choice) (fit : IsFitChoice choice) where
         each = r.each;
         count = count ∙ sym (counted choice before r.cuts flows (sym (sym are ∙ r.flows_are)) r.each);
       }
+
+  -- a flow alone
+  pub allocated_alone : (p : TracePlan) (outs : List TraceOut) (lines : List CodeLine) (flow : Flow) (traces : ℕ) → IsPlan choice.builder p → p.number ≡ 0 → p.flow.now ≡ flow → AreFinals choice p outs → AreLines p outs lines
+      → traces ≡ traces_in choice.builder (flow ∷ []) → AreAllocated choice 0 (flow ∷ []) (lines ∷ []) (outs ∷ []) traces
+  allocated_alone p outs lines flow traces is number are finals made count =
+      let long = finals.count in
+      let whole : take (length p.traces) outs ≡ outs = take_all (length p.traces) outs (omega (arith, long)) in
+      let r = cuts_of 0 (p ∷ []) outs (lines ∷ []) one (number, tt) (finals.each, omega (arith, long), tt) (subst (λ os. AreLines p os lines) (sym whole) made, tt) in
+      let flows_are : flow ∷ [] ≡ map (λ c. c.flow) r.cuts = ap (λ f. f ∷ []) (sym are) ∙ r.flows_are in
+      record {
+        cuts = r.cuts;
+        flows_are = flows_are;
+        parts_are = r.parts_are;
+        outs_are = ap (λ os. os ∷ []) (sym whole) ∙ r.outs_are;
+        each = r.each;
+        count = count ∙ sym (counted choice 0 r.cuts (flow ∷ []) (sym flows_are) r.each);
+      }
+    where
+      one : All (IsPlan choice.builder) (p ∷ [])
+      one zero x n = is
+      one (suc k) x n = absurd (omega (arith, n))

@@ -1,3 +1,4 @@
 pub mod Counting
 pub mod Taking
 pub mod Further
+pub mod Numbered

@@ -1,6 +1,6 @@
 -- Entries of traces, flow by flow.
-use Rattle.std.proofs.Common.{◌≡◌, ℕ, zero, suc, ◌+◌, ◌<◌, ◌≤◌, ◌⊎◌, inl, inr, List, [], ◌∷◌, ◌++◌, map, length, get_or, Option, Some, None, refl, sym, ap, ◌∙◌, subst, arith, length-append}
-use Rattle.std.specs.Prelude.{slice_get, slice_index_or}
+use Rattle.std.proofs.Common.{◌≡◌, ℕ, zero, suc, ◌+◌, ◌<◌, ◌≤◌, ◌⊎◌, inl, inr, List, [], ◌∷◌, ◌++◌, length, get_or, Option, Some, None, refl, sym, ap, ◌∙◌, subst, arith, length-append}
+use Rattle.std.specs.Prelude.{slice_get}
 use Rattle.std.specs.Option.{option_map}
 use Rattle.std.proofs.lemmas.Bool.{cases_lt}
 use Rattle.std.proofs.lemmas.List.{length-map}
@@ -14,7 +14,7 @@ use Rattle.trace_work.specs.declared.planning.TracePlan.{TracePlan}
 use Rattle.trace_work.specs.declared.work.Entry.{Entry}
 use Rattle.trace_work.specs.Plans.{IsOrdered}
 use Rattle.trace_work.specs.Finals.{AreBehind}
-use Rattle.trace_work.specs.Entries.{above, entry_of, entries_to, entries_of, parents_in, AreEntries, IsEntry, IsEntryOf}
+use Rattle.trace_work.specs.Entries.{entry_of, entries_to, entries_of, parents_in, AreEntries, IsEntry, IsEntryOf}
 
 ---- Parts of lists
 

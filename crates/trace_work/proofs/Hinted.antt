@@ -1,5 +1,5 @@
 -- The hint that the table gives is the defined one, and it is fit.
-use Rattle.std.proofs.Common.{◌≡◌, ℕ, zero, suc, ◌+◌, ◌-◌, ◌<◌, ◌≤◌, ◌==◌, Bool, true, false, ◌&&◌, cond, List, [], ◌∷◌, length, get_or, Option, Some, None, refl, sym, ap, ap₂, ◌∙◌, subst, arith}
+use Rattle.std.proofs.Common.{◌≡◌, ℕ, zero, suc, ◌-◌, ◌<◌, ◌≤◌, ◌==◌, Bool, true, false, cond, List, [], ◌∷◌, length, get_or, Option, Some, None, refl, sym, ap, ◌∙◌, subst, arith}
 use Rattle.std.specs.Prelude.{nat_lt, slice_get, filter, replicate}
 use Rattle.std.specs.Option.{option_map, unwrap_or}
 use Rattle.std.proofs.lemmas.Bool.{eq-eqb, ne_eqb, ltb-true, eqb-true, and_parts}
@@ -14,12 +14,10 @@ use Rattle.lir_core.specs.declared.flow.Trace.{Trace}
 use Rattle.lir_core.specs.declared.places.Places.{Places as LirPlaces}
 use Rattle.lir_core.specs.declared.places.TraceOut.{TraceOut}
 use Rattle.lir_core.specs.Flows.{code_node, code_nodes, leads, preds_of, IsTrace, no_node}
-use Rattle.lir_core.specs.Rows.{NonePasses, IsLowest}
 use Rattle.lir_core.specs.Sound.{IsSound, EndsRise, no_places}
-use Rattle.global_live.proofs.Lists.{has-filter}
 use Rattle.global_live.proofs.Tables.{has-preds_of, leads_there}
-use Rattle.trace_build.specs.Cuts.{lists_of, all_nodes, AllTraces}
-use Rattle.trace_build.specs.Parents.{trace_at, is_above, IsParent, AreParents}
+use Rattle.trace_build.specs.Cuts.{lists_of, AllTraces}
+use Rattle.trace_build.specs.Parents.{trace_at, is_above, IsParent}
 use Rattle.trace_needs.specs.Needs.{first_of}
 use Rattle.lir_core.proofs.Passing.{none_from, one_from}
 use Rattle.linear_scan.specs.Linear.{Case, Hint}

@@ -3,3 +3,4 @@ pub mod Hinted
 pub mod Entered
 pub mod Ready
 pub mod Made
+pub mod Lending

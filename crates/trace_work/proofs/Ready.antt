@@ -24,10 +24,9 @@ use Rattle.alloc_choice.specs.Results.{parent_of, hint_for, result_at, results_t
 use Rattle.trace_work.specs.declared.planning.TracePlan.{TracePlan}
 use Rattle.trace_work.specs.declared.work.Entry.{Entry}
 use Rattle.trace_work.specs.declared.work.TraceHint.{TraceHint}
-use Rattle.trace_work.specs.Places.{hint_by, if_row}
 use Rattle.walked_results.proofs.Sounds.{result_sound}
 use Rattle.alloc_choice.proofs.Fits.{without_hint}
-use Rattle.trace_work.specs.Plans.{IsPlan, IsFinal, IsHint, case_of, final_of, finals_to, if_taken, nodes_of, used_of}
+use Rattle.trace_work.specs.Plans.{IsPlan, IsFinal, IsHint, case_of, final_of, finals_to, if_taken, nodes_of, table_hint, used_of}
 use Rattle.trace_work.specs.Entries.{entry_of, parents_in, AreEntries}
 use Rattle.trace_work.specs.Finals.{joined, plain_hint, HasRow, IsFinalOf, IsHintOf, OfTrace}
 use Rattle.trace_work.proofs.Entered.{hint_fits, no_parent, root, under}
@@ -84,10 +83,6 @@ module _ (choice : Choice) (p : TracePlan) where
   pub case_is : IsPlan choice.builder p → IsCase (case_of choice p) p.traces
   case_is is = record { valid = is.valid; live = is.live; paths = is.paths; partition = is.partition }
 
-  -- what the table gives to a trace, of the result of the one above it
-  abbrev pub table_hint : TraceOut → ℕ → ℕ → Option Hint
-  table_hint done l t = if_taken (used_of choice p t) (if_row choice.regs (hint_by p.flow.now.nodes p.places (trace_at p.traces l) done (first_of (nodes_of p t))))
-
   -- no hint, of a trace without a parent
   pub root_hint : (t : ℕ) → IsPlan choice.builder p → 4 ≤ choice.regs → t < length p.traces → get_or p.parents t None ≡ None → IsHint choice p t None
   root_hint t is enough lt none =
@@ -103,7 +98,7 @@ module _ (choice : Choice) (p : TracePlan) where
 
   -- the hint that the final result of the parent gives
   pub child_hint : (t l : ℕ) (done : TraceOut) (hint : Option Hint) → IsPlan choice.builder p → 4 ≤ choice.regs → t < length p.traces → get_or p.parents t None ≡ Some l → l < t → IsFinal choice p l done
-      → hint ≡ table_hint done l t → IsHint choice p t hint
+      → hint ≡ table_hint choice p done l t → IsHint choice p t hint
   child_hint t l done hint is enough lt known lower final given =
       let bls = code_nodes p.flow.now.nodes in
       let head = first_of (nodes_of p t) in

@@ -1,5 +1,5 @@
 -- Flows in traces, and the final results of these.
-use Rattle.std.specs.Prelude.{◌≡◌, ℕ, Bool, true, false, cond, List, length, replicate, Option, None}
+use Rattle.std.specs.Prelude.{◌≡◌, ℕ, ◌<◌, Bool, true, false, cond, List, length, replicate, Option, None}
 use Rattle.lir_core.specs.declared.places.TraceOut.{TraceOut}
 use Rattle.lir_core.specs.Flows.{code_nodes, IsValidFlow}
 use Rattle.lir_core.specs.Sound.{EndsRise}
@@ -16,9 +16,9 @@ use Rattle.alloc_choice.specs.declared.choice.Choice.{Choice}
 use Rattle.alloc_choice.specs.declared.choice.Used.{Used}
 use Rattle.alloc_choice.specs.declared.choice.Used.TheVariants.{Plain as ByPlain, Trivial as ByTrivial, Linear as ByLinear, BottomUp as ByBottomUp}
 use Rattle.alloc_choice.specs.Choice.{used}
-use Rattle.alloc_choice.specs.Results.{case_with, hint_for, parent_of, result_at, results_to}
+use Rattle.alloc_choice.specs.Results.{case_with, hint_for, out_at, parent_of, result_at, results_to}
 use Rattle.trace_work.specs.declared.planning.TracePlan.{TracePlan}
-use Rattle.trace_work.specs.Places.{placed_all}
+use Rattle.trace_work.specs.Places.{hint_by, if_row, placed_all}
 
 -- a valid flow, what is live in it, its traces by a builder, the trace above each, and where its nodes stand in these
 pub record IsPlan (builder : Builder) (p : TracePlan) : Type 0 where
@@ -69,6 +69,14 @@ takes_hint ByBottomUp = false
 abbrev pub if_taken : Used → Option Hint → Option Hint
 if_taken by hint = cond (takes_hint by) hint None
 
+-- the hint that the table of places gives to a plan's trace, of the result of a trace above it
+abbrev pub placed_hint : TracePlan → TraceOut → (above t : ℕ) → Option Hint
+placed_hint p out above t = hint_by p.flow.now.nodes p.places (trace_at p.traces above) out (first_of (nodes_of p t))
+
+-- of as many registers as are chosen, where one is taken
+abbrev pub table_hint : Choice → TracePlan → TraceOut → (above t : ℕ) → Option Hint
+table_hint choice p out above t = if_taken (used_of choice p t) (if_row choice.regs (placed_hint p out above t))
+
 ---- What is final, and what a hint
 
 -- the final result, which the walk by names accepts, and whose ends can be hints
@@ -81,3 +89,12 @@ pub record IsFinal (choice : Choice) (p : TracePlan) (t : ℕ) (out : TraceOut) 
 pub record IsHint (choice : Choice) (p : TracePlan) (t : ℕ) (hint : Option Hint) : Type 0 where
   pub is : hint ≡ if_taken (used_of choice p t) (hint_to choice p t)
   pub fits : IsInput (case_of choice p) (nodes_of p t) hint
+
+-- the final results of a plan's first n traces, in their order
+pub record AreFinalsTo (choice : Choice) (p : TracePlan) (n : ℕ) (outs : List TraceOut) : Type 0 where
+  pub count : length outs ≡ n
+  pub each : (t : ℕ) → t < n → IsFinal choice p t (out_at outs t)
+
+-- of all its traces
+abbrev pub AreFinals : Choice → TracePlan → List TraceOut → Type 0
+AreFinals choice p outs = AreFinalsTo choice p (length p.traces) outs

@@ -10,10 +10,11 @@ mod fault;
 mod hints;
 mod places;
 mod planning;
+mod results;
 mod work;
 
 pub use alloc_choice::{Builder, Choice, Policy};
 pub use fault::WorkFault;
 pub use lir_core::{Flow, TraceOut};
 pub use planning::TracePlan;
-pub use work::TraceWork;
+pub use work::{MOST_TRACES, TraceWork};

@@ -29,6 +29,20 @@ pub struct TracePlan<'a> {
     pub number: u32,
 }
 
+impl<'a> TracePlan<'a> {
+    /// A flow alone in the traces of a builder: its first trace has the place and the number 0. Takes the time of the passes:
+    /// near-linear in the flow's nodes, edges and live values.
+    pub fn alone(alloc: Global, builder: Builder, flow: &'a Flow) -> Result<TracePlan<'a>, Memory>
+        ensures plan { IsValidFlow flow.now → IfOk result (IsPlan builder) }
+        ensures flow { IfOk result (λ plan. plan.flow.now ≡ flow.now) }
+        ensures number { IfOk result (λ plan. plan.number ≡ 0) }
+        ensures count { IfOk result (λ plan. length plan.traces ≡ length (traces_of builder flow.now.nodes)) }
+        ensures ordered { IfOk result IsOrdered }
+    {
+        plan_of(alloc, builder, flow, 0, 0)
+    }
+}
+
 /// A flow in the traces of a builder, the first of which has this place and this number. Takes the time of the passes: near-linear in the
 /// flow's nodes, edges and live values.
 pub(crate) fn plan_of<'a>(

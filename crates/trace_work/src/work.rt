@@ -1,33 +1,31 @@
 //! The traces of flows, as a pool takes them.
 
-ghost use Rattle.std.specs.Prelude.{◌≡◌, ◌+◌, ◌++◌, ◌<◌, ◌≤◌, length, All, IfOk, IfErr, IfSome, OnOk, Some};
+ghost use Rattle.std.specs.Prelude.{◌≡◌, ◌+◌, ◌++◌, ◌<◌, ◌≤◌, length, All, IfOk, IfErr, OnOk, Some};
 ghost use Rattle.lir_core.specs.Flows.{IsValidFlow};
 ghost use Rattle.pool_core.specs.Tree.{IsTree};
-ghost use Rattle.trace_build.specs.Parents.{trace_at};
 ghost use Rattle.trace_build.specs.Traces.{traces_in};
-ghost use Rattle.trace_needs.specs.Needs.{first_of};
-ghost use Rattle.linear_scan.specs.Inputs.{hint_of, lent};
+ghost use Rattle.linear_scan.specs.Inputs.{lent};
 ghost use Rattle.alloc_choice.specs.Choice.{IsFitChoice};
-ghost use Rattle.trace_work.specs.Places.{hint_by, if_row};
 ghost use Rattle.trace_work.specs.Lent.{hints};
-ghost use Rattle.trace_work.specs.Plans.{if_taken, nodes_of, used_of, IsFinal, IsHint, IsOrdered, IsPlan};
+ghost use Rattle.trace_work.specs.Plans.{IsOrdered, IsPlan};
 ghost use Rattle.trace_work.specs.Entries.{AreEntries, entries_of, parents_in};
 ghost use Rattle.trace_work.specs.Entries.{above as above_in};
 ghost use Rattle.trace_work.specs.Finals.{AreNumbered, AreBehind, flows_in, joined, plain_hint, IsFinalOf, IsHintOf};
 ghost use Rattle.trace_work.specs.declared.fault.WorkFault.TheVariants.{Traces};
 
 use crate::fault::WorkFault;
-use crate::hints::{Hint, head_of, hint_from, takes_hint};
+use crate::hints::Hint;
 use crate::planning::{TracePlan, plan_of};
-use alloc_choice::{Choice, allocate_trace, policy_of};
+use crate::results::{result, taken_hint};
+use alloc_choice::Choice;
 use items::Items;
-use lir_core::{Flow, Places, TraceIn, TraceOut};
+use lir_core::{Flow, Places, TraceOut};
 use outside::Memory;
 use pool_core::Work;
 use std::alloc::{AllocError, Global};
 
 /// The most traces that a pool takes.
-const MOST_TRACES: usize = 262_144;
+pub const MOST_TRACES: usize = 262_144;
 
 /// Which trace stands at a place.
 #[derive(Clone, Copy)]
@@ -154,80 +152,6 @@ fn given<'b>(hint: Option<&'b Option<TraceHint>>) -> Option<&'b TraceHint>
     hint.as_ref()
 }
 
-// The hint that the final result of a plan's trace gives to a trace below it.
-fn hint_between<'b>(
-    plan: &TracePlan,
-    above: usize,
-    done: &'b TraceOut,
-    below: usize,
-    regs: u8,
-) -> Option<Hint<'b>>
-    requires enough { 0 < regs }
-    requires above { above < length plan.now.traces }
-    requires below { below < length plan.now.traces }
-    ensures hint { hints result ≡ if_row regs (hint_by plan.now.flow.now.nodes plan.now.places (trace_at plan.now.traces above) done.now (first_of (nodes_of plan.now below))) }
-    ensures row { IfSome result (λ h. length h.places.now.regs ≡ regs) }
-{
-    let traces = plan.traces.as_slice();
-    let head = head_of(traces[below].nodes.as_slice());
-    hint_from(
-        plan.flow,
-        plan.places.as_slice(),
-        &traces[above],
-        done,
-        head,
-        regs,
-    )
-}
-
-// The hint that the final result of a plan's trace gives to a trace below it; none where the policy of that one takes none.
-fn taken_hint<'b>(
-    choice: &Choice,
-    plan: &TracePlan,
-    above: usize,
-    done: &'b TraceOut,
-    below: usize,
-) -> Option<Hint<'b>>
-    requires enough { 0 < choice.now.regs }
-    requires above { above < length plan.now.traces }
-    requires below { below < length plan.now.traces }
-    ensures hint { hints result ≡ if_taken (used_of choice.now plan.now below) (if_row choice.now.regs (hint_by plan.now.flow.now.nodes plan.now.places (trace_at plan.now.traces above) done.now (first_of (nodes_of plan.now below)))) }
-    ensures row { IfSome result (λ h. length h.places.now.regs ≡ choice.now.regs) }
-{
-    let trace = &plan.traces.as_slice()[below];
-    if takes_hint(policy_of(choice, plan.flow, trace)) {
-        hint_between(plan, above, done, below, choice.regs)
-    } else {
-        None
-    }
-}
-
-// The result of a plan's trace, with a hint where there is one.
-fn result(
-    alloc: Global,
-    choice: &Choice,
-    plan: &TracePlan,
-    entry: Entry,
-    from: Option<u32>,
-    hint: Option<&Places>,
-) -> Result<TraceOut, Memory>
-    requires choice { IsFitChoice choice.now }
-    requires small { plan.now.number + entry.number < 262144 }
-    requires within { entry.number < length plan.now.traces }
-    requires row { IfSome hint (λ q. length q.now.regs ≡ choice.now.regs) }
-    ensures { IsHint choice.now plan.now entry.number (hint_of from (lent hint.entry)) → IfOk result (IsFinal choice.now plan.now entry.number) }
-{
-    let t = TraceIn {
-        flow: plan.flow,
-        live: &plan.live,
-        trace: &plan.traces.as_slice()[entry.number],
-        number: plan.number + entry.number as u32,
-        regs: choice.regs,
-        from,
-    };
-    allocate_trace(alloc, choice, &t, hint)
-}
-
 impl<'a> Work for TraceWork<'a> {
     type Done = TraceOut;
 
@@ -262,9 +186,9 @@ impl<'a> Work for TraceWork<'a> {
         match given(hint) {
             Some(hint) => {
                 let (node, places) = (Some(hint.node), Some(&hint.places));
-                result(alloc, &self.choice, plan, entry, node, places)
+                result(alloc, &self.choice, plan, entry.number, node, places)
             }
-            None => result(alloc, &self.choice, plan, entry, None, None),
+            None => result(alloc, &self.choice, plan, entry.number, None, None),
         }
     }
 

@@ -1,5 +1,5 @@
 use Rattle.std.proofs.Common.{sym}
-use Rattle.trace_work.proofs.Hinted.{row_none, row_same}
+use Rattle.trace_work.proofs.Hinted.{row_none}
 use Rattle.trace_work.proofs.hints.hint_at.Goals as goal
 
 pub returns-in-None-clause-hint : goal.returns-in-None-clause-hint

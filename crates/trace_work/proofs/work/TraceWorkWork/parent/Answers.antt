@@ -1,6 +1,5 @@
-use Rattle.std.proofs.Common.{length, sym, ap, ◌∙◌, arith}
+use Rattle.std.proofs.Common.{arith}
 use Rattle.std.proofs.lemmas.List.{length-map}
-use mathlib.Core.Option.{some}
 use Rattle.trace_work.specs.declared.work.Entry.{Entry}
 use Rattle.trace_work.proofs.Entered.{entry_is, parent_at}
 use Rattle.trace_work.proofs.work.TraceWorkWork.parent.Goals as goal

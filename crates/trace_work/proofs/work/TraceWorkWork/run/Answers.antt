@@ -1,4 +1,4 @@
-use Rattle.std.proofs.Common.{◌≡◌, ◌<◌, Some, None, length, sym, ap, ◌∙◌, subst, arith}
+use Rattle.std.proofs.Common.{◌<◌, length, sym, subst, arith}
 use Rattle.trace_work.specs.Finals.{HasRow, plain_hint}
 use Rattle.trace_work.specs.Plans.{IsHint}
 use Rattle.trace_work.proofs.Entered.{entry_is, entry_of_plan, flow_known, number_small, plan_is, run_within}
