@@ -22,7 +22,7 @@ module _ (program : Program) (here : Here) where
     pub by : (v : View) (m : Low ℕ) → Gives v a m p → Gives v b (guarded_in program here rs m) p
 
   pub guarding_more : (t : Tables) (rs : List ℕ) (i r : ℕ) {a b c : View} {p : ℕ} → Serves t program here → i < length rs
-      → ((v : View) (m : Low ℕ) → Gives v a m p → Gives v b (guarded m (descriptor_in t (get_or rs i r)) (level_in t (get_or rs i r))) p) → Guarding (drop (i + 1) rs) b c p → Guarding (drop i rs) a c p
+      → ((v : View) (m : Low ℕ) → Gives v a m p → Gives v b (guarded m (descriptor_in t.program.now (get_or rs i r)) (level_in t.program.now (get_or rs i r))) p) → Guarding (drop (i + 1) rs) b c p → Guarding (drop i rs) a c p
   guarding_more t rs i d {a = a} {b = b} {c = c} {p = p} s lt one rest =
       let r = get_or rs i d in
       subst (λ l. Guarding l a c p) (sym (drop_more rs i d lt)) (record {

@@ -13,6 +13,7 @@ use Rattle.ssa_lowered.specs.Values.{Named, At, const}
 use Rattle.ssa_lowered.specs.Variables.{Site, Register, Memory}
 use Rattle.ssa_exprs.specs.Named.{named_of}
 use Rattle.ssa_exprs.specs.declared.named.Named.{Named as NamedValue}
+use Rattle.ssa_exprs.specs.declared.tables.ProgramTables.{ProgramTables}
 use Rattle.ssa_exprs.specs.declared.tables.Tables.{Tables}
 use Rattle.ssa_lowered.specs.Lowered.{Here, expr, named, descriptor, level, variable_of, parameter, based, local_by}
 
@@ -23,29 +24,32 @@ clamped xs i = if nat_lt i (length xs) then slice_index xs i else slice_index xs
 abbrev pub of_row : List (List ℕ) → ℕ → ℕ → ℕ → ℕ
 of_row xss i j other = if nat_lt i (length xss) then clamped (slice_index_or xss i []) j else other
 
-abbrev pub global_in : Tables → ℕ → ℕ → ℕ
+abbrev pub global_in : ProgramTables → ℕ → ℕ → ℕ
 global_in t m v = of_row t.globals m v t.descriptors
 
-abbrev pub descriptor_in : Tables → ℕ → ℕ
+abbrev pub descriptor_in : ProgramTables → ℕ → ℕ
 descriptor_in t r = min (t.descriptors + 128 * r) 16777215
 
-abbrev pub level_in : Tables → ℕ → ℕ
+abbrev pub level_in : ProgramTables → ℕ → ℕ
 level_in t r = slice_index_or t.levels r 0
 
-abbrev pub size_in : Tables → ℕ → ℕ
+abbrev pub size_in : ProgramTables → ℕ → ℕ
 size_in t k = slice_index_or t.sizes k 8
 
-abbrev pub record_in : Tables → ℕ → ℕ
+abbrev pub record_in : ProgramTables → ℕ → ℕ
 record_in t r = slice_index_or t.records r 0
 
-abbrev pub cells_in : Tables → ℕ → ℕ
+abbrev pub cells_in : ProgramTables → ℕ → ℕ
 cells_in t r = slice_index_or t.cells r 0
 
-abbrev pub offset_in : Tables → ℕ → ℕ → ℕ
+abbrev pub offset_in : ProgramTables → ℕ → ℕ → ℕ
 offset_in t r field = of_row t.offsets r field 0
 
+abbrev pub first_text_in : ProgramTables → ℕ → ℕ
+first_text_in t f = slice_index_or t.first_texts f 0
+
 abbrev pub text_in : Tables → ℕ → ℕ
-text_in t k = clamped t.texts (t.first_text + k)
+text_in t k = clamped t.program.now.texts (t.first_text + k)
 
 -- the expression and the designator of a procedure, in the layout in use
 abbrev pub expr_in : Program → Here → Expr → Lowers
@@ -85,14 +89,14 @@ local_in t x = slice_index_or t.locals x None
 
 -- the tables are right for a procedure of a program
 pub record Serves (t : Tables) (p : Program) (here : Here) : Type 0 where
-  pub global : (m v : ℕ) → global_in t m v ≡ global_at p (layout p.types) m v
-  pub descriptor : (r : ℕ) → descriptor_in t r ≡ descriptor p (layout p.types) here r
-  pub level : (r : ℕ) → level_in t r ≡ level p (layout p.types) here r
-  pub size : (k : ℕ) → size_in t k ≡ (layout p.types).bytes k
-  pub whole : (r : ℕ) → record_in t r ≡ (layout p.types).record_bytes r
-  pub cells : (r : ℕ) → cells_in t r ≡ record_cells p.types r
-  pub offset : (r field : ℕ) → offset_in t r field ≡ (layout p.types).offset r field
-  pub short : (r field : ℕ) → 8 + offset_in t r field < 4294967296
+  pub global : (m v : ℕ) → global_in t.program.now m v ≡ global_at p (layout p.types) m v
+  pub descriptor : (r : ℕ) → descriptor_in t.program.now r ≡ descriptor p (layout p.types) here r
+  pub level : (r : ℕ) → level_in t.program.now r ≡ level p (layout p.types) here r
+  pub size : (k : ℕ) → size_in t.program.now k ≡ (layout p.types).bytes k
+  pub whole : (r : ℕ) → record_in t.program.now r ≡ (layout p.types).record_bytes r
+  pub cells : (r : ℕ) → cells_in t.program.now r ≡ record_cells p.types r
+  pub offset : (r field : ℕ) → offset_in t.program.now r field ≡ (layout p.types).offset r field
+  pub short : (r field : ℕ) → 8 + offset_in t.program.now r field < 4294967296
   pub text : (k : ℕ) → text_in t k ≡ within (text_at p (layout p.types) (text_number p here.number k))
   pub parameter : (k : ℕ) → (parameter p (layout p.types) here k ≡ parameter_in (slice_get t.parameters k))
   pub local : (x : ℕ) → local_in t x ≡ site_by here.bytes (variable_of p (layout p.types) here x).site

@@ -1,15 +1,15 @@
 //! Where data stands, for the program and the procedure that are lowered.
 
 ghost use Rattle.std.specs.Prelude.{◌≡◌, ℕ, ◌+◌, ◌*◌, ◌<◌, ◌^◌, min, is_none, Option, Some, None};
-ghost use Rattle.ssa_exprs.specs.Tables.{clamped, of_row, global_in, descriptor_in, level_in, size_in, offset_in, text_in, record_in, cells_in, local_in};
+ghost use Rattle.ssa_exprs.specs.Tables.{clamped, of_row, global_in, descriptor_in, level_in, size_in, offset_in, first_text_in, text_in, record_in, cells_in, local_in};
 
 use crate::named::Named;
 use items::Items;
 
-/// Addresses, offsets and sizes in bytes, each list by the numbers that the checked tree has. Behind the last variable of a
-/// module, field of a record type or string stands where the next one would.
+/// What all procedures of a program share: addresses, offsets and sizes in bytes, each list by the numbers that the checked tree
+/// has. Behind the last variable of a module, field of a record type or string stands where the next one would.
 #[derive(Drop)]
-pub struct Tables {
+pub struct ProgramTables {
     /// The addresses of each module's variables.
     pub globals: Items<Items<u32>>,
     /// The address behind all variables, where the descriptors begin.
@@ -26,8 +26,17 @@ pub struct Tables {
     pub cells: Items<u32>,
     /// How many cells each type has.
     pub type_cells: Items<u32>,
-    /// The addresses of all strings, and which is the procedure's first.
+    /// The addresses of all strings.
     pub texts: Items<u32>,
+    /// Which of them is each procedure's first.
+    pub first_texts: Items<u32>,
+}
+
+/// The tables of a procedure: what it shares with the others, and what is its own.
+#[derive(Drop)]
+pub struct Tables<'a> {
+    pub program: &'a ProgramTables,
+    /// Which of the program's strings is its first.
     pub first_text: u32,
     /// What the parameters name.
     pub parameters: Items<Named>,
@@ -59,7 +68,7 @@ fn of_row(lists: &[Items<u32>], i: usize, j: usize, other: u32) -> u32
     }
 }
 
-impl Tables {
+impl ProgramTables {
     /// The address of a module's variable.
     pub fn global(&self, unit: u32, variable: u32) -> u32
         ensures { result ≡ global_in self.now unit variable }
@@ -128,6 +137,27 @@ impl Tables {
         }
     }
 
+    /// The offset of a field.
+    pub fn offset(&self, r: u32, field: u32) -> u32
+        ensures { result ≡ offset_in self.now r field }
+    {
+        of_row(self.offsets.as_slice(), r as usize, field as usize, 0)
+    }
+
+    /// Which string is a procedure's first.
+    pub fn first_text(&self, f: u32) -> u32
+        ensures { result ≡ first_text_in self.now f }
+    {
+        let first_texts = self.first_texts.as_slice();
+        if (f as usize) < first_texts.len() {
+            first_texts[f as usize]
+        } else {
+            0
+        }
+    }
+}
+
+impl Tables<'_> {
     /// Whether a local variable is in a register.
     pub fn in_register(&self, x: u32) -> bool
         ensures { result ≡ is_none (local_in self.now x) }
@@ -140,17 +170,13 @@ impl Tables {
         }
     }
 
-    /// The offset of a field.
-    pub fn offset(&self, r: u32, field: u32) -> u32
-        ensures { result ≡ offset_in self.now r field }
-    {
-        of_row(self.offsets.as_slice(), r as usize, field as usize, 0)
-    }
-
     /// The address of a string of the procedure.
     pub fn text(&self, k: u32) -> u32
         ensures { result ≡ text_in self.now k }
     {
-        clamped(self.texts.as_slice(), self.first_text as usize + k as usize)
+        clamped(
+            self.program.texts.as_slice(),
+            self.first_text as usize + k as usize,
+        )
     }
 }

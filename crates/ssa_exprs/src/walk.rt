@@ -72,7 +72,7 @@ fn local_at(b: &mut Making, n: u32) -> Result<Named, Memory>
 }
 
 /// What a parameter names.
-fn parameter(t: &Tables, b: &mut Making, k: u32) -> Result<Named, Memory>
+fn parameter(t: &Tables<'_>, b: &mut Making, k: u32) -> Result<Named, Memory>
     ensures { IfOk result (λ h. (p : Program) (here : Here) → Serves t.now p here → Gives b.old b.new (passed_in p here k) (named_of h)) }
 {
     let parameters = t.parameters.as_slice();
@@ -85,7 +85,7 @@ fn parameter(t: &Tables, b: &mut Making, k: u32) -> Result<Named, Memory>
 }
 
 /// A local variable.
-fn local(t: &Tables, b: &mut Making, x: u32) -> Result<Named, Memory>
+fn local(t: &Tables<'_>, b: &mut Making, x: u32) -> Result<Named, Memory>
     ensures { IfOk result (λ h. (p : Program) (here : Here) → Serves t.now p here → Gives b.old b.new (own_in p here x) (named_of h)) }
 {
     let locals = t.locals.as_slice();
@@ -101,12 +101,12 @@ fn local(t: &Tables, b: &mut Making, x: u32) -> Result<Named, Memory>
 }
 
 /// Where a designator begins.
-fn base(t: &Tables, b: &mut Making, at: Base) -> Result<Named, Memory>
+fn base(t: &Tables<'_>, b: &mut Making, at: Base) -> Result<Named, Memory>
     ensures { IfOk result (λ h. (p : Program) (here : Here) → Serves t.now p here → Gives b.old b.new (based_in p here at) (named_of h)) }
 {
     match at {
         Base::Done => data_at(b, 0),
-        Base::Global { module, variable } => data_at(b, t.global(module, variable)),
+        Base::Global { module, variable } => data_at(b, t.program.global(module, variable)),
         Base::Local(x) => local(t, b, x),
         Base::Parameter(k) => parameter(t, b, k),
         Base::Text(k) => data_at(b, t.text(k)),
@@ -115,7 +115,7 @@ fn base(t: &Tables, b: &mut Making, at: Base) -> Result<Named, Memory>
 
 /// The value of a scalar variable that a designator names.
 #[cycle(walk)]
-pub fn load(t: &Tables, b: &mut Making, d: &Designator) -> Result<u32, Memory>
+pub fn load(t: &Tables<'_>, b: &mut Making, d: &Designator) -> Result<u32, Memory>
     ensures { IfOk result (λ v. (p : Program) (here : Here) → Serves t.now p here → Gives b.old b.new (load_in p here d.now) v) }
 {
     let h = named(t, b, d)?;
@@ -125,7 +125,7 @@ pub fn load(t: &Tables, b: &mut Making, d: &Designator) -> Result<u32, Memory>
 
 /// What a designator names.
 #[cycle(walk)]
-pub fn named(t: &Tables, b: &mut Making, d: &Designator) -> Result<Named, Memory>
+pub fn named(t: &Tables<'_>, b: &mut Making, d: &Designator) -> Result<Named, Memory>
     ensures { IfOk result (λ h. (p : Program) (here : Here) → Serves t.now p here → Gives b.old b.new (named_in p here d.now) (named_of h)) }
 {
     match d {
@@ -145,7 +145,7 @@ pub fn named(t: &Tables, b: &mut Making, d: &Designator) -> Result<Named, Memory
 /// What selectors lead to, one after the other.
 #[cycle(walk)]
 fn selected(
-    t: &Tables,
+    t: &Tables<'_>,
     b: &mut Making,
     selectors: &[Selector],
     first: Named,
@@ -162,7 +162,7 @@ fn selected(
 
 /// What a selector leads to.
 #[cycle(walk)]
-fn select(t: &Tables, b: &mut Making, s: &Selector, h: Named) -> Result<Named, Memory>
+fn select(t: &Tables<'_>, b: &mut Making, s: &Selector, h: Named) -> Result<Named, Memory>
     ensures { IfOk result (λ r. (p : Program) (here : Here) → Serves t.now p here → (v : View) (d : Low NamedThing)
         → Gives v b.old d (named_of h) → Gives v b.new (select_in p here s.now d) (named_of r)) }
 {
@@ -176,12 +176,12 @@ fn select(t: &Tables, b: &mut Making, s: &Selector, h: Named) -> Result<Named, M
             let i = value(t, b, index)?;
             let n = length_in(b, known(*length), h)?;
             b.act(Code::Below, &[i, n])?;
-            let size = b.emit(Code::Const(u64::from(t.size(*element))), &[])?;
+            let size = b.emit(Code::Const(u64::from(t.program.size(*element))), &[])?;
             let e = b.emit(Code::MulAdd, &[i, size, a])?;
             Ok(Named::At(e))
         }
         Selector::Field { record, field } => {
-            let a = address_in(b, h, t.offset(*record, *field))?;
+            let a = address_in(b, h, t.program.offset(*record, *field))?;
             Ok(Named::At(a))
         }
         Selector::Dereference(types) => {
@@ -192,8 +192,8 @@ fn select(t: &Tables, b: &mut Making, s: &Selector, h: Named) -> Result<Named, M
         }
         Selector::Narrow(r) => {
             let x = second(b, h)?;
-            let g = b.emit(Code::Global(t.descriptor(*r)), &[])?;
-            b.act(Code::GuardTag(t.level(*r)), &[x, g])?;
+            let g = b.emit(Code::Global(t.program.descriptor(*r)), &[])?;
+            b.act(Code::GuardTag(t.program.level(*r)), &[x, g])?;
             Ok(h)
         }
     }
@@ -201,7 +201,7 @@ fn select(t: &Tables, b: &mut Making, s: &Selector, h: Named) -> Result<Named, M
 
 /// The value of an expression.
 #[cycle(walk)]
-pub fn value(t: &Tables, b: &mut Making, e: &Expr) -> Result<u32, Memory>
+pub fn value(t: &Tables<'_>, b: &mut Making, e: &Expr) -> Result<u32, Memory>
     ensures { IfOk result (λ v. (p : Program) (here : Here) → Serves t.now p here → Gives b.old b.new (expr_in p here e.now).value v) }
 {
     match e {
@@ -228,12 +228,12 @@ pub fn value(t: &Tables, b: &mut Making, e: &Expr) -> Result<u32, Memory>
         }
         Expr::IsPointer(x, r) => {
             let a = value(t, b, x)?;
-            is_pointer(b, t.descriptor(*r), t.level(*r), a)
+            is_pointer(b, t.program.descriptor(*r), t.program.level(*r), a)
         }
         Expr::IsParameter(d, r) => {
             let h = named(t, b, d)?;
             let tag = second(b, h)?;
-            is_tag(b, t.descriptor(*r), t.level(*r), tag)
+            is_tag(b, t.program.descriptor(*r), t.program.level(*r), tag)
         }
         Expr::Byte(x) => tested_byte(t, b, x),
         Expr::Length(d) => array_length(t, b, d),
@@ -243,7 +243,7 @@ pub fn value(t: &Tables, b: &mut Making, e: &Expr) -> Result<u32, Memory>
 
 /// The value of a pointer variable, guarded by these record types one after the other.
 #[cycle(walk)]
-fn guarded(t: &Tables, b: &mut Making, d: &Designator, types: &[u32]) -> Result<u32, Memory>
+fn guarded(t: &Tables<'_>, b: &mut Making, d: &Designator, types: &[u32]) -> Result<u32, Memory>
     ensures { IfOk result (λ v. (p : Program) (here : Here) → Serves t.now p here → Gives b.old b.new (guarded_in p here types.now (load_in p here d.now)) v) }
 {
     let v = load(t, b, d)?;
@@ -254,7 +254,7 @@ fn guarded(t: &Tables, b: &mut Making, d: &Designator, types: &[u32]) -> Result<
 /// A relation of two texts.
 #[cycle(walk)]
 fn compared_texts(
-    t: &Tables,
+    t: &Tables<'_>,
     b: &mut Making,
     r: Relation,
     d: &Designator,
@@ -276,7 +276,7 @@ fn compared_texts(
 
 /// A value that becomes a BYTE.
 #[cycle(walk)]
-fn tested_byte(t: &Tables, b: &mut Making, x: &Expr) -> Result<u32, Memory>
+fn tested_byte(t: &Tables<'_>, b: &mut Making, x: &Expr) -> Result<u32, Memory>
     ensures { IfOk result (λ v. (p : Program) (here : Here) → Serves t.now p here → Gives b.old b.new (as_byte (expr_in p here x.now).value) v) }
 {
     let v = value(t, b, x)?;
@@ -286,7 +286,7 @@ fn tested_byte(t: &Tables, b: &mut Making, x: &Expr) -> Result<u32, Memory>
 
 /// LEN.
 #[cycle(walk)]
-fn array_length(t: &Tables, b: &mut Making, d: &Designator) -> Result<u32, Memory>
+fn array_length(t: &Tables<'_>, b: &mut Making, d: &Designator) -> Result<u32, Memory>
     ensures { IfOk result (λ v. (p : Program) (here : Here) → Serves t.now p here
         → Gives b.old b.new (length_of_named (named_in p here d.now) (length_of_kind (kind_in d.now))) v) }
 {
@@ -298,7 +298,7 @@ fn array_length(t: &Tables, b: &mut Making, d: &Designator) -> Result<u32, Memor
 
 /// The result of a call.
 #[cycle(walk)]
-fn called(t: &Tables, b: &mut Making, c: &Call) -> Result<u32, Memory>
+fn called(t: &Tables<'_>, b: &mut Making, c: &Call) -> Result<u32, Memory>
     ensures { IfOk result (λ v. (p : Program) (here : Here) → Serves t.now p here → Gives b.old b.new (with_result (called_in p here c.now)) v) }
 {
     let r = prepared(t, b, c)?;
@@ -307,12 +307,12 @@ fn called(t: &Tables, b: &mut Making, c: &Call) -> Result<u32, Memory>
 }
 
 /// The pointer is tested to be of these record types, one after the other.
-fn guard_all(t: &Tables, b: &mut Making, types: &[u32], p: u32) -> Result<(), Memory>
+fn guard_all(t: &Tables<'_>, b: &mut Making, types: &[u32], p: u32) -> Result<(), Memory>
     ensures { OnOk result ((program : Program) (here : Here) → Serves t.now program here → (v : View) (m : Low ℕ) → Gives v b.old m p
         → Gives v b.new (guarded_in program here types.now m) p) }
 {
     for r in types {
-        guard(b, t.descriptor(*r), t.level(*r), p)?;
+        guard(b, t.program.descriptor(*r), t.program.level(*r), p)?;
     }
     Ok(())
 }
@@ -336,7 +336,7 @@ pub struct Request {
 
 /// A call, its arguments evaluated.
 #[cycle(walk)]
-pub fn prepared(t: &Tables, b: &mut Making, c: &Call) -> Result<Request, Memory>
+pub fn prepared(t: &Tables<'_>, b: &mut Making, c: &Call) -> Result<Request, Memory>
     ensures { IfOk result (λ r. (p : Program) (here : Here) → Serves t.now p here → Gives b.old b.new (called_in p here c.now) (record { code = r.code; words = r.words.items })) }
 {
     match c {
@@ -365,7 +365,7 @@ pub fn prepared(t: &Tables, b: &mut Making, c: &Call) -> Result<Request, Memory>
 /// The words of arguments, one after the other.
 #[cycle(walk)]
 fn arguments(
-    t: &Tables,
+    t: &Tables<'_>,
     b: &mut Making,
     args: &[Argument],
     words: &mut Vec<u32>,
@@ -380,7 +380,12 @@ fn arguments(
 
 /// The words of an argument: one or two.
 #[cycle(walk)]
-fn argument(t: &Tables, b: &mut Making, a: &Argument, words: &mut Vec<u32>) -> Result<(), Memory>
+fn argument(
+    t: &Tables<'_>,
+    b: &mut Making,
+    a: &Argument,
+    words: &mut Vec<u32>,
+) -> Result<(), Memory>
     ensures { OnOk result ((p : Program) (here : Here) → Serves t.now p here → Passed b.old b.new (argument_in p here a.now) words.old.items words.new.items) }
 {
     match a {
@@ -396,7 +401,7 @@ fn argument(t: &Tables, b: &mut Making, a: &Argument, words: &mut Vec<u32>) -> R
         Argument::ByRecord(d) => {
             let h = named(t, b, d)?;
             let v = address_in(b, h, 0)?;
-            let tag = tag_in(b, t.descriptor(record_of_kind(kind_in(d))), h)?;
+            let tag = tag_in(b, t.program.descriptor(record_of_kind(kind_in(d))), h)?;
             words.push(v)?;
             words.push(tag)?;
         }
@@ -427,7 +432,7 @@ pub fn record_of_kind(kind: TypeKind) -> u32
 /// doesn't depend on how many there are.
 #[cycle(walk)]
 fn chain(
-    t: &Tables,
+    t: &Tables<'_>,
     b: &mut Making,
     links: &[Link],
     x: &Expr,
@@ -443,7 +448,7 @@ fn chain(
 
 /// An expression, as it is wanted; the result is its value, where that is wanted.
 #[cycle(walk)]
-fn as_wanted(t: &Tables, b: &mut Making, e: &Expr, wanted: Wanted) -> Result<u32, Memory>
+fn as_wanted(t: &Tables<'_>, b: &mut Making, e: &Expr, wanted: Wanted) -> Result<u32, Memory>
     ensures { IfOk result (λ r. (p : Program) (here : Here) → Serves t.now p here → Fulfils wanted b.old b.new (expr_in p here e.now) r) }
 {
     match wanted {
@@ -461,7 +466,7 @@ fn as_wanted(t: &Tables, b: &mut Making, e: &Expr, wanted: Wanted) -> Result<u32
 /// Steps are taken, the last of them first, from one number to another.
 #[cycle(walk)]
 fn take_all(
-    t: &Tables,
+    t: &Tables<'_>,
     b: &mut Making,
     links: &[Link],
     steps: Steps,
@@ -479,7 +484,7 @@ fn take_all(
 
 /// A step is taken, from one number to another.
 #[cycle(walk)]
-fn take(t: &Tables, b: &mut Making, links: &[Link], step: Step, a: u32) -> Result<u32, Memory>
+fn take(t: &Tables<'_>, b: &mut Making, links: &[Link], step: Step, a: u32) -> Result<u32, Memory>
     ensures { IfOk result (λ r. (p : Program) (here : Here) → Serves t.now p here → Taken p here links.now step b.old b.new a r) }
 {
     match step {
@@ -511,7 +516,7 @@ fn take(t: &Tables, b: &mut Making, links: &[Link], step: Step, a: u32) -> Resul
 
 /// The value with one link more.
 #[cycle(walk)]
-fn applied(t: &Tables, b: &mut Making, link: &Link, a: u32) -> Result<u32, Memory>
+fn applied(t: &Tables<'_>, b: &mut Making, link: &Link, a: u32) -> Result<u32, Memory>
     ensures { IfOk result (λ r. (p : Program) (here : Here) → Serves t.now p here → (v : View) (x : Lowers) → Gives v b.old x.value a → Gives v b.new (link_in p here link.now x).value r) }
 {
     match link {
@@ -542,7 +547,7 @@ fn applied(t: &Tables, b: &mut Making, link: &Link, a: u32) -> Result<u32, Memor
 
 /// A link's last operand, as a condition.
 #[cycle(walk)]
-fn operand_cond(t: &Tables, b: &mut Making, link: &Link, ways: Ways) -> Result<(), Memory>
+fn operand_cond(t: &Tables<'_>, b: &mut Making, link: &Link, ways: Ways) -> Result<(), Memory>
     ensures { OnOk result ((p : Program) (here : Here) → Serves t.now p here → Tests b.old b.new (expr_in p here (operand_of link.now)).test ways.yes ways.no ways.next) }
 {
     match link {
@@ -560,7 +565,7 @@ fn operand_cond(t: &Tables, b: &mut Making, link: &Link, ways: Ways) -> Result<(
 /// An expression as a condition: to one label where it holds, to another where it doesn't.
 #[cycle(walk)]
 pub fn cond(
-    t: &Tables,
+    t: &Tables<'_>,
     b: &mut Making,
     e: &Expr,
     yes: u32,

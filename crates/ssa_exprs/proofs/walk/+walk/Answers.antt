@@ -63,7 +63,7 @@ argument-returns-in_ok-push-in-ByPlace t c = λ p here s. (c.in_ok-v-in-ByPlace.
 pub argument-returns-in_ok-push-in-ByRecord-2 : goal.argument-returns-in_ok-push-in-ByRecord-2
 argument-returns-in_ok-push-in-ByRecord-2 t c = λ p here s.
     let g = descriptor p (layout p.types) here (record_of_kind (kind_in c.in-ByRecord.d)) in
-    let same : c.descriptor.result ≡ g = c.descriptor.ensures ∙ ap (descriptor_in c.args.t.now) (c.record_of_kind.ensures ∙ ap record_of_kind c.kind_in.ensures) ∙ s.descriptor (record_of_kind (kind_in c.in-ByRecord.d)) in (
+    let same : c.descriptor.result ≡ g = c.descriptor.ensures ∙ ap (descriptor_in c.args.t.now.program.now) (c.record_of_kind.ensures ∙ ap record_of_kind c.kind_in.ensures) ∙ s.descriptor (record_of_kind (kind_in c.in-ByRecord.d)) in (
       c.in_ok-v-in-ByRecord.v ∷ c.in_ok-tag-in-ByRecord.tag ∷ [],
       c.in_ok-push-in-ByRecord-2.ensures.items ∙ ap (λ l. l ++ c.in_ok-tag-in-ByRecord.tag ∷ []) c.in_ok-push-in-ByRecord.ensures.items ∙ append_assoc _ (c.in_ok-v-in-ByRecord.v ∷ []) (c.in_ok-tag-in-ByRecord.tag ∷ []),
       gives_as (ap (argument_in p here) c.in-ByRecord.is) (gives_by_record g (c.in_ok-h-in-ByRecord.ensures p here s) (c.in_ok-v-in-ByRecord.ensures (omega arith)) (gives_as (ap (λ k. tag_in k (named_of c.in_ok-h-in-ByRecord.h)) (sym same)) c.in_ok-tag-in-ByRecord.ensures)),
