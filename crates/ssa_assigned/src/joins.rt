@@ -17,7 +17,7 @@ use std::alloc::Global;
 /// Of the first so many variables those that are in registers and in a list, in order of declaration, each once.
 pub fn registers(
     alloc: Global,
-    t: &Tables,
+    t: &Tables<'_>,
     count: usize,
     found: Vec<u32>,
 ) -> Result<Vec<u32>, Memory>
@@ -32,7 +32,12 @@ pub fn registers(
 }
 
 /// Of the first so many variables those that are in registers.
-fn those_kept(alloc: Global, t: &Tables, count: usize, found: &[u32]) -> Result<Vec<u32>, Memory>
+fn those_kept(
+    alloc: Global,
+    t: &Tables<'_>,
+    count: usize,
+    found: &[u32],
+) -> Result<Vec<u32>, Memory>
     ensures { IfOk result (λ list. list.items ≡ filter (kept t.now count) found.now) }
 {
     let mut list = Vec::new(alloc);
@@ -45,7 +50,7 @@ fn those_kept(alloc: Global, t: &Tables, count: usize, found: &[u32]) -> Result<
 }
 
 /// Whether a variable is one of the first so many, and in a register.
-fn keeps(t: &Tables, count: usize, x: u32) -> bool
+fn keeps(t: &Tables<'_>, count: usize, x: u32) -> bool
     ensures { result ≡ kept t.now count x }
 {
     (x as usize) < count && t.in_register(x)
