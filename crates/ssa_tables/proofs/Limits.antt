@@ -13,7 +13,7 @@ use Rattle.ob_types.specs.declared.program.Program.{Program}
 use Rattle.ob_types.proofs.Tests.{none_some}
 use Rattle.ssa_lowered.specs.Data.{within}
 use Rattle.ssa_lowered.specs.Limits.{Limit, or_else, global_cells, constant_cells}
-use Rattle.ssa_exprs.specs.declared.tables.Tables.{Tables}
+use Rattle.ssa_exprs.specs.declared.tables.ProgramTables.{ProgramTables}
 use Rattle.ssa_tables.specs.Faults.{first_limit, last_limit}
 use Rattle.ssa_tables.specs.Local.{pair_of, declared_in, local_limit}
 use Rattle.ssa_tables.specs.Places.{finish, module_finish, type_cells_by, string_cells}
@@ -73,7 +73,7 @@ pub constants_within : (p : Program) (n : ℕ) → n ≡ min (constant_cells p) 
 constants_within p n is le = ap (told 58) (not_less 262144 (constant_cells p) (omega (arith, is, le)))
 
 -- where few cells are globals, these end early
-pub few_descriptors : (x : Tables) (p : Program) → ServesAll x p → first_limit p ≡ None → x.descriptors ≤ 8388608
+pub few_descriptors : (x : ProgramTables) (p : Program) → ServesAll x p → first_limit p ≡ None → x.descriptors ≤ 8388608
 few_descriptors x p serves first =
     let a = serves.descriptor 0 in
     let b = globals_length p in

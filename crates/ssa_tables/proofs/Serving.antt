@@ -3,6 +3,7 @@ use Rattle.std.proofs.Common.{◌≡◌, ℕ, zero, suc, ◌+◌, ◌*◌, ◌<�
 use Rattle.std.specs.Prelude.{slice_get}
 use Rattle.std.specs.List.{sum_by}
 use Rattle.std.proofs.lemmas.List.{get_or-map, get_or_past}
+use Rattle.std.proofs.lemmas.Option.{slice_get_within}
 use Rattle.std.proofs.lemmas.List.Sums.{sum_by-cons, sum_by-take-le}
 use Rattle.ob_types.specs.Table.{Table}
 use Rattle.ob_types.specs.Layout.{no_record_type, record_of, types_of, base_cells, cells, cells_within, record_within, record_cells}
@@ -23,16 +24,19 @@ use Rattle.ssa_lowered.specs.Lowered.{here_of, by_mode, parameter_by}
 use Rattle.ssa_lowered.specs.Variables.{words_by, words_of, Register}
 use Rattle.ssa_lowered.specs.Variables.{Variable as VariableThere}
 use Rattle.ssa_exprs.specs.Named.{named_of}
-use Rattle.ssa_exprs.specs.Tables.{Serves, clamped, of_row, site_by, parameter_in}
+use Rattle.ssa_exprs.specs.Tables.{Serves, clamped, of_row, site_by, parameter_in, first_text_in}
+use Rattle.ssa_exprs.specs.declared.tables.ProgramTables.{ProgramTables}
 use Rattle.ssa_exprs.specs.declared.tables.Tables.{Tables}
 use Rattle.ssa_tables.specs.Measured.{HasSizes}
 use Rattle.ssa_tables.specs.Places.{starts, size_by, room_by, type_cells_by, extent_by, module_starts, module_finish, base_by, field_starts, string_size}
-use Rattle.ssa_tables.specs.Shared.{ServesAll, ServesFrom}
+use Rattle.ssa_tables.specs.Shared.{ServesAll}
+use Rattle.ssa_tables.specs.Strings.{first_strings}
 use Rattle.ssa_tables.specs.Local.{seen, site_of, distance, name_by, parameters_from, AreLocals}
 use Rattle.ssa_tables.specs.declared.locals.Variable.{Variable}
 use Rattle.ssa_tables.specs.declared.locals.Locals.{Locals}
 use Rattle.ssa_tables.proofs.Placing.{finish_is, starts_clamped, module_finish_is, module_starts_at, module_starts_length, within_on, take_all, take_nothing, at_inside, at_past}
 use Rattle.ssa_tables.proofs.Extents.{whole_is, offset_is, offset_few}
+use Rattle.ssa_tables.proofs.Texts.{first_is}
 
 ---- Parameters
 
@@ -192,12 +196,12 @@ module _ (p : Program) (sizes : List ℕ) (known : (k : ℕ) → size_by sizes k
         ∙ omega (arith, rooms)
 
     -- all of them
-    pub serves_all : (x : Tables) (extents : List Extent) (first : ℕ) → ((k : ℕ) → extent_by extents k ≡ tree_extent (data_tree t k)) → module_finish (room_by sizes) 8 p.modules ≤ 8388608
+    pub serves_all : (x : ProgramTables) (extents : List Extent) (first : ℕ) → ((k : ℕ) → extent_by extents k ≡ tree_extent (data_tree t k)) → module_finish (room_by sizes) 8 p.modules ≤ 8388608
         → x.globals ≡ module_starts (room_by sizes) 8 p.modules → x.descriptors ≡ module_finish (room_by sizes) 8 p.modules
         → x.levels ≡ map (λ (r : RecordType). r.level) t.records → x.sizes ≡ sizes → x.records ≡ map (λ (r : RecordType). r.extent.bytes) t.records → x.cells ≡ map (λ (r : RecordType). r.cells) t.records
         → ((k : ℕ) → type_cells_by x.type_cells k ≡ cells t k) → x.offsets ≡ map (λ (r : RecordType). field_starts (extent_by extents) (base_by (map (λ (y : RecordType). y.extent.bytes) t.records) r.base) (types_of r.fields)) t.records
-        → first ≡ within (module_finish (room_by sizes) 8 p.modules + 128 * length t.records) → x.texts ≡ starts string_size first (texts_of p.procedures) → ServesAll x p
-    serves_all x extents first taken few globals descriptors levels all records cells_of_records cells_of_types offsets place texts = record {
+        → first ≡ within (module_finish (room_by sizes) 8 p.modules + 128 * length t.records) → x.texts ≡ starts string_size first (texts_of p.procedures) → x.first_texts ≡ first_strings 0 p.procedures → ServesAll x p
+    serves_all x extents first taken few globals descriptors levels all records cells_of_records cells_of_types offsets place texts firsts = record {
       global = λ m v. ap₂ (λ rows d. of_row rows m v d) globals descriptors ∙ global_is few m v;
       descriptor = λ r. ap (λ d. min (d + 128 * r) 16777215) (descriptors ∙ globals_end few);
       level = λ r. ap (λ xs. get_or xs r 0) levels ∙ level_is r;
@@ -208,28 +212,24 @@ module _ (p : Program) (sizes : List ℕ) (known : (k : ℕ) → size_by sizes k
       offset = λ r field. ap (λ rows. of_row rows r field 0) offsets ∙ offset_is t has extents taken r field;
       short = λ r field. let e = ap (λ rows. of_row rows r field 0) offsets in let f = offset_few t has extents taken r field in omega (arith, e, f);
       text = λ n. ap (λ xs. clamped xs n) texts ∙ string_is first n place few;
+      first_text = λ f lt. let e = ap (λ xs. get_or xs f 0) firsts in let g = first_is 0 p.procedures f lt in omega (arith, e, g);
     }
 
 -- and with what belongs to a procedure
-pub serves_one : (x y : Tables) (p : Program) (f : ℕ) (q : Procedure) (v : Locals) → ServesFrom x p f → AreLocals v p f q
-    → y ≡ record x { locals = map (λ (w : Variable). distance v.bytes w.place) v.variables; parameters = parameters_from 0 q.formals } → Serves y p (here_of p (layout p.types) f q)
-serves_one x y p f q v from are is = subst (λ z. Serves z p (here_of p (layout p.types) f q)) (sym is) (record {
-  global = from.all.global;
-  descriptor = from.all.descriptor;
-  level = from.all.level;
-  size = from.all.size;
-  whole = from.all.whole;
-  cells = from.all.cells;
-  offset = from.all.offset;
-  short = from.all.short;
-  text = λ k. ap (λ n. clamped x.texts (n + k)) from.texts ∙ from.all.text (text_number p f k);
-  parameter = λ k. let e : words_of (take k q.formals) ≡ 0 + words_of (take k q.formals) = omega arith in ap (λ n. parameter_by (slice_get q.formals k) n) e ∙ named_at 0 q.formals k;
-  local = λ z. local_is v.bytes v.variables z ∙ ap₂ (λ b vs. site_by b (get_or {A = VariableThere} vs z (record { type_number = 0; word = None; site = Register })).site) are.bytes are.variables;
-})
-
--- what belongs to no procedure stays
-pub from_same : (x y : Tables) (p : Program) (f : ℕ) (locals : List (Option ℕ)) (parameters : List Rattle.ssa_exprs.specs.declared.named.Named.Named) → ServesFrom x p f → y ≡ record x { locals = locals; parameters = parameters } → ServesFrom y p f
-from_same x y p f locals parameters from is = subst (λ z. ServesFrom z p f) (sym is) (record {
-  all = record { global = from.all.global; descriptor = from.all.descriptor; level = from.all.level; size = from.all.size; whole = from.all.whole; cells = from.all.cells; type_cells = from.all.type_cells; offset = from.all.offset; short = from.all.short; text = from.all.text };
-  texts = from.texts;
-})
+pub serves_one : (y : Tables) (p : Program) (f : ℕ) (q : Procedure) (v : Locals) → ServesAll y.program.now p → slice_get p.procedures f ≡ Some q → AreLocals v p f q
+    → y.first_text ≡ first_text_in y.program.now f → y.parameters ≡ parameters_from 0 q.formals → y.locals ≡ map (λ (w : Variable). distance v.bytes w.place) v.variables → Serves y p (here_of p (layout p.types) f q)
+serves_one y p f q v all there are first parameters locals = record {
+  global = all.global;
+  descriptor = all.descriptor;
+  level = all.level;
+  size = all.size;
+  whole = all.whole;
+  cells = all.cells;
+  offset = all.offset;
+  short = all.short;
+  text = λ k. ap (λ n. clamped y.program.now.texts (n + k)) (first ∙ all.first_text f (slice_get_within p.procedures f q there)) ∙ all.text (text_number p f k);
+  parameter = λ k.
+      let e : words_of (take k q.formals) ≡ 0 + words_of (take k q.formals) = omega arith in
+      ap (λ n. parameter_by (slice_get q.formals k) n) e ∙ named_at 0 q.formals k ∙ ap (λ xs. parameter_in (slice_get xs k)) (sym parameters);
+  local = λ z. ap (λ ds. get_or ds z None) locals ∙ local_is v.bytes v.variables z ∙ ap₂ (λ b vs. site_by b (get_or {A = VariableThere} vs z (record { type_number = 0; word = None; site = Register })).site) are.bytes are.variables;
+}

@@ -1,15 +1,12 @@
 -- Strings of one procedure after the other.
-use Rattle.std.proofs.Common.{◌≡◌, ℕ, zero, suc, ◌+◌, ◌<◌, ◌≤◌, List, [], ◌∷◌, ◌++◌, take, drop, length, length-append, get_or, Some, sym, ap, ap₂, ◌∙◌, arith, append_assoc}
-use Rattle.std.specs.Prelude.{slice_get}
-use Rattle.ob_types.proofs.Tests.{none_some, some_same}
-use Rattle.ssa_tables.proofs.Placing.{take_none}
+use Rattle.std.proofs.Common.{◌≡◌, ℕ, zero, suc, ◌+◌, ◌<◌, ◌≤◌, List, [], ◌∷◌, ◌++◌, take, drop, length, length-append, get_or, refl, sym, ap, ap₂, ◌∙◌, arith, append_assoc}
 use Rattle.std.proofs.lemmas.List.{drop_more}
 use Rattle.std.proofs.Math.ListN.{drop_of_length-le}
 use Rattle.ob_types.specs.Meaning.{texts_of}
 use Rattle.ob_types.specs.declared.program.Procedure.{Procedure}
 use Rattle.ssa_lowered.specs.Data.{within}
 use Rattle.ssa_tables.specs.Places.{starts, string_size, finish, string_cells}
-use Rattle.ssa_tables.specs.Strings.{Adds, Counts}
+use Rattle.ssa_tables.specs.Strings.{Adds, Counts, first_strings}
 
 pub text_more : (texts rest : List (List ℕ)) (i : ℕ) (x : List ℕ) (at next : ℕ) (old new all : List ℕ) → i < length texts → x ≡ get_or texts i x → new ≡ old ++ at ∷ [] → next ≡ within (at + string_size x) → old ++ starts string_size at (drop i texts ++ rest) ≡ all → new ++ starts string_size next (drop (i + 1) texts ++ rest) ≡ all
 text_more texts rest i x at next old new all lt is more there before =
@@ -52,17 +49,26 @@ procedures_counted qs i at end le before = sym (ap (λ ys. finish string_cells a
 
 ---- Numbers
 
--- the strings of one more procedure
-pub texts_on : (qs : List Procedure) (f : ℕ) (q : Procedure) → slice_get qs f ≡ Some q → length (texts_of (take (suc f) qs)) ≡ length (texts_of (take f qs)) + length q.texts
-texts_on [] f q at = none_some q at
-texts_on (x ∷ xs) zero q at =
-    let e : texts_of (take 0 xs) ≡ [] = ap texts_of (take_none xs) in
-    let a = length-append x.texts (texts_of (take 0 xs)) in
-    let b = ap (λ (l : List (List ℕ)). length l) e in
-    let c = ap (λ (y : Procedure). length y.texts) (some_same x q at) in
-    omega (arith, a, b, c)
-texts_on (x ∷ xs) (suc f) q at =
-    let a = length-append x.texts (texts_of (take (suc f) xs)) in
-    let b = length-append x.texts (texts_of (take f xs)) in
-    let c = texts_on xs f q at in
-    omega (arith, a, b, c)
+pub first_more : (qs : List Procedure) (i : ℕ) (q : Procedure) (at next : ℕ) (old new all : List ℕ) → i < length qs → q ≡ get_or qs i q → new ≡ old ++ at ∷ [] → next ≡ at + length q.texts → old ++ first_strings at (drop i qs) ≡ all → new ++ first_strings next (drop (i + 1) qs) ≡ all
+first_more qs i q at next old new all lt is more there before =
+    let e : drop i qs ≡ q ∷ drop (i + 1) qs = drop_more qs i q lt ∙ ap (λ y. y ∷ drop (i + 1) qs) (sym is) in
+    ap₂ (λ l n. l ++ first_strings n (drop (i + 1) qs)) more there
+    ∙ append_assoc old (at ∷ []) (first_strings (at + length q.texts) (drop (i + 1) qs))
+    ∙ sym (ap (λ ys. old ++ first_strings at ys) e)
+    ∙ before
+
+pub first_end : (qs : List Procedure) (i at : ℕ) (list all : List ℕ) → length qs ≤ i → list ++ first_strings at (drop i qs) ≡ all → list ≡ all
+first_end qs i at list all le before = sym (append_none list) ∙ sym (ap (λ ys. list ++ first_strings at ys) (drop_of_length-le qs le)) ∙ before
+  where
+    append_none : (xs : List ℕ) → xs ++ [] ≡ xs
+    append_none [] = refl
+    append_none (x ∷ xs) = ap (λ ys. x ∷ ys) (append_none xs)
+
+-- a procedure's strings stand behind those of the procedures before it
+pub first_is : (at : ℕ) (qs : List Procedure) (f : ℕ) → f < length qs → get_or (first_strings at qs) f 0 ≡ at + length (texts_of (take f qs))
+first_is at [] f lt = absurd (omega (arith, lt))
+first_is at (q ∷ qs) zero lt = omega arith
+first_is at (q ∷ qs) (suc f) lt =
+    let a = length-append q.texts (texts_of (take f qs)) in
+    let b = first_is (at + length q.texts) qs f (omega (arith, lt)) in
+    omega (arith, a, b)

@@ -1,15 +1,15 @@
--- Tables that are right for all procedures of a program, and for one.
+-- Tables that are right for all procedures of a program.
 use Rattle.std.specs.Prelude.{◌≡◌, ◌+◌, ◌<◌, ℕ, take, length}
 use Rattle.ob_types.specs.Layout.{record_of, record_cells, cells}
 use Rattle.ob_types.specs.Meaning.{texts_of}
 use Rattle.ob_types.specs.declared.program.Program.{Program}
 use Rattle.ssa_lowered.specs.Data.{layout, global_at, descriptor_at, text_at, within}
-use Rattle.ssa_exprs.specs.Tables.{clamped, global_in, descriptor_in, level_in, size_in, offset_in, record_in, cells_in}
-use Rattle.ssa_exprs.specs.declared.tables.Tables.{Tables}
+use Rattle.ssa_exprs.specs.Tables.{clamped, global_in, descriptor_in, level_in, size_in, offset_in, first_text_in, record_in, cells_in}
+use Rattle.ssa_exprs.specs.declared.tables.ProgramTables.{ProgramTables}
 use Rattle.ssa_tables.specs.Places.{type_cells_by}
 
--- what is the same for all procedures
-pub record ServesAll (t : Tables) (p : Program) : Type 0 where
+-- what they share, and where the strings of each begin
+pub record ServesAll (t : ProgramTables) (p : Program) : Type 0 where
   pub global : (m v : ℕ) → global_in t m v ≡ global_at p (layout p.types) m v
   pub descriptor : (r : ℕ) → descriptor_in t r ≡ within (descriptor_at p (layout p.types) r)
   pub level : (r : ℕ) → level_in t r ≡ (record_of p.types r).level
@@ -20,8 +20,4 @@ pub record ServesAll (t : Tables) (p : Program) : Type 0 where
   pub offset : (r field : ℕ) → offset_in t r field ≡ (layout p.types).offset r field
   pub short : (r field : ℕ) → 8 + offset_in t r field < 4294967296
   pub text : (n : ℕ) → clamped t.texts n ≡ within (text_at p (layout p.types) n)
-
--- the next strings are those of this procedure
-pub record ServesFrom (t : Tables) (p : Program) (f : ℕ) : Type 0 where
-  pub all : ServesAll t p
-  pub texts : t.first_text ≡ length (texts_of (take f p.procedures))
+  pub first_text : (f : ℕ) → f < length p.procedures → first_text_in t f ≡ length (texts_of (take f p.procedures))

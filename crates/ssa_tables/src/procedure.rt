@@ -1,14 +1,13 @@
-//! From one procedure to the next.
+//! What belongs to one procedure.
 
-ghost use Rattle.std.specs.Prelude.{◌≡◌, ◌≤◌, ℕ, suc, [], map, Some, None, slice_get, IfOk, OnOk, IfErr};
-ghost use Rattle.ob_types.specs.declared.program.Program.{Program as ProgramThere};
+ghost use Rattle.std.specs.Prelude.{◌≡◌, ◌≤◌, map, Some, None, slice_get, IfOk, OnOk, IfErr};
 ghost use Rattle.ssa_lowered.specs.Data.{layout};
 ghost use Rattle.ssa_lowered.specs.Lowered.{here_of};
 ghost use Rattle.ssa_lowered.specs.Variables.{words_of};
-ghost use Rattle.ssa_exprs.specs.Tables.{Serves};
+ghost use Rattle.ssa_exprs.specs.Tables.{Serves, first_text_in};
 ghost use Rattle.ssa_tables.specs.Faults.{Tells};
 ghost use Rattle.ssa_tables.specs.Measured.{IsMeasured};
-ghost use Rattle.ssa_tables.specs.Shared.{ServesFrom};
+ghost use Rattle.ssa_tables.specs.Shared.{ServesAll};
 ghost use Rattle.ssa_tables.specs.Local.{AreLocals, local_limit, distance, name_by, parameters_from};
 
 use crate::fault::LowerFault;
@@ -16,25 +15,30 @@ use crate::locals::{Locals, local_data, words};
 use items::Items;
 use ob_types::{Formal, Mode, Procedure, Program};
 use outside::Memory;
-use ssa_exprs::{Named, Tables};
+use ssa_exprs::{Named, ProgramTables, Tables};
 use std::alloc::Global;
-use std::mem::replace;
 
-/// The tables become those of a procedure, whose number is f; the result is its variables. It is refused, with limit 59, where
-/// these have over 1,048,576 cells.
-pub fn enter(
+/// A procedure that is lowered next: its tables and its variables.
+#[derive(Drop)]
+pub struct Entered<'a> {
+    pub tables: Tables<'a>,
+    pub locals: Locals,
+}
+
+/// The tables and the variables of a procedure, whose number is f, by the tables of its program. It is refused, with limit 59,
+/// where its variables have over 1,048,576 cells.
+pub fn enter<'a>(
     alloc: Global,
-    tables: &mut Tables,
+    tables: &'a ProgramTables,
     program: &Program,
     f: u32,
     procedure: &Procedure,
-) -> Result<Locals, LowerFault>
+) -> Result<Entered<'a>, LowerFault>
     requires measured { IsMeasured program.now }
     requires there { slice_get program.now.procedures f ≡ Some procedure.now }
-    requires from { ServesFrom tables.old program.now f }
-    ensures ok { IfOk result (λ x. AreLocals x program.now f procedure.now) }
-    ensures serves { OnOk result (Serves tables.new program.now (here_of program.now (layout program.now.types) f procedure.now)) }
-    ensures from { ServesFrom tables.new program.now f }
+    requires serves { ServesAll tables.now program.now }
+    ensures ok { IfOk result (λ x. AreLocals x.locals program.now f procedure.now) }
+    ensures serves { IfOk result (λ x. Serves x.tables program.now (here_of program.now (layout program.now.types) f procedure.now)) }
     ensures within { OnOk result (local_limit program.now f procedure.now ≡ None) }
     ensures limit { IfErr result (λ e. Tells e (local_limit program.now f procedure.now)) }
 {
@@ -44,48 +48,42 @@ pub fn enter(
         Ok(locals) => locals,
         Err(e) => return Err(e),
     };
-    let before = replace(&mut tables.locals, Items::new(alloc));
-    let distances = match distances(before, &locals) {
-        Ok(distances) => distances,
-        Err(_) => return Err(LowerFault::Memory),
-    };
-    let before = replace(&mut tables.parameters, Items::new(alloc));
-    let parameters = match parameters(before, procedure.formals.as_slice()) {
-        Ok(parameters) => parameters,
-        Err(_) => return Err(LowerFault::Memory),
-    };
-    tables.locals = distances;
-    tables.parameters = parameters;
-    Ok(locals)
-}
-
-/// The next strings are those of the next procedure. Over 2^32 strings are as if there were no memory for them.
-pub fn pass(tables: &mut Tables, procedure: &Procedure) -> Result<(), Memory>
-    ensures { OnOk result ((p : ProgramThere) (f : ℕ) → ServesFrom tables.old p f → slice_get p.procedures f ≡ Some procedure.now → ServesFrom tables.new p (suc f)) }
-{
-    let count = procedure.texts.len();
-    if count > (u32::MAX - tables.first_text) as usize {
-        return Err(Memory);
+    match own_tables(alloc, tables, f, procedure, &locals) {
+        Ok(tables) => Ok(Entered { tables, locals }),
+        Err(_) => Err(LowerFault::Memory),
     }
-    tables.first_text += count as u32;
-    Ok(())
 }
 
-/// No items, in the room of a list.
-fn emptied<T: Drop>(list: Items<T>) -> Items<T>
-    ensures { result ≡ [] }
+/// The tables of a procedure with these variables.
+fn own_tables<'a>(
+    alloc: Global,
+    program: &'a ProgramTables,
+    f: u32,
+    procedure: &Procedure,
+    locals: &Locals,
+) -> Result<Tables<'a>, Memory>
+    requires { words_of procedure.now.formals ≤ 24 }
+    ensures program { IfOk result (λ t. t.program.now ≡ program.now) }
+    ensures first { IfOk result (λ t. t.first_text ≡ first_text_in program.now f) }
+    ensures parameters { IfOk result (λ t. t.parameters ≡ parameters_from 0 procedure.now.formals) }
+    ensures locals { IfOk result (λ t. t.locals ≡ map (λ v. distance locals.now.bytes v.place) locals.now.variables) }
 {
-    let mut items = list.into_vec();
-    items.clear();
-    Items::from_vec(items)
+    let parameters = parameters(alloc, procedure.formals.as_slice())?;
+    let distances = distances(alloc, locals)?;
+    Ok(Tables {
+        program,
+        first_text: program.first_text(f),
+        parameters,
+        locals: distances,
+    })
 }
 
-/// The distance of each variable in memory from the end of the local data, in the room of a list.
-fn distances(before: Items<Option<u32>>, locals: &Locals) -> Result<Items<Option<u32>>, Memory>
+/// The distance of each variable in memory from the end of the local data.
+fn distances(alloc: Global, locals: &Locals) -> Result<Items<Option<u32>>, Memory>
     ensures { IfOk result (λ list. list ≡ map (λ v. distance locals.now.bytes v.place) locals.now.variables) }
 {
     let variables = locals.variables.as_slice();
-    let mut list = emptied(before);
+    let mut list = Items::from_vec(Vec::with_capacity(alloc, variables.len())?);
     for v in variables {
         list.push(distance_from(locals.bytes, v.place))?;
     }
@@ -102,12 +100,12 @@ fn distance_from(bytes: u32, place: Option<u32>) -> Option<u32>
     }
 }
 
-/// What parameters name, in the room of a list.
-fn parameters(before: Items<Named>, formals: &[Formal]) -> Result<Items<Named>, Memory>
+/// What parameters name.
+fn parameters(alloc: Global, formals: &[Formal]) -> Result<Items<Named>, Memory>
     requires { words_of formals.now ≤ 24 }
     ensures { IfOk result (λ list. list ≡ parameters_from 0 formals.now) }
 {
-    let mut list = emptied(before);
+    let mut list = Items::from_vec(Vec::with_capacity(alloc, formals.len())?);
     let mut word: u32 = 0;
     for x in formals {
         list.push(name_of(x.mode, word))?;

@@ -5,7 +5,7 @@ ghost use Rattle.ob_types.specs.Layout.{cells};
 ghost use Rattle.ssa_tables.specs.Faults.{Tells, first_limit, last_limit};
 ghost use Rattle.ssa_tables.specs.Measured.{IsMeasured};
 ghost use Rattle.ssa_tables.specs.Places.{module_finish, type_cells_by};
-ghost use Rattle.ssa_tables.specs.Shared.{ServesFrom};
+ghost use Rattle.ssa_tables.specs.Shared.{ServesAll};
 
 use crate::cells::{constant_cells, module_cells};
 use crate::fault::LowerFault;
@@ -15,18 +15,18 @@ use crate::places::beyond;
 use crate::sizes::{
     cells_of_records, record_levels, record_sizes, type_cells, type_extents, type_sizes,
 };
-use crate::strings::string_places;
+use crate::strings::{first_strings, string_places};
 use items::Items;
 use ob_types::Program;
 use outside::Memory;
-use ssa_exprs::Tables;
+use ssa_exprs::ProgramTables;
 use std::alloc::Global;
 
-/// The tables of a program, before its first procedure. It is refused, with limit 52, where it has over 4,096 procedures, and
+/// The tables that all procedures of a program share. It is refused, with limit 52, where it has over 4,096 procedures, and
 /// then, with limit 53, where its modules' variables have over 1,048,575 cells.
-pub fn program_tables(alloc: Global, program: &Program) -> Result<Tables, LowerFault>
+pub fn program_tables(alloc: Global, program: &Program) -> Result<ProgramTables, LowerFault>
     requires { IsMeasured program.now }
-    ensures ok { IfOk result (λ t. ServesFrom t program.now 0) }
+    ensures ok { IfOk result (λ t. ServesAll t program.now) }
     ensures within { OnOk result (first_limit program.now ≡ None) }
     ensures limit { IfErr result (λ e. Tells e (first_limit program.now)) }
 {
@@ -67,11 +67,11 @@ pub fn check_constants(program: &Program) -> Result<(), LowerFault>
 }
 
 /// All tables, by the cells of types.
-fn shared(alloc: Global, program: &Program, type_cells: Items<u32>) -> Result<Tables, Memory>
+fn shared(alloc: Global, program: &Program, type_cells: Items<u32>) -> Result<ProgramTables, Memory>
     requires measured { IsMeasured program.now }
     requires known { (k : ℕ) → type_cells_by type_cells k ≡ cells program.now.types k }
     requires few { module_finish (type_cells_by type_cells) 1 program.now.modules ≤ 1048576 }
-    ensures { IfOk result (λ t. ServesFrom t program.now 0) }
+    ensures { IfOk result (λ t. ServesAll t program.now) }
 {
     let types = &program.types;
     let modules = program.modules.as_slice();
@@ -86,7 +86,8 @@ fn shared(alloc: Global, program: &Program, type_cells: Items<u32>) -> Result<Ta
     let offsets = field_offsets(alloc, types, extents.as_slice(), records.as_slice())?;
     let first = behind_descriptors(descriptors, types.records().len());
     let texts = string_places(alloc, first, procedures)?;
-    Ok(Tables {
+    let first_texts = first_strings(alloc, procedures)?;
+    Ok(ProgramTables {
         globals,
         descriptors,
         levels,
@@ -96,9 +97,7 @@ fn shared(alloc: Global, program: &Program, type_cells: Items<u32>) -> Result<Ta
         cells,
         type_cells,
         texts,
-        first_text: 0,
-        parameters: Items::new(alloc),
-        locals: Items::new(alloc),
+        first_texts,
     })
 }
 

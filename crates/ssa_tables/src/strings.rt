@@ -4,7 +4,7 @@ ghost use Rattle.std.specs.Prelude.{◌≡◌, suc, ◌+◌, min, IfOk};
 ghost use Rattle.ob_types.specs.Meaning.{texts_of};
 ghost use Rattle.ssa_lowered.specs.Data.{rounded};
 ghost use Rattle.ssa_tables.specs.Places.{starts, string_size};
-ghost use Rattle.ssa_tables.specs.Strings.{Adds};
+ghost use Rattle.ssa_tables.specs.Strings.{Adds, first_strings};
 
 use crate::places::behind;
 use items::Items;
@@ -50,4 +50,27 @@ fn behind_string(at: u32, characters: usize) -> u32
     } else {
         16777215
     }
+}
+
+/// Which of all strings is each procedure's first. Over 2^32 strings are as if there were no memory for them.
+pub fn first_strings(alloc: Global, procedures: &[Procedure]) -> Result<Items<u32>, Memory>
+    ensures { IfOk result (λ list. list ≡ first_strings 0 procedures.now) }
+{
+    let mut list = Items::from_vec(Vec::with_capacity(alloc, procedures.len())?);
+    let mut at: u32 = 0;
+    for q in procedures {
+        list.push(at)?;
+        at = behind_strings(at, q.texts.len())?;
+    }
+    Ok(list)
+}
+
+/// The string behind so many others.
+fn behind_strings(at: u32, count: usize) -> Result<u32, Memory>
+    ensures { IfOk result (λ next. next ≡ at + count) }
+{
+    if count > (u32::MAX - at) as usize {
+        return Err(Memory);
+    }
+    Ok(at + count as u32)
 }

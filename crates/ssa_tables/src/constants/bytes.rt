@@ -11,13 +11,13 @@ ghost use Rattle.ssa_tables.specs.constants.Described.{all_described, all_texts,
 use crate::constants::descriptors::push_descriptor;
 use ob_types::{Characters, Procedure, Program, Types};
 use outside::Memory;
-use ssa_exprs::Tables;
+use ssa_exprs::ProgramTables;
 use std::alloc::Global;
 
 /// The constants of a program, by its tables, where the globals start at an address.
 pub fn program_constants(
     alloc: Global,
-    tables: &Tables,
+    tables: &ProgramTables,
     program: &Program,
     globals: u32,
 ) -> Result<Vec<u8>, Memory>
