@@ -115,7 +115,7 @@ fn labelled(
 
 /// Whether the value is what a part is chosen by.
 fn tested(
-    t: &Tables,
+    t: &Tables<'_>,
     b: &mut Making,
     v: u32,
     choice: &Choice,
@@ -131,12 +131,12 @@ fn tested(
             Ok(())
         }
         Choice::Pointer(r) => {
-            let a = is_pointer(b, t.descriptor(*r), t.level(*r), v)?;
+            let a = is_pointer(b, t.program.descriptor(*r), t.program.level(*r), v)?;
             fork(b, a, yes, no, next)?;
             Ok(())
         }
         Choice::Parameter(r) => {
-            let a = is_tag(b, t.descriptor(*r), t.level(*r), v)?;
+            let a = is_tag(b, t.program.descriptor(*r), t.program.level(*r), v)?;
             fork(b, a, yes, no, next)?;
             Ok(())
         }
@@ -152,7 +152,7 @@ pub fn label_at(starts: &[u32], part: usize) -> u32
 
 /// The tests of CASE, which lead to the labels of parts; the block without a match runs so often.
 pub fn ladder(
-    t: &Tables,
+    t: &Tables<'_>,
     b: &mut Making,
     v: u32,
     rungs: &[Rung],
@@ -179,7 +179,7 @@ pub fn ladder(
 /// The tests of a CASE of so many parts are made, whose join has these variables as parameters; the block without a match is
 /// open.
 pub fn open_parts(
-    t: &Tables,
+    t: &Tables<'_>,
     b: &mut Making,
     v: u32,
     tests: &[Rung],

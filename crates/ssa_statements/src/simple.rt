@@ -28,7 +28,7 @@ use ssa_exprs::{
 };
 
 /// Where the scalar variable is that a designator names.
-pub fn place(t: &Tables, b: &mut Making, d: &Designator) -> Result<Home, Memory>
+pub fn place(t: &Tables<'_>, b: &mut Making, d: &Designator) -> Result<Home, Memory>
     ensures { IfOk result (λ h. (p : Program) (here : Here) → Serves t.now p here → Gives b.old b.new (home_of (named_in p here d.now) (small_in p d.now)) (home_value h)) }
 {
     let h = designated(t, b, d)?;
@@ -37,7 +37,7 @@ pub fn place(t: &Tables, b: &mut Making, d: &Designator) -> Result<Home, Memory>
 }
 
 /// `:=` of a scalar.
-pub fn assign(t: &Tables, b: &mut Making, d: &Designator, x: &Checked) -> Result<(), Memory>
+pub fn assign(t: &Tables<'_>, b: &mut Making, d: &Designator, x: &Checked) -> Result<(), Memory>
     ensures { OnOk result ((p : Program) (here : Here) → Serves t.now p here → Steps b.old b.new (deed_in p here (Assign d.now x.now))) }
 {
     let h = place(t, b, d)?;
@@ -48,7 +48,7 @@ pub fn assign(t: &Tables, b: &mut Making, d: &Designator, x: &Checked) -> Result
 
 /// INC and DEC: the variable is read behind the number.
 pub fn step(
-    t: &Tables,
+    t: &Tables<'_>,
     b: &mut Making,
     op: Binary,
     d: &Designator,
@@ -86,7 +86,7 @@ fn is_byte(kind: TypeKind) -> bool
 
 /// INCL and EXCL: the variable is read behind the element.
 pub fn alter(
-    t: &Tables,
+    t: &Tables<'_>,
     b: &mut Making,
     op: Binary,
     d: &Designator,
@@ -106,16 +106,16 @@ pub fn alter(
 }
 
 /// NEW.
-pub fn make(t: &Tables, b: &mut Making, d: &Designator) -> Result<(), Memory>
+pub fn make(t: &Tables<'_>, b: &mut Making, d: &Designator) -> Result<(), Memory>
     ensures { OnOk result ((p : Program) (here : Here) → Serves t.now p here → Steps b.old b.new (deed_in p here (New d.now))) }
 {
     let r = record_of_kind(kind_in(d));
-    let cells = u64::from(t.record_cells(r));
-    let bytes = u64::from(t.record(r));
+    let cells = u64::from(t.program.record_cells(r));
+    let bytes = u64::from(t.program.record(r));
     let h = place(t, b, d)?;
     let n = b.emit(Code::Const(cells + 1), &[])?;
     let m = b.emit(Code::Const((bytes + 7) / 8 * 8 + 8), &[])?;
-    let g = b.emit(Code::Global(t.descriptor(r)), &[])?;
+    let g = b.emit(Code::Global(t.program.descriptor(r)), &[])?;
     let p = b.emit(Code::New, &[n, m, g])?;
     change(b, h, p)?;
     Ok(())
@@ -159,12 +159,17 @@ fn fit_lengths(
 }
 
 /// `:=` of an array or a string.
-pub fn copy_array(t: &Tables, b: &mut Making, d: &Designator, e: &Designator) -> Result<(), Memory>
+pub fn copy_array(
+    t: &Tables<'_>,
+    b: &mut Making,
+    d: &Designator,
+    e: &Designator,
+) -> Result<(), Memory>
     ensures { OnOk result ((p : Program) (here : Here) → Serves t.now p here → Steps b.old b.new (deed_in p here (CopyArray d.now e.now))) }
 {
     let n = length_of_kind(kind_in(d));
     let m = length_of_kind(kind_in(e));
-    let size = u64::from(t.size(element_kind(kind_in(d))));
+    let size = u64::from(t.program.size(element_kind(kind_in(d))));
     let to = designated(t, b, d)?;
     let a = address_in(b, to, 0)?;
     let from = designated(t, b, e)?;
@@ -176,10 +181,15 @@ pub fn copy_array(t: &Tables, b: &mut Making, d: &Designator, e: &Designator) ->
 }
 
 /// `:=` of a record.
-pub fn copy_record(t: &Tables, b: &mut Making, d: &Designator, e: &Designator) -> Result<(), Memory>
+pub fn copy_record(
+    t: &Tables<'_>,
+    b: &mut Making,
+    d: &Designator,
+    e: &Designator,
+) -> Result<(), Memory>
     ensures { OnOk result ((p : Program) (here : Here) → Serves t.now p here → Steps b.old b.new (deed_in p here (CopyRecord d.now e.now))) }
 {
-    let size = u64::from(t.record(record_of_kind(kind_in(d))));
+    let size = u64::from(t.program.record(record_of_kind(kind_in(d))));
     let to = designated(t, b, d)?;
     let a = address_in(b, to, 0)?;
     let from = designated(t, b, e)?;
@@ -190,7 +200,7 @@ pub fn copy_record(t: &Tables, b: &mut Making, d: &Designator, e: &Designator) -
 }
 
 /// ASSERT.
-pub fn assert(t: &Tables, b: &mut Making, x: &Checked) -> Result<(), Memory>
+pub fn assert(t: &Tables<'_>, b: &mut Making, x: &Checked) -> Result<(), Memory>
     ensures { OnOk result ((p : Program) (here : Here) → Serves t.now p here → Steps b.old b.new (deed_in p here (Assert x.now))) }
 {
     let a = value(t, b, &x.form)?;
@@ -199,7 +209,7 @@ pub fn assert(t: &Tables, b: &mut Making, x: &Checked) -> Result<(), Memory>
 }
 
 /// Out.Char.
-pub fn out_char(t: &Tables, b: &mut Making, x: &Checked) -> Result<(), Memory>
+pub fn out_char(t: &Tables<'_>, b: &mut Making, x: &Checked) -> Result<(), Memory>
     ensures { OnOk result ((p : Program) (here : Here) → Serves t.now p here → Steps b.old b.new (deed_in p here (OutChar x.now))) }
 {
     let a = value(t, b, &x.form)?;
@@ -217,7 +227,7 @@ pub fn out_line(b: &mut Making) -> Result<(), Memory>
 }
 
 /// Out.Int.
-pub fn out_int(t: &Tables, b: &mut Making, x: &Checked, n: &Checked) -> Result<(), Memory>
+pub fn out_int(t: &Tables<'_>, b: &mut Making, x: &Checked, n: &Checked) -> Result<(), Memory>
     ensures { OnOk result ((p : Program) (here : Here) → Serves t.now p here → Steps b.old b.new (deed_in p here (OutInt x.now n.now))) }
 {
     let a = value(t, b, &x.form)?;
@@ -227,7 +237,7 @@ pub fn out_int(t: &Tables, b: &mut Making, x: &Checked, n: &Checked) -> Result<(
 }
 
 /// Out.String.
-pub fn out_string(t: &Tables, b: &mut Making, d: &Designator) -> Result<(), Memory>
+pub fn out_string(t: &Tables<'_>, b: &mut Making, d: &Designator) -> Result<(), Memory>
     ensures { OnOk result ((p : Program) (here : Here) → Serves t.now p here → Steps b.old b.new (deed_in p here (OutString d.now))) }
 {
     let h = designated(t, b, d)?;
@@ -239,7 +249,7 @@ pub fn out_string(t: &Tables, b: &mut Making, d: &Designator) -> Result<(), Memo
 }
 
 /// In.Char: whether there was a character goes to the start of the globals, then the character to the variable.
-pub fn in_char(t: &Tables, b: &mut Making, d: &Designator) -> Result<(), Memory>
+pub fn in_char(t: &Tables<'_>, b: &mut Making, d: &Designator) -> Result<(), Memory>
     ensures { OnOk result ((p : Program) (here : Here) → Serves t.now p here → Steps b.old b.new (deed_in p here (InChar d.now))) }
 {
     let h = designated(t, b, d)?;
@@ -255,7 +265,7 @@ pub fn in_char(t: &Tables, b: &mut Making, d: &Designator) -> Result<(), Memory>
 }
 
 /// A call, whose result is dropped if there is one.
-pub fn invoke(t: &Tables, b: &mut Making, c: &Call) -> Result<(), Memory>
+pub fn invoke(t: &Tables<'_>, b: &mut Making, c: &Call) -> Result<(), Memory>
     ensures { OnOk result ((p : Program) (here : Here) → Serves t.now p here → Steps b.old b.new (deed_in p here (Invoke c.now))) }
 {
     let r = prepared(t, b, c)?;
@@ -265,7 +275,7 @@ pub fn invoke(t: &Tables, b: &mut Making, c: &Call) -> Result<(), Memory>
 
 /// FOR: whether the variable has not passed the limit.
 pub fn reached(
-    t: &Tables,
+    t: &Tables<'_>,
     b: &mut Making,
     d: &Designator,
     last: u32,
@@ -301,7 +311,7 @@ fn bound(step: i64) -> u8
 }
 
 /// FOR: the variable's step.
-pub fn advance(t: &Tables, b: &mut Making, d: &Designator, step: i64) -> Result<(), Memory>
+pub fn advance(t: &Tables<'_>, b: &mut Making, d: &Designator, step: i64) -> Result<(), Memory>
     ensures { OnOk result ((p : Program) (here : Here) → Serves t.now p here → Steps b.old b.new (advance_in p here d.now step)) }
 {
     let h = place(t, b, d)?;

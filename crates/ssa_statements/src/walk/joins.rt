@@ -20,7 +20,7 @@ use std::alloc::Global;
 
 /// Of the parts of IF or WHILE, with what is assigned otherwise.
 pub fn of_branches(
-    t: &Tables,
+    t: &Tables<'_>,
     b: &Making,
     parts: &[Branch],
     other: &[u32],
@@ -45,7 +45,7 @@ pub struct Suffixes {
 
 /// Those of each branch of IF, with what is behind the branches.
 pub fn of_suffixes(
-    t: &Tables,
+    t: &Tables<'_>,
     b: &Making,
     parts: &[Branch],
     other: &[Stmt],
@@ -76,7 +76,7 @@ pub fn of_suffix(alloc: Global, all: &Suffixes, number: usize) -> Result<Vec<u32
 }
 
 /// Of the body of a loop, with what is assigned otherwise.
-pub fn of_body(t: &Tables, b: &Making, body: &[Stmt], other: &[u32]) -> Result<Vec<u32>, Memory>
+pub fn of_body(t: &Tables<'_>, b: &Making, body: &[Stmt], other: &[u32]) -> Result<Vec<u32>, Memory>
     ensures { IfOk result (λ list. (p : Program) (here : Here) → Serves t.now p here →
         (rest mask : Mask) → ((x : ℕ) → has other.now x ≡ rest x) →
         ((x : ℕ) → either (assigned_list body.now) rest x ≡ mask x) → AreJoined p here mask b.now list.items) }
@@ -88,7 +88,7 @@ pub fn of_body(t: &Tables, b: &Making, body: &[Stmt], other: &[u32]) -> Result<V
 }
 
 /// Of the parts of CASE.
-pub fn of_cases(t: &Tables, b: &Making, parts: &[CasePart]) -> Result<Vec<u32>, Memory>
+pub fn of_cases(t: &Tables<'_>, b: &Making, parts: &[CasePart]) -> Result<Vec<u32>, Memory>
     ensures { IfOk result (λ list. (p : Program) (here : Here) → Serves t.now p here → AreJoined p here (assigned_cases parts.now) b.now list.items) }
 {
     let mut found = Vec::new(b.allocator());
@@ -98,7 +98,7 @@ pub fn of_cases(t: &Tables, b: &Making, parts: &[CasePart]) -> Result<Vec<u32>, 
 }
 
 /// Of the parts of CASE on types.
-pub fn of_types(t: &Tables, b: &Making, parts: &[TypePart]) -> Result<Vec<u32>, Memory>
+pub fn of_types(t: &Tables<'_>, b: &Making, parts: &[TypePart]) -> Result<Vec<u32>, Memory>
     ensures { IfOk result (λ list. (p : Program) (here : Here) → Serves t.now p here → AreJoined p here (assigned_types parts.now) b.now list.items) }
 {
     let mut found = Vec::new(b.allocator());

@@ -28,7 +28,7 @@ use ssa_exprs::{Making, Tables, cond, designated, half, second, value};
 
 /// Statements, one after the other.
 #[cycle(walk)]
-pub fn statements(t: &Tables, b: &mut Making, list: &[Stmt]) -> Result<(), Memory>
+pub fn statements(t: &Tables<'_>, b: &mut Making, list: &[Stmt]) -> Result<(), Memory>
     ensures { OnOk result ((p : Program) (here : Here) → Serves t.now p here → Steps b.old b.new (deeds_in p here list.now)) }
 {
     for s in list {
@@ -39,7 +39,7 @@ pub fn statements(t: &Tables, b: &mut Making, list: &[Stmt]) -> Result<(), Memor
 
 /// A statement. Where a limit is passed nothing is made any more.
 #[cycle(walk)]
-fn statement(t: &Tables, b: &mut Making, s: &Stmt) -> Result<(), Memory>
+fn statement(t: &Tables<'_>, b: &mut Making, s: &Stmt) -> Result<(), Memory>
     ensures { OnOk result ((p : Program) (here : Here) → Serves t.now p here → Steps b.old b.new (deed_in p here s.now)) }
 {
     if b.over().is_some() {
@@ -101,7 +101,7 @@ fn statement(t: &Tables, b: &mut Making, s: &Stmt) -> Result<(), Memory>
 /// parameters of the joins too. Where a limit is passed the branches that are left are gone past.
 #[cycle(walk)]
 fn alternatives(
-    t: &Tables,
+    t: &Tables<'_>,
     b: &mut Making,
     parts: &[Branch],
     other: &[Stmt],
@@ -125,7 +125,12 @@ fn alternatives(
 
 /// A branch of IF; what is left are the part where its condition doesn't hold and the join.
 #[cycle(walk)]
-fn alternative(t: &Tables, b: &mut Making, part: &Branch, vars: Vec<u32>) -> Result<Frame, Memory>
+fn alternative(
+    t: &Tables<'_>,
+    b: &mut Making,
+    part: &Branch,
+    vars: Vec<u32>,
+) -> Result<Frame, Memory>
     ensures opens { IfOk result (λ f. (p : Program) (here : Here) → Serves t.now p here →
         Opens b.old b.new f (expr_in p here part.now.condition.form).test (deeds_in p here part.now.body.items)) }
     ensures vars { IfOk result (λ f. f.vars.items ≡ vars.items) }
@@ -152,7 +157,7 @@ fn alternative(t: &Tables, b: &mut Making, part: &Branch, vars: Vec<u32>) -> Res
 
 /// WHILE.
 #[cycle(walk)]
-fn looped(t: &Tables, b: &mut Making, parts: &[Branch]) -> Result<(), Memory>
+fn looped(t: &Tables<'_>, b: &mut Making, parts: &[Branch]) -> Result<(), Memory>
     ensures { OnOk result ((p : Program) (here : Here) → Serves t.now p here → Steps b.old b.new (loop_in p here parts.now)) }
 {
     let vars = of_branches(t, b, parts, &[])?;
@@ -169,7 +174,7 @@ fn looped(t: &Tables, b: &mut Making, parts: &[Branch]) -> Result<(), Memory>
 /// A guard of WHILE, with what is done where it holds; the block behind it runs so often.
 #[cycle(walk)]
 fn turn(
-    t: &Tables,
+    t: &Tables<'_>,
     b: &mut Making,
     part: &Branch,
     header: u32,
@@ -193,7 +198,7 @@ fn turn(
 
 /// REPEAT.
 #[cycle(walk)]
-fn repeated(t: &Tables, b: &mut Making, body: &[Stmt], x: &Checked) -> Result<(), Memory>
+fn repeated(t: &Tables<'_>, b: &mut Making, body: &[Stmt], x: &Checked) -> Result<(), Memory>
     ensures { OnOk result ((p : Program) (here : Here) → Serves t.now p here → Steps b.old b.new (repeat_in p here body.now x.now)) }
 {
     let vars = of_body(t, b, body, &[])?;
@@ -213,7 +218,7 @@ fn repeated(t: &Tables, b: &mut Making, body: &[Stmt], x: &Checked) -> Result<()
 /// The loop of FOR, behind the first assignment and the limit.
 #[cycle(walk)]
 fn counted(
-    t: &Tables,
+    t: &Tables<'_>,
     b: &mut Making,
     body: &[Stmt],
     variable: &Designator,
@@ -242,7 +247,7 @@ fn counted(
 
 /// CASE on a value.
 #[cycle(walk)]
-fn case(t: &Tables, b: &mut Making, parts: &[CasePart], v: u32) -> Result<(), Memory>
+fn case(t: &Tables<'_>, b: &mut Making, parts: &[CasePart], v: u32) -> Result<(), Memory>
     ensures { OnOk result ((p : Program) (here : Here) → Serves t.now p here → Steps b.old b.new (case_in p here parts.now v)) }
 {
     let vars = of_cases(t, b, parts)?;
@@ -256,7 +261,7 @@ fn case(t: &Tables, b: &mut Making, parts: &[CasePart], v: u32) -> Result<(), Me
 /// The parts of CASE; the result is how the last one's block ends.
 #[cycle(walk)]
 fn case_parts(
-    t: &Tables,
+    t: &Tables<'_>,
     b: &mut Making,
     parts: &[CasePart],
     leave: Option<Numbers>,
@@ -278,7 +283,7 @@ fn case_parts(
 /// CASE on a dynamic type.
 #[cycle(walk)]
 fn case_types(
-    t: &Tables,
+    t: &Tables<'_>,
     b: &mut Making,
     parts: &[TypePart],
     v: u32,
@@ -298,7 +303,7 @@ fn case_types(
 /// The parts of CASE on types; the result is how the last one's block ends.
 #[cycle(walk)]
 fn type_parts(
-    t: &Tables,
+    t: &Tables<'_>,
     b: &mut Making,
     parts: &[TypePart],
     leave: Option<Numbers>,

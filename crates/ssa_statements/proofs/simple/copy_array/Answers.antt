@@ -16,7 +16,7 @@ returns c = λ p here s.
     let size = c.from-size.result in
     let n_is : n ≡ length_of_kind (kind_in d) = c.length_of_kind-n.ensures.is ∙ ap length_of_kind c.kind_in.ensures in
     let m_is : m ≡ length_of_kind (kind_in e) = c.length_of_kind-m.ensures.is ∙ ap length_of_kind c.kind_in-2.ensures in
-    let size_is : size ≡ (layout p.types).bytes (element_kind (kind_in d)) = c.from-size.ensures ∙ c.size.ensures ∙ ap (size_in c.args.t.now) (c.element_kind.ensures ∙ ap element_kind c.kind_in-3.ensures) ∙ s.size (element_kind (kind_in d)) in
+    let size_is : size ≡ (layout p.types).bytes (element_kind (kind_in d)) = c.from-size.ensures ∙ c.size.ensures ∙ ap (size_in c.args.t.now.program.now) (c.element_kind.ensures ∙ ap element_kind c.kind_in-3.ensures) ∙ s.size (element_kind (kind_in d)) in
     let to = named_in p here d in
     let from = named_in p here e in
     steps_as (ap₂ (λ x y. copy_array to x from y ((layout p.types).bytes (element_kind (kind_in d)))) (sym n_is) (sym m_is) ∙ ap (copy_array to n from m) (sym size_is))

@@ -17,9 +17,9 @@ returns c = λ p here s.
     let d = c.args.d.now in
     let r = record_of_kind (kind_in d) in
     let r_is : c.record_of_kind-r.result ≡ r = c.record_of_kind-r.ensures ∙ ap record_of_kind c.kind_in.ensures in
-    let cells_is : c.from-cells.result ≡ record_cells p.types r = c.from-cells.ensures ∙ c.record_cells.ensures ∙ ap (cells_in c.args.t.now) r_is ∙ s.cells r in
-    let bytes_is : c.from-bytes.result ≡ (layout p.types).record_bytes r = c.from-bytes.ensures ∙ c.record.ensures ∙ ap (record_in c.args.t.now) r_is ∙ s.whole r in
-    let global_is : c.descriptor.result ≡ descriptor p (layout p.types) here r = c.descriptor.ensures ∙ ap (descriptor_in c.args.t.now) r_is ∙ s.descriptor r in
+    let cells_is : c.from-cells.result ≡ record_cells p.types r = c.from-cells.ensures ∙ c.record_cells.ensures ∙ ap (cells_in c.args.t.now.program.now) r_is ∙ s.cells r in
+    let bytes_is : c.from-bytes.result ≡ (layout p.types).record_bytes r = c.from-bytes.ensures ∙ c.record.ensures ∙ ap (record_in c.args.t.now.program.now) r_is ∙ s.whole r in
+    let global_is : c.descriptor.result ≡ descriptor p (layout p.types) here r = c.descriptor.ensures ∙ ap (descriptor_in c.args.t.now.program.now) r_is ∙ s.descriptor r in
     steps_new (record_cells p.types r) (rounded ((layout p.types).record_bytes r)) (descriptor p (layout p.types) here r) (c.in_ok-h.ensures p here s)
     (gives_as (ap (λ n. const (n + 1)) (sym cells_is)) c.in_ok-n.ensures)
     (gives_as (ap (λ n. const (rounded n + 8)) (sym bytes_is)) c.in_ok-m.ensures)
