@@ -30,7 +30,7 @@ fn has_structured(types: &Types, list: &[u32]) -> bool
 }
 
 /// The expression behind RETURN.
-fn answer(t: &Tables, b: &mut Making, answer: &Option<Checked>) -> Result<Option<u32>, Memory>
+fn answer(t: &Tables<'_>, b: &mut Making, answer: &Option<Checked>) -> Result<Option<u32>, Memory>
     ensures { IfOk result (λ r. (p : Program) (here : Here) → Serves t.now p here → Gives b.old b.new (answer_there p (layout p.types) here answer.now) r) }
 {
     match answer {
@@ -44,7 +44,7 @@ fn answer(t: &Tables, b: &mut Making, answer: &Option<Checked>) -> Result<Option
 
 /// The whole procedure; gives its result.
 pub fn lower_body(
-    t: &Tables,
+    t: &Tables<'_>,
     b: &mut Making,
     types: &Types,
     procedure: &Procedure,

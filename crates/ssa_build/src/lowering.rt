@@ -6,13 +6,13 @@ ghost use Rattle.ssa_lowered.specs.Limits.{limits_from, limit_of};
 ghost use Rattle.ssa_lowered.specs.Lowered.{procs_from, lowered};
 ghost use Rattle.ssa_tables.specs.Faults.{Tells};
 ghost use Rattle.ssa_tables.specs.Measured.{IsMeasured};
-ghost use Rattle.ssa_tables.specs.Shared.{ServesAll, ServesFrom};
+ghost use Rattle.ssa_tables.specs.Shared.{ServesAll};
 
 use crate::procedure::lower_procedure;
 use items::Items;
 use ob_types::Program;
 use ssa_core::Proc;
-use ssa_exprs::Tables;
+use ssa_exprs::ProgramTables;
 use ssa_tables::{LowerFault, check_constants, program_tables};
 use std::alloc::Global;
 
@@ -20,7 +20,7 @@ use std::alloc::Global;
 #[derive(Drop)]
 pub struct LoweredProgram {
     pub procedures: Items<Proc>,
-    pub tables: Tables,
+    pub tables: ProgramTables,
 }
 
 /// The procedures of a program, in the layout in use. A program is refused by the first of these limits that it
@@ -50,11 +50,11 @@ pub fn lower_with_tables(alloc: Global, program: &Program) -> Result<LoweredProg
     ensures within { OnOk result (limit_of program.now ≡ None) }
     ensures limit { IfErr result (λ e. Tells e (limit_of program.now)) }
 {
-    let mut tables = match program_tables(alloc, program) {
+    let tables = match program_tables(alloc, program) {
         Ok(tables) => tables,
         Err(e) => return Err(e),
     };
-    let procedures = match all_procedures(alloc, &mut tables, program) {
+    let procedures = match all_procedures(alloc, &tables, program) {
         Ok(procedures) => procedures,
         Err(e) => return Err(e),
     };
@@ -67,16 +67,15 @@ pub fn lower_with_tables(alloc: Global, program: &Program) -> Result<LoweredProg
 /// All procedures, one after the other.
 fn all_procedures(
     alloc: Global,
-    tables: &mut Tables,
+    tables: &ProgramTables,
     program: &Program,
 ) -> Result<Items<Proc>, LowerFault>
     requires measured { IsMeasured program.now }
-    requires from { ServesFrom tables.old program.now 0 }
+    requires serves { ServesAll tables.now program.now }
     requires few { length program.now.procedures ≤ 4096 }
     ensures ok { IfOk result (λ list. list ≡ procs_from program.now (layout program.now.types) 0 program.now.procedures) }
     ensures within { OnOk result (limits_from program.now (layout program.now.types) 0 program.now.procedures ≡ None) }
     ensures limit { IfErr result (λ e. Tells e (limits_from program.now (layout program.now.types) 0 program.now.procedures)) }
-    ensures all { OnOk result (ServesAll tables.new program.now) }
 {
     let procedures = program.procedures.as_slice();
     let mut list = Items::new(alloc);

@@ -1,12 +1,12 @@
 //! A procedure, from its tables to its blocks.
 
-ghost use Rattle.std.specs.Prelude.{◌≡◌, suc, Some, None, slice_get, IfOk, OnOk, IfErr};
+ghost use Rattle.std.specs.Prelude.{◌≡◌, Some, None, slice_get, IfOk, OnOk, IfErr};
 ghost use Rattle.ssa_lowered.specs.Data.{layout};
 ghost use Rattle.ssa_lowered.specs.Limits.{limit_in};
 ghost use Rattle.ssa_lowered.specs.Lowered.{proc_of};
 ghost use Rattle.ssa_tables.specs.Faults.{Tells};
 ghost use Rattle.ssa_tables.specs.Measured.{IsMeasured};
-ghost use Rattle.ssa_tables.specs.Shared.{ServesFrom};
+ghost use Rattle.ssa_tables.specs.Shared.{ServesAll};
 ghost use Rattle.ssa_build.specs.Bodies.{completed};
 
 use crate::body::lower_body;
@@ -16,30 +16,32 @@ use block_runs::End;
 use ob_types::{Procedure, Program};
 use outside::Memory;
 use ssa_core::Proc;
-use ssa_exprs::{Making, Tables};
-use ssa_tables::{Locals, LowerFault, enter, pass};
+use ssa_exprs::{Making, ProgramTables};
+use ssa_tables::{Entered, Locals, LowerFault, enter};
 use std::alloc::Global;
 
-/// Procedure number f. The tables then stand before the next one.
+/// Procedure number f of a program, in the layout in use, by the tables that all procedures share, in any order of them. It is
+/// refused where it passes a limit: over 1,048,576 cells of local data (59), and too many values (50) or blocks (51), whichever
+/// comes first, with the procedure's number.
 pub fn lower_procedure(
     alloc: Global,
-    tables: &mut Tables,
+    tables: &ProgramTables,
     program: &Program,
     f: u32,
     procedure: &Procedure,
 ) -> Result<Proc, LowerFault>
     requires measured { IsMeasured program.now }
     requires there { slice_get program.now.procedures f ≡ Some procedure.now }
-    requires from { ServesFrom tables.old program.now f }
+    requires serves { ServesAll tables.now program.now }
     ensures ok { IfOk result (λ made. made ≡ proc_of program.now (layout program.now.types) f procedure.now) }
     ensures within { OnOk result (limit_in program.now (layout program.now.types) f procedure.now ≡ None) }
     ensures limit { IfErr result (λ e. Tells e (limit_in program.now (layout program.now.types) f procedure.now)) }
-    ensures from { OnOk result (ServesFrom tables.new program.now (suc f)) }
 {
-    let locals = match enter(alloc, tables, program, f, procedure) {
-        Ok(locals) => locals,
+    let entered = match enter(alloc, tables, program, f, procedure) {
+        Ok(entered) => entered,
         Err(e) => return Err(e),
     };
+    let Entered { tables, locals } = entered;
     let words = argument_words(procedure.formals.as_slice());
     let mut making = Making::new(alloc, words);
     match making.reserve() {
@@ -47,7 +49,7 @@ pub fn lower_procedure(
         Err(_) => return Err(LowerFault::Memory),
     }
     let result = match lower_body(
-        tables,
+        &tables,
         &mut making,
         &program.types,
         procedure,
@@ -59,10 +61,6 @@ pub fn lower_procedure(
     };
     if let Some(number) = making.over() {
         return Err(LowerFault::Limit { number, index: f });
-    }
-    match pass(tables, procedure) {
-        Ok(_) => {}
-        Err(_) => return Err(LowerFault::Memory),
     }
     match complete(alloc, making, procedure, &locals, words, result) {
         Ok(made) => Ok(made),

@@ -1,8 +1,7 @@
-use Rattle.std.proofs.Common.{◌≡◌, ◌+◌, ◌++◌, ◌<◌, suc, [], ◌∷◌, length, get_or, ap, ◌∙◌, subst, arith}
+use Rattle.std.proofs.Common.{◌++◌, ◌<◌, [], ◌∷◌, length, get_or, ap, ◌∙◌, subst}
 use Rattle.ssa_lowered.specs.Data.{layout}
 use Rattle.ssa_lowered.specs.Limits.{limits_from}
 use Rattle.ssa_lowered.specs.Lowered.{procs_from}
-use Rattle.ssa_tables.specs.Shared.{ServesFrom}
 use Rattle.ssa_build.proofs.Limits.{procs_more, limits_more, limits_told}
 use Rattle.ssa_build.proofs.lowering.all_procedures.Goals as goal
 
@@ -21,9 +20,7 @@ loop-f-preserved c =
     let l = layout p.types in
     let q = c.index-procedures-f.result in
     let lt = subst (λ qs. c.loop-f.f < length qs) c.as_slice-procedures.ensures c.loop-f-test.true in
-    let is = c.index-procedures-f.is ∙ ap (λ qs. get_or qs c.loop-f.f q) c.as_slice-procedures.ensures in
-    let next : suc c.loop-f.f ≡ c.loop-f.f + 1 = omega arith in (
+    let is = c.index-procedures-f.is ∙ ap (λ qs. get_or qs c.loop-f.f q) c.as_slice-procedures.ensures in (
       procs_more p l p.procedures c.loop-f.f q c.loop-f.list c.push.new.self (procs_from p l 0 p.procedures) lt is (c.in-Ok-push.ensures.ok ∙ ap (λ m. c.loop-f.list ++ (m ∷ [])) c.in-Ok.ensures.ok) c.loop-f.invariant.0,
       limits_more p l p.procedures c.loop-f.f q (limits_from p l 0 p.procedures) lt is c.in-Ok.ensures.within c.loop-f.invariant.1,
-      subst (λ n. ServesFrom c.lower_procedure.new.tables p n) next c.in-Ok.ensures.from,
     )
