@@ -4,7 +4,7 @@ use Rattle.std.specs.Prelude.{if◌then◌else◌}
 use Rattle.a64_memory.specs.Areas.{data_base}
 use Rattle.ob_types.specs.declared.program.Program.{Program}
 use Rattle.ssa_lowered.specs.Limits.{limit_of}
-use Rattle.ssa_exprs.specs.declared.tables.Tables.{Tables}
+use Rattle.ssa_exprs.specs.declared.tables.ProgramTables.{ProgramTables}
 use Rattle.ssa_tables.specs.Faults.{first_limit}
 use Rattle.ssa_tables.specs.Shared.{ServesAll}
 use Rattle.ssa_tables.proofs.Limits.{first_within, few_descriptors}
@@ -30,7 +30,7 @@ module _ (p : Program) (none : limit_of p ≡ None) where
   pub first_none : first_limit p ≡ None
   first_none = first_within p (few_procedures p none) (few_globals p none)
 
-  pub descriptors_are : (t : Tables) → ServesAll t p → t.descriptors ≡ data_bytes p
+  pub descriptors_are : (t : ProgramTables) → ServesAll t p → t.descriptors ≡ data_bytes p
   descriptors_are t serves =
       let there = serves.descriptor 0 in
       let few = few_descriptors t p serves first_none in

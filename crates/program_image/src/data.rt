@@ -10,7 +10,7 @@ use image_form::Bytes;
 use lir_core::Items;
 use ob_types::{Procedure, Program};
 use outside::Memory;
-use ssa_exprs::Tables;
+use ssa_exprs::ProgramTables;
 use ssa_tables::program_constants;
 use std::alloc::Global;
 
@@ -18,7 +18,11 @@ use std::alloc::Global;
 const DATA_BASE: u32 = 0x1000_0000;
 
 /// A program's data, by the tables of its lowering.
-pub fn program_data(alloc: Global, tables: &Tables, program: &Program) -> Result<ImageData, Memory>
+pub fn program_data(
+    alloc: Global,
+    tables: &ProgramTables,
+    program: &Program,
+) -> Result<ImageData, Memory>
     requires tables { ServesAll tables.now program.now }
     requires within { limit_of program.now ≡ None }
     ensures { IfOk result (λ made. made ≡ data_of program.now) }
