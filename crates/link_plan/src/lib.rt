@@ -14,6 +14,6 @@ mod linking;
 
 pub use fault::LinkFault;
 pub use image_form::{Bytes, Image};
-pub use linking::{add_pieces, image_of_pieces, link};
+pub use linking::{add_pieces, image_of_pieces, link, piece_of_lines};
 pub use placed_code::{ImageData, ProcName};
 pub use procedure_code::Piece;

@@ -114,13 +114,38 @@ fn add_piece(
     ensures limit { IfErr result (λ fault. fault ≡ Limit → ⊥) }
     ensures misfit { IfErr result (λ fault. fault ≡ Misfit → (k : ℕ) (c : Cut) → IsCutOf k flow.now lines.now outs.now c → Fits c → ⊥) }
 {
-    let plan = plan_of(alloc, flow, lines, outs)?;
-    match piece_of(alloc, &plan) {
+    match piece_of_lines(alloc, flow, lines, outs) {
         Ok(piece) => {
             pieces.push(piece)?;
             Ok(true)
         }
-        Err(LayoutFault::Limit) => Ok(false),
+        Err(LinkFault::Limit) => Ok(false),
+        Err(LinkFault::Misfit) => Err(LinkFault::Misfit),
+        Err(LinkFault::Memory) => Err(LinkFault::Memory),
+    }
+}
+
+/// The piece of a flow, from its lines in code order and the results for its traces. `Misfit` comes for no sound
+/// results of a flow whose numbers and frame are small enough, and else `Limit` exactly where the flow alone is longer
+/// than an image may be. Takes time in proportion to lines and words, and n log n for n homes.
+pub fn piece_of_lines(
+    alloc: Global,
+    flow: &Flow,
+    lines: &[CodeLine],
+    outs: &[TraceOut],
+) -> Result<Piece, LinkFault>
+    ensures piece { (k : ℕ) (c : Cut) → k ≤ 16 → IsAllocated k c → IsCutOf k flow.now lines.now outs.now c
+        → IfOk result (λ piece. piece_in piece ≡ piece_of (placed steps_of (allocated c))) }
+    ensures fits { OnOk result (numbers_fit flow.now ≡ true) }
+    ensures limit { IfErr result (λ fault. fault ≡ Limit → (k : ℕ) (c : Cut) → k ≤ 16 → IsAllocated k c → IsCutOf k flow.now lines.now outs.now c
+        → 2 ^ 18 < length (all_words (placed steps_of (allocated c) ∷ []))) }
+    ensures numbers { IfErr result (λ fault. fault ≡ Limit → numbers_fit flow.now ≡ true) }
+    ensures misfit { IfErr result (λ fault. fault ≡ Misfit → (k : ℕ) (c : Cut) → IsCutOf k flow.now lines.now outs.now c → Fits c → ⊥) }
+{
+    let plan = plan_of(alloc, flow, lines, outs)?;
+    match piece_of(alloc, &plan) {
+        Ok(piece) => Ok(piece),
+        Err(LayoutFault::Limit) => Err(LinkFault::Limit),
         Err(LayoutFault::Memory) => Err(LinkFault::Memory),
     }
 }
