@@ -1,4 +1,5 @@
 pub mod Ready
 pub mod Reading
-pub mod Batches
+pub mod Outcomes
+pub mod Planning
 pub mod Naming

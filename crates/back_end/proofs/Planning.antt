@@ -1,39 +1,49 @@
--- One batch of procedures more.
-use Rattle.std.proofs.Common.{◌≡◌, ℕ, zero, suc, ◌+◌, ◌-◌, ◌<◌, ◌≤◌, ◌^◌, true, false, Bool, List, [], ◌∷◌, ◌++◌, map, take, drop, length, refl, sym, ap, ap₂, ◌∙◌, subst, arith, append_assoc}
-use Rattle.std.specs.Prelude.{◌==◌, All}
+-- Pieces of procedures, one after the other.
+use Rattle.std.proofs.Common.{◌≡◌, ℕ, zero, suc, ◌+◌, ◌-◌, ◌<◌, ◌≤◌, ◌^◌, ◌&&◌, true, false, Bool, List, [], ◌∷◌, ◌++◌, map, take, drop, length, get_or, refl, sym, ap, ap₂, ◌∙◌, subst, arith, append_assoc}
+use Rattle.std.specs.Prelude.{All}
 use Rattle.std.specs.List.{list_all}
-use Rattle.std.proofs.lemmas.List.{append-nil, map-append, take-append-drop, length-drop}
+use Rattle.std.proofs.lemmas.List.{append-nil, map-append, take-append-drop, length-drop, take_more, drop_more}
 use Rattle.std.proofs.lemmas.List.Folds.{list_all-append}
 use Rattle.ssa_core.specs.declared.procedure.Proc.{Proc}
 use Rattle.lir_core.specs.declared.flow.Flow.{Flow}
+use Rattle.lir_core.specs.declared.places.TraceOut.{TraceOut}
 use Rattle.lir_core.specs.Flows.{IsValidFlow}
 use Rattle.a64_select.specs.Selected.{selected}
+use Rattle.boundary_resolve.specs.declared.code_line.CodeLine.{CodeLine}
 use Rattle.placed_code.specs.Placed.{Placed}
+use Rattle.placed_code.specs.Words.{slots_of}
 use Rattle.placed_code.specs.Layout.{all_words}
-use Rattle.placed_code.specs.Results.{placed, all_placed}
+use Rattle.placed_code.specs.Results.{Allocated, placed, all_placed}
+use Rattle.size_limits.specs.Limits.{most_slots}
 use Rattle.linked_flows.specs.Allocations.{Cut, steps_of, allocated}
 use Rattle.linked_flows.specs.Allocations.{all_allocated as allocated_cuts}
 use Rattle.trace_build.specs.Traces.{traces_in}
-use Rattle.link_blocks.specs.Fits.{numbers_fit}
+use Rattle.link_blocks.specs.Fits.{numbers_fit, registers_fit, rows_fit}
+use Rattle.link_blocks.specs.Laid.{Fits}
 use Rattle.procedure_pieces.specs.Pieces.{Piece, piece_of}
 use Rattle.procedure_code.specs.Views.{piece_in}
-use Rattle.link_plan.specs.Linked.{AllAllocated, AreCuts, AreSmall, IsAllocated, pieces_of}
+use Rattle.procedure_code.specs.declared.pieces.Piece.{Piece as MadePiece}
+use Rattle.link_plan.specs.Linked.{AllAllocated, AreCuts, ArePieces, AreSmall, IsAllocated, pieces_of}
 use Rattle.link_plan.proofs.Longer.{first_fewer, last_fewer}
+use Rattle.modest_flows.proofs.Fitting.{both}
 use Rattle.alloc_choice.specs.declared.choice.Choice.{Choice}
 use Rattle.alloc_choice.specs.Choice.{IsFitChoice}
-use Rattle.lir_core.specs.declared.places.TraceOut.{TraceOut}
-use Rattle.boundary_resolve.specs.declared.code_line.CodeLine.{CodeLine}
 use Rattle.trace_work.proofs.Made.{traces-append}
-use Rattle.flow_allocation.specs.Allocations.{AllAllocations, AreAllocated, trace_count}
+use Rattle.flow_allocation.specs.Allocations.{IsAllocation, AllAllocations, AreAllocated, trace_count}
+use Rattle.flow_allocation.specs.Numbered.{numbered, renumbered}
 use Rattle.flow_allocation.proofs.Counting.{counted}
-use Rattle.flow_allocation.proofs.Taking.{none_of, take_none, drop_none}
-use Rattle.back_end.specs.Images.{IsReady, code_length}
-use Rattle.back_end.specs.Batches.{IsPlanned, AreMore}
+use Rattle.flow_allocation.proofs.Numbered.{renumbered_allocation, allocated_renumbered}
+use Rattle.back_end.specs.Images.{IsReady, AreCutsOf, code_length}
+use Rattle.back_end.specs.Made.{AreWords, IsMade}
+use Rattle.back_end.specs.Tasks.{IsOutcome, AreOutcomes}
+use Rattle.back_end.specs.Planning.{IsPlanned, AreMore}
 use Rattle.back_end.specs.declared.imaging.Planned.{Planned}
+use Rattle.back_end.specs.declared.making.FlowWords.TheVariants as words
+use Rattle.back_end.specs.declared.making.MadeFlow.{MadeFlow}
+use Rattle.back_end.specs.declared.work.Outcome.{Outcome}
 use Rattle.back_end.specs.Numbers.{node_numbers}
 use Rattle.back_end.proofs.Reading.{all_further}
-use Rattle.back_end.proofs.Ready.{HaveNumbers, all_allocated, valid_flows}
-use Rattle.modest_flows.proofs.Fitting.{both}
+use Rattle.back_end.proofs.Ready.{HaveNumbers, all_allocated}
 
 ---- Lists of cuts, one behind the other
 
@@ -82,105 +92,80 @@ drop-behind : (xs ys : List Cut) (q : ℕ) → drop (length xs + q) (xs ++ ys) �
 drop-behind [] ys q = let z : 0 + q ≡ q = omega arith in ap (λ n. drop n ys) z
 drop-behind (x ∷ xs) ys q = let z : suc (length xs) + q ≡ suc (length xs + q) = omega arith in ap (λ n. drop n (x ∷ (xs ++ ys))) z ∙ drop-behind xs ys q
 
-small-front : (xs ys : List Cut) → AreSmall (xs ++ ys) → AreSmall xs
-small-front xs ys h q c rest e = h q c (rest ++ ys) (drop-front xs ys q c rest e)
+-- what holds of each of both lists holds of each of one
+each-front : (holds : Cut → Type 0) (xs ys : List Cut) → ((q : ℕ) (c : Cut) (rest : List Cut) → drop q (xs ++ ys) ≡ c ∷ rest → holds c) → (q : ℕ) (c : Cut) (rest : List Cut) → drop q xs ≡ c ∷ rest → holds c
+each-front holds xs ys h q c rest e = h q c (rest ++ ys) (drop-front xs ys q c rest e)
 
-small-behind : (xs ys : List Cut) → AreSmall (xs ++ ys) → AreSmall ys
-small-behind xs ys h q c rest e = h (length xs + q) c rest (drop-behind xs ys q ∙ e)
+each-behind : (holds : Cut → Type 0) (xs ys : List Cut) → ((q : ℕ) (c : Cut) (rest : List Cut) → drop q (xs ++ ys) ≡ c ∷ rest → holds c) → (q : ℕ) (c : Cut) (rest : List Cut) → drop q ys ≡ c ∷ rest → holds c
+each-behind holds xs ys h q c rest e = h (length xs + q) c rest (drop-behind xs ys q ∙ e)
 
----- The next procedures
+---- Flows more
 
-all-left : {A : Type 0} (P : A → Type 0) (xs ys : List A) → All P (xs ++ ys) → All P xs
-all-left P [] ys h k x n = absurd (omega (arith, n))
-all-left P (y ∷ xs) ys h zero x n = h 0 x (omega arith)
-all-left P (y ∷ xs) ys h (suc k) x n = all-left P xs ys (λ i z m. h (suc i) z (omega (arith, m))) k x (omega (arith, n))
-
-all-joined : {A : Type 0} (P : A → Type 0) (xs ys : List A) → All P xs → All P ys → All P (xs ++ ys)
-all-joined P [] ys hx hy k x n = hy k x n
-all-joined P (y ∷ xs) ys hx hy zero x n = hx 0 x (omega arith)
-all-joined P (y ∷ xs) ys hx hy (suc k) x n = all-joined P xs ys (λ i z m. hx (suc i) z (omega (arith, m))) hy k x (omega (arith, n))
-
-all-right : {A : Type 0} (P : A → Type 0) (xs ys : List A) → All P (xs ++ ys) → All P ys
-all-right P [] ys h k x n = h k x n
-all-right P (y ∷ xs) ys h k x n = all-right P xs ys (λ i z m. h (suc i) z (omega (arith, m))) k x n
-
-module _ {A : Type 0} (P : A → Type 0) (most : ℕ) (left : List A) (all : All P left) where
-  whole : All P (take most left ++ drop most left)
-  whole = subst (All P) (sym (take-append-drop most left)) all
-
-  pub all-taken : All P (take most left)
-  all-taken = all-left P (take most left) (drop most left) whole
-
-  pub all-dropped : All P (drop most left)
-  all-dropped = all-right P (take most left) (drop most left) whole
-
----- A batch more
-
-pub nothing : (choice : Choice) (planned : Planned) → choice.regs ≤ 16 → map piece_in planned.pieces.items ≡ [] → planned.traces ≡ 0 → planned.fit ≡ true → planned.room ≡ true → IsPlanned choice [] planned
-nothing choice planned few none zero-traces fit room = record {
+pub nothing : (choice : Choice) (planned : Planned) → planned.pieces.items ≡ [] → planned.traces ≡ 0 → planned.fit ≡ true → planned.room ≡ true → IsPlanned choice [] planned
+nothing choice planned none zero-traces fit room = record {
   cuts = [];
-  are = record { flows = refl; each = tt };
+  flows_are = refl;
+  each = tt;
   few = omega (arith, zero-traces);
   count = zero-traces;
-  numbers = λ k f n. absurd (omega (arith, n));
-  pieces = λ e f. record { pieces_are = none; numbers = refl; few = few; each = no_cut };
-  misfit = λ e. absurd (let z : true ≡ false = sym fit ∙ e in cc);
-  over = λ e. absurd (let z : true ≡ false = sym room ∙ e in cc);
+  pieces = λ all e f. (ap (λ (ps : List MadePiece). map piece_in ps) none, refl);
+  misfit = λ all e. absurd (let z : true ≡ false = sym fit ∙ e in cc);
+  over = λ all e. absurd (let z : true ≡ false = sym room ∙ e in cc);
 }
-  where
-    no_cut : (q : ℕ) (c : Cut) (rest : List Cut) → drop q ([]) ≡ c ∷ rest → IsAllocated choice.regs c
-    no_cut zero c rest e = cc
-    no_cut (suc q) c rest e = cc
 
-module _ (choice : Choice) (fit : IsFitChoice choice) (done batch : List Proc) (ready : All IsReady batch) (old new : Planned) (flows : List Flow) (before : IsPlanned choice done old) (same : flows ≡ map selected batch) (numbers : HaveNumbers flows) (made : AreMore choice flows old new) where
-  there : HaveNumbers (map selected batch)
-  there = subst HaveNumbers same numbers
+module _ (choice : Choice) (done flows : List Flow) (old new : Planned) (before : IsPlanned choice done old) (made : AreMore choice flows old new) where
+  abbrev joined : List Cut
+  joined = before.cuts ++ made.cuts
 
-  can-link : AllAllocated choice.regs made.cuts
-  can-link = all_allocated choice old.traces batch made.cuts ready there (sym made.flows_are ∙ same) made.each
+  first_all : AllAllocated choice.regs joined → AllAllocated choice.regs before.cuts
+  first_all all = each-front (IsAllocated choice.regs) before.cuts made.cuts all
 
-  flows_are : map (λ c. c.flow) (before.cuts ++ made.cuts) ≡ map selected (done ++ batch)
-  flows_are =
-      map-append (λ (c : Cut). c.flow) before.cuts made.cuts
-      ∙ ap₂ (λ xs ys. xs ++ ys) before.are.flows (sym made.flows_are ∙ same)
-      ∙ sym (map-append selected done batch)
+  last_all : AllAllocated choice.regs joined → AllAllocated choice.regs made.cuts
+  last_all all = each-behind (IsAllocated choice.regs) before.cuts made.cuts all
 
-  misfits : new.fit ≡ false → AreSmall (before.cuts ++ made.cuts) → (b : Bool) → old.fit ≡ b → ⊥
-  misfits e small true f = made.misfit can-link e f (small-behind before.cuts made.cuts small)
-  misfits e small false f = before.misfit f (small-front before.cuts made.cuts small)
+  misfits : AllAllocated choice.regs joined → new.fit ≡ false → AreSmall joined → (b : Bool) → old.fit ≡ b → ⊥
+  misfits all e small true f = made.misfit (last_all all) e f (each-behind Fits before.cuts made.cuts small)
+  misfits all e small false f = before.misfit (first_all all) f (each-front Fits before.cuts made.cuts small)
 
-  long : new.room ≡ false → (b : Bool) → old.room ≡ b → 2 ^ 18 < code_length (before.cuts ++ made.cuts)
-  long e true f = over-behind before.cuts made.cuts (made.over can-link e f)
-  long e false f = over-front before.cuts made.cuts (before.over f)
+  long : AllAllocated choice.regs joined → new.room ≡ false → (b : Bool) → old.room ≡ b → 2 ^ 18 < code_length joined
+  long all e true f = over-behind before.cuts made.cuts (made.over (last_all all) e f)
+  long all e false f = over-front before.cuts made.cuts (before.over (first_all all) f)
 
-  pub one_more : IsPlanned choice (done ++ batch) new
+  pub one_more : IsPlanned choice (done ++ flows) new
   one_more =
       let n = before.count in
       let m = made.count in
       let c = count-append before.cuts made.cuts in
       record {
-        cuts = before.cuts ++ made.cuts;
-        are = record { flows = flows_are; each = allocations-append choice 0 old.traces before.cuts made.cuts before.are.each made.each (omega (arith, n)) };
+        cuts = joined;
+        flows_are = map-append (λ (c : Cut). c.flow) before.cuts made.cuts ∙ ap₂ (λ xs ys. xs ++ ys) before.flows_are (sym made.flows_are);
+        each = allocations-append choice 0 old.traces before.cuts made.cuts before.each made.each (omega (arith, n));
         few = made.few;
         count = omega (arith, n, m, c);
-        numbers = subst HaveNumbers (sym (map-append selected done batch)) (all-joined (λ (f : Flow). node_numbers f.nodes ≡ true) (map selected done) (map selected batch) before.numbers there);
-        pieces = λ e f.
-            let p = made.pieces can-link e f in
-            let o = before.pieces p.0 p.1 in
-            record {
-              pieces_are = p.2 ∙ ap (λ (ps : List Piece). ps ++ pieces_of made.cuts) o.pieces_are ∙ sym (pieces-append before.cuts made.cuts);
-              numbers =
-                  ap (list_all (λ f. numbers_fit f)) (map-append (λ (c : Cut). c.flow) before.cuts made.cuts)
-                  ∙ list_all-append (λ f. numbers_fit f) (map (λ (c : Cut). c.flow) before.cuts) (map (λ (c : Cut). c.flow) made.cuts)
-                  ∙ both (list_all (λ f. numbers_fit f) (map (λ (c : Cut). c.flow) before.cuts)) (list_all (λ f. numbers_fit f) (map (λ (c : Cut). c.flow) made.cuts)) o.numbers (sym (ap (λ (fs : List Flow). list_all (λ f. numbers_fit f) fs) made.flows_are) ∙ p.3);
-              few = o.few;
-              each = each-append (IsAllocated choice.regs) before.cuts made.cuts o.each can-link;
-            };
-        misfit = λ e small. misfits e small old.fit refl;
-        over = λ e. long e old.room refl;
+        pieces = λ all e f.
+            let p = made.pieces (last_all all) e f in
+            let o = before.pieces (first_all all) p.0 p.1 in (
+              p.2 ∙ ap (λ (ps : List Piece). ps ++ pieces_of made.cuts) o.0 ∙ sym (pieces-append before.cuts made.cuts),
+              list_all-append (λ f. numbers_fit f) done flows ∙ both (list_all (λ f. numbers_fit f) done) (list_all (λ f. numbers_fit f) flows) o.1 p.3,
+            );
+        misfit = λ all e small. misfits all e small old.fit refl;
+        over = λ all e. long all e old.room refl;
       }
 
+-- traces past the limit behind the first flows are past it among all
+pub over : (choice : Choice) (done flows left : List Flow) (planned : Planned) → IsPlanned choice done planned → 262144 < planned.traces + traces_in choice.builder flows → 262144 < traces_in choice.builder (done ++ (flows ++ left))
+over choice done flows left planned is lt =
+    let n = is.count in
+    let c = counted choice 0 is.cuts done is.flows_are is.each in
+    let a = traces-append choice.builder done (flows ++ left) in
+    let b = traces-append choice.builder flows left in
+    omega (arith, lt, n, c, a, b)
+
 ---- What passes give
+
+-- the same mark can't have come to be false
+unmarked : {A : Type 0} (before after : Bool) → after ≡ before → after ≡ false → before ≡ true → A
+unmarked before after same is was = absurd (let z : true ≡ false = sym was ∙ sym same ∙ is in cc)
 
 module _ (choice : Choice) (fit : IsFitChoice choice) (flows : List Flow) (parts : List (List CodeLine)) (outs : List (List TraceOut)) (old new : Planned) (traces : ℕ) (h : AreAllocated choice old.traces flows parts outs traces)
     (few : old.traces + traces ≤ 262144) (sum : new.traces ≡ old.traces + traces) where
@@ -211,10 +196,6 @@ module _ (choice : Choice) (fit : IsFitChoice choice) (flows : List Flow) (parts
         over = over;
       }
 
-  -- the same mark can't have come to be false
-  unmarked : {A : Type 0} (before after : Bool) → after ≡ before → after ≡ false → before ≡ true → A
-  unmarked before after same is was = absurd (let z : true ≡ false = sym was ∙ sym same ∙ is in cc)
-
   pub added : old.fit ≡ true → new.fit ≡ old.fit → new.room ≡ old.room → ((k : ℕ) (cuts : List Cut) → AreCuts k flows parts outs cuts → map piece_in new.pieces.items ≡ map piece_in old.pieces.items ++ pieces_of cuts) → list_all (λ f. numbers_fit f) flows ≡ true
       → AreMore choice flows old new
   added were fits rooms pieces numbers =
@@ -229,145 +210,191 @@ module _ (choice : Choice) (fit : IsFitChoice choice) (flows : List Flow) (parts
   too_long fits none far =
       with_pieces (λ each e f. absurd (let z : false ≡ true = sym none ∙ f in cc)) (λ each e f small. unmarked old.fit new.fit fits e f) (λ each e f. far choice.regs h.cuts (are_cuts each))
 
----- Numbers of traces
+---- A flow that is made by itself
 
--- traces past the limit among the first procedures are past it among all
-pub over : (choice : Choice) (all done left : List Proc) (most : ℕ) (planned : Planned) (flows : List Flow) → IsPlanned choice done planned → done ++ left ≡ all → flows ≡ map selected (take most left)
-    → 262144 < planned.traces + traces_in choice.builder flows → 262144 < traces_in choice.builder (map selected all)
-over choice all done left most planned flows is split same lt =
-    let n = is.count in
-    let c = counted choice 0 is.cuts (map selected done) is.are.flows is.are.each in
-    let f = ap (λ fs. traces_in choice.builder fs) same in
-    let w : traces_in choice.builder (map selected all) ≡ traces_in choice.builder (map selected done ++ (map selected (take most left) ++ map selected (drop most left))) =
-    ap (λ ps. traces_in choice.builder (map selected ps)) (sym split)
-    ∙ ap (λ fs. traces_in choice.builder fs) (map-append selected done left)
-    ∙ ap (λ ps. traces_in choice.builder (map selected done ++ map selected ps)) (sym (take-append-drop most left))
-    ∙ ap (λ fs. traces_in choice.builder (map selected done ++ fs)) (map-append selected (take most left) (drop most left))
-    in
-    let a = traces-append choice.builder (map selected done) (map selected (take most left) ++ map selected (drop most left)) in
-    let b = traces-append choice.builder (map selected (take most left)) (map selected (drop most left)) in
-    omega (arith, lt, n, c, f, w, a, b)
+registers-numbered : (n : ℕ) (outs : List TraceOut) → registers_fit (numbered n outs) ≡ registers_fit outs
+registers-numbered n [] = refl
+registers-numbered n (o ∷ outs) = ap (λ b. rows_fit o.regs && b) (registers-numbered (suc n) outs)
 
----- Procedures that are taken one by one
+module _ (choice : Choice) (flow : Flow) (made : MadeFlow) (h : IsMade choice flow made) (old new : Planned) (fits : old.traces + made.traces ≤ 262144) (sum : new.traces ≡ old.traces + made.traces) where
+  -- behind the traces before it
+  abbrev next : Cut
+  next = renumbered old.traces h.cut
 
--- how far the taking of so many has come
-pub record IsTaken (most i : ℕ) (flows : List Flow) (rest all : List Proc) : Type 0 where
-  pub ready : All IsReady rest
-  pub numbers : HaveNumbers flows
-  pub front : flows ++ map selected (take (most - i) rest) ≡ map selected (take most all)
-  pub back : drop (most - i) rest ≡ drop most all
+  is_next : IsAllocation choice old.traces next
+  is_next = renumbered_allocation choice 0 old.traces h.cut h.allocation
 
-pub none_taken : (most : ℕ) (flows : List Flow) (all : List Proc) → All IsReady all → flows ≡ [] → IsTaken most 0 flows all all
-none_taken most flows all ready e =
-    let n : most - 0 ≡ most = omega arith in record {
-      ready = ready;
-      numbers = subst HaveNumbers (sym e) (λ k f l. absurd (omega (arith, l)));
-      front = ap₂ (λ fs k. fs ++ map selected (take k all)) e n;
-      back = ap (λ k. drop k all) n;
-    }
+  -- what linking asks of it, by the numbers with which it was made
+  by_first : IsAllocated choice.regs next → IsAllocated choice.regs h.cut
+  by_first all = record { sound = h.allocation.sound; paths = h.allocation.paths; numbers = all.numbers; local_data = all.local_data; body = all.body }
 
-pub first_taken : (most i : ℕ) (flows : List Flow) (rest all rest' : List Proc) (p : Proc) → IsTaken most i flows rest all → rest ≡ p ∷ rest' → IsReady p
-first_taken most i flows rest all rest' p h e = (subst (All IsReady) e h.ready) 0 p (omega arith)
+  has_words : AllAllocated choice.regs (next ∷ []) → AreWords h.cut made.words
+  has_words all = h.words (by_first (all 0 next [] refl))
 
-pub one_taken : (most i : ℕ) (flows flows' : List Flow) (rest all rest' : List Proc) (p : Proc) (flow : Flow) → IsTaken most i flows rest all → i < most → rest ≡ p ∷ rest' → flow ≡ selected p → node_numbers flow.nodes ≡ true → flows' ≡ flows ++ flow ∷ []
-    → IsTaken most (i + 1) flows' rest' all
-one_taken most i flows flows' rest all rest' p flow h lt r is number more =
-    let n : most - i ≡ suc (most - (i + 1)) = omega (arith, lt) in record {
-      ready = let there = subst (All IsReady) r h.ready in λ k d l. there (suc k) d (omega (arith, l));
-      numbers = all_further flows flows' flow more h.numbers number;
-      front =
-          ap (λ fs. fs ++ map selected (take (most - (i + 1)) rest')) (more ∙ ap (λ f. flows ++ f ∷ []) is)
-          ∙ append_assoc flows (selected p ∷ []) (map selected (take (most - (i + 1)) rest'))
-          ∙ ap (λ ps. flows ++ map selected (take (suc (most - (i + 1))) ps)) (sym r)
-          ∙ ap (λ k. flows ++ map selected (take k rest)) (sym n)
-          ∙ h.front;
-      back = ap (drop (suc (most - (i + 1)))) (sym r) ∙ ap (λ k. drop k rest) (sym n) ∙ h.back;
-    }
+  same_words : length (all_words (placed steps_of (allocated next) ∷ [])) ≡ length (all_words (placed steps_of (allocated h.cut) ∷ []))
+  same_words = ap (λ (x : Allocated). length (all_words (placed steps_of x ∷ []))) (allocated_renumbered old.traces h.cut)
 
-pub all_taken : (most i : ℕ) (flows : List Flow) (rest all : List Proc) → IsTaken most i flows rest all → most - i ≡ 0 → (flows ≡ map selected (take most all)) × (rest ≡ drop most all)
-all_taken most i flows rest all h e = (
-  sym (append-nil flows) ∙ ap (λ k. flows ++ map selected (take k rest)) (sym e) ∙ h.front,
-  ap (λ k. drop k rest) (sym e) ∙ h.back,
-)
+  fits_first : Fits next → Fits h.cut
+  fits_first f = record {
+    numbers = f.numbers;
+    registers = sym (registers-numbered old.traces h.cut.outs) ∙ f.registers;
+    local_bytes = f.local_bytes;
+    slots = subst (λ (x : Allocated). slots_of (placed steps_of x) ≤ most_slots) (allocated_renumbered old.traces h.cut) f.slots;
+    nodes = f.nodes;
+  }
 
--- where there are no more
-pub none_left : (most i : ℕ) (flows : List Flow) (rest all rest' : List Proc) → IsTaken most i flows rest all → length rest ≡ 0 → length rest' ≡ 0 → (flows ≡ map selected (take most all)) × (rest' ≡ drop most all)
-none_left most i flows rest all rest' h e e' =
-    let r = none_of rest e in (
-      sym (append-nil flows) ∙ ap (λ ps. flows ++ map selected ps) (sym (take_none (most - i) rest r)) ∙ h.front,
-      none_of rest' e' ∙ sym (drop_none (most - i) rest r) ∙ h.back,
-    )
+  abbrev NextPieces : Type 0
+  NextPieces = AllAllocated choice.regs (next ∷ []) → new.fit ≡ true → new.room ≡ true
+      → (old.fit ≡ true) × (old.room ≡ true) × (map piece_in new.pieces.items ≡ map piece_in old.pieces.items ++ pieces_of (next ∷ [])) × (list_all (λ f. numbers_fit f) (flow ∷ []) ≡ true)
 
----- While procedures are planned
+  abbrev NextMisfit : Type 0
+  NextMisfit = AllAllocated choice.regs (next ∷ []) → new.fit ≡ false → old.fit ≡ true → AreSmall (next ∷ []) → ⊥
 
--- the first procedures are planned, the others are left; so many rounds are enough
-pub record IsUnderWay (choice : Choice) (all left : List Proc) (count i : ℕ) (made : Planned) : Type 0 where
-  pub done : List Proc
-  pub split : done ++ left ≡ all
-  pub ready : All IsReady left
-  pub rounds : length left + i ≤ count
-  pub planned : IsPlanned choice done made
+  abbrev NextOver : Type 0
+  NextOver = AllAllocated choice.regs (next ∷ []) → new.room ≡ false → old.room ≡ true → 2 ^ 18 < code_length (next ∷ [])
 
--- before the first round
-pub begun : (choice : Choice) (all left : List Proc) (count : ℕ) (made : Planned) → choice.regs ≤ 16 → All IsReady all → left ≡ all → count ≡ length all → map piece_in made.pieces.items ≡ [] → made.traces ≡ 0 → made.fit ≡ true → made.room ≡ true
-    → IsUnderWay choice all left count 0 made
-begun choice all left count made few ready same long none zero-traces fit room =
-    let l : length left ≡ length all = ap (λ (ps : List Proc). length ps) same in
-    record {
-      done = [];
-      split = same;
-      ready = subst (All IsReady) (sym same) ready;
-      rounds = omega (arith, l, long);
-      planned = nothing choice made few none zero-traces fit room;
-    }
-
--- flows of the next batch
-module _ (choice : Choice) (fit : IsFitChoice choice) (all left left' : List Proc) (most count i : ℕ) (some : 0 < most) (old new : Planned) (flows : List Flow) (h : IsUnderWay choice all left count i old)
-    (same : flows ≡ map selected (take most left)) (rest : left' ≡ drop most left) where
-  pub flows_valid : All IsValidFlow flows
-  flows_valid = subst (All IsValidFlow) (sym same) (valid_flows (take most left) (all-taken IsReady most left h.ready))
-
-  -- no flow comes where no procedure is left
-  none_where : (ps : List Proc) → length (map selected (take most ps)) ≡ 0 → ps ≡ []
-  none_where [] e = refl
-  none_where (p ∷ ps) e = by most some e
-    where
-      by : (m : ℕ) → 0 < m → length (map selected (take m (p ∷ ps))) ≡ 0 → p ∷ ps ≡ []
-      by zero lt e = absurd (omega (arith, lt))
-      by (suc m) lt e = absurd (omega (arith, e))
-
-  pub ended : length flows ≡ 0 → IsPlanned choice all old
-  ended e =
-      let none = none_where left (sym (ap (λ (fs : List Flow). length fs) same) ∙ e) in
-      subst (λ ps. IsPlanned choice ps old) (sym (append-nil h.done) ∙ ap (λ ps. h.done ++ ps) (sym none) ∙ h.split) h.planned
-
-  pub further : (length flows ≡ 0 → ⊥) → HaveNumbers flows → AreMore choice flows old new → IsUnderWay choice all left' count (i + 1) new
-  further unless numbers made =
-      let n = length-drop most left in
-      let r = h.rounds in
+  next_with : NextPieces → NextMisfit → NextOver → AreMore choice (flow ∷ []) old new
+  next_with pieces misfit over =
+      let n = h.count in
       record {
-        done = h.done ++ take most left;
-        split = append_assoc h.done (take most left) left' ∙ ap (λ ps. h.done ++ (take most left ++ ps)) rest ∙ ap (λ ps. h.done ++ ps) (take-append-drop most left) ∙ h.split;
-        ready = subst (All IsReady) (sym rest) (all-dropped IsReady most left h.ready);
-        rounds = shorter left refl n r;
-        planned = one_more choice fit h.done (take most left) (all-taken IsReady most left h.ready) old new flows h.planned same numbers made;
+        cuts = next ∷ [];
+        flows_are = ap (λ f. f ∷ []) (sym h.flow_is);
+        each = (is_next, tt);
+        few = omega (arith, fits, sum);
+        count = omega (arith, sum, n);
+        pieces = pieces;
+        misfit = misfit;
+        over = over;
       }
+
+  pub put_piece : (piece : MadePiece) → made.words ≡ words.Piece piece → new.fit ≡ old.fit → new.room ≡ old.room → new.pieces.items ≡ old.pieces.items ++ piece ∷ [] → AreMore choice (flow ∷ []) old new
+  put_piece piece is same_fit same_room more =
+      next_with (λ all e f.
+      let w = subst (AreWords h.cut) is (has_words all) in (
+        sym same_fit ∙ e,
+        sym same_room ∙ f,
+        ap (λ (ps : List MadePiece). map piece_in ps) more ∙ map-append piece_in old.pieces.items (piece ∷ [])
+            ∙ ap (λ (p : Piece). map piece_in old.pieces.items ++ p ∷ []) (w.0 ∙ ap (λ (x : Allocated). piece_of (placed steps_of x)) (sym (allocated_renumbered old.traces h.cut))),
+        both (numbers_fit flow) true (ap (λ f. numbers_fit f) (sym h.flow_is) ∙ w.1) refl,
+      ))
+      (λ all e f small. unmarked old.fit new.fit same_fit e f) (λ all e f. unmarked old.room new.room same_room e f)
+
+  pub put_misfit : made.words ≡ words.Misfit → new.fit ≡ false → new.room ≡ old.room → AreMore choice (flow ∷ []) old new
+  put_misfit is unfit same_room =
+      next_with (λ all e. absurd (let z : false ≡ true = sym unfit ∙ e in cc)) (λ all e f small. subst (AreWords h.cut) is (has_words all) (fits_first (small 0 next [] refl))) (λ all e f. unmarked old.room new.room same_room e f)
+
+  pub put_limit : made.words ≡ words.Limit → new.fit ≡ old.fit → new.room ≡ false → AreMore choice (flow ∷ []) old new
+  put_limit is same_fit none =
+      next_with (λ all e f. absurd (let z : false ≡ true = sym none ∙ f in cc)) (λ all e f small. unmarked old.fit new.fit same_fit e f)
+      (λ all e f. let w = subst (AreWords h.cut) is (has_words all) in omega (arith, w, same_words))
+
+-- the traces of a flow that is made
+pub made_count : (choice : Choice) (flow : Flow) (made : MadeFlow) → IsMade choice flow made → made.traces ≡ traces_in choice.builder (flow ∷ [])
+made_count choice flow made h =
+    let c = counted choice 0 (h.cut ∷ []) (flow ∷ []) (ap (λ f. f ∷ []) h.flow_is) (h.allocation, tt) in
+    let n = h.count in
+    omega (arith, c, n)
+
+---- Procedures that are selected one by one
+
+-- the flows of the first procedures are there, the others are left
+pub record IsSelecting (flows : List Flow) (left all : List Proc) : Type 0 where
+  pub ready : All IsReady left
+  pub numbers : HaveNumbers flows
+  pub same : flows ++ map selected left ≡ map selected all
+
+pub none_selected : (flows : List Flow) (left all : List Proc) → All IsReady all → left ≡ all → flows ≡ [] → IsSelecting flows left all
+none_selected flows left all ready whole none = record {
+  ready = subst (All IsReady) (sym whole) ready;
+  numbers = subst HaveNumbers (sym none) (λ k f l. absurd (omega (arith, l)));
+  same = ap₂ (λ fs ps. fs ++ map selected ps) none whole;
+}
+
+module _ (flows : List Flow) (left all left' : List Proc) (p : Proc) (h : IsSelecting flows left all) (is : left ≡ p ∷ left') where
+  pub first_ready : IsReady p
+  first_ready = (subst (All IsReady) is h.ready) 0 p (omega arith)
+
+  pub one_selected : (flows' : List Flow) (flow : Flow) → flow ≡ selected p → node_numbers flow.nodes ≡ true → flows' ≡ flows ++ flow ∷ [] → IsSelecting flows' left' all
+  one_selected flows' flow made number more = record {
+    ready = let there = subst (All IsReady) is h.ready in λ k d l. there (suc k) d (omega (arith, l));
+    numbers = all_further flows flows' flow more h.numbers number;
+    same =
+        ap (λ fs. fs ++ map selected left') (more ∙ ap (λ f. flows ++ f ∷ []) made)
+        ∙ append_assoc flows (selected p ∷ []) (map selected left')
+        ∙ ap (λ ps. flows ++ map selected ps) (sym is)
+        ∙ h.same;
+  }
+
+pub all_selected : (flows : List Flow) (left all : List Proc) → IsSelecting flows left all → left ≡ [] → flows ≡ map selected all
+all_selected flows left all h none = sym (append-nil flows) ∙ ap (λ ps. flows ++ map selected ps) (sym none) ∙ h.same
+
+---- Flows one after the other
+
+-- the first flows are planned, and what the tasks of the others gave is left
+pub record IsUnderWay (choice : Choice) (flows : List Flow) (number : ℕ) (left : List Outcome) (planned : Planned) : Type 0 where
+  pub ahead : AreOutcomes choice (drop number flows) left
+  pub first : IsPlanned choice (take number flows) planned
+
+pub begun : (choice : Choice) (flows : List Flow) (left : List Outcome) (planned : Planned) → AreOutcomes choice flows left → planned.pieces.items ≡ [] → planned.traces ≡ 0 → planned.fit ≡ true → planned.room ≡ true → IsUnderWay choice flows 0 left planned
+begun choice flows left planned outcomes none zero-traces fit room = record { ahead = outcomes; first = nothing choice planned none zero-traces fit room }
+
+module _ (choice : Choice) (flows : List Flow) (number : ℕ) (left left' : List Outcome) (outcome : Outcome) (old : Planned) (h : IsUnderWay choice flows number left old) (is : left ≡ outcome ∷ left') where
+  pub within : number < length flows
+  within = by (drop number flows) (length-drop number flows) (subst (AreOutcomes choice (drop number flows)) is h.ahead)
     where
-      shorter : (ps : List Proc) → left ≡ ps → length (drop most left) ≡ length left - most → length left + i ≤ count → length left' + (i + 1) ≤ count
-      shorter [] e n r = absurd (unless (ap (λ (fs : List Flow). length fs) same ∙ ap (λ qs. length (map selected (take most qs))) e ∙ ap (λ qs. length (map selected qs)) (take_none most [] refl)))
-      shorter (p ∷ ps) e n r =
-          let l : length left' ≡ length (drop most left) = ap (λ (qs : List Proc). length qs) rest in
-          let k : length left ≡ suc (length ps) = ap (λ (qs : List Proc). length qs) e in
-          let m = some in
-          omega (arith, l, k, n, r, m)
+      by : (fs : List Flow) → length fs ≡ length flows - number → AreOutcomes choice fs (outcome ∷ left') → number < length flows
+      by [] e a = absurd a
+      by (f ∷ fs) e a = omega (arith, e)
 
--- behind as many rounds as there are procedures none is left
-pub all_rounds : (choice : Choice) (all left : List Proc) (count i : ℕ) (planned : Planned) → IsUnderWay choice all left count i planned → count ≤ i → IsPlanned choice all planned
-all_rounds choice all left count i planned h le =
-    let r = h.rounds in
-    let none = none_of left (omega (arith, r, le)) in
-    subst (λ ps. IsPlanned choice ps planned) (sym (append-nil h.done) ∙ ap (λ ps. h.done ++ ps) (sym none) ∙ h.split) h.planned
+  module _ (flow : Flow) (item : flow ≡ get_or flows number flow) where
+    drops : drop number flows ≡ flow ∷ drop (number + 1) flows
+    drops = drop_more flows number flow within ∙ ap (λ f. f ∷ drop (number + 1) flows) (sym item)
 
-pub not_none : (n : ℕ) → false ≡ (n == 0) → n ≡ 0 → ⊥
-not_none zero e z = cc
-not_none (suc n) e z = omega (arith, z)
+    parts : IsOutcome choice flow outcome × AreOutcomes choice (drop (number + 1) flows) left'
+    parts = subst (λ fs. AreOutcomes choice fs (outcome ∷ left')) drops (subst (AreOutcomes choice (drop number flows)) is h.ahead)
+
+    pub outcome_is : IsOutcome choice flow outcome
+    outcome_is = parts.0
+
+    pub flow_valid : All IsValidFlow flows → IsValidFlow flow
+    flow_valid all = subst IsValidFlow (sym item) (all number flow within)
+
+    pub further : (new : Planned) → AreMore choice (flow ∷ []) old new → IsUnderWay choice flows (number + 1) left' new
+    further new more = record {
+      ahead = parts.1;
+      first =
+          subst (λ fs. IsPlanned choice fs new) (sym (take_more flows number flow within ∙ ap (λ f. take number flows ++ f ∷ []) (sym item)))
+          (one_more choice (take number flows) (flow ∷ []) old new h.first more);
+    }
+
+    pub over_limit : 262144 < old.traces + traces_in choice.builder (flow ∷ []) → 262144 < traces_in choice.builder flows
+    over_limit lt =
+        subst (λ fs. 262144 < traces_in choice.builder fs) (ap (λ fs. take number flows ++ fs) (sym drops) ∙ take-append-drop number flows)
+        (over choice (take number flows) (flow ∷ []) (drop (number + 1) flows) old h.first lt)
+
+pub ended : (choice : Choice) (flows : List Flow) (number : ℕ) (left : List Outcome) (planned : Planned) → IsUnderWay choice flows number left planned → left ≡ [] → IsPlanned choice flows planned
+ended choice flows number left planned h none = by (drop number flows) (take-append-drop number flows) (subst (AreOutcomes choice (drop number flows)) none h.ahead)
+  where
+    by : (fs : List Flow) → take number flows ++ fs ≡ flows → AreOutcomes choice fs [] → IsPlanned choice flows planned
+    by [] e a = subst (λ gs. IsPlanned choice gs planned) (sym (append-nil (take number flows)) ∙ e) h.first
+    by (f ∷ fs) e a = absurd a
+
+---- The flows of procedures
+
+module _ (choice : Choice) (fit : IsFitChoice choice) (procs : List Proc) (ready : All IsReady procs) (flows : List Flow) (same : flows ≡ map selected procs) (numbers : HaveNumbers flows) (planned : Planned) (p : IsPlanned choice flows planned) where
+  pub cuts_are : AreCutsOf choice procs p.cuts
+  cuts_are = record { flows = p.flows_are ∙ same; each = p.each }
+
+  pub all_can : AllAllocated choice.regs p.cuts
+  all_can = all_allocated choice 0 procs p.cuts ready (subst HaveNumbers same numbers) (p.flows_are ∙ same) p.each
+
+  pub pieces_are : planned.fit ≡ true → planned.room ≡ true → ArePieces choice.regs (map piece_in planned.pieces.items) p.cuts
+  pieces_are e f = let q = p.pieces all_can e f in record {
+    pieces_are = q.0;
+    numbers = ap (λ fs. list_all (λ f. numbers_fit f) fs) p.flows_are ∙ q.1;
+    few = fit.few;
+    each = all_can;
+  }
+
+  pub few_traces : trace_count p.cuts ≤ 262144
+  few_traces = let n = p.few in let m = p.count in omega (arith, n, m)

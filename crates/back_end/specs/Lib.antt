@@ -1,4 +1,6 @@
 pub mod Images
 pub mod Numbers
 pub mod Faults
-pub mod Batches
+pub mod Made
+pub mod Tasks
+pub mod Planning

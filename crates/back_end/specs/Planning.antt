@@ -1,30 +1,28 @@
--- Pieces of procedures, batch by batch.
-use Rattle.std.specs.Prelude.{◌≡◌, ◌+◌, ◌<◌, ◌≤◌, ◌^◌, List, ◌++◌, map, All, true, false}
+-- Pieces of procedures, one after the other.
+use Rattle.std.specs.Prelude.{◌≡◌, ◌+◌, ◌<◌, ◌≤◌, ◌^◌, List, ◌++◌, map, true, false}
 use Rattle.std.specs.List.{list_all}
-use Rattle.ssa_core.specs.declared.procedure.Proc.{Proc}
 use Rattle.lir_core.specs.declared.flow.Flow.{Flow}
-use Rattle.a64_select.specs.Selected.{selected}
 use Rattle.linked_flows.specs.Allocations.{Cut}
 use Rattle.link_blocks.specs.Fits.{numbers_fit}
 use Rattle.procedure_code.specs.Views.{piece_in}
-use Rattle.link_plan.specs.Linked.{AllAllocated, ArePieces, AreSmall, pieces_of}
+use Rattle.link_plan.specs.Linked.{AllAllocated, AreSmall, pieces_of}
 use Rattle.alloc_choice.specs.declared.choice.Choice.{Choice}
 use Rattle.flow_allocation.specs.Allocations.{AllAllocations, trace_count}
-use Rattle.back_end.specs.Images.{AreCutsOf, code_length}
-use Rattle.back_end.specs.Numbers.{node_numbers}
+use Rattle.back_end.specs.Images.{code_length}
 use Rattle.back_end.specs.declared.imaging.Planned.{Planned}
 
--- the pieces of procedures in traces with final results, at most 262,144 of these; some cut doesn't fit, or the code is too
--- long, where they are marked so
-pub record IsPlanned (choice : Choice) (procs : List Proc) (planned : Planned) : Type 0 where
+-- the pieces of flows in traces with final results, at most 262,144 of these; where linking can take the results, some cut doesn't
+-- fit, or the code is too long, if they are marked so
+pub record IsPlanned (choice : Choice) (flows : List Flow) (planned : Planned) : Type 0 where
   pub cuts : List Cut
-  pub are : AreCutsOf choice procs cuts
+  pub flows_are : map (λ c. c.flow) cuts ≡ flows
+  pub each : AllAllocations choice 0 cuts
   pub few : planned.traces ≤ 262144
   pub count : planned.traces ≡ trace_count cuts
-  pub numbers : All (λ (f : Flow). node_numbers f.nodes ≡ true) (map selected procs)
-  pub pieces : planned.fit ≡ true → planned.room ≡ true → ArePieces choice.regs (map piece_in planned.pieces.items) cuts
-  pub misfit : planned.fit ≡ false → AreSmall cuts → ⊥
-  pub over : planned.room ≡ false → 2 ^ 18 < code_length cuts
+  pub pieces : AllAllocated choice.regs cuts → planned.fit ≡ true → planned.room ≡ true
+      → (map piece_in planned.pieces.items ≡ pieces_of cuts) × (list_all (λ f. numbers_fit f) flows ≡ true)
+  pub misfit : AllAllocated choice.regs cuts → planned.fit ≡ false → AreSmall cuts → ⊥
+  pub over : AllAllocated choice.regs cuts → planned.room ≡ false → 2 ^ 18 < code_length cuts
 
 -- the pieces of flows are added, where all before them fit and have room and they do too, and their traces
 pub record AreMore (choice : Choice) (flows : List Flow) (old new : Planned) : Type 0 where

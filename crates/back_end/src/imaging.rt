@@ -1,7 +1,6 @@
 //! The image of procedures.
 
-ghost use Rattle.std.specs.Prelude.{◌≡◌, true, ℕ, ◌+◌, ◌<◌, ◌≤◌, ◌^◌, List, length, map, take, drop, All, IfOk, OnOk, IfErr};
-ghost use Rattle.std.specs.Vec.Iter.{into_iter_items};
+ghost use Rattle.std.specs.Prelude.{◌≡◌, [], ◌∷◌, true, ℕ, ◌+◌, ◌<◌, ◌≤◌, ◌^◌, List, length, map, All, IfOk, OnOk, IfErr};
 ghost use Rattle.a64_select.specs.Selected.{selected};
 ghost use Rattle.lir_core.specs.Flows.{IsValidFlow};
 ghost use Rattle.image_form.specs.Form.{IsInForm};
@@ -12,11 +11,15 @@ ghost use Rattle.alloc_choice.specs.Choice.{IsFitChoice};
 ghost use Rattle.flow_allocation.specs.Allocations.{trace_count};
 ghost use Rattle.back_end.specs.Images.{IsReady, HasFewValues, AreCutsOf, IsImageBy, code_length};
 ghost use Rattle.back_end.specs.Numbers.{node_numbers};
-ghost use Rattle.back_end.specs.Batches.{IsPlanned, AreMore};
+ghost use Rattle.back_end.specs.Made.{IsMade};
+ghost use Rattle.back_end.specs.Tasks.{IsOutcome, AreOutcomes};
+ghost use Rattle.back_end.specs.Planning.{IsPlanned, AreMore};
 ghost use Rattle.back_end.specs.declared.fault.ImageFault.TheVariants.{Traces, Code, Misfit, Memory as OutOfMemory};
 
 use crate::fault::{ImageFault, fault_of};
+use crate::making::{FlowWords, MadeFlow};
 use crate::numbers::read_nodes;
+use crate::work::{FlowWork, Outcome};
 use a64_select::select;
 use flow_allocation::{AllocatedFlows, Choice, Flow, allocate_flows};
 use image_form::Image;
@@ -25,9 +28,10 @@ use link_plan::{ImageData, LinkFault, Piece, add_pieces, image_of_pieces};
 use outside::Gate;
 use ssa_core::Proc;
 use std::alloc::Global;
+use std::slice;
 use std::sync::Wait;
 use std::thread::Threads;
-use std::vec::IntoIter;
+use trace_pool::final_results;
 
 /// An image, of how many traces its code is made, and the pieces of its procedures, which nothing needs any more.
 #[derive(Drop)]
@@ -37,19 +41,17 @@ pub struct LinkedProcedures {
     pub pieces: Items<Piece>,
 }
 
-/// How many procedures a batch of one worker has. A batch goes through the passes as a whole, so what one pass makes of it is still near
-/// when the next one reads it.
-const ALONE: usize = 4;
-
-/// How many procedures each worker's share of a batch has where there are several, which begin anew with each batch.
-const SHARE: usize = 64;
+/// The most traces that an image's code is made of.
+const MOST_TRACES: u32 = 262_144;
 
 /// The image of procedures by their numbers, each of which has a name: each one's flow in the traces of the builder that is chosen, the first of these with
 /// the number behind those of the procedures before it, each with the final result by the policy, in lines with the moves of
-/// edges, linked. The workers of the choice share the traces, and whatever they do the image is the same; a worker passes the gate
-/// before it begins a trace. `Traces` comes exactly where there are over 262,144 traces, `Code` where there are not and the code is over
+/// edges, linked. The workers of the choice share the procedures, each of which one of them makes, but for the traces of large ones, which
+/// they share one procedure after the other; whatever they do, the image is the same. A worker passes the gate before it begins a
+/// procedure, with the procedure's number, and before it begins a trace of a large one. `Traces` comes exactly where there are over 262,144 traces, `Code` where there are not and the code is over
 /// 262,144 words, and `Misfit` for no procedures whose numbers and frames are small enough, so for none that have no more values
-/// than a procedure may have. Takes the time of the passes. The procedures are let go in batches, before the flows of each are allocated. It may wait.
+/// than a procedure may have. Takes the time of the passes. A procedure is let go once it is selected, its flow once all pieces
+/// are made. It may wait.
 pub fn image_of<G: Gate, R: Threads + Wait + Sync>(
     rt: &R,
     alloc: Global,
@@ -71,12 +73,13 @@ pub fn image_of<G: Gate, R: Threads + Wait + Sync>(
         → (cuts : List Cut) × AreCutsOf choice.now procedures cuts × (AreSmall cuts → ⊥)) }
     ensures modest { All HasFewValues procedures → IfErr result (λ fault. fault ≡ Misfit → ⊥) }
 {
+    let flows = select_all(alloc, procedures)?;
     let Planned {
         pieces,
         traces,
         fit,
         room,
-    } = plan_all(rt, alloc, choice, procedures, gate)?;
+    } = plan_all(rt, alloc, choice, flows, gate)?;
     if !fit {
         return Err(ImageFault::Misfit);
     }
@@ -93,9 +96,8 @@ pub fn image_of<G: Gate, R: Threads + Wait + Sync>(
     }
 }
 
-/// The pieces of procedures, and of how many traces they are made. Where some procedure fits no instructions, `fit` is
-/// false, and where one is longer than any image, `room` is: then the pieces are of no use, and the procedures behind it are
-/// counted and tried for instructions alone.
+/// The pieces of flows, and of how many traces they are made. Where some flow fits no instructions, `fit` is false, and where
+/// one is longer than any image, `room` is: then the pieces are of no use.
 #[derive(Drop)]
 struct Planned {
     pieces: Vec<Piece>,
@@ -104,53 +106,130 @@ struct Planned {
     room: bool,
 }
 
-// How many procedures a batch has.
-fn batch(jobs: u32) -> usize
-    requires { jobs ≤ 64 }
-    ensures { 0 < jobs → 0 < result }
-{
-    if jobs == 1 {
-        ALONE
-    } else {
-        SHARE * jobs as usize
-    }
-}
-
-// Takes procedures through the passes up to their pieces, batch by batch.
+// The pieces of flows, each of which is a task that workers share.
 fn plan_all<G: Gate, R: Threads + Wait + Sync>(
     rt: &R,
     alloc: Global,
     choice: &Choice,
-    procedures: Items<Proc>,
+    flows: Vec<Flow>,
     gate: &G,
 ) -> Result<Planned, ImageFault>
-    requires ready { All IsReady procedures }
     requires choice { IsFitChoice choice.now }
-    ensures planned { IfOk result (IsPlanned choice.now procedures) }
-    ensures traces { IfErr result (λ fault. fault ≡ Traces → 262144 < traces_in choice.now.builder (map selected procedures)) }
+    requires few { length flows.items ≤ 262144 }
+    requires valid { All IsValidFlow flows.items }
+    ensures planned { IfOk result (IsPlanned choice.now flows.items) }
+    ensures traces { IfErr result (λ fault. fault ≡ Traces → 262144 < traces_in choice.now.builder flows.items) }
     ensures code { IfErr result (λ fault. fault ≡ Code → ⊥) }
     ensures misfit { IfErr result (λ fault. fault ≡ Misfit → ⊥) }
 {
-    let count = procedures.len();
-    let most = batch(choice.jobs);
-    let mut rest = procedures.into_vec().into_iter();
+    let work = FlowWork {
+        choice: *choice,
+        flows: flows.as_slice(),
+    };
+    let outcomes = final_results(rt, alloc, &work, gate, choice.jobs)?;
+    gather(rt, alloc, choice, flows.as_slice(), outcomes, gate)
+}
+
+// The pieces of flows, from what their tasks gave.
+fn gather<G: Gate, R: Threads + Wait + Sync>(
+    rt: &R,
+    alloc: Global,
+    choice: &Choice,
+    flows: &[Flow],
+    outcomes: Vec<Outcome>,
+    gate: &G,
+) -> Result<Planned, ImageFault>
+    requires choice { IsFitChoice choice.now }
+    requires valid { All IsValidFlow flows.now }
+    requires outcomes { AreOutcomes choice.now flows.now outcomes.items }
+    ensures planned { IfOk result (IsPlanned choice.now flows.now) }
+    ensures traces { IfErr result (λ fault. fault ≡ Traces → 262144 < traces_in choice.now.builder flows.now) }
+    ensures code { IfErr result (λ fault. fault ≡ Code → ⊥) }
+    ensures misfit { IfErr result (λ fault. fault ≡ Misfit → ⊥) }
+{
     let mut planned = Planned {
-        pieces: Vec::with_capacity(alloc, count)?,
+        pieces: Vec::with_capacity(alloc, flows.len())?,
         traces: 0,
         fit: true,
         room: true,
     };
-    for _ in 0..count {
-        let flows = select_next(alloc, &mut rest, most)?;
-        if flows.is_empty() {
-            return Ok(planned);
-        }
-        plan_more(rt, alloc, choice, &mut planned, flows.as_slice(), gate)?;
+    let mut number = 0;
+    for outcome in outcomes {
+        plan_next(
+            rt,
+            alloc,
+            choice,
+            &mut planned,
+            &flows[number],
+            outcome,
+            gate,
+        )?;
+        number += 1;
     }
     Ok(planned)
 }
 
-// Adds the pieces of flows, where all before them fit instructions, and their traces.
+// Adds the piece of the next flow and its traces, from what its task gave.
+fn plan_next<G: Gate, R: Threads + Wait + Sync>(
+    rt: &R,
+    alloc: Global,
+    choice: &Choice,
+    planned: &mut Planned,
+    flow: &Flow,
+    outcome: Outcome,
+    gate: &G,
+) -> Result<(), ImageFault>
+    requires choice { IsFitChoice choice.now }
+    requires few { planned.old.traces ≤ 262144 }
+    requires valid { IsValidFlow flow.now }
+    requires outcome { IsOutcome choice.now flow.now outcome }
+    ensures more { OnOk result (AreMore choice.now (flow.now ∷ []) planned.old planned.new) }
+    ensures traces { IfErr result (λ fault. fault ≡ Traces → 262144 < planned.old.traces + traces_in choice.now.builder (flow.now ∷ [])) }
+    ensures code { IfErr result (λ fault. fault ≡ Code → ⊥) }
+    ensures misfit { IfErr result (λ fault. fault ≡ Misfit → ⊥) }
+{
+    match outcome {
+        Outcome::Made(made) => put(planned, made),
+        Outcome::Traces => Err(ImageFault::Traces),
+        Outcome::Large => plan_more(rt, alloc, choice, planned, slice::from_ref(flow), gate),
+    }
+}
+
+// Adds the piece of a flow that is made and its traces.
+fn put(planned: &mut Planned, made: MadeFlow) -> Result<(), ImageFault>
+    requires few { planned.old.traces ≤ 262144 }
+    ensures more { (choice : Choice) (flow : Flow) → IsMade choice flow made → OnOk result (AreMore choice (flow ∷ []) planned.old planned.new) }
+    ensures traces { IfErr result (λ fault. fault ≡ Traces → 262144 < planned.old.traces + made.traces) }
+    ensures code { IfErr result (λ fault. fault ≡ Code → ⊥) }
+    ensures misfit { IfErr result (λ fault. fault ≡ Misfit → ⊥) }
+{
+    let MadeFlow { traces, words } = made;
+    planned.traces = sum_of(planned.traces, traces)?;
+    match words {
+        FlowWords::Piece(piece) => planned.pieces.push(piece)?,
+        FlowWords::Misfit => planned.fit = false,
+        FlowWords::Limit => planned.room = false,
+    }
+    Ok(())
+}
+
+// So many traces and so many more, where an image's code may be made of these.
+fn sum_of(traces: u32, more: u32) -> Result<u32, ImageFault>
+    requires few { traces ≤ 262144 }
+    ensures sum { IfOk result (λ sum. sum ≡ traces + more) }
+    ensures few { IfOk result (λ sum. sum ≤ 262144) }
+    ensures traces { IfErr result (λ fault. fault ≡ Traces → 262144 < traces + more) }
+    ensures code { IfErr result (λ fault. fault ≡ Code → ⊥) }
+    ensures misfit { IfErr result (λ fault. fault ≡ Misfit → ⊥) }
+{
+    if more > MOST_TRACES - traces {
+        Err(ImageFault::Traces)
+    } else {
+        Ok(traces + more)
+    }
+}
+
+// Adds the pieces of flows whose traces workers share, where all before them fit instructions, and their traces.
 fn plan_more<G: Gate, R: Threads + Wait + Sync>(
     rt: &R,
     alloc: Global,
@@ -183,30 +262,6 @@ fn plan_more<G: Gate, R: Threads + Wait + Sync>(
     Ok(())
 }
 
-// The flows of the next procedures, at most so many, each selected and let go.
-fn select_next(
-    alloc: Global,
-    rest: &mut IntoIter<Proc>,
-    most: usize,
-) -> Result<Vec<Flow>, ImageFault>
-    requires { All IsReady (into_iter_items rest.old) }
-    ensures flows { IfOk result (λ flows. flows.items ≡ map selected (take most (into_iter_items rest.old))) }
-    ensures left { OnOk result (into_iter_items rest.new ≡ drop most (into_iter_items rest.old)) }
-    ensures numbers { IfOk result (λ flows. All (λ f. node_numbers f.nodes ≡ true) flows.items) }
-    ensures memory { IfErr result (λ fault. fault ≡ OutOfMemory) }
-{
-    let mut flows = Vec::new(alloc);
-    for _ in 0..most {
-        let Some(procedure) = rest.next() else {
-            return Ok(flows);
-        };
-        let flow = select(alloc, procedure)?;
-        read_nodes(flow.nodes.as_slice());
-        flows.push(flow)?;
-    }
-    Ok(flows)
-}
-
 /// The flows of procedures, each selected and let go.
 pub fn select_all(alloc: Global, procedures: Items<Proc>) -> Result<Vec<Flow>, ImageFault>
     requires { All IsReady procedures }
@@ -214,7 +269,11 @@ pub fn select_all(alloc: Global, procedures: Items<Proc>) -> Result<Vec<Flow>, I
     ensures numbers { IfOk result (λ flows. All (λ f. node_numbers f.nodes ≡ true) flows.items) }
     ensures memory { IfErr result (λ fault. fault ≡ OutOfMemory) }
 {
-    let count = procedures.len();
-    let mut rest = procedures.into_vec().into_iter();
-    select_next(alloc, &mut rest, count)
+    let mut flows = Vec::with_capacity(alloc, procedures.len())?;
+    for procedure in procedures.into_vec() {
+        let flow = select(alloc, procedure)?;
+        read_nodes(flow.nodes.as_slice());
+        flows.push(flow)?;
+    }
+    Ok(flows)
 }

@@ -5,11 +5,14 @@
 
 mod fault;
 mod imaging;
+mod making;
 mod numbers;
+mod work;
 
 pub use fault::ImageFault;
 pub use flow_allocation::{Builder, Choice, Flow, Policy};
 pub use image_form::Image;
 pub use imaging::{LinkedProcedures, image_of, select_all};
 pub use link_plan::{ImageData, ProcName};
+pub use making::{FlowWords, MadeFlow, make_flow};
 pub use ssa_core::Proc;

@@ -1,16 +1,15 @@
-use Rattle.std.proofs.Common.{◌≡◌, List, map, take, sym, ap, ◌∙◌, subst, arith}
-use Rattle.std.specs.Prelude.{All, IfOk}
-use Rattle.std.proofs.lemmas.List.{take_all}
-use Rattle.ssa_core.specs.declared.procedure.Proc.{Proc}
-use Rattle.a64_select.specs.Selected.{selected}
-use Rattle.back_end.specs.Images.{IsReady}
+use Rattle.std.proofs.Common.{sym, ap, ◌∙◌}
+use Rattle.back_end.specs.Numbers.{node_numbers}
+use Rattle.back_end.proofs.Planning.{all_selected, first_ready, none_selected, one_selected}
 use Rattle.back_end.proofs.imaging.select_all.Goals as goal
 
-pub select_next-requires : goal.select_next-requires
-select_next-requires c = subst (All IsReady) (sym (c.into_iter-rest.ensures.rest ∙ c.into_vec.ensures)) c.requires
+pub loop-procedure-init : goal.loop-procedure-init
+loop-procedure-init c = none_selected c.in_ok-flows.flows.items _ c.args.procedures c.requires (c.into_iter-procedure-iterator.ensures.into_iter_gives.0 ∙ c.into_vec-procedure-items.ensures) c.in_ok-flows.ensures.items
 
-pub returns-clause-flows : goal.returns-clause-flows
-returns-clause-flows c =
-    subst (λ (ps : List Proc). IfOk c.select_next.result (λ flows. flows.items ≡ map selected ps))
-    (ap (take c.len-count.result) (c.into_iter-rest.ensures.rest ∙ c.into_vec.ensures) ∙ take_all c.len-count.result c.args.procedures (omega (arith, c.len-count.ensures)))
-    c.select_next.ensures.flows
+pub select-requires : goal.select-requires
+select-requires c = (first_ready c.loop-procedure.flows.items _ c.args.procedures c.next.new.self.rest.items c.in-Some.procedure c.loop-procedure.invariant c.in-Some.ensures.steps.0).valid
+
+pub loop-procedure-preserved : goal.loop-procedure-preserved
+loop-procedure-preserved c =
+    one_selected c.loop-procedure.flows.items _ c.args.procedures c.next.new.self.rest.items c.in-Some.procedure c.loop-procedure.invariant c.in-Some.ensures.steps.0 c.push.new.self.items c.in_ok-flow.flow
+    c.in_ok-flow.ensures.selected (ap node_numbers (sym c.as_slice.ensures) ∙ c.read_nodes.ensures) c.in_ok-push.ensures.items
