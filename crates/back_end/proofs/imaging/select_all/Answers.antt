@@ -1,6 +1,6 @@
 use Rattle.std.proofs.Common.{sym, ap, ◌∙◌}
 use Rattle.back_end.specs.Numbers.{node_numbers}
-use Rattle.back_end.proofs.Planning.{all_selected, first_ready, none_selected, one_selected}
+use Rattle.back_end.proofs.Planning.{first_ready, none_selected, one_selected}
 use Rattle.back_end.proofs.imaging.select_all.Goals as goal
 
 pub loop-procedure-init : goal.loop-procedure-init

@@ -1,4 +1,4 @@
-use Rattle.std.proofs.Common.{◌≡◌, sym, subst}
+use Rattle.std.proofs.Common.{sym, subst}
 use Rattle.link_blocks.specs.Laid.{IsCutOf}
 use Rattle.back_end.proofs.Outcomes.{is_made}
 use Rattle.back_end.proofs.making.make_flow.Goals as goal
