@@ -4,7 +4,7 @@ use Rattle.std.specs.Prelude.{slice_get}
 use Rattle.std.specs.List.{AllZip}
 use Rattle.std.proofs.lemmas.List.Sums.{sum_by-cons}
 use Rattle.outside.specs.Files.{Held}
-use Rattle.alloc_choice.specs.declared.choice.Choice.{Choice}
+use Rattle.trc_texts.specs.words.alloc_choice.declared.choice.Choice.{Choice}
 use Rattle.trc_answers.specs.Verdict.{Verdict, Refuses, Prints}
 use Rattle.trc_answers.specs.declared.causes.Cause.TheVariants.{BadLine}
 use Rattle.batch_list.specs.Form.{ListLine}

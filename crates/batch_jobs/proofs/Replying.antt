@@ -2,15 +2,15 @@
 use Rattle.std.proofs.Common.{◌≡◌, ◌<◌, ℕ, List, [], true, false, inl, inr, ◌⊎◌, refl, ap, ◌∙◌, arith}
 use Rattle.run_laws.specs.Runs.{output}
 use Rattle.image_form.specs.Form.{IsInForm}
-use Rattle.alloc_choice.specs.declared.choice.Choice.{Choice}
-use Rattle.program_image.specs.declared.imaging.Compiled.{Compiled}
-use Rattle.source_image.specs.Images.{IsImageOfTexts}
+use Rattle.trc_texts.specs.words.alloc_choice.declared.choice.Choice.{Choice}
+use Rattle.trc_texts.specs.words.program_image.declared.imaging.Compiled.{Compiled}
+use Rattle.trc_texts.specs.words.source_image.Images.{IsImageOfTexts}
 use Rattle.trc_answers.specs.Causes.{status_of}
 use Rattle.trc_answers.specs.Runs.{cause_of_run, run_of}
 use Rattle.trc_answers.specs.Verdict.{Refuses, Runs, RunsAlone, RunsOnInput}
 use Rattle.trc_answers.specs.declared.causes.Cause.{Cause}
 use Rattle.trc_answers.specs.declared.causes.Cause.TheVariants.{Memory}
-use Rattle.source_image.specs.Refusals.{IsRefusal}
+use Rattle.trc_texts.specs.words.source_image.Refusals.{IsRefusal}
 use Rattle.a64_memory.specs.Memory.{AreBytes}
 use Rattle.trc_texts.specs.Texts.{IsRefusedAs, HaveNoImage, HaveImage, cause_of_refusal}
 use Rattle.batch_jobs.specs.Jobs.{Reply, IsRunReply, cut_reply}

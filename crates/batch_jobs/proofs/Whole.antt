@@ -4,7 +4,7 @@ use Rattle.std.specs.List.{AllZip}
 use Rattle.outside.specs.Files.{Held, ToldOfRead}
 use Rattle.outside.specs.declared.files.GetFault.TheVariants as get
 use Rattle.outside.specs.Sink.{Account}
-use Rattle.alloc_choice.specs.declared.choice.Choice.{Choice}
+use Rattle.trc_texts.specs.words.alloc_choice.declared.choice.Choice.{Choice}
 use Rattle.trc_answers.specs.Verdict.{Refuses, Prints}
 use Rattle.trc_answers.specs.Answers.{Devices, devices, Answers, PrintAnswers}
 use Rattle.trc_answers.proofs.Answering.{refuses, lacks, files_failed, mapped, later, prints, held_bytes, long_bytes}

@@ -2,7 +2,7 @@
 use Rattle.std.specs.Prelude.{◌≡◌, ◌≤◌, ◌<◌, ℕ, List, ◌++◌, length, Option, Some, None}
 use Rattle.std.specs.List.{AllZip}
 use Rattle.outside.specs.Files.{Held}
-use Rattle.alloc_choice.specs.declared.choice.Choice.{Choice}
+use Rattle.trc_texts.specs.words.alloc_choice.declared.choice.Choice.{Choice}
 use Rattle.trc_answers.specs.Verdict.{Verdict, Refuses, Prints, IsHeld}
 use Rattle.trc_answers.specs.declared.causes.Cause.TheVariants.{BadLine, Limit, NoSuchFile}
 use Rattle.batch_list.specs.Form.{ListLine, AreLines, IsFirstBad}

@@ -1,6 +1,6 @@
 -- What is replied to a job.
 use Rattle.std.specs.Prelude.{◌≡◌, ℕ, List, [], length, take, nat_le, if◌then◌else◌, Some}
-use Rattle.alloc_choice.specs.declared.choice.Choice.{Choice}
+use Rattle.trc_texts.specs.words.alloc_choice.declared.choice.Choice.{Choice}
 use Rattle.trc_answers.specs.Causes.{status_of}
 use Rattle.trc_answers.specs.Verdict.{Verdict, ImageComesTo, cause_of, written_by}
 use Rattle.trc_texts.specs.Texts.{TextsComeTo}

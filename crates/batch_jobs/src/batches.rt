@@ -1,7 +1,7 @@
 //! A batch.
 
 ghost use Rattle.std.specs.Prelude.{◌≡◌, ◌≤◌, ◌+◌, ℕ, List, Option, length, map};
-ghost use Rattle.alloc_choice.specs.Choice.{IsFitChoice};
+ghost use Rattle.trc_texts.specs.words.alloc_choice.Choice.{IsFitChoice};
 ghost use Rattle.outside.specs.Files.{Held};
 ghost use Rattle.trc_answers.specs.Answers.{Answers, devices};
 ghost use Rattle.trc_answers.specs.Causes.{IsPlain};
@@ -15,11 +15,11 @@ use crate::sources::{BothJobs, read_jobs};
 use batch_list::{JobLine, ListFault, read_list};
 use batch_serve::serve;
 use outside::{Files, Gate, GetFault, Memory, Sink};
-use source_image::Choice;
 use std::alloc::{AllocError, AllocGlobal};
 use std::sync::Wait;
 use std::thread::Threads;
 use trc_answers::{Cause, Device, print};
+use trc_texts::image_words::Choice;
 
 /// The most bytes that a list may have.
 const MOST_LIST_BYTES: usize = 1_048_576;

@@ -16,3 +16,4 @@ pub use batches::batch;
 pub use jobs::{Job, JobReply, JobTexts};
 pub use running::JobRunner;
 pub use sources::{BothJobs, read_jobs};
+pub use trc_texts::image_words;

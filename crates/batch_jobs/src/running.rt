@@ -2,7 +2,7 @@
 
 ghost use Rattle.std.specs.Prelude.{◌≡◌, ◌≤◌, [], length, IfOk};
 ghost use Rattle.run_laws.specs.Runs.{output};
-ghost use Rattle.alloc_choice.specs.Choice.{IsFitChoice};
+ghost use Rattle.trc_texts.specs.words.alloc_choice.Choice.{IsFitChoice};
 ghost use Rattle.image_form.specs.Form.{IsInForm};
 ghost use Rattle.trc_answers.specs.Causes.{status_of};
 ghost use Rattle.trc_answers.specs.Runs.{cause_of_run, run_of};
@@ -14,11 +14,11 @@ use batch_serve::Runner;
 use image_form::Image;
 use items::Items;
 use outside::{Memory, OpenGate};
-use source_image::Choice;
 use std::alloc::Global;
 use std::sync::Wait;
 use std::thread::Threads;
 use trc_answers::{Cause, run_on, status};
+use trc_texts::image_words::Choice;
 use trc_texts::{Scaffolds, compile, image_alone};
 
 /// The status of a job whose run writes more than a reply has.

@@ -1,11 +1,11 @@
 //! Whole batches over devices in memory: what lists come to, and jobs of every kind with real threads.
 
+use batch_jobs::image_words::{Builder, Choice, Policy};
 use batch_jobs::{JobReply, JobRunner, batch, read_jobs};
 use batch_list::read_list;
 use batch_serve::serve;
 use memory_devices::{MeetGate, MemFiles, MemSink};
 use outside::{Files, Gate, OpenGate};
-use source_image::{Builder, Choice, Policy};
 use std::alloc::{AllocGlobal, Global};
 use std::process::Abort;
 use std::sync::Wait;

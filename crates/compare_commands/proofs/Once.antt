@@ -7,20 +7,20 @@ use Rattle.ob_types.specs.WellFormed.{well_formed}
 use Rattle.ob_types.specs.declared.program.Program.{Program}
 use Rattle.ssa_lowered.specs.Limits.{Limit, limit_of}
 use Rattle.linked_flows.specs.Allocations.{Cut}
-use Rattle.alloc_choice.specs.declared.choice.Choice.{Choice}
+use Rattle.program_figures.specs.words.alloc_choice.declared.choice.Choice.{Choice}
 use Rattle.one_lowering.specs.Forms.{HaveOneLowering}
-use Rattle.text_laws.proofs.one_refusal.Passed.{first_once, first_apart}
-use Rattle.text_laws.proofs.one_refusal.Refused.{excluded, refused_once}
-use Rattle.program_image.specs.Images.{IsProgramImage}
-use Rattle.planned_image.specs.Plans.{TellsOfLowering}
-use Rattle.source_program.specs.Texts.{IsProgramOfTexts, IsSourceFault}
-use Rattle.source_program.specs.declared.fault.SourceFault.{SourceFault}
-use Rattle.source_program.specs.declared.fault.SourceFault.TheVariants as source
-use Rattle.source_image.specs.Refusals.{IsRefusalOf}
-use Rattle.source_image.specs.declared.refusal.Refusal.{Refusal}
-use Rattle.source_image.specs.declared.refusal.Refusal.TheVariants.{Memory}
+use Rattle.program_figures.proofs.words.text_laws.one_refusal.Passed.{first_once, first_apart}
+use Rattle.program_figures.proofs.words.text_laws.one_refusal.Refused.{excluded, refused_once}
+use Rattle.program_figures.specs.words.program_image.Images.{IsProgramImage}
+use Rattle.program_figures.specs.planned_image.Plans.{TellsOfLowering}
+use Rattle.program_figures.specs.words.source_program.Texts.{IsProgramOfTexts, IsSourceFault}
+use Rattle.program_figures.specs.words.source_program.declared.fault.SourceFault.{SourceFault}
+use Rattle.program_figures.specs.words.source_program.declared.fault.SourceFault.TheVariants as source
+use Rattle.program_figures.specs.words.source_image.Refusals.{IsRefusalOf}
+use Rattle.program_figures.specs.words.source_image.declared.refusal.Refusal.{Refusal}
+use Rattle.program_figures.specs.words.source_image.declared.refusal.Refusal.TheVariants.{Memory}
 use Rattle.trc_answers.specs.Verdict.{Verdict, Refuses}
-use Rattle.trc_texts.specs.Texts.{cause_of_refusal}
+use Rattle.meaning_commands.specs.trc_texts.Texts.{cause_of_refusal}
 use Rattle.meaning_commands.specs.Programs.{AreProgram}
 use Rattle.meaning_commands.proofs.Once.{input_once}
 use Rattle.program_figures.specs.Images.{figures_of}

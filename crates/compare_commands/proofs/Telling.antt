@@ -4,7 +4,7 @@ use Rattle.std.specs.Prelude.{All}
 use Rattle.outside.specs.Files.{Held}
 use Rattle.outside.specs.Sink.{Account}
 use Rattle.ob_types.specs.declared.program.Program.{Program}
-use Rattle.alloc_choice.specs.declared.choice.Choice.{Choice}
+use Rattle.program_figures.specs.words.alloc_choice.declared.choice.Choice.{Choice}
 use Rattle.trc_answers.specs.Verdict.{Verdict, Tells}
 use Rattle.trc_answers.specs.Answers.{devices, Answers, AsItComes, FailsPrinting, LacksMemory, Printed, PrintedAFront}
 use Rattle.trc_answers.specs.declared.causes.Cause.{Cause}

@@ -2,9 +2,9 @@
 use Rattle.std.specs.Prelude.{ℕ, List, [], ◌∷◌, ◌++◌, map}
 use Rattle.trace_build.specs.declared.builder.Builder.{Builder}
 use Rattle.trace_build.specs.declared.builder.Builder.TheVariants.{Bi, Uni}
-use Rattle.alloc_choice.specs.declared.choice.Choice.{Choice}
-use Rattle.alloc_choice.specs.declared.choice.Policy.{Policy}
-use Rattle.alloc_choice.specs.declared.choice.Policy.TheVariants.{Plain, Linear, BottomUp, Mixed}
+use Rattle.program_figures.specs.words.alloc_choice.declared.choice.Choice.{Choice}
+use Rattle.program_figures.specs.words.alloc_choice.declared.choice.Policy.{Policy}
+use Rattle.program_figures.specs.words.alloc_choice.declared.choice.Policy.TheVariants.{Plain, Linear, BottomUp, Mixed}
 
 -- the policies, and those that choose registers
 abbrev pub policies : List Policy

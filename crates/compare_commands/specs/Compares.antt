@@ -2,10 +2,10 @@
 use Rattle.std.specs.Prelude.{◌≡◌, ℕ, List, Bool, Option, None}
 use Rattle.ob_types.specs.declared.program.Program.{Program}
 use Rattle.ssa_lowered.specs.Limits.{limit_of}
-use Rattle.source_image.specs.Refusals.{IsRefusalOf}
-use Rattle.planned_image.specs.Plans.{TellsOfLowering}
+use Rattle.program_figures.specs.words.source_image.Refusals.{IsRefusalOf}
+use Rattle.program_figures.specs.planned_image.Plans.{TellsOfLowering}
 use Rattle.trc_answers.specs.Verdict.{Verdict, Tells}
-use Rattle.trc_texts.specs.Texts.{AreRefused}
+use Rattle.meaning_commands.specs.trc_texts.Texts.{AreRefused}
 use Rattle.meaning_commands.specs.Inputs.{InputComesTo}
 use Rattle.meaning_commands.specs.Programs.{AreProgram}
 use Rattle.compare_commands.specs.Rows.{AreRows}

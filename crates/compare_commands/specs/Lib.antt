@@ -3,3 +3,4 @@ pub mod Rows
 pub mod Lines
 pub mod Tables
 pub mod Compares
+pub use Rattle.meaning_commands.specs as meaning_commands

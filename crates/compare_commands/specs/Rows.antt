@@ -2,8 +2,8 @@
 use Rattle.std.specs.Prelude.{◌≡◌, ℕ, List, map, All}
 use Rattle.image_form.specs.Form.{IsInForm}
 use Rattle.ob_types.specs.declared.program.Program.{Program}
-use Rattle.alloc_choice.specs.declared.choice.Choice.{Choice}
-use Rattle.program_image.specs.Limits.{IsPassedFirst}
+use Rattle.program_figures.specs.words.alloc_choice.declared.choice.Choice.{Choice}
+use Rattle.program_figures.specs.words.program_image.Limits.{IsPassedFirst}
 use Rattle.program_figures.specs.Images.{IsFiguredImage}
 use Rattle.compare_commands.specs.Choices.{choices}
 use Rattle.compare_commands.specs.declared.rows.Row.{Row}

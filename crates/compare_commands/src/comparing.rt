@@ -5,7 +5,7 @@ ghost use Rattle.outside.specs.Files.{Held};
 ghost use Rattle.trc_answers.specs.Answers.{Answers, devices};
 ghost use Rattle.trc_answers.specs.Causes.{IsPlaced, IsPlain};
 ghost use Rattle.trc_answers.specs.Reading.{FilesComeTo};
-ghost use Rattle.trc_texts.specs.Texts.{IsTextHeld, IsTextIn};
+ghost use Rattle.meaning_commands.specs.trc_texts.Texts.{IsTextHeld, IsTextIn};
 ghost use Rattle.meaning_commands.specs.Comparisons.{TellAnswers};
 ghost use Rattle.compare_commands.specs.Compares.{ComparesComeTo, TableComesTo};
 ghost use Rattle.compare_commands.specs.Rows.{IsFormed};
@@ -14,15 +14,14 @@ ghost use Rattle.compare_commands.specs.Tables.{table_lines};
 use crate::rows::{Row, rows_of};
 use crate::tables::table_of;
 use items::Items;
-use meaning_commands::{program_of, read_input};
+use meaning_commands::{program_of, read_input, refused};
 use outside::{Files, Gate, Memory, Sink, Source};
-use planned_image::program_flows;
-use source_image::refused_program;
+use program_figures::image_words::refused_program;
+use program_figures::program_flows;
 use std::alloc::{AllocGlobal, Global};
 use std::sync::Wait;
 use std::thread::Threads;
 use trc_answers::{Cause, Ending, print, read_texts};
-use trc_texts::refused;
 
 // Tells the table of some rows.
 fn tell_on<O: Sink>(alloc: Global, rows: Vec<Row>, input: &[u8], steps: u64, out: &mut O) -> Cause

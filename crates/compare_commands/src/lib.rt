@@ -14,3 +14,4 @@ mod tables;
 
 pub use comparing::compare;
 pub use laws::compares_come_to_one;
+pub use meaning_commands::{both, both_agree, comparisons_come_to_one, mean, meanings_come_to_one};

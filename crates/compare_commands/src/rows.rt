@@ -3,8 +3,8 @@
 ghost use Rattle.std.specs.Prelude.{◌≡◌, ◌≤◌, true, IfOk};
 ghost use Rattle.ob_types.specs.WellFormed.{well_formed};
 ghost use Rattle.ob_types.specs.declared.program.Program.{Program};
-ghost use Rattle.alloc_choice.specs.Choice.{IsFitChoice};
-ghost use Rattle.planned_image.specs.Plans.{AreProgramFlows};
+ghost use Rattle.program_figures.specs.words.alloc_choice.Choice.{IsFitChoice};
+ghost use Rattle.program_figures.specs.planned_image.Plans.{AreProgramFlows};
 ghost use Rattle.compare_commands.specs.Rows.{AreRows, IsRow};
 
 use crate::choices::choices;

@@ -6,41 +6,41 @@ use Rattle.image_form.specs.declared.image.Image.{Image}
 use Rattle.ob_types.specs.WellFormed.{well_formed}
 use Rattle.ob_types.specs.declared.program.Program.{Program}
 use Rattle.trace_build.specs.Traces.{traces_in}
-use Rattle.alloc_choice.specs.declared.choice.Choice.{Choice}
+use Rattle.object_commands.specs.words.alloc_choice.declared.choice.Choice.{Choice}
 use Rattle.alloc_audit.specs.declared.verdict.Verdict.TheVariants as finding
 use Rattle.alloc_audit.specs.Results.{AreLive}
 use Rattle.alloc_audit.proofs.Living.{lives_are_said}
-use Rattle.back_end.specs.Images.{code_length}
-use Rattle.compiled_runs.specs.Compiled.{flows_of}
-use Rattle.placed_image.specs.Shares.{cuts_of}
-use Rattle.program_image.specs.Faults.{TellsOfTraces}
-use Rattle.program_image.specs.Limits.{most_traces}
-use Rattle.program_image.proofs.Telling.{few_traces}
-use Rattle.program_image.specs.declared.imaging.Compiled.{Compiled}
-use Rattle.source_program.specs.Texts.{IsProgramOfTexts, IsSourceFault}
-use Rattle.source_program.specs.declared.fault.SourceFault.{SourceFault}
-use Rattle.source_program.specs.declared.fault.SourceFault.TheVariants as source
-use Rattle.source_image.specs.Images.{IsImageOfTexts}
-use Rattle.source_image.specs.Refusals.{IsRefusalOf}
-use Rattle.source_image.specs.declared.refusal.Refusal.{Refusal}
-use Rattle.source_image.specs.declared.refusal.Refusal.TheVariants.{Memory}
-use Rattle.planned_image.specs.Plans.{IsPlanOfTexts, TellsOfPlan}
-use Rattle.planned_image.specs.Audits.{IsImageOfResults, verdict_on}
-use Rattle.planned_image.specs.declared.planning.ProgramPlan.{ProgramPlan}
-use Rattle.planned_image.proofs.Placed.{valid_flows}
+use Rattle.object_commands.specs.words.back_end.Images.{code_length}
+use Rattle.object_commands.specs.words.compiled_runs.Compiled.{flows_of}
+use Rattle.object_commands.specs.placed_image.Shares.{cuts_of}
+use Rattle.object_commands.specs.words.program_image.Faults.{TellsOfTraces}
+use Rattle.object_commands.specs.words.program_image.Limits.{most_traces}
+use Rattle.object_commands.proofs.words.program_image.Telling.{few_traces}
+use Rattle.object_commands.specs.words.program_image.declared.imaging.Compiled.{Compiled}
+use Rattle.object_commands.specs.words.source_program.Texts.{IsProgramOfTexts, IsSourceFault}
+use Rattle.object_commands.specs.words.source_program.declared.fault.SourceFault.{SourceFault}
+use Rattle.object_commands.specs.words.source_program.declared.fault.SourceFault.TheVariants as source
+use Rattle.object_commands.specs.words.source_image.Images.{IsImageOfTexts}
+use Rattle.object_commands.specs.words.source_image.Refusals.{IsRefusalOf}
+use Rattle.object_commands.specs.words.source_image.declared.refusal.Refusal.{Refusal}
+use Rattle.object_commands.specs.words.source_image.declared.refusal.Refusal.TheVariants.{Memory}
+use Rattle.object_commands.specs.planned_image.Plans.{IsPlanOfTexts, TellsOfPlan}
+use Rattle.object_commands.specs.planned_image.Audits.{IsImageOfResults, verdict_on}
+use Rattle.object_commands.specs.planned_image.declared.planning.ProgramPlan.{ProgramPlan}
+use Rattle.object_commands.proofs.planned_image.Placed.{valid_flows}
 use Rattle.one_lowering.specs.Forms.{HaveOneLowering}
-use Rattle.text_laws.proofs.one_refusal.Passed.{early_apart}
-use Rattle.text_laws.proofs.one_refusal.Refused.{excluded}
-use Rattle.note_laws.proofs.Own.{plainly, as_traces}
+use Rattle.object_commands.proofs.words.text_laws.one_refusal.Passed.{early_apart}
+use Rattle.object_commands.proofs.words.text_laws.one_refusal.Refused.{excluded}
+use Rattle.object_commands.proofs.note_laws.Own.{plainly, as_traces}
 use Rattle.object_form.specs.declared.object.Object.{Object}
 use Rattle.obj_link.specs.Joining.{other_choice, results_of, texts_of}
 use Rattle.trc_answers.specs.Verdict.{Verdict, Written}
 use Rattle.trc_answers.specs.Reading.{most_modules}
-use Rattle.note_commands.specs.Audits.{AuditedComeTo, AreUnsound, MakeMuchCode, MakeAnImage}
-use Rattle.note_commands.proofs.Once.{not_sound}
+use Rattle.object_commands.specs.note_commands.Audits.{AuditedComeTo, AreUnsound, MakeMuchCode, MakeAnImage}
+use Rattle.object_commands.proofs.note_commands.Once.{not_sound}
 use Rattle.object_commands.specs.Links.{AreHeld, AreObjectsIn, ContentsComeTo, HaveNoObject, HaveObjects, JoinedComeTo, HaveNoPlan, HavePlan, LinkComesTo, AreTooMany, LacksOne, HaveContents, ObjectsComeTo, HasOther, AreOfOne}
 use Rattle.object_commands.proofs.Once.{held_same, held_at, object_at, objects_same, no_rule}
-use Rattle.object_laws.specs.Objects.{AreObjectsOfTexts}
+use Rattle.object_commands.specs.object_laws.Objects.{AreObjectsOfTexts}
 use Rattle.link_laws.proofs.Objects.{objects_texts, by_choice, objects_choice}
 
 none_some : (o : Option ℕ) (n : ℕ) → o ≡ None → o ≡ Some n → ⊥

@@ -2,12 +2,12 @@
 use Rattle.std.proofs.Common.{◌≡◌, ℕ, zero, suc, List, [], ◌∷◌, length, take, true, ◌&&◌, Some, None, refl, sym, ap, ap₂, ◌∙◌, eq-eqb, arith}
 use Rattle.std.specs.Prelude.{slice_get, ◌==◌, if◌then◌else◌}
 use Rattle.ob_types.proofs.Tests.{and_from, some_same}
-use Rattle.alloc_choice.specs.declared.choice.Choice.{Choice}
+use Rattle.object_commands.specs.words.alloc_choice.declared.choice.Choice.{Choice}
 use Rattle.object_form.specs.declared.object.Object.{Object}
 use Rattle.object_form.specs.Objects.{policy_number, builder_number}
 use Rattle.obj_link.specs.Joining.{is_of_choice, first_other, other_choice, texts_of}
-use Rattle.module_object.specs.Objects.{last_text}
-use Rattle.object_laws.specs.Objects.{AreObjectsOfTexts}
+use Rattle.object_commands.specs.module_object.Objects.{last_text}
+use Rattle.object_commands.specs.object_laws.Objects.{AreObjectsOfTexts}
 
 ---- Texts
 

@@ -2,17 +2,17 @@
 
 ghost use Rattle.std.specs.Prelude.{◌≡◌, ◌≤◌, ℕ, List, Some, length};
 ghost use Rattle.outside.specs.Files.{Held};
-ghost use Rattle.alloc_choice.specs.declared.choice.Choice.{Choice};
-ghost use Rattle.program_image.specs.declared.imaging.Compiled.{Compiled};
-ghost use Rattle.source_image.specs.Images.{IsImageOfTexts};
+ghost use Rattle.object_commands.specs.words.alloc_choice.declared.choice.Choice.{Choice};
+ghost use Rattle.object_commands.specs.words.program_image.declared.imaging.Compiled.{Compiled};
+ghost use Rattle.object_commands.specs.words.source_image.Images.{IsImageOfTexts};
 ghost use Rattle.object_form.specs.declared.object.Object.{Object};
-ghost use Rattle.object_laws.specs.Objects.{AreObjectsOfTexts};
+ghost use Rattle.object_commands.specs.object_laws.Objects.{AreObjectsOfTexts};
 ghost use Rattle.trc_answers.specs.Reading.{most_modules};
 ghost use Rattle.trc_answers.specs.Verdict.{Verdict, Written};
 ghost use Rattle.object_commands.specs.Links.{AreHeld, AreObjectsIn, LinkComesTo};
 
-use object_laws::objects_link_as_built;
-use text_laws::{texts_have_one_first_fault, texts_have_one_lowering};
+use object_commands::image_words::{texts_have_one_first_fault, texts_have_one_lowering};
+use object_commands::objects_link_as_built;
 
 /// Where files hold the bytes of the objects of texts, in the order of the texts, and the texts have an image by the same policy, builder
 /// and number of registers, linking these files comes to that image and to nothing else. This follows from the laws below, which are

@@ -11,9 +11,9 @@ use Rattle.ob_types.specs.Meaning.{meaning}
 use Rattle.ob_types.specs.declared.program.Program.{Program}
 use Rattle.linked_flows.specs.Allocations.{Cut}
 use Rattle.placed_code.specs.Placed.{Placed}
-use Rattle.compiled_runs.specs.Compiled.{Means, placed_of, same_break}
-use Rattle.alloc_choice.specs.declared.choice.Choice.{Choice}
-use Rattle.text_laws.proofs.no_faults.Never.{are_input}
+use Rattle.trc_texts.specs.words.compiled_runs.Compiled.{Means, placed_of, same_break}
+use Rattle.trc_texts.specs.words.alloc_choice.declared.choice.Choice.{Choice}
+use Rattle.trc_texts.proofs.words.text_laws.no_faults.Never.{are_input}
 use Rattle.trc_answers.specs.Runs.{run_of}
 use Rattle.meaning_commands.specs.Programs.{IsImageOfProgram}
 use Rattle.meaning_commands.specs.Comparisons.{kind_broken, kind_meant, run_summary, summary_lines}

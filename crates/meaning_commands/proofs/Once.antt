@@ -10,18 +10,18 @@ use Rattle.ob_types.specs.declared.program.Procedure.{Procedure}
 use Rattle.ob_types.specs.declared.program.Program.{Program}
 use Rattle.ssa_lowered.specs.Limits.{Limit}
 use Rattle.linked_flows.specs.Allocations.{Cut}
-use Rattle.alloc_choice.specs.declared.choice.Choice.{Choice}
+use Rattle.trc_texts.specs.words.alloc_choice.declared.choice.Choice.{Choice}
 use Rattle.one_lowering.specs.Forms.{HaveOneLowering, place_of}
-use Rattle.text_laws.proofs.one_refusal.Passed.{early_once, early_apart, first_once, first_apart}
-use Rattle.text_laws.proofs.one_refusal.Refused.{excluded, refused_once}
-use Rattle.program_image.specs.Faults.{Tells, TellsOfTraces}
-use Rattle.program_image.specs.Images.{IsProgramImage}
-use Rattle.source_program.specs.Texts.{IsProgramOfTexts, IsSourceFault}
-use Rattle.source_program.specs.declared.fault.SourceFault.{SourceFault}
-use Rattle.source_program.specs.declared.fault.SourceFault.TheVariants as source
-use Rattle.source_image.specs.Refusals.{IsRefusal, IsRefusalOfTraces}
-use Rattle.source_image.specs.declared.refusal.Refusal.{Refusal}
-use Rattle.source_image.specs.declared.refusal.Refusal.TheVariants.{Memory}
+use Rattle.trc_texts.proofs.words.text_laws.one_refusal.Passed.{early_once, early_apart, first_once, first_apart}
+use Rattle.trc_texts.proofs.words.text_laws.one_refusal.Refused.{excluded, refused_once}
+use Rattle.trc_texts.specs.words.program_image.Faults.{Tells, TellsOfTraces}
+use Rattle.trc_texts.specs.words.program_image.Images.{IsProgramImage}
+use Rattle.trc_texts.specs.words.source_program.Texts.{IsProgramOfTexts, IsSourceFault}
+use Rattle.trc_texts.specs.words.source_program.declared.fault.SourceFault.{SourceFault}
+use Rattle.trc_texts.specs.words.source_program.declared.fault.SourceFault.TheVariants as source
+use Rattle.trc_texts.specs.words.source_image.Refusals.{IsRefusal, IsRefusalOfTraces}
+use Rattle.trc_texts.specs.words.source_image.declared.refusal.Refusal.{Refusal}
+use Rattle.trc_texts.specs.words.source_image.declared.refusal.Refusal.TheVariants.{Memory}
 use Rattle.trc_answers.specs.Runs.{run_of}
 use Rattle.trc_answers.specs.Verdict.{Verdict, Refuses, Means, Tells as ToldAs}
 use Rattle.trc_answers.specs.declared.causes.Spot.{Spot}

@@ -1,14 +1,14 @@
 -- Why texts are refused, from faults to refusals.
 use Rattle.std.proofs.Common.{◌≡◌, ℕ, List, sym, subst}
 use Rattle.ob_types.specs.declared.program.Program.{Program}
-use Rattle.program_image.specs.declared.fault.ProgramFault.{ProgramFault}
-use Rattle.program_image.specs.declared.fault.ProgramFault.TheVariants as whole
-use Rattle.source_program.specs.Texts.{IsSourceFault}
-use Rattle.source_program.specs.declared.fault.SourceFault.{SourceFault}
-use Rattle.source_program.specs.declared.fault.SourceFault.TheVariants as source
-use Rattle.source_image.specs.Refusals.{IsRefusalOf, of_program, of_source}
-use Rattle.source_image.specs.declared.refusal.Refusal.{Refusal}
-use Rattle.source_image.specs.declared.refusal.Refusal.TheVariants.{TooLong, Source, Limit, Memory}
+use Rattle.trc_texts.specs.words.program_image.declared.fault.ProgramFault.{ProgramFault}
+use Rattle.trc_texts.specs.words.program_image.declared.fault.ProgramFault.TheVariants as whole
+use Rattle.trc_texts.specs.words.source_program.Texts.{IsSourceFault}
+use Rattle.trc_texts.specs.words.source_program.declared.fault.SourceFault.{SourceFault}
+use Rattle.trc_texts.specs.words.source_program.declared.fault.SourceFault.TheVariants as source
+use Rattle.trc_texts.specs.words.source_image.Refusals.{IsRefusalOf, of_program, of_source}
+use Rattle.trc_texts.specs.words.source_image.declared.refusal.Refusal.{Refusal}
+use Rattle.trc_texts.specs.words.source_image.declared.refusal.Refusal.TheVariants.{TooLong, Source, Limit, Memory}
 use Rattle.trc_answers.specs.declared.causes.Cause.{Cause}
 use Rattle.trc_texts.specs.Texts.{IsRefusedAs}
 use Rattle.meaning_commands.specs.Programs.{AreProgram, IsNoProgram}

@@ -8,8 +8,8 @@ use Rattle.a64_machine.specs.State as machine
 use Rattle.ob_types.specs.Store as meant
 use Rattle.ob_types.specs.Meaning.{meaning}
 use Rattle.ob_types.specs.declared.program.Program.{Program}
-use Rattle.alloc_choice.specs.declared.choice.Choice.{Choice}
-use Rattle.source_image.specs.Refusals.{IsRefusal}
+use Rattle.trc_texts.specs.words.alloc_choice.declared.choice.Choice.{Choice}
+use Rattle.trc_texts.specs.words.source_image.Refusals.{IsRefusal}
 use Rattle.trc_answers.specs.declared.causes.Cause.{Cause}
 use Rattle.trc_answers.specs.declared.causes.Cause.TheVariants.{Memory}
 use Rattle.trc_answers.specs.Runs.{run_of}

@@ -6,7 +6,7 @@ use Rattle.ob_types.specs.Store.{Trap, Kind, Senseless}
 use Rattle.ob_types.specs.Meaning.{meaning}
 use Rattle.ob_types.specs.declared.program.Procedure.{Procedure}
 use Rattle.ob_types.specs.declared.program.Program.{Program}
-use Rattle.source_image.specs.Refusals.{IsRefusalOfTraces}
+use Rattle.trc_texts.specs.words.source_image.Refusals.{IsRefusalOfTraces}
 use Rattle.trc_answers.specs.declared.causes.Device.TheVariants.{Output}
 use Rattle.trc_answers.specs.declared.causes.Spot.{Spot}
 use Rattle.trc_answers.specs.declared.causes.Cause.{Cause}

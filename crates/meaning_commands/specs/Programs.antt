@@ -5,18 +5,18 @@ use Rattle.image_form.specs.Form.{IsInForm}
 use Rattle.ob_types.specs.WellFormed.{well_formed}
 use Rattle.ob_types.specs.declared.program.Program.{Program}
 use Rattle.ssa_lowered.specs.Limits.{limit_of}
-use Rattle.compiled_runs.specs.Compiled.{flows_of}
+use Rattle.trc_texts.specs.words.compiled_runs.Compiled.{flows_of}
 use Rattle.trace_build.specs.Traces.{traces_in}
 use Rattle.trace_build.specs.declared.builder.Builder.TheVariants.{Bi}
 use Rattle.linked_flows.specs.Allocations.{Cut}
-use Rattle.alloc_choice.specs.declared.choice.Choice.{Choice}
-use Rattle.alloc_choice.specs.declared.choice.Policy.TheVariants.{Linear}
-use Rattle.program_image.specs.Images.{IsProgramImage, DoesAsMeant}
-use Rattle.program_image.specs.Limits.{most_traces}
-use Rattle.program_image.specs.declared.fault.ProgramFault.{ProgramFault}
-use Rattle.source_program.specs.Texts.{IsProgramOfTexts}
-use Rattle.source_image.specs.Refusals.{IsRefusalOf}
-use Rattle.source_image.specs.declared.refusal.Refusal.{Refusal}
+use Rattle.trc_texts.specs.words.alloc_choice.declared.choice.Choice.{Choice}
+use Rattle.trc_texts.specs.words.alloc_choice.declared.choice.Policy.TheVariants.{Linear}
+use Rattle.trc_texts.specs.words.program_image.Images.{IsProgramImage, DoesAsMeant}
+use Rattle.trc_texts.specs.words.program_image.Limits.{most_traces}
+use Rattle.trc_texts.specs.words.program_image.declared.fault.ProgramFault.{ProgramFault}
+use Rattle.trc_texts.specs.words.source_program.Texts.{IsProgramOfTexts}
+use Rattle.trc_texts.specs.words.source_image.Refusals.{IsRefusalOf}
+use Rattle.trc_texts.specs.words.source_image.declared.refusal.Refusal.{Refusal}
 
 -- the choice where words don't say any: what limits a program has, they have by its builder
 abbrev pub usual_choice : Choice

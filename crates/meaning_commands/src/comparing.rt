@@ -3,7 +3,7 @@
 ghost use Rattle.std.specs.Prelude.{◌≡◌, ◌≤◌, ◌++◌, [], ℕ, List, Option, true, length, map, IfOk, OnOk};
 ghost use Rattle.outside.specs.Counts.{raised};
 ghost use Rattle.outside.specs.Files.{Held};
-ghost use Rattle.alloc_choice.specs.Choice.{IsFitChoice};
+ghost use Rattle.trc_texts.specs.words.alloc_choice.Choice.{IsFitChoice};
 ghost use Rattle.image_form.specs.Form.{IsInForm};
 ghost use Rattle.run_laws.specs.Runs.{output, run};
 ghost use Rattle.a64_machine.specs.Machine.{step_of};
@@ -27,12 +27,11 @@ use items::Items;
 use ob_eval::{Eval, eval};
 use ob_types::Program;
 use outside::{Files, Gate, Memory, Sink, Source};
-use program_image::Choice;
-use source_image::refused_program;
 use std::alloc::{AllocError, AllocGlobal, Global};
 use std::sync::Wait;
 use std::thread::Threads;
 use trc_answers::{Cause, Ending, print, read_texts};
+use trc_texts::image_words::{Choice, refused_program};
 use trc_texts::refused;
 
 /// How what is run ended: a meaning, or a machine.

@@ -2,19 +2,20 @@
 
 ghost use Rattle.std.specs.Prelude.{◌≡◌, true, IfOk, IfErr};
 ghost use Rattle.ob_types.specs.WellFormed.{well_formed};
-ghost use Rattle.alloc_choice.specs.Choice.{IsFitChoice};
-ghost use Rattle.program_image.specs.Faults.{Tells, of_imaging};
+ghost use Rattle.trc_texts.specs.words.alloc_choice.Choice.{IsFitChoice};
+ghost use Rattle.trc_texts.specs.words.program_image.Faults.{Tells, of_imaging};
 ghost use Rattle.meaning_commands.specs.Programs.{IsImageOfProgram};
 
-use back_end::{ImageFault, image_of};
 use image_form::Image;
 use ob_types::Program;
 use outside::Gate;
-use program_image::{Choice, ProgramFault, are_short, of_lowering, program_data, whole_limit};
 use ssa_build::{LoweredProgram, lower_with_tables};
 use std::alloc::Global;
 use std::sync::Wait;
 use std::thread::Threads;
+use trc_texts::image_words::{
+    Choice, ImageFault, ProgramFault, are_short, image_of, of_lowering, program_data, whole_limit,
+};
 
 /// Why there is no image, as a fault of the program.
 fn of_imaging(fault: ImageFault) -> ProgramFault

@@ -4,7 +4,7 @@ ghost use Rattle.std.specs.Prelude.{◌≡◌, ℕ, List, Some};
 ghost use Rattle.image_form.specs.declared.image.Image.{Image};
 ghost use Rattle.a64_memory.specs.Memory.{AreBytes};
 ghost use Rattle.ob_types.specs.declared.program.Program.{Program};
-ghost use Rattle.alloc_choice.specs.declared.choice.Choice.{Choice};
+ghost use Rattle.trc_texts.specs.words.alloc_choice.declared.choice.Choice.{Choice};
 ghost use Rattle.trc_answers.specs.Verdict.{Verdict};
 ghost use Rattle.meaning_commands.specs.Agreements.{Suffice, TellTheSame};
 ghost use Rattle.meaning_commands.specs.Comparisons.{BothComeTo};
@@ -12,7 +12,7 @@ ghost use Rattle.meaning_commands.specs.Meanings.{MeanComeTo};
 ghost use Rattle.meaning_commands.specs.Programs.{IsImageOfProgram};
 
 use ob_laws::over_stays_over;
-use text_laws::{
+use trc_texts::image_words::{
     lowerings_have_one_image, texts_have_one_first_fault, texts_have_one_lowering,
     texts_have_one_meaning,
 };

@@ -18,3 +18,4 @@ pub use input::read_input;
 pub use laws::{both_agree, comparisons_come_to_one, meanings_come_to_one};
 pub use meaning::mean;
 pub use programs::program_of;
+pub use trc_texts::refused;

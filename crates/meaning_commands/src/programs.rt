@@ -1,18 +1,18 @@
 //! The program that texts are.
 
 ghost use Rattle.std.specs.Prelude.{◌≡◌, ◌≤◌, length, IfOk, IfErr};
-ghost use Rattle.source_image.specs.Refusals.{IsRefusalOfTraces};
+ghost use Rattle.trc_texts.specs.words.source_image.Refusals.{IsRefusalOfTraces};
 ghost use Rattle.trc_answers.specs.Causes.{IsPlaced};
 ghost use Rattle.trc_texts.specs.Texts.{IsRefusedAs, IsTextIn};
 ghost use Rattle.meaning_commands.specs.Programs.{AreProgram, IsNoProgram, IsWithinLimits, usual_choice};
 
 use items::Items;
 use ob_types::Program;
-use program_image::{Builder, Choice, Policy, program_traces};
-use source_image::{refused_program, refused_source};
-use source_program::source_program;
 use std::alloc::Global;
 use trc_answers::Ending;
+use trc_texts::image_words::{
+    Builder, Choice, Policy, program_traces, refused_program, refused_source, source_program,
+};
 use trc_texts::refused;
 
 /// The program that texts are.

@@ -14,16 +14,16 @@ use Rattle.trace_build.specs.declared.builder.Builder.{Builder}
 use Rattle.trace_build.specs.Traces.{traces_in}
 use Rattle.linked_flows.specs.Allocations.{Cut}
 use Rattle.boundary_resolve.specs.declared.code_line.CodeLine.{CodeLine}
-use Rattle.alloc_choice.specs.declared.choice.Choice.{Choice}
+use Rattle.planned_image.specs.words.alloc_choice.declared.choice.Choice.{Choice}
 use Rattle.plain_form.specs.results.Bounds.{IsNotable}
-use Rattle.audited_allocations.specs.Joined.{joined}
-use Rattle.audited_allocations.proofs.Passing.{cuts_notable}
-use Rattle.flow_allocation.specs.Allocations.{AllAllocations, AreAllocated}
-use Rattle.compiled_runs.specs.Compiled.{flows_of}
-use Rattle.compiled_runs.proofs.Whole.{lowered_each}
-use Rattle.placed_image.specs.Placing.{IsPlaceable}
+use Rattle.planned_image.specs.audited_allocations.Joined.{joined}
+use Rattle.planned_image.proofs.audited_allocations.Passing.{cuts_notable}
+use Rattle.planned_image.specs.words.flow_allocation.Allocations.{AllAllocations, AreAllocated}
+use Rattle.planned_image.specs.words.compiled_runs.Compiled.{flows_of}
+use Rattle.planned_image.proofs.words.compiled_runs.Whole.{lowered_each}
+use Rattle.planned_image.specs.placed_image.Placing.{IsPlaceable}
 use Rattle.ob_judge.specs.Modules.{Parsed}
-use Rattle.source_program.specs.Texts.{AreParsed}
+use Rattle.planned_image.specs.words.source_program.Texts.{AreParsed}
 use Rattle.module_object.specs.Objects.{AreResultsBehind, last_text}
 
 ---- Answers

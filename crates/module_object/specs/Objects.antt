@@ -8,12 +8,12 @@ use Rattle.lir_core.specs.declared.flow.Flow.{Flow}
 use Rattle.lir_core.specs.declared.places.TraceOut.{TraceOut}
 use Rattle.trace_build.specs.Traces.{traces_in}
 use Rattle.linked_flows.specs.Allocations.{Cut}
-use Rattle.alloc_choice.specs.declared.choice.Choice.{Choice}
-use Rattle.audited_allocations.specs.Joined.{joined}
-use Rattle.flow_allocation.specs.Allocations.{AllAllocations}
-use Rattle.compiled_runs.specs.Compiled.{flows_of}
-use Rattle.program_image.specs.Limits.{most_traces}
-use Rattle.source_program.specs.Texts.{IsProgramOfTexts}
+use Rattle.planned_image.specs.words.alloc_choice.declared.choice.Choice.{Choice}
+use Rattle.planned_image.specs.audited_allocations.Joined.{joined}
+use Rattle.planned_image.specs.words.flow_allocation.Allocations.{AllAllocations}
+use Rattle.planned_image.specs.words.compiled_runs.Compiled.{flows_of}
+use Rattle.planned_image.specs.words.program_image.Limits.{most_traces}
+use Rattle.planned_image.specs.words.source_program.Texts.{IsProgramOfTexts}
 use Rattle.object_form.specs.declared.object.Object.{Object}
 
 -- how many procedures stand before the first one of the module with this number; procedures stand in the order of their modules

@@ -2,14 +2,14 @@
 
 ghost use Rattle.std.specs.Prelude.{◌≡◌, ◌<◌, ◌≤◌, length, IfOk, IfErr};
 ghost use Rattle.trace_build.specs.Traces.{traces_in};
-ghost use Rattle.trace_work.specs.declared.fault.WorkFault.TheVariants.{Traces};
+ghost use Rattle.planned_image.specs.trace_work.declared.fault.WorkFault.TheVariants.{Traces};
 ghost use Rattle.module_object.specs.Objects.{before_module};
 
 use lir_core::Flow;
 use ob_types::Procedure;
+use planned_image::WorkFault;
 use std::alloc::Global;
 use trace_build::{Builder, build};
-use trace_work::WorkFault;
 
 /// How many traces a program has at most.
 const MOST_TRACES: usize = 262_144;

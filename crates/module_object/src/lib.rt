@@ -11,6 +11,6 @@ mod results;
 
 pub use making::module_object;
 pub use object_form::Object;
-pub use program_image::{Builder, Choice, Policy, ProgramFault};
+pub use planned_image::image_words;
+pub use planned_image::image_words::{Builder, Choice, Policy, ProgramFault, Refusal};
 pub use results::own_results;
-pub use source_image::Refusal;

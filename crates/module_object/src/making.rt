@@ -1,9 +1,9 @@
 //! From texts to the last one's object.
 
 ghost use Rattle.std.specs.Prelude.{◌≡◌, IfOk, IfErr};
-ghost use Rattle.alloc_choice.specs.Choice.{IsFitChoice};
-ghost use Rattle.source_image.specs.Refusals.{IsRefusalOf};
-ghost use Rattle.program_image.specs.Faults.{TellsOfTraces};
+ghost use Rattle.planned_image.specs.words.alloc_choice.Choice.{IsFitChoice};
+ghost use Rattle.planned_image.specs.words.source_image.Refusals.{IsRefusalOf};
+ghost use Rattle.planned_image.specs.words.program_image.Faults.{TellsOfTraces};
 ghost use Rattle.object_form.specs.Objects.{IsWritable};
 ghost use Rattle.module_object.specs.Objects.{IsObjectOfTexts, last_text};
 
@@ -11,9 +11,9 @@ use crate::results::own_results;
 use items::Items;
 use object_form::Object;
 use outside::Gate;
-use program_image::Choice;
-use source_image::{Refusal, refused_program, refused_source};
-use source_program::source_program;
+use planned_image::image_words::{
+    Choice, Refusal, refused_program, refused_source, source_program,
+};
 use std::alloc::{AllocError, Global};
 use std::sync::Wait;
 use std::thread::Threads;

@@ -3,28 +3,28 @@
 ghost use Rattle.std.specs.Prelude.{◌≡◌, ◌<◌, ◌≤◌, true, All, map, length, None, IfOk, OnOk, IfErr};
 ghost use Rattle.ob_types.specs.WellFormed.{well_formed};
 ghost use Rattle.ssa_lowered.specs.Limits.{limit_of};
-ghost use Rattle.alloc_choice.specs.Choice.{IsFitChoice};
+ghost use Rattle.planned_image.specs.words.alloc_choice.Choice.{IsFitChoice};
 ghost use Rattle.plain_form.specs.results.Bounds.{IsNotable};
-ghost use Rattle.audited_allocations.specs.Joined.{joined};
+ghost use Rattle.planned_image.specs.audited_allocations.Joined.{joined};
 ghost use Rattle.lir_core.specs.Flows.{IsValidFlow};
 ghost use Rattle.trace_build.specs.Traces.{traces_in};
-ghost use Rattle.trace_work.specs.declared.fault.WorkFault.TheVariants.{Traces};
-ghost use Rattle.compiled_runs.specs.Compiled.{flows_of};
-ghost use Rattle.program_image.specs.Faults.{TellsOfTraces};
-ghost use Rattle.program_image.specs.Limits.{most_traces};
+ghost use Rattle.planned_image.specs.trace_work.declared.fault.WorkFault.TheVariants.{Traces};
+ghost use Rattle.planned_image.specs.words.compiled_runs.Compiled.{flows_of};
+ghost use Rattle.planned_image.specs.words.program_image.Faults.{TellsOfTraces};
+ghost use Rattle.planned_image.specs.words.program_image.Limits.{most_traces};
 ghost use Rattle.module_object.specs.Objects.{AreOwnResults, AreResultsBehind};
 
 use crate::counting::{before_module, count_traces};
-use flow_allocation::{AllocatedFlows, allocate_flows};
 use lir_core::{Flow, TraceOut};
 use ob_types::Program;
 use outside::{Gate, Memory};
-use planned_image::{ProgramFlows, program_flows};
-use program_image::{Choice, ProgramFault, whole_limit};
+use planned_image::image_words::{
+    AllocatedFlows, Choice, ProgramFault, allocate_flows, whole_limit,
+};
+use planned_image::{ProgramFlows, WorkFault, program_flows};
 use std::alloc::Global;
 use std::sync::Wait;
 use std::thread::Threads;
-use trace_work::WorkFault;
 
 // The results of all flows, one behind the other.
 fn join_results(alloc: Global, outs: Vec<Vec<TraceOut>>) -> Result<Vec<TraceOut>, Memory>

@@ -22,7 +22,7 @@ use Rattle.placed_code.specs.Placed.{Copy, Cell, Block, Placed, block_of, proced
 use Rattle.placed_code.specs.Words.{Where, InReg, InSlot, slot_of, where_is, page_slots, page_word, is_near, load_slot, store_slot, move_between, copy_word, copies_words, slots_of, frame_of, move_word, op_words, depth_words, frame_words, count_words, taking, room_words, data_words, prologue, unframe_words, giving, unroom_words, undata_words, unlocal_words, undepth_words, epilogue, jump_words, turned, branch_words, nonzero_words, result_words, last_words}
 use Rattle.placed_code.specs.Layout.{cell_width, block_width, proc_width, front_width, Placing, placings, zero_first, proc_words, start_words, all_words, entry, routines_at, procedures_at, place}
 use Rattle.procedure_pieces.specs.Code.{cell_code, parts_code, block_code, front_code, proc_code}
-use Rattle.link_plan.proofs.InTable.{CellLow, CellsLow, BlockLow, ProcLow, AllLow}
+use Rattle.source_image.proofs.link_plan.InTable.{CellLow, CellsLow, BlockLow, ProcLow, AllLow}
 use Rattle.native_laws.specs.Registers.{registers_of, leaves_frame_register}
 use Rattle.ob_types.proofs.Tests.{and_from as both}
 

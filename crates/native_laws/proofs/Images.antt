@@ -14,9 +14,9 @@ use Rattle.placed_code.specs.Layout.{all_words}
 use Rattle.placed_code.specs.Claims.{AllInRange}
 use Rattle.placed_code.specs.Results.{all_placed}
 use Rattle.linked_flows.specs.Allocations.{steps_of, all_allocated}
-use Rattle.link_plan.proofs.InTable.{AllLow, all_in_table}
-use Rattle.alloc_choice.specs.declared.choice.Choice.{Choice}
-use Rattle.program_image.specs.declared.imaging.Compiled.{Compiled}
+use Rattle.source_image.proofs.link_plan.InTable.{AllLow, all_in_table}
+use Rattle.source_image.specs.alloc_choice.declared.choice.Choice.{Choice}
+use Rattle.source_image.specs.program_image.declared.imaging.Compiled.{Compiled}
 use Rattle.source_image.specs.Images.{IsImageOfTexts}
 use Rattle.elf_file.specs.Placed.{instr_at}
 use Rattle.elf_file.proofs.Hanging.{stays}

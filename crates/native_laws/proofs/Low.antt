@@ -22,15 +22,15 @@ use Rattle.link_blocks.specs.Laid.{Fits}
 use Rattle.link_blocks.proofs.Flat.{registers_last}
 use Rattle.link_blocks.proofs.Made.{blocks_of, one_block}
 use Rattle.link_blocks.proofs.Outs.{slots_few}
-use Rattle.link_plan.proofs.Low.{and_left, and_right}
-use Rattle.link_plan.proofs.InTable.{BlockLow, ProcLow, AllLow}
+use Rattle.source_image.proofs.link_plan.Low.{and_left, and_right}
+use Rattle.source_image.proofs.link_plan.InTable.{BlockLow, ProcLow, AllLow}
 use Rattle.modest_flows.specs.Modest.{IsModest}
 use Rattle.modest_flows.proofs.Fitting.{modest_fits}
-use Rattle.alloc_choice.specs.declared.choice.Choice.{Choice}
-use Rattle.flow_allocation.specs.Allocations.{IsAllocation, AllAllocations}
+use Rattle.source_image.specs.alloc_choice.declared.choice.Choice.{Choice}
+use Rattle.source_image.specs.flow_allocation.Allocations.{IsAllocation, AllAllocations}
 use Rattle.native_laws.proofs.Modest.{HasKinds, is_modest}
-use Rattle.link_plan.proofs.Low.{get_past}
-use Rattle.link_plan.proofs.Low.{cells_low}
+use Rattle.source_image.proofs.link_plan.Low.{get_past}
+use Rattle.source_image.proofs.link_plan.Low.{cells_low}
 
 no_block_low : BlockLow no_block
 no_block_low = record { cells = tt; a = omega arith; b = omega arith; trap = refl }

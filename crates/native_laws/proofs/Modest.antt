@@ -20,7 +20,7 @@ use Rattle.lir_core.specs.declared.flow.Node.{Node}
 use Rattle.lir_core.specs.Flows.{code_nodes, preds_of}
 use Rattle.a64_select.specs.Selected.{joins_of, split_targets, split_end, old_nodes, edge_node, new_nodes, split_nodes, with_preds, selected}
 use Rattle.link_blocks.specs.Fits.{trap_fits}
-use Rattle.link_plan.proofs.Low.{and_left, and_right}
+use Rattle.source_image.proofs.link_plan.Low.{and_left, and_right}
 use Rattle.modest_flows.specs.Modest.{IsModest}
 use Rattle.native_laws.proofs.TrapKinds.{AllEndsFit, s_whole}
 use Rattle.modest_flows.proofs.Fitting.{both}

@@ -3,8 +3,8 @@
 ghost use Rattle.std.specs.Prelude.{◌≡◌, ℕ, List, Some, true, slice_get};
 ghost use Rattle.a64_instr.specs.declared.instr.Instr.{Instr};
 ghost use Rattle.a64_table.specs.Decode.{decode_of};
-ghost use Rattle.alloc_choice.specs.declared.choice.Choice.{Choice};
-ghost use Rattle.program_image.specs.declared.imaging.Compiled.{Compiled};
+ghost use Rattle.source_image.specs.alloc_choice.declared.choice.Choice.{Choice};
+ghost use Rattle.source_image.specs.program_image.declared.imaging.Compiled.{Compiled};
 ghost use Rattle.source_image.specs.Images.{IsImageOfTexts};
 ghost use Rattle.native_laws.specs.Registers.{leaves_frame_register, StandsForItself};
 

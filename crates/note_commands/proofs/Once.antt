@@ -10,7 +10,7 @@ use Rattle.lir_core.specs.declared.flow.Trace.{Trace}
 use Rattle.lir_core.specs.declared.places.TraceOut.{TraceOut}
 use Rattle.trace_build.specs.declared.builder.Builder.{Builder}
 use Rattle.linked_flows.specs.Allocations.{steps_of, all_allocated}
-use Rattle.link_plan.specs.Linked.{linked}
+use Rattle.note_laws.specs.words.link_plan.Linked.{linked}
 use Rattle.placed_code.specs.Layout.{all_words}
 use Rattle.placed_code.specs.Results.{all_placed}
 use Rattle.alloc_audit.specs.Results.{AreLive}
@@ -19,22 +19,22 @@ use Rattle.alloc_audit.specs.declared.verdict.Verdict.{Verdict as Finding}
 use Rattle.alloc_audit.specs.declared.verdict.Verdict.TheVariants as finding
 use Rattle.alloc_audit.proofs.Living.{lives_are_said}
 use Rattle.alloc_audit.proofs.Passes.{all_pass}
-use Rattle.back_end.specs.Images.{code_length}
-use Rattle.compiled_runs.specs.Compiled.{flows_of}
+use Rattle.note_laws.specs.words.back_end.Images.{code_length}
+use Rattle.note_laws.specs.words.compiled_runs.Compiled.{flows_of}
 use Rattle.one_lowering.specs.Forms.{HaveOneLowering}
-use Rattle.placed_image.specs.Cutting.{AreCutBy}
-use Rattle.placed_image.specs.Shares.{cuts_of}
-use Rattle.source_program.specs.Texts.{IsProgramOfTexts}
-use Rattle.source_image.specs.Refusals.{IsRefusalOf}
-use Rattle.source_image.specs.declared.refusal.Refusal.{Refusal}
-use Rattle.source_image.specs.declared.refusal.Refusal.TheVariants.{Memory}
-use Rattle.planned_image.specs.Plans.{IsPlanOfTexts, IsProgramPlan, TellsOfPlan}
-use Rattle.planned_image.specs.Audits.{IsImageOfResults, verdict_on}
-use Rattle.planned_image.specs.declared.planning.ProgramPlan.{ProgramPlan}
-use Rattle.planned_image.proofs.Placed.{valid_flows}
+use Rattle.note_laws.specs.placed_image.Cutting.{AreCutBy}
+use Rattle.note_laws.specs.placed_image.Shares.{cuts_of}
+use Rattle.note_laws.specs.words.source_program.Texts.{IsProgramOfTexts}
+use Rattle.note_laws.specs.words.source_image.Refusals.{IsRefusalOf}
+use Rattle.note_laws.specs.words.source_image.declared.refusal.Refusal.{Refusal}
+use Rattle.note_laws.specs.words.source_image.declared.refusal.Refusal.TheVariants.{Memory}
+use Rattle.note_laws.specs.planned_image.Plans.{IsPlanOfTexts, IsProgramPlan, TellsOfPlan}
+use Rattle.note_laws.specs.planned_image.Audits.{IsImageOfResults, verdict_on}
+use Rattle.note_laws.specs.planned_image.declared.planning.ProgramPlan.{ProgramPlan}
+use Rattle.note_laws.proofs.planned_image.Placed.{valid_flows}
 use Rattle.trace_notes.specs.Notes.{AreNotes, notes, notes_in, numbered}
 use Rattle.trace_notes.proofs.Notes.{notes_again}
-use Rattle.text_laws.proofs.one_image.Moved.{one_data}
+use Rattle.note_laws.proofs.words.text_laws.one_image.Moved.{one_data}
 use Rattle.note_laws.proofs.Own.{one_reading}
 use Rattle.note_laws.proofs.Plans.{cut_once, flows_once, same_flows, same_cuts}
 use Rattle.trc_answers.specs.Verdict.{Verdict, Refuses, Accepted}

@@ -8,16 +8,16 @@ use Rattle.outside.specs.declared.files.GetFault.TheVariants as get
 use Rattle.outside.specs.Sink.{Account}
 use Rattle.image_form.specs.declared.image.Image.{Image}
 use Rattle.trace_build.specs.declared.builder.Builder.{Builder}
-use Rattle.alloc_choice.specs.declared.choice.Choice.{Choice}
-use Rattle.source_image.specs.Refusals.{IsRefusalOf}
-use Rattle.noted_image.specs.Faults.{TellsWithNotes}
-use Rattle.noted_image.specs.Notes.{IsNotedImageOfTexts}
-use Rattle.noted_image.specs.declared.noting.NotedImage.{NotedImage}
-use Rattle.planned_image.specs.Plans.{IsPlanOfTexts, TellsOfPlan}
-use Rattle.planned_image.specs.declared.planning.ProgramPlan.{ProgramPlan}
-use Rattle.planned_image.specs.declared.fault.AuditFault.{AuditFault}
-use Rattle.planned_image.specs.declared.fault.AuditFault.TheVariants as audit_fault
-use Rattle.planned_image.specs.Audits.{TellsOfAudit}
+use Rattle.note_laws.specs.words.alloc_choice.declared.choice.Choice.{Choice}
+use Rattle.note_laws.specs.words.source_image.Refusals.{IsRefusalOf}
+use Rattle.note_laws.specs.noted_image.Faults.{TellsWithNotes}
+use Rattle.note_laws.specs.noted_image.Notes.{IsNotedImageOfTexts}
+use Rattle.note_laws.specs.noted_image.declared.noting.NotedImage.{NotedImage}
+use Rattle.note_laws.specs.planned_image.Plans.{IsPlanOfTexts, TellsOfPlan}
+use Rattle.note_laws.specs.planned_image.declared.planning.ProgramPlan.{ProgramPlan}
+use Rattle.note_laws.specs.planned_image.declared.fault.AuditFault.{AuditFault}
+use Rattle.note_laws.specs.planned_image.declared.fault.AuditFault.TheVariants as audit_fault
+use Rattle.note_laws.specs.planned_image.Audits.{TellsOfAudit}
 use Rattle.trace_notes.specs.Notes.{Tells, most_bytes, notes_in}
 use Rattle.trace_notes.specs.declared.fault.NoteFault.{NoteFault}
 use Rattle.trace_notes.specs.declared.fault.NoteFault.TheVariants as note_fault

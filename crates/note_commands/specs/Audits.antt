@@ -10,14 +10,14 @@ use Rattle.trace_build.specs.declared.builder.Builder.{Builder}
 use Rattle.alloc_audit.specs.Results.{AreLive}
 use Rattle.alloc_audit.specs.declared.verdict.Verdict.{Verdict as Finding}
 use Rattle.alloc_audit.specs.declared.verdict.Verdict.TheVariants as finding
-use Rattle.back_end.specs.Images.{code_length}
-use Rattle.source_image.specs.Refusals.{IsRefusalOf}
-use Rattle.placed_image.specs.Shares.{cuts_of}
-use Rattle.planned_image.specs.Plans.{IsPlanOfTexts, TellsOfPlan}
-use Rattle.planned_image.specs.Audits.{IsImageOfResults, verdict_on}
-use Rattle.planned_image.specs.declared.planning.ProgramPlan.{ProgramPlan}
-use Rattle.planned_image.specs.declared.fault.AuditFault.{AuditFault}
-use Rattle.planned_image.specs.declared.fault.AuditFault.TheVariants as audit_fault
+use Rattle.note_laws.specs.words.back_end.Images.{code_length}
+use Rattle.note_laws.specs.words.source_image.Refusals.{IsRefusalOf}
+use Rattle.note_laws.specs.placed_image.Shares.{cuts_of}
+use Rattle.note_laws.specs.planned_image.Plans.{IsPlanOfTexts, TellsOfPlan}
+use Rattle.note_laws.specs.planned_image.Audits.{IsImageOfResults, verdict_on}
+use Rattle.note_laws.specs.planned_image.declared.planning.ProgramPlan.{ProgramPlan}
+use Rattle.note_laws.specs.planned_image.declared.fault.AuditFault.{AuditFault}
+use Rattle.note_laws.specs.planned_image.declared.fault.AuditFault.TheVariants as audit_fault
 use Rattle.trace_notes.specs.Notes.{AreNotes, most_bytes, notes, notes_in, numbered}
 use Rattle.trace_notes.specs.declared.fault.NoteFault.{NoteFault}
 use Rattle.trace_notes.specs.declared.fault.NoteFault.TheVariants as note_fault

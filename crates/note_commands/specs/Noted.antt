@@ -1,11 +1,11 @@
 -- What texts come to whose image is written with notes.
 use Rattle.std.specs.Prelude.{ℕ, List, Option}
 use Rattle.outside.specs.Files.{Held}
-use Rattle.alloc_choice.specs.declared.choice.Choice.{Choice}
-use Rattle.source_image.specs.Refusals.{IsRefusalOf}
-use Rattle.noted_image.specs.Faults.{TellsWithNotes}
-use Rattle.noted_image.specs.Notes.{IsNotedImageOfTexts}
-use Rattle.noted_image.specs.declared.noting.NotedImage.{NotedImage}
+use Rattle.note_laws.specs.words.alloc_choice.declared.choice.Choice.{Choice}
+use Rattle.note_laws.specs.words.source_image.Refusals.{IsRefusalOf}
+use Rattle.note_laws.specs.noted_image.Faults.{TellsWithNotes}
+use Rattle.note_laws.specs.noted_image.Notes.{IsNotedImageOfTexts}
+use Rattle.note_laws.specs.noted_image.declared.noting.NotedImage.{NotedImage}
 use Rattle.trc_answers.specs.Verdict.{Verdict, FileComesTo, Renews, WrittenWith}
 use Rattle.trc_texts.specs.Texts.{AreRefused}
 

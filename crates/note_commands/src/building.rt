@@ -1,11 +1,11 @@
 //! Modules are compiled, and their image and notes are written to two files.
 
 ghost use Rattle.std.specs.Prelude.{◌≡◌, ◌≤◌, ℕ, List, Option, length, map, IfOk, IfErr};
-ghost use Rattle.alloc_choice.specs.Choice.{IsFitChoice};
+ghost use Rattle.note_laws.specs.words.alloc_choice.Choice.{IsFitChoice};
 ghost use Rattle.outside.specs.Sink.{Account};
-ghost use Rattle.source_image.specs.Refusals.{IsRefusalOf};
-ghost use Rattle.noted_image.specs.Faults.{TellsWithNotes};
-ghost use Rattle.noted_image.specs.Notes.{IsNotedImageOfTexts};
+ghost use Rattle.note_laws.specs.words.source_image.Refusals.{IsRefusalOf};
+ghost use Rattle.note_laws.specs.noted_image.Faults.{TellsWithNotes};
+ghost use Rattle.note_laws.specs.noted_image.Notes.{IsNotedImageOfTexts};
 ghost use Rattle.trc_answers.specs.Answers.{Answers, devices};
 ghost use Rattle.trc_answers.specs.Causes.{IsPlaced};
 ghost use Rattle.trc_answers.specs.Reading.{FilesComeTo};
@@ -13,7 +13,8 @@ ghost use Rattle.trc_texts.specs.Texts.{IsRefusedAs, IsTextHeld, IsTextIn};
 ghost use Rattle.note_commands.specs.Noted.{NotedAnewComeTo, NotedComeTo, NotesRenewed, NotesWritten};
 
 use items::Items;
-use noted_image::{Choice, NotedImage, source_noted};
+use note_laws::image_words::Choice;
+use note_laws::{NotedImage, source_noted};
 use outside::{Files, Gate};
 use std::alloc::{AllocGlobal, Global};
 use std::sync::Wait;

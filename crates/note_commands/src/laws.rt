@@ -4,8 +4,8 @@ ghost use Rattle.std.specs.Prelude.{◌≡◌, ℕ, List};
 ghost use Rattle.trc_answers.specs.Verdict.{Verdict};
 ghost use Rattle.note_commands.specs.Audits.{AuditOf, PlanComesTo};
 
+use note_laws::image_words::texts_have_one_lowering;
 use note_laws::{plans_exclude_refusals, texts_have_one_refusal_of_plans};
-use text_laws::texts_have_one_lowering;
 
 /// Texts and the bytes of notes come to one thing at most: to one refusal, one finding of the audit, or one image. This follows from
 /// the laws of texts, which are cited as calls that do nothing.

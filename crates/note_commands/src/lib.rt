@@ -13,4 +13,10 @@ mod reading;
 pub use auditing::{audit, not_accepted};
 pub use building::{build_anew_with_notes, build_with_notes};
 pub use laws::audits_come_to_one;
-pub use noted_image::{Builder, Choice};
+pub use note_laws::image_words::{Builder, Choice};
+pub use note_laws::{
+    ProgramPlan, audited_image, image_words, noted_images_exclude_refusals, notes_of_texts_pass,
+    plans_exclude_refusals, source_plan, texts_have_one_noted_image,
+    texts_have_one_refusal_of_plans, texts_have_one_refusal_with_notes,
+};
+pub use trc_texts::{Scaffolds, compile, image_alone, refused, trace_lines};

@@ -3,12 +3,12 @@ use Rattle.std.proofs.Common.{◌≡◌, ℕ, List, Ok, refl, sym, ap, ◌∙◌
 use Rattle.std.specs.Prelude.{Result}
 use Rattle.lir_core.specs.declared.places.TraceOut.{TraceOut}
 use Rattle.trace_build.specs.declared.builder.Builder.{Builder}
-use Rattle.alloc_choice.specs.declared.choice.Choice.{Choice}
-use Rattle.alloc_choice.specs.declared.choice.Policy.TheVariants.{Linear}
-use Rattle.source_image.specs.Refusals.{IsRefusalOf, IsRefusalOfTraces}
-use Rattle.source_image.specs.declared.refusal.Refusal.{Refusal}
-use Rattle.source_image.specs.declared.refusal.Refusal.TheVariants.{TooLong, Source, Limit, Memory}
-use Rattle.planned_image.specs.Plans.{TellsOfPlan}
+use Rattle.noted_image.specs.words.alloc_choice.declared.choice.Choice.{Choice}
+use Rattle.noted_image.specs.words.alloc_choice.declared.choice.Policy.TheVariants.{Linear}
+use Rattle.noted_image.specs.words.source_image.Refusals.{IsRefusalOf, IsRefusalOfTraces}
+use Rattle.noted_image.specs.words.source_image.declared.refusal.Refusal.{Refusal}
+use Rattle.noted_image.specs.words.source_image.declared.refusal.Refusal.TheVariants.{TooLong, Source, Limit, Memory}
+use Rattle.noted_image.specs.planned_image.Plans.{TellsOfPlan}
 use Rattle.plain_form.specs.Reading.{Broken}
 use Rattle.trace_notes.specs.Notes.{AreNotes, notes, notes_in}
 use Rattle.trace_notes.proofs.Notes.{notes_again}

@@ -8,23 +8,23 @@ use Rattle.trace_build.specs.declared.builder.Builder.{Builder}
 use Rattle.placed_code.specs.Layout.{all_words}
 use Rattle.placed_code.specs.Results.{all_placed}
 use Rattle.linked_flows.specs.Allocations.{Cut, steps_of, all_allocated}
-use Rattle.alloc_choice.specs.declared.choice.Choice.{Choice}
-use Rattle.audited_allocations.specs.Joined.{joined}
-use Rattle.back_end.specs.Images.{AreCutsOf, code_length}
-use Rattle.placed_image.specs.Cutting.{AreCutBy}
-use Rattle.placed_image.specs.Shares.{cuts_of}
+use Rattle.noted_image.specs.words.alloc_choice.declared.choice.Choice.{Choice}
+use Rattle.noted_image.specs.audited_allocations.Joined.{joined}
+use Rattle.noted_image.specs.words.back_end.Images.{AreCutsOf, code_length}
+use Rattle.noted_image.specs.placed_image.Cutting.{AreCutBy}
+use Rattle.noted_image.specs.placed_image.Shares.{cuts_of}
 use Rattle.ssa_lowered.specs.Lowered.{lowered}
 use Rattle.noted_image.specs.Notes.{IsNotedImage}
 use Rattle.noted_image.specs.declared.noting.NotedImage.{NotedImage}
 use Rattle.ob_types.specs.declared.program.Program.{Program}
 use Rattle.ssa_core.specs.declared.procedure.Proc.{Proc}
 use Rattle.a64_select.specs.Selected.{selected}
-use Rattle.compiled_runs.specs.Compiled.{flows_of}
+use Rattle.noted_image.specs.words.compiled_runs.Compiled.{flows_of}
 use Rattle.one_lowering.specs.Forms.{HaveOneLowering}
 use Rattle.lir_core.specs.declared.places.TraceOut.{TraceOut}
-use Rattle.planned_image.specs.Plans.{IsProgramPlan}
-use Rattle.planned_image.specs.declared.planning.ProgramPlan.{ProgramPlan}
-use Rattle.planned_image.proofs.Own.{traces_same, cut_same, cuts_back}
+use Rattle.noted_image.specs.planned_image.Plans.{IsProgramPlan}
+use Rattle.noted_image.specs.planned_image.declared.planning.ProgramPlan.{ProgramPlan}
+use Rattle.noted_image.proofs.planned_image.Own.{traces_same, cut_same, cuts_back}
 
 -- a builder cuts flows in one way
 pub cut_once : (builder : Builder) (fs : List Flow) (xs ys : List (List Trace)) → AreCutBy builder fs xs → AreCutBy builder fs ys → xs ≡ ys

@@ -5,15 +5,15 @@ use Rattle.image_form.specs.Form.{IsInForm}
 use Rattle.ob_types.specs.declared.program.Program.{Program}
 use Rattle.ssa_lowered.specs.Limits.{Limit, limit_of}
 use Rattle.linked_flows.specs.Allocations.{Cut}
-use Rattle.alloc_choice.specs.declared.choice.Choice.{Choice}
-use Rattle.audited_allocations.specs.Joined.{joined}
+use Rattle.noted_image.specs.words.alloc_choice.declared.choice.Choice.{Choice}
+use Rattle.noted_image.specs.audited_allocations.Joined.{joined}
 use Rattle.trace_notes.specs.Notes.{notes, most_bytes}
 use Rattle.one_lowering.specs.Forms.{HaveOneLowering}
-use Rattle.program_image.specs.Images.{IsProgramImage}
+use Rattle.noted_image.specs.words.program_image.Images.{IsProgramImage}
 use Rattle.noted_image.specs.Faults.{IsPassedWithNotes, BeforeNotes, ByNotes}
 use Rattle.noted_image.specs.Notes.{IsNotedImage}
 use Rattle.noted_image.specs.declared.noting.NotedImage.{NotedImage}
-use Rattle.text_laws.proofs.one_refusal.Passed.{first_once, first_apart}
+use Rattle.noted_image.proofs.words.text_laws.one_refusal.Passed.{first_once, first_apart}
 
 abbrev SameImage : (a b : Choice) (p q : Program) → Type 0
 SameImage a b p q = (cuts others : List Cut) (image another : Image) → IsProgramImage a p cuts image → IsProgramImage b q others another → cuts ≡ others

@@ -5,25 +5,25 @@ ghost use Rattle.image_form.specs.declared.image.Image.{Image};
 ghost use Rattle.ob_types.specs.WellFormed.{well_formed};
 ghost use Rattle.ob_types.specs.declared.program.Program.{Program};
 ghost use Rattle.lir_core.specs.declared.places.TraceOut.{TraceOut};
-ghost use Rattle.alloc_choice.specs.declared.choice.Choice.{Choice};
+ghost use Rattle.noted_image.specs.words.alloc_choice.declared.choice.Choice.{Choice};
 ghost use Rattle.alloc_audit.specs.declared.verdict.Verdict.TheVariants.{Sound};
 ghost use Rattle.alloc_audit.specs.Results.{AreLive};
 ghost use Rattle.trace_notes.specs.Notes.{AreNotes, notes};
-ghost use Rattle.back_end.specs.Images.{code_length};
-ghost use Rattle.placed_image.specs.Shares.{cuts_of};
-ghost use Rattle.source_program.specs.Texts.{IsProgramOfTexts};
-ghost use Rattle.planned_image.specs.Plans.{IsPlanOfTexts, TellsOfPlan};
-ghost use Rattle.planned_image.specs.Audits.{IsImageOfResults, verdict_on};
-ghost use Rattle.planned_image.specs.declared.planning.ProgramPlan.{ProgramPlan};
+ghost use Rattle.noted_image.specs.words.back_end.Images.{code_length};
+ghost use Rattle.noted_image.specs.placed_image.Shares.{cuts_of};
+ghost use Rattle.noted_image.specs.words.source_program.Texts.{IsProgramOfTexts};
+ghost use Rattle.noted_image.specs.planned_image.Plans.{IsPlanOfTexts, TellsOfPlan};
+ghost use Rattle.noted_image.specs.planned_image.Audits.{IsImageOfResults, verdict_on};
+ghost use Rattle.noted_image.specs.planned_image.declared.planning.ProgramPlan.{ProgramPlan};
 ghost use Rattle.trace_build.specs.declared.builder.Builder.{Builder};
-ghost use Rattle.source_image.specs.Refusals.{IsRefusalOf};
-ghost use Rattle.source_image.specs.declared.refusal.Refusal.{Refusal};
-ghost use Rattle.source_image.specs.declared.refusal.Refusal.TheVariants.{Memory};
+ghost use Rattle.noted_image.specs.words.source_image.Refusals.{IsRefusalOf};
+ghost use Rattle.noted_image.specs.words.source_image.declared.refusal.Refusal.{Refusal};
+ghost use Rattle.noted_image.specs.words.source_image.declared.refusal.Refusal.TheVariants.{Memory};
 ghost use Rattle.noted_image.specs.Faults.{TellsWithNotes};
 ghost use Rattle.noted_image.specs.Notes.{IsNotedImageOfTexts};
 ghost use Rattle.noted_image.specs.declared.noting.NotedImage.{NotedImage};
 
-use text_laws::{
+use noted_image::image_words::{
     lowerings_have_one_image, texts_have_one_first_fault, texts_have_one_lowering,
     texts_have_one_refusal_of_traces,
 };

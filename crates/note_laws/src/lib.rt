@@ -11,3 +11,6 @@ pub use laws::{
     noted_images_exclude_refusals, notes_of_texts_pass, plans_exclude_refusals,
     texts_have_one_noted_image, texts_have_one_refusal_of_plans, texts_have_one_refusal_with_notes,
 };
+pub use noted_image::{
+    AuditFault, NotedImage, ProgramPlan, audited_image, image_words, source_noted, source_plan,
+};

@@ -15,21 +15,21 @@ use Rattle.lir_core.specs.declared.places.TraceOut.{TraceOut}
 use Rattle.boundary_resolve.specs.declared.code_line.CodeLine.{CodeLine}
 use Rattle.placed_code.specs.declared.data.ImageData.{ImageData}
 use Rattle.linked_flows.specs.Allocations.{Cut}
-use Rattle.link_plan.specs.Linked.{linked, Runs, AreCuts, AllAllocated, AreSmall, IsUnnamedAndFar, frame_of_cuts}
+use Rattle.planned_image.specs.words.link_plan.Linked.{linked, Runs, AreCuts, AllAllocated, AreSmall, IsUnnamedAndFar, frame_of_cuts}
 use Rattle.a64_select.specs.Selected.{selected}
 use Rattle.plain_form.specs.results.Bounds.{IsNotable}
-use Rattle.audited_allocations.specs.Joined.{joined}
-use Rattle.audited_allocations.proofs.Passing.{cuts_notable}
-use Rattle.alloc_choice.specs.declared.choice.Choice.{Choice}
-use Rattle.flow_allocation.specs.Allocations.{AllAllocations, AreAllocated, trace_count}
-use Rattle.back_end.specs.Images.{AreCutsOf}
-use Rattle.compiled_runs.specs.Compiled.{flows_of, data_of}
-use Rattle.placed_image.specs.Placing.{IsPlaceable}
-use Rattle.placed_image.proofs.Results.{CanBeLinked, sound_linked, linked_at, named_or_none}
-use Rattle.program_image.specs.Images.{IsProgramImage, DoesAsMeant}
-use Rattle.program_image.specs.Limits.{most_traces}
-use Rattle.program_image.proofs.Fitting.{all_named}
-use Rattle.program_image.proofs.Running.{linked_does_as_meant}
+use Rattle.planned_image.specs.audited_allocations.Joined.{joined}
+use Rattle.planned_image.proofs.audited_allocations.Passing.{cuts_notable}
+use Rattle.planned_image.specs.words.alloc_choice.declared.choice.Choice.{Choice}
+use Rattle.planned_image.specs.words.flow_allocation.Allocations.{AllAllocations, AreAllocated, trace_count}
+use Rattle.planned_image.specs.words.back_end.Images.{AreCutsOf}
+use Rattle.planned_image.specs.words.compiled_runs.Compiled.{flows_of, data_of}
+use Rattle.planned_image.specs.placed_image.Placing.{IsPlaceable}
+use Rattle.planned_image.proofs.placed_image.Results.{CanBeLinked, sound_linked, linked_at, named_or_none}
+use Rattle.planned_image.specs.words.program_image.Images.{IsProgramImage, DoesAsMeant}
+use Rattle.planned_image.specs.words.program_image.Limits.{most_traces}
+use Rattle.planned_image.proofs.words.program_image.Fitting.{all_named}
+use Rattle.planned_image.proofs.words.program_image.Running.{linked_does_as_meant}
 use Rattle.planned_image.specs.declared.planning.ProgramFlows.{ProgramFlows}
 use Rattle.planned_image.specs.Plans.{AreProgramFlows}
 

@@ -9,7 +9,7 @@ use Rattle.std.proofs.lemmas.List.Elements.{All-append, All-nil}
 use Rattle.lir_core.specs.declared.places.TraceOut.{TraceOut}
 use Rattle.plain_form.specs.results.Spelling.{result}
 use Rattle.plain_form.specs.results.Bounds.{TypedResult}
-use Rattle.audited_allocations.specs.Joined.{joined}
+use Rattle.planned_image.specs.audited_allocations.Joined.{joined}
 use Rattle.trace_notes.specs.Notes.{AreNotes, notes, most_bytes}
 use Rattle.noted_image.specs.Notes.{AreKept}
 

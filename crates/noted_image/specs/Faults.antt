@@ -5,13 +5,13 @@ use Rattle.image_form.specs.Form.{IsInForm}
 use Rattle.ob_types.specs.declared.program.Program.{Program}
 use Rattle.ssa_lowered.specs.Limits.{Limit, limit_of}
 use Rattle.linked_flows.specs.Allocations.{Cut}
-use Rattle.alloc_choice.specs.declared.choice.Choice.{Choice}
-use Rattle.audited_allocations.specs.Joined.{joined}
+use Rattle.planned_image.specs.words.alloc_choice.declared.choice.Choice.{Choice}
+use Rattle.planned_image.specs.audited_allocations.Joined.{joined}
 use Rattle.trace_notes.specs.Notes.{notes, most_bytes}
-use Rattle.program_image.specs.Images.{IsProgramImage}
-use Rattle.program_image.specs.Limits.{of_all, IsPassedFirst}
-use Rattle.program_image.specs.declared.fault.ProgramFault.{ProgramFault}
-use Rattle.program_image.specs.declared.fault.ProgramFault.TheVariants as whole
+use Rattle.planned_image.specs.words.program_image.Images.{IsProgramImage}
+use Rattle.planned_image.specs.words.program_image.Limits.{of_all, IsPassedFirst}
+use Rattle.planned_image.specs.words.program_image.declared.fault.ProgramFault.{ProgramFault}
+use Rattle.planned_image.specs.words.program_image.declared.fault.ProgramFault.TheVariants as whole
 
 -- a program has an image, and the notes of the results behind it have too many bytes
 pub record HasLongNotes (choice : Choice) (p : Program) : Type 0 where

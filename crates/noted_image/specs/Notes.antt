@@ -8,11 +8,11 @@ use Rattle.ob_types.specs.declared.program.Program.{Program}
 use Rattle.ssa_lowered.specs.Limits.{limit_of}
 use Rattle.lir_core.specs.declared.places.TraceOut.{TraceOut}
 use Rattle.linked_flows.specs.Allocations.{Cut}
-use Rattle.alloc_choice.specs.declared.choice.Choice.{Choice}
-use Rattle.audited_allocations.specs.Joined.{joined}
+use Rattle.planned_image.specs.words.alloc_choice.declared.choice.Choice.{Choice}
+use Rattle.planned_image.specs.audited_allocations.Joined.{joined}
 use Rattle.trace_notes.specs.Notes.{AreNotes, notes, most_bytes}
-use Rattle.program_image.specs.Images.{IsProgramImage, DoesAsMeant}
-use Rattle.source_program.specs.Texts.{IsProgramOfTexts}
+use Rattle.planned_image.specs.words.program_image.Images.{IsProgramImage, DoesAsMeant}
+use Rattle.planned_image.specs.words.source_program.Texts.{IsProgramOfTexts}
 use Rattle.noted_image.specs.declared.noting.NotedImage.{NotedImage}
 
 -- a program's image by a choice, which does what the program means, and the notes of the results behind it, which are read again as these

@@ -9,6 +9,9 @@ mod noting;
 mod sources;
 
 pub use noting::{NotedImage, noted_image};
-pub use program_image::{Builder, Choice, Image, Policy, ProgramFault};
-pub use source_image::Refusal;
+pub use planned_image::image_words::{Builder, Choice, Image, Policy, ProgramFault, Refusal};
+pub use planned_image::{
+    AuditFault, ProgramFlows, ProgramPlan, WorkFault, audited_image, cut_flows, image_words,
+    program_flows, source_plan,
+};
 pub use sources::source_noted;

@@ -4,7 +4,7 @@ ghost use Rattle.std.specs.Prelude.{◌≡◌, ◌++◌, length, map, All, IfOk,
 ghost use Rattle.std.specs.List.{flat_map};
 ghost use Rattle.plain_form.specs.results.Spelling.{result as spelled};
 ghost use Rattle.plain_form.specs.results.Bounds.{IsNotable, TypedResult};
-ghost use Rattle.audited_allocations.specs.Joined.{joined};
+ghost use Rattle.planned_image.specs.audited_allocations.Joined.{joined};
 ghost use Rattle.noted_image.specs.Notes.{AreKept};
 
 use lir_core::TraceOut;

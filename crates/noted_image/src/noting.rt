@@ -2,23 +2,21 @@
 
 ghost use Rattle.std.specs.Prelude.{◌≡◌, true, IfOk, IfErr};
 ghost use Rattle.ob_types.specs.WellFormed.{well_formed};
-ghost use Rattle.alloc_choice.specs.Choice.{IsFitChoice};
+ghost use Rattle.planned_image.specs.words.alloc_choice.Choice.{IsFitChoice};
 ghost use Rattle.noted_image.specs.Faults.{TellsWithNotes};
 ghost use Rattle.noted_image.specs.Notes.{IsNotedImage};
 
 use crate::notes::kept_notes;
-use flow_allocation::{AllocatedFlows, allocate_flows};
 use image_form::Image;
-use link_plan::{LinkFault, link};
 use ob_types::Program;
 use outside::Gate;
-use planned_image::{ProgramFlows, program_flows};
-use program_image::{Choice, ProgramFault, whole_limit};
-use source_image::of_words;
+use planned_image::image_words::{
+    AllocatedFlows, Choice, LinkFault, ProgramFault, allocate_flows, link, of_words, whole_limit,
+};
+use planned_image::{ProgramFlows, WorkFault, program_flows};
 use std::alloc::Global;
 use std::sync::Wait;
 use std::thread::Threads;
-use trace_work::WorkFault;
 
 /// An image, and the notes of the results behind it.
 #[derive(Drop)]

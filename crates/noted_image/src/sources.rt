@@ -1,17 +1,17 @@
 //! Noted images of texts.
 
 ghost use Rattle.std.specs.Prelude.{IfOk, IfErr};
-ghost use Rattle.alloc_choice.specs.Choice.{IsFitChoice};
-ghost use Rattle.source_image.specs.Refusals.{IsRefusalOf};
+ghost use Rattle.planned_image.specs.words.alloc_choice.Choice.{IsFitChoice};
+ghost use Rattle.planned_image.specs.words.source_image.Refusals.{IsRefusalOf};
 ghost use Rattle.noted_image.specs.Faults.{TellsWithNotes};
 ghost use Rattle.noted_image.specs.Notes.{IsNotedImageOfTexts};
 
 use crate::noting::{NotedImage, noted_image};
 use items::Items;
 use outside::Gate;
-use program_image::Choice;
-use source_image::{Refusal, refused_program, refused_source};
-use source_program::source_program;
+use planned_image::image_words::{
+    Choice, Refusal, refused_program, refused_source, source_program,
+};
 use std::alloc::Global;
 use std::sync::Wait;
 use std::thread::Threads;

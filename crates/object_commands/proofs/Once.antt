@@ -6,29 +6,29 @@ use Rattle.ob_types.specs.WellFormed.{well_formed}
 use Rattle.ob_types.specs.declared.program.Program.{Program}
 use Rattle.lir_core.specs.declared.places.TraceOut.{TraceOut}
 use Rattle.trace_build.specs.declared.builder.Builder.{Builder}
-use Rattle.alloc_choice.specs.declared.choice.Choice.{Choice}
+use Rattle.note_commands.specs.words.alloc_choice.declared.choice.Choice.{Choice}
 use Rattle.one_lowering.specs.Forms.{HaveOneLowering}
-use Rattle.program_image.specs.Faults.{TellsOfTraces}
-use Rattle.source_program.specs.Texts.{IsProgramOfTexts, IsSourceFault}
-use Rattle.source_program.specs.declared.fault.SourceFault.{SourceFault}
-use Rattle.source_program.specs.declared.fault.SourceFault.TheVariants as source
-use Rattle.source_image.specs.Refusals.{IsRefusalOf, IsRefusalOfTraces}
-use Rattle.source_image.specs.declared.refusal.Refusal.{Refusal}
-use Rattle.source_image.specs.declared.refusal.Refusal.TheVariants.{Memory}
-use Rattle.planned_image.specs.Plans.{IsPlanOfTexts, TellsOfPlan}
-use Rattle.planned_image.specs.declared.planning.ProgramPlan.{ProgramPlan}
+use Rattle.note_commands.specs.words.program_image.Faults.{TellsOfTraces}
+use Rattle.note_commands.specs.words.source_program.Texts.{IsProgramOfTexts, IsSourceFault}
+use Rattle.note_commands.specs.words.source_program.declared.fault.SourceFault.{SourceFault}
+use Rattle.note_commands.specs.words.source_program.declared.fault.SourceFault.TheVariants as source
+use Rattle.note_commands.specs.words.source_image.Refusals.{IsRefusalOf, IsRefusalOfTraces}
+use Rattle.note_commands.specs.words.source_image.declared.refusal.Refusal.{Refusal}
+use Rattle.note_commands.specs.words.source_image.declared.refusal.Refusal.TheVariants.{Memory}
+use Rattle.note_commands.specs.planned_image.Plans.{IsPlanOfTexts, TellsOfPlan}
+use Rattle.note_commands.specs.planned_image.declared.planning.ProgramPlan.{ProgramPlan}
 use Rattle.object_form.specs.declared.object.Object.{Object}
 use Rattle.object_form.specs.Reading.{object_in}
 use Rattle.object_form.specs.Faults.{numbered}
 use Rattle.object_form.proofs.Objects.{object_again, one_object}
 use Rattle.obj_link.specs.Joining.{other_choice, results_of, texts_of}
-use Rattle.module_object.specs.Objects.{IsObjectOfTexts}
+use Rattle.object_laws.specs.module_object.Objects.{IsObjectOfTexts}
 use Rattle.object_laws.proofs.One.{one_object_of_texts}
-use Rattle.text_laws.proofs.one_refusal.Passed.{early_apart}
-use Rattle.text_laws.proofs.one_refusal.Refused.{excluded}
+use Rattle.note_commands.proofs.words.text_laws.one_refusal.Passed.{early_apart}
+use Rattle.note_commands.proofs.words.text_laws.one_refusal.Refused.{excluded}
 use Rattle.trc_answers.specs.Verdict.{Verdict, Refuses, Written}
 use Rattle.trc_answers.specs.declared.causes.Cause.TheVariants as cause
-use Rattle.trc_texts.specs.Texts.{cause_of_refusal}
+use Rattle.note_commands.specs.trc_texts.Texts.{cause_of_refusal}
 use Rattle.note_commands.proofs.Once.{results_once}
 use Rattle.object_commands.specs.Objects.{IsStored, IsTooLong, IsShort, ObjectComesTo, HaveNoObject, HaveObject}
 use Rattle.object_commands.specs.Links.{AreHeld, AreObjectsIn, ContentsComeTo, HaveObjects, IsFirstBroken, IsNoObject, BreaksRule, IsObjectIn, JoinedComeTo, HaveNoPlan, HavePlan, LinkComesTo, AreTooMany, LacksOne, HaveContents, ObjectsComeTo, HasOther, AreOfOne}

@@ -5,26 +5,26 @@ use Rattle.std.specs.Borrow.{Bor}
 use Rattle.std.proofs.lemmas.List.{length-map}
 use Rattle.outside.specs.Files.{Held}
 use Rattle.outside.specs.Sink.{Account}
-use Rattle.alloc_choice.specs.declared.choice.Choice.{Choice}
+use Rattle.note_commands.specs.words.alloc_choice.declared.choice.Choice.{Choice}
 use Rattle.trace_build.specs.declared.builder.Builder.{Builder}
 use Rattle.lir_core.specs.declared.places.TraceOut.{TraceOut}
-use Rattle.source_image.specs.Refusals.{IsRefusalOf, IsRefusalOfTraces}
-use Rattle.planned_image.specs.Plans.{IsPlanOfTexts, TellsOfPlan}
-use Rattle.planned_image.specs.declared.planning.ProgramPlan.{ProgramPlan}
+use Rattle.note_commands.specs.words.source_image.Refusals.{IsRefusalOf, IsRefusalOfTraces}
+use Rattle.note_commands.specs.planned_image.Plans.{IsPlanOfTexts, TellsOfPlan}
+use Rattle.note_commands.specs.planned_image.declared.planning.ProgramPlan.{ProgramPlan}
 use Rattle.object_form.specs.declared.object.Object.{Object}
 use Rattle.object_form.specs.Objects.{IsObject, most_bytes, object_bytes}
 use Rattle.obj_link.specs.Joining.{HasChoice, IsJoined, TellsOfJoin, other_choice, results_of, texts_of}
 use Rattle.obj_link.specs.declared.joining.Joined.{Joined}
 use Rattle.obj_link.specs.declared.fault.JoinFault.{JoinFault}
 use Rattle.obj_link.specs.declared.fault.JoinFault.TheVariants as join_fault
-use Rattle.module_object.specs.Objects.{IsObjectOfTexts}
+use Rattle.object_laws.specs.module_object.Objects.{IsObjectOfTexts}
 use Rattle.trc_answers.specs.Verdict.{Verdict, Refuses, IsWritten, Written}
 use Rattle.trc_answers.specs.Answers.{Devices, devices, Answers}
 use Rattle.trc_answers.specs.declared.causes.Cause.{Cause}
 use Rattle.trc_answers.specs.declared.causes.Cause.TheVariants as cause
 use Rattle.trc_answers.proofs.Answering.{refuses, lacks, files_failed, mapped, later, wrote}
-use Rattle.trc_texts.specs.Texts.{IsRefusedAs}
-use Rattle.trc_texts.proofs.Refusing.{refused}
+use Rattle.note_commands.specs.trc_texts.Texts.{IsRefusedAs}
+use Rattle.note_commands.proofs.trc_texts.Refusing.{refused}
 use Rattle.note_commands.specs.Audits.{AuditedComeTo}
 use Rattle.object_commands.specs.Objects.{IsStored, IsTooLong, IsShort, ObjectComesTo, HaveNoObject, HaveObject}
 use Rattle.object_commands.specs.Links.{AreHeld, ContentsComeTo, JoinedComeTo, HaveNoPlan, HavePlan, LinkComesTo, LacksOne, HaveContents, ObjectsComeTo, HasOther, AreOfOne, cause_of_join}

@@ -3,9 +3,9 @@ use Rattle.std.specs.Prelude.{◌≡◌, ◌≤◌, ◌<◌, ℕ, List, [], ◌�
 use Rattle.outside.specs.Files.{Held}
 use Rattle.lir_core.specs.declared.places.TraceOut.{TraceOut}
 use Rattle.trace_build.specs.declared.builder.Builder.{Builder}
-use Rattle.source_image.specs.Refusals.{IsRefusalOf}
-use Rattle.planned_image.specs.Plans.{IsPlanOfTexts, TellsOfPlan}
-use Rattle.planned_image.specs.declared.planning.ProgramPlan.{ProgramPlan}
+use Rattle.note_commands.specs.words.source_image.Refusals.{IsRefusalOf}
+use Rattle.note_commands.specs.planned_image.Plans.{IsPlanOfTexts, TellsOfPlan}
+use Rattle.note_commands.specs.planned_image.declared.planning.ProgramPlan.{ProgramPlan}
 use Rattle.object_form.specs.declared.object.Object.{Object}
 use Rattle.object_form.specs.Objects.{IsObject, most_bytes, object_bytes}
 use Rattle.object_form.specs.Faults.{numbered}
@@ -17,7 +17,7 @@ use Rattle.trc_answers.specs.Verdict.{Verdict, Refuses, IsHeld, Written}
 use Rattle.trc_answers.specs.Reading.{most_modules}
 use Rattle.trc_answers.specs.declared.causes.Cause.{Cause}
 use Rattle.trc_answers.specs.declared.causes.Cause.TheVariants as cause
-use Rattle.trc_texts.specs.Texts.{AreRefused}
+use Rattle.note_commands.specs.trc_texts.Texts.{AreRefused}
 use Rattle.note_commands.specs.Audits.{AuditedComeTo}
 
 ---- Files

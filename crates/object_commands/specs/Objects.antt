@@ -1,13 +1,13 @@
 -- What texts come to of which the last one's object is written.
 use Rattle.std.specs.Prelude.{◌≡◌, ◌≤◌, ◌<◌, ℕ, List, length}
-use Rattle.alloc_choice.specs.declared.choice.Choice.{Choice}
-use Rattle.source_image.specs.Refusals.{IsRefusalOfTraces}
+use Rattle.note_commands.specs.words.alloc_choice.declared.choice.Choice.{Choice}
+use Rattle.note_commands.specs.words.source_image.Refusals.{IsRefusalOfTraces}
 use Rattle.object_form.specs.declared.object.Object.{Object}
 use Rattle.object_form.specs.Objects.{IsObject, most_bytes, object_bytes}
-use Rattle.module_object.specs.Objects.{IsObjectOfTexts}
+use Rattle.object_laws.specs.module_object.Objects.{IsObjectOfTexts}
 use Rattle.trc_answers.specs.Verdict.{Verdict, Refuses, IsWritten}
 use Rattle.trc_answers.specs.declared.causes.Cause.TheVariants as cause
-use Rattle.trc_texts.specs.Texts.{AreRefused}
+use Rattle.note_commands.specs.trc_texts.Texts.{AreRefused}
 
 -- an object has too many bytes, or it is written to a file, and its bytes are read again as it
 pub data IsStored (out : List ℕ) (object : Object) (verdict : Verdict) : Type 0 where

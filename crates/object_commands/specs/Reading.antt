@@ -6,7 +6,7 @@ use Rattle.object_form.specs.declared.object.Object.{Object as Read}
 use Rattle.object_form.specs.Objects.{IsObject}
 use Rattle.obj_link.specs.Joining.{texts_of}
 use Rattle.trc_answers.specs.Verdict.{IsHeld}
-use Rattle.trc_texts.specs.Texts.{IsTextIn as IsTextOf}
+use Rattle.note_commands.specs.trc_texts.Texts.{IsTextIn as IsTextOf}
 use Rattle.trc_answers.specs.declared.causes.Device.TheVariants.{Files}
 use Rattle.trc_answers.specs.declared.causes.Cause.{Cause}
 use Rattle.trc_answers.specs.declared.causes.Cause.TheVariants.{NoSuchFile, ReadFault, Memory}

@@ -2,15 +2,15 @@
 
 ghost use Rattle.std.specs.Prelude.{◌≡◌, ℕ, List, Some};
 ghost use Rattle.outside.specs.Files.{Held};
-ghost use Rattle.alloc_choice.specs.declared.choice.Choice.{Choice};
+ghost use Rattle.note_commands.specs.words.alloc_choice.declared.choice.Choice.{Choice};
 ghost use Rattle.trc_answers.specs.Verdict.{Verdict};
 ghost use Rattle.object_commands.specs.Objects.{ObjectComesTo};
 ghost use Rattle.object_commands.specs.Links.{LinkComesTo};
 
-use note_laws::{plans_exclude_refusals, texts_have_one_refusal_of_plans};
-use text_laws::{
+use note_commands::image_words::{
     texts_have_one_first_fault, texts_have_one_lowering, texts_have_one_refusal_of_traces,
 };
+use note_commands::{plans_exclude_refusals, texts_have_one_refusal_of_plans};
 
 /// Texts of which the last one's object is written come to one thing at most: to one refusal, or to one object. This follows from the
 /// laws of texts, which are cited as calls that do nothing.

@@ -5,13 +5,13 @@ ghost use Rattle.outside.specs.Sink.{Account};
 ghost use Rattle.ob_types.specs.WellFormed.{well_formed};
 ghost use Rattle.ob_types.specs.declared.program.Program.{Program};
 ghost use Rattle.trace_build.specs.declared.builder.Builder.{Builder};
-ghost use Rattle.planned_image.specs.Plans.{IsPlan, IsProgramPlan};
+ghost use Rattle.note_commands.specs.planned_image.Plans.{IsPlan, IsProgramPlan};
 ghost use Rattle.object_form.specs.Objects.{IsObject};
 ghost use Rattle.obj_link.specs.Joining.{texts_of};
 ghost use Rattle.trc_answers.specs.Answers.{Answers, devices};
 ghost use Rattle.trc_answers.specs.Causes.{IsPlaced, IsPlain};
 ghost use Rattle.trc_answers.specs.Verdict.{Written};
-ghost use Rattle.trc_texts.specs.Texts.{IsTextIn};
+ghost use Rattle.note_commands.specs.trc_texts.Texts.{IsTextIn};
 ghost use Rattle.note_commands.specs.Audits.{AuditedComeTo};
 ghost use Rattle.object_commands.specs.Links.{ContentsComeTo, IsTextOfObject, JoinedComeTo, LinkComesTo, ObjectsComeTo, cause_of_join};
 ghost use Rattle.object_commands.specs.Reading.{AreContents, AreFew, IsTextIn as IsTextOfContents};
@@ -19,13 +19,12 @@ ghost use Rattle.object_commands.specs.Reading.{AreContents, AreFew, IsTextIn as
 use crate::reading::{Contents, read_contents};
 use items::Items;
 use lir_core::TraceOut;
-use note_commands::not_accepted;
+use note_commands::image_words::Builder;
+use note_commands::{ProgramPlan, audited_image, not_accepted, refused, source_plan};
 use obj_link::{JoinFault, Joined, Object, join};
 use outside::Files;
-use planned_image::{Builder, ProgramPlan, audited_image, source_plan};
 use std::alloc::Global;
 use trc_answers::{Cause, Ending, write_image_file};
-use trc_texts::refused;
 
 /// The most objects that are linked.
 const MOST_OBJECTS: usize = 64;

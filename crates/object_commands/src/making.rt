@@ -2,25 +2,26 @@
 
 ghost use Rattle.std.specs.Prelude.{◌≡◌, ◌≤◌, ℕ, List, Option, length, map, IfOk, IfErr};
 ghost use Rattle.outside.specs.Sink.{Account};
-ghost use Rattle.alloc_choice.specs.Choice.{IsFitChoice};
-ghost use Rattle.source_image.specs.Refusals.{IsRefusalOfTraces};
+ghost use Rattle.note_commands.specs.words.alloc_choice.Choice.{IsFitChoice};
+ghost use Rattle.note_commands.specs.words.source_image.Refusals.{IsRefusalOfTraces};
 ghost use Rattle.object_form.specs.Objects.{IsWritable};
-ghost use Rattle.module_object.specs.Objects.{IsObjectOfTexts};
+ghost use Rattle.object_laws.specs.module_object.Objects.{IsObjectOfTexts};
 ghost use Rattle.trc_answers.specs.Answers.{Answers, devices};
 ghost use Rattle.trc_answers.specs.Causes.{IsPlaced, IsPlain};
 ghost use Rattle.trc_answers.specs.Reading.{FilesComeTo};
-ghost use Rattle.trc_texts.specs.Texts.{IsRefusedAs, IsTextHeld, IsTextIn};
+ghost use Rattle.note_commands.specs.trc_texts.Texts.{IsRefusedAs, IsTextHeld, IsTextIn};
 ghost use Rattle.object_commands.specs.Objects.{IsStored, ObjectComesTo};
 
 use items::Items;
-use module_object::{Choice, Object, module_object};
+use note_commands::refused;
 use object_form::{ObjectFault, write_object};
+use object_laws::image_words::Choice;
+use object_laws::{Object, module_object};
 use outside::{Files, Gate};
 use std::alloc::{AllocGlobal, Global};
 use std::sync::Wait;
 use std::thread::Threads;
 use trc_answers::{Cause, Ending, read_texts, write_file};
-use trc_texts::refused;
 
 // The object of the last of some texts, of which there are at most 64.
 fn made_object<R: Threads + Wait + Sync, G: Gate>(

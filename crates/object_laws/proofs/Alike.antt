@@ -5,15 +5,15 @@ use Rattle.lir_core.specs.declared.flow.Trace.{Trace}
 use Rattle.lir_core.specs.declared.places.TraceOut.{TraceOut}
 use Rattle.trace_build.specs.Traces.{traces_of}
 use Rattle.linked_flows.specs.Allocations.{Cut}
-use Rattle.alloc_choice.specs.declared.choice.Choice.{Choice}
-use Rattle.alloc_choice.specs.Results.{case_with, results_to}
-use Rattle.flow_allocation.specs.Allocations.{IsAllocation, AllAllocations}
+use Rattle.module_object.specs.words.alloc_choice.declared.choice.Choice.{Choice}
+use Rattle.module_object.specs.words.alloc_choice.Results.{case_with, results_to}
+use Rattle.module_object.specs.words.flow_allocation.Allocations.{IsAllocation, AllAllocations}
 use Rattle.moved_data.specs.Alike.{AreAlike}
 use Rattle.moved_data.proofs.Alike.{one_cut, one_live, one_result}
 use Rattle.moved_flows.specs.Flows.{AllAlike}
-use Rattle.planned_image.proofs.Own.{traces_same}
-use Rattle.text_laws.proofs.one_image.Bits.{same_bits}
-use Rattle.text_laws.proofs.one_image.Results.{results_same}
+use Rattle.module_object.proofs.planned_image.Own.{traces_same}
+use Rattle.module_object.proofs.words.text_laws.one_image.Bits.{same_bits}
+use Rattle.module_object.proofs.words.text_laws.one_image.Results.{results_same}
 
 abbrev pub flows : List Cut → List Flow
 flows cs = map (λ c. c.flow) cs

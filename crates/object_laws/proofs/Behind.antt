@@ -6,9 +6,9 @@ use Rattle.lir_core.specs.declared.places.TraceOut.{TraceOut}
 use Rattle.trace_build.specs.Traces.{traces_in}
 use Rattle.trace_build.specs.Cuts.{lists_of}
 use Rattle.linked_flows.specs.Allocations.{Cut}
-use Rattle.alloc_choice.specs.declared.choice.Choice.{Choice}
-use Rattle.audited_allocations.specs.Joined.{joined}
-use Rattle.flow_allocation.specs.Allocations.{AllAllocations, trace_count}
+use Rattle.module_object.specs.words.alloc_choice.declared.choice.Choice.{Choice}
+use Rattle.module_object.specs.audited_allocations.Joined.{joined}
+use Rattle.module_object.specs.words.flow_allocation.Allocations.{AllAllocations, trace_count}
 use Rattle.one_lowering.proofs.Lists.{take_map}
 use Rattle.moved_flows.specs.Flows.{AllAlike}
 use Rattle.moved_flows.proofs.Starts.{one_count}

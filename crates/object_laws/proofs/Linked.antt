@@ -11,21 +11,21 @@ use Rattle.lir_core.specs.declared.places.TraceOut.{TraceOut}
 use Rattle.placed_code.specs.Layout.{all_words}
 use Rattle.placed_code.specs.Results.{all_placed}
 use Rattle.linked_flows.specs.Allocations.{Cut, steps_of, all_allocated}
-use Rattle.alloc_choice.specs.declared.choice.Choice.{Choice}
+use Rattle.module_object.specs.words.alloc_choice.declared.choice.Choice.{Choice}
 use Rattle.alloc_audit.specs.declared.verdict.Verdict.TheVariants.{Sound}
 use Rattle.alloc_audit.specs.Results.{AreLive}
-use Rattle.audited_allocations.specs.Joined.{joined}
-use Rattle.back_end.specs.Images.{AreCutsOf, code_length}
-use Rattle.placed_image.specs.Cutting.{AreCutBy}
-use Rattle.placed_image.specs.Shares.{cuts_of}
-use Rattle.program_image.specs.Images.{IsProgramImage}
-use Rattle.program_image.specs.declared.imaging.Compiled.{Compiled}
-use Rattle.source_program.specs.Texts.{IsProgramOfTexts}
-use Rattle.source_image.specs.Images.{IsImageOfTexts}
-use Rattle.planned_image.specs.Plans.{IsPlanOfTexts}
-use Rattle.planned_image.specs.Audits.{IsImageOfResults, verdict_on}
-use Rattle.planned_image.specs.declared.planning.ProgramPlan.{ProgramPlan}
-use Rattle.planned_image.proofs.Own.{own_pass, own_image, cut_same, cuts_back}
+use Rattle.module_object.specs.audited_allocations.Joined.{joined}
+use Rattle.module_object.specs.words.back_end.Images.{AreCutsOf, code_length}
+use Rattle.module_object.specs.placed_image.Cutting.{AreCutBy}
+use Rattle.module_object.specs.placed_image.Shares.{cuts_of}
+use Rattle.module_object.specs.words.program_image.Images.{IsProgramImage}
+use Rattle.module_object.specs.words.program_image.declared.imaging.Compiled.{Compiled}
+use Rattle.module_object.specs.words.source_program.Texts.{IsProgramOfTexts}
+use Rattle.module_object.specs.words.source_image.Images.{IsImageOfTexts}
+use Rattle.module_object.specs.planned_image.Plans.{IsPlanOfTexts}
+use Rattle.module_object.specs.planned_image.Audits.{IsImageOfResults, verdict_on}
+use Rattle.module_object.specs.planned_image.declared.planning.ProgramPlan.{ProgramPlan}
+use Rattle.module_object.proofs.planned_image.Own.{own_pass, own_image, cut_same, cuts_back}
 use Rattle.one_lowering.specs.Forms.{HaveOneLowering}
 use Rattle.object_laws.proofs.Alike.{results}
 

@@ -15,8 +15,8 @@ use Rattle.judged_tree.specs.Plain.{plain_procedure}
 use Rattle.judged_programs.specs.ProgramOf.{IsProgramOf}
 use Rattle.judged_fronts.specs.Fronts.{IsByModules}
 use Rattle.judged_fronts.proofs.Modules.{modules_stay, by_modules}
-use Rattle.source_program.specs.Texts.{AreParsed, IsProgramOfTexts}
-use Rattle.text_laws.proofs.one_program.Reading.{all_parsed_once}
+use Rattle.module_object.specs.words.source_program.Texts.{AreParsed, IsProgramOfTexts}
+use Rattle.module_object.proofs.words.text_laws.one_program.Reading.{all_parsed_once}
 use Rattle.module_object.specs.Objects.{before_module}
 use Rattle.object_laws.proofs.Lists.{length_first, item_at, mapped_at}
 

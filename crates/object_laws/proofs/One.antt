@@ -8,13 +8,13 @@ use Rattle.ssa_core.specs.declared.procedure.Proc.{Proc}
 use Rattle.a64_select.specs.Selected.{selected}
 use Rattle.lir_core.specs.declared.places.TraceOut.{TraceOut}
 use Rattle.trace_build.specs.Traces.{traces_in}
-use Rattle.alloc_choice.specs.declared.choice.Choice.{Choice}
-use Rattle.audited_allocations.specs.Joined.{joined}
-use Rattle.flow_allocation.specs.Allocations.{AllAllocations}
-use Rattle.compiled_runs.specs.Compiled.{flows_of}
-use Rattle.source_program.specs.Texts.{IsProgramOfTexts}
+use Rattle.module_object.specs.words.alloc_choice.declared.choice.Choice.{Choice}
+use Rattle.module_object.specs.audited_allocations.Joined.{joined}
+use Rattle.module_object.specs.words.flow_allocation.Allocations.{AllAllocations}
+use Rattle.module_object.specs.words.compiled_runs.Compiled.{flows_of}
+use Rattle.module_object.specs.words.source_program.Texts.{IsProgramOfTexts}
 use Rattle.one_lowering.specs.Forms.{HaveOneLowering, place_of}
-use Rattle.text_laws.proofs.one_image.Cuts.{cuts_same}
+use Rattle.module_object.proofs.words.text_laws.one_image.Cuts.{cuts_same}
 use Rattle.object_form.specs.declared.object.Object.{Object}
 use Rattle.module_object.specs.Objects.{before_module, AreOwnResults, IsObjectOfTexts}
 use Rattle.object_laws.proofs.Alike.{flows, results}

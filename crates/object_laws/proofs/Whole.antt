@@ -15,18 +15,18 @@ use Rattle.ssa_lowered.specs.Lowered.{lowered}
 use Rattle.a64_select.specs.Selected.{selected}
 use Rattle.lir_core.specs.declared.flow.Flow.{Flow}
 use Rattle.linked_flows.specs.Allocations.{Cut}
-use Rattle.alloc_choice.specs.declared.choice.Choice.{Choice}
-use Rattle.audited_allocations.specs.Joined.{joined}
-use Rattle.back_end.specs.Images.{AreCutsOf}
-use Rattle.compiled_runs.specs.Compiled.{flows_of}
-use Rattle.compiled_runs.proofs.Whole.{lowered_each}
-use Rattle.source_program.specs.Texts.{IsProgramOfTexts}
+use Rattle.module_object.specs.words.alloc_choice.declared.choice.Choice.{Choice}
+use Rattle.module_object.specs.audited_allocations.Joined.{joined}
+use Rattle.module_object.specs.words.back_end.Images.{AreCutsOf}
+use Rattle.module_object.specs.words.compiled_runs.Compiled.{flows_of}
+use Rattle.module_object.proofs.words.compiled_runs.Whole.{lowered_each}
+use Rattle.module_object.specs.words.source_program.Texts.{IsProgramOfTexts}
 use Rattle.one_lowering.proofs.Lists.{take_map}
 use Rattle.moved_lowering.specs.Starts.{HasStart}
 use Rattle.moved_flows.specs.Flows.{AllAlike, AreAlikeFirst}
 use Rattle.start_forms.proofs.Starts.{has_start}
-use Rattle.text_laws.proofs.judged_shapes.Programs.{judged_closed, program_closed}
-use Rattle.text_laws.proofs.one_program.OneProgram.{uses_in_order}
+use Rattle.module_object.proofs.words.text_laws.judged_shapes.Programs.{judged_closed, program_closed}
+use Rattle.module_object.proofs.words.text_laws.one_program.OneProgram.{uses_in_order}
 use Rattle.object_form.specs.declared.object.Object.{Object}
 use Rattle.obj_link.specs.Joining.{results_of}
 use Rattle.module_object.specs.Objects.{before_module, AreOwnResults, IsObjectOfTexts}

@@ -1,6 +1,6 @@
 -- The objects of all modules of a program.
 use Rattle.std.specs.Prelude.{◌≡◌, ℕ, suc, List, length, take, Some, slice_get}
-use Rattle.alloc_choice.specs.declared.choice.Choice.{Choice}
+use Rattle.module_object.specs.words.alloc_choice.declared.choice.Choice.{Choice}
 use Rattle.object_form.specs.declared.object.Object.{Object}
 use Rattle.module_object.specs.Objects.{IsObjectOfTexts}
 

@@ -6,25 +6,27 @@ ghost use Rattle.ob_types.specs.WellFormed.{well_formed};
 ghost use Rattle.ob_types.specs.declared.program.Program.{Program};
 ghost use Rattle.ssa_lowered.specs.Lowered.{lowered};
 ghost use Rattle.linked_flows.specs.Allocations.{Cut};
-ghost use Rattle.alloc_choice.specs.declared.choice.Choice.{Choice};
+ghost use Rattle.module_object.specs.words.alloc_choice.declared.choice.Choice.{Choice};
 ghost use Rattle.alloc_audit.specs.declared.verdict.Verdict.TheVariants.{Sound};
 ghost use Rattle.alloc_audit.specs.Results.{AreLive};
-ghost use Rattle.audited_allocations.specs.Joined.{joined};
-ghost use Rattle.back_end.specs.Images.{AreCutsOf, code_length};
-ghost use Rattle.placed_image.specs.Shares.{cuts_of};
-ghost use Rattle.program_image.specs.declared.imaging.Compiled.{Compiled};
-ghost use Rattle.source_program.specs.Texts.{IsProgramOfTexts};
-ghost use Rattle.source_image.specs.Images.{IsImageOfTexts};
-ghost use Rattle.planned_image.specs.Plans.{IsPlanOfTexts};
-ghost use Rattle.planned_image.specs.Audits.{IsImageOfResults, verdict_on};
-ghost use Rattle.planned_image.specs.declared.planning.ProgramPlan.{ProgramPlan};
+ghost use Rattle.module_object.specs.audited_allocations.Joined.{joined};
+ghost use Rattle.module_object.specs.words.back_end.Images.{AreCutsOf, code_length};
+ghost use Rattle.module_object.specs.placed_image.Shares.{cuts_of};
+ghost use Rattle.module_object.specs.words.program_image.declared.imaging.Compiled.{Compiled};
+ghost use Rattle.module_object.specs.words.source_program.Texts.{IsProgramOfTexts};
+ghost use Rattle.module_object.specs.words.source_image.Images.{IsImageOfTexts};
+ghost use Rattle.module_object.specs.planned_image.Plans.{IsPlanOfTexts};
+ghost use Rattle.module_object.specs.planned_image.Audits.{IsImageOfResults, verdict_on};
+ghost use Rattle.module_object.specs.planned_image.declared.planning.ProgramPlan.{ProgramPlan};
 ghost use Rattle.object_form.specs.declared.object.Object.{Object};
 ghost use Rattle.obj_link.specs.Joining.{results_of};
 ghost use Rattle.module_object.specs.Objects.{IsObjectOfTexts};
 ghost use Rattle.object_laws.specs.Objects.{AreObjectsOfTexts};
 
+use module_object::image_words::{
+    lowerings_have_one_image, texts_are_read_once, texts_have_one_lowering,
+};
 use moved_flows::starts_have_alike_flows;
-use text_laws::{lowerings_have_one_image, texts_are_read_once, texts_have_one_lowering};
 
 /// By choices with the same policy, builder and number of registers texts have one object. This and what follows are shown by the laws
 /// below, which are cited as calls that do nothing.

@@ -9,3 +9,4 @@
 mod laws;
 
 pub use laws::{objects_have_whole_results, objects_link_as_built, texts_have_one_object};
+pub use module_object::{Object, image_words, module_object};

@@ -15,3 +15,4 @@ pub use cutting::cut_flows;
 pub use fault::PlacingFault;
 pub use laws::placed_results_are_linked;
 pub use placing::placed_image;
+pub use trace_work::WorkFault;

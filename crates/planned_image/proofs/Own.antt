@@ -7,18 +7,18 @@ use Rattle.lir_core.specs.declared.flow.Flow.{Flow}
 use Rattle.lir_core.specs.declared.flow.Trace.{Trace}
 use Rattle.trace_build.specs.Cuts.{lists_of}
 use Rattle.linked_flows.specs.Allocations.{Cut}
-use Rattle.link_plan.specs.Linked.{linked}
-use Rattle.alloc_choice.specs.declared.choice.Choice.{Choice}
+use Rattle.image_words.specs.link_plan.Linked.{linked}
+use Rattle.image_words.specs.alloc_choice.declared.choice.Choice.{Choice}
 use Rattle.alloc_audit.specs.declared.verdict.Verdict.TheVariants.{Sound}
 use Rattle.alloc_audit.specs.Verdicts.{verdict_of}
 use Rattle.alloc_audit.specs.Results.{AreLive}
-use Rattle.audited_allocations.specs.Joined.{joined}
-use Rattle.audited_allocations.proofs.Passing.{cuts_pass}
-use Rattle.flow_allocation.specs.Allocations.{AllAllocations, trace_count}
-use Rattle.back_end.specs.Images.{AreCutsOf}
-use Rattle.compiled_runs.specs.Compiled.{flows_of, data_of}
-use Rattle.program_image.specs.Images.{IsProgramImage}
-use Rattle.program_image.specs.Limits.{most_traces}
+use Rattle.placed_image.specs.audited_allocations.Joined.{joined}
+use Rattle.placed_image.proofs.audited_allocations.Passing.{cuts_pass}
+use Rattle.image_words.specs.flow_allocation.Allocations.{AllAllocations, trace_count}
+use Rattle.image_words.specs.back_end.Images.{AreCutsOf}
+use Rattle.image_words.specs.compiled_runs.Compiled.{flows_of, data_of}
+use Rattle.image_words.specs.program_image.Images.{IsProgramImage}
+use Rattle.image_words.specs.program_image.Limits.{most_traces}
 use Rattle.placed_image.specs.Cutting.{AreCutBy}
 use Rattle.placed_image.specs.Shares.{cuts_of}
 use Rattle.placed_image.proofs.Results.{shares_are}

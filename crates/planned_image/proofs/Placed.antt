@@ -16,21 +16,21 @@ use Rattle.a64_select.specs.Selected.{selected}
 use Rattle.trace_build.specs.declared.builder.Builder.{Builder}
 use Rattle.placed_code.specs.declared.data.ImageData.{ImageData}
 use Rattle.linked_flows.specs.Allocations.{Cut}
-use Rattle.link_plan.specs.Linked.{linked, DataFits}
+use Rattle.image_words.specs.link_plan.Linked.{linked, DataFits}
 use Rattle.alloc_audit.specs.declared.verdict.Verdict.{Verdict}
 use Rattle.alloc_audit.specs.declared.verdict.Verdict.TheVariants.{Sound}
 use Rattle.alloc_audit.specs.Results.{AreWalked}
-use Rattle.back_end.specs.Images.{code_length}
-use Rattle.compiled_runs.specs.Compiled.{flows_of, data_of}
+use Rattle.image_words.specs.back_end.Images.{code_length}
+use Rattle.image_words.specs.compiled_runs.Compiled.{flows_of, data_of}
 use Rattle.placed_image.specs.Cutting.{AreCutBy}
 use Rattle.placed_image.specs.Shares.{cuts_of}
 use Rattle.placed_image.specs.Placing.{IsPlaceable, CanBePlaced, IsPlacedImage}
 use Rattle.placed_image.specs.declared.fault.PlacingFault.{PlacingFault}
 use Rattle.placed_image.specs.declared.fault.PlacingFault.TheVariants as placing
 use Rattle.placed_image.proofs.Results.{flows_are}
-use Rattle.program_image.specs.Images.{DoesAsMeant}
-use Rattle.program_image.proofs.Fitting.{data_fits_as, all_named}
-use Rattle.program_image.proofs.Running.{linked_does_as_meant}
+use Rattle.image_words.specs.program_image.Images.{DoesAsMeant}
+use Rattle.image_words.proofs.program_image.Fitting.{data_fits_as, all_named}
+use Rattle.image_words.proofs.program_image.Running.{linked_does_as_meant}
 use Rattle.planned_image.specs.Plans.{IsProgramPlan}
 use Rattle.planned_image.specs.Audits.{IsImageOfResults, RefusesBy, TellsOfAudit, verdict_on}
 use Rattle.planned_image.specs.Faults.{of_placing}

@@ -12,15 +12,15 @@ use Rattle.a64_select.specs.Selected.{selected}
 use Rattle.a64_select.proofs.FlowValid.{selected_valid}
 use Rattle.trace_build.specs.declared.builder.Builder.{Builder}
 use Rattle.trace_build.specs.Traces.{traces_in}
-use Rattle.alloc_choice.specs.declared.choice.Choice.{Choice}
-use Rattle.back_end.specs.Images.{IsReady, HasFewValues}
-use Rattle.back_end.specs.Numbers.{node_numbers}
-use Rattle.compiled_runs.specs.Compiled.{flows_of}
+use Rattle.image_words.specs.alloc_choice.declared.choice.Choice.{Choice}
+use Rattle.image_words.specs.back_end.Images.{IsReady, HasFewValues}
+use Rattle.image_words.specs.back_end.Numbers.{node_numbers}
+use Rattle.image_words.specs.compiled_runs.Compiled.{flows_of}
 use Rattle.placed_image.specs.Placing.{IsPlaceable}
-use Rattle.program_image.specs.Faults.{TellsOfTraces, of_lowering}
-use Rattle.program_image.specs.Limits.{IsPassedBeforeCode, InLowering, ByTraces}
-use Rattle.program_image.specs.declared.fault.ProgramFault.{ProgramFault}
-use Rattle.program_image.specs.declared.fault.ProgramFault.TheVariants as whole
+use Rattle.image_words.specs.program_image.Faults.{TellsOfTraces, of_lowering}
+use Rattle.image_words.specs.program_image.Limits.{IsPassedBeforeCode, InLowering, ByTraces}
+use Rattle.image_words.specs.program_image.declared.fault.ProgramFault.{ProgramFault}
+use Rattle.image_words.specs.program_image.declared.fault.ProgramFault.TheVariants as whole
 use Rattle.planned_image.specs.Plans.{TellsOfLowering, TellsOfPlan}
 
 one_placeable : (p : Proc) → IsReady p → HasFewValues p → node_numbers (selected p).nodes ≡ true → IsPlaceable (selected p)

@@ -5,14 +5,14 @@ use Rattle.ob_types.specs.declared.program.Program.{Program}
 use Rattle.lir_core.specs.declared.flow.Trace.{Trace}
 use Rattle.lir_core.specs.declared.places.TraceOut.{TraceOut}
 use Rattle.trace_build.specs.declared.builder.Builder.{Builder}
-use Rattle.link_plan.specs.Linked.{linked}
+use Rattle.image_words.specs.link_plan.Linked.{linked}
 use Rattle.alloc_audit.specs.declared.verdict.Verdict.{Verdict}
 use Rattle.alloc_audit.specs.declared.verdict.Verdict.TheVariants as verdict
 use Rattle.alloc_audit.specs.Verdicts.{verdict_of}
 use Rattle.alloc_audit.specs.Results.{AreWalked}
-use Rattle.back_end.specs.Images.{code_length}
-use Rattle.compiled_runs.specs.Compiled.{flows_of, data_of}
-use Rattle.program_image.specs.Images.{DoesAsMeant}
+use Rattle.image_words.specs.back_end.Images.{code_length}
+use Rattle.image_words.specs.compiled_runs.Compiled.{flows_of, data_of}
+use Rattle.image_words.specs.program_image.Images.{DoesAsMeant}
 use Rattle.placed_image.specs.Cutting.{AreCutBy}
 use Rattle.placed_image.specs.Shares.{cuts_of}
 use Rattle.planned_image.specs.declared.planning.ProgramPlan.{ProgramPlan}

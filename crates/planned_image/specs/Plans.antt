@@ -7,15 +7,15 @@ use Rattle.ssa_lowered.specs.Lowered.{lowered}
 use Rattle.lowered_valid.specs.Claims.{IsShort}
 use Rattle.trace_build.specs.declared.builder.Builder.{Builder}
 use Rattle.trace_build.specs.Traces.{traces_in}
-use Rattle.alloc_choice.specs.declared.choice.Choice.{Choice}
-use Rattle.compiled_runs.specs.Compiled.{flows_of, data_of}
+use Rattle.image_words.specs.alloc_choice.declared.choice.Choice.{Choice}
+use Rattle.image_words.specs.compiled_runs.Compiled.{flows_of, data_of}
 use Rattle.placed_image.specs.Cutting.{AreCutBy}
 use Rattle.placed_image.specs.Placing.{IsPlaceable}
-use Rattle.program_image.specs.Faults.{TellsOfTraces}
-use Rattle.program_image.specs.Limits.{most_traces}
-use Rattle.program_image.specs.declared.fault.ProgramFault.{ProgramFault}
-use Rattle.program_image.specs.declared.fault.ProgramFault.TheVariants as whole
-use Rattle.source_program.specs.Texts.{IsProgramOfTexts}
+use Rattle.image_words.specs.program_image.Faults.{TellsOfTraces}
+use Rattle.image_words.specs.program_image.Limits.{most_traces}
+use Rattle.image_words.specs.program_image.declared.fault.ProgramFault.{ProgramFault}
+use Rattle.image_words.specs.program_image.declared.fault.ProgramFault.TheVariants as whole
+use Rattle.image_words.specs.source_program.Texts.{IsProgramOfTexts}
 use Rattle.planned_image.specs.declared.planning.ProgramFlows.{ProgramFlows}
 use Rattle.planned_image.specs.declared.planning.ProgramPlan.{ProgramPlan}
 

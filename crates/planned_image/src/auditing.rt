@@ -17,9 +17,9 @@ use crate::fault::AuditFault;
 use crate::planning::ProgramPlan;
 use alloc_audit::{Verdict, audit};
 use image_form::Image;
+use image_words::of_words;
 use lir_core::{Flow, Trace, TraceOut};
 use placed_image::placed_image;
-use source_image::of_words;
 use std::alloc::Global;
 
 /// The image of a planned program from results of all its traces, in the order of their numbers, over so many registers, whoever

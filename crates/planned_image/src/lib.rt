@@ -13,8 +13,9 @@ mod sources;
 
 pub use auditing::audited_image;
 pub use fault::AuditFault;
+pub use image_words;
+pub use image_words::{Builder, Image, ProgramFault, Refusal};
 pub use laws::{own_results_have_one_image, own_results_pass};
+pub use placed_image::{WorkFault, cut_flows};
 pub use planning::{ProgramFlows, ProgramPlan, program_flows, program_plan};
-pub use program_image::{Builder, Image, ProgramFault};
-pub use source_image::Refusal;
 pub use sources::source_plan;

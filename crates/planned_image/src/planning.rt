@@ -4,15 +4,15 @@ ghost use Rattle.std.specs.Prelude.{◌≡◌, true, IfOk, IfErr};
 ghost use Rattle.ob_types.specs.WellFormed.{well_formed};
 ghost use Rattle.planned_image.specs.Plans.{AreProgramFlows, IsProgramPlan, TellsOfPlan, TellsOfLowering};
 
-use back_end::select_all;
+use image_words::{
+    Builder, ProgramFault, are_short, of_lowering, program_data, select_all, whole_limit,
+};
 use lir_core::{Flow, Trace};
 use ob_types::Program;
 use placed_code::ImageData;
-use placed_image::cut_flows;
-use program_image::{Builder, ProgramFault, are_short, of_lowering, program_data, whole_limit};
+use placed_image::{WorkFault, cut_flows};
 use ssa_build::{LoweredProgram, lower_with_tables};
 use std::alloc::Global;
-use trace_work::WorkFault;
 
 /// A program's procedures as flows, by their numbers, and what its image has besides its code.
 #[derive(Drop)]

@@ -1,14 +1,12 @@
 //! Plans of texts.
 
 ghost use Rattle.std.specs.Prelude.{IfOk, IfErr};
-ghost use Rattle.source_image.specs.Refusals.{IsRefusalOf};
+ghost use Rattle.image_words.specs.source_image.Refusals.{IsRefusalOf};
 ghost use Rattle.planned_image.specs.Plans.{IsPlanOfTexts, TellsOfPlan};
 
 use crate::planning::{ProgramPlan, program_plan};
+use image_words::{Builder, Refusal, refused_program, refused_source, source_program};
 use items::Items;
-use program_image::Builder;
-use source_image::{Refusal, refused_program, refused_source};
-use source_program::source_program;
 use std::alloc::Global;
 
 /// The plan of the modules with these texts, in this order, by a builder.

@@ -10,17 +10,17 @@ use Rattle.lir_core.specs.declared.places.TraceOut.{TraceOut}
 use Rattle.boundary_resolve.specs.declared.code_line.CodeLine.{CodeLine}
 use Rattle.trace_build.specs.Traces.{traces_in}
 use Rattle.linked_flows.specs.Allocations.{Cut}
-use Rattle.link_plan.specs.Linked.{linked, Runs}
-use Rattle.alloc_choice.specs.declared.choice.Choice.{Choice}
-use Rattle.flow_allocation.specs.Allocations.{AreAllocated, trace_count}
-use Rattle.back_end.specs.Images.{AreCutsOf, code_length}
-use Rattle.program_image.specs.Images.{IsProgramImage, DoesAsMeant}
-use Rattle.program_image.specs.Limits.{ByTraces, BeforeCode, ByWords, of_all}
-use Rattle.program_image.specs.Faults.{Tells}
-use Rattle.program_image.specs.declared.fault.ProgramFault.TheVariants as whole
-use Rattle.program_image.proofs.Telling.{count_is}
-use Rattle.planned_image.specs.declared.planning.ProgramFlows.{ProgramFlows}
-use Rattle.planned_image.specs.Plans.{AreProgramFlows}
+use Rattle.noted_image.specs.words.link_plan.Linked.{linked, Runs}
+use Rattle.noted_image.specs.words.alloc_choice.declared.choice.Choice.{Choice}
+use Rattle.noted_image.specs.words.flow_allocation.Allocations.{AreAllocated, trace_count}
+use Rattle.noted_image.specs.words.back_end.Images.{AreCutsOf, code_length}
+use Rattle.noted_image.specs.words.program_image.Images.{IsProgramImage, DoesAsMeant}
+use Rattle.noted_image.specs.words.program_image.Limits.{ByTraces, BeforeCode, ByWords, of_all}
+use Rattle.noted_image.specs.words.program_image.Faults.{Tells}
+use Rattle.noted_image.specs.words.program_image.declared.fault.ProgramFault.TheVariants as whole
+use Rattle.noted_image.proofs.words.program_image.Telling.{count_is}
+use Rattle.noted_image.specs.planned_image.declared.planning.ProgramFlows.{ProgramFlows}
+use Rattle.noted_image.specs.planned_image.Plans.{AreProgramFlows}
 use Rattle.noted_image.proofs.Linked.{image_is, image_means}
 use Rattle.program_figures.specs.Lines.{over_all, moves_in, stores_in, loads_in}
 use Rattle.program_figures.specs.Images.{IsFiguredImage, figures_of, lines_of}

@@ -6,9 +6,9 @@ use Rattle.ob_types.specs.declared.program.Program.{Program}
 use Rattle.boundary_resolve.specs.declared.code_line.CodeLine.{CodeLine}
 use Rattle.boundary_resolve.specs.Placing.{placed_of}
 use Rattle.linked_flows.specs.Allocations.{Cut}
-use Rattle.alloc_choice.specs.declared.choice.Choice.{Choice}
-use Rattle.flow_allocation.specs.Allocations.{trace_count}
-use Rattle.program_image.specs.Images.{IsProgramImage, DoesAsMeant}
+use Rattle.noted_image.specs.words.alloc_choice.declared.choice.Choice.{Choice}
+use Rattle.noted_image.specs.words.flow_allocation.Allocations.{trace_count}
+use Rattle.noted_image.specs.words.program_image.Images.{IsProgramImage, DoesAsMeant}
 use Rattle.program_figures.specs.Lines.{over_all, moves_in, stores_in, loads_in}
 use Rattle.program_figures.specs.declared.figuring.CodeFigures.{CodeFigures}
 use Rattle.program_figures.specs.declared.figuring.FiguredImage.{FiguredImage}

@@ -3,23 +3,22 @@
 ghost use Rattle.std.specs.Prelude.{◌≡◌, true, length, IfOk, IfErr};
 ghost use Rattle.ob_types.specs.WellFormed.{well_formed};
 ghost use Rattle.ob_types.specs.declared.program.Program.{Program};
-ghost use Rattle.alloc_choice.specs.Choice.{IsFitChoice};
-ghost use Rattle.planned_image.specs.Plans.{AreProgramFlows};
-ghost use Rattle.program_image.specs.Faults.{Tells};
+ghost use Rattle.noted_image.specs.words.alloc_choice.Choice.{IsFitChoice};
+ghost use Rattle.noted_image.specs.planned_image.Plans.{AreProgramFlows};
+ghost use Rattle.noted_image.specs.words.program_image.Faults.{Tells};
 ghost use Rattle.program_figures.specs.Images.{IsFiguredImage};
 
 use crate::lines::{LineCounts, line_counts};
-use flow_allocation::{AllocatedFlows, allocate_flows};
 use image_form::{Bytes, Image};
 use items::Items;
-use link_plan::{ImageData, LinkFault, link};
+use noted_image::image_words::{
+    AllocatedFlows, Choice, ImageData, LinkFault, ProgramFault, allocate_flows, link, whole_limit,
+};
+use noted_image::{ProgramFlows, WorkFault};
 use outside::Gate;
-use planned_image::ProgramFlows;
-use program_image::{Choice, ProgramFault, whole_limit};
 use std::alloc::{AllocError, Global};
 use std::sync::Wait;
 use std::thread::Threads;
-use trace_work::WorkFault;
 
 /// What the code of a program comes to under a choice.
 #[derive(Clone, Copy)]

@@ -10,6 +10,6 @@ mod running;
 
 pub use a64_machine::Halt;
 pub use figuring::{CodeFigures, FiguredImage, figured_image};
-pub use planned_image::ProgramFlows;
-pub use program_image::{Builder, Choice, Policy, ProgramFault};
+pub use noted_image::image_words::{Builder, Choice, Policy, ProgramFault};
+pub use noted_image::{ProgramFlows, image_words, program_flows};
 pub use running::{CountedRun, counted_run};

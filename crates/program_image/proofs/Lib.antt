@@ -3,3 +3,4 @@ pub mod Fitting
 pub mod Running
 pub mod Telling
 mod Counting
+pub use Rattle.link_plan.proofs as link_plan

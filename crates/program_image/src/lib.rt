@@ -13,9 +13,11 @@ mod imaging;
 mod sizes;
 mod tracing;
 
-pub use back_end::{Builder, Choice, Image, Policy};
+pub use back_end::{Builder, Choice, Image, ImageFault, Policy, image_of, select_all};
 pub use data::program_data;
 pub use fault::{ProgramFault, of_lowering, whole_limit};
+pub use flow_allocation::{AllocatedFlows, allocate_flows};
 pub use imaging::{Compiled, Scaffold, program_image};
+pub use link_plan::{ImageData, LinkFault, link};
 pub use sizes::are_short;
 pub use tracing::program_traces;

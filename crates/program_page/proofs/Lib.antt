@@ -1,1 +1,2 @@
 pub mod Told
+pub use Rattle.shown_program.proofs.words

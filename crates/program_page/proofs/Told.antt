@@ -3,12 +3,12 @@ use Rattle.std.proofs.Common.{◌≡◌, ◌<◌, ◌≤◌, ℕ, List, length, 
 use Rattle.std.specs.Prelude.{Result, IfOk, IfErr, Vec}
 use Rattle.std.specs.Global.{Global}
 use Rattle.ob_types.specs.declared.program.Program.{Program}
-use Rattle.alloc_choice.specs.Choice.{IsFitChoice}
-use Rattle.alloc_choice.specs.declared.choice.Choice.{Choice}
-use Rattle.alloc_choice.specs.declared.choice.Policy.{Policy}
-use Rattle.program_image.specs.Faults.{Tells, whole_limit}
-use Rattle.program_image.specs.declared.fault.ProgramFault.{ProgramFault}
-use Rattle.program_image.specs.declared.fault.ProgramFault.TheVariants as whole
+use Rattle.shown_program.specs.words.alloc_choice.Choice.{IsFitChoice}
+use Rattle.shown_program.specs.words.alloc_choice.declared.choice.Choice.{Choice}
+use Rattle.shown_program.specs.words.alloc_choice.declared.choice.Policy.{Policy}
+use Rattle.shown_program.specs.words.program_image.Faults.{Tells, whole_limit}
+use Rattle.shown_program.specs.words.program_image.declared.fault.ProgramFault.{ProgramFault}
+use Rattle.shown_program.specs.words.program_image.declared.fault.ProgramFault.TheVariants as whole
 use Rattle.shown_program.specs.Shown.{IsShownProgram}
 use Rattle.shown_program.specs.declared.making.ShownProgram.{ShownProgram}
 use Rattle.whole_page.specs.Pages.{most_bytes, page_text}

@@ -2,12 +2,12 @@
 use Rattle.std.specs.Prelude.{◌≡◌, ◌<◌, ℕ, List, length, Option, Some, None}
 use Rattle.ob_types.specs.declared.program.Program.{Program}
 use Rattle.ssa_lowered.specs.Limits.{Limit}
-use Rattle.alloc_choice.specs.declared.choice.Choice.{Choice}
-use Rattle.alloc_choice.specs.declared.choice.Policy.{Policy}
-use Rattle.program_image.specs.Faults.{Tells}
-use Rattle.program_image.specs.Limits.{of_all, IsPassedFirst}
-use Rattle.program_image.specs.declared.fault.ProgramFault.{ProgramFault}
-use Rattle.program_image.specs.declared.fault.ProgramFault.TheVariants as whole
+use Rattle.shown_program.specs.words.alloc_choice.declared.choice.Choice.{Choice}
+use Rattle.shown_program.specs.words.alloc_choice.declared.choice.Policy.{Policy}
+use Rattle.shown_program.specs.words.program_image.Faults.{Tells}
+use Rattle.shown_program.specs.words.program_image.Limits.{of_all, IsPassedFirst}
+use Rattle.shown_program.specs.words.program_image.declared.fault.ProgramFault.{ProgramFault}
+use Rattle.shown_program.specs.words.program_image.declared.fault.ProgramFault.TheVariants as whole
 use Rattle.shown_program.specs.Shown.{IsShownProgram}
 use Rattle.shown_program.specs.declared.making.ShownProgram.{ShownProgram}
 use Rattle.whole_page.specs.Pages.{most_bytes}

@@ -3,9 +3,9 @@ use Rattle.std.specs.Prelude.{◌≡◌, ◌≤◌, ℕ, List, map, length, true
 use Rattle.ob_types.specs.WellFormed.{well_formed}
 use Rattle.ob_types.specs.declared.program.Program.{Program}
 use Rattle.link_blocks.specs.Plans.{placed_in}
-use Rattle.alloc_choice.specs.declared.choice.Choice.{Choice}
-use Rattle.alloc_choice.specs.declared.choice.Policy.{Policy}
-use Rattle.source_program.specs.Texts.{IsProgramOfTexts}
+use Rattle.shown_program.specs.words.alloc_choice.declared.choice.Choice.{Choice}
+use Rattle.shown_program.specs.words.alloc_choice.declared.choice.Policy.{Policy}
+use Rattle.shown_program.specs.words.source_program.Texts.{IsProgramOfTexts}
 use Rattle.shown_program.specs.Shown.{IsShownProgram}
 use Rattle.shown_program.specs.declared.making.ShownProgram.{ShownProgram}
 use Rattle.whole_page.specs.Pages.{most_bytes, page_text}

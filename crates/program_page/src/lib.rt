@@ -8,7 +8,7 @@ mod pages;
 mod sources;
 
 pub use pages::program_page;
-pub use shown_program::{Builder, Choice, Policy, ProgramFault};
-pub use source_image::Refusal;
+pub use shown_program::image_words::Refusal;
+pub use shown_program::{Builder, Choice, Policy, ProgramFault, image_words};
 pub use sources::source_page;
 pub use whole_page::Asked;

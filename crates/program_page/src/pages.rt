@@ -2,17 +2,17 @@
 
 ghost use Rattle.std.specs.Prelude.{◌≡◌, ◌<◌, ◌≤◌, ℕ, List, length, map, true, IfOk, IfErr};
 ghost use Rattle.ob_types.specs.WellFormed.{well_formed};
-ghost use Rattle.alloc_choice.specs.Choice.{IsFitChoice};
+ghost use Rattle.shown_program.specs.words.alloc_choice.Choice.{IsFitChoice};
 ghost use Rattle.whole_page.specs.Pages.{IsPage, most_bytes, page_text};
 ghost use Rattle.whole_page.specs.Views.{maybe_view, view_of};
-ghost use Rattle.program_image.specs.Faults.{whole_limit};
+ghost use Rattle.shown_program.specs.words.program_image.Faults.{whole_limit};
 ghost use Rattle.program_page.specs.Faults.{TellsOfOther, TellsOfPage};
 ghost use Rattle.program_page.specs.Pages.{IsBeside, IsProgramPage, program_view, view_beside, wish_of, with_policy};
 
 use items::Items;
 use ob_types::Program;
 use outside::{Gate, Memory};
-use program_image::whole_limit;
+use shown_program::image_words::whole_limit;
 use shown_program::{Choice, Policy, ProgramFault, ShownProgram, shown_program};
 use std::alloc::Global;
 use std::sync::Wait;

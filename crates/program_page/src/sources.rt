@@ -1,16 +1,15 @@
 //! The page of texts.
 
 ghost use Rattle.std.specs.Prelude.{map, IfOk, IfErr};
-ghost use Rattle.alloc_choice.specs.Choice.{IsFitChoice};
-ghost use Rattle.source_image.specs.Refusals.{IsRefusalOf};
+ghost use Rattle.shown_program.specs.words.alloc_choice.Choice.{IsFitChoice};
+ghost use Rattle.shown_program.specs.words.source_image.Refusals.{IsRefusalOf};
 ghost use Rattle.program_page.specs.Faults.{TellsOfPage};
 ghost use Rattle.program_page.specs.Pages.{IsPageOfTexts, wish_of};
 
 use crate::pages::program_page;
 use items::Items;
 use outside::Gate;
-use source_image::{Refusal, refused_program, refused_source};
-use source_program::source_program;
+use shown_program::image_words::{Refusal, refused_program, refused_source, source_program};
 use std::alloc::Global;
 use std::sync::Wait;
 use std::thread::Threads;

@@ -7,7 +7,7 @@ use Rattle.lir_core.specs.declared.flow.Flow.{Flow}
 use Rattle.lir_core.specs.declared.flow.Trace.{Trace}
 use Rattle.lir_core.specs.Flows.{code_nodes}
 use Rattle.trace_build.specs.Parents.{AreParents, IsParent, is_above}
-use Rattle.kept_plans.specs.Above.{AreAllParents}
+use Rattle.program_page.specs.kept_plans.Above.{AreAllParents}
 
 apart : (b : Bool) → b ≡ true → b ≡ false → ⊥
 apart b e f = cc

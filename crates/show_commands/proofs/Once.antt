@@ -7,27 +7,27 @@ use Rattle.lir_core.specs.declared.flow.Flow.{Flow}
 use Rattle.lir_core.specs.declared.flow.Trace.{Trace}
 use Rattle.boundary_resolve.specs.Placing.{placed_of}
 use Rattle.linked_flows.specs.Allocations.{Cut}
-use Rattle.link_plan.specs.Linked.{plans_of}
-use Rattle.alloc_choice.specs.declared.choice.Choice.{Choice}
-use Rattle.alloc_choice.specs.declared.choice.Policy.{Policy}
+use Rattle.program_page.specs.words.link_plan.Linked.{plans_of}
+use Rattle.program_page.specs.words.alloc_choice.declared.choice.Choice.{Choice}
+use Rattle.program_page.specs.words.alloc_choice.declared.choice.Policy.{Policy}
 use Rattle.ssa_lowered.specs.Limits.{Limit}
 use Rattle.one_lowering.specs.Forms.{HaveOneLowering}
-use Rattle.program_image.specs.Images.{IsProgramImage}
-use Rattle.program_image.specs.Limits.{IsPassedFirst}
-use Rattle.source_program.specs.Texts.{IsProgramOfTexts, IsSourceFault}
-use Rattle.source_program.specs.declared.fault.SourceFault.{SourceFault}
-use Rattle.source_program.specs.declared.fault.SourceFault.TheVariants as source
-use Rattle.source_image.specs.Refusals.{IsRefusalOf}
-use Rattle.source_image.specs.declared.refusal.Refusal.{Refusal}
-use Rattle.source_image.specs.declared.refusal.Refusal.TheVariants.{Memory}
-use Rattle.kept_plans.specs.Above.{AreAllParents}
-use Rattle.shown_program.specs.Shown.{IsShownProgram}
-use Rattle.shown_program.specs.declared.making.ShownProgram.{ShownProgram}
-use Rattle.whole_page.specs.Pages.{page_text}
+use Rattle.program_page.specs.words.program_image.Images.{IsProgramImage}
+use Rattle.program_page.specs.words.program_image.Limits.{IsPassedFirst}
+use Rattle.program_page.specs.words.source_program.Texts.{IsProgramOfTexts, IsSourceFault}
+use Rattle.program_page.specs.words.source_program.declared.fault.SourceFault.{SourceFault}
+use Rattle.program_page.specs.words.source_program.declared.fault.SourceFault.TheVariants as source
+use Rattle.program_page.specs.words.source_image.Refusals.{IsRefusalOf}
+use Rattle.program_page.specs.words.source_image.declared.refusal.Refusal.{Refusal}
+use Rattle.program_page.specs.words.source_image.declared.refusal.Refusal.TheVariants.{Memory}
+use Rattle.program_page.specs.kept_plans.Above.{AreAllParents}
+use Rattle.program_page.specs.shown_program.Shown.{IsShownProgram}
+use Rattle.program_page.specs.shown_program.declared.making.ShownProgram.{ShownProgram}
+use Rattle.program_page.specs.whole_page.Pages.{page_text}
 use Rattle.program_page.specs.Faults.{IsPassedForPage, ForImage, ForOther, ByPage, TellsOfPage}
 use Rattle.program_page.specs.Pages.{IsBeside, IsPageOfTexts, IsPageText, IsProgramPage, Wish, program_view, view_beside, wish_of, with_policy}
-use Rattle.text_laws.proofs.one_refusal.Passed.{first_once, first_apart}
-use Rattle.text_laws.proofs.one_refusal.Refused.{refused_once, excluded}
+use Rattle.program_page.proofs.words.text_laws.one_refusal.Passed.{first_once, first_apart}
+use Rattle.program_page.proofs.words.text_laws.one_refusal.Refused.{refused_once, excluded}
 use Rattle.trc_answers.specs.Verdict.{Verdict, Refuses, Writes}
 use Rattle.trc_texts.specs.Texts.{cause_of_refusal}
 use Rattle.show_commands.specs.Shows.{ShowComesTo, HaveNoPage, HavePage}

@@ -2,9 +2,9 @@
 use Rattle.std.proofs.Common.{◌≡◌, ℕ, List, Option}
 use Rattle.outside.specs.Files.{Held}
 use Rattle.outside.specs.Sink.{Account}
-use Rattle.alloc_choice.specs.declared.choice.Choice.{Choice}
-use Rattle.alloc_choice.specs.declared.choice.Policy.{Policy}
-use Rattle.source_image.specs.Refusals.{IsRefusalOf}
+use Rattle.program_page.specs.words.alloc_choice.declared.choice.Choice.{Choice}
+use Rattle.program_page.specs.words.alloc_choice.declared.choice.Policy.{Policy}
+use Rattle.program_page.specs.words.source_image.Refusals.{IsRefusalOf}
 use Rattle.program_page.specs.Faults.{TellsOfPage}
 use Rattle.program_page.specs.Pages.{IsPageOfTexts, wish_of}
 use Rattle.trc_answers.specs.Verdict.{IsWritten}

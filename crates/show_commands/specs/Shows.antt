@@ -1,8 +1,8 @@
 -- What texts come to whose page is written.
 use Rattle.std.specs.Prelude.{ℕ, List, Option}
-use Rattle.alloc_choice.specs.declared.choice.Choice.{Choice}
-use Rattle.alloc_choice.specs.declared.choice.Policy.{Policy}
-use Rattle.source_image.specs.Refusals.{IsRefusalOf}
+use Rattle.program_page.specs.words.alloc_choice.declared.choice.Choice.{Choice}
+use Rattle.program_page.specs.words.alloc_choice.declared.choice.Policy.{Policy}
+use Rattle.program_page.specs.words.source_image.Refusals.{IsRefusalOf}
 use Rattle.program_page.specs.Faults.{TellsOfPage}
 use Rattle.program_page.specs.Pages.{IsPageOfTexts, wish_of}
 use Rattle.trc_answers.specs.Verdict.{Verdict, IsWritten}

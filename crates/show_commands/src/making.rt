@@ -2,8 +2,8 @@
 
 ghost use Rattle.std.specs.Prelude.{◌≡◌, ◌≤◌, ℕ, List, Option, length, map, IfOk, IfErr};
 ghost use Rattle.outside.specs.Sink.{Account};
-ghost use Rattle.alloc_choice.specs.Choice.{IsFitChoice};
-ghost use Rattle.source_image.specs.Refusals.{IsRefusalOf};
+ghost use Rattle.program_page.specs.words.alloc_choice.Choice.{IsFitChoice};
+ghost use Rattle.program_page.specs.words.source_image.Refusals.{IsRefusalOf};
 ghost use Rattle.program_page.specs.Faults.{TellsOfPage};
 ghost use Rattle.program_page.specs.Pages.{IsPageOfTexts, wish_of};
 ghost use Rattle.trc_answers.specs.Answers.{Answers, devices};

@@ -5,16 +5,16 @@ use Rattle.ssa_lowered.specs.Limits.{Limit, limit_of}
 use Rattle.ssa_lowered.specs.Lowered.{lowered}
 use Rattle.trace_build.specs.Traces.{traces_in}
 use Rattle.linked_flows.specs.Allocations.{Cut}
-use Rattle.alloc_choice.specs.declared.choice.Choice.{Choice}
-use Rattle.flow_allocation.specs.Allocations.{trace_count}
-use Rattle.back_end.specs.Images.{AreCutsOf, code_length}
-use Rattle.compiled_runs.specs.Compiled.{flows_of}
-use Rattle.program_image.specs.Faults.{Tells}
-use Rattle.program_image.specs.Limits.{InLowering, ByTraces, BeforeCode, ByWords, of_all}
-use Rattle.program_image.specs.declared.fault.ProgramFault.{ProgramFault}
-use Rattle.program_image.specs.declared.fault.ProgramFault.TheVariants as whole
-use Rattle.program_image.proofs.Telling.{count_is}
-use Rattle.planned_image.specs.Plans.{TellsOfLowering}
+use Rattle.noted_image.specs.words.alloc_choice.declared.choice.Choice.{Choice}
+use Rattle.noted_image.specs.words.flow_allocation.Allocations.{trace_count}
+use Rattle.noted_image.specs.words.back_end.Images.{AreCutsOf, code_length}
+use Rattle.noted_image.specs.words.compiled_runs.Compiled.{flows_of}
+use Rattle.noted_image.specs.words.program_image.Faults.{Tells}
+use Rattle.noted_image.specs.words.program_image.Limits.{InLowering, ByTraces, BeforeCode, ByWords, of_all}
+use Rattle.noted_image.specs.words.program_image.declared.fault.ProgramFault.{ProgramFault}
+use Rattle.noted_image.specs.words.program_image.declared.fault.ProgramFault.TheVariants as whole
+use Rattle.noted_image.proofs.words.program_image.Telling.{count_is}
+use Rattle.noted_image.specs.planned_image.Plans.{TellsOfLowering}
 
 module _ (choice : Choice) (p : Program) where
   pub lowering_told : (fault : ProgramFault) → TellsOfLowering p fault → Tells choice p fault

@@ -7,9 +7,9 @@ use Rattle.boundary_resolve.specs.Placing.{placed_of}
 use Rattle.linked_flows.specs.Allocations.{Cut}
 use Rattle.kept_plans.specs.Above.{AreAllParents}
 use Rattle.link_blocks.specs.Plans.{placed_in}
-use Rattle.link_plan.specs.Linked.{plans_of}
-use Rattle.alloc_choice.specs.declared.choice.Choice.{Choice}
-use Rattle.program_image.specs.Images.{IsProgramImage}
+use Rattle.noted_image.specs.words.link_plan.Linked.{plans_of}
+use Rattle.noted_image.specs.words.alloc_choice.declared.choice.Choice.{Choice}
+use Rattle.noted_image.specs.words.program_image.Images.{IsProgramImage}
 use Rattle.shown_program.specs.declared.making.ShownProgram.{ShownProgram}
 
 -- a program's image by a choice, its flows, their traces with the results and the traces above them, the lines of their code, and their plans

@@ -6,4 +6,5 @@
 mod making;
 
 pub use making::{ShownProgram, shown_program};
-pub use program_image::{Builder, Choice, Image, Policy, ProgramFault};
+pub use noted_image::image_words;
+pub use noted_image::image_words::{Builder, Choice, Image, Policy, ProgramFault};

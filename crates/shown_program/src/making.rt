@@ -2,24 +2,21 @@
 
 ghost use Rattle.std.specs.Prelude.{◌≡◌, true, IfOk, IfErr};
 ghost use Rattle.ob_types.specs.WellFormed.{well_formed};
-ghost use Rattle.alloc_choice.specs.Choice.{IsFitChoice};
-ghost use Rattle.program_image.specs.Faults.{Tells};
+ghost use Rattle.noted_image.specs.words.alloc_choice.Choice.{IsFitChoice};
+ghost use Rattle.noted_image.specs.words.program_image.Faults.{Tells};
 ghost use Rattle.shown_program.specs.Shown.{IsShownProgram};
 
 use boundary_resolve::CodeLine;
-use flow_allocation::{AllocatedFlows, allocate_flows};
 use image_form::Image;
 use kept_plans::{LinkFault, LinkedPlans, Plan, all_parents, link_kept};
 use lir_core::{Flow, Trace, TraceOut};
+use noted_image::image_words::{AllocatedFlows, Choice, ProgramFault, allocate_flows, whole_limit};
+use noted_image::{ProgramFlows, WorkFault, cut_flows, program_flows};
 use ob_types::Program;
 use outside::Gate;
-use placed_image::cut_flows;
-use planned_image::{ProgramFlows, program_flows};
-use program_image::{Choice, ProgramFault, whole_limit};
 use std::alloc::Global;
 use std::sync::Wait;
 use std::thread::Threads;
-use trace_work::WorkFault;
 
 /// A program's procedures by their numbers: as flows, the traces of each, the traces above these, their results, the lines of its code, its plan; and
 /// the image of all.

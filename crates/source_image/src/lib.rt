@@ -9,5 +9,10 @@ mod imaging;
 mod refusal;
 
 pub use imaging::{of_words, source_image, source_traces};
-pub use program_image::{Builder, Choice, Compiled, Image, Policy};
+pub use program_image::{
+    AllocatedFlows, Builder, Choice, Compiled, Image, ImageData, ImageFault, LinkFault, Policy,
+    ProgramFault, allocate_flows, are_short, image_of, link, of_lowering, program_data,
+    program_traces, select_all, whole_limit,
+};
 pub use refusal::{Refusal, refused_program, refused_source};
+pub use source_program::source_program;

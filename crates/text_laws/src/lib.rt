@@ -31,3 +31,9 @@ pub use one_refusal::{
     images_exclude_refusals, texts_have_one_refusal, texts_have_one_refusal_of_traces,
     texts_have_one_report, traces_exclude_refusals,
 };
+pub use source_image::{
+    AllocatedFlows, Builder, Choice, Compiled, Image, ImageData, ImageFault, LinkFault, Policy,
+    ProgramFault, Refusal, allocate_flows, are_short, image_of, link, of_lowering, of_words,
+    program_data, program_traces, refused_program, refused_source, select_all, source_image,
+    source_program, source_traces, whole_limit,
+};

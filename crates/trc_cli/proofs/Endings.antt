@@ -3,11 +3,11 @@ use Rattle.std.proofs.Common.{◌≡◌, ℕ, List, [], Option, Some, None, refl
 use Rattle.outside.specs.Files.{Held}
 use Rattle.outside.specs.Sink.{Account}
 use Rattle.trc_answers.specs.declared.places.Position.{Position}
-use Rattle.alloc_choice.specs.declared.choice.Choice.{Choice}
+use Rattle.object_commands.specs.words.alloc_choice.declared.choice.Choice.{Choice}
 use Rattle.image_form.specs.declared.image.Image.{Image}
-use Rattle.program_image.specs.declared.imaging.Compiled.{Compiled}
-use Rattle.source_image.specs.Images.{IsImageOfTexts, AreTracesOfTexts}
-use Rattle.source_image.specs.Refusals.{IsRefusal, IsRefusalOfTraces}
+use Rattle.object_commands.specs.words.program_image.declared.imaging.Compiled.{Compiled}
+use Rattle.object_commands.specs.words.source_image.Images.{IsImageOfTexts, AreTracesOfTexts}
+use Rattle.object_commands.specs.words.source_image.Refusals.{IsRefusal, IsRefusalOfTraces}
 use Rattle.trc_answers.specs.declared.causes.Cause.{Cause}
 use Rattle.trc_answers.specs.declared.causes.Cause.TheVariants as cause
 use Rattle.trc_answers.specs.declared.causes.Outcome.{Outcome}
@@ -17,7 +17,7 @@ use Rattle.trc_answers.specs.Verdict.{Verdict, Refuses, world}
 use Rattle.trc_answers.specs.Answers.{Devices, devices, Answers, PrintAnswers}
 use Rattle.trc_answers.proofs.Answering.{refuses, lacks, mapped, prints}
 use Rattle.trc_cli.specs.Commands.{IsRefusedAs, TextsComeTo, HaveNoImage, HaveImage, TracesComeTo, HaveNoTraces, HaveTraces, IsTextOf, first_module, names_read, ComesTo, FaultsOnlyInExec, FilesUse, InputUse}
-use Rattle.trc_texts.proofs.Refusing.{refused}
+use Rattle.object_commands.proofs.trc_texts.Refusing.{refused}
 use Rattle.trc_cli.specs.Lines.{IsTold}
 use Rattle.word_requests.specs.Asked.{Asked, Run, Build, Elf, Exec, Traces, Bulk, Audit, Object, Link, Mean, Both, Batch, Check, Explain, Compare, Show, Help}
 use Rattle.trc_cli.specs.Did.{Did}

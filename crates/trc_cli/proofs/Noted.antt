@@ -7,35 +7,35 @@ use Rattle.image_file.specs.Spelling.{image_bytes}
 use Rattle.ob_types.specs.WellFormed.{well_formed}
 use Rattle.ob_types.specs.declared.program.Program.{Program}
 use Rattle.lir_core.specs.declared.places.TraceOut.{TraceOut}
-use Rattle.alloc_choice.specs.declared.choice.Choice.{Choice}
+use Rattle.object_commands.specs.words.alloc_choice.declared.choice.Choice.{Choice}
 use Rattle.alloc_audit.specs.Results.{AreLive}
 use Rattle.alloc_audit.specs.declared.verdict.Verdict.TheVariants as finding
 use Rattle.alloc_audit.proofs.Living.{lives_are_said}
 use Rattle.trace_notes.specs.Notes.{AreNotes, notes}
-use Rattle.back_end.specs.Images.{code_length}
-use Rattle.placed_image.specs.Shares.{cuts_of}
-use Rattle.program_image.specs.Limits.{BeforeCode}
-use Rattle.source_program.specs.Texts.{IsProgramOfTexts}
-use Rattle.source_image.specs.Refusals.{IsRefusalOf}
-use Rattle.source_image.specs.declared.refusal.Refusal.{Refusal}
-use Rattle.source_image.specs.declared.refusal.Refusal.TheVariants.{TooLong, Source, Limit, Memory}
-use Rattle.planned_image.specs.Plans.{IsPlanOfTexts, TellsOfPlan}
-use Rattle.planned_image.specs.Audits.{IsImageOfResults, verdict_on}
-use Rattle.planned_image.specs.declared.planning.ProgramPlan.{ProgramPlan}
-use Rattle.planned_image.proofs.Placed.{valid_flows}
-use Rattle.noted_image.specs.Faults.{TellsWithNotes, BeforeNotes}
-use Rattle.noted_image.specs.Notes.{IsNotedImageOfTexts}
-use Rattle.noted_image.specs.declared.noting.NotedImage.{NotedImage}
-use Rattle.note_commands.specs.Noted.{NotedComeTo, HaveNoNotes, HaveNotes, NotedAnewComeTo, NotesWritten}
-use Rattle.note_commands.specs.Audits.{AuditOf, AuditComesTo, AreTooMany as AreTooManyModules, LacksNotes, LacksTexts, HasTexts, PlanComesTo, HaveNoPlan, HavePlan, AreTooLong, AreNoNotes, HaveResults, AreUnsound, MakeMuchCode, MakeAnImage, audit_of}
-use Rattle.note_commands.proofs.Once.{no_rule}
+use Rattle.object_commands.specs.words.back_end.Images.{code_length}
+use Rattle.object_commands.specs.placed_image.Shares.{cuts_of}
+use Rattle.object_commands.specs.words.program_image.Limits.{BeforeCode}
+use Rattle.object_commands.specs.words.source_program.Texts.{IsProgramOfTexts}
+use Rattle.object_commands.specs.words.source_image.Refusals.{IsRefusalOf}
+use Rattle.object_commands.specs.words.source_image.declared.refusal.Refusal.{Refusal}
+use Rattle.object_commands.specs.words.source_image.declared.refusal.Refusal.TheVariants.{TooLong, Source, Limit, Memory}
+use Rattle.object_commands.specs.planned_image.Plans.{IsPlanOfTexts, TellsOfPlan}
+use Rattle.object_commands.specs.planned_image.Audits.{IsImageOfResults, verdict_on}
+use Rattle.object_commands.specs.planned_image.declared.planning.ProgramPlan.{ProgramPlan}
+use Rattle.object_commands.proofs.planned_image.Placed.{valid_flows}
+use Rattle.object_commands.specs.noted_image.Faults.{TellsWithNotes, BeforeNotes}
+use Rattle.object_commands.specs.noted_image.Notes.{IsNotedImageOfTexts}
+use Rattle.object_commands.specs.noted_image.declared.noting.NotedImage.{NotedImage}
+use Rattle.object_commands.specs.note_commands.Noted.{NotedComeTo, HaveNoNotes, HaveNotes, NotedAnewComeTo, NotesWritten}
+use Rattle.object_commands.specs.note_commands.Audits.{AuditOf, AuditComesTo, AreTooMany as AreTooManyModules, LacksNotes, LacksTexts, HasTexts, PlanComesTo, HaveNoPlan, HavePlan, AreTooLong, AreNoNotes, HaveResults, AreUnsound, MakeMuchCode, MakeAnImage, audit_of}
+use Rattle.object_commands.proofs.note_commands.Once.{no_rule}
 use Rattle.trc_answers.specs.declared.causes.Cause.{Cause}
 use Rattle.trc_answers.specs.Reading.{AreRead, AreTextsOf, FilesComeTo, AreTooMany, LacksOne, HasALongOne, HaveTexts, Nothing}
 use Rattle.trc_answers.specs.Verdict.{Verdict, Refuses, WritesBoth, Accepts, IsMissing, HasTooMany, HasBytes, AreTheSame, Differ, world}
 use Rattle.word_requests.specs.Asked.{Build}
 use Rattle.trc_cli.specs.Commands.{ComesTo}
 use Rattle.trc_cli.proofs.FilesOnce.{texts_there}
-use Rattle.note_commands.proofs.Once.{not_sound}
+use Rattle.object_commands.proofs.note_commands.Once.{not_sound}
 
 not_refused : (a x b y : List ℕ) (c : Cause) → WritesBoth a x b y ≡ Refuses c → ⊥
 not_refused a x b y c e = cc

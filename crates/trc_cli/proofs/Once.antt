@@ -9,22 +9,22 @@ use Rattle.image_file.specs.Differing.{DifferAt}
 use Rattle.image_file.specs.Spelling.{IsOfWords, image_bytes}
 use Rattle.image_file.proofs.Versions.{header_is_short}
 use Rattle.image_file.proofs.Whole.{images_are_same, image_has_no_fault, length_of_image}
-use Rattle.alloc_choice.specs.declared.choice.Choice.{Choice}
-use Rattle.program_image.specs.declared.imaging.Compiled.{Compiled}
-use Rattle.source_image.specs.Images.{IsImageOfTexts}
-use Rattle.source_image.specs.Refusals.{IsRefusal}
-use Rattle.source_image.specs.declared.refusal.Refusal.{Refusal}
-use Rattle.source_image.specs.declared.refusal.Refusal.TheVariants.{Memory as NoMemory}
+use Rattle.object_commands.specs.words.alloc_choice.declared.choice.Choice.{Choice}
+use Rattle.object_commands.specs.words.program_image.declared.imaging.Compiled.{Compiled}
+use Rattle.object_commands.specs.words.source_image.Images.{IsImageOfTexts}
+use Rattle.object_commands.specs.words.source_image.Refusals.{IsRefusal}
+use Rattle.object_commands.specs.words.source_image.declared.refusal.Refusal.{Refusal}
+use Rattle.object_commands.specs.words.source_image.declared.refusal.Refusal.TheVariants.{Memory as NoMemory}
 use Rattle.bulk_text.specs.Bulk.{bulk_text}
 use Rattle.batch_jobs.specs.Jobs.{Reply, IsRunReply, cut_reply}
 use Rattle.batch_jobs.proofs.Once.{batch_once}
 use Rattle.module_check.specs.Checks.{CheckComesTo}
-use Rattle.meaning_commands.specs.Meanings.{MeanComeTo}
-use Rattle.meaning_commands.specs.Comparisons.{BothComeTo}
+use Rattle.compare_commands.specs.meaning_commands.Meanings.{MeanComeTo}
+use Rattle.compare_commands.specs.meaning_commands.Comparisons.{BothComeTo}
 use Rattle.compare_commands.specs.Compares.{ComparesComeTo}
 use Rattle.show_commands.specs.Shows.{ShowComesTo}
-use Rattle.note_commands.specs.Noted.{NotedComeTo, NotedAnewComeTo, NotesWritten}
-use Rattle.note_commands.specs.Audits.{AuditOf, AuditComesTo, AreTooMany as AreTooManyModules, LacksNotes, LacksTexts, HasTexts, PlanComesTo, audit_of, one_behind}
+use Rattle.object_commands.specs.note_commands.Noted.{NotedComeTo, NotedAnewComeTo, NotesWritten}
+use Rattle.object_commands.specs.note_commands.Audits.{AuditOf, AuditComesTo, AreTooMany as AreTooManyModules, LacksNotes, LacksTexts, HasTexts, PlanComesTo, audit_of, one_behind}
 use Rattle.object_commands.specs.Objects.{ObjectComesTo}
 use Rattle.word_requests.specs.Asked.{Asked, Run, Build, Elf, Exec, Traces, Bulk, Audit, Object, Link, Mean, Both, Batch, Check, Explain, Compare, Show, Help}
 use Rattle.trc_answers.specs.declared.causes.Cause.{Cause}

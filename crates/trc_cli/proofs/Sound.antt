@@ -6,38 +6,38 @@ use Rattle.image_form.specs.declared.image.Image.{Image}
 use Rattle.image_form.specs.declared.image.ProcPlace.{ProcPlace}
 use Rattle.run_laws.specs.Runs.{Outcome, Ended, Trapped, Going}
 use Rattle.a64_machine.specs.State.{Trap, Broke, Undefined, BadAddress, BadCall}
-use Rattle.alloc_choice.specs.declared.choice.Choice.{Choice}
-use Rattle.alloc_choice.specs.declared.choice.Policy.{Policy}
-use Rattle.program_image.specs.declared.imaging.Compiled.{Compiled}
-use Rattle.source_image.specs.Images.{IsImageOfTexts}
-use Rattle.source_image.specs.declared.refusal.Refusal.{Refusal}
-use Rattle.source_image.specs.declared.refusal.Refusal.TheVariants as refusal
-use Rattle.text_laws.specs.no_faults.Faults.{IsBreak}
-use Rattle.text_laws.proofs.no_faults.Never.{image_never_faults}
+use Rattle.object_commands.specs.words.alloc_choice.declared.choice.Choice.{Choice}
+use Rattle.object_commands.specs.words.alloc_choice.declared.choice.Policy.{Policy}
+use Rattle.object_commands.specs.words.program_image.declared.imaging.Compiled.{Compiled}
+use Rattle.object_commands.specs.words.source_image.Images.{IsImageOfTexts}
+use Rattle.object_commands.specs.words.source_image.declared.refusal.Refusal.{Refusal}
+use Rattle.object_commands.specs.words.source_image.declared.refusal.Refusal.TheVariants as refusal
+use Rattle.object_commands.specs.words.text_laws.no_faults.Faults.{IsBreak}
+use Rattle.object_commands.proofs.words.text_laws.no_faults.Never.{image_never_faults}
 use Rattle.bulk_text.specs.Bulk.{bulk_text}
 use Rattle.batch_jobs.specs.Batches.{BatchComesTo, LacksList, HasLongList, HasList, HasBadLine, HasLines, AreTooMany, AreTooLarge, HaveJobs}
-use Rattle.noted_image.specs.declared.noting.NotedImage.{NotedImage}
+use Rattle.object_commands.specs.noted_image.declared.noting.NotedImage.{NotedImage}
 use Rattle.object_form.specs.declared.object.Object.{Object as ObjectRead}
 use Rattle.ob_types.specs.Store.{Kind, Senseless}
 use Rattle.ob_types.specs.Store.{Trap as Meant}
 use Rattle.ob_types.specs.Meaning.{meaning}
 use Rattle.ob_types.specs.declared.program.Program.{Program}
-use Rattle.meaning_commands.specs.Inputs.{InputComesTo, WantsNone, HasInput}
-use Rattle.meaning_commands.specs.Inputs.{HasTooMuch as HasMuchInput}
-use Rattle.meaning_commands.specs.Meanings.{cause_of_meaning, MeanComeTo, HaveNoMeaning, HaveMeaning}
-use Rattle.meaning_commands.specs.Comparisons.{BothComeTo, HaveNoneToCompare, HaveBoth}
+use Rattle.compare_commands.specs.meaning_commands.Inputs.{InputComesTo, WantsNone, HasInput}
+use Rattle.compare_commands.specs.meaning_commands.Inputs.{HasTooMuch as HasMuchInput}
+use Rattle.compare_commands.specs.meaning_commands.Meanings.{cause_of_meaning, MeanComeTo, HaveNoMeaning, HaveMeaning}
+use Rattle.compare_commands.specs.meaning_commands.Comparisons.{BothComeTo, HaveNoneToCompare, HaveBoth}
 use Rattle.compare_commands.specs.Compares.{ComparesComeTo, HaveNoneToCompare as HaveNoTable, HaveTable}
 use Rattle.show_commands.specs.Shows.{ShowComesTo, HaveNoPage, HavePage}
-use Rattle.note_commands.specs.Noted.{NotedComeTo, HaveNoNotes, HaveNotes}
-use Rattle.note_commands.specs.Audits.{AuditOf, AuditComesTo, AreTooMany as AreTooManyModules, LacksNotes, LacksTexts, HasTexts, PlanComesTo, HaveNoPlan, HavePlan, AreTooLong, AreNoNotes, HaveResults, AreUnsound, MakeMuchCode, MakeAnImage, one_behind}
+use Rattle.object_commands.specs.note_commands.Noted.{NotedComeTo, HaveNoNotes, HaveNotes}
+use Rattle.object_commands.specs.note_commands.Audits.{AuditOf, AuditComesTo, AreTooMany as AreTooManyModules, LacksNotes, LacksTexts, HasTexts, PlanComesTo, HaveNoPlan, HavePlan, AreTooLong, AreNoNotes, HaveResults, AreUnsound, MakeMuchCode, MakeAnImage, one_behind}
 use Rattle.object_commands.specs.Objects.{IsTooLong as IsTooLongAnObject, IsShort, ObjectComesTo, HaveNoObject, HaveObject}
 use Rattle.object_commands.specs.Links.{HaveObjects, HaveNoPlan as HaveNoJointPlan, HavePlan as HaveJointPlan, LinkComesTo, AreTooMany as AreTooManyObjects, LacksOne as LacksAnObject, HaveContents, ObjectsComeTo, HasOther, AreOfOne}
 use Rattle.object_commands.specs.Links.{HaveNoObject as HaveABrokenOne}
 use Rattle.explanations.specs.declared.format.Format.{Format}
 use Rattle.explanations.specs.declared.format.Format.TheVariants.{Text, Json}
 use Rattle.module_check.specs.Checks.{CheckComesTo, AreLegal, AreNot, told_of}
-use Rattle.source_program.specs.declared.fault.SourceFault.{SourceFault}
-use Rattle.source_program.specs.declared.fault.SourceFault.TheVariants as source
+use Rattle.object_commands.specs.words.source_program.declared.fault.SourceFault.{SourceFault}
+use Rattle.object_commands.specs.words.source_program.declared.fault.SourceFault.TheVariants as source
 use Rattle.word_requests.specs.Asked.{Asked, Run, Build, Elf, Exec, Traces, Bulk, Audit, Object, Link, Mean, Both, Batch, Check, Explain, Compare, Show, Help}
 use Rattle.trc_answers.specs.declared.causes.Cause.{Cause}
 use Rattle.trc_answers.specs.declared.causes.Cause.TheVariants as cause

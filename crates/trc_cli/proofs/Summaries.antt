@@ -6,7 +6,7 @@ use Rattle.run_laws.specs.Runs.{Outcome, Ended, Trapped, Going}
 use Rattle.a64_machine.specs.State.{Trap, Broke, Undefined, BadAddress, BadCall}
 use Rattle.image_form.specs.declared.image.ProcPlace.{ProcPlace}
 use Rattle.memory_devices.specs.MemSink.{Taking, account_of}
-use Rattle.program_image.specs.declared.imaging.Compiled.{Compiled}
+use Rattle.object_commands.specs.words.program_image.declared.imaging.Compiled.{Compiled}
 use Rattle.trc_answers.specs.declared.causes.Device.{Device}
 use Rattle.trc_answers.specs.declared.causes.Device.TheVariants.{Output}
 use Rattle.trc_answers.specs.declared.causes.Cause.{Cause}

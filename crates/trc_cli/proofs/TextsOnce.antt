@@ -4,26 +4,26 @@ use Rattle.outside.specs.Files.{Held}
 use Rattle.image_form.specs.declared.image.Image.{Image}
 use Rattle.run_laws.specs.Runs.{Outcome, Ended, Trapped, Going}
 use Rattle.a64_machine.specs.State.{Trap}
-use Rattle.alloc_choice.specs.declared.choice.Choice.{Choice}
-use Rattle.alloc_choice.specs.declared.choice.Policy.{Policy}
-use Rattle.program_image.specs.declared.imaging.Compiled.{Compiled}
-use Rattle.source_image.specs.Images.{IsImageOfTexts, AreTracesOfTexts}
-use Rattle.source_image.specs.Refusals.{IsRefusal, IsRefusalOf, IsRefusalOfTraces}
-use Rattle.noted_image.specs.Faults.{TellsWithNotes}
-use Rattle.noted_image.specs.Notes.{IsNotedImageOfTexts}
-use Rattle.noted_image.specs.declared.noting.NotedImage.{NotedImage}
-use Rattle.note_commands.specs.Noted.{NotedComeTo, HaveNoNotes, HaveNotes}
-use Rattle.note_commands.specs.Audits.{AuditOf, PlanComesTo}
+use Rattle.object_commands.specs.words.alloc_choice.declared.choice.Choice.{Choice}
+use Rattle.object_commands.specs.words.alloc_choice.declared.choice.Policy.{Policy}
+use Rattle.object_commands.specs.words.program_image.declared.imaging.Compiled.{Compiled}
+use Rattle.object_commands.specs.words.source_image.Images.{IsImageOfTexts, AreTracesOfTexts}
+use Rattle.object_commands.specs.words.source_image.Refusals.{IsRefusal, IsRefusalOf, IsRefusalOfTraces}
+use Rattle.object_commands.specs.noted_image.Faults.{TellsWithNotes}
+use Rattle.object_commands.specs.noted_image.Notes.{IsNotedImageOfTexts}
+use Rattle.object_commands.specs.noted_image.declared.noting.NotedImage.{NotedImage}
+use Rattle.object_commands.specs.note_commands.Noted.{NotedComeTo, HaveNoNotes, HaveNotes}
+use Rattle.object_commands.specs.note_commands.Audits.{AuditOf, PlanComesTo}
 use Rattle.object_commands.specs.Objects.{ObjectComesTo}
 use Rattle.object_commands.specs.Links.{LinkComesTo}
-use Rattle.source_image.specs.declared.refusal.Refusal.{Refusal}
-use Rattle.source_image.specs.declared.refusal.Refusal.TheVariants.{Memory}
+use Rattle.object_commands.specs.words.source_image.declared.refusal.Refusal.{Refusal}
+use Rattle.object_commands.specs.words.source_image.declared.refusal.Refusal.TheVariants.{Memory}
 use Rattle.trc_answers.specs.Runs.{run_of, cause_of_run}
 use Rattle.trc_answers.specs.Verdict.{Verdict, Refuses, Prints}
 use Rattle.explanations.specs.declared.format.Format.{Format}
 use Rattle.module_check.specs.Checks.{CheckComesTo}
-use Rattle.meaning_commands.specs.Meanings.{MeanComeTo}
-use Rattle.meaning_commands.specs.Comparisons.{BothComeTo}
+use Rattle.compare_commands.specs.meaning_commands.Meanings.{MeanComeTo}
+use Rattle.compare_commands.specs.meaning_commands.Comparisons.{BothComeTo}
 use Rattle.compare_commands.specs.Compares.{ComparesComeTo}
 use Rattle.show_commands.specs.Shows.{ShowComesTo}
 use Rattle.trc_cli.specs.declared.bulk.Counts.{Counts}

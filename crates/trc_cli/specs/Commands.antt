@@ -3,18 +3,18 @@ use Rattle.std.specs.Prelude.{◌≡◌, ℕ, List, [], ◌∷◌, ◌++◌, len
 use Rattle.outside.specs.Files.{Held}
 use Rattle.run_laws.specs.Runs.{Outcome, Ended}
 use Rattle.a64_machine.specs.State.{Trap}
-use Rattle.alloc_choice.specs.declared.choice.Choice.{Choice}
-use Rattle.program_image.specs.declared.imaging.Compiled.{Compiled}
+use Rattle.object_commands.specs.words.alloc_choice.declared.choice.Choice.{Choice}
+use Rattle.object_commands.specs.words.program_image.declared.imaging.Compiled.{Compiled}
 use Rattle.bulk_text.specs.Bulk.{bulk_text}
 use Rattle.batch_jobs.specs.Batches.{BatchComesTo}
 use Rattle.explanations.specs.Explained.{explanation}
 use Rattle.module_check.specs.Checks.{CheckComesTo}
-use Rattle.meaning_commands.specs.Meanings.{MeanComeTo}
-use Rattle.meaning_commands.specs.Comparisons.{BothComeTo}
+use Rattle.compare_commands.specs.meaning_commands.Meanings.{MeanComeTo}
+use Rattle.compare_commands.specs.meaning_commands.Comparisons.{BothComeTo}
 use Rattle.compare_commands.specs.Compares.{ComparesComeTo}
 use Rattle.show_commands.specs.Shows.{ShowComesTo}
-use Rattle.note_commands.specs.Audits.{AuditComesTo, audit_of}
-use Rattle.note_commands.specs.Noted.{NotedAnewComeTo, NotedComeTo, NotesWritten}
+use Rattle.object_commands.specs.note_commands.Audits.{AuditComesTo, audit_of}
+use Rattle.object_commands.specs.note_commands.Noted.{NotedAnewComeTo, NotedComeTo, NotesWritten}
 use Rattle.object_commands.specs.Objects.{ObjectComesTo}
 use Rattle.object_commands.specs.Links.{IsTextOfObject, LinkComesTo}
 use Rattle.word_requests.specs.Asked.{Asked, Run, Build, Elf, Exec, Traces, Bulk, Audit, Object, Link, Mean, Both, Batch, Check, Explain, Compare, Show, Help}
@@ -24,7 +24,7 @@ use Rattle.trc_answers.specs.Answers.{Devices, InputStays}
 use Rattle.trc_answers.specs.Reading.{FilesComeTo}
 use Rattle.trc_answers.specs.Runs.{run_of, cause_of_run}
 use Rattle.trc_answers.specs.Verdict.{Verdict, Refuses, Prints, World, FileComesTo, ImageComesTo, BytesComeTo, Written, WrittenElf, Renews}
-pub use Rattle.trc_texts.specs.Texts.{cause_of_refusal, NamesText, IsRefusedAs, AreRefused, TextsComeTo, HaveNoImage, HaveImage, TracesComeTo, HaveNoTraces, HaveTraces, IsTextIn, IsTextHeld}
+pub use Rattle.object_commands.specs.trc_texts.Texts.{cause_of_refusal, NamesText, IsRefusedAs, AreRefused, TextsComeTo, HaveNoImage, HaveImage, TracesComeTo, HaveNoTraces, HaveTraces, IsTextIn, IsTextHeld}
 use Rattle.trc_cli.specs.declared.bulk.Counts.{Counts}
 
 ---- Made modules

@@ -1,7 +1,7 @@
 //! Modules are compiled, and their image, or its native program, is written to a file.
 
 ghost use Rattle.std.specs.Prelude.{◌≡◌, ◌≤◌, ℕ, List, Option, Some, None, length, map};
-ghost use Rattle.alloc_choice.specs.Choice.{IsFitChoice};
+ghost use Rattle.object_commands.specs.words.alloc_choice.Choice.{IsFitChoice};
 ghost use Rattle.outside.specs.Sink.{Account};
 ghost use Rattle.word_requests.specs.Asked.{Build};
 ghost use Rattle.option_values.specs.Values.{text};
@@ -12,16 +12,15 @@ ghost use Rattle.trc_answers.specs.Verdict.{Renews, Written, WrittenElf, world};
 ghost use Rattle.trc_cli.specs.Commands.{AnewComesTo, IsTextHeld, IsTextIn, RequestComesTo, TextsComeTo};
 
 use items::Items;
-use note_commands::{build_anew_with_notes, build_with_notes};
+use object_commands::image_words::Choice;
+use object_commands::{Scaffolds, build_anew_with_notes, build_with_notes, compile, image_alone};
 use outside::{Files, Gate};
-use source_image::Choice;
 use std::alloc::AllocGlobal;
 use std::sync::Wait;
 use std::thread::Threads;
 use trc_answers::{
     Ending, read_image_file, read_texts, renew_image_file, write_elf_file, write_image_file,
 };
-use trc_texts::{Scaffolds, compile, image_alone};
 
 // Compiles texts, and writes their image to the file of this name.
 fn build_texts<R: Threads + Wait + AllocGlobal + Sync, F: Files, G: Gate>(

@@ -1,7 +1,7 @@
 //! A module is made, compiled and run, and what came of it is told.
 
 ghost use Rattle.std.specs.Prelude.{◌≡◌, ◌≤◌, ◌++◌, ◌∷◌, [], ℕ, List, Option, length, OnOk, IfOk};
-ghost use Rattle.alloc_choice.specs.Choice.{IsFitChoice};
+ghost use Rattle.object_commands.specs.words.alloc_choice.Choice.{IsFitChoice};
 ghost use Rattle.outside.specs.Files.{Held};
 ghost use Rattle.image_form.specs.Form.{IsInForm};
 ghost use Rattle.bulk_text.specs.Bulk.{bulk_text};
@@ -14,13 +14,13 @@ ghost use Rattle.trc_cli.specs.declared.bulk.Counts.{Counts};
 use bulk_text::bulk_text;
 use items::Items;
 use memory_devices::MemSink;
+use object_commands::image_words::{Choice, Compiled};
+use object_commands::{Scaffolds, compile, image_alone};
 use outside::{Gate, Sink};
-use source_image::{Choice, Compiled};
 use std::alloc::{AllocError, AllocGlobal, Global};
 use std::sync::Wait;
 use std::thread::Threads;
 use trc_answers::{Cause, Ending, print, run_on};
-use trc_texts::{Scaffolds, compile, image_alone};
 
 /// How much a made module may write; it writes one number and a line's end.
 const ROOM: usize = 4096;

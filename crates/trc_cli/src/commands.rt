@@ -14,18 +14,15 @@ use crate::explaining::explain;
 use crate::running::run;
 use crate::tracing::traces;
 use batch_jobs::batch;
-use compare_commands::compare;
-use meaning_commands::{both, mean};
+use compare_commands::{both, compare, mean};
 use module_check::check;
-use note_commands::audit;
-use object_commands::{link, object};
+use object_commands::{Scaffolds, audit, link, object};
 use outside::{Files, Gate, Sink, Source};
 use show_commands::show;
 use std::alloc::{AllocError, AllocGlobal, Global};
 use std::sync::Wait;
 use std::thread::Threads;
 use trc_answers::{Ending, exec, print};
-use trc_texts::Scaffolds;
 use trc_words::Request;
 
 /// The lines of `help`.

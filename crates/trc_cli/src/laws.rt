@@ -2,7 +2,7 @@
 
 ghost use Rattle.std.specs.Prelude.{◌≡◌, ◌⊎◌, ℕ, List, Option, Some, None, slice_get};
 ghost use Rattle.outside.specs.Files.{Held};
-ghost use Rattle.alloc_choice.specs.declared.choice.Choice.{Choice};
+ghost use Rattle.object_commands.specs.words.alloc_choice.declared.choice.Choice.{Choice};
 ghost use Rattle.word_requests.specs.Asked.{Asked, Audit, Run, Build, Exec};
 ghost use Rattle.trc_answers.specs.declared.causes.Cause.{Cause};
 ghost use Rattle.trc_answers.specs.Verdict.{Verdict, Accepts, Writes, WritesBoth, cause_of, world};
@@ -10,20 +10,17 @@ ghost use Rattle.trc_answers.specs.Answers.{AllDone, Answers, Devices};
 ghost use Rattle.trc_cli.specs.Commands.{ComesTo};
 ghost use Rattle.trc_cli.specs.Laws.{Alike, NoneFailed};
 
-use compare_commands::compares_come_to_one;
-use meaning_commands::{comparisons_come_to_one, meanings_come_to_one};
-use note_commands::audits_come_to_one;
-use note_laws::{
-    noted_images_exclude_refusals, notes_of_texts_pass, texts_have_one_noted_image,
-    texts_have_one_refusal_with_notes,
-};
-use object_commands::{links_come_to_one, objects_come_to_one};
-use show_commands::shows_come_to_one;
-use text_laws::{
+use compare_commands::{compares_come_to_one, comparisons_come_to_one, meanings_come_to_one};
+use object_commands::image_words::{
     images_exclude_refusals, texts_have_one_first_fault, texts_have_one_image,
     texts_have_one_refusal, texts_have_one_refusal_of_traces, texts_have_one_report,
     traces_exclude_refusals,
 };
+use object_commands::{
+    audits_come_to_one, links_come_to_one, noted_images_exclude_refusals, notes_of_texts_pass,
+    objects_come_to_one, texts_have_one_noted_image, texts_have_one_refusal_with_notes,
+};
+use show_commands::shows_come_to_one;
 
 /// Where no count of faults rises, the answer is a cause that the words come to, with all of it done, unless memory ran out. Where
 /// files and input tell what they hold, words come to one thing at most: to one cause, one output and one list of files that are written. This

@@ -17,8 +17,8 @@ mod running;
 mod top;
 mod tracing;
 
+pub use compare_commands::both_agree;
 pub use laws::{answers_are_verdicts, audit_of_noted_accepts, exec_of_built_is_run};
-pub use meaning_commands::both_agree;
 pub use program::run_program;
 pub use top::trc;
 pub use trc_answers::{Cause, Device, Outcome};

@@ -5,6 +5,7 @@ ghost use Rattle.trc_answers.specs.Answers.{devices};
 ghost use Rattle.trc_cli.specs.Did.{DidSome};
 
 use crate::top::{call, finish};
+use object_commands::Scaffolds;
 use outside::{Files, Memory, OpenGate, Sink, Source};
 use std::alloc::AllocGlobal;
 use std::env;
@@ -13,7 +14,6 @@ use std::rt::Env;
 use std::sync::Wait;
 use std::thread::Threads;
 use trc_answers::{Cause, Ending};
-use trc_texts::Scaffolds;
 
 /// The words behind the program's name; no words where one of them isn't UTF-8, which no word of a command is.
 fn words_of<R: Env + AllocGlobal>(rt: &R) -> Result<Vec<String>, Memory> {

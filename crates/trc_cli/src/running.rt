@@ -1,7 +1,7 @@
 //! Modules are compiled, and their image is run.
 
 ghost use Rattle.std.specs.Prelude.{◌≡◌, ◌≤◌, ℕ, Option, length, map};
-ghost use Rattle.alloc_choice.specs.Choice.{IsFitChoice};
+ghost use Rattle.object_commands.specs.words.alloc_choice.Choice.{IsFitChoice};
 ghost use Rattle.outside.specs.Files.{Held};
 ghost use Rattle.trc_answers.specs.Answers.{Answers, devices};
 ghost use Rattle.trc_answers.specs.Causes.{IsPlaced};
@@ -10,13 +10,13 @@ ghost use Rattle.trc_answers.specs.Verdict.{ImageComesTo};
 ghost use Rattle.trc_cli.specs.Commands.{IsTextHeld, IsTextIn, TextsComeTo};
 
 use items::Items;
+use object_commands::image_words::Choice;
+use object_commands::{Scaffolds, compile, image_alone};
 use outside::{Files, Gate, Sink, Source};
-use source_image::Choice;
 use std::alloc::AllocGlobal;
 use std::sync::Wait;
 use std::thread::Threads;
 use trc_answers::{Ending, read_texts, run_image};
-use trc_texts::{Scaffolds, compile, image_alone};
 
 // Compiles texts, and runs their image.
 fn run_texts<R: Threads + Wait + AllocGlobal + Sync, I: Source, O: Sink, G: Gate>(

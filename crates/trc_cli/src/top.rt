@@ -12,12 +12,12 @@ ghost use Rattle.trc_cli.specs.Did.{Did};
 ghost use Rattle.trc_cli.specs.Lines.{IsTold};
 
 use crate::commands::{first_module, names_of, perform};
+use object_commands::Scaffolds;
 use outside::{Files, Gate, Sink, Source};
 use std::alloc::AllocGlobal;
 use std::sync::Wait;
 use std::thread::Threads;
 use trc_answers::{Cause, Ending, Outcome, report, status};
-use trc_texts::Scaffolds;
 use trc_words::{Request, WordsFault, read_words};
 
 /// Tells how a command ended on the error sink, whose fault changes nothing, and gives the cause with its status. The names are

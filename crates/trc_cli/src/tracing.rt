@@ -8,11 +8,11 @@ ghost use Rattle.trc_answers.specs.Reading.{FilesComeTo};
 ghost use Rattle.trc_cli.specs.Commands.{IsTextHeld, IsTextIn, TracesComeTo};
 
 use items::Items;
+use object_commands::image_words::Choice;
+use object_commands::trace_lines;
 use outside::{Files, Sink};
-use source_image::Choice;
 use std::alloc::Global;
 use trc_answers::{Ending, print, read_texts};
-use trc_texts::trace_lines;
 
 // Tells the traces of texts.
 fn trace_texts<O: Sink>(alloc: Global, texts: &[Items<u8>], choice: &Choice, out: &mut O) -> Ending

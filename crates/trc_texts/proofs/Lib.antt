@@ -1,2 +1,3 @@
 pub mod Named
 pub mod Refusing
+pub use Rattle.image_words.proofs as words

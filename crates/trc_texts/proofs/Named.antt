@@ -2,10 +2,10 @@
 use Rattle.std.proofs.Common.{◌≡◌, ◌<◌, ℕ, zero, suc, List, [], ◌∷◌, length, Some, arith}
 use Rattle.std.specs.Prelude.{slice_get}
 use Rattle.ob_types.specs.declared.program.Program.{Program}
-use Rattle.program_image.specs.declared.fault.ProgramFault.{ProgramFault}
-use Rattle.source_image.specs.Refusals.{IsRefusalOf}
-use Rattle.source_image.specs.declared.refusal.Refusal.{Refusal}
-use Rattle.source_image.specs.declared.refusal.Refusal.TheVariants.{TooLong, Source, Limit, Memory}
+use Rattle.image_words.specs.program_image.declared.fault.ProgramFault.{ProgramFault}
+use Rattle.image_words.specs.source_image.Refusals.{IsRefusalOf}
+use Rattle.image_words.specs.source_image.declared.refusal.Refusal.{Refusal}
+use Rattle.image_words.specs.source_image.declared.refusal.Refusal.TheVariants.{TooLong, Source, Limit, Memory}
 use Rattle.trc_texts.specs.Texts.{NamesText}
 
 there : {A : Type 0} (xs : List A) (n : ℕ) (x : A) → slice_get xs n ≡ Some x → n < length xs

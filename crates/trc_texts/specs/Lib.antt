@@ -1,1 +1,2 @@
 pub mod Texts
+pub use Rattle.image_words.specs as words

@@ -1,11 +1,11 @@
 -- What texts come to that a command compiles.
 use Rattle.std.specs.Prelude.{◌≡◌, ◌<◌, ℕ, List, length}
-use Rattle.alloc_choice.specs.declared.choice.Choice.{Choice}
-use Rattle.program_image.specs.declared.imaging.Compiled.{Compiled}
-use Rattle.source_image.specs.Images.{IsImageOfTexts, AreTracesOfTexts}
-use Rattle.source_image.specs.Refusals.{IsRefusal, IsRefusalOfTraces}
-use Rattle.source_image.specs.declared.refusal.Refusal.{Refusal}
-use Rattle.source_image.specs.declared.refusal.Refusal.TheVariants.{TooLong, Source, Limit, Memory}
+use Rattle.image_words.specs.alloc_choice.declared.choice.Choice.{Choice}
+use Rattle.image_words.specs.program_image.declared.imaging.Compiled.{Compiled}
+use Rattle.image_words.specs.source_image.Images.{IsImageOfTexts, AreTracesOfTexts}
+use Rattle.image_words.specs.source_image.Refusals.{IsRefusal, IsRefusalOfTraces}
+use Rattle.image_words.specs.source_image.declared.refusal.Refusal.{Refusal}
+use Rattle.image_words.specs.source_image.declared.refusal.Refusal.TheVariants.{TooLong, Source, Limit, Memory}
 use Rattle.trc_answers.specs.declared.causes.Cause.{Cause}
 use Rattle.trc_answers.specs.declared.causes.Cause.TheVariants as cause
 use Rattle.trc_answers.specs.Verdict.{Verdict, Refuses, Prints}

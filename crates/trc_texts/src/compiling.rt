@@ -1,16 +1,16 @@
 //! Texts are compiled, or the command ends.
 
 ghost use Rattle.std.specs.Prelude.{◌≡◌, ◌<◌, ◌≤◌, length, IfOk, IfErr};
-ghost use Rattle.alloc_choice.specs.Choice.{IsFitChoice};
-ghost use Rattle.source_image.specs.Images.{IsImageOfTexts, AreTracesOfTexts};
-ghost use Rattle.source_image.specs.Refusals.{IsRefusal, IsRefusalOfTraces};
+ghost use Rattle.image_words.specs.alloc_choice.Choice.{IsFitChoice};
+ghost use Rattle.image_words.specs.source_image.Images.{IsImageOfTexts, AreTracesOfTexts};
+ghost use Rattle.image_words.specs.source_image.Refusals.{IsRefusal, IsRefusalOfTraces};
 ghost use Rattle.trc_answers.specs.Causes.{IsPlaced};
 ghost use Rattle.trc_answers.specs.declared.causes.Cause.TheVariants as cause;
 ghost use Rattle.trc_texts.specs.Texts.{IsRefusedAs, IsTextIn, NamesText, cause_of_refusal};
 
+use image_words::{Choice, Compiled, Image, Refusal, source_image, source_traces};
 use items::Items;
 use outside::Gate;
-use source_image::{Choice, Compiled, Image, Refusal, source_image, source_traces};
 use std::alloc::Global;
 use std::sync::Wait;
 use std::thread::Threads;

@@ -9,3 +9,4 @@
 mod compiling;
 
 pub use compiling::{Scaffolds, compile, image_alone, refused, trace_lines};
+pub use image_words;

@@ -15,9 +15,9 @@ use Rattle.ob_types.specs.Meaning.{meaning}
 use Rattle.ob_types.specs.declared.program.Program.{Program}
 use Rattle.linked_flows.specs.Allocations.{Cut}
 use Rattle.placed_code.specs.Placed.{Placed}
-use Rattle.compiled_runs.specs.Compiled.{Means, placed_of, same_break}
-use Rattle.alloc_choice.specs.declared.choice.Choice.{Choice}
-use Rattle.program_image.specs.declared.imaging.Compiled.{Compiled}
+use Rattle.source_image.specs.compiled_runs.Compiled.{Means, placed_of, same_break}
+use Rattle.source_image.specs.alloc_choice.declared.choice.Choice.{Choice}
+use Rattle.source_image.specs.program_image.declared.imaging.Compiled.{Compiled}
 use Rattle.source_image.specs.Images.{IsImageOfTexts}
 use Rattle.text_laws.specs.no_faults.Faults.{IsBreak}
 

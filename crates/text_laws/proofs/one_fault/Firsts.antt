@@ -14,9 +14,9 @@ use Rattle.ob_judge.specs.Image as I
 use Rattle.ob_judge.specs.Modules.{SoFar, Parsed, Legal, no_modules, judged_after, checked_after, with_module}
 use Rattle.ob_read.specs.Texts.{IsModuleText, most_bytes}
 use Rattle.ob_read.specs.Texts as Read
-use Rattle.source_program.specs.declared.fault.SourceFault.{SourceFault}
-use Rattle.source_program.specs.declared.fault.SourceFault.TheVariants.{TooLong, Fault, Memory}
-use Rattle.source_program.specs.Texts.{IsParsed, AreParsed, accepted_after, BreaksBehind, InText, InModule, IsFirst, IsProgramOfTexts, IsSourceFault}
+use Rattle.source_image.specs.source_program.declared.fault.SourceFault.{SourceFault}
+use Rattle.source_image.specs.source_program.declared.fault.SourceFault.TheVariants.{TooLong, Fault, Memory}
+use Rattle.source_image.specs.source_program.Texts.{IsParsed, AreParsed, accepted_after, BreaksBehind, InText, InModule, IsFirst, IsProgramOfTexts, IsSourceFault}
 
 -- what a text of over 1,048,576 bytes breaks
 abbrev IsLong : SoFar → List ℕ → Type 0

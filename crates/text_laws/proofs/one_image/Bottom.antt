@@ -17,7 +17,7 @@ use Rattle.linear_scan.specs.Linear.{Case, end_position, position_behind}
 use Rattle.bottom_up.specs.Policy.{take_all, operate_all}
 use Rattle.bottom_up.specs.Ends.{given_at, homed_at, passed_home}
 use Rattle.bottom_up.specs.Bottom.{made_along, live_first, homed_first, next_params, to_end, before_it, along, walked_back, result_of, mention_in, bottom_up}
-use Rattle.alloc_choice.specs.Results.{case_with}
+use Rattle.source_image.specs.alloc_choice.Results.{case_with}
 use Rattle.text_laws.proofs.one_image.Needs.{live_into_same, live_off_same, positions_same}
 
 module _ (rows others : List (List ℕ)) (e : has_bit rows ≡ has_bit others) where

@@ -7,13 +7,13 @@ use Rattle.lir_core.specs.declared.flow.Trace.{Trace}
 use Rattle.global_live.specs.Reading.{HasLive}
 use Rattle.trace_build.specs.Traces.{traces_of}
 use Rattle.trace_build.specs.Cuts.{lists_of}
-use Rattle.alloc_choice.specs.declared.choice.Choice.{Choice}
-use Rattle.alloc_choice.specs.Results.{case_with, results_to}
+use Rattle.source_image.specs.alloc_choice.declared.choice.Choice.{Choice}
+use Rattle.source_image.specs.alloc_choice.Results.{case_with, results_to}
 use Rattle.linked_flows.specs.Allocations.{Cut}
-use Rattle.link_plan.specs.Linked.{linked}
-use Rattle.flow_allocation.specs.Allocations.{IsAllocation, AllAllocations}
-use Rattle.compiled_runs.specs.Compiled.{data_of}
-use Rattle.program_image.specs.Images.{IsProgramImage}
+use Rattle.source_image.specs.link_plan.Linked.{linked}
+use Rattle.source_image.specs.flow_allocation.Allocations.{IsAllocation, AllAllocations}
+use Rattle.source_image.specs.compiled_runs.Compiled.{data_of}
+use Rattle.source_image.specs.program_image.Images.{IsProgramImage}
 use Rattle.text_laws.proofs.one_image.Bits.{same_bits}
 use Rattle.text_laws.proofs.one_image.Results.{results_same}
 

@@ -14,7 +14,7 @@ use Rattle.linear_scan.specs.Policy.{from, drop_dead}
 use Rattle.linear_scan.specs.Starts.{arguments_of, if_live, start_behind, start_afresh}
 use Rattle.linear_scan.specs.Linear.{Case, Hint, params_of, end_of, end_position, position_behind, result_of, first_start, next_start, in_node, behind, along, result_by, need_in, linear}
 use Rattle.simple_policies.specs.trivial.Trivial.{trivial, trivial_start}
-use Rattle.alloc_choice.specs.Results.{case_with}
+use Rattle.source_image.specs.alloc_choice.Results.{case_with}
 use Rattle.text_laws.proofs.one_image.Needs.{live_into_same, positions_same}
 
 module _ (f : Flow) (regs : ℕ) (rows others : List (List ℕ)) (e : has_bit rows ≡ has_bit others) where

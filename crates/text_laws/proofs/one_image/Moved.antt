@@ -8,11 +8,11 @@ use Rattle.a64_memory.specs.Areas.{data_base}
 use Rattle.placed_code.specs.declared.data.ProcName.{ProcName}
 use Rattle.placed_code.specs.declared.data.ImageData.{ImageData}
 use Rattle.linked_flows.specs.Allocations.{Cut}
-use Rattle.link_plan.specs.Linked.{linked}
-use Rattle.alloc_choice.specs.declared.choice.Choice.{Choice}
-use Rattle.back_end.specs.Images.{AreCutsOf}
-use Rattle.compiled_runs.specs.Compiled.{name_of, procedure_names, data_of}
-use Rattle.program_image.specs.Images.{IsProgramImage}
+use Rattle.source_image.specs.link_plan.Linked.{linked}
+use Rattle.source_image.specs.alloc_choice.declared.choice.Choice.{Choice}
+use Rattle.source_image.specs.back_end.Images.{AreCutsOf}
+use Rattle.source_image.specs.compiled_runs.Compiled.{name_of, procedure_names, data_of}
+use Rattle.source_image.specs.program_image.Images.{IsProgramImage}
 use Rattle.one_lowering.specs.Forms.{place_of, HaveOneLowering}
 
 -- a procedure's name by where it stands

@@ -13,11 +13,11 @@ use Rattle.trace_build.specs.Parents.{trace_at}
 use Rattle.trace_needs.specs.Needs.{first_of}
 use Rattle.linear_scan.specs.Linear.{Case, Hint}
 use Rattle.simple_policies.specs.plain.Plain.{picked, in_homes, plain_start, plain_end, node_lines, node_regs, plain_of}
-use Rattle.alloc_choice.specs.declared.choice.Policy.{Policy}
-use Rattle.alloc_choice.specs.declared.choice.Used.{Used}
-use Rattle.alloc_choice.specs.declared.choice.Used.TheVariants.{Plain, Trivial, Linear, BottomUp}
-use Rattle.alloc_choice.specs.Choice.{used}
-use Rattle.alloc_choice.specs.Results.{case_with, result_by, parent_of, hint_for, result_at, results_to}
+use Rattle.source_image.specs.alloc_choice.declared.choice.Policy.{Policy}
+use Rattle.source_image.specs.alloc_choice.declared.choice.Used.{Used}
+use Rattle.source_image.specs.alloc_choice.declared.choice.Used.TheVariants.{Plain, Trivial, Linear, BottomUp}
+use Rattle.source_image.specs.alloc_choice.Choice.{used}
+use Rattle.source_image.specs.alloc_choice.Results.{case_with, result_by, parent_of, hint_for, result_at, results_to}
 use Rattle.text_laws.proofs.one_image.Linear.{linear_same, trivial_same}
 use Rattle.text_laws.proofs.one_image.Bottom.{bottom_up_same}
 

@@ -7,7 +7,7 @@ use Rattle.ob_types.specs.declared.program.Program.{Program}
 use Rattle.ob_read.specs.Texts.{IsModuleText}
 use Rattle.judged_programs.specs.ProgramOf.{IsProgramOf}
 use Rattle.one_lowering.specs.Order.{UsesInOrder}
-use Rattle.source_program.specs.Texts.{IsProgramOfTexts}
+use Rattle.source_image.specs.source_program.Texts.{IsProgramOfTexts}
 use Rattle.text_laws.proofs.one_program.InTurn.{in_order}
 use Rattle.text_laws.proofs.one_program.Reading.{all_parsed_once}
 

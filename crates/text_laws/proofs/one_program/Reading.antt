@@ -6,7 +6,7 @@ use Rattle.ob_syntax.specs.declared.modules.Module.{Module}
 use Rattle.ob_syntax.specs.Plain.{plain_module}
 use Rattle.ob_judge.specs.Modules.{Parsed}
 use Rattle.ob_read.specs.Texts.{IsModuleText}
-use Rattle.source_program.specs.Texts.{IsParsed, AreParsed}
+use Rattle.source_image.specs.source_program.Texts.{IsParsed, AreParsed}
 
 -- where a text has one reading
 module _ (read_once : (w : List ℕ) (a b : List Symbol) (m n : Module) → IsModuleText w a m → IsModuleText w b n → (a ≡ b) × (plain_module m ≡ plain_module n)) where

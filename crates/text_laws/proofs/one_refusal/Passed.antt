@@ -11,15 +11,15 @@ use Rattle.ssa_lowered.specs.Lowered.{lowered}
 use Rattle.placed_code.specs.Layout.{all_words}
 use Rattle.placed_code.specs.Results.{all_placed}
 use Rattle.linked_flows.specs.Allocations.{Cut, steps_of, all_allocated}
-use Rattle.link_plan.specs.Linked.{linked}
+use Rattle.source_image.specs.link_plan.Linked.{linked}
 use Rattle.trace_build.specs.Traces.{traces_in}
-use Rattle.alloc_choice.specs.declared.choice.Choice.{Choice}
-use Rattle.back_end.specs.Images.{AreCutsOf, code_length}
-use Rattle.compiled_runs.specs.Compiled.{flows_of, data_of}
+use Rattle.source_image.specs.alloc_choice.declared.choice.Choice.{Choice}
+use Rattle.source_image.specs.back_end.Images.{AreCutsOf, code_length}
+use Rattle.source_image.specs.compiled_runs.Compiled.{flows_of, data_of}
 use Rattle.one_lowering.specs.Forms.{HaveOneLowering}
-use Rattle.program_image.specs.Images.{IsProgramImage}
-use Rattle.program_image.specs.Limits.{most_traces, IsPassedBeforeCode, InLowering, ByTraces, IsPassedFirst, BeforeCode, ByWords, HasMuchCode}
-use Rattle.program_image.proofs.Telling.{count_is, few_traces}
+use Rattle.source_image.specs.program_image.Images.{IsProgramImage}
+use Rattle.source_image.specs.program_image.Limits.{most_traces, IsPassedBeforeCode, InLowering, ByTraces, IsPassedFirst, BeforeCode, ByWords, HasMuchCode}
+use Rattle.source_image.proofs.program_image.Telling.{count_is, few_traces}
 
 same_limit : (l m : Limit) → Some l ≡ Some m → l ≡ m
 same_limit l m e = cc

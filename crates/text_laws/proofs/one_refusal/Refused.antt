@@ -3,11 +3,11 @@ use Rattle.std.proofs.Common.{◌≡◌, ℕ, List, true, None, refl, sym, ap, a
 use Rattle.ob_types.specs.WellFormed.{well_formed}
 use Rattle.ob_types.specs.declared.program.Program.{Program}
 use Rattle.ssa_lowered.specs.Limits.{Limit}
-use Rattle.program_image.specs.declared.fault.ProgramFault.{ProgramFault}
-use Rattle.program_image.specs.declared.fault.ProgramFault.TheVariants as whole
-use Rattle.source_program.specs.Texts.{IsProgramOfTexts, IsSourceFault}
-use Rattle.source_program.specs.declared.fault.SourceFault.{SourceFault}
-use Rattle.source_program.specs.declared.fault.SourceFault.TheVariants as source
+use Rattle.source_image.specs.program_image.declared.fault.ProgramFault.{ProgramFault}
+use Rattle.source_image.specs.program_image.declared.fault.ProgramFault.TheVariants as whole
+use Rattle.source_image.specs.source_program.Texts.{IsProgramOfTexts, IsSourceFault}
+use Rattle.source_image.specs.source_program.declared.fault.SourceFault.{SourceFault}
+use Rattle.source_image.specs.source_program.declared.fault.SourceFault.TheVariants as source
 use Rattle.source_image.specs.Refusals.{HaveFault, IsRefusalOf, of_source}
 use Rattle.source_image.specs.declared.refusal.Refusal.{Refusal}
 use Rattle.source_image.specs.declared.refusal.Refusal.TheVariants.{TooLong, Source, Limit as OfLimit, Memory}

@@ -9,8 +9,8 @@ use Rattle.lir_core.specs.Flows.{code_nodes}
 use Rattle.trace_build.specs.Cuts.{lists_of}
 use Rattle.trace_build.specs.Traces.{traces_of}
 use Rattle.trace_build.specs.Parents.{AreParents, IsParent, is_above}
-use Rattle.trace_report.specs.Reports.{IsReport, IsFlowReport, lines_from}
-use Rattle.alloc_choice.specs.declared.choice.Choice.{Choice}
+use Rattle.source_image.specs.trace_report.Reports.{IsReport, IsFlowReport, lines_from}
+use Rattle.source_image.specs.alloc_choice.declared.choice.Choice.{Choice}
 
 abbrev trace_of : List ℕ → Trace
 trace_of ns = record { nodes = ns }

@@ -5,8 +5,8 @@ ghost use Rattle.run_laws.specs.Runs.{Trapped, run};
 ghost use Rattle.a64_machine.specs.Machine.{start, step_of};
 ghost use Rattle.a64_machine.specs.State.{Trap};
 ghost use Rattle.a64_memory.specs.Memory.{AreBytes};
-ghost use Rattle.alloc_choice.specs.declared.choice.Choice.{Choice};
-ghost use Rattle.program_image.specs.declared.imaging.Compiled.{Compiled};
+ghost use Rattle.source_image.specs.alloc_choice.declared.choice.Choice.{Choice};
+ghost use Rattle.source_image.specs.program_image.declared.imaging.Compiled.{Compiled};
 ghost use Rattle.source_image.specs.Images.{IsImageOfTexts};
 ghost use Rattle.text_laws.specs.no_faults.Faults.{IsBreak};
 

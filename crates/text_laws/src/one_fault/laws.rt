@@ -2,9 +2,9 @@
 
 ghost use Rattle.std.specs.Prelude.{◌≡◌, ℕ, List};
 ghost use Rattle.ob_types.specs.declared.program.Program.{Program};
-ghost use Rattle.source_program.specs.Texts.{IsProgramOfTexts, IsSourceFault};
-ghost use Rattle.source_program.specs.declared.fault.SourceFault.{SourceFault};
-ghost use Rattle.source_program.specs.declared.fault.SourceFault.TheVariants.{Memory};
+ghost use Rattle.source_image.specs.source_program.Texts.{IsProgramOfTexts, IsSourceFault};
+ghost use Rattle.source_image.specs.source_program.declared.fault.SourceFault.{SourceFault};
+ghost use Rattle.source_image.specs.source_program.declared.fault.SourceFault.TheVariants.{Memory};
 
 use crate::one_reading::texts_are_read_once;
 

@@ -3,9 +3,9 @@
 ghost use Rattle.std.specs.Prelude.{◌≡◌, List};
 ghost use Rattle.image_form.specs.declared.image.Image.{Image};
 ghost use Rattle.ob_types.specs.declared.program.Program.{Program};
-ghost use Rattle.alloc_choice.specs.declared.choice.Choice.{Choice};
+ghost use Rattle.source_image.specs.alloc_choice.declared.choice.Choice.{Choice};
 ghost use Rattle.linked_flows.specs.Allocations.{Cut};
-ghost use Rattle.program_image.specs.Images.{IsProgramImage};
+ghost use Rattle.source_image.specs.program_image.Images.{IsProgramImage};
 
 /// By choices with the same policy, builder and number of registers the definitions give a program one image, and one list of
 /// flows in traces with results behind it: how many workers there are changes neither.

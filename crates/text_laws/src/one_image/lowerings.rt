@@ -3,10 +3,10 @@
 ghost use Rattle.std.specs.Prelude.{◌≡◌, List};
 ghost use Rattle.image_form.specs.declared.image.Image.{Image};
 ghost use Rattle.ob_types.specs.declared.program.Program.{Program};
-ghost use Rattle.alloc_choice.specs.declared.choice.Choice.{Choice};
+ghost use Rattle.source_image.specs.alloc_choice.declared.choice.Choice.{Choice};
 ghost use Rattle.linked_flows.specs.Allocations.{Cut};
 ghost use Rattle.one_lowering.specs.Forms.{HaveOneLowering};
-ghost use Rattle.program_image.specs.Images.{IsProgramImage};
+ghost use Rattle.source_image.specs.program_image.Images.{IsProgramImage};
 
 /// By choices with the same policy, builder and number of registers programs with the same lowering have one image, and one list
 /// of flows in traces with results behind it.

@@ -1,8 +1,8 @@
 //! The law of one image of texts.
 
 ghost use Rattle.std.specs.Prelude.{◌≡◌, ℕ, List};
-ghost use Rattle.alloc_choice.specs.declared.choice.Choice.{Choice};
-ghost use Rattle.program_image.specs.declared.imaging.Compiled.{Compiled};
+ghost use Rattle.source_image.specs.alloc_choice.declared.choice.Choice.{Choice};
+ghost use Rattle.source_image.specs.program_image.declared.imaging.Compiled.{Compiled};
 ghost use Rattle.source_image.specs.Images.{IsImageOfTexts};
 
 use crate::one_image::lowerings_have_one_image;

@@ -5,7 +5,7 @@ ghost use Rattle.ob_types.specs.Meaning.{meaning};
 ghost use Rattle.ob_types.specs.WellFormed.{well_formed};
 ghost use Rattle.ob_types.specs.declared.program.Program.{Program};
 ghost use Rattle.one_lowering.specs.Forms.{HaveOneLowering};
-ghost use Rattle.source_program.specs.Texts.{IsProgramOfTexts};
+ghost use Rattle.source_image.specs.source_program.Texts.{IsProgramOfTexts};
 
 use crate::judged_shapes::{modules_have_one_lowering, modules_have_one_meaning};
 use crate::one_reading::texts_are_read_once;

@@ -1,8 +1,8 @@
 //! The laws of refusals.
 
 ghost use Rattle.std.specs.Prelude.{◌≡◌, ℕ, List};
-ghost use Rattle.alloc_choice.specs.declared.choice.Choice.{Choice};
-ghost use Rattle.program_image.specs.declared.imaging.Compiled.{Compiled};
+ghost use Rattle.source_image.specs.alloc_choice.declared.choice.Choice.{Choice};
+ghost use Rattle.source_image.specs.program_image.declared.imaging.Compiled.{Compiled};
 ghost use Rattle.source_image.specs.Images.{IsImageOfTexts, AreTracesOfTexts};
 ghost use Rattle.source_image.specs.Refusals.{IsRefusal, IsRefusalOfTraces};
 ghost use Rattle.source_image.specs.declared.refusal.Refusal.{Refusal};

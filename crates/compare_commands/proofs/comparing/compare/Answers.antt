@@ -1,7 +1,7 @@
 use Rattle.std.proofs.Common.{◌≤◌, ℕ, List, length, map, sym, subst}
 use Rattle.trc_answers.specs.Reading.{AreTextsOf}
 use Rattle.trc_answers.proofs.Texts.{few_texts, reads_texts, unread}
-use Rattle.trc_texts.proofs.Refusing.{placed_held}
+use Rattle.meaning_commands.proofs.trc_texts.Refusing.{placed_held}
 use Rattle.compare_commands.specs.Compares.{ComparesComeTo}
 use Rattle.compare_commands.proofs.comparing.compare.Goals as goal
 

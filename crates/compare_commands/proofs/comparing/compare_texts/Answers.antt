@@ -1,9 +1,9 @@
 use Rattle.std.proofs.Common.{refl}
-use Rattle.planned_image.specs.Plans.{TellsOfLowering}
-use Rattle.source_image.specs.Refusals.{IsRefusalOf}
+use Rattle.program_figures.specs.planned_image.Plans.{TellsOfLowering}
+use Rattle.program_figures.specs.words.source_image.Refusals.{IsRefusalOf}
 use Rattle.trc_answers.proofs.Answering.{mapped, lacks}
-use Rattle.trc_texts.proofs.Named.{names_text}
-use Rattle.trc_texts.proofs.Refusing.{refused}
+use Rattle.meaning_commands.proofs.trc_texts.Named.{names_text}
+use Rattle.meaning_commands.proofs.trc_texts.Refusing.{refused}
 use Rattle.meaning_commands.proofs.Refusing.{program_refused, refused_so}
 use Rattle.compare_commands.specs.Compares.{ComparesComeTo, HaveNoneToCompare, HaveTable, TableComesTo}
 use Rattle.compare_commands.proofs.Telling.{formed_rows}

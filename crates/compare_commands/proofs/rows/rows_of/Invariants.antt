@@ -2,7 +2,7 @@ use Rattle.std.proofs.Common.{◌≡◌, true, map, take}
 use Rattle.std.specs.Prelude.{All}
 use Rattle.ob_types.specs.WellFormed.{well_formed}
 use Rattle.ob_types.specs.declared.program.Program.{Program}
-use Rattle.planned_image.specs.Plans.{AreProgramFlows}
+use Rattle.program_figures.specs.planned_image.Plans.{AreProgramFlows}
 use Rattle.compare_commands.specs.Rows.{IsRow}
 use Rattle.compare_commands.proofs.rows.rows_of.Given as goal
 

@@ -1,5 +1,5 @@
-use Rattle.program_image.specs.Faults.{Tells}
-use Rattle.source_image.specs.Refusals.{IsRefusal}
+use Rattle.trc_texts.specs.words.program_image.Faults.{Tells}
+use Rattle.trc_texts.specs.words.source_image.Refusals.{IsRefusal}
 use Rattle.trc_answers.proofs.Answering.{mapped}
 use Rattle.trc_texts.proofs.Named.{names_text}
 use Rattle.trc_texts.proofs.Refusing.{refused}

@@ -2,12 +2,12 @@ use Rattle.std.proofs.Common.{◌≡◌, true, false, List, length, sym, ap, ◌
 use Rattle.ssa_core.specs.declared.procedure.Proc.{Proc}
 use Rattle.std.specs.Prelude.{All}
 use Rattle.ssa_tables.proofs.Measuring.{measured}
-use Rattle.back_end.specs.Images.{IsReady}
-use Rattle.program_image.specs.Faults.{Tells}
-use Rattle.program_image.proofs.Ready.{are_short, ready}
-use Rattle.program_image.proofs.Fitting.{data_fits_as, all_named}
-use Rattle.program_image.proofs.Running.{in_program, program_image_is, does_as_meant}
-use Rattle.program_image.proofs.Telling.{lowering_tells, imaging_tells, few_traces}
+use Rattle.trc_texts.specs.words.back_end.Images.{IsReady}
+use Rattle.trc_texts.specs.words.program_image.Faults.{Tells}
+use Rattle.trc_texts.proofs.words.program_image.Ready.{are_short, ready}
+use Rattle.trc_texts.proofs.words.program_image.Fitting.{data_fits_as, all_named}
+use Rattle.trc_texts.proofs.words.program_image.Running.{in_program, program_image_is, does_as_meant}
+use Rattle.trc_texts.proofs.words.program_image.Telling.{lowering_tells, imaging_tells, few_traces}
 use Rattle.meaning_commands.proofs.imaging.image_of_program.Goals as goal
 
 pub lower_with_tables-requires : goal.lower_with_tables-requires

@@ -1,6 +1,6 @@
 use Rattle.trc_answers.proofs.Answering.{mapped}
 use Rattle.trc_texts.proofs.Refusing.{refused}
-use Rattle.source_image.specs.Refusals.{IsRefusalOfTraces}
+use Rattle.trc_texts.specs.words.source_image.Refusals.{IsRefusalOfTraces}
 use Rattle.meaning_commands.specs.Meanings.{MeaningComesTo, MeanComeTo, HaveNoMeaning, HaveMeaning}
 use Rattle.meaning_commands.specs.Programs.{usual_choice}
 use Rattle.meaning_commands.proofs.meaning.mean_texts.Goals as goal

@@ -1,9 +1,9 @@
 use Rattle.std.proofs.Common.{◌≤◌, subst}
-use Rattle.alloc_choice.specs.declared.choice.Choice.{Choice}
-use Rattle.compiled_runs.specs.Compiled.{flows_of}
+use Rattle.trc_texts.specs.words.alloc_choice.declared.choice.Choice.{Choice}
+use Rattle.trc_texts.specs.words.compiled_runs.Compiled.{flows_of}
 use Rattle.trace_build.specs.Traces.{traces_in}
-use Rattle.program_image.specs.Faults.{TellsOfTraces}
-use Rattle.program_image.specs.Limits.{most_traces}
+use Rattle.trc_texts.specs.words.program_image.Faults.{TellsOfTraces}
+use Rattle.trc_texts.specs.words.program_image.Limits.{most_traces}
 use Rattle.trc_texts.proofs.Named.{names_text}
 use Rattle.meaning_commands.specs.Programs.{usual_choice}
 use Rattle.meaning_commands.proofs.Refusing.{program_refused, refused_so}

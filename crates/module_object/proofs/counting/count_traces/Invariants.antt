@@ -1,5 +1,5 @@
 use Rattle.std.proofs.Common.{◌≤◌}
-use Rattle.placed_image.proofs.Cuts.{IsLeft}
+use Rattle.planned_image.proofs.placed_image.Cuts.{IsLeft}
 use Rattle.module_object.proofs.counting.count_traces.Given as goal
 
 abbrev pub invariant-loop-flow : goal.invariant-loop-flow

@@ -1,5 +1,5 @@
 use Rattle.std.proofs.Common.{◌≡◌, map}
-use Rattle.audited_allocations.specs.Joined.{joined}
+use Rattle.planned_image.specs.audited_allocations.Joined.{joined}
 use Rattle.module_object.proofs.results.join_results.Given as goal
 
 abbrev pub invariant-loop-own : goal.invariant-loop-own

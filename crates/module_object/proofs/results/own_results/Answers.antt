@@ -3,8 +3,8 @@ use Rattle.std.specs.Prelude.{All}
 use Rattle.lir_core.specs.declared.flow.Flow.{Flow}
 use Rattle.lir_core.specs.Flows.{IsValidFlow}
 use Rattle.trace_build.specs.Traces.{traces_in}
-use Rattle.compiled_runs.specs.Compiled.{flows_of}
-use Rattle.program_image.specs.Faults.{TellsOfTraces}
+use Rattle.planned_image.specs.words.compiled_runs.Compiled.{flows_of}
+use Rattle.planned_image.specs.words.program_image.Faults.{TellsOfTraces}
 use Rattle.planned_image.proofs.Placed.{valid_flows}
 use Rattle.planned_image.proofs.Plans.{plan_told, traces_told}
 use Rattle.module_object.specs.Objects.{AreResultsBehind, before_module}

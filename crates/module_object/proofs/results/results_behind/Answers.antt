@@ -1,6 +1,6 @@
 use Rattle.std.proofs.Common.{◌≡◌, ◌<◌}
 use Rattle.trace_build.specs.Traces.{traces_in}
-use Rattle.trace_work.specs.declared.fault.WorkFault.TheVariants.{Traces}
+use Rattle.planned_image.specs.trace_work.declared.fault.WorkFault.TheVariants.{Traces}
 use Rattle.module_object.proofs.Behind.{few_of_both, many_before, many_of_both, on_err}
 use Rattle.module_object.proofs.results.results_behind.Goals as goal
 

@@ -1,4 +1,4 @@
-use Rattle.planned_image.specs.Plans.{TellsOfPlan}
+use Rattle.note_laws.specs.planned_image.Plans.{TellsOfPlan}
 use Rattle.trc_texts.proofs.Named.{names_text}
 use Rattle.note_commands.specs.Audits.{audit_of}
 use Rattle.note_commands.proofs.Whole.{has_plan, no_plan}

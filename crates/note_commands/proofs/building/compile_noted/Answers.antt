@@ -1,4 +1,4 @@
-use Rattle.noted_image.specs.Faults.{TellsWithNotes}
+use Rattle.note_laws.specs.noted_image.Faults.{TellsWithNotes}
 use Rattle.trc_texts.proofs.Named.{names_text}
 use Rattle.note_commands.proofs.building.compile_noted.Goals as goal
 

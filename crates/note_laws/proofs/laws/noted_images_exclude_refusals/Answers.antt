@@ -1,6 +1,6 @@
 use Rattle.std.proofs.Common.{◌≡◌, ◌≤◌, length, ap, sym, arith}
 use Rattle.noted_image.specs.Faults.{TellsWithNotes}
-use Rattle.text_laws.proofs.one_refusal.Refused.{excluded}
+use Rattle.noted_image.proofs.words.text_laws.one_refusal.Refused.{excluded}
 use Rattle.note_laws.proofs.Refused.{noted_apart, backwards, few_bytes}
 use Rattle.note_laws.proofs.laws.noted_images_exclude_refusals.Goals as goal
 

@@ -1,13 +1,13 @@
 use Rattle.std.proofs.Common.{◌≡◌, ◌≤◌, List, map, refl, sym, subst}
 use Rattle.alloc_audit.specs.declared.verdict.Verdict.TheVariants.{Sound}
 use Rattle.lir_core.specs.declared.places.TraceOut.{TraceOut}
-use Rattle.audited_allocations.specs.Joined.{joined}
-use Rattle.back_end.specs.Images.{AreCutsOf, code_length}
-use Rattle.placed_image.specs.Shares.{cuts_of}
+use Rattle.noted_image.specs.audited_allocations.Joined.{joined}
+use Rattle.noted_image.specs.words.back_end.Images.{AreCutsOf, code_length}
+use Rattle.noted_image.specs.placed_image.Shares.{cuts_of}
 use Rattle.linked_flows.specs.Allocations.{Cut}
 use Rattle.ssa_core.specs.declared.procedure.Proc.{Proc}
-use Rattle.planned_image.specs.Audits.{IsImageOfResults, verdict_on}
-use Rattle.planned_image.proofs.Own.{own_pass, own_image}
+use Rattle.noted_image.specs.planned_image.Audits.{IsImageOfResults, verdict_on}
+use Rattle.noted_image.proofs.planned_image.Own.{own_pass, own_image}
 use Rattle.note_laws.proofs.Own.{one_reading}
 use Rattle.note_laws.proofs.Plans.{own_code}
 use Rattle.note_laws.proofs.laws.notes_of_texts_pass.Goals as goal

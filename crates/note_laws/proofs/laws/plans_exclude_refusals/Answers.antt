@@ -1,7 +1,7 @@
 use Rattle.std.proofs.Common.{refl, subst}
-use Rattle.program_image.specs.Faults.{TellsOfTraces}
-use Rattle.text_laws.proofs.one_refusal.Passed.{early_apart}
-use Rattle.text_laws.proofs.one_refusal.Refused.{excluded}
+use Rattle.noted_image.specs.words.program_image.Faults.{TellsOfTraces}
+use Rattle.noted_image.proofs.words.text_laws.one_refusal.Passed.{early_apart}
+use Rattle.noted_image.proofs.words.text_laws.one_refusal.Refused.{excluded}
 use Rattle.note_laws.proofs.Own.{plainly, as_traces}
 use Rattle.note_laws.proofs.laws.plans_exclude_refusals.Goals as goal
 

@@ -1,6 +1,6 @@
 use Rattle.std.proofs.Common.{◌≡◌, List, map, sym, ap, ◌∙◌}
 use Rattle.linked_flows.specs.Allocations.{Cut}
-use Rattle.audited_allocations.specs.Joined.{joined}
+use Rattle.noted_image.specs.audited_allocations.Joined.{joined}
 use Rattle.trace_notes.specs.Notes.{notes}
 use Rattle.note_laws.proofs.laws.texts_have_one_noted_image.Goals as goal
 

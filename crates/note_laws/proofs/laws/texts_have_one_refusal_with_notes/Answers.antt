@@ -1,7 +1,7 @@
 use Rattle.std.proofs.Common.{◌≡◌, ap, sym}
 use Rattle.ssa_lowered.specs.Limits.{Limit}
 use Rattle.noted_image.specs.Faults.{TellsWithNotes}
-use Rattle.text_laws.proofs.one_refusal.Refused.{refused_once}
+use Rattle.noted_image.proofs.words.text_laws.one_refusal.Refused.{refused_once}
 use Rattle.note_laws.proofs.Refused.{noted_once, backwards}
 use Rattle.note_laws.proofs.laws.texts_have_one_refusal_with_notes.Goals as goal
 

@@ -1,5 +1,5 @@
 use Rattle.std.proofs.Common.{◌≡◌, length, map, rules, ap, arith}
-use Rattle.audited_allocations.specs.Joined.{joined}
+use Rattle.planned_image.specs.audited_allocations.Joined.{joined}
 use Rattle.trace_notes.specs.Notes.{notes}
 use Rattle.trace_notes.proofs.Notes.{short_fits}
 use Rattle.noted_image.proofs.notes.kept_notes.Goals as goal

@@ -3,13 +3,13 @@ use Rattle.std.specs.Prelude.{All}
 use Rattle.lir_core.specs.declared.flow.Flow.{Flow}
 use Rattle.lir_core.specs.Flows.{IsValidFlow}
 use Rattle.trace_build.specs.Traces.{traces_in}
-use Rattle.flow_allocation.specs.Allocations.{AreAllocated, items_of}
+use Rattle.planned_image.specs.words.flow_allocation.Allocations.{AreAllocated, items_of}
 use Rattle.plain_form.specs.results.Bounds.{IsNotable}
-use Rattle.audited_allocations.specs.Joined.{joined}
+use Rattle.planned_image.specs.audited_allocations.Joined.{joined}
 use Rattle.trace_notes.specs.Notes.{most_bytes, notes}
-use Rattle.link_plan.specs.Linked.{AreCuts}
-use Rattle.procedure_code.proofs.Rows.{errs_with}
-use Rattle.program_image.proofs.Fitting.{data_fits_as}
+use Rattle.planned_image.specs.words.link_plan.Linked.{AreCuts}
+use Rattle.planned_image.proofs.procedure_code.Rows.{errs_with}
+use Rattle.planned_image.proofs.words.program_image.Fitting.{data_fits_as}
 use Rattle.planned_image.proofs.Placed.{valid_flows}
 use Rattle.noted_image.specs.Faults.{TellsWithNotes}
 use Rattle.noted_image.specs.Notes.{AreKept}

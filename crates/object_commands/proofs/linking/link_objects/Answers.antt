@@ -2,7 +2,7 @@ use Rattle.std.proofs.Common.{◌≤◌, ◌∙◌, ℕ, List, length, sym, subs
 use Rattle.obj_link.specs.Joining.{texts_of}
 use Rattle.trc_answers.specs.Causes.{IsPlaced}
 use Rattle.trc_answers.proofs.Texts.{plain_placed}
-use Rattle.trc_texts.specs.Texts.{IsTextIn}
+use Rattle.note_commands.specs.trc_texts.Texts.{IsTextIn}
 use Rattle.object_commands.proofs.Whole.{are_joined, few_joined, not_joined, regs_enough, regs_few}
 use Rattle.object_commands.proofs.linking.link_objects.Goals as goal
 

@@ -1,5 +1,5 @@
-use Rattle.planned_image.specs.Plans.{TellsOfPlan}
-use Rattle.trc_texts.proofs.Named.{names_text}
+use Rattle.note_commands.specs.planned_image.Plans.{TellsOfPlan}
+use Rattle.note_commands.proofs.trc_texts.Named.{names_text}
 use Rattle.object_commands.proofs.Whole.{has_plan, no_plan}
 use Rattle.object_commands.proofs.linking.link_texts.Goals as goal
 

@@ -1,5 +1,5 @@
-use Rattle.program_image.specs.Faults.{TellsOfTraces}
-use Rattle.trc_texts.proofs.Named.{names_text}
+use Rattle.note_commands.specs.words.program_image.Faults.{TellsOfTraces}
+use Rattle.note_commands.proofs.trc_texts.Named.{names_text}
 use Rattle.object_commands.proofs.making.made_object.Goals as goal
 
 pub refused-requires-clause-named : goal.refused-requires-clause-named

@@ -2,7 +2,7 @@ use Rattle.std.proofs.Common.{◌≤◌, ℕ, List, length, map, sym, subst}
 use Rattle.trc_answers.specs.Reading.{AreTextsOf}
 use Rattle.trc_answers.proofs.Texts.{few_texts, reads_texts, unread}
 use Rattle.object_commands.specs.Objects.{ObjectComesTo}
-use Rattle.trc_texts.proofs.Refusing.{placed_held}
+use Rattle.note_commands.proofs.trc_texts.Refusing.{placed_held}
 use Rattle.object_commands.proofs.making.object.Goals as goal
 
 pub store_of_texts-requires-clause-few : goal.store_of_texts-requires-clause-few

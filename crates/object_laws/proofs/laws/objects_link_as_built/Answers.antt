@@ -1,9 +1,9 @@
 use Rattle.std.proofs.Common.{◌≡◌, ◌≤◌, List, map, sym, subst}
 use Rattle.alloc_audit.specs.declared.verdict.Verdict.TheVariants.{Sound}
 use Rattle.lir_core.specs.declared.places.TraceOut.{TraceOut}
-use Rattle.back_end.specs.Images.{code_length}
-use Rattle.placed_image.specs.Shares.{cuts_of}
-use Rattle.planned_image.specs.Audits.{IsImageOfResults, verdict_on}
+use Rattle.module_object.specs.words.back_end.Images.{code_length}
+use Rattle.module_object.specs.placed_image.Shares.{cuts_of}
+use Rattle.module_object.specs.planned_image.Audits.{IsImageOfResults, verdict_on}
 use Rattle.object_laws.proofs.Linked.{they_pass, their_image, their_code}
 use Rattle.object_laws.proofs.laws.objects_link_as_built.Goals as goal
 

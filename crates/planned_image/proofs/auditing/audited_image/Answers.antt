@@ -8,7 +8,7 @@ use Rattle.alloc_audit.specs.declared.verdict.Verdict.TheVariants.{Sound}
 use Rattle.alloc_audit.specs.Verdicts.{verdict_of}
 use Rattle.alloc_audit.specs.Results.{AreLive, AreWalked}
 use Rattle.procedure_code.proofs.Rows.{errs_with}
-use Rattle.back_end.specs.Images.{code_length}
+use Rattle.image_words.specs.back_end.Images.{code_length}
 use Rattle.placed_image.specs.Placing.{CanBePlaced, IsPlacedImage}
 use Rattle.placed_image.specs.Shares.{cuts_of}
 use Rattle.placed_image.proofs.Results.{each_cut}

@@ -5,10 +5,10 @@ use Rattle.ssa_lowered.specs.Lowered.{lowered}
 use Rattle.ssa_tables.proofs.Measuring.{measured}
 use Rattle.lir_core.specs.declared.flow.Flow.{Flow}
 use Rattle.a64_select.specs.Selected.{selected}
-use Rattle.back_end.specs.Images.{IsReady}
-use Rattle.back_end.specs.Numbers.{node_numbers}
+use Rattle.image_words.specs.back_end.Images.{IsReady}
+use Rattle.image_words.specs.back_end.Numbers.{node_numbers}
 use Rattle.placed_image.specs.Placing.{IsPlaceable}
-use Rattle.program_image.proofs.Ready.{are_short, ready}
+use Rattle.image_words.proofs.program_image.Ready.{are_short, ready}
 use Rattle.planned_image.specs.Plans.{TellsOfLowering}
 use Rattle.planned_image.proofs.Plans.{all_placeable, lowering_told}
 use Rattle.planned_image.proofs.planning.program_flows.Goals as goal

@@ -4,7 +4,7 @@ use Rattle.lir_core.specs.declared.flow.Flow.{Flow}
 use Rattle.lir_core.specs.Flows.{IsValidFlow}
 use Rattle.trace_build.specs.Traces.{traces_in}
 use Rattle.procedure_code.proofs.Rows.{errs_with}
-use Rattle.compiled_runs.specs.Compiled.{flows_of}
+use Rattle.image_words.specs.compiled_runs.Compiled.{flows_of}
 use Rattle.placed_image.specs.Cutting.{AreCutBy}
 use Rattle.planned_image.specs.Plans.{TellsOfPlan}
 use Rattle.planned_image.proofs.Placed.{valid_flows}

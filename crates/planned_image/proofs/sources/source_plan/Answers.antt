@@ -1,5 +1,5 @@
 use Rattle.std.proofs.Common.{sym, subst}
-use Rattle.source_image.specs.Refusals.{IsRefusalOf}
+use Rattle.image_words.specs.source_image.Refusals.{IsRefusalOf}
 use Rattle.planned_image.specs.Plans.{TellsOfPlan}
 use Rattle.planned_image.proofs.Refused.{program_refused}
 use Rattle.planned_image.proofs.sources.source_plan.Goals as goal

@@ -5,11 +5,11 @@ use Rattle.lir_core.specs.declared.flow.Flow.{Flow}
 use Rattle.lir_core.specs.Flows.{IsValidFlow}
 use Rattle.trace_build.specs.Traces.{traces_in}
 use Rattle.placed_code.specs.declared.data.ImageData.{ImageData}
-use Rattle.flow_allocation.specs.Allocations.{AreAllocated, items_of}
-use Rattle.link_plan.specs.Linked.{AreCuts, IsUnnamedAndFar, Runs, frame_of_cuts, linked}
-use Rattle.program_image.specs.Faults.{Tells}
-use Rattle.program_image.proofs.Fitting.{data_fits_as}
-use Rattle.planned_image.proofs.Placed.{valid_flows}
+use Rattle.noted_image.specs.words.flow_allocation.Allocations.{AreAllocated, items_of}
+use Rattle.noted_image.specs.words.link_plan.Linked.{AreCuts, IsUnnamedAndFar, Runs, frame_of_cuts, linked}
+use Rattle.noted_image.specs.words.program_image.Faults.{Tells}
+use Rattle.noted_image.proofs.words.program_image.Fitting.{data_fits_as}
+use Rattle.noted_image.proofs.planned_image.Placed.{valid_flows}
 use Rattle.noted_image.proofs.Linked.{are_cuts, are_small, are_of_program, each_named, never_far, few_traces}
 use Rattle.program_figures.specs.Lines.{over_all, moves_in, stores_in, loads_in}
 use Rattle.program_figures.proofs.Figured.{figured, traces_told, words_told}

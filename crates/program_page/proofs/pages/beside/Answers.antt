@@ -1,5 +1,5 @@
 use Rattle.std.proofs.Common.{sym, subst}
-use Rattle.alloc_choice.specs.Choice.{IsFitChoice}
+use Rattle.shown_program.specs.words.alloc_choice.Choice.{IsFitChoice}
 use Rattle.program_page.proofs.Told.{fit}
 use Rattle.program_page.proofs.pages.beside.Goals as goal
 

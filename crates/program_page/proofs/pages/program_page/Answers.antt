@@ -1,5 +1,5 @@
 use Rattle.std.proofs.Common.{map, sym, subst}
-use Rattle.procedure_code.proofs.Rows.{errs_with}
+use Rattle.shown_program.proofs.procedure_code.Rows.{errs_with}
 use Rattle.program_page.specs.Faults.{TellsOfPage}
 use Rattle.program_page.specs.Pages.{wish_of}
 use Rattle.program_page.proofs.Told.{made_page, no_page, other_told, own_told}

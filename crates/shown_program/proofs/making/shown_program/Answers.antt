@@ -5,17 +5,17 @@ use Rattle.lir_core.specs.declared.flow.Flow.{Flow}
 use Rattle.lir_core.specs.declared.flow.Trace.{Trace}
 use Rattle.lir_core.specs.Flows.{IsValidFlow}
 use Rattle.trace_build.specs.Traces.{traces_in}
-use Rattle.flow_allocation.specs.Allocations.{AreAllocated, items_of}
+use Rattle.noted_image.specs.words.flow_allocation.Allocations.{AreAllocated, items_of}
 use Rattle.kept_plans.specs.Above.{AreAllParents}
-use Rattle.link_plan.specs.Linked.{AreCuts}
-use Rattle.link_plan.proofs.Cuts.{same_lengths}
-use Rattle.procedure_code.proofs.Rows.{errs_with}
-use Rattle.placed_image.specs.Cutting.{AreCutBy}
-use Rattle.placed_image.proofs.Results.{each_cut}
-use Rattle.program_image.proofs.Fitting.{data_fits_as}
-use Rattle.program_image.specs.Faults.{Tells}
-use Rattle.planned_image.proofs.Own.{cut_same}
-use Rattle.planned_image.proofs.Placed.{valid_flows}
+use Rattle.noted_image.specs.words.link_plan.Linked.{AreCuts}
+use Rattle.noted_image.proofs.words.link_plan.Cuts.{same_lengths}
+use Rattle.noted_image.proofs.procedure_code.Rows.{errs_with}
+use Rattle.noted_image.specs.placed_image.Cutting.{AreCutBy}
+use Rattle.noted_image.proofs.placed_image.Results.{each_cut}
+use Rattle.noted_image.proofs.words.program_image.Fitting.{data_fits_as}
+use Rattle.noted_image.specs.words.program_image.Faults.{Tells}
+use Rattle.noted_image.proofs.planned_image.Own.{cut_same}
+use Rattle.noted_image.proofs.planned_image.Placed.{valid_flows}
 use Rattle.noted_image.proofs.Linked.{are_cuts, are_small, are_of_program, each_named, never_far, few_traces, image_is}
 use Rattle.shown_program.proofs.Told.{lowering_told, traces_told, words_told}
 use Rattle.shown_program.proofs.making.shown_program.Goals as goal

@@ -3,7 +3,7 @@ use Rattle.trc_answers.specs.Verdict.{Written}
 use Rattle.trc_answers.specs.Reading.{AreTextsOf}
 use Rattle.trc_answers.proofs.Texts.{few_texts, reads_texts, unread}
 use Rattle.trc_cli.specs.Commands.{TextsComeTo}
-use Rattle.trc_texts.proofs.Refusing.{placed_held}
+use Rattle.object_commands.proofs.trc_texts.Refusing.{placed_held}
 use Rattle.trc_cli.proofs.building.build.Goals as goal
 
 pub build_texts-requires-clause-few : goal.build_texts-requires-clause-few

@@ -2,7 +2,7 @@ use Rattle.std.proofs.Common.{map, sym, subst}
 use Rattle.std.proofs.lemmas.List.{length-map}
 use Rattle.trc_answers.specs.Answers.{Answers, devices}
 use Rattle.trc_answers.specs.Reading.{FilesComeTo}
-use Rattle.note_commands.specs.Noted.{NotedAnewComeTo}
+use Rattle.object_commands.specs.note_commands.Noted.{NotedAnewComeTo}
 use Rattle.trc_cli.proofs.building.build_noted.Goals as goal
 
 pub returns-in-Some-clause-answers : goal.returns-in-Some-clause-answers

@@ -1,7 +1,7 @@
 use Rattle.std.proofs.Common.{[], ◌∷◌, ◌∙◌, subst}
 use Rattle.bulk_text.specs.Bulk.{bulk_text}
-use Rattle.source_image.specs.Images.{IsImageOfTexts}
-use Rattle.source_image.specs.Refusals.{IsRefusal}
+use Rattle.object_commands.specs.words.source_image.Images.{IsImageOfTexts}
+use Rattle.object_commands.specs.words.source_image.Refusals.{IsRefusal}
 use Rattle.trc_cli.specs.Commands.{IsRefusedAs, SummaryComesTo}
 use Rattle.trc_cli.proofs.Endings.{has_image, no_image}
 use Rattle.trc_cli.proofs.bulk.bulk.Goals as goal

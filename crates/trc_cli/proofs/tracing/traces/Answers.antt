@@ -2,7 +2,7 @@ use Rattle.std.proofs.Common.{◌≤◌, ℕ, List, length, map, sym, subst}
 use Rattle.trc_answers.specs.Reading.{AreTextsOf}
 use Rattle.trc_answers.proofs.Texts.{few_texts, reads_texts, unread}
 use Rattle.trc_cli.specs.Commands.{TracesComeTo}
-use Rattle.trc_texts.proofs.Refusing.{placed_held}
+use Rattle.object_commands.proofs.trc_texts.Refusing.{placed_held}
 use Rattle.trc_cli.proofs.tracing.traces.Goals as goal
 
 pub trace_texts-requires : goal.trace_texts-requires

@@ -1,4 +1,4 @@
-use Rattle.program_image.specs.Faults.{Tells}
+use Rattle.image_words.specs.program_image.Faults.{Tells}
 use Rattle.trc_texts.proofs.Named.{names_text}
 use Rattle.trc_texts.proofs.compiling.compile.Goals as goal
 

@@ -1,4 +1,4 @@
-use Rattle.program_image.specs.Faults.{TellsOfTraces}
+use Rattle.image_words.specs.program_image.Faults.{TellsOfTraces}
 use Rattle.trc_texts.proofs.Named.{names_text}
 use Rattle.trc_texts.proofs.compiling.trace_lines.Goals as goal
 

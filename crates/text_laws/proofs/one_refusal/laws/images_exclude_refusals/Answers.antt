@@ -1,4 +1,4 @@
-use Rattle.program_image.specs.Faults.{Tells}
+use Rattle.source_image.specs.program_image.Faults.{Tells}
 use Rattle.text_laws.proofs.one_refusal.Passed.{first_apart}
 use Rattle.text_laws.proofs.one_refusal.Refused.{excluded}
 use Rattle.text_laws.proofs.one_refusal.laws.images_exclude_refusals.Goals as goal

@@ -1,6 +1,6 @@
 use Rattle.std.proofs.Common.{◌≡◌, ap}
 use Rattle.ssa_lowered.specs.Limits.{Limit}
-use Rattle.program_image.specs.Faults.{Tells}
+use Rattle.source_image.specs.program_image.Faults.{Tells}
 use Rattle.text_laws.proofs.one_refusal.Passed.{first_once}
 use Rattle.text_laws.proofs.one_refusal.Refused.{refused_once}
 use Rattle.text_laws.proofs.one_refusal.laws.texts_have_one_refusal.Goals as goal

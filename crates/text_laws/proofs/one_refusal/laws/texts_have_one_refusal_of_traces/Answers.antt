@@ -1,6 +1,6 @@
 use Rattle.std.proofs.Common.{◌≡◌, ap}
 use Rattle.ssa_lowered.specs.Limits.{Limit}
-use Rattle.program_image.specs.Faults.{TellsOfTraces}
+use Rattle.source_image.specs.program_image.Faults.{TellsOfTraces}
 use Rattle.text_laws.proofs.one_refusal.Passed.{early_once}
 use Rattle.text_laws.proofs.one_refusal.Refused.{refused_once}
 use Rattle.text_laws.proofs.one_refusal.laws.texts_have_one_refusal_of_traces.Goals as goal

@@ -2,8 +2,8 @@ use Rattle.std.proofs.Common.{List, map, sym, ap, subst}
 use Rattle.lir_core.specs.declared.flow.Flow.{Flow}
 use Rattle.ssa_core.specs.declared.procedure.Proc.{Proc}
 use Rattle.a64_select.specs.Selected.{selected}
-use Rattle.compiled_runs.specs.Compiled.{flows_of}
-use Rattle.trace_report.specs.Reports.{IsReport}
+use Rattle.source_image.specs.compiled_runs.Compiled.{flows_of}
+use Rattle.source_image.specs.trace_report.Reports.{IsReport}
 use Rattle.text_laws.proofs.one_refusal.Reports.{report_once}
 use Rattle.text_laws.proofs.one_refusal.laws.texts_have_one_report.Goals as goal
 

@@ -1,4 +1,4 @@
-use Rattle.program_image.specs.Faults.{TellsOfTraces}
+use Rattle.source_image.specs.program_image.Faults.{TellsOfTraces}
 use Rattle.text_laws.proofs.one_refusal.Passed.{early_apart}
 use Rattle.text_laws.proofs.one_refusal.Refused.{excluded}
 use Rattle.text_laws.proofs.one_refusal.laws.traces_exclude_refusals.Goals as goal
