@@ -1,6 +1,6 @@
 //! A batch.
 
-ghost use Rattle.std.specs.Prelude.{◌≡◌, ◌≤◌, ◌+◌, ℕ, List, Option, length, map};
+ghost use Rattle.std.specs.Prelude.{◌≤◌, ◌+◌, ℕ, List, Option, length, map};
 ghost use Rattle.trc_texts.specs.words.alloc_choice.Choice.{IsFitChoice};
 ghost use Rattle.outside.specs.Files.{Held};
 ghost use Rattle.trc_answers.specs.Answers.{Answers, devices};

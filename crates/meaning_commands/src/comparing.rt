@@ -1,6 +1,6 @@
 //! What a program means is compared with the run of its image.
 
-ghost use Rattle.std.specs.Prelude.{◌≡◌, ◌≤◌, ◌++◌, [], ℕ, List, Option, true, length, map, IfOk, OnOk};
+ghost use Rattle.std.specs.Prelude.{◌≡◌, ◌≤◌, ◌++◌, [], ℕ, Option, true, length, map, IfOk, OnOk};
 ghost use Rattle.outside.specs.Counts.{raised};
 ghost use Rattle.outside.specs.Files.{Held};
 ghost use Rattle.trc_texts.specs.words.alloc_choice.Choice.{IsFitChoice};

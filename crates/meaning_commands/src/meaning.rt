@@ -1,6 +1,6 @@
 //! What the texts of modules mean is done.
 
-ghost use Rattle.std.specs.Prelude.{◌≡◌, ◌≤◌, ℕ, List, Option, true, length, map};
+ghost use Rattle.std.specs.Prelude.{◌≡◌, ◌≤◌, ℕ, Option, true, length, map};
 ghost use Rattle.outside.specs.Files.{Held};
 ghost use Rattle.run_laws.specs.Runs.{output};
 ghost use Rattle.ob_types.specs.Meaning.{meaning};

@@ -1,6 +1,6 @@
 //! Modules are compiled, and their image and notes are written to two files.
 
-ghost use Rattle.std.specs.Prelude.{◌≡◌, ◌≤◌, ℕ, List, Option, length, map, IfOk, IfErr};
+ghost use Rattle.std.specs.Prelude.{◌≤◌, ℕ, List, Option, length, map, IfOk, IfErr};
 ghost use Rattle.note_laws.specs.words.alloc_choice.Choice.{IsFitChoice};
 ghost use Rattle.outside.specs.Sink.{Account};
 ghost use Rattle.note_laws.specs.words.source_image.Refusals.{IsRefusalOf};

@@ -1,6 +1,6 @@
 //! The files of notes and of the modules behind them are read.
 
-ghost use Rattle.std.specs.Prelude.{◌≡◌, ◌≤◌, map, IfOk, IfErr};
+ghost use Rattle.std.specs.Prelude.{◌≡◌, ◌≤◌, IfOk, IfErr};
 ghost use Rattle.trc_answers.specs.Causes.{IsPlain};
 ghost use Rattle.note_commands.specs.Audits.{one_behind};
 ghost use Rattle.note_commands.specs.Reading.{AreNotesRead, AreNotesUnread, IsBelow};

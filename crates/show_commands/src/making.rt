@@ -1,6 +1,6 @@
 //! Modules are read, and their page is written to a file.
 
-ghost use Rattle.std.specs.Prelude.{◌≡◌, ◌≤◌, ℕ, List, Option, length, map, IfOk, IfErr};
+ghost use Rattle.std.specs.Prelude.{◌≤◌, ℕ, List, Option, length, map, IfOk, IfErr};
 ghost use Rattle.outside.specs.Sink.{Account};
 ghost use Rattle.program_page.specs.words.alloc_choice.Choice.{IsFitChoice};
 ghost use Rattle.program_page.specs.words.source_image.Refusals.{IsRefusalOf};

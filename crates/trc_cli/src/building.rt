@@ -1,6 +1,6 @@
 //! Modules are compiled, and their image, or its native program, is written to a file.
 
-ghost use Rattle.std.specs.Prelude.{◌≡◌, ◌≤◌, ℕ, List, Option, Some, None, length, map};
+ghost use Rattle.std.specs.Prelude.{◌≤◌, ℕ, List, Option, Some, None, length, map};
 ghost use Rattle.object_commands.specs.words.alloc_choice.Choice.{IsFitChoice};
 ghost use Rattle.outside.specs.Sink.{Account};
 ghost use Rattle.word_requests.specs.Asked.{Build};

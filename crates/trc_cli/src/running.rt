@@ -1,6 +1,6 @@
 //! Modules are compiled, and their image is run.
 
-ghost use Rattle.std.specs.Prelude.{◌≡◌, ◌≤◌, ℕ, Option, length, map};
+ghost use Rattle.std.specs.Prelude.{◌≤◌, ℕ, Option, length, map};
 ghost use Rattle.object_commands.specs.words.alloc_choice.Choice.{IsFitChoice};
 ghost use Rattle.outside.specs.Files.{Held};
 ghost use Rattle.trc_answers.specs.Answers.{Answers, devices};

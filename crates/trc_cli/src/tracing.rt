@@ -1,6 +1,6 @@
 //! Modules are compiled as far as their traces, which are told.
 
-ghost use Rattle.std.specs.Prelude.{◌≡◌, ◌≤◌, ℕ, List, Option, length, map};
+ghost use Rattle.std.specs.Prelude.{◌≤◌, ℕ, List, Option, length, map};
 ghost use Rattle.outside.specs.Files.{Held};
 ghost use Rattle.trc_answers.specs.Answers.{Answers, devices};
 ghost use Rattle.trc_answers.specs.Causes.{IsPlaced};

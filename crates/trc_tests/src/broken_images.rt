@@ -1,7 +1,5 @@
 //! What `exec` tells of changes of an image, in rows, for both versions. Expected values come from the form of images.
 
-ghost use Rattle.std.specs.Prelude.{◌≤◌, length};
-
 use crate::calls::{call, done, refused, wants};
 use std::alloc::{AllocError, AllocGlobal, Global};
 use std::process::Abort;

@@ -1,7 +1,7 @@
 //! What `exec` does with images made by hand, and images and native programs that `build` and `elf` write, in rows. Expected values
 //! come from the forms of both and from an independent compiler.
 
-ghost use Rattle.std.specs.Prelude.{◌<◌, ◌≤◌, length};
+ghost use Rattle.std.specs.Prelude.{◌≤◌, length};
 
 use crate::calls::{Wanted, answer, call, done, holds, refused, wants};
 use std::alloc::{AllocError, AllocGlobal, Global};
