@@ -8,3 +8,4 @@ pub use Rattle.program_image.specs.link_plan
 pub use Rattle.program_image.specs as program_image
 pub use Rattle.source_program.specs as source_program
 pub use Rattle.trace_report.specs as trace_report
+pub use Rattle.source_program.specs.check_making

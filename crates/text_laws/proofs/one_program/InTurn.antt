@@ -11,7 +11,7 @@ use Rattle.ob_types.specs.declared.program.Program.{Program}
 use Rattle.ob_judge.specs.Image as I
 use Rattle.ob_judge.specs.Texts.{texts_of as strings_of}
 use Rattle.judged_tree.specs.Plain.{plain_procedure}
-use Rattle.check_making.specs.scopes.InTurn.{AllUseInTurn}
+use Rattle.source_image.specs.check_making.scopes.InTurn.{AllUseInTurn}
 use Rattle.ssa_lowered.specs.Data.{layout}
 use Rattle.ssa_lowered.specs.Limits.{Limit, or_else, passes, limits_from, global_cells, constant_cells, limit_of}
 use Rattle.one_lowering.specs.Forms.{tally, numbered_procedure}
