@@ -1,15 +1,15 @@
 -- Pieces of procedures, one after the other.
-use Rattle.std.proofs.Common.{◌≡◌, ℕ, zero, suc, ◌+◌, ◌-◌, ◌<◌, ◌≤◌, ◌^◌, ◌&&◌, true, false, Bool, List, [], ◌∷◌, ◌++◌, map, take, drop, length, get_or, refl, sym, ap, ap₂, ◌∙◌, subst, arith, append_assoc}
+use Rattle.std.proofs.Common.{◌≡◌, ℕ, zero, suc, ◌+◌, ◌<◌, ◌≤◌, ◌^◌, ◌&&◌, true, false, Bool, List, [], ◌∷◌, ◌++◌, map, drop, length, refl, sym, ap, ap₂, ◌∙◌, subst, arith, append_assoc}
 use Rattle.std.specs.Prelude.{All}
 use Rattle.std.specs.List.{list_all}
-use Rattle.std.proofs.lemmas.List.{append-nil, map-append, take-append-drop, length-drop, take_more, drop_more}
+use Rattle.std.proofs.lemmas.List.{append-nil, map-append}
 use Rattle.std.proofs.lemmas.List.Folds.{list_all-append}
 use Rattle.ssa_core.specs.declared.procedure.Proc.{Proc}
 use Rattle.lir_core.specs.declared.flow.Flow.{Flow}
 use Rattle.lir_core.specs.declared.places.TraceOut.{TraceOut}
-use Rattle.lir_core.specs.Flows.{IsValidFlow}
 use Rattle.a64_select.specs.Selected.{selected}
 use Rattle.boundary_resolve.specs.declared.code_line.CodeLine.{CodeLine}
+use Rattle.boundary_resolve.specs.Placing.{placed_of}
 use Rattle.placed_code.specs.Placed.{Placed}
 use Rattle.placed_code.specs.Words.{slots_of}
 use Rattle.placed_code.specs.Layout.{all_words}
@@ -19,7 +19,7 @@ use Rattle.linked_flows.specs.Allocations.{Cut, steps_of, allocated}
 use Rattle.linked_flows.specs.Allocations.{all_allocated as allocated_cuts}
 use Rattle.trace_build.specs.Traces.{traces_in}
 use Rattle.link_blocks.specs.Fits.{numbers_fit, registers_fit, rows_fit}
-use Rattle.link_blocks.specs.Laid.{Fits}
+use Rattle.link_blocks.specs.Laid.{Fits, IsCutOf}
 use Rattle.procedure_pieces.specs.Pieces.{Piece, piece_of}
 use Rattle.procedure_code.specs.Views.{piece_in}
 use Rattle.procedure_code.specs.declared.pieces.Piece.{Piece as MadePiece}
@@ -36,11 +36,11 @@ use Rattle.flow_allocation.proofs.Numbered.{renumbered_allocation, allocated_ren
 use Rattle.back_end.specs.Images.{IsReady, AreCutsOf, code_length}
 use Rattle.back_end.specs.Made.{AreWords, IsMade}
 use Rattle.back_end.specs.Tasks.{IsOutcome, AreOutcomes}
-use Rattle.back_end.specs.Planning.{IsPlanned, AreMore}
-use Rattle.back_end.specs.declared.imaging.Planned.{Planned}
+use Rattle.back_end.specs.Planning.{IsPlanned, AreMore, ArePlanned}
+use Rattle.back_end.specs.declared.joining.Planned.{Planned}
 use Rattle.back_end.specs.declared.making.FlowWords.TheVariants as words
 use Rattle.back_end.specs.declared.making.MadeFlow.{MadeFlow}
-use Rattle.back_end.specs.declared.work.Outcome.{Outcome}
+use Rattle.back_end.specs.declared.outcome.Outcome.{Outcome}
 use Rattle.back_end.specs.Numbers.{node_numbers}
 use Rattle.back_end.proofs.Reading.{all_further}
 use Rattle.back_end.proofs.Ready.{HaveNumbers, all_allocated}
@@ -288,6 +288,26 @@ module _ (choice : Choice) (flow : Flow) (made : MadeFlow) (h : IsMade choice fl
       next_with (λ all e f. absurd (let z : false ≡ true = sym none ∙ f in cc)) (λ all e f small. unmarked old.fit new.fit same_fit e f)
       (λ all e f. let w = subst (AreWords h.cut) is (has_words all) in omega (arith, w, same_words))
 
+-- one flow in its traces, with what its words come to
+module _ (choice : Choice) (fit : IsFitChoice choice) (flow : Flow) (lines : List CodeLine) (outs : List TraceOut) (made : MadeFlow) (has : (k : ℕ) (c : Cut) → k ≤ 16 → IsAllocated k c → IsCutOf k flow lines outs c → AreWords c made.words) where
+  made_of : (cuts : List Cut) → flow ∷ [] ≡ map (λ c. c.flow) cuts → lines ∷ [] ≡ map (λ c. placed_of c.flow c.traces c.outs) cuts → outs ∷ [] ≡ map (λ c. c.outs) cuts → AllAllocations choice 0 cuts → made.traces ≡ trace_count cuts → IsMade choice flow made
+  made_of [] flows_are parts_are outs_are each count = absurd (cc)
+  made_of (c ∷ []) flows_are parts_are outs_are each count =
+      let f : flow ≡ c.flow = cc in
+      let l : lines ≡ placed_of c.flow c.traces c.outs = cc in
+      let o : outs ≡ c.outs = cc in
+      record {
+        cut = c;
+        flow_is = sym f;
+        allocation = each.0;
+        count = omega (arith, count);
+        words = λ all. has choice.regs c fit.few all (record { flow_is = f; outs_are = o; lines_are = l; sound = each.0.sound; paths = each.0.paths });
+      }
+  made_of (c ∷ (d ∷ cs)) flows_are parts_are outs_are each count = absurd (cc)
+
+  pub is_made : AreAllocated choice 0 (flow ∷ []) (lines ∷ []) (outs ∷ []) made.traces → IsMade choice flow made
+  is_made h = made_of h.cuts h.flows_are h.parts_are h.outs_are h.each h.count
+
 -- the traces of a flow that is made
 pub made_count : (choice : Choice) (flow : Flow) (made : MadeFlow) → IsMade choice flow made → made.traces ≡ traces_in choice.builder (flow ∷ [])
 made_count choice flow made h =
@@ -331,70 +351,66 @@ all_selected flows left all h none = sym (append-nil flows) ∙ ap (λ ps. flows
 ---- Flows one after the other
 
 -- the first flows are planned, and what the tasks of the others gave is left
-pub record IsUnderWay (choice : Choice) (flows : List Flow) (number : ℕ) (left : List Outcome) (planned : Planned) : Type 0 where
-  pub ahead : AreOutcomes choice (drop number flows) left
-  pub first : IsPlanned choice (take number flows) planned
+pub record IsUnderWay (choice : Choice) (flows : List Flow) (left : List Outcome) (planned : Planned) : Type 0 where
+  pub done : List Flow
+  pub rest : List Flow
+  pub split : done ++ rest ≡ flows
+  pub ahead : AreOutcomes choice rest left
+  pub first : IsPlanned choice done planned
 
-pub begun : (choice : Choice) (flows : List Flow) (left : List Outcome) (planned : Planned) → AreOutcomes choice flows left → planned.pieces.items ≡ [] → planned.traces ≡ 0 → planned.fit ≡ true → planned.room ≡ true → IsUnderWay choice flows 0 left planned
-begun choice flows left planned outcomes none zero-traces fit room = record { ahead = outcomes; first = nothing choice planned none zero-traces fit room }
+pub begun : (choice : Choice) (flows : List Flow) (left : List Outcome) (planned : Planned) → AreOutcomes choice flows left → planned.pieces.items ≡ [] → planned.traces ≡ 0 → planned.fit ≡ true → planned.room ≡ true → IsUnderWay choice flows left planned
+begun choice flows left planned outcomes none zero-traces fit room = record { done = []; rest = flows; split = refl; ahead = outcomes; first = nothing choice planned none zero-traces fit room }
 
-module _ (choice : Choice) (flows : List Flow) (number : ℕ) (left left' : List Outcome) (outcome : Outcome) (old : Planned) (h : IsUnderWay choice flows number left old) (is : left ≡ outcome ∷ left') where
-  pub within : number < length flows
-  within = by (drop number flows) (length-drop number flows) (subst (AreOutcomes choice (drop number flows)) is h.ahead)
+module _ (choice : Choice) (flows : List Flow) (left left' : List Outcome) (outcome : Outcome) (old : Planned) (h : IsUnderWay choice flows left old) (is : left ≡ outcome ∷ left') where
+  pub further : (new : Planned) → ((flow : Flow) → IsOutcome choice flow outcome → AreMore choice (flow ∷ []) old new) → IsUnderWay choice flows left' new
+  further new more = from h.done h.rest h.split (subst (AreOutcomes choice h.rest) is h.ahead) h.first
     where
-      by : (fs : List Flow) → length fs ≡ length flows - number → AreOutcomes choice fs (outcome ∷ left') → number < length flows
-      by [] e a = absurd a
-      by (f ∷ fs) e a = omega (arith, e)
+      from : (done rest : List Flow) → done ++ rest ≡ flows → AreOutcomes choice rest (outcome ∷ left') → IsPlanned choice done old → IsUnderWay choice flows left' new
+      from done [] split none first = absurd none
+      from done (flow ∷ rest) split ahead first = record {
+        done = done ++ flow ∷ [];
+        rest = rest;
+        split = append_assoc done (flow ∷ []) rest ∙ split;
+        ahead = ahead.1;
+        first = one_more choice done (flow ∷ []) old new first (more flow ahead.0);
+      }
 
-  module _ (flow : Flow) (item : flow ≡ get_or flows number flow) where
-    drops : drop number flows ≡ flow ∷ drop (number + 1) flows
-    drops = drop_more flows number flow within ∙ ap (λ f. f ∷ drop (number + 1) flows) (sym item)
+  pub over_limit : ((flow : Flow) → IsOutcome choice flow outcome → 262144 < old.traces + traces_in choice.builder (flow ∷ [])) → 262144 < traces_in choice.builder flows
+  over_limit lt = from h.done h.rest h.split (subst (AreOutcomes choice h.rest) is h.ahead) h.first
+    where
+      from : (done rest : List Flow) → done ++ rest ≡ flows → AreOutcomes choice rest (outcome ∷ left') → IsPlanned choice done old → 262144 < traces_in choice.builder flows
+      from done [] split none first = absurd none
+      from done (flow ∷ rest) split ahead first = subst (λ fs. 262144 < traces_in choice.builder fs) split (over choice done (flow ∷ []) rest old first (lt flow ahead.0))
 
-    parts : IsOutcome choice flow outcome × AreOutcomes choice (drop (number + 1) flows) left'
-    parts = subst (λ fs. AreOutcomes choice fs (outcome ∷ left')) drops (subst (AreOutcomes choice (drop number flows)) is h.ahead)
-
-    pub outcome_is : IsOutcome choice flow outcome
-    outcome_is = parts.0
-
-    pub flow_valid : All IsValidFlow flows → IsValidFlow flow
-    flow_valid all = subst IsValidFlow (sym item) (all number flow within)
-
-    pub further : (new : Planned) → AreMore choice (flow ∷ []) old new → IsUnderWay choice flows (number + 1) left' new
-    further new more = record {
-      ahead = parts.1;
-      first =
-          subst (λ fs. IsPlanned choice fs new) (sym (take_more flows number flow within ∙ ap (λ f. take number flows ++ f ∷ []) (sym item)))
-          (one_more choice (take number flows) (flow ∷ []) old new h.first more);
-    }
-
-    pub over_limit : 262144 < old.traces + traces_in choice.builder (flow ∷ []) → 262144 < traces_in choice.builder flows
-    over_limit lt =
-        subst (λ fs. 262144 < traces_in choice.builder fs) (ap (λ fs. take number flows ++ fs) (sym drops) ∙ take-append-drop number flows)
-        (over choice (take number flows) (flow ∷ []) (drop (number + 1) flows) old h.first lt)
-
-pub ended : (choice : Choice) (flows : List Flow) (number : ℕ) (left : List Outcome) (planned : Planned) → IsUnderWay choice flows number left planned → left ≡ [] → IsPlanned choice flows planned
-ended choice flows number left planned h none = by (drop number flows) (take-append-drop number flows) (subst (AreOutcomes choice (drop number flows)) none h.ahead)
+pub ended : (choice : Choice) (flows : List Flow) (left : List Outcome) (planned : Planned) → IsUnderWay choice flows left planned → left ≡ [] → IsPlanned choice flows planned
+ended choice flows left planned h none = from h.done h.rest h.split (subst (AreOutcomes choice h.rest) none h.ahead) h.first
   where
-    by : (fs : List Flow) → take number flows ++ fs ≡ flows → AreOutcomes choice fs [] → IsPlanned choice flows planned
-    by [] e a = subst (λ gs. IsPlanned choice gs planned) (sym (append-nil (take number flows)) ∙ e) h.first
-    by (f ∷ fs) e a = absurd a
+    from : (done rest : List Flow) → done ++ rest ≡ flows → AreOutcomes choice rest [] → IsPlanned choice done planned → IsPlanned choice flows planned
+    from done [] split ahead first = subst (λ fs. IsPlanned choice fs planned) (sym (append-nil done) ∙ split) first
+    from done (flow ∷ rest) split ahead first = absurd ahead
 
 ---- The flows of procedures
 
-module _ (choice : Choice) (fit : IsFitChoice choice) (procs : List Proc) (ready : All IsReady procs) (flows : List Flow) (same : flows ≡ map selected procs) (numbers : HaveNumbers flows) (planned : Planned) (p : IsPlanned choice flows planned) where
-  pub cuts_are : AreCutsOf choice procs p.cuts
-  cuts_are = record { flows = p.flows_are ∙ same; each = p.each }
+module _ (choice : Choice) (procs : List Proc) (planned : Planned) (h : ArePlanned choice procs planned) where
+  pub cuts_are : AreCutsOf choice procs h.are.cuts
+  cuts_are = record { flows = h.are.flows_are; each = h.are.each }
 
-  pub all_can : AllAllocated choice.regs p.cuts
-  all_can = all_allocated choice 0 procs p.cuts ready (subst HaveNumbers same numbers) (p.flows_are ∙ same) p.each
+  pub all_can : AllAllocated choice.regs h.are.cuts
+  all_can = all_allocated choice 0 procs h.are.cuts h.ready h.numbers h.are.flows_are h.are.each
 
-  pub pieces_are : planned.fit ≡ true → planned.room ≡ true → ArePieces choice.regs (map piece_in planned.pieces.items) p.cuts
-  pieces_are e f = let q = p.pieces all_can e f in record {
+  pub pieces_are : planned.fit ≡ true → planned.room ≡ true → ArePieces choice.regs (map piece_in planned.pieces.items) h.are.cuts
+  pieces_are e f = let q = h.are.pieces all_can e f in record {
     pieces_are = q.0;
-    numbers = ap (λ fs. list_all (λ f. numbers_fit f) fs) p.flows_are ∙ q.1;
-    few = fit.few;
+    numbers = ap (λ fs. list_all (λ f. numbers_fit f) fs) h.are.flows_are ∙ q.1;
+    few = h.fit.few;
     each = all_can;
   }
 
-  pub few_traces : trace_count p.cuts ≤ 262144
-  few_traces = let n = p.few in let m = p.count in omega (arith, n, m)
+  pub few_traces : trace_count h.are.cuts ≤ 262144
+  few_traces = let n = h.are.few in let m = h.are.count in omega (arith, n, m)
+
+  pub some_misfit : planned.fit ≡ false → (cuts : List Cut) × AreCutsOf choice procs cuts × (AreSmall cuts → ⊥)
+  some_misfit unfit = (h.are.cuts, cuts_are, h.are.misfit all_can unfit)
+
+  pub too_much : planned.room ≡ false → (cuts : List Cut) × AreCutsOf choice procs cuts × (trace_count cuts ≤ 262144) × (2 ^ 18 < code_length cuts)
+  too_much full = (h.are.cuts, cuts_are, few_traces, h.are.over all_can full)

@@ -62,7 +62,7 @@ FILE     a module's file, 1 to 64 of them, each behind those that it imports
 P        plain, linear, bottomup or mixed: how registers are given; else linear
 T        uni or bi: how blocks are put together to traces; else bi
 R        4 to 16: how many registers are given; else 16
-J        1 to 64: how many workers share the traces; else 4
+J        1 to 64: how many workers share the work; else 4
 S        0 to 1000000000000000: the most steps of a run; else 1000000000
 N        0 to 1000000000000000: the most turns of a meaning; else 100000000
 F        text or json: how a fault is told; else text

@@ -135,7 +135,7 @@ module _ (p : Program) (f : ℕ) (q : Procedure) (none : limit_in p (layout p.ty
   few_locals : locals ≤ 1048576
   few_locals = ltb-false 1048576 locals parts_here.0
 
-  few_values : HasFewValues (proc_of p (layout p.types) f q)
+  pub few_values : HasFewValues (proc_of p (layout p.types) f q)
   few_values =
       let s = entry (words_of q.formals) in
       let w = made_of p (layout p.types) f q in
@@ -143,7 +143,7 @@ module _ (p : Program) (f : ℕ) (q : Procedure) (none : limit_in p (layout p.ty
       let r = few_numbers 0 (proc_of p (layout p.types) f q).values (omega arith) (subst Low (in_order p (layout p.types) f q) low) in
       omega (arith, r)
 
-  small_data : well_formed p ≡ true → global_cells p ≤ 1048576 → HasSmallData (proc_of p (layout p.types) f q)
+  pub small_data : well_formed p ≡ true → global_cells p ≤ 1048576 → HasSmallData (proc_of p (layout p.types) f q)
   small_data fine globals =
       let a = few_locals in
       let b = (small_numbers p (parts_of p fine) (layout p.types) (packed_narrow p.types) globals f q few_locals).frame_small in

@@ -28,7 +28,7 @@ use Rattle.ssa_lowered.specs.Limits.{Limit, or_else, passes, at_procedure, limit
 use Rattle.ssa_lowered.specs.Pieces.{Start, Piece, Appends, Closes, blocks_of}
 use Rattle.ssa_lowered.specs.Variables.{words_of}
 use Rattle.ssa_lowered.specs.Lowered.{here_of, zeroed_bytes, at_entry, entry, made_of, proc_of, procs_from, lowered_by, lowered}
-use Rattle.lowered_valid.specs.Claims.{CanBeLowered, IsWithinLimits, IsShort, HasFittingOperations, TakesFewWords}
+use Rattle.lowered_valid.specs.Claims.{CanBeLowered, IsNarrow, IsWithinLimits, IsShort, HasFittingOperations, TakesFewWords}
 use Rattle.lowered_valid.proofs.Fitting.{AllFit}
 use Rattle.lowered_valid.proofs.FittingTree.{Numbers, whole_fits}
 use Rattle.lowered_valid.proofs.Bounds.{words_same, procedure_words}
@@ -101,9 +101,10 @@ few_words p fine f q at =
     let c = ap (λ (z : Procedure). WellFormed.argument_words z.formals) at.same in
     omega (arith, a, b, c)
 
-module _ (l : Layout) (p : Program) (can : IsWithinLimits l p) (f : ℕ) (q : Procedure) (at : IsAt p f q) (within : limit_in p l f q ≡ None) where
+-- a procedure within its own limits, whatever limits others pass
+module _ (l : Layout) (p : Program) (narrow : IsNarrow p.types l) (fine : well_formed p ≡ true) (globals : global_cells p ≤ 1048576) (f : ℕ) (q : Procedure) (at : IsAt p f q) (within : limit_in p l f q ≡ None) where
   parts : Parts p
-  parts = parts_of p can.fine
+  parts = parts_of p fine
 
   fine_here : (all (WellFormed.fine p f) q.body ≡ true) × (WellFormed.answer_fine p f (WellFormed.form_of p q.result) q.answer ≡ true)
   fine_here =
@@ -115,7 +116,7 @@ module _ (l : Layout) (p : Program) (can : IsWithinLimits l p) (f : ℕ) (q : Pr
       (subst (λ (z : Procedure). all (WellFormed.fine p f) z.body ≡ true) at.same b.0, subst (λ (z : Procedure). WellFormed.answer_fine p f (WellFormed.form_of p z.result) z.answer ≡ true) at.same b.1)
 
   small : Numbers p l (here_of p l f q)
-  small = small_numbers p parts l can.narrow (globals_few l p can.limits) f q (locals_few l p f q within)
+  small = small_numbers p parts l narrow globals f q (locals_few l p f q within)
 
   operations : HasFittingOperations (proc_of p l f q)
   operations =
@@ -123,10 +124,10 @@ module _ (l : Layout) (p : Program) (can : IsWithinLimits l p) (f : ℕ) (q : Pr
       let r = (whole_fits words p l (here_of p l f q) small (zeroed_bytes p l q) (WellFormed.form_of p q.result) fine_here.0 fine_here.1).by (at_entry words) in
       fit_blocks words (entry words) [] (Return (made_of p l f q).result) (made_of p l f q).pieces refl r.0.all
 
-  valid : IsShort (proc_of p l f q) → IsValid (proc_of p l f q)
-  valid short = record {
+  pub valid_here : IsShort (proc_of p l f q) → IsValid (proc_of p l f q)
+  valid_here short = record {
     code = record {
-      few_args = few_words p can.fine f q at;
+      few_args = few_words p fine f q at;
       few = short;
       begins = begins p l f q;
       targets = targets_there p l f q;
@@ -192,7 +193,7 @@ module _ (l : Layout) (p : Program) (P : Proc → Type 0) where
   all_procedures each = each_procedure each 0 p.procedures (from_all [] p.procedures refl)
 
 pub operations_fit_all : (p : Program) (l : Layout) → IsWithinLimits l p → All HasFittingOperations (lowered_by l p)
-operations_fit_all p l can = all_within l p HasFittingOperations can.limits (operations l p can)
+operations_fit_all p l can = all_within l p HasFittingOperations can.limits (operations l p can.narrow can.fine (globals_few l p can.limits))
 
 pub words_few_all : (p : Program) (l : Layout) → well_formed p ≡ true → All TakesFewWords (lowered_by l p)
 words_few_all p l fine = all_procedures l p TakesFewWords (few_words p fine)
@@ -205,7 +206,7 @@ both_all P Q [] f a = All-nil Q
 both_all P Q (x ∷ xs) f a = All-cons Q x xs (All-head (λ x. P x → Q x) x xs f (All-head P x xs a)) (both_all P Q xs (All-tail (λ x. P x → Q x) x xs f) (All-tail P x xs a))
 
 pub valid_all : (p : Program) (l : Layout) → CanBeLowered l p → All IsValid (lowered_by l p)
-valid_all p l can = both_all IsShort IsValid (lowered_by l p) (all_within l p (λ x. IsShort x → IsValid x) can.within.limits (valid l p can.within)) can.short
+valid_all p l can = both_all IsShort IsValid (lowered_by l p) (all_within l p (λ x. IsShort x → IsValid x) can.within.limits (valid_here l p can.within.narrow can.within.fine (globals_few l p can.within.limits))) can.short
 
 pub small_valid : (p : Program) → well_formed p ≡ true → limit_of p ≡ None → All IsSmall p.procedures → All IsValid (lowered p)
 small_valid p fine limits small = valid_all p (layout p.types) (record { within = record { narrow = packed_narrow p.types; fine = fine; limits = limits }; short = short_all p (layout p.types) small })

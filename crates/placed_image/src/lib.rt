@@ -2,7 +2,7 @@
 //!
 //! `cut_flows` gives the traces of flows, for which results may be read from a file. `placed_image` takes such results, which the
 //! walk by names accepts, and gives the flows' image. The whole plan of a program, its traces and its results lie in memory then;
-//! `back_end` instead goes through a program in batches.
+//! `back_end` instead lets each procedure's results go as its words are made.
 #![tactic(auto)]
 
 mod cutting;

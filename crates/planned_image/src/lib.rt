@@ -2,7 +2,7 @@
 //!
 //! `program_plan` and `source_plan` give a program's procedures as flows in traces, with its data. `audited_image` takes results for
 //! these traces, whoever made them: it tells the first failure, or gives the image that is linked from them, which does what the
-//! program means. All flows and results lie in memory; `program_image` goes through them in batches, and keeps none.
+//! program means. All flows and results lie in memory; `program_image` lets each procedure's results go as its words are made.
 #![tactic(auto)]
 
 mod auditing;

@@ -1,11 +1,14 @@
 -- Each fault tells of the limit that is passed first.
-use Rattle.std.proofs.Common.{◌≡◌, ◌<◌, ◌≤◌, ◌^◌, List, map, None, refl, subst, arith}
+use Rattle.std.proofs.Common.{◌≡◌, ◌<◌, ◌≤◌, ◌^◌, List, map, Option, None, refl, sym, subst, arith}
 use Rattle.ob_types.specs.declared.program.Program.{Program}
 use Rattle.ssa_core.specs.declared.procedure.Proc.{Proc}
 use Rattle.ssa_tables.specs.declared.fault.LowerFault.{LowerFault}
 use Rattle.ssa_tables.specs.declared.fault.LowerFault.TheVariants as low
+use Rattle.ssa_tables.specs.Faults.{first_limit, last_limit}
 use Rattle.ssa_tables.specs.Faults.{Tells as TellsLowered}
-use Rattle.ssa_lowered.specs.Limits.{limit_of}
+use Rattle.ssa_build.proofs.Limits.{limit_parts, tells_as, tells_first, tells_later}
+use Rattle.ssa_lowered.specs.Data.{layout}
+use Rattle.ssa_lowered.specs.Limits.{Limit, or_else, limits_from, limit_of}
 use Rattle.ssa_lowered.specs.Lowered.{lowered}
 use Rattle.a64_select.specs.Selected.{selected}
 use Rattle.linked_flows.specs.Allocations.{Cut}
@@ -27,6 +30,26 @@ lowering_tells_early choice p low.Memory h = tt
 pub lowering_tells : (choice : Choice) (p : Program) (fault : LowerFault) → TellsLowered fault (limit_of p) → Tells choice p (of_lowering fault)
 lowering_tells choice p (low.Limit n i) h = BeforeCode (record { number = n; index = i }) (InLowering (record { number = n; index = i }) h)
 lowering_tells choice p low.Memory h = tt
+
+---- The parts of lowering, in the order in which their limits are tried
+
+module _ (choice : Choice) (p : Program) (fault : LowerFault) where
+  abbrev procedures : Option Limit
+  procedures = limits_from p (layout p.types) 0 p.procedures
+
+  in_parts : TellsLowered fault (or_else (first_limit p) (or_else procedures (last_limit p))) → Tells choice p (of_lowering fault)
+  in_parts h = lowering_tells choice p fault (tells_as fault (or_else (first_limit p) (or_else procedures (last_limit p))) (limit_of p) (sym (limit_parts p)) h)
+
+  pub first_tells : TellsLowered fault (first_limit p) → Tells choice p (of_lowering fault)
+  first_tells h = in_parts (tells_first fault (first_limit p) (or_else procedures (last_limit p)) h)
+
+  pub procedures_tell : first_limit p ≡ None → TellsLowered fault procedures → Tells choice p (of_lowering fault)
+  procedures_tell first h = in_parts (tells_later fault (first_limit p) (or_else procedures (last_limit p)) first (tells_first fault procedures (last_limit p) h))
+
+  pub constants_tell : first_limit p ≡ None → procedures ≡ None → TellsLowered fault (last_limit p) → Tells choice p (of_lowering fault)
+  constants_tell first none h = in_parts (tells_later fault (first_limit p) (or_else procedures (last_limit p)) first (tells_later fault procedures (last_limit p) none h))
+
+---- The passes behind
 
 module _ (choice : Choice) (p : Program) (none : limit_of p ≡ None) where
   -- as the back end tells of them

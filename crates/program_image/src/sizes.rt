@@ -24,7 +24,7 @@ pub fn are_short(procedures: &[Proc]) -> bool
 }
 
 #[tactic(auto, using(crate::proofs::Counting::too_long, crate::proofs::Counting::counted, crate::proofs::Counting::short_enough))]
-fn is_short(blocks: &[Block]) -> bool
+pub(crate) fn is_short(blocks: &[Block]) -> bool
     ensures { result ≡ blocks_short blocks.now }
 {
     let mut left = MOST;

@@ -19,7 +19,7 @@ use std::thread::Threads;
 /// The image of the modules with these texts, in this order, by the builder, the policy and the registers that are chosen.
 ///
 /// Each text is read and judged before the next is begun, and limits of the program come after all modules are judged. The workers
-/// of the choice share the traces of all procedures, and pass the gate before each; it may wait.
+/// of the choice share the procedures, and the traces of large ones, and pass the gate before each; it may wait.
 pub fn source_image<G: Gate, R: Threads + Wait + Sync>(
     rt: &R,
     alloc: Global,

@@ -11,7 +11,7 @@ mod refusal;
 pub use imaging::{of_words, source_image, source_traces};
 pub use program_image::{
     AllocatedFlows, Builder, Choice, Compiled, Image, ImageData, ImageFault, LinkFault, Policy,
-    ProgramFault, allocate_flows, are_short, image_of, link, of_lowering, program_data,
+    ProgramFault, allocate_flows, are_short, link, linked_program, of_lowering, program_data,
     program_traces, select_all, whole_limit,
 };
 pub use refusal::{Refusal, refused_program, refused_source};

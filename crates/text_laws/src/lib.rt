@@ -33,7 +33,7 @@ pub use one_refusal::{
 };
 pub use source_image::{
     AllocatedFlows, Builder, Choice, Compiled, Image, ImageData, ImageFault, LinkFault, Policy,
-    ProgramFault, Refusal, allocate_flows, are_short, image_of, link, of_lowering, of_words,
+    ProgramFault, Refusal, allocate_flows, are_short, link, linked_program, of_lowering, of_words,
     program_data, program_traces, refused_program, refused_source, select_all, source_image,
     source_program, source_traces, whole_limit,
 };

@@ -1,7 +1,7 @@
 use Rattle.std.proofs.Common.{refl}
 use Rattle.flow_allocation.specs.Allocations.{items_of}
 use Rattle.back_end.proofs.Planning.{added, refused, too_long}
-use Rattle.back_end.proofs.imaging.plan_more.Goals as goal
+use Rattle.back_end.proofs.joining.plan_more.Goals as goal
 
 pub returns-in-Ok-clause-more : goal.returns-in-Ok-clause-more
 returns-in-Ok-clause-more g c valid =
