@@ -20,8 +20,7 @@ use Rattle.linked_flows.specs.Allocations.{Cut, copies_of, steps_of, part_at, al
 use Rattle.linked_flows.proofs.Edges.{count}
 use Rattle.linked_flows.proofs.Nodes.{traced}
 use Rattle.link_layout.specs.declared.copies.Copy.{Copy as Move}
-use Rattle.link_layout.specs.Spots.{copy_of, all_copies}
-use Rattle.link_layout.proofs.Ranking.{homes_are}
+use Rattle.link_layout.specs.Spots.{copy_of}
 use Rattle.link_blocks.specs.Plans.{block_in, plain_cell, plain_block, plain}
 use Rattle.link_blocks.specs.Ahead.{edges_ahead, behind_edges, AreAllDistinct}
 use Rattle.link_blocks.specs.Laid.{IsCutOf, AreLaid}
@@ -71,8 +70,8 @@ blocks_homes : (bls : List Block) (vs : List ℕ) → with_blocks (map plain_blo
 blocks_homes [] vs = refl
 blocks_homes (bl ∷ bls) vs = cells_homes bl.body (with_copies bl.copies (with_blocks (map plain_block bls) vs)) ∙ ap (λ (ws : List ℕ). with_cells bl.body (with_copies bl.copies ws)) (blocks_homes bls vs)
 
-pub homes_made : (first : List Copy) (bls : List Block) → with_copies (all_copies first (map plain_block bls)) [] ≡ homes_of first bls
-homes_made first bls = homes_are first (map plain_block bls) ∙ ap (with_copies first) (blocks_homes bls [])
+pub homes_made : (first : List Copy) (bls : List Block) → homes_of first (map plain_block bls) ≡ homes_of first bls
+homes_made first bls = ap (with_copies first) (blocks_homes bls [])
 
 -- what code has made of a cut, as far as it goes
 pub record IsMade (c : Cut) (first : List Move) (order homes : List ℕ) (blocks : List Made) : Type 0 where
@@ -81,11 +80,11 @@ pub record IsMade (c : Cut) (first : List Move) (order homes : List ℕ) (blocks
   pub homes_are : homes ≡ homes_of (copies_of (entry_steps c.flow c.traces c.outs)) (blocks_of c)
   pub order_is : order ≡ all_nodes (lists_of c.traces)
 
-pub is_made : (k : ℕ) (c : Cut) (f : Flow) (lines : List CodeLine) (outs : List TraceOut) → IsCutOf k f lines outs c → (first copies : List Move) (laid : Laid) (blocks : List Made) (homes : List ℕ) (at : ℕ)
+pub is_made : (k : ℕ) (c : Cut) (f : Flow) (lines : List CodeLine) (outs : List TraceOut) → IsCutOf k f lines outs c → (first : List Move) (laid : Laid) (blocks : List Made) (homes : List ℕ) (at : ℕ)
     → map copy_of first ≡ edges_ahead lines → drop at lines ≡ behind_edges lines
     → (f.nodes ≡ c.flow.nodes → outs ≡ c.outs → AreSound k c.flow c.traces c.outs → AllTraces c.flow (lists_of c.traces) → AreAllDistinct lines → drop at lines ≡ flat_map (node_lines c.flow c.traces c.outs) (all_nodes (lists_of c.traces)) → (laid.order.items ≡ all_nodes (lists_of c.traces)) × AreLaid c laid)
-    → map block_in blocks ≡ map block_in laid.blocks.items → map copy_of copies ≡ all_copies (map copy_of first) (map block_in blocks) → homes ≡ with_copies (map copy_of copies) [] → IsMade c first laid.order.items homes blocks
-is_made k c f lines outs is first copies laid blocks homes at front back read made all found =
+    → map block_in blocks ≡ map block_in laid.blocks.items → homes ≡ homes_of (map copy_of first) (map block_in blocks) → IsMade c first laid.order.items homes blocks
+is_made k c f lines outs is first laid blocks homes at front back read made found =
     let steps = entry_steps c.flow c.traces c.outs in
     let nodes = flat_map (node_lines c.flow c.traces c.outs) (all_nodes (lists_of c.traces)) in
     let none = no_edges c (all_nodes (lists_of c.traces)) in
@@ -96,7 +95,7 @@ is_made k c f lines outs is first copies laid blocks homes at front back read ma
     record {
       first_is = first_is;
       blocks_are = blocks_are;
-      homes_are = found ∙ ap (λ (ms : List Copy). with_copies ms []) (all ∙ ap₂ all_copies first_is blocks_are) ∙ homes_made (copies_of steps) (blocks_of c);
+      homes_are = found ∙ ap₂ (λ (ms : List Copy) (bls : List Block). homes_of ms bls) first_is blocks_are ∙ homes_made (copies_of steps) (blocks_of c);
       order_is = laid_is.0;
     }
   where

@@ -1,6 +1,6 @@
 //! The plan of a procedure.
 
-ghost use Rattle.std.specs.Prelude.{◌≡◌, ◌≢◌, ℕ, ◌+◌, ◌<◌, ◌++◌, ◌∷◌, List, length, map, drop, get_or, flat_map, true, OnOk, IfOk, IfErr};
+ghost use Rattle.std.specs.Prelude.{◌≡◌, ◌≢◌, ℕ, ◌+◌, ◌<◌, ◌∷◌, List, length, map, drop, get_or, flat_map, true, OnOk, IfOk, IfErr};
 ghost use Rattle.placed_code.specs.Placed.{no_block};
 ghost use Rattle.std.specs.List.{list_all};
 ghost use Rattle.lir_core.specs.Flows.{code_node, node_at};
@@ -9,9 +9,9 @@ ghost use Rattle.boundary_resolve.specs.Placing.{node_lines};
 ghost use Rattle.boundary_resolve.specs.Edges.{AreSound};
 ghost use Rattle.boundary_resolve.specs.declared.code_line.CodeLine.{CodeLine};
 ghost use Rattle.boundary_resolve.specs.declared.code_line.CodeLine.TheVariants.{Node as Begins};
-ghost use Rattle.placed_code.specs.Results.{placed};
+ghost use Rattle.placed_code.specs.Results.{placed, homes_of, with_cells, with_copies};
 ghost use Rattle.linked_flows.specs.Allocations.{Cut, steps_of, allocated};
-ghost use Rattle.link_layout.specs.Spots.{copy_of, cell_copies, block_copies, all_copies};
+ghost use Rattle.link_layout.specs.Spots.{copy_of};
 ghost use Rattle.link_blocks.specs.Fits.{node_fits, numbers_fit};
 ghost use Rattle.link_blocks.specs.Plans.{cell_in, block_in, placed_in, plain};
 ghost use Rattle.link_blocks.specs.Ahead.{block_ahead, behind_block, AreAllDistinct};
@@ -26,12 +26,13 @@ use crate::reading::push_edges;
 use a64_instr::Bits;
 use boundary_resolve::CodeLine;
 use items::Items;
-use link_layout::{Copy, Ranks};
+use link_layout::{Copy, Ranks, add_homes};
 use link_words::Frame;
 use lir_core::{Flow, Leave, Node, RegisterList, TraceOut};
 use outside::Memory;
 use size_limits::MOST_SLOTS;
 use std::alloc::{AllocError, Global};
+use value_sets::ValueSet;
 
 /// The most slots for arguments of calls.
 const MOST_OUTS: usize = 20;
@@ -63,8 +64,7 @@ impl Plan {
         let mut first = Vec::new(alloc);
         let at = push_edges(&mut first, lines, 0)?;
         let laid = laid_out(alloc, nodes, lines, at, outs)?;
-        let copies = all_copies(alloc, first.as_slice(), laid.blocks.as_slice())?;
-        let homes = Ranks::of(alloc, copies.as_slice())?;
+        let homes = homes_of(alloc, first.as_slice(), laid.blocks.as_slice())?;
         if homes.count() + slots >= MOST_SLOTS {
             return Err(PlanFault::Misfit);
         }
@@ -203,33 +203,36 @@ fn empty(alloc: Global) -> Block
     }
 }
 
-/// All copies of a procedure, in the order of its blocks.
-fn all_copies(alloc: Global, first: &[Copy], blocks: &[Block]) -> Result<Vec<Copy>, AllocError>
-    ensures { IfOk result (λ copies. map copy_of copies.items ≡ all_copies (map copy_of first.now) (map block_in blocks.now)) }
+/// The homes of all copies of a procedure.
+fn homes_of(alloc: Global, first: &[Copy], blocks: &[Block]) -> Result<Ranks, AllocError>
+    ensures { IfOk result (λ homes. homes ≡ homes_of (map copy_of first.now) (map block_in blocks.now)) }
 {
-    let mut copies = Vec::new(alloc);
-    push_all(&mut copies, first)?;
-    for block in blocks {
-        push_cells(&mut copies, block.cells.as_slice())?;
-        push_all(&mut copies, block.copies.as_slice())?;
+    let mut homes = ValueSet::new(alloc);
+    let mut i = blocks.len();
+    while i > 0 {
+        i -= 1;
+        add_block(&mut homes, &blocks[i])?;
     }
-    Ok(copies)
+    add_homes(&mut homes, first)?;
+    Ranks::of_values(alloc, &homes)
 }
 
-fn push_cells(copies: &mut Vec<Copy>, cells: &[Cell]) -> Result<(), AllocError>
-    ensures { OnOk result (map copy_of copies.new.items ≡ map copy_of copies.old.items ++ cell_copies (map cell_in cells.now)) }
+/// Adds the homes of a block to those of the blocks behind it.
+fn add_block(homes: &mut ValueSet, block: &Block) -> Result<(), AllocError>
+    ensures { OnOk result (homes.new ≡ with_cells (map cell_in block.now.cells) (with_copies (map copy_of block.now.copies) homes.old)) }
 {
-    for cell in cells {
-        push_all(copies, cell.copies.as_slice())?;
-    }
-    Ok(())
+    add_homes(homes, block.copies.as_slice())?;
+    add_cells(homes, block.cells.as_slice())
 }
 
-fn push_all(copies: &mut Vec<Copy>, more: &[Copy]) -> Result<(), AllocError>
-    ensures { OnOk result (map copy_of copies.new.items ≡ map copy_of copies.old.items ++ map copy_of more.now) }
+/// Adds the homes of cells to those of the copies behind them.
+fn add_cells(homes: &mut ValueSet, cells: &[Cell]) -> Result<(), AllocError>
+    ensures { OnOk result (homes.new ≡ with_cells (map cell_in cells.now) homes.old) }
 {
-    for copy in more {
-        copies.push(*copy)?;
+    let mut i = cells.len();
+    while i > 0 {
+        i -= 1;
+        add_homes(homes, cells[i].copies.as_slice())?;
     }
     Ok(())
 }

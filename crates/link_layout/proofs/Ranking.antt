@@ -1,13 +1,7 @@
 -- Homes and ranks: the table, the list of all copies, and the words of copies.
 use Rattle.std.proofs.Common.{◌≡◌, ℕ, suc, ◌+◌, ◌<◌, Bool, true, false, cond, List, [], ◌∷◌, ◌++◌, length, drop, get_or, Option, Some, None, refl, arith, sym, ap, ap₂, ◌∙◌, length-append}
 use Rattle.std.specs.Prelude.{◌==◌, nat_lt, if◌then◌else◌}
-use Rattle.std.specs.Ordering.{nat_cmp, is_eq}
-use Rattle.std.specs.Cmp.{nat_cmp_is}
-use Rattle.std.specs.declared.cmp.Ordering.TheVariants.{Less, Equal, Greater}
-use Rattle.std.specs.BTreeMap.{BTreeMap, get}
-use Rattle.std.specs.BTreeMap.{Updates as Puts}
 use Rattle.std.proofs.lemmas.Bool.{eqb-true, ltb-true}
-use Rattle.std.proofs.lemmas.Bool.Decides.{nat_tests}
 use Rattle.std.proofs.lemmas.List.{drop_more}
 use Rattle.block_runs.specs.Live.{has}
 use Rattle.lir_core.specs.Spots.{Spot, reg, home, out, target, saved}
@@ -19,7 +13,8 @@ use Rattle.placed_code.proofs.Slots.{load_size, store_size}
 use Rattle.placed_code.specs.Results.{insert, with_home, with_copies, with_cells, with_blocks, homes_of, rank_in}
 use Rattle.link_layout.specs.declared.copies.Room.{Room}
 use Rattle.link_layout.specs.declared.copies.Room.TheVariants.{Register, Near, Far, Nowhere}
-use Rattle.link_layout.specs.Spots.{cell_copies, block_copies, all_copies, slot_room, home_room, room_of, width_between, widths_of_copies, IsFrameOf}
+use Rattle.link_words.specs.Fields.{entry_in}
+use Rattle.link_layout.specs.Spots.{rank_behind, cell_copies, block_copies, all_copies, slot_room, home_room, room_of, width_between, widths_of_copies, IsFrameOf}
 
 ---- One list of copies
 
@@ -75,22 +70,18 @@ rank_from_is i (x ∷ xs) v = at_test (rank_from_is (suc i) xs v) (x == v)
 pub ranks_are : (xs : List ℕ) (v : ℕ) → rank_from 0 xs v ≡ rank_in xs v
 ranks_are xs v = let z : 0 + position xs v ≡ position xs v = omega arith in rank_from_is 0 xs v ∙ ap (λ n. cond (has xs v) (Some n) None) z
 
-at_key : (x y : ℕ) → is_eq (nat_cmp x y) ≡ (x == y)
-at_key x y = at_equal (x == y) refl (nat_lt x y) refl
-  where
-    at_equal : (b : Bool) → (x == y) ≡ b → (c : Bool) → nat_lt x y ≡ c → is_eq (nat_cmp x y) ≡ b
-    at_equal true e c f = ap is_eq (sym (nat_cmp_is x y Equal (eqb-true x y e)))
-    at_equal false e true f = ap is_eq (sym (nat_cmp_is x y Less (ltb-true x y f)))
-    at_equal false e false f = let h : y < x = grind (arith, nat_tests) in ap is_eq (sym (nat_cmp_is x y Greater h))
-
-pub ranks_more : (xs : List ℕ) (i j x : ℕ) (before after : BTreeMap ℕ ℕ) → ((v : ℕ) → get nat_cmp before v ≡ rank_from i (drop i xs) v) → i ≡ j + 1 → j < length xs → x ≡ get_or xs j 0 → Puts nat_cmp before after x (Some j) → (v : ℕ) → get nat_cmp after v ≡ rank_from j (drop j xs) v
-ranks_more xs i j x before after h is l at puts v =
-    puts.0 v ∙ ap (λ b. cond b (Some j) (get nat_cmp before v)) (at_key x v)
-    ∙ ap (λ o. cond (x == v) (Some j) o) (h v ∙ ap (λ n. rank_from n (drop n xs) v) (is ∙ plus))
+pub ranks_more : (xs : List ℕ) (i j x : ℕ) (before after : List ℕ) → ((v : ℕ) → rank_behind (entry_in before v) ≡ rank_from i (drop i xs) v) → i ≡ j + 1 → j < length xs → x ≡ get_or xs j 0
+    → entry_in after x ≡ i → ((v : ℕ) → (x == v) ≡ false → entry_in after v ≡ entry_in before v) → (v : ℕ) → rank_behind (entry_in after v) ≡ rank_from j (drop j xs) v
+ranks_more xs i j x before after h is l at one others v =
+    at_test (x == v) refl
     ∙ sym (ap (λ (ys : List ℕ). rank_from j ys v) (drop_more xs j 0 l ∙ ap₂ (λ y n. y ∷ drop n xs) (sym at) plus))
   where
     plus : j + 1 ≡ suc j
     plus = omega arith
+
+    at_test : (b : Bool) → (x == v) ≡ b → rank_behind (entry_in after v) ≡ cond b (Some j) (rank_from (suc j) (drop (suc j) xs) v)
+    at_test true e = ap (λ n. rank_behind (entry_in after n)) (sym (eqb-true x v e)) ∙ ap rank_behind (one ∙ is ∙ plus)
+    at_test false e = ap rank_behind (others v e) ∙ h v ∙ ap (λ n. rank_from n (drop n xs) v) (is ∙ plus)
 
 ---- The words of copies
 

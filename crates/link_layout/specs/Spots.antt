@@ -1,5 +1,5 @@
 -- Spots and copies as placed code has them, and what room they take.
-use Rattle.std.specs.Prelude.{◌≡◌, ℕ, suc, ◌+◌, nat_lt, List, [], ◌∷◌, ◌++◌, Option, Some, None, if◌then◌else◌}
+use Rattle.std.specs.Prelude.{◌≡◌, ℕ, zero, suc, ◌+◌, nat_lt, List, [], ◌∷◌, ◌++◌, Option, Some, None, if◌then◌else◌}
 use Rattle.lir_core.specs.Spots.{reg, home, out, target, saved}
 use Rattle.lir_core.specs.Spots as lir
 use Rattle.placed_code.specs.Placed.{Cell, Block, Placed}
@@ -26,6 +26,11 @@ copy_of m = record { to = spot_of m.to; from = spot_of m.from }
 pub record IsFrameOf (homes : List ℕ) (outs : ℕ) (pr : Placed) : Type 0 where
   pub outs_are : pr.outs ≡ outs
   pub rank_is : pr.rank ≡ rank_in homes
+
+-- the rank that a number is behind: 0 is behind none
+abbrev pub rank_behind : ℕ → Option ℕ
+rank_behind zero = None
+rank_behind (suc j) = Some j
 
 ---- All copies of a procedure, in the order of its blocks
 

@@ -17,7 +17,7 @@ pub use blocks::{block_places, end_of, procedure_width};
 pub use copies::{Copy, Spot, copies_width};
 pub use fault::LayoutFault;
 pub use frames::{end_width, epilogue_width, prologue_width};
-pub use homes::Ranks;
+pub use homes::{Ranks, add_homes};
 pub use laws::homes_are_those_of_copies;
 pub use starting::entries;
 pub use widths::operation_width;

@@ -2,9 +2,9 @@ use Rattle.std.proofs.Common.{◌≡◌, ℕ, ◌+◌, ◌<◌, ◌≤◌, List,
 use Rattle.lir_core.specs.declared.flow.Flow.{Flow}
 use Rattle.lir_core.specs.Flows.{code_nodes}
 use Rattle.lir_core.specs.Lines.{slots_of}
-use Rattle.placed_code.specs.Results.{with_copies}
+use Rattle.placed_code.specs.Results.{homes_of}
 use Rattle.linked_flows.specs.Allocations.{Cut}
-use Rattle.link_layout.specs.Spots.{copy_of, all_copies}
+use Rattle.link_layout.specs.Spots.{copy_of}
 use Rattle.link_blocks.specs.Plans.{block_in}
 use Rattle.link_blocks.specs.Ahead.{edges_ahead}
 use Rattle.link_blocks.proofs.Made.{is_made, slots_made, plan_is}
@@ -22,13 +22,12 @@ returns-then-slots-gt-MOST_OUTS-clause-misfit c refused k c' is fits =
 pub returns-then-count-slots-ge-MOST_SLOTS-clause-misfit : goal.returns-then-count-slots-ge-MOST_SLOTS-clause-misfit
 returns-then-count-slots-ge-MOST_SLOTS-clause-misfit c refused k c' is fits =
     let a = c.args in
-    let made = is_made k c' a.flow.now a.lines.now a.outs.now is c.push_edges.new.copies.items c.in_ok-copies.copies.items c.in_ok-laid.laid c.in_ok-laid.laid.blocks.items c.in_ok-homes.homes c.in_ok-at.at
+    let made = is_made k c' a.flow.now a.lines.now a.outs.now is c.push_edges.new.copies.items c.in_ok-laid.laid c.in_ok-laid.laid.blocks.items c.in_ok-homes.homes c.in_ok-at.at
     (c.in_ok-at.ensures.copies ∙ ap (λ xs. map copy_of xs ++ edges_ahead a.lines.now) c.new-first.ensures.items)
     c.in_ok-at.ensures.behind
     (λ f g s p d e. c.in_ok-laid.ensures.laid k c' (c.as_slice-nodes.ensures ∙ f) g s p d e)
     refl
-    (c.in_ok-copies.ensures ∙ ap₂ (λ xs ys. all_copies (map copy_of xs) (map block_in ys)) c.as_slice.ensures.value c.as_slice-2.ensures.value)
-    (c.in_ok-homes.ensures ∙ ap (λ xs. with_copies (map copy_of xs) []) c.as_slice-3.ensures.value) in
+    (c.in_ok-homes.ensures ∙ ap₂ (λ xs ys. homes_of (map copy_of xs) (map block_in ys)) c.as_slice.ensures.value c.as_slice-2.ensures.value) in
     let slots = slots_made c' c.push_edges.new.copies.items c.in_ok-laid.laid.order.items c.in_ok-homes.homes c.in_ok-laid.laid.blocks.items a.flow.now c.slots_of-slots.result made is.flow_is (c.slots_of-slots.ensures ∙ ap (λ ns. slots_of (code_nodes ns)) c.as_slice-nodes.ensures) in
     omega (arith, slots, fits.slots, c.count.ensures, c.if-count-slots-ge-MOST_SLOTS.true)
 
@@ -48,11 +47,10 @@ invariant_of-result c = record {
 pub returns-clause-plan : goal.returns-clause-plan
 returns-clause-plan c k c' is =
     let a = c.args in
-    let made = is_made k c' a.flow.now a.lines.now a.outs.now is c.push_edges.new.copies.items c.in_ok-copies.copies.items c.in_ok-laid.laid c.in_ok-laid.laid.blocks.items c.in_ok-homes.homes c.in_ok-at.at
+    let made = is_made k c' a.flow.now a.lines.now a.outs.now is c.push_edges.new.copies.items c.in_ok-laid.laid c.in_ok-laid.laid.blocks.items c.in_ok-homes.homes c.in_ok-at.at
     (c.in_ok-at.ensures.copies ∙ ap (λ xs. map copy_of xs ++ edges_ahead a.lines.now) c.new-first.ensures.items)
     c.in_ok-at.ensures.behind
     (λ f g s p d e. c.in_ok-laid.ensures.laid k c' (c.as_slice-nodes.ensures ∙ f) g s p d e)
     refl
-    (c.in_ok-copies.ensures ∙ ap₂ (λ xs ys. all_copies (map copy_of xs) (map block_in ys)) c.as_slice.ensures.value c.as_slice-2.ensures.value)
-    (c.in_ok-homes.ensures ∙ ap (λ xs. with_copies (map copy_of xs) []) c.as_slice-3.ensures.value) in
+    (c.in_ok-homes.ensures ∙ ap₂ (λ xs ys. homes_of (map copy_of xs) (map block_in ys)) c.as_slice.ensures.value c.as_slice-2.ensures.value) in
     plan_is c' c.push_edges.new.copies.items c.from_vec.result c.in_ok-laid.laid.order.items c.from_vec-3.result c.in_ok-homes.homes c.in_ok-laid.laid.blocks.items c.from_vec-2.result a.flow.now c.slots_of-slots.result made c.from_vec.ensures c.from_vec-3.ensures c.from_vec-2.ensures is.flow_is (c.slots_of-slots.ensures ∙ ap (λ ns. slots_of (code_nodes ns)) c.as_slice-nodes.ensures)
