@@ -11,7 +11,7 @@ ghost use Rattle.check_types.specs.names.Worlds.{table_of, strings_of, world_of}
 ghost use Rattle.check_operands.specs.Operands.{Stands};
 ghost use Rattle.check_selectors.specs.Stages.{IsStage, IsBegun};
 
-use crate::parts::{Part, operand, variable_read};
+use crate::parts::{Part, operand, variable_read, whole_operand};
 use crate::stage::Stage;
 use check_operands::trees::Value;
 use check_operands::{Operand, Use, What, constant_text, text};
@@ -136,6 +136,21 @@ pub fn begin<'a>(
     }
 }
 
+// A variable alone that is narrowed, as an operand.
+#[inline(never)]
+fn narrowed_operand<'a>(
+    scope: &Scope<'a>,
+    alloc: Global,
+    v: Variable,
+) -> Result<Operand, CheckFault>
+    ensures { Answers (Stands scope.now)
+        (Keeps (judged_read scope.now.source.now (world_of scope.now) (variable_of (table_of scope.now) (strings_of scope.now) v)))
+        result }
+{
+    let x = variable_read(scope, alloc, v)?;
+    operand(scope, alloc, x)
+}
+
 // A variable alone, as an operand.
 #[inline(always)]
 fn variable_operand<'a>(
@@ -147,8 +162,10 @@ fn variable_operand<'a>(
         (Keeps (judged_read scope.now.source.now (world_of scope.now) (variable_of (table_of scope.now) (strings_of scope.now) v)))
         result }
 {
-    let x = variable_read(scope, alloc, v)?;
-    operand(scope, alloc, x)
+    match scope.narrowing(v.place) {
+        None => Ok(whole_operand(scope, v)),
+        Some(_) => narrowed_operand(scope, alloc, v),
+    }
 }
 
 // What is no variable, as an operand.
