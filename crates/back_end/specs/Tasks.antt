@@ -1,5 +1,5 @@
 -- What the tasks of flows give.
-use Rattle.std.specs.Prelude.{◌≡◌, ◌<◌, List, [], ◌∷◌}
+use Rattle.std.specs.Prelude.{◌≡◌, ◌<◌, List, [], ◌∷◌, length, Bool, true, false, ◌&&◌, nat_lt}
 use Rattle.lir_core.specs.declared.flow.Flow.{Flow}
 use Rattle.lir_core.specs.Flows.{IsValidFlow}
 use Rattle.trace_build.specs.Traces.{traces_in}
@@ -13,6 +13,16 @@ abbrev pub IsOutcome : Choice → Flow → Outcome → Type 0
 IsOutcome choice flow (Made made) = IsMade choice flow made
 IsOutcome choice flow Traces = 262144 < traces_in choice.builder (flow ∷ [])
 IsOutcome choice flow (Large same) = (same ≡ flow) × IsValidFlow flow
+
+-- workers are to share the traces of a flow
+abbrev pub is_large : Choice → Flow → Bool
+is_large choice flow = nat_lt 1 choice.jobs && nat_lt 1024 (length flow.nodes)
+
+-- a flow is handed back
+abbrev pub is_handed_back : Outcome → Bool
+is_handed_back (Large flow) = true
+is_handed_back (Made made) = false
+is_handed_back Traces = false
 
 -- one for each flow, in order
 abbrev pub AreOutcomes : Choice → List Flow → List Outcome → Type 0

@@ -23,7 +23,7 @@ use std::sync::Wait;
 use std::thread::Threads;
 
 /// The most traces that an image's code is made of.
-const MOST_TRACES: u32 = 262_144;
+const MOST_TRACES: u32 = trace_work::MOST_TRACES as u32;
 
 /// The pieces of flows, and of how many traces they are made. Where some flow fits no instructions, `fit` is false, and where
 /// one is longer than any image, `room` is: then the pieces are of no use.

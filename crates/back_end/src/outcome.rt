@@ -1,9 +1,9 @@
 //! What the task of a flow gives.
 
-ghost use Rattle.std.specs.Prelude.{IfOk};
+ghost use Rattle.std.specs.Prelude.{◌≡◌, IfOk};
 ghost use Rattle.lir_core.specs.Flows.{IsValidFlow};
 ghost use Rattle.alloc_choice.specs.Choice.{IsFitChoice};
-ghost use Rattle.back_end.specs.Tasks.{IsOutcome};
+ghost use Rattle.back_end.specs.Tasks.{IsOutcome, is_large, is_handed_back};
 
 use crate::making::{MadeFlow, make_flow};
 use flow_allocation::{Choice, Flow, WorkFault};
@@ -25,7 +25,9 @@ pub enum Outcome {
 }
 
 // Whether workers are to share the traces of a flow.
-fn is_large(choice: &Choice, flow: &Flow) -> bool {
+fn is_large(choice: &Choice, flow: &Flow) -> bool
+    ensures { result ≡ is_large choice.now flow.now }
+{
     choice.jobs > 1 && flow.nodes.len() > MOST_NODES
 }
 
@@ -34,7 +36,8 @@ fn is_large(choice: &Choice, flow: &Flow) -> bool {
 pub fn outcome_of(alloc: Global, choice: &Choice, flow: Flow) -> Result<Outcome, Memory>
     requires fit { IsFitChoice choice.now }
     requires valid { IsValidFlow flow }
-    ensures { IfOk result (IsOutcome choice.now flow) }
+    ensures outcome { IfOk result (IsOutcome choice.now flow) }
+    ensures large { IfOk result (λ outcome. is_handed_back outcome ≡ is_large choice.now flow) }
 {
     if is_large(choice, &flow) {
         return Ok(Outcome::Large(flow));

@@ -12,7 +12,7 @@ use trace_build::{Builder, build};
 use trace_work::WorkFault;
 
 /// How many traces flows have at most.
-const MOST_TRACES: usize = 262_144;
+const MOST_TRACES: usize = trace_work::MOST_TRACES;
 
 /// The traces of each flow by a builder, numbered in this order through all flows. `Traces` comes exactly where there are over
 /// 262,144. Takes the time of the cut, flow by flow.

@@ -15,7 +15,7 @@ returns-in_ok-outcome_of-in-Ok c q there =
     let w = c.args.self.now in
     let qs = w.program.now.procedures in
     let here = found_at qs c.as_slice.result.now c.args.number c.index-as_slice-number.result c.as_slice.ensures (run_within qs _ c.args.number c.args.hint c.requires) c.index-as_slice-number.is in
-    is_lowered w.program.now c.args.number c.index-as_slice-number.result q here there w.choice c.in-Ok.flow c.in_ok-outcome_of-in-Ok.field-0 c.in-Ok.ensures.lowered c.in-Ok.ensures.flow c.in_ok-outcome_of-in-Ok.ensures
+    is_lowered w.program.now c.args.number c.index-as_slice-number.result q here there w.choice c.in-Ok.flow c.in_ok-outcome_of-in-Ok.field-0 c.in-Ok.ensures.lowered c.in-Ok.ensures.flow c.in_ok-outcome_of-in-Ok.ensures.outcome
 
 pub returns-in-Limit : goal.returns-in-Limit
 returns-in-Limit c q there =
