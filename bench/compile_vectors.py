@@ -18,6 +18,7 @@ from scan import Fault  # noqa: E402
 from lower import Limit  # noqa: E402
 
 CHOICES = ['linear bi 16', 'plain bi 4', 'bottomup uni 8', 'mixed bi 5']
+SEVERAL = ['linear bi 16 8', 'plain bi 4 2', 'bottomup uni 8 64', 'mixed bi 5 3']  # by so many workers
 EVERY = list(itertools.product(['plain', 'linear', 'bottomup', 'mixed'], ['uni', 'bi'], [4, 8, 16]))
 
 
@@ -40,7 +41,7 @@ def limits():
 
 
 def sized():
-    """Texts in short of very many values and homes, and of copies, each with choices."""
+    """Texts in short of very many values and homes, of copies, and of a large procedure among small ones, each with choices."""
     all_policies = ['plain bi 16', 'linear bi 16', 'bottomup bi 16', 'mixed bi 16']
     yield size_texts.asserts(8000), all_policies
     yield size_texts.asserts(8001), all_policies[:1]
@@ -53,10 +54,11 @@ def sized():
         yield size_texts.arguments(n), ['plain bi 16', 'bottomup bi 4']
     for offset in range(10):
         yield size_texts.copied(offset), CHOICES
+    yield size_texts.large(400), SEVERAL
 
 
 def answer(sources, choice):
-    policy, builder, regs = choice.split()
+    policy, builder, regs = choice.split()[:3]
     for i, source in enumerate(sources):
         if len(source) > 1048576:
             return 'limit 55 at %d' % i

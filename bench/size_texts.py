@@ -38,6 +38,11 @@ BRANCHES = ('MODULE B; VAR s: INTEGER; PROCEDURE Q(c: CHAR); BEGIN s := s + ORD(
 TESTS = ('MODULE T; IMPORT Out; VAR s: INTEGER; PROCEDURE Q(x: INTEGER); BEGIN s := s * 3 + x END Q; PROCEDURE P; VAR [%d*a#, b#, ]i: INTEGER; BEGIN i := 0; [%d*a# := i; b# := s; ]'
          'WHILE i < 9 DO [%d*IF i = # THEN a# := b# END; ]i := i + 1 END; [%d*Q(a#); Q(b#); ]END P; BEGIN s := 7; P; Out.Int(s, 0) END T.')
 
+# a procedure of so many tests among forty small ones
+LARGE = ('MODULE L; IMPORT Out; VAR s: INTEGER; [20*PROCEDURE P#(x: INTEGER): INTEGER; BEGIN IF x > # THEN x := x - 1 END RETURN x * 3 + # END P#; ]'
+         'PROCEDURE Q(a: INTEGER): INTEGER; VAR i, t: INTEGER; BEGIN t := a; FOR i := 0 TO 9 DO [%d*IF t MOD 7 < i THEN t := t + P3(t) MOD 100 ELSE t := t * 5 + # END; ]END RETURN t END Q; '
+         '[20*PROCEDURE R#(x: INTEGER): INTEGER; RETURN Q(x) + # END R#; ]BEGIN s := R7(5); Out.Int(s, 0) END L.')
+
 
 def asserts(n):
     return ASSERTS % n
@@ -61,6 +66,10 @@ def branches(n):
 
 def tests(n):
     return TESTS % (n, n, n, n)
+
+
+def large(n):
+    return LARGE % n
 
 
 def spread(short):

@@ -32,7 +32,16 @@ fn builder_named(word: &str) -> Option<Builder> {
     }
 }
 
-/// The choice that words name; none where it has none of 4 to 16 registers.
+/// So many workers as a word says, or one where there is no word.
+fn workers_in(word: Option<&str>) -> Option<u32> {
+    match word {
+        Some(word) => word.parse::<u32>().ok(),
+        None => Some(1),
+    }
+}
+
+/// The choice that words name: a policy, a builder, 4 to 16 registers, and 1 to 64 workers if a word is left; none where they name
+/// no such one.
 fn choice_in(words: &str) -> Option<Choice>
     ensures { IfSome result IsFitChoice }
 {
@@ -40,14 +49,15 @@ fn choice_in(words: &str) -> Option<Choice>
     let policy = policy_named(words.next()?)?;
     let builder = builder_named(words.next()?)?;
     let regs = words.next()?.parse::<u8>().ok()?;
-    if regs < 4 || regs > 16 {
+    let jobs = workers_in(words.next())?;
+    if regs < 4 || regs > 16 || jobs < 1 || jobs > 64 {
         return None;
     }
     Some(Choice {
         policy,
         builder,
         regs,
-        jobs: 1,
+        jobs,
     })
 }
 
