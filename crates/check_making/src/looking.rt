@@ -37,6 +37,7 @@ impl Declaring {
             strings: self.strings.as_slice(),
             modules: round.modules,
             levels: self.levels.as_slice(),
+            closed: None,
             narrowed: &[],
             module_number: round.module_number,
             procedure: self.procedure,

@@ -94,6 +94,7 @@ pub fn in_part<'b, 'a: 'b>(scope: &Scope<'a>, narrowed: &'b [Narrowing]) -> Scop
         strings: scope.strings,
         modules: scope.modules,
         levels: scope.levels,
+        closed: scope.closed,
         narrowed,
         module_number: scope.module_number,
         procedure: scope.procedure,

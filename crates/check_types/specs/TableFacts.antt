@@ -2,7 +2,7 @@
 use Rattle.std.specs.Prelude.{◌≡◌, ℕ, List, Bool, true, false, ◌&&◌, ◌||◌, nat_eq, slice_index_or}
 use Rattle.ob_types.specs.Table.{Table}
 use Rattle.ob_types.specs.declared.types.Formal.{Formal}
-use Rattle.ob_judge.specs.Shapes.{Shape, Char, Nil, Text, Pointer, Procedure, Nothing, Known, same, bool_eq, extends, is_number}
+use Rattle.ob_judge.specs.Shapes.{Shape, Char, Nil, Text, Pointer, Procedure, Known, same, bool_eq, extends, is_number}
 use Rattle.ob_judge.specs.Parts.{is_nothing}
 use Rattle.judged_tree.specs.TypeShapes.{shape_at, shape_of}
 use Rattle.check_types.specs.declared.types.TypeRef.{TypeRef}

@@ -88,6 +88,7 @@ fn for_constants<'a>(scope: &Scope<'a>) -> Scope<'a>
         strings: scope.strings,
         modules: scope.modules,
         levels: scope.levels,
+        closed: scope.closed,
         narrowed: scope.narrowed,
         module_number: scope.module_number,
         procedure: scope.procedure,

@@ -1,6 +1,6 @@
 //! The scope of a procedure (Oberon-07 report, section 10).
 
-ghost use Rattle.std.specs.Prelude.{◌≡◌, ◌<◌, length, OnOk, IfOk};
+ghost use Rattle.std.specs.Prelude.{◌≡◌, ◌<◌, ◌++◌, length, option_to_list, OnOk, IfOk};
 ghost use Rattle.ob_judge.specs.Making.{Making};
 ghost use Rattle.check_making.specs.Making.{AreNumbered, Makes, IsSettled};
 ghost use Rattle.judged_modules.specs.steps.Frames.{entered, left};
@@ -70,17 +70,25 @@ pub fn enter(
     Ok(outer)
 }
 
-/// The innermost scope is the one round the procedure's again, with these pointer types whose base comes later.
-pub fn leave(state: &mut Declaring, round: &Surroundings, outer: Outer, forward: Vec<Forward>)
+/// The innermost scope is the one round the procedure's again, with these pointer types whose base comes later. The names of
+/// the one that was left are given.
+pub fn leave(
+    state: &mut Declaring,
+    round: &Surroundings,
+    outer: Outer,
+    forward: Vec<Forward>,
+) -> Option<Level>
     requires settled { IsSettled (deeper round.now outer.depth) state.old }
     requires deeper { round.now.depth < outer.depth }
     requires variables { AreNumbered state.old.types.table.entries.items outer.variables.items }
     ensures settled { IsSettled round.now state.new }
     ensures types { state.new.types ≡ state.old.types }
+    ensures strings { state.new.strings ≡ state.old.strings }
+    ensures names { state.old.levels.items ≡ state.new.levels.items ++ option_to_list result }
     ensures makes { (s t : Making) → Makes (deeper round.now outer.depth) state.old t → IsOuter round.now state.old outer forward.items s t
         → Makes round.now state.new (left s t) }
 {
-    state.levels.pop();
+    let left = state.levels.pop();
     let Outer {
         depth: _,
         imports_in,
@@ -97,4 +105,5 @@ pub fn leave(state: &mut Declaring, round: &Surroundings, outer: Outer, forward:
     state.standing = standing;
     state.values = values;
     state.variables = variables;
+    left
 }

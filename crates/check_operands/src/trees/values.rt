@@ -23,12 +23,11 @@ pub fn linked(alloc: Global, x: Expr, link: Link) -> Result<Expr, AllocError>
     }
 }
 
-// A value, and the first thing done to it. Room is taken for one more, which a sum of products adds.
+// A value, and the first thing done to it. Room is taken for that one, since most chains have one link.
 fn begun(alloc: Global, x: Expr, link: Link) -> Result<Expr, AllocError>
     ensures { IfOk result (λ e. (t : Table) (texts : List (List ℕ)) → plain_expr t texts e ≡ I.Linked (plain_expr t texts x) (plain_link t texts link)) }
 {
-    let mut links = Vec::with_capacity(alloc, 2)?;
-    links.push(link)?;
+    let links = vec![in alloc; link]?;
     let first = Box::new(alloc, x)?;
     Ok(Expr::Chain(first, links))
 }

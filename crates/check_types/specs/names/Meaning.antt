@@ -1,5 +1,5 @@
 -- What names stand for, given what types and strings mean.
-use Rattle.std.specs.Prelude.{ℕ, List, [], ◌∷◌, Option, option_map, slice_index_or}
+use Rattle.std.specs.Prelude.{ℕ, List, [], ◌∷◌, ◌++◌, map, Option, Some, None, option_map, slice_index_or}
 use Rattle.ob_types.specs.Table.{Table}
 use Rattle.ob_judge.specs.Image as I
 use Rattle.ob_judge.specs.Scopes.{Object, AConstant, AType, AVariable, AProcedure, AStandard, AModule, Entry}
@@ -9,6 +9,7 @@ use Rattle.check_types.specs.steps.Maps.{at_bytes}
 use Rattle.check_types.specs.declared.types.TypeRef.TheVariants as TheType
 use Rattle.check_types.specs.TypeMeaning.{type_shape}
 use Rattle.check_types.specs.names.Basics.{basic_shape}
+use Rattle.check_types.specs.names.Before.{names_before}
 use Rattle.check_types.specs.declared.names.scope.Constant.{Constant}
 use Rattle.check_types.specs.declared.names.scope.Constant.TheVariants as TheConstant
 use Rattle.check_types.specs.declared.names.scope.Home.{Home}
@@ -25,6 +26,7 @@ use Rattle.check_types.specs.declared.names.scope.Named.TheVariants as TheNamed
 use Rattle.check_types.specs.declared.names.scope.Declared.{Declared}
 use Rattle.check_types.specs.declared.names.scope.Narrowing.{Narrowing}
 use Rattle.check_types.specs.declared.names.scope.KnownModule.{KnownModule}
+use Rattle.check_types.specs.declared.names.scope.Closed.{Closed}
 use Rattle.check_types.specs.declared.names.levels.Level.{Level}
 
 abbrev pub home_of : Home → J.Home
@@ -87,6 +89,11 @@ module _ (t : Table) (strings : List (List ℕ)) where
   -- of one scope
   abbrev pub names_of : Level → List ℕ → Option Entry
   names_of l q = option_map entry_of (at_bytes l.names q)
+
+  -- of open scopes, and of one that was closed: of those round it later procedures aren't seen
+  abbrev pub names_inside : List Level → Option Closed → List (List ℕ → Option Entry)
+  names_inside ls None = map names_of ls
+  names_inside ls (Some c) = map (λ l. names_before c.procedures (names_of l)) ls ++ names_of c.names.now ∷ []
 
   -- of a module before, as others see it: not its imports
   abbrev pub module_of : KnownModule → J.KnownModule

@@ -9,7 +9,7 @@ use Rattle.check_types.specs.TypeMeaning.{type_shape}
 use Rattle.check_types.specs.Known.{known_of}
 use Rattle.check_types.specs.declared.names.scope.Named.{Named}
 use Rattle.check_types.specs.declared.names.scope.Scope.{Scope}
-use Rattle.check_types.specs.names.Meaning.{object_of, names_of, module_of, narrowings_before}
+use Rattle.check_types.specs.names.Meaning.{object_of, names_inside, module_of, narrowings_before}
 
 abbrev pub table_of : Scope → Table
 table_of s = s.types.now.types
@@ -21,7 +21,7 @@ abbrev pub world_of : Scope → World
 world_of s = record {
   modules = map (module_of (table_of s) (strings_of s)) s.modules.now;
   known = known_of s.types.now;
-  levels = predeclared ∷ map (names_of (table_of s) (strings_of s)) s.levels.now;
+  levels = predeclared ∷ names_inside (table_of s) (strings_of s) s.levels.now s.closed;
   module_number = s.module_number;
   procedure = s.procedure;
   constant = s.constant;

@@ -3,6 +3,7 @@
 ghost use Rattle.std.specs.Prelude.{◌≡◌, ℕ, List, option_map, OnOk};
 ghost use Rattle.ob_types.specs.Table.{Table};
 ghost use Rattle.ob_judge.specs.Scopes.{declare, no_names};
+ghost use Rattle.check_types.specs.names.Before.{names_before};
 ghost use Rattle.check_types.specs.names.Meaning.{entry_of, names_of};
 
 use crate::names::scope::Declared;
@@ -21,6 +22,16 @@ impl Level {
         ensures { (t : Table) (strings : List (List ℕ)) → option_map (λ d. entry_of t strings d.now) result ≡ names_of t strings self.now name.now }
     {
         self.names.get(name)
+    }
+
+    // The declaration of a name in this scope, unless it is a procedure behind so many.
+    pub(crate) fn seen_before(&self, procedures: u32, name: &[u8]) -> Option<&Declared>
+        ensures { (t : Table) (strings : List (List ℕ)) → option_map (λ d. entry_of t strings d.now) result ≡ names_before procedures (names_of t strings self.now) name.now }
+    {
+        match self.seen(name) {
+            None => None,
+            Some(declared) => declared.seen_before(procedures),
+        }
     }
 
     /// What a name stands for in this scope.

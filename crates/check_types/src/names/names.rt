@@ -8,16 +8,17 @@ ghost use Rattle.ob_judge.specs.Modules.{offered};
 ghost use Rattle.ob_judge.specs.Names.{named as judged_name, member as judged_member, member_of_object as judged_member_of, qualified as judged_qualident, type_of_object, type_named as judged_type, names_of as names_in_module, is_place as same_place, narrowing_of as narrowing_at};
 ghost use Rattle.check_types.specs.TypeMeaning.{type_shape};
 ghost use Rattle.check_types.specs.steps.Answers.{Answers};
-ghost use Rattle.ob_judge.specs.Standards.{predeclared as names_before};
+ghost use Rattle.ob_judge.specs.Standards.{predeclared as names_round};
 ghost use Rattle.check_types.specs.names.Entries.{found_as};
-ghost use Rattle.check_types.specs.names.Meaning.{entry_of, names_of, object_of, imported_of, place_of, narrowing_of, narrowings_before};
+ghost use Rattle.check_types.specs.names.Before.{names_before};
+ghost use Rattle.check_types.specs.names.Meaning.{entry_of, names_of, names_inside, object_of, imported_of, place_of, narrowing_of, narrowings_before};
 ghost use Rattle.check_types.specs.names.Worlds.{table_of, strings_of, world_of, IsNamed, IsOfType};
 
 use crate::TypeRef;
 use crate::names::levels::Level;
 use crate::names::predeclared::{name_of_in, name_of_out, predeclared};
 use crate::names::scope::{
-    Declared, Imported, KnownModule, Named, Narrowing, Scope, VariablePlace,
+    Closed, Declared, Imported, KnownModule, Named, Narrowing, Scope, VariablePlace,
 };
 use crate::steps::CheckFault;
 
@@ -74,12 +75,47 @@ fn is_place(a: VariablePlace, b: VariablePlace) -> bool
     }
 }
 
+// What a name stands for in open scopes, but for later procedures.
+fn seen_before<'a>(levels: &'a [Level], procedures: u32, name: &[u8]) -> Option<&'a Declared>
+    ensures { (t : Table) (strings : List (List ℕ)) → option_map (λ d. entry_of t strings d.now) result
+        ≡ looked_up name.now (map (λ l. names_before procedures (names_of t strings l)) levels.now) }
+{
+    for i in (0..levels.len()).rev() {
+        if let Some(declared) = levels[i].seen_before(procedures, name) {
+            return Some(declared);
+        }
+    }
+    None
+}
+
+// What a name stands for in a scope that was closed, and then in those round it.
+fn seen_inside<'a>(levels: &'a [Level], closed: Closed<'a>, name: &[u8]) -> Option<&'a Declared>
+    ensures { (t : Table) (strings : List (List ℕ)) → option_map (λ d. entry_of t strings d.now) result
+        ≡ looked_up name.now (names_inside t strings levels.now (Some closed.entry)) }
+{
+    match closed.names.seen(name) {
+        Some(declared) => Some(declared),
+        None => seen_before(levels, closed.procedures, name),
+    }
+}
+
 impl<'a> Scope<'a> {
+    // What a name stands for here, unless it is predeclared.
+    fn seen(&self, name: &[u8]) -> Option<&Declared>
+        ensures { (t : Table) (strings : List (List ℕ)) → option_map (λ d. entry_of t strings d.now) result
+            ≡ looked_up name.now (names_inside t strings self.now.levels.now self.now.closed) }
+    {
+        match self.closed {
+            None => seen(self.levels, name),
+            Some(closed) => seen_inside(self.levels, closed, name),
+        }
+    }
+
     /// What a name stands for here, before it is judged.
     pub fn look_up(&self, name: &[u8]) -> Option<Declared>
         ensures { option_map (entry_of (table_of self.now) (strings_of self.now)) result ≡ looked_up name.now (world_of self.now).levels }
     {
-        look_up(self.levels, name).or_else(|| predeclared(name))
+        self.seen(name).copied().or_else(|| predeclared(name))
     }
 
     // Whether a variable is seen here.
@@ -111,7 +147,7 @@ impl<'a> Scope<'a> {
     // What a name stands for round all modules, as it is seen here.
     #[inline(never)]
     fn outermost(&self, i: u32) -> Result<Named, CheckFault>
-        ensures { Answers (IsNamed self.now) (found_as self.now.source.now (world_of self.now) i (names_before (spelled self.now.source.now i))) result }
+        ensures { Answers (IsNamed self.now) (found_as self.now.source.now (world_of self.now) i (names_round (spelled self.now.source.now i))) result }
     {
         match predeclared(self.source.spelled(i)) {
             None => Err(self.source.fault(30, i)),
@@ -123,7 +159,7 @@ impl<'a> Scope<'a> {
     pub fn named(&self, i: u32) -> Result<Named, CheckFault>
         ensures { Answers (IsNamed self.now) (judged_name self.now.source.now (world_of self.now) i) result }
     {
-        match seen(self.levels, self.source.spelled(i)) {
+        match self.seen(self.source.spelled(i)) {
             None => self.outermost(i),
             Some(declared) => self.known(i, declared),
         }

@@ -1,9 +1,11 @@
 //! What names may stand for, and where a construct is judged.
 
-ghost use Rattle.std.specs.Prelude.{◌≡◌};
+ghost use Rattle.std.specs.Prelude.{◌≡◌, ℕ, List, Some, option_map};
 ghost use Rattle.ob_types.specs.Table.{Table};
 ghost use Rattle.check_types.specs.TypeMeaning.{type_shape};
 ghost use Rattle.check_types.specs.names.Basics.{basic_shape};
+ghost use Rattle.check_types.specs.names.Before.{unless_behind};
+ghost use Rattle.check_types.specs.names.Meaning.{entry_of};
 
 use crate::names::levels::Level;
 use crate::steps::Source;
@@ -134,6 +136,25 @@ pub struct Declared {
     pub exported: bool,
 }
 
+impl Declared {
+    // This, unless it is a procedure behind so many.
+    #[inline(always)]
+    pub(crate) fn seen_before(&self, procedures: u32) -> Option<&Declared>
+        ensures { (t : Table) (strings : List (List ℕ)) → option_map (λ d. entry_of t strings d.now) result ≡ unless_behind procedures (Some (entry_of t strings self.now)) }
+    {
+        match self.named {
+            Named::Procedure { number, .. } => {
+                if procedures <= number {
+                    None
+                } else {
+                    Some(self)
+                }
+            }
+            _ => Some(self),
+        }
+    }
+}
+
 /// A module before this one: its name, and what its names stand for.
 #[derive(Drop)]
 pub struct KnownModule {
@@ -149,8 +170,16 @@ pub struct Narrowing {
     pub tag: u32,
 }
 
-/// Where a construct is judged. The innermost scope is the last, and so is the innermost narrowed variable; the
-/// predeclared names aren't among the scopes.
+/// A procedure's scope that was closed: its names, and how many procedures there were then, in all modules. Of the scopes
+/// round it, later procedures aren't seen.
+#[derive(Clone, Copy)]
+pub struct Closed<'a> {
+    pub names: &'a Level,
+    pub procedures: u32,
+}
+
+/// Where a construct is judged. The innermost scope is the last, unless one that was closed is innermost; the innermost
+/// narrowed variable is the last too. The predeclared names aren't among the scopes.
 #[derive(Drop)]
 pub struct Scope<'a> {
     pub source: &'a Source<'a>,
@@ -158,6 +187,7 @@ pub struct Scope<'a> {
     pub strings: &'a [Characters],
     pub modules: &'a [KnownModule],
     pub levels: &'a [Level],
+    pub closed: Option<Closed<'a>>,
     pub narrowed: &'a [Narrowing],
     pub module_number: u32,
     pub procedure: Option<u32>,
