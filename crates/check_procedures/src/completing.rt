@@ -47,26 +47,43 @@ pub fn end_name(round: &Surroundings, name: u32, end: u32) -> Result<(), CheckFa
     }
 }
 
-// A procedure from its heading, its variables and its statements.
-fn procedure_with(
+/// A procedure's statements, the expression behind RETURN, and the name behind END, judged in its scope.
+pub fn judged_body<'a>(
+    scope: &Scope<'a>,
+    round: &Surroundings,
+    outcome: TypeRef,
+    tree: &ProcedureTree,
+) -> Result<Numbered, CheckFault>
+    requires numbers { NumbersAll scope.now.types.now }
+    requires source { scope.now.source.now ≡ round.now.source.now }
+    ensures { (m : Making) (h : Listed × Shape) → world_of scope.now ≡ m.world → type_shape (table_in scope.now) outcome ≡ h.1
+        → Answers (IsBody round.now.source.now (plain_procedure tree.now) h m scope.now.types.now)
+        (judged_completed round.now.source.now (plain_procedure tree.now) h m) result }
+{
+    let body = body_of(scope, round.alloc, &tree.body)?;
+    let given = answer(scope, round.alloc, outcome, tree.end_word, &tree.returned)?;
+    end_name(round, tree.name.name, tree.end_name)?;
+    let numbered = renumbered(scope, round.alloc, body, given)?;
+    Ok(numbered)
+}
+
+/// A procedure from its line, its heading, the types of its variables and its body.
+pub fn procedure_with(
     state: &Declaring,
     round: &Surroundings,
     line: u32,
     heading: Heading,
+    locals: Items<u32>,
     numbered: Numbered,
-) -> Result<Procedure, CheckFault>
+) -> Procedure
     requires settled { IsSettled round.now state.now }
     requires formals { are_before (length state.now.types.table.entries.items) heading.listed.formals }
     requires outcome { IsNumbered state.now.types.table.entries.items heading.outcome }
-    ensures image { IfOk result (λ q. plain_judged state.now.types.table.types q ≡ image_of round.now state.now line heading numbered) }
-    ensures result_there { IfOk result (λ q. q.result < length state.now.types.table.entries.items) }
-    ensures stays { IfOk result (λ q. (u : TypeTable) → IsLater state.now.types.table u → IsStill state.now.types.table u numbered
-        → plain_judged u.types q ≡ plain_judged state.now.types.table.types q) }
-    ensures in_turn { IfOk result (λ q. UseInTurn numbered.texts numbered.body numbered.answer → UseInTurn q.texts q.body q.answer) }
-    ensures memory { IfErr result (λ e. e ≡ CheckFault.Memory) }
+    ensures { (q : OneProcedure) (h : Listed × Shape) (m : Making) (j : JudgedProcedure) → HasLine round.now line q → IsHeading state.now heading h
+        → HasLocals state.now.types.table locals m → IsCompleted round.now state.now.types.table q h m j
+        → IsBody round.now.source.now q h m state.now.types.table numbered j → StandsFor state.now.types.table result j }
 {
-    let locals = variable_numbers(state, round)?;
-    Ok(Procedure {
+    Procedure {
         module: round.module_number,
         line,
         is_body: false,
@@ -76,7 +93,7 @@ fn procedure_with(
         texts: numbered.texts,
         body: numbered.body,
         answer: numbered.answer,
-    })
+    }
 }
 
 /// What a procedure is, where its declarations have been judged.
@@ -95,17 +112,8 @@ pub fn completed(
         → Answers (StandsFor state.now.types.table) (judged_completed round.now.source.now (plain_procedure tree.now) h m) result }
 {
     let scope = state.scope(round);
-    let body = body_of(&scope, round.alloc, &tree.body)?;
-    let given = answer(
-        &scope,
-        round.alloc,
-        heading.outcome,
-        tree.end_word,
-        &tree.returned,
-    )?;
-    end_name(round, tree.name.name, tree.end_name)?;
-    let numbered = renumbered(&scope, round.alloc, body, given)?;
+    let numbered = judged_body(&scope, round, heading.outcome, tree)?;
+    let locals = variable_numbers(state, round)?;
     let line = line_at(round.source, lines, tree.name.name);
-    let done = procedure_with(state, round, line, heading, numbered)?;
-    Ok(done)
+    Ok(procedure_with(state, round, line, heading, locals, numbered))
 }
