@@ -55,7 +55,7 @@ use Rattle.check_making.specs.scopes.InTurn.{UseInTurn}
 use Rattle.check_making.specs.scopes.Numbers.{AreNumbersOf}
 use Rattle.check_making.proofs.scopes.ByNumber.{numbers_mean, numbers_still}
 use Rattle.check_making.proofs.scopes.Procedures.{number_means, number_still, begins_self}
-use Rattle.check_procedures.specs.Completing.{image_of, IsStill}
+use Rattle.check_procedures.specs.Completing.{judged_with, IsBody, HasLocals, HasLine, IsCompleted}
 use Rattle.check_procedures.proofs.Giving.{then_so, rule_stops}
 use Rattle.check_procedures.proofs.Texts.{texts_same}
 use Rattle.check_making.proofs.headings.Heads.{by_given as came}
@@ -88,9 +88,10 @@ module _ (t : TypeTable) (m line : ℕ) (formals : List Formal) (result : ℕ) (
       ≡ by_parts m line (map (plain_formal t.types) formals) (type_shape t.types of) (map (type_shape t.types) variables) n.texts (plain_body t.types n.texts n.body) (option_map (plain_checked t.types n.texts) n.answer)
   made_image = parts_same m m line line _ _ _ _ _ _ _ _ _ _ _ _ refl refl refl (number_means t result of entry) (numbers_mean t locals variables numbers) refl refl refl
 
-  pub made_still : (u : TypeTable) → Grows t u → are_before (length t.entries.items) formals → IsStill t u n → plain_procedure u.types made ≡ plain_procedure t.types made
-  made_still u g before still =
-      parts_same m m line line _ _ _ _ _ _ _ _ _ _ _ _ refl refl (formals_still t u g formals before) (number_still t u g result of entry) (numbers_still t u g locals variables numbers) refl still.body still.answer
+  pub made_still : (u : TypeTable) → Grows t u → are_before (length t.entries.items) formals → plain_body u.types n.texts n.body ≡ plain_body t.types n.texts n.body
+      → option_map (plain_checked u.types n.texts) n.answer ≡ option_map (plain_checked t.types n.texts) n.answer → plain_procedure u.types made ≡ plain_procedure t.types made
+  made_still u g before body answer =
+      parts_same m m line line _ _ _ _ _ _ _ _ _ _ _ _ refl refl (formals_still t u g formals before) (number_still t u g result of entry) (numbers_still t u g locals variables numbers) refl body answer
 
 -- ---- the judgement's
 
@@ -103,61 +104,28 @@ pub record IsRenumbered (t : TypeTable) (texts : List (List ℕ)) (body : List S
   pub answer_stays : (u : TypeTable) → Grows t u → length u.types.signatures ≤ 4294967295 → option_map (plain_checked u.types n.texts) n.answer ≡ option_map (plain_checked t.types n.texts) n.answer
   pub in_turn : UseInTurn n.texts n.body n.answer
 
-module _ (r : Surroundings) (s : Declaring) (c : SoFar) (m : Making) (makes : Makes r s m) (up : Upright c m) (q : OneProcedure) (h : Listed × Shape) (heading : Heading) (is : IsHeading s heading h) where
-  abbrev table : TypeTable
-  table = s.types.table
+-- ---- the body, part by part
 
-  -- what the judgement makes of these statements and this answer
-  abbrev pub judged : I.Statements → Option I.Checked → I.Procedure
-  judged b a = by_parts m.world.module_number (line r.source.now q.name.name) h.0.parameters h.1 m.variables (texts_of b a) b a
-
-  module _ (texts : List (List ℕ)) (body : List Stmt) (given : Option Checked) (n : Numbered) (renumbered : IsRenumbered table texts body given n) (b : I.Statements) (a : Option I.Checked)
-      (body_is : plain_body table.types texts body ≡ outlined_statements table.bases.items b) (answer_is : option_map (plain_checked table.types texts) given ≡ option_map (outlined_checked table.bases.items) a) where
-    image_is : (k : ℕ) → k ≡ line r.source.now q.name.name → image_of r s k heading n ≡ outlined_procedure table.bases.items (judged b a)
-    image_is k e = parts_same r.module_number m.world.module_number k (line r.source.now q.name.name) _ _ _ _ _ _ _ _ _ _ _ _
-        (sym (ap (λ (w : World). w.module_number) makes.world)) e (sym is.listed.parameters) is.result_is (sym makes.variables)
-        (renumbered.all ∙ ap₂ texts_of body_is answer_is ∙ texts_same table.bases.items b a) (renumbered.body_same ∙ body_is) (renumbered.answer_same ∙ answer_is)
-
-    pub finished_stands : (k : ℕ) → k ≡ line r.source.now q.name.name → (done : Procedure) → plain_procedure table.types done ≡ image_of r s k heading n → done.result < length table.entries.items
-        → ((u : TypeTable) → IsLater table u → IsStill table u n → plain_procedure u.types done ≡ plain_procedure table.types done)
-        → (UseInTurn n.texts n.body n.answer → UseInTurn done.texts done.body done.answer)
-        → completed r.source.now q h m ≡ Keeps (judged b a) → StandsFor table done (judged b a)
-    finished_stands k e done image result stays in_turn keeps = record {
-      bases = table.bases.items;
-      begins = begins_self table.bases.items;
-      image = image ∙ image_is k e;
-      same = subst (λ bs. (later : List (Option ℕ)) → Begins bs later → outlined_procedure later (judged b a) ≡ outlined_procedure bs (judged b a)) (ap (λ (w : World). w.known.bases) makes.world)
-          (λ later begins. procedure_outlined c r.source.now m up later begins q h (judged b a) keeps);
-      result_there = result;
-      stays = λ u later. stays u later (record { body = renumbered.body_stays u later.grows later.few; answer = renumbered.answer_stays u later.grows later.few });
-      in_turn = in_turn renumbered.in_turn;
-    }
-
--- ---- the answer, part by part
-
-module _ (r : Surroundings) (s : Declaring) (c : SoFar) (m : Making) (makes : Makes r s m) (up : Upright c m) (q : OneProcedure) (h : Listed × Shape) (heading : Heading) (is : IsHeading s heading h)
-    (scope : Scope) (source : scope.source.now ≡ r.source.now) (world : world_of scope ≡ world_in r s) (types : scope.types.now ≡ s.types.table) where
-  abbrev p : Source
-  p = r.source.now
-
+module _ (p : Source) (q : OneProcedure) (h : Listed × Shape) (m : Making) (scope : Scope) (outcome : TypeRef)
+    (source : scope.source.now ≡ p) (world : world_of scope ≡ m.world) (result_is : type_shape (table_in scope) outcome ≡ h.1) where
   abbrev BodyIs : Result (Vec Stmt Global) CheckFault → Type 0
   BodyIs result = Answers (AreStatements scope) (body_of scope.source.now (world_of scope) q.body) result
 
   abbrev AnswerIs : Result (Option Checked) CheckFault → Type 0
-  AnswerIs result = Answers (IsAnswer scope) (answer scope.source.now (type_shape (table_in scope) heading.outcome) q.end_word q.returned (world_of scope)) result
+  AnswerIs result = Answers (IsAnswer scope) (answer scope.source.now (type_shape (table_in scope) outcome) q.end_word q.returned (world_of scope)) result
 
   abbrev named : Judged (Unit {0})
   named = rule 37 (place p q.end_name) (bytes_eq (spelled p q.end_name) (spelled p q.name.name))
 
   body_here : {result : Result (Vec Stmt Global) CheckFault} → BodyIs result → Answers (AreStatements scope) (body_of p m.world q.body) result
   body_here {result = result} k =
-      subst (λ w. Answers (AreStatements scope) (body_of p w q.body) result) (world ∙ sym makes.world) (subst (λ z. Answers (AreStatements scope) (body_of z (world_of scope) q.body) result) source k)
+      subst (λ w. Answers (AreStatements scope) (body_of p w q.body) result) world (subst (λ z. Answers (AreStatements scope) (body_of z (world_of scope) q.body) result) source k)
 
   answer_here : {result : Result (Option Checked) CheckFault} → AnswerIs result → Answers (IsAnswer scope) (answer p h.1 q.end_word q.returned m.world) result
   answer_here {result = result} k =
-      subst (λ z. Answers (IsAnswer scope) (answer p z q.end_word q.returned m.world) result) (ap (λ (t : TypeTable). type_shape t.types heading.outcome) types ∙ is.result_is)
-      (subst (λ w. Answers (IsAnswer scope) (answer p (type_shape (table_in scope) heading.outcome) q.end_word q.returned w) result) (world ∙ sym makes.world)
-      (subst (λ z. Answers (IsAnswer scope) (answer z (type_shape (table_in scope) heading.outcome) q.end_word q.returned (world_of scope)) result) source k))
+      subst (λ z. Answers (IsAnswer scope) (answer p z q.end_word q.returned m.world) result) result_is
+      (subst (λ w. Answers (IsAnswer scope) (answer p (type_shape (table_in scope) outcome) q.end_word q.returned w) result) world
+      (subst (λ z. Answers (IsAnswer scope) (answer z (type_shape (table_in scope) outcome) q.end_word q.returned (world_of scope)) result) source k))
 
   pub no_body : {B : Type 0} {S : B → I.Procedure → Type 0} {e : CheckFault} → BodyIs (Err e) → Answers S (completed p q h m) (Err e)
   no_body k = stop _ _ (body_here k)
@@ -168,30 +136,62 @@ module _ (r : Surroundings) (s : Declaring) (c : SoFar) (m : Making) (makes : Ma
   pub no_name : {B : Type 0} {S : B → I.Procedure → Type 0} {e : CheckFault} {body : Vec Stmt Global} {given : Option Checked} → BodyIs (Ok body) → AnswerIs (Ok given) → Answers IsKept named (Err e) → Answers S (completed p q h m) (Err e)
   no_name {S = S} {e = e} j k l = then_so _ _ (body_here j) (λ b is_body body_is. then_so _ _ (answer_here k) (λ a is_answer answer_is. rule_stops named _ l))
 
-  module _ (body : Vec Stmt Global) (given : Option Checked) (n : Numbered) (renumbered : IsRenumbered scope.types.now (texts_in scope) body.items given n) where
-    pub is_finished : (k : ℕ) → k ≡ line p q.name.name → (done : Procedure) → plain_procedure s.types.table.types done ≡ image_of r s k heading n → done.result < length s.types.table.entries.items
-        → ((u : TypeTable) → IsLater s.types.table u → IsStill s.types.table u n → plain_procedure u.types done ≡ plain_procedure s.types.table.types done)
-        → (UseInTurn n.texts n.body n.answer → UseInTurn done.texts done.body done.answer)
-        → BodyIs (Ok body) → AnswerIs (Ok given) → Answers IsKept named (Ok tt) → Answers (StandsFor s.types.table) (completed p q h m) (Ok done)
-    is_finished k e done image result stays in_turn j l o =
-        came (body_of p m.world q.body) (body_here j) (λ b is_body body_is.
-        came (answer p h.1 q.end_word q.returned m.world) (answer_here l) (λ a is_answer answer_is.
-        came named o (λ u is_named kept.
-        let keeps = completed_keeps b a u is_body is_answer is_named in
-        as_judged keeps (record {
-          by = finished_stands r s c m makes up q h heading is (texts_in scope) body.items given n
-              (subst (λ z. IsRenumbered z (texts_in scope) body.items given n) types renumbered) b a
-              (subst (λ (z : TypeTable). plain_body z.types (texts_in scope) body.items ≡ outlined_statements z.bases.items b) types body_is)
-              (subst (λ (z : TypeTable). option_map (plain_checked z.types (texts_in scope)) given ≡ option_map (outlined_checked z.bases.items) a) types answer_is)
-              k e done image result stays in_turn keeps;
-        }))))
-      where
-        completed_keeps : (b : I.Statements) (a : Option I.Checked) (u : Unit {0}) → body_of p m.world q.body ≡ Keeps b → answer p h.1 q.end_word q.returned m.world ≡ Keeps a → named ≡ Keeps u
-            → completed p q h m ≡ Keeps (judged r s c m makes up q h heading is b a)
-        completed_keeps b a u e1 e2 e3 =
-            ap (λ (j : Judged I.Statements). j >>= λ y. answer p h.1 q.end_word q.returned m.world >>= λ x. named >> Keeps (judged r s c m makes up q h heading is y x)) e1
-            ∙ ap (λ (j : Judged (Option I.Checked)). j >>= λ x. named >> Keeps (judged r s c m makes up q h heading is b x)) e2
-            ∙ ap (λ (j : Judged (Unit {0})). j >> Keeps (judged r s c m makes up q h heading is b a)) e3
+  pub body_is_judged : (body : Vec Stmt Global) (given : Option Checked) (n : Numbered) → IsRenumbered scope.types.now (texts_in scope) body.items given n
+      → BodyIs (Ok body) → AnswerIs (Ok given) → Answers IsKept named (Ok tt) → Answers (IsBody p q h m scope.types.now) (completed p q h m) (Ok n)
+  body_is_judged body given n renumbered j l o =
+      came (body_of p m.world q.body) (body_here j) (λ b is_body body_is.
+      came (answer p h.1 q.end_word q.returned m.world) (answer_here l) (λ a is_answer answer_is.
+      came named o (λ u is_named kept.
+      as_judged (completed_keeps b a u is_body is_answer is_named) (record {
+        by = record {
+          statements = b;
+          value = a;
+          same = refl;
+          texts = renumbered.all ∙ ap₂ texts_of body_is answer_is ∙ texts_same scope.types.now.bases.items b a;
+          body = renumbered.body_same ∙ body_is;
+          answer = renumbered.answer_same ∙ answer_is;
+          body_stays = λ u later. renumbered.body_stays u later.grows later.few;
+          answer_stays = λ u later. renumbered.answer_stays u later.grows later.few;
+          in_turn = renumbered.in_turn;
+        };
+      }))))
+    where
+      completed_keeps : (b : I.Statements) (a : Option I.Checked) (u : Unit {0}) → body_of p m.world q.body ≡ Keeps b → answer p h.1 q.end_word q.returned m.world ≡ Keeps a → named ≡ Keeps u
+          → completed p q h m ≡ Keeps (judged_with p q h m b a)
+      completed_keeps b a u e1 e2 e3 =
+          ap (λ (j : Judged I.Statements). j >>= λ y. answer p h.1 q.end_word q.returned m.world >>= λ x. named >> Keeps (judged_with p q h m y x)) e1
+          ∙ ap (λ (j : Judged (Option I.Checked)). j >>= λ x. named >> Keeps (judged_with p q h m b x)) e2
+          ∙ ap (λ (j : Judged (Unit {0})). j >> Keeps (judged_with p q h m b a)) e3
+
+-- ---- a procedure from its parts
+
+module _ (r : Surroundings) (s : Declaring) (q : OneProcedure) (h : Listed × Shape) (m : Making) (j : I.Procedure) (line_number : ℕ) (heading : Heading) (result : ℕ) (locals : List ℕ) (n : Numbered)
+    (line_is : HasLine r line_number q) (is : IsHeading s heading h) (has : HasLocals s.types.table locals m) (ended : IsCompleted r s.types.table q h m j) (body : IsBody r.source.now q h m s.types.table n j)
+    (before : are_before (length s.types.table.entries.items) heading.listed.formals) (entry : slice_get s.types.table.entries.items result ≡ Some heading.outcome) where
+  abbrev table : TypeTable
+  table = s.types.table
+
+  abbrev pub whole : Procedure
+  whole = record { «module» = r.module_number; line = line_number; is_body = false; formals = heading.listed.formals; result = result; locals = locals; texts = n.texts; body = n.body; answer = n.answer }
+
+  image_is : plain_procedure table.types whole ≡ outlined_procedure table.bases.items (judged_with r.source.now q h m body.statements body.value)
+  image_is =
+      made_image table r.module_number line_number heading.listed.formals result heading.outcome locals has.types n entry has.numbers
+      ∙ parts_same r.module_number m.world.module_number line_number (line r.source.now q.name.name) _ _ _ _ _ _ _ _ _ _ _ _
+          (sym ended.number) line_is.is (sym is.listed.parameters) is.result_is (sym has.variables) body.texts body.body body.answer
+
+  pub procedure_stands : StandsFor table whole j
+  procedure_stands = record {
+    bases = table.bases.items;
+    begins = begins_self table.bases.items;
+    image = image_is ∙ ap (outlined_procedure table.bases.items) (sym body.same);
+    same = λ later begins.
+        procedure_outlined ended.so_far r.source.now m ended.upright later (begins_on ended.begins begins) q h j ended.keeps
+        ∙ sym (procedure_outlined ended.so_far r.source.now m ended.upright table.bases.items ended.begins q h j ended.keeps);
+    result_there = slice_get_within table.entries.items result heading.outcome entry;
+    stays = λ u later. made_still table r.module_number line_number heading.listed.formals result heading.outcome locals has.types n entry has.numbers u later.grows before (body.body_stays u later) (body.answer_stays u later);
+    in_turn = body.in_turn;
+  }
 
 -- ---- a table that is built numbers all its types
 

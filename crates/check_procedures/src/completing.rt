@@ -1,28 +1,29 @@
 //! What completes a procedure: its body, RETURN and the name behind END (Oberon-07 report, section 10).
 
-ghost use Rattle.std.specs.Prelude.{◌≡◌, ◌<◌, ◌≤◌, ℕ, List, Option, length, map, option_map, IfOk, IfErr, Ok};
+ghost use Rattle.std.specs.Prelude.{◌≡◌, length};
 ghost use Rattle.std.specs.Str.{bytes_eq};
+ghost use Rattle.ob_judge.specs.Image.{Procedure as JudgedProcedure};
 ghost use Rattle.ob_judge.specs.Judged.{rule};
 ghost use Rattle.ob_judge.specs.Making.{Making};
 ghost use Rattle.ob_judge.specs.Modules.{SoFar};
 ghost use Rattle.ob_judge.specs.Parameters.{Listed};
-ghost use Rattle.ob_judge.specs.Scopes.{place, spelled, line};
+ghost use Rattle.ob_judge.specs.Scopes.{place, spelled};
 ghost use Rattle.ob_judge.specs.Shapes.{Shape};
-ghost use Rattle.judged_tree.specs.Plain.{plain_body, plain_checked, plain_procedure as plain_judged};
 ghost use Rattle.judged_tree.specs.Tables.{are_before};
 ghost use Rattle.judged_outlines.specs.Upright.{Upright};
-ghost use Rattle.judged_modules.specs.steps.Procedures.{plain_procedure};
+ghost use Rattle.judged_modules.specs.steps.Procedures.{OneProcedure, plain_procedure};
 ghost use Rattle.judged_modules.specs.steps.Steps.{completed as judged_completed};
 ghost use Rattle.check_procedures.specs.lines.Lines.{IsLineTable};
 ghost use Rattle.table_builder.specs.Entries.{IsNumbered};
+ghost use Rattle.check_types.specs.TypeMeaning.{type_shape};
 ghost use Rattle.check_types.specs.steps.Answers.{Answers};
-ghost use Rattle.check_types.specs.declared.table.TypeTable.{TypeTable};
+ghost use Rattle.check_types.specs.names.Worlds.{world_of, table_of as table_in};
 ghost use Rattle.check_selectors.specs.standard.Made.{IsKept};
 ghost use Rattle.check_making.specs.Making.{Makes, IsSettled};
 ghost use Rattle.check_making.specs.parameters.Headings.{IsHeading};
-ghost use Rattle.check_making.specs.scopes.Building.{IsLater, StandsFor};
-ghost use Rattle.check_making.specs.scopes.InTurn.{UseInTurn};
-ghost use Rattle.check_procedures.specs.Completing.{image_of, IsStill};
+ghost use Rattle.check_making.specs.scopes.Building.{StandsFor};
+ghost use Rattle.check_procedures.specs.numbers.Numbering.{NumbersAll};
+ghost use Rattle.check_procedures.specs.Completing.{HasLine, HasLocals, IsBody, IsCompleted};
 
 use crate::lines::line_at;
 use crate::numbers::{Numbered, renumbered};
@@ -31,7 +32,10 @@ use check_making::scopes::variable_numbers;
 use check_making::{Declaring, Surroundings};
 use check_statements::assignments::answer;
 use check_statements::body_of;
+use check_types::TypeRef;
+use check_types::names::Scope;
 use check_types::steps::CheckFault;
+use items::Items;
 use ob_syntax::declarations::Procedure as ProcedureTree;
 use ob_types::Procedure;
 
