@@ -1,1 +1,5 @@
 pub mod Waits
+pub mod Beside
+pub mod BesideTypes
+pub mod Lists
+pub mod Alike
