@@ -3,3 +3,5 @@ pub mod Beside
 pub mod BesideTypes
 pub mod Lists
 pub mod Alike
+pub mod Frames
+pub mod PutOff
