@@ -5,3 +5,4 @@ pub mod Lists
 pub mod Alike
 pub mod Frames
 pub mod PutOff
+pub mod Walked
