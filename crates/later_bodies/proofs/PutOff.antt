@@ -72,4 +72,4 @@ module _ (p : Source) (q : OneProcedure) where
         let first = stand_beside p s ys (q.name.name ∷ []) r.1 one.1 in
         let second = heading_beside p (entered (length r.1.procedures) (numbered r.1)) more (length r.1.procedures) q.name q.formals (is_some r.1.world.procedure) h.0 h.1 two.1 in
         let third = decls_beside p h.1 more (one_more h.1.procedures (second.procedures ∙ ap (λ l. l ++ no_procedure ∷ []) first.procedures)) q.decls d.1 three.1 in
-        subst (PutOffBeside p q s ys) (kept_same (waits (length r.1.procedures) (numbered r.1) h.0 d.1) w three.2) (put r h d first second third)
+        subst (PutOffBeside p q s ys) {x = waits (length r.1.procedures) (numbered r.1) h.0 d.1} (kept_same (waits (length r.1.procedures) (numbered r.1) h.0 d.1) w three.2) (put r h d first second third)

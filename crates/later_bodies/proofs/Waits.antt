@@ -11,15 +11,12 @@ use Rattle.judged_modules.specs.steps.Procedures.{OneProcedure}
 use Rattle.judged_modules.specs.steps.Steps.{completed, completes, inside, procedure_part}
 use Rattle.judged_modules.specs.steps.Frames.{entered, left}
 use Rattle.judged_modules.proofs.steps.Laws.{then_then, then_same}
-use Rattle.later_bodies.specs.Waiting.{Waiting, put_off}
+use Rattle.later_bodies.specs.Waiting.{Waiting}
+use Rattle.later_bodies.specs.Ended.{ended, put_off_and_ended}
 
 module _ (p : Source) (q : OneProcedure) where
   abbrev waits : (f : ℕ) → Making → (Listed × Shape) → Making → Waiting
   waits f u h t = record { outer = u; number = f; heading = h; inner = t }
-
-  -- its body, and its scope is closed
-  abbrev ended : Waiting → Judged (Unit {0} × Making)
-  ended w = completed p q w.heading w.inner >>= λ j. Keeps (tt, left w.outer (record w.inner { procedures = slice_set w.inner.procedures w.number j }))
 
   abbrev closed : Making → Unit {0} × Making → Judged (Unit {0} × Making)
   closed u z = Keeps (z.0, left u z.1)
@@ -28,19 +25,18 @@ module _ (p : Source) (q : OneProcedure) where
   head f u = heading p f q.name q.formals (is_some u.world.procedure) (entered f u)
 
   scope_is : (f : ℕ) (u : Making) → within_procedure f (inside p f (is_some u.world.procedure) q) u
-      ≡ ((head f u >>= λ h. decls_part p q.decls h.1 >>= λ d. Keeps (waits f u h.0 d.1)) >>= ended)
+      ≡ ((head f u >>= λ h. decls_part p q.decls h.1 >>= λ d. Keeps (waits f u h.0 d.1)) >>= ended p q)
   scope_is f u =
       then_then (head f u) (λ h. decls_part p q.decls h.1 >>= λ d. completes p f q h.0 d.1) (closed u)
       ∙ then_same (head f u) _ _ (λ h. then_then (decls_part p q.decls h.1) (λ d. completes p f q h.0 d.1) (closed u)
       ∙ then_same (decls_part p q.decls h.1) _ _ (λ d. then_then (completed p q h.0 d.1) (λ j. Keeps (tt, record d.1 { procedures = slice_set d.1.procedures f j })) (closed u)))
-      ∙ sym (then_then (head f u) (λ h. decls_part p q.decls h.1 >>= λ d. Keeps (waits f u h.0 d.1)) ended
-      ∙ then_same (head f u) _ _ (λ h. then_then (decls_part p q.decls h.1) (λ d. Keeps (waits f u h.0 d.1)) ended))
+      ∙ sym (then_then (head f u) (λ h. decls_part p q.decls h.1 >>= λ d. Keeps (waits f u h.0 d.1)) (ended p q)
+      ∙ then_same (head f u) _ _ (λ h. then_then (decls_part p q.decls h.1) (λ d. Keeps (waits f u h.0 d.1)) (ended p q)))
 
   abbrev numbered : Making → Making
   numbered t = record t { procedures = t.procedures ++ no_procedure ∷ [] }
 
-  pub put_off_is : (s : Making) → procedure_part p q s
-      ≡ (put_off p q s >>= λ w. completed p q w.heading w.inner >>= λ j. Keeps (tt, left w.outer (record w.inner { procedures = slice_set w.inner.procedures w.number j })))
+  pub put_off_is : (s : Making) → procedure_part p q s ≡ put_off_and_ended p q s
   put_off_is s =
       then_same (stand p (q.name.name ∷ []) s) _ _ (λ r. scope_is (length r.1.procedures) (numbered r.1))
-      ∙ sym (then_then (stand p (q.name.name ∷ []) s) (λ r. head (length r.1.procedures) (numbered r.1) >>= λ h. decls_part p q.decls h.1 >>= λ d. Keeps (waits (length r.1.procedures) (numbered r.1) h.0 d.1)) ended)
+      ∙ sym (then_then (stand p (q.name.name ∷ []) s) (λ r. head (length r.1.procedures) (numbered r.1) >>= λ h. decls_part p q.decls h.1 >>= λ d. Keeps (waits (length r.1.procedures) (numbered r.1) h.0 d.1)) (ended p q))

@@ -13,6 +13,7 @@ use Rattle.judged_modules.specs.steps.Steps.{completed, procedure_part}
 use Rattle.judged_modules.specs.steps.Frames.{left}
 use Rattle.judged_modules.proofs.steps.Laws.{then_then, then_same, procedures_law}
 use Rattle.later_bodies.specs.Waiting.{Waiting, with_procedures, put_off, put_aside, Came, filled}
+use Rattle.later_bodies.specs.Ended.{ended}
 use Rattle.later_bodies.specs.Beside.{waiting_beside, PutOffBeside}
 use Rattle.later_bodies.specs.Walked.{CameTo, AllCameTo, AllBelow, PutSoFar, one_by_one}
 use Rattle.later_bodies.proofs.Lists.{set_before}
@@ -65,6 +66,13 @@ last_came p (v ∷ ws) w (x ∷ xs) came =
     let h = last_came p ws w xs came.1 in
     record { before = x ∷ h.before; last = h.last; are = ap (λ l. x ∷ l) h.are; all = (came.0, h.all); came = h.came }
 
+-- one more came to something
+pub came_next : (p : Source) (ws : List (OneProcedure × Waiting)) (xs : List Came) (w : OneProcedure × Waiting) (x : Came) → AllCameTo p ws xs → CameTo p w x → AllCameTo p (ws ++ w ∷ []) (xs ++ x ∷ [])
+came_next p [] [] w x came last = (last, tt)
+came_next p [] (y ∷ xs) w x came last = absurd came
+came_next p (v ∷ ws) [] w x came last = absurd came
+came_next p (v ∷ ws) (y ∷ xs) w x came last = (came.0, came_next p ws xs w x came.1 last)
+
 -- ---- one more that is judged
 
 then_that : {A : Type 0} (m : Judged A) → (m >>= λ a. Keeps a) ≡ m
@@ -86,9 +94,6 @@ module _ (p : Source) where
       by (x ∷ xs) came = absurd came
 
   module _ (q : OneProcedure) where
-    abbrev ended : Waiting → Judged (Unit {0} × Making)
-    ended w = completed p q w.heading w.inner >>= λ j. Keeps (tt, left w.outer (record w.inner { procedures = slice_set w.inner.procedures w.number j }))
-
     -- what a procedure that waits comes to, where others were filled in before
     put_ends : (s : Making) (ws : List (OneProcedure × Waiting)) (w : Waiting) (vs : List Came) (x : Came) → AllBelow (length s.procedures) ws → AllCameTo p ws vs → CameTo p (q, w) x
         → PutOffBeside p q s (filled s.procedures vs) w → procedure_part p q (with_procedures (filled s.procedures vs) s) ≡ Keeps (tt, with_procedures (filled w.inner.procedures (vs ++ x ∷ [])) (put_aside w))
@@ -96,7 +101,7 @@ module _ (p : Source) where
         let ys = filled s.procedures vs in
         let zs = ys ++ no_procedure ∷ b.added in
         put_off_is p q (with_procedures ys s)
-        ∙ ap (λ (m : Judged Waiting). m >>= ended) b.alike
+        ∙ ap (λ (m : Judged Waiting). m >>= ended p q) b.alike
         ∙ ap (λ (m : Judged Procedure). m >>= λ j. Keeps (tt, with_procedures (slice_set zs w.number j) (put_aside w))) ends.judged
         ∙ ap (λ l. Keeps (tt, with_procedures l (put_aside w)))
         (ap (λ n. slice_set zs n x.procedure) (sym ends.number)
@@ -133,3 +138,8 @@ module _ (p : Source) where
   pub all_procedures : (ds : List ProcedureDecl) (s : Making) → procedures_part p (plain_each_procedure ds) s ≡ each (procedure_part p) (one_by_one ds) s
   all_procedures [] s = refl
   all_procedures (ProcedureDecl' q semicolon ∷ rest) s = procedures_law p (plain_procedure q) semicolon (plain_each_procedure rest) s ∙ then_same (procedure_part p (plain_procedure q) s) _ _ (λ r. all_procedures rest r.1)
+
+  -- all that waited came to something, and so the procedures are judged
+  pub all_filled : (ds : List ProcedureDecl) (first s : Making) (ws : List (OneProcedure × Waiting)) (xs : List Came) → PutSoFar p first (one_by_one ds) ws s → AllCameTo p ws xs
+      → procedures_part p (plain_each_procedure ds) first ≡ Keeps (tt, with_procedures (filled s.procedures xs) s)
+  all_filled ds first s ws xs so_far came = all_procedures ds first ∙ so_far.judged xs came
