@@ -1,5 +1,5 @@
 -- Declarations are judged alike where other procedures were judged before, as many of them.
-use Rattle.std.proofs.Common.{◌≡◌, ℕ, ◌+◌, List, [], ◌∷◌, ◌++◌, length, Bool, refl, sym, subst, ap, ◌∙◌}
+use Rattle.std.proofs.Common.{◌≡◌, ℕ, ◌+◌, List, [], ◌∷◌, ◌++◌, length, Bool, sym, subst, ap, ◌∙◌}
 use Rattle.std.specs.Prelude.{is_some, slice_set}
 use Rattle.ob_syntax.specs.Syntax as S
 use Rattle.ob_judge.specs.Judged.{Judged, Keeps, Breaks, ◌>>=◌}
@@ -7,7 +7,7 @@ use Rattle.ob_judge.specs.Image.{Procedure}
 use Rattle.ob_judge.specs.Scopes.{Source}
 use Rattle.ob_judge.specs.Making.{Making, no_procedure, within_procedure}
 use Rattle.ob_judge.specs.Parameters.{stand}
-use Rattle.ob_judge.specs.Declarations.{each, const_part, types_part, var_part, consts_in, types_in, vars_in, heading, decls_part, procedures_part}
+use Rattle.ob_judge.specs.Declarations.{consts_in, types_in, vars_in, heading, decls_part, procedures_part}
 use Rattle.judged_well.specs.Gives.{Gives}
 use Rattle.judged_well.proofs.Judging.{weaken}
 use Rattle.judged_modules.proofs.Lists.{append_length}
@@ -90,18 +90,24 @@ module _ (xs ys : List Procedure) where
     a_inside k q is_local decls zs s = behind _ _ (a_heading (length xs + k) q is_local zs s) (λ h vs t. behind _ _ (decls vs t) (λ d us u.
         look (completed p q h u) (λ j. a_set k us j u)))
 
-    -- with its number
+    -- a procedure in its own scope, with its number
+    abbrev scoped : (f : ℕ) → OneProcedure → Making → List Procedure → Judged (Unit {0} × Making)
+    scoped f q s vs = within_procedure f (inside p f (is_some s.world.procedure) q) (with_procedures vs s)
+
     a_scope : (f g : ℕ) (vs ws : List Procedure) (q : OneProcedure) → DeclsAlike q.decls → (zs : List Procedure) (s : Making)
         → f ≡ length xs + length zs → g ≡ length xs + length zs → vs ≡ xs ++ (zs ++ no_procedure ∷ []) → ws ≡ ys ++ (zs ++ no_procedure ∷ [])
-        → Alike xs ys (within_procedure f (inside p f (is_some s.world.procedure) q) (with_procedures vs s)) (within_procedure g (inside p g (is_some s.world.procedure) q) (with_procedures ws s))
+        → Alike xs ys (scoped f q s vs) (scoped g q s ws)
     a_scope f g vs ws q decls zs s ef eg ea eb =
-        subst (λ n. Alike xs ys (within_procedure n (inside p n (is_some s.world.procedure) q) (with_procedures vs s)) (within_procedure g (inside p g (is_some s.world.procedure) q) (with_procedures ws s))) (sym ef)
-        (subst (λ n. Alike xs ys (within_procedure (length xs + length zs) (inside p (length xs + length zs) (is_some s.world.procedure) q) (with_procedures vs s)) (within_procedure n (inside p n (is_some s.world.procedure) q) (with_procedures ws s))) (sym eg)
-        (subst (λ l. Alike xs ys (within_procedure (length xs + length zs) (inside p (length xs + length zs) (is_some s.world.procedure) q) (with_procedures l s)) (within_procedure (length xs + length zs) (inside p (length xs + length zs) (is_some s.world.procedure) q) (with_procedures ws s))) (sym ea)
-        (subst (λ l. Alike xs ys (within_procedure (length xs + length zs) (inside p (length xs + length zs) (is_some s.world.procedure) q) (with_procedures (xs ++ (zs ++ no_procedure ∷ [])) s)) (within_procedure (length xs + length zs) (inside p (length xs + length zs) (is_some s.world.procedure) q) (with_procedures l s))) (sym eb)
-        (behind _ _ (a_inside (length zs) q (is_some s.world.procedure) decls (zs ++ no_procedure ∷ []) (entered (length xs + length zs) s)) (λ u vs t. a_gives u vs (left s t))))))
+        let n = length xs + length zs in
+        let more = zs ++ no_procedure ∷ [] in
+        subst (λ k. Alike xs ys (scoped k q s vs) (scoped g q s ws)) (sym ef)
+        (subst (λ k. Alike xs ys (scoped n q s vs) (scoped k q s ws)) (sym eg)
+        (subst (λ l. Alike xs ys (scoped n q s l) (scoped n q s ws)) (sym ea)
+        (subst (λ l. Alike xs ys (scoped n q s (xs ++ more)) (scoped n q s l)) (sym eb)
+        (behind _ _ (a_inside (length zs) q (is_some s.world.procedure) decls more (entered n s)) (λ u vs t. a_gives u vs (left s t))))))
 
-    pub a_procedure : (q : OneProcedure) → DeclsAlike q.decls → (zs : List Procedure) (s : Making) → Alike xs ys (procedure_part p q (with_procedures (xs ++ zs) s)) (procedure_part p q (with_procedures (ys ++ zs) s))
+    pub a_procedure : (q : OneProcedure) → DeclsAlike q.decls → (zs : List Procedure) (s : Making)
+        → Alike xs ys (procedure_part p q (with_procedures (xs ++ zs) s)) (procedure_part p q (with_procedures (ys ++ zs) s))
     a_procedure q decls zs s = behind _ _ (a_stand p (q.name.name ∷ []) zs s) (λ u vs t.
         a_scope (length (xs ++ vs)) (length (ys ++ vs)) ((xs ++ vs) ++ no_procedure ∷ []) ((ys ++ vs) ++ no_procedure ∷ []) q decls vs t
         (append_length xs vs) (as_many vs ∙ append_length xs vs) (append_append xs vs (no_procedure ∷ [])) (append_append ys vs (no_procedure ∷ [])))

@@ -1,10 +1,10 @@
 -- Types and variables don't read the procedures.
-use Rattle.std.proofs.Common.{◌≡◌, ℕ, ◌+◌, List, [], ◌∷◌, ◌++◌, length, true, false, Option, Some, None, refl, sym, ap, ◌∙◌}
+use Rattle.std.proofs.Common.{ℕ, ◌+◌, List, [], ◌∷◌, ◌++◌, length, true, false, Option, Some, None, sym, ap, ◌∙◌}
 use Rattle.std.specs.Prelude.{is_none, nat_le, slice_set}
 use Rattle.ob_syntax.specs.Syntax as S
 use Rattle.ob_syntax.specs.declared.names.Identdef.{Identdef}
 use Rattle.ob_types.specs.Trees.{rounded_extent}
-use Rattle.ob_judge.specs.Judged.{Judged, Keeps, Breaks, ◌>>=◌, rule, some}
+use Rattle.ob_judge.specs.Judged.{Judged, Keeps, ◌>>=◌, rule, some}
 use Rattle.ob_judge.specs.Shapes.{Shape, Record, Pointer, Layout}
 use Rattle.ob_judge.specs.Shapes.{Procedure as ProcedureOf}
 use Rattle.ob_judge.specs.Image.{Procedure}
@@ -14,7 +14,7 @@ use Rattle.ob_judge.specs.Making.{Making, Part, ◌>>>◌, here, last_names, wit
 use Rattle.ob_judge.specs.Parameters.{type_at, formal_part, idents_list, symbols_of}
 use Rattle.ob_judge.specs.Types.{limit, array_length, array_lengths, arrays, base_layout, record_only, record_object, stand_fields, add_fields, among_fields, forward_name, type_part, fields_part, more_part, place_of_type}
 use Rattle.ob_judge.specs.Declarations.{each, type_decl_part, forward_base, types_part, variable_part, var_part, home_here, place_here}
-use Rattle.judged_modules.proofs.steps.Laws.{then_then, then_same}
+use Rattle.judged_modules.proofs.steps.Laws.{then_then}
 use Rattle.later_bodies.specs.Waiting.{with_procedures}
 use Rattle.later_bodies.proofs.Beside.{Beside, b_keeps, b_look, b_next, b_stand, b_declared, b_formals}
 

@@ -1,27 +1,24 @@
 -- Parts of declarations don't read the procedures but for how many there are.
-use Rattle.std.proofs.Common.{◌≡◌, ℕ, List, [], ◌∷◌, ◌++◌, length, Bool, Option, refl, sym, subst, ap, ◌∙◌}
-use Rattle.std.specs.Prelude.{is_some}
+use Rattle.std.proofs.Common.{◌≡◌, ℕ, List, [], ◌∷◌, ◌++◌, length, Bool, Option, refl, subst, ap, ◌∙◌}
 use Rattle.ob_syntax.specs.Syntax as S
 use Rattle.ob_syntax.specs.declared.names.Identdef.{Identdef}
 use Rattle.ob_judge.specs.Judged.{Judged, Keeps, Breaks, ◌>>=◌}
 use Rattle.ob_judge.specs.Shapes.{Shape}
 use Rattle.ob_judge.specs.Image.{Procedure}
 use Rattle.ob_judge.specs.Scopes.{Source}
-use Rattle.ob_judge.specs.Making.{Making, Part, no_procedure}
+use Rattle.ob_judge.specs.Making.{Making, Part}
 use Rattle.ob_judge.specs.Parameters.{Listed, stand}
 use Rattle.ob_judge.specs.Declarations.{each, const_part, types_part, var_part, heading, decls_part, procedures_part}
 use Rattle.judged_well.specs.Gives.{Gives}
 use Rattle.judged_well.proofs.Judging.{weaken}
-use Rattle.judged_modules.proofs.Growing.{kept_same, broken, bound}
 use Rattle.judged_modules.proofs.Keeping.{given}
 use Rattle.judged_modules.specs.steps.Procedures.{OneProcedure}
 use Rattle.judged_modules.specs.steps.Steps.{procedure_part}
-use Rattle.judged_modules.specs.steps.Frames.{entered}
 use Rattle.judged_modules.proofs.steps.Frame.{h_stand, h_const, h_consts, h_heading}
 use Rattle.judged_modules.proofs.steps.FrameTypes.{k_types, k_vars}
-use Rattle.later_bodies.specs.Waiting.{Waiting, with_procedures, put_off}
-use Rattle.later_bodies.specs.Beside.{SameBeside, AddedBeside, PutOffBeside}
-use Rattle.later_bodies.proofs.Lists.{append_append, append_nothing}
+use Rattle.later_bodies.specs.Waiting.{with_procedures}
+use Rattle.later_bodies.specs.Beside.{SameBeside, AddedBeside}
+use Rattle.later_bodies.proofs.Lists.{append_nothing}
 use Rattle.later_bodies.proofs.Beside.{Beside, b_stand, b_const, b_consts, b_heading}
 use Rattle.later_bodies.proofs.BesideTypes.{b_types, b_var, b_vars}
 use Rattle.later_bodies.proofs.Alike.{Alike, Both, goes_on, ends, a_procedure, a_decls, a_procedures}

@@ -9,12 +9,11 @@ use Rattle.ob_judge.specs.Making.{Making, Part, no_procedure}
 use Rattle.ob_judge.specs.Declarations.{each, procedures_part}
 use Rattle.judged_modules.proofs.Lists.{append_length, set_length}
 use Rattle.judged_modules.specs.steps.Procedures.{OneProcedure, plain_procedure, plain_each_procedure}
-use Rattle.judged_modules.specs.steps.Steps.{completed, procedure_part}
-use Rattle.judged_modules.specs.steps.Frames.{left}
+use Rattle.judged_modules.specs.steps.Steps.{procedure_part}
 use Rattle.judged_modules.proofs.steps.Laws.{then_then, then_same, procedures_law}
 use Rattle.later_bodies.specs.Waiting.{Waiting, with_procedures, put_off, put_aside, Came, filled}
 use Rattle.later_bodies.specs.Ended.{ended}
-use Rattle.later_bodies.specs.Beside.{waiting_beside, PutOffBeside}
+use Rattle.later_bodies.specs.Beside.{PutOffBeside}
 use Rattle.later_bodies.specs.Walked.{CameTo, AllCameTo, AllBelow, PutSoFar, one_by_one}
 use Rattle.later_bodies.proofs.Lists.{set_before}
 use Rattle.later_bodies.proofs.Waits.{put_off_is}

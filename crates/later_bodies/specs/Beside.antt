@@ -1,5 +1,5 @@
 -- What is judged where other procedures were judged before.
-use Rattle.std.specs.Prelude.{◌≡◌, ℕ, List, [], ◌∷◌, ◌++◌, length}
+use Rattle.std.specs.Prelude.{◌≡◌, List, [], ◌∷◌, ◌++◌, length}
 use Rattle.ob_judge.specs.Judged.{Keeps}
 use Rattle.ob_judge.specs.Image.{Procedure}
 use Rattle.ob_judge.specs.Scopes.{Source}
