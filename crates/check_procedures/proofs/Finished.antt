@@ -3,6 +3,7 @@ use Rattle.std.proofs.Common.{◌≡◌, ◌<◌, ◌≤◌, ℕ, List, [], ◌�
 use Rattle.std.specs.Prelude.{option_map, slice_get, Vec}
 use Rattle.std.specs.Global.{Global}
 use Rattle.std.specs.Str.{bytes_eq}
+use Rattle.std.proofs.lemmas.Option.{slice_get_within}
 use Rattle.ob_types.specs.declared.types.Formal.{Formal}
 use Rattle.ob_types.specs.declared.program.Procedure.{Procedure}
 use Rattle.ob_types.specs.declared.statements.Stmt.{Stmt}
@@ -164,6 +165,15 @@ module _ (p : Source) (q : OneProcedure) (h : Listed × Shape) (m : Making) (sco
           ∙ ap (λ (j : Judged (Unit {0})). j >> Keeps (judged_with p q h m b a)) e3
 
 -- ---- a procedure from its parts
+
+begins_on : {a b c : List (Option ℕ)} → Begins a b → Begins b c → Begins a c
+begins_on {a = a} {b = b} {c = c} g h = record { long = shorter g.long h.long; same = λ n l. h.same n (within l g.long) ∙ g.same n l }
+  where
+    shorter : {i k n : ℕ} → i ≤ k → k ≤ n → i ≤ n
+    shorter e f = omega (arith, e, f)
+
+    within : {i k n : ℕ} → n < i → i ≤ k → n < k
+    within e f = omega (arith, e, f)
 
 module _ (r : Surroundings) (s : Declaring) (q : OneProcedure) (h : Listed × Shape) (m : Making) (j : I.Procedure) (line_number : ℕ) (heading : Heading) (result : ℕ) (locals : List ℕ) (n : Numbered)
     (line_is : HasLine r line_number q) (is : IsHeading s heading h) (has : HasLocals s.types.table locals m) (ended : IsCompleted r s.types.table q h m j) (body : IsBody r.source.now q h m s.types.table n j)

@@ -1,5 +1,5 @@
 -- In the world of a scope a constant expression is a string, or of the type of a constant that is none.
-use Rattle.std.proofs.Common.{◌≡◌, ℕ, zero, suc, List, [], ◌∷◌, map, Bool, true, false, not, ◌&&◌, ◌||◌, Option, Some, None, option_map, refl, sym, ap, ◌∙◌, subst}
+use Rattle.std.proofs.Common.{◌≡◌, ℕ, zero, suc, List, [], ◌∷◌, ◌++◌, map, Bool, true, false, not, ◌&&◌, ◌||◌, Option, Some, None, option_map, refl, sym, ap, ◌∙◌, subst}
 use Rattle.std.specs.Prelude.{is_some, if◌then◌else◌, slice_get}
 use Rattle.std.specs.Str.{bytes_eq}
 use Rattle.ob_types.proofs.Tests.{no, none_some, some_same}
@@ -39,10 +39,12 @@ use Rattle.check_types.specs.declared.names.scope.Named.TheVariants as TheNamed
 use Rattle.check_types.specs.declared.names.scope.Constant.TheVariants as TheConstant
 use Rattle.check_types.specs.declared.names.scope.Basic.TheVariants as TheBasic
 use Rattle.check_types.specs.declared.names.scope.Declared.{Declared}
+use Rattle.check_types.specs.declared.names.scope.Closed.{Closed}
 use Rattle.check_types.specs.declared.names.scope.Scope.{Scope}
 use Rattle.check_types.specs.declared.names.scope.KnownModule.{KnownModule as ModuleByCode}
 use Rattle.check_types.specs.declared.names.levels.Level.{Level}
-use Rattle.check_types.specs.names.Meaning.{object_of, entry_of, names_of, module_of}
+use Rattle.check_types.specs.names.Before.{is_behind, unless_behind, names_before}
+use Rattle.check_types.specs.names.Meaning.{object_of, entry_of, names_of, names_inside, module_of}
 use Rattle.check_types.specs.names.Worlds.{table_of, strings_of, world_of}
 use Rattle.check_types.specs.steps.Maps.{at_bytes}
 
@@ -382,6 +384,28 @@ module _ (t : Table) (strings : List (List ℕ)) where
   levels_basic first h [] q x is = either_basic None (first q) (λ y k. none_some y k) (h q) x is
   levels_basic first h (l ∷ ls) q x is = either_basic (look_up q (names_of t strings l ∷ map (names_of t strings) ls)) (first q) (levels_basic (names_of t strings l) (level_basic l) ls q) (h q) x is
 
+  unless_basic : (n : ℕ) (o : Option Entry) → ((x : Entry) → o ≡ Some x → IsConstantObject x.object) → (x : Entry) → unless_behind n o ≡ Some x → IsConstantObject x.object
+  unless_basic n None all x h = none_some x h
+  unless_basic n (Some y) all x h = by (is_behind n y.object) h
+    where
+      by : (b : Bool) → (if b then None else Some y) ≡ Some x → IsConstantObject x.object
+      by true i = none_some x i
+      by false i = all x i
+
+  before_basic : (n : ℕ) (names : List ℕ → Option Entry) → AllBasic names → AllBasic (names_before n names)
+  before_basic n names all q x h = unless_basic n (names q) (all q) x h
+
+  inside_basic : (n : ℕ) (own : Level) (first : List ℕ → Option Entry) → AllBasic first → (ls : List Level) (q : List ℕ) (x : Entry)
+      → look_up q (first ∷ map (λ l. names_before n (names_of t strings l)) ls ++ names_of t strings own ∷ []) ≡ Some x → IsConstantObject x.object
+  inside_basic n own first h [] q x is = either_basic (look_up q (names_of t strings own ∷ [])) (first q) (λ y k. level_basic own q y k) (h q) x is
+  inside_basic n own first h (l ∷ ls) q x is =
+      let at = names_before n (names_of t strings l) in
+      either_basic (look_up q (at ∷ map (λ k. names_before n (names_of t strings k)) ls ++ names_of t strings own ∷ [])) (first q) (inside_basic n own at (before_basic n (names_of t strings l) (level_basic l)) ls q) (h q) x is
+
+  closed_basic : (first : List ℕ → Option Entry) → AllBasic first → (ls : List Level) (c : Option Closed) (q : List ℕ) (x : Entry) → look_up q (first ∷ names_inside t strings ls c) ≡ Some x → IsConstantObject x.object
+  closed_basic first h ls None q x is = levels_basic first h ls q x is
+  closed_basic first h ls (Some c) q x is = inside_basic c.procedures c.names.now first h ls q x is
+
   module_basic : (p : Source) (w : World) (ms : List ModuleByCode) (n : ℕ) → AllBasic (names_in (slice_get (map (module_of t strings) ms) n))
   module_basic p w [] n q x is = none_some x is
   module_basic p w (m ∷ ms) zero q x is = offered_basic (names_of t strings m.names q) (level_basic m.names q) x is
@@ -416,7 +440,7 @@ table_basic (y ∷ ys) h q x is = table_basic_by y ys q x (λ k. table_basic ys 
 
 right_here : (p : Source) (s : Scope) → Right p (record (world_of s) { constant = true })
 right_here p s = record {
-  names = levels_basic (table_of s) (strings_of s) predeclared (of_predeclared IsConstantObject tt tt tt tt tt (λ p. tt)) s.levels.now;
+  names = closed_basic (table_of s) (strings_of s) predeclared (of_predeclared IsConstantObject tt tt tt tt tt (λ p. tt)) s.levels.now s.closed;
   members = of_module;
 }
   where
