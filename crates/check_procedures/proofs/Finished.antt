@@ -203,6 +203,37 @@ module _ (r : Surroundings) (s : Declaring) (q : OneProcedure) (h : Listed × Sh
     in_turn = body.in_turn;
   }
 
+-- ---- the same in a scope that is open
+
+module _ (r : Surroundings) (s : Declaring) (c : SoFar) (m : Making) (makes : Makes r s m) (up : Upright c m) (h : Listed × Shape) (heading : Heading) (is : IsHeading s heading h)
+    (scope : Scope) (world : world_of scope ≡ world_in r s) (types : scope.types.now ≡ s.types.table) where
+  pub world_here : world_of scope ≡ m.world
+  world_here = world ∙ sym makes.world
+
+  pub result_here : type_shape (table_in scope) heading.outcome ≡ h.1
+  result_here = ap (λ (t : TypeTable). type_shape t.types heading.outcome) types ∙ is.result_is
+
+  pub completed_here : (q : OneProcedure) (locals : List ℕ) → AreNumbersOf s.types.table.entries.items locals s.variables.items → (n : Numbered) (done : Procedure)
+      → ((j : I.Procedure) → HasLocals s.types.table locals m → IsCompleted r s.types.table q h m j → IsBody r.source.now q h m s.types.table n j → StandsFor s.types.table done j)
+      → Answers (IsBody r.source.now q h m scope.types.now) (completed r.source.now q h m) (Ok n) → Answers (StandsFor s.types.table) (completed r.source.now q h m) (Ok done)
+  completed_here q locals numbers n done stands judged =
+      came (completed r.source.now q h m) judged (λ j keeps body. as_judged keeps (record {
+        by = stands j
+            (record { types = s.variables.items; numbers = numbers; variables = makes.variables })
+            (record {
+              so_far = c;
+              upright = up;
+              begins = subst (λ bs. Begins bs s.types.table.bases.items) (sym (ap (λ (w : World). w.known.bases) makes.world)) (begins_self s.types.table.bases.items);
+              keeps = keeps;
+              number = ap (λ (w : World). w.module_number) makes.world;
+            })
+            (subst (λ t. IsBody r.source.now q h m t n j) types body);
+      }))
+
+-- the fault is the same
+pub faulty : {A B C : Type 0} {R : B → A → Type 0} {S : C → A → Type 0} {j : Judged A} {e : CheckFault} → Answers R j (Err e) → Answers S j (Err e)
+faulty h = record { by = h.by }
+
 -- ---- a table that is built numbers all its types
 
 pub numbers_all : (b : TableBuilder) → IsBuilt b → NumbersAll b.table
