@@ -14,6 +14,6 @@ pub mod numbers;
 mod opening;
 mod walk;
 
-pub use completing::end_name;
+pub use completing::{completed, end_name, judged_body, procedure_with};
 pub use first_parts::before_procedures;
 pub use walk::procedure;

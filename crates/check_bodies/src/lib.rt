@@ -1,0 +1,12 @@
+//! Procedures of a module whose bodies wait, and are judged by several workers.
+//!
+//! `put_off` judges a procedure up to its body and closes its scope; what its body needs is a `Body`. A `Bodies` is a pool's
+//! work: the body of each, judged in its scope, where all declarations behind it are known too. `Waits` (`specs/Waits.antt`)
+//! says which procedure of the judgement waits.
+#![tactic(auto)]
+
+mod body;
+mod work;
+
+pub use body::Body;
+pub use work::Bodies;

@@ -1,0 +1,1 @@
+//! Procedures put off.
