@@ -1,1 +1,3 @@
+pub mod PutOff
+pub mod Strings
 pub mod Waits

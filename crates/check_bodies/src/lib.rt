@@ -6,7 +6,10 @@
 #![tactic(auto)]
 
 mod body;
+mod names;
+mod putting_off;
 mod work;
 
 pub use body::Body;
+pub use putting_off::put_off;
 pub use work::Bodies;

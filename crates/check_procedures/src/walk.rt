@@ -26,7 +26,7 @@ use ob_syntax::declarations::{Decls, Procedure as ProcedureTree};
 /// All declarations of a scope: constants, types and variables, and then procedures, each with its own declarations and its
 /// statements. `lines` are the places where the lines of the text begin.
 #[cycle(walk)]
-fn declarations(
+pub fn declarations(
     state: &mut Building,
     round: &Surroundings,
     lines: &[u32],
