@@ -18,14 +18,17 @@ use Rattle.later_bodies.specs.Walked.{CameTo, AllCameTo, AllBelow, PutSoFar, one
 use Rattle.later_bodies.proofs.Lists.{set_before}
 use Rattle.later_bodies.proofs.Waits.{put_off_is}
 use Rattle.later_bodies.proofs.PutOff.{put_off_beside}
+use Rattle.later_bodies.proofs.Frames.{procedure_beside}
 
 -- ---- filling in
 
-filled_last : (ps : List Procedure) (xs : List Came) (x : Came) → filled ps (xs ++ x ∷ []) ≡ slice_set (filled ps xs) x.number x.procedure
+-- one by one
+pub filled_last : (ps : List Procedure) (xs : List Came) (x : Came) → filled ps (xs ++ x ∷ []) ≡ slice_set (filled ps xs) x.number x.procedure
 filled_last ps [] x = refl
 filled_last ps (y ∷ xs) x = filled_last (slice_set ps y.number y.procedure) xs x
 
-filled_length : (ps : List Procedure) (xs : List Came) → length (filled ps xs) ≡ length ps
+-- as many as before
+pub filled_length : (ps : List Procedure) (xs : List Came) → length (filled ps xs) ≡ length ps
 filled_length ps [] = refl
 filled_length ps (x ∷ xs) = filled_length (slice_set ps x.number x.procedure) xs ∙ set_length ps x.number x.procedure
 
@@ -131,6 +134,25 @@ module _ (p : Source) where
             ∙ ap (λ (m : Judged (Unit {0} × Making)). m >>= λ r. procedure_part p q r.1) (so_far.judged h.before h.all)
             ∙ put_ends s ws w h.before h.last so_far.numbers h.all h.came (put_off_beside p q s (filled s.procedures h.before) (filled_length s.procedures h.before) w is)
             ∙ ap (λ l. Keeps (tt, with_procedures (filled w.inner.procedures l) (put_aside w))) (sym h.are)
+
+    -- one that is judged with its body at once
+    pub put_whole : (first : Making) (qs : List OneProcedure) (ws : List (OneProcedure × Waiting)) (s t : Making) → PutSoFar p first qs ws s → procedure_part p q s ≡ Keeps (tt, t)
+        → PutSoFar p first (qs ++ q ∷ []) ws t
+    put_whole first qs ws s t so_far is = record { numbers = numbers; judged = judged }
+      where
+        numbers : AllBelow (length t.procedures) ws
+        numbers =
+            let b = procedure_beside p s s.procedures refl q t is in
+            let e : length t.procedures ≡ length s.procedures + length b.added = ap (λ (l : List Procedure). length l) b.procedures ∙ append_length s.procedures b.added in
+            still_below (length s.procedures) (length t.procedures) (omega (arith, e)) ws so_far.numbers
+
+        judged : (xs : List Came) → AllCameTo p ws xs → each (procedure_part p) (qs ++ q ∷ []) first ≡ Keeps (tt, with_procedures (filled t.procedures xs) t)
+        judged xs came =
+            let b = procedure_beside p s (filled s.procedures xs) (filled_length s.procedures xs) q t is in
+            each_last (procedure_part p) qs q first
+            ∙ ap (λ (m : Judged (Unit {0} × Making)). m >>= λ r. procedure_part p q r.1) (so_far.judged xs came)
+            ∙ b.alike
+            ∙ ap (λ l. Keeps (tt, with_procedures l t)) (sym (ap (λ l. filled l xs) b.procedures ∙ filled_before p s.procedures b.added ws xs so_far.numbers came))
 
   -- ---- as they stand in the text
 

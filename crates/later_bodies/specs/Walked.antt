@@ -26,7 +26,7 @@ abbrev pub AllBelow : ℕ → List (OneProcedure × Waiting) → Type 0
 AllBelow n [] = Unit {0}
 AllBelow n (w ∷ ws) = (w.1.number < n) × AllBelow n ws
 
--- from the first state on, these procedures were put off one after the other, these wait, and this is what was made: whatever
+-- from the first state on, these procedures were put off or judged, one after the other, these wait, and this is what was made: whatever
 -- those that wait come to, the procedures are judged to what was made, in which that is filled in
 pub record PutSoFar (p : Source) (first : Making) (qs : List OneProcedure) (ws : List (OneProcedure × Waiting)) (s : Making) : Type 0 where
   pub numbers : AllBelow (length s.procedures) ws

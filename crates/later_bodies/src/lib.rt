@@ -17,6 +17,7 @@ pub use others::{
     variables_are_judged_beside_others,
 };
 pub use walk::{
-    bodies_are_filled_in, no_procedure_waits_at_first, one_more_came, one_more_procedure_waits,
+    as_many_are_filled_in, bodies_are_filled_in, no_procedure_waits_at_first, one_more_came,
+    one_more_is_filled_in, one_more_procedure_is_judged_at_once, one_more_procedure_waits,
     procedures_are_put_off_and_completed,
 };
