@@ -1,5 +1,8 @@
 -- A procedure whose scope is closed, and what waits then.
-use Rattle.std.proofs.Common.{◌≡◌, ℕ, List, [], ◌∷◌, ◌++◌, map, length, Option, Some, refl, sym, ap, ap₂, ◌∙◌, subst}
+use Rattle.std.proofs.Common.{◌≡◌, ℕ, suc, List, [], ◌∷◌, ◌++◌, map, length, Option, Some, refl, sym, ap, ap₂, ◌∙◌, subst}
+use Rattle.std.specs.Prelude.{Vec}
+use Rattle.std.specs.Global.{Global}
+use Rattle.ob_types.specs.declared.characters.Characters.{Characters}
 use Rattle.ob_types.specs.Table.{Table}
 use Rattle.ob_types.specs.declared.program.Procedure.{Procedure}
 use Rattle.ob_judge.specs.Image.{Procedure as JudgedProcedure}
@@ -10,7 +13,15 @@ use Rattle.judged_modules.specs.steps.Frames.{left}
 use Rattle.check_types.specs.declared.table.TypeTable.{TypeTable}
 use Rattle.check_types.specs.declared.names.levels.Level.{Level}
 use Rattle.check_types.specs.names.Meaning.{names_of}
+use Rattle.judged_tree.specs.Tables.{are_before}
+use Rattle.check_types.specs.TypeMeaning.{type_shape}
+use Rattle.later_bodies.specs.Waiting.{Waiting}
+use Rattle.table_builder.specs.Entries.{IsNumbered}
 use Rattle.table_builder.specs.Growing.{Grows}
+use Rattle.table_builder.specs.declared.builder.TableBuilder.{TableBuilder}
+use Rattle.check_making.specs.parameters.Headings.{IsHeading}
+use Rattle.check_making.specs.parameters.Listed.{IsListed}
+use Rattle.check_procedures.specs.Completing.{HasLocals}
 use Rattle.check_making.specs.declared.making.Declaring.{Declaring}
 use Rattle.check_making.specs.declared.making.Surroundings.{Surroundings}
 use Rattle.check_making.specs.Staying.{LevelStays, LevelsStay}
@@ -22,7 +33,6 @@ use Rattle.check_making.specs.scopes.Scopes.{deeper, IsOuter}
 use Rattle.check_procedures.specs.declared.opening.OpenProcedure.{OpenProcedure}
 use Rattle.check_procedures.specs.Parts.{JudgedOpen}
 use Rattle.check_procedures.specs.Open.{CanBeClosed, IsOpened}
-use Rattle.check_making.proofs.Growing.{grows_self}
 use Rattle.check_bodies.specs.declared.body.Body.{Body}
 use Rattle.check_bodies.specs.PutOff.{waiting_of, IsSetAside}
 use Rattle.check_bodies.specs.Strings.{AreAlike}
@@ -37,6 +47,27 @@ last_of f l first (k ∷ ls) = last_of f l (f k) ls
 last_stays : (t : TypeTable) (strings : List (List ℕ)) (l : Level) (ls : List Level) → LevelsStay t strings (ls ++ l ∷ []) → LevelStays t strings l
 last_stays t strings l [] h = h.0
 last_stays t strings l (k ∷ ls) h = last_stays t strings l ls h.1
+
+-- ---- the same types and strings
+
+waits_beside : (s t : Declaring) (b : Body) (w : Waiting) → t.types ≡ s.types → t.strings ≡ s.strings → Waits s b w → Waits t b w
+waits_beside s t b w types strings h = record {
+  number = h.number;
+  count = h.count;
+  heading = record {
+    listed = subst (λ (z : TableBuilder). IsListed z.table b.heading.listed w.heading.0) (sym types) h.heading.listed;
+    result_is = ap (λ (z : TableBuilder). type_shape z.table.types b.heading.outcome) types ∙ h.heading.result_is;
+    numbered = subst (λ (z : TableBuilder). IsNumbered z.table.entries.items b.heading.outcome) (sym types) h.heading.numbered;
+  };
+  locals = subst (λ (z : TableBuilder). HasLocals z.table b.locals w.inner) (sym types) h.locals;
+  names = h.names ∙ named;
+  names_stay = λ u others g. h.names_stay u others (subst (λ (z : TableBuilder). Grows z.table u) types g) ∙ named;
+  formals = subst (λ (z : TableBuilder). are_before (length z.table.entries.items) b.heading.listed.formals) (sym types) h.formals;
+  outcome = subst (λ (z : TableBuilder). IsNumbered z.table.entries.items b.heading.outcome) (sym types) h.outcome;
+}
+  where
+    named : names_of (table_of s) (strings_of s) b.names ≡ names_of (table_of t) (strings_of t) b.names
+    named = ap₂ (λ (z : TableBuilder) (v : Vec Characters Global). names_of z.table.types v.items b.names) (sym types) (sym strings)
 
 -- ---- procedures
 
@@ -74,17 +105,5 @@ module _ (r : Surroundings) (o : OpenProcedure) (s : Building) (t : Declaring) (
       makes = leaves j.outer m opened.represents.makes opened.outer;
       procedures = subst (λ z. TheyStandFor z.table s.procedures.items m.procedures) (sym types) opened.represents.procedures;
     };
-    waits = waits_in (waits_there j m opened);
+    waits = waits_beside s.declaring t b (waiting_of j m) types strings (waits_there j m opened);
   }
-    where
-      waits_in : Waits s.declaring b (waiting_of j m) → Waits t b (waiting_of j m)
-      waits_in h = record {
-        number = h.number;
-        count = h.count;
-        heading = ?;
-        locals = subst (λ z. HasLocals z.table b.locals m) (sym types) h.locals;
-        names = ?;
-        names_stay = ?;
-        formals = ?;
-        outcome = ?;
-      }
