@@ -1,0 +1,2 @@
+//! What a body that was put off sees stays.
+#![tactic(auto)]
