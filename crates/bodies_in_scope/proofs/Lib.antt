@@ -1,2 +1,4 @@
 pub mod Names
 pub mod Types
+pub mod Stays
+pub mod Declared
