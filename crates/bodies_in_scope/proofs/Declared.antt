@@ -86,7 +86,7 @@ module _ (p : Source) where
   -- ---- headings
 
   -- nothing is claimed of the innermost scope
-  abbrev Any : Sort
+  abbrev pub Any : Sort
   Any standing k = Unit {0}
 
   any_on : GoesOn Any
@@ -228,14 +228,14 @@ module _ (p : Source) where
     })
 
   mutual
-    a_decls : (d : S.Decls) (round : List (List ℕ → Option Entry)) (v : World) (s : Making) → Around Any round v s.standing s.world → Gives (λ (r : Unit {0} × Making). Around Any round v (r.1).standing (r.1).world) (decls_part p d s)
+    pub a_decls : (d : S.Decls) (round : List (List ℕ → Option Entry)) (v : World) (s : Making) → Around Any round v s.standing s.world → Gives (λ (r : Unit {0} × Making). Around Any round v (r.1).standing (r.1).world) (decls_part p d s)
     a_decls (S.decls consts types vars procedures) round v s around =
         and_then (a_each Any any_on round v (const_part p) (a_const Any any_on round v) (consts_in consts) s around) (λ a f.
         and_then (a_type_section Any any_on round v (types_in types) a.1 f) (λ b g.
         and_then (a_each Any any_on round v (var_part p) (a_var Any any_on round v) (vars_in vars) b.1 g) (λ c h.
         a_procedures procedures round v c.1 h)))
 
-    a_procedures : (x : S.Procedures) (round : List (List ℕ → Option Entry)) (v : World) (s : Making) → Around Any round v s.standing s.world → Gives (λ (r : Unit {0} × Making). Around Any round v (r.1).standing (r.1).world) (procedures_part p x s)
+    pub a_procedures : (x : S.Procedures) (round : List (List ℕ → Option Entry)) (v : World) (s : Making) → Around Any round v s.standing s.world → Gives (λ (r : Unit {0} × Making). Around Any round v (r.1).standing (r.1).world) (procedures_part p x s)
     a_procedures S.no_procedure round v s around = keeps (λ (r : Unit {0} × Making). Around Any round v (r.1).standing (r.1).world) (tt, s) around
     a_procedures (S.procedure procedure_word name formals semicolon inner body returned end_word end_name last rest) round v s around =
         let q : OneProcedure = record { procedure_word = procedure_word; name = name; formals = formals; semicolon = semicolon; decls = inner; body = body; returned = returned; end_word = end_word; end_name = end_name } in

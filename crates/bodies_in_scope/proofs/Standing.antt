@@ -57,7 +57,7 @@ others_declared name e standing k stands all q h = by (bytes_eq name q) refl
     by false at = all q h
     by true at = no (sym h ∙ ap (λ n. is_among n standing) (sym ((bytes_eq-Decides name q).0 at)) ∙ stands)
 
-named_on : (n : ℕ) → GoesOn (AreNamed n)
+pub named_on : (n : ℕ) → GoesOn (AreNamed n)
 named_on n = record {
   stands = λ name standing k h. record { below = h.below; others = λ q i. h.others q (among_one q name standing i).1 };
   declares = λ name e standing k stands other h. record { below = other_below n name e k other h.below; others = others_declared name e standing k stands h.others };
@@ -163,7 +163,7 @@ module _ (c : SoFar) (outermost names : List ℕ → Option Entry) where
   -- ---- where a module's procedures begin
 
   -- after a part that makes no procedure
-  carried : (s t : Making) → t.procedures ≡ s.procedures → Between c outermost names s → Around (AreNamed (length s.procedures)) (outermost ∷ []) s.world t.standing t.world → Upright c t → Rooted t
+  pub carried : (s t : Making) → t.procedures ≡ s.procedures → Between c outermost names s → Around (AreNamed (length s.procedures)) (outermost ∷ []) s.world t.standing t.world → Upright c t → Rooted t
       → (k : List ℕ → Option Entry) × Between c outermost k t
   carried s t procedures b around up root = (around.own, record {
     levels = ap (λ w. w.levels) around.world;
@@ -174,7 +174,7 @@ module _ (c : SoFar) (outermost names : List ℕ → Option Entry) where
     rooted = root;
   })
 
-  started : (s : Making) → Between c outermost names s → Around (AreNamed (length s.procedures)) (outermost ∷ []) s.world s.standing s.world
+  pub started : (s : Making) → Between c outermost names s → Around (AreNamed (length s.procedures)) (outermost ∷ []) s.world s.standing s.world
   started s b = record { own = names; world = ap {B = World} (λ ls. record s.world { levels = ls }) b.levels; holds = b.named }
 
   module _ (p : Source) where
