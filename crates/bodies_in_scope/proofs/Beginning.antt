@@ -1,7 +1,7 @@
 -- The state in which a module begins, and its imports.
-use Rattle.std.proofs.Common.{◌≡◌, ℕ, List, [], ◌∷◌, ◌||◌, length, Bool, false, Option, None, refl, ap, ◌∙◌}
+use Rattle.std.proofs.Common.{◌≡◌, ℕ, List, [], ◌∷◌, ◌||◌, length, false, Option, refl, ap, ◌∙◌}
 use Rattle.ob_syntax.specs.declared.modules.Import.{Import}
-use Rattle.ob_judge.specs.Judged.{Judged, Keeps, some}
+use Rattle.ob_judge.specs.Judged.{Keeps, some}
 use Rattle.ob_judge.specs.Scopes.{AModule, Entry, Source, World, no_names, place, spelled}
 use Rattle.ob_judge.specs.Standards.{predeclared}
 use Rattle.ob_judge.specs.Making.{Making, is_among, with_levels, declare_last}

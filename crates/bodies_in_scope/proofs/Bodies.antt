@@ -1,11 +1,10 @@
 -- A procedure that waits comes to the same in the scopes of a later state.
-use Rattle.std.proofs.Common.{◌≡◌, ℕ, List, [], ◌∷◌, length, false, Option, Some, refl, ap, ap₂, sym, ◌∙◌}
+use Rattle.std.proofs.Common.{◌≡◌, ℕ, List, [], ◌∷◌, length, false, Option, Some, ap, ap₂, sym, ◌∙◌}
 use Rattle.ob_judge.specs.Shapes.{Shape}
 use Rattle.ob_judge.specs.Scopes.{Entry, Source, World}
 use Rattle.ob_judge.specs.Making.{Making}
 use Rattle.ob_judge.specs.Modules.{SoFar}
 use Rattle.ob_judge.specs.Parameters.{Listed}
-use Rattle.judged_modules.specs.Lists.{Each}
 use Rattle.judged_modules.specs.steps.Procedures.{OneProcedure}
 use Rattle.judged_modules.specs.steps.Steps.{completed}
 use Rattle.later_types.specs.Later.{with_types}

@@ -1,16 +1,16 @@
 -- Declarations leave the scopes round the innermost as they are.
-use Rattle.std.proofs.Common.{◌≡◌, ℕ, suc, ◌+◌, ◌≤◌, List, [], ◌∷◌, ◌++◌, length, Bool, true, false, not, Option, Some, None, refl, ap, sym, ◌∙◌, subst, arith}
+use Rattle.std.proofs.Common.{◌≡◌, ℕ, suc, ◌+◌, ◌≤◌, List, [], ◌∷◌, ◌++◌, length, Bool, true, false, not, Option, Some, refl, ap, sym, ◌∙◌, subst, arith}
 use Rattle.std.specs.Prelude.{is_some, slice_set}
 use Rattle.ob_syntax.specs.Syntax as S
 use Rattle.ob_syntax.specs.declared.names.Identdef.{Identdef}
-use Rattle.ob_judge.specs.Judged.{Judged, Keeps, Breaks, ◌>>=◌, rule, some}
+use Rattle.ob_judge.specs.Judged.{Judged, Keeps, ◌>>=◌, rule, some}
 use Rattle.ob_judge.specs.Shapes.{Shape}
 use Rattle.ob_judge.specs.Shapes.{Procedure as ProcedureOf}
-use Rattle.ob_judge.specs.Scopes.{Object, AConstant, AType, AVariable, AProcedure, AModule, Entry, Source, World, declare, no_names, place, spelled}
+use Rattle.ob_judge.specs.Scopes.{Object, AConstant, AType, AVariable, AProcedure, Entry, Source, World, declare, no_names, place, spelled}
 use Rattle.ob_judge.specs.Expressions.{constant}
 use Rattle.ob_judge.specs.Cases.{entry_object}
-use Rattle.ob_judge.specs.Making.{Making, Part, with_known, with_levels, declare_last, declare_outer, last_names, without_last, offer_if, is_among, no_procedure, new_procedure}
-use Rattle.ob_judge.specs.Parameters.{Listed, idents_list, symbols_of, stand, declared}
+use Rattle.ob_judge.specs.Making.{Making, Part, with_known, with_levels, declare_outer, last_names, without_last, offer_if, is_among, no_procedure}
+use Rattle.ob_judge.specs.Parameters.{Listed, idents_list, symbols_of, stand}
 use Rattle.ob_judge.specs.Types.{record_object}
 use Rattle.ob_judge.specs.Declarations.{home_here, place_here, each, const_part, type_decl_part, forward_base, types_part, variable_part, var_part, consts_in, types_in, vars_in, heading, decls_part, procedures_part}
 use Rattle.judged_well.specs.Gives.{Gives}
@@ -19,12 +19,12 @@ use Rattle.judged_modules.proofs.Lists.{append_length, set_length}
 use Rattle.judged_modules.proofs.TypesGrow.{joined}
 use Rattle.judged_modules.specs.steps.Frames.{entered, left}
 use Rattle.judged_modules.specs.steps.Procedures.{OneProcedure}
-use Rattle.judged_modules.specs.steps.Steps.{completed, completes, inside, procedure_part}
+use Rattle.judged_modules.specs.steps.Steps.{completed, completes, procedure_part}
 use Rattle.judged_modules.proofs.steps.Frame.{h_heading}
 use Rattle.judged_modules.proofs.steps.Laws.{procedures_law}
 use Rattle.judged_programs.proofs.ProceduresTidy.{s_decls}
 use Rattle.judged_programs.proofs.Tidy.{offer_same}
-use Rattle.later_bodies.specs.Waiting.{Waiting, put_off, put_aside}
+use Rattle.later_bodies.specs.Waiting.{put_off}
 use Rattle.bodies_in_scope.specs.Below.{IsOfProcedure}
 use Rattle.bodies_in_scope.specs.Around.{name_of, OneMore, PutOff}
 use Rattle.bodies_in_scope.proofs.Names.{declared_outer, last_gone}
@@ -106,15 +106,15 @@ module _ (p : Source) where
   named_around : (f : ℕ) (name : Identdef) (is_local : Bool) (round : List (List ℕ → Option Entry)) (names : List ℕ → Option Entry) (v : World) (h : Listed × Shape) (t : Making)
       → Around Any (round ++ names ∷ []) v t.standing t.world
       → let e = heading_entry f name h is_local in let u = offer_if (not is_local) (spelled p name.name) e (with_levels (declare_outer (spelled p name.name) e) t) in
-        Around Any (round ++ declare (spelled p name.name) e names ∷ []) v u.standing u.world
+      Around Any (round ++ declare (spelled p name.name) e names ∷ []) v u.standing u.world
   named_around f name is_local round names v h t around =
       let e = heading_entry f name h is_local in
       let u = with_levels (declare_outer (spelled p name.name) e) t in
       let one = spelled p name.name in
       let levels : declare_outer one e ((round ++ names ∷ []) ++ around.own ∷ []) ≡ (round ++ declare one e names ∷ []) ++ around.own ∷ [] =
-          (ap (declare_outer one e) (joined round (names ∷ []) (around.own ∷ [])) ∙ declared_outer one e round names around.own ∙ sym (joined round (declare one e names ∷ []) (around.own ∷ []))) in
+      (ap (declare_outer one e) (joined round (names ∷ []) (around.own ∷ [])) ∙ declared_outer one e round names around.own ∙ sym (joined round (declare one e names ∷ []) (around.own ∷ []))) in
       let world : u.world ≡ record v { known = t.world.known; levels = (round ++ declare one e names ∷ []) ++ around.own ∷ [] } =
-          (ap {A = World} {B = World} (λ w. record w { levels = declare_outer one e w.levels }) around.world ∙ ap {B = World} (λ ls. record v { known = t.world.known; levels = ls }) levels) in
+      (ap {A = World} {B = World} (λ w. record w { levels = declare_outer one e w.levels }) around.world ∙ ap {B = World} (λ ls. record v { known = t.world.known; levels = ls }) levels) in
       record {
         own = around.own;
         world = offer_same (not is_local) one e u ∙ world ∙ ap {B = World} (λ k. record v { known = k; levels = (round ++ declare one e names ∷ []) ++ around.own ∷ [] }) (sym (ap (λ w. w.known) (offer_same (not is_local) one e u)));

@@ -1,8 +1,8 @@
 -- A procedure that is put off leaves all upright and rooted.
-use Rattle.std.proofs.Common.{◌≡◌, ℕ, ◌≤◌, List, [], ◌∷◌, ◌++◌, length, Bool, true, Option, Some, refl, ap, subst}
+use Rattle.std.proofs.Common.{◌≡◌, ℕ, [], ◌∷◌, ◌++◌, length, refl, ap, subst}
 use Rattle.std.specs.Prelude.{is_some}
 use Rattle.ob_judge.specs.Judged.{Keeps, ◌>>=◌}
-use Rattle.ob_judge.specs.Shapes.{Shape, Known}
+use Rattle.ob_judge.specs.Shapes.{Shape}
 use Rattle.ob_judge.specs.Scopes.{Source}
 use Rattle.ob_judge.specs.Making.{Making, new_procedure, no_procedure}
 use Rattle.ob_judge.specs.Modules.{SoFar}
@@ -11,7 +11,7 @@ use Rattle.ob_judge.specs.Declarations.{heading, decls_part}
 use Rattle.judged_modules.proofs.Growing.{kept_same, bound}
 use Rattle.judged_modules.proofs.Keeping.{given}
 use Rattle.judged_modules.proofs.Parameters.{stand_plain}
-use Rattle.judged_modules.specs.steps.Frames.{entered, left}
+use Rattle.judged_modules.specs.steps.Frames.{entered}
 use Rattle.judged_modules.specs.steps.Procedures.{OneProcedure}
 use Rattle.judged_outlines.specs.Upright.{Upright}
 use Rattle.judged_outlines.proofs.Reach.{shape_later as points_later}
@@ -21,7 +21,7 @@ use Rattle.later_types.specs.Later.{IsRooted, Rooted, StaysKnown}
 use Rattle.later_types.proofs.Reach.{shape_later}
 use Rattle.later_types.proofs.Rooteds.{entered_rooted, left_rooted, numbered_rooted, stand_rooted, heading_rooted, decls_rooted}
 use Rattle.later_types.proofs.Stays.{known_same, known_on, heading_known, decls_known}
-use Rattle.later_bodies.specs.Waiting.{Waiting, put_off, put_aside}
+use Rattle.later_bodies.specs.Waiting.{Waiting, put_off}
 use Rattle.bodies_in_scope.specs.Standing.{IsWell}
 
 -- a type names types that there are later
@@ -75,7 +75,7 @@ module _ (c : SoFar) (p : Source) (q : OneProcedure) where
   pub put_off_well : (s : Making) (w : Waiting) → put_off p q s ≡ Keeps w → Upright c s → Rooted s → IsWell c s w
   put_off_well s w is up root =
       let a = bound (stand p (q.name.name ∷ []) s) (λ r. new_procedure r.1 >>= λ f. heading p f.0 q.name q.formals (is_some f.1.world.procedure) (entered f.0 f.1) >>= λ h. decls_part p q.decls h.1 >>= λ d.
-          Keeps (waiting f.1 f.0 h.0 d.1)) w is in
+      Keeps (waiting f.1 f.0 h.0 d.1)) w is in
       by (a.0).1 a.1 a.2
     where
       by : (v : Making) → stand p (q.name.name ∷ []) s ≡ Keeps (tt, v)

@@ -1,5 +1,5 @@
 -- The scopes that are open, after declarations, after a procedure and where one was put off.
-use Rattle.std.proofs.Common.{◌≡◌, ℕ, List, [], ◌∷◌, ◌++◌, Option, refl, ap}
+use Rattle.std.proofs.Common.{◌≡◌, ℕ, suc, List, [], ◌∷◌, ◌++◌, length, Option, refl, ap, arith}
 use Rattle.ob_syntax.specs.Syntax as S
 use Rattle.ob_judge.specs.Judged.{Keeps}
 use Rattle.ob_judge.specs.Scopes.{Entry, Source, World, declare}
@@ -10,6 +10,8 @@ use Rattle.judged_modules.specs.steps.Procedures.{OneProcedure}
 use Rattle.judged_modules.specs.steps.Steps.{procedure_part}
 use Rattle.later_bodies.specs.Waiting.{Waiting, put_off, put_aside}
 use Rattle.bodies_in_scope.specs.Around.{name_of, OneMore, PutOff}
+use Rattle.bodies_in_scope.specs.Below.{AreBelow}
+use Rattle.bodies_in_scope.proofs.Names.{more_below, procedure_below}
 use Rattle.bodies_in_scope.proofs.Stays.{Around}
 use Rattle.bodies_in_scope.proofs.Declared.{Any, a_decls, a_procedures, procedure_comes, procedure_put_off}
 
@@ -44,6 +46,13 @@ module _ (name : List ℕ) (round : List (List ℕ → Option Entry)) (names : L
 
   pub levels_aside : (w : Waiting) (h : PutOff name round names s w) → (put_aside w).world.levels ≡ round ++ declare name h.entry names ∷ []
   levels_aside w h = ap (λ v. v.levels) h.outside
+
+  -- and all procedures of the scope are below the number of those there are
+  pub below_after : (t : Making) (h : OneMore name round names s t) → AreBelow (length s.procedures) names → AreBelow (length t.procedures) (declare name h.entry names)
+  below_after t h below = more_below (suc (length s.procedures)) (length t.procedures) (declare name h.entry names) h.more (procedure_below (length s.procedures) (length s.procedures) name h.entry names (omega arith) h.of_procedure below)
+
+  pub below_aside : (w : Waiting) (h : PutOff name round names s w) → AreBelow (length s.procedures) names → AreBelow (length (put_aside w).procedures) (declare name h.entry names)
+  below_aside w h below = more_below (suc (length s.procedures)) (length w.inner.procedures) (declare name h.entry names) h.more (procedure_below (length s.procedures) (length s.procedures) name h.entry names (omega arith) h.of_procedure below)
 
 -- what is known of types in a procedure's scope is known when it is set aside
 pub known_aside : (w : Waiting) → (put_aside w).world.known ≡ w.inner.world.known

@@ -2,9 +2,9 @@
 use Rattle.std.proofs.Common.{◌≡◌, ℕ, suc, ◌<◌, ◌≤◌, List, [], ◌∷◌, ◌++◌, Bool, true, false, Option, Some, None, refl, ap, sym, ◌∙◌, subst, arith}
 use Rattle.std.proofs.lemmas.Bool.Decides.{nat_tests}
 use Rattle.std.proofs.lemmas.Slice.Eq.{bytes_eq-Decides}
-use Rattle.std.specs.Prelude.{nat_le, if◌then◌else◌}
+use Rattle.std.specs.Prelude.{if◌then◌else◌}
 use Rattle.std.specs.Str.{bytes_eq}
-use Rattle.ob_types.proofs.Tests.{none_some, some_same, no}
+use Rattle.ob_types.proofs.Tests.{none_some, some_same}
 use Rattle.ob_judge.specs.Shapes.{Shape}
 use Rattle.ob_judge.specs.Scopes.{Object, AConstant, AProcedure, Entry, declare, no_names}
 use Rattle.ob_judge.specs.Making.{declare_last, declare_outer, without_last}
@@ -85,6 +85,7 @@ before_declared count f name e k past of new = fun_ext (λ q. by q (bytes_eq nam
   where
     behind : is_behind count (AProcedure f of.shape of.is_local) ≡ true
     behind = grind (arith, nat_tests, past)
+
     by : (q : List ℕ) (b : Bool) → bytes_eq name q ≡ b → unless_behind count (if b then Some e else k q) ≡ unless_behind count (k q)
     by q true at =
         ap (λ b. if b then None else Some e) (ap (is_behind count) of.object ∙ behind)

@@ -1,34 +1,32 @@
 -- What waits stands as before, through the procedures that follow it; and the states between a module's procedures.
-use Rattle.std.proofs.Common.{◌≡◌, ℕ, suc, ◌≤◌, ◌||◌, List, [], ◌∷◌, ◌++◌, length, Bool, true, false, Option, Some, None, refl, ap, sym, ◌∙◌, subst, arith}
+use Rattle.std.proofs.Common.{◌≡◌, ℕ, suc, ◌≤◌, ◌||◌, List, [], ◌∷◌, length, Bool, true, false, Option, Some, None, refl, ap, sym, ◌∙◌, subst, arith}
 use Rattle.std.proofs.lemmas.Slice.Eq.{bytes_eq-Decides}
 use Rattle.std.specs.Prelude.{if◌then◌else◌}
 use Rattle.std.specs.Str.{bytes_eq}
 use Rattle.ob_types.proofs.Tests.{no}
 use Rattle.ob_syntax.specs.Syntax as S
 use Rattle.ob_judge.specs.Judged.{Keeps}
-use Rattle.ob_judge.specs.Scopes.{Entry, Source, World, declare, no_names}
-use Rattle.ob_judge.specs.Standards.{predeclared}
+use Rattle.ob_judge.specs.Scopes.{Entry, Source, World, declare}
 use Rattle.ob_judge.specs.Making.{Making, is_among}
-use Rattle.ob_judge.specs.Modules.{SoFar, first_making}
+use Rattle.ob_judge.specs.Modules.{SoFar}
 use Rattle.ob_judge.specs.Declarations.{each, const_part, types_part, var_part}
 use Rattle.judged_modules.proofs.Keeping.{given}
+use Rattle.judged_modules.proofs.TypesGrow.{each_map}
 use Rattle.judged_modules.proofs.steps.Frame.{h_consts}
 use Rattle.judged_modules.proofs.steps.FrameTypes.{k_types, k_vars}
 use Rattle.judged_modules.specs.steps.Procedures.{OneProcedure}
 use Rattle.judged_modules.specs.steps.Steps.{procedure_part}
-use Rattle.judged_outlines.specs.Upright.{Upright, UprightSoFar}
+use Rattle.judged_outlines.specs.Upright.{Upright}
 use Rattle.judged_outlines.proofs.Uprights.{consts_upright, types_upright, vars_upright, procedure_upright}
-use Rattle.judged_outlines.proofs.Modules.{first_upright}
-use Rattle.later_types.specs.Later.{Rooted, RootedSoFar, StaysKnown}
+use Rattle.later_types.specs.Later.{Rooted, StaysKnown}
 use Rattle.later_types.proofs.Rooteds.{consts_rooted, types_rooted, vars_rooted, procedure_rooted}
 use Rattle.later_types.proofs.Stays.{known_same, known_on, procedure_known}
 use Rattle.later_bodies.specs.Waiting.{Waiting, put_off, put_aside}
-use Rattle.check_types.specs.names.Before.{names_before}
-use Rattle.bodies_in_scope.specs.Below.{AreBelow, IsNoProcedure, IsOfProcedure}
+use Rattle.bodies_in_scope.specs.Below.{IsOfProcedure}
 use Rattle.bodies_in_scope.specs.Around.{name_of, OneMore, PutOff}
-use Rattle.bodies_in_scope.specs.Standing.{AreNamed, Between, IsWell, StillStands}
-use Rattle.bodies_in_scope.proofs.Names.{none_below, more_below, procedure_below, other_below, before_same, before_declared}
-use Rattle.bodies_in_scope.proofs.Stays.{Sort, GoesOn, Around}
+use Rattle.bodies_in_scope.specs.Standing.{AllStillStand, AreNamed, Between, StillStands}
+use Rattle.bodies_in_scope.proofs.Names.{more_below, procedure_below, other_below, before_same, before_declared}
+use Rattle.bodies_in_scope.proofs.Stays.{GoesOn, Around}
 use Rattle.bodies_in_scope.proofs.Declared.{a_each, a_const, a_type_section, a_var, procedure_comes, procedure_put_off}
 use Rattle.bodies_in_scope.proofs.Kept.{put_off_well}
 
@@ -160,19 +158,31 @@ module _ (c : SoFar) (outermost names : List ℕ → Option Entry) where
         → StillStands c outermost (declare (name_of p q) h.entry names) w t
     stands_through_whole s t w is b h still = stands_on (name_of p q) w s t still h (procedure_known p q s t is) (b.named.others (name_of p q) h.unique)
 
+    -- all that wait
+    pub all_through_aside : (s : Making) (v : Waiting) (ws : List Waiting) → put_off p q s ≡ Keeps v → Between c outermost names s → (h : PutOff (name_of p q) (outermost ∷ []) names s v) → AllStillStand c outermost names ws s
+        → AllStillStand c outermost (declare (name_of p q) h.entry names) ws (put_aside v)
+    all_through_aside s v ws is b h still = each_map (λ w. StillStands c outermost names w s) (λ w. StillStands c outermost (declare (name_of p q) h.entry names) w (put_aside v)) ws (λ w k. stands_through_aside s v w is b h k) still
+
+    pub all_through_whole : (s t : Making) (ws : List Waiting) → procedure_part p q s ≡ Keeps (tt, t) → Between c outermost names s → (h : OneMore (name_of p q) (outermost ∷ []) names s t) → AllStillStand c outermost names ws s
+        → AllStillStand c outermost (declare (name_of p q) h.entry names) ws t
+    all_through_whole s t ws is b h still = each_map (λ w. StillStands c outermost names w s) (λ w. StillStands c outermost (declare (name_of p q) h.entry names) w t) ws (λ w k. stands_through_whole s t w is b h k) still
+
   -- ---- where a module's procedures begin
 
   -- after a part that makes no procedure
   pub carried : (s t : Making) → t.procedures ≡ s.procedures → Between c outermost names s → Around (AreNamed (length s.procedures)) (outermost ∷ []) s.world t.standing t.world → Upright c t → Rooted t
       → (k : List ℕ → Option Entry) × Between c outermost k t
-  carried s t procedures b around up root = (around.own, record {
-    levels = ap (λ w. w.levels) around.world;
-    named = subst (λ n. AreNamed n t.standing around.own) (sym (ap (λ qs. length qs) procedures)) around.holds;
-    constant = ap (λ w. w.constant) around.world ∙ b.constant;
-    narrowed = ap (λ w. w.narrowed) around.world ∙ b.narrowed;
-    upright = up;
-    rooted = root;
-  })
+  carried s t procedures b around up root = (
+    around.own,
+    record {
+      levels = ap (λ w. w.levels) around.world;
+      named = subst (λ n. AreNamed n t.standing around.own) (sym (ap (λ qs. length qs) procedures)) around.holds;
+      constant = ap (λ w. w.constant) around.world ∙ b.constant;
+      narrowed = ap (λ w. w.narrowed) around.world ∙ b.narrowed;
+      upright = up;
+      rooted = root;
+    },
+  )
 
   pub started : (s : Making) → Between c outermost names s → Around (AreNamed (length s.procedures)) (outermost ∷ []) s.world s.standing s.world
   started s b = record { own = names; world = ap {B = World} (λ ls. record s.world { levels = ls }) b.levels; holds = b.named }

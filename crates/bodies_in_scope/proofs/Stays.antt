@@ -6,15 +6,15 @@ use Rattle.std.specs.Str.{bytes_eq}
 use Rattle.ob_syntax.specs.Syntax as S
 use Rattle.ob_syntax.specs.declared.names.Identdef.{Identdef}
 use Rattle.ob_judge.specs.Judged.{Judged, Keeps, Breaks, ◌>>=◌, rule}
-use Rattle.ob_judge.specs.Shapes.{Shape, Known}
-use Rattle.ob_judge.specs.Scopes.{Object, AVariable, Entry, Source, World, declare, place, spelled}
+use Rattle.ob_judge.specs.Shapes.{Shape}
+use Rattle.ob_judge.specs.Scopes.{Object, Entry, Source, World, declare, place, spelled}
 use Rattle.ob_judge.specs.Making.{Making, is_among, with_levels, declare_last, offer_if}
 use Rattle.ob_judge.specs.Parameters.{Listed, listed, no_parameters, words_of, mode_of, is_value, opened, next_names, stand, declared, type_at, parameter_variable, add_parameters, section, next_sections, sections, result_shape, formal_part}
 use Rattle.judged_well.specs.Gives.{Gives}
 use Rattle.judged_well.proofs.Judging.{keeps, breaks, weaken, and_then}
 use Rattle.bodies_in_scope.specs.Below.{IsNoProcedure}
 use Rattle.bodies_in_scope.proofs.Names.{declared_last}
-use Rattle.bodies_in_scope.proofs.Types.{OnlyTypes, typed}
+use Rattle.bodies_in_scope.proofs.Types.{OnlyTypes}
 
 -- what may hold of the names that stand and of those that are declared
 abbrev pub Sort : Type 1

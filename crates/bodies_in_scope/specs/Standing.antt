@@ -1,8 +1,9 @@
 -- States between the procedures of a module, and what a procedure that waits sees there.
-use Rattle.std.specs.Prelude.{◌≡◌, ◌≤◌, ℕ, List, [], ◌∷◌, length, Bool, false, Option, Some, None}
+use Rattle.std.specs.Prelude.{◌≡◌, ◌≤◌, ℕ, List, [], ◌∷◌, length, false, Option, Some, None}
 use Rattle.ob_judge.specs.Scopes.{Entry}
 use Rattle.ob_judge.specs.Making.{Making, is_among}
 use Rattle.ob_judge.specs.Modules.{SoFar}
+use Rattle.judged_modules.specs.Lists.{Each}
 use Rattle.judged_outlines.specs.Upright.{Upright}
 use Rattle.later_types.specs.Later.{IsRooted, Rooted, StaysKnown}
 use Rattle.later_bodies.specs.Waiting.{Waiting, put_aside}
@@ -48,3 +49,7 @@ pub record StillStands (c : SoFar) (outermost names : List ℕ → Option Entry)
   pub upright : Upright c w.inner
   pub rooted : Rooted w.inner
   pub heading : IsRooted w.inner w.heading.1
+
+-- all that wait
+abbrev pub AllStillStand : (c : SoFar) (outermost names : List ℕ → Option Entry) → List Waiting → Making → Type 0
+AllStillStand c outermost names ws s = Each (λ w. StillStands c outermost names w s) ws
