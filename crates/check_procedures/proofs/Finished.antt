@@ -188,7 +188,7 @@ module _ (r : Surroundings) (s : Declaring) (q : OneProcedure) (h : Listed × Sh
   image_is =
       made_image table r.module_number line_number heading.listed.formals result heading.outcome locals has.types n entry has.numbers
       ∙ parts_same r.module_number m.world.module_number line_number (line r.source.now q.name.name) _ _ _ _ _ _ _ _ _ _ _ _
-          (sym ended.number) line_is.is (sym is.listed.parameters) is.result_is (sym has.variables) body.texts body.body body.answer
+      (sym ended.number) line_is.is (sym is.listed.parameters) is.result_is (sym has.variables) body.texts body.body body.answer
 
   pub procedure_stands : StandsFor table whole j
   procedure_stands = record {

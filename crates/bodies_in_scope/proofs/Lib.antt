@@ -1,0 +1,9 @@
+pub mod Names
+pub mod Types
+pub mod Stays
+pub mod Declared
+pub mod Levels
+pub mod Kept
+pub mod Standing
+pub mod Beginning
+pub mod Bodies
