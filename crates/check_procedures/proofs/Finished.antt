@@ -19,7 +19,7 @@ use Rattle.ob_judge.specs.Making.{Making}
 use Rattle.ob_judge.specs.Modules.{SoFar}
 use Rattle.ob_judge.specs.Parameters.{Listed}
 use Rattle.judged_tree.specs.Plain.{plain_body, plain_checked, plain_formal, plain_procedure}
-use Rattle.judged_tree.specs.Outline.{outlined_statements, outlined_checked, outlined_procedure}
+use Rattle.judged_tree.specs.Outline.{outlined_procedure}
 use Rattle.judged_tree.specs.Tables.{are_before}
 use Rattle.judged_outlines.specs.Upright.{Upright}
 use Rattle.judged_outlines.proofs.Outlined.{procedure_outlined}
@@ -51,7 +51,7 @@ use Rattle.check_making.specs.declared.making.Surroundings.{Surroundings}
 use Rattle.check_making.specs.Making.{world_in, Makes}
 use Rattle.check_making.specs.declared.parameters.sections.Heading.{Heading}
 use Rattle.check_making.specs.parameters.Headings.{IsHeading}
-use Rattle.check_making.specs.scopes.Building.{IsLater, StandsFor}
+use Rattle.check_making.specs.scopes.Building.{StandsFor}
 use Rattle.check_making.specs.scopes.InTurn.{UseInTurn}
 use Rattle.check_making.specs.scopes.Numbers.{AreNumbersOf}
 use Rattle.check_making.proofs.scopes.ByNumber.{numbers_mean, numbers_still}

@@ -1,7 +1,6 @@
 -- What a procedure becomes.
 use Rattle.std.specs.Prelude.{◌≡◌, ℕ, List, false, map, Option, option_map}
-use Rattle.ob_types.specs.declared.program.Procedure.{Procedure as ProcedureOf}
-use Rattle.ob_judge.specs.Image.{Formal, Statements, Checked, Procedure}
+use Rattle.ob_judge.specs.Image.{Statements, Checked, Procedure}
 use Rattle.ob_judge.specs.Judged.{Keeps}
 use Rattle.ob_judge.specs.Making.{Making}
 use Rattle.ob_judge.specs.Modules.{SoFar}

@@ -13,7 +13,6 @@ use Rattle.ob_types.specs.declared.tree.Link.TheVariants as TheLink
 use Rattle.ob_types.specs.declared.tree.Designator.{Designator}
 use Rattle.ob_types.specs.declared.tree.Designator.TheVariants as TheDesignator
 use Rattle.ob_types.specs.declared.tree.Access.{Access}
-use Rattle.ob_types.specs.declared.tree.Selector.{Selector}
 use Rattle.ob_types.specs.declared.tree.Selector.TheVariants as TheSelector
 use Rattle.ob_types.specs.declared.tree.Call.{Call}
 use Rattle.ob_types.specs.declared.tree.Call.TheVariants as TheCall

@@ -1,7 +1,6 @@
 -- What becomes of statements, from what becomes of their parts.
 use Rattle.std.proofs.Common.{◌≡◌, List, ◌++◌, Vec, Box, Global, refl, sym, ap, ◌∙◌}
 use Rattle.std.proofs.lemmas.List.{append-nil}
-use Rattle.ob_types.specs.Table.{Table}
 use Rattle.ob_types.specs.declared.types.TypeKind.{TypeKind}
 use Rattle.ob_types.specs.declared.tree.Expr.{Expr}
 use Rattle.ob_types.specs.declared.tree.Designator.{Designator}
@@ -15,7 +14,7 @@ use Rattle.ob_types.specs.declared.statements.Stmt.{Stmt}
 use Rattle.ob_types.specs.declared.statements.Stmt.TheVariants as TheStmt
 use Rattle.ob_judge.specs.Texts.{Strings, in_expr, in_designator, in_statements}
 use Rattle.ob_judge.specs.Image as I
-use Rattle.judged_tree.specs.Plain.{plain_designator, plain_checked, plain_statement, plain_body}
+use Rattle.judged_tree.specs.Plain.{plain_designator, plain_checked, plain_body}
 use Rattle.check_statements.proofs.trees.Rows.{if_is, while_is, repeat_is, for_is, case_is, pointer_is, parameter_is}
 use Rattle.check_procedures.specs.numbers.Numbering.{Numbering, Reading, Renewed, KeepsMeaning}
 use Rattle.check_procedures.specs.numbers.Readings.{each, pair, kinds, expressions, designators, calls, checked, statements, bodies, loops, branches, case_parts, type_parts}

@@ -8,8 +8,8 @@ use Rattle.check_procedures.specs.numbers.Numbering.{NumbersAll}
 use Rattle.check_procedures.proofs.Finished.{numbers_all, world_here, result_here, completed_here, faulty}
 use Rattle.check_procedures.proofs.completing.completed.Goals as goal
 
-pub judged_body-numbered-requires-clause-numbers : goal.judged_body-numbered-requires-clause-numbers
-judged_body-numbered-requires-clause-numbers c = subst NumbersAll (sym c.scope-scope.ensures.types) (numbers_all c.args.state.now.types c.requires.settled.built)
+pub judged_body-requires-clause-numbers : goal.judged_body-requires-clause-numbers
+judged_body-requires-clause-numbers c = subst NumbersAll (sym c.scope-scope.ensures.types) (numbers_all c.args.state.now.types c.requires.settled.built)
 
 pub returns-in_err-numbered : goal.returns-in_err-numbered
 returns-in_err-numbered c = λ k m h makes up is.

@@ -1,1 +1,0 @@
-use Rattle.check_procedures.proofs.lines.line_starts.Goals as goal

@@ -1,4 +1,4 @@
-use Rattle.std.proofs.Common.{◌≡◌, ◌<◌, ◌++◌, length, drop}
+use Rattle.std.proofs.Common.{◌≡◌, ◌++◌, drop}
 use Rattle.check_procedures.specs.lines.Lines.{starts_from}
 use Rattle.check_procedures.proofs.lines.line_starts.Given as goal
 

@@ -2,7 +2,6 @@ use Rattle.std.proofs.Common.{◌∙◌, ◌<◌, length, Box, Vec, Global, refl
 use Rattle.std.specs.Box.{with_value}
 use Rattle.ob_types.specs.declared.tree.Expr.{Expr}
 use Rattle.ob_types.specs.declared.tree.Link.{Link}
-use Rattle.ob_types.specs.declared.tree.Selector.{Selector}
 use Rattle.ob_types.specs.declared.tree.Argument.{Argument}
 use Rattle.ob_types.specs.declared.tree.Call.TheVariants as TheCall
 use Rattle.ob_types.specs.declared.tree.Expr.TheVariants as TheExpr
@@ -14,7 +13,7 @@ use Rattle.ob_types.specs.declared.tree.Expr as Z
 use Rattle.ob_types.specs.declared.tree.Link as K
 use Rattle.ob_types.specs.declared.tree.Link.TheVariants as TheLink
 use Rattle.check_procedures.specs.numbers.Numbering.{numbering_of}
-use Rattle.check_procedures.specs.numbers.Readings.{each, kinds, bases, expressions, links, designators, accesses, selectors, calls, arguments}
+use Rattle.check_procedures.specs.numbers.Readings.{each, expressions, links, designators, accesses, selectors, calls, arguments}
 use Rattle.check_procedures.proofs.numbers.Keeping.{at, next_turn, made_so}
 use Rattle.check_procedures.proofs.numbers.Leaves.{kind_kept}
 use Rattle.check_procedures.proofs.numbers.ExpressionParts.{guard, chain, compare, compare_texts, is_in, elements, reached, part_of, direct, indirect}
